@@ -1,0 +1,6 @@
+pub mod SubLaws
+pub mod SettleLaws
+pub mod SearchLaws
+pub mod UnifyLaws
+pub mod UnifyBest
+pub mod Rows

@@ -1,0 +1,11 @@
+pub mod Leaf
+pub mod Module
+pub mod Settle
+pub mod Unify
+pub mod State
+pub mod Attempt
+pub mod Answered
+pub mod Search
+pub mod Laws
+pub mod Problem
+pub mod Output

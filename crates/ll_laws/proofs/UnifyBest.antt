@@ -6,6 +6,7 @@ use Rattle.std.proofs.lemmas.Bool.{ltb-true, eqb-true, eqb-false, cases_lt}
 use Rattle.ll_bank.specs.Term.{Term, Var, Int, Con, Ap, sub, occurs}
 use Rattle.ll_laws.specs.Unify.{Solved, mgu, solve, vars_below, Unifies, Respects, RespectsThose, FitsLevel, IsOver, IsUnifier, IsMostGeneral}
 use Rattle.ll_laws.proofs.SubLaws.{and_left, and_right}
+use Rattle.ll_laws.proofs.UnifyOver.{AllBelow, solve-falls, solve-over}
 use Rattle.ll_laws.proofs.UnifyLaws.{or_cases, solve-unifies, solve-respects, most_general, General, AllAmong, AllAmongLists, fits-var}
 
 -- the numbers below n
@@ -26,6 +27,18 @@ in_upto x (suc n) h = step (nat_eq x n) refl (in_upto x n)
     step : (b : Bool) → nat_eq x n ≡ b → (x < n → list_any (nat_eq x) (upto n) ≡ true) → (b || list_any (nat_eq x) (upto n)) ≡ true
     step true e ih = refl
     step false e ih = ih (let ne : x ≡ n → ⊥ = eqb-false x n e in omega arith)
+
+up_to_below : (n y : ℕ) → list_any (nat_eq y) (upto n) ≡ true → y < n
+unfolding upto
+up_to_below zero y h = cc
+up_to_below (suc n) y h = step (nat_eq y n) refl (up_to_below n y) h
+  where
+    step : (b : Bool) → nat_eq y n ≡ b → (list_any (nat_eq y) (upto n) ≡ true → y < n) → (b || list_any (nat_eq y) (upto n)) ≡ true → y < suc n
+    step true e ih h = let q = eqb-true y n e in omega arith
+    step false e ih h = let q = ih h in omega arith
+
+below_upto : (n : ℕ) → AllBelow n (upto n)
+below_upto n y h = up_to_below n y h
 
 past_end : (xs : List ℕ) (x : ℕ) → length xs ≤ x → slice_index xs x ≡ 0
 past_end [] x h = refl
@@ -58,18 +71,32 @@ best ls rs levels s new a b u =
     most_general (length levels) ls rs levels (upto (length levels)) s new u.unifies (respects_all levels new s u.count u.over u.respects)
     (among_lists (length levels) ls a) (among_lists (length levels) rs b) (let e = length-upto (length levels) in omega arith)
 
-pub found : (ls rs : List Term) (levels : List ℕ) (v : Solved) → list_all (vars_below (length levels)) ls ≡ true → list_all (vars_below (length levels)) rs ≡ true → mgu ls rs levels ≡ Some v
-    → Unifies v.subst ls rs × Respects levels v.subst v.levels × IsMostGeneral ls rs levels v
-unfolding mgu
-found ls rs levels v a b h = (
-  solve-unifies (length levels) ls rs levels v h,
-  solve-respects (length levels) ls rs levels v h,
-  λ s new u.
-      let g = best ls rs levels s new a b u in let w : Some g.solved ≡ Some v = sym g.is ∙ h in let e : g.solved ≡ v = cc in
-      (subst (λ z. (x : ℕ) → sub s (z.subst x) ≡ s x) e g.through, subst (λ z. Respects z.levels s new) e g.respects),
-)
+-- the lists are over the variables that have levels
+over_levels : (ls : List Term) (levels : List ℕ) → list_all (vars_below (length levels)) ls ≡ true → AllAmongLists (upto (length levels)) ls
+over_levels ls levels h = among_lists (length levels) ls h
 
-pub none : (ls rs : List Term) (levels : List ℕ) (s : ℕ → Term) (new : List ℕ) → list_all (vars_below (length levels)) ls ≡ true → list_all (vars_below (length levels)) rs ≡ true
+pub found-falls : (ls rs : List Term) (levels : List ℕ) (v : Solved) → mgu ls rs levels ≡ Some v → (x : ℕ) → slice_index v.levels x ≤ slice_index levels x
+unfolding mgu
+found-falls ls rs levels v h x = (solve-falls (length levels) ls rs levels v h).each x
+
+pub found-unifier : (ls rs : List Term) (levels : List ℕ) (v : Solved) → list_all (vars_below (length levels)) ls ≡ true → list_all (vars_below (length levels)) rs ≡ true → mgu ls rs levels ≡ Some v
+    → IsUnifier ls rs levels v.subst v.levels
+unfolding mgu
+found-unifier ls rs levels v a b h = record {
+  unifies = solve-unifies (length levels) ls rs levels v h;
+  over = solve-over (length levels) (length levels) ls rs levels (upto (length levels)) v (below_upto (length levels)) (over_levels ls levels a) (over_levels rs levels b) h;
+  count = (solve-falls (length levels) ls rs levels v h).count;
+  respects = λ x l. solve-respects (length levels) ls rs levels v h x;
+}
+
+pub found-best : (ls rs : List Term) (levels : List ℕ) (v : Solved) → list_all (vars_below (length levels)) ls ≡ true → list_all (vars_below (length levels)) rs ≡ true → mgu ls rs levels ≡ Some v
+    → IsMostGeneral ls rs levels v
+unfolding mgu
+found-best ls rs levels v a b h s new u =
+    let g = best ls rs levels s new a b u in let w : Some g.solved ≡ Some v = sym g.is ∙ h in let e : g.solved ≡ v = cc in
+    (subst (λ z. (x : ℕ) → sub s (z.subst x) ≡ s x) e g.through, subst (λ z. Respects z.levels s new) e g.respects)
+
+pub none-unifier : (ls rs : List Term) (levels : List ℕ) (s : ℕ → Term) (new : List ℕ) → list_all (vars_below (length levels)) ls ≡ true → list_all (vars_below (length levels)) rs ≡ true
     → mgu ls rs levels ≡ None → IsUnifier ls rs levels s new → ⊥
 unfolding mgu
-none ls rs levels s new a b h u = let g = best ls rs levels s new a b u in let w : Some g.solved ≡ None = sym g.is ∙ h in cc
+none-unifier ls rs levels s new a b h u = let g = best ls rs levels s new a b u in let w : Some g.solved ≡ None = sym g.is ∙ h in cc

@@ -149,18 +149,18 @@ forced-lists s (l ∷ ls) (r ∷ rs) e =
     let e1 : sub s l ≡ sub s r = cc in let e2 : map (sub s) ls ≡ map (sub s) rs = cc in
     forced-and s (diff l r) (diff_lists ls rs) (forced s l r e1) (forced-lists s ls rs e2)
 
-abbrev bound_list : Binding → List Term → List Term
+abbrev pub bound_list : Binding → List Term → List Term
 bound_list b ts = map (sub (bound_to b.var b.value)) ts
 
 -- a solution begins with a binding, and goes on with what solves the rest
-record Begins (levels : List ℕ) (x : ℕ) (t : Term) (go : Binding → Option Solved) (s : Solved) : Type 0 where
-  binding : Binding
-  bound : bind levels x t ≡ Some binding
-  inner : Solved
-  goes : go binding ≡ Some inner
-  is : after binding inner ≡ s
+pub record Begins (levels : List ℕ) (x : ℕ) (t : Term) (go : Binding → Option Solved) (s : Solved) : Type 0 where
+  pub binding : Binding
+  pub bound : bind levels x t ≡ Some binding
+  pub inner : Solved
+  pub goes : go binding ≡ Some inner
+  pub is : after binding inner ≡ s
 
-begins : (levels : List ℕ) (x : ℕ) (t : Term) (go : Binding → Option Solved) (s : Solved) → resolve (Meet x t) levels go ≡ Some s → Begins levels x t go s
+pub begins : (levels : List ℕ) (x : ℕ) (t : Term) (go : Binding → Option Solved) (s : Solved) → resolve (Meet x t) levels go ≡ Some s → Begins levels x t go s
 begins levels x t go s h = step (bind levels x t) refl h
   where
     step_b : (b : Binding) → bind levels x t ≡ Some b → (o : Option Solved) → go b ≡ o → option_map (after b) o ≡ Some s → Begins levels x t go s
@@ -367,7 +367,7 @@ AllAmongLists vs [] = Unit {0}
 AllAmongLists vs (t ∷ ts) = AllAmong vs t × AllAmongLists vs ts
 
 -- what is known of the place where two terms first differ
-abbrev MeetIn : List ℕ → Diff → Type 0
+abbrev pub MeetIn : List ℕ → Diff → Type 0
 MeetIn vs Same = Unit {0}
 MeetIn vs Clash = Unit {0}
 MeetIn vs (Meet x t) = (list_any (nat_eq x) vs ≡ true) × AllAmong vs t × (t ≢ Var x)
@@ -408,7 +408,7 @@ meet vs (Ap f t) (Ap g u) a b =
     meet-and vs (diff f g) (diff t u) (meet vs f g (among-left vs f t a) (among-left vs g u b)) (meet vs t u (among-right vs f t a) (among-right vs g u b))
 meet vs _ _ a b = tt
 
-meet-lists : (vs : List ℕ) (ls rs : List Term) → AllAmongLists vs ls → AllAmongLists vs rs → MeetIn vs (diff_lists ls rs)
+pub meet-lists : (vs : List ℕ) (ls rs : List Term) → AllAmongLists vs ls → AllAmongLists vs rs → MeetIn vs (diff_lists ls rs)
 meet-lists vs [] [] a b = tt
 meet-lists vs [] (r ∷ rs) a b = tt
 meet-lists vs (l ∷ ls) [] a b = tt
@@ -466,14 +466,14 @@ lower-respects s new levels x t e r z =
     step false o = r z
 
 -- a binding that a substitution agrees with
-record Agreed (levels : List ℕ) (x : ℕ) (t : Term) (s : ℕ → Term) (new : List ℕ) (vs : List ℕ) : Type 0 where
-  binding : Binding
-  bound : bind levels x t ≡ Some binding
-  agrees : s binding.var ≡ sub s binding.value
-  respects : Respects binding.levels s new
-  among : list_any (nat_eq binding.var) vs ≡ true
-  value : AllAmong vs binding.value
-  free : occurs binding.var binding.value ≡ false
+pub record Agreed (levels : List ℕ) (x : ℕ) (t : Term) (s : ℕ → Term) (new : List ℕ) (vs : List ℕ) : Type 0 where
+  pub binding : Binding
+  pub bound : bind levels x t ≡ Some binding
+  pub agrees : s binding.var ≡ sub s binding.value
+  pub respects : Respects binding.levels s new
+  pub among : list_any (nat_eq binding.var) vs ≡ true
+  pub value : AllAmong vs binding.value
+  pub free : occurs binding.var binding.value ≡ false
 
 term_binding : List ℕ → ℕ → Term → Binding
 term_binding levels x t = record { var = x; value = t; levels = lower (slice_index levels x) t levels }
@@ -534,14 +534,14 @@ not_occurs : (b : Bool) → (b ≡ true → ⊥) → b ≡ false
 not_occurs true f = absurd (f refl)
 not_occurs false f = refl
 
-agreed : (levels : List ℕ) (x : ℕ) (t : Term) (s : ℕ → Term) (new vs : List ℕ) → s x ≡ sub s t → Respects levels s new → MeetIn vs (Meet x t) → Agreed levels x t s new vs
+pub agreed : (levels : List ℕ) (x : ℕ) (t : Term) (s : ℕ → Term) (new vs : List ℕ) → s x ≡ sub s t → Respects levels s new → MeetIn vs (Meet x t) → Agreed levels x t s new vs
 agreed levels x (Var y) s new vs e r m = agreed_var levels x y s new vs e r m.0 m.1 m.2
 agreed levels x (Int z) s new vs e r m = agreed_term levels x (Int z) s new vs refl e r m.0 m.1 refl
 agreed levels x (Con k) s new vs e r m = agreed_term levels x (Con k) s new vs refl e r m.0 m.1 refl
 agreed levels x (Ap t u) s new vs e r m = agreed_term levels x (Ap t u) s new vs refl e r m.0 m.1 (not_occurs (occurs x (Ap t u)) (no_cycle s x t u e))
 
 -- the list without one number
-without : ℕ → List ℕ → List ℕ
+unfoldable pub without : ℕ → List ℕ → List ℕ
 without v [] = []
 without v (y ∷ ys) = if nat_eq v y then without v ys else y ∷ without v ys
 
@@ -587,7 +587,7 @@ bound-among v w vs (Con k) aw free a y o = cc
 bound-among v w vs (Ap f t) aw free a y o =
     or_cases (occurs y (sub (bound_to v w) f)) (occurs y (sub (bound_to v w) t)) o (bound-among v w vs f aw free (among-left vs f t a) y) (bound-among v w vs t aw free (among-right vs f t a) y)
 
-bound-among-lists : (v : ℕ) (w : Term) (vs : List ℕ) (ts : List Term) → AllAmong vs w → occurs v w ≡ false → AllAmongLists vs ts → AllAmongLists (without v vs) (map (sub (bound_to v w)) ts)
+pub bound-among-lists : (v : ℕ) (w : Term) (vs : List ℕ) (ts : List Term) → AllAmong vs w → occurs v w ≡ false → AllAmongLists vs ts → AllAmongLists (without v vs) (map (sub (bound_to v w)) ts)
 bound-among-lists v w vs [] aw free a = tt
 bound-among-lists v w vs (t ∷ ts) aw free a = (bound-among v w vs t aw free a.0, bound-among-lists v w vs ts aw free a.1)
 

@@ -1,25 +1,71 @@
--- The laws that functions of this crate carry.
-use Rattle.std.specs.Prelude.{◌≡◌, ◌≤◌, ℕ, Bool, true, false, List, length, Some, None}
+-- The laws of the definitions, which functions of this crate carry.
+use Rattle.std.specs.Prelude.{◌≡◌, ◌≤◌, ℕ, suc, Bool, true, false, List, [], ◌∷◌, length, map, slice_index, Some, None, option_map, flat_map, sum_by}
 use Rattle.std.specs.List.{list_all}
 use Rattle.ll_bank.specs.Term.{Term}
-use Rattle.ll_laws.specs.Unify.{Solved, mgu, vars_below, Unifies, Respects, IsUnifier, IsMostGeneral}
+use Rattle.ll_bank.specs.Form.{Form}
+use Rattle.ll_laws.specs.declared.Event.TheVariants.{Reached}
+use Rattle.ll_laws.specs.Unify.{Solved, mgu, vars_below, IsUnifier, IsMostGeneral}
 use Rattle.ll_laws.specs.Module.{Setting}
-use Rattle.ll_laws.specs.State.{State}
-use Rattle.ll_laws.specs.Search.{events, cost, any_reached}
+use Rattle.ll_laws.specs.Settle.{Item}
+use Rattle.ll_laws.specs.State.{State, settle, sub_state}
+use Rattle.ll_laws.specs.Attempt.{successors}
+use Rattle.ll_laws.specs.Search.{events, cost, any_reached, answer_of}
+
+-- ---- how a search unfolds
+
+-- a state that can't be settled has no event and costs nothing
+abbrev pub StuckSearch : Type 0
+StuckSearch = (m : Setting) (n : ℕ) (s : State) → settle s ≡ None → (events m n s ≡ []) × (cost m n s ≡ 0)
+
+-- a settled state with nothing left to prove is an answer or nothing, and costs nothing
+abbrev pub EndedSearch : Type 0
+EndedSearch = (m : Setting) (n : ℕ) (s t : State) → settle s ≡ Some t → t.agenda ≡ [] → (events m n s ≡ answer_of t) × (cost m n s ≡ 0)
+
+-- a settled state with a goal in front has reached the bound 0
+abbrev pub BoundSearch : Type 0
+BoundSearch = (m : Setting) (s t : State) (i : Item Form) (rest : List (Item Form)) → settle s ≡ Some t → t.agenda ≡ i ∷ rest → (events m 0 s ≡ Reached ∷ []) × (cost m 0 s ≡ 0)
+
+-- with a bound left, it has the events of its successors in order, and costs one more than they cost
+abbrev pub SteppedSearch : Type 0
+SteppedSearch =
+    (m : Setting) (n : ℕ) (s t : State) (i : Item Form) (rest : List (Item Form)) → settle s ≡ Some t → t.agenda ≡ i ∷ rest
+    → (events m (suc n) s ≡ flat_map (events m n) (successors m t)) × (cost m (suc n) s ≡ suc (sum_by (cost m n) (successors m t)))
 
 -- a search that reaches no bound has the same events and the same cost at every greater bound
 abbrev pub SteadySearch : Type 0
 SteadySearch =
     (m : Setting) (low high : ℕ) (s : State) → low ≤ high → any_reached (events m low s) ≡ false → (events m high s ≡ events m low s) × (cost m high s ≡ cost m low s)
 
--- what unification finds is a unifier, respects the levels, and is most general
-abbrev pub FoundIsBest : Type 0
-FoundIsBest =
+-- ---- settling
+
+-- settling twice is settling once
+abbrev pub SettledOnce : Type 0
+SettledOnce = (s t : State) → settle s ≡ Some t → settle t ≡ Some t
+
+-- settling goes along with every substitution
+abbrev pub SettledUnder : Type 0
+SettledUnder = (f : ℕ → Term) (s : State) → settle (sub_state f s) ≡ option_map (sub_state f) (settle s)
+
+-- ---- unification, for lists of terms whose variables all have levels
+
+-- what unification finds is a unifier that respects the levels
+abbrev pub FoundUnifies : Type 0
+FoundUnifies =
     (ls rs : List Term) (levels : List ℕ) (v : Solved) → list_all (vars_below (length levels)) ls ≡ true → list_all (vars_below (length levels)) rs ≡ true → mgu ls rs levels ≡ Some v
-    → Unifies v.subst ls rs × Respects levels v.subst v.levels × IsMostGeneral ls rs levels v
+    → IsUnifier ls rs levels v.subst v.levels
+
+-- no new level is above the old one
+abbrev pub FoundLowers : Type 0
+FoundLowers = (ls rs : List Term) (levels : List ℕ) (v : Solved) → mgu ls rs levels ≡ Some v → (x : ℕ) → slice_index v.levels x ≤ slice_index levels x
+
+-- what unification finds is most general among the unifiers that respect the levels
+abbrev pub FoundIsMostGeneral : Type 0
+FoundIsMostGeneral =
+    (ls rs : List Term) (levels : List ℕ) (v : Solved) → list_all (vars_below (length levels)) ls ≡ true → list_all (vars_below (length levels)) rs ≡ true → mgu ls rs levels ≡ Some v
+    → IsMostGeneral ls rs levels v
 
 -- where unification finds nothing, there is no unifier that respects the levels
-abbrev pub NoneIsNone : Type 0
-NoneIsNone =
+abbrev pub NoneUnifies : Type 0
+NoneUnifies =
     (ls rs : List Term) (levels : List ℕ) (s : ℕ → Term) (new : List ℕ) → list_all (vars_below (length levels)) ls ≡ true → list_all (vars_below (length levels)) rs ≡ true
     → mgu ls rs levels ≡ None → IsUnifier ls rs levels s new → ⊥

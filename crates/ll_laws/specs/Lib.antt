@@ -9,3 +9,5 @@ pub mod Search
 pub mod Laws
 pub mod Problem
 pub mod Output
+pub mod Valid
+pub mod Consistent

@@ -1,8 +1,7 @@
 //! The definitions of the language and its search, and their laws.
 #![tactic(auto)]
 
-ghost use Rattle.std.specs.Prelude.{◌≡◌};
-ghost use Rattle.ll_laws.specs.Laws.{SteadySearch, FoundIsBest, NoneIsNone};
+ghost use Rattle.ll_laws.specs.Laws.{StuckSearch, EndedSearch, BoundSearch, SteppedSearch, SteadySearch, SettledOnce, SettledUnder, FoundUnifies, FoundLowers, FoundIsMostGeneral, NoneUnifies};
 
 use ll_bank::{At, Bank};
 use std::marker::Model;
@@ -59,13 +58,30 @@ pub enum Event {
     Reached,
 }
 
-/// Unification finds a most general unifier among those that respect the levels, and none only where there is none.
-pub fn unification_is_best()
-    ensures found { FoundIsBest }
-    ensures none { NoneIsNone }
+/// How a search unfolds, case by case.
+pub fn search_unfolds()
+    ensures stuck { StuckSearch }
+    ensures ended { EndedSearch }
+    ensures bound { BoundSearch }
+    ensures stepped { SteppedSearch }
 {}
 
 /// A search that reached no bound is the same at every greater one.
 pub fn steady_search()
     ensures { SteadySearch }
+{}
+
+/// Settling is done once, and goes along with every substitution.
+pub fn settling()
+    ensures once { SettledOnce }
+    ensures under { SettledUnder }
+{}
+
+/// Unification finds a most general unifier among those that respect the levels, and nothing only where there is none (after
+/// Robinson 1965, with the levels that eigenconstants ask for).
+pub fn unification_is_best()
+    ensures unifies { FoundUnifies }
+    ensures lowers { FoundLowers }
+    ensures most_general { FoundIsMostGeneral }
+    ensures none { NoneUnifies }
 {}

@@ -1,0 +1,16 @@
+-- Names, seen as the list of their texts' bytes, each at its number.
+use Rattle.std.specs.Prelude.{ℕ, List, [], ◌∷◌, ◌++◌, Option, position, fold, if◌then◌else◌}
+use Rattle.std.specs.List.{list_any}
+use Rattle.std.specs.Str.{bytes_eq}
+
+-- the number of a text: the place of the first text that is equal to it
+abbrev pub number_of : List (List ℕ) → List ℕ → Option ℕ
+number_of texts text = position (bytes_eq text) texts
+
+-- the texts after one is added: it goes last unless it is among them
+abbrev pub with_name : List (List ℕ) → List ℕ → List (List ℕ)
+with_name texts text = if list_any (bytes_eq text) texts then texts else texts ++ text ∷ []
+
+-- the texts after several are added in turn
+abbrev pub with_names : List (List ℕ) → List (List ℕ) → List (List ℕ)
+with_names texts more = fold with_name texts more

@@ -1,0 +1,5 @@
+//! The top call.
+#![tactic(auto)]
+
+/// Nothing yet.
+pub fn nothing() {}

@@ -15,7 +15,7 @@ use Rattle.ll_laws.specs.declared.Kind.TheVariants.{Linear, Unbounded}
 use Rattle.ll_laws.specs.Module.{ClauseTree}
 use Rattle.ll_laws.specs.Problem.{ProblemTree}
 use Rattle.ll_bank.specs.Names.{number_of, with_names}
-use Rattle.ll_top.specs.Words.{is_digit}
+use Rattle.std.specs.Char.{is_ascii_digit}
 
 -- space, tab, CR and LF
 abbrev pub is_blank : ℕ → Bool
@@ -27,7 +27,7 @@ is_lower b = nat_le 97 b && nat_le b 122
 
 -- a byte of a name: an ASCII letter, a digit, or `_`
 abbrev pub is_name_byte : ℕ → Bool
-is_name_byte b = is_lower b || (nat_le 65 b && nat_le b 90) || is_digit b || nat_eq b 95
+is_name_byte b = is_lower b || (nat_le 65 b && nat_le b 90) || is_ascii_digit b || nat_eq b 95
 
 -- a text begins with a byte that passes a test
 abbrev pub begins_with : (ℕ → Bool) → List ℕ → Bool
@@ -124,15 +124,16 @@ abbrev pub clause_of : (List ℕ → ℕ) → List Token → Option ClauseTree
 clause_of number (LinearToken ∷ ts) = option_map (λ f. record { kind = Linear; form = f }) (rule_of number ts)
 clause_of number ts = option_map (λ f. record { kind = Unbounded; form = f }) (rule_of number ts)
 
+-- a token put before the first of some lists
+abbrev pub onto_first : Token → List (List Token) → List (List Token)
+onto_first t [] = (t ∷ []) ∷ []
+onto_first t (c ∷ cs) = (t ∷ c) ∷ cs
+
 -- tokens cut at each dot, the dots left out: those before the first dot, .., those after the last one
 abbrev pub at_dots : List Token → List (List Token)
 at_dots [] = [] ∷ []
 at_dots (DotToken ∷ ts) = [] ∷ at_dots ts
 at_dots (t ∷ ts) = onto_first t (at_dots ts)
-  where
-    onto_first : Token → List (List Token) → List (List Token)
-    onto_first t [] = (t ∷ []) ∷ []
-    onto_first t (c ∷ cs) = (t ∷ c) ∷ cs
 
 -- the clauses of tokens that were cut at each dot; after the last dot there is nothing
 abbrev pub clauses_of : (List ℕ → ℕ) → List (List Token) → Option (List ClauseTree)
@@ -144,14 +145,15 @@ clauses_of number (c ∷ cs) = both_or_none (clause_of number c) (clauses_of num
 abbrev pub program_of : (List ℕ → ℕ) → List Token → Option (List ClauseTree)
 program_of number ts = clauses_of number (at_dots ts)
 
+-- the goal of a query's tokens that were cut at each dot: there is at most one, at the end
+abbrev pub query_at : (List ℕ → ℕ) → List (List Token) → Option Form
+query_at number (g ∷ []) = goal_of number g
+query_at number (g ∷ [] ∷ []) = goal_of number g
+query_at number _ = None
+
 -- query = goal [ "." ]
 abbrev pub query_of : (List ℕ → ℕ) → List Token → Option Form
-query_of number ts = query_at (at_dots ts)
-  where
-    query_at : List (List Token) → Option Form
-    query_at (g ∷ []) = goal_of number g
-    query_at (g ∷ [] ∷ []) = goal_of number g
-    query_at _ = None
+query_of number ts = query_at number (at_dots ts)
 
 -- the names of a program's tokens and then a query's, each once, in order of first occurrence
 abbrev pub names_of : List Token → List Token → List (List ℕ)

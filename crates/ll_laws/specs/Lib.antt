@@ -8,6 +8,7 @@ pub mod Answered
 pub mod Search
 pub mod Laws
 pub mod Problem
+pub mod Shown
 pub mod Output
 pub mod Valid
 pub mod Consistent

@@ -1,61 +1,149 @@
-//! The definitions of the language and its search, and their laws.
+//! The definitions of the language and its search, their laws, and the types that crates share.
+//!
+//! The program calls no function of this crate: a function here carries a law as its contract. The definitions stand in `specs/`,
+//! and `docs/DEFINITIONS.md` explains them in reading order.
 #![tactic(auto)]
 
 ghost use Rattle.ll_laws.specs.Laws.{StuckSearch, EndedSearch, BoundSearch, SteppedSearch, SteadySearch, SettledOnce, SettledUnder, FoundUnifies, FoundLowers, FoundIsMostGeneral, NoneUnifies};
 
-use ll_bank::{At, Bank};
+use ll_bank::{At, Bank, FormAt, Names};
 use std::marker::Model;
 
 /// Which resources a clause is among.
-#[derive(Clone, Copy, Debug, PartialEq, Eq, Drop)]
+#[derive(Clone, Copy, Debug, PartialEq, Eq)]
 pub enum Kind {
+    /// It has to be used exactly once.
     Linear,
+    /// It may be used any number of times.
     Unbounded,
 }
 
+/// A clause with its kind. Its formula is a place in the bank of what holds it.
+#[derive(Clone, Copy, Debug, PartialEq, Eq)]
+pub struct Clause {
+    pub kind: Kind,
+    pub form: FormAt,
+}
+
+/// A module. In its clauses bound places count as if each clause stood under one quantifier for each local, the first one
+/// outermost, and inside these under one for each parameter, the first one outermost.
+#[derive(Drop)]
+pub struct Module {
+    /// The number of its name.
+    pub name: u32,
+    /// How many parameters it has.
+    pub params: u32,
+    /// How many local constants it has.
+    pub locals: u32,
+    /// Its clauses, in the order of the text.
+    pub clauses: Vec<Clause>,
+}
+
+/// What a search is asked for. Contracts see the trees that its places show in its bank.
+#[derive(Drop)]
+pub struct Problem {
+    pub bank: Bank,
+    pub names: Names,
+    pub modules: Vec<Module>,
+    /// The program's clauses, in the order of the text.
+    pub clauses: Vec<Clause>,
+    /// The query.
+    pub goal: FormAt,
+    /// The name of each variable of the query in the order of their numbers, none for `_`.
+    pub asked: Vec<Option<u32>>,
+    /// How many inferences a branch may have, from 0 to 1,000,000.
+    pub bound: u32,
+}
+
+impl Model for Problem {
+    ghost use Rattle.std.specs.Prelude.{map};
+    ghost use Rattle.ll_bank.specs.Nodes.{form_tree, HasForm};
+    ghost use Rattle.ll_laws.specs.Problem.{ProblemTree};
+    ghost use Rattle.ll_laws.specs.Shown.{clause_tree, module_tree, HasClauses, HasModules, problem_code};
+
+    ghost Value = { ProblemTree };
+
+    ghost coded = { problem_code };
+
+    ghost view = { λ p. record {
+      names = p.names;
+      modules = map (module_tree p.bank) p.modules.items;
+      clauses = map (clause_tree p.bank) p.clauses.items;
+      goal = form_tree p.bank p.goal.0;
+      asked = p.asked.items;
+      bound = p.bound;
+    } };
+
+    ghost invariant = { λ p. HasModules p.bank p.modules.items
+        × HasClauses p.bank p.clauses.items
+        × HasForm p.bank p.goal.0 };
+}
+
 /// Which alternative an inference took.
-#[derive(Clone, Copy, Debug, PartialEq, Eq, Drop)]
+#[derive(Clone, Copy, Debug, PartialEq, Eq)]
 pub enum Step {
+    /// The only one of a goal that is neither an atom nor a `;`.
     Plain,
+    /// The left side of a `;`.
     Left,
+    /// The right side of a `;`.
     Right,
+    /// A leaf of the clause with this label, for an atom.
     Clause { label: u32, leaf: u32 },
 }
 
-/// One alternative of a goal.
-#[derive(Clone, Copy, Debug, PartialEq, Eq, Drop)]
+/// One alternative of a goal: a label and a leaf for an atom, leaf 0 or 1 for the sides of `;`, and 0 and 0 for any other goal.
+#[derive(Clone, Copy, Debug, PartialEq, Eq)]
 pub struct Candidate {
     pub label: u32,
     pub leaf: u32,
 }
 
-/// A branch of the search that ended in an answer.
+/// A branch of the search that ended in an answer. Contracts see the trees that its places show in its bank.
 #[derive(Drop)]
 pub struct Branch {
     pub bank: Bank,
+    /// One term for each variable, those asked for first.
     pub terms: Vec<At>,
+    /// One step for each inference.
     pub steps: Vec<Step>,
 }
 
 impl Model for Branch {
-    ghost use Rattle.std.specs.Prelude.{map};
-    ghost use Rattle.ll_bank.specs.Flat.{tree_at, AllIn};
+    ghost use Rattle.ll_bank.specs.Nodes.{term_trees, AllInTerms};
     ghost use Rattle.ll_laws.specs.Answered.{Answered, answered_code};
 
     ghost Value = { Answered };
 
     ghost coded = { answered_code };
 
-    ghost view = { λ b. record { terms = map (λ a. tree_at b.bank a.0) b.terms.items; steps = b.steps.items } };
+    ghost view = { λ b. record { terms = term_trees b.bank b.terms.items; steps = b.steps.items } };
 
-    ghost invariant = { λ b. AllIn b.bank b.terms.items };
+    ghost invariant = { λ b. AllInTerms b.bank b.terms.items };
 }
 
 /// What a search gives, in order.
 #[derive(Drop)]
 pub enum Event {
+    /// A branch that ended in an answer.
     Answer(Branch),
+    /// A branch that was cut off at the bound.
     Reached,
+}
+
+/// The events of a part of a search, and its inferences, cut at the greatest `u64`.
+#[derive(Drop)]
+pub struct Report {
+    pub events: Vec<Event>,
+    pub inferences: u64,
+}
+
+/// How many answers, branches cut off at the bound, and inferences a search has, each cut at the greatest `u64`.
+#[derive(Clone, Copy, Debug, PartialEq, Eq)]
+pub struct Counts {
+    pub answers: u64,
+    pub reached: u64,
+    pub inferences: u64,
 }
 
 /// How a search unfolds, case by case.

@@ -1,0 +1,50 @@
+-- Lists of trees that grow from nodes, one tree a node.
+use Rattle.std.proofs.Common.{◌≡◌, ℕ, zero, suc, ◌+◌, ◌<◌, List, [], ◌∷◌, ◌++◌, length, get_or, take, refl, ap, subst, ◌∙◌, arith, length-append}
+use Rattle.std.proofs.Math.ListN.{get_or-append}
+use Rattle.std.proofs.Math.Seq.{get_or-append_seam}
+use Rattle.ll_bank.specs.Nodes.{grow}
+
+module _ {N T : Type 0} (build : List T → N → T) where
+  pub grow-append : (trees : List T) (ns ms : List N) → grow build trees (ns ++ ms) ≡ grow build (grow build trees ns) ms
+  grow-append trees [] ms = refl
+  grow-append trees (n ∷ ns) ms = grow-append (trees ++ build trees n ∷ []) ns ms
+
+  pub length-grow : (trees : List T) (ns : List N) → length (grow build trees ns) ≡ length trees + length ns
+  length-grow trees [] = omega arith
+  length-grow trees (n ∷ ns) =
+      let e = length-grow (trees ++ build trees n ∷ []) ns in let f = length-append trees (build trees n ∷ []) in omega arith
+
+  -- the trees that were there stay
+  pub get_or-grow : (trees : List T) (ns : List N) (i : ℕ) (d : T) → i < length trees → get_or (grow build trees ns) i d ≡ get_or trees i d
+  get_or-grow trees [] i d h = refl
+  get_or-grow trees (n ∷ ns) i d h =
+      let f = length-append trees (build trees n ∷ []) in
+      get_or-grow (trees ++ build trees n ∷ []) ns i d (omega arith) ∙ get_or-append trees (build trees n ∷ []) d i h
+
+  -- so the trees of the first nodes stay
+  pub grow_kept : (ns ms : List N) (i : ℕ) (d : T) → i < length ns → get_or (grow build [] (ns ++ ms)) i d ≡ get_or (grow build [] ns) i d
+  grow_kept ns ms i d h = rw grow-append (get_or-grow (grow build [] ns) ms i d (let e = length-grow [] ns in omega arith))
+
+  -- the last node builds its tree over those of the nodes before it
+  pub grow_last : (ns : List N) (n : N) (d : T) → get_or (grow build [] (ns ++ n ∷ [])) (length ns) d ≡ build (grow build [] ns) n
+  grow_last ns n d =
+      rw grow-append (subst (λ k. get_or (grow build [] ns ++ build (grow build [] ns) n ∷ []) k d ≡ build (grow build [] ns) n)
+      (let e = length-grow [] ns in omega arith) (get_or-append_seam (grow build [] ns) (build (grow build [] ns) n) [] d))
+
+  -- and so does the node at a place
+  at_node : (trees : List T) (ns : List N) (i : ℕ) (d : N) (e : T) → i < length ns
+      → get_or (grow build trees ns) (length trees + i) e ≡ build (grow build trees (take i ns)) (get_or ns i d)
+  at_node trees [] i d e h = absurd (omega arith)
+  at_node trees (n ∷ ns) zero d e h =
+      let l = length-append trees (build trees n ∷ []) in
+      get_or-grow (trees ++ build trees n ∷ []) ns (length trees + 0) e (omega arith)
+      ∙ (ap (λ k. get_or (trees ++ build trees n ∷ []) k e) (let q : length trees + 0 ≡ length trees = omega arith in q)
+      ∙ get_or-append_seam trees (build trees n) [] e)
+  at_node trees (n ∷ ns) (suc i) d e h =
+      let l = length-append trees (build trees n ∷ []) in
+      ap (λ k. get_or (grow build (trees ++ build trees n ∷ []) ns) k e)
+      (let q : length trees + suc i ≡ length (trees ++ build trees n ∷ []) + i = omega arith in q)
+      ∙ at_node (trees ++ build trees n ∷ []) ns i d e (omega arith)
+
+  pub get_or-grow_at : (ns : List N) (i : ℕ) (d : N) (e : T) → i < length ns → get_or (grow build [] ns) i e ≡ build (grow build [] (take i ns)) (get_or ns i d)
+  get_or-grow_at ns i d e h = ap (λ k. get_or (grow build [] ns) k e) (let q : i ≡ 0 + i = omega arith in q) ∙ at_node [] ns i d e h

@@ -1,0 +1,108 @@
+-- Numbers of texts: what callers know of them, and how a set of texts has them.
+use Rattle.std.proofs.Common.{◌≡◌, ℕ, zero, suc, ◌+◌, ◌<◌, ◌≤◌, Bool, true, false, not, cond, eqb, ltb, ◌||◌, List, [], ◌∷◌, ◌++◌, length, map, slice_get, position, Option, Some, None, get_or, refl, ap, sym, subst, ◌∙◌, arith, true≢false, if◌then◌else◌, inl, inr, length-append}
+use Rattle.std.specs.List.{list_any, position_or_len, IsDistinct, AllByRecursion}
+use Rattle.std.specs.Str.{bytes_eq}
+use Rattle.std.proofs.lemmas.Bool.{cases_lt}
+use Rattle.std.proofs.lemmas.Bool.Decides.{Decides-ltb, Decides-eqb}
+use Rattle.std.proofs.lemmas.List.{length-map, map-append}
+use Rattle.std.proofs.lemmas.List.Quantifiers.{position-Some}
+use Rattle.std.proofs.lemmas.List.Folds.{list_any_at, position_or_len_push}
+use Rattle.std.proofs.lemmas.List.Sums.{prefix_len-le-length}
+use Rattle.std.proofs.lemmas.Option.{slice_get-get_or}
+use Rattle.std.proofs.lemmas.Slice.Eq.{bytes_eq-Decides}
+use Rattle.std.proofs.Math.ListN.{get_or-append}
+use Rattle.indexmap.specs.IndexSet.{insert_key}
+use Rattle.ll_bank.specs.Names.{number_of, with_name}
+
+-- ---- the first place at which a test passes
+
+position_at : {X : Type 0} (p : X → Bool) (xs : List X) → position_or_len p xs < length xs → position p xs ≡ Some (position_or_len p xs)
+position_at {X} p xs h = ap (λ b. cond b (Some (position_or_len p xs)) None) ((Decides-ltb (position_or_len p xs) (length xs)).1 h)
+
+position_within : {X : Type 0} (p : X → Bool) (xs : List X) → list_any p xs ≡ true → position_or_len p xs < length xs
+position_within p [] h = absurd (true≢false (sym h))
+position_within p (x ∷ xs) h = by (p x) refl (position_within p xs)
+  where
+    by : (b : Bool) → p x ≡ b → (list_any p xs ≡ true → position_or_len p xs < length xs) → position_or_len p (x ∷ xs) < length (x ∷ xs)
+    by true e rest = rw e (omega arith)
+    by false e rest = let k = rest (sym (ap (λ b. b || list_any p xs) e) ∙ h) in rw e (omega arith)
+
+position_or_len-push : {X : Type 0} (p : X → Bool) (xs : List X) (y : X) → p y ≡ true → position_or_len p (xs ++ y ∷ []) ≡ position_or_len p xs
+position_or_len-push p xs y h =
+    position_or_len_push p xs y
+    ∙ (ap (λ b. cond (eqb (position_or_len p xs) (length xs)) (length xs + cond b 0 1) (position_or_len p xs)) h
+    ∙ same (eqb (position_or_len p xs) (length xs)) (Decides-eqb (position_or_len p xs) (length xs)).0)
+  where
+    same : (b : Bool) → (b ≡ true → position_or_len p xs ≡ length xs) → cond b (length xs + 0) (position_or_len p xs) ≡ position_or_len p xs
+    same true e = let k = e refl in omega arith
+    same false e = refl
+
+-- ---- what callers know
+
+-- a text has its number
+pub slice_get-number_of : (texts : List (List ℕ)) (text : List ℕ) (n : ℕ) → number_of texts text ≡ Some n → slice_get texts n ≡ Some text
+slice_get-number_of texts text n e =
+    let p = position-Some (bytes_eq text) texts n [] e in
+    slice_get-get_or texts n [] p.0 ∙ ap (λ t. let o : Option (List ℕ) = Some t in o) (sym ((bytes_eq-Decides text (get_or texts n [])).0 p.1))
+
+-- a text that is there is not added again
+pub with_name-present : (texts : List (List ℕ)) (text : List ℕ) (n : ℕ) → number_of texts text ≡ Some n → with_name texts text ≡ texts
+with_name-present texts text n e =
+    let p = position-Some (bytes_eq text) texts n [] e in
+    ap (λ b. if b then texts else texts ++ text ∷ []) (list_any_at (bytes_eq text) texts n [] p.0 p.1)
+
+-- an added text has a number: its old place, or the next one
+pub number_of-with_name : (texts : List (List ℕ)) (text : List ℕ) → number_of (with_name texts text) text ≡ Some (position_or_len (bytes_eq text) texts)
+number_of-with_name texts text = by (list_any (bytes_eq text) texts) refl
+  where
+    by : (b : Bool) → list_any (bytes_eq text) texts ≡ b → number_of (if b then texts else texts ++ text ∷ []) text ≡ Some (position_or_len (bytes_eq text) texts)
+    by true e = position_at (bytes_eq text) texts (position_within (bytes_eq text) texts e)
+    by false e =
+        let same = position_or_len-push (bytes_eq text) texts text ((bytes_eq-Decides text text).1 refl) in
+        let low = prefix_len-le-length (λ t. not (bytes_eq text t)) texts in
+        position_at (bytes_eq text) (texts ++ text ∷ []) (rw (same, length-append) (omega arith)) ∙ ap (λ n. let o : Option ℕ = Some n in o) same
+
+-- ---- texts that are the bytes of keys
+
+module _ {K : Type 0} (bytes : K → List ℕ) where
+  list_any-map : (p : List ℕ → Bool) (keys : List K) → list_any p (map bytes keys) ≡ list_any (λ k. p (bytes k)) keys
+  list_any-map p [] = refl
+  list_any-map p (k ∷ keys) = ap (λ b. p (bytes k) || b) (list_any-map p keys)
+
+  pub position_or_len-map : (p : List ℕ → Bool) (keys : List K) → position_or_len p (map bytes keys) ≡ position_or_len (λ k. p (bytes k)) keys
+  position_or_len-map p [] = refl
+  position_or_len-map p (k ∷ keys) = ap (λ n. cond (not (p (bytes k))) (1 + n) 0) (position_or_len-map p keys)
+
+  pub position-map : (p : List ℕ → Bool) (keys : List K) → position p (map bytes keys) ≡ position (λ k. p (bytes k)) keys
+  position-map p keys =
+      λ i. cond (ltb (position_or_len-map p keys i) (length-map keys bytes i)) (Some (position_or_len-map p keys i)) None
+
+  -- the number of a text that was looked up
+  pub looked_up : (keys : List K) (texts : List (List ℕ)) (text : List ℕ) (n : ℕ) → map bytes keys ≡ texts → Some n ≡ position (λ k. bytes_eq text (bytes k)) keys
+      → number_of texts text ≡ Some n
+  looked_up keys texts text n view e = subst (λ ts. number_of ts text ≡ Some n) view (position-map (bytes_eq text) keys ∙ sym e)
+
+  -- a key that is inserted adds its text
+  module _ (keys new : List K) (key : K) (texts : List (List ℕ)) (text : List ℕ) (view : map bytes keys ≡ texts) (is : bytes key ≡ text)
+      (inserted : new ≡ insert_key (λ x y. bytes_eq (bytes x) (bytes y)) keys key) where
+    pub added : map bytes new ≡ with_name texts text
+    added = rw (inserted, ← view, ← is) (by (list_any (λ k. bytes_eq (bytes key) (bytes k)) keys) (list_any-map (bytes_eq (bytes key)) keys))
+      where
+        by : (b : Bool) → list_any (bytes_eq (bytes key)) (map bytes keys) ≡ b → map bytes (if b then keys else keys ++ key ∷ []) ≡ with_name (map bytes keys) (bytes key)
+        by true e = rw e refl
+        by false e = rw e (map-append bytes keys (key ∷ []))
+
+    pub added_number : (n : ℕ) → n ≡ position_or_len (λ k. bytes_eq (bytes key) (bytes k)) keys → number_of (map bytes new) text ≡ Some n
+    added_number n e =
+        ap (λ ts. number_of ts text) added ∙ (number_of-with_name texts text
+        ∙ ap (λ k. let o : Option ℕ = Some k in o) (rw (← view, ← is) (position_or_len-map (bytes_eq (bytes key)) keys ∙ sym e)))
+
+  -- keys with different bytes have different texts
+  pub IsDistinct-map : (keys : List K) → IsDistinct (λ x y. bytes_eq (bytes x) (bytes y)) keys → IsDistinct bytes_eq (map bytes keys)
+  unfolding IsDistinct
+  IsDistinct-map [] h = tt
+  IsDistinct-map (k ∷ keys) h = (others keys h.0, IsDistinct-map keys h.1)
+    where
+      others : (ks : List K) → AllByRecursion (λ y. bytes_eq (bytes k) (bytes y) ≡ false) ks → AllByRecursion (λ t. bytes_eq (bytes k) t ≡ false) (map bytes ks)
+      others [] g = tt
+      others (x ∷ ks) g = (g.0, others ks g.1)

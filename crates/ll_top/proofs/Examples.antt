@@ -1,5 +1,5 @@
 -- The definitions of words and texts, computed on examples.
-use Rattle.std.proofs.Common.{◌≡◌, ℕ, refl, List, [], ◌∷◌}
+use Rattle.std.proofs.Common.{◌≡◌, refl, [], ◌∷◌}
 use Rattle.std.specs.Prelude.{Some, None, codes}
 use Rattle.ll_top.specs.Words.{run_words}
 use Rattle.ll_top.specs.Reading.{problem_of}

@@ -1,13 +1,13 @@
 -- What `parse` reads of a word that is a number.
-use Rattle.std.proofs.Common.{◌≡◌, ◌<◌, ◌≤◌, ◌^◌, ℕ, refl, sym, ap, ◌∙◌, Bool, true, false, List, [], ◌∷◌, length, arith, rules}
-use Rattle.std.specs.Prelude.{◌&&◌, not, Option, Some, None, Result, Ok, Err, nat_eq, nat_le, if◌then◌else◌}
+use Rattle.std.proofs.Common.{◌≡◌, ◌≤◌, ℕ, refl, sym, ap, ◌∙◌, Bool, true, false, List, [], ◌∷◌, length, arith, rules}
+use Rattle.std.specs.Prelude.{◌&&◌, not, Result, Ok, nat_eq, nat_le}
 use Rattle.std.specs.Str.{all_ascii_digits}
 use Rattle.std.specs.Char.{is_ascii_digit}
 use Rattle.std.specs.List.{list_all}
 use Rattle.std.specs.Str.Parse.{digits_value, ParsesUnsigned}
 use Rattle.std.proofs.lemmas.Str.Parse.{IsNumeralModel, numerals_by_value, parse_gives, digits_value_short}
 use Rattle.std.proofs.lemmas.Bool.{leb-true, eqb-false}
-use Rattle.ll_top.specs.Words.{is_number_word, number_from, value_within, run_words}
+use Rattle.ll_top.specs.Words.{is_number_word}
 
 digits-all : (w : List ℕ) → list_all is_ascii_digit w ≡ all_ascii_digits w
 digits-all [] = refl
@@ -37,21 +37,3 @@ read_number w r h p =
     let some = eqb-false (length w) 0 (not_true (nat_eq (length w) 0) (and_left (not (nat_eq (length w) 0)) (nat_le (length w) 9) front)) in
     let small = digits_value_short own w 9 digits short in
     parse_gives own 32 w r p digits (omega arith) (omega arith)
-
-pub number_from-number : (least greatest : ℕ) (w : List ℕ) → is_number_word w ≡ true → number_from least greatest w ≡ value_within least greatest (digits_value 10 w)
-number_from-number least greatest w h = ap (λ b. if b then value_within least greatest (digits_value 10 w) else None) h
-
-pub number_from-none : (least greatest : ℕ) (w : List ℕ) → is_number_word w ≡ false → number_from least greatest w ≡ None
-number_from-none least greatest w h = ap (λ b. if b then value_within least greatest (digits_value 10 w) else None) h
-
--- words that are not seven are in no form
-pub run_words-other : (words : List (List ℕ)) → (length words ≡ 7 → ⊥) → run_words words ≡ None
-run_words-other (a ∷ b ∷ c ∷ e ∷ f ∷ g ∷ h ∷ []) n = absurd (n refl)
-run_words-other (a ∷ b ∷ c ∷ e ∷ f ∷ g ∷ h ∷ i ∷ xs) n = refl
-run_words-other [] n = refl
-run_words-other (a ∷ []) n = refl
-run_words-other (a ∷ b ∷ []) n = refl
-run_words-other (a ∷ b ∷ c ∷ []) n = refl
-run_words-other (a ∷ b ∷ c ∷ e ∷ []) n = refl
-run_words-other (a ∷ b ∷ c ∷ e ∷ f ∷ []) n = refl
-run_words-other (a ∷ b ∷ c ∷ e ∷ f ∷ g ∷ []) n = refl

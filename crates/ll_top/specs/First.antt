@@ -1,5 +1,5 @@
 -- The problems that a run takes today: facts and rules over names, with `true` and `,`.
-use Rattle.std.specs.Prelude.{◌≡◌, ℕ, Bool, true, false, ◌&&◌, List, []}
+use Rattle.std.specs.Prelude.{◌≡◌, Bool, true, false, ◌&&◌, []}
 use Rattle.std.specs.List.{list_all}
 use Rattle.ll_bank.specs.declared.Head.TheVariants.{Name}
 use Rattle.ll_bank.specs.Term.{Term, Con}

@@ -1,5 +1,5 @@
 -- The forms of a command's words.
-use Rattle.std.specs.Prelude.{◌≡◌, ℕ, Bool, true, false, ◌&&◌, not, List, [], ◌∷◌, length, nat_eq, nat_le, Option, Some, None, if◌then◌else◌, codes}
+use Rattle.std.specs.Prelude.{◌≡◌, ℕ, Bool, false, ◌&&◌, not, List, [], ◌∷◌, length, nat_eq, nat_le, Option, Some, None, if◌then◌else◌, codes}
 use Rattle.ll_top.specs.declared.words.RunCommand.{RunCommand}
 use Rattle.std.specs.Str.{bytes_eq}
 use Rattle.std.specs.Char.{is_ascii_digit}

@@ -21,23 +21,13 @@ const GREATEST_WORKERS: u32 = 1;
 pub fn run_command<'a>(words: &[&'a str]) -> Option<RunCommand<'a>>
     ensures { IsCommand (map (λ w. w.now) words.now) result }
 {
-    match words {
-        [
-            form,
-            program,
-            query,
-            bound_option,
-            bound,
-            workers_option,
-            workers,
-        ] => {
-            if !is_run(form, program, query, bound_option, workers_option) {
-                return None;
-            }
-            run_of(program, query, bound, workers)
-        }
-        _ => None,
+    if words.len() != 7 {
+        return None;
     }
+    if !is_run(words[0], words[1], words[2], words[3], words[5]) {
+        return None;
+    }
+    run_of(words[1], words[2], words[4], words[6])
 }
 
 // A program, a query and the words of numbers, if these are a bound and a number of workers.

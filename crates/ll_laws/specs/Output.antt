@@ -84,9 +84,13 @@ answers_text p k (Answer a ∷ es) = answer_text p (suc k) a ++ answers_text p (
 answers_text p k (Reached ∷ es) = answers_text p k es
 
 -- the last line, with the numbers of answers, of branches that reached the bound, and of inferences
+abbrev pub counts_text : ℕ → ℕ → ℕ → List ℕ
+counts_text answers reached inferences =
+    line (codes "answers " ++ decimal answers ++ codes ", bound reached " ++ decimal reached ++ codes ", inferences " ++ decimal inferences)
+
+-- the last line for exact numbers, each cut where it is printed
 abbrev pub summary_text : ℕ → ℕ → ℕ → List ℕ
-summary_text answers reached inferences =
-    line (codes "answers " ++ decimal (cut_count answers) ++ codes ", bound reached " ++ decimal (cut_count reached) ++ codes ", inferences " ++ decimal (cut_count inferences))
+summary_text answers reached inferences = counts_text (cut_count answers) (cut_count reached) (cut_count inferences)
 
 -- the text for a list of events and a cost
 abbrev pub output_text : ProblemTree → List Event → ℕ → List ℕ

@@ -1,0 +1,50 @@
+-- What the counts of a shelf and a sink say of an answer.
+use Rattle.std.proofs.Common.{◌≡◌, ℕ, ◌<◌, ◌≤◌, List, Result, Ok, Err, length, refl, ap, inl, inr, subst, sym, arith, IfOk, OnErr}
+use Rattle.std.proofs.lemmas.Bool.{cases_lt}
+use Rattle.std.proofs.lemmas.Bool.Decides.{nat_tests}
+use Rattle.std.proofs.lemmas.Grind.{common_steps}
+use Rattle.ll_edge.specs.Counts.{last_count, Rose, counted_up, Counts, counts_after, faults_after}
+use Rattle.ll_edge.specs.Texts.{IfBytes}
+use Rattle.ll_edge.specs.declared.shelf.Got.{Got}
+use Rattle.ll_edge.specs.declared.shelf.Got.TheVariants.{Bytes, Absent, Failed}
+use Rattle.ll_edge.specs.declared.sink.WriteFailed.{WriteFailed}
+
+-- a count that goes one higher rose
+pub Rose-counted_up : (count : ℕ) → Rose count (counted_up count)
+Rose-counted_up count =
+    elim (cases_lt count last_count) [ inl below ↦ inl (omega arith) | inr past ↦ inr (omega arith) ]
+
+-- a count that rose at the end of several calls rose in all of them
+pub Rose-later : (first before after : ℕ) → first ≤ before → Rose before after → Rose first after
+Rose-later first before after kept (inl more) = inl (omega arith)
+Rose-later first before after kept (inr last) = inr last
+
+pub counts_failed : (before after : Counts) (answer : Got) → after ≡ counts_after before answer → answer ≡ Failed → Rose before.faults after.faults
+counts_failed before after answer e failed = rw (e, failed) (Rose-counted_up before.faults)
+
+pub counts_absent : (before after : Counts) (answer : Got) → after ≡ counts_after before answer → answer ≡ Absent → Rose before.absences after.absences
+counts_absent before after answer e absent = rw (e, absent) (Rose-counted_up before.absences)
+
+-- a fact that each number has
+pub IfBytes-always : (P : ℕ → Type 0) → ((n : ℕ) → P n) → (answer : Got) → IfBytes answer P
+IfBytes-always P always (Bytes n) = always n
+IfBytes-always P always Absent = tt
+IfBytes-always P always Failed = tt
+
+pub faults_none_taken : (before after : ℕ) (piece : List ℕ) (answer : Result ℕ WriteFailed) → after ≡ faults_after before piece answer → IfOk answer (λ n. n ≡ 0 → 0 < length piece → Rose before after)
+faults_none_taken before after piece (Err refusal) e = tt
+faults_none_taken before after piece (Ok n) e =
+    λ none some. let counted : after ≡ counted_up before = grind (arith, nat_tests) in rw counted (Rose-counted_up before)
+
+pub faults_failed : (before after : ℕ) (piece : List ℕ) (answer : Result ℕ WriteFailed) → after ≡ faults_after before piece answer → OnErr answer (Rose before after)
+faults_failed before after piece (Ok n) e = tt
+faults_failed before after piece (Err refusal) e = rw e (Rose-counted_up before)
+
+pub IfOk-always : (P : ℕ → Type 0) → ((n : ℕ) → P n) → (answer : Result ℕ WriteFailed) → IfOk answer P
+IfOk-always P always (Ok n) = always n
+IfOk-always P always (Err refusal) = tt
+
+-- a fact that holds anyway
+pub OnErr-always : (P : Type 0) → P → (answer : Result ℕ WriteFailed) → OnErr answer P
+OnErr-always P always (Ok n) = tt
+OnErr-always P always (Err refusal) = always

@@ -1,0 +1,15 @@
+use Rattle.std.proofs.Common.{refl}
+use Rattle.ll_edge.proofs.Counting.{counts_failed, counts_absent, IfBytes-always}
+use Rattle.ll_edge.proofs.real.FileShelfShelf.TheImpl.Goals as goal
+
+pub read-tells : goal.read-tells
+read-tells g c = record {
+  same_texts = refl;
+  faults_kept = c.ensures.faults_kept;
+  absences_kept = c.ensures.absences_kept;
+  failed = counts_failed c.args.self.now c.new.self.now c.result c.ensures.counts;
+  absent = counts_absent c.args.self.now c.new.self.now c.result c.ensures.counts;
+  fits = c.ensures.fits;
+  told_absent = λ _. tt;
+  told_bytes = IfBytes-always _ (λ _. tt) c.result
+}

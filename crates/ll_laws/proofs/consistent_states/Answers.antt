@@ -1,0 +1,8 @@
+use Rattle.ll_laws.proofs.ConsistentStates.{starts_consistent, settles_consistent}
+use Rattle.ll_laws.proofs.consistent_states.Goals as goal
+
+pub returns-clause-start : goal.returns-clause-start
+returns-clause-start c = starts_consistent
+
+pub returns-clause-settle : goal.returns-clause-settle
+returns-clause-settle c = settles_consistent

@@ -1,18 +1,18 @@
 -- Contexts of consistent states: what stays where only live marks or clauses change.
-use Rattle.std.proofs.Common.{◌≡◌, ◌≤◌, ℕ, zero, suc, refl, ap, sym, subst, ◌∙◌, Bool, true, false, List, [], ◌∷◌, map, nat_eq, arith}
+use Rattle.std.proofs.Common.{◌≡◌, ℕ, refl, ap, subst, ◌∙◌, Bool, true, false, List, [], ◌∷◌, map, nat_eq}
 use Rattle.std.specs.Prelude.{◌&&◌, ◌||◌, not, if◌then◌else◌, nat_lt}
 use Rattle.std.specs.List.{list_all, list_any}
 use Rattle.ll_bank.specs.Term.{Term}
 use Rattle.ll_bank.specs.Form.{Form, sub_form}
 use Rattle.ll_laws.specs.declared.Kind.{Kind}
 use Rattle.ll_laws.specs.declared.Kind.TheVariants.{Linear, Unbounded}
-use Rattle.ll_laws.specs.Settle.{Entry, Saved, Item, Goal, LolliEnd, ImpEnd, WithMiddle, WithEnd, BangEnd, marks, remark, unlive, both_live}
+use Rattle.ll_laws.specs.Settle.{Entry, Item, Goal, LolliEnd, ImpEnd, WithMiddle, WithEnd, BangEnd, marks, remark, unlive, both_live}
 use Rattle.ll_laws.specs.State.{sub_item, sub_entry}
-use Rattle.ll_laws.specs.Attempt.{is_linear, picked}
+use Rattle.ll_laws.specs.Attempt.{picked}
 use Rattle.ll_laws.specs.Valid.{Side, GoalSide, ClauseSide, Allowed, IsFormula}
 use Rattle.ll_laws.specs.Consistent.{may_live, marks_fit, is_of_kind, newest_is, begins_second_side, ends_fit, AreGoals, AreResources, labels_differ}
 use Rattle.ll_laws.proofs.SubLaws.{and_left, and_right}
-use Rattle.ll_laws.proofs.ConsistentTerms.{and_intro, lt_more, Grows, Goes}
+use Rattle.ll_laws.proofs.ConsistentTerms.{and_intro, Grows, Goes}
 use Rattle.ll_laws.proofs.ConsistentForms.{fits-more, fits-sub, fits_of_formula, formula_of_fits}
 
 -- ---- labels and kinds

@@ -4,13 +4,13 @@ use Rattle.std.proofs.lemmas.List.{append-nil, length-reverse}
 use Rattle.std.specs.Prelude.{Option, Some, None, option_map, if◌then◌else◌, ◌-◌, nat_lt}
 use mathlib.Core.List.{reverse_aux}
 use Rattle.ll_bank.specs.Term.{Term, Env, close}
-use Rattle.ll_bank.specs.Form.{Form, Top, One, Atom, With, Tensor, Plus, Bang, Lolli, Imp, Forall, Exists, Use, close_form}
+use Rattle.ll_bank.specs.Form.{Form, Atom, With, Lolli, Imp, Forall, close_form}
 use Rattle.ll_laws.specs.declared.Kind.{Kind}
 use Rattle.ll_laws.specs.declared.Kind.TheVariants.{Linear, Unbounded}
 use Rattle.ll_laws.specs.Leaf.{Premise, Needs, NeedsFree, premise_goal, Leaf, add_premise, ways, leaf_from, leaf}
 use Rattle.ll_laws.specs.Module.{ClauseTree, ModuleTree, load, load_all, forall_all, unfold_load}
-use Rattle.ll_laws.specs.Valid.{Side, GoalSide, ClauseSide, Allowed, Scope, module_scope}
-use Rattle.ll_laws.proofs.ConsistentTerms.{IsHead, Fit, AllFit, Widens, widens-refl, grows-refl, Closes, is_head-close, fit-close}
+use Rattle.ll_laws.specs.Valid.{GoalSide, ClauseSide, Allowed, Scope, module_scope}
+use Rattle.ll_laws.proofs.ConsistentTerms.{IsHead, Fit, AllFit, widens-refl, grows-refl, Closes, is_head-close, fit-close}
 use Rattle.ll_laws.proofs.ConsistentForms.{Fits, fits-more, fits-close}
 
 -- ---- leaves

@@ -1,26 +1,24 @@
 -- The state in which a search starts is consistent, and settling keeps a state so.
-use Rattle.std.proofs.Common.{◌≡◌, ◌≤◌, ◌<◌, ℕ, zero, suc, ◌+◌, refl, ap, sym, subst, ◌∙◌, Bool, true, false, List, [], ◌∷◌, map, length, replicate, nat_eq, arith}
+use Rattle.std.proofs.Common.{◌≡◌, ◌≤◌, ◌<◌, ℕ, zero, suc, ◌+◌, refl, ap, sym, subst, ◌∙◌, Bool, true, false, List, [], ◌∷◌, length, replicate, nat_eq, arith}
 use Rattle.std.proofs.lemmas.List.{length-replicate}
 use Rattle.std.proofs.lemmas.Bool.{lt-ltb, le-leb, ne_eqb}
-use Rattle.std.specs.Prelude.{◌&&◌, ◌||◌, not, if◌then◌else◌, nat_lt, nat_le, Option, Some, None, slice_get}
+use Rattle.std.specs.Prelude.{◌&&◌, ◌||◌, not, if◌then◌else◌, nat_lt, nat_le, Option, Some, None}
 use Rattle.std.specs.List.{list_all, list_any}
 use Rattle.ll_bank.specs.Form.{Form}
 use Rattle.ll_laws.specs.declared.Kind.{Kind}
 use Rattle.ll_laws.specs.declared.Kind.TheVariants.{Linear, Unbounded}
 use Rattle.ll_laws.specs.Module.{ClauseTree, ModuleTree, Setting}
-use Rattle.ll_laws.specs.Problem.{ProblemTree, setting_of, start_of}
+use Rattle.ll_laws.specs.Problem.{setting_of, start_of}
 use Rattle.ll_laws.specs.Settle.{Entry, Saved, Item, Goal, LolliEnd, ImpEnd, WithMiddle, WithEnd, BangEnd, Front, settle_front, marks, remark, within, both_live, kept_if, join_by, join, end_with, at_middle}
 use Rattle.ll_laws.specs.State.{State, settle, front_of, with_front}
 use Rattle.ll_laws.specs.Attempt.{is_linear, vars_from}
 use Rattle.ll_laws.specs.Search.{program_entries}
-use Rattle.ll_laws.specs.Valid.{Side, GoalSide, ClauseSide, Allowed, given, AreClauses, AreModules, module_scope, IsValid}
-use Rattle.ll_laws.specs.Consistent.{may_live, marks_fit, is_of_kind, begins_second_side, ends_fit, allowed_in, AreGoals, AreResources, is_made, labels_differ, IsConsistent}
+use Rattle.ll_laws.specs.Valid.{GoalSide, ClauseSide, Allowed, given, AreClauses}
+use Rattle.ll_laws.specs.Consistent.{may_live, marks_fit, is_of_kind, ends_fit, allowed_in, AreGoals, AreResources, is_made, labels_differ, IsConsistent}
 use Rattle.ll_laws.specs.Laws.{StartsConsistent, SettlesConsistent}
 use Rattle.ll_laws.proofs.SubLaws.{and_left, and_right}
 use Rattle.ll_laws.proofs.ConsistentTerms.{and_intro, Grows}
-use Rattle.ll_laws.proofs.ConsistentForms.{fits-more, fits_of_formula}
-use Rattle.ll_laws.proofs.ConsistentLeaves.{ClausesFit}
-use Rattle.ll_laws.proofs.ConsistentContexts.{alike-remark, alike-ends, alike-below, alike-differ, all_may, marks-fit, alike-marks, may-remark, marks-both, resources-remark, formula-more}
+use Rattle.ll_laws.proofs.ConsistentContexts.{alike-remark, alike-ends, alike-below, alike-differ, all_may, marks-fit, may-remark, marks-both, resources-remark, formula-more}
 
 -- ---- the start
 
@@ -65,7 +63,7 @@ count_zeros : (n : ℕ) → length (replicate n zero) ≡ n
 count_zeros n = length-replicate n zero
 
 -- a state may mention what a problem may with k variables, if it has as many
-grows_given : (ms : List ModuleTree) (k n e : ℕ) → k ≤ n → Grows (given ms k) (record { modules = ms; variables = n; eigens = e; opens = true })
+pub grows_given : (ms : List ModuleTree) (k n e : ℕ) → k ≤ n → Grows (given ms k) (record { modules = ms; variables = n; eigens = e; opens = true })
 grows_given ms k n e le = record { modules = refl; variables = le; eigens = omega arith; opens = λ h. refl }
 
 pub starts_consistent : StartsConsistent
@@ -141,9 +139,9 @@ middle-fits may label saved flag (Goal g ∷ WithEnd kept old ∷ rest) es x f h
     let e = and_right (marks_fit saved.live es) (ends_fit (WithEnd kept old ∷ rest) es) f.ends in
     let k = and_left (marks_fit kept.live es && marks_fit old.live es) (ends_fit rest es) e in
     let n =
-      and_intro (marks_fit kept.live es && marks_fit half.live es) (ends_fit rest es)
-      (and_intro (marks_fit kept.live es) (marks_fit half.live es) (and_left (marks_fit kept.live es) (marks_fit old.live es) k) (marks-fit es f.live))
-      (and_right (marks_fit kept.live es && marks_fit old.live es) (ends_fit rest es) e)
+    and_intro (marks_fit kept.live es && marks_fit half.live es) (ends_fit rest es)
+    (and_intro (marks_fit kept.live es) (marks_fit half.live es) (and_left (marks_fit kept.live es) (marks_fit old.live es) k) (marks-fit es f.live))
+    (and_right (marks_fit kept.live es && marks_fit old.live es) (ends_fit rest es) e)
     in
     same_front may label (record { agenda = Goal g ∷ WithEnd kept half ∷ rest; context = remark es saved.live; flag = false }) x h
     (remarked may label (WithMiddle saved ∷ Goal g ∷ WithEnd kept old ∷ rest) (Goal g ∷ WithEnd kept half ∷ rest) es saved.live f f.goals n (and_left (marks_fit saved.live es) (ends_fit (WithEnd kept old ∷ rest) es) f.ends))

@@ -1,12 +1,10 @@
 -- Terms of consistent states, by a type that goes down the term, and how weakening, substitution and closing keep it.
-use Rattle.std.proofs.Common.{◌≡◌, ℕ, zero, suc, ◌+◌, ◌≤◌, ◌<◌, refl, ap, sym, subst, ◌∙◌, Bool, true, false, List, [], ◌∷◌, map, length, arith}
+use Rattle.std.proofs.Common.{◌≡◌, ℕ, zero, suc, ◌+◌, ◌≤◌, refl, subst, Bool, true, false, List, [], ◌∷◌, map, length, arith}
 use Rattle.std.proofs.lemmas.Bool.{ltb-true, lt-ltb}
 use Rattle.std.specs.Prelude.{◌&&◌, Option, Some, None, nat_lt, slice_index_or}
-use Rattle.std.specs.List.{list_all}
 use Rattle.ll_bank.specs.declared.Head.{Head}
 use Rattle.ll_bank.specs.declared.Head.TheVariants.{Name, Eigen, Bound}
 use Rattle.ll_bank.specs.Term.{Term, Var, Int, Con, Ap, sub, Env, place, close, head_of, is_closed, is_spine, eigens_below}
-use Rattle.ll_laws.specs.Module.{ModuleTree}
 use Rattle.ll_laws.specs.Unify.{vars_below}
 use Rattle.ll_laws.specs.Valid.{Allowed, Scope, places_below, may_head, is_headed}
 use Rattle.ll_laws.specs.Consistent.{is_made}
@@ -55,11 +53,10 @@ fit may scope (Con (Bound k)) p h v e = p
 fit may scope (Ap f a) p h v e =
     let s : Bool = is_spine f in let m : Bool = may_head scope (head_of f) in
     let i = and_left (s && m && is_headed scope f) (is_headed scope a) h in
-    let j = and_left (s && m) (is_headed scope f) i in
-    (
+    let j = and_left (s && m) (is_headed scope f) i in (
       (and_left s m j, and_right s m j),
       fit may scope f (and_left _ (places_below (length scope) a) p) (and_right (s && m) (is_headed scope f) i) (and_left _ (vars_below may.variables a) v) (and_left _ (eigens_below may.eigens a) e),
-      fit may scope a (and_right (places_below (length scope) f) _ p) (and_right (s && m && is_headed scope f) _ h) (and_right (vars_below may.variables f) _ v) (and_right (eigens_below may.eigens f) _ e)
+      fit may scope a (and_right (places_below (length scope) f) _ p) (and_right (s && m && is_headed scope f) _ h) (and_right (vars_below may.variables f) _ v) (and_right (eigens_below may.eigens f) _ e),
     )
 
 pub fit-places : (may : Allowed) (scope : Scope) (t : Term) → Fit may scope t → places_below (length scope) t ≡ true
@@ -100,11 +97,10 @@ fit_of_closed may (Con (Eigen k)) c v e = e
 fit_of_closed may (Con (Bound k)) c v e = cc
 fit_of_closed may (Ap f a) c v e =
     let i = and_left (is_spine f && is_closed f) (is_closed a) c in
-    let g = and_right (is_spine f) (is_closed f) i in
-    (
+    let g = and_right (is_spine f) (is_closed f) i in (
       (and_left (is_spine f) (is_closed f) i, head_of_closed f g),
       fit_of_closed may f g (and_left _ (vars_below may.variables a) v) (and_left _ (eigens_below may.eigens a) e),
-      fit_of_closed may a (and_right (is_spine f && is_closed f) _ c) (and_right (vars_below may.variables f) _ v) (and_right (eigens_below may.eigens f) _ e)
+      fit_of_closed may a (and_right (is_spine f && is_closed f) _ c) (and_right (vars_below may.variables f) _ v) (and_right (eigens_below may.eigens f) _ e),
     )
   where
     head_of_closed : (t : Term) → is_closed t ≡ true → may_head [] (head_of t) ≡ true

@@ -1,11 +1,11 @@
 -- Unification of terms that fit gives terms that fit.
-use Rattle.std.proofs.Common.{◌≡◌, ℕ, zero, suc, refl, ap, sym, subst, ◌∙◌, Bool, true, false, List, [], ◌∷◌, map, length, nat_eq}
-use Rattle.std.specs.Prelude.{◌&&◌, ◌||◌, not, Option, Some, None, if◌then◌else◌, nat_lt, slice_index}
+use Rattle.std.proofs.Common.{◌≡◌, ℕ, zero, suc, subst, Bool, true, false, List, [], ◌∷◌, length, nat_eq}
+use Rattle.std.specs.Prelude.{◌||◌, not, Option, Some, None, if◌then◌else◌, nat_lt, slice_index}
 use Rattle.std.specs.Ordering.{int_eq}
-use Rattle.ll_bank.specs.Term.{Term, Var, Int, Con, Ap, sub, occurs, eigens_below, head_eq}
-use Rattle.ll_laws.specs.Unify.{Diff, Same, Clash, Meet, and_then, when, diff_var, diff, diff_lists, bound_to, lower, Solved, Binding, is_older, bind, bind_term, after, resolve, solve, mgu}
+use Rattle.ll_bank.specs.Term.{Term, Var, Int, Con, Ap, occurs, eigens_below, head_eq}
+use Rattle.ll_laws.specs.Unify.{Diff, Same, Clash, Meet, and_then, when, diff_var, diff, diff_lists, bound_to, lower, Solved, Binding, is_older, bind, bind_term, resolve, solve, mgu}
 use Rattle.ll_laws.specs.Valid.{Allowed}
-use Rattle.ll_laws.proofs.UnifyLaws.{Begins, begins, bound_list}
+use Rattle.ll_laws.proofs.UnifyLaws.{begins, bound_list}
 use Rattle.ll_laws.proofs.ConsistentTerms.{Fit, AllFit, Goes, fit-sub, all_fit-sub}
 
 -- the place where two terms first differ fits

@@ -11,3 +11,4 @@ pub mod ConsistentUnifier
 pub mod ConsistentLeaves
 pub mod ConsistentContexts
 pub mod ConsistentStates
+pub mod ConsistentSteps

@@ -1,5 +1,5 @@
 -- The laws of the definitions, which functions of this crate carry.
-use Rattle.std.specs.Prelude.{◌≡◌, ◌≤◌, ℕ, suc, Bool, true, false, List, [], ◌∷◌, length, map, slice_index, Some, None, option_map, flat_map, sum_by}
+use Rattle.std.specs.Prelude.{◌≡◌, ◌≤◌, ℕ, suc, true, false, List, [], ◌∷◌, length, slice_index, Some, None, option_map, flat_map, sum_by}
 use Rattle.std.specs.List.{list_all}
 use Rattle.ll_bank.specs.Term.{Term}
 use Rattle.ll_bank.specs.Form.{Form}

@@ -1,7 +1,7 @@
 //! The definitions of the language and its search, and their laws.
 #![tactic(auto)]
 
-ghost use Rattle.ll_laws.specs.Laws.{StuckSearch, EndedSearch, BoundSearch, SteppedSearch, SteadySearch, SettledOnce, SettledUnder, StartsConsistent, SettlesConsistent, FoundUnifies, FoundLowers, FoundIsMostGeneral, NoneUnifies};
+ghost use Rattle.ll_laws.specs.Laws.{StuckSearch, EndedSearch, BoundSearch, SteppedSearch, SteadySearch, SettledOnce, SettledUnder, StartsConsistent, SettlesConsistent, StepsConsistent, FoundUnifies, FoundLowers, FoundIsMostGeneral, NoneUnifies};
 
 use ll_bank::{At, Bank};
 use std::marker::Model;
@@ -77,10 +77,12 @@ pub fn settling()
     ensures under { SettledUnder }
 {}
 
-/// The states that the search of a valid problem reaches are consistent: the first one is, and settling keeps them so.
+/// The states that the search of a valid problem reaches are consistent: the first one is, and settling and each inference
+/// keep them so.
 pub fn consistent_states()
     ensures start { StartsConsistent }
     ensures settle { SettlesConsistent }
+    ensures attempt { StepsConsistent }
 {}
 
 /// Unification finds a most general unifier among those that respect the levels, and nothing only where there is none (after

@@ -5,3 +5,10 @@ pub mod UnifyLaws
 pub mod UnifyOver
 pub mod UnifyBest
 pub mod Rows
+pub mod ConsistentTerms
+pub mod ConsistentForms
+pub mod ConsistentUnifier
+pub mod ConsistentLeaves
+pub mod ConsistentContexts
+pub mod ConsistentStates
+pub mod ConsistentSteps

@@ -1,11 +1,10 @@
 -- Worked examples: what the definitions give, computed.
-use Rattle.std.proofs.Common.{◌≡◌, ℕ, refl, List, [], ◌∷◌, ◌++◌}
-use Rattle.std.specs.Prelude.{ℤ, pos, Some, None, Option, codes}
+use Rattle.std.proofs.Common.{◌≡◌, ℕ, refl, List, [], ◌∷◌}
+use Rattle.std.specs.Prelude.{pos, Some, None, Option, codes}
 use Rattle.std.specs.Fmt.{digits}
-use Rattle.ll_laws.specs.declared.Kind.{Kind}
 use Rattle.ll_laws.specs.declared.Kind.TheVariants.{Linear, Unbounded}
 use Rattle.ll_laws.specs.declared.Step.TheVariants.{Clause as ClauseStep}
-use Rattle.ll_bank.specs.declared.Head.TheVariants.{Name, Eigen, Bound}
+use Rattle.ll_bank.specs.declared.Head.TheVariants.{Name, Bound}
 use Rattle.ll_bank.specs.Term.{Term, Var, Int, Con, Ap, app}
 use Rattle.ll_bank.specs.Form.{Form, Top, One, Atom, With, Tensor, Plus, Bang, Lolli, Imp, Forall, Exists, Use}
 use Rattle.ll_laws.specs.Module.{ClauseTree, ModuleTree}

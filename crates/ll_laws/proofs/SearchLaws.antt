@@ -1,12 +1,11 @@
 -- How the search and its cost unfold, and that a search that reached no bound is the same at every greater one.
-use Rattle.std.proofs.Common.{◌≡◌, ◌≢◌, ℕ, zero, suc, ◌≤◌, refl, ap, sym, subst, ◌∙◌, Bool, true, false, List, [], ◌∷◌, ◌++◌, arith, ◌⊎◌, inl, inr}
+use Rattle.std.proofs.Common.{◌≡◌, ℕ, zero, suc, ◌≤◌, refl, ap, sym, ◌∙◌, Bool, true, false, List, [], ◌∷◌, arith}
 use Rattle.std.proofs.lemmas.List.Folds.{list_any-append}
 use Rattle.std.proofs.lemmas.List.Sums.{sum_by-cons}
-use Rattle.std.specs.Prelude.{Option, Some, None, flat_map, sum_by, ◌||◌, ◌+◌}
-use Rattle.std.specs.List.{list_any}
+use Rattle.std.specs.Prelude.{Option, Some, None, flat_map, sum_by, ◌||◌}
 use Rattle.ll_laws.specs.Module.{Setting}
 use Rattle.ll_laws.specs.declared.Event.{Event}
-use Rattle.ll_laws.specs.declared.Event.TheVariants.{Answer, Reached}
+use Rattle.ll_laws.specs.declared.Event.TheVariants.{Reached}
 use Rattle.ll_bank.specs.Form.{Form}
 use Rattle.ll_laws.specs.Settle.{Item}
 use Rattle.ll_laws.specs.State.{State, settle}

@@ -1,10 +1,10 @@
 -- Settling looks at no goal and no clause, and is done once.
 use Rattle.std.proofs.Common.{◌≡◌, ℕ, refl, ap, subst, ◌∙◌, Bool, true, false, List, [], ◌∷◌, map}
 use Rattle.std.specs.Prelude.{◌&&◌, ◌||◌, not, if◌then◌else◌, Option, Some, None, option_map}
-use Rattle.ll_bank.specs.Term.{Term, sub}
+use Rattle.ll_bank.specs.Term.{Term}
 use Rattle.ll_bank.specs.Form.{Form, sub_form}
-use Rattle.ll_laws.specs.Settle.{Entry, Saved, Item, Goal, LolliEnd, ImpEnd, WithMiddle, WithEnd, BangEnd, Front, settle_front, marks, remark, join, end_lolli, end_with, without_newest, at_middle, map_item, map_entry, map_front}
-use Rattle.ll_laws.specs.State.{State, settle, front_of, with_front, sub_item, sub_entry, sub_state}
+use Rattle.ll_laws.specs.Settle.{Entry, Saved, Item, Goal, LolliEnd, ImpEnd, WithMiddle, WithEnd, BangEnd, Front, settle_front, marks, remark, join, end_with, without_newest, at_middle, map_item, map_entry, map_front}
+use Rattle.ll_laws.specs.State.{State, settle, front_of, with_front, sub_state}
 
 marks-map : {C D : Type 0} (c : C → D) (es : List (Entry C)) → marks (map (map_entry c) es) ≡ marks es
 marks-map c [] = refl

@@ -1,10 +1,10 @@
 -- The laws of unification, for lists whose variables all have levels.
-use Rattle.std.proofs.Common.{◌≡◌, ◌≤◌, ◌<◌, ℕ, zero, suc, refl, ap, sym, subst, ◌∙◌, Bool, true, false, List, [], ◌∷◌, map, length, arith, inl, inr}
-use Rattle.std.specs.Prelude.{◌&&◌, Option, Some, None, slice_index, nat_lt, nat_eq, ◌||◌}
+use Rattle.std.proofs.Common.{◌≡◌, ◌≤◌, ◌<◌, ℕ, zero, suc, refl, ap, sym, subst, ◌∙◌, Bool, true, false, List, [], ◌∷◌, length, arith, inl, inr}
+use Rattle.std.specs.Prelude.{Some, None, slice_index, nat_eq, ◌||◌}
 use Rattle.std.specs.List.{list_all, list_any}
 use Rattle.std.proofs.lemmas.Bool.{ltb-true, eqb-true, eqb-false, cases_lt}
 use Rattle.ll_bank.specs.Term.{Term, Var, Int, Con, Ap, sub, occurs}
-use Rattle.ll_laws.specs.Unify.{Solved, mgu, solve, vars_below, Unifies, Respects, RespectsThose, FitsLevel, IsOver, IsUnifier, IsMostGeneral}
+use Rattle.ll_laws.specs.Unify.{Solved, mgu, vars_below, Respects, RespectsThose, FitsLevel, IsOver, IsUnifier, IsMostGeneral}
 use Rattle.ll_laws.proofs.SubLaws.{and_left, and_right}
 use Rattle.ll_laws.proofs.UnifyOver.{AllBelow, solve-falls, solve-over}
 use Rattle.ll_laws.proofs.UnifyLaws.{or_cases, solve-unifies, solve-respects, most_general, General, AllAmong, AllAmongLists, fits-var}

@@ -1,6 +1,6 @@
 -- Unification answers a unifier that respects the levels, and a most general one.
-use Rattle.std.proofs.Common.{◌≡◌, ◌≢◌, ◌<◌, ◌≤◌, ℕ, zero, suc, ◌+◌, refl, ap, sym, subst, ◌∙◌, Bool, true, false, List, [], ◌∷◌, ◌++◌, map, length, arith, nat_eq, ◌⊎◌, inl, inr}
-use Rattle.std.specs.Prelude.{◌&&◌, ◌||◌, not, Option, Some, None, option_map, option_and_then, if◌then◌else◌, nat_lt, cond, slice_index, slice_set, min, ℤ, pos, negsuc}
+use Rattle.std.proofs.Common.{◌≡◌, ◌≢◌, ◌<◌, ◌≤◌, ℕ, zero, suc, ◌+◌, refl, ap, sym, subst, ◌∙◌, Bool, true, false, List, [], ◌∷◌, map, length, arith, nat_eq, inl, inr}
+use Rattle.std.specs.Prelude.{◌&&◌, ◌||◌, not, Option, Some, None, option_map, option_and_then, if◌then◌else◌, nat_lt, cond, slice_index, slice_set, min}
 use Rattle.std.specs.Ordering.{int_eq}
 use Rattle.std.proofs.lemmas.Bool.{eqb-true, eqb-false, ne_eqb, eq-eqb, ltb-true, ltb-false, lt-ltb}
 use Rattle.std.proofs.Math.Dec.{eqb-suc-zero, eqb-zero-suc, eqb-suc-suc}
@@ -10,8 +10,8 @@ use Rattle.std.specs.List.{list_any}
 use Rattle.ll_bank.specs.declared.Head.{Head}
 use Rattle.ll_bank.specs.declared.Head.TheVariants.{Name, Eigen, Bound}
 use Rattle.ll_bank.specs.Term.{Term, Var, Int, Con, Ap, sub, occurs, eigens_below, eigen_below, head_eq}
-use Rattle.ll_laws.specs.Unify.{Diff, Same, Clash, Meet, and_then, when, diff_var, diff, diff_lists, bound_to, lower, Solved, Binding, is_older, bind, bind_term, after, resolve, solve, mgu, FitsLevel, Respects, Unifies}
-use Rattle.ll_laws.proofs.SubLaws.{and_left, and_right, map_same, map_map, sub_comp, sub_same, sub_id}
+use Rattle.ll_laws.specs.Unify.{Diff, Same, Clash, Meet, and_then, when, diff_var, diff, diff_lists, bound_to, lower, Solved, Binding, is_older, bind, bind_term, after, resolve, solve, FitsLevel, Respects, Unifies}
+use Rattle.ll_laws.proofs.SubLaws.{and_left, and_right, map_same, map_map, sub_comp, sub_same}
 
 and_both : (a b : Bool) → a ≡ true → b ≡ true → a && b ≡ true
 and_both true b h i = i

@@ -1,13 +1,12 @@
 -- The answer of unification leaves alone what has no level, keeps one level for each variable, and raises none.
-use Rattle.std.proofs.Common.{◌≡◌, ◌≤◌, ◌<◌, ℕ, zero, suc, refl, ap, sym, subst, ◌∙◌, Bool, true, false, List, [], ◌∷◌, map, length, nat_eq, arith}
+use Rattle.std.proofs.Common.{◌≡◌, ◌≤◌, ◌<◌, ℕ, zero, suc, refl, ap, sym, subst, ◌∙◌, Bool, true, false, List, [], ◌∷◌, length, nat_eq, arith}
 use Rattle.std.proofs.lemmas.List.{length-set}
-use Rattle.std.specs.Prelude.{◌&&◌, ◌||◌, not, Option, Some, None, option_map, option_and_then, slice_index, slice_set, min, if◌then◌else◌}
-use Rattle.std.specs.List.{list_any, list_all}
-use Rattle.std.proofs.lemmas.Bool.{eqb-true, ne_eqb}
+use Rattle.std.specs.Prelude.{◌||◌, not, Option, Some, None, slice_index, min, if◌then◌else◌}
+use Rattle.std.specs.List.{list_any}
+use Rattle.std.proofs.lemmas.Bool.{ne_eqb}
 use Rattle.ll_bank.specs.Term.{Term, Var, Int, Con, Ap, sub, occurs, eigens_below}
-use Rattle.ll_laws.specs.Unify.{Diff, Same, Clash, Meet, diff_lists, bound_to, lower, Solved, Binding, is_older, bind, bind_term, after, resolve, solve, vars_below, Respects, Unifies, IsOver}
-use Rattle.ll_laws.proofs.SubLaws.{and_left, and_right}
-use Rattle.ll_laws.proofs.UnifyLaws.{Begins, begins, bound_list, lower-le, solve-unifies, solve-respects, AllAmong, AllAmongLists, Agreed, agreed, MeetIn, meet-lists, without, bound-among-lists, forced-lists, Forced}
+use Rattle.ll_laws.specs.Unify.{Diff, Same, Clash, Meet, diff_lists, bound_to, lower, Solved, Binding, is_older, bind, bind_term, after, resolve, solve, IsOver}
+use Rattle.ll_laws.proofs.UnifyLaws.{begins, bound_list, lower-le, solve-unifies, solve-respects, AllAmongLists, agreed, MeetIn, meet-lists, without, bound-among-lists, forced-lists, Forced}
 
 length-lower : (l : ℕ) (t : Term) (levels : List ℕ) → length (lower l t levels) ≡ length levels
 length-lower l (Var x) levels = length-set levels x (min (slice_index levels x) l)

@@ -4,9 +4,8 @@ use Rattle.std.specs.List.{list_all, list_any}
 use Rattle.ll_bank.specs.Term.{Term, is_closed, eigens_below}
 use Rattle.ll_bank.specs.Form.{Form}
 use Rattle.ll_laws.specs.declared.Kind.{Kind}
-use Rattle.ll_laws.specs.declared.Kind.TheVariants.{Linear, Unbounded}
 use Rattle.ll_laws.specs.Module.{Setting}
-use Rattle.ll_laws.specs.Settle.{Entry, Saved, Item, Goal, LolliEnd, ImpEnd, WithMiddle, WithEnd, BangEnd}
+use Rattle.ll_laws.specs.Settle.{Entry, Item, Goal, LolliEnd, ImpEnd, WithMiddle, WithEnd, BangEnd}
 use Rattle.ll_laws.specs.State.{State}
 use Rattle.ll_laws.specs.Attempt.{is_linear}
 use Rattle.ll_laws.specs.Unify.{vars_below}

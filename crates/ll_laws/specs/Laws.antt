@@ -1,15 +1,19 @@
 -- The laws of the definitions, which functions of this crate carry.
-use Rattle.std.specs.Prelude.{◌≡◌, ◌≤◌, ℕ, suc, Bool, true, false, List, [], ◌∷◌, length, map, slice_index, Some, None, option_map, flat_map, sum_by}
+use Rattle.std.specs.Prelude.{◌≡◌, ◌≤◌, ℕ, suc, true, false, List, [], ◌∷◌, length, slice_index, Some, None, option_map, flat_map, sum_by}
 use Rattle.std.specs.List.{list_all}
 use Rattle.ll_bank.specs.Term.{Term}
 use Rattle.ll_bank.specs.Form.{Form}
+use Rattle.ll_laws.specs.declared.Candidate.{Candidate}
 use Rattle.ll_laws.specs.declared.Event.TheVariants.{Reached}
 use Rattle.ll_laws.specs.Unify.{Solved, mgu, vars_below, IsUnifier, IsMostGeneral}
 use Rattle.ll_laws.specs.Module.{Setting}
 use Rattle.ll_laws.specs.Settle.{Item}
 use Rattle.ll_laws.specs.State.{State, settle, sub_state}
-use Rattle.ll_laws.specs.Attempt.{successors}
+use Rattle.ll_laws.specs.Attempt.{attempt, successors}
 use Rattle.ll_laws.specs.Search.{events, cost, any_reached, answer_of}
+use Rattle.ll_laws.specs.Problem.{ProblemTree, setting_of, start_of}
+use Rattle.ll_laws.specs.Valid.{AreModules, IsValid}
+use Rattle.ll_laws.specs.Consistent.{IsConsistent}
 
 -- ---- how a search unfolds
 
@@ -45,6 +49,21 @@ SettledOnce = (s t : State) → settle s ≡ Some t → settle t ≡ Some t
 -- settling goes along with every substitution
 abbrev pub SettledUnder : Type 0
 SettledUnder = (f : ℕ → Term) (s : State) → settle (sub_state f s) ≡ option_map (sub_state f) (settle s)
+
+-- ---- the invariant of the states that a search reaches
+
+-- the search of a valid problem starts in a consistent state
+abbrev pub StartsConsistent : Type 0
+StartsConsistent = (p : ProblemTree) → IsValid p → IsConsistent (setting_of p) (start_of p)
+
+-- settling a consistent state gives a consistent one
+abbrev pub SettlesConsistent : Type 0
+SettlesConsistent = (m : Setting) (s t : State) → IsConsistent m s → settle s ≡ Some t → IsConsistent m t
+
+-- each inference of a consistent state gives a consistent one, where the modules are well sorted and well scoped
+abbrev pub StepsConsistent : Type 0
+StepsConsistent =
+    (names : ℕ) (m : Setting) (s t : State) (c : Candidate) → AreModules names m.modules m.modules → IsConsistent m s → attempt m s c ≡ Some t → IsConsistent m t
 
 -- ---- unification, for lists of terms whose variables all have levels
 

@@ -1,7 +1,7 @@
 -- The leaves of a clause: the ways in which it can prove an atom (Hodas and Miller 1994, the triples of a resource formula).
 use Rattle.std.specs.Prelude.{ℕ, zero, suc, ◌-◌, List, [], ◌∷◌, ◌++◌, map, length, nat_lt, Option, Some, None, if◌then◌else◌, option_map}
 use Rattle.ll_bank.specs.Term.{Term, Env, close}
-use Rattle.ll_bank.specs.Form.{Form, Top, One, Atom, With, Tensor, Plus, Bang, Lolli, Imp, Forall, Exists, Use, close_form}
+use Rattle.ll_bank.specs.Form.{Form, Atom, With, Bang, Lolli, Imp, Forall, close_form}
 
 -- a premise of a leaf: a bounded one, which `-o` brought, or an unbounded one, which `=>` brought
 pub data Premise : Type 0 where

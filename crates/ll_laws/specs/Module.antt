@@ -1,5 +1,5 @@
 -- Clauses and modules as contracts see them, and the goal that a module load stands for.
-use Rattle.std.specs.Prelude.{ℕ, zero, suc, List, [], ◌∷◌, map, reverse, Option, Some}
+use Rattle.std.specs.Prelude.{ℕ, zero, suc, List, [], ◌∷◌, map, reverse, Some}
 use Rattle.ll_bank.specs.Term.{Term, Env}
 use Rattle.ll_bank.specs.Form.{Form, Lolli, Imp, Forall, close_form}
 use Rattle.ll_laws.specs.declared.Kind.{Kind}

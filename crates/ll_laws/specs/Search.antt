@@ -1,13 +1,12 @@
 -- The search of one depth-first engine: its events in order, what it costs, and where it forks.
-use Rattle.std.specs.Prelude.{ℕ, zero, suc, Bool, true, false, ◌||◌, ◌&&◌, not, List, [], ◌∷◌, ◌++◌, length, replicate, nat_eq, Option, Some, None, is_some, if◌then◌else◌, flat_map, sum_by, count_by, min}
+use Rattle.std.specs.Prelude.{ℕ, zero, suc, Bool, true, false, ◌||◌, ◌&&◌, not, List, [], ◌∷◌, length, replicate, nat_eq, Option, Some, None, is_some, if◌then◌else◌, flat_map, sum_by, min}
 use Rattle.std.specs.List.{list_any}
 use Rattle.ll_bank.specs.Form.{Form}
 use Rattle.ll_laws.specs.declared.Step.{Step}
-use Rattle.ll_laws.specs.declared.Step.TheVariants.{Plain, Left, Right, Clause as ClauseStep}
+use Rattle.ll_laws.specs.declared.Step.TheVariants.{Right, Clause as ClauseStep}
 use Rattle.ll_laws.specs.declared.Candidate.{Candidate}
 use Rattle.ll_laws.specs.declared.Event.{Event}
 use Rattle.ll_laws.specs.declared.Event.TheVariants.{Answer, Reached}
-use Rattle.ll_laws.specs.Answered.{Answered}
 use Rattle.ll_laws.specs.Module.{ClauseTree, Setting}
 use Rattle.ll_laws.specs.Settle.{Entry, Item, Goal, has_live}
 use Rattle.ll_laws.specs.State.{State, settle}

@@ -1,9 +1,9 @@
 -- Which formulas are goals and which are clauses, and which problems are valid.
-use Rattle.std.specs.Prelude.{◌≡◌, ◌≤◌, ◌<◌, ℕ, zero, suc, Bool, true, false, ◌&&◌, List, [], ◌∷◌, ◌++◌, length, replicate, nat_eq, nat_lt, nat_le, slice_get, slice_index_or, Option, Some, None}
+use Rattle.std.specs.Prelude.{◌≡◌, ◌≤◌, ◌<◌, ℕ, suc, Bool, true, false, ◌&&◌, List, [], ◌∷◌, ◌++◌, length, replicate, nat_eq, nat_lt, nat_le, slice_get, slice_index_or, Option, Some, None}
 use Rattle.std.specs.List.{list_all}
 use Rattle.ll_bank.specs.declared.Head.{Head}
-use Rattle.ll_bank.specs.declared.Head.TheVariants.{Name, Eigen, Bound}
-use Rattle.ll_bank.specs.Term.{Term, Var, Int, Con, Ap, head_of, arity, eigens_below, is_spine}
+use Rattle.ll_bank.specs.declared.Head.TheVariants.{Name, Bound}
+use Rattle.ll_bank.specs.Term.{Term, Con, Ap, head_of, arity, eigens_below, is_spine}
 use Rattle.ll_bank.specs.Form.{Form, Top, One, Atom, With, Tensor, Plus, Bang, Lolli, Imp, Forall, Exists, Use}
 use Rattle.ll_laws.specs.Leaf.{ways}
 use Rattle.ll_laws.specs.Module.{ClauseTree, ModuleTree}

@@ -4,7 +4,7 @@
 //! and `docs/DEFINITIONS.md` explains them in reading order.
 #![tactic(auto)]
 
-ghost use Rattle.ll_laws.specs.Laws.{StuckSearch, EndedSearch, BoundSearch, SteppedSearch, SteadySearch, SettledOnce, SettledUnder, FoundUnifies, FoundLowers, FoundIsMostGeneral, NoneUnifies};
+ghost use Rattle.ll_laws.specs.Laws.{StuckSearch, EndedSearch, BoundSearch, SteppedSearch, SteadySearch, SettledOnce, SettledUnder, StartsConsistent, SettlesConsistent, StepsConsistent, FoundUnifies, FoundLowers, FoundIsMostGeneral, NoneUnifies};
 
 use ll_bank::{At, Bank, FormAt, Names};
 use std::marker::Model;
@@ -163,6 +163,14 @@ pub fn steady_search()
 pub fn settling()
     ensures once { SettledOnce }
     ensures under { SettledUnder }
+{}
+
+/// The states that the search of a valid problem reaches are consistent: the first one is, and settling and each inference
+/// keep them so.
+pub fn consistent_states()
+    ensures start { StartsConsistent }
+    ensures settle { SettlesConsistent }
+    ensures attempt { StepsConsistent }
 {}
 
 /// Unification finds a most general unifier among those that respect the levels, and nothing only where there is none (after

@@ -5,10 +5,12 @@ use Rattle.std.proofs.Math.Seq.{get_or-append_seam}
 use Rattle.ll_bank.specs.Nodes.{grow}
 
 module _ {N T : Type 0} (build : List T → N → T) where
+  -- nodes behind others grow over the trees of those
   pub grow-append : (trees : List T) (ns ms : List N) → grow build trees (ns ++ ms) ≡ grow build (grow build trees ns) ms
   grow-append trees [] ms = refl
   grow-append trees (n ∷ ns) ms = grow-append (trees ++ build trees n ∷ []) ns ms
 
+  -- one tree a node
   pub length-grow : (trees : List T) (ns : List N) → length (grow build trees ns) ≡ length trees + length ns
   length-grow trees [] = omega arith
   length-grow trees (n ∷ ns) =
@@ -46,5 +48,6 @@ module _ {N T : Type 0} (build : List T → N → T) where
       (let q : length trees + suc i ≡ length (trees ++ build trees n ∷ []) + i = omega arith in q)
       ∙ at_node (trees ++ build trees n ∷ []) ns i d e (omega arith)
 
+  -- from no trees
   pub get_or-grow_at : (ns : List N) (i : ℕ) (d : N) (e : T) → i < length ns → get_or (grow build [] ns) i e ≡ build (grow build [] (take i ns)) (get_or ns i d)
   get_or-grow_at ns i d e h = ap (λ k. get_or (grow build [] ns) k e) (let q : i ≡ 0 + i = omega arith in q) ∙ at_node [] ns i d e h

@@ -1,24 +1,27 @@
 -- Numbers of texts: what callers know of them, and how a set of texts has them.
-use Rattle.std.proofs.Common.{◌≡◌, ℕ, zero, suc, ◌+◌, ◌<◌, ◌≤◌, Bool, true, false, not, cond, eqb, ltb, ◌||◌, List, [], ◌∷◌, ◌++◌, length, map, slice_get, position, Option, Some, None, get_or, refl, ap, sym, subst, ◌∙◌, arith, true≢false, if◌then◌else◌, inl, inr, length-append}
+use Rattle.std.proofs.Common.{◌≡◌, ℕ, zero, suc, ◌+◌, ◌<◌, ◌≤◌, Bool, true, false, not, cond, eqb, ltb, ◌||◌, List, [], ◌∷◌, ◌++◌, length, map, slice_get, position, Option, Some, None, get_or, refl, ap, sym, subst, ◌∙◌, arith, true≢false, if◌then◌else◌, length-append}
 use Rattle.std.specs.List.{list_any, position_or_len, IsDistinct, AllByRecursion}
 use Rattle.std.specs.Str.{bytes_eq}
-use Rattle.std.proofs.lemmas.Bool.{cases_lt}
+use Rattle.std.proofs.lemmas.Bool.{false_from_ne_true}
 use Rattle.std.proofs.lemmas.Bool.Decides.{Decides-ltb, Decides-eqb}
-use Rattle.std.proofs.lemmas.List.{length-map, map-append}
+use Rattle.std.proofs.lemmas.List.{append-nil, length-map, map-append}
 use Rattle.std.proofs.lemmas.List.Quantifiers.{position-Some}
 use Rattle.std.proofs.lemmas.List.Folds.{list_any_at, position_or_len_push}
-use Rattle.std.proofs.lemmas.List.Sums.{prefix_len-le-length}
-use Rattle.std.proofs.lemmas.Option.{slice_get-get_or}
+use Rattle.std.proofs.lemmas.List.Sums.{prefix_len-le-length, position_or_len_is}
+use Rattle.std.proofs.lemmas.Map.Made.{AllPairs-from_IsDistinct}
+use Rattle.std.proofs.lemmas.Option.{slice_get-get_or, get_or_from_slice_get, slice_get_within}
 use Rattle.std.proofs.lemmas.Slice.Eq.{bytes_eq-Decides}
 use Rattle.std.proofs.Math.ListN.{get_or-append}
 use Rattle.indexmap.specs.IndexSet.{insert_key}
-use Rattle.ll_bank.specs.Names.{number_of, with_name}
+use Rattle.ll_bank.specs.Names.{number_of, with_name, with_names}
 
 -- ---- the first place at which a test passes
 
+-- where there is one
 position_at : {X : Type 0} (p : X → Bool) (xs : List X) → position_or_len p xs < length xs → position p xs ≡ Some (position_or_len p xs)
 position_at {X} p xs h = ap (λ b. cond b (Some (position_or_len p xs)) None) ((Decides-ltb (position_or_len p xs) (length xs)).1 h)
 
+-- there is one where some element passes
 position_within : {X : Type 0} (p : X → Bool) (xs : List X) → list_any p xs ≡ true → position_or_len p xs < length xs
 position_within p [] h = absurd (true≢false (sym h))
 position_within p (x ∷ xs) h = by (p x) refl (position_within p xs)
@@ -27,6 +30,7 @@ position_within p (x ∷ xs) h = by (p x) refl (position_within p xs)
     by true e rest = rw e (omega arith)
     by false e rest = let k = rest (sym (ap (λ b. b || list_any p xs) e) ∙ h) in rw e (omega arith)
 
+-- it stays where an element that passes is put behind
 position_or_len-push : {X : Type 0} (p : X → Bool) (xs : List X) (y : X) → p y ≡ true → position_or_len p (xs ++ y ∷ []) ≡ position_or_len p xs
 position_or_len-push p xs y h =
     position_or_len_push p xs y
@@ -62,9 +66,66 @@ number_of-with_name texts text = by (list_any (bytes_eq text) texts) refl
         let low = prefix_len-le-length (λ t. not (bytes_eq text t)) texts in
         position_at (bytes_eq text) (texts ++ text ∷ []) (rw (same, length-append) (omega arith)) ∙ ap (λ n. let o : Option ℕ = Some n in o) same
 
+-- a text of the list has its place as its number, since no two are equal
+pub number_of-slice_get : (texts : List (List ℕ)) (text : List ℕ) (n : ℕ) → IsDistinct bytes_eq texts → slice_get texts n ≡ Some text → number_of texts text ≡ Some n
+number_of-slice_get texts text n distinct e =
+    let here = get_or_from_slice_get texts n text [] e in
+    let inside = slice_get_within texts n text e in
+    let apart = AllPairs-from_IsDistinct bytes_eq-Decides texts distinct in
+    let is = position_or_len_is (bytes_eq text) texts n [] (omega arith)
+    (λ k l. false_from_ne_true (bytes_eq text (get_or texts k [])) (λ same. apart k n [] l inside (sym ((bytes_eq-Decides text (get_or texts k [])).0 same) ∙ sym here)))
+    (λ l. (bytes_eq-Decides text (get_or texts n [])).1 (sym here)) in
+    position_at (bytes_eq text) texts (rw is inside) ∙ ap (λ k. let o : Option ℕ = Some k in o) is
+
+-- at most one text is put behind the others
+behind : (texts : List (List ℕ)) (text : List ℕ) (b : Bool) → (more : List (List ℕ)) × (((if b then texts else texts ++ text ∷ []) ≡ texts ++ more) × (length more ≤ 1))
+behind texts text true = ([], (sym (append-nil texts), omega arith))
+behind texts text false = (text ∷ [], (refl, omega arith))
+
+-- so there is at most one text more
+pub length-with_name : (texts : List (List ℕ)) (text : List ℕ) → length (with_name texts text) ≤ length texts + 1
+length-with_name texts text =
+    let b = behind texts text (list_any (bytes_eq text) texts) in rw b.1.0 (let l = length-append texts b.0 in let k = b.1.1 in omega arith)
+
+-- a number keeps its text
+pub slice_get-with_name : (texts : List (List ℕ)) (text old : List ℕ) (n : ℕ) → slice_get texts n ≡ Some old → slice_get (with_name texts text) n ≡ Some old
+slice_get-with_name texts text old n e = let b = behind texts text (list_any (bytes_eq text) texts) in rw b.1.0 (slice_get-append texts b.0 n e)
+  where
+    slice_get-append : (xs ys : List (List ℕ)) (k : ℕ) → slice_get xs k ≡ Some old → slice_get (xs ++ ys) k ≡ Some old
+    slice_get-append [] ys k h = cc
+    slice_get-append (x ∷ xs) ys zero h = h
+    slice_get-append (x ∷ xs) ys (suc k) h = slice_get-append xs ys k h
+
+-- and a text its number
+pub number_of-with_name_old : (texts : List (List ℕ)) (text old : List ℕ) (n : ℕ) → number_of texts old ≡ Some n → number_of (with_name texts text) old ≡ Some n
+number_of-with_name_old texts text old n e = let b = behind texts text (list_any (bytes_eq text) texts) in rw b.1.0 (number_of-append b.0)
+  where
+    number_of-append : (more : List (List ℕ)) → number_of (texts ++ more) old ≡ Some n
+    number_of-append more =
+        let p = position-Some (bytes_eq old) texts n [] e in
+        let l = length-append texts more in
+        let is = position_or_len_is (bytes_eq old) (texts ++ more) n [] (omega arith)
+        (λ k below. ap (bytes_eq old) (get_or-append texts more [] k (omega arith)) ∙ p.2 k below)
+        (λ m. ap (bytes_eq old) (get_or-append texts more [] n p.0) ∙ p.1) in
+        position_at (bytes_eq old) (texts ++ more) (rw is (omega arith)) ∙ ap (λ k. let o : Option ℕ = Some k in o) is
+
+-- the same of several texts added in turn
+pub length-with_names : (texts more : List (List ℕ)) → length (with_names texts more) ≤ length texts + length more
+length-with_names texts [] = omega arith
+length-with_names texts (t ∷ more) = let a = length-with_names (with_name texts t) more in let b = length-with_name texts t in omega arith
+
+pub slice_get-with_names : (texts more : List (List ℕ)) (old : List ℕ) (n : ℕ) → slice_get texts n ≡ Some old → slice_get (with_names texts more) n ≡ Some old
+slice_get-with_names texts [] old n e = e
+slice_get-with_names texts (t ∷ more) old n e = slice_get-with_names (with_name texts t) more old n (slice_get-with_name texts t old n e)
+
+pub number_of-with_names : (texts more : List (List ℕ)) (old : List ℕ) (n : ℕ) → number_of texts old ≡ Some n → number_of (with_names texts more) old ≡ Some n
+number_of-with_names texts [] old n e = e
+number_of-with_names texts (t ∷ more) old n e = number_of-with_names (with_name texts t) more old n (number_of-with_name_old texts t old n e)
+
 -- ---- texts that are the bytes of keys
 
 module _ {K : Type 0} (bytes : K → List ℕ) where
+  -- a test of texts is a test of keys
   list_any-map : (p : List ℕ → Bool) (keys : List K) → list_any p (map bytes keys) ≡ list_any (λ k. p (bytes k)) keys
   list_any-map p [] = refl
   list_any-map p (k ∷ keys) = ap (λ b. p (bytes k) || b) (list_any-map p keys)
@@ -92,6 +153,7 @@ module _ {K : Type 0} (bytes : K → List ℕ) where
         by true e = rw e refl
         by false e = rw e (map-append bytes keys (key ∷ []))
 
+    -- which then has its place as its number
     pub added_number : (n : ℕ) → n ≡ position_or_len (λ k. bytes_eq (bytes key) (bytes k)) keys → number_of (map bytes new) text ≡ Some n
     added_number n e =
         ap (λ ts. number_of ts text) added ∙ (number_of-with_name texts text
@@ -106,3 +168,6 @@ module _ {K : Type 0} (bytes : K → List ℕ) where
       others : (ks : List K) → AllByRecursion (λ y. bytes_eq (bytes k) (bytes y) ≡ false) ks → AllByRecursion (λ t. bytes_eq (bytes k) t ≡ false) (map bytes ks)
       others [] g = tt
       others (x ∷ ks) g = (g.0, others ks g.1)
+
+-- for callers that add texts
+pub ruleset name_laws = (length-with_name, slice_get-number_of, slice_get-with_name, number_of-with_name_old)

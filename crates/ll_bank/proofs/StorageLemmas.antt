@@ -1,6 +1,6 @@
 -- A bank's vectors and its nodes: what each call reads and leaves.
-use Rattle.std.proofs.Common.{◌≡◌, ℕ, ◌+◌, ◌-◌, ◌<◌, ◌≤◌, List, [], ◌∷◌, ◌++◌, length, map, All, get_or, take, drop, refl, ap, sym, subst, ◌∙◌, inl, inr, arith, length-append, length-drop}
-use Rattle.std.specs.Prelude.{slice_range, ℤ, FitsSigned, Result, Ok, Err, OnErr}
+use Rattle.std.proofs.Common.{◌≡◌, ℕ, ◌-◌, ◌<◌, ◌≤◌, List, [], ◌∷◌, ◌++◌, length, map, All, get_or, take, drop, refl, ap, sym, subst, ◌∙◌, inl, inr, arith, length-append, length-drop}
+use Rattle.std.specs.Prelude.{ℤ, FitsSigned, Result, Ok, Err, OnErr}
 use Rattle.std.specs.Int.{w64}
 use Rattle.std.proofs.Common.{to_z, of_z}
 use Rattle.std.proofs.lemmas.Int.{to_z-of_z}
@@ -21,24 +21,27 @@ use Rattle.ll_bank.specs.declared.bank.StoredTerm.{StoredTerm}
 use Rattle.ll_bank.specs.declared.bank.StoredTerm.TheVariants.{Var as StoredVar, Int as StoredInt, App as StoredApp}
 use Rattle.ll_bank.specs.declared.bank.StoredForm.{StoredForm}
 use Rattle.ll_bank.specs.declared.bank.StoredForm.TheVariants.{Top as StoredTop, One as StoredOne, Atom as StoredAtom, With as StoredWith, Tensor as StoredTensor, Plus as StoredPlus, Bang as StoredBang, Lolli as StoredLolli, Imp as StoredImp, Forall as StoredForall, Exists as StoredExists, Use as StoredUse}
-use Rattle.ll_bank.specs.Term.{Term, Var, Int, app}
-use Rattle.ll_bank.specs.Form.{Form, Top, One, Atom, With, Tensor, Plus, Bang, Lolli, Imp, Forall, Exists, Use}
-use Rattle.ll_bank.specs.Nodes.{Nodes, TermNode, VarNode, IntNode, AppNode, FormulaNode, TopNode, OneNode, AtomNode, WithNode, TensorNode, PlusNode, BangNode, LolliNode, ImpNode, ForallNode, ExistsNode, UseNode, grow, term_in, build_term, form_in, build_form, term_tree, form_tree, term_trees, HasTerm, HasForm, AllInTerms, ShowsTerm, ShowsForm, Extends, form_of, HasPartsBelow, HasParts, IsTermView, IsFormView}
+use Rattle.ll_bank.specs.Term.{Term, Var, app}
+use Rattle.ll_bank.specs.Form.{Form, Top, Atom, With, Tensor, Plus, Bang, Lolli, Imp, Forall, Exists, Use}
+use Rattle.ll_bank.specs.Nodes.{Nodes, TermNode, VarNode, IntNode, AppNode, FormulaNode, TopNode, OneNode, AtomNode, WithNode, TensorNode, PlusNode, BangNode, LolliNode, ImpNode, ForallNode, ExistsNode, UseNode, grow, term_in, build_term, form_in, build_form, term_tree, form_tree, term_trees, HasTerm, HasForm, ShowsTerm, ShowsForm, Extends, form_of, HasPartsBelow, IsTermView, IsFormView}
 use Rattle.ll_bank.specs.Storage.{places, children_of, AddsTo, term_node, form_node, nodes_of, node_of_term, node_of, IsWithin, IsTermStored, IsFormStored, IsTermBelow, IsFormBelow, IsWellFounded, IsStored}
-use Rattle.ll_bank.proofs.Growing.{grow_kept, grow_last, get_or-grow_at, length-grow}
+use Rattle.ll_bank.proofs.Growing.{grow_kept, grow_last, get_or-grow_at}
 use Rattle.ll_bank.proofs.Trees.{Extends-same}
 
 -- ---- the tree that a node builds depends on what is below it alone
 
+-- one map after another is one map
 map_map : {A B C : Type 0} (f : B → C) (g : A → B) (xs : List A) → map f (map g xs) ≡ map (λ x. f (g x)) xs
 map_map f g [] = refl
 map_map f g (x ∷ xs) = ap (λ ys. f (g x) ∷ ys) (map_map f g xs)
 
+-- functions that agree below k map numbers below k alike
 same_map : (f g : ℕ → Term) (k : ℕ) (xs : List ℕ) → ((a : ℕ) → a < k → f a ≡ g a) → All (λ a. a < k) xs → map f xs ≡ map g xs
 same_map f g k [] h a = refl
 same_map f g k (x ∷ xs) h a =
     let e1 = h x (All-head (λ a. a < k) x xs a) in let e2 = same_map f g k xs h (All-tail (λ a. a < k) x xs a) in cc
 
+-- a term's node builds one term over trees that agree below it
 same_build_term : (trees trees' : List Term) (at : ℕ) → ((a : ℕ) → a < at → term_in trees a ≡ term_in trees' a) → (n : TermNode) → IsTermBelow at n
     → build_term trees n ≡ build_term trees' n
 same_build_term trees trees' at h (VarNode x) w = refl
@@ -46,6 +49,7 @@ same_build_term trees trees' at h (IntNode z) w = refl
 same_build_term trees trees' at h (AppNode k args) w = ap (app k) (same_map (term_in trees) (term_in trees') at args h w)
 
 module _ (term term' : ℕ → Term) (terms : ℕ) (same : (a : ℕ) → a < terms → term a ≡ term' a) where
+  -- and a formula's node one formula
   same_build_form : (trees trees' : List Form) (at : ℕ) → ((f : ℕ) → f < at → form_in trees f ≡ form_in trees' f) → (n : FormulaNode) → IsFormBelow terms at n
       → build_form term trees n ≡ build_form term' trees' n
   same_build_form trees trees' at h TopNode w = refl
@@ -119,6 +123,7 @@ module _ (old : Nodes) (low : IsWellFounded old) where
 
 -- ---- a node put behind the others stands on lower ones
 
+-- what holds of each element at its place, and of one more behind them, holds of all
 push_all : {A : Type 0} (P : ℕ → A → Type 0) (xs : List A) (x : A) → ((k : ℕ) (d : A) → k < length xs → P k (get_or xs k d)) → P (length xs) x
     → (k : ℕ) (d : A) → k < length (xs ++ x ∷ []) → P k (get_or (xs ++ x ∷ []) k d)
 push_all P xs x h p k d lt =
@@ -129,6 +134,7 @@ push_all P xs x h p k d lt =
           subst (λ z. P z (get_or (xs ++ x ∷ []) z d)) e (subst (P (length xs)) (sym (get_or-append_seam xs x [] d)) p)
     ]
 
+-- parts below some terms are below more terms
 more_terms : (terms more at : ℕ) → terms ≤ more → (n : FormulaNode) → IsFormBelow terms at n → IsFormBelow more at n
 more_terms terms more at le TopNode w = tt
 more_terms terms more at le OneNode w = tt
@@ -144,6 +150,7 @@ more_terms terms more at le (ExistsNode f) w = w
 more_terms terms more at le (UseNode m args f) w = (λ k d l. let h = w.0 k d l in omega arith, w.1)
 
 module _ (old : Nodes) (low : IsWellFounded old) where
+  -- a term on lower ones keeps a bank well-founded
   low_term : (n : TermNode) → IsTermBelow (length old.terms) n → IsWellFounded (record { terms = old.terms ++ n ∷ []; forms = old.forms })
   low_term n below = record {
     terms = push_all IsTermBelow old.terms n low.terms below;
@@ -151,6 +158,7 @@ module _ (old : Nodes) (low : IsWellFounded old) where
         more_terms (length old.terms) (length (old.terms ++ n ∷ [])) at (let e = length-append old.terms (n ∷ []) in omega arith) (get_or old.forms at d) (low.forms at d h);
   }
 
+  -- and so does a formula on lower ones
   low_form : (n : FormulaNode) → IsFormBelow (length old.terms) (length old.forms) n → IsWellFounded (record { terms = old.terms; forms = old.forms ++ n ∷ [] })
   low_form n below = record {
     terms = low.terms;
@@ -159,32 +167,39 @@ module _ (old : Nodes) (low : IsWellFounded old) where
 
 -- ---- more children leave the nodes
 
+-- a span shows the same children
 children_more : (cs more : List At) (span : Span) → IsWithin cs span → children_of (cs ++ more) span ≡ children_of cs span
 children_more cs more span h =
     let small : span.to - span.from ≤ length (drop span.from cs) = simp length-drop (omega (arith, h.0, h.1)) in
     ap (take (span.to - span.from)) (drop-append-le span.from cs more (le_trans h.0 h.1)) ∙ take-append-le (span.to - span.from) (drop span.from cs) more small
 
+-- so a stored term has the same node
 term_node_more : (cs more : List At) (t : StoredTerm) → IsTermStored cs t → term_node (cs ++ more) t ≡ term_node cs t
 term_node_more cs more (StoredVar n) h = refl
 term_node_more cs more (StoredInt z) h = refl
 term_node_more cs more (StoredApp k span) h = ap (λ xs. AppNode k (places xs)) (children_more cs more span h)
 
+-- and a stored formula too
 form_node_more : (cs more : List At) (f : StoredForm) → IsFormStored cs f → form_node (cs ++ more) f ≡ form_node cs f
 form_node_more cs more (StoredUse m span g) h = ap (λ xs. UseNode m (places xs) g.0) (children_more cs more span h)
 form_node_more cs more _ h = refl
 
+-- functions that agree where P holds map alike
 same_nodes : {A B : Type 0} (f g : A → B) (P : A → Type 0) (xs : List A) → ((x : A) → P x → f x ≡ g x) → All P xs → map f xs ≡ map g xs
 same_nodes f g P [] h a = refl
 same_nodes f g P (x ∷ xs) h a = let e1 = h x (All-head P x xs a) in let e2 = same_nodes f g P xs h (All-tail P x xs a) in cc
 
+-- a span stays within the children
 within_more : (cs more : List At) (span : Span) → IsWithin cs span → IsWithin (cs ++ more) span
 within_more cs more span h = (h.0, simp length-append (omega (arith, h.1)))
 
+-- a term stays stored
 term_stored_more : (cs more : List At) (t : StoredTerm) → IsTermStored cs t → IsTermStored (cs ++ more) t
 term_stored_more cs more (StoredVar n) h = tt
 term_stored_more cs more (StoredInt z) h = h
 term_stored_more cs more (StoredApp k span) h = within_more cs more span h
 
+-- a formula stays stored
 form_stored_more : (cs more : List At) (f : StoredForm) → IsFormStored cs f → IsFormStored (cs ++ more) f
 form_stored_more cs more (StoredUse m span g) h = within_more cs more span h
 form_stored_more cs more StoredTop h = tt
@@ -201,12 +216,14 @@ form_stored_more cs more (StoredExists f) h = tt
 
 -- so a bank is as before where its children grew and its nodes did not
 module _ (cs ds : List At) (ts us : List StoredTerm) (fs gs : List StoredForm) (adds : AddsTo cs ds) (same_ts : us ≡ ts) (same_fs : gs ≡ fs) (stored : IsStored cs ts fs) where
+  -- the nodes are the same
   nodes_more : nodes_of ds us gs ≡ nodes_of cs ts fs
   nodes_more = rw (adds.is, same_ts, same_fs) (λ i. record {
     terms = same_nodes (term_node (cs ++ adds.more)) (term_node cs) (IsTermStored cs) ts (term_node_more cs adds.more) stored.each_term i;
     forms = same_nodes (form_node (cs ++ adds.more)) (form_node cs) (IsFormStored cs) fs (form_node_more cs adds.more) stored.each_form i;
   })
 
+  -- the vectors hold them
   pub stored_more : IsStored ds us gs
   stored_more = record {
     each_term = rw (adds.is, same_ts) (λ k d l. term_stored_more cs adds.more (get_or ts k d) (stored.each_term k d l));
@@ -301,14 +318,17 @@ module _ (cs ds : List At) (ts : List StoredTerm) (fs gs : List StoredForm) (f :
 
 -- ---- what a sign builds, and where its parts lie
 
+-- places below k, as numbers
 pub below_places : (k : ℕ) (args : List At) → All (λ a. a.0 < k) args → All (λ a. a < k) (places args)
 below_places k [] h = λ j d q. absurd (omega arith)
 below_places k (a ∷ args) h =
     All-cons (λ a. a < k) a.0 (places args) (All-head (λ (a : At). a.0 < k) a args h) (below_places k args (All-tail (λ (a : At). a.0 < k) a args h))
 
+-- and back
 places_below : (k : ℕ) (args : List At) → All (λ a. a < k) (places args) → All (λ a. a.0 < k) args
 places_below k args h = λ j d q. subst (λ z. z < k) (get_or-map (λ (a : At). a.0) args j d) (h j d.0 (simp length-map q))
 
+-- parts of a sign that are below lie below in its node
 pub below_parts : (terms forms : ℕ) (view : FormNode) → HasPartsBelow terms forms view → IsFormBelow terms forms (node_of view)
 below_parts terms forms TopView h = tt
 below_parts terms forms OneView h = tt
@@ -323,6 +343,7 @@ below_parts terms forms (ForallView f) h = h
 below_parts terms forms (ExistsView f) h = h
 below_parts terms forms (UseView m args f) h = (below_places terms args.now h.0, h.1)
 
+-- and back
 parts_below : (terms forms : ℕ) (view : FormNode) → IsFormBelow terms forms (node_of view) → HasPartsBelow terms forms view
 parts_below terms forms TopView h = tt
 parts_below terms forms OneView h = tt
@@ -337,10 +358,12 @@ parts_below terms forms (ForallView f) h = h
 parts_below terms forms (ExistsView f) h = h
 parts_below terms forms (UseView m args f) h = (places_below terms args.now h.0, h.1)
 
+-- a head with places builds the head with their terms
 pub build_app : (old : Nodes) (h : Head) (args : List At) → build_term (grow build_term [] old.terms) (AppNode h (places args)) ≡ app h (term_trees old args)
 unfolding term_tree
 build_app old h args = ap (app h) (map_map (term_in (grow build_term [] old.terms)) (λ a. a.0) args)
 
+-- a sign with the places of its parts builds its formula
 pub build_parts : (old : Nodes) (view : FormNode) → build_form (term_tree old) (grow (build_form (term_tree old)) [] old.forms) (node_of view) ≡ form_of old view
 unfolding form_tree
 build_parts old TopView = refl

@@ -66,8 +66,8 @@ impl Names {
             return Ok(number as u32);
         }
         let owned = String::from_str(*self.texts.allocator(), text)?;
-        let (number, _) = self.texts.insert_full(owned)?;
-        Ok(number as u32)
+        let (next, _) = self.texts.insert_full(owned)?;
+        Ok(next as u32)
     }
 
     /// The text with this number.

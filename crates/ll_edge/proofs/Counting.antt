@@ -1,8 +1,7 @@
 -- What the counts of a shelf and a sink say of an answer.
-use Rattle.std.proofs.Common.{◌≡◌, ℕ, ◌<◌, ◌≤◌, List, Result, Ok, Err, length, refl, ap, inl, inr, subst, sym, arith, IfOk, OnErr}
+use Rattle.std.proofs.Common.{◌≡◌, ℕ, ◌<◌, ◌≤◌, List, Result, Ok, Err, length, inl, inr, arith, IfOk, OnErr}
 use Rattle.std.proofs.lemmas.Bool.{cases_lt}
 use Rattle.std.proofs.lemmas.Bool.Decides.{nat_tests}
-use Rattle.std.proofs.lemmas.Grind.{common_steps}
 use Rattle.ll_edge.specs.Counts.{last_count, Rose, counted_up, Counts, counts_after, faults_after}
 use Rattle.ll_edge.specs.Texts.{IfBytes}
 use Rattle.ll_edge.specs.declared.shelf.Got.{Got}

@@ -29,7 +29,7 @@ pub written_more : {before after : Option (List ℕ)} {piece : List ℕ} {done :
 written_more {before} {after} {piece} {done} w later rest n is_rest fits e =
     record {
       within = omega (arith, w.within, length-drop done piece, ap length is_rest);
-      appended = e ∙ ap (λ known. append_known known (take n rest)) w.appended ∙ append_known-append before (take done piece) (take n rest) ∙ ap (λ xs. append_known before (take done piece ++ take n xs)) is_rest ∙ ap (append_known before) (sym (take-add done n piece))
+      appended = e ∙ ap (λ known. append_known known (take n rest)) w.appended ∙ append_known-append before (take done piece) (take n rest) ∙ ap (λ xs. append_known before (take done piece ++ take n xs)) is_rest ∙ ap (append_known before) (sym (take-add done n piece));
     }
 
 -- all of it

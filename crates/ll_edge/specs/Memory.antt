@@ -63,5 +63,5 @@ abbrev pub sink_after : SinkState → List ℕ → Result ℕ WriteFailed → Si
 sink_after sink piece answer = record sink {
   written = sink.written ++ taken_of piece answer;
   next_call = counted_up sink.next_call;
-  faults = faults_after sink.faults piece answer
+  faults = faults_after sink.faults piece answer;
 }

@@ -7,10 +7,9 @@ mod memory;
 mod real;
 mod shelf;
 mod sink;
-mod text;
-
 #[cfg(test)]
 mod tests;
+mod text;
 
 pub use gate::{Gate, OpenGate};
 pub use memory::{MemShelf, MemSink};

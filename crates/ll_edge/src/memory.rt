@@ -1,20 +1,39 @@
 // A shelf and a sink in memory, for tests. Their calls are numbered from 0, and fail at given numbers.
-ghost use Rattle.std.specs.Prelude.{◌≡◌, ℕ, ◌-◌, ◌<◌, ◌≤◌, [], length, min, take, Some, None, IfSome, IfOk, OnOk, OnErr};
+ghost use Rattle.std.specs.Prelude.{◌≡◌, ◌-◌, ◌<◌, ◌≤◌, [], length, min, IfOk};
 ghost use Rattle.std.specs.Option.{option_copied};
 ghost use Rattle.ll_edge.specs.Texts.{NamesDiffer, text_of, IsPart};
-ghost use Rattle.ll_edge.specs.Memory.{texts_shown};
+ghost use Rattle.ll_edge.specs.Memory.{texts_shown, is_failing};
+ghost use Rattle.ll_edge.specs.Counts.{counted_up};
 
 use crate::shelf::{Got, Shelf};
 use crate::sink::{Sink, WriteFailed};
 use std::alloc::{AllocError, Global};
 use std::marker::Model;
 
-/// Texts in memory.
+// The number of the next call, and the numbers of those that fail.
+#[derive(Drop)]
+struct Calls {
+    next: u64,
+    failing: Vec<u64>,
+}
+
+impl Calls {
+    // Counts a call, and says whether it is to fail.
+    fn count(&mut self) -> bool
+        ensures fails { result ≡ is_failing self.old.failing.items self.old.next }
+        ensures next { self.new ≡ record self.old { next = counted_up self.old.next } }
+    {
+        let fails = self.failing.contains(&self.next);
+        self.next = self.next.saturating_add(1);
+        fails
+    }
+}
+
+/// Texts in memory. Its calls are numbered from 0, and a number stays at the greatest u64 once it is there.
 #[derive(Drop)]
 pub struct MemShelf {
     texts: Vec<(String, Vec<u8>)>,
-    failing: Vec<u64>,
-    next_call: u64,
+    calls: Calls,
     faults: u64,
     absences: u64,
 }
@@ -25,10 +44,10 @@ impl Model for MemShelf {
     ghost Value = { ShelfState };
 
     ghost view = { λ shelf. record {
-        texts = texts_shown shelf.texts.items;
-        failing = shelf.failing.items;
-        next_call = shelf.next_call;
-        counts = record { faults = shelf.faults; absences = shelf.absences }
+      texts = texts_shown shelf.texts.items;
+      failing = shelf.calls.failing.items;
+      next_call = shelf.calls.next;
+      counts = record { faults = shelf.faults; absences = shelf.absences };
     } };
 }
 
@@ -39,16 +58,15 @@ impl MemShelf {
     pub fn new(texts: Vec<(String, Vec<u8>)>, failing: Vec<u64>) -> MemShelf
         requires { NamesDiffer (texts_shown texts.items) }
         ensures { result ≡ record {
-            texts = texts_shown texts.items;
-            failing = failing.items;
-            next_call = 0;
-            counts = record { faults = 0; absences = 0 }
+          texts = texts_shown texts.items;
+          failing = failing.items;
+          next_call = 0;
+          counts = record { faults = 0; absences = 0 };
         } }
     {
         MemShelf {
             texts,
-            failing,
-            next_call: 0,
+            calls: Calls { next: 0, failing },
             faults: 0,
             absences: 0,
         }
@@ -57,7 +75,6 @@ impl MemShelf {
 
 impl Shelf for MemShelf {
     ghost use Rattle.std.specs.Prelude.{Some};
-    ghost use Rattle.ll_edge.specs.Counts.{Rose};
     ghost use Rattle.ll_edge.specs.Texts.{PutsPart, IfBytes};
     ghost use Rattle.ll_edge.specs.Memory.{shelf_answer, shelf_after};
 
@@ -76,9 +93,7 @@ impl Shelf for MemShelf {
         ensures faults_kept { self.old.counts.faults ≤ self.new.counts.faults }
         ensures absences_kept { self.old.counts.absences ≤ self.new.counts.absences }
     {
-        let call = self.next_call;
-        self.next_call = call.saturating_add(1);
-        if self.failing.contains(&call) {
+        if self.calls.count() {
             self.faults = self.faults.saturating_add(1);
             return Got::Failed;
         }
@@ -117,13 +132,14 @@ fn copy_part(text: &[u8], from: u64, buf: &mut [u8]) -> usize
     count
 }
 
-/// A sink of limited room in memory.
+/// A sink of limited room in memory. Its calls are numbered as those of `MemShelf`.
+///
+/// With no room left it takes nothing of a piece, which counts as a fault.
 #[derive(Drop)]
 pub struct MemSink {
     written: Vec<u8>,
     room: usize,
-    failing: Vec<u64>,
-    next_call: u64,
+    calls: Calls,
     faults: u64,
 }
 
@@ -134,11 +150,11 @@ impl Model for MemSink {
     ghost Value = { SinkState };
 
     ghost view = { λ sink. record {
-        written = sink.written.items;
-        room = sink.room;
-        failing = sink.failing.items;
-        next_call = sink.next_call;
-        faults = sink.faults
+      written = sink.written.items;
+      room = sink.room;
+      failing = sink.calls.failing.items;
+      next_call = sink.calls.next;
+      faults = sink.faults;
     } };
 
     ghost invariant = { λ sink.
@@ -146,22 +162,22 @@ impl Model for MemSink {
 }
 
 impl MemSink {
-    /// A sink that takes `room` bytes in all, whose calls with the numbers in `failing` fail.
+    /// A sink that takes `room` bytes in all, whose calls with the numbers in `failing` fail. Memory for all the
+    /// room is taken here, and none later.
     pub fn new(alloc: Global, room: usize, failing: Vec<u64>) -> Result<MemSink, AllocError>
         ensures { IfOk result (λ sink. sink ≡ record {
-            written = [];
-            room = room;
-            failing = failing.items;
-            next_call = 0;
-            faults = 0
+          written = [];
+          room = room;
+          failing = failing.items;
+          next_call = 0;
+          faults = 0;
         }) }
     {
         let written = Vec::with_capacity(alloc, room)?;
         Ok(MemSink {
             written,
             room,
-            failing,
-            next_call: 0,
+            calls: Calls { next: 0, failing },
             faults: 0,
         })
     }
@@ -187,9 +203,7 @@ impl Sink for MemSink {
         ensures after { self.new ≡ sink_after self.old piece.now result }
         ensures faults_kept { self.old.faults ≤ self.new.faults }
     {
-        let call = self.next_call;
-        self.next_call = call.saturating_add(1);
-        if self.failing.contains(&call) {
+        if self.calls.count() {
             self.faults = self.faults.saturating_add(1);
             return Err(WriteFailed);
         }

@@ -11,7 +11,10 @@ use std::io::{ErrorKind, Read, Seek, SeekFrom};
 use std::marker::Model;
 use std::rt::Files;
 
-/// The files of the system, by their paths. A contract sees the counts.
+/// The files of the system, by their paths. Each call opens the file anew. A contract sees the counts.
+///
+/// `Absent` comes where the system says on opening that there is no such file. All else that goes wrong is
+/// `Failed`: a folder, a path through a file, a name that is too long.
 #[derive(Drop)]
 pub struct FileShelf<'r, R> {
     rt: &'r R,
@@ -28,6 +31,7 @@ impl<'r, R> Model for FileShelf<'r, R> {
 }
 
 impl<'r, R: Files> FileShelf<'r, R> {
+    /// The shelf of a runtime's files, with both counts at 0.
     pub fn new(rt: &'r R) -> FileShelf<'r, R>
         ensures { result ≡ record { faults = 0; absences = 0 } }
     {
@@ -38,6 +42,7 @@ impl<'r, R: Files> FileShelf<'r, R> {
         }
     }
 
+    // Counts a fault.
     fn fail(&mut self) -> Got
         ensures answer { result ≡ Got.Failed }
         ensures counted { self.new ≡ counts_after self.old result }
@@ -102,6 +107,7 @@ impl<'r, R> Model for StdSink<'r, R> {
 }
 
 impl<'r, R: Print> StdSink<'r, R> {
+    /// The sink of a runtime's standard output, with its count at 0.
     pub fn new(rt: &'r R) -> StdSink<'r, R>
         ensures { result ≡ 0 }
     {

@@ -1,5 +1,5 @@
 // Reading a whole text.
-ghost use Rattle.std.specs.Prelude.{◌≡◌, ◌+◌, ◌<◌, ◌≤◌, length, vec_len, Some, None, IfOk, IfSome, IsErrOf, IsSomeAnd};
+ghost use Rattle.std.specs.Prelude.{◌≡◌, ◌<◌, ◌≤◌, length, vec_len, Some, None, IfOk, IfSome, IsErrOf, IsSomeAnd};
 ghost use Rattle.ll_edge.specs.Counts.{Rose};
 ghost use Rattle.ll_edge.specs.Texts.{text_of};
 
@@ -38,9 +38,10 @@ impl From<AllocError> for ReadFault {
 // How many bytes are read at a time.
 const CHUNK_LEN: usize = 65536;
 
-/// Reads the text of a name to its end. It has at most `limit` bytes.
+/// Reads the text of a name to its end, if it has at most `limit` bytes.
 ///
-/// `TooLong` comes as soon as `limit + 1` bytes were read, and no more are read.
+/// `TooLong` comes once `limit + 1` bytes were read, and no more are read then. `Absent` and `Failed` are the
+/// shelf's own answers, to any of the calls. The texts on the shelf stay as they are.
 pub fn read_text<F: Shelf>(
     alloc: Global,
     shelf: &mut F,

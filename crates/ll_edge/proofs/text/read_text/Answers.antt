@@ -1,6 +1,5 @@
-use Rattle.std.proofs.Common.{◌≡◌, ◌+◌, ◌≤◌, ◌++◌, ◌∙◌, length, take, vec_len, subst, sym, arith, length-take, length-append}
-use Rattle.std.proofs.lemmas.Grind.{common_steps}
-use Rattle.ll_edge.proofs.Reading.{IsFrontOfTold, told_more}
+use Rattle.std.proofs.Common.{◌∙◌, arith, length-take}
+use Rattle.ll_edge.proofs.Reading.{told_more}
 use Rattle.ll_edge.proofs.text.read_text.Goals as goal
 
 pub loop-chunk-preserved : goal.loop-chunk-preserved
@@ -14,5 +13,5 @@ loop-chunk-preserved g c =
       same_texts = answer.same_texts ∙ before.same_texts;
       faults_kept = omega (arith, before.faults_kept, answer.faults_kept);
       absences_kept = omega (arith, before.absences_kept, answer.absences_kept);
-      front = rw added.items (told_more _ _ _ c.loop-chunk.text.items c.read.new.buf _ c.in-Bytes.n before.same_texts (omega (arith, c.loop-chunk.text.ok.0, c.len-in-loop-chunk-3.ensures)) before.front answer.told_bytes answer.fits)
+      front = rw added.items (told_more _ _ _ c.loop-chunk.text.items c.read.new.buf _ c.in-Bytes.n before.same_texts (omega (arith, c.loop-chunk.text.ok.0, c.len-in-loop-chunk-3.ensures)) before.front answer.told_bytes answer.fits);
     }

@@ -1,5 +1,4 @@
 use Rattle.std.proofs.Common.{◌≡◌, ◌+◌, ◌<◌, ◌≤◌, vec_len, ◌-◌}
-use Rattle.ll_edge.specs.Counts.{Rose}
 use Rattle.ll_edge.proofs.Reading.{IsFrontOfTold}
 use Rattle.ll_edge.proofs.text.read_text.Given as goal
 
@@ -10,7 +9,7 @@ invariant-loop-chunk g l = record {
   same_texts : g.F.Shelf.texts l.shelf ≡ g.F.Shelf.texts l.initial.shelf;
   faults_kept : g.F.Shelf.faults l.initial.shelf ≤ g.F.Shelf.faults l.shelf;
   absences_kept : g.F.Shelf.absences l.initial.shelf ≤ g.F.Shelf.absences l.shelf;
-  front : IsFrontOfTold (g.F.Shelf.texts l.initial.shelf) l.name l.text.items
+  front : IsFrontOfTold (g.F.Shelf.texts l.initial.shelf) l.name l.text.items;
 }
 
 abbrev pub decreases-loop-chunk : goal.decreases-loop-chunk

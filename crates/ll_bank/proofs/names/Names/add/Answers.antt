@@ -20,23 +20,23 @@ returns-in-Some-clause-added c =
 
 -- the text was added
 pub invariant_of-self-2 : goal.invariant_of-self-2
-invariant_of-self-2 c = IsDistinct-map string_bytes c.insert_full.new.self.keys c.in_ok-number.ensures.unique
+invariant_of-self-2 c = IsDistinct-map string_bytes c.insert_full.new.self.keys c.in_ok-next.ensures.unique
 
 pub returns-clause-number : goal.returns-clause-number
 returns-clause-number c =
     added_number string_bytes c.self.inside.texts.keys c.insert_full.new.self.keys c.in_ok-owned.owned c.args.self.now c.args.text.now c.self.view_is c.in_ok-owned.ensures.ok
-    c.in_ok-number.ensures.keys c.in_ok-number.number c.in_ok-number.ensures.index
+    c.in_ok-next.ensures.keys c.in_ok-next.next c.in_ok-next.ensures.index
 
 pub returns-clause-text : goal.returns-clause-text
 returns-clause-text c =
-    slice_get-number_of _ c.args.text.now c.in_ok-number.number
+    slice_get-number_of _ c.args.text.now c.in_ok-next.next
     (added_number string_bytes c.self.inside.texts.keys c.insert_full.new.self.keys c.in_ok-owned.owned c.args.self.now c.args.text.now c.self.view_is c.in_ok-owned.ensures.ok
-    c.in_ok-number.ensures.keys c.in_ok-number.number c.in_ok-number.ensures.index)
+    c.in_ok-next.ensures.keys c.in_ok-next.next c.in_ok-next.ensures.index)
 
 pub returns-clause-added : goal.returns-clause-added
 returns-clause-added c =
     added string_bytes c.self.inside.texts.keys c.insert_full.new.self.keys c.in_ok-owned.owned c.args.self.now c.args.text.now c.self.view_is c.in_ok-owned.ensures.ok
-    c.in_ok-number.ensures.keys
+    c.in_ok-next.ensures.keys
 
 pub returns-clause-distinct : goal.returns-clause-distinct
-returns-clause-distinct c = IsDistinct-map string_bytes c.insert_full.new.self.keys c.in_ok-number.ensures.unique
+returns-clause-distinct c = IsDistinct-map string_bytes c.insert_full.new.self.keys c.in_ok-next.ensures.unique

@@ -11,5 +11,5 @@ read-tells g c = record {
   absent = counts_absent c.args.self.now c.new.self.now c.result c.ensures.counts;
   fits = c.ensures.fits;
   told_absent = λ _. tt;
-  told_bytes = IfBytes-always _ (λ _. tt) c.result
+  told_bytes = IfBytes-always _ (λ _. tt) c.result;
 }

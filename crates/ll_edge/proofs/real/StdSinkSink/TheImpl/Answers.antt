@@ -9,5 +9,5 @@ write-tells g c = record {
   appends = IfOk-always _ (λ _. refl) c.result;
   none_taken = faults_none_taken c.args.self.now c.new.self.now c.args.piece.now c.result c.ensures.counts;
   failed = faults_failed c.args.self.now c.new.self.now c.args.piece.now c.result c.ensures.counts;
-  unchanged = OnErr-always _ refl c.result
+  unchanged = OnErr-always _ refl c.result;
 }

@@ -1,0 +1,65 @@
+//! Each public call once, with ample memory.
+ghost use Rattle.std.specs.Prelude.{◌≤◌, length, IfOk};
+ghost use Rattle.ll_bank.specs.Nodes.{HasForm, HasParts};
+
+use crate::{Bank, FormAt, FormNode, Head, Names, TermView};
+use std::process::Abort;
+use std::test::Fail;
+
+#[test]
+fn numbers_texts(rt: HostRuntime) -> Result<(), Fail> {
+    let mut names = Names::new(rt.alloc());
+    assert!(rt; names.is_empty());
+    for (text, want) in [("append", 0), ("nil", 1), ("append", 0), ("", 2)] {
+        assert!(rt; names.len() < 4);
+        assert_eq!(rt; names.add(text)?, want, "number of {text}");
+    }
+    assert_eq!(rt; names.len(), 3);
+    assert_eq!(rt; names.text(1), "nil");
+    Ok(())
+}
+
+#[test]
+fn reads_terms_back(rt: HostRuntime) -> Result<(), Fail> {
+    let mut bank = Bank::new(rt.alloc());
+    let variable = bank.var(7)?;
+    let number = bank.int(-3)?;
+    let name = bank.app(Head::Name(0), &[])?;
+    let pair = bank.app(Head::Eigen(1), &[variable, number, name])?;
+    assert_eq!(rt; bank.term_at(variable), TermView::Var(7));
+    assert_eq!(rt; bank.term_at(number), TermView::Int(-3));
+    assert_eq!(rt; bank.term_at(name), TermView::App(Head::Name(0), &[]));
+    let args = [variable, number, name];
+    assert_eq!(rt; bank.term_at(pair), TermView::App(Head::Eigen(1), &args));
+    Ok(())
+}
+
+fn read_back(rt: &impl Abort, bank: &mut Bank, node: FormNode<'_>) -> Result<FormAt, Fail>
+    requires { HasParts bank.old node }
+    ensures made { IfOk result (λ at. HasForm bank.new at.0) }
+    ensures terms { length bank.old.terms ≤ length bank.new.terms }
+    ensures forms { length bank.old.forms ≤ length bank.new.forms }
+{
+    let at = bank.form(node)?;
+    assert_eq!(rt; bank.form_at(at), node);
+    Ok(at)
+}
+
+#[test]
+fn reads_formulas_back(rt: HostRuntime) -> Result<(), Fail> {
+    let mut bank = Bank::new(rt.alloc());
+    let atom = bank.app(Head::Name(0), &[])?;
+    let left = read_back(&rt, &mut bank, FormNode::Atom(atom))?;
+    let right = read_back(&rt, &mut bank, FormNode::One)?;
+    read_back(&rt, &mut bank, FormNode::Use(3, &[atom, atom], right))?;
+    read_back(&rt, &mut bank, FormNode::Top)?;
+    read_back(&rt, &mut bank, FormNode::With(left, right))?;
+    read_back(&rt, &mut bank, FormNode::Tensor(left, right))?;
+    read_back(&rt, &mut bank, FormNode::Plus(left, right))?;
+    read_back(&rt, &mut bank, FormNode::Bang(left))?;
+    read_back(&rt, &mut bank, FormNode::Lolli(left, right))?;
+    read_back(&rt, &mut bank, FormNode::Imp(left, right))?;
+    read_back(&rt, &mut bank, FormNode::Forall(left))?;
+    read_back(&rt, &mut bank, FormNode::Exists(left))?;
+    Ok(())
+}

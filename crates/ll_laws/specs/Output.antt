@@ -72,10 +72,13 @@ abbrev pub is_named : Option ℕ → Bool
 is_named None = false
 is_named (Some n) = true
 
+-- the lines of an answer's variables that have names, or `yes` if there is none
+abbrev pub bindings_text : ProblemTree → Answered → List ℕ
+bindings_text p a = if list_any is_named p.asked then binding_lines p.names p.asked a.terms else line (codes "yes")
+
 -- the lines of answer k
 abbrev pub answer_text : ProblemTree → ℕ → Answered → List ℕ
-answer_text p k a =
-    line (codes "answer " ++ decimal (cut_count k)) ++ (if list_any is_named p.asked then binding_lines p.names p.asked a.terms else line (codes "yes"))
+answer_text p k a = line (codes "answer " ++ decimal (cut_count k)) ++ bindings_text p a
 
 -- the lines of the answers among the events, after k answers
 abbrev pub answers_text : ProblemTree → ℕ → List Event → List ℕ

@@ -1,2 +1,15 @@
 pub mod Examples
 pub mod WordsLemmas
+pub mod ReaderPieces
+pub mod ReaderTokens
+pub mod ReaderGrammar
+pub mod ReaderProblems
+pub mod ReaderBuilds
+pub mod EngineReading
+pub mod EngineOwed
+pub mod EngineStates
+pub mod EngineChoices
+pub mod EngineSteps
+pub mod PrepareLemmas
+pub mod RunLemmas
+pub mod OutcomeLemmas

@@ -1,3 +1,10 @@
 pub mod Words
 pub mod Reading
+pub mod Tokens
 pub mod First
+pub mod Owing
+pub mod Owed
+pub mod Kept
+pub mod Refused
+pub mod Outcome
+pub mod Running

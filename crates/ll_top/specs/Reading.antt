@@ -4,7 +4,7 @@
 --   query   = goal [ "." ]
 --   goal    = item { "," item }
 --   item    = "true" | Name
-use Rattle.std.specs.Prelude.{ℕ, Bool, true, false, ◌&&◌, ◌||◌, not, List, [], ◌∷◌, length, nat_eq, nat_le, Option, Some, None, if◌then◌else◌, codes, option_map, unwrap_or}
+use Rattle.std.specs.Prelude.{◌≡◌, ℕ, Bool, true, false, ◌&&◌, ◌||◌, not, List, [], ◌∷◌, length, nat_eq, nat_le, Option, Some, None, Result, Ok, Err, if◌then◌else◌, codes, option_map, unwrap_or}
 use Rattle.std.specs.Str.{bytes_eq}
 use Rattle.std.specs.List.{list_any}
 use Rattle.ll_bank.specs.declared.Head.TheVariants.{Name as NameHead}
@@ -15,6 +15,8 @@ use Rattle.ll_laws.specs.Module.{ClauseTree}
 use Rattle.ll_laws.specs.Problem.{ProblemTree}
 use Rattle.ll_bank.specs.Names.{number_of, with_names}
 use Rattle.std.specs.Char.{is_ascii_digit}
+use Rattle.ll_top.specs.declared.reader.ReadError.{ReadError}
+use Rattle.ll_top.specs.declared.reader.ReadError.TheVariants.{Unread, OutOfMemory}
 
 -- space, tab, CR and LF
 abbrev pub is_blank : ℕ → Bool
@@ -178,3 +180,17 @@ problem_of_tokens bound _ _ = None
 -- the problem that a program text and a query text ask with a bound: none where one of them is no such text
 abbrev pub problem_of : List ℕ → List ℕ → ℕ → Option ProblemTree
 problem_of program query bound = problem_of_tokens bound (tokens_of program) (tokens_of query)
+
+-- a refusal as no text says that there is nothing; want of memory says nothing
+abbrev pub IsRefusal : {A : Type 0} → Option A → ReadError → Type 0
+IsRefusal asked Unread = asked ≡ None
+IsRefusal asked OutOfMemory = Unit {0}
+
+-- what was read shows what there is, and a refusal is one of it
+abbrev pub IsRead : {A B : Type 0} → (B → A) → Option A → Result B ReadError → Type 0
+IsRead shown asked (Ok x) = asked ≡ Some (shown x)
+IsRead shown asked (Err e) = IsRefusal asked e
+
+-- the problem that was read is the one that two texts ask
+abbrev pub IsReading : Option ProblemTree → Result ProblemTree ReadError → Type 0
+IsReading asked result = IsRead (λ p. p) asked result

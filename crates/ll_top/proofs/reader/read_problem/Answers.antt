@@ -1,0 +1,51 @@
+use Rattle.std.proofs.Common.{ap, subst, ◌∙◌, length, map, Option, Some, arith}
+use Rattle.std.proofs.lemmas.List.{length-map}
+use Rattle.ll_bank.specs.Nodes.{form_tree}
+use Rattle.ll_laws.specs.Problem.{ProblemTree}
+use Rattle.ll_laws.specs.Shown.{clause_tree}
+use Rattle.ll_laws.specs.Valid.{IsValid}
+use Rattle.ll_top.specs.First.{IsFirst}
+use Rattle.ll_top.proofs.ReaderTokens.{passed}
+use Rattle.ll_top.proofs.ReaderProblems.{tokens_of-both, problem-no_program, problem-no_query, problem-both, over-both, first, valid, shown-problem}
+use Rattle.ll_top.proofs.reader.read_problem.Goals as goal
+
+pub returns-in_err-clauses-clause-problem : goal.returns-in_err-clauses-clause-problem
+returns-in_err-clauses-clause-problem c =
+    passed _ _ _ _ _ c.from_residual-in_err-clauses.ensures.1 (problem-no_program c.args.program.now c.args.query.now c.read_tokens-2.new.names
+    c.in_ok-program.program.items c.in_ok-query.query.items c.args.bound
+    (tokens_of-both c.args.program.now c.args.query.now c.new-names.result c.read_tokens.new.names c.read_tokens-2.new.names c.in_ok-program.program.items c.in_ok-query.query.items
+    c.new-names.ensures c.in_ok-program.ensures.read c.in_ok-program.ensures.names c.in_ok-program.ensures.numbered c.in_ok-query.ensures.read c.in_ok-query.ensures.names c.in_ok-query.ensures.numbered) c.deref.result.now c.deref.ensures.value) c.in_err-clauses.ensures.read
+
+pub returns-in_err-goal-clause-problem : goal.returns-in_err-goal-clause-problem
+returns-in_err-goal-clause-problem c =
+    passed _ _ _ _ _ c.from_residual-in_err-goal.ensures.1 (problem-no_query c.args.program.now c.args.query.now c.read_tokens-2.new.names
+    c.in_ok-program.program.items c.in_ok-query.query.items c.args.bound
+    (tokens_of-both c.args.program.now c.args.query.now c.new-names.result c.read_tokens.new.names c.read_tokens-2.new.names c.in_ok-program.program.items c.in_ok-query.query.items
+    c.new-names.ensures c.in_ok-program.ensures.read c.in_ok-program.ensures.names c.in_ok-program.ensures.numbered c.in_ok-query.ensures.read c.in_ok-query.ensures.names c.in_ok-query.ensures.numbered) c.deref-2.result.now c.deref-2.ensures.value) c.in_err-goal.ensures.read
+
+pub returns : goal.returns
+returns c =
+    let names = c.read_tokens-2.new.names in
+    let ps = c.in_ok-program.program.items in
+    let qs = c.in_ok-query.query.items in
+    let cs = c.in_ok-clauses.clauses.items in
+    let goal_form = form_tree c.query.new.bank c.in_ok-goal.goal.0 in
+    let clause_forms = map (clause_tree c.program.new.bank) cs in
+    let both = tokens_of-both c.args.program.now c.args.query.now c.new-names.result c.read_tokens.new.names names ps qs
+    c.new-names.ensures c.in_ok-program.ensures.read c.in_ok-program.ensures.names c.in_ok-program.ensures.numbered c.in_ok-query.ensures.read c.in_ok-query.ensures.names
+    c.in_ok-query.ensures.numbered in
+    let same = shown-problem c.in_ok-goal.ensures.keeps names c.new.result.items cs c.in_ok-goal.goal.0 c.new-2.result.items c.args.bound c.new.ensures.items c.new-2.ensures.items
+    c.in_ok-clauses.ensures.inside in
+    let over = over-both c.args.program.now c.args.query.now names ps qs c.args.bound both c.deref.result.now c.deref-2.result.now c.deref.ensures.value c.deref-2.ensures.value
+    clause_forms goal_form c.in_ok-clauses.ensures.read c.in_ok-goal.ensures.read in
+    let few = length-map cs (clause_tree c.program.new.bank) in
+    let from_tokens = c.in_ok-clauses.ensures.few in
+    let from_text = c.in_ok-program.ensures.few in
+    let len = ap length c.deref.ensures.value in
+    let low = c.requires.program in
+    record {
+      problem = problem-both c.args.program.now c.args.query.now names ps qs c.args.bound both c.deref.result.now c.deref-2.result.now c.deref.ensures.value c.deref-2.ensures.value
+          clause_forms goal_form c.in_ok-clauses.ensures.read c.in_ok-goal.ensures.read ∙ ap (λ p. let o : Option ProblemTree = Some p in o) same;
+      valid = subst IsValid same (valid _ over (omega arith) c.requires.bound);
+      first = subst IsFirst same (first _ over);
+    }

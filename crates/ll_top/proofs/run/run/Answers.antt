@@ -1,0 +1,44 @@
+use Rattle.std.proofs.Common.{arith, rules, ◌∙◌}
+use Rattle.ll_top.proofs.RunLemmas.{on_err, run-stops, run-breaks, run-goes_on, run-ends, run-ends_broken, run-status}
+use Rattle.ll_top.proofs.run.run.Goals as goal
+
+pub returns-in_err-step-clause-prefix : goal.returns-in_err-step-clause-prefix
+returns-in_err-step-clause-prefix g c = on_err _ (run-stops _ _ _ _ _ c.loop-lines.invariant.running)
+
+pub returns-in_err-count_event-in-Event-clause-prefix : goal.returns-in_err-count_event-in-Event-clause-prefix
+returns-in_err-count_event-in-Event-clause-prefix g c = on_err _ (run-stops _ _ _ _ _ c.loop-lines.invariant.running)
+
+pub returns-in_err-summary-clause-prefix : goal.returns-in_err-summary-clause-prefix
+returns-in_err-summary-clause-prefix g c = on_err _ (run-stops _ _ _ _ _ c.loop-lines.invariant.running)
+
+pub returns-in_err-write_all-in-Event-clause-prefix : goal.returns-in_err-write_all-in-Event-clause-prefix
+returns-in_err-write_all-in-Event-clause-prefix g c =
+    let s = rw c.in-Event.is at c.in_ok-step.ensures in
+    let f = rw (c.deref.ensures.value, c.in_ok-count_event-in-Event.ensures.lines) at c.in_err-write_all-in-Event.ensures.prefix in
+    on_err _ (run-breaks _ _ _ _ _ _ _ _ c.requires.first.asked c.loop-lines.invariant.running s f)
+
+pub loop-lines-preserved-in_ok-write_all-in-Event : goal.loop-lines-preserved-in_ok-write_all-in-Event
+loop-lines-preserved-in_ok-write_all-in-Event g c =
+    let s = rw c.in-Event.is at c.in_ok-step.ensures in
+    let w = rw (c.deref.ensures.value, c.in_ok-count_event-in-Event.ensures.lines) at c.in_ok-write_all-in-Event.ensures.appends in
+    record {
+      running = rw c.in_ok-count_event-in-Event.ensures.counts (run-goes_on _ _ _ _ _ _ _ _ c.requires.first.asked c.loop-lines.invariant.running s w);
+      faults = let h = c.loop-lines.invariant.faults in let k = c.in_ok-write_all-in-Event.ensures.faults_kept in omega arith;
+    }
+
+pub returns-in_err-write_all-clause-prefix : goal.returns-in_err-write_all-clause-prefix
+returns-in_err-write_all-clause-prefix g c =
+    let s = rw c.in-Done.is at c.in_ok-step.ensures in
+    let f = rw (c.deref-2.ensures.value, c.in_ok-summary.ensures, c.clear.ensures.items) at c.in_err-write_all.ensures.prefix in
+    on_err _ (run-ends_broken _ _ _ _ _ _ _ _ c.inferences.type_inv c.inferences.ensures c.loop-lines.invariant.running s f)
+
+pub returns-clause-status : goal.returns-clause-status
+returns-clause-status g c =
+    let s = rw c.in-Done.is at c.in_ok-step.ensures in
+    c.status.ensures ∙ run-status _ _ _ _ _ _ c.loop-lines.invariant.running s
+
+pub returns-clause-text : goal.returns-clause-text
+returns-clause-text g c =
+    let s = rw c.in-Done.is at c.in_ok-step.ensures in
+    let w = rw (c.deref-2.ensures.value, c.in_ok-summary.ensures, c.clear.ensures.items) at c.in_ok-write_all.ensures.appends in
+    run-ends _ _ _ _ _ _ _ _ c.inferences.type_inv c.inferences.ensures c.loop-lines.invariant.running s w

@@ -1,0 +1,55 @@
+-- A run that is on its way: what was counted and written of its events so far.
+use Rattle.std.specs.Prelude.{◌≡◌, ◌<◌, ◌^◌, ⊤, ℕ, ◌+◌, zero, suc, List, [], ◌++◌, count_by, Option, codes, decimal}
+use Rattle.std.specs.Io.KnownBytes.{append_known}
+use Rattle.ll_edge.specs.Counts.{Rose}
+use Rattle.ll_laws.specs.declared.Event.{Event}
+use Rattle.ll_laws.specs.declared.Event.TheVariants.{Answer, Reached}
+use Rattle.ll_laws.specs.declared.Counts.{Counts}
+use Rattle.ll_laws.specs.Search.{cut_count, is_answer, is_reached}
+use Rattle.ll_laws.specs.Problem.{ProblemTree, problem_events, problem_cost}
+use Rattle.ll_laws.specs.Output.{line, answers_text}
+use Rattle.ll_top.specs.Owing.{Owing}
+use Rattle.ll_top.specs.declared.refusal.Refusal.{Refusal}
+use Rattle.ll_top.specs.declared.refusal.Refusal.TheVariants.{AbsentText, UnreadableText, OversizedText, UnreadText, Unwritable, OutOfMemory}
+
+-- the lines of an event after k answers, for a query without named variables
+abbrev pub event_lines : ℕ → Event → List ℕ
+event_lines k (Answer a) = line (codes "answer " ++ decimal (cut_count (suc k))) ++ line (codes "yes")
+event_lines k Reached = []
+
+-- nothing counted
+abbrev pub no_counts : Counts
+no_counts = record { answers = 0; reached = 0; inferences = 0 }
+
+-- the counts after one event more
+abbrev pub counted : Counts → Event → Counts
+counted c (Answer a) = record c { answers = cut_count (suc c.answers) }
+counted c Reached = record c { reached = cut_count (suc c.reached) }
+
+-- the status by the numbers of answers and of branches that reached the bound
+abbrev pub status_of_counts : ℕ → ℕ → ℕ
+status_of_counts zero zero = 1
+status_of_counts zero (suc reached) = 2
+status_of_counts (suc answers) reached = 0
+
+-- why a run is refused: the sink failed, and its count rose, or memory ran out
+abbrev pub IsRunRefusal : ℕ → ℕ → Refusal → Type 0
+IsRunRefusal before after Unwritable = Rose before after
+IsRunRefusal before after OutOfMemory = ⊤
+IsRunRefusal before after AbsentText = ⊥
+IsRunRefusal before after UnreadableText = ⊥
+IsRunRefusal before after OversizedText = ⊥
+IsRunRefusal before after UnreadText = ⊥
+
+-- a run of a problem is on its way: its engine owes the rest, and this was counted and written so far
+pub record IsRunning (p : ProblemTree) (owing : Owing) (counts : Counts) (before after : Option (List ℕ)) : Type 0 where
+  -- what was written
+  pub done : List ℕ
+  pub written : after ≡ append_known before done
+  -- what was written, and what is still to be written of the answers
+  pub rest : done ++ answers_text p counts.answers owing.events ≡ answers_text p 0 (problem_events p)
+  pub answers : cut_count (counts.answers + count_by is_answer owing.events) ≡ cut_count (count_by is_answer (problem_events p))
+  pub reached : cut_count (counts.reached + count_by is_reached owing.events) ≡ cut_count (count_by is_reached (problem_events p))
+  pub answers_fit : counts.answers < 2 ^ 64
+  pub reached_fit : counts.reached < 2 ^ 64
+  pub cost : cut_count (owing.made + owing.cost) ≡ cut_count (problem_cost p)

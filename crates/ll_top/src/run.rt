@@ -1,0 +1,81 @@
+// A run of a problem: the engine's answers, written as they come, and the last line.
+ghost use Rattle.std.specs.Prelude.{◌≡◌, ◌≤◌, [], IfOk, IfErr, OnOk, OnErr};
+ghost use Rattle.std.specs.Io.KnownBytes.{append_known};
+ghost use Rattle.ll_edge.specs.Pieces.{AppendsFront};
+ghost use Rattle.ll_laws.specs.Output.{counts_text, run_text, run_status};
+ghost use Rattle.ll_laws.specs.Valid.{IsValid};
+ghost use Rattle.ll_top.specs.First.{IsFirst};
+ghost use Rattle.ll_top.specs.Running.{event_lines, counted, status_of_counts, IsRunRefusal};
+
+use crate::engine::{Engine, Progress};
+use crate::print;
+use crate::refusal::Refusal;
+use ll_bank::OutOfMemory;
+use ll_edge::{Sink, write_all};
+use ll_laws::{Counts, Event, Problem};
+use std::alloc::Global;
+
+/// Runs the problem, writes its whole text, and answers the status by it: 0 with an answer, 2 without one but with a branch that
+/// reached the bound, and 1 otherwise. After a refusal a prefix of the text was written.
+pub fn run<O: Sink>(alloc: Global, problem: &Problem, sink: &mut O) -> Result<u8, Refusal>
+    requires valid { IsValid problem.now }
+    requires first { IsFirst problem.now }
+
+    ensures faults_kept { O.faults sink.old ≤ O.faults sink.new }
+    ensures status { IfOk result (λ status. status ≡ run_status problem.now) }
+    ensures text { OnOk result (O.written sink.new ≡ append_known (O.written sink.old) (run_text problem.now)) }
+    ensures refused { IfErr result (IsRunRefusal (O.faults sink.old) (O.faults sink.new)) }
+    ensures prefix { OnErr result (AppendsFront (O.written sink.old) (run_text problem.now) (O.written sink.new)) }
+{
+    let mut engine = Engine::start(alloc, problem)?;
+    let mut counts = Counts {
+        answers: 0,
+        reached: 0,
+        inferences: 0,
+    };
+    let mut lines = Vec::new(alloc);
+    loop {
+        match engine.step()? {
+            Progress::Moved => {}
+            Progress::Event(event) => {
+                count_event(&event, &mut counts, &mut lines)?;
+                write_all(sink, &lines)?;
+            }
+            Progress::Done => break,
+        }
+    }
+    counts.inferences = engine.inferences();
+    lines.clear();
+    print::summary(&counts, &mut lines)?;
+    write_all(sink, &lines)?;
+    Ok(status(&counts))
+}
+
+// Counts an event, and makes its lines. After a refusal nothing is said of either.
+fn count_event(event: &Event, counts: &mut Counts, lines: &mut Vec<u8>) -> Result<(), OutOfMemory>
+    ensures counts { OnOk result (counts.new ≡ counted counts.old event.now) }
+    ensures lines { OnOk result (lines.new.items ≡ event_lines counts.old.answers event.now) }
+{
+    lines.clear();
+    match event {
+        Event::Answer(_) => {
+            counts.answers = counts.answers.saturating_add(1);
+            print::answer(counts.answers, lines)?;
+        }
+        Event::Reached => counts.reached = counts.reached.saturating_add(1),
+    }
+    Ok(())
+}
+
+// The status by the numbers of answers and of branches that reached the bound.
+fn status(counts: &Counts) -> u8
+    ensures { result ≡ status_of_counts counts.now.answers counts.now.reached }
+{
+    if counts.answers > 0 {
+        0
+    } else if counts.reached > 0 {
+        2
+    } else {
+        1
+    }
+}

@@ -2,9 +2,9 @@
 #![tactic(auto)]
 
 use ll_edge::{FileShelf, OpenGate, StdSink};
-use std::env;
-use std::io;
 use std::process::ExitCode;
+use std::rt::Env;
+use std::{env, io};
 
 fn main(rt: HostRuntime) -> ExitCode {
     let alloc = rt.alloc();
@@ -12,7 +12,11 @@ fn main(rt: HostRuntime) -> ExitCode {
     let words = words(&rt).unwrap_or(Vec::new(alloc));
     let mut shelf = FileShelf::new(&rt);
     let mut sink = StdSink::new(&rt);
-    let status = match words.iter().map(|word| word.as_str()).collect::<Vec<&str>>(alloc) {
+    let status = match words
+        .iter()
+        .map(|word| word.as_str())
+        .collect::<Vec<&str>>(alloc)
+    {
         Ok(words) => ll_top::lolli(&rt, alloc, &words, &mut shelf, &mut sink, &OpenGate),
         Err(_) => ll_top::lolli(&rt, alloc, &[], &mut shelf, &mut sink, &OpenGate),
     };

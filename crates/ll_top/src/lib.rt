@@ -104,3 +104,6 @@ fn refusal_status(refusal: Refusal) -> u8
         Refusal::OutOfMemory => 10,
     }
 }
+
+#[cfg(test)]
+mod tests;

@@ -1,0 +1,6 @@
+pub mod Closing
+pub mod Moves
+pub mod Parts
+pub mod Passes
+pub mod Slots
+pub mod Turns

@@ -1,5 +1,5 @@
 -- What each turn of a search does with what is owed.
-use Rattle.std.proofs.Common.{◌≡◌, ℕ, zero, suc, ◌+◌, ◌<◌, ◌≤◌, refl, ap, sym, ◌∙◌, List, [], ◌∷◌, ◌++◌, append_assoc, arith}
+use Rattle.std.proofs.Common.{◌≡◌, ℕ, zero, suc, ◌+◌, ◌<◌, refl, ap, sym, ◌∙◌, List, [], ◌∷◌, ◌++◌, append_assoc, arith}
 use Rattle.std.proofs.lemmas.List.Sums.{sum_by-cons}
 use Rattle.std.specs.Prelude.{Option, Some, None, flat_map, sum_by}
 use Rattle.ll_bank.specs.Form.{Form}
@@ -11,7 +11,7 @@ use Rattle.ll_laws.specs.State.{State, settle}
 use Rattle.ll_laws.specs.Attempt.{tries, attempt, successors, option_to_states}
 use Rattle.ll_laws.specs.Search.{answer_of, events, cost}
 use Rattle.ll_laws.proofs.SearchLaws.{events_answer, events_reached, events_step, cost_answer, cost_zero, cost_step}
-use Rattle.ll_top.specs.Owed.{bare, events_from, number_from, events_by, cost_by, work_by, work, Owed, nothing_owed, both_owed, owed_state, owed_tries, Turns}
+use Rattle.ll_top.specs.Owed.{bare, events_from, number_from, events_by, cost_by, work, Owed, nothing_owed, both_owed, owed_state, owed_tries, Turns}
 
 pub append_nil : {A : Type 0} (xs : List A) → xs ++ [] ≡ xs
 append_nil [] = refl

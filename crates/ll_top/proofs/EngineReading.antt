@@ -1,10 +1,7 @@
 -- What the places of a first problem show.
-use Rattle.std.proofs.Common.{◌≡◌, ℕ, refl, ap, sym, subst, ◌∙◌, Bool, true, false, List, [], ◌∷◌, ◌++◌, length, map, take, get_or, arith}
-use Rattle.std.specs.Prelude.{◌&&◌, ◌<◌, Option, Some, None}
-use Rattle.std.specs.List.{list_all}
+use Rattle.std.proofs.Common.{◌≡◌, ℕ, refl, ap, sym, ◌∙◌, true, false, List, [], ◌∷◌}
 use Rattle.ll_bank.specs.declared.At.{At}
 use Rattle.ll_bank.specs.declared.Head.{Head}
-use Rattle.ll_bank.specs.declared.Head.TheVariants.{Name, Eigen, Bound}
 use Rattle.ll_bank.specs.declared.TermView.{TermView}
 use Rattle.ll_bank.specs.declared.TermView.TheVariants.{Var as VarView, Int as IntView, App as AppView}
 use Rattle.ll_bank.specs.Term.{Term, Con, Ap, apply, app}

@@ -1,5 +1,5 @@
 -- What the engine's states stand for: their contexts, their candidates and what these give.
-use Rattle.std.proofs.Common.{◌≡◌, ℕ, zero, suc, ◌+◌, ◌<◌, ◌≤◌, refl, ap, sym, subst, ◌∙◌, Bool, true, false, List, [], ◌∷◌, ◌++◌, length, map, get_or, set, drop, arith, add-zero, add-one, eq-eqb, inl, inr, ◌≢◌}
+use Rattle.std.proofs.Common.{◌≡◌, ℕ, zero, suc, ◌+◌, ◌<◌, ◌≤◌, refl, ap, sym, subst, ◌∙◌, Bool, true, false, List, [], ◌∷◌, ◌++◌, length, map, get_or, set, drop, arith, add-zero, eq-eqb, inl, inr, ◌≢◌}
 use Rattle.std.proofs.lemmas.Bool.Decides.{eqb_tells}
 use Rattle.std.specs.Prelude.{◌&&◌, ◌||◌, not, nat_eq, if◌then◌else◌, Option, Some, None, flat_map, option_and_then, option_map}
 use Rattle.std.specs.List.{list_any}
@@ -11,11 +11,10 @@ use Rattle.ll_bank.specs.Nodes.{Nodes, form_tree}
 use Rattle.ll_laws.specs.declared.Kind.{Kind}
 use Rattle.ll_laws.specs.declared.Step.{Step}
 use Rattle.ll_laws.specs.declared.Step.TheVariants.{Plain, Clause as ClauseStep}
-use Rattle.ll_laws.specs.declared.Candidate.{Candidate}
 use Rattle.ll_laws.specs.Leaf.{Leaf, Needs, premise_goal}
 use Rattle.ll_laws.specs.Settle.{Entry, Item, Goal, LolliEnd, ImpEnd, WithMiddle, WithEnd, BangEnd, has_live, unlive}
 use Rattle.ll_laws.specs.State.{State, settle, sub_item, sub_entry}
-use Rattle.ll_laws.specs.Attempt.{is_linear, is_open, entry_at, entry_tries, picked, tries, attempt, take_entry, take_leaf, with_leaf, instantiated, only_try}
+use Rattle.ll_laws.specs.Attempt.{is_linear, entry_at, entry_tries, picked, tries, attempt, take_entry, take_leaf, with_leaf, instantiated}
 use Rattle.ll_laws.specs.Unify.{mgu}
 use Rattle.ll_laws.proofs.SubLaws.{sub_id, and_left, and_right}
 use Rattle.ll_top.specs.declared.engine.Rule.{Rule}

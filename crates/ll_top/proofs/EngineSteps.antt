@@ -1,19 +1,17 @@
 -- What a step of an engine does with what it is seen as.
-use Rattle.std.proofs.Common.{◌≡◌, ℕ, zero, suc, ◌+◌, ◌-◌, ◌<◌, ◌≤◌, refl, ap, sym, subst, ◌∙◌, Bool, true, false, List, [], ◌∷◌, ◌++◌, length, map, append_assoc, arith, get_or, All}
-use Rattle.std.specs.Prelude.{Option, Some, None, not, ◌||◌, if◌then◌else◌, min, replicate}
+use Rattle.std.proofs.Common.{◌≡◌, ℕ, suc, ◌+◌, ◌-◌, ◌<◌, refl, ap, sym, subst, ◌∙◌, true, false, List, [], ◌∷◌, ◌++◌, length, map, append_assoc, arith, All}
+use Rattle.std.specs.Prelude.{Option, Some, None, min, replicate}
 use Rattle.std.specs.List.{list_any}
 use Rattle.std.proofs.lemmas.List.Elements.{All-nil, All-cons, All-head, All-tail, All-push}
 use Rattle.ll_bank.specs.declared.FormAt.{FormAt}
-use Rattle.ll_bank.specs.Form.{Form}
 use Rattle.ll_bank.specs.Nodes.{Nodes, form_tree}
 use Rattle.ll_laws.specs.declared.Event.{Event}
 use Rattle.ll_laws.specs.declared.Event.TheVariants.{Answer, Reached}
-use Rattle.ll_laws.specs.declared.Step.{Step}
 use Rattle.ll_laws.specs.Module.{ClauseTree}
-use Rattle.ll_laws.specs.Settle.{Item, Goal, has_live}
+use Rattle.ll_laws.specs.Settle.{Goal, has_live}
 use Rattle.ll_laws.specs.State.{State}
 use Rattle.ll_laws.specs.Attempt.{is_linear, vars_from}
-use Rattle.ll_laws.specs.Search.{answer_of, cut_count, events, cost, program_entries, start}
+use Rattle.ll_laws.specs.Search.{answer_of, cut_count, events, cost, program_entries}
 use Rattle.ll_laws.specs.Problem.{ProblemTree, setting_of, start_of}
 use Rattle.ll_top.specs.declared.engine.Rule.{Rule}
 use Rattle.ll_top.specs.declared.engine.State.{State as KeptState}
@@ -22,8 +20,7 @@ use Rattle.ll_top.specs.declared.engine.Point.{Point}
 use Rattle.ll_top.specs.declared.engine.Chosen.{Chosen}
 use Rattle.ll_top.specs.declared.engine.Chosen.TheVariants.{Nothing, Only, First}
 use Rattle.ll_top.specs.declared.engine.Turn.{Turn}
-use Rattle.ll_top.specs.declared.engine.Turn.TheVariants.{Ended, Found, Inferred}
-use Rattle.ll_top.specs.declared.engine.Progress.{Progress}
+use Rattle.ll_top.specs.declared.engine.Turn.TheVariants.{Inferred}
 use Rattle.ll_top.specs.declared.engine.Progress.TheVariants.{Moved, Event as EventFound, Done}
 use Rattle.ll_top.specs.First.{IsFirst}
 use Rattle.ll_top.specs.Owing.{Owing, Owes, Steps}

@@ -7,7 +7,8 @@ use Rattle.ll_top.specs.declared.refusal.Refusal.{Refusal}
 use Rattle.ll_top.specs.declared.refusal.Refusal.TheVariants.{AbsentText, UnreadableText, OversizedText, UnreadText, Unwritable, OutOfMemory}
 use Rattle.ll_top.specs.Words.{RunWords, run_words}
 use Rattle.ll_top.specs.Reading.{problem_of}
-use Rattle.ll_top.specs.Outcome.{Task, Misused, Missing, Oversized, Unread, Runs, with_text, run_or_unread, run_task, words_task, task_of, longest_text, Ends, status_of_result, Outcome, ran, absent, unreadable, unwritable, faulty, oversized, no_memory}
+use Rattle.ll_top.specs.Outcome.{Task, Misused, Oversized, with_text, run_or_unread, run_task, words_task, task_of, longest_text, Outcome, ran, absent, unreadable, unwritable, faulty, oversized, no_memory}
+use Rattle.ll_top.specs.Endings.{Ends, status_of_result}
 
 -- a task that is not one of misused words
 IsUsed : Task → Type 0

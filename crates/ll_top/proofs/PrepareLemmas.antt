@@ -1,12 +1,13 @@
 -- A text that is not read is what its task is about.
-use Rattle.std.proofs.Common.{◌≡◌, ◌≤◌, ◌<◌, ℕ, ap, sym, ◌∙◌, subst, Bool, true, false, List, length, arith}
-use Rattle.std.specs.Prelude.{Option, Some, None, Ok, Err, IfSome, nat_le, if◌then◌else◌}
+use Rattle.std.proofs.Common.{◌≡◌, ◌≤◌, ℕ, ap, sym, ◌∙◌, subst, List, length}
+use Rattle.std.specs.Prelude.{Option, Some, None, Err, IfSome, if◌then◌else◌}
 use Rattle.std.proofs.lemmas.Bool.{le-leb, lt-leb}
 use Rattle.ll_edge.specs.Texts.{Texts, text_of}
 use Rattle.ll_top.specs.declared.refusal.Refusal.{Refusal}
 use Rattle.ll_top.specs.declared.refusal.Refusal.TheVariants.{AbsentText, UnreadableText, OversizedText, UnreadText, Unwritable, OutOfMemory}
 use Rattle.ll_top.specs.Words.{RunWords}
-use Rattle.ll_top.specs.Outcome.{Task, Missing, Oversized, with_text, run_task, longest_text, IsLookedUp, Prepares}
+use Rattle.ll_top.specs.Outcome.{Task, Oversized, with_text, run_task, longest_text}
+use Rattle.ll_top.specs.Endings.{IsLookedUp, Prepares}
 
 -- a text that is there and not too long is gone on with
 with_text-read : (name : List ℕ) (go : List ℕ → Task) (found : Option (List ℕ)) (text : List ℕ) → found ≡ Some text → length text ≤ longest_text → with_text name go found ≡ go text

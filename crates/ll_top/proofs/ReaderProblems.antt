@@ -331,9 +331,6 @@ valid p o few low = subst IsValid same (record {
   bound = low;
 })
   where
-    plain_p : ProblemTree
-    plain_p = record { names = p.names; modules = []; clauses = p.clauses; goal = p.goal; asked = []; bound = p.bound }
-
     same : record { names = p.names; modules = []; clauses = p.clauses; goal = p.goal; asked = []; bound = p.bound } ≡ p
     same = λ i. record { names = p.names; modules = sym o.modules i; clauses = p.clauses; goal = p.goal; asked = sym o.asked i; bound = p.bound }
 

@@ -1,6 +1,6 @@
 -- A run from its start to its end.
-use Rattle.std.proofs.Common.{◌≡◌, ◌≤◌, ◌<◌, ℕ, zero, suc, ◌+◌, refl, ap, sym, subst, ◌∙◌, Bool, true, false, List, [], ◌∷◌, ◌++◌, length, take, arith, append_assoc, length-append}
-use Rattle.std.specs.Prelude.{Option, Some, None, Result, Ok, Err, OnErr, count_by, cond, min, nat_lt, ◌||◌, if◌then◌else◌, codes, decimal, ◌^◌}
+use Rattle.std.proofs.Common.{◌≡◌, ◌≤◌, ◌<◌, ℕ, zero, suc, ◌+◌, refl, ap, sym, ◌∙◌, Bool, true, false, List, [], ◌∷◌, ◌++◌, length, take, arith, append_assoc, length-append}
+use Rattle.std.specs.Prelude.{Option, Some, None, Result, Ok, Err, OnErr, count_by, cond, nat_lt, ◌||◌, if◌then◌else◌, codes, decimal, ◌^◌}
 use Rattle.std.specs.List.{list_any}
 use Rattle.std.specs.Io.KnownBytes.{append_known}
 use Rattle.std.proofs.lemmas.List.Sums.{sum_by-cons}
@@ -13,7 +13,7 @@ use Rattle.ll_laws.specs.declared.Counts.{Counts}
 use Rattle.ll_laws.specs.Answered.{Answered}
 use Rattle.ll_laws.specs.Search.{cut_count, is_answer, is_reached}
 use Rattle.ll_laws.specs.Problem.{ProblemTree, problem_events, problem_cost}
-use Rattle.ll_laws.specs.Output.{line, is_named, binding_lines, bindings_text, answer_text, answers_text, run_text, summary_text, counts_text, run_status, output_status, status_by}
+use Rattle.ll_laws.specs.Output.{line, is_named, binding_lines, bindings_text, answer_text, answers_text, run_text, summary_text, counts_text, run_status, status_by}
 use Rattle.ll_top.specs.declared.engine.Progress.TheVariants.{Moved, Event as EventFound, Done}
 use Rattle.ll_top.specs.Owing.{Owing, Owes, Steps}
 use Rattle.ll_top.specs.Running.{event_lines, no_counts, counted, status_of_counts, IsRunning}

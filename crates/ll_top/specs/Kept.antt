@@ -20,7 +20,7 @@ use Rattle.ll_top.specs.declared.engine.Point.{Point}
 use Rattle.ll_top.specs.declared.engine.Chosen.{Chosen}
 use Rattle.ll_top.specs.declared.engine.Chosen.TheVariants.{Nothing, Only, First}
 use Rattle.ll_top.specs.declared.engine.Turn.{Turn}
-use Rattle.ll_top.specs.declared.engine.Turn.TheVariants.{Ended, Found, Inferred}
+use Rattle.ll_top.specs.declared.engine.Turn.TheVariants.{Found, Inferred}
 use Rattle.ll_top.specs.First.{is_first_goal}
 use Rattle.ll_top.specs.Owed.{Owed, nothing_owed, both_owed, owed_state, owed_tries}
 use Rattle.ll_top.specs.Owing.{Owing}
@@ -34,9 +34,11 @@ abbrev pub fact_or_rule : Nodes → ℕ → Option FormAt → Form
 fact_or_rule bank head None = Atom (name_term head)
 fact_or_rule bank head (Some body) = Lolli (form_tree bank body.0) (Atom (name_term head))
 
+-- the formula that a rule stands for
 abbrev pub rule_form : Nodes → Rule → Form
 rule_form bank r = fact_or_rule bank r.head r.body
 
+-- the clause that a rule stands for
 abbrev pub rule_tree : Nodes → Rule → ClauseTree
 rule_tree bank r = record { kind = r.kind; form = rule_form bank r }
 
@@ -104,6 +106,7 @@ pub record IsFirstFrom (bank : Nodes) (rules : List Rule) (live : List Bool) (na
 abbrev pub owed_running : Nodes → List Rule → Running → Owed
 owed_running bank rules r = owed_state r.left (shown_state bank rules r.state)
 
+-- the same, if there is such a state
 abbrev pub owed_if_running : Nodes → List Rule → Option Running → Owed
 owed_if_running bank rules None = nothing_owed
 owed_if_running bank rules (Some r) = owed_running bank rules r
@@ -139,10 +142,11 @@ abbrev pub owed_turn : Nodes → List Rule → Turn → Owed
 owed_turn bank rules (Inferred chosen) = owed_chosen bank rules chosen
 owed_turn bank rules _ = nothing_owed
 
--- what an engine owes, as it is seen
+-- what is seen of an engine that owes this and made so many inferences
 abbrev pub owing : Owed → ℕ → Owing
 owing o made = record { events = o.events; cost = o.cost; made = made; work = o.work }
 
+-- what a state that is searched owes, and after it the choice points
 unfoldable pub owed_all : Nodes → List Rule → Option Running → List Point → Owed
 owed_all bank rules running points = both_owed (owed_if_running bank rules running) (owed_points bank rules points)
 
@@ -151,6 +155,7 @@ pub record IsGoalAt (bank : Nodes) (g : FormAt) : Type 0 where
   pub inside : HasForm bank g.0
   pub first : is_first_goal (form_tree bank g.0) ≡ true
 
+-- the body of a rule, if there is one, is such a goal
 abbrev pub IsBody : Nodes → Option FormAt → Type 0
 IsBody bank None = Unit {0}
 IsBody bank (Some g) = IsGoalAt bank g
@@ -165,23 +170,27 @@ pub record IsKept (bank : Nodes) (rules : List Rule) (s : KeptState) : Type 0 wh
   pub goals : All (IsGoalAt bank) s.agenda.items
   pub marks : length s.live.items ≡ length rules
 
+-- the state that is searched, if there is one, is such a state
 abbrev pub IsKeptIfRunning : Nodes → List Rule → Option Running → Type 0
 IsKeptIfRunning bank rules None = Unit {0}
 IsKeptIfRunning bank rules (Some r) = IsKept bank rules r.state
 
+-- the states of choice points are such states
 abbrev pub ArePoints : Nodes → List Rule → List Point → Type 0
 ArePoints bank rules ps = All (λ p. IsKept bank rules p.state) ps
 
+-- the states of a choice are such states
 abbrev pub IsChosen : Nodes → List Rule → Chosen → Type 0
 IsChosen bank rules Nothing = Unit {0}
 IsChosen bank rules (Only r) = IsKept bank rules r.state
 IsChosen bank rules (First r p) = IsKept bank rules r.state × IsKept bank rules p.state
 
+-- and so are those that a turn leaves
 abbrev pub IsTurn : Nodes → List Rule → Turn → Type 0
 IsTurn bank rules (Inferred chosen) = IsChosen bank rules chosen
 IsTurn bank rules _ = Unit {0}
 
--- a choice is put where the engine goes on: its state to be searched, and its choice point behind the others
+-- a choice was put where the engine goes on: its state to be searched, and its choice point behind the others
 abbrev pub Puts : Chosen → List Point → Option Running → List Point → Type 0
 Puts Nothing ps running qs = (running ≡ None) × (qs ≡ ps)
 Puts (Only r) ps running qs = (running ≡ Some r) × (qs ≡ ps)

@@ -7,4 +7,5 @@ pub mod Owed
 pub mod Kept
 pub mod Refused
 pub mod Outcome
+pub mod Endings
 pub mod Running

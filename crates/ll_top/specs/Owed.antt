@@ -11,11 +11,12 @@ use Rattle.ll_laws.specs.Search.{events, cost}
 abbrev pub bare : Setting
 bare = record { modules = [] }
 
--- what one attempt owes: nothing where it fails
+-- the events of what an attempt gave: none where it failed
 abbrev pub events_from : (State → List Event) → Option State → List Event
 events_from f None = []
 events_from f (Some u) = f u
 
+-- a number of what an attempt gave: 0 where it failed
 abbrev pub number_from : (State → ℕ) → Option State → ℕ
 number_from f None = 0
 number_from f (Some u) = f u
@@ -25,7 +26,7 @@ abbrev pub events_by : ℕ → State → List Candidate → List Event
 events_by n t [] = []
 events_by n t (c ∷ cs) = events_from (events bare n) (attempt bare t c) ++ events_by n t cs
 
--- their cost
+-- the inferences that they still need
 abbrev pub cost_by : ℕ → State → List Candidate → ℕ
 cost_by n t [] = 0
 cost_by n t (c ∷ cs) = number_from (cost bare n) (attempt bare t c) + cost_by n t cs
@@ -40,12 +41,13 @@ unfoldable pub work : ℕ → State → ℕ
 work zero s = 1
 work (suc n) s = suc (number_from (λ t. work_by (work n) t (tries t)) (settle s))
 
--- events in order, inferences and turns
+-- what is owed: events in order and a number of inferences, and the turns that this takes at most
 pub record Owed : Type 0 where
   pub events : List Event
   pub cost : ℕ
   pub work : ℕ
 
+-- nothing
 abbrev pub nothing_owed : Owed
 nothing_owed = record { events = []; cost = 0; work = 0 }
 

@@ -1,5 +1,5 @@
 //! The first engine: depth-first search over whole states, for facts and rules over names with `true` and `,`.
-ghost use Rattle.std.specs.Prelude.{◌≡◌, ◌≤◌, ◌<◌, ◌+◌, ◌&&◌, ◌||◌, not, true, List, [], ◌∷◌, ◌++◌, length, map, All, slice_get, slice_index_or, suc, ℕ, zero, slice_set, IfOk, MatchOption, OnOk, OnErr};
+ghost use Rattle.std.specs.Prelude.{◌≡◌, ◌<◌, ◌||◌, not, true, [], ◌∷◌, length, map, ℕ, suc, All, IfOk, MatchOption, OnOk, OnErr};
 ghost use Rattle.std.specs.List.{list_any, list_all};
 ghost use Rattle.ll_bank.specs.Form.{Atom as AtomForm};
 ghost use Rattle.ll_bank.specs.Nodes.{term_tree, form_tree, HasTerm, HasForm};
@@ -8,8 +8,8 @@ ghost use Rattle.ll_laws.specs.Shown.{clause_tree, HasClauses};
 ghost use Rattle.ll_laws.specs.Valid.{IsValid};
 ghost use Rattle.ll_top.specs.First.{IsFirst, is_bare_name, is_fact, is_first_goal, is_first_clause};
 ghost use Rattle.ll_top.specs.Owing.{Owes, Steps};
-ghost use Rattle.ll_top.specs.Owed.{nothing_owed, owed_state, Turns, bare};
-ghost use Rattle.ll_top.specs.Kept.{name_term, rule_tree, tries_from, only_leaf, first_marks, with_body, shown_state, with_goal, owed_running, owed_point, owed_chosen, found_in, made_in, owed_turn, HasHead, IsFirstFrom, IsGoalAt, IsBody, AreRules, IsKept, IsChosen, IsTurn, Puts, IsCopy};
+ghost use Rattle.ll_top.specs.Owed.{bare, owed_state, Turns};
+ghost use Rattle.ll_top.specs.Kept.{name_term, rule_tree, first_marks, with_body, tries_from, only_leaf, HasHead, IsFirstFrom, shown_state, with_goal, owed_running, owed_point, owed_chosen, found_in, made_in, owed_turn, IsGoalAt, IsBody, AreRules, IsKept, IsChosen, IsTurn, Puts, IsCopy};
 
 use ll_bank::{At, Bank, FormAt, FormNode, Head, OutOfMemory, TermView};
 use ll_laws::{Branch, Clause, Event, Kind, Problem, Step};
@@ -292,7 +292,8 @@ impl<'p> Program<'p> {
         requires kept { IsKept self.now.bank.now self.now.rules.items state }
         requires goal { IsGoalAt self.now.bank.now goal }
         requires rules { AreRules self.now.bank.now self.now.rules.items }
-        ensures owed { IfOk result (λ chosen. Turns (owed_state (suc left) (with_goal self.now.bank.now self.now.rules.items (form_tree self.now.bank.now goal.0) state))
+        ensures owed { IfOk result (λ chosen. Turns
+            (owed_state (suc left) (with_goal self.now.bank.now self.now.rules.items (form_tree self.now.bank.now goal.0) state))
             [] 1 (owed_chosen self.now.bank.now self.now.rules.items chosen)) }
         ensures kept { IfOk result (IsChosen self.now.bank.now self.now.rules.items) }
     {
@@ -321,8 +322,8 @@ impl<'p> Program<'p> {
     fn search(&self, alloc: Global, running: Running) -> Result<Turn, OutOfMemory>
         requires kept { IsKept self.now.bank.now self.now.rules.items running.state }
         requires rules { AreRules self.now.bank.now self.now.rules.items }
-        ensures owed { IfOk result (λ turn. Turns (owed_running self.now.bank.now self.now.rules.items running) (found_in turn) (made_in turn)
-            (owed_turn self.now.bank.now self.now.rules.items turn)) }
+        ensures owed { IfOk result (λ turn. Turns (owed_running self.now.bank.now self.now.rules.items running)
+            (found_in turn) (made_in turn) (owed_turn self.now.bank.now self.now.rules.items turn)) }
         ensures kept { IfOk result (IsTurn self.now.bank.now self.now.rules.items) }
     {
         let Running { mut state, left } = running;

@@ -13,7 +13,8 @@ ghost use Rattle.std.specs.Prelude.{◌≡◌, ◌≤◌, ◌↔◌, None, Some,
 ghost use Rattle.ll_edge.specs.Counts.{Rose};
 ghost use Rattle.ll_edge.specs.Texts.{Texts};
 ghost use Rattle.ll_top.specs.Words.{run_words, shown_words};
-ghost use Rattle.ll_top.specs.Outcome.{word_texts, run_task, task_of, is_silent, status_of_refusal, Ends, HasCause, Outcome};
+ghost use Rattle.ll_top.specs.Outcome.{word_texts, run_task, task_of, is_silent, Outcome};
+ghost use Rattle.ll_top.specs.Endings.{status_of_refusal, Ends, HasCause};
 
 use ll_edge::{Gate, Shelf, Sink};
 use prepare::prepare;

@@ -5,7 +5,8 @@ ghost use Rattle.ll_edge.specs.Texts.{text_of};
 ghost use Rattle.ll_laws.specs.Valid.{IsValid};
 ghost use Rattle.ll_top.specs.First.{IsFirst};
 ghost use Rattle.ll_top.specs.Words.{shown_words};
-ghost use Rattle.ll_top.specs.Outcome.{run_task, longest_text, IsLookedUp, IsReadRefusal, Prepares};
+ghost use Rattle.ll_top.specs.Outcome.{run_task, longest_text};
+ghost use Rattle.ll_top.specs.Endings.{IsLookedUp, IsReadRefusal, Prepares};
 
 use crate::reader::read_problem;
 use crate::refusal::Refusal;

@@ -1,4 +1,4 @@
-use Rattle.std.proofs.Common.{arith, rules, ◌∙◌}
+use Rattle.std.proofs.Common.{arith, ◌∙◌}
 use Rattle.ll_top.proofs.RunLemmas.{on_err, run-stops, run-breaks, run-goes_on, run-ends, run-ends_broken, run-status}
 use Rattle.ll_top.proofs.run.run.Goals as goal
 

@@ -1,4 +1,4 @@
-use Rattle.std.proofs.Common.{◌≤◌, ◌<◌, ◌^◌}
+use Rattle.std.proofs.Common.{◌≤◌}
 use Rattle.ll_top.specs.Running.{IsRunning}
 use Rattle.ll_top.proofs.run.run.Given as goal
 

@@ -1,4 +1,4 @@
-use Rattle.std.proofs.Common.{◌≡◌, ap, sym, ◌∙◌, map}
+use Rattle.std.proofs.Common.{ap, sym, ◌∙◌, map}
 use Rattle.std.specs.List.{list_all}
 use Rattle.std.proofs.lemmas.List.Folds.{list_all-map}
 use Rattle.ll_bank.specs.Nodes.{form_tree}
@@ -8,7 +8,7 @@ use Rattle.ll_laws.specs.Problem.{ProblemTree}
 use Rattle.ll_laws.specs.Shown.{clause_tree}
 use Rattle.ll_top.specs.First.{is_first_clause}
 use Rattle.ll_top.specs.Kept.{first_marks}
-use Rattle.ll_top.proofs.EngineSteps.{owes_start, rule_count}
+use Rattle.ll_top.proofs.EngineSteps.{owes_start}
 use Rattle.ll_top.proofs.engine.Engine.start.Goals as goal
 
 pub rules_of-requires-clause-first : goal.rules_of-requires-clause-first

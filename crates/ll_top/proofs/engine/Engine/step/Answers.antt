@@ -1,5 +1,5 @@
-use Rattle.std.proofs.Common.{◌≡◌, ap, sym, ◌∙◌, ◌++◌, ◌∷◌, [], refl, arith, rules}
-use Rattle.std.specs.Prelude.{None, Some}
+use Rattle.std.proofs.Common.{ap, sym, ◌∙◌, ◌++◌, ◌∷◌, [], refl, arith}
+use Rattle.std.specs.Prelude.{None}
 use Rattle.ll_top.specs.declared.engine.Turn.TheVariants.{Ended, Found, Inferred}
 use Rattle.ll_top.proofs.EngineSteps.{engine_infers, engine_chooses, engine_ends, engine_finds, engine_done, turn_at, chosen_at, sound_put, sound_front, sound_last, empty_items}
 use Rattle.ll_top.proofs.engine.Engine.step.Goals as goal

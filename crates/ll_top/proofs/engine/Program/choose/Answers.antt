@@ -1,5 +1,4 @@
-use Rattle.std.proofs.Common.{◌≡◌}
-use Rattle.ll_top.proofs.EngineChoices.{chooses_none, chooses_only, chooses_first}
+use Rattle.ll_top.proofs.EngineChoices.{chooses_first}
 use Rattle.ll_top.proofs.engine.Program.choose.Goals as goal
 
 pub returns-in_ok-first-in-Some-find_clause-clause-owed : goal.returns-in_ok-first-in-Some-find_clause-clause-owed

@@ -1,4 +1,4 @@
-use Rattle.std.proofs.Common.{rules, ◌≡◌, ◌∙◌, ◌<◌, ap, sym, false, length, arith}
+use Rattle.std.proofs.Common.{◌≡◌, ◌∙◌, ◌<◌, sym, false, length, arith}
 use Rattle.std.proofs.lemmas.List.Elements.{at_read}
 use Rattle.ll_top.proofs.EngineStates.{tries_from-here, tries_from-other, tries_from-closed, tries_from-end}
 use Rattle.ll_top.proofs.engine.Program.find_clause.Goals as goal

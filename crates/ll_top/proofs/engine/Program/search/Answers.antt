@@ -1,7 +1,6 @@
-use Rattle.std.proofs.Common.{◌≡◌, ◌∙◌, ap, sym, refl, [], ◌∷◌, ◌<◌, arith, subst, Bool}
+use Rattle.std.proofs.Common.{◌≡◌, ◌∙◌, ap, sym, refl, [], ◌∷◌, arith, subst, Bool}
 use Rattle.std.specs.List.{list_any}
 use Rattle.ll_bank.specs.Nodes.{term_trees}
-use Rattle.ll_laws.specs.Answered.{Answered}
 use Rattle.ll_laws.specs.declared.Event.TheVariants.{Answer}
 use Rattle.ll_top.specs.Owed.{nothing_owed, Turns}
 use Rattle.ll_top.specs.Kept.{owed_running, owed_chosen}

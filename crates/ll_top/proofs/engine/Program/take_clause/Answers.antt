@@ -1,4 +1,4 @@
-use Rattle.std.proofs.Common.{◌≡◌, refl, false}
+use Rattle.std.proofs.Common.{refl, false}
 use Rattle.std.specs.Vec.{with_item}
 use Rattle.ll_top.proofs.EngineStates.{takes_kept}
 use Rattle.ll_top.proofs.engine.Program.take_clause.Goals as goal

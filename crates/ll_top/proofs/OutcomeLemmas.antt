@@ -3,6 +3,7 @@ use Rattle.std.proofs.Common.{◌≡◌, ◌≢◌, ℕ, refl, ap, sym, subst, B
 use Rattle.std.specs.Prelude.{Option, Some, None, Result, Ok, Err, nat_le, if◌then◌else◌}
 use Rattle.ll_edge.specs.Texts.{Texts, text_of}
 use Rattle.ll_laws.specs.Problem.{ProblemTree}
+use Rattle.ll_top.specs.declared.run.Found.{Found}
 use Rattle.ll_top.specs.declared.refusal.Refusal.{Refusal}
 use Rattle.ll_top.specs.declared.refusal.Refusal.TheVariants.{AbsentText, UnreadableText, OversizedText, UnreadText, Unwritable, OutOfMemory}
 use Rattle.ll_top.specs.Words.{RunWords, run_words}
@@ -36,9 +37,9 @@ run_task-used texts w =
     with_text-used w.program _ (text_of texts w.program) (λ program. with_text-used w.query _ (text_of texts w.query) (λ query. problem-used (problem_of program query w.bound)))
 
 -- how a run ends is an outcome of its task
-pub ends-outcome : (task : Task) (read_failed write_failed : Type 0) (before after : Option (List ℕ)) (r : Result ℕ Refusal) → task ≢ Misused → Ends task read_failed write_failed before after r
+pub ends-outcome : (task : Task) (read_failed write_failed : Type 0) (before after : Option (List ℕ)) (r : Result Found Refusal) → task ≢ Misused → Ends task read_failed write_failed before after r
     → Outcome task read_failed write_failed before after (status_of_result r)
-ends-outcome task rf wf b a (Ok status) u e = ran e.0 e.1 e.2 e.3
+ends-outcome task rf wf b a (Ok found) u e = ran e.0 e.1 e.2 e.3
 ends-outcome task rf wf b a (Err AbsentText) u e = absent e.0.0 e.0.1 refl e.1
 ends-outcome task rf wf b a (Err UnreadableText) u e = unreadable u e.0 refl e.1
 ends-outcome task rf wf b a (Err OversizedText) u e = oversized e.0.0 e.0.1 refl e.1
@@ -46,7 +47,7 @@ ends-outcome task rf wf b a (Err UnreadText) u e = faulty e.0 refl e.1
 ends-outcome task rf wf b a (Err Unwritable) u e = unwritable e.0 e.1 e.2 refl e.3
 ends-outcome task rf wf b a (Err OutOfMemory) u e = no_memory u refl e
 
-pub run-outcome : (words : List (List ℕ)) (texts : Texts) (w : RunWords) (read_failed write_failed : Type 0) (before after : Option (List ℕ)) (r : Result ℕ Refusal) → run_words words ≡ Some w
+pub run-outcome : (words : List (List ℕ)) (texts : Texts) (w : RunWords) (read_failed write_failed : Type 0) (before after : Option (List ℕ)) (r : Result Found Refusal) → run_words words ≡ Some w
     → Ends (run_task texts w) read_failed write_failed before after r → Outcome (task_of words texts) read_failed write_failed before after (status_of_result r)
 run-outcome words texts w rf wf b a r h e =
     subst (λ t. Outcome t rf wf b a (status_of_result r)) (sym (ap (words_task texts) h)) (ends-outcome (run_task texts w) rf wf b a r (run_task-used texts w) e)

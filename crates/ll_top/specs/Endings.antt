@@ -5,6 +5,8 @@ use Rattle.std.specs.Io.KnownBytes.{append_known}
 use Rattle.ll_edge.specs.Pieces.{AppendsFront}
 use Rattle.ll_laws.specs.Problem.{ProblemTree}
 use Rattle.ll_laws.specs.Output.{run_text, run_status}
+use Rattle.ll_top.specs.declared.run.Found.{Found}
+use Rattle.ll_top.specs.declared.run.Found.TheVariants.{Answer, Nothing, Bound}
 use Rattle.ll_top.specs.declared.refusal.Refusal.{Refusal}
 use Rattle.ll_top.specs.declared.refusal.Refusal.TheVariants.{AbsentText, UnreadableText, OversizedText, UnreadText, Unwritable, OutOfMemory}
 use Rattle.ll_top.specs.Outcome.{Task, Missing, Oversized, Unread, Runs, longest_text, task_text}
@@ -36,10 +38,25 @@ Prepares task (Err UnreadText) = task ≡ Unread
 Prepares task (Err Unwritable) = ⊥
 Prepares task (Err OutOfMemory) = ⊤
 
+-- the status of what a run found
+abbrev pub status_of_found : Found → ℕ
+status_of_found Answer = 0
+status_of_found Nothing = 1
+status_of_found Bound = 2
+
+-- the status of a refusal
+abbrev pub status_of_refusal : Refusal → ℕ
+status_of_refusal AbsentText = 4
+status_of_refusal UnreadableText = 5
+status_of_refusal Unwritable = 6
+status_of_refusal UnreadText = 7
+status_of_refusal OversizedText = 8
+status_of_refusal OutOfMemory = 10
+
 -- what was made of a run's words, by its task: how it ended, and what it appended. `read_failed` and `write_failed` say that
 -- the shelf's or the sink's count of faults rose.
-abbrev pub Ends : Task → Type 0 → Type 0 → Option (List ℕ) → Option (List ℕ) → Result ℕ Refusal → Type 0
-Ends task read_failed write_failed before after (Ok status) = (p : ProblemTree) × (task ≡ Runs p) × (status ≡ run_status p) × (after ≡ append_known before (run_text p))
+abbrev pub Ends : Task → Type 0 → Type 0 → Option (List ℕ) → Option (List ℕ) → Result Found Refusal → Type 0
+Ends task read_failed write_failed before after (Ok found) = (p : ProblemTree) × (task ≡ Runs p) × (status_of_found found ≡ run_status p) × (after ≡ append_known before (run_text p))
 Ends task read_failed write_failed before after (Err AbsentText) = IsMissing task × (after ≡ before)
 Ends task read_failed write_failed before after (Err UnreadableText) = read_failed × (after ≡ before)
 Ends task read_failed write_failed before after (Err OversizedText) = IsOversized task × (after ≡ before)
@@ -57,8 +74,8 @@ IsReadRefusal absence read_failed Unwritable = ⊥
 IsReadRefusal absence read_failed OutOfMemory = ⊤
 
 -- the same where no text is told: the causes of refusals, and when nothing is appended
-abbrev pub HasCause : Type 0 → Type 0 → Type 0 → Option (List ℕ) → Option (List ℕ) → Result ℕ Refusal → Type 0
-HasCause absence read_failed write_failed before after (Ok status) = status < 3
+abbrev pub HasCause : Type 0 → Type 0 → Type 0 → Option (List ℕ) → Option (List ℕ) → Result Found Refusal → Type 0
+HasCause absence read_failed write_failed before after (Ok found) = ⊤
 HasCause absence read_failed write_failed before after (Err AbsentText) = absence × (after ≡ before)
 HasCause absence read_failed write_failed before after (Err UnreadableText) = read_failed × (after ≡ before)
 HasCause absence read_failed write_failed before after (Err OversizedText) = after ≡ before
@@ -66,16 +83,7 @@ HasCause absence read_failed write_failed before after (Err UnreadText) = after 
 HasCause absence read_failed write_failed before after (Err Unwritable) = write_failed
 HasCause absence read_failed write_failed before after (Err OutOfMemory) = ⊤
 
--- the status of a refusal
-abbrev pub status_of_refusal : Refusal → ℕ
-status_of_refusal AbsentText = 4
-status_of_refusal UnreadableText = 5
-status_of_refusal Unwritable = 6
-status_of_refusal UnreadText = 7
-status_of_refusal OversizedText = 8
-status_of_refusal OutOfMemory = 10
-
 -- the status of a run
-abbrev pub status_of_result : Result ℕ Refusal → ℕ
-status_of_result (Ok status) = status
+abbrev pub status_of_result : Result Found Refusal → ℕ
+status_of_result (Ok found) = status_of_found found
 status_of_result (Err refusal) = status_of_refusal refusal

@@ -14,12 +14,12 @@ ghost use Rattle.ll_edge.specs.Counts.{Rose};
 ghost use Rattle.ll_edge.specs.Texts.{Texts};
 ghost use Rattle.ll_top.specs.Words.{run_words, shown_words};
 ghost use Rattle.ll_top.specs.Outcome.{word_texts, run_task, task_of, is_silent, Outcome};
-ghost use Rattle.ll_top.specs.Endings.{status_of_refusal, Ends, HasCause};
+ghost use Rattle.ll_top.specs.Endings.{status_of_found, status_of_refusal, Ends, HasCause};
 
 use ll_edge::{Gate, Shelf, Sink};
 use prepare::prepare;
 use refusal::Refusal;
-use run::run;
+use run::{Found, run};
 use std::alloc::Global;
 use std::sync::Wait;
 use std::thread::Threads;
@@ -62,19 +62,19 @@ pub fn lolli<R: Threads + Wait + Sync, F: Shelf, O: Sink, G: Gate>(
     match run_command(words) {
         None => 3,
         Some(command) => match run_texts(alloc, &command, shelf, sink) {
-            Ok(status) => status,
+            Ok(found) => found_status(found),
             Err(refusal) => refusal_status(refusal),
         },
     }
 }
 
-// Runs a command, and answers 0, 1 or 2.
+// Runs a command.
 fn run_texts<F: Shelf, O: Sink>(
     alloc: Global,
     command: &RunCommand<'_>,
     shelf: &mut F,
     sink: &mut O,
-) -> Result<u8, Refusal>
+) -> Result<Found, Refusal>
     requires bound { command.now.bound ≤ 1000000 }
 
     ensures same_texts { F.texts shelf.new ≡ F.texts shelf.old }
@@ -90,6 +90,17 @@ fn run_texts<F: Shelf, O: Sink>(
 {
     let problem = prepare(alloc, command, shelf)?;
     run(alloc, &problem, sink)
+}
+
+// The status of what was found.
+fn found_status(found: Found) -> u8
+    ensures { result ≡ status_of_found found }
+{
+    match found {
+        Found::Answer => 0,
+        Found::Nothing => 1,
+        Found::Bound => 2,
+    }
 }
 
 // The status of a refusal.

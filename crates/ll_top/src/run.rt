@@ -6,6 +6,7 @@ ghost use Rattle.ll_laws.specs.Output.{counts_text, run_text, run_status};
 ghost use Rattle.ll_laws.specs.Valid.{IsValid};
 ghost use Rattle.ll_top.specs.First.{IsFirst};
 ghost use Rattle.ll_top.specs.Running.{event_lines, counted, status_of_counts, IsRunRefusal};
+ghost use Rattle.ll_top.specs.Endings.{status_of_found};
 
 use crate::engine::{Engine, Progress};
 use crate::print;
@@ -15,14 +16,24 @@ use ll_edge::{Sink, write_all};
 use ll_laws::{Counts, Event, Problem};
 use std::alloc::Global;
 
-/// Runs the problem, writes its whole text, and answers the status by it: 0 with an answer, 2 without one but with a branch that
-/// reached the bound, and 1 otherwise. After a refusal a prefix of the text was written.
-pub fn run<O: Sink>(alloc: Global, problem: &Problem, sink: &mut O) -> Result<u8, Refusal>
+/// What a run found.
+#[derive(Clone, Copy, Debug, PartialEq, Eq)]
+pub enum Found {
+    /// Some answer.
+    Answer,
+    /// No answer, and no branch reached the bound.
+    Nothing,
+    /// No answer, but some branch reached the bound.
+    Bound,
+}
+
+/// Runs the problem, writes its whole text, and answers what was found. After a refusal a prefix of the text was written.
+pub fn run<O: Sink>(alloc: Global, problem: &Problem, sink: &mut O) -> Result<Found, Refusal>
     requires valid { IsValid problem.now }
     requires first { IsFirst problem.now }
 
     ensures faults_kept { O.faults sink.old ≤ O.faults sink.new }
-    ensures status { IfOk result (λ status. status ≡ run_status problem.now) }
+    ensures found { IfOk result (λ found. status_of_found found ≡ run_status problem.now) }
     ensures text { OnOk result (O.written sink.new ≡ append_known (O.written sink.old) (run_text problem.now)) }
     ensures refused { IfErr result (IsRunRefusal (O.faults sink.old) (O.faults sink.new)) }
     ensures prefix { OnErr result (AppendsFront (O.written sink.old) (run_text problem.now) (O.written sink.new)) }
@@ -48,7 +59,7 @@ pub fn run<O: Sink>(alloc: Global, problem: &Problem, sink: &mut O) -> Result<u8
     lines.clear();
     print::summary(&counts, &mut lines)?;
     write_all(sink, &lines)?;
-    Ok(status(&counts))
+    Ok(what_was_found(&counts))
 }
 
 // Counts an event, and makes its lines. After a refusal nothing is said of either.
@@ -67,15 +78,15 @@ fn count_event(event: &Event, counts: &mut Counts, lines: &mut Vec<u8>) -> Resul
     Ok(())
 }
 
-// The status by the numbers of answers and of branches that reached the bound.
-fn status(counts: &Counts) -> u8
-    ensures { result ≡ status_of_counts counts.now.answers counts.now.reached }
+// What was found, by the numbers of answers and of branches that reached the bound.
+fn what_was_found(counts: &Counts) -> Found
+    ensures { status_of_found result ≡ status_of_counts counts.now.answers counts.now.reached }
 {
     if counts.answers > 0 {
-        0
+        Found::Answer
     } else if counts.reached > 0 {
-        2
+        Found::Bound
     } else {
-        1
+        Found::Nothing
     }
 }

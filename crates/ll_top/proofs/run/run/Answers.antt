@@ -32,10 +32,10 @@ returns-in_err-write_all-clause-prefix g c =
     let f = rw (c.deref-2.ensures.value, c.in_ok-summary.ensures, c.clear.ensures.items) at c.in_err-write_all.ensures.prefix in
     on_err _ (run-ends_broken _ _ _ _ _ _ _ _ c.inferences.type_inv c.inferences.ensures c.loop-lines.invariant.running s f)
 
-pub returns-clause-status : goal.returns-clause-status
-returns-clause-status g c =
+pub returns-clause-found : goal.returns-clause-found
+returns-clause-found g c =
     let s = rw c.in-Done.is at c.in_ok-step.ensures in
-    c.status.ensures ∙ run-status _ _ _ _ _ _ c.loop-lines.invariant.running s
+    c.what_was_found.ensures ∙ run-status _ _ _ _ _ _ c.loop-lines.invariant.running s
 
 pub returns-clause-text : goal.returns-clause-text
 returns-clause-text g c =

@@ -1,0 +1,9 @@
+pub mod Spelled
+pub mod Longest
+pub mod Signs
+pub mod Numerals
+pub mod Places
+pub mod Turns
+pub mod OneReading
+pub mod Listed
+pub mod ReadBack

@@ -39,7 +39,7 @@ run_task-used texts w =
 -- how a run ends is an outcome of its task
 pub ends-outcome : (task : Task) (read_failed write_failed : Type 0) (before after : Option (List ℕ)) (r : Result Found Refusal) → task ≢ Misused → Ends task read_failed write_failed before after r
     → Outcome task read_failed write_failed before after (status_of_result r)
-ends-outcome task rf wf b a (Ok found) u e = ran e.0 e.1 e.2 e.3
+ends-outcome task rf wf b a (Ok _) u e = ran e.0 e.1 e.2 e.3
 ends-outcome task rf wf b a (Err AbsentText) u e = absent e.0.0 e.0.1 refl e.1
 ends-outcome task rf wf b a (Err UnreadableText) u e = unreadable u e.0 refl e.1
 ends-outcome task rf wf b a (Err OversizedText) u e = oversized e.0.0 e.0.1 refl e.1

@@ -75,7 +75,7 @@ IsReadRefusal absence read_failed OutOfMemory = ⊤
 
 -- the same where no text is told: the causes of refusals, and when nothing is appended
 abbrev pub HasCause : Type 0 → Type 0 → Type 0 → Option (List ℕ) → Option (List ℕ) → Result Found Refusal → Type 0
-HasCause absence read_failed write_failed before after (Ok found) = ⊤
+HasCause absence read_failed write_failed before after (Ok _) = ⊤
 HasCause absence read_failed write_failed before after (Err AbsentText) = absence × (after ≡ before)
 HasCause absence read_failed write_failed before after (Err UnreadableText) = read_failed × (after ≡ before)
 HasCause absence read_failed write_failed before after (Err OversizedText) = after ≡ before

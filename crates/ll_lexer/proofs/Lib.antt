@@ -6,4 +6,6 @@ pub mod Places
 pub mod Turns
 pub mod OneReading
 pub mod Listed
+pub mod Ascii
+pub mod Few
 pub mod ReadBack

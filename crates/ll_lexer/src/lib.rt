@@ -6,6 +6,7 @@ mod number;
 
 ghost use Rattle.std.specs.Prelude.{◌≡◌, ℕ, ◌+◌, ◌<◌, ◌≤◌, ◌^◌, List, length, IsSomeAnd, IfSome, IfOk, IfErr, MatchOption, slice_get};
 ghost use Rattle.std.specs.List.{prefix_len};
+ghost use Rattle.std.specs.Str.{IsAscii};
 ghost use Rattle.ll_lexer.specs.declared.Fault.{Fault};
 ghost use Rattle.ll_lexer.specs.declared.TokenKind.TheVariants.{Number};
 ghost use Rattle.ll_lexer.specs.Spelling.{Spells};
@@ -136,6 +137,7 @@ impl TokenList<'_> {
     pub fn len(&self) -> usize
         ensures len { result ≡ length self.now.tokens }
         ensures lexed { IsLexed self.now }
+        ensures few { length self.now.tokens ≤ length self.now.text }
     {
         self.rows.len()
     }
@@ -155,10 +157,11 @@ impl TokenList<'_> {
         }
     }
 
-    /// The bytes of token `i`.
+    /// The bytes of token `i`, which are all ASCII.
     pub fn bytes(&self, i: usize) -> &[u8]
         requires { i < length self.now.tokens }
-        ensures { IfSome (slice_get self.now.tokens i) (λ t. result.now ≡ bytes_of self.now.text t) }
+        ensures bytes { IfSome (slice_get self.now.tokens i) (λ t. result.now ≡ bytes_of self.now.text t) }
+        ensures ascii { IsAscii result.now }
     {
         let token = self.get(i);
         &self.text[token.from..token.to]

@@ -2,7 +2,7 @@
 use Rattle.std.proofs.Common.{◌≡◌, refl, [], ◌∷◌}
 use Rattle.std.specs.Prelude.{Some, None, codes}
 use Rattle.ll_top.specs.Words.{run_words}
-use Rattle.ll_top.specs.Reading.{problem_of}
+use Rattle.ll_top.specs.Reading.{NameToken, TrueToken, LinearToken, DotToken, CommaToken, ColonDashToken, problem_of_tokens}
 use Rattle.ll_laws.specs.Output.{run_text}
 use Rattle.ll_laws.specs.Unify.{mgu}
 use Rattle.ll_laws.specs.State.{settle}
@@ -18,16 +18,24 @@ words_of_a_run = refl
 bound_past_the_greatest : run_words (codes "run" ∷ codes "prog" ∷ codes "ques" ∷ codes "--bound" ∷ codes "1000001" ∷ codes "--workers" ∷ codes "1" ∷ []) ≡ None
 bound_past_the_greatest = refl
 
-two_linear_facts : option_map run_text (problem_of (codes "LINEAR a. LINEAR b.\n") (codes "a , b\n") 3) ≡ Some (codes "answer 1\nyes\nanswers 1, bound reached 0, inferences 3\n")
+two_linear_facts : option_map run_text (problem_of_tokens 3
+    (Some (LinearToken ∷ NameToken (codes "a") ∷ DotToken ∷ LinearToken ∷ NameToken (codes "b") ∷ DotToken ∷ []))
+    (Some (NameToken (codes "a") ∷ CommaToken ∷ NameToken (codes "b") ∷ [])))
+    ≡ Some (codes "answer 1\nyes\nanswers 1, bound reached 0, inferences 3\n")
 unfolding events cost settle tries attempt successors mgu digits
 two_linear_facts = refl
 
-rule : option_map run_text (problem_of (codes "p:-q,\tr.q. r:-true. LINEAR trues.") (codes "p,trues.") 9) ≡ Some (codes "answer 1\nyes\nanswers 1, bound reached 0, inferences 7\n")
+-- `p :- q , r. q. r :- true.`, `p`
+rule : option_map run_text (problem_of_tokens 9
+    (Some (NameToken (codes "p") ∷ ColonDashToken ∷ NameToken (codes "q") ∷ CommaToken ∷ NameToken (codes "r") ∷ DotToken ∷ NameToken (codes "q") ∷ DotToken
+    ∷ NameToken (codes "r") ∷ ColonDashToken ∷ TrueToken ∷ DotToken ∷ []))
+    (Some (NameToken (codes "p") ∷ [])))
+    ≡ Some (codes "answer 1\nyes\nanswers 1, bound reached 0, inferences 5\n")
 unfolding events cost settle tries attempt successors mgu digits
 rule = refl
 
-no_goal : problem_of [] [] 1 ≡ None
+no_goal : problem_of_tokens 1 (Some []) (Some []) ≡ None
 no_goal = refl
 
-no_dot : problem_of (codes "a") (codes "a") 1 ≡ None
+no_dot : problem_of_tokens 1 (Some (NameToken (codes "a") ∷ [])) (Some (NameToken (codes "a") ∷ [])) ≡ None
 no_dot = refl

@@ -1,6 +1,5 @@
 pub mod Examples
 pub mod WordsLemmas
-pub mod ReaderPieces
 pub mod ReaderTokens
 pub mod ReaderGrammar
 pub mod ReaderProblems
@@ -13,3 +12,4 @@ pub mod EngineSteps
 pub mod PrepareLemmas
 pub mod RunLemmas
 pub mod OutcomeLemmas
+pub mod ReadingLemmas

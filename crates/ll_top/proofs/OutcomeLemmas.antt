@@ -1,15 +1,19 @@
 -- From the way a run ends to the outcome of the call.
 use Rattle.std.proofs.Common.{◌≡◌, ◌≢◌, ℕ, refl, ap, sym, subst, Bool, true, false, List, length}
-use Rattle.std.specs.Prelude.{Option, Some, None, Result, Ok, Err, nat_le, if◌then◌else◌}
+use Rattle.std.specs.Prelude.{Option, Some, None, Result, Ok, Err, IfOk, IfErr, OnOk, OnErr, nat_le, if◌then◌else◌}
+use Rattle.std.specs.Io.KnownBytes.{append_known}
+use Rattle.ll_edge.specs.Counts.{Rose}
+use Rattle.ll_edge.specs.Pieces.{AppendsFront}
 use Rattle.ll_edge.specs.Texts.{Texts, text_of}
 use Rattle.ll_laws.specs.Problem.{ProblemTree}
+use Rattle.ll_laws.specs.Output.{run_text, run_status}
 use Rattle.ll_top.specs.declared.run.Found.{Found}
 use Rattle.ll_top.specs.declared.refusal.Refusal.{Refusal}
 use Rattle.ll_top.specs.declared.refusal.Refusal.TheVariants.{AbsentText, UnreadableText, OversizedText, UnreadText, Unwritable, OutOfMemory}
 use Rattle.ll_top.specs.Words.{RunWords, run_words}
-use Rattle.ll_top.specs.Reading.{problem_of}
-use Rattle.ll_top.specs.Outcome.{Task, Misused, Oversized, with_text, run_or_unread, run_task, words_task, task_of, longest_text, Outcome, ran, absent, unreadable, unwritable, faulty, oversized, no_memory}
-use Rattle.ll_top.specs.Endings.{Ends, status_of_result}
+use Rattle.ll_top.specs.Outcome.{Task, Misused, Oversized, Judges, with_text, run_task, words_task, task_of, longest_text, Runs, front, Outcome, ran, absent, unreadable, unwritable, faulty, oversized, no_memory}
+use Rattle.ll_top.specs.Endings.{Ends, status_of_found, status_of_result}
+use Rattle.ll_top.specs.Running.{IsRunRefusal}
 
 -- a task that is not one of misused words
 IsUsed : Task → Type 0
@@ -25,16 +29,15 @@ unfolding IsUsed
 with_text-used name go None h e = cc
 with_text-used name go (Some text) h e = text_or-used (nat_le (length text) longest_text) (go text) name (h text) e
 
-problem-used : (o : Option ProblemTree) → IsUsed (run_or_unread o)
+judged-used : (program query : List ℕ) (bound : ℕ) → IsUsed (Judges program query bound)
 unfolding IsUsed
-problem-used None e = cc
-problem-used (Some p) e = cc
+judged-used program query bound e = cc
 
 -- words in a form ask for something
 pub run_task-used : (texts : Texts) (w : RunWords) → run_task texts w ≢ Misused
 unfolding IsUsed
 run_task-used texts w =
-    with_text-used w.program _ (text_of texts w.program) (λ program. with_text-used w.query _ (text_of texts w.query) (λ query. problem-used (problem_of program query w.bound)))
+    with_text-used w.program _ (text_of texts w.program) (λ program. with_text-used w.query _ (text_of texts w.query) (λ query. judged-used program query w.bound))
 
 -- how a run ends is an outcome of its task
 pub ends-outcome : (task : Task) (read_failed write_failed : Type 0) (before after : Option (List ℕ)) (r : Result Found Refusal) → task ≢ Misused → Ends task read_failed write_failed before after r
@@ -51,3 +54,15 @@ pub run-outcome : (words : List (List ℕ)) (texts : Texts) (w : RunWords) (read
     → Ends (run_task texts w) read_failed write_failed before after r → Outcome (task_of words texts) read_failed write_failed before after (status_of_result r)
 run-outcome words texts w rf wf b a r h e =
     subst (λ t. Outcome t rf wf b a (status_of_result r)) (sym (ap (words_task texts) h)) (ends-outcome (run_task texts w) rf wf b a r (run_task-used texts w) e)
+
+-- a run of a task's problem is an end of the task
+pub run-ended : (task : Task) (p : ProblemTree) (read_failed : Type 0) (faults more : ℕ) (before after : Option (List ℕ)) (r : Result Found Refusal) → Runs task p
+    → IfOk r (λ found. status_of_found found ≡ run_status p) → OnOk r (after ≡ append_known before (run_text p)) → IfErr r (IsRunRefusal faults more)
+    → OnErr r (AppendsFront before (run_text p) after) → Ends task read_failed (Rose faults more) before after r
+run-ended task p rf n m b a (Ok _) u s t f e = (p, u, s, t)
+run-ended task p rf n m b a (Err Unwritable) u s t f e = (p, u, f, e)
+run-ended task p rf n m b a (Err OutOfMemory) u s t f e = front p u e
+run-ended task p rf n m b a (Err AbsentText) u s t f e = absurd f
+run-ended task p rf n m b a (Err UnreadableText) u s t f e = absurd f
+run-ended task p rf n m b a (Err OversizedText) u s t f e = absurd f
+run-ended task p rf n m b a (Err UnreadText) u s t f e = absurd f

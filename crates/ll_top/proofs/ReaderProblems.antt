@@ -23,7 +23,7 @@ use Rattle.ll_laws.specs.Valid.{GoalSide, ClauseSide, is_on, each_term, free_bel
 use Rattle.ll_top.specs.declared.reader.tokens.Token.{Token as OwnToken}
 use Rattle.ll_top.specs.declared.reader.tokens.Token.TheVariants.{Name, True, Linear, Dot, Comma, ColonDash}
 use Rattle.ll_top.specs.First.{is_first_goal, is_first_clause, IsFirst}
-use Rattle.ll_top.specs.Reading.{item_of, tensor_of, goal_of, rule_of, clause_of, both_or_none, clauses_of, program_of, query_at, query_of, number_in, names_in, tokens_of, problem_from, problem_of_tokens, problem_of}
+use Rattle.ll_top.specs.Reading.{item_of, tensor_of, goal_of, rule_of, clause_of, both_or_none, clauses_of, program_of, query_at, query_of, number_in, names_in, HasTokens, problem_from, problem_of_tokens, Asks, both}
 use Rattle.ll_top.specs.Tokens.{spelled, IsNumbered, plain, own_number, is_dot}
 use Rattle.ll_top.proofs.ReaderTokens.{Grows, with_names-grows, map-spelled-grows, All-numbered-grows}
 use Rattle.ll_top.proofs.ReaderBuilds.{clauses-extend}
@@ -336,9 +336,8 @@ valid p o few low = subst IsValid same (record {
 
 -- ---- the problem of two texts
 
-module _ (program query : List ℕ) (bound : ℕ) (first_names names : List (List ℕ)) (ps qs : List OwnToken)
-    (p : tokens_of program ≡ Some (map (spelled first_names) ps)) (pn : first_names ≡ with_names [] (names_in (map (spelled first_names) ps))) (pk : All (IsNumbered first_names) ps)
-    (q : tokens_of query ≡ Some (map (spelled names) qs)) (qn : names ≡ with_names first_names (names_in (map (spelled names) qs))) (qk : All (IsNumbered names) qs) where
+module _ (bound : ℕ) (first_names names : List (List ℕ)) (ps qs : List OwnToken) (pn : first_names ≡ with_names [] (names_in (map (spelled first_names) ps)))
+    (pk : All (IsNumbered first_names) ps) (qn : names ≡ with_names first_names (names_in (map (spelled names) qs))) (qk : All (IsNumbered names) qs) where
   grows : Grows first_names names
   grows = subst (Grows first_names) (sym qn) (with_names-grows first_names (names_in (map (spelled names) qs)))
 
@@ -346,11 +345,11 @@ module _ (program query : List ℕ) (bound : ℕ) (first_names names : List (Lis
   pub still_numbered : All (IsNumbered names) ps
   still_numbered = All-numbered-grows first_names names grows ps pk
 
-  pub problem-is : problem_of program query bound ≡ problem_from names bound (program_of own_number (map plain ps)) (query_of own_number (map plain qs))
+  pub problem-is : problem_of_tokens bound (Some (map (spelled first_names) ps)) (Some (map (spelled names) qs))
+      ≡ problem_from names bound (program_of own_number (map plain ps)) (query_of own_number (map plain qs))
   problem-is =
-      (λ i. problem_of_tokens bound (p i) (q i))
-      ∙ ((λ i. problem_from (all_names i) bound (program_of (number_in (all_names i)) (spelled_program i)) (query_of (number_in (all_names i)) (map (spelled names) qs)))
-      ∙ (λ i. problem_from names bound (program_of-same names ps still_numbered i) (query_of-same names qs qk i)))
+      (λ i. problem_from (all_names i) bound (program_of (number_in (all_names i)) (spelled_program i)) (query_of (number_in (all_names i)) (map (spelled names) qs)))
+      ∙ (λ i. problem_from names bound (program_of-same names ps still_numbered i) (query_of-same names qs qk i))
     where
       spelled_program : map (spelled first_names) ps ≡ map (spelled names) ps
       spelled_program = sym (map-spelled-grows first_names names grows ps pk)
@@ -362,29 +361,29 @@ module _ (program query : List ℕ) (bound : ℕ) (first_names names : List (Lis
 pub record AreTokensOf (program query : List ℕ) (names : List (List ℕ)) (ps qs : List OwnToken) : Type 0 where
   pub program_numbered : All (IsNumbered names) ps
   pub query_numbered : All (IsNumbered names) qs
-  pub is : (bound : ℕ) → problem_of program query bound ≡ problem_from names bound (program_of own_number (map plain ps)) (query_of own_number (map plain qs))
+  pub is : (bound : ℕ) (asked : Option ProblemTree) → problem_from names bound (program_of own_number (map plain ps)) (query_of own_number (map plain qs)) ≡ asked → Asks program query bound asked
 
 pub tokens_of-both : (program query : List ℕ) (none first_names names : List (List ℕ)) (ps qs : List OwnToken) → none ≡ []
-    → tokens_of program ≡ Some (map (spelled first_names) ps) → first_names ≡ with_names none (names_in (map (spelled first_names) ps)) → All (IsNumbered first_names) ps
-    → tokens_of query ≡ Some (map (spelled names) qs) → names ≡ with_names first_names (names_in (map (spelled names) qs)) → All (IsNumbered names) qs
+    → HasTokens program (Some (map (spelled first_names) ps)) → first_names ≡ with_names none (names_in (map (spelled first_names) ps)) → All (IsNumbered first_names) ps
+    → HasTokens query (Some (map (spelled names) qs)) → names ≡ with_names first_names (names_in (map (spelled names) qs)) → All (IsNumbered names) qs
     → AreTokensOf program query names ps qs
 tokens_of-both program query none first_names names ps qs z p pn pk q qn qk =
     let first = pn ∙ ap (λ ns. with_names ns (names_in (map (spelled first_names) ps))) z in record {
-      program_numbered = still_numbered program query 0 first_names names ps qs p first pk q qn qk;
+      program_numbered = still_numbered 0 first_names names ps qs first pk qn qk;
       query_numbered = qk;
-      is = λ bound. problem-is program query bound first_names names ps qs p first pk q qn qk;
+      is = λ bound asked e. both _ _ p q (sym (problem-is bound first_names names ps qs first pk qn qk ∙ e));
     }
 
 module _ (program query : List ℕ) (names : List (List ℕ)) (ps qs : List OwnToken) (bound : ℕ) (t : AreTokensOf program query names ps qs) where
   -- no program is no problem
-  pub problem-no_program : (ts : List OwnToken) → ts ≡ ps → program_of own_number (map plain ts) ≡ None → problem_of program query bound ≡ None
+  pub problem-no_program : (ts : List OwnToken) → ts ≡ ps → program_of own_number (map plain ts) ≡ None → Asks program query bound None
   problem-no_program ts e n =
-      t.is bound ∙ ap (λ o. problem_from names bound o (query_of own_number (map plain qs))) (ap (λ us. program_of own_number (map plain us)) (sym e) ∙ n)
+      t.is bound None (ap (λ o. problem_from names bound o (query_of own_number (map plain qs))) (ap (λ us. program_of own_number (map plain us)) (sym e) ∙ n))
 
   -- nor is no query
-  pub problem-no_query : (ts : List OwnToken) → ts ≡ qs → query_of own_number (map plain ts) ≡ None → problem_of program query bound ≡ None
+  pub problem-no_query : (ts : List OwnToken) → ts ≡ qs → query_of own_number (map plain ts) ≡ None → Asks program query bound None
   problem-no_query ts e n =
-      t.is bound ∙ (ap (problem_from names bound (program_of own_number (map plain ps))) (ap (λ us. query_of own_number (map plain us)) (sym e) ∙ n)
+      t.is bound None (ap (problem_from names bound (program_of own_number (map plain ps))) (ap (λ us. query_of own_number (map plain us)) (sym e) ∙ n)
       ∙ none (program_of own_number (map plain ps)))
     where
       none : (cs : Option (List ClauseTree)) → problem_from names bound cs None ≡ None
@@ -400,8 +399,8 @@ module _ (program query : List ℕ) (names : List (List ℕ)) (ps qs : List OwnT
     qq = ap (λ xs. query_of own_number (map plain xs)) (sym f) ∙ q
 
     -- a program and a query are one
-    pub problem-both : problem_of program query bound ≡ Some (record { names = names; modules = []; clauses = cs; goal = g; asked = []; bound = bound })
-    problem-both = t.is bound ∙ (λ i. problem_from names bound (pp i) (qq i))
+    pub problem-both : Asks program query bound (Some (record { names = names; modules = []; clauses = cs; goal = g; asked = []; bound = bound }))
+    problem-both = t.is bound _ (λ i. problem_from names bound (pp i) (qq i))
 
     pub over-both : IsOverNames (record { names = names; modules = []; clauses = cs; goal = g; asked = []; bound = bound })
     over-both = record {

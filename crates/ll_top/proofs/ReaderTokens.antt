@@ -1,5 +1,5 @@
 -- Tokens whose names are numbers, as they are read and names are added.
-use Rattle.std.proofs.Common.{◌≡◌, ℕ, zero, suc, ◌+◌, ◌<◌, ◌≤◌, Bool, true, false, not, cond, ltb, List, [], ◌∷◌, ◌++◌, length, map, All, position, Option, Some, None, get_or, refl, ap, sym, subst, ◌∙◌, arith, if◌then◌else◌, append_assoc, length-append}
+use Rattle.std.proofs.Common.{◌≡◌, ℕ, zero, suc, ◌+◌, ◌<◌, ◌≤◌, Bool, true, false, not, cond, ltb, List, [], ◌∷◌, ◌++◌, length, map, All, position, Option, Some, None, get_or, slice_get, drop, refl, ap, sym, subst, ◌∙◌, arith, if◌then◌else◌, append_assoc, length-append}
 use Rattle.std.specs.List.{list_any, position_or_len}
 use Rattle.std.specs.Str.{bytes_eq}
 use Rattle.std.proofs.lemmas.Bool.Decides.{Decides-ltb}
@@ -12,23 +12,30 @@ use Rattle.std.proofs.Math.ListN.{get_or-append}
 use Rattle.ll_bank.specs.Names.{number_of, with_name, with_names}
 use Rattle.ll_top.specs.declared.reader.tokens.Token.{Token as OwnToken}
 use Rattle.ll_top.specs.declared.reader.tokens.Token.TheVariants.{Name, True, Linear, Dot, Comma, ColonDash}
-use Rattle.std.specs.Prelude.{Result, Ok, Err, IsErrAnd}
+use Rattle.std.specs.Prelude.{Result, Ok, Err, IsErrAnd, IfSome}
 use Rattle.ll_top.specs.declared.reader.ReadError.{ReadError}
 use Rattle.ll_top.specs.declared.reader.ReadError.TheVariants.{Unread, OutOfMemory}
-use Rattle.ll_top.specs.Reading.{IsRefusal, IsRead, Token, NameToken, TrueToken, LinearToken, DotToken, CommaToken, ColonDashToken, token_of, both_or_none, tokens_of, tokens_of_pieces, pieces, names_in}
-use Rattle.ll_top.specs.Tokens.{spelled, IsNumbered, IsFirstPiece}
+use Rattle.ll_top.specs.Reading.{IsRefusal, Reads, IsRead, Token, NameToken, TrueToken, LinearToken, DotToken, CommaToken, ColonDashToken, token_of, both_or_none, tokens_in, HasTokens, lexed, names_in}
+use Rattle.ll_lexer.specs.declared.Token.{Token as Lexeme}
+use Rattle.ll_lexer.specs.Reading.{LexedText, IsLexed, bytes_of}
+use Rattle.ll_top.specs.Tokens.{spelled, IsNumbered}
 
 -- ---- refusals
 
-refusal : {A B : Type 0} (asked : Option A) (asked' : Option B) (e : ReadError) → (asked ≡ None → asked' ≡ None) → IsRefusal asked e → IsRefusal asked' e
-refusal asked asked' Unread f h = f h
-refusal asked asked' OutOfMemory f h = tt
+refusal : {A B : Type 0} (Is : Option A → Type 0) (Is' : Option B → Type 0) (e : ReadError) → (Is None → Is' None) → IsRefusal Is e → IsRefusal Is' e
+refusal Is Is' Unread f h = f h
+refusal Is Is' OutOfMemory f h = tt
 
 -- a refusal that is handed on
+pub handed_on : {A B C : Type 0} (shown : C → B) (Is : Option A → Type 0) (Is' : Option B → Type 0) (r : Result C ReadError) (e : ReadError) → IsErrAnd r (λ x. x ≡ e) → (Is None → Is' None)
+    → IsRefusal Is e → Reads shown Is' r
+handed_on shown Is Is' (Err x) e p f h = subst (IsRefusal Is') (sym p) (refusal Is Is' e f h)
+handed_on shown Is Is' (Ok x) e p f h = absurd p
+
+-- the same where both things are known
 pub passed : {A B C : Type 0} (shown : C → B) (asked : Option A) (asked' : Option B) (r : Result C ReadError) (e : ReadError) → IsErrAnd r (λ x. x ≡ e) → (asked ≡ None → asked' ≡ None)
-    → IsRefusal asked e → IsRead shown asked' r
-passed shown asked asked' (Err x) e p f h = subst (IsRefusal asked') (sym p) (refusal asked asked' e f h)
-passed shown asked asked' (Ok x) e p f h = absurd p
+    → IsRefusal (λ o. asked ≡ o) e → IsRead shown asked' r
+passed shown asked asked' r e p f h = handed_on shown (λ o. asked ≡ o) (λ o. asked' ≡ o) r e p f h
 
 -- ---- names with more behind them
 
@@ -148,33 +155,48 @@ names_in-append (DotToken ∷ ts) us = names_in-append ts us
 names_in-append (CommaToken ∷ ts) us = names_in-append ts us
 names_in-append (ColonDashToken ∷ ts) us = names_in-append ts us
 
--- tokens read of a text, of which a rest is left
-pub record IsReadUpTo (old names : List (List ℕ)) (text rest : List ℕ) (ts : List OwnToken) : Type 0 where
-  pub is : tokens_of text ≡ before_all (map (spelled names) ts) (tokens_of rest)
+-- what these tokens of the lexer are, of which those from place i on are left
+pub record IsReadUpTo (old names : List (List ℕ)) (text : List ℕ) (lexemes : List Lexeme) (i : ℕ) (ts : List OwnToken) : Type 0 where
+  pub is : tokens_in text lexemes ≡ before_all (map (spelled names) ts) (tokens_in text (drop i lexemes))
   pub added : names ≡ with_names old (names_in (map (spelled names) ts))
   pub numbered : All (IsNumbered names) ts
-  pub few : length ts + length rest ≤ length text
-  pub room : length names ≤ length old + length ts
+  pub few : length ts ≤ i
+  pub room : length names ≤ length old + i
 
-pub read_none : (names : List (List ℕ)) (text : List ℕ) → IsReadUpTo names names text text []
-read_none names text = record { is = refl; added = refl; numbered = λ k d l. absurd (omega arith); few = omega arith; room = omega arith }
+pub read_none : (names : List (List ℕ)) (text : List ℕ) (lexemes : List Lexeme) → IsReadUpTo names names text lexemes 0 []
+read_none names text lexemes = record { is = refl; added = refl; numbered = λ k d l. absurd (omega arith); few = omega arith; room = omega arith }
 
-module _ (old names : List (List ℕ)) (text rest : List ℕ) (ts : List OwnToken) (r : IsReadUpTo old names text rest ts) where
-  -- all are read where no piece is left
-  pub read_all : pieces rest ≡ [] → tokens_of text ≡ Some (map (spelled names) ts)
-  read_all e = r.is ∙ (ap (λ ps. before_all (map (spelled names) ts) (tokens_of_pieces ps)) e ∙ before_all-some (map (spelled names) ts))
+drop-past : {X : Type 0} (xs : List X) (i : ℕ) → length xs ≤ i → drop i xs ≡ []
+drop-past [] zero h = refl
+drop-past [] (suc i) h = refl
+drop-past (x ∷ xs) zero h = absurd (omega arith)
+drop-past (x ∷ xs) (suc i) h = drop-past xs i (omega arith)
 
-  module _ (piece after : List ℕ) (p : IsFirstPiece rest piece after) where
-    rest_is : tokens_of rest ≡ both_or_none (token_of piece) (tokens_of after)
-    rest_is = ap tokens_of_pieces p.is
+drop-get : {X : Type 0} (xs : List X) (i : ℕ) (x : X) → slice_get xs i ≡ Some x → drop i xs ≡ x ∷ drop (suc i) xs
+drop-get [] i x h = cc
+drop-get (y ∷ ys) zero x h = let e : y ≡ x = cc in ap (λ z. z ∷ ys) e
+drop-get (y ∷ ys) (suc i) x h = drop-get ys i x h
 
-    -- a piece that is no token refuses the text
-    pub read_wrong : token_of piece ≡ None → tokens_of text ≡ None
+module _ (old names : List (List ℕ)) (text : List ℕ) (lexemes : List Lexeme) (i : ℕ) (ts : List OwnToken) (r : IsReadUpTo old names text lexemes i ts) where
+  -- all are read where none is left
+  pub read_all : length lexemes ≤ i → tokens_in text lexemes ≡ Some (map (spelled names) ts)
+  read_all h = r.is ∙ (ap (λ ls. before_all (map (spelled names) ts) (tokens_in text ls)) (drop-past lexemes i h) ∙ before_all-some (map (spelled names) ts))
+
+  module _ (l : Lexeme) (here : slice_get lexemes i ≡ Some l) (w : List ℕ) (word : IfSome (slice_get lexemes i) (λ t. w ≡ bytes_of text t)) where
+    rest_is : tokens_in text (drop i lexemes) ≡ both_or_none (token_of l.kind w) (tokens_in text (drop (suc i) lexemes))
+    rest_is =
+        let same : w ≡ bytes_of text l = subst (λ o. IfSome o (λ t. w ≡ bytes_of text t)) here word in
+        ap (tokens_in text) (drop-get lexemes i l here) ∙ ap (λ v. both_or_none (token_of l.kind v) (tokens_in text (drop (suc i) lexemes))) (sym same)
+
+    -- one that is in no such text refuses the text
+    pub read_wrong : token_of l.kind w ≡ None → tokens_in text lexemes ≡ None
     read_wrong e =
-        r.is ∙ (ap (before_all (map (spelled names) ts)) (rest_is ∙ ap (λ o. both_or_none o (tokens_of after)) e) ∙ before_all-none (map (spelled names) ts))
+        r.is
+        ∙ (ap (before_all (map (spelled names) ts)) (rest_is ∙ ap (λ o. both_or_none o (tokens_in text (drop (suc i) lexemes))) e) ∙ before_all-none (map (spelled names) ts))
 
     -- one more token
-    module _ (new : List (List ℕ)) (t : OwnToken) (e : token_of piece ≡ Some (spelled new t)) (a : new ≡ with_names names (names_in (spelled new t ∷ []))) (n : IsNumbered new t) where
+    module _ (new : List (List ℕ)) (t : OwnToken) (e : token_of l.kind w ≡ Some (spelled new t)) (a : new ≡ with_names names (names_in (spelled new t ∷ [])))
+        (n : IsNumbered new t) where
       grows : Grows names new
       grows = subst (Grows names) (sym a) (with_names-grows names (names_in (spelled new t ∷ [])))
 
@@ -195,19 +217,30 @@ module _ (old names : List (List ℕ)) (text rest : List ℕ) (ts : List OwnToke
           by CommaToken l = omega arith
           by ColonDashToken l = omega arith
 
-      pub read_more : IsReadUpTo old new text after (ts ++ t ∷ [])
-      read_more = record {
-        is = r.is ∙ (ap (before_all (map (spelled names) ts)) (rest_is ∙ ap (λ o. both_or_none o (tokens_of after)) e)
-            ∙ (sym (before_all-append (map (spelled names) ts) (spelled new t ∷ []) (tokens_of after)) ∙ sym (ap (λ us. before_all us (tokens_of after)) spelled_all)));
-        added = a ∙ (ap (λ ns. with_names ns (names_in (spelled new t ∷ []))) r.added
-            ∙ (sym (fold-append with_name old (names_in (map (spelled names) ts)) (names_in (spelled new t ∷ [])))
-            ∙ (ap (with_names old) (sym (names_in-append (map (spelled names) ts) (spelled new t ∷ [])))
-            ∙ sym (ap (λ us. with_names old (names_in us)) spelled_all))));
-        numbered = All-append (IsNumbered new) ts (t ∷ []) (All-numbered-grows names new grows ts r.numbered) (one n);
-        few = (let l = length-append ts (t ∷ []) in let s = p.shorter in let f = r.few in omega arith);
-        room = (let l = length-append ts (t ∷ []) in let s = length-new in let f = r.room in omega arith);
-      }
+      one_numbered : All (IsNumbered new) (t ∷ [])
+      one_numbered zero d l = n
+      one_numbered (suc k) d l = absurd (omega arith)
+
+      pub read_more : IsReadUpTo old new text lexemes (i + 1) (ts ++ t ∷ [])
+      read_more = subst (λ k. IsReadUpTo old new text lexemes k (ts ++ t ∷ [])) (let e : suc i ≡ i + 1 = omega arith in e) next
         where
-          one : IsNumbered new t → All (IsNumbered new) (t ∷ [])
-          one h zero d l = h
-          one h (suc k) d l = absurd (omega arith)
+          next : IsReadUpTo old new text lexemes (suc i) (ts ++ t ∷ [])
+          next = record {
+            is = r.is ∙ (ap (before_all (map (spelled names) ts)) (rest_is ∙ ap (λ o. both_or_none o (tokens_in text (drop (suc i) lexemes))) e)
+                ∙ (sym (before_all-append (map (spelled names) ts) (spelled new t ∷ []) (tokens_in text (drop (suc i) lexemes)))
+                ∙ sym (ap (λ us. before_all us (tokens_in text (drop (suc i) lexemes))) spelled_all)));
+            added = a ∙ (ap (λ ns. with_names ns (names_in (spelled new t ∷ []))) r.added
+                ∙ (sym (fold-append with_name old (names_in (map (spelled names) ts)) (names_in (spelled new t ∷ [])))
+                ∙ (ap (with_names old) (sym (names_in-append (map (spelled names) ts) (spelled new t ∷ [])))
+                ∙ sym (ap (λ us. with_names old (names_in us)) spelled_all))));
+            numbered = All-append (IsNumbered new) ts (t ∷ []) (All-numbered-grows names new grows ts r.numbered) one_numbered;
+            few = (let l = length-append ts (t ∷ []) in let f = r.few in omega arith);
+            room = (let l = length-append ts (t ∷ []) in let s = length-new in let f = r.room in omega arith);
+          }
+
+-- what the tokens of a text without a fault are is what the text has
+pub lexed-read : {A : Type 0} (shown : A → List Token) (text : List ℕ) (l : LexedText) → l.text ≡ text → IsLexed l → (r : Result A ReadError) → IsRead shown (tokens_in l.text l.tokens) r
+    → Reads shown (HasTokens text) r
+lexed-read shown text l e h (Ok x) i = lexed l e h (sym i ∙ ap (λ t. tokens_in t l.tokens) e)
+lexed-read shown text l e h (Err Unread) i = lexed l e h (sym i ∙ ap (λ t. tokens_in t l.tokens) e)
+lexed-read shown text l e h (Err OutOfMemory) i = tt

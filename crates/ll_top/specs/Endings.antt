@@ -9,7 +9,7 @@ use Rattle.ll_top.specs.declared.run.Found.{Found}
 use Rattle.ll_top.specs.declared.run.Found.TheVariants.{Answer, Nothing, Bound}
 use Rattle.ll_top.specs.declared.refusal.Refusal.{Refusal}
 use Rattle.ll_top.specs.declared.refusal.Refusal.TheVariants.{AbsentText, UnreadableText, OversizedText, UnreadText, Unwritable, OutOfMemory}
-use Rattle.ll_top.specs.Outcome.{Task, Missing, Oversized, Unread, Runs, longest_text, task_text}
+use Rattle.ll_top.specs.Outcome.{Task, Missing, Oversized, Runs, IsUnread, longest_text, AppendsOwn}
 
 -- what reading a text gave: the text that was looked up, or a cause why it was not read
 abbrev pub IsLookedUp : Option (List ℕ) → Result (Vec ℕ Global) Refusal → Type 0
@@ -30,11 +30,11 @@ IsOversized task = (name : List ℕ) × (task ≡ Oversized name)
 
 -- what was made of the texts that a task names: its problem, or a cause why there is none
 abbrev pub Prepares : Task → Result ProblemTree Refusal → Type 0
-Prepares task (Ok p) = task ≡ Runs p
+Prepares task (Ok p) = Runs task p
 Prepares task (Err AbsentText) = IsMissing task
 Prepares task (Err UnreadableText) = ⊤
 Prepares task (Err OversizedText) = IsOversized task
-Prepares task (Err UnreadText) = task ≡ Unread
+Prepares task (Err UnreadText) = IsUnread task
 Prepares task (Err Unwritable) = ⊥
 Prepares task (Err OutOfMemory) = ⊤
 
@@ -56,13 +56,13 @@ status_of_refusal OutOfMemory = 10
 -- what was made of a run's words, by its task: how it ended, and what it appended. `read_failed` and `write_failed` say that
 -- the shelf's or the sink's count of faults rose.
 abbrev pub Ends : Task → Type 0 → Type 0 → Option (List ℕ) → Option (List ℕ) → Result Found Refusal → Type 0
-Ends task read_failed write_failed before after (Ok found) = (p : ProblemTree) × (task ≡ Runs p) × (status_of_found found ≡ run_status p) × (after ≡ append_known before (run_text p))
+Ends task read_failed write_failed before after (Ok found) = (p : ProblemTree) × Runs task p × (status_of_found found ≡ run_status p) × (after ≡ append_known before (run_text p))
 Ends task read_failed write_failed before after (Err AbsentText) = IsMissing task × (after ≡ before)
 Ends task read_failed write_failed before after (Err UnreadableText) = read_failed × (after ≡ before)
 Ends task read_failed write_failed before after (Err OversizedText) = IsOversized task × (after ≡ before)
-Ends task read_failed write_failed before after (Err UnreadText) = (task ≡ Unread) × (after ≡ before)
-Ends task read_failed write_failed before after (Err Unwritable) = (p : ProblemTree) × (task ≡ Runs p) × write_failed × AppendsFront before (run_text p) after
-Ends task read_failed write_failed before after (Err OutOfMemory) = AppendsFront before (task_text task) after
+Ends task read_failed write_failed before after (Err UnreadText) = IsUnread task × (after ≡ before)
+Ends task read_failed write_failed before after (Err Unwritable) = (p : ProblemTree) × Runs task p × write_failed × AppendsFront before (run_text p) after
+Ends task read_failed write_failed before after (Err OutOfMemory) = AppendsOwn task before after
 
 -- why texts are not read or ask no problem: the cause of each refusal, by the shelf's counts
 abbrev pub IsReadRefusal : Type 0 → Type 0 → Refusal → Type 0

@@ -4,9 +4,12 @@
 --   query   = goal [ "." ]
 --   goal    = item { "," item }
 --   item    = "true" | Name
-use Rattle.std.specs.Prelude.{◌≡◌, ℕ, Bool, true, false, ◌&&◌, ◌||◌, not, List, [], ◌∷◌, length, nat_eq, nat_le, Option, Some, None, Result, Ok, Err, if◌then◌else◌, codes, option_map, unwrap_or}
-use Rattle.std.specs.Str.{bytes_eq}
-use Rattle.std.specs.List.{list_any}
+use Rattle.std.specs.Prelude.{◌≡◌, ℕ, List, [], ◌∷◌, Option, Some, None, Result, Ok, Err, option_map, unwrap_or}
+use Rattle.ll_lexer.specs.declared.Fault.{Fault}
+use Rattle.ll_lexer.specs.declared.Token.{Token as Lexeme}
+use Rattle.ll_lexer.specs.declared.TokenKind.{TokenKind}
+use Rattle.ll_lexer.specs.declared.TokenKind.TheVariants as kind
+use Rattle.ll_lexer.specs.Reading.{LexedText, IsLexed, HasFault, bytes_of}
 use Rattle.ll_bank.specs.declared.Head.TheVariants.{Name as NameHead}
 use Rattle.ll_bank.specs.Term.{Con}
 use Rattle.ll_bank.specs.Form.{Form, One, Atom, Tensor, Lolli}
@@ -14,40 +17,8 @@ use Rattle.ll_laws.specs.declared.Kind.TheVariants.{Linear, Unbounded}
 use Rattle.ll_laws.specs.Module.{ClauseTree}
 use Rattle.ll_laws.specs.Problem.{ProblemTree}
 use Rattle.ll_bank.specs.Names.{number_of, with_names}
-use Rattle.std.specs.Char.{is_ascii_digit}
 use Rattle.ll_top.specs.declared.reader.ReadError.{ReadError}
 use Rattle.ll_top.specs.declared.reader.ReadError.TheVariants.{Unread, OutOfMemory}
-
--- space, tab, CR and LF
-abbrev pub is_blank : ℕ → Bool
-is_blank b = nat_eq b 32 || nat_eq b 9 || nat_eq b 13 || nat_eq b 10
-
--- a lower-case ASCII letter
-abbrev pub is_lower : ℕ → Bool
-is_lower b = nat_le 97 b && nat_le b 122
-
--- a byte of a name: an ASCII letter, a digit, or `_`
-abbrev pub is_name_byte : ℕ → Bool
-is_name_byte b = is_lower b || (nat_le 65 b && nat_le b 90) || is_ascii_digit b || nat_eq b 95
-
--- a text begins with a byte that passes a test
-abbrev pub begins_with : (ℕ → Bool) → List ℕ → Bool
-begins_with test [] = false
-begins_with test (b ∷ bs) = test b
-
--- a byte before the first piece, or as a piece of its own
-abbrev pub glue : Bool → ℕ → List (List ℕ) → List (List ℕ)
-glue true b (p ∷ ps) = (b ∷ p) ∷ ps
-glue _ b ps = (b ∷ []) ∷ ps
-
--- a byte belongs to the piece that begins right after it: both are of names, or they are the two of `:-`
-abbrev pub goes_on : ℕ → List ℕ → Bool
-goes_on b bs = (is_name_byte b && begins_with is_name_byte bs) || (nat_eq b 58 && begins_with (nat_eq 45) bs)
-
--- the pieces of a text between blanks: the longest runs of bytes of names, `:-`, and each other byte alone
-abbrev pub pieces : List ℕ → List (List ℕ)
-pieces [] = []
-pieces (b ∷ bs) = if is_blank b then pieces bs else glue (goes_on b bs) b (pieces bs)
 
 -- a token
 pub data Token : Type 0 where
@@ -58,38 +29,30 @@ pub data Token : Type 0 where
   CommaToken : Token
   ColonDashToken : Token
 
--- the words that are no names though they begin with a lower-case letter
-abbrev pub is_keyword : List ℕ → Bool
-is_keyword w = list_any (bytes_eq w) (codes "true" ∷ codes "erase" ∷ codes "forall" ∷ codes "exists" ∷ [])
-
--- a name: a lower-case letter, then bytes of names, at most 255 bytes in all, and no keyword
-abbrev pub is_name : List ℕ → Bool
-is_name w = begins_with is_lower w && nat_le (length w) 255 && not (is_keyword w)
-
--- the token that a piece spells
-abbrev pub token_of : List ℕ → Option Token
-token_of w =
-    if bytes_eq w (codes "true") then Some TrueToken
-    else if bytes_eq w (codes "LINEAR") then Some LinearToken
-    else if bytes_eq w (codes ".") then Some DotToken
-    else if bytes_eq w (codes ",") then Some CommaToken
-    else if bytes_eq w (codes ":-") then Some ColonDashToken
-    else if is_name w then Some (NameToken w)
-    else None
+-- what a token of the lexer is here, by its kind and its bytes: most are in no such text
+abbrev pub token_of : TokenKind → List ℕ → Option Token
+token_of kind.Name w = Some (NameToken w)
+token_of kind.True w = Some TrueToken
+token_of kind.Linear w = Some LinearToken
+token_of kind.Dot w = Some DotToken
+token_of kind.Comma w = Some CommaToken
+token_of kind.ColonDash w = Some ColonDashToken
+token_of _ w = None
 
 -- an item before a list, if there are both
 abbrev pub both_or_none : {A : Type 0} → Option A → Option (List A) → Option (List A)
 both_or_none (Some x) (Some xs) = Some (x ∷ xs)
 both_or_none _ _ = None
 
--- the tokens that pieces spell
-abbrev pub tokens_of_pieces : List (List ℕ) → Option (List Token)
-tokens_of_pieces [] = Some []
-tokens_of_pieces (w ∷ ws) = both_or_none (token_of w) (tokens_of_pieces ws)
+-- what tokens of the lexer are in a text: none where one of them is in no such text
+abbrev pub tokens_in : List ℕ → List Lexeme → Option (List Token)
+tokens_in text [] = Some []
+tokens_in text (t ∷ ts) = both_or_none (token_of t.kind (bytes_of text t)) (tokens_in text ts)
 
--- the tokens of a text
-abbrev pub tokens_of : List ℕ → Option (List Token)
-tokens_of text = tokens_of_pieces (pieces text)
+-- the tokens of a text: none where it has a fault, or a token that is in no such text
+pub data HasTokens (text : List ℕ) (tokens : Option (List Token)) : Type 0 where
+  lexed : (l : LexedText) → l.text ≡ text → IsLexed l → tokens ≡ tokens_in text l.tokens → HasTokens text tokens
+  faulty : (f : Fault) → HasFault text f → tokens ≡ None → HasTokens text tokens
 
 -- the names in tokens, in order, as often as they stand there
 abbrev pub names_in : List Token → List (List ℕ)
@@ -178,19 +141,21 @@ problem_of_tokens bound (Some program) (Some query) =
 problem_of_tokens bound _ _ = None
 
 -- the problem that a program text and a query text ask with a bound: none where one of them is no such text
-abbrev pub problem_of : List ℕ → List ℕ → ℕ → Option ProblemTree
-problem_of program query bound = problem_of_tokens bound (tokens_of program) (tokens_of query)
+pub data Asks (program query : List ℕ) (bound : ℕ) (asked : Option ProblemTree) : Type 0 where
+  both : (ps qs : Option (List Token)) → HasTokens program ps → HasTokens query qs → asked ≡ problem_of_tokens bound ps qs → Asks program query bound asked
+  no_program : HasTokens program None → asked ≡ None → Asks program query bound asked
+  no_query : HasTokens query None → asked ≡ None → Asks program query bound asked
 
 -- a refusal as no text says that there is nothing; want of memory says nothing
-abbrev pub IsRefusal : {A : Type 0} → Option A → ReadError → Type 0
-IsRefusal asked Unread = asked ≡ None
-IsRefusal asked OutOfMemory = Unit {0}
+abbrev pub IsRefusal : {A : Type 0} → (Option A → Type 0) → ReadError → Type 0
+IsRefusal Is Unread = Is None
+IsRefusal Is OutOfMemory = Unit {0}
 
--- what was read shows what there is, and a refusal is one of it
+-- `Is` says what there is to be read: what was read shows it, and a refusal is one of it
+abbrev pub Reads : {A B : Type 0} → (B → A) → (Option A → Type 0) → Result B ReadError → Type 0
+Reads shown Is (Ok x) = Is (Some (shown x))
+Reads shown Is (Err e) = IsRefusal Is e
+
+-- the same of one thing that is known
 abbrev pub IsRead : {A B : Type 0} → (B → A) → Option A → Result B ReadError → Type 0
-IsRead shown asked (Ok x) = asked ≡ Some (shown x)
-IsRead shown asked (Err e) = IsRefusal asked e
-
--- the problem that was read is the one that two texts ask
-abbrev pub IsReading : Option ProblemTree → Result ProblemTree ReadError → Type 0
-IsReading asked result = IsRead (λ p. p) asked result
+IsRead shown asked result = Reads shown (λ o. asked ≡ o) result

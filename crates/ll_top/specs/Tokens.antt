@@ -1,24 +1,10 @@
 -- The reader's own tokens, whose names are numbers, and how they show the tokens of a text.
-use Rattle.std.specs.Prelude.{◌≡◌, ℕ, ◌+◌, ◌<◌, Bool, true, false, not, List, [], ◌∷◌, length, map, slice_index_or, nat_eq, position, unwrap_or, Option, Some, None, if◌then◌else◌, codes}
-use Rattle.std.specs.List.{list_all, starts_with}
+use Rattle.std.specs.Prelude.{◌≡◌, ℕ, ◌+◌, ◌<◌, Bool, true, false, List, [], ◌∷◌, length, map, slice_index_or, Option, Some, None}
 use Rattle.ll_bank.specs.Form.{Form}
 use Rattle.ll_bank.specs.Names.{number_of}
 use Rattle.ll_top.specs.declared.reader.tokens.Token.{Token as OwnToken}
 use Rattle.ll_top.specs.declared.reader.tokens.Token.TheVariants.{Name, True, Linear, Dot, Comma, ColonDash}
-use Rattle.ll_top.specs.Reading.{Token, NameToken, TrueToken, LinearToken, DotToken, CommaToken, ColonDashToken, is_name_byte, begins_with, pieces, item_of, tensor_of, at_dots}
-
--- a text's first piece and what stands after it; a piece that begins with a byte of names has no other bytes
-pub record IsFirstPiece (text piece after : List ℕ) : Type 0 where
-  pub is : pieces text ≡ piece ∷ pieces after
-  pub whole : begins_with is_name_byte piece ≡ true → list_all is_name_byte piece ≡ true
-  pub shorter : length after < length text
-
--- the length of the first piece of a text that begins with no blank
-abbrev pub piece_len_of : List ℕ → ℕ
-piece_len_of text =
-    if begins_with is_name_byte text then unwrap_or (position (λ b. not (is_name_byte b)) text) (length text)
-    else if starts_with nat_eq text (codes ":-") then 2
-    else 1
+use Rattle.ll_top.specs.Reading.{Token, NameToken, TrueToken, LinearToken, DotToken, CommaToken, ColonDashToken, item_of, tensor_of, at_dots}
 
 -- a token with the text that has its number among names
 abbrev pub spelled : List (List ℕ) → OwnToken → Token

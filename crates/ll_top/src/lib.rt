@@ -9,14 +9,17 @@ mod refusal;
 mod run;
 mod words;
 
-ghost use Rattle.std.specs.Prelude.{◌≡◌, ◌≤◌, ◌↔◌, None, Some, true};
+ghost use Rattle.std.specs.Prelude.{◌≡◌, ◌≤◌, ◌↔◌, ℕ, List, Option, None, Some, true};
 ghost use Rattle.ll_edge.specs.Counts.{Rose};
 ghost use Rattle.ll_edge.specs.Texts.{Texts};
+ghost use Rattle.ll_laws.specs.Problem.{ProblemTree};
 ghost use Rattle.ll_top.specs.Words.{run_words, shown_words};
+ghost use Rattle.ll_top.specs.Reading.{Asks};
 ghost use Rattle.ll_top.specs.Outcome.{word_texts, run_task, task_of, is_silent, Outcome};
 ghost use Rattle.ll_top.specs.Endings.{status_of_found, status_of_refusal, Ends, HasCause};
 
 use ll_edge::{Gate, Shelf, Sink};
+use ll_lexer::one_reading;
 use prepare::prepare;
 use refusal::Refusal;
 use run::{Found, run};
@@ -66,6 +69,14 @@ pub fn lolli<R: Threads + Wait + Sync, F: Shelf, O: Sink, G: Gate>(
             Err(refusal) => refusal_status(refusal),
         },
     }
+}
+
+/// Two texts and a bound ask one thing: one problem, or none.
+pub fn one_problem()
+    ensures { (program query : List ℕ) (bound : ℕ) (one other : Option ProblemTree)
+        → Asks program query bound one → Asks program query bound other → one ≡ other }
+{
+    one_reading();
 }
 
 // Runs a command.

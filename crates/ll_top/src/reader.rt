@@ -1,8 +1,8 @@
-//! The problem that a program text and a query text ask, read by hand.
+//! The problem that a program text and a query text ask.
 ghost use Rattle.std.specs.Prelude.{◌≡◌, ◌≤◌, length, IfOk};
 ghost use Rattle.ll_laws.specs.Valid.{IsValid};
 ghost use Rattle.ll_top.specs.First.{IsFirst};
-ghost use Rattle.ll_top.specs.Reading.{problem_of, IsReading};
+ghost use Rattle.ll_top.specs.Reading.{Asks, Reads};
 
 mod grammar;
 #[cfg(test)]
@@ -52,7 +52,7 @@ pub fn read_problem(
     requires program { length program.now ≤ 16777216 }
     requires query { length query.now ≤ 16777216 }
     requires bound { bound ≤ 1000000 }
-    ensures problem { IsReading (problem_of program.now query.now bound) result }
+    ensures problem { Reads (λ p. p) (Asks program.now query.now bound) result }
     ensures valid { IfOk result IsValid }
     ensures first { IfOk result IsFirst }
 {

@@ -62,6 +62,14 @@ fn problems_are_run(rt: HostRuntime) -> Result<(), Fail> {
             "answers 1, bound reached 0, inferences 3\n",
         ),
         (
+            "% two\nLINEAR a. % one\r\nLINEAR b.",
+            "a %, a\n, b % end",
+            "3",
+            0,
+            one,
+            "answers 1, bound reached 0, inferences 3\n",
+        ),
+        (
             "LINEAR a. LINEAR b.",
             "a , b",
             "2",

@@ -1,18 +1,12 @@
-use Rattle.std.proofs.Common.{sym, subst}
-use Rattle.ll_top.proofs.ReaderTokens.{IsReadUpTo, read_all, read_wrong, read_more, passed}
+use Rattle.std.proofs.Common.{refl, subst}
+use Rattle.ll_top.proofs.ReaderTokens.{lexed-read}
+use Rattle.ll_lexer.specs.Reading.{IsCause}
+use Rattle.ll_top.specs.Reading.{faulty}
 use Rattle.ll_top.proofs.reader.tokens.read_tokens.Goals as goal
 
-pub returns-in_err-token-clause-read : goal.returns-in_err-token-clause-read
-returns-in_err-token-clause-read c =
-    passed _ _ _ _ _ c.from_residual.ensures.1 (read_wrong c.args.names.now c.loop-piece.names c.args.text.now c.loop-piece.rest.now c.loop-piece.tokens.items c.loop-piece.invariant
-    c.in-Some.piece.now c.in-Some.after.now c.in-Some.ensures) c.in_err-token.ensures.read
+pub returns-in-Ok-clause-read : goal.returns-in-Ok-clause-read
+returns-in-Ok-clause-read c = lexed-read _ c.args.text.now c.in-Ok.lexemes c.in-Ok.ensures.ok.0 c.in-Ok.ensures.ok.1 _ c.known_tokens.ensures.read
 
-pub loop-piece-preserved : goal.loop-piece-preserved
-loop-piece-preserved c =
-    subst (IsReadUpTo c.args.names.now c.read_token.new.names c.args.text.now c.in-Some.after.now) (sym c.in_ok-push.ensures.items)
-    (read_more c.args.names.now c.loop-piece.names c.args.text.now c.loop-piece.rest.now c.loop-piece.tokens.items c.loop-piece.invariant c.in-Some.piece.now c.in-Some.after.now
-    c.in-Some.ensures c.read_token.new.names c.in_ok-token.token c.in_ok-token.ensures.read c.in_ok-token.ensures.names c.in_ok-token.ensures.numbered)
-
-pub returns-clause-read : goal.returns-clause-read
-returns-clause-read c =
-    read_all c.args.names.now c.loop-piece.names c.args.text.now c.loop-piece.rest.now c.loop-piece.tokens.items c.loop-piece.invariant c.in_default.ensures
+pub returns-in-Err-Text-clause-read : goal.returns-in-Err-Text-clause-read
+returns-in-Err-Text-clause-read c =
+    faulty c.in-Err-Text.field-0-0 (subst (IsCause c.args.text.now) c.in-Err-Text.field-0-is c.in-Err-Text.ensures.err) refl

@@ -21,7 +21,7 @@ vars_from n zero = []
 vars_from n (suc k) = Var n ∷ vars_from (suc n) k
 
 -- the entry with this label
-abbrev pub entry_at : List (Entry Form) → ℕ → Option (Entry Form)
+abbrev pub entry_at : {C : Type 0} → List (Entry C) → ℕ → Option (Entry C)
 entry_at [] label = None
 entry_at (e ∷ es) label = if nat_eq e.label label then Some e else entry_at es label
 
@@ -31,7 +31,7 @@ is_linear Linear = true
 is_linear Unbounded = false
 
 -- an entry that may be picked: an unbounded one, or a linear one that is live
-abbrev pub is_open : Entry Form → Bool
+abbrev pub is_open : {C : Type 0} → Entry C → Bool
 is_open e = not (is_linear e.kind) || e.live
 
 -- the head of a clause's leaf with n quantifiers on its way, opened with any variables
@@ -77,7 +77,7 @@ abbrev pub saved_of : State → Saved
 saved_of s = record { live = marks s.context; flag = s.flag }
 
 -- a context in which the entry with this label has lost its live mark
-abbrev pub picked : ℕ → List (Entry Form) → List (Entry Form)
+abbrev pub picked : {C : Type 0} → ℕ → List (Entry C) → List (Entry C)
 picked label [] = []
 picked label (e ∷ es) = if nat_eq e.label label then unlive e ∷ es else e ∷ picked label es
 

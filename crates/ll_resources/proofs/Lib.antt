@@ -1,0 +1,4 @@
+pub mod JournalLemmas
+pub mod MarkLemmas
+pub mod EntryLemmas
+pub mod FitLemmas

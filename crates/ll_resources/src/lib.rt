@@ -1,0 +1,43 @@
+//! The resources of a linear logic search: a context of clauses with live marks, and how leftovers are handed on.
+//!
+//! Leftovers are passed on lazily, after the input and output contexts of Hodas and Miller 1994. A [`Context`] is seen by
+//! contracts as its entries with the newest in front, a flag that says that an `erase` may still take what is left, the next
+//! label, and the live marks and flags that it has kept. The goals that are proved in it, and their ends, are no part of it.
+#![tactic(auto)]
+
+ghost use Rattle.std.specs.Prelude.{◌≡◌};
+ghost use Rattle.ll_resources.specs.Resources.{new_entry};
+ghost use Rattle.ll_resources.specs.Seen.{resource};
+
+mod context;
+mod journal;
+mod marks;
+#[cfg(test)]
+mod tests;
+
+pub use context::{Context, ContextMark, Saved};
+use ll_laws::Kind;
+
+/// A clause in a context, with its label. Only a linear one can be live.
+#[derive(Clone, Copy, Debug, PartialEq, Eq)]
+pub struct Entry<C> {
+    pub label: u32,
+    pub kind: Kind,
+    /// It is still to be used.
+    pub live: bool,
+    pub clause: C,
+}
+
+impl<C> Entry<C> {
+    /// A clause as it comes into a context.
+    fn new(label: u32, kind: Kind, clause: C) -> Self
+        ensures { resource result ≡ new_entry label kind clause }
+    {
+        Entry {
+            label,
+            kind,
+            live: kind == Kind::Linear,
+            clause,
+        }
+    }
+}

@@ -47,6 +47,19 @@ module _ {T : Type 0} where
   Extends-append old more new e =
       subst (Extends old) (sym e) (record { more = more; frames = refl; same_items = items_at-append old more })
 
+  -- an agenda extends what is left of it
+  pub Extends-cut : (len : ℕ) (frames left old : Frames T) → left ≡ take len frames → frames ≡ old → Extends left old
+  Extends-cut len frames left old e view =
+      Extends-append left (drop len frames) old (sym view ∙ (sym (take-append-drop len frames) ∙ ap (λ fs. fs ++ drop len frames) (sym e)))
+
+  -- a top of an agenda that was later cut at no fewer frames is one of what is left, with its list
+  pub ShowsItems-cut : {first old left : Frames T} {top : Top} → HasTop first top → Extends first old → Extends left old → length first ≤ length left
+      → ShowsItems left top (items_at first top)
+  ShowsItems-cut {first} {old} {left} {top} h e cut l = record {
+    inside = omega arith;
+    list = sym (cut.same_items top (let i : HasTop left top = omega arith in i)) ∙ e.same_items top h;
+  }
+
   module _ {old new : Frames T} (e : Extends old new) where
     -- a top stays one
     pub HasTop-extends : (top : Top) → HasTop old top → HasTop new top
@@ -109,4 +122,4 @@ module _ {T : Type 0} where
   items_at-first f e = let q = f.list in cc
 
 -- for callers whose agenda grows
-pub ruleset agenda_laws = (HasTop-extends, items_at-extends, ShowsItems-extends, Extends-trans)
+pub ruleset agenda_laws = (HasTop-extends, items_at-extends, ShowsItems-extends, Extends-trans, ShowsItems-cut)

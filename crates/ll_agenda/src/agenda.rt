@@ -1,5 +1,5 @@
 //! The frames of an agenda, and the lists that its tops show.
-ghost use Rattle.std.specs.Prelude.{◌≡◌, ◌+◌, ◌↔◌, [], ◌∷◌, length, IsNone, IfSome, IfOk, OnOk, OnErr};
+ghost use Rattle.std.specs.Prelude.{◌≡◌, ◌+◌, ◌≤◌, ◌↔◌, [], ◌∷◌, length, IsNone, IfSome, IfOk, OnOk, OnErr};
 ghost use Rattle.ll_agenda.specs.Frames.{Frames, items_at, HasTop, ShowsItems, Extends, BeginsWith};
 
 use ll_bank::OutOfMemory;
@@ -73,6 +73,17 @@ impl<T: Copy> Agenda<T> {
     {
         self.frames.push((item, rest))?;
         Ok(Top { place: self.len() })
+    }
+
+    /// Lets go of all frames but the first `len`: the tops that were made before there were more keep their lists.
+    ///
+    /// It takes no memory.
+    pub fn cut(&mut self, len: usize)
+        requires { len ≤ length self.old }
+        ensures left { length self.new ≡ len }
+        ensures keeps { Extends self.new self.old }
+    {
+        self.frames.truncate(len);
     }
 
     /// The first item of a list, and the top of the list behind it. `None` exactly for the empty list.

@@ -52,3 +52,26 @@ fn images_one_list(rt: HostRuntime) -> Result<(), Fail> {
     assert!(rt; image.item(copy).is_none());
     Ok(())
 }
+
+#[test]
+fn cuts_frames(rt: HostRuntime) -> Result<(), Fail> {
+    let mut agenda = Agenda::new(rt.alloc());
+    let none = Agenda::<u32>::none();
+    let shared = agenda.push(3, none)?;
+    let left = agenda.push(1, shared)?;
+    let len = agenda.len();
+    agenda.push(2, shared)?;
+    agenda.push(4, left)?;
+    assert!(rt; len <= agenda.len());
+    agenda.cut(len);
+    assert_eq!(rt; agenda.len(), 2);
+    assert_items(&rt, &agenda, left, &[1, 3]);
+    assert_items(&rt, &agenda, shared, &[3]);
+    let right = agenda.push(5, shared)?;
+    assert_items(&rt, &agenda, right, &[5, 3]);
+    assert_items(&rt, &agenda, left, &[1, 3]);
+    agenda.cut(0);
+    assert_eq!(rt; agenda.len(), 0);
+    assert_items(&rt, &agenda, none, &[]);
+    Ok(())
+}

@@ -1,3 +1,5 @@
 pub mod Resources
-pub mod Journal
+pub mod History
+pub mod Saves
+pub mod Changes
 pub mod Seen

@@ -1,10 +1,9 @@
 -- A context as contracts see it, and what each of its calls makes of it.
 -- Leftovers are handed on lazily, after the input and output contexts of Hodas and Miller 1994.
-use Rattle.std.specs.Prelude.{ℕ, suc, Bool, true, false, ◌≡◌, ◌<◌, ◌≤◌, List, [], ◌∷◌, ◌++◌, length, map, slice_index_or, take, Option, Some, None, if◌then◌else◌, option_map}
+use Rattle.std.specs.Prelude.{ℕ, suc, Bool, true, false, ◌≡◌, ◌<◌, ◌≤◌, List, [], ◌∷◌, ◌++◌, length, map, slice_index_or, Option, Some, None, if◌then◌else◌, option_map}
 use Rattle.ll_laws.specs.declared.Kind.{Kind}
 use Rattle.ll_laws.specs.Settle.{Entry, Saved, Item, Goal, WithMiddle, LolliEnd, ImpEnd, WithEnd, BangEnd, Front, marks, remark, unlive, settle_front}
 use Rattle.ll_resources.specs.declared.context.Saved.{Saved as Handle}
-use Rattle.ll_resources.specs.declared.context.ContextMark.{ContextMark}
 use Rattle.ll_laws.specs.Attempt.{is_linear, is_open, entry_at, picked}
 
 -- a context as contracts see it, with what it has kept
@@ -80,14 +79,6 @@ KeepsSaved count r s = (h : Handle) → h.number < count → saved_at s.kept h �
 abbrev pub after_with_mid : {C : Type 0} → Handle → Resources C → Resources C
 after_with_mid saved r = record (after_save r) { entries = remark r.entries (saved_at r.kept saved).live }
 
--- the context has this mark: it has kept at least as much
-abbrev pub HasMark : {C : Type 0} → ContextMark → Resources C → Type 0
-HasMark mark r = mark.kept ≤ length r.kept
-
--- a copy of a context, with what it had kept at a mark
-abbrev pub image_at : {C : Type 0} → ContextMark → Resources C → Resources C
-image_at mark r = record r { kept = take mark.kept r.kept }
-
 -- an end in front of an agenda. What goals are made of plays no part in it.
 abbrev pub End : Type 0
 End = Item (Unit {0})
@@ -117,8 +108,3 @@ abbrev pub SettlesMiddle : {C : Type 0} → Saved → Saved → Resources C → 
 SettlesMiddle saved half old new =
     settle_front (WithMiddle saved ∷ Goal (tt {0}) ∷ WithEnd saved saved ∷ []) old.entries old.flag
     ≡ Some (record { agenda = Goal (tt {0}) ∷ WithEnd saved half ∷ []; context = new.entries; flag = new.flag })
-
--- an end is worked off exactly where the answer is true; where it is false the context is as before
-abbrev pub Settles : {C : Type 0} → End → Resources C → Resources C → Bool → Type 0
-Settles end old new true = settled end old ≡ Some new
-Settles end old new false = (settled end old ≡ None) × (new ≡ old)

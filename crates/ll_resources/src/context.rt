@@ -1,39 +1,41 @@
 //! Contexts, and what each call makes of one.
 ghost use Rattle.std.specs.Prelude.{◌≡◌, ◌<◌, ◌≤◌, ◌^◌, Some, length, slice_get, IfOk, OnOk, OnErr};
-ghost use Rattle.ll_resources.specs.Resources.{saved_as, saved_at, saved_now, KeepsSaved, SettlesMiddle, HasMark, started, after_load, CanPick, after_pick, after_erase, load_end, Settles, after_save, after_bang, Fits, settled, bang_end, after_with_mid, with_end, image_at};
+ghost use Rattle.ll_resources.specs.Resources.{saved_as, saved_at, saved_now, KeepsSaved, SettlesMiddle, started, after_load, CanPick, after_pick, after_erase, load_end, after_save, after_bang, Fits, settled, bang_end, after_with_mid, with_end};
+ghost use Rattle.ll_resources.specs.History.{begun, HasMark, state_at, KeepsMarks, KeepsMarksTo, IsLastMark, Settles};
 ghost use Rattle.ll_resources.specs.Seen.{resource};
 
 use crate::Entry;
-use crate::journal::Journal;
-use crate::marks::{clear_mark, clear_marks, join_marks, live_marks, set_marks};
+use crate::saves::Saves;
+use crate::state::{Change, State};
 use ll_bank::OutOfMemory;
 use ll_laws::Kind;
 use std::alloc::Global;
 use std::collections::VecDeque;
 use std::marker::Model;
 
-/// The resources that a goal may use. Contracts see the entries, the newest in front, the flag, the next label, and the live marks
-/// and flags that were kept so far.
+/// The resources that a goal may use. Contracts see the context as it stands, which is the entries, the newest in front, the
+/// flag, the next label, and the live marks and flags that were kept so far; and the states from which it came, which its marks
+/// stand for.
 ///
-/// What was kept stays: a [`Saved`] means the same after every later call. After `OutOfMemory` a context is as before. Each call
-/// takes time linear in the number of entries at most, and `image` also in all that was kept.
+/// Each good mark stays good, with its state, after every call but `undo`, and a [`Saved`] means the same for as long as it is
+/// kept. After `OutOfMemory` a context is as before.
 #[derive(Drop)]
 pub struct Context<C: Copy> {
-    entries: VecDeque<Entry<C>>,
-    flag: bool,
-    next: usize,
-    journal: Journal,
+    state: State<C>,
+    // All since the context was made.
+    changes: Vec<Change<C>>,
 }
 
 impl<C: Copy> Model for Context<C> {
-    ghost use Rattle.std.specs.Prelude.{map};
-    ghost use Rattle.ll_resources.specs.Resources.{Resources};
+    ghost use Rattle.ll_resources.specs.History.{History};
 
-    ghost Value = { Resources C };
+    ghost Value = { History C };
 
-    ghost use Rattle.ll_resources.specs.Seen.{resource};
+    ghost use Rattle.ll_resources.specs.Changes.{history, shown, room, HasRoom};
 
-    ghost view = { λ a. record { entries = map resource a.entries.items; flag = a.flag; next = a.next; kept = a.journal } };
+    ghost view = { λ a. history a.changes.items (shown a.state) };
+
+    ghost invariant = { λ a. HasRoom a.changes.items (shown a.state) (room a.state) };
 }
 
 /// The live marks and the flag that a context has kept. Contracts see their place among all that it has kept.
@@ -42,202 +44,223 @@ pub struct Saved {
     number: usize,
 }
 
-/// A state of a context, for [`Context::image`]. Contracts see how much the context had kept.
+/// A state of a context, for [`Context::undo`] and [`Context::image`]. Contracts see after how many changes it was.
 #[derive(Clone, Copy, Debug, PartialEq, Eq)]
 pub struct ContextMark {
-    kept: usize,
+    changes: usize,
 }
 
 impl<C: Copy> Context<C> {
     /// The context in which a search over these clauses starts: the first in front, with its place as label. Linear ones are live.
     pub fn start(alloc: Global, clauses: &[(Kind, C)]) -> Result<Context<C>, OutOfMemory>
         requires { length clauses.now ≤ 2 ^ 32 }
-        ensures { IfOk result (λ context. context ≡ started clauses.now) }
+        ensures { IfOk result (λ context. context ≡ begun (started clauses.now)) }
     {
         let mut entries = VecDeque::new(alloc);
         for (i, (kind, clause)) in clauses.iter().enumerate() {
             entries.push_back(Entry::new(i as u32, *kind, *clause))?;
         }
-        Ok(Context {
+        let state = State {
             entries,
             flag: false,
             next: clauses.len(),
-            journal: Journal::new(alloc),
+            saves: Saves::new(alloc),
+        };
+        Ok(Context {
+            state,
+            changes: Vec::new(alloc),
         })
     }
 
     /// The number of entries.
     pub fn len(&self) -> usize
-        ensures { result ≡ length self.now.entries }
+        ensures { result ≡ length self.now.present.entries }
     {
-        self.entries.len()
+        self.state.entries.len()
     }
 
     /// An entry by its place, the newest being 0.
     pub fn entry(&self, from_front: usize) -> Entry<C>
-        requires { from_front < length self.now.entries }
-        ensures { slice_get self.now.entries from_front ≡ Some (resource result) }
+        requires { from_front < length self.now.present.entries }
+        ensures { slice_get self.now.present.entries from_front ≡ Some (resource result) }
     {
-        self.entries[from_front]
+        self.state.entries[from_front]
     }
 
     /// Whether an `erase` may still take what is left.
     pub fn flag(&self) -> bool
-        ensures { result ≡ self.now.flag }
+        ensures { result ≡ self.now.present.flag }
     {
-        self.flag
+        self.state.flag
     }
 
     /// Loads a clause in front. The answer is its label. A linear one clears the flag.
     pub fn load(&mut self, kind: Kind, clause: C) -> Result<u32, OutOfMemory>
-        requires { self.old.next < 2 ^ 32 }
-        ensures label { IfOk result (λ label. label ≡ self.old.next) }
-        ensures loaded { OnOk result (self.new ≡ after_load kind clause self.old) }
+        requires { self.old.present.next < 2 ^ 32 }
+        ensures label { IfOk result (λ label. label ≡ self.old.present.next) }
+        ensures loaded { OnOk result (self.new.present ≡ after_load kind clause self.old.present) }
+        ensures marks { KeepsMarks self.old self.new }
         ensures refused { OnErr result (self.new ≡ self.old) }
     {
-        let label = self.next as u32;
-        self.entries.push_front(Entry::new(label, kind, clause))?;
-        self.next += 1;
-        if kind == Kind::Linear {
-            self.flag = false;
-        }
+        self.changes.reserve(1)?;
+        let label = self.state.next as u32;
+        let change = self.state.load(kind, clause)?;
+        self.changes.push_reserved(change);
         Ok(label)
     }
 
     /// Uses the entry with this label, which is unbounded or live: a linear one loses its live mark.
     pub fn pick(&mut self, label: u32) -> Result<(), OutOfMemory>
-        requires { CanPick label self.old }
-        ensures picked { OnOk result (self.new ≡ after_pick label self.old) }
+        requires { CanPick label self.old.present }
+        ensures picked { OnOk result (self.new.present ≡ after_pick label self.old.present) }
+        ensures marks { KeepsMarks self.old self.new }
         ensures refused { OnErr result (self.new ≡ self.old) }
     {
-        clear_mark(&mut self.entries, label);
+        self.changes.reserve(1)?;
+        let change = self.state.pick(label);
+        self.changes.push_reserved(change);
         Ok(())
     }
 
     /// Sets the flag.
     pub fn erase(&mut self) -> Result<(), OutOfMemory>
-        ensures erased { OnOk result (self.new ≡ after_erase self.old) }
+        ensures erased { OnOk result (self.new.present ≡ after_erase self.old.present) }
+        ensures marks { KeepsMarks self.old self.new }
         ensures refused { OnErr result (self.new ≡ self.old) }
     {
-        self.flag = true;
+        self.changes.reserve(1)?;
+        let change = self.state.erase();
+        self.changes.push_reserved(change);
         Ok(())
     }
 
     /// The end of the goal for which the front entry was loaded. For a linear one `saved` is the flag from before it was
     /// loaded, and the answer is `false` where it is live and the flag is clear: the context is then as before.
     pub fn close(&mut self, saved: bool) -> Result<bool, OutOfMemory>
-        requires { 0 < length self.old.entries }
-        ensures settles { IfOk result (λ done. Settles (load_end saved self.old.entries) self.old self.new done) }
+        requires { 0 < length self.old.present.entries }
+        ensures settles { IfOk result (λ done. Settles (load_end saved self.old.present.entries) self.old self.new done) }
+        ensures marks { KeepsMarks self.old self.new }
         ensures refused { OnErr result (self.new ≡ self.old) }
     {
-        let front = self.entries[0];
-        if front.kind == Kind::Linear {
-            if front.live && !self.flag {
-                return Ok(false);
-            }
-            self.flag = saved || self.flag;
-        }
-        self.entries.pop_front();
+        self.changes.reserve(1)?;
+        let Some(change) = self.state.close(saved) else {
+            return Ok(false);
+        };
+        self.changes.push_reserved(change);
         Ok(true)
     }
 
     /// Keeps the live marks and the flag, and clears the flag.
     pub fn save(&mut self) -> Result<Saved, OutOfMemory>
-        ensures number { IfOk result (λ saved. saved ≡ saved_as (length self.old.kept)) }
-        ensures kept { IfOk result (λ saved. saved_at self.new.kept saved ≡ saved_now self.old) }
-        ensures same { KeepsSaved (length self.old.kept) self.old self.new }
-        ensures saved { OnOk result (self.new ≡ after_save self.old) }
+        ensures number { IfOk result (λ saved. saved ≡ saved_as (length self.old.present.kept)) }
+        ensures kept { IfOk result (λ saved. saved_at self.new.present.kept saved ≡ saved_now self.old.present) }
+        ensures same { KeepsSaved (length self.old.present.kept) self.old.present self.new.present }
+        ensures saved { OnOk result (self.new.present ≡ after_save self.old.present) }
+        ensures marks { KeepsMarks self.old self.new }
         ensures refused { OnErr result (self.new ≡ self.old) }
     {
-        let live = live_marks(&self.entries)?;
-        let number = self.journal.len();
-        self.journal.keep(live.as_slice(), self.flag)?;
-        self.flag = false;
+        self.changes.reserve(1)?;
+        let number = self.state.saves.len();
+        let change = self.state.save()?;
+        self.changes.push_reserved(change);
         Ok(Saved { number })
     }
 
     /// Takes all live marks away.
     pub fn bang(&mut self) -> Result<(), OutOfMemory>
-        ensures banged { OnOk result (self.new ≡ after_bang self.old) }
+        ensures banged { OnOk result (self.new.present ≡ after_bang self.old.present) }
+        ensures marks { KeepsMarks self.old self.new }
         ensures refused { OnErr result (self.new ≡ self.old) }
     {
-        clear_marks(&mut self.entries);
+        self.changes.reserve(1)?;
+        let change = self.state.bang()?;
+        self.changes.push_reserved(change);
         Ok(())
     }
 
     /// The end of `{}`: the live marks and the flag from before it, which `saved` kept, are given back.
     pub fn bang_end(&mut self, saved: Saved) -> Result<(), OutOfMemory>
-        requires { Fits saved self.old }
-        ensures settles { OnOk result (settled (bang_end self.old.kept saved) self.old ≡ Some self.new) }
+        requires { Fits saved self.old.present }
+        ensures settles { OnOk result (settled (bang_end self.old.present.kept saved) self.old.present ≡ Some self.new.present) }
+        ensures marks { KeepsMarks self.old self.new }
         ensures refused { OnErr result (self.new ≡ self.old) }
     {
-        set_marks(&mut self.entries, self.journal.live(saved.number));
-        self.flag = self.journal.flag(saved.number);
+        self.changes.reserve(1)?;
+        let change = self.state.bang_end(saved.number)?;
+        self.changes.push_reserved(change);
         Ok(())
     }
 
     /// The middle of `&`: the live marks from before it, which `saved` kept, are given back, and the flag is cleared. The answer
     /// keeps the marks and the flag that the first side left.
     pub fn with_mid(&mut self, saved: Saved) -> Result<Saved, OutOfMemory>
-        requires { Fits saved self.old }
-        ensures number { IfOk result (λ half. half ≡ saved_as (length self.old.kept)) }
+        requires { Fits saved self.old.present }
+        ensures number { IfOk result (λ half. half ≡ saved_as (length self.old.present.kept)) }
         ensures settles { IfOk result (λ half.
-            SettlesMiddle (saved_at self.old.kept saved) (saved_at self.new.kept half) self.old self.new) }
-        ensures same { KeepsSaved (length self.old.kept) self.old self.new }
-        ensures middle { OnOk result (self.new ≡ after_with_mid saved self.old) }
+            SettlesMiddle (saved_at self.old.present.kept saved) (saved_at self.new.present.kept half) self.old.present self.new.present) }
+        ensures same { KeepsSaved (length self.old.present.kept) self.old.present self.new.present }
+        ensures middle { OnOk result (self.new.present ≡ after_with_mid saved self.old.present) }
+        ensures marks { KeepsMarks self.old self.new }
         ensures refused { OnErr result (self.new ≡ self.old) }
     {
-        let half = self.save()?;
-        set_marks(&mut self.entries, self.journal.live(saved.number));
-        Ok(half)
+        self.changes.reserve(1)?;
+        let number = self.state.saves.len();
+        let change = self.state.with_mid(saved.number)?;
+        self.changes.push_reserved(change);
+        Ok(Saved { number })
     }
 
     /// The end of `&`: `saved` was kept before it, and `half` by its middle. `false` where the two sides can't agree on what is
     /// left: the context is then as before.
     pub fn with_end(&mut self, saved: Saved, half: Saved) -> Result<bool, OutOfMemory>
-        requires saved { Fits saved self.old }
-        requires half { Fits half self.old }
-        ensures settles { IfOk result (λ done. Settles (with_end self.old.kept saved half) self.old self.new done) }
+        requires saved { Fits saved self.old.present }
+        requires half { Fits half self.old.present }
+        ensures settles { IfOk result (λ done. Settles (with_end self.old.present.kept saved half) self.old self.new done) }
+        ensures marks { KeepsMarks self.old self.new }
         ensures refused { OnErr result (self.new ≡ self.old) }
     {
-        let mut live = live_marks(&self.entries)?;
-        let first_flag = self.journal.flag(half.number);
-        let first = self.journal.live(half.number);
-        if !join_marks(first, first_flag, live.as_mut_slice(), self.flag) {
+        self.changes.reserve(1)?;
+        let Some(change) = self.state.with_end(saved.number, half.number)? else {
             return Ok(false);
-        }
-        set_marks(&mut self.entries, live.as_slice());
-        self.flag = self.journal.flag(saved.number) || (first_flag && self.flag);
+        };
+        self.changes.push_reserved(change);
         Ok(true)
     }
 
-    /// The present state.
+    /// The present state: a good mark, and the last of those.
     pub fn mark(&self) -> ContextMark
-        ensures mark { HasMark result self.now }
-        ensures whole { image_at result self.now ≡ self.now }
+        ensures good { HasMark result self.now }
+        ensures state { state_at result self.now ≡ self.now.present }
+        ensures last { IsLastMark result self.now }
     {
         ContextMark {
-            kept: self.journal.len(),
+            changes: self.changes.len(),
         }
     }
 
-    /// A copy of the context, with what it had kept at the mark, under the same numbers.
+    /// Goes back to the state at a good mark. Each good mark that is not past this one stays good, with its state. It takes no
+    /// memory, and time for the changes that it takes back.
+    pub fn undo(&mut self, mark: ContextMark)
+        requires { HasMark mark self.old }
+        ensures state { self.new.present ≡ state_at mark self.old }
+        ensures marks { KeepsMarksTo mark self.old self.new }
+        ensures same { KeepsSaved (length (state_at mark self.old).kept) self.old.present self.new.present }
+    {
+        self.state.take_back(self.changes.as_slice(), mark.changes);
+        self.changes.truncate(mark.changes);
+    }
+
+    /// A context in the state at a good mark, that came from no other state. What was kept by then means the same in it.
     pub fn image(&self, mark: ContextMark) -> Result<Context<C>, OutOfMemory>
         requires { HasMark mark self.now }
-        ensures image { IfOk result (λ context. context ≡ image_at mark self.now) }
-        ensures same { IfOk result (λ context. KeepsSaved mark.kept self.now context) }
+        ensures image { IfOk result (λ context. context ≡ begun (state_at mark self.now)) }
+        ensures same { IfOk result (λ context. KeepsSaved (length (state_at mark self.now).kept) self.now.present context.present) }
     {
-        let entries = self
-            .entries
-            .iter()
-            .copied()
-            .collect(*self.entries.allocator())?;
-        let journal = self.journal.image(mark.kept)?;
+        let mut state = self.state.copy()?;
+        state.take_back(self.changes.as_slice(), mark.changes);
         Ok(Context {
-            entries,
-            flag: self.flag,
-            next: self.next,
-            journal,
+            state,
+            changes: Vec::new(*self.changes.allocator()),
         })
     }
 }

@@ -10,8 +10,9 @@ ghost use Rattle.ll_resources.specs.Resources.{new_entry};
 ghost use Rattle.ll_resources.specs.Seen.{resource};
 
 mod context;
-mod journal;
 mod marks;
+mod saves;
+mod state;
 #[cfg(test)]
 mod tests;
 

@@ -1,7 +1,8 @@
 //! The live marks of entries, and what both sides of `&` leave.
 ghost use Rattle.std.specs.Prelude.{◌≡◌, ◌||◌, ◌&&◌, map, length, IfOk};
+ghost use Rattle.std.specs.VecDeque.{deque_capacity};
 ghost use Rattle.ll_laws.specs.Settle.{marks, remark, unlive, within, both_live, join_by, kept_if};
-ghost use Rattle.ll_laws.specs.Attempt.{picked};
+ghost use Rattle.ll_resources.specs.Changes.{with_mark, first_place};
 ghost use Rattle.ll_resources.specs.Seen.{resource};
 
 use crate::Entry;
@@ -19,35 +20,47 @@ pub(crate) fn live_marks<C: Copy>(entries: &VecDeque<Entry<C>>) -> Result<Vec<bo
     Ok(live)
 }
 
-/// Gives entries other live marks.
+/// Gives entries other live marks, as far as there are both.
 pub(crate) fn set_marks<C: Copy>(entries: &mut VecDeque<Entry<C>>, live: &[bool])
-    requires { length live.now ≡ length entries.old.items }
-    ensures { map resource entries.new.items ≡ remark (map resource entries.old.items) live.now }
+    ensures marks { map resource entries.new.items ≡ remark (map resource entries.old.items) live.now }
+    ensures room { deque_capacity entries.new ≡ deque_capacity entries.old }
 {
-    for (i, mark) in live.iter().enumerate() {
-        entries[i].live = *mark;
+    let both = entries.len().min(live.len());
+    for i in 0..both {
+        entries[i].live = live[i];
+    }
+}
+
+/// Gives the entry at this place another live mark, if there is one.
+pub(crate) fn set_mark<C: Copy>(entries: &mut VecDeque<Entry<C>>, at: usize, live: bool)
+    ensures mark { map resource entries.new.items ≡ with_mark at live (map resource entries.old.items) }
+    ensures room { deque_capacity entries.new ≡ deque_capacity entries.old }
+{
+    if at < entries.len() {
+        entries[at].live = live;
     }
 }
 
 /// Takes the live marks of all entries away.
 pub(crate) fn clear_marks<C: Copy>(entries: &mut VecDeque<Entry<C>>)
-    ensures { map resource entries.new.items ≡ map unlive (map resource entries.old.items) }
+    ensures marks { map resource entries.new.items ≡ map unlive (map resource entries.old.items) }
+    ensures room { deque_capacity entries.new ≡ deque_capacity entries.old }
 {
     for i in 0..entries.len() {
         entries[i].live = false;
     }
 }
 
-/// Takes the live mark of the first entry with this label away.
-pub(crate) fn clear_mark<C: Copy>(entries: &mut VecDeque<Entry<C>>, label: u32)
-    ensures { map resource entries.new.items ≡ picked label (map resource entries.old.items) }
+/// The place of the first entry with this label, or their number if there is none.
+pub(crate) fn place_of<C: Copy>(entries: &VecDeque<Entry<C>>, label: u32) -> usize
+    ensures { result ≡ first_place label (map resource entries.now.items) }
 {
     for i in 0..entries.len() {
         if entries[i].label == label {
-            entries[i].live = false;
-            return;
+            return i;
         }
     }
+    entries.len()
 }
 
 /// Each place that is live in the first marks is live in the second.

@@ -1,6 +1,6 @@
 //! Live marks and flags, as they were kept one after another.
-ghost use Rattle.std.specs.Prelude.{◌≡◌, ◌<◌, ◌≤◌, [], length, take, IfOk, OnOk, OnErr};
-ghost use Rattle.ll_resources.specs.Journal.{with_saved};
+ghost use Rattle.std.specs.Prelude.{◌≡◌, ◌<◌, [], length, take, IfOk, OnOk, OnErr};
+ghost use Rattle.ll_resources.specs.Saves.{with_saved};
 ghost use Rattle.ll_resources.specs.Resources.{saved_as, saved_at};
 
 use ll_bank::OutOfMemory;
@@ -15,32 +15,32 @@ struct Kept {
     flag: bool,
 }
 
-/// What a context has kept. It grows at its end alone, so a number means the same for ever. Contracts see the list.
+/// What a context has kept. It changes at its end alone, so a number means the same as long as it is there. Contracts see the list.
 #[derive(Drop)]
-pub(crate) struct Journal {
+pub(crate) struct Saves {
     marks: Vec<bool>,
     kept: Vec<Kept>,
 }
 
-impl Model for Journal {
+impl Model for Saves {
     ghost use Rattle.std.specs.Prelude.{List, map, All};
     ghost use Rattle.ll_laws.specs.Settle.{Saved};
 
     ghost Value = { List Saved };
 
-    ghost use Rattle.ll_resources.specs.Journal.{kept_marks, IsWithin};
+    ghost use Rattle.ll_resources.specs.Saves.{kept_marks, IsWithin, AreInOrder};
 
     ghost view = { λ j. map (kept_marks j.marks.items) j.kept.items };
 
-    ghost invariant = { λ j. All (IsWithin j.marks.items) j.kept.items };
+    ghost invariant = { λ j. All (IsWithin j.marks.items) j.kept.items × AreInOrder j.kept.items };
 }
 
-impl Journal {
+impl Saves {
     /// Nothing is kept.
     pub(crate) fn new(alloc: Global) -> Self
         ensures { result ≡ [] }
     {
-        Journal {
+        Saves {
             marks: Vec::new(alloc),
             kept: Vec::new(alloc),
         }
@@ -53,7 +53,7 @@ impl Journal {
         self.kept.len()
     }
 
-    /// Keeps live marks and a flag. After a refusal the journal is as before.
+    /// Keeps live marks and a flag. After a refusal the list is as before.
     pub(crate) fn keep(&mut self, live: &[bool], flag: bool) -> Result<(), OutOfMemory>
         ensures kept { OnOk result (self.new ≡ with_saved self.old live.now flag) }
         ensures refused { OnErr result (self.new ≡ self.old) }
@@ -82,14 +82,23 @@ impl Journal {
         self.kept[number].flag
     }
 
-    /// A copy of the first so many that were kept.
-    pub(crate) fn image(&self, len: usize) -> Result<Journal, OutOfMemory>
-        requires { len ≤ length self.now }
-        ensures { IfOk result (λ j. j ≡ take len self.now) }
+    /// Lets go of what was kept under this number and later ones.
+    pub(crate) fn cut(&mut self, number: usize)
+        requires { number < length self.old }
+        ensures { self.new ≡ take number self.old }
+    {
+        let from = self.kept[number].from;
+        self.kept.truncate(number);
+        self.marks.truncate(from);
+    }
+
+    /// A copy.
+    pub(crate) fn copy(&self) -> Result<Saves, OutOfMemory>
+        ensures { IfOk result (λ saves. saves ≡ self.now) }
     {
         let alloc = *self.kept.allocator();
         let marks = Vec::from_slice(alloc, self.marks.as_slice())?;
-        let kept = Vec::from_slice(alloc, &self.kept[..len])?;
-        Ok(Journal { marks, kept })
+        let kept = Vec::from_slice(alloc, self.kept.as_slice())?;
+        Ok(Saves { marks, kept })
     }
 }

@@ -1,0 +1,10 @@
+use Rattle.std.proofs.Common.{arith}
+use Rattle.ll_resources.specs.Changes.{shown}
+use Rattle.ll_resources.proofs.LeadLemmas.{with_entries, back-remark}
+use Rattle.ll_resources.proofs.state.State.with_end.Goals as goal
+
+pub returns-clause-leads : goal.returns-clause-leads
+returns-clause-leads g c = record {
+  back = with_entries (shown c.args.self.now) _ (back-remark _ _ _ _ c.set_marks.ensures.marks c.in_ok-before.ensures);
+  room = omega arith;
+}

@@ -4,3 +4,4 @@ pub mod EntryLemmas
 pub mod FitLemmas
 pub mod ChangeLemmas
 pub mod LeadLemmas
+pub mod EndLemmas

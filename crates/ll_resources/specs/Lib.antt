@@ -3,3 +3,4 @@ pub mod History
 pub mod Saves
 pub mod Changes
 pub mod Seen
+pub mod Ends

@@ -10,6 +10,7 @@ ghost use Rattle.ll_resources.specs.Resources.{new_entry};
 ghost use Rattle.ll_resources.specs.Seen.{resource};
 
 mod context;
+mod ends;
 mod marks;
 mod saves;
 mod state;
@@ -17,6 +18,7 @@ mod state;
 mod tests;
 
 pub use context::{Context, ContextMark, Saved};
+pub use ends::settling_ends;
 use ll_laws::Kind;
 
 /// A clause in a context, with its label. Only a linear one can be live.

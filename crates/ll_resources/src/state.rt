@@ -164,14 +164,14 @@ impl<C: Copy> State<C> {
         ensures refused { OnErr result (self.new ≡ self.old) }
     {
         let before = live_marks(&self.entries)?;
-        let mut live = live_marks(&self.entries)?;
+        let mut joined = live_marks(&self.entries)?;
         let flag = self.flag;
         let first_flag = self.saves.flag(half);
         let first = self.saves.live(half);
-        if !join_marks(first, first_flag, live.as_mut_slice(), flag) {
+        if !join_marks(first, first_flag, joined.as_mut_slice(), flag) {
             return Ok(None);
         }
-        set_marks(&mut self.entries, live.as_slice());
+        set_marks(&mut self.entries, joined.as_slice());
         self.flag = self.saves.flag(number) || (first_flag && flag);
         Ok(Some(Change::Remarked { live: before, flag }))
     }
@@ -197,7 +197,7 @@ impl<C: Copy> State<C> {
     {
         match change {
             Change::Loaded { label, flag } => {
-                self.entries.pop_front();
+                let _ = self.entries.pop_front();
                 self.next = *label as usize;
                 self.flag = *flag;
             }

@@ -18,7 +18,7 @@ pub struct Top {
 /// A bank of frames: lists of items that share what stands behind their first items.
 ///
 /// Contracts see it as its frames, in the order in which they were pushed, and a top as the list of items that it shows. No call
-/// changes the list of a top that the agenda has.
+/// changes the list of a top that the agenda has, and `cut` alone takes tops from it.
 #[derive(Drop)]
 pub struct Agenda<T: Copy> {
     // Each an item with the top of the list behind it, which is of an earlier frame.

@@ -7,7 +7,7 @@ use Rattle.ll_resources.specs.declared.context.ContextMark.{ContextMark}
 use Rattle.ll_resources.specs.declared.state.Change.{Change}
 use Rattle.ll_resources.specs.declared.state.Change.TheVariants.{Loaded, Closed, Picked, Erased, Kept, Remarked}
 use Rattle.ll_resources.specs.Resources.{Resources, saved_as, saved_at, KeepsSaved}
-use Rattle.ll_resources.specs.History.{History, HasMark, state_at, Marks, KeepsMarks, IsNotPast, KeepsMarksTo}
+use Rattle.ll_resources.specs.History.{History, HasMark, state_at, KeepsMarks, IsNotPast, KeepsMarksTo}
 use Rattle.ll_resources.specs.Changes.{shown, room, without_last, taken_back, before, states_before, history, HasRoom, Leads}
 use Rattle.ll_resources.specs.declared.state.State.{State}
 use Rattle.ll_resources.specs.Seen.{resource}
@@ -21,12 +21,6 @@ module _ {C : Type 0} where
   -- the first changes are taken back after the others
   pub before-split : (n : ℕ) (cs : List (Change C)) (r : Resources C) → before (take n cs) (before (drop n cs) r) ≡ before cs r
   before-split n cs r = sym (before-append (take n cs) (drop n cs) r) ∙ ap (λ ds. before ds r) (take-append-drop n cs)
-
-  -- one change more is taken back
-  pub before-more : (cs : List (Change C)) (i : ℕ) (c : Change C) (r s : Resources C) → i < length cs → c ≡ get_or cs i c → s ≡ before (drop (i + 1) cs) r
-      → taken_back c s ≡ before (drop i cs) r
-  before-more cs i c r s l e h =
-      ap (taken_back c) h ∙ (ap (λ d. taken_back d (before (drop (i + 1) cs) r)) e ∙ ap (λ ds. before ds r) (sym (drop_more cs i c l)))
 
   -- the state before the changes behind the first n is the n-th of the states before each
   pub state-before : (cs : List (Change C)) (n : ℕ) (r : Resources C) → get_or (states_before cs r) n r ≡ before (drop n cs) r
@@ -79,11 +73,6 @@ module _ {C : Type 0} where
         let old = h i in
         subst (λ t. length t.entries ≤ m) (sym same) (omega arith)
   ])
-
-  -- the state before the last changes
-  pub room-now : (cs : List (Change C)) (r : Resources C) (n i : ℕ) (c : Change C) (s : Resources C) → HasRoom cs r n → i < length cs → c ≡ get_or cs i c
-      → s ≡ before (drop (i + 1) cs) r → length (taken_back c s).entries ≤ n
-  room-now cs r n i c s h l e f = subst (λ t. length t.entries ≤ n) (sym (before-more cs i c r s l e f)) (h i)
 
   -- where the last changes are taken back
   pub room-take : (k : ℕ) (cs ds : List (Change C)) (r s : Resources C) (n m : ℕ) → k ≤ length cs → ds ≡ take k cs → s ≡ before (drop k cs) r → m ≡ n → HasRoom cs r n → HasRoom ds s m

@@ -5,3 +5,4 @@ pub mod FitLemmas
 pub mod ChangeLemmas
 pub mod LeadLemmas
 pub mod EndLemmas
+pub mod HistoryLemmas

@@ -58,7 +58,7 @@ states_before (c ∷ cs) r = before (c ∷ cs) r ∷ states_before cs r
 abbrev pub history : {C : Type 0} → List (Change C) → Resources C → History C
 history cs r = record { present = r; past = states_before cs r }
 
--- no state from which it came had more entries than there is room for
+-- neither this state nor one from which it came has more entries than there is room for
 abbrev pub HasRoom : {C : Type 0} → List (Change C) → Resources C → ℕ → Type 0
 HasRoom cs r n = (i : ℕ) → length (before (drop i cs) r).entries ≤ n
 

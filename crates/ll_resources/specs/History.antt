@@ -22,14 +22,14 @@ HasMark mark h = mark.changes ≤ length h.past
 abbrev pub state_at : {C : Type 0} → ContextMark → History C → Resources C
 state_at mark h = slice_index_or h.past mark.changes h.present
 
--- the mark is a good one, and this is the state at it
-pub record Marks {C : Type 0} (mark : ContextMark) (r : Resources C) (h : History C) : Type 0 where
+-- the mark is a good one, and stands for this state
+pub record StandsFor {C : Type 0} (mark : ContextMark) (r : Resources C) (h : History C) : Type 0 where
   pub good : HasMark mark h
   pub state : state_at mark h ≡ r
 
 -- each good mark stays good, with its state
 abbrev pub KeepsMarks : {C : Type 0} → History C → History C → Type 0
-KeepsMarks old new = (mark : ContextMark) → HasMark mark old → Marks mark (state_at mark old) new
+KeepsMarks old new = (mark : ContextMark) → HasMark mark old → StandsFor mark (state_at mark old) new
 
 -- no number of a mark is past that of another
 abbrev pub IsNotPast : ContextMark → ContextMark → Type 0
@@ -37,7 +37,7 @@ IsNotPast mark other = mark.changes ≤ other.changes
 
 -- each good mark that is not past this one stays good, with its state
 abbrev pub KeepsMarksTo : {C : Type 0} → ContextMark → History C → History C → Type 0
-KeepsMarksTo last old new = (mark : ContextMark) → IsNotPast mark last → HasMark mark old → Marks mark (state_at mark old) new
+KeepsMarksTo last old new = (mark : ContextMark) → IsNotPast mark last → HasMark mark old → StandsFor mark (state_at mark old) new
 
 -- no good mark is past this one
 abbrev pub IsLastMark : {C : Type 0} → ContextMark → History C → Type 0

@@ -2,7 +2,8 @@
 //!
 //! Leftovers are passed on lazily, after the input and output contexts of Hodas and Miller 1994. A [`Context`] is seen by
 //! contracts as its entries with the newest in front, a flag that says that an `erase` may still take what is left, the next
-//! label, and the live marks and flags that it has kept. The goals that are proved in it, and their ends, are no part of it.
+//! label, and the live marks and flags that it has kept, with the states from which it came, to which it can go back. The goals
+//! that are proved in it, and their ends, are no part of it.
 #![tactic(auto)]
 
 ghost use Rattle.std.specs.Prelude.{◌≡◌};

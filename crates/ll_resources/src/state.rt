@@ -21,7 +21,7 @@ pub(crate) struct State<C: Copy> {
     pub(crate) saves: Saves,
 }
 
-/// A change of a context, with what it was before. No call writes to one.
+/// A change of a context, with what taking it back needs.
 #[derive(Drop)]
 pub(crate) enum Change<C: Copy> {
     /// A clause came in front, under this label. The flag is that from before.
@@ -190,6 +190,7 @@ impl<C: Copy> State<C> {
         }
     }
 
+    /// Takes one change back.
     fn take_one_back(&mut self, change: &Change<C>)
         requires { length (taken_back change.now (shown self.old)).entries ≤ room self.old }
         ensures state { shown self.new ≡ taken_back change.now (shown self.old) }

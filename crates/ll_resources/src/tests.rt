@@ -164,7 +164,7 @@ fn shows_and_copies(rt: HostRuntime) -> Result<(), Fail> {
     Ok(())
 }
 
-/// A call after a mark, besides `close`, of which some fail.
+/// A call after a mark.
 #[derive(Clone, Copy, Debug)]
 enum Call {
     Load(Kind),

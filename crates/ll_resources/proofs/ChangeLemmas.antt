@@ -1,13 +1,13 @@
 -- Changes taken back one after another, and what a context has kept before them.
-use Rattle.std.proofs.Common.{◌≡◌, ℕ, zero, suc, ◌+◌, ◌<◌, ◌≤◌, List, [], ◌∷◌, ◌++◌, length, map, get_or, take, drop, refl, ap, sym, subst, ◌∙◌, inl, inr, arith, length-append}
+use Rattle.std.proofs.Common.{◌≡◌, ℕ, zero, suc, ◌<◌, ◌≤◌, List, [], ◌∷◌, ◌++◌, length, get_or, take, drop, refl, ap, sym, subst, ◌∙◌, inl, inr, arith, length-append}
 use Rattle.std.proofs.lemmas.Bool.{cases_lt}
-use Rattle.std.proofs.lemmas.List.{length-map, drop_more, drop_all, drop-append-le, take-append-drop, length-take-le, get_or-take, get_or_append_left, get_or_push}
+use Rattle.std.proofs.lemmas.List.{length-map, drop_all, drop-append-le, take-append-drop, length-take-le, get_or-take}
 use Rattle.ll_resources.specs.declared.context.Saved.{Saved as Handle}
 use Rattle.ll_resources.specs.declared.context.ContextMark.{ContextMark}
 use Rattle.ll_resources.specs.declared.state.Change.{Change}
 use Rattle.ll_resources.specs.declared.state.Change.TheVariants.{Loaded, Closed, Picked, Erased, Kept, Remarked}
-use Rattle.ll_resources.specs.Resources.{Resources, saved_as, saved_at, KeepsSaved}
-use Rattle.ll_resources.specs.History.{History, HasMark, state_at, KeepsMarks, IsNotPast, KeepsMarksTo}
+use Rattle.ll_resources.specs.Resources.{Resources, saved_at, KeepsSaved}
+use Rattle.ll_resources.specs.History.{History, HasMark, state_at, KeepsMarks, KeepsMarksTo}
 use Rattle.ll_resources.specs.Changes.{shown, room, without_last, taken_back, before, states_before, history, HasRoom, Leads}
 use Rattle.ll_resources.specs.declared.state.State.{State}
 use Rattle.ll_resources.specs.Seen.{resource}

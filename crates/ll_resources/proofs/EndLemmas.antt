@@ -2,8 +2,8 @@
 use Rattle.std.proofs.Common.{◌≡◌, Bool, true, false, List, [], ◌∷◌, refl, ap, ◌∙◌}
 use Rattle.std.specs.Prelude.{◌&&◌, ◌||◌, not, Option, Some, None, if◌then◌else◌, option_map}
 use Rattle.ll_laws.specs.Settle.{Entry, Saved, Item, Goal, LolliEnd, ImpEnd, WithMiddle, WithEnd, BangEnd, Front, settle_front, marks, remark, join, end_with}
-use Rattle.ll_resources.specs.Resources.{Resources, End, with_front, settled, SettlesMiddle}
-use Rattle.ll_resources.specs.Ends.{is_end, as_end, settled_after, EndsSettle, MiddlesSettle}
+use Rattle.ll_resources.specs.Resources.{Resources, with_front}
+use Rattle.ll_resources.specs.Ends.{settled_after, EndsSettle, MiddlesSettle}
 
 module _ {G C : Type 0} where
   lolli_settles : (saved : Bool) (rest : List (Item G)) (es : List (Entry C)) (r : Resources C)

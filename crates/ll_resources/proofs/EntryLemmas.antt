@@ -1,6 +1,6 @@
 -- Entries as resources: their live marks one by one.
 use Rattle.std.proofs.Common.{◌≡◌, ℕ, zero, suc, ◌+◌, ◌<◌, ◌≤◌, Bool, true, false, nat_eq, List, [], ◌∷◌, ◌++◌, length, map, get_or, take, drop, set, refl, ap, sym, ◌∙◌, arith, if◌then◌else◌}
-use Rattle.std.proofs.lemmas.List.{map-append, map-set, length-map, get_or-map, drop_more, take_more, set_split, length-take-le}
+use Rattle.std.proofs.lemmas.List.{map-append, map-set, length-map, get_or-map, take_more, length-take-le}
 use Rattle.std.proofs.lemmas.List.Edits.{map_over_more}
 use Rattle.ll_laws.specs.declared.Kind.{Kind}
 use Rattle.ll_laws.specs.Settle.{Entry as Resource, marks, remark, unlive}

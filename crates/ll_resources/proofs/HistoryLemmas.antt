@@ -1,8 +1,8 @@
 -- Good marks over many calls, for callers.
-use Rattle.std.proofs.Common.{◌≡◌, refl, ◌∙◌, arith}
+use Rattle.std.proofs.Common.{refl, ◌∙◌, arith}
 use Rattle.ll_resources.specs.declared.context.ContextMark.{ContextMark}
 use Rattle.ll_resources.specs.Resources.{Resources}
-use Rattle.ll_resources.specs.History.{History, HasMark, state_at, StandsFor, KeepsMarks, IsNotPast, KeepsMarksTo}
+use Rattle.ll_resources.specs.History.{History, state_at, StandsFor, KeepsMarks, IsNotPast, KeepsMarksTo}
 
 -- no mark is past itself
 pub IsNotPast-refl : (mark : ContextMark) → IsNotPast mark mark
@@ -28,7 +28,7 @@ module _ {C : Type 0} where
   -- so are they up to a mark to which a later context goes back
   pub KeepsMarksTo-undone : (old middle new : History C) (mark : ContextMark) → KeepsMarks old middle → KeepsMarksTo mark middle new → KeepsMarksTo mark old new
   KeepsMarksTo-undone old middle new mark h k = λ m within good.
-    let s = h m good in let n = k m within s.good in record { good = n.good; state = n.state ∙ s.state }
+      let s = h m good in let n = k m within s.good in record { good = n.good; state = n.state ∙ s.state }
 
 -- for callers whose context goes on
 pub ruleset history_laws = (IsNotPast-refl, IsNotPast-trans, KeepsMarks-refl, StandsFor-kept, KeepsMarks-trans, KeepsMarksTo-undone)

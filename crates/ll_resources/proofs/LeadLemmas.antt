@@ -1,13 +1,13 @@
 -- What each change of a context is taken back to.
-use Rattle.std.proofs.Common.{◌≡◌, ℕ, suc, ◌<◌, Bool, false, List, [], ◌∷◌, ◌++◌, length, map, get_or, take, refl, ap, sym, subst, ◌∙◌, arith, length-append}
+use Rattle.std.proofs.Common.{◌≡◌, ℕ, suc, ◌<◌, Bool, false, List, [], ◌∷◌, ◌++◌, length, map, get_or, take, refl, ap, ◌∙◌, arith, length-append}
 use Rattle.std.proofs.lemmas.List.{length-map, get_or_push}
 use Rattle.std.proofs.Math.Seq.{take-append_seam}
 use Rattle.ll_laws.specs.Settle.{Entry, Saved, marks, remark, unlive}
 use Rattle.ll_resources.specs.declared.Entry.{Entry as Stored}
 use Rattle.ll_resources.specs.Resources.{Resources, saved_now, saved_at, saved_as}
-use Rattle.ll_resources.specs.Changes.{with_mark, first_place, without_last}
+use Rattle.ll_resources.specs.Changes.{with_mark, without_last}
 use Rattle.ll_resources.specs.Seen.{resource}
-use Rattle.ll_resources.proofs.EntryLemmas.{remark-back, remark-own, remark-unlive, with_mark-back, read}
+use Rattle.ll_resources.proofs.EntryLemmas.{remark-back, remark-unlive, with_mark-back, read}
 
 module _ {C : Type 0} where
   -- a state with its own entries is itself

@@ -1,5 +1,5 @@
 -- Changes of a context, and the states from which it came by them.
-use Rattle.std.specs.Prelude.{◌≡◌, ℕ, zero, suc, ◌≤◌, Bool, false, nat_eq, List, [], ◌∷◌, length, map, take, drop, if◌then◌else◌}
+use Rattle.std.specs.Prelude.{◌≡◌, ℕ, zero, suc, ◌≤◌, Bool, nat_eq, List, [], ◌∷◌, length, map, take, drop, if◌then◌else◌}
 use Rattle.std.specs.VecDeque.{deque_capacity}
 use Rattle.ll_laws.specs.Settle.{Entry, remark}
 use Rattle.ll_resources.specs.declared.state.State.{State}

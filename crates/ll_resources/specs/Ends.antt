@@ -1,6 +1,6 @@
 -- Ends in front of an agenda whose goals are of any kind.
-use Rattle.std.specs.Prelude.{◌≡◌, Bool, true, false, List, [], ◌∷◌, Option, Some, None}
-use Rattle.ll_laws.specs.Settle.{Entry, Saved, Item, Goal, LolliEnd, ImpEnd, WithMiddle, WithEnd, BangEnd, Front, settle_front, map_item}
+use Rattle.std.specs.Prelude.{◌≡◌, Bool, true, false, List, ◌∷◌, Option, Some, None}
+use Rattle.ll_laws.specs.Settle.{Saved, Item, Goal, LolliEnd, ImpEnd, WithMiddle, WithEnd, BangEnd, Front, settle_front, map_item}
 use Rattle.ll_resources.specs.Resources.{Resources, End, settled, SettlesMiddle}
 
 -- an item is the end of a `-o`, `=>`, `&` or `{}`

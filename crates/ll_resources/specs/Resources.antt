@@ -1,6 +1,6 @@
 -- A context as contracts see it, and what each of its calls makes of it.
 -- Leftovers are handed on lazily, after the input and output contexts of Hodas and Miller 1994.
-use Rattle.std.specs.Prelude.{ℕ, suc, Bool, true, false, ◌≡◌, ◌<◌, ◌≤◌, List, [], ◌∷◌, ◌++◌, length, map, slice_index_or, Option, Some, None, if◌then◌else◌, option_map}
+use Rattle.std.specs.Prelude.{ℕ, suc, Bool, true, false, ◌≡◌, ◌<◌, List, [], ◌∷◌, ◌++◌, length, map, slice_index_or, Option, Some, if◌then◌else◌, option_map}
 use Rattle.ll_laws.specs.declared.Kind.{Kind}
 use Rattle.ll_laws.specs.Settle.{Entry, Saved, Item, Goal, WithMiddle, LolliEnd, ImpEnd, WithEnd, BangEnd, Front, marks, remark, unlive, settle_front}
 use Rattle.ll_resources.specs.declared.context.Saved.{Saved as Handle}

@@ -1,5 +1,5 @@
 -- How a list of saved marks holds them.
-use Rattle.std.specs.Prelude.{◌≡◌, ℕ, ◌<◌, ◌≤◌, Bool, List, [], ◌∷◌, ◌++◌, length, slice_range, slice_index_or}
+use Rattle.std.specs.Prelude.{ℕ, ◌<◌, ◌≤◌, Bool, List, [], ◌∷◌, ◌++◌, length, slice_range, slice_index_or}
 use Rattle.ll_laws.specs.Settle.{Saved}
 use Rattle.ll_resources.specs.declared.saves.Kept.{Kept}
 

@@ -6,5 +6,4 @@ ghost use Rattle.ll_resources.specs.Ends.{EndsSettle, MiddlesSettle};
 pub fn settling_ends<G, C>()
     ensures ends { EndsSettle G C }
     ensures middles { MiddlesSettle G C }
-{
-}
+{}

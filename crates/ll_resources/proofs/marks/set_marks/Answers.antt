@@ -1,4 +1,4 @@
-use Rattle.std.proofs.Common.{◌≡◌, ◌<◌, map, length, refl, sym, ◌∙◌, arith}
+use Rattle.std.proofs.Common.{◌<◌, map, length, refl, sym, ◌∙◌, arith}
 use Rattle.std.proofs.lemmas.List.{length-map}
 use Rattle.ll_resources.specs.Seen.{resource}
 use Rattle.ll_resources.proofs.EntryLemmas.{remark-more, remark-none, remark-enough}

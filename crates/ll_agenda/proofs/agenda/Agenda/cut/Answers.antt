@@ -1,4 +1,3 @@
-use Rattle.std.proofs.Common.{sym, ◌∙◌, drop}
 use Rattle.ll_agenda.proofs.Lists.{Extends-cut}
 use Rattle.ll_agenda.proofs.agenda.Agenda.cut.Goals as goal
 

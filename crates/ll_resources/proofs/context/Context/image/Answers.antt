@@ -1,4 +1,4 @@
-use Rattle.std.proofs.Common.{◌≡◌, length, drop, ap, sym, ◌∙◌, arith}
+use Rattle.std.proofs.Common.{length, drop, ap, sym, ◌∙◌, arith}
 use Rattle.ll_resources.specs.Changes.{shown, room, before, history}
 use Rattle.ll_resources.specs.History.{begun}
 use Rattle.ll_resources.proofs.ChangeLemmas.{mark-within, state-marked, room-alike, saved-marked}

@@ -1,7 +1,6 @@
-use Rattle.std.proofs.Common.{◌≡◌, length, ap, subst, sym, ◌∙◌, arith}
+use Rattle.std.proofs.Common.{length, ap, ◌∙◌, arith}
 use Rattle.std.proofs.lemmas.List.{drop_all}
 use Rattle.ll_resources.specs.Changes.{shown, before}
-use Rattle.ll_resources.specs.Resources.{Resources}
 use Rattle.ll_resources.specs.History.{History}
 use Rattle.ll_resources.proofs.ChangeLemmas.{length-states, mark-within, state-marked}
 use Rattle.ll_resources.proofs.context.Context.mark.Goals as goal

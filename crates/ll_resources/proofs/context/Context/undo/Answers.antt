@@ -1,6 +1,5 @@
-use Rattle.std.proofs.Common.{◌≡◌, length, drop, ap, sym, ◌∙◌, arith}
+use Rattle.std.proofs.Common.{length, drop, ap, sym, ◌∙◌, arith}
 use Rattle.ll_resources.specs.Changes.{shown, before}
-use Rattle.ll_resources.specs.History.{History}
 use Rattle.ll_resources.proofs.ChangeLemmas.{mark-within, state-marked, room-take, marks-undone, saved-marked}
 use Rattle.ll_resources.proofs.context.Context.undo.Goals as goal
 

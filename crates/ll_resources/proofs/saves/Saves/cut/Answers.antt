@@ -1,4 +1,4 @@
-use Rattle.std.proofs.Common.{◌≡◌, ◌<◌, length, get_or, take, map, ap, sym, subst, ◌∙◌, arith, List, Bool, All}
+use Rattle.std.proofs.Common.{◌≡◌, ◌<◌, length, get_or, take, map, ap, sym, subst, ◌∙◌, arith, All}
 use Rattle.std.proofs.lemmas.List.{length-map}
 use Rattle.ll_resources.specs.declared.saves.Kept.{Kept}
 use Rattle.ll_resources.specs.Saves.{kept_marks, IsWithin, AreInOrder}

@@ -1,6 +1,6 @@
-use Rattle.std.proofs.Common.{◌≡◌, ◌<◌, false, length, map, get_or, ap, sym, ◌∙◌, arith}
+use Rattle.std.proofs.Common.{false, map, ap, ◌∙◌, arith}
 use Rattle.std.proofs.lemmas.List.{length-map}
-use Rattle.ll_resources.specs.Changes.{shown, with_mark, first_place}
+use Rattle.ll_resources.specs.Changes.{shown, with_mark}
 use Rattle.ll_resources.specs.Resources.{Resources}
 use Rattle.ll_resources.specs.Seen.{resource}
 use Rattle.ll_resources.proofs.EntryLemmas.{first_place-inside, with_mark-picked}

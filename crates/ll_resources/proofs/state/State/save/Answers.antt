@@ -1,5 +1,4 @@
-use Rattle.std.proofs.Common.{◌≡◌, ◌∷◌, [], ◌++◌, false, List, arith, ap, refl, ◌∙◌, map}
-use Rattle.ll_laws.specs.Settle.{Saved}
+use Rattle.std.proofs.Common.{◌≡◌, ◌∷◌, [], ◌++◌, false, arith, ap, refl, ◌∙◌, map}
 use Rattle.ll_resources.specs.Changes.{shown}
 use Rattle.ll_resources.specs.Resources.{Resources, saved_now}
 use Rattle.ll_resources.specs.Saves.{with_saved}

@@ -12,3 +12,9 @@ pub mod Shown
 pub mod Output
 pub mod Valid
 pub mod Consistent
+pub mod Pool
+pub mod PoolCodes
+pub mod Spread
+pub mod Sound
+pub mod CoreEvents
+pub mod Later

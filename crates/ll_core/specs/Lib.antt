@@ -1,0 +1,7 @@
+pub mod Slots
+pub mod Order
+pub mod Formed
+pub mod Calls
+pub mod Copies
+pub mod Cursor
+pub mod Whole

@@ -125,7 +125,7 @@ module _ {N E : Type 0} (alternatives : N → List (Owed E)) (p : PoolData N E) 
           (λ (t : is_alternative a (record { batch = b; k = k }) ≡ false). let z : is_at (record { batch = b; k = k }) a ≡ 0 = ap one_if t in absurd (omega arith))
           (cases_Bool (is_alternative a (record { batch = b; k = k })))
 
-  closed_all : p.busy ≡ 0 → (i : ℕ) (x : Piece E) → slice_get p.pieces i ≡ Some x → is_open x.status ≡ false
+  pub closed_all : p.busy ≡ 0 → (i : ℕ) (x : Piece E) → slice_get p.pieces i ≡ Some x → is_open x.status ≡ false
   closed_all none i x e = none_open p.pieces (sym s.busy ∙ none) i x e
     where
       none_open : (pieces : List (Piece E)) → count_open pieces ≡ 0 → (i : ℕ) (x : Piece E) → slice_get pieces i ≡ Some x → is_open x.status ≡ false

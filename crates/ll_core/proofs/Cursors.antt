@@ -16,7 +16,7 @@ last_first-map : {X Y A : Type 0} (f : Y → List A) (g : X → Y) (xs : List X)
 last_first-map f g [] = refl
 last_first-map f g (x ∷ xs) = ap (λ l. l ++ f (g x)) (last_first-map f g xs)
 
-every_all : {X : Type 0} (P : X → Type 0) → ((x : X) → P x) → (xs : List X) → Every P xs
+pub every_all : {X : Type 0} (P : X → Type 0) → ((x : X) → P x) → (xs : List X) → Every P xs
 every_all P h [] = tt
 every_all P h (x ∷ xs) = (h x, every_all P h xs)
 

@@ -16,3 +16,10 @@ pub mod Costs
 pub mod Wholes
 pub mod Readying
 pub mod Taking
+pub mod Laters
+pub mod LawfulEvents
+pub mod Cuts
+pub mod Openings
+pub mod Runs
+pub mod Given
+pub mod Owing

@@ -272,15 +272,17 @@ module _ {N Of E : Type 0} (of : N → Of) (alternatives : N → List (Owed E)) 
   events_same y t = ap (λ (o : Owed E). o.events) (owed_same owed owed' n' still y.batch y.k t.0)
       ∙ (t.2 ∙ (λ j. (sym (share_same owed owed' n' still y t.0 t.1) j).events ++ sym (given_same owed owed' n' still y.published t.1) j))
 
-  events_less : (y : Piece E) → Told y → x ≡ y → (owed_at owed' y.batch y.k).events ≡ (share owed' (f' y)).events ++ given_events owed' (f' y)
-  events_less y t e =
+  told_rest : (y : Piece E) → Told y → x ≡ y → (owed_at owed' y.batch y.k).events ≡ may.splits.rest ++ given_events owed' (f' y)
+  told_rest y t e =
       let new : List E = flat_map (λ (o : Owed E). o.events) (alternatives b) in
       let given' : given_events owed' (f' y) ≡ new ++ given_events owed y =
       last_first_snoc (batch_events owed') y.published n' ∙ (λ j. flat_map (λ (o : Owed E). o.events) (newest j) ++ given_same owed owed' n' still y.published t.1 j) in
       let ends : (share owed y).events ≡ may.splits.rest ++ new = ap (λ (z : Piece E). (share owed z).events) (sym e) ∙ may.splits.ends in
-      whole_split (owed_at owed' y.batch y.k).events may.splits.rest (given_events owed' (f' y))
-      (ap (λ (o : Owed E). o.events) (owed_same owed owed' n' still y.batch y.k t.0)
-      ∙ (t.2 ∙ (ap (λ l. l ++ given_events owed y) ends ∙ (append_assoc may.splits.rest new (given_events owed y) ∙ ap (λ l. may.splits.rest ++ l) (sym given')))))
+      ap (λ (o : Owed E). o.events) (owed_same owed owed' n' still y.batch y.k t.0)
+      ∙ (t.2 ∙ (ap (λ l. l ++ given_events owed y) ends ∙ (append_assoc may.splits.rest new (given_events owed y) ∙ ap (λ l. may.splits.rest ++ l) (sym given'))))
+
+  events_less : (y : Piece E) → Told y → x ≡ y → (owed_at owed' y.batch y.k).events ≡ (share owed' (f' y)).events ++ given_events owed' (f' y)
+  events_less y t e = whole_split (owed_at owed' y.batch y.k).events may.splits.rest (given_events owed' (f' y)) (told_rest y t e)
 
   costs_same : (y : Piece E) → Told y → given_cost owed' y ≤ (owed_at owed' y.batch y.k).cost
   costs_same y t =
@@ -308,3 +310,23 @@ module _ {N Of E : Type 0} (of : N → Of) (alternatives : N → List (Owed E)) 
         (λ y h. subst (λ (o : Owed E). Reported o y.status) (sym (share_same owed owed' n' still y h.0.0 h.0.1)) h.1);
     alike = each_snoc (λ c. of c ≡ problem) (λ c. of c ≡ problem) p.batches b s.alike (λ c h. h) (let r = get_map alternatives p.batches 0 (pair ∷ []) s.root in may.splits.alike r.0 r.1 ∙ s.alike 0 r.0 r.1);
   }
+
+  -- what the piece owed is what it owes now, and then what the batch owes
+  pub events_split : (share owed' (f' x)).events ++ flat_map (λ (o : Owed E). o.events) (alternatives b) ≡ (share owed x).events
+  events_split =
+      let given' : List E = given_events owed' (f' x) in
+      let es : List E = (owed_at owed' x.batch x.k).events in
+      let rest : take (length es - length given') es ≡ may.splits.rest = ap (λ l. take (length l - length given') l) (told_rest x (told i x may.grow.piece) refl) ∙ front_of may.splits.rest given' in
+      ap (λ l. l ++ flat_map (λ (o : Owed E). o.events) (alternatives b)) rest ∙ sym may.splits.ends
+
+  pub cost_split : (share owed' (f' x)).cost + sum_by (λ (o : Owed E). o.cost) (alternatives b) ≡ (share owed x).cost
+  cost_split =
+      let t = told i x may.grow.piece in
+      let d : given_cost owed' (f' x) ≡ given_cost owed' x + batch_cost owed' n' = sum_by_push (batch_cost owed') x.published n' in
+      let g : batch_cost owed' n' ≡ sum_by (λ (o : Owed E). o.cost) (alternatives b) = ap (sum_by (λ (o : Owed E). o.cost)) newest in
+      let a : given_cost owed' x ≡ given_cost owed x = cost_same owed owed' n' still x.published t.1 in
+      let c : (owed_at owed' x.batch x.k).cost ≡ (owed_at owed x.batch x.k).cost = ap (λ (o : Owed E). o.cost) (owed_same owed owed' n' still x.batch x.k t.0) in
+      let k : sum_by (λ (o : Owed E). o.cost) (alternatives b) ≤ (owed_at owed x.batch x.k).cost - given_cost owed x = may.splits.cost in
+      let now : (share owed' (f' x)).cost ≡ (owed_at owed' x.batch x.k).cost - given_cost owed' (f' x) = refl in
+      let was : (share owed x).cost ≡ (owed_at owed x.batch x.k).cost - given_cost owed x = refl in
+      let h = t.3 in omega arith

@@ -114,7 +114,7 @@ cons_parts : {X : Type 0} (x y : X) (xs ys : List X) → x ∷ xs ≡ y ∷ ys �
 cons_parts x y xs ys e = (cc, cc)
 
 -- where the taken ones come first, what follows them is what was found not to be taken, and the rest
-split_same : {X : Type 0} (taken : X → Bool) (front back front' back' : List X) (x : X) → front ++ back ≡ front' ++ x ∷ back' → list_all taken front ≡ true → list_all (λ a. not (taken a)) back ≡ true
+pub split_same : {X : Type 0} (taken : X → Bool) (front back front' back' : List X) (x : X) → front ++ back ≡ front' ++ x ∷ back' → list_all taken front ≡ true → list_all (λ a. not (taken a)) back ≡ true
     → list_all taken front' ≡ true → taken x ≡ false → (front ≡ front') × (back ≡ x ∷ back')
 split_same taken [] back [] back' x e t n t' h = (refl, e)
 split_same taken [] [] (z ∷ front') back' x e t n t' h = absurd (let e' : [] ≡ z ∷ (front' ++ x ∷ back') = e in cc)

@@ -26,9 +26,9 @@ use Rattle.ll_laws.specs.CoreEvents.{opening}
 use Rattle.ll_laws.specs.Spread.{walk, kids_of, last_first}
 use Rattle.ll_laws.specs.Sound.{is_taken}
 use Rattle.ll_core.specs.Cursor.{rest}
-use Rattle.ll_core.proofs.AllClaimed.{sum_total}
+use Rattle.ll_core.proofs.Openings.{opening_shape}
 use Rattle.ll_core.proofs.Cursors.{rest_begin}
-use Rattle.ll_core.proofs.Pieces.{get_front, none_not_some}
+use Rattle.ll_core.proofs.Pieces.{get_front}
 use Rattle.ll_core.proofs.Facts.{owed_before, ends}
 use Rattle.ll_core.proofs.Statuses.{shaped_reported, shaped_took}
 use Rattle.ll_core.proofs.Claims.{shaped_claimed}
@@ -116,26 +116,6 @@ module _ {N : Type 0} (alternatives : N → List (Owed Event)) where
   pub whole_popped : (v : PoolData N Event) (waiting waiting' : List (Waiting N)) (starts : List ℕ) (stack : List Alternative) (capacity stack_capacity : ℕ) → waiting ≡ waiting' → Whole alternatives v waiting starts stack capacity stack_capacity → Whole alternatives v waiting' starts stack capacity stack_capacity
   whole_popped v waiting waiting' starts stack capacity stack_capacity e h = subst (λ ws. Whole alternatives v ws starts stack capacity stack_capacity) e h
 
-  pub opening_shape : (root : N) (workers : ℕ) → length (alternatives root) ≡ 1 → Shaped alternatives (opening root workers)
-  opening_shape root workers one = record {
-    named = λ i x e. absurd (none_not_some x e);
-    apart = λ i j x y e g b k. absurd (none_not_some x e);
-    first = λ i x e. absurd (none_not_some x e);
-    once = λ b low high. absurd (omega arith);
-    only = λ i x e. absurd (none_not_some x e);
-    busy = refl;
-    total = let h = sum_total length (alternatives root ∷ []) in omega arith;
-    small = omega arith;
-    untried = refl;
-    taken = ([], walk alternatives (opening root workers), refl, refl, all_untaken (walk alternatives (opening root workers)));
-    workers = λ i x e. absurd (none_not_some x e);
-    one_open = λ i j x y e g o q w. absurd (none_not_some x e);
-  }
-    where
-      all_untaken : (walk : List Alternative) → list_all (λ a. not (is_taken {E = Event} [] a)) walk ≡ true
-      all_untaken [] = refl
-      all_untaken (a ∷ walk) = all_untaken walk
-
   pub opening_points : (root : N) (workers : ℕ) → length (alternatives root) ≡ 1 → PointsIn alternatives (opening root workers) (begin 0 ∷ [])
   opening_points root workers one =
       let p : PoolData N Event = opening root workers in
@@ -175,7 +155,7 @@ module _ {N : Type 0} (alternatives : N → List (Owed Event)) where
       let stack : map stop_in stops ≡ begin 0 ∷ [] = ap (map stop_in) sp ∙ ap (λ a. a ∷ []) at in
       subst (λ (u : PoolData N Event). Whole alternatives u waiting starts (map stop_in stops) capacity stack_capacity) (sym is) (record {
         formed = subst (λ (u : PoolData N Event). Formed alternatives u.batches u.pieces waiting capacity u.busy) is (opening_forms alternatives root arcs slots waiting capacity e d one are room);
-        shaped = opening_shape (arc_value root) workers one;
+        shaped = opening_shape alternatives (arc_value root) workers one;
         points = subst (PointsIn alternatives q) (sym stack) (opening_points (arc_value root) workers one);
         filled = λ c low. first_only c low;
         begins = λ b k inside. ap (λ (ls : List Alternative). slice_get ls (slice_index starts b + k)) are.places ∙ first_place b k inside;

@@ -5,3 +5,4 @@ pub mod Calls
 pub mod Copies
 pub mod Cursor
 pub mod Whole
+pub mod Laws

@@ -8,8 +8,10 @@
 
 mod answers;
 mod cursor;
+mod laws;
 mod pool;
 mod room;
 
 pub use answers::{Claimed, Look, PublishFault, Ready};
+pub use laws::{every_run, later_pools, lawful_events};
 pub use pool::Pool;

@@ -2,21 +2,21 @@
 use Rattle.std.proofs.Common.{◌≡◌, ◌⊎◌, ℕ, ◌+◌, ◌<◌, ◌≤◌, sym, ap, ◌∙◌, ⊎_elim, inl, inr, arith}
 use Rattle.std.proofs.Math.Nat.{min-eq_left, min-eq_right}
 use Rattle.std.proofs.lemmas.Bool.{cases_lt}
-use Rattle.ll_laws.specs.Sound.{cut}
+use Rattle.ll_laws.specs.Search.{cut_count}
 
 abbrev pub Same : ℕ → ℕ → Type 0
 Same a b = (a ≡ b) ⊎ ((18446744073709551615 ≤ a) × (18446744073709551615 ≤ b))
 
-cut_most : (a : ℕ) → 18446744073709551615 ≤ a → cut a ≡ 18446744073709551615
+cut_most : (a : ℕ) → 18446744073709551615 ≤ a → cut_count a ≡ 18446744073709551615
 cut_most a h = min-eq_right h
 
-cut_below : (a : ℕ) → a ≤ 18446744073709551615 → cut a ≡ a
+cut_below : (a : ℕ) → a ≤ 18446744073709551615 → cut_count a ≡ a
 cut_below a h = min-eq_left h
 
-pub from_same : (a b : ℕ) → Same a b → cut a ≡ cut b
-from_same a b h = ⊎_elim (λ (e : a ≡ b). ap cut e) (λ (l : (18446744073709551615 ≤ a) × (18446744073709551615 ≤ b)). cut_most a l.0 ∙ sym (cut_most b l.1)) h
+pub from_same : (a b : ℕ) → Same a b → cut_count a ≡ cut_count b
+from_same a b h = ⊎_elim (λ (e : a ≡ b). ap cut_count e) (λ (l : (18446744073709551615 ≤ a) × (18446744073709551615 ≤ b)). cut_most a l.0 ∙ sym (cut_most b l.1)) h
 
-pub same_from : (a b : ℕ) → cut a ≡ cut b → Same a b
+pub same_from : (a b : ℕ) → cut_count a ≡ cut_count b → Same a b
 same_from a b e = ⊎_elim
     (λ (l : a < 18446744073709551615). ⊎_elim
     (λ (m : b < 18446744073709551615). inl (sym (cut_below a (omega arith)) ∙ (e ∙ cut_below b (omega arith))))
@@ -29,7 +29,7 @@ same_from a b e = ⊎_elim
     (cases_lt a 18446744073709551615)
 
 -- a sum is cut alike where its parts are
-pub cut_sum : (a b c d : ℕ) → cut a ≡ cut c → cut b ≡ cut d → cut (a + b) ≡ cut (c + d)
+pub cut_sum : (a b c d : ℕ) → cut_count a ≡ cut_count c → cut_count b ≡ cut_count d → cut_count (a + b) ≡ cut_count (c + d)
 cut_sum a b c d e f = from_same (a + b) (c + d) (⊎_elim
     (λ (g : a ≡ c). ⊎_elim
     (λ (h : b ≡ d). inl (λ i. g i + h i))
@@ -39,5 +39,5 @@ cut_sum a b c d e f = from_same (a + b) (c + d) (⊎_elim
     (same_from a c e))
 
 -- cutting twice is cutting once
-pub cut_twice : (a : ℕ) → cut (cut a) ≡ cut a
-cut_twice a = ⊎_elim (λ (l : a < 18446744073709551615). ap cut (cut_below a (omega arith))) (λ (l : 18446744073709551615 ≤ a). ap cut (cut_most a l) ∙ (cut_most 18446744073709551615 (omega arith) ∙ sym (cut_most a l))) (cases_lt a 18446744073709551615)
+pub cut_twice : (a : ℕ) → cut_count (cut_count a) ≡ cut_count a
+cut_twice a = ⊎_elim (λ (l : a < 18446744073709551615). ap cut_count (cut_below a (omega arith))) (λ (l : 18446744073709551615 ≤ a). ap cut_count (cut_most a l) ∙ (cut_most 18446744073709551615 (omega arith) ∙ sym (cut_most a l))) (cases_lt a 18446744073709551615)

@@ -7,7 +7,8 @@ use Rattle.std.proofs.lemmas.List.Concat.{flat_map-append}
 use Rattle.std.proofs.lemmas.List.Folds.{list_all-append}
 use Rattle.ll_laws.specs.Pool.{Owed, Status, Open, Closed, Taken, Piece, PoolData, Alternative, place}
 use Rattle.ll_laws.specs.Spread.{alternatives_of, numbers, last_first, walk_alternative, walk_deep, piece_of, piece_events, gives, share, owes_of, length_of, walk, kids_of, published_by}
-use Rattle.ll_laws.specs.Sound.{Every, Shaped, Sound, report_of, cut, is_open, is_taken, is_taken_piece, is_taken_status}
+use Rattle.ll_laws.specs.Search.{cut_count}
+use Rattle.ll_laws.specs.Sound.{Every, Shaped, Sound, report_of, is_open, is_taken, is_taken_piece, is_taken_status}
 use Rattle.ll_laws.specs.CoreEvents.{CoreEvent, Claim, Publish, Report, Ready, Work, Done, Events, change, new_piece, with_batch, with_status, claimed, published, reported, took, Does, MayTake}
 use Rattle.ll_core.proofs.Conditions.{MayGrow}
 use Rattle.ll_core.proofs.Walks.{walk_same, insert_after, is_alternative}
@@ -95,7 +96,7 @@ module _ {N Of E : Type 0} (of : N → Of) (alternatives : N → List (Owed E)) 
     pub before : list_all (is_taken p.pieces) front ≡ true
     pub others : list_all (λ a. not (is_taken p.pieces a)) back ≡ true
     pub events : events_in reports ≡ flat_map (value p) front
-    pub costs : cut (cost_in reports) ≡ cut (total (price p) front)
+    pub costs : cut_count (cost_in reports) ≡ cut_count (total (price p) front)
 
   -- what is taken keeps its piece and its share
   module _ (p q : PoolData N E) (e : CoreEvent N E) (s : Shaped alternatives p) (t : Shaped alternatives q) (d : Does alternatives p e q) (a : Alternative) (taken : is_taken p.pieces a ≡ true) where
@@ -133,7 +134,7 @@ module _ {N Of E : Type 0} (of : N → Of) (alternatives : N → List (Owed E)) 
     before = all_more (is_taken p.pieces) (is_taken q.pieces) g.front (still_taken p q e s t d) g.before;
     others = others;
     events = g.events ∙ sym (values_same (value q) (value p) (is_taken p.pieces) g.front (steady_value p q e s t d) g.before);
-    costs = g.costs ∙ sym (ap cut (prices_same (price q) (price p) (is_taken p.pieces) g.front (steady_price p q e s t d) g.before));
+    costs = g.costs ∙ sym (ap cut_count (prices_same (price q) (price p) (is_taken p.pieces) g.front (steady_price p q e s t d) g.before));
   }
 
   pub same_given : (p q : PoolData N E) (reports : List (Owed E)) → q ≡ p → Given p reports → Given q (reports ++ [])
@@ -217,7 +218,7 @@ module _ {N Of E : Type 0} (of : N → Of) (alternatives : N → List (Owed E)) 
           let untaken : list_all (λ a. not (is_taken p.pieces a)) (at ∷ may.next.back) ≡ true = subst (λ l. list_all (λ a. not (is_taken p.pieces a)) l ≡ true) split.1 g.others in
           let value_now : value q at ≡ report.events = ap (gives (owes_of alternatives q) at) piece_now ∙ sym (ap (λ (o : Owed E). o.events) its_share) in
           let price_now : price q at ≡ (share (owes_of alternatives p) x).cost = ap (share_cost (owes_of alternatives q) at) piece_now in
-          let cost_now : report.cost ≡ cut (share (owes_of alternatives p) x).cost = ap (λ (o : Owed E). o.cost) its_share in
+          let cost_now : report.cost ≡ cut_count (share (owes_of alternatives p) x).cost = ap (λ (o : Owed E). o.cost) its_share in
           let front_values = values_same (value q) (value p) (is_taken p.pieces) g.front (steady_value p q (Ready (Events report)) s.shape t d) g.before in
           let front_prices = prices_same (price q) (price p) (is_taken p.pieces) g.front (steady_price p q (Ready (Events report)) s.shape t d) g.before in
           record {
@@ -229,15 +230,15 @@ module _ {N Of E : Type 0} (of : N → Of) (alternatives : N → List (Owed E)) 
                 (and_from (is_taken q.pieces at) true (ap is_taken_piece piece_now) refl);
             others = untaken_elsewhere (is_taken p.pieces) (is_taken q.pieces) at elsewhere may.next.back none_behind (and_parts (not (is_taken p.pieces at)) (list_all (λ a. not (is_taken p.pieces a)) may.next.back) untaken).1;
             events = flat_map-append (λ (o : Owed E). o.events) reports (report ∷ []) ∙ ((λ j. (g.events ∙ sym front_values) j ++ (ap (λ l. l ++ []) (sym value_now)) j) ∙ sym (flat_map-append (value q) g.front (at ∷ [])));
-            costs = ap cut (total-append (λ (o : Owed E). o.cost) reports (report ∷ []))
-                ∙ (cut_sum (cost_in reports) (cost_in (report ∷ [])) (total (price q) g.front) (total (price q) (at ∷ [])) (g.costs ∙ sym (ap cut front_prices)) last_cost
-                ∙ sym (ap cut (total-append (price q) g.front (at ∷ []))));
+            costs = ap cut_count (total-append (λ (o : Owed E). o.cost) reports (report ∷ []))
+                ∙ (cut_sum (cost_in reports) (cost_in (report ∷ [])) (total (price q) g.front) (total (price q) (at ∷ [])) (g.costs ∙ sym (ap cut_count front_prices)) last_cost
+                ∙ sym (ap cut_count (total-append (price q) g.front (at ∷ []))));
           }
         where
-          last_cost : cut (cost_in (report ∷ [])) ≡ cut (total (price q) (at ∷ []))
+          last_cost : cut_count (cost_in (report ∷ [])) ≡ cut_count (total (price q) (at ∷ []))
           last_cost =
               let price_now : price q at ≡ (share (owes_of alternatives p) x).cost = ap (share_cost (owes_of alternatives q) at) piece_now in
-              let cost_now : report.cost ≡ cut (share (owes_of alternatives p) x).cost = ap (λ (o : Owed E). o.cost) its_share in
+              let cost_now : report.cost ≡ cut_count (share (owes_of alternatives p) x).cost = ap (λ (o : Owed E). o.cost) its_share in
               let a : cost_in (report ∷ []) ≡ report.cost = omega arith in
               let b : total (price q) (at ∷ []) ≡ price q at = omega arith in
-              ap cut (a ∙ cost_now) ∙ (cut_twice (share (owes_of alternatives p) x).cost ∙ sym (ap cut (b ∙ price_now)))
+              ap cut_count (a ∙ cost_now) ∙ (cut_twice (share (owes_of alternatives p) x).cost ∙ sym (ap cut_count (b ∙ price_now)))

@@ -21,5 +21,6 @@ pub mod LawfulEvents
 pub mod Cuts
 pub mod Openings
 pub mod Runs
+pub mod OpenSlots
 pub mod Given
 pub mod Owing

@@ -7,7 +7,8 @@ use Rattle.std.proofs.lemmas.List.{length-append}
 use Rattle.std.proofs.lemmas.List.Concat.{flat_map-append}
 use Rattle.ll_laws.specs.Pool.{Owed, Closed, Piece, PoolData, Alternative}
 use Rattle.ll_laws.specs.Spread.{piece_of, piece_events, gives, share, owes_of, length_of, walk, kids_of}
-use Rattle.ll_laws.specs.Sound.{Every, Sound, Reported, report_of, cut, is_open, is_taken, is_taken_piece, count_open}
+use Rattle.ll_laws.specs.Search.{cut_count}
+use Rattle.ll_laws.specs.Sound.{Every, Sound, Reported, report_of, is_open, is_taken, is_taken_piece, count_open}
 use Rattle.ll_laws.specs.Later.{Later}
 use Rattle.ll_laws.specs.CoreEvents.{CoreEvent, Claim, Publish, Report, Starve, Stop, Look, Ready, Work, Idle, Finished, Starved, Stopped, Done, Full, NoMemory, Events, NotYet, All, opening, claimed, published, reported, Does, Lawful, RunsTo, report_taken, report_in, report_left, reports_left}
 use Rattle.ll_core.proofs.Once.{total, total-append, one_if}
@@ -93,13 +94,13 @@ module _ {N Of E : Type 0} (of : N → Of) (alternatives : N → List (Owed E)) 
         ∙ (append-nil h.1.events
         ∙ sym (ap (gives (owes_of alternatives q) a) h.2 ∙ ap (piece_events (owes_of alternatives q) h.0) h.3)))
 
-    left_price : (a : Alternative) → a.k < length_of alternatives q a.batch → is_taken q.pieces a ≡ false → cut (cost_in of alternatives (left a)) ≡ cut (price of alternatives q a)
+    left_price : (a : Alternative) → a.k < length_of alternatives q a.batch → is_taken q.pieces a ≡ false → cut_count (cost_in of alternatives (left a)) ≡ cut_count (price of alternatives q a)
     left_price a inside untaken =
         let h = waits a inside untaken in
         let c : report_left {E = E} (piece_of q.pieces a) ≡ h.1 ∷ [] = ap (λ (o : Option (Piece E)). report_left o) h.2 ∙ ap report_in h.3 in
         let one : cost_in of alternatives (h.1 ∷ []) ≡ h.1.cost = omega arith in
-        let told : h.1.cost ≡ cut (share (owes_of alternatives q) h.0).cost = ap (λ (o : Owed E). o.cost) h.4 in
-        ap (λ l. cut (cost_in of alternatives l)) c ∙ (ap cut (one ∙ told) ∙ (cut_twice (share (owes_of alternatives q) h.0).cost ∙ sym (ap (λ (o : Option (Piece E)). cut (share_cost (owes_of alternatives q) a o)) h.2)))
+        let told : h.1.cost ≡ cut_count (share (owes_of alternatives q) h.0).cost = ap (λ (o : Owed E). o.cost) h.4 in
+        ap (λ l. cut_count (cost_in of alternatives l)) c ∙ (ap cut_count (one ∙ told) ∙ (cut_twice (share (owes_of alternatives q) h.0).cost ∙ sym (ap (λ (o : Option (Piece E)). cut_count (share_cost (owes_of alternatives q) a o)) h.2)))
 
     none_left : (a : Alternative) → is_taken q.pieces a ≡ true → left a ≡ []
     none_left a t = let h = taken_piece (piece_of q.pieces a) t in ap (λ (o : Option (Piece E)). report_left o) h.1 ∙ ap report_in h.2
@@ -119,11 +120,11 @@ module _ {N Of E : Type 0} (of : N → Of) (alternatives : N → List (Owed E)) 
         flat_map-append (λ (o : Owed E). o.events) (left a) (flat_map left back)
         ∙ (λ i. left_value a inside.0 (is_untaken (is_taken q.pieces a) t.0) i ++ left_values back inside.1 t.1 i)
 
-    left_prices : (back : List Alternative) → Every (λ (a : Alternative). a.k < length_of alternatives q a.batch) back → list_all (λ a. not (is_taken q.pieces a)) back ≡ true → cut (cost_in of alternatives (flat_map left back)) ≡ cut (total (price of alternatives q) back)
+    left_prices : (back : List Alternative) → Every (λ (a : Alternative). a.k < length_of alternatives q a.batch) back → list_all (λ a. not (is_taken q.pieces a)) back ≡ true → cut_count (cost_in of alternatives (flat_map left back)) ≡ cut_count (total (price of alternatives q) back)
     left_prices [] inside h = refl
     left_prices (a ∷ back) inside h =
         let t = and_parts (not (is_taken q.pieces a)) (list_all (λ a. not (is_taken q.pieces a)) back) h in
-        ap cut (total-append (λ (o : Owed E). o.cost) (left a) (flat_map left back))
+        ap cut_count (total-append (λ (o : Owed E). o.cost) (left a) (flat_map left back))
         ∙ cut_sum (cost_in of alternatives (left a)) (cost_in of alternatives (flat_map left back)) (price of alternatives q a) (total (price of alternatives q) back) (left_price a inside.0 (is_untaken (is_taken q.pieces a) t.0)) (left_prices back inside.1 t.1)
 
     module _ (reports : List (Owed E)) (g : Given of alternatives q reports) where
@@ -142,15 +143,15 @@ module _ {N Of E : Type 0} (of : N → Of) (alternatives : N → List (Owed E)) 
           ∙ (sym (flat_map-append (value of alternatives q) g.front g.back)
           ∙ (ap (flat_map (value of alternatives q)) (sym g.order) ∙ spread_is of alternatives q problem pair s))))
 
-      pub all_costs : cut (sum_by (λ (o : Owed E). o.cost) (reports ++ reports_left alternatives q)) ≡ cut pair.cost
+      pub all_costs : cut_count (sum_by (λ (o : Owed E). o.cost) (reports ++ reports_left alternatives q)) ≡ cut_count pair.cost
       all_costs =
-          ap cut (sum_total (λ (o : Owed E). o.cost) (reports ++ reports_left alternatives q) ∙ (ap (λ l. cost_in of alternatives (reports ++ l)) left_is ∙ total-append (λ (o : Owed E). o.cost) reports (flat_map left g.back)))
+          ap cut_count (sum_total (λ (o : Owed E). o.cost) (reports ++ reports_left alternatives q) ∙ (ap (λ l. cost_in of alternatives (reports ++ l)) left_is ∙ total-append (λ (o : Owed E). o.cost) reports (flat_map left g.back)))
           ∙ (cut_sum (cost_in of alternatives reports) (cost_in of alternatives (flat_map left g.back)) (total (price of alternatives q) g.front) (total (price of alternatives q) g.back) g.costs (left_prices g.back behind g.others)
-          ∙ ap cut (sym (total-append (price of alternatives q) g.front g.back) ∙ (ap (total (price of alternatives q)) (sym g.order) ∙ cost_is of alternatives q problem pair s)))
+          ∙ ap cut_count (sym (total-append (price of alternatives q) g.front g.back) ∙ (ap (total (price of alternatives q)) (sym g.order) ∙ cost_is of alternatives q problem pair s)))
 
   pub reports_owed : (root : N) (workers : ℕ) (pair : Owed E) (es : List (CoreEvent N E)) (q : PoolData N E) → alternatives root ≡ pair ∷ [] → RunsTo of alternatives (opening root workers) es q → q.untried ≡ 0 → q.busy ≡ 0
       → (flat_map (λ (o : Owed E). o.events) (flat_map report_taken es ++ reports_left alternatives q) ≡ pair.events)
-      × (cut (sum_by (λ (o : Owed E). o.cost) (flat_map report_taken es ++ reports_left alternatives q)) ≡ cut pair.cost)
+      × (cut_count (sum_by (λ (o : Owed E). o.cost) (flat_map report_taken es ++ reports_left alternatives q)) ≡ cut_count pair.cost)
   reports_owed root workers pair es q e r untried busy =
       let p = opening root workers in
       let s = opening_sound alternatives of root workers pair e in

@@ -90,7 +90,7 @@ none_last (x ∷ y ∷ ys) e = absurd (past (y ∷ ys) (let n : length (x ∷ y 
     past : {X : Type 0} (xs : List X) → slice_get xs (length xs - 1) ≡ None → 0 < length xs → ⊥
     past xs e some = none_low xs (length xs - 1) (omega arith) e
 
-slot_at : {X : Type 0} (xs : List X) (i : ℕ) (old : X) → i < length xs → old ≡ get_or xs i old → slice_get xs i ≡ Some old
+pub slot_at : {X : Type 0} (xs : List X) (i : ℕ) (old : X) → i < length xs → old ≡ get_or xs i old → slice_get xs i ≡ Some old
 slot_at [] i old low e = absurd (omega arith)
 slot_at (x ∷ xs) zero old low e = ap Some (sym e)
 slot_at (x ∷ xs) (suc i) old low e = slot_at xs i old (omega arith) e

@@ -2,7 +2,8 @@
 use Rattle.std.specs.Prelude.{◌≡◌, ◌⊎◌, ℕ, ◌+◌, List, [], ◌∷◌, ◌++◌, Some, length, slice_get, flat_map, sum_by}
 use Rattle.ll_laws.specs.Pool.{Owed, Taken, Piece, PoolData, Alternative}
 use Rattle.ll_laws.specs.Spread.{share, owed_at, owes_of, spread}
-use Rattle.ll_laws.specs.Sound.{Sound, cut}
+use Rattle.ll_laws.specs.Search.{cut_count}
+use Rattle.ll_laws.specs.Sound.{Sound}
 use Rattle.ll_laws.specs.Later.{Later}
 use Rattle.ll_laws.specs.CoreEvents.{CoreEvent, Claim, Publish, Report, Work, Done, opening, new_piece, with_batch, Holds, NoOpen, Does, By, Lawful, RunsTo, claim_of, report_taken, reports_left}
 
@@ -95,7 +96,7 @@ module _ {N Of E : Type 0} (of : N → Of) (alternatives : N → List (Owed E)) 
   ReportsOwed =
       (root : N) (workers : ℕ) (pair : Owed E) (es : List (CoreEvent N E)) (q : PoolData N E) → alternatives root ≡ pair ∷ [] → RunsTo of alternatives (opening root workers) es q → q.untried ≡ 0 → q.busy ≡ 0
       → (flat_map (λ (o : Owed E). o.events) (flat_map report_taken es ++ reports_left alternatives q) ≡ pair.events)
-      × (cut (sum_by (λ (o : Owed E). o.cost) (flat_map report_taken es ++ reports_left alternatives q)) ≡ cut pair.cost)
+      × (cut_count (sum_by (λ (o : Owed E). o.cost) (flat_map report_taken es ++ reports_left alternatives q)) ≡ cut_count pair.cost)
 
   -- ---- later pools
 

@@ -1,5 +1,5 @@
 -- The pool's own data as contracts see them.
-use Rattle.std.specs.Prelude.{◌≡◌, ℕ, ◌+◌, List, Bool, Option, Some, None, map, length}
+use Rattle.std.specs.Prelude.{◌≡◌, ℕ, ◌+◌, List, Bool, Option, Some, None, map, length, slice_get}
 use Rattle.std.specs.Arc.{arc_value}
 use Rattle.std.specs.declared.sync.Arc.{Arc}
 use Rattle.std.specs.declared.alloc.Global.{Global}
@@ -38,3 +38,7 @@ data_of arcs slots waiting workers busy starved stopped = record {
 abbrev pub TakesReport : State → Option (Owed Event) → State → Type 0
 TakesReport before (Some report) after = (status_in before ≡ Closed report) × (status_in after ≡ Taken)
 TakesReport before None after = (after ≡ before) × ((report : Owed Event) → status_in before ≡ Closed report → ⊥)
+
+-- none of the slots is open under this worker
+abbrev pub NoneOpen : List Slot → ℕ → Type 0
+NoneOpen slots worker = (i : ℕ) (s : Slot) → slice_get slots i ≡ Some s → status_in s.state ≡ Open → s.worker ≡ worker → ⊥

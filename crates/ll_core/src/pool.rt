@@ -1,8 +1,12 @@
 //! The pool.
 ghost use Rattle.std.specs.Prelude.{◌≡◌, ◌<◌, ◌≤◌, length, IfOk};
 ghost use Rattle.std.specs.Arc.{arc_value};
+ghost use Rattle.ll_laws.specs.Sound.{Shaped};
 ghost use Rattle.ll_laws.specs.CoreEvents.{Publishes, Readies, opening, NoOpen, IsOpenAt, starves, stops, reported};
 ghost use Rattle.ll_core.specs.Calls.{ClaimsAs, LooksAs, HandsBack, publish_answer, ready_answer};
+
+#[cfg(test)]
+mod tests;
 
 use crate::answers::{Claimed, Look, PublishFault, Ready};
 use crate::cursor::{Stop, advance, take_report};
@@ -192,9 +196,11 @@ impl<N: Batch> Pool<N> {
         self.stopped = true;
     }
 
-    /// How many alternatives are untried and pieces open, and whether the pool is starved or stopped.
+    /// How many alternatives are untried and pieces open, and whether the pool is starved or stopped. Each pool has the parts of
+    /// soundness that hold whatever was reported.
     pub fn look(&self) -> Look
-        ensures { LooksAs N.alternatives self.now result self.now }
+        ensures event { LooksAs N.alternatives self.now result self.now }
+        ensures shaped { Shaped N.alternatives self.now }
     {
         Look {
             untried: self.waiting.len() as u32,
@@ -209,7 +215,8 @@ impl<N: Batch> Pool<N> {
     /// `NotYet` exactly where this next piece is open, with its number, or is an alternative that is not claimed. `All` exactly where
     /// every piece is taken and none is untried. Either leaves the pool as it is. It takes no memory.
     pub fn ready(&mut self) -> Ready
-        ensures { Readies N.alternatives self.old (ready_answer result) self.new }
+        ensures event { Readies N.alternatives self.old (ready_answer result) self.new }
+        ensures shaped { Shaped N.alternatives self.old }
     {
         let Some(&stop) = self.stack.last() else {
             return Ready::All;

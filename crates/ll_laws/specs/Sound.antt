@@ -1,6 +1,7 @@
 -- Sound pools: the invariant of every run.
-use Rattle.std.specs.Prelude.{◌≡◌, ℕ, ◌+◌, ◌<◌, ◌≤◌, List, [], ◌∷◌, ◌++◌, Bool, true, false, not, Option, Some, None, if◌then◌else◌, ◌==◌, length, slice_get, flat_map, sum_by, min}
+use Rattle.std.specs.Prelude.{◌≡◌, ℕ, ◌+◌, ◌<◌, ◌≤◌, List, [], ◌∷◌, ◌++◌, Bool, true, false, not, Option, Some, None, if◌then◌else◌, ◌==◌, length, slice_get, flat_map, sum_by}
 use Rattle.std.specs.List.{list_all}
+use Rattle.ll_laws.specs.Search.{cut_count}
 use Rattle.ll_laws.specs.Pool.{Owed, Status, Open, Closed, Taken, Piece, PoolData, Alternative}
 use Rattle.ll_laws.specs.Spread.{owed_by, owed_at, given_events, given_cost, share, owes_of, walk, piece_of}
 
@@ -17,10 +18,6 @@ Every P (x ∷ xs) = P x × Every P xs
 abbrev pub count_of : ℕ → List ℕ → ℕ
 count_of b [] = 0
 count_of b (c ∷ cs) = (if c == b then 1 else 0) + count_of b cs
-
--- a count as it is told, cut at the greatest u64
-abbrev pub cut : ℕ → ℕ
-cut n = min n 18446744073709551615
 
 -- the pieces of the walk that are taken are the first ones
 abbrev pub TakenFirst : (Alternative → Bool) → List Alternative → Type 0
@@ -60,7 +57,7 @@ module _ {E : Type 0} where
 
   -- the report that tells what is owed
   abbrev pub report_of : Owed E → Owed E
-  report_of o = record { events = o.events; cost = cut o.cost }
+  report_of o = record { events = o.events; cost = cut_count o.cost }
 
   -- where a report waits to be taken, it tells the share
   abbrev pub Reported : Owed E → Status E → Type 0

@@ -14,8 +14,8 @@ use Rattle.ll_core.specs.Whole.{Whole}
 use Rattle.ll_core.specs.declared.room.Slot.{Slot}
 use Rattle.ll_core.proofs.pool.Pool.ready.Goals as goal
 
-pub returns-in_default : goal.returns-in_default
-returns-in_default g c =
+pub returns-in_default-clause-event : goal.returns-in_default-clause-event
+returns-in_default-clause-event g c =
     let i = c.self.inside in
     let none : i.stack.items ≡ [] = none_last i.stack.items (subst (λ l. slice_get l (length l - 1) ≡ None) c.deref.ensures.value (sym c.in_default.ensures.value)) in
     subst (λ v. Readies g.N.Batch.alternatives v All v) c.self.view_is (readies_all g.N.Batch.alternatives _ _ _ _ _ _ c.self.invariant refl (ap (map stop_in) none))
@@ -33,8 +33,8 @@ overflow_add-piece g c =
     let s = start_is A _ _ _ _ _ _ c.self.invariant stop e c.index.result.now c.index.ensures in
     let l = number_below A _ _ _ _ _ _ c.self.invariant stop e in let m = c.self.invariant.formed.small in omega arith
 
-pub returns-then-len-at : goal.returns-then-len-at
-returns-then-len-at g c =
+pub returns-then-len-at-clause-event : goal.returns-then-len-at-clause-event
+returns-then-len-at-clause-event g c =
     let i = c.self.inside in let stop = c.in-Some.field-0.now in let A = g.N.Batch.alternatives in
     let e : slice_get i.stack.items (length i.stack.items - 1) ≡ Some stop = subst (λ l. slice_get l (length l - 1) ≡ Some stop) c.deref.ensures.value (sym c.in-Some.ensures.value) in
     let s = start_is A _ _ _ _ _ _ c.self.invariant stop e c.index.result.now c.index.ensures in
@@ -59,8 +59,8 @@ invariant_of-self g c =
     let new : Slot = record { batch = old.batch; k = old.k; worker = old.worker; published = old.published; state = c.take_report.new.state } in
     whole_kept A i.batches.items i.pieces.items i.waiting.items i.workers i.busy i.starved i.stopped i.starts.items i.stack.items _ _ c.self.invariant stop e c.index.result.now s low old here new (λ j. record { batch = old.batch; k = old.k; worker = old.worker; published = old.published; state = c.in_default-take_report.ensures.0 j })
 
-pub returns-in_default-take_report : goal.returns-in_default-take_report
-returns-in_default-take_report g c =
+pub returns-in_default-take_report-clause-event : goal.returns-in_default-take_report-clause-event
+returns-in_default-take_report-clause-event g c =
     let i = c.self.inside in let stop = c.in-Some.field-0.now in let A = g.N.Batch.alternatives in
     let e : slice_get i.stack.items (length i.stack.items - 1) ≡ Some stop = subst (λ l. slice_get l (length l - 1) ≡ Some stop) c.deref.ensures.value (sym c.in-Some.ensures.value) in
     let s = start_is A _ _ _ _ _ _ c.self.invariant stop e c.index.result.now c.index.ensures in
@@ -117,8 +117,8 @@ invariant_of-self-2 g c =
     (c.len-len.ensures ∙ (ap (λ n. length (A n)) c.deref-2.ensures ∙ length_there A i.batches.items stop.batch arc (omega arith) c.index-2.ensures))
     (ap (λ (slot : Slot). slot.published.items) again) c.advance.ensures.items)
 
-pub returns : goal.returns
-returns g c =
+pub returns-clause-event : goal.returns-clause-event
+returns-clause-event g c =
     let i = c.self.inside in let stop = c.in-Some.field-0.now in let A = g.N.Batch.alternatives in
     let e : slice_get i.stack.items (length i.stack.items - 1) ≡ Some stop = subst (λ l. slice_get l (length l - 1) ≡ Some stop) c.deref.ensures.value (sym c.in-Some.ensures.value) in
     let s = start_is A _ _ _ _ _ _ c.self.invariant stop e c.index.result.now c.index.ensures in

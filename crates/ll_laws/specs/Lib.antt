@@ -18,3 +18,9 @@ pub mod Fault
 pub mod Line
 pub mod Verdict
 pub mod ShownLines
+pub mod Pool
+pub mod PoolCodes
+pub mod Spread
+pub mod Sound
+pub mod CoreEvents
+pub mod Later

@@ -4,6 +4,7 @@
 //! and `docs/DEFINITIONS.md` explains them in reading order.
 #![tactic(auto)]
 
+ghost use Rattle.std.specs.Prelude.{◌≡◌, length};
 ghost use Rattle.ll_laws.specs.Laws.{StuckSearch, EndedSearch, BoundSearch, SteppedSearch, SteadySearch, SettledOnce, SettledUnder, StartsConsistent, SettlesConsistent, StepsConsistent, FoundUnifies, FoundLowers, FoundIsMostGeneral, NoneUnifies, ShownIsDerivable, FaultlessShows, ShownIsFaultless};
 
 use ll_bank::{At, Bank, FormAt, Names};
@@ -131,11 +132,45 @@ pub enum Event {
     Reached,
 }
 
-/// The events of a part of a search, and its inferences, cut at the greatest `u64`.
+/// The events of a part of a search, and its inferences, cut at the greatest `u64`. Contracts see what it tells.
 #[derive(Drop)]
 pub struct Report {
     pub events: Vec<Event>,
     pub inferences: u64,
+}
+
+impl Model for Report {
+    ghost use Rattle.ll_laws.specs.Pool.{Owed};
+    ghost use Rattle.ll_laws.specs.PoolCodes.{owed_code};
+    ghost use Rattle.ll_laws.specs.declared.Event.{Event};
+    ghost use Rattle.ll_laws.specs.contracts.Event as event;
+
+    ghost Value = { Owed Event };
+
+    ghost coded = { owed_code event.the_row.coded };
+
+    ghost view = { λ report. record { events = report.events.items; cost = report.inferences } };
+}
+
+/// Alternatives that workers can share: the untried ones of one choice point. A batch can be sent to a thread, shared between threads
+/// and dropped.
+pub trait Batch: Drop + Send + Sync {
+    /// What a batch is of, which lives in contracts alone: for the alternatives of a search its problem.
+    type Of;
+
+    ghost use Rattle.std.specs.Prelude.{List};
+    ghost use Rattle.ll_laws.specs.Pool.{Owed};
+    ghost use Rattle.ll_laws.specs.declared.Event.{Event};
+
+    // What this batch is of.
+    ghost of: { Self → Self.Of };
+
+    // The events that each alternative owes, in order, and its cost.
+    ghost alternatives: { Self → List (Owed Event) };
+
+    /// The number of its alternatives.
+    fn len(&self) -> u32
+        ensures { result ≡ length (alternatives self.now) };
 }
 
 /// How many answers, branches cut off at the bound, and inferences a search has, each cut at the greatest `u64`.

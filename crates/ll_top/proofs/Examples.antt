@@ -1,7 +1,6 @@
 -- The definitions of words and texts, computed on examples.
 use Rattle.std.proofs.Common.{◌≡◌, refl, [], ◌∷◌}
 use Rattle.std.specs.Prelude.{Some, None, codes}
-use Rattle.ll_top.specs.Words.{run_words}
 use Rattle.ll_top.specs.Reading.{NameToken, TrueToken, LinearToken, DotToken, CommaToken, ColonDashToken, problem_of_tokens}
 use Rattle.ll_laws.specs.Output.{run_text}
 use Rattle.ll_laws.specs.Unify.{mgu}
@@ -10,13 +9,6 @@ use Rattle.ll_laws.specs.Attempt.{tries, attempt, successors}
 use Rattle.ll_laws.specs.Search.{events, cost}
 use Rattle.std.specs.Fmt.{digits}
 use Rattle.std.specs.Prelude.{option_map}
-
-words_of_a_run : run_words (codes "run" ∷ codes "prog" ∷ codes "ques" ∷ codes "--bound" ∷ codes "03" ∷ codes "--workers" ∷ codes "1" ∷ [])
-    ≡ Some (record { program = codes "prog"; query = codes "ques"; bound = 3; workers = 1 })
-words_of_a_run = refl
-
-bound_past_the_greatest : run_words (codes "run" ∷ codes "prog" ∷ codes "ques" ∷ codes "--bound" ∷ codes "1000001" ∷ codes "--workers" ∷ codes "1" ∷ []) ≡ None
-bound_past_the_greatest = refl
 
 two_linear_facts : option_map run_text (problem_of_tokens 3
     (Some (LinearToken ∷ NameToken (codes "a") ∷ DotToken ∷ LinearToken ∷ NameToken (codes "b") ∷ DotToken ∷ []))

@@ -1,4 +1,7 @@
 pub mod Examples
+pub mod FirstBad
+pub mod Forms
+pub mod RunWords
 pub mod WordsLemmas
 pub mod ReaderTokens
 pub mod ReaderGrammar
@@ -9,7 +12,9 @@ pub mod EngineOwed
 pub mod EngineStates
 pub mod EngineChoices
 pub mod EngineSteps
-pub mod PrepareLemmas
 pub mod RunLemmas
+pub mod PartsLemmas
+pub mod JudgeLemmas
 pub mod OutcomeLemmas
 pub mod ReadingLemmas
+pub mod PrepareLemmas

@@ -1,49 +1,126 @@
--- A text that is not read is what its task is about.
-use Rattle.std.proofs.Common.{◌≡◌, ◌≤◌, ℕ, ap, sym, ◌∙◌, subst, List, length}
-use Rattle.std.specs.Prelude.{Option, Some, None, Ok, Err, IfSome, if◌then◌else◌}
-use Rattle.std.proofs.lemmas.Bool.{le-leb, lt-leb}
+-- From the reading and judging of two texts to what a run comes to.
+use Rattle.std.proofs.Common.{◌≡◌, ◌≤◌, ◌<◌, ◌⊎◌, ℕ, Bool, true, false, List, [], ◌∷◌, Option, Some, None, refl, ap, sym, subst, ◌∙◌, inl, inr, arith}
+use Rattle.std.specs.Prelude.{Result, Ok, Err, IfSome, IsSomeAnd, IsErrAnd, is_some}
 use Rattle.ll_edge.specs.Texts.{Texts, text_of}
-use Rattle.ll_top.specs.declared.refusal.Refusal.{Refusal}
-use Rattle.ll_top.specs.declared.refusal.Refusal.TheVariants.{AbsentText, UnreadableText, OversizedText, UnreadText, Unwritable, OutOfMemory}
-use Rattle.ll_top.specs.Words.{RunWords}
-use Rattle.ll_top.specs.Outcome.{Task, Oversized, Judges, with_text, run_task, longest_text}
-use Rattle.ll_top.specs.Endings.{IsLookedUp, Prepares}
+use Rattle.ll_edge.specs.Counts.{Rose, last_count}
 use Rattle.ll_laws.specs.Problem.{ProblemTree}
-use Rattle.ll_top.specs.Reading.{Asks}
+use Rattle.ll_laws.specs.Module.{ClauseTree}
+use Rattle.ll_bank.specs.Form.{Form}
+use Rattle.ll_lexer.specs.declared.Fault.{Fault}
+use Rattle.ll_lexer.specs.declared.TextFault.{TextFault}
+use Rattle.ll_lexer.specs.declared.TextFault.TheVariants as text_fault
+use Rattle.ll_lexer.specs.Reading.{LexedText, IsLexed, HasFault}
+use Rattle.ll_top.specs.declared.judge.Role.{Role}
+use Rattle.ll_top.specs.declared.judge.Role.TheVariants.{Program, Query}
+use Rattle.ll_top.specs.declared.judge.State.TheVariants.{Clauses, Wants}
+use Rattle.ll_top.specs.declared.refusal.TextRefusal.{TextRefusal}
+use Rattle.ll_top.specs.declared.refusal.TextRefusal.TheVariants as text
+use Rattle.ll_top.specs.declared.refusal.Refusal.{Refusal}
+use Rattle.ll_top.specs.declared.refusal.Refusal.TheVariants.{Text, Unwritable, OutOfMemory}
+use Rattle.ll_top.specs.Words.{RunWords}
+use Rattle.ll_top.specs.Reading.{Token, tokens_in, HasTokens, lexed, faulty, at_dots, program_of, query_of, problem_from, problem_of_tokens, names_of, number_in, Asks, both, no_program, no_query}
+use Rattle.ll_top.specs.Judging.{IsText, IsOfLanguage, IsTextFault, IsTextCause, kinds_in}
+use Rattle.ll_top.specs.Outcome.{IsRead, Reaches, first, later, RunFails, absent, unreadable, oversized, faulty_program, faulty_query, RunAsks}
+use Rattle.ll_top.specs.Endings.{refusal_of, cause_of, name_of, IsTextNotRead, IsNotRead, IsFaultOf, of_program, of_query, Judges, Prepares}
+use Rattle.ll_top.specs.Machine.{first_state}
+use Rattle.ll_top.proofs.JudgeLemmas.{found, text-tokens, query-found}
+use Rattle.ll_top.proofs.ReadingLemmas.{tokens-once}
 
--- a text that is there and not too long is gone on with
-with_text-read : (name : List ℕ) (go : List ℕ → Task) (found : Option (List ℕ)) (text : List ℕ) → found ≡ Some text → length text ≤ longest_text → with_text name go found ≡ go text
-with_text-read name go found text e h = ap (with_text name go) e ∙ ap (λ b. if b then go text else Oversized name) (le-leb (length text) longest_text h)
+-- ---- texts of the language ask a problem
 
--- a text that is not read
-with_text-refused : (name : List ℕ) (go : List ℕ → Task) (found : Option (List ℕ)) (e : Refusal) → IsLookedUp found (Err e) → Prepares (with_text name go found) (Err e)
-with_text-refused name go found AbsentText h = (name, ap (with_text name go) h)
-with_text-refused name go found UnreadableText h = tt
-with_text-refused name go None OversizedText h = absurd h
-with_text-refused name go (Some text) OversizedText h = (name, ap (λ b. if b then go text else Oversized name) (lt-leb (length text) longest_text h))
-with_text-refused name go found UnreadText h = absurd h
-with_text-refused name go found Unwritable h = absurd h
-with_text-refused name go found OutOfMemory h = tt
+has-problem : (names : List (List ℕ)) (bound : ℕ) (cs : Option (List ClauseTree)) (g : Option Form) → is_some cs ≡ true → is_some g ≡ true → None ≡ problem_from names bound cs g → ⊥
+has-problem names bound (Some cs) (Some g) h k e = cc
+has-problem names bound None g h k e = cc
+has-problem names bound (Some cs) None h k e = cc
 
--- the program is not read
-pub program-refused : (told : Option Texts) (w : RunWords) (e : Refusal) → IfSome told (λ texts. IsLookedUp (text_of texts w.program) (Err e)) → IfSome told (λ texts. Prepares (run_task texts w) (Err e))
-program-refused None w e h = tt
-program-refused (Some texts) w e h = with_text-refused w.program _ (text_of texts w.program) e h
+problem-of-tokens : (bound : ℕ) (ps qs : Option (List Token)) → ((number : List ℕ → ℕ) → found number Clauses ps ≡ true) → ((number : List ℕ → ℕ) → found number (Wants Query) qs ≡ true) → None ≡ problem_of_tokens bound ps qs → ⊥
+problem-of-tokens bound None qs h k e = let f = h (λ _. 0) in cc
+problem-of-tokens bound (Some ps) None h k e = let f = k (λ _. 0) in cc
+problem-of-tokens bound (Some ps) (Some qs) h k e =
+    let names = names_of ps qs in
+    has-problem names bound (program_of (number_in names) ps) (query_of (number_in names) qs) (h (number_in names)) (query-found (number_in names) qs (k (number_in names))) e
 
--- the program is read, and the query is not
-pub query-refused : (told : Option Texts) (w : RunWords) (program : List ℕ) (e : Refusal) → length program ≤ longest_text → IfSome told (λ texts. text_of texts w.program ≡ Some program)
-    → IfSome told (λ texts. IsLookedUp (text_of texts w.query) (Err e)) → IfSome told (λ texts. Prepares (run_task texts w) (Err e))
-query-refused None w program e l p q = tt
-query-refused (Some texts) w program e l p q =
-    subst (λ t. Prepares t (Err e)) (sym (with_text-read w.program _ (text_of texts w.program) program p l)) (with_text-refused w.query _ (text_of texts w.query) e q)
+module _ (same : (a b : LexedText) → a.text ≡ b.text → IsLexed a → IsLexed b → a ≡ b) (not_both : (a : LexedText) (f : Fault) → IsLexed a → HasFault a.text f → ⊥) where
+  of-language : (role : Role) (text : List ℕ) → IsOfLanguage role text → (o : Option (List Token)) → HasTokens text o → (number : List ℕ → ℕ) → found number (first_state role) o ≡ true
+  of-language role text l o h number =
+      let own = lexed l.lexed l.of_text l.is_lexed refl in
+      subst (λ x. found number (first_state role) x ≡ true) (tokens-once same not_both text (tokens_in text l.lexed.tokens) o own h) (text-tokens number text role l.lexed.tokens l.is_text)
 
--- both are read, and judged
-module _ (w : RunWords) (program query : List ℕ) (pl : length program ≤ longest_text) (ql : length query ≤ longest_text) where
-  judges : (texts : Texts) → text_of texts w.program ≡ Some program → text_of texts w.query ≡ Some query → run_task texts w ≡ Judges program query w.bound
-  judges texts p q = with_text-read w.program _ (text_of texts w.program) program p pl ∙ with_text-read w.query _ (text_of texts w.query) query q ql
+  pub asks-some : (program query : List ℕ) (bound : ℕ) → IsOfLanguage Program program → IsOfLanguage Query query → Asks program query bound None → ⊥
+  asks-some program query bound p q (both ps qs h k e) = problem-of-tokens bound ps qs (of-language Program program p ps h) (of-language Query query q qs k) e
+  asks-some program query bound p q (no_program h e) = let f = of-language Program program p None h (λ _. 0) in cc
+  asks-some program query bound p q (no_query h e) = let f = of-language Query query q None h (λ _. 0) in cc
 
-  -- they ask a problem
-  pub problem-prepared : (told : Option Texts) (p : ProblemTree) → IfSome told (λ texts. text_of texts w.program ≡ Some program) → IfSome told (λ texts. text_of texts w.query ≡ Some query)
-      → Asks program query w.bound (Some p) → IfSome told (λ texts. Prepares (run_task texts w) (Ok p))
-  problem-prepared None p h k a = tt
-  problem-prepared (Some texts) p h k a = subst (λ t. Prepares t (Ok p)) (sym (judges texts h k)) a
+-- ---- texts that are not read
+
+-- the text whose turn it is was not read
+not-read : (told : Option Texts) (absence read_failed : Type 0) (run : RunWords) (name : List ℕ) (refusal : TextRefusal) → Reaches told (run.program ∷ run.query ∷ []) name → IsTextNotRead told absence read_failed name refusal
+    → RunFails told absence read_failed run (cause_of name refusal)
+not-read told absence read_failed run name text.Absent r h = absent name r h.0 h.1
+not-read told absence read_failed run name text.Unreadable r h = unreadable name r h
+not-read told absence read_failed run name text.Oversized r h = oversized name r h
+not-read told absence read_failed run name (text.Faulty fault) r h = absurd h
+
+pub program-refused : (told : Option Texts) (absence read_failed : Type 0) (run : RunWords) (e : Refusal) → IsNotRead told absence read_failed run.program Program e → Prepares told absence read_failed run (Err e)
+program-refused told absence read_failed run (Text role refusal) h =
+    subst (λ r. RunFails told absence read_failed run (cause_of (name_of run r) refusal)) (sym h.0) (not-read told absence read_failed run run.program refusal first h.1)
+program-refused told absence read_failed run Unwritable h = absurd h
+program-refused told absence read_failed run OutOfMemory h = tt
+
+pub query-refused : (told : Option Texts) (absence read_failed : Type 0) (run : RunWords) (program : List ℕ) (e : Refusal) → IsRead told run.program program → IsNotRead told absence read_failed run.query Query e → Prepares told absence read_failed run (Err e)
+query-refused told absence read_failed run program (Text role refusal) p h =
+    subst (λ r. RunFails told absence read_failed run (cause_of (name_of run r) refusal)) (sym h.0) (not-read told absence read_failed run run.query refusal (later program p first) h.1)
+query-refused told absence read_failed run program Unwritable p h = absurd h
+query-refused told absence read_failed run program OutOfMemory p h = tt
+
+-- a count that rose later on rose
+pub rose-later : (before middle after : ℕ) → before ≤ middle → Rose middle after → Rose before after
+rose-later before middle after h (inl l) = inl (omega arith)
+rose-later before middle after h (inr e) = inr e
+
+-- with counts that rose later on
+pub not-read-later : (told : Option Texts) (absence absence' read_failed read_failed' : Type 0) (name : List ℕ) (role : Role) (e : Refusal) → (absence → absence') → (read_failed → read_failed')
+    → IsNotRead told absence read_failed name role e → IsNotRead told absence' read_failed' name role e
+not-read-later told a a' r r' name role (Text other text.Absent) f g h = (h.0, (f h.1.0, h.1.1))
+not-read-later told a a' r r' name role (Text other text.Unreadable) f g h = (h.0, g h.1)
+not-read-later told a a' r r' name role (Text other text.Oversized) f g h = h
+not-read-later told a a' r r' name role (Text other (text.Faulty fault)) f g h = h
+not-read-later told a a' r r' name role Unwritable f g h = h
+not-read-later told a a' r r' name role OutOfMemory f g h = h
+
+-- ---- texts that are read
+
+pub prepared : (told : Option Texts) (absence read_failed : Type 0) (run : RunWords) (program query : List ℕ) → IsRead told run.program program → IsRead told run.query query → (r : Result ProblemTree Refusal) → Judges program query run.bound r
+    → Prepares told absence read_failed run r
+prepared told absence read_failed run program query p q (Ok problem) h = record { program = program; query = query; program_read = p; query_read = q; asks = h }
+prepared told absence read_failed run program query p q (Err (Text role refusal)) h = by role refusal h
+  where
+    by : (role : Role) (refusal : TextRefusal) → IsFaultOf program query role refusal → RunFails told absence read_failed run (cause_of (name_of run role) refusal)
+    by Program (text.Faulty f) (of_program g) = faulty_program program query f p q g
+    by Query (text.Faulty f) (of_query l g) = faulty_query program query f p q l g
+    by Program text.Absent g = elim g [ ]
+    by Program text.Unreadable g = elim g [ ]
+    by Program text.Oversized g = elim g [ ]
+    by Query text.Absent g = elim g [ ]
+    by Query text.Unreadable g = elim g [ ]
+    by Query text.Oversized g = elim g [ ]
+prepared told absence read_failed run program query p q (Err Unwritable) h = absurd h
+prepared told absence read_failed run program query p q (Err OutOfMemory) h = tt
+
+-- ---- judging
+
+-- a text that was judged to be of the language
+pub judged : (role : Role) (text : List ℕ) (l : LexedText) → l.text ≡ text → IsLexed l → IsText role (kinds_in l.tokens) → IsOfLanguage role text
+judged role text l e h t = record { lexed = l; of_text = e; is_lexed = h; is_text = t }
+
+pub program-judged : (program query : List ℕ) (bound : ℕ) (fault : TextFault) (r : Refusal) → r ≡ refusal_of Program fault → IsTextCause Program program fault → Judges program query bound (Err r)
+program-judged program query bound (text_fault.Text f) r e h = subst (λ x. Judges program query bound (Err x)) (sym e) (of_program h)
+program-judged program query bound text_fault.OutOfMemory r e h = subst (λ x. Judges program query bound (Err x)) (sym e) tt
+
+pub query-judged : (program query : List ℕ) (bound : ℕ) (fault : TextFault) (r : Refusal) → r ≡ refusal_of Query fault → IsOfLanguage Program program → IsTextCause Query query fault → Judges program query bound (Err r)
+query-judged program query bound (text_fault.Text f) r e l h = subst (λ x. Judges program query bound (Err x)) (sym e) (of_query l h)
+query-judged program query bound text_fault.OutOfMemory r e l h = subst (λ x. Judges program query bound (Err x)) (sym e) tt
+
+-- what the texts of tokens ask
+pub asks-texts : (p q program query : List ℕ) (bound : ℕ) (asked : Option ProblemTree) → p ≡ program → q ≡ query → Asks p q bound asked → Asks program query bound asked
+asks-texts p q program query bound asked e f h = subst (λ x. Asks x query bound asked) e (subst (λ x. Asks p x bound asked) f h)

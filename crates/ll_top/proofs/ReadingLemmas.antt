@@ -9,7 +9,7 @@ module _ (same : (a b : LexedText) → a.text ≡ b.text → IsLexed a → IsLex
   apart : (text : List ℕ) (l : LexedText) (f : Fault) → l.text ≡ text → IsLexed l → HasFault text f → ⊥
   apart text l f e h g = not_both l f h (subst (λ t. HasFault t f) (sym e) g)
 
-  tokens-once : (text : List ℕ) (ts us : Option (List Token)) → HasTokens text ts → HasTokens text us → ts ≡ us
+  pub tokens-once : (text : List ℕ) (ts us : Option (List Token)) → HasTokens text ts → HasTokens text us → ts ≡ us
   tokens-once text ts us (lexed l e h p) (lexed m f k q) = p ∙ (ap (λ x. tokens_in text x.tokens) (same l m (e ∙ sym f) h k) ∙ sym q)
   tokens-once text ts us (lexed l e h p) (faulty f k q) = absurd (apart text l f e h k)
   tokens-once text ts us (faulty f k q) (lexed l e h p) = absurd (apart text l f e h k)

@@ -34,7 +34,7 @@ take-append_front (b ∷ done) piece rest n zero e h = absurd (omega arith)
 take-append_front (b ∷ done) piece rest n (suc k) e h = ap (λ xs. b ∷ xs) (take-append_front done piece rest n k (omega arith) h)
 
 -- some first bytes of a piece, after what comes before it in a text
-front_in : (before mid after : Option (List ℕ)) (done piece rest text : List ℕ) → mid ≡ append_known before done → done ++ (piece ++ rest) ≡ text
+pub front_in : (before mid after : Option (List ℕ)) (done piece rest text : List ℕ) → mid ≡ append_known before done → done ++ (piece ++ rest) ≡ text
     → AppendsFront mid piece after → AppendsFront before text after
 front_in before mid after done piece rest text w e f = record {
   taken = length done + f.taken;

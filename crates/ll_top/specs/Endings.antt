@@ -1,42 +1,95 @@
 -- How the parts of a run end, in the program's own types.
-use Rattle.std.specs.Prelude.{◌≡◌, ◌<◌, ⊤, ℕ, List, length, Option, Some, None, Result, Ok, Err, Vec, IsSomeAnd}
-use Rattle.std.specs.declared.alloc.Global.{Global}
+use Rattle.std.specs.Prelude.{◌≡◌, ◌<◌, ℕ, List, length, Option, Some, None, Result, Ok, Err, IsSomeAnd, IfSome}
 use Rattle.std.specs.Io.KnownBytes.{append_known}
 use Rattle.ll_edge.specs.Pieces.{AppendsFront}
+use Rattle.ll_edge.specs.Texts.{Texts, text_of}
 use Rattle.ll_laws.specs.Problem.{ProblemTree}
 use Rattle.ll_laws.specs.Output.{run_text, run_status}
+use Rattle.ll_lexer.specs.declared.Fault.{Fault}
+use Rattle.ll_lexer.specs.declared.TextFault.{TextFault}
+use Rattle.ll_lexer.specs.declared.TextFault.TheVariants as text_fault
+use Rattle.ll_top.specs.declared.fault.Cause.{Cause as OwnCause}
+use Rattle.ll_top.specs.declared.fault.Cause.TheVariants as own
+use Rattle.ll_top.specs.declared.judge.Role.{Role}
+use Rattle.ll_top.specs.declared.judge.Role.TheVariants.{Program, Query}
 use Rattle.ll_top.specs.declared.run.Found.{Found}
 use Rattle.ll_top.specs.declared.run.Found.TheVariants.{Answer, Nothing, Bound}
+use Rattle.ll_top.specs.declared.refusal.TextRefusal.{TextRefusal}
+use Rattle.ll_top.specs.declared.refusal.TextRefusal.TheVariants as text
 use Rattle.ll_top.specs.declared.refusal.Refusal.{Refusal}
-use Rattle.ll_top.specs.declared.refusal.Refusal.TheVariants.{AbsentText, UnreadableText, OversizedText, UnreadText, Unwritable, OutOfMemory}
-use Rattle.ll_top.specs.Outcome.{Task, Missing, Oversized, Runs, IsUnread, longest_text, AppendsOwn}
+use Rattle.ll_top.specs.declared.refusal.Refusal.TheVariants.{Text, Unwritable, OutOfMemory}
+use Rattle.ll_top.specs.Words.{RunWords}
+use Rattle.ll_top.specs.Faults.{Cause, Usage, Absent, Unreadable, Oversized, Faulty, fault_text, cause_status}
+use Rattle.ll_top.specs.Reading.{Asks}
+use Rattle.ll_top.specs.Judging.{IsOfLanguage, IsTextFault}
+use Rattle.ll_top.specs.Outcome.{longest_text, IsRead, RunFails, RunAsks, RunComesTo, AppendsOwn}
 
--- what reading a text gave: the text that was looked up, or a cause why it was not read
-abbrev pub IsLookedUp : Option (List ℕ) → Result (Vec ℕ Global) Refusal → Type 0
-IsLookedUp found (Ok text) = found ≡ Some text.items
-IsLookedUp found (Err AbsentText) = found ≡ None
-IsLookedUp found (Err UnreadableText) = ⊤
-IsLookedUp found (Err OversizedText) = IsSomeAnd found (λ text. longest_text < length text)
-IsLookedUp found (Err UnreadText) = ⊥
-IsLookedUp found (Err Unwritable) = ⊥
-IsLookedUp found (Err OutOfMemory) = ⊤
+-- ---- causes
 
--- a task for which a text is missing, or too long
-abbrev pub IsMissing : Task → Type 0
-IsMissing task = (name : List ℕ) × (task ≡ Missing name)
+-- what the program's value of a cause shows
+abbrev pub shown_cause : OwnCause → Cause
+shown_cause (own.Usage number) = Usage number
+shown_cause (own.Absent name) = Absent name.now
+shown_cause (own.Unreadable name) = Unreadable name.now
+shown_cause (own.Oversized name) = Oversized name.now
+shown_cause (own.Faulty name fault) = Faulty name.now fault
 
-abbrev pub IsOversized : Task → Type 0
-IsOversized task = (name : List ℕ) × (task ≡ Oversized name)
+-- the cause that a refusal of the text of this name is
+abbrev pub cause_of : List ℕ → TextRefusal → Cause
+cause_of name text.Absent = Absent name
+cause_of name text.Unreadable = Unreadable name
+cause_of name text.Oversized = Oversized name
+cause_of name (text.Faulty fault) = Faulty name fault
 
--- what was made of the texts that a task names: its problem, or a cause why there is none
-abbrev pub Prepares : Task → Result ProblemTree Refusal → Type 0
-Prepares task (Ok p) = Runs task p
-Prepares task (Err AbsentText) = IsMissing task
-Prepares task (Err UnreadableText) = ⊤
-Prepares task (Err OversizedText) = IsOversized task
-Prepares task (Err UnreadText) = IsUnread task
-Prepares task (Err Unwritable) = ⊥
-Prepares task (Err OutOfMemory) = ⊤
+-- the name of a run's text
+abbrev pub name_of : RunWords → Role → List ℕ
+name_of run Program = run.program
+name_of run Query = run.query
+
+-- the refusal for a text's fault
+abbrev pub refusal_of : Role → TextFault → Refusal
+refusal_of role (text_fault.Text fault) = Text role (text.Faulty fault)
+refusal_of role text_fault.OutOfMemory = OutOfMemory
+
+-- a fault line was written, with the status of its cause; or a write failed, with a prefix of the line written
+pub data Refuses (cause : Cause) (write_failed : Type 0) (before after : Option (List ℕ)) (status : ℕ) : Type 0 where
+  line : status ≡ cause_status cause → after ≡ append_known before (fault_text cause) → Refuses cause write_failed before after status
+  cut : status ≡ 6 → write_failed → AppendsFront before (fault_text cause) after → Refuses cause write_failed before after status
+
+-- ---- reading and judging
+
+-- why the text of this name was not read
+abbrev pub IsTextNotRead : Option Texts → Type 0 → Type 0 → List ℕ → TextRefusal → Type 0
+IsTextNotRead told absence read_failed name text.Absent = absence × IfSome told (λ texts. text_of texts name ≡ None)
+IsTextNotRead told absence read_failed name text.Unreadable = read_failed
+IsTextNotRead told absence read_failed name text.Oversized = IfSome told (λ texts. IsSomeAnd (text_of texts name) (λ text. longest_text < length text))
+IsTextNotRead told absence read_failed name (text.Faulty fault) = ⊥
+
+abbrev pub IsNotRead : Option Texts → Type 0 → Type 0 → List ℕ → Role → Refusal → Type 0
+IsNotRead told absence read_failed name role (Text other refusal) = (other ≡ role) × IsTextNotRead told absence read_failed name refusal
+IsNotRead told absence read_failed name role Unwritable = ⊥
+IsNotRead told absence read_failed name role OutOfMemory = Unit {0}
+
+-- why a text of two that were read is refused
+pub data IsFaultOf (program query : List ℕ) : Role → TextRefusal → Type 0 where
+  of_program : {fault : Fault} → IsTextFault Program program fault → IsFaultOf program query Program (text.Faulty fault)
+  of_query : {fault : Fault} → IsOfLanguage Program program → IsTextFault Query query fault → IsFaultOf program query Query (text.Faulty fault)
+
+-- what two texts were judged to be: they ask a problem, or one has a fault
+abbrev pub Judges : List ℕ → List ℕ → ℕ → Result ProblemTree Refusal → Type 0
+Judges program query bound (Ok p) = Asks program query bound (Some p)
+Judges program query bound (Err (Text role refusal)) = IsFaultOf program query role refusal
+Judges program query bound (Err Unwritable) = ⊥
+Judges program query bound (Err OutOfMemory) = Unit {0}
+
+-- what was made of the texts that a run names: its problem, or a cause why there is none
+abbrev pub Prepares : Option Texts → Type 0 → Type 0 → RunWords → Result ProblemTree Refusal → Type 0
+Prepares told absence read_failed run (Ok p) = RunAsks told run p
+Prepares told absence read_failed run (Err (Text role refusal)) = RunFails told absence read_failed run (cause_of (name_of run role) refusal)
+Prepares told absence read_failed run (Err Unwritable) = ⊥
+Prepares told absence read_failed run (Err OutOfMemory) = Unit {0}
+
+-- ---- the run
 
 -- the status of what a run found
 abbrev pub status_of_found : Found → ℕ
@@ -44,46 +97,9 @@ status_of_found Answer = 0
 status_of_found Nothing = 1
 status_of_found Bound = 2
 
--- the status of a refusal
-abbrev pub status_of_refusal : Refusal → ℕ
-status_of_refusal AbsentText = 4
-status_of_refusal UnreadableText = 5
-status_of_refusal Unwritable = 6
-status_of_refusal UnreadText = 7
-status_of_refusal OversizedText = 8
-status_of_refusal OutOfMemory = 10
-
--- what was made of a run's words, by its task: how it ended, and what it appended. `read_failed` and `write_failed` say that
--- the shelf's or the sink's count of faults rose.
-abbrev pub Ends : Task → Type 0 → Type 0 → Option (List ℕ) → Option (List ℕ) → Result Found Refusal → Type 0
-Ends task read_failed write_failed before after (Ok found) = (p : ProblemTree) × Runs task p × (status_of_found found ≡ run_status p) × (after ≡ append_known before (run_text p))
-Ends task read_failed write_failed before after (Err AbsentText) = IsMissing task × (after ≡ before)
-Ends task read_failed write_failed before after (Err UnreadableText) = read_failed × (after ≡ before)
-Ends task read_failed write_failed before after (Err OversizedText) = IsOversized task × (after ≡ before)
-Ends task read_failed write_failed before after (Err UnreadText) = IsUnread task × (after ≡ before)
-Ends task read_failed write_failed before after (Err Unwritable) = (p : ProblemTree) × Runs task p × write_failed × AppendsFront before (run_text p) after
-Ends task read_failed write_failed before after (Err OutOfMemory) = AppendsOwn task before after
-
--- why texts are not read or ask no problem: the cause of each refusal, by the shelf's counts
-abbrev pub IsReadRefusal : Type 0 → Type 0 → Refusal → Type 0
-IsReadRefusal absence read_failed AbsentText = absence
-IsReadRefusal absence read_failed UnreadableText = read_failed
-IsReadRefusal absence read_failed OversizedText = ⊤
-IsReadRefusal absence read_failed UnreadText = ⊤
-IsReadRefusal absence read_failed Unwritable = ⊥
-IsReadRefusal absence read_failed OutOfMemory = ⊤
-
--- the same where no text is told: the causes of refusals, and when nothing is appended
-abbrev pub HasCause : Type 0 → Type 0 → Type 0 → Option (List ℕ) → Option (List ℕ) → Result Found Refusal → Type 0
-HasCause absence read_failed write_failed before after (Ok _) = ⊤
-HasCause absence read_failed write_failed before after (Err AbsentText) = absence × (after ≡ before)
-HasCause absence read_failed write_failed before after (Err UnreadableText) = read_failed × (after ≡ before)
-HasCause absence read_failed write_failed before after (Err OversizedText) = after ≡ before
-HasCause absence read_failed write_failed before after (Err UnreadText) = after ≡ before
-HasCause absence read_failed write_failed before after (Err Unwritable) = write_failed
-HasCause absence read_failed write_failed before after (Err OutOfMemory) = ⊤
-
--- the status of a run
-abbrev pub status_of_result : Result Found Refusal → ℕ
-status_of_result (Ok found) = status_of_found found
-status_of_result (Err refusal) = status_of_refusal refusal
+-- how the search of a run ended, before any fault line is written
+abbrev pub RunEnds : Option Texts → Type 0 → Type 0 → Type 0 → RunWords → Option (List ℕ) → Option (List ℕ) → Result Found Refusal → Type 0
+RunEnds told absence read_failed write_failed run before after (Ok found) = (p : ProblemTree) × RunAsks told run p × (status_of_found found ≡ run_status p) × (after ≡ append_known before (run_text p))
+RunEnds told absence read_failed write_failed run before after (Err (Text role refusal)) = RunFails told absence read_failed run (cause_of (name_of run role) refusal) × (after ≡ before)
+RunEnds told absence read_failed write_failed run before after (Err Unwritable) = (p : ProblemTree) × RunAsks told run p × write_failed × AppendsFront before (run_text p) after
+RunEnds told absence read_failed write_failed run before after (Err OutOfMemory) = AppendsOwn (RunComesTo told absence read_failed run) before after

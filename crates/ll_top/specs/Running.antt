@@ -10,7 +10,7 @@ use Rattle.ll_laws.specs.Problem.{ProblemTree, problem_events, problem_cost}
 use Rattle.ll_laws.specs.Output.{line, answers_text}
 use Rattle.ll_top.specs.Owing.{Owing}
 use Rattle.ll_top.specs.declared.refusal.Refusal.{Refusal}
-use Rattle.ll_top.specs.declared.refusal.Refusal.TheVariants.{AbsentText, UnreadableText, OversizedText, UnreadText, Unwritable, OutOfMemory}
+use Rattle.ll_top.specs.declared.refusal.Refusal.TheVariants.{Text, Unwritable, OutOfMemory}
 
 -- the lines of an event after k answers, for a query without named variables
 abbrev pub event_lines : ℕ → Event → List ℕ
@@ -36,10 +36,7 @@ status_of_counts (suc answers) reached = 0
 abbrev pub IsRunRefusal : ℕ → ℕ → Refusal → Type 0
 IsRunRefusal before after Unwritable = Rose before after
 IsRunRefusal before after OutOfMemory = ⊤
-IsRunRefusal before after AbsentText = ⊥
-IsRunRefusal before after UnreadableText = ⊥
-IsRunRefusal before after OversizedText = ⊥
-IsRunRefusal before after UnreadText = ⊥
+IsRunRefusal before after (Text role refusal) = ⊥
 
 -- a run of a problem is on its way: its engine owes the rest, and this was counted and written so far
 pub record IsRunning (p : ProblemTree) (owing : Owing) (counts : Counts) (before after : Option (List ℕ)) : Type 0 where

@@ -1,17 +1,11 @@
 -- The forms of a command's words.
-use Rattle.std.specs.Prelude.{◌≡◌, ℕ, Bool, false, ◌&&◌, not, List, [], ◌∷◌, length, nat_eq, nat_le, Option, Some, None, if◌then◌else◌, codes}
+use Rattle.std.specs.Prelude.{◌≡◌, ◌⊎◌, ℕ, ◌+◌, Bool, true, false, ◌&&◌, not, List, [], ◌∷◌, length, filter, nat_eq, nat_le, slice_get, Option, Some, None, is_some, if◌then◌else◌, codes}
 use Rattle.ll_top.specs.declared.words.RunCommand.{RunCommand}
 use Rattle.std.specs.Str.{bytes_eq}
 use Rattle.std.specs.Char.{is_ascii_digit}
 use Rattle.std.specs.Str.Parse.{digits_value}
-use Rattle.std.specs.List.{list_all, starts_with}
-
--- what the words `run PROGRAM QUERY --bound N --workers W` ask for
-pub record RunWords : Type 0 where
-  pub program : List ℕ
-  pub query : List ℕ
-  pub bound : ℕ
-  pub workers : ℕ
+use Rattle.std.specs.List.{list_all, list_any, starts_with}
+use Rattle.ll_top.specs.Begins.{IsFirstBad}
 
 -- the word is this text
 abbrev pub is_word : List ℕ → List ℕ → Bool
@@ -34,6 +28,52 @@ value_within least greatest value = if nat_le least value && nat_le value greate
 abbrev pub number_from : ℕ → ℕ → List ℕ → Option ℕ
 number_from least greatest word = if is_number_word word then value_within least greatest (digits_value 10 word) else None
 
+-- ---- forms
+
+-- what stands at one word of a form: this word, a name, or a number from the least to the greatest
+pub data Part : Type 0 where
+  ThisWord : List ℕ → Part
+  AnyName : Part
+  NumberFrom : ℕ → ℕ → Part
+
+-- the word may stand there
+abbrev pub is_part : Part → List ℕ → Bool
+is_part (ThisWord text) word = is_word word text
+is_part AnyName word = is_name_word word
+is_part (NumberFrom least greatest) word = is_some (number_from least greatest word)
+
+-- an option: its word, what stands behind it, and whether it may lack
+pub record OptionForm : Type 0 where
+  pub word : List ℕ
+  pub values : List Part
+  pub may_lack : Bool
+
+-- a form: its words in their order, and the options behind them
+pub record Form : Type 0 where
+  pub parts : List Part
+  pub options : List OptionForm
+
+-- an option among options, and the others
+pub data Takes (o : OptionForm) : List OptionForm → List OptionForm → Type 0 where
+  here : {first : OptionForm} {os : List OptionForm} → first ≡ o → Takes o (first ∷ os) os
+  behind : {first : OptionForm} {os others : List OptionForm} → Takes o os others → Takes o (first ∷ os) (first ∷ others)
+
+-- words are in a form: one for each of its parts, and then its options in any order, each once, where one that may lack may be left out
+pub data Fits : List Part → List OptionForm → List (List ℕ) → Type 0 where
+  part : {p : Part} {ps : List Part} {os : List OptionForm} {w : List ℕ} {ws : List (List ℕ)} → is_part p w ≡ true → Fits ps os ws → Fits (p ∷ ps) os (w ∷ ws)
+  option : {o : OptionForm} {os others : List OptionForm} {w : List ℕ} {ws : List (List ℕ)} → Takes o os others → w ≡ o.word → Fits o.values others ws → Fits [] os (w ∷ ws)
+  done : {os : List OptionForm} → list_all (λ o. o.may_lack) os ≡ true → Fits [] os []
+
+abbrev pub FitsForm : Form → List (List ℕ) → Type 0
+FitsForm form words = Fits form.parts form.options words
+
+-- words are in one of these forms
+abbrev pub FitsSome : List Form → List (List ℕ) → Type 0
+FitsSome [] words = ⊥
+FitsSome (form ∷ others) words = FitsForm form words ⊎ FitsSome others words
+
+-- ---- the forms of today
+
 -- the greatest bound, and the greatest number of workers today
 abbrev pub greatest_bound : ℕ
 greatest_bound = 1000000
@@ -41,33 +81,61 @@ greatest_bound = 1000000
 abbrev pub greatest_workers : ℕ
 greatest_workers = 1
 
--- the words of a run, its numbers aside, are in their form
-abbrev pub is_run_form : List ℕ → List ℕ → List ℕ → List ℕ → List ℕ → Bool
-is_run_form form program query bound_option workers_option =
-    is_word form (codes "run") && (is_name_word program && (is_name_word query && (is_word bound_option (codes "--bound") && is_word workers_option (codes "--workers"))))
+-- `--bound N`
+abbrev pub bound_option : OptionForm
+bound_option = record { word = codes "--bound"; values = NumberFrom 0 greatest_bound ∷ []; may_lack = false }
 
--- what a program, a query and the numbers ask for, if there are both numbers
-abbrev pub run_of : List ℕ → List ℕ → Option ℕ → Option ℕ → Option RunWords
-run_of program query (Some bound) (Some workers) = Some (record { program = program; query = query; bound = bound; workers = workers })
-run_of program query _ _ = None
+-- `--workers W`
+abbrev pub workers_option : OptionForm
+workers_option = record { word = codes "--workers"; values = NumberFrom 1 greatest_workers ∷ []; may_lack = false }
 
--- what words ask for that are in the form `run PROGRAM QUERY --bound N --workers W`
-abbrev pub run_words : List (List ℕ) → Option RunWords
-run_words (form ∷ program ∷ query ∷ bound_option ∷ bound ∷ workers_option ∷ workers ∷ []) =
-    if is_run_form form program query bound_option workers_option
-    then run_of program query (number_from 0 greatest_bound bound) (number_from 1 greatest_workers workers)
-    else None
-run_words _ = None
+-- `run PROGRAM QUERY --bound N --workers W`
+abbrev pub run_form : Form
+run_form = record { parts = ThisWord (codes "run") ∷ AnyName ∷ AnyName ∷ []; options = bound_option ∷ workers_option ∷ [] }
 
--- what the program's record of a command shows
+abbrev pub forms : List Form
+forms = run_form ∷ []
+
+-- words are in a form
+abbrev pub IsInForm : List (List ℕ) → Type 0
+IsInForm words = FitsSome forms words
+
+-- words are in a form that has the option `--workers`
+abbrev pub has_workers : Form → Bool
+has_workers form = list_any (λ o. is_word o.word (codes "--workers")) form.options
+
+abbrev pub IsInWorkersForm : List (List ℕ) → Type 0
+IsInWorkersForm words = FitsSome (filter has_workers forms) words
+
+-- the word of this number, counted from 1, is the first one through which no form's words begin; it is one past the last where they end early
+pub record IsBadWord (words : List (List ℕ)) (number : ℕ) : Type 0 where
+  pub place : ℕ
+  pub is : number ≡ place + 1
+  pub bad : IsFirstBad IsInForm words place
+
+-- ---- what words ask for
+
+-- what the words `run PROGRAM QUERY --bound N --workers W` ask for
+pub record RunWords : Type 0 where
+  pub program : List ℕ
+  pub query : List ℕ
+  pub bound : ℕ
+  pub workers : ℕ
+
+-- the number in the word behind the first one that is this text
+abbrev pub number_behind : List ℕ → List (List ℕ) → Option ℕ
+number_behind text [] = None
+number_behind text (w ∷ []) = None
+number_behind text (w ∷ v ∷ ws) = if is_word w text then Some (digits_value 10 v) else number_behind text (v ∷ ws)
+
+-- words are in the form of a run, and ask for this
+pub record IsRun (words : List (List ℕ)) (run : RunWords) : Type 0 where
+  pub form : FitsForm run_form words
+  pub program : slice_get words 1 ≡ Some run.program
+  pub query : slice_get words 2 ≡ Some run.query
+  pub bound : number_behind (codes "--bound") words ≡ Some run.bound
+  pub workers : number_behind (codes "--workers") words ≡ Some run.workers
+
+-- what the program's record of a run shows
 abbrev pub shown_words : RunCommand → RunWords
 shown_words c = record { program = c.program.now; query = c.query.now; bound = c.bound; workers = c.workers }
-
--- the program's record of a command shows what is asked for, and there is none where nothing is asked for
-abbrev pub IsShown : Option RunWords → Option RunCommand → Type 0
-IsShown asked None = asked ≡ None
-IsShown asked (Some command) = asked ≡ Some (shown_words command)
-
--- the command is what the words ask for
-abbrev pub IsCommand : List (List ℕ) → Option RunCommand → Type 0
-IsCommand words command = IsShown (run_words words) command

@@ -2,6 +2,8 @@
 #![tactic(auto)]
 
 mod engine;
+mod fault;
+mod judge;
 mod prepare;
 mod print;
 mod reader;
@@ -9,15 +11,16 @@ mod refusal;
 mod run;
 mod words;
 
-ghost use Rattle.std.specs.Prelude.{◌≡◌, ◌≤◌, ◌↔◌, ℕ, List, Option, None, Some, true};
+ghost use Rattle.std.specs.Prelude.{◌≡◌, ◌≤◌, ◌↔◌, ◌⊎◌, ℕ, List, Option, None, Some, IfSome};
 ghost use Rattle.ll_edge.specs.Counts.{Rose};
-ghost use Rattle.ll_edge.specs.Texts.{Texts};
 ghost use Rattle.ll_laws.specs.Problem.{ProblemTree};
-ghost use Rattle.ll_top.specs.Words.{run_words, shown_words};
+ghost use Rattle.ll_top.specs.Words.{IsInForm, IsInWorkersForm, shown_words};
 ghost use Rattle.ll_top.specs.Reading.{Asks};
-ghost use Rattle.ll_top.specs.Outcome.{word_texts, run_task, task_of, is_silent, Outcome};
-ghost use Rattle.ll_top.specs.Endings.{status_of_found, status_of_refusal, Ends, HasCause};
+ghost use Rattle.ll_top.specs.Outcome.{word_texts, ComesTo, RunComesTo, Ends};
+ghost use Rattle.ll_top.specs.Endings.{status_of_found, name_of, RunEnds};
 
+use fault::{Cause, refuse};
+use judge::Role;
 use ll_edge::{Gate, Shelf, Sink};
 use ll_lexer::one_reading;
 use prepare::prepare;
@@ -26,14 +29,13 @@ use run::{Found, run};
 use std::alloc::Global;
 use std::sync::Wait;
 use std::thread::Threads;
-use words::{RunCommand, run_command};
+use words::{RunCommand, read_command};
 
 /// Does what the words say, over the texts of the shelf, and writes to the sink. The answer is the program's exit status:
 ///
 /// - 0: there is an answer; 1: there is none; 2: there is none, but some branch reached the bound. The whole text was written.
-/// - 3: the words are in no form.
-/// - 4: there is no text of a name; 5: the shelf failed; 7: a text is not of the language; 8: a text has more than 16,777,216
-///   bytes. Nothing was written.
+/// - 3: the words are in no form; 4: there is no text of a name; 5: the shelf failed; 7: a text has a fault; 8: a text has more
+///   than 16,777,216 bytes. The line of this cause was written.
 /// - 6: the sink failed; 10: memory ran out. A prefix of the text was written.
 pub fn lolli<R: Threads + Wait + Sync, F: Shelf, O: Sink, G: Gate>(
     rt: &R,
@@ -43,17 +45,17 @@ pub fn lolli<R: Threads + Wait + Sync, F: Shelf, O: Sink, G: Gate>(
     sink: &mut O,
     gate: &G,
 ) -> u8
-    // What was done, where the texts are told.
-    ensures outcome { (texts : Texts) → F.texts shelf.old ≡ Some texts
-        → Outcome (task_of (word_texts words.now) texts) (Rose (F.faults shelf.old) (F.faults shelf.new))
-        (Rose (O.faults sink.old) (O.faults sink.new)) (O.written sink.old) (O.written sink.new) result }
+    // What was written, and why: the words, the texts as far as they are told, and the counts determine it.
+    ensures outcome { Ends (ComesTo (word_texts words.now) (F.texts shelf.old) (Rose (F.absences shelf.old) (F.absences shelf.new))
+        (Rose (F.faults shelf.old) (F.faults shelf.new))) (Rose (O.faults sink.old) (O.faults sink.new))
+        (O.written sink.old) (O.written sink.new) result }
 
     // The causes of statuses, over every shelf and sink.
-    ensures usage { (result ≡ 3) ↔ (run_words (word_texts words.now) ≡ None) }
+    ensures usage { result ≡ 3 → IsInForm (word_texts words.now) → ⊥ }
+    ensures misused { (IsInForm (word_texts words.now) → ⊥) → (result ≡ 3) ⊎ (result ≡ 6) }
     ensures absent { result ≡ 4 → Rose (F.absences shelf.old) (F.absences shelf.new) }
     ensures unreadable { result ≡ 5 → Rose (F.faults shelf.old) (F.faults shelf.new) }
     ensures unwritable { result ≡ 6 → Rose (O.faults sink.old) (O.faults sink.new) }
-    ensures silent { is_silent result ≡ true → O.written sink.new ≡ O.written sink.old }
 
     ensures same_texts { F.texts shelf.new ≡ F.texts shelf.old }
     ensures counts_kept { (F.faults shelf.old ≤ F.faults shelf.new)
@@ -62,12 +64,46 @@ pub fn lolli<R: Threads + Wait + Sync, F: Shelf, O: Sink, G: Gate>(
 {
     let _ = rt;
     let _ = gate;
-    match run_command(words) {
-        None => 3,
-        Some(command) => match run_texts(alloc, &command, shelf, sink) {
-            Ok(found) => found_status(found),
-            Err(refusal) => refusal_status(refusal),
+    match lolli_plain(alloc, words, shelf, sink) {
+        Some(status) => status,
+        None => match read_command(words) {
+            Ok(run) => serve_run(alloc, &run, shelf, sink),
+            Err(_) => unreachable!(),
         },
+    }
+}
+
+/// Does what `lolli` does for all words but those of a form with `--workers`, and answers the status. For these it answers
+/// `None`, and has called neither shelf nor sink.
+pub fn lolli_plain<F: Shelf, O: Sink>(
+    alloc: Global,
+    words: &[&str],
+    shelf: &mut F,
+    sink: &mut O,
+) -> Option<u8>
+    ensures workers { (result ≡ None) ↔ IsInWorkersForm (word_texts words.now) }
+    ensures untouched { result ≡ None → (shelf.new ≡ shelf.old) × (sink.new ≡ sink.old) }
+
+    ensures outcome { IfSome result (Ends (ComesTo (word_texts words.now) (F.texts shelf.old) (Rose (F.absences shelf.old) (F.absences shelf.new))
+        (Rose (F.faults shelf.old) (F.faults shelf.new))) (Rose (O.faults sink.old) (O.faults sink.new))
+        (O.written sink.old) (O.written sink.new)) }
+
+    ensures usage { result ≡ Some 3 → IsInForm (word_texts words.now) → ⊥ }
+    ensures misused { (IsInForm (word_texts words.now) → ⊥) → (result ≡ Some 3) ⊎ (result ≡ Some 6) }
+    ensures absent { result ≡ Some 4 → Rose (F.absences shelf.old) (F.absences shelf.new) }
+    ensures unreadable { result ≡ Some 5 → Rose (F.faults shelf.old) (F.faults shelf.new) }
+    ensures unwritable { result ≡ Some 6 → Rose (O.faults sink.old) (O.faults sink.new) }
+
+    ensures same_texts { F.texts shelf.new ≡ F.texts shelf.old }
+    ensures counts_kept { (F.faults shelf.old ≤ F.faults shelf.new)
+        × (F.absences shelf.old ≤ F.absences shelf.new)
+        × (O.faults sink.old ≤ O.faults sink.new) }
+{
+    let _ = alloc;
+    let _ = shelf;
+    match read_command(words) {
+        Ok(_) => None,
+        Err(number) => Some(refuse(Cause::Usage(number), sink)),
     }
 }
 
@@ -77,6 +113,32 @@ pub fn one_problem()
         → Asks program query bound one → Asks program query bound other → one ≡ other }
 {
     one_reading();
+}
+
+// Runs a command, and says why not where it is not run.
+fn serve_run<F: Shelf, O: Sink>(
+    alloc: Global,
+    run: &RunCommand<'_>,
+    shelf: &mut F,
+    sink: &mut O,
+) -> u8
+    requires bound { run.now.bound ≤ 1000000 }
+
+    ensures same_texts { F.texts shelf.new ≡ F.texts shelf.old }
+    ensures shelf_faults_kept { F.faults shelf.old ≤ F.faults shelf.new }
+    ensures absences_kept { F.absences shelf.old ≤ F.absences shelf.new }
+    ensures sink_faults_kept { O.faults sink.old ≤ O.faults sink.new }
+
+    ensures ends { Ends (RunComesTo (F.texts shelf.old) (Rose (F.absences shelf.old) (F.absences shelf.new))
+        (Rose (F.faults shelf.old) (F.faults shelf.new)) (shown_words run.now)) (Rose (O.faults sink.old) (O.faults sink.new))
+        (O.written sink.old) (O.written sink.new) result }
+{
+    match run_texts(alloc, run, shelf, sink) {
+        Ok(found) => found_status(found),
+        Err(Refusal::Text(role, refusal)) => refuse(refusal.cause(text_name(run, role)), sink),
+        Err(Refusal::Unwritable) => 6,
+        Err(Refusal::OutOfMemory) => 10,
+    }
 }
 
 // Runs a command.
@@ -93,14 +155,21 @@ fn run_texts<F: Shelf, O: Sink>(
     ensures absences_kept { F.absences shelf.old ≤ F.absences shelf.new }
     ensures sink_faults_kept { O.faults sink.old ≤ O.faults sink.new }
 
-    ensures told { (texts : Texts) → F.texts shelf.old ≡ Some texts
-        → Ends (run_task texts (shown_words command.now)) (Rose (F.faults shelf.old) (F.faults shelf.new))
-        (Rose (O.faults sink.old) (O.faults sink.new)) (O.written sink.old) (O.written sink.new) result }
-    ensures cause { HasCause (Rose (F.absences shelf.old) (F.absences shelf.new)) (Rose (F.faults shelf.old) (F.faults shelf.new))
-        (Rose (O.faults sink.old) (O.faults sink.new)) (O.written sink.old) (O.written sink.new) result }
+    ensures ends { RunEnds (F.texts shelf.old) (Rose (F.absences shelf.old) (F.absences shelf.new)) (Rose (F.faults shelf.old) (F.faults shelf.new))
+        (Rose (O.faults sink.old) (O.faults sink.new)) (shown_words command.now) (O.written sink.old) (O.written sink.new) result }
 {
     let problem = prepare(alloc, command, shelf)?;
     run(alloc, &problem, sink)
+}
+
+// The name of a run's text.
+fn text_name<'a>(run: &RunCommand<'a>, role: Role) -> &'a str
+    ensures { result.now ≡ name_of (shown_words run.now) role }
+{
+    match role {
+        Role::Program => run.program,
+        Role::Query => run.query,
+    }
 }
 
 // The status of what was found.
@@ -111,20 +180,6 @@ fn found_status(found: Found) -> u8
         Found::Answer => 0,
         Found::Nothing => 1,
         Found::Bound => 2,
-    }
-}
-
-// The status of a refusal.
-fn refusal_status(refusal: Refusal) -> u8
-    ensures { result ≡ status_of_refusal refusal }
-{
-    match refusal {
-        Refusal::AbsentText => 4,
-        Refusal::UnreadableText => 5,
-        Refusal::Unwritable => 6,
-        Refusal::UnreadText => 7,
-        Refusal::OversizedText => 8,
-        Refusal::OutOfMemory => 10,
     }
 }
 

@@ -1,30 +1,31 @@
 // From the words of a run to its problem.
-ghost use Rattle.std.specs.Prelude.{◌≡◌, ◌≤◌, length, IfOk, IfErr, IfSome};
+ghost use Rattle.std.specs.Prelude.{◌≡◌, ◌≤◌, length, IfOk, IfErr};
 ghost use Rattle.ll_edge.specs.Counts.{Rose};
-ghost use Rattle.ll_edge.specs.Texts.{text_of};
 ghost use Rattle.ll_laws.specs.Valid.{IsValid};
 ghost use Rattle.ll_top.specs.First.{IsFirst};
 ghost use Rattle.ll_top.specs.Words.{shown_words};
-ghost use Rattle.ll_top.specs.Outcome.{run_task, longest_text};
-ghost use Rattle.ll_top.specs.Endings.{IsLookedUp, IsReadRefusal, Prepares};
+ghost use Rattle.ll_top.specs.Outcome.{IsRead};
+ghost use Rattle.ll_top.specs.Endings.{refusal_of, IsNotRead, Judges, Prepares};
 
-use crate::reader::read_problem;
-use crate::refusal::Refusal;
+use crate::judge::{Role, judge};
+use crate::reader::{ReadError, read_problem};
+use crate::refusal::{Refusal, TextRefusal};
 use crate::words::RunCommand;
 use ll_edge::{ReadFault, Shelf, read_text};
 use ll_laws::Problem;
+use ll_lexer::{TextFault, one_reading};
 use std::alloc::Global;
 
 // The greatest number of bytes of a text.
 const LONGEST_TEXT: usize = 16_777_216;
 
-/// The problem of a run: reads the program and then the query from the shelf, each to its end, and then judges them.
+/// The problem of a run: reads the program and then the query from the shelf, each to its end, and then judges them in turn.
 pub fn prepare<F: Shelf>(
     alloc: Global,
-    command: &RunCommand<'_>,
+    run: &RunCommand<'_>,
     shelf: &mut F,
 ) -> Result<Problem, Refusal>
-    requires bound { command.now.bound ≤ 1000000 }
+    requires bound { run.now.bound ≤ 1000000 }
 
     ensures same_texts { F.texts shelf.new ≡ F.texts shelf.old }
     ensures faults_kept { F.faults shelf.old ≤ F.faults shelf.new }
@@ -32,32 +33,66 @@ pub fn prepare<F: Shelf>(
 
     ensures valid { IfOk result IsValid }
     ensures first { IfOk result IsFirst }
-    ensures refused { IfErr result (IsReadRefusal (Rose (F.absences shelf.old) (F.absences shelf.new))
-        (Rose (F.faults shelf.old) (F.faults shelf.new))) }
-    ensures told { IfSome (F.texts shelf.old) (λ texts. Prepares (run_task texts (shown_words command.now)) result) }
+    ensures prepares { Prepares (F.texts shelf.old) (Rose (F.absences shelf.old) (F.absences shelf.new))
+        (Rose (F.faults shelf.old) (F.faults shelf.new)) (shown_words run.now) result }
 {
-    let program = read(alloc, shelf, command.program)?;
-    let query = read(alloc, shelf, command.query)?;
-    let problem = read_problem(alloc, &program, &query, command.bound)?;
-    Ok(problem)
+    let program = read(alloc, shelf, run.program, Role::Program)?;
+    let query = read(alloc, shelf, run.query, Role::Query)?;
+    problem_of(alloc, &program, &query, run.bound)
 }
 
 // A text, read whole.
-fn read<F: Shelf>(alloc: Global, shelf: &mut F, name: &str) -> Result<Vec<u8>, Refusal>
+fn read<F: Shelf>(alloc: Global, shelf: &mut F, name: &str, role: Role) -> Result<Vec<u8>, Refusal>
     ensures same_texts { F.texts shelf.new ≡ F.texts shelf.old }
     ensures faults_kept { F.faults shelf.old ≤ F.faults shelf.new }
     ensures absences_kept { F.absences shelf.old ≤ F.absences shelf.new }
 
-    ensures within { IfOk result (λ text. length text.items ≤ longest_text) }
-    ensures refused { IfErr result (IsReadRefusal (Rose (F.absences shelf.old) (F.absences shelf.new))
-        (Rose (F.faults shelf.old) (F.faults shelf.new))) }
-    ensures told { IfSome (F.texts shelf.old) (λ texts. IsLookedUp (text_of texts name.now) result) }
+    ensures read { IfOk result (λ text. IsRead (F.texts shelf.old) name.now text.items) }
+    ensures refused { IfErr result (IsNotRead (F.texts shelf.old) (Rose (F.absences shelf.old) (F.absences shelf.new))
+        (Rose (F.faults shelf.old) (F.faults shelf.new)) name.now role) }
 {
     match read_text(alloc, shelf, name, LONGEST_TEXT) {
         Ok(text) => Ok(text),
-        Err(ReadFault::Absent) => Err(Refusal::AbsentText),
-        Err(ReadFault::Failed) => Err(Refusal::UnreadableText),
-        Err(ReadFault::TooLong) => Err(Refusal::OversizedText),
+        Err(ReadFault::Absent) => Err(Refusal::Text(role, TextRefusal::Absent)),
+        Err(ReadFault::Failed) => Err(Refusal::Text(role, TextRefusal::Unreadable)),
+        Err(ReadFault::TooLong) => Err(Refusal::Text(role, TextRefusal::Oversized)),
         Err(ReadFault::OutOfMemory) => Err(Refusal::OutOfMemory),
+    }
+}
+
+// The problem of two texts: the program is judged first, and then the query.
+fn problem_of(alloc: Global, program: &[u8], query: &[u8], bound: u32) -> Result<Problem, Refusal>
+    requires program { length program.now ≤ 16777216 }
+    requires query { length query.now ≤ 16777216 }
+    requires bound { bound ≤ 1000000 }
+    ensures judges { Judges program.now query.now bound result }
+    ensures valid { IfOk result IsValid }
+    ensures first { IfOk result IsFirst }
+{
+    let program = match judge(alloc, program, Role::Program) {
+        Ok(tokens) => tokens,
+        Err(fault) => return Err(refusal(Role::Program, fault)),
+    };
+    let query = match judge(alloc, query, Role::Query) {
+        Ok(tokens) => tokens,
+        Err(fault) => return Err(refusal(Role::Query, fault)),
+    };
+    match read_problem(alloc, &program, &query, bound) {
+        Ok(problem) => Ok(problem),
+        Err(ReadError::OutOfMemory) => Err(Refusal::OutOfMemory),
+        Err(ReadError::Unread) => {
+            one_reading();
+            unreachable!()
+        }
+    }
+}
+
+// The refusal of a text that is not judged to be of the language.
+fn refusal(role: Role, fault: TextFault) -> Refusal
+    ensures { result ≡ refusal_of role fault }
+{
+    match fault {
+        TextFault::Text(fault) => Refusal::Text(role, TextRefusal::Faulty(fault)),
+        TextFault::OutOfMemory => Refusal::OutOfMemory,
     }
 }

@@ -11,6 +11,7 @@ mod tokens;
 
 use ll_bank::{Bank, Names};
 use ll_laws::Problem;
+use ll_lexer::TokenList;
 use std::alloc::{AllocError, AllocFailed, Global};
 
 /// Why no problem was made of two texts.
@@ -42,17 +43,17 @@ impl<T: Drop> From<AllocFailed<T>> for ReadError {
     }
 }
 
-/// The problem that a program text and a query text ask with a bound.
+/// The problem that the texts of a program's and a query's tokens ask with a bound.
 pub fn read_problem(
     alloc: Global,
-    program: &[u8],
-    query: &[u8],
+    program: &TokenList<'_>,
+    query: &TokenList<'_>,
     bound: u32,
 ) -> Result<Problem, ReadError>
-    requires program { length program.now ≤ 16777216 }
-    requires query { length query.now ≤ 16777216 }
+    requires program { length program.now.text ≤ 16777216 }
+    requires query { length query.now.text ≤ 16777216 }
     requires bound { bound ≤ 1000000 }
-    ensures problem { Reads (λ p. p) (Asks program.now query.now bound) result }
+    ensures problem { Reads (λ p. p) (Asks program.now.text query.now.text bound) result }
     ensures valid { IfOk result IsValid }
     ensures first { IfOk result IsFirst }
 {

@@ -1,35 +1,47 @@
-// Why a call ends without the whole text.
-use crate::reader::ReadError;
+// Why a run ends without the whole text of its search.
+use crate::fault::Cause;
+use crate::judge::Role;
 use ll_edge::WriteFailed;
+use ll_lexer::Fault;
 use std::alloc::AllocError;
+
+/// Why a text of a run is not gone on with.
+#[derive(Clone, Copy, Debug, PartialEq, Eq)]
+pub enum TextRefusal {
+    /// There is no text of its name.
+    Absent,
+    /// The shelf failed.
+    Unreadable,
+    /// It has too many bytes.
+    Oversized,
+    /// It has this fault.
+    Faulty(Fault),
+}
 
 /// Why a run ends before all of its text is written.
 #[derive(Clone, Copy, Debug, PartialEq, Eq)]
 pub enum Refusal {
-    /// There is no text of a name.
-    AbsentText,
-    /// The shelf failed.
-    UnreadableText,
-    /// A text has too many bytes.
-    OversizedText,
-    /// A text is not of the language.
-    UnreadText,
+    /// One of its texts is refused.
+    Text(Role, TextRefusal),
     /// The sink failed.
     Unwritable,
     /// Memory ran out.
     OutOfMemory,
 }
 
-impl From<ReadError> for Refusal {
+impl TextRefusal {
     ghost use Rattle.std.specs.Prelude.{◌≡◌};
-    ghost use Rattle.ll_top.specs.Refused.{refusal_of_error};
+    ghost use Rattle.ll_top.specs.Endings.{cause_of, shown_cause};
 
-    ghost from_gives = { λ error refusal. refusal ≡ refusal_of_error error };
-
-    fn from(error: ReadError) -> Refusal {
-        match error {
-            ReadError::Unread => Refusal::UnreadText,
-            ReadError::OutOfMemory => Refusal::OutOfMemory,
+    /// The cause, for the text of this name.
+    pub fn cause(self, name: &str) -> Cause<'_>
+        ensures { shown_cause result ≡ cause_of name.now self }
+    {
+        match self {
+            TextRefusal::Absent => Cause::Absent(name),
+            TextRefusal::Unreadable => Cause::Unreadable(name),
+            TextRefusal::Oversized => Cause::Oversized(name),
+            TextRefusal::Faulty(fault) => Cause::Faulty(name, fault),
         }
     }
 }

@@ -117,9 +117,14 @@ fn problems_are_run(rt: HostRuntime) -> Result<(), Fail> {
             "",
             "answers 0, bound reached 1, inferences 3\n",
         ),
-        ("p :- X.", "p", "3", 7, "", ""),
-        ("p.", "p ;", "3", 7, "", ""),
-        ("p.", "p", "1000001", 3, "", ""),
+        (
+            "p.",
+            "p",
+            "03",
+            0,
+            one,
+            "answers 1, bound reached 0, inferences 1\n",
+        ),
     ];
     for (program, query, bound, status, answers, last) in rows {
         let program = Vec::from_slice(rt.alloc(), program.as_bytes())?;
@@ -137,100 +142,429 @@ fn problems_are_run(rt: HostRuntime) -> Result<(), Fail> {
 }
 
 #[test]
-fn refusals_leave_a_prefix(rt: HostRuntime) -> Result<(), Fail> {
+fn a_run_is_cut_where_the_sink_fails(rt: HostRuntime) -> Result<(), Fail> {
     let whole = "answer 1\nyes\nanswers 1, bound reached 0, inferences 1\n";
-    // The length of the program, the calls of shelf and sink that fail, the room, and what is wanted.
+    // The length of the program, the call of the sink that fails, its room, and what is wanted.
     let rows = [
-        (0, 0, NEVER, 200, 5, 0),
-        (0, 1, NEVER, 200, 5, 0),
-        (9, 2, NEVER, 200, 5, 0),
-        (9, 3, NEVER, 200, 5, 0),
-        (9, 4, NEVER, 200, 0, 54),
-        (0, NEVER, 0, 200, 6, 0),
-        (0, NEVER, 1, 200, 6, 13),
-        (0, NEVER, 2, 200, 0, 54),
-        (0, NEVER, NEVER, 0, 6, 0),
-        (0, NEVER, NEVER, 20, 6, 20),
-        (0, NEVER, NEVER, 53, 6, 53),
-        (16_777_216, NEVER, NEVER, 200, 0, 54),
-        (16_777_217, NEVER, NEVER, 200, 8, 0),
+        (9, NEVER, 200, 0, 54),
+        (0, 0, 200, 6, 0),
+        (0, 1, 200, 6, 13),
+        (0, 2, 200, 0, 54),
+        (0, NEVER, 0, 6, 0),
+        (0, NEVER, 20, 6, 20),
+        (0, NEVER, 53, 6, 53),
+        (16_777_216, NEVER, 200, 0, 54),
     ];
-    for (len, shelf_call, sink_call, room, status, written) in rows {
+    for (len, sink_call, room, status, written) in rows {
         let program = vec![in rt.alloc(); b' '; len]?;
-        let mut shelf = shelf_of(rt.alloc(), program, "true", shelf_call)?;
+        let mut shelf = shelf_of(rt.alloc(), program, "true", NEVER)?;
         let failing = vec![in rt.alloc(); sink_call]?;
         let mut sink = MemSink::new(rt.alloc(), room, failing)?;
         assert_eq!(rt;
             status_of(&rt, rt.alloc(), "1", &mut shelf, &mut sink),
             status,
-            "{len} {shelf_call} {sink_call} {room}"
+            "{len} {sink_call} {room}"
         );
         let want = whole.as_bytes().get(..written).ok_or("too long")?;
-        assert_eq!(rt; sink.bytes(), want, "{len} {shelf_call} {sink_call} {room}");
+        assert_eq!(rt; sink.bytes(), want, "{len} {sink_call} {room}");
+    }
+    Ok(())
+}
+
+// Words that are in no form, with the number of the first bad one.
+const MISUSED: [(&[&str], usize); 24] = [
+    (&[], 1),
+    (&["go"], 1),
+    (&[""], 1),
+    (&["make", "perm", "2"], 1),
+    (&["print", "prog"], 1),
+    (&["run"], 2),
+    (&["run", "", "ques", "--bound", "5", "--workers", "1"], 2),
+    (&["run", "--bound", "5", "--workers", "1"], 2),
+    (&["run", "prog"], 3),
+    (&["run", "prog", "--bound", "5", "--workers", "1"], 3),
+    (&["run", "prog", "ques"], 4),
+    (&["run", "prog", "ques", "more", "--bound", "5"], 4),
+    (&["run", "prog", "ques", "--bound=5", "--workers", "1"], 4),
+    (&["run", "prog", "ques", "--proofs"], 4),
+    (
+        &["run", "prog", "ques", "--bound", "x", "--workers", "1"],
+        5,
+    ),
+    (&["run", "prog", "ques", "--bound", "1000001"], 5),
+    (&["run", "prog", "ques", "--bound", "0000000005"], 5),
+    (&["run", "prog", "ques", "--bound", "+5"], 5),
+    (&["run", "prog", "ques", "--bound"], 5),
+    (&["run", "prog", "ques", "--workers", "0"], 5),
+    (
+        &["run", "prog", "ques", "--workers", "2", "--bound", "5"],
+        5,
+    ),
+    (&["run", "prog", "ques", "--bound", "5"], 6),
+    (&["run", "prog", "ques", "--bound", "5", "--bound", "6"], 6),
+    (
+        &[
+            "run",
+            "prog",
+            "ques",
+            "--workers",
+            "1",
+            "--bound",
+            "5",
+            "more",
+        ],
+        8,
+    ),
+];
+
+#[test]
+fn words_in_no_form_are_refused(rt: HostRuntime) -> Result<(), Fail> {
+    for (words, number) in MISUSED {
+        let mut shelf = shelf_of(rt.alloc(), Vec::new(rt.alloc()), "true", 0)?;
+        let mut sink = MemSink::new(rt.alloc(), 200, Vec::new(rt.alloc()))?;
+        assert_eq!(rt;
+            lolli_plain(rt.alloc(), words, &mut shelf, &mut sink),
+            Some(3)
+        );
+        assert_eq!(rt;
+            lolli(&rt, rt.alloc(), words, &mut shelf, &mut sink, &OpenGate),
+            3
+        );
+        let line = format!(in rt.alloc(); "fault: usage, word {number}\n")?;
+        let twice = format!(in rt.alloc(); "{line}{line}")?;
+        assert_eq!(rt; sink.bytes(), twice.as_bytes());
     }
     Ok(())
 }
 
 #[test]
-fn words_and_names_are_refused(rt: HostRuntime) -> Result<(), Fail> {
+fn options_stand_in_any_order(rt: HostRuntime) -> Result<(), Fail> {
+    let rows: [&[&str]; 3] = [
+        &["run", "prog", "ques", "--bound", "1", "--workers", "1"],
+        &["run", "prog", "ques", "--workers", "01", "--bound", "1"],
+        &[
+            "run",
+            "prog",
+            "ques",
+            "--workers",
+            "1",
+            "--bound",
+            "000000001",
+        ],
+    ];
+    for words in rows {
+        let mut shelf = shelf_of(rt.alloc(), Vec::new(rt.alloc()), "true", NEVER)?;
+        let mut sink = MemSink::new(rt.alloc(), 200, Vec::new(rt.alloc()))?;
+        assert_eq!(rt; lolli_plain(rt.alloc(), words, &mut shelf, &mut sink), None);
+        assert!(rt; sink.bytes().is_empty());
+        assert_eq!(rt;
+            lolli(&rt, rt.alloc(), words, &mut shelf, &mut sink, &OpenGate),
+            0
+        );
+        let text = "answer 1\nyes\nanswers 1, bound reached 0, inferences 1\n";
+        assert_eq!(rt; sink.bytes(), text.as_bytes());
+    }
+    Ok(())
+}
+
+// Names of two texts, the text `prog`, the text `ques`, the call of the shelf that fails, the status and its line.
+const FAULTS: [(&str, &str, &str, &str, u64, u8, &str); 27] = [
+    ("nope", "ques", "p.", "p", NEVER, 4, "fault: absent nope\n"),
+    ("prog", "none", "p ;", "p", NEVER, 4, "fault: absent none\n"),
+    ("nope", "none", "", "p", NEVER, 4, "fault: absent nope\n"),
+    ("prog", "ques", "p.", "p", 0, 5, "fault: read prog\n"),
+    ("prog", "ques", "p.", "p", 1, 5, "fault: read prog\n"),
+    ("prog", "ques", "p.", "p", 2, 5, "fault: read ques\n"),
+    ("prog", "none", "p.", "p", 2, 5, "fault: read none\n"),
+    (
+        "ques",
+        "ques",
+        "",
+        "p ;",
+        NEVER,
+        7,
+        "fault: ques 1:3 kind 17 not built yet\n",
+    ),
+    (
+        "prog",
+        "ques",
+        "p \"a\".",
+        "p",
+        NEVER,
+        7,
+        "fault: prog 1:3 kind 1 byte begins no token\n",
+    ),
+    (
+        "prog",
+        "ques",
+        "p 9223372036854775808.",
+        "p",
+        NEVER,
+        7,
+        "fault: prog 1:3 kind 2 number past 64 bits\n",
+    ),
+    (
+        "prog",
+        "ques",
+        "p ; q.\n \"",
+        "p",
+        NEVER,
+        7,
+        "fault: prog 2:2 kind 1 byte begins no token\n",
+    ),
+    (
+        "prog",
+        "ques",
+        "p :- q ; r.",
+        "true",
+        NEVER,
+        7,
+        "fault: prog 1:8 kind 17 not built yet\n",
+    ),
+    (
+        "prog",
+        "ques",
+        "p :- X.",
+        "p",
+        NEVER,
+        7,
+        "fault: prog 1:6 kind 17 not built yet\n",
+    ),
+    (
+        "prog",
+        "ques",
+        "p.\nq 1.",
+        "p",
+        NEVER,
+        7,
+        "fault: prog 2:3 kind 17 not built yet\n",
+    ),
+    (
+        "prog",
+        "ques",
+        "p. % q\n ,",
+        "p",
+        NEVER,
+        7,
+        "fault: prog 2:2 kind 17 not built yet\n",
+    ),
+    (
+        "prog",
+        "ques",
+        "LINEAR LINEAR p.",
+        "p",
+        NEVER,
+        7,
+        "fault: prog 1:8 kind 17 not built yet\n",
+    ),
+    (
+        "prog",
+        "ques",
+        "true.",
+        "p",
+        NEVER,
+        7,
+        "fault: prog 1:1 kind 17 not built yet\n",
+    ),
+    (
+        "prog",
+        "ques",
+        "p :- q,, r.",
+        "p",
+        NEVER,
+        7,
+        "fault: prog 1:8 kind 17 not built yet\n",
+    ),
+    (
+        "prog",
+        "ques",
+        "p\n",
+        "p",
+        NEVER,
+        7,
+        "fault: prog 2:1 kind 17 not built yet\n",
+    ),
+    (
+        "prog",
+        "ques",
+        "p. LINEAR",
+        "p",
+        NEVER,
+        7,
+        "fault: prog 1:10 kind 17 not built yet\n",
+    ),
+    (
+        "prog",
+        "ques",
+        "p :- q",
+        "p",
+        NEVER,
+        7,
+        "fault: prog 1:7 kind 17 not built yet\n",
+    ),
+    (
+        "prog",
+        "ques",
+        "p :-",
+        "p",
+        NEVER,
+        7,
+        "fault: prog 1:5 kind 17 not built yet\n",
+    ),
+    (
+        "prog",
+        "ques",
+        "",
+        "",
+        NEVER,
+        7,
+        "fault: ques 1:1 kind 17 not built yet\n",
+    ),
+    (
+        "prog",
+        "ques",
+        "p.",
+        "p , ",
+        NEVER,
+        7,
+        "fault: ques 1:5 kind 17 not built yet\n",
+    ),
+    (
+        "prog",
+        "ques",
+        "p.",
+        "p. p",
+        NEVER,
+        7,
+        "fault: ques 1:4 kind 17 not built yet\n",
+    ),
+    (
+        "prog",
+        "ques",
+        "p.",
+        "p - q",
+        NEVER,
+        7,
+        "fault: ques 1:3 kind 1 byte begins no token\n",
+    ),
+    (
+        "prog",
+        "ques",
+        "p ;",
+        "p - q",
+        NEVER,
+        7,
+        "fault: prog 1:3 kind 17 not built yet\n",
+    ),
+];
+
+#[test]
+fn faults_are_told(rt: HostRuntime) -> Result<(), Fail> {
+    for (first, second, program, query, shelf_call, status, line) in FAULTS {
+        let words = ["run", first, second, "--bound", "1", "--workers", "1"];
+        let program = Vec::from_slice(rt.alloc(), program.as_bytes())?;
+        let mut shelf = shelf_of(rt.alloc(), program, query, shelf_call)?;
+        let mut sink = MemSink::new(rt.alloc(), 200, Vec::new(rt.alloc()))?;
+        let got = lolli(&rt, rt.alloc(), &words, &mut shelf, &mut sink, &OpenGate);
+        assert_eq!(rt; got, status, "{line}");
+        assert_eq!(rt; sink.bytes(), line.as_bytes());
+    }
+    Ok(())
+}
+
+#[test]
+fn long_texts_and_names_are_told(rt: HostRuntime) -> Result<(), Fail> {
     let rows = [
         (
-            ["run", "prog", "ques", "--bound", "5", "--workers", "2"].as_slice(),
-            3,
+            b' ',
+            16_777_217,
+            8,
+            "fault: prog has more than 16777216 bytes\n",
         ),
         (
-            &["run", "prog", "ques", "--bound", "5", "--workers", "01"],
-            0,
-        ),
-        (&["run", "prog", "ques", "--bound", "", "--workers", "1"], 3),
-        (
-            &[
-                "run",
-                "prog",
-                "ques",
-                "--bound",
-                "0000000005",
-                "--workers",
-                "1",
-            ],
-            3,
-        ),
-        (
-            &["run", "prog", "ques", "--bound", "+5", "--workers", "1"],
-            3,
-        ),
-        (
-            &["run", "prog", "--bound", "--bound", "5", "--workers", "1"],
-            3,
-        ),
-        (
-            &["run", "prog", "ques", "--bound=5", "5", "--workers", "1"],
-            3,
-        ),
-        (&["run", "prog", "", "--bound", "5", "--workers", "1"], 3),
-        (&["run", "prog", "ques", "--bound", "5"], 3),
-        (&["go"], 3),
-        (&[], 3),
-        (
-            &["run", "prog", "nope", "--bound", "5", "--workers", "1"],
-            4,
-        ),
-        (
-            &["run", "nope", "ques", "--bound", "5", "--workers", "1"],
-            4,
-        ),
-        (
-            &["run", "ques", "ques", "--bound", "5", "--workers", "1"],
+            b'a',
+            256,
             7,
+            "fault: prog 1:1 kind 3 name longer than 255 bytes\n",
         ),
     ];
-    for (words, status) in rows {
-        assert!(rt; words.len() < 8);
-        let program = Vec::new(rt.alloc());
+    for (byte, len, status, line) in rows {
+        let program = vec![in rt.alloc(); byte; len]?;
         let mut shelf = shelf_of(rt.alloc(), program, "true", NEVER)?;
         let mut sink = MemSink::new(rt.alloc(), 200, Vec::new(rt.alloc()))?;
-        let got = lolli(&rt, rt.alloc(), words, &mut shelf, &mut sink, &OpenGate);
-        assert_eq!(rt; got, status, "{words:?}");
+        assert_eq!(rt;
+            status_of(&rt, rt.alloc(), "1", &mut shelf, &mut sink),
+            status,
+            "{line}"
+        );
+        assert_eq!(rt; sink.bytes(), line.as_bytes());
+    }
+    Ok(())
+}
+
+// One line of each status, and how many calls of the sink it takes.
+const LINES: [(&[&str], &str, u64, &str, u64); 5] = [
+    (&["go"], "", NEVER, "fault: usage, word 1\n", 3),
+    (
+        &["run", "nope", "ques", "--bound", "1", "--workers", "1"],
+        "",
+        NEVER,
+        "fault: absent nope\n",
+        3,
+    ),
+    (
+        &["run", "prog", "ques", "--bound", "1", "--workers", "1"],
+        "",
+        0,
+        "fault: read prog\n",
+        3,
+    ),
+    (
+        &["run", "prog", "ques", "--bound", "1", "--workers", "1"],
+        "p :- q ; r.",
+        NEVER,
+        "fault: prog 1:8 kind 17 not built yet\n",
+        11,
+    ),
+    (
+        &["run", "prog", "ques", "--bound", "1", "--workers", "1"],
+        "p\n- .",
+        NEVER,
+        "fault: prog 2:1 kind 1 byte begins no token\n",
+        11,
+    ),
+];
+
+#[test]
+fn a_line_is_cut_where_the_sink_fails(rt: HostRuntime) -> Result<(), Fail> {
+    for (words, program, shelf_call, line, calls) in LINES {
+        for sink_call in 0..calls {
+            let program = Vec::from_slice(rt.alloc(), program.as_bytes())?;
+            let mut shelf = shelf_of(rt.alloc(), program, "true", shelf_call)?;
+            let failing = vec![in rt.alloc(); sink_call]?;
+            let mut sink = MemSink::new(rt.alloc(), 200, failing)?;
+            let got = lolli(&rt, rt.alloc(), words, &mut shelf, &mut sink, &OpenGate);
+            assert_eq!(rt; got, 6, "{line} {sink_call}");
+            assert!(rt;
+                line.as_bytes().starts_with(sink.bytes()),
+                "{line} {sink_call}"
+            );
+            assert!(rt; sink.bytes().len() < line.len(), "{line} {sink_call}");
+        }
+    }
+    Ok(())
+}
+
+#[test]
+fn a_line_is_cut_where_the_room_ends(rt: HostRuntime) -> Result<(), Fail> {
+    let line = "fault: prog 1:4 kind 17 not built yet\n";
+    for room in 0..line.len() {
+        let program = Vec::from_slice(rt.alloc(), b"p  ;")?;
+        let mut shelf = shelf_of(rt.alloc(), program, "true", NEVER)?;
+        let mut sink = MemSink::new(rt.alloc(), room, Vec::new(rt.alloc()))?;
+        assert_eq!(rt; status_of(&rt, rt.alloc(), "1", &mut shelf, &mut sink), 6);
+        let want = line.as_bytes().get(..room).ok_or("too long")?;
+        assert_eq!(rt; sink.bytes(), want);
     }
     Ok(())
 }

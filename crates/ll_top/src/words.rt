@@ -1,8 +1,10 @@
 // The words of a command, read by hand.
-ghost use Rattle.std.specs.Prelude.{◌≡◌, map};
-ghost use Rattle.ll_top.specs.Words.{is_name_word, is_number_word, number_from, value_within, is_run_form, run_of, greatest_bound, greatest_workers, IsShown, IsCommand};
+ghost use Rattle.std.specs.Prelude.{◌≡◌, ◌+◌, ◌≤◌, ◌<◌, length, map, true, codes, slice_get, Some, IsSomeAnd, IfOk, MatchOption, MatchResult, false};
 ghost use Rattle.std.specs.Char.{is_ascii_digit};
-ghost use Rattle.std.specs.List.{list_all};
+ghost use Rattle.std.specs.List.{list_all, list_any};
+ghost use Rattle.ll_top.specs.Words.{is_word, is_name_word, is_number_word, number_from, value_within, ThisWord, AnyName, NumberFrom, IsRun, shown_words, IsBadWord, greatest_bound};
+ghost use Rattle.ll_top.specs.RunForm.{HasPart, LacksPart, options_left, IsOptionLeft, IsBadRunWord, IsReadTo};
+ghost use Rattle.ll_top.specs.Outcome.{word_texts};
 
 /// What the words `run PROGRAM QUERY --bound N --workers W` ask for.
 #[derive(Clone, Copy)]
@@ -13,36 +15,55 @@ pub struct RunCommand<'a> {
     pub workers: u32,
 }
 
+// An option of a run.
+#[derive(Clone, Copy)]
+enum RunOption {
+    Bound,
+    Workers,
+}
+
+// The values of a run's options, as far as they were read.
+#[derive(Clone, Copy)]
+struct RunOptions {
+    bound: Option<u32>,
+    workers: Option<u32>,
+}
+
 const GREATEST_BOUND: u32 = 1_000_000;
 
 const GREATEST_WORKERS: u32 = 1;
 
-/// What the words ask for, if they are in the form `run PROGRAM QUERY --bound N --workers W`.
-pub fn run_command<'a>(words: &[&'a str]) -> Option<RunCommand<'a>>
-    ensures { IsCommand (map (λ w. w.now) words.now) result }
+/// What the words ask for. `Err` is the number, counted from 1, of the first word through which no form's words begin, or one
+/// past the last where the words end early.
+pub fn read_command<'a>(words: &[&'a str]) -> Result<RunCommand<'a>, usize>
+    ensures command { MatchResult result (λ run. IsRun (word_texts words.now) (shown_words run)) (IsBadWord (word_texts words.now)) }
+    ensures bound { IfOk result (λ run. run.bound ≤ greatest_bound) }
 {
-    if words.len() != 7 {
-        return None;
+    let Some(form) = words.first() else {
+        return Err(1);
+    };
+    if *form != "run" {
+        return Err(1);
     }
-    if !is_run(words[0], words[1], words[2], words[3], words[5]) {
-        return None;
-    }
-    run_of(words[1], words[2], words[4], words[6])
+    read_run(words)
 }
 
-// A program, a query and the words of numbers, if these are a bound and a number of workers.
-fn run_of<'a>(
-    program: &'a str,
-    query: &'a str,
-    bound: &str,
-    workers: &str,
-) -> Option<RunCommand<'a>>
-    ensures { IsShown (run_of program.entry.now query.entry.now (number_from 0 greatest_bound bound.now)
-        (number_from 1 greatest_workers workers.now)) result }
+// What the words of a run ask for, or the number of the first word through which no run begins.
+fn read_run<'a>(words: &[&'a str]) -> Result<RunCommand<'a>, usize>
+    requires { HasPart (word_texts words.now) 0 (ThisWord (codes "run")) }
+    ensures run { MatchResult result (λ run. IsRun (word_texts words.now) (shown_words run)) (IsBadRunWord (word_texts words.now)) }
+    ensures bound { IfOk result (λ run. run.bound ≤ greatest_bound) }
 {
-    let bound = number(bound, 0, GREATEST_BOUND)?;
-    let workers = number(workers, 1, GREATEST_WORKERS)?;
-    Some(RunCommand {
+    let program = name_at(words, 1)?;
+    let query = name_at(words, 2)?;
+    let options = read_options(words)?;
+    let Some(bound) = options.bound else {
+        return Err(words.len() + 1);
+    };
+    let Some(workers) = options.workers else {
+        return Err(words.len() + 1);
+    };
+    Ok(RunCommand {
         program,
         query,
         bound,
@@ -50,15 +71,83 @@ fn run_of<'a>(
     })
 }
 
-// The words of a run, its numbers aside, are in their form.
-fn is_run(form: &str, program: &str, query: &str, bound: &str, workers: &str) -> bool
-    ensures { result ≡ is_run_form form.now program.now query.now bound.now workers.now }
+// The options of a run, whose first three words stand.
+fn read_options(words: &[&str]) -> Result<RunOptions, usize>
+    requires form { HasPart (word_texts words.now) 0 (ThisWord (codes "run")) }
+    requires program { HasPart (word_texts words.now) 1 AnyName }
+    requires query { HasPart (word_texts words.now) 2 AnyName }
+    ensures { MatchResult result (λ options. IsReadTo (word_texts words.now) options (length words.now)) (IsBadRunWord (word_texts words.now)) }
 {
-    form == "run"
-        && is_name(program)
-        && is_name(query)
-        && bound == "--bound"
-        && workers == "--workers"
+    let mut options = RunOptions {
+        bound: None,
+        workers: None,
+    };
+    let mut at = 3;
+    while at < words.len() {
+        options = read_option(words, at, options)?;
+        at += 2;
+    }
+    Ok(options)
+}
+
+// The options with the one that stands at this word and the next one.
+fn read_option(words: &[&str], at: usize, options: RunOptions) -> Result<RunOptions, usize>
+    requires within { at < length words.now }
+    requires read { IsReadTo (word_texts words.now) options at }
+    ensures { MatchResult result (λ more. IsReadTo (word_texts words.now) more (at + 2)) (IsBadRunWord (word_texts words.now)) }
+{
+    match option_at(words[at], options) {
+        Some(RunOption::Bound) => {
+            let bound = number_at(words, at + 1, 0, GREATEST_BOUND)?;
+            Ok(RunOptions {
+                bound: Some(bound),
+                workers: options.workers,
+            })
+        }
+        Some(RunOption::Workers) => {
+            let workers = number_at(words, at + 1, 1, GREATEST_WORKERS)?;
+            Ok(RunOptions {
+                bound: options.bound,
+                workers: Some(workers),
+            })
+        }
+        None => Err(at + 1),
+    }
+}
+
+// The option that a word is, if it is one whose value is not known yet.
+fn option_at(word: &str, options: RunOptions) -> Option<RunOption>
+    ensures { MatchOption result (list_any (λ o. is_word word.now o.word) (options_left options) ≡ false) (IsOptionLeft word.now options) }
+{
+    match word {
+        "--bound" if options.bound.is_none() => Some(RunOption::Bound),
+        "--workers" if options.workers.is_none() => Some(RunOption::Workers),
+        _ => None,
+    }
+}
+
+// The name at a word.
+fn name_at<'a>(words: &[&'a str], at: usize) -> Result<&'a str, usize>
+    requires { at ≤ length words.now }
+    ensures { MatchResult result (λ name. (slice_get (word_texts words.now) at ≡ Some name.now) × (is_name_word name.now ≡ true))
+        (λ number. (number ≡ at + 1) × LacksPart (word_texts words.now) at AnyName) }
+{
+    match words.get(at) {
+        Some(word) if is_name(word) => Ok(*word),
+        _ => Err(at + 1),
+    }
+}
+
+// The value of the number at a word.
+fn number_at(words: &[&str], at: usize, least: u32, greatest: u32) -> Result<u32, usize>
+    requires { at ≤ length words.now }
+    ensures { MatchResult result (λ value. IsSomeAnd (slice_get (word_texts words.now) at) (λ w. number_from least greatest w ≡ Some value))
+        (λ number. (number ≡ at + 1) × LacksPart (word_texts words.now) at (NumberFrom least greatest)) }
+{
+    match words.get(at) {
+        Some(word) => number(word, least, greatest).ok_or(at + 1),
+        None => Err(at + 1),
+    }
 }
 
 // A name: a word that is not empty and does not begin with `--`.

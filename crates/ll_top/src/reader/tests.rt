@@ -1,7 +1,9 @@
 //! Texts that are and are not of the language.
 use super::*;
+use crate::judge::{Role, judge};
 use ll_bank::{FormNode, Head, TermView};
 use ll_laws::Kind;
+use ll_lexer::tokens;
 use std::test::Fail;
 
 #[test]
@@ -41,15 +43,22 @@ fn reads_texts_of_the_language(rt: HostRuntime) -> Result<(), Fail> {
         (b"", &long, false),
     ] {
         assert!(rt; program.len() < 100 && query.len() < 300);
-        let result = read_problem(rt.alloc(), program, query, 3);
-        assert_eq!(rt; result.is_ok(), is_read, "{program:?} {query:?}");
+        let clauses = judge(rt.alloc(), program, Role::Program);
+        let goal = judge(rt.alloc(), query, Role::Query);
+        assert_eq!(rt;
+            clauses.is_ok() && goal.is_ok(),
+            is_read,
+            "{program:?} {query:?}"
+        );
     }
     Ok(())
 }
 
 #[test]
 fn numbers_names_as_they_come(rt: HostRuntime) -> Result<(), Fail> {
-    let problem = read_problem(rt.alloc(), b"LINEAR b. p :- b , a.", b"a", 7)
+    let program = tokens(rt.alloc(), b"LINEAR b. p :- b , a.")?;
+    let query = tokens(rt.alloc(), b"a")?;
+    let problem = read_problem(rt.alloc(), &program, &query, 7)
         .ok()
         .ok_or("unread")?;
     assert_eq!(rt; problem.bound, 7);

@@ -2,12 +2,12 @@
 ghost use Rattle.std.specs.Prelude.{◌≡◌, ◌+◌, ◌≤◌, ◌<◌, ◌^◌, [], ◌∷◌, length, map, All, Some, IfOk};
 ghost use Rattle.std.specs.Str.{IsAscii};
 ghost use Rattle.ll_bank.specs.Names.{with_names};
-ghost use Rattle.ll_top.specs.Reading.{NameToken, token_of, tokens_in, HasTokens, names_in, Reads, IsRead};
+ghost use Rattle.ll_top.specs.Reading.{NameToken, token_of, HasTokens, names_in, Reads, IsRead};
 ghost use Rattle.ll_top.specs.Tokens.{spelled, IsNumbered};
 
 use super::ReadError;
 use ll_bank::Names;
-use ll_lexer::{TextFault, TokenKind, TokenList, tokens};
+use ll_lexer::{TokenKind, TokenList};
 use std::alloc::Global;
 
 /// A token. A name is known by its number.
@@ -22,30 +22,13 @@ pub enum Token {
 }
 
 /// The tokens of a text, whose names are added to the names in turn. What a refusal leaves of the names is open.
-pub fn read_tokens(alloc: Global, text: &[u8], names: &mut Names) -> Result<Vec<Token>, ReadError>
-    requires within { length text.now ≤ 16777216 }
-    requires room { length names.old + length text.now < 2 ^ 32 }
-    ensures read { Reads (λ ts. map (spelled names.new) ts.items) (HasTokens text.now) result }
-    ensures names { IfOk result (λ ts. names.new ≡ with_names names.old (names_in (map (spelled names.new) ts.items))) }
-    ensures numbered { IfOk result (λ ts. All (IsNumbered names.new) ts.items) }
-    ensures few { IfOk result (λ ts. length ts.items ≤ length text.now) }
-    ensures few_names { IfOk result (λ ts. length names.new ≤ length names.old + length text.now) }
-{
-    match tokens(alloc, text) {
-        Ok(lexemes) => known_tokens(alloc, &lexemes, names),
-        Err(TextFault::Text(_)) => Err(ReadError::Unread),
-        Err(TextFault::OutOfMemory) => Err(ReadError::OutOfMemory),
-    }
-}
-
-// The tokens that the lexer's are, if all of them are of today's language.
-fn known_tokens(
+pub fn read_tokens(
     alloc: Global,
     lexemes: &TokenList<'_>,
     names: &mut Names,
 ) -> Result<Vec<Token>, ReadError>
     requires room { length names.old + length lexemes.now.text < 2 ^ 32 }
-    ensures read { IsRead (λ ts. map (spelled names.new) ts.items) (tokens_in lexemes.now.text lexemes.now.tokens) result }
+    ensures read { Reads (λ ts. map (spelled names.new) ts.items) (HasTokens lexemes.now.text) result }
     ensures names { IfOk result (λ ts. names.new ≡ with_names names.old (names_in (map (spelled names.new) ts.items))) }
     ensures numbered { IfOk result (λ ts. All (IsNumbered names.new) ts.items) }
     ensures few { IfOk result (λ ts. length ts.items ≤ length lexemes.now.text) }

@@ -1,0 +1,23 @@
+use Rattle.std.proofs.Common.{ap, ◌∙◌}
+use Rattle.ll_top.specs.Words.{shown_words}
+use Rattle.ll_top.specs.Endings.{cause_of, name_of}
+use Rattle.ll_top.proofs.OutcomeLemmas.{found-ends, cut-ends, memory-ends, refuses-later, refusal-ends}
+use Rattle.ll_top.proofs.PrepareLemmas.{rose-later}
+use Rattle.ll_top.proofs.serve_run.Goals as goal
+
+pub returns-in-Ok-clause-ends : goal.returns-in-Ok-clause-ends
+returns-in-Ok-clause-ends g c = found-ends _ _ _ _ (shown_words c.args.run.now) _ _ c.in-Ok.found _ c.found_status.ensures c.in-Ok.ensures.ends
+
+pub returns-in-Err-Unwritable-clause-ends : goal.returns-in-Err-Unwritable-clause-ends
+returns-in-Err-Unwritable-clause-ends g c = cut-ends _ _ _ _ (shown_words c.args.run.now) _ _ (rw c.in-Err-Unwritable.field-0-is at c.in-Err-Unwritable.ensures.ends)
+
+pub returns-in-Err-OutOfMemory-clause-ends : goal.returns-in-Err-OutOfMemory-clause-ends
+returns-in-Err-OutOfMemory-clause-ends g c = memory-ends _ _ _ _ (shown_words c.args.run.now) _ _ (rw c.in-Err-OutOfMemory.field-0-is at c.in-Err-OutOfMemory.ensures.ends)
+
+pub returns-in-Err-Text-clause-ends : goal.returns-in-Err-Text-clause-ends
+returns-in-Err-Text-clause-ends g c =
+    let h = rw c.in-Err-Text.field-0-is at c.in-Err-Text.ensures.ends in
+    let run = shown_words c.args.run.now in
+    let same = c.cause.ensures ∙ ap (λ n. cause_of n c.in-Err-Text.refusal) c.text_name.ensures in
+    refusal-ends _ _ _ _ run _ _ _ (cause_of (name_of run c.in-Err-Text.role) c.in-Err-Text.refusal) _ h.0 h.1
+    (refuses-later _ _ _ _ _ _ (rose-later _ _ _ c.in-Err-Text.ensures.sink_faults_kept) (rw same at c.refuse.ensures.refuses))

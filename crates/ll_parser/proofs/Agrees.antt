@@ -194,7 +194,7 @@ brace-shut (at_bottom f) at = refl
 brace-shut (at_bracket f x s k) at = refl
 brace-shut (at_brace f x s k) at = refl
 
-abbrev closed_raw : Closed → Raw
+abbrev pub closed_raw : Closed → Raw
 closed_raw (closed f) = formula_raw f
 
 end-shut : (h : Shut) → end_with (flat_shut h).0 (flat_shut h).1 ≡ option_map closed_raw (shut_end h)

@@ -3,3 +3,8 @@ pub mod Complete
 pub mod Sound
 pub mod Viable
 pub mod Agrees
+pub mod Decides
+pub mod ProgramMachine
+pub mod ProgramFound
+pub mod ProgramAdds
+pub mod Queries

@@ -4,6 +4,11 @@ use Rattle.ll_parser.specs.Tokens.{Identifier, Tok, name, variable, module_word,
 use Rattle.ll_parser.specs.Raw.{Raw, ClauseTree, ModuleTree, ProgramTree}
 use Rattle.ll_parser.specs.Flat.{Flat, want, flat_step, flat_final}
 
+-- a machine over tokens in turn
+abbrev pub run_by : {S : Type 0} → (S → Tok → Option S) → S → List Tok → Option S
+run_by step s [] = Some s
+run_by step s (t ∷ ts) = option_and_then (λ next. run_by step next ts) (step s t)
+
 -- ---- programs
 
 -- where in a program the tokens so far end
@@ -111,9 +116,9 @@ phase_final w m _ = None
 abbrev pub program_final : FlatProgram → Option ProgramTree
 program_final p = phase_final p.whole p.current p.phase
 
+-- a program after tokens
 abbrev pub program_run : FlatProgram → List Tok → Option FlatProgram
-program_run p [] = Some p
-program_run p (t ∷ ts) = option_and_then (λ next. program_run next ts) (program_step p t)
+program_run p ts = run_by program_step p ts
 
 -- ---- queries
 
@@ -137,6 +142,6 @@ abbrev pub query_final : FlatQuery → Option Raw
 query_final (asking s) = flat_final s
 query_final (ended r) = Some r
 
+-- a query after tokens
 abbrev pub query_run : FlatQuery → List Tok → Option FlatQuery
-query_run q [] = Some q
-query_run q (t ∷ ts) = option_and_then (λ next. query_run next ts) (query_step q t)
+query_run q ts = run_by query_step q ts

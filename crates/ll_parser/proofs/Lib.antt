@@ -8,3 +8,4 @@ pub mod ProgramMachine
 pub mod ProgramFound
 pub mod ProgramAdds
 pub mod Queries
+pub mod Programs

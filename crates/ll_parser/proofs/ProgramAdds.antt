@@ -47,7 +47,7 @@ variables-append [] ys = refl
 variables-append (x ∷ xs) ys = ap (λ z. variable x ∷ z) (variables-append xs ys)
 
 add-clause-tokens : (d : Done) (c : Clause) → done_tokens (add_clause d c) ≡ done_tokens d ++ clause_tokens c
-add-clause-tokens (top cs) c = clauses-append cs (c ∷ []) ∙ simp (append-nil, append_assoc)
+add-clause-tokens (top cs) c = clauses-append cs (c ∷ []) ∙ simp append-nil
 add-clause-tokens (within cs ms h ls ds) c = simp (clauses-append ds (c ∷ []), append-nil, append_assoc)
 
 abbrev pub Extends : List Tok → Tok → Option Reading → Type 0
@@ -97,7 +97,7 @@ whole-tokens : (d : Done) → program_tokens (whole_program d) ≡ done_tokens d
 whole-tokens (top cs) = append-nil (clauses_tokens cs)
 whole-tokens (within cs ms h ls ds) = simp (modules-append ms (record { heading = h; locals = ls; clauses = ds } ∷ []), append-nil, append_assoc)
 
-ending-tokens : (r : Reading) → IfSome (ending r) (λ p. program_tokens p ≡ tokens_so_far r)
+pub ending-tokens : (r : Reading) → IfSome (ending r) (λ p. program_tokens p ≡ tokens_so_far r)
 ending-tokens (boundary d) = whole-tokens d
 ending-tokens (wanting at d) = tt
 ending-tokens (inside k d s) = tt

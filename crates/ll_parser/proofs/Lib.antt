@@ -9,3 +9,5 @@ pub mod ProgramFound
 pub mod ProgramAdds
 pub mod Queries
 pub mod Programs
+pub mod Verdict
+pub mod Exclusive

@@ -1,7 +1,8 @@
 -- The machines for programs and for queries over raw trees: the machine for one formula, and what stands round it.
-use Rattle.std.specs.Prelude.{Bool, true, false, cond, List, [], ◌∷◌, ◌++◌, Option, Some, None, option_and_then, option_map}
+use Rattle.std.specs.Prelude.{◌≡◌, ℕ, ◌≤◌, take, Bool, true, false, cond, List, [], ◌∷◌, ◌++◌, Option, Some, None, option_and_then, option_map}
 use Rattle.ll_parser.specs.Tokens.{Identifier, Tok, name, variable, module_word, local_word, linear_word, dot}
 use Rattle.ll_parser.specs.Raw.{Raw, ClauseTree, ModuleTree, ProgramTree}
+use Rattle.ll_parser.specs.Reads.{open_after, Within}
 use Rattle.ll_parser.specs.Flat.{Flat, want, flat_step, flat_final}
 
 -- a machine over tokens in turn
@@ -145,3 +146,12 @@ query_final (ended r) = Some r
 -- a query after tokens
 abbrev pub query_run : FlatQuery → List Tok → Option FlatQuery
 query_run q ts = run_by query_step q ts
+
+-- ---- what holds between two tokens
+
+-- After the first i tokens the machine stands at x, and so many brackets are open; the limit was not passed.
+pub record Taken {S : Type 0} (begin : S) (step : S → Tok → Option S) (limit : ℕ) (ts : List Tok) (i : ℕ) (x : S) (depth : ℕ) : Type 0 where
+  pub run : run_by step begin (take i ts) ≡ Some x
+  pub depth_is : depth ≡ open_after 0 (take i ts)
+  pub below : depth ≤ limit
+  pub within : Within limit (take i ts)

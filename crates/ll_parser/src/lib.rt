@@ -1,8 +1,9 @@
 //! The grammar: raw trees of programs and queries, and the first bad token.
 #![tactic(auto)]
 
-ghost use Rattle.std.specs.Prelude.{◌≡◌};
+mod laws;
 
+pub use laws::{one_program, one_query};
 use ll_lexer::Place;
 
 /// A binary operator.
@@ -59,11 +60,4 @@ pub struct RawModule {
     pub params: Vec<Named>,
     pub locals: Vec<Named>,
     pub clauses: Vec<RawClause>,
-}
-
-/// One.
-pub fn one() -> usize
-    ensures { result ≡ 1 }
-{
-    1
 }

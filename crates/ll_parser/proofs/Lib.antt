@@ -11,3 +11,6 @@ pub mod Queries
 pub mod Programs
 pub mod Verdict
 pub mod Exclusive
+pub mod RowLemmas
+pub mod Shown
+pub mod Newest

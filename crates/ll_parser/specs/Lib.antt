@@ -6,3 +6,7 @@ pub mod Reads
 pub mod Flat
 pub mod FlatText
 pub mod Nodes
+pub mod Seen
+pub mod Rows
+pub mod Waiting
+pub mod Symbols

@@ -14,3 +14,4 @@ pub mod Exclusive
 pub mod RowLemmas
 pub mod Shown
 pub mod Newest
+pub mod Closing

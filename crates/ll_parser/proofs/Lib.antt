@@ -11,3 +11,5 @@ pub mod Queries
 pub mod Programs
 pub mod Verdict
 pub mod Exclusive
+pub mod Answer
+pub mod Rows

@@ -13,3 +13,5 @@ pub mod Verdict
 pub mod Exclusive
 pub mod Answer
 pub mod Rows
+pub mod Spelled
+pub mod Counts

@@ -96,8 +96,8 @@ module _ (l : Language) (F : Type 0) (begin : F) (next : F → Tok → Option F)
   rest-right [] front x depth k = rw append-nil (ended-right front x depth (rw append-nil at k) (end x) refl)
   rest-right (t ∷ us) front x depth k =
       turn-right (front ++ t ∷ us) (length front) t x depth (λ y. answer_from next end limit at y (open_after depth (t ∷ [])) us) (get-after front t us) k
-        (λ y. moved-on front t us y (open_after depth (t ∷ [])) (answer_from next end limit at y (open_after depth (t ∷ [])) us) (rest-right us (front ++ t ∷ []) y (open_after depth (t ∷ []))))
-        (next x t) refl
+      (λ y. moved-on front t us y (open_after depth (t ∷ [])) (answer_from next end limit at y (open_after depth (t ∷ [])) us) (rest-right us (front ++ t ∷ []) y (open_after depth (t ∷ []))))
+      (next x t) refl
 
   pub answer-right : (ts : List Tok) → IsAnswer ts (answer_to ts)
   answer-right ts = rest-right ts [] begin 0 (taken-none l F begin next end d limit ts)

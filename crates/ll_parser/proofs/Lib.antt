@@ -15,3 +15,5 @@ pub mod Answer
 pub mod Rows
 pub mod Spelled
 pub mod Counts
+pub mod Printable
+pub mod PrintedTerms

@@ -17,3 +17,4 @@ pub mod Spelled
 pub mod Counts
 pub mod Printable
 pub mod PrintedTerms
+pub mod PrintedForms

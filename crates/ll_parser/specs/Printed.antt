@@ -4,11 +4,10 @@ use Rattle.std.specs.Str.{bytes_eq}
 use Rattle.ll_lexer.specs.declared.Place.{Place}
 use Rattle.ll_lexer.specs.Spelling.{is_name}
 use Rattle.ll_parser.specs.declared.Op.TheVariants as op
-use Rattle.ll_parser.specs.declared.Quantifier.{Quantifier}
 use Rattle.ll_parser.specs.declared.Quantifier.TheVariants as quantifier
 use Rattle.ll_parser.specs.Tokens.{Identifier}
 use Rattle.ll_parser.specs.Raw.{Raw, truth, erasure, braces, universal, existential, load, binary, head, anything, int, RawList, none, more, ClauseTree, ModuleTree, ProgramTree}
-use Rattle.ll_parser.specs.Grammar.{Word, lower, upper, Term, of_app, cons, App, applied, app_any, app_number, app_bracket, Simple, simple_word, simple_any, simple_number, simple_bracket, Simples, no_more, and_then, ClauseOp, by_colon, by_left, ArrowOp, by_lolli, by_right, Formula, of_arrow, clause, Arrow, of_sum, implies, loads, Sum, of_with, plus, With, of_tensor, with, Tensor, of_primary, times, Primary, truly, erased, bracket, brace, quantified, atom, formula_raw, arrow_raw, sum_raw, with_raw, tensor_raw, primary_raw}
+use Rattle.ll_parser.specs.Grammar.{Word, lower, upper, Term, of_app, cons, App, applied, app_any, app_number, app_bracket, Simple, simple_word, simple_any, simple_number, simple_bracket, Simples, no_more, and_then, by_colon, by_left, by_lolli, by_right, Formula, of_arrow, clause, Arrow, of_sum, implies, loads, Sum, of_with, plus, With, of_tensor, with, Tensor, of_primary, times, Primary, truly, erased, bracket, brace, quantified, atom, formula_raw, arrow_raw, sum_raw, with_raw, tensor_raw, primary_raw}
 use Rattle.ll_parser.specs.Text.{Clause, plain, linear, Local, Module, Program}
 
 -- the place of tokens that a raw tree does not keep
@@ -81,9 +80,9 @@ pub data Any : Bool → Type 0 where
   at_tensor : {o : Bool} → Tensor o → Any o
   at_primary : {o : Bool} → Primary o → Any o
 
--- a form behind which nothing stands, or a token that closes it
+-- a form behind which nothing stands, or a token that closes it; the Bool says whether its end is open
 pub data Last : Type 0 where
-  last : {o : Bool} → Any o → Last
+  last : (o : Bool) → Any o → Last
 
 abbrev pub any_raw : {o : Bool} → Any o → Raw
 any_raw (at_formula f) = formula_raw f
@@ -94,7 +93,7 @@ any_raw (at_tensor t) = tensor_raw t
 any_raw (at_primary p) = primary_raw p
 
 abbrev pub last_raw : Last → Raw
-last_raw (last a) = any_raw a
+last_raw (last o a) = any_raw a
 
 abbrev pub to_formula : {o : Bool} → Any o → Formula o
 to_formula (at_formula f) = f
@@ -106,7 +105,7 @@ to_formula (at_primary p) = of_arrow (of_sum (of_with (of_tensor (of_primary p))
 
 -- a form in brackets, behind which a bracket closes it
 abbrev pub in_parens : Last → Primary false
-in_parens (last a) = bracket somewhere (to_formula a) somewhere
+in_parens (last o a) = bracket somewhere (to_formula a) somewhere
 
 -- ---- an operand that an operator follows: one that is too loose is put in brackets
 
@@ -150,64 +149,82 @@ to_primary (at_with x) e = in_parens e
 to_primary (at_tensor x) e = in_parens e
 to_primary (at_primary x) e = x
 
--- ---- an operand that is the last one: its end may be open
+-- ---- an operand that is the last one: its end may be open, unless it is put in brackets
 
-abbrev pub then_clause : Formula false → ClauseOp → Place → Last → Last
-then_clause f c at (last (at_formula x)) = last (at_formula (clause f c at (of_sum (of_with (of_tensor (of_primary (in_parens (last (at_formula x)))))))))
-then_clause f c at (last (at_arrow x)) = last (at_formula (clause f c at x))
-then_clause f c at (last (at_sum x)) = last (at_formula (clause f c at (of_sum x)))
-then_clause f c at (last (at_with x)) = last (at_formula (clause f c at (of_sum (of_with x))))
-then_clause f c at (last (at_tensor x)) = last (at_formula (clause f c at (of_sum (of_with (of_tensor x)))))
-then_clause f c at (last (at_primary x)) = last (at_formula (clause f c at (of_sum (of_with (of_tensor (of_primary x))))))
+abbrev pub arrow_open : Last → Bool
+arrow_open (last o (at_formula x)) = false
+arrow_open (last o (at_arrow x)) = o
+arrow_open (last o (at_sum x)) = o
+arrow_open (last o (at_with x)) = o
+arrow_open (last o (at_tensor x)) = o
+arrow_open (last o (at_primary x)) = o
 
-abbrev pub then_arrow : Sum false → ArrowOp → Place → Last → Last
-then_arrow s c at (last (at_formula x)) = last (at_arrow (implies s c at (of_sum (of_with (of_tensor (of_primary (in_parens (last (at_formula x)))))))))
-then_arrow s c at (last (at_arrow x)) = last (at_arrow (implies s c at x))
-then_arrow s c at (last (at_sum x)) = last (at_arrow (implies s c at (of_sum x)))
-then_arrow s c at (last (at_with x)) = last (at_arrow (implies s c at (of_sum (of_with x))))
-then_arrow s c at (last (at_tensor x)) = last (at_arrow (implies s c at (of_sum (of_with (of_tensor x)))))
-then_arrow s c at (last (at_primary x)) = last (at_arrow (implies s c at (of_sum (of_with (of_tensor (of_primary x))))))
+abbrev pub last_arrow : (e : Last) → Arrow (arrow_open e)
+last_arrow (last o (at_formula x)) = of_sum (of_with (of_tensor (of_primary (in_parens (last o (at_formula x))))))
+last_arrow (last o (at_arrow x)) = x
+last_arrow (last o (at_sum x)) = of_sum x
+last_arrow (last o (at_with x)) = of_sum (of_with x)
+last_arrow (last o (at_tensor x)) = of_sum (of_with (of_tensor x))
+last_arrow (last o (at_primary x)) = of_sum (of_with (of_tensor (of_primary x)))
 
-abbrev pub then_load : Identifier → Simples → Place → Last → Last
-then_load n ss at (last (at_formula x)) = last (at_arrow (loads n ss at (of_sum (of_with (of_tensor (of_primary (in_parens (last (at_formula x)))))))))
-then_load n ss at (last (at_arrow x)) = last (at_arrow (loads n ss at x))
-then_load n ss at (last (at_sum x)) = last (at_arrow (loads n ss at (of_sum x)))
-then_load n ss at (last (at_with x)) = last (at_arrow (loads n ss at (of_sum (of_with x))))
-then_load n ss at (last (at_tensor x)) = last (at_arrow (loads n ss at (of_sum (of_with (of_tensor x)))))
-then_load n ss at (last (at_primary x)) = last (at_arrow (loads n ss at (of_sum (of_with (of_tensor (of_primary x))))))
+abbrev pub sum_open : Last → Bool
+sum_open (last o (at_formula x)) = false
+sum_open (last o (at_arrow x)) = false
+sum_open (last o (at_sum x)) = o
+sum_open (last o (at_with x)) = o
+sum_open (last o (at_tensor x)) = o
+sum_open (last o (at_primary x)) = o
 
-abbrev pub then_sum : With false → Place → Last → Last
-then_sum w at (last (at_formula x)) = last (at_sum (plus w at (of_with (of_tensor (of_primary (in_parens (last (at_formula x))))))))
-then_sum w at (last (at_arrow x)) = last (at_sum (plus w at (of_with (of_tensor (of_primary (in_parens (last (at_arrow x))))))))
-then_sum w at (last (at_sum x)) = last (at_sum (plus w at x))
-then_sum w at (last (at_with x)) = last (at_sum (plus w at (of_with x)))
-then_sum w at (last (at_tensor x)) = last (at_sum (plus w at (of_with (of_tensor x))))
-then_sum w at (last (at_primary x)) = last (at_sum (plus w at (of_with (of_tensor (of_primary x)))))
+abbrev pub last_sum : (e : Last) → Sum (sum_open e)
+last_sum (last o (at_formula x)) = of_with (of_tensor (of_primary (in_parens (last o (at_formula x)))))
+last_sum (last o (at_arrow x)) = of_with (of_tensor (of_primary (in_parens (last o (at_arrow x)))))
+last_sum (last o (at_sum x)) = x
+last_sum (last o (at_with x)) = of_with x
+last_sum (last o (at_tensor x)) = of_with (of_tensor x)
+last_sum (last o (at_primary x)) = of_with (of_tensor (of_primary x))
 
-abbrev pub then_with : Tensor false → Place → Last → Last
-then_with t at (last (at_formula x)) = last (at_with (with t at (of_tensor (of_primary (in_parens (last (at_formula x)))))))
-then_with t at (last (at_arrow x)) = last (at_with (with t at (of_tensor (of_primary (in_parens (last (at_arrow x)))))))
-then_with t at (last (at_sum x)) = last (at_with (with t at (of_tensor (of_primary (in_parens (last (at_sum x)))))))
-then_with t at (last (at_with x)) = last (at_with (with t at x))
-then_with t at (last (at_tensor x)) = last (at_with (with t at (of_tensor x)))
-then_with t at (last (at_primary x)) = last (at_with (with t at (of_tensor (of_primary x))))
+abbrev pub with_open : Last → Bool
+with_open (last o (at_formula x)) = false
+with_open (last o (at_arrow x)) = false
+with_open (last o (at_sum x)) = false
+with_open (last o (at_with x)) = o
+with_open (last o (at_tensor x)) = o
+with_open (last o (at_primary x)) = o
 
-abbrev pub then_tensor : Primary false → Place → Last → Last
-then_tensor p at (last (at_formula x)) = last (at_tensor (times p at (of_primary (in_parens (last (at_formula x))))))
-then_tensor p at (last (at_arrow x)) = last (at_tensor (times p at (of_primary (in_parens (last (at_arrow x))))))
-then_tensor p at (last (at_sum x)) = last (at_tensor (times p at (of_primary (in_parens (last (at_sum x))))))
-then_tensor p at (last (at_with x)) = last (at_tensor (times p at (of_primary (in_parens (last (at_with x))))))
-then_tensor p at (last (at_tensor x)) = last (at_tensor (times p at x))
-then_tensor p at (last (at_primary x)) = last (at_tensor (times p at (of_primary x)))
+abbrev pub last_with : (e : Last) → With (with_open e)
+last_with (last o (at_formula x)) = of_tensor (of_primary (in_parens (last o (at_formula x))))
+last_with (last o (at_arrow x)) = of_tensor (of_primary (in_parens (last o (at_arrow x))))
+last_with (last o (at_sum x)) = of_tensor (of_primary (in_parens (last o (at_sum x))))
+last_with (last o (at_with x)) = x
+last_with (last o (at_tensor x)) = of_tensor x
+last_with (last o (at_primary x)) = of_tensor (of_primary x)
 
-abbrev pub to_brace : Place → Last → Primary false
-to_brace at (last a) = brace at (to_formula a) somewhere
+abbrev pub tensor_open : Last → Bool
+tensor_open (last o (at_formula x)) = false
+tensor_open (last o (at_arrow x)) = false
+tensor_open (last o (at_sum x)) = false
+tensor_open (last o (at_with x)) = false
+tensor_open (last o (at_tensor x)) = o
+tensor_open (last o (at_primary x)) = o
 
-abbrev pub to_quantified : Quantifier → Place → Word → Last → Primary true
-to_quantified q at w (last a) = quantified q at w somewhere (to_formula a)
+abbrev pub last_tensor : (e : Last) → Tensor (tensor_open e)
+last_tensor (last o (at_formula x)) = of_primary (in_parens (last o (at_formula x)))
+last_tensor (last o (at_arrow x)) = of_primary (in_parens (last o (at_arrow x)))
+last_tensor (last o (at_sum x)) = of_primary (in_parens (last o (at_sum x)))
+last_tensor (last o (at_with x)) = of_primary (in_parens (last o (at_with x)))
+last_tensor (last o (at_tensor x)) = x
+last_tensor (last o (at_primary x)) = of_primary x
+
+abbrev pub formula_open : Last → Bool
+formula_open (last o a) = o
+
+abbrev pub last_formula : (e : Last) → Formula (formula_open e)
+last_formula (last o a) = to_formula a
+
+-- ---- formulas that are printed
 
 -- a quantified formula that an operator follows stands in brackets
-abbrev pub in_brackets : Primary true → Any false
+abbrev pub in_brackets : {o : Bool} → Primary o → Any false
 in_brackets p = at_primary (bracket somewhere (of_arrow (of_sum (of_with (of_tensor (of_primary p))))) somewhere)
 
 -- the formula that is printed: `followed` where an operator stands behind it, `ending` where nothing or a token that closes does
@@ -215,9 +232,9 @@ abbrev mutual
   pub followed : Raw → Any false
   followed (truth at) = at_primary (truly at)
   followed (erasure at) = at_primary (erased at)
-  followed (braces at g) = at_primary (to_brace at (ending g))
-  followed (universal at n g) = in_brackets (to_quantified quantifier.Forall at (word_of n) (ending g))
-  followed (existential at n g) = in_brackets (to_quantified quantifier.Exists at (word_of n) (ending g))
+  followed (braces at g) = at_primary (brace at (last_formula (ending g)) somewhere)
+  followed (universal at n g) = in_brackets (quantified quantifier.Forall at (word_of n) somewhere (last_formula (ending g)))
+  followed (existential at n g) = in_brackets (quantified quantifier.Exists at (word_of n) somewhere (last_formula (ending g)))
   followed (load at n rs g) = at_arrow (loads n (arguments_of rs) at (to_arrow (followed g) (ending g)))
   followed (binary op.ColonDash at l r) = at_formula (clause (to_formula (followed l)) by_colon at (to_arrow (followed r) (ending r)))
   followed (binary op.LeftArrow at l r) = at_formula (clause (to_formula (followed l)) by_left at (to_arrow (followed r) (ending r)))
@@ -231,31 +248,27 @@ abbrev mutual
   followed (int at z) = at_primary (truly at)
 
   pub ending : Raw → Last
-  ending (truth at) = last (at_primary (truly at))
-  ending (erasure at) = last (at_primary (erased at))
-  ending (braces at g) = last (at_primary (to_brace at (ending g)))
-  ending (universal at n g) = last (at_primary (to_quantified quantifier.Forall at (word_of n) (ending g)))
-  ending (existential at n g) = last (at_primary (to_quantified quantifier.Exists at (word_of n) (ending g)))
-  ending (load at n rs g) = then_load n (arguments_of rs) at (ending g)
-  ending (binary op.ColonDash at l r) = then_clause (to_formula (followed l)) by_colon at (ending r)
-  ending (binary op.LeftArrow at l r) = then_clause (to_formula (followed l)) by_left at (ending r)
-  ending (binary op.Lolli at l r) = then_arrow (to_sum (followed l) (ending l)) by_lolli at (ending r)
-  ending (binary op.RightArrow at l r) = then_arrow (to_sum (followed l) (ending l)) by_right at (ending r)
-  ending (binary op.Plus at l r) = then_sum (to_with (followed l) (ending l)) at (ending r)
-  ending (binary op.With at l r) = then_with (to_tensor (followed l) (ending l)) at (ending r)
-  ending (binary op.Tensor at l r) = then_tensor (to_primary (followed l) (ending l)) at (ending r)
-  ending (head n rs) = last (at_primary (atom (word_of n) (arguments_of rs)))
-  ending (anything at) = last (at_primary (truly at))
-  ending (int at z) = last (at_primary (truly at))
+  ending (truth at) = last false (at_primary (truly at))
+  ending (erasure at) = last false (at_primary (erased at))
+  ending (braces at g) = last false (at_primary (brace at (last_formula (ending g)) somewhere))
+  ending (universal at n g) = last true (at_primary (quantified quantifier.Forall at (word_of n) somewhere (last_formula (ending g))))
+  ending (existential at n g) = last true (at_primary (quantified quantifier.Exists at (word_of n) somewhere (last_formula (ending g))))
+  ending (load at n rs g) = last (arrow_open (ending g)) (at_arrow (loads n (arguments_of rs) at (last_arrow (ending g))))
+  ending (binary op.ColonDash at l r) = last (arrow_open (ending r)) (at_formula (clause (to_formula (followed l)) by_colon at (last_arrow (ending r))))
+  ending (binary op.LeftArrow at l r) = last (arrow_open (ending r)) (at_formula (clause (to_formula (followed l)) by_left at (last_arrow (ending r))))
+  ending (binary op.Lolli at l r) = last (arrow_open (ending r)) (at_arrow (implies (to_sum (followed l) (ending l)) by_lolli at (last_arrow (ending r))))
+  ending (binary op.RightArrow at l r) = last (arrow_open (ending r)) (at_arrow (implies (to_sum (followed l) (ending l)) by_right at (last_arrow (ending r))))
+  ending (binary op.Plus at l r) = last (sum_open (ending r)) (at_sum (plus (to_with (followed l) (ending l)) at (last_sum (ending r))))
+  ending (binary op.With at l r) = last (with_open (ending r)) (at_with (with (to_tensor (followed l) (ending l)) at (last_with (ending r))))
+  ending (binary op.Tensor at l r) = last (tensor_open (ending r)) (at_tensor (times (to_primary (followed l) (ending l)) at (last_tensor (ending r))))
+  ending (head n rs) = last false (at_primary (atom (word_of n) (arguments_of rs)))
+  ending (anything at) = last false (at_primary (truly at))
+  ending (int at z) = last false (at_primary (truly at))
 
 -- ---- programs
 
-abbrev pub to_clause : Bool → Last → Clause
-to_clause false (last a) = plain (to_formula a) somewhere
-to_clause true (last a) = linear somewhere (to_formula a) somewhere
-
 abbrev pub printed_clause : ClauseTree → Clause
-printed_clause c = to_clause c.linear (ending c.form)
+printed_clause c = if c.linear then linear somewhere (last_formula (ending c.form)) somewhere else plain (last_formula (ending c.form)) somewhere
 
 -- one line `LOCAL` with all local constants, if there are any
 abbrev pub printed_locals : List Identifier → List Local

@@ -18,3 +18,4 @@ pub mod Counts
 pub mod Printable
 pub mod PrintedTerms
 pub mod PrintedForms
+pub mod PrintedSpelled

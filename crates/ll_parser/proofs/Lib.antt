@@ -15,3 +15,11 @@ pub mod RowLemmas
 pub mod Shown
 pub mod Newest
 pub mod Closing
+pub mod Answer
+pub mod Rows
+pub mod Spelled
+pub mod Counts
+pub mod Printable
+pub mod PrintedTerms
+pub mod PrintedForms
+pub mod PrintedSpelled

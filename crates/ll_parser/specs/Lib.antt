@@ -10,3 +10,4 @@ pub mod Seen
 pub mod Rows
 pub mod Waiting
 pub mod Symbols
+pub mod Printed

@@ -11,7 +11,7 @@ pub mod Queries
 pub mod Programs
 pub mod Verdict
 pub mod Exclusive
-pub mod RowLemmas
+pub mod StoredLemmas
 pub mod Shown
 pub mod Newest
 pub mod Closing

@@ -19,7 +19,7 @@ use Rattle.ll_parser.specs.Flat.{operand, loading, in_atom, in_argument, cell}
 use Rattle.ll_parser.specs.Nodes.{Node, HeadNode, LoadNode, identifier, raw_in, raws_in, build_raw, raw_trees, raw_at}
 use Rattle.ll_parser.specs.Seen.{places}
 use Rattle.ll_parser.specs.Waiting.{known, word_view, args_view, frame_view, left, base, frames_view, pending, waiting, tree, args_from, waiting_below, pushed, FrameFits, FramesFit, FitsTo, FitsBelow, Fits, IsNode, CanWait, Added, Pushed, Dropped, HasMore, Leaves}
-use Rattle.ll_parser.proofs.RowLemmas.{same_raws, places_below}
+use Rattle.ll_parser.proofs.StoredLemmas.{same_raws, places_below}
 
 -- ---- trees of more nodes
 

@@ -7,7 +7,7 @@ pub mod Flat
 pub mod FlatText
 pub mod Nodes
 pub mod Seen
-pub mod Rows
+pub mod Stored
 pub mod Waiting
 pub mod Symbols
 pub mod Printed

@@ -1,5 +1,5 @@
 -- What waits while a formula is read, as the machine over raw trees has it.
-use Rattle.std.specs.Prelude.{◌≡◌, ℕ, ◌<◌, ◌≤◌, List, [], ◌∷◌, length, take, drop, reverse, All, codes, Option, Some, None}
+use Rattle.std.specs.Prelude.{◌≡◌, ℕ, ◌<◌, ◌≤◌, List, [], ◌∷◌, ◌++◌, length, take, drop, reverse, All, codes, Option, Some, None}
 use Rattle.ll_lexer.specs.declared.Place.{Place}
 use Rattle.ll_parser.specs.declared.Level.{Level}
 use Rattle.ll_parser.specs.declared.RawAt.{RawAt}
@@ -173,15 +173,24 @@ ModeFits w (mode.WholeTerm at) = Fits w × IsNode w at
 
 -- ---- what calls leave, whatever the texts of the names are
 
+-- the nodes are those, or more behind them
+pub record Extends (old new : List Node) : Type 0 where
+  pub more : List Node
+  pub is : new ≡ old ++ more
+
+-- whatever extends the new nodes extends the old ones
+abbrev pub Grows : List Node → List Node → Type 0
+Grows old new = (later : List Node) → Extends new later → Extends old later
+
 -- the next state is that of the mode, or there is none
 abbrev pub Gives : Waiting → Option Mode → (List (List ℕ) → Option Flat) → Type 0
 Gives w None next = (texts : List (List ℕ)) → next (known texts) ≡ None
 Gives w (Some m) next = ModeFits w m × ((texts : List (List ℕ)) → next (known texts) ≡ Some (mode_view (known texts) w m))
 
--- the tree is that at the place, or there is none
+-- nothing waits, and the tree is that at the place; or there is none
 abbrev pub GivesTree : Waiting → Option RawAt → (List (List ℕ) → Option Raw) → Type 0
 GivesTree w None next = (texts : List (List ℕ)) → next (known texts) ≡ None
-GivesTree w (Some at) next = (Fits w × IsNode w at) × ((texts : List (List ℕ)) → next (known texts) ≡ Some (tree (known texts) w at))
+GivesTree w (Some at) next = (Fits w × IsNode w at × (w.frames.items ≡ [])) × ((texts : List (List ℕ)) → next (known texts) ≡ Some (tree (known texts) w at))
 
 -- a node was added, whose tree is this one; all else shows what it showed
 pub record Added (old new : Waiting) (at : RawAt) (raw : List (List ℕ) → Raw) : Type 0 where

@@ -8,7 +8,7 @@ ghost use Rattle.ll_parser.specs.Flat.{Pending, want, part, whole, binder, slash
 ghost use Rattle.ll_parser.specs.Nodes.{identifier, build_raw, raw_trees};
 ghost use Rattle.ll_parser.specs.Seen.{node_of, HasPartsBelow};
 ghost use Rattle.ll_parser.specs.Symbols.{symbol_tok};
-ghost use Rattle.ll_parser.specs.Waiting.{word_view, frame_view, tree, waiting, args_from, waiting_below, pushed, mode_view, Fits, FitsBelow, IsNode, CanWait, ModeFits, Gives, GivesTree};
+ghost use Rattle.ll_parser.specs.Waiting.{word_view, frame_view, tree, waiting, args_from, waiting_below, pushed, mode_view, Fits, FitsBelow, IsNode, CanWait, Grows, ModeFits, Gives, GivesTree};
 
 use crate::symbols::Symbol;
 use crate::waiting::{Frame, Prefix, Waiting, Word, named, newest};
@@ -41,7 +41,8 @@ impl Waiting {
     /// What a token does, if the grammar admits it.
     pub fn step(&mut self, mode: Mode, symbol: Symbol) -> Result<Option<Mode>, OutOfMemory>
         requires { ModeFits self.old mode }
-        ensures { IfOk result (λ o. Gives self.new o (λ texts. flat_step (mode_view texts self.old mode) (symbol_tok texts symbol))) }
+        ensures gives { IfOk result (λ o. Gives self.new o (λ texts. flat_step (mode_view texts self.old mode) (symbol_tok texts symbol))) }
+        ensures grows { IfOk result (λ _. Grows self.old.forms self.new.forms) }
     {
         match mode {
             Mode::Operand => self.begin_operand(symbol),
@@ -58,7 +59,8 @@ impl Waiting {
     // Puts a frame on, behind which an operand is read.
     fn want(&mut self, frame: Frame) -> Result<Option<Mode>, OutOfMemory>
         requires { CanWait self.old frame }
-        ensures { IfOk result (λ o. Gives self.new o (λ texts. Some (want (pushed texts self.old frame)))) }
+        ensures gives { IfOk result (λ o. Gives self.new o (λ texts. Some (want (pushed texts self.old frame)))) }
+        ensures grows { IfOk result (λ _. Grows self.old.forms self.new.forms) }
     {
         self.push(frame)?;
         Ok(Some(Mode::Operand))
@@ -67,7 +69,8 @@ impl Waiting {
     /// Puts a frame on, behind which a term is read.
     pub fn want_term(&mut self, frame: Frame) -> Result<Option<Mode>, OutOfMemory>
         requires { CanWait self.old frame }
-        ensures { IfOk result (λ o. Gives self.new o (λ texts. Some (term_want (pushed texts self.old frame)))) }
+        ensures gives { IfOk result (λ o. Gives self.new o (λ texts. Some (term_want (pushed texts self.old frame)))) }
+        ensures grows { IfOk result (λ _. Grows self.old.forms self.new.forms) }
     {
         self.push(frame)?;
         Ok(Some(Mode::Term))
@@ -77,7 +80,8 @@ impl Waiting {
     fn primary(&mut self, at: Place, node: RawNode<'_>) -> Result<Option<Mode>, OutOfMemory>
         requires fits { Fits self.old }
         requires parts { HasPartsBelow (length self.old.forms) node }
-        ensures { IfOk result (λ o. Gives self.new o (λ texts. Some (whole (build_raw texts (raw_trees texts self.old.forms) (node_of at node.entry)) (waiting texts self.old)))) }
+        ensures gives { IfOk result (λ o. Gives self.new o (λ texts. Some (whole (build_raw texts (raw_trees texts self.old.forms) (node_of at node.entry)) (waiting texts self.old)))) }
+        ensures grows { IfOk result (λ _. Grows self.old.forms self.new.forms) }
     {
         let formula = self.add(at, node)?;
         Ok(Some(Mode::Formula(formula)))
@@ -86,7 +90,8 @@ impl Waiting {
     // The first token of a primary formula.
     fn begin_operand(&mut self, symbol: Symbol) -> Result<Option<Mode>, OutOfMemory>
         requires { Fits self.old }
-        ensures { IfOk result (λ o. Gives self.new o (λ texts. flat_step (want (waiting texts self.old)) (symbol_tok texts symbol))) }
+        ensures gives { IfOk result (λ o. Gives self.new o (λ texts. flat_step (want (waiting texts self.old)) (symbol_tok texts symbol))) }
+        ensures grows { IfOk result (λ _. Grows self.old.forms self.new.forms) }
     {
         match symbol {
             Symbol::Name(name) => Ok(Some(Mode::Atom(Word::Name(name), self.args.len()))),
@@ -104,7 +109,8 @@ impl Waiting {
     // The `\` behind a quantifier's word.
     fn begin_scope(&mut self, quantifier: Quantifier, at: Place, word: Word, symbol: Symbol) -> Result<Option<Mode>, OutOfMemory>
         requires { Fits self.old }
-        ensures { IfOk result (λ o. Gives self.new o (λ texts. flat_step (slash quantifier at (word_view texts word) (waiting texts self.old)) (symbol_tok texts symbol))) }
+        ensures gives { IfOk result (λ o. Gives self.new o (λ texts. flat_step (slash quantifier at (word_view texts word) (waiting texts self.old)) (symbol_tok texts symbol))) }
+        ensures grows { IfOk result (λ _. Grows self.old.forms self.new.forms) }
     {
         match symbol {
             Symbol::Backslash(_) => {
@@ -118,7 +124,8 @@ impl Waiting {
     fn extend_atom(&mut self, word: Word, from: usize, at: Place, node: RawNode<'_>) -> Result<Option<Mode>, OutOfMemory>
         requires fits { FitsBelow self.old from }
         requires parts { HasPartsBelow (length self.old.forms) node }
-        ensures { IfOk result (λ o. Gives self.new o (λ texts. Some (part (word_view texts word) (raws_then (args_from texts self.old from) (build_raw texts (raw_trees texts self.old.forms) (node_of at node.entry))) (waiting_below texts self.old from)))) }
+        ensures gives { IfOk result (λ o. Gives self.new o (λ texts. Some (part (word_view texts word) (raws_then (args_from texts self.old from) (build_raw texts (raw_trees texts self.old.forms) (node_of at node.entry))) (waiting_below texts self.old from)))) }
+        ensures grows { IfOk result (λ _. Grows self.old.forms self.new.forms) }
     {
         self.add_argument(at, node)?;
         Ok(Some(Mode::Atom(word, from)))
@@ -127,7 +134,8 @@ impl Waiting {
     // The token behind an atom: one more argument, the arrow of a load, or what follows an operand.
     fn after_atom(&mut self, word: Word, from: usize, symbol: Symbol) -> Result<Option<Mode>, OutOfMemory>
         requires { FitsBelow self.old from }
-        ensures { IfOk result (λ o. Gives self.new o (λ texts. flat_step (part (word_view texts word) (args_from texts self.old from) (waiting_below texts self.old from)) (symbol_tok texts symbol))) }
+        ensures gives { IfOk result (λ o. Gives self.new o (λ texts. flat_step (part (word_view texts word) (args_from texts self.old from) (waiting_below texts self.old from)) (symbol_tok texts symbol))) }
+        ensures grows { IfOk result (λ _. Grows self.old.forms self.new.forms) }
     {
         match symbol {
             Symbol::Name(name) => self.extend_atom(word, from, name.at, RawNode::Head(name, &[])),
@@ -148,7 +156,8 @@ impl Waiting {
     // The arrow of a load, which stands beside no tighter operator.
     fn begin_load(&mut self, word: Word, from: usize, at: Place) -> Result<Option<Mode>, OutOfMemory>
         requires { FitsBelow self.old from }
-        ensures { IfOk result (λ o. Gives self.new o (λ texts. begin_load (word_view texts word) (args_from texts self.old from) at (waiting_below texts self.old from))) }
+        ensures gives { IfOk result (λ o. Gives self.new o (λ texts. begin_load (word_view texts word) (args_from texts self.old from) at (waiting_below texts self.old from))) }
+        ensures grows { IfOk result (λ _. Grows self.old.forms self.new.forms) }
     {
         match word {
             Word::Name(name) => {
@@ -176,7 +185,8 @@ impl Waiting {
     fn after_operand(&mut self, operand: RawAt, symbol: Symbol) -> Result<Option<Mode>, OutOfMemory>
         requires fits { Fits self.old }
         requires operand { IsNode self.old operand }
-        ensures { IfOk result (λ o. Gives self.new o (λ texts. operate (tree texts self.old operand) (waiting texts self.old) (symbol_tok texts symbol))) }
+        ensures gives { IfOk result (λ o. Gives self.new o (λ texts. operate (tree texts self.old operand) (waiting texts self.old) (symbol_tok texts symbol))) }
+        ensures grows { IfOk result (λ _. Grows self.old.forms self.new.forms) }
     {
         match symbol {
             Symbol::Comma(at) => self.want(Frame::Front(Prefix::Operator(Op::Tensor, at, operand))),
@@ -202,7 +212,8 @@ impl Waiting {
     fn extend(&mut self, level: Level, op: Op, at: Place, operand: RawAt) -> Result<Option<Mode>, OutOfMemory>
         requires fits { Fits self.old }
         requires operand { IsNode self.old operand }
-        ensures { IfOk result (λ o. Gives self.new o (λ texts. push_operator op at (reduce level (tree texts self.old operand) (waiting texts self.old)))) }
+        ensures gives { IfOk result (λ o. Gives self.new o (λ texts. push_operator op at (reduce level (tree texts self.old operand) (waiting texts self.old)))) }
+        ensures grows { IfOk result (λ _. Grows self.old.forms self.new.forms) }
     {
         let left = self.reduce(level, operand)?;
         self.want(Frame::Front(Prefix::Operator(op, at, left)))
@@ -212,7 +223,8 @@ impl Waiting {
     fn close_bracket(&mut self, formula: RawAt) -> Option<Mode>
         requires fits { Fits self.old }
         requires formula { IsNode self.old formula }
-        ensures { Gives self.new result (λ texts. close_bracket (tree texts self.old formula) (waiting texts self.old)) }
+        ensures gives { Gives self.new result (λ texts. close_bracket (tree texts self.old formula) (waiting texts self.old)) }
+        ensures grows { Grows self.old.forms self.new.forms }
     {
         match newest(&self.frames) {
             None => None,
@@ -230,7 +242,8 @@ impl Waiting {
     fn close_brace(&mut self, formula: RawAt) -> Result<Option<Mode>, OutOfMemory>
         requires fits { Fits self.old }
         requires formula { IsNode self.old formula }
-        ensures { IfOk result (λ o. Gives self.new o (λ texts. close_brace (tree texts self.old formula) (waiting texts self.old))) }
+        ensures gives { IfOk result (λ o. Gives self.new o (λ texts. close_brace (tree texts self.old formula) (waiting texts self.old))) }
+        ensures grows { IfOk result (λ _. Grows self.old.forms self.new.forms) }
     {
         match newest(&self.frames) {
             None => Ok(None),
@@ -247,7 +260,8 @@ impl Waiting {
     /// The whole formula, if the tokens may end here.
     pub fn finish(&mut self, mode: Mode) -> Result<Option<RawAt>, OutOfMemory>
         requires { ModeFits self.old mode }
-        ensures { IfOk result (λ o. GivesTree self.new o (λ texts. flat_final (mode_view texts self.old mode))) }
+        ensures gives { IfOk result (λ o. GivesTree self.new o (λ texts. flat_final (mode_view texts self.old mode))) }
+        ensures grows { IfOk result (λ _. Grows self.old.forms self.new.forms) }
     {
         match mode {
             Mode::Atom(word, from) => {
@@ -263,7 +277,8 @@ impl Waiting {
     fn finish_operand(&mut self, operand: RawAt) -> Result<Option<RawAt>, OutOfMemory>
         requires fits { Fits self.old }
         requires operand { IsNode self.old operand }
-        ensures { IfOk result (λ o. GivesTree self.new o (λ texts. let q = reduce Close (tree texts self.old operand) (waiting texts self.old) in end_with q.0 q.1)) }
+        ensures gives { IfOk result (λ o. GivesTree self.new o (λ texts. let q = reduce Close (tree texts self.old operand) (waiting texts self.old) in end_with q.0 q.1)) }
+        ensures grows { IfOk result (λ _. Grows self.old.forms self.new.forms) }
     {
         let formula = self.reduce(Level::Close, operand)?;
         match newest(&self.frames) {

@@ -5,7 +5,7 @@ ghost use Rattle.ll_parser.specs.declared.RawAt.{RawAt};
 ghost use Rattle.ll_parser.specs.Raw.{raw_place};
 ghost use Rattle.ll_parser.specs.Nodes.{HeadNode, LoadNode, raw_at};
 ghost use Rattle.ll_parser.specs.Seen.{places, node_of, HasPartsBelow, IsRawNode};
-ghost use Rattle.ll_parser.specs.Rows.{IsWithin, args_of, AddsTo, IsRowKept, row_node, node_place};
+ghost use Rattle.ll_parser.specs.Stored.{IsWithin, args_of, AddsTo, IsRowKept, row_node, node_place};
 
 use crate::{Named, Op, RawAt, RawNode};
 use ll_bank::OutOfMemory;
@@ -50,7 +50,7 @@ impl Model for Raws {
 
     ghost Value = { List Node };
 
-    ghost use Rattle.ll_parser.specs.Rows.{row_node, IsKept};
+    ghost use Rattle.ll_parser.specs.Stored.{row_node, IsKept};
 
     ghost view = { λ raws. map (row_node raws.args.items) raws.rows.items };
 

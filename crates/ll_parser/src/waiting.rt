@@ -121,7 +121,7 @@ pub fn newest(frames: &[Frame]) -> Option<Frame>
 }
 
 impl Waiting {
-    ghost use Rattle.ll_parser.specs.Waiting.{tree, args_from, waiting_below, FitsBelow, IsNode, CanWait, Added, Pushed, Dropped, Leaves, HasMore};
+    ghost use Rattle.ll_parser.specs.Waiting.{tree, args_from, waiting_below, FitsBelow, IsNode, CanWait, Grows, Added, Pushed, Dropped, Leaves, HasMore};
 
     /// Nothing.
     pub fn new(alloc: Global) -> Self
@@ -139,7 +139,8 @@ impl Waiting {
     /// Adds a node.
     pub fn add(&mut self, at: Place, node: RawNode<'_>) -> Result<RawAt, OutOfMemory>
         requires { HasPartsBelow (length self.old.forms) node }
-        ensures { IfOk result (λ i. Added self.old self.new i (λ texts. build_raw texts (raw_trees texts self.old.forms) (node_of at node.entry))) }
+        ensures gives { IfOk result (λ i. Added self.old self.new i (λ texts. build_raw texts (raw_trees texts self.old.forms) (node_of at node.entry))) }
+        ensures grows { IfOk result (λ _. Grows self.old.forms self.new.forms) }
     {
         let place = self.forms.add(at, node)?;
         Ok(place)
@@ -148,7 +149,8 @@ impl Waiting {
     /// Puts a frame on.
     pub fn push(&mut self, frame: Frame) -> Result<(), OutOfMemory>
         requires { CanWait self.old frame }
-        ensures { IfOk result (λ _. Pushed self.old self.new frame) }
+        ensures gives { IfOk result (λ _. Pushed self.old self.new frame) }
+        ensures grows { IfOk result (λ _. Grows self.old.forms self.new.forms) }
     {
         self.frames.push(frame)?;
         Ok(())
@@ -157,7 +159,8 @@ impl Waiting {
     /// Takes the newest frame off.
     pub fn drop_newest(&mut self)
         requires { 0 < length self.old.frames.items }
-        ensures { (rest : List Frame) (f : Frame) → self.old.frames.items ≡ rest ++ f ∷ [] → Dropped self.old self.new f }
+        ensures gives { (rest : List Frame) (f : Frame) → self.old.frames.items ≡ rest ++ f ∷ [] → Dropped self.old self.new f }
+        ensures grows { Grows self.old.forms self.new.forms }
     {
         let n = self.frames.len();
         self.frames.truncate(n - 1);
@@ -166,7 +169,8 @@ impl Waiting {
     /// One more argument of the head at work.
     pub fn push_argument(&mut self, arg: RawAt) -> Result<(), OutOfMemory>
         requires { IsNode self.old arg }
-        ensures { IfOk result (λ _. (from : ℕ) → FitsBelow self.old from → HasMore self.old self.new from (λ texts. tree texts self.old arg)) }
+        ensures gives { IfOk result (λ _. (from : ℕ) → FitsBelow self.old from → HasMore self.old self.new from (λ texts. tree texts self.old arg)) }
+        ensures grows { IfOk result (λ _. Grows self.old.forms self.new.forms) }
     {
         self.args.push(arg)?;
         Ok(())
@@ -175,7 +179,8 @@ impl Waiting {
     /// One more argument of the head at work, of one node.
     pub fn add_argument(&mut self, at: Place, node: RawNode<'_>) -> Result<(), OutOfMemory>
         requires { HasPartsBelow (length self.old.forms) node }
-        ensures { IfOk result (λ _. (from : ℕ) → FitsBelow self.old from → HasMore self.old self.new from (λ texts. build_raw texts (raw_trees texts self.old.forms) (node_of at node.entry))) }
+        ensures gives { IfOk result (λ _. (from : ℕ) → FitsBelow self.old from → HasMore self.old self.new from (λ texts. build_raw texts (raw_trees texts self.old.forms) (node_of at node.entry))) }
+        ensures grows { IfOk result (λ _. Grows self.old.forms self.new.forms) }
     {
         let arg = self.add(at, node)?;
         self.push_argument(arg)?;
@@ -185,7 +190,8 @@ impl Waiting {
     /// The head with the arguments that wait from a place on, which wait no more.
     pub fn finish_head(&mut self, name: Named, from: usize) -> Result<RawAt, OutOfMemory>
         requires { FitsBelow self.old from }
-        ensures { IfOk result (λ i. Leaves self.new i (λ texts. head (identifier texts name) (args_from texts self.old from)) (λ texts. waiting_below texts self.old from)) }
+        ensures gives { IfOk result (λ i. Leaves self.new i (λ texts. head (identifier texts name) (args_from texts self.old from)) (λ texts. waiting_below texts self.old from)) }
+        ensures grows { IfOk result (λ _. Grows self.old.forms self.new.forms) }
     {
         let args = self.args.as_slice();
         let at = self.forms.add_head(name, &args[from..])?;

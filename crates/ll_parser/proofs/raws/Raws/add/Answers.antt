@@ -1,5 +1,5 @@
 use Rattle.std.proofs.Common.{refl, rules}
-use Rattle.ll_parser.proofs.RowLemmas.{still_kept, same_view, OnErr-always, added, added_kept, parts_below}
+use Rattle.ll_parser.proofs.StoredLemmas.{still_kept, same_view, OnErr-always, added, added_kept, parts_below}
 use Rattle.ll_parser.proofs.raws.Raws.add.Goals as goal
 
 -- the arguments grew, and no node was pushed

@@ -12,4 +12,5 @@ pub returns-in_default : goal.returns-in_default
 returns-in_default c = record {
   none = takes-other c.args.level c.args.self.now c.in-Some.frame (rw c.deref.ensures.value at c.in-Some.ensures) c.in_default.not-Front;
   some = tt;
+  grows = λ later e. e;
 }

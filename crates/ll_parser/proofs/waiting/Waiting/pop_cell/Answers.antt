@@ -8,4 +8,5 @@ pub returns-in_default : goal.returns-in_default
 returns-in_default c = record {
   none = no-cell-other c.args.self.now c.in-Some.frame (rw c.deref.ensures.value at c.in-Some.ensures) c.in_default.not-Cell;
   some = tt;
+  grows = λ later e. e;
 }

@@ -19,7 +19,7 @@ use Rattle.ll_parser.specs.declared.raws.Row.TheVariants as row
 use Rattle.ll_parser.specs.Raw.{Raw, truth, braces, universal, existential, load, binary, head, raw_place}
 use Rattle.ll_parser.specs.Nodes.{Node, TrueNode, EraseNode, AnyNode, BracesNode, ForallNode, ExistsNode, LoadNode, BinaryNode, HeadNode, IntNode, identifier, raw_in, raws_in, build_raw, raw_trees, raw_at}
 use Rattle.ll_parser.specs.Seen.{places, node_of, HasPartsBelow, IsRawNode}
-use Rattle.ll_parser.specs.Rows.{args_of, row_node, node_place, IsWithin, IsRowKept, IsBelow, IsWellFounded, IsKept, AddsTo}
+use Rattle.ll_parser.specs.Stored.{args_of, row_node, node_place, IsWithin, IsRowKept, IsBelow, IsWellFounded, IsKept, AddsTo}
 
 -- ---- the tree that a node builds depends on what is below it alone
 

@@ -23,3 +23,5 @@ pub mod Printable
 pub mod PrintedTerms
 pub mod PrintedForms
 pub mod PrintedSpelled
+pub mod Drafting
+pub mod Naming

@@ -96,7 +96,7 @@ kept_more cs more (row.Binary at o f g) h = tt
 kept_more cs more (row.Any at) h = tt
 
 -- functions that agree where P holds map alike
-same_map : {A B : Type 0} (f g : A → B) (P : A → Type 0) (xs : List A) → ((x : A) → P x → f x ≡ g x) → All P xs → map f xs ≡ map g xs
+pub same_map : {A B : Type 0} (f g : A → B) (P : A → Type 0) (xs : List A) → ((x : A) → P x → f x ≡ g x) → All P xs → map f xs ≡ map g xs
 same_map f g P [] h a = refl
 same_map f g P (x ∷ xs) h a = let e1 = h x (All-head P x xs a) in let e2 = same_map f g P xs h (All-tail P x xs a) in cc
 

@@ -11,3 +11,4 @@ pub mod Stored
 pub mod Waiting
 pub mod Symbols
 pub mod Printed
+pub mod Drafts

@@ -1,5 +1,11 @@
 //! Tokens as the grammar sees them: words by their numbers among the names, and numbers by their values.
 
+ghost use Rattle.std.specs.Prelude.{◌≡◌, ℕ, ◌<◌, ◌^◌, ◌++◌, List, Some, length, slice_get, IfOk};
+ghost use Rattle.std.specs.Str.{IsAscii};
+ghost use Rattle.ll_parser.specs.Tokens.{toks_of};
+ghost use Rattle.ll_parser.specs.Nodes.{identifier};
+ghost use Rattle.ll_parser.specs.Symbols.{symbol_tok, AddsOne};
+
 use crate::Named;
 use ll_bank::{Names, OutOfMemory};
 use ll_lexer::{Place, TokenKind, TokenList};
@@ -37,6 +43,10 @@ pub enum Symbol {
 
 /// Token `i`. The text of a word is added to the names.
 pub fn symbol_at(tokens: &TokenList<'_>, i: usize, names: &mut Names) -> Result<Symbol, OutOfMemory>
+    requires token { i < length tokens.now.tokens }
+    requires room { length names.old < 2 ^ 32 }
+    ensures names { IfOk result (λ _. AddsOne names.old names.new) }
+    ensures token { IfOk result (λ s. (more : List (List ℕ)) → slice_get (toks_of tokens.now) i ≡ Some (symbol_tok (names.new ++ more) s)) }
 {
     let token = tokens.get(i);
     let at = token.at;
@@ -73,6 +83,10 @@ pub fn symbol_at(tokens: &TokenList<'_>, i: usize, names: &mut Names) -> Result<
 
 // The number and the place of a word, whose text is added to the names.
 fn word(bytes: &[u8], at: Place, names: &mut Names) -> Result<Named, OutOfMemory>
+    requires ascii { IsAscii bytes.now }
+    requires room { length names.old < 2 ^ 32 }
+    ensures names { IfOk result (λ _. AddsOne names.old names.new) }
+    ensures text { IfOk result (λ n. (more : List (List ℕ)) → identifier (names.new ++ more) n ≡ record { text = bytes.now; at = at }) }
 {
     let text = str::from_utf8(bytes).unwrap();
     let name = names.add(text)?;

@@ -8,6 +8,7 @@ use Rattle.ll_parser.specs.declared.RawModule.{RawModule}
 use Rattle.ll_parser.specs.declared.symbols.Symbol.{Symbol}
 use Rattle.ll_parser.specs.declared.symbols.Symbol.TheVariants as symbol
 use Rattle.ll_parser.specs.declared.formulas.Mode.{Mode}
+use Rattle.ll_parser.specs.declared.formulas.Mode.TheVariants as mode
 use Rattle.ll_parser.specs.declared.texts.Phase.{Phase}
 use Rattle.ll_parser.specs.declared.texts.Phase.TheVariants as phase
 use Rattle.ll_parser.specs.declared.texts.Draft.{Draft}
@@ -16,10 +17,10 @@ use Rattle.ll_parser.specs.declared.texts.Stage.TheVariants as stages
 use Rattle.ll_parser.specs.declared.waiting.Waiting.{Waiting}
 use Rattle.ll_parser.specs.Raw.{Raw, truth, ClauseTree, ModuleTree, ProgramTree}
 use Rattle.ll_parser.specs.Flat.{Pending, Flat, want, flat_step}
-use Rattle.ll_parser.specs.FlatText.{boundary, inside, FlatProgram, add_clause, enter, end_clause, phase_step, program_step, asking, query_step}
+use Rattle.ll_parser.specs.FlatText.{boundary, inside, FlatProgram, add_clause, enter, end_clause, phase_step, program_step, asking, query_start, query_step, program_start}
 use Rattle.ll_parser.specs.Nodes.{Node, identifier, build_raw, raw_trees, raw_at, shown_clause, shown_module, shown_program}
 use Rattle.ll_parser.specs.Symbols.{symbol_tok}
-use Rattle.ll_parser.specs.Waiting.{known, waiting, tree, mode_view, Extends, Grows, Gives, GivesTree, ModeFits}
+use Rattle.ll_parser.specs.Waiting.{known, waiting, tree, mode_view, Extends, Grows, Fits, Gives, GivesTree, ModeFits}
 use Rattle.ll_parser.specs.Drafts.{whole_view, current_view, draft_view, IsIdle, PhaseFits, ClausesFit, ModuleFits, CurrentFits, DraftFits, GivesPhase, AddsClause, stage_view, GivesStage}
 use Rattle.ll_parser.proofs.StoredLemmas.{same_map}
 use Rattle.ll_parser.proofs.Newest.{pending-none}
@@ -149,3 +150,24 @@ marked-next d new o p e fits s g =
     (λ texts. ap (λ z. program_step (draft_view (known texts) d z) (symbol_tok (known texts) s)) e
         ∙ ap (λ (ps : List Pending). enter (whole_view (known texts) d) (current_view (known texts) d) true (flat_step (want ps) (symbol_tok (known texts) s))) (sym (begins-idle d.waiting (subst (PhaseFits d.waiting) e fits) (known texts))))
     g
+
+-- ---- before the first token
+
+pub fits-none : (w : Waiting) → w.forms ≡ [] → w.args.items ≡ [] → w.frames.items ≡ [] → Fits w
+fits-none w forms args frames = rw (forms, args, frames) (record { args = λ k a l. absurd (omega arith); within = omega arith; frames = tt })
+
+pub idle-none : (w : Waiting) → w.forms ≡ [] → w.args.items ≡ [] → w.frames.items ≡ [] → IsIdle w
+idle-none w forms args frames = record { fits = fits-none w forms args frames; frames = frames }
+
+pub draft-none : (d : Draft) → d.clauses.items ≡ [] → d.modules.items ≡ [] → d.current ≡ None → DraftFits d
+draft-none d clauses modules current = record {
+  clauses = rw clauses (λ k a l. absurd (omega arith));
+  modules = rw modules (λ k a l. absurd (omega arith));
+  current = rw current tt;
+}
+
+pub query-none : (w : Waiting) → w.frames.items ≡ [] → (texts : List (List ℕ)) → stage_view texts w (stages.Formula mode.Operand) ≡ query_start
+query-none w e texts = ap (λ (ps : List Pending). asking (want ps)) (pending-none texts w.forms w.args.items w.frames.items e)
+
+pub program-none : (d : Draft) → d.clauses.items ≡ [] → d.modules.items ≡ [] → d.current ≡ None → (texts : List (List ℕ)) → draft_view texts d phase.Boundary ≡ program_start
+program-none d clauses modules current texts = rw (clauses, modules, current) refl

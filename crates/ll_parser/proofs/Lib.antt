@@ -25,3 +25,4 @@ pub mod PrintedForms
 pub mod PrintedSpelled
 pub mod Drafting
 pub mod Naming
+pub mod Running

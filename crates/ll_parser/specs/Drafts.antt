@@ -33,7 +33,7 @@ GivesStage w (Some s) next = StageFits w s × ((texts : List (List ℕ)) → nex
 -- the tree of the query is that at the place, or there is none
 abbrev pub GivesQuery : Waiting → Option RawAt → (List (List ℕ) → Option Raw) → Type 0
 GivesQuery w None next = (texts : List (List ℕ)) → next (known texts) ≡ None
-GivesQuery w (Some at) next = (texts : List (List ℕ)) → next (known texts) ≡ Some (tree (known texts) w at)
+GivesQuery w (Some at) next = IsNode w at × ((texts : List (List ℕ)) → next (known texts) ≡ Some (tree (known texts) w at))
 
 -- ---- programs
 

@@ -1,16 +1,25 @@
 //! The loops over the tokens of a program and of a query.
 
+ghost use Rattle.std.specs.Prelude.{◌≡◌, ℕ, ◌<◌, ◌≤◌, ◌∷◌, List, [], true, length, IfOk, MatchOption, MatchResult};
+ghost use Rattle.ll_parser.specs.Tokens.{toks_of};
+ghost use Rattle.ll_parser.specs.Text.{programs, queries};
+ghost use Rattle.ll_parser.specs.Reads.{open_after, opens, Reads, IsWhole, IsCause};
+ghost use Rattle.ll_parser.specs.Nodes.{raw_at, shown_program};
+ghost use Rattle.ll_parser.specs.Symbols.{symbol_tok};
+ghost use Rattle.ll_parser.specs.Waiting.{known};
+
 use crate::formulas::Mode;
 use crate::symbols::{Symbol, symbol_at};
 use crate::texts::{Draft, Phase, Stage};
 use crate::waiting::Waiting;
 use crate::{MOST_OPEN, RawProgram, RawQuery};
 use ll_bank::{Names, OutOfMemory};
-use ll_lexer::{Fault, Place, TextFault, TokenList};
+use ll_lexer::{Fault, TextFault, TokenList};
 use std::alloc::Global;
 
 // The names of a text before its first token: the text `::` alone.
 fn first_names(alloc: Global) -> Result<Names, OutOfMemory>
+    ensures { IfOk result (λ names. names ≡ known []) }
 {
     let mut names = Names::new(alloc);
     names.add("::")?;
@@ -18,59 +27,62 @@ fn first_names(alloc: Global) -> Result<Names, OutOfMemory>
 }
 
 // How many brackets are open behind a token, or `None` past the limit.
-fn opened(open: usize, symbol: Symbol) -> Option<usize>
+fn opened(depth: usize, symbol: Symbol) -> Option<usize>
+    requires { depth ≤ MOST_OPEN }
+    ensures { (texts : List (List ℕ)) → MatchOption result ((opens (symbol_tok texts symbol) ≡ true) × (depth ≡ MOST_OPEN)) (λ n. (n ≡ open_after depth (symbol_tok texts symbol ∷ [])) × (n ≤ MOST_OPEN)) }
 {
     match symbol {
         Symbol::ParenLeft(_) | Symbol::BraceLeft(_) => {
-            if open < MOST_OPEN {
-                Some(open + 1)
+            if depth < MOST_OPEN {
+                Some(depth + 1)
             } else {
                 None
             }
         }
-        Symbol::ParenRight(_) | Symbol::BraceRight(_) => Some(open.saturating_sub(1)),
-        _ => Some(open),
+        Symbol::ParenRight(_) | Symbol::BraceRight(_) => Some(depth.saturating_sub(1)),
+        _ => Some(depth),
     }
-}
-
-// A fault of a text.
-fn fault(at: Place, kind: u8) -> TextFault
-{
-    TextFault::Text(Fault { at, kind })
 }
 
 /// The program that the tokens are. `Text` is the text's first fault: kind 4, the first bad token, with which and the tokens
 /// before it no program begins; kind 5, at the end of the text, where the tokens begin a program and are none; kind 6, a bracket
 /// that the grammar admits while 1,000 are open.
 pub fn program(alloc: Global, tokens: &TokenList<'_>) -> Result<RawProgram, TextFault>
+    requires { length tokens.now.text ≤ 16777216 }
+    ensures read { MatchResult result (λ p. Reads programs MOST_OPEN (toks_of tokens.now) (shown_program p.names p.forms p.clauses.items p.modules.items)) (λ e. IsCause programs MOST_OPEN (toks_of tokens.now) tokens.now.end e) }
+    ensures whole { IfOk result (λ p. IsWhole programs (shown_program p.names p.forms p.clauses.items p.modules.items)) }
 {
     let mut names = first_names(alloc)?;
     let mut draft = Draft::new(alloc);
     let mut phase = Phase::Boundary;
-    let mut open = 0;
+    let mut depth = 0;
     for i in 0..tokens.len() {
         let at = tokens.get(i).at;
         let symbol = symbol_at(tokens, i, &mut names)?;
         let Some(next) = draft.step(alloc, phase, symbol)? else {
-            return Err(fault(at, 4));
+            return Err(TextFault::Text(Fault { at, kind: 4 }));
         };
-        let Some(now_open) = opened(open, symbol) else {
-            return Err(fault(at, 6));
+        let Some(now_depth) = opened(depth, symbol) else {
+            return Err(TextFault::Text(Fault { at, kind: 6 }));
         };
         phase = next;
-        open = now_open;
+        depth = now_depth;
     }
     match phase {
         Phase::Boundary => {
             draft.close_module()?;
+            let waiting = draft.waiting;
             Ok(RawProgram {
                 names,
-                forms: draft.waiting.forms,
+                forms: waiting.forms,
                 clauses: draft.clauses,
                 modules: draft.modules,
             })
         }
-        _ => Err(fault(tokens.end(), 5)),
+        _ => Err(TextFault::Text(Fault {
+            at: tokens.end(),
+            kind: 5,
+        })),
     }
 }
 
@@ -78,22 +90,26 @@ pub fn program(alloc: Global, tokens: &TokenList<'_>) -> Result<RawProgram, Text
 /// it no query begins; kind 5, at the end of the text, where the tokens begin a query and are none; kind 6, a bracket that the
 /// grammar admits while 1,000 are open.
 pub fn query(alloc: Global, tokens: &TokenList<'_>) -> Result<RawQuery, TextFault>
+    requires { length tokens.now.text ≤ 16777216 }
+    ensures read { MatchResult result (λ q. Reads queries MOST_OPEN (toks_of tokens.now) (raw_at q.names q.forms q.goal.0)) (λ e. IsCause queries MOST_OPEN (toks_of tokens.now) tokens.now.end e) }
+    ensures whole { IfOk result (λ q. IsWhole queries (raw_at q.names q.forms q.goal.0)) }
+    ensures goal { IfOk result (λ q. q.goal.0 < length q.forms) }
 {
     let mut names = first_names(alloc)?;
     let mut waiting = Waiting::new(alloc);
     let mut stage = Stage::Formula(Mode::Operand);
-    let mut open = 0;
+    let mut depth = 0;
     for i in 0..tokens.len() {
         let at = tokens.get(i).at;
         let symbol = symbol_at(tokens, i, &mut names)?;
         let Some(next) = waiting.query_step(stage, symbol)? else {
-            return Err(fault(at, 4));
+            return Err(TextFault::Text(Fault { at, kind: 4 }));
         };
-        let Some(now_open) = opened(open, symbol) else {
-            return Err(fault(at, 6));
+        let Some(now_depth) = opened(depth, symbol) else {
+            return Err(TextFault::Text(Fault { at, kind: 6 }));
         };
         stage = next;
-        open = now_open;
+        depth = now_depth;
     }
     match waiting.query_finish(stage)? {
         Some(goal) => Ok(RawQuery {
@@ -101,6 +117,9 @@ pub fn query(alloc: Global, tokens: &TokenList<'_>) -> Result<RawQuery, TextFaul
             forms: waiting.forms,
             goal,
         }),
-        None => Err(fault(tokens.end(), 5)),
+        None => Err(TextFault::Text(Fault {
+            at: tokens.end(),
+            kind: 5,
+        })),
     }
 }

@@ -17,11 +17,11 @@ use Rattle.ll_parser.specs.declared.texts.Stage.TheVariants as stages
 use Rattle.ll_parser.specs.declared.waiting.Waiting.{Waiting}
 use Rattle.ll_parser.specs.Raw.{Raw, truth, ClauseTree, ModuleTree, ProgramTree}
 use Rattle.ll_parser.specs.Flat.{Pending, Flat, want, flat_step}
-use Rattle.ll_parser.specs.FlatText.{boundary, inside, FlatProgram, add_clause, enter, end_clause, phase_step, program_step, asking, query_start, query_step, program_start}
+use Rattle.ll_parser.specs.FlatText.{boundary, inside, FlatProgram, add_clause, enter, end_clause, phase_step, program_step, asking, query_start, query_step, program_start, program_final}
 use Rattle.ll_parser.specs.Nodes.{Node, identifier, build_raw, raw_trees, raw_at, shown_clause, shown_module, shown_program}
 use Rattle.ll_parser.specs.Symbols.{symbol_tok}
 use Rattle.ll_parser.specs.Waiting.{known, waiting, tree, mode_view, Extends, Grows, Fits, Gives, GivesTree, ModeFits}
-use Rattle.ll_parser.specs.Drafts.{whole_view, current_view, draft_view, IsIdle, PhaseFits, ClausesFit, ModuleFits, CurrentFits, DraftFits, GivesPhase, AddsClause, stage_view, GivesStage}
+use Rattle.ll_parser.specs.Drafts.{whole_view, current_view, draft_view, IsIdle, PhaseFits, ClausesFit, ModuleFits, CurrentFits, DraftFits, GivesPhase, AddsClause, ClosesModule, stage_view, GivesStage}
 use Rattle.ll_parser.proofs.StoredLemmas.{same_map}
 use Rattle.ll_parser.proofs.Newest.{pending-none}
 
@@ -171,3 +171,17 @@ query-none w e texts = ap (λ (ps : List Pending). asking (want ps)) (pending-no
 
 pub program-none : (d : Draft) → d.clauses.items ≡ [] → d.modules.items ≡ [] → d.current ≡ None → (texts : List (List ℕ)) → draft_view texts d phase.Boundary ≡ program_start
 program-none d clauses modules current texts = rw (clauses, modules, current) refl
+
+-- ---- behind the last token
+
+pub closed-program : (d new : Draft) (p : Phase) → p ≡ phase.Boundary → ClosesModule d new → (texts : List (List ℕ)) → program_final (draft_view (known texts) d p) ≡ Some (whole_view (known texts) new)
+closed-program d new p e c texts = ap (λ z. program_final (draft_view (known texts) d z)) e ∙ ap Some (sym (c.is texts))
+
+pub no-boundary : (d : Draft) (p : Phase) → (p ≡ phase.Boundary → ⊥) → (texts : List (List ℕ)) → program_final (draft_view (known texts) d p) ≡ None
+no-boundary d phase.Boundary h texts = absurd (h refl)
+no-boundary d phase.Marked h texts = refl
+no-boundary d (phase.Clause linear m) h texts = refl
+no-boundary d phase.Heading h texts = refl
+no-boundary d phase.Params h texts = refl
+no-boundary d phase.Local h texts = refl
+no-boundary d phase.Locals h texts = refl

@@ -13,7 +13,7 @@ use Rattle.ll_parser.specs.declared.waiting.Waiting.{Waiting}
 use Rattle.ll_parser.specs.Raw.{Raw, ModuleTree, ProgramTree}
 use Rattle.ll_parser.specs.FlatText.{Phase as FlatPhase, boundary, wanting, inside, heading, params, localizing, locals, FlatProgram, add_clause, close_module, FlatQuery, asking, ended}
 use Rattle.ll_parser.specs.Nodes.{Node, shown_clause, shown_module, shown_program}
-use Rattle.ll_parser.specs.Waiting.{known, tree, mode_view, Fits, IsNode, ModeFits, Grows}
+use Rattle.ll_parser.specs.Waiting.{known, tree, mode_view, Fits, IsNode, IsNew, ModeFits}
 
 -- ---- queries
 
@@ -106,3 +106,10 @@ pub record ClosesModule (old new : Draft) : Type 0 where
   pub waiting : new.waiting ≡ old.waiting
   pub none : new.current ≡ None
   pub is : (texts : List (List ℕ)) → whole_view (known texts) new ≡ close_module (whole_view (known texts) old) (current_view (known texts) old)
+
+-- nothing has been read
+pub record IsNewDraft (d : Draft) : Type 0 where
+  pub waiting : IsNew d.waiting
+  pub clauses : d.clauses.items ≡ []
+  pub modules : d.modules.items ≡ []
+  pub current : d.current ≡ None

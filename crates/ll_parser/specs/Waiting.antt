@@ -151,6 +151,12 @@ FitsBelow w n = FitsTo (length w.forms) n w.args.items w.frames.items
 abbrev pub Fits : Waiting → Type 0
 Fits w = FitsBelow w (length w.args.items)
 
+-- nothing was read
+pub record IsNew (w : Waiting) : Type 0 where
+  pub forms : w.forms ≡ []
+  pub args : w.args.items ≡ []
+  pub frames : w.frames.items ≡ []
+
 -- the place of a node
 abbrev pub IsNode : Waiting → RawAt → Type 0
 IsNode w at = at.0 < length w.forms

@@ -1,6 +1,6 @@
 //! What each token does while a program or a query is read.
 
-ghost use Rattle.std.specs.Prelude.{◌≡◌, ◌<◌, ℕ, List, [], length, None, IfOk};
+ghost use Rattle.std.specs.Prelude.{◌≡◌, ◌<◌, ℕ, List, [], length, IfOk};
 ghost use Rattle.ll_parser.specs.Flat.{flat_step, flat_final};
 ghost use Rattle.ll_parser.specs.FlatText.{boundary, inside, enter, end_clause, add_param, add_local, admits_local, phase_step, program_step, query_step, query_final};
 ghost use Rattle.ll_parser.specs.Nodes.{identifier};
@@ -52,16 +52,11 @@ pub struct Draft {
 }
 
 impl Draft {
-    ghost use Rattle.ll_parser.specs.Drafts.{whole_view, current_view, draft_view, IsIdle, PhaseFits, DraftFits, GivesPhase, AddsClause, ClosesModule};
+    ghost use Rattle.ll_parser.specs.Drafts.{whole_view, current_view, draft_view, IsIdle, IsNewDraft, PhaseFits, DraftFits, GivesPhase, AddsClause, ClosesModule};
 
     /// Nothing.
     pub fn new(alloc: Global) -> Self
-        ensures forms { result.waiting.forms ≡ [] }
-        ensures args { result.waiting.args.items ≡ [] }
-        ensures frames { result.waiting.frames.items ≡ [] }
-        ensures clauses { result.clauses.items ≡ [] }
-        ensures modules { result.modules.items ≡ [] }
-        ensures current { result.current ≡ None }
+        ensures { IsNewDraft result }
     {
         Draft {
             waiting: Waiting::new(alloc),

@@ -121,13 +121,11 @@ pub fn newest(frames: &[Frame]) -> Option<Frame>
 }
 
 impl Waiting {
-    ghost use Rattle.ll_parser.specs.Waiting.{tree, args_from, waiting_below, FitsBelow, IsNode, CanWait, Grows, Added, Pushed, Dropped, Leaves, HasMore};
+    ghost use Rattle.ll_parser.specs.Waiting.{tree, args_from, waiting_below, FitsBelow, IsNode, IsNew, CanWait, Grows, Added, Pushed, Dropped, Leaves, HasMore};
 
     /// Nothing.
     pub fn new(alloc: Global) -> Self
-        ensures forms { result.forms ≡ [] }
-        ensures args { result.args.items ≡ [] }
-        ensures frames { result.frames.items ≡ [] }
+        ensures { IsNew result }
     {
         Waiting {
             forms: Raws::new(alloc),

@@ -5,19 +5,18 @@ use Rattle.ll_parser.specs.Tokens.{toks_of}
 use Rattle.ll_parser.specs.Text.{queries}
 use Rattle.ll_parser.specs.Reads.{HasFault}
 use Rattle.ll_parser.specs.FlatText.{FlatQuery, query_start, query_step, query_final}
-use Rattle.ll_parser.specs.Nodes.{raw_at}
 use Rattle.ll_parser.specs.Waiting.{tree}
 use Rattle.ll_parser.specs.Drafts.{stage_view}
 use Rattle.ll_parser.proofs.Queries.{decides-queries}
 use Rattle.ll_parser.proofs.Spelled.{whole-read}
 use Rattle.ll_parser.proofs.Drafting.{fits-none, query-none}
 use Rattle.ll_parser.proofs.Running.{running-none, bad-token-at, too-many-at, turn, reads, ends-early-at}
-use Rattle.ll_parser.proofs.reading.query.Goals as goal
+use Rattle.ll_parser.proofs.reading.read_query.Goals as goal
 
 pub loop-i-init : goal.loop-i-init
 loop-i-init c = (
-  fits-none c.new-waiting.result c.new-waiting.ensures.forms c.new-waiting.ensures.args c.new-waiting.ensures.frames,
-  running-none queries FlatQuery query_start query_step query_final decides-queries c.args.tokens.now c.in_ok-names.names (λ texts. stage_view texts c.new-waiting.result (stages.Formula mode.Operand)) c.in_ok-names.ensures (query-none c.new-waiting.result c.new-waiting.ensures.frames),
+  fits-none c.args.waiting.now c.requires.waiting.forms c.requires.waiting.args c.requires.waiting.frames,
+  running-none queries FlatQuery query_start query_step query_final decides-queries c.args.tokens.now c.args.names.now (λ texts. stage_view texts c.args.waiting.now (stages.Formula mode.Operand)) c.requires.names (query-none c.args.waiting.now c.requires.waiting.frames),
 )
 
 pub returns-in_default-clause-read : goal.returns-in_default-clause-read
@@ -44,7 +43,7 @@ returns-in-Some-2-clause-read c =
 
 pub returns-in-Some-2-clause-whole : goal.returns-in-Some-2-clause-whole
 returns-in-Some-2-clause-whole c =
-    whole-read queries c.args.tokens.now (raw_at c.loop-i.names c.query_finish.new.self.forms c.in-Some-2.goal.0) c.len-i-end.ensures.lexed (let f = c.len-i-end.ensures.few in let r = c.requires in omega arith)
+    whole-read queries c.args.tokens.now (tree c.loop-i.names c.query_finish.new.self c.in-Some-2.goal) c.len-i-end.ensures.lexed (let f = c.len-i-end.ensures.few in let r = c.requires.text in omega arith)
     (reads queries FlatQuery query_start query_step query_final decides-queries c.args.tokens.now c.loop-i.i (let h = c.loop-i-test.false in omega arith) c.loop-i.names (λ texts. stage_view texts c.loop-i.waiting c.loop-i.stage) c.loop-i.depth c.loop-i.invariant.1
     (λ texts. tree texts c.query_finish.new.self c.in-Some-2.goal) (rw c.in-Some-2.is at c.in_ok-goal.ensures).1)
 

@@ -1,0 +1,224 @@
+-- The grammar of terms and formulas: a parse tree has one constructor per production, and with it come its tokens and its raw tree.
+use Rattle.std.specs.Prelude.{ℤ, Bool, true, false, List, [], ◌∷◌, ◌++◌}
+use Rattle.ll_lexer.specs.declared.Place.{Place}
+use Rattle.ll_parser.specs.declared.Op.{Op}
+use Rattle.ll_parser.specs.declared.Op.TheVariants as op
+use Rattle.ll_parser.specs.declared.Quantifier.{Quantifier}
+use Rattle.ll_parser.specs.declared.Quantifier.TheVariants as quantifier
+use Rattle.ll_parser.specs.Tokens.{Identifier, Tok, name, variable, any, number, true_word, erase_word, forall_word, exists_word, comma, ampersand, semicolon, paren_left, paren_right, brace_left, brace_right, backslash, cons_sign, colon_dash, left_arrow, right_arrow, lolli, load_arrow}
+use Rattle.ll_parser.specs.Raw.{Raw, truth, erasure, braces, universal, existential, load, binary, head, anything, int, RawList, none, raws_then, cons_raw}
+
+-- ---- parse trees
+
+-- Name | Variable
+pub data Word : Type 0 where
+  lower upper : Identifier → Word
+
+mutual
+  -- term = app [ "::" term ]
+  pub data Term : Type 0 where
+    of_app : App → Term
+    cons : App → Place → Term → Term
+
+  -- app = ( Name | Variable ) { simple } | Any | Number | "(" term ")"
+  pub data App : Type 0 where
+    applied : Word → Simples → App
+    app_any : Place → App
+    app_number : ℤ → Place → App
+    app_bracket : Place → Term → Place → App
+
+  -- simple = Name | Variable | Any | Number | "(" term ")"
+  pub data Simple : Type 0 where
+    simple_word : Word → Simple
+    simple_any : Place → Simple
+    simple_number : ℤ → Place → Simple
+    simple_bracket : Place → Term → Place → Simple
+
+  -- { simple }, the last one outermost
+  pub data Simples : Type 0 where
+    no_more : Simples
+    and_then : Simples → Simple → Simples
+
+-- `:-` or `<=`
+pub data ClauseOp : Type 0 where
+  by_colon by_left : ClauseOp
+
+-- `-o` or `=>`
+pub data ArrowOp : Type 0 where
+  by_lolli by_right : ArrowOp
+
+-- The Bool says that the form ends in a quantifier that has no brackets of its own. What stands on the left of an operator does
+-- not, so the scope of a quantifier reaches as far to the right as it can.
+mutual
+  -- formula = arrow { ( ":-" | "<=" ) arrow }
+  pub data Formula : Bool → Type 0 where
+    of_arrow : {o : Bool} → Arrow o → Formula o
+    clause : {o : Bool} → Formula false → ClauseOp → Place → Arrow o → Formula o
+
+  -- arrow = sum [ ( "-o" | "=>" ) arrow ] | Name { simple } "-->" arrow
+  pub data Arrow : Bool → Type 0 where
+    of_sum : {o : Bool} → Sum o → Arrow o
+    implies : {o : Bool} → Sum false → ArrowOp → Place → Arrow o → Arrow o
+    loads : {o : Bool} → Identifier → Simples → Place → Arrow o → Arrow o
+
+  -- sum = with [ ";" sum ]
+  pub data Sum : Bool → Type 0 where
+    of_with : {o : Bool} → With o → Sum o
+    plus : {o : Bool} → With false → Place → Sum o → Sum o
+
+  -- with = tensor [ "&" with ]
+  pub data With : Bool → Type 0 where
+    of_tensor : {o : Bool} → Tensor o → With o
+    with : {o : Bool} → Tensor false → Place → With o → With o
+
+  -- tensor = primary [ "," tensor ]
+  pub data Tensor : Bool → Type 0 where
+    of_primary : {o : Bool} → Primary o → Tensor o
+    times : {o : Bool} → Primary false → Place → Tensor o → Tensor o
+
+  -- primary = "true" | "erase" | "(" formula ")" | "{" formula "}"
+  --         | ( "forall" | "exists" ) ( Name | Variable ) "\" formula
+  --         | ( Name | Variable ) { simple }
+  pub data Primary : Bool → Type 0 where
+    truly erased : Place → Primary false
+    bracket brace : {o : Bool} → Place → Formula o → Place → Primary false
+    quantified : {o : Bool} → Quantifier → Place → Word → Place → Formula o → Primary true
+    atom : Word → Simples → Primary false
+
+-- ---- their tokens
+
+abbrev pub word_token : Word → Tok
+word_token (lower n) = name n
+word_token (upper n) = variable n
+
+abbrev pub clause_token : ClauseOp → Place → Tok
+clause_token by_colon at = colon_dash at
+clause_token by_left at = left_arrow at
+
+abbrev pub arrow_token : ArrowOp → Place → Tok
+arrow_token by_lolli at = lolli at
+arrow_token by_right at = right_arrow at
+
+abbrev pub quantifier_token : Quantifier → Place → Tok
+quantifier_token quantifier.Forall at = forall_word at
+quantifier_token quantifier.Exists at = exists_word at
+
+abbrev mutual
+  pub term_tokens : Term → List Tok
+  term_tokens (of_app a) = app_tokens a
+  term_tokens (cons a at t) = app_tokens a ++ cons_sign at ∷ term_tokens t
+
+  pub app_tokens : App → List Tok
+  app_tokens (applied w ss) = word_token w ∷ simples_tokens ss
+  app_tokens (app_any at) = any at ∷ []
+  app_tokens (app_number n at) = number n at ∷ []
+  app_tokens (app_bracket at t end) = paren_left at ∷ (term_tokens t ++ paren_right end ∷ [])
+
+  pub simple_tokens : Simple → List Tok
+  simple_tokens (simple_word w) = word_token w ∷ []
+  simple_tokens (simple_any at) = any at ∷ []
+  simple_tokens (simple_number n at) = number n at ∷ []
+  simple_tokens (simple_bracket at t end) = paren_left at ∷ (term_tokens t ++ paren_right end ∷ [])
+
+  pub simples_tokens : Simples → List Tok
+  simples_tokens no_more = []
+  simples_tokens (and_then ss s) = simples_tokens ss ++ simple_tokens s
+
+abbrev mutual
+  pub formula_tokens : {o : Bool} → Formula o → List Tok
+  formula_tokens (of_arrow a) = arrow_tokens a
+  formula_tokens (clause f c at a) = formula_tokens f ++ clause_token c at ∷ arrow_tokens a
+
+  pub arrow_tokens : {o : Bool} → Arrow o → List Tok
+  arrow_tokens (of_sum s) = sum_tokens s
+  arrow_tokens (implies s c at a) = sum_tokens s ++ arrow_token c at ∷ arrow_tokens a
+  arrow_tokens (loads n ss at a) = name n ∷ (simples_tokens ss ++ load_arrow at ∷ arrow_tokens a)
+
+  pub sum_tokens : {o : Bool} → Sum o → List Tok
+  sum_tokens (of_with w) = with_tokens w
+  sum_tokens (plus w at s) = with_tokens w ++ semicolon at ∷ sum_tokens s
+
+  pub with_tokens : {o : Bool} → With o → List Tok
+  with_tokens (of_tensor t) = tensor_tokens t
+  with_tokens (with t at w) = tensor_tokens t ++ ampersand at ∷ with_tokens w
+
+  pub tensor_tokens : {o : Bool} → Tensor o → List Tok
+  tensor_tokens (of_primary p) = primary_tokens p
+  tensor_tokens (times p at t) = primary_tokens p ++ comma at ∷ tensor_tokens t
+
+  pub primary_tokens : {o : Bool} → Primary o → List Tok
+  primary_tokens (truly at) = true_word at ∷ []
+  primary_tokens (erased at) = erase_word at ∷ []
+  primary_tokens (bracket at f end) = paren_left at ∷ (formula_tokens f ++ paren_right end ∷ [])
+  primary_tokens (brace at f end) = brace_left at ∷ (formula_tokens f ++ brace_right end ∷ [])
+  primary_tokens (quantified q at w slash f) = quantifier_token q at ∷ word_token w ∷ backslash slash ∷ formula_tokens f
+  primary_tokens (atom w ss) = word_token w ∷ simples_tokens ss
+
+-- ---- their raw trees
+
+abbrev pub word_identifier : Word → Identifier
+word_identifier (lower n) = n
+word_identifier (upper n) = n
+
+abbrev mutual
+  pub term_raw : Term → Raw
+  term_raw (of_app a) = app_raw a
+  term_raw (cons a at t) = cons_raw at (app_raw a) (term_raw t)
+
+  pub app_raw : App → Raw
+  app_raw (applied w ss) = head (word_identifier w) (simples_raws ss)
+  app_raw (app_any at) = anything at
+  app_raw (app_number n at) = int at n
+  app_raw (app_bracket at t end) = term_raw t
+
+  pub simple_raw : Simple → Raw
+  simple_raw (simple_word w) = head (word_identifier w) none
+  simple_raw (simple_any at) = anything at
+  simple_raw (simple_number n at) = int at n
+  simple_raw (simple_bracket at t end) = term_raw t
+
+  pub simples_raws : Simples → RawList
+  simples_raws no_more = none
+  simples_raws (and_then ss s) = raws_then (simples_raws ss) (simple_raw s)
+
+abbrev pub clause_op : ClauseOp → Op
+clause_op by_colon = op.ColonDash
+clause_op by_left = op.LeftArrow
+
+abbrev pub arrow_op : ArrowOp → Op
+arrow_op by_lolli = op.Lolli
+arrow_op by_right = op.RightArrow
+
+abbrev pub quantifier_raw : Quantifier → Place → Identifier → Raw → Raw
+quantifier_raw quantifier.Forall at n r = universal at n r
+quantifier_raw quantifier.Exists at n r = existential at n r
+
+abbrev mutual
+  pub formula_raw : {o : Bool} → Formula o → Raw
+  formula_raw (of_arrow a) = arrow_raw a
+  formula_raw (clause f c at a) = binary (clause_op c) at (formula_raw f) (arrow_raw a)
+
+  pub arrow_raw : {o : Bool} → Arrow o → Raw
+  arrow_raw (of_sum s) = sum_raw s
+  arrow_raw (implies s c at a) = binary (arrow_op c) at (sum_raw s) (arrow_raw a)
+  arrow_raw (loads n ss at a) = load at n (simples_raws ss) (arrow_raw a)
+
+  pub sum_raw : {o : Bool} → Sum o → Raw
+  sum_raw (of_with w) = with_raw w
+  sum_raw (plus w at s) = binary op.Plus at (with_raw w) (sum_raw s)
+
+  pub with_raw : {o : Bool} → With o → Raw
+  with_raw (of_tensor t) = tensor_raw t
+  with_raw (with t at w) = binary op.With at (tensor_raw t) (with_raw w)
+
+  pub tensor_raw : {o : Bool} → Tensor o → Raw
+  tensor_raw (of_primary p) = primary_raw p
+  tensor_raw (times p at t) = binary op.Tensor at (primary_raw p) (tensor_raw t)
+
+  pub primary_raw : {o : Bool} → Primary o → Raw
+  primary_raw (truly at) = truth at
+  primary_raw (erased at) = erasure at
+  primary_raw (bracket at f end) = formula_raw f
+  primary_raw (brace at f end) = braces at (formula_raw f)
+  primary_raw (quantified q at w slash f) = quantifier_raw q at (word_identifier w) (formula_raw f)
+  primary_raw (atom w ss) = head (word_identifier w) (simples_raws ss)

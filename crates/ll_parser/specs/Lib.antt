@@ -1,0 +1,14 @@
+pub mod Tokens
+pub mod Raw
+pub mod Grammar
+pub mod Text
+pub mod Reads
+pub mod Flat
+pub mod FlatText
+pub mod Nodes
+pub mod Seen
+pub mod Stored
+pub mod Waiting
+pub mod Symbols
+pub mod Printed
+pub mod Drafts

@@ -313,6 +313,12 @@ text-is Query kinds h = sym (kinds-found (λ _. 0) (Wants Query) kinds) ∙ of-q
 pub text-tokens : (number : List ℕ → ℕ) (text : List ℕ) (role : Role) (ts : List Lexeme) → IsText role (kinds_in ts) → found number (first_state role) (tokens_in text ts) ≡ true
 text-tokens number text role ts h = text-found number text (first_state role) ts ∙ text-is role (kinds_in ts) h
 
+pub tokens-text : (number : List ℕ → ℕ) (text : List ℕ) (role : Role) (ts : List Lexeme) → found number (first_state role) (tokens_in text ts) ≡ true → IsText role (kinds_in ts)
+tokens-text number text role ts h = is-text role (kinds_in ts) (sym (text-found number text (first_state role) ts) ∙ h)
+
+pub found-query : (number : List ℕ → ℕ) (ts : List Token) → is_some (query_of number ts) ≡ true → found number (Wants Query) (Some ts) ≡ true
+found-query number ts h = sym (query-takes number (at_dots ts)) ∙ h
+
 pub query-found : (number : List ℕ → ℕ) (ts : List Token) → found number (Wants Query) (Some ts) ≡ true → is_some (query_of number ts) ≡ true
 query-found number ts h = query-takes number (at_dots ts) ∙ h
 

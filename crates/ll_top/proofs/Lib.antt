@@ -16,5 +16,6 @@ pub mod RunLemmas
 pub mod PartsLemmas
 pub mod JudgeLemmas
 pub mod OutcomeLemmas
+pub mod LawLemmas
 pub mod ReadingLemmas
 pub mod PrepareLemmas

@@ -47,7 +47,7 @@ run-ended told absence read_failed run p n m b a (Err (Text role refusal)) u s t
 module _ (told : Option Texts) (absence read_failed write_failed : Type 0) (run : RunWords) (before after : Option (List ℕ)) where
   -- its text was written
   pub found-ends : (found : Found) (status : ℕ) → status ≡ status_of_found found → RunEnds told absence read_failed write_failed run before after (Ok found) → Ends (RunComesTo told absence read_failed run) write_failed before after status
-  found-ends found status e h = whole (run_text h.0) (ran h.0 h.1 (e ∙ h.2) refl) h.3
+  found-ends _ status e h = whole (run_text h.0) (ran h.0 h.1 (e ∙ h.2) refl) h.3
 
   pub cut-ends : RunEnds told absence read_failed write_failed run before after (Err Unwritable) → Ends (RunComesTo told absence read_failed run) write_failed before after 6
   cut-ends h = unwritable (run_status h.0) (run_text h.0) (ran h.0 h.1 refl refl) h.2 refl h.3

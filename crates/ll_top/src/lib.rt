@@ -13,6 +13,7 @@ mod words;
 
 ghost use Rattle.std.specs.Prelude.{◌≡◌, ◌≤◌, ◌↔◌, ◌⊎◌, ℕ, List, Option, None, Some, IfSome};
 ghost use Rattle.ll_edge.specs.Counts.{Rose};
+ghost use Rattle.ll_edge.specs.Texts.{Texts};
 ghost use Rattle.ll_laws.specs.Problem.{ProblemTree};
 ghost use Rattle.ll_top.specs.Words.{IsInForm, IsInWorkersForm, shown_words};
 ghost use Rattle.ll_top.specs.Reading.{Asks};
@@ -111,6 +112,15 @@ pub fn lolli_plain<F: Shelf, O: Sink>(
 pub fn one_problem()
     ensures { (program query : List ℕ) (bound : ℕ) (one other : Option ProblemTree)
         → Asks program query bound one → Asks program query bound other → one ≡ other }
+{
+    one_reading();
+}
+
+/// Words and texts determine the status and what is written, where no read fails.
+pub fn one_text()
+    ensures { (words : List (List ℕ)) (texts : Texts) (status other : ℕ) (text more : List ℕ)
+        → ComesTo words (Some texts) (Unit {0}) ⊥ status text → ComesTo words (Some texts) (Unit {0}) ⊥ other more
+        → (status ≡ other) × (text ≡ more) }
 {
     one_reading();
 }

@@ -20,3 +20,5 @@ pub mod PrintedTerms
 pub mod PrintedForms
 pub mod PrintedSpelled
 pub mod Room
+pub mod PrintedTermRoom
+pub mod PrintedRoom

@@ -1,12 +1,12 @@
 -- How many brackets a parse tree needs: its tokens stay within a limit exactly where each form has room for the brackets in it.
-use Rattle.std.proofs.Common.{◌≡◌, ℕ, zero, suc, ◌+◌, ◌-◌, ◌≤◌, Bool, List, [], ◌∷◌, ◌++◌, take, refl, sym, ◌∙◌, subst, arith, append_assoc}
+use Rattle.std.proofs.Common.{◌≡◌, ℕ, zero, suc, ◌+◌, ◌-◌, ◌≤◌, Bool, List, [], ◌∷◌, ◌++◌, take, refl, sym, ◌∙◌, subst, arith, append_assoc, append-nil}
 use Rattle.ll_lexer.specs.declared.Place.{Place}
 use Rattle.ll_parser.specs.declared.Quantifier.{Quantifier}
 use Rattle.ll_parser.specs.declared.Quantifier.TheVariants as quantifier
-use Rattle.ll_parser.specs.Tokens.{Tok, name, any, number, true_word, erase_word, comma, ampersand, semicolon, paren_left, paren_right, brace_left, brace_right, backslash, cons_sign, load_arrow}
+use Rattle.ll_parser.specs.Tokens.{Identifier, Tok, name, variable, any, number, true_word, erase_word, module_word, local_word, linear_word, dot, comma, ampersand, semicolon, paren_left, paren_right, brace_left, brace_right, backslash, cons_sign, load_arrow}
 use Rattle.ll_parser.specs.Grammar.{Word, lower, upper, Term, of_app, cons, App, applied, app_any, app_number, app_bracket, Simple, simple_word, simple_any, simple_number, simple_bracket, Simples, no_more, and_then, ClauseOp, by_colon, by_left, ArrowOp, by_lolli, by_right, Formula, of_arrow, clause, Arrow, of_sum, implies, loads, Sum, of_with, plus, With, of_tensor, with, Tensor, of_primary, times, Primary, truly, erased, bracket, brace, quantified, atom, word_token, clause_token, arrow_token, quantifier_token, term_tokens, app_tokens, simple_tokens, simples_tokens, formula_tokens, arrow_tokens, sum_tokens, with_tokens, tensor_tokens, primary_tokens}
-use Rattle.ll_parser.specs.Text.{Clause, plain, linear, Module, Program, Query, bare, dotted}
-use Rattle.ll_parser.specs.Reads.{open_after}
+use Rattle.ll_parser.specs.Text.{Clause, plain, linear, Local, Heading, Module, Program, clause_tokens, names, variables, local_tokens, heading_tokens, clauses_tokens, locals_tokens, modules_tokens, program_tokens, Query, bare, dotted, query_tokens}
+use Rattle.ll_parser.specs.Reads.{open_after, Within}
 
 -- ---- room for brackets
 
@@ -240,3 +240,75 @@ module _ (limit : ℕ) where
     primary-segment (brace at f end) = curly at end (formula-segment f)
     primary-segment (quantified q at w slash f) = plainly (quantifier_token q at) (quantifier-plain q at) (plainly (word_token w) (word-plain w) (plainly (backslash slash) (λ n. refl) (formula-segment f)))
     primary-segment (atom w ss) = plainly (word_token w) (word-plain w) (simples-segment ss)
+
+  -- ---- programs and queries
+
+  -- the same segment with the same room, said otherwise
+  rename : {P Q : ℕ → Type 0} {xs : List Tok} → ((n : ℕ) → P n → Q n) → ((n : ℕ) → Q n → P n) → Segment limit P xs → Segment limit Q xs
+  rename {P} {Q} {xs} f g s = record {
+    down = λ n r e rest h. let a = s.down n r e rest h in (f r a.0, a.1);
+    up = λ n r e rest q h. s.up n r e rest (g r q) h;
+  }
+
+  -- a plain token at the end, or a plain segment in front
+  ended : {P : ℕ → Type 0} {xs : List Tok} (t : Tok) → IsPlain t → Segment limit P xs → Segment limit P (xs ++ t ∷ [])
+  ended t e s = rename (λ n p. p.0) (λ n p. (p, tt)) (both s (plainly t e nothing))
+
+  behind : {P : ℕ → Type 0} {xs ys : List Tok} → Segment limit Free xs → Segment limit P ys → Segment limit P (xs ++ ys)
+  behind s t = rename (λ n p. p.1) (λ n p. (tt, p)) (both s t)
+
+  names-segment : (ns : List Identifier) → Segment limit Free (names ns)
+  names-segment [] = nothing
+  names-segment (n ∷ ns) = plainly (name n) (λ k. refl) (names-segment ns)
+
+  variables-segment : (ns : List Identifier) → Segment limit Free (variables ns)
+  variables-segment [] = nothing
+  variables-segment (n ∷ ns) = plainly (variable n) (λ k. refl) (variables-segment ns)
+
+  clause-segment : (c : Clause) → Segment limit (λ n. ClauseRoom n c) (clause_tokens c)
+  clause-segment (plain f end) = ended (dot end) (λ n. refl) (formula-segment f)
+  clause-segment (linear at f end) = plainly (linear_word at) (λ n. refl) (ended (dot end) (λ n. refl) (formula-segment f))
+
+  clauses-segment : (cs : List Clause) → Segment limit (λ n. ClausesRoom n cs) (clauses_tokens cs)
+  clauses-segment [] = nothing
+  clauses-segment (c ∷ cs) = both (clause-segment c) (clauses-segment cs)
+
+  local-segment : (l : Local) → Segment limit Free (local_tokens l)
+  local-segment l = plainly (local_word l.word) (λ n. refl) (plainly (name l.first) (λ n. refl) (ended (dot l.end) (λ n. refl) (names-segment l.others)))
+
+  locals-segment : (ls : List Local) → Segment limit Free (locals_tokens ls)
+  locals-segment [] = nothing
+  locals-segment (l ∷ ls) = behind (local-segment l) (locals-segment ls)
+
+  heading-segment : (h : Heading) → Segment limit Free (heading_tokens h)
+  heading-segment h = plainly (module_word h.word) (λ n. refl) (plainly (name h.name) (λ n. refl) (ended (dot h.end) (λ n. refl) (variables-segment h.params)))
+
+  modules-segment : (ms : List Module) → Segment limit (λ n. ModulesRoom n ms) (modules_tokens ms)
+  modules-segment [] = nothing
+  modules-segment (m ∷ ms) = both (behind (heading-segment m.heading) (behind (locals-segment m.locals) (clauses-segment m.clauses))) (modules-segment ms)
+
+  program-segment : (p : Program) → Segment limit (λ n. ProgramRoom n p) (program_tokens p)
+  program-segment p = both (clauses-segment p.clauses) (modules-segment p.modules)
+
+  query-segment : (q : Query) → Segment limit (λ n. QueryRoom n q) (query_tokens q)
+  query-segment (bare f) = formula-segment f
+  query-segment (dotted f end) = ended (dot end) (λ n. refl) (formula-segment f)
+
+  -- such a segment alone stays within the limit exactly where it has room
+  segment-room : (P : ℕ → Type 0) (xs : List Tok) → Segment limit P xs → Within limit xs → P limit
+  segment-room P xs s h = (s.down 0 limit (omega arith) [] (subst (Below limit 0) (sym (append-nil xs)) (below-within limit xs 0 h))).0
+
+  room-segment : (P : ℕ → Type 0) (xs : List Tok) → Segment limit P xs → P limit → Within limit xs
+  room-segment P xs s p = within-below limit xs 0 (subst (Below limit 0) (append-nil xs) (s.up 0 limit (omega arith) [] p (omega arith)))
+
+  pub program-room : (p : Program) → Within limit (program_tokens p) → ProgramRoom limit p
+  program-room p = segment-room (λ n. ProgramRoom n p) (program_tokens p) (program-segment p)
+
+  pub program-within : (p : Program) → ProgramRoom limit p → Within limit (program_tokens p)
+  program-within p = room-segment (λ n. ProgramRoom n p) (program_tokens p) (program-segment p)
+
+  pub query-room : (q : Query) → Within limit (query_tokens q) → QueryRoom limit q
+  query-room q = segment-room (λ n. QueryRoom n q) (query_tokens q) (query-segment q)
+
+  pub query-within : (q : Query) → QueryRoom limit q → Within limit (query_tokens q)
+  query-within q = room-segment (λ n. QueryRoom n q) (query_tokens q) (query-segment q)

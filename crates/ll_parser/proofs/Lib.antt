@@ -22,3 +22,4 @@ pub mod PrintedSpelled
 pub mod Room
 pub mod PrintedTermRoom
 pub mod PrintedRoom
+pub mod Bare

@@ -7,3 +7,4 @@ pub mod Flat
 pub mod FlatText
 pub mod Nodes
 pub mod Printed
+pub mod Bare

@@ -23,3 +23,4 @@ pub mod Room
 pub mod PrintedTermRoom
 pub mod PrintedRoom
 pub mod Bare
+pub mod BareTexts

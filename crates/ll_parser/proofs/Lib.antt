@@ -24,3 +24,4 @@ pub mod PrintedTermRoom
 pub mod PrintedRoom
 pub mod Bare
 pub mod BareTexts
+pub mod PrintedReads

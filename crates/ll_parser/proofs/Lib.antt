@@ -25,3 +25,4 @@ pub mod PrintedRoom
 pub mod Bare
 pub mod BareTexts
 pub mod PrintedReads
+pub mod PrintedRows

@@ -1,0 +1,8 @@
+use Rattle.ll_parser.proofs.PrintedReads.{printed-reads, printed-spelled}
+use Rattle.ll_parser.proofs.laws.printed_is_read.Goals as goal
+
+pub returns-clause-read : goal.returns-clause-read
+returns-clause-read c = printed-reads
+
+pub returns-clause-spelled : goal.returns-clause-spelled
+returns-clause-spelled c = printed-spelled

@@ -92,8 +92,8 @@ module-spelled : (m : Module) → Spelled (module_tokens m) → Spelled (module_
 module-spelled m s =
     let k = module-parts m s in
     spelled-join (heading_tokens (record { word = somewhere; name = m.heading.name; params = m.heading.params; end = somewhere })) (locals_tokens (printed_locals (locals_of m.locals)) ++ clauses_tokens (map printed_clause (map clause_tree m.clauses)))
-      (heading-spelled m.heading k.0)
-      (spelled-join (locals_tokens (printed_locals (locals_of m.locals))) (clauses_tokens (map printed_clause (map clause_tree m.clauses))) (locals-spelled (locals_of m.locals) (locals-names m.locals k.1)) (clauses-spelled m.clauses k.2))
+    (heading-spelled m.heading k.0)
+    (spelled-join (locals_tokens (printed_locals (locals_of m.locals))) (clauses_tokens (map printed_clause (map clause_tree m.clauses))) (locals-spelled (locals_of m.locals) (locals-names m.locals k.1)) (clauses-spelled m.clauses k.2))
 
 modules-spelled : (ms : List Module) → Spelled (modules_tokens ms) → Spelled (modules_tokens (map printed_module (map module_tree ms)))
 modules-spelled [] s = tt

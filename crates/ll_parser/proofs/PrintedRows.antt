@@ -176,8 +176,8 @@ application-beside-cons = refl
 -- ---- programs
 
 whole-program : spaced (program_tokens (printed_program (record {
-    clauses = record { linear = true; form = when a b } ∷ [];
-    modules = record { name = id (codes "m"); params = id (codes "X") ∷ []; locals = id (codes "c") ∷ id (codes "d") ∷ []; clauses = record { linear = false; form = all a } ∷ [] } ∷ [];
-  }))) ≡ codes "LINEAR a :- b . MODULE m X . LOCAL c d . forall x ! a ."
+  clauses = record { linear = true; form = when a b } ∷ [];
+  modules = record { name = id (codes "m"); params = id (codes "X") ∷ []; locals = id (codes "c") ∷ id (codes "d") ∷ []; clauses = record { linear = false; form = all a } ∷ [] } ∷ [];
+}))) ≡ codes "LINEAR a :- b . MODULE m X . LOCAL c d . forall x ! a ."
 unfolding is_lower
 whole-program = refl

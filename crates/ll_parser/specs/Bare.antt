@@ -12,6 +12,7 @@ nowhere = record { line = 0; column = 0 }
 abbrev pub bare_identifier : Identifier → Identifier
 bare_identifier n = record { text = n.text; at = nowhere }
 
+-- a token without its place
 abbrev pub bare_tok : Tok → Tok
 bare_tok (name n) = name (bare_identifier n)
 bare_tok (variable n) = variable (bare_identifier n)
@@ -57,6 +58,7 @@ abbrev mutual
   bare_raws none = none
   bare_raws (more r rs) = more (bare_raw r) (bare_raws rs)
 
+-- clauses, modules and programs without places
 abbrev pub bare_clause : ClauseTree → ClauseTree
 bare_clause c = record { linear = c.linear; form = bare_raw c.form }
 

@@ -26,3 +26,4 @@ pub mod Bare
 pub mod BareTexts
 pub mod PrintedReads
 pub mod PrintedRows
+pub mod NumberText

@@ -8,3 +8,4 @@ pub mod FlatText
 pub mod Nodes
 pub mod Printed
 pub mod Bare
+pub mod Written

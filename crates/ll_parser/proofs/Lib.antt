@@ -27,3 +27,5 @@ pub mod BareTexts
 pub mod PrintedReads
 pub mod PrintedRows
 pub mod NumberText
+pub mod Lexing
+pub mod WrittenLexed

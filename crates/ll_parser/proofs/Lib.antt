@@ -29,3 +29,4 @@ pub mod PrintedRows
 pub mod NumberText
 pub mod Lexing
 pub mod WrittenLexed
+pub mod WrittenRead

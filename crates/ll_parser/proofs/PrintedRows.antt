@@ -1,50 +1,16 @@
--- Worked examples: how some formulas are printed, each evaluated by the checker. Tokens are written with a space between two.
-use Rattle.std.proofs.Common.{◌≡◌, ℕ, true, false, List, [], ◌∷◌, ◌++◌, codes, refl, pos}
+-- Worked examples: how some formulas and a program are printed, each evaluated by the checker.
+use Rattle.std.proofs.Common.{◌≡◌, ℕ, true, false, List, [], ◌∷◌, ◌++◌, codes, refl, negsuc}
+use Rattle.std.specs.Fmt.{digits}
 use Rattle.ll_lexer.specs.Spelling.{is_lower}
 use Rattle.ll_parser.specs.declared.Op.TheVariants as op
-use Rattle.ll_parser.specs.Tokens.{Identifier, Tok, name, variable, any, number, true_word, erase_word, forall_word, exists_word, module_word, local_word, linear_word, dot, comma, ampersand, semicolon, paren_left, paren_right, brace_left, brace_right, backslash, cons_sign, colon_dash, left_arrow, right_arrow, lolli, load_arrow}
+use Rattle.ll_parser.specs.Tokens.{Identifier}
 use Rattle.ll_parser.specs.Raw.{Raw, braces, universal, load, binary, head, anything, int, none, more, cons_raw}
-use Rattle.ll_parser.specs.Grammar.{formula_tokens}
-use Rattle.ll_parser.specs.Text.{program_tokens}
 use Rattle.ll_parser.specs.Printed.{somewhere, last_formula, ending, printed_program}
-
--- the spelling of a token; `\` is written `!`
-abbrev spelling : Tok → List ℕ
-spelling (name n) = n.text
-spelling (variable n) = n.text
-spelling (any at) = codes "_"
-spelling (number z at) = codes "0"
-spelling (true_word at) = codes "true"
-spelling (erase_word at) = codes "erase"
-spelling (forall_word at) = codes "forall"
-spelling (exists_word at) = codes "exists"
-spelling (module_word at) = codes "MODULE"
-spelling (local_word at) = codes "LOCAL"
-spelling (linear_word at) = codes "LINEAR"
-spelling (dot at) = codes "."
-spelling (comma at) = codes ","
-spelling (ampersand at) = codes "&"
-spelling (semicolon at) = codes ";"
-spelling (paren_left at) = codes "("
-spelling (paren_right at) = codes ")"
-spelling (brace_left at) = codes "{"
-spelling (brace_right at) = codes "}"
-spelling (backslash at) = codes "!"
-spelling (cons_sign at) = codes "::"
-spelling (colon_dash at) = codes ":-"
-spelling (left_arrow at) = codes "<="
-spelling (right_arrow at) = codes "=>"
-spelling (lolli at) = codes "-o"
-spelling (load_arrow at) = codes "-->"
-
-abbrev spaced : List Tok → List ℕ
-spaced [] = []
-spaced (t ∷ []) = spelling t
-spaced (t ∷ ts) = spelling t ++ 32 ∷ spaced ts
+use Rattle.ll_parser.specs.Written.{formula_bytes, program_bytes}
 
 -- the text of a formula
 abbrev text : Raw → List ℕ
-text r = spaced (formula_tokens (last_formula (ending r)))
+text r = formula_bytes (last_formula (ending r))
 
 abbrev id : List ℕ → Identifier
 id w = record { text = w; at = somewhere }
@@ -87,7 +53,7 @@ loads g = load somewhere (id (codes "m")) (more (head (id (codes "X")) none) non
 
 -- ---- operators
 
-left-of-tensor : text (tensor (tensor a b) c) ≡ codes "( a , b ) , c"
+left-of-tensor : text (tensor (tensor a b) c) ≡ codes "(a , b) , c"
 unfolding is_lower
 left-of-tensor = refl
 
@@ -99,19 +65,19 @@ tighter : text (plus (both a b) (tensor b c)) ≡ codes "a & b ; b , c"
 unfolding is_lower
 tighter = refl
 
-looser : text (both (plus a b) (plus b c)) ≡ codes "( a ; b ) & ( b ; c )"
+looser : text (both (plus a b) (plus b c)) ≡ codes "(a ; b) & (b ; c)"
 unfolding is_lower
 looser = refl
 
-left-of-lolli : text (to (to a b) (freely b c)) ≡ codes "( a -o b ) -o b => c"
+left-of-lolli : text (to (to a b) (freely b c)) ≡ codes "(a -o b) -o b => c"
 unfolding is_lower
 left-of-lolli = refl
 
-right-of-when : text (when (left a b) (when b c)) ≡ codes "a <= b :- ( b :- c )"
+right-of-when : text (when (left a b) (when b c)) ≡ codes "a <= b :- (b :- c)"
 unfolding is_lower
 right-of-when = refl
 
-in-lolli : text (to a (when b c)) ≡ codes "a -o ( b :- c )"
+in-lolli : text (to a (when b c)) ≡ codes "a -o (b :- c)"
 unfolding is_lower
 in-lolli = refl
 
@@ -119,65 +85,65 @@ load-right : text (loads (freely a b)) ≡ codes "m X --> a => b"
 unfolding is_lower
 load-right = refl
 
-load-left : text (to (loads a) b) ≡ codes "( m X --> a ) -o b"
+load-left : text (to (loads a) b) ≡ codes "(m X --> a) -o b"
 unfolding is_lower
 load-left = refl
 
-load-in-plus : text (plus a (loads b)) ≡ codes "a ; ( m X --> b )"
+load-in-plus : text (plus a (loads b)) ≡ codes "a ; (m X --> b)"
 unfolding is_lower
 load-in-plus = refl
 
-in-braces : text (tensor (braces somewhere (when a b)) c) ≡ codes "{ a :- b } , c"
+in-braces : text (tensor (braces somewhere (when a b)) c) ≡ codes "{a :- b} , c"
 unfolding is_lower
 in-braces = refl
 
 -- ---- quantifiers
 
-last-quantifier : text (tensor a (all (plus b c))) ≡ codes "a , forall x ! b ; c"
+last-quantifier : text (tensor a (all (plus b c))) ≡ codes "a , forall x" ++ 92 ∷ (codes " b ; c")
 unfolding is_lower
 last-quantifier = refl
 
-followed-quantifier : text (tensor (all a) b) ≡ codes "( forall x ! a ) , b"
+followed-quantifier : text (tensor (all a) b) ≡ codes "(forall x" ++ 92 ∷ (codes " a) , b")
 unfolding is_lower
 followed-quantifier = refl
 
 -- a bracket that stands for the levels closes the scope
-closed-quantifier : text (tensor (tensor a (all b)) c) ≡ codes "( a , forall x ! b ) , c"
+closed-quantifier : text (tensor (tensor a (all b)) c) ≡ codes "(a , forall x" ++ 92 ∷ (codes " b) , c")
 unfolding is_lower
 closed-quantifier = refl
 
 -- where no bracket stands for the levels, the quantifier has its own
-inner-quantifier : text (when (tensor a (all b)) c) ≡ codes "a , ( forall x ! b ) :- c"
+inner-quantifier : text (when (tensor a (all b)) c) ≡ codes "a , (forall x" ++ 92 ∷ (codes " b) :- c")
 unfolding is_lower
 inner-quantifier = refl
 
-quantifier-in-clause : text (all (when a (all b))) ≡ codes "forall x ! a :- forall x ! b"
+quantifier-in-clause : text (all (when a (all b))) ≡ codes "forall x" ++ 92 ∷ (codes " a :- forall x" ++ 92 ∷ (codes " b"))
 unfolding is_lower
 quantifier-in-clause = refl
 
-quantifier-in-load : text (plus (loads (all a)) b) ≡ codes "( m X --> forall x ! a ) ; b"
+quantifier-in-load : text (plus (loads (all a)) b) ≡ codes "(m X --> forall x" ++ 92 ∷ (codes " a) ; b")
 unfolding is_lower
 quantifier-in-load = refl
 
 -- ---- terms
 
-lists : text (head (id (codes "p")) (more (cons_raw somewhere (cons_raw somewhere a b) (cons_raw somewhere c a)) none)) ≡ codes "p ( ( a :: b ) :: c :: a )"
+lists : text (head (id (codes "p")) (more (cons_raw somewhere (cons_raw somewhere a b) (cons_raw somewhere c a)) none)) ≡ codes "p ((a::b)::c::a)"
 unfolding is_lower
 lists = refl
 
-arguments : text (head (id (codes "p")) (more (head (id (codes "f")) (more a none)) (more (anything somewhere) (more (int somewhere (pos 0)) none)))) ≡ codes "p ( f a ) _ 0"
-unfolding is_lower
+arguments : text (head (id (codes "p")) (more (head (id (codes "f")) (more a none)) (more (anything somewhere) (more (int somewhere (negsuc 6)) none)))) ≡ codes "p (f a) _ -7"
+unfolding is_lower digits
 arguments = refl
 
-application-beside-cons : text (head (id (codes "p")) (more (cons_raw somewhere (head (id (codes "f")) (more a none)) b) none)) ≡ codes "p ( f a :: b )"
+application-beside-cons : text (head (id (codes "p")) (more (cons_raw somewhere (head (id (codes "f")) (more a none)) b) none)) ≡ codes "p (f a::b)"
 unfolding is_lower
 application-beside-cons = refl
 
 -- ---- programs
 
-whole-program : spaced (program_tokens (printed_program (record {
+whole-program : program_bytes (printed_program (record {
   clauses = record { linear = true; form = when a b } ∷ [];
-  modules = record { name = id (codes "m"); params = id (codes "X") ∷ []; locals = id (codes "c") ∷ id (codes "d") ∷ []; clauses = record { linear = false; form = all a } ∷ [] } ∷ [];
-}))) ≡ codes "LINEAR a :- b . MODULE m X . LOCAL c d . forall x ! a ."
+  modules = record { name = id (codes "m"); params = id (codes "X") ∷ []; locals = id (codes "c") ∷ id (codes "d") ∷ []; clauses = record { linear = false; form = braces somewhere a } ∷ [] } ∷ record { name = id (codes "n"); params = []; locals = []; clauses = [] } ∷ [];
+})) ≡ codes "LINEAR a :- b." ++ 10 ∷ (codes "MODULE m X." ++ 10 ∷ (codes "LOCAL c d." ++ 10 ∷ (codes "{a}." ++ 10 ∷ (codes "MODULE n." ++ 10 ∷ []))))
 unfolding is_lower
 whole-program = refl

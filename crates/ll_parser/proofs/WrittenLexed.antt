@@ -116,7 +116,7 @@ mutual
   arrow-piece (loads n ss at a) s =
       let k = spelled-split (simples_tokens ss) (load_arrow at ∷ arrow_tokens a) s.1 in
       joined (name-piece n s.0) (left-of (codes "-->") (arrow_bytes a) (simples-piece ss k.0) (operator kind.LoadArrow (load_arrow at) tt (λ x. refl) (λ b. refl) (arrow-piece a k.1.1)))
-        (λ rest h. subst Safe (sym (append_assoc (simples_bytes ss) (between (codes "-->") (arrow_bytes a)) rest)) (simples-safe ss (between (codes "-->") (arrow_bytes a) ++ rest) (safe-space ((codes "-->" ++ (codes " " ++ arrow_bytes a)) ++ rest))))
+      (λ rest h. subst Safe (sym (append_assoc (simples_bytes ss) (between (codes "-->") (arrow_bytes a)) rest)) (simples-safe ss (between (codes "-->") (arrow_bytes a) ++ rest) (safe-space ((codes "-->" ++ (codes " " ++ arrow_bytes a)) ++ rest))))
 
   sum-piece : {o : Bool} (x : Sum o) → Spelled (sum_tokens x) → Piece Safe (sum_bytes x) (sum_tokens x)
   sum-piece (of_with w) s = with-piece w s

@@ -30,3 +30,6 @@ pub mod NumberText
 pub mod Lexing
 pub mod WrittenLexed
 pub mod WrittenRead
+pub mod TermTexts
+pub mod FormulaTexts
+pub mod ProgramTexts

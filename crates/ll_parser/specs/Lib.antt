@@ -9,3 +9,4 @@ pub mod Nodes
 pub mod Printed
 pub mod Bare
 pub mod Written
+pub mod Brackets

@@ -4,9 +4,9 @@ use Rattle.ll_parser.specs.declared.Op.TheVariants as op
 use Rattle.ll_parser.specs.Tokens.{Identifier}
 use Rattle.ll_parser.specs.Raw.{Raw, truth, erasure, braces, universal, existential, load, binary, head, anything, int, RawList}
 use Rattle.ll_parser.specs.Grammar.{word_identifier}
-use Rattle.ll_parser.specs.Printed.{word_of, arguments_of, to_formula, to_arrow, to_sum, to_with, to_tensor, to_primary, last_formula, last_arrow, last_sum, last_with, last_tensor, followed, ending}
-use Rattle.ll_parser.specs.Written.{simples_bytes, between, formula_bytes, arrow_bytes, sum_bytes, with_bytes, tensor_bytes, primary_bytes}
-use Rattle.ll_parser.specs.Brackets.{clauses, arrows, sums, withs, tensors, primaries, bracketed, arguments_text, bound_text, formula_text}
+use Rattle.ll_parser.proofs.PrintedTree.{word_of, arguments_of, to_formula, to_arrow, to_sum, to_with, to_tensor, to_primary, last_formula, last_arrow, last_sum, last_with, last_tensor, followed, ending}
+use Rattle.ll_parser.specs.Printed.{between, clauses, arrows, sums, withs, tensors, primaries, bracketed, arguments_text, bound_text, formula_text}
+use Rattle.ll_parser.proofs.Written.{simples_bytes, formula_bytes, arrow_bytes, sum_bytes, with_bytes, tensor_bytes, primary_bytes}
 use Rattle.ll_parser.proofs.Printable.{AreTerms, IsFormula}
 use Rattle.ll_parser.proofs.PrintedTerms.{word-kept}
 use Rattle.ll_parser.proofs.TermTexts.{arguments-shown}

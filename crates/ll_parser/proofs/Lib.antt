@@ -15,6 +15,8 @@ pub mod Answer
 pub mod Rows
 pub mod Spelled
 pub mod Counts
+pub mod PrintedTree
+pub mod Written
 pub mod Printable
 pub mod PrintedTerms
 pub mod PrintedForms

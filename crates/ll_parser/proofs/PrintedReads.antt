@@ -6,7 +6,7 @@ use Rattle.ll_parser.specs.Raw.{ProgramTree}
 use Rattle.ll_parser.specs.Grammar.{Formula, formula_tokens, formula_raw}
 use Rattle.ll_parser.specs.Text.{Clause, plain, linear, Local, Heading, Module, Program, clause_tokens, names, variables, local_tokens, heading_tokens, clauses_tokens, locals_tokens, module_tokens, modules_tokens, program_tokens, clause_tree, locals_of, module_tree, program_tree, programs}
 use Rattle.ll_parser.specs.Reads.{Within, Reads, IsWhole}
-use Rattle.ll_parser.specs.Printed.{somewhere, last_formula, ending, printed_clause, printed_locals, printed_module, printed_program}
+use Rattle.ll_parser.proofs.PrintedTree.{somewhere, last_formula, ending, printed_clause, printed_locals, printed_module, printed_program}
 use Rattle.ll_parser.proofs.Printable.{Spelled, spelled-split, spelled-join, formula-printable}
 use Rattle.ll_parser.proofs.PrintedForms.{last-formula-kept, ending-kept}
 use Rattle.ll_parser.proofs.PrintedSpelled.{ending-spelled}

@@ -5,7 +5,7 @@ use Rattle.ll_parser.specs.declared.Quantifier.TheVariants as quantifier
 use Rattle.ll_parser.specs.Tokens.{comma, ampersand, semicolon, paren_right, brace_right, load_arrow}
 use Rattle.ll_parser.specs.Raw.{Raw, truth, erasure, braces, universal, existential, load, binary, head, anything, int}
 use Rattle.ll_parser.specs.Grammar.{by_colon, by_left, by_lolli, by_right, Formula, of_arrow, clause, Arrow, of_sum, implies, loads, Sum, of_with, plus, With, of_tensor, with, Tensor, of_primary, times, Primary, truly, erased, bracket, brace, quantified, atom, clause_token, arrow_token, simples_tokens, formula_tokens, arrow_tokens, sum_tokens, with_tokens, tensor_tokens, primary_tokens, formula_raw, arrow_raw, sum_raw, with_raw, tensor_raw, primary_raw}
-use Rattle.ll_parser.specs.Printed.{arguments_of, at_formula, at_arrow, at_sum, at_with, at_tensor, at_primary, Last, last, to_formula, to_arrow, to_sum, to_with, to_tensor, to_primary, last_formula, last_arrow, last_sum, last_with, last_tensor, followed, ending}
+use Rattle.ll_parser.proofs.PrintedTree.{arguments_of, at_formula, at_arrow, at_sum, at_with, at_tensor, at_primary, Last, last, to_formula, to_arrow, to_sum, to_with, to_tensor, to_primary, last_formula, last_arrow, last_sum, last_with, last_tensor, followed, ending}
 use Rattle.ll_parser.proofs.Printable.{Spelled, spelled-split}
 use Rattle.ll_parser.proofs.Room.{Enough, FormulaRoom, ArrowRoom, SumRoom, WithRoom, TensorRoom, PrimaryRoom}
 use Rattle.ll_parser.proofs.PrintedTermRoom.{enough-more, simples-more, arguments-room}

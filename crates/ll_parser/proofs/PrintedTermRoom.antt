@@ -3,7 +3,8 @@ use Rattle.std.proofs.Common.{◌≡◌, ℕ, zero, suc, Bool, true, false, List
 use Rattle.ll_parser.specs.Tokens.{Identifier, Tok, paren_right, cons_sign}
 use Rattle.ll_parser.specs.Raw.{Raw, RawList, none, more, raws_then}
 use Rattle.ll_parser.specs.Grammar.{Word, lower, upper, Term, of_app, cons, App, applied, app_any, app_number, app_bracket, Simple, simple_word, simple_any, simple_number, simple_bracket, Simples, no_more, and_then, word_token, word_identifier, term_tokens, app_tokens, simple_tokens, simples_tokens, term_raw, app_raw, simple_raw, simples_raws}
-use Rattle.ll_parser.specs.Printed.{is_cons, to_app, to_simple, pick, term_of, terms_of, simples_of, arguments_of}
+use Rattle.ll_parser.specs.Printed.{is_cons}
+use Rattle.ll_parser.proofs.PrintedTree.{to_app, to_simple, pick, term_of, terms_of, simples_of, arguments_of}
 use Rattle.ll_parser.proofs.Printable.{Spelled, spelled-split, word-no-cons}
 use Rattle.ll_parser.proofs.Room.{Enough, TermRoom, AppRoom, SimpleRoom, SimplesRoom}
 

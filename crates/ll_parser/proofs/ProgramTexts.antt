@@ -6,9 +6,9 @@ use Rattle.ll_parser.specs.Raw.{ProgramTree}
 use Rattle.ll_parser.specs.Grammar.{Formula, formula_tokens, formula_raw}
 use Rattle.ll_parser.specs.Text.{Clause, plain, linear, Module, Program, clause_tokens, heading_tokens, clauses_tokens, locals_tokens, module_tokens, modules_tokens, program_tokens, clause_tree, locals_of, module_tree, program_tree, programs}
 use Rattle.ll_parser.specs.Reads.{IsWhole}
-use Rattle.ll_parser.specs.Printed.{last_formula, ending, printed_clause, printed_locals, printed_module, printed_program}
-use Rattle.ll_parser.specs.Written.{formula_bytes, line_end, names_bytes, clauses_bytes, locals_bytes, modules_bytes, program_bytes}
-use Rattle.ll_parser.specs.Brackets.{clauses, formula_text, clauses_text, locals_text, modules_text, program_text}
+use Rattle.ll_parser.proofs.PrintedTree.{last_formula, ending, printed_clause, printed_locals, printed_module, printed_program}
+use Rattle.ll_parser.specs.Printed.{line_end, names_text, clauses, formula_text, clauses_text, locals_text, modules_text, program_text}
+use Rattle.ll_parser.proofs.Written.{formula_bytes, clauses_bytes, locals_bytes, modules_bytes, program_bytes}
 use Rattle.ll_parser.proofs.Printable.{Spelled, spelled-split, formula-printable}
 use Rattle.ll_parser.proofs.FormulaTexts.{formula-ending-shown}
 
@@ -28,7 +28,7 @@ clauses-text (linear at f end ∷ cs) s =
 
 locals-text : (ns : List Identifier) → locals_bytes (printed_locals ns) ≡ locals_text ns
 locals-text [] = refl
-locals-text (n ∷ ns) = append-nil (codes "LOCAL" ++ names_bytes (n ∷ ns))
+locals-text (n ∷ ns) = append-nil (codes "LOCAL" ++ names_text (n ∷ ns))
 
 module-clauses : (m : Module) → Spelled (module_tokens m) → Spelled (clauses_tokens m.clauses)
 module-clauses m s =
@@ -39,7 +39,7 @@ modules-text : (ms : List Module) → Spelled (modules_tokens ms) → modules_by
 modules-text [] s = refl
 modules-text (m ∷ ms) s =
     let k = spelled-split (module_tokens m) (modules_tokens ms) s in
-    let first : List ℕ = codes "MODULE" ++ names_bytes (m.heading.name ∷ m.heading.params) in
+    let first : List ℕ = codes "MODULE" ++ names_text (m.heading.name ∷ m.heading.params) in
     ap (λ z. (first ++ (z ++ clauses_bytes (map printed_clause (map clause_tree m.clauses)))) ++ modules_bytes (map printed_module (map module_tree ms))) (locals-text (locals_of m.locals))
     ∙ ap (λ z. (first ++ (locals_text (locals_of m.locals) ++ z)) ++ modules_bytes (map printed_module (map module_tree ms))) (clauses-text m.clauses (module-clauses m k.0))
     ∙ ap (λ z. (first ++ (locals_text (locals_of m.locals) ++ clauses_text (map clause_tree m.clauses))) ++ z) (modules-text ms k.1)

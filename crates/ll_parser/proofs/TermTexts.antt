@@ -3,9 +3,9 @@ use Rattle.std.proofs.Common.{◌≡◌, Bool, true, false, List, [], ◌∷◌,
 use Rattle.ll_parser.specs.Tokens.{Identifier}
 use Rattle.ll_parser.specs.Raw.{Raw, truth, erasure, braces, universal, existential, load, binary, head, anything, int, RawList, none, more}
 use Rattle.ll_parser.specs.Grammar.{Term, Simple, Simples, no_more, and_then, word_identifier}
-use Rattle.ll_parser.specs.Printed.{word_of, is_cons, to_app, to_simple, pick, term_of, terms_of, simples_of, arguments_of}
-use Rattle.ll_parser.specs.Written.{term_bytes, app_bytes, simple_bytes, simples_bytes}
-use Rattle.ll_parser.specs.Brackets.{bracketed, is_pair, has_arguments, head_text, term_text, arguments_text, pair_text}
+use Rattle.ll_parser.specs.Printed.{is_cons, bracketed, is_pair, has_arguments, head_text, term_text, arguments_text, pair_text}
+use Rattle.ll_parser.proofs.PrintedTree.{word_of, to_app, to_simple, pick, term_of, terms_of, simples_of, arguments_of}
+use Rattle.ll_parser.proofs.Written.{term_bytes, app_bytes, simple_bytes, simples_bytes}
 use Rattle.ll_parser.proofs.Printable.{HasShape, IsTerm, AreTerms, word-no-cons}
 use Rattle.ll_parser.proofs.PrintedTerms.{word-kept}
 

@@ -12,7 +12,8 @@ use Rattle.ll_parser.specs.Tokens.{Identifier, Tok, tok_by, toks_of, any, true_w
 use Rattle.ll_parser.specs.Grammar.{Word, lower, upper, Term, of_app, cons, App, applied, app_any, app_number, app_bracket, Simple, simple_word, simple_any, simple_number, simple_bracket, Simples, no_more, and_then, by_colon, by_left, by_lolli, by_right, Formula, of_arrow, clause, Arrow, of_sum, implies, loads, Sum, of_with, plus, With, of_tensor, with, Tensor, of_primary, times, Primary, truly, erased, bracket, brace, quantified, atom, word_token, word_identifier, clause_token, arrow_token, term_tokens, app_tokens, simple_tokens, simples_tokens, formula_tokens, arrow_tokens, sum_tokens, with_tokens, tensor_tokens, primary_tokens}
 use Rattle.ll_parser.specs.Text.{Clause, plain, linear, Local, Heading, Module, Program, clause_tokens, names, variables, local_tokens, heading_tokens, clauses_tokens, locals_tokens, module_tokens, modules_tokens, program_tokens}
 use Rattle.ll_parser.specs.Bare.{bare_tok}
-use Rattle.ll_parser.specs.Written.{term_bytes, app_bytes, simple_bytes, simples_bytes, between, formula_bytes, arrow_bytes, sum_bytes, with_bytes, tensor_bytes, primary_bytes, line_end, names_bytes, clause_bytes, clauses_bytes, local_bytes, locals_bytes, heading_bytes, module_bytes, modules_bytes, program_bytes}
+use Rattle.ll_parser.specs.Printed.{between, line_end, names_text}
+use Rattle.ll_parser.proofs.Written.{term_bytes, app_bytes, simple_bytes, simples_bytes, formula_bytes, arrow_bytes, sum_bytes, with_bytes, tensor_bytes, primary_bytes, clause_bytes, clauses_bytes, local_bytes, locals_bytes, heading_bytes, module_bytes, modules_bytes, program_bytes}
 use Rattle.ll_parser.proofs.Printable.{Spelled, spelled-split}
 use Rattle.ll_parser.proofs.Lexing.{Piece, Safe, Anything, nothing, joined, spaced, lined, name-piece, variable-piece, number-piece, spelling, IsFixed, keyword, sign}
 
@@ -153,15 +154,15 @@ mutual
 line-piece : (end : Place) → Piece Anything line_end (dot end ∷ [])
 line-piece end = joined (sign kind.Dot (dot end) tt (λ x. refl) (λ b. refl)) (lined nothing) (λ rest h. tt)
 
-names-safe : (ns : List Identifier) (rest : List ℕ) → Safe (names_bytes ns ++ rest)
+names-safe : (ns : List Identifier) (rest : List ℕ) → Safe (names_text ns ++ rest)
 names-safe [] rest = safe-dot (10 ∷ rest)
-names-safe (n ∷ ns) rest = safe-space ((n.text ++ names_bytes ns) ++ rest)
+names-safe (n ∷ ns) rest = safe-space ((n.text ++ names_text ns) ++ rest)
 
-names-piece : (ns : List Identifier) (end : Place) → Spelled (names ns) → Piece Anything (names_bytes ns) (names ns ++ dot end ∷ [])
+names-piece : (ns : List Identifier) (end : Place) → Spelled (names ns) → Piece Anything (names_text ns) (names ns ++ dot end ∷ [])
 names-piece [] end s = line-piece end
 names-piece (n ∷ ns) end s = spaced (joined (name-piece n s.0) (names-piece ns end s.1) (λ rest h. names-safe ns rest))
 
-variables-piece : (ns : List Identifier) (end : Place) → Spelled (variables ns) → Piece Anything (names_bytes ns) (variables ns ++ dot end ∷ [])
+variables-piece : (ns : List Identifier) (end : Place) → Spelled (variables ns) → Piece Anything (names_text ns) (variables ns ++ dot end ∷ [])
 variables-piece [] end s = line-piece end
 variables-piece (n ∷ ns) end s = spaced (joined (variable-piece n s.0) (variables-piece ns end s.1) (λ rest h. names-safe ns rest))
 
@@ -176,7 +177,7 @@ clauses-piece (c ∷ cs) s = let k = spelled-split (clause_tokens c) (clauses_to
 
 local-piece : (l : Local) → Spelled (local_tokens l) → Piece Anything (local_bytes l) (local_tokens l)
 local-piece l s =
-    joined (keyword kind.Local (local_word l.word) tt (λ x. refl) (λ rest h. h)) (spaced (joined (name-piece l.first s.1.0) (names-piece l.others l.end (spelled-split (names l.others) (dot l.end ∷ []) s.1.1).0) (λ rest h. names-safe l.others rest))) (λ rest h. safe-space ((l.first.text ++ names_bytes l.others) ++ rest))
+    joined (keyword kind.Local (local_word l.word) tt (λ x. refl) (λ rest h. h)) (spaced (joined (name-piece l.first s.1.0) (names-piece l.others l.end (spelled-split (names l.others) (dot l.end ∷ []) s.1.1).0) (λ rest h. names-safe l.others rest))) (λ rest h. safe-space ((l.first.text ++ names_text l.others) ++ rest))
 
 locals-piece : (ls : List Local) → Spelled (locals_tokens ls) → Piece Anything (locals_bytes ls) (locals_tokens ls)
 locals-piece [] s = nothing
@@ -184,7 +185,7 @@ locals-piece (l ∷ ls) s = let k = spelled-split (local_tokens l) (locals_token
 
 heading-piece : (h : Heading) → Spelled (heading_tokens h) → Piece Anything (heading_bytes h) (heading_tokens h)
 heading-piece h s =
-    joined (keyword kind.Module (module_word h.word) tt (λ x. refl) (λ rest p. p)) (spaced (joined (name-piece h.name s.1.0) (variables-piece h.params h.end (spelled-split (variables h.params) (dot h.end ∷ []) s.1.1).0) (λ rest p. names-safe h.params rest))) (λ rest p. safe-space ((h.name.text ++ names_bytes h.params) ++ rest))
+    joined (keyword kind.Module (module_word h.word) tt (λ x. refl) (λ rest p. p)) (spaced (joined (name-piece h.name s.1.0) (variables-piece h.params h.end (spelled-split (variables h.params) (dot h.end ∷ []) s.1.1).0) (λ rest p. names-safe h.params rest))) (λ rest p. safe-space ((h.name.text ++ names_text h.params) ++ rest))
 
 module-piece : (m : Module) → Spelled (module_tokens m) → Piece Anything (module_bytes m) (module_tokens m)
 module-piece m s =

@@ -8,5 +8,3 @@ pub mod FlatText
 pub mod Nodes
 pub mod Printed
 pub mod Bare
-pub mod Written
-pub mod Brackets

@@ -3,8 +3,8 @@ use Rattle.std.specs.Prelude.{ℕ, Bool, List, [], ◌∷◌, ◌++◌, codes}
 use Rattle.std.specs.Fmt.{signed_decimal}
 use Rattle.ll_parser.specs.declared.Quantifier.{Quantifier}
 use Rattle.ll_parser.specs.declared.Quantifier.TheVariants as quantifier
-use Rattle.ll_parser.specs.Tokens.{Identifier}
 use Rattle.ll_parser.specs.Grammar.{Term, of_app, cons, App, applied, app_any, app_number, app_bracket, Simple, simple_word, simple_any, simple_number, simple_bracket, Simples, no_more, and_then, ClauseOp, by_colon, by_left, ArrowOp, by_lolli, by_right, Formula, of_arrow, clause, Arrow, of_sum, implies, loads, Sum, of_with, plus, With, of_tensor, with, Tensor, of_primary, times, Primary, truly, erased, bracket, brace, quantified, atom, word_identifier}
+use Rattle.ll_parser.specs.Printed.{between, line_end, names_text}
 use Rattle.ll_parser.specs.Text.{Clause, plain, linear, Local, Heading, Module, Program}
 
 -- ---- terms: a space before each argument, and none round `::`
@@ -44,10 +44,6 @@ abbrev pub quantifier_bytes : Quantifier → List ℕ
 quantifier_bytes quantifier.Forall = codes "forall"
 quantifier_bytes quantifier.Exists = codes "exists"
 
--- an operator with a space on each side
-abbrev pub between : List ℕ → List ℕ → List ℕ
-between sign bytes = codes " " ++ (sign ++ (codes " " ++ bytes))
-
 abbrev mutual
   pub formula_bytes : {o : Bool} → Formula o → List ℕ
   formula_bytes (of_arrow a) = arrow_bytes a
@@ -80,15 +76,6 @@ abbrev mutual
 
 -- ---- programs: each line ends with a dot and LF
 
--- a dot, and the end of the line
-abbrev pub line_end : List ℕ
-line_end = codes "." ++ 10 ∷ []
-
--- names, each with a space before it, to the end of the line
-abbrev pub names_bytes : List Identifier → List ℕ
-names_bytes [] = line_end
-names_bytes (n ∷ ns) = codes " " ++ (n.text ++ names_bytes ns)
-
 abbrev pub clause_bytes : Clause → List ℕ
 clause_bytes (plain f end) = formula_bytes f ++ line_end
 clause_bytes (linear at f end) = codes "LINEAR" ++ (codes " " ++ (formula_bytes f ++ line_end))
@@ -98,14 +85,14 @@ clauses_bytes [] = []
 clauses_bytes (c ∷ cs) = clause_bytes c ++ clauses_bytes cs
 
 abbrev pub local_bytes : Local → List ℕ
-local_bytes l = codes "LOCAL" ++ names_bytes (l.first ∷ l.others)
+local_bytes l = codes "LOCAL" ++ names_text (l.first ∷ l.others)
 
 abbrev pub locals_bytes : List Local → List ℕ
 locals_bytes [] = []
 locals_bytes (l ∷ ls) = local_bytes l ++ locals_bytes ls
 
 abbrev pub heading_bytes : Heading → List ℕ
-heading_bytes h = codes "MODULE" ++ names_bytes (h.name ∷ h.params)
+heading_bytes h = codes "MODULE" ++ names_text (h.name ∷ h.params)
 
 abbrev pub module_bytes : Module → List ℕ
 module_bytes m = heading_bytes m.heading ++ (locals_bytes m.locals ++ clauses_bytes m.clauses)

@@ -11,6 +11,10 @@ pub mod Queries
 pub mod Programs
 pub mod Verdict
 pub mod Exclusive
+pub mod StoredLemmas
+pub mod Shown
+pub mod Newest
+pub mod Closing
 pub mod Answer
 pub mod Rows
 pub mod Spelled
@@ -35,3 +39,6 @@ pub mod WrittenRead
 pub mod TermTexts
 pub mod FormulaTexts
 pub mod ProgramTexts
+pub mod Drafting
+pub mod Naming
+pub mod Running

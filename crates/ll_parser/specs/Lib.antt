@@ -6,5 +6,10 @@ pub mod Reads
 pub mod Flat
 pub mod FlatText
 pub mod Nodes
+pub mod Seen
+pub mod Stored
+pub mod Waiting
+pub mod Symbols
 pub mod Printed
 pub mod Bare
+pub mod Drafts

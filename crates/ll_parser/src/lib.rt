@@ -1,21 +1,118 @@
 //! The grammar: raw trees of programs and queries, and the first bad token.
+//!
+//! [`program`] and [`query`] go through the tokens of a text once, by a machine that looks at one token at a time and keeps what
+//! waits for a right operand or a closing bracket on a stack of its own. Trees stand as flat nodes in [`Raws`], so that reading,
+//! copying and dropping one needs no recursion. Contracts see a place among the nodes as the raw tree that it shows.
 #![tactic(auto)]
 
 mod laws;
+mod formulas;
+mod operators;
+mod raws;
+mod reading;
+mod symbols;
+mod terms;
+#[cfg(test)]
+mod tests;
+mod texts;
+mod waiting;
 
 pub use laws::{one_program, one_query, places_aside, printed_is_read};
+pub use raws::Raws;
+pub use reading::{program, query};
+
+use ll_bank::Names;
 use ll_lexer::Place;
+
+/// The most brackets `(` and `{` that may be open at once.
+pub const MOST_OPEN: usize = 1000;
 
 /// A binary operator.
 #[derive(Clone, Copy, Debug, PartialEq, Eq)]
 pub enum Op {
+    /// `:-`
     ColonDash,
+    /// `<=`
     LeftArrow,
+    /// `-o`
     Lolli,
+    /// `=>`
     RightArrow,
+    /// `;`
     Plus,
+    /// `&`
     With,
+    /// `,`
     Tensor,
+}
+
+/// A name or a variable: its number among the names, and the place where it stands.
+#[derive(Clone, Copy, Debug, PartialEq, Eq)]
+pub struct Named {
+    pub name: u32,
+    pub at: Place,
+}
+
+/// The place of a node among the nodes of raw trees.
+#[derive(Clone, Copy, Debug, PartialEq, Eq)]
+pub struct RawAt(pub usize);
+
+/// A node of a raw tree, with the places of its parts.
+#[derive(Clone, Copy, Debug, PartialEq, Eq)]
+pub enum RawNode<'a> {
+    /// `true`.
+    True,
+    /// `erase`.
+    Erase,
+    /// `{G}`.
+    Braces(RawAt),
+    /// `forall x\ G`.
+    Forall(Named, RawAt),
+    /// `exists x\ G`.
+    Exists(Named, RawAt),
+    /// `m t1 .. tk --> G`.
+    Load(Named, &'a [RawAt], RawAt),
+    /// An operator with its left and its right operand.
+    Binary(Op, RawAt, RawAt),
+    /// An atom, a name or a variable with its arguments. `X::L` is one whose name has the text `::`.
+    Head(Named, &'a [RawAt]),
+    /// `_`.
+    Any,
+    /// A whole number.
+    Int(i64),
+}
+
+/// A clause, and whether it is marked `LINEAR`.
+#[derive(Clone, Copy, Debug, PartialEq, Eq)]
+pub struct RawClause {
+    pub linear: bool,
+    pub form: RawAt,
+}
+
+/// A module: its name, parameters, local constants and clauses, each in the order of the text.
+#[derive(Drop)]
+pub struct RawModule {
+    pub name: Named,
+    pub params: Vec<Named>,
+    pub locals: Vec<Named>,
+    pub clauses: Vec<RawClause>,
+}
+
+/// A program: its names, the nodes of its formulas, the clauses before its first module, and its modules.
+#[derive(Drop)]
+pub struct RawProgram {
+    pub names: Names,
+    pub forms: Raws,
+    pub clauses: Vec<RawClause>,
+    pub modules: Vec<RawModule>,
+}
+
+/// A query: its names, the nodes of its formula, and where the formula stands.
+#[derive(Drop)]
+pub struct RawQuery {
+    pub names: Names,
+    pub forms: Raws,
+    pub goal: RawAt,
 }
 
 // What a sign takes together before it: all that is tighter.
@@ -33,31 +130,4 @@ enum Level {
 enum Quantifier {
     Forall,
     Exists,
-}
-
-/// A name or a variable: its number among the names, and its place.
-#[derive(Clone, Copy, Debug, PartialEq, Eq)]
-pub struct Named {
-    pub name: u32,
-    pub at: Place,
-}
-
-/// The place of a node among the nodes of raw trees.
-#[derive(Clone, Copy, Debug, PartialEq, Eq)]
-pub struct RawAt(pub usize);
-
-/// A clause, and whether it is marked `LINEAR`.
-#[derive(Clone, Copy, Debug, PartialEq, Eq)]
-pub struct RawClause {
-    pub linear: bool,
-    pub form: RawAt,
-}
-
-/// A module: its name, parameters, local constants and clauses, each in the order of the text.
-#[derive(Drop)]
-pub struct RawModule {
-    pub name: Named,
-    pub params: Vec<Named>,
-    pub locals: Vec<Named>,
-    pub clauses: Vec<RawClause>,
 }

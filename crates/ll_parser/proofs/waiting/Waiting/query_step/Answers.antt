@@ -1,0 +1,8 @@
+use Rattle.std.proofs.Common.{◌∙◌, ap, subst, sym, option_map}
+use Rattle.ll_parser.specs.FlatText.{asking}
+use Rattle.ll_parser.specs.Waiting.{known, mode_view}
+use Rattle.ll_parser.proofs.Drafting.{asks-next}
+use Rattle.ll_parser.proofs.waiting.Waiting.query_step.Goals as goal
+
+pub returns-in-Some-2 : goal.returns-in-Some-2
+returns-in-Some-2 c = asks-next c.args.self.now c.step.new.self c.args.stage c.in-Formula.mode c.in-Formula.is c.in-Some-2.next c.args.symbol c.in_default.not-Dot (rw c.in-Some-2.is at c.in_ok-next-in_default.ensures.gives)

@@ -1,0 +1,129 @@
+//! Operands with all that an operator or a closing bracket takes together.
+ghost use Rattle.std.specs.Prelude.{◌≡◌, ℕ, ◌<◌, List, length, IfOk, IfSome, IfNone};
+ghost use Rattle.ll_parser.specs.declared.waiting.Frame.TheVariants.{Front};
+ghost use Rattle.ll_parser.specs.Flat.{build};
+ghost use Rattle.ll_parser.specs.Raw.{load, cons_raw};
+ghost use Rattle.ll_parser.specs.Nodes.{identifier, raw_trees};
+ghost use Rattle.ll_parser.specs.Waiting.{tree, waiting, args_from, waiting_below, pending, prefix_view, prefix_left, Fits, FitsBelow, IsNode, CanWait, Grows, Leaves, IsBuilt, Popped, Reduced, Gathered, PoppedCell, HasNoCell, TakesNone};
+
+use crate::waiting::{CONS, Frame, Prefix, Waiting, newest, takes};
+use crate::{Level, Named, Quantifier, RawAt, RawNode};
+use ll_bank::OutOfMemory;
+use ll_lexer::Place;
+
+impl Waiting {
+    // The load with the arguments that wait from a place on, which wait no more.
+    fn finish_load(&mut self, at: Place, name: Named, from: usize, goal: RawAt) -> Result<RawAt, OutOfMemory>
+        requires fits { FitsBelow self.old from }
+        requires goal { IsNode self.old goal }
+        ensures gives { IfOk result (λ i. IsBuilt self.old self.new i (λ texts. load at (identifier texts name) (args_from texts self.old from) (tree texts self.old goal)) (λ texts. waiting_below texts self.old from)) }
+        ensures grows { IfOk result (λ _. Grows self.old.forms self.new.forms) }
+    {
+        let args = self.args.as_slice();
+        let load = self.forms.add_load(at, name, &args[from..], goal)?;
+        self.args.truncate(from);
+        Ok(load)
+    }
+
+    // The tree of the front of a formula, which was taken off, with the operand that it waited for.
+    fn build(&mut self, front: Prefix, operand: RawAt) -> Result<RawAt, OutOfMemory>
+        requires front { CanWait self.old (Front front) }
+        requires operand { IsNode self.old operand }
+        ensures gives { IfOk result (λ i. IsBuilt self.old self.new i (λ texts. build (prefix_view texts (raw_trees texts self.old.forms) self.old.args.items front) (tree texts self.old operand)) (λ texts. pending texts self.old.forms (prefix_left self.old.args.items front) self.old.frames.items)) }
+        ensures grows { IfOk result (λ _. Grows self.old.forms self.new.forms) }
+    {
+        match front {
+            Prefix::Operator(op, at, left) => self.add(at, RawNode::Binary(op, left, operand)),
+            Prefix::Load(at, name, from) => self.finish_load(at, name, from, operand),
+            Prefix::Quantifier(Quantifier::Forall, at, name) => {
+                self.add(at, RawNode::Forall(name, operand))
+            }
+            Prefix::Quantifier(Quantifier::Exists, at, name) => {
+                self.add(at, RawNode::Exists(name, operand))
+            }
+        }
+    }
+
+    // Takes the newest front of a formula off, if the level takes it.
+    fn pop(&mut self, level: Level) -> Option<Prefix>
+        requires { Fits self.old }
+        ensures none { IfNone result (TakesNone level self.old self.new) }
+        ensures some { IfSome result (λ p. Popped level self.old self.new p) }
+        ensures grows { Grows self.old.forms self.new.forms }
+    {
+        match newest(&self.frames) {
+            None => None,
+            Some(frame) => match frame {
+                Frame::Front(front) => {
+                    if takes(level, front) {
+                        self.drop_newest();
+                        Some(front)
+                    } else {
+                        None
+                    }
+                }
+                _ => None,
+            },
+        }
+    }
+
+    /// Takes the operand together with all that the level takes.
+    pub fn reduce(&mut self, level: Level, operand: RawAt) -> Result<RawAt, OutOfMemory>
+        requires fits { Fits self.old }
+        requires operand { IsNode self.old operand }
+        ensures gives { IfOk result (λ i. Reduced level self.old self.new operand i) }
+        ensures grows { IfOk result (λ _. Grows self.old.forms self.new.forms) }
+    {
+        let mut at = operand;
+        while let Some(front) = self.pop(level) {
+            at = self.build(front, at)?;
+        }
+        Ok(at)
+    }
+
+    // Takes the newest cell off, if one is the newest.
+    fn pop_cell(&mut self) -> Option<(Place, RawAt)>
+        requires { Fits self.old }
+        ensures none { IfNone result (HasNoCell self.old self.new) }
+        ensures some { IfSome result (λ cell. PoppedCell self.old self.new cell.0 cell.1) }
+        ensures grows { Grows self.old.forms self.new.forms }
+    {
+        match newest(&self.frames) {
+            None => None,
+            Some(frame) => match frame {
+                Frame::Cell(at, first) => {
+                    self.drop_newest();
+                    Some((at, first))
+                }
+                _ => None,
+            },
+        }
+    }
+
+    // The list of a term and the one behind its sign.
+    fn cons(&mut self, at: Place, first: RawAt, rest: RawAt) -> Result<RawAt, OutOfMemory>
+        requires fits { Fits self.old }
+        requires first { IsNode self.old first }
+        requires rest { IsNode self.old rest }
+        ensures gives { IfOk result (λ i. IsBuilt self.old self.new i (λ texts. cons_raw at (tree texts self.old first) (tree texts self.old rest)) (λ texts. waiting texts self.old)) }
+        ensures grows { IfOk result (λ _. Grows self.old.forms self.new.forms) }
+    {
+        let name = Named { name: CONS, at };
+        let list = self.add(at, RawNode::Head(name, &[first, rest]))?;
+        Ok(list)
+    }
+
+    /// The list of all newest cells and the term behind them.
+    pub fn gather(&mut self, term: RawAt) -> Result<RawAt, OutOfMemory>
+        requires fits { Fits self.old }
+        requires term { IsNode self.old term }
+        ensures gives { IfOk result (λ i. Gathered self.old self.new term i) }
+        ensures grows { IfOk result (λ _. Grows self.old.forms self.new.forms) }
+    {
+        let mut at = term;
+        while let Some((sign, first)) = self.pop_cell() {
+            at = self.cons(sign, first, at)?;
+        }
+        Ok(at)
+    }
+}

@@ -17,7 +17,7 @@ mod tests;
 mod texts;
 mod waiting;
 
-pub use laws::{one_program, one_query};
+pub use laws::{one_program, one_query, places_aside, printed_is_read};
 use ll_bank::Names;
 use ll_lexer::Place;
 pub use raws::Raws;

@@ -148,7 +148,7 @@ pub marked-next : (d new : Draft) (o : Option Phase) (p : Phase) → p ≡ phase
 marked-next d new o p e fits s g =
     same-phase new o (λ texts. program_step (draft_view texts d p) (symbol_tok texts s)) (λ texts. enter (whole_view texts d) (current_view texts d) true (flat_step (want (waiting texts d.waiting)) (symbol_tok texts s)))
     (λ texts. ap (λ z. program_step (draft_view (known texts) d z) (symbol_tok (known texts) s)) e
-        ∙ ap (λ (ps : List Pending). enter (whole_view (known texts) d) (current_view (known texts) d) true (flat_step (want ps) (symbol_tok (known texts) s))) (sym (begins-idle d.waiting (subst (PhaseFits d.waiting) e fits) (known texts))))
+    ∙ ap (λ (ps : List Pending). enter (whole_view (known texts) d) (current_view (known texts) d) true (flat_step (want ps) (symbol_tok (known texts) s))) (sym (begins-idle d.waiting (subst (PhaseFits d.waiting) e fits) (known texts))))
     g
 
 -- ---- before the first token

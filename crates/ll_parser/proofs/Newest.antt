@@ -101,4 +101,3 @@ pub record Gathering (old new : Waiting) (i j : RawAt) : Type 0 where
   pub grows : Grows old.forms new.forms
   pub inside : IsNode new j
   pub same : (texts : List (List ℕ)) → gather (tree (known texts) new j) (waiting (known texts) new) ≡ gather (tree (known texts) old i) (waiting (known texts) old)
-

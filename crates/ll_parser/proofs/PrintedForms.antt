@@ -3,7 +3,7 @@ use Rattle.std.proofs.Common.{◌≡◌, Bool, false, refl, ◌∙◌, ap}
 use Rattle.ll_parser.specs.declared.Op.TheVariants as op
 use Rattle.ll_parser.specs.Raw.{Raw, truth, erasure, braces, universal, existential, load, binary, head, anything, int}
 use Rattle.ll_parser.specs.Grammar.{simples_raws, formula_raw, arrow_raw, sum_raw, with_raw, tensor_raw, primary_raw}
-use Rattle.ll_parser.specs.Printed.{arguments_of, Any, at_formula, at_arrow, at_sum, at_with, at_tensor, at_primary, Last, last, any_raw, last_raw, to_formula, in_parens, to_arrow, to_sum, to_with, to_tensor, to_primary, last_formula, last_arrow, last_sum, last_with, last_tensor, followed, ending}
+use Rattle.ll_parser.proofs.PrintedTree.{arguments_of, Any, at_formula, at_arrow, at_sum, at_with, at_tensor, at_primary, Last, last, any_raw, last_raw, to_formula, in_parens, to_arrow, to_sum, to_with, to_tensor, to_primary, last_formula, last_arrow, last_sum, last_with, last_tensor, followed, ending}
 use Rattle.ll_parser.proofs.Printable.{IsFormula}
 use Rattle.ll_parser.proofs.PrintedTerms.{word-kept, arguments-kept}
 

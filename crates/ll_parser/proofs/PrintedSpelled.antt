@@ -10,7 +10,8 @@ use Rattle.ll_parser.specs.declared.Op.TheVariants as op
 use Rattle.ll_parser.specs.Tokens.{Identifier, Tok, comma, ampersand, semicolon, paren_right, brace_right, cons_sign, load_arrow, colon_dash, left_arrow, right_arrow, lolli, IsSpelled}
 use Rattle.ll_parser.specs.Raw.{Raw, truth, erasure, braces, universal, existential, load, binary, head, anything, int, RawList, none, more}
 use Rattle.ll_parser.specs.Grammar.{lower, upper, Term, of_app, cons, applied, app_any, app_number, app_bracket, Simples, no_more, and_then, word_token, term_tokens, app_tokens, simple_tokens, simples_tokens, formula_tokens, arrow_tokens, sum_tokens, with_tokens, tensor_tokens, primary_tokens}
-use Rattle.ll_parser.specs.Printed.{somewhere, word_of, is_cons, to_app, to_simple, pick, term_of, terms_of, simples_of, arguments_of, Any, at_formula, at_arrow, at_sum, at_with, at_tensor, at_primary, Last, last, to_formula, in_parens, to_arrow, to_sum, to_with, to_tensor, to_primary, last_formula, last_arrow, last_sum, last_with, last_tensor, followed, ending}
+use Rattle.ll_parser.specs.Printed.{is_cons}
+use Rattle.ll_parser.proofs.PrintedTree.{somewhere, word_of, to_app, to_simple, pick, term_of, terms_of, simples_of, arguments_of, Any, at_formula, at_arrow, at_sum, at_with, at_tensor, at_primary, Last, last, to_formula, in_parens, to_arrow, to_sum, to_with, to_tensor, to_primary, last_formula, last_arrow, last_sum, last_with, last_tensor, followed, ending}
 use Rattle.ll_parser.proofs.Printable.{IsLower, IsUpper, IsWord, HasShape, IsTerm, AreTerms, IsFormula, word-no-cons, Spelled, spelled-join}
 
 -- ---- names and variables

@@ -4,7 +4,8 @@ use Rattle.ll_lexer.specs.Spelling.{is_name}
 use Rattle.ll_parser.specs.Tokens.{Identifier}
 use Rattle.ll_parser.specs.Raw.{Raw, truth, erasure, braces, universal, existential, load, binary, head, anything, int, RawList, none, more, raws_then}
 use Rattle.ll_parser.specs.Grammar.{lower, upper, Term, of_app, cons, applied, app_any, app_number, app_bracket, Simples, no_more, and_then, word_identifier, term_raw, app_raw, simple_raw, simples_raws}
-use Rattle.ll_parser.specs.Printed.{word_of, is_cons, to_app, to_simple, pick, term_of, terms_of, simples_of, arguments_of}
+use Rattle.ll_parser.specs.Printed.{is_cons}
+use Rattle.ll_parser.proofs.PrintedTree.{word_of, to_app, to_simple, pick, term_of, terms_of, simples_of, arguments_of}
 use Rattle.ll_parser.proofs.Printable.{HasShape, IsTerm, AreTerms, word-no-cons}
 
 -- a word has its name back

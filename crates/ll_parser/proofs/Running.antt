@@ -54,6 +54,7 @@ place-of tokens i token t e f =
     some_map : Option Token → Option Tok
     some_map None = None
     some_map (Some x) = Some (tok_of tokens.text x)
+
     some-is : {x y : Tok} → Some x ≡ Some y → x ≡ y
     some-is h = cc
 

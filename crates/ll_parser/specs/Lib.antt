@@ -11,4 +11,5 @@ pub mod Stored
 pub mod Waiting
 pub mod Symbols
 pub mod Printed
+pub mod Bare
 pub mod Drafts

@@ -107,7 +107,13 @@ impl Waiting {
     }
 
     // The `\` behind a quantifier's word.
-    fn begin_scope(&mut self, quantifier: Quantifier, at: Place, word: Word, symbol: Symbol) -> Result<Option<Mode>, OutOfMemory>
+    fn begin_scope(
+        &mut self,
+        quantifier: Quantifier,
+        at: Place,
+        word: Word,
+        symbol: Symbol,
+    ) -> Result<Option<Mode>, OutOfMemory>
         requires { Fits self.old }
         ensures gives { IfOk result (λ o. Gives self.new o (λ texts. flat_step (slash quantifier at (word_view texts word) (waiting texts self.old)) (symbol_tok texts symbol))) }
         ensures grows { IfOk result (λ _. Grows self.old.forms self.new.forms) }
@@ -121,7 +127,13 @@ impl Waiting {
     }
 
     // An atom with one more argument of one node.
-    fn extend_atom(&mut self, word: Word, from: usize, at: Place, node: RawNode<'_>) -> Result<Option<Mode>, OutOfMemory>
+    fn extend_atom(
+        &mut self,
+        word: Word,
+        from: usize,
+        at: Place,
+        node: RawNode<'_>,
+    ) -> Result<Option<Mode>, OutOfMemory>
         requires fits { FitsBelow self.old from }
         requires parts { HasPartsBelow (length self.old.forms) node }
         ensures gives { IfOk result (λ o. Gives self.new o (λ texts. Some (part (word_view texts word) (raws_then (args_from texts self.old from) (build_raw texts (raw_trees texts self.old.forms) (node_of at node.entry))) (waiting_below texts self.old from)))) }
@@ -132,7 +144,12 @@ impl Waiting {
     }
 
     // The token behind an atom: one more argument, the arrow of a load, or what follows an operand.
-    fn after_atom(&mut self, word: Word, from: usize, symbol: Symbol) -> Result<Option<Mode>, OutOfMemory>
+    fn after_atom(
+        &mut self,
+        word: Word,
+        from: usize,
+        symbol: Symbol,
+    ) -> Result<Option<Mode>, OutOfMemory>
         requires { FitsBelow self.old from }
         ensures gives { IfOk result (λ o. Gives self.new o (λ texts. flat_step (part (word_view texts word) (args_from texts self.old from) (waiting_below texts self.old from)) (symbol_tok texts symbol))) }
         ensures grows { IfOk result (λ _. Grows self.old.forms self.new.forms) }
@@ -154,7 +171,12 @@ impl Waiting {
     }
 
     // The arrow of a load, which stands beside no tighter operator.
-    fn begin_load(&mut self, word: Word, from: usize, at: Place) -> Result<Option<Mode>, OutOfMemory>
+    fn begin_load(
+        &mut self,
+        word: Word,
+        from: usize,
+        at: Place,
+    ) -> Result<Option<Mode>, OutOfMemory>
         requires { FitsBelow self.old from }
         ensures gives { IfOk result (λ o. Gives self.new o (λ texts. begin_load (word_view texts word) (args_from texts self.old from) at (waiting_below texts self.old from))) }
         ensures grows { IfOk result (λ _. Grows self.old.forms self.new.forms) }
@@ -209,7 +231,13 @@ impl Waiting {
     }
 
     // An operator, which takes all that is tighter for its left operand.
-    fn extend(&mut self, level: Level, op: Op, at: Place, operand: RawAt) -> Result<Option<Mode>, OutOfMemory>
+    fn extend(
+        &mut self,
+        level: Level,
+        op: Op,
+        at: Place,
+        operand: RawAt,
+    ) -> Result<Option<Mode>, OutOfMemory>
         requires fits { Fits self.old }
         requires operand { IsNode self.old operand }
         ensures gives { IfOk result (λ o. Gives self.new o (λ texts. push_operator op at (reduce level (tree texts self.old operand) (waiting texts self.old)))) }

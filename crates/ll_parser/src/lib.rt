@@ -5,8 +5,8 @@
 //! copying and dropping one needs no recursion. Contracts see a place among the nodes as the raw tree that it shows.
 #![tactic(auto)]
 
-mod laws;
 mod formulas;
+mod laws;
 mod operators;
 mod raws;
 mod reading;
@@ -17,12 +17,11 @@ mod tests;
 mod texts;
 mod waiting;
 
-pub use laws::{one_program, one_query};
-pub use raws::Raws;
-pub use reading::{program, query};
-
+pub use laws::{one_program, one_query, places_aside, printed_is_read};
 use ll_bank::Names;
 use ll_lexer::Place;
+pub use raws::Raws;
+pub use reading::{program, query};
 
 /// The most brackets `(` and `{` that may be open at once.
 pub const MOST_OPEN: usize = 1000;

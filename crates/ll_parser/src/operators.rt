@@ -13,7 +13,13 @@ use ll_lexer::Place;
 
 impl Waiting {
     // The load with the arguments that wait from a place on, which wait no more.
-    fn finish_load(&mut self, at: Place, name: Named, from: usize, goal: RawAt) -> Result<RawAt, OutOfMemory>
+    fn finish_load(
+        &mut self,
+        at: Place,
+        name: Named,
+        from: usize,
+        goal: RawAt,
+    ) -> Result<RawAt, OutOfMemory>
         requires fits { FitsBelow self.old from }
         requires goal { IsNode self.old goal }
         ensures gives { IfOk result (λ i. IsBuilt self.old self.new i (λ texts. load at (identifier texts name) (args_from texts self.old from) (tree texts self.old goal)) (λ texts. waiting_below texts self.old from)) }

@@ -99,7 +99,13 @@ impl Raws {
     }
 
     /// One more load with its arguments and its goal. After a refusal the nodes are as before.
-    pub(crate) fn add_load(&mut self, at: Place, name: Named, args: &[RawAt], goal: RawAt) -> Result<RawAt, OutOfMemory>
+    pub(crate) fn add_load(
+        &mut self,
+        at: Place,
+        name: Named,
+        args: &[RawAt],
+        goal: RawAt,
+    ) -> Result<RawAt, OutOfMemory>
         requires args { All (λ a. a.0 < length self.old) args.now }
         requires goal { goal.0 < length self.old }
         ensures place { IfOk result (λ place. place.0 ≡ length self.old) }

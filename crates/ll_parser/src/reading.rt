@@ -46,7 +46,12 @@ fn opened(depth: usize, symbol: Symbol) -> Option<usize>
 }
 
 // Reads a program into names and a draft that have nothing yet.
-fn read_program(alloc: Global, tokens: &TokenList<'_>, names: &mut Names, draft: &mut Draft) -> Result<(), TextFault>
+fn read_program(
+    alloc: Global,
+    tokens: &TokenList<'_>,
+    names: &mut Names,
+    draft: &mut Draft,
+) -> Result<(), TextFault>
     requires text { length tokens.now.text ≤ 16777216 }
     requires names { names.old ≡ known [] }
     requires draft { IsNewDraft draft.old }
@@ -81,7 +86,11 @@ fn read_program(alloc: Global, tokens: &TokenList<'_>, names: &mut Names, draft:
 }
 
 // Reads a query into names and nodes that have nothing yet. Says where its formula stands.
-fn read_query(tokens: &TokenList<'_>, names: &mut Names, waiting: &mut Waiting) -> Result<RawAt, TextFault>
+fn read_query(
+    tokens: &TokenList<'_>,
+    names: &mut Names,
+    waiting: &mut Waiting,
+) -> Result<RawAt, TextFault>
     requires text { length tokens.now.text ≤ 16777216 }
     requires names { names.old ≡ known [] }
     requires waiting { IsNew waiting.old }

@@ -45,7 +45,13 @@ impl Waiting {
     }
 
     // An application with one more argument of one node.
-    fn extend_application(&mut self, word: Word, from: usize, at: Place, node: RawNode<'_>) -> Result<Option<Mode>, OutOfMemory>
+    fn extend_application(
+        &mut self,
+        word: Word,
+        from: usize,
+        at: Place,
+        node: RawNode<'_>,
+    ) -> Result<Option<Mode>, OutOfMemory>
         requires fits { FitsBelow self.old from }
         requires parts { HasPartsBelow (length self.old.forms) node }
         ensures gives { IfOk result (λ o. Gives self.new o (λ texts. Some (term_part (word_view texts word) (raws_then (args_from texts self.old from) (build_raw texts (raw_trees texts self.old.forms) (node_of at node.entry))) (waiting_below texts self.old from)))) }
@@ -56,7 +62,12 @@ impl Waiting {
     }
 
     /// The token behind an application: one more argument, or what follows a term.
-    pub fn after_application(&mut self, word: Word, from: usize, symbol: Symbol) -> Result<Option<Mode>, OutOfMemory>
+    pub fn after_application(
+        &mut self,
+        word: Word,
+        from: usize,
+        symbol: Symbol,
+    ) -> Result<Option<Mode>, OutOfMemory>
         requires { FitsBelow self.old from }
         ensures gives { IfOk result (λ o. Gives self.new o (λ texts. flat_step (term_part (word_view texts word) (args_from texts self.old from) (waiting_below texts self.old from)) (symbol_tok texts symbol))) }
         ensures grows { IfOk result (λ _. Grows self.old.forms self.new.forms) }

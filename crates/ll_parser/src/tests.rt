@@ -69,7 +69,12 @@ fn written(
             format!(in alloc; "{load}-->({})", made(texts, goal))
         }
         RawNode::Binary(op, left, right) => {
-            format!(in alloc; "({}){}({})", made(texts, left), sign_of(op), made(texts, right))
+            format!(in alloc;
+                "({}){}({})",
+                made(texts, left),
+                sign_of(op),
+                made(texts, right)
+            )
         }
         RawNode::Head(name, args) => with_arguments(alloc, texts, text_of(names, name), args),
         RawNode::Any => format!(in alloc; "_"),
@@ -77,16 +82,22 @@ fn written(
     }
 }
 
-// All nodes in turn.
+// All nodes in turn, with their columns if these are wanted.
 fn all_written(
     alloc: Global,
     names: &Names,
     forms: &Raws,
+    columns: bool,
 ) -> Result<Vec<String>, AllocError> {
     let mut texts = Vec::new(alloc);
     for i in 0..forms.len() {
         let text = written(alloc, names, texts.as_slice(), forms.node(RawAt(i)))?;
-        texts.push(text)?;
+        if columns {
+            let column = forms.place(RawAt(i)).column;
+            texts.push(format!(in alloc; "{text}@{column}")?)?;
+        } else {
+            texts.push(text)?;
+        }
     }
     Ok(texts)
 }
@@ -107,11 +118,23 @@ const READ: [(&str, &str); 24] = [
     ("(a ; b) , {c -o d}", "((a);(b)),({(c)-o(d)})"),
     ("forall x\\ a , b", "forall x\\((a),(b))"),
     ("(forall x\\ a) , b", "(forall x\\(a)),(b)"),
-    ("(a , forall X\\ b :- c) , d", "((a),(forall X\\((b):-(c)))),(d)"),
-    ("exists x\\ forall y\\ p x y", "exists x\\(forall y\\(p(x)(y)))"),
+    (
+        "(a , forall X\\ b :- c) , d",
+        "((a),(forall X\\((b):-(c)))),(d)",
+    ),
+    (
+        "exists x\\ forall y\\ p x y",
+        "exists x\\(forall y\\(p(x)(y)))",
+    ),
     ("m --> a , b", "m-->((a),(b))"),
-    ("a :- m 1 X --> n --> b -o c", "(a):-(m(1)(X)-->(n-->((b)-o(c))))"),
-    ("a -o m (f x) _ --> b :- c", "((a)-o(m(f(x))(_)-->(b))):-(c)"),
+    (
+        "a :- m 1 X --> n --> b -o c",
+        "(a):-(m(1)(X)-->(n-->((b)-o(c))))",
+    ),
+    (
+        "a -o m (f x) _ --> b :- c",
+        "((a)-o(m(f(x))(_)-->(b))):-(c)",
+    ),
     ("p (1::2::nil) -3", "p(::(1)(::(2)(nil)))(-3)"),
     ("p ((a::b)::c)", "p(::(::(a)(b))(c))"),
     ("p (f x (g y _)::((h))) Z", "p(::(f(x)(g(y)(_)))(h))(Z)"),
@@ -119,27 +142,117 @@ const READ: [(&str, &str); 24] = [
     ("X Y (Y)", "X(Y)(Y)"),
 ];
 
-fn query_of(alloc: Global, text: &str) -> Result<RawQuery, TextFault> {
-    let list = tokens(alloc, text.as_bytes())?;
+// A text of one line, and what its query is read as, with the column of each node.
+const PLACES: [(&str, &str); 3] = [
+    ("a :- b , c -o d", "(a@1):-(((b@6),(c@10)@8)-o(d@15)@12)@3"),
+    (
+        "m (X::1) --> {forall x\\ _y}",
+        "m(::(X@4)(1@7)@5)-->({forall x\\(_y@25)@15}@14)@10",
+    ),
+    ("(p) , erase", "(p@2),(erase@7)@5"),
+];
+
+const LONGEST_TEXT: usize = 16777216;
+
+fn query_of(alloc: Global, text: &[u8]) -> Result<RawQuery, TextFault> {
+    if text.len() > LONGEST_TEXT {
+        return Err(TextFault::OutOfMemory);
+    }
+    let list = tokens(alloc, text)?;
     query(alloc, &list)
+}
+
+fn program_of(alloc: Global, text: &[u8]) -> Result<RawProgram, TextFault> {
+    if text.len() > LONGEST_TEXT {
+        return Err(TextFault::OutOfMemory);
+    }
+    let list = tokens(alloc, text)?;
+    program(alloc, &list)
 }
 
 #[test]
 fn trees(rt: HostRuntime) -> Result<(), Fail> {
     for (text, want) in READ {
-        match query_of(rt.alloc(), text) {
-            Ok(read) => {
-                let texts = all_written(rt.alloc(), &read.names, &read.forms)?;
-                assert_eq!(rt; made(texts.as_slice(), read.goal), want);
-            }
-            Err(e) => panic!(rt; "{text}: {e:?}"),
+        let read = query_of(rt.alloc(), text.as_bytes())?;
+        let texts = all_written(rt.alloc(), &read.names, &read.forms, false)?;
+        assert_eq!(rt; made(texts.as_slice(), read.goal), want);
+    }
+    for (text, want) in PLACES {
+        let read = query_of(rt.alloc(), text.as_bytes())?;
+        let texts = all_written(rt.alloc(), &read.names, &read.forms, true)?;
+        assert_eq!(rt; made(texts.as_slice(), read.goal), want);
+    }
+    Ok(())
+}
+
+// Clauses, each with its mark and a dot.
+fn clauses_written(
+    alloc: Global,
+    texts: &[String],
+    clauses: &[RawClause],
+    mut out: String,
+) -> Result<String, AllocError> {
+    for clause in clauses {
+        if clause.linear {
+            out.push_str("LINEAR ")?;
         }
+        out.push_str(made(texts, clause.form))?;
+        out.push_str(". ")?;
+    }
+    Ok(out)
+}
+
+// Names with a space before each.
+fn names_written(names: &Names, words: &[Named], mut out: String) -> Result<String, AllocError> {
+    for word in words {
+        out.push(' ')?;
+        out.push_str(text_of(names, *word))?;
+    }
+    Ok(out)
+}
+
+fn program_written(alloc: Global, read: &RawProgram) -> Result<String, AllocError> {
+    let texts = all_written(alloc, &read.names, &read.forms, false)?;
+    let texts = texts.as_slice();
+    let mut out = clauses_written(alloc, texts, read.clauses.as_slice(), String::new(alloc))?;
+    for module in read.modules.as_slice() {
+        out.push_str("MODULE ")?;
+        out.push_str(text_of(&read.names, module.name))?;
+        out = names_written(&read.names, module.params.as_slice(), out)?;
+        out.push_str(". LOCAL")?;
+        out = names_written(&read.names, module.locals.as_slice(), out)?;
+        out.push_str(". ")?;
+        out = clauses_written(alloc, texts, module.clauses.as_slice(), out)?;
+    }
+    Ok(out)
+}
+
+// Programs and what they are read as.
+const PROGRAMS: [(&str, &str); 4] = [
+    ("", ""),
+    ("p. LINEAR q X :- r.", "p. LINEAR (q(X)):-(r). "),
+    (
+        "MODULE m. MODULE n X.",
+        "MODULE m. LOCAL. MODULE n X. LOCAL. ",
+    ),
+    (
+        "a. MODULE m X Y. LOCAL c. LOCAL d e. p c. LINEAR q. MODULE n. r. LINEAR s , t.",
+        "a. MODULE m X Y. LOCAL c d e. p(c). LINEAR q. MODULE n. LOCAL. r. LINEAR (s),(t). ",
+    ),
+];
+
+#[test]
+fn programs_and_modules(rt: HostRuntime) -> Result<(), Fail> {
+    for (text, want) in PROGRAMS {
+        let read = program_of(rt.alloc(), text.as_bytes())?;
+        let out = program_written(rt.alloc(), &read)?;
+        assert_eq!(rt; out.as_str(), want);
     }
     Ok(())
 }
 
 // Texts with the line, the column and the kind of the first fault of each as a query and as a program; kind 0 is none.
-const FAULTS: [(&str, (u32, u32, u8), (u32, u32, u8)); 39] = [
+const FAULTS: [(&str, (u32, u32, u8), (u32, u32, u8)); 48] = [
     ("", (1, 1, 5), (0, 0, 0)),
     (" % nothing", (1, 11, 5), (0, 0, 0)),
     ("p q).", (1, 4, 4), (1, 4, 4)),
@@ -179,29 +292,108 @@ const FAULTS: [(&str, (u32, u32, u8), (u32, u32, u8)); 39] = [
     ("LINEAR LINEAR p.", (1, 1, 4), (1, 8, 4)),
     ("p MODULE m.", (1, 3, 4), (1, 3, 4)),
     ("LOCAL c. p.", (1, 1, 4), (1, 1, 4)),
+    ("MODULE m. p. LOCAL c.", (1, 1, 4), (1, 14, 4)),
+    ("MODULE m. LOCAL. p.", (1, 1, 4), (1, 16, 4)),
+    ("MODULE m. LOCAL X. p.", (1, 1, 4), (1, 17, 4)),
+    ("MODULE M.", (1, 1, 4), (1, 8, 4)),
+    ("MODULE m x.", (1, 1, 4), (1, 10, 4)),
+    ("MODULE m X", (1, 1, 4), (1, 11, 5)),
+    ("MODULE", (1, 1, 4), (1, 7, 5)),
+    ("p. LINEAR", (1, 4, 4), (1, 10, 5)),
+    ("LINEAR MODULE m.", (1, 1, 4), (1, 8, 4)),
 ];
 
 // Whether an answer is the fault of a row.
 fn is_fault(found: Option<TextFault>, want: (u32, u32, u8)) -> bool {
     let (line, column, kind) = want;
     match found {
-        Some(TextFault::Text(fault)) => fault == Fault { at: Place { line, column }, kind },
+        Some(TextFault::Text(fault)) => fault
+            == Fault {
+                at: Place { line, column },
+                kind,
+            },
         Some(TextFault::OutOfMemory) => false,
         None => kind == 0,
     }
 }
 
-fn program_of(alloc: Global, text: &str) -> Result<RawProgram, TextFault> {
-    let list = tokens(alloc, text.as_bytes())?;
-    program(alloc, &list)
-}
-
 #[test]
 fn faults(rt: HostRuntime) {
     for (text, in_query, in_program) in FAULTS {
-        let found = query_of(rt.alloc(), text).err();
+        let found = query_of(rt.alloc(), text.as_bytes()).err();
         assert!(rt; is_fault(found, in_query), "query {text}: {found:?}");
-        let found = program_of(rt.alloc(), text).err();
+        let found = program_of(rt.alloc(), text.as_bytes()).err();
         assert!(rt; is_fault(found, in_program), "program {text}: {found:?}");
     }
+}
+
+// A piece n times between a front and an end.
+fn repeated(
+    alloc: Global,
+    front: &[u8],
+    piece: &[u8],
+    n: usize,
+    end: &[u8],
+) -> Result<Vec<u8>, AllocError> {
+    let mut text = Vec::new(alloc);
+    text.extend_from_slice(front)?;
+    for _ in 0..n {
+        text.extend_from_slice(piece)?;
+    }
+    text.extend_from_slice(end)?;
+    Ok(text)
+}
+
+// How many nodes the query of a repeated piece has, or its fault.
+fn nodes_of(
+    alloc: Global,
+    front: &[u8],
+    piece: &[u8],
+    n: usize,
+    end: &[u8],
+) -> Result<usize, TextFault> {
+    let text = repeated(alloc, front, piece, n, end)?;
+    let read = query_of(alloc, text.as_slice())?;
+    Ok(read.forms.len())
+}
+
+// Pieces between a front and an end, and how many nodes a chain of 100,000 of them has.
+const CHAINS: [(&[u8], &[u8], &[u8], usize); 10] = [
+    (b"p (", b"1::", b"nil)", 200002),
+    (b"p ", b"f ", b"", 100001),
+    (b"p (g ", b"f ", b")", 100002),
+    (b"", b"a , ", b"b", 200001),
+    (b"", b"a & ", b"b", 200001),
+    (b"", b"a ; ", b"b", 200001),
+    (b"", b"a -o ", b"b", 200001),
+    (b"", b"a :- ", b"b", 200001),
+    (b"", b"m --> ", b"b", 100001),
+    (b"", b"forall x\\ ", b"b", 100001),
+];
+
+// Fronts, ends, how many brackets stand between them, and the column of the bracket past 1,000.
+const BRACKETS: [(&[u8], &[u8], &[u8], &[u8], u32); 4] = [
+    (b"p :- ", b"(", b"true", b")", 1006),
+    (b"p :- ", b"{", b"true", b"}", 1006),
+    (b"p ", b"(", b"a", b")", 1003),
+    (b"p ", b"(f ", b"a", b")", 3003),
+];
+
+#[test]
+fn long_and_deep(rt: HostRuntime) -> Result<(), Fail> {
+    for (front, piece, end, nodes) in CHAINS {
+        assert_eq!(rt; nodes_of(rt.alloc(), front, piece, 100000, end)?, nodes);
+    }
+    for (front, piece, middle, close, column) in BRACKETS {
+        let at = Place { line: 1, column };
+        let fault = TextFault::Text(Fault { at, kind: 6 });
+        let mut text = repeated(rt.alloc(), front, piece, 1000, middle)?;
+        text.extend_from_slice(repeated(rt.alloc(), b"", close, 1000, b"")?.as_slice())?;
+        assert!(rt; query_of(rt.alloc(), text.as_slice()).is_ok());
+        assert_eq!(rt;
+            nodes_of(rt.alloc(), front, piece, 1001, middle).err(),
+            Some(fault)
+        );
+    }
+    Ok(())
 }

@@ -67,7 +67,12 @@ impl Draft {
     }
 
     /// What a token does, if the grammar admits it.
-    pub fn step(&mut self, alloc: Global, phase: Phase, symbol: Symbol) -> Result<Option<Phase>, OutOfMemory>
+    pub fn step(
+        &mut self,
+        alloc: Global,
+        phase: Phase,
+        symbol: Symbol,
+    ) -> Result<Option<Phase>, OutOfMemory>
         requires clauses { DraftFits self.old }
         requires phase { PhaseFits self.old.waiting phase }
         ensures { IfOk result (λ o. GivesPhase self.new o (λ texts. program_step (draft_view texts self.old phase) (symbol_tok texts symbol))) }
@@ -130,7 +135,12 @@ impl Draft {
     }
 
     // A token of a clause's formula.
-    fn enter(&mut self, linear: bool, mode: Mode, symbol: Symbol) -> Result<Option<Phase>, OutOfMemory>
+    fn enter(
+        &mut self,
+        linear: bool,
+        mode: Mode,
+        symbol: Symbol,
+    ) -> Result<Option<Phase>, OutOfMemory>
         requires clauses { DraftFits self.old }
         requires mode { ModeFits self.old.waiting mode }
         ensures { IfOk result (λ o. GivesPhase self.new o (λ texts. enter (whole_view texts self.old) (current_view texts self.old) linear (flat_step (mode_view texts self.old.waiting mode) (symbol_tok texts symbol)))) }
@@ -142,7 +152,12 @@ impl Draft {
     }
 
     // A token in a clause.
-    fn go_on(&mut self, linear: bool, mode: Mode, symbol: Symbol) -> Result<Option<Phase>, OutOfMemory>
+    fn go_on(
+        &mut self,
+        linear: bool,
+        mode: Mode,
+        symbol: Symbol,
+    ) -> Result<Option<Phase>, OutOfMemory>
         requires clauses { DraftFits self.old }
         requires mode { ModeFits self.old.waiting mode }
         ensures { IfOk result (λ o. GivesPhase self.new o (λ texts. phase_step (whole_view texts self.old) (current_view texts self.old) (inside linear (mode_view texts self.old.waiting mode)) (symbol_tok texts symbol))) }

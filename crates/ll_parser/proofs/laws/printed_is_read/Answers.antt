@@ -1,0 +1,5 @@
+use Rattle.ll_parser.proofs.WrittenRead.{written-read}
+use Rattle.ll_parser.proofs.laws.printed_is_read.Goals as goal
+
+pub returns : goal.returns
+returns c = written-read

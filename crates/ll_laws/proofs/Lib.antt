@@ -12,3 +12,8 @@ pub mod ConsistentLeaves
 pub mod ConsistentContexts
 pub mod ConsistentStates
 pub mod ConsistentSteps
+pub mod LeafWays
+pub mod DeriveLaw
+pub mod FaultLaw
+pub mod Lines
+pub mod CheckerRows

@@ -13,6 +13,11 @@ use Rattle.ll_laws.specs.Attempt.{attempt, successors}
 use Rattle.ll_laws.specs.Search.{events, cost, any_reached, answer_of}
 use Rattle.ll_laws.specs.Problem.{ProblemTree, setting_of, start_of}
 use Rattle.ll_laws.specs.Valid.{AreModules, IsValid}
+use Rattle.ll_laws.specs.Derive.{Derivable}
+use Rattle.ll_laws.specs.Shows.{Tree, clauses, nodes}
+use Rattle.ll_laws.specs.Fault.{Fits}
+use Rattle.ll_laws.specs.Line.{DerivationLines, IsWhole, trees_of}
+use Rattle.ll_laws.specs.Verdict.{root_free, root_bounded, instantiated_goal, DerivationShows, first_fault}
 use Rattle.ll_laws.specs.Consistent.{IsConsistent}
 
 -- ---- how a search unfolds
@@ -88,3 +93,19 @@ abbrev pub NoneUnifies : Type 0
 NoneUnifies =
     (ls rs : List Term) (levels : List ℕ) (s : ℕ → Term) (new : List ℕ) → list_all (vars_below (length levels)) ls ≡ true → list_all (vars_below (length levels)) rs ≡ true
     → mgu ls rs levels ≡ None → IsUnifier ls rs levels s new → ⊥
+
+-- ---- derivations
+
+-- a derivation that shows the query makes it derivable, from the program's unbounded and linear clauses, with as many nodes
+abbrev pub ShownIsDerivable : Type 0
+ShownIsDerivable =
+    (p : ProblemTree) (d : DerivationLines) → DerivationShows p d
+    → Derivable (setting_of p) (length d.nodes) (clauses (root_free p)) (clauses (root_bounded p)) (instantiated_goal p d.asked)
+
+-- a whole derivation without a fault shows the query
+abbrev pub FaultlessShows : Type 0
+FaultlessShows = (p : ProblemTree) (d : DerivationLines) (x : Tree) (n : ℕ) → IsWhole d → trees_of d.nodes ≡ Some (x ∷ []) → first_fault p d x ≡ Fits n → DerivationShows p d
+
+-- a derivation that shows the query has no fault, and its nodes are numbered from 1
+abbrev pub ShownIsFaultless : Type 0
+ShownIsFaultless = (p : ProblemTree) (d : DerivationLines) (x : Tree) → trees_of d.nodes ≡ Some (x ∷ []) → DerivationShows p d → first_fault p d x ≡ Fits (suc (nodes x))

@@ -12,3 +12,9 @@ pub mod Shown
 pub mod Output
 pub mod Valid
 pub mod Consistent
+pub mod Derive
+pub mod Shows
+pub mod Fault
+pub mod Line
+pub mod Verdict
+pub mod ShownLines

@@ -4,7 +4,7 @@
 //! and `docs/DEFINITIONS.md` explains them in reading order.
 #![tactic(auto)]
 
-ghost use Rattle.ll_laws.specs.Laws.{StuckSearch, EndedSearch, BoundSearch, SteppedSearch, SteadySearch, SettledOnce, SettledUnder, StartsConsistent, SettlesConsistent, StepsConsistent, FoundUnifies, FoundLowers, FoundIsMostGeneral, NoneUnifies};
+ghost use Rattle.ll_laws.specs.Laws.{StuckSearch, EndedSearch, BoundSearch, SteppedSearch, SteadySearch, SettledOnce, SettledUnder, StartsConsistent, SettlesConsistent, StepsConsistent, FoundUnifies, FoundLowers, FoundIsMostGeneral, NoneUnifies, ShownIsDerivable, FaultlessShows, ShownIsFaultless};
 
 use ll_bank::{At, Bank, FormAt, Names};
 use std::marker::Model;
@@ -146,6 +146,78 @@ pub struct Counts {
     pub inferences: u64,
 }
 
+/// What a clause step of a derivation says of one premise.
+#[derive(Debug, PartialEq, Eq, Drop)]
+pub enum Part {
+    /// A bounded premise, proved from the clauses with these labels.
+    Bounded(Vec<u32>),
+    /// An unbounded premise, proved from no bounded clause.
+    Unbounded,
+}
+
+/// The rule of one node of a derivation, with what it chooses.
+#[derive(Drop)]
+pub enum Rule {
+    /// `true`, from no bounded clause.
+    One,
+    /// `erase`, from any bounded clauses.
+    Erase,
+    /// `G , H`: G from the clauses with the first labels, H from those with the second.
+    Tensor(Vec<u32>, Vec<u32>),
+    /// `G & H`, both from all bounded clauses.
+    With,
+    /// `G ; H` by its left side.
+    Left,
+    /// `G ; H` by its right side.
+    Right,
+    /// `{G}`, from no bounded clause.
+    Bang,
+    /// `R -o G`: R gets this label.
+    Lolli(u32),
+    /// `R => G`: R gets this label.
+    Imp(u32),
+    /// `forall x\ G` with this eigenconstant in place of x.
+    Forall(u32),
+    /// `exists x\ G` with this term in place of x.
+    Exists(At),
+    /// A module load, by the goal that it stands for.
+    Use,
+    /// An atom by a leaf of the clause with this label: the terms for the quantifiers on the way to the leaf, the outermost
+    /// first, and one part for each premise, the one nearest the head first.
+    Clause {
+        label: u32,
+        leaf: u32,
+        terms: Vec<At>,
+        parts: Vec<Part>,
+    },
+}
+
+/// A derivation of a query. Contracts see the terms that its places show in its bank, and the tree that its nodes are
+/// (`IsWhole` says that they are one).
+#[derive(Drop)]
+pub struct Derivation {
+    pub bank: Bank,
+    /// The term for each variable of the query, in the order of their numbers.
+    pub asked: Vec<At>,
+    /// The nodes in prefix order.
+    pub nodes: Vec<Rule>,
+}
+
+impl Model for Derivation {
+    ghost use Rattle.std.specs.Prelude.{map};
+    ghost use Rattle.ll_bank.specs.Nodes.{term_trees, AllInTerms};
+    ghost use Rattle.ll_laws.specs.Line.{DerivationLines};
+    ghost use Rattle.ll_laws.specs.ShownLines.{line_of, HasLines, derivation_code};
+
+    ghost Value = { DerivationLines };
+
+    ghost coded = { derivation_code };
+
+    ghost view = { λ d. record { asked = term_trees d.bank d.asked.items; nodes = map (line_of d.bank) d.nodes.items } };
+
+    ghost invariant = { λ d. AllInTerms d.bank d.asked.items × HasLines d.bank d.nodes.items };
+}
+
 /// How a search unfolds, case by case.
 pub fn search_unfolds()
     ensures stuck { StuckSearch }
@@ -180,4 +252,15 @@ pub fn unification_is_best()
     ensures lowers { FoundLowers }
     ensures most_general { FoundIsMostGeneral }
     ensures none { NoneUnifies }
+{}
+
+/// What a derivation shows is derivable, with as many nodes as it has (derivability after Hodas and Miller 1994).
+pub fn shown_is_derivable()
+    ensures { ShownIsDerivable }
+{}
+
+/// A whole derivation has a first fault exactly where it does not show the query.
+pub fn faults_are_exact()
+    ensures faultless { FaultlessShows }
+    ensures shown { ShownIsFaultless }
 {}

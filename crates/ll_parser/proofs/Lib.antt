@@ -11,3 +11,11 @@ pub mod Queries
 pub mod Programs
 pub mod Verdict
 pub mod Exclusive
+pub mod Answer
+pub mod Rows
+pub mod Spelled
+pub mod Counts
+pub mod Printable
+pub mod PrintedTerms
+pub mod PrintedForms
+pub mod PrintedSpelled

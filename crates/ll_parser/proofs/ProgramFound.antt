@@ -140,4 +140,3 @@ program-found p =
     clauses-read p.clauses (top []) (modules_tokens p.modules)
     ∙ ap (λ z. read (boundary z) (modules_tokens p.modules)) (add-top [] p.clauses)
     ∙ top-read p.modules p.clauses
-

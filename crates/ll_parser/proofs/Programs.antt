@@ -86,7 +86,6 @@ begin-agrees k d t = ap (enter (done_whole d) (done_module d) (is_marked k)) (st
 inside-agrees : (k : Mark) (d : Done) (s : State) (t : Tok) → enter (done_whole d) (done_module d) (is_marked k) (flat_step (flat s) t) ≡ option_map flat_program (m.enter k d (step s t))
 inside-agrees k d s t = ap (enter (done_whole d) (done_module d) (is_marked k)) (step-agrees s t) ∙ enter-agrees k d (step s t)
 
-
 move-agrees : (r : Reading) (t : Tok) → program_step (flat_program r) t ≡ option_map flat_program (move r t)
 move-agrees (boundary d) (linear_word at) = refl
 move-agrees (boundary d) (module_word at) = ap Some (module-agrees at d)

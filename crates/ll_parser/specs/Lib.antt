@@ -6,3 +6,4 @@ pub mod Reads
 pub mod Flat
 pub mod FlatText
 pub mod Nodes
+pub mod Printed

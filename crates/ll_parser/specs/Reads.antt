@@ -1,10 +1,10 @@
 -- What a token list is read as: its tree, or its first fault.
-use Rattle.std.specs.Prelude.{◌≡◌, ℕ, suc, ◌-◌, ◌≤◌, Bool, true, false, List, [], ◌∷◌, ◌++◌, length, take}
+use Rattle.std.specs.Prelude.{◌≡◌, ℕ, suc, ◌-◌, ◌≤◌, Bool, true, false, List, [], ◌∷◌, ◌++◌, length, take, All}
 use Rattle.ll_lexer.specs.declared.Place.{Place}
 use Rattle.ll_lexer.specs.declared.Fault.{Fault}
 use Rattle.ll_lexer.specs.declared.TextFault.{TextFault}
 use Rattle.ll_lexer.specs.declared.TextFault.TheVariants as fault
-use Rattle.ll_parser.specs.Tokens.{Tok, paren_left, paren_right, brace_left, brace_right, tok_place}
+use Rattle.ll_parser.specs.Tokens.{Tok, paren_left, paren_right, brace_left, brace_right, tok_place, IsSpelled}
 use Rattle.ll_parser.specs.Text.{Language}
 
 -- some parse tree has these tokens and this tree, with any number of brackets
@@ -32,9 +32,9 @@ Within limit ts = (n : ℕ) → open_after 0 (take n ts) ≤ limit
 abbrev pub Reads : (l : Language) → ℕ → List Tok → l.Tree → Type 0
 Reads l limit ts tree = Derives l ts tree × Within limit ts
 
--- a tree that is read from some token list of a text
-abbrev pub IsWhole : (l : Language) → ℕ → l.Tree → Type 0
-IsWhole l limit tree = (ts : List Tok) × (length ts ≤ 16777216) × Reads l limit ts tree
+-- some list of at most 16,777,216 tokens, each of which can stand in a text, is read as this tree, with at most 1,000 brackets open
+abbrev pub IsWhole : (l : Language) → l.Tree → Type 0
+IsWhole l tree = (ts : List Tok) × (length ts ≤ 16777216) × All IsSpelled ts × Reads l 1000 ts tree
 
 -- token number i is t, and the tokens before it begin a text of the language within the limit
 pub record Stands (l : Language) (limit : ℕ) (ts : List Tok) (i : ℕ) (t : Tok) : Type 0 where

@@ -1,9 +1,11 @@
 -- The tokens that the grammar speaks of, and how they are seen in a text.
-use Rattle.std.specs.Prelude.{ℕ, ℤ, List, map}
+use Rattle.std.specs.Prelude.{ℕ, ◌≤◌, ℤ, List, length, map, FitsSigned}
+use Rattle.std.specs.Int.{w64}
 use Rattle.ll_lexer.specs.declared.Place.{Place}
 use Rattle.ll_lexer.specs.declared.Token.{Token}
 use Rattle.ll_lexer.specs.declared.TokenKind.{TokenKind}
 use Rattle.ll_lexer.specs.declared.TokenKind.TheVariants as kind
+use Rattle.ll_lexer.specs.Spelling.{Spells}
 use Rattle.ll_lexer.specs.Reading.{LexedText, number_value, bytes_of}
 
 -- the text of a name or a variable, and where it stands
@@ -85,3 +87,10 @@ tok_of text t = tok_by t.kind (bytes_of text t) t.at
 -- the tokens of a text that was read by the lexer
 abbrev pub toks_of : LexedText → List Tok
 toks_of lexed = map (tok_of lexed.text) lexed.tokens
+
+-- the token can stand in a text: a name and a variable are spelled so and have at most 255 bytes, and a number has 64 bits
+abbrev pub IsSpelled : Tok → Type 0
+IsSpelled (name n) = Spells kind.Name n.text × (length n.text ≤ 255)
+IsSpelled (variable n) = Spells kind.Variable n.text × (length n.text ≤ 255)
+IsSpelled (number z at) = FitsSigned w64 z
+IsSpelled _ = Unit {0}

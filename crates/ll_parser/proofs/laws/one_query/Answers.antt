@@ -2,8 +2,12 @@ use Rattle.ll_parser.specs.Text.{queries}
 use Rattle.ll_parser.specs.FlatText.{FlatQuery, query_start, query_step, query_final}
 use Rattle.ll_parser.proofs.Decides.{one-parse}
 use Rattle.ll_parser.proofs.Queries.{decides-queries}
+use Rattle.ll_parser.proofs.Answer.{has-answer}
 use Rattle.ll_parser.proofs.Exclusive.{one-tree, one-fault, no-fault}
 use Rattle.ll_parser.proofs.laws.one_query.Goals as goal
+
+pub returns-clause-either : goal.returns-clause-either
+returns-clause-either c = λ limit ts end. has-answer queries FlatQuery query_start query_step query_final decides-queries limit end ts
 
 pub returns-clause-tree : goal.returns-clause-tree
 returns-clause-tree c = λ limit ts p q d e. one-tree queries (one-parse queries FlatQuery query_start query_step query_final decides-queries) ts p q d.0 e.0

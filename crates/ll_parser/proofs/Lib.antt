@@ -19,3 +19,4 @@ pub mod Printable
 pub mod PrintedTerms
 pub mod PrintedForms
 pub mod PrintedSpelled
+pub mod Sizes

@@ -22,7 +22,8 @@ use Rattle.ll_polarity.specs.Scope.{Scope, binds, meaning}
 use Rattle.ll_polarity.specs.Reading.{Met, Read, read_name, read_term, read_terms, joined, module_in, read_form}
 use Rattle.ll_polarity.specs.Faults.{unless, count, may_be_head, terms_faults, on_goal_side, left_side, right_side, may_join, Heading, is_named, load_fault, form_faults}
 use Rattle.ll_polarity.proofs.Grows.{Longer, longer_terms, longer_form}
-use Rattle.ll_polarity.proofs.Weight.{weight, IsForm, length-read_terms}
+use Rattle.ll_parser.proofs.Sizes.{weight, IsForm}
+use Rattle.ll_polarity.proofs.Weight.{length-read_terms}
 use Rattle.ll_polarity.proofs.Meant.{places}
 use Rattle.ll_polarity.proofs.Terms.{none_left, none_right, none_unless, Room, IsIn, in_before, AreTerms, IsApplied, applied_term, read_are_terms}
 

@@ -17,7 +17,8 @@ use Rattle.ll_polarity.specs.Scope.{Scope, Meaning, Bound, Local, Free, Constant
 use Rattle.ll_polarity.specs.Reading.{Met, Read, read_name, read_term, read_terms}
 use Rattle.ll_polarity.specs.Faults.{unless, count, may_be_head, applied_fault, term_faults, terms_faults}
 use Rattle.ll_polarity.proofs.Grows.{Longer, More, variable_below, number_below, longer_terms, longer_term}
-use Rattle.ll_polarity.proofs.Weight.{weight, weights, count-le-weights, length-read_terms}
+use Rattle.ll_parser.proofs.Sizes.{weight, weights}
+use Rattle.ll_polarity.proofs.Weight.{count-le-weights, length-read_terms}
 use Rattle.ll_polarity.proofs.Meant.{places, Means, means}
 
 -- ---- lists of faults that are empty

@@ -1,11 +1,10 @@
 -- Whole programs and queries: formulas where formulas stand, and no more nodes than tokens.
-use Rattle.std.proofs.Common.{◌≡◌, ℕ, suc, ◌+◌, ◌≤◌, Bool, List, [], ◌∷◌, ◌++◌, map, length, refl, sym, subst, arith, length-append}
-use Rattle.ll_parser.specs.declared.Quantifier.{Quantifier}
+use Rattle.std.proofs.Common.{◌≡◌, ℕ, suc, ◌+◌, ◌≤◌, Bool, List, [], ◌∷◌, ◌++◌, map, length, sym, subst, arith, length-append}
 use Rattle.ll_parser.specs.declared.Quantifier.TheVariants as quantifier
-use Rattle.ll_parser.specs.Tokens.{Tok, cons_sign, paren_right, brace_right, semicolon, ampersand, comma, load_arrow, dot, linear_word}
+use Rattle.ll_parser.specs.Tokens.{Tok, cons_sign, paren_right, brace_right, semicolon, ampersand, comma, load_arrow, dot}
 use Rattle.ll_parser.specs.Raw.{Raw, truth, erasure, braces, universal, existential, load, binary, head, anything, int, RawList, none, more, raws_then, ClauseTree, ModuleTree, ProgramTree}
 use Rattle.ll_parser.specs.Grammar.{Term, of_app, cons, App, applied, app_any, app_number, app_bracket, Simple, simple_word, simple_any, simple_number, simple_bracket, Simples, no_more, and_then, Formula, of_arrow, clause, Arrow, of_sum, implies, loads, Sum, of_with, plus, With, of_tensor, with, Tensor, of_primary, times, Primary, truly, erased, bracket, brace, quantified, atom, clause_token, arrow_token, term_tokens, app_tokens, simple_tokens, simples_tokens, formula_tokens, arrow_tokens, sum_tokens, with_tokens, tensor_tokens, primary_tokens, term_raw, app_raw, simple_raw, simples_raws, formula_raw, arrow_raw, sum_raw, with_raw, tensor_raw, primary_raw}
-use Rattle.ll_parser.specs.Text.{Clause, plain, linear, Local, Module, Program, Query, bare, dotted, clause_tokens, locals_tokens, heading_tokens, clauses_tokens, module_tokens, modules_tokens, program_tokens, clause_tree, module_tree, program_tree, query_tokens, query_tree, programs, queries}
+use Rattle.ll_parser.specs.Text.{Clause, plain, linear, Module, Query, bare, dotted, clause_tokens, locals_tokens, heading_tokens, clauses_tokens, module_tokens, modules_tokens, program_tokens, clause_tree, module_tree, query_tokens, query_tree, programs, queries}
 use Rattle.ll_parser.specs.Reads.{IsWhole}
 
 -- ---- raw trees

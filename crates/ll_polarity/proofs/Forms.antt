@@ -1,17 +1,14 @@
 -- What is read of a formula without a fault is a formula of a problem, on its side.
-use Rattle.std.proofs.Common.{◌≡◌, ℕ, suc, ◌+◌, ◌≤◌, Bool, true, false, List, [], ◌∷◌, ◌++◌, map, length, slice_get, Option, Some, None, refl, sym, subst, ap, ◌∙◌, arith, length-append}
-use Rattle.std.specs.Prelude.{nat_eq, find, ◌&&◌}
-use Rattle.std.specs.List.{list_all}
+use Rattle.std.proofs.Common.{◌≡◌, ℕ, suc, ◌+◌, ◌≤◌, true, false, List, [], ◌∷◌, ◌++◌, length, slice_get, Option, Some, None, refl, sym, subst, arith, length-append}
+use Rattle.std.specs.Prelude.{nat_eq, find}
 use Rattle.std.proofs.lemmas.Bool.{le-leb}
 use Rattle.std.proofs.lemmas.List.{length-map}
 use Rattle.ll_bank.specs.Term.{Term}
 use Rattle.ll_bank.specs.Form.{Form, Top, One, Atom, With, Tensor, Plus, Bang, Lolli, Imp, Forall, Exists, Use}
-use Rattle.ll_lexer.specs.declared.Fault.{Fault}
 use Rattle.ll_laws.specs.Module.{ModuleTree}
 use Rattle.ll_laws.specs.Leaf.{ways}
 use Rattle.ll_laws.specs.Valid.{Side, GoalSide, ClauseSide, given, each_term, names_below, arity_up_to, fits_module, leaves_up_to}
 use Rattle.ll_laws.specs.Valid as valid
-use Rattle.ll_laws.proofs.SubLaws.{and_left, and_right}
 use Rattle.ll_laws.proofs.ConsistentTerms.{and_intro}
 use Rattle.ll_laws.proofs.ConsistentForms.{Fits}
 use Rattle.ll_parser.specs.declared.Op.{Op}
@@ -19,9 +16,9 @@ use Rattle.ll_parser.specs.declared.Op.TheVariants as op
 use Rattle.ll_parser.specs.Tokens.{Identifier}
 use Rattle.ll_parser.specs.Raw.{Raw, truth, erasure, braces, universal, existential, load, binary, head, anything, int}
 use Rattle.ll_polarity.specs.Scope.{Scope, binds, meaning}
-use Rattle.ll_polarity.specs.Reading.{Met, Read, read_name, read_term, read_terms, joined, module_in, read_form}
+use Rattle.ll_polarity.specs.Reading.{Met, read_name, read_terms, joined, module_in, read_form}
 use Rattle.ll_polarity.specs.Faults.{unless, count, may_be_head, terms_faults, on_goal_side, left_side, right_side, may_join, Heading, is_named, load_fault, form_faults}
-use Rattle.ll_polarity.proofs.Grows.{Longer, longer_terms, longer_form}
+use Rattle.ll_polarity.proofs.Grows.{longer_form}
 use Rattle.ll_parser.proofs.Sizes.{weight, IsForm}
 use Rattle.ll_polarity.proofs.Weight.{length-read_terms}
 use Rattle.ll_polarity.proofs.Meant.{places}

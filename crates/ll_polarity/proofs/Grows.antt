@@ -1,5 +1,5 @@
 -- What is met in a text only grows, and what is met last has its number in it.
-use Rattle.std.proofs.Common.{◌≡◌, ℕ, zero, suc, ◌+◌, ◌<◌, ◌≤◌, Bool, true, false, not, cond, ◌||◌, List, [], ◌∷◌, ◌++◌, length, slice_get, position, Option, Some, None, if◌then◌else◌, refl, ap, sym, subst, ◌∙◌, arith, true≢false, length-append}
+use Rattle.std.proofs.Common.{◌≡◌, ℕ, ◌<◌, ◌≤◌, Bool, true, false, cond, ◌||◌, List, [], ◌∷◌, ◌++◌, length, slice_get, position, Option, Some, None, if◌then◌else◌, refl, ap, sym, subst, ◌∙◌, arith, true≢false, length-append}
 use Rattle.std.specs.Prelude.{unwrap_or}
 use Rattle.std.specs.List.{list_any, position_or_len}
 use Rattle.std.specs.Str.{bytes_eq}
@@ -7,12 +7,11 @@ use Rattle.std.proofs.lemmas.Bool.Decides.{Decides-ltb}
 use Rattle.std.proofs.lemmas.List.Folds.{list_any-append}
 use Rattle.std.proofs.lemmas.Option.{slice_get_within}
 use Rattle.std.proofs.lemmas.Slice.Eq.{bytes_eq-Decides}
-use Rattle.ll_bank.specs.Names.{number_of, with_name}
+use Rattle.ll_bank.specs.Names.{with_name}
 use Rattle.ll_bank.proofs.NameLaws.{slice_get-number_of, number_of-with_name, slice_get-with_name}
-use Rattle.ll_parser.specs.declared.Op.{Op}
 use Rattle.ll_parser.specs.Raw.{Raw, truth, erasure, braces, universal, existential, load, binary, head, anything, int, RawList, none, more}
 use Rattle.ll_polarity.specs.Scope.{Scope, binds, Meaning, Bound, Local, Free, Constant, meaning}
-use Rattle.ll_polarity.specs.Reading.{Met, Read, has_text, number_in, variable_in, with_variable, read_name, read_term, read_terms, joined, read_form}
+use Rattle.ll_polarity.specs.Reading.{Met, has_text, number_in, variable_in, with_variable, read_name, read_term, read_terms, read_form}
 
 -- ---- the first place at which a test passes
 

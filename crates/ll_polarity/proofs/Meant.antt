@@ -1,5 +1,5 @@
 -- What names mean: a bound place of the scope, and one that may be a predicate exactly where it is that of a local constant.
-use Rattle.std.proofs.Common.{◌≡◌, ℕ, zero, suc, ◌+◌, ◌-◌, ◌<◌, ◌≤◌, Bool, true, false, List, [], ◌∷◌, map, length, refl, subst, arith, if◌then◌else◌}
+use Rattle.std.proofs.Common.{◌≡◌, ℕ, suc, ◌+◌, ◌-◌, ◌<◌, ◌≤◌, Bool, true, false, List, [], ◌∷◌, map, length, refl, subst, arith, if◌then◌else◌}
 use Rattle.std.specs.Prelude.{nat_lt, slice_index_or}
 use Rattle.std.specs.Str.{bytes_eq}
 use Rattle.std.proofs.lemmas.Bool.{lt-ltb}
@@ -67,6 +67,7 @@ means scope w = by (meaning scope w) (means_from 0 scope w)
   where
     is_below : (j : ℕ) → IsPlace 0 scope j → nat_lt j (length (places scope)) ≡ true
     is_below j h = lt-ltb j (length (places scope)) (omega (arith, h.below, length-map scope (λ b. b.local)))
+
     by : (m : Meaning) → MeansFrom 0 scope m → Means scope m
     by (Bound j) h = is_below j h
     by (Local j) h = (is_below j h.place, subst (λ i. slice_index_or (places scope) i false ≡ true) (let z : j - 0 ≡ j = omega arith in z) h.may)

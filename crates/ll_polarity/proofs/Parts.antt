@@ -1,23 +1,22 @@
 -- The part of a problem that a whole program without a fault fixes: its clauses and modules are valid.
-use Rattle.std.proofs.Common.{◌≡◌, ℕ, zero, suc, ◌+◌, ◌<◌, ◌≤◌, Bool, true, false, List, [], ◌∷◌, ◌++◌, map, reverse, length, slice_get, Option, Some, None, if◌then◌else◌, refl, sym, subst, ap, ◌∙◌, arith}
-use Rattle.std.specs.Prelude.{replicate, flat_map, find}
+use Rattle.std.proofs.Common.{◌≡◌, ℕ, ◌≤◌, true, false, List, [], ◌∷◌, ◌++◌, map, reverse, length, if◌then◌else◌, refl, subst, ap, ◌∙◌, arith}
+use Rattle.std.specs.Prelude.{replicate}
 use Rattle.std.specs.List.{list_any}
 use Rattle.std.specs.Str.{bytes_eq}
 use Rattle.std.proofs.lemmas.List.{map-append, length-reverse}
 use Rattle.ll_bank.specs.Names.{with_name}
 use Rattle.ll_lexer.specs.declared.Fault.{Fault}
-use Rattle.ll_laws.specs.Module.{ClauseTree, ModuleTree}
+use Rattle.ll_laws.specs.Module.{ModuleTree}
 use Rattle.ll_laws.specs.Valid.{ClauseSide, IsFormula, IsWithinLimits, AreClauses, AreModules, given, largest_count}
-use Rattle.ll_laws.specs.Valid as valid
 use Rattle.ll_laws.proofs.ConsistentForms.{formula_of_fits}
 use Rattle.ll_parser.specs.Tokens.{Identifier}
 use Rattle.ll_parser.specs.Raw.{ProgramTree}
 use Rattle.ll_parser.specs.Raw as raw
 use Rattle.ll_parser.proofs.Sizes.{IsSmall, AreSmall, HaveSmall}
 use Rattle.ll_polarity.specs.Scope.{Scope, binds, declares, module_scope}
-use Rattle.ll_polarity.specs.Reading.{Met, Read, number_in, read_form, quantified}
+use Rattle.ll_polarity.specs.Reading.{read_form, quantified}
 use Rattle.ll_polarity.specs.Faults.{Heading, form_faults, clauses_faults, repeated, modules_faults}
-use Rattle.ll_polarity.specs.Asks.{Named, read_clause, read_clauses, read_module, read_modules}
+use Rattle.ll_polarity.specs.Asks.{read_clause, read_clauses, read_module, read_modules}
 use Rattle.ll_polarity.proofs.Grows.{More, more_refl, more_trans, more_named, number_below, longer_form}
 use Rattle.ll_polarity.proofs.Meant.{places}
 use Rattle.ll_polarity.proofs.Terms.{none_left, none_right, Room}
@@ -86,8 +85,7 @@ module _ (modules : List ModuleTree) (ms : List (List ℕ)) (heads : List Headin
       let a : List Fault = if list_any (bytes_eq m.name.text) earlier then record { at = m.name.at; kind = 12 } ∷ [] else [] in
       let b = repeated [] (m.params ++ m.locals) in let c = clauses_faults heads (module_scope m) m.clauses in let d = modules_faults heads (m.name.text ∷ earlier) rest in
       let named = with_name before m.name.text in let after = (read_module ms before m).names in
-      let few : length after ≤ names = omega (arith, (more_modules ms after rest).longer) in
-      (
+      let few : length after ≤ names = omega (arith, (more_modules ms after rest).longer) in (
         subst (λ s. AreClauses names modules s (read_module ms before m).it.clauses) (places_module m)
             (clauses_valid (module_scope m) named m.clauses small.0 (none_right (a ++ b) c (none_left (a ++ b ++ c) d h)) few),
         omega (arith, number_below before m.name.text, (more_clauses ms (module_scope m) named m.clauses).longer),

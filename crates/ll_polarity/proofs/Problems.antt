@@ -1,5 +1,5 @@
 -- The problem that a whole program and a whole query without a fault ask is valid.
-use Rattle.std.proofs.Common.{◌≡◌, ℕ, zero, suc, ◌+◌, ◌<◌, ◌≤◌, Bool, true, false, not, cond, List, [], ◌∷◌, ◌++◌, map, length, slice_get, get_or, Option, Some, None, refl, sym, subst, ap, ◌∙◌, arith}
+use Rattle.std.proofs.Common.{◌≡◌, ℕ, suc, ◌+◌, ◌≤◌, Bool, true, false, not, cond, List, [], ◌∷◌, map, length, slice_get, Option, Some, None, refl, sym, subst, ap, ◌∙◌, arith}
 use Rattle.std.specs.Prelude.{find, unwrap_or, slice_index_or, ◌||◌}
 use Rattle.std.specs.List.{list_any, list_all, position_or_len}
 use Rattle.std.specs.Str.{bytes_eq}
@@ -8,18 +8,19 @@ use Rattle.std.proofs.lemmas.Option.{get_or_from_slice_get}
 use Rattle.ll_bank.specs.Names.{with_name}
 use Rattle.ll_laws.specs.Module.{ModuleTree}
 use Rattle.ll_laws.specs.Problem.{ProblemTree}
-use Rattle.ll_laws.specs.Valid.{GoalSide, IsFormula, IsWithinLimits, AreClauses, AreModules, IsValid, is_asked, given, largest_count}
+use Rattle.ll_laws.specs.Valid.{GoalSide, AreClauses, AreModules, IsValid, is_asked, given, largest_count}
 use Rattle.ll_laws.proofs.ConsistentTerms.{and_intro}
 use Rattle.ll_laws.proofs.ConsistentForms.{formula_of_fits}
 use Rattle.ll_parser.specs.Raw.{Raw, ProgramTree}
 use Rattle.ll_parser.specs.Raw as raw
 use Rattle.ll_parser.specs.Text.{programs, queries}
 use Rattle.ll_parser.specs.Reads.{IsWhole}
-use Rattle.ll_parser.proofs.Sizes.{IsSmallProgram, small_program, small_query}
-use Rattle.ll_polarity.specs.Scope.{module_scope}
-use Rattle.ll_polarity.specs.Reading.{Met, Read, number_in, module_in, read_form}
+use Rattle.ll_parser.proofs.Counts.{few-clauses}
+use Rattle.ll_parser.proofs.Sizes.{small_program, small_query}
+use Rattle.ll_polarity.specs.Scope.{Scope, module_scope}
+use Rattle.ll_polarity.specs.Reading.{Met, number_in, read_form}
 use Rattle.ll_polarity.specs.Faults.{Heading, is_named, heading, clauses_faults, modules_faults, program_faults, query_faults}
-use Rattle.ll_polarity.specs.Asks.{Named, ProgramPart, module_names, read_clauses, read_module, read_modules, part_of, read_asked, modules_of, headings_of, problem_with}
+use Rattle.ll_polarity.specs.Asks.{module_names, read_clause, read_clauses, read_module, read_modules, part_of, read_asked, modules_of, headings_of, problem_with, Asks}
 use Rattle.ll_polarity.proofs.Grows.{More, more_refl, more_trans, more_named, numbered, number_below, longer_form, place_is}
 use Rattle.ll_polarity.proofs.Terms.{none_left, none_right, Room}
 use Rattle.ll_polarity.proofs.Forms.{IsGood, Finds, read_is_good}
@@ -34,6 +35,7 @@ find_any w (m ∷ rest) h e = by (bytes_eq w m.name.text) e (find_any w rest h)
   where
     any : Bool
     any = list_any (bytes_eq w) (map (λ m. m.name.text) rest)
+
     by : (b : Bool) → cond b (Some (heading m)) (find (is_named w) (map heading rest)) ≡ Some h → (find (is_named w) (map heading rest) ≡ Some h → any ≡ true)
         → b || any ≡ true
     by true e i = refl
@@ -48,10 +50,13 @@ module _ (ms : List (List ℕ)) (w : List ℕ) where
     where
       this : ModuleTree
       this = (read_module ms before m).it
+
       others : List ModuleTree
       others = (read_modules ms (read_module ms before m).names rest).it
+
       place : ℕ
       place = position_or_len (bytes_eq w) (map (λ m. m.name.text) rest)
+
       by : (b : Bool) → cond b (Some (heading m)) (find (is_named w) (map heading rest)) ≡ Some h
           → (find (is_named w) (map heading rest) ≡ Some h → (x : ModuleTree) × (slice_get others place ≡ Some x) × (x.params ≡ h.params))
           → (x : ModuleTree) × (slice_get (this ∷ others) (cond (not b) (1 + place) 0) ≡ Some x) × (x.params ≡ h.params)
@@ -111,6 +116,10 @@ part_valid p names h whole le =
       modules_valid (part_of p).modules ms heads (finds_program p) names before [] p.modules small.modules (none_right a b h) le,
     )
 
+length_clauses : (ms : List (List ℕ)) (scope : Scope) (names : List (List ℕ)) (cs : List raw.ClauseTree) → length (read_clauses ms scope names cs).it ≡ length cs
+length_clauses ms scope names [] = refl
+length_clauses ms scope names (c ∷ cs) = ap (λ z. suc z) (length_clauses ms scope (read_clause ms scope names c).names cs)
+
 -- ---- the variables of a query
 
 more_asked : (names : List (List ℕ)) (vs : List (Option (List ℕ))) → More names (read_asked names vs).names
@@ -129,3 +138,36 @@ asked_valid names (None ∷ vs) n le = asked_valid names vs n le
 asked_valid names (Some w ∷ vs) n le =
     let named = with_name names w in
     and_intro _ _ (lt-ltb (number_in named w) n (omega (arith, number_below names w, (more_asked named vs).longer))) (asked_valid named vs n le)
+
+-- ---- the problem
+
+-- the problem that a query asks of a program's part
+pub problem_valid : (p : ProgramTree) (query : Raw) (bound : ℕ) → program_faults p ≡ [] → query_faults (map heading p.modules) query ≡ [] → IsWhole programs p → IsWhole queries query
+    → bound ≤ 1000000 → IsValid (problem_with (part_of p) query bound)
+problem_valid p query bound faultless sorted whole_program whole_query le =
+    let part = part_of p in let heads = map heading p.modules in
+    let start : Met = record { names = part.names; variables = [] } in
+    let r = read_form (modules_of part) [] start query in
+    let asked = read_asked r.met.names r.met.variables in
+    let names : ℕ = length asked.names in
+    let room : Room = record { modules = part.modules; variables = length asked.it; names = names; most = largest_count } in
+    let finds = subst (λ ms. Finds part.modules ms heads) (sym (modules_of_part p)) (finds_program p) in
+    let small = small_query query whole_query in
+    let few = more_asked r.met.names r.met.variables in
+    let g : IsGood room GoalSide [] r.it =
+    read_is_good room (modules_of part) heads finds GoalSide [] start query small.form sorted (record { names = few.longer; variables = omega (arith, length_asked r.met.names r.met.variables) }) small.light in
+    let v = part_valid p names faultless whole_program (omega (arith, (longer_form (modules_of part) [] start query).names.longer, few.longer)) in
+    record {
+      goal = formula_of_fits (given part.modules (length asked.it)) GoalSide [] r.it g.fits;
+      goal_limits = record { named = g.named 0; leaves = g.leaves; arguments = g.arguments 0 };
+      clauses = v.0;
+      modules = v.1;
+      asked = asked_valid r.met.names r.met.variables names (omega arith);
+      clause_count = omega (arith, length_clauses (module_names p) [] [] p.clauses, few-clauses p whole_program);
+      bound = le;
+    }
+
+pub asked_problem_valid : (p : ProgramTree) (query : Raw) (bound : ℕ) (problem : ProblemTree) → Asks p query bound problem → IsWhole programs p → IsWhole queries query
+    → bound ≤ 1000000 → IsValid problem
+asked_problem_valid p query bound problem asks whole_program whole_query le =
+    subst IsValid (sym asks.is) (problem_valid p query bound asks.program_faultless asks.query_faultless whole_program whole_query le)

@@ -1,6 +1,6 @@
 -- A clause with its variables quantified over it holds no variable, and is as good as before.
 use Rattle.std.proofs.Common.{◌≡◌, ℕ, zero, suc, ◌+◌, ◌-◌, ◌<◌, ◌≤◌, Bool, true, false, List, [], ◌∷◌, ◌++◌, map, length, slice_get, Option, Some, None, if◌then◌else◌, refl, sym, subst, ap, ◌∙◌, arith, length-append, inl, inr}
-use Rattle.std.specs.Prelude.{◌&&◌, nat_eq, nat_lt, replicate, slice_index_or}
+use Rattle.std.specs.Prelude.{nat_eq, nat_lt, replicate, slice_index_or}
 use Rattle.std.specs.List.{list_all}
 use Rattle.std.proofs.lemmas.Bool.{ltb-true, lt-ltb, le-ltb, cases_lt}
 use Rattle.std.proofs.lemmas.List.{length-map, length-replicate}
@@ -68,6 +68,7 @@ moves_under n d b inner outer m = record {
         let l = ltb-true (suc k) (suc (length inner)) h in
         let g = ltb-true (moved_out n d k) (length outer) (m.place k (lt-ltb k (length inner) (omega arith))) in
         rw (moved_next n d k) (lt-ltb (suc (moved_out n d k)) (suc (length outer)) (omega arith))
+
     may : (k : ℕ) → slice_index_or (b ∷ inner) k false ≡ true → slice_index_or (b ∷ outer) (moved_out n (suc d) k) false ≡ true
     may zero h = rw (moved_first n d) h
     may (suc k) h = rw (moved_next n d k) (m.may k h)

@@ -47,13 +47,13 @@ variables_in_order : part_of (clauses (plain (binary op.ColonDash (at 1 5) (with
       names = codes "p" ∷ codes "q" ∷ codes "r" ∷ [];
       modules = [];
       clauses =
-        record {
-          kind = Unbounded;
-          form = Forall (Forall (Forall (Forall (Lolli
-            (Forall (Tensor (atom 1 (place 4 ∷ place 0 ∷ place 3 ∷ place 2 ∷ [])) (atom 2 (place 2 ∷ place 1 ∷ []))))
-            (atom 0 (place 3 ∷ []))))));
-        }
-        ∷ [];
+          record {
+            kind = Unbounded;
+            form = Forall (Forall (Forall (Forall (Lolli
+                (Forall (Tensor (atom 1 (place 4 ∷ place 0 ∷ place 3 ∷ place 2 ∷ [])) (atom 2 (place 2 ∷ place 1 ∷ []))))
+                (atom 0 (place 3 ∷ []))))));
+          }
+          ∷ [];
     }
 variables_in_order = refl
 
@@ -62,32 +62,32 @@ abbrev getter : ProgramTree
 getter = record {
   clauses = [];
   modules =
-    record {
-      name = named (codes "m") 1 8;
-      params = named (codes "X") 1 10 ∷ [];
-      locals = named (codes "k") 2 7 ∷ [];
-      clauses =
-        plain (with_one (codes "k") 3 1 (word (codes "X") 3 3))
-        ∷ plain (binary op.ColonDash (at 4 7) (with_one (codes "get") 4 1 (word (codes "Y") 4 5)) (with_one (codes "k") 4 10 (word (codes "Y") 4 12)))
-        ∷ [];
-    }
-    ∷ [];
+      record {
+        name = named (codes "m") 1 8;
+        params = named (codes "X") 1 10 ∷ [];
+        locals = named (codes "k") 2 7 ∷ [];
+        clauses =
+            plain (with_one (codes "k") 3 1 (word (codes "X") 3 3))
+            ∷ plain (binary op.ColonDash (at 4 7) (with_one (codes "get") 4 1 (word (codes "Y") 4 5)) (with_one (codes "k") 4 10 (word (codes "Y") 4 12)))
+            ∷ [];
+      }
+      ∷ [];
 }
 
 locals_and_parameters : part_of getter
     ≡ record {
       names = codes "m" ∷ codes "get" ∷ [];
       modules =
-        record {
-          name = 0;
-          params = 1;
-          locals = 1;
-          clauses =
-            record { kind = Unbounded; form = Atom (Ap (place 1) (place 0)) }
-            ∷ record { kind = Unbounded; form = Forall (Lolli (Atom (Ap (place 2) (place 0))) (atom 1 (place 0 ∷ []))) }
-            ∷ [];
-        }
-        ∷ [];
+          record {
+            name = 0;
+            params = 1;
+            locals = 1;
+            clauses =
+                record { kind = Unbounded; form = Atom (Ap (place 1) (place 0)) }
+                ∷ record { kind = Unbounded; form = Forall (Lolli (Atom (Ap (place 2) (place 0))) (atom 1 (place 0 ∷ []))) }
+                ∷ [];
+          }
+          ∷ [];
       clauses = [];
     }
 locals_and_parameters = refl

@@ -1,9 +1,8 @@
 -- What is read of a term without a fault: it mentions what there is, what has arguments may have them, and its numbers are small.
-use Rattle.std.proofs.Common.{◌≡◌, ℕ, suc, ◌+◌, ◌≤◌, Bool, true, false, List, [], ◌∷◌, ◌++◌, length, None, refl, ap, ◌∙◌, arith, length-append}
-use Rattle.std.specs.Prelude.{nat_lt}
+use Rattle.std.proofs.Common.{◌≡◌, ℕ, suc, ◌+◌, ◌≤◌, Bool, true, false, List, [], ◌∷◌, ◌++◌, length, None, refl, arith, length-append}
 use Rattle.std.specs.List.{list_all}
 use Rattle.std.proofs.lemmas.Bool.{lt-ltb, le-leb}
-use Rattle.ll_bank.specs.Term.{Term, Var, Ap, apply, arity}
+use Rattle.ll_bank.specs.Term.{Term, Ap, apply, arity}
 use Rattle.ll_lexer.specs.declared.Place.{Place}
 use Rattle.ll_lexer.specs.declared.Fault.{Fault}
 use Rattle.ll_laws.specs.Module.{ModuleTree}
@@ -12,11 +11,11 @@ use Rattle.ll_laws.specs.Valid as valid
 use Rattle.ll_laws.proofs.SubLaws.{and_left, and_right}
 use Rattle.ll_laws.proofs.ConsistentTerms.{and_intro, IsHead, Fit, AllFit}
 use Rattle.ll_parser.specs.Tokens.{Identifier}
-use Rattle.ll_parser.specs.Raw.{Raw, truth, erasure, braces, universal, existential, load, binary, head, anything, int, RawList, none, more}
+use Rattle.ll_parser.specs.Raw.{Raw, head, anything, int, RawList, none, more}
 use Rattle.ll_polarity.specs.Scope.{Scope, Meaning, Bound, Local, Free, Constant, meaning}
-use Rattle.ll_polarity.specs.Reading.{Met, Read, read_name, read_term, read_terms}
-use Rattle.ll_polarity.specs.Faults.{unless, count, may_be_head, applied_fault, term_faults, terms_faults}
-use Rattle.ll_polarity.proofs.Grows.{Longer, More, variable_below, number_below, longer_terms, longer_term}
+use Rattle.ll_polarity.specs.Reading.{Met, read_name, read_term, read_terms}
+use Rattle.ll_polarity.specs.Faults.{unless, may_be_head, applied_fault, term_faults, terms_faults}
+use Rattle.ll_polarity.proofs.Grows.{Longer, variable_below, number_below, longer_terms}
 use Rattle.ll_parser.proofs.Sizes.{weight, weights}
 use Rattle.ll_polarity.proofs.Weight.{count-le-weights, length-read_terms}
 use Rattle.ll_polarity.proofs.Meant.{places, Means, means}

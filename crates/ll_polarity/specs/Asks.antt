@@ -1,6 +1,7 @@
 -- The problem that a program and a query ask.
 use Rattle.std.specs.Prelude.{◌≡◌, ℕ, Bool, true, false, List, [], ◌∷◌, map, length, slice_index_or, Option, Some, None}
 use Rattle.ll_bank.specs.Names.{with_name}
+use Rattle.ll_lexer.specs.declared.Fault.{Fault}
 use Rattle.ll_laws.specs.declared.Kind.{Kind}
 use Rattle.ll_laws.specs.declared.Kind.TheVariants.{Linear, Unbounded}
 use Rattle.ll_laws.specs.Module.{ClauseTree, ModuleTree}
@@ -86,3 +87,15 @@ pub record Asks (program : ProgramTree) (query : Raw) (bound : ℕ) (p : Problem
   pub program_faultless : program_faults program ≡ []
   pub query_faultless : query_faults (map heading program.modules) query ≡ []
   pub is : p ≡ problem_with (part_of program) query bound
+
+-- it is the first of these faults, which stand in the order of the text
+abbrev pub IsFirst : Fault → List Fault → Type 0
+IsFirst f faults = (others : List Fault) × (faults ≡ f ∷ others)
+
+-- the first fault of scope or sorting in a program
+abbrev pub HasProgramFault : ProgramTree → Fault → Type 0
+HasProgramFault program f = IsFirst f (program_faults program)
+
+-- the first fault of scope or sorting in a query over a program's modules
+abbrev pub HasQueryFault : ProgramTree → Raw → Fault → Type 0
+HasQueryFault program query f = IsFirst f (query_faults (map heading program.modules) query)

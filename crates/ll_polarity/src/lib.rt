@@ -1,5 +1,6 @@
 //! Scope, and the sorting into goals and clauses: the problem that two texts ask.
 #![tactic(auto)]
 
-/// The texts of one program and one query ask one problem.
-pub fn one_problem() {}
+mod laws;
+
+pub use laws::{asked_is_valid, one_problem};

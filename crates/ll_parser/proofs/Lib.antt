@@ -20,3 +20,4 @@ pub mod PrintedTerms
 pub mod PrintedForms
 pub mod PrintedSpelled
 pub mod Sizes
+pub mod QuantifierWords

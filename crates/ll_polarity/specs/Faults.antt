@@ -1,5 +1,5 @@
 -- The faults of scope and sorting in a text, in the order of the text.
-use Rattle.std.specs.Prelude.{ℕ, suc, Bool, true, false, List, [], ◌∷◌, ◌++◌, map, length, nat_eq, if◌then◌else◌, Option, Some, None, flat_map, find}
+use Rattle.std.specs.Prelude.{◌≡◌, ◌⊎◌, ℕ, suc, Bool, true, false, List, [], ◌∷◌, ◌++◌, map, length, nat_eq, if◌then◌else◌, Option, Some, None, flat_map, find}
 use Rattle.std.specs.List.{list_any}
 use Rattle.std.specs.Str.{bytes_eq}
 use Rattle.ll_lexer.specs.declared.Place.{Place}
@@ -7,7 +7,7 @@ use Rattle.ll_lexer.specs.declared.Fault.{Fault}
 use Rattle.ll_laws.specs.Valid.{Side, GoalSide, ClauseSide}
 use Rattle.ll_parser.specs.declared.Op.{Op}
 use Rattle.ll_parser.specs.declared.Op.TheVariants as op
-use Rattle.ll_parser.specs.Tokens.{Identifier}
+use Rattle.ll_parser.specs.Tokens.{Identifier, Tok, tok_place}
 use Rattle.ll_parser.specs.Raw.{Raw, truth, erasure, braces, universal, existential, load, binary, head, RawList, none, more, ClauseTree, ModuleTree, ProgramTree}
 use Rattle.ll_polarity.specs.Scope.{Scope, binds, Meaning, Bound, Local, Free, Constant, meaning, module_scope}
 
@@ -126,3 +126,9 @@ program_faults p = let ms = map heading p.modules in clauses_faults ms [] p.clau
 -- the faults of a query over a program's modules
 abbrev pub query_faults : List Heading → Raw → List Fault
 query_faults ms goal = form_faults ms GoalSide [] goal
+
+-- the faults stand at tokens, each at a later one than the fault before it
+abbrev pub AreInOrder : List Fault → List Tok → Type 0
+AreInOrder [] ts = Unit {0}
+AreInOrder (f ∷ fs) [] = ⊥
+AreInOrder (f ∷ fs) (t ∷ ts) = ((f.at ≡ tok_place t) × AreInOrder fs ts) ⊎ AreInOrder (f ∷ fs) ts

@@ -3,4 +3,4 @@
 
 mod laws;
 
-pub use laws::{asked_is_valid, one_problem};
+pub use laws::{asked_is_valid, faults_in_order, one_problem};

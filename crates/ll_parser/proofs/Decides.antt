@@ -145,3 +145,14 @@ module _ (l : Language) (F : Type 0) (begin : F) (next : F → Tok → Option F)
       let h : parse_by d.step d.final d.start ts ≡ None = parse-run d.step d.final d.start ts ∙ ap (option_and_then d.final) b.1 ∙ n in
       let z : Some p ≡ None = sym q ∙ h in
       cc
+
+  -- what a tree is read from is taken, and ends with this tree
+  pub derived : (ts : List Tok) (r : l.Tree) → Derives l ts r → (x : F) × (run_by next begin ts ≡ Some x) × (end x ≡ Some r)
+  derived ts r (p, t, w) =
+      let q : parse_by d.step d.final d.start ts ≡ Some p = ap (parse_by d.step d.final d.start) (sym t) ∙ d.found p in
+      let f = ended (run_by d.step d.start ts) p (sym (parse-run d.step d.final d.start ts) ∙ q) in
+      (d.flat f.0, begin-agrees ts ∙ ap (option_map d.flat) f.1, d.ends_flat f.0 ∙ ap (option_map l.tree) f.2 ∙ ap (λ z. let o : Option l.Tree = Some z in o) w)
+    where
+      ended : (o : Option d.State) (p : l.Parse) → option_and_then d.final o ≡ Some p → (s : d.State) × (o ≡ Some s) × (d.final s ≡ Some p)
+      ended None p e = absurd cc
+      ended (Some s) p e = (s, refl, e)

@@ -21,3 +21,14 @@ pub mod PrintedForms
 pub mod PrintedSpelled
 pub mod Sizes
 pub mod QuantifierWords
+pub mod Room
+pub mod PrintedTermRoom
+pub mod PrintedRoom
+pub mod Bare
+pub mod BareTexts
+pub mod PrintedReads
+pub mod PrintedRows
+pub mod NumberText
+pub mod Lexing
+pub mod WrittenLexed
+pub mod WrittenRead

@@ -1,5 +1,5 @@
 -- What has been read of a program, as tokens: each token adds itself, and what is read has these tokens. Each state can be completed.
-use Rattle.std.proofs.Common.{◌≡◌, List, [], ◌∷◌, ◌++◌, Option, Some, None, option_and_then, refl, sym, ◌∙◌, ap, append_assoc, append-nil, IfSome}
+use Rattle.std.proofs.Common.{◌≡◌, List, [], ◌∷◌, ◌++◌, Option, Some, None, option_and_then, refl, sym, ◌∙◌, ap, append_assoc, append-nil, subst, IfSome}
 use Rattle.ll_lexer.specs.declared.Place.{Place}
 use Rattle.ll_parser.specs.Tokens.{Identifier, Tok, name, variable, true_word, module_word, local_word, linear_word, dot}
 use Rattle.ll_parser.specs.Text.{Clause, plain, linear, Local, Module, Program, clause_tokens, names, variables, local_tokens, heading_tokens, clauses_tokens, locals_tokens, module_tokens, modules_tokens, program_tokens}
@@ -72,7 +72,7 @@ next-local-extends at (within cs ms h ls []) = refl
 next-local-extends at (within cs ms h ls (d ∷ ds)) = tt
 
 start-extends : (d : Done) (t : Tok) → Extends (done_tokens d) t (enter unmarked d (step start t))
-start-extends d t = rw append-nil at (enter-extends unmarked d [] t (step start t) (step-adds start t))
+start-extends d t = subst (λ xs. Extends xs t (enter unmarked d (step start t))) (append-nil (done_tokens d)) (enter-extends unmarked d [] t (step start t) (step-adds start t))
 
 pub move-extends : (r : Reading) (t : Tok) → Extends (tokens_so_far r) t (move r t)
 move-extends (boundary d) (linear_word at) = refl

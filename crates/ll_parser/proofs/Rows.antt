@@ -1,9 +1,9 @@
 -- Worked examples: what some texts are read as, each evaluated by the checker. All their tokens stand in line 1.
-use Rattle.std.proofs.Common.{◌≡◌, ℕ, true, false, List, [], ◌∷◌, codes, refl, pos}
+use Rattle.std.proofs.Common.{◌≡◌, ℕ, zero, suc, true, false, List, [], ◌∷◌, ◌++◌, codes, refl, pos}
 use Rattle.ll_lexer.specs.declared.Place.{Place}
 use Rattle.ll_parser.specs.declared.Op.TheVariants as op
 use Rattle.ll_parser.specs.Tokens.{Identifier, Tok, name, variable, any, number, forall_word, exists_word, module_word, local_word, linear_word, true_word, dot, comma, ampersand, semicolon, paren_left, paren_right, brace_left, brace_right, backslash, cons_sign, colon_dash, left_arrow, right_arrow, lolli, load_arrow}
-use Rattle.ll_parser.specs.Raw.{Raw, braces, universal, existential, load, binary, head, anything, int, none, more, cons_raw, ProgramTree}
+use Rattle.ll_parser.specs.Raw.{Raw, truth, braces, universal, existential, load, binary, head, anything, int, none, more, cons_raw, ProgramTree}
 use Rattle.ll_parser.specs.Text.{programs, queries}
 use Rattle.ll_parser.specs.FlatText.{FlatProgram, program_start, program_step, program_final, FlatQuery, query_start, query_step, query_final}
 use Rattle.ll_parser.proofs.Programs.{decides-programs}
@@ -157,6 +157,26 @@ empty-query = refl
 -- `((a) , {` where two brackets may be open: the third that is open
 one-bracket-more : asks 1 9 (paren_left (at 1) ∷ name (id (codes "a") 2) ∷ paren_right (at 3) ∷ comma (at 5) ∷ brace_left (at 7) ∷ paren_left (at 8) ∷ []) ≡ fault (at 8) 6
 one-bracket-more = refl
+
+-- `p :- ((..(` with 1,001 brackets from column 6 on: the last one is at column 1006; with 1,000 the text ends early
+abbrev lefts : ℕ → ℕ → List Tok
+lefts zero column = []
+lefts (suc n) column = paren_left (at column) ∷ lefts n (suc column)
+
+past-the-limit : says 1007 (name (id (codes "p") 1) ∷ colon_dash (at 3) ∷ lefts 1001 6) ≡ fault (at 1006) 6
+past-the-limit = refl
+
+abbrev rights : ℕ → ℕ → List Tok → List Tok
+rights zero column ts = ts
+rights (suc n) column ts = paren_right (at column) ∷ rights n (suc column) ts
+
+-- and with all of them closed again it is a program
+within-the-limit : says 2011 (name (id (codes "p") 1) ∷ colon_dash (at 3) ∷ (lefts 1000 6 ++ true_word (at 1006) ∷ rights 1000 1010 (dot (at 2010) ∷ [])))
+    ≡ tree (record { clauses = record { linear = false; form = binary op.ColonDash (at 3) (atom (codes "p") 1) (truth (at 1006)) } ∷ []; modules = [] })
+within-the-limit = refl
+
+at-the-limit : says 1006 (name (id (codes "p") 1) ∷ colon_dash (at 3) ∷ lefts 1000 6) ≡ fault (at 1006) 5
+at-the-limit = refl
 
 -- `p (` where no bracket may be open, in a term
 bracket-in-term : asks 0 4 (name (id (codes "p") 1) ∷ paren_left (at 3) ∷ []) ≡ fault (at 3) 6

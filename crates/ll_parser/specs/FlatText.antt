@@ -106,14 +106,16 @@ phase_step w m locals (name n) = add_local w m n
 phase_step w m locals (dot at) = Some (record { whole = w; current = m; phase = boundary })
 phase_step w m locals _ = None
 
+-- what a token does to a program
 abbrev pub program_step : FlatProgram → Tok → Option FlatProgram
 program_step p t = phase_step p.whole p.current p.phase t
 
--- the whole program, if the tokens may end here
+-- the whole program, by the phase
 abbrev pub phase_final : ProgramTree → Option ModuleTree → Phase → Option ProgramTree
 phase_final w m boundary = Some (close_module w m)
 phase_final w m _ = None
 
+-- the whole program, if the tokens may end here
 abbrev pub program_final : FlatProgram → Option ProgramTree
 program_final p = phase_final p.whole p.current p.phase
 

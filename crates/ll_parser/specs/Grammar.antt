@@ -87,10 +87,12 @@ mutual
 
 -- ---- their tokens
 
+-- the token of a Name or a Variable
 abbrev pub word_token : Word → Tok
 word_token (lower n) = name n
 word_token (upper n) = variable n
 
+-- the tokens `:-` and `<=`, `-o` and `=>`, `forall` and `exists`
 abbrev pub clause_token : ClauseOp → Place → Tok
 clause_token by_colon at = colon_dash at
 clause_token by_left at = left_arrow at
@@ -156,6 +158,7 @@ abbrev mutual
 
 -- ---- their raw trees
 
+-- the text of a Name or a Variable, and its place
 abbrev pub word_identifier : Word → Identifier
 word_identifier (lower n) = n
 word_identifier (upper n) = n
@@ -181,6 +184,7 @@ abbrev mutual
   simples_raws no_more = none
   simples_raws (and_then ss s) = raws_then (simples_raws ss) (simple_raw s)
 
+-- the operators of raw trees
 abbrev pub clause_op : ClauseOp → Op
 clause_op by_colon = op.ColonDash
 clause_op by_left = op.LeftArrow
@@ -189,6 +193,7 @@ abbrev pub arrow_op : ArrowOp → Op
 arrow_op by_lolli = op.Lolli
 arrow_op by_right = op.RightArrow
 
+-- the raw tree of a quantified formula
 abbrev pub quantifier_raw : Quantifier → Place → Identifier → Raw → Raw
 quantifier_raw quantifier.Forall at n r = universal at n r
 quantifier_raw quantifier.Exists at n r = existential at n r

@@ -7,3 +7,5 @@ pub mod Flat
 pub mod FlatText
 pub mod Nodes
 pub mod Printed
+pub mod Bare
+pub mod Written

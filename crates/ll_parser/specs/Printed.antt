@@ -84,6 +84,7 @@ pub data Any : Bool → Type 0 where
 pub data Last : Type 0 where
   last : (o : Bool) → Any o → Last
 
+-- the raw tree of a form
 abbrev pub any_raw : {o : Bool} → Any o → Raw
 any_raw (at_formula f) = formula_raw f
 any_raw (at_arrow a) = arrow_raw a
@@ -95,6 +96,7 @@ any_raw (at_primary p) = primary_raw p
 abbrev pub last_raw : Last → Raw
 last_raw (last o a) = any_raw a
 
+-- a form as a formula
 abbrev pub to_formula : {o : Bool} → Any o → Formula o
 to_formula (at_formula f) = f
 to_formula (at_arrow a) = of_arrow a
@@ -109,6 +111,7 @@ in_parens (last o a) = bracket somewhere (to_formula a) somewhere
 
 -- ---- an operand that an operator follows: one that is too loose is put in brackets
 
+-- what stands on the right of `-o`, `=>` and `-->`, or on the right of `:-` and `<=`
 abbrev pub to_arrow : Any false → Last → Arrow false
 to_arrow (at_formula x) e = of_sum (of_with (of_tensor (of_primary (in_parens e))))
 to_arrow (at_arrow x) e = x
@@ -117,6 +120,7 @@ to_arrow (at_with x) e = of_sum (of_with x)
 to_arrow (at_tensor x) e = of_sum (of_with (of_tensor x))
 to_arrow (at_primary x) e = of_sum (of_with (of_tensor (of_primary x)))
 
+-- what stands on the left of `-o` and `=>`, or on the right of `;`
 abbrev pub to_sum : Any false → Last → Sum false
 to_sum (at_formula x) e = of_with (of_tensor (of_primary (in_parens e)))
 to_sum (at_arrow x) e = of_with (of_tensor (of_primary (in_parens e)))
@@ -125,6 +129,7 @@ to_sum (at_with x) e = of_with x
 to_sum (at_tensor x) e = of_with (of_tensor x)
 to_sum (at_primary x) e = of_with (of_tensor (of_primary x))
 
+-- what stands on the left of `;`, or on the right of `&`
 abbrev pub to_with : Any false → Last → With false
 to_with (at_formula x) e = of_tensor (of_primary (in_parens e))
 to_with (at_arrow x) e = of_tensor (of_primary (in_parens e))
@@ -133,6 +138,7 @@ to_with (at_with x) e = x
 to_with (at_tensor x) e = of_tensor x
 to_with (at_primary x) e = of_tensor (of_primary x)
 
+-- what stands on the left of `&`, or on the right of `,`
 abbrev pub to_tensor : Any false → Last → Tensor false
 to_tensor (at_formula x) e = of_primary (in_parens e)
 to_tensor (at_arrow x) e = of_primary (in_parens e)
@@ -141,6 +147,7 @@ to_tensor (at_with x) e = of_primary (in_parens e)
 to_tensor (at_tensor x) e = x
 to_tensor (at_primary x) e = of_primary x
 
+-- what stands on the left of `,`
 abbrev pub to_primary : Any false → Last → Primary false
 to_primary (at_formula x) e = in_parens e
 to_primary (at_arrow x) e = in_parens e
@@ -151,6 +158,7 @@ to_primary (at_primary x) e = x
 
 -- ---- an operand that is the last one: its end may be open, unless it is put in brackets
 
+-- the same places, and whether the end of what stands there is open
 abbrev pub arrow_open : Last → Bool
 arrow_open (last o (at_formula x)) = false
 arrow_open (last o (at_arrow x)) = o
@@ -267,6 +275,7 @@ abbrev mutual
 
 -- ---- programs
 
+-- a clause, a module and a program as they are printed
 abbrev pub printed_clause : ClauseTree → Clause
 printed_clause c = if c.linear then linear somewhere (last_formula (ending c.form)) somewhere else plain (last_formula (ending c.form)) somewhere
 

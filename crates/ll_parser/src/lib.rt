@@ -3,7 +3,7 @@
 
 mod laws;
 
-pub use laws::{one_program, one_query};
+pub use laws::{one_program, one_query, places_aside, printed_is_read};
 use ll_lexer::Place;
 
 /// A binary operator.

@@ -145,3 +145,99 @@ innermost_binder : (problem_with (part_of (clauses [])) (universal (at 1 1) (nam
     (binary op.Tensor (at 1 16) (with_one (codes "p") 1 12 (word (codes "x") 1 14)) (universal (at 1 18) (named (codes "x") 1 25) (with_one (codes "q") 1 28 (word (codes "x") 1 30))))) 1).goal
     ≡ Forall (Tensor (atom 0 (place 0 ∷ [])) (Forall (atom 1 (place 0 ∷ []))))
 innermost_binder = refl
+
+-- `((b ; c) -o a) -o d` in a query has no fault, and `(a -o (b ; c)) -o d` has one: sides change at the left of each implication
+goal_under_two_implications : query_faults []
+    (binary op.Lolli (at 1 17) (binary op.Lolli (at 1 10) (binary op.Plus (at 1 5) (word (codes "b") 1 3) (word (codes "c") 1 7)) (word (codes "a") 1 13)) (word (codes "d") 1 20))
+    ≡ []
+goal_under_two_implications = refl
+
+clause_under_an_implication : query_faults []
+    (binary op.Lolli (at 1 17) (binary op.Lolli (at 1 4) (word (codes "a") 1 2) (binary op.Plus (at 1 10) (word (codes "b") 1 8) (word (codes "c") 1 12))) (word (codes "d") 1 20))
+    ≡ record { at = at 1 10; kind = 7 } ∷ []
+clause_under_an_implication = refl
+
+-- `n --> a.` in a clause, where no module is called `n`
+unknown_module_in_a_clause : program_faults (clauses (plain (load (at 1 3) (named (codes "n") 1 1) none (word (codes "a") 1 7)) ∷ []))
+    ≡ record { at = at 1 1; kind = 10 } ∷ record { at = at 1 3; kind = 8 } ∷ []
+unknown_module_in_a_clause = refl
+
+-- `p (X a).`
+variable_with_arguments : program_faults (clauses (plain (with_one (codes "p") 1 1 (with_one (codes "X") 1 4 (word (codes "a") 1 6))) ∷ [])) ≡ record { at = at 1 4; kind = 9 } ∷ []
+variable_with_arguments = refl
+
+-- `MODULE m X. X.`
+parameter_as_predicate : program_faults (record {
+  clauses = [];
+  modules = record { name = named (codes "m") 1 8; params = named (codes "X") 1 10 ∷ []; locals = []; clauses = plain (word (codes "X") 1 13) ∷ [] } ∷ [];
+})
+    ≡ record { at = at 1 13; kind = 9 } ∷ []
+parameter_as_predicate = refl
+
+-- `MODULE m. MODULE m.`
+module_twice : program_faults (record {
+  clauses = [];
+  modules =
+      record { name = named (codes "m") 1 8; params = []; locals = []; clauses = [] }
+      ∷ record { name = named (codes "m") 2 8; params = []; locals = []; clauses = [] }
+      ∷ [];
+})
+    ≡ record { at = at 2 8; kind = 12 } ∷ []
+module_twice = refl
+
+-- `MODULE m. p :- m --> p.`: a module may load itself
+abbrev loads_itself : ProgramTree
+loads_itself = record {
+  clauses = [];
+  modules =
+      record {
+        name = named (codes "m") 1 8;
+        params = [];
+        locals = [];
+        clauses = plain (binary op.ColonDash (at 2 3) (word (codes "p") 2 1) (load (at 2 8) (named (codes "m") 2 6) none (word (codes "p") 2 12))) ∷ [];
+      }
+      ∷ [];
+}
+
+loads_itself_without_a_fault : program_faults loads_itself ≡ []
+loads_itself_without_a_fault = refl
+
+loads_itself_as_a_part : (part_of loads_itself).modules
+    ≡ record { name = 0; params = 0; locals = 0; clauses = record { kind = Unbounded; form = Lolli (Use 0 [] (atom 1 [])) (atom 1 []) } ∷ [] } ∷ []
+loads_itself_as_a_part = refl
+
+-- `MODULE m X Y. LOCAL a b. p a b X Y. p :- forall X\ q X.`: places count from the inside, first Y, then X, b and a
+places_of_a_module : (part_of (record {
+  clauses = [];
+  modules =
+      record {
+        name = named (codes "m") 1 8;
+        params = named (codes "X") 1 10 ∷ named (codes "Y") 1 12 ∷ [];
+        locals = named (codes "a") 2 7 ∷ named (codes "b") 2 9 ∷ [];
+        clauses =
+            plain (head (named (codes "p") 3 1) (more (word (codes "a") 3 3) (more (word (codes "b") 3 5) (more (word (codes "X") 3 7) (more (word (codes "Y") 3 9) none)))))
+            ∷ plain (binary op.ColonDash (at 4 3) (word (codes "p") 4 1) (universal (at 4 6) (named (codes "X") 4 13) (with_one (codes "q") 4 16 (word (codes "X") 4 18))))
+            ∷ [];
+      }
+      ∷ [];
+})).modules
+    ≡ record {
+      name = 0;
+      params = 2;
+      locals = 2;
+      clauses =
+          record { kind = Unbounded; form = atom 1 (place 3 ∷ place 2 ∷ place 1 ∷ place 0 ∷ []) }
+          ∷ record { kind = Unbounded; form = Lolli (Forall (atom 2 (place 0 ∷ []))) (atom 1 []) }
+          ∷ [];
+    }
+    ∷ []
+places_of_a_module = refl
+
+-- `p p (p 1).`: one name as a predicate, a constant and a function
+one_name_of_three_uses : part_of (clauses (plain (head (named (codes "p") 1 1) (more (word (codes "p") 1 3) (more (with_one (codes "p") 1 6 (int (at 1 8) (pos 1))) none))) ∷ []))
+    ≡ record {
+      names = codes "p" ∷ [];
+      modules = [];
+      clauses = record { kind = Unbounded; form = atom 0 (Con (Name 0) ∷ Ap (Con (Name 0)) (Int (pos 1)) ∷ []) } ∷ [];
+    }
+one_name_of_three_uses = refl

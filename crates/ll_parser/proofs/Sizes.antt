@@ -187,3 +187,40 @@ small_query tree (ts, few, spelled, ((q, e, f), within)) = subst (IsSmall 167772
     by : (q : Query) → length (query_tokens q) ≤ 16777216 → IsSmall 16777216 (query_tree q)
     by (bare g) le = small_of 16777216 (formula_raw g) (formula_tokens g) (light_formula g) le
     by (dotted g end) le = small_of 16777216 (formula_raw g) (formula_tokens g) (light_formula g) (let a = length-append (formula_tokens g) (dot end ∷ []) in omega arith)
+
+-- ---- all nodes of a program
+
+-- the nodes of the clauses
+abbrev pub clauses_weight : List ClauseTree → ℕ
+clauses_weight [] = 0
+clauses_weight (c ∷ cs) = weight c.form + clauses_weight cs
+
+-- the nodes of the modules, and one for the name of each
+abbrev pub modules_weight : List ModuleTree → ℕ
+modules_weight [] = 0
+modules_weight (m ∷ ms) = suc (clauses_weight m.clauses + modules_weight ms)
+
+light_clause : (c : Clause) → weight (clause_tree c).form ≤ length (clause_tokens c)
+light_clause (plain f end) = omega (arith, (light_formula f).light, length-append (formula_tokens f) (dot end ∷ []))
+light_clause (linear at f end) = omega (arith, (light_formula f).light, length-append (formula_tokens f) (dot end ∷ []))
+
+light_clauses : (cs : List Clause) → clauses_weight (map clause_tree cs) ≤ length (clauses_tokens cs)
+light_clauses [] = omega arith
+light_clauses (c ∷ cs) = let i = light_clause c in let j = light_clauses cs in omega (arith, length-append (clause_tokens c) (clauses_tokens cs))
+
+light_modules : (ms : List Module) → modules_weight (map module_tree ms) ≤ length (modules_tokens ms)
+light_modules [] = omega arith
+light_modules (m ∷ ms) =
+    let i = light_clauses m.clauses in let j = light_modules ms in
+    let e = length-append (module_tokens m) (modules_tokens ms) in
+    let h = length-append (heading_tokens m.heading) (locals_tokens m.locals ++ clauses_tokens m.clauses) in
+    let l = length-append (locals_tokens m.locals) (clauses_tokens m.clauses) in
+    omega arith
+
+-- a whole program has no more nodes than tokens
+pub few_nodes : (tree : ProgramTree) → IsWhole programs tree → clauses_weight tree.clauses + modules_weight tree.modules ≤ 16777216
+few_nodes tree (ts, few, spelled, ((p, e, f), within)) =
+    let le : length (program_tokens p) ≤ 16777216 = subst (λ z. length z ≤ 16777216) (sym e) few in
+    let l = length-append (clauses_tokens p.clauses) (modules_tokens p.modules) in
+    let i = light_clauses p.clauses in let j = light_modules p.modules in
+    subst (λ z. clauses_weight z.clauses + modules_weight z.modules ≤ 16777216) f (let k : clauses_weight (map clause_tree p.clauses) + modules_weight (map module_tree p.modules) ≤ 16777216 = omega arith in k)

@@ -25,6 +25,8 @@ pub mod Printable
 pub mod PrintedTerms
 pub mod PrintedForms
 pub mod PrintedSpelled
+pub mod Sizes
+pub mod QuantifierWords
 pub mod Room
 pub mod PrintedTermRoom
 pub mod PrintedRoom

@@ -1,0 +1,4 @@
+pub mod Scope
+pub mod Reading
+pub mod Faults
+pub mod Asks

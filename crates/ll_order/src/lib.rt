@@ -1,0 +1,8 @@
+//! Answers in the order of one engine: what a pool's reports tell, given to an outlet.
+#![tactic(auto)]
+
+mod order;
+mod outlet;
+
+pub use order::drain;
+pub use outlet::{OutFault, Outlet};

@@ -1,0 +1,88 @@
+//! Giving the reports of a pool to an outlet.
+ghost use Rattle.std.specs.Prelude.{◌≡◌, ◌+◌, ◌≤◌, ◌↔◌, Err, IfOk, OnOk, OnErr, count_by, ◌∷◌, []};
+ghost use Rattle.ll_laws.specs.declared.Event.{Event};
+ghost use Rattle.ll_laws.specs.Pool.{Taken};
+ghost use Rattle.ll_laws.specs.Search.{cut_count, is_answer, is_reached};
+ghost use Rattle.ll_laws.specs.Sound.{Each, Every};
+ghost use Rattle.ll_laws.specs.Later.{Later};
+ghost use Rattle.ll_order.specs.Outlets.{Rose, Gives, Refuses, CountsOf, events_left, cost_left};
+ghost use Rattle.ll_order.specs.declared.outlet.OutFault.TheVariants.{Write};
+
+use crate::outlet::{OutFault, Outlet};
+use ll_core::{Pool, Ready};
+use ll_laws::{Batch, Counts, Event};
+
+/// Gives an outlet all events that were not taken from the pool, in the order of one engine, and tells how many they were. Nothing is
+/// untried or open in the pool, and all these events are welcome.
+///
+/// After `Ok` every piece is taken. After a refusal, which is the outlet's, a prefix of the events was given, and the next one was
+/// refused. `Write` only where the outlet's count of faults rose.
+pub fn drain<N: Batch, O: Outlet>(pool: &mut Pool<N>, out: &mut O) -> Result<Counts, OutFault>
+    requires done { (pool.old.untried ≡ 0) × (pool.old.busy ≡ 0) }
+    requires welcome { Every (O.welcome out.old) (events_left N.alternatives pool.old) }
+    ensures given { OnOk result (Gives O.takes out.old (events_left N.alternatives pool.old) out.new) }
+    ensures counts { IfOk result (λ counts. CountsOf counts (events_left N.alternatives pool.old) (cost_left N.alternatives pool.old)) }
+    ensures all { OnOk result (Each pool.new.pieces (λ x. x.status ≡ Taken)) }
+    ensures refused { OnErr result (Refuses O.takes O.breaks out.old (events_left N.alternatives pool.old) out.new) }
+    ensures write { result ≡ Err Write → Rose (O.faults out.old) (O.faults out.new) }
+    ensures faults_kept { O.faults out.old ≤ O.faults out.new }
+    ensures welcome_kept { (e : Event) → O.welcome out.old e ↔ O.welcome out.new e }
+    ensures later { Later pool.old pool.new }
+{
+    let mut counts = Counts {
+        answers: 0,
+        reached: 0,
+        inferences: 0,
+    };
+    while let Ready::Events(report) = pool.ready() {
+        let inferences = counts.inferences.saturating_add(report.inferences);
+        let given = match give(report.events, out, counts) {
+            Ok(given) => given,
+            Err(fault) => return Err(fault),
+        };
+        counts = Counts {
+            inferences,
+            ..given
+        };
+    }
+    Ok(counts)
+}
+
+// Gives the events, which are welcome, and counts them.
+fn give<O: Outlet>(events: Vec<Event>, out: &mut O, mut counts: Counts) -> Result<Counts, OutFault>
+    requires welcome { Every (O.welcome out.old) events.items }
+    requires few { (counts.answers ≤ 18446744073709551615) × (counts.reached ≤ 18446744073709551615) }
+    ensures given { OnOk result (Gives O.takes out.old events.items out.new) }
+    ensures answers { IfOk result (λ new. new.answers ≡ cut_count (counts.answers + count_by is_answer events.items)) }
+    ensures reached { IfOk result (λ new. new.reached ≡ cut_count (counts.reached + count_by is_reached events.items)) }
+    ensures refused { OnErr result (Refuses O.takes O.breaks out.old events.items out.new) }
+    ensures write { result ≡ Err Write → Rose (O.faults out.old) (O.faults out.new) }
+    ensures faults_kept { O.faults out.old ≤ O.faults out.new }
+    ensures welcome_kept { (e : Event) → O.welcome out.old e ↔ O.welcome out.new e }
+{
+    for event in events {
+        counts = counted(counts, &event);
+        match out.event(event) {
+            Ok(()) => {}
+            Err(fault) => return Err(fault),
+        }
+    }
+    Ok(counts)
+}
+
+// The counts with one event more.
+fn counted(counts: Counts, event: &Event) -> Counts
+    ensures answers { result.answers ≡ cut_count (counts.answers + count_by is_answer (event.now ∷ [])) }
+    ensures reached { result.reached ≡ cut_count (counts.reached + count_by is_reached (event.now ∷ [])) }
+{
+    match event {
+        Event::Answer(_) => Counts {
+            answers: counts.answers.saturating_add(1),
+            ..counts
+        },
+        Event::Reached => Counts {
+            reached: counts.reached.saturating_add(1),
+            ..counts
+        },
+    }
+}

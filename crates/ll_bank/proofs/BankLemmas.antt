@@ -55,6 +55,11 @@ pub HasSize-all : (nodes : Nodes) → IsWellFounded nodes → HasSize nodes (siz
 HasSize-all nodes low = let e : front nodes (size_of nodes) ≡ nodes = (λ i. record { terms = take_whole nodes.terms i; forms = take_whole nodes.forms i }) in
     record { counts = ap size_of e; whole = subst IsWellFounded (sym e) low }
 
+-- and a bank that has its own size stands on lower nodes
+pub whole_of_size : (nodes : Nodes) (size : BankSize) → size ≡ size_of nodes → HasSize nodes size → IsWellFounded nodes
+whole_of_size nodes size is h =
+    subst IsWellFounded (ap (front nodes) is ∙ (λ i. record { terms = take_whole nodes.terms i; forms = take_whole nodes.forms i })) h.whole
+
 -- ---- the tree that a node builds depends on what is below it alone
 
 -- functions that agree below k map numbers below k alike
@@ -64,7 +69,7 @@ same_map f g k (x ∷ xs) h a =
     let e1 = h x (All-head (λ a. a < k) x xs a) in let e2 = same_map f g k xs h (All-tail (λ a. a < k) x xs a) in cc
 
 -- a term's node builds one term over trees that agree below it
-same_build_term : (trees trees' : List Term) (at : ℕ) → ((a : ℕ) → a < at → term_in trees a ≡ term_in trees' a) → (n : TermNode) → IsTermBelow at n
+pub same_build_term : (trees trees' : List Term) (at : ℕ) → ((a : ℕ) → a < at → term_in trees a ≡ term_in trees' a) → (n : TermNode) → IsTermBelow at n
     → build_term trees n ≡ build_term trees' n
 same_build_term trees trees' at h (VarNode x) w = refl
 same_build_term trees trees' at h (IntNode z) w = refl
@@ -72,7 +77,7 @@ same_build_term trees trees' at h (AppNode k args) w = ap (app k) (same_map (ter
 
 module _ (term term' : ℕ → Term) (terms : ℕ) (same : (a : ℕ) → a < terms → term a ≡ term' a) where
   -- and a formula's node one formula
-  same_build_form : (trees trees' : List Form) (at : ℕ) → ((f : ℕ) → f < at → form_in trees f ≡ form_in trees' f) → (n : FormulaNode) → IsFormBelow terms at n
+  pub same_build_form : (trees trees' : List Form) (at : ℕ) → ((f : ℕ) → f < at → form_in trees f ≡ form_in trees' f) → (n : FormulaNode) → IsFormBelow terms at n
       → build_form term trees n ≡ build_form term' trees' n
   same_build_form trees trees' at h TopNode w = refl
   same_build_form trees trees' at h OneNode w = refl
@@ -100,7 +105,7 @@ module _ (term term' : ℕ → Term) (terms : ℕ) (same : (a : ℕ) → a < ter
 
 module _ (old : Nodes) (low : IsWellFounded old) where
   -- a term's tree is what its node builds over all terms
-  term_tree-node : (at : ℕ) (d : TermNode) → HasTerm old at → term_tree old at ≡ build_term (all_terms old) (get_or old.terms at d)
+  pub term_tree-node : (at : ℕ) (d : TermNode) → HasTerm old at → term_tree old at ≡ build_term (all_terms old) (get_or old.terms at d)
   unfolding term_tree
   term_tree-node at d h =
       get_or-grow_at build_term old.terms at d (Var 0) h
@@ -113,7 +118,7 @@ module _ (old : Nodes) (low : IsWellFounded old) where
           (grow_kept build_term (take at old.terms) (drop at old.terms) a (Var 0) (omega arith)))
 
   -- a formula's tree is what its node builds over all formulas
-  form_tree-node : (at : ℕ) (d : FormulaNode) → HasForm old at
+  pub form_tree-node : (at : ℕ) (d : FormulaNode) → HasForm old at
       → form_tree old at ≡ build_form (term_tree old) (grow (build_form (term_tree old)) [] old.forms) (get_or old.forms at d)
   unfolding form_tree
   form_tree-node at d h =
@@ -226,7 +231,7 @@ below_places k (a ∷ args) h =
     All-cons (λ a. a < k) a.0 (places args) (All-head (λ (a : At). a.0 < k) a args h) (below_places k args (All-tail (λ (a : At). a.0 < k) a args h))
 
 -- and back
-places_below : (k : ℕ) (args : List At) → All (λ a. a < k) (places args) → All (λ a. a.0 < k) args
+pub places_below : (k : ℕ) (args : List At) → All (λ a. a < k) (places args) → All (λ a. a.0 < k) args
 places_below k args h = λ j d q. subst (λ z. z < k) (get_or-map (λ (a : At). a.0) args j d) (h j d.0 (simp length-map q))
 
 -- parts of a sign that are below lie below in its node
@@ -245,7 +250,7 @@ below_parts terms forms (ExistsView f) h = h
 below_parts terms forms (UseView m args f) h = (below_places terms args.now h.0, h.1)
 
 -- and back
-parts_below : (terms forms : ℕ) (view : FormNode) → IsFormBelow terms forms (node_of view) → HasPartsBelow terms forms view
+pub parts_below : (terms forms : ℕ) (view : FormNode) → IsFormBelow terms forms (node_of view) → HasPartsBelow terms forms view
 parts_below terms forms TopView h = tt
 parts_below terms forms OneView h = tt
 parts_below terms forms (AtomView a) h = h

@@ -1,7 +1,7 @@
 //! Terms and formulas, each at a place.
 ghost use Rattle.std.specs.Prelude.{◌≡◌, ℕ, ◌<◌, ◌≤◌, length, Some, IfOk, OnOk, OnErr, All, slice_get, slice_index};
 ghost use Rattle.ll_bank.specs.Term.{Var as VarTerm, Int as IntTerm, app as app_term, term_depth};
-ghost use Rattle.ll_bank.specs.Nodes.{no_nodes, VarNode, IntNode, AppNode, places, node_of_term, node_of, with_term, with_form, term_tree, term_trees, form_of, HasTerm, HasForm, AllInTerms, HasParts, ShowsTerm, ShowsForm, Extends, IsTermView, IsFormView, size_of, HasSize, IsCutTo};
+ghost use Rattle.ll_bank.specs.Nodes.{no_nodes, VarNode, IntNode, AppNode, places, node_of_term, node_of, with_term, with_form, term_tree, term_trees, form_of, HasTerm, HasForm, AllInTerms, HasParts, ShowsTerm, ShowsForm, Extends, IsTermView, IsFormView, IsTermBelow, size_of, HasSize, IsCutTo};
 ghost use Rattle.ll_bank.specs.Kept.{depth_over};
 
 use crate::flat::Flat;
@@ -163,6 +163,21 @@ impl Bank {
         let nodes = self.nodes.image(size)?;
         let depths = Vec::from_slice(self.alloc(), &self.depths[..size.terms])?;
         Ok(Bank { nodes, depths })
+    }
+
+    /// The term that the node builds. After a refusal the bank is as before.
+    pub(crate) fn add_term(&mut self, node: TermView<'_>) -> Result<(), OutOfMemory>
+        requires { IsTermBelow (length self.old.terms) (node_of_term node) }
+        ensures added { OnOk result (self.new ≡ with_term self.old (node_of_term node.entry)) }
+        ensures keeps { Extends self.old self.new }
+        ensures refused { OnErr result (self.new ≡ self.old) }
+    {
+        match node {
+            TermView::Var(number) => self.var(number)?,
+            TermView::Int(value) => self.int(value)?,
+            TermView::App(head, args) => self.app(head, args)?,
+        };
+        Ok(())
     }
 
     /// What the bank takes memory from.

@@ -107,6 +107,18 @@ impl Flat {
         store_app(&mut self.terms, &mut self.arguments, head, args)
     }
 
+    /// Puts a term behind the terms. After a refusal the nodes are as before.
+    pub(crate) fn push_term(&mut self, node: TermView<'_>) -> Result<(), OutOfMemory>
+        ensures added { OnOk result (self.new ≡ with_term self.old (node_of_term node.entry)) }
+        ensures refused { OnErr result (self.new ≡ self.old) }
+    {
+        match node {
+            TermView::Var(number) => self.push_var(number),
+            TermView::Int(value) => self.push_int(value),
+            TermView::App(head, args) => self.push_app(head, args),
+        }
+    }
+
     /// Puts a formula behind the formulas. After a refusal the nodes are as before.
     pub(crate) fn push_form(&mut self, node: FormNode<'_>) -> Result<(), OutOfMemory>
         ensures added { OnOk result (self.new ≡ with_form self.old (node_of node.entry)) }

@@ -1,8 +1,9 @@
 -- The places of the terms under some terms.
-use Rattle.std.specs.Prelude.{◌≡◌, ◌≢◌, ℕ, ◌<◌, Bool, true, List, [], length, slice_index, slice_index_or}
+use Rattle.std.specs.Prelude.{◌≡◌, ◌≢◌, ℕ, ◌<◌, Bool, true, Option, Some, List, [], length, slice_index, slice_index_or}
 use Rattle.std.specs.List.{Contains, All}
 use Rattle.ll_bank.specs.declared.At.{At}
-use Rattle.ll_bank.specs.Nodes.{Nodes, TermNode, VarNode, AppNode}
+use Rattle.ll_bank.specs.Term.{Term}
+use Rattle.ll_bank.specs.Nodes.{Nodes, TermNode, VarNode, AppNode, ShowsTerm, Extends}
 
 -- the places of a term's arguments
 abbrev pub arguments_of : TermNode → List ℕ
@@ -26,3 +27,16 @@ pub record IsWalking (nodes : Nodes) (roots : List At) (waits : ℕ → Bool) (p
   pub behind : (i a : ℕ) → i < length places → Contains (arguments_of (term_node_at nodes (slice_index places i))) a → waits a ≢ true
       → (j : ℕ) × ((i < j) × ((j < length places) × (slice_index places j ≡ a)))
   pub rooted : (k : ℕ) (d : At) → k < length roots → waits (slice_index_or roots k d).0 ≢ true → Contains places (slice_index_or roots k d).0
+
+-- the place has an image in the bank, which shows this term
+abbrev pub HasImage : Nodes → (ℕ → Option At) → ℕ → Term → Type 0
+HasImage bank images at tree = (image : At) × ((images at ≡ Some image) × ShowsTerm bank image.0 tree)
+
+-- each of the places has an image, which shows what is made of its term
+abbrev pub HasImages : Nodes → (ℕ → Option At) → (ℕ → Term) → List ℕ → Type 0
+HasImages bank images made places = (i : ℕ) → i < length places → HasImage bank images (slice_index places i) (made (slice_index places i))
+
+-- a bank on the way from an earlier one, in which these places have their images
+pub record IsCopying (old now : Nodes) (lookup : ℕ → Option At) (made : ℕ → Term) (places : List ℕ) : Type 0 where
+  pub keeps : Extends old now
+  pub images : HasImages now lookup made places

@@ -28,15 +28,19 @@ pub record IsWalking (nodes : Nodes) (roots : List At) (waits : ℕ → Bool) (p
       → (j : ℕ) × ((i < j) × ((j < length places) × (slice_index places j ≡ a)))
   pub rooted : (k : ℕ) (d : At) → k < length roots → waits (slice_index_or roots k d).0 ≢ true → Contains places (slice_index_or roots k d).0
 
--- the place has an image in the bank, which shows this term
-abbrev pub HasImage : Nodes → (ℕ → Option At) → ℕ → Term → Type 0
-HasImage bank images at tree = (image : At) × ((images at ≡ Some image) × ShowsTerm bank image.0 tree)
+-- the place has an image, which shows this
+abbrev pub HasImage : {X T : Type 0} → (X → T → Type 0) → (ℕ → Option X) → ℕ → T → Type 0
+HasImage {X} shows images at tree = (image : X) × ((images at ≡ Some image) × shows image tree)
 
--- each of the places has an image, which shows what is made of its term
-abbrev pub HasImages : Nodes → (ℕ → Option At) → (ℕ → Term) → List ℕ → Type 0
-HasImages bank images made places = (i : ℕ) → i < length places → HasImage bank images (slice_index places i) (made (slice_index places i))
+-- each of the places has an image, which shows what is made of it
+abbrev pub HasImages : {X T : Type 0} → (X → T → Type 0) → (ℕ → Option X) → (ℕ → T) → List ℕ → Type 0
+HasImages shows images made places = (i : ℕ) → i < length places → HasImage shows images (slice_index places i) (made (slice_index places i))
+
+-- the place of a term in the bank shows this term
+abbrev pub ShowsAt : Nodes → At → Term → Type 0
+ShowsAt bank at tree = ShowsTerm bank at.0 tree
 
 -- a bank on the way from an earlier one, in which these places have their images
 pub record IsCopying (old now : Nodes) (lookup : ℕ → Option At) (made : ℕ → Term) (places : List ℕ) : Type 0 where
   pub keeps : Extends old now
-  pub images : HasImages now lookup made places
+  pub images : HasImages (ShowsAt now) lookup made places

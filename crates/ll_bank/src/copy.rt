@@ -4,7 +4,7 @@ ghost use Rattle.std.specs.List.{Contains};
 ghost use Rattle.std.specs.Ordering.{nat_cmp};
 ghost use Rattle.std.specs.BTreeMap.{get};
 ghost use Rattle.ll_bank.specs.Nodes.{term_tree, HasTerm, ShowsTerm, Extends};
-ghost use Rattle.ll_bank.specs.Walk.{arguments_of, term_node_at, HasImage};
+ghost use Rattle.ll_bank.specs.Walk.{arguments_of, term_node_at, HasImage, ShowsAt};
 
 use crate::walk::terms_under;
 use crate::{At, Bank, OutOfMemory, TermView};
@@ -33,7 +33,7 @@ impl Bank {
 /// A copy of one term in the other bank, over the copies of its arguments.
 fn copied(bank: &Bank, at: At, images: &BTreeMap<usize, At>, other: &mut Bank) -> Result<At, OutOfMemory>
     requires inside { HasTerm bank.now at.0 }
-    requires images { (a : ℕ) → Contains (arguments_of (term_node_at bank.now at.0)) a → HasImage other.old (get nat_cmp images.now) a (term_tree bank.now a) }
+    requires images { (a : ℕ) → Contains (arguments_of (term_node_at bank.now at.0)) a → HasImage (ShowsAt other.old) (get nat_cmp images.now) a (term_tree bank.now a) }
     ensures shows { IfOk result (λ copy. ShowsTerm other.new copy.0 (term_tree bank.now at.0)) }
     ensures keeps { Extends other.old other.new }
 {

@@ -3,7 +3,7 @@ use Rattle.std.specs.Ordering.{nat_cmp}
 use Rattle.std.specs.BTreeMap.{get}
 use Rattle.std.specs.List.{Contains}
 use Rattle.ll_bank.specs.Nodes.{term_tree}
-use Rattle.ll_bank.specs.Walk.{IsInOrder}
+use Rattle.ll_bank.specs.Walk.{IsInOrder, ShowsAt}
 use Rattle.ll_bank.proofs.Trees.{Extends-refl}
 use Rattle.ll_bank.proofs.ImageLemmas.{copying_begins, copying_more, argument_images, root_image, image_found, image_shows}
 use Rattle.ll_bank.proofs.bank.Bank.copy_into.Goals as goal
@@ -16,7 +16,7 @@ loop-place-init c = copying_begins c.args.other.now (get nat_cmp c.new-images.re
 
 pub copied-requires-clause-images : goal.copied-requires-clause-images
 copied-requires-clause-images c =
-    argument_images c.args.self.now c.loop-place.other (get nat_cmp c.loop-place.images) (term_tree c.args.self.now) c.deref-place-items.result.now c.loop-place.place-index
+    argument_images c.args.self.now (ShowsAt c.loop-place.other) (get nat_cmp c.loop-place.images) (term_tree c.args.self.now) c.deref-place-items.result.now c.loop-place.place-index
     (subst (IsInOrder c.args.self.now) (sym c.deref-place-items.ensures.value) c.in_ok-places.ensures.order) (omega arith) c.loop-place.invariant.images
 
 pub loop-place-preserved : goal.loop-place-preserved
@@ -26,12 +26,12 @@ loop-place-preserved c =
 
 pub image_of-requires : goal.image_of-requires
 image_of-requires c =
-    image_found c.loop-place.other (get nat_cmp c.loop-place.images) c.args.at.0 (term_tree c.args.self.now c.args.at.0)
-    (root_image c.loop-place.other (get nat_cmp c.loop-place.images) (term_tree c.args.self.now) c.deref-place-items.result.now c.loop-place.place-index c.args.at.0 (omega arith)
+    image_found (ShowsAt c.loop-place.other) (get nat_cmp c.loop-place.images) c.args.at.0 (term_tree c.args.self.now c.args.at.0)
+    (root_image (get nat_cmp c.loop-place.images) (term_tree c.args.self.now) c.deref-place-items.result.now c.loop-place.place-index (ShowsAt c.loop-place.other) c.args.at.0 (omega arith)
     c.loop-place.invariant.images (subst (λ xs. Contains xs c.args.at.0) (sym c.deref-place-items.ensures.value) (c.in_ok-places.ensures.roots 0 c.args.at (omega arith))))
 
 pub returns-clause-shows : goal.returns-clause-shows
 returns-clause-shows c =
-    image_shows c.loop-place.other (get nat_cmp c.loop-place.images) c.args.at.0 (term_tree c.args.self.now c.args.at.0) c.image_of.result
-    (root_image c.loop-place.other (get nat_cmp c.loop-place.images) (term_tree c.args.self.now) c.deref-place-items.result.now c.loop-place.place-index c.args.at.0 (omega arith)
+    image_shows (ShowsAt c.loop-place.other) (get nat_cmp c.loop-place.images) c.args.at.0 (term_tree c.args.self.now c.args.at.0) c.image_of.result
+    (root_image (get nat_cmp c.loop-place.images) (term_tree c.args.self.now) c.deref-place-items.result.now c.loop-place.place-index (ShowsAt c.loop-place.other) c.args.at.0 (omega arith)
     c.loop-place.invariant.images (subst (λ xs. Contains xs c.args.at.0) (sym c.deref-place-items.ensures.value) (c.in_ok-places.ensures.roots 0 c.args.at (omega arith)))) c.image_of.ensures

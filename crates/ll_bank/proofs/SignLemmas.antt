@@ -174,11 +174,3 @@ number_more bank at args i old now next n m a c grows d l arg h = record {
         ∙ ap (λ xs. xs ++ term_tree bank (get_or args i d).0 ∷ []) (sym (take-map (λ (b : At). term_tree bank b.0) i args)))))));
   };
 }
-
--- all arguments
-pub number_all : (bank : Nodes) (at : ℕ) (args : List At) (i : ℕ) (old now : List Sign) (n : ℕ) → IsNumbering bank at args i old now n → length args ≤ i → (tree : Term)
-    → ((h : HeadType) → slice_get bank.terms at ≡ Some (AppNode h (places args)) → tree ≡ app h (term_trees bank args)) → HasNumber now n tree
-number_all bank at args i old now n c all tree is = record {
-  inside = c.number.inside;
-  is = c.number.is ∙ (ap (app c.head) (take_all i (term_trees bank args) (let e = length-map args (λ (b : At). term_tree bank b.0) in omega arith)) ∙ sym (is c.head c.node));
-}

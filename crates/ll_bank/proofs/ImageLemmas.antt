@@ -96,7 +96,7 @@ shown_images now lookup made (a ∷ args) [] e h = absurd (let x : ⊥ = cc in x
 shown_images now lookup made (a ∷ args) (v ∷ found) e h =
     let here = All-head (λ (b : At). HasImage (ShowsAt now) lookup b.0 (made b.0)) a args h in
     let rest = shown_images now lookup made args found (let t : map (λ (w : At). let o : Option At = Some w in o) found ≡ map (λ b. lookup b.0) args = cc in t)
-        (All-tail (λ (b : At). HasImage (ShowsAt now) lookup b.0 (made b.0)) a args h) in
+    (All-tail (λ (b : At). HasImage (ShowsAt now) lookup b.0 (made b.0)) a args h) in
     let first : Some v ≡ lookup a.0 = cc in
     let same : here.0 ≡ v = (let s : Some here.0 ≡ Some v = sym here.1.0 ∙ sym first in cc) in
     let shows = subst (λ w. ShowsTerm now w.0 (made a.0)) same here.1.1 in

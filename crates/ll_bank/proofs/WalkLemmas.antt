@@ -55,6 +55,7 @@ more_any old now next at k xs e f = f ∙ (ap (λ b. b || eqb at k) e ∙ by old
         rest : (b : Bool) → list_any (eqb at) (ys ++ k ∷ []) ≡ (list_any (eqb at) ys || eqb at k) → (b || list_any (eqb at) (ys ++ k ∷ [])) ≡ ((b || list_any (eqb at) ys) || eqb at k)
         rest true h = refl
         rest false h = h
+
     by : (o a : Bool) → ((o || a) || eqb at k) ≡ (o || (a || eqb at k))
     by true a = refl
     by false a = refl
@@ -129,16 +130,19 @@ module _ (nodes : Nodes) (roots : List At) (waits : ℕ → Bool) (places : List
 
   pub walk_roots : All (λ root. Contains (reverse places) root.0) roots
   walk_roots = λ k d l.
-      let n = length-reverse places in let found = w.rooted k d l (none (get_or roots k d).0) in let m = found.1 in
-      (length places - 1 - found.0, (omega arith), turned (length places - 1 - found.0) (get_or roots k d).0 (omega arith)
-      ∙ (ap (λ z. get_or places z (get_or roots k d).0) (let q : length places - 1 - (length places - 1 - found.0) ≡ found.0 = omega arith in q) ∙ found.2))
+      let n = length-reverse places in let found = w.rooted k d l (none (get_or roots k d).0) in let m = found.1 in (
+        length places - 1 - found.0,
+        (omega arith),
+        turned (length places - 1 - found.0) (get_or roots k d).0 (omega arith)
+            ∙ (ap (λ z. get_or places z (get_or roots k d).0) (let q : length places - 1 - (length places - 1 - found.0) ≡ found.0 = omega arith in q) ∙ found.2),
+      )
 
 -- each step lowers what waits
 pub ceiling_falls : (old popped next : List ℕ) (p : ℕ) (args : List ℕ) → old ≡ popped ++ p ∷ [] → All (λ q. IsLtBy nat_cmp q p) popped
     → ((at : ℕ) → list_any (is_at (nat_cmp at)) next ≡ (list_any (is_at (nat_cmp at)) popped || list_any (eqb at) args)) → All (λ a. a < p) args → ceiling next < ceiling old
 ceiling_falls old popped next p args is below ins lower =
     let a = ceiling-le next p (λ k d l. elim (or_cases (list_any (is_at (nat_cmp (get_or next k d))) popped) (list_any (eqb (get_or next k d)) args)
-        (sym (ins (get_or next k d)) ∙ has_at next (get_or next k d) k d l refl)) [
+    (sym (ins (get_or next k d)) ∙ has_at next (get_or next k d) k d l refl)) [
       | inl q ↦ has_below popped (get_or next k d) p (λ j e m. Less-nat (get_or popped j e) p (below j e m)) q
       | inr q ↦ any_below args (get_or next k d) p lower q
     ]) in

@@ -31,7 +31,12 @@ impl Bank {
 }
 
 /// A copy of one term in the other bank, over the copies of its arguments.
-fn copied(bank: &Bank, at: At, images: &BTreeMap<usize, At>, other: &mut Bank) -> Result<At, OutOfMemory>
+fn copied(
+    bank: &Bank,
+    at: At,
+    images: &BTreeMap<usize, At>,
+    other: &mut Bank,
+) -> Result<At, OutOfMemory>
     requires inside { HasTerm bank.now at.0 }
     requires images { (a : ℕ) → Contains (arguments_of (term_node_at bank.now at.0)) a → HasImage (ShowsAt other.old) (get nat_cmp images.now) a (term_tree bank.now a) }
     ensures shows { IfOk result (λ copy. ShowsTerm other.new copy.0 (term_tree bank.now at.0)) }
@@ -48,7 +53,11 @@ fn copied(bank: &Bank, at: At, images: &BTreeMap<usize, At>, other: &mut Bank) -
 }
 
 /// The images of places.
-pub(crate) fn images_of(alloc: Global, images: &BTreeMap<usize, At>, places: &[At]) -> Result<Vec<At>, OutOfMemory>
+pub(crate) fn images_of(
+    alloc: Global,
+    images: &BTreeMap<usize, At>,
+    places: &[At],
+) -> Result<Vec<At>, OutOfMemory>
     requires { All (λ a. IsSome (get nat_cmp images.now a.0)) places.now }
     ensures { IfOk result (λ found. map Some found.items ≡ map (λ a. get nat_cmp images.now a.0) places.now) }
 {

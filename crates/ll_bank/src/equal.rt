@@ -52,7 +52,12 @@ fn number_of(bank: &Bank, at: At, signs: &mut IndexSet<Sign>) -> Result<usize, O
 }
 
 /// The number of a term whose arguments have theirs.
-fn number_at(bank: &Bank, at: At, numbers: &BTreeMap<usize, usize>, signs: &mut IndexSet<Sign>) -> Result<usize, OutOfMemory>
+fn number_at(
+    bank: &Bank,
+    at: At,
+    numbers: &BTreeMap<usize, usize>,
+    signs: &mut IndexSet<Sign>,
+) -> Result<usize, OutOfMemory>
     requires inside { HasTerm bank.now at.0 }
     requires table { IsTable signs.old.keys }
     requires numbers { (a : ℕ) → Contains (arguments_of (term_node_at bank.now at.0)) a → HasImage (HasNumber signs.old.keys) (get nat_cmp numbers.now) a (term_tree bank.now a) }

@@ -186,7 +186,12 @@ impl Flat {
 }
 
 /// Puts a head behind the terms and its arguments behind the children. After a refusal both are as before.
-fn store_app(terms: &mut Vec<StoredTerm>, arguments: &mut Vec<At>, head: Head, args: &[At]) -> Result<(), OutOfMemory>
+fn store_app(
+    terms: &mut Vec<StoredTerm>,
+    arguments: &mut Vec<At>,
+    head: Head,
+    args: &[At],
+) -> Result<(), OutOfMemory>
     ensures stored { OnOk result (terms.new.items ≡ terms.old.items ++ StoredApp head (span_from (length arguments.old.items) (length args.now)) ∷ []) }
     ensures behind { OnOk result (arguments.new.items ≡ arguments.old.items ++ args.now) }
     ensures refused_terms { OnErr result (terms.new.items ≡ terms.old.items) }
@@ -203,7 +208,11 @@ fn store_app(terms: &mut Vec<StoredTerm>, arguments: &mut Vec<At>, head: Head, a
 }
 
 /// Puts a formula behind the formulas and its arguments behind the children. After a refusal both are as before.
-fn store_form(forms: &mut Vec<StoredForm>, arguments: &mut Vec<At>, node: FormNode<'_>) -> Result<(), OutOfMemory>
+fn store_form(
+    forms: &mut Vec<StoredForm>,
+    arguments: &mut Vec<At>,
+    node: FormNode<'_>,
+) -> Result<(), OutOfMemory>
     ensures stored { OnOk result (forms.new.items ≡ forms.old.items ++ stored_as (length arguments.old.items) node.entry ∷ []) }
     ensures behind { OnOk result (arguments.new.items ≡ arguments.old.items ++ load_arguments_of node.entry) }
     ensures refused_forms { OnErr result (forms.new.items ≡ forms.old.items) }

@@ -15,11 +15,12 @@ number_at-requires-clause-numbers c =
     (subst (IsInOrder c.args.bank.now) (sym c.deref-place-items.ensures.value) c.in_ok-places.ensures.order) (omega arith) c.loop-place.invariant.1
 
 pub loop-place-preserved : goal.loop-place-preserved
-loop-place-preserved c =
-    (Grows-trans c.loop-place.invariant.0 c.in_ok-number.ensures.grows,
-    images_more (get nat_cmp c.loop-place.numbers) (term_tree c.args.bank.now) c.deref-place-items.result.now c.loop-place.place-index (HasNumber c.loop-place.signs.keys)
-    (HasNumber c.number_at.new.signs.keys) (HasNumber-grows c.in_ok-number.ensures.grows) (get nat_cmp c.insert.new.self) (omega arith) c.loop-place.invariant.1 c.in_ok-number.number
-    c.in_ok-number.ensures.number c.in_ok-insert.ensures.updates.0)
+loop-place-preserved c = (
+  Grows-trans c.loop-place.invariant.0 c.in_ok-number.ensures.grows,
+  images_more (get nat_cmp c.loop-place.numbers) (term_tree c.args.bank.now) c.deref-place-items.result.now c.loop-place.place-index (HasNumber c.loop-place.signs.keys)
+      (HasNumber c.number_at.new.signs.keys) (HasNumber-grows c.in_ok-number.ensures.grows) (get nat_cmp c.insert.new.self) (omega arith) c.loop-place.invariant.1 c.in_ok-number.number
+      c.in_ok-number.ensures.number c.in_ok-insert.ensures.updates.0,
+)
 
 pub found-requires : goal.found-requires
 found-requires c =

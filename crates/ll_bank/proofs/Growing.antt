@@ -1,7 +1,8 @@
 -- Lists of trees that grow from nodes, one tree a node.
-use Rattle.std.proofs.Common.{◌≡◌, ℕ, zero, suc, ◌+◌, ◌<◌, List, [], ◌∷◌, ◌++◌, length, get_or, take, refl, ap, subst, ◌∙◌, arith, length-append}
+use Rattle.std.proofs.Common.{◌≡◌, ℕ, zero, suc, ◌+◌, ◌<◌, ◌≤◌, List, [], ◌∷◌, ◌++◌, length, get_or, take, drop, refl, ap, sym, subst, ◌∙◌, arith, length-append}
 use Rattle.std.proofs.Math.ListN.{get_or-append}
 use Rattle.std.proofs.Math.Seq.{get_or-append_seam}
+use Rattle.std.proofs.lemmas.List.{append-nil, take-append-drop, take-take, take_at, length-take-le, length_push}
 use Rattle.ll_bank.specs.Nodes.{grow}
 
 module _ {N T : Type 0} (build : List T → N → T) where
@@ -51,3 +52,20 @@ module _ {N T : Type 0} (build : List T → N → T) where
   -- from no trees
   pub get_or-grow_at : (ns : List N) (i : ℕ) (d : N) (e : T) → i < length ns → get_or (grow build [] ns) i e ≡ build (grow build [] (take i ns)) (get_or ns i d)
   get_or-grow_at ns i d e h = ap (λ k. get_or (grow build [] ns) k e) (let q : i ≡ 0 + i = omega arith in q) ∙ at_node [] ns i d e h
+
+  -- the trees that were there stand first
+  take-grow : (trees : List T) (ns : List N) → take (length trees) (grow build trees ns) ≡ trees
+  take-grow trees [] = ap (take (length trees)) (sym (append-nil trees)) ∙ take_at trees [] (length trees) refl
+  take-grow trees (n ∷ ns) =
+      let rest = grow build (trees ++ build trees n ∷ []) ns in let more = length_push trees (build trees n) in
+      sym (take-take (length trees) (length (trees ++ build trees n ∷ [])) rest (omega arith))
+      ∙ (ap (take (length trees)) (take-grow (trees ++ build trees n ∷ []) ns) ∙ take_at trees (build trees n ∷ []) (length trees) refl)
+
+  -- so the first nodes have the first trees
+  pub grow-take : (k : ℕ) (ns : List N) → k ≤ length ns → take k (grow build [] ns) ≡ grow build [] (take k ns)
+  grow-take k ns le =
+      let e = length-grow [] (take k ns) in let l = length-take-le k ns le in
+      ap (λ xs. take k (grow build [] xs)) (sym (take-append-drop k ns))
+      ∙ (ap (take k) (grow-append [] (take k ns) (drop k ns))
+      ∙ (ap (λ j. take j (grow build (grow build [] (take k ns)) (drop k ns))) (let q : k ≡ length (grow build [] (take k ns)) = omega arith in q)
+      ∙ take-grow (grow build [] (take k ns)) (drop k ns)))

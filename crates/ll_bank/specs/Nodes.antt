@@ -1,7 +1,8 @@
 -- A bank as its lists of nodes, and the trees that its places show.
-use Rattle.std.specs.Prelude.{◌≡◌, ℕ, ◌<◌, ◌++◌, ℤ, List, [], ◌∷◌, length, map, All, slice_index_or}
+use Rattle.std.specs.Prelude.{◌≡◌, ℕ, ◌<◌, ◌≤◌, ◌++◌, ℤ, List, [], ◌∷◌, length, map, take, All, sum_by, slice_index_or}
 use Rattle.ll_bank.specs.declared.Head.{Head}
 use Rattle.ll_bank.specs.declared.At.{At}
+use Rattle.ll_bank.specs.declared.BankSize.{BankSize}
 use Rattle.ll_bank.specs.declared.TermView.{TermView}
 use Rattle.ll_bank.specs.declared.TermView.TheVariants.{Var as VarView, Int as IntView, App as AppView}
 use Rattle.ll_bank.specs.declared.FormNode.{FormNode}
@@ -107,13 +108,97 @@ pub record ShowsForm (nodes : Nodes) (at : ℕ) (f : Form) : Type 0 where
   pub inside : HasForm nodes at
   pub tree : form_tree nodes at ≡ f
 
--- the later bank has the nodes of the earlier one and more behind them, and its old places show the trees that they showed
+-- ---- nodes over lower ones
+
+-- the arguments of a term are below a place
+abbrev pub IsTermBelow : ℕ → TermNode → Type 0
+IsTermBelow at (VarNode n) = Unit {0}
+IsTermBelow at (IntNode z) = Unit {0}
+IsTermBelow at (AppNode h args) = All (λ a. a < at) args
+
+-- the terms of a formula are below one place, and its formulas below another
+abbrev pub IsFormBelow : ℕ → ℕ → FormulaNode → Type 0
+IsFormBelow terms at TopNode = Unit {0}
+IsFormBelow terms at OneNode = Unit {0}
+IsFormBelow terms at (AtomNode a) = a < terms
+IsFormBelow terms at (WithNode f g) = (f < at) × (g < at)
+IsFormBelow terms at (TensorNode f g) = (f < at) × (g < at)
+IsFormBelow terms at (PlusNode f g) = (f < at) × (g < at)
+IsFormBelow terms at (BangNode f) = f < at
+IsFormBelow terms at (LolliNode f g) = (f < at) × (g < at)
+IsFormBelow terms at (ImpNode f g) = (f < at) × (g < at)
+IsFormBelow terms at (ForallNode f) = f < at
+IsFormBelow terms at (ExistsNode f) = f < at
+IsFormBelow terms at (UseNode m args f) = All (λ a. a < terms) args × (f < at)
+
+-- each node has its parts at lower places
+pub record IsWellFounded (nodes : Nodes) : Type 0 where
+  pub terms : (at : ℕ) (d : TermNode) → at < length nodes.terms → IsTermBelow at (slice_index_or nodes.terms at d)
+  pub forms : (at : ℕ) (d : FormulaNode) → at < length nodes.forms → IsFormBelow (length nodes.terms) at (slice_index_or nodes.forms at d)
+
+-- ---- sizes
+
+-- the number of a term's arguments
+abbrev pub argument_count : TermNode → ℕ
+argument_count (AppNode h args) = length args
+argument_count _ = 0
+
+-- the number of a load's arguments; other formulas have none
+abbrev pub load_argument_count : FormulaNode → ℕ
+load_argument_count (UseNode m args f) = length args
+load_argument_count _ = 0
+
+-- the numbers of terms, of formulas, and of the arguments of each
+abbrev pub size_of : Nodes → BankSize
+size_of nodes = record {
+  terms = length nodes.terms;
+  forms = length nodes.forms;
+  arguments = sum_by argument_count nodes.terms;
+  load_arguments = sum_by load_argument_count nodes.forms;
+}
+
+-- the first nodes, as many as the size counts
+abbrev pub front : Nodes → BankSize → Nodes
+front nodes size = record { terms = take size.terms nodes.terms; forms = take size.forms nodes.forms }
+
+-- the bank has this size: its first nodes are that many, with that many arguments, and have all their parts among themselves
+pub record HasSize (nodes : Nodes) (size : BankSize) : Type 0 where
+  pub counts : size_of (front nodes size) ≡ size
+  pub whole : IsWellFounded (front nodes size)
+
+-- no number of the first size is past that of the second
+pub record IsNotPast (size other : BankSize) : Type 0 where
+  pub terms : size.terms ≤ other.terms
+  pub forms : size.forms ≤ other.forms
+  pub arguments : size.arguments ≤ other.arguments
+  pub load_arguments : size.load_arguments ≤ other.load_arguments
+
+-- ---- a bank before and after
+
+-- the later bank has the nodes of the earlier one and more behind them, its old places show the trees that they showed, and it has each
+-- size that the earlier one had
 pub record Extends (old new : Nodes) : Type 0 where
   pub more_terms : List TermNode
   pub more_forms : List FormulaNode
   pub terms : new.terms ≡ old.terms ++ more_terms
   pub forms : new.forms ≡ old.forms ++ more_forms
   pub same_forms : (at : ℕ) → HasForm old at → form_tree new at ≡ form_tree old at
+  pub sizes : (size : BankSize) → HasSize old size → HasSize new size
+
+-- a term more, behind the others
+abbrev pub with_term : Nodes → TermNode → Nodes
+with_term nodes node = record { terms = nodes.terms ++ node ∷ []; forms = nodes.forms }
+
+-- a formula more, behind the others
+abbrev pub with_form : Nodes → FormulaNode → Nodes
+with_form nodes node = record { terms = nodes.terms; forms = nodes.forms ++ node ∷ [] }
+
+-- the new bank has exactly the places of a size of the old one, with the trees that they show there, and each size of the old one that is
+-- not past this one
+pub record IsCutTo (size : BankSize) (old new : Nodes) : Type 0 where
+  pub places : size_of new ≡ size
+  pub trees : Extends new old
+  pub sizes : (other : BankSize) → HasSize old other → IsNotPast other size → HasSize new other
 
 -- the formula that a sign with the places of its parts builds over the trees of the bank
 abbrev pub form_of : Nodes → FormNode → Form
@@ -129,6 +214,31 @@ form_of nodes (ImpView f g) = Imp (form_tree nodes f.0) (form_tree nodes g.0)
 form_of nodes (ForallView f) = Forall (form_tree nodes f.0)
 form_of nodes (ExistsView f) = Exists (form_tree nodes f.0)
 form_of nodes (UseView m args f) = Use m (term_trees nodes args.now) (form_tree nodes f.0)
+
+-- places as numbers
+abbrev pub places : List At → List ℕ
+places ats = map (λ a. a.0) ats
+
+-- the node that is seen of a term
+abbrev pub node_of_term : TermView → TermNode
+node_of_term (VarView n) = VarNode n
+node_of_term (IntView z) = IntNode z
+node_of_term (AppView h args) = AppNode h (places args.now)
+
+-- the node that is seen of a formula
+abbrev pub node_of : FormNode → FormulaNode
+node_of TopView = TopNode
+node_of OneView = OneNode
+node_of (AtomView a) = AtomNode a.0
+node_of (WithView f g) = WithNode f.0 g.0
+node_of (TensorView f g) = TensorNode f.0 g.0
+node_of (PlusView f g) = PlusNode f.0 g.0
+node_of (BangView f) = BangNode f.0
+node_of (LolliView f g) = LolliNode f.0 g.0
+node_of (ImpView f g) = ImpNode f.0 g.0
+node_of (ForallView f) = ForallNode f.0
+node_of (ExistsView f) = ExistsNode f.0
+node_of (UseView m args f) = UseNode m (places args.now) f.0
 
 -- the parts of a sign lie below these numbers of terms and of formulas
 abbrev pub HasPartsBelow : ℕ → ℕ → FormNode → Type 0

@@ -1,30 +1,19 @@
--- How a bank's vectors hold its nodes.
-use Rattle.std.specs.Prelude.{◌≡◌, ℕ, ◌<◌, ◌≤◌, ◌++◌, List, length, map, All, slice_range, slice_index_or, FitsSigned}
+-- How flat vectors hold nodes.
+use Rattle.std.specs.Prelude.{◌≡◌, ℕ, ◌+◌, ◌≤◌, List, [], ◌∷◌, length, map, All, slice_range, FitsSigned, Option, Some, None}
 use Rattle.std.specs.Int.{w64}
 use Rattle.ll_bank.specs.declared.At.{At}
-use Rattle.ll_bank.specs.declared.TermView.{TermView}
-use Rattle.ll_bank.specs.declared.TermView.TheVariants.{Var as VarView, Int as IntView, App as AppView}
 use Rattle.ll_bank.specs.declared.FormNode.{FormNode}
 use Rattle.ll_bank.specs.declared.FormNode.TheVariants.{Top as TopView, One as OneView, Atom as AtomView, With as WithView, Tensor as TensorView, Plus as PlusView, Bang as BangView, Lolli as LolliView, Imp as ImpView, Forall as ForallView, Exists as ExistsView, Use as UseView}
-use Rattle.ll_bank.specs.declared.bank.Span.{Span}
-use Rattle.ll_bank.specs.declared.bank.StoredTerm.{StoredTerm}
-use Rattle.ll_bank.specs.declared.bank.StoredTerm.TheVariants.{Var as StoredVar, Int as StoredInt, App as StoredApp}
-use Rattle.ll_bank.specs.declared.bank.StoredForm.{StoredForm}
-use Rattle.ll_bank.specs.declared.bank.StoredForm.TheVariants.{Top as StoredTop, One as StoredOne, Atom as StoredAtom, With as StoredWith, Tensor as StoredTensor, Plus as StoredPlus, Bang as StoredBang, Lolli as StoredLolli, Imp as StoredImp, Forall as StoredForall, Exists as StoredExists, Use as StoredUse}
-use Rattle.ll_bank.specs.Nodes.{Nodes, TermNode, VarNode, IntNode, AppNode, FormulaNode, TopNode, OneNode, AtomNode, WithNode, TensorNode, PlusNode, BangNode, LolliNode, ImpNode, ForallNode, ExistsNode, UseNode}
-
--- places as numbers
-abbrev pub places : List At → List ℕ
-places ats = map (λ a. a.0) ats
+use Rattle.ll_bank.specs.declared.flat.Span.{Span}
+use Rattle.ll_bank.specs.declared.flat.StoredTerm.{StoredTerm}
+use Rattle.ll_bank.specs.declared.flat.StoredTerm.TheVariants.{Var as StoredVar, Int as StoredInt, App as StoredApp}
+use Rattle.ll_bank.specs.declared.flat.StoredForm.{StoredForm}
+use Rattle.ll_bank.specs.declared.flat.StoredForm.TheVariants.{Top as StoredTop, One as StoredOne, Atom as StoredAtom, With as StoredWith, Tensor as StoredTensor, Plus as StoredPlus, Bang as StoredBang, Lolli as StoredLolli, Imp as StoredImp, Forall as StoredForall, Exists as StoredExists, Use as StoredUse}
+use Rattle.ll_bank.specs.Nodes.{Nodes, TermNode, VarNode, IntNode, AppNode, FormulaNode, TopNode, OneNode, AtomNode, WithNode, TensorNode, PlusNode, BangNode, LolliNode, ImpNode, ForallNode, ExistsNode, UseNode, places}
 
 -- the children of a span
 abbrev pub children_of : List At → Span → List At
 children_of children span = slice_range children span.from span.to
-
--- the later children are the earlier ones and more behind them
-pub record AddsTo (old new : List At) : Type 0 where
-  pub more : List At
-  pub is : new ≡ old ++ more
 
 -- the node of a stored term
 abbrev pub term_node : List At → StoredTerm → TermNode
@@ -48,29 +37,32 @@ form_node children (StoredExists f) = ExistsNode f.0
 form_node children (StoredUse m args f) = UseNode m (places (children_of children args)) f.0
 
 -- all nodes that are stored
-abbrev pub nodes_of : List At → List StoredTerm → List StoredForm → Nodes
-nodes_of children terms forms = record { terms = map (term_node children) terms; forms = map (form_node children) forms }
+abbrev pub nodes_of : List At → List At → List StoredTerm → List StoredForm → Nodes
+nodes_of arguments load_arguments terms forms = record { terms = map (term_node arguments) terms; forms = map (form_node load_arguments) forms }
 
--- the node that is seen of a term
-abbrev pub node_of_term : TermView → TermNode
-node_of_term (VarView n) = VarNode n
-node_of_term (IntView z) = IntNode z
-node_of_term (AppView h args) = AppNode h (places args.now)
+-- the span of so many children from a place on
+abbrev pub span_from : ℕ → ℕ → Span
+span_from from count = record { from = from; to = from + count }
 
--- the node that is seen of a formula
-abbrev pub node_of : FormNode → FormulaNode
-node_of TopView = TopNode
-node_of OneView = OneNode
-node_of (AtomView a) = AtomNode a.0
-node_of (WithView f g) = WithNode f.0 g.0
-node_of (TensorView f g) = TensorNode f.0 g.0
-node_of (PlusView f g) = PlusNode f.0 g.0
-node_of (BangView f) = BangNode f.0
-node_of (LolliView f g) = LolliNode f.0 g.0
-node_of (ImpView f g) = ImpNode f.0 g.0
-node_of (ForallView f) = ForallNode f.0
-node_of (ExistsView f) = ExistsNode f.0
-node_of (UseView m args f) = UseNode m (places args.now) f.0
+-- how a formula is stored, its arguments from a place on
+abbrev pub stored_as : ℕ → FormNode → StoredForm
+stored_as from TopView = StoredTop
+stored_as from OneView = StoredOne
+stored_as from (AtomView a) = StoredAtom a
+stored_as from (WithView f g) = StoredWith f g
+stored_as from (TensorView f g) = StoredTensor f g
+stored_as from (PlusView f g) = StoredPlus f g
+stored_as from (BangView f) = StoredBang f
+stored_as from (LolliView f g) = StoredLolli f g
+stored_as from (ImpView f g) = StoredImp f g
+stored_as from (ForallView f) = StoredForall f
+stored_as from (ExistsView f) = StoredExists f
+stored_as from (UseView m args f) = StoredUse m (span_from from (length args.now)) f
+
+-- the arguments of a load; other formulas have none
+abbrev pub load_arguments_of : FormNode → List At
+load_arguments_of (UseView m args f) = args.now
+load_arguments_of _ = []
 
 -- a span lies within the children
 abbrev pub IsWithin : List At → Span → Type 0
@@ -87,34 +79,25 @@ abbrev pub IsFormStored : List At → StoredForm → Type 0
 IsFormStored children (StoredUse m args f) = IsWithin children args
 IsFormStored children _ = Unit {0}
 
--- the arguments of a term are below a place
-abbrev pub IsTermBelow : ℕ → TermNode → Type 0
-IsTermBelow at (VarNode n) = Unit {0}
-IsTermBelow at (IntNode z) = Unit {0}
-IsTermBelow at (AppNode h args) = All (λ a. a < at) args
+-- where a stored term has its arguments
+abbrev pub term_span : StoredTerm → Option Span
+term_span (StoredApp h args) = Some args
+term_span _ = None
 
--- the terms of a formula are below one place, and its formulas below another
-abbrev pub IsFormBelow : ℕ → ℕ → FormulaNode → Type 0
-IsFormBelow terms at TopNode = Unit {0}
-IsFormBelow terms at OneNode = Unit {0}
-IsFormBelow terms at (AtomNode a) = a < terms
-IsFormBelow terms at (WithNode f g) = (f < at) × (g < at)
-IsFormBelow terms at (TensorNode f g) = (f < at) × (g < at)
-IsFormBelow terms at (PlusNode f g) = (f < at) × (g < at)
-IsFormBelow terms at (BangNode f) = f < at
-IsFormBelow terms at (LolliNode f g) = (f < at) × (g < at)
-IsFormBelow terms at (ImpNode f g) = (f < at) × (g < at)
-IsFormBelow terms at (ForallNode f) = f < at
-IsFormBelow terms at (ExistsNode f) = f < at
-IsFormBelow terms at (UseNode m args f) = All (λ a. a < terms) args × (f < at)
+-- where a stored load has its arguments
+abbrev pub form_span : StoredForm → Option Span
+form_span (StoredUse m args f) = Some args
+form_span _ = None
 
--- each node of a bank has its parts at lower places
-pub record IsWellFounded (nodes : Nodes) : Type 0 where
-  pub terms : (at : ℕ) (d : TermNode) → at < length nodes.terms → IsTermBelow at (slice_index_or nodes.terms at d)
-  pub forms : (at : ℕ) (d : FormulaNode) → at < length nodes.forms → IsFormBelow (length nodes.terms) at (slice_index_or nodes.forms at d)
+-- spans follow one another, from one place to another
+abbrev pub AreInTurn : ℕ → List (Option Span) → ℕ → Type 0
+AreInTurn from [] to = from ≡ to
+AreInTurn from (None ∷ spans) to = AreInTurn from spans to
+AreInTurn from (Some span ∷ spans) to = (span.from ≡ from) × (span.from ≤ span.to) × AreInTurn span.to spans to
 
--- the vectors of a bank hold its nodes
-pub record IsStored (children : List At) (terms : List StoredTerm) (forms : List StoredForm) : Type 0 where
-  pub each_term : All (IsTermStored children) terms
-  pub each_form : All (IsFormStored children) forms
-  pub lower : IsWellFounded (nodes_of children terms forms)
+-- the vectors hold nodes: each has its arguments among the children, and the nodes have theirs in turn
+pub record IsStored (arguments load_arguments : List At) (terms : List StoredTerm) (forms : List StoredForm) : Type 0 where
+  pub each_term : All (IsTermStored arguments) terms
+  pub each_form : All (IsFormStored load_arguments) forms
+  pub term_spans : AreInTurn 0 (map term_span terms) (length arguments)
+  pub form_spans : AreInTurn 0 (map form_span forms) (length load_arguments)

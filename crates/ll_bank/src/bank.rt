@@ -1,53 +1,23 @@
-//! The flat nodes of terms and formulas.
-ghost use Rattle.std.specs.Prelude.{◌≡◌, IfOk, OnErr};
-ghost use Rattle.ll_bank.specs.Term.{Var as VarTerm, Int as IntTerm, app as app_term};
-ghost use Rattle.ll_bank.specs.Nodes.{no_nodes, term_trees, form_of, HasTerm, HasForm, AllInTerms, HasParts, ShowsTerm, ShowsForm, Extends, IsTermView, IsFormView};
-ghost use Rattle.ll_bank.specs.Storage.{IsWithin, children_of, AddsTo, IsTermStored, IsFormStored, term_node, form_node, node_of_term, node_of};
+//! Terms and formulas, each at a place.
+ghost use Rattle.std.specs.Prelude.{◌≡◌, ℕ, ◌<◌, ◌≤◌, length, Some, IfOk, OnOk, OnErr, All, slice_get, slice_index};
+ghost use Rattle.ll_bank.specs.Term.{Var as VarTerm, Int as IntTerm, app as app_term, term_depth};
+ghost use Rattle.ll_bank.specs.Nodes.{no_nodes, VarNode, IntNode, AppNode, places, node_of_term, node_of, with_term, with_form, term_tree, term_trees, form_of, HasTerm, HasForm, AllInTerms, HasParts, ShowsTerm, ShowsForm, Extends, IsTermView, IsFormView, IsTermBelow, size_of, HasSize, IsCutTo};
+ghost use Rattle.ll_bank.specs.Kept.{depth_over};
 
-use crate::{At, FormAt, FormNode, Head, OutOfMemory, TermView};
+use crate::flat::Flat;
+use crate::{At, BankSize, FormAt, FormNode, Head, OutOfMemory, TermView};
 use std::alloc::Global;
 use std::marker::Model;
 
-/// A range of the children that all nodes share.
-#[derive(Clone, Copy)]
-struct Span {
-    from: usize,
-    to: usize,
-}
-
-/// A term's node.
-#[derive(Clone, Copy)]
-enum StoredTerm {
-    Var(u64),
-    Int(i64),
-    App(Head, Span),
-}
-
-/// A formula's node.
-#[derive(Clone, Copy)]
-enum StoredForm {
-    Top,
-    One,
-    Atom(At),
-    With(FormAt, FormAt),
-    Tensor(FormAt, FormAt),
-    Plus(FormAt, FormAt),
-    Bang(FormAt),
-    Lolli(FormAt, FormAt),
-    Imp(FormAt, FormAt),
-    Forall(FormAt),
-    Exists(FormAt),
-    Use(u32, Span, FormAt),
-}
-
 /// Terms and formulas, each at a place, whose parts lie at lower places.
 ///
-/// Contracts see the list of its nodes, and a place as the tree that it shows. No call changes the tree of a place that it has.
+/// Contracts see the list of its nodes, and a place as the tree that it shows. No call that adds places changes the tree of a place that
+/// it has.
 #[derive(Drop)]
 pub struct Bank {
-    terms: Vec<StoredTerm>,
-    forms: Vec<StoredForm>,
-    children: Vec<At>,
+    nodes: Flat,
+    // The depth of each term.
+    depths: Vec<usize>,
 }
 
 impl Model for Bank {
@@ -55,11 +25,11 @@ impl Model for Bank {
 
     ghost Value = { Nodes };
 
-    ghost use Rattle.ll_bank.specs.Storage.{nodes_of, IsStored};
+    ghost use Rattle.ll_bank.specs.Kept.{IsKept};
 
-    ghost view = { λ bank. nodes_of bank.children.items bank.terms.items bank.forms.items };
+    ghost view = { λ bank. bank.nodes };
 
-    ghost invariant = { λ bank. IsStored bank.children.items bank.terms.items bank.forms.items };
+    ghost invariant = { λ bank. IsKept bank.nodes bank.depths.items };
 }
 
 impl Bank {
@@ -68,147 +38,163 @@ impl Bank {
         ensures { result ≡ no_nodes }
     {
         Bank {
-            terms: Vec::new(alloc),
-            forms: Vec::new(alloc),
-            children: Vec::new(alloc),
+            nodes: Flat::new(alloc),
+            depths: Vec::new(alloc),
         }
     }
 
     /// The variable with this number. After a refusal the bank is as before.
     pub fn var(&mut self, number: u64) -> Result<At, OutOfMemory>
         ensures shows { IfOk result (λ at. ShowsTerm self.new at.0 (VarTerm number)) }
+        ensures added { OnOk result (self.new ≡ with_term self.old (VarNode number)) }
         ensures keeps { Extends self.old self.new }
         ensures refused { OnErr result (self.new ≡ self.old) }
     {
-        let at = At(self.terms.len());
-        self.terms.push(StoredTerm::Var(number))?;
-        Ok(at)
+        let at = At(self.depths.len());
+        self.depths.push(0)?;
+        match self.nodes.push_var(number) {
+            Ok(()) => Ok(at),
+            Err(refused) => {
+                self.depths.truncate(at.0);
+                Err(refused)
+            }
+        }
     }
 
     /// A whole number. After a refusal the bank is as before.
     pub fn int(&mut self, value: i64) -> Result<At, OutOfMemory>
         ensures shows { IfOk result (λ at. ShowsTerm self.new at.0 (IntTerm value)) }
+        ensures added { OnOk result (self.new ≡ with_term self.old (IntNode value)) }
         ensures keeps { Extends self.old self.new }
         ensures refused { OnErr result (self.new ≡ self.old) }
     {
-        let at = At(self.terms.len());
-        self.terms.push(StoredTerm::Int(value))?;
-        Ok(at)
+        let at = At(self.depths.len());
+        self.depths.push(0)?;
+        match self.nodes.push_int(value) {
+            Ok(()) => Ok(at),
+            Err(refused) => {
+                self.depths.truncate(at.0);
+                Err(refused)
+            }
+        }
     }
 
     /// A head with arguments. After a refusal the bank is as before.
     pub fn app(&mut self, head: Head, args: &[At]) -> Result<At, OutOfMemory>
         requires { AllInTerms self.old args.now }
         ensures shows { IfOk result (λ at. ShowsTerm self.new at.0 (app_term head (term_trees self.old args.now))) }
+        ensures added { OnOk result (self.new ≡ with_term self.old (AppNode head (places args.now))) }
         ensures keeps { Extends self.old self.new }
         ensures refused { OnErr result (self.new ≡ self.old) }
     {
-        let span = store(&mut self.children, args)?;
-        let at = At(self.terms.len());
-        self.terms.push(StoredTerm::App(head, span))?;
-        Ok(at)
+        let at = At(self.depths.len());
+        let depth = deepest(&self.depths, args);
+        self.depths.push(depth)?;
+        match self.nodes.push_app(head, args) {
+            Ok(()) => Ok(at),
+            Err(refused) => {
+                self.depths.truncate(at.0);
+                Err(refused)
+            }
+        }
     }
 
     /// The formula that the node builds. After a refusal the bank is as before.
     pub fn form(&mut self, node: FormNode<'_>) -> Result<FormAt, OutOfMemory>
         requires { HasParts self.old node }
         ensures shows { IfOk result (λ at. ShowsForm self.new at.0 (form_of self.old node.entry)) }
+        ensures added { OnOk result (self.new ≡ with_form self.old (node_of node.entry)) }
         ensures keeps { Extends self.old self.new }
         ensures refused { OnErr result (self.new ≡ self.old) }
     {
-        let stored = stored_form(&mut self.children, node)?;
-        let at = FormAt(self.forms.len());
-        self.forms.push(stored)?;
+        let at = FormAt(self.nodes.size().forms);
+        self.nodes.push_form(node)?;
         Ok(at)
     }
 
     /// What stands at the place of a term.
     pub fn term_at(&self, at: At) -> TermView<'_>
         requires { HasTerm self.now at.0 }
-        ensures { IsTermView self.now at.0 result }
+        ensures shown { IsTermView self.now at.0 result }
+        ensures node { slice_get self.now.terms at.0 ≡ Some (node_of_term result) }
     {
-        shown_term(&self.children, self.terms[at.0])
+        self.nodes.term(at.0)
     }
 
     /// What stands at the place of a formula.
     pub fn form_at(&self, at: FormAt) -> FormNode<'_>
         requires { HasForm self.now at.0 }
-        ensures { IsFormView self.now at.0 result }
+        ensures shown { IsFormView self.now at.0 result }
+        ensures node { slice_get self.now.forms at.0 ≡ Some (node_of result) }
     {
-        shown_form(&self.children, self.forms[at.0])
+        self.nodes.form(at.0)
+    }
+
+    /// The depth of a term: 0 without arguments, else one more than that of its deepest argument. It takes constant time.
+    pub fn depth(&self, at: At) -> usize
+        requires { HasTerm self.now at.0 }
+        ensures { result ≡ term_depth (term_tree self.now at.0) }
+    {
+        self.depths[at.0]
+    }
+
+    /// The numbers of terms, of formulas, and of the children of each.
+    pub fn size(&self) -> BankSize
+        ensures is { result ≡ size_of self.now }
+        ensures had { HasSize self.now result }
+    {
+        self.nodes.size()
+    }
+
+    /// Leaves the places of a size, with their trees. The others go.
+    pub fn cut(&mut self, size: BankSize)
+        requires { HasSize self.old size }
+        ensures { IsCutTo size self.old self.new }
+    {
+        self.nodes.cut(size);
+        self.depths.truncate(size.terms);
+    }
+
+    /// A bank with exactly the places of a size, each with its tree.
+    pub fn image(&self, size: BankSize) -> Result<Bank, OutOfMemory>
+        requires { HasSize self.now size }
+        ensures { IfOk result (IsCutTo size self.now) }
+    {
+        let nodes = self.nodes.image(size)?;
+        let depths = Vec::from_slice(self.alloc(), &self.depths[..size.terms])?;
+        Ok(Bank { nodes, depths })
+    }
+
+    /// The term that the node builds. After a refusal the bank is as before.
+    pub(crate) fn add_term(&mut self, node: TermView<'_>) -> Result<(), OutOfMemory>
+        requires { IsTermBelow (length self.old.terms) (node_of_term node) }
+        ensures added { OnOk result (self.new ≡ with_term self.old (node_of_term node.entry)) }
+        ensures keeps { Extends self.old self.new }
+        ensures refused { OnErr result (self.new ≡ self.old) }
+    {
+        match node {
+            TermView::Var(number) => self.var(number)?,
+            TermView::Int(value) => self.int(value)?,
+            TermView::App(head, args) => self.app(head, args)?,
+        };
+        Ok(())
+    }
+
+    /// What the bank takes memory from.
+    pub(crate) fn alloc(&self) -> Global {
+        self.nodes.alloc()
     }
 }
 
-/// Puts places behind the children. After a refusal the children are as before.
-fn store(children: &mut Vec<At>, places: &[At]) -> Result<Span, OutOfMemory>
-    ensures span { IfOk result (λ span. IsWithin children.new.items span) }
-    ensures places { IfOk result (λ span. children_of children.new.items span ≡ places.now) }
-    ensures behind { AddsTo children.old.items children.new.items }
+/// One more than the depth of the deepest argument, or 0 without arguments.
+fn deepest(depths: &[usize], args: &[At]) -> usize
+    requires inside { All (λ a. a.0 < length depths.now) args.now }
+    requires small { (k : ℕ) → k < length depths.now → slice_index depths.now k ≤ k }
+    ensures { result ≡ depth_over depths.now args.now }
 {
-    let from = children.len();
-    children.extend_from_slice(places)?;
-    Ok(Span {
-        from,
-        to: children.len(),
-    })
-}
-
-/// The node as it is stored, with its arguments behind the children.
-fn stored_form(children: &mut Vec<At>, node: FormNode<'_>) -> Result<StoredForm, OutOfMemory>
-    ensures stored { IfOk result (IsFormStored children.new.items) }
-    ensures node { IfOk result (λ form. form_node children.new.items form ≡ node_of node.entry) }
-    ensures behind { AddsTo children.old.items children.new.items }
-{
-    match node {
-        FormNode::Top => Ok(StoredForm::Top),
-        FormNode::One => Ok(StoredForm::One),
-        FormNode::Atom(atom) => Ok(StoredForm::Atom(atom)),
-        FormNode::With(left, right) => Ok(StoredForm::With(left, right)),
-        FormNode::Tensor(left, right) => Ok(StoredForm::Tensor(left, right)),
-        FormNode::Plus(left, right) => Ok(StoredForm::Plus(left, right)),
-        FormNode::Bang(goal) => Ok(StoredForm::Bang(goal)),
-        FormNode::Lolli(clause, goal) => Ok(StoredForm::Lolli(clause, goal)),
-        FormNode::Imp(clause, goal) => Ok(StoredForm::Imp(clause, goal)),
-        FormNode::Forall(body) => Ok(StoredForm::Forall(body)),
-        FormNode::Exists(body) => Ok(StoredForm::Exists(body)),
-        FormNode::Use(module, args, goal) => {
-            let span = store(children, args)?;
-            Ok(StoredForm::Use(module, span, goal))
-        }
+    let mut deepest = 0;
+    for arg in args {
+        deepest = deepest.max(depths[arg.0] + 1);
     }
-}
-
-/// A stored term as callers see it.
-fn shown_term(children: &[At], term: StoredTerm) -> TermView<'_>
-    requires { IsTermStored children.now term }
-    ensures { node_of_term result ≡ term_node children.now term }
-{
-    match term {
-        StoredTerm::Var(number) => TermView::Var(number),
-        StoredTerm::Int(value) => TermView::Int(value),
-        StoredTerm::App(head, args) => TermView::App(head, &children[args.from..args.to]),
-    }
-}
-
-/// A stored formula as callers see it.
-fn shown_form(children: &[At], form: StoredForm) -> FormNode<'_>
-    requires { IsFormStored children.now form }
-    ensures { node_of result ≡ form_node children.now form }
-{
-    match form {
-        StoredForm::Top => FormNode::Top,
-        StoredForm::One => FormNode::One,
-        StoredForm::Atom(atom) => FormNode::Atom(atom),
-        StoredForm::With(left, right) => FormNode::With(left, right),
-        StoredForm::Tensor(left, right) => FormNode::Tensor(left, right),
-        StoredForm::Plus(left, right) => FormNode::Plus(left, right),
-        StoredForm::Bang(goal) => FormNode::Bang(goal),
-        StoredForm::Lolli(clause, goal) => FormNode::Lolli(clause, goal),
-        StoredForm::Imp(clause, goal) => FormNode::Imp(clause, goal),
-        StoredForm::Forall(body) => FormNode::Forall(body),
-        StoredForm::Exists(body) => FormNode::Exists(body),
-        StoredForm::Use(module, args, goal) => {
-            FormNode::Use(module, &children[args.from..args.to], goal)
-        }
-    }
+    deepest
 }

@@ -1,8 +1,8 @@
 //! Each public call once, with ample memory.
-ghost use Rattle.std.specs.Prelude.{◌≤◌, length, IfOk};
-ghost use Rattle.ll_bank.specs.Nodes.{HasForm, HasParts};
+ghost use Rattle.std.specs.Prelude.{◌≡◌, ◌≤◌, length, IfOk};
+ghost use Rattle.ll_bank.specs.Nodes.{HasForm, HasTerm, HasParts, HasSize, Extends, size_of};
 
-use crate::{Bank, FormAt, FormNode, Head, Names, TermView};
+use crate::{At, Bank, BankSize, BankTail, FormAt, FormNode, Head, Names, OutOfMemory, TermView};
 use std::process::Abort;
 use std::test::Fail;
 
@@ -61,5 +61,71 @@ fn reads_formulas_back(rt: HostRuntime) -> Result<(), Fail> {
     read_back(&rt, &mut bank, FormNode::Imp(left, right))?;
     read_back(&rt, &mut bank, FormNode::Forall(left))?;
     read_back(&rt, &mut bank, FormNode::Exists(left))?;
+    Ok(())
+}
+
+// A term that has its only argument twice, at each of so many levels.
+fn doubled(bank: &mut Bank, levels: u32) -> Result<At, OutOfMemory>
+    ensures { IfOk result (λ at. HasTerm bank.new at.0) }
+{
+    let mut at = bank.app(Head::Name(0), &[])?;
+    for _ in 0..levels {
+        at = bank.app(Head::Name(1), &[at, at])?;
+    }
+    Ok(at)
+}
+
+#[test]
+fn copies_what_is_shared_once(rt: HostRuntime) -> Result<(), Fail> {
+    let mut bank = Bank::new(rt.alloc());
+    let mut other = Bank::new(rt.alloc());
+    let deep = doubled(&mut bank, 60)?;
+    let copy = bank.copy_into(deep, &mut other)?;
+    assert_eq!(rt; other.depth(copy), 60);
+    Ok(())
+}
+
+#[test]
+fn compares_what_is_shared_once(rt: HostRuntime) -> Result<(), Fail> {
+    let mut bank = Bank::new(rt.alloc());
+    let mut other = Bank::new(rt.alloc());
+    let deep = doubled(&mut bank, 60)?;
+    let same = doubled(&mut other, 60)?;
+    assert!(rt; bank.equal(deep, &other, same)?);
+    Ok(())
+}
+
+// A bank with one term, and its size.
+fn small(rt: &HostRuntime) -> Result<(Bank, BankSize), OutOfMemory>
+    ensures { IfOk result (λ made. (made.1 ≡ size_of made.0) × (HasSize made.0 made.1 × HasTerm made.0 0)) }
+{
+    let mut bank = Bank::new(rt.alloc());
+    bank.int(1)?;
+    let size = bank.size();
+    Ok((bank, size))
+}
+
+// The nodes of two terms more, and the bank that has them.
+fn longer(bank: &mut Bank, from: BankSize) -> Result<BankTail, OutOfMemory>
+    requires size { from ≡ size_of bank.old }
+    requires had { HasSize bank.old from }
+    requires term { HasTerm bank.old 0 }
+    ensures tail { IfOk result (λ tail. tail.from ≡ from) }
+    ensures keeps { Extends bank.old bank.new }
+{
+    bank.app(Head::Name(2), &[At(0), At(0)])?;
+    let to = bank.size();
+    bank.tail(from, to)
+}
+
+#[test]
+fn cuts_and_extends(rt: HostRuntime) -> Result<(), Fail> {
+    let (mut bank, from) = small(&rt)?;
+    let mut other = bank.image(from)?;
+    let tail = longer(&mut bank, from)?;
+    other.extend(&tail)?;
+    assert_eq!(rt; other.size(), bank.size());
+    bank.cut(from);
+    assert_eq!(rt; bank.size(), from);
     Ok(())
 }

@@ -50,16 +50,24 @@ bracket_if false text = text
 abbrev pub argument_text : Term → List ℕ → List ℕ
 argument_text a text = bracket_if (has_arguments a) text
 
--- the text of a term; `?n` stands for a variable
-abbrev pub term_text : List (List ℕ) → Term → List ℕ
-term_text names (Var n) = codes "?" ++ decimal n
-term_text names (Int z) = signed_decimal z
-term_text names (Con h) = head_text names h
-term_text names (Ap (Ap (Con h) x) l) =
-    if is_cons_head names h
-    then bracket_if (is_cons names x) (term_text names x) ++ codes "::" ++ term_text names l
-    else head_text names h ++ codes " " ++ argument_text x (term_text names x) ++ codes " " ++ argument_text l (term_text names l)
-term_text names (Ap f a) = term_text names f ++ codes " " ++ argument_text a (term_text names a)
+abbrev mutual
+  -- the text of a term; `?n` stands for a variable
+  pub term_text : List (List ℕ) → Term → List ℕ
+  term_text names (Var n) = codes "?" ++ decimal n
+  term_text names (Int z) = signed_decimal z
+  term_text names (Con h) = head_text names h
+  term_text names (Ap (Ap (Con h) x) l) =
+      if is_cons_head names h
+      then bracket_if (is_cons names x) (term_text names x) ++ codes "::" ++ term_text names l
+      else head_text names h ++ codes " " ++ argument_text x (term_text names x) ++ codes " " ++ argument_text l (term_text names l)
+  term_text names (Ap f a) = applied_text names f ++ codes " " ++ argument_text a (term_text names a)
+
+  -- the text of a head with its first arguments
+  pub applied_text : List (List ℕ) → Term → List ℕ
+  applied_text names (Var n) = codes "?" ++ decimal n
+  applied_text names (Int z) = signed_decimal z
+  applied_text names (Con h) = head_text names h
+  applied_text names (Ap f a) = applied_text names f ++ codes " " ++ argument_text a (term_text names a)
 
 -- one line for each named variable of the query, given the terms of the variables
 abbrev pub binding_lines : List (List ℕ) → List (Option ℕ) → List Term → List ℕ

@@ -1,54 +1,36 @@
-use Rattle.std.proofs.Common.{rules, refl, ap, ◌∙◌}
-use Rattle.ll_bank.specs.declared.bank.StoredTerm.TheVariants.{App}
-use Rattle.ll_bank.specs.Nodes.{AppNode, build_term, grow}
-use Rattle.ll_bank.specs.Storage.{places}
-use Rattle.ll_bank.proofs.StorageLemmas.{stored_more, same_view, keeps, OnErr-always, stored_term, shows_term, keeps_term, below_places, build_app}
+use Rattle.std.proofs.Common.{rules, refl, sym, ◌∙◌, ◌<◌, ap, subst, arith, length, get_or, ℕ}
+use Rattle.ll_bank.specs.Nodes.{AppNode, places}
+use Rattle.ll_bank.proofs.Trees.{Extends-same}
+use Rattle.ll_bank.proofs.BankLemmas.{kept_more, term_extends, term_shown, depths_count, depth_small, below_places, build_app, depth_of_app}
 use Rattle.ll_bank.proofs.bank.Bank.app.Goals as goal
 
--- the children grew, and no node was pushed
-pub invariant_of-self : goal.invariant_of-self
-invariant_of-self c =
-    stored_more c.self.inside.children.items c.store.new.children.items c.self.inside.terms.items c.self.inside.terms.items c.self.inside.forms.items c.self.inside.forms.items c.in_err-span.ensures.behind refl refl c.self.invariant
+pub deepest-depth-requires-clause-inside : goal.deepest-depth-requires-clause-inside
+deepest-depth-requires-clause-inside c =
+    let e = depths_count c.self.inside.nodes c.self.inside.depths.items c.self.invariant in let v = ap (λ n. length n.terms) c.self.view_is in
+    let w = ap length c.deref.ensures.value in
+    λ k d l. let h = c.requires k d l in omega arith
 
-pub returns-in_err-span-clause-keeps : goal.returns-in_err-span-clause-keeps
-returns-in_err-span-clause-keeps c =
-    keeps c.self.inside.children.items c.store.new.children.items c.self.inside.terms.items c.self.inside.terms.items c.self.inside.forms.items c.self.inside.forms.items c.in_err-span.ensures.behind refl refl
-    c.self.invariant c.args.self.now c.self.view_is
-
-pub returns-in_err-span-clause-refused : goal.returns-in_err-span-clause-refused
-returns-in_err-span-clause-refused c =
-    OnErr-always _ (same_view c.self.inside.children.items c.store.new.children.items c.self.inside.terms.items c.self.inside.terms.items c.self.inside.forms.items c.self.inside.forms.items c.in_err-span.ensures.behind refl refl
-    c.self.invariant c.args.self.now c.self.view_is)
-
-pub invariant_of-self-in_err-push : goal.invariant_of-self-in_err-push
-invariant_of-self-in_err-push c =
-    stored_more c.self.inside.children.items c.store.new.children.items c.self.inside.terms.items c.push.new.self.items c.self.inside.forms.items c.self.inside.forms.items c.in_ok-span.ensures.behind c.in_err-push.ensures.items refl c.self.invariant
+pub deepest-depth-requires-clause-small : goal.deepest-depth-requires-clause-small
+deepest-depth-requires-clause-small c =
+    rw c.deref.ensures.value (depth_small c.self.inside.nodes c.self.inside.depths.items c.self.invariant)
 
 pub returns-in_err-push-clause-keeps : goal.returns-in_err-push-clause-keeps
-returns-in_err-push-clause-keeps c =
-    keeps c.self.inside.children.items c.store.new.children.items c.self.inside.terms.items c.push.new.self.items c.self.inside.forms.items c.self.inside.forms.items c.in_ok-span.ensures.behind c.in_err-push.ensures.items refl
-    c.self.invariant c.args.self.now c.self.view_is
+returns-in_err-push-clause-keeps c = Extends-same _ _ c.self.view_is
 
-pub returns-in_err-push-clause-refused : goal.returns-in_err-push-clause-refused
-returns-in_err-push-clause-refused c =
-    OnErr-always _ (same_view c.self.inside.children.items c.store.new.children.items c.self.inside.terms.items c.push.new.self.items c.self.inside.forms.items c.self.inside.forms.items c.in_ok-span.ensures.behind c.in_err-push.ensures.items refl
-    c.self.invariant c.args.self.now c.self.view_is)
+pub invariant_of-self-in-Ok : goal.invariant_of-self-in-Ok
+invariant_of-self-in-Ok c =
+    kept_more c.self.inside.nodes c.args.self.now c.self.view_is c.self.inside.depths.items c.self.invariant c.push_app.new.self (AppNode c.args.head (places c.args.args.now)) c.in-Ok.ensures.added
+    c.deepest-depth.result c.push.new.self.items c.in_ok-push.ensures.items (below_places _ c.args.args.now c.requires)
+    (depth_of_app c.self.inside.nodes c.args.self.now c.self.view_is c.self.inside.depths.items c.self.invariant c.args.head c.args.args.now c.deref.result.now c.deref.ensures.value c.deepest-depth.result c.deepest-depth.ensures)
 
--- a term was pushed
-pub invariant_of-self-2 : goal.invariant_of-self-2
-invariant_of-self-2 c =
-    stored_term c.self.inside.children.items c.store.new.children.items c.self.inside.terms.items c.push.new.self.items c.self.inside.forms.items (App c.args.head c.in_ok-span.span) c.in_ok-span.ensures.behind c.in_ok-push.ensures.items
-    c.self.invariant c.args.self.now c.self.view_is c.in_ok-span.ensures.span
-    (rw c.in_ok-span.ensures.places (below_places _ c.args.args.now c.requires))
+pub returns-in-Ok-clause-shows : goal.returns-in-Ok-clause-shows
+returns-in-Ok-clause-shows c =
+    term_shown c.self.inside.nodes c.args.self.now c.self.view_is c.self.inside.depths.items c.self.invariant c.push_app.new.self (AppNode c.args.head (places c.args.args.now)) c.in-Ok.ensures.added
+    c.len.result _ (search rules) (build_app c.args.self.now c.args.head c.args.args.now)
 
-pub returns-clause-shows : goal.returns-clause-shows
-returns-clause-shows c =
-    shows_term c.self.inside.children.items c.store.new.children.items c.self.inside.terms.items c.push.new.self.items c.self.inside.forms.items (App c.args.head c.in_ok-span.span) c.in_ok-span.ensures.behind c.in_ok-push.ensures.items
-    c.self.invariant c.args.self.now c.self.view_is c.len.result _ (search rules)
-    (ap (λ args. build_term (grow build_term _ c.args.self.now.terms) (AppNode c.args.head (places args))) c.in_ok-span.ensures.places
-    ∙ build_app c.args.self.now c.args.head c.args.args.now)
+pub returns-in-Ok-clause-keeps : goal.returns-in-Ok-clause-keeps
+returns-in-Ok-clause-keeps c =
+    term_extends c.self.inside.nodes c.args.self.now c.self.view_is c.self.inside.depths.items c.self.invariant c.push_app.new.self (AppNode c.args.head (places c.args.args.now)) c.in-Ok.ensures.added
 
-pub returns-clause-keeps : goal.returns-clause-keeps
-returns-clause-keeps c =
-    keeps_term c.self.inside.children.items c.store.new.children.items c.self.inside.terms.items c.push.new.self.items c.self.inside.forms.items (App c.args.head c.in_ok-span.span) c.in_ok-span.ensures.behind c.in_ok-push.ensures.items
-    c.self.invariant c.args.self.now c.self.view_is
+pub returns-in-Err-clause-keeps : goal.returns-in-Err-clause-keeps
+returns-in-Err-clause-keeps c = Extends-same _ _ (c.in-Err.ensures.refused ∙ c.self.view_is)

@@ -1,0 +1,445 @@
+-- A bank's nodes and the trees that they show: what each call reads and leaves.
+use Rattle.std.proofs.Common.{◌≡◌, ℕ, zero, suc, ◌+◌, ◌<◌, ◌≤◌, List, [], ◌∷◌, ◌++◌, length, map, All, get_or, take, drop, refl, ap, sym, subst, ◌∙◌, inl, inr, arith, length-append, max, min, Some}
+use Rattle.std.specs.Prelude.{ℤ, FitsSigned, slice_get, slice_index, fold}
+use Rattle.std.specs.Int.{w64}
+use Rattle.std.proofs.Common.{to_z, of_z}
+use Rattle.std.proofs.lemmas.Int.{to_z-of_z}
+use Rattle.std.proofs.Math.ListN.{get_or-append, get_or-map}
+use Rattle.std.proofs.Math.Seq.{get_or-append_seam}
+use Rattle.std.proofs.lemmas.Bool.{cases_lt}
+use Rattle.std.proofs.lemmas.List.{append-nil, length-map, map-append, take-append-le, take-append-drop, length-take, length-take-le, take-map, take-take, take_at, get_or_default}
+use Rattle.std.proofs.lemmas.List.Elements.{All-head, All-tail, All-cons}
+use Rattle.std.proofs.lemmas.Option.{get_or_from_slice_get}
+use Rattle.ll_bank.specs.declared.At.{At}
+use Rattle.ll_bank.specs.declared.Head.{Head}
+use Rattle.ll_bank.specs.declared.BankSize.{BankSize}
+use Rattle.ll_bank.specs.declared.TermView.{TermView}
+use Rattle.ll_bank.specs.declared.TermView.TheVariants.{Var as VarView, Int as IntView, App as AppView}
+use Rattle.ll_bank.specs.declared.FormNode.{FormNode}
+use Rattle.ll_bank.specs.declared.FormNode.TheVariants.{Top as TopView, One as OneView, Atom as AtomView, With as WithView, Tensor as TensorView, Plus as PlusView, Bang as BangView, Lolli as LolliView, Imp as ImpView, Forall as ForallView, Exists as ExistsView, Use as UseView}
+use Rattle.ll_bank.specs.Term.{Term, Var, Con, Ap, app, apply, term_depth}
+use Rattle.ll_bank.specs.Form.{Form, Top, Atom, With, Tensor, Plus, Bang, Lolli, Imp, Forall, Exists, Use}
+use Rattle.ll_bank.specs.Nodes.{Nodes, TermNode, VarNode, IntNode, AppNode, FormulaNode, TopNode, OneNode, AtomNode, WithNode, TensorNode, PlusNode, BangNode, LolliNode, ImpNode, ForallNode, ExistsNode, UseNode, grow, term_in, build_term, form_in, build_form, term_tree, form_tree, term_trees, HasTerm, HasForm, AllInTerms, HasParts, ShowsTerm, ShowsForm, Extends, form_of, HasPartsBelow, IsTermView, IsFormView, IsTermBelow, IsFormBelow, IsWellFounded, places, node_of_term, node_of, with_term, with_form, size_of, front, HasSize, IsNotPast, IsCutTo}
+use Rattle.ll_bank.specs.Kept.{all_terms, IsKept, depth_over}
+use Rattle.ll_bank.proofs.Growing.{grow-append, grow_kept, grow_last, get_or-grow_at, length-grow, grow-take}
+use Rattle.ll_bank.proofs.FlatLemmas.{map_map}
+
+-- ---- sizes
+
+-- a size is had by the first nodes that it counts
+pub HasSize-front : (a b : Nodes) (size : BankSize) → front a size ≡ front b size → HasSize a size → HasSize b size
+HasSize-front a b size e h = record { counts = subst (λ n. size_of n ≡ size) e h.counts; whole = subst IsWellFounded e h.whole }
+
+-- which are there
+pub HasSize-terms : (nodes : Nodes) (size : BankSize) → HasSize nodes size → size.terms ≤ length nodes.terms
+HasSize-terms nodes size h = let e = ap (λ s. s.terms) h.counts in let f = length-take size.terms nodes.terms in omega arith
+
+pub HasSize-forms : (nodes : Nodes) (size : BankSize) → HasSize nodes size → size.forms ≤ length nodes.forms
+HasSize-forms nodes size h = let e = ap (λ s. s.forms) h.counts in let f = length-take size.forms nodes.forms in omega arith
+
+-- so more nodes behind leave it
+HasSize-append : (old : Nodes) (ts : List TermNode) (fs : List FormulaNode) (size : BankSize) → HasSize old size
+    → HasSize (record { terms = old.terms ++ ts; forms = old.forms ++ fs }) size
+HasSize-append old ts fs size h =
+    HasSize-front old (record { terms = old.terms ++ ts; forms = old.forms ++ fs }) size
+    (λ i. record {
+      terms = sym (take-append-le size.terms old.terms ts (HasSize-terms old size h)) i;
+      forms = sym (take-append-le size.forms old.forms fs (HasSize-forms old size h)) i;
+    }) h
+
+-- all nodes on lower ones have their size
+take_whole : {A : Type 0} (xs : List A) → take (length xs) xs ≡ xs
+take_whole xs = ap (take (length xs)) (sym (append-nil xs)) ∙ take_at xs [] (length xs) refl
+
+pub HasSize-all : (nodes : Nodes) → IsWellFounded nodes → HasSize nodes (size_of nodes)
+HasSize-all nodes low = let e : front nodes (size_of nodes) ≡ nodes = (λ i. record { terms = take_whole nodes.terms i; forms = take_whole nodes.forms i }) in
+    record { counts = ap size_of e; whole = subst IsWellFounded (sym e) low }
+
+-- and a bank that has its own size stands on lower nodes
+pub whole_of_size : (nodes : Nodes) (size : BankSize) → size ≡ size_of nodes → HasSize nodes size → IsWellFounded nodes
+whole_of_size nodes size is h =
+    subst IsWellFounded (ap (front nodes) is ∙ (λ i. record { terms = take_whole nodes.terms i; forms = take_whole nodes.forms i })) h.whole
+
+-- ---- the tree that a node builds depends on what is below it alone
+
+-- functions that agree below k map numbers below k alike
+same_map : (f g : ℕ → Term) (k : ℕ) (xs : List ℕ) → ((a : ℕ) → a < k → f a ≡ g a) → All (λ a. a < k) xs → map f xs ≡ map g xs
+same_map f g k [] h a = refl
+same_map f g k (x ∷ xs) h a =
+    let e1 = h x (All-head (λ a. a < k) x xs a) in let e2 = same_map f g k xs h (All-tail (λ a. a < k) x xs a) in cc
+
+-- a term's node builds one term over trees that agree below it
+pub same_build_term : (trees trees' : List Term) (at : ℕ) → ((a : ℕ) → a < at → term_in trees a ≡ term_in trees' a) → (n : TermNode) → IsTermBelow at n
+    → build_term trees n ≡ build_term trees' n
+same_build_term trees trees' at h (VarNode x) w = refl
+same_build_term trees trees' at h (IntNode z) w = refl
+same_build_term trees trees' at h (AppNode k args) w = ap (app k) (same_map (term_in trees) (term_in trees') at args h w)
+
+module _ (term term' : ℕ → Term) (terms : ℕ) (same : (a : ℕ) → a < terms → term a ≡ term' a) where
+  -- and a formula's node one formula
+  pub same_build_form : (trees trees' : List Form) (at : ℕ) → ((f : ℕ) → f < at → form_in trees f ≡ form_in trees' f) → (n : FormulaNode) → IsFormBelow terms at n
+      → build_form term trees n ≡ build_form term' trees' n
+  same_build_form trees trees' at h TopNode w = refl
+  same_build_form trees trees' at h OneNode w = refl
+  same_build_form trees trees' at h (AtomNode a) w = ap Atom (same a w)
+  same_build_form trees trees' at h (WithNode f g) w = λ i. With (h f w.0 i) (h g w.1 i)
+  same_build_form trees trees' at h (TensorNode f g) w = λ i. Tensor (h f w.0 i) (h g w.1 i)
+  same_build_form trees trees' at h (PlusNode f g) w = λ i. Plus (h f w.0 i) (h g w.1 i)
+  same_build_form trees trees' at h (BangNode f) w = ap Bang (h f w)
+  same_build_form trees trees' at h (LolliNode f g) w = λ i. Lolli (h f w.0 i) (h g w.1 i)
+  same_build_form trees trees' at h (ImpNode f g) w = λ i. Imp (h f w.0 i) (h g w.1 i)
+  same_build_form trees trees' at h (ForallNode f) w = ap Forall (h f w)
+  same_build_form trees trees' at h (ExistsNode f) w = ap Exists (h f w)
+  same_build_form trees trees' at h (UseNode m args f) w = λ i. Use m (same_map term term' terms args same w.0 i) (h f w.1 i)
+
+  -- formulas grow alike over terms that are alike
+  same_grow : (trees : List Form) (ns : List FormulaNode) → All (λ n. (at : ℕ) × IsFormBelow terms at n) ns → grow (build_form term) trees ns ≡ grow (build_form term') trees ns
+  same_grow trees [] h = refl
+  same_grow trees (n ∷ ns) h =
+      let w = All-head (λ n. (at : ℕ) × IsFormBelow terms at n) n ns h in
+      let e = same_build_form trees trees w.0 (λ f l. refl) n w.1 in
+      ap (λ t. grow (build_form term) (trees ++ t ∷ []) ns) e
+      ∙ same_grow (trees ++ build_form term' trees n ∷ []) ns (All-tail (λ n. (at : ℕ) × IsFormBelow terms at n) n ns h)
+
+-- ---- a bank whose nodes stand on lower ones
+
+module _ (old : Nodes) (low : IsWellFounded old) where
+  -- a term's tree is what its node builds over all terms
+  pub term_tree-node : (at : ℕ) (d : TermNode) → HasTerm old at → term_tree old at ≡ build_term (all_terms old) (get_or old.terms at d)
+  unfolding term_tree
+  term_tree-node at d h =
+      get_or-grow_at build_term old.terms at d (Var 0) h
+      ∙ same_build_term (grow build_term [] (take at old.terms)) (grow build_term [] old.terms) at earlier (get_or old.terms at d) (low.terms at d h)
+    where
+      earlier : (a : ℕ) → a < at → term_in (grow build_term [] (take at old.terms)) a ≡ term_in (grow build_term [] old.terms) a
+      earlier a l =
+          let s : length (take at old.terms) ≡ at = length-take-le at old.terms (omega arith) in
+          sym (subst (λ ns. term_in (grow build_term [] ns) a ≡ term_in (grow build_term [] (take at old.terms)) a) (take-append-drop at old.terms)
+          (grow_kept build_term (take at old.terms) (drop at old.terms) a (Var 0) (omega arith)))
+
+  -- a formula's tree is what its node builds over all formulas
+  pub form_tree-node : (at : ℕ) (d : FormulaNode) → HasForm old at
+      → form_tree old at ≡ build_form (term_tree old) (grow (build_form (term_tree old)) [] old.forms) (get_or old.forms at d)
+  unfolding form_tree
+  form_tree-node at d h =
+      get_or-grow_at (build_form (term_tree old)) old.forms at d Top h
+      ∙ same_build_form (term_tree old) (term_tree old) (length old.terms) (λ a l. refl) (grow (build_form (term_tree old)) [] (take at old.forms))
+      (grow (build_form (term_tree old)) [] old.forms) at earlier (get_or old.forms at d) (low.forms at d h)
+    where
+      earlier : (a : ℕ) → a < at → form_in (grow (build_form (term_tree old)) [] (take at old.forms)) a ≡ form_in (grow (build_form (term_tree old)) [] old.forms) a
+      earlier a l =
+          let s : length (take at old.forms) ≡ at = length-take-le at old.forms (omega arith) in
+          sym (subst (λ ns. form_in (grow (build_form (term_tree old)) [] ns) a ≡ form_in (grow (build_form (term_tree old)) [] (take at old.forms)) a) (take-append-drop at old.forms)
+          (grow_kept (build_form (term_tree old)) (take at old.forms) (drop at old.forms) a Top (omega arith)))
+
+  -- more nodes leave the trees
+  module _ (ts : List TermNode) (fs : List FormulaNode) where
+    same_terms : (at : ℕ) → at < length old.terms → term_tree (record { terms = old.terms ++ ts; forms = old.forms ++ fs }) at ≡ term_tree old at
+    unfolding term_tree
+    same_terms at h = grow_kept build_term old.terms ts at (Var 0) h
+
+    same_forms : (at : ℕ) → at < length old.forms → form_tree (record { terms = old.terms ++ ts; forms = old.forms ++ fs }) at ≡ form_tree old at
+    unfolding form_tree
+    same_forms at h =
+        grow_kept (build_form (term_tree (record { terms = old.terms ++ ts; forms = old.forms ++ fs }))) old.forms fs at Top h
+        ∙ ap (λ trees. form_in trees at) (same_grow (term_tree (record { terms = old.terms ++ ts; forms = old.forms ++ fs })) (term_tree old)
+        (length old.terms) same_terms [] old.forms (λ k d l. (k, low.forms k d l)))
+
+    pub extends : Extends old (record { terms = old.terms ++ ts; forms = old.forms ++ fs })
+    extends = record { more_terms = ts; more_forms = fs; terms = refl; forms = refl; same_forms = same_forms; sizes = HasSize-append old ts fs }
+
+-- a node behind the others leaves the trees
+pub keeps_term : (old : Nodes) (low : IsWellFounded old) (n : TermNode) → Extends old (with_term old n)
+keeps_term old low n =
+    subst (λ same. Extends old (record { terms = old.terms ++ n ∷ []; forms = same })) (append-nil old.forms) (extends old low (n ∷ []) [])
+
+pub keeps_form : (old : Nodes) (low : IsWellFounded old) (n : FormulaNode) → Extends old (with_form old n)
+keeps_form old low n =
+    subst (λ same. Extends old (record { terms = same; forms = old.forms ++ n ∷ [] })) (append-nil old.terms) (extends old low [] (n ∷ []))
+
+-- and shows the tree that it builds
+pub shows_term : (old : Nodes) (n : TermNode) (at : ℕ) (tree : Term) → at ≡ length old.terms → build_term (all_terms old) n ≡ tree → ShowsTerm (with_term old n) at tree
+unfolding term_tree
+shows_term old n at tree last e = subst (λ k. ShowsTerm (with_term old n) k tree) (sym last) (record {
+  inside = simp length-append (omega arith);
+  tree = grow_last build_term old.terms n (Var 0) ∙ e;
+})
+
+pub shows_form : (old : Nodes) (n : FormulaNode) (at : ℕ) (tree : Form) → at ≡ length old.forms → build_form (term_tree old) (grow (build_form (term_tree old)) [] old.forms) n ≡ tree
+    → ShowsForm (with_form old n) at tree
+unfolding form_tree term_tree
+shows_form old n at tree last e = subst (λ k. ShowsForm (with_form old n) k tree) (sym last) (record {
+  inside = simp length-append (omega arith);
+  tree = grow_last (build_form (term_tree old)) old.forms n Top ∙ e;
+})
+
+-- a term's tree, as its node builds it
+term_tree-build : (old : Nodes) (low : IsWellFounded old) (at : ℕ) (d : TermNode) → HasTerm old at → term_in (all_terms old) at ≡ build_term (all_terms old) (get_or old.terms at d)
+unfolding term_tree
+term_tree-build old low at d h = term_tree-node old low at d h
+
+-- ---- a node put behind the others stands on lower ones
+
+-- what holds of each element at its place, and of one more behind them, holds of all
+push_all : {A : Type 0} (P : ℕ → A → Type 0) (xs : List A) (x : A) → ((k : ℕ) (d : A) → k < length xs → P k (get_or xs k d)) → P (length xs) x
+    → (k : ℕ) (d : A) → k < length (xs ++ x ∷ []) → P k (get_or (xs ++ x ∷ []) k d)
+push_all P xs x h p k d lt =
+    elim (cases_lt k (length xs)) [
+      | inl l ↦ subst (P k) (sym (get_or-append xs (x ∷ []) d k l)) (h k d l)
+      | inr l ↦
+          let e : length xs ≡ k = omega (arith, length-append xs (x ∷ [])) in
+          subst (λ z. P z (get_or (xs ++ x ∷ []) z d)) e (subst (P (length xs)) (sym (get_or-append_seam xs x [] d)) p)
+    ]
+
+-- parts below some terms are below more terms
+more_terms : (terms more at : ℕ) → terms ≤ more → (n : FormulaNode) → IsFormBelow terms at n → IsFormBelow more at n
+more_terms terms more at le TopNode w = tt
+more_terms terms more at le OneNode w = tt
+more_terms terms more at le (AtomNode a) w = omega arith
+more_terms terms more at le (WithNode f g) w = w
+more_terms terms more at le (TensorNode f g) w = w
+more_terms terms more at le (PlusNode f g) w = w
+more_terms terms more at le (BangNode f) w = w
+more_terms terms more at le (LolliNode f g) w = w
+more_terms terms more at le (ImpNode f g) w = w
+more_terms terms more at le (ForallNode f) w = w
+more_terms terms more at le (ExistsNode f) w = w
+more_terms terms more at le (UseNode m args f) w = (λ k d l. let h = w.0 k d l in omega arith, w.1)
+
+module _ (old : Nodes) (low : IsWellFounded old) where
+  -- a term on lower ones keeps a bank well-founded
+  low_term : (n : TermNode) → IsTermBelow (length old.terms) n → IsWellFounded (record { terms = old.terms ++ n ∷ []; forms = old.forms })
+  low_term n below = record {
+    terms = push_all IsTermBelow old.terms n low.terms below;
+    forms = λ at d h.
+        more_terms (length old.terms) (length (old.terms ++ n ∷ [])) at (let e = length-append old.terms (n ∷ []) in omega arith) (get_or old.forms at d) (low.forms at d h);
+  }
+
+  -- and so does a formula on lower ones
+  low_form : (n : FormulaNode) → IsFormBelow (length old.terms) (length old.forms) n → IsWellFounded (record { terms = old.terms; forms = old.forms ++ n ∷ [] })
+  low_form n below = record {
+    terms = low.terms;
+    forms = push_all (IsFormBelow (length old.terms)) old.forms n low.forms below;
+  }
+
+-- ---- what a sign builds, and where its parts lie
+
+-- places below k, as numbers
+pub below_places : (k : ℕ) (args : List At) → All (λ a. a.0 < k) args → All (λ a. a < k) (places args)
+below_places k [] h = λ j d q. absurd (omega arith)
+below_places k (a ∷ args) h =
+    All-cons (λ a. a < k) a.0 (places args) (All-head (λ (a : At). a.0 < k) a args h) (below_places k args (All-tail (λ (a : At). a.0 < k) a args h))
+
+-- and back
+pub places_below : (k : ℕ) (args : List At) → All (λ a. a < k) (places args) → All (λ a. a.0 < k) args
+places_below k args h = λ j d q. subst (λ z. z < k) (get_or-map (λ (a : At). a.0) args j d) (h j d.0 (simp length-map q))
+
+-- parts of a sign that are below lie below in its node
+pub below_parts : (terms forms : ℕ) (view : FormNode) → HasPartsBelow terms forms view → IsFormBelow terms forms (node_of view)
+below_parts terms forms TopView h = tt
+below_parts terms forms OneView h = tt
+below_parts terms forms (AtomView a) h = h
+below_parts terms forms (WithView f g) h = h
+below_parts terms forms (TensorView f g) h = h
+below_parts terms forms (PlusView f g) h = h
+below_parts terms forms (BangView f) h = h
+below_parts terms forms (LolliView f g) h = h
+below_parts terms forms (ImpView f g) h = h
+below_parts terms forms (ForallView f) h = h
+below_parts terms forms (ExistsView f) h = h
+below_parts terms forms (UseView m args f) h = (below_places terms args.now h.0, h.1)
+
+-- and back
+pub parts_below : (terms forms : ℕ) (view : FormNode) → IsFormBelow terms forms (node_of view) → HasPartsBelow terms forms view
+parts_below terms forms TopView h = tt
+parts_below terms forms OneView h = tt
+parts_below terms forms (AtomView a) h = h
+parts_below terms forms (WithView f g) h = h
+parts_below terms forms (TensorView f g) h = h
+parts_below terms forms (PlusView f g) h = h
+parts_below terms forms (BangView f) h = h
+parts_below terms forms (LolliView f g) h = h
+parts_below terms forms (ImpView f g) h = h
+parts_below terms forms (ForallView f) h = h
+parts_below terms forms (ExistsView f) h = h
+parts_below terms forms (UseView m args f) h = (places_below terms args.now h.0, h.1)
+
+-- a head with places builds the head with their terms
+pub build_app : (old : Nodes) (h : Head) (args : List At) → build_term (all_terms old) (AppNode h (places args)) ≡ app h (term_trees old args)
+unfolding term_tree
+build_app old h args = ap (app h) (map_map (term_in (all_terms old)) (λ a. a.0) args)
+
+-- a sign with the places of its parts builds its formula
+pub build_parts : (old : Nodes) (view : FormNode) → build_form (term_tree old) (grow (build_form (term_tree old)) [] old.forms) (node_of view) ≡ form_of old view
+unfolding form_tree
+build_parts old TopView = refl
+build_parts old OneView = refl
+build_parts old (AtomView a) = refl
+build_parts old (WithView f g) = refl
+build_parts old (TensorView f g) = refl
+build_parts old (PlusView f g) = refl
+build_parts old (BangView f) = refl
+build_parts old (LolliView f g) = refl
+build_parts old (ImpView f g) = refl
+build_parts old (ForallView f) = refl
+build_parts old (ExistsView f) = refl
+build_parts old (UseView m args f) = ap (λ ts. Use m ts (form_tree old f.0)) (map_map (term_tree old) (λ a. a.0) args.now)
+
+-- ---- depths
+
+-- the depth of an application, argument by argument
+depth-apply : (depths : List ℕ) (trees : List Term) → depths ≡ map term_depth trees → (f : Term) (d : ℕ) → d ≡ term_depth f → (args : List At)
+    → fold (λ deepest a. max deepest (suc (slice_index depths a.0))) d args ≡ term_depth (apply f (map (term_in trees) (places args)))
+depth-apply depths trees e f d h [] = h
+depth-apply depths trees e f d h (a ∷ args) =
+    let g : slice_index depths a.0 ≡ term_depth (term_in trees a.0) = ap (λ ds. slice_index ds a.0) e ∙ get_or-map term_depth trees a.0 (Var 0) in
+    depth-apply depths trees e (Ap f (term_in trees a.0)) (max d (suc (slice_index depths a.0))) (rw (h, g) refl) args
+
+-- arguments of small depths make a term of small depth
+depth-apply-le : (k : ℕ) (g : ℕ → Term) (f : Term) → term_depth f ≤ k → (args : List ℕ) → All (λ a. suc (term_depth (g a)) ≤ k) args → term_depth (apply f (map g args)) ≤ k
+depth-apply-le k g f h [] each = h
+depth-apply-le k g f h (a ∷ args) each =
+    let p = All-head (λ a. suc (term_depth (g a)) ≤ k) a args each in
+    depth-apply-le k g (Ap f (g a)) (omega arith) args (All-tail (λ a. suc (term_depth (g a)) ≤ k) a args each)
+
+-- the depth of a node over trees of small depth
+depth-build-le : (trees : List Term) (at : ℕ) → ((a : ℕ) → a < at → term_depth (term_in trees a) ≤ a) → (n : TermNode) → IsTermBelow at n → term_depth (build_term trees n) ≤ at
+depth-build-le trees at small (VarNode x) below = omega arith
+depth-build-le trees at small (IntNode z) below = omega arith
+depth-build-le trees at small (AppNode h args) below =
+    depth-apply-le at (term_in trees) (Con h) (omega arith) args (λ k d l. let p = below k d l in let q = small (get_or args k d) p in omega arith)
+
+module _ (old : Nodes) (low : IsWellFounded old) where
+  depth-le-within : (n at : ℕ) → at < n → HasTerm old at → term_depth (term_in (all_terms old) at) ≤ at
+  depth-le-within zero at l h = absurd (omega arith)
+  depth-le-within (suc n) at l h =
+      subst (λ t. term_depth t ≤ at) (sym (term_tree-build old low at (VarNode 0) h))
+      (depth-build-le (all_terms old) at (λ a b. depth-le-within n a (omega arith) (omega arith)) (get_or old.terms at (VarNode 0)) (low.terms at (VarNode 0) h))
+
+  -- a term is no deeper than its place is high
+  pub depth-le : (at : ℕ) → HasTerm old at → term_depth (term_in (all_terms old) at) ≤ at
+  depth-le at h = depth-le-within (suc at) at (omega arith) h
+
+-- ---- what the calls leave
+
+module _ (old : Nodes) (depths : List ℕ) (kept : IsKept old depths) where
+  pub depths_count : length depths ≡ length old.terms
+  depths_count = ap length kept.beside ∙ (length-map (all_terms old) term_depth ∙ length-grow build_term [] old.terms ∙ (let e : zero + length old.terms ≡ length old.terms = omega arith in e))
+
+  pub depth_small : (k : ℕ) → k < length depths → slice_index depths k ≤ k
+  depth_small k l =
+      let e = depths_count in let d = depth-le old kept.lower k (omega arith) in
+      let g : slice_index depths k ≡ term_depth (term_in (all_terms old) k) = ap (λ ds. slice_index ds k) kept.beside ∙ get_or-map term_depth (all_terms old) k (Var 0) in
+      omega arith
+
+  -- the depth of each place
+  pub depth_at : (at d : ℕ) → at < length depths → get_or depths at d ≡ term_depth (term_tree old at)
+  unfolding term_tree
+  depth_at at d l =
+      ap (λ ds. get_or ds at d) kept.beside
+      ∙ (get_or_default (map term_depth (all_terms old)) at d 0 (let e = ap length kept.beside in omega arith) ∙ get_or-map term_depth (all_terms old) at (Var 0))
+
+  -- a term was put behind the others
+  pub kept_term : (n : TermNode) (d : ℕ) → IsTermBelow (length old.terms) n → d ≡ term_depth (build_term (all_terms old) n) → IsKept (with_term old n) (depths ++ d ∷ [])
+  kept_term n d below e = record {
+    lower = low_term old kept.lower n below;
+    beside = rw (grow-append build_term [] old.terms (n ∷ []), map-append term_depth (all_terms old) (build_term (all_terms old) n ∷ []))
+        (λ i. kept.beside i ++ e i ∷ []);
+  }
+
+  -- a formula was put behind the others
+  pub kept_form : (n : FormulaNode) → IsFormBelow (length old.terms) (length old.forms) n → IsKept (with_form old n) depths
+  kept_form n below = record { lower = low_form old kept.lower n below; beside = kept.beside }
+
+  -- the first nodes were kept
+  pub kept_front : (size : BankSize) → HasSize old size → IsKept (front old size) (take size.terms depths)
+  kept_front size h = record {
+    lower = h.whole;
+    beside = ap (take size.terms) kept.beside ∙ (take-map term_depth size.terms (all_terms old) ∙ ap (map term_depth) (grow-take build_term size.terms old.terms (HasSize-terms old size h)));
+  }
+
+-- the first nodes are what a cut leaves
+pub front_is_cut : (old : Nodes) (size : BankSize) → HasSize old size → IsCutTo size old (front old size)
+front_is_cut old size h = record {
+  places = h.counts;
+  trees = subst (Extends (front old size)) (λ i. record { terms = take-append-drop size.terms old.terms i; forms = take-append-drop size.forms old.forms i })
+      (extends (front old size) h.whole (drop size.terms old.terms) (drop size.forms old.forms));
+  sizes = λ other had past. HasSize-front old (front old size) other
+      (λ i. record { terms = sym (take-take other.terms size.terms old.terms past.terms) i; forms = sym (take-take other.forms size.forms old.forms past.forms) i }) had;
+}
+
+-- ---- a node was read
+
+module _ (old : Nodes) (low : IsWellFounded old) (at : ℕ) where
+  pub views_term : (seen : TermView) → HasTerm old at → slice_get old.terms at ≡ Some (node_of_term seen) → IsTermView old at seen
+  views_term seen inside e =
+      let is = get_or_from_slice_get old.terms at (node_of_term seen) (node_of_term seen) e in
+      by seen (term_tree-node old low at (node_of_term seen) inside ∙ ap (build_term (all_terms old)) is) (subst (IsTermBelow at) is (low.terms at (node_of_term seen) inside))
+    where
+      by : (v : TermView) → term_tree old at ≡ build_term (all_terms old) (node_of_term v) → IsTermBelow at (node_of_term v) → IsTermView old at v
+      by (VarView n) p low = p
+      by (IntView z) p low = p
+      by (AppView h args) p low = (p ∙ build_app old h args.now, places_below at args.now low)
+
+  pub views_form : (seen : FormNode) → HasForm old at → slice_get old.forms at ≡ Some (node_of seen) → IsFormView old at seen
+  views_form seen inside e =
+      let is = get_or_from_slice_get old.forms at (node_of seen) (node_of seen) e in
+      record {
+        tree = form_tree-node old low at (node_of seen) inside ∙ (ap (build_form (term_tree old) (grow (build_form (term_tree old)) [] old.forms)) is ∙ build_parts old seen);
+        parts = parts_below (length old.terms) at seen (subst (IsFormBelow (length old.terms) at) is (low.forms at (node_of seen) inside));
+      }
+
+-- ---- in the words of the calls: what is inside a bank, and what callers see
+
+module _ (inner old : Nodes) (view : inner ≡ old) (depths : List ℕ) (kept : IsKept inner depths) (new : Nodes) where
+  -- a term was put behind the others
+  module _ (n : TermNode) (is : new ≡ with_term inner n) where
+    pub kept_more : (d : ℕ) (more : List ℕ) → more ≡ depths ++ d ∷ [] → IsTermBelow (length old.terms) n → d ≡ term_depth (build_term (all_terms old) n) → IsKept new more
+    kept_more d more e below deep =
+        rw (is, e) (kept_term inner depths kept n d (subst (λ o. IsTermBelow (length o.terms) n) (sym view) below) (deep ∙ ap (λ o. term_depth (build_term (all_terms o) n)) (sym view)))
+
+    pub term_extends : Extends old new
+    term_extends = subst (λ o. Extends o new) view (subst (Extends inner) (sym is) (keeps_term inner kept.lower n))
+
+    pub term_shown : (at : ℕ) (tree : Term) → at ≡ length depths → build_term (all_terms old) n ≡ tree → ShowsTerm new at tree
+    term_shown at tree last e =
+        subst (λ m. ShowsTerm m at tree) (sym is)
+        (shows_term inner n at tree (last ∙ depths_count inner depths kept) (ap (λ o. build_term (all_terms o) n) view ∙ e))
+
+  -- a formula was put behind the others
+  module _ (n : FormulaNode) (is : new ≡ with_form inner n) where
+    pub kept_more_forms : IsFormBelow (length old.terms) (length old.forms) n → IsKept new depths
+    kept_more_forms below = rw is (kept_form inner depths kept n (subst (λ o. IsFormBelow (length o.terms) (length o.forms) n) (sym view) below))
+
+    pub form_extends : Extends old new
+    form_extends = subst (λ o. Extends o new) view (subst (Extends inner) (sym is) (keeps_form inner kept.lower n))
+
+    pub form_shown : (at : ℕ) (tree : Form) → at ≡ length inner.forms → build_form (term_tree old) (grow (build_form (term_tree old)) [] old.forms) n ≡ tree → ShowsForm new at tree
+    form_shown at tree last e =
+        subst (λ m. ShowsForm m at tree) (sym is)
+        (shows_form inner n at tree last (ap (λ o. build_form (term_tree o) (grow (build_form (term_tree o)) [] o.forms) n) view ∙ e))
+
+  -- the first nodes were kept
+  module _ (size : BankSize) (had : HasSize old size) (is : new ≡ front inner size) where
+    inner_had : HasSize inner size
+    inner_had = subst (λ o. HasSize o size) (sym view) had
+
+    pub kept_first : (first : List ℕ) → first ≡ take size.terms depths → IsKept new first
+    kept_first first e = rw (is, e) (kept_front inner depths kept size inner_had)
+
+    pub is_cut : IsCutTo size old new
+    is_cut = subst (λ m. IsCutTo size old m) (sym (is ∙ ap (λ o. front o size) view)) (front_is_cut old size had)
+
+    pub terms_fit : size.terms ≤ length depths
+    terms_fit = let a = HasSize-terms inner size inner_had in let b = depths_count inner depths kept in omega arith
+
+-- the depth over the depths of the arguments is that of the application
+pub depth_of_app : (inner old : Nodes) → inner ≡ old → (depths : List ℕ) → IsKept inner depths → (h : Head) (args : List At) (read : List ℕ) → read ≡ depths → (d : ℕ)
+    → d ≡ depth_over read args → d ≡ term_depth (build_term (all_terms old) (AppNode h (places args)))
+depth_of_app inner old view depths kept h args read is d e =
+    e ∙ (ap (λ ds. depth_over ds args) is ∙ (depth-apply depths (all_terms inner) kept.beside (Con h) 0 refl args
+    ∙ ap (λ o. term_depth (build_term (all_terms o) (AppNode h (places args)))) view))
+
+-- a whole number of 64 bits goes in as it is
+pub exact_int : (inner new : Nodes) (z : ℤ) → FitsSigned w64 z → new ≡ with_term inner (IntNode (to_z w64 (of_z w64 z))) → new ≡ with_term inner (IntNode z)
+exact_int inner new z fits e = e ∙ ap (λ v. with_term inner (IntNode v)) (to_z-of_z w64 z fits)

@@ -1,0 +1,9 @@
+use Rattle.std.proofs.Common.{arith}
+use Rattle.ll_bank.specs.Nodes.{node_of_term}
+use Rattle.ll_bank.proofs.TailLemmas.{more_terms_copied}
+use Rattle.ll_bank.proofs.tail.copy_terms.Goals as goal
+
+pub loop-at-preserved : goal.loop-at-preserved
+loop-at-preserved c =
+    more_terms_copied c.args.bank.now c.args.nodes.now c.loop-at.nodes c.push_term.new.self c.args.from c.loop-at.at (node_of_term c.term_at.result) c.loop-at.invariant c.in_ok-push_term.ensures.added
+    (omega arith) (omega arith) c.term_at.ensures.node

@@ -1,0 +1,290 @@
+//! Nodes of terms and formulas in flat vectors.
+ghost use Rattle.std.specs.Prelude.{◌≡◌, ◌<◌, [], ◌∷◌, ◌++◌, length, Some, IfOk, OnOk, OnErr, slice_get};
+ghost use Rattle.ll_bank.specs.Nodes.{no_nodes, VarNode, IntNode, AppNode, places, node_of_term, node_of, with_term, with_form, size_of, front};
+ghost use Rattle.ll_bank.specs.Storage.{IsTermStored, IsFormStored, term_node, form_node, span_from, stored_as, load_arguments_of};
+ghost use Rattle.ll_bank.specs.declared.flat.StoredTerm.TheVariants.{App as StoredApp};
+
+use crate::{At, BankSize, FormAt, FormNode, Head, OutOfMemory, TermView};
+use std::alloc::Global;
+use std::marker::Model;
+
+/// A range of the children that all nodes of a kind share.
+#[derive(Clone, Copy)]
+struct Span {
+    from: usize,
+    to: usize,
+}
+
+/// A term's node.
+#[derive(Clone, Copy)]
+enum StoredTerm {
+    Var(u64),
+    Int(i64),
+    App(Head, Span),
+}
+
+/// A formula's node.
+#[derive(Clone, Copy)]
+enum StoredForm {
+    Top,
+    One,
+    Atom(At),
+    With(FormAt, FormAt),
+    Tensor(FormAt, FormAt),
+    Plus(FormAt, FormAt),
+    Bang(FormAt),
+    Lolli(FormAt, FormAt),
+    Imp(FormAt, FormAt),
+    Forall(FormAt),
+    Exists(FormAt),
+    Use(u32, Span, FormAt),
+}
+
+/// Nodes of terms and formulas, each at its place. Contracts see their lists.
+#[derive(Drop)]
+pub(crate) struct Flat {
+    terms: Vec<StoredTerm>,
+    forms: Vec<StoredForm>,
+    // The arguments of all terms, in turn.
+    arguments: Vec<At>,
+    // The arguments of all loads, in turn.
+    load_arguments: Vec<At>,
+}
+
+impl Model for Flat {
+    ghost use Rattle.ll_bank.specs.Nodes.{Nodes};
+
+    ghost Value = { Nodes };
+
+    ghost use Rattle.ll_bank.specs.Storage.{nodes_of, IsStored};
+
+    ghost view = { λ flat. nodes_of flat.arguments.items flat.load_arguments.items flat.terms.items flat.forms.items };
+
+    ghost invariant = { λ flat. IsStored flat.arguments.items flat.load_arguments.items flat.terms.items flat.forms.items };
+}
+
+impl Flat {
+    /// No nodes.
+    pub(crate) fn new(alloc: Global) -> Self
+        ensures { result ≡ no_nodes }
+    {
+        Flat {
+            terms: Vec::new(alloc),
+            forms: Vec::new(alloc),
+            arguments: Vec::new(alloc),
+            load_arguments: Vec::new(alloc),
+        }
+    }
+
+    /// What they take memory from.
+    pub(crate) fn alloc(&self) -> Global {
+        *self.terms.allocator()
+    }
+
+    /// Puts a variable behind the terms. After a refusal the nodes are as before.
+    pub(crate) fn push_var(&mut self, number: u64) -> Result<(), OutOfMemory>
+        ensures added { OnOk result (self.new ≡ with_term self.old (VarNode number)) }
+        ensures refused { OnErr result (self.new ≡ self.old) }
+    {
+        self.terms.push(StoredTerm::Var(number))?;
+        Ok(())
+    }
+
+    /// Puts a whole number behind the terms. After a refusal the nodes are as before.
+    pub(crate) fn push_int(&mut self, value: i64) -> Result<(), OutOfMemory>
+        ensures added { OnOk result (self.new ≡ with_term self.old (IntNode value)) }
+        ensures refused { OnErr result (self.new ≡ self.old) }
+    {
+        self.terms.push(StoredTerm::Int(value))?;
+        Ok(())
+    }
+
+    /// Puts a head with arguments behind the terms. After a refusal the nodes are as before.
+    pub(crate) fn push_app(&mut self, head: Head, args: &[At]) -> Result<(), OutOfMemory>
+        ensures added { OnOk result (self.new ≡ with_term self.old (AppNode head (places args.now))) }
+        ensures refused { OnErr result (self.new ≡ self.old) }
+    {
+        store_app(&mut self.terms, &mut self.arguments, head, args)
+    }
+
+    /// Puts a term behind the terms. After a refusal the nodes are as before.
+    pub(crate) fn push_term(&mut self, node: TermView<'_>) -> Result<(), OutOfMemory>
+        ensures added { OnOk result (self.new ≡ with_term self.old (node_of_term node.entry)) }
+        ensures refused { OnErr result (self.new ≡ self.old) }
+    {
+        match node {
+            TermView::Var(number) => self.push_var(number),
+            TermView::Int(value) => self.push_int(value),
+            TermView::App(head, args) => self.push_app(head, args),
+        }
+    }
+
+    /// Puts a formula behind the formulas. After a refusal the nodes are as before.
+    pub(crate) fn push_form(&mut self, node: FormNode<'_>) -> Result<(), OutOfMemory>
+        ensures added { OnOk result (self.new ≡ with_form self.old (node_of node.entry)) }
+        ensures refused { OnErr result (self.new ≡ self.old) }
+    {
+        store_form(&mut self.forms, &mut self.load_arguments, node)
+    }
+
+    /// The node at the place of a term.
+    pub(crate) fn term(&self, at: usize) -> TermView<'_>
+        requires { at < length self.now.terms }
+        ensures { slice_get self.now.terms at ≡ Some (node_of_term result) }
+    {
+        shown_term(&self.arguments, self.terms[at])
+    }
+
+    /// The node at the place of a formula.
+    pub(crate) fn form(&self, at: usize) -> FormNode<'_>
+        requires { at < length self.now.forms }
+        ensures { slice_get self.now.forms at ≡ Some (node_of result) }
+    {
+        shown_form(&self.load_arguments, self.forms[at])
+    }
+
+    /// The numbers of terms, of formulas, and of the arguments of each.
+    pub(crate) fn size(&self) -> BankSize
+        ensures { result ≡ size_of self.now }
+    {
+        BankSize {
+            terms: self.terms.len(),
+            forms: self.forms.len(),
+            arguments: self.arguments.len(),
+            load_arguments: self.load_arguments.len(),
+        }
+    }
+
+    /// Leaves the first nodes, as many as the size counts.
+    pub(crate) fn cut(&mut self, size: BankSize)
+        requires { size_of (front self.old size) ≡ size }
+        ensures { self.new ≡ front self.old size }
+    {
+        self.terms.truncate(size.terms);
+        self.forms.truncate(size.forms);
+        self.arguments.truncate(size.arguments);
+        self.load_arguments.truncate(size.load_arguments);
+    }
+
+    /// A copy of the first nodes, as many as the size counts.
+    pub(crate) fn image(&self, size: BankSize) -> Result<Flat, OutOfMemory>
+        requires { size_of (front self.now size) ≡ size }
+        ensures { IfOk result (λ image. image ≡ front self.now size) }
+    {
+        let alloc = self.alloc();
+        let terms = Vec::from_slice(alloc, &self.terms[..size.terms])?;
+        let forms = Vec::from_slice(alloc, &self.forms[..size.forms])?;
+        let arguments = Vec::from_slice(alloc, &self.arguments[..size.arguments])?;
+        let load_arguments = Vec::from_slice(alloc, &self.load_arguments[..size.load_arguments])?;
+        Ok(Flat {
+            terms,
+            forms,
+            arguments,
+            load_arguments,
+        })
+    }
+}
+
+/// Puts a head behind the terms and its arguments behind the children. After a refusal both are as before.
+fn store_app(
+    terms: &mut Vec<StoredTerm>,
+    arguments: &mut Vec<At>,
+    head: Head,
+    args: &[At],
+) -> Result<(), OutOfMemory>
+    ensures stored { OnOk result (terms.new.items ≡ terms.old.items ++ StoredApp head (span_from (length arguments.old.items) (length args.now)) ∷ []) }
+    ensures behind { OnOk result (arguments.new.items ≡ arguments.old.items ++ args.now) }
+    ensures refused_terms { OnErr result (terms.new.items ≡ terms.old.items) }
+    ensures refused_arguments { OnErr result (arguments.new.items ≡ arguments.old.items) }
+{
+    let from = arguments.len();
+    arguments.extend_from_slice(args)?;
+    let to = arguments.len();
+    if let Err(refused) = terms.push(StoredTerm::App(head, Span { from, to })) {
+        arguments.truncate(from);
+        return Err(OutOfMemory::from(refused));
+    }
+    Ok(())
+}
+
+/// Puts a formula behind the formulas and its arguments behind the children. After a refusal both are as before.
+fn store_form(
+    forms: &mut Vec<StoredForm>,
+    arguments: &mut Vec<At>,
+    node: FormNode<'_>,
+) -> Result<(), OutOfMemory>
+    ensures stored { OnOk result (forms.new.items ≡ forms.old.items ++ stored_as (length arguments.old.items) node.entry ∷ []) }
+    ensures behind { OnOk result (arguments.new.items ≡ arguments.old.items ++ load_arguments_of node.entry) }
+    ensures refused_forms { OnErr result (forms.new.items ≡ forms.old.items) }
+    ensures refused_arguments { OnErr result (arguments.new.items ≡ arguments.old.items) }
+{
+    let from = arguments.len();
+    let form = stored_form(arguments, node)?;
+    if let Err(refused) = forms.push(form) {
+        arguments.truncate(from);
+        return Err(OutOfMemory::from(refused));
+    }
+    Ok(())
+}
+
+/// The node as it is stored, with its arguments behind the children. After a refusal the children are as before.
+fn stored_form(arguments: &mut Vec<At>, node: FormNode<'_>) -> Result<StoredForm, OutOfMemory>
+    ensures stored { IfOk result (λ form. form ≡ stored_as (length arguments.old.items) node.entry) }
+    ensures behind { OnOk result (arguments.new.items ≡ arguments.old.items ++ load_arguments_of node.entry) }
+    ensures refused { OnErr result (arguments.new.items ≡ arguments.old.items) }
+{
+    match node {
+        FormNode::Top => Ok(StoredForm::Top),
+        FormNode::One => Ok(StoredForm::One),
+        FormNode::Atom(atom) => Ok(StoredForm::Atom(atom)),
+        FormNode::With(left, right) => Ok(StoredForm::With(left, right)),
+        FormNode::Tensor(left, right) => Ok(StoredForm::Tensor(left, right)),
+        FormNode::Plus(left, right) => Ok(StoredForm::Plus(left, right)),
+        FormNode::Bang(goal) => Ok(StoredForm::Bang(goal)),
+        FormNode::Lolli(clause, goal) => Ok(StoredForm::Lolli(clause, goal)),
+        FormNode::Imp(clause, goal) => Ok(StoredForm::Imp(clause, goal)),
+        FormNode::Forall(body) => Ok(StoredForm::Forall(body)),
+        FormNode::Exists(body) => Ok(StoredForm::Exists(body)),
+        FormNode::Use(module, args, goal) => {
+            let from = arguments.len();
+            arguments.extend_from_slice(args)?;
+            let to = arguments.len();
+            Ok(StoredForm::Use(module, Span { from, to }, goal))
+        }
+    }
+}
+
+/// A stored term as callers see it.
+fn shown_term(children: &[At], term: StoredTerm) -> TermView<'_>
+    requires { IsTermStored children.now term }
+    ensures { node_of_term result ≡ term_node children.now term }
+{
+    match term {
+        StoredTerm::Var(number) => TermView::Var(number),
+        StoredTerm::Int(value) => TermView::Int(value),
+        StoredTerm::App(head, args) => TermView::App(head, &children[args.from..args.to]),
+    }
+}
+
+/// A stored formula as callers see it.
+fn shown_form(children: &[At], form: StoredForm) -> FormNode<'_>
+    requires { IsFormStored children.now form }
+    ensures { node_of result ≡ form_node children.now form }
+{
+    match form {
+        StoredForm::Top => FormNode::Top,
+        StoredForm::One => FormNode::One,
+        StoredForm::Atom(atom) => FormNode::Atom(atom),
+        StoredForm::With(left, right) => FormNode::With(left, right),
+        StoredForm::Tensor(left, right) => FormNode::Tensor(left, right),
+        StoredForm::Plus(left, right) => FormNode::Plus(left, right),
+        StoredForm::Bang(goal) => FormNode::Bang(goal),
+        StoredForm::Lolli(clause, goal) => FormNode::Lolli(clause, goal),
+        StoredForm::Imp(clause, goal) => FormNode::Imp(clause, goal),
+        StoredForm::Forall(body) => FormNode::Forall(body),
+        StoredForm::Exists(body) => FormNode::Exists(body),
+        StoredForm::Use(module, args, goal) => {
+            FormNode::Use(module, &children[args.from..args.to], goal)
+        }
+    }
+}

@@ -1,0 +1,49 @@
+//! The bytes of terms, answers and counts.
+#![tactic(auto)]
+
+ghost use Rattle.std.specs.Prelude.{◌≡◌, ◌≤◌, ◌++◌, length, OnOk, codes, decimal};
+ghost use Rattle.ll_bank.specs.Nodes.{term_tree, HasTerm};
+ghost use Rattle.ll_laws.specs.Output.{line, term_text, answer_text, bindings_text, counts_text};
+ghost use Rattle.ll_printer.specs.Pieces.{BeginsText};
+
+mod pieces;
+mod words;
+
+use crate::pieces::{Piece, print_piece};
+use crate::words::write_number;
+use ll_bank::{At, Bank, Names, OutOfMemory};
+use ll_laws::Counts;
+use std::alloc::Global;
+
+/// Appends the text of a term: `?n` for a variable, `#n` for an eigenconstant, `X::L` with brackets round an `X` of this form. A name
+/// without a text prints as nothing, and so does a bound place.
+///
+/// After a refusal some first bytes of it may have been appended. It needs no deep stack.
+pub fn term(alloc: Global, names: &Names, bank: &Bank, at: At, out: &mut Vec<u8>) -> Result<(), OutOfMemory>
+    requires { HasTerm bank.now at.0 }
+    ensures text { OnOk result (out.new.items ≡ out.old.items ++ term_text names.now (term_tree bank.now at.0)) }
+    ensures begun { BeginsText (term_text names.now (term_tree bank.now at.0)) out.old.items out.new.items }
+{
+    let mut pieces = Vec::new(alloc);
+    pieces.push(Piece::Term(at))?;
+    while let Some(piece) = pieces.pop() {
+        print_piece(names, bank, piece, &mut pieces, out)?;
+    }
+    Ok(())
+}
+
+/// Appends the last line of a run. After a refusal some first bytes of it may have been appended.
+pub fn summary(counts: &Counts, out: &mut Vec<u8>) -> Result<(), OutOfMemory>
+    ensures text { OnOk result (out.new.items
+        ≡ out.old.items ++ counts_text counts.now.answers counts.now.reached counts.now.inferences) }
+    ensures begun { BeginsText (counts_text counts.now.answers counts.now.reached counts.now.inferences) out.old.items out.new.items }
+{
+    out.extend_from_slice(b"answers ")?;
+    write_number(counts.answers, out)?;
+    out.extend_from_slice(b", bound reached ")?;
+    write_number(counts.reached, out)?;
+    out.extend_from_slice(b", inferences ")?;
+    write_number(counts.inferences, out)?;
+    out.push(b'\n')?;
+    Ok(())
+}

@@ -1,0 +1,6 @@
+mod Spines
+mod Stacks
+mod Tables
+mod Scans
+mod Binding
+mod Alike

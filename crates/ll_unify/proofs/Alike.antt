@@ -34,17 +34,17 @@ and_then-assoc Same b c = refl
 and_then-assoc Clash b c = refl
 and_then-assoc (Meet x t) b c = refl
 
-pub diff-append : (as bs cs ds : List Term) → length as ≡ length bs → diff_lists (as ++ cs) (bs ++ ds) ≡ and_then (diff_lists as bs) (diff_lists cs ds)
+pub diff-append : (ts us cs ds : List Term) → length ts ≡ length us → diff_lists (ts ++ cs) (us ++ ds) ≡ and_then (diff_lists ts us) (diff_lists cs ds)
 diff-append [] [] cs ds e = refl
-diff-append [] (b ∷ bs) cs ds e = absurd (omega arith)
-diff-append (a ∷ as) [] cs ds e = absurd (omega arith)
-diff-append (a ∷ as) (b ∷ bs) cs ds e =
-    ap (and_then (diff a b)) (diff-append as bs cs ds (omega arith)) ∙ sym (and_then-assoc (diff a b) (diff_lists as bs) (diff_lists cs ds))
+diff-append [] (b ∷ us) cs ds e = absurd (omega arith)
+diff-append (a ∷ ts) [] cs ds e = absurd (omega arith)
+diff-append (a ∷ ts) (b ∷ us) cs ds e =
+    ap (and_then (diff a b)) (diff-append ts us cs ds (omega arith)) ∙ sym (and_then-assoc (diff a b) (diff_lists ts us) (diff_lists cs ds))
 
 -- ---- spines
 
 shape-part : (f g : Term) (a b : Term) → same_predicate (Ap f a) (Ap g b) ≡ same_predicate f g
-shape-part f g a b = ap (λ c. same_head (head_of f) (head_of g) && c) (eqb-suc-suc {m = arity f} {n = arity g})
+shape-part f g a b = rw eqb-suc-suc
 
 shape-head : (u v : Term) → same_predicate u v ≡ true → same_head (head_of u) (head_of v) ≡ true
 shape-head u v h = and_left (same_head (head_of u) (head_of v)) (nat_eq (arity u) (arity v)) h
@@ -69,7 +69,7 @@ diff-spine s (Ap f a) (Ap g b) e =
     ap (λ d. and_then d (diff (sub s a) (sub s b))) p
     ∙ (ap (and_then (diff_lists (map (sub s) (args_in f)) (map (sub s) (args_in g)))) (sym (one (diff (sub s a) (sub s b))))
     ∙ (sym (diff-append (map (sub s) (args_in f)) (map (sub s) (args_in g)) (sub s a ∷ []) (sub s b ∷ []) n)
-    ∙ (λ i. diff_lists (map-append (sub s) (args_in f) (a ∷ []) (~ i)) (map-append (sub s) (args_in g) (b ∷ []) (~ i)))))
+    ∙ (λ i. diff_lists (sym (map-append (sub s) (args_in f) (a ∷ [])) i) (sym (map-append (sub s) (args_in g) (b ∷ [])) i))))
   where
     one : (d : Diff) → and_then d Same ≡ d
     one Same = refl
@@ -121,15 +121,19 @@ pub alike-solve : (nodes : Nodes) (t : Table) (ls rs ls2 rs2 : List Term) → Al
     → solve n (map (sub s) ls) (map (sub s) rs) levels ≡ solve n (map (sub s) ls2) (map (sub s) rs2) levels
 alike-solve nodes t ls rs ls2 rs2 a zero levels s o = ap (λ d. resolve d levels (λ b. None)) (a s o)
 alike-solve nodes t ls rs ls2 rs2 a (suc n) levels s o =
-    λ i. resolve (a s o i) levels (λ b. step b i)
+    go (λ levels2 s2 o2. alike-solve nodes t ls rs ls2 rs2 a n levels2 s2 o2)
   where
-    step : (b : Binding) → solve n (map (sub (bound_to b.var b.value)) (map (sub s) ls)) (map (sub (bound_to b.var b.value)) (map (sub s) rs)) b.levels
+    step : ((levels2 : List ℕ) (s2 : ℕ → Term) → Obeys nodes t s2 → solve n (map (sub s2) ls) (map (sub s2) rs) levels2 ≡ solve n (map (sub s2) ls2) (map (sub s2) rs2) levels2)
+        → (b : Binding) → solve n (map (sub (bound_to b.var b.value)) (map (sub s) ls)) (map (sub (bound_to b.var b.value)) (map (sub s) rs)) b.levels
         ≡ solve n (map (sub (bound_to b.var b.value)) (map (sub s) ls2)) (map (sub (bound_to b.var b.value)) (map (sub s) rs2)) b.levels
-    step b =
-        let g = bound_to b.var b.value in
+    step ih b =
         (λ i. solve n (map-after (bound_to b.var b.value) s ls i) (map-after (bound_to b.var b.value) s rs i) b.levels)
-        ∙ (alike-solve nodes t ls rs ls2 rs2 a n b.levels (λ x. sub (bound_to b.var b.value) (s x)) (obeys-after nodes t (bound_to b.var b.value) s o)
+        ∙ (ih b.levels (λ x. sub (bound_to b.var b.value) (s x)) (obeys-after nodes t (bound_to b.var b.value) s o)
         ∙ (λ i. solve n (sym (map-after (bound_to b.var b.value) s ls2) i) (sym (map-after (bound_to b.var b.value) s rs2) i) b.levels))
+
+    go : ((levels2 : List ℕ) (s2 : ℕ → Term) → Obeys nodes t s2 → solve n (map (sub s2) ls) (map (sub s2) rs) levels2 ≡ solve n (map (sub s2) ls2) (map (sub s2) rs2) levels2)
+        → solve (suc n) (map (sub s) ls) (map (sub s) rs) levels ≡ solve (suc n) (map (sub s) ls2) (map (sub s) rs2) levels
+    go ih = λ i. resolve (a s o i) levels (λ b. step ih b i)
 
 -- equal terms in front play no part
 pub solve-drop : (n : ℕ) (u : Term) (ls rs : List Term) (levels : List ℕ) → solve n (u ∷ ls) (u ∷ rs) levels ≡ solve n ls rs levels

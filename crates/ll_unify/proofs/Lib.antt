@@ -4,3 +4,5 @@ mod Tables
 mod Scans
 mod Binding
 mod Alike
+mod Pairs
+mod Solving

@@ -1,6 +1,7 @@
 //! Where two terms first differ.
 ghost use Rattle.std.specs.Prelude.{◌≡◌, ◌≤◌, ◌<◌, ℕ, true, length, IfOk, slice_index, [], ◌∷◌};
-ghost use Rattle.ll_bank.specs.Term.{is_spine, same_predicate};
+ghost use Rattle.std.specs.Ordering.{int_eq};
+ghost use Rattle.ll_bank.specs.Term.{is_spine, head_eq};
 ghost use Rattle.ll_bank.specs.Nodes.{Nodes, term_tree, HasTerm};
 ghost use Rattle.ll_laws.specs.Unify.{mgu};
 ghost use Rattle.ll_unify.specs.declared.table.Table.{Table as TableView};
@@ -12,7 +13,7 @@ ghost use Rattle.ll_unify.specs.Solving.{IsSolved};
 use crate::bind::bind;
 use crate::scan::Seen;
 use crate::table::{argument, walk, Table};
-use ll_bank::{At, Bank, OutOfMemory, TermView};
+use ll_bank::{At, Bank, Head, OutOfMemory, TermView};
 use std::alloc::Global;
 
 /// Two applications of one head to as many arguments, of which those before `next` are equal.
@@ -97,6 +98,20 @@ impl Classes {
     }
 }
 
+// Whether two heads are one.
+fn is_same_head(left: Head, right: Head) -> bool
+    ensures { result ≡ head_eq left right }
+{
+    left == right
+}
+
+// Whether two whole numbers are one.
+fn is_same_int(left: i64, right: i64) -> bool
+    ensures { result ≡ int_eq left right }
+{
+    left == right
+}
+
 // How two applications compare.
 fn compare_applied(bank: &Bank, left: At, right: At) -> Compared
     requires left { HasTerm bank.now left.0 }
@@ -111,7 +126,9 @@ fn compare_applied(bank: &Bank, left: At, right: At) -> Compared
     match bank.term_at(left) {
         TermView::App(head, args) => match bank.term_at(right) {
             TermView::App(other, others) => {
-                if head == other && args.len() == others.len() {
+                if !is_same_head(head, other) {
+                    Compared::Clash
+                } else if args.len() == others.len() {
                     Compared::Open(left, right)
                 } else {
                     Compared::Clash
@@ -151,7 +168,7 @@ fn compare(bank: &Bank, table: &Table, classes: &mut Classes, left: At, right: A
         TermView::Int(m) => match bank.term_at(right) {
             TermView::Var(_) => Compared::Meet(left, right),
             TermView::Int(n) => {
-                if m == n {
+                if is_same_int(m, n) {
                     Compared::Same
                 } else {
                     Compared::Clash

@@ -4,8 +4,8 @@ use Rattle.ll_unify.specs.declared.table.Table.{Table}
 use Rattle.ll_unify.specs.Pairs.{AreBelow, AreClasses, IsClass}
 use Rattle.ll_unify.proofs.meet.Classes.find.Given as goal
 
-abbrev pub invariant-loop-ne : goal.invariant-loop-ne
-invariant-loop-ne l = record {
+abbrev pub invariant-loop-place : goal.invariant-loop-place
+invariant-loop-place l = record {
   size : length l.self.up.items ≡ length l.fn.self.up.items;
   inside : l.place < length l.self.up.items;
   below : AreBelow l.self.up.items;
@@ -13,5 +13,5 @@ invariant-loop-ne l = record {
   class : (nodes : Nodes) (t : Table) → AreClasses nodes t l.fn.self.up.items → IsClass nodes t l.fn.at.0 l.place;
 }
 
-abbrev pub decreases-loop-ne : goal.decreases-loop-ne
-decreases-loop-ne l = l.place
+abbrev pub decreases-loop-place : goal.decreases-loop-place
+decreases-loop-place l = l.place

@@ -4,6 +4,7 @@ use Rattle.std.specs.Prelude.{Result, Ok, Err, IfOk, ℤ, ◌||◌, ◌&&◌, no
 use Rattle.std.specs.List.{list_any}
 use Rattle.std.proofs.lemmas.Bool.{eqb-true, eqb-false, eq-eqb, ne_eqb, ltb-true, ltb-false, cases_lt}
 use Rattle.std.proofs.lemmas.List.{length-set, get_or-set_same, get_or-set_other, ext_get_or, get_or_default}
+use Rattle.std.proofs.lemmas.List.Elements.{All-push}
 use Rattle.std.proofs.Math.Nat.{mul-le-mul_right}
 use Rattle.ll_bank.specs.declared.At.{At}
 use Rattle.ll_bank.specs.declared.Head.{Head}
@@ -146,6 +147,8 @@ module _ (nodes : Nodes) (old new : Table) (x : ℕ) (to : At) (c : Change nodes
     past = λ y l. let k : length old.levels.items ≤ y = let e = c.count in omega arith in
       ap (λ s. s y) new-found ∙ (ap (sub (bound_to x (sub (found nodes old) (term_tree nodes to.0)))) (c.table.past y k)
       ∙ bound-other x y (sub (found nodes old) (term_tree nodes to.0)) (λ e. absurd (let b = c.below in omega arith)));
+    trail = subst (All (λ (b : Bound). b.to.0 < new.size)) (sym c.trail) (subst (λ n. All (λ (b : Bound). b.to.0 < n) (old.trail.items ++ (record { var = x; to = to }) ∷ [])) (sym c.size)
+      (All-push (λ (b : Bound). b.to.0 < old.size) old.trail.items (record { var = x; to = to }) c.table.trail c.end.place.inside));
   }
     where
       step : (y : ℕ) → y < length new.levels.items → (b : Bool) → nat_eq y x ≡ b → IsCell nodes new (found nodes new) y (cell new y)

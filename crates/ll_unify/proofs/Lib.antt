@@ -6,3 +6,5 @@ mod Binding
 mod Alike
 mod Pairs
 mod Solving
+mod Copies
+mod Answer

@@ -1,5 +1,5 @@
 -- Bindings of variables to places of a bank, seen as a substitution.
-use Rattle.std.specs.Prelude.{◌≡◌, ◌<◌, ◌≤◌, ℕ, suc, ◌+◌, ◌*◌, Bool, true, false, List, [], ◌∷◌, ◌++◌, length, slice_index, slice_index_or, slice_set, nat_eq, min, cond, ◌||◌, Option, Some, None}
+use Rattle.std.specs.Prelude.{◌≡◌, ◌<◌, ◌≤◌, ℕ, suc, ◌+◌, ◌*◌, Bool, true, false, List, [], ◌∷◌, ◌++◌, All, length, slice_index, slice_index_or, slice_set, nat_eq, min, cond, ◌||◌, Option, Some, None}
 use Rattle.std.specs.List.{list_any}
 use Rattle.ll_bank.specs.declared.At.{At}
 use Rattle.ll_bank.specs.Term.{Term, Var, Int, Con, Ap, sub}
@@ -62,6 +62,7 @@ pub record IsTable (nodes : Nodes) (t : Table) : Type 0 where
   pub bound : length t.bound.items ≡ count t
   pub cells : (x : ℕ) → x < count t → IsCell nodes t (found nodes t) x (cell t x)
   pub past : (x : ℕ) → count t ≤ x → found nodes t x ≡ Var x
+  pub trail : All (λ (b : Bound). b.to.0 < t.size) t.trail.items
 
 -- a substitution goes along with the bindings
 abbrev pub Obeys : Nodes → Table → (ℕ → Term) → Type 0

@@ -1,18 +1,11 @@
 use super::{mgu, Subst};
-use ll_bank::{At, Bank, Head, TermView};
+use ll_bank::{At, Bank, Head, OutOfMemory, TermView};
+use std::alloc::Global;
 use std::test::Fail;
 
-#[test]
-fn depth(rt: HostRuntime) -> Result<(), Fail> {
-    let alloc = rt.alloc();
-    let mut bank = Bank::new(alloc);
-    let mut left = bank.app(Head::Name(1), &[])?;
-    let mut right = bank.app(Head::Name(1), &[])?;
-    for _ in 0..60 {
-        left = bank.app(Head::Name(0), &[left, left])?;
-        right = bank.app(Head::Name(0), &[right, right])?;
-    }
-    let found = mgu(alloc, &mut bank, &[left], &[right], &[])?;
-    assert!(rt; found.is_some());
-    Ok(())
+// The signs of the terms in these tests.
+const CONS: u32 = 100;
+
+fn name(bank: &mut Bank, number: u32, args: &[At]) -> Result<At, OutOfMemory> {
+    bank.app(Head::Name(number), args)
 }

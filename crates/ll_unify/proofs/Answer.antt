@@ -49,7 +49,7 @@ new-table nodes t ls n h l = record {
     none : (x : ℕ) → found nodes t x ≡ Var x
     none x = ap (λ bs. reading nodes Var bs x) h.trail
 
-vars-apply : (n : ℕ) (f : Term) (ts : List Term) → vars_below n f ≡ true → list_all (vars_below n) ts ≡ true → vars_below n (apply f ts) ≡ true
+pub vars-apply : (n : ℕ) (f : Term) (ts : List Term) → vars_below n f ≡ true → list_all (vars_below n) ts ≡ true → vars_below n (apply f ts) ≡ true
 vars-apply n f [] h k = h
 vars-apply n f (u ∷ ts) h k =
     vars-apply n (Ap f u) ts (both (vars_below n f) (vars_below n u) h (and_left (vars_below n u) (list_all (vars_below n) ts) k)) (and_right (vars_below n u) (list_all (vars_below n) ts) k)

@@ -8,3 +8,4 @@ mod Pairs
 mod Solving
 mod Copies
 mod Answer
+mod Levels

@@ -1,22 +1,20 @@
 -- Where lists first differ, and what solves them.
-use Rattle.std.proofs.Common.{◌≡◌, ℕ, zero, suc, ◌+◌, ◌<◌, ◌≤◌, Bool, true, false, List, [], ◌∷◌, ◌++◌, length, map, get_or, drop, All, refl, ap, sym, subst, ◌∙◌, arith, nat_eq, length-append}
-use Rattle.std.specs.Prelude.{◌&&◌, Option, Some, None, option_map, option_and_then, if◌then◌else◌, nat_lt}
-use Rattle.std.specs.Ordering.{int_eq}
+use Rattle.std.proofs.Common.{◌≡◌, ℕ, zero, suc, Bool, true, false, List, [], ◌∷◌, ◌++◌, length, map, refl, ap, sym, subst, ◌∙◌, arith, nat_eq, length-append}
+use Rattle.std.specs.Prelude.{◌&&◌, Option, Some, None, if◌then◌else◌}
 use Rattle.std.proofs.lemmas.Bool.{eqb-true, eq-eqb, ne_eqb}
-use Rattle.std.proofs.Math.Dec.{eqb-suc-zero, eqb-zero-suc, eqb-suc-suc}
+use Rattle.std.proofs.Math.Dec.{eqb-suc-suc}
 use Rattle.std.proofs.lemmas.Bool.Decides.{Decides-int_eq}
 use Rattle.std.proofs.lemmas.List.{map-append, length-map}
 use Rattle.ll_bank.specs.declared.Head.{Head}
 use Rattle.ll_bank.specs.Term.{Term, Var, Int, Con, Ap, sub, is_spine, head_of, arity, head_eq, same_head, same_predicate}
 use Rattle.ll_bank.specs.Nodes.{Nodes, term_tree}
-use Rattle.ll_laws.specs.Unify.{Diff, Same, Clash, Meet, and_then, when, diff_var, diff, diff_lists, bound_to, Solved, Binding, bind, after, resolve, solve}
-use Rattle.ll_laws.proofs.SubLaws.{sub_comp, sub_id, map_map, map_same, and_left, and_right}
-use Rattle.ll_laws.proofs.UnifyLaws.{head_eq-refl, head_eq-true}
+use Rattle.ll_laws.specs.Unify.{Diff, Same, Clash, Meet, and_then, when, diff, diff_lists, bound_to, Binding, resolve, solve}
+use Rattle.ll_laws.proofs.SubLaws.{sub_comp, map_map, map_same, and_left, and_right}
+use Rattle.ll_laws.proofs.UnifyLaws.{head_eq-refl}
 use Rattle.ll_unify.specs.declared.table.Table.{Table}
 use Rattle.ll_unify.specs.Spines.{args_in}
-use Rattle.ll_unify.specs.Bindings.{Obeys, AreSame}
+use Rattle.ll_unify.specs.Bindings.{Obeys}
 use Rattle.ll_unify.specs.Pairs.{Alike}
-use Rattle.ll_unify.specs.Solving.{along}
 
 -- ---- differences
 
@@ -140,4 +138,4 @@ pub solve-drop : (n : ℕ) (u : Term) (ls rs : List Term) (levels : List ℕ) �
 solve-drop zero u ls rs levels = ap (λ d. resolve (and_then d (diff_lists ls rs)) levels (λ b. None)) (diff-refl u)
 solve-drop (suc n) u ls rs levels =
     λ i. resolve (and_then (diff-refl u i) (diff_lists ls rs)) levels
-      (λ b. solve-drop n (sub (bound_to b.var b.value) u) (map (sub (bound_to b.var b.value)) ls) (map (sub (bound_to b.var b.value)) rs) b.levels i)
+    (λ b. solve-drop n (sub (bound_to b.var b.value) u) (map (sub (bound_to b.var b.value)) ls) (map (sub (bound_to b.var b.value)) rs) b.levels i)

@@ -1,28 +1,26 @@
 -- What unification answers, from the bindings that were found.
-use Rattle.std.proofs.Common.{◌≡◌, ◌≢◌, ℕ, zero, suc, ◌+◌, ◌<◌, ◌≤◌, ◌⊎◌, inl, inr, Bool, true, false, List, [], ◌∷◌, ◌++◌, length, map, get_or, All, refl, ap, sym, subst, ◌∙◌, arith, nat_eq}
-use Rattle.std.specs.Prelude.{Option, Some, None, option_map, ◌&&◌, slice_index}
+use Rattle.std.proofs.Common.{◌≡◌, ◌≢◌, ℕ, zero, suc, ◌<◌, ◌≤◌, inl, inr, Bool, true, false, List, [], ◌∷◌, length, get_or, All, refl, ap, sym, subst, ◌∙◌, arith}
+use Rattle.std.specs.Prelude.{Option, Some, None, ◌&&◌}
 use Rattle.std.specs.List.{list_all}
 use Rattle.std.proofs.lemmas.Bool.{eq-eqb, cases_lt}
-use Rattle.std.proofs.lemmas.List.{length-map}
 use Rattle.std.proofs.Math.ListN.{get_or-eq_default}
 use Rattle.ll_bank.specs.declared.Head.{Head}
 use Rattle.ll_bank.specs.declared.At.{At}
-use Rattle.ll_bank.specs.Term.{Term, Var, Int, Con, Ap, apply, app, sub, same_predicate, head_eq}
-use Rattle.ll_bank.specs.Nodes.{Nodes, HasTerm, term_tree, term_trees, AllInTerms, ShowsTerm, Extends}
+use Rattle.ll_bank.specs.Term.{Term, Var, Int, Con, Ap, apply, app, sub}
+use Rattle.ll_bank.specs.Nodes.{Nodes, term_tree, term_trees, AllInTerms, ShowsTerm, Extends}
 use Rattle.ll_bank.proofs.Trees.{ShowsTerm-extends, term_trees-extends}
-use Rattle.ll_laws.specs.Unify.{Solved, mgu, vars_below, IsUnifier, IsMostGeneral}
+use Rattle.ll_laws.specs.Unify.{Solved, mgu, vars_below}
 use Rattle.ll_laws.proofs.SubLaws.{and_left, and_right}
 use Rattle.ll_laws.proofs.UnifyLaws.{head_eq-refl}
 use Rattle.ll_laws.proofs.UnifyBest.{found-unifier, found-falls, found-best, none-unifier}
 use Rattle.ll_unify.specs.declared.table.Table.{Table}
-use Rattle.ll_unify.specs.declared.meet.Pair.{Pair}
 use Rattle.ll_unify.specs.declared.Subst.{Subst}
 use Rattle.ll_unify.specs.Spines.{args_in}
 use Rattle.ll_unify.specs.Bindings.{reading, found, cell, count, rank, unbound, IsTable, IsCell, IsNew, IsFresh}
 use Rattle.ll_unify.specs.Pairs.{IsPair}
-use Rattle.ll_unify.specs.Solving.{IsAnswer, IsSolved}
-use Rattle.ll_unify.specs.Copied.{IsFinal, AreFinal, IsCopy}
-use Rattle.ll_unify.specs.Unifies.{shown, solved_of, IsEntry, HasEntries, IsBestUnifier, IsBest}
+use Rattle.ll_unify.specs.Solving.{IsAnswer}
+use Rattle.ll_unify.specs.Copied.{IsFinal, AreFinal}
+use Rattle.ll_unify.specs.Unifies.{shown, solved_of, IsEntry, HasEntries, IsBest}
 use Rattle.ll_unify.proofs.Spines.{args_in-app}
 use Rattle.ll_unify.proofs.Pairs.{shape-app}
 use Rattle.ll_unify.proofs.Tables.{bound_cell, free_cell, var-below}
@@ -118,8 +116,11 @@ answer-entries nodes new t u n tb c h = record {
     inside x l None None c f = tt
     inside x l None (Some b) c f = absurd f
     inside x l (Some a) None c f = absurd f
-    inside x l (Some a) (Some b) c f = (f.inside, λ e.
-      never-var nodes t x (suc (rank t.levels.items (Var x))) (Var x) tb (omega arith) (λ y q. let w : x ≡ y = cc in subst (λ z. z < count t) w l) (λ q. let d : Some a ≡ None = sym c ∙ q in cc) (sym f.tree ∙ e))
+    inside x l (Some a) (Some b) c f = (
+      f.inside,
+      λ e.
+          never-var nodes t x (suc (rank t.levels.items (Var x))) (Var x) tb (omega arith) (λ y q. let w : x ≡ y = cc in subst (λ z. z < count t) w l) (λ q. let d : Some a ≡ None = sym c ∙ q in cc) (sym f.tree ∙ e),
+    )
 
 -- the answer, as trees, is what is asked for
 pub answer-exact : (nodes new : Nodes) (old t : Table) (u : Subst) (goal : Option Solved) → IsAnswer nodes old t goal → AreFinal nodes new t (count t) u.bound.items → u.levels.items ≡ t.levels.items → Some (solved_of new u) ≡ goal

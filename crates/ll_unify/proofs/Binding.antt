@@ -1,8 +1,7 @@
 -- How a binding changes a table.
-use Rattle.std.proofs.Common.{◌≡◌, ◌≢◌, ℕ, zero, suc, ◌+◌, ◌*◌, ◌<◌, ◌≤◌, ◌⊎◌, inl, inr, Bool, true, false, List, [], ◌∷◌, ◌++◌, length, get_or, All, refl, ap, sym, subst, ◌∙◌, arith, nat_eq}
+use Rattle.std.proofs.Common.{◌≡◌, ◌≢◌, ℕ, zero, suc, ◌+◌, ◌*◌, ◌<◌, ◌≤◌, Bool, true, false, List, [], ◌∷◌, ◌++◌, length, get_or, All, refl, ap, sym, subst, ◌∙◌, arith, nat_eq}
 use Rattle.std.specs.Prelude.{Result, Ok, Err, IfOk, ℤ, ◌||◌, ◌&&◌, not, cond, min, Option, Some, None, slice_index, slice_set, if◌then◌else◌, nat_lt}
-use Rattle.std.specs.List.{list_any}
-use Rattle.std.proofs.lemmas.Bool.{eqb-true, eqb-false, eq-eqb, ne_eqb, ltb-true, ltb-false, cases_lt}
+use Rattle.std.proofs.lemmas.Bool.{eqb-true, eqb-false, eq-eqb, ne_eqb, ltb-true, ltb-false}
 use Rattle.std.proofs.lemmas.List.{length-set, get_or-set_same, get_or-set_other, ext_get_or, get_or_default}
 use Rattle.std.proofs.lemmas.List.Elements.{All-push}
 use Rattle.std.proofs.Math.Nat.{mul-le-mul_right}
@@ -10,15 +9,15 @@ use Rattle.ll_bank.specs.declared.At.{At}
 use Rattle.ll_bank.specs.declared.Head.{Head}
 use Rattle.ll_bank.specs.Term.{Term, Var, Int, Con, Ap, sub, occurs, eigens_below, app}
 use Rattle.ll_bank.specs.Nodes.{Nodes, term_tree}
-use Rattle.ll_laws.specs.Unify.{bound_to, Binding, bind, bind_term, lower, is_older, diff, Meet, Same, Diff, diff_var, vars_below}
+use Rattle.ll_laws.specs.Unify.{bound_to, Binding, bind, bind_term, lower, is_older, diff, Meet, Same, vars_below}
 use Rattle.ll_laws.proofs.SubLaws.{sub_comp, and_left, and_right}
 use Rattle.ll_laws.proofs.UnifyLaws.{level-lower, or_cases}
 use Rattle.ll_unify.specs.declared.table.Table.{Table}
 use Rattle.ll_unify.specs.declared.table.Bound.{Bound}
-use Rattle.ll_unify.specs.Bindings.{then_bound, reading, found, cell, count, rank, IsPlaceOf, IsBound, IsCell, IsTable, Obeys, IsFree, IsEnd, AreSame, IsSet, IsLowered, unbound, HasBound, Binds, IsMeeting, Meets, is_var}
-use Rattle.ll_unify.specs.Scanned.{is_among, IsGood, AreNoted, IsScan, is_bad}
+use Rattle.ll_unify.specs.Bindings.{then_bound, reading, found, cell, count, rank, IsPlaceOf, IsBound, IsCell, IsTable, Obeys, IsEnd, IsSet, IsLowered, unbound, HasBound, Binds, IsMeeting, Meets, is_var}
+use Rattle.ll_unify.specs.Scanned.{is_among, IsScan, is_bad}
 use Rattle.ll_unify.proofs.Spines.{app-var}
-use Rattle.ll_unify.proofs.Tables.{bound_cell, free_cell, end-var, var-below}
+use Rattle.ll_unify.proofs.Tables.{free_cell, end-var, var-below}
 
 -- ---- readings
 
@@ -145,10 +144,10 @@ module _ (nodes : Nodes) (old new : Table) (x : ℕ) (to : At) (c : Change nodes
     bound = ap length c.bound ∙ (length-set old.bound.items x (Some to) ∙ (c.table.bound ∙ sym c.count));
     cells = λ y l. step y l (nat_eq y x) refl;
     past = λ y l. let k : length old.levels.items ≤ y = let e = c.count in omega arith in
-      ap (λ s. s y) new-found ∙ (ap (sub (bound_to x (sub (found nodes old) (term_tree nodes to.0)))) (c.table.past y k)
-      ∙ bound-other x y (sub (found nodes old) (term_tree nodes to.0)) (λ e. absurd (let b = c.below in omega arith)));
+        ap (λ s. s y) new-found ∙ (ap (sub (bound_to x (sub (found nodes old) (term_tree nodes to.0)))) (c.table.past y k)
+        ∙ bound-other x y (sub (found nodes old) (term_tree nodes to.0)) (λ e. absurd (let b = c.below in omega arith)));
     trail = subst (All (λ (b : Bound). b.to.0 < new.size)) (sym c.trail) (subst (λ n. All (λ (b : Bound). b.to.0 < n) (old.trail.items ++ (record { var = x; to = to }) ∷ [])) (sym c.size)
-      (All-push (λ (b : Bound). b.to.0 < old.size) old.trail.items (record { var = x; to = to }) c.table.trail c.end.place.inside));
+        (All-push (λ (b : Bound). b.to.0 < old.size) old.trail.items (record { var = x; to = to }) c.table.trail c.end.place.inside));
   }
     where
       step : (y : ℕ) → y < length new.levels.items → (b : Bool) → nat_eq y x ≡ b → IsCell nodes new (found nodes new) y (cell new y)
@@ -285,7 +284,7 @@ older-rank levels x y b h =
     or_cases (nat_lt (slice_index levels x) (slice_index levels y)) (nat_eq (slice_index levels x) (slice_index levels y) && nat_lt x y) h
     (λ e. less-rank levels x y b (ltb-true (slice_index levels x) (slice_index levels y) e))
     (λ e. same-rank levels x y (eqb-true (slice_index levels x) (slice_index levels y) (and_left (nat_eq (slice_index levels x) (slice_index levels y)) (nat_lt x y) e))
-      (ltb-true x y (and_right (nat_eq (slice_index levels x) (slice_index levels y)) (nat_lt x y) e)))
+    (ltb-true x y (and_right (nat_eq (slice_index levels x) (slice_index levels y)) (nat_lt x y) e)))
 
 newer-rank : (levels : List ℕ) (x y : ℕ) → y < length levels → x ≢ y → is_older levels x y ≡ false → rank levels (Var y) < rank levels (Var x)
 newer-rank levels x y b n h = step (nat_lt (slice_index levels x) (slice_index levels y)) (nat_eq (slice_index levels x) (slice_index levels y)) refl refl h
@@ -327,7 +326,13 @@ change-var nodes old new x y to tb b fr en v n r set =
 
 flip-bound : (nodes : Nodes) (old new : Table) (u v : Term) (b : Binding) → HasBound nodes old new u v b → HasBound nodes old new v u b
 flip-bound nodes old new u v b h = record {
-  table = h.table; size = h.size; levels = h.levels; count = h.count; subst = h.subst; fewer = h.fewer; obeys = h.obeys;
+  table = h.table;
+  size = h.size;
+  levels = h.levels;
+  count = h.count;
+  subst = h.subst;
+  fewer = h.fewer;
+  obeys = h.obeys;
   same = λ s o. sym (h.same s o);
 }
 
@@ -360,10 +365,10 @@ module _ (nodes : Nodes) (old new : Table) (left right : At) (x y : ℕ) (tb : I
     value = Var y;
     meet = vars-meet;
     binds = subst (λ b. Binds nodes old new (term_tree nodes left.0) (term_tree nodes right.0) b true)
-      (sym (ap (λ c. if c then Some (record { var = y; value = Var x; levels = old.levels.items }) else Some (record { var = x; value = Var y; levels = old.levels.items })) o))
-      (flip-bound nodes old new (term_tree nodes right.0) (term_tree nodes left.0) _
+        (sym (ap (λ c. if c then Some (record { var = y; value = Var x; levels = old.levels.items }) else Some (record { var = x; value = Var y; levels = old.levels.items })) o))
+        (flip-bound nodes old new (term_tree nodes right.0) (term_tree nodes left.0) _
         (retree nodes old new (Var y) (term_tree nodes right.0) (term_tree nodes left.0) (term_tree nodes left.0) _ (sym ey) refl
-          (change-var nodes old new y x left tb y-below (m.right_end.free y ey) m.left_end ex (λ e. apart (sym e)) (older-rank old.levels.items x y x-below o) set)));
+        (change-var nodes old new y x left tb y-below (m.right_end.free y ey) m.left_end ex (λ e. apart (sym e)) (older-rank old.levels.items x y x-below o) set)));
   }
 
   -- the left one is bound
@@ -373,8 +378,8 @@ module _ (nodes : Nodes) (old new : Table) (left right : At) (x y : ℕ) (tb : I
     value = Var y;
     meet = vars-meet;
     binds = subst (λ b. Binds nodes old new (term_tree nodes left.0) (term_tree nodes right.0) b true)
-      (sym (ap (λ c. if c then Some (record { var = y; value = Var x; levels = old.levels.items }) else Some (record { var = x; value = Var y; levels = old.levels.items })) o))
-      (retree nodes old new (Var x) (term_tree nodes left.0) (term_tree nodes right.0) (term_tree nodes right.0) _ (sym ex) refl
+        (sym (ap (λ c. if c then Some (record { var = y; value = Var x; levels = old.levels.items }) else Some (record { var = x; value = Var y; levels = old.levels.items })) o))
+        (retree nodes old new (Var x) (term_tree nodes left.0) (term_tree nodes right.0) (term_tree nodes right.0) _ (sym ex) refl
         (change-var nodes old new x y right tb x-below (m.left_end.free x ex) m.right_end ey apart (newer-rank old.levels.items x y y-below apart o) set));
   }
 
@@ -417,7 +422,7 @@ meets-right nodes old new left right y b tb m ey n h = record {
   value = sub (found nodes old) (term_tree nodes left.0);
   meet = ap (diff (sub (found nodes old) (term_tree nodes left.0))) (ap (sub (found nodes old)) ey ∙ end-var nodes old right.0 y tb m.right_end ey) ∙ term-meet y (found nodes old) (term_tree nodes left.0) n;
   binds = flip-binds nodes old new (term_tree nodes right.0) (term_tree nodes left.0) (bind old.levels.items y (sub (found nodes old) (term_tree nodes left.0))) b
-    (binds-tree nodes old new (Var y) (term_tree nodes right.0) (term_tree nodes left.0) (bind old.levels.items y (sub (found nodes old) (term_tree nodes left.0))) b (sym ey) h);
+      (binds-tree nodes old new (Var y) (term_tree nodes right.0) (term_tree nodes left.0) (bind old.levels.items y (sub (found nodes old) (term_tree nodes left.0))) b (sym ey) h);
 }
 
 -- a place with a head or a number is no variable

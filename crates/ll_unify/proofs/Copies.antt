@@ -1,5 +1,5 @@
 -- How terms are copied with all bindings applied.
-use Rattle.std.proofs.Common.{◌≡◌, ℕ, zero, suc, ◌+◌, ◌-◌, ◌<◌, ◌≤◌, ◌⊎◌, inl, inr, Bool, true, false, List, [], ◌∷◌, ◌++◌, length, map, get_or, take, drop, All, refl, ap, sym, subst, ◌∙◌, arith, nat_eq, length-append, append_assoc, length-drop}
+use Rattle.std.proofs.Common.{◌≡◌, ℕ, zero, suc, ◌+◌, ◌-◌, ◌<◌, ◌≤◌, inl, inr, Bool, true, false, List, [], ◌∷◌, ◌++◌, length, map, get_or, take, drop, All, refl, ap, sym, subst, ◌∙◌, arith, nat_eq, length-append, append_assoc, length-drop}
 use Rattle.std.specs.Prelude.{Option, Some, None, slice_set, ◌&&◌}
 use Rattle.std.proofs.lemmas.Bool.{eqb-true, eqb-false, cases_lt}
 use Rattle.std.proofs.lemmas.List.{append-nil, length-map, map-append, length-set, get_or-set_same, get_or-set_other, length-take-le, get_or_default, ext_get_or}
@@ -10,19 +10,19 @@ use Rattle.ll_bank.specs.declared.Head.{Head}
 use Rattle.ll_bank.specs.declared.At.{At}
 use Rattle.ll_bank.specs.Term.{Term, Var, Int, Con, Ap, apply, app, sub, head_of, is_spine, applies_heads}
 use Rattle.ll_bank.specs.Nodes.{Nodes, HasTerm, term_tree, term_trees, AllInTerms, ShowsTerm, Extends}
-use Rattle.ll_bank.proofs.Trees.{Extends-refl, Extends-trans, HasTerm-extends, term_tree-extends, AllInTerms-extends, term_trees-extends, applies_heads-term_tree}
+use Rattle.ll_bank.proofs.Trees.{HasTerm-extends, term_tree-extends, AllInTerms-extends, term_trees-extends, applies_heads-term_tree}
 use Rattle.ll_laws.specs.Unify.{vars_below}
-use Rattle.ll_laws.proofs.SubLaws.{and_left, and_right}
+use Rattle.ll_laws.proofs.SubLaws.{and_left}
 use Rattle.ll_unify.specs.declared.table.Table.{Table}
 use Rattle.ll_unify.specs.declared.table.Bound.{Bound}
 use Rattle.ll_unify.specs.declared.scan.Frame.{Frame}
 use Rattle.ll_unify.specs.Spines.{args_in, arg, ShowsArgument}
-use Rattle.ll_unify.specs.Stacks.{lowest, Stack, is_empty, is_full}
-use Rattle.ll_unify.specs.Bindings.{then_bound, reading, found, cell, count, rank, IsPlaceOf, IsBound, IsCell, IsTable, Obeys, IsFree, IsEnd, AreSame}
+use Rattle.ll_unify.specs.Stacks.{lowest, is_empty, is_full}
+use Rattle.ll_unify.specs.Bindings.{then_bound, reading, found, cell, count, rank, IsPlaceOf, IsCell, IsTable, IsFree, IsEnd, AreSame}
 use Rattle.ll_unify.specs.Scanned.{frame_tree}
 use Rattle.ll_unify.specs.Copied.{IsCopy, IsKnownCopy, AreCopies, CopyArgs, Lacks, Held, IsCopying, IsCopied, IsChanged, IsBuilt, IsFinal, AreFinal, IsCellCopy}
-use Rattle.ll_unify.proofs.Spines.{args_in-app, build_up, is_spine-app}
-use Rattle.ll_unify.proofs.Stacks.{opened, closed, lowest-push, SplitLast, no_item, an_item, split_last, All-before, All-last}
+use Rattle.ll_unify.proofs.Spines.{args_in-app, build_up}
+use Rattle.ll_unify.proofs.Stacks.{opened, closed, no_item, an_item, split_last, All-before, All-last}
 use Rattle.ll_unify.proofs.Tables.{Obeys-found, end-var, bound_cell}
 
 -- ---- a bank that grows
@@ -166,7 +166,7 @@ still s u h e =
 
 -- the place itself serves
 pub built-same : (old : Nodes) (at : At) (own : List At) → HasTerm old at.0 → IsChanged old at.0 own None → IsBuilt old old at.0 own at.0
-built-same old at own l c s args free = record { inside = l; tree = sym (elim c [ | inl h ↦ leaf (term_tree old at.0) (applies_heads-term_tree old at.0) h free | inr e ↦ step (is_spine (term_tree old at.0)) refl e ]) }
+built-same old at own l c s args free = record { inside = l; tree = sym (elim c [ inl h ↦ leaf (term_tree old at.0) (applies_heads-term_tree old at.0) h free | inr e ↦ step (is_spine (term_tree old at.0)) refl e ]) }
   where
     leaf : (u : Term) → applies_heads u ≡ true → is_spine u ≡ false → ((x : ℕ) → u ≡ Var x → s x ≡ Var x) → sub s u ≡ u
     leaf (Var x) a h f = f x refl
@@ -222,22 +222,31 @@ args-count nodes s u n own c =
 
 held-extends : (first old new : Nodes) (s : ℕ → Term) (fs : List Frame) (c : Term) (made : List At) → Extends old new → Held first old s fs c made → Held first new s fs c made
 held-extends first old new s [] c made e h = h
-held-extends first old new s (f ∷ fs) c made e h =
-    (h.0, h.1, h.2, record {
-      before = h.3.before;
-      next = h.3.next;
-      among = h.3.among;
-      copies = args-extends old new s (frame_tree first f) h.3.before h.0 e h.3.copies;
-      last = h.3.last;
-    }, held-extends first old new s fs c h.1 e h.4)
+held-extends first old new s (f ∷ fs) c made e h = (
+  h.0,
+  h.1,
+  h.2,
+  record {
+    before = h.3.before;
+    next = h.3.next;
+    among = h.3.among;
+    copies = args-extends old new s (frame_tree first f) h.3.before h.0 e h.3.copies;
+    last = h.3.last;
+  },
+  held-extends first old new s fs c h.1 e h.4,
+)
 
 -- one more frame waits for c
 held-push : (first nodes : Nodes) (s : ℕ → Term) (fs : List Frame) (f : Frame) (c : Term) (below own : List At) → Held first nodes s fs (frame_tree first f) below → Lacks nodes s (frame_tree first f) f c own
     → Held first nodes s (fs ++ f ∷ []) c (below ++ own)
 held-push first nodes s [] f c below own h l = (own, [], ap (λ ms. ms ++ own) h ∙ sym (append-nil own), l, refl)
-held-push first nodes s (g ∷ fs) f c below own h l =
-    (h.0, h.1 ++ own, ap (λ ms. ms ++ own) h.2 ∙ append_assoc h.0 h.1 own,
-      subst (λ u. Lacks nodes s (frame_tree first g) g u h.0) (sym (lowest-frame fs)) h.3, held-push first nodes s fs f c h.1 own h.4 l)
+held-push first nodes s (g ∷ fs) f c below own h l = (
+  h.0,
+  h.1 ++ own,
+  ap (λ ms. ms ++ own) h.2 ∙ append_assoc h.0 h.1 own,
+  subst (λ u. Lacks nodes s (frame_tree first g) g u h.0) (sym (lowest-frame fs)) h.3,
+  held-push first nodes s fs f c h.1 own h.4 l,
+)
   where
     lowest-frame : (gs : List Frame) → lowest (frame_tree first) (gs ++ f ∷ []) c ≡ lowest (frame_tree first) gs (frame_tree first f)
     lowest-frame [] = refl
@@ -295,7 +304,7 @@ module _ (first : Nodes) (t : Table) (whole : Term) (tb : IsTable first t) where
         own = p.own ++ copy ∷ [];
         is = ap (λ ms. ms ++ copy ∷ []) p.is ∙ append_assoc p.below p.own (copy ∷ []);
         copies = args-more nodes (found first t) (frame_tree first f) f.next p.own copy p.copies a.among
-          (subst (IsCopy nodes copy.0) (same ∙ ap (sub (found first t)) (sym a.is)) k);
+            (subst (IsCopy nodes copy.0) (same ∙ ap (sub (found first t)) (sym a.is)) k);
         held = p.held;
         bottom = p.bottom;
         end = p.end;
@@ -316,13 +325,13 @@ module _ (first : Nodes) (t : Table) (whole : Term) (tb : IsTable first t) where
         is = sym (append-nil made);
         copies = args-none nodes (found first t) (term_tree first end.0);
         held = subst (Held first nodes (found first t) (fs ++ (record { at = f.at; next = suc f.next }) ∷ []) (term_tree first end.0)) (sym p.is)
-          (held-push first nodes (found first t) fs (record { at = f.at; next = suc f.next }) (term_tree first end.0) p.below p.own p.held (record {
-            before = f.next;
-            next = refl;
-            among = a.among;
-            copies = p.copies;
-            last = ap (sub (found first t)) a.is ∙ sym same;
-          }));
+            (held-push first nodes (found first t) fs (record { at = f.at; next = suc f.next }) (term_tree first end.0) p.below p.own p.held (record {
+              before = f.next;
+              next = refl;
+              among = a.among;
+              copies = p.copies;
+              last = ap (sub (found first t)) a.is ∙ sym same;
+            }));
         bottom = ap (sub (found first t)) (lowest-frame fs f) ∙ p.bottom;
         end = en;
         ends = All-push (λ (q : Frame). IsEnd first t q.at.0) fs (record { at = f.at; next = suc f.next }) p.ends p.end;
@@ -364,7 +373,7 @@ module _ (first : Nodes) (t : Table) (whole : Term) (tb : IsTable first t) where
               own = r.own ++ copy ∷ [];
               is = ap (λ ms. ms ++ copy ∷ []) r.is ∙ append_assoc r.below r.own (copy ∷ []);
               copies = subst (λ n. CopyArgs new (found first t) (frame_tree first g) n (r.own ++ copy ∷ [])) (sym r.lacks.next)
-                (args-more new (found first t) (frame_tree first g) r.lacks.before r.own copy r.lacks.copies r.lacks.among (subst (IsCopy new copy.0) (sym r.lacks.last) k));
+                  (args-more new (found first t) (frame_tree first g) r.lacks.before r.own copy r.lacks.copies r.lacks.among (subst (IsCopy new copy.0) (sym r.lacks.last) k));
               held = r.held;
               bottom = ap (sub (found first t)) (sym (lowest-frame hs g)) ∙ b2;
               end = All-last (λ (z : Frame). IsEnd first t z.at.0) hs g a;

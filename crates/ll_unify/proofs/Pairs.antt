@@ -1,6 +1,6 @@
 -- How pairs of applications are compared.
-use Rattle.std.proofs.Common.{◌≡◌, ◌≢◌, ℕ, zero, suc, ◌+◌, ◌<◌, ◌≤◌, ◌⊎◌, inl, inr, Bool, true, false, List, [], ◌∷◌, ◌++◌, length, map, get_or, drop, All, refl, ap, sym, subst, ◌∙◌, arith, nat_eq, length-append, append_assoc}
-use Rattle.std.specs.Prelude.{ℤ, ◌||◌, ◌&&◌, Option, Some, None, slice_index, slice_set, sum_by}
+use Rattle.std.proofs.Common.{◌≡◌, ℕ, zero, suc, ◌+◌, ◌<◌, ◌≤◌, ◌⊎◌, inl, inr, Bool, true, false, List, [], ◌∷◌, ◌++◌, length, map, get_or, drop, All, refl, ap, sym, subst, ◌∙◌, arith, nat_eq, append_assoc}
+use Rattle.std.specs.Prelude.{ℤ, ◌||◌, ◌&&◌, Option, Some, None, slice_index, slice_set}
 use Rattle.std.specs.Ordering.{int_eq}
 use Rattle.std.proofs.lemmas.Bool.{eqb-true, eqb-false, eq-eqb, ne_eqb, cases_lt}
 use Rattle.std.proofs.lemmas.Bool.Decides.{Decides-int_eq}
@@ -12,20 +12,19 @@ use Rattle.ll_bank.specs.declared.Head.{Head}
 use Rattle.ll_bank.specs.declared.At.{At}
 use Rattle.ll_bank.specs.Term.{Term, Var, Int, Con, Ap, sub, is_spine, head_of, arity, head_eq, same_head, same_predicate, apply, app}
 use Rattle.ll_bank.specs.Nodes.{Nodes, term_tree, term_trees}
-use Rattle.ll_laws.specs.Unify.{Diff, Same, Clash, Meet, and_then, when, diff, diff_lists, vars_below}
-use Rattle.ll_laws.proofs.SubLaws.{and_left, and_right}
-use Rattle.ll_laws.proofs.UnifyLaws.{head_eq-true, head_eq-refl, diff-same as diff-is-same}
+use Rattle.ll_laws.specs.Unify.{Same, Clash, and_then, when, diff, diff_lists}
+use Rattle.ll_laws.proofs.SubLaws.{and_left}
+use Rattle.ll_laws.proofs.UnifyLaws.{diff-same as diff-is-same}
 use Rattle.ll_unify.specs.declared.table.Table.{Table}
 use Rattle.ll_unify.specs.declared.meet.Pair.{Pair}
 use Rattle.ll_unify.specs.declared.meet.Compared.{Compared}
 use Rattle.ll_unify.specs.declared.meet.Compared.TheVariants.{Same as SameTerms, Clash as ClashTerms, Meet as MeetTerms, Open as OpenTerms}
 use Rattle.ll_unify.specs.Spines.{args_in, arg, weight, rest_weight, ShowsArgument}
-use Rattle.ll_unify.specs.Stacks.{lowest, Waits, Stack, is_empty, is_full}
-use Rattle.ll_unify.specs.Bindings.{found, cell, count, IsPlaceOf, IsTable, Obeys, IsEnd, AreSame, IsMeeting, is_var}
-use Rattle.ll_unify.specs.Pairs.{Two, pair_trees, lefts, rights, AreEqual, AwaitsEqual, IsPair, IsComparing, ArePairs, Awaits, IsClass, AreClasses, AreBelow, Alike, Opens, MeetsAt, MeetsFirst, AreJoined, ComparesApplied, IsCompared, pairs_weight}
-use Rattle.ll_unify.proofs.Spines.{build_up, weight-two, rest_weight-more, weight-place, is_spine-app, app-var, args_in-app}
-use Rattle.ll_unify.proofs.Stacks.{opened, closed, lowest-push, Waits-push, Waits-last, Waits-map, SplitLast, no_item, an_item, split_last, All-before, All-last}
-use Rattle.ll_unify.proofs.Tables.{Obeys-found}
+use Rattle.ll_unify.specs.Stacks.{Waits, is_empty, is_full}
+use Rattle.ll_unify.specs.Bindings.{Obeys, IsEnd, AreSame, is_var}
+use Rattle.ll_unify.specs.Pairs.{pair_trees, lefts, rights, AwaitsEqual, IsPair, IsComparing, ArePairs, Awaits, IsClass, AreClasses, AreBelow, Alike, Opens, MeetsAt, AreJoined, ComparesApplied, IsCompared, pairs_weight}
+use Rattle.ll_unify.proofs.Spines.{weight-two, rest_weight-more, weight-place, is_spine-app, args_in-app}
+use Rattle.ll_unify.proofs.Stacks.{opened, Waits-push, Waits-last, no_item, an_item, split_last, All-before, All-last}
 use Rattle.ll_unify.proofs.Alike.{diff-refl, diff-same, diff-append, diff-spine, diff-clash, shape-length, arity-length}
 
 -- ---- classes of places
@@ -206,9 +205,9 @@ pub alike-next : (nodes : Nodes) (t : Table) (items ps : List Pair) (p q : Pair)
 alike-next nodes t items ps p q a b e sa sb ql qr qn =
     alike-same nodes t (lefts nodes items) (rights nodes items) (term_tree nodes a.0 ∷ lefts nodes (ps ++ q ∷ [])) (term_tree nodes b.0 ∷ rights nodes (ps ++ q ∷ []))
     (ap (lefts nodes) e ∙ (lefts-push nodes ps p ∙ (ap (λ ts. ts ++ lefts nodes ps) (first (args_in (term_tree nodes p.left.0)) p.next (term_tree nodes a.0) sa.among sa.is)
-      ∙ ap (λ ts. term_tree nodes a.0 ∷ ts) (sym (lefts-push nodes ps q ∙ (λ i. drop (count1 i) (args_in (term_tree nodes (ql i).0)) ++ lefts nodes ps))))))
+    ∙ ap (λ ts. term_tree nodes a.0 ∷ ts) (sym (lefts-push nodes ps q ∙ (λ i. drop (count1 i) (args_in (term_tree nodes (ql i).0)) ++ lefts nodes ps))))))
     (ap (rights nodes) e ∙ (rights-push nodes ps p ∙ (ap (λ ts. ts ++ rights nodes ps) (first (args_in (term_tree nodes p.right.0)) p.next (term_tree nodes b.0) sb.among sb.is)
-      ∙ ap (λ ts. term_tree nodes b.0 ∷ ts) (sym (rights-push nodes ps q ∙ (λ i. drop (count1 i) (args_in (term_tree nodes (qr i).0)) ++ rights nodes ps))))))
+    ∙ ap (λ ts. term_tree nodes b.0 ∷ ts) (sym (rights-push nodes ps q ∙ (λ i. drop (count1 i) (args_in (term_tree nodes (qr i).0)) ++ rights nodes ps))))))
   where
     count1 : q.next ≡ suc p.next
     count1 = qn ∙ (omega arith)
@@ -235,7 +234,7 @@ alike-open nodes t u v a b ps h s o =
     ap (λ d. and_then d (diff_lists (map (sub s) (lefts nodes ps)) (map (sub s) (rights nodes ps)))) ((λ i. diff (sym (h.left s o) i) (sym (h.right s o) i)) ∙ diff-spine s (term_tree nodes a.0) (term_tree nodes b.0) h.shape)
     ∙ (sym (diff-append (map (sub s) us) (map (sub s) vs) (map (sub s) (lefts nodes ps)) (map (sub s) (rights nodes ps)) n)
     ∙ (λ i. diff_lists ((sym (map-append (sub s) us (lefts nodes ps)) ∙ ap (map (sub s)) (sym (lefts-push nodes ps (record { left = a; right = b; next = 0 })))) i)
-        ((sym (map-append (sub s) vs (rights nodes ps)) ∙ ap (map (sub s)) (sym (rights-push nodes ps (record { left = a; right = b; next = 0 })))) i)))
+    ((sym (map-append (sub s) vs (rights nodes ps)) ∙ ap (map (sub s)) (sym (rights-push nodes ps (record { left = a; right = b; next = 0 })))) i)))
   where
     us : List Term
     us = args_in (term_tree nodes a.0)
@@ -283,7 +282,7 @@ awaits-equal nodes t ps u v w h = elim (split_last ps) [
   | no_item e ↦ is_empty e tt
   | an_item qs q e ↦
       let w2 : Waits (pair_trees nodes) (AwaitsEqual nodes t) (qs ++ q ∷ []) (record { left = u; right = v }) =
-        subst (λ z. Waits (pair_trees nodes) (AwaitsEqual nodes t) z (record { left = u; right = v })) e w.waits in
+      subst (λ z. Waits (pair_trees nodes) (AwaitsEqual nodes t) z (record { left = u; right = v })) e w.waits in
       let r = Waits-last (pair_trees nodes) (AwaitsEqual nodes t) qs q (record { left = u; right = v }) w2 in
       let a2 : All (IsPair nodes t) (qs ++ q ∷ []) = subst (All (IsPair nodes t)) e w.pairs in
       is_full qs q e (record {
@@ -343,8 +342,10 @@ top-equal nodes t ps p c l s o =
     diff-is-same (sub s (term_tree nodes p.left.0)) (sub s (term_tree nodes p.right.0)) (equal-terms s (term_tree nodes p.left.0) (term_tree nodes p.right.0) c.pair.shape (λ k m. c.top s o k (omega arith)))
 
 pub shape-spine : (u v : Term) → same_predicate u v ≡ true → (is_spine u ≡ true) × (is_spine v ≡ true)
-shape-spine u v h = (left (head_of u) (head_of v) refl (and_left (same_head (head_of u) (head_of v)) (nat_eq (arity u) (arity v)) h),
-    right (head_of u) (head_of v) refl (and_left (same_head (head_of u) (head_of v)) (nat_eq (arity u) (arity v)) h))
+shape-spine u v h = (
+  left (head_of u) (head_of v) refl (and_left (same_head (head_of u) (head_of v)) (nat_eq (arity u) (arity v)) h),
+  right (head_of u) (head_of v) refl (and_left (same_head (head_of u) (head_of v)) (nat_eq (arity u) (arity v)) h),
+)
   where
     spine : (w : Term) (k : Head) → head_of w ≡ Some k → is_spine w ≡ true
     spine (Var x) k e = cc

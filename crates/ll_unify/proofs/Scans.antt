@@ -1,10 +1,7 @@
 -- How a term is looked through.
-use Rattle.std.proofs.Common.{◌≡◌, ℕ, zero, suc, ◌+◌, ◌<◌, ◌≤◌, ◌⊎◌, inl, inr, Bool, true, false, List, [], ◌∷◌, ◌++◌, length, get_or, All, refl, ap, sym, subst, ◌∙◌, arith, nat_eq, length-append}
-use Rattle.std.specs.Prelude.{◌||◌, ◌&&◌, not, sum_by, Option, Some, None}
-use Rattle.std.specs.List.{list_any}
-use Rattle.std.proofs.lemmas.Bool.{eqb-true, eqb-false, eq-eqb, cases_lt, ltb-true}
-use Rattle.std.proofs.Math.ListN.{get_or-append}
-use Rattle.std.proofs.Math.Seq.{get_or-append_seam}
+use Rattle.std.proofs.Common.{◌≡◌, ℕ, ◌+◌, ◌<◌, ◌≤◌, ◌⊎◌, inl, inr, Bool, true, false, List, [], ◌∷◌, ◌++◌, length, get_or, All, refl, ap, sym, subst, ◌∙◌, arith, nat_eq}
+use Rattle.std.specs.Prelude.{◌||◌, ◌&&◌, not, Option, Some, None}
+use Rattle.std.proofs.lemmas.Bool.{eqb-true, eq-eqb, cases_lt, ltb-true}
 use Rattle.std.proofs.lemmas.List.Elements.{All-push}
 use Rattle.std.proofs.lemmas.List.Sums.{sum_by_push}
 use Rattle.ll_bank.specs.declared.Head.{Head}
@@ -19,12 +16,12 @@ use Rattle.ll_laws.proofs.UnifyLaws.{or_cases}
 use Rattle.ll_unify.specs.declared.table.Table.{Table}
 use Rattle.ll_unify.specs.declared.scan.Frame.{Frame}
 use Rattle.ll_unify.specs.Spines.{args_in, arg, weight, rest_weight, ShowsArgument}
-use Rattle.ll_unify.specs.Stacks.{lowest, Waits, Stack, is_empty, is_full}
+use Rattle.ll_unify.specs.Stacks.{lowest, Waits, is_empty, is_full}
 use Rattle.ll_unify.specs.Bindings.{found, cell, count, IsTable, IsEnd, IsFree, AreSame}
 use Rattle.ll_unify.specs.Scanned.{is_among, IsGood, IsPart, is_bad, AreNoted, IsScan, AreGood, frame_tree, IsFrame, IsScanning, AreFrames, IsScanned, IsKnown, is_good_sign, own_vars, IsLook, frames_weight}
 use Rattle.ll_unify.proofs.Spines.{build_up, take_down, weight-two, rest_weight-more, weight-place, is_spine-app}
-use Rattle.ll_unify.proofs.Stacks.{opened, closed, lowest-push, Waits-push, Waits-last, Waits-map, SplitLast, no_item, an_item, split_last, All-before, All-last}
-use Rattle.ll_unify.proofs.Tables.{end-var, Obeys-found, var-below}
+use Rattle.ll_unify.proofs.Stacks.{opened, closed, lowest-push, Waits-push, Waits-last, Waits-map, no_item, an_item, split_last, All-before, All-last}
+use Rattle.ll_unify.proofs.Tables.{end-var, Obeys-found}
 
 -- ---- tests
 
@@ -190,9 +187,9 @@ pub scan-known : (nodes : Nodes) (t : Table) (x l : ℕ) (places : List At) (var
 scan-known nodes t x l places vars whole items fs f g to end tb h e a same known ga gn =
     let p = scan-top nodes t x l places vars whole items fs f h e in
     let good : IsGood x l vars (sub (found nodes t) (term_tree nodes end.0)) =
-      subst (λ (q : At). IsGood x l vars (sub (found nodes t) (term_tree nodes q.0))) known.2 (h.places known.0 (record { 0 = 0 }) known.1) in
+    subst (λ (q : At). IsGood x l vars (sub (found nodes t) (term_tree nodes q.0))) known.2 (h.places known.0 (record { 0 = 0 }) known.1) in
     let last : IsGood x l vars (sub (found nodes t) (arg (frame_tree nodes f) f.next)) =
-      subst (IsGood x l vars) (same (found nodes t) (Obeys-found nodes t tb) ∙ ap (sub (found nodes t)) (sym a.is)) good in
+    subst (IsGood x l vars) (same (found nodes t) (Obeys-found nodes t tb) ∙ ap (sub (found nodes t)) (sym a.is)) good in
     let q : IsScanning nodes t x l vars whole fs (record { at = f.at; next = f.next + 1 }) = record {
       top = λ k b. elim (below-suc k f.next b) [
         | inl c ↦ p.top k c
@@ -221,9 +218,9 @@ scan-opens nodes t x l places vars whole items fs f g to end tb h e a en same ga
     let p = scan-top nodes t x l places vars whole items fs f h e in
     let s = found nodes t in
     let is : sub (found nodes t) (arg (frame_tree nodes f) f.next) ≡ sub (found nodes t) (term_tree nodes end.0) =
-      ap (sub (found nodes t)) a.is ∙ sym (same (found nodes t) (Obeys-found nodes t tb)) in
+    ap (sub (found nodes t)) a.is ∙ sym (same (found nodes t) (Obeys-found nodes t tb)) in
     let part : IsPart x l (sub (found nodes t) (term_tree nodes end.0)) whole =
-      subst (λ u. IsPart x l u whole) is (part-arg x l (found nodes t) (frame_tree nodes f) whole f.next p.frame.part a.among) in
+    subst (λ u. IsPart x l u whole) is (part-arg x l (found nodes t) (frame_tree nodes f) whole f.next p.frame.part a.among) in
     let tree : frame_tree nodes f ≡ frame_tree nodes g = ap (λ (b : At). term_tree nodes b.0) (sym ga) in
     let waits : AreGood nodes t x l vars g (term_tree nodes end.0) = λ k b. elim (below-suc k f.next (subst (λ n. k < n) gn b)) [
       | inl c ↦ inl (subst (λ u. IsGood x l vars (sub (found nodes t) (arg u k))) tree (p.top k c))
@@ -233,9 +230,9 @@ scan-opens nodes t x l places vars whole items fs f g to end tb h e a en same ga
     let q : IsScanning nodes t x l vars whole (fs ++ g ∷ []) (record { at = end; next = 0 }) = record {
       top = λ k b. absurd (omega arith);
       waits = Waits-push (frame_tree nodes) (AreGood nodes t x l vars) fs g (term_tree nodes end.0)
-        (subst (λ u. Waits (frame_tree nodes) (AreGood nodes t x l vars) fs u) tree p.waits) waits;
+          (subst (λ u. Waits (frame_tree nodes) (AreGood nodes t x l vars) fs u) tree p.waits) waits;
       bottom = ap (sub (found nodes t)) (lowest-push (frame_tree nodes) (AreGood nodes t x l vars) fs g (term_tree nodes end.0)) ∙
-        (ap (λ u. sub (found nodes t) (lowest (frame_tree nodes) fs u)) (sym tree) ∙ p.bottom);
+          (ap (λ u. sub (found nodes t) (lowest (frame_tree nodes) fs u)) (sym tree) ∙ p.bottom);
       frame = record { end = en; part = part };
       frames = All-push (IsFrame nodes t x l whole) fs g p.frames (same_frame f.at g.at f.next g.next (sym ga) p.frame);
     } in
@@ -263,10 +260,10 @@ noted_more nodes t x l vars whole (Var y) b f p e h =
     let is : (z : ℕ) → is_among (y ∷ []) z ≡ true → z ≡ y = λ z o. or_cases (nat_eq z y) false o (eqb-true z y) (λ q. cc) in
     record {
       stand = λ z o. or_cases (is_among vars z) (is_among (y ∷ []) z) (sym (among-append vars (y ∷ []) z) ∙ o) (h.stand z)
-        (λ q. p.vars z (subst (λ u. occurs z u ≡ true) (sym (e y refl)) (eq-eqb z y (is z q))));
+          (λ q. p.vars z (subst (λ u. occurs z u ≡ true) (sym (e y refl)) (eq-eqb z y (is z q))));
       below = All-push (λ z. z < count t) vars y h.below (ltb-true y (count t) b);
       free = λ z o. or_cases (is_among vars z) (is_among (y ∷ []) z) (sym (among-append vars (y ∷ []) z) ∙ o) (h.free z)
-        (λ q. subst (λ w. cell t w ≡ None) (sym (is z q)) (f y refl));
+          (λ q. subst (λ w. cell t w ≡ None) (sym (is z q)) (f y refl));
     }
 noted_more nodes t x l vars whole (Int z) b f p e h = subst (λ vs. AreNoted t vs whole) (sym (append-nil vars)) h
 noted_more nodes t x l vars whole (Con k) b f p e h = subst (λ vs. AreNoted t vs whole) (sym (append-nil vars)) h
@@ -279,12 +276,12 @@ pub scan-closes : (nodes : Nodes) (t : Table) (x l : ℕ) (places : List At) (va
 scan-closes nodes t x l places vars new_vars whole items fs f tb h e b look =
     let p = scan-top nodes t x l places vars whole items fs f h e in
     let g : IsGood x l (vars ++ own_vars (frame_tree nodes f)) (sub (found nodes t) (frame_tree nodes f)) =
-      top_good nodes t x l vars whole fs f tb p b (sym look.good) in
+    top_good nodes t x l vars whole fs f tb p b (sym look.good) in
     let r : IsScanned nodes t x l (places ++ f.at ∷ []) (vars ++ own_vars (frame_tree nodes f)) whole fs = record {
       places = All-push (λ (q : At). IsGood x l (vars ++ own_vars (frame_tree nodes f)) (sub (found nodes t) (term_tree nodes q.0))) places f.at
-        (λ k d c. good-more x l vars (own_vars (frame_tree nodes f)) (sub (found nodes t) (term_tree nodes (get_or places k d).0)) (h.places k d c)) g;
+          (λ k d c. good-more x l vars (own_vars (frame_tree nodes f)) (sub (found nodes t) (term_tree nodes (get_or places k d).0)) (h.places k d c)) g;
       noted = noted_more nodes t x l vars whole (frame_tree nodes f) p.frame.end.place.vars p.frame.end.free p.frame.part
-        (λ y q. end-var nodes t f.at.0 y tb p.frame.end q) h.noted;
+          (λ y q. end-var nodes t f.at.0 y tb p.frame.end q) h.noted;
       frames = under fs p.waits p.bottom p.frames g;
     } in
     subst (λ vs. IsScanned nodes t x l (places ++ f.at ∷ []) vs whole fs) (sym look.vars) r

@@ -1,22 +1,21 @@
 -- How bindings lead to what solves a list of equations.
-use Rattle.std.proofs.Common.{◌≡◌, ℕ, zero, suc, ◌+◌, ◌<◌, ◌≤◌, Bool, true, false, List, [], ◌∷◌, ◌++◌, length, map, drop, get_or, All, refl, ap, sym, subst, ◌∙◌, arith}
+use Rattle.std.proofs.Common.{◌≡◌, ℕ, zero, suc, ◌<◌, true, false, List, [], ◌∷◌, ◌++◌, length, map, get_or, refl, ap, sym, subst, ◌∙◌, arith}
 use Rattle.std.specs.Prelude.{Option, Some, None, option_map, option_and_then, slice_index}
-use Rattle.std.proofs.lemmas.List.{append-nil}
 use Rattle.ll_bank.specs.declared.At.{At}
 use Rattle.ll_bank.specs.Term.{Term, Var, sub}
 use Rattle.ll_bank.specs.Nodes.{Nodes, term_tree}
-use Rattle.ll_laws.specs.Unify.{Diff, Same, Clash, Meet, and_then, diff, diff_lists, bound_to, Solved, Binding, bind, after, resolve, solve, mgu, vars_below}
+use Rattle.ll_laws.specs.Unify.{Clash, Meet, and_then, diff, diff_lists, bound_to, Solved, Binding, bind, after, resolve, solve, mgu, vars_below}
 use Rattle.ll_laws.proofs.SubLaws.{sub_comp, sub_id, map_map, map_same}
 use Rattle.ll_unify.specs.declared.table.Table.{Table}
 use Rattle.ll_unify.specs.declared.meet.Pair.{Pair}
 use Rattle.ll_unify.specs.Spines.{args_in}
-use Rattle.ll_unify.specs.Bindings.{found, cell, count, IsPlaceOf, IsTable, Obeys, IsEnd, AreSame, HasBound, Binds, Meets, unbound, IsFresh, reading}
-use Rattle.ll_unify.specs.Pairs.{Two, pair_trees, lefts, rights, AwaitsEqual, IsPair, IsComparing, ArePairs, Awaits, IsClass, AreClasses, Alike, MeetsFirst}
-use Rattle.ll_unify.specs.Solving.{along, Solves, IsAnswer, IsSolved}
-use Rattle.ll_unify.specs.Stacks.{lowest, Waits, Stack, is_empty, is_full}
-use Rattle.ll_unify.proofs.Stacks.{Waits-map, closed}
+use Rattle.ll_unify.specs.Bindings.{found, count, IsPlaceOf, IsTable, Obeys, AreSame, HasBound, Binds, Meets, unbound, IsFresh, reading}
+use Rattle.ll_unify.specs.Pairs.{pair_trees, lefts, rights, AwaitsEqual, IsPair, ArePairs, Awaits, IsClass, AreClasses, Alike}
+use Rattle.ll_unify.specs.Solving.{along, Solves}
+use Rattle.ll_unify.specs.Stacks.{is_full}
+use Rattle.ll_unify.proofs.Stacks.{Waits-map}
 use Rattle.ll_unify.proofs.Tables.{Obeys-found}
-use Rattle.ll_unify.proofs.Alike.{alike-solve, solve-drop, map-after}
+use Rattle.ll_unify.proofs.Alike.{alike-solve, solve-drop}
 use Rattle.ll_unify.proofs.Pairs.{awaits-equal, class-refl}
 
 -- the same lists in another form
@@ -65,8 +64,8 @@ diff-front u v ls rs x w e = ap (λ d. and_then d (diff_lists ls rs)) e
 pub solves-refused : (nodes : Nodes) (old new : Table) (goal : Option Solved) (u v : Term) (ls rs : List Term) → Solves nodes old goal (u ∷ ls) (v ∷ rs) → Meets nodes old new u v false → goal ≡ None
 solves-refused nodes old new goal u v ls rs h m =
     h ∙ ap (option_map (along (found nodes old))) (solve-unbound (unbound old.bound.items) (map (sub (found nodes old)) (u ∷ ls)) (map (sub (found nodes old)) (v ∷ rs)) old.levels.items m.var m.value
-      (diff-front (sub (found nodes old) u) (sub (found nodes old) v) (map (sub (found nodes old)) ls) (map (sub (found nodes old)) rs) m.var m.value m.meet)
-      (no_binding (bind old.levels.items m.var m.value) m.binds))
+    (diff-front (sub (found nodes old) u) (sub (found nodes old) v) (map (sub (found nodes old)) ls) (map (sub (found nodes old)) rs) m.var m.value m.meet)
+    (no_binding (bind old.levels.items m.var m.value) m.binds))
   where
     no_binding : (o : Option Binding) → Binds nodes old new u v o false → o ≡ None
     no_binding None b = refl
@@ -92,7 +91,7 @@ solves-bound nodes old new goal u v ls rs tb h m =
     step b e c =
         h ∙ (ap (λ n. option_map (along s) (solve n (map (sub s) (u ∷ ls)) (map (sub s) (v ∷ rs)) old.levels.items)) (sym c.fewer)
         ∙ (ap (option_map (along s)) (solve-bound (unbound new.bound.items) (map (sub s) (u ∷ ls)) (map (sub s) (v ∷ rs)) old.levels.items m.var m.value b
-            (diff-front (sub s u) (sub s v) (map (sub s) ls) (map (sub s) rs) m.var m.value m.meet) e)
+        (diff-front (sub s u) (sub s v) (map (sub s) ls) (map (sub s) rs) m.var m.value m.meet) e)
         ∙ (ap (λ o. option_map (along s) (option_map (after b) o)) rest ∙ together (solve (unbound new.bound.items) (map (sub (found nodes new)) ls) (map (sub (found nodes new)) rs) new.levels.items))))
       where
         g : ℕ → Term

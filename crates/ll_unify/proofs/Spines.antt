@@ -1,6 +1,6 @@
 -- The arguments of a term, and its weight.
-use Rattle.std.proofs.Common.{◌≡◌, ℕ, zero, suc, ◌+◌, ◌<◌, ◌≤◌, Bool, true, List, [], ◌∷◌, ◌++◌, length, map, get_or, drop, refl, ap, sym, subst, ◌∙◌, arith, append_assoc, length-append, All, ◌⊎◌, inl, inr}
-use Rattle.std.specs.Prelude.{Option, Some, ◌&&◌, sum_by}
+use Rattle.std.proofs.Common.{◌≡◌, ℕ, suc, ◌+◌, ◌<◌, ◌≤◌, true, List, [], ◌∷◌, ◌++◌, length, get_or, refl, ap, sym, subst, ◌∙◌, arith, append_assoc, length-append, All, ◌⊎◌, inl, inr}
+use Rattle.std.specs.Prelude.{Some, ◌&&◌, sum_by}
 use Rattle.std.proofs.Math.ListN.{get_or-append}
 use Rattle.std.proofs.Math.Seq.{get_or-append_seam}
 use Rattle.std.proofs.lemmas.List.{append-nil, length-map, get_or-map}
@@ -11,7 +11,7 @@ use Rattle.ll_bank.specs.declared.At.{At}
 use Rattle.ll_bank.specs.Term.{Term, Var, Int, Con, Ap, apply, app, sub, is_spine, applies_heads, head_of}
 use Rattle.ll_bank.specs.Nodes.{Nodes, term_tree, term_trees}
 use Rattle.ll_bank.proofs.Trees.{applies_heads-term_tree}
-use Rattle.ll_laws.proofs.SubLaws.{and_left, and_right}
+use Rattle.ll_laws.proofs.SubLaws.{and_left}
 use Rattle.ll_unify.specs.Spines.{args_in, arg, weight, rest_weight, ShowsArgument}
 
 args_in-apply : (f : Term) (ts : List Term) → args_in (apply f ts) ≡ args_in f ++ ts

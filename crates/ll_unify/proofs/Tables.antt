@@ -1,8 +1,8 @@
 -- Bindings seen as a substitution.
-use Rattle.std.proofs.Common.{◌≡◌, ℕ, zero, suc, ◌+◌, ◌*◌, ◌<◌, ◌≤◌, true, List, [], ◌∷◌, ◌++◌, length, get_or, refl, ap, sym, subst, ◌∙◌, arith}
-use Rattle.std.specs.Prelude.{Option, Some, None, slice_index}
+use Rattle.std.proofs.Common.{◌≡◌, ℕ, ◌<◌, true, ap, sym, subst, ◌∙◌, arith}
+use Rattle.std.specs.Prelude.{Some, None}
 use Rattle.ll_bank.specs.declared.At.{At}
-use Rattle.ll_bank.specs.Term.{Term, Var, Int, Con, Ap, sub}
+use Rattle.ll_bank.specs.Term.{Term, Var, Ap, sub}
 use Rattle.ll_bank.specs.Nodes.{Nodes, term_tree}
 use Rattle.std.proofs.lemmas.Bool.{ltb-true}
 use Rattle.ll_laws.specs.Unify.{vars_below}
@@ -10,7 +10,7 @@ use Rattle.ll_laws.proofs.SubLaws.{and_left, and_right}
 use Rattle.ll_unify.specs.declared.table.Table.{Table}
 use Rattle.ll_unify.specs.Spines.{ShowsArgument}
 use Rattle.ll_unify.proofs.Spines.{take_down}
-use Rattle.ll_unify.specs.Bindings.{found, cell, count, rank, IsPlaceOf, IsBound, IsCell, IsTable, Obeys, IsFree, Leads, IsValue, IsEnd, AreSame}
+use Rattle.ll_unify.specs.Bindings.{found, cell, count, rank, IsPlaceOf, IsBound, IsCell, IsTable, Obeys, Leads, IsEnd, AreSame}
 
 -- the cell of a variable that is bound
 pub bound_cell : (nodes : Nodes) (t : Table) (x : ℕ) (at : At) → IsTable nodes t → x < count t → cell t x ≡ Some at → IsBound nodes t (found nodes t) x at

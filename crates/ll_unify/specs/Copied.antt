@@ -1,14 +1,14 @@
 -- Copies of terms with all bindings applied.
-use Rattle.std.specs.Prelude.{◌≡◌, ◌<◌, ◌≤◌, ◌⊎◌, ℕ, suc, false, ◌-◌, ◌++◌, List, [], ◌∷◌, map, take, drop, length, All, Option, Some, None, slice_index_or}
+use Rattle.std.specs.Prelude.{◌≡◌, ◌<◌, ◌≤◌, ◌⊎◌, ℕ, suc, false, ◌++◌, List, [], ◌∷◌, map, take, length, All, Option, Some, None, slice_index_or}
 use Rattle.ll_bank.specs.declared.Head.{Head}
 use Rattle.ll_bank.specs.declared.At.{At}
-use Rattle.ll_bank.specs.Term.{Term, Var, Int, sub, head_of, is_spine}
+use Rattle.ll_bank.specs.Term.{Term, Var, sub, head_of, is_spine}
 use Rattle.ll_bank.specs.Nodes.{Nodes, HasTerm, term_tree, term_trees, AllInTerms}
 use Rattle.ll_unify.specs.declared.table.Table.{Table}
 use Rattle.ll_unify.specs.declared.scan.Frame.{Frame}
 use Rattle.ll_unify.specs.Spines.{args_in, arg}
 use Rattle.ll_unify.specs.Stacks.{lowest, Stack}
-use Rattle.ll_unify.specs.Bindings.{found, cell, count, IsEnd}
+use Rattle.ll_unify.specs.Bindings.{found, cell, IsEnd}
 use Rattle.ll_unify.specs.Scanned.{frame_tree}
 
 -- the place in a bank shows the term

@@ -1,5 +1,5 @@
 -- Terms whose variables all have levels.
-use Rattle.std.specs.Prelude.{◌≡◌, ◌<◌, ℕ, true, List, length, All, Option, Some, None}
+use Rattle.std.specs.Prelude.{◌≡◌, ℕ, true, List, All}
 use Rattle.ll_bank.specs.declared.At.{At}
 use Rattle.ll_bank.specs.Nodes.{Nodes, HasTerm, term_tree}
 use Rattle.ll_laws.specs.Unify.{vars_below}

@@ -1,9 +1,9 @@
 -- Pairs of applications whose arguments are compared.
-use Rattle.std.specs.Prelude.{◌≡◌, ◌<◌, ◌≤◌, ℕ, ◌+◌, ◌++◌, Bool, true, false, List, [], ◌∷◌, map, length, drop, All, sum_by, slice_index}
+use Rattle.std.specs.Prelude.{◌≡◌, ◌<◌, ◌≤◌, ℕ, ◌+◌, ◌++◌, true, false, List, [], ◌∷◌, map, length, drop, All, sum_by, slice_index}
 use Rattle.ll_bank.specs.declared.At.{At}
 use Rattle.ll_bank.specs.Term.{Term, sub, is_spine, same_predicate}
 use Rattle.ll_bank.specs.Nodes.{Nodes, term_tree}
-use Rattle.ll_laws.specs.Unify.{Diff, Clash, diff, diff_lists, vars_below}
+use Rattle.ll_laws.specs.Unify.{Clash, diff, diff_lists, vars_below}
 use Rattle.ll_unify.specs.declared.table.Table.{Table}
 use Rattle.ll_unify.specs.declared.meet.Pair.{Pair}
 use Rattle.ll_unify.specs.declared.meet.Compared.{Compared}
@@ -11,7 +11,7 @@ use Rattle.ll_unify.specs.declared.meet.Compared.TheVariants.{Same as SameTerms,
 use Rattle.ll_unify.specs.declared.meet.Difference.{Difference}
 use Rattle.ll_unify.specs.declared.meet.Difference.TheVariants.{Same as SameLists, Clash as ClashLists, Meet as MeetLists}
 use Rattle.ll_unify.specs.Spines.{args_in, arg, rest_weight}
-use Rattle.ll_unify.specs.Stacks.{lowest, Waits, Stack}
+use Rattle.ll_unify.specs.Stacks.{Waits, Stack}
 use Rattle.ll_unify.specs.Bindings.{count, IsPlaceOf, Obeys, AreSame, IsMeeting}
 
 -- two terms

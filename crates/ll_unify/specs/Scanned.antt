@@ -1,5 +1,5 @@
 -- What is known of the terms that were looked through.
-use Rattle.std.specs.Prelude.{◌≡◌, ◌<◌, ◌⊎◌, ℕ, Bool, true, false, ◌||◌, not, List, [], ◌∷◌, ◌++◌, All, length, nat_eq, Option, Some, None, slice_index_or, sum_by, ◌+◌}
+use Rattle.std.specs.Prelude.{◌≡◌, ◌<◌, ◌⊎◌, ℕ, Bool, true, false, ◌||◌, not, List, [], ◌∷◌, ◌++◌, All, length, nat_eq, None, slice_index_or, sum_by, ◌+◌}
 use Rattle.std.specs.List.{list_any}
 use Rattle.ll_bank.specs.declared.At.{At}
 use Rattle.ll_bank.specs.Term.{Term, Var, Int, Con, Ap, sub, occurs, eigens_below, eigen_below}

@@ -5,7 +5,7 @@ ghost use Rattle.ll_bank.specs.Nodes.{term_tree};
 ghost use Rattle.ll_laws.specs.Unify.{bind};
 ghost use Rattle.ll_unify.specs.Bindings.{IsTable, IsEnd, found, count, cell, IsLowered, Binds, IsMeeting, Meets};
 
-use crate::scan::{scan, Seen};
+use crate::scan::{Seen, scan};
 use crate::table::Table;
 use ll_bank::{At, Bank, OutOfMemory, TermView};
 use std::alloc::Global;

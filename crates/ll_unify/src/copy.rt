@@ -7,7 +7,7 @@ ghost use Rattle.ll_unify.specs.Copied.{IsCopy, AreCopies, IsChanged, IsBuilt, A
 ghost use Rattle.ll_bank.specs.declared.At.{At as AtView};
 
 use crate::scan::Frame;
-use crate::table::{argument, walk, Table};
+use crate::table::{Table, argument, walk};
 use ll_bank::{At, Bank, Head, OutOfMemory, TermView};
 use std::alloc::Global;
 
@@ -161,11 +161,7 @@ fn cell_copy(
 }
 
 /// For each variable a place that shows what stands for it with all bindings applied, none where it is unbound.
-pub fn copies(
-    alloc: Global,
-    bank: &mut Bank,
-    table: &Table,
-) -> Result<Vec<Option<At>>, OutOfMemory>
+pub fn copies(alloc: Global, bank: &mut Bank, table: &Table) -> Result<Vec<Option<At>>, OutOfMemory>
     requires table { IsTable bank.old table.now }
     ensures bound { IfOk result (λ bound. AreFinal bank.old bank.new table.now (count table.now) bound.items) }
     ensures keeps { Extends bank.old bank.new }

@@ -12,7 +12,7 @@ ghost use Rattle.ll_unify.specs.Solving.{IsSolved};
 
 use crate::bind::bind;
 use crate::scan::Seen;
-use crate::table::{argument, walk, Table};
+use crate::table::{Table, argument, walk};
 use ll_bank::{At, Bank, Head, OutOfMemory, TermView};
 use std::alloc::Global;
 

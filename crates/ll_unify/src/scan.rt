@@ -5,7 +5,7 @@ ghost use Rattle.ll_bank.specs.Nodes.{term_tree, HasTerm};
 ghost use Rattle.ll_unify.specs.Bindings.{IsTable, IsPlaceOf, IsEnd, found, count};
 ghost use Rattle.ll_unify.specs.Scanned.{IsScan, IsKnown, IsLook};
 
-use crate::table::{argument, walk, Table};
+use crate::table::{Table, argument, walk};
 use ll_bank::{At, Bank, Head, OutOfMemory, TermView};
 use std::alloc::Global;
 

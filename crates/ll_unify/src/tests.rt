@@ -20,7 +20,12 @@ enum Sign {
 }
 
 // A term over `count` variables, none where a variable or a part is out of range.
-fn add_term(bank: &mut Bank, made: &[At], sign: Sign, count: usize) -> Result<Option<At>, OutOfMemory>
+fn add_term(
+    bank: &mut Bank,
+    made: &[At],
+    sign: Sign,
+    count: usize,
+) -> Result<Option<At>, OutOfMemory>
     requires { AreLevelled bank.old count made.now }
     ensures made { IfOk result (λ answer. IfSome answer (λ at. IsLevelled bank.new count at.0)) }
     ensures keeps { Extends bank.old bank.new }
@@ -142,9 +147,25 @@ fn equations(rt: HostRuntime) -> Result<(), Fail> {
     let alloc = rt.alloc();
     // `p X X` and `p A B`, in both orders
     let list = [Sign::Var(0), Sign::Var(0), Sign::Var(1), Sign::Var(2)];
-    assert_answer(&rt, alloc, &list, 2, &[0, 0, 0], &[false, true, true], &[0, 0, 0])?;
+    assert_answer(
+        &rt,
+        alloc,
+        &list,
+        2,
+        &[0, 0, 0],
+        &[false, true, true],
+        &[0, 0, 0],
+    )?;
     let list = [Sign::Var(0), Sign::Var(1), Sign::Var(2), Sign::Var(2)];
-    assert_answer(&rt, alloc, &list, 2, &[0, 0, 0], &[false, true, true], &[0, 0, 0])?;
+    assert_answer(
+        &rt,
+        alloc,
+        &list,
+        2,
+        &[0, 0, 0],
+        &[false, true, true],
+        &[0, 0, 0],
+    )?;
     // a variable of level 0 and one of level 2 in a term, which falls
     let list = [Sign::Var(1), Sign::Var(0), Sign::One(5, 0)];
     assert_answer(&rt, alloc, &list, 1, &[0, 2], &[true, false], &[0, 0])?;
@@ -159,10 +180,23 @@ fn equations(rt: HostRuntime) -> Result<(), Fail> {
     // a variable of level 0 and eigenconstant 0
     assert_none(&rt, alloc, &[Sign::Var(0), Sign::Eigen(0)], 1, &[0])?;
     // `X = f Y`, `Y = f X`
-    let list = [Sign::Var(0), Sign::Var(1), Sign::Var(0), Sign::Var(1), Sign::One(5, 1), Sign::One(5, 0)];
+    let list = [
+        Sign::Var(0),
+        Sign::Var(1),
+        Sign::Var(0),
+        Sign::Var(1),
+        Sign::One(5, 1),
+        Sign::One(5, 0),
+    ];
     assert_none(&rt, alloc, &list, 2, &[0, 0])?;
     // `p (f X) X` and `p A A`
-    let list = [Sign::Var(0), Sign::One(5, 0), Sign::Var(0), Sign::Var(1), Sign::Var(1)];
+    let list = [
+        Sign::Var(0),
+        Sign::One(5, 0),
+        Sign::Var(0),
+        Sign::Var(1),
+        Sign::Var(1),
+    ];
     assert_none(&rt, alloc, &list, 2, &[0, 0])?;
     Ok(())
 }

@@ -1,5 +1,4 @@
-use Rattle.std.proofs.Common.{◌≡◌, length, ap, sym, subst, ◌∙◌, refl, false, true}
-use Rattle.std.specs.Prelude.{IfOk, Result, Ok, Err}
+use Rattle.std.proofs.Common.{sym, ◌∙◌}
 use Rattle.ll_bank.specs.Nodes.{term_tree, term_trees}
 use Rattle.ll_unify.proofs.Binding.{no-var-int, no-var-app, no-meeting, meets-left, meets-right, meets-older, meets-newer, map-ok}
 use Rattle.ll_unify.proofs.bind.bind.Goals as goal

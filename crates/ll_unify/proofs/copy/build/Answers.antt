@@ -1,4 +1,4 @@
-use Rattle.std.proofs.Common.{◌≡◌, subst, arith, rules}
+use Rattle.std.proofs.Common.{subst, rules}
 use Rattle.ll_unify.specs.Copied.{IsBuilt}
 use Rattle.ll_unify.proofs.Copies.{rest-is}
 use Rattle.ll_unify.proofs.copy.build.Goals as goal

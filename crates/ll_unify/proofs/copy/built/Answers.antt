@@ -1,4 +1,3 @@
-use Rattle.std.proofs.Common.{◌≡◌, refl, subst, sym}
 use Rattle.ll_bank.proofs.Trees.{Extends-refl}
 use Rattle.ll_unify.proofs.Binding.{map-ok as map-ok2}
 use Rattle.ll_unify.proofs.Copies.{built-new, built-same}

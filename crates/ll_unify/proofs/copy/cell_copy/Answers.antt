@@ -1,4 +1,3 @@
-use Rattle.std.proofs.Common.{◌≡◌}
 use Rattle.ll_bank.proofs.Trees.{Extends-refl}
 use Rattle.ll_unify.proofs.copy.cell_copy.Goals as goal
 

@@ -1,7 +1,7 @@
-use Rattle.std.proofs.Common.{◌≡◌, refl, sym, ◌∙◌}
+use Rattle.std.proofs.Common.{refl}
 use Rattle.ll_bank.specs.Term.{Var, Int}
-use Rattle.ll_bank.specs.Nodes.{term_tree, term_trees}
-use Rattle.ll_unify.proofs.Copies.{changed-leaf, changed-same, changed-head, built-new, built-same}
+use Rattle.ll_bank.specs.Nodes.{term_trees}
+use Rattle.ll_unify.proofs.Copies.{changed-leaf, changed-same, changed-head}
 use Rattle.ll_unify.proofs.copy.changed_head.Goals as goal
 
 pub returns-then-are_same : goal.returns-then-are_same

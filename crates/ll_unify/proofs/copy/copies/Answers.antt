@@ -1,11 +1,11 @@
-use Rattle.std.proofs.Common.{◌≡◌, ◌<◌, ◌≤◌, ◌+◌, get_or, length, refl, subst, sym, ap, ◌∙◌, rules, arith, []}
+use Rattle.std.proofs.Common.{◌<◌, ◌+◌, get_or, refl, subst, sym, ap, ◌∙◌, rules, arith}
 use Rattle.std.specs.Prelude.{None}
 use Rattle.std.proofs.lemmas.List.{with_items_is, places}
 use Rattle.ll_bank.proofs.Trees.{Extends-refl, Extends-trans}
 use Rattle.ll_unify.specs.Bindings.{count}
-use Rattle.ll_unify.specs.Copied.{AreFinal, AreCopies}
+use Rattle.ll_unify.specs.Copied.{AreCopies}
 use Rattle.ll_unify.proofs.Tables.{bound_cell}
-use Rattle.ll_unify.proofs.Copies.{table-extends, place-extends, copies-rebase, copies-back, copies-extends, final-none, known-none, final-more}
+use Rattle.ll_unify.proofs.Copies.{table-extends, place-extends, copies-rebase, copies-back, final-none, known-none, final-more}
 use Rattle.ll_unify.proofs.copy.copies.Goals as goal
 
 pub returns-in_err-push-clause-keeps : goal.returns-in_err-push-clause-keeps

@@ -1,4 +1,4 @@
-use Rattle.std.proofs.Common.{◌≡◌, ◌<◌, ℕ, length}
+use Rattle.std.proofs.Common.{◌≡◌, ℕ, length}
 use Rattle.std.specs.Prelude.{None, slice_index_or}
 use Rattle.ll_bank.specs.Nodes.{Extends}
 use Rattle.ll_unify.specs.Copied.{AreCopies, AreFinal}

@@ -1,11 +1,11 @@
-use Rattle.std.proofs.Common.{◌≡◌, ◌<◌, ◌≤◌, ◌+◌, length, refl, subst, sym, ap, ◌∙◌, rules, arith, []}
+use Rattle.std.proofs.Common.{◌+◌, refl, sym, ap, ◌∙◌, arith}
 use Rattle.ll_bank.specs.Term.{sub}
 use Rattle.ll_bank.specs.Nodes.{term_tree}
 use Rattle.ll_bank.proofs.Trees.{Extends-refl, Extends-trans}
 use Rattle.ll_unify.specs.Bindings.{found}
 use Rattle.ll_unify.proofs.Tables.{step-inside}
-use Rattle.ll_unify.proofs.Scans.{weight-known, weight-opens, weight-closes}
-use Rattle.ll_unify.proofs.Copies.{table-extends, place-extends, end-back, copies-extends, copies-set, known-copy, copy-top, copy-ends, first-argument, copy-known, copy-opens, copy-closes, copy-own, copy-starts, same-back, built-copy, done-first}
+use Rattle.ll_unify.proofs.Scans.{weight-known, weight-opens}
+use Rattle.ll_unify.proofs.Copies.{table-extends, place-extends, end-back, copies-extends, copies-set, known-copy, copy-top, first-argument, copy-known, copy-opens, copy-closes, copy-own, copy-starts, same-back, built-copy, done-first}
 use Rattle.ll_unify.proofs.copy.copy.Goals as goal
 
 pub returns-in_err-push-clause-keeps : goal.returns-in_err-push-clause-keeps
@@ -38,7 +38,7 @@ loop-frame-preserved-in-Continue-branch-3 c =
       keeps = c.loop-frame.invariant.keeps;
       known = c.loop-frame.invariant.known;
       copied = rw (c.in_ok-push-in-Some-argument.ensures.items, c.in_ok-push-in-Some-known.ensures.items) (copy-known c.args.bank.now c.args.table.now (sub (found c.args.bank.now c.args.table.now) (term_tree c.args.bank.now c.args.start.0)) c.requires.table c.loop-frame.bank c.loop-frame.made.items c.loop-frame.last c.loop-frame.frames.items c.pop.new.self.items c.in-Some.frame (record { at = c.in-Some.frame.at; next = c.in-Some.frame.next + 1 }) c.in-Some-argument.arg c.walk-end.result c.in-Some-known.copy c.loop-frame.invariant.copied c.in-Some.ensures.items (first-argument c.args.bank.now c.args.table.now (sub (found c.args.bank.now c.args.table.now) (term_tree c.args.bank.now c.args.start.0)) c.requires.table c.loop-frame.bank c.in-Some.frame.at.0 c.in-Some.frame.next c.in-Some-argument.arg.0 c.loop-frame.invariant.keeps top.end.place.inside c.in-Some-argument.ensures.argument) (same-back c.args.bank.now c.args.table.now (sub (found c.args.bank.now c.args.table.now) (term_tree c.args.bank.now c.args.start.0)) c.requires.table c.loop-frame.bank c.walk-end.result.0 c.in-Some-argument.arg.0 c.loop-frame.invariant.keeps c.walk-end.ensures.end.place.inside (step-inside c.args.bank.now c.args.table.now c.in-Some.frame.at.0 c.in-Some.frame.next c.in-Some-argument.arg.0 top.end.place (first-argument c.args.bank.now c.args.table.now (sub (found c.args.bank.now c.args.table.now) (term_tree c.args.bank.now c.args.start.0)) c.requires.table c.loop-frame.bank c.in-Some.frame.at.0 c.in-Some.frame.next c.in-Some-argument.arg.0 c.loop-frame.invariant.keeps top.end.place.inside c.in-Some-argument.ensures.argument)).inside c.walk-end.ensures.same)
-        (known-copy c.args.bank.now c.loop-frame.bank c.args.table.now c.loop-frame.known c.walk-end.result.0 _ c.in-Some-known.copy (let i = c.walk-end.ensures.end.place.inside in let j = c.loop-frame.invariant.known.size in omega arith) c.loop-frame.invariant.known c.in-Some-known.is) refl refl);
+          (known-copy c.args.bank.now c.loop-frame.bank c.args.table.now c.loop-frame.known c.walk-end.result.0 _ c.in-Some-known.copy (let i = c.walk-end.ensures.end.place.inside in let j = c.loop-frame.invariant.known.size in omega arith) c.loop-frame.invariant.known c.in-Some-known.is) refl refl);
     }
 
 pub loop-frame-smaller-in-Continue-branch-4 : goal.loop-frame-smaller-in-Continue-branch-4
@@ -51,7 +51,7 @@ loop-frame-preserved-in-Continue-branch-4 c =
       keeps = c.loop-frame.invariant.keeps;
       known = c.loop-frame.invariant.known;
       copied = rw (c.in_ok-push-in-None-known.ensures.items, c.in_ok-push-in-Some-argument.ensures.items) (copy-opens c.args.bank.now c.args.table.now (sub (found c.args.bank.now c.args.table.now) (term_tree c.args.bank.now c.args.start.0)) c.requires.table c.loop-frame.bank c.loop-frame.made.items c.loop-frame.last c.loop-frame.frames.items c.pop.new.self.items c.in-Some.frame (record { at = c.in-Some.frame.at; next = c.in-Some.frame.next + 1 }) c.in-Some-argument.arg c.walk-end.result c.loop-frame.invariant.copied c.in-Some.ensures.items (first-argument c.args.bank.now c.args.table.now (sub (found c.args.bank.now c.args.table.now) (term_tree c.args.bank.now c.args.start.0)) c.requires.table c.loop-frame.bank c.in-Some.frame.at.0 c.in-Some.frame.next c.in-Some-argument.arg.0 c.loop-frame.invariant.keeps top.end.place.inside c.in-Some-argument.ensures.argument) (same-back c.args.bank.now c.args.table.now (sub (found c.args.bank.now c.args.table.now) (term_tree c.args.bank.now c.args.start.0)) c.requires.table c.loop-frame.bank c.walk-end.result.0 c.in-Some-argument.arg.0 c.loop-frame.invariant.keeps c.walk-end.ensures.end.place.inside (step-inside c.args.bank.now c.args.table.now c.in-Some.frame.at.0 c.in-Some.frame.next c.in-Some-argument.arg.0 top.end.place (first-argument c.args.bank.now c.args.table.now (sub (found c.args.bank.now c.args.table.now) (term_tree c.args.bank.now c.args.start.0)) c.requires.table c.loop-frame.bank c.in-Some.frame.at.0 c.in-Some.frame.next c.in-Some-argument.arg.0 c.loop-frame.invariant.keeps top.end.place.inside c.in-Some-argument.ensures.argument)).inside c.walk-end.ensures.same)
-        (end-back c.args.bank.now c.loop-frame.bank c.args.table.now c.walk-end.result.0 c.loop-frame.invariant.keeps c.requires.table c.walk-end.ensures.end) refl refl);
+          (end-back c.args.bank.now c.loop-frame.bank c.args.table.now c.walk-end.result.0 c.loop-frame.invariant.keeps c.requires.table c.walk-end.ensures.end) refl refl);
     }
 
 pub build-requires-clause-enough : goal.build-requires-clause-enough

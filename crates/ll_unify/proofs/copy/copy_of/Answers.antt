@@ -1,4 +1,3 @@
-use Rattle.std.proofs.Common.{◌≡◌}
 use Rattle.ll_bank.proofs.Trees.{Extends-refl}
 use Rattle.ll_unify.proofs.copy.copy_of.Goals as goal
 

@@ -1,12 +1,11 @@
-use Rattle.std.proofs.Common.{[], ◌≡◌, ◌≤◌, length, arith, refl, sym, ◌∙◌, ap, subst}
-use Rattle.std.proofs.Common.{rules, to_z, of_z}
+use Rattle.std.proofs.Common.{[], arith, sym, ◌∙◌}
+use Rattle.std.proofs.Common.{rules}
 use Rattle.std.specs.Prelude.{FitsSigned}
 use Rattle.std.specs.Int.{w64}
 use Rattle.std.proofs.lemmas.Int.{to_z-of_z}
-use Rattle.ll_bank.specs.Term.{Var}
 use Rattle.ll_bank.specs.Nodes.{term_tree, term_trees}
 use Rattle.ll_unify.proofs.Binding.{no-var-app, no-var-int}
-use Rattle.ll_unify.proofs.Pairs.{Ends, compare-var, compare-int, compare-meet, meet-left, meet-right, compare-clash, clash-ints, clash-int-app, clash-app-int, spine-place, compare-classes}
+use Rattle.ll_unify.proofs.Pairs.{compare-int, compare-meet, meet-left, meet-right, compare-clash, clash-ints, clash-int-app, clash-app-int, spine-place, compare-classes}
 use Rattle.ll_unify.proofs.meet.compare.Goals as goal
 
 pub find-right-requires-clause-below : goal.find-right-requires-clause-below
@@ -34,7 +33,7 @@ returns-then-is_same_int-clause-compared c =
     let fm : FitsSigned w64 c.in-Int.m = search rules in
     let fn : FitsSigned w64 c.in-Int-term_at-2.n = search rules in
     compare-int c.args.bank.now c.args.table.now (term_tree c.args.bank.now c.args.left.0) (term_tree c.args.bank.now c.args.right.0) c.walk-left.result c.walk-right.result c.in-Int.m c.in-Int-term_at-2.n (record { left_end = c.walk-left.ensures.end; right_end = c.walk-right.ensures.end; left = c.walk-left.ensures.same; right = c.walk-right.ensures.same }) c.in-Int.ensures c.in-Int-term_at-2.ensures
-      (rw (to_z-of_z w64 c.in-Int.m fm, to_z-of_z w64 c.in-Int-term_at-2.n fn) at (sym c.is_same_int.ensures ∙ c.if-is_same_int.true))
+    (rw (to_z-of_z w64 c.in-Int.m fm, to_z-of_z w64 c.in-Int-term_at-2.n fn) at (sym c.is_same_int.ensures ∙ c.if-is_same_int.true))
 
 pub returns-in-App-term_at-2-clause-compared : goal.returns-in-App-term_at-2-clause-compared
 returns-in-App-term_at-2-clause-compared c =

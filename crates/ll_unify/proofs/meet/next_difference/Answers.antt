@@ -1,13 +1,12 @@
-use Rattle.std.proofs.Common.{◌≡◌, ◌≤◌, ◌<◌, ◌+◌, ◌++◌, ◌∷◌, [], length, arith, refl, sym, ◌∙◌, ap, subst}
+use Rattle.std.proofs.Common.{◌+◌, ◌++◌, ◌∷◌, [], arith, refl, sym, ◌∙◌, ap}
 use Rattle.std.specs.Prelude.{map}
 use Rattle.ll_bank.specs.Term.{sub}
 use Rattle.ll_bank.specs.Nodes.{term_tree}
-use Rattle.ll_laws.specs.Unify.{and_then, diff, diff_lists, Clash}
-use Rattle.ll_unify.specs.declared.meet.Pair.{Pair}
-use Rattle.ll_unify.specs.Bindings.{found, AreSame, Obeys}
-use Rattle.ll_unify.specs.Pairs.{IsComparing, Alike, lefts, rights, Awaits, ArePairs}
+use Rattle.ll_laws.specs.Unify.{and_then, diff, diff_lists}
+use Rattle.ll_unify.specs.Bindings.{found}
+use Rattle.ll_unify.specs.Pairs.{lefts, rights}
 use Rattle.ll_unify.proofs.Tables.{Obeys-found, step-inside}
-use Rattle.ll_unify.proofs.Pairs.{pairs-top, alike-done, alike-trans, alike-next, alike-equal, alike-open, awaits-next, awaits-equal, awaits-open, awaits-meet, top-joined, pairs-done, pairs_weight-next, pairs_weight-open, pairs_weight-done}
+use Rattle.ll_unify.proofs.Pairs.{pairs-top, alike-done, alike-trans, alike-next, alike-equal, alike-open, awaits-next, awaits-equal, awaits-open, awaits-meet, top-joined, pairs-done, pairs_weight-next, pairs_weight-open}
 use Rattle.ll_unify.proofs.Alike.{shape-length}
 use Rattle.ll_unify.proofs.meet.next_difference.Goals as goal
 
@@ -17,7 +16,7 @@ loop-pair-preserved-in-None c =
       classes = c.join.ensures c.args.bank.now c.args.table.now c.loop-pair.invariant.classes (top-joined c.args.bank.now c.args.table.now c.pop.new.self.items c.in-Some.pair top c.in-None.ensures.argument);
       pairs = pairs-done c.args.bank.now c.args.table.now c.pop.new.self.items c.in-Some.pair top c.in-None.ensures.argument;
       alike = alike-trans c.args.bank.now c.args.table.now (lefts c.args.bank.now c.args.pairs.now.items) (rights c.args.bank.now c.args.pairs.now.items) (lefts c.args.bank.now c.loop-pair.pairs.items) (rights c.args.bank.now c.loop-pair.pairs.items) (lefts c.args.bank.now c.pop.new.self.items) (rights c.args.bank.now c.pop.new.self.items) c.loop-pair.invariant.alike
-        (alike-done c.args.bank.now c.args.table.now c.loop-pair.pairs.items c.pop.new.self.items c.in-Some.pair c.in-Some.ensures.items c.in-None.ensures.argument (shape-length (term_tree c.args.bank.now c.in-Some.pair.left.0) (term_tree c.args.bank.now c.in-Some.pair.right.0) top.pair.shape));
+          (alike-done c.args.bank.now c.args.table.now c.loop-pair.pairs.items c.pop.new.self.items c.in-Some.pair c.in-Some.ensures.items c.in-None.ensures.argument (shape-length (term_tree c.args.bank.now c.in-Some.pair.left.0) (term_tree c.args.bank.now c.in-Some.pair.right.0) top.pair.shape));
     }
 
 pub unreachable-requires : goal.unreachable-requires

@@ -1,10 +1,9 @@
-use Rattle.std.proofs.Common.{◌≡◌, ◌≤◌, ◌<◌, ◌+◌, ◌++◌, ◌∷◌, [], length, arith, refl, sym, ◌∙◌, ap, subst, true, false}
+use Rattle.std.proofs.Common.{◌∷◌, [], length, refl, sym, ◌∙◌, ap, subst}
 use Rattle.ll_bank.specs.Nodes.{term_tree}
 use Rattle.ll_laws.specs.Unify.{mgu}
 use Rattle.ll_unify.specs.Spines.{args_in}
 use Rattle.ll_unify.specs.Bindings.{Meets}
 use Rattle.ll_unify.specs.Pairs.{IsDifference, lefts, rights}
-use Rattle.ll_unify.specs.declared.meet.Difference.TheVariants.{Same, Clash, Meet}
 use Rattle.ll_unify.proofs.Solving.{solves-alike, solves-none, solves-clash, solves-refused, solves-bound, met, classes-bound, awaits-bound, solves-start, classes-start, pairs-start}
 use Rattle.ll_unify.proofs.meet.unify.Goals as goal
 

@@ -1,4 +1,4 @@
-use Rattle.std.proofs.Common.{rules, arith, sym, refl}
+use Rattle.std.proofs.Common.{arith, refl}
 use Rattle.ll_unify.proofs.Spines.{seen_argument, no_argument}
 use Rattle.ll_unify.proofs.table.argument.Goals as goal
 

@@ -1,4 +1,4 @@
-use Rattle.std.proofs.Common.{◌≡◌, ap, ◌∙◌, sym}
+use Rattle.std.proofs.Common.{◌∙◌, sym}
 use Rattle.ll_bank.specs.Nodes.{term_trees}
 use Rattle.ll_unify.proofs.Spines.{app-var}
 use Rattle.ll_unify.proofs.table.value.Goals as goal

@@ -1,4 +1,4 @@
-use Rattle.std.proofs.Common.{◌≡◌, ◌-◌, length, subst, sym}
+use Rattle.std.proofs.Common.{◌-◌, length, subst, sym}
 use Rattle.std.proofs.lemmas.List.Elements.{All-take, All-drop}
 use Rattle.ll_bank.specs.declared.At.{At}
 use Rattle.ll_unify.specs.Levelled.{IsLevelled, AreLevelled}

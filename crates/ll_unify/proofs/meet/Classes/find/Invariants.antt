@@ -1,4 +1,4 @@
-use Rattle.std.proofs.Common.{◌≡◌, ◌<◌, ℕ, length}
+use Rattle.std.proofs.Common.{◌≡◌, ◌<◌, length}
 use Rattle.ll_bank.specs.Nodes.{Nodes}
 use Rattle.ll_unify.specs.declared.table.Table.{Table}
 use Rattle.ll_unify.specs.Pairs.{AreBelow, AreClasses, IsClass}

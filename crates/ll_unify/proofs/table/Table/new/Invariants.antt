@@ -1,5 +1,5 @@
 use Rattle.std.proofs.Common.{◌≡◌, ℕ, length, slice_index_or}
-use Rattle.std.specs.Prelude.{Option, None}
+use Rattle.std.specs.Prelude.{None}
 use Rattle.ll_unify.proofs.table.Table.new.Given as goal
 
 abbrev pub invariant-loop-level : goal.invariant-loop-level

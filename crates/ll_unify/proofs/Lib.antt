@@ -1,0 +1,11 @@
+mod Spines
+mod Stacks
+mod Tables
+mod Scans
+mod Binding
+mod Alike
+mod Pairs
+mod Solving
+mod Copies
+mod Answer
+mod Levels

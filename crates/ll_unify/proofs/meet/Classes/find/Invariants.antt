@@ -1,0 +1,17 @@
+use Rattle.std.proofs.Common.{◌≡◌, ◌<◌, length}
+use Rattle.ll_bank.specs.Nodes.{Nodes}
+use Rattle.ll_unify.specs.declared.table.Table.{Table}
+use Rattle.ll_unify.specs.Pairs.{AreBelow, AreClasses, IsClass}
+use Rattle.ll_unify.proofs.meet.Classes.find.Given as goal
+
+abbrev pub invariant-loop-place : goal.invariant-loop-place
+invariant-loop-place l = record {
+  size : length l.self.up.items ≡ length l.fn.self.up.items;
+  inside : l.place < length l.self.up.items;
+  below : AreBelow l.self.up.items;
+  classes : (nodes : Nodes) (t : Table) → AreClasses nodes t l.fn.self.up.items → AreClasses nodes t l.self.up.items;
+  class : (nodes : Nodes) (t : Table) → AreClasses nodes t l.fn.self.up.items → IsClass nodes t l.fn.at.0 l.place;
+}
+
+abbrev pub decreases-loop-place : goal.decreases-loop-place
+decreases-loop-place l = l.place

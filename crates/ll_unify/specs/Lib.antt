@@ -1,0 +1,9 @@
+pub mod Spines
+pub mod Stacks
+pub mod Bindings
+pub mod Scanned
+pub mod Pairs
+pub mod Solving
+pub mod Copied
+pub mod Unifies
+pub mod Levelled

@@ -1,5 +1,5 @@
 -- Where no bracket of its kind is the newest, nothing closes.
-use Rattle.std.proofs.Common.{◌≡◌, ℕ, List, [], ◌∷◌, ◌++◌, Option, Some, None, refl, sym, ◌∙◌, ap}
+use Rattle.std.proofs.Common.{◌≡◌, ℕ, List, [], ◌∷◌, Option, Some, None, refl, ◌∙◌, ap}
 use Rattle.ll_lexer.specs.declared.Place.{Place}
 use Rattle.ll_parser.specs.declared.Level.TheVariants.{Close}
 use Rattle.ll_parser.specs.declared.RawAt.{RawAt}

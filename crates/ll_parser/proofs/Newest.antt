@@ -1,20 +1,17 @@
 -- What the newest frame decides: whether a level takes it, whether it is a cell, and which bracket closes there.
-use Rattle.std.proofs.Common.{◌≡◌, ℕ, ◌<◌, Bool, true, false, cond, List, [], ◌∷◌, ◌++◌, length, take, Option, Some, None, refl, sym, subst, ◌∙◌, ap, arith}
+use Rattle.std.proofs.Common.{◌≡◌, ℕ, Bool, true, false, List, [], ◌∷◌, ◌++◌, take, refl, sym, ◌∙◌, ap}
 use Rattle.ll_lexer.specs.declared.Place.{Place}
 use Rattle.ll_parser.specs.declared.Level.{Level}
 use Rattle.ll_parser.specs.declared.RawAt.{RawAt}
-use Rattle.ll_parser.specs.declared.waiting.Word.{Word}
 use Rattle.ll_parser.specs.declared.waiting.Prefix.{Prefix}
 use Rattle.ll_parser.specs.declared.waiting.Prefix.TheVariants as prefix
 use Rattle.ll_parser.specs.declared.waiting.Frame.{Frame}
 use Rattle.ll_parser.specs.declared.waiting.Frame.TheVariants as frame
 use Rattle.ll_parser.specs.declared.waiting.Waiting.{Waiting}
-use Rattle.ll_parser.specs.declared.formulas.Mode.{Mode}
-use Rattle.ll_parser.specs.declared.formulas.Mode.TheVariants as mode
-use Rattle.ll_parser.specs.Raw.{Raw, braces, raws_then, cons_raw}
-use Rattle.ll_parser.specs.Flat.{Pending, Flat, part, whole, term_part, term_whole, build, taken, reduce, gather, close_bracket, close_brace, close_term, admits_load, end_with}
-use Rattle.ll_parser.specs.Nodes.{Node, raw_trees, raw_at}
-use Rattle.ll_parser.specs.Waiting.{known, word_view, prefix_view, frame_view, left, prefix_left, pending, waiting, tree, args_from, waiting_below, pushed, mode_view, FitsBelow, Fits, IsNode, CanWait, Grows, ModeFits, Gives, GivesTree, Dropped, HasMore, Leaves, IsBuilt, Popped, PoppedCell, HasNoCell, TakesNone, Reduced, Gathered}
+use Rattle.ll_parser.specs.Raw.{Raw}
+use Rattle.ll_parser.specs.Flat.{Pending, taken, reduce, gather, admits_load}
+use Rattle.ll_parser.specs.Nodes.{Node, raw_trees}
+use Rattle.ll_parser.specs.Waiting.{known, prefix_view, frame_view, left, pending, waiting, tree, waiting_below, Fits, IsNode, Grows, HasNoCell, TakesNone}
 use Rattle.ll_parser.proofs.Shown.{pending-snoc}
 
 -- the newest frame, with what is below it

@@ -3,13 +3,10 @@ use Rattle.std.proofs.Common.{◌≡◌, ℕ, ◌+◌, ◌-◌, ◌<◌, ◌≤�
 use Rattle.std.proofs.Math.Seq.{take-append_seam, take-length}
 use Rattle.std.proofs.lemmas.List.{take-append-le, drop-append-le, length-take-le, reverse-append}
 use Rattle.std.proofs.lemmas.List.Elements.{All-take, All-drop, All-push}
-use Rattle.ll_bank.specs.Nodes.{grow}
 use Rattle.ll_bank.proofs.Growing.{grow_kept, grow_last}
 use Rattle.ll_lexer.specs.declared.Place.{Place}
 use Rattle.ll_parser.specs.declared.Named.{Named}
 use Rattle.ll_parser.specs.declared.RawAt.{RawAt}
-use Rattle.ll_parser.specs.declared.waiting.Word.{Word}
-use Rattle.ll_parser.specs.declared.waiting.Prefix.{Prefix}
 use Rattle.ll_parser.specs.declared.waiting.Prefix.TheVariants as prefix
 use Rattle.ll_parser.specs.declared.waiting.Frame.{Frame}
 use Rattle.ll_parser.specs.declared.waiting.Frame.TheVariants as frame
@@ -18,7 +15,7 @@ use Rattle.ll_parser.specs.Raw.{Raw, truth, load, head, raws_then}
 use Rattle.ll_parser.specs.Flat.{operand, loading, in_atom, in_argument, cell}
 use Rattle.ll_parser.specs.Nodes.{Node, HeadNode, LoadNode, identifier, raw_in, raws_in, build_raw, raw_trees, raw_at}
 use Rattle.ll_parser.specs.Seen.{places}
-use Rattle.ll_parser.specs.Waiting.{known, word_view, args_view, frame_view, left, base, frames_view, pending, waiting, tree, args_from, waiting_below, pushed, FrameFits, FramesFit, FitsTo, FitsBelow, Fits, IsNode, CanWait, Added, Pushed, Dropped, HasMore, Leaves}
+use Rattle.ll_parser.specs.Waiting.{known, word_view, args_view, frame_view, left, base, frames_view, pending, tree, args_from, waiting_below, FrameFits, FramesFit, FitsTo, FitsBelow, IsNode, CanWait, Added, Pushed, Dropped, HasMore, Leaves}
 use Rattle.ll_parser.proofs.StoredLemmas.{same_raws, places_below}
 
 -- ---- trees of more nodes

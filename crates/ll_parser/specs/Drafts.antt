@@ -1,6 +1,5 @@
 -- What has been read of a program or of a query, as the machines over raw trees have it.
-use Rattle.std.specs.Prelude.{◌≡◌, ℕ, ◌<◌, List, [], map, length, All, Option, Some, None, option_map, OnSome}
-use Rattle.ll_parser.specs.declared.Named.{Named}
+use Rattle.std.specs.Prelude.{◌≡◌, ℕ, ◌<◌, List, [], length, All, Option, Some, None, option_map}
 use Rattle.ll_parser.specs.declared.RawAt.{RawAt}
 use Rattle.ll_parser.specs.declared.RawClause.{RawClause}
 use Rattle.ll_parser.specs.declared.RawModule.{RawModule}

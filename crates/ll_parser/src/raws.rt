@@ -1,6 +1,6 @@
 //! The flat nodes of raw trees.
 
-ghost use Rattle.std.specs.Prelude.{◌≡◌, ℕ, ◌<◌, ◌++◌, ◌∷◌, List, [], length, All, IfOk, OnOk, OnErr};
+ghost use Rattle.std.specs.Prelude.{◌≡◌, ◌↔◌, ℕ, ◌<◌, ◌++◌, ◌∷◌, List, [], length, All, IsTrue, IfOk, OnOk, OnErr};
 ghost use Rattle.ll_parser.specs.declared.RawAt.{RawAt};
 ghost use Rattle.ll_parser.specs.Raw.{raw_place};
 ghost use Rattle.ll_parser.specs.Nodes.{HeadNode, LoadNode, raw_at};
@@ -73,6 +73,13 @@ impl Raws {
         ensures { result ≡ length self.now }
     {
         self.rows.len()
+    }
+
+    /// Whether there are no nodes.
+    pub fn is_empty(&self) -> bool
+        ensures { IsTrue result ↔ (self.now ≡ []) }
+    {
+        self.rows.is_empty()
     }
 
     /// One more node, whose own place in the text is `at`. After a refusal the nodes are as before.

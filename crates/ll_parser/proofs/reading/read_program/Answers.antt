@@ -1,4 +1,4 @@
-use Rattle.std.proofs.Common.{◌≡◌, sym, subst, arith}
+use Rattle.std.proofs.Common.{sym, subst, arith}
 use Rattle.ll_parser.specs.declared.texts.Phase.TheVariants as phase
 use Rattle.ll_parser.specs.Tokens.{toks_of}
 use Rattle.ll_parser.specs.Text.{programs}

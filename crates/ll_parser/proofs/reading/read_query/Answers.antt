@@ -1,4 +1,4 @@
-use Rattle.std.proofs.Common.{◌≡◌, sym, subst, arith}
+use Rattle.std.proofs.Common.{sym, subst, arith}
 use Rattle.ll_parser.specs.declared.formulas.Mode.TheVariants as mode
 use Rattle.ll_parser.specs.declared.texts.Stage.TheVariants as stages
 use Rattle.ll_parser.specs.Tokens.{toks_of}

@@ -1,4 +1,3 @@
-use Rattle.std.proofs.Common.{sym}
 use Rattle.std.proofs.lemmas.Str.{IsUtf8-from_ascii}
 use Rattle.ll_parser.proofs.Naming.{is-ok, ok-value, named-text}
 use Rattle.ll_parser.proofs.symbols.word.Goals as goal

@@ -1,4 +1,4 @@
-use Rattle.std.proofs.Common.{refl, rules}
+use Rattle.std.proofs.Common.{refl}
 use Rattle.ll_parser.proofs.StoredLemmas.{still_kept, same_view, OnErr-always, added, added_kept, parts_below}
 use Rattle.ll_parser.proofs.raws.Raws.add.Goals as goal
 

@@ -1,4 +1,3 @@
-use Rattle.std.proofs.Common.{refl}
 use Rattle.ll_parser.proofs.Newest.{takes-none, takes-not, takes-other}
 use Rattle.ll_parser.proofs.waiting.Waiting.pop.Goals as goal
 

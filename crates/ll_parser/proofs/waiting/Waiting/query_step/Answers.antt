@@ -1,6 +1,3 @@
-use Rattle.std.proofs.Common.{◌∙◌, ap, subst, sym, option_map}
-use Rattle.ll_parser.specs.FlatText.{asking}
-use Rattle.ll_parser.specs.Waiting.{known, mode_view}
 use Rattle.ll_parser.proofs.Drafting.{asks-next}
 use Rattle.ll_parser.proofs.waiting.Waiting.query_step.Goals as goal
 

@@ -3,6 +3,8 @@
 
 mod order;
 mod outlet;
+#[cfg(test)]
+mod tests;
 
 pub use order::drain;
 pub use outlet::{OutFault, Outlet};

@@ -42,3 +42,4 @@ pub mod ProgramTexts
 pub mod Drafting
 pub mod Naming
 pub mod Running
+pub mod Whole

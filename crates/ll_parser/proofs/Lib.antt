@@ -44,3 +44,4 @@ pub mod ProgramTexts
 pub mod Drafting
 pub mod Naming
 pub mod Running
+pub mod Whole

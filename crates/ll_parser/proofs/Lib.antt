@@ -44,4 +44,3 @@ pub mod ProgramTexts
 pub mod Drafting
 pub mod Naming
 pub mod Running
-pub mod Whole

@@ -116,11 +116,11 @@ fn solve(
     }
 }
 
-// Two terms of such a depth that have each part twice, each over its own last one.
-fn shared(alloc: Global, depth: u8, left: Sign, right: Sign) -> Result<Vec<Sign>, OutOfMemory> {
+// Two terms of such a depth that have each part twice, the left one and its copy.
+fn shared(alloc: Global, depth: u8) -> Result<Vec<Sign>, OutOfMemory> {
     let mut list = Vec::new(alloc);
-    list.push(left)?;
-    list.push(right)?;
+    list.push(Sign::Int(0))?;
+    list.push(Sign::Int(0))?;
     for index in 0..depth as usize {
         list.push(Sign::Two(0, 2 * index, 2 * index))?;
         list.push(Sign::Two(0, 2 * index + 1, 2 * index + 1))?;
@@ -238,20 +238,8 @@ fn assert_none(
 fn shared_and_long(rt: HostRuntime) -> Result<(), Fail> {
     let alloc = rt.alloc();
     // a term of depth 60 that has each part twice, and its copy
-    let list = shared(alloc, 60, Sign::Int(0), Sign::Int(0))?;
+    let list = shared(alloc, 60)?;
     assert!(rt; solve(alloc, &list, 1, &[])?.is_some());
-    // two such terms over variables, of which the newer is bound
-    let list = shared(alloc, 60, Sign::Var(0), Sign::Var(1))?;
-    assert_answer(&rt, alloc, &list, 1, &[4, 4], &[false, true], &[4, 4])?;
-    // a variable of level 0 and such a term, whose variable falls
-    let mut list = shared(alloc, 60, Sign::Var(0), Sign::Int(0))?;
-    list.push(Sign::Var(1))?;
-    list.push(Sign::Two(0, 120, 120))?;
-    assert_answer(&rt, alloc, &list, 1, &[4, 0], &[false, true], &[0, 0])?;
-    // and the variable that stands in the term
-    list.push(Sign::Var(0))?;
-    list.push(Sign::Two(0, 120, 120))?;
-    assert_none(&rt, alloc, &list, 1, &[4, 0])?;
     // two lists of 100,000 elements
     let list = lists(alloc, 100_000)?;
     let levels = vec![in alloc; 0; 100_000]?;

@@ -15,7 +15,7 @@ use Rattle.ll_top.specs.declared.judge.State.{State}
 use Rattle.ll_top.specs.declared.judge.State.TheVariants.{Clauses, Marked, Head, Wants, Item, Ended}
 use Rattle.ll_top.specs.Begins.{Begins, IsFirstBad, Leads}
 use Rattle.ll_top.specs.Reading.{Token, NameToken, TrueToken, LinearToken, DotToken, CommaToken, ColonDashToken, token_of, both_or_none, tokens_in, item_of, tensor_of, goal_of, rule_of, clause_of, onto_first, at_dots, clauses_of, program_of, query_at, query_of}
-use Rattle.ll_top.specs.Judging.{kinds_in, tokens_of_kinds, IsText, token_place, place_of_token, IsTextFault, not_built}
+use Rattle.ll_top.specs.Judging.{kinds_in, tokens_of_kinds, IsText, token_place, place_of_token, IsOfGrammar, IsTextFault, not_built}
 use Rattle.ll_top.specs.Machine.{first_state, after_dot, after_token, after, is_end, IsNotBuilt}
 use Rattle.ll_top.proofs.FirstBad.{leads-start, leads-next, leads-bad, IsStuck, drop-end}
 
@@ -385,5 +385,5 @@ module _ (role : Role) (l : LexedText) where
   }
 
 -- a text's fault, by its tokens
-pub unbuilt : (role : Role) (text : List ℕ) (l : LexedText) (at : Place) → l.text ≡ text → IsLexed l → IsNotBuilt role l at → IsTextFault role text (record { at = at; kind = 17 })
-unbuilt role text l at e h b = not_built l b.n e h b.bad (ap (λ p. record { at = p; kind = 17 }) b.is)
+pub unbuilt : (role : Role) (text : List ℕ) (l : LexedText) (at : Place) → l.text ≡ text → IsLexed l → IsOfGrammar role l → IsNotBuilt role l at → IsTextFault role text (record { at = at; kind = 17 })
+unbuilt role text l at e h g b = not_built l b.n e h g b.bad (ap (λ p. record { at = p; kind = 17 }) b.is)

@@ -15,12 +15,13 @@ use Rattle.ll_top.specs.Begins.{IsFirstBad}
 use Rattle.ll_top.specs.Words.{RunWords, IsInForm, IsRun, IsBadWord, number_behind}
 use Rattle.ll_top.specs.Faults.{Cause, Usage, Absent, Unreadable, Oversized, Faulty, fault_text, cause_status}
 use Rattle.ll_top.specs.Reading.{Token, tokens_in, HasTokens, lexed, faulty, at_dots, program_of, query_of, problem_from, problem_of_tokens, names_of, number_in, Asks, both, no_program, no_query}
-use Rattle.ll_top.specs.Judging.{IsText, IsOfLanguage, IsTextFault, lexical, not_built, kinds_in, place_of_token}
+use Rattle.ll_top.specs.Judging.{IsText, IsOfLanguage, IsOfGrammar, HasGrammarFault, IsTextFault, lexical, grammatical, not_built, kinds_in, place_of_token}
 use Rattle.ll_top.specs.Machine.{first_state}
 use Rattle.ll_top.specs.Outcome.{IsRead, Reaches, first, later, run_texts, RunFails, absent, unreadable, oversized, faulty_program, faulty_query, RunAsks, RunComesTo, ran, failed, ComesTo, misused, runs, longest_text}
 use Rattle.ll_top.proofs.FirstBad.{one-bad, good-or-bad}
 use Rattle.ll_top.proofs.OutcomeLemmas.{bad-not-in-form, run-in-form}
 use Rattle.ll_top.proofs.JudgeLemmas.{found, tokens-text, found-query}
+use Rattle.ll_top.proofs.GrammarLemmas.{of-grammar}
 use Rattle.ll_top.proofs.ReadingLemmas.{asks-once}
 
 -- ---- words
@@ -42,7 +43,9 @@ one-run words r s h k =
 -- ---- texts
 
 module _ (same : (a b : LexedText) → a.text ≡ b.text → IsLexed a → IsLexed b → a ≡ b) (one : (text : List ℕ) (f g : Fault) → HasFault text f → HasFault text g → f ≡ g)
-    (not_both : (a : LexedText) (f : Fault) → IsLexed a → HasFault a.text f → ⊥) where
+    (not_both : (a : LexedText) (f : Fault) → IsLexed a → HasFault a.text f → ⊥)
+    (one_grammar : (role : Role) (l : LexedText) (f g : Fault) → HasGrammarFault role l f → HasGrammarFault role l g → f ≡ g)
+    (no_grammar : (role : Role) (l : LexedText) (f : Fault) → IsOfGrammar role l → HasGrammarFault role l f → ⊥) where
   apart : (text : List ℕ) (l : LexedText) (f : Fault) → l.text ≡ text → IsLexed l → HasFault text f → ⊥
   apart text l f e h g = not_both l f h (subst (λ t. HasFault t f) (sym e) g)
 
@@ -51,16 +54,26 @@ module _ (same : (a b : LexedText) → a.text ≡ b.text → IsLexed a → IsLex
       let s : n ≡ k = one-bad (IsText role) (kinds_in m.tokens) n k (subst (λ x. IsFirstBad (IsText role) (kinds_in x.tokens) n) e h) j in
       ap (λ x. place_of_token x n) e ∙ ap (place_of_token m) s
 
+  -- a fault by the grammar, of the same text
+  moved : (role : Role) (l m : LexedText) (f : Fault) → l ≡ m → HasGrammarFault role l f → HasGrammarFault role m f
+  moved role l m f e h = subst (λ x. HasGrammarFault role x f) e h
+
   pub one-fault : (role : Role) (text : List ℕ) (f g : Fault) → IsTextFault role text f → IsTextFault role text g → f ≡ g
   one-fault role text f g (lexical h) (lexical k) = one text f g h k
-  one-fault role text f g (lexical h) (not_built l n e k b p) = absurd (apart text l f e k h)
-  one-fault role text f g (not_built l n e h b p) (lexical k) = absurd (apart text l g e h k)
-  one-fault role text f g (not_built l n e h b p) (not_built m k d j c q) =
+  one-fault role text f g (lexical h) (grammatical l e k b) = absurd (apart text l f e k h)
+  one-fault role text f g (lexical h) (not_built l n e k r b p) = absurd (apart text l f e k h)
+  one-fault role text f g (grammatical l e h b) (lexical k) = absurd (apart text l g e h k)
+  one-fault role text f g (grammatical l e h b) (grammatical m d j c) = one_grammar role m f g (moved role l m f (same l m (e ∙ sym d) h j) b) c
+  one-fault role text f g (grammatical l e h b) (not_built m k d j s c q) = absurd (no_grammar role m f s (moved role l m f (same l m (e ∙ sym d) h j) b))
+  one-fault role text f g (not_built l n e h r b p) (lexical k) = absurd (apart text l g e h k)
+  one-fault role text f g (not_built l n e h r b p) (grammatical m d j c) = absurd (no_grammar role l g r (moved role m l g (same m l (d ∙ sym e) j h) c))
+  one-fault role text f g (not_built l n e h r b p) (not_built m k d j s c q) =
       p ∙ (ap (λ at. record { at = at; kind = 17 }) (same-places role l m n k (same l m (e ∙ sym d) h j) b c) ∙ sym q)
 
   pub no-fault : (role : Role) (text : List ℕ) (f : Fault) → IsOfLanguage role text → IsTextFault role text f → ⊥
   no-fault role text f t (lexical h) = apart text t.lexed f t.of_text t.is_lexed h
-  no-fault role text f t (not_built l n e h b p) =
+  no-fault role text f t (grammatical l e h b) = no_grammar role t.lexed f (of-grammar role t.lexed t.is_text) (moved role l t.lexed f (same l t.lexed (e ∙ sym t.of_text) h t.is_lexed) b)
+  no-fault role text f t (not_built l n e h r b p) =
       good-or-bad (IsText role) (kinds_in l.tokens) n (subst (λ x. IsText role (kinds_in x.tokens)) (same t.lexed l (t.of_text ∙ sym e) t.is_lexed h) t.is_text) b
 
   -- texts that ask a problem are of the language

@@ -15,6 +15,7 @@ pub mod EngineSteps
 pub mod RunLemmas
 pub mod PartsLemmas
 pub mod JudgeLemmas
+pub mod GrammarLemmas
 pub mod OutcomeLemmas
 pub mod LawLemmas
 pub mod ReadingLemmas

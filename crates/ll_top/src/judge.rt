@@ -1,11 +1,12 @@
 //! Judging a text: its tokens, where it is of today's language, or its fault.
-ghost use Rattle.std.specs.Prelude.{◌≡◌, ◌≤◌, length, Some, IfOk, IfErr, MatchOption};
+ghost use Rattle.std.specs.Prelude.{◌≡◌, ◌≤◌, length, Some, IfOk, IfErr, MatchOption, MatchResult};
 ghost use Rattle.ll_lexer.specs.Reading.{LexedText, IsLexed};
 ghost use Rattle.ll_top.specs.Begins.{IsFirstBad};
-ghost use Rattle.ll_top.specs.Judging.{kinds_in, place_of_token, IsText, IsTextCause};
+ghost use Rattle.ll_top.specs.Judging.{kinds_in, place_of_token, IsText, IsOfGrammar, IsTextCause, IsGrammarCause};
 ghost use Rattle.ll_top.specs.Machine.{first_state, after, after_dot, is_end, IsNotBuilt};
 
 use ll_lexer::{Fault, Place, TextFault, TokenKind, TokenList, tokens};
+use ll_parser::{program, query};
 use std::alloc::Global;
 
 /// Which text of a command.
@@ -35,23 +36,55 @@ enum State {
 // The number of the kind of fault that a text has which is not of today's language.
 const NOT_BUILT: u8 = 17;
 
-/// The tokens of a text of today's language, or its fault: of kinds 1 to 3 the first one; else of kind 17 the first token
-/// through which no text of today's language begins, or the text's end where more is needed.
+/// The tokens of a text of today's language, or its fault: of kinds 1 to 3 the first one; else, where the tokens are not read by
+/// the grammar, of kinds 4 to 6 their first one; else of kind 17 the first token through which no text of today's language begins,
+/// or the text's end where more is needed.
 pub fn judge(alloc: Global, text: &[u8], role: Role) -> Result<TokenList<'_>, TextFault>
     requires { length text.now ≤ 16777216 }
     ensures ok { IfOk result (λ list. (list.text ≡ text.now) × IsLexed list × IsText role (kinds_in list.tokens)) }
     ensures err { IfErr result (λ e. IsTextCause role text.now e) }
 {
-    match tokens(alloc, text) {
-        Ok(list) => match not_built(&list, role) {
-            None => Ok(list),
-            Some(at) => Err(TextFault::Text(Fault {
-                at,
-                kind: NOT_BUILT,
-            })),
-        },
-        Err(fault) => Err(fault),
+    let list = match tokens(alloc, text) {
+        Ok(list) => list,
+        Err(fault) => return Err(fault),
+    };
+    if let Err(fault) = read_by_grammar(alloc, &list, role) {
+        return Err(fault);
     }
+    match not_built(&list, role) {
+        None => Ok(list),
+        Some(at) => Err(TextFault::Text(Fault {
+            at,
+            kind: NOT_BUILT,
+        })),
+    }
+}
+
+// Reads the tokens of a text by the grammar. The tree is let go.
+fn read_by_grammar(alloc: Global, list: &TokenList<'_>, role: Role) -> Result<(), TextFault>
+    requires { length list.now.text ≤ 16777216 }
+    ensures { MatchResult result (λ _. IsOfGrammar role list.now) (λ e. IsGrammarCause role list.now e) }
+{
+    match role {
+        Role::Program => read_program(alloc, list),
+        Role::Query => read_query(alloc, list),
+    }
+}
+
+fn read_program(alloc: Global, list: &TokenList<'_>) -> Result<(), TextFault>
+    requires { length list.now.text ≤ 16777216 }
+    ensures { MatchResult result (λ _. IsOfGrammar Role.Program list.now) (λ e. IsGrammarCause Role.Program list.now e) }
+{
+    let _tree = program(alloc, list)?;
+    Ok(())
+}
+
+fn read_query(alloc: Global, list: &TokenList<'_>) -> Result<(), TextFault>
+    requires { length list.now.text ≤ 16777216 }
+    ensures { MatchResult result (λ _. IsOfGrammar Role.Query list.now) (λ e. IsGrammarCause Role.Query list.now e) }
+{
+    let _tree = query(alloc, list)?;
+    Ok(())
 }
 
 // The place of the first token through which no text of today's language begins, or of the end where more is needed.

@@ -24,6 +24,7 @@ use fault::{Cause, refuse};
 use judge::Role;
 use ll_edge::{Gate, Shelf, Sink};
 use ll_lexer::one_reading;
+use ll_parser::{one_program, one_query};
 use prepare::prepare;
 use refusal::Refusal;
 use run::{Found, run};
@@ -123,6 +124,8 @@ pub fn one_text()
         → (status ≡ other) × (text ≡ more) }
 {
     one_reading();
+    one_program();
+    one_query();
 }
 
 // Runs a command, and says why not where it is not run.

@@ -268,7 +268,7 @@ fn options_stand_in_any_order(rt: HostRuntime) -> Result<(), Fail> {
 }
 
 // Names of two texts, the text `prog`, the text `ques`, the call of the shelf that fails, the status and its line.
-const FAULTS: [(&str, &str, &str, &str, u64, u8, &str); 27] = [
+const FAULTS: [(&str, &str, &str, &str, u64, u8, &str); 35] = [
     ("nope", "ques", "p.", "p", NEVER, 4, "fault: absent nope\n"),
     ("prog", "none", "p ;", "p", NEVER, 4, "fault: absent none\n"),
     ("nope", "none", "", "p", NEVER, 4, "fault: absent nope\n"),
@@ -283,7 +283,7 @@ const FAULTS: [(&str, &str, &str, &str, u64, u8, &str); 27] = [
         "p ;",
         NEVER,
         7,
-        "fault: ques 1:3 kind 17 not built yet\n",
+        "fault: ques 1:4 kind 5 text ends early\n",
     ),
     (
         "prog",
@@ -346,7 +346,7 @@ const FAULTS: [(&str, &str, &str, &str, u64, u8, &str); 27] = [
         "p",
         NEVER,
         7,
-        "fault: prog 2:2 kind 17 not built yet\n",
+        "fault: prog 2:2 kind 4 unexpected token\n",
     ),
     (
         "prog",
@@ -355,7 +355,7 @@ const FAULTS: [(&str, &str, &str, &str, u64, u8, &str); 27] = [
         "p",
         NEVER,
         7,
-        "fault: prog 1:8 kind 17 not built yet\n",
+        "fault: prog 1:8 kind 4 unexpected token\n",
     ),
     (
         "prog",
@@ -373,7 +373,7 @@ const FAULTS: [(&str, &str, &str, &str, u64, u8, &str); 27] = [
         "p",
         NEVER,
         7,
-        "fault: prog 1:8 kind 17 not built yet\n",
+        "fault: prog 1:8 kind 4 unexpected token\n",
     ),
     (
         "prog",
@@ -382,7 +382,7 @@ const FAULTS: [(&str, &str, &str, &str, u64, u8, &str); 27] = [
         "p",
         NEVER,
         7,
-        "fault: prog 2:1 kind 17 not built yet\n",
+        "fault: prog 2:1 kind 5 text ends early\n",
     ),
     (
         "prog",
@@ -391,7 +391,7 @@ const FAULTS: [(&str, &str, &str, &str, u64, u8, &str); 27] = [
         "p",
         NEVER,
         7,
-        "fault: prog 1:10 kind 17 not built yet\n",
+        "fault: prog 1:10 kind 5 text ends early\n",
     ),
     (
         "prog",
@@ -400,7 +400,7 @@ const FAULTS: [(&str, &str, &str, &str, u64, u8, &str); 27] = [
         "p",
         NEVER,
         7,
-        "fault: prog 1:7 kind 17 not built yet\n",
+        "fault: prog 1:7 kind 5 text ends early\n",
     ),
     (
         "prog",
@@ -409,7 +409,7 @@ const FAULTS: [(&str, &str, &str, &str, u64, u8, &str); 27] = [
         "p",
         NEVER,
         7,
-        "fault: prog 1:5 kind 17 not built yet\n",
+        "fault: prog 1:5 kind 5 text ends early\n",
     ),
     (
         "prog",
@@ -418,7 +418,7 @@ const FAULTS: [(&str, &str, &str, &str, u64, u8, &str); 27] = [
         "",
         NEVER,
         7,
-        "fault: ques 1:1 kind 17 not built yet\n",
+        "fault: ques 1:1 kind 5 text ends early\n",
     ),
     (
         "prog",
@@ -427,7 +427,7 @@ const FAULTS: [(&str, &str, &str, &str, u64, u8, &str); 27] = [
         "p , ",
         NEVER,
         7,
-        "fault: ques 1:5 kind 17 not built yet\n",
+        "fault: ques 1:5 kind 5 text ends early\n",
     ),
     (
         "prog",
@@ -436,7 +436,7 @@ const FAULTS: [(&str, &str, &str, &str, u64, u8, &str); 27] = [
         "p. p",
         NEVER,
         7,
-        "fault: ques 1:4 kind 17 not built yet\n",
+        "fault: ques 1:4 kind 4 unexpected token\n",
     ),
     (
         "prog",
@@ -454,7 +454,79 @@ const FAULTS: [(&str, &str, &str, &str, u64, u8, &str); 27] = [
         "p - q",
         NEVER,
         7,
+        "fault: prog 1:4 kind 5 text ends early\n",
+    ),
+    (
+        "prog",
+        "ques",
+        "p :- forall x\\",
+        "p",
+        NEVER,
+        7,
+        "fault: prog 1:15 kind 5 text ends early\n",
+    ),
+    (
+        "prog",
+        "ques",
+        "p q).",
+        "p",
+        NEVER,
+        7,
+        "fault: prog 1:4 kind 4 unexpected token\n",
+    ),
+    (
+        "prog",
+        "ques",
+        "p ; q. r )",
+        "p",
+        NEVER,
+        7,
+        "fault: prog 1:10 kind 4 unexpected token\n",
+    ),
+    (
+        "prog",
+        "ques",
+        "p.",
+        "forall x\\",
+        NEVER,
+        7,
+        "fault: ques 1:10 kind 5 text ends early\n",
+    ),
+    (
+        "prog",
+        "ques",
+        "p.",
+        "p ; q)",
+        NEVER,
+        7,
+        "fault: ques 1:6 kind 4 unexpected token\n",
+    ),
+    (
+        "prog",
+        "ques",
+        "p.",
+        "p , q ; r",
+        NEVER,
+        7,
+        "fault: ques 1:7 kind 17 not built yet\n",
+    ),
+    (
+        "prog",
+        "ques",
+        "p ; q.",
+        ")",
+        NEVER,
+        7,
         "fault: prog 1:3 kind 17 not built yet\n",
+    ),
+    (
+        "prog",
+        "ques",
+        "p.",
+        ".",
+        NEVER,
+        7,
+        "fault: ques 1:1 kind 4 unexpected token\n",
     ),
 ];
 
@@ -467,6 +539,39 @@ fn faults_are_told(rt: HostRuntime) -> Result<(), Fail> {
         let mut sink = MemSink::new(rt.alloc(), 200, Vec::new(rt.alloc()))?;
         let got = lolli(&rt, rt.alloc(), &words, &mut shelf, &mut sink, &OpenGate);
         assert_eq!(rt; got, status, "{line}");
+        assert_eq!(rt; sink.bytes(), line.as_bytes());
+    }
+    Ok(())
+}
+
+// A text of a front, some brackets and a name.
+fn brackets(alloc: Global, front: &str, count: usize) -> Result<Vec<u8>, AllocError> {
+    let mut text = Vec::from_slice(alloc, front.as_bytes())?;
+    for _ in 0..count {
+        text.push(b'(')?;
+    }
+    text.push(b'q')?;
+    Ok(text)
+}
+
+#[test]
+fn a_bracket_too_many_is_told(rt: HostRuntime) -> Result<(), Fail> {
+    let rows = [
+        (1000, "fault: prog 1:1007 kind 5 text ends early\n"),
+        (
+            1001,
+            "fault: prog 1:1006 kind 6 more than 1000 brackets open\n",
+        ),
+    ];
+    for (count, line) in rows {
+        let program = brackets(rt.alloc(), "p :- ", count)?;
+        let mut shelf = shelf_of(rt.alloc(), program, "true", NEVER)?;
+        let mut sink = MemSink::new(rt.alloc(), 200, Vec::new(rt.alloc()))?;
+        assert_eq!(rt;
+            status_of(&rt, rt.alloc(), "1", &mut shelf, &mut sink),
+            7,
+            "{line}"
+        );
         assert_eq!(rt; sink.bytes(), line.as_bytes());
     }
     Ok(())
@@ -557,7 +662,7 @@ fn a_line_is_cut_where_the_sink_fails(rt: HostRuntime) -> Result<(), Fail> {
 
 #[test]
 fn a_line_is_cut_where_the_room_ends(rt: HostRuntime) -> Result<(), Fail> {
-    let line = "fault: prog 1:4 kind 17 not built yet\n";
+    let line = "fault: prog 1:5 kind 5 text ends early\n";
     for room in 0..line.len() {
         let program = Vec::from_slice(rt.alloc(), b"p  ;")?;
         let mut shelf = shelf_of(rt.alloc(), program, "true", NEVER)?;

@@ -50,3 +50,19 @@ returns-clause-best c =
 pub returns-clause-keeps : goal.returns-clause-keeps
 returns-clause-keeps c =
     Extends-trans (Extends-trans c.in_ok-first.ensures.keeps c.in_ok-second.ensures.keeps) c.copies.ensures.keeps
+
+pub returns-in_err-size-clause-keeps : goal.returns-in_err-size-clause-keeps
+returns-in_err-size-clause-keeps c =
+    Extends-trans c.in_ok-first.ensures.keeps c.in_ok-second.ensures.keeps
+
+pub returns-in_err-table-clause-keeps : goal.returns-in_err-table-clause-keeps
+returns-in_err-table-clause-keeps c =
+    Extends-trans c.in_ok-first.ensures.keeps c.in_ok-second.ensures.keeps
+
+pub returns-in_err-unify-clause-keeps : goal.returns-in_err-unify-clause-keeps
+returns-in_err-unify-clause-keeps c =
+    Extends-trans c.in_ok-first.ensures.keeps c.in_ok-second.ensures.keeps
+
+pub returns-then-not-branch-clause-keeps : goal.returns-then-not-branch-clause-keeps
+returns-then-not-branch-clause-keeps c =
+    Extends-trans c.in_ok-first.ensures.keeps c.in_ok-second.ensures.keeps

@@ -5,44 +5,44 @@ use Rattle.ll_unify.proofs.bind.bind.Goals as goal
 
 pub bind_term-requires-in-App-term_at-clause-no_var : goal.bind_term-requires-in-App-term_at-clause-no_var
 bind_term-requires-in-App-term_at-clause-no_var c =
-    no-var-app (term_tree c.args.bank.now c.args.right.0) c.in-App-term_at.field-0 (term_trees c.args.bank.now c.in-App-term_at.field-1.now) c.in-App-term_at.ensures.0
+    no-var-app (term_tree c.args.bank.now c.args.right.0) c.in-App-term_at.field-0 (term_trees c.args.bank.now c.in-App-term_at.field-1.now) c.in-App-term_at.ensures.shown.0
 
 pub unreachable-requires-in-App-term_at-2 : goal.unreachable-requires-in-App-term_at-2
 unreachable-requires-in-App-term_at-2 c =
-    no-meeting c.args.bank.now c.args.table.now c.args.left.0 c.args.right.0 c.requires.meet (no-var-int (term_tree c.args.bank.now c.args.left.0) c.in-Int.field-0 c.in-Int.ensures) (no-var-app (term_tree c.args.bank.now c.args.right.0) c.in-App-term_at-2.field-0 (term_trees c.args.bank.now c.in-App-term_at-2.field-1.now) c.in-App-term_at-2.ensures.0)
+    no-meeting c.args.bank.now c.args.table.now c.args.left.0 c.args.right.0 c.requires.meet (no-var-int (term_tree c.args.bank.now c.args.left.0) c.in-Int.field-0 c.in-Int.ensures.shown) (no-var-app (term_tree c.args.bank.now c.args.right.0) c.in-App-term_at-2.field-0 (term_trees c.args.bank.now c.in-App-term_at-2.field-1.now) c.in-App-term_at-2.ensures.shown.0)
 
 pub bind_term-requires-in-Var-term_at-3-clause-no_var : goal.bind_term-requires-in-Var-term_at-3-clause-no_var
 bind_term-requires-in-Var-term_at-3-clause-no_var c =
-    no-var-app (term_tree c.args.bank.now c.args.left.0) c.in-App.field-0 (term_trees c.args.bank.now c.in-App.field-1.now) c.in-App.ensures.0
+    no-var-app (term_tree c.args.bank.now c.args.left.0) c.in-App.field-0 (term_trees c.args.bank.now c.in-App.field-1.now) c.in-App.ensures.shown.0
 
 pub unreachable-requires-in-Int-term_at-3 : goal.unreachable-requires-in-Int-term_at-3
 unreachable-requires-in-Int-term_at-3 c =
-    no-meeting c.args.bank.now c.args.table.now c.args.left.0 c.args.right.0 c.requires.meet (no-var-app (term_tree c.args.bank.now c.args.left.0) c.in-App.field-0 (term_trees c.args.bank.now c.in-App.field-1.now) c.in-App.ensures.0) (no-var-int (term_tree c.args.bank.now c.args.right.0) c.in-Int-term_at-3.field-0 c.in-Int-term_at-3.ensures)
+    no-meeting c.args.bank.now c.args.table.now c.args.left.0 c.args.right.0 c.requires.meet (no-var-app (term_tree c.args.bank.now c.args.left.0) c.in-App.field-0 (term_trees c.args.bank.now c.in-App.field-1.now) c.in-App.ensures.shown.0) (no-var-int (term_tree c.args.bank.now c.args.right.0) c.in-Int-term_at-3.field-0 c.in-Int-term_at-3.ensures.shown)
 
 pub unreachable-requires-in-App-term_at-3 : goal.unreachable-requires-in-App-term_at-3
 unreachable-requires-in-App-term_at-3 c =
-    no-meeting c.args.bank.now c.args.table.now c.args.left.0 c.args.right.0 c.requires.meet (no-var-app (term_tree c.args.bank.now c.args.left.0) c.in-App.field-0 (term_trees c.args.bank.now c.in-App.field-1.now) c.in-App.ensures.0) (no-var-app (term_tree c.args.bank.now c.args.right.0) c.in-App-term_at-3.field-0 (term_trees c.args.bank.now c.in-App-term_at-3.field-1.now) c.in-App-term_at-3.ensures.0)
+    no-meeting c.args.bank.now c.args.table.now c.args.left.0 c.args.right.0 c.requires.meet (no-var-app (term_tree c.args.bank.now c.args.left.0) c.in-App.field-0 (term_trees c.args.bank.now c.in-App.field-1.now) c.in-App.ensures.shown.0) (no-var-app (term_tree c.args.bank.now c.args.right.0) c.in-App-term_at-3.field-0 (term_trees c.args.bank.now c.in-App-term_at-3.field-1.now) c.in-App-term_at-3.ensures.shown.0)
 
 pub returns-in_ok-set-in-Var-term_at-clause-meets : goal.returns-in_ok-set-in-Var-term_at-clause-meets
 returns-in_ok-set-in-Var-term_at-clause-meets c =
-    meets-older c.args.bank.now c.args.table.now c.set.new.self c.args.left c.args.right c.in-Var.x c.in-Var-term_at.y c.requires.table c.requires.meet c.in-Var.ensures c.in-Var-term_at.ensures (sym c.is_older.ensures ∙ c.if-is_older.true) c.in_ok-set-in-Var-term_at.ensures
+    meets-older c.args.bank.now c.args.table.now c.set.new.self c.args.left c.args.right c.in-Var.x c.in-Var-term_at.y c.requires.table c.requires.meet c.in-Var.ensures.shown c.in-Var-term_at.ensures.shown (sym c.is_older.ensures ∙ c.if-is_older.true) c.in_ok-set-in-Var-term_at.ensures
 
 pub returns-in_ok-set-in-Var-term_at-2-clause-meets : goal.returns-in_ok-set-in-Var-term_at-2-clause-meets
 returns-in_ok-set-in-Var-term_at-2-clause-meets c =
-    meets-newer c.args.bank.now c.args.table.now c.set-else-is_older.new.self c.args.left c.args.right c.in-Var.x c.in-Var-term_at.y c.requires.table c.requires.meet c.in-Var.ensures c.in-Var-term_at.ensures (sym c.is_older.ensures ∙ c.if-is_older.false) c.in_ok-set-in-Var-term_at-2.ensures
+    meets-newer c.args.bank.now c.args.table.now c.set-else-is_older.new.self c.args.left c.args.right c.in-Var.x c.in-Var-term_at.y c.requires.table c.requires.meet c.in-Var.ensures.shown c.in-Var-term_at.ensures.shown (sym c.is_older.ensures ∙ c.if-is_older.false) c.in_ok-set-in-Var-term_at-2.ensures
 
 pub returns-in-Int-term_at-clause-meets : goal.returns-in-Int-term_at-clause-meets
 returns-in-Int-term_at-clause-meets c =
-    map-ok c.bind_term.result (λ b. meets-left c.args.bank.now c.args.table.now c.bind_term.new.table c.args.left c.args.right c.in-Var.x b c.requires.table c.requires.meet c.in-Var.ensures (no-var-int (term_tree c.args.bank.now c.args.right.0) c.in-Int-term_at.field-0 c.in-Int-term_at.ensures)) c.bind_term.ensures.binds
+    map-ok c.bind_term.result (λ b. meets-left c.args.bank.now c.args.table.now c.bind_term.new.table c.args.left c.args.right c.in-Var.x b c.requires.table c.requires.meet c.in-Var.ensures.shown (no-var-int (term_tree c.args.bank.now c.args.right.0) c.in-Int-term_at.field-0 c.in-Int-term_at.ensures.shown)) c.bind_term.ensures.binds
 
 pub returns-in-App-term_at-clause-meets : goal.returns-in-App-term_at-clause-meets
 returns-in-App-term_at-clause-meets c =
-    map-ok c.bind_term-in-App-term_at.result (λ b. meets-left c.args.bank.now c.args.table.now c.bind_term-in-App-term_at.new.table c.args.left c.args.right c.in-Var.x b c.requires.table c.requires.meet c.in-Var.ensures (no-var-app (term_tree c.args.bank.now c.args.right.0) c.in-App-term_at.field-0 (term_trees c.args.bank.now c.in-App-term_at.field-1.now) c.in-App-term_at.ensures.0)) c.bind_term-in-App-term_at.ensures.binds
+    map-ok c.bind_term-in-App-term_at.result (λ b. meets-left c.args.bank.now c.args.table.now c.bind_term-in-App-term_at.new.table c.args.left c.args.right c.in-Var.x b c.requires.table c.requires.meet c.in-Var.ensures.shown (no-var-app (term_tree c.args.bank.now c.args.right.0) c.in-App-term_at.field-0 (term_trees c.args.bank.now c.in-App-term_at.field-1.now) c.in-App-term_at.ensures.shown.0)) c.bind_term-in-App-term_at.ensures.binds
 
 pub returns-in-Var-term_at-2-clause-meets : goal.returns-in-Var-term_at-2-clause-meets
 returns-in-Var-term_at-2-clause-meets c =
-    map-ok c.bind_term-in-Var-term_at-2.result (λ b. meets-right c.args.bank.now c.args.table.now c.bind_term-in-Var-term_at-2.new.table c.args.left c.args.right c.in-Var-term_at-2.y b c.requires.table c.requires.meet c.in-Var-term_at-2.ensures (no-var-int (term_tree c.args.bank.now c.args.left.0) c.in-Int.field-0 c.in-Int.ensures)) c.bind_term-in-Var-term_at-2.ensures.binds
+    map-ok c.bind_term-in-Var-term_at-2.result (λ b. meets-right c.args.bank.now c.args.table.now c.bind_term-in-Var-term_at-2.new.table c.args.left c.args.right c.in-Var-term_at-2.y b c.requires.table c.requires.meet c.in-Var-term_at-2.ensures.shown (no-var-int (term_tree c.args.bank.now c.args.left.0) c.in-Int.field-0 c.in-Int.ensures.shown)) c.bind_term-in-Var-term_at-2.ensures.binds
 
 pub returns-in-Var-term_at-3-clause-meets : goal.returns-in-Var-term_at-3-clause-meets
 returns-in-Var-term_at-3-clause-meets c =
-    map-ok c.bind_term-in-Var-term_at-3.result (λ b. meets-right c.args.bank.now c.args.table.now c.bind_term-in-Var-term_at-3.new.table c.args.left c.args.right c.in-Var-term_at-3.y b c.requires.table c.requires.meet c.in-Var-term_at-3.ensures (no-var-app (term_tree c.args.bank.now c.args.left.0) c.in-App.field-0 (term_trees c.args.bank.now c.in-App.field-1.now) c.in-App.ensures.0)) c.bind_term-in-Var-term_at-3.ensures.binds
+    map-ok c.bind_term-in-Var-term_at-3.result (λ b. meets-right c.args.bank.now c.args.table.now c.bind_term-in-Var-term_at-3.new.table c.args.left c.args.right c.in-Var-term_at-3.y b c.requires.table c.requires.meet c.in-Var-term_at-3.ensures.shown (no-var-app (term_tree c.args.bank.now c.args.left.0) c.in-App.field-0 (term_trees c.args.bank.now c.in-App.field-1.now) c.in-App.ensures.shown.0)) c.bind_term-in-Var-term_at-3.ensures.binds

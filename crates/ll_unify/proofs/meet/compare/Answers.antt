@@ -18,34 +18,34 @@ compare_applied-requires-clause-right c =
 
 pub compare_applied-requires-clause-left_spine : goal.compare_applied-requires-clause-left_spine
 compare_applied-requires-clause-left_spine c =
-    (c.find-left.ensures.class c.args.bank.now c.args.table.now c.requires.classes).spine (spine-place (term_tree c.args.bank.now c.walk-left.result.0) c.in-App.field-0 (term_trees c.args.bank.now c.in-App.field-1.now) c.in-App.ensures.0)
+    (c.find-left.ensures.class c.args.bank.now c.args.table.now c.requires.classes).spine (spine-place (term_tree c.args.bank.now c.walk-left.result.0) c.in-App.field-0 (term_trees c.args.bank.now c.in-App.field-1.now) c.in-App.ensures.shown.0)
 
 pub compare_applied-requires-clause-right_spine : goal.compare_applied-requires-clause-right_spine
 compare_applied-requires-clause-right_spine c =
-    (c.find-right.ensures.class c.args.bank.now c.args.table.now (c.find-left.ensures.classes c.args.bank.now c.args.table.now c.requires.classes)).spine (spine-place (term_tree c.args.bank.now c.walk-right.result.0) c.in-App-term_at-3.field-0 (term_trees c.args.bank.now c.in-App-term_at-3.field-1.now) c.in-App-term_at-3.ensures.0)
+    (c.find-right.ensures.class c.args.bank.now c.args.table.now (c.find-left.ensures.classes c.args.bank.now c.args.table.now c.requires.classes)).spine (spine-place (term_tree c.args.bank.now c.walk-right.result.0) c.in-App-term_at-3.field-0 (term_trees c.args.bank.now c.in-App-term_at-3.field-1.now) c.in-App-term_at-3.ensures.shown.0)
 
 pub returns-in-App-term_at-clause-compared : goal.returns-in-App-term_at-clause-compared
 returns-in-App-term_at-clause-compared c =
-    compare-meet c.args.bank.now c.args.table.now (term_tree c.args.bank.now c.args.left.0) (term_tree c.args.bank.now c.args.right.0) c.walk-left.result c.walk-right.result (record { left_end = c.walk-left.ensures.end; right_end = c.walk-right.ensures.end; left = c.walk-left.ensures.same; right = c.walk-right.ensures.same }) (meet-left c.args.bank.now c.walk-left.result c.walk-right.result c.in-Var.x c.in-Var.ensures) (λ x e f. no-var-app (term_tree c.args.bank.now c.walk-right.result.0) c.in-App-term_at.field-0 (term_trees c.args.bank.now c.in-App-term_at.field-1.now) c.in-App-term_at.ensures.0 x f)
+    compare-meet c.args.bank.now c.args.table.now (term_tree c.args.bank.now c.args.left.0) (term_tree c.args.bank.now c.args.right.0) c.walk-left.result c.walk-right.result (record { left_end = c.walk-left.ensures.end; right_end = c.walk-right.ensures.end; left = c.walk-left.ensures.same; right = c.walk-right.ensures.same }) (meet-left c.args.bank.now c.walk-left.result c.walk-right.result c.in-Var.x c.in-Var.ensures.shown) (λ x e f. no-var-app (term_tree c.args.bank.now c.walk-right.result.0) c.in-App-term_at.field-0 (term_trees c.args.bank.now c.in-App-term_at.field-1.now) c.in-App-term_at.ensures.shown.0 x f)
 
 pub returns-then-is_same_int-clause-compared : goal.returns-then-is_same_int-clause-compared
 returns-then-is_same_int-clause-compared c =
     let fm : FitsSigned w64 c.in-Int.m = search rules in
     let fn : FitsSigned w64 c.in-Int-term_at-2.n = search rules in
-    compare-int c.args.bank.now c.args.table.now (term_tree c.args.bank.now c.args.left.0) (term_tree c.args.bank.now c.args.right.0) c.walk-left.result c.walk-right.result c.in-Int.m c.in-Int-term_at-2.n (record { left_end = c.walk-left.ensures.end; right_end = c.walk-right.ensures.end; left = c.walk-left.ensures.same; right = c.walk-right.ensures.same }) c.in-Int.ensures c.in-Int-term_at-2.ensures
+    compare-int c.args.bank.now c.args.table.now (term_tree c.args.bank.now c.args.left.0) (term_tree c.args.bank.now c.args.right.0) c.walk-left.result c.walk-right.result c.in-Int.m c.in-Int-term_at-2.n (record { left_end = c.walk-left.ensures.end; right_end = c.walk-right.ensures.end; left = c.walk-left.ensures.same; right = c.walk-right.ensures.same }) c.in-Int.ensures.shown c.in-Int-term_at-2.ensures.shown
     (rw (to_z-of_z w64 c.in-Int.m fm, to_z-of_z w64 c.in-Int-term_at-2.n fn) at (sym c.is_same_int.ensures ∙ c.if-is_same_int.true))
 
 pub returns-in-App-term_at-2-clause-compared : goal.returns-in-App-term_at-2-clause-compared
 returns-in-App-term_at-2-clause-compared c =
-    compare-clash c.args.bank.now c.args.table.now (term_tree c.args.bank.now c.args.left.0) (term_tree c.args.bank.now c.args.right.0) c.walk-left.result c.walk-right.result (record { left_end = c.walk-left.ensures.end; right_end = c.walk-right.ensures.end; left = c.walk-left.ensures.same; right = c.walk-right.ensures.same }) (λ s. clash-int-app (term_tree c.args.bank.now c.walk-left.result.0) (term_tree c.args.bank.now c.walk-right.result.0) c.in-Int.m c.in-App-term_at-2.field-0 (term_trees c.args.bank.now c.in-App-term_at-2.field-1.now) s c.in-Int.ensures c.in-App-term_at-2.ensures.0)
+    compare-clash c.args.bank.now c.args.table.now (term_tree c.args.bank.now c.args.left.0) (term_tree c.args.bank.now c.args.right.0) c.walk-left.result c.walk-right.result (record { left_end = c.walk-left.ensures.end; right_end = c.walk-right.ensures.end; left = c.walk-left.ensures.same; right = c.walk-right.ensures.same }) (λ s. clash-int-app (term_tree c.args.bank.now c.walk-left.result.0) (term_tree c.args.bank.now c.walk-right.result.0) c.in-Int.m c.in-App-term_at-2.field-0 (term_trees c.args.bank.now c.in-App-term_at-2.field-1.now) s c.in-Int.ensures.shown c.in-App-term_at-2.ensures.shown.0)
 
 pub returns-in-Var-term_at-3-clause-compared : goal.returns-in-Var-term_at-3-clause-compared
 returns-in-Var-term_at-3-clause-compared c =
-    compare-meet c.args.bank.now c.args.table.now (term_tree c.args.bank.now c.args.left.0) (term_tree c.args.bank.now c.args.right.0) c.walk-left.result c.walk-right.result (record { left_end = c.walk-left.ensures.end; right_end = c.walk-right.ensures.end; left = c.walk-left.ensures.same; right = c.walk-right.ensures.same }) (meet-right c.args.bank.now c.walk-left.result c.walk-right.result c.in-Var-term_at-3.field-0 c.in-Var-term_at-3.ensures) (λ x e f. no-var-app (term_tree c.args.bank.now c.walk-left.result.0) c.in-App.field-0 (term_trees c.args.bank.now c.in-App.field-1.now) c.in-App.ensures.0 x e)
+    compare-meet c.args.bank.now c.args.table.now (term_tree c.args.bank.now c.args.left.0) (term_tree c.args.bank.now c.args.right.0) c.walk-left.result c.walk-right.result (record { left_end = c.walk-left.ensures.end; right_end = c.walk-right.ensures.end; left = c.walk-left.ensures.same; right = c.walk-right.ensures.same }) (meet-right c.args.bank.now c.walk-left.result c.walk-right.result c.in-Var-term_at-3.field-0 c.in-Var-term_at-3.ensures.shown) (λ x e f. no-var-app (term_tree c.args.bank.now c.walk-left.result.0) c.in-App.field-0 (term_trees c.args.bank.now c.in-App.field-1.now) c.in-App.ensures.shown.0 x e)
 
 pub returns-in-Int-term_at-3-clause-compared : goal.returns-in-Int-term_at-3-clause-compared
 returns-in-Int-term_at-3-clause-compared c =
-    compare-clash c.args.bank.now c.args.table.now (term_tree c.args.bank.now c.args.left.0) (term_tree c.args.bank.now c.args.right.0) c.walk-left.result c.walk-right.result (record { left_end = c.walk-left.ensures.end; right_end = c.walk-right.ensures.end; left = c.walk-left.ensures.same; right = c.walk-right.ensures.same }) (λ s. clash-app-int (term_tree c.args.bank.now c.walk-left.result.0) (term_tree c.args.bank.now c.walk-right.result.0) c.in-Int-term_at-3.field-0 c.in-App.field-0 (term_trees c.args.bank.now c.in-App.field-1.now) s c.in-App.ensures.0 c.in-Int-term_at-3.ensures)
+    compare-clash c.args.bank.now c.args.table.now (term_tree c.args.bank.now c.args.left.0) (term_tree c.args.bank.now c.args.right.0) c.walk-left.result c.walk-right.result (record { left_end = c.walk-left.ensures.end; right_end = c.walk-right.ensures.end; left = c.walk-left.ensures.same; right = c.walk-right.ensures.same }) (λ s. clash-app-int (term_tree c.args.bank.now c.walk-left.result.0) (term_tree c.args.bank.now c.walk-right.result.0) c.in-Int-term_at-3.field-0 c.in-App.field-0 (term_trees c.args.bank.now c.in-App.field-1.now) s c.in-App.ensures.shown.0 c.in-Int-term_at-3.ensures.shown)
 
 pub returns-in-App-term_at-3-clause-classes : goal.returns-in-App-term_at-3-clause-classes
 returns-in-App-term_at-3-clause-classes c =
@@ -53,19 +53,19 @@ returns-in-App-term_at-3-clause-classes c =
 
 pub returns-in-App-term_at-3-clause-compared : goal.returns-in-App-term_at-3-clause-compared
 returns-in-App-term_at-3-clause-compared c =
-    compare-classes c.args.bank.now c.args.table.now (term_tree c.args.bank.now c.args.left.0) (term_tree c.args.bank.now c.args.right.0) c.walk-left.result c.walk-right.result c.find-left.result c.find-right.result [] (record { left_end = c.walk-left.ensures.end; right_end = c.walk-right.ensures.end; left = c.walk-left.ensures.same; right = c.walk-right.ensures.same }) (spine-place (term_tree c.args.bank.now c.walk-left.result.0) c.in-App.field-0 (term_trees c.args.bank.now c.in-App.field-1.now) c.in-App.ensures.0) (spine-place (term_tree c.args.bank.now c.walk-right.result.0) c.in-App-term_at-3.field-0 (term_trees c.args.bank.now c.in-App-term_at-3.field-1.now) c.in-App-term_at-3.ensures.0) (c.find-left.ensures.class c.args.bank.now c.args.table.now c.requires.classes) (c.find-right.ensures.class c.args.bank.now c.args.table.now (c.find-left.ensures.classes c.args.bank.now c.args.table.now c.requires.classes)) c.compare_applied.result c.compare_applied.ensures
+    compare-classes c.args.bank.now c.args.table.now (term_tree c.args.bank.now c.args.left.0) (term_tree c.args.bank.now c.args.right.0) c.walk-left.result c.walk-right.result c.find-left.result c.find-right.result [] (record { left_end = c.walk-left.ensures.end; right_end = c.walk-right.ensures.end; left = c.walk-left.ensures.same; right = c.walk-right.ensures.same }) (spine-place (term_tree c.args.bank.now c.walk-left.result.0) c.in-App.field-0 (term_trees c.args.bank.now c.in-App.field-1.now) c.in-App.ensures.shown.0) (spine-place (term_tree c.args.bank.now c.walk-right.result.0) c.in-App-term_at-3.field-0 (term_trees c.args.bank.now c.in-App-term_at-3.field-1.now) c.in-App-term_at-3.ensures.shown.0) (c.find-left.ensures.class c.args.bank.now c.args.table.now c.requires.classes) (c.find-right.ensures.class c.args.bank.now c.args.table.now (c.find-left.ensures.classes c.args.bank.now c.args.table.now c.requires.classes)) c.compare_applied.result c.compare_applied.ensures
 
 pub returns-else-is_same_int-clause-compared : goal.returns-else-is_same_int-clause-compared
 returns-else-is_same_int-clause-compared c =
     let fm : FitsSigned w64 c.in-Int.m = search rules in
     let fn : FitsSigned w64 c.in-Int-term_at-2.n = search rules in
     let h = rw (to_z-of_z w64 c.in-Int.m fm, to_z-of_z w64 c.in-Int-term_at-2.n fn) at (sym c.is_same_int.ensures ∙ c.if-is_same_int.false) in
-    compare-clash c.args.bank.now c.args.table.now (term_tree c.args.bank.now c.args.left.0) (term_tree c.args.bank.now c.args.right.0) c.walk-left.result c.walk-right.result (record { left_end = c.walk-left.ensures.end; right_end = c.walk-right.ensures.end; left = c.walk-left.ensures.same; right = c.walk-right.ensures.same }) (λ s. clash-ints (term_tree c.args.bank.now c.walk-left.result.0) (term_tree c.args.bank.now c.walk-right.result.0) c.in-Int.m c.in-Int-term_at-2.n s c.in-Int.ensures c.in-Int-term_at-2.ensures h)
+    compare-clash c.args.bank.now c.args.table.now (term_tree c.args.bank.now c.args.left.0) (term_tree c.args.bank.now c.args.right.0) c.walk-left.result c.walk-right.result (record { left_end = c.walk-left.ensures.end; right_end = c.walk-right.ensures.end; left = c.walk-left.ensures.same; right = c.walk-right.ensures.same }) (λ s. clash-ints (term_tree c.args.bank.now c.walk-left.result.0) (term_tree c.args.bank.now c.walk-right.result.0) c.in-Int.m c.in-Int-term_at-2.n s c.in-Int.ensures.shown c.in-Int-term_at-2.ensures.shown h)
 
 pub returns-in-Int-term_at-clause-compared : goal.returns-in-Int-term_at-clause-compared
 returns-in-Int-term_at-clause-compared c =
-    compare-meet c.args.bank.now c.args.table.now (term_tree c.args.bank.now c.args.left.0) (term_tree c.args.bank.now c.args.right.0) c.walk-left.result c.walk-right.result (record { left_end = c.walk-left.ensures.end; right_end = c.walk-right.ensures.end; left = c.walk-left.ensures.same; right = c.walk-right.ensures.same }) (meet-left c.args.bank.now c.walk-left.result c.walk-right.result c.in-Var.x c.in-Var.ensures) (λ x e f. no-var-int (term_tree c.args.bank.now c.walk-right.result.0) c.in-Int-term_at.field-0 c.in-Int-term_at.ensures x f)
+    compare-meet c.args.bank.now c.args.table.now (term_tree c.args.bank.now c.args.left.0) (term_tree c.args.bank.now c.args.right.0) c.walk-left.result c.walk-right.result (record { left_end = c.walk-left.ensures.end; right_end = c.walk-right.ensures.end; left = c.walk-left.ensures.same; right = c.walk-right.ensures.same }) (meet-left c.args.bank.now c.walk-left.result c.walk-right.result c.in-Var.x c.in-Var.ensures.shown) (λ x e f. no-var-int (term_tree c.args.bank.now c.walk-right.result.0) c.in-Int-term_at.field-0 c.in-Int-term_at.ensures.shown x f)
 
 pub returns-in-Var-term_at-2-clause-compared : goal.returns-in-Var-term_at-2-clause-compared
 returns-in-Var-term_at-2-clause-compared c =
-    compare-meet c.args.bank.now c.args.table.now (term_tree c.args.bank.now c.args.left.0) (term_tree c.args.bank.now c.args.right.0) c.walk-left.result c.walk-right.result (record { left_end = c.walk-left.ensures.end; right_end = c.walk-right.ensures.end; left = c.walk-left.ensures.same; right = c.walk-right.ensures.same }) (meet-right c.args.bank.now c.walk-left.result c.walk-right.result c.in-Var-term_at-2.field-0 c.in-Var-term_at-2.ensures) (λ x e f. no-var-int (term_tree c.args.bank.now c.walk-left.result.0) c.in-Int.m c.in-Int.ensures x e)
+    compare-meet c.args.bank.now c.args.table.now (term_tree c.args.bank.now c.args.left.0) (term_tree c.args.bank.now c.args.right.0) c.walk-left.result c.walk-right.result (record { left_end = c.walk-left.ensures.end; right_end = c.walk-right.ensures.end; left = c.walk-left.ensures.same; right = c.walk-right.ensures.same }) (meet-right c.args.bank.now c.walk-left.result c.walk-right.result c.in-Var-term_at-2.field-0 c.in-Var-term_at-2.ensures.shown) (λ x e f. no-var-int (term_tree c.args.bank.now c.walk-left.result.0) c.in-Int.m c.in-Int.ensures.shown x e)

@@ -19,7 +19,13 @@ use std::alloc::Global;
 /// without a text prints as nothing, and so does a bound place.
 ///
 /// After a refusal some first bytes of it may have been appended. It needs no deep stack.
-pub fn term(alloc: Global, names: &Names, bank: &Bank, at: At, out: &mut Vec<u8>) -> Result<(), OutOfMemory>
+pub fn term(
+    alloc: Global,
+    names: &Names,
+    bank: &Bank,
+    at: At,
+    out: &mut Vec<u8>,
+) -> Result<(), OutOfMemory>
     requires { HasTerm bank.now at.0 }
     ensures text { OnOk result (out.new.items ≡ out.old.items ++ term_text names.now (term_tree bank.now at.0)) }
     ensures begun { BeginsText (term_text names.now (term_tree bank.now at.0)) out.old.items out.new.items }

@@ -24,7 +24,13 @@ pub(crate) enum Piece {
 }
 
 /// Prints the beginning of a piece, and puts what is left of it on the stack.
-pub(crate) fn print_piece(names: &Names, bank: &Bank, piece: Piece, pieces: &mut Vec<Piece>, out: &mut Vec<u8>) -> Result<(), OutOfMemory>
+pub(crate) fn print_piece(
+    names: &Names,
+    bank: &Bank,
+    piece: Piece,
+    pieces: &mut Vec<Piece>,
+    out: &mut Vec<u8>,
+) -> Result<(), OutOfMemory>
     requires piece { HasPiece bank.now piece }
     requires pieces { All (HasPiece bank.now) pieces.old.items }
     ensures moves { OnOk result (Moves names.now bank.now (piece_text names.now bank.now piece) (piece_weight bank.now piece) pieces.old.items out.old.items pieces.new.items out.new.items) }
@@ -48,7 +54,13 @@ fn write_all(bytes: &[u8], out: &mut Vec<u8>) -> Result<(), OutOfMemory>
 }
 
 /// Prints a space, and leaves the term, in brackets where it has arguments.
-fn print_argument(names: &Names, bank: &Bank, at: At, pieces: &mut Vec<Piece>, out: &mut Vec<u8>) -> Result<(), OutOfMemory>
+fn print_argument(
+    names: &Names,
+    bank: &Bank,
+    at: At,
+    pieces: &mut Vec<Piece>,
+    out: &mut Vec<u8>,
+) -> Result<(), OutOfMemory>
     requires at { HasTerm bank.now at.0 }
     requires pieces { All (HasPiece bank.now) pieces.old.items }
     ensures moves { OnOk result (Moves names.now bank.now (piece_text names.now bank.now (Piece.Argument at)) (2 * term_size (term_tree bank.now at.0) + 2) pieces.old.items out.old.items pieces.new.items out.new.items) }
@@ -66,7 +78,13 @@ fn print_argument(names: &Names, bank: &Bank, at: At, pieces: &mut Vec<Piece>, o
 }
 
 /// Leaves the term in front of a `::`, in brackets where it is itself of the form `X::L`.
-fn print_item(names: &Names, bank: &Bank, at: At, pieces: &mut Vec<Piece>, out: &mut Vec<u8>) -> Result<(), OutOfMemory>
+fn print_item(
+    names: &Names,
+    bank: &Bank,
+    at: At,
+    pieces: &mut Vec<Piece>,
+    out: &mut Vec<u8>,
+) -> Result<(), OutOfMemory>
     requires at { HasTerm bank.now at.0 }
     requires pieces { All (HasPiece bank.now) pieces.old.items }
     ensures moves { OnOk result (Moves names.now bank.now (piece_text names.now bank.now (Piece.Item at)) (2 * term_size (term_tree bank.now at.0) + 2) pieces.old.items out.old.items pieces.new.items out.new.items) }
@@ -114,7 +132,13 @@ fn is_cons_of(names: &Names, head: Head, args: &[At]) -> bool
 }
 
 /// Prints the beginning of a term, and leaves its arguments.
-fn print_term(names: &Names, bank: &Bank, at: At, pieces: &mut Vec<Piece>, out: &mut Vec<u8>) -> Result<(), OutOfMemory>
+fn print_term(
+    names: &Names,
+    bank: &Bank,
+    at: At,
+    pieces: &mut Vec<Piece>,
+    out: &mut Vec<u8>,
+) -> Result<(), OutOfMemory>
     requires at { HasTerm bank.now at.0 }
     requires pieces { All (HasPiece bank.now) pieces.old.items }
     ensures moves { OnOk result (Moves names.now bank.now (term_text names.now (term_tree bank.now at.0)) (2 * term_size (term_tree bank.now at.0)) pieces.old.items out.old.items pieces.new.items out.new.items) }

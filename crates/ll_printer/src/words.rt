@@ -42,7 +42,11 @@ pub(crate) fn write_head(names: &Names, head: Head, out: &mut Vec<u8>) -> Result
 }
 
 /// Appends a sign and a number. After a refusal the sign may have been appended.
-pub(crate) fn write_signed_number(sign: u8, number: u64, out: &mut Vec<u8>) -> Result<(), OutOfMemory>
+pub(crate) fn write_signed_number(
+    sign: u8,
+    number: u64,
+    out: &mut Vec<u8>,
+) -> Result<(), OutOfMemory>
     ensures text { OnOk result (out.new.items ≡ out.old.items ++ (sign ∷ decimal number)) }
     ensures begun { BeginsText (sign ∷ decimal number) out.old.items out.new.items }
 {

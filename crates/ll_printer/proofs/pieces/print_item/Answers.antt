@@ -1,8 +1,20 @@
-use Rattle.ll_printer.proofs.Printing.{has_arguments-app}
+use Rattle.std.proofs.Common.{sym, ◌∙◌, arith, codes, true, false, []}
+use Rattle.std.proofs.lemmas.List.{append-nil}
+use Rattle.ll_bank.specs.Nodes.{term_tree}
+use Rattle.ll_laws.specs.Output.{term_text}
+use Rattle.ll_printer.proofs.Printing.{moved_term, moved_bracket, item_is}
 use Rattle.ll_printer.proofs.pieces.print_item.Goals as goal
 
 pub returns-in_ok-push-2-clause-moves : goal.returns-in_ok-push-2-clause-moves
-returns-in_ok-push-2-clause-moves c = ?
+returns-in_ok-push-2-clause-moves c =
+    let tree = term_tree c.args.bank.now c.args.at.0 in
+    moved_bracket c.args.names.now c.args.bank.now _ _ c.args.pieces.now.items c.push-then-is_cons_at.new.self.items c.args.out.now.items c.write_all.new.out.items c.requires.pieces (codes "(")
+    c.in_ok-write_all.ensures.text c.args.at c.push.new.self.items c.requires.at c.in_ok-push.ensures.items c.in_ok-push-2.ensures.items
+    (item_is c.args.names.now tree (term_text c.args.names.now tree) true (sym c.is_cons_at.ensures ∙ c.if-is_cons_at.true)) (omega arith)
 
 pub returns-in_ok-push-3-clause-moves : goal.returns-in_ok-push-3-clause-moves
-returns-in_ok-push-3-clause-moves c = ?
+returns-in_ok-push-3-clause-moves c =
+    let tree = term_tree c.args.bank.now c.args.at.0 in
+    moved_term c.args.names.now c.args.bank.now _ _ c.args.pieces.now.items c.push-else-is_cons_at.new.self.items c.args.out.now.items c.args.out.now.items
+    c.requires.pieces [] (sym (append-nil c.args.out.now.items)) c.args.at c.requires.at c.in_ok-push-3.ensures.items
+    (item_is c.args.names.now tree (term_text c.args.names.now tree) false (sym c.is_cons_at.ensures ∙ c.if-is_cons_at.false)) (omega arith)

@@ -1,2 +1,4 @@
 pub mod Pieces
 pub mod Stack
+pub mod Parts
+pub mod Again

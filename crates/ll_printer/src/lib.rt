@@ -1,4 +1,4 @@
-//! The bytes of terms, answers and counts.
+//! The bytes of terms, programs, answers and counts.
 #![tactic(auto)]
 
 ghost use Rattle.std.specs.Prelude.{◌≡◌, ◌≤◌, ◌++◌, length, OnOk, codes, decimal};
@@ -6,10 +6,15 @@ ghost use Rattle.ll_bank.specs.Nodes.{term_tree, HasTerm};
 ghost use Rattle.ll_laws.specs.Output.{line, term_text, answer_text, bindings_text, counts_text};
 ghost use Rattle.ll_printer.specs.Pieces.{BeginsText};
 
+mod formulas;
 mod pieces;
+#[cfg(test)]
+mod program_tests;
+mod programs;
 mod words;
 
 use crate::pieces::{Piece, print_piece};
+pub use crate::programs::program;
 use crate::words::write_number;
 use ll_bank::{At, Bank, Names, OutOfMemory};
 use ll_laws::Counts;

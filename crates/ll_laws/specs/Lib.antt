@@ -21,6 +21,7 @@ pub mod Run
 pub mod Dealing
 pub mod Dealt
 pub mod Lazy
+pub mod ProofText
 pub mod ShownLines
 pub mod Pool
 pub mod PoolCodes

@@ -4,7 +4,9 @@ use Rattle.std.specs.Prelude.{not, filter, nat_lt, Some, slice_index_or, Contain
 use Rattle.std.proofs.lemmas.Bool.{ltb-true}
 use Rattle.std.proofs.lemmas.List.{length-map}
 use Rattle.std.proofs.Math.Seq.{take-append_seam}
-use Rattle.ll_bank.specs.Term.{Term, Var, Int, Con, Ap, sub}
+use Rattle.std.specs.List.{list_all}
+use Rattle.ll_laws.specs.declared.Kind.TheVariants.{Linear}
+use Rattle.ll_bank.specs.Term.{Term, Var, Int, Con, Ap, sub, is_closed}
 use Rattle.ll_bank.specs.Form.{Form, Top, One, Atom, With, Tensor, Plus, Bang, Lolli, Imp, Forall, Exists, Use, sub_form}
 use Rattle.ll_laws.specs.declared.Event.TheVariants.{Answer}
 use Rattle.ll_laws.specs.Answered.{Answered}
@@ -15,7 +17,7 @@ use Rattle.ll_laws.specs.Search.{program_entries}
 use Rattle.ll_laws.specs.Problem.{ProblemTree, setting_of, start_of, problem_events}
 use Rattle.ll_laws.specs.Valid.{Allowed, given, Side, GoalSide, ClauseSide, Scope, AreClauses, IsValid}
 use Rattle.ll_laws.specs.Shows.{Tree, OneNode, EraseNode, TensorNode, WithNode, LeftNode, RightNode, BangNode, LolliNode, ImpNode, ForallNode, ExistsNode, UseNode, ClauseNode, Parts, NoParts, BoundedPart, UnboundedPart, nodes, part_nodes}
-use Rattle.ll_laws.specs.Line.{DerivationLines, trees_of, lines}
+use Rattle.ll_laws.specs.Line.{IsWhole, DerivationLines, trees_of, lines}
 use Rattle.ll_laws.specs.Verdict.{root_bounded, instantiated_goal, DerivationShows}
 use Rattle.ll_laws.specs.Run.{Trace, run_start}
 use Rattle.ll_laws.specs.Dealing.{deal, deal_parts, goes_to, uses, uses_part, erases, without}
@@ -23,7 +25,9 @@ use Rattle.ll_laws.specs.Dealt.{replay, asked_terms, branch_lines, dealt_trees, 
 use Rattle.ll_laws.specs.Laws.{RunsAreShown, AnswersAreShown}
 use Rattle.ll_laws.proofs.Lines.{trees-count}
 use Rattle.ll_laws.proofs.Dealing.{labels}
-use Rattle.ll_laws.proofs.ConsistentTerms.{Fit, AllFit}
+use Rattle.ll_laws.proofs.SubLaws.{IsClosing}
+use Rattle.ll_laws.proofs.DealtWhole.{AreRising, AreFormed, trace_rises, trace_formed, deal_formed, labels_rising}
+use Rattle.ll_laws.proofs.ConsistentTerms.{and_intro, Fit, AllFit}
 use Rattle.ll_laws.proofs.ConsistentForms.{Fits, fits_of_formula}
 use Rattle.ll_laws.proofs.ConsistentStates.{starts_consistent, length-vars}
 use Rattle.ll_laws.proofs.Grounding.{grounded, sub_none_form}
@@ -113,6 +117,10 @@ run_begins : (p : ProblemTree) (f : ℕ → Term) (ts : List Term) → IsValid p
 run_begins p f ts v h =
     let g = goal_is p f v ∙ ap (instantiated_goal p) (sym h) in let e = entries_same f (length p.names) p.modules 0 p.clauses v.clauses in let t = sym h in cc
 
+closed_asked : (f : ℕ → Term) → IsClosing f → (m k : ℕ) → list_all is_closed (map (sub f) (vars_from m k)) ≡ true
+closed_asked f cl m zero = refl
+closed_asked f cl m (suc k) = and_intro _ _ (cl m) (closed_asked f cl (suc m) k)
+
 -- ---- the derivation of an answer
 
 -- the derivation of an answer, which shows the query and has as many nodes as the branch has steps
@@ -120,6 +128,7 @@ pub record AnswerShown (p : ProblemTree) (a : Answered) : Type 0 where
   pub derivation : DerivationLines
   pub is_dealt : dealt p a ≡ Some derivation
   pub asked : derivation.asked ≡ asked_terms p a
+  pub whole : IsWhole derivation
   pub shows : DerivationShows p derivation
   pub count : length derivation.nodes ≡ length a.steps
 
@@ -135,6 +144,7 @@ shown_comes p a v w =
     let r = run_shown p ts ns run in
     let d = labels (root_bounded p) in
     let y = deal d r.tree in
+    let f : AreFormed (length p.clauses) (lines r.tree) = subst (AreFormed (length p.clauses)) r.is_lines (record { formed = trace_formed (setting_of p) ns (run_start p ts) run; rise = trace_rises (setting_of p) ns (run_start p ts) run }) in
     let is : branch_lines p a ≡ ns = ap (λ m. replay (setting_of p) a.terms m (run_start p ts)) w.steps in
     let m = trees-count ns (r.tree ∷ []) r.is_tree in
     let k = trees-count (lines y) (y ∷ []) (tree_of_lines y) in
@@ -144,6 +154,7 @@ shown_comes p a v w =
       derivation = record { asked = ts; nodes = lines y };
       asked = refl;
       is_dealt = ap (λ o. dealt_lines ts (dealt_trees d o)) (ap trees_of is ∙ r.is_tree);
+      whole = record { tree = y; is_tree = tree_of_lines y; asked = ap (list_all is_closed) t ∙ closed_asked w.values w.closing 0 (length p.asked); nodes = deal_formed (length p.clauses) d r.tree (let e : 0 + length p.clauses ≡ length p.clauses = omega arith in subst (λ k. AreRising k d) e (labels_rising Linear 0 p.clauses)) f };
       shows = record { tree = y; is_tree = tree_of_lines y; count = ap length t ∙ (length-map (vars_from 0 (length p.asked)) (sub w.values) ∙ length-vars 0 (length p.asked)); shows = r.shows };
       count = omega (arith, m, k, j, z, c);
     }
@@ -157,4 +168,4 @@ pub runs-shown : RunsAreShown
 runs-shown p ts ns run = let r = run_shown p ts ns run in (r.tree, r.is_tree, r.shows)
 
 pub answers-shown : AnswersAreShown
-answers-shown p a v h = let r = answer_shown p a v h in (r.derivation, r.is_dealt, r.asked, r.shows, r.count)
+answers-shown p a v h = let r = answer_shown p a v h in (r.derivation, r.is_dealt, r.asked, r.whole, r.shows, r.count)

@@ -27,5 +27,6 @@ pub mod Projected
 pub mod AnswerRuns
 pub mod AnswerSteps
 pub mod AnswersShown
+pub mod DealtWhole
 pub mod DealtShown
 pub mod DealtRows

@@ -178,6 +178,7 @@ all_kept (l ∷ d) = ap (λ z. l ∷ z) (all_kept d)
 pub record RunShown (p : ProblemTree) (ts : List Term) (ns : List Line) : Type 0 where
   pub tree : Tree
   pub is_tree : trees_of ns ≡ Some (tree ∷ [])
+  pub is_lines : ns ≡ lines tree
   pub shows : TreeShows p (deal (labels (root_bounded p)) tree) ts
 
 pub run_shown : (p : ProblemTree) (ts : List Term) (ns : List Line) → Trace (setting_of p) ns (run_start p ts) → RunShown p ts ns
@@ -196,5 +197,6 @@ run_shown p ts ns run =
     record {
       tree = a.tree;
       is_tree = ap trees_of is ∙ tree_of_lines a.tree;
+      is_lines = is;
       shows = subst (λ d. Shows (setting_of p) (deal (labels d) a.tree) (root_free p) d (instantiated_goal p ts)) (all_kept (root_bounded p)) w;
     }

@@ -123,9 +123,9 @@ RunsAreShown =
     (p : ProblemTree) (ts : List Term) (ns : List Line) → Trace (setting_of p) ns (run_start p ts)
     → (x : Tree) × (trees_of ns ≡ Some (x ∷ [])) × TreeShows p (deal (map (λ l. l.label) (root_bounded p)) x) ts
 
--- each answer of the search of a valid problem has a derivation, which shows the query with the answer's terms for its variables, and has
--- as many nodes as the answer's branch has steps
+-- each answer of the search of a valid problem has a derivation, which is whole, shows the query with the answer's terms for its
+-- variables, and has as many nodes as the answer's branch has steps
 abbrev pub AnswersAreShown : Type 0
 AnswersAreShown =
     (p : ProblemTree) (a : Answered) → IsValid p → Contains (problem_events p) (Answer a)
-    → (d : DerivationLines) × (dealt p a ≡ Some d) × (d.asked ≡ asked_terms p a) × DerivationShows p d × (length d.nodes ≡ length a.steps)
+    → (d : DerivationLines) × (dealt p a ≡ Some d) × (d.asked ≡ asked_terms p a) × IsWhole d × DerivationShows p d × (length d.nodes ≡ length a.steps)

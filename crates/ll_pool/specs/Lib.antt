@@ -1,0 +1,4 @@
+pub mod Fits
+pub mod Turns
+pub mod OpenPieces
+pub mod Fitting

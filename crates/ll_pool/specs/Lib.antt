@@ -2,3 +2,4 @@ pub mod Fits
 pub mod Turns
 pub mod OpenPieces
 pub mod Fitting
+pub mod Players

@@ -14,3 +14,6 @@ mod shared;
 pub use laws::no_piece_twice;
 pub use seat::Seat;
 pub use shared::SharedPool;
+
+#[cfg(test)]
+mod tests;

@@ -25,12 +25,12 @@ impl<N: Batch> Model for Seat<N> {
     ghost use Rattle.std.specs.Prelude.{◌≡◌, None, option_map};
     ghost use Rattle.ll_pool.specs.Turns.{SeatSight};
     ghost use Rattle.ll_pool.specs.Fits.{number_of};
-    ghost use Rattle.std.specs.Coded.{codes};
+    ghost use Rattle.ll_pool.specs.Codes.{seat_code};
     ghost use Rattle.ll_laws.specs.contracts.Event as event;
 
     ghost Value = { SeatSight N N.Of };
 
-    ghost coded = { Prim.hlevel (codes, event.the_row.coded) };
+    ghost coded = { seat_code event.the_row.coded N.code N.Of.code };
 
     ghost view = { λ s. s.pass };
 

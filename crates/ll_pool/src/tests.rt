@@ -4,7 +4,7 @@ ghost use Rattle.std.specs.Arc.{arc_value};
 ghost use Rattle.ll_pool.specs.Players.{IsSeatOf, IsSameSeat, OwesNothing};
 
 use crate::{Seat, SharedPool};
-use ll_core::{Claimed, Look, PublishFault};
+use ll_core::{Claimed, Look, PublishFault, Ready};
 use ll_laws::{Batch, Report};
 use std::alloc::{AllocError, Global};
 use std::process::Abort;
@@ -117,6 +117,7 @@ fn two_seats_share(rt: HostRuntime) -> Result<(), Fail> {
     let alloc = rt.alloc();
     let (pool, mut first) = SharedPool::new(alloc, batch_of(alloc, 1)?, 2)?;
     let mut second = pool.seat(&mut first, 1);
+    assert!(rt; pool.workers() == 2 && second.worker() == 1);
     assert_eq!(rt; work(&rt, &pool, &mut first), 0);
     assert!(rt; matches!(no_work(&rt, &pool, &mut second), Claimed::Idle { busy: 1 }));
     assert!(rt; publish(&rt, &pool, &mut first, batch_of(alloc, 2)?).is_ok());
@@ -144,5 +145,10 @@ fn one_seat_reads_what_it_wrote(rt: HostRuntime) -> Result<(), Fail> {
         stopped: false,
     };
     assert_eq!(rt; pool.look(&rt, &mut seat), want);
+    assert!(rt; matches!(pool.ready(&rt, &mut seat), Ready::NotYet { piece: Some(0) }));
+    pool.starve(&rt, &mut seat);
+    pool.stop(&rt, &mut seat);
+    let seen = pool.look(&rt, &mut seat);
+    assert!(rt; seen.starved && seen.stopped);
     Ok(())
 }

@@ -1,12 +1,11 @@
 -- The words of a print, and a form among the forms.
-use Rattle.std.proofs.Common.{◌≡◌, ◌⊎◌, ℕ, suc, ◌+◌, ◌<◌, ◌≤◌, Bool, true, false, not, List, [], ◌∷◌, ◌++◌, length, take, slice_get, get_or, Option, Some, None, refl, ap, sym, subst, ◌∙◌, inl, inr, arith}
+use Rattle.std.proofs.Common.{◌≡◌, ℕ, suc, ◌+◌, ◌<◌, ◌≤◌, Bool, true, false, List, [], ◌∷◌, ◌++◌, length, take, slice_get, get_or, Option, Some, None, refl, ap, sym, subst, ◌∙◌, inl, inr, arith}
 use Rattle.std.specs.Prelude.{IfSome, IsSomeAnd, codes, option_map}
-use Rattle.std.proofs.lemmas.List.{length-map}
 use Rattle.std.proofs.lemmas.Option.{slice_get_past, slice_get-map, slice_get-get_or}
 use Rattle.std.specs.Borrow.{Bor}
 use Rattle.ll_top.specs.Outcome.{word_texts}
-use Rattle.ll_top.specs.Begins.{Begins, IsFirstBad, Leads}
-use Rattle.ll_top.specs.Words.{Part, ThisWord, AnyName, is_part, is_word, OptionForm, Form, Fits, part, option, done, FitsForm, run_form, print_form, IsInForm, IsPrint, IsBadWord}
+use Rattle.ll_top.specs.Begins.{Begins, Leads}
+use Rattle.ll_top.specs.Words.{ThisWord, AnyName, is_word, Form, Fits, part, done, FitsForm, run_form, print_form, IsInForm, IsPrint, IsBadWord}
 use Rattle.ll_top.specs.RunForm.{HasPart, LacksPart, IsBadFormWord}
 use Rattle.ll_top.proofs.FirstBad.{drop-end, leads-start, leads-bad, IsStuck}
 use Rattle.ll_top.proofs.Forms.{same-word, words-same, leads-part, bad-part, bad-option}

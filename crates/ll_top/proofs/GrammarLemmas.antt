@@ -1,5 +1,5 @@
 -- The texts of today's language are read by the grammar.
-use Rattle.std.proofs.Common.{◌≡◌, ◌≤◌, ◌⊎◌, ℕ, Bool, true, false, List, [], ◌∷◌, ◌++◌, take, map, zero, suc, append_assoc, Option, Some, None, refl, ap, sym, subst, ◌∙◌, inl, inr, arith}
+use Rattle.std.proofs.Common.{◌≡◌, ◌⊎◌, ℕ, true, false, List, [], ◌∷◌, ◌++◌, take, map, zero, suc, append_assoc, Option, Some, None, refl, ap, sym, subst, ◌∙◌, inl, inr, arith}
 use Rattle.std.specs.Prelude.{Result, Ok, Err, IfErr, MatchResult}
 use Rattle.std.specs.Option.{option_and_then}
 use Rattle.std.proofs.lemmas.List.{append-nil}
@@ -20,9 +20,9 @@ use Rattle.ll_top.specs.declared.judge.Role.{Role}
 use Rattle.ll_top.specs.declared.judge.Role.TheVariants.{Program, Query}
 use Rattle.ll_top.specs.declared.judge.State.{State}
 use Rattle.ll_top.specs.declared.judge.State.TheVariants.{Clauses, Marked, Head, Wants, Item, Ended}
-use Rattle.ll_top.specs.Judging.{kinds_in, IsText, IsOfGrammar, HasGrammarFault, IsGrammarCause, IsReadingCause, lexical, grammatical, IsTextFault, IsTextCause, of_reading, most_open}
+use Rattle.ll_top.specs.Judging.{kinds_in, IsText, IsOfGrammar, HasGrammarFault, IsGrammarCause, IsReadingCause, lexical, grammatical, IsTextCause, of_reading, most_open}
 use Rattle.ll_top.specs.Reading.{Token, NameToken, TrueToken, LinearToken, DotToken, CommaToken, ColonDashToken, token_of}
-use Rattle.ll_top.specs.Machine.{first_state, after_token, after, is_end}
+use Rattle.ll_top.specs.Machine.{after_token, after, is_end}
 use Rattle.ll_top.proofs.JudgeLemmas.{accepts, from_next, text-is}
 
 -- ---- the parse trees of what each state takes

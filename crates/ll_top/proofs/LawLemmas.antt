@@ -1,6 +1,6 @@
 -- Words and texts determine what is written.
-use Rattle.std.proofs.Common.{◌≡◌, ◌≤◌, ◌<◌, ◌+◌, ℕ, Bool, true, false, List, [], ◌∷◌, length, Option, Some, None, refl, ap, sym, subst, ◌∙◌, arith}
-use Rattle.std.specs.Prelude.{IfSome, IsSomeAnd, is_some, slice_get, codes}
+use Rattle.std.proofs.Common.{◌≡◌, ◌<◌, ◌+◌, ℕ, true, List, [], ◌∷◌, length, Option, Some, None, refl, ap, sym, subst, ◌∙◌, arith}
+use Rattle.std.specs.Prelude.{IsSomeAnd, is_some, slice_get, codes}
 use Rattle.ll_edge.specs.Texts.{Texts, text_of}
 use Rattle.ll_bank.specs.Form.{Form}
 use Rattle.ll_laws.specs.Module.{ClauseTree}
@@ -17,9 +17,9 @@ use Rattle.ll_top.specs.declared.judge.Role.{Role}
 use Rattle.ll_top.specs.declared.judge.Role.TheVariants.{Program, Query}
 use Rattle.ll_top.specs.declared.judge.State.TheVariants.{Clauses, Wants}
 use Rattle.ll_top.specs.Begins.{IsFirstBad}
-use Rattle.ll_top.specs.Words.{RunWords, IsInForm, IsRun, IsPrint, IsBadWord, number_behind}
-use Rattle.ll_top.specs.Faults.{Cause, Usage, Absent, Unreadable, Oversized, Faulty, fault_text, cause_status}
-use Rattle.ll_top.specs.Reading.{Token, tokens_in, HasTokens, lexed, faulty, at_dots, program_of, query_of, problem_from, problem_of_tokens, names_of, number_in, Asks, both, no_program, no_query}
+use Rattle.ll_top.specs.Words.{RunWords, IsInForm, IsRun, IsBadWord, number_behind}
+use Rattle.ll_top.specs.Faults.{Cause, Usage, Absent, Oversized, Faulty, fault_text, cause_status}
+use Rattle.ll_top.specs.Reading.{Token, HasTokens, lexed, faulty, program_of, query_of, problem_from, problem_of_tokens, names_of, number_in, Asks, both, no_program, no_query}
 use Rattle.ll_top.specs.Judging.{IsText, IsOfLanguage, IsOfGrammar, HasGrammarFault, IsProgramText, IsReadingFault, lexical, grammatical, IsTextFault, of_reading, not_built, kinds_in, place_of_token, most_open}
 use Rattle.ll_top.specs.Machine.{first_state}
 use Rattle.ll_top.specs.Outcome.{IsRead, Reaches, first, later, run_texts, ReadFails, absent, unreadable, oversized, RunFails, not_read, faulty_program, faulty_query, RunAsks, RunComesTo, ran, failed, IsPrintedAs, PrintFails, source_not_read, faulty_source, PrintComesTo, printed, print_failed, ComesTo, misused, runs, prints, longest_text}

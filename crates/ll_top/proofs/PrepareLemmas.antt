@@ -1,8 +1,8 @@
 -- From the reading and judging of two texts to what a run comes to.
-use Rattle.std.proofs.Common.{◌≡◌, ◌≤◌, ◌<◌, ◌⊎◌, ℕ, Bool, true, false, List, [], ◌∷◌, Option, Some, None, refl, ap, sym, subst, ◌∙◌, inl, inr, arith}
-use Rattle.std.specs.Prelude.{Result, Ok, Err, IfErr, IfSome, IsSomeAnd, IsErrAnd, is_some}
-use Rattle.ll_edge.specs.Texts.{Texts, text_of}
-use Rattle.ll_edge.specs.Counts.{Rose, last_count}
+use Rattle.std.proofs.Common.{◌≡◌, ◌≤◌, ℕ, true, List, [], ◌∷◌, Option, Some, None, refl, sym, subst, inl, inr, arith}
+use Rattle.std.specs.Prelude.{Result, Ok, Err, IfErr, is_some}
+use Rattle.ll_edge.specs.Texts.{Texts}
+use Rattle.ll_edge.specs.Counts.{Rose}
 use Rattle.ll_laws.specs.Problem.{ProblemTree}
 use Rattle.ll_laws.specs.Module.{ClauseTree}
 use Rattle.ll_bank.specs.Form.{Form}
@@ -18,9 +18,9 @@ use Rattle.ll_top.specs.declared.refusal.TextRefusal.TheVariants as text
 use Rattle.ll_top.specs.declared.refusal.Refusal.{Refusal}
 use Rattle.ll_top.specs.declared.refusal.Refusal.TheVariants.{Text, Unwritable, OutOfMemory}
 use Rattle.ll_top.specs.Words.{RunWords}
-use Rattle.ll_top.specs.Reading.{Token, tokens_in, HasTokens, lexed, faulty, at_dots, program_of, query_of, problem_from, problem_of_tokens, names_of, number_in, Asks, both, no_program, no_query}
-use Rattle.ll_top.specs.Judging.{IsText, IsOfLanguage, IsReadingCause, IsTextFault, IsTextCause, kinds_in}
-use Rattle.ll_top.specs.Outcome.{IsRead, Reaches, first, later, run_texts, ReadFails, absent, unreadable, oversized, RunFails, not_read, faulty_program, faulty_query, RunAsks, IsPrintedAs, PrintFails, source_not_read, faulty_source}
+use Rattle.ll_top.specs.Reading.{Token, tokens_in, HasTokens, lexed, program_of, query_of, problem_from, problem_of_tokens, names_of, number_in, Asks, both, no_program, no_query}
+use Rattle.ll_top.specs.Judging.{IsText, IsOfLanguage, IsReadingCause, IsTextCause, kinds_in}
+use Rattle.ll_top.specs.Outcome.{IsRead, Reaches, first, later, run_texts, ReadFails, absent, unreadable, oversized, RunFails, not_read, faulty_program, faulty_query, IsPrintedAs, source_not_read, faulty_source}
 use Rattle.ll_top.specs.Endings.{refusal_of, cause_of, name_of, IsTextNotRead, IsNotRead, IsFaultOf, of_program, of_query, Judges, Prepares, IsNotPrinted, IsMadeOf, IsNotMadeOf}
 use Rattle.ll_top.specs.Machine.{first_state}
 use Rattle.ll_top.proofs.JudgeLemmas.{found, text-tokens, query-found}

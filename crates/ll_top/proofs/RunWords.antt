@@ -1,6 +1,6 @@
 -- The words of a run, read from its names to its options.
-use Rattle.std.proofs.Common.{◌≡◌, ◌⊎◌, ℕ, zero, suc, ◌+◌, ◌<◌, ◌≤◌, Bool, true, false, ◌&&◌, not, List, [], ◌∷◌, ◌++◌, length, take, slice_get, get_or, Option, Some, None, refl, ap, sym, subst, ◌∙◌, inl, inr, arith, if◌then◌else◌}
-use Rattle.std.specs.Prelude.{All, IfSome, IsSomeAnd, MatchOption, codes, is_some, nat_le, option_map, Result, Ok, Err, IsErrAnd, MatchResult}
+use Rattle.std.proofs.Common.{◌≡◌, ℕ, zero, suc, ◌+◌, ◌<◌, ◌≤◌, Bool, true, false, ◌&&◌, List, [], ◌∷◌, ◌++◌, length, take, slice_get, get_or, Option, Some, None, refl, ap, sym, subst, ◌∙◌, arith, if◌then◌else◌}
+use Rattle.std.specs.Prelude.{All, IsSomeAnd, codes, is_some, nat_le, option_map, Result, Ok, Err, IsErrAnd, MatchResult}
 use Rattle.std.specs.List.{list_any, list_all}
 use Rattle.std.specs.Str.Parse.{digits_value}
 use Rattle.std.proofs.lemmas.Bool.{leb-true}
@@ -11,9 +11,9 @@ use Rattle.std.specs.Borrow.{Bor}
 use Rattle.ll_top.specs.Outcome.{word_texts}
 use Rattle.ll_top.specs.declared.words.RunOptions.{RunOptions}
 use Rattle.ll_top.specs.Begins.{Begins, IsFirstBad, Leads}
-use Rattle.ll_top.specs.Words.{Part, ThisWord, AnyName, NumberFrom, is_part, is_word, is_name_word, is_number_word, number_from, value_within, greatest_bound, greatest_workers, OptionForm, Takes, here, behind, Fits, part, option, done, FitsForm, run_form, bound_option, workers_option, number_behind, RunWords, IsRun}
+use Rattle.ll_top.specs.Words.{ThisWord, AnyName, NumberFrom, is_part, is_word, is_name_word, is_number_word, number_from, value_within, greatest_bound, greatest_workers, Takes, here, behind, Fits, part, option, done, FitsForm, run_form, bound_option, workers_option, number_behind, IsRun}
 use Rattle.ll_top.specs.RunForm.{HasPart, LacksPart, IsBadRunWord, left, options_left, IsValue, IsReadTo}
-use Rattle.ll_top.proofs.FirstBad.{drop-end, leads-start, leads-bad, IsStuck}
+use Rattle.ll_top.proofs.FirstBad.{drop-end, leads-start}
 use Rattle.ll_top.proofs.Forms.{same-word, words-same, DifferentWords, leads-part, bad-part, leads-option, bad-option, bad-end}
 
 -- ---- every part of a run can be gone on with

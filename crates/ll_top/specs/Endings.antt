@@ -24,7 +24,7 @@ use Rattle.ll_top.specs.Reading.{Asks}
 use Rattle.ll_parser.specs.Raw.{ProgramTree}
 use Rattle.ll_parser.specs.Printed.{program_text}
 use Rattle.ll_top.specs.Judging.{IsOfLanguage, IsProgramText, IsReadingFault, IsTextFault}
-use Rattle.ll_top.specs.Outcome.{longest_text, IsRead, RunFails, RunAsks, RunComesTo, PrintFails, IsPrintedAs, AppendsOwn}
+use Rattle.ll_top.specs.Outcome.{longest_text, RunFails, RunAsks, RunComesTo, PrintFails, IsPrintedAs, AppendsOwn}
 
 -- ---- causes
 

@@ -1,5 +1,5 @@
 -- How the words of a form are read, and those of a run: up to some word, with the options' values as far as they are known.
-use Rattle.std.specs.Prelude.{◌≡◌, ℕ, ◌+◌, ◌≤◌, Bool, true, false, List, [], ◌∷◌, ◌++◌, take, length, slice_get, All, Option, Some, None, IsSomeAnd, IfSome, MatchOption, codes}
+use Rattle.std.specs.Prelude.{◌≡◌, ℕ, ◌+◌, ◌≤◌, true, false, List, [], ◌∷◌, ◌++◌, take, slice_get, All, Option, Some, None, IsSomeAnd, IfSome, MatchOption, codes}
 use Rattle.ll_top.specs.declared.words.RunOption.{RunOption}
 use Rattle.ll_top.specs.declared.words.RunOption.TheVariants.{Bound, Workers}
 use Rattle.ll_top.specs.declared.words.RunOptions.{RunOptions}

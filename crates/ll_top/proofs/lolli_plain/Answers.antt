@@ -1,6 +1,5 @@
-use Rattle.std.proofs.Common.{◌≡◌, sym, inl, inr, arith}
 use Rattle.ll_top.specs.Outcome.{word_texts}
-use Rattle.ll_top.proofs.OutcomeLemmas.{usage-call, print-call, completes, print-says, print-in-form, workers-in-form, bad-not-in-form, refused-status}
+use Rattle.ll_top.proofs.OutcomeLemmas.{usage-call, print-call, completes, print-says, workers-in-form, bad-not-in-form}
 use Rattle.ll_top.proofs.lolli_plain.Goals as goal
 
 pub returns-in-Err-clause-workers : goal.returns-in-Err-clause-workers

@@ -2,3 +2,4 @@ pub mod Pieces
 pub mod Stack
 pub mod Parts
 pub mod Again
+pub mod Answers

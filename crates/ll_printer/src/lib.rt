@@ -1,4 +1,4 @@
-//! The bytes of terms, answers and counts.
+//! The bytes of terms, programs, answers and counts.
 #![tactic(auto)]
 
 ghost use Rattle.std.specs.Prelude.{◌≡◌, ◌≤◌, ◌++◌, length, OnOk, codes, decimal};
@@ -7,11 +7,16 @@ ghost use Rattle.ll_laws.specs.Output.{line, term_text, answer_text, bindings_te
 ghost use Rattle.ll_printer.specs.Pieces.{BeginsText};
 
 mod answers;
+mod formulas;
 mod pieces;
+#[cfg(test)]
+mod program_tests;
+mod programs;
 mod words;
 
 use crate::answers::{has_names, write_bindings, write_title, write_yes};
 use crate::pieces::{Piece, print_piece};
+pub use crate::programs::program;
 use crate::words::write_number;
 use ll_bank::{At, Bank, Names, OutOfMemory};
 use ll_laws::{Branch, Counts, Problem};

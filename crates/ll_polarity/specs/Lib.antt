@@ -1,4 +1,6 @@
 pub mod Scope
+pub mod Meant
+pub mod Binders
 pub mod Reading
 pub mod Faults
 pub mod Asks

@@ -2,5 +2,6 @@
 #![tactic(auto)]
 
 mod laws;
+mod scope;
 
 pub use laws::{asked_is_valid, faults_in_order, one_problem};

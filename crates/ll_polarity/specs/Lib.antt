@@ -1,6 +1,14 @@
 pub mod Scope
 pub mod Meant
 pub mod Binders
+pub mod Named
 pub mod Reading
 pub mod Faults
 pub mod Asks
+pub mod Numbered
+pub mod Built
+pub mod Standing
+pub mod Calls
+pub mod Places
+pub mod Frames
+pub mod Grounds

@@ -1,7 +1,12 @@
 //! Scope, and the sorting into goals and clauses: the problem that two texts ask.
 #![tactic(auto)]
 
+mod front;
 mod laws;
+mod modules;
+mod put_forms;
+mod put_terms;
 mod scope;
+mod variables;
 
 pub use laws::{asked_is_valid, faults_in_order, one_problem};

@@ -4,4 +4,7 @@ pub mod Binders
 pub mod Named
 pub mod Reading
 pub mod Faults
+pub mod Headings
 pub mod Asks
+pub mod Pending
+pub mod Ready

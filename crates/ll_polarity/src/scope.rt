@@ -101,6 +101,15 @@ impl<'a> Binders<'a> {
         }
     }
 
+    /// No binders any more.
+    pub fn close_all(&mut self)
+        ensures { self.new ≡ record self.old { scope = [] } }
+    {
+        while !self.rows.is_empty() {
+            self.close();
+        }
+    }
+
     /// Whether something binds a name.
     pub fn has(&self, name: u32) -> bool
         requires { name < length self.now.texts }

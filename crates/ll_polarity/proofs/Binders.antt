@@ -15,7 +15,7 @@ use Rattle.ll_polarity.specs.declared.scope.Row.{Row}
 use Rattle.ll_polarity.specs.Scope.{Binder, Meaning, bound_by, unbound, is_variable, meaning, meaning_from, Scoped}
 use Rattle.ll_polarity.specs.Binders.{scope_of, AreInnermost, AreKept}
 
-not_below : (m n : ℕ) → ltb m n ≡ false → n ≤ m
+pub not_below : (m n : ℕ) → ltb m n ≡ false → n ≤ m
 not_below m n q = let h : m < n → ⊥ = λ l. true≢false (sym ((Decides-ltb m n).1 l) ∙ q) in omega arith
 
 apart : (m n : ℕ) → eqb m n ≡ false → m ≡ n → ⊥

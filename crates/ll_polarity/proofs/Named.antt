@@ -1,5 +1,5 @@
 -- The names of whole texts have texts, so their numbers are those of names.
-use Rattle.std.proofs.Common.{◌≡◌, ℕ, ◌<◌, ◌≤◌, Bool, true, false, ltb, List, [], ◌∷◌, ◌++◌, map, length, All, ◌⊎◌, inl, inr, codes, refl, sym, subst, ap, ◌∙◌, arith, slice_index_or}
+use Rattle.std.proofs.Common.{◌≡◌, ℕ, ◌<◌, ◌≤◌, Bool, true, false, ltb, List, [], ◌∷◌, ◌++◌, map, length, ◌⊎◌, inl, inr, refl, sym, subst, ap, arith}
 use Rattle.std.specs.List.{AllByRecursion}
 use Rattle.std.proofs.lemmas.List.Elements.{All-from_recursion, recursion_from_All}
 use Rattle.std.proofs.lemmas.Bool.Decides.{Decides-ltb}
@@ -7,10 +7,10 @@ use Rattle.std.proofs.lemmas.List.{get_or_past}
 use Rattle.ll_lexer.specs.declared.TokenKind.TheVariants as kind
 use Rattle.ll_lexer.specs.Spelling.{Spells, kind_of, fixed_spellings}
 use Rattle.ll_parser.specs.declared.Named.{Named}
-use Rattle.ll_parser.specs.Tokens.{Identifier, Tok, IsSpelled, dot}
-use Rattle.ll_parser.specs.Raw.{Raw, truth, erasure, braces, universal, existential, load, binary, head, anything, int, RawList, none, more, ClauseTree, ModuleTree, ProgramTree}
+use Rattle.ll_parser.specs.Tokens.{Identifier, IsSpelled, dot}
+use Rattle.ll_parser.specs.Raw.{Raw, truth, erasure, braces, universal, existential, load, binary, head, anything, int, RawList, none, more, ClauseTree, ProgramTree}
 use Rattle.ll_parser.specs.Grammar.{formula_tokens, formula_raw}
-use Rattle.ll_parser.specs.Text.{Clause, plain, linear, Local, Module, Query, bare, dotted, names, variables, clause_tokens, local_tokens, locals_tokens, heading_tokens, clauses_tokens, module_tokens, modules_tokens, program_tokens, query_tokens, clause_tree, locals_of, module_tree, program_tree, query_tree, programs, queries}
+use Rattle.ll_parser.specs.Text.{Clause, plain, linear, Local, Module, Query, bare, dotted, names, variables, clause_tokens, local_tokens, locals_tokens, heading_tokens, clauses_tokens, module_tokens, modules_tokens, program_tokens, query_tokens, clause_tree, locals_of, module_tree, query_tree, programs, queries}
 use Rattle.ll_parser.specs.Reads.{IsWhole}
 use Rattle.ll_parser.specs.Nodes.{identifier}
 use Rattle.ll_parser.proofs.Printable.{IsLower, IsUpper, IsWord, IsTerm, AreTerms, IsFormula, Spelled, spelled-split, formula-printable}

@@ -4,6 +4,7 @@ pub mod Binders
 pub mod Named
 pub mod Reading
 pub mod Faults
+pub mod Headings
 pub mod Asks
 pub mod Numbered
 pub mod Built
@@ -12,3 +13,5 @@ pub mod Calls
 pub mod Places
 pub mod Frames
 pub mod Grounds
+pub mod Pending
+pub mod Ready

@@ -1,5 +1,5 @@
 -- Raw trees in which each name has a text.
-use Rattle.std.specs.Prelude.{ℕ, ◌<◌, length, All}
+use Rattle.std.specs.Prelude.{◌<◌, length, All}
 use Rattle.ll_parser.specs.Tokens.{Identifier}
 use Rattle.ll_parser.specs.Raw.{Raw, truth, erasure, braces, universal, existential, load, binary, head, anything, int, RawList, none, more, ModuleTree, ProgramTree}
 

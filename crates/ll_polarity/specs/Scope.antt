@@ -27,6 +27,11 @@ binds w = record { text = w; local = false }
 abbrev pub declares : List ℕ → Binder
 declares w = record { text = w; local = true }
 
+-- the scope without its innermost binder
+abbrev pub outer : Scope → Scope
+outer [] = []
+outer (b ∷ bs) = bs
+
 -- what a name means
 pub data Meaning : Type 0 where
   -- what the quantifier or parameter that is so many binders further out stands for

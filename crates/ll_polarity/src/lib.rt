@@ -8,5 +8,9 @@ mod put_forms;
 mod put_terms;
 mod scope;
 mod variables;
+mod headings;
+mod judge;
+mod pending;
+mod walk;
 
 pub use laws::{asked_is_valid, faults_in_order, one_problem};

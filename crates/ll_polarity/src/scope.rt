@@ -3,7 +3,7 @@
 ghost use Rattle.std.specs.Prelude.{◌≡◌, ◌<◌, ℕ, ◌∷◌, List, [], length, map, slice_index_or, IfOk, OnOk, OnErr};
 ghost use Rattle.std.specs.List.{list_any};
 ghost use Rattle.std.specs.Str.{bytes_eq};
-ghost use Rattle.ll_polarity.specs.Scope.{Binder, Scope, is_variable, meaning, bound_by as bound_meaning, unbound as unbound_meaning};
+ghost use Rattle.ll_polarity.specs.Scope.{outer, is_variable, meaning, bound_by as bound_meaning, unbound as unbound_meaning};
 ghost use Rattle.ll_polarity.specs.Meant.{meant};
 
 use ll_bank::{Names, OutOfMemory};
@@ -94,11 +94,19 @@ impl<'a> Binders<'a> {
 
     /// The scope without its innermost binder, if it has one.
     pub fn close(&mut self)
-        ensures texts { self.new.texts ≡ self.old.texts }
-        ensures closed { (inner : Binder) (outer : Scope) → self.old.scope ≡ inner ∷ outer → self.new.scope ≡ outer }
+        ensures { self.new ≡ record self.old { scope = outer self.old.scope } }
     {
         if let Some(row) = self.rows.pop() {
             self.innermost[row.name as usize] = row.hidden;
+        }
+    }
+
+    /// No binders any more.
+    pub fn close_all(&mut self)
+        ensures { self.new ≡ record self.old { scope = [] } }
+    {
+        while !self.rows.is_empty() {
+            self.close();
         }
     }
 

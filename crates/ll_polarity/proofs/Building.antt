@@ -1,19 +1,18 @@
 -- What is put together from a text without a fault is what is read of it, with the places of quantifiers for its variables.
-use Rattle.std.proofs.Common.{◌≡◌, ℕ, suc, ◌+◌, ◌-◌, Bool, true, false, List, [], ◌∷◌, ◌++◌, map, length, Option, Some, None, refl, sym, ap, ◌∙◌, arith, true≢false, find}
-use Rattle.std.specs.Prelude.{pos, nat_eq}
+use Rattle.std.proofs.Common.{◌≡◌, ℕ, suc, true, List, [], ◌∷◌, ◌++◌, map, length, Option, Some, None, refl, sym, ap, ◌∙◌, true≢false, find}
+use Rattle.std.specs.Prelude.{pos}
 use Rattle.ll_bank.specs.declared.Head.TheVariants as head
 use Rattle.ll_bank.specs.Term.{Term, Var, Int, Con, Ap, apply}
-use Rattle.ll_bank.specs.Form.{Form, Top, One, Atom, With, Tensor, Plus, Bang, Lolli, Imp, Forall, Exists, Use}
-use Rattle.ll_lexer.specs.declared.Fault.{Fault}
+use Rattle.ll_bank.specs.Form.{Form, Top, One, Atom, Bang, Forall, Exists, Use}
 use Rattle.ll_laws.specs.Valid.{Side}
 use Rattle.ll_parser.specs.declared.Op.{Op}
 use Rattle.ll_parser.specs.declared.Op.TheVariants as op
 use Rattle.ll_parser.specs.Tokens.{Identifier}
 use Rattle.ll_parser.specs.Raw.{Raw, truth, erasure, braces, universal, existential, load, binary, anything, int, RawList, none, more}
 use Rattle.ll_parser.specs.Raw as raw
-use Rattle.ll_polarity.specs.Scope.{Scope, Meaning, Bound, Local, Free, Constant, meaning, binds}
-use Rattle.ll_polarity.specs.Reading.{Met, Read, read_name, read_term, read_terms, read_form, joined, module_in, bind_term, bind_form}
-use Rattle.ll_polarity.specs.Faults.{Heading, unless, may_be_head, other, on_goal_side, left_side, right_side, may_join, load_fault, is_named, count, applied_fault, term_faults, terms_faults, form_faults}
+use Rattle.ll_polarity.specs.Scope.{Meaning, Bound, Local, Free, Constant, meaning, binds}
+use Rattle.ll_polarity.specs.Reading.{Met, Read, read_name, read_term, read_terms, read_form, joined, module_in}
+use Rattle.ll_polarity.specs.Faults.{Heading, unless, may_be_head, on_goal_side, left_side, right_side, may_join, load_fault, is_named, count, applied_fault, term_faults, terms_faults, form_faults}
 use Rattle.ll_polarity.specs.Built.{Around, inside, put_term, put_form, applied, built_term, built_terms, built_form}
 use Rattle.ll_polarity.proofs.Terms.{none_left, none_right, none_unless}
 

@@ -1,5 +1,5 @@
 -- Terms are put into a bank step by step.
-use Rattle.std.proofs.Common.{◌≡◌, ℕ, zero, suc, ◌+◌, ◌*◌, ◌<◌, ◌≤◌, List, [], ◌∷◌, ◌++◌, map, length, slice_get, All, Option, Some, None, refl, sym, subst, ap, ◌∙◌, arith, length-append, append_assoc, get_or}
+use Rattle.std.proofs.Common.{◌≡◌, ℕ, zero, suc, ◌+◌, ◌*◌, ◌<◌, List, [], ◌∷◌, ◌++◌, length, slice_get, All, Option, Some, None, refl, sym, subst, ap, ◌∙◌, arith, length-append, append_assoc}
 use Rattle.std.specs.Prelude.{MatchOption}
 use Rattle.std.proofs.lemmas.List.{append-nil, map-append}
 use Rattle.std.proofs.lemmas.List.Elements.{All-push}
@@ -7,7 +7,7 @@ use Rattle.std.proofs.lemmas.Option.{slice_get_within, get_or_from_slice_get}
 use Rattle.ll_bank.specs.declared.At.{At}
 use Rattle.ll_bank.specs.Term.{Term}
 use Rattle.ll_bank.specs.Nodes.{Nodes, term_tree, term_trees, HasTerm, AllInTerms, ShowsTerm, Extends}
-use Rattle.ll_bank.proofs.Trees.{Extends-refl, Extends-trans, Extends-same, HasTerm-extends, AllInTerms-extends, term_trees-extends}
+use Rattle.ll_bank.proofs.Trees.{Extends-trans, AllInTerms-extends, term_trees-extends}
 use Rattle.ll_parser.specs.declared.RawAt.{RawAt}
 use Rattle.ll_parser.specs.Tokens.{Identifier}
 use Rattle.ll_parser.specs.Nodes.{Node, raw_in, raws_in, raw_at, raw_trees}
@@ -21,9 +21,9 @@ use Rattle.ll_polarity.specs.declared.put_terms.Turn.TheVariants as turn
 use Rattle.ll_polarity.specs.Scope.{meaning}
 use Rattle.ll_polarity.specs.Reading.{Met, Read, read_name}
 use Rattle.ll_polarity.specs.Named.{IsNamed, AreNamed}
-use Rattle.ll_polarity.specs.Built.{Around, applied, built_term, built_terms, built_form, arguments, raws_past}
+use Rattle.ll_polarity.specs.Built.{Around, applied, built_term, built_terms, arguments, raws_past}
 use Rattle.ll_polarity.specs.Standing.{front_term, HasRoom}
-use Rattle.ll_polarity.specs.Calls.{Site, arguments_from, gives, goes_on, opens, finished, IsReady, CallFits, CallsFit, TurnFits, IsBegun, Waits, Ends, IsResumed, HasOneMore, IsGiven}
+use Rattle.ll_polarity.specs.Calls.{Site, arguments_from, gives, goes_on, opens, finished, IsReady, CallFits, CallsFit, TurnFits, IsBegun, IsResumed, IsGiven}
 use Rattle.ll_polarity.proofs.Grows.{Longer, longer_refl, longer_trans, longer_term, longer_terms}
 use Rattle.ll_polarity.proofs.Building.{met_term, met_terms}
 

@@ -1,5 +1,5 @@
 -- Formulas are put into a bank step by step.
-use Rattle.std.proofs.Common.{◌≡◌, ℕ, suc, ◌+◌, ◌-◌, ◌*◌, ◌<◌, ◌≤◌, List, [], ◌∷◌, ◌++◌, length, refl, sym, subst, ap, ◌∙◌, arith, length-append, append_assoc}
+use Rattle.std.proofs.Common.{◌≡◌, ℕ, suc, ◌+◌, ◌-◌, ◌*◌, ◌<◌, ◌≤◌, List, [], ◌∷◌, ◌++◌, length, refl, sym, subst, ap, ◌∙◌, arith}
 use Rattle.std.specs.Prelude.{unwrap_or, false, ◌^◌}
 use Rattle.std.specs.List.{IsDistinct}
 use Rattle.std.specs.Str.{bytes_eq}
@@ -8,11 +8,11 @@ use Rattle.ll_polarity.specs.Numbered.{text_of}
 use Rattle.std.proofs.lemmas.List.{append-nil}
 use Rattle.ll_bank.specs.declared.FormAt.{FormAt}
 use Rattle.ll_bank.specs.Form.{Form, Use}
-use Rattle.ll_bank.specs.Nodes.{Nodes, form_tree, term_trees, HasForm, ShowsForm, Extends}
+use Rattle.ll_bank.specs.Nodes.{Nodes, form_tree, ShowsForm, Extends}
 use Rattle.ll_bank.proofs.Trees.{Extends-trans, HasForm-extends, form_tree-extends, AllInTerms-extends, term_trees-extends}
 use Rattle.ll_parser.specs.declared.RawAt.{RawAt}
 use Rattle.ll_parser.specs.Nodes.{raw_at}
-use Rattle.ll_parser.specs.Raw.{Raw, truth, erasure, braces, universal, existential, load, binary, head, anything, int}
+use Rattle.ll_parser.specs.Raw.{Raw, load}
 use Rattle.ll_parser.proofs.Sizes.{weight}
 use Rattle.ll_polarity.specs.declared.front.Place.{Place}
 use Rattle.ll_polarity.specs.declared.put_forms.Frame.{Frame}
@@ -21,13 +21,13 @@ use Rattle.ll_polarity.specs.declared.put_forms.Step.{Step}
 use Rattle.ll_polarity.specs.declared.put_forms.Step.TheVariants as step
 use Rattle.ll_polarity.specs.Scope.{Binder, Scope, Scoped, binds}
 use Rattle.ll_polarity.specs.Reading.{Met, Read, joined}
-use Rattle.ll_polarity.specs.Built.{Around, inside, built_term, built_terms, built_form, arguments}
+use Rattle.ll_polarity.specs.Built.{Around, inside, built_terms, built_form, arguments}
 use Rattle.ll_polarity.specs.Standing.{around, HasRoom, StandsIn}
 use Rattle.ll_polarity.specs.Calls.{IsReady}
 use Rattle.ll_polarity.specs.Frames.{Ground, within, within_all, wraps, wrapped, comes, FrameHas, FrameFits, FramesFit, StepFits, frame_left, frames_left, step_left, Advances}
 use Rattle.ll_polarity.proofs.Grows.{Longer, longer_refl, longer_trans, longer_form}
 use Rattle.ll_polarity.proofs.Building.{met_form}
-use Rattle.ll_polarity.proofs.Calling.{longer_built, longer_builts, room_before}
+use Rattle.ll_polarity.proofs.Calling.{room_before}
 
 pub longer_form_built : (places : List ℕ → ℕ) (a : Around) (met : Met) (r : Raw) → Longer met (built_form places a met r).met
 longer_form_built places a met r = subst (Longer met) (sym (met_form places [] a met r)) (longer_form [] a.scope met r)

@@ -1,9 +1,9 @@
 -- Variables by the numbers of their names are those by the texts.
-use Rattle.std.proofs.Common.{◌≡◌, ◌≢◌, ℕ, ◌+◌, ◌<◌, ◌≤◌, Bool, true, false, ◌||◌, List, [], ◌∷◌, ◌++◌, map, length, position, Option, Some, None, if◌then◌else◌, refl, sym, subst, ap, ◌∙◌, arith, get_or, not, inl, inr, cond, ltb}
-use Rattle.std.specs.Prelude.{nat_eq, option_map, unwrap_or, nat_lt}
+use Rattle.std.proofs.Common.{◌≡◌, ◌≢◌, ℕ, ◌+◌, ◌<◌, Bool, true, false, List, [], ◌∷◌, ◌++◌, map, length, position, Option, Some, None, if◌then◌else◌, refl, sym, subst, ap, ◌∙◌, arith, not, inl, inr, cond, ltb}
+use Rattle.std.specs.Prelude.{nat_eq, option_map, unwrap_or}
 use Rattle.std.specs.List.{list_any, position_or_len, IsDistinct}
 use Rattle.std.specs.Str.{bytes_eq}
-use Rattle.std.proofs.lemmas.Bool.{eq-eqb, eqb-true, eqb-false, false_from_ne_true, cases_lt, le-ltb, ltb-true}
+use Rattle.std.proofs.lemmas.Bool.{eqb-true, eqb-false, false_from_ne_true, cases_lt, ltb-true}
 use Rattle.std.proofs.lemmas.List.{map-append, length-map, get_or_past}
 use Rattle.std.proofs.lemmas.Map.Made.{AllPairs-from_IsDistinct}
 use Rattle.std.proofs.lemmas.Slice.Eq.{bytes_eq-Decides}
@@ -11,7 +11,7 @@ use Rattle.ll_bank.specs.declared.Head.TheVariants.{Name}
 use Rattle.ll_bank.specs.Term.{Con}
 use Rattle.ll_bank.specs.Names.{with_name, number_of}
 use Rattle.ll_polarity.specs.Built.{put_term}
-use Rattle.ll_polarity.specs.Scope.{Scope, Meaning, Bound, Local, meaning}
+use Rattle.ll_polarity.specs.Scope.{Scope, Bound, Local, meaning}
 use Rattle.ll_polarity.specs.Reading.{number_in, has_text, variable_in, with_variable}
 use Rattle.ll_polarity.specs.Numbered.{has_number, numbered, with_number, text_of, variables_of}
 use Rattle.ll_polarity.proofs.Meant.{places, Means, means}

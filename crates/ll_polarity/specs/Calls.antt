@@ -5,7 +5,7 @@ use Rattle.ll_bank.specs.Term.{Term}
 use Rattle.ll_bank.specs.Nodes.{Nodes, term_tree, term_trees, HasTerm, AllInTerms, ShowsTerm}
 use Rattle.ll_parser.specs.declared.RawAt.{RawAt}
 use Rattle.ll_parser.specs.Nodes.{Node, raw_at}
-use Rattle.ll_parser.specs.Raw.{Raw, RawList, none, more}
+use Rattle.ll_parser.specs.Raw.{RawList, none, more}
 use Rattle.ll_polarity.specs.declared.put_terms.Call.{Call}
 use Rattle.ll_polarity.specs.declared.put_terms.Turn.{Turn}
 use Rattle.ll_polarity.specs.declared.put_terms.Turn.TheVariants as turn

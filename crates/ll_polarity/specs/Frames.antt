@@ -1,6 +1,5 @@
 -- The fronts of formulas whose other parts are being put in, and what comes of them.
-use Rattle.std.specs.Prelude.{◌≡◌, ℕ, suc, ◌<◌, ◌≤◌, ◌+◌, ◌*◌, List, [], ◌∷◌, ◌++◌, length}
-use Rattle.ll_bank.specs.declared.FormAt.{FormAt}
+use Rattle.std.specs.Prelude.{◌≡◌, ℕ, ◌<◌, ◌+◌, ◌*◌, List, [], ◌∷◌, ◌++◌}
 use Rattle.ll_bank.specs.Form.{Form, Bang, Forall, Exists, Use}
 use Rattle.ll_bank.specs.Nodes.{Nodes, term_trees, form_tree, HasForm, AllInTerms}
 use Rattle.ll_parser.specs.Nodes.{Node, raw_at}

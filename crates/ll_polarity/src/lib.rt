@@ -2,15 +2,16 @@
 #![tactic(auto)]
 
 mod front;
+mod headings;
+mod judge;
 mod laws;
 mod modules;
+mod pending;
+mod put_clauses;
 mod put_forms;
 mod put_terms;
 mod scope;
 mod variables;
-mod headings;
-mod judge;
-mod pending;
 mod walk;
 
 pub use laws::{asked_is_valid, faults_in_order, one_problem};

@@ -1,12 +1,11 @@
-use Rattle.std.proofs.Common.{◌≡◌, ℕ, List, [], sym, subst, ap, ◌∙◌, arith, length}
-use Rattle.std.specs.Prelude.{unwrap_or}
+use Rattle.std.proofs.Common.{◌≡◌, [], sym, subst, ap, ◌∙◌, arith}
 use Rattle.std.proofs.lemmas.Option.{get_or_from_slice_get}
 use Rattle.ll_bank.specs.declared.Head.TheVariants as head
 use Rattle.ll_bank.specs.Term.{Var, Con}
-use Rattle.ll_bank.specs.Names.{with_name, number_of}
-use Rattle.ll_polarity.specs.Scope.{Bound, Local, Free, Constant, Meaning, meaning}
-use Rattle.ll_polarity.specs.Reading.{Met, read_name, number_in, variable_in}
-use Rattle.ll_polarity.specs.Numbered.{numbered, with_number, text_of, variables_of}
+use Rattle.ll_bank.specs.Names.{with_name}
+use Rattle.ll_polarity.specs.Scope.{Meaning, meaning}
+use Rattle.ll_polarity.specs.Reading.{Met, read_name, variable_in}
+use Rattle.ll_polarity.specs.Numbered.{text_of, variables_of}
 use Rattle.ll_polarity.specs.Built.{put_term}
 use Rattle.ll_polarity.specs.Standing.{met_of, front_term}
 use Rattle.ll_polarity.proofs.Fronts.{number_is, added_is, bound_inside, local_inside, constant_number, put_constant}

@@ -1,9 +1,9 @@
-use Rattle.std.proofs.Common.{◌≡◌, ◌+◌, ◌*◌, ◌<◌, length, refl, sym, subst, arith, ap, ◌∙◌}
+use Rattle.std.proofs.Common.{◌*◌, refl, sym, subst, arith, ap, ◌∙◌}
 use Rattle.std.proofs.lemmas.Option.{get_or_from_slice_get}
 use Rattle.std.specs.Prelude.{[]}
 use Rattle.ll_bank.specs.Form.{Form, Forall, Exists}
 use Rattle.ll_polarity.specs.Reading.{Read}
-use Rattle.ll_bank.specs.Nodes.{form_tree, term_trees}
+use Rattle.ll_bank.specs.Nodes.{term_trees}
 use Rattle.ll_bank.proofs.Trees.{Extends-refl}
 use Rattle.ll_parser.specs.Nodes.{raw_at, identifier, raws_in, raw_trees}
 use Rattle.ll_parser.specs.Seen.{places}
@@ -13,12 +13,11 @@ use Rattle.ll_polarity.specs.declared.put_forms.Frame.TheVariants as frame
 use Rattle.ll_polarity.specs.declared.put_forms.Step.TheVariants as step
 use Rattle.ll_polarity.specs.Named.{IsNamed}
 use Rattle.ll_polarity.specs.Built.{built_terms, built_form, arguments}
-use Rattle.ll_polarity.specs.Numbered.{text_of}
 use Rattle.ll_polarity.specs.Places.{place_in}
 use Rattle.ll_polarity.specs.Standing.{around, met_of, HasRoom}
 use Rattle.ll_polarity.specs.Frames.{Advances}
 use Rattle.ll_polarity.specs.Grounds.{ground}
-use Rattle.ll_polarity.proofs.Framing.{advance_give, advance_read, entered_around, load_read, room_load}
+use Rattle.ll_polarity.proofs.Framing.{advance_read, entered_around, load_read, room_load}
 use Rattle.ll_polarity.proofs.put_forms.begun.Goals as goal
 
 pub returns-in_err-push-in-Braces-clause-keeps : goal.returns-in_err-push-in-Braces-clause-keeps

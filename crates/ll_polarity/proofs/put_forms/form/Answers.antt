@@ -1,17 +1,14 @@
-use Rattle.std.proofs.Common.{◌≡◌, ◌+◌, ◌*◌, ◌<◌, ◌≤◌, [], length, refl, sym, subst, arith, ap, ◌∙◌}
-use Rattle.std.specs.Prelude.{unwrap_or}
-use Rattle.ll_bank.specs.Form.{Form}
+use Rattle.std.proofs.Common.{◌+◌, ◌*◌, ◌<◌, ◌≤◌, refl, sym, subst, arith, ◌∙◌}
 use Rattle.ll_bank.proofs.Trees.{Extends-refl}
 use Rattle.ll_parser.specs.Nodes.{raw_at}
 use Rattle.ll_parser.proofs.Sizes.{weight}
 use Rattle.ll_polarity.specs.declared.put_forms.Step.{Step}
 use Rattle.ll_polarity.specs.declared.put_forms.Step.TheVariants as step
-use Rattle.ll_polarity.specs.Reading.{Read}
 use Rattle.ll_polarity.specs.Built.{built_form}
 use Rattle.ll_polarity.specs.Standing.{met_of, around, outermost}
-use Rattle.ll_polarity.specs.Frames.{Ground, frames_left, step_left, within_all}
+use Rattle.ll_polarity.specs.Frames.{frames_left, step_left, within_all}
 use Rattle.ll_polarity.specs.Grounds.{ground}
-use Rattle.ll_polarity.proofs.Framing.{IsComing, stands_now, coming_room, coming_begun, coming_given, coming_ends, less_coming, less_taken, taken_around, taken_fits, has_parts}
+use Rattle.ll_polarity.proofs.Framing.{IsComing, stands_now, coming_room, coming_begun, coming_given, less_coming, less_taken, taken_around, taken_fits, has_parts}
 use Rattle.ll_polarity.proofs.put_forms.form.Goals as goal
 
 pub steps-init : goal.steps-init

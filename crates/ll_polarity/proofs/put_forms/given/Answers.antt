@@ -1,4 +1,4 @@
-use Rattle.std.proofs.Common.{◌≡◌, ◌+◌, refl, sym, subst, arith, ap, ◌∙◌}
+use Rattle.std.proofs.Common.{◌≡◌, ◌+◌, refl, sym, subst, arith, ap}
 use Rattle.ll_bank.specs.Form.{Form, Use}
 use Rattle.ll_bank.specs.Nodes.{form_tree, term_trees}
 use Rattle.ll_bank.proofs.Trees.{Extends-refl}

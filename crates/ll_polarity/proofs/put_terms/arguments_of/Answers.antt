@@ -3,13 +3,13 @@ use Rattle.ll_bank.proofs.Trees.{Extends-refl}
 use Rattle.ll_bank.specs.Term.{Term}
 use Rattle.std.specs.Prelude.{List}
 use Rattle.ll_parser.specs.Nodes.{raw_at}
-use Rattle.ll_parser.specs.Raw.{more, none}
+use Rattle.ll_parser.specs.Raw.{more}
 use Rattle.ll_parser.proofs.Sizes.{weights}
 use Rattle.ll_polarity.specs.Reading.{Read}
 use Rattle.ll_polarity.specs.Built.{built_terms, arguments, raws_past}
 use Rattle.ll_polarity.specs.Standing.{met_of, around}
 use Rattle.ll_polarity.specs.Calls.{Site}
-use Rattle.ll_polarity.proofs.Calling.{AreOnTheWay, named_argument, args_room, args_more, args_end, less_more}
+use Rattle.ll_polarity.proofs.Calling.{named_argument, args_room, args_more, less_more}
 use Rattle.ll_polarity.proofs.put_terms.arguments_of.Goals as goal
 
 pub arguments-init : goal.arguments-init

@@ -1,5 +1,4 @@
-use Rattle.std.proofs.Common.{◌≡◌, ◌+◌, ◌<◌, [], refl, sym, subst, ap, ◌∙◌, arith, rules}
-use Rattle.ll_bank.specs.Nodes.{Nodes}
+use Rattle.std.proofs.Common.{◌+◌, ◌<◌, refl, sym, subst}
 use Rattle.ll_bank.proofs.Trees.{Extends-refl}
 use Rattle.ll_parser.specs.Nodes.{raw_at}
 use Rattle.ll_polarity.specs.declared.put_terms.Turn.{Turn}
@@ -9,7 +8,7 @@ use Rattle.ll_bank.specs.Term.{Term}
 use Rattle.ll_polarity.specs.Built.{built_term}
 use Rattle.ll_polarity.specs.Standing.{met_of, around}
 use Rattle.ll_polarity.specs.Calls.{Site}
-use Rattle.ll_polarity.proofs.Calling.{IsOnTheWay, calls_left, turn_left, room_on_the_way, way_begun, way_resumed, way_given, less_begun, less_resumed, less_given}
+use Rattle.ll_polarity.proofs.Calling.{IsOnTheWay, calls_left, turn_left, room_on_the_way, way_begun, way_resumed, way_given, less_resumed, less_given}
 use Rattle.ll_polarity.proofs.put_terms.term.Goals as goal
 
 pub turns-init : goal.turns-init

@@ -1,5 +1,5 @@
-use Rattle.std.proofs.Common.{◌≡◌, ℕ, sym, subst, ap, ◌∙◌, cond, Some, arith, length, rules}
-use Rattle.std.specs.Prelude.{nat_eq, vec_len}
+use Rattle.std.proofs.Common.{◌≡◌, sym, subst, ap, ◌∙◌, cond, Some, arith, length}
+use Rattle.std.specs.Prelude.{vec_len}
 use Rattle.std.specs.Ordering.{nat_cmp}
 use Rattle.std.specs.BTreeMap.{get}
 use Rattle.ll_polarity.specs.Numbered.{numbered, with_number, AreNumbered}

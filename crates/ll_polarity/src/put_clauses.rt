@@ -1,14 +1,14 @@
 //! Clauses, put into a bank with quantifiers for their variables.
 
-ghost use Rattle.std.specs.Prelude.{◌≡◌, ◌*◌, ◌+◌, ◌^◌, ◌<◌, ℕ, List, [], None, length, IfOk};
+ghost use Rattle.std.specs.Prelude.{◌≡◌, ◌*◌, ◌+◌, ◌^◌, ◌<◌, ℕ, List, [], None, length, map, All, IfOk};
 ghost use Rattle.ll_bank.specs.Nodes.{HasForm, ShowsForm, form_tree, Extends};
 ghost use Rattle.ll_laws.specs.Module.{forall_all};
-ghost use Rattle.ll_laws.specs.Shown.{clause_tree};
+ghost use Rattle.ll_laws.specs.Shown.{clause_tree, HasClauses};
 ghost use Rattle.ll_laws.specs.Valid.{ClauseSide};
 ghost use Rattle.ll_parser.specs.Nodes.{raw_at, shown_clause};
-ghost use Rattle.ll_parser.proofs.Sizes.{weight};
-ghost use Rattle.ll_polarity.specs.Asks.{kind_of as kind_by, read_clause};
-ghost use Rattle.ll_polarity.specs.Faults.{Heading, form_faults};
+ghost use Rattle.ll_parser.proofs.Sizes.{weight, clauses_weight};
+ghost use Rattle.ll_polarity.specs.Asks.{kind_of as kind_by, read_clause, read_clauses};
+ghost use Rattle.ll_polarity.specs.Faults.{Heading, form_faults, clauses_faults};
 ghost use Rattle.ll_polarity.specs.Reading.{module_in};
 ghost use Rattle.ll_polarity.specs.Standing.{StandsIn};
 ghost use Rattle.ll_polarity.specs.Calls.{IsReady};
@@ -101,4 +101,31 @@ fn kind_of(linear: bool) -> Kind
     } else {
         Kind::Unbounded
     }
+}
+
+/// Clauses, put into the bank in the order of the text.
+pub fn clauses(
+    alloc: Global,
+    text: &Text<'_>,
+    binders: &mut Binders<'_>,
+    met: &mut Met,
+    bank: &mut Bank,
+    from: &[RawClause],
+) -> Result<Vec<Clause>, OutOfMemory>
+    requires stands { StandsIn text.now.names.now binders.old (record { quantified = None; depth = 0 }) }
+    requires ready { All (λ c. IsReady text.now.names.now text.now.forms.now c.form.0) from.now }
+    requires room { length met.old.names + length binders.old.scope + 6 * clauses_weight (map (shown_clause text.now.names.now text.now.forms.now) from.now) < 2 ^ 32 }
+    ensures shows { IfOk result (λ put. (ms : List (List ℕ)) (heads : List Heading) → ((w : List ℕ) → (ground text.now).modules w ≡ module_in ms w) → clauses_faults heads binders.old.scope (map (shown_clause text.now.names.now text.now.forms.now) from.now) ≡ [] → map (clause_tree bank.new) put.items ≡ (read_clauses ms binders.old.scope met.old.names (map (shown_clause text.now.names.now text.now.forms.now) from.now)).it) }
+    ensures names { IfOk result (λ _. (ms : List (List ℕ)) → met.new.names ≡ (read_clauses ms binders.old.scope met.old.names (map (shown_clause text.now.names.now text.now.forms.now) from.now)).names) }
+    ensures inside { IfOk result (λ put. HasClauses bank.new put.items) }
+    ensures scope { IfOk result (λ _. binders.new.scope ≡ binders.old.scope) }
+    ensures texts { IfOk result (λ _. binders.new.texts ≡ text.now.names.now) }
+    ensures keeps { Extends bank.old bank.new }
+{
+    let mut put = Vec::new(alloc);
+    for raw in from {
+        let next = clause(alloc, text, binders, met, bank, *raw)?;
+        put.push(next)?;
+    }
+    Ok(put)
 }

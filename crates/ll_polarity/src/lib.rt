@@ -6,6 +6,8 @@ mod judge;
 mod laws;
 mod pending;
 mod scope;
+#[cfg(test)]
+mod tests;
 mod walk;
 
 pub use laws::{asked_is_valid, faults_in_order, one_problem};

@@ -1,5 +1,5 @@
 -- The first faults of programs, part by part.
-use Rattle.std.proofs.Common.{◌≡◌, ℕ, suc, ◌+◌, ◌<◌, Bool, true, false, true≢false, List, [], ◌∷◌, ◌++◌, length, map, take, drop, reverse, All, Option, Some, None, slice_get, slice_index_or, refl, sym, subst, ap, ◌∙◌, arith, drop-cons, add-one, if◌then◌else◌}
+use Rattle.std.proofs.Common.{◌≡◌, ℕ, suc, ◌+◌, ◌<◌, Bool, true, false, true≢false, List, [], ◌∷◌, ◌++◌, length, map, take, drop, reverse, All, Option, Some, None, slice_index_or, refl, sym, subst, ap, ◌∙◌, arith, drop-cons, add-one, if◌then◌else◌}
 use Rattle.std.specs.Prelude.{is_some, IfNone, MatchOption}
 use Rattle.std.specs.List.{list_any}
 use Rattle.std.specs.Str.{bytes_eq}
@@ -7,7 +7,6 @@ use Rattle.std.specs.HashMap.{HashMap}
 use Rattle.std.specs.declared.hash.FoldHasher.{FoldHasher}
 use Rattle.std.specs.declared.hash.BuildHasherDefault.{BuildHasherDefault}
 use Rattle.std.proofs.lemmas.List.{append-nil, length-map, map-append, take_more, get_or-map}
-use Rattle.std.proofs.lemmas.Option.{get_or_from_slice_get}
 use denote.Ref.{Bor}
 use Rattle.ll_lexer.specs.declared.Fault.{Fault}
 use Rattle.ll_parser.specs.declared.Named.{Named}
@@ -134,17 +133,12 @@ module _ (texts : List (List ℕ)) (nodes : List Node) (ms : List Heading) (modu
 -- ---- headings
 
 -- one more module
-pub headings-more : (texts : List (List ℕ)) (modules : List RawModule) (i : ℕ) (item : RawModule) (text : List ℕ) (n : ℕ) (old new : HashMap (Bor (List ℕ)) ℕ (BuildHasherDefault FoldHasher)) → i < length modules → item ≡ slice_index_or modules i item
-    → slice_get texts item.name.name ≡ Some text → n ≡ length item.params.items → AreFound old (map (raw_heading texts) (take i modules))
-    → ((ms : List Heading) → AreFound old ms → AreFound new (ms ++ record { name = text; params = n } ∷ [])) → AreFound new (map (raw_heading texts) (take (i + 1) modules))
-headings-more texts modules i item text n old new inside is there count known adds =
-    let this : record { name = text; params = n } ≡ raw_heading texts item = ap (λ t. let h : Heading = record { name = t; params = n } in h) (sym (get_or_from_slice_get texts item.name.name text [] there)) ∙ ap (λ k. let h : Heading = record { name = slice_index_or texts item.name.name []; params = k } in h) count in
-    subst (AreFound new) (ap (λ h. map (raw_heading texts) (take i modules) ++ h ∷ []) this ∙ more) (adds (map (raw_heading texts) (take i modules)) known)
+pub headings-more : {A : Type 0} (f : A → Heading) (xs : List A) (i : ℕ) (item : A) (h : Heading) (old new : HashMap (Bor (List ℕ)) ℕ (BuildHasherDefault FoldHasher)) → i < length xs → item ≡ slice_index_or xs i item → h ≡ f item
+    → AreFound old (map f (take i xs)) → ((ms : List Heading) → AreFound old ms → AreFound new (ms ++ h ∷ [])) → AreFound new (map f (take (i + 1) xs))
+headings-more f xs i item h old new inside is this known adds = subst (AreFound new) (ap (λ h. map f (take i xs) ++ h ∷ []) this ∙ more) (adds (map f (take i xs)) known)
   where
-    more : map (raw_heading texts) (take i modules) ++ raw_heading texts item ∷ [] ≡ map (raw_heading texts) (take (i + 1) modules)
-    more =
-        ap (λ m. map (raw_heading texts) (take i modules) ++ raw_heading texts m ∷ []) is
-        ∙ (sym (map-append (raw_heading texts) (take i modules) (slice_index_or modules i item ∷ [])) ∙ sym (ap (map (raw_heading texts)) (take_more modules i item inside)))
+    more : map f (take i xs) ++ f item ∷ [] ≡ map f (take (i + 1) xs)
+    more = ap (λ x. map f (take i xs) ++ f x ∷ []) is ∙ (sym (map-append f (take i xs) (slice_index_or xs i item ∷ [])) ∙ sym (ap (map f) (take_more xs i item inside)))
 
 -- the headings of the modules that are shown
 pub headings-shown : (texts : List (List ℕ)) (nodes : List Node) (modules : List RawModule) → map (raw_heading texts) modules ≡ map heading (map (shown_module texts nodes) modules)

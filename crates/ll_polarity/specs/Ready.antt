@@ -1,5 +1,6 @@
 -- Parts of programs whose names and places are there.
-use Rattle.std.specs.Prelude.{ℕ, ◌<◌, List, length, All}
+use Rattle.std.specs.Prelude.{ℕ, ◌<◌, List, [], length, All, slice_index_or}
+use Rattle.ll_laws.specs.declared.Module.{Module}
 use Rattle.ll_parser.specs.declared.Named.{Named}
 use Rattle.ll_parser.specs.declared.RawClause.{RawClause}
 use Rattle.ll_parser.specs.declared.RawModule.{RawModule}
@@ -25,3 +26,7 @@ pub record IsModuleReady (texts : List (List ℕ)) (nodes : List Node) (m : RawM
 -- a module as loads see it
 abbrev pub raw_heading : List (List ℕ) → RawModule → Heading
 raw_heading texts m = record { name = (identifier texts m.name).text; params = length m.params.items }
+
+-- a module of a problem, in the same way
+abbrev pub known_heading : List (List ℕ) → Module → Heading
+known_heading texts m = record { name = slice_index_or texts m.name []; params = m.params }

@@ -13,13 +13,14 @@ ghost use Rattle.ll_polarity.specs.Faults.{Heading, heading, repeated, clauses_f
 ghost use Rattle.ll_polarity.specs.Headings.{AreFound};
 ghost use Rattle.ll_polarity.specs.Asks.{IsFirst};
 ghost use Rattle.ll_polarity.specs.Pending.{IsHead};
-ghost use Rattle.ll_polarity.specs.Ready.{AreNumbers, AreClausesReady, IsModuleReady, raw_heading};
+ghost use Rattle.ll_polarity.specs.Ready.{AreNumbers, AreClausesReady, IsModuleReady, raw_heading, known_heading};
 
 use crate::headings::Headings;
 use crate::pending::Side;
 use crate::scope::Binders;
 use crate::walk::{Source, first_fault};
 use ll_bank::{Names, OutOfMemory};
+use ll_laws::Module;
 use ll_lexer::Fault;
 use ll_parser::{Named, RawClause, RawModule, RawProgram, RawQuery};
 use std::alloc::Global;
@@ -156,6 +157,22 @@ fn own_headings<'a>(
     let mut headings = Headings::new(alloc);
     for module in modules {
         headings.add(names.text(module.name.name), module.params.len())?;
+    }
+    Ok(headings)
+}
+
+/// The modules of a program as the loads of its queries see them, over the names of a problem.
+pub fn known_headings<'a>(
+    alloc: Global,
+    names: &'a Names,
+    modules: &[Module],
+) -> Result<Headings<'a>, OutOfMemory>
+    requires { All (λ m. m.name < length names.now) modules.now }
+    ensures { IfOk result (λ headings. AreFound headings.params (map (known_heading names.now) modules.now)) }
+{
+    let mut headings = Headings::new(alloc);
+    for module in modules {
+        headings.add(names.text(module.name), module.params as usize)?;
     }
     Ok(headings)
 }

@@ -11,6 +11,8 @@ mod put_clauses;
 mod put_forms;
 mod put_terms;
 mod scope;
+#[cfg(test)]
+mod tests;
 mod variables;
 mod walk;
 

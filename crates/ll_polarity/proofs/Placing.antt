@@ -1,10 +1,11 @@
 -- The places of the first modules of each name, where one more module is put behind the others.
-use Rattle.std.proofs.Common.{◌≡◌, ℕ, Bool, true, false, true≢false, List, [], ◌∷◌, ◌++◌, length, Option, Some, None, refl, sym, subst, ap, ◌∙◌, if◌then◌else◌, position, ◌||◌}
+use Rattle.std.proofs.Common.{◌≡◌, ℕ, Bool, true, false, true≢false, List, [], ◌∷◌, ◌++◌, length, Option, Some, None, refl, sym, subst, ap, ◌∙◌, if◌then◌else◌, position, ◌||◌, map, get_or, take, ◌+◌, ◌<◌}
 use Rattle.std.specs.Prelude.{is_some}
 use Rattle.std.specs.List.{list_any, position_or_len}
 use Rattle.std.specs.Map.{update}
 use Rattle.std.specs.Str.{bytes_eq}
 use Rattle.std.proofs.lemmas.Bool.{false_from_ne_true}
+use Rattle.std.proofs.lemmas.List.{take_more, map-append}
 use Rattle.std.proofs.lemmas.List.Folds.{list_any-append}
 use Rattle.std.proofs.lemmas.Slice.Eq.{bytes_eq-Decides}
 use Rattle.ll_bank.specs.Names.{number_of}
@@ -55,3 +56,8 @@ module _ (f : List ℕ → Option ℕ) (ms : List (List ℕ)) (name : List ℕ) 
       by false e false h =
           finds_none (bytes_eq w) ms h
           ∙ sym (finds_none (bytes_eq w) (ms ++ name ∷ []) (list_any-append (bytes_eq w) ms (name ∷ []) ∙ (ap (λ b. b || (bytes_eq w name || false)) h ∙ ap (λ b. b || false) e)))
+
+-- one more place of a list of modules
+pub places_more : {X : Type 0} (P : List (List ℕ) → Type 0) (f : X → List ℕ) (xs : List X) (i : ℕ) (x : X) (t : List ℕ) → i < length xs → x ≡ get_or xs i x → f x ≡ t → P (map f (take i xs) ++ t ∷ []) → P (map f (take (i + 1) xs))
+places_more P f xs i x t l is same h =
+    subst P (sym (ap (map f) (take_more xs i x l) ∙ (map-append f (take i xs) (get_or xs i x ∷ []) ∙ ap (λ y. map f (take i xs) ++ y ∷ []) (ap f (sym is) ∙ same)))) h

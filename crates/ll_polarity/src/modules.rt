@@ -1,9 +1,11 @@
 //! The places of modules by their names.
 
-ghost use Rattle.std.specs.Prelude.{◌≡◌, ◌++◌, ◌∷◌, [], ℕ, List, length, OnOk};
+ghost use Rattle.std.specs.Prelude.{◌≡◌, ◌^◌, ◌<◌, ◌++◌, ◌∷◌, [], ℕ, List, length, map, All, OnOk, IfOk};
+ghost use Rattle.ll_polarity.specs.Numbered.{text_of};
 ghost use Rattle.ll_polarity.specs.Places.{place_in, FindsFirst};
 
-use ll_bank::OutOfMemory;
+use ll_bank::{Names, OutOfMemory};
+use ll_parser::RawModule;
 use std::alloc::Global;
 use std::collections::HashMap;
 
@@ -42,4 +44,21 @@ impl<'a> Modules<'a> {
             Some(place) => *place,
         }
     }
+}
+
+/// The places of a program's modules.
+pub fn places_of<'a>(
+    alloc: Global,
+    names: &'a Names,
+    modules: &[RawModule],
+) -> Result<Modules<'a>, OutOfMemory>
+    requires named { All (λ m. m.name.name < length names.now) modules.now }
+    requires count { length modules.now < 2 ^ 32 }
+    ensures { IfOk result (λ found. FindsFirst found.places (map (λ m. text_of names.now m.name.name) modules.now)) }
+{
+    let mut found = Modules::new(alloc);
+    for (place, module) in modules.iter().enumerate() {
+        found.add(names.text(module.name.name), place as u32)?;
+    }
+    Ok(found)
 }

@@ -8,9 +8,6 @@ ghost use Rattle.ll_laws.specs.Module.{forall_all, load, load_all, unfold_load};
 ghost use Rattle.ll_laws.specs.Shown.{clause_tree, module_tree, HasClauses};
 ghost use Rattle.ll_modules.specs.Loads.{arguments_env, AreClosed, MayLoad};
 
-#[cfg(test)]
-mod tests;
-
 use ll_bank::{At, Bank, FormAt, FormNode, OutOfMemory};
 use ll_laws::{Clause, Kind, Module};
 

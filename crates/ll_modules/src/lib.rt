@@ -1,13 +1,12 @@
 //! The goal that a load of a module stands for.
 #![tactic(auto)]
 
-ghost use Rattle.std.specs.Prelude.{◌≡◌, true, length, All, IfOk};
+ghost use Rattle.std.specs.Prelude.{◌≡◌, true, length, map, All, IfOk};
 ghost use Rattle.ll_bank.specs.Form.{close_form, form_applies_heads};
 ghost use Rattle.ll_bank.specs.Nodes.{term_tree, term_trees, form_tree, HasForm, AllInTerms, ShowsForm, Extends};
 ghost use Rattle.ll_laws.specs.Module.{forall_all, load, load_all, unfold_load};
 ghost use Rattle.ll_laws.specs.Shown.{clause_tree, module_tree, HasClauses};
 ghost use Rattle.ll_modules.specs.Loads.{arguments_env, AreClosed, MayLoad};
-ghost use Rattle.std.specs.Prelude.{map};
 
 use ll_bank::{At, Bank, FormAt, FormNode, OutOfMemory};
 use ll_laws::{Clause, Kind, Module};

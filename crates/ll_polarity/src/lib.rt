@@ -5,13 +5,10 @@ mod front;
 mod headings;
 mod judge;
 mod laws;
-
 mod modules;
-mod part;
 mod pending;
 mod put_clauses;
 mod put_forms;
-mod put_modules;
 mod put_terms;
 mod scope;
 #[cfg(test)]
@@ -20,4 +17,3 @@ mod variables;
 mod walk;
 
 pub use laws::{asked_is_valid, faults_in_order, one_problem};
-pub use part::{Loaded, load};

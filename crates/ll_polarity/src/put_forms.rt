@@ -49,7 +49,6 @@ pub enum Step {
 }
 
 /// The text that formulas are read from, and the places of the program's modules.
-#[derive(Clone, Copy)]
 pub struct Text<'a> {
     pub names: &'a Names,
     pub forms: &'a Raws,

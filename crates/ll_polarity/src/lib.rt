@@ -1,6 +1,7 @@
 //! Scope, and the sorting into goals and clauses: the problem that two texts ask.
 #![tactic(auto)]
 
+mod asking;
 mod front;
 mod headings;
 mod judge;

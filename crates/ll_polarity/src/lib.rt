@@ -7,6 +7,7 @@ mod headings;
 mod judge;
 mod laws;
 mod modules;
+mod part;
 mod pending;
 mod put_clauses;
 mod put_forms;
@@ -17,4 +18,6 @@ mod tests;
 mod variables;
 mod walk;
 
+pub use asking::ask;
 pub use laws::{asked_is_valid, faults_in_order, one_problem};
+pub use part::Loaded;

@@ -7,7 +7,6 @@ mod headings;
 mod judge;
 mod laws;
 mod modules;
-mod part;
 mod pending;
 mod put_clauses;
 mod put_forms;
@@ -18,6 +17,4 @@ mod tests;
 mod variables;
 mod walk;
 
-pub use asking::ask;
 pub use laws::{asked_is_valid, faults_in_order, one_problem};
-pub use part::Loaded;

@@ -440,7 +440,7 @@ fn printed(
 }
 
 // A program, the room of the sink, and the status and the text of its print.
-const PRINTED: [(&str, usize, u8, &str); 10] = [
+const PRINTED: [(&str, usize, u8, &str); 9] = [
     ("", 0, 0, ""),
     ("p X:-q X,(r;s).%c", 99, 0, "p X :- q X , (r ; s).\n"),
     ("LINEAR ((a)).", 99, 0, "LINEAR a.\n"),
@@ -464,12 +464,6 @@ const PRINTED: [(&str, usize, u8, &str); 10] = [
         99,
         7,
         "fault: prog 1:3 kind 2 number past 64 bits\n",
-    ),
-    (
-        "p :- forall x\\",
-        99,
-        7,
-        "fault: prog 1:15 kind 5 text ends early\n",
     ),
 ];
 

@@ -1,11 +1,13 @@
 //! Scope, and the sorting into goals and clauses: the problem that two texts ask.
 #![tactic(auto)]
 
+mod asking;
 mod front;
 mod headings;
 mod judge;
 mod laws;
 mod modules;
+mod part;
 mod pending;
 mod put_clauses;
 mod put_forms;
@@ -16,4 +18,6 @@ mod tests;
 mod variables;
 mod walk;
 
+pub use asking::ask;
 pub use laws::{asked_is_valid, faults_in_order, one_problem};
+pub use part::Loaded;

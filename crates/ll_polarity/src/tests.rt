@@ -1,5 +1,9 @@
+use crate::asking::ask;
 use crate::headings::Headings;
 use crate::judge::{judge_program, judge_query};
+use crate::part::Loaded;
+use ll_bank::{Bank, FormNode, Names};
+use ll_laws::Problem;
 use ll_lexer::{Fault, TextFault, tokens};
 use ll_parser::{program, query};
 use std::alloc::Global;
@@ -31,11 +35,36 @@ fn query_fault(alloc: Global, text: &[u8]) -> Result<Option<Fault>, TextFault> {
     Ok(fault)
 }
 
+// What a query asks of an empty program.
+fn asked(alloc: Global, text: &[u8]) -> Result<Problem, TextFault> {
+    if text.len() > LONGEST_TEXT {
+        return Err(TextFault::OutOfMemory);
+    }
+    let list = tokens(alloc, text)?;
+    let tree = query(alloc, &list)?;
+    let part = Loaded {
+        bank: Bank::new(alloc),
+        names: Names::new(alloc),
+        modules: Vec::new(alloc),
+        clauses: Vec::new(alloc),
+    };
+    let problem = ask(alloc, part, &tree, 5)?;
+    Ok(problem)
+}
+
 // The line, the column and the kind of a fault; kind 0 is none.
 fn shown(fault: Option<Fault>) -> (u32, u32, u8) {
     match fault {
         Some(fault) => (fault.at.line, fault.at.column, fault.kind),
         None => (0, 0, 0),
+    }
+}
+
+// The same of why a text is refused.
+fn cause(refused: TextFault) -> (u32, u32, u8) {
+    match refused {
+        TextFault::Text(fault) => shown(Some(fault)),
+        TextFault::OutOfMemory => shown(None),
     }
 }
 
@@ -87,5 +116,19 @@ fn first_faults(rt: HostRuntime) -> Result<(), Fail> {
         let fault = query_fault(rt.alloc(), text.as_bytes())?;
         assert_eq!(rt; shown(fault), want);
     }
+    Ok(())
+}
+
+#[test]
+fn a_problem(rt: HostRuntime) -> Result<(), Fail> {
+    let problem = asked(rt.alloc(), b"p Y _ X , q Y")?;
+    assert_eq!(rt; problem.names.len(), 4);
+    assert_eq!(rt;
+        problem.asked.as_slice(),
+        [Some(2), None, Some(3)].as_slice()
+    );
+    assert!(rt; matches!(problem.bank.form_at(problem.goal), FormNode::Tensor(..)));
+    let refused = asked(rt.alloc(), b"m --> p").err();
+    assert_eq!(rt; refused.map(cause), Some((1, 1, 10)));
     Ok(())
 }

@@ -5,10 +5,13 @@ mod front;
 mod headings;
 mod judge;
 mod laws;
+mod loading;
 mod modules;
+mod part;
 mod pending;
 mod put_clauses;
 mod put_forms;
+mod put_modules;
 mod put_terms;
 mod scope;
 #[cfg(test)]
@@ -17,3 +20,5 @@ mod variables;
 mod walk;
 
 pub use laws::{asked_is_valid, faults_in_order, one_problem};
+pub use loading::load;
+pub use part::Loaded;

@@ -72,7 +72,7 @@ faults_then heads earlier (x ∷ rest) m h =
     both : (xs ys : List Fault) → xs ≡ [] → ys ≡ [] → xs ++ ys ≡ []
     both xs ys e d = ap (λ zs. zs ++ ys) e ∙ d
 
-same_modules : {old new : Nodes} (e : Extends old new) (put : List Module) → HasModules old put → map (module_tree new) put ≡ map (module_tree old) put
+pub same_modules : {old new : Nodes} (e : Extends old new) (put : List Module) → HasModules old put → map (module_tree new) put ≡ map (module_tree old) put
 same_modules e [] h = refl
 same_modules {old} {new} e (m ∷ put) h =
     let P : Module → Type 0 = λ x. HasClauses old x.clauses.items in

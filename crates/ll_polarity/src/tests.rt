@@ -1,5 +1,6 @@
 use crate::headings::Headings;
-use crate::judge::{judge_program, judge_query};
+use crate::judge::judge_query;
+use crate::loading::load;
 use ll_lexer::{Fault, TextFault, tokens};
 use ll_parser::{program, query};
 use std::alloc::Global;
@@ -7,15 +8,29 @@ use std::test::Fail;
 
 const LONGEST_TEXT: usize = 16777216;
 
-// The first fault of a program.
+// The first fault of a program, as its load is refused.
 fn program_fault(alloc: Global, text: &[u8]) -> Result<Option<Fault>, TextFault> {
     if text.len() > LONGEST_TEXT {
         return Err(TextFault::OutOfMemory);
     }
     let list = tokens(alloc, text)?;
     let tree = program(alloc, &list)?;
-    let fault = judge_program(alloc, &tree)?;
-    Ok(fault)
+    match load(alloc, &tree) {
+        Ok(_) => Ok(None),
+        Err(TextFault::Text(fault)) => Ok(Some(fault)),
+        Err(TextFault::OutOfMemory) => Err(TextFault::OutOfMemory),
+    }
+}
+
+// How many names, clauses and modules a program fixes.
+fn part_sizes(alloc: Global, text: &[u8]) -> Result<(usize, usize, usize), TextFault> {
+    if text.len() > LONGEST_TEXT {
+        return Err(TextFault::OutOfMemory);
+    }
+    let list = tokens(alloc, text)?;
+    let tree = program(alloc, &list)?;
+    let part = load(alloc, &tree)?;
+    Ok((part.names.len(), part.clauses.len(), part.modules.len()))
 }
 
 // The first fault of a query where there is one module, `m` with one parameter.
@@ -86,6 +101,23 @@ fn first_faults(rt: HostRuntime) -> Result<(), Fail> {
     for (text, want) in QUERIES {
         let fault = query_fault(rt.alloc(), text.as_bytes())?;
         assert_eq!(rt; shown(fault), want);
+    }
+    Ok(())
+}
+
+// Programs, and how many names, clauses and modules each fixes.
+const PARTS: [(&str, (usize, usize, usize)); 4] = [
+    ("", (0, 0, 0)),
+    ("p :- q. LINEAR r X X.", (3, 2, 0)),
+    ("p a. MODULE m X. LOCAL c. q c X a. MODULE n.", (5, 1, 2)),
+    ("p :- m --> m --> p. MODULE m. p.", (2, 1, 1)),
+];
+
+#[test]
+fn parts(rt: HostRuntime) -> Result<(), Fail> {
+    for (text, want) in PARTS {
+        let sizes = part_sizes(rt.alloc(), text.as_bytes())?;
+        assert_eq!(rt; sizes, want);
     }
     Ok(())
 }

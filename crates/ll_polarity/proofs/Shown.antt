@@ -1,8 +1,7 @@
 -- The clauses and modules of a program's part, in a bank that has grown behind them.
-use Rattle.std.proofs.Common.{◌≡◌, ℕ, ◌+◌, ◌<◌, ◌≤◌, List, [], ◌∷◌, map, length, get_or, Option, refl, sym, ap, ◌∙◌, arith}
+use Rattle.std.proofs.Common.{◌≡◌, ℕ, ◌+◌, ◌<◌, ◌≤◌, List, [], map, length, get_or, Option, sym, ap, ◌∙◌, arith}
 use Rattle.std.specs.Prelude.{slice_index_or, option_map, ◌^◌}
 use Rattle.std.proofs.lemmas.List.{length-map}
-use Rattle.std.proofs.lemmas.List.Elements.{All-head, All-tail}
 use Rattle.std.proofs.lemmas.Simd.{map-map}
 use Rattle.ll_bank.specs.Form.{Form}
 use Rattle.ll_bank.specs.Nodes.{Nodes, Extends}
@@ -22,17 +21,10 @@ use Rattle.ll_polarity.specs.Faults.{Heading}
 use Rattle.ll_polarity.specs.Asks.{ProgramPart, modules_of, headings_of, read_asked, problem_with}
 use Rattle.ll_polarity.specs.Ready.{known_heading}
 use Rattle.ll_polarity.proofs.Clauses.{same_clauses}
+use Rattle.ll_polarity.proofs.ModuleRows.{same_modules}
 use Rattle.ll_polarity.proofs.Few.{few_form}
 
 -- ---- what stays in a bank that grows
-
-pub same_modules : {old new : Nodes} (e : Extends old new) (ms : List Module) → HasModules old ms → map (module_tree new) ms ≡ map (module_tree old) ms
-same_modules e [] h = refl
-same_modules {old} {new} e (m ∷ ms) h =
-    let P : Module → Type 0 = λ x. HasClauses old x.clauses.items in
-    let a = same_clauses e m.clauses.items (All-head P m ms h) in
-    let b = same_modules e ms (All-tail P m ms h) in
-    λ i. record { name = m.name; params = m.params; locals = m.locals; clauses = a i } ∷ b i
 
 pub clauses_stay : {old new : Nodes} (e : Extends old new) (cs : List Clause) → HasClauses old cs → HasClauses new cs
 clauses_stay e cs h = λ k d l. HasForm-extends e (get_or cs k d).form.0 (h k d l)

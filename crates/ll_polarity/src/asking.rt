@@ -2,7 +2,7 @@
 
 ghost use Rattle.std.specs.Prelude.{◌≡◌, ◌+◌, ◌^◌, ◌<◌, ◌≤◌, ℕ, List, [], ◌∷◌, length, map, All, IfOk, IfErr};
 ghost use Rattle.std.specs.String.{string_bytes};
-ghost use Rattle.ll_bank.specs.Nodes.{HasForm, ShowsForm, form_tree, Extends};
+ghost use Rattle.ll_bank.specs.Nodes.{HasForm, form_tree, Extends};
 ghost use Rattle.ll_laws.specs.Valid.{IsValid};
 ghost use Rattle.ll_parser.specs.Raw.{ProgramTree};
 ghost use Rattle.ll_parser.specs.Text.{programs, queries};
@@ -10,7 +10,7 @@ ghost use Rattle.ll_parser.specs.Reads.{IsWhole};
 ghost use Rattle.ll_parser.specs.Nodes.{raw_at};
 ghost use Rattle.ll_polarity.specs.Numbered.{text_of, variables_of};
 ghost use Rattle.ll_polarity.specs.Places.{FindsFirst};
-ghost use Rattle.ll_polarity.specs.Faults.{Heading, heading, program_faults, query_faults};
+ghost use Rattle.ll_polarity.specs.Faults.{Heading, program_faults, query_faults};
 ghost use Rattle.ll_polarity.specs.Reading.{read_form};
 ghost use Rattle.ll_polarity.specs.Standing.{met_of};
 ghost use Rattle.ll_polarity.specs.Ready.{known_heading};
@@ -197,8 +197,8 @@ fn query_fault(
     Ok(fault)
 }
 
-/// The problem that a query asks of a program's part, with a bound on the inferences of a branch. `Text` is the query's first fault of
-/// scope or sorting, kinds 7 to 11. The part is spent in every case.
+/// The problem that a query asks of a program's part, with a bound on the inferences of a branch, from 0 to 1,000,000. `Text` is the
+/// query's first fault of scope or sorting, kinds 7 to 11. The part is spent in every case.
 pub fn ask(
     alloc: Global,
     loaded: Loaded,

@@ -1,5 +1,5 @@
 -- The clauses of a text, put into a bank.
-use Rattle.std.proofs.Common.{◌≡◌, ℕ, zero, suc, ◌+◌, ◌*◌, ◌<◌, ◌≤◌, take, List, [], length, Option, sym, subst, ap, ◌∙◌, arith, map, ◌∷◌, ◌++◌, get_or, refl, Some, None}
+use Rattle.std.proofs.Common.{◌≡◌, ℕ, zero, suc, ◌+◌, ◌*◌, ◌<◌, ◌≤◌, take, List, [], length, Option, sym, subst, ap, ◌∙◌, arith, map, ◌∷◌, ◌++◌, get_or, refl}
 use Rattle.std.specs.Prelude.{option_map, ◌^◌}
 use Rattle.std.specs.List.{IsDistinct}
 use Rattle.std.specs.Str.{bytes_eq}
@@ -89,7 +89,7 @@ faults_then heads scope (x ∷ cs) c h =
     both : (xs ys : List Fault) → xs ≡ [] → ys ≡ [] → xs ++ ys ≡ []
     both xs ys e d = ap (λ zs. zs ++ ys) e ∙ d
 
-same_clauses : {old new : Nodes} (e : Extends old new) (put : List Clause) → HasClauses old put → map (clause_tree new) put ≡ map (clause_tree old) put
+pub same_clauses : {old new : Nodes} (e : Extends old new) (put : List Clause) → HasClauses old put → map (clause_tree new) put ≡ map (clause_tree old) put
 same_clauses e [] h = refl
 same_clauses {old} {new} e (c ∷ put) h =
     let P : Clause → Type 0 = λ x. HasForm old x.form.0 in

@@ -149,7 +149,7 @@ headings-shown texts nodes (m ∷ modules) =
 
 -- ---- what is known of whole programs
 
-all-map : {A B : Type 0} (f : A → B) (P : B → Type 0) (xs : List A) → All P (map f xs) → All (λ x. P (f x)) xs
+pub all-map : {A B : Type 0} (f : A → B) (P : B → Type 0) (xs : List A) → All P (map f xs) → All (λ x. P (f x)) xs
 all-map f P xs h = λ k d l. let e = length-map xs f in subst P (get_or-map f xs k d (f d) l) (h k (f d) (omega arith))
 
 module _ (texts : List (List ℕ)) (nodes : List Node) where

@@ -15,3 +15,5 @@ pub mod Frames
 pub mod Grounds
 pub mod Pending
 pub mod Ready
+pub mod Causes
+pub mod Loading

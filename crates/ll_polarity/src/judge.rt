@@ -84,8 +84,8 @@ fn own_names_fault(
     Ok(fault)
 }
 
-// More binders, the last one innermost.
-fn open_all(binders: &mut Binders<'_>, names: &[Named], local: bool) -> Result<(), OutOfMemory>
+/// More binders, the last one innermost.
+pub fn open_all(binders: &mut Binders<'_>, names: &[Named], local: bool) -> Result<(), OutOfMemory>
     requires { AreNumbers binders.old.texts names.now }
     ensures { OnOk result (binders.new ≡ record binders.old { scope = map (λ n. record { text = n.text; local = local }) (reverse (map (identifier binders.old.texts) names.now)) ++ binders.old.scope }) }
 {

@@ -49,6 +49,7 @@ pub enum Step {
 }
 
 /// The text that formulas are read from, and the places of the program's modules.
+#[derive(Drop)]
 pub struct Text<'a> {
     pub names: &'a Names,
     pub forms: &'a Raws,

@@ -1,5 +1,8 @@
-use crate::headings::Headings;
-use crate::judge::{judge_program, judge_query};
+use crate::asking::ask;
+use crate::loading::load;
+use crate::part::Loaded;
+use ll_bank::FormNode;
+use ll_laws::Problem;
 use ll_lexer::{Fault, TextFault, tokens};
 use ll_parser::{program, query};
 use std::alloc::Global;
@@ -7,28 +10,42 @@ use std::test::Fail;
 
 const LONGEST_TEXT: usize = 16777216;
 
-// The first fault of a program.
-fn program_fault(alloc: Global, text: &[u8]) -> Result<Option<Fault>, TextFault> {
+// The part that a program fixes.
+fn loaded(alloc: Global, text: &[u8]) -> Result<Loaded, TextFault> {
     if text.len() > LONGEST_TEXT {
         return Err(TextFault::OutOfMemory);
     }
     let list = tokens(alloc, text)?;
     let tree = program(alloc, &list)?;
-    let fault = judge_program(alloc, &tree)?;
-    Ok(fault)
+    let part = load(alloc, &tree)?;
+    Ok(part)
 }
 
-// The first fault of a query where there is one module, `m` with one parameter.
-fn query_fault(alloc: Global, text: &[u8]) -> Result<Option<Fault>, TextFault> {
+// The problem that a query asks of a program.
+fn asked(alloc: Global, program: &[u8], text: &[u8]) -> Result<Problem, TextFault> {
     if text.len() > LONGEST_TEXT {
         return Err(TextFault::OutOfMemory);
     }
+    let part = loaded(alloc, program)?;
     let list = tokens(alloc, text)?;
     let tree = query(alloc, &list)?;
-    let mut headings = Headings::new(alloc);
-    headings.add("m", 1)?;
-    let fault = judge_query(alloc, &headings, &tree)?;
-    Ok(fault)
+    let problem = ask(alloc, part, &tree, 5)?;
+    Ok(problem)
+}
+
+// How many names, clauses and modules a program fixes.
+fn part_sizes(alloc: Global, text: &[u8]) -> Result<(usize, usize, usize), TextFault> {
+    let part = loaded(alloc, text)?;
+    Ok((part.names.len(), part.clauses.len(), part.modules.len()))
+}
+
+// The fault for which a text is refused.
+fn fault_of<T: Drop>(answer: Result<T, TextFault>) -> Result<Option<Fault>, TextFault> {
+    match answer {
+        Ok(_) => Ok(None),
+        Err(TextFault::Text(fault)) => Ok(Some(fault)),
+        Err(TextFault::OutOfMemory) => Err(TextFault::OutOfMemory),
+    }
 }
 
 // The line, the column and the kind of a fault; kind 0 is none.
@@ -65,7 +82,7 @@ const PROGRAMS: [(&str, (u32, u32, u8)); 22] = [
     ("MODULE m X. LOCAL c. MODULE n X. LOCAL c. p X.", (0, 0, 0)),
 ];
 
-// Queries, and the first fault of each.
+// Queries of a program with one module, `m` with one parameter, and the first fault of each.
 const QUERIES: [(&str, (u32, u32, u8)); 8] = [
     ("m a --> p , true", (0, 0, 0)),
     ("m --> p", (1, 1, 11)),
@@ -80,12 +97,41 @@ const QUERIES: [(&str, (u32, u32, u8)); 8] = [
 #[test]
 fn first_faults(rt: HostRuntime) -> Result<(), Fail> {
     for (text, want) in PROGRAMS {
-        let fault = program_fault(rt.alloc(), text.as_bytes())?;
+        let fault = fault_of(loaded(rt.alloc(), text.as_bytes()))?;
         assert_eq!(rt; shown(fault), want);
     }
     for (text, want) in QUERIES {
-        let fault = query_fault(rt.alloc(), text.as_bytes())?;
+        let fault = fault_of(asked(rt.alloc(), b"MODULE m X.", text.as_bytes()))?;
         assert_eq!(rt; shown(fault), want);
     }
+    Ok(())
+}
+
+// Programs, and how many names, clauses and modules each fixes.
+const PARTS: [(&str, (usize, usize, usize)); 4] = [
+    ("", (0, 0, 0)),
+    ("p :- q. LINEAR r X X.", (3, 2, 0)),
+    ("p a. MODULE m X. LOCAL c. q c X a. MODULE n.", (5, 1, 2)),
+    ("p :- m --> m --> p. MODULE m. p.", (2, 1, 1)),
+];
+
+#[test]
+fn parts(rt: HostRuntime) -> Result<(), Fail> {
+    for (text, want) in PARTS {
+        let sizes = part_sizes(rt.alloc(), text.as_bytes())?;
+        assert_eq!(rt; sizes, want);
+    }
+    Ok(())
+}
+
+#[test]
+fn a_problem(rt: HostRuntime) -> Result<(), Fail> {
+    let problem = asked(rt.alloc(), b"q a. MODULE m X.", b"m a --> p Y _ X , q Y")?;
+    assert_eq!(rt; problem.names.len(), 6);
+    assert_eq!(rt;
+        problem.asked.as_slice(),
+        [Some(4), None, Some(5)].as_slice()
+    );
+    assert!(rt; matches!(problem.bank.form_at(problem.goal), FormNode::Use(0, ..)));
     Ok(())
 }

@@ -46,6 +46,13 @@ impl Variables {
         self.order.len()
     }
 
+    /// The numbers of their names, in their order.
+    pub fn order(&self) -> &[Option<u32>]
+        ensures { result.now ≡ self.now }
+    {
+        &self.order
+    }
+
     /// One more without a name, and its number.
     pub fn add_nameless(&mut self) -> Result<u32, OutOfMemory>
         requires { length self.old < 2 ^ 32 }

@@ -1,15 +1,13 @@
 -- What a machine keeps true.
-use Rattle.std.specs.Prelude.{◌≡◌, ℕ, suc, ◌+◌, ◌≤◌, ◌<◌, ◌^◌, Bool, true, false, List, length, All, Some, None}
+use Rattle.std.specs.Prelude.{◌≡◌, ℕ, suc, ◌+◌, ◌≤◌, ◌<◌, ◌^◌, Bool, true, false, length, All, Some, None}
 use Rattle.ll_bank.specs.Nodes.{Nodes, HasForm, AllInTerms, term_trees}
 use Rattle.ll_laws.specs.declared.Candidate.{Candidate}
 use Rattle.ll_laws.specs.Problem.{setting_of}
 use Rattle.ll_laws.specs.Module.{Setting}
 use Rattle.ll_laws.specs.Attempt.{attempt, vars_from}
-use Rattle.ll_laws.specs.State.{State}
 use Rattle.ll_laws.specs.Valid.{IsValid}
 use Rattle.ll_laws.specs.Consistent.{IsConsistent}
 use Rattle.ll_agenda.specs.Frames.{HasTop}
-use Rattle.ll_resources.specs.declared.context.Saved.{Saved as Handle}
 use Rattle.ll_engine.specs.declared.machine.Machine.{Machine}
 use Rattle.ll_engine.specs.declared.machine.Item.{Item}
 use Rattle.ll_engine.specs.declared.machine.Item.TheVariants.{Goal, LolliEnd, ImpEnd, Mid, WithEnd, BangEnd}

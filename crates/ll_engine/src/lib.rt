@@ -1,6 +1,8 @@
 //! The engine: depth-first search over machines, each of which holds a whole state.
 #![tactic(auto)]
 
+mod candidates;
 mod machine;
+mod read;
 
 pub use machine::{Item, Machine};

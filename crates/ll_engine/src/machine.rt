@@ -1,10 +1,15 @@
 //! A machine: one state of a search, over a bank of its own.
-ghost use Rattle.std.specs.Prelude.{◌≡◌};
+ghost use Rattle.std.specs.Prelude.{◌≡◌, IfOk};
+ghost use Rattle.ll_laws.specs.Attempt.{tries};
+ghost use Rattle.ll_engine.specs.Shown.{state_of};
+ghost use Rattle.ll_engine.specs.Fits.{Fits};
 
+use crate::candidates::goal_candidates;
 use ll_agenda::{Agenda, Top};
-use ll_bank::{At, Bank, FormAt};
-use ll_laws::{Problem, Step};
+use ll_bank::{At, Bank, FormAt, OutOfMemory};
+use ll_laws::{Candidate, Problem, Step};
 use ll_resources::{Context, Saved};
+use std::alloc::Global;
 
 /// An item of an agenda: a goal, or the end of one.
 #[derive(Clone, Copy, Debug)]
@@ -46,6 +51,23 @@ pub struct Machine<'p> {
 }
 
 impl<'p> Machine<'p> {
+    /// The candidates for the goal in front, in the order in which they are tried; none where no goal is in front.
+    pub fn candidates(&self, alloc: Global) -> Result<Vec<Candidate>, OutOfMemory>
+        requires { Fits self.now }
+        ensures { IfOk result (λ found. found.items ≡ tries (state_of self.now)) }
+    {
+        let Some((item, _)) = self.agenda.item(self.top) else {
+            return Ok(Vec::new(alloc));
+        };
+        match item {
+            Item::Goal(goal) => {
+                let found = goal_candidates(alloc, &self.bank, &self.bound, &self.context, goal)?;
+                Ok(found)
+            }
+            _ => Ok(Vec::new(alloc)),
+        }
+    }
+
     /// The bound left.
     pub fn left(&self) -> u32
         ensures { result ≡ self.now.left }

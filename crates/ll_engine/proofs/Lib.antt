@@ -1,0 +1,4 @@
+pub mod ReadLemmas
+pub mod CandidateLemmas
+pub mod LeafLemmas
+pub mod MachineLemmas

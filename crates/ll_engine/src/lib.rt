@@ -1,8 +1,14 @@
-//! The engine: depth-first search over machines, each of which holds a whole state.
+//! The backtracking engine: depth-first search, step by step, which owes exactly the events and the inferences of the search.
 #![tactic(auto)]
 
 mod candidates;
+mod engine;
 mod machine;
 mod read;
+mod rows;
+mod seen;
+mod settle;
+mod spine;
 
+pub use engine::{Engine, Step2};
 pub use machine::{Item, Machine};

@@ -1,24 +1,27 @@
 -- The parts of a machine after a call that leaves most of them as they are.
-use Rattle.std.proofs.Common.{◌≡◌, ℕ, suc, ◌+◌, ◌≤◌, ◌<◌, ◌^◌, refl, ap, sym, ◌∙◌, subst, List, [], ◌∷◌, ◌++◌, map, length, arith, All, length-append}
+use Rattle.std.proofs.Common.{◌≡◌, ℕ, suc, ◌+◌, ◌≤◌, ◌^◌, refl, ap, sym, ◌∙◌, subst, true, List, [], ◌∷◌, ◌++◌, map, length, arith, All, length-append}
 use Rattle.std.proofs.lemmas.List.{append-nil}
 use Rattle.std.specs.Prelude.{Option}
 use Rattle.ll_bank.specs.declared.At.{At}
 use Rattle.ll_bank.specs.declared.BankSize.{BankSize}
 use Rattle.ll_bank.specs.declared.FormAt.{FormAt}
-use Rattle.ll_bank.specs.Nodes.{Nodes, HasForm, term_tree, size_of, IsCutTo}
+use Rattle.ll_bank.specs.Nodes.{Nodes, HasForm, term_tree, form_tree, size_of, IsCutTo}
 use Rattle.ll_bank.specs.Term.{Term}
 use Rattle.ll_laws.specs.Answered.{Answered}
 use Rattle.ll_laws.specs.declared.Step.{Step}
 use Rattle.ll_laws.specs.State.{State}
+use Rattle.ll_laws.specs.Settle.{Entry, Saved}
+use Rattle.ll_laws.specs.Valid.{Allowed, IsFormula, ClauseSide}
 use Rattle.ll_laws.specs.Consistent.{IsConsistent}
 use Rattle.ll_laws.specs.Problem.{ProblemTree, setting_of}
 use Rattle.ll_agenda.specs.Frames.{HasTop, ShowsItems}
 use Rattle.ll_resources.specs.Resources.{Resources}
 use Rattle.ll_engine.specs.declared.machine.Machine.{Machine}
 use Rattle.ll_engine.specs.declared.machine.Item.{Item}
+use Rattle.ll_engine.specs.declared.machine.Item.TheVariants.{Goal, LolliEnd, ImpEnd, Mid, WithEnd, BangEnd}
 use Rattle.ll_engine.specs.Reading.{read_term}
 use Rattle.ll_engine.specs.Shown.{shown_item, shown_entry, items_of, state_of}
-use Rattle.ll_engine.specs.Fits.{Fits, HasItem, setting}
+use Rattle.ll_engine.specs.Fits.{Fits, HasItem, IsGoalIn, allowed, setting}
 use Rattle.ll_engine.specs.Calls.{IsImage}
 use Rattle.ll_engine.specs.Going.{SameTerms}
 
@@ -44,10 +47,28 @@ state_is m = refl
 abbrev branched : State → Answered
 branched s = record { terms = s.terms; steps = s.steps }
 
-pub fits_kept : (m n : Machine) → SameTerms m n → Fits m → IsConsistent (setting m) (state_of n)
-    → All (λ e. HasForm m.bank e.clause.0) n.context.present.entries → HasTop n.agenda n.top
-    → All (HasItem m.bank (length n.context.present.kept)) (items_of n) → n.context.present.next + n.left ≤ 2 ^ 25 → n.eigens + n.left ≤ 2 ^ 20 → Fits n
-fits_kept m n s f h c t i l e =
+-- with the same terms and eigenconstants formulas may mention the same
+pub same_allowed : (m n : Machine) → SameTerms m n → n.eigens ≡ m.eigens → allowed n ≡ allowed m
+same_allowed m n s e =
+    let make : ProblemTree → List ℕ → ℕ → Allowed = λ p ls k. record { modules = p.modules; variables = length ls; eigens = k; opens = true } in
+    ap (λ p. make p n.levels.items n.eigens) s.problem ∙ (ap (λ ls. make m.problem.now ls n.eigens) s.levels ∙ ap (λ k. make m.problem.now m.levels.items k) e)
+
+pub clauses_moved : (may more : Allowed) (bank other : Nodes) (es : List (Entry FormAt)) → may ≡ more → bank ≡ other
+    → All (λ e. IsFormula may ClauseSide [] (form_tree bank e.clause.0)) es → All (λ e. IsFormula more ClauseSide [] (form_tree other e.clause.0)) es
+clauses_moved may more bank other es p q h =
+    subst (λ (b : Nodes). All (λ (e : Entry FormAt). IsFormula more ClauseSide [] (form_tree b e.clause.0)) es) q
+    (subst (λ (k : Allowed). All (λ (e : Entry FormAt). IsFormula k ClauseSide [] (form_tree bank e.clause.0)) es) p h)
+
+pub goals_moved : (may more : Allowed) (bank other : Nodes) (xs : List Item) → may ≡ more → bank ≡ other → All (IsGoalIn may bank) xs → All (IsGoalIn more other) xs
+goals_moved may more bank other xs p q h =
+    subst (λ (b : Nodes). All (IsGoalIn more b) xs) q (subst (λ (k : Allowed). All (IsGoalIn k bank) xs) p h)
+
+pub fits_kept : (m n : Machine) → SameTerms m n → Fits m → IsConsistent (setting m) (state_of n) → n.eigens ≡ m.eigens
+    → All (λ e. HasForm m.bank e.clause.0) n.context.present.entries → All (λ e. IsFormula (allowed m) ClauseSide [] (form_tree m.bank e.clause.0)) n.context.present.entries
+    → HasTop n.agenda n.top → All (HasItem m.bank (length n.context.present.kept)) (items_of n) → All (IsGoalIn (allowed m) m.bank) (items_of n)
+    → n.context.present.next + n.left ≤ 2 ^ 25 → n.eigens + n.left ≤ 2 ^ 20 → Fits n
+fits_kept m n s f h x c d t i g l e =
+    let a : allowed m ≡ allowed n = sym (same_allowed m n s x) in
     record {
       valid = rw s.problem f.valid;
       consistent = subst (λ (p : ProblemTree). IsConsistent (setting_of p) (state_of n)) (sym s.problem) h;
@@ -56,6 +77,8 @@ fits_kept m n s f h c t i l e =
       terms = rw (s.bank, s.terms) f.terms;
       variables = rw (s.bank, s.terms, s.levels) f.variables;
       clauses = rw s.bank c;
+      sorted_clauses = clauses_moved (allowed m) (allowed n) m.bank n.bank n.context.present.entries a (sym s.bank) d;
+      sorted_goals = goals_moved (allowed m) (allowed n) m.bank n.bank (items_of n) a (sym s.bank) g;
       top = t;
       items = rw s.bank i;
       labels = l;
@@ -85,7 +108,8 @@ image_of m n s r i e l st f =
       problem = s.problem;
       state = a;
       left = l;
-      fits = fits_kept m n s f (rw a f.consistent) (rw r f.clauses) i.inside (rw (r, i.list) f.items) (rw (r, l) f.labels) (rw (e, l) f.eigens);
+      fits = fits_kept m n s f (rw a f.consistent) e (rw r f.clauses) (rw r f.sorted_clauses) i.inside (rw (r, i.list) f.items) (rw i.list f.sorted_goals) (rw (r, l) f.labels)
+          (rw (e, l) f.eigens);
     }
 
 -- the state as a branch, whose terms were read under the bindings
@@ -97,3 +121,16 @@ branch_of m bank new bound terms read steps e1 e2 e3 r e4 =
     let make : List Term → List Step → Answered = λ xs ys. record { terms = xs; steps = ys } in
     let a : map (read_term bank bound) terms ≡ map (read_term m.bank m.bound.items) m.terms.items = rw (e1, e2, e3) refl in
     ap (λ xs. make xs steps) (r ∙ a) ∙ ap (λ ys. make (map (read_term m.bank m.bound.items) m.terms.items) ys) e4
+
+-- more was kept
+
+pub more_kept : (bank : Nodes) (n k : ℕ) (i : Item) → n ≤ k → HasItem bank n i → HasItem bank k i
+more_kept bank n k (Goal g) l h = h
+more_kept bank n k (LolliEnd b) l h = tt
+more_kept bank n k ImpEnd l h = tt
+more_kept bank n k (Mid a) l h = omega (arith, l, h)
+more_kept bank n k (WithEnd a b) l h = let x = h.0 in let y = h.1 in (omega (arith, l, x), omega (arith, l, y))
+more_kept bank n k (BangEnd a) l h = omega (arith, l, h)
+
+pub one_more : (xs : List Saved) (x : Saved) → length (xs ++ x ∷ []) ≡ suc (length xs)
+one_more xs x = length-append xs (x ∷ []) ∙ omega arith

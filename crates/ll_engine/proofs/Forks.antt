@@ -12,7 +12,7 @@ use Rattle.ll_bank.specs.Term.{Term}
 use Rattle.ll_bank.specs.Form.{Form, Top, One, Atom, With, Tensor, Plus, Bang, Lolli, Imp, Forall, Exists, Use}
 use Rattle.ll_laws.specs.Leaf.{ways, leaf}
 use Rattle.ll_laws.specs.Module.{Setting, ModuleTree}
-use Rattle.ll_laws.specs.Settle.{Item, Goal, LolliEnd, ImpEnd, WithMiddle, WithEnd, BangEnd, Front, settle_front}
+use Rattle.ll_laws.specs.Settle.{Item, Goal, Front, settle_front}
 use Rattle.ll_laws.specs.State.{State, settle, front_of, with_front}
 use Rattle.ll_laws.specs.Attempt.{tries, agenda_tries, attempt, attempt_agenda, attempt_goal, goal_tries, take_entry, take_way, take_leaf, load_module, stepped, entry_at, vars_from}
 use Rattle.ll_laws.specs.Search.{forks, forks_settled, forks_after, count_fork, gives_some, later, same_candidate, candidate_of}

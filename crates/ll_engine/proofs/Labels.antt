@@ -8,7 +8,7 @@ use Rattle.ll_laws.specs.declared.Candidate.{Candidate}
 use Rattle.ll_bank.specs.Term.{Term}
 use Rattle.ll_bank.specs.Form.{Form, Atom, Plus}
 use Rattle.ll_laws.specs.Leaf.{ways}
-use Rattle.ll_laws.specs.Settle.{Entry, Item, Goal, LolliEnd, ImpEnd, WithMiddle, WithEnd, BangEnd}
+use Rattle.ll_laws.specs.Settle.{Entry, Item, Goal}
 use Rattle.ll_laws.specs.State.{State}
 use Rattle.ll_laws.specs.Attempt.{tries, agenda_tries, goal_tries, entry_tries, leaf_tries, fits_head, leaf_head, is_open}
 use Rattle.ll_laws.specs.Search.{same_candidate}

@@ -12,3 +12,6 @@ mod Showing
 mod Fitting
 mod Rowing
 mod Settling
+pub mod LaterLemmas
+mod Quantifying
+mod Starting

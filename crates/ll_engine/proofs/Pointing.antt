@@ -1,23 +1,23 @@
 -- Choice points that are machines of their own.
-use Rattle.std.proofs.Common.{◌≡◌, ◌≢◌, ℕ, suc, ◌+◌, ◌-◌, ◌<◌, refl, ap, sym, ◌∙◌, subst, Bool, true, false, List, [], ◌∷◌, ◌++◌, arith, map, reverse, length}
+use Rattle.std.proofs.Common.{◌≡◌, ◌≢◌, ℕ, suc, ◌-◌, ◌<◌, refl, ap, sym, ◌∙◌, subst, Bool, true, false, List, [], ◌∷◌, ◌++◌, arith, map, reverse, length}
 use Rattle.std.proofs.lemmas.List.{reverse-append}
-use Rattle.std.proofs.lemmas.List.Elements.{All-push, All-tail, All-head, All-nil, All-contains_itself, All-pop}
+use Rattle.std.proofs.lemmas.List.Elements.{All-push, All-tail, All-head, All-contains_itself, All-pop}
 use Rattle.std.proofs.Math.Dec.{eqb, eqb-suc-zero}
-use Rattle.std.specs.Prelude.{Option, Some, None, All}
+use Rattle.std.specs.Prelude.{Some, None, All}
 use Rattle.std.specs.List.{Contains}
 use Rattle.ll_laws.specs.declared.Candidate.{Candidate}
-use Rattle.ll_laws.specs.State.{State, settle}
+use Rattle.ll_laws.specs.State.{State}
 use Rattle.ll_laws.specs.Attempt.{tries, attempt}
 use Rattle.ll_laws.specs.Problem.{ProblemTree, setting_of, start_of}
 use Rattle.ll_engine.specs.declared.machine.Machine.{Machine}
 use Rattle.ll_engine.specs.declared.spine.Kept.{Kept}
 use Rattle.ll_engine.specs.Shown.{state_of}
 use Rattle.ll_engine.specs.Fits.{Fits, Attempts}
-use Rattle.ll_engine.specs.Calls.{IsImage, IsSettled, SettlesOr, SameSearch}
+use Rattle.ll_engine.specs.Calls.{IsImage, SettlesOr, SameSearch}
 use Rattle.ll_engine.specs.Seen.{Point, Spine}
 use Rattle.ll_engine.specs.Owed.{Thins, thin_end, thin_keep, put_point}
 use Rattle.ll_engine.specs.Turned.{is_empty, has_none, Settles, Gave, Chose, Expands, Retries, RetriesAt}
-use Rattle.ll_engine.specs.Pointed.{point_of, points_of, spine_at, AreTries, IsOpen, IsKept, AreKept, IsRunning, IsSoundAt, KeepsKept, Puts}
+use Rattle.ll_engine.specs.Pointed.{point_of, points_of, spine_at, AreTries, IsOpen, IsKept, AreKept, IsSoundAt, KeepsKept, Puts}
 use Rattle.ll_engine.proofs.Labels.{tries_distinct}
 
 newest : {A : Type 0} (xs : List A) (x : A) → reverse (xs ++ x ∷ []) ≡ x ∷ reverse xs

@@ -1,14 +1,12 @@
 -- What a machine's parts say of the state that it shows.
-use Rattle.std.proofs.Common.{◌≡◌, ℕ, ◌+◌, ◌<◌, refl, ap, sym, ◌∙◌, subst, Bool, true, false, List, [], ◌∷◌, map, length, take, get_or, arith}
+use Rattle.std.proofs.Common.{◌≡◌, ℕ, ◌+◌, refl, ap, sym, ◌∙◌, Bool, true, false, List, [], ◌∷◌, map, take, get_or}
 use Rattle.std.proofs.lemmas.List.Folds.{list_any_at, list_any_more}
 use Rattle.std.proofs.lemmas.Option.{get_or_from_slice_get, slice_get_within}
 use Rattle.std.specs.Prelude.{Option, Some, None, is_some, IsNone, ◌↔◌, not, ◌||◌, slice_get}
-use Rattle.std.specs.List.{list_any}
 use Rattle.ll_bank.specs.declared.At.{At}
 use Rattle.ll_bank.specs.declared.FormAt.{FormAt}
 use Rattle.ll_bank.specs.Nodes.{Nodes}
 use Rattle.ll_laws.specs.Settle.{Entry, Saved, has_live}
-use Rattle.ll_laws.specs.State.{State}
 use Rattle.ll_agenda.specs.declared.agenda.Top.{Top}
 use Rattle.ll_engine.specs.declared.machine.Machine.{Machine}
 use Rattle.ll_engine.specs.declared.machine.Item.{Item}

@@ -1,11 +1,10 @@
 -- What a turn does with what the whole engine is seen as.
-use Rattle.std.proofs.Common.{◌≡◌, ◌≢◌, ℕ, suc, ◌+◌, ◌-◌, ◌^◌, ◌≤◌, refl, ap, sym, ◌∙◌, subst, Bool, true, false, List, [], ◌∷◌, ◌++◌, append_assoc, arith}
-use Rattle.std.specs.Prelude.{Option, Some, None, min}
+use Rattle.std.proofs.Common.{◌≡◌, ℕ, ◌+◌, ◌-◌, ◌≤◌, refl, ap, sym, ◌∙◌, subst, Bool, true, false, List, [], ◌∷◌, arith}
+use Rattle.std.specs.Prelude.{min}
 use Rattle.ll_laws.specs.declared.Event.{Event}
 use Rattle.ll_laws.specs.declared.Event.TheVariants.{Answer, Reached}
 use Rattle.ll_laws.specs.State.{State}
-use Rattle.ll_laws.specs.Search.{cut_count}
-use Rattle.ll_laws.specs.Problem.{ProblemTree, setting_of}
+use Rattle.ll_laws.specs.Problem.{ProblemTree}
 use Rattle.ll_engine.specs.Seen.{Owing, Point, Spine}
 use Rattle.ll_engine.specs.Owed.{owing, cost_of_spine}
 use Rattle.ll_engine.specs.Healthy.{Healthy, here}

@@ -1,5 +1,5 @@
 -- What the calls of a machine do. Nothing is said of a machine after a refusal.
-use Rattle.std.specs.Prelude.{ℕ, ◌≡◌, Bool, true, false, Some, None}
+use Rattle.std.specs.Prelude.{◌≡◌, Bool, true, false, Some, None}
 use Rattle.ll_laws.specs.State.{settle}
 use Rattle.ll_laws.specs.Problem.{ProblemTree, start_of}
 use Rattle.ll_engine.specs.declared.machine.Machine.{Machine}

@@ -1,10 +1,11 @@
 -- Settling a machine, one end after the other: goals and clauses stay places, and settling looks at neither.
-use Rattle.std.specs.Prelude.{◌≡◌, ℕ, suc, ◌<◌, true, List, ◌∷◌, map, length, All, Option, Some, None}
+use Rattle.std.specs.Prelude.{◌≡◌, ◌<◌, true, List, [], map, length, All, Option, Some, None}
 use Rattle.ll_bank.specs.declared.At.{At}
 use Rattle.ll_bank.specs.declared.FormAt.{FormAt}
-use Rattle.ll_bank.specs.Nodes.{Nodes, HasForm}
+use Rattle.ll_bank.specs.Nodes.{Nodes, HasForm, form_tree}
 use Rattle.ll_laws.specs.Settle.{Saved, Item as ItemOf, Goal as GoalOf, LolliEnd as EndOfLolli, ImpEnd as EndOfImp, WithMiddle as Middle, WithEnd as EndOfWith, BangEnd as EndOfBang, Front, settle_front}
 use Rattle.ll_laws.specs.Consistent.{ends_fit}
+use Rattle.ll_laws.specs.Valid.{IsFormula, ClauseSide}
 use Rattle.ll_agenda.specs.Frames.{HasTop}
 use Rattle.ll_resources.specs.Resources.{Resources, saved_at}
 use Rattle.ll_engine.specs.declared.machine.Machine.{Machine}
@@ -13,7 +14,7 @@ use Rattle.ll_engine.specs.declared.machine.Item.TheVariants.{Goal, LolliEnd, Im
 use Rattle.ll_engine.specs.declared.settle.Worked.{Worked}
 use Rattle.ll_engine.specs.declared.settle.Worked.TheVariants.{Off, Settled, Failed}
 use Rattle.ll_engine.specs.Shown.{shown_item, shown_entry, items_of}
-use Rattle.ll_engine.specs.Fits.{HasItem}
+use Rattle.ll_engine.specs.Fits.{HasItem, allowed, IsGoalIn}
 use Rattle.ll_engine.specs.Calls.{SameSearch}
 
 -- an item over what was kept, with its goal as a place
@@ -42,7 +43,7 @@ pub record SameTerms (old new : Machine) : Type 0 where
   pub terms : new.terms.items ≡ old.terms.items
 
 -- the later machine is the earlier one with some ends worked off
-pub record Going (o m : Machine) : Type 0 where
+pub record Reaches (o m : Machine) : Type 0 where
   pub same : SameTerms o m
   pub eigens : m.eigens ≡ o.eigens
   pub left : m.left ≡ o.left
@@ -52,6 +53,12 @@ pub record Going (o m : Machine) : Type 0 where
   pub top : HasTop m.agenda m.top
   pub items : All (HasItem o.bank (length m.context.present.kept)) (items_of m)
   pub clauses : All (λ e. HasForm o.bank e.clause.0) m.context.present.entries
+  pub sorted_clauses : All (λ e. IsFormula (allowed o) ClauseSide [] (form_tree o.bank e.clause.0)) m.context.present.entries
+  pub sorted_goals : All (IsGoalIn (allowed o) o.bank) (items_of m)
+
+-- and the ends that are left belong to its entries
+pub record Going (o m : Machine) : Type 0 where
+  pub reached : Reaches o m
   pub ends : EndsFit o.bank o.bound.items m.context.present (items_of m)
 
 -- no end is in front
@@ -61,5 +68,5 @@ IsDone m = front_raw m.context.present (items_of m) ≡ Some (record { agenda = 
 -- what working off the item in front came to
 abbrev pub Works : Machine → Worked → Machine → Type 0
 Works old Off new = Going old new × (length (items_of new) < length (items_of old))
-Works old Settled new = (new ≡ old) × IsDone old
+Works old Settled new = Reaches old new × IsDone new
 Works old Failed new = (front_raw old.context.present (items_of old) ≡ None) × SameSearch old new

@@ -1,5 +1,5 @@
 -- Choice points that are machines of their own.
-use Rattle.std.specs.Prelude.{ℕ, ◌-◌, ◌<◌, ◌≡◌, Bool, true, false, List, reverse, map, All, Some}
+use Rattle.std.specs.Prelude.{◌-◌, ◌<◌, ◌≡◌, Bool, true, false, List, reverse, map, All, Some}
 use Rattle.std.specs.List.{Contains}
 use Rattle.ll_laws.specs.declared.Candidate.{Candidate}
 use Rattle.ll_laws.specs.Attempt.{tries}

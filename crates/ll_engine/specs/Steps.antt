@@ -1,5 +1,5 @@
 -- What the public calls of an engine do.
-use Rattle.std.specs.Prelude.{ℕ, suc, ◌+◌, ◌-◌, ◌≡◌, ◌≤◌, false, List, [], ◌∷◌, ◌++◌, drop, length, Option, Some}
+use Rattle.std.specs.Prelude.{suc, ◌+◌, ◌-◌, ◌≡◌, ◌≤◌, false, List, [], ◌∷◌, ◌++◌, drop, length, Some}
 use Rattle.ll_laws.specs.declared.Event.{Event}
 use Rattle.ll_laws.specs.declared.Event.TheVariants.{Answer}
 use Rattle.ll_laws.specs.State.{State}

@@ -9,6 +9,7 @@ mod rows;
 mod seen;
 mod settle;
 mod spine;
+mod start;
 
 pub use engine::{Engine, Step2};
 pub use machine::{Item, Machine};

@@ -1,32 +1,24 @@
-//! What the calls of a machine do to its state: starting, settling, and one inference.
-ghost use Rattle.std.specs.Prelude.{◌≡◌, ◌<◌, ◌++◌, ◌∷◌, ◌-◌, [], false, IfOk, OnOk};
+//! One inference of a machine.
+ghost use Rattle.std.specs.Prelude.{◌≡◌, ◌<◌, ◌^◌, ◌++◌, ◌∷◌, ◌-◌, [], true, false, length, IfOk, OnOk};
 ghost use Rattle.std.specs.List.{Contains};
 ghost use Rattle.ll_agenda.specs.Frames.{HasTop, ShowsItems, items_at};
 ghost use Rattle.ll_laws.specs.Attempt.{tries};
-ghost use Rattle.ll_laws.specs.Valid.{IsValid};
 ghost use Rattle.ll_engine.specs.Shown.{state_of};
 ghost use Rattle.ll_engine.specs.Fits.{Fits, Attempts};
-ghost use Rattle.ll_engine.specs.Calls.{IsStart};
-ghost use Rattle.ll_engine.specs.Rows.{GoesOn};
+ghost use Rattle.ll_engine.specs.Rows.{GoesOn, OpensForall, OpensExists};
+ghost use Rattle.ll_bank.specs.declared.Head.TheVariants.{Eigen};
+ghost use Rattle.ll_bank.specs.Term.{Var as VarTerm, Con};
+ghost use Rattle.ll_bank.specs.Form.{instantiate, form_applies_heads};
+ghost use Rattle.ll_bank.specs.Nodes.{HasForm, form_tree};
 ghost use Rattle.ll_engine.specs.Turned.{is_empty};
 
 use crate::machine::{Item, Machine};
 use ll_agenda::{Agenda, Top};
-use ll_bank::{FormNode, OutOfMemory};
-use ll_laws::{Candidate, Kind, Problem, Step};
+use ll_bank::{FormAt, FormNode, Head, OutOfMemory};
+use ll_laws::{Candidate, Kind, Step};
 use std::alloc::{AllocError, Global};
 
 impl<'p> Machine<'p> {
-    /// The start of a valid problem's search.
-    pub fn start(alloc: Global, problem: &'p Problem) -> Result<Machine<'p>, OutOfMemory>
-        requires valid { IsValid problem.now }
-        ensures { IfOk result (λ m. IsStart problem.entry.now m) }
-    {
-        let _ = alloc;
-        let _ = problem;
-        Err(AllocError)
-    }
-
     /// One inference: the first goal taken apart by one of its candidates; false where this gives nothing.
     pub fn attempt(&mut self, alloc: Global, candidate: Candidate) -> Result<bool, OutOfMemory>
         requires fits { Fits self.old }
@@ -36,8 +28,11 @@ impl<'p> Machine<'p> {
         ensures { IfOk result (λ ok. Attempts self.old candidate self.new ok) }
     {
         let _ = alloc;
-        let Some((Item::Goal(goal), rest)) = self.agenda.item(self.top) else {
-            return Err(AllocError);
+        let Some((item, rest)) = self.agenda.item(self.top) else {
+            unreachable!()
+        };
+        let Item::Goal(goal) = item else {
+            unreachable!()
         };
         match self.bank.form_at(goal) {
             FormNode::One => {
@@ -89,8 +84,49 @@ impl<'p> Machine<'p> {
                 self.go_on(&[Item::Goal(body), Item::ImpEnd], rest, Step::Plain)?;
                 Ok(true)
             }
+            FormNode::Forall(body) => {
+                self.take_forall(body, rest)?;
+                Ok(true)
+            }
+            FormNode::Exists(body) => {
+                self.take_exists(body, rest)?;
+                Ok(true)
+            }
             _ => Err(AllocError),
         }
+    }
+
+    // Puts the body of a `forall` in front of the rest, with the next eigenconstant in place of its bound place.
+    fn take_forall(&mut self, body: FormAt, rest: Top) -> Result<(), OutOfMemory>
+        requires rest { HasTop self.old.agenda rest }
+        requires left { 0 < self.old.left }
+        requires eigens { self.old.eigens < 2 ^ 20 }
+        requires body { HasForm self.old.bank body.0 }
+        requires heads { form_applies_heads (instantiate (form_tree self.old.bank body.0) (Con (Eigen self.old.eigens))) ≡ true }
+        ensures { OnOk result (OpensForall self.old body (items_at self.old.agenda rest) self.new) }
+    {
+        let value = self.bank.app(Head::Eigen(self.eigens), &[])?;
+        let goal = self.bank.instantiate(body, value)?;
+        self.eigens += 1;
+        self.go_on(&[Item::Goal(goal)], rest, Step::Plain)?;
+        Ok(())
+    }
+
+    // Puts the body of an `exists` in front of the rest, with the next variable in place of its bound place.
+    fn take_exists(&mut self, body: FormAt, rest: Top) -> Result<(), OutOfMemory>
+        requires rest { HasTop self.old.agenda rest }
+        requires left { 0 < self.old.left }
+        requires body { HasForm self.old.bank body.0 }
+        requires heads { form_applies_heads (instantiate (form_tree self.old.bank body.0) (VarTerm (length self.old.levels.items))) ≡ true }
+        ensures { OnOk result (OpensExists self.old body (items_at self.old.agenda rest) self.new) }
+    {
+        let value = self.bank.var(self.levels.len() as u64)?;
+        let goal = self.bank.instantiate(body, value)?;
+        self.bound.push(None)?;
+        self.levels.push(self.eigens)?;
+        self.terms.push(value)?;
+        self.go_on(&[Item::Goal(goal)], rest, Step::Plain)?;
+        Ok(())
     }
 
     // Makes the items in front of the rest its agenda, and notes one inference.

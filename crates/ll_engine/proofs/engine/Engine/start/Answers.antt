@@ -1,4 +1,3 @@
-use Rattle.std.proofs.Common.{◌∙◌}
 use Rattle.ll_laws.specs.Problem.{start_of}
 use Rattle.ll_engine.specs.Pointed.{spine_of}
 use Rattle.ll_engine.proofs.Stepping.{healthy_start}

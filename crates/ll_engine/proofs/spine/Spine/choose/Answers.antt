@@ -1,10 +1,9 @@
-use Rattle.std.proofs.Common.{◌++◌, ◌∷◌, [], List, All, sym, subst}
 use Rattle.std.specs.List.{Contains}
 use Rattle.std.proofs.lemmas.List.Elements.{All-pop}
 use Rattle.ll_laws.specs.Attempt.{tries}
 use Rattle.ll_laws.specs.declared.Candidate.{Candidate}
 use Rattle.ll_engine.specs.Shown.{state_of}
-use Rattle.ll_engine.proofs.Pointing.{sound_after, chose_some}
+use Rattle.ll_engine.proofs.Pointing.{sound_after}
 use Rattle.ll_engine.proofs.spine.Spine.choose.Goals as goal
 
 pub returns-in_ok-running-in-Some-clause-sound : goal.returns-in_ok-running-in-Some-clause-sound

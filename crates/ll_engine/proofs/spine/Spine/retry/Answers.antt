@@ -1,7 +1,4 @@
-use Rattle.std.proofs.Common.{List, All}
-use Rattle.std.proofs.lemmas.List.Elements.{All-pop}
-use Rattle.ll_engine.specs.Pointed.{spine_of, IsKept}
-use Rattle.ll_engine.proofs.Pointing.{retries, popped_tries}
+use Rattle.ll_engine.proofs.Pointing.{popped_tries}
 use Rattle.ll_engine.proofs.spine.Spine.retry.Goals as goal
 
 pub choose-requires-clause-tries : goal.choose-requires-clause-tries

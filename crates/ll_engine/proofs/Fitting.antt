@@ -5,8 +5,13 @@ use Rattle.std.specs.Prelude.{Option}
 use Rattle.ll_bank.specs.declared.At.{At}
 use Rattle.ll_bank.specs.declared.BankSize.{BankSize}
 use Rattle.ll_bank.specs.declared.FormAt.{FormAt}
-use Rattle.ll_bank.specs.Nodes.{Nodes, HasForm, term_tree, form_tree, size_of, IsCutTo}
+use Rattle.ll_bank.specs.Nodes.{Nodes, HasForm, term_tree, form_tree, size_of, IsCutTo, Extends}
 use Rattle.ll_bank.specs.Term.{Term}
+use Rattle.std.proofs.lemmas.List.Elements.{All-head, All-tail, All-weaker}
+use Rattle.ll_bank.proofs.Trees.{HasForm-extends, form_tree-extends}
+use Rattle.ll_laws.specs.declared.Clause.{Clause}
+use Rattle.ll_laws.specs.declared.Module.{Module}
+use Rattle.ll_laws.specs.Shown.{clause_tree, module_tree, HasClauses, HasModules}
 use Rattle.ll_laws.specs.Answered.{Answered}
 use Rattle.ll_laws.specs.declared.Step.{Step}
 use Rattle.ll_laws.specs.State.{State}
@@ -79,6 +84,8 @@ fits_kept m n s f h x c d t i g l e =
       clauses = rw s.bank c;
       sorted_clauses = clauses_moved (allowed m) (allowed n) m.bank n.bank n.context.present.entries a (sym s.bank) d;
       sorted_goals = goals_moved (allowed m) (allowed n) m.bank n.bank (items_of n) a (sym s.bank) g;
+      has_modules = rw (s.bank, s.modules) f.has_modules;
+      modules = rw (s.problem, s.bank, s.modules) f.modules;
       top = t;
       items = rw s.bank i;
       labels = l;
@@ -134,3 +141,22 @@ more_kept bank n k (BangEnd a) l h = omega (arith, l, h)
 
 pub one_more : (xs : List Saved) (x : Saved) → length (xs ++ x ∷ []) ≡ suc (length xs)
 one_more xs x = length-append xs (x ∷ []) ∙ omega arith
+
+-- ---- clauses and modules in a bank with more places
+
+pub clauses_later : (old new : Nodes) (cs : List Clause) → Extends old new → HasClauses old cs → map (clause_tree new) cs ≡ map (clause_tree old) cs
+clauses_later old new [] k h = refl
+clauses_later old new (c ∷ cs) k h =
+    let e = form_tree-extends k c.form.0 (All-head (λ (d : Clause). HasForm old d.form.0) c cs h) in
+    λ i. record { kind = c.kind; form = e i } ∷ clauses_later old new cs k (All-tail (λ (d : Clause). HasForm old d.form.0) c cs h) i
+
+pub modules_later : (old new : Nodes) (ms : List Module) → Extends old new → HasModules old ms → map (module_tree new) ms ≡ map (module_tree old) ms
+modules_later old new [] k h = refl
+modules_later old new (m ∷ ms) k h =
+    let e = clauses_later old new m.clauses.items k (All-head (λ (d : Module). HasClauses old d.clauses.items) m ms h) in
+    λ i. record { name = m.name; params = m.params; locals = m.locals; clauses = e i } ∷ modules_later old new ms k (All-tail (λ (d : Module). HasClauses old d.clauses.items) m ms h) i
+
+pub modules_has : (old new : Nodes) (ms : List Module) → Extends old new → HasModules old ms → HasModules new ms
+modules_has old new ms k h =
+    All-weaker (λ (d : Module). HasClauses old d.clauses.items) (λ (d : Module). HasClauses new d.clauses.items)
+    (λ d g. All-weaker (λ (c : Clause). HasForm old c.form.0) (λ (c : Clause). HasForm new c.form.0) (λ c f. HasForm-extends k c.form.0 f) d.clauses.items g) ms h

@@ -15,3 +15,4 @@ mod Settling
 pub mod LaterLemmas
 mod Quantifying
 mod Starting
+mod Loading

@@ -39,7 +39,7 @@ use Rattle.ll_engine.proofs.ReadLemmas.{reading_same, values_extend}
 use Rattle.ll_engine.specs.Turned.{is_empty}
 use Rattle.ll_engine.proofs.LaterLemmas.{form_same}
 use Rattle.ll_engine.proofs.MachineLemmas.{agenda_shown, tries_end}
-use Rattle.ll_engine.proofs.Fitting.{state_by, state_is}
+use Rattle.ll_engine.proofs.Fitting.{state_by, state_is, modules_later, modules_has}
 use Rattle.ll_engine.proofs.Rowing.{attempt_by, rest_items, rest_goals, goal_fits}
 
 -- ---- nothing but a head has arguments in a formula that fits
@@ -251,6 +251,8 @@ opened old new g rest c f fits e1 o reads grows count bound terms variables sort
             rw o.items
             (All-cons R (Goal o.goal) rest (subst (λ (h : Form). IsFormula (allowed new) GoalSide [] h) (sym o.shows.tree) sorted)
             (goals_stay old.bank new.bank (allowed old) (allowed new) o.bank grows k rest xs (rest_goals old g rest fits e1)));
+        has_modules = rw o.modules (modules_has old.bank new.bank old.modules.now o.bank fits.has_modules);
+        modules = rw (o.problem, o.modules) (modules_later old.bank new.bank old.modules.now o.bank fits.has_modules ∙ fits.modules);
         top = o.top;
         items =
             rw (r2, o.items)
@@ -294,46 +296,61 @@ exists_heads m g body rest f e1 e2 =
     fits_apply (with_variable (allowed m)) GoalSide [] (instantiate (form_tree m.bank body.0) (Var (length m.levels.items)))
     (exists_opened (allowed m) (form_tree m.bank body.0) (goal_fits m g rest (Exists (form_tree m.bank body.0)) f e1 e2).1)
 
-pub forall_row : (old new : Machine) (g body : FormAt) (rest : List Item) (c : Candidate) → Fits old → items_of old ≡ Goal g ∷ rest
-    → form_tree old.bank g.0 ≡ Forall (form_tree old.bank body.0) → OpensForall old body rest new → Infers old c new
-forall_row old new g body rest c f e1 e2 w =
-    let o = w.opens in let p = form_tree old.bank body.0 in let x = Con (Eigen old.eigens) in let s = reading old.bank old.bound.items in
-    let may = allowed old in let more = with_eigen may in
-    let reads : (y : ℕ) → reading new.bank new.bound.items y ≡ reading old.bank old.bound.items y =
-    λ y. ap (λ bs. reading new.bank bs y) w.bound ∙ reading_same old.bank new.bank o.bank old.bound.items f.bound y in
-    let n : length new.levels.items ≡ length old.levels.items = ap (λ (ls : List ℕ). length ls) w.levels in
-    let k = w.eigens in let l = o.left in
-    let ms = ap (λ (q : ProblemTree). q.modules) (sym o.problem) in
-    let grows : Grows may (allowed new) = record { modules = ms; variables = omega (arith, n); eigens = omega (arith, k); opens = λ h. h } in
-    let grown : Grows more (allowed new) = record { modules = ms; variables = omega (arith, n); eigens = omega (arith, k); opens = λ h. h } in
-    let sorted =
-    formula-more more (allowed new) GoalSide (instantiate p x) grown
-    (formula_of_fits more GoalSide [] (instantiate p x) (forall_opened may p (goal_fits old g rest (Forall p) f e1 e2))) in
-    let make : Form → List ℕ → ℕ → List Term → Option State = λ h ls e ts. Some (record {
+-- the later state where no variable is new
+abbrev pub still_state : Machine → Form → List Item → ℕ → State
+still_state old h rest e =
+    record {
       agenda = GoalOf h ∷ map (shown_item old.bank old.bound.items old.context.present.kept) rest;
       context = map (shown_entry old.bank old.bound.items) old.context.present.entries;
       flag = old.context.present.flag;
-      levels = ls;
+      levels = old.levels.items;
       eigens = e;
+      terms = map (read_term old.bank old.bound.items) old.terms.items;
+      label = old.context.present.next;
+      steps = old.steps.items ++ Plain ∷ [];
+    }
+
+-- a goal in place of the one in front where no variable is new
+pub still : (old new : Machine) (g : FormAt) (rest : List Item) (c : Candidate) (f : Form) → Fits old → items_of old ≡ Goal g ∷ rest → Opens old f rest new
+    → new.bound.items ≡ old.bound.items → new.levels.items ≡ old.levels.items → new.terms.items ≡ old.terms.items → old.eigens ≤ new.eigens → new.eigens ≤ suc old.eigens
+    → IsFormula (allowed new) GoalSide [] f → attempt (setting old) (state_of old) c ≡ Some (still_state old (sub_form (reading old.bank old.bound.items) f) rest new.eigens) → Infers old c new
+still old new g rest c f fits e1 o wb wl wt low high sorted gives =
+    let reads : (y : ℕ) → reading new.bank new.bound.items y ≡ reading old.bank old.bound.items y =
+    λ y. ap (λ bs. reading new.bank bs y) wb ∙ reading_same old.bank new.bank o.bank old.bound.items fits.bound y in
+    let n : length new.levels.items ≡ length old.levels.items = ap (λ (ls : List ℕ). length ls) wl in let l = o.left in
+    let grows : Grows (allowed old) (allowed new) =
+    record { modules = ap (λ (q : ProblemTree). q.modules) (sym o.problem); variables = omega (arith, n); eigens = low; opens = λ h. h } in
+    let make : List ℕ → List Term → Option State = λ ls ts. Some (record {
+      agenda = GoalOf (sub_form (reading old.bank old.bound.items) f) ∷ map (shown_item old.bank old.bound.items old.context.present.kept) rest;
+      context = map (shown_entry old.bank old.bound.items) old.context.present.entries;
+      flag = old.context.present.flag;
+      levels = ls;
+      eigens = new.eigens;
       terms = ts;
       label = old.context.present.next;
       steps = old.steps.items ++ Plain ∷ [];
     }) in
     let ts : map (read_term new.bank new.bound.items) new.terms.items ≡ map (read_term old.bank old.bound.items) old.terms.items =
-    ap (λ as'. map (read_term new.bank new.bound.items) as') w.terms
-    ∙ terms_stay old.bank new.bank old.bound.items new.bound.items o.bank reads old.terms.items f.terms in
-    let us = map (read_term old.bank old.bound.items) old.terms.items in
-    opened old new g rest c (instantiate p x) f e1 o reads grows
-    (ap (λ (bs : List (Option At)). length bs) w.bound ∙ (f.count ∙ sym n))
-    (rw w.bound (values_extend old.bank new.bank o.bank old.bound.items f.bound))
-    (rw w.terms (AllInTerms-extends o.bank old.terms.items f.terms))
-    (rw (w.terms, w.levels) (term_trees-extends o.bank old.terms.items f.terms ∙ f.variables)) sorted
-    (let b = f.eigens in omega (arith, b, k, l))
+    ap (λ xs. map (read_term new.bank new.bound.items) xs) wt ∙ terms_stay old.bank new.bank old.bound.items new.bound.items o.bank reads old.terms.items fits.terms in
+    opened old new g rest c f fits e1 o reads grows (ap (λ (bs : List (Option At)). length bs) wb ∙ (fits.count ∙ sym n))
+    (rw wb (values_extend old.bank new.bank o.bank old.bound.items fits.bound)) (rw wt (AllInTerms-extends o.bank old.terms.items fits.terms))
+    (rw (wt, wl) (term_trees-extends o.bank old.terms.items fits.terms ∙ fits.variables)) sorted (let b = fits.eigens in omega (arith, b, high, l))
+    (gives ∙ (ap (λ ls. make ls (map (read_term old.bank old.bound.items) old.terms.items)) (sym wl) ∙ ap (λ xs. make new.levels.items xs) (sym ts)))
+
+pub forall_row : (old new : Machine) (g body : FormAt) (rest : List Item) (c : Candidate) → Fits old → items_of old ≡ Goal g ∷ rest
+    → form_tree old.bank g.0 ≡ Forall (form_tree old.bank body.0) → OpensForall old body rest new → Infers old c new
+forall_row old new g body rest c f e1 e2 w =
+    let o = w.opens in let p = form_tree old.bank body.0 in let x = Con (Eigen old.eigens) in let s = reading old.bank old.bound.items in
+    let may = allowed old in let more = with_eigen may in let k = w.eigens in
+    let n : length new.levels.items ≡ length old.levels.items = ap (λ (ls : List ℕ). length ls) w.levels in
+    let grown : Grows more (allowed new) =
+    record { modules = ap (λ (q : ProblemTree). q.modules) (sym o.problem); variables = omega (arith, n); eigens = omega (arith, k); opens = λ h. h } in
+    let sorted =
+    formula-more more (allowed new) GoalSide (instantiate p x) grown
+    (formula_of_fits more GoalSide [] (instantiate p x) (forall_opened may p (goal_fits old g rest (Forall p) f e1 e2))) in
+    still old new g rest c (instantiate p x) f e1 o w.bound w.levels w.terms (omega (arith, k)) (omega (arith, k)) sorted
     (attempt_by old g rest c (Forall p) e1 e2
-    ∙ (ap (λ h. make h old.levels.items (suc old.eigens) us) (sym (sub_instantiate s (closing old f) p x))
-    ∙ (ap (λ ls. make (sub_form s (instantiate p x)) ls (suc old.eigens) us) (sym w.levels)
-    ∙ (ap (λ e. make (sub_form s (instantiate p x)) new.levels.items e us) (sym k)
-    ∙ ap (λ ts. make (sub_form s (instantiate p x)) new.levels.items new.eigens ts) (sym ts)))))
+    ∙ (ap (λ h. Some (still_state old h rest (suc old.eigens))) (sym (sub_instantiate s (closing old f) p x)) ∙ ap (λ e. Some (still_state old (sub_form s (instantiate p x)) rest e)) (sym k)))
 
 look_more : (bs : List (Option At)) (x : ℕ) → slice_index_or (bs ++ None ∷ []) x None ≡ slice_index_or bs x None
 look_more [] zero = refl
@@ -396,12 +413,13 @@ exists_row old new g body rest c f e1 e2 w =
 -- ---- how the goal comes in front
 
 -- the machine that goes on has a place that shows the formula
-pub opens_shown : (old mid new : Machine) → mid.problem.now ≡ old.problem.now → mid.context ≡ old.context → mid.steps.items ≡ old.steps.items → mid.left ≡ old.left
+pub opens_shown : (old mid new : Machine) → mid.problem.now ≡ old.problem.now → mid.modules.now ≡ old.modules.now → mid.context ≡ old.context → mid.steps.items ≡ old.steps.items → mid.left ≡ old.left
     → (goal : FormAt) (f : Form) (rest : List Item) → Extends old.bank mid.bank → ShowsForm mid.bank goal.0 f → GoesOn mid (Goal goal ∷ []) rest Plain new → Opens old f rest new
-opens_shown old mid new p q st l goal f rest k sh go =
+opens_shown old mid new p ms q st l goal f rest k sh go =
     let nb : new.bank ≡ mid.bank = ap (λ (m : Machine). m.bank) go.same in
     record {
       problem = ap (λ (m : Machine). m.problem.now) go.same ∙ p;
+      modules = ap (λ (m : Machine). m.modules.now) go.same ∙ ms;
       context = ap (λ (m : Machine). m.context) go.same ∙ q;
       bank = subst (λ (b : Nodes). Extends old.bank b) (sym nb) k;
       goal = goal;

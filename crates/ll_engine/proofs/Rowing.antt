@@ -32,7 +32,7 @@ use Rattle.ll_engine.proofs.MachineLemmas.{goal_inside}
 use Rattle.ll_engine.proofs.Fitting.{state_by, state_is, fits_kept, more_kept, one_more}
 
 -- a machine with this goal in front
-abbrev at_goal : Machine → FormAt → List Item → State
+abbrev pub at_goal : Machine → FormAt → List Item → State
 at_goal m g rest = state_by m.bank m.bound.items m.context.present (Goal g ∷ rest) m.levels.items m.eigens m.terms.items m.steps.items
 
 pub attempt_by : (old : Machine) (g : FormAt) (rest : List Item) (c : Candidate) (f : Form) → items_of old ≡ Goal g ∷ rest → form_tree old.bank g.0 ≡ f
@@ -57,6 +57,7 @@ row old new h k g rest front step c f fits e1 e2 go e4 e3 clauses items sorted g
     let s : SameTerms old new =
     record {
       problem = ap (λ (m : Machine). m.problem.now) go.same;
+      modules = ap (λ (m : Machine). m.modules.now) go.same;
       bank = ap (λ (m : Machine). m.bank) go.same;
       bound = ap (λ (m : Machine). m.bound.items) go.same;
       levels = ap (λ (m : Machine). m.levels.items) go.same;

@@ -67,7 +67,7 @@ unfolding state_of
 begins o f =
     record {
       reached = record {
-        same = record { problem = refl; bank = refl; bound = refl; levels = refl; terms = refl };
+        same = record { problem = refl; modules = refl; bank = refl; bound = refl; levels = refl; terms = refl };
         eigens = refl;
         left = refl;
         steps = refl;
@@ -141,7 +141,7 @@ off o m h i rest top g e1 e2 e3 e4 t c w =
     let v : All (IsGoalIn (allowed o) o.bank) (i ∷ rest) = subst (λ (xs : List Item). All (IsGoalIn (allowed o) o.bank) xs) e1 y.sorted_goals in
     record {
       reached = record {
-        same = record { problem = y.same.problem; bank = y.same.bank; bound = y.same.bound; levels = y.same.levels; terms = y.same.terms };
+        same = record { problem = y.same.problem; modules = y.same.modules; bank = y.same.bank; bound = y.same.bound; levels = y.same.levels; terms = y.same.terms };
         eigens = y.eigens;
         left = y.left;
         steps = y.steps;
@@ -161,7 +161,7 @@ here o m g =
     let y = g.reached in let a : allowed o ≡ allowed m = sym (same_allowed o m y.same y.eigens) in
     record {
       reached = record {
-        same = record { problem = refl; bank = refl; bound = refl; levels = refl; terms = refl };
+        same = record { problem = refl; modules = refl; bank = refl; bound = refl; levels = refl; terms = refl };
         eigens = refl;
         left = refl;
         steps = refl;
@@ -182,6 +182,7 @@ reach_further o m n g h =
     record {
       same = record {
         problem = h.same.problem ∙ g.same.problem;
+        modules = h.same.modules ∙ g.same.modules;
         bank = h.same.bank ∙ g.same.bank;
         bound = h.same.bound ∙ g.same.bound;
         levels = h.same.levels ∙ g.same.levels;
@@ -467,7 +468,7 @@ middle m h agenda top s before old half g rest go e1 n sm k e e4 t =
     let lk : length z.kept ≡ suc (length r.kept) = ap (λ (x : Resources FormAt). length x.kept) e ∙ one_more r.kept (saved_now r) in
     let hn : half.number ≡ length r.kept = ap (λ (x : Handle). x.number) n in (
       record {
-        same = record { problem = refl; bank = refl; bound = refl; levels = refl; terms = refl };
+        same = record { problem = refl; modules = refl; bank = refl; bound = refl; levels = refl; terms = refl };
         eigens = refl;
         left = refl;
         steps = refl;

@@ -16,7 +16,8 @@ use Rattle.ll_laws.specs.Problem.{ProblemTree, setting_of, start_of}
 use Rattle.ll_laws.specs.Search.{program_entries}
 use Rattle.ll_laws.specs.Settle.{Entry, Goal as GoalOf}
 use Rattle.ll_laws.specs.State.{State}
-use Rattle.ll_laws.specs.Shown.{clause_tree, HasClauses}
+use Rattle.ll_laws.specs.Shown.{clause_tree, module_tree, HasClauses, HasModules}
+use Rattle.ll_laws.specs.declared.Module.{Module}
 use Rattle.ll_laws.specs.Attempt.{is_linear, vars_from}
 use Rattle.ll_laws.specs.Valid.{IsValid, IsFormula, AreClauses, Allowed, GoalSide, ClauseSide, given}
 use Rattle.ll_laws.specs.Consistent.{IsConsistent}
@@ -35,7 +36,7 @@ use Rattle.ll_engine.specs.Shown.{shown_item, shown_entry, items_of, state_of}
 use Rattle.ll_engine.specs.Fits.{HasItem, IsGoalIn, allowed, setting}
 use Rattle.ll_engine.specs.Calls.{IsStart}
 use Rattle.ll_engine.proofs.LaterLemmas.{form_same}
-use Rattle.ll_engine.proofs.Fitting.{state_is}
+use Rattle.ll_engine.proofs.Fitting.{state_is, clauses_later, modules_later, modules_has}
 use Rattle.ll_engine.proofs.Quantifying.{vars_more, trees_read}
 
 -- clauses as a context takes them
@@ -124,8 +125,9 @@ clauses_sorted names ms bank more (c ∷ cs) g h =
 pub starts : (p : ProblemTree) (m : Machine) (goal : FormAt) (cs : List Clause) (n : ℕ) → IsValid p → m.problem.now ≡ p → form_tree m.bank goal.0 ≡ p.goal → HasForm m.bank goal.0
     → map (clause_tree m.bank) cs ≡ p.clauses → HasClauses m.bank cs → n ≡ length p.asked → m.bound.items ≡ replicate n None → m.levels.items ≡ replicate n 0
     → m.context ≡ begun (started (pairs cs)) → ShowsItems m.agenda m.top (Goal goal ∷ []) → m.left ≡ p.bound → m.eigens ≡ 0
-    → AllInTerms m.bank m.terms.items → term_trees m.bank m.terms.items ≡ vars_from 0 n → m.steps.items ≡ [] → IsStart p m
-starts p m goal cs n v ep eg hg ec hc en eb el ex it left eigens inside vars es =
+    → AllInTerms m.bank m.terms.items → term_trees m.bank m.terms.items ≡ vars_from 0 n → m.steps.items ≡ []
+    → HasModules m.bank m.modules.now → map (module_tree m.bank) m.modules.now ≡ p.modules → IsStart p m
+starts p m goal cs n v ep eg hg ec hc en eb el ex it left eigens inside vars es hm em =
     let bank = m.bank in let bound = m.bound.items in let xs : List (Kind × FormAt) = pairs cs in
     let r : m.context.present ≡ started xs = ap (λ (h : History FormAt). h.present) ex in
     let reads : (x : ℕ) → reading bank bound x ≡ Var x = λ x. ap (λ bs. reading bank bs x) eb ∙ ap (λ o. shown bank x o) (look_none n x) in
@@ -181,6 +183,8 @@ starts p m goal cs n v ep eg hg ec hc en eb el ex it left eigens inside vars es 
         sorted_goals =
             rw it.list
             (All-cons (IsGoalIn (allowed m) bank) (Goal goal) [] (subst (λ (k : Allowed). IsFormula k GoalSide [] (form_tree bank goal.0)) a gl) (All-nil (IsGoalIn (allowed m) bank)));
+        has_modules = hm;
+        modules = em ∙ ap (λ (q : ProblemTree). q.modules) (sym ep);
         top = it.inside;
         items = rw it.list (All-cons (HasItem bank (length m.context.present.kept)) (Goal goal) [] hg (All-nil (HasItem bank (length m.context.present.kept))));
         labels = let c : length p.clauses ≤ 16777216 = v.clause_count in let b = v.bound in omega (arith, label, left, c, b);
@@ -190,16 +194,12 @@ starts p m goal cs n v ep eg hg ec hc en eb el ex it left eigens inside vars es 
 
 -- ---- a bank with more places
 
-clauses_later : (old new : Nodes) (cs : List Clause) → Extends old new → HasClauses old cs → map (clause_tree new) cs ≡ map (clause_tree old) cs
-clauses_later old new [] k h = refl
-clauses_later old new (c ∷ cs) k h =
-    let e = form_tree-extends k c.form.0 (All-head (λ (d : Clause). HasForm old d.form.0) c cs h) in
-    λ i. record { kind = c.kind; form = e i } ∷ clauses_later old new cs k (All-tail (λ (d : Clause). HasForm old d.form.0) c cs h) i
-
 pub starts_in : (p : ProblemTree) (b : Nodes) (m : Machine) (goal : FormAt) (cs : List Clause) (n : ℕ) → IsValid p → m.problem.now ≡ p → Extends b m.bank → form_tree b goal.0 ≡ p.goal
     → HasForm b goal.0 → map (clause_tree b) cs ≡ p.clauses → HasClauses b cs → n ≡ length p.asked → m.bound.items ≡ replicate n None → m.levels.items ≡ replicate n 0
     → m.context ≡ begun (started (pairs cs)) → ShowsItems m.agenda m.top (Goal goal ∷ []) → m.left ≡ p.bound → m.eigens ≡ 0
-    → AllInTerms m.bank m.terms.items → term_trees m.bank m.terms.items ≡ vars_from 0 n → m.steps.items ≡ [] → IsStart p m
-starts_in p b m goal cs n v ep k eg hg ec hc en eb el ex it left eigens inside vars es =
+    → AllInTerms m.bank m.terms.items → term_trees m.bank m.terms.items ≡ vars_from 0 n → m.steps.items ≡ []
+    → (ms : List Module) → m.modules.now ≡ ms → HasModules b ms → map (module_tree b) ms ≡ p.modules → IsStart p m
+starts_in p b m goal cs n v ep k eg hg ec hc en eb el ex it left eigens inside vars es ms sm hm em =
     starts p m goal cs n v ep (form_tree-extends k goal.0 hg ∙ eg) (HasForm-extends k goal.0 hg) (clauses_later b m.bank cs k hc ∙ ec)
     (All-weaker (λ (c : Clause). HasForm b c.form.0) (λ (c : Clause). HasForm m.bank c.form.0) (λ c h. HasForm-extends k c.form.0 h) cs hc) en eb el ex it left eigens inside vars es
+    (rw sm (modules_has b m.bank ms k hm)) (ap (λ ds. map (module_tree m.bank) ds) sm ∙ (modules_later b m.bank ms k hm ∙ em))

@@ -1,9 +1,10 @@
 -- What a machine keeps true.
-use Rattle.std.specs.Prelude.{◌≡◌, ℕ, suc, ◌+◌, ◌≤◌, ◌<◌, ◌^◌, Bool, true, false, [], length, All, Some, None}
+use Rattle.std.specs.Prelude.{◌≡◌, ℕ, suc, ◌+◌, ◌≤◌, ◌<◌, ◌^◌, Bool, true, false, [], length, map, All, Some, None}
 use Rattle.ll_bank.specs.Nodes.{Nodes, HasForm, AllInTerms, term_trees, form_tree}
 use Rattle.ll_laws.specs.declared.Candidate.{Candidate}
 use Rattle.ll_laws.specs.Problem.{setting_of}
 use Rattle.ll_laws.specs.Module.{Setting}
+use Rattle.ll_laws.specs.Shown.{module_tree, HasModules}
 use Rattle.ll_laws.specs.Attempt.{attempt, vars_from}
 use Rattle.ll_laws.specs.Valid.{IsValid, Allowed, IsFormula, GoalSide, ClauseSide}
 use Rattle.ll_laws.specs.Consistent.{IsConsistent}
@@ -55,6 +56,9 @@ pub record Fits (m : Machine) : Type 0 where
   -- clauses and goals are well sorted as they stand, whatever stands for their variables
   pub sorted_clauses : All (λ e. IsFormula (allowed m) ClauseSide [] (form_tree m.bank e.clause.0)) m.context.present.entries
   pub sorted_goals : All (IsGoalIn (allowed m) m.bank) (items_of m)
+  -- the modules are those of the problem, in the machine's bank
+  pub has_modules : HasModules m.bank m.modules.now
+  pub modules : map (module_tree m.bank) m.modules.now ≡ m.problem.now.modules
   pub top : HasTop m.agenda m.top
   pub items : All (HasItem m.bank (length m.context.present.kept)) (items_of m)
   -- numbers stay small: there are no more inferences to come than `left`

@@ -37,6 +37,7 @@ EndsFit bank bound r xs = ends_fit (map (shown_item bank bound r.kept) xs) (map 
 -- the later machine has the problem and the terms of the earlier one
 pub record SameTerms (old new : Machine) : Type 0 where
   pub problem : new.problem.now ≡ old.problem.now
+  pub modules : new.modules.now ≡ old.modules.now
   pub bank : new.bank ≡ old.bank
   pub bound : new.bound.items ≡ old.bound.items
   pub levels : new.levels.items ≡ old.levels.items

@@ -5,7 +5,10 @@ use Rattle.ll_bank.specs.declared.FormAt.{FormAt}
 use Rattle.ll_bank.specs.declared.Head.TheVariants.{Eigen}
 use Rattle.ll_bank.specs.Term.{Var, Con}
 use Rattle.ll_bank.specs.Form.{Form, instantiate}
-use Rattle.ll_bank.specs.Nodes.{form_tree, ShowsTerm, ShowsForm, Extends}
+use Rattle.ll_bank.specs.Nodes.{term_trees, form_tree, ShowsTerm, ShowsForm, Extends}
+use Rattle.ll_laws.specs.declared.Module.{Module}
+use Rattle.ll_laws.specs.Module.{unfold_load}
+use Rattle.ll_laws.specs.Shown.{module_tree}
 use Rattle.ll_agenda.specs.Frames.{HasTop}
 use Rattle.ll_laws.specs.declared.Step.{Step}
 use Rattle.ll_laws.specs.declared.Step.TheVariants.{Plain}
@@ -26,6 +29,7 @@ pub record GoesOn (old : Machine) (front rest : List Item) (step : Step) (new : 
 -- bank has more places
 pub record Opens (old : Machine) (f : Form) (rest : List Item) (new : Machine) : Type 0 where
   pub problem : new.problem.now ≡ old.problem.now
+  pub modules : new.modules.now ≡ old.modules.now
   pub context : new.context ≡ old.context
   pub bank : Extends old.bank new.bank
   pub goal : FormAt
@@ -51,4 +55,12 @@ pub record OpensExists (old : Machine) (body : FormAt) (rest : List Item) (new :
   pub value : At
   pub shows : ShowsTerm new.bank value.0 (Var (length old.levels.items))
   pub terms : new.terms.items ≡ old.terms.items ++ value ∷ []
+  pub eigens : new.eigens ≡ old.eigens
+
+-- the goal that a load of this module with these arguments stands for is the goal in front
+pub record Loads (old : Machine) (d : Module) (args : List At) (body : FormAt) (rest : List Item) (new : Machine) : Type 0 where
+  pub opens : Opens old (unfold_load (module_tree old.bank d) (term_trees old.bank args) (form_tree old.bank body.0)) rest new
+  pub bound : new.bound.items ≡ old.bound.items
+  pub levels : new.levels.items ≡ old.levels.items
+  pub terms : new.terms.items ≡ old.terms.items
   pub eigens : new.eigens ≡ old.eigens

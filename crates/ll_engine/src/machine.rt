@@ -7,7 +7,7 @@ ghost use Rattle.ll_engine.specs.Fits.{Fits};
 use crate::candidates::goal_candidates;
 use ll_agenda::{Agenda, Top};
 use ll_bank::{At, Bank, FormAt, OutOfMemory};
-use ll_laws::{Candidate, Problem, Step};
+use ll_laws::{Candidate, Module, Problem, Step};
 use ll_resources::{Context, Saved};
 use std::alloc::Global;
 
@@ -35,6 +35,8 @@ pub enum Item {
 #[derive(Drop)]
 pub struct Machine<'p> {
     pub problem: &'p Problem,
+    /// The problem's modules, whose clauses are places of the machine's bank too.
+    pub modules: &'p [Module],
     pub bank: Bank,
     /// For each variable the place of what stands for it, with all bindings applied; none where it stands for itself.
     pub bound: Vec<Option<At>>,

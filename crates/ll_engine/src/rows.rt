@@ -5,17 +5,20 @@ ghost use Rattle.ll_agenda.specs.Frames.{HasTop, ShowsItems, items_at};
 ghost use Rattle.ll_laws.specs.Attempt.{tries};
 ghost use Rattle.ll_engine.specs.Shown.{state_of};
 ghost use Rattle.ll_engine.specs.Fits.{Fits, Attempts};
-ghost use Rattle.ll_engine.specs.Rows.{GoesOn, OpensForall, OpensExists};
+ghost use Rattle.ll_engine.specs.Rows.{GoesOn, OpensForall, OpensExists, Loads};
+ghost use Rattle.ll_laws.specs.Shown.{HasClauses};
+ghost use Rattle.ll_modules.specs.Loads.{AreClosed, MayLoad};
 ghost use Rattle.ll_bank.specs.declared.Head.TheVariants.{Eigen};
 ghost use Rattle.ll_bank.specs.Term.{Var as VarTerm, Con};
 ghost use Rattle.ll_bank.specs.Form.{instantiate, form_applies_heads};
-ghost use Rattle.ll_bank.specs.Nodes.{HasForm, form_tree};
+ghost use Rattle.ll_bank.specs.Nodes.{AllInTerms, HasForm, form_tree, term_trees};
 ghost use Rattle.ll_engine.specs.Turned.{is_empty};
 
 use crate::machine::{Item, Machine};
 use ll_agenda::{Agenda, Top};
-use ll_bank::{FormAt, FormNode, Head, OutOfMemory};
-use ll_laws::{Candidate, Kind, Step};
+use ll_bank::{At, FormAt, FormNode, Head, OutOfMemory};
+use ll_laws::{Candidate, Kind, Module, Step};
+use ll_modules::unfold;
 use std::alloc::{AllocError, Global};
 
 impl<'p> Machine<'p> {
@@ -27,7 +30,6 @@ impl<'p> Machine<'p> {
         requires candidate { Contains (tries (state_of self.old)) candidate }
         ensures { IfOk result (λ ok. Attempts self.old candidate self.new ok) }
     {
-        let _ = alloc;
         let Some((item, rest)) = self.agenda.item(self.top) else {
             unreachable!()
         };
@@ -92,7 +94,13 @@ impl<'p> Machine<'p> {
                 self.take_exists(body, rest)?;
                 Ok(true)
             }
-            _ => Err(AllocError),
+            FormNode::Use(number, args, body) => {
+                let args = Vec::from_slice(alloc, args)?;
+                let modules = self.modules;
+                self.take_load(&modules[number as usize], &args, body, rest)?;
+                Ok(true)
+            }
+            FormNode::Atom(_) => Err(AllocError),
         }
     }
 
@@ -125,6 +133,29 @@ impl<'p> Machine<'p> {
         self.bound.push(None)?;
         self.levels.push(self.eigens)?;
         self.terms.push(value)?;
+        self.go_on(&[Item::Goal(goal)], rest, Step::Plain)?;
+        Ok(())
+    }
+
+    // Puts the goal that a load of a module with these arguments stands for in front of the rest.
+    fn take_load(
+        &mut self,
+        module: &Module,
+        args: &[At],
+        body: FormAt,
+        rest: Top,
+    ) -> Result<(), OutOfMemory>
+        requires rest { HasTop self.old.agenda rest }
+        requires left { 0 < self.old.left }
+        requires args { AllInTerms self.old.bank args.now }
+        requires body { HasForm self.old.bank body.0 }
+        requires count { length args.now ≡ «module».now.params }
+        requires closed { AreClosed (term_trees self.old.bank args.now) }
+        requires clauses { HasClauses self.old.bank «module».now.clauses.items }
+        requires heads { MayLoad self.old.bank «module».now.clauses.items (term_trees self.old.bank args.now) }
+        ensures { OnOk result (Loads self.old «module».now args.now body (items_at self.old.agenda rest) self.new) }
+    {
+        let goal = unfold(&mut self.bank, module, args, body)?;
         self.go_on(&[Item::Goal(goal)], rest, Step::Plain)?;
         Ok(())
     }

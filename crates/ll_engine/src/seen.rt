@@ -63,6 +63,7 @@ impl<'p> Machine<'p> {
         let steps = copy_of(&self.steps)?;
         Ok(Machine {
             problem: self.problem,
+            modules: self.modules,
             bank,
             bound,
             levels,

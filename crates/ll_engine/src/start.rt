@@ -28,6 +28,7 @@ impl<'p> Machine<'p> {
         let top = agenda.push(Item::Goal(problem.goal), Agenda::<Item>::none())?;
         Ok(Machine {
             problem,
+            modules: &problem.modules,
             bank,
             bound: vec![in alloc; None; count]?,
             levels: vec![in alloc; 0; count]?,

@@ -1,7 +1,10 @@
-use Rattle.std.proofs.Common.{rules, refl, ap, ◌∙◌, ◌∷◌}
+use Rattle.std.proofs.Common.{rules, refl, ap, sym, ◌≡◌, ◌∙◌, ◌∷◌}
 use Rattle.ll_agenda.specs.Frames.{items_at}
 use Rattle.ll_engine.proofs.Rowing.{one, top, tensor, left, right, implies, linear, both, bang}
 use Rattle.ll_engine.proofs.Quantifying.{forall_heads, exists_heads, forall_row, exists_row, not_empty, no_candidate}
+use Rattle.ll_bank.specs.Form.{Use}
+use Rattle.ll_bank.specs.Nodes.{term_trees, form_tree}
+use Rattle.ll_engine.proofs.Loading.{use_count, use_closed, use_clauses, use_heads, use_row}
 use Rattle.ll_engine.proofs.machine.Machine.attempt.Goals as goal
 
 pub returns-in_ok-go_on-in-One : goal.returns-in_ok-go_on-in-One
@@ -77,3 +80,38 @@ returns-in_ok-take_exists-in-Exists c =
     let m = c.args.self.now in
     exists_row m c.take_exists.new.self c.in-Goal.goal c.in-Exists.body (items_at m.agenda c.in-Some.rest) c.args.candidate c.requires.fits (c.in-Some.ensures.some.list ∙ ap (λ x. x ∷ items_at m.agenda c.in-Some.rest) c.in-Goal.is)
     c.in-Exists.ensures.shown.tree c.in_ok-take_exists-in-Exists.ensures
+
+pub take_load-requires-clause-count : goal.take_load-requires-clause-count
+take_load-requires-clause-count c =
+    let m = c.args.self.now in let u = c.in-Use in let rest = items_at m.agenda c.in-Some.rest in
+    let q : u.args.now ≡ c.deref.result.now = sym (c.deref.ensures.value ∙ c.in_ok-args-in-Use.ensures.items) in
+    use_count m c.in-Goal.goal u.body u.number c.deref.result.now rest c.requires.fits (c.in-Some.ensures.some.list ∙ ap (λ x. x ∷ rest) c.in-Goal.is)
+    (u.ensures.shown.tree ∙ ap (λ xs. Use u.number (term_trees m.bank xs) (form_tree m.bank u.body.0)) q) c.index-modules-number.result c.index-modules-number.is
+
+pub take_load-requires-clause-closed : goal.take_load-requires-clause-closed
+take_load-requires-clause-closed c =
+    let m = c.args.self.now in let u = c.in-Use in let rest = items_at m.agenda c.in-Some.rest in
+    let q : u.args.now ≡ c.deref.result.now = sym (c.deref.ensures.value ∙ c.in_ok-args-in-Use.ensures.items) in
+    use_closed m c.in-Goal.goal u.body u.number c.deref.result.now rest c.requires.fits (c.in-Some.ensures.some.list ∙ ap (λ x. x ∷ rest) c.in-Goal.is)
+    (u.ensures.shown.tree ∙ ap (λ xs. Use u.number (term_trees m.bank xs) (form_tree m.bank u.body.0)) q) c.index-modules-number.result c.index-modules-number.is
+
+pub take_load-requires-clause-clauses : goal.take_load-requires-clause-clauses
+take_load-requires-clause-clauses c =
+    let m = c.args.self.now in let u = c.in-Use in let rest = items_at m.agenda c.in-Some.rest in
+    let q : u.args.now ≡ c.deref.result.now = sym (c.deref.ensures.value ∙ c.in_ok-args-in-Use.ensures.items) in
+    use_clauses m c.in-Goal.goal u.body u.number c.deref.result.now rest c.requires.fits (c.in-Some.ensures.some.list ∙ ap (λ x. x ∷ rest) c.in-Goal.is)
+    (u.ensures.shown.tree ∙ ap (λ xs. Use u.number (term_trees m.bank xs) (form_tree m.bank u.body.0)) q) c.index-modules-number.result c.index-modules-number.is
+
+pub take_load-requires-clause-heads : goal.take_load-requires-clause-heads
+take_load-requires-clause-heads c =
+    let m = c.args.self.now in let u = c.in-Use in let rest = items_at m.agenda c.in-Some.rest in
+    let q : u.args.now ≡ c.deref.result.now = sym (c.deref.ensures.value ∙ c.in_ok-args-in-Use.ensures.items) in
+    use_heads m c.in-Goal.goal u.body u.number c.deref.result.now rest c.requires.fits (c.in-Some.ensures.some.list ∙ ap (λ x. x ∷ rest) c.in-Goal.is)
+    (u.ensures.shown.tree ∙ ap (λ xs. Use u.number (term_trees m.bank xs) (form_tree m.bank u.body.0)) q) c.index-modules-number.result c.index-modules-number.is
+
+pub returns-in_ok-take_load-in-Use : goal.returns-in_ok-take_load-in-Use
+returns-in_ok-take_load-in-Use c =
+    let m = c.args.self.now in let u = c.in-Use in let rest = items_at m.agenda c.in-Some.rest in
+    let q : u.args.now ≡ c.deref.result.now = sym (c.deref.ensures.value ∙ c.in_ok-args-in-Use.ensures.items) in
+    use_row m c.in-Goal.goal u.body u.number c.deref.result.now rest c.requires.fits (c.in-Some.ensures.some.list ∙ ap (λ x. x ∷ rest) c.in-Goal.is)
+    (u.ensures.shown.tree ∙ ap (λ xs. Use u.number (term_trees m.bank xs) (form_tree m.bank u.body.0)) q) c.index-modules-number.result c.index-modules-number.is c.take_load.new.self c.args.candidate c.in_ok-take_load-in-Use.ensures

@@ -9,6 +9,7 @@ returns c =
     let n : Machine =
     record {
       problem = m.problem;
+      modules = m.modules;
       bank = c.in_ok-bank.bank;
       bound = c.in_ok-bound.bound;
       levels = c.in_ok-levels.levels;
@@ -23,6 +24,7 @@ returns c =
     image_of m n
     (record {
       problem = refl;
+      modules = refl;
       bank = cut_same m.bank c.in_ok-bank.bank c.size-size.result c.size-size.ensures.is c.in_ok-bank.ensures;
       bound = c.in_ok-bound.ensures;
       levels = c.in_ok-levels.ensures;

@@ -17,6 +17,7 @@ returns c =
     let m : Machine =
     record {
       problem = c.args.problem;
+      modules = c.deref-3.result;
       bank = bank;
       bound = c.in_ok-vec.field-0;
       levels = c.in_ok-vec-2.field-0;
@@ -39,4 +40,4 @@ returns c =
     ∙ ap (λ xs. begun (started xs)) (c.deref-2.ensures.value ∙ (c.in_ok-clauses.ensures ∙ ap (λ (cs : List Clause). map (λ (k : Clause). (k.kind, k.form)) cs) c.deref.ensures.value)))
     (record { inside = top.inside; list = top.list ∙ ap (λ xs. Goal i.goal ∷ xs) (c.none.ensures c.new-agenda.result).list }) (ap (λ (p : ProblemTree). p.bound) c.problem.view_is) refl
     (subst (λ (b : Nodes). AllInTerms b c.in_ok-terms.terms.items) e1 c.in_ok-terms.ensures.inside)
-    (subst (λ (b : Nodes). term_trees b c.in_ok-terms.terms.items ≡ vars_from 0 n) e1 c.in_ok-terms.ensures.shows) c.new.ensures.items
+    (subst (λ (b : Nodes). term_trees b c.in_ok-terms.terms.items ≡ vars_from 0 n) e1 c.in_ok-terms.ensures.shows) c.new.ensures.items i.modules.items c.deref-3.ensures.value c.problem.invariant.0 (ap (λ (p : ProblemTree). p.modules) c.problem.view_is)

@@ -18,7 +18,7 @@ returns c =
     subst (λ (k : ℕ). ShowsTerm c.var.new.self c.in_ok-value.value.0 (Var k)) e c.in_ok-value.ensures.shows in
     record {
       opens =
-          opens_shown m mid new refl refl refl refl c.in_ok-goal.goal (instantiate (form_tree m.bank c.args.body.0) (Var n)) (items_at m.agenda c.args.rest)
+          opens_shown m mid new refl refl refl refl refl c.in_ok-goal.goal (instantiate (form_tree m.bank c.args.body.0) (Var n)) (items_at m.agenda c.args.rest)
           (Extends-trans c.in_ok-value.ensures.keeps c.in_ok-goal.ensures.keeps)
           (body_shown m.bank c.var.new.self c.instantiate.new.self c.args.body.0 c.in_ok-goal.goal.0 c.in_ok-value.value.0 (Var n) c.in_ok-value.ensures.keeps c.requires.body v
           c.in_ok-goal.ensures.shows) go;

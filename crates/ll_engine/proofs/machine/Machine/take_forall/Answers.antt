@@ -16,7 +16,7 @@ returns c =
     let go = c.in_ok-go_on.ensures in
     record {
       opens =
-          opens_shown m mid new refl refl refl refl c.in_ok-goal.goal (instantiate (form_tree m.bank c.args.body.0) (Con (Eigen e))) (items_at m.agenda c.args.rest)
+          opens_shown m mid new refl refl refl refl refl c.in_ok-goal.goal (instantiate (form_tree m.bank c.args.body.0) (Con (Eigen e))) (items_at m.agenda c.args.rest)
           (Extends-trans c.in_ok-value.ensures.keeps c.in_ok-goal.ensures.keeps)
           (body_shown m.bank c.app.new.self c.instantiate.new.self c.args.body.0 c.in_ok-goal.goal.0 c.in_ok-value.value.0 (Con (Eigen e)) c.in_ok-value.ensures.keeps c.requires.body
           c.in_ok-value.ensures.shows c.in_ok-goal.ensures.shows) go;

@@ -1,4 +1,9 @@
 pub mod ReadLemmas
+pub mod ReboundLemmas
 pub mod CandidateLemmas
 pub mod LeafLemmas
+pub mod OpeningLemmas
+pub mod LaterLemmas
+pub mod TakeLemmas
+pub mod StepLemmas
 pub mod MachineLemmas

@@ -4,5 +4,6 @@
 mod candidates;
 mod machine;
 mod read;
+mod take;
 
 pub use machine::{Item, Machine};

@@ -3,7 +3,6 @@
 
 mod candidates;
 mod machine;
-mod open;
 mod read;
 mod take;
 

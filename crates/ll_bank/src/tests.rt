@@ -1,5 +1,5 @@
 //! Each public call once, with ample memory.
-ghost use Rattle.std.specs.Prelude.{◌≡◌, ◌≤◌, length, IfOk};
+ghost use Rattle.std.specs.Prelude.{◌≡◌, ◌≤◌, length, IfOk, IfSome};
 ghost use Rattle.ll_bank.specs.Nodes.{HasForm, HasTerm, HasParts, HasSize, Extends, size_of};
 
 use crate::{At, Bank, BankSize, BankTail, FormAt, FormNode, Head, Names, OutOfMemory, TermView};
@@ -92,6 +92,54 @@ fn compares_what_is_shared_once(rt: HostRuntime) -> Result<(), Fail> {
     let deep = doubled(&mut bank, 60)?;
     let same = doubled(&mut other, 60)?;
     assert!(rt; bank.equal(deep, &other, same)?);
+    Ok(())
+}
+
+// A body whose bound place stands inside so many quantifiers, each over a formula twice.
+fn nested(bank: &mut Bank, levels: u32) -> Result<FormAt, OutOfMemory>
+    ensures { IfOk result (λ at. HasForm bank.new at.0) }
+{
+    let bound = bank.app(Head::Bound(levels), &[])?;
+    let mut at = bank.form(FormNode::Atom(bound))?;
+    for _ in 0..levels {
+        let twice = bank.form(FormNode::With(at, at))?;
+        at = bank.form(FormNode::Forall(twice))?;
+    }
+    Ok(at)
+}
+
+// The left side of `&`, or what stands under a quantifier.
+fn left_of(bank: &Bank, at: FormAt) -> Option<FormAt>
+    requires { HasForm bank.now at.0 }
+    ensures { IfSome result (λ left. HasForm bank.now left.0) }
+{
+    match bank.form_at(at) {
+        FormNode::With(left, _) => Some(left),
+        FormNode::Forall(left) => Some(left),
+        _ => None,
+    }
+}
+
+// The formula that is so far to the left, or further in, of a formula.
+fn leftmost(bank: &Bank, form: FormAt, steps: u32) -> FormAt
+    requires { HasForm bank.now form.0 }
+    ensures { HasForm bank.now result.0 }
+{
+    let mut at = form;
+    for _ in 0..steps {
+        at = left_of(bank, at).unwrap_or(at);
+    }
+    at
+}
+
+#[test]
+fn opens_what_is_shared_once(rt: HostRuntime) -> Result<(), Fail> {
+    let mut bank = Bank::new(rt.alloc());
+    let body = nested(&mut bank, 60)?;
+    let value = bank.app(Head::Eigen(4), &[])?;
+    let opened = bank.instantiate(body, value)?;
+    let atom = leftmost(&bank, opened, 120);
+    assert_eq!(rt; bank.form_at(atom), FormNode::Atom(value));
     Ok(())
 }
 

@@ -147,22 +147,22 @@ levels-fall e (l ∷ ls) (k ∷ ks) n f h =
 -- ---- new variables
 
 -- a state's levels with those of n new variables
-abbrev levels_with : State → ℕ → List ℕ
+abbrev pub levels_with : State → ℕ → List ℕ
 levels_with s n = s.levels ++ replicate n s.eigens
 
-abbrev allowed_with : Setting → State → ℕ → Allowed
+abbrev pub allowed_with : Setting → State → ℕ → Allowed
 allowed_with m s n = record { modules = m.modules; variables = length (levels_with s n); eigens = s.eigens; opens = true }
 
-count_with : (s : State) (n : ℕ) → length (levels_with s n) ≡ length s.levels + n
+pub count_with : (s : State) (n : ℕ) → length (levels_with s n) ≡ length s.levels + n
 count_with s n = length-append s.levels (replicate n s.eigens) ∙ ap (λ k. length s.levels + k) (length-replicate n s.eigens)
 
-grows_with : (m : Setting) (s : State) (n : ℕ) → Grows (allowed_in m s) (allowed_with m s n)
+pub grows_with : (m : Setting) (s : State) (n : ℕ) → Grows (allowed_in m s) (allowed_with m s n)
 grows_with m s n = let c = count_with s n in record { modules = refl; variables = omega arith; eigens = omega arith; opens = λ h. h }
 
-vars_with : (m : Setting) (s : State) (n : ℕ) → list_all (is_made (length (levels_with s n)) s.eigens) (vars_from (length s.levels) n) ≡ true
+pub vars_with : (m : Setting) (s : State) (n : ℕ) → list_all (is_made (length (levels_with s n)) s.eigens) (vars_from (length s.levels) n) ≡ true
 vars_with m s n = let c = count_with s n in vars-made (length (levels_with s n)) s.eigens (length s.levels) n (omega arith)
 
-all_fit_of_made : (may : Allowed) (ts : List Term) → list_all (is_made may.variables may.eigens) ts ≡ true → AllFit may [] ts
+pub all_fit_of_made : (may : Allowed) (ts : List Term) → list_all (is_made may.variables may.eigens) ts ≡ true → AllFit may [] ts
 all_fit_of_made may [] h = tt
 all_fit_of_made may (t ∷ ts) h = (
   fit_of_made may t (and_left (is_made may.variables may.eigens t) (list_all (is_made may.variables may.eigens) ts) h),
@@ -197,7 +197,7 @@ premises-ends : (ps : List Premise) (rest : List (Item Form)) (es : List (Entry 
 premises-ends [] rest es h = h
 premises-ends (q ∷ ps) rest es h = premises-ends ps rest es h
 
-entry-formula : (may : Allowed) (es : List (Entry Form)) (label : ℕ) (e : Entry Form) → AreResources may es → entry_at es label ≡ Some e → IsFormula may ClauseSide [] e.clause
+pub entry-formula : (may : Allowed) (es : List (Entry Form)) (label : ℕ) (e : Entry Form) → AreResources may es → entry_at es label ≡ Some e → IsFormula may ClauseSide [] e.clause
 entry-formula may [] label e r h = cc
 entry-formula may (d ∷ es) label e r h = step (nat_eq d.label label) (entry-formula may es label e r.1) h
   where
@@ -286,7 +286,7 @@ clauses-fit names ms may scope (c ∷ cs) g h = (
   clauses-fit names ms may scope cs g h.2,
 )
 
-module-fits : (names : ℕ) (modules ms : List ModuleTree) (may : Allowed) (n : ℕ) (d : ModuleTree) → Grows (given modules 0) may → AreModules names modules ms → slice_get ms n ≡ Some d
+pub module-fits : (names : ℕ) (modules ms : List ModuleTree) (may : Allowed) (n : ℕ) (d : ModuleTree) → Grows (given modules 0) may → AreModules names modules ms → slice_get ms n ≡ Some d
     → ClausesFit may (module_scope d) d.clauses
 module-fits names modules [] may n d g h q = cc
 module-fits names modules (x ∷ ms) may zero d g h q = let e : x ≡ d = cc in subst (λ z. ClausesFit may (module_scope z) z.clauses) e (clauses-fit names modules may (module_scope x) x.clauses g h.0)

@@ -17,3 +17,16 @@ pub mod DeriveLaw
 pub mod FaultLaw
 pub mod Lines
 pub mod CheckerRows
+pub mod Dealing
+pub mod Leftovers
+pub mod RunTrees
+pub mod Reordered
+pub mod RunsShown
+pub mod Grounding
+pub mod Projected
+pub mod AnswerRuns
+pub mod AnswerSteps
+pub mod AnswersShown
+pub mod DealtWhole
+pub mod DealtShown
+pub mod DealtRows

@@ -14,7 +14,7 @@ use Rattle.ll_laws.proofs.DeriveLaw.{derive}
 use Rattle.ll_laws.proofs.FaultLaw.{yes_shows, shows_yes}
 
 -- the nodes of all trees
-abbrev total : List Tree → ℕ
+abbrev pub total : List Tree → ℕ
 total [] = 0
 total (x ∷ xs) = nodes x + total xs
 
@@ -67,7 +67,7 @@ put-count (ClauseLine n k vs ps) ts us h = step (cut_parts ps ts) (cut-count ps 
 put-count _ ts us h = cc
 
 -- a derivation has as many nodes as its trees
-trees-count : (ns : List Line) (ts : List Tree) → trees_of ns ≡ Some ts → total ts ≡ length ns
+pub trees-count : (ns : List Line) (ts : List Tree) → trees_of ns ≡ Some ts → total ts ≡ length ns
 trees-count [] ts h = let e : [] ≡ ts = cc in subst (λ v. total v ≡ 0) e refl
 trees-count (n ∷ ns) ts h = step (trees_of ns) (trees-count ns) h
   where

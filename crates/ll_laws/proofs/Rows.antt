@@ -14,6 +14,8 @@ use Rattle.ll_laws.specs.Attempt.{tries, attempt, successors}
 use Rattle.ll_laws.specs.Search.{forks, events, cost}
 use Rattle.ll_laws.specs.Problem.{ProblemTree, setting_of, start_of}
 use Rattle.ll_laws.specs.Output.{run_text, run_status}
+use Rattle.ll_laws.specs.Dealt.{dealt}
+use Rattle.ll_laws.specs.ProofText.{proved_run_text}
 
 -- ---- the names of the examples, by their numbers
 abbrev names : List (List ℕ)
@@ -249,3 +251,34 @@ getter =
 module_loaded_inside_itself : Gives (record { names = names; modules = getter ∷ []; clauses = []; goal = Use 0 (number 1 ∷ []) (Use 0 (number 2 ∷ []) (atom 14 (Var 0 ∷ []))); asked = Some 15 ∷ []; bound = 100 }) (codes "answer 1\nZ = 2\nanswer 2\nZ = 1\nanswers 2, bound reached 0, inferences 11\n") 0
 unfolding events cost settle tries attempt successors mgu digits
 module_loaded_inside_itself = (refl, refl)
+
+-- ---- with proofs
+
+-- the problem's run prints this text with proofs
+abbrev Proves : ProblemTree → List ℕ → Type 0
+Proves p text = proved_run_text p ≡ text
+
+linear_fact_erased-proof : Proves (ground_problem (linear a ∷ []) Top 10) (codes "answer 1\nyes\nproof 1\nerase\nanswers 1, bound reached 0, inferences 1\n")
+unfolding events cost settle tries attempt successors mgu digits dealt
+linear_fact_erased-proof = refl
+
+-- `(erase & a) , b`
+erase_with_a_then_b-proof : Proves (ground_problem (linear a ∷ linear b ∷ []) (Tensor (With Top a) b) 10)
+    (codes "answer 1\nyes\nproof 1\ntensor {0} {1}\nwith\nerase\nclause 0 0\nclause 1 0\nanswers 1, bound reached 0, inferences 5\n")
+unfolding events cost settle tries attempt successors mgu digits dealt
+erase_with_a_then_b-proof = refl
+
+-- `p <= q. q.`
+unbounded_premise-proof : Proves (ground_problem (unbounded (Imp b a) ∷ unbounded b ∷ []) a 10)
+    (codes "answer 1\nyes\nproof 1\nclause 0 0 !\nbang\nclause 1 0\nanswers 1, bound reached 0, inferences 3\n")
+unfolding events cost settle tries attempt successors mgu digits dealt
+unbounded_premise-proof = refl
+
+-- `load (1::nil) K`
+abbrev load_one : Form
+load_one = atom 10 (cons (number 1) nil ∷ Var 0 ∷ [])
+
+permutation_of_one-proof : Proves (asking (Some 13 ∷ []) permute load_one 100)
+    (codes "answer 1\nK = 1::nil\nproof 1\nlet (1::nil)\nclause 1 0 1 nil (1::nil) {}\nlolli 4\nclause 0 0 (1::nil) {4}\nclause 3 0 1 nil {4}\ntensor {4} {}\nclause 4 0\nclause 2 0\nanswers 1, bound reached 0, inferences 9\n")
+unfolding events cost settle tries attempt successors mgu digits dealt
+permutation_of_one-proof = refl

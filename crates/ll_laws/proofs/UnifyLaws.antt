@@ -236,7 +236,7 @@ eigen-mono m l (Name n) le e = refl
 eigen-mono m l (Bound n) le e = refl
 eigen-mono m l (Eigen n) le e = let h = ltb-true n m e in lt-ltb n l (omega arith)
 
-eigens-mono : (m l : ℕ) (t : Term) → m ≤ l → eigens_below m t ≡ true → eigens_below l t ≡ true
+pub eigens-mono : (m l : ℕ) (t : Term) → m ≤ l → eigens_below m t ≡ true → eigens_below l t ≡ true
 eigens-mono m l (Var x) le e = refl
 eigens-mono m l (Int z) le e = refl
 eigens-mono m l (Con h) le e = eigen-mono m l h le e
@@ -246,10 +246,10 @@ eigens-mono m l (Ap f a) le e =
 fits-mono : (m l : ℕ) (t : Term) (new : List ℕ) → m ≤ l → FitsLevel m t new → FitsLevel l t new
 fits-mono m l t new le f = record { eigens = eigens-mono m l t le f.eigens; vars = λ y o. let h = f.vars y o in omega arith }
 
-fits-left : (l : ℕ) (t u : Term) (new : List ℕ) → FitsLevel l (Ap t u) new → FitsLevel l t new
+pub fits-left : (l : ℕ) (t u : Term) (new : List ℕ) → FitsLevel l (Ap t u) new → FitsLevel l t new
 fits-left l t u new f = record { eigens = and_left (eigens_below l t) (eigens_below l u) f.eigens; vars = λ y o. f.vars y (or_true_left (occurs y t) (occurs y u) o) }
 
-fits-right : (l : ℕ) (t u : Term) (new : List ℕ) → FitsLevel l (Ap t u) new → FitsLevel l u new
+pub fits-right : (l : ℕ) (t u : Term) (new : List ℕ) → FitsLevel l (Ap t u) new → FitsLevel l u new
 fits-right l t u new f = record { eigens = and_right (eigens_below l t) (eigens_below l u) f.eigens; vars = λ y o. f.vars y (or_true_right (occurs y t) (occurs y u) o) }
 
 fits-ap : (l : ℕ) (t u : Term) (new : List ℕ) → FitsLevel l t new → FitsLevel l u new → FitsLevel l (Ap t u) new

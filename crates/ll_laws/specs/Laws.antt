@@ -1,23 +1,27 @@
 -- The laws of the definitions, which functions of this crate carry.
-use Rattle.std.specs.Prelude.{◌≡◌, ◌≤◌, ℕ, suc, true, false, List, [], ◌∷◌, length, slice_index, Some, None, option_map, flat_map, sum_by}
+use Rattle.std.specs.Prelude.{◌≡◌, ◌≤◌, ℕ, suc, true, false, List, [], ◌∷◌, length, slice_index, Some, None, option_map, flat_map, sum_by, map, Contains}
 use Rattle.std.specs.List.{list_all}
 use Rattle.ll_bank.specs.Term.{Term}
 use Rattle.ll_bank.specs.Form.{Form}
 use Rattle.ll_laws.specs.declared.Candidate.{Candidate}
-use Rattle.ll_laws.specs.declared.Event.TheVariants.{Reached}
+use Rattle.ll_laws.specs.declared.Event.TheVariants.{Reached, Answer}
 use Rattle.ll_laws.specs.Unify.{Solved, mgu, vars_below, IsUnifier, IsMostGeneral}
 use Rattle.ll_laws.specs.Module.{Setting}
 use Rattle.ll_laws.specs.Settle.{Item}
 use Rattle.ll_laws.specs.State.{State, settle, sub_state}
 use Rattle.ll_laws.specs.Attempt.{attempt, successors}
 use Rattle.ll_laws.specs.Search.{events, cost, any_reached, answer_of}
-use Rattle.ll_laws.specs.Problem.{ProblemTree, setting_of, start_of}
+use Rattle.ll_laws.specs.Answered.{Answered}
+use Rattle.ll_laws.specs.Problem.{ProblemTree, setting_of, start_of, problem_events}
 use Rattle.ll_laws.specs.Valid.{AreModules, IsValid}
 use Rattle.ll_laws.specs.Derive.{Derivable}
 use Rattle.ll_laws.specs.Shows.{Tree, clauses, nodes}
 use Rattle.ll_laws.specs.Fault.{Fits}
-use Rattle.ll_laws.specs.Line.{DerivationLines, IsWhole, trees_of}
-use Rattle.ll_laws.specs.Verdict.{root_free, root_bounded, instantiated_goal, DerivationShows, first_fault}
+use Rattle.ll_laws.specs.Line.{Line, DerivationLines, IsWhole, trees_of}
+use Rattle.ll_laws.specs.Verdict.{root_free, root_bounded, instantiated_goal, TreeShows, DerivationShows, first_fault}
+use Rattle.ll_laws.specs.Run.{Trace, run_start}
+use Rattle.ll_laws.specs.Dealing.{deal}
+use Rattle.ll_laws.specs.Dealt.{asked_terms, dealt}
 use Rattle.ll_laws.specs.Consistent.{IsConsistent}
 
 -- ---- how a search unfolds
@@ -109,3 +113,19 @@ FaultlessShows = (p : ProblemTree) (d : DerivationLines) (x : Tree) (n : ℕ) �
 -- a derivation that shows the query has no fault, and its nodes are numbered from 1
 abbrev pub ShownIsFaultless : Type 0
 ShownIsFaultless = (p : ProblemTree) (d : DerivationLines) (x : Tree) → trees_of d.nodes ≡ Some (x ∷ []) → DerivationShows p d → first_fault p d x ≡ Fits (suc (nodes x))
+
+-- ---- answers
+
+-- what a run proves, from the start of a problem with terms for the query's variables, is shown by the run's tree, once the labels of
+-- the program's linear clauses are dealt out
+abbrev pub RunsAreShown : Type 0
+RunsAreShown =
+    (p : ProblemTree) (ts : List Term) (ns : List Line) → Trace (setting_of p) ns (run_start p ts)
+    → (x : Tree) × (trees_of ns ≡ Some (x ∷ [])) × TreeShows p (deal (map (λ l. l.label) (root_bounded p)) x) ts
+
+-- each answer of the search of a valid problem has a derivation, which is whole, shows the query with the answer's terms for its
+-- variables, and has as many nodes as the answer's branch has steps
+abbrev pub AnswersAreShown : Type 0
+AnswersAreShown =
+    (p : ProblemTree) (a : Answered) → IsValid p → Contains (problem_events p) (Answer a)
+    → (d : DerivationLines) × (dealt p a ≡ Some d) × (d.asked ≡ asked_terms p a) × IsWhole d × DerivationShows p d × (length d.nodes ≡ length a.steps)

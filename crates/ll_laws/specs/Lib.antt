@@ -17,6 +17,11 @@ pub mod Shows
 pub mod Fault
 pub mod Line
 pub mod Verdict
+pub mod Run
+pub mod Dealing
+pub mod Dealt
+pub mod Lazy
+pub mod ProofText
 pub mod ShownLines
 pub mod Pool
 pub mod PoolCodes

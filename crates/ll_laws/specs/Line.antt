@@ -1,7 +1,8 @@
 -- A derivation as it is kept: its nodes in prefix order, and the tree that they are.
-use Rattle.std.specs.Prelude.{◌≡◌, ℕ, Bool, true, ◌&&◌, List, [], ◌∷◌, nat_lt, Option, Some, None, option_and_then}
+use Rattle.std.specs.Prelude.{◌≡◌, ℕ, Bool, true, ◌&&◌, List, [], ◌∷◌, ◌++◌, nat_lt, Option, Some, None, option_and_then}
 use Rattle.std.specs.List.{list_all}
 use Rattle.ll_bank.specs.Term.{Term, is_closed}
+use Rattle.ll_laws.specs.Leaf.{Premise, Needs, NeedsFree}
 use Rattle.ll_laws.specs.Shows.{Tree, OneNode, EraseNode, TensorNode, WithNode, LeftNode, RightNode, BangNode, LolliNode, ImpNode, ForallNode, ExistsNode, UseNode, ClauseNode, Parts, NoParts, BoundedPart, UnboundedPart}
 
 -- what a clause node says of one premise: the labels of a bounded one, or that it is unbounded
@@ -90,3 +91,37 @@ pub record IsWhole (d : DerivationLines) : Type 0 where
   pub is_tree : trees_of d.nodes ≡ Some (tree ∷ [])
   pub asked : list_all is_closed d.asked ≡ true
   pub nodes : list_all is_line d.nodes ≡ true
+
+-- what a clause node says of a premise before labels are dealt out
+abbrev pub part_line : Premise → PartLine
+part_line (Needs g) = Labels []
+part_line (NeedsFree g) = Free
+
+abbrev mutual
+  -- the nodes of a tree in prefix order
+  pub lines : Tree → List Line
+  lines OneNode = OneLine ∷ []
+  lines EraseNode = EraseLine ∷ []
+  lines (TensorNode s t x y) = TensorLine s t ∷ (lines x ++ lines y)
+  lines (WithNode x y) = WithLine ∷ (lines x ++ lines y)
+  lines (LeftNode x) = LeftLine ∷ lines x
+  lines (RightNode x) = RightLine ∷ lines x
+  lines (BangNode x) = BangLine ∷ lines x
+  lines (LolliNode n x) = LolliLine n ∷ lines x
+  lines (ImpNode n x) = ImpLine n ∷ lines x
+  lines (ForallNode c x) = ForallLine c ∷ lines x
+  lines (ExistsNode t x) = ExistsLine t ∷ lines x
+  lines (UseNode x) = UseLine ∷ lines x
+  lines (ClauseNode n k us ps) = ClauseLine n k us (part_lines ps) ∷ lines_of_parts ps
+
+  -- the nodes of all parts
+  pub lines_of_parts : Parts → List Line
+  lines_of_parts NoParts = []
+  lines_of_parts (BoundedPart s x ps) = lines x ++ lines_of_parts ps
+  lines_of_parts (UnboundedPart x ps) = lines x ++ lines_of_parts ps
+
+  -- what a clause node says of its parts
+  pub part_lines : Parts → List PartLine
+  part_lines NoParts = []
+  part_lines (BoundedPart s x ps) = Labels s ∷ part_lines ps
+  part_lines (UnboundedPart x ps) = Free ∷ part_lines ps

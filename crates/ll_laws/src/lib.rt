@@ -5,7 +5,7 @@
 #![tactic(auto)]
 
 ghost use Rattle.std.specs.Prelude.{◌≡◌, length};
-ghost use Rattle.ll_laws.specs.Laws.{StuckSearch, EndedSearch, BoundSearch, SteppedSearch, SteadySearch, SettledOnce, SettledUnder, StartsConsistent, SettlesConsistent, StepsConsistent, FoundUnifies, FoundLowers, FoundIsMostGeneral, NoneUnifies, ShownIsDerivable, FaultlessShows, ShownIsFaultless};
+ghost use Rattle.ll_laws.specs.Laws.{StuckSearch, EndedSearch, BoundSearch, SteppedSearch, SteadySearch, SettledOnce, SettledUnder, StartsConsistent, SettlesConsistent, StepsConsistent, FoundUnifies, FoundLowers, FoundIsMostGeneral, NoneUnifies, ShownIsDerivable, FaultlessShows, ShownIsFaultless, RunsAreShown, AnswersAreShown};
 
 use ll_bank::{At, Bank, FormAt, Names};
 use std::marker::Model;
@@ -298,4 +298,16 @@ pub fn shown_is_derivable()
 pub fn faults_are_exact()
     ensures faultless { FaultlessShows }
     ensures shown { ShownIsFaultless }
+{}
+
+/// What a run proves, with terms chosen for all variables, is shown by the run's tree, once the labels of the linear clauses are dealt out: a
+/// label goes to the node that uses it, and otherwise to an `erase` that can take it.
+pub fn runs_are_shown()
+    ensures { RunsAreShown }
+{}
+
+/// Every answer of the search of a valid problem has a derivation (`dealt`), which shows the query with the answer's terms for its
+/// variables: so each linear clause is used exactly once, by a clause step or an `erase`. It has as many nodes as the branch has steps.
+pub fn answers_are_shown()
+    ensures { AnswersAreShown }
 {}

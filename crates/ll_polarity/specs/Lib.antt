@@ -1,4 +1,17 @@
 pub mod Scope
+pub mod Meant
+pub mod Binders
+pub mod Named
 pub mod Reading
 pub mod Faults
+pub mod Headings
 pub mod Asks
+pub mod Numbered
+pub mod Built
+pub mod Standing
+pub mod Calls
+pub mod Places
+pub mod Frames
+pub mod Grounds
+pub mod Pending
+pub mod Ready

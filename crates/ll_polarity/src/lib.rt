@@ -1,6 +1,19 @@
 //! Scope, and the sorting into goals and clauses: the problem that two texts ask.
 #![tactic(auto)]
 
+mod front;
+mod headings;
+mod judge;
 mod laws;
+mod modules;
+mod pending;
+mod put_clauses;
+mod put_forms;
+mod put_terms;
+mod scope;
+#[cfg(test)]
+mod tests;
+mod variables;
+mod walk;
 
 pub use laws::{asked_is_valid, faults_in_order, one_problem};

@@ -1,1 +1,4 @@
 pub mod Printing
+pub mod Parts
+pub mod Lines
+pub mod AnswerLines

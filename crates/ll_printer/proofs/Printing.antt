@@ -1,15 +1,13 @@
 -- Texts piece by piece.
-use Rattle.std.proofs.Common.{◌≡◌, ℕ, zero, suc, ◌+◌, ◌*◌, ◌<◌, ◌≤◌, Bool, true, false, ◌&&◌, eqb, List, [], ◌∷◌, ◌++◌, length, map, All, get_or, drop, refl, ap, sym, subst, ◌∙◌, arith, append_assoc, if◌then◌else◌, codes, not}
-use Rattle.std.specs.Prelude.{decimal, Result, Ok, Err, OnErr}
-use Rattle.std.specs.Fmt.{signed_decimal}
+use Rattle.std.proofs.Common.{◌≡◌, ℕ, suc, ◌+◌, ◌*◌, ◌<◌, Bool, true, false, ◌&&◌, eqb, List, [], ◌∷◌, ◌++◌, length, All, get_or, drop, refl, ap, sym, subst, ◌∙◌, arith, append_assoc, if◌then◌else◌, codes, not}
+use Rattle.std.specs.Prelude.{Result, Ok, Err, OnErr}
 use Rattle.std.proofs.lemmas.List.{append-nil, drop_more, length-map, length_push, get_or_push}
 use Rattle.std.proofs.Math.ListN.{get_or-append}
 use Rattle.std.proofs.lemmas.List.Elements.{All-head, All-tail, All-cons, All-append, All-push}
 use Rattle.std.proofs.lemmas.Bool.{cond-true, cond-false, ne_eqb, eqb-true, and_parts}
 use Rattle.ll_bank.specs.declared.At.{At}
 use Rattle.ll_bank.specs.declared.Head.{Head}
-use Rattle.ll_bank.specs.declared.Head.TheVariants.{Name, Eigen, Bound}
-use Rattle.ll_bank.specs.Term.{Term, Var, Int, Con, Ap, app, apply}
+use Rattle.ll_bank.specs.Term.{Term, Con, Ap, app, apply}
 use Rattle.ll_bank.specs.Nodes.{Nodes, term_tree, term_trees, HasTerm, AllInTerms}
 use Rattle.ll_laws.specs.Output.{term_text, applied_text, argument_text, head_text, bracket_if, has_arguments, is_cons, is_cons_head}
 use Rattle.ll_printer.specs.declared.pieces.Piece.{Piece}

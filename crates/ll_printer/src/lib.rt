@@ -1,4 +1,4 @@
-//! The bytes of terms, answers and counts.
+//! The bytes of terms, programs, answers and counts.
 #![tactic(auto)]
 
 ghost use Rattle.std.specs.Prelude.{◌≡◌, ◌≤◌, ◌++◌, length, OnOk, codes, decimal};
@@ -6,13 +6,20 @@ ghost use Rattle.ll_bank.specs.Nodes.{term_tree, HasTerm};
 ghost use Rattle.ll_laws.specs.Output.{line, term_text, answer_text, bindings_text, counts_text};
 ghost use Rattle.ll_printer.specs.Pieces.{BeginsText};
 
+mod answers;
+mod formulas;
 mod pieces;
+#[cfg(test)]
+mod program_tests;
+mod programs;
 mod words;
 
+use crate::answers::{has_names, write_bindings, write_title, write_yes};
 use crate::pieces::{Piece, print_piece};
+pub use crate::programs::program;
 use crate::words::write_number;
 use ll_bank::{At, Bank, Names, OutOfMemory};
-use ll_laws::Counts;
+use ll_laws::{Branch, Counts, Problem};
 use std::alloc::Global;
 
 /// Appends the text of a term: `?n` for a variable, `#n` for an eigenconstant, `X::L` with brackets round an `X` of this form. A name
@@ -36,6 +43,35 @@ pub fn term(
         print_piece(names, bank, piece, &mut pieces, out)?;
     }
     Ok(())
+}
+
+/// Appends the lines of an answer: its number, and a line for each named variable of the query, or `yes` if none has a name.
+///
+/// After a refusal some first bytes of them may have been appended.
+pub fn answer(
+    alloc: Global,
+    problem: &Problem,
+    number: u64,
+    branch: &Branch,
+    out: &mut Vec<u8>,
+) -> Result<(), OutOfMemory>
+    requires { length problem.now.asked ≤ length branch.now.terms }
+    ensures text { OnOk result (out.new.items ≡ out.old.items ++ (line (codes "answer " ++ decimal number) ++ bindings_text problem.now branch.now)) }
+    ensures begun { BeginsText (line (codes "answer " ++ decimal number) ++ bindings_text problem.now branch.now) out.old.items out.new.items }
+{
+    write_title(number, out)?;
+    if has_names(&problem.asked) {
+        write_bindings(
+            alloc,
+            &problem.names,
+            &problem.asked,
+            &branch.bank,
+            &branch.terms,
+            out,
+        )
+    } else {
+        write_yes(out)
+    }
 }
 
 /// Appends the last line of a run. After a refusal some first bytes of it may have been appended.

@@ -1,7 +1,7 @@
 -- The definitions of words and texts, computed on examples.
 use Rattle.std.proofs.Common.{◌≡◌, refl, false, [], ◌∷◌}
 use Rattle.std.specs.Prelude.{Some, None, codes}
-use Rattle.ll_top.specs.Words.{is_part, NumberFrom, greatest_bound, here, behind, part, option, done, IsRun}
+use Rattle.ll_top.specs.Words.{is_part, NumberFrom, greatest_bound, here, behind, part, option, done, IsRun, IsPrint}
 use Rattle.ll_top.specs.Faults.{Usage, Oversized, Faulty, fault_text}
 use Rattle.ll_top.specs.Reading.{NameToken, TrueToken, LinearToken, DotToken, CommaToken, ColonDashToken, problem_of_tokens}
 use Rattle.ll_laws.specs.Output.{run_text}
@@ -22,6 +22,10 @@ options_in_any_order = record {
   bound = refl;
   workers = refl;
 }
+
+-- `print prog`
+a_print : IsPrint (codes "print" ∷ codes "prog" ∷ []) (codes "prog")
+a_print = record { form = part refl (part refl (done refl)); program = refl }
 
 bound_past_the_greatest : is_part (NumberFrom 0 greatest_bound) (codes "1000001") ≡ false
 bound_past_the_greatest = refl

@@ -1,5 +1,6 @@
 -- The texts of today's language are read by the grammar.
-use Rattle.std.proofs.Common.{◌≡◌, ◌≤◌, ◌⊎◌, ℕ, Bool, true, false, List, [], ◌∷◌, ◌++◌, take, map, zero, suc, append_assoc, Option, Some, None, refl, ap, sym, subst, ◌∙◌, inl, inr, arith}
+use Rattle.std.proofs.Common.{◌≡◌, ◌⊎◌, ℕ, true, false, List, [], ◌∷◌, ◌++◌, take, map, zero, suc, append_assoc, Option, Some, None, refl, ap, sym, subst, ◌∙◌, inl, inr, arith}
+use Rattle.std.specs.Prelude.{Result, Ok, Err, IfErr, MatchResult}
 use Rattle.std.specs.Option.{option_and_then}
 use Rattle.std.proofs.lemmas.List.{append-nil}
 use Rattle.ll_lexer.specs.declared.Place.{Place}
@@ -9,7 +10,7 @@ use Rattle.ll_lexer.specs.declared.TextFault.TheVariants as text_fault
 use Rattle.ll_lexer.specs.declared.Token.{Token as Lexeme}
 use Rattle.ll_lexer.specs.declared.TokenKind.{TokenKind}
 use Rattle.ll_lexer.specs.declared.TokenKind.TheVariants as kind
-use Rattle.ll_lexer.specs.Reading.{LexedText, IsLexed, bytes_of}
+use Rattle.ll_lexer.specs.Reading.{LexedText, IsLexed, bytes_of, IsCause as IsLexedCause}
 use Rattle.ll_parser.specs.Tokens.{Identifier, Tok, name, dot, tok_by, tok_of, toks_of}
 use Rattle.ll_parser.specs.Grammar.{Formula, of_arrow, clause, by_colon, of_sum, of_with, of_tensor, Tensor, of_primary, times, Primary, truly, atom, lower, no_more, formula_tokens, tensor_tokens, primary_tokens}
 use Rattle.ll_parser.specs.Text.{Program as Parse, Clause, plain, linear, clauses_tokens, program_tree, bare, dotted, query_tree, programs, queries}
@@ -19,9 +20,9 @@ use Rattle.ll_top.specs.declared.judge.Role.{Role}
 use Rattle.ll_top.specs.declared.judge.Role.TheVariants.{Program, Query}
 use Rattle.ll_top.specs.declared.judge.State.{State}
 use Rattle.ll_top.specs.declared.judge.State.TheVariants.{Clauses, Marked, Head, Wants, Item, Ended}
-use Rattle.ll_top.specs.Judging.{kinds_in, IsText, IsOfGrammar, HasGrammarFault, IsGrammarCause, IsTextFault, IsTextCause, grammatical, most_open}
+use Rattle.ll_top.specs.Judging.{kinds_in, IsText, IsOfGrammar, HasGrammarFault, IsGrammarCause, IsReadingCause, lexical, grammatical, IsTextCause, of_reading, most_open}
 use Rattle.ll_top.specs.Reading.{Token, NameToken, TrueToken, LinearToken, DotToken, CommaToken, ColonDashToken, token_of}
-use Rattle.ll_top.specs.Machine.{first_state, after_token, after, is_end}
+use Rattle.ll_top.specs.Machine.{after_token, after, is_end}
 use Rattle.ll_top.proofs.JudgeLemmas.{accepts, from_next, text-is}
 
 -- ---- the parse trees of what each state takes
@@ -218,8 +219,22 @@ no-grammar-fault p q Program l f h k = p most_open (toks_of l) l.end h.0 f h.1 k
 no-grammar-fault p q Query l f h k = q most_open (toks_of l) l.end h.0 f h.1 k
 
 -- a text's fault, by its tokens
-pub ungrammatical : (role : Role) (text : List ℕ) (l : LexedText) (e : TextFault) → l.text ≡ text → IsLexed l → IsGrammarCause role l e → IsTextCause role text e
+pub not-lexed : (role : Role) (text : List ℕ) (e : TextFault) → IsLexedCause text e → IsReadingCause role text e
+not-lexed role text (text_fault.Text f) h = lexical h
+not-lexed role text text_fault.OutOfMemory h = tt
+
+pub ungrammatical : (role : Role) (text : List ℕ) (l : LexedText) (e : TextFault) → l.text ≡ text → IsLexed l → IsGrammarCause role l e → IsReadingCause role text e
 ungrammatical Program text l (text_fault.Text f) s h g = grammatical l s h g
 ungrammatical Query text l (text_fault.Text f) s h g = grammatical l s h g
 ungrammatical Program text l text_fault.OutOfMemory s h g = tt
 ungrammatical Query text l text_fault.OutOfMemory s h g = tt
+
+-- a text that is not read is none of today's language
+pub unread : (role : Role) (text : List ℕ) (e : TextFault) → IsReadingCause role text e → IsTextCause role text e
+unread role text (text_fault.Text f) h = of_reading h
+unread role text text_fault.OutOfMemory h = tt
+
+-- a program's text that is read, or not
+pub program-unread : {A : Type 0} (Good : A → Type 0) (text : List ℕ) (l : LexedText) (r : Result A TextFault) → l.text ≡ text → IsLexed l → MatchResult r Good (λ e. IsGrammarCause Program l e) → IfErr r (λ e. IsReadingCause Program text e)
+program-unread Good text l (Ok x) s h g = tt
+program-unread Good text l (Err e) s h g = ungrammatical Program text l e s h g

@@ -1,8 +1,7 @@
 -- The machine that judges texts takes exactly the texts of today's language, and every state of it can be gone on with to a text's end.
-use Rattle.std.proofs.Common.{◌≡◌, ℕ, ◌+◌, ◌<◌, ◌≤◌, Bool, true, false, ◌&&◌, List, [], ◌∷◌, ◌++◌, take, drop, length, map, slice_get, get_or, Option, Some, None, refl, ap, sym, subst, ◌∙◌, arith}
-use Rattle.std.specs.Prelude.{is_some, IsSome, IsSomeAnd, MatchOption, option_map}
-use Rattle.std.specs.Option.{option_and_then}
-use Rattle.std.proofs.lemmas.Option.{slice_get-map, slice_get_past, slice_get-get_or}
+use Rattle.std.proofs.Common.{◌≡◌, ℕ, ◌+◌, ◌≤◌, Bool, true, false, ◌&&◌, List, [], ◌∷◌, ◌++◌, take, drop, length, slice_get, Option, Some, None, refl, ap, sym, subst, ◌∙◌}
+use Rattle.std.specs.Prelude.{is_some, IsSome, IsSomeAnd, option_map}
+use Rattle.std.proofs.lemmas.Option.{slice_get-map, slice_get_past}
 use Rattle.ll_bank.specs.Form.{Form}
 use Rattle.ll_lexer.specs.declared.Place.{Place}
 use Rattle.ll_lexer.specs.declared.Token.{Token as Lexeme}
@@ -13,10 +12,10 @@ use Rattle.ll_top.specs.declared.judge.Role.{Role}
 use Rattle.ll_top.specs.declared.judge.Role.TheVariants.{Program, Query}
 use Rattle.ll_top.specs.declared.judge.State.{State}
 use Rattle.ll_top.specs.declared.judge.State.TheVariants.{Clauses, Marked, Head, Wants, Item, Ended}
-use Rattle.ll_top.specs.Begins.{Begins, IsFirstBad, Leads}
+use Rattle.ll_top.specs.Begins.{Begins, Leads}
 use Rattle.ll_top.specs.Reading.{Token, NameToken, TrueToken, LinearToken, DotToken, CommaToken, ColonDashToken, token_of, both_or_none, tokens_in, item_of, tensor_of, goal_of, rule_of, clause_of, onto_first, at_dots, clauses_of, program_of, query_at, query_of}
-use Rattle.ll_top.specs.Judging.{kinds_in, tokens_of_kinds, IsText, token_place, place_of_token, IsOfGrammar, IsTextFault, not_built}
-use Rattle.ll_top.specs.Machine.{first_state, after_dot, after_token, after, is_end, IsNotBuilt}
+use Rattle.ll_top.specs.Judging.{kinds_in, tokens_of_kinds, IsText, token_place, IsOfGrammar, IsTextFault, not_built}
+use Rattle.ll_top.specs.Machine.{first_state, after_token, after, is_end, IsNotBuilt}
 use Rattle.ll_top.proofs.FirstBad.{leads-start, leads-next, leads-bad, IsStuck, drop-end}
 
 -- ---- what each state takes, of tokens that were cut at the dots

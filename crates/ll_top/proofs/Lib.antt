@@ -2,6 +2,7 @@ pub mod Examples
 pub mod FirstBad
 pub mod Forms
 pub mod RunWords
+pub mod CommandWords
 pub mod WordsLemmas
 pub mod ReaderTokens
 pub mod ReaderGrammar

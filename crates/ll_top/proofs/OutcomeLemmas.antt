@@ -1,6 +1,6 @@
 -- From the way a run ends to the status and the text of the call.
-use Rattle.std.proofs.Common.{◌≡◌, ◌⊎◌, ◌<◌, ◌≤◌, ℕ, refl, ap, sym, subst, ◌∙◌, Bool, true, false, List, [], ◌∷◌, inl, inr, arith}
-use Rattle.std.specs.Prelude.{Option, Some, None, Result, Ok, Err, IfOk, IfErr, OnOk, OnErr, IsErrAnd, IfSome, is_some}
+use Rattle.std.proofs.Common.{◌≡◌, ◌⊎◌, ◌≤◌, ℕ, refl, ap, sym, subst, ◌∙◌, Bool, true, false, List, [], ◌∷◌, inl, inr, arith}
+use Rattle.std.specs.Prelude.{Option, Some, Result, Ok, Err, IfOk, IfErr, OnOk, OnErr, IsErrAnd}
 use Rattle.std.specs.Io.KnownBytes.{append_known}
 use Rattle.ll_edge.specs.Counts.{Rose}
 use Rattle.ll_edge.specs.Pieces.{AppendsFront}
@@ -9,15 +9,13 @@ use Rattle.std.specs.List.{list_any}
 use Rattle.ll_laws.specs.Problem.{ProblemTree, problem_events}
 use Rattle.ll_laws.specs.Search.{is_answer, is_reached}
 use Rattle.ll_laws.specs.Output.{run_text, run_status, status_by}
-use Rattle.ll_top.specs.declared.judge.Role.{Role}
 use Rattle.ll_top.specs.declared.run.Found.{Found}
-use Rattle.ll_top.specs.declared.refusal.TextRefusal.{TextRefusal}
 use Rattle.ll_top.specs.declared.refusal.Refusal.{Refusal}
 use Rattle.ll_top.specs.declared.refusal.Refusal.TheVariants.{Text, Unwritable, OutOfMemory}
-use Rattle.ll_top.specs.Words.{RunWords, IsInForm, IsInWorkersForm, IsRun, IsBadWord}
+use Rattle.ll_top.specs.Words.{RunWords, FitsForm, run_form, IsInForm, IsInWorkersForm, IsRun, IsPrint, IsBadWord}
 use Rattle.ll_top.specs.Faults.{Cause, Usage, Absent, Unreadable, Oversized, Faulty, fault_text, cause_status}
-use Rattle.ll_top.specs.Outcome.{RunFails, absent as is_absent, unreadable as is_unreadable, oversized as is_oversized, faulty_program, faulty_query, RunAsks, RunComesTo, ran, failed, ComesTo, misused, runs, AppendsOwn, nothing, front, Ends, whole, unwritable, no_memory}
-use Rattle.ll_top.specs.Endings.{Refuses, line, cut, cause_of, name_of, Prepares, RunEnds, status_of_found}
+use Rattle.ll_top.specs.Outcome.{ReadFails, absent as is_absent, unreadable as is_unreadable, oversized as is_oversized, run_texts, RunFails, not_read, faulty_program, faulty_query, RunAsks, RunComesTo, ran, failed, IsPrintedAs, PrintFails, source_not_read, faulty_source, PrintComesTo, printed, print_failed, ComesTo, misused, runs, prints, AppendsOwn, nothing, front, Ends, whole, unwritable, no_memory, Completes}
+use Rattle.ll_top.specs.Endings.{Refuses, line, cut, Prepares, RunEnds, status_of_found, PrintEnds}
 use Rattle.ll_top.specs.Running.{IsRunRefusal}
 use Rattle.ll_top.proofs.FirstBad.{good-or-bad}
 
@@ -60,25 +58,50 @@ refuses-later cause w w' before after status f (line s a) = line s a
 refuses-later cause w w' before after status f (cut s h a) = cut s (f h) a
 
 -- the line of its cause was written
+refused-ends : (Comes : ℕ → List ℕ → Type 0) (write_failed : Type 0) (before middle after : Option (List ℕ)) (cause : Cause) (status : ℕ) → Comes (cause_status cause) (fault_text cause) → middle ≡ before → Refuses cause write_failed middle after status → Ends Comes write_failed before after status
+refused-ends Comes w before middle after cause status f m (line s a) = whole (fault_text cause) (subst (λ n. Comes n (fault_text cause)) (sym s) f) (a ∙ ap (λ o. append_known o (fault_text cause)) m)
+refused-ends Comes w before middle after cause status f m (cut s h a) = unwritable (cause_status cause) (fault_text cause) f h s (subst (λ o. AppendsFront o (fault_text cause) after) m a)
+
 pub refusal-ends : (told : Option Texts) (absence read_failed write_failed : Type 0) (run : RunWords) (before middle after : Option (List ℕ)) (cause : Cause) (status : ℕ) → RunFails told absence read_failed run cause → middle ≡ before → Refuses cause write_failed middle after status
     → Ends (RunComesTo told absence read_failed run) write_failed before after status
-refusal-ends told absence read_failed write_failed run before middle after cause status f m (line s a) = whole (fault_text cause) (failed cause f s refl) (a ∙ ap (λ o. append_known o (fault_text cause)) m)
-refusal-ends told absence read_failed write_failed run before middle after cause status f m (cut s w a) =
-    unwritable (cause_status cause) (fault_text cause) (failed cause f refl refl) w s (subst (λ o. AppendsFront o (fault_text cause) after) m a)
+refusal-ends told absence read_failed w run before middle after cause status f m r = refused-ends (RunComesTo told absence read_failed run) w before middle after cause status (failed cause f refl refl) m r
+
+-- ---- a print
+
+module _ (told : Option Texts) (absence read_failed : Type 0) (name : List ℕ) where
+  module _ (write_failed : Type 0) (before after : Option (List ℕ)) where
+    pub printed-ends : {A : Type 0} (done : A) → PrintEnds told absence read_failed write_failed name before after (Ok done) → Ends (PrintComesTo told absence read_failed name) write_failed before after 0
+    printed-ends done h = whole h.0 (printed h.1 refl) h.2
+
+    pub print-cut-ends : (bytes : List ℕ) × IsPrintedAs told name bytes × write_failed × AppendsFront before bytes after → Ends (PrintComesTo told absence read_failed name) write_failed before after 6
+    print-cut-ends h = unwritable 0 h.0 (printed h.1 refl) h.2 refl h.3
+
+    pub print-memory-ends : after ≡ before → Ends (PrintComesTo told absence read_failed name) write_failed before after 10
+    print-memory-ends h = no_memory refl (nothing h)
+
+    pub print-refusal-ends : (middle : Option (List ℕ)) (cause : Cause) (status : ℕ) → PrintFails told absence read_failed name cause → middle ≡ before → Refuses cause write_failed middle after status → Ends (PrintComesTo told absence read_failed name) write_failed before after status
+    print-refusal-ends middle cause status f m r = refused-ends (PrintComesTo told absence read_failed name) write_failed before middle after cause status (print_failed cause f refl refl) m r
 
 -- ---- a call
 
-own-runs : (Comes Other : ℕ → List ℕ → Type 0) → ((s : ℕ) (t : List ℕ) → Comes s t → Other s t) → (before after : Option (List ℕ)) → AppendsOwn Comes before after → AppendsOwn Other before after
-own-runs Comes Other f before after (nothing e) = nothing e
-own-runs Comes Other f before after (front s t c a) = front s t (f s t c) a
+ends-as : (Comes Other : ℕ → List ℕ → Type 0) → ((s : ℕ) (t : List ℕ) → Comes s t → Other s t) → (write_failed : Type 0) (before after : Option (List ℕ)) (status : ℕ) → Ends Comes write_failed before after status → Ends Other write_failed before after status
+ends-as Comes Other f w before after status (whole text c a) = whole text (f status text c) a
+ends-as Comes Other f w before after status (unwritable meant text c h s a) = unwritable meant text (f meant text c) h s a
+ends-as Comes Other f w before after status (no_memory s a) = no_memory s (own a)
+  where
+    own : AppendsOwn Comes before after → AppendsOwn Other before after
+    own (nothing e) = nothing e
+    own (front s t c a) = front s t (f s t c) a
 
 -- what a run comes to, a call with its words comes to
 pub run-call : (words : List (List ℕ)) (told : Option Texts) (absence read_failed write_failed : Type 0) (run : RunWords) (before after : Option (List ℕ)) (status : ℕ) → IsRun words run → Ends (RunComesTo told absence read_failed run) write_failed before after status
     → Ends (ComesTo words told absence read_failed) write_failed before after status
-run-call words told absence read_failed write_failed run before after status r (whole text c a) = whole text (runs run r c) a
-run-call words told absence read_failed write_failed run before after status r (unwritable meant text c w s a) = unwritable meant text (runs run r c) w s a
-run-call words told absence read_failed write_failed run before after status r (no_memory s a) =
-    no_memory s (own-runs (RunComesTo told absence read_failed run) (ComesTo words told absence read_failed) (λ s t c. runs run r c) before after a)
+run-call words told absence read_failed w run before after status r h = ends-as (RunComesTo told absence read_failed run) (ComesTo words told absence read_failed) (λ s t c. runs run r c) w before after status h
+
+-- and so with a print
+pub print-call : (words : List (List ℕ)) (told : Option Texts) (absence read_failed write_failed : Type 0) (name : List ℕ) (before after : Option (List ℕ)) (status : ℕ) → IsPrint words name → Ends (PrintComesTo told absence read_failed name) write_failed before after status
+    → Ends (ComesTo words told absence read_failed) write_failed before after status
+print-call words told absence read_failed w name before after status p h = ends-as (PrintComesTo told absence read_failed name) (ComesTo words told absence read_failed) (λ s t c. prints name p c) w before after status h
 
 -- words in no form
 pub usage-call : (words : List (List ℕ)) (told : Option Texts) (absence read_failed write_failed : Type 0) (number : ℕ) (before after : Option (List ℕ)) (status : ℕ) → IsBadWord words number → Refuses (Usage number) write_failed before after status
@@ -103,30 +126,63 @@ pub record Says (absence read_failed write_failed : Type 0) (status : ℕ) : Typ
   pub unreadable : status ≡ 5 → read_failed
   pub unwritable : status ≡ 6 → write_failed
 
-module _ (told : Option Texts) (absence read_failed write_failed : Type 0) (run : RunWords) where
-  cause-says : (cause : Cause) → RunFails told absence read_failed run cause → Says absence read_failed write_failed (cause_status cause)
-  cause-says (Absent name) (is_absent n r a f) = record { used = λ e. omega arith; absent = λ e. a; unreadable = λ e. absurd (omega arith); unwritable = λ e. absurd (omega arith) }
-  cause-says (Unreadable name) (is_unreadable n r f) = record { used = λ e. omega arith; absent = λ e. absurd (omega arith); unreadable = λ e. f; unwritable = λ e. absurd (omega arith) }
-  cause-says (Oversized name) (is_oversized n r f) = record { used = λ e. omega arith; absent = λ e. absurd (omega arith); unreadable = λ e. absurd (omega arith); unwritable = λ e. absurd (omega arith) }
-  cause-says (Faulty name f) (faulty_program p q g a b h) = record { used = λ e. omega arith; absent = λ e. absurd (omega arith); unreadable = λ e. absurd (omega arith); unwritable = λ e. absurd (omega arith) }
-  cause-says (Faulty name f) (faulty_query p q g a b l h) = record { used = λ e. omega arith; absent = λ e. absurd (omega arith); unreadable = λ e. absurd (omega arith); unwritable = λ e. absurd (omega arith) }
-  cause-says (Usage number) f = elim f [ ]
+module _ (told : Option Texts) (absence read_failed write_failed : Type 0) where
+  other-says : (status : ℕ) → (status ≡ 3 → ⊥) → (status ≡ 4 → ⊥) → (status ≡ 5 → ⊥) → (status ≡ 6 → ⊥) → Says absence read_failed write_failed status
+  other-says status a b c d = record { used = a; absent = λ e. absurd (b e); unreadable = λ e. absurd (c e); unwritable = λ e. absurd (d e) }
 
-  comes-says : (status : ℕ) (text : List ℕ) → RunComesTo told absence read_failed run status text → Says absence read_failed write_failed status
-  comes-says status text (ran p a s t) =
-      let small = run-small p in
-      record { used = λ e. omega arith; absent = λ e. absurd (omega arith); unreadable = λ e. absurd (omega arith); unwritable = λ e. absurd (omega arith) }
-  comes-says status text (failed cause f s t) = subst (Says absence read_failed write_failed) (sym s) (cause-says cause f)
+  fault-says : Says absence read_failed write_failed 7
+  fault-says = other-says 7 (λ e. omega arith) (λ e. omega arith) (λ e. omega arith) (λ e. omega arith)
 
-  pub run-says : (before after : Option (List ℕ)) (status : ℕ) → Ends (RunComesTo told absence read_failed run) write_failed before after status → Says absence read_failed write_failed status
-  run-says before after status (whole text c a) = comes-says status text c
-  run-says before after status (unwritable meant text c w s a) = record { used = λ e. omega arith; absent = λ e. absurd (omega arith); unreadable = λ e. absurd (omega arith); unwritable = λ e. w }
-  run-says before after status (no_memory s a) = record { used = λ e. omega arith; absent = λ e. absurd (omega arith); unreadable = λ e. absurd (omega arith); unwritable = λ e. absurd (omega arith) }
+  unread-says : (names : List (List ℕ)) (cause : Cause) → ReadFails told absence read_failed names cause → Says absence read_failed write_failed (cause_status cause)
+  unread-says names (Absent name) (is_absent n r a f) = record { used = λ e. omega arith; absent = λ e. a; unreadable = λ e. absurd (omega arith); unwritable = λ e. absurd (omega arith) }
+  unread-says names (Unreadable name) (is_unreadable n r f) = record { used = λ e. omega arith; absent = λ e. absurd (omega arith); unreadable = λ e. f; unwritable = λ e. absurd (omega arith) }
+  unread-says names (Oversized name) (is_oversized n r f) = other-says 8 (λ e. omega arith) (λ e. omega arith) (λ e. omega arith) (λ e. omega arith)
+  unread-says names (Usage number) f = elim f [ ]
+  unread-says names (Faulty name fault) f = elim f [ ]
+
+  run-cause-says : (run : RunWords) (cause : Cause) → RunFails told absence read_failed run cause → Says absence read_failed write_failed (cause_status cause)
+  run-cause-says run cause (not_read c r) = unread-says (run_texts run) c r
+  run-cause-says run cause (faulty_program p q g a b h) = fault-says
+  run-cause-says run cause (faulty_query p q g a b l h) = fault-says
+
+  print-cause-says : (name : List ℕ) (cause : Cause) → PrintFails told absence read_failed name cause → Says absence read_failed write_failed (cause_status cause)
+  print-cause-says name cause (source_not_read c r) = unread-says (name ∷ []) c r
+  print-cause-says name cause (faulty_source p f h t) = fault-says
+
+  run-comes-says : (run : RunWords) (status : ℕ) (text : List ℕ) → RunComesTo told absence read_failed run status text → Says absence read_failed write_failed status
+  run-comes-says run status text (ran p a s t) = let small = run-small p in other-says status (λ e. omega arith) (λ e. omega arith) (λ e. omega arith) (λ e. omega arith)
+  run-comes-says run status text (failed cause f s t) = subst (Says absence read_failed write_failed) (sym s) (run-cause-says run cause f)
+
+  print-comes-says : (name : List ℕ) (status : ℕ) (text : List ℕ) → PrintComesTo told absence read_failed name status text → Says absence read_failed write_failed status
+  print-comes-says name status text (printed p s) = other-says status (λ e. omega arith) (λ e. omega arith) (λ e. omega arith) (λ e. omega arith)
+  print-comes-says name status text (print_failed cause f s t) = subst (Says absence read_failed write_failed) (sym s) (print-cause-says name cause f)
+
+  ends-say : (Comes : ℕ → List ℕ → Type 0) → ((s : ℕ) (t : List ℕ) → Comes s t → Says absence read_failed write_failed s) → (before after : Option (List ℕ)) (status : ℕ) → Ends Comes write_failed before after status → Says absence read_failed write_failed status
+  ends-say Comes says before after status (whole text c a) = says status text c
+  ends-say Comes says before after status (unwritable meant text c w s a) = record { used = λ e. omega arith; absent = λ e. absurd (omega arith); unreadable = λ e. absurd (omega arith); unwritable = λ e. w }
+  ends-say Comes says before after status (no_memory s a) = other-says status (λ e. omega arith) (λ e. omega arith) (λ e. omega arith) (λ e. omega arith)
+
+  pub run-says : (run : RunWords) (before after : Option (List ℕ)) (status : ℕ) → Ends (RunComesTo told absence read_failed run) write_failed before after status → Says absence read_failed write_failed status
+  run-says run before after status h = ends-say (RunComesTo told absence read_failed run) (run-comes-says run) before after status h
+
+  pub print-says : (name : List ℕ) (before after : Option (List ℕ)) (status : ℕ) → Ends (PrintComesTo told absence read_failed name) write_failed before after status → Says absence read_failed write_failed status
+  print-says name before after status h = ends-say (PrintComesTo told absence read_failed name) (print-comes-says name) before after status h
 
 -- ---- words in no form
 
 pub run-in-form : (words : List (List ℕ)) (run : RunWords) → IsRun words run → IsInForm words
 run-in-form words run r = inl r.form
+
+pub print-in-form : (words : List (List ℕ)) (name : List ℕ) → IsPrint words name → IsInForm words
+print-in-form words name p = inr (inl p.form)
+
+-- words with workers are those of a run
+pub workers-run : (words : List (List ℕ)) → IsInWorkersForm words → FitsForm run_form words
+workers-run words (inl f) = f
+workers-run words (inr f) = absurd f
+
+pub workers-in-form : (words : List (List ℕ)) → IsInWorkersForm words → IsInForm words
+workers-in-form words h = inl (workers-run words h)
 
 pub bad-not-in-form : (words : List (List ℕ)) (number : ℕ) → IsBadWord words number → IsInForm words → ⊥
 bad-not-in-form words number b f = good-or-bad IsInForm words b.place f b.bad
@@ -134,3 +190,39 @@ bad-not-in-form words number b f = good-or-bad IsInForm words b.place f b.bad
 pub refused-status : (cause : Cause) (write_failed : Type 0) (before after : Option (List ℕ)) (status : ℕ) → Refuses cause write_failed before after status → (status ≡ cause_status cause) ⊎ ((status ≡ 6) × write_failed)
 refused-status cause w before after status (line s a) = inl s
 refused-status cause w before after status (cut s f a) = inr (s, f)
+
+-- ---- completeness
+
+-- where the texts are told and no read failed, absences need no count
+module _ (texts : Texts) (absence read_failed : Type 0) (no_fault : read_failed → ⊥) where
+  told-unread : (names : List (List ℕ)) (cause : Cause) → ReadFails (Some texts) absence read_failed names cause → ReadFails (Some texts) (Unit {0}) ⊥ names cause
+  told-unread names _ (is_absent a r w e) = is_absent a r tt e
+  told-unread names _ (is_unreadable a r w) = absurd (no_fault w)
+  told-unread names _ (is_oversized a r l) = is_oversized a r l
+
+  told-run : (run : RunWords) (status : ℕ) (text : List ℕ) → RunComesTo (Some texts) absence read_failed run status text → RunComesTo (Some texts) (Unit {0}) ⊥ run status text
+  told-run run status text (ran p a e f) = ran p a e f
+  told-run run status text (failed _ (not_read c r) e f) = failed c (not_read c (told-unread (run_texts run) c r)) e f
+  told-run run status text (failed _ (faulty_program p q g h k t) e f) = failed (Faulty run.program g) (faulty_program p q g h k t) e f
+  told-run run status text (failed _ (faulty_query p q g h k l t) e f) = failed (Faulty run.query g) (faulty_query p q g h k l t) e f
+
+  told-print : (name : List ℕ) (status : ℕ) (text : List ℕ) → PrintComesTo (Some texts) absence read_failed name status text → PrintComesTo (Some texts) (Unit {0}) ⊥ name status text
+  told-print name status text (printed p e) = printed p e
+  told-print name status text (print_failed _ (source_not_read c r) e f) = print_failed c (source_not_read c (told-unread (name ∷ []) c r)) e f
+  told-print name status text (print_failed _ (faulty_source p g h t) e f) = print_failed (Faulty name g) (faulty_source p g h t) e f
+
+  told-comes : (words : List (List ℕ)) (status : ℕ) (text : List ℕ) → ComesTo words (Some texts) absence read_failed status text → ComesTo words (Some texts) (Unit {0}) ⊥ status text
+  told-comes words status text (misused n b e f) = misused n b e f
+  told-comes words status text (runs run r c) = runs run r (told-run run status text c)
+  told-comes words status text (prints name p c) = prints name p (told-print name status text c)
+
+module _
+    (one : (words : List (List ℕ)) (texts : Texts) (status other : ℕ) (text more : List ℕ) → ComesTo words (Some texts) (Unit {0}) ⊥ status text → ComesTo words (Some texts) (Unit {0}) ⊥ other more → (status ≡ other) × (text ≡ more))
+    (words : List (List ℕ)) (told : Option Texts) (absence read_failed write_failed : Type 0) (before after : Option (List ℕ)) (status : ℕ) where
+  pub completes : Ends (ComesTo words told absence read_failed) write_failed before after status → Completes words told read_failed write_failed before after status
+  completes (whole text c a) = λ texts meant other e read written m.
+      let own = told-comes texts absence read_failed read words status text (subst (λ t. ComesTo words t absence read_failed status text) e c) in
+      let same = one words texts status meant text other own m in
+      inl (same.0, a ∙ ap (λ t. append_known before t) same.1)
+  completes (unwritable meant text c w s a) = λ texts other t e read written m. absurd (written w)
+  completes (no_memory s a) = λ texts meant t e read written m. inr s

@@ -1,8 +1,8 @@
 -- From the reading and judging of two texts to what a run comes to.
-use Rattle.std.proofs.Common.{◌≡◌, ◌≤◌, ◌<◌, ◌⊎◌, ℕ, Bool, true, false, List, [], ◌∷◌, Option, Some, None, refl, ap, sym, subst, ◌∙◌, inl, inr, arith}
-use Rattle.std.specs.Prelude.{Result, Ok, Err, IfSome, IsSomeAnd, IsErrAnd, is_some}
-use Rattle.ll_edge.specs.Texts.{Texts, text_of}
-use Rattle.ll_edge.specs.Counts.{Rose, last_count}
+use Rattle.std.proofs.Common.{◌≡◌, ◌≤◌, ℕ, true, List, [], ◌∷◌, Option, Some, None, refl, sym, subst, inl, inr, arith}
+use Rattle.std.specs.Prelude.{Result, Ok, Err, IfErr, is_some}
+use Rattle.ll_edge.specs.Texts.{Texts}
+use Rattle.ll_edge.specs.Counts.{Rose}
 use Rattle.ll_laws.specs.Problem.{ProblemTree}
 use Rattle.ll_laws.specs.Module.{ClauseTree}
 use Rattle.ll_bank.specs.Form.{Form}
@@ -18,10 +18,10 @@ use Rattle.ll_top.specs.declared.refusal.TextRefusal.TheVariants as text
 use Rattle.ll_top.specs.declared.refusal.Refusal.{Refusal}
 use Rattle.ll_top.specs.declared.refusal.Refusal.TheVariants.{Text, Unwritable, OutOfMemory}
 use Rattle.ll_top.specs.Words.{RunWords}
-use Rattle.ll_top.specs.Reading.{Token, tokens_in, HasTokens, lexed, faulty, at_dots, program_of, query_of, problem_from, problem_of_tokens, names_of, number_in, Asks, both, no_program, no_query}
-use Rattle.ll_top.specs.Judging.{IsText, IsOfLanguage, IsTextFault, IsTextCause, kinds_in}
-use Rattle.ll_top.specs.Outcome.{IsRead, Reaches, first, later, RunFails, absent, unreadable, oversized, faulty_program, faulty_query, RunAsks}
-use Rattle.ll_top.specs.Endings.{refusal_of, cause_of, name_of, IsTextNotRead, IsNotRead, IsFaultOf, of_program, of_query, Judges, Prepares}
+use Rattle.ll_top.specs.Reading.{Token, tokens_in, HasTokens, lexed, program_of, query_of, problem_from, problem_of_tokens, names_of, number_in, Asks, both, no_program, no_query}
+use Rattle.ll_top.specs.Judging.{IsText, IsOfLanguage, IsReadingCause, IsTextCause, kinds_in}
+use Rattle.ll_top.specs.Outcome.{IsRead, Reaches, first, later, run_texts, ReadFails, absent, unreadable, oversized, RunFails, not_read, faulty_program, faulty_query, IsPrintedAs, source_not_read, faulty_source}
+use Rattle.ll_top.specs.Endings.{refusal_of, cause_of, name_of, IsTextNotRead, IsNotRead, IsFaultOf, of_program, of_query, Judges, Prepares, IsNotPrinted, IsMadeOf, IsNotMadeOf}
 use Rattle.ll_top.specs.Machine.{first_state}
 use Rattle.ll_top.proofs.JudgeLemmas.{found, text-tokens, query-found}
 use Rattle.ll_top.proofs.ReadingLemmas.{tokens-once}
@@ -54,22 +54,21 @@ module _ (same : (a b : LexedText) → a.text ≡ b.text → IsLexed a → IsLex
 -- ---- texts that are not read
 
 -- the text whose turn it is was not read
-not-read : (told : Option Texts) (absence read_failed : Type 0) (run : RunWords) (name : List ℕ) (refusal : TextRefusal) → Reaches told (run.program ∷ run.query ∷ []) name → IsTextNotRead told absence read_failed name refusal
-    → RunFails told absence read_failed run (cause_of name refusal)
-not-read told absence read_failed run name text.Absent r h = absent name r h.0 h.1
-not-read told absence read_failed run name text.Unreadable r h = unreadable name r h
-not-read told absence read_failed run name text.Oversized r h = oversized name r h
-not-read told absence read_failed run name (text.Faulty fault) r h = absurd h
+pub not-read : (told : Option Texts) (absence read_failed : Type 0) (names : List (List ℕ)) (name : List ℕ) (refusal : TextRefusal) → Reaches told names name → IsTextNotRead told absence read_failed name refusal → ReadFails told absence read_failed names (cause_of name refusal)
+not-read told absence read_failed names name text.Absent r h = absent name r h.0 h.1
+not-read told absence read_failed names name text.Unreadable r h = unreadable name r h
+not-read told absence read_failed names name text.Oversized r h = oversized name r h
+not-read told absence read_failed names name (text.Faulty fault) r h = absurd h
 
 pub program-refused : (told : Option Texts) (absence read_failed : Type 0) (run : RunWords) (e : Refusal) → IsNotRead told absence read_failed run.program Program e → Prepares told absence read_failed run (Err e)
 program-refused told absence read_failed run (Text role refusal) h =
-    subst (λ r. RunFails told absence read_failed run (cause_of (name_of run r) refusal)) (sym h.0) (not-read told absence read_failed run run.program refusal first h.1)
+    subst (λ r. RunFails told absence read_failed run (cause_of (name_of run r) refusal)) (sym h.0) (not_read (cause_of run.program refusal) (not-read told absence read_failed (run_texts run) run.program refusal first h.1))
 program-refused told absence read_failed run Unwritable h = absurd h
 program-refused told absence read_failed run OutOfMemory h = tt
 
 pub query-refused : (told : Option Texts) (absence read_failed : Type 0) (run : RunWords) (program : List ℕ) (e : Refusal) → IsRead told run.program program → IsNotRead told absence read_failed run.query Query e → Prepares told absence read_failed run (Err e)
 query-refused told absence read_failed run program (Text role refusal) p h =
-    subst (λ r. RunFails told absence read_failed run (cause_of (name_of run r) refusal)) (sym h.0) (not-read told absence read_failed run run.query refusal (later program p first) h.1)
+    subst (λ r. RunFails told absence read_failed run (cause_of (name_of run r) refusal)) (sym h.0) (not_read (cause_of run.query refusal) (not-read told absence read_failed (run_texts run) run.query refusal (later program p first) h.1))
 query-refused told absence read_failed run program Unwritable p h = absurd h
 query-refused told absence read_failed run program OutOfMemory p h = tt
 
@@ -124,3 +123,31 @@ query-judged program query bound text_fault.OutOfMemory r e l h = subst (λ x. J
 -- what the texts of tokens ask
 pub asks-texts : (p q program query : List ℕ) (bound : ℕ) (asked : Option ProblemTree) → p ≡ program → q ≡ query → Asks p q bound asked → Asks program query bound asked
 asks-texts p q program query bound asked e f h = subst (λ x. Asks x query bound asked) e (subst (λ x. Asks p x bound asked) f h)
+
+-- ---- prints
+
+-- the text was not read
+pub source-refused : (told : Option Texts) (absence read_failed : Type 0) (name : List ℕ) (e : Refusal) → IsNotRead told absence read_failed name Program e → IsNotPrinted told absence read_failed name e
+source-refused told absence read_failed name (Text role refusal) h = source_not_read (cause_of name refusal) (not-read told absence read_failed (name ∷ []) name refusal first h.1)
+source-refused told absence read_failed name Unwritable h = absurd h
+source-refused told absence read_failed name OutOfMemory h = tt
+
+-- the text was read, and judged
+pub source-printed : (told : Option Texts) (name source bytes : List ℕ) → IsRead told name source → IsMadeOf source bytes → IsPrintedAs told name bytes
+source-printed told name source bytes h m = record { text = source; tree = m.tree; text_read = h; is_program = m.is_program; is = m.is }
+
+pub source-judged : (told : Option Texts) (absence read_failed : Type 0) (name source : List ℕ) (e : Refusal) → IsRead told name source → IsNotMadeOf source e → IsNotPrinted told absence read_failed name e
+source-judged told absence read_failed name source (Text role (text.Faulty f)) h m = faulty_source source f h m
+source-judged told absence read_failed name source (Text role text.Absent) h m = absurd m
+source-judged told absence read_failed name source (Text role text.Unreadable) h m = absurd m
+source-judged told absence read_failed name source (Text role text.Oversized) h m = absurd m
+source-judged told absence read_failed name source Unwritable h m = absurd m
+source-judged told absence read_failed name source OutOfMemory h m = tt
+
+pub source-faulty : (source : List ℕ) (fault : TextFault) (e : Refusal) → e ≡ refusal_of Program fault → IsReadingCause Program source fault → IsNotMadeOf source e
+source-faulty source (text_fault.Text f) e r h = subst (IsNotMadeOf source) (sym r) h
+source-faulty source text_fault.OutOfMemory e r h = subst (IsNotMadeOf source) (sym r) tt
+
+pub source-unprinted : {A : Type 0} (told : Option Texts) (absence read_failed : Type 0) (name source : List ℕ) (r : Result A Refusal) → IsRead told name source → IfErr r (IsNotMadeOf source) → IfErr r (IsNotPrinted told absence read_failed name)
+source-unprinted told absence read_failed name source (Ok x) h m = tt
+source-unprinted told absence read_failed name source (Err e) h m = source-judged told absence read_failed name source e h m

@@ -1,6 +1,6 @@
 -- The words of a run, read from its names to its options.
-use Rattle.std.proofs.Common.{◌≡◌, ◌⊎◌, ℕ, zero, suc, ◌+◌, ◌<◌, ◌≤◌, Bool, true, false, ◌&&◌, not, List, [], ◌∷◌, ◌++◌, length, take, slice_get, get_or, Option, Some, None, refl, ap, sym, subst, ◌∙◌, inl, inr, arith, if◌then◌else◌}
-use Rattle.std.specs.Prelude.{All, IfSome, IsSomeAnd, MatchOption, codes, is_some, nat_le, option_map, Result, Ok, Err, IsErrAnd, MatchResult}
+use Rattle.std.proofs.Common.{◌≡◌, ℕ, zero, suc, ◌+◌, ◌<◌, ◌≤◌, Bool, true, false, ◌&&◌, List, [], ◌∷◌, ◌++◌, length, take, slice_get, get_or, Option, Some, None, refl, ap, sym, subst, ◌∙◌, arith, if◌then◌else◌}
+use Rattle.std.specs.Prelude.{All, IsSomeAnd, codes, is_some, nat_le, option_map, Result, Ok, Err, IsErrAnd, MatchResult}
 use Rattle.std.specs.List.{list_any, list_all}
 use Rattle.std.specs.Str.Parse.{digits_value}
 use Rattle.std.proofs.lemmas.Bool.{leb-true}
@@ -11,9 +11,9 @@ use Rattle.std.specs.Borrow.{Bor}
 use Rattle.ll_top.specs.Outcome.{word_texts}
 use Rattle.ll_top.specs.declared.words.RunOptions.{RunOptions}
 use Rattle.ll_top.specs.Begins.{Begins, IsFirstBad, Leads}
-use Rattle.ll_top.specs.Words.{Part, ThisWord, AnyName, NumberFrom, is_part, is_word, is_name_word, is_number_word, number_from, value_within, greatest_bound, greatest_workers, OptionForm, Takes, here, behind, Fits, part, option, done, FitsForm, FitsSome, forms, run_form, bound_option, workers_option, IsInForm, number_behind, RunWords, IsRun, IsBadWord}
+use Rattle.ll_top.specs.Words.{ThisWord, AnyName, NumberFrom, is_part, is_word, is_name_word, is_number_word, number_from, value_within, greatest_bound, greatest_workers, Takes, here, behind, Fits, part, option, done, FitsForm, run_form, bound_option, workers_option, number_behind, IsRun}
 use Rattle.ll_top.specs.RunForm.{HasPart, LacksPart, IsBadRunWord, left, options_left, IsValue, IsReadTo}
-use Rattle.ll_top.proofs.FirstBad.{drop-end, leads-start, leads-bad, IsStuck}
+use Rattle.ll_top.proofs.FirstBad.{drop-end, leads-start}
 use Rattle.ll_top.proofs.Forms.{same-word, words-same, DifferentWords, leads-part, bad-part, leads-option, bad-option, bad-end}
 
 -- ---- every part of a run can be gone on with
@@ -301,50 +301,3 @@ whole-run words program query options bound workers p q b w r =
       bound = subst (IsValue (word_texts words) (codes "--bound") (length words)) b r.bound;
       workers = subst (IsValue (word_texts words) (codes "--workers") (length words)) w r.workers;
     }
-
--- ---- a run among the forms
-
-run-alone : (words : List (List ℕ)) → IsInForm words → FitsForm run_form words
-run-alone words (inl f) = f
-run-alone words (inr f) = absurd f
-
-run-first : {w : List ℕ} {ws : List (List ℕ)} → FitsForm run_form (w ∷ ws) → is_word w (codes "run") ≡ true
-run-first (part h f) = h
-
--- the first bad word of a run is that of its words
-pub bad-run : (words : List (List ℕ)) (number : ℕ) → IsBadRunWord words number → IsBadWord words number
-bad-run words number b = record {
-  place = b.place;
-  is = b.is;
-  bad = record {
-    within = b.bad.within;
-    before = (b.bad.before.0, inl b.bad.before.1);
-    here = λ l m. b.bad.here l (m.0, run-alone (take (b.place + 1) words ++ m.0) m.1);
-    at_end = λ e m. b.bad.at_end e (run-alone words m);
-  };
-}
-
--- no form begins so
-pub bad-first : (words : List (List ℕ)) → IfSome (slice_get words 0) (λ w. is_word w (codes "run") ≡ false) → IsBadWord words 1
-bad-first words h = record {
-  place = 0;
-  is = refl;
-  bad = leads-bad IsInForm IsInForm words 0 (leads-start IsInForm words) (can-run.0, inl can-run.1) (stuck (slice_get words 0) h);
-}
-  where
-    stuck : (next : Option (List ℕ)) → IfSome next (λ w. is_word w (codes "run") ≡ false) → IsStuck IsInForm next
-    stuck None h = λ f. elim (run-alone [] f) [ ]
-    stuck (Some w) h = λ ys f. let e = run-first (run-alone (w ∷ ys) f) in cc
-
-pub first-lacks : (words : List (Bor (List ℕ))) → None ≡ slice_get words 0 → IfSome (slice_get (word_texts words) 0) (λ w. is_word w (codes "run") ≡ false)
-first-lacks words e = subst (λ o. IfSome o (λ w. is_word w (codes "run") ≡ false)) (sym (slice_get-map (λ w. w.now) words 0 ∙ ap (λ o. option_map (λ w. w.now) o) (sym e))) tt
-
-pub first-other : (words : List (Bor (List ℕ))) (word : Bor (List ℕ)) → Some word ≡ slice_get words 0 → is_word word.now (codes "run") ≡ false → IfSome (slice_get (word_texts words) 0) (λ w. is_word w (codes "run") ≡ false)
-first-other words word e h = subst (λ o. IfSome o (λ w. is_word w (codes "run") ≡ false)) (sym (slice_get-map (λ w. w.now) words 0 ∙ ap (λ o. option_map (λ w. w.now) o) (sym e))) h
-
-pub not-true : (a b : Bool) → a ≡ true → a ≡ not b → b ≡ false
-not-true a true h e = cc
-not-true a false h e = refl
-
-pub first-run : (words : List (Bor (List ℕ))) (word : Bor (List ℕ)) → Some word ≡ slice_get words 0 → is_word word.now (codes "run") ≡ true → HasPart (word_texts words) 0 (ThisWord (codes "run"))
-first-run words word e h = subst (λ o. IsSomeAnd o (λ w. is_word w (codes "run") ≡ true)) (sym (slice_get-map (λ w. w.now) words 0 ∙ ap (λ o. option_map (λ w. w.now) o) (sym e))) h

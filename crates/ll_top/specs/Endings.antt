@@ -21,8 +21,10 @@ use Rattle.ll_top.specs.declared.refusal.Refusal.TheVariants.{Text, Unwritable, 
 use Rattle.ll_top.specs.Words.{RunWords}
 use Rattle.ll_top.specs.Faults.{Cause, Usage, Absent, Unreadable, Oversized, Faulty, fault_text, cause_status}
 use Rattle.ll_top.specs.Reading.{Asks}
-use Rattle.ll_top.specs.Judging.{IsOfLanguage, IsTextFault}
-use Rattle.ll_top.specs.Outcome.{longest_text, IsRead, RunFails, RunAsks, RunComesTo, AppendsOwn}
+use Rattle.ll_parser.specs.Raw.{ProgramTree}
+use Rattle.ll_parser.specs.Printed.{program_text}
+use Rattle.ll_top.specs.Judging.{IsOfLanguage, IsProgramText, IsReadingFault, IsTextFault}
+use Rattle.ll_top.specs.Outcome.{longest_text, RunFails, RunAsks, RunComesTo, PrintFails, IsPrintedAs, AppendsOwn}
 
 -- ---- causes
 
@@ -103,3 +105,31 @@ RunEnds told absence read_failed write_failed run before after (Ok found) = (p :
 RunEnds told absence read_failed write_failed run before after (Err (Text role refusal)) = RunFails told absence read_failed run (cause_of (name_of run role) refusal) × (after ≡ before)
 RunEnds told absence read_failed write_failed run before after (Err Unwritable) = (p : ProblemTree) × RunAsks told run p × write_failed × AppendsFront before (run_text p) after
 RunEnds told absence read_failed write_failed run before after (Err OutOfMemory) = AppendsOwn (RunComesTo told absence read_failed run) before after
+
+-- ---- the print
+
+-- the bytes are those that this text is printed as
+pub record IsMadeOf (text bytes : List ℕ) : Type 0 where
+  pub tree : ProgramTree
+  pub is_program : IsProgramText text tree
+  pub is : bytes ≡ program_text tree
+
+-- why this text, which was read, is not printed
+abbrev pub IsNotMadeOf : List ℕ → Refusal → Type 0
+IsNotMadeOf source (Text role (text.Faulty fault)) = IsReadingFault Program source fault
+IsNotMadeOf source (Text role refusal) = ⊥
+IsNotMadeOf source Unwritable = ⊥
+IsNotMadeOf source OutOfMemory = Unit {0}
+
+-- why no bytes were printed of the text of this name
+abbrev pub IsNotPrinted : Option Texts → Type 0 → Type 0 → List ℕ → Refusal → Type 0
+IsNotPrinted told absence read_failed name (Text role refusal) = PrintFails told absence read_failed name (cause_of name refusal)
+IsNotPrinted told absence read_failed name Unwritable = ⊥
+IsNotPrinted told absence read_failed name OutOfMemory = Unit {0}
+
+-- how a print ended, before any fault line is written
+abbrev pub PrintEnds : {A : Type 0} → Option Texts → Type 0 → Type 0 → Type 0 → List ℕ → Option (List ℕ) → Option (List ℕ) → Result A Refusal → Type 0
+PrintEnds told absence read_failed write_failed name before after (Ok done) = (bytes : List ℕ) × IsPrintedAs told name bytes × (after ≡ append_known before bytes)
+PrintEnds told absence read_failed write_failed name before after (Err (Text role refusal)) = PrintFails told absence read_failed name (cause_of name refusal) × (after ≡ before)
+PrintEnds told absence read_failed write_failed name before after (Err Unwritable) = (bytes : List ℕ) × IsPrintedAs told name bytes × write_failed × AppendsFront before bytes after
+PrintEnds told absence read_failed write_failed name before after (Err OutOfMemory) = after ≡ before

@@ -59,18 +59,34 @@ abbrev pub HasGrammarFault : Role → LexedText → Fault → Type 0
 HasGrammarFault Program lexed f = HasTokenFault programs most_open (toks_of lexed) lexed.end f
 HasGrammarFault Query lexed f = HasTokenFault queries most_open (toks_of lexed) lexed.end f
 
--- The fault of a text: the first one of kinds 1 to 3; or else, where its tokens are not read by the grammar, their first fault, of
--- kinds 4 to 6; or else, of kind 17, the first token through which no text of today's language begins, or the end where more is
--- needed.
+-- a text is read by the grammar as this program
+pub record IsProgramText (text : List ℕ) (tree : ProgramTree) : Type 0 where
+  pub lexed : LexedText
+  pub of_text : lexed.text ≡ text
+  pub is_lexed : IsLexed lexed
+  pub reads : Reads programs most_open (toks_of lexed) tree
+
+-- The fault of reading a text: the first one of kinds 1 to 3; or else, where its tokens are not read by the grammar, their first
+-- fault, of kinds 4 to 6.
+pub data IsReadingFault (role : Role) (text : List ℕ) (f : Fault) : Type 0 where
+  lexical : HasFault text f → IsReadingFault role text f
+  grammatical : (lexed : LexedText) → lexed.text ≡ text → IsLexed lexed → HasGrammarFault role lexed f → IsReadingFault role text f
+
+-- The fault of a text of a run: that of reading it, of kinds 1 to 6; or else, of kind 17, the first token through which no text of
+-- today's language begins, or the end where more is needed.
 pub data IsTextFault (role : Role) (text : List ℕ) (f : Fault) : Type 0 where
-  lexical : HasFault text f → IsTextFault role text f
-  grammatical : (lexed : LexedText) → lexed.text ≡ text → IsLexed lexed → HasGrammarFault role lexed f → IsTextFault role text f
+  of_reading : IsReadingFault role text f → IsTextFault role text f
   not_built : (lexed : LexedText) (n : ℕ) → lexed.text ≡ text → IsLexed lexed → IsOfGrammar role lexed → IsFirstBad (IsText role) (kinds_in lexed.tokens) n → f ≡ record { at = place_of_token lexed n; kind = 17 } → IsTextFault role text f
 
 -- why a text was not judged to be of the language; want of memory is free
 abbrev pub IsTextCause : Role → List ℕ → TextFault → Type 0
 IsTextCause role text (fault.Text f) = IsTextFault role text f
 IsTextCause role text fault.OutOfMemory = Unit {0}
+
+-- why a text was not read by the grammar; want of memory is free
+abbrev pub IsReadingCause : Role → List ℕ → TextFault → Type 0
+IsReadingCause role text (fault.Text f) = IsReadingFault role text f
+IsReadingCause role text fault.OutOfMemory = Unit {0}
 
 -- why the tokens of a text were not read by the grammar; want of memory is free
 abbrev pub IsGrammarCause : Role → LexedText → TextFault → Type 0

@@ -1,5 +1,5 @@
 -- What a call of the program does, by its words and the texts on its shelf.
-use Rattle.std.specs.Prelude.{◌≡◌, ◌≤◌, ◌<◌, ℕ, List, [], ◌∷◌, length, map, Option, Some, None, IsSomeAnd, IfSome}
+use Rattle.std.specs.Prelude.{◌≡◌, ◌≤◌, ◌<◌, ◌⊎◌, ℕ, List, [], ◌∷◌, length, map, Option, Some, None, IsSomeAnd, IfSome}
 use Rattle.std.specs.Borrow.{Bor}
 use Rattle.std.specs.Io.KnownBytes.{append_known}
 use Rattle.ll_edge.specs.Texts.{Texts, text_of}
@@ -7,11 +7,13 @@ use Rattle.ll_edge.specs.Pieces.{AppendsFront}
 use Rattle.ll_laws.specs.Problem.{ProblemTree}
 use Rattle.ll_laws.specs.Output.{run_text, run_status}
 use Rattle.ll_lexer.specs.declared.Fault.{Fault}
+use Rattle.ll_parser.specs.Raw.{ProgramTree}
+use Rattle.ll_parser.specs.Printed.{program_text}
 use Rattle.ll_top.specs.declared.judge.Role.TheVariants.{Program, Query}
-use Rattle.ll_top.specs.Words.{RunWords, IsInForm, IsBadWord, IsRun}
+use Rattle.ll_top.specs.Words.{RunWords, IsBadWord, IsRun, IsPrint}
 use Rattle.ll_top.specs.Faults.{Cause, Usage, Absent, Unreadable, Oversized, Faulty, fault_text, cause_status}
 use Rattle.ll_top.specs.Reading.{Asks}
-use Rattle.ll_top.specs.Judging.{IsOfLanguage, IsTextFault}
+use Rattle.ll_top.specs.Judging.{IsOfLanguage, IsProgramText, IsReadingFault, IsTextFault}
 
 -- the words as bytes
 abbrev pub word_texts : List (Bor (List ℕ)) → List (List ℕ)
@@ -35,12 +37,18 @@ pub data Reaches (told : Option Texts) : List (List ℕ) → List ℕ → Type 0
 abbrev pub run_texts : RunWords → List (List ℕ)
 run_texts run = run.program ∷ run.query ∷ []
 
--- Why a run ends with a fault line: it is the turn of a text that is absent, can't be read or is too long; or both texts were read, and one
--- has a fault, where the program is judged first. `absence` and `read_failed` say that the shelf's counts rose.
+-- Why the texts of these names are not all read: it is the turn of one that is absent, can't be read or is too long. `absence` and
+-- `read_failed` say that the shelf's counts rose.
+pub data ReadFails (told : Option Texts) (absence read_failed : Type 0) (names : List (List ℕ)) : Cause → Type 0 where
+  absent : (name : List ℕ) → Reaches told names name → absence → IfSome told (λ texts. text_of texts name ≡ None) → ReadFails told absence read_failed names (Absent name)
+  unreadable : (name : List ℕ) → Reaches told names name → read_failed → ReadFails told absence read_failed names (Unreadable name)
+  oversized : (name : List ℕ) → Reaches told names name → IfSome told (λ texts. IsSomeAnd (text_of texts name) (λ text. longest_text < length text)) → ReadFails told absence read_failed names (Oversized name)
+
+-- ---- runs
+
+-- Why a run ends with a fault line: its texts are not both read; or one of them has a fault, where the program is judged first.
 pub data RunFails (told : Option Texts) (absence read_failed : Type 0) (run : RunWords) : Cause → Type 0 where
-  absent : (name : List ℕ) → Reaches told (run_texts run) name → absence → IfSome told (λ texts. text_of texts name ≡ None) → RunFails told absence read_failed run (Absent name)
-  unreadable : (name : List ℕ) → Reaches told (run_texts run) name → read_failed → RunFails told absence read_failed run (Unreadable name)
-  oversized : (name : List ℕ) → Reaches told (run_texts run) name → IfSome told (λ texts. IsSomeAnd (text_of texts name) (λ text. longest_text < length text)) → RunFails told absence read_failed run (Oversized name)
+  not_read : (cause : Cause) → ReadFails told absence read_failed (run_texts run) cause → RunFails told absence read_failed run cause
   faulty_program : (program query : List ℕ) (f : Fault) → IsRead told run.program program → IsRead told run.query query → IsTextFault Program program f → RunFails told absence read_failed run (Faulty run.program f)
   faulty_query : (program query : List ℕ) (f : Fault) → IsRead told run.program program → IsRead told run.query query → IsOfLanguage Program program → IsTextFault Query query f → RunFails told absence read_failed run (Faulty run.query f)
 
@@ -57,10 +65,33 @@ pub data RunComesTo (told : Option Texts) (absence read_failed : Type 0) (run : 
   ran : (p : ProblemTree) → RunAsks told run p → status ≡ run_status p → text ≡ run_text p → RunComesTo told absence read_failed run status text
   failed : (cause : Cause) → RunFails told absence read_failed run cause → status ≡ cause_status cause → text ≡ fault_text cause → RunComesTo told absence read_failed run status text
 
+-- ---- prints
+
+-- the text of this name was read, and is a program that is printed as these bytes
+pub record IsPrintedAs (told : Option Texts) (name bytes : List ℕ) : Type 0 where
+  pub text : List ℕ
+  pub tree : ProgramTree
+  pub text_read : IsRead told name text
+  pub is_program : IsProgramText text tree
+  pub is : bytes ≡ program_text tree
+
+-- why a print ends with a fault line: its text is not read, or has a fault of kinds 1 to 6; no other kind is judged
+pub data PrintFails (told : Option Texts) (absence read_failed : Type 0) (name : List ℕ) : Cause → Type 0 where
+  source_not_read : (cause : Cause) → ReadFails told absence read_failed (name ∷ []) cause → PrintFails told absence read_failed name cause
+  faulty_source : (text : List ℕ) (f : Fault) → IsRead told name text → IsReadingFault Program text f → PrintFails told absence read_failed name (Faulty name f)
+
+-- what a print comes to: the program as it is printed, or a fault line, each with its status
+pub data PrintComesTo (told : Option Texts) (absence read_failed : Type 0) (name : List ℕ) (status : ℕ) (text : List ℕ) : Type 0 where
+  printed : IsPrintedAs told name text → status ≡ 0 → PrintComesTo told absence read_failed name status text
+  print_failed : (cause : Cause) → PrintFails told absence read_failed name cause → status ≡ cause_status cause → text ≡ fault_text cause → PrintComesTo told absence read_failed name status text
+
+-- ---- calls
+
 -- what a call with these words comes to: the status and the whole text, where memory does not run out and no write fails
 pub data ComesTo (words : List (List ℕ)) (told : Option Texts) (absence read_failed : Type 0) (status : ℕ) (text : List ℕ) : Type 0 where
   misused : (number : ℕ) → IsBadWord words number → status ≡ 3 → text ≡ fault_text (Usage number) → ComesTo words told absence read_failed status text
   runs : (run : RunWords) → IsRun words run → RunComesTo told absence read_failed run status text → ComesTo words told absence read_failed status text
+  prints : (name : List ℕ) → IsPrint words name → PrintComesTo told absence read_failed name status text → ComesTo words told absence read_failed status text
 
 -- what was appended where memory ran out: nothing, or a prefix of what would have been written
 pub data AppendsOwn (Comes : ℕ → List ℕ → Type 0) (before after : Option (List ℕ)) : Type 0 where
@@ -73,3 +104,10 @@ pub data Ends (Comes : ℕ → List ℕ → Type 0) (write_failed : Type 0) (bef
   whole : (text : List ℕ) → Comes status text → after ≡ append_known before text → Ends Comes write_failed before after status
   unwritable : (meant : ℕ) (text : List ℕ) → Comes meant text → write_failed → status ≡ 6 → AppendsFront before text after → Ends Comes write_failed before after status
   no_memory : status ≡ 10 → AppendsOwn Comes before after → Ends Comes write_failed before after status
+
+-- A call with these words is complete: where the texts are told, and neither a read nor a write failed, it ends with the one status and
+-- the one whole text that its words and texts come to, or memory ran out.
+abbrev pub Completes : List (List ℕ) → Option Texts → Type 0 → Type 0 → Option (List ℕ) → Option (List ℕ) → ℕ → Type 0
+Completes words told read_failed write_failed before after status =
+    (texts : Texts) (meant : ℕ) (text : List ℕ) → told ≡ Some texts → (read_failed → ⊥) → (write_failed → ⊥) → ComesTo words (Some texts) (Unit {0}) ⊥ meant text
+    → ((status ≡ meant) × (after ≡ append_known before text)) ⊎ (status ≡ 10)

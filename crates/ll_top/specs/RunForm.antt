@@ -1,10 +1,10 @@
--- How the words of a run are read: up to some word, with the options' values as far as they are known.
-use Rattle.std.specs.Prelude.{◌≡◌, ℕ, ◌+◌, ◌≤◌, Bool, true, false, List, [], ◌∷◌, ◌++◌, take, length, slice_get, All, Option, Some, None, IsSomeAnd, IfSome, MatchOption, codes}
+-- How the words of a form are read, and those of a run: up to some word, with the options' values as far as they are known.
+use Rattle.std.specs.Prelude.{◌≡◌, ℕ, ◌+◌, ◌≤◌, true, false, List, [], ◌∷◌, ◌++◌, take, slice_get, All, Option, Some, None, IsSomeAnd, IfSome, MatchOption, codes}
 use Rattle.ll_top.specs.declared.words.RunOption.{RunOption}
 use Rattle.ll_top.specs.declared.words.RunOption.TheVariants.{Bound, Workers}
 use Rattle.ll_top.specs.declared.words.RunOptions.{RunOptions}
 use Rattle.ll_top.specs.Begins.{IsFirstBad, Leads}
-use Rattle.ll_top.specs.Words.{Part, is_part, is_word, OptionForm, Fits, FitsForm, run_form, bound_option, workers_option, number_behind, greatest_bound}
+use Rattle.ll_top.specs.Words.{Part, is_part, is_word, OptionForm, Form, Fits, FitsForm, run_form, bound_option, workers_option, number_behind, greatest_bound}
 
 -- the word at this place may stand for the part
 abbrev pub HasPart : List (List ℕ) → ℕ → Part → Type 0
@@ -14,11 +14,15 @@ HasPart words at p = IsSomeAnd (slice_get words at) (λ w. is_part p w ≡ true)
 abbrev pub LacksPart : List (List ℕ) → ℕ → Part → Type 0
 LacksPart words at p = IfSome (slice_get words at) (λ w. is_part p w ≡ false)
 
--- the word of this number is the first one through which no run begins
-pub record IsBadRunWord (words : List (List ℕ)) (number : ℕ) : Type 0 where
+-- the word of this number is the first one through which no words of the form begin
+pub record IsBadFormWord (form : Form) (words : List (List ℕ)) (number : ℕ) : Type 0 where
   pub place : ℕ
   pub is : number ≡ place + 1
-  pub bad : IsFirstBad (FitsForm run_form) words place
+  pub bad : IsFirstBad (FitsForm form) words place
+
+-- the word of this number is the first one through which no run begins
+abbrev pub IsBadRunWord : List (List ℕ) → ℕ → Type 0
+IsBadRunWord words number = IsBadFormWord run_form words number
 
 -- an option whose value is not known yet
 abbrev pub left : Option ℕ → OptionForm → List OptionForm

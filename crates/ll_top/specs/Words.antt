@@ -1,6 +1,8 @@
 -- The forms of a command's words.
-use Rattle.std.specs.Prelude.{◌≡◌, ◌⊎◌, ℕ, ◌+◌, Bool, true, false, ◌&&◌, not, List, [], ◌∷◌, length, filter, nat_eq, nat_le, slice_get, Option, Some, None, is_some, if◌then◌else◌, codes}
+use Rattle.std.specs.Prelude.{◌≡◌, ◌⊎◌, ℕ, ◌+◌, ◌≤◌, Bool, true, false, ◌&&◌, not, List, [], ◌∷◌, length, filter, nat_eq, nat_le, slice_get, Option, Some, None, is_some, if◌then◌else◌, codes}
 use Rattle.ll_top.specs.declared.words.RunCommand.{RunCommand}
+use Rattle.ll_top.specs.declared.words.Command.{Command}
+use Rattle.ll_top.specs.declared.words.Command.TheVariants.{Run, Print}
 use Rattle.std.specs.Str.{bytes_eq}
 use Rattle.std.specs.Char.{is_ascii_digit}
 use Rattle.std.specs.Str.Parse.{digits_value}
@@ -93,8 +95,12 @@ workers_option = record { word = codes "--workers"; values = NumberFrom 1 greate
 abbrev pub run_form : Form
 run_form = record { parts = ThisWord (codes "run") ∷ AnyName ∷ AnyName ∷ []; options = bound_option ∷ workers_option ∷ [] }
 
+-- `print PROGRAM`
+abbrev pub print_form : Form
+print_form = record { parts = ThisWord (codes "print") ∷ AnyName ∷ []; options = [] }
+
 abbrev pub forms : List Form
-forms = run_form ∷ []
+forms = run_form ∷ print_form ∷ []
 
 -- words are in a form
 abbrev pub IsInForm : List (List ℕ) → Type 0
@@ -136,6 +142,21 @@ pub record IsRun (words : List (List ℕ)) (run : RunWords) : Type 0 where
   pub bound : number_behind (codes "--bound") words ≡ Some run.bound
   pub workers : number_behind (codes "--workers") words ≡ Some run.workers
 
+-- words are in the form of a print, and this is the name of its program
+pub record IsPrint (words : List (List ℕ)) (name : List ℕ) : Type 0 where
+  pub form : FitsForm print_form words
+  pub program : slice_get words 1 ≡ Some name
+
 -- what the program's record of a run shows
 abbrev pub shown_words : RunCommand → RunWords
 shown_words c = record { program = c.program.now; query = c.query.now; bound = c.bound; workers = c.workers }
+
+-- words ask for this command
+abbrev pub IsCommand : List (List ℕ) → Command → Type 0
+IsCommand words (Run run) = IsRun words (shown_words run)
+IsCommand words (Print name) = IsPrint words name.now
+
+-- a command's bound, where it has one, is not past the greatest
+abbrev pub IsBounded : Command → Type 0
+IsBounded (Run run) = run.bound ≤ greatest_bound
+IsBounded (Print name) = Unit {0}

@@ -1,12 +1,16 @@
 //! Judging a text: its tokens, where it is of today's language, or its fault.
-ghost use Rattle.std.specs.Prelude.{◌≡◌, ◌≤◌, length, Some, IfOk, IfErr, MatchOption, MatchResult};
+ghost use Rattle.std.specs.Prelude.{◌≡◌, ◌≤◌, length, All, Some, IfOk, IfErr, MatchOption, MatchResult};
 ghost use Rattle.ll_lexer.specs.Reading.{LexedText, IsLexed};
 ghost use Rattle.ll_top.specs.Begins.{IsFirstBad};
-ghost use Rattle.ll_top.specs.Judging.{kinds_in, place_of_token, IsText, IsOfGrammar, IsTextCause, IsGrammarCause};
+ghost use Rattle.ll_parser.specs.Drafts.{ClausesFit, ModuleFits};
+ghost use Rattle.ll_parser.specs.Nodes.{shown_program};
+ghost use Rattle.ll_parser.specs.Reads.{IsWhole};
+ghost use Rattle.ll_parser.specs.Text.{programs};
+ghost use Rattle.ll_top.specs.Judging.{kinds_in, place_of_token, IsText, IsProgramText, IsOfGrammar, IsTextCause, IsReadingCause, IsGrammarCause};
 ghost use Rattle.ll_top.specs.Machine.{first_state, after, after_dot, is_end, IsNotBuilt};
 
 use ll_lexer::{Fault, Place, TextFault, TokenKind, TokenList, tokens};
-use ll_parser::{program, query};
+use ll_parser::{RawProgram, program, query};
 use std::alloc::Global;
 
 /// Which text of a command.
@@ -58,6 +62,21 @@ pub fn judge(alloc: Global, text: &[u8], role: Role) -> Result<TokenList<'_>, Te
             kind: NOT_BUILT,
         })),
     }
+}
+
+/// The program that a text is by the grammar, or its fault of kinds 1 to 6: no other kind is judged.
+pub fn judge_program(alloc: Global, text: &[u8]) -> Result<RawProgram, TextFault>
+    requires { length text.now ≤ 16777216 }
+    ensures ok { IfOk result (λ p. IsProgramText text.now (shown_program p.names p.forms p.clauses.items p.modules.items)) }
+    ensures whole { IfOk result (λ p. IsWhole programs (shown_program p.names p.forms p.clauses.items p.modules.items)) }
+    ensures inside { IfOk result (λ p. ClausesFit p.forms p.clauses.items × All (ModuleFits p.forms) p.modules.items) }
+    ensures err { IfErr result (λ e. IsReadingCause Role.Program text.now e) }
+{
+    let list = match tokens(alloc, text) {
+        Ok(list) => list,
+        Err(fault) => return Err(fault),
+    };
+    program(alloc, &list)
 }
 
 // Reads the tokens of a text by the grammar. The tree is let go.

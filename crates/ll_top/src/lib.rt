@@ -6,6 +6,7 @@ mod fault;
 mod judge;
 mod prepare;
 mod print;
+mod printing;
 mod reader;
 mod refusal;
 mod run;
@@ -17,7 +18,7 @@ ghost use Rattle.ll_edge.specs.Texts.{Texts};
 ghost use Rattle.ll_laws.specs.Problem.{ProblemTree};
 ghost use Rattle.ll_top.specs.Words.{IsInForm, IsInWorkersForm, shown_words};
 ghost use Rattle.ll_top.specs.Reading.{Asks};
-ghost use Rattle.ll_top.specs.Outcome.{word_texts, ComesTo, RunComesTo, Ends};
+ghost use Rattle.ll_top.specs.Outcome.{word_texts, ComesTo, RunComesTo, PrintComesTo, Ends, Completes};
 ghost use Rattle.ll_top.specs.Endings.{status_of_found, name_of, RunEnds};
 
 use fault::{Cause, refuse};
@@ -26,16 +27,18 @@ use ll_edge::{Gate, Shelf, Sink};
 use ll_lexer::one_reading;
 use ll_parser::{one_program, one_query};
 use prepare::prepare;
+use printing::print_program;
 use refusal::Refusal;
 use run::{Found, run};
 use std::alloc::Global;
 use std::sync::Wait;
 use std::thread::Threads;
-use words::{RunCommand, read_command};
+use words::{Command, RunCommand, read_command};
 
 /// Does what the words say, over the texts of the shelf, and writes to the sink. The answer is the program's exit status:
 ///
-/// - 0: there is an answer; 1: there is none; 2: there is none, but some branch reached the bound. The whole text was written.
+/// - 0: there is an answer, or the program was printed; 1: there is none; 2: there is none, but some branch reached the bound. The
+///   whole text was written.
 /// - 3: the words are in no form; 4: there is no text of a name; 5: the shelf failed; 7: a text has a fault; 8: a text has more
 ///   than 16,777,216 bytes. The line of this cause was written.
 /// - 6: the sink failed; 10: memory ran out. A prefix of the text was written.
@@ -52,6 +55,10 @@ pub fn lolli<R: Threads + Wait + Sync, F: Shelf, O: Sink, G: Gate>(
         (Rose (F.faults shelf.old) (F.faults shelf.new))) (Rose (O.faults sink.old) (O.faults sink.new))
         (O.written sink.old) (O.written sink.new) result }
 
+    // Where nothing failed, the one status and the whole text, or want of memory.
+    ensures complete { Completes (word_texts words.now) (F.texts shelf.old) (Rose (F.faults shelf.old) (F.faults shelf.new))
+        (Rose (O.faults sink.old) (O.faults sink.new)) (O.written sink.old) (O.written sink.new) result }
+
     // The causes of statuses, over every shelf and sink.
     ensures usage { result ≡ 3 → IsInForm (word_texts words.now) → ⊥ }
     ensures misused { (IsInForm (word_texts words.now) → ⊥) → (result ≡ 3) ⊎ (result ≡ 6) }
@@ -66,10 +73,12 @@ pub fn lolli<R: Threads + Wait + Sync, F: Shelf, O: Sink, G: Gate>(
 {
     let _ = rt;
     let _ = gate;
+    one_text();
     match lolli_plain(alloc, words, shelf, sink) {
         Some(status) => status,
         None => match read_command(words) {
-            Ok(run) => serve_run(alloc, &run, shelf, sink),
+            Ok(Command::Run(run)) => serve_run(alloc, &run, shelf, sink),
+            Ok(Command::Print(_)) => unreachable!(),
             Err(_) => unreachable!(),
         },
     }
@@ -89,6 +98,8 @@ pub fn lolli_plain<F: Shelf, O: Sink>(
     ensures outcome { IfSome result (Ends (ComesTo (word_texts words.now) (F.texts shelf.old) (Rose (F.absences shelf.old) (F.absences shelf.new))
         (Rose (F.faults shelf.old) (F.faults shelf.new))) (Rose (O.faults sink.old) (O.faults sink.new))
         (O.written sink.old) (O.written sink.new)) }
+    ensures complete { IfSome result (Completes (word_texts words.now) (F.texts shelf.old) (Rose (F.faults shelf.old) (F.faults shelf.new))
+        (Rose (O.faults sink.old) (O.faults sink.new)) (O.written sink.old) (O.written sink.new)) }
 
     ensures usage { result ≡ Some 3 → IsInForm (word_texts words.now) → ⊥ }
     ensures misused { (IsInForm (word_texts words.now) → ⊥) → (result ≡ Some 3) ⊎ (result ≡ Some 6) }
@@ -101,10 +112,10 @@ pub fn lolli_plain<F: Shelf, O: Sink>(
         × (F.absences shelf.old ≤ F.absences shelf.new)
         × (O.faults sink.old ≤ O.faults sink.new) }
 {
-    let _ = alloc;
-    let _ = shelf;
+    one_text();
     match read_command(words) {
-        Ok(_) => None,
+        Ok(Command::Run(_)) => None,
+        Ok(Command::Print(name)) => Some(serve_print(alloc, name, shelf, sink)),
         Err(number) => Some(refuse(Cause::Usage(number), sink)),
     }
 }
@@ -173,6 +184,25 @@ fn run_texts<F: Shelf, O: Sink>(
 {
     let problem = prepare(alloc, command, shelf)?;
     run(alloc, &problem, sink)
+}
+
+// Prints a program, and says why not where it is not printed.
+fn serve_print<F: Shelf, O: Sink>(alloc: Global, name: &str, shelf: &mut F, sink: &mut O) -> u8
+    ensures same_texts { F.texts shelf.new ≡ F.texts shelf.old }
+    ensures shelf_faults_kept { F.faults shelf.old ≤ F.faults shelf.new }
+    ensures absences_kept { F.absences shelf.old ≤ F.absences shelf.new }
+    ensures sink_faults_kept { O.faults sink.old ≤ O.faults sink.new }
+
+    ensures ends { Ends (PrintComesTo (F.texts shelf.old) (Rose (F.absences shelf.old) (F.absences shelf.new))
+        (Rose (F.faults shelf.old) (F.faults shelf.new)) name.now) (Rose (O.faults sink.old) (O.faults sink.new))
+        (O.written sink.old) (O.written sink.new) result }
+{
+    match print_program(alloc, name, shelf, sink) {
+        Ok(()) => 0,
+        Err(Refusal::Text(_, refusal)) => refuse(refusal.cause(name), sink),
+        Err(Refusal::Unwritable) => 6,
+        Err(Refusal::OutOfMemory) => 10,
+    }
 }
 
 // The name of a run's text.

@@ -41,8 +41,13 @@ pub fn prepare<F: Shelf>(
     problem_of(alloc, &program, &query, run.bound)
 }
 
-// A text, read whole.
-fn read<F: Shelf>(alloc: Global, shelf: &mut F, name: &str, role: Role) -> Result<Vec<u8>, Refusal>
+/// A text, read whole.
+pub fn read<F: Shelf>(
+    alloc: Global,
+    shelf: &mut F,
+    name: &str,
+    role: Role,
+) -> Result<Vec<u8>, Refusal>
     ensures same_texts { F.texts shelf.new ≡ F.texts shelf.old }
     ensures faults_kept { F.faults shelf.old ≤ F.faults shelf.new }
     ensures absences_kept { F.absences shelf.old ≤ F.absences shelf.new }
@@ -87,8 +92,8 @@ fn problem_of(alloc: Global, program: &[u8], query: &[u8], bound: u32) -> Result
     }
 }
 
-// The refusal of a text that is not judged to be of the language.
-fn refusal(role: Role, fault: TextFault) -> Refusal
+/// The refusal of a text that has a fault.
+pub fn refusal(role: Role, fault: TextFault) -> Refusal
     ensures { result ≡ refusal_of role fault }
 {
     match fault {

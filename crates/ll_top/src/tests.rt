@@ -33,100 +33,104 @@ fn status_of<R: Threads + Wait + Sync>(
     lolli(rt, alloc, &words, shelf, sink, &OpenGate)
 }
 
+// The lines of one answer.
+const ONE: &str = "answer 1\nyes\n";
+
+// A program, a query and a bound, with the status, the lines of the answers and the last line.
+const PROBLEMS: [(&str, &str, &str, u8, &str, &str); 11] = [
+    (
+        "",
+        "true",
+        "1",
+        0,
+        ONE,
+        "answers 1, bound reached 0, inferences 1\n",
+    ),
+    (
+        "",
+        "true",
+        "0",
+        2,
+        "",
+        "answers 0, bound reached 1, inferences 0\n",
+    ),
+    (
+        "LINEAR a. LINEAR b.",
+        "a , b",
+        "3",
+        0,
+        ONE,
+        "answers 1, bound reached 0, inferences 3\n",
+    ),
+    (
+        "% two\nLINEAR a. % one\r\nLINEAR b.",
+        "a %, a\n, b % end",
+        "3",
+        0,
+        ONE,
+        "answers 1, bound reached 0, inferences 3\n",
+    ),
+    (
+        "LINEAR a. LINEAR b.",
+        "a , b",
+        "2",
+        2,
+        "",
+        "answers 0, bound reached 1, inferences 2\n",
+    ),
+    (
+        "LINEAR a.",
+        "a , a",
+        "10",
+        1,
+        "",
+        "answers 0, bound reached 0, inferences 3\n",
+    ),
+    (
+        "LINEAR a.",
+        "true",
+        "10",
+        1,
+        "",
+        "answers 0, bound reached 0, inferences 1\n",
+    ),
+    (
+        "p :- q , r. q. r.",
+        "p.",
+        "1000000",
+        0,
+        ONE,
+        "answers 1, bound reached 0, inferences 4\n",
+    ),
+    (
+        "a. a.",
+        "a",
+        "9",
+        0,
+        "answer 1\nyes\nanswer 2\nyes\n",
+        "answers 2, bound reached 0, inferences 1\n",
+    ),
+    (
+        "p :- p.",
+        "p",
+        "3",
+        2,
+        "",
+        "answers 0, bound reached 1, inferences 3\n",
+    ),
+    (
+        "p.",
+        "p",
+        "03",
+        0,
+        ONE,
+        "answers 1, bound reached 0, inferences 1\n",
+    ),
+];
+
 #[test]
 fn problems_are_run(rt: HostRuntime) -> Result<(), Fail> {
-    let one = "answer 1\nyes\n";
-    let rows = [
-        (
-            "",
-            "true",
-            "1",
-            0,
-            one,
-            "answers 1, bound reached 0, inferences 1\n",
-        ),
-        (
-            "",
-            "true",
-            "0",
-            2,
-            "",
-            "answers 0, bound reached 1, inferences 0\n",
-        ),
-        (
-            "LINEAR a. LINEAR b.",
-            "a , b",
-            "3",
-            0,
-            one,
-            "answers 1, bound reached 0, inferences 3\n",
-        ),
-        (
-            "% two\nLINEAR a. % one\r\nLINEAR b.",
-            "a %, a\n, b % end",
-            "3",
-            0,
-            one,
-            "answers 1, bound reached 0, inferences 3\n",
-        ),
-        (
-            "LINEAR a. LINEAR b.",
-            "a , b",
-            "2",
-            2,
-            "",
-            "answers 0, bound reached 1, inferences 2\n",
-        ),
-        (
-            "LINEAR a.",
-            "a , a",
-            "10",
-            1,
-            "",
-            "answers 0, bound reached 0, inferences 3\n",
-        ),
-        (
-            "LINEAR a.",
-            "true",
-            "10",
-            1,
-            "",
-            "answers 0, bound reached 0, inferences 1\n",
-        ),
-        (
-            "p :- q , r. q. r.",
-            "p.",
-            "1000000",
-            0,
-            one,
-            "answers 1, bound reached 0, inferences 4\n",
-        ),
-        (
-            "a. a.",
-            "a",
-            "9",
-            0,
-            "answer 1\nyes\nanswer 2\nyes\n",
-            "answers 2, bound reached 0, inferences 1\n",
-        ),
-        (
-            "p :- p.",
-            "p",
-            "3",
-            2,
-            "",
-            "answers 0, bound reached 1, inferences 3\n",
-        ),
-        (
-            "p.",
-            "p",
-            "03",
-            0,
-            one,
-            "answers 1, bound reached 0, inferences 1\n",
-        ),
-    ];
-    for (program, query, bound, status, answers, last) in rows {
+    for (program, query, bound, status, answers, last) in PROBLEMS {
         let program = Vec::from_slice(rt.alloc(), program.as_bytes())?;
         let mut shelf = shelf_of(rt.alloc(), program, query, NEVER)?;
         let mut sink = MemSink::new(rt.alloc(), 200, Vec::new(rt.alloc()))?;
@@ -172,12 +176,14 @@ fn a_run_is_cut_where_the_sink_fails(rt: HostRuntime) -> Result<(), Fail> {
 }
 
 // Words that are in no form, with the number of the first bad one.
-const MISUSED: [(&[&str], usize); 24] = [
+const MISUSED: [(&[&str], usize); 26] = [
     (&[], 1),
     (&["go"], 1),
     (&[""], 1),
     (&["make", "perm", "2"], 1),
-    (&["print", "prog"], 1),
+    (&["print"], 2),
+    (&["print", "--bound", "5"], 2),
+    (&["print", "prog", "--workers", "1"], 3),
     (&["run"], 2),
     (&["run", "", "ques", "--bound", "5", "--workers", "1"], 2),
     (&["run", "--bound", "5", "--workers", "1"], 2),
@@ -331,7 +337,7 @@ fn long_texts_and_names_are_told(rt: HostRuntime) -> Result<(), Fail> {
 }
 
 // One line of each status, and how many calls of the sink it takes.
-const LINES: [(&[&str], &str, u64, &str, u64); 5] = [
+const LINES: [(&[&str], &str, u64, &str, u64); 6] = [
     (&["go"], "", NEVER, "fault: usage, word 1\n", 3),
     (
         &["run", "nope", "ques", "--bound", "1", "--workers", "1"],
@@ -359,6 +365,13 @@ const LINES: [(&[&str], &str, u64, &str, u64); 5] = [
         "p\n- .",
         NEVER,
         "fault: prog 2:1 kind 1 byte begins no token\n",
+        11,
+    ),
+    (
+        &["print", "prog"],
+        "p q).",
+        NEVER,
+        "fault: prog 1:4 kind 4 unexpected token\n",
         11,
     ),
 ];
@@ -393,6 +406,103 @@ fn a_line_is_cut_where_the_room_ends(rt: HostRuntime) -> Result<(), Fail> {
         assert_eq!(rt; status_of(&rt, rt.alloc(), "1", &mut shelf, &mut sink), 6);
         let want = line.as_bytes().get(..room).ok_or("too long")?;
         assert_eq!(rt; sink.bytes(), want);
+    }
+    Ok(())
+}
+
+#[test]
+fn a_line_of_a_long_text_is_cut(rt: HostRuntime) -> Result<(), Fail> {
+    for (sink_call, written) in [(0, ""), (1, "fault: "), (2, "fault: prog")] {
+        let program = vec![in rt.alloc(); b' '; 16_777_217]?;
+        let mut shelf = shelf_of(rt.alloc(), program, "true", NEVER)?;
+        let failing = vec![in rt.alloc(); sink_call]?;
+        let mut sink = MemSink::new(rt.alloc(), 200, failing)?;
+        let words = ["print", "prog"];
+        assert_eq!(rt;
+            lolli_plain(rt.alloc(), &words, &mut shelf, &mut sink),
+            Some(6)
+        );
+        assert_eq!(rt; sink.bytes(), written.as_bytes());
+    }
+    Ok(())
+}
+
+// The status of a print, and what it writes.
+fn printed(
+    alloc: Global,
+    program: Vec<u8>,
+    room: usize,
+) -> Result<(Option<u8>, MemSink), AllocError> {
+    let mut shelf = shelf_of(alloc, program, "true", NEVER)?;
+    let mut sink = MemSink::new(alloc, room, Vec::new(alloc))?;
+    let status = lolli_plain(alloc, &["print", "prog"], &mut shelf, &mut sink);
+    Ok((status, sink))
+}
+
+// A program, the room of the sink, and the status and the text of its print.
+const PRINTED: [(&str, usize, u8, &str); 10] = [
+    ("", 0, 0, ""),
+    ("p X:-q X,(r;s).%c", 99, 0, "p X :- q X , (r ; s).\n"),
+    ("LINEAR ((a)).", 99, 0, "LINEAR a.\n"),
+    (
+        "p:-(forall x\\a x),b.",
+        99,
+        0,
+        "p :- (forall x\\ a x) , b.\n",
+    ),
+    ("a , b.", 99, 0, "a , b.\n"),
+    ("MODULE m.\nLOCAL k k.", 99, 0, "MODULE m.\nLOCAL k k.\n"),
+    ("LINEAR ((a)).", 8, 6, "LINEAR a"),
+    (
+        "p \"a\".",
+        99,
+        7,
+        "fault: prog 1:3 kind 1 byte begins no token\n",
+    ),
+    (
+        "p 9223372036854775808.",
+        99,
+        7,
+        "fault: prog 1:3 kind 2 number past 64 bits\n",
+    ),
+    (
+        "p :- forall x\\",
+        99,
+        7,
+        "fault: prog 1:15 kind 5 text ends early\n",
+    ),
+];
+
+#[test]
+fn programs_are_printed(rt: HostRuntime) -> Result<(), Fail> {
+    for (program, room, status, text) in PRINTED {
+        let program = Vec::from_slice(rt.alloc(), program.as_bytes())?;
+        let (got, sink) = printed(rt.alloc(), program, room)?;
+        assert_eq!(rt; got, Some(status), "{text}");
+        assert_eq!(rt; sink.bytes(), text.as_bytes());
+    }
+    Ok(())
+}
+
+#[test]
+fn a_thousand_brackets_are_printed(rt: HostRuntime) -> Result<(), Fail> {
+    let rows = [
+        (1000, 0, "p :- q.\n"),
+        (
+            1001,
+            7,
+            "fault: prog 1:1006 kind 6 more than 1000 brackets open\n",
+        ),
+    ];
+    for (count, status, text) in rows {
+        let mut program = brackets(rt.alloc(), "p :- ", count)?;
+        for _ in 0..count {
+            program.push(b')')?;
+        }
+        program.push(b'.')?;
+        let (got, sink) = printed(rt.alloc(), program, 200)?;
+        assert_eq!(rt; got, Some(status), "{text}");
+        assert_eq!(rt; sink.bytes(), text.as_bytes());
     }
     Ok(())
 }

@@ -2,8 +2,8 @@
 ghost use Rattle.std.specs.Prelude.{◌≡◌, ◌+◌, ◌≤◌, ◌<◌, length, map, true, codes, slice_get, Some, IsSomeAnd, IfOk, MatchOption, MatchResult, false};
 ghost use Rattle.std.specs.Char.{is_ascii_digit};
 ghost use Rattle.std.specs.List.{list_all, list_any};
-ghost use Rattle.ll_top.specs.Words.{is_word, is_name_word, is_number_word, number_from, value_within, ThisWord, AnyName, NumberFrom, IsRun, shown_words, IsBadWord, greatest_bound};
-ghost use Rattle.ll_top.specs.RunForm.{HasPart, LacksPart, options_left, IsOptionLeft, IsBadRunWord, IsReadTo};
+ghost use Rattle.ll_top.specs.Words.{is_word, is_name_word, is_number_word, number_from, value_within, ThisWord, AnyName, NumberFrom, IsRun, IsPrint, IsCommand, IsBounded, shown_words, IsBadWord, greatest_bound, print_form};
+ghost use Rattle.ll_top.specs.RunForm.{HasPart, LacksPart, options_left, IsOptionLeft, IsBadFormWord, IsBadRunWord, IsReadTo};
 ghost use Rattle.ll_top.specs.Outcome.{word_texts};
 
 /// What the words `run PROGRAM QUERY --bound N --workers W` ask for.
@@ -13,6 +13,15 @@ pub struct RunCommand<'a> {
     pub query: &'a str,
     pub bound: u32,
     pub workers: u32,
+}
+
+/// What words ask for.
+#[derive(Clone, Copy)]
+pub enum Command<'a> {
+    /// A run.
+    Run(RunCommand<'a>),
+    /// The words `print PROGRAM`, with the name.
+    Print(&'a str),
 }
 
 // An option of a run.
@@ -35,17 +44,30 @@ const GREATEST_WORKERS: u32 = 1;
 
 /// What the words ask for. `Err` is the number, counted from 1, of the first word through which no form's words begin, or one
 /// past the last where the words end early.
-pub fn read_command<'a>(words: &[&'a str]) -> Result<RunCommand<'a>, usize>
-    ensures command { MatchResult result (λ run. IsRun (word_texts words.now) (shown_words run)) (IsBadWord (word_texts words.now)) }
-    ensures bound { IfOk result (λ run. run.bound ≤ greatest_bound) }
+pub fn read_command<'a>(words: &[&'a str]) -> Result<Command<'a>, usize>
+    ensures command { MatchResult result (IsCommand (word_texts words.now)) (IsBadWord (word_texts words.now)) }
+    ensures bound { IfOk result IsBounded }
 {
     let Some(form) = words.first() else {
         return Err(1);
     };
-    if *form != "run" {
-        return Err(1);
+    match *form {
+        "run" => Ok(Command::Run(read_run(words)?)),
+        "print" => Ok(Command::Print(read_print(words)?)),
+        _ => Err(1),
     }
-    read_run(words)
+}
+
+// The name of a print's program, or the number of the first word through which no print begins.
+fn read_print<'a>(words: &[&'a str]) -> Result<&'a str, usize>
+    requires { HasPart (word_texts words.now) 0 (ThisWord (codes "print")) }
+    ensures { MatchResult result (λ name. IsPrint (word_texts words.now) name.now) (IsBadFormWord print_form (word_texts words.now)) }
+{
+    let name = name_at(words, 1)?;
+    if words.len() > 2 {
+        return Err(3);
+    }
+    Ok(name)
 }
 
 // What the words of a run ask for, or the number of the first word through which no run begins.

@@ -1,5 +1,5 @@
 use Rattle.std.proofs.Common.{arith}
-use Rattle.ll_top.proofs.PartsLemmas.{one-written, part-cut, on-cut, all-written, none-written}
+use Rattle.ll_top.proofs.PartsLemmas.{one-written, part-cut, on-cut}
 use Rattle.ll_top.proofs.fault.write_parts.Goals as goal
 
 pub returns-in_err-write_all-clause-prefix : goal.returns-in_err-write_all-clause-prefix

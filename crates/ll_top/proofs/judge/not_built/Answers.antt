@@ -1,7 +1,6 @@
 use Rattle.std.proofs.Common.{◌∙◌, sym, subst, length, ◌≤◌, arith}
-use Rattle.ll_top.specs.Judging.{place_of_token}
 use Rattle.ll_top.specs.Machine.{IsNotBuilt}
-use Rattle.ll_top.proofs.JudgeLemmas.{IsReadTo, start, more, wrong, ends, lacks}
+use Rattle.ll_top.proofs.JudgeLemmas.{IsReadTo, start, more, wrong, lacks}
 use Rattle.ll_top.proofs.judge.not_built.Goals as goal
 
 pub loop-i-init : goal.loop-i-init

@@ -1,7 +1,5 @@
 use Rattle.std.proofs.lemmas.Result.{err_from_is_err_and}
-use Rattle.ll_edge.specs.Counts.{Rose}
 use Rattle.ll_top.specs.Words.{shown_words}
-use Rattle.ll_top.specs.declared.judge.Role.TheVariants.{Program, Query}
 use Rattle.ll_top.proofs.PrepareLemmas.{program-refused, query-refused, rose-later, not-read-later, prepared}
 use Rattle.ll_top.proofs.prepare.prepare.Goals as goal
 

@@ -1,0 +1,6 @@
+pub mod Fits
+pub mod Turns
+pub mod Codes
+pub mod OpenPieces
+pub mod Fitting
+pub mod Players

@@ -1,0 +1,10 @@
+use Rattle.std.proofs.Common.{ap, sym, ◌∙◌}
+use Rattle.ll_parser.specs.Nodes.{identifier}
+use Rattle.ll_parser.specs.Printed.{has_arguments}
+use Rattle.ll_printer.proofs.Parts.{arguments-are}
+use Rattle.ll_printer.proofs.formulas.has_any_arguments.Goals as goal
+
+pub returns-in-Head : goal.returns-in-Head
+returns-in-Head c =
+    arguments-are c.args.program.now.names c.args.program.now.forms (identifier c.args.program.now.names c.in-Head.field-0) c.in-Head.args.now c.is_empty.result c.is_empty.ensures
+    ∙ ap has_arguments (sym (c.in-Head.ensures.tree c.args.program.now.names))

@@ -1,0 +1,11 @@
+use Rattle.std.proofs.Common.{ap, sym, ◌∙◌}
+use Rattle.ll_parser.specs.Nodes.{identifier}
+use Rattle.ll_parser.specs.Printed.{is_pair}
+use Rattle.ll_printer.proofs.Parts.{pair-is}
+use Rattle.ll_printer.proofs.formulas.is_pair_at.Goals as goal
+
+pub returns-in-Head : goal.returns-in-Head
+returns-in-Head c =
+    c.is_pair_of.ensures
+    ∙ (sym (pair-is c.args.program.now.names c.args.program.now.forms (identifier c.args.program.now.names c.in-Head.name) c.in-Head.args.now)
+    ∙ ap is_pair (sym (c.in-Head.ensures.tree c.args.program.now.names)))

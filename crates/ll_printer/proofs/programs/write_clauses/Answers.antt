@@ -1,0 +1,12 @@
+use Rattle.std.proofs.Common.{arith}
+use Rattle.ll_printer.proofs.Parts.{on_err}
+use Rattle.ll_printer.proofs.Lines.{clauses-on, clauses-refused}
+use Rattle.ll_printer.proofs.programs.write_clauses.Goals as goal
+
+pub returns-in_err-write_clause-clause-begun : goal.returns-in_err-write_clause-clause-begun
+returns-in_err-write_clause-clause-begun c =
+    on_err _ (clauses-refused c.args.program.now.names c.args.program.now.forms c.args.list.now c.loop-i.i _ c.args.out.now.items c.loop-i.out.items c.write_clause.new.out.items (omega (arith, c.loop-i-test.true)) c.loop-i.invariant c.in_err-write_clause.ensures.begun)
+
+pub loop-i-preserved : goal.loop-i-preserved
+loop-i-preserved c =
+    clauses-on c.args.program.now.names c.args.program.now.forms c.args.list.now c.loop-i.i _ c.args.out.now.items c.loop-i.out.items c.write_clause.new.out.items (omega (arith, c.loop-i-test.true)) c.loop-i.invariant c.in_ok-write_clause.ensures.text

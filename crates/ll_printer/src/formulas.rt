@@ -1,0 +1,522 @@
+//! The formulas of a program, as their text had them.
+ghost use Rattle.std.specs.Prelude.{◌≡◌, ◌<◌, ◌*◌, ◌+◌, ◌++◌, ◌∷◌, ◌&&◌, false, [], OnOk, OnErr, length, nat_eq};
+ghost use Rattle.ll_parser.specs.Nodes.{raw_at, identifier};
+ghost use Rattle.ll_parser.specs.Printed.{clauses, op_rank, left_rank, right_rank, is_looser, is_cons, is_pair, has_arguments, formula_text, term_text};
+ghost use Rattle.ll_printer.specs.Pieces.{BeginsText};
+ghost use Rattle.ll_printer.specs.Parts.{rank_of, word_text, needs_brackets, inner_text, raw_size, HasPart, AreParts, argument_parts, pair_parts, head_parts, Leaves, PartMoves};
+
+use crate::words::{name_of, write_integer};
+use ll_bank::{Names, OutOfMemory};
+use ll_parser::{Named, Op, RawAt, RawNode, RawProgram};
+use std::alloc::Global;
+
+/// How loose an operator is, from the loosest.
+#[derive(Clone, Copy)]
+pub(crate) enum Level {
+    /// `:-` and `<=`.
+    Clauses,
+    /// `-o`, `=>` and `-->`.
+    Arrows,
+    /// `;`.
+    Sums,
+    /// `&`.
+    Withs,
+    /// `,`.
+    Tensors,
+    /// No operator.
+    Primaries,
+}
+
+/// A word or a sign with the spaces beside it.
+#[derive(Clone, Copy)]
+pub(crate) enum Word {
+    /// `(`.
+    Open,
+    /// `)`.
+    Close,
+    /// `{`.
+    OpenBrace,
+    /// `}`.
+    CloseBrace,
+    /// A space.
+    Space,
+    /// `true`.
+    True,
+    /// `erase`.
+    Erase,
+    /// `forall` and a space.
+    Forall,
+    /// `exists` and a space.
+    Exists,
+    /// A backslash and a space.
+    Backslash,
+    /// `-->` between spaces.
+    LoadArrow,
+    /// An operator between spaces.
+    Operator(Op),
+    /// `::`.
+    Cons,
+    /// `_`.
+    Any,
+}
+
+/// A part of a formula.
+#[derive(Clone, Copy)]
+pub(crate) enum Part {
+    /// A formula where this level is the loosest without brackets, and whether something other than a closing bracket or a dot
+    /// follows.
+    Formula(RawAt, Level, bool),
+    /// A formula without brackets round it, and whether something follows.
+    Inside(RawAt, bool),
+    /// A term.
+    Term(RawAt),
+    /// A space and a term, in brackets where it has arguments.
+    Argument(RawAt),
+    /// A term, in brackets where it is of the form `X::L`.
+    Item(RawAt),
+    /// A name or a variable.
+    Name(Named),
+    /// A whole number.
+    Number(i64),
+    /// A word or a sign.
+    Word(Word),
+}
+
+/// Appends the text of a formula that nothing follows but a dot. After a refusal some first bytes of it may have been appended. It
+/// needs no deep stack.
+pub(crate) fn write_formula(
+    alloc: Global,
+    program: &RawProgram,
+    at: RawAt,
+    out: &mut Vec<u8>,
+) -> Result<(), OutOfMemory>
+    requires { at.0 < length program.now.forms }
+    ensures text { OnOk result (out.new.items ≡ out.old.items ++ formula_text clauses false (raw_at program.now.names program.now.forms at.0)) }
+    ensures begun { OnErr result (BeginsText (formula_text clauses false (raw_at program.now.names program.now.forms at.0)) out.old.items out.new.items) }
+{
+    let mut parts = Vec::new(alloc);
+    parts.push(Part::Formula(at, Level::Clauses, false))?;
+    while let Some(part) = parts.pop() {
+        print_part(program, part, &mut parts, out)?;
+    }
+    Ok(())
+}
+
+/// Prints a part, or leaves the parts that it is made of. After a refusal the bytes are as before.
+fn print_part(
+    program: &RawProgram,
+    part: Part,
+    parts: &mut Vec<Part>,
+    out: &mut Vec<u8>,
+) -> Result<(), OutOfMemory>
+    requires { HasPart program.now.forms part }
+    ensures moves { OnOk result (PartMoves program.now.names program.now.forms part parts.old.items out.old.items parts.new.items out.new.items) }
+    ensures refused { OnErr result (out.new.items ≡ out.old.items) }
+{
+    match part {
+        Part::Formula(at, level, followed) => push_formula(program, at, level, followed, parts),
+        Part::Inside(at, followed) => push_inside(program, at, followed, parts),
+        Part::Term(at) => push_term(program, at, parts),
+        Part::Argument(at) => push_argument(program, at, parts),
+        Part::Item(at) => push_item(program, at, parts),
+        Part::Name(name) => write_identifier(&program.names, name, out),
+        Part::Number(value) => write_integer(value, out),
+        Part::Word(word) => write_word(word, out),
+    }
+}
+
+/// Appends a word. After a refusal the bytes are as before.
+fn write_word(word: Word, out: &mut Vec<u8>) -> Result<(), OutOfMemory>
+    ensures text { OnOk result (out.new.items ≡ out.old.items ++ word_text word) }
+    ensures refused { OnErr result (out.new.items ≡ out.old.items) }
+{
+    out.extend_from_slice(word_bytes(word))
+}
+
+/// Appends a name or a variable. After a refusal the bytes are as before.
+pub(crate) fn write_identifier(
+    names: &Names,
+    name: Named,
+    out: &mut Vec<u8>,
+) -> Result<(), OutOfMemory>
+    ensures text { OnOk result (out.new.items ≡ out.old.items ++ (identifier names.now name).text) }
+    ensures refused { OnErr result (out.new.items ≡ out.old.items) }
+{
+    out.extend_from_slice(name_of(names, name.name).as_bytes())
+}
+
+/// The bytes of a word.
+fn word_bytes(word: Word) -> &'static [u8]
+    ensures { result.now ≡ word_text word }
+{
+    match word {
+        Word::Open => b"(",
+        Word::Close => b")",
+        Word::OpenBrace => b"{",
+        Word::CloseBrace => b"}",
+        Word::Space => b" ",
+        Word::True => b"true",
+        Word::Erase => b"erase",
+        Word::Forall => b"forall ",
+        Word::Exists => b"exists ",
+        Word::Backslash => b"\\ ",
+        Word::LoadArrow => b" --> ",
+        Word::Operator(op) => operator_bytes(op),
+        Word::Cons => b"::",
+        Word::Any => b"_",
+    }
+}
+
+/// An operator between spaces.
+fn operator_bytes(op: Op) -> &'static [u8]
+    ensures { result.now ≡ word_text (Word.Operator op) }
+{
+    match op {
+        Op::ColonDash => b" :- ",
+        Op::LeftArrow => b" <= ",
+        Op::Lolli => b" -o ",
+        Op::RightArrow => b" => ",
+        Op::Plus => b" ; ",
+        Op::With => b" & ",
+        Op::Tensor => b" , ",
+    }
+}
+
+/// The level of an operator.
+fn level_of(op: Op) -> Level
+    ensures { rank_of result ≡ op_rank op }
+{
+    match op {
+        Op::ColonDash | Op::LeftArrow => Level::Clauses,
+        Op::Lolli | Op::RightArrow => Level::Arrows,
+        Op::Plus => Level::Sums,
+        Op::With => Level::Withs,
+        Op::Tensor => Level::Tensors,
+    }
+}
+
+/// The loosest level without brackets on the left of an operator.
+fn left_level(op: Op) -> Level
+    ensures { rank_of result ≡ left_rank op }
+{
+    match op {
+        Op::ColonDash | Op::LeftArrow => Level::Clauses,
+        Op::Lolli | Op::RightArrow => Level::Sums,
+        Op::Plus => Level::Withs,
+        Op::With => Level::Tensors,
+        Op::Tensor => Level::Primaries,
+    }
+}
+
+/// The loosest level without brackets on the right of an operator.
+fn right_level(op: Op) -> Level
+    ensures { rank_of result ≡ right_rank op }
+{
+    match op {
+        Op::ColonDash | Op::LeftArrow => Level::Arrows,
+        Op::Lolli | Op::RightArrow => Level::Arrows,
+        Op::Plus => Level::Sums,
+        Op::With => Level::Withs,
+        Op::Tensor => Level::Tensors,
+    }
+}
+
+/// Whether the first level is looser than the second.
+fn is_looser(first: Level, second: Level) -> bool
+    ensures { result ≡ is_looser (rank_of first) (rank_of second) }
+{
+    match first {
+        Level::Clauses => !matches!(second, Level::Clauses),
+        Level::Arrows => !matches!(second, Level::Clauses | Level::Arrows),
+        Level::Sums => matches!(second, Level::Withs | Level::Tensors | Level::Primaries),
+        Level::Withs => matches!(second, Level::Tensors | Level::Primaries),
+        Level::Tensors => matches!(second, Level::Primaries),
+        Level::Primaries => false,
+    }
+}
+
+/// Whether brackets stand round a formula.
+fn has_brackets(program: &RawProgram, at: RawAt, level: Level, followed: bool) -> bool
+    requires { at.0 < length program.now.forms }
+    ensures { result ≡ needs_brackets (rank_of level) followed (raw_at program.now.names program.now.forms at.0) }
+{
+    match program.forms.node(at) {
+        RawNode::True => false,
+        RawNode::Erase => false,
+        RawNode::Braces(_) => false,
+        RawNode::Forall(_, _) => followed,
+        RawNode::Exists(_, _) => followed,
+        RawNode::Load(_, _, _) => is_looser(Level::Arrows, level),
+        RawNode::Binary(op, _, _) => is_looser(level_of(op), level),
+        RawNode::Head(_, _) => false,
+        RawNode::Any => false,
+        RawNode::Int(_) => false,
+    }
+}
+
+/// Leaves a formula, with its brackets if it has any.
+fn push_formula(
+    program: &RawProgram,
+    at: RawAt,
+    level: Level,
+    followed: bool,
+    parts: &mut Vec<Part>,
+) -> Result<(), OutOfMemory>
+    requires { at.0 < length program.now.forms }
+    ensures { OnOk result (Leaves program.now.names program.now.forms (Part.Formula at level followed) parts.old.items parts.new.items) }
+{
+    if has_brackets(program, at, level, followed) {
+        push_all(
+            &[
+                Part::Word(Word::Close),
+                Part::Inside(at, false),
+                Part::Word(Word::Open),
+            ],
+            parts,
+        )
+    } else {
+        push_part(Part::Inside(at, followed), parts)
+    }
+}
+
+/// Leaves the parts of a formula without brackets round it.
+fn push_inside(
+    program: &RawProgram,
+    at: RawAt,
+    followed: bool,
+    parts: &mut Vec<Part>,
+) -> Result<(), OutOfMemory>
+    requires { at.0 < length program.now.forms }
+    ensures { OnOk result (Leaves program.now.names program.now.forms (Part.Inside at followed) parts.old.items parts.new.items) }
+{
+    match program.forms.node(at) {
+        RawNode::True => push_part(Part::Word(Word::True), parts),
+        RawNode::Erase => push_part(Part::Word(Word::Erase), parts),
+        RawNode::Braces(goal) => push_all(
+            &[
+                Part::Word(Word::CloseBrace),
+                Part::Formula(goal, Level::Clauses, false),
+                Part::Word(Word::OpenBrace),
+            ],
+            parts,
+        ),
+        RawNode::Forall(name, body) => push_bound(Word::Forall, name, body, parts),
+        RawNode::Exists(name, body) => push_bound(Word::Exists, name, body, parts),
+        RawNode::Load(name, args, goal) => push_load(name, args, goal, followed, parts),
+        RawNode::Binary(op, left, right) => push_all(
+            &[
+                Part::Formula(right, right_level(op), followed),
+                Part::Word(Word::Operator(op)),
+                Part::Formula(left, left_level(op), true),
+            ],
+            parts,
+        ),
+        RawNode::Head(name, args) => push_head(name, args, parts),
+        RawNode::Any => push_part(Part::Word(Word::True), parts),
+        RawNode::Int(_) => push_part(Part::Word(Word::True), parts),
+    }
+}
+
+/// Leaves parts, the last one on top.
+fn push_all(more: &[Part], parts: &mut Vec<Part>) -> Result<(), OutOfMemory>
+    ensures { OnOk result (parts.new.items ≡ parts.old.items ++ more.now) }
+{
+    parts.extend_from_slice(more)
+}
+
+/// Leaves a load.
+fn push_load(
+    name: Named,
+    args: &[RawAt],
+    goal: RawAt,
+    followed: bool,
+    parts: &mut Vec<Part>,
+) -> Result<(), OutOfMemory>
+    ensures { OnOk result (parts.new.items ≡ parts.old.items ++ (Part.Formula goal Level.Arrows followed ∷ Part.Word Word.LoadArrow ∷ (argument_parts args.now ++ Part.Name name ∷ []))) }
+{
+    push_part(Part::Formula(goal, Level::Arrows, followed), parts)?;
+    push_part(Part::Word(Word::LoadArrow), parts)?;
+    push_head(name, args, parts)
+}
+
+/// Leaves one part.
+fn push_part(part: Part, parts: &mut Vec<Part>) -> Result<(), OutOfMemory>
+    ensures { OnOk result (parts.new.items ≡ parts.old.items ++ part ∷ []) }
+{
+    parts.push(part)?;
+    Ok(())
+}
+
+/// Leaves a quantified formula.
+fn push_bound(
+    word: Word,
+    name: Named,
+    body: RawAt,
+    parts: &mut Vec<Part>,
+) -> Result<(), OutOfMemory>
+    ensures { OnOk result (parts.new.items ≡ parts.old.items ++ Part.Formula body Level.Clauses false ∷ Part.Word Word.Backslash ∷ Part.Name name ∷ Part.Word word ∷ []) }
+{
+    push_all(
+        &[
+            Part::Formula(body, Level::Clauses, false),
+            Part::Word(Word::Backslash),
+            Part::Name(name),
+            Part::Word(word),
+        ],
+        parts,
+    )
+}
+
+/// Leaves a name and its arguments.
+fn push_head(name: Named, args: &[RawAt], parts: &mut Vec<Part>) -> Result<(), OutOfMemory>
+    ensures { OnOk result (parts.new.items ≡ parts.old.items ++ (argument_parts args.now ++ Part.Name name ∷ [])) }
+{
+    push_arguments(args, parts)?;
+    push_part(Part::Name(name), parts)
+}
+
+/// Leaves arguments, the first one on top.
+fn push_arguments(args: &[RawAt], parts: &mut Vec<Part>) -> Result<(), OutOfMemory>
+    ensures { OnOk result (parts.new.items ≡ parts.old.items ++ argument_parts args.now) }
+{
+    let mut i = args.len();
+    while i > 0 {
+        i -= 1;
+        parts.push(Part::Argument(args[i]))?;
+    }
+    Ok(())
+}
+
+/// Leaves the parts of a term.
+fn push_term(program: &RawProgram, at: RawAt, parts: &mut Vec<Part>) -> Result<(), OutOfMemory>
+    requires { at.0 < length program.now.forms }
+    ensures { OnOk result (Leaves program.now.names program.now.forms (Part.Term at) parts.old.items parts.new.items) }
+{
+    match program.forms.node(at) {
+        RawNode::Head(name, args) => push_applied(&program.names, name, args, parts),
+        RawNode::Int(value) => push_part(Part::Number(value), parts),
+        RawNode::True => push_part(Part::Word(Word::Any), parts),
+        RawNode::Erase => push_part(Part::Word(Word::Any), parts),
+        RawNode::Braces(_) => push_part(Part::Word(Word::Any), parts),
+        RawNode::Forall(_, _) => push_part(Part::Word(Word::Any), parts),
+        RawNode::Exists(_, _) => push_part(Part::Word(Word::Any), parts),
+        RawNode::Load(_, _, _) => push_part(Part::Word(Word::Any), parts),
+        RawNode::Binary(_, _, _) => push_part(Part::Word(Word::Any), parts),
+        RawNode::Any => push_part(Part::Word(Word::Any), parts),
+    }
+}
+
+/// Leaves a name and its arguments, the two of a `::` on its sides.
+fn push_applied(
+    names: &Names,
+    name: Named,
+    args: &[RawAt],
+    parts: &mut Vec<Part>,
+) -> Result<(), OutOfMemory>
+    ensures { OnOk result (parts.new.items ≡ parts.old.items ++ head_parts (nat_eq (length args.now) 2 && is_cons (identifier names.now name).text) name args.now) }
+{
+    if is_pair_of(names, name, args) {
+        push_pair(args, parts)
+    } else {
+        push_head(name, args, parts)
+    }
+}
+
+/// Leaves the two arguments of a `::`, and the sign between them.
+fn push_pair(args: &[RawAt], parts: &mut Vec<Part>) -> Result<(), OutOfMemory>
+    requires { length args.now ≡ 2 }
+    ensures { OnOk result (parts.new.items ≡ parts.old.items ++ pair_parts args.now) }
+{
+    push_all(
+        &[
+            Part::Term(args[1]),
+            Part::Word(Word::Cons),
+            Part::Item(args[0]),
+        ],
+        parts,
+    )
+}
+
+/// Leaves a space and a term, in brackets where it has arguments.
+fn push_argument(program: &RawProgram, at: RawAt, parts: &mut Vec<Part>) -> Result<(), OutOfMemory>
+    requires { at.0 < length program.now.forms }
+    ensures { OnOk result (Leaves program.now.names program.now.forms (Part.Argument at) parts.old.items parts.new.items) }
+{
+    if has_any_arguments(program, at) {
+        push_all(
+            &[
+                Part::Word(Word::Close),
+                Part::Term(at),
+                Part::Word(Word::Open),
+                Part::Word(Word::Space),
+            ],
+            parts,
+        )
+    } else {
+        push_all(&[Part::Term(at), Part::Word(Word::Space)], parts)
+    }
+}
+
+/// Leaves the term in front of a `::`, in brackets where it is itself of the form `X::L`.
+fn push_item(program: &RawProgram, at: RawAt, parts: &mut Vec<Part>) -> Result<(), OutOfMemory>
+    requires { at.0 < length program.now.forms }
+    ensures { OnOk result (Leaves program.now.names program.now.forms (Part.Item at) parts.old.items parts.new.items) }
+{
+    if is_pair_at(program, at) {
+        push_all(
+            &[
+                Part::Word(Word::Close),
+                Part::Term(at),
+                Part::Word(Word::Open),
+            ],
+            parts,
+        )
+    } else {
+        push_part(Part::Term(at), parts)
+    }
+}
+
+/// Whether a term has arguments.
+fn has_any_arguments(program: &RawProgram, at: RawAt) -> bool
+    requires { at.0 < length program.now.forms }
+    ensures { result ≡ has_arguments (raw_at program.now.names program.now.forms at.0) }
+{
+    match program.forms.node(at) {
+        RawNode::Head(_, args) => !args.is_empty(),
+        RawNode::True => false,
+        RawNode::Erase => false,
+        RawNode::Braces(_) => false,
+        RawNode::Forall(_, _) => false,
+        RawNode::Exists(_, _) => false,
+        RawNode::Load(_, _, _) => false,
+        RawNode::Binary(_, _, _) => false,
+        RawNode::Any => false,
+        RawNode::Int(_) => false,
+    }
+}
+
+/// Whether a term is of the form `X::L`.
+fn is_pair_at(program: &RawProgram, at: RawAt) -> bool
+    requires { at.0 < length program.now.forms }
+    ensures { result ≡ is_pair (raw_at program.now.names program.now.forms at.0) }
+{
+    match program.forms.node(at) {
+        RawNode::Head(name, args) => is_pair_of(&program.names, name, args),
+        RawNode::True => false,
+        RawNode::Erase => false,
+        RawNode::Braces(_) => false,
+        RawNode::Forall(_, _) => false,
+        RawNode::Exists(_, _) => false,
+        RawNode::Load(_, _, _) => false,
+        RawNode::Binary(_, _, _) => false,
+        RawNode::Any => false,
+        RawNode::Int(_) => false,
+    }
+}
+
+/// Whether a name is the sign `::`, with two arguments.
+fn is_pair_of(names: &Names, name: Named, args: &[RawAt]) -> bool
+    ensures { result ≡ (nat_eq (length args.now) 2 && is_cons (identifier names.now name).text) }
+{
+    args.len() == 2 && name_of(names, name.name) == "::"
+}

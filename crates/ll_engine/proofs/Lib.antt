@@ -6,4 +6,5 @@ pub mod OpeningLemmas
 pub mod LaterLemmas
 pub mod TakeLemmas
 pub mod StepLemmas
+pub mod WayLemmas
 pub mod MachineLemmas

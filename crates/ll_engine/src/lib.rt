@@ -3,6 +3,7 @@
 
 mod candidates;
 mod machine;
+mod open;
 mod read;
 mod take;
 

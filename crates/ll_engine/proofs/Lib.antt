@@ -8,3 +8,6 @@ pub mod TakeLemmas
 pub mod StepLemmas
 pub mod WayLemmas
 pub mod MachineLemmas
+pub mod TakingLemmas
+pub mod UnifiedLemmas
+pub mod TakenLemmas

@@ -22,7 +22,7 @@ atom_step m s a rest label k count e l agenda entry way is =
     ∙ (ap (option_and_then (take_entry s a rest label k)) entry ∙ (ap (option_and_then (take_way s a rest label k e)) way ∙ ap (option_and_then (take_leaf s a rest label k count)) is))
 
 -- new variables stand for themselves
-vars_fixed : (s : ℕ → Term) (n count : ℕ) → ((x : ℕ) → n ≤ x → s x ≡ Var x) → map (sub s) (vars_from n count) ≡ vars_from n count
+pub vars_fixed : (s : ℕ → Term) (n count : ℕ) → ((x : ℕ) → n ≤ x → s x ≡ Var x) → map (sub s) (vars_from n count) ≡ vars_from n count
 vars_fixed s n zero h = refl
 vars_fixed s n (suc count) h = λ i. h n (omega arith) i ∷ vars_fixed s (suc n) count (λ x l. h x (omega arith)) i
 

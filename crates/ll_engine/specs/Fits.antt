@@ -1,11 +1,11 @@
 -- What a machine keeps true.
-use Rattle.std.specs.Prelude.{◌≡◌, ℕ, suc, ◌+◌, ◌≤◌, ◌<◌, ◌^◌, Bool, true, false, length, All, Some, None}
-use Rattle.ll_bank.specs.Nodes.{Nodes, HasForm, AllInTerms, term_trees}
+use Rattle.std.specs.Prelude.{◌≡◌, ℕ, suc, ◌+◌, ◌≤◌, ◌<◌, ◌^◌, Bool, true, false, [], length, All, Some, None}
+use Rattle.ll_bank.specs.Nodes.{Nodes, HasForm, AllInTerms, term_trees, form_tree}
 use Rattle.ll_laws.specs.declared.Candidate.{Candidate}
 use Rattle.ll_laws.specs.Problem.{setting_of}
 use Rattle.ll_laws.specs.Module.{Setting}
 use Rattle.ll_laws.specs.Attempt.{attempt, vars_from}
-use Rattle.ll_laws.specs.Valid.{IsValid}
+use Rattle.ll_laws.specs.Valid.{IsValid, Allowed, IsFormula, GoalSide, ClauseSide}
 use Rattle.ll_laws.specs.Consistent.{IsConsistent}
 use Rattle.ll_agenda.specs.Frames.{HasTop}
 use Rattle.ll_engine.specs.declared.machine.Machine.{Machine}
@@ -27,6 +27,19 @@ HasItem bank kept (Mid saved) = saved.number < kept
 HasItem bank kept (WithEnd saved half) = (saved.number < kept) × (half.number < kept)
 HasItem bank kept (BangEnd saved) = saved.number < kept
 
+-- what formulas of a machine may mention
+abbrev pub allowed : Machine → Allowed
+allowed m = record { modules = (setting m).modules; variables = length m.levels.items; eigens = m.eigens; opens = true }
+
+-- a goal is one as it stands in the bank, before it is read
+abbrev pub IsGoalIn : Allowed → Nodes → Item → Type 0
+IsGoalIn may bank (Goal g) = IsFormula may GoalSide [] (form_tree bank g.0)
+IsGoalIn may bank (LolliEnd flag) = Unit {0}
+IsGoalIn may bank ImpEnd = Unit {0}
+IsGoalIn may bank (Mid saved) = Unit {0}
+IsGoalIn may bank (WithEnd saved half) = Unit {0}
+IsGoalIn may bank (BangEnd saved) = Unit {0}
+
 -- the parts of a machine fit each other
 pub record Fits (m : Machine) : Type 0 where
   pub valid : IsValid m.problem.now
@@ -39,6 +52,9 @@ pub record Fits (m : Machine) : Type 0 where
   pub terms : AllInTerms m.bank m.terms.items
   pub variables : term_trees m.bank m.terms.items ≡ vars_from 0 (length m.levels.items)
   pub clauses : All (λ e. HasForm m.bank e.clause.0) m.context.present.entries
+  -- clauses and goals are well sorted as they stand, whatever stands for their variables
+  pub sorted_clauses : All (λ e. IsFormula (allowed m) ClauseSide [] (form_tree m.bank e.clause.0)) m.context.present.entries
+  pub sorted_goals : All (IsGoalIn (allowed m) m.bank) (items_of m)
   pub top : HasTop m.agenda m.top
   pub items : All (HasItem m.bank (length m.context.present.kept)) (items_of m)
   -- numbers stay small: there are no more inferences to come than `left`

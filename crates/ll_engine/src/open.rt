@@ -1,7 +1,6 @@
 //! Leaves of clauses, opened with new variables.
-ghost use Rattle.std.specs.Prelude.{◌≡◌, ◌<◌, ◌-◌, true, length, IfOk};
-ghost use Rattle.ll_bank.specs.Form.{instantiate, form_applies_heads};
-ghost use Rattle.ll_bank.specs.Nodes.{term_tree, term_trees, form_tree, HasTerm, HasForm, AllInTerms, ShowsForm, Extends};
+ghost use Rattle.std.specs.Prelude.{◌≡◌, ◌<◌, length, IfOk};
+ghost use Rattle.ll_bank.specs.Nodes.{term_trees, form_tree, HasForm, AllInTerms, Extends};
 ghost use Rattle.ll_agenda.specs.Frames.{HasTop, items_at};
 ghost use Rattle.ll_laws.specs.Leaf.{ways};
 ghost use Rattle.ll_laws.specs.Attempt.{vars_from};
@@ -11,9 +10,10 @@ use crate::candidates::count_leaves;
 use crate::machine::Item;
 use ll_agenda::{Agenda, Top};
 use ll_bank::{At, Bank, FormAt, FormNode, OutOfMemory};
-use std::alloc::{AllocError, Global};
+use std::alloc::Global;
 
 /// A leaf that is open: its head, and the agenda with its premises in front.
+#[derive(Clone, Copy)]
 pub struct Opened {
     pub head: At,
     pub top: Top,
@@ -69,7 +69,7 @@ pub fn open_leaf(
             FormNode::Forall(body) => {
                 let variable = bank.var(terms.len() as u64)?;
                 terms.push(variable)?;
-                form = instantiated(bank, body, variable)?;
+                form = bank.instantiate(body, variable)?;
             }
             _ => unreachable!(),
         }
@@ -96,18 +96,4 @@ fn side_of(
             leaf: leaf - count,
         })
     }
-}
-
-/// The body of a quantifier with a value in its place: this is `Bank::instantiate`, whose contract it has, until that call is there.
-fn instantiated(bank: &mut Bank, form: FormAt, value: At) -> Result<FormAt, OutOfMemory>
-    requires body { HasForm bank.old form.0 }
-    requires value { HasTerm bank.old value.0 }
-    requires heads { form_applies_heads (instantiate (form_tree bank.old form.0) (term_tree bank.old value.0)) ≡ true }
-    ensures shows { IfOk result (λ at. ShowsForm bank.new at.0 (instantiate (form_tree bank.old form.0) (term_tree bank.old value.0))) }
-    ensures keeps { Extends bank.old bank.new }
-{
-    let _ = form;
-    let _ = value;
-    let _ = bank.size();
-    Err(AllocError)
 }

@@ -1,14 +1,21 @@
 //! Parts of an inference on an atom.
-ghost use Rattle.std.specs.Prelude.{◌≡◌, ◌≤◌, ◌++◌, ◌∷◌, [], true, length, All, IfOk, OnOk, option_map, replicate};
+ghost use Rattle.std.specs.Prelude.{◌≡◌, ◌<◌, ◌≤◌, ◌++◌, ◌∷◌, [], true, length, All, Some, IfOk, OnOk, option_map, replicate};
 ghost use Rattle.ll_bank.specs.Nodes.{HasTerm, AllInTerms, Extends, term_trees};
 ghost use Rattle.ll_laws.specs.Attempt.{entry_at, vars_from};
 ghost use Rattle.ll_laws.specs.Unify.{mgu, vars_below};
 ghost use Rattle.ll_engine.specs.Reading.{read_term, HasValue};
-ghost use Rattle.ll_engine.specs.Taking.{Unifies};
+ghost use Rattle.ll_engine.specs.Fits.{Fits, Attempts};
+ghost use Rattle.ll_engine.specs.Taking.{HasAtom, Unifies};
+ghost use Rattle.ll_resources.specs.Resources.{after_pick};
 ghost use Rattle.ll_resources.specs.Seen.{resource};
 
+use crate::candidates::count_leaves;
+use crate::machine::Machine;
+use crate::open::open_leaf;
 use crate::read::{read_all, rebound};
+use ll_agenda::Top;
 use ll_bank::{At, Bank, FormAt, OutOfMemory};
+use ll_laws::{Candidate, Step};
 use ll_resources::{Context, Entry};
 use ll_unify::mgu;
 use std::alloc::Global;
@@ -32,6 +39,21 @@ pub fn add_levels(levels: &mut Vec<u32>, level: u32, count: usize) -> Result<(),
 {
     for _ in 0..count {
         levels.push(level)?;
+    }
+    Ok(())
+}
+
+/// Uses the entry with a label: a live one loses its live mark. After a refusal the context is as before.
+fn use_entry(
+    context: &mut Context<FormAt>,
+    label: u32,
+    entry: Entry<FormAt>,
+) -> Result<(), OutOfMemory>
+    requires { entry_at context.old.present.entries label ≡ Some (resource entry) }
+    ensures { OnOk result (context.new.present ≡ after_pick label context.old.present) }
+{
+    if entry.live {
+        context.pick(label)?;
     }
     Ok(())
 }
@@ -77,4 +99,63 @@ pub fn unify_under(
         bound: all,
         levels: found.levels,
     }))
+}
+
+impl<'p> Machine<'p> {
+    /// Takes the leaf that a candidate names for the atom in front of the agenda, which has `rest` behind it.
+    ///
+    /// False where there is no such leaf, or where its head and the atom don't unify. Then, and after a refusal, the machine is spent.
+    pub fn take_leaf(
+        &mut self,
+        alloc: Global,
+        atom: At,
+        rest: Top,
+        candidate: Candidate,
+    ) -> Result<bool, OutOfMemory>
+        requires fits { Fits self.old }
+        requires left { 0 < self.old.left }
+        requires front { HasAtom self.old atom rest }
+        ensures { IfOk result (Attempts self.old candidate self.new) }
+    {
+        let label = candidate.label;
+        let leaf = candidate.leaf;
+        let Some(entry) = entry_with(&self.context, label) else {
+            return Ok(false);
+        };
+        let leaves = count_leaves(alloc, &self.bank, entry.clause)?;
+        if leaf >= leaves {
+            return Ok(false);
+        }
+        let before = self.terms.len();
+        let opened = open_leaf(
+            alloc,
+            &mut self.bank,
+            &mut self.agenda,
+            &mut self.terms,
+            entry.clause,
+            leaf,
+            rest,
+        )?;
+        let count = self.terms.len() - before;
+        add_levels(&mut self.levels, self.eigens, count)?;
+        let found = unify_under(
+            alloc,
+            &mut self.bank,
+            &self.bound,
+            &self.terms,
+            &self.levels,
+            atom,
+            opened.head,
+        )?;
+        let Some(unified) = found else {
+            return Ok(false);
+        };
+        use_entry(&mut self.context, label, entry)?;
+        self.steps.push(Step::Clause { label, leaf })?;
+        self.bound = unified.bound;
+        self.levels = unified.levels;
+        self.top = opened.top;
+        self.left -= 1;
+        Ok(true)
+    }
 }

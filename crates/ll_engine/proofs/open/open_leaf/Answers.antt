@@ -72,8 +72,8 @@ loop-head-preserved-in-Imp c =
 pub returns-in_err-push-in-Forall-clause-keeps : goal.returns-in_err-push-in-Forall-clause-keeps
 returns-in_err-push-in-Forall-clause-keeps c = Extends-trans c.loop-head.invariant.keeps c.in_ok-variable-in-Forall.ensures.keeps
 
-pub instantiated-requires-clause-heads : goal.instantiated-requires-clause-heads
-instantiated-requires-clause-heads c =
+pub instantiate-requires-clause-heads : goal.instantiate-requires-clause-heads
+instantiate-requires-clause-heads c =
     let h = c.loop-head.invariant.inside in
     let p = c.in-Forall.ensures.shown.parts in
     let has_body : HasForm c.loop-head.bank c.in-Forall.body.0 = omega arith in
@@ -83,7 +83,7 @@ instantiated-requires-clause-heads c =
     (λ i. form_applies_heads (instantiate (same i) (var i))) ∙ clause_applies (instantiate inner (Var c.len.result)) (clause_open inner c.len.result (subst IsClause c.in-Forall.ensures.shown.tree c.loop-head.invariant.is))
 
 pub returns-in_err-form-in-Forall-clause-keeps : goal.returns-in_err-form-in-Forall-clause-keeps
-returns-in_err-form-in-Forall-clause-keeps c = Extends-trans (Extends-trans c.loop-head.invariant.keeps c.in_ok-variable-in-Forall.ensures.keeps) c.instantiated.ensures.keeps
+returns-in_err-form-in-Forall-clause-keeps c = Extends-trans (Extends-trans c.loop-head.invariant.keeps c.in_ok-variable-in-Forall.ensures.keeps) c.instantiate.ensures.keeps
 
 pub loop-head-smaller : goal.loop-head-smaller
 loop-head-smaller c =
@@ -102,15 +102,15 @@ loop-head-preserved c =
     let has_body : HasForm c.loop-head.bank c.in-Forall.body.0 = omega arith in
     let e1 = c.in_ok-variable-in-Forall.ensures.keeps in
     let e2 = c.in_ok-form-in-Forall.ensures.keeps in
-    let e : Extends c.loop-head.bank c.instantiated.new.bank = Extends-trans e1 e2 in
+    let e : Extends c.loop-head.bank c.instantiate.new.self = Extends-trans e1 e2 in
     let v = c.in_ok-variable-in-Forall.variable in
     let shows = c.in_ok-variable-in-Forall.ensures.shows in
     let same_var = term_tree-extends e2 v.0 shows.inside in
     let same_body = form_tree-extends e2 c.in-Forall.body.0 (HasForm-extends e1 c.in-Forall.body.0 has_body) in
-    let tree : form_tree c.instantiated.new.bank c.loop-head.form.0 ≡ Forall (form_tree c.instantiated.new.bank c.in-Forall.body.0) =
+    let tree : form_tree c.instantiate.new.self c.loop-head.form.0 ≡ Forall (form_tree c.instantiate.new.self c.in-Forall.body.0) =
     form_tree-extends e c.loop-head.form.0 h ∙ (c.in-Forall.ensures.shown.tree ∙ ap Forall (sym (form_tree-extends e c.in-Forall.body.0 has_body)))
     in
-    way_in c.args.bank.now (items_at c.args.agenda.now c.args.rest) (length c.args.terms.now.items) c.args.clause.0 c.args.leaf c.instantiated.new.bank c.loop-head.agenda c.loop-head.terms.items c.loop-head.form c.loop-head.leaf c.loop-head.top
-    (way_extends c.args.bank.now (items_at c.args.agenda.now c.args.rest) (length c.args.terms.now.items) c.args.clause.0 c.args.leaf c.loop-head.bank c.loop-head.agenda c.loop-head.terms.items c.loop-head.form c.loop-head.leaf c.loop-head.top c.loop-head.invariant c.instantiated.new.bank e) c.in-Forall.body c.in_ok-form-in-Forall.form v c.push-in-Forall.new.self.items tree (HasTerm-extends e2 v.0 shows.inside)
+    way_in c.args.bank.now (items_at c.args.agenda.now c.args.rest) (length c.args.terms.now.items) c.args.clause.0 c.args.leaf c.instantiate.new.self c.loop-head.agenda c.loop-head.terms.items c.loop-head.form c.loop-head.leaf c.loop-head.top
+    (way_extends c.args.bank.now (items_at c.args.agenda.now c.args.rest) (length c.args.terms.now.items) c.args.clause.0 c.args.leaf c.loop-head.bank c.loop-head.agenda c.loop-head.terms.items c.loop-head.form c.loop-head.leaf c.loop-head.top c.loop-head.invariant c.instantiate.new.self e) c.in-Forall.body c.in_ok-form-in-Forall.form v c.push-in-Forall.new.self.items tree (HasTerm-extends e2 v.0 shows.inside)
     (same_var ∙ (shows.tree ∙ ap Var (let n : c.len.result ≡ length c.loop-head.terms.items = omega arith in n))) c.in_ok-push-in-Forall.ensures.items c.in_ok-form-in-Forall.ensures.shows.inside
     (c.in_ok-form-in-Forall.ensures.shows.tree ∙ (λ i. instantiate (sym same_body i) (sym same_var i)))

@@ -1,10 +1,10 @@
 -- Opening the quantifiers on the way to a leaf one after another.
-use Rattle.std.proofs.Common.{◌≡◌, ℕ, zero, suc, ◌+◌, ◌-◌, ◌<◌, ◌≤◌, List, [], ◌∷◌, ◌++◌, length, map, refl, ap, sym, subst, ◌∙◌, arith, Option, Some, None, Bool, true, false, add_assoc, length-append}
-use Rattle.std.specs.Prelude.{if◌then◌else◌, nat_lt, slice_get, option_map}
+use Rattle.std.proofs.Common.{◌≡◌, ℕ, zero, suc, ◌+◌, ◌-◌, List, [], ◌∷◌, ◌++◌, length, map, refl, ap, sym, ◌∙◌, arith, Option, Some, None, true, length-append}
+use Rattle.std.specs.Prelude.{if◌then◌else◌, nat_lt, option_map}
 use Rattle.ll_bank.specs.declared.Head.TheVariants.{Name, Eigen, Bound}
 use Rattle.ll_bank.specs.Term.{Term, Var, Int, Con, Ap, Env, place, close, is_closed}
 use Rattle.ll_bank.specs.Form.{Form, Top, One, Atom, With, Tensor, Plus, Bang, Lolli, Imp, Forall, Exists, Use, close_form, instantiate}
-use Rattle.ll_laws.specs.Leaf.{Leaf, Premise, Needs, NeedsFree, add_premise, ways, leaf, leaf_from}
+use Rattle.ll_laws.specs.Leaf.{Leaf, Needs, NeedsFree, add_premise, ways, leaf, leaf_from}
 use Rattle.ll_laws.proofs.SubLaws.{close_closed, map_map, map_same}
 use Rattle.std.proofs.lemmas.List.Sums.{sum_by-append}
 use Rattle.ll_bank.specs.declared.FormAt.{FormAt}

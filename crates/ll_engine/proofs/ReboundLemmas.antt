@@ -1,5 +1,5 @@
 -- Bindings after more bindings.
-use Rattle.std.proofs.Common.{◌≡◌, ℕ, zero, suc, ◌+◌, ◌<◌, ◌≤◌, inl, inr, List, [], ◌∷◌, length, map, All, get_or, refl, ap, sym, subst, ◌∙◌, arith, Option, Some, None}
+use Rattle.std.proofs.Common.{◌≡◌, ℕ, zero, suc, ◌+◌, ◌<◌, ◌≤◌, inl, inr, List, [], ◌∷◌, length, map, All, get_or, refl, ap, sym, ◌∙◌, arith, Option, Some, None}
 use Rattle.std.specs.Prelude.{slice_index_or}
 use Rattle.std.proofs.lemmas.Bool.{cases_lt}
 use Rattle.std.proofs.lemmas.List.Elements.{All-head, All-tail, All-cons}
@@ -10,7 +10,7 @@ use Rattle.ll_laws.specs.Attempt.{vars_from}
 use Rattle.ll_laws.proofs.SubLaws.{sub_same}
 use Rattle.ll_unify.specs.Unifies.{shown}
 use Rattle.ll_engine.specs.Reading.{reading, read_term, HasValue}
-use Rattle.ll_engine.proofs.ReadLemmas.{reading_same, map_trees}
+use Rattle.ll_engine.proofs.ReadLemmas.{reading_same}
 
 abbrev pub as_entries : List At → List (Option At)
 as_entries places = map (λ (at : At). let o : Option At = Some at in o) places

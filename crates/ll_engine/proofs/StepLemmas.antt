@@ -1,14 +1,13 @@
 -- An inference on an atom, in the parts of which it is made.
-use Rattle.std.proofs.Common.{◌≡◌, ℕ, zero, suc, ◌+◌, ◌≤◌, List, [], ◌∷◌, ◌++◌, length, map, refl, ap, sym, ◌∙◌, Option, Some, None, arith}
+use Rattle.std.proofs.Common.{◌≡◌, ℕ, zero, suc, ◌≤◌, List, [], ◌∷◌, ◌++◌, length, map, refl, ap, sym, ◌∙◌, Some, arith}
 use Rattle.std.specs.Prelude.{slice_get, option_map, option_and_then, replicate}
 use Rattle.ll_bank.specs.Term.{Term, Var, sub}
 use Rattle.ll_bank.specs.Form.{Form, Atom, sub_form}
-use Rattle.ll_laws.specs.declared.Candidate.{Candidate}
 use Rattle.ll_laws.specs.Leaf.{Leaf, ways, leaf}
 use Rattle.ll_laws.specs.Module.{Setting}
 use Rattle.ll_laws.specs.Settle.{Entry, Item, Goal}
 use Rattle.ll_laws.specs.State.{State}
-use Rattle.ll_laws.specs.Unify.{Solved, mgu}
+use Rattle.ll_laws.specs.Unify.{mgu}
 use Rattle.ll_laws.specs.Attempt.{vars_from, entry_at, instantiated, with_leaf, take_leaf, take_way, take_entry, attempt_agenda, attempt}
 use Rattle.ll_laws.proofs.SubLaws.{IsClosing, leaf-sub, sub_leaf, ways-sub}
 

@@ -1,6 +1,6 @@
 -- Parts of an inference on an atom.
-use Rattle.std.proofs.Common.{◌≡◌, ℕ, zero, suc, ◌+◌, ◌<◌, ◌≤◌, List, [], ◌∷◌, ◌++◌, length, map, All, refl, ap, sym, subst, ◌∙◌, Option, Some, None, Bool, true, false, arith, take, drop}
-use Rattle.std.specs.Prelude.{if◌then◌else◌, nat_eq, slice_get, option_map, replicate}
+use Rattle.std.proofs.Common.{◌≡◌, ℕ, zero, suc, ◌+◌, List, [], ◌∷◌, ◌++◌, ap, sym, ◌∙◌, Some, true, false, arith, drop}
+use Rattle.std.specs.Prelude.{if◌then◌else◌, nat_eq, slice_get, replicate}
 use Rattle.ll_bank.specs.declared.FormAt.{FormAt}
 use Rattle.ll_laws.specs.Settle.{Entry}
 use Rattle.ll_laws.specs.Attempt.{entry_at}

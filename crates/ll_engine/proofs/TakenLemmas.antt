@@ -1,28 +1,25 @@
 -- What a machine shows after a leaf was taken, part by part.
-use Rattle.std.proofs.Common.{◌≡◌, ℕ, zero, suc, ◌+◌, ◌<◌, ◌≤◌, List, [], ◌∷◌, ◌++◌, length, map, All, refl, ap, sym, subst, ◌∙◌, arith, inl, inr, Option, Some, None, Bool, true, false}
-use Rattle.std.specs.Prelude.{if◌then◌else◌, nat_eq, option_map, ◌&&◌, ◌||◌, not}
-use Rattle.std.proofs.lemmas.Bool.{lt-ltb, ltb-true, cases_lt}
+use Rattle.std.proofs.Common.{◌≡◌, ℕ, zero, suc, ◌+◌, ◌<◌, ◌≤◌, List, [], ◌∷◌, ◌++◌, length, map, All, refl, ap, sym, subst, ◌∙◌, arith, inl, inr, Option, Some, Bool, true, false}
+use Rattle.std.specs.Prelude.{if◌then◌else◌, nat_eq, option_map, ◌||◌, not}
+use Rattle.std.proofs.lemmas.Bool.{cases_lt}
 use Rattle.std.proofs.lemmas.List.Elements.{All-head, All-tail, All-cons}
 use Rattle.std.specs.List.{list_all}
 use Rattle.std.proofs.lemmas.List.{map-append}
 use Rattle.ll_bank.specs.declared.At.{At}
 use Rattle.ll_bank.specs.declared.FormAt.{FormAt}
-use Rattle.ll_bank.specs.Term.{Term, Var, sub, is_closed, eigens_below}
+use Rattle.ll_bank.specs.Term.{Term, Var, sub}
 use Rattle.ll_bank.specs.Form.{Form, sub_form}
-use Rattle.ll_bank.specs.Nodes.{Nodes, HasTerm, HasForm, AllInTerms, Extends, term_tree, term_trees, form_tree}
+use Rattle.ll_bank.specs.Nodes.{Nodes, HasForm, AllInTerms, Extends, term_trees, form_tree}
 use Rattle.ll_bank.proofs.Trees.{Extends-trans}
 use Rattle.ll_laws.specs.Leaf.{Premise, Needs, NeedsFree, premise_goal}
 use Rattle.ll_laws.specs.Settle.{Saved, Entry, map_entry, unlive}
 use Rattle.ll_laws.specs.State.{sub_item, sub_entry}
 use Rattle.ll_laws.specs.Attempt.{is_linear, is_open, vars_from, entry_at, picked}
-use Rattle.ll_laws.specs.Unify.{vars_below}
 use Rattle.ll_laws.specs.Valid.{Allowed, IsFormula, GoalSide}
 use Rattle.ll_laws.specs.Consistent.{is_made}
-use Rattle.ll_laws.proofs.SubLaws.{IsClosing, sub_premise, sub_same, map_same, and_left, and_right}
-use Rattle.ll_laws.proofs.ConsistentTerms.{Fit, AllFit, Goes, fit_of_made}
+use Rattle.ll_laws.proofs.SubLaws.{sub_premise, sub_same, map_same, and_left, and_right}
 use Rattle.ll_laws.proofs.ConsistentForms.{formula_of_fits}
 use Rattle.ll_laws.proofs.ConsistentLeaves.{PremisesFit}
-use Rattle.ll_engine.specs.declared.machine.Item.{Item}
 use Rattle.ll_engine.specs.declared.machine.Item.TheVariants.{Goal}
 use Rattle.ll_engine.specs.Reading.{reading, read_term, read_form, HasValue}
 use Rattle.ll_engine.specs.Shown.{shown_item, shown_entry}

@@ -1,35 +1,35 @@
 -- A leaf taken for the atom in front of a machine's agenda.
-use Rattle.std.proofs.Common.{◌≡◌, ℕ, zero, suc, inl, inr, ◌+◌, ◌<◌, ◌≤◌, ◌^◌, List, [], ◌∷◌, ◌++◌, length, map, All, get_or, refl, ap, sym, subst, ◌∙◌, arith, Option, Some, None, Bool, true, false}
-use Rattle.std.specs.Prelude.{slice_get, option_map, option_and_then, replicate, nat_lt, ◌&&◌}
+use Rattle.std.proofs.Common.{◌≡◌, ℕ, zero, suc, inl, inr, ◌+◌, ◌<◌, ◌≤◌, List, [], ◌∷◌, ◌++◌, length, map, All, get_or, refl, ap, sym, subst, ◌∙◌, arith, Option, Some, None, true}
+use Rattle.std.specs.Prelude.{slice_get, option_map, option_and_then, replicate, ◌&&◌}
 use Rattle.std.specs.List.{list_all}
 use Rattle.std.proofs.lemmas.Bool.{lt-ltb, ltb-true, cases_lt}
 use Rattle.std.proofs.lemmas.List.{map-append, length-append, length-replicate, length-map}
-use Rattle.std.proofs.lemmas.List.Elements.{All-append, All-head, All-tail, All-cons}
+use Rattle.std.proofs.lemmas.List.Elements.{All-append, All-tail}
 use Rattle.ll_bank.specs.declared.At.{At}
 use Rattle.ll_bank.specs.declared.FormAt.{FormAt}
-use Rattle.ll_bank.specs.Term.{Term, Var, sub, is_closed, eigens_below}
+use Rattle.ll_bank.specs.Term.{sub, is_closed, eigens_below}
 use Rattle.ll_bank.specs.Form.{Form, Atom, sub_form}
-use Rattle.ll_bank.specs.Nodes.{Nodes, HasTerm, HasForm, AllInTerms, Extends, term_tree, term_trees, form_tree}
+use Rattle.ll_bank.specs.Nodes.{Nodes, HasForm, AllInTerms, Extends, term_tree, term_trees, form_tree}
 use Rattle.ll_bank.proofs.Trees.{Extends-trans, HasForm-extends, form_tree-extends, AllInTerms-extends, term_trees-extends}
 use Rattle.ll_laws.specs.declared.Candidate.{Candidate}
 use Rattle.ll_laws.specs.declared.Step.TheVariants.{Clause as ClauseStep}
-use Rattle.ll_laws.specs.Leaf.{Leaf, Premise, premise_goal, ways, leaf}
+use Rattle.ll_laws.specs.Leaf.{Leaf, premise_goal, ways, leaf}
 use Rattle.ll_laws.specs.Settle.{Saved, Entry, map_entry}
-use Rattle.ll_laws.specs.State.{State, sub_item, sub_entry}
+use Rattle.ll_laws.specs.State.{sub_item, sub_entry}
 use Rattle.ll_laws.specs.Unify.{Solved, mgu, vars_below}
 use Rattle.ll_laws.specs.Attempt.{vars_from, entry_at, picked, instantiated, with_leaf, take_way, take_entry, attempt_agenda, attempt}
 use Rattle.ll_laws.specs.Problem.{setting_of}
 use Rattle.ll_laws.specs.Valid.{Allowed, IsFormula, IsValid, GoalSide, ClauseSide}
 use Rattle.ll_laws.specs.Consistent.{IsConsistent, allowed_in, is_made}
-use Rattle.ll_laws.proofs.SubLaws.{IsClosing, ways-sub, sub_leaf, sub_premise, sub_same, and_left, and_right}
-use Rattle.ll_laws.proofs.ConsistentTerms.{grows-refl, Fit, AllFit, Goes, Grows, widens-refl, fit_of_made, fit-more, fit-sub, fit-vars}
+use Rattle.ll_laws.proofs.SubLaws.{IsClosing, ways-sub, sub_leaf, sub_premise, sub_same, and_left}
+use Rattle.ll_laws.proofs.ConsistentTerms.{grows-refl, Fit, AllFit, Goes, Grows, fit_of_made, fit-more, fit-sub, fit-vars}
 use Rattle.ll_laws.proofs.ConsistentForms.{fits_of_formula, fits-more}
 use Rattle.ll_laws.proofs.ConsistentContexts.{formula-more}
-use Rattle.ll_laws.proofs.ConsistentLeaves.{PremisesFit, LeafFits, leaf-fits}
+use Rattle.ll_laws.proofs.ConsistentLeaves.{LeafFits, leaf-fits}
 use Rattle.ll_laws.proofs.ConsistentSteps.{steps_consistent}
 use Rattle.ll_agenda.specs.declared.agenda.Top.{Top as AgendaTop}
 use Rattle.ll_resources.specs.Resources.{Resources, after_pick}
-use Rattle.ll_agenda.specs.Frames.{Frames, HasTop, ShowsItems, items_at}
+use Rattle.ll_agenda.specs.Frames.{Frames, HasTop, items_at}
 use Rattle.ll_engine.specs.declared.machine.Machine.{Machine}
 use Rattle.ll_engine.specs.declared.machine.Item.{Item}
 use Rattle.ll_engine.specs.declared.machine.Item.TheVariants.{Goal, LolliEnd, ImpEnd, Mid, WithEnd, BangEnd}
@@ -37,7 +37,7 @@ use Rattle.ll_engine.specs.declared.take.Unified.{Unified}
 use Rattle.ll_engine.specs.Reading.{reading, read_term, read_form, HasValue}
 use Rattle.ll_engine.specs.Shown.{shown_item, shown_entry, items_of, state_of}
 use Rattle.ll_engine.specs.Fits.{setting, Fits, allowed, HasItem, IsGoalIn, Infers}
-use Rattle.ll_engine.specs.Opening.{IsClause, Opens, AreGoalsOf}
+use Rattle.ll_engine.specs.Opening.{Opens}
 use Rattle.ll_engine.specs.Taking.{HasAtom, IsUnified, Unifies}
 use Rattle.ll_engine.proofs.ReadLemmas.{map_trees, reading_same, read_same}
 use Rattle.ll_engine.proofs.ReboundLemmas.{reading_past}

@@ -1,14 +1,14 @@
 -- Unification of terms that are read under bindings.
-use Rattle.std.proofs.Common.{◌≡◌, ℕ, zero, suc, ◌<◌, ◌≤◌, List, [], ◌∷◌, length, map, All, refl, ap, sym, subst, ◌∙◌, arith, Option, Some, None, true}
+use Rattle.std.proofs.Common.{◌≡◌, ℕ, suc, ◌<◌, List, [], ◌∷◌, length, map, All, refl, ap, sym, subst, ◌∙◌, arith, Option, Some, None, true}
 use Rattle.std.specs.Prelude.{slice_index_or, option_map}
 use Rattle.std.specs.List.{list_all}
 use Rattle.std.proofs.lemmas.List.Elements.{All-cons}
 use Rattle.ll_bank.specs.declared.At.{At}
 use Rattle.ll_bank.specs.Term.{Term, sub}
-use Rattle.ll_bank.specs.Nodes.{Nodes, HasTerm, AllInTerms, Extends, term_tree, term_trees}
+use Rattle.ll_bank.specs.Nodes.{Nodes, HasTerm, AllInTerms, Extends, term_trees}
 use Rattle.ll_bank.proofs.Trees.{term_trees-extends}
 use Rattle.ll_laws.specs.Attempt.{vars_from}
-use Rattle.ll_laws.specs.Unify.{Solved, mgu, vars_below}
+use Rattle.ll_laws.specs.Unify.{mgu, vars_below}
 use Rattle.ll_laws.proofs.ConsistentTerms.{and_intro}
 use Rattle.ll_laws.proofs.ConsistentStates.{length-vars}
 use Rattle.ll_unify.specs.declared.Subst.{Subst}

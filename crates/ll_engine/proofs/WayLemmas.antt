@@ -1,5 +1,5 @@
 -- The way to a leaf, step by step.
-use Rattle.std.proofs.Common.{◌≡◌, ℕ, zero, suc, ◌+◌, ◌-◌, ◌<◌, ◌≤◌, List, [], ◌∷◌, ◌++◌, length, map, All, refl, ap, sym, subst, ◌∙◌, arith, Option, Some, None, Bool, true, false, append_assoc, get_or}
+use Rattle.std.proofs.Common.{◌≡◌, ℕ, zero, suc, ◌+◌, ◌-◌, ◌<◌, ◌≤◌, List, [], ◌∷◌, ◌++◌, length, map, All, refl, ap, sym, subst, ◌∙◌, arith, Option, Some, Bool, true, false, append_assoc, get_or}
 use Rattle.std.specs.Prelude.{if◌then◌else◌, nat_lt, slice_get, option_map, ◌&&◌}
 use Rattle.std.specs.List.{list_all}
 use Rattle.std.proofs.lemmas.Bool.{ltb-true, lt-ltb}
@@ -7,23 +7,23 @@ use Rattle.std.proofs.lemmas.List.{append-nil}
 use Rattle.std.proofs.lemmas.List.Elements.{All-cons, All-push}
 use Rattle.ll_bank.specs.declared.At.{At}
 use Rattle.ll_bank.specs.declared.FormAt.{FormAt}
-use Rattle.ll_bank.specs.Term.{Term, Var, Int, Con, Ap, applies_heads, is_spine, head_of, is_closed}
+use Rattle.ll_bank.specs.Term.{Term, Var, Int, Con, Ap, applies_heads, is_spine, head_of}
 use Rattle.ll_bank.specs.Form.{Form, Top, One, Atom, With, Tensor, Plus, Bang, Lolli, Imp, Forall, Exists, Use, instantiate, form_applies_heads}
-use Rattle.ll_bank.specs.Nodes.{Nodes, HasTerm, HasForm, AllInTerms, Extends, ShowsTerm, ShowsForm, term_tree, term_trees, form_tree}
-use Rattle.ll_bank.proofs.Trees.{HasForm-extends, HasTerm-extends, form_tree-extends, term_tree-extends, AllInTerms-extends, term_trees-extends, Extends-refl, Extends-trans}
-use Rattle.ll_laws.specs.Leaf.{Leaf, Premise, Needs, NeedsFree, add_premise, premise_goal, ways, leaf}
+use Rattle.ll_bank.specs.Nodes.{Nodes, HasTerm, HasForm, AllInTerms, Extends, term_tree, term_trees, form_tree}
+use Rattle.ll_bank.proofs.Trees.{HasForm-extends, form_tree-extends, AllInTerms-extends, term_trees-extends, Extends-refl, Extends-trans}
+use Rattle.ll_laws.specs.Leaf.{Leaf, Premise, add_premise, premise_goal, ways, leaf}
 use Rattle.ll_laws.specs.Attempt.{vars_from}
-use Rattle.ll_laws.specs.Valid.{Allowed, IsFormula, Side, GoalSide, ClauseSide, Scope, has_heads, is_headed, is_atom, may_head}
+use Rattle.ll_laws.specs.Valid.{Allowed, Side, GoalSide, ClauseSide, Scope, has_heads, is_headed, may_head}
 use Rattle.ll_laws.proofs.SubLaws.{and_left, and_right}
 use Rattle.ll_laws.proofs.ConsistentTerms.{Grows, and_intro}
 use Rattle.ll_laws.proofs.ConsistentForms.{fits_of_formula, formula_of_fits, fits-more, fits-close}
 use Rattle.ll_laws.proofs.ConsistentStates.{length-vars}
 use Rattle.ll_agenda.specs.declared.agenda.Top.{Top as AgendaTop}
-use Rattle.ll_agenda.specs.Frames.{Frames, ShowsItems, items_at, HasTop}
+use Rattle.ll_agenda.specs.Frames.{Frames, ShowsItems, items_at}
 use Rattle.ll_engine.specs.declared.machine.Item.{Item}
 use Rattle.ll_engine.specs.declared.machine.Item.TheVariants.{Goal}
-use Rattle.ll_engine.specs.Opening.{IsClause, AreGoalsOf, IsOnWay, Opens}
-use Rattle.ll_engine.proofs.OpeningLemmas.{leaf_open, ways_open, leaf_lolli, leaf_imp, leaf_atom}
+use Rattle.ll_engine.specs.Opening.{IsClause, IsOnWay, Opens}
+use Rattle.ll_engine.proofs.OpeningLemmas.{leaf_open, ways_open, leaf_atom}
 
 -- ---- clauses and their parts
 

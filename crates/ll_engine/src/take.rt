@@ -1,6 +1,7 @@
 //! Parts of an inference on an atom.
 ghost use Rattle.std.specs.Prelude.{◌≡◌, ◌<◌, ◌≤◌, ◌++◌, ◌∷◌, [], true, length, All, Some, IfOk, OnOk, option_map, replicate};
-ghost use Rattle.ll_bank.specs.Nodes.{HasTerm, AllInTerms, Extends, term_trees};
+ghost use Rattle.ll_bank.specs.Nodes.{HasTerm, AllInTerms, Extends, term_trees, form_tree};
+ghost use Rattle.ll_laws.specs.Leaf.{ways};
 ghost use Rattle.ll_laws.specs.Attempt.{entry_at, vars_from};
 ghost use Rattle.ll_laws.specs.Unify.{mgu, vars_below};
 ghost use Rattle.ll_engine.specs.Reading.{read_term, HasValue};
@@ -117,15 +118,35 @@ impl<'p> Machine<'p> {
         requires front { HasAtom self.old atom rest }
         ensures { IfOk result (Attempts self.old candidate self.new) }
     {
-        let label = candidate.label;
-        let leaf = candidate.leaf;
-        let Some(entry) = entry_with(&self.context, label) else {
+        let Some(entry) = entry_with(&self.context, candidate.label) else {
             return Ok(false);
         };
         let leaves = count_leaves(alloc, &self.bank, entry.clause)?;
-        if leaf >= leaves {
+        if candidate.leaf >= leaves {
             return Ok(false);
         }
+        let done = self.take_leaf_of(alloc, atom, rest, candidate, entry)?;
+        Ok(done)
+    }
+
+    /// Takes a leaf of an entry for the atom in front, as `take_leaf` does.
+    fn take_leaf_of(
+        &mut self,
+        alloc: Global,
+        atom: At,
+        rest: Top,
+        candidate: Candidate,
+        entry: Entry<FormAt>,
+    ) -> Result<bool, OutOfMemory>
+        requires fits { Fits self.old }
+        requires left { 0 < self.old.left }
+        requires front { HasAtom self.old atom rest }
+        requires found { entry_at self.old.context.present.entries candidate.label ≡ Some (resource entry) }
+        requires among { candidate.leaf < length (ways (form_tree self.old.bank entry.clause.0)) }
+        ensures { IfOk result (Attempts self.old candidate self.new) }
+    {
+        let label = candidate.label;
+        let leaf = candidate.leaf;
         let before = self.terms.len();
         let opened = open_leaf(
             alloc,

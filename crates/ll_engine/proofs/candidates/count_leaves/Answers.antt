@@ -1,4 +1,4 @@
-use Rattle.std.proofs.Common.{◌≡◌, ◌<◌, ℕ, ap, sym, subst, ◌∙◌, arith, length, All, List}
+use Rattle.std.proofs.Common.{◌<◌, ap, sym, subst, ◌∙◌, arith, length, All}
 use Rattle.std.proofs.lemmas.List.Elements.{All-push}
 use Rattle.ll_bank.specs.declared.FormAt.{FormAt}
 use Rattle.ll_bank.specs.Form.{Form}

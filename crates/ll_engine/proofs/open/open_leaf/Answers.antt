@@ -1,8 +1,8 @@
-use Rattle.std.proofs.Common.{◌≡◌, ℕ, ◌<◌, ◌≤◌, refl, ap, sym, subst, ◌∙◌, arith, length, inl, inr, List, [], ◌∷◌, Some, true}
+use Rattle.std.proofs.Common.{◌≡◌, ℕ, refl, ap, sym, subst, ◌∙◌, arith, length, inl, inr, [], ◌∷◌, Some}
 use Rattle.std.proofs.lemmas.Bool.{cases_lt}
 use Rattle.ll_bank.specs.declared.FormAt.{FormAt}
 use Rattle.ll_bank.specs.Term.{Var}
-use Rattle.ll_bank.specs.Form.{Form, Lolli, Imp, Forall, Bang, instantiate, form_applies_heads}
+use Rattle.ll_bank.specs.Form.{Imp, Forall, Bang, instantiate, form_applies_heads}
 use Rattle.ll_bank.specs.Nodes.{form_tree, term_tree, HasForm, Extends}
 use Rattle.ll_bank.proofs.Trees.{Extends-trans, form_tree-extends, term_tree-extends, HasForm-extends, HasTerm-extends}
 use Rattle.ll_laws.specs.Leaf.{Needs, NeedsFree, ways, leaf}

@@ -1,5 +1,4 @@
-use Rattle.std.proofs.Common.{◌≡◌, ap, sym, subst, ◌∙◌, map, All, length, refl}
-use Rattle.ll_bank.specs.Nodes.{AllInTerms, term_trees}
+use Rattle.std.proofs.Common.{ap, sym, subst, ◌∙◌, map, All, length}
 use Rattle.ll_engine.specs.Reading.{reading, read_term, HasValue}
 use Rattle.ll_engine.proofs.ReboundLemmas.{as_entries, entries_inside, reads_both}
 use Rattle.ll_engine.proofs.read.rebound.Goals as goal

@@ -1,4 +1,4 @@
-use Rattle.std.proofs.Common.{◌≡◌, sym, ◌∙◌, arith, ◌+◌, eq-eqb}
+use Rattle.std.proofs.Common.{sym, ◌∙◌, arith, ◌+◌, eq-eqb}
 use Rattle.std.proofs.lemmas.Bool.{ne_eqb}
 use Rattle.ll_resources.specs.Seen.{resource}
 use Rattle.ll_engine.proofs.TakeLemmas.{passed, met}

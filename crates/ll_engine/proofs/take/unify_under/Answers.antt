@@ -1,15 +1,13 @@
-use Rattle.std.proofs.Common.{◌≡◌, ◌<◌, ◌≤◌, ◌++◌, ◌∷◌, [], true, length, map, All, Some, None, refl, ap, sym, subst, ◌∙◌, arith, List}
-use Rattle.std.specs.Prelude.{option_map, Option, IfSome}
+use Rattle.std.proofs.Common.{◌<◌, [], length, All, refl, ap, sym, subst, ◌∙◌, arith, List}
+use Rattle.std.specs.Prelude.{Option, IfSome}
 use Rattle.std.proofs.lemmas.List.Elements.{All-cons}
 use Rattle.ll_bank.specs.Term.{sub}
 use Rattle.ll_unify.specs.Unifies.{HasEntries}
 use Rattle.ll_bank.specs.declared.At.{At}
-use Rattle.ll_bank.specs.Nodes.{HasTerm, AllInTerms, Extends, term_trees}
-use Rattle.ll_bank.proofs.Trees.{Extends-refl, Extends-trans, AllInTerms-extends, HasTerm-extends, term_trees-extends}
+use Rattle.ll_bank.specs.Nodes.{AllInTerms, term_trees}
+use Rattle.ll_bank.proofs.Trees.{Extends-trans, AllInTerms-extends, HasTerm-extends, term_trees-extends}
 use Rattle.ll_laws.specs.Attempt.{vars_from}
-use Rattle.ll_laws.specs.Unify.{mgu, vars_below}
 use Rattle.ll_engine.specs.Reading.{reading, read_term, HasValue}
-use Rattle.ll_engine.specs.Taking.{Unifies}
 use Rattle.ll_engine.proofs.ReadLemmas.{values_extend}
 use Rattle.ll_engine.proofs.UnifiedLemmas.{length_variables, one_long, one_below, entries_values, left_read, right_read, none_unifies, some_unifies}
 use Rattle.ll_engine.proofs.take.unify_under.Goals as goal

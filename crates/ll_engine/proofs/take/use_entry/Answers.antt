@@ -1,5 +1,4 @@
-use Rattle.std.proofs.Common.{◌≡◌, sym}
-use Rattle.ll_resources.specs.Resources.{Resources}
+use Rattle.std.proofs.Common.{sym}
 use Rattle.ll_resources.specs.Seen.{resource}
 use Rattle.ll_engine.proofs.TakenLemmas.{can_pick, picked_dead}
 use Rattle.ll_engine.proofs.take.use_entry.Goals as goal

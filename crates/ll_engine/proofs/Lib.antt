@@ -1,6 +1,12 @@
 pub mod ReadLemmas
+pub mod ReboundLemmas
 pub mod CandidateLemmas
 pub mod LeafLemmas
+pub mod OpeningLemmas
+pub mod LaterLemmas
+pub mod TakeLemmas
+pub mod StepLemmas
+pub mod WayLemmas
 pub mod MachineLemmas
 mod Owing
 mod Forks
@@ -12,7 +18,9 @@ mod Showing
 mod Fitting
 mod Rowing
 mod Settling
-pub mod LaterLemmas
 mod Quantifying
 mod Starting
 mod Loading
+pub mod TakingLemmas
+pub mod UnifiedLemmas
+pub mod TakenLemmas

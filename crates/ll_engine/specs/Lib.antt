@@ -13,3 +13,5 @@ pub mod Pointed
 pub mod Moves
 pub mod Steps
 pub mod Codes
+pub mod Opening
+pub mod Taking

@@ -1,6 +1,7 @@
 //! The candidates for a goal.
 ghost use Rattle.std.specs.Prelude.{◌≡◌, ◌+◌, ◌<◌, ◌++◌, true, length, All, IfOk, OnOk, map, flat_map};
-ghost use Rattle.ll_bank.specs.Nodes.{term_tree, HasTerm, HasForm};
+ghost use Rattle.ll_bank.specs.Nodes.{term_tree, form_tree, HasTerm, HasForm};
+ghost use Rattle.ll_laws.specs.Leaf.{ways};
 ghost use Rattle.ll_engine.specs.Reading.{read_term, read_form, HasValue};
 ghost use Rattle.ll_engine.specs.Shown.{shown_entry};
 ghost use Rattle.ll_engine.specs.Leaves.{IsPredicate, has_predicate, heads, head_tries, open_tries};
@@ -198,4 +199,28 @@ pub fn goal_candidates(
             Ok(found)
         }
     }
+}
+
+/// The number of leaves of a clause.
+pub fn count_leaves(alloc: Global, bank: &Bank, clause: FormAt) -> Result<u32, OutOfMemory>
+    requires { HasForm bank.now clause.0 }
+    ensures { IfOk result (λ count. count ≡ length (ways (form_tree bank.now clause.0))) }
+{
+    let mut waiting = Vec::new(alloc);
+    waiting.push(clause)?;
+    let mut count = 0;
+    while let Some(form) = waiting.pop() {
+        match bank.form_at(form) {
+            FormNode::Atom(_) => count = next_leaf(count)?,
+            FormNode::With(left, right) => {
+                waiting.push(right)?;
+                waiting.push(left)?;
+            }
+            FormNode::Lolli(_, rest) => waiting.push(rest)?,
+            FormNode::Imp(_, rest) => waiting.push(rest)?,
+            FormNode::Forall(rest) => waiting.push(rest)?,
+            _ => {}
+        }
+    }
+    Ok(count)
 }

@@ -4,12 +4,14 @@
 mod candidates;
 mod engine;
 mod machine;
+mod open;
 mod read;
 mod rows;
 mod seen;
 mod settle;
 mod spine;
 mod start;
+mod take;
 
 pub use engine::{Engine, Step2};
 pub use machine::{Item, Machine};

@@ -1,12 +1,13 @@
 //! Terms read under bindings.
-ghost use Rattle.std.specs.Prelude.{◌≡◌, ℕ, ◌<◌, ◌||◌, true, Option, Some, None, OnOk, IfOk, IsSome, All, map, nat_eq, length, slice_index_or};
+ghost use Rattle.std.specs.Prelude.{◌≡◌, ℕ, ◌<◌, ◌≤◌, ◌||◌, true, Option, Some, None, OnOk, IfOk, IsSome, All, map, nat_eq, length, slice_index_or};
 ghost use Rattle.std.specs.List.{Contains, list_any};
 ghost use Rattle.std.specs.Ordering.{nat_cmp};
 ghost use Rattle.std.specs.BTreeMap.{get};
 ghost use Rattle.std.specs.BTreeSet.{contains};
 ghost use Rattle.ll_bank.specs.Term.{sub};
-ghost use Rattle.ll_bank.specs.Nodes.{term_tree, AllInTerms, HasTerm, ShowsTerm, Extends, places};
+ghost use Rattle.ll_bank.specs.Nodes.{term_tree, term_trees, AllInTerms, HasTerm, ShowsTerm, Extends, places};
 ghost use Rattle.ll_bank.specs.Walk.{arguments_of, term_node_at, IsInOrder, HasImage, ShowsAt};
+ghost use Rattle.ll_laws.specs.Attempt.{vars_from};
 ghost use Rattle.ll_engine.specs.Reading.{reading, read_term, HasValue};
 
 use ll_bank::{At, Bank, Head, OutOfMemory, TermView};
@@ -156,4 +157,38 @@ fn image_of(images: &BTreeMap<usize, At>, place: At) -> At
     ensures { get nat_cmp images.now place.0 ≡ Some result }
 {
     *images.get(&place.0).unwrap()
+}
+
+/// What stands for each variable after more bindings: that which stood for it, read under these.
+///
+/// `terms` has the variables in the order of their numbers.
+pub fn rebound(
+    alloc: Global,
+    bank: &mut Bank,
+    bound: &[Option<At>],
+    more: &[Option<At>],
+    terms: &[At],
+) -> Result<Vec<Option<At>>, OutOfMemory>
+    requires bound { All (HasValue bank.old) bound.now }
+    requires more { All (HasValue bank.old) more.now }
+    requires terms { AllInTerms bank.old terms.now }
+    requires variables { term_trees bank.old terms.now ≡ vars_from 0 (length terms.now) }
+    requires bound_count { length bound.now ≤ length terms.now }
+    requires more_count { length more.now ≤ length terms.now }
+    ensures count { IfOk result (λ all. length all.items ≡ length terms.now) }
+    ensures inside { IfOk result (λ all. All (HasValue bank.new) all.items) }
+    ensures reads { IfOk result (λ all. (x : ℕ) → reading bank.new all.items x ≡ sub (reading bank.old more.now) (reading bank.old bound.now x)) }
+    ensures keeps { Extends bank.old bank.new }
+{
+    let first = read_all(alloc, bank, bound, terms)?;
+    let both = read_all(alloc, bank, more, &first)?;
+    let all = entries(alloc, &both)?;
+    Ok(all)
+}
+
+/// Each place as an entry.
+fn entries(alloc: Global, places: &[At]) -> Result<Vec<Option<At>>, OutOfMemory>
+    ensures { IfOk result (λ all. all.items ≡ map Some places.now) }
+{
+    places.iter().map(|at| Some(*at)).collect(alloc)
 }

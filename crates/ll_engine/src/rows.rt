@@ -19,7 +19,7 @@ use ll_agenda::{Agenda, Top};
 use ll_bank::{At, FormAt, FormNode, Head, OutOfMemory};
 use ll_laws::{Candidate, Kind, Module, Step};
 use ll_modules::unfold;
-use std::alloc::{AllocError, Global};
+use std::alloc::Global;
 
 impl<'p> Machine<'p> {
     /// One inference: the first goal taken apart by one of its candidates; false where this gives nothing.
@@ -100,7 +100,10 @@ impl<'p> Machine<'p> {
                 self.take_load(&modules[number as usize], &args, body, rest)?;
                 Ok(true)
             }
-            FormNode::Atom(_) => Err(AllocError),
+            FormNode::Atom(atom) => {
+                let done = self.take_leaf(alloc, atom, rest, candidate)?;
+                Ok(done)
+            }
         }
     }
 

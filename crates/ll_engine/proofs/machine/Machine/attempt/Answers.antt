@@ -115,3 +115,14 @@ returns-in_ok-take_load-in-Use c =
     let q : u.args.now ≡ c.deref.result.now = sym (c.deref.ensures.value ∙ c.in_ok-args-in-Use.ensures.items) in
     use_row m c.in-Goal.goal u.body u.number c.deref.result.now rest c.requires.fits (c.in-Some.ensures.some.list ∙ ap (λ x. x ∷ rest) c.in-Goal.is)
     (u.ensures.shown.tree ∙ ap (λ xs. Use u.number (term_trees m.bank xs) (form_tree m.bank u.body.0)) q) c.index-modules-number.result c.index-modules-number.is c.take_load.new.self c.args.candidate c.in_ok-take_load-in-Use.ensures
+
+pub take_leaf-requires-clause-front : goal.take_leaf-requires-clause-front
+take_leaf-requires-clause-front c =
+    let rest = items_at c.args.self.now.agenda c.in-Some.rest in
+    record {
+      goal = c.in-Goal.goal;
+      list = c.in-Some.ensures.some.list ∙ ap (λ x. x ∷ rest) c.in-Goal.is;
+      behind = c.in-Some.ensures.some.inside;
+      inside = c.in-Atom.ensures.shown.parts;
+      tree = c.in-Atom.ensures.shown.tree;
+    }

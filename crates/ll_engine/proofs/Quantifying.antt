@@ -34,7 +34,7 @@ use Rattle.ll_engine.specs.declared.machine.Item.TheVariants.{Goal, LolliEnd, Im
 use Rattle.ll_engine.specs.Reading.{reading, read_term, read_form, HasValue}
 use Rattle.ll_engine.specs.Shown.{shown_item, shown_entry, items_of, state_of}
 use Rattle.ll_engine.specs.Fits.{Fits, HasItem, IsGoalIn, allowed, setting, Infers}
-use Rattle.ll_engine.specs.Rows.{GoesOn, Opens, OpensForall, OpensExists}
+use Rattle.ll_engine.specs.Rows.{GoesOn, PutsInFront, OpensForall, OpensExists}
 use Rattle.ll_engine.proofs.ReadLemmas.{reading_same, values_extend}
 use Rattle.ll_engine.specs.Turned.{is_empty}
 use Rattle.ll_engine.proofs.LaterLemmas.{form_same}
@@ -194,7 +194,7 @@ opened_state old new f rest =
       steps = old.steps.items ++ Plain ∷ [];
     }
 
-state_opened : (old new : Machine) (f : Form) (rest : List Item) → Opens old f rest new → ((x : ℕ) → reading new.bank new.bound.items x ≡ reading old.bank old.bound.items x)
+state_opened : (old new : Machine) (f : Form) (rest : List Item) → PutsInFront old f rest new → ((x : ℕ) → reading new.bank new.bound.items x ≡ reading old.bank old.bound.items x)
     → All (HasItem old.bank (length old.context.present.kept)) rest → All (λ e. HasForm old.bank e.clause.0) old.context.present.entries → state_of new ≡ opened_state old new f rest
 state_opened old new f rest o reads items clauses =
     let r = old.context.present in let b = new.bank in let a = new.bound.items in
@@ -219,7 +219,7 @@ state_opened old new f rest o reads items clauses =
     ∙ (ap (λ xs. make (sub_form (reading old.bank old.bound.items) f) xs (map (shown_entry b a) r.entries)) (items_stay old.bank b old.bound.items a o.bank reads r.kept (length r.kept) rest items)
     ∙ ap (λ es. make (sub_form (reading old.bank old.bound.items) f) (map (shown_item old.bank old.bound.items r.kept) rest) es) (entries_stay old.bank b old.bound.items a o.bank reads r.entries clauses))))))
 
-pub opened : (old new : Machine) (g : FormAt) (rest : List Item) (c : Candidate) (f : Form) → Fits old → items_of old ≡ Goal g ∷ rest → Opens old f rest new
+pub opened : (old new : Machine) (g : FormAt) (rest : List Item) (c : Candidate) (f : Form) → Fits old → items_of old ≡ Goal g ∷ rest → PutsInFront old f rest new
     → ((x : ℕ) → reading new.bank new.bound.items x ≡ reading old.bank old.bound.items x) → Grows (allowed old) (allowed new)
     → length new.bound.items ≡ length new.levels.items → All (HasValue new.bank) new.bound.items → AllInTerms new.bank new.terms.items
     → term_trees new.bank new.terms.items ≡ vars_from 0 (length new.levels.items) → IsFormula (allowed new) GoalSide [] f → new.eigens + new.left ≤ 2 ^ 20
@@ -311,7 +311,7 @@ still_state old h rest e =
     }
 
 -- a goal in place of the one in front where no variable is new
-pub still : (old new : Machine) (g : FormAt) (rest : List Item) (c : Candidate) (f : Form) → Fits old → items_of old ≡ Goal g ∷ rest → Opens old f rest new
+pub still : (old new : Machine) (g : FormAt) (rest : List Item) (c : Candidate) (f : Form) → Fits old → items_of old ≡ Goal g ∷ rest → PutsInFront old f rest new
     → new.bound.items ≡ old.bound.items → new.levels.items ≡ old.levels.items → new.terms.items ≡ old.terms.items → old.eigens ≤ new.eigens → new.eigens ≤ suc old.eigens
     → IsFormula (allowed new) GoalSide [] f → attempt (setting old) (state_of old) c ≡ Some (still_state old (sub_form (reading old.bank old.bound.items) f) rest new.eigens) → Infers old c new
 still old new g rest c f fits e1 o wb wl wt low high sorted gives =
@@ -414,7 +414,7 @@ exists_row old new g body rest c f e1 e2 w =
 
 -- the machine that goes on has a place that shows the formula
 pub opens_shown : (old mid new : Machine) → mid.problem.now ≡ old.problem.now → mid.modules.now ≡ old.modules.now → mid.context ≡ old.context → mid.steps.items ≡ old.steps.items → mid.left ≡ old.left
-    → (goal : FormAt) (f : Form) (rest : List Item) → Extends old.bank mid.bank → ShowsForm mid.bank goal.0 f → GoesOn mid (Goal goal ∷ []) rest Plain new → Opens old f rest new
+    → (goal : FormAt) (f : Form) (rest : List Item) → Extends old.bank mid.bank → ShowsForm mid.bank goal.0 f → GoesOn mid (Goal goal ∷ []) rest Plain new → PutsInFront old f rest new
 opens_shown old mid new p ms q st l goal f rest k sh go =
     let nb : new.bank ≡ mid.bank = ap (λ (m : Machine). m.bank) go.same in
     record {

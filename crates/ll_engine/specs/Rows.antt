@@ -27,7 +27,7 @@ pub record GoesOn (old : Machine) (front rest : List Item) (step : Step) (new : 
 
 -- the later machine is the earlier one with a place that shows this formula as the goal in front of the rest, after one step more; its
 -- bank has more places
-pub record Opens (old : Machine) (f : Form) (rest : List Item) (new : Machine) : Type 0 where
+pub record PutsInFront (old : Machine) (f : Form) (rest : List Item) (new : Machine) : Type 0 where
   pub problem : new.problem.now ≡ old.problem.now
   pub modules : new.modules.now ≡ old.modules.now
   pub context : new.context ≡ old.context
@@ -41,7 +41,7 @@ pub record Opens (old : Machine) (f : Form) (rest : List Item) (new : Machine) :
 
 -- the body of a `forall`, with the next eigenconstant in place of its bound place, is the goal in front
 pub record OpensForall (old : Machine) (body : FormAt) (rest : List Item) (new : Machine) : Type 0 where
-  pub opens : Opens old (instantiate (form_tree old.bank body.0) (Con (Eigen old.eigens))) rest new
+  pub opens : PutsInFront old (instantiate (form_tree old.bank body.0) (Con (Eigen old.eigens))) rest new
   pub bound : new.bound.items ≡ old.bound.items
   pub levels : new.levels.items ≡ old.levels.items
   pub terms : new.terms.items ≡ old.terms.items
@@ -49,7 +49,7 @@ pub record OpensForall (old : Machine) (body : FormAt) (rest : List Item) (new :
 
 -- the body of an `exists`, with the next variable in place of its bound place, is the goal in front
 pub record OpensExists (old : Machine) (body : FormAt) (rest : List Item) (new : Machine) : Type 0 where
-  pub opens : Opens old (instantiate (form_tree old.bank body.0) (Var (length old.levels.items))) rest new
+  pub opens : PutsInFront old (instantiate (form_tree old.bank body.0) (Var (length old.levels.items))) rest new
   pub bound : new.bound.items ≡ old.bound.items ++ None ∷ []
   pub levels : new.levels.items ≡ old.levels.items ++ old.eigens ∷ []
   pub value : At
@@ -59,7 +59,7 @@ pub record OpensExists (old : Machine) (body : FormAt) (rest : List Item) (new :
 
 -- the goal that a load of this module with these arguments stands for is the goal in front
 pub record Loads (old : Machine) (d : Module) (args : List At) (body : FormAt) (rest : List Item) (new : Machine) : Type 0 where
-  pub opens : Opens old (unfold_load (module_tree old.bank d) (term_trees old.bank args) (form_tree old.bank body.0)) rest new
+  pub opens : PutsInFront old (unfold_load (module_tree old.bank d) (term_trees old.bank args) (form_tree old.bank body.0)) rest new
   pub bound : new.bound.items ≡ old.bound.items
   pub levels : new.levels.items ≡ old.levels.items
   pub terms : new.terms.items ≡ old.terms.items

@@ -6,5 +6,7 @@ mod machine;
 mod open;
 mod read;
 mod take;
+#[cfg(test)]
+mod tests;
 
 pub use machine::{Item, Machine};

@@ -1,5 +1,7 @@
 -- What a text is read as: a derivation, or its first fault.
-use Rattle.std.specs.Prelude.{◌≡◌, ℕ, zero, suc, ◌+◌, ◌<◌, ◌^◌, Bool, true, false, ◌==◌, List, [], ◌∷◌, ◌++◌, length, map, All, count_by, Option, Some, None, if◌then◌else◌, IsTrue, ◌⊎◌, codes, decimal}
+use Rattle.std.specs.Prelude.{◌≡◌, ℕ, zero, suc, ◌+◌, ◌<◌, ◌^◌, Bool, true, false, ◌==◌, List, [], ◌∷◌, ◌++◌, length, map, All, count_by, Option, Some, None, if◌then◌else◌, IsTrue, ◌⊎◌, codes, decimal, ℤ, FitsSigned}
+use Rattle.std.specs.Fmt.{signed_decimal}
+use Rattle.std.specs.Int.{w64}
 use Rattle.std.specs.List.{list_all}
 use Rattle.std.specs.Str.{bytes_eq}
 use Rattle.ll_bank.specs.Term.{Term, is_closed}
@@ -42,11 +44,21 @@ first_word (b ∷ bs) = if b == 32 then [] else b ∷ first_word bs
 pub data Kind : Type 0 where
   Number Set Argument Mark : Kind
 
--- a number as it is written
-pub record IsNumber (text : List ℕ) : Type 0 where
+-- a number of so many bits, in decimal and without leading zeros
+pub record IsDecimal (bits : ℕ) (text : List ℕ) : Type 0 where
   pub number : ℕ
-  pub small : number < 2 ^ 32
+  pub small : number < 2 ^ bits
   pub is : text ≡ decimal number
+
+-- a label, a leaf, or the number of an eigenconstant
+abbrev pub IsNumber : List ℕ → Type 0
+IsNumber text = IsDecimal 32 text
+
+-- a whole number as it is printed
+pub record IsInteger (text : List ℕ) : Type 0 where
+  pub value : ℤ
+  pub fits : FitsSigned w64 value
+  pub is : text ≡ signed_decimal value
 
 -- a set of labels
 pub record IsSet (text : List ℕ) : Type 0 where

@@ -7,6 +7,7 @@ ghost use Rattle.ll_printer.specs.Pieces.{BeginsText};
 
 mod fields;
 mod lines;
+mod numbers;
 
 use crate::lines::{write_asked, write_nodes, write_version};
 use ll_bank::{Names, OutOfMemory};

@@ -1,0 +1,4 @@
+pub mod Seen
+pub mod Owed
+pub mod Codes
+pub mod Steps

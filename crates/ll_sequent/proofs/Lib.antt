@@ -1,0 +1,7 @@
+pub mod Stepping
+pub mod Waiting
+pub mod Passing
+pub mod Verdicts
+pub mod RuleLemmas
+pub mod Closings
+pub mod OpeningLemmas

@@ -1,0 +1,6 @@
+pub mod Sequents
+pub mod Steps
+pub mod Named
+pub mod Judging
+pub mod Told
+pub mod Starting

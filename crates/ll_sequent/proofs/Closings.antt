@@ -1,15 +1,14 @@
 -- A sound formula stays sound where a closed term, or an eigenconstant that may be a predicate, takes the place that a quantifier binds.
 use Rattle.std.proofs.Common.{◌≡◌, ℕ, zero, suc, ◌+◌, ◌<◌, refl, ap, sym, ◌∙◌, subst, Bool, true, false, List, [], ◌∷◌, ◌++◌, map, length, arith}
-use Rattle.std.specs.Prelude.{◌&&◌, Option, Some, None, nat_eq, nat_lt, slice_get, slice_index_or}
+use Rattle.std.specs.Prelude.{◌&&◌, Option, Some, None, nat_eq, slice_get, slice_index_or}
 use Rattle.std.specs.List.{list_all}
 use Rattle.std.proofs.lemmas.Bool.{and_from, and_parts, ltb-true, lt-ltb}
-use Rattle.std.proofs.lemmas.List.{length-map, append_assoc, length-append}
-use Rattle.ll_bank.specs.declared.Head.{Head}
+use Rattle.std.proofs.lemmas.List.{length-map}
 use Rattle.ll_bank.specs.declared.Head.TheVariants.{Name, Eigen, Bound}
-use Rattle.ll_bank.specs.Term.{Term, Var, Int, Con, Ap, Env, place, close, head_of, is_spine, is_closed, not_bound, applies_heads}
+use Rattle.ll_bank.specs.Term.{Term, Var, Int, Con, Ap, Env, place, close, head_of, is_spine, is_closed, applies_heads}
 use Rattle.ll_bank.specs.Form.{Form, Top, One, Atom, With, Tensor, Plus, Bang, Lolli, Imp, Forall, Exists, Use, close_form, instantiate, form_applies_heads}
 use Rattle.ll_laws.specs.Module.{ModuleTree}
-use Rattle.ll_laws.specs.Valid.{Side, GoalSide, ClauseSide, Scope, places_below, each_term, free_below, may_head, is_headed, is_atom, has_heads, fits_module, loads_fit}
+use Rattle.ll_laws.specs.Valid.{Side, GoalSide, ClauseSide, Scope, places_below, each_term, may_head, is_headed, is_atom, has_heads, fits_module, loads_fit}
 use Rattle.ll_sequent.specs.Sequents.{IsSound}
 
 -- ---- one environment

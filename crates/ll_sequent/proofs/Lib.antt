@@ -5,3 +5,4 @@ pub mod Verdicts
 pub mod RuleLemmas
 pub mod Closings
 pub mod OpeningLemmas
+pub mod UnfoldLemmas

@@ -1,13 +1,12 @@
 -- What the rules that open a formula make of their sequents, where the bank grows.
-use Rattle.std.proofs.Common.{◌≡◌, ℕ, refl, ap, sym, ◌∙◌, subst, Bool, true, false, List, [], ◌∷◌, map, take, reverse, length}
-use Rattle.std.specs.Prelude.{All}
+use Rattle.std.proofs.Common.{◌≡◌, ℕ, refl, ap, sym, ◌∙◌, subst, true, false, List, [], ◌∷◌, take, reverse, length}
 use Rattle.std.proofs.lemmas.List.Elements.{All-take}
 use Rattle.ll_bank.specs.declared.FormAt.{FormAt}
 use Rattle.ll_bank.specs.declared.FormNode.{FormNode}
 use Rattle.ll_bank.specs.declared.FormNode.TheVariants.{Top as TopView, One as OneView, Atom as AtomView, With as WithView, Tensor as TensorView, Plus as PlusView, Bang as BangView, Lolli as LolliView, Imp as ImpView, Forall as ForallView, Exists as ExistsView, Use as UseView}
 use Rattle.ll_bank.specs.Term.{Term, is_closed}
-use Rattle.ll_bank.specs.Form.{Form, Exists, instantiate, form_applies_heads}
-use Rattle.ll_bank.specs.Nodes.{Nodes, form_tree, form_of, HasForm, ShowsForm, IsFormView, Extends}
+use Rattle.ll_bank.specs.Form.{Form, instantiate, form_applies_heads}
+use Rattle.ll_bank.specs.Nodes.{Nodes, form_tree, form_of, ShowsForm, IsFormView, Extends}
 use Rattle.ll_laws.specs.Module.{Setting, ModuleTree}
 use Rattle.ll_laws.specs.Shows.{Labelled}
 use Rattle.ll_laws.specs.Line.{Line, ExistsLine}
@@ -15,14 +14,14 @@ use Rattle.ll_laws.specs.Valid.{GoalSide, ClauseSide, has_heads}
 use Rattle.ll_sequent.specs.declared.sequents.Resource.{Resource}
 use Rattle.ll_sequent.specs.declared.sequents.Sequent.{Sequent}
 use Rattle.ll_sequent.specs.declared.sequents.Step.{Step}
-use Rattle.ll_sequent.specs.declared.sequents.Step.TheVariants.{Refused, Leaves}
-use Rattle.ll_sequent.specs.Sequents.{SequentTree, labelled_in, bounded_in, free_in, sequent_in, IsSound, IsHeld, AreHeld, IsSequent}
-use Rattle.ll_sequent.specs.Steps.{Made, Refuses, Asks, made, made_at, made_in, IsLeft}
+use Rattle.ll_sequent.specs.declared.sequents.Step.TheVariants.{Refused}
+use Rattle.ll_sequent.specs.Sequents.{bounded_in, free_in, sequent_in, IsSound, IsHeld, AreHeld}
+use Rattle.ll_sequent.specs.Steps.{Refuses, Asks, made, made_at, made_in, IsLeft}
 use Rattle.ll_sequent.specs.Named.{IsLeaving}
 use Rattle.ll_sequent.specs.Judging.{beside, Holds, IsStep, StepsOver}
 use Rattle.ll_sequent.proofs.Waiting.{same_labelled, are_held-extends}
 use Rattle.ll_sequent.proofs.RuleLemmas.{goal_sound, one_steps, none_added}
-use Rattle.ll_sequent.proofs.Closings.{sound-instantiate, heads_apply, heads-instantiate}
+use Rattle.ll_sequent.proofs.Closings.{sound-instantiate, heads-instantiate}
 
 -- the bank and the sequent before and after, with a goal that is new
 module _ (old new : Nodes) (s p : Sequent) (keeps : Extends old new) (free_same : p.free ≡ s.free) (bounded_same : p.bounded.items ≡ s.bounded.items) (g : Form) (shows : ShowsForm new p.goal.0 g) where

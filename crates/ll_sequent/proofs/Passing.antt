@@ -1,6 +1,5 @@
 -- The way through the nodes: its beginning, the sequent that is next, and what waits after its node.
-use Rattle.std.proofs.Common.{◌≡◌, ℕ, zero, suc, ◌+◌, ◌<◌, ◌≤◌, true, List, [], ◌∷◌, ◌++◌, length, map, take, drop, reverse, get_or, refl, ap, sym, ◌∙◌, subst, arith, Some}
-use Rattle.std.specs.Prelude.{◌&&◌, All}
+use Rattle.std.proofs.Common.{◌≡◌, ℕ, zero, suc, ◌<◌, ◌≤◌, true, List, [], ◌∷◌, ◌++◌, length, map, take, drop, reverse, get_or, refl, ap, sym, ◌∙◌, subst, arith, Some}
 use Rattle.std.specs.List.{list_all}
 use Rattle.std.proofs.lemmas.Bool.{and_parts}
 use Rattle.std.proofs.lemmas.List.{take-take, length-take-le, length-append}
@@ -18,8 +17,8 @@ use Rattle.ll_sequent.specs.declared.sequents.Resource.{Resource}
 use Rattle.ll_sequent.specs.declared.sequents.Sequent.{Sequent}
 use Rattle.ll_sequent.specs.declared.sequents.Step.{Step}
 use Rattle.ll_sequent.specs.declared.sequents.Step.TheVariants.{Refused, Leaves}
-use Rattle.ll_sequent.specs.Sequents.{SequentTree, sequent_in, waiting_in, IsHeld, AreHeld, IsSequent, AreNested, AreWaiting, Adds}
-use Rattle.ll_sequent.specs.Steps.{Made, Refuses, Asks, made_at, made_in, Owes, AreLeft, IsLeft}
+use Rattle.ll_sequent.specs.Sequents.{SequentTree, sequent_in, waiting_in, IsHeld, AreHeld, IsSequent, AreWaiting}
+use Rattle.ll_sequent.specs.Steps.{Asks, made_in, Owes, AreLeft, IsLeft}
 use Rattle.ll_sequent.specs.Judging.{beside, fault_at, Holds, IsStep}
 use Rattle.ll_sequent.specs.Named.{IsLeaving}
 use Rattle.ll_sequent.proofs.Stepping.{fits, refused, whole_owes}

@@ -1,28 +1,27 @@
 -- What each rule makes of its sequent, by the view of its goal.
-use Rattle.std.proofs.Common.{◌≡◌, ℕ, zero, suc, refl, ap, sym, ◌∙◌, subst, Bool, true, false, cond, List, [], ◌∷◌, ◌++◌, map, take, reverse, length, ◌<◌, ◌≤◌, arith}
-use Rattle.std.specs.Prelude.{◌&&◌, ◌||◌, not, if◌then◌else◌, filter, nat_eq, All}
+use Rattle.std.proofs.Common.{◌≡◌, ℕ, suc, refl, ap, sym, ◌∙◌, subst, Bool, true, false, cond, List, [], ◌∷◌, ◌++◌, map, take, reverse, length, ◌<◌, ◌≤◌, arith}
+use Rattle.std.specs.Prelude.{◌&&◌, ◌||◌, not, filter, nat_eq}
 use Rattle.std.specs.List.{list_any, list_all}
 use Rattle.std.proofs.lemmas.Bool.{and_parts}
 use Rattle.std.proofs.lemmas.List.{append-nil, map-append, reverse-append, take_all}
 use Rattle.std.proofs.lemmas.List.Elements.{All-nil, All-cons, All-push}
 use Rattle.ll_bank.specs.declared.FormAt.{FormAt}
 use Rattle.ll_bank.specs.declared.FormNode.{FormNode}
-use Rattle.ll_bank.specs.declared.FormNode.TheVariants.{Top as TopView, One as OneView, Atom as AtomView, With as WithView, Tensor as TensorView, Plus as PlusView, Bang as BangView, Lolli as LolliView, Imp as ImpView, Forall as ForallView, Exists as ExistsView, Use as UseView}
-use Rattle.ll_bank.specs.Form.{Form, Top, One, With, Tensor, Plus, Bang, Lolli, Imp}
-use Rattle.ll_bank.specs.Nodes.{Nodes, form_tree, form_of, HasForm, IsFormView}
+use Rattle.ll_bank.specs.declared.FormNode.TheVariants.{Tensor as TensorView, Lolli as LolliView, Imp as ImpView}
+use Rattle.ll_bank.specs.Form.{Form, Tensor, Lolli, Imp}
+use Rattle.ll_bank.specs.Nodes.{Nodes, form_tree, form_of, IsFormView}
 use Rattle.ll_laws.specs.Module.{Setting, ModuleTree}
 use Rattle.ll_laws.specs.Shows.{Labelled, has, has_label, one_of, all_in, part, splits}
-use Rattle.ll_laws.specs.Line.{Line, OneLine, EraseLine, TensorLine, WithLine, LeftLine, RightLine, BangLine, LolliLine, ImpLine}
-use Rattle.ll_laws.specs.Fault.{is_empty}
+use Rattle.ll_laws.specs.Line.{Line, TensorLine, LolliLine, ImpLine}
 use Rattle.ll_laws.specs.Valid.{Side, GoalSide, ClauseSide, free_below, has_heads, loads_fit}
 use Rattle.ll_sequent.specs.declared.sequents.Resource.{Resource}
 use Rattle.ll_sequent.specs.declared.sequents.Sequent.{Sequent}
 use Rattle.ll_sequent.specs.declared.sequents.Step.{Step}
 use Rattle.ll_sequent.specs.declared.sequents.Step.TheVariants.{Refused, Leaves}
 use Rattle.ll_sequent.specs.Sequents.{SequentTree, Adds, labelled_in, bounded_in, free_in, sequent_in, IsSound, IsHeld, AreHeld, IsSequent}
-use Rattle.ll_sequent.specs.Steps.{Made, Refuses, Asks, made, made_at, made_in, provided, AreLeft, IsLeft}
+use Rattle.ll_sequent.specs.Steps.{Refuses, Asks, made, made_at, made_in, provided, AreLeft, IsLeft}
 use Rattle.ll_sequent.specs.Named.{has_resource, deals, IsLeaving, Makes}
-use Rattle.ll_sequent.specs.Judging.{beside, Holds, IsStep, Steps}
+use Rattle.ll_sequent.specs.Judging.{beside, IsStep, Steps}
 
 -- ---- labels
 

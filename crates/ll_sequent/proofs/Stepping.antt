@@ -7,11 +7,11 @@ use Rattle.ll_bank.specs.Term.{Term, Con}
 use Rattle.ll_bank.specs.Form.{Form, Top, One, Atom, With, Tensor, Plus, Bang, Lolli, Imp, Forall, Exists, Use, instantiate, form_has_eigen}
 use Rattle.ll_laws.specs.Leaf.{Premise, Needs, NeedsFree, Leaf, ways, leaf}
 use Rattle.ll_laws.specs.Module.{Setting, ModuleTree, unfold_load}
-use Rattle.ll_laws.specs.Shows.{Tree, OneNode, EraseNode, TensorNode, WithNode, LeftNode, RightNode, BangNode, LolliNode, ImpNode, ForallNode, ExistsNode, UseNode, ClauseNode, Parts, NoParts, BoundedPart, UnboundedPart, Labelled, clauses, has_label, part, rest, splits, all_in, Found, Missing, Took, pick}
+use Rattle.ll_laws.specs.Shows.{Tree, Parts, NoParts, BoundedPart, UnboundedPart, Labelled, clauses, has_label, part, rest, splits, all_in, Found, Missing, Took, pick}
 use Rattle.ll_laws.specs.Line.{PartLine, Labels, Free, Cut, Short, Cuts, add_part, cut_parts, put_clause, put, Line, OneLine, EraseLine, WithLine, LeftLine, RightLine, BangLine, UseLine, TensorLine, LolliLine, ImpLine, ForallLine, ExistsLine, ClauseLine, trees_of}
 use Rattle.ll_laws.specs.Fault.{Checked, Fits, Fault, then_check, unless, is_empty, term_eq, parts_fit, parts_deal, Judged, Wrong, Right, judge_leaf, judge_clause, module_of, on_judged, on_module, fault, fault_parts}
 use Rattle.ll_sequent.specs.Sequents.{SequentTree}
-use Rattle.ll_sequent.specs.Steps.{Made, Refuses, Asks, sequent, provided, blank, premises, made_of, made_by, made, made_at, faults, Owes}
+use Rattle.ll_sequent.specs.Steps.{Made, Refuses, Asks, sequent, provided, blank, premises, made_of, made_by, made_at, faults, Owes}
 
 -- what is checked after a node
 abbrev after : Made → ℕ → (List SequentTree → Checked) → Checked

@@ -1,16 +1,16 @@
 -- What the checker asks of a valid problem, and its verdict.
-use Rattle.std.proofs.Common.{◌≡◌, ℕ, refl, ap, sym, ◌∙◌, subst, Bool, true, false, List, [], ◌∷◌, length, arith, Some}
+use Rattle.std.proofs.Common.{◌≡◌, ℕ, refl, sym, ◌∙◌, subst, Bool, true, false, List, [], ◌∷◌, length, arith, Some}
 use Rattle.std.specs.Prelude.{nat_eq, if◌then◌else◌, All}
 use Rattle.std.proofs.lemmas.Bool.{eqb-true, eq-eqb}
 use Rattle.std.proofs.lemmas.List.Elements.{All-nil, All-cons}
 use Rattle.ll_bank.specs.Form.{Form}
-use Rattle.ll_laws.specs.Module.{Setting, ModuleTree, ClauseTree}
+use Rattle.ll_laws.specs.Module.{ModuleTree, ClauseTree}
 use Rattle.ll_laws.specs.Problem.{ProblemTree, setting_of}
 use Rattle.ll_laws.specs.Valid.{Side, GoalSide, ClauseSide, Scope, Allowed, IsFormula, given, AreClauses, AreModules, module_scope, IsValid}
 use Rattle.ll_laws.specs.Line.{DerivationLines, IsWhole, trees_of}
 use Rattle.ll_laws.specs.Shows.{Tree}
 use Rattle.ll_laws.specs.Fault.{Checked, Fits, Fault, fault}
-use Rattle.ll_laws.specs.Verdict.{DerivationShows, first_fault, root_free, root_bounded, instantiated_goal}
+use Rattle.ll_laws.specs.Verdict.{first_fault, root_free, root_bounded, instantiated_goal}
 use Rattle.ll_laws.proofs.ConsistentTerms.{Grows, widens-refl}
 use Rattle.ll_laws.proofs.ConsistentForms.{fits_of_formula, formula_of_fits, fits-more}
 use Rattle.ll_laws.proofs.Lines.{no-fault-shows, shown-no-fault}

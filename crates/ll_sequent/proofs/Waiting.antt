@@ -1,20 +1,19 @@
 -- The sequents that wait, when the bank grows, when unbounded clauses come or go, and when sequents come or go.
-use Rattle.std.proofs.Common.{◌≡◌, ℕ, suc, ◌<◌, ◌≤◌, List, [], ◌∷◌, ◌++◌, length, map, take, reverse, get_or, refl, ap, sym, ◌∙◌, subst, arith}
+use Rattle.std.proofs.Common.{◌≡◌, ℕ, ◌<◌, ◌≤◌, List, [], ◌∷◌, ◌++◌, length, map, take, reverse, get_or, refl, ap, sym, ◌∙◌, subst, arith}
 use Rattle.std.specs.Prelude.{All}
-use Rattle.std.proofs.lemmas.List.{map-append, reverse-append, reverse-reverse, take-append-le, take-take, take_all, length-take}
-use Rattle.std.proofs.lemmas.List.Elements.{All-cons, All-head, All-tail, All-append, All-take, All-push, All-weaker}
+use Rattle.std.proofs.lemmas.List.{map-append, reverse-append, take-append-le, take-take}
+use Rattle.std.proofs.lemmas.List.Elements.{All-cons, All-head, All-tail, All-append, All-take, All-push}
 use Rattle.ll_bank.specs.Form.{Form}
-use Rattle.ll_bank.specs.Nodes.{Nodes, form_tree, HasForm, Extends}
+use Rattle.ll_bank.specs.Nodes.{Nodes, HasForm, Extends}
 use Rattle.ll_bank.proofs.Trees.{HasForm-extends, form_tree-extends}
 use Rattle.ll_laws.specs.declared.Module.{Module}
 use Rattle.ll_laws.specs.declared.Clause.{Clause}
 use Rattle.ll_laws.specs.Module.{ModuleTree}
 use Rattle.ll_laws.specs.Shown.{clause_tree, module_tree, HasClauses, HasModules}
-use Rattle.ll_laws.specs.Shows.{Labelled}
 use Rattle.ll_laws.specs.Valid.{Side, GoalSide, ClauseSide}
 use Rattle.ll_sequent.specs.declared.sequents.Resource.{Resource}
 use Rattle.ll_sequent.specs.declared.sequents.Sequent.{Sequent}
-use Rattle.ll_sequent.specs.Sequents.{SequentTree, labelled_in, bounded_in, free_in, sequent_in, waiting_in, IsSound, IsHeld, AreHeld, IsSequent, AreNested, AreWaiting, Adds}
+use Rattle.ll_sequent.specs.Sequents.{labelled_in, free_in, sequent_in, waiting_in, IsSound, IsHeld, AreHeld, IsSequent, AreNested, AreWaiting, Adds}
 use Rattle.ll_sequent.specs.Steps.{AreLeft}
 
 -- ---- the list

@@ -1,6 +1,5 @@
 -- What the checker asks of the modules and of a root, and what it judges.
-use Rattle.std.specs.Prelude.{◌≡◌, List, [], ◌∷◌, ◌++◌, length, map, All}
-use Rattle.ll_bank.specs.Form.{Form}
+use Rattle.std.specs.Prelude.{◌≡◌, List, length, All}
 use Rattle.ll_bank.specs.Nodes.{Nodes}
 use Rattle.ll_laws.specs.Module.{Setting, ModuleTree, ClauseTree}
 use Rattle.ll_laws.specs.Valid.{ClauseSide, module_scope}
@@ -11,7 +10,7 @@ use Rattle.ll_sequent.specs.declared.sequents.Resource.{Resource}
 use Rattle.ll_sequent.specs.declared.sequents.Sequent.{Sequent}
 use Rattle.ll_sequent.specs.declared.sequents.Step.{Step}
 use Rattle.ll_sequent.specs.Sequents.{SequentTree, sequent_in, IsSound, IsSequent, AreHeld, Adds}
-use Rattle.ll_sequent.specs.Steps.{Made, made_at, made_in, IsLeft}
+use Rattle.ll_sequent.specs.Steps.{made_at, made_in, IsLeft}
 
 -- what a derivation is judged beside
 abbrev pub beside : List ModuleTree → Setting

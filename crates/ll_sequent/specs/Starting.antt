@@ -1,9 +1,7 @@
 -- The sequent of a query.
-use Rattle.std.specs.Prelude.{◌≡◌, List, [], true, All, slice_index_or}
-use Rattle.std.specs.List.{list_all}
-use Rattle.ll_bank.specs.Term.{Term, Var, is_closed}
+use Rattle.std.specs.Prelude.{◌≡◌, List, [], All, slice_index_or}
+use Rattle.ll_bank.specs.Term.{Term, Var}
 use Rattle.ll_bank.specs.Form.{Form, sub_form}
-use Rattle.ll_bank.specs.Nodes.{Nodes}
 use Rattle.ll_laws.specs.declared.Kind.TheVariants.{Linear, Unbounded}
 use Rattle.ll_laws.specs.Module.{ModuleTree, ClauseTree}
 use Rattle.ll_laws.specs.Valid.{GoalSide, ClauseSide}

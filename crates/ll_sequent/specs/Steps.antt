@@ -1,5 +1,5 @@
 -- What one node makes of its sequent: a reason, or the sequents of its children; and what waiting sequents owe.
-use Rattle.std.specs.Prelude.{◌≡◌, ℕ, suc, Bool, true, false, ◌&&◌, ◌||◌, not, if◌then◌else◌, List, [], ◌∷◌, ◌++◌, map, length, All, Option, Some, None}
+use Rattle.std.specs.Prelude.{◌≡◌, ℕ, Bool, ◌||◌, not, if◌then◌else◌, List, [], ◌∷◌, ◌++◌, map, All, Option, Some, None}
 use Rattle.std.specs.List.{list_any}
 use Rattle.ll_bank.specs.declared.Head.TheVariants.{Eigen}
 use Rattle.ll_bank.specs.Term.{Con}
@@ -9,7 +9,7 @@ use Rattle.ll_laws.specs.Leaf.{Premise, Needs, NeedsFree}
 use Rattle.ll_laws.specs.Module.{Setting, ModuleTree, unfold_load}
 use Rattle.ll_laws.specs.Shows.{Tree, OneNode, Parts, NoParts, BoundedPart, UnboundedPart, Labelled, clauses, has_label, part, rest, splits, pick}
 use Rattle.ll_laws.specs.Line.{PartLine, Labels, Free, Line, OneLine, EraseLine, WithLine, LeftLine, RightLine, BangLine, UseLine, TensorLine, LolliLine, ImpLine, ForallLine, ExistsLine, ClauseLine, trees_of}
-use Rattle.ll_laws.specs.Fault.{Checked, Fits, Fault, then_check, is_empty, Judged, Wrong, Right, judge_clause, module_of, fault}
+use Rattle.ll_laws.specs.Fault.{Checked, Fits, then_check, is_empty, Judged, Wrong, Right, judge_clause, module_of, fault}
 use Rattle.ll_sequent.specs.declared.sequents.Resource.{Resource}
 use Rattle.ll_sequent.specs.declared.sequents.Sequent.{Sequent}
 use Rattle.ll_sequent.specs.declared.sequents.Step.{Step}

@@ -1,5 +1,5 @@
 -- What a verdict says.
-use Rattle.std.specs.Prelude.{◌≡◌, ℕ, List, [], ◌∷◌, Some}
+use Rattle.std.specs.Prelude.{◌≡◌, ℕ, [], ◌∷◌, Some}
 use Rattle.ll_laws.specs.Problem.{ProblemTree}
 use Rattle.ll_laws.specs.Line.{DerivationLines, trees_of}
 use Rattle.ll_laws.specs.Shows.{Tree}

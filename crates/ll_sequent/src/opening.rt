@@ -1,5 +1,5 @@
 //! The rules that open a formula.
-ghost use Rattle.std.specs.Prelude.{◌≡◌, [], true, map, IfOk};
+ghost use Rattle.std.specs.Prelude.{◌≡◌, List, [], true, map, IfOk};
 ghost use Rattle.std.specs.List.{list_all};
 ghost use Rattle.ll_bank.specs.Term.{is_closed};
 ghost use Rattle.ll_bank.specs.Nodes.{form_tree, term_tree, term_trees, HasForm, HasTerm, AllInTerms, Extends};
@@ -8,12 +8,14 @@ ghost use Rattle.ll_laws.specs.ShownLines.{part_line};
 ghost use Rattle.ll_laws.specs.Line.{ForallLine, ExistsLine, UseLine, ClauseLine, part_rises};
 ghost use Rattle.ll_laws.specs.Valid.{GoalSide, has_heads};
 ghost use Rattle.ll_sequent.specs.Judging.{AreModulesSound, Holds, IsStep, StepsOver};
-ghost use Rattle.ll_sequent.specs.Sequents.{sequent_in};
+ghost use Rattle.ll_sequent.specs.Sequents.{IsSequent, sequent_in};
+ghost use Rattle.ll_sequent.specs.declared.sequents.Resource.{Resource};
 
 use crate::plain::{OTHER_FORM, leave_one};
 use crate::sequents::{Resource, Sequent, Step};
 use ll_bank::{At, Bank, FormNode, OutOfMemory};
 use ll_laws::{Module, Part};
+use ll_modules::unfold;
 use std::alloc::{AllocError, Global};
 
 /// `forall x\ G` with an eigenconstant in place of x.
@@ -75,21 +77,31 @@ pub(crate) fn load(
     alloc: Global,
     bank: &mut Bank,
     modules: &[Module],
-    free: &[Resource],
     sequent: Sequent,
 ) -> Result<Step, OutOfMemory>
     requires has { HasModules bank.old modules.now }
     requires modules { AreModulesSound (map (module_tree bank.old) modules.now) }
-    requires holds { Holds (map (module_tree bank.old) modules.now) bank.old free.now sequent }
-    ensures is { IfOk result (IsStep (map (module_tree bank.old) modules.now) UseLine (sequent_in bank.old free.now sequent) bank.new free.now free.now) }
+    requires sequent { IsSequent (map (module_tree bank.old) modules.now) bank.old sequent }
+    ensures is { IfOk result (λ step. (free : List Resource) → Holds (map (module_tree bank.old) modules.now) bank.old free sequent → IsStep (map (module_tree bank.old) modules.now) UseLine (sequent_in bank.old free sequent) bank.new free free step) }
     ensures keeps { Extends bank.old bank.new }
 {
-    let _ = alloc;
-    let _ = bank.size();
-    let _ = modules;
-    let _ = free;
-    let _ = sequent;
-    Err(AllocError)
+    match bank.form_at(sequent.goal) {
+        FormNode::Use(number, args, body) => {
+            let Some(module) = modules.get(number as usize) else {
+                return Ok(Step::Refused(OTHER_FORM));
+            };
+            let args = Vec::from_slice(alloc, args)?;
+            let goal = unfold(bank, module, &args, body)?;
+            let premise = Sequent {
+                free: sequent.free,
+                bounded: sequent.bounded,
+                goal,
+            };
+            let step = leave_one(alloc, premise)?;
+            Ok(step)
+        }
+        _ => Ok(Step::Refused(OTHER_FORM)),
+    }
 }
 
 /// An atom by a leaf of a clause.

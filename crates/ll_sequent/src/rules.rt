@@ -73,7 +73,7 @@ pub(crate) fn step(
             Ok(step)
         }
         Rule::Use => {
-            let step = load(alloc, bank, modules, free, sequent)?;
+            let step = load(alloc, bank, modules, sequent)?;
             Ok(step)
         }
         Rule::Clause {

@@ -1,19 +1,17 @@
-use Rattle.std.proofs.Common.{◌≡◌, ◌∷◌, [], List, length, map, subst, sym, ap, ◌∙◌, arith, Some}
+use Rattle.std.proofs.Common.{◌≡◌, List, length, map, subst, sym, ap, ◌∙◌, arith}
 use Rattle.std.proofs.lemmas.List.{length-map}
 use Rattle.ll_bank.specs.declared.At.{At}
-use Rattle.ll_bank.specs.Form.{Form}
 use Rattle.ll_bank.specs.Nodes.{term_tree, term_trees, form_tree}
-use Rattle.ll_laws.specs.Module.{ModuleTree, ClauseTree}
+use Rattle.ll_laws.specs.Module.{ModuleTree}
 use Rattle.ll_laws.specs.Problem.{ProblemTree, setting_of}
 use Rattle.ll_laws.specs.Shown.{clause_tree, module_tree}
 use Rattle.ll_laws.specs.ShownLines.{line_of}
 use Rattle.ll_laws.specs.Line.{DerivationLines, trees_of}
-use Rattle.ll_laws.specs.Shows.{Tree}
 use Rattle.ll_laws.specs.Fault.{Checked, fault}
 use Rattle.ll_laws.specs.Verdict.{root_free, root_bounded, instantiated_goal}
-use Rattle.ll_sequent.specs.Sequents.{SequentTree, sequent_in}
+use Rattle.ll_sequent.specs.Sequents.{sequent_in}
 use Rattle.ll_sequent.specs.Judging.{fault_at, AreModulesSound, Holds}
-use Rattle.ll_sequent.specs.Starting.{IsRoot, root_of}
+use Rattle.ll_sequent.specs.Starting.{root_of}
 use Rattle.ll_sequent.specs.Told.{Tells}
 use Rattle.ll_sequent.proofs.Waiting.{same_modules}
 use Rattle.ll_sequent.proofs.Verdicts.{valid_modules, valid_root, sound_along, verdict_told}

@@ -1,5 +1,4 @@
-use Rattle.std.proofs.Common.{◌≡◌, ℕ, suc, ◌+◌, ◌++◌, ◌∷◌, [], map, drop, length, List, subst, sym, refl, ap, ◌∙◌, arith, true}
-use Rattle.ll_bank.specs.Nodes.{Extends}
+use Rattle.std.proofs.Common.{◌≡◌, ℕ, suc, ◌+◌, ◌++◌, ◌∷◌, [], map, drop, List, subst, sym, refl, ap, ◌∙◌, arith}
 use Rattle.ll_bank.proofs.Trees.{Extends-refl, Extends-trans}
 use Rattle.ll_laws.specs.Module.{ModuleTree}
 use Rattle.ll_laws.specs.Shown.{module_tree}
@@ -9,7 +8,7 @@ use Rattle.ll_laws.specs.Fault.{Fault}
 use Rattle.ll_sequent.specs.declared.sequents.Sequent.{Sequent}
 use Rattle.ll_sequent.specs.declared.sequents.Step.{Step}
 use Rattle.ll_sequent.specs.Judging.{beside, fault_at, AreModulesSound, Holds, IsStep}
-use Rattle.ll_sequent.specs.Sequents.{SequentTree, sequent_in, waiting_in, AreHeld}
+use Rattle.ll_sequent.specs.Sequents.{sequent_in, waiting_in}
 use Rattle.ll_sequent.specs.Steps.{Owes}
 use Rattle.ll_sequent.specs.Named.{IsLeaving}
 use Rattle.ll_sequent.proofs.Stepping.{none_waits, none_left}

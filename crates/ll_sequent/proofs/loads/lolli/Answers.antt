@@ -1,8 +1,8 @@
-use Rattle.std.proofs.Common.{◌≡◌, ◌∷◌, ◌++◌, [], true, false, refl, ap, sym, ◌∙◌, arith, rules, length}
+use Rattle.std.proofs.Common.{◌≡◌, true, false, refl, arith}
 use Rattle.std.specs.Prelude.{◌||◌, not}
 use Rattle.ll_sequent.specs.declared.sequents.Step.TheVariants.{Refused}
 use Rattle.ll_sequent.specs.Named.{has_resource}
-use Rattle.ll_sequent.proofs.RuleLemmas.{IsAfter, lolli_known, lolli_steps}
+use Rattle.ll_sequent.proofs.RuleLemmas.{lolli_known, lolli_steps}
 use Rattle.ll_sequent.proofs.loads.lolli.Goals as goal
 
 pub returns-then-not-is_new : goal.returns-then-not-is_new

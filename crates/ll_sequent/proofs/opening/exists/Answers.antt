@@ -1,4 +1,4 @@
-use Rattle.std.proofs.Common.{◌≡◌, refl, ◌∙◌, arith}
+use Rattle.std.proofs.Common.{refl, ◌∙◌, arith}
 use Rattle.ll_bank.specs.Form.{instantiate, form_applies_heads}
 use Rattle.ll_bank.specs.Nodes.{form_tree, term_tree, HasForm, ShowsForm}
 use Rattle.ll_bank.proofs.Trees.{Extends-refl, Extends-trans, form_tree-extends}

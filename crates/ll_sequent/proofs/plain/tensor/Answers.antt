@@ -1,9 +1,9 @@
-use Rattle.std.proofs.Common.{◌≡◌, true, false, refl, ap, sym, ◌∙◌, arith, rules}
+use Rattle.std.proofs.Common.{◌≡◌, true, false, refl, ap, ◌∙◌, arith}
 use Rattle.std.specs.Prelude.{filter}
 use Rattle.ll_laws.specs.Shows.{has}
 use Rattle.ll_sequent.specs.declared.sequents.Resource.{Resource}
 use Rattle.ll_sequent.specs.Named.{deals}
-use Rattle.ll_sequent.proofs.RuleLemmas.{IsAfter, tensor_refused, tensor_makes}
+use Rattle.ll_sequent.proofs.RuleLemmas.{tensor_refused, tensor_makes}
 use Rattle.ll_sequent.proofs.plain.tensor.Goals as goal
 
 pub returns-then-not-deal : goal.returns-then-not-deal

@@ -1,4 +1,4 @@
-use Rattle.std.proofs.Common.{◌≡◌, List, map, subst}
+use Rattle.std.proofs.Common.{map, subst}
 use Rattle.ll_bank.proofs.Trees.{Extends-refl}
 use Rattle.ll_laws.specs.Shown.{module_tree}
 use Rattle.ll_laws.specs.Line.{Line, OneLine, EraseLine, TensorLine, WithLine, LeftLine, RightLine, BangLine}

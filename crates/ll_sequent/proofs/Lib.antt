@@ -6,3 +6,4 @@ pub mod RuleLemmas
 pub mod Closings
 pub mod OpeningLemmas
 pub mod UnfoldLemmas
+pub mod ConstantLemmas

@@ -1,5 +1,6 @@
 pub mod Sequents
 pub mod Steps
+pub mod Constants
 pub mod Named
 pub mod Judging
 pub mod Told

@@ -9,6 +9,7 @@ ghost use Rattle.ll_laws.specs.Line.{IsWhole};
 ghost use Rattle.ll_laws.specs.Valid.{IsValid};
 ghost use Rattle.ll_sequent.specs.Told.{IsVerdict};
 
+mod constants;
 mod judge;
 mod labels;
 mod loads;

@@ -23,7 +23,7 @@ eigen_apply : (c : ℕ) (f : Term) (ts : List Term) → has_eigen c (apply f ts)
 eigen_apply c f [] = or_false (has_eigen c f)
 eigen_apply c f (t ∷ ts) = eigen_apply c (Ap f t) ts ∙ or_assoc (has_eigen c f) (has_eigen c t) (list_any (has_eigen c) ts)
 
-eigen_trees : (c : ℕ) (bank : Nodes) (args : List At) → list_any (has_eigen c) (term_trees bank args) ≡ is_in c bank args
+pub eigen_trees : (c : ℕ) (bank : Nodes) (args : List At) → list_any (has_eigen c) (term_trees bank args) ≡ is_in c bank args
 eigen_trees c bank [] = refl
 eigen_trees c bank (a ∷ args) = ap (λ b. has_eigen c (term_tree bank a.0) || b) (eigen_trees c bank args)
 

@@ -7,3 +7,4 @@ pub mod Closings
 pub mod OpeningLemmas
 pub mod UnfoldLemmas
 pub mod ConstantLemmas
+pub mod FormConstants

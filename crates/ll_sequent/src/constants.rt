@@ -1,11 +1,99 @@
 //! Where eigenconstants stand.
-ghost use Rattle.std.specs.Prelude.{◌≡◌, IfOk};
+ghost use Rattle.std.specs.Prelude.{◌≡◌, ◌++◌, ◌∷◌, [], IfOk, OnOk};
 ghost use Rattle.ll_bank.specs.Term.{is_eigen};
-ghost use Rattle.ll_bank.specs.Nodes.{HasTerm, AllInTerms};
-ghost use Rattle.ll_sequent.specs.Constants.{is_in, IsLookedAt};
+ghost use Rattle.ll_bank.specs.Nodes.{HasTerm, HasForm, AllInTerms};
+ghost use Rattle.ll_sequent.specs.Constants.{is_in, is_in_each, AllInForms, IsLookedAt, IsLookedInto};
 
-use ll_bank::{At, Bank, Head, OutOfMemory, TermView};
+use ll_bank::{At, Bank, FormAt, FormNode, Head, OutOfMemory, TermView};
 use std::alloc::Global;
+
+/// Whether the eigenconstant stands in one of the formulas. Parts that are shared are looked at once for each place where they stand.
+pub(crate) fn is_in_forms(
+    alloc: Global,
+    bank: &Bank,
+    constant: u32,
+    forms: &[FormAt],
+) -> Result<bool, OutOfMemory>
+    requires { AllInForms bank.now forms.now }
+    ensures { IfOk result (λ found. found ≡ is_in_each constant bank.now forms.now) }
+{
+    let mut waiting = Vec::from_slice(alloc, forms)?;
+    while let Some(form) = waiting.pop() {
+        if look_into(alloc, bank, constant, form, &mut waiting)? {
+            return Ok(true);
+        }
+    }
+    Ok(false)
+}
+
+/// Whether the eigenconstant stands in a term of a formula. If not, the formulas inside come behind those that wait.
+fn look_into(
+    alloc: Global,
+    bank: &Bank,
+    constant: u32,
+    form: FormAt,
+    waiting: &mut Vec<FormAt>,
+) -> Result<bool, OutOfMemory>
+    requires { HasForm bank.now form.0 }
+    ensures { IfOk result (IsLookedInto constant bank.now form.0 waiting.old.items waiting.new.items) }
+{
+    match bank.form_at(form) {
+        FormNode::Top => Ok(false),
+        FormNode::One => Ok(false),
+        FormNode::Atom(term) => {
+            let found = is_in_terms(alloc, bank, constant, &[term])?;
+            Ok(found)
+        }
+        FormNode::With(f, g) => {
+            wait_for(f, g, waiting)?;
+            Ok(false)
+        }
+        FormNode::Tensor(f, g) => {
+            wait_for(f, g, waiting)?;
+            Ok(false)
+        }
+        FormNode::Plus(f, g) => {
+            wait_for(f, g, waiting)?;
+            Ok(false)
+        }
+        FormNode::Bang(f) => {
+            waiting.push(f)?;
+            Ok(false)
+        }
+        FormNode::Lolli(f, g) => {
+            wait_for(f, g, waiting)?;
+            Ok(false)
+        }
+        FormNode::Imp(f, g) => {
+            wait_for(f, g, waiting)?;
+            Ok(false)
+        }
+        FormNode::Forall(f) => {
+            waiting.push(f)?;
+            Ok(false)
+        }
+        FormNode::Exists(f) => {
+            waiting.push(f)?;
+            Ok(false)
+        }
+        FormNode::Use(_, args, f) => {
+            if is_in_terms(alloc, bank, constant, args)? {
+                return Ok(true);
+            }
+            waiting.push(f)?;
+            Ok(false)
+        }
+    }
+}
+
+/// Puts two formulas behind those that wait.
+fn wait_for(left: FormAt, right: FormAt, waiting: &mut Vec<FormAt>) -> Result<(), OutOfMemory>
+    ensures { OnOk result (waiting.new.items ≡ waiting.old.items ++ left ∷ right ∷ []) }
+{
+    waiting.push(left)?;
+    waiting.push(right)?;
+    Ok(())
+}
 
 /// Whether the eigenconstant stands in one of the terms.
 pub(crate) fn is_in_terms(

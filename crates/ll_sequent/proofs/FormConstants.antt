@@ -1,10 +1,9 @@
 -- Eigenconstants in the formulas that wait.
 use Rattle.std.proofs.Common.{◌≡◌, ℕ, ◌+◌, ◌<◌, refl, ap, sym, subst, ◌∙◌, Bool, true, false, List, [], ◌∷◌, ◌++◌, length, arith}
 use Rattle.std.proofs.lemmas.List.Elements.{All-append, All-cons, All-head, All-tail, All-nil}
-use Rattle.std.specs.Prelude.{◌||◌, All}
-use Rattle.std.specs.List.{list_any}
+use Rattle.std.specs.Prelude.{◌||◌}
 use Rattle.ll_bank.specs.declared.FormAt.{FormAt}
-use Rattle.ll_bank.specs.Form.{Form, form_has_eigen}
+use Rattle.ll_bank.specs.Form.{form_has_eigen}
 use Rattle.ll_bank.specs.Nodes.{Nodes, form_tree, HasForm}
 use Rattle.ll_bank.specs.Opened.{form_size}
 use Rattle.ll_sequent.specs.Constants.{is_in_each, form_sizes, AllInForms, IsOpenedUp}

@@ -8,3 +8,4 @@ pub mod OpeningLemmas
 pub mod UnfoldLemmas
 pub mod ConstantLemmas
 pub mod FormConstants
+pub mod ForallLemmas

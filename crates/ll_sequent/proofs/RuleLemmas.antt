@@ -179,7 +179,7 @@ any_append p (x ∷ xs) ys = by_case (any_append p xs ys) (p x)
     by_case h true = refl
     by_case h false = h
 
-any_reverse : (p : Labelled → Bool) (xs : List Labelled) → list_any p (reverse xs) ≡ list_any p xs
+pub any_reverse : (p : Labelled → Bool) (xs : List Labelled) → list_any p (reverse xs) ≡ list_any p xs
 any_reverse p [] = refl
 any_reverse p (x ∷ xs) =
     ap (list_any p) (reverse-append (x ∷ []) xs)

@@ -1,8 +1,9 @@
 -- Eigenconstants in the terms that wait to be looked at.
-use Rattle.std.specs.Prelude.{◌≡◌, ◌+◌, ◌<◌, ℕ, Bool, true, false, List, [], ◌∷◌, ◌++◌, length, All}
+use Rattle.std.specs.Prelude.{◌≡◌, ◌+◌, ◌<◌, ℕ, Bool, true, false, List, [], ◌∷◌, ◌++◌, length, map, ◌||◌, All}
 use Rattle.std.specs.List.{list_any}
 use Rattle.ll_bank.specs.declared.At.{At}
 use Rattle.ll_bank.specs.declared.FormAt.{FormAt}
+use Rattle.ll_sequent.specs.declared.sequents.Resource.{Resource}
 use Rattle.ll_bank.specs.Term.{has_eigen}
 use Rattle.ll_bank.specs.Form.{form_has_eigen}
 use Rattle.ll_bank.specs.Nodes.{Nodes, term_tree, form_tree, AllInTerms}
@@ -49,3 +50,11 @@ pub record IsOpenedUp (c : ℕ) (bank : Nodes) (at : ℕ) (old new : List FormAt
 abbrev pub IsLookedInto : ℕ → Nodes → ℕ → List FormAt → List FormAt → Bool → Type 0
 IsLookedInto c bank at old new true = form_has_eigen c (form_tree bank at) ≡ true
 IsLookedInto c bank at old new false = IsOpenedUp c bank at old new
+
+-- the formulas of clauses
+abbrev pub forms_of : List Resource → List FormAt
+forms_of rs = map (λ (r : Resource). r.form) rs
+
+-- the constant stands in the goal, or in an unbounded clause, or in a bounded one
+abbrev pub stands_in : ℕ → Nodes → FormAt → List Resource → List Resource → Bool
+stands_in c bank goal free bounded = form_has_eigen c (form_tree bank goal.0) || (is_in_each c bank (forms_of free) || is_in_each c bank (forms_of bounded))

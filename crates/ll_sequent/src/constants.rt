@@ -2,13 +2,64 @@
 ghost use Rattle.std.specs.Prelude.{◌≡◌, ◌++◌, ◌∷◌, [], IfOk, OnOk};
 ghost use Rattle.ll_bank.specs.Term.{is_eigen};
 ghost use Rattle.ll_bank.specs.Nodes.{HasTerm, HasForm, AllInTerms};
-ghost use Rattle.ll_sequent.specs.Constants.{is_in, is_in_each, AllInForms, IsLookedAt, IsLookedInto};
+ghost use Rattle.ll_sequent.specs.Constants.{is_in, is_in_each, forms_of, stands_in, AllInForms, IsLookedAt, IsLookedInto};
 
+use crate::sequents::Resource;
 use ll_bank::{At, Bank, FormAt, FormNode, Head, OutOfMemory, TermView};
 use std::alloc::Global;
 
+/// Whether the eigenconstant stands in a goal, in an unbounded clause or in a bounded one.
+pub(crate) fn stands(
+    alloc: Global,
+    bank: &Bank,
+    constant: u32,
+    goal: FormAt,
+    free: &[Resource],
+    bounded: &[Resource],
+) -> Result<bool, OutOfMemory>
+    requires goal { HasForm bank.now goal.0 }
+    requires free { AllInForms bank.now (forms_of free.now) }
+    requires bounded { AllInForms bank.now (forms_of bounded.now) }
+    ensures { IfOk result (λ found. found ≡ stands_in constant bank.now goal free.now bounded.now) }
+{
+    if is_in_forms(alloc, bank, constant, &[goal])? {
+        return Ok(true);
+    }
+    if is_in_clauses(alloc, bank, constant, free)? {
+        return Ok(true);
+    }
+    let found = is_in_clauses(alloc, bank, constant, bounded)?;
+    Ok(found)
+}
+
+/// Whether the eigenconstant stands in one of the clauses.
+fn is_in_clauses(
+    alloc: Global,
+    bank: &Bank,
+    constant: u32,
+    clauses: &[Resource],
+) -> Result<bool, OutOfMemory>
+    requires { AllInForms bank.now (forms_of clauses.now) }
+    ensures { IfOk result (λ found. found ≡ is_in_each constant bank.now (forms_of clauses.now)) }
+{
+    let forms = forms_in(alloc, clauses)?;
+    let found = is_in_forms(alloc, bank, constant, &forms)?;
+    Ok(found)
+}
+
+/// The formulas of clauses.
+fn forms_in(alloc: Global, clauses: &[Resource]) -> Result<Vec<FormAt>, OutOfMemory>
+    ensures { IfOk result (λ forms. forms.items ≡ forms_of clauses.now) }
+{
+    let mut forms = Vec::new(alloc);
+    for each in clauses {
+        forms.push(each.form)?;
+    }
+    Ok(forms)
+}
+
 /// Whether the eigenconstant stands in one of the formulas. Parts that are shared are looked at once for each place where they stand.
-pub(crate) fn is_in_forms(
+fn is_in_forms(
     alloc: Global,
     bank: &Bank,
     constant: u32,
@@ -96,12 +147,7 @@ fn wait_for(left: FormAt, right: FormAt, waiting: &mut Vec<FormAt>) -> Result<()
 }
 
 /// Whether the eigenconstant stands in one of the terms.
-pub(crate) fn is_in_terms(
-    alloc: Global,
-    bank: &Bank,
-    constant: u32,
-    terms: &[At],
-) -> Result<bool, OutOfMemory>
+fn is_in_terms(alloc: Global, bank: &Bank, constant: u32, terms: &[At]) -> Result<bool, OutOfMemory>
     requires { AllInTerms bank.now terms.now }
     ensures { IfOk result (λ found. found ≡ is_in constant bank.now terms.now) }
 {

@@ -7,38 +7,54 @@ ghost use Rattle.ll_laws.specs.Shown.{module_tree, HasModules};
 ghost use Rattle.ll_laws.specs.ShownLines.{part_line};
 ghost use Rattle.ll_laws.specs.Line.{ForallLine, ExistsLine, UseLine, ClauseLine, part_rises};
 ghost use Rattle.ll_laws.specs.Valid.{GoalSide, has_heads};
-ghost use Rattle.ll_sequent.specs.Judging.{AreModulesSound, Holds, IsStep, StepsOver};
+ghost use Rattle.ll_sequent.specs.Constants.{forms_of, AllInForms};
+ghost use Rattle.ll_sequent.specs.Judging.{Steps, AreModulesSound, Holds, IsStep, StepsOver};
 ghost use Rattle.ll_sequent.specs.Sequents.{IsSequent, sequent_in};
 ghost use Rattle.ll_sequent.specs.declared.sequents.Resource.{Resource};
 
+use crate::constants::stands;
 use crate::plain::{OTHER_FORM, leave_one};
 use crate::sequents::{Resource, Sequent, Step};
-use ll_bank::{At, Bank, FormNode, OutOfMemory};
+use ll_bank::{At, Bank, FormNode, Head, OutOfMemory};
 use ll_laws::{Module, Part};
 use ll_modules::unfold;
 use std::alloc::{AllocError, Global};
+
+/// The constant stands in the goal or in a clause.
+const CONSTANT_NOT_NEW: u8 = 10;
 
 /// `forall x\ G` with an eigenconstant in place of x.
 pub(crate) fn forall(
     alloc: Global,
     bank: &mut Bank,
-    modules: &[Module],
     constant: u32,
     free: &[Resource],
     sequent: Sequent,
 ) -> Result<Step, OutOfMemory>
-    requires has { HasModules bank.old modules.now }
-    requires holds { Holds (map (module_tree bank.old) modules.now) bank.old free.now sequent }
-    ensures is { IfOk result (IsStep (map (module_tree bank.old) modules.now) (ForallLine constant) (sequent_in bank.old free.now sequent) bank.new free.now free.now) }
+    requires goal { HasForm bank.old sequent.goal.0 }
+    requires heads { has_heads true GoalSide [] (form_tree bank.old sequent.goal.0) ≡ true }
+    requires free { AllInForms bank.old (forms_of free.now) }
+    requires bounded { AllInForms bank.old (forms_of sequent.bounded.items) }
+    ensures is { IfOk result (Steps (ForallLine constant) bank.old free.now sequent bank.new free.now) }
     ensures keeps { Extends bank.old bank.new }
 {
-    let _ = alloc;
-    let _ = bank.size();
-    let _ = modules;
-    let _ = constant;
-    let _ = free;
-    let _ = sequent;
-    Err(AllocError)
+    match bank.form_at(sequent.goal) {
+        FormNode::Forall(body) => {
+            if stands(alloc, bank, constant, body, free, &sequent.bounded)? {
+                return Ok(Step::Refused(CONSTANT_NOT_NEW));
+            }
+            let value = bank.app(Head::Eigen(constant), &[])?;
+            let goal = bank.instantiate(body, value)?;
+            let premise = Sequent {
+                free: sequent.free,
+                bounded: sequent.bounded,
+                goal,
+            };
+            let step = leave_one(alloc, premise)?;
+            Ok(step)
+        }
+        _ => Ok(Step::Refused(OTHER_FORM)),
+    }
 }
 
 /// `exists x\ G` with a term of another bank in place of x.

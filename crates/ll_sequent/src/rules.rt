@@ -65,7 +65,7 @@ pub(crate) fn step(
             Ok(step)
         }
         Rule::Forall(constant) => {
-            let step = forall(alloc, bank, modules, *constant, free, sequent)?;
+            let step = forall(alloc, bank, *constant, free, sequent)?;
             Ok(step)
         }
         Rule::Exists(term) => {

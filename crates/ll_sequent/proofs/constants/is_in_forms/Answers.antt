@@ -1,4 +1,4 @@
-use Rattle.std.proofs.Common.{◌≡◌, ◌∙◌, Bool, false, subst}
+use Rattle.std.proofs.Common.{◌∙◌, Bool, false, subst}
 use Rattle.ll_sequent.specs.Constants.{IsLookedInto}
 use Rattle.ll_sequent.proofs.FormConstants.{looked_into, form_sizes_less, forms_inside}
 use Rattle.ll_sequent.proofs.constants.is_in_forms.Goals as goal

@@ -1,4 +1,4 @@
-use Rattle.std.proofs.Common.{◌≡◌, ◌∙◌, Bool, false, subst}
+use Rattle.std.proofs.Common.{◌∙◌, Bool, false, subst}
 use Rattle.ll_sequent.specs.Constants.{IsLookedAt}
 use Rattle.ll_sequent.proofs.ConstantLemmas.{looked_at, sizes_less, front_inside}
 use Rattle.ll_sequent.proofs.constants.is_in_terms.Goals as goal

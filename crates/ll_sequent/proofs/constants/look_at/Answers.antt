@@ -1,7 +1,6 @@
-use Rattle.std.proofs.Common.{◌≡◌, ◌<◌, refl, ap, sym, subst, ◌∙◌, ℕ, arith}
+use Rattle.std.proofs.Common.{◌<◌, ap, sym, subst, ◌∙◌}
 use Rattle.ll_bank.specs.Term.{Term, has_eigen}
 use Rattle.ll_bank.specs.Opened.{term_size}
-use Rattle.ll_bank.specs.Nodes.{AllInTerms}
 use Rattle.ll_sequent.specs.Constants.{sizes}
 use Rattle.ll_sequent.proofs.ConstantLemmas.{eigen_there, eigen_behind, size_behind, args_inside}
 use Rattle.ll_sequent.proofs.constants.look_at.Goals as goal

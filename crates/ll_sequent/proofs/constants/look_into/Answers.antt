@@ -1,4 +1,4 @@
-use Rattle.std.proofs.Common.{◌≡◌, ap, sym, ◌∙◌}
+use Rattle.std.proofs.Common.{ap, sym, ◌∙◌}
 use Rattle.std.specs.Prelude.{◌||◌}
 use Rattle.ll_bank.specs.Nodes.{form_tree}
 use Rattle.ll_sequent.proofs.ConstantLemmas.{eigen_trees}

@@ -1,10 +1,13 @@
-use Rattle.std.proofs.Common.{map, subst}
+use Rattle.std.proofs.Common.{map, subst, List, sym}
 use Rattle.ll_bank.proofs.Trees.{Extends-refl}
 use Rattle.ll_laws.specs.Shown.{module_tree}
 use Rattle.ll_laws.specs.Line.{Line, OneLine, EraseLine, TensorLine, WithLine, LeftLine, RightLine, BangLine}
 use Rattle.ll_sequent.specs.Judging.{IsStep}
 use Rattle.ll_sequent.specs.Sequents.{sequent_in}
 use Rattle.ll_sequent.proofs.RuleLemmas.{makes_step}
+use Rattle.ll_sequent.specs.declared.sequents.Resource.{Resource}
+use Rattle.ll_sequent.specs.Constants.{forms_of, AllInForms}
+use Rattle.ll_sequent.proofs.ForallLemmas.{forms_held}
 use Rattle.ll_sequent.proofs.rules.step.Goals as goal
 
 pub returns-in-One-clause-is : goal.returns-in-One-clause-is
@@ -82,3 +85,11 @@ returns-in_ok-step-in-Tensor-clause-is c =
 
 pub returns-in_ok-step-in-Exists-clause-is : goal.returns-in_ok-step-in-Exists-clause-is
 returns-in_ok-step-in-Exists-clause-is c = rw c.in-Exists.is (c.in_ok-step-in-Exists.ensures.is (map (module_tree c.args.bank.now) c.args.modules.now) c.args.free.now.items c.requires.holds)
+
+pub forall-requires-clause-free : goal.forall-requires-clause-free
+forall-requires-clause-free c =
+    let P : List Resource → Type 0 = λ rs. AllInForms c.args.bank.now (forms_of rs) in
+    subst P (sym c.deref-in-Forall.ensures.value) (forms_held (map (module_tree c.args.bank.now) c.args.modules.now) c.args.bank.now c.args.free.now.items c.requires.holds.unbounded)
+
+pub forall-requires-clause-bounded : goal.forall-requires-clause-bounded
+forall-requires-clause-bounded c = forms_held (map (module_tree c.args.bank.now) c.args.modules.now) c.args.bank.now c.args.sequent.bounded.items c.requires.holds.sequent.bounded

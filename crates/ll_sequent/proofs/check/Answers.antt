@@ -4,7 +4,7 @@ use Rattle.ll_bank.specs.declared.At.{At}
 use Rattle.ll_bank.specs.Nodes.{term_tree, term_trees, form_tree}
 use Rattle.ll_laws.specs.Module.{ModuleTree}
 use Rattle.ll_laws.specs.Problem.{ProblemTree, setting_of}
-use Rattle.ll_laws.specs.Shown.{clause_tree, module_tree}
+use Rattle.ll_laws.specs.Shown.{clause_tree, module_tree, HasModules}
 use Rattle.ll_laws.specs.ShownLines.{line_of}
 use Rattle.ll_laws.specs.Line.{DerivationLines, trees_of}
 use Rattle.ll_laws.specs.Fault.{Checked, fault}
@@ -13,7 +13,8 @@ use Rattle.ll_sequent.specs.Sequents.{sequent_in}
 use Rattle.ll_sequent.specs.Judging.{fault_at, AreModulesSound, Holds}
 use Rattle.ll_sequent.specs.Starting.{root_of}
 use Rattle.ll_sequent.specs.Told.{Tells}
-use Rattle.ll_sequent.proofs.Waiting.{same_modules}
+use Rattle.ll_laws.specs.declared.Module.{Module}
+use Rattle.ll_sequent.proofs.Waiting.{same_modules, has_modules-extends}
 use Rattle.ll_sequent.proofs.Verdicts.{valid_modules, valid_root, sound_along, verdict_told}
 use Rattle.ll_sequent.proofs.check.Goals as goal
 
@@ -66,3 +67,8 @@ returns c =
     ≡ fault (setting_of c.args.problem.now) 1 x (root_free c.args.problem.now) (root_bounded c.args.problem.now) (instantiated_goal c.args.problem.now c.args.derivation.now.asked) =
     λ i. fault_at (same i) x (shows i) in
     subst P told (c.in_ok-verdict.ensures x (ap trees_of nodes ∙ e)))
+
+pub judge-requires-clause-has : goal.judge-requires-clause-has
+judge-requires-clause-has c =
+    let P : List Module → Type 0 = HasModules c.in_ok-start.start.bank in
+    subst P (sym c.deref-3.ensures.value) (has_modules-extends c.in_ok-start.ensures.keeps c.problem.inside.modules.items c.problem.invariant.0)

@@ -1,5 +1,5 @@
 -- A bank's nodes and the trees that they show: what each call reads and leaves.
-use Rattle.std.proofs.Common.{◌≡◌, ℕ, zero, suc, ◌+◌, ◌<◌, ◌≤◌, List, [], ◌∷◌, ◌++◌, length, map, All, get_or, take, drop, refl, ap, sym, subst, ◌∙◌, inl, inr, arith, length-append, max, min, Some}
+use Rattle.std.proofs.Common.{◌≡◌, ℕ, zero, suc, ◌+◌, ◌<◌, ◌≤◌, List, [], ◌∷◌, ◌++◌, length, map, All, get_or, take, drop, refl, ap, sym, subst, ◌∙◌, inl, inr, arith, length-append, max, Some}
 use Rattle.std.specs.Prelude.{ℤ, FitsSigned, slice_get, slice_index, fold}
 use Rattle.std.specs.Int.{w64}
 use Rattle.std.proofs.Common.{to_z, of_z}
@@ -19,7 +19,7 @@ use Rattle.ll_bank.specs.declared.FormNode.{FormNode}
 use Rattle.ll_bank.specs.declared.FormNode.TheVariants.{Top as TopView, One as OneView, Atom as AtomView, With as WithView, Tensor as TensorView, Plus as PlusView, Bang as BangView, Lolli as LolliView, Imp as ImpView, Forall as ForallView, Exists as ExistsView, Use as UseView}
 use Rattle.ll_bank.specs.Term.{Term, Var, Con, Ap, app, apply, term_depth}
 use Rattle.ll_bank.specs.Form.{Form, Top, Atom, With, Tensor, Plus, Bang, Lolli, Imp, Forall, Exists, Use}
-use Rattle.ll_bank.specs.Nodes.{Nodes, TermNode, VarNode, IntNode, AppNode, FormulaNode, TopNode, OneNode, AtomNode, WithNode, TensorNode, PlusNode, BangNode, LolliNode, ImpNode, ForallNode, ExistsNode, UseNode, grow, term_in, build_term, form_in, build_form, term_tree, form_tree, term_trees, HasTerm, HasForm, AllInTerms, HasParts, ShowsTerm, ShowsForm, Extends, form_of, HasPartsBelow, IsTermView, IsFormView, IsTermBelow, IsFormBelow, IsWellFounded, places, node_of_term, node_of, with_term, with_form, size_of, front, HasSize, IsNotPast, IsCutTo}
+use Rattle.ll_bank.specs.Nodes.{Nodes, TermNode, VarNode, IntNode, AppNode, FormulaNode, TopNode, OneNode, AtomNode, WithNode, TensorNode, PlusNode, BangNode, LolliNode, ImpNode, ForallNode, ExistsNode, UseNode, grow, term_in, build_term, form_in, build_form, term_tree, form_tree, term_trees, HasTerm, HasForm, ShowsTerm, ShowsForm, Extends, form_of, HasPartsBelow, IsTermView, IsFormView, IsTermBelow, IsFormBelow, IsWellFounded, places, node_of_term, node_of, with_term, with_form, size_of, front, HasSize, IsCutTo}
 use Rattle.ll_bank.specs.Kept.{all_terms, IsKept, depth_over}
 use Rattle.ll_bank.proofs.Growing.{grow-append, grow_kept, grow_last, get_or-grow_at, length-grow, grow-take}
 use Rattle.ll_bank.proofs.FlatLemmas.{map_map}

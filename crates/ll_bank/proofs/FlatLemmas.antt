@@ -1,15 +1,14 @@
 -- Flat vectors and the nodes that they hold: what each call reads and leaves.
-use Rattle.std.proofs.Common.{◌≡◌, ℕ, zero, suc, ◌+◌, ◌-◌, ◌<◌, ◌≤◌, List, [], ◌∷◌, ◌++◌, length, map, All, get_or, take, drop, refl, ap, sym, subst, ◌∙◌, arith, length-append, length-drop, Option, Some, None, min}
+use Rattle.std.proofs.Common.{◌≡◌, ℕ, ◌+◌, ◌-◌, ◌≤◌, List, [], ◌∷◌, ◌++◌, length, map, All, get_or, take, drop, refl, ap, sym, subst, ◌∙◌, arith, length-append, length-drop, Option, Some, None}
 use Rattle.std.specs.Prelude.{ℤ, FitsSigned, sum_by, Result, Ok, Err, OnOk, OnErr}
 use Rattle.std.specs.Int.{w64}
 use Rattle.std.proofs.Common.{to_z, of_z}
 use Rattle.std.proofs.lemmas.Int.{to_z-of_z}
 use Rattle.std.proofs.Math.ListN.{get_or-map}
 use Rattle.std.proofs.Math.Nat.{le_trans}
-use Rattle.std.proofs.lemmas.List.{append-nil, length-map, map-append, drop-append-le, take-append-le, take-append-drop, length-take-le, length-take, take-map, take_all, drop_at}
+use Rattle.std.proofs.lemmas.List.{append-nil, length-map, map-append, drop-append-le, take-append-le, take-append-drop, length-take-le, take-map, take_all, drop_at}
 use Rattle.std.proofs.lemmas.List.Elements.{All-head, All-tail, All-push, All-take, All-cons}
 use Rattle.std.proofs.lemmas.List.Sums.{sum_by-cons}
-use Rattle.std.specs.List.{slice_range}
 use Rattle.ll_bank.specs.declared.At.{At}
 use Rattle.ll_bank.specs.declared.Head.{Head}
 use Rattle.ll_bank.specs.declared.BankSize.{BankSize}
@@ -20,7 +19,7 @@ use Rattle.ll_bank.specs.declared.flat.StoredTerm.{StoredTerm}
 use Rattle.ll_bank.specs.declared.flat.StoredTerm.TheVariants.{Var as StoredVar, Int as StoredInt, App as StoredApp}
 use Rattle.ll_bank.specs.declared.flat.StoredForm.{StoredForm}
 use Rattle.ll_bank.specs.declared.flat.StoredForm.TheVariants.{Top as StoredTop, One as StoredOne, Atom as StoredAtom, With as StoredWith, Tensor as StoredTensor, Plus as StoredPlus, Bang as StoredBang, Lolli as StoredLolli, Imp as StoredImp, Forall as StoredForall, Exists as StoredExists, Use as StoredUse}
-use Rattle.ll_bank.specs.Nodes.{Nodes, TermNode, VarNode, IntNode, AppNode, FormulaNode, UseNode, places, node_of, argument_count, load_argument_count, size_of, front, with_term, with_form}
+use Rattle.ll_bank.specs.Nodes.{Nodes, AppNode, UseNode, places, node_of, argument_count, load_argument_count, size_of, front, with_term, with_form}
 use Rattle.ll_bank.specs.Storage.{children_of, term_node, form_node, nodes_of, span_from, stored_as, load_arguments_of, IsWithin, IsTermStored, IsFormStored, term_span, form_span, AreInTurn, IsStored}
 
 -- ---- spans in turn

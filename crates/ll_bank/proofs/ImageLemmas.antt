@@ -1,5 +1,5 @@
 -- Images of places: what stands in a map from places to places, as it grows.
-use Rattle.std.proofs.Common.{◌≡◌, ℕ, zero, suc, ◌+◌, ◌<◌, ◌≤◌, Bool, true, false, cond, List, [], ◌∷◌, ◌++◌, length, map, All, get_or, take, refl, ap, sym, subst, ◌∙◌, inl, inr, arith, Option, Some, None}
+use Rattle.std.proofs.Common.{◌≡◌, ℕ, ◌+◌, ◌<◌, ◌≤◌, cond, List, [], ◌∷◌, ◌++◌, length, map, All, get_or, take, refl, ap, sym, subst, ◌∙◌, inl, inr, arith, Option, Some}
 use Rattle.std.specs.Prelude.{IsSome, slice_get}
 use Rattle.std.specs.Ordering.{nat_cmp}
 use Rattle.std.specs.List.{Contains, slice_index}
@@ -11,7 +11,7 @@ use Rattle.std.proofs.lemmas.List.Elements.{All-head, All-tail, All-cons}
 use Rattle.ll_bank.specs.declared.At.{At}
 use Rattle.ll_bank.specs.declared.Head.{Head}
 use Rattle.ll_bank.specs.Term.{Term}
-use Rattle.ll_bank.specs.Nodes.{Nodes, TermNode, AppNode, places, term_tree, term_trees, ShowsTerm, Extends, AllInTerms, HasTerm}
+use Rattle.ll_bank.specs.Nodes.{Nodes, AppNode, places, term_trees, ShowsTerm, Extends, AllInTerms}
 use Rattle.ll_bank.specs.Walk.{arguments_of, term_node_at, IsInOrder, HasImage, HasImages, ShowsAt, IsCopying}
 use Rattle.ll_bank.proofs.Trees.{ShowsTerm-extends, Extends-refl, Extends-trans}
 use Rattle.ll_bank.proofs.Ceiling.{is_at-nat}

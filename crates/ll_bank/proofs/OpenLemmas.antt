@@ -1,13 +1,13 @@
 -- What the parts of a body are opened to: the trees of heads, terms and formulas, and that they stay as the bank grows.
-use Rattle.std.proofs.Common.{◌≡◌, ℕ, zero, suc, ◌+◌, ◌-◌, ◌<◌, ◌≤◌, Bool, true, false, List, [], ◌∷◌, ◌++◌, length, map, All, get_or, take, refl, ap, sym, subst, ◌∙◌, inl, inr, arith, add-one, eqb, true≢false, append_assoc, Option, Some, None}
-use Rattle.std.specs.Prelude.{◌⊎◌, ◌&&◌, IsSome, sum_by, slice_get}
+use Rattle.std.proofs.Common.{◌≡◌, ℕ, zero, suc, ◌+◌, ◌-◌, ◌<◌, true, false, List, [], ◌∷◌, ◌++◌, length, map, All, get_or, take, refl, ap, sym, subst, ◌∙◌, inl, inr, arith, eqb, true≢false, append_assoc, Option, Some, None}
+use Rattle.std.specs.Prelude.{◌&&◌, IsSome, sum_by, slice_get}
 use Rattle.std.specs.List.{list_all}
 use Rattle.std.proofs.Math.ListN.{get_or-append}
-use Rattle.std.proofs.lemmas.Bool.{and_parts, and_from, eqb-true}
+use Rattle.std.proofs.lemmas.Bool.{and_parts, eqb-true}
 use Rattle.std.proofs.lemmas.Bool.Decides.{Decides-int_eq}
 use Rattle.std.specs.Bool.{◌==◌}
 use lib.Pointwise.{pointwise}
-use Rattle.std.proofs.lemmas.List.{length-map, map-append, map_more}
+use Rattle.std.proofs.lemmas.List.{map-append, map_more}
 use Rattle.std.proofs.lemmas.List.Elements.{All-cons, All-head, All-tail, All-map, All-weaker, All-push}
 use Rattle.std.proofs.lemmas.List.Sums.{sum_by-cons}
 use Rattle.std.proofs.lemmas.Option.{get_or_from_slice_get}
@@ -21,8 +21,8 @@ use Rattle.ll_bank.specs.declared.FormNode.{FormNode}
 use Rattle.ll_bank.specs.declared.FormNode.TheVariants.{Top as TopView, One as OneView, Atom as AtomView, With as WithView, Tensor as TensorView, Plus as PlusView, Bang as BangView, Lolli as LolliView, Imp as ImpView, Forall as ForallView, Exists as ExistsView, Use as UseView}
 use Rattle.ll_bank.specs.Term.{Term, Var, Int, Con, Ap, Env, apply, app, place, close, close_head, is_spine, applies_heads}
 use Rattle.ll_bank.specs.Form.{Form, Top, One, Atom, With, Tensor, Plus, Bang, Lolli, Imp, Forall, Exists, Use, close_form, form_applies_heads}
-use Rattle.ll_bank.specs.Nodes.{Nodes, TermNode, VarNode, IntNode, AppNode, FormulaNode, TopNode, OneNode, AtomNode, WithNode, TensorNode, PlusNode, BangNode, LolliNode, ImpNode, ForallNode, ExistsNode, UseNode, grow, build_term, build_form, term_tree, form_tree, term_trees, HasTerm, HasForm, AllInTerms, ShowsTerm, ShowsForm, Extends, HasPartsBelow, IsTermView, IsFormView, places, node_of_term, node_of, form_of}
-use Rattle.ll_bank.specs.Walk.{arguments_of, term_node_at, HasImage, ShowsAt}
+use Rattle.ll_bank.specs.Nodes.{Nodes, VarNode, IntNode, AppNode, FormulaNode, TopNode, AtomNode, WithNode, TensorNode, PlusNode, BangNode, LolliNode, ImpNode, ForallNode, ExistsNode, UseNode, grow, build_term, build_form, term_tree, form_tree, term_trees, HasTerm, HasForm, AllInTerms, ShowsTerm, ShowsForm, Extends, HasPartsBelow, IsTermView, IsFormView, places, node_of_term, node_of, form_of}
+use Rattle.ll_bank.specs.Walk.{HasImage, ShowsAt}
 use Rattle.ll_bank.specs.Kept.{all_terms}
 use Rattle.ll_bank.specs.declared.open.Task.{Task}
 use Rattle.ll_bank.specs.Opened.{opened, Spot, visit, term_parts, form_parts, form_node_at, IsIn, IsKnown, AreImages, IsTermImage, IsFormImage, ShowsImage, ShowsFormImage, IsTermGood, IsFormGood, ArePartsOf, term_size, form_size, term_size_at, form_size_at, term_parts_at, form_parts_at}

@@ -1,20 +1,19 @@
 -- Terms by numbers: a table of signs has one number for equal terms.
-use Rattle.std.proofs.Common.{◌≡◌, ◌≢◌, ℕ, zero, suc, ◌+◌, ◌<◌, ◌≤◌, Bool, true, false, ◌||◌, eqb, if◌then◌else◌, List, [], ◌∷◌, ◌++◌, length, map, take, drop, get_or, refl, ap, sym, subst, ◌∙◌, inl, inr, arith, true≢false, Some, length-append, append_assoc}
+use Rattle.std.proofs.Common.{◌≡◌, ◌≢◌, ℕ, zero, suc, ◌+◌, ◌<◌, Bool, true, false, eqb, if◌then◌else◌, List, [], ◌∷◌, ◌++◌, length, take, drop, get_or, refl, ap, sym, subst, ◌∙◌, inl, inr, arith, true≢false, Some, length-append, append_assoc}
 use Rattle.std.specs.Prelude.{slice_get}
 use Rattle.std.specs.List.{list_any}
 use Rattle.std.proofs.Math.ListN.{get_or-append}
 use Rattle.std.proofs.lemmas.Bool.{eqb-true, eq-eqb, cases_lt, or_left, or_right, and_parts, and_from}
 use Rattle.std.proofs.lemmas.Bool.Decides.{Decides-int_eq}
-use Rattle.std.proofs.lemmas.List.{append-nil, length_push, get_or_push, take-append-drop, length-take-le, take-map, map_more, take_all, length-map}
+use Rattle.std.proofs.lemmas.List.{append-nil, length_push, get_or_push, take-append-drop, length-take-le, take-map, map_more}
 use Rattle.std.proofs.lemmas.Option.{get_or_from_slice_get, slice_get_within}
-use Rattle.ll_bank.specs.declared.Head.{Head as HeadType}
 use Rattle.ll_bank.specs.declared.Head.TheVariants.{Name, Eigen, Bound}
 use Rattle.ll_bank.specs.declared.equal.Sign.{Sign}
 use Rattle.ll_bank.specs.declared.equal.Sign.TheVariants.{Var as VarSign, Int as IntSign, Head as HeadSign, Apply as ApplySign}
 use Rattle.ll_bank.specs.contracts.equal.SignPartialEq.TheImpl.{eq-value}
-use Rattle.ll_bank.specs.Term.{Term, Var, Int, Con, Ap, app, apply}
+use Rattle.ll_bank.specs.Term.{Term, Var, Con, Ap, apply}
 use Rattle.ll_bank.specs.declared.At.{At}
-use Rattle.ll_bank.specs.Nodes.{Nodes, AppNode, places, grow, term_in, term_tree, term_trees}
+use Rattle.ll_bank.specs.Nodes.{Nodes, term_in, term_tree, term_trees}
 use Rattle.ll_bank.specs.Signs.{build_sign, sign_terms, IsSignBelow, IsTable, Grows, HasNumber, IsNumbering}
 use Rattle.ll_bank.proofs.Growing.{get_or-grow_at, grow_kept}
 

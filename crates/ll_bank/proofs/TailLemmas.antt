@@ -2,12 +2,12 @@
 use Rattle.std.proofs.Common.{◌≡◌, ℕ, zero, suc, ◌+◌, ◌-◌, ◌<◌, ◌≤◌, List, [], ◌∷◌, ◌++◌, length, get_or, take, drop, refl, ap, sym, subst, ◌∙◌, inl, inr, arith, length-append, length-drop, Some}
 use Rattle.std.specs.Prelude.{slice_get, sum_by}
 use Rattle.std.proofs.lemmas.Bool.{cases_lt}
-use Rattle.std.proofs.lemmas.List.{append-nil, length-take-le, take-take, take_more, drop-append-le, get_or-drop, get_or-append_right, get_or-take}
+use Rattle.std.proofs.lemmas.List.{append-nil, length-take-le, take-take, take_more, drop-append-le, get_or-drop, get_or-append_right}
 use Rattle.std.proofs.lemmas.List.Sums.{sum_by-take-drop, sum_by-append}
 use Rattle.std.proofs.lemmas.Option.{get_or_from_slice_get}
 use Rattle.ll_bank.specs.declared.BankSize.{BankSize}
 use Rattle.ll_bank.specs.declared.FormNode.{FormNode}
-use Rattle.ll_bank.specs.Nodes.{Nodes, TermNode, VarNode, FormulaNode, TopNode, term_in, form_in, build_term, build_form, term_tree, form_tree, HasTerm, HasForm, HasParts, Extends, IsTermBelow, IsFormBelow, IsWellFounded, node_of, argument_count, load_argument_count, size_of, front, HasSize, IsNotPast, IsCutTo, with_term, with_form}
+use Rattle.ll_bank.specs.Nodes.{Nodes, TermNode, VarNode, FormulaNode, TopNode, build_term, build_form, term_tree, form_tree, HasParts, Extends, IsTermBelow, IsFormBelow, IsWellFounded, node_of, argument_count, load_argument_count, size_of, front, HasSize, IsNotPast, with_term, with_form}
 use Rattle.ll_bank.specs.Kept.{all_terms, all_forms}
 use Rattle.ll_bank.specs.Tail.{Tail, size_after, IsBehind, IsTailOf, with_nodes, with_terms, with_forms, IsBuilt, SameTrees, Adds}
 use Rattle.ll_bank.proofs.Trees.{Extends-refl, Extends-trans, term_tree-extends, form_tree-extends}

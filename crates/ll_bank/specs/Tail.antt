@@ -1,9 +1,7 @@
 -- The nodes of a bank between two of its sizes, and a bank that takes them over.
 use Rattle.std.specs.Prelude.{◌≡◌, ℕ, ◌+◌, ◌<◌, ◌++◌, List, length, take, drop, slice_index_or}
 use Rattle.ll_bank.specs.declared.BankSize.{BankSize}
-use Rattle.ll_bank.specs.Term.{Term}
-use Rattle.ll_bank.specs.Form.{Form}
-use Rattle.ll_bank.specs.Nodes.{Nodes, TermNode, FormulaNode, build_term, build_form, grow, term_tree, form_tree, HasTerm, HasForm, IsTermBelow, IsFormBelow, Extends, size_of, HasSize}
+use Rattle.ll_bank.specs.Nodes.{Nodes, TermNode, FormulaNode, build_term, build_form, term_tree, form_tree, HasTerm, HasForm, IsTermBelow, IsFormBelow, Extends, size_of, HasSize}
 use Rattle.ll_bank.specs.Kept.{all_terms, all_forms}
 
 -- two sizes, and nodes whose parts are places of a bank

@@ -71,7 +71,7 @@ few_names_of_part p whole =
     let before = (read_clauses (module_names p) [] [] p.clauses).names in
     let i = few_clauses (module_names p) [] [] p.clauses in let j = few_modules (module_names p) before p.modules in omega (arith, few_nodes p whole)
 
-few_asked : (names : List (List ℕ)) (vs : List (Option (List ℕ))) → length (read_asked names vs).names ≤ length names + length vs
+pub few_asked : (names : List (List ℕ)) (vs : List (Option (List ℕ))) → length (read_asked names vs).names ≤ length names + length vs
 few_asked names [] = omega arith
 few_asked names (None ∷ vs) = let i = few_asked names vs in omega arith
 few_asked names (Some w ∷ vs) = let i = few_asked (with_name names w) vs in let j = length-with_name names w in omega arith

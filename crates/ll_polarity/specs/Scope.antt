@@ -27,6 +27,11 @@ binds w = record { text = w; local = false }
 abbrev pub declares : List ℕ → Binder
 declares w = record { text = w; local = true }
 
+-- the scope without its innermost binder
+abbrev pub outer : Scope → Scope
+outer [] = []
+outer (b ∷ bs) = bs
+
 -- what a name means
 pub data Meaning : Type 0 where
   -- what the quantifier or parameter that is so many binders further out stands for
@@ -60,3 +65,8 @@ meaning scope w = meaning_from 0 scope w
 -- the scope of a module's clauses: its parameters, the last one innermost, and round them its local constants
 abbrev pub module_scope : ModuleTree → Scope
 module_scope m = map (λ n. binds n.text) (reverse m.params) ++ map (λ n. declares n.text) (reverse m.locals)
+
+-- the scope of a place, and the texts of all names
+pub record Scoped : Type 0 where
+  pub texts : List (List ℕ)
+  pub scope : Scope

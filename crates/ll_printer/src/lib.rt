@@ -6,6 +6,8 @@ ghost use Rattle.ll_bank.specs.Nodes.{term_tree, HasTerm};
 ghost use Rattle.ll_laws.specs.Output.{line, term_text, answer_text, bindings_text, counts_text};
 ghost use Rattle.ll_printer.specs.Pieces.{BeginsText};
 
+#[cfg(test)]
+mod answer_tests;
 mod answers;
 mod formulas;
 mod pieces;

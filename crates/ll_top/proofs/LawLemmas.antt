@@ -1,34 +1,28 @@
 -- Words and texts determine what is written.
-use Rattle.std.proofs.Common.{◌≡◌, ◌<◌, ◌+◌, ℕ, true, List, [], ◌∷◌, length, Option, Some, None, refl, ap, sym, subst, ◌∙◌, arith}
-use Rattle.std.specs.Prelude.{IsSomeAnd, is_some, slice_get, codes}
+use Rattle.std.proofs.Common.{◌≡◌, ◌<◌, ◌+◌, ℕ, List, [], ◌∷◌, length, Option, Some, None, refl, ap, sym, subst, ◌∙◌, arith}
+use Rattle.std.specs.Prelude.{IsSomeAnd, slice_get, codes, map}
 use Rattle.ll_edge.specs.Texts.{Texts, text_of}
-use Rattle.ll_bank.specs.Form.{Form}
-use Rattle.ll_laws.specs.Module.{ClauseTree}
 use Rattle.ll_laws.specs.Problem.{ProblemTree}
 use Rattle.ll_laws.specs.Output.{run_text, run_status}
 use Rattle.ll_lexer.specs.declared.Fault.{Fault}
 use Rattle.ll_lexer.specs.Reading.{LexedText, IsLexed, HasFault}
 use Rattle.ll_parser.specs.Tokens.{Tok, toks_of}
-use Rattle.ll_parser.specs.Raw.{ProgramTree}
-use Rattle.ll_parser.specs.Text.{programs}
+use Rattle.ll_parser.specs.Raw.{Raw, ProgramTree}
+use Rattle.ll_parser.specs.Text.{programs, queries}
 use Rattle.ll_parser.specs.Reads.{Reads}
 use Rattle.ll_parser.specs.Printed.{program_text}
+use Rattle.ll_polarity.specs.Faults.{heading, program_faults, query_faults}
+use Rattle.ll_polarity.specs.Asks.{part_of, problem_with, IsFirst, HasProgramFault, HasQueryFault}
 use Rattle.ll_top.specs.declared.judge.Role.{Role}
 use Rattle.ll_top.specs.declared.judge.Role.TheVariants.{Program, Query}
-use Rattle.ll_top.specs.declared.judge.State.TheVariants.{Clauses, Wants}
-use Rattle.ll_top.specs.Begins.{IsFirstBad}
 use Rattle.ll_top.specs.Words.{RunWords, IsInForm, IsRun, IsBadWord, number_behind}
 use Rattle.ll_top.specs.Faults.{Cause, Usage, Absent, Oversized, Faulty, fault_text, cause_status}
-use Rattle.ll_top.specs.Reading.{Token, HasTokens, lexed, faulty, program_of, query_of, problem_from, problem_of_tokens, names_of, number_in, Asks, both, no_program, no_query}
-use Rattle.ll_top.specs.Judging.{IsText, IsOfLanguage, IsOfGrammar, HasGrammarFault, IsProgramText, IsReadingFault, lexical, grammatical, IsTextFault, of_reading, not_built, kinds_in, place_of_token, most_open}
-use Rattle.ll_top.specs.Machine.{first_state}
-use Rattle.ll_top.specs.Outcome.{IsRead, Reaches, first, later, run_texts, ReadFails, absent, unreadable, oversized, RunFails, not_read, faulty_program, faulty_query, RunAsks, RunComesTo, ran, failed, IsPrintedAs, PrintFails, source_not_read, faulty_source, PrintComesTo, printed, print_failed, ComesTo, misused, runs, prints, longest_text}
-use Rattle.ll_top.proofs.FirstBad.{one-bad, good-or-bad}
+use Rattle.ll_top.specs.Judging.{HasGrammarFault, IsProgramText, IsQueryText, IsReadingFault, lexical, grammatical, IsFaultless, IsProgramFault, of_program_reading, of_program_scope, IsQueryFault, of_query_reading, of_query_scope, IsTextFault, of_program, of_query, TextsAsk, most_open}
+use Rattle.ll_top.specs.Outcome.{name_of, IsRead, Reaches, first, later, run_texts, ReadFails, absent, unreadable, oversized, RunFails, not_read, faulty, RunAsks, RunComesTo, ran, failed, IsPrintedAs, PrintFails, source_not_read, faulty_source, PrintComesTo, printed, print_failed, ComesTo, misused, runs, prints, longest_text}
+use Rattle.ll_top.proofs.FirstBad.{one-bad}
 use Rattle.ll_top.proofs.OutcomeLemmas.{bad-not-in-form, run-in-form, print-in-form}
 use Rattle.ll_top.proofs.CommandWords.{run-or-print}
-use Rattle.ll_top.proofs.JudgeLemmas.{found, tokens-text, found-query}
-use Rattle.ll_top.proofs.GrammarLemmas.{of-grammar}
-use Rattle.ll_top.proofs.ReadingLemmas.{asks-once}
+use Rattle.ll_top.proofs.GrammarLemmas.{IsOfGrammar}
 
 -- ---- words
 
@@ -52,14 +46,10 @@ module _ (same : (a b : LexedText) → a.text ≡ b.text → IsLexed a → IsLex
     (not_both : (a : LexedText) (f : Fault) → IsLexed a → HasFault a.text f → ⊥)
     (one_grammar : (role : Role) (l : LexedText) (f g : Fault) → HasGrammarFault role l f → HasGrammarFault role l g → f ≡ g)
     (no_grammar : (role : Role) (l : LexedText) (f : Fault) → IsOfGrammar role l → HasGrammarFault role l f → ⊥)
-    (one_tree : (limit : ℕ) (ts : List Tok) (p q : ProgramTree) → Reads programs limit ts p → Reads programs limit ts q → p ≡ q) where
+    (one_tree : (limit : ℕ) (ts : List Tok) (p q : ProgramTree) → Reads programs limit ts p → Reads programs limit ts q → p ≡ q)
+    (one_goal : (limit : ℕ) (ts : List Tok) (p q : Raw) → Reads queries limit ts p → Reads queries limit ts q → p ≡ q) where
   apart : (text : List ℕ) (l : LexedText) (f : Fault) → l.text ≡ text → IsLexed l → HasFault text f → ⊥
   apart text l f e h g = not_both l f h (subst (λ t. HasFault t f) (sym e) g)
-
-  same-places : (role : Role) (l m : LexedText) (n k : ℕ) → l ≡ m → IsFirstBad (IsText role) (kinds_in l.tokens) n → IsFirstBad (IsText role) (kinds_in m.tokens) k → place_of_token l n ≡ place_of_token m k
-  same-places role l m n k e h j =
-      let s : n ≡ k = one-bad (IsText role) (kinds_in m.tokens) n k (subst (λ x. IsFirstBad (IsText role) (kinds_in x.tokens) n) e h) j in
-      ap (λ x. place_of_token x n) e ∙ ap (place_of_token m) s
 
   -- a fault by the grammar, of the same text
   moved : (role : Role) (l m : LexedText) (f : Fault) → l ≡ m → HasGrammarFault role l f → HasGrammarFault role m f
@@ -76,18 +66,6 @@ module _ (same : (a b : LexedText) → a.text ≡ b.text → IsLexed a → IsLex
   read-no-fault role text l f e h r (lexical k) = apart text l f e h k
   read-no-fault role text l f e h r (grammatical m d j c) = no_grammar role l f r (moved role m l f (same m l (d ∙ sym e) j h) c)
 
-  one-fault : (role : Role) (text : List ℕ) (f g : Fault) → IsTextFault role text f → IsTextFault role text g → f ≡ g
-  one-fault role text f g (of_reading h) (of_reading k) = one-reading-fault role text f g h k
-  one-fault role text f g (of_reading h) (not_built l n e k r b p) = absurd (read-no-fault role text l f e k r h)
-  one-fault role text f g (not_built l n e h r b p) (of_reading k) = absurd (read-no-fault role text l g e h r k)
-  one-fault role text f g (not_built l n e h r b p) (not_built m k d j s c q) =
-      p ∙ (ap (λ at. record { at = at; kind = 17 }) (same-places role l m n k (same l m (e ∙ sym d) h j) b c) ∙ sym q)
-
-  no-fault : (role : Role) (text : List ℕ) (f : Fault) → IsOfLanguage role text → IsTextFault role text f → ⊥
-  no-fault role text f t (of_reading h) = read-no-fault role text t.lexed f t.of_text t.is_lexed (of-grammar role t.lexed t.is_text) h
-  no-fault role text f t (not_built l n e h r b p) =
-      good-or-bad (IsText role) (kinds_in l.tokens) n (subst (λ x. IsText role (kinds_in x.tokens)) (same t.lexed l (t.of_text ∙ sym e) t.is_lexed h) t.is_text) b
-
   -- ---- programs
 
   program-no-fault : (text : List ℕ) (tree : ProgramTree) (f : Fault) → IsProgramText text tree → IsReadingFault Program text f → ⊥
@@ -98,44 +76,66 @@ module _ (same : (a b : LexedText) → a.text ≡ b.text → IsLexed a → IsLex
       let s = same h.lexed k.lexed (h.of_text ∙ sym k.of_text) h.is_lexed k.is_lexed in
       one_tree most_open (toks_of k.lexed) p q (subst (λ l. Reads programs most_open (toks_of l) p) s h.reads) k.reads
 
-  -- texts that ask a problem are of the language
-  text-language : (role : Role) (number : List ℕ → ℕ) (text : List ℕ) (o : Option (List Token)) → HasTokens text o → found number (first_state role) o ≡ true → IsOfLanguage role text
-  text-language role number text o (lexed l e h p) f = record {
-    lexed = l;
-    of_text = e;
-    is_lexed = h;
-    is_text = tokens-text number text role l.tokens (subst (λ x. found number (first_state role) x ≡ true) p f);
-  }
-  text-language role number text o (faulty g h p) f = let z = ap (found number (first_state role)) p in cc
+  -- ---- queries
 
-  problem-some : (names : List (List ℕ)) (bound : ℕ) (cs : Option (List ClauseTree)) (g : Option Form) (p : ProblemTree) → Some p ≡ problem_from names bound cs g → (is_some cs ≡ true) × (is_some g ≡ true)
-  problem-some names bound (Some cs) (Some g) p e = (refl, refl)
-  problem-some names bound (Some cs) None p e = cc
-  problem-some names bound None g p e = cc
+  query-no-fault : (text : List ℕ) (tree : Raw) (f : Fault) → IsQueryText text tree → IsReadingFault Query text f → ⊥
+  query-no-fault text tree f p h = read-no-fault Query text p.lexed f p.of_text p.is_lexed (tree, p.reads) h
 
-  -- tokens that make a problem
-  record Found (ps qs : Option (List Token)) : Type 0 where
-    pub number : List ℕ → ℕ
-    pub program : found number Clauses ps ≡ true
-    pub query : found number (Wants Query) qs ≡ true
+  one-query : (text : List ℕ) (p q : Raw) → IsQueryText text p → IsQueryText text q → p ≡ q
+  one-query text p q h k =
+      let s = same h.lexed k.lexed (h.of_text ∙ sym k.of_text) h.is_lexed k.is_lexed in
+      one_goal most_open (toks_of k.lexed) p q (subst (λ l. Reads queries most_open (toks_of l) p) s h.reads) k.reads
 
-  tokens-found : (bound : ℕ) (ps qs : Option (List Token)) (p : ProblemTree) → Some p ≡ problem_of_tokens bound ps qs → Found ps qs
-  tokens-found bound None qs p e = cc
-  tokens-found bound (Some ps) None p e = cc
-  tokens-found bound (Some ps) (Some qs) p e =
-      let names = names_of ps qs in
-      let s = problem-some names bound (program_of (number_in names) ps) (query_of (number_in names) qs) p e in
-      record { number = number_in names; program = s.0; query = found-query (number_in names) qs s.1 }
+  -- ---- scope and sorting
 
-  asks-program : (program query : List ℕ) (bound : ℕ) (p : ProblemTree) → Asks program query bound (Some p) → IsOfLanguage Program program
-  asks-program program query bound p (both ps qs h k e) = let f = tokens-found bound ps qs p e in text-language Program f.number program ps h f.program
-  asks-program program query bound p (no_program h e) = cc
-  asks-program program query bound p (no_query h e) = cc
+  one-first : (f g : Fault) (fs : List Fault) → IsFirst f fs → IsFirst g fs → f ≡ g
+  one-first f g fs h k = let a = h.1 in let b = k.1 in cc
 
-  asks-query : (program query : List ℕ) (bound : ℕ) (p : ProblemTree) → Asks program query bound (Some p) → IsOfLanguage Query query
-  asks-query program query bound p (both ps qs h k e) = let f = tokens-found bound ps qs p e in text-language Query f.number query qs k f.query
-  asks-query program query bound p (no_program h e) = cc
-  asks-query program query bound p (no_query h e) = cc
+  none-first : (f : Fault) (fs : List Fault) → fs ≡ [] → IsFirst f fs → ⊥
+  none-first f fs e h = let a = h.1 in cc
+
+  one-program-fault : (text : List ℕ) (f g : Fault) → IsProgramFault text f → IsProgramFault text g → f ≡ g
+  one-program-fault text f g (of_program_reading h) (of_program_reading k) = one-reading-fault Program text f g h k
+  one-program-fault text f g (of_program_reading h) (of_program_scope t r k) = absurd (program-no-fault text t f r h)
+  one-program-fault text f g (of_program_scope t r h) (of_program_reading k) = absurd (program-no-fault text t g r k)
+  one-program-fault text f g (of_program_scope t r h) (of_program_scope u s k) =
+      one-first f g (program_faults u) (subst (λ x. HasProgramFault x f) (one-program text t u r s) h) k
+
+  faultless-no-fault : (text : List ℕ) (t : ProgramTree) (f : Fault) → IsFaultless text t → IsProgramFault text f → ⊥
+  faultless-no-fault text t f p (of_program_reading h) = program-no-fault text t f p.is_program h
+  faultless-no-fault text t f p (of_program_scope u s h) = none-first f (program_faults u) (subst (λ x. program_faults x ≡ []) (one-program text t u p.is_program s) p.faultless) h
+
+  one-query-fault : (program : ProgramTree) (text : List ℕ) (f g : Fault) → IsQueryFault program text f → IsQueryFault program text g → f ≡ g
+  one-query-fault program text f g (of_query_reading h) (of_query_reading k) = one-reading-fault Query text f g h k
+  one-query-fault program text f g (of_query_reading h) (of_query_scope t r k) = absurd (query-no-fault text t f r h)
+  one-query-fault program text f g (of_query_scope t r h) (of_query_reading k) = absurd (query-no-fault text t g r k)
+  one-query-fault program text f g (of_query_scope t r h) (of_query_scope u s k) =
+      one-first f g (query_faults (map heading program.modules) u) (subst (λ x. HasQueryFault program x f) (one-query text t u r s) h) k
+
+  -- two texts have one fault
+  one-fault : (program query : List ℕ) (r s : Role) (f g : Fault) → IsTextFault program query r f → IsTextFault program query s g → (r ≡ s) × (f ≡ g)
+  one-fault program query _ _ f g (of_program h) (of_program k) = (refl, one-program-fault program f g h k)
+  one-fault program query _ _ f g (of_program h) (of_query t l k) = absurd (faultless-no-fault program t f l h)
+  one-fault program query _ _ f g (of_query t l h) (of_program k) = absurd (faultless-no-fault program t g l k)
+  one-fault program query _ _ f g (of_query t l h) (of_query u m k) =
+      (refl, one-query-fault u query f g (subst (λ x. IsQueryFault x query f) (one-program program t u l.is_program m.is_program) h) k)
+
+  -- texts that ask a problem have no fault
+  asks-no-fault : (program query : List ℕ) (bound : ℕ) (p : ProblemTree) (role : Role) (f : Fault) → TextsAsk program query bound p → IsTextFault program query role f → ⊥
+  asks-no-fault program query bound p _ f a (of_program h) =
+      faultless-no-fault program a.program_tree f (record { is_program = a.is_program; faultless = a.asks.program_faultless }) h
+  asks-no-fault program query bound p _ f a (of_query t l (of_query_reading h)) = query-no-fault query a.query_tree f a.is_query h
+  asks-no-fault program query bound p _ f a (of_query t l (of_query_scope u s h)) =
+      let e = one-program program a.program_tree t a.is_program l.is_program in
+      let g = one-query query a.query_tree u a.is_query s in
+      none-first f (query_faults (map heading t.modules) u) (subst (λ x. query_faults (map heading x.modules) u ≡ []) e (subst (λ x. query_faults (map heading a.program_tree.modules) x ≡ []) g a.asks.query_faultless)) h
+
+  -- and they ask one
+  one-asked : (program query : List ℕ) (bound : ℕ) (p q : ProblemTree) → TextsAsk program query bound p → TextsAsk program query bound q → p ≡ q
+  one-asked program query bound p q a b =
+      let e = one-program program a.program_tree b.program_tree a.is_program b.is_program in
+      let g = one-query query a.query_tree b.query_tree a.is_query b.is_query in
+      a.asks.is ∙ (ap (λ x. problem_with (part_of x) a.query_tree bound) e ∙ (ap (λ x. problem_with (part_of b.program_tree) x bound) g ∙ sym b.asks.is))
 
   -- ---- reading
 
@@ -206,30 +206,23 @@ module _ (same : (a b : LexedText) → a.text ≡ b.text → IsLexed a → IsLex
 
       fails-once : (c d : Cause) → RunFails (Some texts) (Unit {0}) ⊥ run c → RunFails (Some texts) (Unit {0}) ⊥ run d → c ≡ d
       fails-once _ _ (not_read c r) (not_read d s) = unread-once (run_texts run) c d r s
-      fails-once _ _ (not_read c r) (faulty_program p q g h k t) = absurd (read-or-not (run_texts run) c (both-read p q h k) r)
-      fails-once _ _ (not_read c r) (faulty_query p q g h k l t) = absurd (read-or-not (run_texts run) c (both-read p q h k) r)
-      fails-once _ _ (faulty_program p q g h k t) (not_read d s) = absurd (read-or-not (run_texts run) d (both-read p q h k) s)
-      fails-once _ _ (faulty_query p q g h k l t) (not_read d s) = absurd (read-or-not (run_texts run) d (both-read p q h k) s)
-      fails-once _ _ (faulty_program p q g h k t) (faulty_program u v f m n w) =
-          ap (Faulty run.program) (one-fault Program u g f (subst (λ x. IsTextFault Program x g) (one-read run.program p u h m) t) w)
-      fails-once _ _ (faulty_program p q g h k t) (faulty_query u v f m n l w) = absurd (no-fault Program u g l (subst (λ x. IsTextFault Program x g) (one-read run.program p u h m) t))
-      fails-once _ _ (faulty_query p q g h k l t) (faulty_program u v f m n w) = absurd (no-fault Program p f l (subst (λ x. IsTextFault Program x f) (one-read run.program u p m h) w))
-      fails-once _ _ (faulty_query p q g h k l t) (faulty_query u v f m n j w) =
-          ap (Faulty run.query) (one-fault Query v g f (subst (λ x. IsTextFault Query x g) (one-read run.query q v k n) t) w)
+      fails-once _ _ (not_read c r) (faulty p q role f h k t) = absurd (read-or-not (run_texts run) c (both-read p q h k) r)
+      fails-once _ _ (faulty p q role f h k t) (not_read d s) = absurd (read-or-not (run_texts run) d (both-read p q h k) s)
+      fails-once _ _ (faulty p q r g h k t) (faulty u v s f m n w) =
+          let moved = subst (λ x. IsTextFault x v r g) (one-read run.program p u h m) (subst (λ x. IsTextFault p x r g) (one-read run.query q v k n) t) in
+          let e = one-fault u v r s g f moved w in
+          ap (λ x. Faulty (name_of run x) g) e.0 ∙ ap (Faulty (name_of run s)) e.1
+
+      asks-moved : (p q : List ℕ) (problem : ProblemTree) → IsRead (Some texts) run.program p → IsRead (Some texts) run.query q → RunAsks (Some texts) run problem → TextsAsk p q run.bound problem
+      asks-moved p q problem h k a =
+          subst (λ x. TextsAsk x q run.bound problem) (one-read run.program a.program p a.program_read h) (subst (λ x. TextsAsk a.program x run.bound problem) (one-read run.query a.query q a.query_read k) a.asks)
 
       asks-not-fails : (p : ProblemTree) (c : Cause) → RunAsks (Some texts) run p → RunFails (Some texts) (Unit {0}) ⊥ run c → ⊥
       asks-not-fails p _ a (not_read c r) = read-or-not (run_texts run) c (both-read a.program a.query a.program_read a.query_read) r
-      asks-not-fails p _ a (faulty_program u v f m n w) =
-          no-fault Program u f (subst (IsOfLanguage Program) (one-read run.program a.program u a.program_read m) (asks-program a.program a.query run.bound p a.asks)) w
-      asks-not-fails p _ a (faulty_query u v f m n j w) =
-          no-fault Query v f (subst (IsOfLanguage Query) (one-read run.query a.query v a.query_read n) (asks-query a.program a.query run.bound p a.asks)) w
+      asks-not-fails p _ a (faulty u v role f m n w) = asks-no-fault u v run.bound p role f (asks-moved u v p m n a) w
 
       one-problem : (p q : ProblemTree) → RunAsks (Some texts) run p → RunAsks (Some texts) run q → p ≡ q
-      one-problem p q a b =
-          let moved = subst (λ x. Asks x b.query run.bound (Some p)) (one-read run.program a.program b.program a.program_read b.program_read)
-          (subst (λ x. Asks a.program x run.bound (Some p)) (one-read run.query a.query b.query a.query_read b.query_read) a.asks) in
-          let e = asks-once same not_both b.program b.query run.bound (Some p) (Some q) moved b.asks in
-          cc
+      one-problem p q a b = one-asked b.program b.query run.bound p q (asks-moved b.program b.query p b.program_read b.query_read a) b.asks
 
       run-once : (s t : ℕ) (u v : List ℕ) → RunComesTo (Some texts) (Unit {0}) ⊥ run s u → RunComesTo (Some texts) (Unit {0}) ⊥ run t v → (s ≡ t) × (u ≡ v)
       run-once s t u v (ran p a e f) (ran q b g h) = let o = one-problem p q a b in (e ∙ (ap run_status o ∙ sym g), f ∙ (ap run_text o ∙ sym h))

@@ -14,7 +14,7 @@ use Rattle.ll_top.specs.declared.refusal.Refusal.{Refusal}
 use Rattle.ll_top.specs.declared.refusal.Refusal.TheVariants.{Text, Unwritable, OutOfMemory}
 use Rattle.ll_top.specs.Words.{RunWords, FitsForm, run_form, IsInForm, IsInWorkersForm, IsRun, IsPrint, IsBadWord}
 use Rattle.ll_top.specs.Faults.{Cause, Usage, Absent, Unreadable, Oversized, Faulty, fault_text, cause_status}
-use Rattle.ll_top.specs.Outcome.{ReadFails, absent as is_absent, unreadable as is_unreadable, oversized as is_oversized, run_texts, RunFails, not_read, faulty_program, faulty_query, RunAsks, RunComesTo, ran, failed, IsPrintedAs, PrintFails, source_not_read, faulty_source, PrintComesTo, printed, print_failed, ComesTo, misused, runs, prints, AppendsOwn, nothing, front, Ends, whole, unwritable, no_memory, Completes}
+use Rattle.ll_top.specs.Outcome.{name_of, ReadFails, absent as is_absent, unreadable as is_unreadable, oversized as is_oversized, run_texts, RunFails, not_read, faulty, RunAsks, RunComesTo, ran, failed, IsPrintedAs, PrintFails, source_not_read, faulty_source, PrintComesTo, printed, print_failed, ComesTo, misused, runs, prints, AppendsOwn, nothing, front, Ends, whole, unwritable, no_memory, Completes}
 use Rattle.ll_top.specs.Endings.{Refuses, line, cut, Prepares, RunEnds, status_of_found, PrintEnds}
 use Rattle.ll_top.specs.Running.{IsRunRefusal}
 use Rattle.ll_top.proofs.FirstBad.{good-or-bad}
@@ -142,8 +142,7 @@ module _ (told : Option Texts) (absence read_failed write_failed : Type 0) where
 
   run-cause-says : (run : RunWords) (cause : Cause) → RunFails told absence read_failed run cause → Says absence read_failed write_failed (cause_status cause)
   run-cause-says run cause (not_read c r) = unread-says (run_texts run) c r
-  run-cause-says run cause (faulty_program p q g a b h) = fault-says
-  run-cause-says run cause (faulty_query p q g a b l h) = fault-says
+  run-cause-says run _ (faulty p q role g a b h) = fault-says
 
   print-cause-says : (name : List ℕ) (cause : Cause) → PrintFails told absence read_failed name cause → Says absence read_failed write_failed (cause_status cause)
   print-cause-says name cause (source_not_read c r) = unread-says (name ∷ []) c r
@@ -203,8 +202,7 @@ module _ (texts : Texts) (absence read_failed : Type 0) (no_fault : read_failed 
   told-run : (run : RunWords) (status : ℕ) (text : List ℕ) → RunComesTo (Some texts) absence read_failed run status text → RunComesTo (Some texts) (Unit {0}) ⊥ run status text
   told-run run status text (ran p a e f) = ran p a e f
   told-run run status text (failed _ (not_read c r) e f) = failed c (not_read c (told-unread (run_texts run) c r)) e f
-  told-run run status text (failed _ (faulty_program p q g h k t) e f) = failed (Faulty run.program g) (faulty_program p q g h k t) e f
-  told-run run status text (failed _ (faulty_query p q g h k l t) e f) = failed (Faulty run.query g) (faulty_query p q g h k l t) e f
+  told-run run status text (failed _ (faulty p q role g h k t) e f) = failed (Faulty (name_of run role) g) (faulty p q role g h k t) e f
 
   told-print : (name : List ℕ) (status : ℕ) (text : List ℕ) → PrintComesTo (Some texts) absence read_failed name status text → PrintComesTo (Some texts) (Unit {0}) ⊥ name status text
   told-print name status text (printed p e) = printed p e

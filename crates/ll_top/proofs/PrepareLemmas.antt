@@ -1,55 +1,24 @@
 -- From the reading and judging of two texts to what a run comes to.
-use Rattle.std.proofs.Common.{◌≡◌, ◌≤◌, ℕ, true, List, [], ◌∷◌, Option, Some, None, refl, sym, subst, inl, inr, arith}
-use Rattle.std.specs.Prelude.{Result, Ok, Err, IfErr, is_some}
+use Rattle.std.proofs.Common.{◌≡◌, ◌≤◌, ℕ, List, [], ◌∷◌, Option, sym, subst, inl, inr, arith}
+use Rattle.std.specs.Prelude.{Result, Ok, Err, IfErr}
 use Rattle.ll_edge.specs.Texts.{Texts}
 use Rattle.ll_edge.specs.Counts.{Rose}
 use Rattle.ll_laws.specs.Problem.{ProblemTree}
-use Rattle.ll_laws.specs.Module.{ClauseTree}
-use Rattle.ll_bank.specs.Form.{Form}
-use Rattle.ll_lexer.specs.declared.Fault.{Fault}
 use Rattle.ll_lexer.specs.declared.TextFault.{TextFault}
 use Rattle.ll_lexer.specs.declared.TextFault.TheVariants as text_fault
-use Rattle.ll_lexer.specs.Reading.{LexedText, IsLexed, HasFault}
+use Rattle.ll_parser.specs.Raw.{Raw, ProgramTree}
+use Rattle.ll_polarity.specs.Causes.{IsCauseOf}
+use Rattle.ll_polarity.specs.Asks.{ProgramPart, part_of, HasProgramFault, HasQueryFault}
 use Rattle.ll_top.specs.declared.judge.Role.{Role}
 use Rattle.ll_top.specs.declared.judge.Role.TheVariants.{Program, Query}
-use Rattle.ll_top.specs.declared.judge.State.TheVariants.{Clauses, Wants}
 use Rattle.ll_top.specs.declared.refusal.TextRefusal.{TextRefusal}
 use Rattle.ll_top.specs.declared.refusal.TextRefusal.TheVariants as text
 use Rattle.ll_top.specs.declared.refusal.Refusal.{Refusal}
 use Rattle.ll_top.specs.declared.refusal.Refusal.TheVariants.{Text, Unwritable, OutOfMemory}
 use Rattle.ll_top.specs.Words.{RunWords}
-use Rattle.ll_top.specs.Reading.{Token, tokens_in, HasTokens, lexed, program_of, query_of, problem_from, problem_of_tokens, names_of, number_in, Asks, both, no_program, no_query}
-use Rattle.ll_top.specs.Judging.{IsText, IsOfLanguage, IsReadingCause, IsTextCause, kinds_in}
-use Rattle.ll_top.specs.Outcome.{IsRead, Reaches, first, later, run_texts, ReadFails, absent, unreadable, oversized, RunFails, not_read, faulty_program, faulty_query, IsPrintedAs, source_not_read, faulty_source}
-use Rattle.ll_top.specs.Endings.{refusal_of, cause_of, name_of, IsTextNotRead, IsNotRead, IsFaultOf, of_program, of_query, Judges, Prepares, IsNotPrinted, IsMadeOf, IsNotMadeOf}
-use Rattle.ll_top.specs.Machine.{first_state}
-use Rattle.ll_top.proofs.JudgeLemmas.{found, text-tokens, query-found}
-use Rattle.ll_top.proofs.ReadingLemmas.{tokens-once}
-
--- ---- texts of the language ask a problem
-
-has-problem : (names : List (List ℕ)) (bound : ℕ) (cs : Option (List ClauseTree)) (g : Option Form) → is_some cs ≡ true → is_some g ≡ true → None ≡ problem_from names bound cs g → ⊥
-has-problem names bound (Some cs) (Some g) h k e = cc
-has-problem names bound None g h k e = cc
-has-problem names bound (Some cs) None h k e = cc
-
-problem-of-tokens : (bound : ℕ) (ps qs : Option (List Token)) → ((number : List ℕ → ℕ) → found number Clauses ps ≡ true) → ((number : List ℕ → ℕ) → found number (Wants Query) qs ≡ true) → None ≡ problem_of_tokens bound ps qs → ⊥
-problem-of-tokens bound None qs h k e = let f = h (λ _. 0) in cc
-problem-of-tokens bound (Some ps) None h k e = let f = k (λ _. 0) in cc
-problem-of-tokens bound (Some ps) (Some qs) h k e =
-    let names = names_of ps qs in
-    has-problem names bound (program_of (number_in names) ps) (query_of (number_in names) qs) (h (number_in names)) (query-found (number_in names) qs (k (number_in names))) e
-
-module _ (same : (a b : LexedText) → a.text ≡ b.text → IsLexed a → IsLexed b → a ≡ b) (not_both : (a : LexedText) (f : Fault) → IsLexed a → HasFault a.text f → ⊥) where
-  of-language : (role : Role) (text : List ℕ) → IsOfLanguage role text → (o : Option (List Token)) → HasTokens text o → (number : List ℕ → ℕ) → found number (first_state role) o ≡ true
-  of-language role text l o h number =
-      let own = lexed l.lexed l.of_text l.is_lexed refl in
-      subst (λ x. found number (first_state role) x ≡ true) (tokens-once same not_both text (tokens_in text l.lexed.tokens) o own h) (text-tokens number text role l.lexed.tokens l.is_text)
-
-  pub asks-some : (program query : List ℕ) (bound : ℕ) → IsOfLanguage Program program → IsOfLanguage Query query → Asks program query bound None → ⊥
-  asks-some program query bound p q (both ps qs h k e) = problem-of-tokens bound ps qs (of-language Program program p ps h) (of-language Query query q qs k) e
-  asks-some program query bound p q (no_program h e) = let f = of-language Program program p None h (λ _. 0) in cc
-  asks-some program query bound p q (no_query h e) = let f = of-language Query query q None h (λ _. 0) in cc
+use Rattle.ll_top.specs.Judging.{IsProgramText, IsQueryText, IsReadingCause, of_program_reading, of_program_scope, of_query_reading, of_query_scope, of_program, of_query, IsPartOf, IsProgramCause, IsQueryCause}
+use Rattle.ll_top.specs.Outcome.{name_of, IsRead, Reaches, first, later, run_texts, ReadFails, absent, unreadable, oversized, RunFails, not_read, faulty, IsPrintedAs, source_not_read, faulty_source}
+use Rattle.ll_top.specs.Endings.{refusal_of, cause_of, IsTextNotRead, IsNotRead, IsFaultOf, Judges, Prepares, IsNotPrinted, IsMadeOf, IsNotMadeOf}
 
 -- ---- texts that are not read
 
@@ -95,34 +64,40 @@ prepared told absence read_failed run program query p q (Ok problem) h = record 
 prepared told absence read_failed run program query p q (Err (Text role refusal)) h = by role refusal h
   where
     by : (role : Role) (refusal : TextRefusal) → IsFaultOf program query role refusal → RunFails told absence read_failed run (cause_of (name_of run role) refusal)
-    by Program (text.Faulty f) (of_program g) = faulty_program program query f p q g
-    by Query (text.Faulty f) (of_query l g) = faulty_query program query f p q l g
-    by Program text.Absent g = elim g [ ]
-    by Program text.Unreadable g = elim g [ ]
-    by Program text.Oversized g = elim g [ ]
-    by Query text.Absent g = elim g [ ]
-    by Query text.Unreadable g = elim g [ ]
-    by Query text.Oversized g = elim g [ ]
+    by role (text.Faulty f) g = faulty program query role f p q g
+    by role text.Absent g = absurd g
+    by role text.Unreadable g = absurd g
+    by role text.Oversized g = absurd g
 prepared told absence read_failed run program query p q (Err Unwritable) h = absurd h
 prepared told absence read_failed run program query p q (Err OutOfMemory) h = tt
 
 -- ---- judging
 
--- a text that was judged to be of the language
-pub judged : (role : Role) (text : List ℕ) (l : LexedText) → l.text ≡ text → IsLexed l → IsText role (kinds_in l.tokens) → IsOfLanguage role text
-judged role text l e h t = record { lexed = l; of_text = e; is_lexed = h; is_text = t }
-
-pub program-judged : (program query : List ℕ) (bound : ℕ) (fault : TextFault) (r : Refusal) → r ≡ refusal_of Program fault → IsTextCause Program program fault → Judges program query bound (Err r)
+pub program-judged : (program query : List ℕ) (bound : ℕ) (fault : TextFault) (r : Refusal) → r ≡ refusal_of Program fault → IsProgramCause program fault → Judges program query bound (Err r)
 program-judged program query bound (text_fault.Text f) r e h = subst (λ x. Judges program query bound (Err x)) (sym e) (of_program h)
 program-judged program query bound text_fault.OutOfMemory r e h = subst (λ x. Judges program query bound (Err x)) (sym e) tt
 
-pub query-judged : (program query : List ℕ) (bound : ℕ) (fault : TextFault) (r : Refusal) → r ≡ refusal_of Query fault → IsOfLanguage Program program → IsTextCause Query query fault → Judges program query bound (Err r)
-query-judged program query bound (text_fault.Text f) r e l h = subst (λ x. Judges program query bound (Err x)) (sym e) (of_query l h)
-query-judged program query bound text_fault.OutOfMemory r e l h = subst (λ x. Judges program query bound (Err x)) (sym e) tt
+pub query-judged : (program query : List ℕ) (bound : ℕ) (part : ProgramPart) (fault : TextFault) (r : Refusal) → r ≡ refusal_of Query fault → IsPartOf program part → IsQueryCause part query fault → Judges program query bound (Err r)
+query-judged program query bound part (text_fault.Text f) r e p h = subst (λ x. Judges program query bound (Err x)) (sym e) (of_query p.tree p.is_faultless (h p.tree p.is))
+query-judged program query bound part text_fault.OutOfMemory r e p h = subst (λ x. Judges program query bound (Err x)) (sym e) tt
 
--- what the texts of tokens ask
-pub asks-texts : (p q program query : List ℕ) (bound : ℕ) (asked : Option ProblemTree) → p ≡ program → q ≡ query → Asks p q bound asked → Asks program query bound asked
-asks-texts p q program query bound asked e f h = subst (λ x. Asks x query bound asked) e (subst (λ x. Asks p x bound asked) f h)
+-- a program's text that is not read, or not loaded
+pub program-unread : (text : List ℕ) (e : TextFault) → IsReadingCause Program text e → IsProgramCause text e
+program-unread text (text_fault.Text f) h = of_program_reading h
+program-unread text text_fault.OutOfMemory h = tt
+
+pub program-unloaded : (text : List ℕ) (tree : ProgramTree) (e : TextFault) → IsProgramText text tree → IsCauseOf (HasProgramFault tree) e → IsProgramCause text e
+program-unloaded text tree (text_fault.Text f) p h = of_program_scope tree p h
+program-unloaded text tree text_fault.OutOfMemory p h = tt
+
+-- a query's text that is not read, or asks nothing
+pub query-unread : (part : ProgramPart) (text : List ℕ) (e : TextFault) → IsReadingCause Query text e → IsQueryCause part text e
+query-unread part text (text_fault.Text f) h = λ program is. of_query_reading h
+query-unread part text text_fault.OutOfMemory h = tt
+
+pub query-unasked : (part : ProgramPart) (text : List ℕ) (tree : Raw) (e : TextFault) → IsQueryText text tree → IsCauseOf (λ fault. (program : ProgramTree) → part ≡ part_of program → HasQueryFault program tree fault) e → IsQueryCause part text e
+query-unasked part text tree (text_fault.Text f) q h = λ program is. of_query_scope tree q (h program is)
+query-unasked part text tree text_fault.OutOfMemory q h = tt
 
 -- ---- prints
 

@@ -1,11 +1,14 @@
 -- A run from its start to its end.
-use Rattle.std.proofs.Common.{◌≡◌, ◌≤◌, ◌<◌, ℕ, zero, suc, ◌+◌, refl, ap, sym, ◌∙◌, Bool, true, false, List, [], ◌∷◌, ◌++◌, length, take, arith, append_assoc, length-append}
-use Rattle.std.specs.Prelude.{Option, Some, None, Result, Ok, Err, OnErr, count_by, cond, nat_lt, ◌||◌, if◌then◌else◌, codes, decimal, ◌^◌}
+use Rattle.std.proofs.Common.{◌≡◌, ◌≤◌, ◌<◌, ℕ, zero, suc, ◌+◌, ◌-◌, refl, subst, ap, sym, ◌∙◌, Bool, true, false, List, [], ◌∷◌, ◌++◌, length, take, arith, append_assoc, length-append}
+use Rattle.std.specs.Prelude.{Option, Some, None, Result, Ok, Err, OnErr, count_by, cond, nat_lt, ◌||◌, codes, decimal, ◌^◌}
 use Rattle.std.specs.List.{list_any}
 use Rattle.std.specs.Io.KnownBytes.{append_known}
 use Rattle.std.proofs.lemmas.List.Sums.{sum_by-cons}
 use Rattle.std.proofs.lemmas.Bool.{lt-ltb}
-use Rattle.std.proofs.lemmas.List.{append-nil, take-append-le}
+use Rattle.std.proofs.lemmas.List.{append-nil, take-append-le, length-take}
+use Rattle.std.proofs.lemmas.List.Elements.{Contains-append_right}
+use Rattle.std.specs.List.{Contains}
+use Rattle.ll_bank.specs.Term.{Term}
 use Rattle.ll_edge.specs.Pieces.{AppendsFront}
 use Rattle.ll_laws.specs.declared.Event.{Event}
 use Rattle.ll_laws.specs.declared.Event.TheVariants.{Answer, Reached}
@@ -13,10 +16,13 @@ use Rattle.ll_laws.specs.declared.Counts.{Counts}
 use Rattle.ll_laws.specs.Answered.{Answered}
 use Rattle.ll_laws.specs.Search.{cut_count, is_answer, is_reached}
 use Rattle.ll_laws.specs.Problem.{ProblemTree, problem_events, problem_cost}
-use Rattle.ll_laws.specs.Output.{line, is_named, binding_lines, bindings_text, answer_text, answers_text, run_text, summary_text, counts_text, run_status, status_by}
-use Rattle.ll_top.specs.declared.engine.Progress.TheVariants.{Moved, Event as EventFound, Done}
-use Rattle.ll_top.specs.Owing.{Owing, Owes, Steps}
-use Rattle.ll_top.specs.Running.{event_lines, no_counts, counted, status_of_counts, IsRunning}
+use Rattle.ll_laws.specs.Output.{line, bindings_text, answer_text, answers_text, run_text, summary_text, counts_text, run_status, status_by}
+use Rattle.ll_laws.specs.Laws.{AnswersAreShown}
+use Rattle.ll_laws.specs.Valid.{IsValid}
+use Rattle.ll_engine.specs.declared.engine.Step2.TheVariants.{Moved, Event as EventFound, Done}
+use Rattle.ll_engine.specs.Seen.{Owing}
+use Rattle.ll_engine.specs.Steps.{Steps, fresh}
+use Rattle.ll_top.specs.Running.{event_lines, no_counts, counted, status_of_counts, AnswersAll, IsRunning}
 
 -- ---- what is appended
 
@@ -65,17 +71,12 @@ answers_text-cut p k (Answer a ∷ es) =
     let two = sym (answers_text-cut p (suc (cut_count k)) es) ∙ (ap (λ n. answers_text p n es) e ∙ answers_text-cut p (suc k) es) in cc
 answers_text-cut p k (Reached ∷ es) = answers_text-cut p k es
 
--- ---- a query without variables
-
-bindings-none : (p : ProblemTree) (a : Answered) → p.asked ≡ [] → bindings_text p a ≡ line (codes "yes")
-bindings-none p a h = ap (λ asked. if list_any is_named asked then binding_lines p.names asked a.terms else line (codes "yes")) h
+-- ---- events
 
 -- the lines of an event, and the text of the answers after it
-event_then : (p : ProblemTree) (c : Counts) (e : Event) (es : List Event) → p.asked ≡ [] → event_lines c.answers e ++ answers_text p (counted c e).answers es ≡ answers_text p c.answers (e ∷ es)
-event_then p c (Answer a) es h =
-    let one = ap (λ xs. line (codes "answer " ++ decimal (cut_count (suc c.answers))) ++ xs) (sym (bindings-none p a h)) in
-    let two = answers_text-cut p (suc c.answers) es in cc
-event_then p c Reached es h = refl
+event_then : (p : ProblemTree) (c : Counts) (e : Event) (es : List Event) → event_lines p c.answers e ++ answers_text p (counted c e).answers es ≡ answers_text p c.answers (e ∷ es)
+event_then p c (Answer a) es = ap (λ xs. answer_text p (suc c.answers) a ++ xs) (answers_text-cut p (suc c.answers) es)
+event_then p c Reached es = refl
 
 count-cons : (test : Event → Bool) (e : Event) (es : List Event) (b : Bool) → test e ≡ b → count_by test (e ∷ es) ≡ cond b 1 0 + count_by test es
 count-cons test e es b h = sum_by-cons (λ x. cond (test x) 1 0) e es ∙ ap (λ x. cond x 1 0 + count_by test es) h
@@ -90,28 +91,36 @@ reached-counted c Reached es = let q = count-cons is_reached Reached es true ref
 
 -- ---- the run
 
-pub run-starts : (p : ProblemTree) (o : Owing) (w : Option (List ℕ)) → Owes p o → IsRunning p o no_counts w w
-run-starts p o w h = record {
+-- what is owed of the inferences falls by what is told
+cost-moves : (made cost more less k : ℕ) → less ≤ cost → more ≡ cut_count (made + (cost - less)) → cut_count (made + cost) ≡ k → cut_count (more + less) ≡ k
+cost-moves made cost more less k h e f = omega arith
+
+pub run-starts : (p : ProblemTree) (o : Owing) (w : Option (List ℕ)) → o ≡ fresh p → IsRunning p o no_counts w w
+run-starts p o w h = subst (λ x. IsRunning p x no_counts w w) (sym h) (record {
+  found = [];
+  events = refl;
   done = [];
   written = sym (append_known-nil w);
-  rest = ap (answers_text p 0) h.events;
-  answers = let e = ap (count_by is_answer) h.events in omega arith;
-  reached = let e = ap (count_by is_reached) h.events in omega arith;
+  rest = refl;
+  answers = ap cut_count (let e : 0 + count_by is_answer (problem_events p) ≡ count_by is_answer (problem_events p) = omega arith in e);
+  reached = ap cut_count (let e : 0 + count_by is_reached (problem_events p) ≡ count_by is_reached (problem_events p) = omega arith in e);
   answers_fit = omega arith;
   reached_fit = omega arith;
-  cost = let m = h.made in let k = h.cost in omega (arith, ap cut_count k);
-}
+  cost = ap cut_count (let e : 0 + problem_cost p ≡ problem_cost p = omega arith in e);
+})
 
 pub run-moves : (p : ProblemTree) (old new : Owing) (c : Counts) (before now : Option (List ℕ)) → IsRunning p old c before now → Steps old Moved new → IsRunning p new c before now
 run-moves p old new c before now r s = record {
+  found = r.found;
+  events = ap (λ es. r.found ++ es) (sym s.events) ∙ r.events;
   done = r.done;
   written = r.written;
-  rest = ap (λ es. r.done ++ answers_text p c.answers es) (sym s.0) ∙ r.rest;
-  answers = ap (λ es. cut_count (c.answers + count_by is_answer es)) (sym s.0) ∙ r.answers;
-  reached = ap (λ es. cut_count (c.reached + count_by is_reached es)) (sym s.0) ∙ r.reached;
+  rest = ap (λ es. r.done ++ answers_text p c.answers es) (sym s.events) ∙ r.rest;
+  answers = ap (λ es. cut_count (c.answers + count_by is_answer es)) (sym s.events) ∙ r.answers;
+  reached = ap (λ es. cut_count (c.reached + count_by is_reached es)) (sym s.events) ∙ r.reached;
   answers_fit = r.answers_fit;
   reached_fit = r.reached_fit;
-  cost = s.2 ∙ r.cost;
+  cost = cost-moves old.made old.cost new.made new.cost (cut_count (problem_cost p)) s.cost s.made r.cost;
 }
 
 answers-fit : (c : Counts) (e : Event) → c.answers < 2 ^ 64 → (counted c e).answers < 2 ^ 64
@@ -122,20 +131,34 @@ reached-fit : (c : Counts) (e : Event) → c.reached < 2 ^ 64 → (counted c e).
 reached-fit c (Answer a) h = h
 reached-fit c Reached h = omega arith
 
-pub run-goes_on : (p : ProblemTree) (old new : Owing) (c : Counts) (e : Event) (before now after : Option (List ℕ)) → p.asked ≡ [] → IsRunning p old c before now → Steps old (EventFound e) new
-    → after ≡ append_known now (event_lines c.answers e) → IsRunning p new (counted c e) before after
-run-goes_on p old new c e before now after none r s w = record {
-  done = r.done ++ event_lines c.answers e;
-  written = w ∙ (ap (λ o. append_known o (event_lines c.answers e)) r.written ∙ append_known-append before r.done (event_lines c.answers e));
+pub run-goes_on : (p : ProblemTree) (old new : Owing) (c : Counts) (e : Event) (before now after : Option (List ℕ)) → IsRunning p old c before now → Steps old (EventFound e) new
+    → after ≡ append_known now (event_lines p c.answers e) → IsRunning p new (counted c e) before after
+run-goes_on p old new c e before now after r s w = record {
+  found = r.found ++ e ∷ [];
+  events = append_assoc r.found (e ∷ []) new.events ∙ (ap (λ es. r.found ++ es) (sym s.events) ∙ r.events);
+  done = r.done ++ event_lines p c.answers e;
+  written = w ∙ (ap (λ o. append_known o (event_lines p c.answers e)) r.written ∙ append_known-append before r.done (event_lines p c.answers e));
   rest =
-      append_assoc r.done (event_lines c.answers e) (answers_text p (counted c e).answers new.events)
-      ∙ (ap (λ xs. r.done ++ xs) (event_then p c e new.events none) ∙ (ap (λ es. r.done ++ answers_text p c.answers es) (sym s.0) ∙ r.rest));
-  answers = answers-counted c e new.events ∙ (ap (λ es. cut_count (c.answers + count_by is_answer es)) (sym s.0) ∙ r.answers);
-  reached = reached-counted c e new.events ∙ (ap (λ es. cut_count (c.reached + count_by is_reached es)) (sym s.0) ∙ r.reached);
+      append_assoc r.done (event_lines p c.answers e) (answers_text p (counted c e).answers new.events)
+      ∙ (ap (λ xs. r.done ++ xs) (event_then p c e new.events) ∙ (ap (λ es. r.done ++ answers_text p c.answers es) (sym s.events) ∙ r.rest));
+  answers = answers-counted c e new.events ∙ (ap (λ es. cut_count (c.answers + count_by is_answer es)) (sym s.events) ∙ r.answers);
+  reached = reached-counted c e new.events ∙ (ap (λ es. cut_count (c.reached + count_by is_reached es)) (sym s.events) ∙ r.reached);
   answers_fit = answers-fit c e r.answers_fit;
   reached_fit = reached-fit c e r.reached_fit;
-  cost = s.2 ∙ r.cost;
+  cost = cost-moves old.made old.cost new.made new.cost (cut_count (problem_cost p)) s.cost s.made r.cost;
 }
+
+-- an answer that was found has a term for each variable that is asked for
+enough-terms : (p : ProblemTree) (a : Answered) (ts : List Term) → ts ≡ take (length p.asked) a.terms → length ts ≡ length p.asked → length p.asked ≤ length a.terms
+enough-terms p a ts e f = let g = ap length e in let h = length-take (length p.asked) a.terms in omega arith
+
+pub run-answers_all : AnswersAreShown → (p : ProblemTree) (old new : Owing) (c : Counts) (e : Event) (before now : Option (List ℕ)) → IsValid p → IsRunning p old c before now → Steps old (EventFound e) new → AnswersAll p e
+run-answers_all shown p old new c (Answer a) before now v r s =
+    let all : r.found ++ Answer a ∷ new.events ≡ problem_events p = ap (λ es. r.found ++ es) (sym s.events) ∙ r.events in
+    let has : Contains (problem_events p) (Answer a) = subst (λ es. Contains es (Answer a)) all (Contains-append_right r.found (Answer a ∷ new.events) (Answer a) (0, omega arith, refl)) in
+    let d = shown p a v has in
+    enough-terms p a d.0.asked d.2 d.4.count
+run-answers_all shown p old new c Reached before now v r s = tt
 
 -- ---- where it is refused
 
@@ -145,14 +168,14 @@ run-stops p o c before now r =
     let last = summary_text (count_by is_answer (problem_events p)) (count_by is_reached (problem_events p)) (problem_cost p) in
     front_in before now now r.done rest last (run_text p) r.written (sym (append_assoc r.done rest last) ∙ ap (λ xs. xs ++ last) r.rest) (no_front now rest)
 
-pub run-breaks : (p : ProblemTree) (old new : Owing) (c : Counts) (e : Event) (before now after : Option (List ℕ)) → p.asked ≡ [] → IsRunning p old c before now → Steps old (EventFound e) new
-    → AppendsFront now (event_lines c.answers e) after → AppendsFront before (run_text p) after
-run-breaks p old new c e before now after none r s f =
-    let piece = event_lines c.answers e in
+pub run-breaks : (p : ProblemTree) (old new : Owing) (c : Counts) (e : Event) (before now after : Option (List ℕ)) → IsRunning p old c before now → Steps old (EventFound e) new
+    → AppendsFront now (event_lines p c.answers e) after → AppendsFront before (run_text p) after
+run-breaks p old new c e before now after r s f =
+    let piece = event_lines p c.answers e in
     let rest = answers_text p (counted c e).answers new.events in
     let last = summary_text (count_by is_answer (problem_events p)) (count_by is_reached (problem_events p)) (problem_cost p) in
     let all : r.done ++ (piece ++ rest) ≡ answers_text p 0 (problem_events p) =
-    ap (λ xs. r.done ++ xs) (event_then p c e new.events none) ∙ (ap (λ es. r.done ++ answers_text p c.answers es) (sym s.0) ∙ r.rest) in
+    ap (λ xs. r.done ++ xs) (event_then p c e new.events) ∙ (ap (λ es. r.done ++ answers_text p c.answers es) (sym s.events) ∙ r.rest) in
     front_in before now after r.done piece (rest ++ last) (run_text p) r.written
     (ap (λ xs. r.done ++ xs) (sym (append_assoc piece rest last)) ∙ (sym (append_assoc r.done (piece ++ rest) last) ∙ ap (λ xs. xs ++ last) all)) f
 
@@ -162,10 +185,10 @@ run-breaks p old new c e before now after none r s f =
 pub run-counted : (p : ProblemTree) (old new : Owing) (c : Counts) (n : ℕ) (before now : Option (List ℕ)) → n < 2 ^ 64 → n ≡ new.made → IsRunning p old c before now → Steps old Done new
     → counts_text c.answers c.reached n ≡ summary_text (count_by is_answer (problem_events p)) (count_by is_reached (problem_events p)) (problem_cost p)
 run-counted p old new c n before now ln en r s =
-    let a = ap (λ es. cut_count (c.answers + count_by is_answer es)) (sym s.0) ∙ r.answers in
-    let b = ap (λ es. cut_count (c.reached + count_by is_reached es)) (sym s.0) ∙ r.reached in
-    let m : new.made ≡ old.made = ap (λ o. o.made) s.2 in
-    let k = s.1 in let d = r.cost in let fa = r.answers_fit in let fb = r.reached_fit in
+    let a = ap (λ es. cut_count (c.answers + count_by is_answer es)) (sym s.ends.1) ∙ r.answers in
+    let b = ap (λ es. cut_count (c.reached + count_by is_reached es)) (sym s.ends.1) ∙ r.reached in
+    let m : new.made ≡ old.made = ap (λ o. o.made) s.ends.0 in
+    let k = s.ends.2 in let d = r.cost in let fa = r.answers_fit in let fb = r.reached_fit in
     let ea : c.answers ≡ cut_count (count_by is_answer (problem_events p)) = omega arith in
     let eb : c.reached ≡ cut_count (count_by is_reached (problem_events p)) = omega arith in
     let em : n ≡ cut_count (problem_cost p) = omega arith in cc
@@ -175,7 +198,7 @@ pub run-ends : (p : ProblemTree) (old new : Owing) (c : Counts) (n : ℕ) (befor
     → after ≡ append_known now (counts_text c.answers c.reached n) → after ≡ append_known before (run_text p)
 run-ends p old new c n before now after ln en r s w =
     let last = counts_text c.answers c.reached n in
-    let all : r.done ≡ answers_text p 0 (problem_events p) = sym (append-nil r.done) ∙ (ap (λ es. r.done ++ answers_text p c.answers es) (sym s.0) ∙ r.rest) in
+    let all : r.done ≡ answers_text p 0 (problem_events p) = sym (append-nil r.done) ∙ (ap (λ es. r.done ++ answers_text p c.answers es) (sym s.ends.1) ∙ r.rest) in
     w
     ∙ (ap (λ o. append_known o last) r.written
     ∙ (append_known-append before r.done last
@@ -186,7 +209,7 @@ pub run-ends_broken : (p : ProblemTree) (old new : Owing) (c : Counts) (n : ℕ)
     → Steps old Done new → AppendsFront now (counts_text c.answers c.reached n) after → AppendsFront before (run_text p) after
 run-ends_broken p old new c n before now after ln en r s f =
     let last = counts_text c.answers c.reached n in
-    let all : r.done ≡ answers_text p 0 (problem_events p) = sym (append-nil r.done) ∙ (ap (λ es. r.done ++ answers_text p c.answers es) (sym s.0) ∙ r.rest) in
+    let all : r.done ≡ answers_text p 0 (problem_events p) = sym (append-nil r.done) ∙ (ap (λ es. r.done ++ answers_text p c.answers es) (sym s.ends.1) ∙ r.rest) in
     front_in before now after r.done last [] (run_text p) r.written
     (ap (λ xs. r.done ++ xs) (append-nil last) ∙ (ap (λ xs. xs ++ last) all ∙ ap (λ xs. answers_text p 0 (problem_events p) ++ xs) (run-counted p old new c n before now ln en r s))) f
 
@@ -216,8 +239,8 @@ pub run-status : (p : ProblemTree) (old new : Owing) (c : Counts) (before now : 
     → status_of_counts c.answers c.reached ≡ run_status p
 run-status p old new c before now r s =
     let es = problem_events p in
-    let a = ap (λ es. cut_count (c.answers + count_by is_answer es)) (sym s.0) ∙ r.answers in
-    let b = ap (λ es. cut_count (c.reached + count_by is_reached es)) (sym s.0) ∙ r.reached in
+    let a = ap (λ es. cut_count (c.answers + count_by is_answer es)) (sym s.ends.1) ∙ r.answers in
+    let b = ap (λ es. cut_count (c.reached + count_by is_reached es)) (sym s.ends.1) ∙ r.reached in
     let f = any-count is_answer es in let g = any-count is_reached es in
     let fa = r.answers_fit in let fb = r.reached_fit in
     let i = status-by c.answers c.reached (count_by is_answer es) (count_by is_reached es) (omega arith) (omega arith) in cc

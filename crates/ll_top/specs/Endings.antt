@@ -1,17 +1,16 @@
 -- How the parts of a run end, in the program's own types.
-use Rattle.std.specs.Prelude.{◌≡◌, ◌<◌, ℕ, List, length, Option, Some, None, Result, Ok, Err, IsSomeAnd, IfSome}
+use Rattle.std.specs.Prelude.{◌≡◌, ◌<◌, ℕ, List, length, Option, None, Result, Ok, Err, IsSomeAnd, IfSome}
 use Rattle.std.specs.Io.KnownBytes.{append_known}
 use Rattle.ll_edge.specs.Pieces.{AppendsFront}
 use Rattle.ll_edge.specs.Texts.{Texts, text_of}
 use Rattle.ll_laws.specs.Problem.{ProblemTree}
 use Rattle.ll_laws.specs.Output.{run_text, run_status}
-use Rattle.ll_lexer.specs.declared.Fault.{Fault}
 use Rattle.ll_lexer.specs.declared.TextFault.{TextFault}
 use Rattle.ll_lexer.specs.declared.TextFault.TheVariants as text_fault
 use Rattle.ll_top.specs.declared.fault.Cause.{Cause as OwnCause}
 use Rattle.ll_top.specs.declared.fault.Cause.TheVariants as own
 use Rattle.ll_top.specs.declared.judge.Role.{Role}
-use Rattle.ll_top.specs.declared.judge.Role.TheVariants.{Program, Query}
+use Rattle.ll_top.specs.declared.judge.Role.TheVariants.{Program}
 use Rattle.ll_top.specs.declared.run.Found.{Found}
 use Rattle.ll_top.specs.declared.run.Found.TheVariants.{Answer, Nothing, Bound}
 use Rattle.ll_top.specs.declared.refusal.TextRefusal.{TextRefusal}
@@ -20,11 +19,10 @@ use Rattle.ll_top.specs.declared.refusal.Refusal.{Refusal}
 use Rattle.ll_top.specs.declared.refusal.Refusal.TheVariants.{Text, Unwritable, OutOfMemory}
 use Rattle.ll_top.specs.Words.{RunWords}
 use Rattle.ll_top.specs.Faults.{Cause, Usage, Absent, Unreadable, Oversized, Faulty, fault_text, cause_status}
-use Rattle.ll_top.specs.Reading.{Asks}
 use Rattle.ll_parser.specs.Raw.{ProgramTree}
 use Rattle.ll_parser.specs.Printed.{program_text}
-use Rattle.ll_top.specs.Judging.{IsOfLanguage, IsProgramText, IsReadingFault, IsTextFault}
-use Rattle.ll_top.specs.Outcome.{longest_text, RunFails, RunAsks, RunComesTo, PrintFails, IsPrintedAs, AppendsOwn}
+use Rattle.ll_top.specs.Judging.{IsProgramText, IsReadingFault, IsTextFault, TextsAsk}
+use Rattle.ll_top.specs.Outcome.{longest_text, name_of, RunFails, RunAsks, RunComesTo, PrintFails, IsPrintedAs, AppendsOwn}
 
 -- ---- causes
 
@@ -42,11 +40,6 @@ cause_of name text.Absent = Absent name
 cause_of name text.Unreadable = Unreadable name
 cause_of name text.Oversized = Oversized name
 cause_of name (text.Faulty fault) = Faulty name fault
-
--- the name of a run's text
-abbrev pub name_of : RunWords → Role → List ℕ
-name_of run Program = run.program
-name_of run Query = run.query
 
 -- the refusal for a text's fault
 abbrev pub refusal_of : Role → TextFault → Refusal
@@ -73,13 +66,13 @@ IsNotRead told absence read_failed name role Unwritable = ⊥
 IsNotRead told absence read_failed name role OutOfMemory = Unit {0}
 
 -- why a text of two that were read is refused
-pub data IsFaultOf (program query : List ℕ) : Role → TextRefusal → Type 0 where
-  of_program : {fault : Fault} → IsTextFault Program program fault → IsFaultOf program query Program (text.Faulty fault)
-  of_query : {fault : Fault} → IsOfLanguage Program program → IsTextFault Query query fault → IsFaultOf program query Query (text.Faulty fault)
+abbrev pub IsFaultOf : List ℕ → List ℕ → Role → TextRefusal → Type 0
+IsFaultOf program query role (text.Faulty f) = IsTextFault program query role f
+IsFaultOf program query role refusal = ⊥
 
 -- what two texts were judged to be: they ask a problem, or one has a fault
 abbrev pub Judges : List ℕ → List ℕ → ℕ → Result ProblemTree Refusal → Type 0
-Judges program query bound (Ok p) = Asks program query bound (Some p)
+Judges program query bound (Ok p) = TextsAsk program query bound p
 Judges program query bound (Err (Text role refusal)) = IsFaultOf program query role refusal
 Judges program query bound (Err Unwritable) = ⊥
 Judges program query bound (Err OutOfMemory) = Unit {0}

@@ -16,7 +16,7 @@ pub data Cause : Type 0 where
   -- the text of this name has this fault
   Faulty : List ℕ → Fault → Cause
 
--- the text of each kind of fault, from kind 0, which there is not, to kind 17
+-- the text of each kind of fault, from kind 0, which there is not, to kind 16
 abbrev pub kind_texts : List (List ℕ)
 kind_texts =
     []
@@ -36,7 +36,6 @@ kind_texts =
     ∷ codes "malformed field"
     ∷ codes "nodes missing"
     ∷ codes "nodes left over"
-    ∷ codes "not built yet"
     ∷ []
 
 abbrev pub kind_text : ℕ → List ℕ

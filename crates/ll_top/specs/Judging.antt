@@ -1,63 +1,24 @@
--- The texts of today's language, and the first fault of one that is no such text.
-use Rattle.std.specs.Prelude.{◌≡◌, ℕ, List, [], ◌∷◌, map, slice_get, Option, Some, None, IsSome, IsSomeAnd}
-use Rattle.ll_lexer.specs.declared.Place.{Place}
+-- What texts are read as, and the first fault of one that is no text of the language.
+use Rattle.std.specs.Prelude.{◌≡◌, ℕ, List, []}
 use Rattle.ll_lexer.specs.declared.Fault.{Fault}
 use Rattle.ll_lexer.specs.declared.TextFault.{TextFault}
 use Rattle.ll_lexer.specs.declared.TextFault.TheVariants as fault
-use Rattle.ll_lexer.specs.declared.Token.{Token as Lexeme}
-use Rattle.ll_lexer.specs.declared.TokenKind.{TokenKind}
 use Rattle.ll_lexer.specs.Reading.{LexedText, IsLexed, HasFault}
+use Rattle.ll_laws.specs.Problem.{ProblemTree}
 use Rattle.ll_parser.specs.Tokens.{toks_of}
 use Rattle.ll_parser.specs.Raw.{Raw, ProgramTree}
 use Rattle.ll_parser.specs.Text.{programs, queries}
-use Rattle.ll_parser.specs.Reads.{Reads, HasFault as HasTokenFault, IsCause as IsTokenCause}
+use Rattle.ll_parser.specs.Reads.{Reads, IsWhole, HasFault as HasTokenFault}
+use Rattle.ll_polarity.specs.Faults.{program_faults}
+use Rattle.ll_polarity.specs.Asks.{ProgramPart, part_of, Asks, HasProgramFault, HasQueryFault}
 use Rattle.ll_top.specs.declared.judge.Role.{Role}
 use Rattle.ll_top.specs.declared.judge.Role.TheVariants.{Program, Query}
-use Rattle.ll_top.specs.Begins.{IsFirstBad}
-use Rattle.ll_top.specs.Reading.{Token, token_of, both_or_none, program_of, query_of}
-
--- the kinds of tokens
-abbrev pub kinds_in : List Lexeme → List TokenKind
-kinds_in tokens = map (λ t. t.kind) tokens
-
--- tokens of these kinds, each name the empty one: none where a kind is in no text of today's language
-abbrev pub tokens_of_kinds : List TokenKind → Option (List Token)
-tokens_of_kinds [] = Some []
-tokens_of_kinds (k ∷ ks) = both_or_none (token_of k []) (tokens_of_kinds ks)
-
--- tokens of these kinds are a program, or a query, whatever their names are
-abbrev pub IsText : Role → List TokenKind → Type 0
-IsText Program kinds = IsSomeAnd (tokens_of_kinds kinds) (λ tokens. IsSome (program_of (λ _. 0) tokens))
-IsText Query kinds = IsSomeAnd (tokens_of_kinds kinds) (λ tokens. IsSome (query_of (λ _. 0) tokens))
-
--- a text is of today's language
-pub record IsOfLanguage (role : Role) (text : List ℕ) : Type 0 where
-  pub lexed : LexedText
-  pub of_text : lexed.text ≡ text
-  pub is_lexed : IsLexed lexed
-  pub is_text : IsText role (kinds_in lexed.tokens)
-
--- the place of token n, or of the text's end where there is no such token
-abbrev pub token_place : Place → Option Lexeme → Place
-token_place end (Some token) = token.at
-token_place end None = end
-
-abbrev pub place_of_token : LexedText → ℕ → Place
-place_of_token lexed n = token_place lexed.end (slice_get lexed.tokens n)
 
 -- the greatest number of brackets that may be open at once
 abbrev pub most_open : ℕ
 most_open = 1000
 
--- the tokens of a text are read by the grammar as a program, or as a query
-abbrev pub IsOfGrammar : Role → LexedText → Type 0
-IsOfGrammar Program lexed = (tree : ProgramTree) × Reads programs most_open (toks_of lexed) tree
-IsOfGrammar Query lexed = (tree : Raw) × Reads queries most_open (toks_of lexed) tree
-
--- the tokens of a text have this first fault by the grammar of programs, or by that of queries: it is of kind 4, 5 or 6
-abbrev pub HasGrammarFault : Role → LexedText → Fault → Type 0
-HasGrammarFault Program lexed f = HasTokenFault programs most_open (toks_of lexed) lexed.end f
-HasGrammarFault Query lexed f = HasTokenFault queries most_open (toks_of lexed) lexed.end f
+-- ---- reading
 
 -- a text is read by the grammar as this program
 pub record IsProgramText (text : List ℕ) (tree : ProgramTree) : Type 0 where
@@ -66,29 +27,75 @@ pub record IsProgramText (text : List ℕ) (tree : ProgramTree) : Type 0 where
   pub is_lexed : IsLexed lexed
   pub reads : Reads programs most_open (toks_of lexed) tree
 
+-- a text is read by the grammar as this query
+pub record IsQueryText (text : List ℕ) (tree : Raw) : Type 0 where
+  pub lexed : LexedText
+  pub of_text : lexed.text ≡ text
+  pub is_lexed : IsLexed lexed
+  pub reads : Reads queries most_open (toks_of lexed) tree
+
+-- the tokens of a text have this first fault by the grammar of programs, or by that of queries: it is of kind 4, 5 or 6
+abbrev pub HasGrammarFault : Role → LexedText → Fault → Type 0
+HasGrammarFault Program lexed f = HasTokenFault programs most_open (toks_of lexed) lexed.end f
+HasGrammarFault Query lexed f = HasTokenFault queries most_open (toks_of lexed) lexed.end f
+
 -- The fault of reading a text: the first one of kinds 1 to 3; or else, where its tokens are not read by the grammar, their first
 -- fault, of kinds 4 to 6.
 pub data IsReadingFault (role : Role) (text : List ℕ) (f : Fault) : Type 0 where
   lexical : HasFault text f → IsReadingFault role text f
   grammatical : (lexed : LexedText) → lexed.text ≡ text → IsLexed lexed → HasGrammarFault role lexed f → IsReadingFault role text f
 
--- The fault of a text of a run: that of reading it, of kinds 1 to 6; or else, of kind 17, the first token through which no text of
--- today's language begins, or the end where more is needed.
-pub data IsTextFault (role : Role) (text : List ℕ) (f : Fault) : Type 0 where
-  of_reading : IsReadingFault role text f → IsTextFault role text f
-  not_built : (lexed : LexedText) (n : ℕ) → lexed.text ≡ text → IsLexed lexed → IsOfGrammar role lexed → IsFirstBad (IsText role) (kinds_in lexed.tokens) n → f ≡ record { at = place_of_token lexed n; kind = 17 } → IsTextFault role text f
-
--- why a text was not judged to be of the language; want of memory is free
-abbrev pub IsTextCause : Role → List ℕ → TextFault → Type 0
-IsTextCause role text (fault.Text f) = IsTextFault role text f
-IsTextCause role text fault.OutOfMemory = Unit {0}
-
 -- why a text was not read by the grammar; want of memory is free
 abbrev pub IsReadingCause : Role → List ℕ → TextFault → Type 0
 IsReadingCause role text (fault.Text f) = IsReadingFault role text f
 IsReadingCause role text fault.OutOfMemory = Unit {0}
 
--- why the tokens of a text were not read by the grammar; want of memory is free
-abbrev pub IsGrammarCause : Role → LexedText → TextFault → Type 0
-IsGrammarCause Program lexed e = IsTokenCause programs most_open (toks_of lexed) lexed.end e
-IsGrammarCause Query lexed e = IsTokenCause queries most_open (toks_of lexed) lexed.end e
+-- ---- the texts of a run
+
+-- a text is read as this program, which has no fault of scope or sorting
+pub record IsFaultless (text : List ℕ) (tree : ProgramTree) : Type 0 where
+  pub is_program : IsProgramText text tree
+  pub faultless : program_faults tree ≡ []
+
+-- the fault of a program's text: that of reading it; or else the first one of scope or sorting, of kinds 7 to 12
+pub data IsProgramFault (text : List ℕ) (f : Fault) : Type 0 where
+  of_program_reading : IsReadingFault Program text f → IsProgramFault text f
+  of_program_scope : (tree : ProgramTree) → IsProgramText text tree → HasProgramFault tree f → IsProgramFault text f
+
+-- the fault of a query's text over a program: that of reading it; or else the first one of scope or sorting over the modules of the
+-- program, of kinds 7 to 11
+pub data IsQueryFault (program : ProgramTree) (text : List ℕ) (f : Fault) : Type 0 where
+  of_query_reading : IsReadingFault Query text f → IsQueryFault program text f
+  of_query_scope : (tree : Raw) → IsQueryText text tree → HasQueryFault program tree f → IsQueryFault program text f
+
+-- The fault of two texts that are judged in turn: the program's; or else, where the program has none, the query's over it.
+pub data IsTextFault (program query : List ℕ) : Role → Fault → Type 0 where
+  of_program : {f : Fault} → IsProgramFault program f → IsTextFault program query Program f
+  of_query : {f : Fault} (tree : ProgramTree) → IsFaultless program tree → IsQueryFault tree query f → IsTextFault program query Query f
+
+-- a program text and a query text ask this problem with a bound
+pub record TextsAsk (program query : List ℕ) (bound : ℕ) (p : ProblemTree) : Type 0 where
+  pub program_tree : ProgramTree
+  pub query_tree : Raw
+  pub is_program : IsProgramText program program_tree
+  pub is_query : IsQueryText query query_tree
+  pub asks : Asks program_tree query_tree bound p
+
+-- ---- a program that was loaded
+
+-- the text is a program without a fault that fixes this part of a problem
+pub record IsPartOf (text : List ℕ) (part : ProgramPart) : Type 0 where
+  pub tree : ProgramTree
+  pub is_faultless : IsFaultless text tree
+  pub whole : IsWhole programs tree
+  pub is : part ≡ part_of tree
+
+-- why a program's text was not loaded; want of memory is free
+abbrev pub IsProgramCause : List ℕ → TextFault → Type 0
+IsProgramCause text (fault.Text f) = IsProgramFault text f
+IsProgramCause text fault.OutOfMemory = Unit {0}
+
+-- why a query's text asks nothing of a part, whichever program fixed it; want of memory is free
+abbrev pub IsQueryCause : ProgramPart → List ℕ → TextFault → Type 0
+IsQueryCause part text (fault.Text f) = (program : ProgramTree) → part ≡ part_of program → IsQueryFault program text f
+IsQueryCause part text fault.OutOfMemory = Unit {0}

@@ -3,13 +3,6 @@ pub mod Words
 pub mod RunForm
 pub mod Faults
 pub mod Judging
-pub mod Machine
-pub mod Reading
-pub mod Tokens
-pub mod First
-pub mod Owing
-pub mod Owed
-pub mod Kept
 pub mod Outcome
 pub mod Endings
 pub mod Running

@@ -9,11 +9,11 @@ use Rattle.ll_laws.specs.Output.{run_text, run_status}
 use Rattle.ll_lexer.specs.declared.Fault.{Fault}
 use Rattle.ll_parser.specs.Raw.{ProgramTree}
 use Rattle.ll_parser.specs.Printed.{program_text}
+use Rattle.ll_top.specs.declared.judge.Role.{Role}
 use Rattle.ll_top.specs.declared.judge.Role.TheVariants.{Program, Query}
 use Rattle.ll_top.specs.Words.{RunWords, IsBadWord, IsRun, IsPrint}
 use Rattle.ll_top.specs.Faults.{Cause, Usage, Absent, Unreadable, Oversized, Faulty, fault_text, cause_status}
-use Rattle.ll_top.specs.Reading.{Asks}
-use Rattle.ll_top.specs.Judging.{IsOfLanguage, IsProgramText, IsReadingFault, IsTextFault}
+use Rattle.ll_top.specs.Judging.{IsProgramText, IsReadingFault, IsTextFault, TextsAsk}
 
 -- the words as bytes
 abbrev pub word_texts : List (Bor (List ℕ)) → List (List ℕ)
@@ -46,11 +46,15 @@ pub data ReadFails (told : Option Texts) (absence read_failed : Type 0) (names :
 
 -- ---- runs
 
+-- the name of a run's text
+abbrev pub name_of : RunWords → Role → List ℕ
+name_of run Program = run.program
+name_of run Query = run.query
+
 -- Why a run ends with a fault line: its texts are not both read; or one of them has a fault, where the program is judged first.
 pub data RunFails (told : Option Texts) (absence read_failed : Type 0) (run : RunWords) : Cause → Type 0 where
   not_read : (cause : Cause) → ReadFails told absence read_failed (run_texts run) cause → RunFails told absence read_failed run cause
-  faulty_program : (program query : List ℕ) (f : Fault) → IsRead told run.program program → IsRead told run.query query → IsTextFault Program program f → RunFails told absence read_failed run (Faulty run.program f)
-  faulty_query : (program query : List ℕ) (f : Fault) → IsRead told run.program program → IsRead told run.query query → IsOfLanguage Program program → IsTextFault Query query f → RunFails told absence read_failed run (Faulty run.query f)
+  faulty : (program query : List ℕ) (role : Role) (f : Fault) → IsRead told run.program program → IsRead told run.query query → IsTextFault program query role f → RunFails told absence read_failed run (Faulty (name_of run role) f)
 
 -- the texts of a run were read, and ask this problem
 pub record RunAsks (told : Option Texts) (run : RunWords) (p : ProblemTree) : Type 0 where
@@ -58,7 +62,7 @@ pub record RunAsks (told : Option Texts) (run : RunWords) (p : ProblemTree) : Ty
   pub query : List ℕ
   pub program_read : IsRead told run.program program
   pub query_read : IsRead told run.query query
-  pub asks : Asks program query run.bound (Some p)
+  pub asks : TextsAsk program query run.bound p
 
 -- what a run comes to: the text of its search, or a fault line, each with its status
 pub data RunComesTo (told : Option Texts) (absence read_failed : Type 0) (run : RunWords) (status : ℕ) (text : List ℕ) : Type 0 where

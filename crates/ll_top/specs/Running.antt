@@ -1,5 +1,5 @@
 -- A run that is on its way: what was counted and written of its events so far.
-use Rattle.std.specs.Prelude.{◌≡◌, ◌<◌, ◌^◌, ⊤, ℕ, ◌+◌, zero, suc, List, [], ◌++◌, count_by, Option, codes, decimal}
+use Rattle.std.specs.Prelude.{◌≡◌, ◌<◌, ◌≤◌, ◌^◌, length, ⊤, ℕ, ◌+◌, zero, suc, List, [], ◌++◌, count_by, Option}
 use Rattle.std.specs.Io.KnownBytes.{append_known}
 use Rattle.ll_edge.specs.Counts.{Rose}
 use Rattle.ll_laws.specs.declared.Event.{Event}
@@ -7,15 +7,20 @@ use Rattle.ll_laws.specs.declared.Event.TheVariants.{Answer, Reached}
 use Rattle.ll_laws.specs.declared.Counts.{Counts}
 use Rattle.ll_laws.specs.Search.{cut_count, is_answer, is_reached}
 use Rattle.ll_laws.specs.Problem.{ProblemTree, problem_events, problem_cost}
-use Rattle.ll_laws.specs.Output.{line, answers_text}
-use Rattle.ll_top.specs.Owing.{Owing}
+use Rattle.ll_laws.specs.Output.{answer_text, answers_text}
+use Rattle.ll_engine.specs.Seen.{Owing}
 use Rattle.ll_top.specs.declared.refusal.Refusal.{Refusal}
 use Rattle.ll_top.specs.declared.refusal.Refusal.TheVariants.{Text, Unwritable, OutOfMemory}
 
--- the lines of an event after k answers, for a query without named variables
-abbrev pub event_lines : ℕ → Event → List ℕ
-event_lines k (Answer a) = line (codes "answer " ++ decimal (cut_count (suc k))) ++ line (codes "yes")
-event_lines k Reached = []
+-- the lines of an event of a problem after k answers
+abbrev pub event_lines : ProblemTree → ℕ → Event → List ℕ
+event_lines p k (Answer a) = answer_text p (suc k) a
+event_lines p k Reached = []
+
+-- an answer has a term for each variable that is asked for
+abbrev pub AnswersAll : ProblemTree → Event → Type 0
+AnswersAll p (Answer a) = length p.asked ≤ length a.terms
+AnswersAll p Reached = ⊤
 
 -- nothing counted
 abbrev pub no_counts : Counts
@@ -40,6 +45,9 @@ IsRunRefusal before after (Text role refusal) = ⊥
 
 -- a run of a problem is on its way: its engine owes the rest, and this was counted and written so far
 pub record IsRunning (p : ProblemTree) (owing : Owing) (counts : Counts) (before after : Option (List ℕ)) : Type 0 where
+  -- the events that were found
+  pub found : List Event
+  pub events : found ++ owing.events ≡ problem_events p
   -- what was written
   pub done : List ℕ
   pub written : after ≡ append_known before done

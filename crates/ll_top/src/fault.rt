@@ -149,7 +149,6 @@ fn kind_text(kind: u8) -> &'static str
         14 => "malformed field",
         15 => "nodes missing",
         16 => "nodes left over",
-        17 => "not built yet",
         _ => "",
     }
 }

@@ -1,13 +1,10 @@
 //! The top call: everything that the program does.
 #![tactic(auto)]
 
-mod engine;
 mod fault;
 mod judge;
 mod prepare;
-mod print;
 mod printing;
-mod reader;
 mod refusal;
 mod run;
 mod words;
@@ -15,11 +12,9 @@ mod words;
 ghost use Rattle.std.specs.Prelude.{◌≡◌, ◌≤◌, ◌↔◌, ◌⊎◌, ℕ, List, Option, None, Some, IfSome};
 ghost use Rattle.ll_edge.specs.Counts.{Rose};
 ghost use Rattle.ll_edge.specs.Texts.{Texts};
-ghost use Rattle.ll_laws.specs.Problem.{ProblemTree};
 ghost use Rattle.ll_top.specs.Words.{IsInForm, IsInWorkersForm, shown_words};
-ghost use Rattle.ll_top.specs.Reading.{Asks};
-ghost use Rattle.ll_top.specs.Outcome.{word_texts, ComesTo, RunComesTo, PrintComesTo, Ends, Completes};
-ghost use Rattle.ll_top.specs.Endings.{status_of_found, name_of, RunEnds};
+ghost use Rattle.ll_top.specs.Outcome.{word_texts, name_of, ComesTo, RunComesTo, PrintComesTo, Ends, Completes};
+ghost use Rattle.ll_top.specs.Endings.{status_of_found, RunEnds};
 
 use fault::{Cause, refuse};
 use judge::Role;
@@ -118,14 +113,6 @@ pub fn lolli_plain<F: Shelf, O: Sink>(
         Ok(Command::Print(name)) => Some(serve_print(alloc, name, shelf, sink)),
         Err(number) => Some(refuse(Cause::Usage(number), sink)),
     }
-}
-
-/// Two texts and a bound ask one thing: one problem, or none.
-pub fn one_problem()
-    ensures { (program query : List ℕ) (bound : ℕ) (one other : Option ProblemTree)
-        → Asks program query bound one → Asks program query bound other → one ≡ other }
-{
-    one_reading();
 }
 
 /// Words and texts determine the status and what is written, where no read fails.

@@ -1,19 +1,19 @@
 // From the words of a run to its problem.
-ghost use Rattle.std.specs.Prelude.{◌≡◌, ◌≤◌, length, IfOk, IfErr};
+ghost use Rattle.std.specs.Prelude.{◌≡◌, ◌≤◌, ℕ, List, length, IfOk, IfErr};
 ghost use Rattle.ll_edge.specs.Counts.{Rose};
 ghost use Rattle.ll_laws.specs.Valid.{IsValid};
-ghost use Rattle.ll_top.specs.First.{IsFirst};
 ghost use Rattle.ll_top.specs.Words.{shown_words};
+ghost use Rattle.ll_top.specs.Judging.{IsPartOf, TextsAsk, IsProgramCause, IsQueryCause};
 ghost use Rattle.ll_top.specs.Outcome.{IsRead};
 ghost use Rattle.ll_top.specs.Endings.{refusal_of, IsNotRead, Judges, Prepares};
 
-use crate::judge::{Role, judge};
-use crate::reader::{ReadError, read_problem};
+use crate::judge::{Role, judge_program, judge_query};
 use crate::refusal::{Refusal, TextRefusal};
 use crate::words::RunCommand;
 use ll_edge::{ReadFault, Shelf, read_text};
 use ll_laws::Problem;
-use ll_lexer::{TextFault, one_reading};
+use ll_lexer::TextFault;
+use ll_polarity::{Loaded, ask, load};
 use std::alloc::Global;
 
 // The greatest number of bytes of a text.
@@ -32,7 +32,6 @@ pub fn prepare<F: Shelf>(
     ensures absences_kept { F.absences shelf.old ≤ F.absences shelf.new }
 
     ensures valid { IfOk result IsValid }
-    ensures first { IfOk result IsFirst }
     ensures prepares { Prepares (F.texts shelf.old) (Rose (F.absences shelf.old) (F.absences shelf.new))
         (Rose (F.faults shelf.old) (F.faults shelf.new)) (shown_words run.now) result }
 {
@@ -72,24 +71,38 @@ fn problem_of(alloc: Global, program: &[u8], query: &[u8], bound: u32) -> Result
     requires bound { bound ≤ 1000000 }
     ensures judges { Judges program.now query.now bound result }
     ensures valid { IfOk result IsValid }
-    ensures first { IfOk result IsFirst }
 {
-    let program = match judge(alloc, program, Role::Program) {
-        Ok(tokens) => tokens,
+    let loaded = match load_text(alloc, program) {
+        Ok(loaded) => loaded,
         Err(fault) => return Err(refusal(Role::Program, fault)),
     };
-    let query = match judge(alloc, query, Role::Query) {
-        Ok(tokens) => tokens,
-        Err(fault) => return Err(refusal(Role::Query, fault)),
-    };
-    match read_problem(alloc, &program, &query, bound) {
+    match ask_text(alloc, loaded, query, bound) {
         Ok(problem) => Ok(problem),
-        Err(ReadError::OutOfMemory) => Err(Refusal::OutOfMemory),
-        Err(ReadError::Unread) => {
-            one_reading();
-            unreachable!()
-        }
+        Err(fault) => Err(refusal(Role::Query, fault)),
     }
+}
+
+// The part of a problem that a program's text fixes, or the text's fault.
+fn load_text(alloc: Global, text: &[u8]) -> Result<Loaded, TextFault>
+    requires { length text.now ≤ 16777216 }
+    ensures part { IfOk result (λ loaded. IsPartOf text.now loaded) }
+    ensures cause { IfErr result (IsProgramCause text.now) }
+{
+    let program = judge_program(alloc, text)?;
+    let loaded = load(alloc, &program)?;
+    Ok(loaded)
+}
+
+// The problem that a query's text asks of a part, or the text's fault. The part is spent in every case.
+fn ask_text(alloc: Global, loaded: Loaded, text: &[u8], bound: u32) -> Result<Problem, TextFault>
+    requires text { length text.now ≤ 16777216 }
+    requires bound { bound ≤ 1000000 }
+    ensures asks { IfOk result (λ problem. (program : List ℕ) → IsPartOf program loaded → TextsAsk program text.now bound problem × IsValid problem) }
+    ensures cause { IfErr result (IsQueryCause loaded text.now) }
+{
+    let query = judge_query(alloc, text)?;
+    let problem = ask(alloc, loaded, &query, bound)?;
+    Ok(problem)
 }
 
 /// The refusal of a text that has a fault.

@@ -2,18 +2,17 @@
 ghost use Rattle.std.specs.Prelude.{◌≡◌, ◌≤◌, [], IfOk, IfErr, OnOk, OnErr};
 ghost use Rattle.std.specs.Io.KnownBytes.{append_known};
 ghost use Rattle.ll_edge.specs.Pieces.{AppendsFront};
-ghost use Rattle.ll_laws.specs.Output.{counts_text, run_text, run_status};
+ghost use Rattle.ll_laws.specs.Output.{run_text, run_status};
 ghost use Rattle.ll_laws.specs.Valid.{IsValid};
-ghost use Rattle.ll_top.specs.First.{IsFirst};
-ghost use Rattle.ll_top.specs.Running.{event_lines, counted, status_of_counts, IsRunRefusal};
+ghost use Rattle.ll_top.specs.Running.{AnswersAll, event_lines, counted, status_of_counts, IsRunRefusal};
 ghost use Rattle.ll_top.specs.Endings.{status_of_found};
 
-use crate::engine::{Engine, Progress};
-use crate::print;
 use crate::refusal::Refusal;
 use ll_bank::OutOfMemory;
 use ll_edge::{Sink, write_all};
-use ll_laws::{Counts, Event, Problem};
+use ll_engine::{Engine, Step2};
+use ll_laws::{Counts, Event, Problem, answers_are_shown};
+use ll_printer::{answer, summary};
 use std::alloc::Global;
 
 /// What a run found.
@@ -30,7 +29,6 @@ pub enum Found {
 /// Runs the problem, writes its whole text, and answers what was found. After a refusal a prefix of the text was written.
 pub fn run<O: Sink>(alloc: Global, problem: &Problem, sink: &mut O) -> Result<Found, Refusal>
     requires valid { IsValid problem.now }
-    requires first { IsFirst problem.now }
 
     ensures faults_kept { O.faults sink.old ≤ O.faults sink.new }
     ensures found { IfOk result (λ found. status_of_found found ≡ run_status problem.now) }
@@ -38,6 +36,7 @@ pub fn run<O: Sink>(alloc: Global, problem: &Problem, sink: &mut O) -> Result<Fo
     ensures refused { IfErr result (IsRunRefusal (O.faults sink.old) (O.faults sink.new)) }
     ensures prefix { OnErr result (AppendsFront (O.written sink.old) (run_text problem.now) (O.written sink.new)) }
 {
+    answers_are_shown();
     let mut engine = Engine::start(alloc, problem)?;
     let mut counts = Counts {
         answers: 0,
@@ -47,31 +46,38 @@ pub fn run<O: Sink>(alloc: Global, problem: &Problem, sink: &mut O) -> Result<Fo
     let mut lines = Vec::new(alloc);
     loop {
         match engine.step()? {
-            Progress::Moved => {}
-            Progress::Event(event) => {
-                count_event(&event, &mut counts, &mut lines)?;
+            Step2::Moved => {}
+            Step2::Event(event) => {
+                count_event(alloc, problem, &event, &mut counts, &mut lines)?;
                 write_all(sink, &lines)?;
             }
-            Progress::Done => break,
+            Step2::Done => break,
         }
     }
-    counts.inferences = engine.inferences();
+    counts.inferences = engine.cost();
     lines.clear();
-    print::summary(&counts, &mut lines)?;
+    summary(&counts, &mut lines)?;
     write_all(sink, &lines)?;
     Ok(what_was_found(&counts))
 }
 
 // Counts an event, and makes its lines. After a refusal nothing is said of either.
-fn count_event(event: &Event, counts: &mut Counts, lines: &mut Vec<u8>) -> Result<(), OutOfMemory>
+fn count_event(
+    alloc: Global,
+    problem: &Problem,
+    event: &Event,
+    counts: &mut Counts,
+    lines: &mut Vec<u8>,
+) -> Result<(), OutOfMemory>
+    requires { AnswersAll problem.now event.now }
     ensures counts { OnOk result (counts.new ≡ counted counts.old event.now) }
-    ensures lines { OnOk result (lines.new.items ≡ event_lines counts.old.answers event.now) }
+    ensures lines { OnOk result (lines.new.items ≡ event_lines problem.now counts.old.answers event.now) }
 {
     lines.clear();
     match event {
-        Event::Answer(_) => {
+        Event::Answer(branch) => {
             counts.answers = counts.answers.saturating_add(1);
-            print::answer(counts.answers, lines)?;
+            answer(alloc, problem, counts.answers, branch, lines)?;
         }
         Event::Reached => counts.reached = counts.reached.saturating_add(1),
     }

@@ -37,7 +37,7 @@ fn status_of<R: Threads + Wait + Sync>(
 const ONE: &str = "answer 1\nyes\n";
 
 // A program, a query and a bound, with the status, the lines of the answers and the last line.
-const PROBLEMS: [(&str, &str, &str, u8, &str, &str); 11] = [
+const PROBLEMS: [(&str, &str, &str, u8, &str, &str); 12] = [
     (
         "",
         "true",
@@ -125,6 +125,14 @@ const PROBLEMS: [(&str, &str, &str, u8, &str, &str); 11] = [
         0,
         ONE,
         "answers 1, bound reached 0, inferences 1\n",
+    ),
+    (
+        "p 1. p 2.",
+        "p X",
+        "9",
+        0,
+        "answer 1\nX = 1\nanswer 2\nX = 2\n",
+        "answers 2, bound reached 0, inferences 1\n",
     ),
 ];
 
@@ -306,6 +314,48 @@ fn a_bracket_too_many_is_told(rt: HostRuntime) -> Result<(), Fail> {
     Ok(())
 }
 
+// A program and a query one of which has a fault, and its line: the program is judged first.
+const FAULTY: [(&str, &str, &str); 6] = [
+    ("p , q.", "r )", "fault: prog 1:3 kind 7 not a clause\n"),
+    (
+        "p , q.\nr )",
+        "true",
+        "fault: prog 2:3 kind 4 unexpected token\n",
+    ),
+    (
+        "MODULE m.\nm --> a.",
+        "true",
+        "fault: prog 2:3 kind 8 module load in a clause\n",
+    ),
+    (
+        "MODULE m.\nLOCAL k k.",
+        "true",
+        "fault: prog 2:9 kind 12 name declared twice\n",
+    ),
+    (
+        "p.",
+        "n --> true",
+        "fault: ques 1:1 kind 10 unknown module\n",
+    ),
+    ("p.", "p )", "fault: ques 1:3 kind 4 unexpected token\n"),
+];
+
+#[test]
+fn the_first_fault_is_told(rt: HostRuntime) -> Result<(), Fail> {
+    for (program, query, line) in FAULTY {
+        let program = Vec::from_slice(rt.alloc(), program.as_bytes())?;
+        let mut shelf = shelf_of(rt.alloc(), program, query, NEVER)?;
+        let mut sink = MemSink::new(rt.alloc(), 200, Vec::new(rt.alloc()))?;
+        assert_eq!(rt;
+            status_of(&rt, rt.alloc(), "1", &mut shelf, &mut sink),
+            7,
+            "{line}"
+        );
+        assert_eq!(rt; sink.bytes(), line.as_bytes());
+    }
+    Ok(())
+}
+
 #[test]
 fn long_texts_and_names_are_told(rt: HostRuntime) -> Result<(), Fail> {
     let rows = [
@@ -355,9 +405,9 @@ const LINES: [(&[&str], &str, u64, &str, u64); 6] = [
     ),
     (
         &["run", "prog", "ques", "--bound", "1", "--workers", "1"],
-        "p :- q ; r.",
+        "p , q.",
         NEVER,
-        "fault: prog 1:8 kind 17 not built yet\n",
+        "fault: prog 1:3 kind 7 not a clause\n",
         11,
     ),
     (
@@ -440,7 +490,7 @@ fn printed(
 }
 
 // A program, the room of the sink, and the status and the text of its print.
-const PRINTED: [(&str, usize, u8, &str); 9] = [
+const PRINTED: [(&str, usize, u8, &str); 10] = [
     ("", 0, 0, ""),
     ("p X:-q X,(r;s).%c", 99, 0, "p X :- q X , (r ; s).\n"),
     ("LINEAR ((a)).", 99, 0, "LINEAR a.\n"),
@@ -464,6 +514,12 @@ const PRINTED: [(&str, usize, u8, &str); 9] = [
         99,
         7,
         "fault: prog 1:3 kind 2 number past 64 bits\n",
+    ),
+    (
+        "p :- forall x\\",
+        99,
+        7,
+        "fault: prog 1:15 kind 5 text ends early\n",
     ),
 ];
 

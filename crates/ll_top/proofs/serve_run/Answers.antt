@@ -1,6 +1,7 @@
 use Rattle.std.proofs.Common.{ap, ◌∙◌}
 use Rattle.ll_top.specs.Words.{shown_words}
-use Rattle.ll_top.specs.Endings.{cause_of, name_of}
+use Rattle.ll_top.specs.Endings.{cause_of}
+use Rattle.ll_top.specs.Outcome.{name_of}
 use Rattle.ll_top.proofs.OutcomeLemmas.{found-ends, cut-ends, memory-ends, refuses-later, refusal-ends}
 use Rattle.ll_top.proofs.PrepareLemmas.{rose-later}
 use Rattle.ll_top.proofs.serve_run.Goals as goal

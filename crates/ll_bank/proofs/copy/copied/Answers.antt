@@ -1,8 +1,7 @@
-use Rattle.std.proofs.Common.{◌≡◌, ◌<◌, ap, sym, subst, ◌∙◌, All, length}
+use Rattle.std.proofs.Common.{◌<◌, ap, sym, subst, ◌∙◌, All, length}
 use Rattle.std.specs.Prelude.{IfOk}
 use Rattle.std.specs.Ordering.{nat_cmp}
 use Rattle.std.specs.BTreeMap.{get}
-use Rattle.ll_bank.specs.declared.At.{At}
 use Rattle.ll_bank.specs.Term.{app}
 use Rattle.ll_bank.specs.Nodes.{term_tree, term_trees, ShowsTerm}
 use Rattle.ll_bank.specs.Walk.{ShowsAt}

@@ -1,7 +1,6 @@
-use Rattle.std.proofs.Common.{◌≡◌, arith, ◌<◌, length, get_or, rules}
+use Rattle.std.proofs.Common.{arith, get_or}
 use Rattle.std.specs.Ordering.{nat_cmp}
 use Rattle.std.specs.BTreeMap.{get}
-use Rattle.ll_bank.specs.declared.At.{At}
 use Rattle.ll_bank.specs.Nodes.{term_tree}
 use Rattle.ll_bank.specs.Signs.{HasNumber}
 use Rattle.ll_bank.proofs.ImageLemmas.{each_image, some_images, image_shows}

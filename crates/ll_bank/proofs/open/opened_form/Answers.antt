@@ -1,22 +1,18 @@
-use Rattle.std.proofs.Common.{◌≡◌, ap, sym, subst, ◌∙◌, refl, ◌++◌, ◌∷◌, [], map, All, arith, true≢false, length, true, false, Some, List, ℕ, ◌<◌, ◌+◌, get_or, rules}
-use Rattle.std.specs.Prelude.{IfOk, OnOk}
+use Rattle.std.proofs.Common.{◌≡◌, ap, sym, subst, ◌∙◌, refl, map, All, arith, true, ◌+◌}
+use Rattle.std.specs.Prelude.{IfOk}
 use Rattle.std.specs.BTreeMap.{get}
-use Rattle.std.proofs.lemmas.List.{append-nil}
 use Rattle.ll_bank.specs.declared.At.{At}
-use Rattle.ll_bank.specs.declared.FormAt.{FormAt}
-use Rattle.ll_bank.specs.declared.open.Task.{Task}
-use Rattle.ll_bank.specs.Term.{Term, app, apply, close, close_head, place, is_spine, applies_heads, Con}
-use Rattle.ll_bank.specs.declared.FormNode.TheVariants.{Top as TopView, One as OneView, Atom as AtomView, With as WithView, Tensor as TensorView, Plus as PlusView, Bang as BangView, Lolli as LolliView, Imp as ImpView, Forall as ForallView, Exists as ExistsView, Use as UseView}
-use Rattle.std.proofs.lemmas.Result.{on_ok_weaker, IfOk-from_err, IfOk-weaker}
+use Rattle.ll_bank.specs.Term.{close, applies_heads}
+use Rattle.ll_bank.specs.declared.FormNode.TheVariants.{Tensor as TensorView, Plus as PlusView, Bang as BangView, Lolli as LolliView, Imp as ImpView, Forall as ForallView, Exists as ExistsView, Use as UseView}
+use Rattle.std.proofs.lemmas.Result.{IfOk-weaker}
 use Rattle.std.proofs.Common.{inl, inr}
 use Rattle.std.specs.List.{list_all}
 use Rattle.std.proofs.lemmas.Bool.{and_parts}
-use Rattle.ll_bank.specs.Form.{With, Tensor, Plus, Bang, Lolli, Imp, Forall, Exists, Use, Atom, close_form, form_applies_heads}
-use Rattle.ll_bank.specs.Nodes.{term_tree, term_trees, form_tree, HasTerm, HasForm, ShowsTerm, ShowsForm, node_of, node_of_term, places, IsTermView, AllInTerms, Extends}
-use Rattle.ll_bank.specs.Opened.{by_spot, opened, visit, Spot, spot_of, term_parts, form_parts, term_parts_at, form_parts_at, ArePartsOf, IsTermGood, IsFormGood, IsTermImage, IsFormImage, AreImages, term_size_at, form_size_at, IsIn, IsKnown, ShowsImage, ShowsFormImage}
-use Rattle.ll_bank.proofs.Trees.{Extends-refl, Extends-trans, HasTerm-extends, HasForm-extends, term_tree-extends, form_tree-extends}
-use Rattle.ll_bank.proofs.Opening.{known_here, known_still, images_put, opening_pops, opening_expands, opening_ready, opening_good, opening_begins, opening_ends, no_images, work_pops, work_expands}
-use Rattle.ll_bank.proofs.OpenLemmas.{term_parts_same, form_parts_same, term_good_now, form_good_now, term_parts_first, form_parts_first, term_image_now, form_image_now, term_images_now, form_images_now, term_image_first, form_image_first, term_size-some, form_size-some, terms_more, form_part_known, shows_inner, load_heads}
+use Rattle.ll_bank.specs.Form.{With, Tensor, Plus, Bang, Lolli, Imp, Forall, Exists, Use, close_form, form_applies_heads}
+use Rattle.ll_bank.specs.Nodes.{term_tree, term_trees, form_tree, ShowsForm, AllInTerms}
+use Rattle.ll_bank.specs.Opened.{by_spot, opened, IsTermImage, AreImages}
+use Rattle.ll_bank.proofs.Trees.{Extends-refl, HasForm-extends, form_tree-extends}
+use Rattle.ll_bank.proofs.OpenLemmas.{term_images_now, form_part_known, shows_inner, load_heads}
 use Rattle.ll_bank.proofs.open.opened_form.Goals as goal
 
 pub returns-in-Top-clause-keeps : goal.returns-in-Top-clause-keeps

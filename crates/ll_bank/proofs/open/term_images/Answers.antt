@@ -1,4 +1,4 @@
-use Rattle.std.proofs.Common.{◌≡◌, ap, ◌∙◌, sym, arith, rules, List, [], ◌∷◌, ◌++◌, map, take, Some}
+use Rattle.std.proofs.Common.{ap, ◌∙◌, sym, arith, [], ◌∷◌, ◌++◌, map, Some}
 use Rattle.std.specs.Prelude.{Option}
 use Rattle.std.specs.BTreeMap.{get}
 use Rattle.std.proofs.lemmas.List.{map-append, map_more}

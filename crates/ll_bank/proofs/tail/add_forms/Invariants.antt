@@ -1,4 +1,4 @@
-use Rattle.std.proofs.Common.{◌≡◌, take}
+use Rattle.std.proofs.Common.{take}
 use Rattle.ll_bank.specs.Tail.{with_forms, Adds}
 use Rattle.ll_bank.proofs.tail.add_forms.Given as goal
 

@@ -1,4 +1,4 @@
-use Rattle.std.proofs.Common.{◌≡◌, take}
+use Rattle.std.proofs.Common.{take}
 use Rattle.ll_bank.specs.Tail.{with_terms, Adds}
 use Rattle.ll_bank.proofs.tail.add_terms.Given as goal
 

@@ -1,5 +1,4 @@
-use Rattle.std.proofs.Common.{ap, sym, subst, ◌∙◌, ◌<◌, All}
-use Rattle.ll_bank.specs.Nodes.{node_of_term}
+use Rattle.std.proofs.Common.{ap, sym, subst, ◌<◌, All}
 use Rattle.ll_bank.specs.Walk.{arguments_of}
 use Rattle.ll_bank.proofs.BankLemmas.{below_places}
 use Rattle.ll_bank.proofs.WalkLemmas.{node_seen}

@@ -1,9 +1,7 @@
-use Rattle.std.proofs.Common.{◌≡◌, ◌<◌, ap, ◌∙◌, sym, take, ◌||◌, eqb, arith, length, get_or, ℕ}
+use Rattle.std.proofs.Common.{◌<◌, ap, ◌∙◌, sym, take, ◌||◌, eqb, arith, length, get_or}
 use Rattle.std.specs.List.{list_any}
 use Rattle.std.specs.Ordering.{nat_cmp}
 use Rattle.std.specs.BTreeSet.{contains}
-use Rattle.std.proofs.lemmas.List.{map_more, length-map, take-map}
-use Rattle.ll_bank.specs.declared.At.{At}
 use Rattle.ll_bank.specs.Nodes.{places}
 use Rattle.ll_bank.proofs.WalkLemmas.{inserted, more_any, places_more}
 use Rattle.ll_bank.proofs.walk.insert_all.Goals as goal

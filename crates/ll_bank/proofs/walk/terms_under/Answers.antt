@@ -1,4 +1,4 @@
-use Rattle.std.proofs.Common.{rules, ◌≡◌, ◌≢◌, ◌<◌, ℕ, ap, ◌∙◌, sym, subst, ◌||◌, eqb, true, false, arith, length, All}
+use Rattle.std.proofs.Common.{ap, ◌∙◌, sym, subst, ◌||◌, eqb, All}
 use Rattle.std.specs.List.{list_any, Contains}
 use Rattle.std.specs.Ordering.{nat_cmp}
 use Rattle.std.specs.BTreeMap.{is_at}

@@ -1,4 +1,4 @@
-use Rattle.std.proofs.Common.{rules, refl, sym, ◌∙◌, ◌<◌, ap, subst, arith, length, get_or, ℕ}
+use Rattle.std.proofs.Common.{rules, ◌∙◌, ap, arith, length}
 use Rattle.ll_bank.specs.Nodes.{AppNode, places}
 use Rattle.ll_bank.proofs.Trees.{Extends-same}
 use Rattle.ll_bank.proofs.BankLemmas.{kept_more, term_extends, term_shown, depths_count, depth_small, below_places, build_app, depth_of_app}

@@ -1,4 +1,4 @@
-use Rattle.std.proofs.Common.{◌<◌, ap, subst, sym, ◌∙◌, arith, length, rules}
+use Rattle.std.proofs.Common.{◌<◌, ap, ◌∙◌, arith, length, rules}
 use Rattle.ll_bank.specs.Term.{term_depth}
 use Rattle.ll_bank.specs.Nodes.{term_tree}
 use Rattle.ll_bank.proofs.BankLemmas.{depths_count, depth_at}

@@ -1,7 +1,5 @@
-use Rattle.std.proofs.Common.{◌≡◌, ap, sym, ◌∙◌}
 use Rattle.std.proofs.lemmas.Bool.{eqb-true, eq-eqb}
 use Rattle.ll_bank.specs.Nodes.{term_tree}
-use Rattle.ll_bank.specs.Signs.{sign_terms}
 use Rattle.ll_bank.proofs.SignLemmas.{one_number, same_number, HasNumber-grows}
 use Rattle.ll_bank.proofs.bank.Bank.equal.Goals as goal
 

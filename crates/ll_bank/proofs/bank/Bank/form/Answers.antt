@@ -1,4 +1,4 @@
-use Rattle.std.proofs.Common.{rules, refl, sym, ◌∙◌, ap}
+use Rattle.std.proofs.Common.{◌∙◌, ap}
 use Rattle.ll_bank.specs.Nodes.{node_of}
 use Rattle.ll_bank.proofs.Trees.{Extends-same}
 use Rattle.ll_bank.proofs.BankLemmas.{kept_more_forms, form_extends, form_shown, below_parts, build_parts}

@@ -1,4 +1,4 @@
-use Rattle.std.proofs.Common.{rules, refl, sym, ◌∙◌}
+use Rattle.std.proofs.Common.{rules, refl, ◌∙◌}
 use Rattle.ll_bank.specs.Nodes.{VarNode}
 use Rattle.ll_bank.proofs.Trees.{Extends-same}
 use Rattle.ll_bank.proofs.BankLemmas.{kept_more, term_extends, term_shown}

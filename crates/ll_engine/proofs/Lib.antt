@@ -1,0 +1,27 @@
+pub mod ReadLemmas
+pub mod ReboundLemmas
+pub mod CandidateLemmas
+pub mod LeafLemmas
+pub mod OpeningLemmas
+pub mod LaterLemmas
+pub mod TakeLemmas
+pub mod StepLemmas
+pub mod WayLemmas
+pub mod SampleLemmas
+pub mod MachineLemmas
+mod Owing
+mod Forks
+mod Turns
+mod Stepping
+mod Labels
+mod Pointing
+mod Showing
+mod Fitting
+mod Rowing
+mod Settling
+mod Quantifying
+mod Starting
+mod Loading
+pub mod TakingLemmas
+pub mod UnifiedLemmas
+pub mod TakenLemmas

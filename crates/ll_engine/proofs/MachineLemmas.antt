@@ -1,0 +1,54 @@
+-- What a machine shows, by the item in front of its agenda.
+use Rattle.std.proofs.Common.{◌≡◌, List, [], ◌∷◌, map, refl, ap, subst, ◌∙◌, All}
+use Rattle.std.proofs.lemmas.List.Elements.{All-head}
+use Rattle.ll_bank.specs.declared.FormAt.{FormAt}
+use Rattle.ll_bank.specs.Nodes.{HasForm}
+use Rattle.ll_laws.specs.Attempt.{tries, agenda_tries, goal_tries}
+use Rattle.ll_laws.specs.Valid.{IsFormula, GoalSide}
+use Rattle.ll_laws.specs.Consistent.{AreGoals, allowed_in}
+use Rattle.ll_engine.specs.declared.machine.Machine.{Machine}
+use Rattle.ll_engine.specs.declared.machine.Item.{Item as KeptItem}
+use Rattle.ll_engine.specs.declared.machine.Item.TheVariants.{Goal as KeptGoal, LolliEnd as KeptLolliEnd, ImpEnd as KeptImpEnd, Mid as KeptMiddle, WithEnd as KeptWithEnd, BangEnd as KeptBangEnd}
+use Rattle.ll_engine.specs.Reading.{read_form}
+use Rattle.ll_engine.specs.Shown.{shown_item, shown_entry, items_of, state_of}
+use Rattle.ll_engine.specs.Fits.{Fits, setting, HasItem}
+
+-- the agenda of the state
+pub agenda_shown : (m : Machine) (items : List KeptItem) → items_of m ≡ items → (state_of m).agenda ≡ map (shown_item m.bank m.bound.items m.context.present.kept) items
+unfolding state_of
+agenda_shown m items e = ap (map (shown_item m.bank m.bound.items m.context.present.kept)) e
+
+-- the candidates of a machine whose agenda has these items
+tries_shown : (m : Machine) (items : List KeptItem) → items_of m ≡ items
+    → tries (state_of m) ≡ agenda_tries (map (shown_item m.bank m.bound.items m.context.present.kept) items) (map (shown_entry m.bank m.bound.items) m.context.present.entries)
+unfolding tries state_of
+tries_shown m items e = ap (λ is. agenda_tries (map (shown_item m.bank m.bound.items m.context.present.kept) is) (map (shown_entry m.bank m.bound.items) m.context.present.entries)) e
+
+pub tries_goal : (m : Machine) (g : FormAt) (rest : List KeptItem) → items_of m ≡ KeptGoal g ∷ rest
+    → tries (state_of m) ≡ goal_tries (map (shown_entry m.bank m.bound.items) m.context.present.entries) (read_form m.bank m.bound.items g)
+tries_goal m g rest e = tries_shown m (KeptGoal g ∷ rest) e
+
+pub tries_empty : (m : Machine) → items_of m ≡ [] → tries (state_of m) ≡ []
+tries_empty m e = tries_shown m [] e
+
+-- an end in front has no candidate
+pub tries_end : (m : Machine) (i : KeptItem) (rest : List KeptItem) → items_of m ≡ i ∷ rest → ((g : FormAt) → i ≡ KeptGoal g → ⊥) → tries (state_of m) ≡ []
+tries_end m i rest e not = tries_shown m (i ∷ rest) e ∙ go i not
+  where
+    go : (j : KeptItem) → ((g : FormAt) → j ≡ KeptGoal g → ⊥)
+        → agenda_tries (map (shown_item m.bank m.bound.items m.context.present.kept) (j ∷ rest)) (map (shown_entry m.bank m.bound.items) m.context.present.entries) ≡ []
+    go (KeptGoal g) n = absurd (n g refl)
+    go (KeptLolliEnd b) n = refl
+    go KeptImpEnd n = refl
+    go (KeptMiddle s) n = refl
+    go (KeptWithEnd s h) n = refl
+    go (KeptBangEnd s) n = refl
+
+-- the goal in front is one, and closed
+pub goal_in_front : (m : Machine) (g : FormAt) (rest : List KeptItem) → Fits m → items_of m ≡ KeptGoal g ∷ rest
+    → IsFormula (allowed_in (setting m) (state_of m)) GoalSide [] (read_form m.bank m.bound.items g)
+goal_in_front m g rest f e = (subst (AreGoals (allowed_in (setting m) (state_of m))) (agenda_shown m (KeptGoal g ∷ rest) e) f.consistent.goals).0
+
+-- and a place of the bank
+pub goal_inside : (m : Machine) (g : FormAt) (rest : List KeptItem) → Fits m → items_of m ≡ KeptGoal g ∷ rest → HasForm m.bank g.0
+goal_inside m g rest f e = All-head (HasItem m.bank _) (KeptGoal g) rest (subst (All (HasItem m.bank _)) e f.items)

@@ -1,0 +1,174 @@
+-- Choice points that are machines of their own.
+use Rattle.std.proofs.Common.{◌≡◌, ◌≢◌, ℕ, suc, ◌-◌, ◌<◌, refl, ap, sym, ◌∙◌, subst, Bool, true, false, List, [], ◌∷◌, ◌++◌, arith, map, reverse, length}
+use Rattle.std.proofs.lemmas.List.{reverse-append}
+use Rattle.std.proofs.lemmas.List.Elements.{All-push, All-tail, All-head, All-contains_itself, All-pop}
+use Rattle.std.proofs.Math.Dec.{eqb, eqb-suc-zero}
+use Rattle.std.specs.Prelude.{Some, None, All}
+use Rattle.std.specs.List.{Contains}
+use Rattle.ll_laws.specs.declared.Candidate.{Candidate}
+use Rattle.ll_laws.specs.State.{State}
+use Rattle.ll_laws.specs.Attempt.{tries, attempt}
+use Rattle.ll_laws.specs.Problem.{ProblemTree, setting_of, start_of}
+use Rattle.ll_engine.specs.declared.machine.Machine.{Machine}
+use Rattle.ll_engine.specs.declared.spine.Kept.{Kept}
+use Rattle.ll_engine.specs.Shown.{state_of}
+use Rattle.ll_engine.specs.Fits.{Fits, Attempts}
+use Rattle.ll_engine.specs.Calls.{IsImage, SettlesOr, SameSearch}
+use Rattle.ll_engine.specs.Seen.{Point, Spine}
+use Rattle.ll_engine.specs.Owed.{Thins, thin_end, thin_keep, put_point}
+use Rattle.ll_engine.specs.Turned.{is_empty, has_none, Settles, Gave, Chose, Expands, Retries, RetriesAt}
+use Rattle.ll_engine.specs.Pointed.{point_of, points_of, spine_at, AreTries, IsOpen, IsKept, AreKept, IsSoundAt, KeepsKept, Puts}
+use Rattle.ll_engine.proofs.Labels.{tries_distinct}
+
+newest : {A : Type 0} (xs : List A) (x : A) → reverse (xs ++ x ∷ []) ≡ x ∷ reverse xs
+newest xs x = reverse-append xs (x ∷ [])
+
+twice : {A : Type 0} (xs : List A) → reverse (reverse xs) ≡ xs
+twice [] = refl
+twice (x ∷ xs) = ap (λ ys. reverse ys) (reverse-append (x ∷ []) xs) ∙ (newest (reverse xs) x ∙ ap (λ ys. x ∷ ys) (twice xs))
+
+all_reverse : {A : Type 0} (P : A → Type 0) (xs : List A) → All P xs → All P (reverse xs)
+all_reverse P [] h = h
+all_reverse P (x ∷ xs) h =
+    subst (λ ys. All P ys) (sym (reverse-append (x ∷ []) xs)) (All-push P (reverse xs) x (all_reverse P xs (All-tail P x xs h)) (All-head P x xs h))
+
+-- the candidates of a first goal, the first one last
+pub are_tries : (m : Machine) (cs ds : List Candidate) → cs ≡ tries (state_of m) → ds ≡ reverse cs → AreTries m ds
+are_tries m cs ds e f =
+    subst (λ (xs : List Candidate). AreTries m xs) (sym f) (all_reverse (λ c. Contains (tries (state_of m)) c) cs
+    (subst (λ (xs : List Candidate). All (λ c. Contains xs c) cs) e (All-contains_itself cs)))
+
+-- a list that is not empty, by its number of elements
+pub some_left : (cs : List Candidate) (n : ℕ) (b : Bool) → b ≡ eqb n 0 → b ≡ false → n ≡ length cs → cs ≢ []
+some_left cs n b e f l = λ h.
+    let z : n ≡ 0 = l ∙ ap (λ (xs : List Candidate). length xs) h in let t : b ≡ true = e ∙ ap (λ k. eqb k 0) z in let x : true ≡ false = sym t ∙ f in cc
+
+-- one point more
+
+pub puts_none : (m : Machine) (cs : List Candidate) (ps : List Kept) → cs ≡ [] → Puts m cs ps ps
+puts_none m cs ps e = rw e refl
+
+some_last : (t : State) (n : ℕ) (x : Candidate) (us : List Candidate) (ps : List Point)
+    → put_point t n (us ++ x ∷ []) ps ≡ record { state = t; left = n; untried = us ++ x ∷ [] } ∷ ps
+some_last t n x [] ps = refl
+some_last t n x (u ∷ us) ps = refl
+
+put_some : (t : State) (n : ℕ) (cs : List Candidate) (ps : List Point) → cs ≢ []
+    → put_point t n (reverse cs) ps ≡ record { state = t; left = n; untried = reverse cs } ∷ ps
+put_some t n [] ps h = absurd (h refl)
+put_some t n (c ∷ cs) ps h =
+    let P : List Candidate → Type 0 = λ us. put_point t n us ps ≡ record { state = t; left = n; untried = us } ∷ ps in
+    subst P (sym (reverse-append (c ∷ []) cs)) (some_last t n c (reverse cs) ps)
+
+pub puts_some : (m : Machine) (ps : List Kept) (k : Kept) → IsImage m k.machine → k.untried.items ≢ [] → Puts m k.untried.items ps (ps ++ k ∷ [])
+puts_some m ps k e h =
+    let make : State → ℕ → List Point = λ t n. record { state = t; left = n; untried = reverse k.untried.items } ∷ points_of ps in
+    ap (λ qs. map point_of qs) (newest ps k)
+    ∙ (ap (λ t. make t (k.machine.left - 1)) e.state ∙ (ap (λ n. make (state_of m) (n - 1)) e.left
+    ∙ sym (put_some (state_of m) (m.left - 1) k.untried.items (points_of ps) h)))
+
+pub keeps_none : (m : Machine) (cs : List Candidate) (ps : List Kept) → KeepsKept m cs ps ps
+keeps_none m cs ps = λ p o t a. a
+
+pub keeps_some : (m : Machine) (ps : List Kept) (k : Kept) → IsImage m k.machine → KeepsKept m k.untried.items ps (ps ++ k ∷ [])
+keeps_some m ps k e = λ p o t a.
+    All-push (IsKept p) ps k a
+    (record {
+      opened = record {
+        fits = e.fits;
+        problem = e.problem ∙ o.problem;
+        goal = ap (λ s. is_empty s.agenda) e.state ∙ o.goal;
+        left = subst (λ (n : ℕ). 0 < n) (sym e.left) o.left;
+      };
+      tries = subst (λ (s : State). All (λ c. Contains (tries s) c) k.untried.items) (sym e.state) t;
+    })
+
+-- the first goal is taken apart
+
+same_points : (p : ProblemTree) (old new : Machine) (ps qs : List Kept) (points : List Point) → points_of qs ≡ points
+    → spine_at p new qs ≡ record (spine_at p old ps) { now = state_of new; left = new.left; points = points }
+same_points p old new ps qs points e =
+    let make : List Point → Spine = λ xs. record { problem = p; first = Some (start_of p); now = state_of new; left = new.left; points = xs } in ap make e
+
+pub chose_none : (p : ProblemTree) (m : Machine) (ps : List Kept) (cs : List Candidate) → cs ≡ []
+    → Chose (spine_at p m ps) (state_of m) (m.left - 1) (reverse cs) (points_of ps) false (spine_at p m ps)
+chose_none p m ps cs e = subst (λ (xs : List Candidate). Chose (spine_at p m ps) (state_of m) (m.left - 1) (reverse xs) (points_of ps) false (spine_at p m ps)) (sym e) (refl, refl)
+
+gave : (p : ProblemTree) (old new : Machine) (qs : List Kept) (c : Candidate) (ok : Bool) → old.problem.now ≡ p → Attempts old c new ok
+    → Gave (attempt (setting_of p) (state_of old) c) (old.left - 1) ok (spine_at p new qs)
+gave p old new qs c true e h =
+    (subst (λ (q : ProblemTree). attempt (setting_of q) (state_of old) c ≡ Some (state_of new)) e h.gives, let l = h.left in omega arith)
+gave p old new qs c false e h = subst (λ (q : ProblemTree). attempt (setting_of q) (state_of old) c ≡ None) e h
+
+pub chose_some : (p : ProblemTree) (old new : Machine) (ps qs : List Kept) (cs rest : List Candidate) (c : Candidate) (ok : Bool) → cs ≡ rest ++ c ∷ []
+    → old.problem.now ≡ p → Puts old rest ps qs → Attempts old c new ok
+    → Chose (spine_at p old ps) (state_of old) (old.left - 1) (reverse cs) (points_of ps) ok (spine_at p new qs)
+chose_some p old new ps qs cs rest c ok e f u h =
+    subst (λ (xs : List Candidate). Chose (spine_at p old ps) (state_of old) (old.left - 1) xs (points_of ps) ok (spine_at p new qs))
+    (sym (ap (λ xs. reverse xs) e ∙ newest rest c)) (same_points p old new ps qs _ u, gave p old new qs c ok f h)
+
+-- what stays of a search after an inference
+pub sound_after : (p : ProblemTree) (old new : Machine) (ps qs : List Kept) (cs : List Candidate) (c : Candidate) (ok : Bool) → IsOpen p old
+    → AreTries old cs → AreKept p ps → KeepsKept old cs ps qs → Attempts old c new ok → IsSoundAt ok p new qs
+sound_after p old new ps qs cs c true o t a k h = record { points = k p o t a; machine = (h.fits, h.problem ∙ o.problem) }
+sound_after p old new ps qs cs c false o t a k h = record { points = k p o t a; machine = tt }
+
+thins_itself : (beside : _) (t : State) (cs : List Candidate) → Thins beside t cs cs
+thins_itself beside t [] = thin_end
+thins_itself beside t (c ∷ cs) = thin_keep (thins_itself beside t cs)
+
+pub expands : (p : ProblemTree) (old : Machine) (ps : List Kept) (z : Spine) (cs ds : List Candidate) (ok : Bool) → Fits old → 0 < old.left
+    → cs ≡ tries (state_of old) → ds ≡ reverse cs
+    → Chose (spine_at p old ps) (state_of old) (old.left - 1) (reverse ds) (points_of ps) ok z
+    → Expands (spine_at p old ps) ok z
+expands p old ps z cs ds ok f l e1 e2 h =
+    record {
+      candidates = reverse ds;
+      left = old.left - 1;
+      left_is = omega arith;
+      thins = subst (λ (xs : List Candidate). Thins (setting_of p) (state_of old) xs (tries (state_of old))) (sym (ap (λ xs. reverse xs) e2 ∙ (twice cs ∙ e1)))
+          (thins_itself (setting_of p) (state_of old) (tries (state_of old)));
+      distinct = tries_distinct (state_of old) f.consistent.labels_differ;
+      chose = h;
+    }
+
+-- another present state, and other points, are as good before a choice
+chose_same : (p : ProblemTree) (m n : Machine) (ps qs : List Kept) (t : State) (k : ℕ) (cs : List Candidate) (points : List Point) (ok : Bool) (z : Spine)
+    → Chose (spine_at p m ps) t k cs points ok z → Chose (spine_at p n qs) t k cs points ok z
+chose_same p m n ps qs t k [] points ok z h = h
+chose_same p m n ps qs t k (c ∷ cs) points ok z h = h
+
+pub retries : (p : ProblemTree) (old new : Machine) (ps rest qs : List Kept) (k : Kept) (ok : Bool) → ps ≡ rest ++ k ∷ []
+    → Chose (spine_at p k.machine rest) (state_of k.machine) (k.machine.left - 1) (reverse k.untried.items) (points_of rest) ok (spine_at p new qs)
+    → Retries (spine_at p old ps) ok (spine_at p new qs)
+retries p old new ps rest qs k ok e h =
+    subst (λ (xs : List Point). RetriesAt (spine_at p old ps) xs ok (spine_at p new qs)) (sym (ap (λ xs. points_of xs) e ∙ ap (λ xs. map point_of xs) (newest rest k)))
+    (chose_same p k.machine old rest ps _ _ _ _ ok (spine_at p new qs) h)
+
+pub over : (ps : List Kept) (b : Bool) → b ≡ eqb (length ps) 0 → b ≡ has_none (points_of ps)
+over [] b e = e
+over (k ∷ ps) b e = e ∙ (none_of ps ∙ sym (ap (λ xs. has_none (map point_of xs)) (reverse-append (k ∷ []) ps) ∙ some (reverse ps)))
+  where
+    none_of : (ps : List Kept) → eqb (suc (length ps)) 0 ≡ false
+    none_of ps = eqb-suc-zero (length ps)
+
+    some : (qs : List Kept) → has_none (map point_of (qs ++ k ∷ [])) ≡ false
+    some [] = refl
+    some (q ∷ qs) = refl
+
+-- settling
+
+pub settles : (p : ProblemTree) (old new : Machine) (ps : List Kept) (ok : Bool) → SettlesOr old ok new → SameSearch old new
+    → Settles (spine_at p old ps) ok (spine_at p new ps)
+settles p old new ps true h s =
+    (ap (λ (n : ℕ). let z : Spine = record (spine_at p old ps) { now = state_of new; left = n } in z) s.left, h.settles)
+settles p old new ps false h s =
+    (ap (λ (n : ℕ). let z : Spine = record (spine_at p old ps) { now = state_of new; left = n } in z) s.left, h)
+
+pub settled_sound : (p : ProblemTree) (old new : Machine) (ps : List Kept) (ok : Bool) → SettlesOr old ok new → SameSearch old new → IsSoundAt true p old ps
+    → IsSoundAt ok p new ps
+settled_sound p old new ps true h s a = record { points = a.points; machine = (h.fits, s.problem ∙ a.machine.1) }
+settled_sound p old new ps false h s a = record { points = a.points; machine = tt }
+
+pub popped_tries : (p : ProblemTree) (ps qs : List Kept) (k : Kept) → ps ≡ qs ++ k ∷ [] → AreKept p ps → AreTries k.machine k.untried.items
+popped_tries p ps qs k e a = (All-pop (IsKept p) ps qs (Some k) e a).1.tries

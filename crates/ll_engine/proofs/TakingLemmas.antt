@@ -1,0 +1,453 @@
+-- A leaf taken for the atom in front of a machine's agenda.
+use Rattle.std.proofs.Common.{◌≡◌, ℕ, zero, suc, inl, inr, ◌+◌, ◌<◌, ◌≤◌, List, [], ◌∷◌, ◌++◌, length, map, All, get_or, refl, ap, sym, subst, ◌∙◌, arith, Option, Some, None, true}
+use Rattle.std.specs.Prelude.{slice_get, option_map, option_and_then, replicate, ◌&&◌}
+use Rattle.std.specs.List.{list_all}
+use Rattle.std.proofs.lemmas.Bool.{lt-ltb, ltb-true, cases_lt}
+use Rattle.std.proofs.lemmas.List.{map-append, length-append, length-replicate, length-map}
+use Rattle.std.proofs.lemmas.List.Elements.{All-append, All-tail}
+use Rattle.ll_bank.specs.declared.At.{At}
+use Rattle.ll_bank.specs.declared.FormAt.{FormAt}
+use Rattle.ll_bank.specs.Term.{sub, is_closed, eigens_below}
+use Rattle.ll_bank.specs.Form.{Form, Atom, sub_form}
+use Rattle.ll_bank.specs.Nodes.{Nodes, HasForm, AllInTerms, Extends, term_tree, term_trees, form_tree}
+use Rattle.ll_bank.proofs.Trees.{Extends-trans, HasForm-extends, form_tree-extends, AllInTerms-extends, term_trees-extends}
+use Rattle.ll_laws.specs.declared.Candidate.{Candidate}
+use Rattle.ll_laws.specs.declared.Step.TheVariants.{Clause as ClauseStep}
+use Rattle.ll_laws.specs.Leaf.{Leaf, premise_goal, ways, leaf}
+use Rattle.ll_laws.specs.Settle.{Saved, Entry, map_entry}
+use Rattle.ll_laws.specs.State.{sub_item, sub_entry}
+use Rattle.ll_laws.specs.Unify.{Solved, mgu, vars_below}
+use Rattle.ll_laws.specs.Attempt.{vars_from, entry_at, picked, instantiated, with_leaf, take_way, take_entry, attempt_agenda, attempt}
+use Rattle.ll_laws.specs.Problem.{setting_of}
+use Rattle.ll_laws.specs.Valid.{Allowed, IsFormula, IsValid, GoalSide, ClauseSide}
+use Rattle.ll_laws.specs.Consistent.{IsConsistent, allowed_in, is_made}
+use Rattle.ll_laws.proofs.SubLaws.{IsClosing, ways-sub, sub_leaf, sub_premise, sub_same, and_left}
+use Rattle.ll_laws.proofs.ConsistentTerms.{grows-refl, Fit, AllFit, Goes, Grows, fit_of_made, fit-more, fit-sub, fit-vars}
+use Rattle.ll_laws.proofs.ConsistentForms.{fits_of_formula, fits-more}
+use Rattle.ll_laws.proofs.ConsistentContexts.{formula-more}
+use Rattle.ll_laws.proofs.ConsistentLeaves.{LeafFits, leaf-fits}
+use Rattle.ll_laws.proofs.ConsistentSteps.{steps_consistent}
+use Rattle.ll_agenda.specs.declared.agenda.Top.{Top as AgendaTop}
+use Rattle.ll_resources.specs.Resources.{Resources, after_pick}
+use Rattle.ll_agenda.specs.Frames.{Frames, HasTop, items_at}
+use Rattle.ll_engine.specs.declared.machine.Machine.{Machine}
+use Rattle.ll_engine.specs.declared.machine.Item.{Item}
+use Rattle.ll_engine.specs.declared.machine.Item.TheVariants.{Goal, LolliEnd, ImpEnd, Mid, WithEnd, BangEnd}
+use Rattle.ll_engine.specs.declared.take.Unified.{Unified}
+use Rattle.ll_engine.specs.Reading.{reading, read_term, read_form, HasValue}
+use Rattle.ll_engine.specs.Shown.{shown_item, shown_entry, items_of, state_of}
+use Rattle.ll_engine.proofs.Fitting.{modules_has, modules_later}
+use Rattle.ll_engine.specs.Fits.{setting, Fits, allowed, HasItem, IsGoalIn, Infers}
+use Rattle.ll_engine.specs.Opening.{Opens}
+use Rattle.ll_engine.specs.Taking.{HasAtom, IsUnified, Unifies}
+use Rattle.ll_engine.proofs.ReadLemmas.{map_trees, reading_same, read_same}
+use Rattle.ll_engine.proofs.ReboundLemmas.{reading_past}
+use Rattle.ll_engine.proofs.MachineLemmas.{agenda_shown, goal_in_front}
+use Rattle.ll_engine.proofs.LaterLemmas.{items_later}
+use Rattle.ll_engine.proofs.StepLemmas.{atom_step, leaf_read, way_read}
+use Rattle.ll_engine.proofs.UnifiedLemmas.{length_variables}
+use Rattle.ll_engine.proofs.TakenLemmas.{made_at, found_has, entry_read, picked_all, reads_first, goals_later, picked_later, terms_taken, goals_sorted, goals_inside}
+
+-- ---- what the state of a machine says
+
+pub allowed_shown : (m : Machine) → allowed_in (setting m) (state_of m) ≡ allowed m
+unfolding state_of
+allowed_shown m = refl
+
+terms_made : (m : Machine) → Fits m → list_all (is_made (length m.levels.items) m.eigens) (map (read_term m.bank m.bound.items) m.terms.items) ≡ true
+unfolding state_of
+terms_made m f = f.consistent.terms
+
+term_count : (m : Machine) → IsConsistent (setting m) (state_of m) → length m.terms.items ≡ length m.levels.items
+unfolding state_of
+term_count m c = sym (length-map m.terms.items (read_term m.bank m.bound.items)) ∙ c.term_count
+
+-- the atom in front, as the state shows it
+atom_shown : (m : Machine) (atom : At) (rest : AgendaTop) → HasAtom m atom rest
+    → (state_of m).agenda ≡ Rattle.ll_laws.specs.Settle.Goal (Atom (read_term m.bank m.bound.items atom)) ∷ map (shown_item m.bank m.bound.items m.context.present.kept) (items_at m.agenda rest)
+atom_shown m atom rest h =
+    agenda_shown m (Goal h.goal ∷ items_at m.agenda rest) h.list
+    ∙ ap (λ g. Rattle.ll_laws.specs.Settle.Goal (sub_form (reading m.bank m.bound.items) g) ∷ map (shown_item m.bank m.bound.items m.context.present.kept) (items_at m.agenda rest)) h.tree
+
+-- an inference on it
+attempt_atom : (m : Machine) (atom : At) (rest : AgendaTop) (label k count : ℕ) (e : Entry Form) (l : Leaf) → HasAtom m atom rest
+    → entry_at (map (shown_entry m.bank m.bound.items) m.context.present.entries) label ≡ Some e → slice_get (ways e.clause) k ≡ Some count → leaf e.clause k (vars_from (length m.levels.items) count) ≡ Some l
+    → attempt (setting m) (state_of m) (record { label = label; leaf = k })
+    ≡ option_map (instantiated (with_leaf (state_of m) (map (shown_item m.bank m.bound.items m.context.present.kept) (items_at m.agenda rest)) label k count l))
+    (mgu (read_term m.bank m.bound.items atom ∷ []) (l.head ∷ []) (m.levels.items ++ replicate count m.eigens))
+unfolding state_of
+attempt_atom m atom rest label k count e l h entry way is =
+    atom_step (setting m) (state_of m) (read_term m.bank m.bound.items atom) (map (shown_item m.bank m.bound.items m.context.present.kept) (items_at m.agenda rest)) label k count e l (atom_shown m atom rest h) entry way is
+
+past : (xs : List ℕ) (k : ℕ) → length xs ≤ k → slice_get xs k ≡ None
+past [] k h = refl
+past (x ∷ xs) zero h = absurd (omega arith)
+past (x ∷ xs) (suc k) h = past xs k (omega arith)
+
+-- no entry has the label
+pub no_entry : (m : Machine) (atom : At) (rest : AgendaTop) (c : Candidate) → HasAtom m atom rest → entry_at m.context.present.entries c.label ≡ None → attempt (setting m) (state_of m) c ≡ None
+unfolding attempt state_of
+no_entry m atom rest c h none =
+    let a = read_term m.bank m.bound.items atom in
+    let behind = map (shown_item m.bank m.bound.items m.context.present.kept) (items_at m.agenda rest) in
+    ap (λ items. attempt_agenda (setting m) (state_of m) items c) (atom_shown m atom rest h)
+    ∙ ap (option_and_then (take_entry (state_of m) a behind c.label c.leaf)) (entry_read (read_form m.bank m.bound.items) m.context.present.entries c.label ∙ ap (option_map (shown_entry m.bank m.bound.items)) none)
+
+-- its clause has no such leaf
+pub no_leaf : (m : Machine) (atom : At) (rest : AgendaTop) (c : Candidate) (e : Entry FormAt) → HasAtom m atom rest → entry_at m.context.present.entries c.label ≡ Some e
+    → length (ways (form_tree m.bank e.clause.0)) ≤ c.leaf → attempt (setting m) (state_of m) c ≡ None
+unfolding attempt state_of
+no_leaf m atom rest c e h found few =
+    let a = read_term m.bank m.bound.items atom in
+    let r = reading m.bank m.bound.items in
+    let behind = map (shown_item m.bank m.bound.items m.context.present.kept) (items_at m.agenda rest) in
+    ap (λ items. attempt_agenda (setting m) (state_of m) items c) (atom_shown m atom rest h)
+    ∙ (ap (option_and_then (take_entry (state_of m) a behind c.label c.leaf)) (entry_read (read_form m.bank m.bound.items) m.context.present.entries c.label ∙ ap (option_map (shown_entry m.bank m.bound.items)) found)
+    ∙ ap (option_and_then (take_way (state_of m) a behind c.label c.leaf (shown_entry m.bank m.bound.items e))) (ap (λ (ws : List ℕ). slice_get ws c.leaf) (ways-sub r (form_tree m.bank e.clause.0)) ∙ past (ways (form_tree m.bank e.clause.0)) c.leaf few))
+
+-- ---- items as the bank grows
+
+item_more : (may more : Allowed) (old new : Nodes) (n : ℕ) → Grows may more → Extends old new → (i : Item) → HasItem old n i → IsGoalIn may old i → IsGoalIn more new i
+item_more may more old new n g e (Goal at) h s = subst (IsFormula more GoalSide []) (sym (form_tree-extends e at.0 h)) (formula-more may more GoalSide (form_tree old at.0) g s)
+item_more may more old new n g e (LolliEnd b) h s = tt
+item_more may more old new n g e ImpEnd h s = tt
+item_more may more old new n g e (Mid x) h s = tt
+item_more may more old new n g e (WithEnd x y) h s = tt
+item_more may more old new n g e (BangEnd x) h s = tt
+
+item_extends : (old new : Nodes) (n : ℕ) → Extends old new → (i : Item) → HasItem old n i → HasItem new n i
+item_extends old new n e (Goal at) h = HasForm-extends e at.0 h
+item_extends old new n e (LolliEnd b) h = h
+item_extends old new n e ImpEnd h = h
+item_extends old new n e (Mid x) h = h
+item_extends old new n e (WithEnd x y) h = h
+item_extends old new n e (BangEnd x) h = h
+
+-- ---- what a machine's variables stand for
+
+module _ (m : Machine) (f : Fits m) where
+  pub variable_count : length m.terms.items ≡ length m.levels.items
+  variable_count = length_variables m.bank m.terms.items (length m.levels.items) f.variables
+
+  made : (x : ℕ) → x < length m.levels.items → is_made (length m.levels.items) m.eigens (reading m.bank m.bound.items x) ≡ true
+  made x l =
+      made_at (length m.levels.items) m.eigens (reading m.bank m.bound.items) 0 (length m.levels.items) x
+      (ap (list_all (is_made (length m.levels.items) m.eigens)) (ap (map (sub (reading m.bank m.bound.items))) (sym f.variables) ∙ map_trees (reading m.bank m.bound.items) m.bank m.terms.items) ∙ terms_made m f) (omega arith) (omega arith)
+
+  goes : Goes (allowed m) (reading m.bank m.bound.items)
+  goes x l = fit_of_made (allowed m) (reading m.bank m.bound.items x) (made x (ltb-true x (length m.levels.items) l))
+
+  closing : IsClosing (reading m.bank m.bound.items)
+  closing x = elim (cases_lt x (length m.levels.items)) [
+    | inl l ↦ let t = reading m.bank m.bound.items x in
+        and_left (is_closed t) (vars_below (length m.levels.items) t) (and_left (is_closed t && vars_below (length m.levels.items) t) (eigens_below m.eigens t) (made x l))
+    | inr l ↦ ap is_closed (reading_past m.bank m.bound.items x (let c = f.count in omega arith))
+  ]
+
+  -- with more variables
+  abbrev pub with_more : ℕ → Allowed
+  with_more count = record { modules = (setting m).modules; variables = length m.levels.items + count; eigens = m.eigens; opens = true }
+
+  grows : (count : ℕ) → Grows (allowed m) (with_more count)
+  grows count = record { modules = refl; variables = omega arith; eigens = omega arith; opens = λ h. h }
+
+  goes_more : (count : ℕ) → Goes (with_more count) (reading m.bank m.bound.items)
+  goes_more count x l = elim (cases_lt x (length m.levels.items)) [
+    | inl s ↦ fit-more (allowed m) (with_more count) [] [] (reading m.bank m.bound.items x) (grows count) tt (goes x (lt-ltb x (length m.levels.items) s))
+    | inr s ↦ subst (Fit (with_more count) []) (sym (reading_past m.bank m.bound.items x (let c = f.count in omega arith))) l
+  ]
+
+  vars_fit : (n count all : ℕ) → n + count ≤ length m.levels.items + all → AllFit (with_more all) [] (vars_from n count)
+  vars_fit n zero all h = tt
+  vars_fit n (suc count) all h = (lt-ltb n (length m.levels.items + all) (omega arith), vars_fit (suc n) count all (omega arith))
+
+  -- the atom has no variable but those that there are
+  pub atom_below : (atom : At) (rest : AgendaTop) (count : ℕ) → HasAtom m atom rest → vars_below (length m.levels.items + count) (read_term m.bank m.bound.items atom) ≡ true
+  atom_below atom rest count h =
+      let is = subst (λ g. IsFormula (allowed_in (setting m) (state_of m)) GoalSide [] (sub_form (reading m.bank m.bound.items) g)) h.tree (goal_in_front m h.goal (items_at m.agenda rest) f h.list) in
+      let now = subst (λ may. IsFormula may GoalSide [] (Atom (read_term m.bank m.bound.items atom))) (allowed_shown m) is in
+      let fit = fits_of_formula (allowed m) GoalSide [] (Atom (read_term m.bank m.bound.items atom)) now in
+      fit-vars (with_more count) [] (read_term m.bank m.bound.items atom) (fit-more (allowed m) (with_more count) [] [] (read_term m.bank m.bound.items atom) (grows count) tt fit.1)
+
+  module _ (label : ℕ) (e : Entry FormAt) (found : entry_at m.context.present.entries label ≡ Some e) where
+    pub clause_inside : HasForm m.bank e.clause.0
+    clause_inside = found_has (λ d. HasForm m.bank d.clause.0) m.context.present.entries label e f.clauses found
+
+    pub clause_sorted : IsFormula (allowed m) ClauseSide [] (form_tree m.bank e.clause.0)
+    clause_sorted = found_has (λ d. IsFormula (allowed m) ClauseSide [] (form_tree m.bank d.clause.0)) m.context.present.entries label e f.sorted_clauses found
+
+    module _ (rest : AgendaTop) (k : ℕ) (mid : Nodes) (now : Frames Item) (terms : List At) (head : At) (top : AgendaTop) (keeps : Extends m.bank mid)
+        (o : Opens m.bank (items_at m.agenda rest) (length m.terms.items) e.clause.0 k mid now terms head top) where
+      abbrev pub opened : Leaf
+      opened = record { premises = o.premises; head = term_tree mid head.0 }
+
+      leaf_is : leaf (form_tree m.bank e.clause.0) k (vars_from (length m.levels.items) o.count) ≡ Some opened
+      leaf_is = ap (λ n. leaf (form_tree m.bank e.clause.0) k (vars_from n o.count)) (sym variable_count) ∙ o.leaf_is
+
+      leaf_sorted : LeafFits (with_more o.count) opened
+      leaf_sorted =
+          leaf-fits (with_more o.count) (form_tree m.bank e.clause.0) k (vars_from (length m.levels.items) o.count) opened
+          (fits-more (allowed m) (with_more o.count) ClauseSide [] [] (form_tree m.bank e.clause.0) (grows o.count) tt (fits_of_formula (allowed m) ClauseSide [] (form_tree m.bank e.clause.0) clause_sorted))
+          (vars_fit (length m.levels.items) o.count o.count (omega arith)) leaf_is
+
+      head_read : read_term mid m.bound.items head ≡ sub (reading m.bank m.bound.items) (term_tree mid head.0)
+      head_read = sub_same (reading mid m.bound.items) (reading m.bank m.bound.items) (reading_same m.bank mid keeps m.bound.items f.bound) (term_tree mid head.0)
+
+      -- nor has the head
+      pub head_below : vars_below (length m.levels.items + o.count) (read_term mid m.bound.items head) ≡ true
+      head_below =
+          ap (vars_below (length m.levels.items + o.count)) head_read
+          ∙ fit-vars (with_more o.count) [] (sub (reading m.bank m.bound.items) (term_tree mid head.0)) (fit-sub (with_more o.count) (reading m.bank m.bound.items) [] (term_tree mid head.0) (goes_more o.count) leaf_sorted.head.1)
+
+      -- what the inference comes to, by what unification gives
+      pub step_is : (atom : At) → HasAtom m atom rest
+          → attempt (setting m) (state_of m) (record { label = label; leaf = k })
+          ≡ option_map (instantiated (with_leaf (state_of m) (map (shown_item m.bank m.bound.items m.context.present.kept) (items_at m.agenda rest)) label k o.count (sub_leaf (reading m.bank m.bound.items) opened)))
+          (mgu (read_term m.bank m.bound.items atom ∷ []) (read_term mid m.bound.items head ∷ []) (m.levels.items ++ replicate o.count m.eigens))
+      step_is atom h =
+          let r = reading m.bank m.bound.items in
+          attempt_atom m atom rest label k o.count (shown_entry m.bank m.bound.items e) (sub_leaf r opened) h (entry_read (read_form m.bank m.bound.items) m.context.present.entries label ∙ ap (option_map (shown_entry m.bank m.bound.items)) found)
+          (way_read r (form_tree m.bank e.clause.0) k o.count o.way)
+          (leaf_read r closing (form_tree m.bank e.clause.0) k (length m.levels.items) o.count opened (λ x l. reading_past m.bank m.bound.items x (let c = f.count in omega arith)) leaf_is)
+          ∙ ap (λ t. option_map (instantiated (with_leaf (state_of m) (map (shown_item m.bank m.bound.items m.context.present.kept) (items_at m.agenda rest)) label k o.count (sub_leaf r opened)))
+          (mgu (read_term m.bank m.bound.items atom ∷ []) (t ∷ []) (m.levels.items ++ replicate o.count m.eigens))) (sym head_read)
+
+      -- a machine with all that a leaf brings, after unification found a substitution
+      pub record IsTaken (v : Solved) (new : Machine) : Type 0 where
+        pub problem : new.problem.now ≡ m.problem.now
+        pub modules : new.modules.now ≡ m.modules.now
+        pub later : Extends mid new.bank
+        pub levels : new.levels.items ≡ v.levels
+        pub count : length new.bound.items ≡ length (m.levels.items ++ replicate o.count m.eigens)
+        pub inside : All (HasValue new.bank) new.bound.items
+        pub reads : (x : ℕ) → reading new.bank new.bound.items x ≡ sub v.subst (reading mid m.bound.items x)
+        pub entries : new.context.present.entries ≡ picked label m.context.present.entries
+        pub flag : new.context.present.flag ≡ m.context.present.flag
+        pub next : new.context.present.next ≡ m.context.present.next
+        pub kept : new.context.present.kept ≡ m.context.present.kept
+        pub agenda : new.agenda ≡ now
+        pub front : new.top ≡ top
+        pub all : new.terms.items ≡ terms
+        pub eigens : new.eigens ≡ m.eigens
+        pub steps : new.steps.items ≡ m.steps.items ++ ClauseStep label k ∷ []
+        pub left : suc new.left ≡ m.left
+
+      module _ (atom : At) (h : HasAtom m atom rest) (v : Solved)
+          (unified : mgu (read_term m.bank m.bound.items atom ∷ []) (read_term mid m.bound.items head ∷ []) (m.levels.items ++ replicate o.count m.eigens) ≡ Some v) (new : Machine) (t : IsTaken v new) where
+        behind : All (HasItem m.bank (length m.context.present.kept)) (items_at m.agenda rest)
+        behind =
+            All-tail (HasItem m.bank (length m.context.present.kept)) (Goal h.goal) (items_at m.agenda rest) (subst (All (HasItem m.bank (length m.context.present.kept))) h.list f.items)
+
+        behind_sorted : All (IsGoalIn (allowed m) m.bank) (items_at m.agenda rest)
+        behind_sorted = All-tail (IsGoalIn (allowed m) m.bank) (Goal h.goal) (items_at m.agenda rest) (subst (All (IsGoalIn (allowed m) m.bank)) h.list f.sorted_goals)
+
+        items_are : items_of new ≡ map Goal o.goals ++ items_at m.agenda rest
+        items_are = (λ i. items_at (t.agenda i) (t.front i)) ∙ o.shows.list
+
+        firsts : (x : ℕ) → reading new.bank new.bound.items x ≡ sub v.subst (reading m.bank m.bound.items x)
+        firsts = reads_first m.bank mid new.bank m.bound.items new.bound.items v.subst keeps t.later f.bound t.reads
+
+        agenda_is : map (sub_item v.subst) (map (λ p. Rattle.ll_laws.specs.Settle.Goal (premise_goal p)) (map (sub_premise (reading m.bank m.bound.items)) o.premises) ++ map (shown_item m.bank m.bound.items m.context.present.kept) (items_at m.agenda rest))
+            ≡ map (shown_item new.bank new.bound.items new.context.present.kept) (items_of new)
+        agenda_is =
+            let kept = m.context.present.kept in
+            let one = goals_later m.bank mid new.bank m.bound.items new.bound.items v.subst keeps t.later f.bound t.reads o.goals o.premises kept o.goals_are.inside o.goals_are.trees in
+            let two = items_later m.bank new.bank m.bound.items new.bound.items v.subst (Extends-trans keeps t.later) firsts kept (length kept) (items_at m.agenda rest) behind in
+            map-append (sub_item v.subst) (map (λ p. Rattle.ll_laws.specs.Settle.Goal (premise_goal p)) (map (sub_premise (reading m.bank m.bound.items)) o.premises)) (map (shown_item m.bank m.bound.items kept) (items_at m.agenda rest))
+            ∙ ((λ i. sym one i ++ sym two i)
+            ∙ (sym (map-append (shown_item new.bank new.bound.items kept) (map Goal o.goals) (items_at m.agenda rest)) ∙ (λ i. map (shown_item new.bank new.bound.items (sym t.kept i)) (sym items_are i))))
+
+        context_is : map (sub_entry v.subst) (picked label (map (shown_entry m.bank m.bound.items) m.context.present.entries)) ≡ map (shown_entry new.bank new.bound.items) new.context.present.entries
+        context_is =
+            picked_later m.bank mid new.bank m.bound.items new.bound.items v.subst keeps t.later f.bound t.reads m.context.present.entries label f.clauses
+            ∙ ap (map (shown_entry new.bank new.bound.items)) (sym t.entries)
+
+        variables_are : term_trees mid terms ≡ vars_from 0 (length m.levels.items + o.count)
+        variables_are = o.variables ∙ ap (λ n. vars_from 0 (n + o.count)) variable_count
+
+        terms_are : map (sub v.subst) (map (read_term m.bank m.bound.items) m.terms.items ++ vars_from (length m.levels.items) o.count) ≡ map (read_term new.bank new.bound.items) new.terms.items
+        terms_are =
+            terms_taken m.bank mid new.bank m.bound.items new.bound.items v.subst keeps t.later f.bound t.reads m.terms.items terms (length m.levels.items) o.count (let c = f.count in omega arith) f.variables o.terms_inside variables_are
+            ∙ ap (map (read_term new.bank new.bound.items)) (sym t.all)
+
+        state_is : instantiated (with_leaf (state_of m) (map (shown_item m.bank m.bound.items m.context.present.kept) (items_at m.agenda rest)) label k o.count (sub_leaf (reading m.bank m.bound.items) opened)) v ≡ state_of new
+        unfolding state_of
+        state_is = λ i. record {
+          agenda = agenda_is i;
+          context = context_is i;
+          flag = sym t.flag i;
+          levels = sym t.levels i;
+          eigens = sym t.eigens i;
+          terms = terms_are i;
+          label = sym t.next i;
+          steps = sym t.steps i;
+        }
+
+        gives : attempt (setting m) (state_of m) (record { label = label; leaf = k }) ≡ Some (state_of new)
+        gives =
+            step_is atom h
+            ∙ (ap (option_map (instantiated (with_leaf (state_of m) (map (shown_item m.bank m.bound.items m.context.present.kept) (items_at m.agenda rest)) label k o.count (sub_leaf (reading m.bank m.bound.items) opened)))) unified
+            ∙ ap (λ s. Some s) state_is)
+
+        consistent : IsConsistent (setting new) (state_of new)
+        consistent =
+            subst (λ p. IsConsistent (setting_of p) (state_of new)) (sym t.problem)
+            (steps_consistent (length m.problem.now.names) (setting m) (state_of m) (state_of new) (record { label = label; leaf = k }) f.valid.modules f.consistent gives)
+
+        level_count : length new.levels.items ≡ length m.levels.items + o.count
+        level_count = sym (term_count new consistent) ∙ (ap (λ (ats : List At). length ats) t.all ∙ length_variables mid terms (length m.levels.items + o.count) variables_are)
+
+        may_is : allowed new ≡ with_more o.count
+        may_is = λ i. record { modules = (setting_of (t.problem i)).modules; variables = level_count i; eigens = t.eigens i; opens = true }
+
+        whole : Extends m.bank new.bank
+        whole = Extends-trans keeps t.later
+
+        clauses_are : All (λ e. HasForm new.bank e.clause.0) new.context.present.entries
+        clauses_are =
+            subst (All (λ (d : Entry FormAt). HasForm new.bank d.clause.0)) (sym t.entries)
+            (picked_all (λ g. HasForm new.bank g.0) m.context.present.entries label (λ j d l. HasForm-extends whole (get_or m.context.present.entries j d).clause.0 (f.clauses j d l)))
+
+        sorted_are : All (λ e. IsFormula (allowed new) ClauseSide [] (form_tree new.bank e.clause.0)) new.context.present.entries
+        sorted_are =
+            subst (λ may. All (λ (d : Entry FormAt). IsFormula may ClauseSide [] (form_tree new.bank d.clause.0)) new.context.present.entries) (sym may_is)
+            (subst (All (λ (d : Entry FormAt). IsFormula (with_more o.count) ClauseSide [] (form_tree new.bank d.clause.0))) (sym t.entries)
+            (picked_all (λ g. IsFormula (with_more o.count) ClauseSide [] (form_tree new.bank g.0)) m.context.present.entries label
+            (λ j d l. let g = (get_or m.context.present.entries j d).clause.0 in
+            subst (IsFormula (with_more o.count) ClauseSide []) (sym (form_tree-extends whole g (f.clauses j d l))) (formula-more (allowed m) (with_more o.count) ClauseSide (form_tree m.bank g) (grows o.count) (f.sorted_clauses j d l)))))
+
+        goals_are : All (IsGoalIn (allowed new) new.bank) (items_of new)
+        goals_are =
+            let kept = length m.context.present.kept in
+            let fresh = goals_sorted (with_more o.count) mid o.goals o.premises leaf_sorted.premises o.goals_are.trees in
+            let has = goals_inside mid kept o.goals o.goals_are.inside in
+            subst (λ may. All (IsGoalIn may new.bank) (items_of new)) (sym may_is)
+            (subst (All (IsGoalIn (with_more o.count) new.bank)) (sym items_are)
+            (All-append (IsGoalIn (with_more o.count) new.bank) (map Goal o.goals) (items_at m.agenda rest)
+            (λ j d l. item_more (with_more o.count) (with_more o.count) mid new.bank kept (grows-refl (with_more o.count)) t.later (get_or (map Goal o.goals) j d) (has j d l) (fresh j d l))
+            (λ j d l. item_more (allowed m) (with_more o.count) m.bank new.bank kept (grows o.count) whole (get_or (items_at m.agenda rest) j d) (behind j d l) (behind_sorted j d l))))
+
+        items_inside : All (HasItem new.bank (length new.context.present.kept)) (items_of new)
+        items_inside =
+            let kept = length m.context.present.kept in
+            subst (λ n. All (HasItem new.bank n) (items_of new)) (ap (λ (s : List Saved). length s) (sym t.kept))
+            (subst (All (HasItem new.bank kept)) (sym items_are)
+            (All-append (HasItem new.bank kept) (map Goal o.goals) (items_at m.agenda rest)
+            (λ j d l. item_extends mid new.bank kept t.later (get_or (map Goal o.goals) j d) (goals_inside mid kept o.goals o.goals_are.inside j d l))
+            (λ j d l. item_extends m.bank new.bank kept whole (get_or (items_at m.agenda rest) j d) (behind j d l))))
+
+        terms_inside : AllInTerms new.bank new.terms.items
+        terms_inside = subst (AllInTerms new.bank) (sym t.all) (AllInTerms-extends t.later terms o.terms_inside)
+
+        fits_new : Fits new
+        fits_new = record {
+          valid = subst IsValid (sym t.problem) f.valid;
+          consistent = consistent;
+          count = (let c = t.count in let a = length-append m.levels.items (replicate o.count m.eigens) in let b = length-replicate o.count m.eigens in let d = level_count in omega arith);
+          bound = t.inside;
+          terms = terms_inside;
+          variables = ap (term_trees new.bank) t.all ∙ (term_trees-extends t.later terms o.terms_inside ∙ (variables_are ∙ ap (vars_from 0) (sym level_count)));
+          clauses = clauses_are;
+          sorted_clauses = sorted_are;
+          sorted_goals = goals_are;
+          has_modules = rw t.modules (modules_has m.bank new.bank m.modules.now whole f.has_modules);
+          modules = rw (t.problem, t.modules) (modules_later m.bank new.bank m.modules.now whole f.has_modules ∙ f.modules);
+          top = subst (λ top. HasTop new.agenda top) (sym t.front) (subst (λ (frames : Frames Item). HasTop frames top) (sym t.agenda) o.shows.inside);
+          items = items_inside;
+          labels = (let a = t.next in let b = t.left in let c = f.labels in omega arith);
+          eigens = (let a = t.eigens in let b = t.left in let c = f.eigens in omega arith);
+        }
+
+        pub taken : Infers m (record { label = label; leaf = k }) new
+        taken = record { gives = gives; problem = t.problem; left = t.left; fits = fits_new }
+
+      -- ---- with what unification was given
+
+      pub count_is : length terms ≡ length m.terms.items + o.count
+      count_is = length_variables mid terms (length m.terms.items + o.count) o.variables
+
+      -- as many levels came as variables
+      pub levels_grown : (levels : List ℕ) (count : ℕ) → count ≡ o.count → levels ≡ m.levels.items ++ replicate count m.eigens → levels ≡ m.levels.items ++ replicate o.count m.eigens
+      levels_grown levels count same e = e ∙ ap (λ n. m.levels.items ++ replicate n m.eigens) same
+
+      pub levels_count : (levels : List ℕ) → levels ≡ m.levels.items ++ replicate o.count m.eigens → length m.terms.items + o.count ≡ length levels
+      levels_count levels e =
+          let a = ap (λ (xs : List ℕ). length xs) e in
+          let b = length-append m.levels.items (replicate o.count m.eigens) in
+          let d = length-replicate o.count m.eigens in
+          let n = variable_count in omega arith
+
+      module _ (atom : At) (h : HasAtom m atom rest) (end : Nodes) (bound : List (Option At)) (levels : List ℕ) (bound_is : bound ≡ m.bound.items) (levels_is : levels ≡ m.levels.items ++ replicate o.count m.eigens) where
+        abbrev pub Finds : Option Unified → Type 0
+        Finds u = Unifies mid end bound levels (mgu (read_term mid bound atom ∷ []) (read_term mid bound head ∷ []) levels) u
+
+        same_problem : mgu (read_term m.bank m.bound.items atom ∷ []) (read_term mid m.bound.items head ∷ []) (m.levels.items ++ replicate o.count m.eigens) ≡ mgu (read_term mid bound atom ∷ []) (read_term mid bound head ∷ []) levels
+        same_problem =
+            (λ i. mgu (sym (read_same m.bank mid keeps m.bound.items f.bound atom.0 h.inside) i ∷ []) (read_term mid m.bound.items head ∷ []) (m.levels.items ++ replicate o.count m.eigens))
+            ∙ (λ i. mgu (read_term mid (sym bound_is i) atom ∷ []) (read_term mid (sym bound_is i) head ∷ []) (sym levels_is i))
+
+        pub atom_fits : vars_below (length levels) (read_term mid bound atom) ≡ true
+        atom_fits =
+            (λ i. vars_below (length (levels_is i)) (read_term mid (bound_is i) atom))
+            ∙ ((λ i. vars_below (sized i) (read_same m.bank mid keeps m.bound.items f.bound atom.0 h.inside i)) ∙ atom_below atom rest o.count h)
+          where
+            sized : length (m.levels.items ++ replicate o.count m.eigens) ≡ length m.levels.items + o.count
+            sized = let a = length-append m.levels.items (replicate o.count m.eigens) in let b = length-replicate o.count m.eigens in omega arith
+
+        pub head_fits : vars_below (length levels) (read_term mid bound head) ≡ true
+        head_fits = (λ i. vars_below (length (levels_is i)) (read_term mid (bound_is i) head)) ∙ ((λ i. vars_below (sized i) (read_term mid m.bound.items head)) ∙ head_below)
+          where
+            sized : length (m.levels.items ++ replicate o.count m.eigens) ≡ length m.levels.items + o.count
+            sized = let a = length-append m.levels.items (replicate o.count m.eigens) in let b = length-replicate o.count m.eigens in omega arith
+
+        pub none_taken : Finds None → attempt (setting m) (state_of m) (record { label = label; leaf = k }) ≡ None
+        none_taken w =
+            step_is atom h
+            ∙ ap (option_map (instantiated (with_leaf (state_of m) (map (shown_item m.bank m.bound.items m.context.present.kept) (items_at m.agenda rest)) label k o.count (sub_leaf (reading m.bank m.bound.items) opened)))) (same_problem ∙ go (mgu (read_term mid bound atom ∷ []) (read_term mid bound head ∷ []) levels) w)
+          where
+            go : (s : Option Solved) → Unifies mid end bound levels s None → s ≡ None
+            go None x = refl
+            go (Some v) x = absurd x
+
+        -- a machine with all that a leaf and unification bring
+        pub record IsMoved (u : Unified) (new : Machine) : Type 0 where
+          pub problem : new.problem.now ≡ m.problem.now
+          pub modules : new.modules.now ≡ m.modules.now
+          pub bank : new.bank ≡ end
+          pub bound_new : new.bound.items ≡ u.bound.items
+          pub levels_new : new.levels.items ≡ u.levels.items
+          pub context : new.context.present ≡ after_pick label m.context.present
+          pub agenda : new.agenda ≡ now
+          pub top_new : new.top ≡ top
+          pub terms_new : new.terms.items ≡ terms
+          pub eigens : new.eigens ≡ m.eigens
+          pub steps : new.steps.items ≡ m.steps.items ++ ClauseStep label k ∷ []
+          pub left : suc new.left ≡ m.left
+
+        moved : (u : Unified) (new : Machine) (v : Solved) → Extends mid end → IsMoved u new → IsUnified mid end bound levels v u → IsTaken v new
+        moved u new v e t w = record {
+          problem = t.problem;
+          modules = t.modules;
+          later = subst (Extends mid) (sym t.bank) e;
+          levels = t.levels_new ∙ w.levels_are;
+          count = ap (λ (xs : List (Option At)). length xs) t.bound_new ∙ (w.count ∙ ap (λ (xs : List ℕ). length xs) levels_is);
+          inside = subst (All (HasValue new.bank)) (sym t.bound_new) (subst (λ bank. All (HasValue bank) u.bound.items) (sym t.bank) w.inside);
+          reads = λ x. (λ i. reading (t.bank i) (t.bound_new i) x) ∙ (w.reads x ∙ ap (λ xs. sub v.subst (reading mid xs x)) bound_is);
+          entries = ap (λ (r : Resources FormAt). r.entries) t.context;
+          flag = ap (λ (r : Resources FormAt). r.flag) t.context;
+          next = ap (λ (r : Resources FormAt). r.next) t.context;
+          kept = ap (λ (r : Resources FormAt). r.kept) t.context;
+          agenda = t.agenda;
+          front = t.top_new;
+          all = t.terms_new;
+          eigens = t.eigens;
+          steps = t.steps;
+          left = t.left;
+        }
+
+        pub some_taken : (u : Unified) (new : Machine) → Extends mid end → IsMoved u new → Finds (Some u) → Infers m (record { label = label; leaf = k }) new
+        some_taken u new e t w = go (mgu (read_term mid bound atom ∷ []) (read_term mid bound head ∷ []) levels) refl w
+          where
+            go : (s : Option Solved) → mgu (read_term mid bound atom ∷ []) (read_term mid bound head ∷ []) levels ≡ s → Unifies mid end bound levels s (Some u) → Infers m (record { label = label; leaf = k }) new
+            go None p x = absurd x
+            go (Some v) p x = taken atom h v (same_problem ∙ p) new (moved u new v e t x)

@@ -1,0 +1,8 @@
+use Rattle.ll_laws.specs.Problem.{start_of}
+use Rattle.ll_engine.specs.Pointed.{spine_of}
+use Rattle.ll_engine.proofs.Stepping.{healthy_start}
+use Rattle.ll_engine.proofs.engine.Engine.start.Goals as goal
+
+pub invariant_of-result : goal.invariant_of-result
+invariant_of-result c =
+    λ _. (c.in_ok-spine.ensures.sound, healthy_start (spine_of c.in_ok-spine.spine) c.args.problem.now (start_of c.args.problem.now) c.in_ok-spine.ensures.start)

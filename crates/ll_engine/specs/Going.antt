@@ -1,0 +1,73 @@
+-- Settling a machine, one end after the other: goals and clauses stay places, and settling looks at neither.
+use Rattle.std.specs.Prelude.{◌≡◌, ◌<◌, true, List, [], map, length, All, Option, Some, None}
+use Rattle.ll_bank.specs.declared.At.{At}
+use Rattle.ll_bank.specs.declared.FormAt.{FormAt}
+use Rattle.ll_bank.specs.Nodes.{Nodes, HasForm, form_tree}
+use Rattle.ll_laws.specs.Settle.{Saved, Item as ItemOf, Goal as GoalOf, LolliEnd as EndOfLolli, ImpEnd as EndOfImp, WithMiddle as Middle, WithEnd as EndOfWith, BangEnd as EndOfBang, Front, settle_front}
+use Rattle.ll_laws.specs.Consistent.{ends_fit}
+use Rattle.ll_laws.specs.Valid.{IsFormula, ClauseSide}
+use Rattle.ll_agenda.specs.Frames.{HasTop}
+use Rattle.ll_resources.specs.Resources.{Resources, saved_at}
+use Rattle.ll_engine.specs.declared.machine.Machine.{Machine}
+use Rattle.ll_engine.specs.declared.machine.Item.{Item}
+use Rattle.ll_engine.specs.declared.machine.Item.TheVariants.{Goal, LolliEnd, ImpEnd, Mid, WithEnd, BangEnd}
+use Rattle.ll_engine.specs.declared.settle.Worked.{Worked}
+use Rattle.ll_engine.specs.declared.settle.Worked.TheVariants.{Off, Settled, Failed}
+use Rattle.ll_engine.specs.Shown.{shown_item, shown_entry, items_of}
+use Rattle.ll_engine.specs.Fits.{HasItem, allowed, IsGoalIn}
+use Rattle.ll_engine.specs.Calls.{SameSearch}
+
+-- an item over what was kept, with its goal as a place
+abbrev pub raw_item : List Saved → Item → ItemOf FormAt
+raw_item kept (Goal g) = GoalOf g
+raw_item kept (LolliEnd b) = EndOfLolli b
+raw_item kept ImpEnd = EndOfImp
+raw_item kept (Mid s) = Middle (saved_at kept s)
+raw_item kept (WithEnd s h) = EndOfWith (saved_at kept s) (saved_at kept h)
+raw_item kept (BangEnd s) = EndOfBang (saved_at kept s)
+
+-- what settling makes of an agenda and a context, with goals and clauses as places
+abbrev pub front_raw : Resources FormAt → List Item → Option (Front FormAt FormAt)
+front_raw r xs = settle_front (map (raw_item r.kept) xs) r.entries r.flag
+
+-- the ends of these items belong to the entries
+abbrev pub EndsFit : Nodes → List (Option At) → Resources FormAt → List Item → Type 0
+EndsFit bank bound r xs = ends_fit (map (shown_item bank bound r.kept) xs) (map (shown_entry bank bound) r.entries) ≡ true
+
+-- the later machine has the problem and the terms of the earlier one
+pub record SameTerms (old new : Machine) : Type 0 where
+  pub problem : new.problem.now ≡ old.problem.now
+  pub modules : new.modules.now ≡ old.modules.now
+  pub bank : new.bank ≡ old.bank
+  pub bound : new.bound.items ≡ old.bound.items
+  pub levels : new.levels.items ≡ old.levels.items
+  pub terms : new.terms.items ≡ old.terms.items
+
+-- the later machine is the earlier one with some ends worked off
+pub record Reaches (o m : Machine) : Type 0 where
+  pub same : SameTerms o m
+  pub eigens : m.eigens ≡ o.eigens
+  pub left : m.left ≡ o.left
+  pub steps : m.steps.items ≡ o.steps.items
+  pub next : m.context.present.next ≡ o.context.present.next
+  pub raw : front_raw m.context.present (items_of m) ≡ front_raw o.context.present (items_of o)
+  pub top : HasTop m.agenda m.top
+  pub items : All (HasItem o.bank (length m.context.present.kept)) (items_of m)
+  pub clauses : All (λ e. HasForm o.bank e.clause.0) m.context.present.entries
+  pub sorted_clauses : All (λ e. IsFormula (allowed o) ClauseSide [] (form_tree o.bank e.clause.0)) m.context.present.entries
+  pub sorted_goals : All (IsGoalIn (allowed o) o.bank) (items_of m)
+
+-- and the ends that are left belong to its entries
+pub record Going (o m : Machine) : Type 0 where
+  pub reached : Reaches o m
+  pub ends : EndsFit o.bank o.bound.items m.context.present (items_of m)
+
+-- no end is in front
+abbrev pub IsDone : Machine → Type 0
+IsDone m = front_raw m.context.present (items_of m) ≡ Some (record { agenda = map (raw_item m.context.present.kept) (items_of m); context = m.context.present.entries; flag = m.context.present.flag })
+
+-- what working off the item in front came to
+abbrev pub Works : Machine → Worked → Machine → Type 0
+Works old Off new = Going old new × (length (items_of new) < length (items_of old))
+Works old Settled new = Reaches old new × IsDone new
+Works old Failed new = (front_raw old.context.present (items_of old) ≡ None) × SameSearch old new

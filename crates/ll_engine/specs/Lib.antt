@@ -1,0 +1,17 @@
+pub mod Reading
+pub mod Shown
+pub mod Fits
+pub mod Leaves
+pub mod Seen
+pub mod Owed
+pub mod Healthy
+pub mod Turned
+pub mod Calls
+pub mod Rows
+pub mod Going
+pub mod Pointed
+pub mod Moves
+pub mod Steps
+pub mod Codes
+pub mod Opening
+pub mod Taking

@@ -1,0 +1,59 @@
+-- A leaf of a clause, opened with new variables, as its premises come onto an agenda.
+use Rattle.std.specs.Prelude.{◌≡◌, ℕ, ◌+◌, ◌-◌, ◌<◌, ◌≤◌, List, [], ◌++◌, length, map, All, slice_get, Some}
+use Rattle.ll_bank.specs.declared.At.{At}
+use Rattle.ll_bank.specs.declared.FormAt.{FormAt}
+use Rattle.ll_bank.specs.Form.{Form}
+use Rattle.ll_bank.specs.Nodes.{Nodes, HasTerm, HasForm, AllInTerms, Extends, term_tree, term_trees, form_tree}
+use Rattle.ll_laws.specs.Leaf.{Leaf, Premise, premise_goal, ways, leaf}
+use Rattle.ll_laws.specs.Attempt.{vars_from}
+use Rattle.ll_laws.specs.Valid.{Allowed, IsFormula, ClauseSide}
+use Rattle.ll_agenda.specs.declared.agenda.Top.{Top}
+use Rattle.ll_agenda.specs.Frames.{Frames, ShowsItems}
+use Rattle.ll_engine.specs.declared.open.Side.{Side}
+use Rattle.ll_engine.specs.declared.machine.Item.{Item}
+use Rattle.ll_engine.specs.declared.machine.Item.TheVariants.{Goal}
+
+-- the formula is a clause, closed and well sorted
+abbrev pub IsClause : Form → Type 0
+IsClause f = (may : Allowed) × IsFormula may ClauseSide [] f
+
+-- the places show the goals by which the premises are proved
+pub record AreGoalsOf (bank : Nodes) (goals : List FormAt) (premises : List Premise) : Type 0 where
+  pub inside : All (λ g. HasForm bank g.0) goals
+  pub trees : map (λ g. form_tree bank g.0) goals ≡ map premise_goal premises
+
+-- What is left of a clause on the way to one of its leaves: a clause with a leaf, whose premises are those nearest the head. The
+-- others are on the agenda in front of the items that were there, and the variables made so far are behind those that there were.
+pub record IsOnWay (first : Nodes) (items : List Item) (before clause k : ℕ) (bank : Nodes) (now : Frames Item) (terms : List At) (form at : ℕ) (top : Top) : Type 0 where
+  pub keeps : Extends first bank
+  pub inside : HasForm bank form
+  pub is : IsClause (form_tree bank form)
+  pub among : at < length (ways (form_tree bank form))
+  pub premises : List Premise
+  pub goals : List FormAt
+  pub shows : ShowsItems now top (map Goal goals ++ items)
+  pub goals_are : AreGoalsOf bank goals premises
+  pub count : ℕ
+  pub terms_inside : AllInTerms bank terms
+  pub variables : term_trees bank terms ≡ vars_from 0 (before + count)
+  pub way : (n : ℕ) → slice_get (ways (form_tree bank form)) at ≡ Some n → slice_get (ways (form_tree first clause)) k ≡ Some (count + n)
+  pub leaf_is : (n : ℕ) (l : Leaf) → leaf (form_tree bank form) at (vars_from (before + count) n) ≡ Some l
+      → leaf (form_tree first clause) k (vars_from before (count + n)) ≡ Some (record { premises = l.premises ++ premises; head = l.head })
+
+-- the leaf is open: its premises are on the agenda, the nearest to the head in front, its head is at a place, and it has its variables
+pub record Opens (first : Nodes) (items : List Item) (before clause k : ℕ) (bank : Nodes) (now : Frames Item) (terms : List At) (head : At) (top : Top) : Type 0 where
+  pub premises : List Premise
+  pub goals : List FormAt
+  pub shows : ShowsItems now top (map Goal goals ++ items)
+  pub goals_are : AreGoalsOf bank goals premises
+  pub count : ℕ
+  pub terms_inside : AllInTerms bank terms
+  pub variables : term_trees bank terms ≡ vars_from 0 (before + count)
+  pub way : slice_get (ways (form_tree first clause)) k ≡ Some count
+  pub inside : HasTerm bank head.0
+  pub leaf_is : leaf (form_tree first clause) k (vars_from before count) ≡ Some (record { premises = premises; head = term_tree bank head.0 })
+
+-- the side on which a leaf is, given the ways of the left one, and its number there
+abbrev pub IsSide : List ℕ → FormAt → FormAt → ℕ → Side → Type 0
+IsSide lefts left right k side =
+    (k < length lefts → (side.form ≡ left) × (side.leaf ≡ k)) × (length lefts ≤ k → (side.form ≡ right) × (side.leaf ≡ k - length lefts))

@@ -1,0 +1,66 @@
+-- What inferences that take no leaf make of a machine.
+use Rattle.std.specs.Prelude.{◌≡◌, suc, List, [], ◌∷◌, ◌++◌, length, None}
+use Rattle.ll_bank.specs.declared.At.{At}
+use Rattle.ll_bank.specs.declared.FormAt.{FormAt}
+use Rattle.ll_bank.specs.declared.Head.TheVariants.{Eigen}
+use Rattle.ll_bank.specs.Term.{Var, Con}
+use Rattle.ll_bank.specs.Form.{Form, instantiate}
+use Rattle.ll_bank.specs.Nodes.{term_trees, form_tree, ShowsTerm, ShowsForm, Extends}
+use Rattle.ll_laws.specs.declared.Module.{Module}
+use Rattle.ll_laws.specs.Module.{unfold_load}
+use Rattle.ll_laws.specs.Shown.{module_tree}
+use Rattle.ll_agenda.specs.Frames.{HasTop}
+use Rattle.ll_laws.specs.declared.Step.{Step}
+use Rattle.ll_laws.specs.declared.Step.TheVariants.{Plain}
+use Rattle.ll_engine.specs.declared.machine.Machine.{Machine}
+use Rattle.ll_engine.specs.declared.machine.Item.{Item}
+use Rattle.ll_engine.specs.declared.machine.Item.TheVariants.{Goal}
+use Rattle.ll_engine.specs.Shown.{items_of}
+
+-- the later machine is the earlier one with these items in front of the rest, after one step more
+pub record GoesOn (old : Machine) (front rest : List Item) (step : Step) (new : Machine) : Type 0 where
+  pub same : new ≡ record old { agenda = new.agenda; top = new.top; left = new.left; steps = new.steps }
+  pub top : HasTop new.agenda new.top
+  pub items : items_of new ≡ front ++ rest
+  pub steps : new.steps.items ≡ old.steps.items ++ step ∷ []
+  pub left : suc new.left ≡ old.left
+
+-- the later machine is the earlier one with a place that shows this formula as the goal in front of the rest, after one step more; its
+-- bank has more places
+pub record PutsInFront (old : Machine) (f : Form) (rest : List Item) (new : Machine) : Type 0 where
+  pub problem : new.problem.now ≡ old.problem.now
+  pub modules : new.modules.now ≡ old.modules.now
+  pub context : new.context ≡ old.context
+  pub bank : Extends old.bank new.bank
+  pub goal : FormAt
+  pub shows : ShowsForm new.bank goal.0 f
+  pub top : HasTop new.agenda new.top
+  pub items : items_of new ≡ Goal goal ∷ rest
+  pub steps : new.steps.items ≡ old.steps.items ++ Plain ∷ []
+  pub left : suc new.left ≡ old.left
+
+-- the body of a `forall`, with the next eigenconstant in place of its bound place, is the goal in front
+pub record OpensForall (old : Machine) (body : FormAt) (rest : List Item) (new : Machine) : Type 0 where
+  pub opens : PutsInFront old (instantiate (form_tree old.bank body.0) (Con (Eigen old.eigens))) rest new
+  pub bound : new.bound.items ≡ old.bound.items
+  pub levels : new.levels.items ≡ old.levels.items
+  pub terms : new.terms.items ≡ old.terms.items
+  pub eigens : new.eigens ≡ suc old.eigens
+
+-- the body of an `exists`, with the next variable in place of its bound place, is the goal in front
+pub record OpensExists (old : Machine) (body : FormAt) (rest : List Item) (new : Machine) : Type 0 where
+  pub opens : PutsInFront old (instantiate (form_tree old.bank body.0) (Var (length old.levels.items))) rest new
+  pub bound : new.bound.items ≡ old.bound.items ++ None ∷ []
+  pub levels : new.levels.items ≡ old.levels.items ++ old.eigens ∷ []
+  pub value : At
+  pub shows : ShowsTerm new.bank value.0 (Var (length old.levels.items))
+  pub terms : new.terms.items ≡ old.terms.items ++ value ∷ []
+  pub eigens : new.eigens ≡ old.eigens
+
+-- the goal that a load of this module with these arguments stands for is the goal in front
+pub record Loads (old : Machine) (d : Module) (args : List At) (body : FormAt) (rest : List Item) (new : Machine) : Type 0 where
+  pub opens : PutsInFront old (unfold_load (module_tree old.bank d) (term_trees old.bank args) (form_tree old.bank body.0)) rest new
+  pub bound : new.bound.items ≡ old.bound.items
+  pub levels : new.levels.items ≡ old.levels.items
+  pub terms : new.terms.items ≡ old.terms.items
+  pub eigens : new.eigens ≡ old.eigens

@@ -1,0 +1,170 @@
+//! Engines, and one turn of an engine.
+ghost use Rattle.std.specs.Prelude.{◌≡◌, true, false, IfOk, OnErr, IsErr};
+ghost use Rattle.ll_laws.specs.Valid.{IsValid};
+ghost use Rattle.ll_engine.specs.Pointed.{spine_of, IsSound};
+ghost use Rattle.ll_engine.specs.Turned.{Turned, has_none};
+ghost use Rattle.ll_engine.specs.Moves.{found_of, made_of, running_of};
+ghost use Rattle.ll_engine.specs.Steps.{Steps, fresh};
+
+use crate::spine::Spine;
+use ll_bank::OutOfMemory;
+use ll_laws::{Event, Problem};
+use std::alloc::{AllocError, Global};
+use std::marker::Model;
+
+/// What one step of an engine did.
+#[derive(Drop)]
+pub enum Step2 {
+    /// It went on, with no event.
+    Moved,
+    /// It came to the next event.
+    Event(Event),
+    /// Nothing is left.
+    Done,
+}
+
+// What one turn gave, and whether a state is to be searched next.
+#[derive(Drop)]
+enum Move {
+    // No inference was made, or one that was counted already: that of a goal whose further candidate was tried.
+    Quiet { running: bool },
+    // One inference was made.
+    Inferred { running: bool },
+    // An event was found, and the branch ends.
+    Gives(Event),
+}
+
+// A turn with a state that is to be searched.
+fn search(spine: &mut Spine<'_>) -> Result<Move, OutOfMemory>
+    requires sound { IsSound true spine.old }
+    ensures sound { IfOk result (λ m. IsSound (running_of m) spine.new) }
+    ensures turned { IfOk result (λ m. Turned (spine_of spine.old) true (found_of m) (made_of m) (spine_of spine.new) (running_of m)) }
+{
+    if !spine.settle()? {
+        return Ok(Move::Quiet { running: false });
+    }
+    if spine.is_empty() {
+        if spine.answers() {
+            let branch = spine.branch()?;
+            return Ok(Move::Gives(Event::Answer(branch)));
+        }
+        return Ok(Move::Quiet { running: false });
+    }
+    if spine.left() == 0 {
+        return Ok(Move::Gives(Event::Reached));
+    }
+    let running = spine.expand()?;
+    Ok(Move::Inferred { running })
+}
+
+// A turn with the newest choice point.
+fn go_back(spine: &mut Spine<'_>) -> Result<Move, OutOfMemory>
+    requires sound { IsSound false spine.old }
+    requires points { has_none (spine_of spine.old).points ≡ false }
+    ensures sound { IfOk result (λ m. IsSound (running_of m) spine.new) }
+    ensures turned { IfOk result (λ m. Turned (spine_of spine.old) false (found_of m) (made_of m) (spine_of spine.new) (running_of m)) }
+{
+    let running = spine.retry()?;
+    Ok(Move::Quiet { running })
+}
+
+// A turn with the state that is to be searched, if there is one, and otherwise with the newest choice point.
+fn turn(spine: &mut Spine<'_>, running: bool) -> Result<Move, OutOfMemory>
+    requires sound { IsSound running spine.old }
+    requires points { running ≡ false → has_none (spine_of spine.old).points ≡ false }
+    ensures sound { IfOk result (λ m. IsSound (running_of m) spine.new) }
+    ensures turned { IfOk result (λ m. Turned (spine_of spine.old) running (found_of m) (made_of m) (spine_of spine.new) (running_of m)) }
+{
+    if running {
+        search(spine)
+    } else {
+        go_back(spine)
+    }
+}
+
+/// A depth-first engine. Contracts see it as its problem, the events and the inferences that it still owes, the number of its
+/// choice points with a candidate that was not tried, the state in which it began, and how far it is from its end.
+#[derive(Drop)]
+pub struct Engine<'p> {
+    spine: Spine<'p>,
+    // The state of the spine is still to be searched.
+    running: bool,
+    made: u64,
+    spent: bool,
+}
+
+impl<'p> Model for Engine<'p> {
+    ghost use Rattle.std.specs.Prelude.{◌≡◌, false};
+    ghost use Rattle.ll_engine.specs.Seen.{Owing};
+    ghost use Rattle.ll_engine.specs.Codes.{owing_code};
+    ghost use Rattle.ll_engine.specs.Owed.{owing};
+    ghost use Rattle.ll_engine.specs.Healthy.{Healthy};
+    ghost use Rattle.ll_engine.specs.Pointed.{spine_of, IsSound};
+
+    ghost Value = { Owing };
+
+    ghost coded = { owing_code };
+
+    ghost view = { λ e. owing (spine_of e.spine) e.running e.made 0 e.spent };
+
+    ghost invariant = { λ e. e.spent ≡ false → (IsSound e.running e.spine × Healthy 0 e.running (spine_of e.spine)) };
+}
+
+impl<'p> Engine<'p> {
+    /// An engine that owes the whole search of a valid problem.
+    pub fn start(alloc: Global, problem: &'p Problem) -> Result<Engine<'p>, OutOfMemory>
+        requires valid { IsValid problem.now }
+        ensures { IfOk result (λ e. e ≡ fresh problem.entry.now) }
+    {
+        let spine = Spine::start(alloc, problem)?;
+        Ok(Engine {
+            spine,
+            running: true,
+            made: 0,
+            spent: false,
+        })
+    }
+
+    /// Goes on by one step. After a refusal the engine is spent: every later step is refused too.
+    ///
+    /// Each step but `Done` lessens the work that is left. After an answer at least as many choice points have an untried
+    /// candidate as the way to it has forks.
+    pub fn step(&mut self) -> Result<Step2, OutOfMemory>
+        ensures spent { self.old.spent ≡ true → IsErr result }
+        ensures refused { OnErr result (self.new.spent ≡ true) }
+        ensures step { IfOk result (λ s. Steps self.old s self.new) }
+    {
+        if self.spent {
+            return Err(AllocError);
+        }
+        let made = self.made;
+        if !self.running && self.spine.is_over() {
+            return Ok(Step2::Done);
+        }
+        self.spent = true;
+        let went = turn(&mut self.spine, self.running)?;
+        self.spent = false;
+        match went {
+            Move::Quiet { running } => {
+                self.running = running;
+                Ok(Step2::Moved)
+            }
+            Move::Inferred { running } => {
+                self.running = running;
+                self.made = made.saturating_add(1);
+                Ok(Step2::Moved)
+            }
+            Move::Gives(event) => {
+                self.running = false;
+                Ok(Step2::Event(event))
+            }
+        }
+    }
+
+    /// The number of inferences made so far, cut at the greatest `u64`.
+    pub fn cost(&self) -> u64
+        ensures { result ≡ self.now.made }
+    {
+        self.made
+    }
+}

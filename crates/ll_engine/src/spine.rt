@@ -1,0 +1,163 @@
+//! A machine with its choice points, which are machines of their own.
+ghost use Rattle.std.specs.Prelude.{◌≡◌, ◌<◌, true, false, IfOk};
+ghost use Rattle.ll_laws.specs.Valid.{IsValid};
+ghost use Rattle.ll_laws.specs.Problem.{start_of};
+ghost use Rattle.ll_engine.specs.Shown.{state_of};
+ghost use Rattle.ll_engine.specs.Fits.{Fits};
+ghost use Rattle.ll_engine.specs.Pointed.{spine_of, IsSound, IsOpen, AreKept, AreTries, Puts, KeepsKept, ChoseOf};
+ghost use Rattle.ll_engine.specs.Turned.{has_none, is_empty, answers, starting, Settles, Expands, Retries};
+
+use crate::machine::Machine;
+use ll_bank::OutOfMemory;
+use ll_laws::{Branch, Candidate, Problem};
+use std::alloc::Global;
+
+/// A choice point: a settled machine with a goal in front, and the candidates not tried yet, the first one last.
+#[derive(Drop)]
+pub struct Kept<'p> {
+    pub machine: Machine<'p>,
+    pub untried: Vec<Candidate>,
+}
+
+/// A machine with its choice points. `spine_of` is what it is seen as. After a refusal nothing is said of it.
+#[derive(Drop)]
+pub struct Spine<'p> {
+    pub alloc: Global,
+    pub problem: &'p Problem,
+    pub machine: Machine<'p>,
+    /// The newest one last.
+    pub points: Vec<Kept<'p>>,
+}
+
+impl<'p> Spine<'p> {
+    /// The start of a valid problem's search.
+    pub fn start(alloc: Global, problem: &'p Problem) -> Result<Spine<'p>, OutOfMemory>
+        requires valid { IsValid problem.now }
+        ensures sound { IfOk result (λ z. IsSound true z) }
+        ensures start { IfOk result (λ z. spine_of z ≡ starting problem.entry.now (start_of problem.entry.now)) }
+    {
+        let machine = Machine::start(alloc, problem)?;
+        Ok(Spine {
+            alloc,
+            problem,
+            machine,
+            points: Vec::new(alloc),
+        })
+    }
+
+    /// Works off the ends in front; false where one of them fails.
+    pub fn settle(&mut self) -> Result<bool, OutOfMemory>
+        requires sound { IsSound true self.old }
+        ensures sound { IfOk result (λ ok. IsSound ok self.new) }
+        ensures settles { IfOk result (λ ok. Settles (spine_of self.old) ok (spine_of self.new)) }
+    {
+        let ok = self.machine.settle()?;
+        Ok(ok)
+    }
+
+    /// Whether nothing is left to prove.
+    pub fn is_empty(&self) -> bool
+        requires sound { IsSound true self.now }
+        ensures { result ≡ is_empty (state_of self.now.machine).agenda }
+    {
+        self.machine.is_empty()
+    }
+
+    /// Whether a state with nothing left to prove is an answer.
+    pub fn answers(&self) -> bool
+        requires sound { IsSound true self.now }
+        ensures { result ≡ answers (state_of self.now.machine) }
+    {
+        self.machine.answers()
+    }
+
+    /// How many inferences the branch may still make.
+    pub fn left(&self) -> u32
+        ensures { result ≡ self.now.machine.left }
+    {
+        self.machine.left()
+    }
+
+    /// The state as a branch.
+    pub fn branch(&self) -> Result<Branch, OutOfMemory>
+        requires sound { IsSound true self.now }
+        ensures { IfOk result (λ b. b ≡ record { terms = (state_of self.now.machine).terms; steps = (state_of self.now.machine).steps }) }
+    {
+        self.machine.branch(self.alloc)
+    }
+
+    /// Takes the first goal apart by its first candidate, and keeps the others in a choice point; false where it gives nothing.
+    pub fn expand(&mut self) -> Result<bool, OutOfMemory>
+        requires sound { IsSound true self.old }
+        requires goal { is_empty (state_of self.old.machine).agenda ≡ false }
+        requires left { 0 < self.old.machine.left }
+        ensures sound { IfOk result (λ running. IsSound running self.new) }
+        ensures expands { IfOk result (λ running. Expands (spine_of self.old) running (spine_of self.new)) }
+    {
+        let mut untried = self.machine.candidates(self.alloc)?;
+        untried.reverse();
+        let running = self.choose(untried)?;
+        Ok(running)
+    }
+
+    /// Whether there is no choice point.
+    pub fn is_over(&self) -> bool
+        ensures { result ≡ has_none (spine_of self.now).points }
+    {
+        self.points.is_empty()
+    }
+
+    /// Goes back to the newest choice point, by its next candidate; false where it gives nothing.
+    pub fn retry(&mut self) -> Result<bool, OutOfMemory>
+        requires sound { IsSound false self.old }
+        requires points { has_none (spine_of self.old).points ≡ false }
+        ensures sound { IfOk result (λ running. IsSound running self.new) }
+        ensures retries { IfOk result (λ running. Retries (spine_of self.old) running (spine_of self.new)) }
+    {
+        match self.points.pop() {
+            None => unreachable!(),
+            Some(kept) => {
+                self.machine = kept.machine;
+                let running = self.choose(kept.untried)?;
+                Ok(running)
+            }
+        }
+    }
+
+    // Takes the first goal apart by the last of these candidates, and keeps the others in a choice point; false where it gives
+    // nothing, or there is none.
+    fn choose(&mut self, mut untried: Vec<Candidate>) -> Result<bool, OutOfMemory>
+        requires open { IsOpen self.old.problem.now self.old.machine }
+        requires tries { AreTries self.old.machine untried.items }
+        requires points { AreKept self.old.problem.now self.old.points.items }
+        ensures sound { IfOk result (λ running. IsSound running self.new) }
+        ensures chose { IfOk result (λ running. ChoseOf self.old untried.items running self.new) }
+    {
+        match untried.pop() {
+            None => Ok(false),
+            Some(candidate) => {
+                keep(&mut self.points, &self.machine, untried)?;
+                let running = self.machine.attempt(self.alloc, candidate)?;
+                Ok(running)
+            }
+        }
+    }
+}
+
+// Keeps a machine and its untried candidates, the first one last, in a choice point, if there are any.
+fn keep<'p>(
+    points: &mut Vec<Kept<'p>>,
+    machine: &Machine<'p>,
+    untried: Vec<Candidate>,
+) -> Result<(), OutOfMemory>
+    requires fits { Fits machine.now }
+    ensures puts { IfOk result (λ _. Puts machine.now untried.items points.old.items points.new.items) }
+    ensures kept { IfOk result (λ _. KeepsKept machine.now untried.items points.old.items points.new.items) }
+{
+    if untried.is_empty() {
+        return Ok(());
+    }
+    let machine = machine.image()?;
+    points.push(Kept { machine, untried })?;
+    Ok(())
+}

@@ -1,0 +1,52 @@
+use Rattle.std.proofs.Common.{◌≡◌, ◌<◌, ℕ, suc, [], length, refl, sym, subst, ap, ◌∙◌, arith, ◌∷◌, length-append}
+use Rattle.ll_bank.proofs.Trees.{Extends-refl}
+use Rattle.ll_bank.specs.Term.{Term}
+use Rattle.std.specs.Prelude.{List}
+use Rattle.ll_parser.specs.Nodes.{raw_at}
+use Rattle.ll_parser.specs.Raw.{more}
+use Rattle.ll_parser.proofs.Sizes.{weights}
+use Rattle.ll_polarity.specs.Reading.{Read}
+use Rattle.ll_polarity.specs.Built.{built_terms, arguments, raws_past}
+use Rattle.ll_polarity.specs.Standing.{met_of, around}
+use Rattle.ll_polarity.specs.Calls.{Site}
+use Rattle.ll_polarity.proofs.Calling.{named_argument, args_room, args_more, less_more}
+use Rattle.ll_polarity.proofs.put_terms.arguments_of.Goals as goal
+
+pub arguments-init : goal.arguments-init
+arguments-init c =
+    rw c.new-args.ensures.items (record { means = refl; inside = λ k d l. absurd (omega arith); keeps = Extends-refl c.args.bank.now })
+
+pub term-requires-clause-ready : goal.term-requires-clause-ready
+term-requires-clause-ready c =
+    let e = c.in-Some.ensures c.args.names.now in
+    record { inside = e.0; named = named_argument c.args.names.now c.args.forms.now c.args.at.0 c.len.result c.in-Some.arg _ c.requires.ready.named e.1 }
+
+pub term-requires-clause-room : goal.term-requires-clause-room
+term-requires-clause-room c =
+    let a = around c.args.place c.args.binders.now.scope in
+    let s : Site = record { texts = c.args.names.now; forms = c.args.forms.now; around = a } in
+    let target : Read (List Term) = built_terms a (met_of c.args.names.now c.args.met.now) (arguments (raw_at c.args.names.now c.args.forms.now c.args.at.0)) in
+    let l : c.len.result ≡ length c.arguments.args.items = omega (arith, c.len.ensures, c.arguments.args.ok.0) in
+    let raw = raw_at c.args.names.now c.args.forms.now c.args.at.0 in
+    let e = subst (λ (k : ℕ). raws_past k (arguments raw) ≡ more (raw_at c.args.names.now c.args.forms.now c.in-Some.arg.0) (raws_past (suc k) (arguments raw))) l (c.in-Some.ensures c.args.names.now).1 in
+    args_room s target c.args.bank.now c.args.at.0 c.arguments.bank c.arguments.args.items (met_of c.args.names.now c.arguments.met) c.in-Some.arg _ c.arguments.invariant e c.requires.room
+
+pub arguments-smaller : goal.arguments-smaller
+arguments-smaller c =
+    let l : c.len.result ≡ length c.arguments.args.items = omega (arith, c.len.ensures, c.arguments.args.ok.0) in
+    let raw = raw_at c.args.names.now c.args.forms.now c.args.at.0 in
+    let e = subst (λ (k : ℕ). raws_past k (arguments raw) ≡ more (raw_at c.args.names.now c.args.forms.now c.in-Some.arg.0) (raws_past (suc k) (arguments raw))) l (c.in-Some.ensures c.args.names.now).1 in
+    let n : length c.push.new.self.items ≡ suc (length c.arguments.args.items) = ap length c.in_ok-push.ensures.items ∙ (length-append c.arguments.args.items (c.in_ok-put.put ∷ []) ∙ omega arith) in
+    subst (λ (k : ℕ). weights (raws_past k (arguments raw)) < weights (raws_past (length c.arguments.args.items) (arguments raw))) (sym n)
+    (less_more (arguments raw) (length c.arguments.args.items) (raw_at c.args.names.now c.args.forms.now c.in-Some.arg.0) e)
+
+pub arguments-preserved : goal.arguments-preserved
+arguments-preserved c =
+    let a = around c.args.place c.args.binders.now.scope in
+    let s : Site = record { texts = c.args.names.now; forms = c.args.forms.now; around = a } in
+    let target : Read (List Term) = built_terms a (met_of c.args.names.now c.args.met.now) (arguments (raw_at c.args.names.now c.args.forms.now c.args.at.0)) in
+    let l : c.len.result ≡ length c.arguments.args.items = omega (arith, c.len.ensures, c.arguments.args.ok.0) in
+    let raw = raw_at c.args.names.now c.args.forms.now c.args.at.0 in
+    let e = subst (λ (k : ℕ). raws_past k (arguments raw) ≡ more (raw_at c.args.names.now c.args.forms.now c.in-Some.arg.0) (raws_past (suc k) (arguments raw))) l (c.in-Some.ensures c.args.names.now).1 in
+    args_more s target c.args.bank.now c.args.at.0 c.arguments.bank c.term.new.bank c.arguments.args.items c.push.new.self.items (met_of c.args.names.now c.arguments.met) (met_of c.args.names.now c.term.new.met) c.in-Some.arg c.in_ok-put.put
+    c.arguments.invariant e c.in_ok-put.ensures.shows c.in_ok-put.ensures.met c.in_ok-put.ensures.keeps c.in_ok-push.ensures.items

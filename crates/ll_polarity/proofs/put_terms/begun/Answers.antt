@@ -1,0 +1,23 @@
+use Rattle.std.proofs.Common.{subst}
+use Rattle.ll_bank.proofs.Trees.{Extends-refl}
+use Rattle.ll_parser.specs.Nodes.{identifier, raws_in, raw_trees}
+use Rattle.ll_parser.specs.Seen.{places}
+use Rattle.ll_polarity.specs.Built.{built_term}
+use Rattle.ll_polarity.specs.Standing.{met_of, around, HasRoom}
+use Rattle.ll_polarity.proofs.Calling.{room_head}
+use Rattle.ll_polarity.proofs.put_terms.begun.Goals as goal
+
+pub front_of-requires-clause-room : goal.front_of-requires-clause-room
+front_of-requires-clause-room c =
+    room_head (around c.args.place c.args.binders.now.scope) (met_of c.args.names.now c.args.met.now)
+    (identifier c.args.names.now c.in-Head.name) (raws_in (raw_trees c.args.names.now c.args.forms.now) (places c.in-Head.field-1.now))
+    (subst (λ r. HasRoom (built_term (around c.args.place c.args.binders.now.scope) (met_of c.args.names.now c.args.met.now) r).met) (c.in-Head.ensures.tree c.args.names.now) c.requires.room)
+
+pub returns-in_err-front-in-Head-clause-keeps : goal.returns-in_err-front-in-Head-clause-keeps
+returns-in_err-front-in-Head-clause-keeps c = Extends-refl c.args.bank.now
+
+pub returns-in_err-number-in-Any-clause-keeps : goal.returns-in_err-number-in-Any-clause-keeps
+returns-in_err-number-in-Any-clause-keeps c = Extends-refl c.args.bank.now
+
+pub returns-in_ok-front-in-Head-clause-keeps : goal.returns-in_ok-front-in-Head-clause-keeps
+returns-in_ok-front-in-Head-clause-keeps c = Extends-refl c.args.bank.now

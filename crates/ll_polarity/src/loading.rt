@@ -1,0 +1,103 @@
+//! The part of a problem that a program fixes, from its text.
+
+ghost use Rattle.std.specs.Prelude.{◌≡◌, [], All, IfOk, IfErr};
+ghost use Rattle.ll_parser.specs.Text.{programs};
+ghost use Rattle.ll_parser.specs.Reads.{IsWhole};
+ghost use Rattle.ll_parser.specs.Nodes.{shown_program};
+ghost use Rattle.ll_parser.specs.Drafts.{ClausesFit, ModuleFits};
+ghost use Rattle.ll_polarity.specs.Asks.{module_names, part_of, HasProgramFault};
+ghost use Rattle.ll_polarity.specs.Causes.{IsCauseOf};
+ghost use Rattle.ll_polarity.specs.Faults.{program_faults};
+ghost use Rattle.ll_polarity.specs.Places.{FindsFirst};
+
+use crate::front::Met;
+use crate::judge::judge_program;
+use crate::modules::{Modules, places_of};
+use crate::part::Loaded;
+use crate::put_clauses::clauses;
+use crate::put_forms::Text;
+use crate::put_modules::modules;
+use crate::scope::Binders;
+use crate::variables::Variables;
+use ll_bank::{Bank, Names, OutOfMemory};
+use ll_lexer::TextFault;
+use ll_parser::RawProgram;
+use std::alloc::Global;
+
+/// The part that a program without a fault fixes, whose modules have these places.
+fn put_part(
+    alloc: Global,
+    places: &Modules<'_>,
+    program: &RawProgram,
+) -> Result<Loaded, OutOfMemory>
+    requires whole { IsWhole programs (shown_program program.now.names program.now.forms program.now.clauses.items program.now.modules.items) }
+    requires clauses { ClausesFit program.now.forms program.now.clauses.items }
+    requires modules { All (ModuleFits program.now.forms) program.now.modules.items }
+    requires faultless { program_faults (shown_program program.now.names program.now.forms program.now.clauses.items program.now.modules.items) ≡ [] }
+    requires found { FindsFirst places.now.places (module_names (shown_program program.now.names program.now.forms program.now.clauses.items program.now.modules.items)) }
+    ensures { IfOk result (λ loaded. loaded ≡ part_of (shown_program program.now.names program.now.forms program.now.clauses.items program.now.modules.items)) }
+{
+    let text = Text {
+        names: &program.names,
+        forms: &program.forms,
+        modules: places,
+    };
+    let mut binders = Binders::new(alloc, &program.names)?;
+    let mut bank = Bank::new(alloc);
+    let mut met = Met {
+        names: Names::new(alloc),
+        variables: Variables::new(alloc),
+    };
+    let _texts = program.names.len();
+    let clauses = clauses(
+        alloc,
+        &text,
+        &mut binders,
+        &mut met,
+        &mut bank,
+        &program.clauses,
+    )?;
+    let modules = modules(
+        alloc,
+        &text,
+        &mut binders,
+        &mut met,
+        &mut bank,
+        &program.modules,
+    )?;
+    Ok(Loaded {
+        bank,
+        names: met.names,
+        modules,
+        clauses,
+    })
+}
+
+/// The part that a program without a fault fixes.
+fn fixed_part(alloc: Global, program: &RawProgram) -> Result<Loaded, OutOfMemory>
+    requires whole { IsWhole programs (shown_program program.now.names program.now.forms program.now.clauses.items program.now.modules.items) }
+    requires clauses { ClausesFit program.now.forms program.now.clauses.items }
+    requires modules { All (ModuleFits program.now.forms) program.now.modules.items }
+    requires faultless { program_faults (shown_program program.now.names program.now.forms program.now.clauses.items program.now.modules.items) ≡ [] }
+    ensures { IfOk result (λ loaded. loaded ≡ part_of (shown_program program.now.names program.now.forms program.now.clauses.items program.now.modules.items)) }
+{
+    let places = places_of(alloc, &program.names, &program.modules)?;
+    let part = put_part(alloc, &places, program)?;
+    Ok(part)
+}
+
+/// The part of a problem that a program fixes. `Text` is the program's first fault of scope or sorting, kinds 7 to 12.
+pub fn load(alloc: Global, program: &RawProgram) -> Result<Loaded, TextFault>
+    requires whole { IsWhole programs (shown_program program.now.names program.now.forms program.now.clauses.items program.now.modules.items) }
+    requires clauses { ClausesFit program.now.forms program.now.clauses.items }
+    requires modules { All (ModuleFits program.now.forms) program.now.modules.items }
+    ensures part { IfOk result (λ loaded. loaded ≡ part_of (shown_program program.now.names program.now.forms program.now.clauses.items program.now.modules.items)) }
+    ensures faultless { IfOk result (λ _. program_faults (shown_program program.now.names program.now.forms program.now.clauses.items program.now.modules.items) ≡ []) }
+    ensures cause { IfErr result (IsCauseOf (HasProgramFault (shown_program program.now.names program.now.forms program.now.clauses.items program.now.modules.items))) }
+{
+    if let Some(fault) = judge_program(alloc, program)? {
+        return Err(TextFault::Text(fault));
+    }
+    let loaded = fixed_part(alloc, program)?;
+    Ok(loaded)
+}

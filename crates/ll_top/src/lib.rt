@@ -215,3 +215,5 @@ fn found_status(found: Found) -> u8
 
 #[cfg(test)]
 mod tests;
+#[cfg(test)]
+mod worked_tests;

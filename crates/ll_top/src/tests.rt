@@ -5,10 +5,10 @@ use std::alloc::AllocError;
 use std::test::Fail;
 
 // No call has this number in these tests.
-const NEVER: u64 = u64::MAX;
+pub(super) const NEVER: u64 = u64::MAX;
 
 // A shelf with a text `prog` and a text `ques`, one call of which fails.
-fn shelf_of(
+pub(super) fn shelf_of(
     alloc: Global,
     program: Vec<u8>,
     query: &str,
@@ -22,7 +22,7 @@ fn shelf_of(
 }
 
 // The status of a run with this bound.
-fn status_of<R: Threads + Wait + Sync>(
+pub(super) fn status_of<R: Threads + Wait + Sync>(
     rt: &R,
     alloc: Global,
     bound: &str,
@@ -315,8 +315,28 @@ fn a_bracket_too_many_is_told(rt: HostRuntime) -> Result<(), Fail> {
 }
 
 // A program and a query one of which has a fault, and its line: the program is judged first.
-const FAULTY: [(&str, &str, &str); 6] = [
+const FAULTY: [(&str, &str, &str); 10] = [
     ("p , q.", "r )", "fault: prog 1:3 kind 7 not a clause\n"),
+    (
+        "p :- forall x\\",
+        "r )",
+        "fault: prog 1:15 kind 5 text ends early\n",
+    ),
+    (
+        "p :- X.",
+        "true",
+        "fault: prog 1:6 kind 9 variable as predicate or function\n",
+    ),
+    (
+        "MODULE m X.\nLOCAL k.\nk X.\nget Y :- k Y.",
+        "m --> true",
+        "fault: ques 1:1 kind 11 wrong number of module arguments\n",
+    ),
+    (
+        "p q).",
+        "p , , q",
+        "fault: prog 1:4 kind 4 unexpected token\n",
+    ),
     (
         "p , q.\nr )",
         "true",
@@ -386,14 +406,15 @@ fn long_texts_and_names_are_told(rt: HostRuntime) -> Result<(), Fail> {
     Ok(())
 }
 
-// One line of each status, and how many calls of the sink it takes.
-const LINES: [(&[&str], &str, u64, &str, u64); 6] = [
-    (&["go"], "", NEVER, "fault: usage, word 1\n", 3),
+// One line of each status, with the status, and how many calls of the sink it takes.
+const LINES: [(&[&str], &str, u64, &str, u8, u64); 6] = [
+    (&["go"], "", NEVER, "fault: usage, word 1\n", 3, 3),
     (
         &["run", "nope", "ques", "--bound", "1", "--workers", "1"],
         "",
         NEVER,
         "fault: absent nope\n",
+        4,
         3,
     ),
     (
@@ -401,6 +422,7 @@ const LINES: [(&[&str], &str, u64, &str, u64); 6] = [
         "",
         0,
         "fault: read prog\n",
+        5,
         3,
     ),
     (
@@ -408,6 +430,7 @@ const LINES: [(&[&str], &str, u64, &str, u64); 6] = [
         "p , q.",
         NEVER,
         "fault: prog 1:3 kind 7 not a clause\n",
+        7,
         11,
     ),
     (
@@ -415,6 +438,7 @@ const LINES: [(&[&str], &str, u64, &str, u64); 6] = [
         "p\n- .",
         NEVER,
         "fault: prog 2:1 kind 1 byte begins no token\n",
+        7,
         11,
     ),
     (
@@ -422,13 +446,27 @@ const LINES: [(&[&str], &str, u64, &str, u64); 6] = [
         "p q).",
         NEVER,
         "fault: prog 1:4 kind 4 unexpected token\n",
+        7,
         11,
     ),
 ];
 
 #[test]
+fn the_line_of_each_status_is_told(rt: HostRuntime) -> Result<(), Fail> {
+    for (words, program, shelf_call, line, status, _) in LINES {
+        let program = Vec::from_slice(rt.alloc(), program.as_bytes())?;
+        let mut shelf = shelf_of(rt.alloc(), program, "true", shelf_call)?;
+        let mut sink = MemSink::new(rt.alloc(), 200, Vec::new(rt.alloc()))?;
+        let got = lolli(&rt, rt.alloc(), words, &mut shelf, &mut sink, &OpenGate);
+        assert_eq!(rt; got, status, "{line}");
+        assert_eq!(rt; sink.bytes(), line.as_bytes());
+    }
+    Ok(())
+}
+
+#[test]
 fn a_line_is_cut_where_the_sink_fails(rt: HostRuntime) -> Result<(), Fail> {
-    for (words, program, shelf_call, line, calls) in LINES {
+    for (words, program, shelf_call, line, _, calls) in LINES {
         for sink_call in 0..calls {
             let program = Vec::from_slice(rt.alloc(), program.as_bytes())?;
             let mut shelf = shelf_of(rt.alloc(), program, "true", shelf_call)?;

@@ -239,6 +239,59 @@ const LOADED: [(&str, &str, &str, u8, &str); 5] = [
     ),
 ];
 
+// Rows on scope: what hides what, and a module that loads itself. A program, a query and a bound, with the status and the text.
+const SCOPED: [(&str, &str, &str, u8, &str); 7] = [
+    (
+        "p 1. q 2.",
+        "exists x\\ (p x , exists x\\ q x)",
+        "9",
+        0,
+        "answer 1\nyes\nanswers 1, bound reached 0, inferences 5\n",
+    ),
+    (
+        "p k. MODULE m. LOCAL k. q k.",
+        "m --> q k",
+        "9",
+        1,
+        "answers 0, bound reached 0, inferences 4\n",
+    ),
+    (
+        "q 2. MODULE m X. p X :- exists X\\ q X.",
+        "m 1 --> p Y",
+        "9",
+        0,
+        "answer 1\nY = 1\nanswers 1, bound reached 0, inferences 5\n",
+    ),
+    (
+        "p _ _.",
+        "p 1 2",
+        "9",
+        0,
+        "answer 1\nyes\nanswers 1, bound reached 0, inferences 1\n",
+    ),
+    (
+        "p p. p.",
+        "p , p p",
+        "9",
+        0,
+        "answer 1\nyes\nanswers 1, bound reached 0, inferences 3\n",
+    ),
+    (
+        "MODULE m. p :- m --> q. q.",
+        "m --> p",
+        "9",
+        0,
+        "answer 1\nyes\nanswer 2\nyes\nanswers 2, bound reached 0, inferences 8\n",
+    ),
+    (
+        "",
+        "a :- b",
+        "3",
+        1,
+        "answers 0, bound reached 0, inferences 2\n",
+    ),
+];
+
 // The text that each row's run prints, with its status.
 fn are_told<R: Threads + Wait + Abort + Sync>(
     rt: &R,
@@ -269,4 +322,9 @@ fn resources_run(rt: HostRuntime) -> Result<(), Fail> {
 #[test]
 fn permutations_and_modules_run(rt: HostRuntime) -> Result<(), Fail> {
     are_told(&rt, rt.alloc(), &LOADED)
+}
+
+#[test]
+fn scopes_are_kept(rt: HostRuntime) -> Result<(), Fail> {
+    are_told(&rt, rt.alloc(), &SCOPED)
 }

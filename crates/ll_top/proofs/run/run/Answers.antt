@@ -1,4 +1,6 @@
 use Rattle.std.proofs.Common.{arith, ◌∙◌}
+use Rattle.std.proofs.lemmas.Result.{err_from_is_err_and}
+use Rattle.ll_top.proofs.PrepareLemmas.{rose-later}
 use Rattle.ll_top.proofs.RunLemmas.{on_err, run-starts, run-answers_all, run-stops, run-breaks, run-goes_on, run-ends, run-ends_broken, run-status}
 use Rattle.ll_top.proofs.run.run.Goals as goal
 
@@ -16,6 +18,11 @@ returns-in_err-write_all-in-Event-clause-prefix g c =
     let s = rw c.in-Event.is at c.in_ok-step.ensures.step in
     let f = rw (c.deref.ensures.value, c.in_ok-count_event-in-Event.ensures.lines) at c.in_err-write_all-in-Event.ensures.prefix in
     on_err _ (run-breaks _ _ _ _ _ _ _ _ c.loop-lines.invariant.running s f)
+
+pub returns-in_err-write_all-in-Event-clause-refused : goal.returns-in_err-write_all-in-Event-clause-refused
+returns-in_err-write_all-in-Event-clause-refused g c =
+    let p = err_from_is_err_and c.from_residual-in_err-write_all-in-Event.result c.from_residual-in_err-write_all-in-Event.ensures.1 in
+    rw (p.1, p.2) (rose-later _ _ _ c.loop-lines.invariant.faults c.in_err-write_all-in-Event.ensures.failed)
 
 pub loop-lines-preserved-in_ok-write_all-in-Event : goal.loop-lines-preserved-in_ok-write_all-in-Event
 loop-lines-preserved-in_ok-write_all-in-Event g c =

@@ -222,6 +222,8 @@ fn found_status(found: Found) -> u8
 }
 
 #[cfg(test)]
+mod proof_tests;
+#[cfg(test)]
 mod tests;
 #[cfg(test)]
 mod worked_tests;

@@ -330,6 +330,21 @@ fn a_bracket_too_many_is_told(rt: HostRuntime) -> Result<(), Fail> {
     Ok(())
 }
 
+#[test]
+fn a_thousand_brackets_run(rt: HostRuntime) -> Result<(), Fail> {
+    let mut program = brackets(rt.alloc(), "p :- ", 1000)?;
+    for _ in 0..1000 {
+        program.push(b')')?;
+    }
+    program.extend_from_slice(b". q.")?;
+    let mut shelf = shelf_of(rt.alloc(), program, "p", NEVER)?;
+    let mut sink = MemSink::new(rt.alloc(), 200, Vec::new(rt.alloc()))?;
+    assert_eq!(rt; status_of(&rt, rt.alloc(), "2", &mut shelf, &mut sink), 0);
+    let text = "answer 1\nyes\nanswers 1, bound reached 0, inferences 2\n";
+    assert_eq!(rt; sink.bytes(), text.as_bytes());
+    Ok(())
+}
+
 // A program and a query one of which has a fault, and its line: the program is judged first.
 const FAULTY: [(&str, &str, &str); 10] = [
     ("p , q.", "r )", "fault: prog 1:3 kind 7 not a clause\n"),

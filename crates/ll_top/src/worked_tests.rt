@@ -1,11 +1,11 @@
 //! Worked rows: whole runs, with all that they print.
 use super::tests::{NEVER, shelf_of, status_of};
 use super::*;
-use ll_edge::{MemSink, OpenGate};
+use ll_edge::MemSink;
 use std::process::Abort;
 use std::test::Fail;
 
-const PERMUTATIONS: &str =
+pub(super) const PERMUTATIONS: &str =
     "load nil K :- unload K.\nload (X::L) K :- item X -o load L K.\nunload nil.\nunload (X::L) :- item X , unload L.\n";
 
 const MODULE: &str = "MODULE m X.\nLOCAL k.\nk X.\nget Y :- k Y.\n";
@@ -239,55 +239,56 @@ const LOADED: [(&str, &str, &str, u8, &str); 5] = [
     ),
 ];
 
-// Rows with proofs. A program, a query and a bound, with the text; the status is 0.
-const PROVED: [(&str, &str, &str, &str); 8] = [
+// Rows on scope: what hides what, and a module that loads itself. A program, a query and a bound, with the status and the text.
+const SCOPED: [(&str, &str, &str, u8, &str); 7] = [
     (
-        "LINEAR a.",
-        "erase",
-        "10",
-        "answer 1\nyes\nproof 1\nerase\nanswers 1, bound reached 0, inferences 1\n",
+        "p 1. q 2.",
+        "exists x\\ (p x , exists x\\ q x)",
+        "9",
+        0,
+        "answer 1\nyes\nanswers 1, bound reached 0, inferences 5\n",
     ),
     (
-        "LINEAR a. LINEAR b.",
-        "(erase & a) , b",
-        "10",
-        "answer 1\nyes\nproof 1\ntensor {0} {1}\nwith\nerase\nclause 0 0\nclause 1 0\nanswers 1, bound reached 0, inferences 5\n",
+        "p k. MODULE m. LOCAL k. q k.",
+        "m --> q k",
+        "9",
+        1,
+        "answers 0, bound reached 0, inferences 4\n",
     ),
     (
-        PERMUTATIONS,
-        "load (1::nil) K",
-        "100",
-        "answer 1\nK = 1::nil\nproof 1\nlet (1::nil)\nclause 1 0 1 nil (1::nil) {}\nlolli 4\nclause 0 0 (1::nil) {4}\nclause 3 0 1 nil {4}\ntensor {4} {}\nclause 4 0\nclause 2 0\nanswers 1, bound reached 0, inferences 9\n",
+        "q 2. MODULE m X. p X :- exists X\\ q X.",
+        "m 1 --> p Y",
+        "9",
+        0,
+        "answer 1\nY = 1\nanswers 1, bound reached 0, inferences 5\n",
     ),
     (
-        "p <= q. q.",
-        "p",
-        "10",
-        "answer 1\nyes\nproof 1\nclause 0 0 !\nbang\nclause 1 0\nanswers 1, bound reached 0, inferences 3\n",
+        "p _ _.",
+        "p 1 2",
+        "9",
+        0,
+        "answer 1\nyes\nanswers 1, bound reached 0, inferences 1\n",
     ),
     (
-        "LINEAR a & b.",
-        "b",
-        "10",
-        "answer 1\nyes\nproof 1\nclause 0 1\nanswers 1, bound reached 0, inferences 1\n",
+        "p p. p.",
+        "p , p p",
+        "9",
+        0,
+        "answer 1\nyes\nanswers 1, bound reached 0, inferences 3\n",
     ),
     (
-        "LINEAR a.",
-        "erase , erase",
-        "10",
-        "answer 1\nyes\nproof 1\ntensor {0} {}\nerase\nerase\nanswers 1, bound reached 0, inferences 3\n",
+        "MODULE m. p :- m --> q. q.",
+        "m --> p",
+        "9",
+        0,
+        "answer 1\nyes\nanswer 2\nyes\nanswers 2, bound reached 0, inferences 8\n",
     ),
     (
-        "LINEAR a. LINEAR b.",
-        "(erase , a) & erase",
-        "10",
-        "answer 1\nyes\nproof 1\nwith\ntensor {1} {0}\nerase\nclause 0 0\nerase\nanswers 1, bound reached 0, inferences 5\n",
-    ),
-    (
-        "p. q.",
-        "p ; q",
-        "10",
-        "answer 1\nyes\nproof 1\nleft\nclause 0 0\nanswer 2\nyes\nproof 1\nright\nclause 1 0\nanswers 2, bound reached 0, inferences 3\n",
+        "",
+        "a :- b",
+        "3",
+        1,
+        "answers 0, bound reached 0, inferences 2\n",
     ),
 ];
 
@@ -324,51 +325,6 @@ fn permutations_and_modules_run(rt: HostRuntime) -> Result<(), Fail> {
 }
 
 #[test]
-fn answers_are_proved(rt: HostRuntime) -> Result<(), Fail> {
-    for (program, query, bound, text) in PROVED {
-        let program = Vec::from_slice(rt.alloc(), program.as_bytes())?;
-        let mut shelf = shelf_of(rt.alloc(), program, query, NEVER)?;
-        let mut sink = MemSink::new(rt.alloc(), 300, Vec::new(rt.alloc()))?;
-        let words = [
-            "run",
-            "prog",
-            "ques",
-            "--bound",
-            bound,
-            "--proofs",
-            "--workers",
-            "1",
-        ];
-        let got = lolli(&rt, rt.alloc(), &words, &mut shelf, &mut sink, &OpenGate);
-        assert_eq!(rt; sink.bytes(), text.as_bytes(), "{query}");
-        assert_eq!(rt; got, 0, "{query}");
-    }
-    Ok(())
-}
-
-// A run that finds nothing has no proofs to write: so its text is the same with them and without.
-#[test]
-fn proofs_stand_anywhere_among_the_options(rt: HostRuntime) -> Result<(), Fail> {
-    let rows: [&[&str]; 4] = [
-        &["--bound", "2", "--workers", "1", "--proofs"],
-        &["--bound", "2", "--proofs", "--workers", "1"],
-        &["--proofs", "--workers", "1", "--bound", "2"],
-        &["--workers", "1", "--bound", "2"],
-    ];
-    for options in rows {
-        let mut words = vec![in rt.alloc(); "run", "prog", "ques"]?;
-        words.extend_from_slice(options)?;
-        let program = Vec::from_slice(rt.alloc(), "LINEAR a.".as_bytes())?;
-        let mut shelf = shelf_of(rt.alloc(), program, "true", NEVER)?;
-        let mut sink = MemSink::new(rt.alloc(), 200, Vec::new(rt.alloc()))?;
-        assert_eq!(rt;
-            lolli_plain(rt.alloc(), &words, &mut shelf, &mut sink),
-            None
-        );
-        let got = lolli(&rt, rt.alloc(), &words, &mut shelf, &mut sink, &OpenGate);
-        assert_eq!(rt; got, 1);
-        let text = "answers 0, bound reached 0, inferences 1\n";
-        assert_eq!(rt; sink.bytes(), text.as_bytes());
-    }
-    Ok(())
+fn scopes_are_kept(rt: HostRuntime) -> Result<(), Fail> {
+    are_told(&rt, rt.alloc(), &SCOPED)
 }

@@ -1,6 +1,6 @@
 -- From the text of a run to the derivations of its answers.
 use Rattle.std.proofs.Common.{◌≡◌, ◌≤◌, ℕ, suc, ◌+◌, refl, ap, sym, subst, ◌∙◌, Bool, true, false, List, [], ◌∷◌, ◌++◌, append_assoc, arith, inl, inr}
-use Rattle.std.specs.Prelude.{Option, Some, Result, Ok, Err, Contains, ◌⊎◌}
+use Rattle.std.specs.Prelude.{Option, Some, Contains, ◌⊎◌}
 use Rattle.std.specs.Io.KnownBytes.{append_known}
 use Rattle.std.proofs.lemmas.List.{append-nil}
 use Rattle.std.proofs.lemmas.List.Elements.{Contains-append_right}
@@ -15,11 +15,10 @@ use Rattle.ll_laws.specs.Dealt.{dealt}
 use Rattle.ll_laws.specs.Output.{answer_text, answers_text}
 use Rattle.ll_laws.specs.ProofText.{derivation_text, proved_answers_text}
 use Rattle.ll_laws.specs.Valid.{IsValid}
-use Rattle.ll_top.specs.declared.run.Found.{Found}
 use Rattle.ll_top.specs.Words.{RunWords, IsRun}
 use Rattle.ll_top.specs.Faults.{Cause, Usage, Absent, Unreadable, Oversized, Faulty, cause_status}
 use Rattle.ll_top.specs.Outcome.{RunAsks, whole_text}
-use Rattle.ll_top.specs.Endings.{RunEnds, Refuses}
+use Rattle.ll_top.specs.Endings.{Refuses}
 use Rattle.ll_top.specs.Running.{all_lines}
 use Rattle.ll_top.specs.Proved.{ShowsAnswer, AreShown, all_shown, answer_shown, reached_shown, WritesShown}
 use Rattle.ll_top.proofs.RunLemmas.{whole-lines}
@@ -59,14 +58,13 @@ module _ (shown : AnswersAreShown) (p : ProblemTree) (valid : IsValid p) where
   answers-shown true = answers-proved 0 [] (problem_events p) refl
 
 -- a run that ended wrote what is shown
-pub run-shown : AnswersAreShown → (told : Option Texts) (absence read_failed write_failed : Type 0) (run : RunWords) (before after : Option (List ℕ)) (found : Found)
-    → RunEnds told absence read_failed write_failed run before after (Ok found) → WritesShown told run before after
-run-shown shown told absence read_failed write_failed run before after found h = record {
-  problem = h.0;
-  asks = h.1;
-  answers = all_lines run.proofs h.0 0 (problem_events h.0);
-  are_shown = answers-shown shown h.0 h.2 run.proofs;
-  written = h.4 ∙ ap (append_known before) (sym (whole-lines run.proofs h.0));
+pub run-shown : AnswersAreShown → (told : Option Texts) (run : RunWords) (before after : Option (List ℕ)) (p : ProblemTree) → RunAsks told run p → IsValid p → after ≡ append_known before (whole_text run.proofs p) → WritesShown told run before after
+run-shown shown told run before after p asks valid written = record {
+  problem = p;
+  asks = asks;
+  answers = all_lines run.proofs p 0 (problem_events p);
+  are_shown = answers-shown shown p valid run.proofs;
+  written = written ∙ ap (append_known before) (sym (whole-lines run.proofs p));
 }
 
 -- a fault line has no status of a run that ended

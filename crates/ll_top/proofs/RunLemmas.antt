@@ -95,7 +95,7 @@ event_then false p c Reached es = refl
 event_then true p c Reached es = refl
 
 -- the whole text: the lines of the events, and the last line
-whole-lines : (proofs : Bool) (p : ProblemTree) → all_lines proofs p 0 (problem_events p) ++ summary_text (count_by is_answer (problem_events p)) (count_by is_reached (problem_events p)) (problem_cost p) ≡ whole_text proofs p
+pub whole-lines : (proofs : Bool) (p : ProblemTree) → all_lines proofs p 0 (problem_events p) ++ summary_text (count_by is_answer (problem_events p)) (count_by is_reached (problem_events p)) (problem_cost p) ≡ whole_text proofs p
 whole-lines false p = refl
 whole-lines true p = refl
 

@@ -25,7 +25,7 @@ returns-in-Err-Text-clause-ends g c =
     (refuses-later _ _ _ _ _ _ (rose-later _ _ _ c.in-Err-Text.ensures.sink_faults_kept) (rw same at c.refuse.ensures.refuses))
 
 pub returns-in-Ok-clause-proved : goal.returns-in-Ok-clause-proved
-returns-in-Ok-clause-proved g c = λ _. run-shown c.answers_are_shown.ensures _ _ _ _ (shown_words c.args.run.now) _ _ c.in-Ok.found c.in-Ok.ensures.ends
+returns-in-Ok-clause-proved g c = λ _. let h = c.in-Ok.ensures.ends in run-shown c.answers_are_shown.ensures _ (shown_words c.args.run.now) _ _ h.0 h.1 h.2 h.4
 
 pub returns-in-Err-Text-clause-proved : goal.returns-in-Err-Text-clause-proved
 returns-in-Err-Text-clause-proved g c = λ h. absurd (refused-past _ _ _ _ _ c.refuse.ensures.refuses h)

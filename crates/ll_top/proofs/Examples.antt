@@ -1,5 +1,5 @@
 -- The definitions of words and texts, computed on examples.
-use Rattle.std.proofs.Common.{◌≡◌, refl, false, [], ◌∷◌}
+use Rattle.std.proofs.Common.{◌≡◌, refl, true, false, [], ◌∷◌}
 use Rattle.std.specs.Prelude.{codes}
 use Rattle.ll_top.specs.Words.{is_part, NumberFrom, greatest_bound, here, behind, part, option, done, IsRun, IsPrint}
 use Rattle.ll_top.specs.Faults.{Usage, Oversized, Faulty, fault_text}
@@ -7,13 +7,26 @@ use Rattle.std.specs.Fmt.{digits}
 
 -- `run prog ques --workers 1 --bound 03`
 options_in_any_order : IsRun (codes "run" ∷ codes "prog" ∷ codes "ques" ∷ codes "--workers" ∷ codes "1" ∷ codes "--bound" ∷ codes "03" ∷ [])
-    (record { program = codes "prog"; query = codes "ques"; bound = 3; workers = 1 })
+    (record { program = codes "prog"; query = codes "ques"; bound = 3; workers = 1; proofs = false })
 options_in_any_order = record {
   form = part refl (part refl (part refl (option (behind (here refl)) refl (part refl (option (here refl) refl (part refl (done refl)))))));
   program = refl;
   query = refl;
   bound = refl;
   workers = refl;
+  proofs = refl;
+}
+
+-- `run prog ques --workers 1 --proofs --bound 03`
+proofs_between_the_others : IsRun (codes "run" ∷ codes "prog" ∷ codes "ques" ∷ codes "--workers" ∷ codes "1" ∷ codes "--proofs" ∷ codes "--bound" ∷ codes "03" ∷ [])
+    (record { program = codes "prog"; query = codes "ques"; bound = 3; workers = 1; proofs = true })
+proofs_between_the_others = record {
+  form = part refl (part refl (part refl (option (behind (here refl)) refl (part refl (option (behind (here refl)) refl (option (here refl) refl (part refl (done refl))))))));
+  program = refl;
+  query = refl;
+  bound = refl;
+  workers = refl;
+  proofs = refl;
 }
 
 -- `print prog`

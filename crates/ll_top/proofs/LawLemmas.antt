@@ -3,7 +3,7 @@ use Rattle.std.proofs.Common.{◌≡◌, ◌<◌, ◌+◌, ℕ, List, [], ◌∷
 use Rattle.std.specs.Prelude.{IsSomeAnd, slice_get, codes, map}
 use Rattle.ll_edge.specs.Texts.{Texts, text_of}
 use Rattle.ll_laws.specs.Problem.{ProblemTree}
-use Rattle.ll_laws.specs.Output.{run_text, run_status}
+use Rattle.ll_laws.specs.Output.{run_status}
 use Rattle.ll_lexer.specs.declared.Fault.{Fault}
 use Rattle.ll_lexer.specs.Reading.{LexedText, IsLexed, HasFault}
 use Rattle.ll_parser.specs.Tokens.{Tok, toks_of}
@@ -18,7 +18,7 @@ use Rattle.ll_top.specs.declared.judge.Role.TheVariants.{Program, Query}
 use Rattle.ll_top.specs.Words.{RunWords, IsInForm, IsRun, IsBadWord, number_behind}
 use Rattle.ll_top.specs.Faults.{Cause, Usage, Absent, Oversized, Faulty, fault_text, cause_status}
 use Rattle.ll_top.specs.Judging.{HasGrammarFault, IsProgramText, IsQueryText, IsReadingFault, lexical, grammatical, IsFaultless, IsProgramFault, of_program_reading, of_program_scope, IsQueryFault, of_query_reading, of_query_scope, IsTextFault, of_program, of_query, TextsAsk, most_open}
-use Rattle.ll_top.specs.Outcome.{name_of, IsRead, Reaches, first, later, run_texts, ReadFails, absent, unreadable, oversized, RunFails, not_read, faulty, RunAsks, RunComesTo, ran, failed, IsPrintedAs, PrintFails, source_not_read, faulty_source, PrintComesTo, printed, print_failed, ComesTo, misused, runs, prints, longest_text}
+use Rattle.ll_top.specs.Outcome.{name_of, IsRead, Reaches, first, later, run_texts, ReadFails, absent, unreadable, oversized, RunFails, not_read, faulty, RunAsks, whole_text, RunComesTo, ran, failed, IsPrintedAs, PrintFails, source_not_read, faulty_source, PrintComesTo, printed, print_failed, ComesTo, misused, runs, prints, longest_text}
 use Rattle.ll_top.proofs.FirstBad.{one-bad}
 use Rattle.ll_top.proofs.OutcomeLemmas.{bad-not-in-form, run-in-form, print-in-form}
 use Rattle.ll_top.proofs.CommandWords.{run-or-print}
@@ -38,7 +38,8 @@ one-run words r s h k =
     let q = some-same r.query s.query (slice_get words 2) h.query k.query in
     let b = some-same r.bound s.bound (number_behind (codes "--bound") words) h.bound k.bound in
     let w = some-same r.workers s.workers (number_behind (codes "--workers") words) h.workers k.workers in
-    λ i. record { program = p i; query = q i; bound = b i; workers = w i }
+    let o = sym h.proofs ∙ k.proofs in
+    λ i. record { program = p i; query = q i; bound = b i; workers = w i; proofs = o i }
 
 -- ---- texts
 
@@ -225,7 +226,7 @@ module _ (same : (a b : LexedText) → a.text ≡ b.text → IsLexed a → IsLex
       one-problem p q a b = one-asked b.program b.query run.bound p q (asks-moved b.program b.query p b.program_read b.query_read a) b.asks
 
       run-once : (s t : ℕ) (u v : List ℕ) → RunComesTo (Some texts) (Unit {0}) ⊥ run s u → RunComesTo (Some texts) (Unit {0}) ⊥ run t v → (s ≡ t) × (u ≡ v)
-      run-once s t u v (ran p a e f) (ran q b g h) = let o = one-problem p q a b in (e ∙ (ap run_status o ∙ sym g), f ∙ (ap run_text o ∙ sym h))
+      run-once s t u v (ran p a e f) (ran q b g h) = let o = one-problem p q a b in (e ∙ (ap run_status o ∙ sym g), f ∙ (ap (whole_text run.proofs) o ∙ sym h))
       run-once s t u v (ran p a e f) (failed c b g h) = absurd (asks-not-fails p c a b)
       run-once s t u v (failed c b g h) (ran p a e f) = absurd (asks-not-fails p c a b)
       run-once s t u v (failed c a e f) (failed d b g h) = let o = fails-once c d a b in (e ∙ (ap cause_status o ∙ sym g), f ∙ (ap fault_text o ∙ sym h))

@@ -10,3 +10,4 @@ pub mod GrammarLemmas
 pub mod OutcomeLemmas
 pub mod LawLemmas
 pub mod PrepareLemmas
+pub mod ProvedLemmas

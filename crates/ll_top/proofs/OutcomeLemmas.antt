@@ -8,13 +8,14 @@ use Rattle.ll_edge.specs.Texts.{Texts}
 use Rattle.std.specs.List.{list_any}
 use Rattle.ll_laws.specs.Problem.{ProblemTree, problem_events}
 use Rattle.ll_laws.specs.Search.{is_answer, is_reached}
-use Rattle.ll_laws.specs.Output.{run_text, run_status, status_by}
+use Rattle.ll_laws.specs.Output.{run_status, status_by}
+use Rattle.ll_laws.specs.Valid.{IsValid}
 use Rattle.ll_top.specs.declared.run.Found.{Found}
 use Rattle.ll_top.specs.declared.refusal.Refusal.{Refusal}
 use Rattle.ll_top.specs.declared.refusal.Refusal.TheVariants.{Text, Unwritable, OutOfMemory}
 use Rattle.ll_top.specs.Words.{RunWords, FitsForm, run_form, IsInForm, IsInWorkersForm, IsRun, IsPrint, IsBadWord}
 use Rattle.ll_top.specs.Faults.{Cause, Usage, Absent, Unreadable, Oversized, Faulty, fault_text, cause_status}
-use Rattle.ll_top.specs.Outcome.{name_of, ReadFails, absent as is_absent, unreadable as is_unreadable, oversized as is_oversized, run_texts, RunFails, not_read, faulty, RunAsks, RunComesTo, ran, failed, IsPrintedAs, PrintFails, source_not_read, faulty_source, PrintComesTo, printed, print_failed, ComesTo, misused, runs, prints, AppendsOwn, nothing, front, Ends, whole, unwritable, no_memory, Completes}
+use Rattle.ll_top.specs.Outcome.{name_of, ReadFails, absent as is_absent, unreadable as is_unreadable, oversized as is_oversized, run_texts, RunFails, not_read, faulty, RunAsks, whole_text, RunComesTo, ran, failed, IsPrintedAs, PrintFails, source_not_read, faulty_source, PrintComesTo, printed, print_failed, ComesTo, misused, runs, prints, AppendsOwn, nothing, front, Ends, whole, unwritable, no_memory, Completes}
 use Rattle.ll_top.specs.Endings.{Refuses, line, cut, Prepares, RunEnds, status_of_found, PrintEnds}
 use Rattle.ll_top.specs.Running.{IsRunRefusal}
 use Rattle.ll_top.proofs.FirstBad.{good-or-bad}
@@ -34,21 +35,21 @@ not-prepared told absence read_failed write_failed run before (Err x) e p h =
     subst (λ y. RunEnds told absence read_failed write_failed run before before (Err y)) (sym p) (prepare-ended told absence read_failed write_failed run before e h)
 
 -- a problem was made, and run
-pub run-ended : (told : Option Texts) (absence read_failed : Type 0) (run : RunWords) (p : ProblemTree) (faults more : ℕ) (before after : Option (List ℕ)) (r : Result Found Refusal) → RunAsks told run p
-    → IfOk r (λ found. status_of_found found ≡ run_status p) → OnOk r (after ≡ append_known before (run_text p)) → IfErr r (IsRunRefusal faults more)
-    → OnErr r (AppendsFront before (run_text p) after) → RunEnds told absence read_failed (Rose faults more) run before after r
-run-ended told absence read_failed run p n m b a (Ok _) u s t f e = (p, u, s, t)
-run-ended told absence read_failed run p n m b a (Err Unwritable) u s t f e = (p, u, f, e)
-run-ended told absence read_failed run p n m b a (Err OutOfMemory) u s t f e = front (run_status p) (run_text p) (ran p u refl refl) e
-run-ended told absence read_failed run p n m b a (Err (Text role refusal)) u s t f e = absurd f
+pub run-ended : (told : Option Texts) (absence read_failed : Type 0) (run : RunWords) (p : ProblemTree) (faults more : ℕ) (before after : Option (List ℕ)) (r : Result Found Refusal) → RunAsks told run p → IsValid p
+    → IfOk r (λ found. status_of_found found ≡ run_status p) → OnOk r (after ≡ append_known before (whole_text run.proofs p)) → IfErr r (IsRunRefusal faults more)
+    → OnErr r (AppendsFront before (whole_text run.proofs p) after) → RunEnds told absence read_failed (Rose faults more) run before after r
+run-ended told absence read_failed run p n m b a (Ok _) u v s t f e = (p, u, v, s, t)
+run-ended told absence read_failed run p n m b a (Err Unwritable) u v s t f e = (p, u, f, e)
+run-ended told absence read_failed run p n m b a (Err OutOfMemory) u v s t f e = front (run_status p) (whole_text run.proofs p) (ran p u refl refl) e
+run-ended told absence read_failed run p n m b a (Err (Text role refusal)) u v s t f e = absurd f
 
 module _ (told : Option Texts) (absence read_failed write_failed : Type 0) (run : RunWords) (before after : Option (List ℕ)) where
   -- its text was written
   pub found-ends : (found : Found) (status : ℕ) → status ≡ status_of_found found → RunEnds told absence read_failed write_failed run before after (Ok found) → Ends (RunComesTo told absence read_failed run) write_failed before after status
-  found-ends _ status e h = whole (run_text h.0) (ran h.0 h.1 (e ∙ h.2) refl) h.3
+  found-ends _ status e h = whole (whole_text run.proofs h.0) (ran h.0 h.1 (e ∙ h.3) refl) h.4
 
   pub cut-ends : RunEnds told absence read_failed write_failed run before after (Err Unwritable) → Ends (RunComesTo told absence read_failed run) write_failed before after 6
-  cut-ends h = unwritable (run_status h.0) (run_text h.0) (ran h.0 h.1 refl refl) h.2 refl h.3
+  cut-ends h = unwritable (run_status h.0) (whole_text run.proofs h.0) (ran h.0 h.1 refl refl) h.2 refl h.3
 
   pub memory-ends : RunEnds told absence read_failed write_failed run before after (Err OutOfMemory) → Ends (RunComesTo told absence read_failed run) write_failed before after 10
   memory-ends h = no_memory refl h

@@ -1,39 +1,44 @@
 -- The words of a run, read from its names to its options.
-use Rattle.std.proofs.Common.{◌≡◌, ℕ, zero, suc, ◌+◌, ◌<◌, ◌≤◌, Bool, true, false, ◌&&◌, List, [], ◌∷◌, ◌++◌, length, take, slice_get, get_or, Option, Some, None, refl, ap, sym, subst, ◌∙◌, arith, if◌then◌else◌}
+use Rattle.std.proofs.Common.{◌≡◌, ℕ, zero, suc, ◌+◌, ◌<◌, ◌≤◌, Bool, true, false, ◌&&◌, ◌||◌, List, [], ◌∷◌, ◌++◌, length, take, slice_get, get_or, Option, Some, None, refl, ap, sym, subst, ◌∙◌, arith, if◌then◌else◌}
 use Rattle.std.specs.Prelude.{All, IsSomeAnd, codes, is_some, nat_le, option_map, Result, Ok, Err, IsErrAnd, MatchResult}
 use Rattle.std.specs.List.{list_any, list_all}
 use Rattle.std.specs.Str.Parse.{digits_value}
 use Rattle.std.proofs.lemmas.Bool.{leb-true}
-use Rattle.std.proofs.lemmas.List.{take_more, length-map}
+use Rattle.std.proofs.lemmas.List.{take_all, take_more, length-map}
 use Rattle.std.proofs.lemmas.List.Elements.{All-append, All-head, All-tail, All-cons}
 use Rattle.std.proofs.lemmas.Option.{slice_get_within, slice_get_past, get_or_from_slice_get, slice_get-map, slice_get-get_or}
 use Rattle.std.specs.Borrow.{Bor}
 use Rattle.ll_top.specs.Outcome.{word_texts}
 use Rattle.ll_top.specs.declared.words.RunOptions.{RunOptions}
 use Rattle.ll_top.specs.Begins.{Begins, IsFirstBad, Leads}
-use Rattle.ll_top.specs.Words.{ThisWord, AnyName, NumberFrom, is_part, is_word, is_name_word, is_number_word, number_from, value_within, greatest_bound, greatest_workers, Takes, here, behind, Fits, part, option, done, FitsForm, run_form, bound_option, workers_option, number_behind, IsRun}
-use Rattle.ll_top.specs.RunForm.{HasPart, LacksPart, IsBadRunWord, left, options_left, IsValue, IsReadTo}
+use Rattle.ll_top.specs.Words.{ThisWord, AnyName, NumberFrom, is_part, is_word, is_name_word, is_number_word, number_from, value_within, greatest_bound, greatest_workers, Takes, here, behind, Fits, part, option, done, FitsForm, run_form, OptionForm, bound_option, workers_option, proofs_option, number_behind, has_word, IsRun}
+use Rattle.ll_top.specs.RunForm.{HasPart, LacksPart, IsBadRunWord, left, unless, options_left, IsValue, IsReadTo}
 use Rattle.ll_top.proofs.FirstBad.{drop-end, leads-start}
 use Rattle.ll_top.proofs.Forms.{same-word, words-same, DifferentWords, leads-part, bad-part, leads-option, bad-option, bad-end}
 
 -- ---- every part of a run can be gone on with
 
-can-take_workers : (w : Option ℕ) → Begins (Fits [] (left w workers_option)) []
-can-take_workers None = (codes "--workers" ∷ codes "1" ∷ [], option (here refl) refl (part refl (done refl)))
-can-take_workers (Some v) = ([], done refl)
+-- an option that may lack is no reason to go on
+pub may-lack : (p : Bool) → list_all (λ o. o.may_lack) (unless p proofs_option) ≡ true
+may-lack true = refl
+may-lack false = refl
 
-can-take_options : (b w : Option ℕ) → Begins (Fits [] (left b bound_option ++ left w workers_option)) []
-can-take_options None w = let r = can-take_workers w in (codes "--bound" ∷ codes "0" ∷ r.0, option (here refl) refl (part refl r.1))
-can-take_options (Some v) w = can-take_workers w
+can-take_workers : (w : Option ℕ) (p : Bool) → Begins (Fits [] (left w workers_option ++ unless p proofs_option)) []
+can-take_workers None p = (codes "--workers" ∷ codes "1" ∷ [], option (here refl) refl (part refl (done (may-lack p))))
+can-take_workers (Some v) p = ([], done (may-lack p))
 
-can-take_bound : (w : Option ℕ) → Begins (Fits (NumberFrom 0 greatest_bound ∷ []) (left w workers_option)) []
-can-take_bound w = let r = can-take_workers w in (codes "0" ∷ r.0, part refl r.1)
+can-take_options : (b w : Option ℕ) (p : Bool) → Begins (Fits [] (left b bound_option ++ (left w workers_option ++ unless p proofs_option))) []
+can-take_options None w p = let r = can-take_workers w p in (codes "--bound" ∷ codes "0" ∷ r.0, option (here refl) refl (part refl r.1))
+can-take_options (Some v) w p = can-take_workers w p
 
-can-take_worker_count : (b : Option ℕ) → Begins (Fits (NumberFrom 1 greatest_workers ∷ []) (left b bound_option ++ [])) []
-can-take_worker_count b = let r = can-take_options b (Some 1) in (codes "1" ∷ r.0, part refl r.1)
+can-take_bound : (w : Option ℕ) (p : Bool) → Begins (Fits (NumberFrom 0 greatest_bound ∷ []) (left w workers_option ++ unless p proofs_option)) []
+can-take_bound w p = let r = can-take_workers w p in (codes "0" ∷ r.0, part refl r.1)
+
+can-take_worker_count : (b : Option ℕ) (p : Bool) → Begins (Fits (NumberFrom 1 greatest_workers ∷ []) (left b bound_option ++ unless p proofs_option)) []
+can-take_worker_count b p = let r = can-take_options b (Some 1) p in (codes "1" ∷ r.0, part refl r.1)
 
 can-take_query : Begins (Fits (AnyName ∷ []) run_form.options) []
-can-take_query = let r = can-take_options None None in (codes "q" ∷ r.0, part refl r.1)
+can-take_query = let r = can-take_options None None false in (codes "q" ∷ r.0, part refl r.1)
 
 can-take_names : Begins (Fits (AnyName ∷ AnyName ∷ []) run_form.options) []
 can-take_names = let r = can-take_query in (codes "p" ∷ r.0, part refl r.1)
@@ -126,91 +131,176 @@ none-more : (text : List ℕ) (words : List (List ℕ)) (at : ℕ) (w : List ℕ
 none-more text words at w e n h =
     subst (All (λ u. is_word u text ≡ false)) (sym (taken-one words at w e)) (All-append (λ u. is_word u text ≡ false) (take at words) (w ∷ []) h (All-cons (λ u. is_word u text ≡ false) w [] n (λ k d l. absurd (omega arith))))
 
--- two words more, neither of which is this text: its value stays
-value-stays : (text : List ℕ) (words : List (List ℕ)) (at : ℕ) (w v : List ℕ) (value : Option ℕ) → slice_get words at ≡ Some w → is_word w text ≡ false → slice_get words (at + 1) ≡ Some v → is_word v text ≡ false → IsValue words text at value → IsValue words text (at + 2) value
-value-stays text words at w v None e n f m h =
-    subst (λ k. All (λ u. is_word u text ≡ false) (take k words)) (let s : (at + 1) + 1 ≡ at + 2 = omega arith in s) (none-more text words (at + 1) v f m (none-more text words at w e n h))
-value-stays text words at w v (Some value) e n f m h = h
+-- one word more that is not this text: its value stays
+value-stays : (text : List ℕ) (words : List (List ℕ)) (at : ℕ) (w : List ℕ) (value : Option ℕ) → slice_get words at ≡ Some w → is_word w text ≡ false → IsValue words text at value → IsValue words text (at + 1) value
+value-stays text words at w None e n h = none-more text words at w e n h
+value-stays text words at w (Some value) e n h = h
+
+-- two words more, neither of which is this text
+value-kept : (text : List ℕ) (words : List (List ℕ)) (at : ℕ) (w v : List ℕ) (value : Option ℕ) → slice_get words at ≡ Some w → is_word w text ≡ false → slice_get words (at + 1) ≡ Some v → is_word v text ≡ false → IsValue words text at value → IsValue words text (at + 2) value
+value-kept text words at w v value e n f m h =
+    subst (λ k. IsValue words text k value) (let s : (at + 1) + 1 ≡ at + 2 = omega arith in s) (value-stays text words (at + 1) v value f m (value-stays text words at w value e n h))
 
 value-found : (text : List ℕ) (words : List (List ℕ)) (at : ℕ) (v : List ℕ) (value : Option ℕ) (found : ℕ) → value ≡ None → IsValue words text at value → slice_get words at ≡ Some text → slice_get words (at + 1) ≡ Some v → digits_value 10 v ≡ found
     → IsValue words text (at + 2) (Some found)
 value-found text words at v value found none h e f d =
     found-behind text words at v (subst (IsValue words text at) none h) e f ∙ ap (λ n. let o : Option ℕ = Some n in o) d
 
+-- ---- a word that may stand among words
+
+has-last : (text : List ℕ) (words : List (List ℕ)) (w : List ℕ) → has_word text (words ++ w ∷ []) ≡ has_word text words || is_word w text
+has-last text [] w = or-false (is_word w text)
+  where
+    or-false : (b : Bool) → b || false ≡ b
+    or-false true = refl
+    or-false false = refl
+has-last text (v ∷ words) w = by (is_word v text) refl (has-last text words w)
+  where
+    by : (b : Bool) → is_word v text ≡ b → has_word text (words ++ w ∷ []) ≡ has_word text words || is_word w text → is_word v text || has_word text (words ++ w ∷ []) ≡ (is_word v text || has_word text words) || is_word w text
+    by true e h = ap (λ c. c || has_word text (words ++ w ∷ [])) e ∙ sym (ap (λ c. (c || has_word text words) || is_word w text) e)
+    by false e h = ap (λ c. c || has_word text (words ++ w ∷ [])) e ∙ (h ∙ sym (ap (λ c. (c || has_word text words) || is_word w text) e))
+
+has-more : (text : List ℕ) (words : List (List ℕ)) (at : ℕ) (w : List ℕ) → slice_get words at ≡ Some w → has_word text (take (at + 1) words) ≡ has_word text (take at words) || is_word w text
+has-more text words at w e = ap (has_word text) (taken-one words at w e) ∙ has-last text (take at words) w
+
+-- one word more that is not this text
+has-same : (text : List ℕ) (words : List (List ℕ)) (at : ℕ) (w : List ℕ) (b : Bool) → slice_get words at ≡ Some w → is_word w text ≡ false → has_word text (take at words) ≡ b → has_word text (take (at + 1) words) ≡ b
+has-same text words at w b e n h = has-more text words at w e ∙ (ap (λ c. has_word text (take at words) || c) n ∙ (or-nothing (has_word text (take at words)) ∙ h))
+  where
+    or-nothing : (b : Bool) → b || false ≡ b
+    or-nothing true = refl
+    or-nothing false = refl
+
+-- two words more, neither of which is this text
+has-kept : (text : List ℕ) (words : List (List ℕ)) (at : ℕ) (w v : List ℕ) (b : Bool) → slice_get words at ≡ Some w → is_word w text ≡ false → slice_get words (at + 1) ≡ Some v → is_word v text ≡ false → has_word text (take at words) ≡ b → has_word text (take (at + 2) words) ≡ b
+has-kept text words at w v b e n f m h =
+    subst (λ k. has_word text (take k words) ≡ b) (let s : (at + 1) + 1 ≡ at + 2 = omega arith in s) (has-same text words (at + 1) v b f m (has-same text words at w b e n h))
+
+-- one word more that is this text
+has-found : (text : List ℕ) (words : List (List ℕ)) (at : ℕ) → slice_get words at ≡ Some text → has_word text (take (at + 1) words) ≡ true
+has-found text words at e = has-more text words at text e ∙ (ap (λ c. has_word text (take at words) || c) (same-word text) ∙ or-true (has_word text (take at words)))
+  where
+    or-true : (b : Bool) → b || true ≡ true
+    or-true true = refl
+    or-true false = refl
+
+has-none : (text : List ℕ) (words : List (List ℕ)) → All (λ w. is_word w text ≡ false) words → has_word text words ≡ false
+has-none text [] h = refl
+has-none text (w ∷ words) h =
+    ap (λ b. b || has_word text words) (All-head (λ u. is_word u text ≡ false) w words h) ∙ has-none text words (All-tail (λ u. is_word u text ≡ false) w words h)
+
+-- ---- the options of a run have different words
+
+different-options : (b w : Option ℕ) (p : Bool) → DifferentWords (left b bound_option ++ (left w workers_option ++ unless p proofs_option))
+different-options None None false = (refl, (refl, (refl, tt)))
+different-options None None true = (refl, (refl, tt))
+different-options None (Some v) false = (refl, (refl, tt))
+different-options None (Some v) true = (refl, tt)
+different-options (Some u) None false = (refl, (refl, tt))
+different-options (Some u) None true = (refl, tt)
+different-options (Some u) (Some v) false = (refl, tt)
+different-options (Some u) (Some v) true = tt
+
+takes-workers : (b : Option ℕ) (p : Bool) → Takes workers_option (left b bound_option ++ workers_option ∷ unless p proofs_option) (left b bound_option ++ unless p proofs_option)
+takes-workers None p = behind (here refl)
+takes-workers (Some v) p = here refl
+
+takes-proofs : (b w : Option ℕ) → Takes proofs_option (left b bound_option ++ (left w workers_option ++ proofs_option ∷ [])) (left b bound_option ++ (left w workers_option ++ []))
+takes-proofs None None = behind (behind (here refl))
+takes-proofs None (Some v) = behind (here refl)
+takes-proofs (Some u) None = behind (here refl)
+takes-proofs (Some u) (Some v) = here refl
+
 -- ---- one option
 
 module _ (words : List (List ℕ)) (options : RunOptions) (at : ℕ) (read : IsReadTo words options at) where
+  -- the options that are left
+  abbrev run_options : Option ℕ → Option ℕ → Bool → List OptionForm
+  run_options b w p = left b bound_option ++ (left w workers_option ++ unless p proofs_option)
+
   as-word : (number place : ℕ) → number ≡ place + 1 → IsFirstBad (FitsForm run_form) words place → IsBadRunWord words number
   as-word number place e b = record { place = place; is = e; bad = b }
 
   pub no-option : (w : List ℕ) → slice_get words at ≡ Some w → list_any (λ o. is_word w o.word) (options_left options) ≡ false → IsBadRunWord words (at + 1)
-  no-option w e h = as-word (at + 1) at refl (bad-option (FitsForm run_form) words at (options_left options) w e h (can-take_options options.bound options.workers) read.leads)
+  no-option w e h = as-word (at + 1) at refl (bad-option (FitsForm run_form) words at (options_left options) w e h (can-take_options options.bound options.workers options.proofs) read.leads)
 
   -- `--bound`
-  different-bound : (w : Option ℕ) → DifferentWords (bound_option ∷ left w workers_option)
-  different-bound None = (refl, (refl, tt))
-  different-bound (Some v) = (refl, tt)
-
   module _ (e : slice_get words at ≡ Some (codes "--bound")) (none : options.bound ≡ None) where
-    to-bound : Leads (FitsForm run_form) (Fits (NumberFrom 0 greatest_bound ∷ []) (left options.workers workers_option)) words (at + 1)
+    abbrev after_bound : List OptionForm
+    after_bound = left options.workers workers_option ++ unless options.proofs proofs_option
+
+    to-bound : Leads (FitsForm run_form) (Fits (NumberFrom 0 greatest_bound ∷ []) after_bound) words (at + 1)
     to-bound =
-        leads-option (FitsForm run_form) words at {o = bound_option} {os = bound_option ∷ left options.workers workers_option} {others = left options.workers workers_option} (different-bound options.workers) (here refl) e
-        (subst (λ b. Leads (FitsForm run_form) (Fits [] (left b bound_option ++ left options.workers workers_option)) words at) none read.leads)
+        leads-option (FitsForm run_form) words at {o = bound_option} {os = bound_option ∷ after_bound} {others = after_bound} (different-options None options.workers options.proofs) (here refl) e
+        (subst (λ b. Leads (FitsForm run_form) (Fits [] (run_options b options.workers options.proofs)) words at) none read.leads)
 
     pub no-bound : (number : ℕ) → number ≡ at + 1 + 1 → LacksPart words (at + 1) (NumberFrom 0 greatest_bound) → IsBadRunWord words number
-    no-bound number n h = as-word number (at + 1) n (bad-part (FitsForm run_form) words (at + 1) (NumberFrom 0 greatest_bound) [] (left options.workers workers_option) h (can-take_bound options.workers) to-bound)
+    no-bound number n h = as-word number (at + 1) n (bad-part (FitsForm run_form) words (at + 1) (NumberFrom 0 greatest_bound) [] after_bound h (can-take_bound options.workers options.proofs) to-bound)
 
-    with-bound : (value : ℕ) (v : List ℕ) → slice_get words (at + 1) ≡ Some v → number_from 0 greatest_bound v ≡ Some value → IsReadTo words (record { bound = Some value; workers = options.workers }) (at + 2)
-    with-bound value v f d = record {
-      leads = subst (λ k. Leads (FitsForm run_form) (Fits [] (left options.workers workers_option)) words k) (let s : (at + 1) + 1 ≡ at + 2 = omega arith in s)
-          (leads-part (FitsForm run_form) words (at + 1) (NumberFrom 0 greatest_bound) [] (left options.workers workers_option)
-          (subst (λ o. IsSomeAnd o (λ w. is_part (NumberFrom 0 greatest_bound) w ≡ true)) (sym f) (ap is_some d)) to-bound);
-      bound = value-found (codes "--bound") words at v options.bound value none read.bound e f (value-of 0 greatest_bound v value d);
-      workers = value-stays (codes "--workers") words at (codes "--bound") v options.workers e refl f (other-word is_number_word (codes "--workers") v refl (number-word 0 greatest_bound v value d)) read.workers;
-      small = value-small 0 greatest_bound v value d;
-    }
+    with-bound : (value : ℕ) (v : List ℕ) → slice_get words (at + 1) ≡ Some v → number_from 0 greatest_bound v ≡ Some value → IsReadTo words (record options { bound = Some value }) (at + 2)
+    with-bound value v f d =
+        let is_number = number-word 0 greatest_bound v value d in
+        record {
+          leads = subst (λ k. Leads (FitsForm run_form) (Fits [] after_bound) words k) (let s : (at + 1) + 1 ≡ at + 2 = omega arith in s)
+              (leads-part (FitsForm run_form) words (at + 1) (NumberFrom 0 greatest_bound) [] after_bound
+              (subst (λ o. IsSomeAnd o (λ w. is_part (NumberFrom 0 greatest_bound) w ≡ true)) (sym f) (ap is_some d)) to-bound);
+          bound = value-found (codes "--bound") words at v options.bound value none read.bound e f (value-of 0 greatest_bound v value d);
+          workers = value-kept (codes "--workers") words at (codes "--bound") v options.workers e refl f (other-word is_number_word (codes "--workers") v refl is_number) read.workers;
+          proofs = has-kept (codes "--proofs") words at (codes "--bound") v options.proofs e refl f (other-word is_number_word (codes "--proofs") v refl is_number) read.proofs;
+          small = value-small 0 greatest_bound v value d;
+        }
 
-    bound-next : (value : ℕ) (next : Option (List ℕ)) → slice_get words (at + 1) ≡ next → IsSomeAnd next (λ w. number_from 0 greatest_bound w ≡ Some value) → IsReadTo words (record { bound = Some value; workers = options.workers }) (at + 2)
+    bound-next : (value : ℕ) (next : Option (List ℕ)) → slice_get words (at + 1) ≡ next → IsSomeAnd next (λ w. number_from 0 greatest_bound w ≡ Some value) → IsReadTo words (record options { bound = Some value }) (at + 2)
     bound-next value None f h = absurd h
     bound-next value (Some v) f h = with-bound value v f h
 
-    pub has-bound : (value : ℕ) → IsSomeAnd (slice_get words (at + 1)) (λ w. number_from 0 greatest_bound w ≡ Some value) → IsReadTo words (record { bound = Some value; workers = options.workers }) (at + 2)
+    pub has-bound : (value : ℕ) → IsSomeAnd (slice_get words (at + 1)) (λ w. number_from 0 greatest_bound w ≡ Some value) → IsReadTo words (record options { bound = Some value }) (at + 2)
     has-bound value h = bound-next value (slice_get words (at + 1)) refl h
 
   -- `--workers`
-  different-workers : (b : Option ℕ) → DifferentWords (left b bound_option ++ workers_option ∷ [])
-  different-workers None = (refl, (refl, tt))
-  different-workers (Some v) = (refl, tt)
-
-  takes-workers : (b : Option ℕ) → Takes workers_option (left b bound_option ++ workers_option ∷ []) (left b bound_option ++ [])
-  takes-workers None = behind (here refl)
-  takes-workers (Some v) = here refl
-
   module _ (e : slice_get words at ≡ Some (codes "--workers")) (none : options.workers ≡ None) where
-    to-workers : Leads (FitsForm run_form) (Fits (NumberFrom 1 greatest_workers ∷ []) (left options.bound bound_option ++ [])) words (at + 1)
+    abbrev after_workers : List OptionForm
+    after_workers = left options.bound bound_option ++ unless options.proofs proofs_option
+
+    to-workers : Leads (FitsForm run_form) (Fits (NumberFrom 1 greatest_workers ∷ []) after_workers) words (at + 1)
     to-workers =
-        leads-option (FitsForm run_form) words at {o = workers_option} {os = left options.bound bound_option ++ workers_option ∷ []} {others = left options.bound bound_option ++ []} (different-workers options.bound) (takes-workers options.bound) e
-        (subst (λ w. Leads (FitsForm run_form) (Fits [] (left options.bound bound_option ++ left w workers_option)) words at) none read.leads)
+        leads-option (FitsForm run_form) words at {o = workers_option} {os = run_options options.bound None options.proofs} {others = after_workers} (different-options options.bound None options.proofs) (takes-workers options.bound options.proofs) e
+        (subst (λ w. Leads (FitsForm run_form) (Fits [] (run_options options.bound w options.proofs)) words at) none read.leads)
 
     pub no-workers : (number : ℕ) → number ≡ at + 1 + 1 → LacksPart words (at + 1) (NumberFrom 1 greatest_workers) → IsBadRunWord words number
-    no-workers number n h = as-word number (at + 1) n (bad-part (FitsForm run_form) words (at + 1) (NumberFrom 1 greatest_workers) [] (left options.bound bound_option ++ []) h (can-take_worker_count options.bound) to-workers)
+    no-workers number n h = as-word number (at + 1) n (bad-part (FitsForm run_form) words (at + 1) (NumberFrom 1 greatest_workers) [] after_workers h (can-take_worker_count options.bound options.proofs) to-workers)
 
-    with-workers : (value : ℕ) (v : List ℕ) → slice_get words (at + 1) ≡ Some v → number_from 1 greatest_workers v ≡ Some value → IsReadTo words (record { bound = options.bound; workers = Some value }) (at + 2)
-    with-workers value v f d = record {
-      leads = subst (λ k. Leads (FitsForm run_form) (Fits [] (left options.bound bound_option ++ [])) words k) (let s : (at + 1) + 1 ≡ at + 2 = omega arith in s)
-          (leads-part (FitsForm run_form) words (at + 1) (NumberFrom 1 greatest_workers) [] (left options.bound bound_option ++ [])
-          (subst (λ o. IsSomeAnd o (λ w. is_part (NumberFrom 1 greatest_workers) w ≡ true)) (sym f) (ap is_some d)) to-workers);
-      bound = value-stays (codes "--bound") words at (codes "--workers") v options.bound e refl f (other-word is_number_word (codes "--bound") v refl (number-word 1 greatest_workers v value d)) read.bound;
-      workers = value-found (codes "--workers") words at v options.workers value none read.workers e f (value-of 1 greatest_workers v value d);
-      small = read.small;
-    }
+    with-workers : (value : ℕ) (v : List ℕ) → slice_get words (at + 1) ≡ Some v → number_from 1 greatest_workers v ≡ Some value → IsReadTo words (record options { workers = Some value }) (at + 2)
+    with-workers value v f d =
+        let is_number = number-word 1 greatest_workers v value d in
+        record {
+          leads = subst (λ k. Leads (FitsForm run_form) (Fits [] after_workers) words k) (let s : (at + 1) + 1 ≡ at + 2 = omega arith in s)
+              (leads-part (FitsForm run_form) words (at + 1) (NumberFrom 1 greatest_workers) [] after_workers
+              (subst (λ o. IsSomeAnd o (λ w. is_part (NumberFrom 1 greatest_workers) w ≡ true)) (sym f) (ap is_some d)) to-workers);
+          bound = value-kept (codes "--bound") words at (codes "--workers") v options.bound e refl f (other-word is_number_word (codes "--bound") v refl is_number) read.bound;
+          workers = value-found (codes "--workers") words at v options.workers value none read.workers e f (value-of 1 greatest_workers v value d);
+          proofs = has-kept (codes "--proofs") words at (codes "--workers") v options.proofs e refl f (other-word is_number_word (codes "--proofs") v refl is_number) read.proofs;
+          small = read.small;
+        }
 
-    workers-next : (value : ℕ) (next : Option (List ℕ)) → slice_get words (at + 1) ≡ next → IsSomeAnd next (λ w. number_from 1 greatest_workers w ≡ Some value) → IsReadTo words (record { bound = options.bound; workers = Some value }) (at + 2)
+    workers-next : (value : ℕ) (next : Option (List ℕ)) → slice_get words (at + 1) ≡ next → IsSomeAnd next (λ w. number_from 1 greatest_workers w ≡ Some value) → IsReadTo words (record options { workers = Some value }) (at + 2)
     workers-next value None f h = absurd h
     workers-next value (Some v) f h = with-workers value v f h
 
-    pub has-workers : (value : ℕ) → IsSomeAnd (slice_get words (at + 1)) (λ w. number_from 1 greatest_workers w ≡ Some value) → IsReadTo words (record { bound = options.bound; workers = Some value }) (at + 2)
+    pub has-workers : (value : ℕ) → IsSomeAnd (slice_get words (at + 1)) (λ w. number_from 1 greatest_workers w ≡ Some value) → IsReadTo words (record options { workers = Some value }) (at + 2)
     has-workers value h = workers-next value (slice_get words (at + 1)) refl h
+
+  -- `--proofs`
+  pub has-proofs : slice_get words at ≡ Some (codes "--proofs") → options.proofs ≡ false → IsReadTo words (record options { proofs = true }) (at + 1)
+  has-proofs e none = record {
+    leads = leads-option (FitsForm run_form) words at {o = proofs_option} {os = run_options options.bound options.workers false} {others = run_options options.bound options.workers true}
+        (different-options options.bound options.workers false) (takes-proofs options.bound options.workers) e
+        (subst (λ p. Leads (FitsForm run_form) (Fits [] (run_options options.bound options.workers p)) words at) none read.leads);
+    bound = value-stays (codes "--bound") words at (codes "--proofs") options.bound e refl read.bound;
+    workers = value-stays (codes "--workers") words at (codes "--proofs") options.workers e refl read.workers;
+    proofs = has-found (codes "--proofs") words at e;
+    small = read.small;
+  }
 
 -- ---- the whole run
 
@@ -245,11 +335,12 @@ module _ (words : List (List ℕ)) (run : HasPart words 0 (ThisWord (codes "run"
     before-options text fails other query =
         name-other text 2 (slice_get words 2) other refl query (name-other text 1 (slice_get words 1) other refl program (run-other text (slice_get words 0) fails refl run))
 
-    pub names-read : (query : HasPart words 2 AnyName) → IsReadTo words (record { bound = None; workers = None }) 3
+    pub names-read : (query : HasPart words 2 AnyName) → IsReadTo words (record { bound = None; workers = None; proofs = false }) 3
     names-read query = record {
       leads = leads-part (FitsForm run_form) words 2 AnyName [] run_form.options query to-query;
       bound = before-options (codes "--bound") refl refl query;
       workers = before-options (codes "--workers") refl refl query;
+      proofs = has-none (codes "--proofs") (take 3 words) (before-options (codes "--proofs") refl refl query);
       small = tt;
     }
 
@@ -269,35 +360,38 @@ ends-early words options h r =
     record {
       place = length words;
       is = refl;
-      bad = bad-end (FitsForm run_form) (word_texts words) (length words) (options_left options) (slice_get_past (word_texts words) (length words) past) h (can-take_options options.bound options.workers) r.leads;
+      bad = bad-end (FitsForm run_form) (word_texts words) (length words) (options_left options) (slice_get_past (word_texts words) (length words) past) h (can-take_options options.bound options.workers options.proofs) r.leads;
     }
 
-lacks-bound : (w : Option ℕ) → list_all (λ o. o.may_lack) (left None bound_option ++ left w workers_option) ≡ false
-lacks-bound w = refl
+lacks-bound : (w : Option ℕ) (p : Bool) → list_all (λ o. o.may_lack) (left None bound_option ++ (left w workers_option ++ unless p proofs_option)) ≡ false
+lacks-bound w p = refl
 
-lacks-workers : (b : Option ℕ) → list_all (λ o. o.may_lack) (left b bound_option ++ left None workers_option) ≡ false
-lacks-workers None = refl
-lacks-workers (Some v) = refl
+lacks-workers : (b : Option ℕ) (p : Bool) → list_all (λ o. o.may_lack) (left b bound_option ++ (left None workers_option ++ unless p proofs_option)) ≡ false
+lacks-workers None p = refl
+lacks-workers (Some v) p = refl
 
 pub bound-lacks : (words : List (Bor (List ℕ))) (options : RunOptions) → options.bound ≡ None → IsReadTo (word_texts words) options (length words) → IsBadRunWord (word_texts words) (length words + 1)
 bound-lacks words options e r =
-    ends-early words options (subst (λ b. list_all (λ o. o.may_lack) (left b bound_option ++ left options.workers workers_option) ≡ false) (sym e) (lacks-bound options.workers)) r
+    ends-early words options (subst (λ b. list_all (λ o. o.may_lack) (left b bound_option ++ (left options.workers workers_option ++ unless options.proofs proofs_option)) ≡ false) (sym e) (lacks-bound options.workers options.proofs)) r
 
 pub workers-lack : (words : List (Bor (List ℕ))) (options : RunOptions) → options.workers ≡ None → IsReadTo (word_texts words) options (length words) → IsBadRunWord (word_texts words) (length words + 1)
 workers-lack words options e r =
-    ends-early words options (subst (λ w. list_all (λ o. o.may_lack) (left options.bound bound_option ++ left w workers_option) ≡ false) (sym e) (lacks-workers options.bound)) r
+    ends-early words options (subst (λ w. list_all (λ o. o.may_lack) (left options.bound bound_option ++ (left w workers_option ++ unless options.proofs proofs_option)) ≡ false) (sym e) (lacks-workers options.bound options.proofs)) r
 
 -- all of a run is there
 pub whole-run : (words : List (Bor (List ℕ))) (program query : List ℕ) (options : RunOptions) (bound workers : ℕ) → slice_get (word_texts words) 1 ≡ Some program → slice_get (word_texts words) 2 ≡ Some query
-    → options.bound ≡ Some bound → options.workers ≡ Some workers → IsReadTo (word_texts words) options (length words) → IsRun (word_texts words) (record { program = program; query = query; bound = bound; workers = workers })
+    → options.bound ≡ Some bound → options.workers ≡ Some workers → IsReadTo (word_texts words) options (length words) → IsRun (word_texts words) (record { program = program; query = query; bound = bound; workers = workers; proofs = options.proofs })
 whole-run words program query options bound workers p q b w r =
     let l = length-map words (λ (x : Bor (List ℕ)). x.now) in
     let past : length (word_texts words) ≤ length words = omega arith in
-    let none_left : Fits [] (options_left options) [] = subst (λ o. Fits [] (left o bound_option ++ left options.workers workers_option) []) (sym b) (subst (λ o. Fits [] (left (Some bound) bound_option ++ left o workers_option) []) (sym w) (done refl)) in
+    let none_left : Fits [] (options_left options) [] =
+    subst (λ o. Fits [] (left o bound_option ++ (left options.workers workers_option ++ unless options.proofs proofs_option)) []) (sym b)
+    (subst (λ o. Fits [] (left (Some bound) bound_option ++ (left o workers_option ++ unless options.proofs proofs_option)) []) (sym w) (done (may-lack options.proofs))) in
     record {
       form = r.leads.good (subst (Fits [] (options_left options)) (sym (drop-end (word_texts words) (length words) (slice_get_past (word_texts words) (length words) past))) none_left);
       program = p;
       query = q;
       bound = subst (IsValue (word_texts words) (codes "--bound") (length words)) b r.bound;
       workers = subst (IsValue (word_texts words) (codes "--workers") (length words)) w r.workers;
+      proofs = ap (has_word (codes "--proofs")) (sym (take_all (length words) (word_texts words) past)) ∙ r.proofs;
     }

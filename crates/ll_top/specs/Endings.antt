@@ -4,7 +4,8 @@ use Rattle.std.specs.Io.KnownBytes.{append_known}
 use Rattle.ll_edge.specs.Pieces.{AppendsFront}
 use Rattle.ll_edge.specs.Texts.{Texts, text_of}
 use Rattle.ll_laws.specs.Problem.{ProblemTree}
-use Rattle.ll_laws.specs.Output.{run_text, run_status}
+use Rattle.ll_laws.specs.Output.{run_status}
+use Rattle.ll_laws.specs.Valid.{IsValid}
 use Rattle.ll_lexer.specs.declared.TextFault.{TextFault}
 use Rattle.ll_lexer.specs.declared.TextFault.TheVariants as text_fault
 use Rattle.ll_top.specs.declared.fault.Cause.{Cause as OwnCause}
@@ -22,7 +23,7 @@ use Rattle.ll_top.specs.Faults.{Cause, Usage, Absent, Unreadable, Oversized, Fau
 use Rattle.ll_parser.specs.Raw.{ProgramTree}
 use Rattle.ll_parser.specs.Printed.{program_text}
 use Rattle.ll_top.specs.Judging.{IsProgramText, IsReadingFault, IsTextFault, TextsAsk}
-use Rattle.ll_top.specs.Outcome.{longest_text, name_of, RunFails, RunAsks, RunComesTo, PrintFails, IsPrintedAs, AppendsOwn}
+use Rattle.ll_top.specs.Outcome.{longest_text, name_of, RunFails, RunAsks, whole_text, RunComesTo, PrintFails, IsPrintedAs, AppendsOwn}
 
 -- ---- causes
 
@@ -94,9 +95,9 @@ status_of_found Bound = 2
 
 -- how the search of a run ended, before any fault line is written
 abbrev pub RunEnds : Option Texts → Type 0 → Type 0 → Type 0 → RunWords → Option (List ℕ) → Option (List ℕ) → Result Found Refusal → Type 0
-RunEnds told absence read_failed write_failed run before after (Ok found) = (p : ProblemTree) × RunAsks told run p × (status_of_found found ≡ run_status p) × (after ≡ append_known before (run_text p))
+RunEnds told absence read_failed write_failed run before after (Ok found) = (p : ProblemTree) × RunAsks told run p × IsValid p × (status_of_found found ≡ run_status p) × (after ≡ append_known before (whole_text run.proofs p))
 RunEnds told absence read_failed write_failed run before after (Err (Text role refusal)) = RunFails told absence read_failed run (cause_of (name_of run role) refusal) × (after ≡ before)
-RunEnds told absence read_failed write_failed run before after (Err Unwritable) = (p : ProblemTree) × RunAsks told run p × write_failed × AppendsFront before (run_text p) after
+RunEnds told absence read_failed write_failed run before after (Err Unwritable) = (p : ProblemTree) × RunAsks told run p × write_failed × AppendsFront before (whole_text run.proofs p) after
 RunEnds told absence read_failed write_failed run before after (Err OutOfMemory) = AppendsOwn (RunComesTo told absence read_failed run) before after
 
 -- ---- the print

@@ -6,3 +6,4 @@ pub mod Judging
 pub mod Outcome
 pub mod Endings
 pub mod Running
+pub mod Proved

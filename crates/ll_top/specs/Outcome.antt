@@ -1,11 +1,12 @@
 -- What a call of the program does, by its words and the texts on its shelf.
-use Rattle.std.specs.Prelude.{◌≡◌, ◌≤◌, ◌<◌, ◌⊎◌, ℕ, List, [], ◌∷◌, length, map, Option, Some, None, IsSomeAnd, IfSome}
+use Rattle.std.specs.Prelude.{◌≡◌, ◌≤◌, ◌<◌, ◌⊎◌, ℕ, Bool, true, false, List, [], ◌∷◌, length, map, Option, Some, None, IsSomeAnd, IfSome}
 use Rattle.std.specs.Borrow.{Bor}
 use Rattle.std.specs.Io.KnownBytes.{append_known}
 use Rattle.ll_edge.specs.Texts.{Texts, text_of}
 use Rattle.ll_edge.specs.Pieces.{AppendsFront}
 use Rattle.ll_laws.specs.Problem.{ProblemTree}
 use Rattle.ll_laws.specs.Output.{run_text, run_status}
+use Rattle.ll_laws.specs.ProofText.{proved_run_text}
 use Rattle.ll_lexer.specs.declared.Fault.{Fault}
 use Rattle.ll_parser.specs.Raw.{ProgramTree}
 use Rattle.ll_parser.specs.Printed.{program_text}
@@ -64,9 +65,14 @@ pub record RunAsks (told : Option Texts) (run : RunWords) (p : ProblemTree) : Ty
   pub query_read : IsRead told run.query query
   pub asks : TextsAsk program query run.bound p
 
+-- the text that a run of a problem writes, with proofs or without
+abbrev pub whole_text : Bool → ProblemTree → List ℕ
+whole_text false p = run_text p
+whole_text true p = proved_run_text p
+
 -- what a run comes to: the text of its search, or a fault line, each with its status
 pub data RunComesTo (told : Option Texts) (absence read_failed : Type 0) (run : RunWords) (status : ℕ) (text : List ℕ) : Type 0 where
-  ran : (p : ProblemTree) → RunAsks told run p → status ≡ run_status p → text ≡ run_text p → RunComesTo told absence read_failed run status text
+  ran : (p : ProblemTree) → RunAsks told run p → status ≡ run_status p → text ≡ whole_text run.proofs p → RunComesTo told absence read_failed run status text
   failed : (cause : Cause) → RunFails told absence read_failed run cause → status ≡ cause_status cause → text ≡ fault_text cause → RunComesTo told absence read_failed run status text
 
 -- ---- prints

@@ -1,5 +1,5 @@
 -- A run that is on its way: what was counted and written of its events so far.
-use Rattle.std.specs.Prelude.{◌≡◌, ◌<◌, ◌≤◌, ◌^◌, length, ⊤, ℕ, ◌+◌, zero, suc, List, [], ◌++◌, count_by, Option}
+use Rattle.std.specs.Prelude.{◌≡◌, ◌<◌, ◌≤◌, ◌^◌, length, ⊤, ℕ, Bool, true, false, ◌+◌, zero, suc, List, [], ◌++◌, count_by, Option}
 use Rattle.std.specs.Io.KnownBytes.{append_known}
 use Rattle.ll_edge.specs.Counts.{Rose}
 use Rattle.ll_laws.specs.declared.Event.{Event}
@@ -8,14 +8,22 @@ use Rattle.ll_laws.specs.declared.Counts.{Counts}
 use Rattle.ll_laws.specs.Search.{cut_count, is_answer, is_reached}
 use Rattle.ll_laws.specs.Problem.{ProblemTree, problem_events, problem_cost}
 use Rattle.ll_laws.specs.Output.{answer_text, answers_text}
+use Rattle.ll_laws.specs.ProofText.{derivation_text, proved_answers_text}
+use Rattle.ll_laws.specs.Dealt.{dealt}
 use Rattle.ll_engine.specs.Seen.{Owing}
 use Rattle.ll_top.specs.declared.refusal.Refusal.{Refusal}
 use Rattle.ll_top.specs.declared.refusal.Refusal.TheVariants.{Text, Unwritable, OutOfMemory}
 
--- the lines of an event of a problem after k answers
-abbrev pub event_lines : ProblemTree → ℕ → Event → List ℕ
-event_lines p k (Answer a) = answer_text p (suc k) a
-event_lines p k Reached = []
+-- the lines of an event of a problem after k answers, with proofs or without
+abbrev pub event_lines : Bool → ProblemTree → ℕ → Event → List ℕ
+event_lines false p k (Answer a) = answer_text p (suc k) a
+event_lines true p k (Answer a) = answer_text p (suc k) a ++ derivation_text p.names (dealt p a)
+event_lines proofs p k Reached = []
+
+-- the lines of the events of a problem after k answers, with proofs or without
+abbrev pub all_lines : Bool → ProblemTree → ℕ → List Event → List ℕ
+all_lines false p k es = answers_text p k es
+all_lines true p k es = proved_answers_text p k es
 
 -- an answer has a term for each variable that is asked for
 abbrev pub AnswersAll : ProblemTree → Event → Type 0
@@ -44,7 +52,7 @@ IsRunRefusal before after OutOfMemory = ⊤
 IsRunRefusal before after (Text role refusal) = ⊥
 
 -- a run of a problem is on its way: its engine owes the rest, and this was counted and written so far
-pub record IsRunning (p : ProblemTree) (owing : Owing) (counts : Counts) (before after : Option (List ℕ)) : Type 0 where
+pub record IsRunning (proofs : Bool) (p : ProblemTree) (owing : Owing) (counts : Counts) (before after : Option (List ℕ)) : Type 0 where
   -- the events that were found
   pub found : List Event
   pub events : found ++ owing.events ≡ problem_events p
@@ -52,7 +60,7 @@ pub record IsRunning (p : ProblemTree) (owing : Owing) (counts : Counts) (before
   pub done : List ℕ
   pub written : after ≡ append_known before done
   -- what was written, and what is still to be written of the answers
-  pub rest : done ++ answers_text p counts.answers owing.events ≡ answers_text p 0 (problem_events p)
+  pub rest : done ++ all_lines proofs p counts.answers owing.events ≡ all_lines proofs p 0 (problem_events p)
   pub answers : cut_count (counts.answers + count_by is_answer owing.events) ≡ cut_count (count_by is_answer (problem_events p))
   pub reached : cut_count (counts.reached + count_by is_reached owing.events) ≡ cut_count (count_by is_reached (problem_events p))
   pub answers_fit : counts.answers < 2 ^ 64

@@ -91,9 +91,13 @@ bound_option = record { word = codes "--bound"; values = NumberFrom 0 greatest_b
 abbrev pub workers_option : OptionForm
 workers_option = record { word = codes "--workers"; values = NumberFrom 1 greatest_workers ∷ []; may_lack = false }
 
--- `run PROGRAM QUERY --bound N --workers W`
+-- `--proofs`
+abbrev pub proofs_option : OptionForm
+proofs_option = record { word = codes "--proofs"; values = []; may_lack = true }
+
+-- `run PROGRAM QUERY --bound N --workers W [--proofs]`
 abbrev pub run_form : Form
-run_form = record { parts = ThisWord (codes "run") ∷ AnyName ∷ AnyName ∷ []; options = bound_option ∷ workers_option ∷ [] }
+run_form = record { parts = ThisWord (codes "run") ∷ AnyName ∷ AnyName ∷ []; options = bound_option ∷ workers_option ∷ proofs_option ∷ [] }
 
 -- `print PROGRAM`
 abbrev pub print_form : Form
@@ -121,12 +125,13 @@ pub record IsBadWord (words : List (List ℕ)) (number : ℕ) : Type 0 where
 
 -- ---- what words ask for
 
--- what the words `run PROGRAM QUERY --bound N --workers W` ask for
+-- what the words `run PROGRAM QUERY --bound N --workers W [--proofs]` ask for
 pub record RunWords : Type 0 where
   pub program : List ℕ
   pub query : List ℕ
   pub bound : ℕ
   pub workers : ℕ
+  pub proofs : Bool
 
 -- the number in the word behind the first one that is this text
 abbrev pub number_behind : List ℕ → List (List ℕ) → Option ℕ
@@ -134,13 +139,18 @@ number_behind text [] = None
 number_behind text (w ∷ []) = None
 number_behind text (w ∷ v ∷ ws) = if is_word w text then Some (digits_value 10 v) else number_behind text (v ∷ ws)
 
--- words are in the form of a run, and ask for this
+-- some word is this text
+abbrev pub has_word : List ℕ → List (List ℕ) → Bool
+has_word text words = list_any (λ w. is_word w text) words
+
+-- Words are in the form of a run, and ask for this. The word of an option stands behind the names: no name begins with `--`, and no value does.
 pub record IsRun (words : List (List ℕ)) (run : RunWords) : Type 0 where
   pub form : FitsForm run_form words
   pub program : slice_get words 1 ≡ Some run.program
   pub query : slice_get words 2 ≡ Some run.query
   pub bound : number_behind (codes "--bound") words ≡ Some run.bound
   pub workers : number_behind (codes "--workers") words ≡ Some run.workers
+  pub proofs : has_word (codes "--proofs") words ≡ run.proofs
 
 -- words are in the form of a print, and this is the name of its program
 pub record IsPrint (words : List (List ℕ)) (name : List ℕ) : Type 0 where
@@ -149,7 +159,7 @@ pub record IsPrint (words : List (List ℕ)) (name : List ℕ) : Type 0 where
 
 -- what the program's record of a run shows
 abbrev pub shown_words : RunCommand → RunWords
-shown_words c = record { program = c.program.now; query = c.query.now; bound = c.bound; workers = c.workers }
+shown_words c = record { program = c.program.now; query = c.query.now; bound = c.bound; workers = c.workers; proofs = c.proofs }
 
 -- words ask for this command
 abbrev pub IsCommand : List (List ℕ) → Command → Type 0

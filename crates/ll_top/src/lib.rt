@@ -12,13 +12,15 @@ mod words;
 ghost use Rattle.std.specs.Prelude.{◌≡◌, ◌≤◌, ◌↔◌, ◌⊎◌, ℕ, List, Option, None, Some, IfSome};
 ghost use Rattle.ll_edge.specs.Counts.{Rose};
 ghost use Rattle.ll_edge.specs.Texts.{Texts};
-ghost use Rattle.ll_top.specs.Words.{IsInForm, IsInWorkersForm, shown_words};
+ghost use Rattle.ll_top.specs.Words.{IsInForm, IsInWorkersForm, RunWords, IsRun, shown_words};
 ghost use Rattle.ll_top.specs.Outcome.{word_texts, name_of, ComesTo, RunComesTo, PrintComesTo, Ends, Completes};
 ghost use Rattle.ll_top.specs.Endings.{status_of_found, RunEnds};
+ghost use Rattle.ll_top.specs.Proved.{WritesShown};
 
 use fault::{Cause, refuse};
 use judge::Role;
 use ll_edge::{Gate, Shelf, Sink};
+use ll_laws::answers_are_shown;
 use ll_lexer::one_reading;
 use ll_parser::{one_program, one_query};
 use prepare::prepare;
@@ -53,6 +55,10 @@ pub fn lolli<R: Threads + Wait + Sync, F: Shelf, O: Sink, G: Gate>(
     // Where nothing failed, the one status and the whole text, or want of memory.
     ensures complete { Completes (word_texts words.now) (F.texts shelf.old) (Rose (F.faults shelf.old) (F.faults shelf.new))
         (Rose (O.faults sink.old) (O.faults sink.new)) (O.written sink.old) (O.written sink.new) result }
+
+    // Each answer of a run has a derivation that shows it; with `--proofs` its text stands behind the answer's.
+    ensures proved { (run : RunWords) → IsRun (word_texts words.now) run → result ≤ 2
+        → WritesShown (F.texts shelf.old) run (O.written sink.old) (O.written sink.new) }
 
     // The causes of statuses, over every shelf and sink.
     ensures usage { result ≡ 3 → IsInForm (word_texts words.now) → ⊥ }
@@ -143,7 +149,9 @@ fn serve_run<F: Shelf, O: Sink>(
     ensures ends { Ends (RunComesTo (F.texts shelf.old) (Rose (F.absences shelf.old) (F.absences shelf.new))
         (Rose (F.faults shelf.old) (F.faults shelf.new)) (shown_words run.now)) (Rose (O.faults sink.old) (O.faults sink.new))
         (O.written sink.old) (O.written sink.new) result }
+    ensures proved { result ≤ 2 → WritesShown (F.texts shelf.old) (shown_words run.now) (O.written sink.old) (O.written sink.new) }
 {
+    answers_are_shown();
     match run_texts(alloc, run, shelf, sink) {
         Ok(found) => found_status(found),
         Err(Refusal::Text(role, refusal)) => refuse(refusal.cause(text_name(run, role)), sink),
@@ -170,7 +178,7 @@ fn run_texts<F: Shelf, O: Sink>(
         (Rose (O.faults sink.old) (O.faults sink.new)) (shown_words command.now) (O.written sink.old) (O.written sink.new) result }
 {
     let problem = prepare(alloc, command, shelf)?;
-    run(alloc, &problem, sink)
+    run(alloc, &problem, command.proofs, sink)
 }
 
 // Prints a program, and says why not where it is not printed.
@@ -213,6 +221,8 @@ fn found_status(found: Found) -> u8
     }
 }
 
+#[cfg(test)]
+mod proof_tests;
 #[cfg(test)]
 mod tests;
 #[cfg(test)]

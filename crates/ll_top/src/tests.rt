@@ -184,7 +184,7 @@ fn a_run_is_cut_where_the_sink_fails(rt: HostRuntime) -> Result<(), Fail> {
 }
 
 // Words that are in no form, with the number of the first bad one.
-const MISUSED: [(&[&str], usize); 26] = [
+const MISUSED: [(&[&str], usize); 34] = [
     (&[], 1),
     (&["go"], 1),
     (&[""], 1),
@@ -200,7 +200,23 @@ const MISUSED: [(&[&str], usize); 26] = [
     (&["run", "prog", "ques"], 4),
     (&["run", "prog", "ques", "more", "--bound", "5"], 4),
     (&["run", "prog", "ques", "--bound=5", "--workers", "1"], 4),
-    (&["run", "prog", "ques", "--proofs"], 4),
+    (&["run", "prog", "ques", "--proof"], 4),
+    (&["run", "prog", "ques", "--proofs=1", "--bound", "5"], 4),
+    (&["run", "prog", "ques", "--proofs"], 5),
+    (&["run", "prog", "ques", "--proofs", "--proofs"], 5),
+    (&["run", "prog", "ques", "--proofs", "1", "--bound", "5"], 5),
+    (&["run", "prog", "ques", "--bound", "--proofs"], 5),
+    (&["run", "prog", "ques", "--workers", "--proofs"], 5),
+    (
+        &["run", "prog", "--proofs", "--bound", "5", "--workers", "1"],
+        3,
+    ),
+    (
+        &[
+            "run", "prog", "ques", "--proofs", "--bound", "5", "--proofs",
+        ],
+        7,
+    ),
     (
         &["run", "prog", "ques", "--bound", "x", "--workers", "1"],
         5,

@@ -6,13 +6,15 @@ ghost use Rattle.ll_top.specs.Words.{is_word, is_name_word, is_number_word, numb
 ghost use Rattle.ll_top.specs.RunForm.{HasPart, LacksPart, options_left, IsOptionLeft, IsBadFormWord, IsBadRunWord, IsReadTo};
 ghost use Rattle.ll_top.specs.Outcome.{word_texts};
 
-/// What the words `run PROGRAM QUERY --bound N --workers W` ask for.
+/// What the words `run PROGRAM QUERY --bound N --workers W [--proofs]` ask for.
 #[derive(Clone, Copy)]
 pub struct RunCommand<'a> {
     pub program: &'a str,
     pub query: &'a str,
     pub bound: u32,
     pub workers: u32,
+    /// Whether each answer is written with its derivation.
+    pub proofs: bool,
 }
 
 /// What words ask for.
@@ -29,6 +31,7 @@ pub enum Command<'a> {
 enum RunOption {
     Bound,
     Workers,
+    Proofs,
 }
 
 // The values of a run's options, as far as they were read.
@@ -36,6 +39,14 @@ enum RunOption {
 struct RunOptions {
     bound: Option<u32>,
     workers: Option<u32>,
+    proofs: bool,
+}
+
+// The options up to some word, and the number of words before that one.
+#[derive(Clone, Copy)]
+struct OptionsRead {
+    options: RunOptions,
+    next: usize,
 }
 
 const GREATEST_BOUND: u32 = 1_000_000;
@@ -90,6 +101,7 @@ fn read_run<'a>(words: &[&'a str]) -> Result<RunCommand<'a>, usize>
         query,
         bound,
         workers,
+        proofs: options.proofs,
     })
 }
 
@@ -103,47 +115,56 @@ fn read_options(words: &[&str]) -> Result<RunOptions, usize>
     let mut options = RunOptions {
         bound: None,
         workers: None,
+        proofs: false,
     };
     let mut at = 3;
     while at < words.len() {
-        options = read_option(words, at, options)?;
-        at += 2;
+        let read = read_option(words, at, options)?;
+        options = read.options;
+        at = read.next;
     }
     Ok(options)
 }
 
-// The options with the one that stands at this word and the next one.
-fn read_option(words: &[&str], at: usize, options: RunOptions) -> Result<RunOptions, usize>
+// The options with the one that stands at this word, and with its value where it has one.
+fn read_option(words: &[&str], at: usize, options: RunOptions) -> Result<OptionsRead, usize>
     requires within { at < length words.now }
     requires read { IsReadTo (word_texts words.now) options at }
-    ensures { MatchResult result (λ more. IsReadTo (word_texts words.now) more (at + 2)) (IsBadRunWord (word_texts words.now)) }
+    ensures read { MatchResult result (λ read. IsReadTo (word_texts words.now) read.options read.next) (IsBadRunWord (word_texts words.now)) }
+    ensures further { IfOk result (λ read. at < read.next) }
 {
+    let mut read = OptionsRead {
+        options,
+        next: at + 2,
+    };
     match option_at(words[at], options) {
         Some(RunOption::Bound) => {
             let bound = number_at(words, at + 1, 0, GREATEST_BOUND)?;
-            Ok(RunOptions {
-                bound: Some(bound),
-                workers: options.workers,
-            })
+            read.options.bound = Some(bound);
+            Ok(read)
         }
         Some(RunOption::Workers) => {
             let workers = number_at(words, at + 1, 1, GREATEST_WORKERS)?;
-            Ok(RunOptions {
-                bound: options.bound,
-                workers: Some(workers),
-            })
+            read.options.workers = Some(workers);
+            Ok(read)
+        }
+        Some(RunOption::Proofs) => {
+            read.options.proofs = true;
+            read.next = at + 1;
+            Ok(read)
         }
         None => Err(at + 1),
     }
 }
 
-// The option that a word is, if it is one whose value is not known yet.
+// The option that a word is, if it is one that was not come to yet.
 fn option_at(word: &str, options: RunOptions) -> Option<RunOption>
     ensures { MatchOption result (list_any (λ o. is_word word.now o.word) (options_left options) ≡ false) (IsOptionLeft word.now options) }
 {
     match word {
         "--bound" if options.bound.is_none() => Some(RunOption::Bound),
         "--workers" if options.workers.is_none() => Some(RunOption::Workers),
+        "--proofs" if !options.proofs => Some(RunOption::Proofs),
         _ => None,
     }
 }

@@ -5,7 +5,7 @@ use ll_edge::MemSink;
 use std::process::Abort;
 use std::test::Fail;
 
-const PERMUTATIONS: &str =
+pub(super) const PERMUTATIONS: &str =
     "load nil K :- unload K.\nload (X::L) K :- item X -o load L K.\nunload nil.\nunload (X::L) :- item X , unload L.\n";
 
 const MODULE: &str = "MODULE m X.\nLOCAL k.\nk X.\nget Y :- k Y.\n";

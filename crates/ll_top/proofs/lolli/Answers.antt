@@ -2,6 +2,7 @@ use Rattle.std.proofs.Common.{refl}
 use Rattle.ll_top.specs.Outcome.{word_texts}
 use Rattle.ll_top.proofs.OutcomeLemmas.{run-call, completes, run-says, run-in-form, bad-not-in-form, workers-run, workers-in-form}
 use Rattle.ll_top.proofs.CommandWords.{run-or-print}
+use Rattle.ll_top.proofs.ProvedLemmas.{shown-run}
 use Rattle.ll_top.proofs.lolli.Goals as goal
 
 pub unreachable-requires : goal.unreachable-requires
@@ -41,3 +42,8 @@ returns-in-Ok-Run-clause-complete g c =
     let words = word_texts c.args.words.now in
     completes c.one_text.ensures words _ _ _ _ _ _ _
     (run-call words _ _ _ _ _ _ _ _ (rw c.in-Ok-Run.field-0-is at c.in-Ok-Run.ensures.command) (rw (u.0, u.1) at c.serve_run.ensures.ends))
+
+pub returns-in-Ok-Run-clause-proved : goal.returns-in-Ok-Run-clause-proved
+returns-in-Ok-Run-clause-proved g c = λ run is small.
+    let u = c.in-None.ensures.untouched refl in
+    shown-run (word_texts c.args.words.now) _ _ run _ _ (rw c.in-Ok-Run.field-0-is at c.in-Ok-Run.ensures.command) is ((rw (u.0, u.1) at c.serve_run.ensures.proved) small)

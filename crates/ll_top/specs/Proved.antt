@@ -1,0 +1,45 @@
+-- What a run writes, in the words of derivations.
+use Rattle.std.specs.Prelude.{◌≡◌, ℕ, suc, Bool, true, false, List, [], ◌∷◌, ◌++◌, length, count_by, Option}
+use Rattle.std.specs.Io.KnownBytes.{append_known}
+use Rattle.ll_edge.specs.Texts.{Texts}
+use Rattle.ll_laws.specs.declared.Event.{Event}
+use Rattle.ll_laws.specs.declared.Event.TheVariants.{Answer, Reached}
+use Rattle.ll_laws.specs.Answered.{Answered}
+use Rattle.ll_laws.specs.Search.{is_answer, is_reached}
+use Rattle.ll_laws.specs.Problem.{ProblemTree, problem_events, problem_cost}
+use Rattle.ll_laws.specs.Line.{DerivationLines, IsWhole}
+use Rattle.ll_laws.specs.Verdict.{DerivationShows}
+use Rattle.ll_laws.specs.Dealt.{asked_terms}
+use Rattle.ll_laws.specs.Output.{answer_text, summary_text}
+use Rattle.ll_laws.specs.ProofText.{proof_text}
+use Rattle.ll_top.specs.Words.{RunWords}
+use Rattle.ll_top.specs.Outcome.{RunAsks}
+
+-- The derivation shows the answer: it is a whole derivation of the query with the answer's terms for its variables, in which every
+-- linear clause is used exactly once, and it has as many nodes as the answer's branch has steps.
+pub record ShowsAnswer (p : ProblemTree) (a : Answered) (d : DerivationLines) : Type 0 where
+  pub asked : d.asked ≡ asked_terms p a
+  pub whole : IsWhole d
+  pub shows : DerivationShows p d
+  pub count : length d.nodes ≡ length a.steps
+
+-- what stands behind an answer: with proofs the text of its derivation
+abbrev pub behind_answer : Bool → ProblemTree → DerivationLines → List ℕ
+behind_answer false p d = []
+behind_answer true p d = proof_text p.names d
+
+-- each answer among the events, after k answers, has a derivation that shows it, and the text is that of the answers, each with what
+-- stands behind it
+pub data AreShown (proofs : Bool) (p : ProblemTree) : ℕ → List Event → List ℕ → Type 0 where
+  all_shown : {k : ℕ} → AreShown proofs p k [] []
+  answer_shown : {k : ℕ} {a : Answered} {es : List Event} {text : List ℕ} → (d : DerivationLines) → ShowsAnswer p a d → AreShown proofs p (suc k) es text
+      → AreShown proofs p k (Answer a ∷ es) (answer_text p (suc k) a ++ behind_answer proofs p d ++ text)
+  reached_shown : {k : ℕ} {es : List Event} {text : List ℕ} → AreShown proofs p k es text → AreShown proofs p k (Reached ∷ es) text
+
+-- the texts of a run ask a problem, each of whose answers is shown, and their text and the last line were appended
+pub record WritesShown (told : Option Texts) (run : RunWords) (before after : Option (List ℕ)) : Type 0 where
+  pub problem : ProblemTree
+  pub asks : RunAsks told run problem
+  pub answers : List ℕ
+  pub are_shown : AreShown run.proofs problem 0 (problem_events problem) answers
+  pub written : after ≡ append_known before (answers ++ summary_text (count_by is_answer (problem_events problem)) (count_by is_reached (problem_events problem)) (problem_cost problem))

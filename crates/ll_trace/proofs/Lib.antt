@@ -1,2 +1,4 @@
 pub mod BareLemmas
 pub mod Replays
+pub mod Counts
+pub mod Answers

@@ -8,7 +8,8 @@ use Rattle.ll_laws.specs.Leaf.{Premise, premise_goal, ways}
 use Rattle.ll_laws.specs.Module.{ModuleTree, Setting}
 use Rattle.ll_laws.specs.Line.{Line, OneLine, EraseLine, TensorLine, WithLine, LeftLine, RightLine, BangLine, UseLine, LolliLine, ImpLine, ForallLine, ExistsLine, ClauseLine, part_line}
 use Rattle.ll_laws.specs.Dealt.{value, values}
-use Rattle.ll_trace.specs.Bare.{premises_at, bare_load}
+use Rattle.ll_laws.specs.Problem.{ProblemTree}
+use Rattle.ll_trace.specs.Bare.{bare, premises_at, bare_load}
 
 -- where a walk stands, all formulas without terms: the goals still to be proved, the clauses loaded so far by their labels, the number of
 -- eigenconstants, and how many of the branch's terms have been used
@@ -87,3 +88,7 @@ told beside all (c ∷ cs) w = after_node (tell beside all w c) (told beside all
 abbrev pub IsTold : Told → Type 0
 IsTold Lost = ⊥
 IsTold (Tells n w) = Unit {0}
+
+-- where the walk along a branch of a problem's search starts
+abbrev pub walk_start : ProblemTree → Walk
+walk_start p = record { goals = bare p.goal ∷ []; clauses = map (λ c. bare c.form) p.clauses; eigens = 0; used = length p.asked }

@@ -2,3 +2,4 @@ pub mod BareLemmas
 pub mod Replays
 pub mod Counts
 pub mod Answers
+pub mod LeafLemmas

@@ -1,2 +1,4 @@
 pub mod Bare
 pub mod Walk
+pub mod Goals
+pub mod Opening

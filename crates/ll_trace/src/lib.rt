@@ -1,12 +1,5 @@
-//! The derivation of an answer's branch.
+//! The derivation of an answer's branch: its nodes, with every label dealt out.
 #![tactic(auto)]
 
-ghost use Rattle.std.specs.Prelude.{◌≡◌};
-
-use ll_bank::OutOfMemory;
-
-fn nothing() -> u8
-    ensures { result ≡ 0 }
-{
-    0
-}
+mod leaf;
+mod walk;

@@ -20,6 +20,10 @@ bare (Forall f) = Forall (bare f)
 bare (Exists f) = Exists (bare f)
 bare (Use m ts f) = Use m [] (bare f)
 
+-- an atom without its terms
+abbrev pub some_atom : Form
+some_atom = Atom (Var 0)
+
 -- a premise without its terms
 abbrev pub bare_premise : Premise → Premise
 bare_premise (Needs g) = Needs (bare g)

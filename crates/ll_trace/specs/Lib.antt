@@ -2,3 +2,4 @@ pub mod Bare
 pub mod Walk
 pub mod Goals
 pub mod Opening
+pub mod Walker

@@ -203,14 +203,15 @@ module _ (beside : Setting) (all : List Term) (w : Walk) (s : State) (c : Covers
   matches (Atom a) rest Right = tt
   matches (Atom a) rest (ClauseStep label k) = matches-atom all w s rest label k (entry_at s.context label) refl c l e u
 
-  matches-front : (agenda : List (Item Form)) (x : Step) → Matches (tell_front beside all w (bare_goals agenda) x) (front_line beside all s agenda x)
-  matches-front [] x = tt
-  matches-front (Goal g ∷ rest) x = matches g rest x
-  matches-front (LolliEnd b ∷ rest) x = tt
-  matches-front (ImpEnd ∷ rest) x = tt
-  matches-front (WithMiddle b ∷ rest) x = tt
-  matches-front (WithEnd b d ∷ rest) x = tt
-  matches-front (BangEnd b ∷ rest) x = tt
+matches-front : (beside : Setting) (all : List Term) (w : Walk) (s : State) → Covers w.clauses s.context → length w.clauses ≡ s.label → w.eigens ≡ s.eigens → w.used ≡ length s.terms → (agenda : List (Item Form)) (x : Step)
+    → Matches (tell_front beside all w (bare_goals agenda) x) (front_line beside all s agenda x)
+matches-front beside all w s c l e u [] x = tt
+matches-front beside all w s c l e u (Goal g ∷ rest) x = matches beside all (to_prove w (bare_goals rest)) s c l e u g rest x
+matches-front beside all w s c l e u (LolliEnd b ∷ rest) x = tt
+matches-front beside all w s c l e u (ImpEnd ∷ rest) x = tt
+matches-front beside all w s c l e u (WithMiddle b ∷ rest) x = tt
+matches-front beside all w s c l e u (WithEnd b d ∷ rest) x = tt
+matches-front beside all w s c l e u (BangEnd b ∷ rest) x = tt
 
 -- a step of the state's settled form
 matches-settled : (beside : Setting) (all : List Term) (w : Walk) (s : State) (x : Step) → Follows w s → Matches (tell beside all w x) (settled_line beside all (settle s) x)

@@ -68,7 +68,7 @@ tell_goal beside all w (Atom a) rest _ = Lost
 -- what a step tells of these goals
 abbrev pub tell_front : Setting → List Term → Walk → List Form → Step → Told
 tell_front beside all w [] c = Lost
-tell_front beside all w (g ∷ rest) c = tell_goal beside all w g rest c
+tell_front beside all w (g ∷ rest) c = tell_goal beside all (to_prove w rest) g rest c
 
 -- what a step tells of where the walk stands
 abbrev pub tell : Setting → List Term → Walk → Step → Told

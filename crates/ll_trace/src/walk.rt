@@ -297,5 +297,7 @@ fn next_terms(
     requires { used ≤ length terms.now }
     ensures { IfOk result (λ taken. taken.items ≡ take count (drop used terms.now)) }
 {
-    terms[used..].iter().copied().take(count).collect(alloc)
+    let (_, left) = terms.split_at(used);
+    let (taken, _) = left.split_at(count.min(left.len()));
+    Vec::from_slice(alloc, taken)
 }

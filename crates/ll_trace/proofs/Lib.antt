@@ -5,3 +5,5 @@ pub mod Answers
 pub mod LeafLemmas
 pub mod TakeLemmas
 pub mod SideLemmas
+pub mod LoadLemmas
+pub mod NodeLemmas

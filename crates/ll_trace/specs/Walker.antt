@@ -1,5 +1,5 @@
 -- What a walker shows, and what its steps do.
-use Rattle.std.specs.Prelude.{◌≡◌, ℕ, ◌+◌, ◌≤◌, List, [], ◌∷◌, ◌++◌, map, length, All, slice_get, IsSome, Option, Some, None}
+use Rattle.std.specs.Prelude.{◌≡◌, ℕ, ◌+◌, ◌≤◌, List, [], ◌∷◌, ◌++◌, map, length, drop, All, slice_get, IsSome, Option, Some, None}
 use Rattle.ll_bank.specs.declared.At.{At}
 use Rattle.ll_bank.specs.declared.FormAt.{FormAt}
 use Rattle.ll_bank.specs.Form.{Form}
@@ -87,4 +87,13 @@ MayTakeAtom forms w _ = ⊥
 -- the rules are the nodes that the steps tell, whichever bank shows the terms, and hold places of terms alone
 pub record AreNodes (forms : Nodes) (modules : List Module) (terms : List At) (steps : List Step) (w : Walker) (rules : List Rule) : Type 0 where
   pub told : (bank : Nodes) → map (line_of bank) rules ≡ told (setting forms modules) (term_trees bank terms) steps (walk_of forms (trees forms modules) w)
+  pub places : (bank : Nodes) → AllInTerms bank terms → HasLines bank rules
+
+-- the first steps have told these rules, and the walker is ready for the others
+pub record IsPartWay (forms : Nodes) (modules : List Module) (terms : List At) (steps : List Step) (first : Walker) (count : ℕ) (w : Walker) (rules : List Rule) : Type 0 where
+  pub told : (bank : Nodes) → told (setting forms modules) (term_trees bank terms) steps (walk_of forms (trees forms modules) first)
+      ≡ map (line_of bank) rules ++ told (setting forms modules) (term_trees bank terms) (drop count steps) (walk_of forms (trees forms modules) w)
+  pub more : length (told (setting forms modules) (term_trees no_nodes terms) (drop count steps) (walk_of forms (trees forms modules) w)) ≡ length (drop count steps)
+  pub inside : IsInside forms (length modules) w
+  pub used : w.used ≤ length terms
   pub places : (bank : Nodes) → AllInTerms bank terms → HasLines bank rules

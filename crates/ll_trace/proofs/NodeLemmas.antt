@@ -40,7 +40,7 @@ module _ (forms : Nodes) (modules : List Module) (terms : List At) (steps : List
 
   pub part_start : (rules : List Rule) → rules ≡ [] → IsInside forms (length modules) first → first.used ≤ length terms → length (ahead no_nodes steps first) ≡ length steps → IsPartWay forms modules terms steps first 0 first rules
   part_start rules e i u m = record {
-    told = λ bank. ap (λ (rs : List Rule). map (line_of bank) rs ++ ahead bank steps first) (sym e);
+    so_far = λ bank. ap (λ (rs : List Rule). map (line_of bank) rs ++ ahead bank steps first) (sym e);
     more = m;
     inside = i;
     used = u;
@@ -53,18 +53,19 @@ module _ (forms : Nodes) (modules : List Module) (terms : List At) (steps : List
       tells-now (tell (setting forms modules) (term_trees no_nodes terms) (walk_of forms (trees forms modules) w) c) (told (setting forms modules) (term_trees no_nodes terms) (drop (k + 1) steps)) (length (drop (k + 1) steps))
       (subst (λ (cs : List Step). length (ahead no_nodes cs w) ≡ length cs) d p.more)
 
-  pub part_more : (k next : ℕ) (w new : Walker) (rules more : List Rule) (c : Step) (rule : Rule) → IsPartWay forms modules terms steps first k w rules → k < length steps → c ≡ slice_index_or steps k c → Steps forms modules terms w c rule new
-      → more ≡ rules ++ rule ∷ [] → next ≡ k + 1 → IsPartWay forms modules terms steps first next new more
-  part_more k next w new rules more c rule p l e s m n =
-      let d : drop k steps ≡ c ∷ drop next steps = drop-next steps k c l ∙ (λ i. (sym e) i ∷ drop ((sym n) i) steps) in
+  pub part_more : (k next : ℕ) (w new : Walker) (rules more : List Rule) (d : Step) (rule : Rule) → IsPartWay forms modules terms steps first k w rules → k < length steps
+      → Steps forms modules terms w (slice_index_or steps k d) rule new → more ≡ rules ++ rule ∷ [] → next ≡ k + 1 → IsPartWay forms modules terms steps first next new more
+  part_more k next w new rules more x rule p l s m n =
+      let c = slice_index_or steps k x in
+      let d : drop k steps ≡ c ∷ drop next steps = drop-next steps k x l ∙ ap (λ j. c ∷ drop j steps) (sym n) in
       let one : (bank : Nodes) → ahead bank (drop k steps) w ≡ line_of bank rule ∷ ahead bank (drop next steps) new = λ bank.
       ap (λ (cs : List Step). ahead bank cs w) d ∙ ap (λ t. after_node t (told (setting forms modules) (term_trees bank terms) (drop next steps))) (s.told bank) in
       let many = ap (λ (ns : List Line). length ns) (one no_nodes) in
       let same = p.more in
       let fewer = ap (λ (cs : List Step). length cs) d in
       record {
-        told = λ bank.
-            p.told bank
+        so_far = λ bank.
+            p.so_far bank
             ∙ (ap (λ ns. map (line_of bank) rules ++ ns) (one bank)
             ∙ (sym (append_assoc (map (line_of bank) rules) (line_of bank rule ∷ []) (ahead bank (drop next steps) new))
             ∙ ap (λ ns. ns ++ ahead bank (drop next steps) new) (sym (ap (map (line_of bank)) m ∙ map-append (line_of bank) rules (rule ∷ [])))));
@@ -77,6 +78,6 @@ module _ (forms : Nodes) (modules : List Module) (terms : List At) (steps : List
   pub part_end : (w : Walker) (rules : List Rule) (k : ℕ) → k ≡ length steps → IsPartWay forms modules terms steps first k w rules → AreNodes forms modules terms steps first rules
   part_end w rules k e p =
       record {
-        told = λ bank. sym (p.told bank ∙ (ap (λ (cs : List Step). map (line_of bank) rules ++ ahead bank cs w) (ap (λ n. drop n steps) e ∙ drop-all steps) ∙ append-none (map (line_of bank) rules)));
+        told = λ bank. sym (p.so_far bank ∙ (ap (λ (cs : List Step). map (line_of bank) rules ++ ahead bank cs w) (ap (λ n. drop n steps) e ∙ drop-all steps) ∙ append-none (map (line_of bank) rules)));
         places = p.places;
       }

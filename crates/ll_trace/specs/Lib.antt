@@ -3,3 +3,4 @@ pub mod Walk
 pub mod Goals
 pub mod Opening
 pub mod Walker
+pub mod Start

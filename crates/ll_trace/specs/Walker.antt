@@ -91,7 +91,7 @@ pub record AreNodes (forms : Nodes) (modules : List Module) (terms : List At) (s
 
 -- the first steps have told these rules, and the walker is ready for the others
 pub record IsPartWay (forms : Nodes) (modules : List Module) (terms : List At) (steps : List Step) (first : Walker) (count : ℕ) (w : Walker) (rules : List Rule) : Type 0 where
-  pub told : (bank : Nodes) → told (setting forms modules) (term_trees bank terms) steps (walk_of forms (trees forms modules) first)
+  pub so_far : (bank : Nodes) → told (setting forms modules) (term_trees bank terms) steps (walk_of forms (trees forms modules) first)
       ≡ map (line_of bank) rules ++ told (setting forms modules) (term_trees bank terms) (drop count steps) (walk_of forms (trees forms modules) w)
   pub more : length (told (setting forms modules) (term_trees no_nodes terms) (drop count steps) (walk_of forms (trees forms modules) w)) ≡ length (drop count steps)
   pub inside : IsInside forms (length modules) w

@@ -7,3 +7,4 @@ pub mod TakeLemmas
 pub mod SideLemmas
 pub mod LoadLemmas
 pub mod NodeLemmas
+pub mod ExplainLemmas

@@ -47,7 +47,7 @@ append_none (x ∷ xs) = ap (λ ys. x ∷ ys) (append_none xs)
 
 -- ---- terms
 
-trees-take : (bank : Nodes) (n : ℕ) (ats : List At) → take n (term_trees bank ats) ≡ term_trees bank (take n ats)
+pub trees-take : (bank : Nodes) (n : ℕ) (ats : List At) → take n (term_trees bank ats) ≡ term_trees bank (take n ats)
 trees-take bank zero ats = refl
 trees-take bank (suc n) [] = refl
 trees-take bank (suc n) (a ∷ ats) = ap (λ ts. term_tree bank a.0 ∷ ts) (trees-take bank n ats)

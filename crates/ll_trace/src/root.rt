@@ -1,5 +1,5 @@
 //! The root of a derivation: what is to be proved there, and from which clauses.
-ghost use Rattle.std.specs.Prelude.{◌≡◌, ◌≤◌, length, IfOk};
+ghost use Rattle.std.specs.Prelude.{◌≡◌, ◌≤◌, length, map, IfOk};
 ghost use Rattle.ll_laws.specs.Valid.{largest_count};
 ghost use Rattle.ll_trace.specs.Start.{IsAtStart, linear_labels};
 
@@ -20,13 +20,23 @@ pub(crate) fn start(
 {
     let mut goals = Vec::new(alloc);
     goals.push(Goal::Plain(goal))?;
-    let clauses = clauses.iter().map(|clause| clause.form).collect(alloc)?;
     Ok(Walker {
         goals,
-        clauses,
+        clauses: forms_of(alloc, clauses)?,
         eigens: 0,
         used: asked,
     })
+}
+
+/// The formulas of clauses.
+fn forms_of(alloc: Global, clauses: &[Clause]) -> Result<Vec<FormAt>, OutOfMemory>
+    ensures { IfOk result (λ made. made.items ≡ map (λ c. c.form) clauses.now) }
+{
+    let mut made = Vec::new(alloc);
+    for clause in clauses {
+        made.push(clause.form)?;
+    }
+    Ok(made)
 }
 
 /// The labels of the program's linear clauses.
@@ -36,8 +46,9 @@ pub(crate) fn root_labels(alloc: Global, clauses: &[Clause]) -> Result<Vec<u32>,
 {
     let mut labels = Vec::new(alloc);
     for (label, clause) in clauses.iter().enumerate() {
-        if clause.kind == Kind::Linear {
-            labels.push(label as u32)?;
+        match clause.kind {
+            Kind::Linear => labels.push(label as u32)?,
+            Kind::Unbounded => {}
         }
     }
     Ok(labels)

@@ -1,5 +1,5 @@
 -- The walk along the branch of an answer tells a node for each of its steps, and these are the nodes of its tree.
-use Rattle.std.proofs.Common.{◌≡◌, ℕ, zero, suc, ◌+◌, refl, ap, sym, subst, ◌∙◌, List, [], ◌∷◌, ◌++◌, map, length, arith, length-append, append_assoc, Option, Some, None}
+use Rattle.std.proofs.Common.{◌≡◌, ℕ, suc, refl, ap, sym, subst, ◌∙◌, List, [], ◌∷◌, ◌++◌, map, length, arith, length-append, append_assoc, Option, Some, None}
 use Rattle.std.specs.Prelude.{Contains, slice_get, slice_index_or}
 use Rattle.ll_bank.specs.Term.{Term, Var}
 use Rattle.ll_bank.specs.Form.{Form}
@@ -8,7 +8,7 @@ use Rattle.ll_laws.specs.Module.{ClauseTree}
 use Rattle.ll_laws.specs.Answered.{Answered}
 use Rattle.ll_laws.specs.Problem.{ProblemTree, setting_of, problem_events}
 use Rattle.ll_laws.specs.Valid.{IsValid}
-use Rattle.ll_laws.specs.Shows.{Tree, nodes}
+use Rattle.ll_laws.specs.Shows.{Tree}
 use Rattle.ll_laws.specs.Line.{Line, DerivationLines, trees_of, lines}
 use Rattle.ll_laws.specs.Verdict.{root_bounded}
 use Rattle.ll_laws.specs.Dealing.{deal}
@@ -17,10 +17,10 @@ use Rattle.ll_laws.specs.Run.{run_start}
 use Rattle.ll_laws.specs.Dealt.{asked_terms, branch_lines, dealt_trees, dealt_lines, dealt}
 use Rattle.ll_laws.specs.Laws.{AnswersAreShown}
 use Rattle.ll_trace.specs.Bare.{bare}
-use Rattle.ll_trace.specs.Walk.{Walk, told, walk_start}
+use Rattle.ll_trace.specs.Walk.{told, walk_start}
 use Rattle.ll_trace.proofs.BareLemmas.{bare-sub}
 use Rattle.ll_trace.proofs.Replays.{Covers, Follows, told-replay}
-use Rattle.ll_trace.proofs.Counts.{total, trees-count, deal_nodes, lines_count}
+use Rattle.ll_trace.proofs.Counts.{trees-count, deal_nodes, lines_count}
 
 -- the labels of the program's linear clauses
 abbrev pub root_labels : ProblemTree → List ℕ

@@ -18,17 +18,16 @@ use Rattle.ll_laws.specs.declared.Rule.{Rule}
 use Rattle.ll_laws.specs.declared.Step.{Step}
 use Rattle.ll_laws.specs.declared.Step.TheVariants.{Plain as PlainStep, Left, Right, Clause as ClauseStep}
 use Rattle.ll_laws.specs.Leaf.{Premise, premise_goal, ways}
-use Rattle.ll_laws.specs.Line.{Line, DerivationLines, trees_of, lines}
+use Rattle.ll_laws.specs.Line.{Line, trees_of, lines}
 use Rattle.ll_laws.specs.Module.{ClauseTree, ModuleTree, Setting}
 use Rattle.ll_laws.specs.Answered.{Answered}
-use Rattle.ll_laws.specs.Problem.{ProblemTree, setting_of}
+use Rattle.ll_laws.specs.Problem.{ProblemTree}
 use Rattle.ll_laws.specs.Shows.{Tree, Labelled}
 use Rattle.ll_laws.specs.Shown.{clause_tree, module_tree, HasClauses}
 use Rattle.ll_laws.specs.ShownLines.{line_of, HasLines}
-use Rattle.ll_laws.specs.Verdict.{labelled, root_bounded}
+use Rattle.ll_laws.specs.Verdict.{labelled}
 use Rattle.ll_laws.specs.Dealing.{deal}
 use Rattle.ll_laws.specs.Dealt.{values, asked_terms, branch_lines, dealt}
-use Rattle.ll_trace.specs.declared.walk.Goal.{Goal}
 use Rattle.ll_trace.specs.declared.walk.Goal.TheVariants.{Plain}
 use Rattle.ll_trace.specs.declared.walk.Walker.{Walker}
 use Rattle.ll_trace.specs.Bare.{bare, premises_at}

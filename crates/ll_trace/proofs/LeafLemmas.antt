@@ -11,14 +11,14 @@ use Rattle.ll_bank.specs.Form.{Form, Top, One, Atom, With, Tensor, Plus, Bang, L
 use Rattle.ll_bank.specs.Nodes.{Nodes, HasForm, form_tree}
 use Rattle.ll_laws.specs.declared.Part.{Part}
 use Rattle.ll_laws.specs.Leaf.{Premise, Needs, NeedsFree, premise_goal, ways}
-use Rattle.ll_laws.specs.Line.{PartLine, part_line}
+use Rattle.ll_laws.specs.Line.{part_line}
 use Rattle.ll_laws.specs.ShownLines.{part_line as shown_part}
 use Rattle.ll_laws.specs.Module.{ModuleTree}
 use Rattle.ll_trace.specs.declared.leaf.Opened.{Opened}
 use Rattle.ll_trace.specs.declared.walk.Goal.{Goal}
 use Rattle.ll_trace.specs.Bare.{bare, and_premise, premises_at}
 use Rattle.ll_trace.specs.Goals.{stacked, shown_goal, HasGoal}
-use Rattle.ll_trace.specs.Opening.{AreGoalsOf, IsOnWay, Opens, waiting_ways}
+use Rattle.ll_trace.specs.Opening.{IsOnWay, Opens, waiting_ways}
 use Rattle.ll_trace.proofs.BareLemmas.{ways-bare}
 
 -- ---- counting

@@ -1,11 +1,11 @@
 -- The clauses of a load.
-use Rattle.std.proofs.Common.{◌≡◌, ℕ, zero, suc, ◌<◌, ◌≤◌, refl, ap, sym, subst, ◌∙◌, arith, List, [], ◌∷◌, map, length, All, slice_index_or}
+use Rattle.std.proofs.Common.{◌≡◌, ℕ, zero, suc, ◌<◌, ◌≤◌, refl, ap, sym, subst, arith, List, [], ◌∷◌, map, length, slice_index_or}
 use Rattle.std.specs.Prelude.{Option, Some, None, slice_get}
 use Rattle.ll_bank.specs.Nodes.{Nodes, HasForm}
 use Rattle.ll_laws.specs.declared.Clause.{Clause}
 use Rattle.ll_laws.specs.declared.Module.{Module}
-use Rattle.ll_laws.specs.Module.{ClauseTree, ModuleTree}
-use Rattle.ll_laws.specs.Shown.{clause_tree, module_tree, HasClauses, HasModules}
+use Rattle.ll_laws.specs.Module.{ClauseTree}
+use Rattle.ll_laws.specs.Shown.{clause_tree, HasClauses, HasModules}
 use Rattle.ll_trace.specs.Goals.{clauses_of}
 use Rattle.ll_trace.specs.Walker.{trees}
 

@@ -1,16 +1,13 @@
 -- The nodes that a walker has told so far.
-use Rattle.std.proofs.Common.{◌≡◌, ℕ, zero, suc, ◌+◌, ◌<◌, ◌≤◌, refl, ap, sym, subst, ◌∙◌, arith, List, [], ◌∷◌, ◌++◌, map, length, drop, All, append_assoc, slice_index_or}
-use Rattle.std.specs.Prelude.{slice_get}
+use Rattle.std.proofs.Common.{◌≡◌, ℕ, zero, suc, ◌+◌, ◌<◌, ◌≤◌, refl, ap, sym, subst, ◌∙◌, arith, List, [], ◌∷◌, ◌++◌, map, length, drop, append_assoc, slice_index_or}
 use Rattle.std.proofs.lemmas.List.{map-append}
 use Rattle.std.proofs.lemmas.List.Elements.{All-nil, All-push}
 use Rattle.ll_bank.specs.declared.At.{At}
-use Rattle.ll_bank.specs.Term.{Term}
-use Rattle.ll_bank.specs.Nodes.{Nodes, no_nodes, AllInTerms, term_trees}
+use Rattle.ll_bank.specs.Nodes.{Nodes, no_nodes, term_trees}
 use Rattle.ll_laws.specs.declared.Module.{Module}
 use Rattle.ll_laws.specs.declared.Rule.{Rule}
 use Rattle.ll_laws.specs.declared.Step.{Step}
 use Rattle.ll_laws.specs.Line.{Line}
-use Rattle.ll_laws.specs.Module.{Setting}
 use Rattle.ll_laws.specs.ShownLines.{line_of, HasLine, HasLines}
 use Rattle.ll_trace.specs.declared.walk.Walker.{Walker}
 use Rattle.ll_trace.specs.Walk.{Walk, Told, Lost, Tells, tell, after_node, told, IsTold}

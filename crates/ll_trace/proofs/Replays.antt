@@ -1,25 +1,23 @@
 -- The walk tells the nodes of the branch: it goes along with the states that the branch's steps make.
-use Rattle.std.proofs.Common.{◌≡◌, ℕ, zero, suc, ◌+◌, ◌≤◌, ◌<◌, refl, ap, sym, subst, ◌∙◌, arith, Bool, true, false, List, [], ◌∷◌, ◌++◌, map, length, take, Option, Some, None, length-append}
-use Rattle.std.specs.Prelude.{◌&&◌, ◌||◌, not, if◌then◌else◌, nat_eq, slice_get, slice_index, slice_index_or, option_map}
+use Rattle.std.proofs.Common.{◌≡◌, ℕ, zero, suc, refl, ap, sym, subst, ◌∙◌, arith, Bool, true, false, List, [], ◌∷◌, ◌++◌, map, length, Option, Some, None, length-append}
+use Rattle.std.specs.Prelude.{◌&&◌, ◌||◌, not, if◌then◌else◌, nat_eq, slice_get, slice_index}
 use Rattle.std.proofs.lemmas.Bool.{eqb-true}
 use Rattle.ll_bank.specs.declared.Head.TheVariants.{Eigen}
-use Rattle.ll_bank.specs.Term.{Term, Var, Con}
-use Rattle.ll_bank.specs.Form.{Form, Top, One, Atom, With, Tensor, Plus, Bang, Lolli, Imp, Forall, Exists, Use, instantiate}
+use Rattle.ll_bank.specs.Term.{Term, Con}
+use Rattle.ll_bank.specs.Form.{Form, Top, One, Atom, With, Tensor, Plus, Bang, Lolli, Imp, Forall, Exists, Use}
 use Rattle.ll_laws.specs.declared.Kind.{Kind}
 use Rattle.ll_laws.specs.declared.Kind.TheVariants.{Linear, Unbounded}
 use Rattle.ll_laws.specs.declared.Step.{Step}
 use Rattle.ll_laws.specs.declared.Step.TheVariants.{Plain, Left, Right, Clause as ClauseStep}
 use Rattle.ll_laws.specs.Leaf.{Leaf, Premise, premise_goal, ways, leaf}
-use Rattle.ll_laws.specs.Module.{ClauseTree, ModuleTree, Setting, unfold_load}
-use Rattle.ll_laws.specs.Line.{Line, OneLine, EraseLine, TensorLine, WithLine, LeftLine, RightLine, BangLine, UseLine, LolliLine, ImpLine, ForallLine, ExistsLine, ClauseLine, part_line}
-use Rattle.ll_laws.specs.Settle.{Entry, Saved, Item, Goal, LolliEnd, ImpEnd, WithMiddle, WithEnd, BangEnd, Front, marks, remark, unlive, end_lolli, without_newest, at_middle, end_with, join, settle_front}
+use Rattle.ll_laws.specs.Module.{ModuleTree, Setting}
+use Rattle.ll_laws.specs.Line.{Line, UseLine, LolliLine, ImpLine, ForallLine, ExistsLine, ClauseLine}
+use Rattle.ll_laws.specs.Settle.{Entry, Saved, Item, Goal, LolliEnd, ImpEnd, WithMiddle, WithEnd, BangEnd, Front, marks, remark, unlive, without_newest, at_middle, end_with, join, settle_front}
 use Rattle.ll_laws.specs.State.{State, settle, with_front, front_of}
-use Rattle.ll_laws.specs.Attempt.{stepped, loaded, picked, entry_at, is_linear, load_module}
-use Rattle.ll_laws.specs.Run.{taken_by}
-use Rattle.ll_laws.specs.Search.{program_entries}
+use Rattle.ll_laws.specs.Attempt.{stepped, loaded, picked, entry_at, load_module}
 use Rattle.ll_laws.specs.Dealt.{Replayed, Off, On, replayed, value, values, atom_leaf, atom_line, line_of, front_line, settled_line, after_line, replay}
-use Rattle.ll_trace.specs.Bare.{bare, bare_premise, premises_at, bare_load}
-use Rattle.ll_trace.specs.Walk.{Walk, Told, Lost, Tells, to_prove, with_clause, tell_load, tell_leaf, tell_clause, tell_goal, tell_front, tell, after_node, told}
+use Rattle.ll_trace.specs.Bare.{bare, premises_at}
+use Rattle.ll_trace.specs.Walk.{Walk, Told, Lost, Tells, to_prove, tell_load, tell_leaf, tell_clause, tell_goal, tell_front, tell, after_node, told}
 use Rattle.ll_trace.proofs.BareLemmas.{bare-close, ways-bare, bare-unfold_load, HasPremises, leaf-bare, goals-bare, parts-bare}
 
 -- the goals of an agenda, without terms

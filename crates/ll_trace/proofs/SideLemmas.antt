@@ -1,5 +1,5 @@
 -- The side of a `;` that a step takes.
-use Rattle.std.proofs.Common.{◌≡◌, ℕ, ◌+◌, ◌≤◌, refl, ap, sym, subst, ◌∙◌, arith, List, [], ◌∷◌, ◌++◌, All, length}
+use Rattle.std.proofs.Common.{◌≡◌, ◌≤◌, refl, sym, subst, ◌∙◌, arith, List, [], ◌∷◌, length}
 use Rattle.std.proofs.lemmas.List.{append-nil}
 use Rattle.std.proofs.lemmas.List.Elements.{All-nil, All-cons}
 use Rattle.ll_bank.specs.declared.At.{At}
@@ -14,7 +14,6 @@ use Rattle.ll_laws.specs.declared.Step.{Step}
 use Rattle.ll_laws.specs.declared.Step.TheVariants.{Plain as PlainStep, Left, Right, Clause}
 use Rattle.ll_laws.specs.Line.{Line, LeftLine, RightLine}
 use Rattle.ll_laws.specs.ShownLines.{line_of, HasLine}
-use Rattle.ll_trace.specs.declared.walk.Goal.{Goal}
 use Rattle.ll_trace.specs.declared.walk.Goal.TheVariants.{Plain}
 use Rattle.ll_trace.specs.declared.walk.Walker.{Walker}
 use Rattle.ll_trace.specs.Bare.{bare}

@@ -1,33 +1,33 @@
 -- What the steps of a walker do.
-use Rattle.std.proofs.Common.{◌≡◌, ℕ, zero, suc, ◌+◌, ◌-◌, ◌<◌, ◌≤◌, refl, ap, sym, subst, ◌∙◌, arith, List, [], ◌∷◌, ◌++◌, map, length, take, drop, All, append_assoc, length-append, slice_index_or}
-use Rattle.std.specs.Prelude.{Option, Some, None, IsSome, Result, Ok, Err, IfOk, slice_get, slice_index}
+use Rattle.std.proofs.Common.{◌≡◌, ℕ, zero, suc, ◌+◌, ◌-◌, ◌<◌, ◌≤◌, refl, ap, sym, subst, ◌∙◌, arith, List, [], ◌∷◌, ◌++◌, map, length, take, drop, All, slice_index_or}
+use Rattle.std.specs.Prelude.{Option, Some, None, Result, Ok, Err, IfOk, slice_get, slice_index}
 use Rattle.std.proofs.lemmas.List.{map-append, length-map}
-use Rattle.std.proofs.lemmas.List.Elements.{All-nil, All-cons, All-append, All-pop, All-take, All-drop}
+use Rattle.std.proofs.lemmas.List.Elements.{All-nil, All-cons, All-append, All-take, All-drop}
 use Rattle.ll_bank.specs.declared.At.{At}
 use Rattle.ll_bank.specs.declared.FormAt.{FormAt}
 use Rattle.ll_bank.specs.Term.{Term, Var}
-use Rattle.ll_bank.specs.Form.{Form, Top, One, Atom, With, Tensor, Plus, Bang, Lolli, Imp, Forall, Exists, Use}
+use Rattle.ll_bank.specs.Form.{Form, Forall, Exists, Use}
 use Rattle.ll_bank.specs.Nodes.{Nodes, no_nodes, HasForm, HasTerm, AllInTerms, form_tree, term_tree, term_trees}
 use Rattle.ll_laws.specs.declared.Kind.{Kind}
 use Rattle.ll_laws.specs.declared.Kind.TheVariants.{Linear, Unbounded}
 use Rattle.ll_laws.specs.declared.Module.{Module}
 use Rattle.ll_laws.specs.declared.Rule.{Rule}
-use Rattle.ll_laws.specs.declared.Rule.TheVariants.{Exists as ExistsRule, Use as UseRule, Clause as ClauseRule}
+use Rattle.ll_laws.specs.declared.Rule.TheVariants.{Exists as ExistsRule, Use as UseRule}
 use Rattle.ll_laws.specs.declared.Step.{Step}
 use Rattle.ll_laws.specs.declared.Step.TheVariants.{Clause as ClauseStep}
-use Rattle.ll_laws.specs.Leaf.{Premise, premise_goal, ways}
-use Rattle.ll_laws.specs.Line.{Line, LolliLine, ImpLine, ForallLine, ExistsLine, UseLine, ClauseLine, PartLine, part_line}
-use Rattle.ll_laws.specs.Module.{ClauseTree, ModuleTree, Setting, load, forall_all}
-use Rattle.ll_laws.specs.Shown.{module_tree, clause_tree}
+use Rattle.ll_laws.specs.Leaf.{premise_goal, ways}
+use Rattle.ll_laws.specs.Line.{Line, LolliLine, ImpLine, ForallLine, ExistsLine, UseLine, ClauseLine, part_line}
+use Rattle.ll_laws.specs.Module.{ClauseTree, ModuleTree, load, forall_all}
+use Rattle.ll_laws.specs.Shown.{module_tree}
 use Rattle.ll_laws.specs.ShownLines.{line_of, HasLine, part_line as shown_part}
-use Rattle.ll_laws.specs.Dealt.{value, values}
+use Rattle.ll_laws.specs.Dealt.{values}
 use Rattle.ll_trace.specs.declared.leaf.Opened.{Opened}
 use Rattle.ll_trace.specs.declared.walk.Goal.{Goal}
-use Rattle.ll_trace.specs.declared.walk.Goal.TheVariants.{Plain, Free, Loading as LoadingGoal}
+use Rattle.ll_trace.specs.declared.walk.Goal.TheVariants.{Plain, Loading as LoadingGoal}
 use Rattle.ll_trace.specs.declared.walk.Loading.{Loading}
 use Rattle.ll_trace.specs.declared.walk.Walker.{Walker}
 use Rattle.ll_trace.specs.Bare.{bare, some_atom, premises_at, bare_load, bare_load_all}
-use Rattle.ll_trace.specs.Walk.{Walk, Told, Lost, Tells, to_prove, with_clause, tell_load, tell_leaf, tell_clause, tell_goal, tell_front, tell, IsTold}
+use Rattle.ll_trace.specs.Walk.{Walk, Told, Tells, to_prove, with_clause, tell_load, tell_leaf, tell_clause, tell_goal, tell_front, tell, IsTold}
 use Rattle.ll_trace.specs.Goals.{stacked, shown_goal, HasGoal, loading_goal, clauses_of}
 use Rattle.ll_trace.specs.Opening.{Opens}
 use Rattle.ll_trace.specs.Walker.{trees, setting, bare_clauses, walk_of, IsInside, MayTake, Takes, MayStep, Steps, Pushes, HasLeaf}

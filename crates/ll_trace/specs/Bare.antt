@@ -1,5 +1,5 @@
 -- Formulas without their terms. The nodes of a branch depend on nothing else of its formulas, since a branch gives its terms itself.
-use Rattle.std.specs.Prelude.{ℕ, zero, suc, ◌-◌, List, [], ◌∷◌, ◌++◌, length, nat_lt, Option, Some, None, if◌then◌else◌, option_map}
+use Rattle.std.specs.Prelude.{ℕ, zero, ◌-◌, List, [], ◌∷◌, ◌++◌, length, nat_lt, Option, Some, None, if◌then◌else◌, option_map}
 use Rattle.ll_bank.specs.Term.{Var}
 use Rattle.ll_bank.specs.Form.{Form, Top, One, Atom, With, Tensor, Plus, Bang, Lolli, Imp, Forall, Exists, Use}
 use Rattle.ll_laws.specs.Leaf.{Premise, Needs, NeedsFree, ways}

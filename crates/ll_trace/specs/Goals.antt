@@ -1,5 +1,5 @@
 -- The goals of a walk, as they are shown in the bank of the problem.
-use Rattle.std.specs.Prelude.{◌≡◌, ◌<◌, ℕ, List, [], ◌∷◌, drop, All, slice_get, Option, Some, None}
+use Rattle.std.specs.Prelude.{◌<◌, ℕ, List, [], ◌∷◌, drop, slice_get, Option, Some, None}
 use Rattle.ll_bank.specs.Form.{Form, Bang}
 use Rattle.ll_bank.specs.Nodes.{Nodes, form_tree, HasForm}
 use Rattle.ll_laws.specs.Module.{ClauseTree, ModuleTree, forall_all}

@@ -1,5 +1,5 @@
 -- A leaf of a clause, taken apart.
-use Rattle.std.specs.Prelude.{◌≡◌, ℕ, ◌+◌, ◌-◌, ◌<◌, ◌≤◌, suc, sum_by, List, [], ◌++◌, reverse, length, map, All, IsSome, slice_index, Option, Some}
+use Rattle.std.specs.Prelude.{◌≡◌, ℕ, ◌+◌, ◌-◌, ◌<◌, ◌≤◌, suc, sum_by, List, ◌++◌, reverse, length, map, All, IsSome, slice_index, Some}
 use Rattle.ll_bank.specs.declared.FormAt.{FormAt}
 use Rattle.ll_bank.specs.Form.{Form, With, Lolli, Imp, Forall}
 use Rattle.ll_bank.specs.Nodes.{Nodes, HasForm, form_tree}

@@ -16,7 +16,7 @@ use Rattle.ll_trace.specs.declared.walk.Goal.{Goal}
 use Rattle.ll_trace.specs.declared.walk.Goal.TheVariants.{Plain}
 use Rattle.ll_trace.specs.declared.walk.Walker.{Walker}
 use Rattle.ll_trace.specs.Bare.{bare, premises_at}
-use Rattle.ll_trace.specs.Walk.{Walk, Told, Tells, tell_goal, tell, told, IsTold}
+use Rattle.ll_trace.specs.Walk.{Walk, Tells, tell_goal, tell, told, IsTold}
 use Rattle.ll_trace.specs.Goals.{stacked, HasGoal}
 
 -- the modules, as they are shown in a bank

@@ -1,4 +1,4 @@
-use Rattle.std.proofs.Common.{ap, sym, ◌∙◌, arith, length, ◌∷◌, []}
+use Rattle.std.proofs.Common.{ap, ◌∙◌, arith, length, ◌∷◌, []}
 use Rattle.std.proofs.lemmas.List.Elements.{All-nil, All-cons, All-pop}
 use Rattle.std.specs.Prelude.{Some}
 use Rattle.ll_bank.specs.declared.FormAt.{FormAt}

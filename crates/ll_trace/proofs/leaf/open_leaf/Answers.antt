@@ -1,4 +1,4 @@
-use Rattle.std.proofs.Common.{refl, ap, sym, subst, ◌∙◌, arith, length, inl, inr, ℕ}
+use Rattle.std.proofs.Common.{refl, ap, sym, subst, arith, length, inl, inr, ℕ}
 use Rattle.std.proofs.lemmas.Bool.{cases_lt}
 use Rattle.ll_bank.specs.declared.FormAt.{FormAt}
 use Rattle.ll_bank.specs.Nodes.{form_tree}

@@ -1,4 +1,4 @@
-use Rattle.std.proofs.Common.{◌≡◌, ◌+◌, ap, sym, subst, ◌∙◌, arith, length, List, ℕ, take}
+use Rattle.std.proofs.Common.{◌≡◌, ◌+◌, ap, sym, subst, List, ℕ, take}
 use Rattle.ll_trace.specs.Start.{linear_labels}
 use Rattle.ll_trace.proofs.ExplainLemmas.{label_linear, label_other}
 use Rattle.ll_trace.proofs.root.root_labels.Goals as goal

@@ -1,8 +1,8 @@
-use Rattle.std.proofs.Common.{◌≡◌, refl, ap, sym, subst, ◌∙◌, arith, length, List, [], ◌∷◌, ◌++◌}
+use Rattle.std.proofs.Common.{refl, ap, ◌∙◌, length, [], ◌∷◌, ◌++◌}
 use Rattle.std.proofs.lemmas.List.Elements.{All-nil, All-cons, All-pop}
 use Rattle.std.specs.Prelude.{Some}
 use Rattle.ll_bank.specs.Form.{Bang}
-use Rattle.ll_bank.specs.Nodes.{Nodes, form_tree}
+use Rattle.ll_bank.specs.Nodes.{form_tree}
 use Rattle.ll_laws.specs.declared.Rule.TheVariants.{Bang as BangRule}
 use Rattle.ll_laws.specs.Line.{BangLine}
 use Rattle.ll_trace.specs.declared.walk.Goal.{Goal}

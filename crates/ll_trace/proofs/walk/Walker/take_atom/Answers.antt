@@ -1,4 +1,4 @@
-use Rattle.std.proofs.Common.{◌≡◌, ◌+◌, refl, ap, sym, subst, ◌∙◌, arith, length}
+use Rattle.std.proofs.Common.{◌≡◌, ◌+◌, refl, ap, subst, arith, length}
 use Rattle.ll_laws.specs.declared.Step.{Step}
 use Rattle.ll_laws.specs.declared.Rule.TheVariants.{Clause as ClauseRule}
 use Rattle.ll_trace.specs.declared.walk.Walker.{Walker}

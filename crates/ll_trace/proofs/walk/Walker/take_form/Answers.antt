@@ -1,16 +1,14 @@
-use Rattle.std.proofs.Common.{◌≡◌, refl, ap, sym, subst, ◌∙◌, arith, length, List, [], ◌∷◌, ◌++◌}
+use Rattle.std.proofs.Common.{refl, ap, sym, subst, ◌∙◌, arith, length, [], ◌∷◌, ◌++◌}
 use Rattle.std.proofs.lemmas.List.Elements.{All-nil, All-cons}
-use Rattle.ll_bank.specs.Form.{Form, Top, One, Atom, With, Tensor, Plus, Bang, Lolli, Imp, Forall, Exists, Use}
-use Rattle.ll_bank.specs.Nodes.{Nodes, no_nodes, form_tree, term_trees}
+use Rattle.ll_bank.specs.Form.{Form, Atom, With, Tensor, Plus, Bang, Lolli, Imp, Forall, Exists, Use}
+use Rattle.ll_bank.specs.Nodes.{form_tree, term_trees}
 use Rattle.ll_laws.specs.declared.Module.{Module}
-use Rattle.ll_laws.specs.declared.Rule.{Rule}
 use Rattle.ll_laws.specs.declared.Rule.TheVariants.{Tensor as TensorRule, With as WithRule, Bang as BangRule, Lolli as LolliRule, Imp as ImpRule, Forall as ForallRule, Exists as ExistsRule, Use as UseRule}
 use Rattle.ll_laws.specs.Line.{TensorLine, WithLine, BangLine, LolliLine, ImpLine, ForallLine}
 use Rattle.ll_trace.specs.declared.walk.Goal.{Goal}
 use Rattle.ll_trace.specs.declared.walk.Goal.TheVariants.{Plain, Loading as LoadingGoal}
 use Rattle.ll_trace.specs.Bare.{bare}
-use Rattle.ll_trace.specs.Walk.{IsTold, tell_goal}
-use Rattle.ll_trace.specs.Goals.{HasGoal, stacked}
+use Rattle.ll_trace.specs.Goals.{HasGoal}
 use Rattle.ll_trace.specs.Walker.{Takes, MayTake, TakesSide}
 use Rattle.ll_trace.proofs.TakeLemmas.{if_ok, takes_tree, takes_goals, takes_load, label_is, takes_open, takes_fill, takes_use}
 use Rattle.ll_trace.proofs.SideLemmas.{takes_side}

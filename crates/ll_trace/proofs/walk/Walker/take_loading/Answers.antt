@@ -1,17 +1,15 @@
-use Rattle.std.proofs.Common.{◌≡◌, ℕ, ◌+◌, ◌-◌, ◌<◌, refl, ap, sym, subst, ◌∙◌, arith, length, List, slice_index_or}
-use Rattle.std.specs.Prelude.{slice_get, Some, None}
+use Rattle.std.proofs.Common.{◌≡◌, ◌+◌, ◌-◌, ◌<◌, refl, ap, sym, subst, ◌∙◌, arith, length, List, slice_index_or}
+use Rattle.std.specs.Prelude.{slice_get}
 use Rattle.ll_bank.specs.Form.{Form}
-use Rattle.ll_bank.specs.Nodes.{Nodes, form_tree}
+use Rattle.ll_bank.specs.Nodes.{form_tree}
 use Rattle.ll_laws.specs.declared.Clause.{Clause}
 use Rattle.ll_laws.specs.declared.Kind.{Kind}
 use Rattle.ll_laws.specs.declared.Module.{Module}
-use Rattle.ll_laws.specs.declared.Rule.{Rule}
 use Rattle.ll_laws.specs.declared.Rule.TheVariants.{Lolli as LolliRule, Imp as ImpRule, Forall as ForallRule}
 use Rattle.ll_laws.specs.Line.{ForallLine}
 use Rattle.ll_laws.specs.Shown.{clause_tree}
-use Rattle.ll_trace.specs.declared.walk.Loading.{Loading}
 use Rattle.ll_trace.specs.Bare.{bare}
-use Rattle.ll_trace.specs.Goals.{loading_goal, clauses_of}
+use Rattle.ll_trace.specs.Goals.{loading_goal}
 use Rattle.ll_trace.specs.Walker.{trees, Takes, MayTake}
 use Rattle.ll_trace.proofs.TakeLemmas.{if_ok, takes_local, takes_clause, load_over, load_line}
 use Rattle.ll_trace.proofs.LoadLemmas.{clauses_at, clause_got, clause_past, has_clause}

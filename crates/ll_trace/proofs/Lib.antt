@@ -1,0 +1,4 @@
+pub mod Making
+pub mod Spanning
+pub mod Picking
+pub mod Sharing

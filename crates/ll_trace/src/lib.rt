@@ -1,0 +1,8 @@
+//! The derivation of an answer.
+#![tactic(auto)]
+
+mod deal;
+mod picks;
+mod spans;
+#[cfg(test)]
+mod tests;

@@ -8,3 +8,7 @@ pub mod SideLemmas
 pub mod LoadLemmas
 pub mod NodeLemmas
 pub mod ExplainLemmas
+pub mod Making
+pub mod Spanning
+pub mod Picking
+pub mod Sharing

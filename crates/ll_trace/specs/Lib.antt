@@ -4,3 +4,6 @@ pub mod Goals
 pub mod Opening
 pub mod Walker
 pub mod Start
+pub mod Spans
+pub mod Picks
+pub mod Shares

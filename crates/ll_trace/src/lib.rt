@@ -3,7 +3,11 @@
 
 mod deal;
 mod leaf;
+mod picks;
 mod root;
+mod spans;
+#[cfg(test)]
+mod tests;
 mod walk;
 
 ghost use Rattle.std.specs.Prelude.{◌≡◌, Contains, IfOk, Some};

@@ -1,6 +1,6 @@
 -- From the text of a run to the derivations of its answers.
-use Rattle.std.proofs.Common.{◌≡◌, ◌≤◌, ℕ, suc, ◌+◌, refl, ap, sym, subst, ◌∙◌, Bool, true, false, List, [], ◌∷◌, ◌++◌, append_assoc, arith, inl, inr}
-use Rattle.std.specs.Prelude.{Option, Some, Contains, ◌⊎◌}
+use Rattle.std.proofs.Common.{◌≡◌, ◌≤◌, ℕ, suc, refl, ap, sym, subst, ◌∙◌, Bool, true, false, List, [], ◌∷◌, ◌++◌, append_assoc, arith, inl, inr}
+use Rattle.std.specs.Prelude.{Option, Some, Contains}
 use Rattle.std.specs.Io.KnownBytes.{append_known}
 use Rattle.std.proofs.lemmas.List.{append-nil}
 use Rattle.std.proofs.lemmas.List.Elements.{Contains-append_right}

@@ -1,24 +1,51 @@
-//! The derivation of an answer.
+//! The derivation of an answer's branch: its nodes, with every label dealt out.
 #![tactic(auto)]
 
-ghost use Rattle.std.specs.Prelude.{◌≡◌, IfOk, Some, Contains};
+mod deal;
+mod leaf;
+mod picks;
+mod root;
+mod spans;
+#[cfg(test)]
+mod tests;
+mod walk;
+
+ghost use Rattle.std.specs.Prelude.{◌≡◌, Contains, IfOk, Some};
 ghost use Rattle.ll_laws.specs.declared.Event.TheVariants.{Answer};
-ghost use Rattle.ll_laws.specs.Dealt.{dealt};
 ghost use Rattle.ll_laws.specs.Problem.{problem_events};
 ghost use Rattle.ll_laws.specs.Valid.{IsValid};
+ghost use Rattle.ll_laws.specs.Dealt.{dealt};
 
 use ll_bank::OutOfMemory;
-use ll_laws::{Branch, Derivation, Problem};
-use std::alloc::{AllocError, Global};
+use ll_laws::{Branch, Derivation, Problem, answers_are_shown};
+use std::alloc::Global;
 
-/// The derivation of an answer of the search: the nodes of its branch, with every label dealt out.
-pub fn explain(alloc: Global, problem: &Problem, branch: &Branch) -> Result<Derivation, OutOfMemory>
+/// The derivation of an answer of a problem, by the branch that ended in it: one node for each inference of the branch, with the branch's
+/// terms, and every label dealt out. A label goes to the node that uses it, and otherwise to the first that can erase it.
+///
+/// It needs no deep stack.
+pub fn explain(
+    alloc: Global,
+    problem: &Problem,
+    branch: &Branch,
+) -> Result<Derivation, OutOfMemory>
     requires valid { IsValid problem.now }
     requires answer { Contains (problem_events problem.now) (Answer branch.now) }
-    ensures { IfOk result (λ d. dealt problem.now branch.now ≡ Some d) }
+    ensures { IfOk result (λ derivation. dealt problem.now branch.now ≡ Some derivation) }
 {
-    let _ = alloc;
-    let _ = problem;
-    let _ = branch;
-    Err(AllocError)
+    answers_are_shown();
+    let count = problem.asked.len();
+    let walker = root::start(alloc, problem.goal, &problem.clauses, count)?;
+    let mut nodes = walk::nodes(
+        alloc,
+        &problem.bank,
+        &problem.modules,
+        &branch.terms,
+        &branch.steps,
+        walker,
+    )?;
+    deal::deal(alloc, root::root_labels(alloc, &problem.clauses)?, &mut nodes)?;
+    let bank = branch.bank.image(branch.bank.size())?;
+    let asked = Vec::from_slice(alloc, &branch.terms[..count])?;
+    Ok(Derivation { bank, asked, nodes })
 }

@@ -1,0 +1,14 @@
+pub mod BareLemmas
+pub mod Replays
+pub mod Counts
+pub mod Answers
+pub mod LeafLemmas
+pub mod TakeLemmas
+pub mod SideLemmas
+pub mod LoadLemmas
+pub mod NodeLemmas
+pub mod ExplainLemmas
+pub mod Making
+pub mod Spanning
+pub mod Picking
+pub mod Sharing

@@ -1,0 +1,9 @@
+pub mod Bare
+pub mod Walk
+pub mod Goals
+pub mod Opening
+pub mod Walker
+pub mod Start
+pub mod Spans
+pub mod Picks
+pub mod Shares

@@ -1,0 +1,11 @@
+pub mod Stepping
+pub mod Waiting
+pub mod Passing
+pub mod Verdicts
+pub mod RuleLemmas
+pub mod Closings
+pub mod OpeningLemmas
+pub mod UnfoldLemmas
+pub mod ConstantLemmas
+pub mod FormConstants
+pub mod ForallLemmas

@@ -1,0 +1,25 @@
+-- The sequent of a query.
+use Rattle.std.specs.Prelude.{◌≡◌, List, [], All, slice_index_or}
+use Rattle.ll_bank.specs.Term.{Term, Var}
+use Rattle.ll_bank.specs.Form.{Form, sub_form}
+use Rattle.ll_laws.specs.declared.Kind.TheVariants.{Linear, Unbounded}
+use Rattle.ll_laws.specs.Module.{ModuleTree, ClauseTree}
+use Rattle.ll_laws.specs.Valid.{GoalSide, ClauseSide}
+use Rattle.ll_laws.specs.Verdict.{labelled}
+use Rattle.ll_sequent.specs.declared.sequents.Start.{Start}
+use Rattle.ll_sequent.specs.Sequents.{SequentTree, sequent_in, IsSound}
+use Rattle.ll_sequent.specs.Judging.{Holds}
+
+-- the clauses by their places in the text, and the goal with terms in place of its variables
+abbrev pub root_of : List ClauseTree → Form → List Term → SequentTree
+root_of clauses goal ts = record { free = labelled Unbounded 0 clauses; bounded = labelled Linear 0 clauses; goal = sub_form (λ x. slice_index_or ts x (Var x)) goal }
+
+-- the goal and the clauses are sound
+pub record AreSound (modules : List ModuleTree) (clauses : List ClauseTree) (goal : Form) : Type 0 where
+  pub asked : IsSound modules GoalSide [] goal
+  pub program : All (λ (c : ClauseTree). IsSound modules ClauseSide [] c.form) clauses
+
+-- the start shows the root, and all that is asked of its formulas holds
+pub record IsRoot (modules : List ModuleTree) (clauses : List ClauseTree) (goal : Form) (ts : List Term) (start : Start) : Type 0 where
+  pub shows : sequent_in start.bank start.free.items start.root ≡ root_of clauses goal ts
+  pub holds : Holds modules start.bank start.free.items start.root

@@ -9,3 +9,4 @@ pub mod UnfoldLemmas
 pub mod ConstantLemmas
 pub mod FormConstants
 pub mod ForallLemmas
+pub mod FindingLemmas

@@ -5,3 +5,5 @@ pub mod Named
 pub mod Judging
 pub mod Told
 pub mod Starting
+pub mod Opened
+pub mod Substituted

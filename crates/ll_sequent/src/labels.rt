@@ -86,3 +86,20 @@ pub(crate) fn part_of(
     }
     Ok(found)
 }
+
+/// The clauses whose labels are not in the set.
+pub(crate) fn rest_of(
+    alloc: Global,
+    set: &[u32],
+    resources: &[Resource],
+) -> Result<Vec<Resource>, OutOfMemory>
+    ensures { IfOk result (λ found. found.items ≡ filter (λ (r : Resource). not (has set.now r.label)) resources.now) }
+{
+    let mut found = Vec::new(alloc);
+    for each in resources {
+        if !is_among(each.label, set) {
+            found.push(*each)?;
+        }
+    }
+    Ok(found)
+}

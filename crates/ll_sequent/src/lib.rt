@@ -9,15 +9,21 @@ ghost use Rattle.ll_laws.specs.Line.{IsWhole};
 ghost use Rattle.ll_laws.specs.Valid.{IsValid};
 ghost use Rattle.ll_sequent.specs.Told.{IsVerdict};
 
+mod clauses;
 mod constants;
+mod copies;
+mod finding;
 mod judge;
 mod labels;
+mod leaves;
 mod loads;
 mod opening;
 mod plain;
+mod premises;
 mod rules;
 mod sequents;
 mod start;
+mod substitution;
 
 use crate::judge::judge;
 use crate::start::started;

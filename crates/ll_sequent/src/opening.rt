@@ -1,11 +1,9 @@
 //! The rules that open a formula.
 ghost use Rattle.std.specs.Prelude.{◌≡◌, List, [], true, map, IfOk};
-ghost use Rattle.std.specs.List.{list_all};
 ghost use Rattle.ll_bank.specs.Term.{is_closed};
-ghost use Rattle.ll_bank.specs.Nodes.{form_tree, term_tree, term_trees, HasForm, HasTerm, AllInTerms, Extends};
+ghost use Rattle.ll_bank.specs.Nodes.{form_tree, term_tree, HasForm, HasTerm, Extends};
 ghost use Rattle.ll_laws.specs.Shown.{module_tree, HasModules};
-ghost use Rattle.ll_laws.specs.ShownLines.{part_line};
-ghost use Rattle.ll_laws.specs.Line.{ForallLine, ExistsLine, UseLine, ClauseLine, part_rises};
+ghost use Rattle.ll_laws.specs.Line.{ForallLine, ExistsLine, UseLine};
 ghost use Rattle.ll_laws.specs.Valid.{GoalSide, has_heads};
 ghost use Rattle.ll_sequent.specs.Constants.{forms_of, AllInForms};
 ghost use Rattle.ll_sequent.specs.Judging.{Steps, AreModulesSound, Holds, IsStep, StepsOver};
@@ -16,9 +14,9 @@ use crate::constants::stands;
 use crate::plain::{OTHER_FORM, leave_one};
 use crate::sequents::{Resource, Sequent, Step};
 use ll_bank::{At, Bank, FormNode, Head, OutOfMemory};
-use ll_laws::{Module, Part};
+use ll_laws::Module;
 use ll_modules::unfold;
-use std::alloc::{AllocError, Global};
+use std::alloc::Global;
 
 /// The constant stands in the goal or in a clause.
 const CONSTANT_NOT_NEW: u8 = 10;
@@ -118,38 +116,4 @@ pub(crate) fn load(
         }
         _ => Ok(Step::Refused(OTHER_FORM)),
     }
-}
-
-/// An atom by a leaf of a clause.
-pub(crate) fn clause(
-    alloc: Global,
-    bank: &mut Bank,
-    modules: &[Module],
-    terms: &Bank,
-    label: u32,
-    leaf: u32,
-    values: &[At],
-    parts: &[Part],
-    free: &[Resource],
-    sequent: Sequent,
-) -> Result<Step, OutOfMemory>
-    requires has { HasModules bank.old modules.now }
-    requires holds { Holds (map (module_tree bank.old) modules.now) bank.old free.now sequent }
-    requires inside { AllInTerms terms.now values.now }
-    requires closed { list_all is_closed (term_trees terms.now values.now) ≡ true }
-    requires rising { list_all part_rises (map part_line parts.now) ≡ true }
-    ensures is { IfOk result (IsStep (map (module_tree bank.old) modules.now) (ClauseLine label leaf (term_trees terms.now values.now) (map part_line parts.now)) (sequent_in bank.old free.now sequent) bank.new free.now free.now) }
-    ensures keeps { Extends bank.old bank.new }
-{
-    let _ = alloc;
-    let _ = bank.size();
-    let _ = modules;
-    let _ = terms.size();
-    let _ = label;
-    let _ = leaf;
-    let _ = values;
-    let _ = parts;
-    let _ = free;
-    let _ = sequent;
-    Err(AllocError)
 }

@@ -7,8 +7,9 @@ ghost use Rattle.ll_laws.specs.Line.{is_line};
 ghost use Rattle.ll_sequent.specs.Judging.{AreModulesSound, Holds, IsStep};
 ghost use Rattle.ll_sequent.specs.Sequents.{sequent_in};
 
+use crate::clauses::clause;
 use crate::loads::{imp, lolli};
-use crate::opening::{clause, exists, forall, load};
+use crate::opening::{exists, forall, load};
 use crate::plain::{bang, erase, left, one, right, tensor, with};
 use crate::sequents::{Resource, Sequent, Step};
 use ll_bank::{Bank, OutOfMemory};

@@ -10,3 +10,4 @@ pub mod ConstantLemmas
 pub mod FormConstants
 pub mod ForallLemmas
 pub mod FindingLemmas
+pub mod PlaceLemmas

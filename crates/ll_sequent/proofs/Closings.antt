@@ -126,7 +126,7 @@ atom_after {e} {inner} {outer} h u p =
 
 -- ---- formulas
 
-both_free : {a b : Bool} (c d : Bool) → (c ≡ true → a ≡ true) → (d ≡ true → b ≡ true) → c && d ≡ true → a && b ≡ true
+pub both_free : {a b : Bool} (c d : Bool) → (c ≡ true → a ≡ true) → (d ≡ true → b ≡ true) → c && d ≡ true → a && b ≡ true
 both_free c d f g p = let q = and_parts c d p in and_from _ _ (f q.0) (g q.1)
 
 form_free : {e : Env} {inner outer : Scope} → Puts e inner outer → (f : Form) → each_term places_below (length inner) f ≡ true → each_term places_below (length outer) (close_form e f) ≡ true
@@ -143,7 +143,7 @@ form_free h (Forall f) p = form_free (under false h) f p
 form_free h (Exists f) p = form_free (under false h) f p
 form_free {e} {inner} h (Use m ts f) p = both_free (list_all (places_below (length inner)) ts) (each_term places_below (length inner) f) (terms_free h ts) (form_free h f) p
 
-form_heads : {e : Env} {inner outer : Scope} → Puts e inner outer → (side : Side) (f : Form) → has_heads true side inner f ≡ true → has_heads true side outer (close_form e f) ≡ true
+pub form_heads : {e : Env} {inner outer : Scope} → Puts e inner outer → (side : Side) (f : Form) → has_heads true side inner f ≡ true → has_heads true side outer (close_form e f) ≡ true
 form_heads h side Top p = refl
 form_heads h side One p = refl
 form_heads h side (Atom a) p = atom_after h a p
@@ -160,7 +160,7 @@ form_heads h ClauseSide (Forall f) p = form_heads (under false h) ClauseSide f p
 form_heads h side (Exists f) p = form_heads (under false h) side f p
 form_heads {e} {inner} h side (Use m ts f) p = both_free (list_all (is_headed inner) ts) (has_heads true side inner f) (terms_headed h ts) (form_heads h side f) p
 
-module_after : (o : Option ModuleTree) (ts us : List Term) → length us ≡ length ts → fits_module o ts ≡ true → fits_module o us ≡ true
+pub module_after : (o : Option ModuleTree) (ts us : List Term) → length us ≡ length ts → fits_module o ts ≡ true → fits_module o us ≡ true
 module_after None ts us e p = p
 module_after (Some m) ts us e p = let P : ℕ → Type 0 = λ n. nat_eq n m.params ≡ true in subst P (sym e) p
 
@@ -184,7 +184,7 @@ sound-close {e} h modules side f s = record { closed = form_free h f s.closed; h
 
 -- ---- a term for a place that is no head, and an eigenconstant for one that may be
 
-closed_free : (n : ℕ) (t : Term) → is_closed t ≡ true → places_below n t ≡ true
+pub closed_free : (n : ℕ) (t : Term) → is_closed t ≡ true → places_below n t ≡ true
 closed_free n (Var x) c = refl
 closed_free n (Int z) c = refl
 closed_free n (Con (Name k)) c = refl
@@ -202,7 +202,7 @@ closed_head scope (Con (Bound k)) c = cc
 closed_head scope (Ap f a) c =
     let p = and_parts (is_spine f && is_closed f) (is_closed a) c in let q = and_parts (is_spine f) (is_closed f) p.0 in closed_head scope f q.1
 
-closed_headed : (scope : Scope) (t : Term) → is_closed t ≡ true → is_headed scope t ≡ true
+pub closed_headed : (scope : Scope) (t : Term) → is_closed t ≡ true → is_headed scope t ≡ true
 closed_headed scope (Var x) c = refl
 closed_headed scope (Int z) c = refl
 closed_headed scope (Con (Name k)) c = refl

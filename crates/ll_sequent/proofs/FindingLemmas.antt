@@ -93,7 +93,7 @@ module _ (bank : Nodes) (n : ℕ) where
       by true t h e = cc
       by false t h e = ap (λ b. if b then Took (form_tree bank q.form.0) (bounded_in bank rs) else behind (labelled_in bank q) (take_label n (bounded_in bank rs))) t ∙ ap (behind (labelled_in bank q)) (h e)
 
-  map_reverse : (rs : List Resource) → free_in bank rs ≡ bounded_in bank (reverse rs)
+  pub map_reverse : (rs : List Resource) → free_in bank rs ≡ bounded_in bank (reverse rs)
   map_reverse [] = refl
   map_reverse (r ∷ rs) =
       reverse-append (labelled_in bank r ∷ []) (bounded_in bank rs)

@@ -11,3 +11,6 @@ pub mod FormConstants
 pub mod ForallLemmas
 pub mod FindingLemmas
 pub mod PlaceLemmas
+pub mod Substitutions
+pub mod ValueLemmas
+pub mod StartLemmas

@@ -35,10 +35,15 @@ pub(crate) fn fit(parts: &[Part], premises: &[Needed]) -> bool
 fn is_of_kind(part: &Part, premise: Needed) -> bool
     ensures { (bank : Nodes) → result ≡ parts_fit (blank (part_line part.now ∷ [])) (needed_in bank premise ∷ []) }
 {
-    match (part, premise) {
-        (Part::Bounded(_), Needed::Bounded(_)) => true,
-        (Part::Unbounded, Needed::Unbounded(_)) => true,
-        _ => false,
+    match part {
+        Part::Bounded(_) => match premise {
+            Needed::Bounded(_) => true,
+            Needed::Unbounded(_) => false,
+        },
+        Part::Unbounded => match premise {
+            Needed::Bounded(_) => false,
+            Needed::Unbounded(_) => true,
+        },
     }
 }
 

@@ -5,6 +5,7 @@ ghost use Rattle.ll_bank.specs.Term.{is_closed};
 ghost use Rattle.ll_bank.specs.Nodes.{form_tree, term_trees, HasForm, AllInTerms, Extends};
 ghost use Rattle.ll_laws.specs.Module.{ModuleTree};
 ghost use Rattle.ll_laws.specs.Shown.{clause_tree, HasClauses};
+ghost use Rattle.ll_laws.specs.Verdict.{same_kind};
 ghost use Rattle.ll_sequent.specs.Starting.{AreSound, IsRoot, of_kind as of_kind_of};
 
 use crate::copies::copies;
@@ -55,7 +56,7 @@ fn of_kind(alloc: Global, clauses: &[Clause], kind: Kind) -> Result<Vec<Resource
 {
     let mut found = Vec::new(alloc);
     for (label, clause) in clauses.iter().enumerate() {
-        if clause.kind == kind {
+        if is_same(kind, clause.kind) {
             found.push(Resource {
                 label: label as u32,
                 form: clause.form,
@@ -63,4 +64,20 @@ fn of_kind(alloc: Global, clauses: &[Clause], kind: Kind) -> Result<Vec<Resource
         }
     }
     Ok(found)
+}
+
+/// Whether two kinds are one.
+fn is_same(kind: Kind, other: Kind) -> bool
+    ensures { result ≡ same_kind kind other }
+{
+    match kind {
+        Kind::Linear => match other {
+            Kind::Linear => true,
+            Kind::Unbounded => false,
+        },
+        Kind::Unbounded => match other {
+            Kind::Linear => false,
+            Kind::Unbounded => true,
+        },
+    }
 }

@@ -27,8 +27,9 @@ pub(crate) fn substituted(
 {
     let mut terms = Vec::new(alloc);
     let mut forms = Vec::new(alloc);
-    for place in 0..=form.0 {
-        let image = form_image(alloc, bank, FormAt(place), values, &mut terms, &forms)?;
+    'growth: while forms.len() <= form.0 {
+        let place = FormAt(forms.len());
+        let image = form_image(alloc, bank, place, values, &mut terms, &forms)?;
         forms.push(image)?;
     }
     Ok(forms[form.0])
@@ -114,8 +115,9 @@ fn term_image(
     ensures terms { OnOk result (AreTermImages bank.new (term_trees bank.old values.now) terms.new.items) }
     ensures keeps { Extends bank.old bank.new }
 {
-    for place in terms.len()..term.0 + 1 {
-        let image = next_image(alloc, bank, At(place), values, terms)?;
+    'growth: while terms.len() <= term.0 {
+        let place = At(terms.len());
+        let image = next_image(alloc, bank, place, values, terms)?;
         terms.push(image)?;
     }
     Ok(terms[term.0])

@@ -1,13 +1,14 @@
 -- The sequent of a query.
-use Rattle.std.proofs.Common.{◌≡◌, ℕ, zero, suc, ◌+◌, ◌<◌, ◌≤◌, refl, ap, sym, ◌∙◌, subst, Bool, true, false, cond, List, [], ◌∷◌, ◌++◌, map, take, drop, drop-cons, append_assoc, reverse, length, get_or, All, arith}
+use Rattle.std.proofs.Common.{◌≡◌, ℕ, zero, suc, ◌+◌, ◌<◌, ◌≤◌, refl, ap, sym, ◌∙◌, subst, Bool, true, false, cond, List, [], ◌∷◌, ◌++◌, map, take, drop, drop-cons, append_assoc, reverse, length, length-append, get_or, All, arith}
 use Rattle.std.specs.Prelude.{if◌then◌else◌}
 use Rattle.std.specs.List.{list_all}
-use Rattle.std.proofs.lemmas.List.{reverse-reverse, reverse-append, take_all}
+use Rattle.std.proofs.lemmas.List.{reverse-reverse, reverse-append, take_all, append-nil}
 use Rattle.std.proofs.lemmas.List.Elements.{All-nil, All-cons, All-head, All-tail, All-push}
+use Rattle.ll_bank.specs.declared.BankSize.{BankSize}
 use Rattle.ll_bank.specs.Term.{Term, is_closed}
 use Rattle.ll_bank.specs.Form.{Form, sub_form}
-use Rattle.ll_bank.specs.Nodes.{Nodes, form_tree, HasForm, ShowsForm, Extends}
-use Rattle.ll_bank.proofs.Trees.{HasForm-extends, form_tree-extends}
+use Rattle.ll_bank.specs.Nodes.{Nodes, form_tree, HasForm, ShowsForm, Extends, size_of, IsCutTo}
+use Rattle.ll_bank.proofs.Trees.{HasForm-extends, form_tree-extends, Extends-same}
 use Rattle.ll_laws.specs.declared.Clause.{Clause}
 use Rattle.ll_laws.specs.declared.Kind.{Kind}
 use Rattle.ll_laws.specs.declared.Kind.TheVariants.{Linear, Unbounded}
@@ -26,6 +27,23 @@ use Rattle.ll_sequent.proofs.ValueLemmas.{sound-values}
 all_reversed : {X : Type 0} (P : X → Type 0) (xs : List X) → All P xs → All P (reverse xs)
 all_reversed P [] h = h
 all_reversed P (x ∷ xs) h = subst (All P) (sym (reverse-append (x ∷ []) xs)) (All-push P (reverse xs) x (all_reversed P xs (All-tail P x xs h)) (All-head P x xs h))
+
+-- a bank cut to its own size is itself
+same_front : {A : Type 0} (xs ys zs : List A) → xs ≡ ys ++ zs → length ys ≡ length xs → ys ≡ xs
+same_front xs ys [] e l = sym (e ∙ append-nil ys)
+same_front xs ys (z ∷ zs) e l =
+    let a : length xs ≡ length ys + suc (length zs) = ap (λ us. length us) e ∙ length-append ys (z ∷ zs) in absurd (omega (arith, a, l))
+
+cut_same : (old new : Nodes) (size : BankSize) → size ≡ size_of old → IsCutTo size old new → new ≡ old
+cut_same old new size e c =
+    let p : size_of new ≡ size_of old = c.places ∙ e in
+    let a = same_front old.terms new.terms c.trees.more_terms c.trees.terms (ap (λ s. s.terms) p) in
+    let b = same_front old.forms new.forms c.trees.more_forms c.trees.forms (ap (λ s. s.forms) p) in
+    let make : List _ → List _ → Nodes = λ xs ys. record { terms = xs; forms = ys } in
+    ap (λ xs. make xs new.forms) a ∙ ap (λ ys. make old.terms ys) b
+
+pub image_keeps : (old new : Nodes) (size : BankSize) → size ≡ size_of old → IsCutTo size old new → Extends old new
+image_keeps old new size e c = Extends-same old new (cut_same old new size e c)
 
 -- ---- one clause after another
 

@@ -14,3 +14,4 @@ pub mod PlaceLemmas
 pub mod Substitutions
 pub mod ValueLemmas
 pub mod StartLemmas
+pub mod LeafLemmas

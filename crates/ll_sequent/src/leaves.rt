@@ -54,7 +54,10 @@ pub(crate) fn open_leaf(
     'way: loop {
         match bank.form_at(form) {
             FormNode::Atom(head) => {
-                if leaf != 0 || passed != values.len() {
+                if leaf != 0 {
+                    return Ok(None);
+                }
+                if passed != values.len() {
                     return Ok(None);
                 }
                 premises.reverse();
@@ -115,7 +118,7 @@ pub(crate) fn leaves_left(
     let mut waiting = Vec::new(alloc);
     waiting.push(clause)?;
     let mut left = leaf;
-    while let Some(form) = waiting.pop() {
+    'walk: while let Some(form) = waiting.pop() {
         match bank.form_at(form) {
             FormNode::Atom(_) => {
                 if left == 0 {

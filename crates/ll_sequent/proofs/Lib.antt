@@ -15,3 +15,4 @@ pub mod Substitutions
 pub mod ValueLemmas
 pub mod StartLemmas
 pub mod LeafLemmas
+pub mod WayLemmas

@@ -24,7 +24,7 @@ use Rattle.ll_sequent.specs.Starting.{values, of_kind, root_of, AreSound, IsRoot
 use Rattle.ll_sequent.proofs.FindingLemmas.{map_reverse}
 use Rattle.ll_sequent.proofs.ValueLemmas.{sound-values}
 
-all_reversed : {X : Type 0} (P : X → Type 0) (xs : List X) → All P xs → All P (reverse xs)
+pub all_reversed : {X : Type 0} (P : X → Type 0) (xs : List X) → All P xs → All P (reverse xs)
 all_reversed P [] h = h
 all_reversed P (x ∷ xs) h = subst (All P) (sym (reverse-append (x ∷ []) xs)) (All-push P (reverse xs) x (all_reversed P xs (All-tail P x xs h)) (All-head P x xs h))
 

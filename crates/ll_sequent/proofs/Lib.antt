@@ -16,3 +16,4 @@ pub mod ValueLemmas
 pub mod StartLemmas
 pub mod LeafLemmas
 pub mod WayLemmas
+pub mod DealLemmas

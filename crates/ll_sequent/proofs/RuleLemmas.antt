@@ -29,7 +29,7 @@ label_shown : (bank : Nodes) (n : ℕ) (rs : List Resource) → has_label (bound
 label_shown bank n [] = refl
 label_shown bank n (r ∷ rs) = ap (λ b. nat_eq n r.label || b) (label_shown bank n rs)
 
-all_shown : (bank : Nodes) (rs : List Resource) (s : List ℕ) → all_in s (bounded_in bank rs) ≡ list_all (has_resource rs) s
+pub all_shown : (bank : Nodes) (rs : List Resource) (s : List ℕ) → all_in s (bounded_in bank rs) ≡ list_all (has_resource rs) s
 all_shown bank rs [] = refl
 all_shown bank rs (n ∷ s) = λ i. label_shown bank n rs i && all_shown bank rs s i
 

@@ -29,7 +29,7 @@ use Rattle.ll_sequent.proofs.LeafLemmas.{put_behind, behind_none, behind_one, le
 pub needed_extend : {old new : Nodes} (keeps : Extends old new) (ps : List Needed) → AreNeeded old ps → AreNeeded new ps
 needed_extend keeps ps h = λ k d l. HasForm-extends keeps (needed_at (get_or ps k d)).0 (h k d l)
 
-needed_one : {old new : Nodes} (keeps : Extends old new) (p : Needed) → HasForm old (needed_at p).0 → needed_in new p ≡ needed_in old p
+pub needed_one : {old new : Nodes} (keeps : Extends old new) (p : Needed) → HasForm old (needed_at p).0 → needed_in new p ≡ needed_in old p
 needed_one keeps (Bounded g) h = ap Needs (form_tree-extends keeps g.0 h)
 needed_one keeps (Unbounded g) h = ap NeedsFree (form_tree-extends keeps g.0 h)
 

@@ -1,11 +1,11 @@
 //! The premises of a leaf, and the sequents that they become.
 ghost use Rattle.std.specs.Prelude.{◌≡◌, ◌∷◌, [], map, length, IfOk};
-ghost use Rattle.ll_bank.specs.Nodes.{Nodes, Extends};
+ghost use Rattle.ll_bank.specs.Nodes.{Nodes, HasForm, ShowsForm, Extends};
 ghost use Rattle.ll_laws.specs.Fault.{parts_fit};
 ghost use Rattle.ll_laws.specs.Leaf.{premise_goal};
 ghost use Rattle.ll_laws.specs.ShownLines.{part_line};
 ghost use Rattle.ll_sequent.specs.Constants.{AllInForms};
-ghost use Rattle.ll_sequent.specs.Opened.{needed_in, AreNeeded, form_trees, IsDealt};
+ghost use Rattle.ll_sequent.specs.Opened.{needed_in, needed_at, AreNeeded, form_trees, IsDealt};
 ghost use Rattle.ll_sequent.specs.Steps.{blank};
 
 use crate::labels::{are_labels_of, part_of, rest_of};
@@ -60,13 +60,22 @@ pub(crate) fn goals_of(
 {
     let mut goals = Vec::new(alloc);
     for premise in premises {
-        let goal = match *premise {
-            Needed::Bounded(goal) => goal,
-            Needed::Unbounded(goal) => bank.form(FormNode::Bang(goal))?,
-        };
+        let goal = goal_of(bank, *premise)?;
         goals.push(goal)?;
     }
     Ok(goals)
+}
+
+/// The goal by which a premise is proved.
+fn goal_of(bank: &mut Bank, premise: Needed) -> Result<FormAt, OutOfMemory>
+    requires { HasForm bank.old (needed_at premise).0 }
+    ensures shows { IfOk result (λ goal. ShowsForm bank.new goal.0 (premise_goal (needed_in bank.old premise))) }
+    ensures keeps { Extends bank.old bank.new }
+{
+    match premise {
+        Needed::Bounded(goal) => Ok(goal),
+        Needed::Unbounded(goal) => bank.form(FormNode::Bang(goal)),
+    }
 }
 
 /// The sequents of goals over unbounded clauses, each with the bounded clauses that its part names, if these are dealt out.

@@ -1,15 +1,23 @@
 -- The clause that a label names, as it is looked for.
-use Rattle.std.proofs.Common.{◌≡◌, ℕ, zero, suc, ◌+◌, ◌<◌, refl, ap, sym, ◌∙◌, subst, Bool, true, false, cond, List, [], ◌∷◌, ◌++◌, map, take, drop, reverse, length, Option, Some, None, arith}
+use Rattle.std.proofs.Common.{◌≡◌, ℕ, zero, suc, ◌+◌, ◌<◌, refl, ap, sym, ◌∙◌, subst, Bool, true, false, cond, List, [], ◌∷◌, ◌++◌, map, take, drop, reverse, length, Option, Some, None, All, arith}
 use Rattle.std.specs.Prelude.{nat_eq, nat_lt, slice_index_or, if◌then◌else◌}
 use Rattle.std.specs.List.{find, position, position_from, position_or_len, remove}
+use Rattle.std.proofs.lemmas.Bool.{ltb-true}
 use Rattle.std.proofs.lemmas.List.{reverse-append, map-append}
+use Rattle.std.proofs.lemmas.List.Elements.{All-head, All-tail, All-append, All-take, All-drop, All-push}
 use Rattle.std.proofs.lemmas.Iterator.Adapters.{position_from-zero}
 use Rattle.ll_bank.specs.declared.FormAt.{FormAt}
 use Rattle.ll_bank.specs.Nodes.{Nodes, form_tree}
+use Rattle.ll_laws.specs.Module.{ModuleTree}
+use Rattle.ll_laws.specs.Valid.{ClauseSide}
 use Rattle.ll_laws.specs.Shows.{Labelled, Found, Missing, Took, behind, take_label, pick_of, pick}
 use Rattle.ll_sequent.specs.declared.sequents.Resource.{Resource}
-use Rattle.ll_sequent.specs.Sequents.{labelled_in, bounded_in, free_in}
+use Rattle.ll_sequent.specs.Sequents.{labelled_in, bounded_in, free_in, IsHeld, AreHeld}
 use Rattle.ll_sequent.specs.Opened.{found_in}
+
+pub all_reversed : {X : Type 0} (P : X → Type 0) (xs : List X) → All P xs → All P (reverse xs)
+all_reversed P [] h = h
+all_reversed P (x ∷ xs) h = subst (All P) (sym (reverse-append (x ∷ []) xs)) (All-push P (reverse xs) x (all_reversed P xs (All-tail P x xs h)) (All-head P x xs h))
 
 pub not_some : {X : Type 0} (o : Option X) → ((x : X) → o ≡ Some x → ⊥) → o ≡ None
 not_some None n = refl
@@ -125,3 +133,30 @@ module _ (bank : Nodes) (n : ℕ) where
   pub found_nowhere : (free bounded : List Resource) → find named (reverse free) ≡ None → position named bounded ≡ None → Missing ≡ pick n (free_in bank free) (bounded_in bank bounded)
   found_nowhere free bounded m e =
       sym (no_position bounded 0 (sym (position_from-zero named bounded) ∙ e)) ∙ ap (λ x. pick_of (bounded_in bank bounded) x (take_label n (bounded_in bank bounded))) (sym (missed free m))
+
+pub position_low : (p : Resource → Bool) (xs : List Resource) (i : ℕ) → position p xs ≡ Some i → i < length xs
+position_low p xs i e = by (nat_lt (position_or_len p xs) (length xs)) refl e
+  where
+    by : (b : Bool) → nat_lt (position_or_len p xs) (length xs) ≡ b → cond b (Some (position_or_len p xs)) None ≡ Some i → i < length xs
+    by true t e = let s : position_or_len p xs ≡ i = cc in let l = ltb-true (position_or_len p xs) (length xs) t in omega arith
+    by false t e = cc
+
+-- ---- what is found is sound
+
+module _ (modules : List ModuleTree) (bank : Nodes) where
+  found_held : (p : Resource → Bool) (rs : List Resource) (r : Resource) → AreHeld modules bank rs → find p rs ≡ Some r → IsHeld modules bank ClauseSide r.form.0
+  found_held p [] r h e = cc
+  found_held p (q ∷ rs) r h e = by (p q) (found_held p rs r (All-tail (λ (r : Resource). IsHeld modules bank ClauseSide r.form.0) q rs h)) (All-head (λ (r : Resource). IsHeld modules bank ClauseSide r.form.0) q rs h) e
+    where
+      by : (b : Bool) → (find p rs ≡ Some r → IsHeld modules bank ClauseSide r.form.0) → IsHeld modules bank ClauseSide q.form.0 → cond b (Some q) (find p rs) ≡ Some r → IsHeld modules bank ClauseSide r.form.0
+      by true go here e = let s : q ≡ r = cc in subst (λ (x : Resource). IsHeld modules bank ClauseSide x.form.0) s here
+      by false go here e = go e
+
+  pub held_found : (p : Resource → Bool) (rs : List Resource) (r : Resource) → AreHeld modules bank rs → find p (reverse rs) ≡ Some r → IsHeld modules bank ClauseSide r.form.0
+  held_found p rs r h e = found_held p (reverse rs) r (all_reversed (λ (r : Resource). IsHeld modules bank ClauseSide r.form.0) rs h) e
+
+  pub held_removed : (rs : List Resource) (i : ℕ) (r : Resource) (left : List Resource) → AreHeld modules bank rs → i < length rs → r ≡ slice_index_or rs i r → left ≡ remove rs i
+      → AreHeld modules bank left × IsHeld modules bank ClauseSide r.form.0
+  held_removed rs i r left h l v w =
+      let P : Resource → Type 0 = λ x. IsHeld modules bank ClauseSide x.form.0 in
+      (subst (All P) (sym w) (All-append P (take i rs) (drop (suc i) rs) (All-take P i rs h) (All-drop P (suc i) rs h)), subst P (sym v) (h i r l))

@@ -17,3 +17,4 @@ pub mod StartLemmas
 pub mod LeafLemmas
 pub mod WayLemmas
 pub mod DealLemmas
+pub mod ClauseLemmas

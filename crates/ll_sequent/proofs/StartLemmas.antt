@@ -2,8 +2,8 @@
 use Rattle.std.proofs.Common.{◌≡◌, ℕ, zero, suc, ◌+◌, ◌<◌, ◌≤◌, refl, ap, sym, ◌∙◌, subst, Bool, true, false, cond, List, [], ◌∷◌, ◌++◌, map, take, drop, drop-cons, append_assoc, reverse, length, length-append, get_or, All, arith}
 use Rattle.std.specs.Prelude.{if◌then◌else◌}
 use Rattle.std.specs.List.{list_all}
-use Rattle.std.proofs.lemmas.List.{reverse-reverse, reverse-append, take_all, append-nil}
-use Rattle.std.proofs.lemmas.List.Elements.{All-nil, All-cons, All-head, All-tail, All-push}
+use Rattle.std.proofs.lemmas.List.{reverse-reverse, take_all, append-nil}
+use Rattle.std.proofs.lemmas.List.Elements.{All-nil, All-cons, All-head, All-tail}
 use Rattle.ll_bank.specs.declared.BankSize.{BankSize}
 use Rattle.ll_bank.specs.Term.{Term, is_closed}
 use Rattle.ll_bank.specs.Form.{Form, sub_form}
@@ -21,12 +21,8 @@ use Rattle.ll_sequent.specs.declared.sequents.Resource.{Resource}
 use Rattle.ll_sequent.specs.declared.sequents.Start.{Start}
 use Rattle.ll_sequent.specs.Sequents.{labelled_in, bounded_in, free_in, IsSound, IsHeld, AreHeld}
 use Rattle.ll_sequent.specs.Starting.{values, of_kind, root_of, AreSound, IsRoot}
-use Rattle.ll_sequent.proofs.FindingLemmas.{map_reverse}
+use Rattle.ll_sequent.proofs.FindingLemmas.{all_reversed, map_reverse}
 use Rattle.ll_sequent.proofs.ValueLemmas.{sound-values}
-
-pub all_reversed : {X : Type 0} (P : X → Type 0) (xs : List X) → All P xs → All P (reverse xs)
-all_reversed P [] h = h
-all_reversed P (x ∷ xs) h = subst (All P) (sym (reverse-append (x ∷ []) xs)) (All-push P (reverse xs) x (all_reversed P xs (All-tail P x xs h)) (All-head P x xs h))
 
 -- a bank cut to its own size is itself
 same_front : {A : Type 0} (xs ys zs : List A) → xs ≡ ys ++ zs → length ys ≡ length xs → ys ≡ xs

@@ -64,7 +64,7 @@ wider_headed scope (Ap f a) h =
     let s = and_parts (is_spine f) (may_head [] (head_of f)) r.0 in
     and_from _ _ (and_from _ _ (and_from _ _ s.0 (wider_head scope f s.1)) (wider_headed scope f r.1)) (wider_headed scope a q.1)
 
-puts_nothing : (outer : Scope) → Puts [] [] outer
+pub puts_nothing : (outer : Scope) → Puts [] [] outer
 puts_nothing outer = record { free = λ k round l. absurd (omega arith); spines = λ k round m. refl; may = λ k round m. cc; headed = λ k round. refl }
 
 -- a sound formula is sound under more quantifiers
@@ -86,7 +86,7 @@ puts_none outer = record {
   headed = λ k round. refl;
 }
 
-puts_one : (u : Term) (e : Env) (inner outer : Scope) → places_below 0 u ≡ true → is_headed [] u ≡ true → Puts e inner outer → Puts (Some u ∷ e) (false ∷ inner) outer
+pub puts_one : (u : Term) (e : Env) (inner outer : Scope) → places_below 0 u ≡ true → is_headed [] u ≡ true → Puts e inner outer → Puts (Some u ∷ e) (false ∷ inner) outer
 puts_one u e inner outer c d h = record { free = free; spines = spines; may = may; headed = headed }
   where
     free : (k : ℕ) (round : Scope) → k < length (false ∷ inner) → places_below (length round + length outer) (place (Some u ∷ e) k (length round)) ≡ true

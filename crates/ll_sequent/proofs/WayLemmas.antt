@@ -20,7 +20,7 @@ use Rattle.ll_sequent.specs.declared.leaves.Needed.TheVariants.{Bounded, Unbound
 use Rattle.ll_sequent.specs.declared.leaves.Opened.{Opened}
 use Rattle.ll_sequent.specs.declared.leaves.Side.{Side}
 use Rattle.ll_sequent.specs.Opened.{needed_in, needed_at, AreNeeded, ShowsLeaf, IsSide}
-use Rattle.ll_sequent.proofs.StartLemmas.{all_reversed}
+use Rattle.ll_sequent.proofs.FindingLemmas.{all_reversed}
 use Rattle.ll_sequent.proofs.Closings.{form_heads, puts_term, heads-instantiate}
 use Rattle.ll_sequent.proofs.LeafLemmas.{put_behind, behind_none, behind_one, leaf_open, leaf_atom, leaf_lolli, leaf_imp, leaf_left, leaf_right, leaf_no, leaf_past_atom, leaf_more_terms, size_close}
 

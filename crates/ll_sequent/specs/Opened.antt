@@ -9,7 +9,7 @@ use Rattle.ll_laws.specs.Shows.{Found, Missing, Took}
 use Rattle.ll_laws.specs.Fault.{parts_fit, parts_deal}
 use Rattle.ll_laws.specs.Line.{PartLine}
 use Rattle.ll_laws.specs.Module.{ModuleTree}
-use Rattle.ll_laws.specs.Valid.{GoalSide}
+use Rattle.ll_laws.specs.Valid.{GoalSide, ClauseSide}
 use Rattle.ll_sequent.specs.declared.leaves.Needed.{Needed}
 use Rattle.ll_sequent.specs.declared.leaves.Needed.TheVariants.{Bounded, Unbounded}
 use Rattle.ll_sequent.specs.declared.leaves.Opened.{Opened}
@@ -25,6 +25,11 @@ use Rattle.ll_sequent.specs.Steps.{blank, premises, AreLeft}
 abbrev pub found_in : Nodes → Option FormAt → List Resource → Found
 found_in bank None left = Missing
 found_in bank (Some f) left = Took (form_tree bank f.0) (bounded_in bank left)
+
+-- the clauses that are left are sound, and so is the one that was found
+abbrev pub AreFound : List ModuleTree → Nodes → Option FormAt → List Resource → Type 0
+AreFound modules bank None left = AreHeld modules bank left
+AreFound modules bank (Some f) left = AreHeld modules bank left × IsHeld modules bank ClauseSide f.0
 
 -- the side on which a leaf is, given the number of leaves of the left one, and its number there
 abbrev pub IsSide : ℕ → FormAt → FormAt → ℕ → Side → Type 0

@@ -1,10 +1,11 @@
 //! The clause that a label names.
-ghost use Rattle.std.specs.Prelude.{◌≡◌, reverse, nat_eq};
+ghost use Rattle.std.specs.Prelude.{◌≡◌, List, reverse, nat_eq};
 ghost use Rattle.std.specs.List.{find, position};
 ghost use Rattle.ll_bank.specs.Nodes.{Nodes};
+ghost use Rattle.ll_laws.specs.Module.{ModuleTree};
 ghost use Rattle.ll_laws.specs.Shows.{pick};
-ghost use Rattle.ll_sequent.specs.Sequents.{bounded_in, free_in};
-ghost use Rattle.ll_sequent.specs.Opened.{found_in};
+ghost use Rattle.ll_sequent.specs.Sequents.{bounded_in, free_in, AreHeld};
+ghost use Rattle.ll_sequent.specs.Opened.{found_in, AreFound};
 ghost use Rattle.ll_sequent.specs.declared.sequents.Resource.{Resource};
 
 use crate::sequents::Resource;
@@ -16,7 +17,8 @@ pub(crate) fn take_clause(
     free: &[Resource],
     bounded: &mut Vec<Resource>,
 ) -> Option<FormAt>
-    ensures { (bank : Nodes) → found_in bank result bounded.new.items ≡ pick label (free_in bank free.now) (bounded_in bank bounded.old.items) }
+    ensures found { (bank : Nodes) → found_in bank result bounded.new.items ≡ pick label (free_in bank free.now) (bounded_in bank bounded.old.items) }
+    ensures held { (modules : List ModuleTree) (bank : Nodes) → AreHeld modules bank free.now → AreHeld modules bank bounded.old.items → AreFound modules bank result bounded.new.items }
 {
     if let Some(found) = newest(label, free) {
         return Some(found.form);

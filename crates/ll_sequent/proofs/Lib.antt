@@ -18,3 +18,4 @@ pub mod LeafLemmas
 pub mod WayLemmas
 pub mod DealLemmas
 pub mod ClauseLemmas
+pub mod NodeLemmas

@@ -1,0 +1,18 @@
+use Rattle.std.proofs.Common.{◌≡◌, true, false, refl, arith}
+use Rattle.std.specs.Prelude.{◌||◌, not}
+use Rattle.ll_sequent.specs.declared.sequents.Step.TheVariants.{Refused}
+use Rattle.ll_sequent.specs.Named.{has_resource}
+use Rattle.ll_sequent.proofs.RuleLemmas.{lolli_known, lolli_steps}
+use Rattle.ll_sequent.proofs.loads.lolli.Goals as goal
+
+pub returns-then-not-is_new : goal.returns-then-not-is_new
+returns-then-not-is_new c =
+    let a = c.is_new.ensures in let b = c.if-not-is_new.true in let d = c.if-not-is_new.ensures in let v = c.deref.ensures.value in
+    let old : not (has_resource c.args.free.now c.args.label || has_resource c.args.sequent.bounded.items c.args.label) ≡ false = first_of (cc, grind arith) in
+    lolli_known c.args.bank.now c.args.free.now c.args.sequent c.in-Lolli.clause c.in-Lolli.goal c.args.label c.in-Lolli.ensures.shown old (Refused 9) refl
+
+pub returns-in_ok-step-in-Lolli : goal.returns-in_ok-step-in-Lolli
+returns-in_ok-step-in-Lolli c =
+    let a = c.is_new.ensures in let b = c.if-not-is_new.false in let d = c.if-not-is_new.ensures in let v = c.deref.ensures.value in
+    let fresh : not (has_resource c.args.free.now c.args.label || has_resource c.args.sequent.bounded.items c.args.label) ≡ true = first_of (cc, grind arith) in
+    lolli_steps c.args.bank.now c.args.free.now c.args.sequent c.in-Lolli.clause c.in-Lolli.goal c.args.label _ c.in_ok-step-in-Lolli.step c.in-Lolli.ensures.shown fresh (record { same = refl; has_bounded = c.in_ok-push-in-Lolli.ensures.items; has_goal = refl }) c.in_ok-step-in-Lolli.ensures

@@ -1,0 +1,49 @@
+use Rattle.std.proofs.Common.{refl, ap, sym, ◌∙◌, arith}
+use Rattle.ll_bank.specs.declared.Head.TheVariants.{Eigen}
+use Rattle.ll_bank.specs.Term.{Con}
+use Rattle.ll_bank.specs.Form.{instantiate, form_applies_heads}
+use Rattle.ll_bank.specs.Nodes.{form_tree, HasForm, ShowsForm}
+use Rattle.ll_bank.proofs.Trees.{Extends-refl, Extends-trans, form_tree-extends}
+use Rattle.ll_sequent.specs.Constants.{stands_in}
+use Rattle.ll_sequent.proofs.ForallLemmas.{forall_refused, forall_known, forall_heads, forall_steps}
+use Rattle.ll_sequent.proofs.opening.forall.Goals as goal
+
+pub returns-in_err-stands-in-Forall-clause-keeps : goal.returns-in_err-stands-in-Forall-clause-keeps
+returns-in_err-stands-in-Forall-clause-keeps c = Extends-refl c.args.bank.now
+
+pub returns-then-branch-clause-keeps : goal.returns-then-branch-clause-keeps
+returns-then-branch-clause-keeps c = Extends-refl c.args.bank.now
+
+pub returns-then-branch-clause-is : goal.returns-then-branch-clause-is
+returns-then-branch-clause-is c =
+    forall_known c.args.bank.now c.args.free.now c.args.sequent c.args.constant c.in-Forall.body c.in-Forall.ensures.shown
+    (ap (stands_in c.args.constant c.args.bank.now c.in-Forall.body c.args.free.now) (sym c.deref.ensures.value) ∙ (sym c.in_ok-stands-in-Forall.ensures ∙ c.if-branch.true))
+
+pub instantiate-requires-clause-heads : goal.instantiate-requires-clause-heads
+instantiate-requires-clause-heads c =
+    let low = c.in-Forall.ensures.shown.parts in let high = c.requires.goal in
+    let inside : HasForm c.args.bank.now c.in-Forall.body.0 = omega arith in
+    let same = form_tree-extends c.in_ok-value-in-Forall.ensures.keeps c.in-Forall.body.0 inside in
+    (λ i. form_applies_heads (instantiate (same i) (c.in_ok-value-in-Forall.ensures.shows.tree i)))
+    ∙ forall_heads c.args.bank.now c.args.free.now c.args.sequent c.args.constant c.in-Forall.body c.in-Forall.ensures.shown c.requires.heads
+
+pub returns-in_ok-step-in-Forall-clause-is : goal.returns-in_ok-step-in-Forall-clause-is
+returns-in_ok-step-in-Forall-clause-is c =
+    let low = c.in-Forall.ensures.shown.parts in let high = c.requires.goal in
+    let inside : HasForm c.args.bank.now c.in-Forall.body.0 = omega arith in
+    let same = form_tree-extends c.in_ok-value-in-Forall.ensures.keeps c.in-Forall.body.0 inside in
+    let shows : ShowsForm c.instantiate.new.self c.in_ok-goal-in-Forall.goal.0 (instantiate (form_tree c.args.bank.now c.in-Forall.body.0) (Con (Eigen c.args.constant))) =
+    record {
+      inside = c.in_ok-goal-in-Forall.ensures.shows.inside;
+      tree = c.in_ok-goal-in-Forall.ensures.shows.tree ∙ (λ i. instantiate (same i) (c.in_ok-value-in-Forall.ensures.shows.tree i));
+    } in
+    forall_steps c.args.bank.now c.args.free.now c.args.sequent c.args.constant c.in-Forall.body c.in-Forall.ensures.shown c.instantiate.new.self
+    (record { free = c.args.sequent.free; bounded = c.args.sequent.bounded; goal = c.in_ok-goal-in-Forall.goal }) c.in_ok-step-in-Forall.step
+    (ap (stands_in c.args.constant c.args.bank.now c.in-Forall.body c.args.free.now) (sym c.deref.ensures.value) ∙ (sym c.in_ok-stands-in-Forall.ensures ∙ c.if-branch.false))
+    (Extends-trans c.in_ok-value-in-Forall.ensures.keeps c.in_ok-goal-in-Forall.ensures.keeps) shows refl refl c.in_ok-step-in-Forall.ensures
+
+pub returns-in_default : goal.returns-in_default
+returns-in_default c = record {
+  is = forall_refused c.args.bank.now c.args.free.now c.args.sequent c.args.constant c.form_at.result c.form_at.ensures.shown c.in_default.not-Forall;
+  keeps = Extends-refl c.args.bank.now;
+}

@@ -1,0 +1,42 @@
+use Rattle.std.proofs.Common.{◌<◌, length, map, refl, ap, sym, ◌∙◌}
+use Rattle.std.proofs.lemmas.Bool.{ltb-true}
+use Rattle.ll_bank.specs.Form.{Use}
+use Rattle.ll_bank.specs.Nodes.{form_tree, term_trees}
+use Rattle.ll_bank.proofs.Trees.{Extends-refl}
+use Rattle.ll_laws.specs.Shown.{module_tree}
+use Rattle.ll_sequent.proofs.UnfoldLemmas.{load_count, load_heads, load_steps, use_refused}
+use Rattle.ll_sequent.proofs.opening.load.Goals as goal
+
+pub returns-in_err-args-in-Use-clause-keeps : goal.returns-in_err-args-in-Use-clause-keeps
+returns-in_err-args-in-Use-clause-keeps c = Extends-refl c.args.bank.now
+
+pub unfold-requires-clause-count : goal.unfold-requires-clause-count
+unfold-requires-clause-count c =
+    let l = c.in-Some.ensures.lookup in
+    let low : c.in-Use.number < length c.args.modules.now = ltb-true _ _ (sym l.0) in
+    let same = c.deref.ensures.value ∙ c.in_ok-args-in-Use.ensures.items in
+    load_count c.args.bank.now c.args.modules.now c.in-Use.number c.in-Some.module.now c.deref.result.now c.in-Use.body c.args.sequent low l.1
+    (c.in-Use.ensures.shown.tree ∙ ap (λ xs. Use c.in-Use.number (term_trees c.args.bank.now xs) (form_tree c.args.bank.now c.in-Use.body.0)) (sym same)) c.requires.modules c.requires.sequent
+
+pub unfold-requires-clause-heads : goal.unfold-requires-clause-heads
+unfold-requires-clause-heads c =
+    let l = c.in-Some.ensures.lookup in
+    let low : c.in-Use.number < length c.args.modules.now = ltb-true _ _ (sym l.0) in
+    let same = c.deref.ensures.value ∙ c.in_ok-args-in-Use.ensures.items in
+    load_heads c.args.bank.now c.args.modules.now c.in-Use.number c.in-Some.module.now c.deref.result.now c.in-Use.body c.args.sequent low l.1
+    (c.in-Use.ensures.shown.tree ∙ ap (λ xs. Use c.in-Use.number (term_trees c.args.bank.now xs) (form_tree c.args.bank.now c.in-Use.body.0)) (sym same)) c.requires.modules c.requires.sequent
+
+pub returns-in_ok-step-in-Use-clause-is : goal.returns-in_ok-step-in-Use-clause-is
+returns-in_ok-step-in-Use-clause-is c =
+    let l = c.in-Some.ensures.lookup in
+    let low : c.in-Use.number < length c.args.modules.now = ltb-true _ _ (sym l.0) in
+    let same = c.deref.ensures.value ∙ c.in_ok-args-in-Use.ensures.items in
+    load_steps c.args.bank.now c.args.modules.now c.in-Use.number c.in-Some.module.now c.deref.result.now c.in-Use.body c.args.sequent low l.1
+    (c.in-Use.ensures.shown.tree ∙ ap (λ xs. Use c.in-Use.number (term_trees c.args.bank.now xs) (form_tree c.args.bank.now c.in-Use.body.0)) (sym same)) c.requires.modules c.requires.sequent
+    c.unfold.new.bank (record { free = c.args.sequent.free; bounded = c.args.sequent.bounded; goal = c.in_ok-goal-in-Use.goal }) c.in_ok-step-in-Use.step c.in_ok-goal-in-Use.ensures.keeps c.in_ok-goal-in-Use.ensures.shows refl refl c.in_ok-step-in-Use.ensures
+
+pub returns-in_default : goal.returns-in_default
+returns-in_default c = record {
+  is = use_refused c.args.bank.now c.args.sequent c.form_at.result c.form_at.ensures.shown c.in_default.not-Use (map (module_tree c.args.bank.now) c.args.modules.now);
+  keeps = Extends-refl c.args.bank.now;
+}

@@ -1,0 +1,5 @@
+use Rattle.ll_bank.proofs.Trees.{Extends-refl}
+use Rattle.ll_sequent.proofs.premises.goal_of.Goals as goal
+
+pub returns-in-Bounded-clause-keeps : goal.returns-in-Bounded-clause-keeps
+returns-in-Bounded-clause-keeps c = Extends-refl c.args.bank.now

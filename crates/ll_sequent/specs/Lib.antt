@@ -1,0 +1,9 @@
+pub mod Sequents
+pub mod Steps
+pub mod Constants
+pub mod Named
+pub mod Judging
+pub mod Told
+pub mod Starting
+pub mod Opened
+pub mod Substituted

@@ -1,0 +1,76 @@
+//! The way through the nodes.
+ghost use Rattle.std.specs.Prelude.{◌≡◌, ◌++◌, ◌∷◌, [], true, map, reverse, Some, IfOk, OnOk};
+ghost use Rattle.std.specs.List.{list_all};
+ghost use Rattle.ll_laws.specs.Shown.{module_tree, HasModules};
+ghost use Rattle.ll_laws.specs.ShownLines.{line_of, HasLines};
+ghost use Rattle.ll_laws.specs.Line.{is_line, trees_of};
+ghost use Rattle.ll_laws.specs.Shows.{Tree};
+ghost use Rattle.ll_sequent.specs.Judging.{fault_at, AreModulesSound, Holds};
+ghost use Rattle.ll_sequent.specs.Sequents.{sequent_in};
+ghost use Rattle.ll_sequent.specs.Told.{Tells};
+
+use crate::Verdict;
+use crate::rules::step;
+use crate::sequents::{Sequent, Start, Step};
+use ll_bank::{Bank, OutOfMemory};
+use ll_laws::{Module, Rule};
+use std::alloc::Global;
+
+/// Judges the nodes from a root on.
+pub(crate) fn judge(
+    alloc: Global,
+    start: Start,
+    modules: &[Module],
+    terms: &Bank,
+    rules: &[Rule],
+) -> Result<Verdict, OutOfMemory>
+    requires has { HasModules start.bank modules.now }
+    requires modules { AreModulesSound (map (module_tree start.bank) modules.now) }
+    requires holds { Holds (map (module_tree start.bank) modules.now) start.bank start.free.items start.root }
+    requires lines { HasLines terms.now rules.now }
+    requires whole { list_all is_line (map (line_of terms.now) rules.now) ≡ true }
+    ensures { IfOk result (λ verdict. (x : Tree) → trees_of (map (line_of terms.now) rules.now) ≡ Some (x ∷ []) → Tells verdict (fault_at (map (module_tree start.bank) modules.now) x (sequent_in start.bank start.free.items start.root))) }
+{
+    let Start {
+        mut bank,
+        mut free,
+        root,
+    } = start;
+    let mut waiting = Vec::new(alloc);
+    waiting.push(root)?;
+    for node in 0..rules.len() {
+        let Some(sequent) = waiting.pop() else {
+            return Ok(Verdict::Yes);
+        };
+        free.truncate(sequent.free);
+        match step(
+            alloc,
+            &mut bank,
+            modules,
+            terms,
+            &rules[node],
+            &mut free,
+            sequent,
+        )? {
+            Step::Refused(reason) => {
+                return Ok(Verdict::No {
+                    node: node + 1,
+                    reason,
+                });
+            }
+            Step::Leaves(premises) => put_in_front(premises, &mut waiting)?,
+        }
+    }
+    Ok(Verdict::Yes)
+}
+
+/// Puts sequents in front of those that wait, the first one in front.
+fn put_in_front(sequents: Vec<Sequent>, waiting: &mut Vec<Sequent>) -> Result<(), OutOfMemory>
+    ensures { OnOk result (waiting.new.items ≡ waiting.old.items ++ reverse sequents.items) }
+{
+    let mut sequents = sequents;
+    while let Some(sequent) = sequents.pop() {
+        waiting.push(sequent)?;
+    }
+    Ok(())
+}

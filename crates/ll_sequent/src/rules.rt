@@ -1,0 +1,92 @@
+//! The rules of nodes.
+ghost use Rattle.std.specs.Prelude.{◌≡◌, true, map, length, IfOk};
+ghost use Rattle.ll_bank.specs.Nodes.{Extends};
+ghost use Rattle.ll_laws.specs.Shown.{module_tree, HasModules};
+ghost use Rattle.ll_laws.specs.ShownLines.{line_of, HasLine};
+ghost use Rattle.ll_laws.specs.Line.{is_line};
+ghost use Rattle.ll_sequent.specs.Judging.{AreModulesSound, Holds, IsStep};
+ghost use Rattle.ll_sequent.specs.Sequents.{sequent_in};
+
+use crate::clauses::clause;
+use crate::loads::{imp, lolli};
+use crate::opening::{exists, forall, load};
+use crate::plain::{bang, erase, left, one, right, tensor, with};
+use crate::sequents::{Resource, Sequent, Step};
+use ll_bank::{Bank, OutOfMemory};
+use ll_laws::{Module, Rule};
+use std::alloc::Global;
+
+/// What a node makes of its sequent.
+pub(crate) fn step(
+    alloc: Global,
+    bank: &mut Bank,
+    modules: &[Module],
+    terms: &Bank,
+    rule: &Rule,
+    free: &mut Vec<Resource>,
+    sequent: Sequent,
+) -> Result<Step, OutOfMemory>
+    requires has { HasModules bank.old modules.now }
+    requires modules { AreModulesSound (map (module_tree bank.old) modules.now) }
+    requires holds { Holds (map (module_tree bank.old) modules.now) bank.old free.old.items sequent }
+    requires inside { HasLine terms.now rule.now }
+    requires line { is_line (line_of terms.now rule.now) ≡ true }
+    ensures is { IfOk result (IsStep (map (module_tree bank.old) modules.now) (line_of terms.now rule.now) (sequent_in bank.old free.old.items sequent) bank.new free.old.items free.new.items) }
+    ensures keeps { Extends bank.old bank.new }
+{
+    match rule {
+        Rule::One => Ok(one(alloc, bank, sequent)),
+        Rule::Erase => Ok(erase(alloc, bank, sequent)),
+        Rule::Tensor(left, right) => {
+            let step = tensor(alloc, bank, left, right, sequent)?;
+            Ok(step)
+        }
+        Rule::With => {
+            let step = with(alloc, bank, sequent)?;
+            Ok(step)
+        }
+        Rule::Left => {
+            let step = left(alloc, bank, sequent)?;
+            Ok(step)
+        }
+        Rule::Right => {
+            let step = right(alloc, bank, sequent)?;
+            Ok(step)
+        }
+        Rule::Bang => {
+            let step = bang(alloc, bank, sequent)?;
+            Ok(step)
+        }
+        Rule::Lolli(label) => {
+            let step = lolli(alloc, bank, free, *label, sequent)?;
+            Ok(step)
+        }
+        Rule::Imp(label) => {
+            let step = imp(alloc, bank, free, *label, sequent)?;
+            Ok(step)
+        }
+        Rule::Forall(constant) => {
+            let step = forall(alloc, bank, *constant, free, sequent)?;
+            Ok(step)
+        }
+        Rule::Exists(term) => {
+            let step = exists(alloc, bank, terms, *term, sequent)?;
+            Ok(step)
+        }
+        Rule::Use => {
+            let step = load(alloc, bank, modules, sequent)?;
+            Ok(step)
+        }
+        Rule::Clause {
+            label,
+            leaf,
+            terms: values,
+            parts,
+        } => {
+            let step = clause(
+                alloc, bank, modules, terms, *label, *leaf, values, parts, free, sequent,
+            )?;
+            Ok(step)
+        }
+    }
+}

@@ -1,0 +1,161 @@
+//! Terms in place of the variables of a formula.
+//!
+//! A bank has the parts of a term or formula at lower places than the whole. So each place gets its image in turn, over those of its
+//! parts, as far as the formula goes.
+ghost use Rattle.std.specs.Prelude.{◌≡◌, ◌≤◌, ◌<◌, length, map, slice_index_or, All, IfOk, OnOk};
+ghost use Rattle.ll_bank.specs.declared.At.{At};
+ghost use Rattle.ll_bank.specs.Term.{sub};
+ghost use Rattle.ll_bank.specs.Form.{sub_form};
+ghost use Rattle.ll_bank.specs.Nodes.{term_tree, form_tree, term_trees, HasForm, HasTerm, AllInTerms, ShowsForm, ShowsTerm, Extends};
+ghost use Rattle.ll_sequent.specs.Starting.{values as values_of};
+ghost use Rattle.ll_sequent.specs.Substituted.{AreTermImages, AreFormImages};
+
+use ll_bank::{At, Bank, FormAt, FormNode, OutOfMemory, TermView};
+use std::alloc::Global;
+
+/// A formula with values in place of its variables, that of variable n in place n. Other variables stay.
+pub(crate) fn substituted(
+    alloc: Global,
+    bank: &mut Bank,
+    form: FormAt,
+    values: &[At],
+) -> Result<FormAt, OutOfMemory>
+    requires form { HasForm bank.old form.0 }
+    requires values { AllInTerms bank.old values.now }
+    ensures shows { IfOk result (λ image. ShowsForm bank.new image.0 (sub_form (values_of (term_trees bank.old values.now)) (form_tree bank.old form.0))) }
+    ensures keeps { Extends bank.old bank.new }
+{
+    let mut terms = Vec::new(alloc);
+    let mut forms = Vec::new(alloc);
+    'growth: while forms.len() <= form.0 {
+        let place = FormAt(forms.len());
+        let image = form_image(alloc, bank, place, values, &mut terms, &forms)?;
+        forms.push(image)?;
+    }
+    Ok(forms[form.0])
+}
+
+/// The image of a formula, over the images of the formulas at lower places.
+fn form_image(
+    alloc: Global,
+    bank: &mut Bank,
+    form: FormAt,
+    values: &[At],
+    terms: &mut Vec<At>,
+    forms: &[FormAt],
+) -> Result<FormAt, OutOfMemory>
+    requires form { HasForm bank.old form.0 }
+    requires below { form.0 ≤ length forms.now }
+    requires values { AllInTerms bank.old values.now }
+    requires terms { AreTermImages bank.old (term_trees bank.old values.now) terms.old.items }
+    requires forms { AreFormImages bank.old (term_trees bank.old values.now) forms.now }
+    ensures shows { IfOk result (λ image. ShowsForm bank.new image.0 (sub_form (values_of (term_trees bank.old values.now)) (form_tree bank.old form.0))) }
+    ensures terms { OnOk result (AreTermImages bank.new (term_trees bank.old values.now) terms.new.items) }
+    ensures keeps { Extends bank.old bank.new }
+{
+    match bank.form_at(form) {
+        FormNode::Top => Ok(form),
+        FormNode::One => Ok(form),
+        FormNode::Atom(atom) => {
+            let image = term_image(alloc, bank, atom, values, terms)?;
+            bank.form(FormNode::Atom(image))
+        }
+        FormNode::With(f, g) => bank.form(FormNode::With(forms[f.0], forms[g.0])),
+        FormNode::Tensor(f, g) => bank.form(FormNode::Tensor(forms[f.0], forms[g.0])),
+        FormNode::Plus(f, g) => bank.form(FormNode::Plus(forms[f.0], forms[g.0])),
+        FormNode::Bang(f) => bank.form(FormNode::Bang(forms[f.0])),
+        FormNode::Lolli(f, g) => bank.form(FormNode::Lolli(forms[f.0], forms[g.0])),
+        FormNode::Imp(f, g) => bank.form(FormNode::Imp(forms[f.0], forms[g.0])),
+        FormNode::Forall(f) => bank.form(FormNode::Forall(forms[f.0])),
+        FormNode::Exists(f) => bank.form(FormNode::Exists(forms[f.0])),
+        FormNode::Use(module, args, f) => {
+            let args = Vec::from_slice(alloc, args)?;
+            let images = term_images(alloc, bank, &args, values, terms)?;
+            bank.form(FormNode::Use(module, &images, forms[f.0]))
+        }
+    }
+}
+
+/// The images of terms.
+fn term_images(
+    alloc: Global,
+    bank: &mut Bank,
+    places: &[At],
+    values: &[At],
+    terms: &mut Vec<At>,
+) -> Result<Vec<At>, OutOfMemory>
+    requires places { AllInTerms bank.old places.now }
+    requires values { AllInTerms bank.old values.now }
+    requires terms { AreTermImages bank.old (term_trees bank.old values.now) terms.old.items }
+    ensures inside { IfOk result (λ images. AllInTerms bank.new images.items) }
+    ensures shows { IfOk result (λ images. term_trees bank.new images.items ≡ map (sub (values_of (term_trees bank.old values.now))) (term_trees bank.old places.now)) }
+    ensures terms { OnOk result (AreTermImages bank.new (term_trees bank.old values.now) terms.new.items) }
+    ensures keeps { Extends bank.old bank.new }
+{
+    let mut images = Vec::new(alloc);
+    for place in places {
+        let image = term_image(alloc, bank, *place, values, terms)?;
+        images.push(image)?;
+    }
+    Ok(images)
+}
+
+/// The image of a term. Those of all terms at lower places come to the images that there are.
+fn term_image(
+    alloc: Global,
+    bank: &mut Bank,
+    term: At,
+    values: &[At],
+    terms: &mut Vec<At>,
+) -> Result<At, OutOfMemory>
+    requires term { HasTerm bank.old term.0 }
+    requires values { AllInTerms bank.old values.now }
+    requires terms { AreTermImages bank.old (term_trees bank.old values.now) terms.old.items }
+    ensures shows { IfOk result (λ image. ShowsTerm bank.new image.0 (sub (values_of (term_trees bank.old values.now)) (term_tree bank.old term.0))) }
+    ensures terms { OnOk result (AreTermImages bank.new (term_trees bank.old values.now) terms.new.items) }
+    ensures keeps { Extends bank.old bank.new }
+{
+    'growth: while terms.len() <= term.0 {
+        let place = At(terms.len());
+        let image = next_image(alloc, bank, place, values, terms)?;
+        terms.push(image)?;
+    }
+    Ok(terms[term.0])
+}
+
+/// The image of a term, over the images of the terms at lower places.
+fn next_image(
+    alloc: Global,
+    bank: &mut Bank,
+    term: At,
+    values: &[At],
+    terms: &[At],
+) -> Result<At, OutOfMemory>
+    requires term { HasTerm bank.old term.0 }
+    requires below { term.0 ≤ length terms.now }
+    requires values { AllInTerms bank.old values.now }
+    requires terms { AreTermImages bank.old (term_trees bank.old values.now) terms.now }
+    ensures shows { IfOk result (λ image. ShowsTerm bank.new image.0 (sub (values_of (term_trees bank.old values.now)) (term_tree bank.old term.0))) }
+    ensures keeps { Extends bank.old bank.new }
+{
+    match bank.term_at(term) {
+        TermView::Var(number) => Ok(*values.get(number as usize).unwrap_or(&term)),
+        TermView::Int(_) => Ok(term),
+        TermView::App(head, args) => {
+            let images = images_of(alloc, args, terms)?;
+            bank.app(head, &images)
+        }
+    }
+}
+
+/// The images of terms that have theirs.
+fn images_of(alloc: Global, places: &[At], terms: &[At]) -> Result<Vec<At>, OutOfMemory>
+    requires { All (λ (a : At). a.0 < length terms.now) places.now }
+    ensures { IfOk result (λ images. images.items ≡ map (λ (a : At). slice_index_or terms.now a.0 a) places.now) }
+{
+    let mut images = Vec::new(alloc);
+    for place in places {
+        images.push(terms[place.0])?;
+    }
+    Ok(images)
+}

@@ -12,3 +12,4 @@ pub mod Making
 pub mod Spanning
 pub mod Picking
 pub mod Sharing
+pub mod SampleLemmas

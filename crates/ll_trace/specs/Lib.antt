@@ -7,3 +7,4 @@ pub mod Start
 pub mod Spans
 pub mod Picks
 pub mod Shares
+pub mod Sample

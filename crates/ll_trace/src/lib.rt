@@ -1,6 +1,8 @@
 //! The derivation of an answer's branch: its nodes, with every label dealt out.
 #![tactic(auto)]
 
+#[cfg(test)]
+mod answer_tests;
 mod deal;
 mod leaf;
 mod picks;

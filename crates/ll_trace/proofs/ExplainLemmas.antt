@@ -1,6 +1,6 @@
 -- What the parts of a call give together.
 use Rattle.std.proofs.Common.{◌≡◌, ℕ, zero, suc, ◌+◌, ◌<◌, ◌≤◌, refl, ap, sym, subst, ◌∙◌, arith, List, [], ◌∷◌, ◌++◌, map, length, take, drop, All, slice_index_or, Option, Some, None}
-use Rattle.std.specs.Prelude.{slice_get, slice_index}
+use Rattle.std.specs.Prelude.{slice_get, slice_index, Contains}
 use Rattle.std.proofs.lemmas.List.{length-map}
 use Rattle.std.proofs.lemmas.List.Elements.{All-nil, All-cons, All-take, All-map}
 use Rattle.ll_bank.specs.declared.At.{At}
@@ -18,14 +18,17 @@ use Rattle.ll_laws.specs.declared.Rule.{Rule}
 use Rattle.ll_laws.specs.declared.Step.{Step}
 use Rattle.ll_laws.specs.declared.Step.TheVariants.{Plain as PlainStep, Left, Right, Clause as ClauseStep}
 use Rattle.ll_laws.specs.Leaf.{Premise, premise_goal, ways}
-use Rattle.ll_laws.specs.Line.{Line, trees_of, lines}
+use Rattle.ll_laws.specs.Line.{Line, DerivationLines, IsWhole, trees_of, lines}
 use Rattle.ll_laws.specs.Module.{ClauseTree, ModuleTree, Setting}
 use Rattle.ll_laws.specs.Answered.{Answered}
-use Rattle.ll_laws.specs.Problem.{ProblemTree}
+use Rattle.ll_laws.specs.Problem.{ProblemTree, problem_events}
 use Rattle.ll_laws.specs.Shows.{Tree, Labelled}
 use Rattle.ll_laws.specs.Shown.{clause_tree, module_tree, HasClauses}
 use Rattle.ll_laws.specs.ShownLines.{line_of, HasLines}
-use Rattle.ll_laws.specs.Verdict.{labelled}
+use Rattle.ll_laws.specs.Verdict.{labelled, DerivationShows}
+use Rattle.ll_laws.specs.Laws.{AnswersAreShown}
+use Rattle.ll_laws.specs.Valid.{IsValid}
+use Rattle.ll_laws.specs.declared.Event.TheVariants.{Answer}
 use Rattle.ll_laws.specs.Dealing.{deal}
 use Rattle.ll_laws.specs.Dealt.{values, asked_terms, branch_lines, dealt}
 use Rattle.ll_trace.specs.declared.walk.Goal.TheVariants.{Plain}
@@ -221,3 +224,20 @@ module _ (p : ProblemTree) (a : Answered) (forms bank : Nodes) (modules : List M
         let ns : map (line_of image) new ≡ lines (deal (root_labels p) walked.tree) = f walked.tree (is_tree rules h) ∙ ap (λ ms. lines (deal ms walked.tree)) ls in
         let ts : term_trees image asked ≡ asked_terms p a = ap (term_trees image) e ∙ (sym (trees-take image (length p.asked) terms) ∙ ap (take (length p.asked)) same_terms) in
         walked.is_dealt ∙ (λ i. Some (record { asked = sym ts i; nodes = sym ns i }))
+
+-- ---- what a derivation of an answer shows
+
+-- the derivation is whole, shows the query, and has a node for each step of the branch
+pub record IsShown (p : ProblemTree) (a : Answered) (d : DerivationLines) : Type 0 where
+  pub whole : IsWhole d
+  pub shows : DerivationShows p d
+  pub count : length d.nodes ≡ length a.steps
+
+pub is_shown : AnswersAreShown → (p : ProblemTree) (a : Answered) → IsValid p → Contains (problem_events p) (Answer a) → (d : DerivationLines) → dealt p a ≡ Some d → IsShown p a d
+is_shown law p a v h d e =
+    let s = law p a v h in
+    let same : s.0 ≡ d = some_same (sym s.1 ∙ e) in
+    subst (IsShown p a) same (record { whole = s.3; shows = s.4; count = s.5 })
+  where
+    some_same : {x y : DerivationLines} → Some x ≡ Some y → x ≡ y
+    some_same f = cc

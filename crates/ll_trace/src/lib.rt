@@ -12,18 +12,21 @@ mod spans;
 mod tests;
 mod walk;
 
-ghost use Rattle.std.specs.Prelude.{◌≡◌, Contains, IfOk, Some};
+ghost use Rattle.std.specs.Prelude.{◌≡◌, Contains, length, IfOk, Some};
 ghost use Rattle.ll_laws.specs.declared.Event.TheVariants.{Answer};
 ghost use Rattle.ll_laws.specs.Problem.{problem_events};
 ghost use Rattle.ll_laws.specs.Valid.{IsValid};
 ghost use Rattle.ll_laws.specs.Dealt.{dealt};
+ghost use Rattle.ll_laws.specs.Line.{IsWhole};
+ghost use Rattle.ll_laws.specs.Verdict.{DerivationShows};
 
 use ll_bank::OutOfMemory;
 use ll_laws::{Branch, Derivation, Problem, answers_are_shown};
 use std::alloc::Global;
 
 /// The derivation of an answer of a problem, by the branch that ended in it: one node for each inference of the branch, with the branch's
-/// terms, and every label dealt out. A label goes to the node that uses it, and otherwise to the first that can erase it.
+/// terms, and every label dealt out. A label goes to the node that uses it, and otherwise to the first that can erase it. So it shows
+/// the query with the answer's terms.
 ///
 /// It needs no deep stack.
 pub fn explain(
@@ -33,7 +36,10 @@ pub fn explain(
 ) -> Result<Derivation, OutOfMemory>
     requires valid { IsValid problem.now }
     requires answer { Contains (problem_events problem.now) (Answer branch.now) }
-    ensures { IfOk result (λ derivation. dealt problem.now branch.now ≡ Some derivation) }
+    ensures dealt { IfOk result (λ derivation. dealt problem.now branch.now ≡ Some derivation) }
+    ensures whole { IfOk result IsWhole }
+    ensures shows { IfOk result (DerivationShows problem.now) }
+    ensures count { IfOk result (λ derivation. length derivation.nodes ≡ length branch.now.steps) }
 {
     answers_are_shown();
     let count = problem.asked.len();

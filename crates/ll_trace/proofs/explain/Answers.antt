@@ -7,7 +7,7 @@ use Rattle.ll_laws.specs.Problem.{ProblemTree}
 use Rattle.ll_laws.specs.Shown.{clause_tree, module_tree, HasClauses}
 use Rattle.ll_trace.specs.Start.{IsAtStart, linear_labels}
 use Rattle.ll_trace.proofs.Answers.{walked}
-use Rattle.ll_trace.proofs.ExplainLemmas.{take_exact, used_is, told_count, inside_is, asked_in, nodes_in, explained}
+use Rattle.ll_trace.proofs.ExplainLemmas.{take_exact, used_is, told_count, inside_is, asked_in, nodes_in, explained, is_shown}
 use Rattle.ll_trace.proofs.explain.Goals as goal
 
 pub nodes-requires-clause-inside : goal.nodes-requires-clause-inside
@@ -109,8 +109,8 @@ invariant_of-result c =
     (asked_in p a forms bank c.deref-2.result.now c.deref.result.now c.problem.inside.goal c.deref-3.result.now c.deref-4.result.now c.in_ok-walker.walker shown ms cs g ts ss start c.in_ok-bank.bank c.size.result cut c.size.ensures.is inside c.in_ok-asked.asked.items asked,
     nodes_in p a forms bank c.deref-2.result.now c.deref.result.now c.problem.inside.goal c.deref-3.result.now c.deref-4.result.now c.in_ok-walker.walker shown ms cs g ts ss start c.in_ok-bank.bank c.size.result cut c.size.ensures.is inside c.in_ok-nodes.nodes.items c.deal.new.rules.items c.in_ok-nodes.ensures (c.in_ok-deal.ensures.places c.in_ok-bank.bank))
 
-pub returns : goal.returns
-returns c =
+pub returns-clause-dealt : goal.returns-clause-dealt
+returns-clause-dealt c =
     let p = c.args.problem.now in
     let a = c.args.branch.now in
     let forms = c.problem.inside.bank in
@@ -132,3 +132,12 @@ returns c =
     in
     explained p a forms bank c.deref-2.result.now c.deref.result.now c.problem.inside.goal c.deref-3.result.now c.deref-4.result.now c.in_ok-walker.walker shown ms cs g ts ss start c.in_ok-bank.bank c.size.result cut c.size.ensures.is inside c.in_ok-nodes.nodes.items c.deal.new.rules.items c.in_ok-root_labels.field-0.items c.in_ok-asked.asked.items c.in_ok-nodes.ensures
     (c.in_ok-root_labels.ensures ∙ ap (λ (xs : List Clause). linear_labels 0 xs) (c.deref-5.ensures.value ∙ sym c.deref.ensures.value)) (c.in_ok-deal.ensures.dealt c.in_ok-bank.bank) asked
+
+pub returns-clause-whole : goal.returns-clause-whole
+returns-clause-whole c = (is_shown c.answers_are_shown.ensures c.args.problem.now c.args.branch.now c.requires.valid c.requires.answer _ (returns-clause-dealt c)).whole
+
+pub returns-clause-shows : goal.returns-clause-shows
+returns-clause-shows c = (is_shown c.answers_are_shown.ensures c.args.problem.now c.args.branch.now c.requires.valid c.requires.answer _ (returns-clause-dealt c)).shows
+
+pub returns-clause-count : goal.returns-clause-count
+returns-clause-count c = (is_shown c.answers_are_shown.ensures c.args.problem.now c.args.branch.now c.requires.valid c.requires.answer _ (returns-clause-dealt c)).count

@@ -97,7 +97,7 @@ leaf-bare e (With q r) k ts =
     let X : List ℕ → Type 0 = λ ws. HasPremises (if nat_lt k (length (ways q)) then leaf_from e q k ts else leaf_from e r (k - length (ways q)) ts) (if nat_lt k (length ws) then premises_at (bare q) k else premises_at (bare r) (k - length ws)) in
     subst X (sym (ways-bare q))
     (either (nat_lt k (length (ways q))) (leaf_from e q k ts) (leaf_from e r (k - length (ways q)) ts) (premises_at (bare q) k) (premises_at (bare r) (k - length (ways q))) (leaf-bare e q k ts)
-        (leaf-bare e r (k - length (ways q)) ts))
+    (leaf-bare e r (k - length (ways q)) ts))
 leaf-bare e (Lolli g r) k ts = one_more (Needs (close_form e g)) (Needs (bare g)) (leaf_from e r k ts) (premises_at (bare r) k) (ap Needs (bare-close e g)) (leaf-bare e r k ts)
 leaf-bare e (Imp g r) k ts = one_more (NeedsFree (close_form e g)) (NeedsFree (bare g)) (leaf_from e r k ts) (premises_at (bare r) k) (ap NeedsFree (bare-close e g)) (leaf-bare e r k ts)
 leaf-bare e (Forall r) k [] = tt

@@ -53,6 +53,7 @@ trees-count (n ∷ ns) ts h = step (trees_of ns) (trees-count ns) h
     step : (o : Option (List Tree)) → ((us : List Tree) → o ≡ Some us → total us ≡ length ns) → option_and_then (put n) o ≡ Some ts → total ts ≡ suc (length ns)
     step None go h = cc
     step (Some us) go h = put-count n us ts h ∙ ap (λ z. suc z) (go us refl)
+
 -- ---- dealing keeps the nodes
 
 mutual

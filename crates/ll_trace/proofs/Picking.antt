@@ -52,7 +52,6 @@ mutual
   picks-count b (UseNode x) = ap (λ n. suc n) (picks-count b x)
   picks-count b (ClauseNode n k ts ps) = ap (λ n. suc n) (parts-count b ps)
 
-
   pub parts-count : (b : ℕ) (ps : Parts) → length (picks_of_parts b ps) ≡ part_nodes ps
   parts-count b NoParts = refl
   parts-count b (BoundedPart s x ps) = let i = picks-count b x in let j = parts-count b ps in let k = length-append (picks_of b x) (picks_of_parts b ps) in omega (arith, i, j, k)
@@ -80,7 +79,6 @@ mutual
   none_parts n a b (BoundedPart s x ps) h = both n a (picks_of b x) (picks_of_parts b ps) (none_lower n a b x h) (none_parts n a b ps h)
   none_parts n a b (UnboundedPart x ps) h = both n a (picks_of (b + 1) x) (picks_of_parts b ps) (none_lower n a (b + 1) x (omega (arith, h))) (none_parts n a b ps h)
 
-
 mutual
   -- a tree uses what is picked at the level of its root
   pub picks-uses : (n b : ℕ) (x : Tree) → list_any (is_pick n b) (picks_of b x) ≡ uses n x
@@ -102,7 +100,6 @@ mutual
   parts-uses n b NoParts = refl
   parts-uses n b (BoundedPart s x ps) = either n b (picks_of b x) (picks_of_parts b ps) (uses n x) (uses_part n ps) (picks-uses n b x) (parts-uses n b ps)
   parts-uses n b (UnboundedPart x ps) = either n b (picks_of (b + 1) x) (picks_of_parts b ps) false (uses_part n ps) (none_lower n b (b + 1) x (omega arith)) (parts-uses n b ps)
-
 
 -- what stands in front of other picks is used between the places of its nodes
 pub used-here : (n b from to : ℕ) (picks here more : List (Option Pick)) → drop from picks ≡ here ++ more → to ≡ from + length here → is_used_between picks n b from to ≡ list_any (is_pick n b) here

@@ -142,14 +142,16 @@ matches-leaf : (w : Walk) (s : State) (rest : List (Item Form)) (label k : ℕ) 
     → w.eigens ≡ s.eigens → w.used ≡ length s.terms → Matches (tell_leaf w (bare_goals rest) label k us o) (atom_leaf s rest label k us l)
 matches-leaf w s rest label k us None o h c q e u = tt
 matches-leaf w s rest label k us (Some l) o h c q e u =
-    subst (λ (x : Option (List Premise)). Matches (tell_leaf w (bare_goals rest) label k us x) (atom_leaf s rest label k us (Some l))) (sym h)
-    (ap (λ ps. ClauseLine label k us ps) (parts-bare l.premises), record {
-      goals = ap (λ gs. gs ++ bare_goals rest) (goals-bare l.premises) ∙ goals-append l.premises rest;
-      covers = covers-picked w.clauses label s.context c;
-      label = q;
-      eigens = e;
-      used = let n = length-append s.terms us in omega (arith, n, u);
-    })
+    subst (λ (x : Option (List Premise)). Matches (tell_leaf w (bare_goals rest) label k us x) (atom_leaf s rest label k us (Some l))) (sym h) (
+      ap (λ ps. ClauseLine label k us ps) (parts-bare l.premises),
+      record {
+        goals = ap (λ gs. gs ++ bare_goals rest) (goals-bare l.premises) ∙ goals-append l.premises rest;
+        covers = covers-picked w.clauses label s.context c;
+        label = q;
+        eigens = e;
+        used = let n = length-append s.terms us in omega (arith, n, u);
+      },
+    )
 
 matches-atom : (all : List Term) (w : Walk) (s : State) (rest : List (Item Form)) (label k : ℕ) (e : Option (Entry Form)) → e ≡ entry_at s.context label → Covers w.clauses s.context → length w.clauses ≡ s.label
     → w.eigens ≡ s.eigens → w.used ≡ length s.terms → Matches (tell_clause all w (bare_goals rest) label k (slice_get w.clauses label)) (atom_line all s rest label k e)
@@ -187,14 +189,16 @@ module _ (beside : Setting) (all : List Term) (w : Walk) (s : State) (c : Covers
   matches (Imp r g) rest x = (ap ImpLine l, record { goals = refl; covers = newest Unbounded r; label = one_clause (bare r); eigens = e; used = u })
   matches (Forall f) rest x =
       (ap ForallLine e, record { goals = ap (λ h. h ∷ bare_goals rest) (sym (bare-close (Some (Con (Eigen s.eigens)) ∷ []) f)); covers = c; label = l; eigens = ap suc e; used = u })
-  matches (Exists f) rest x =
-      (ap (λ n. ExistsLine (value all n)) u, record {
-        goals = ap (λ h. h ∷ bare_goals rest) (sym (bare-close (Some (value all (length s.terms)) ∷ []) f));
-        covers = c;
-        label = l;
-        eigens = e;
-        used = let n = length-append s.terms (value all (length s.terms) ∷ []) in omega (arith, n, u);
-      })
+  matches (Exists f) rest x = (
+    ap (λ n. ExistsLine (value all n)) u,
+    record {
+      goals = ap (λ h. h ∷ bare_goals rest) (sym (bare-close (Some (value all (length s.terms)) ∷ []) f));
+      covers = c;
+      label = l;
+      eigens = e;
+      used = let n = length-append s.terms (value all (length s.terms) ∷ []) in omega (arith, n, u);
+    },
+  )
   matches (Use m ts g) rest x = matches-load w s rest ts g (slice_get beside.modules m) c l e u
   matches (Atom a) rest Plain = tt
   matches (Atom a) rest Left = tt

@@ -162,7 +162,7 @@ tensor-step outline at share first second fork old mid new s t (x ∷ y ∷ us) 
         let q2 : fork.end ≡ at + suc (nodes x + nodes y) = k.end ∙ ap (λ (z : Span). z.end) g1.0 in
         let c1 = picks-count share.level x in let c2 = picks-count share.level y in let kf = k.from in
         let dr : drop fork.from outline.picks.items ≡ picks_of share.level x ++ (picks_of share.level y ++ all_picks (levels (reverse old)) us) =
-            ap (λ j. drop j outline.picks.items) k.from ∙ (drop-next at outline.picks.items ((picks_of share.level x ++ picks_of share.level y) ++ all_picks (levels (reverse old)) us) None d1 ∙ append_assoc (picks_of share.level x) (picks_of share.level y) (all_picks (levels (reverse old)) us)) in
+        ap (λ j. drop j outline.picks.items) k.from ∙ (drop-next at outline.picks.items ((picks_of share.level x ++ picks_of share.level y) ++ all_picks (levels (reverse old)) us) None d1 ∙ append_assoc (picks_of share.level x) (picks_of share.level y) (all_picks (levels (reverse old)) us)) in
         fork-goes outline.picks.items (picks_of share.level x) (picks_of share.level y) (all_picks (levels (reverse old)) us) fork n dr (omega (arith, q1, c1, kf)) (omega (arith, q1, q2, c2))
         ∙ (ap (λ u. goes_to u (list_any (is_pick n fork.level) (picks_of share.level y)) fork.first.erases) (ap (λ m. list_any (is_pick n m) (picks_of share.level x)) k.level ∙ picks-uses n share.level x)
         ∙ (ap (λ v. goes_to (uses n x) v fork.first.erases) (ap (λ m. list_any (is_pick n m) (picks_of share.level y)) k.level ∙ picks-uses n share.level y) ∙ ap (λ z. goes_to (uses n x) (uses n y) z) (ap (λ (z : Span). z.erases) (k.first ∙ f2.0))))
@@ -280,12 +280,12 @@ bounded-step outline from next end b first all ts us more old ls labels rest dea
         let c1 = picks-count b x in let c2 = parts-count b qs in let kf = k.from in let ke = k.end in let ze = z.reach in
         let dr : drop fork.from outline.picks.items ≡ picks_of b x ++ (picks_of_parts b qs ++ more) = ap (λ j. drop j outline.picks.items) k.from ∙ (z.dropped ∙ append_assoc (picks_of b x) (picks_of_parts b qs) more) in
         let goes : (n : ℕ) → goes_to_first outline.picks.items fork n ≡ goes_to (uses n x) (uses_part n qs) (erases x) = λ n.
-            fork-goes outline.picks.items (picks_of b x) (picks_of_parts b qs) more fork n dr (omega (arith, q2, c1, kf)) (omega (arith, q2, ke, ze, c2))
-            ∙ (ap (λ u. goes_to u (list_any (is_pick n fork.level) (picks_of_parts b qs)) fork.first.erases) (ap (λ m. list_any (is_pick n m) (picks_of b x)) k.level ∙ picks-uses n b x)
-            ∙ (ap (λ v. goes_to (uses n x) v fork.first.erases) (ap (λ m. list_any (is_pick n m) (picks_of_parts b qs)) k.level ∙ parts-uses n b qs) ∙ ap (λ y. goes_to (uses n x) (uses_part n qs) y) (ap (λ (y : Span). y.erases) (k.first ∙ z.fits.0)))) in
+        fork-goes outline.picks.items (picks_of b x) (picks_of_parts b qs) more fork n dr (omega (arith, q2, c1, kf)) (omega (arith, q2, ke, ze, c2))
+        ∙ (ap (λ u. goes_to u (list_any (is_pick n fork.level) (picks_of_parts b qs)) fork.first.erases) (ap (λ m. list_any (is_pick n m) (picks_of b x)) k.level ∙ picks-uses n b x)
+        ∙ (ap (λ v. goes_to (uses n x) v fork.first.erases) (ap (λ m. list_any (is_pick n m) (picks_of_parts b qs)) k.level ∙ parts-uses n b qs) ∙ ap (λ y. goes_to (uses n x) (uses_part n qs) y) (ap (λ (y : Span). y.erases) (k.first ∙ z.fits.0)))) in
         let m1 : s.labels.items ≡ filter (λ n. goes_to (uses n x) (uses_part n qs) (erases x)) labels = a ∙ filter-same (goes_to_first outline.picks.items fork) (λ n. goes_to (uses n x) (uses_part n qs) (erases x)) goes labels in
         let m2 : rest ≡ filter (λ n. not (goes_to (uses n x) (uses_part n qs) (erases x))) labels =
-            o ∙ filter-same (λ n. not (goes_to_first outline.picks.items fork n)) (λ n. not (goes_to (uses n x) (uses_part n qs) (erases x))) (λ n. ap not (goes n)) labels in
+        o ∙ filter-same (λ n. not (goes_to_first outline.picks.items fork n)) (λ n. not (goes_to (uses n x) (uses_part n qs) (erases x))) (λ n. ap not (goes n)) labels in
         one_more outline from next end b first all ts us more (Labels old) ls labels rest dealt dealt2 shares shares2 q s x trees (BoundedPart old x qs) qs h q1 refl
         (ap (λ y. Labels y ∷ part_lines (deal_parts (filter (λ n. not (goes_to (uses n x) (uses_part n qs) (erases x))) labels) qs)) (sym m1) ∙ (ap (λ y. Labels s.labels.items ∷ part_lines (deal_parts y qs)) (sym m2) ∙ ap (λ y. y ∷ part_lines (deal_parts rest qs)) (sym ql)))
         (ap (λ y. lines (deal y x) ++ lines_of_parts (deal_parts (filter (λ n. not (goes_to (uses n x) (uses_part n qs) (erases x))) labels) qs)) (sym m1) ∙ ap (λ y. lines (deal s.labels.items x) ++ lines_of_parts (deal_parts y qs)) (sym m2))

@@ -29,7 +29,7 @@ module _ (forms : Nodes) (modules : List Module) (terms : List At) (old : Walker
   one_side : (at : FormAt) (c : Step) (r : Rule) (n : Line) (rule : Rule) (new : Walker) → HasForm forms at.0 → (rule ≡ r) × Pushes old (Plain at) [] 0 0 new → ((bank : Nodes) → line_of bank r ≡ n)
       → ((bank : Nodes) → AllInTerms bank terms → HasLine bank r)
       → ((all : List Term) → tell_goal (setting forms modules) all (walk_of forms (trees forms modules) old) sum (stacked forms (trees forms modules) old.goals.items []) c
-          ≡ Tells n (to_prove (walk_of forms (trees forms modules) old) (bare (form_tree forms at.0) ∷ stacked forms (trees forms modules) old.goals.items [])))
+      ≡ Tells n (to_prove (walk_of forms (trees forms modules) old) (bare (form_tree forms at.0) ∷ stacked forms (trees forms modules) old.goals.items [])))
       → Takes forms modules terms old sum c rule new
   one_side at c r n rule new h s l p t =
       let q = s.1 in
@@ -37,7 +37,7 @@ module _ (forms : Nodes) (modules : List Module) (terms : List At) (old : Walker
       let e4 = q.used in
       subst (λ (x : Rule). Takes forms modules terms old sum c x new) (sym s.0)
       (takes_goals forms modules terms old c i u sum r n (Plain at ∷ []) new q.goals (q.clauses ∙ append-nil old.clauses.items) (omega (arith, e3)) (omega (arith, e4))
-          (All-cons (HasGoal forms (length modules)) (Plain at) [] h (All-nil (HasGoal forms (length modules)))) l t p)
+      (All-cons (HasGoal forms (length modules)) (Plain at) [] h (All-nil (HasGoal forms (length modules)))) l t p)
 
   pub takes_side : (c : Step) (rule : Rule) (new : Walker) → HasForm forms f.0 → HasForm forms g.0 → TakesSide old f g c rule new → Takes forms modules terms old sum c rule new
   takes_side Right rule new hf hg s = one_side g Right RightRule RightLine rule new hg s (λ bank. refl) (λ bank k. tt) (λ all. refl)

@@ -328,7 +328,7 @@ module _ (forms : Nodes) (modules : List Module) (terms : List At) (old : Walker
       ap (λ n. forall_all n (bare_load_all (drop loading.next cs) g)) none ∙ (ap (λ xs. bare_load_all xs g) (drop-got cs loading.next d at) ∙ (λ j. load d.kind (bare (same j)) (sym shown j))) in
       subst (λ (x : Form). Takes forms modules terms old x c rule new) (sym front)
       (takes_load (load d.kind (bare (form_tree forms clause.0)) (shown_goal forms ms (LoadingGoal left))) (LoadingGoal left) clause rule (load_line d.kind (length here.clauses)) new
-          (subst (λ (x : Loading). Pushes old (LoadingGoal x) (clause ∷ []) 0 0 new) e s) (hg, hm) hf (λ bank. l bank ∙ ap (load_line d.kind) (label_is label lab)) (λ all. loads_so d.kind all (bare (form_tree forms clause.0)) (shown_goal forms ms (LoadingGoal left))) p)
+      (subst (λ (x : Loading). Pushes old (LoadingGoal x) (clause ∷ []) 0 0 new) e s) (hg, hm) hf (λ bank. l bank ∙ ap (load_line d.kind) (label_is label lab)) (λ all. loads_so d.kind all (bare (form_tree forms clause.0)) (shown_goal forms ms (LoadingGoal left))) p)
 
   -- or is its goal
   pub load_over : (loading : Loading) → loading.locals ≡ 0 → slice_get (clauses_of (slice_get ms loading.«module»)) loading.next ≡ None → loading_goal forms ms loading ≡ bare (form_tree forms loading.goal.0)

@@ -29,11 +29,7 @@ use std::alloc::Global;
 /// the query with the answer's terms.
 ///
 /// It needs no deep stack.
-pub fn explain(
-    alloc: Global,
-    problem: &Problem,
-    branch: &Branch,
-) -> Result<Derivation, OutOfMemory>
+pub fn explain(alloc: Global, problem: &Problem, branch: &Branch) -> Result<Derivation, OutOfMemory>
     requires valid { IsValid problem.now }
     requires answer { Contains (problem_events problem.now) (Answer branch.now) }
     ensures dealt { IfOk result (λ derivation. dealt problem.now branch.now ≡ Some derivation) }
@@ -52,7 +48,11 @@ pub fn explain(
         &branch.steps,
         walker,
     )?;
-    deal::deal(alloc, root::root_labels(alloc, &problem.clauses)?, &mut nodes)?;
+    deal::deal(
+        alloc,
+        root::root_labels(alloc, &problem.clauses)?,
+        &mut nodes,
+    )?;
     let bank = branch.bank.image(branch.bank.size())?;
     let asked = Vec::from_slice(alloc, &branch.terms[..count])?;
     Ok(Derivation { bank, asked, nodes })

@@ -105,9 +105,10 @@ invariant_of-result c =
     let inside : AllInTerms bank c.deref-3.result.now = subst (λ (ats : List At). AllInTerms bank ats) (sym c.deref-3.ensures.value) c.branch.invariant in
     let asked : c.in_ok-asked.asked.items ≡ take (length p.asked) c.deref-3.result.now =
     c.in_ok-asked.ensures.items ∙ (λ i. take (many i) ((c.deref-6.ensures.value ∙ sym c.deref-3.ensures.value) i))
-    in
-    (asked_in p a forms bank c.deref-2.result.now c.deref.result.now c.problem.inside.goal c.deref-3.result.now c.deref-4.result.now c.in_ok-walker.walker shown ms cs g ts ss start c.in_ok-bank.bank c.size.result cut c.size.ensures.is inside c.in_ok-asked.asked.items asked,
-    nodes_in p a forms bank c.deref-2.result.now c.deref.result.now c.problem.inside.goal c.deref-3.result.now c.deref-4.result.now c.in_ok-walker.walker shown ms cs g ts ss start c.in_ok-bank.bank c.size.result cut c.size.ensures.is inside c.in_ok-nodes.nodes.items c.deal.new.rules.items c.in_ok-nodes.ensures (c.in_ok-deal.ensures.places c.in_ok-bank.bank))
+    in (
+      asked_in p a forms bank c.deref-2.result.now c.deref.result.now c.problem.inside.goal c.deref-3.result.now c.deref-4.result.now c.in_ok-walker.walker shown ms cs g ts ss start c.in_ok-bank.bank c.size.result cut c.size.ensures.is inside c.in_ok-asked.asked.items asked,
+      nodes_in p a forms bank c.deref-2.result.now c.deref.result.now c.problem.inside.goal c.deref-3.result.now c.deref-4.result.now c.in_ok-walker.walker shown ms cs g ts ss start c.in_ok-bank.bank c.size.result cut c.size.ensures.is inside c.in_ok-nodes.nodes.items c.deal.new.rules.items c.in_ok-nodes.ensures (c.in_ok-deal.ensures.places c.in_ok-bank.bank),
+    )
 
 pub returns-clause-dealt : goal.returns-clause-dealt
 returns-clause-dealt c =

@@ -17,13 +17,13 @@ loop-label-preserved c =
     record {
       mine = keep-step f c.args.labels.now c.loop-label.label-index c.loop-label.mine.items c.if-goes_first.mine.items c.goes_first.result c.loop-label-test.true (sym c.goes_first.ensures)
           (elim c.if-goes_first.branch [
-            then-goes_first+in_ok-push w ↦ ap (λ (v : Vec ℕ Global). v.items) w.mine-is ∙ (w.in_ok-push.ensures.items ∙ ap (λ b. cond b (c.loop-label.mine.items ++ get_or c.args.labels.now c.loop-label.label-index 0 ∷ []) c.loop-label.mine.items) (sym w.if-goes_first.true))
+            | then-goes_first+in_ok-push w ↦ ap (λ (v : Vec ℕ Global). v.items) w.mine-is ∙ (w.in_ok-push.ensures.items ∙ ap (λ b. cond b (c.loop-label.mine.items ++ get_or c.args.labels.now c.loop-label.label-index 0 ∷ []) c.loop-label.mine.items) (sym w.if-goes_first.true))
             | else-goes_first+in_ok-push-2 w ↦ ap (λ (v : Vec ℕ Global). v.items) w.mine-is ∙ ap (λ b. cond b (c.loop-label.mine.items ++ get_or c.args.labels.now c.loop-label.label-index 0 ∷ []) c.loop-label.mine.items) (sym w.if-goes_first.false)
           ])
           c.loop-label.invariant.mine;
       others = keep-step (λ n. not (f n)) c.args.labels.now c.loop-label.label-index c.loop-label.others.items c.if-goes_first.others.items (not c.goes_first.result) c.loop-label-test.true (ap not (sym c.goes_first.ensures))
           (elim c.if-goes_first.branch [
-            then-goes_first+in_ok-push w ↦ ap (λ (v : Vec ℕ Global). v.items) w.others-is ∙ ap (λ b. cond (not b) (c.loop-label.others.items ++ get_or c.args.labels.now c.loop-label.label-index 0 ∷ []) c.loop-label.others.items) (sym w.if-goes_first.true)
+            | then-goes_first+in_ok-push w ↦ ap (λ (v : Vec ℕ Global). v.items) w.others-is ∙ ap (λ b. cond (not b) (c.loop-label.others.items ++ get_or c.args.labels.now c.loop-label.label-index 0 ∷ []) c.loop-label.others.items) (sym w.if-goes_first.true)
             | else-goes_first+in_ok-push-2 w ↦ ap (λ (v : Vec ℕ Global). v.items) w.others-is ∙ (w.in_ok-push-2.ensures.items ∙ ap (λ b. cond (not b) (c.loop-label.others.items ++ get_or c.args.labels.now c.loop-label.label-index 0 ∷ []) c.loop-label.others.items) (sym w.if-goes_first.false))
           ])
           c.loop-label.invariant.others;

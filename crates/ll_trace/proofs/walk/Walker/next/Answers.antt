@@ -30,8 +30,8 @@ returns-in-Plain c =
     if_ok (λ rule. Takes c.args.forms.now c.args.modules.now c.args.terms.now popped (bare (form_tree c.args.forms.now c.in-Plain.form.0)) c.args.step rule c.take_form.new.self)
     (λ rule. Steps c.args.forms.now c.args.modules.now c.args.terms.now c.args.self.now c.args.step rule c.take_form.new.self)
     (λ rule s.
-        steps_of c.args.forms.now c.args.modules.now c.args.terms.now c.args.self.now popped c.take_form.new.self (Plain c.in-Plain.form) c.args.step rule
-        (c.in-Some.ensures.items ∙ ap (λ g. c.pop.new.self.items ++ g ∷ []) c.in-Plain.is) refl refl refl s)
+    steps_of c.args.forms.now c.args.modules.now c.args.terms.now c.args.self.now popped c.take_form.new.self (Plain c.in-Plain.form) c.args.step rule
+    (c.in-Some.ensures.items ∙ ap (λ g. c.pop.new.self.items ++ g ∷ []) c.in-Plain.is) refl refl refl s)
     c.take_form.result c.take_form.ensures
 
 pub returns-in-Loading : goal.returns-in-Loading
@@ -40,8 +40,8 @@ returns-in-Loading c =
     if_ok (λ rule. Takes c.args.forms.now c.args.modules.now c.args.terms.now popped (shown_goal c.args.forms.now (trees c.args.forms.now c.args.modules.now) (LoadingGoal c.in-Loading.loading)) c.args.step rule c.take_loading.new.self)
     (λ rule. Steps c.args.forms.now c.args.modules.now c.args.terms.now c.args.self.now c.args.step rule c.take_loading.new.self)
     (λ rule s.
-        steps_of c.args.forms.now c.args.modules.now c.args.terms.now c.args.self.now popped c.take_loading.new.self (LoadingGoal c.in-Loading.loading) c.args.step rule
-        (c.in-Some.ensures.items ∙ ap (λ g. c.pop.new.self.items ++ g ∷ []) c.in-Loading.is) refl refl refl s)
+    steps_of c.args.forms.now c.args.modules.now c.args.terms.now c.args.self.now popped c.take_loading.new.self (LoadingGoal c.in-Loading.loading) c.args.step rule
+    (c.in-Some.ensures.items ∙ ap (λ g. c.pop.new.self.items ++ g ∷ []) c.in-Loading.is) refl refl refl s)
     c.take_loading.result c.take_loading.ensures
 
 pub returns-in_ok-push-in-Free : goal.returns-in_ok-push-in-Free
@@ -56,4 +56,4 @@ returns-in_ok-push-in-Free c =
     let a = All-pop P c.args.self.now.goals.items c.pop.new.self.items (Some (Free f)) e c.requires.inside.goals in
     steps_of forms c.args.modules.now c.args.terms.now c.args.self.now popped new (Free f) c.args.step BangRule e refl refl refl
     (takes_goals forms c.args.modules.now c.args.terms.now popped c.args.step (record { goals = a.0; clauses = c.requires.inside.clauses }) c.requires.used (Bang (bare (form_tree forms f.0))) BangRule BangLine (Plain f ∷ []) new
-        c.in_ok-push-in-Free.ensures.items refl refl refl (All-cons P (Plain f) [] a.1 (All-nil P)) (λ bank. refl) (λ all. refl) (λ bank k. tt))
+    c.in_ok-push-in-Free.ensures.items refl refl refl (All-cons P (Plain f) [] a.1 (All-nil P)) (λ bank. refl) (λ all. refl) (λ bank k. tt))

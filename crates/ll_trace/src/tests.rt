@@ -125,13 +125,7 @@ fn leftovers_go_to_the_first_that_can_erase(rt: HostRuntime) -> Result<(), Fail>
         Node::Fact(1),
         Node::Erase,
     ];
-    assert_dealt(
-        &rt,
-        alloc,
-        &[0, 1],
-        &nodes,
-        &[99, 0, 1, 99, 1, 99, 0, 99],
-    )?;
+    assert_dealt(&rt, alloc, &[0, 1], &nodes, &[99, 0, 1, 99, 1, 99, 0, 99])?;
     Ok(())
 }
 

@@ -1,4 +1,5 @@
 pub mod Making
 pub mod Spanning
 pub mod Picking
+pub mod Placing
 pub mod Sharing

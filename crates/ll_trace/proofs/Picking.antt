@@ -52,7 +52,6 @@ mutual
   picks-count b (UseNode x) = ap (λ n. suc n) (picks-count b x)
   picks-count b (ClauseNode n k ts ps) = ap (λ n. suc n) (parts-count b ps)
 
-
   pub parts-count : (b : ℕ) (ps : Parts) → length (picks_of_parts b ps) ≡ part_nodes ps
   parts-count b NoParts = refl
   parts-count b (BoundedPart s x ps) = let i = picks-count b x in let j = parts-count b ps in let k = length-append (picks_of b x) (picks_of_parts b ps) in omega (arith, i, j, k)
@@ -80,7 +79,6 @@ mutual
   none_parts n a b (BoundedPart s x ps) h = both n a (picks_of b x) (picks_of_parts b ps) (none_lower n a b x h) (none_parts n a b ps h)
   none_parts n a b (UnboundedPart x ps) h = both n a (picks_of (b + 1) x) (picks_of_parts b ps) (none_lower n a (b + 1) x (omega (arith, h))) (none_parts n a b ps h)
 
-
 mutual
   -- a tree uses what is picked at the level of its root
   pub picks-uses : (n b : ℕ) (x : Tree) → list_any (is_pick n b) (picks_of b x) ≡ uses n x
@@ -103,7 +101,6 @@ mutual
   parts-uses n b (BoundedPart s x ps) = either n b (picks_of b x) (picks_of_parts b ps) (uses n x) (uses_part n ps) (picks-uses n b x) (parts-uses n b ps)
   parts-uses n b (UnboundedPart x ps) = either n b (picks_of (b + 1) x) (picks_of_parts b ps) false (uses_part n ps) (none_lower n b (b + 1) x (omega arith)) (parts-uses n b ps)
 
-
 -- what stands in front of other picks is used between the places of its nodes
 pub used-here : (n b from to : ℕ) (picks here more : List (Option Pick)) → drop from picks ≡ here ++ more → to ≡ from + length here → is_used_between picks n b from to ≡ list_any (is_pick n b) here
 used-here n b from to picks here more h e =
@@ -112,33 +109,6 @@ used-here n b from to picks here more h e =
 
 pub drop-on : (from to : ℕ) (picks here more : List (Option Pick)) → drop from picks ≡ here ++ more → to ≡ from + length here → drop to picks ≡ more
 drop-on from to picks here more h e = ap (λ i. drop i picks) e ∙ (sym (drop-drop (length here) from picks) ∙ (ap (drop (length here)) h ∙ drop-append_seam here more))
-
--- a range that is cut off at the end of the list
-pub clamped : (xs : List (Option Pick)) (from to : ℕ) → take (min to (length xs) - min from (min to (length xs))) (drop (min from (min to (length xs))) xs) ≡ take (to - from) (drop from xs)
-clamped xs from to = ends (nat_lt (length xs) to) refl
-  where
-    none : (i j : ℕ) → i ≡ 0 → take i (drop j xs) ≡ []
-    none i j e = ap (λ k. take k (drop j xs)) e
-
-    at_end : (start : ℕ) → start ≡ min from (length xs) → length xs < to → take (length xs - start) (drop start xs) ≡ take (to - from) (drop from xs)
-    at_end start e h = starts (nat_lt (length xs) from) refl
-      where
-        starts : (b : Bool) → nat_lt (length xs) from ≡ b → take (length xs - start) (drop start xs) ≡ take (to - from) (drop from xs)
-        starts true c = let z = ltb-true (length xs) from c in none (length xs - start) start (omega (arith, e, z)) ∙ sym (ap (take (to - from)) (drop_all from xs (omega (arith, z))) ∙ take_all (to - from) [] (omega arith))
-        starts false c =
-            let z = ltb-false (length xs) from c in let s : start ≡ from = omega (arith, e, z) in let l = length-drop from xs in
-            ap (λ i. take (length xs - i) (drop i xs)) s ∙ (take_all (length xs - from) (drop from xs) (omega (arith, l)) ∙ sym (take_all (to - from) (drop from xs) (omega (arith, l, h))))
-
-    inside : to ≤ length xs → take (to - min from to) (drop (min from to) xs) ≡ take (to - from) (drop from xs)
-    inside h = starts (nat_lt to from) refl
-      where
-        starts : (b : Bool) → nat_lt to from ≡ b → take (to - min from to) (drop (min from to) xs) ≡ take (to - from) (drop from xs)
-        starts true c = let z = ltb-true to from c in none (to - min from to) (min from to) (omega (arith, z)) ∙ sym (none (to - from) from (omega (arith, z)))
-        starts false c = let z = ltb-false to from c in let s : min from to ≡ from = omega (arith, z) in ap (λ i. take (to - i) (drop i xs)) s
-
-    ends : (b : Bool) → nat_lt (length xs) to ≡ b → take (min to (length xs) - min from (min to (length xs))) (drop (min from (min to (length xs))) xs) ≡ take (to - from) (drop from xs)
-    ends true c = let z = ltb-true (length xs) to c in let s : min to (length xs) ≡ length xs = omega (arith, z) in ap (λ i. take (i - min from i) (drop (min from i) xs)) s ∙ at_end (min from (length xs)) refl z
-    ends false c = let z = ltb-false (length xs) to c in let s : min to (length xs) ≡ to = omega (arith, z) in ap (λ i. take (i - min from i) (drop (min from i) xs)) s ∙ inside z
 
 -- ---- from node to node
 

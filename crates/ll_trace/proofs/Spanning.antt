@@ -160,9 +160,10 @@ spans-step ls S T i span l d e lt below go at ts h k = subst (λ U. Fits U at ts
     here : (vs us : List Tree) → put l us ≡ Some vs → HasSpan S (i + 1) span vs → Fits (set S i span) i vs
     here [] us p s = absurd (some-made l us p)
     here (x ∷ vs) us p s =
-        let q = s.end in let n = nodes-some x in
-        (get_or-set_same S i span (record { end = i; erases = false }) lt ∙ is_span span (i + nodes x) (erases x) (omega (arith, q)) s.erases,
-          fits-set S i span (i + nodes x) vs (omega (arith, n)) (let r : span.end ≡ i + nodes x = omega (arith, q) in subst (λ m. Fits S m vs) r s.rest))
+        let q = s.end in let n = nodes-some x in (
+          get_or-set_same S i span (record { end = i; erases = false }) lt ∙ is_span span (i + nodes x) (erases x) (omega (arith, q)) s.erases,
+          fits-set S i span (i + nodes x) vs (omega (arith, n)) (let r : span.end ≡ i + nodes x = omega (arith, q) in subst (λ m. Fits S m vs) r s.rest),
+        )
 
     now : trees_of (l ∷ drop (i + 1) ls) ≡ Some ts → Fits (set S i span) i ts
     now w = let m = first-made l (drop (i + 1) ls) ts w in here ts m.trees m.made (go m.trees ts m.made (below (i + 1) m.trees (omega arith) m.is))

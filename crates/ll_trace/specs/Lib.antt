@@ -1,3 +1,4 @@
 pub mod Spans
 pub mod Picks
+pub mod Places
 pub mod Shares

@@ -3,6 +3,7 @@
 
 mod deal;
 mod picks;
+mod places;
 mod spans;
 #[cfg(test)]
 mod tests;

@@ -31,7 +31,10 @@ pub(crate) fn span_at(spans: &[Span], at: usize) -> Span
 pub(crate) fn spans(alloc: Global, rules: &[Rule]) -> Result<Vec<Span>, OutOfMemory>
     ensures { IfOk result (λ spans. AreSpans rules.now spans.items) }
 {
-    let mut spans = vec![in alloc; Span { end: 0, erases: false }; rules.len()]?;
+    let mut spans = vec![in alloc; Span {
+        end: 0,
+        erases: false
+    }; rules.len()]?;
     for at in (0..rules.len()).rev() {
         spans[at] = span_of(&rules[at], at + 1, &spans);
     }

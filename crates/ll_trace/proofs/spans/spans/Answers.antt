@@ -22,8 +22,8 @@ loop-at-preserved c =
       size = length-set c.loop-at.spans.items (c.loop-at.at - 1) c.span_of.result ∙ c.loop-at.invariant.size;
       fits = λ bank at ts le h.
           let d : drop (c.loop-at.at - 1) (map (line_of bank) c.args.rules.now) ≡ line_of bank c.index-rules-at.result ∷ drop (c.loop-at.at - 1 + 1) (map (line_of bank) c.args.rules.now) =
-              drop-map (line_of bank) (c.loop-at.at - 1) c.args.rules.now
-              ∙ (ap (map (line_of bank)) (drop_item c.args.rules.now (c.loop-at.at - 1) c.index-rules-at.result lt c.index-rules-at.is) ∙ ap (λ (ls : List Line). line_of bank c.index-rules-at.result ∷ ls) (sym (drop-map (line_of bank) (c.loop-at.at - 1 + 1) c.args.rules.now))) in
+          drop-map (line_of bank) (c.loop-at.at - 1) c.args.rules.now
+          ∙ (ap (map (line_of bank)) (drop_item c.args.rules.now (c.loop-at.at - 1) c.index-rules-at.result lt c.index-rules-at.is) ∙ ap (λ (ls : List Line). line_of bank c.index-rules-at.result ∷ ls) (sym (drop-map (line_of bank) (c.loop-at.at - 1 + 1) c.args.rules.now))) in
           spans-step (map (line_of bank) c.args.rules.now) c.loop-at.spans.items _ (c.loop-at.at - 1) c.span_of.result (line_of bank c.index-rules-at.result) d refl ls
           (λ at ts m k. c.loop-at.invariant.fits bank at ts (omega (arith, m)) k) (λ ts vs p f. subst (λ (s : List Span). GivesSpan c.index-rules-at.result (c.loop-at.at - 1 + 1) s c.span_of.result) c.deref.ensures.value c.span_of.ensures bank ts vs p f) at ts le h;
     }

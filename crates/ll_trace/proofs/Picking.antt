@@ -1,26 +1,22 @@
 -- The picks of trees: how many there are, which of them are seen, and how they go on from node to node.
-use Rattle.std.proofs.Common.{◌≡◌, ℕ, suc, ◌+◌, ◌-◌, ◌≤◌, ◌<◌, refl, ap, sym, subst, ◌∙◌, List, [], ◌∷◌, ◌++◌, append_assoc, length, length-append, get_or, take, drop, map, reverse, arith, add-one}
-use Rattle.std.proofs.Common.{length-drop}
-use Rattle.std.proofs.lemmas.Bool.{ltb-true, ltb-false}
-use Rattle.std.specs.Prelude.{min, nat_lt, zero}
+use Rattle.std.proofs.Common.{◌≡◌, ℕ, suc, ◌+◌, ◌-◌, ◌≤◌, ◌<◌, refl, ap, sym, subst, ◌∙◌, List, [], ◌∷◌, ◌++◌, append_assoc, length, length-append, get_or, take, drop, map, reverse, arith}
 use Rattle.std.specs.Prelude.{Bool, true, false, ◌||◌, ◌&&◌, nat_eq, Option, Some, None, IsSome, unwrap_or, option_to_list}
 use Rattle.std.specs.List.{list_any}
 use Rattle.std.proofs.Math.Seq.{take-append_seam, drop-append_seam}
 use Rattle.std.proofs.lemmas.List.{drop-drop}
 use Rattle.std.proofs.lemmas.Bool.{ne_eqb, eq-eqb}
-use Rattle.std.proofs.lemmas.List.{append-nil, drop_all, take_all, reverse-append, length-reverse, length-map}
+use Rattle.std.proofs.lemmas.List.{append-nil, drop_all, reverse-append, length-reverse, length-map}
 use Rattle.std.proofs.lemmas.List.Folds.{list_any-append}
-use Rattle.ll_bank.specs.Nodes.{Nodes}
 use Rattle.ll_bank.specs.Term.{Term}
 use Rattle.ll_laws.specs.declared.Part.{Part}
 use Rattle.ll_laws.specs.declared.Part.TheVariants.{Bounded, Unbounded}
 use Rattle.ll_laws.specs.Dealing.{uses, uses_part}
-use Rattle.ll_laws.specs.Line.{PartLine, Labels, Free, Line, OneLine, EraseLine, BangLine, ClauseLine, Cuts, cut_parts, put, trees_of}
+use Rattle.ll_laws.specs.Line.{PartLine, Line, OneLine, EraseLine, BangLine, ClauseLine, Cuts, cut_parts, put, trees_of}
 use Rattle.ll_laws.specs.Shows.{Tree, OneNode, EraseNode, TensorNode, WithNode, LeftNode, RightNode, BangNode, LolliNode, ImpNode, ForallNode, ExistsNode, UseNode, ClauseNode, Parts, NoParts, BoundedPart, UnboundedPart, nodes, part_nodes}
 use Rattle.ll_laws.specs.ShownLines.{part_line}
 use Rattle.ll_trace.specs.declared.picks.Pick.{Pick}
 use Rattle.ll_trace.specs.Picks.{picks_of, picks_of_parts, all_picks, is_pick, is_used_between, level_of_part, IsPickStep}
-use Rattle.ll_trace.proofs.Making.{IsUnary, IsBinary, cut-step, cut-end, clause-made, first-made, some-made, newest, join, IsCutStep, drop_item}
+use Rattle.ll_trace.proofs.Making.{IsUnary, IsBinary, cut-step, cut-end, clause-made, first-made, some-made, newest, IsCutStep, drop_item}
 
 both : (n a : ℕ) (xs ys : List (Option Pick)) → list_any (is_pick n a) xs ≡ false → list_any (is_pick n a) ys ≡ false → list_any (is_pick n a) (xs ++ ys) ≡ false
 both n a xs ys h k = list_any-append (is_pick n a) xs ys ∙ (ap (λ c. c || list_any (is_pick n a) ys) h ∙ k)

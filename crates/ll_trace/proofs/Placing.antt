@@ -1,6 +1,6 @@
 -- Rows of places, and what is found in them.
-use Rattle.std.proofs.Common.{◌≡◌, ℕ, suc, zero, ◌+◌, ◌-◌, ◌≤◌, ◌<◌, refl, ap, sym, subst, ◌∙◌, List, [], ◌∷◌, ◌++◌, append_assoc, length, length-append, get_or, take, drop, arith, Vec, Global}
-use Rattle.std.specs.Prelude.{Bool, true, false, ◌||◌, ◌&&◌, cond, nat_eq, nat_lt, nat_le, Option, Some, None, unwrap_or, slice_index_or}
+use Rattle.std.proofs.Common.{◌≡◌, ℕ, suc, zero, ◌+◌, ◌-◌, ◌≤◌, ◌<◌, refl, ap, sym, subst, ◌∙◌, List, [], ◌∷◌, ◌++◌, length, get_or, take, drop, arith, Vec, Global}
+use Rattle.std.specs.Prelude.{Bool, true, false, ◌||◌, ◌&&◌, cond, nat_eq, nat_lt, nat_le, Option, Some, None, unwrap_or}
 use Rattle.std.proofs.Common.{length-take, drop-cons}
 use Rattle.std.proofs.lemmas.Bool.Decides.{nat_tests}
 use Rattle.std.specs.Ordering.{nat_cmp}
@@ -11,7 +11,7 @@ use Rattle.std.proofs.lemmas.List.{append-nil, take_all, drop_all, take_more}
 use Rattle.ll_trace.specs.declared.picks.Pick.{Pick}
 use Rattle.ll_trace.specs.declared.places.Place.{Place}
 use Rattle.ll_trace.specs.Picks.{is_pick, is_used_between}
-use Rattle.ll_trace.specs.Places.{places_of, row_of, AreIndexed, RisesFrom, is_hit, BeginsAt}
+use Rattle.ll_trace.specs.Places.{places_of, row_of, RisesFrom, is_hit}
 
 le_false : (a b : ℕ) → b < a → nat_le a b ≡ false
 le_false a b h = grind (arith, nat_tests)

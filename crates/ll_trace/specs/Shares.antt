@@ -4,16 +4,16 @@ use Rattle.ll_bank.specs.Nodes.{Nodes}
 use Rattle.ll_laws.specs.declared.Part.{Part}
 use Rattle.ll_laws.specs.declared.Rule.{Rule}
 use Rattle.ll_bank.specs.Term.{Term}
-use Rattle.ll_laws.specs.Dealing.{deal, deal_parts, goes_to, without}
+use Rattle.ll_laws.specs.Dealing.{deal, deal_parts, goes_to}
 use Rattle.ll_laws.specs.Line.{Line, put, Cuts, cut_parts, lines, lines_of_parts, part_lines, TensorLine, ClauseLine}
-use Rattle.ll_laws.specs.Shows.{Tree, Parts, nodes, part_nodes}
+use Rattle.ll_laws.specs.Shows.{Tree, Parts, part_nodes}
 use Rattle.ll_laws.specs.ShownLines.{line_of, part_line, HasLine}
 use Rattle.ll_trace.specs.declared.deal.Fork.{Fork}
 use Rattle.ll_trace.specs.declared.deal.Outline.{Outline}
 use Rattle.ll_trace.specs.declared.picks.Pick.{Pick}
 use Rattle.ll_trace.specs.declared.deal.Share.{Share}
 use Rattle.ll_trace.specs.Picks.{all_picks, picks_of_parts, is_used_between}
-use Rattle.ll_trace.specs.Spans.{Fits, span_or_none}
+use Rattle.ll_trace.specs.Spans.{Fits}
 
 -- the nodes of trees in prefix order, with their shares dealt out
 abbrev pub all_dealt : List Share → List Tree → List Line

@@ -1,14 +1,9 @@
-use Rattle.std.proofs.Common.{◌≡◌, ℕ, ◌<◌, List, [], ◌∷◌, ◌++◌, ◌+◌, ap, sym, subst, refl, ◌∙◌, length, length-append, drop, map, arith, Vec, Global}
-use Rattle.std.specs.Prelude.{Some, Option, IsSome}
+use Rattle.std.proofs.Common.{◌≡◌, ℕ, List, [], ◌∷◌, ◌++◌, ◌+◌, ap, sym, subst, refl, ◌∙◌, length, length-append, drop, map, arith, Vec, Global}
 use Rattle.std.proofs.lemmas.List.Elements.{All-nil, All-push, All-head, All-drop}
-use Rattle.ll_bank.specs.Nodes.{Nodes}
 use Rattle.ll_laws.specs.declared.Rule.{Rule}
 use Rattle.ll_laws.specs.Line.{trees_of}
 use Rattle.ll_laws.specs.ShownLines.{line_of, HasLine, HasLines}
 use Rattle.ll_trace.specs.declared.deal.Share.{Share}
-use Rattle.ll_trace.specs.declared.picks.Pick.{Pick}
-use Rattle.ll_trace.specs.declared.spans.Span.{Span}
-use Rattle.ll_trace.specs.Picks.{picks_of}
 use Rattle.ll_trace.specs.Spans.{AreSpans}
 use Rattle.ll_trace.specs.Shares.{GivesRule}
 use Rattle.ll_trace.proofs.Sharing.{DealLeft, deal-start, deal-more, deal-end, no_items}

@@ -1,15 +1,13 @@
-use Rattle.std.proofs.Common.{◌≡◌, ℕ, List, [], ◌∷◌, ◌++◌, ◌+◌, ap, sym, subst, refl, ◌∙◌, drop, map, length, arith, Vec, Global}
-use Rattle.std.specs.Prelude.{Option, filter, not}
+use Rattle.std.proofs.Common.{◌≡◌, ℕ, List, [], ◌∷◌, ◌+◌, ap, subst, refl, ◌∙◌, drop, map, arith, Vec, Global}
+use Rattle.std.specs.Prelude.{filter, not}
 use Rattle.ll_trace.specs.Shares.{goes_to_first}
 use Rattle.std.proofs.lemmas.List.{drop_all}
 use Rattle.ll_laws.specs.declared.Part.{Part}
 use Rattle.ll_laws.specs.declared.Part.TheVariants.{Bounded, Unbounded}
-use Rattle.ll_laws.specs.Line.{PartLine, Labels, Free}
-use Rattle.ll_laws.specs.Shows.{Tree, Parts}
+use Rattle.ll_laws.specs.Line.{PartLine, Labels}
 use Rattle.ll_laws.specs.ShownLines.{part_line}
 use Rattle.ll_trace.specs.declared.deal.Share.{Share}
 use Rattle.ll_trace.specs.declared.deal.Fork.{Fork}
-use Rattle.ll_trace.specs.declared.picks.Pick.{Pick}
 use Rattle.ll_trace.specs.declared.spans.Span.{Span}
 use Rattle.ll_trace.specs.Spans.{span_or_none}
 use Rattle.ll_trace.proofs.Making.{drop_item}

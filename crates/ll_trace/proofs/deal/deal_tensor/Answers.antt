@@ -1,9 +1,8 @@
 use Rattle.std.proofs.Common.{◌≡◌, List, ◌+◌, ap, sym, subst, refl, ◌∙◌}
-use Rattle.std.specs.Prelude.{Option, filter, not}
+use Rattle.std.specs.Prelude.{filter, not}
 use Rattle.ll_laws.specs.Line.{Line, TensorLine}
 use Rattle.ll_trace.specs.declared.deal.Fork.{Fork}
 use Rattle.ll_trace.specs.declared.deal.Share.{Share}
-use Rattle.ll_trace.specs.declared.picks.Pick.{Pick}
 use Rattle.ll_trace.specs.declared.spans.Span.{Span}
 use Rattle.ll_trace.specs.Shares.{goes_to_first, IsNodeStep}
 use Rattle.ll_trace.specs.Spans.{span_or_none}

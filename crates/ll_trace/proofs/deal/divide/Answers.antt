@@ -1,5 +1,5 @@
-use Rattle.std.proofs.Common.{◌≡◌, ℕ, ◌++◌, ap, sym, refl, ◌∙◌, Vec, Global, get_or, [], ◌∷◌}
-use Rattle.std.specs.Prelude.{Bool, true, false, cond, filter, not}
+use Rattle.std.proofs.Common.{ℕ, ◌++◌, ap, sym, ◌∙◌, Vec, Global, get_or, [], ◌∷◌}
+use Rattle.std.specs.Prelude.{cond, filter, not}
 use Rattle.ll_trace.specs.Shares.{goes_to_first}
 use Rattle.ll_trace.proofs.Sharing.{keep-step, keep-end}
 use Rattle.ll_trace.proofs.deal.divide.Goals as goal

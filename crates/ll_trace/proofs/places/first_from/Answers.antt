@@ -1,4 +1,4 @@
-use Rattle.std.proofs.Common.{◌+◌, ◌-◌, ◌/◌, ◌<◌, length, arith}
+use Rattle.std.proofs.Common.{◌+◌, ◌-◌, ◌/◌, arith}
 use Rattle.ll_trace.proofs.Placing.{below-more, above-more}
 use Rattle.ll_trace.proofs.places.first_from.Goals as goal
 

@@ -1,9 +1,8 @@
-use Rattle.std.proofs.Common.{◌≡◌, List, ap, sym, subst, ◌∙◌, arith, []}
+use Rattle.std.proofs.Common.{List, ap, sym, subst, ◌∙◌, arith, []}
 use Rattle.std.specs.Prelude.{Option}
-use Rattle.std.specs.List.{list_any}
 use Rattle.ll_trace.specs.declared.picks.Pick.{Pick}
 use Rattle.ll_trace.specs.Picks.{is_used_between}
-use Rattle.ll_trace.specs.Places.{RisesFrom, row_of, is_hit}
+use Rattle.ll_trace.specs.Places.{RisesFrom, row_of}
 use Rattle.ll_trace.proofs.Placing.{places-rise, used-found}
 use Rattle.ll_trace.proofs.places.Uses.is_used.Goals as goal
 

@@ -11,5 +11,6 @@ pub mod ExplainLemmas
 pub mod Making
 pub mod Spanning
 pub mod Picking
+pub mod Placing
 pub mod Sharing
 pub mod SampleLemmas

@@ -1,26 +1,22 @@
 -- The picks of trees: how many there are, which of them are seen, and how they go on from node to node.
-use Rattle.std.proofs.Common.{◌≡◌, ℕ, suc, ◌+◌, ◌-◌, ◌≤◌, ◌<◌, refl, ap, sym, subst, ◌∙◌, List, [], ◌∷◌, ◌++◌, append_assoc, length, length-append, get_or, take, drop, map, reverse, arith, add-one}
-use Rattle.std.proofs.Common.{length-drop}
-use Rattle.std.proofs.lemmas.Bool.{ltb-true, ltb-false}
-use Rattle.std.specs.Prelude.{min, nat_lt, zero}
+use Rattle.std.proofs.Common.{◌≡◌, ℕ, suc, ◌+◌, ◌-◌, ◌≤◌, ◌<◌, refl, ap, sym, subst, ◌∙◌, List, [], ◌∷◌, ◌++◌, append_assoc, length, length-append, get_or, take, drop, map, reverse, arith}
 use Rattle.std.specs.Prelude.{Bool, true, false, ◌||◌, ◌&&◌, nat_eq, Option, Some, None, IsSome, unwrap_or, option_to_list}
 use Rattle.std.specs.List.{list_any}
 use Rattle.std.proofs.Math.Seq.{take-append_seam, drop-append_seam}
 use Rattle.std.proofs.lemmas.List.{drop-drop}
 use Rattle.std.proofs.lemmas.Bool.{ne_eqb, eq-eqb}
-use Rattle.std.proofs.lemmas.List.{append-nil, drop_all, take_all, reverse-append, length-reverse, length-map}
+use Rattle.std.proofs.lemmas.List.{append-nil, drop_all, reverse-append, length-reverse, length-map}
 use Rattle.std.proofs.lemmas.List.Folds.{list_any-append}
-use Rattle.ll_bank.specs.Nodes.{Nodes}
 use Rattle.ll_bank.specs.Term.{Term}
 use Rattle.ll_laws.specs.declared.Part.{Part}
 use Rattle.ll_laws.specs.declared.Part.TheVariants.{Bounded, Unbounded}
 use Rattle.ll_laws.specs.Dealing.{uses, uses_part}
-use Rattle.ll_laws.specs.Line.{PartLine, Labels, Free, Line, OneLine, EraseLine, BangLine, ClauseLine, Cuts, cut_parts, put, trees_of}
+use Rattle.ll_laws.specs.Line.{PartLine, Line, OneLine, EraseLine, BangLine, ClauseLine, Cuts, cut_parts, put, trees_of}
 use Rattle.ll_laws.specs.Shows.{Tree, OneNode, EraseNode, TensorNode, WithNode, LeftNode, RightNode, BangNode, LolliNode, ImpNode, ForallNode, ExistsNode, UseNode, ClauseNode, Parts, NoParts, BoundedPart, UnboundedPart, nodes, part_nodes}
 use Rattle.ll_laws.specs.ShownLines.{part_line}
 use Rattle.ll_trace.specs.declared.picks.Pick.{Pick}
 use Rattle.ll_trace.specs.Picks.{picks_of, picks_of_parts, all_picks, is_pick, is_used_between, level_of_part, IsPickStep}
-use Rattle.ll_trace.proofs.Making.{IsUnary, IsBinary, cut-step, cut-end, clause-made, first-made, some-made, newest, join, IsCutStep, drop_item}
+use Rattle.ll_trace.proofs.Making.{IsUnary, IsBinary, cut-step, cut-end, clause-made, first-made, some-made, newest, IsCutStep, drop_item}
 
 both : (n a : ℕ) (xs ys : List (Option Pick)) → list_any (is_pick n a) xs ≡ false → list_any (is_pick n a) ys ≡ false → list_any (is_pick n a) (xs ++ ys) ≡ false
 both n a xs ys h k = list_any-append (is_pick n a) xs ys ∙ (ap (λ c. c || list_any (is_pick n a) ys) h ∙ k)
@@ -109,33 +105,6 @@ used-here n b from to picks here more h e =
 
 pub drop-on : (from to : ℕ) (picks here more : List (Option Pick)) → drop from picks ≡ here ++ more → to ≡ from + length here → drop to picks ≡ more
 drop-on from to picks here more h e = ap (λ i. drop i picks) e ∙ (sym (drop-drop (length here) from picks) ∙ (ap (drop (length here)) h ∙ drop-append_seam here more))
-
--- a range that is cut off at the end of the list
-pub clamped : (xs : List (Option Pick)) (from to : ℕ) → take (min to (length xs) - min from (min to (length xs))) (drop (min from (min to (length xs))) xs) ≡ take (to - from) (drop from xs)
-clamped xs from to = ends (nat_lt (length xs) to) refl
-  where
-    none : (i j : ℕ) → i ≡ 0 → take i (drop j xs) ≡ []
-    none i j e = ap (λ k. take k (drop j xs)) e
-
-    at_end : (start : ℕ) → start ≡ min from (length xs) → length xs < to → take (length xs - start) (drop start xs) ≡ take (to - from) (drop from xs)
-    at_end start e h = starts (nat_lt (length xs) from) refl
-      where
-        starts : (b : Bool) → nat_lt (length xs) from ≡ b → take (length xs - start) (drop start xs) ≡ take (to - from) (drop from xs)
-        starts true c = let z = ltb-true (length xs) from c in none (length xs - start) start (omega (arith, e, z)) ∙ sym (ap (take (to - from)) (drop_all from xs (omega (arith, z))) ∙ take_all (to - from) [] (omega arith))
-        starts false c =
-            let z = ltb-false (length xs) from c in let s : start ≡ from = omega (arith, e, z) in let l = length-drop from xs in
-            ap (λ i. take (length xs - i) (drop i xs)) s ∙ (take_all (length xs - from) (drop from xs) (omega (arith, l)) ∙ sym (take_all (to - from) (drop from xs) (omega (arith, l, h))))
-
-    inside : to ≤ length xs → take (to - min from to) (drop (min from to) xs) ≡ take (to - from) (drop from xs)
-    inside h = starts (nat_lt to from) refl
-      where
-        starts : (b : Bool) → nat_lt to from ≡ b → take (to - min from to) (drop (min from to) xs) ≡ take (to - from) (drop from xs)
-        starts true c = let z = ltb-true to from c in none (to - min from to) (min from to) (omega (arith, z)) ∙ sym (none (to - from) from (omega (arith, z)))
-        starts false c = let z = ltb-false to from c in let s : min from to ≡ from = omega (arith, z) in ap (λ i. take (to - i) (drop i xs)) s
-
-    ends : (b : Bool) → nat_lt (length xs) to ≡ b → take (min to (length xs) - min from (min to (length xs))) (drop (min from (min to (length xs))) xs) ≡ take (to - from) (drop from xs)
-    ends true c = let z = ltb-true (length xs) to c in let s : min to (length xs) ≡ length xs = omega (arith, z) in ap (λ i. take (i - min from i) (drop (min from i) xs)) s ∙ at_end (min from (length xs)) refl z
-    ends false c = let z = ltb-false (length xs) to c in let s : min to (length xs) ≡ to = omega (arith, z) in ap (λ i. take (i - min from i) (drop (min from i) xs)) s ∙ inside z
 
 -- ---- from node to node
 

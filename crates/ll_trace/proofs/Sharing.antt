@@ -51,26 +51,26 @@ two_newest old mid new first second e f = ap reverse f ∙ (newest mid first ∙
 -- ---- one node
 
 pub leaf-step : (outline : Outline) (at : ℕ) (share : Share) (old : List Share) (l : Line) (w : Tree) (us : List Tree) → lines (deal share.labels.items w) ≡ l ∷ [] → picks_of share.level w ≡ None ∷ []
-    → drop at outline.picks.items ≡ all_picks (share.level ∷ levels (reverse old)) (w ∷ us) → IsNodeStep outline (at + 1) share old old l us (w ∷ us)
+    → drop at outline.uses ≡ all_picks (share.level ∷ levels (reverse old)) (w ∷ us) → IsNodeStep outline (at + 1) share old old l us (w ∷ us)
 leaf-step outline at share old l w us h k d = record {
   same = ap (λ ls. ls ++ all_dealt (reverse old) us) h;
-  picks = drop-next at outline.picks.items (all_picks (levels (reverse old)) us) None (d ∙ ap (λ ps. ps ++ all_picks (levels (reverse old)) us) k);
+  picks = drop-next at outline.uses (all_picks (levels (reverse old)) us) None (d ∙ ap (λ ps. ps ++ all_picks (levels (reverse old)) us) k);
   count = λ c. omega (arith, c);
 }
 
 pub child-step : (outline : Outline) (at : ℕ) (share below : Share) (old new : List Share) (l : Line) (w x : Tree) (us : List Tree) → lines (deal share.labels.items w) ≡ l ∷ lines (deal below.labels.items x) → picks_of share.level w ≡ None ∷ picks_of below.level x
-    → new ≡ old ++ below ∷ [] → drop at outline.picks.items ≡ all_picks (share.level ∷ levels (reverse old)) (w ∷ us) → IsNodeStep outline (at + 1) share old new l (x ∷ us) (w ∷ us)
+    → new ≡ old ++ below ∷ [] → drop at outline.uses ≡ all_picks (share.level ∷ levels (reverse old)) (w ∷ us) → IsNodeStep outline (at + 1) share old new l (x ∷ us) (w ∷ us)
 child-step outline at share below old new l w x us h k e d =
     let r : reverse new ≡ below ∷ reverse old = ap reverse e ∙ newest old below in
     record {
       same = ap (λ ls. ls ++ all_dealt (reverse old) us) h ∙ ap (λ ss. l ∷ all_dealt ss (x ∷ us)) (sym r);
-      picks = drop-next at outline.picks.items (picks_of below.level x ++ all_picks (levels (reverse old)) us) None (d ∙ ap (λ ps. ps ++ all_picks (levels (reverse old)) us) k) ∙ ap (λ ss. all_picks (levels ss) (x ∷ us)) (sym r);
+      picks = drop-next at outline.uses (picks_of below.level x ++ all_picks (levels (reverse old)) us) None (d ∙ ap (λ ps. ps ++ all_picks (levels (reverse old)) us) k) ∙ ap (λ ss. all_picks (levels ss) (x ∷ us)) (sym r);
       count = λ c. let i = ap length e in let j = length-append old (below ∷ []) in omega (arith, c, i, j);
     }
 
 pub children-step : (outline : Outline) (at : ℕ) (share first second : Share) (old mid new : List Share) (l : Line) (w x y : Tree) (us : List Tree)
     → lines (deal share.labels.items w) ≡ l ∷ (lines (deal first.labels.items x) ++ lines (deal second.labels.items y)) → picks_of share.level w ≡ None ∷ (picks_of first.level x ++ picks_of second.level y)
-    → mid ≡ old ++ second ∷ [] → new ≡ mid ++ first ∷ [] → drop at outline.picks.items ≡ all_picks (share.level ∷ levels (reverse old)) (w ∷ us) → IsNodeStep outline (at + 1) share old new l (x ∷ y ∷ us) (w ∷ us)
+    → mid ≡ old ++ second ∷ [] → new ≡ mid ++ first ∷ [] → drop at outline.uses ≡ all_picks (share.level ∷ levels (reverse old)) (w ∷ us) → IsNodeStep outline (at + 1) share old new l (x ∷ y ∷ us) (w ∷ us)
 children-step outline at share first second old mid new l w x y us h k e f d =
     let r = two_newest old mid new first second e f in
     record {
@@ -78,22 +78,22 @@ children-step outline at share first second old mid new l w x y us h k e f d =
           ap (λ ls. ls ++ all_dealt (reverse old) us) h
           ∙ (ap (λ ls. l ∷ ls) (append_assoc (lines (deal first.labels.items x)) (lines (deal second.labels.items y)) (all_dealt (reverse old) us)) ∙ ap (λ ss. l ∷ all_dealt ss (x ∷ y ∷ us)) (sym r));
       picks =
-          drop-next at outline.picks.items ((picks_of first.level x ++ picks_of second.level y) ++ all_picks (levels (reverse old)) us) None (d ∙ ap (λ ps. ps ++ all_picks (levels (reverse old)) us) k)
+          drop-next at outline.uses ((picks_of first.level x ++ picks_of second.level y) ++ all_picks (levels (reverse old)) us) None (d ∙ ap (λ ps. ps ++ all_picks (levels (reverse old)) us) k)
           ∙ (append_assoc (picks_of first.level x) (picks_of second.level y) (all_picks (levels (reverse old)) us) ∙ ap (λ ss. all_picks (levels ss) (x ∷ y ∷ us)) (sym r));
       count = λ c. let i = ap length e in let j = length-append old (second ∷ []) in let m = ap length f in let n = length-append mid (first ∷ []) in omega (arith, c, i, j, m, n);
     }
 
-pub one-step : (outline : Outline) (at : ℕ) (share : Share) (old : List Share) (ts vs : List Tree) → put OneLine ts ≡ Some vs → drop at outline.picks.items ≡ all_picks (share.level ∷ levels (reverse old)) vs → IsNodeStep outline (at + 1) share old old OneLine ts vs
+pub one-step : (outline : Outline) (at : ℕ) (share : Share) (old : List Share) (ts vs : List Tree) → put OneLine ts ≡ Some vs → drop at outline.uses ≡ all_picks (share.level ∷ levels (reverse old)) vs → IsNodeStep outline (at + 1) share old old OneLine ts vs
 one-step outline at share old ts vs h d =
     let e : OneNode ∷ ts ≡ vs = cc in
     subst (IsNodeStep outline (at + 1) share old old OneLine ts) e (leaf-step outline at share old OneLine OneNode ts refl refl (d ∙ ap (all_picks (share.level ∷ levels (reverse old))) (sym e)))
 
-pub erase-step : (outline : Outline) (at : ℕ) (share : Share) (old : List Share) (ts vs : List Tree) → put EraseLine ts ≡ Some vs → drop at outline.picks.items ≡ all_picks (share.level ∷ levels (reverse old)) vs → IsNodeStep outline (at + 1) share old old EraseLine ts vs
+pub erase-step : (outline : Outline) (at : ℕ) (share : Share) (old : List Share) (ts vs : List Tree) → put EraseLine ts ≡ Some vs → drop at outline.uses ≡ all_picks (share.level ∷ levels (reverse old)) vs → IsNodeStep outline (at + 1) share old old EraseLine ts vs
 erase-step outline at share old ts vs h d =
     let e : EraseNode ∷ ts ≡ vs = cc in
     subst (IsNodeStep outline (at + 1) share old old EraseLine ts) e (leaf-step outline at share old EraseLine EraseNode ts refl refl (d ∙ ap (all_picks (share.level ∷ levels (reverse old))) (sym e)))
 
-pub passing-step : (l : Line) (mk : Tree → Tree) → IsPassing l mk → (outline : Outline) (at : ℕ) (share : Share) (old new : List Share) (ts vs : List Tree) → new ≡ old ++ share ∷ [] → put l ts ≡ Some vs → drop at outline.picks.items ≡ all_picks (share.level ∷ levels (reverse old)) vs
+pub passing-step : (l : Line) (mk : Tree → Tree) → IsPassing l mk → (outline : Outline) (at : ℕ) (share : Share) (old new : List Share) (ts vs : List Tree) → new ≡ old ++ share ∷ [] → put l ts ≡ Some vs → drop at outline.uses ≡ all_picks (share.level ∷ levels (reverse old)) vs
     → IsNodeStep outline (at + 1) share old new l ts vs
 passing-step l mk p outline at share old new [] vs n h d = let u = p.unary.none in cc
 passing-step l mk p outline at share old new (x ∷ us) vs n h d =
@@ -101,7 +101,7 @@ passing-step l mk p outline at share old new (x ∷ us) vs n h d =
     subst (IsNodeStep outline (at + 1) share old new l (x ∷ us)) e (child-step outline at share share old new l (mk x) x us (p.lines share.labels.items x) (p.unary.picks share.level x) n (d ∙ ap (all_picks (share.level ∷ levels (reverse old))) (sym e)))
 
 pub lolli-step : (n : ℕ) (outline : Outline) (at : ℕ) (share below : Share) (old new : List Share) (ts vs : List Tree) → below.labels.items ≡ share.labels.items ++ n ∷ [] → below.level ≡ share.level → new ≡ old ++ below ∷ [] → put (LolliLine n) ts ≡ Some vs
-    → drop at outline.picks.items ≡ all_picks (share.level ∷ levels (reverse old)) vs → IsNodeStep outline (at + 1) share old new (LolliLine n) ts vs
+    → drop at outline.uses ≡ all_picks (share.level ∷ levels (reverse old)) vs → IsNodeStep outline (at + 1) share old new (LolliLine n) ts vs
 lolli-step n outline at share below old new [] vs a b e h d = cc
 lolli-step n outline at share below old new (x ∷ us) vs a b e h d =
     let i : LolliNode n x ∷ us ≡ vs = cc in
@@ -109,7 +109,7 @@ lolli-step n outline at share below old new (x ∷ us) vs a b e h d =
     (ap (λ xs. LolliLine n ∷ lines (deal xs x)) (sym a)) (ap (λ m. None ∷ picks_of m x) (sym b)) e (d ∙ ap (all_picks (share.level ∷ levels (reverse old))) (sym i)))
 
 pub bang-step : (outline : Outline) (at : ℕ) (share below : Share) (old new : List Share) (ts vs : List Tree) → below.labels.items ≡ [] → below.level ≡ share.level + 1 → new ≡ old ++ below ∷ [] → put BangLine ts ≡ Some vs
-    → drop at outline.picks.items ≡ all_picks (share.level ∷ levels (reverse old)) vs → IsNodeStep outline (at + 1) share old new BangLine ts vs
+    → drop at outline.uses ≡ all_picks (share.level ∷ levels (reverse old)) vs → IsNodeStep outline (at + 1) share old new BangLine ts vs
 bang-step outline at share below old new [] vs a b e h d = cc
 bang-step outline at share below old new (x ∷ us) vs a b e h d =
     let i : BangNode x ∷ us ≡ vs = cc in
@@ -117,7 +117,7 @@ bang-step outline at share below old new (x ∷ us) vs a b e h d =
     (ap (λ xs. BangLine ∷ lines (deal xs x)) (sym a)) (ap (λ m. None ∷ picks_of m x) (sym b)) e (d ∙ ap (all_picks (share.level ∷ levels (reverse old))) (sym i)))
 
 pub with-step : (outline : Outline) (at : ℕ) (share first second : Share) (old mid new : List Share) (ts vs : List Tree) → first.labels.items ≡ share.labels.items → first.level ≡ share.level → second.labels.items ≡ share.labels.items → second.level ≡ share.level
-    → mid ≡ old ++ second ∷ [] → new ≡ mid ++ first ∷ [] → put WithLine ts ≡ Some vs → drop at outline.picks.items ≡ all_picks (share.level ∷ levels (reverse old)) vs → IsNodeStep outline (at + 1) share old new WithLine ts vs
+    → mid ≡ old ++ second ∷ [] → new ≡ mid ++ first ∷ [] → put WithLine ts ≡ Some vs → drop at outline.uses ≡ all_picks (share.level ∷ levels (reverse old)) vs → IsNodeStep outline (at + 1) share old new WithLine ts vs
 with-step outline at share first second old mid new [] vs a b a2 b2 e f h d = cc
 with-step outline at share first second old mid new (x ∷ []) vs a b a2 b2 e f h d = cc
 with-step outline at share first second old mid new (x ∷ y ∷ us) vs a b a2 b2 e f h d =
@@ -134,8 +134,8 @@ pub record IsFork (outline : Outline) (at b : ℕ) (fork : Fork) : Type 0 where
   pub end : fork.end ≡ (span_or_none outline.spans.items at).end
 
 pub tensor-step : (outline : Outline) (at : ℕ) (share first second : Share) (fork : Fork) (old mid new : List Share) (s t : List ℕ) (ts vs : List Tree) → IsFork outline at share.level fork
-    → first.labels.items ≡ filter (goes_to_first outline.picks.items fork) share.labels.items → first.level ≡ share.level → second.labels.items ≡ filter (λ n. not (goes_to_first outline.picks.items fork n)) share.labels.items → second.level ≡ share.level
-    → mid ≡ old ++ second ∷ [] → new ≡ mid ++ first ∷ [] → put (TensorLine s t) ts ≡ Some vs → Fits outline.spans.items at vs → Fits outline.spans.items (at + 1) ts → drop at outline.picks.items ≡ all_picks (share.level ∷ levels (reverse old)) vs
+    → first.labels.items ≡ filter (goes_to_first outline.uses fork) share.labels.items → first.level ≡ share.level → second.labels.items ≡ filter (λ n. not (goes_to_first outline.uses fork n)) share.labels.items → second.level ≡ share.level
+    → mid ≡ old ++ second ∷ [] → new ≡ mid ++ first ∷ [] → put (TensorLine s t) ts ≡ Some vs → Fits outline.spans.items at vs → Fits outline.spans.items (at + 1) ts → drop at outline.uses ≡ all_picks (share.level ∷ levels (reverse old)) vs
     → IsNodeStep outline (at + 1) share old new (TensorLine first.labels.items second.labels.items) ts vs
 tensor-step outline at share first second fork old mid new s t [] vs k a b a2 b2 e f h f1 f2 d = cc
 tensor-step outline at share first second fork old mid new s t (x ∷ []) vs k a b a2 b2 e f h f1 f2 d = cc
@@ -146,8 +146,8 @@ tensor-step outline at share first second fork old mid new s t (x ∷ y ∷ us) 
     subst (IsNodeStep outline (at + 1) share old new (TensorLine first.labels.items second.labels.items) (x ∷ y ∷ us)) i
     (children-step outline at share first second old mid new (TensorLine first.labels.items second.labels.items) (TensorNode s t x y) x y us
     (tensor_lines share.labels.items first.labels.items second.labels.items
-    (a ∙ filter-same (goes_to_first outline.picks.items fork) (λ n. goes_to (uses n x) (uses n y) (erases x)) (goes g1 d1) share.labels.items)
-    (a2 ∙ filter-same (λ n. not (goes_to_first outline.picks.items fork n)) (λ n. not (goes_to (uses n x) (uses n y) (erases x))) (λ n. ap not (goes g1 d1 n)) share.labels.items))
+    (a ∙ filter-same (goes_to_first outline.uses fork) (λ n. goes_to (uses n x) (uses n y) (erases x)) (goes g1 d1) share.labels.items)
+    (a2 ∙ filter-same (λ n. not (goes_to_first outline.uses fork n)) (λ n. not (goes_to (uses n x) (uses n y) (erases x))) (λ n. ap not (goes g1 d1 n)) share.labels.items))
     (ap (λ m. None ∷ (picks_of m x ++ picks_of share.level y)) (sym b) ∙ ap (λ m. None ∷ (picks_of first.level x ++ picks_of m y)) (sym b2)) e f d1)
   where
     tensor_lines : (d m o : List ℕ) → m ≡ filter (λ n. goes_to (uses n x) (uses n y) (erases x)) d → o ≡ filter (λ n. not (goes_to (uses n x) (uses n y) (erases x))) d
@@ -156,14 +156,14 @@ tensor-step outline at share first second fork old mid new s t (x ∷ y ∷ us) 
         let o2 = filter (λ n. not (goes_to (uses n x) (uses n y) (erases x))) d in
         ap (λ z. TensorLine z o2 ∷ (lines (deal z x) ++ lines (deal o2 y))) (sym p) ∙ ap (λ z. TensorLine m z ∷ (lines (deal m x) ++ lines (deal z y))) (sym q)
 
-    goes : Fits outline.spans.items at (TensorNode s t x y ∷ us) → drop at outline.picks.items ≡ all_picks (share.level ∷ levels (reverse old)) (TensorNode s t x y ∷ us) → (n : ℕ) → goes_to_first outline.picks.items fork n ≡ goes_to (uses n x) (uses n y) (erases x)
+    goes : Fits outline.spans.items at (TensorNode s t x y ∷ us) → drop at outline.uses ≡ all_picks (share.level ∷ levels (reverse old)) (TensorNode s t x y ∷ us) → (n : ℕ) → goes_to_first outline.uses fork n ≡ goes_to (uses n x) (uses n y) (erases x)
     goes g1 d1 n =
         let q1 : fork.first.end ≡ at + 1 + nodes x = ap (λ (z : Span). z.end) (k.first ∙ f2.0) in
         let q2 : fork.end ≡ at + suc (nodes x + nodes y) = k.end ∙ ap (λ (z : Span). z.end) g1.0 in
         let c1 = picks-count share.level x in let c2 = picks-count share.level y in let kf = k.from in
-        let dr : drop fork.from outline.picks.items ≡ picks_of share.level x ++ (picks_of share.level y ++ all_picks (levels (reverse old)) us) =
-        ap (λ j. drop j outline.picks.items) k.from ∙ (drop-next at outline.picks.items ((picks_of share.level x ++ picks_of share.level y) ++ all_picks (levels (reverse old)) us) None d1 ∙ append_assoc (picks_of share.level x) (picks_of share.level y) (all_picks (levels (reverse old)) us)) in
-        fork-goes outline.picks.items (picks_of share.level x) (picks_of share.level y) (all_picks (levels (reverse old)) us) fork n dr (omega (arith, q1, c1, kf)) (omega (arith, q1, q2, c2))
+        let dr : drop fork.from outline.uses ≡ picks_of share.level x ++ (picks_of share.level y ++ all_picks (levels (reverse old)) us) =
+        ap (λ j. drop j outline.uses) k.from ∙ (drop-next at outline.uses ((picks_of share.level x ++ picks_of share.level y) ++ all_picks (levels (reverse old)) us) None d1 ∙ append_assoc (picks_of share.level x) (picks_of share.level y) (all_picks (levels (reverse old)) us)) in
+        fork-goes outline.uses (picks_of share.level x) (picks_of share.level y) (all_picks (levels (reverse old)) us) fork n dr (omega (arith, q1, c1, kf)) (omega (arith, q1, q2, c2))
         ∙ (ap (λ u. goes_to u (list_any (is_pick n fork.level) (picks_of share.level y)) fork.first.erases) (ap (λ m. list_any (is_pick n m) (picks_of share.level x)) k.level ∙ picks-uses n share.level x)
         ∙ (ap (λ v. goes_to (uses n x) v fork.first.erases) (ap (λ m. list_any (is_pick n m) (picks_of share.level y)) k.level ∙ picks-uses n share.level y) ∙ ap (λ z. goes_to (uses n x) (uses n y) z) (ap (λ (z : Span). z.erases) (k.first ∙ f2.0))))
 
@@ -195,7 +195,7 @@ pub record PartsAt (outline : Outline) (from end b : ℕ) (first : List ℕ) (al
   pub cut : cut_parts ls trees ≡ Cuts parts us
   pub fits : Fits outline.spans.items from trees
   pub reach : end ≡ from + part_nodes parts
-  pub dropped : drop from outline.picks.items ≡ picks_of_parts b parts ++ more
+  pub dropped : drop from outline.uses ≡ picks_of_parts b parts ++ more
   pub lines : map part_line dealt ++ part_lines (deal_parts labels parts) ≡ part_lines (deal_parts first all)
   pub done : List Line
   pub dones : done ++ lines_of_parts (deal_parts labels parts) ≡ lines_of_parts (deal_parts first all)
@@ -211,7 +211,7 @@ pub record PartsDealt (outline : Outline) (from end b : ℕ) (first : List ℕ) 
   pub at : PartsAt outline from end b first all ts us more ls labels dealt shares trees parts
 
 pub dealt-start : (outline : Outline) (from end b : ℕ) (first : List ℕ) (all : Parts) (ts us : List Tree) (more : List (Option Pick)) (ls : List PartLine) (dealt : List Part) (shares : List Share) → dealt ≡ [] → shares ≡ []
-    → cut_parts ls ts ≡ Cuts all us → Fits outline.spans.items from ts → end ≡ from + part_nodes all → drop from outline.picks.items ≡ picks_of_parts b all ++ more → PartsDealt outline from end b first all ts us more ls first dealt shares
+    → cut_parts ls ts ≡ Cuts all us → Fits outline.spans.items from ts → end ≡ from + part_nodes all → drop from outline.uses ≡ picks_of_parts b all ++ more → PartsDealt outline from end b first all ts us more ls first dealt shares
 dealt-start outline from end b first all ts us more ls dealt shares e f h g k d = record {
   trees = ts;
   parts = all;
@@ -242,7 +242,7 @@ one_more outline from next end b first all ts us more p ls labels rest dealt dea
   reach = let i = w.reach in omega (arith, i, e, n);
   dropped =
       let c = picks-count s.level x in
-      drop-on from next outline.picks.items (picks_of s.level x) (picks_of_parts b qs ++ more) (w.dropped ∙ (ap (λ ps. ps ++ more) pk ∙ append_assoc (picks_of s.level x) (picks_of_parts b qs) more)) (omega (arith, c, e));
+      drop-on from next outline.uses (picks_of s.level x) (picks_of_parts b qs ++ more) (w.dropped ∙ (ap (λ ps. ps ++ more) pk ∙ append_assoc (picks_of s.level x) (picks_of_parts b qs) more)) (omega (arith, c, e));
   lines =
       ap (λ ps. map part_line ps ++ part_lines (deal_parts rest qs)) ed
       ∙ (ap (λ ps. ps ++ part_lines (deal_parts rest qs)) (map-append part_line dealt (q ∷ [])) ∙ (append_assoc (map part_line dealt) (part_line q ∷ []) (part_lines (deal_parts rest qs)) ∙ (ap (λ ps. map part_line dealt ++ ps) (sym pl) ∙ w.lines)));
@@ -268,7 +268,7 @@ pub record IsPartFork (outline : Outline) (start stop b : ℕ) (fork : Fork) : T
   pub end : fork.end ≡ stop
 
 pub bounded-step : (outline : Outline) (from next end b : ℕ) (first : List ℕ) (all : Parts) (ts us : List Tree) (more : List (Option Pick)) (old : List ℕ) (ls : List PartLine) (labels rest : List ℕ) (dealt dealt2 : List Part) (shares shares2 : List Share) (q : Part) (s : Share) (fork : Fork)
-    → IsPartFork outline from end b fork → next ≡ (span_or_none outline.spans.items from).end → s.labels.items ≡ filter (goes_to_first outline.picks.items fork) labels → s.level ≡ b → rest ≡ filter (λ n. not (goes_to_first outline.picks.items fork n)) labels → part_line q ≡ Labels s.labels.items
+    → IsPartFork outline from end b fork → next ≡ (span_or_none outline.spans.items from).end → s.labels.items ≡ filter (goes_to_first outline.uses fork) labels → s.level ≡ b → rest ≡ filter (λ n. not (goes_to_first outline.uses fork n)) labels → part_line q ≡ Labels s.labels.items
     → dealt2 ≡ dealt ++ q ∷ [] → shares2 ≡ shares ++ s ∷ [] → PartsDealt outline from end b first all ts us more (Labels old ∷ ls) labels dealt shares → PartsDealt outline next end b first all ts us more ls rest dealt2 shares2
 bounded-step outline from next end b first all ts us more old ls labels rest dealt dealt2 shares shares2 q s fork k e a lv o ql ed es w = step (cut-step (Labels old) ls w.trees w.parts us w.at.cut)
   where
@@ -278,14 +278,14 @@ bounded-step outline from next end b first all ts us more old ls labels rest dea
         let q1 : next ≡ from + nodes x = e ∙ ap (λ (y : Span). y.end) z.fits.0 in
         let q2 : fork.first.end ≡ from + nodes x = ap (λ (y : Span). y.end) (k.first ∙ z.fits.0) in
         let c1 = picks-count b x in let c2 = parts-count b qs in let kf = k.from in let ke = k.end in let ze = z.reach in
-        let dr : drop fork.from outline.picks.items ≡ picks_of b x ++ (picks_of_parts b qs ++ more) = ap (λ j. drop j outline.picks.items) k.from ∙ (z.dropped ∙ append_assoc (picks_of b x) (picks_of_parts b qs) more) in
-        let goes : (n : ℕ) → goes_to_first outline.picks.items fork n ≡ goes_to (uses n x) (uses_part n qs) (erases x) = λ n.
-        fork-goes outline.picks.items (picks_of b x) (picks_of_parts b qs) more fork n dr (omega (arith, q2, c1, kf)) (omega (arith, q2, ke, ze, c2))
+        let dr : drop fork.from outline.uses ≡ picks_of b x ++ (picks_of_parts b qs ++ more) = ap (λ j. drop j outline.uses) k.from ∙ (z.dropped ∙ append_assoc (picks_of b x) (picks_of_parts b qs) more) in
+        let goes : (n : ℕ) → goes_to_first outline.uses fork n ≡ goes_to (uses n x) (uses_part n qs) (erases x) = λ n.
+        fork-goes outline.uses (picks_of b x) (picks_of_parts b qs) more fork n dr (omega (arith, q2, c1, kf)) (omega (arith, q2, ke, ze, c2))
         ∙ (ap (λ u. goes_to u (list_any (is_pick n fork.level) (picks_of_parts b qs)) fork.first.erases) (ap (λ m. list_any (is_pick n m) (picks_of b x)) k.level ∙ picks-uses n b x)
         ∙ (ap (λ v. goes_to (uses n x) v fork.first.erases) (ap (λ m. list_any (is_pick n m) (picks_of_parts b qs)) k.level ∙ parts-uses n b qs) ∙ ap (λ y. goes_to (uses n x) (uses_part n qs) y) (ap (λ (y : Span). y.erases) (k.first ∙ z.fits.0)))) in
-        let m1 : s.labels.items ≡ filter (λ n. goes_to (uses n x) (uses_part n qs) (erases x)) labels = a ∙ filter-same (goes_to_first outline.picks.items fork) (λ n. goes_to (uses n x) (uses_part n qs) (erases x)) goes labels in
+        let m1 : s.labels.items ≡ filter (λ n. goes_to (uses n x) (uses_part n qs) (erases x)) labels = a ∙ filter-same (goes_to_first outline.uses fork) (λ n. goes_to (uses n x) (uses_part n qs) (erases x)) goes labels in
         let m2 : rest ≡ filter (λ n. not (goes_to (uses n x) (uses_part n qs) (erases x))) labels =
-        o ∙ filter-same (λ n. not (goes_to_first outline.picks.items fork n)) (λ n. not (goes_to (uses n x) (uses_part n qs) (erases x))) (λ n. ap not (goes n)) labels in
+        o ∙ filter-same (λ n. not (goes_to_first outline.uses fork n)) (λ n. not (goes_to (uses n x) (uses_part n qs) (erases x))) (λ n. ap not (goes n)) labels in
         one_more outline from next end b first all ts us more (Labels old) ls labels rest dealt dealt2 shares shares2 q s x trees (BoundedPart old x qs) qs h q1 refl
         (ap (λ y. Labels y ∷ part_lines (deal_parts (filter (λ n. not (goes_to (uses n x) (uses_part n qs) (erases x))) labels) qs)) (sym m1) ∙ (ap (λ y. Labels s.labels.items ∷ part_lines (deal_parts y qs)) (sym m2) ∙ ap (λ y. y ∷ part_lines (deal_parts rest qs)) (sym ql)))
         (ap (λ y. lines (deal y x) ++ lines_of_parts (deal_parts (filter (λ n. not (goes_to (uses n x) (uses_part n qs) (erases x))) labels) qs)) (sym m1) ∙ ap (λ y. lines (deal s.labels.items x) ++ lines_of_parts (deal_parts y qs)) (sym m2))
@@ -342,15 +342,15 @@ twice [] = refl
 twice (x ∷ xs) = ap (λ ys. reverse ys) (reverse-append (x ∷ []) xs) ∙ (newest (reverse xs) x ∙ ap (λ ys. x ∷ ys) (twice xs))
 
 pub clause-step : (n k : ℕ) (terms : List Term) (outline : Outline) (at : ℕ) (share : Share) (parts dealt : List Part) (shares old new : List Share) (labels : List ℕ) (end : ℕ) (ts vs : List Tree) → labels ≡ without n share.labels.items → end ≡ (span_or_none outline.spans.items at).end → new ≡ old ++ reverse shares
-    → ((us : List Tree) (ps : Parts) (more : List (Option Pick)) → cut_parts (map part_line parts) ts ≡ Cuts ps us → Fits outline.spans.items (at + 1) ts → end ≡ at + 1 + part_nodes ps → drop (at + 1) outline.picks.items ≡ picks_of_parts share.level ps ++ more → ArePartsDealt labels share.level ps dealt shares ts us)
-    → put (ClauseLine n k terms (map part_line parts)) ts ≡ Some vs → Fits outline.spans.items at vs → Fits outline.spans.items (at + 1) ts → drop at outline.picks.items ≡ all_picks (share.level ∷ levels (reverse old)) vs
+    → ((us : List Tree) (ps : Parts) (more : List (Option Pick)) → cut_parts (map part_line parts) ts ≡ Cuts ps us → Fits outline.spans.items (at + 1) ts → end ≡ at + 1 + part_nodes ps → drop (at + 1) outline.uses ≡ picks_of_parts share.level ps ++ more → ArePartsDealt labels share.level ps dealt shares ts us)
+    → put (ClauseLine n k terms (map part_line parts)) ts ≡ Some vs → Fits outline.spans.items at vs → Fits outline.spans.items (at + 1) ts → drop at outline.uses ≡ all_picks (share.level ∷ levels (reverse old)) vs
     → IsNodeStep outline (at + 1) share old new (ClauseLine n k terms (map part_line dealt)) ts vs
 clause-step n k terms outline at share parts dealt shares old new labels end ts vs e1 e2 e3 go h f1 f2 d = step (clause-made n k terms (map part_line parts) ts vs h)
   where
     step : IsClauseMade n k terms (map part_line parts) ts vs → IsNodeStep outline (at + 1) share old new (ClauseLine n k terms (map part_line dealt)) ts vs
     step m =
         let g1 : Fits outline.spans.items at (ClauseNode n k terms m.parts ∷ m.left) = subst (Fits outline.spans.items at) (sym m.is) f1 in
-        let d1 = drop-next at outline.picks.items (picks_of_parts share.level m.parts ++ all_picks (levels (reverse old)) m.left) (Some (record { label = n; level = share.level })) (d ∙ ap (all_picks (share.level ∷ levels (reverse old))) (sym m.is)) in
+        let d1 = drop-next at outline.uses (picks_of_parts share.level m.parts ++ all_picks (levels (reverse old)) m.left) (Some (record { label = n; level = share.level })) (d ∙ ap (all_picks (share.level ∷ levels (reverse old))) (sym m.is)) in
         let q = ap (λ (z : Span). z.end) g1.0 in
         let g = go m.left m.parts (all_picks (levels (reverse old)) m.left) m.cut f2 (omega (arith, e2, q)) d1 in
         let r : reverse new ≡ shares ++ reverse old = ap reverse e3 ∙ (reverse-append old (reverse shares) ∙ ap (λ ss. ss ++ reverse old) (twice shares)) in
@@ -404,8 +404,8 @@ deal-start ls x labels done pending picks share d e f p h = record {
 
 pub deal-step : (l l2 : Line) (ls : List Line) (x : Tree) (labels : List ℕ) (done more : List Line) (pending rest new : List Share) (top : Option Share) (share default : Share) (outline : Outline) (at : ℕ) → pending ≡ rest ++ option_to_list top → share ≡ unwrap_or top default → more ≡ done ++ l2 ∷ [] → (0 < length pending → IsSome top)
     → ((ts : List Tree) → trees_of (l ∷ ls) ≡ Some ts → Fits outline.spans.items at ts) → ((ts : List Tree) → trees_of ls ≡ Some ts → Fits outline.spans.items (at + 1) ts)
-    → ((ts vs : List Tree) → put l ts ≡ Some vs → Fits outline.spans.items at vs → Fits outline.spans.items (at + 1) ts → drop at outline.picks.items ≡ all_picks (share.level ∷ levels (reverse rest)) vs → IsNodeStep outline (at + 1) share rest new l2 ts vs)
-    → DealLeft (l ∷ ls) x labels done pending (drop at outline.picks.items) → DealLeft ls x labels more new (drop (at + 1) outline.picks.items)
+    → ((ts vs : List Tree) → put l ts ≡ Some vs → Fits outline.spans.items at vs → Fits outline.spans.items (at + 1) ts → drop at outline.uses ≡ all_picks (share.level ∷ levels (reverse rest)) vs → IsNodeStep outline (at + 1) share rest new l2 ts vs)
+    → DealLeft (l ∷ ls) x labels done pending (drop at outline.uses) → DealLeft ls x labels more new (drop (at + 1) outline.uses)
 deal-step l l2 ls x labels done more pending rest new None share default outline at b e f v s1 s2 go w = let m = first-made l ls w.trees w.is in let k = w.count in let z = full w.trees m.trees m.made in let q = v (omega (arith, k, z)) in cc
   where
     full : (vs ts : List Tree) → put l ts ≡ Some vs → 0 < length vs
@@ -433,7 +433,7 @@ deal-end x labels done pending picks w = let e : [] ≡ w.trees = (let h = w.is 
 -- one rule more
 pub deal-more : (bank : Nodes) (old : List Rule) (outline : Outline) (at : ℕ) (node dealt : Rule) (left : List Rule) (x : Tree) (labels : List ℕ) (done more : List Rule) (pending rest new : List Share) (top : Option Share) (share default : Share) → AreSpans old outline.spans.items → drop at old ≡ node ∷ left
     → pending ≡ rest ++ option_to_list top → share ≡ unwrap_or top default → (0 < length pending → IsSome top) → GivesRule outline at node share rest new dealt → more ≡ done ++ dealt ∷ []
-    → DealLeft (map (line_of bank) (node ∷ left)) x labels (map (line_of bank) done) pending (drop at outline.picks.items) → DealLeft (map (line_of bank) left) x labels (map (line_of bank) more) new (drop (at + 1) outline.picks.items)
+    → DealLeft (map (line_of bank) (node ∷ left)) x labels (map (line_of bank) done) pending (drop at outline.uses) → DealLeft (map (line_of bank) left) x labels (map (line_of bank) more) new (drop (at + 1) outline.uses)
 deal-more bank old outline at node dealt left x labels done more pending rest new top share default spans dr b e v gives m w =
     let nx : drop (at + 1) old ≡ left = sym (drop-drop 1 at old) ∙ ap (drop 1) dr in
     deal-step (line_of bank node) (line_of bank dealt) (map (line_of bank) left) x labels (map (line_of bank) done) (map (line_of bank) more) pending rest new top share default outline at b e

@@ -1,20 +1,15 @@
 -- The spans of trees, from those of their children.
-use Rattle.std.proofs.Common.{◌≡◌, ℕ, ◌+◌, ◌≤◌, ◌<◌, refl, ap, sym, subst, ◌∙◌, List, [], ◌∷◌, ◌++◌, length, get_or, set, drop, map, arith}
-use Rattle.std.specs.Prelude.{Bool, true, false, ◌||◌, ◌&&◌, Option, Some, None}
-use Rattle.std.proofs.Math.Bool.{or-false}
-use Rattle.ll_bank.specs.Nodes.{Nodes}
+use Rattle.std.proofs.Common.{◌≡◌, ℕ, ◌+◌, ◌≤◌, ◌<◌, refl, ap, sym, subst, ◌∙◌, List, [], ◌∷◌, length, set, drop, arith}
+use Rattle.std.specs.Prelude.{Bool, true, false, ◌||◌, ◌&&◌, Some}
 use Rattle.ll_bank.specs.Term.{Term}
-use Rattle.ll_laws.specs.declared.Part.{Part}
-use Rattle.ll_laws.specs.declared.Rule.{Rule}
 use Rattle.ll_laws.specs.Dealing.{erases, erases_part}
 use Rattle.ll_laws.specs.Line.{PartLine, Labels, Free, Line, OneLine, EraseLine, WithLine, BangLine, TensorLine, ClauseLine, Cuts, cut_parts, put, trees_of}
-use Rattle.ll_laws.specs.Shows.{Tree, OneNode, EraseNode, TensorNode, WithNode, BangNode, ClauseNode, Parts, NoParts, BoundedPart, UnboundedPart, nodes, part_nodes}
-use Rattle.ll_laws.specs.ShownLines.{line_of, part_line}
+use Rattle.ll_laws.specs.Shows.{Tree, OneNode, EraseNode, TensorNode, WithNode, BangNode, Parts, nodes, part_nodes}
 use Rattle.ll_trace.specs.declared.spans.Span.{Span}
-use Rattle.ll_trace.specs.Spans.{span_or_none, Fits, IsSpan, HasSpan, ArePartSpan}
+use Rattle.ll_trace.specs.Spans.{span_or_none, Fits, HasSpan, ArePartSpan}
 use Rattle.ll_trace.proofs.Making.{IsUnary, IsBinary, tensor-binary, with-binary, join, cut-step, cut-end, clause-made, first-made, some-made, nodes-some}
 use Rattle.std.proofs.Common.{get_or-set_other, get_or-set_same}
-use Rattle.std.specs.Prelude.{nat_lt, ◌≢◌}
+use Rattle.std.specs.Prelude.{nat_lt}
 use Rattle.std.proofs.lemmas.Bool.{ltb-true, ltb-false}
 use Rattle.std.proofs.lemmas.List.{drop_all}
 

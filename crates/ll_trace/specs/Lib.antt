@@ -6,5 +6,6 @@ pub mod Walker
 pub mod Start
 pub mod Spans
 pub mod Picks
+pub mod Places
 pub mod Shares
 pub mod Sample

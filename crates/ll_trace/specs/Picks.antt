@@ -1,5 +1,5 @@
 -- The labels that the clause steps of a tree pick, each with its level: how many times a `bang` or an unbounded premise lies above.
-use Rattle.std.specs.Prelude.{◌≡◌, ℕ, suc, ◌+◌, ◌-◌, Bool, true, false, ◌&&◌, nat_eq, List, [], ◌∷◌, ◌++◌, map, take, drop, reverse, length, Option, Some, None}
+use Rattle.std.specs.Prelude.{◌≡◌, ℕ, suc, ◌+◌, ◌-◌, Bool, false, ◌&&◌, nat_eq, List, [], ◌∷◌, ◌++◌, map, take, drop, reverse, length, Option, Some, None}
 use Rattle.std.specs.List.{list_any}
 use Rattle.ll_bank.specs.Nodes.{Nodes}
 use Rattle.ll_laws.specs.declared.Part.{Part}

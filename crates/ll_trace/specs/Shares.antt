@@ -4,16 +4,16 @@ use Rattle.ll_bank.specs.Nodes.{Nodes}
 use Rattle.ll_laws.specs.declared.Part.{Part}
 use Rattle.ll_laws.specs.declared.Rule.{Rule}
 use Rattle.ll_bank.specs.Term.{Term}
-use Rattle.ll_laws.specs.Dealing.{deal, deal_parts, goes_to, without}
+use Rattle.ll_laws.specs.Dealing.{deal, deal_parts, goes_to}
 use Rattle.ll_laws.specs.Line.{Line, put, Cuts, cut_parts, lines, lines_of_parts, part_lines, TensorLine, ClauseLine}
-use Rattle.ll_laws.specs.Shows.{Tree, Parts, nodes, part_nodes}
+use Rattle.ll_laws.specs.Shows.{Tree, Parts, part_nodes}
 use Rattle.ll_laws.specs.ShownLines.{line_of, part_line, HasLine}
 use Rattle.ll_trace.specs.declared.deal.Fork.{Fork}
 use Rattle.ll_trace.specs.declared.deal.Outline.{Outline}
 use Rattle.ll_trace.specs.declared.picks.Pick.{Pick}
 use Rattle.ll_trace.specs.declared.deal.Share.{Share}
 use Rattle.ll_trace.specs.Picks.{all_picks, picks_of_parts, is_used_between}
-use Rattle.ll_trace.specs.Spans.{Fits, span_or_none}
+use Rattle.ll_trace.specs.Spans.{Fits}
 
 -- the nodes of trees in prefix order, with their shares dealt out
 abbrev pub all_dealt : List Share → List Tree → List Line
@@ -33,14 +33,14 @@ goes_to_first picks fork n =
 -- shares come in place of its own.
 pub record IsNodeStep (outline : Outline) (first : ℕ) (share : Share) (old new : List Share) (dealt : Line) (ts vs : List Tree) : Type 0 where
   pub same : all_dealt (share ∷ reverse old) vs ≡ dealt ∷ all_dealt (reverse new) ts
-  pub picks : drop first outline.picks.items ≡ all_picks (levels (reverse new)) ts
+  pub picks : drop first outline.uses ≡ all_picks (levels (reverse new)) ts
   pub count : suc (length old) ≡ length vs → length new ≡ length ts
 
 -- what a node of these trees becomes, and what the trees to come get
 abbrev pub GivesLine : Outline → ℕ → (Nodes → Line) → Share → List Share → List Share → (Nodes → Line) → Type 0
 GivesLine outline at line share old new dealt =
     (bank : Nodes) (ts vs : List Tree) → put (line bank) ts ≡ Some vs → Fits outline.spans.items at vs → Fits outline.spans.items (at + 1) ts
-    → drop at outline.picks.items ≡ all_picks (share.level ∷ levels (reverse old)) vs → IsNodeStep outline (at + 1) share old new (dealt bank) ts vs
+    → drop at outline.uses ≡ all_picks (share.level ∷ levels (reverse old)) vs → IsNodeStep outline (at + 1) share old new (dealt bank) ts vs
 
 -- the same of a rule
 abbrev pub GivesRule : Outline → ℕ → Rule → Share → List Share → List Share → Rule → Type 0
@@ -71,4 +71,4 @@ pub record ArePartsDealt (labels : List ℕ) (b : ℕ) (ps : Parts) (dealt : Lis
 abbrev pub GivesParts : Outline → ℕ → ℕ → ℕ → List ℕ → List Part → List Part → List Share → Type 0
 GivesParts outline from end b labels parts dealt shares =
     (ts us : List Tree) (ps : Parts) (more : List (Option Pick)) → cut_parts (map part_line parts) ts ≡ Cuts ps us → Fits outline.spans.items from ts
-    → end ≡ from + part_nodes ps → drop from outline.picks.items ≡ picks_of_parts b ps ++ more → ArePartsDealt labels b ps dealt shares ts us
+    → end ≡ from + part_nodes ps → drop from outline.uses ≡ picks_of_parts b ps ++ more → ArePartsDealt labels b ps dealt shares ts us

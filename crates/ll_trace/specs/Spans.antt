@@ -1,5 +1,5 @@
 -- Where the trees of a list of nodes end, and which of them can erase labels.
-use Rattle.std.specs.Prelude.{◌≡◌, ℕ, ◌+◌, Bool, true, false, List, [], ◌∷◌, map, drop, slice_index_or, Some}
+use Rattle.std.specs.Prelude.{◌≡◌, ℕ, ◌+◌, false, List, [], ◌∷◌, map, drop, slice_index_or, Some}
 use Rattle.ll_bank.specs.Nodes.{Nodes}
 use Rattle.ll_laws.specs.declared.Part.{Part}
 use Rattle.ll_laws.specs.declared.Rule.{Rule}

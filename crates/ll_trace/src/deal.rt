@@ -7,7 +7,8 @@ ghost use Rattle.ll_laws.specs.Shows.{Tree};
 ghost use Rattle.ll_laws.specs.ShownLines.{line_of, HasLine, HasLines};
 ghost use Rattle.ll_trace.specs.Shares.{goes_to_first, GivesRule, GivesTensor, GivesClause, GivesParts, KeepsTerms};
 
-use crate::picks::{Pick, deeper, is_used, picks};
+use crate::picks::{deeper, picks};
+use crate::places::Uses;
 use crate::spans::{Span, span_at, spans};
 use ll_bank::OutOfMemory;
 use ll_laws::{Part, Rule};
@@ -24,7 +25,7 @@ pub(crate) struct Share {
 #[derive(Drop)]
 pub(crate) struct Outline {
     pub(crate) spans: Vec<Span>,
-    pub(crate) picks: Vec<Option<Pick>>,
+    pub(crate) uses: Uses,
 }
 
 /// A place where labels go to one tree or to those after it, which end together.
@@ -48,9 +49,10 @@ pub(crate) fn deal(
     ensures dealt { OnOk result ((bank : Nodes) (x : Tree) → trees_of (map (line_of bank) rules.old.items) ≡ Some (x ∷ []) → map (line_of bank) rules.new.items ≡ lines (deal_labels labels.items x)) }
     ensures places { OnOk result ((bank : Nodes) → HasLines bank rules.old.items → HasLines bank rules.new.items) }
 {
+    let picks = picks(alloc, rules)?;
     let outline = Outline {
         spans: spans(alloc, rules)?,
-        picks: picks(alloc, rules)?,
+        uses: Uses::new(alloc, picks)?,
     };
     let nodes = std::mem::replace(rules, Vec::new(alloc));
     let mut pending = Vec::new(alloc);
@@ -145,7 +147,7 @@ fn deal_tensor(
         first,
         end,
     };
-    let (mine, others) = divide(alloc, &outline.picks, fork, &share.labels)?;
+    let (mine, others) = divide(alloc, &outline.uses, fork, &share.labels)?;
     let left = Vec::from_slice(alloc, &mine)?;
     let right = Vec::from_slice(alloc, &others)?;
     pending.push(Share {
@@ -162,17 +164,17 @@ fn deal_tensor(
 // The labels that go to the first tree of a fork, and the others.
 fn divide(
     alloc: Global,
-    picks: &[Option<Pick>],
+    uses: &Uses,
     fork: Fork,
     labels: &[u32],
 ) -> Result<(Vec<u32>, Vec<u32>), OutOfMemory>
-    ensures first { IfOk result (λ two. two.0.items ≡ filter (goes_to_first picks.now fork) labels.now) }
-    ensures others { IfOk result (λ two. two.1.items ≡ filter (λ n. not (goes_to_first picks.now fork n)) labels.now) }
+    ensures first { IfOk result (λ two. two.0.items ≡ filter (goes_to_first uses.now fork) labels.now) }
+    ensures others { IfOk result (λ two. two.1.items ≡ filter (λ n. not (goes_to_first uses.now fork n)) labels.now) }
 {
     let mut mine = Vec::new(alloc);
     let mut others = Vec::new(alloc);
     for label in labels {
-        if goes_first(picks, fork, *label) {
+        if goes_first(uses, fork, *label) {
             mine.push(*label)?;
         } else {
             others.push(*label)?;
@@ -182,12 +184,12 @@ fn divide(
 }
 
 // Whether a label goes to the first tree of a fork.
-fn goes_first(picks: &[Option<Pick>], fork: Fork, label: u32) -> bool
-    ensures { result ≡ goes_to_first picks.now fork label }
+fn goes_first(uses: &Uses, fork: Fork, label: u32) -> bool
+    ensures { result ≡ goes_to_first uses.now fork label }
 {
     let middle = fork.first.end;
-    let mine = is_used(picks, label, fork.level, fork.from, middle);
-    let later = is_used(picks, label, fork.level, middle, fork.end);
+    let mine = uses.is_used(label, fork.level, fork.from, middle);
+    let later = uses.is_used(label, fork.level, middle, fork.end);
     mine || (!later && fork.first.erases)
 }
 
@@ -251,7 +253,7 @@ fn deal_parts(
                     first,
                     end,
                 };
-                let (mine, others) = divide(alloc, &outline.picks, fork, &labels)?;
+                let (mine, others) = divide(alloc, &outline.uses, fork, &labels)?;
                 let copy = Vec::from_slice(alloc, &mine)?;
                 dealt.push(Part::Bounded(copy))?;
                 shares.push(Share {

@@ -6,6 +6,7 @@ mod answer_tests;
 mod deal;
 mod leaf;
 mod picks;
+mod places;
 mod root;
 mod spans;
 #[cfg(test)]

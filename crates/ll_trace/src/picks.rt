@@ -1,7 +1,6 @@
 //! The labels that clause steps pick, and what is seen of them from above: nothing that lies below a `bang` or in an unbounded premise.
 ghost use Rattle.std.specs.Prelude.{◌≡◌, ◌+◌, ◌++◌, IfOk, OnOk, map, reverse};
-ghost use Rattle.std.specs.List.{list_any};
-ghost use Rattle.ll_trace.specs.Picks.{ArePicks, GivesPick, is_pick as is_picked, is_used_between, level_of_part};
+ghost use Rattle.ll_trace.specs.Picks.{ArePicks, GivesPick, level_of_part};
 
 use ll_bank::OutOfMemory;
 use ll_laws::{Part, Rule};
@@ -27,43 +26,6 @@ pub(crate) fn picks(alloc: Global, rules: &[Rule]) -> Result<Vec<Option<Pick>>, 
         picks.push(pick)?;
     }
     Ok(picks)
-}
-
-/// Whether a node between two places picks a label at a level.
-pub(crate) fn is_used(
-    picks: &[Option<Pick>],
-    label: u32,
-    level: usize,
-    from: usize,
-    to: usize,
-) -> bool
-    ensures { result ≡ is_used_between picks.now label level from to }
-{
-    let end = to.min(picks.len());
-    let start = from.min(end);
-    has_pick(&picks[start..end], label, level)
-}
-
-// Whether one of some nodes picks a label at a level.
-fn has_pick(picks: &[Option<Pick>], label: u32, level: usize) -> bool
-    ensures { result ≡ list_any (is_picked label level) picks.now }
-{
-    for pick in picks {
-        if is_pick(*pick, label, level) {
-            return true;
-        }
-    }
-    false
-}
-
-// Whether a label is picked at a level.
-fn is_pick(pick: Option<Pick>, label: u32, level: usize) -> bool
-    ensures { result ≡ is_picked label level pick }
-{
-    match pick {
-        Some(pick) => label == pick.label && level == pick.level,
-        None => false,
-    }
 }
 
 // What a node of a level picks. The levels of the trees below it are then the next ones that are pending.

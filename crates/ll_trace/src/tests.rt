@@ -189,3 +189,42 @@ fn premises_share_the_labels(rt: HostRuntime) -> Result<(), Fail> {
     assert_dealt(&rt, alloc, &[1, 2], &nodes, &[1, 99, 2, 99])?;
     Ok(())
 }
+
+// The number of tensor nodes whose first side gets one label, and whose second side gets none.
+fn count_single(rules: &[Rule]) -> usize {
+    let mut count: usize = 0;
+    for rule in rules {
+        if let Rule::Tensor(left, right) = rule {
+            if left.len() == 1 && right.is_empty() {
+                count = count.saturating_add(1);
+            }
+        }
+    }
+    count
+}
+
+#[test]
+fn long_trees(rt: HostRuntime) -> Result<(), Fail> {
+    let alloc = rt.alloc();
+    // 20,000 times `c -o (c , ..)`
+    let mut nodes = Vec::new(alloc);
+    for label in 0..20_000 {
+        nodes.push(Node::Lolli(label))?;
+        nodes.push(Node::Tensor)?;
+        nodes.push(Node::Fact(label))?;
+    }
+    nodes.push(Node::One)?;
+    let mut dealt = rules(alloc, &nodes)?;
+    deal(alloc, Vec::new(alloc), &mut dealt)?;
+    assert_eq!(rt; count_single(&dealt), 20_000);
+    // 20,000 `bang`
+    let mut nodes = Vec::new(alloc);
+    for _depth in 0..20_000 {
+        nodes.push(Node::Bang)?;
+    }
+    nodes.push(Node::One)?;
+    let mut dealt = rules(alloc, &nodes)?;
+    deal(alloc, Vec::new(alloc), &mut dealt)?;
+    assert_eq!(rt; dealt.len(), 20_001);
+    Ok(())
+}

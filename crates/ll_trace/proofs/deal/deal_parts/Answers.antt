@@ -1,15 +1,13 @@
-use Rattle.std.proofs.Common.{◌≡◌, ℕ, List, [], ◌∷◌, ◌++◌, ◌+◌, ap, sym, subst, refl, ◌∙◌, drop, map, length, arith, Vec, Global}
-use Rattle.std.specs.Prelude.{Option, filter, not}
+use Rattle.std.proofs.Common.{◌≡◌, ℕ, List, [], ◌∷◌, ◌+◌, ap, subst, refl, ◌∙◌, drop, map, arith, Vec, Global}
+use Rattle.std.specs.Prelude.{filter, not}
 use Rattle.ll_trace.specs.Shares.{goes_to_first}
 use Rattle.std.proofs.lemmas.List.{drop_all}
 use Rattle.ll_laws.specs.declared.Part.{Part}
 use Rattle.ll_laws.specs.declared.Part.TheVariants.{Bounded, Unbounded}
-use Rattle.ll_laws.specs.Line.{PartLine, Labels, Free}
-use Rattle.ll_laws.specs.Shows.{Tree, Parts}
+use Rattle.ll_laws.specs.Line.{PartLine, Labels}
 use Rattle.ll_laws.specs.ShownLines.{part_line}
 use Rattle.ll_trace.specs.declared.deal.Share.{Share}
 use Rattle.ll_trace.specs.declared.deal.Fork.{Fork}
-use Rattle.ll_trace.specs.declared.picks.Pick.{Pick}
 use Rattle.ll_trace.specs.declared.spans.Span.{Span}
 use Rattle.ll_trace.specs.Spans.{span_or_none}
 use Rattle.ll_trace.proofs.Making.{drop_item}
@@ -36,12 +34,12 @@ loop-part-preserved c = λ ts us ps more h f e d.
           (Bounded w.in_ok-copy-in-Bounded.copy) (record { labels = w.in_ok-mine-in-Bounded.mine; level = c.args.level }) fork
           (record { level = refl; from = refl; first = sp; end = refl }) (w.from-is ∙ ap (λ (s : Span). s.end) sp)
           (w.in_ok-mine-in-Bounded.ensures.first
-          ∙ (ap (λ (xs : List (Option Pick)). filter (goes_to_first xs fork) w.deref-in-Bounded-2.result.now) w.deref-in-Bounded.ensures.value ∙ ap (filter (goes_to_first c.args.outline.now.picks.items fork)) w.deref-in-Bounded-2.ensures.value))
+          ∙ ap (filter (goes_to_first c.args.outline.now.uses fork)) w.deref-in-Bounded.ensures.value)
           refl
           (ap (λ (v : Vec ℕ Global). v.items) w.labels-is
           ∙ (w.in_ok-mine-in-Bounded.ensures.others
-          ∙ (ap (λ (xs : List (Option Pick)). filter (λ n. not (goes_to_first xs fork n)) w.deref-in-Bounded-2.result.now) w.deref-in-Bounded.ensures.value ∙ ap (filter (λ n. not (goes_to_first c.args.outline.now.picks.items fork n))) w.deref-in-Bounded-2.ensures.value)))
-          (ap Labels (w.in_ok-copy-in-Bounded.ensures.items ∙ w.deref-in-Bounded-3.ensures.value))
+          ∙ ap (filter (λ n. not (goes_to_first c.args.outline.now.uses fork n))) w.deref-in-Bounded.ensures.value))
+          (ap Labels (w.in_ok-copy-in-Bounded.ensures.items ∙ w.deref-in-Bounded-2.ensures.value))
           (ap (λ (v : Vec Part Global). v.items) w.dealt-is ∙ w.in_ok-push-in-Bounded.ensures.items)
           (ap (λ (v : Vec Share Global). v.items) w.shares-is ∙ w.in_ok-push-in-Bounded-2.ensures.items)
           (subst (λ (p : Part). PartsDealt c.args.outline.now c.loop-part.from c.args.end c.args.level c.args.labels.items ps ts us more (part_line p ∷ ls) c.loop-part.labels.items c.loop-part.dealt.items c.loop-part.shares.items) w.in-Bounded.is z)

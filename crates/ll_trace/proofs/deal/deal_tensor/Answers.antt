@@ -1,9 +1,8 @@
 use Rattle.std.proofs.Common.{◌≡◌, List, ◌+◌, ap, sym, subst, refl, ◌∙◌}
-use Rattle.std.specs.Prelude.{Option, filter, not}
+use Rattle.std.specs.Prelude.{filter, not}
 use Rattle.ll_laws.specs.Line.{Line, TensorLine}
 use Rattle.ll_trace.specs.declared.deal.Fork.{Fork}
 use Rattle.ll_trace.specs.declared.deal.Share.{Share}
-use Rattle.ll_trace.specs.declared.picks.Pick.{Pick}
 use Rattle.ll_trace.specs.declared.spans.Span.{Span}
 use Rattle.ll_trace.specs.Shares.{goes_to_first, IsNodeStep}
 use Rattle.ll_trace.specs.Spans.{span_or_none}
@@ -16,7 +15,7 @@ returns-clause-dealt c = λ s t bank ts vs h f1 f2 d.
     let first : Share = record { labels = c.in_ok-mine.mine; level = c.args.share.level } in
     let second : Share = record { labels = c.in_ok-mine.others; level = c.args.share.level } in
     let lines : TensorLine c.in_ok-mine.mine.items c.in_ok-mine.others.items ≡ TensorLine c.in_ok-left.left.items c.in_ok-right.right.items =
-    ap (λ xs. TensorLine xs c.in_ok-mine.others.items) (sym (c.in_ok-left.ensures.items ∙ c.deref-5.ensures.value)) ∙ ap (TensorLine c.in_ok-left.left.items) (sym (c.in_ok-right.ensures.items ∙ c.deref-6.ensures.value)) in
+    ap (λ xs. TensorLine xs c.in_ok-mine.others.items) (sym (c.in_ok-left.ensures.items ∙ c.deref-4.ensures.value)) ∙ ap (TensorLine c.in_ok-left.left.items) (sym (c.in_ok-right.ensures.items ∙ c.deref-5.ensures.value)) in
     subst (λ (l : Line). IsNodeStep c.args.outline.now (c.args.at + 1) c.args.share c.args.pending.now.items c.push-2.new.self.items l ts vs) lines
     (tensor-step c.args.outline.now c.args.at c.args.share first second fork c.args.pending.now.items c.push.new.self.items c.push-2.new.self.items s t ts vs
     (record {
@@ -26,8 +25,8 @@ returns-clause-dealt c = λ s t bank ts vs h f1 f2 d.
       end = ap (λ (z : Span). z.end) (c.span_at-end.ensures ∙ ap (λ (ss : List Span). span_or_none ss c.args.at) c.deref.ensures.value);
     })
     (c.in_ok-mine.ensures.first
-    ∙ (ap (λ (xs : List (Option Pick)). filter (goes_to_first xs fork) c.deref-4.result.now) c.deref-3.ensures.value ∙ ap (filter (goes_to_first c.args.outline.now.picks.items fork)) c.deref-4.ensures.value))
+    ∙ ap (filter (goes_to_first c.args.outline.now.uses fork)) c.deref-3.ensures.value)
     refl
     (c.in_ok-mine.ensures.others
-    ∙ (ap (λ (xs : List (Option Pick)). filter (λ n. not (goes_to_first xs fork n)) c.deref-4.result.now) c.deref-3.ensures.value ∙ ap (filter (λ n. not (goes_to_first c.args.outline.now.picks.items fork n))) c.deref-4.ensures.value))
+    ∙ ap (filter (λ n. not (goes_to_first c.args.outline.now.uses fork n))) c.deref-3.ensures.value)
     refl c.in_ok-push.ensures.items c.in_ok-push-2.ensures.items h f1 f2 d)

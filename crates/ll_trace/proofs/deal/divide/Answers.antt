@@ -1,5 +1,5 @@
-use Rattle.std.proofs.Common.{◌≡◌, ℕ, ◌++◌, ap, sym, refl, ◌∙◌, Vec, Global, get_or, [], ◌∷◌}
-use Rattle.std.specs.Prelude.{Bool, true, false, cond, filter, not}
+use Rattle.std.proofs.Common.{ℕ, ◌++◌, ap, sym, ◌∙◌, Vec, Global, get_or, [], ◌∷◌}
+use Rattle.std.specs.Prelude.{cond, filter, not}
 use Rattle.ll_trace.specs.Shares.{goes_to_first}
 use Rattle.ll_trace.proofs.Sharing.{keep-step, keep-end}
 use Rattle.ll_trace.proofs.deal.divide.Goals as goal
@@ -7,13 +7,13 @@ use Rattle.ll_trace.proofs.deal.divide.Goals.{then-goes_first+in_ok-push, else-g
 
 pub loop-label-init : goal.loop-label-init
 loop-label-init c = record {
-  mine = ap (λ xs. xs ++ filter (goes_to_first c.args.picks.now c.args.fork) c.args.labels.now) c.new-mine.ensures.items;
-  others = ap (λ xs. xs ++ filter (λ n. not (goes_to_first c.args.picks.now c.args.fork n)) c.args.labels.now) c.new-others.ensures.items;
+  mine = ap (λ xs. xs ++ filter (goes_to_first c.args.uses.now c.args.fork) c.args.labels.now) c.new-mine.ensures.items;
+  others = ap (λ xs. xs ++ filter (λ n. not (goes_to_first c.args.uses.now c.args.fork n)) c.args.labels.now) c.new-others.ensures.items;
 }
 
 pub loop-label-preserved : goal.loop-label-preserved
 loop-label-preserved c =
-    let f = goes_to_first c.args.picks.now c.args.fork in
+    let f = goes_to_first c.args.uses.now c.args.fork in
     record {
       mine = keep-step f c.args.labels.now c.loop-label.label-index c.loop-label.mine.items c.if-goes_first.mine.items c.goes_first.result c.loop-label-test.true (sym c.goes_first.ensures)
           (elim c.if-goes_first.branch [
@@ -30,7 +30,7 @@ loop-label-preserved c =
     }
 
 pub returns-clause-first : goal.returns-clause-first
-returns-clause-first c = keep-end (goes_to_first c.args.picks.now c.args.fork) c.args.labels.now c.loop-label.label-index c.loop-label.mine.items c.loop-label-test.false c.loop-label.invariant.mine
+returns-clause-first c = keep-end (goes_to_first c.args.uses.now c.args.fork) c.args.labels.now c.loop-label.label-index c.loop-label.mine.items c.loop-label-test.false c.loop-label.invariant.mine
 
 pub returns-clause-others : goal.returns-clause-others
-returns-clause-others c = keep-end (λ n. not (goes_to_first c.args.picks.now c.args.fork n)) c.args.labels.now c.loop-label.label-index c.loop-label.others.items c.loop-label-test.false c.loop-label.invariant.others
+returns-clause-others c = keep-end (λ n. not (goes_to_first c.args.uses.now c.args.fork n)) c.args.labels.now c.loop-label.label-index c.loop-label.others.items c.loop-label-test.false c.loop-label.invariant.others

@@ -1,5 +1,5 @@
-use Rattle.std.proofs.Common.{◌≡◌, ℕ, ◌++◌, ap, sym, refl, ◌∙◌, Vec, Global, get_or, [], ◌∷◌}
-use Rattle.std.specs.Prelude.{Bool, true, false, cond, not, nat_eq}
+use Rattle.std.proofs.Common.{ℕ, ◌++◌, ap, sym, refl, ◌∙◌, Vec, Global, get_or, [], ◌∷◌}
+use Rattle.std.specs.Prelude.{cond, not, nat_eq}
 use Rattle.std.proofs.lemmas.Bool.{eq-eqb, ne_eqb}
 use Rattle.ll_laws.specs.Dealing.{without}
 use Rattle.ll_trace.proofs.Sharing.{keep-step, keep-end}

@@ -1,4 +1,4 @@
-use Rattle.std.proofs.Common.{◌≡◌, List, [], ◌∷◌, ◌++◌, ◌+◌, ap, sym, subst, ◌∙◌, drop, map, arith}
+use Rattle.std.proofs.Common.{◌≡◌, List, [], ◌∷◌, ◌++◌, ◌+◌, ap, subst, ◌∙◌, drop, map, arith}
 use Rattle.std.proofs.lemmas.List.{drop_all}
 use Rattle.ll_laws.specs.Line.{Line}
 use Rattle.ll_laws.specs.ShownLines.{line_of}

@@ -1,4 +1,4 @@
-use Rattle.std.proofs.Common.{◌≡◌, ◌++◌, ◌-◌, ap, refl, ◌∙◌, length, drop, map, reverse, arith}
+use Rattle.std.proofs.Common.{◌≡◌, ◌++◌, ap, refl, ◌∙◌, length, drop, map, reverse, arith}
 use Rattle.ll_trace.specs.Picks.{level_of_part}
 use Rattle.ll_trace.proofs.Picking.{push-start, push-step}
 use Rattle.ll_trace.proofs.picks.push_levels.Goals as goal

@@ -1,8 +1,7 @@
-use Rattle.std.proofs.Common.{◌≡◌, List, [], ◌∷◌, ◌+◌, ap, sym, subst, refl, ◌∙◌, drop, map, length, arith}
+use Rattle.std.proofs.Common.{◌≡◌, List, [], ◌∷◌, ◌+◌, ap, sym, subst, ◌∙◌, drop, map, arith}
 use Rattle.std.proofs.lemmas.List.{drop_all}
 use Rattle.ll_laws.specs.declared.Part.{Part}
 use Rattle.ll_laws.specs.Line.{PartLine}
-use Rattle.ll_laws.specs.Shows.{Tree, Parts}
 use Rattle.ll_laws.specs.ShownLines.{part_line}
 use Rattle.ll_trace.specs.declared.spans.Span.{Span}
 use Rattle.std.specs.Prelude.{◌||◌}

@@ -1,4 +1,4 @@
-use Rattle.std.proofs.Common.{◌≡◌, ◌≤◌, ◌<◌, List, ◌∷◌, ◌+◌, ◌-◌, ap, sym, subst, refl, ◌∙◌, length, length-set, drop, map, arith}
+use Rattle.std.proofs.Common.{◌≡◌, ◌<◌, List, ◌∷◌, ◌+◌, ◌-◌, ap, sym, subst, refl, ◌∙◌, length, length-set, drop, map, arith}
 use Rattle.std.proofs.lemmas.List.{length-map, drop-map}
 use Rattle.ll_laws.specs.Line.{Line}
 use Rattle.ll_laws.specs.ShownLines.{line_of}

@@ -1,9 +1,8 @@
 -- A clause node, judged in its order.
-use Rattle.std.proofs.Common.{◌≡◌, ℕ, zero, suc, ◌+◌, ◌-◌, ◌<◌, ◌≤◌, refl, ap, sym, subst, ◌∙◌, arith, Bool, true, false, List, [], ◌∷◌, ◌++◌, map, take, reverse, length, get_or, All, Option, Some, None}
-use Rattle.std.specs.Prelude.{◌&&◌, ◌↔◌, IsTrue, if◌then◌else◌, nat_lt, option_map}
+use Rattle.std.proofs.Common.{◌≡◌, ℕ, zero, suc, ◌+◌, ◌-◌, ◌<◌, ◌≤◌, refl, ap, sym, subst, ◌∙◌, arith, Bool, true, false, List, [], ◌∷◌, ◌++◌, map, take, reverse, length, All, Option, Some, None}
+use Rattle.std.specs.Prelude.{◌&&◌, if◌then◌else◌, nat_lt, option_map}
 use Rattle.std.specs.List.{list_all}
-use Rattle.std.specs.Ordering.{int_eq}
-use Rattle.std.proofs.lemmas.Bool.{and_from, and_parts, ltb-true, lt-ltb, eqb-true, eq-eqb}
+use Rattle.std.proofs.lemmas.Bool.{and_parts, ltb-true, lt-ltb}
 use Rattle.std.proofs.lemmas.List.{take_all}
 use Rattle.std.proofs.lemmas.List.Elements.{All-cons, All-head, All-tail, All-push}
 use Rattle.ll_bank.specs.declared.At.{At}
@@ -11,14 +10,14 @@ use Rattle.ll_bank.specs.declared.FormAt.{FormAt}
 use Rattle.ll_bank.specs.declared.FormNode.{FormNode}
 use Rattle.ll_bank.specs.declared.FormNode.TheVariants.{Top as TopView, One as OneView, Atom as AtomView, With as WithView, Tensor as TensorView, Plus as PlusView, Bang as BangView, Lolli as LolliView, Imp as ImpView, Forall as ForallView, Exists as ExistsView, Use as UseView}
 use Rattle.ll_bank.specs.Term.{Term, Env, is_closed}
-use Rattle.ll_bank.specs.Form.{Form, Top, One, Atom, With, Tensor, Plus, Bang, Lolli, Imp, Forall, Exists, Use, close_form}
+use Rattle.ll_bank.specs.Form.{Form, Atom, With, Lolli, Imp, Forall, close_form}
 use Rattle.ll_bank.specs.Nodes.{Nodes, form_tree, form_of, term_tree, HasForm, IsFormView, Extends}
 use Rattle.ll_bank.proofs.Trees.{Extends-refl}
-use Rattle.ll_laws.specs.Fault.{term_eq, parts_fit, parts_deal, Judged, Wrong, Right, judge_leaf, judge_clause}
+use Rattle.ll_laws.specs.Fault.{term_eq, parts_fit, parts_deal, Wrong, Right, judge_leaf, judge_clause}
 use Rattle.ll_laws.specs.Leaf.{Premise, Needs, NeedsFree, Leaf, add_premise, premise_goal, ways, leaf, leaf_from}
 use Rattle.ll_laws.specs.Line.{PartLine, Line, ClauseLine}
 use Rattle.ll_laws.specs.Module.{Setting, ModuleTree}
-use Rattle.ll_laws.specs.Shows.{Labelled, Missing, Took, pick}
+use Rattle.ll_laws.specs.Shows.{Labelled, pick}
 use Rattle.ll_laws.specs.Valid.{Side, GoalSide, ClauseSide, Scope, free_below, has_heads, loads_fit}
 use Rattle.ll_sequent.specs.declared.sequents.Resource.{Resource}
 use Rattle.ll_sequent.specs.declared.sequents.Sequent.{Sequent}
@@ -28,7 +27,7 @@ use Rattle.ll_sequent.specs.Constants.{AllInForms}
 use Rattle.ll_sequent.specs.Judging.{beside, Holds, IsStep}
 use Rattle.ll_sequent.specs.Opened.{found_in, form_trees, IsDealing}
 use Rattle.ll_sequent.specs.Sequents.{bounded_in, free_in, sequent_in, IsSound, IsHeld, AreHeld}
-use Rattle.ll_sequent.specs.Steps.{Refuses, Asks, blank, premises, made, made_at, made_in, made_of, AreLeft, IsLeft}
+use Rattle.ll_sequent.specs.Steps.{Refuses, Asks, blank, premises, made, made_at, made_of, AreLeft}
 use Rattle.ll_sequent.proofs.Closings.{Puts, sound-close, closed_free, closed_headed}
 use Rattle.ll_sequent.proofs.UnfoldLemmas.{puts_one, puts_nothing}
 use Rattle.ll_sequent.proofs.RuleLemmas.{none_added}

@@ -1,18 +1,18 @@
 -- Dealing clauses out among the premises of a leaf, part by part.
-use Rattle.std.proofs.Common.{◌≡◌, ℕ, zero, suc, ◌+◌, ◌<◌, ◌≤◌, refl, ap, sym, subst, ◌∙◌, arith, Bool, true, false, cond, List, [], ◌∷◌, ◌++◌, length, map, take, drop, drop-cons, get_or, All, append_assoc}
+use Rattle.std.proofs.Common.{◌≡◌, ℕ, suc, ◌+◌, ◌<◌, ◌≤◌, refl, ap, sym, subst, ◌∙◌, arith, Bool, true, false, cond, List, [], ◌∷◌, ◌++◌, length, map, take, drop, drop-cons, get_or, All, append_assoc}
 use Rattle.std.specs.Prelude.{◌&&◌, not, filter}
 use Rattle.std.specs.List.{list_all}
 use Rattle.std.proofs.lemmas.List.{append-nil, map-append, length-map, drop_all}
 use Rattle.std.proofs.Math.ListN.{get_or-map}
-use Rattle.std.proofs.lemmas.List.Elements.{All-nil, All-push, All-head, All-tail, All-cons}
+use Rattle.std.proofs.lemmas.List.Elements.{All-push, All-cons}
 use Rattle.ll_bank.specs.declared.FormAt.{FormAt}
-use Rattle.ll_bank.specs.Form.{Form, Bang}
-use Rattle.ll_bank.specs.Nodes.{Nodes, form_tree, HasForm, ShowsForm, Extends}
+use Rattle.ll_bank.specs.Form.{Bang}
+use Rattle.ll_bank.specs.Nodes.{Nodes, form_tree, ShowsForm, Extends}
 use Rattle.ll_laws.specs.Fault.{is_empty, parts_fit, parts_deal}
 use Rattle.ll_laws.specs.Leaf.{Premise, Needs, NeedsFree, premise_goal}
 use Rattle.ll_laws.specs.Line.{PartLine, Labels, Free}
 use Rattle.ll_laws.specs.Module.{ModuleTree}
-use Rattle.ll_laws.specs.Shows.{Labelled, Parts, NoParts, BoundedPart, UnboundedPart, has, all_in, part, rest}
+use Rattle.ll_laws.specs.Shows.{NoParts, has, part, rest}
 use Rattle.ll_laws.specs.Valid.{GoalSide, ClauseSide}
 use Rattle.ll_sequent.specs.declared.sequents.Resource.{Resource}
 use Rattle.ll_sequent.specs.declared.sequents.Sequent.{Sequent}
@@ -21,7 +21,7 @@ use Rattle.ll_laws.specs.ShownLines.{part_line}
 use Rattle.ll_sequent.specs.declared.leaves.Needed.{Needed}
 use Rattle.ll_sequent.specs.Constants.{AllInForms}
 use Rattle.ll_sequent.specs.Named.{has_resource}
-use Rattle.ll_sequent.specs.Opened.{form_trees, needed_in, needed_at, AreNeeded, IsDealtOut}
+use Rattle.ll_sequent.specs.Opened.{form_trees, needed_in, AreNeeded, IsDealtOut}
 use Rattle.ll_sequent.specs.Sequents.{SequentTree, labelled_in, bounded_in, free_in, sequent_in, IsHeld, AreHeld, IsSequent}
 use Rattle.ll_sequent.specs.Steps.{blank, premises, AreLeft}
 use Rattle.ll_sequent.proofs.RuleLemmas.{part_shown, part_held, all_shown}

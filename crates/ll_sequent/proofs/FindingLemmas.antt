@@ -1,16 +1,15 @@
 -- The clause that a label names, as it is looked for.
-use Rattle.std.proofs.Common.{◌≡◌, ℕ, zero, suc, ◌+◌, ◌<◌, refl, ap, sym, ◌∙◌, subst, Bool, true, false, cond, List, [], ◌∷◌, ◌++◌, map, take, drop, reverse, length, Option, Some, None, All, arith}
+use Rattle.std.proofs.Common.{◌≡◌, ℕ, suc, ◌+◌, ◌<◌, refl, ap, sym, ◌∙◌, subst, Bool, true, false, cond, List, [], ◌∷◌, ◌++◌, take, drop, reverse, length, Option, Some, None, All, arith}
 use Rattle.std.specs.Prelude.{nat_eq, nat_lt, slice_index_or, if◌then◌else◌}
 use Rattle.std.specs.List.{find, position, position_from, position_or_len, remove}
 use Rattle.std.proofs.lemmas.Bool.{ltb-true}
 use Rattle.std.proofs.lemmas.List.{reverse-append, map-append}
 use Rattle.std.proofs.lemmas.List.Elements.{All-head, All-tail, All-append, All-take, All-drop, All-push}
 use Rattle.std.proofs.lemmas.Iterator.Adapters.{position_from-zero}
-use Rattle.ll_bank.specs.declared.FormAt.{FormAt}
 use Rattle.ll_bank.specs.Nodes.{Nodes, form_tree}
 use Rattle.ll_laws.specs.Module.{ModuleTree}
 use Rattle.ll_laws.specs.Valid.{ClauseSide}
-use Rattle.ll_laws.specs.Shows.{Labelled, Found, Missing, Took, behind, take_label, pick_of, pick}
+use Rattle.ll_laws.specs.Shows.{Labelled, Missing, Took, behind, take_label, pick_of, pick}
 use Rattle.ll_sequent.specs.declared.sequents.Resource.{Resource}
 use Rattle.ll_sequent.specs.Sequents.{labelled_in, bounded_in, free_in, IsHeld, AreHeld}
 use Rattle.ll_sequent.specs.Opened.{found_in}

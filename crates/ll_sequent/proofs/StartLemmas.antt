@@ -1,9 +1,9 @@
 -- The sequent of a query.
-use Rattle.std.proofs.Common.{◌≡◌, ℕ, zero, suc, ◌+◌, ◌<◌, ◌≤◌, refl, ap, sym, ◌∙◌, subst, Bool, true, false, cond, List, [], ◌∷◌, ◌++◌, map, take, drop, drop-cons, append_assoc, reverse, length, length-append, get_or, All, arith}
+use Rattle.std.proofs.Common.{◌≡◌, ℕ, suc, ◌+◌, ◌<◌, ◌≤◌, refl, ap, sym, ◌∙◌, subst, Bool, true, false, List, [], ◌∷◌, ◌++◌, map, take, drop, drop-cons, append_assoc, reverse, length, length-append, get_or, All, arith}
 use Rattle.std.specs.Prelude.{if◌then◌else◌}
 use Rattle.std.specs.List.{list_all}
 use Rattle.std.proofs.lemmas.List.{reverse-reverse, take_all, append-nil}
-use Rattle.std.proofs.lemmas.List.Elements.{All-nil, All-cons, All-head, All-tail}
+use Rattle.std.proofs.lemmas.List.Elements.{All-cons, All-head, All-tail}
 use Rattle.ll_bank.specs.declared.BankSize.{BankSize}
 use Rattle.ll_bank.specs.Term.{Term, is_closed}
 use Rattle.ll_bank.specs.Form.{Form, sub_form}
@@ -14,13 +14,12 @@ use Rattle.ll_laws.specs.declared.Kind.{Kind}
 use Rattle.ll_laws.specs.declared.Kind.TheVariants.{Linear, Unbounded}
 use Rattle.ll_laws.specs.Module.{ModuleTree, ClauseTree}
 use Rattle.ll_laws.specs.Shown.{clause_tree, HasClauses}
-use Rattle.ll_laws.specs.Shows.{Labelled}
 use Rattle.ll_laws.specs.Valid.{GoalSide, ClauseSide}
 use Rattle.ll_laws.specs.Verdict.{same_kind, labelled}
 use Rattle.ll_sequent.specs.declared.sequents.Resource.{Resource}
 use Rattle.ll_sequent.specs.declared.sequents.Start.{Start}
-use Rattle.ll_sequent.specs.Sequents.{labelled_in, bounded_in, free_in, IsSound, IsHeld, AreHeld}
-use Rattle.ll_sequent.specs.Starting.{values, of_kind, root_of, AreSound, IsRoot}
+use Rattle.ll_sequent.specs.Sequents.{bounded_in, free_in, IsSound, IsHeld, AreHeld}
+use Rattle.ll_sequent.specs.Starting.{values, of_kind, AreSound, IsRoot}
 use Rattle.ll_sequent.proofs.FindingLemmas.{all_reversed, map_reverse}
 use Rattle.ll_sequent.proofs.ValueLemmas.{sound-values}
 

@@ -1,6 +1,6 @@
 -- Values in place of variables, place by place.
-use Rattle.std.proofs.Common.{◌≡◌, ℕ, zero, suc, ◌+◌, ◌<◌, ◌≤◌, refl, ap, sym, ◌∙◌, subst, List, [], ◌∷◌, ◌++◌, map, take, length, get_or, All, Option, Some, None, inl, inr, arith, length-append}
-use Rattle.std.specs.Prelude.{slice_get, slice_index_or, Result, Ok, Err, OnOk, IfOk}
+use Rattle.std.proofs.Common.{◌≡◌, ℕ, suc, ◌+◌, ◌<◌, ◌≤◌, refl, ap, sym, ◌∙◌, subst, List, [], ◌∷◌, ◌++◌, map, take, length, get_or, All, inl, inr, arith, length-append}
+use Rattle.std.specs.Prelude.{Result, Ok, Err, OnOk}
 use Rattle.std.proofs.lemmas.Bool.{cases_lt}
 use Rattle.std.proofs.lemmas.List.{map-append}
 use Rattle.std.proofs.lemmas.List.Elements.{All-cons}
@@ -9,13 +9,13 @@ use Rattle.std.proofs.Math.Seq.{get_or-append_seam}
 use Rattle.ll_bank.specs.declared.At.{At}
 use Rattle.ll_bank.specs.declared.FormAt.{FormAt}
 use Rattle.ll_bank.specs.declared.Head.{Head}
-use Rattle.ll_bank.specs.Term.{Term, Var, Con, Ap, apply, app, sub}
+use Rattle.ll_bank.specs.Term.{Term, Con, Ap, apply, app, sub}
 use Rattle.ll_bank.specs.Form.{Form, sub_form}
 use Rattle.ll_bank.specs.Nodes.{Nodes, term_tree, term_trees, form_tree, HasTerm, HasForm, AllInTerms, ShowsTerm, ShowsForm, Extends}
 use Rattle.ll_bank.proofs.Trees.{HasTerm-extends, HasForm-extends, term_tree-extends, form_tree-extends, ShowsTerm-extends, ShowsForm-extends, term_trees-extends}
 use Rattle.ll_sequent.specs.Starting.{values}
 use Rattle.ll_sequent.specs.Substituted.{IsTermImage, IsFormImage, AreTermImages, AreFormImages}
-use Rattle.ll_sequent.proofs.PlaceLemmas.{trees_grow, terms_grow, map_more}
+use Rattle.ll_sequent.proofs.PlaceLemmas.{trees_grow, map_more}
 
 sub_apply : (s : ℕ → Term) (f : Term) (us : List Term) → sub s (apply f us) ≡ apply (sub s f) (map (sub s) us)
 sub_apply s f [] = refl

@@ -1,19 +1,19 @@
 -- The way to a leaf, step by step.
-use Rattle.std.proofs.Common.{◌≡◌, ℕ, zero, suc, ◌+◌, ◌-◌, ◌<◌, ◌≤◌, refl, ap, sym, subst, ◌∙◌, arith, Bool, true, false, List, [], ◌∷◌, ◌++◌, length, length-drop, map, drop, drop-cons, inl, inr, reverse, get_or, All, Option, Some, None}
-use Rattle.std.specs.Prelude.{◌&&◌, option_map}
+use Rattle.std.proofs.Common.{◌≡◌, ℕ, zero, suc, ◌+◌, ◌<◌, ◌≤◌, refl, ap, sym, subst, ◌∙◌, arith, true, false, List, [], ◌∷◌, ◌++◌, length, length-drop, map, drop, drop-cons, inl, inr, reverse, get_or, Some, None}
+use Rattle.std.specs.Prelude.{option_map}
 use Rattle.std.specs.List.{list_all}
 use Rattle.std.proofs.lemmas.Bool.{and_parts, cases_lt}
-use Rattle.std.proofs.lemmas.List.{append-nil, map-append, length-map, drop_all, reverse-append}
-use Rattle.std.proofs.lemmas.List.Elements.{All-nil, All-push, All-head, All-tail, All-cons}
+use Rattle.std.proofs.lemmas.List.{map-append, length-map, drop_all, reverse-append}
+use Rattle.std.proofs.lemmas.List.Elements.{All-push, All-head, All-tail}
 use Rattle.ll_bank.specs.declared.At.{At}
 use Rattle.ll_bank.specs.declared.FormAt.{FormAt}
 use Rattle.ll_bank.specs.declared.FormNode.{FormNode}
-use Rattle.ll_bank.specs.declared.FormNode.TheVariants.{Top as TopView, One as OneView, Atom as AtomView, With as WithView, Tensor as TensorView, Plus as PlusView, Bang as BangView, Lolli as LolliView, Imp as ImpView, Forall as ForallView, Exists as ExistsView, Use as UseView}
+use Rattle.ll_bank.specs.declared.FormNode.TheVariants.{Atom as AtomView, With as WithView, Lolli as LolliView, Imp as ImpView, Forall as ForallView}
 use Rattle.ll_bank.specs.Term.{Term, is_closed}
-use Rattle.ll_bank.specs.Form.{Form, Atom, With, Lolli, Imp, Forall, instantiate, form_applies_heads}
+use Rattle.ll_bank.specs.Form.{Form, Atom, Forall, instantiate}
 use Rattle.ll_bank.specs.Nodes.{Nodes, form_tree, form_of, term_tree, term_trees, HasForm, HasTerm, AllInTerms, ShowsForm, IsFormView, Extends}
 use Rattle.ll_bank.proofs.Trees.{HasForm-extends, form_tree-extends, term_tree-extends, Extends-refl, Extends-trans}
-use Rattle.ll_laws.specs.Leaf.{Leaf, Premise, Needs, NeedsFree, add_premise, ways, leaf}
+use Rattle.ll_laws.specs.Leaf.{Leaf, Needs, NeedsFree, add_premise, ways, leaf}
 use Rattle.ll_laws.specs.Valid.{GoalSide, ClauseSide, has_heads}
 use Rattle.ll_sequent.specs.declared.leaves.Needed.{Needed}
 use Rattle.ll_sequent.specs.declared.leaves.Needed.TheVariants.{Bounded, Unbounded}
@@ -21,8 +21,8 @@ use Rattle.ll_sequent.specs.declared.leaves.Opened.{Opened}
 use Rattle.ll_sequent.specs.declared.leaves.Side.{Side}
 use Rattle.ll_sequent.specs.Opened.{needed_in, needed_at, AreNeeded, ShowsLeaf, IsSide}
 use Rattle.ll_sequent.proofs.FindingLemmas.{all_reversed}
-use Rattle.ll_sequent.proofs.Closings.{form_heads, puts_term, heads-instantiate}
-use Rattle.ll_sequent.proofs.LeafLemmas.{put_behind, behind_none, behind_one, leaf_open, leaf_atom, leaf_lolli, leaf_imp, leaf_left, leaf_right, leaf_no, leaf_past_atom, leaf_more_terms, size_close}
+use Rattle.ll_sequent.proofs.Closings.{form_heads, puts_term}
+use Rattle.ll_sequent.proofs.LeafLemmas.{put_behind, behind_none, behind_one, leaf_open, leaf_atom, leaf_lolli, leaf_imp, leaf_left, leaf_right, leaf_no, leaf_past_atom, leaf_more_terms}
 
 -- ---- premises in a bank that grows
 

@@ -1,5 +1,5 @@
 -- A clause that a label names, its leaf that is open, and what becomes of the leaf's premises.
-use Rattle.std.specs.Prelude.{◌≡◌, ℕ, ◌+◌, ◌-◌, ◌<◌, ◌≤◌, true, false, List, [], map, take, length, sum_by, All, Option, Some, None}
+use Rattle.std.specs.Prelude.{◌≡◌, ℕ, ◌+◌, ◌-◌, ◌<◌, ◌≤◌, true, false, List, map, take, length, sum_by, All, Option, Some, None}
 use Rattle.ll_bank.specs.declared.FormAt.{FormAt}
 use Rattle.ll_bank.specs.Form.{Form}
 use Rattle.ll_bank.specs.Nodes.{Nodes, form_tree, term_tree, HasForm, HasTerm}
@@ -18,7 +18,7 @@ use Rattle.ll_sequent.specs.declared.sequents.Resource.{Resource}
 use Rattle.ll_sequent.specs.declared.sequents.Sequent.{Sequent}
 use Rattle.ll_sequent.specs.declared.sequents.Step.{Step}
 use Rattle.ll_sequent.specs.declared.sequents.Step.TheVariants.{Refused, Leaves}
-use Rattle.ll_sequent.specs.Sequents.{bounded_in, free_in, sequent_in, IsHeld, AreHeld, IsSequent}
+use Rattle.ll_sequent.specs.Sequents.{bounded_in, free_in, sequent_in, IsHeld, AreHeld}
 use Rattle.ll_sequent.specs.Steps.{blank, premises, AreLeft}
 
 -- a clause that was found, with the bounded ones that are left

@@ -40,8 +40,5 @@ fn place_of(label: u32, bounded: &[Resource]) -> Option<usize>
 fn newest(label: u32, free: &[Resource]) -> Option<Resource>
     ensures { result ≡ find (λ (r : Resource). nat_eq label r.label) (reverse free.now) }
 {
-    free.iter()
-        .rev()
-        .copied()
-        .find(|each| label == each.label)
+    free.iter().rev().copied().find(|each| label == each.label)
 }

@@ -1,5 +1,5 @@
 //! Sets of labels, and the clauses that they name.
-ghost use Rattle.std.specs.Prelude.{◌≡◌, ◌||◌, not, IfOk, filter};
+ghost use Rattle.std.specs.Prelude.{◌≡◌, ◌||◌, not, true, IfOk, filter};
 ghost use Rattle.std.specs.List.{list_all};
 ghost use Rattle.ll_laws.specs.Shows.{has, one_of};
 ghost use Rattle.ll_sequent.specs.Named.{has_resource, deals};
@@ -16,6 +16,17 @@ pub(crate) fn is_among(label: u32, set: &[u32]) -> bool
     set.iter().any(|each| label == *each)
 }
 
+/// Whether the label is one of the set. It is looked for at a place first, which then goes on to the next.
+fn is_among_from(label: u32, set: &[u32], next: &mut usize) -> bool
+    ensures { result ≡ has set.now label }
+{
+    if *next < set.len() && label == set[*next] {
+        *next += 1;
+        return true;
+    }
+    is_among(label, set)
+}
+
 /// Whether one of the clauses has the label.
 fn is_label_of(label: u32, resources: &[Resource]) -> bool
     ensures { result ≡ has_resource resources.now label }
@@ -27,27 +38,45 @@ fn is_label_of(label: u32, resources: &[Resource]) -> bool
 pub(crate) fn are_labels_of(set: &[u32], resources: &[Resource]) -> bool
     ensures { result ≡ list_all (has_resource resources.now) set.now }
 {
+    if are_in_order(set, resources) {
+        return true;
+    }
     set.iter().all(|each| is_label_of(*each, resources))
 }
 
-/// Whether the label is in exactly one of the two sets.
-fn is_in_one(label: u32, left: &[u32], right: &[u32]) -> bool
-    ensures { result ≡ one_of (has left.now label) (has right.now label) }
+/// Whether the labels of the set are those of some of the clauses in the same order.
+fn are_in_order(set: &[u32], resources: &[Resource]) -> bool
+    ensures { result ≡ true → list_all (has_resource resources.now) set.now ≡ true }
 {
-    if is_among(label, left) {
-        !is_among(label, right)
-    } else {
-        is_among(label, right)
+    let mut met = 0;
+    for each in resources {
+        if met < set.len() && set[met] == each.label {
+            met += 1;
+        }
     }
+    met == set.len()
+}
+
+/// Whether exactly one of the two holds.
+fn is_one_of(left: bool, right: bool) -> bool
+    ensures { result ≡ one_of left right }
+{
+    if left { !right } else { right }
 }
 
 /// Whether the label of each clause is in exactly one of the two sets.
 fn are_in_one(left: &[u32], right: &[u32], resources: &[Resource]) -> bool
     ensures { result ≡ list_all (λ (r : Resource). one_of (has left.now r.label) (has right.now r.label)) resources.now }
 {
-    resources
-        .iter()
-        .all(|each| is_in_one(each.label, left, right))
+    let mut in_left = 0;
+    let mut in_right = 0;
+    let mut all = true;
+    for each in resources {
+        let left = is_among_from(each.label, left, &mut in_left);
+        let right = is_among_from(each.label, right, &mut in_right);
+        all = all && is_one_of(left, right);
+    }
+    all
 }
 
 /// Whether the two sets hold the label of each clause exactly once, and no other.
@@ -79,8 +108,9 @@ pub(crate) fn part_of(
     ensures { IfOk result (λ found. found.items ≡ filter (λ (r : Resource). has set.now r.label) resources.now) }
 {
     let mut found = Vec::new(alloc);
+    let mut next = 0;
     for each in resources {
-        if is_among(each.label, set) {
+        if is_among_from(each.label, set, &mut next) {
             found.push(*each)?;
         }
     }
@@ -96,8 +126,9 @@ pub(crate) fn rest_of(
     ensures { IfOk result (λ found. found.items ≡ filter (λ (r : Resource). not (has set.now r.label)) resources.now) }
 {
     let mut found = Vec::new(alloc);
+    let mut next = 0;
     for each in resources {
-        if !is_among(each.label, set) {
+        if !is_among_from(each.label, set, &mut next) {
             found.push(*each)?;
         }
     }

@@ -1,11 +1,8 @@
-use Rattle.std.proofs.Common.{◌≡◌, ◌<◌, refl, ap, sym, subst, ◌∙◌, arith, true, false, length, get_or, ◌∷◌, []}
+use Rattle.std.proofs.Common.{◌<◌, refl, ap, sym, ◌∙◌, arith, true, false, length, get_or, []}
 use Rattle.std.proofs.lemmas.List.{length-map}
 use Rattle.ll_bank.specs.declared.At.{At}
-use Rattle.ll_bank.specs.Term.{Term, is_closed}
-use Rattle.ll_bank.specs.Form.{close_form}
 use Rattle.ll_bank.specs.Nodes.{form_tree, term_tree, term_trees}
 use Rattle.ll_bank.specs.Opened.{form_size}
-use Rattle.ll_bank.proofs.Trees.{term_tree-extends}
 use Rattle.ll_laws.specs.Valid.{ClauseSide, has_heads}
 use Rattle.ll_sequent.proofs.Closings.{heads-instantiate}
 use Rattle.ll_sequent.proofs.LeafLemmas.{size_close}

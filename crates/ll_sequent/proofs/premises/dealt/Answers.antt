@@ -1,4 +1,4 @@
-use Rattle.std.proofs.Common.{◌≡◌, ◌∷◌, ◌+◌, ◌∙◌, ◌<◌, ◌≤◌, refl, ap, sym, subst, List, [], map, drop, length, get_or, vec_len, arith}
+use Rattle.std.proofs.Common.{◌∷◌, ◌+◌, ◌∙◌, ◌<◌, refl, ap, sym, subst, List, map, drop, length, get_or, vec_len, arith}
 use Rattle.std.proofs.lemmas.List.{length-map}
 use Rattle.std.proofs.lemmas.Bool.{eqb-true, eqb-false}
 use Rattle.std.specs.Prelude.{filter, not}
@@ -28,9 +28,11 @@ returns-then-is_empty c = λ bank gs t f.
 
 pub returns : goal.returns
 returns c = λ bank gs t f.
-    let l = length-map c.args.parts.now part_line in
-    (refl, deal_left (map part_line c.args.parts.now) c.args.goals.now c.args.free c.args.bounded.items c.loop-i.i c.loop-i.left.items c.loop-i.sequents.items c.loop-i.invariant bank gs t f (omega arith)
-    (let z = eqb-false (vec_len c.loop-i.left) 0 (sym c.is_empty.ensures ∙ c.if-is_empty.false) in omega arith))
+    let l = length-map c.args.parts.now part_line in (
+      refl,
+      deal_left (map part_line c.args.parts.now) c.args.goals.now c.args.free c.args.bounded.items c.loop-i.i c.loop-i.left.items c.loop-i.sequents.items c.loop-i.invariant bank gs t f (omega arith)
+          (let z = eqb-false (vec_len c.loop-i.left) 0 (sym c.is_empty.ensures ∙ c.if-is_empty.false) in omega arith),
+    )
 
 pub loop-i-preserved : goal.loop-i-preserved
 loop-i-preserved c =
@@ -41,9 +43,9 @@ loop-i-preserved c =
       | in-Bounded+else-not-are_labels_of+in_ok-part-in-Bounded+in_ok-left-in-Bounded w ↦
           let named = (λ j. list_all (has_resource (sym w.deref-in-Bounded.ensures.value j)) (sym w.deref.ensures.value j)) ∙ (sym w.are_labels_of.ensures ∙ w.if-not-are_labels_of.false) in
           let given = ap (λ v. v.items) w.bounded-is
-              ∙ (w.in_ok-part-in-Bounded.ensures ∙ (λ j. filter (λ (r : Resource). has (w.deref-in-Bounded-2.ensures.value j) r.label) (w.deref-in-Bounded-3.ensures.value j))) in
+          ∙ (w.in_ok-part-in-Bounded.ensures ∙ (λ j. filter (λ (r : Resource). has (w.deref-in-Bounded-2.ensures.value j) r.label) (w.deref-in-Bounded-3.ensures.value j))) in
           let rest_is = ap (λ v. v.items) w.left-is
-              ∙ (w.in_ok-left-in-Bounded.ensures ∙ (λ j. filter (λ (r : Resource). not (has (w.deref-in-Bounded-4.ensures.value j) r.label)) (w.deref-in-Bounded-5.ensures.value j))) in
+          ∙ (w.in_ok-left-in-Bounded.ensures ∙ (λ j. filter (λ (r : Resource). not (has (w.deref-in-Bounded-4.ensures.value j) r.label)) (w.deref-in-Bounded-5.ensures.value j))) in
           deal_bounded (map part_line c.args.parts.now) c.args.goals.now c.args.free c.args.bounded.items c.loop-i.i c.loop-i.left.items c.loop-i.sequents.items c.push.new.self.items (record { 0 = 0 }) q low c.loop-i.invariant
           c.in_ok-push.ensures.items refl refl (part_line c.index-parts-i.result) now w.in-Bounded.labels.items (ap part_line w.in-Bounded.is) named given c.match-parts-i.left.items rest_is
       | in-Unbounded w ↦

@@ -1,4 +1,4 @@
-use Rattle.std.proofs.Common.{◌≡◌, length, sym, ◌∙◌, arith}
+use Rattle.std.proofs.Common.{arith}
 use Rattle.ll_sequent.specs.declared.leaves.Needed.TheVariants.{Bounded}
 use Rattle.ll_sequent.proofs.DealLemmas.{other_number, other_kind, same_kinds, all_fit}
 use Rattle.ll_sequent.proofs.premises.fit.Goals as goal

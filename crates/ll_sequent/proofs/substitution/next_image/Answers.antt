@@ -1,8 +1,8 @@
-use Rattle.std.proofs.Common.{◌≡◌, ◌<◌, ◌∙◌, ap, sym, subst, length}
+use Rattle.std.proofs.Common.{◌<◌, ◌∙◌, subst, length}
 use Rattle.std.specs.Prelude.{IfOk}
 use Rattle.ll_bank.specs.declared.At.{At}
-use Rattle.ll_bank.specs.Term.{Term, app}
-use Rattle.ll_bank.specs.Nodes.{term_trees, AllInTerms, ShowsTerm}
+use Rattle.ll_bank.specs.Term.{Term}
+use Rattle.ll_bank.specs.Nodes.{term_trees, ShowsTerm}
 use Rattle.ll_bank.proofs.Trees.{Extends-refl}
 use Rattle.ll_sequent.proofs.Substitutions.{all_of, args_low, images_inside, app_shows}
 use Rattle.ll_sequent.proofs.substitution.next_image.Goals as goal

@@ -24,6 +24,8 @@ mod rules;
 mod sequents;
 mod start;
 mod substitution;
+#[cfg(test)]
+mod tests;
 
 use crate::judge::judge;
 use crate::start::started;

@@ -5,13 +5,17 @@ ghost use Rattle.std.specs.Prelude.{◌≡◌, ◌++◌, OnOk};
 ghost use Rattle.ll_laws.specs.ProofText.{proof_text};
 ghost use Rattle.ll_printer.specs.Pieces.{BeginsText};
 
+mod bytes;
 mod fields;
 mod lines;
 mod numbers;
 mod reader;
+mod rows;
+mod sets;
 mod terms;
 #[cfg(test)]
 mod tests;
+mod words;
 
 use crate::lines::{write_asked, write_nodes, write_version};
 pub use crate::reader::read;

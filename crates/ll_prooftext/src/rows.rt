@@ -1,0 +1,306 @@
+//! What a line of a derivation's text says, read field by field.
+use crate::bytes::{behind, split_before};
+use crate::numbers::number_of;
+use crate::sets::{is_at_end, set_at};
+use crate::terms::argument_at;
+use ll_bank::{At, Bank, Names, OutOfMemory};
+use ll_laws::{Part, Rule};
+use std::alloc::{AllocError, AllocFailed, Global};
+
+/// What a line behind the first one says.
+#[derive(Drop)]
+pub(crate) enum Row {
+    Let(At),
+    Node(Rule),
+}
+
+/// Why a line could not be read.
+#[derive(Clone, Copy)]
+pub(crate) enum Refusal {
+    /// Its first word is none.
+    Word,
+    /// A field is wrong or lacks behind the good ones, where so many bytes are left.
+    Field(usize),
+    OutOfMemory,
+}
+
+impl From<AllocError> for Refusal {
+    ghost use Rattle.std.specs.Prelude.{◌≡◌};
+    ghost use Rattle.ll_prooftext.specs.declared.rows.Refusal.TheVariants.{OutOfMemory};
+
+    ghost from_gives = { λ _ e. e ≡ OutOfMemory };
+
+    fn from(_error: AllocError) -> Self {
+        Refusal::OutOfMemory
+    }
+}
+
+impl<T: Drop> From<AllocFailed<T>> for Refusal {
+    ghost use Rattle.std.specs.Prelude.{◌≡◌};
+    ghost use Rattle.ll_prooftext.specs.declared.rows.Refusal.TheVariants.{OutOfMemory};
+
+    ghost from_gives = { λ _ e. e ≡ OutOfMemory };
+
+    fn from(_error: AllocFailed<T>) -> Self {
+        Refusal::OutOfMemory
+    }
+}
+
+/// The first words of lines.
+#[derive(Clone, Copy)]
+enum RowWord {
+    Let,
+    True,
+    Erase,
+    Tensor,
+    With,
+    Left,
+    Right,
+    Bang,
+    Lolli,
+    Imp,
+    Forall,
+    Exists,
+    Use,
+    Clause,
+}
+
+/// What a line says. A line `let` is one where it may stand.
+pub(crate) fn read_row(
+    alloc: Global,
+    line: &[u8],
+    lets: bool,
+    names: &mut Names,
+    bank: &mut Bank,
+) -> Result<Row, Refusal> {
+    let (first, rest) = split_before(line, b' ');
+    match row_word(first, lets) {
+        Some(RowWord::Let) => Ok(Row::Let(last_term(alloc, rest, names, bank)?)),
+        Some(word) => Ok(Row::Node(node(alloc, word, rest, names, bank)?)),
+        None => Err(Refusal::Word),
+    }
+}
+
+/// The first word that is spelled so. `let` is one where it may stand.
+fn row_word(word: &[u8], lets: bool) -> Option<RowWord> {
+    if word == b"let".as_slice() {
+        return if lets { Some(RowWord::Let) } else { None };
+    }
+    node_word(word)
+}
+
+/// The first word of a node's line that is spelled so.
+fn node_word(word: &[u8]) -> Option<RowWord> {
+    if word == b"true".as_slice() {
+        Some(RowWord::True)
+    } else if word == b"erase".as_slice() {
+        Some(RowWord::Erase)
+    } else if word == b"tensor".as_slice() {
+        Some(RowWord::Tensor)
+    } else if word == b"with".as_slice() {
+        Some(RowWord::With)
+    } else if word == b"left".as_slice() {
+        Some(RowWord::Left)
+    } else if word == b"right".as_slice() {
+        Some(RowWord::Right)
+    } else if word == b"bang".as_slice() {
+        Some(RowWord::Bang)
+    } else if word == b"lolli".as_slice() {
+        Some(RowWord::Lolli)
+    } else if word == b"imp".as_slice() {
+        Some(RowWord::Imp)
+    } else if word == b"forall".as_slice() {
+        Some(RowWord::Forall)
+    } else if word == b"exists".as_slice() {
+        Some(RowWord::Exists)
+    } else if word == b"use".as_slice() {
+        Some(RowWord::Use)
+    } else if word == b"clause".as_slice() {
+        Some(RowWord::Clause)
+    } else {
+        None
+    }
+}
+
+/// The node of a first word and the fields behind it.
+fn node(
+    alloc: Global,
+    word: RowWord,
+    rest: &[u8],
+    names: &mut Names,
+    bank: &mut Bank,
+) -> Result<Rule, Refusal> {
+    match word {
+        RowWord::Tensor => tensor(alloc, rest),
+        RowWord::Lolli => Ok(Rule::Lolli(last_number(rest)?)),
+        RowWord::Imp => Ok(Rule::Imp(last_number(rest)?)),
+        RowWord::Forall => Ok(Rule::Forall(last_number(rest)?)),
+        RowWord::Exists => Ok(Rule::Exists(last_term(alloc, rest, names, bank)?)),
+        RowWord::Clause => clause(alloc, rest, names, bank),
+        _ => {
+            no_more(rest)?;
+            Ok(plain(word))
+        }
+    }
+}
+
+/// The node of a first word behind which nothing stands.
+fn plain(word: RowWord) -> Rule {
+    match word {
+        RowWord::True => Rule::One,
+        RowWord::Erase => Rule::Erase,
+        RowWord::With => Rule::With,
+        RowWord::Left => Rule::Left,
+        RowWord::Right => Rule::Right,
+        RowWord::Bang => Rule::Bang,
+        _ => Rule::Use,
+    }
+}
+
+/// Two sets.
+fn tensor(alloc: Global, rest: &[u8]) -> Result<Rule, Refusal> {
+    let (first, rest) = set_field(alloc, rest)?;
+    let (second, rest) = set_field(alloc, rest)?;
+    no_more(rest)?;
+    Ok(Rule::Tensor(first, second))
+}
+
+/// The fields of a clause step.
+fn clause(
+    alloc: Global,
+    rest: &[u8],
+    names: &mut Names,
+    bank: &mut Bank,
+) -> Result<Rule, Refusal> {
+    let (label, rest) = number_field(rest)?;
+    let (leaf, rest) = number_field(rest)?;
+    let (terms, rest) = term_fields(alloc, rest, names, bank)?;
+    let parts = part_fields(alloc, rest)?;
+    Ok(Rule::Clause {
+        label,
+        leaf,
+        terms,
+        parts,
+    })
+}
+
+/// The terms up to the first premise.
+fn term_fields<'a>(
+    alloc: Global,
+    bytes: &'a [u8],
+    names: &mut Names,
+    bank: &mut Bank,
+) -> Result<(Vec<At>, &'a [u8]), Refusal> {
+    let mut terms = Vec::new(alloc);
+    let mut rest = bytes;
+    while !rest.is_empty() && !begins_part(rest) {
+        let (at, next) = term_field(alloc, rest, names, bank)?;
+        terms.push(at)?;
+        rest = next;
+    }
+    Ok((terms, rest))
+}
+
+/// Whether the next field begins as a premise does.
+fn begins_part(bytes: &[u8]) -> bool {
+    match behind(bytes, b' ') {
+        Some(field) => behind(field, b'{').is_some() || behind(field, b'!').is_some(),
+        None => false,
+    }
+}
+
+/// The premises up to the end of the line.
+fn part_fields(alloc: Global, bytes: &[u8]) -> Result<Vec<Part>, Refusal> {
+    let mut parts = Vec::new(alloc);
+    let mut rest = bytes;
+    while !rest.is_empty() {
+        let (part, next) = part_field(alloc, rest)?;
+        parts.push(part)?;
+        rest = next;
+    }
+    Ok(parts)
+}
+
+/// A premise, and what stands behind it.
+fn part_field(alloc: Global, bytes: &[u8]) -> Result<(Part, &[u8]), Refusal> {
+    let Some(field) = behind(bytes, b' ') else {
+        return Err(Refusal::Field(bytes.len()));
+    };
+    if let Some(rest) = behind(field, b'!') {
+        if is_at_end(rest) {
+            return Ok((Part::Unbounded, rest));
+        }
+        return Err(Refusal::Field(bytes.len()));
+    }
+    match set_at(alloc, field)? {
+        Some((labels, rest)) => Ok((Part::Bounded(labels), rest)),
+        None => Err(Refusal::Field(bytes.len())),
+    }
+}
+
+/// A set behind a space, and what stands behind it.
+fn set_field(alloc: Global, bytes: &[u8]) -> Result<(Vec<u32>, &[u8]), Refusal> {
+    let Some(field) = behind(bytes, b' ') else {
+        return Err(Refusal::Field(bytes.len()));
+    };
+    match set_at(alloc, field)? {
+        Some(found) => Ok(found),
+        None => Err(Refusal::Field(bytes.len())),
+    }
+}
+
+/// A term behind a space, and what stands behind it.
+fn term_field<'a>(
+    alloc: Global,
+    bytes: &'a [u8],
+    names: &mut Names,
+    bank: &mut Bank,
+) -> Result<(At, &'a [u8]), Refusal> {
+    let Some(field) = behind(bytes, b' ') else {
+        return Err(Refusal::Field(bytes.len()));
+    };
+    match argument_at(alloc, field, names, bank)? {
+        Some((at, rest)) if is_at_end(rest) => Ok((at, rest)),
+        _ => Err(Refusal::Field(bytes.len())),
+    }
+}
+
+/// A number behind a space, and what stands behind it.
+fn number_field(bytes: &[u8]) -> Result<(u32, &[u8]), Refusal> {
+    let Some(field) = behind(bytes, b' ') else {
+        return Err(Refusal::Field(bytes.len()));
+    };
+    let (word, rest) = split_before(field, b' ');
+    match number_of(word) {
+        Some(number) => Ok((number, rest)),
+        None => Err(Refusal::Field(bytes.len())),
+    }
+}
+
+/// The term of a line's last field.
+fn last_term(
+    alloc: Global,
+    bytes: &[u8],
+    names: &mut Names,
+    bank: &mut Bank,
+) -> Result<At, Refusal> {
+    let (at, rest) = term_field(alloc, bytes, names, bank)?;
+    no_more(rest)?;
+    Ok(at)
+}
+
+/// The number of a line's last field.
+fn last_number(bytes: &[u8]) -> Result<u32, Refusal> {
+    let (number, rest) = number_field(bytes)?;
+    no_more(rest)?;
+    Ok(number)
+}
+
+/// Refuses a further field.
+fn no_more(bytes: &[u8]) -> Result<(), Refusal> {
+    if bytes.is_empty() {
+        Ok(())
+    } else {
+        Err(Refusal::Field(bytes.len()))
+    }
+}

@@ -23,7 +23,7 @@ pub integer_utf8 : (bytes : List ℕ) → IsInteger bytes → IsUtf8 bytes
 integer_utf8 bytes h = IsUtf8-from_ascii bytes (subst IsAscii (sym h.is) (IsAscii-signed_decimal h.value h.fits))
 
 -- 64 bits hold the size of a whole number
-mag_small : (z : ℤ) → FitsSigned w64 z → mag z < 2 ^ 63
+pub mag_small : (z : ℤ) → FitsSigned w64 z → mag z < 2 ^ 63
 mag_small (pos n) f = search rules
 mag_small (negsuc n) f = search rules
 

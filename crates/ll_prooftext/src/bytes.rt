@@ -1,6 +1,6 @@
 //! Pieces of bytes.
-ghost use Rattle.std.specs.Prelude.{◌≡◌, ◌∷◌, ◌++◌, true, MatchOption};
-ghost use Rattle.std.specs.List.{list_all};
+ghost use Rattle.std.specs.Prelude.{◌≡◌, ◌≤◌, ◌∷◌, ◌++◌, true, length, MatchOption};
+ghost use Rattle.std.specs.List.{list_all, prefix_len};
 ghost use Rattle.ll_prooftext.specs.Words.{is_not, Stops, BeginsNot};
 
 /// What stands behind this byte, if the bytes begin with it.
@@ -19,6 +19,13 @@ pub(crate) fn split_before(bytes: &[u8], byte: u8) -> (&[u8], &[u8])
     ensures free { list_all (is_not byte) result.0.now ≡ true }
     ensures stops { Stops (is_not byte) result.1.now }
 {
-    let len = bytes.iter().take_while(|b| **b != byte).count();
-    bytes.split_at(len)
+    bytes.split_at(len_before(bytes, byte))
+}
+
+/// How many bytes stand in front of the first one that is this byte.
+fn len_before(bytes: &[u8], byte: u8) -> usize
+    ensures run { result ≡ prefix_len (is_not byte) bytes.now }
+    ensures within { result ≤ length bytes.now }
+{
+    bytes.iter().take_while(|b| **b != byte).count()
 }

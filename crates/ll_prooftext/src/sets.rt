@@ -1,8 +1,5 @@
 //! Sets of labels, read.
-ghost use Rattle.std.specs.Prelude.{◌≡◌, ◌++◌, ◌×◌, true, IsTrue, IfOk, MatchOption};
-ghost use Rattle.ll_laws.specs.Line.{rises};
-ghost use Rattle.ll_laws.specs.ProofText.{set_text};
-ghost use Rattle.ll_prooftext.specs.Admitted.{AreLabels};
+ghost use Rattle.std.specs.Prelude.{◌↔◌, ℕ, List, IsTrue, IfOk, MatchOption};
 ghost use Rattle.ll_prooftext.specs.Reading.{Set, IsAtEnd};
 ghost use Rattle.ll_prooftext.specs.Words.{HasNone, IsLabelsText, IsSetAt};
 
@@ -35,8 +32,13 @@ pub(crate) fn set_at(
 }
 
 /// Whether a field ends here: at the end of the line or at a space.
-pub(crate) fn is_at_end(rest: &[u8]) -> bool {
-    rest.is_empty() || rest[0] == b' '
+pub(crate) fn is_at_end(rest: &[u8]) -> bool
+    ensures { IsTrue result ↔ IsAtEnd rest.now }
+{
+    let Some((first, _)) = rest.split_first() else {
+        return true;
+    };
+    *first == b' '
 }
 
 /// The labels that are spelled so: in rising order, a space between two.

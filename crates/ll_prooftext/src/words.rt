@@ -1,4 +1,13 @@
 //! The words of terms, read: variables, whole numbers, eigenconstants and names.
+ghost use Rattle.std.specs.Prelude.{◌≡◌, ◌↔◌, ◌+◌, ◌<◌, ◌≤◌, ◌^◌, ◌++◌, length, true, IsTrue, IfOk, IfSome, MatchOption};
+ghost use Rattle.std.specs.List.{list_all, list_any, prefix_len};
+ghost use Rattle.std.specs.Str.{bytes_eq};
+ghost use Rattle.ll_lexer.specs.declared.TokenKind.TheVariants.{Name};
+ghost use Rattle.ll_lexer.specs.Spelling.{is_name, is_lower, is_word_byte, Spells};
+ghost use Rattle.ll_prooftext.specs.Admitted.{IsPlainName};
+ghost use Rattle.ll_prooftext.specs.Words.{Stops};
+ghost use Rattle.ll_prooftext.specs.Terms.{is_part, Grows, Moves, Shape, IsWord, IsWordOf, HasNoWord, IsWordAt, small_keywords};
+
 use crate::bytes::behind;
 use crate::numbers::{integer_of, number_of, wide_number_of};
 use ll_bank::{At, Bank, Head, Names, OutOfMemory};
@@ -15,13 +24,26 @@ pub(crate) enum Word {
 }
 
 /// The bytes up to a space, a bracket, a `:` or the end, and those from there on.
-fn split_word(bytes: &[u8]) -> (&[u8], &[u8]) {
-    let len = bytes.iter().take_while(|b| is_part(**b)).count();
-    bytes.split_at(len)
+fn split_word(bytes: &[u8]) -> (&[u8], &[u8])
+    ensures is { bytes.now ≡ result.0.now ++ result.1.now }
+    ensures free { list_all is_part result.0.now ≡ true }
+    ensures stops { Stops is_part result.1.now }
+{
+    bytes.split_at(word_len(bytes))
+}
+
+/// How many bytes stand in front of a space, a bracket, a `:` or the end.
+fn word_len(bytes: &[u8]) -> usize
+    ensures run { result ≡ prefix_len is_part bytes.now }
+    ensures within { result ≤ length bytes.now }
+{
+    bytes.iter().take_while(|b| is_part(**b)).count()
 }
 
 /// No space, no bracket and no `:`.
-fn is_part(b: u8) -> bool {
+fn is_part(b: u8) -> bool
+    ensures { result ≡ is_part b }
+{
     b != b' ' && b != b'(' && b != b')' && b != b':'
 }
 
@@ -30,7 +52,12 @@ pub(crate) fn word_at<'a>(
     bytes: &'a [u8],
     names: &mut Names,
     bank: &mut Bank,
-) -> Result<Option<(Word, &'a [u8])>, OutOfMemory> {
+) -> Result<Option<(Word, &'a [u8])>, OutOfMemory>
+    requires { length names.old + length bytes.now < 2 ^ 32 }
+    ensures found { IfOk result (λ found. MatchOption found (HasNoWord bytes.now) (λ p. IsWordAt names.new bank.new bytes.now p.0 p.1.now)) }
+    ensures moves { IfOk result (λ found. IfSome found (λ p. Moves names.old bank.old (length bytes.now) names.new bank.new (length p.1.now))) }
+    ensures grows { Grows names.old names.new }
+{
     let (bytes, rest) = split_word(bytes);
     match word_of(bytes, names, bank)? {
         Some(word) => Ok(Some((word, rest))),
@@ -43,7 +70,12 @@ fn word_of(
     bytes: &[u8],
     names: &mut Names,
     bank: &mut Bank,
-) -> Result<Option<Word>, OutOfMemory> {
+) -> Result<Option<Word>, OutOfMemory>
+    requires { length names.old < 2 ^ 32 }
+    ensures found { IfOk result (λ found. MatchOption found ((p : Shape) → IsWord bytes.now p → ⊥) (IsWordOf names.new bank.new bytes.now)) }
+    ensures moves { IfOk result (λ found. IfSome found (λ word. Moves names.old bank.old (length bytes.now) names.new bank.new 0)) }
+    ensures grows { Grows names.old names.new }
+{
     if let Some(rest) = behind(bytes, b'?') {
         return match wide_number_of(rest) {
             Some(number) => Ok(Some(Word::Term(bank.var(number)?))),
@@ -66,7 +98,10 @@ fn word_of(
 }
 
 /// The text of a name, if the bytes are one.
-fn name_of(bytes: &[u8]) -> Option<&str> {
+fn name_of(bytes: &[u8]) -> Option<&str>
+    ensures is { MatchOption result (IsPlainName bytes.now → ⊥) (λ text. text.now ≡ bytes.now) }
+    ensures plain { IfSome result (λ text. IsPlainName bytes.now) }
+{
     if bytes.len() > LONGEST_NAME || !is_name(bytes) {
         return None;
     }
@@ -77,15 +112,41 @@ fn name_of(bytes: &[u8]) -> Option<&str> {
 }
 
 /// Whether the bytes are a name: a small letter, then letters, digits and `_`, and no keyword.
-fn is_name(bytes: &[u8]) -> bool {
+fn is_name(bytes: &[u8]) -> bool
+    ensures { IsTrue result ↔ Spells Name bytes.now }
+{
+    is_shaped(bytes) && !is_keyword(bytes)
+}
+
+/// Whether the bytes are a small letter, then letters, digits and `_`.
+fn is_shaped(bytes: &[u8]) -> bool
+    ensures { result ≡ is_name bytes.now }
+{
     let Some((first, rest)) = bytes.split_first() else {
         return false;
     };
-    first.is_ascii_lowercase() && rest.iter().all(|b| is_word_byte(*b)) && !is_keyword(bytes)
+    is_lower(*first) && are_word_bytes(rest)
+}
+
+/// Whether the bytes are letters, digits and `_`.
+fn are_word_bytes(bytes: &[u8]) -> bool
+    ensures { result ≡ list_all is_word_byte bytes.now }
+{
+    bytes.iter().all(|b| is_word_byte(*b))
+}
+
+/// A small letter.
+#[tactic(auto, unfolding(ll_lexer::specs::Spelling::is_lower))]
+fn is_lower(b: u8) -> bool
+    ensures { result ≡ is_lower b }
+{
+    b.is_ascii_lowercase()
 }
 
 /// Whether the bytes are a keyword of small letters.
-fn is_keyword(bytes: &[u8]) -> bool {
+fn is_keyword(bytes: &[u8]) -> bool
+    ensures { result ≡ list_any (bytes_eq bytes.now) small_keywords }
+{
     bytes == b"true".as_slice()
         || bytes == b"erase".as_slice()
         || bytes == b"forall".as_slice()
@@ -93,6 +154,9 @@ fn is_keyword(bytes: &[u8]) -> bool {
 }
 
 /// A letter, a digit or `_`.
-fn is_word_byte(b: u8) -> bool {
+#[tactic(auto, unfolding(ll_lexer::specs::Spelling::is_word_byte))]
+fn is_word_byte(b: u8) -> bool
+    ensures { result ≡ is_word_byte b }
+{
     b.is_ascii_alphanumeric() || b == b'_'
 }

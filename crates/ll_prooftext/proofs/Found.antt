@@ -28,7 +28,7 @@ grows_name names new text e = by_test (list_any (bytes_eq text) names) refl
     by_test true t = record { more = []; is = e ∙ (rw t (sym (append-nil names))) }
     by_test false t = record { more = text ∷ []; is = e ∙ (rw t refl) }
 
-one_name : (names new : List (List ℕ)) (text : List ℕ) → new ≡ with_name names text → length new ≤ length names + 1
+pub one_name : (names new : List (List ℕ)) (text : List ℕ) → new ≡ with_name names text → length new ≤ length names + 1
 one_name names new text e = by_test (list_any (bytes_eq text) names) refl
   where
     by_test : (v : Bool) → list_any (bytes_eq text) names ≡ v → length new ≤ length names + 1

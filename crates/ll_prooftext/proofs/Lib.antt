@@ -6,3 +6,7 @@ pub mod Labels
 pub mod Spellings
 pub mod Found
 pub mod Reach
+pub mod Extended
+pub mod Ways
+pub mod Steps
+pub mod Close

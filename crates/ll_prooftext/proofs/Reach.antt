@@ -26,7 +26,7 @@ abbrev spine_shape : Term → Shape
 spine_shape (Ap f a) = Applied
 spine_shape _ = Bare
 
-abbrev is_wanted : Shape → Bool
+abbrev pub is_wanted : Shape → Bool
 is_wanted Wanted = true
 is_wanted _ = false
 

@@ -35,7 +35,7 @@ pub name_shaped : (w : List ℕ) → Spells Name w → is_name w ≡ true
 unfolding fixed_spellings
 name_shaped w h = kind-passes name_test w Name refl (record { names = λ v e. e; variables = λ v e. refl; numbers = λ v e. refl }) h
 
-apart : (s w : List ℕ) → (s ≡ w → ⊥) → bytes_eq s w ≡ false
+pub apart : (s w : List ℕ) → (s ≡ w → ⊥) → bytes_eq s w ≡ false
 apart s w h = by_test (bytes_eq s w) refl
   where
     by_test : (v : Bool) → bytes_eq s w ≡ v → v ≡ false

@@ -1,5 +1,13 @@
 //! Terms in the form of arguments, read.
+ghost use Rattle.std.specs.Prelude.{◌≡◌, ℕ, ◌+◌, ◌<◌, ◌^◌, ◌∷◌, ◌++◌, List, [], length, All, Some, None, IfOk, IfSome, OnOk, MatchOption, codes};
+ghost use Rattle.ll_bank.specs.Nodes.{AllInTerms, HasTerm, ShowsTerm, Extends, term_tree};
+ghost use Rattle.ll_prooftext.specs.Reading.{IsArgument, IsAtEnd, Argument};
+ghost use Rattle.ll_prooftext.specs.Words.{BeginsNot, HasNone};
+ghost use Rattle.ll_prooftext.specs.Terms.{Grows, Moves};
+ghost use Rattle.ll_prooftext.specs.Brackets.{IsTermFrom, chain_term, IsOpened, HasItem, IsSign, IsGood, IsStep, IsItemStep, IsArgumentAt};
+
 use crate::bytes::behind;
+use crate::sets::is_at_end;
 use crate::words::{Word, word_at};
 use ll_bank::{At, Bank, Head, Names, OutOfMemory};
 use std::alloc::Global;
@@ -39,19 +47,23 @@ enum Step<'a> {
     Whole(At, &'a [u8]),
 }
 
-/// The term in the form of an argument at the front of the bytes, and what stands behind it, or none. Names may have been added.
+/// The term in the form of an argument at the front of the bytes, and what stands behind it. Names may have been added.
 pub(crate) fn argument_at<'a>(
     alloc: Global,
     bytes: &'a [u8],
     names: &mut Names,
     bank: &mut Bank,
-) -> Result<Option<(At, &'a [u8])>, OutOfMemory> {
+) -> Result<Option<(At, &'a [u8])>, OutOfMemory>
+    requires { length names.old + length bytes.now < 2 ^ 32 }
+    ensures found { IfOk result (λ found. MatchOption found (HasNone Argument bytes.now) (λ p. IsArgumentAt names.old bank.old bytes.now names.new bank.new p.0.0 p.1.now)) }
+    ensures grows { Grows names.old names.new }
+{
     if let Some(inside) = behind(bytes, b'(') {
         return bracketed(alloc, inside, names, bank);
     }
     match word_at(bytes, names, bank)? {
-        Some((word, rest)) => Ok(Some((term_of(word, &[], bank)?, rest))),
-        None => Ok(None),
+        Some((word, rest)) if is_at_end(rest) => Ok(Some((term_of(word, &[], bank)?, rest))),
+        _ => Ok(None),
     }
 }
 
@@ -61,7 +73,11 @@ fn bracketed<'a>(
     inside: &'a [u8],
     names: &mut Names,
     bank: &mut Bank,
-) -> Result<Option<(At, &'a [u8])>, OutOfMemory> {
+) -> Result<Option<(At, &'a [u8])>, OutOfMemory>
+    requires { length names.old + length inside.now < 2 ^ 32 }
+    ensures found { IfOk result (λ found. MatchOption found (HasNone Argument (40 ∷ inside.now)) (λ p. IsArgumentAt names.old bank.old (40 ∷ inside.now) names.new bank.new p.0.0 p.1.now)) }
+    ensures grows { Grows names.old names.new }
+{
     let mut open = Open {
         top: Bracket::new(alloc),
         outer: Vec::new(alloc),
@@ -71,22 +87,50 @@ fn bracketed<'a>(
         match open.step(alloc, rest, names, bank)? {
             Step::Stuck => return Ok(None),
             Step::More(next) => rest = next,
-            Step::Whole(at, next) => return Ok(Some((at, next))),
+            Step::Whole(at, next) if is_at_end(next) => return Ok(Some((at, next))),
+            Step::Whole(_, _) => return Ok(None),
         }
     }
 }
 
 /// A head with arguments, or the term itself.
-fn term_of(word: Word, args: &[At], bank: &mut Bank) -> Result<At, OutOfMemory> {
+fn term_of(word: Word, args: &[At], bank: &mut Bank) -> Result<At, OutOfMemory>
+    requires { AllInTerms bank.old args.now }
+    ensures term { IfOk result (λ at. IsTermFrom bank.old bank.new word args.now at.0) }
+    ensures keeps { OnOk result (Extends bank.old bank.new) }
+{
     match word {
         Word::Head(head) => bank.app(head, args),
         Word::Term(at) => Ok(at),
     }
 }
 
+/// The number of the sign `::` at the front of the bytes, and what stands behind it.
+fn sign_at<'a>(
+    bytes: &'a [u8],
+    names: &mut Names,
+) -> Result<Option<(u32, &'a [u8])>, OutOfMemory>
+    requires { length names.old < 2 ^ 32 }
+    ensures found { IfOk result (λ found. MatchOption found ((rest : List ℕ) → bytes.now ≡ 58 ∷ 58 ∷ rest → ⊥) (λ p. bytes.now ≡ 58 ∷ 58 ∷ p.1.now)) }
+    ensures sign { IfOk result (λ found. IfSome found (λ p. IsSign names.old names.new p.0)) }
+    ensures grows { Grows names.old names.new }
+{
+    let Some(tail) = behind(bytes, b':') else {
+        return Ok(None);
+    };
+    match behind(tail, b':') {
+        Some(rest) => Ok(Some((names.add("::")?, rest))),
+        None => Ok(None),
+    }
+}
+
 impl Bracket {
     /// A bracket with nothing in it.
-    fn new(alloc: Global) -> Self {
+    fn new(alloc: Global) -> Self
+        ensures items { result.items.items ≡ [] }
+        ensures part { result.part ≡ None }
+        ensures args { result.args.items ≡ [] }
+    {
         Bracket {
             items: Vec::new(alloc),
             part: None,
@@ -94,11 +138,28 @@ impl Bracket {
         }
     }
 
+    /// A part with a `::` behind it.
+    fn add_item(&mut self, item: Item) -> Result<(), OutOfMemory>
+        ensures { OnOk result (HasItem self.old self.new item) }
+    {
+        self.items.push(item)?;
+        self.part = None;
+        self.args.clear();
+        Ok(())
+    }
+
     /// The term inside, whose last part has this place.
-    fn chain(&self, last: At, bank: &mut Bank) -> Result<At, OutOfMemory> {
+    fn chain(&self, last: At, bank: &mut Bank) -> Result<At, OutOfMemory>
+        requires items { All (λ i. HasTerm bank.old i.at.0) self.now.items.items }
+        requires last { HasTerm bank.old last.0 }
+        ensures term { IfOk result (λ at. ShowsTerm bank.new at.0 (chain_term bank.old self.now.items.items (term_tree bank.old last.0))) }
+        ensures keeps { OnOk result (Extends bank.old bank.new) }
+    {
         let mut term = last;
-        for i in (0..self.items.len()).rev() {
-            let item = self.items[i];
+        let mut left = self.items.len();
+        while left > 0 {
+            left -= 1;
+            let item = self.items[left];
             term = bank.app(Head::Name(item.sign), &[item.at, term])?;
         }
         Ok(term)
@@ -113,24 +174,28 @@ impl Open {
         rest: &'a [u8],
         names: &mut Names,
         bank: &mut Bank,
-    ) -> Result<Step<'a>, OutOfMemory> {
+    ) -> Result<Step<'a>, OutOfMemory>
+        requires good { IsGood names.old bank.old self.old }
+        requires room { length names.old + length rest.now < 2 ^ 32 }
+        ensures step { IfOk result (λ step. IsStep names.old bank.old self.old rest.now names.new bank.new self.new step) }
+        ensures grows { Grows names.old names.new }
+    {
         let Some(part) = self.top.part else {
             return self.first(alloc, rest, names, bank);
         };
         if let Some(next) = behind(rest, b' ') {
             return self.argument(alloc, part, next, names, bank);
         }
-        if let Some(next) = behind(rest, b':') {
-            return self.sign(part, next, names, bank);
-        }
         match behind(rest, b')') {
             Some(next) => self.close(part, next, names, bank),
-            None => Ok(Step::Stuck),
+            None => self.sign(part, rest, names, bank),
         }
     }
 
     /// Goes into a bracket.
-    fn open(&mut self, alloc: Global) -> Result<(), OutOfMemory> {
+    fn open(&mut self, alloc: Global) -> Result<(), OutOfMemory>
+        ensures { OnOk result (IsOpened self.old self.new) }
+    {
         let top = mem::replace(&mut self.top, Bracket::new(alloc));
         self.outer.push(top)?;
         Ok(())
@@ -143,7 +208,13 @@ impl Open {
         rest: &'a [u8],
         names: &mut Names,
         bank: &mut Bank,
-    ) -> Result<Step<'a>, OutOfMemory> {
+    ) -> Result<Step<'a>, OutOfMemory>
+        requires good { IsGood names.old bank.old self.old }
+        requires part { self.old.top.part ≡ None }
+        requires room { length names.old + length rest.now < 2 ^ 32 }
+        ensures step { IfOk result (λ step. IsStep names.old bank.old self.old rest.now names.new bank.new self.new step) }
+        ensures grows { Grows names.old names.new }
+    {
         if let Some(next) = behind(rest, b'(') {
             self.open(alloc)?;
             return Ok(Step::More(next));
@@ -165,7 +236,13 @@ impl Open {
         rest: &'a [u8],
         names: &mut Names,
         bank: &mut Bank,
-    ) -> Result<Step<'a>, OutOfMemory> {
+    ) -> Result<Step<'a>, OutOfMemory>
+        requires good { IsGood names.old bank.old self.old }
+        requires part { self.old.top.part ≡ Some part }
+        requires room { length names.old + length rest.now < 2 ^ 32 }
+        ensures step { IfOk result (λ step. IsStep names.old bank.old self.old (32 ∷ rest.now) names.new bank.new self.new step) }
+        ensures grows { Grows names.old names.new }
+    {
         let Word::Head(_) = part else {
             return Ok(Step::Stuck);
         };
@@ -183,19 +260,26 @@ impl Open {
         }
     }
 
-    /// Takes the second byte of a `::` behind a part.
+    /// Takes the `::` behind a part.
     fn sign<'a>(
         &mut self,
         part: Word,
         rest: &'a [u8],
         names: &mut Names,
         bank: &mut Bank,
-    ) -> Result<Step<'a>, OutOfMemory> {
-        let Some(next) = behind(rest, b':') else {
+    ) -> Result<Step<'a>, OutOfMemory>
+        requires good { IsGood names.old bank.old self.old }
+        requires part { self.old.top.part ≡ Some part }
+        requires room { length names.old + length rest.now < 2 ^ 32 }
+        requires no_space { BeginsNot 32 rest.now }
+        requires no_end { BeginsNot 41 rest.now }
+        ensures step { IfOk result (λ step. IsStep names.old bank.old self.old rest.now names.new bank.new self.new step) }
+        ensures grows { Grows names.old names.new }
+    {
+        let Some((sign, next)) = sign_at(rest, names)? else {
             return Ok(Step::Stuck);
         };
         let at = term_of(part, &self.top.args, bank)?;
-        let sign = names.add("::")?;
         self.top.add_item(Item { at, sign })?;
         Ok(Step::More(next))
     }
@@ -207,7 +291,13 @@ impl Open {
         rest: &'a [u8],
         names: &mut Names,
         bank: &mut Bank,
-    ) -> Result<Step<'a>, OutOfMemory> {
+    ) -> Result<Step<'a>, OutOfMemory>
+        requires good { IsGood names.old bank.old self.old }
+        requires part { self.old.top.part ≡ Some part }
+        requires room { length names.old + length rest.now < 2 ^ 32 }
+        ensures step { IfOk result (λ step. IsStep names.old bank.old self.old (41 ∷ rest.now) names.new bank.new self.new step) }
+        ensures grows { Grows names.old names.new }
+    {
         let is_chain = !self.top.items.is_empty();
         if !is_chain && self.top.args.is_empty() {
             return Ok(Step::Stuck);
@@ -224,36 +314,29 @@ impl Open {
                 Ok(Step::More(rest))
             }
             Some(Word::Term(_)) => Ok(Step::Stuck),
-            None if is_chain => self.close_item(at, rest, names),
-            None => Ok(Step::Stuck),
+            None => self.close_item(is_chain, at, rest, names),
         }
     }
 
     /// Takes the `::` behind a bracket in front of it.
     fn close_item<'a>(
         &mut self,
+        is_chain: bool,
         at: At,
         rest: &'a [u8],
         names: &mut Names,
-    ) -> Result<Step<'a>, OutOfMemory> {
-        let Some(tail) = behind(rest, b':') else {
+    ) -> Result<Step<'a>, OutOfMemory>
+        requires { length names.old < 2 ^ 32 }
+        ensures step { IfOk result (λ step. IsItemStep is_chain at self.old rest.now names.old names.new self.new step) }
+        ensures grows { Grows names.old names.new }
+    {
+        if !is_chain {
+            return Ok(Step::Stuck);
+        }
+        let Some((sign, next)) = sign_at(rest, names)? else {
             return Ok(Step::Stuck);
         };
-        let Some(next) = behind(tail, b':') else {
-            return Ok(Step::Stuck);
-        };
-        let sign = names.add("::")?;
         self.top.add_item(Item { at, sign })?;
         Ok(Step::More(next))
-    }
-}
-
-impl Bracket {
-    /// A part with a `::` behind it.
-    fn add_item(&mut self, item: Item) -> Result<(), OutOfMemory> {
-        self.items.push(item)?;
-        self.part = None;
-        self.args.clear();
-        Ok(())
     }
 }

@@ -1,6 +1,7 @@
 use Rattle.std.proofs.Common.{arith}
 use Rattle.ll_prooftext.proofs.Spellings.{no_word_at}
 use Rattle.ll_prooftext.proofs.Reach.{accepts_whole}
+use Rattle.ll_prooftext.proofs.Extended.{at_kept}
 use Rattle.ll_prooftext.proofs.words.word_at.Goals as goal
 
 pub returns-in-Some-clause-found : goal.returns-in-Some-clause-found

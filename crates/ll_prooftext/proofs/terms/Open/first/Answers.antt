@@ -1,0 +1,11 @@
+use Rattle.ll_prooftext.proofs.Steps.{first_opened}
+use Rattle.ll_prooftext.proofs.terms.Open.first.Goals as goal
+
+pub returns-in-Some-clause-step : goal.returns-in-Some-clause-step
+returns-in-Some-clause-step c = ?
+
+pub returns-in-Some-2-clause-step : goal.returns-in-Some-2-clause-step
+returns-in-Some-2-clause-step c = ?
+
+pub returns-in-None-clause-step : goal.returns-in-None-clause-step
+returns-in-None-clause-step c = ?

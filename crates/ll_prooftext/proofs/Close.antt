@@ -1,5 +1,5 @@
 -- Signs, and the ends of brackets.
-use Rattle.std.proofs.Common.{◌≡◌, ℕ, zero, suc, ◌+◌, ◌<◌, ◌≤◌, Bool, true, false, cond, List, [], ◌∷◌, ◌++◌, length, map, reverse, All, refl, ap, sym, subst, ◌∙◌, arith, codes, append_assoc, append-nil, inl, inr, IsTrue, Option, Some, None}
+use Rattle.std.proofs.Common.{◌≡◌, ℕ, zero, suc, ◌+◌, ◌-◌, ◌<◌, ◌≤◌, take, Bool, true, false, cond, List, [], ◌∷◌, ◌++◌, length, map, reverse, All, refl, ap, sym, subst, ◌∙◌, arith, codes, append_assoc, append-nil, inl, inr, IsTrue, Option, Some, None, Ok, Err, Result, IfOk}
 use Rattle.std.specs.Prelude.{◌&&◌, ◌||◌, not, ◌⊎◌, if◌then◌else◌}
 use Rattle.std.specs.List.{flat_map, list_all}
 use Rattle.std.proofs.lemmas.List.Concat.{flat_map-append}
@@ -16,11 +16,14 @@ use Rattle.ll_prooftext.specs.declared.words.Word.TheVariants.{Head as HeadWord,
 use Rattle.ll_prooftext.specs.declared.terms.Item.{Item}
 use Rattle.ll_prooftext.specs.declared.terms.Bracket.{Bracket}
 use Rattle.ll_prooftext.specs.declared.terms.Open.{Open}
+use Rattle.ll_prooftext.specs.declared.terms.Step.{Step}
+use Rattle.ll_prooftext.specs.declared.terms.Step.TheVariants.{Stuck, More, Whole}
 use Rattle.ll_prooftext.specs.Admitted.{IsSpelledTerm}
 use Rattle.ll_prooftext.specs.Reading.{is_none}
 use Rattle.ll_prooftext.specs.Terms.{Shape, Wanted, Bare, Applied, Closed, Frame, frame, takes, closes, Accepts, Grows, Moves, IsSpelledAt, text_at, argument_at}
-use Rattle.ll_prooftext.specs.Brackets.{shape_of, frame_of, frames, item_text, part_text, args_text, bracket_text, gap, outer_text, open_text, IsGoodItem, IsGoodPart, IsGoodBracket, IsGood, Turns, Ends, IsTermFrom, chain_term, HasItem, IsSign}
+use Rattle.ll_prooftext.specs.Brackets.{shape_of, frame_of, frames, item_text, part_text, args_text, bracket_text, gap, outer_text, open_text, IsGoodItem, IsGoodPart, IsGoodBracket, IsGood, Turns, Ends, IsTermFrom, chain_term, HasItem, IsSign, IsStep, IsItemStep}
 use Rattle.ll_prooftext.proofs.Found.{grows_none}
+use Rattle.ll_prooftext.proofs.Spellings.{parts_false}
 use Rattle.ll_prooftext.proofs.Reach.{is_wanted}
 use Rattle.ll_prooftext.proofs.Extended.{at_kept, cons_on}
 use Rattle.ll_prooftext.proofs.Steps.{flat_same, part_same, arg_same, open_good, open_same, bracket_good, bracket_same, frames_push, shape_known, takes_head, IsPartTerm, part_term, IsArgued, argued_good, argued_text, argued_frames, item_put_good, item_put_text, item_put_frames}
@@ -62,6 +65,7 @@ sign_put names bank o p x new over i left good n s t e has outer =
           ∙ (together (flat_map (outer_text new over) o.outer.items) (flat_map (item_text new over) o.top.items.items) (part_text new over (Some x)) (args_text new over o.top.args.items)
           ∙ ap (λ z. z ++ (58 ∷ 58 ∷ left)) (sym (open_known new over o x n) ∙ open_same names bank new over s.grows e o good));
       moves = record { grows = s.grows; keeps = e; few = let f = s.few in omega arith };
+      shorter = omega arith;
       goes = λ end a. subst (λ hs. Accepts end hs left) (sym (item_put_frames new over o p i g has outer it)) (sign_on end (not (is_none o.top.items.items)) (shape_of o.top.part o.top.args.items) (reverse (map frame_of o.outer.items)) left (known_shape o x n) a);
     }
   where
@@ -173,6 +177,7 @@ module _ (names : List (List ℕ)) (bank over : Nodes) (o : Open) (x : Word) (at
               ∙ (together (open_text names bank q) (bracket_text names bank o.top)
               ∙ (ap (λ z. ((open_text names bank q ++ gap z) ++ bracket_text names bank o.top) ++ (41 ∷ left)) (sym head) ∙ ap (λ z. z ++ (41 ∷ left)) (sym popped_text))));
           moves = record { grows = grows_none names; keeps = k.keeps; few = omega arith };
+          shorter = omega arith;
           goes = λ end a.
               let b = subst (λ hs. Accepts end hs (41 ∷ left)) popped_frames a in
               let tk : takes (shape_of q.top.part q.top.args.items) ≡ true = ap (λ z. takes (shape_of z q.top.args.items)) head ∙ takes_head h q.top.args.items in
@@ -209,6 +214,7 @@ module _ (names : List (List ℕ)) (bank over : Nodes) (o : Open) (x : Word) (at
               ∙ (together (open_text names bank q) (bracket_text names bank o.top)
               ∙ (ap (λ z. ((open_text names bank q ++ gap z) ++ bracket_text names bank o.top) ++ (41 ∷ 58 ∷ 58 ∷ rest)) (sym w) ∙ (ap (λ z. z ++ (41 ∷ 58 ∷ 58 ∷ rest)) (sym popped_text) ∙ ap (λ z. open_text names bank o ++ (41 ∷ z)) (sym l)))));
           moves = record { grows = s.grows; keeps = k.keeps; few = let f = s.few in let m = ap length l in omega arith };
+          shorter = let m = ap length l in omega arith;
           goes = λ end a.
               let b = subst (λ bs. Accepts end (frame_of o.top ∷ frame (not (is_none q.top.items.items)) Wanted ∷ reverse (map frame_of q.outer.items)) (41 ∷ bs)) l (subst (λ hs. Accepts end hs (41 ∷ left)) (wanted_frames w) a) in
               let c = close_item_on end (not (is_none o.top.items.items)) (shape_of o.top.part o.top.args.items) (not (is_none q.top.items.items)) (reverse (map frame_of q.outer.items)) rest (known_shape o x n) b in
@@ -225,11 +231,28 @@ module _ (names : List (List ℕ)) (bank over : Nodes) (o : Open) (x : Word) (at
         together a b = simp (append_assoc, append-nil)
 
 -- a bracket round no term with arguments
-pub closes_none : (o : Open) (x : Word) (left : List ℕ) → o.top.part ≡ Some x → not (is_none o.top.items.items) ≡ false → o.top.args.items ≡ [] → (end : List ℕ) → Accepts end (frames o) (41 ∷ left) → ⊥
-closes_none o x left n c none end a =
-    close_none end (not (is_none o.top.items.items)) (shape_of o.top.part o.top.args.items) (reverse (map frame_of o.outer.items)) left (known_shape o x n) c
-    (let e = closes_bare x in let f : shape_of o.top.part o.top.args.items ≡ shape_of (Some x) [] = rw (n, none) refl in ap (λ z. closes z (shape_of o.top.part o.top.args.items)) c ∙ (ap (closes false) f ∙ e)) a
+pub closes_none : (o : Open) (x : Word) (left : List ℕ) → o.top.part ≡ Some x → (not (is_none o.top.items.items) || not (is_none o.top.args.items)) ≡ false → (end : List ℕ) → Accepts end (frames o) (41 ∷ left) → ⊥
+closes_none o x left n none end a =
+    let c = parts_false (not (is_none o.top.items.items)) (not (is_none o.top.args.items)) none in
+    let f : closes (not (is_none o.top.items.items)) (shape_of o.top.part o.top.args.items) ≡ false = ap (λ z. closes z (shape_of o.top.part o.top.args.items)) c.0 ∙ (ap (λ z. closes false (shape_of z o.top.args.items)) n ∙ bare x o.top.args.items c.1) in
+    close_none end (not (is_none o.top.items.items)) (shape_of o.top.part o.top.args.items) (reverse (map frame_of o.outer.items)) left (known_shape o x n) c.0 f a
   where
-    closes_bare : (x : Word) → closes false (shape_of (Some x) []) ≡ false
-    closes_bare (HeadWord h) = refl
-    closes_bare (LeafWord at) = refl
+    bare : (x : Word) (args : List At) → not (is_none args) ≡ false → closes false (shape_of (Some x) args) ≡ false
+    bare (HeadWord h) [] e = refl
+    bare (HeadWord h) (b ∷ args) e = absurd cc
+    bare (LeafWord b) args e = refl
+
+-- a `::` behind the bracket, or none
+pub item_step : (names : List (List ℕ)) (bank over : Nodes) (o : Open) (x : Word) (at : At) (left : List ℕ) → IsGood names bank o → o.top.part ≡ Some x → IsClosedTerm names bank over o at.0 → (q : Open) → o.outer.items ≡ q.outer.items ++ q.top ∷ [] → q.top.part ≡ None → (chain : Bool) → chain ≡ not (is_none o.top.items.items)
+    → (new : List (List ℕ)) (p : Open) (step : Step) → IsItemStep chain at q left names new p step → IsStep names bank o (41 ∷ left) new over p step
+item_step names bank over o x at left good n k q out w chain e new p Stuck i = λ end a. closes_no_item names bank over o x at.0 left good n k q out w (λ h rest f. i (e ∙ h) rest f) end a
+item_step names bank over o x at left good n k q out w chain e new p (More rest) i = closes_item names bank over o x at.0 left good n k q out p (record { at = at; sign = i.1.1.0 }) new rest.now refl w (sym e ∙ i.0) i.1.0 i.1.1.1.0 i.1.1.1.1.0 i.1.1.1.1.1
+item_step names bank over o x at left good n k q out w chain e new p (Whole b rest) i = absurd i
+
+pub if_ok : {T E : Type 0} (r : Result T E) (P Q : T → Type 0) → ((t : T) → P t → Q t) → IfOk r P → IfOk r Q
+if_ok (Ok t) P Q f h = f t h
+if_ok (Err e) P Q f h = tt
+
+-- nothing was taken off
+pub none_popped : {X : Type 0} (xs ys : List X) (n : ℕ) → xs ≡ ys ++ [] → ys ≡ take (n - 1) xs → n ≡ 0 → xs ≡ []
+none_popped xs ys n e f z = e ∙ (append-nil ys ∙ (f ∙ ap (λ k. take (k - 1) xs) z))

@@ -10,3 +10,6 @@ pub mod Extended
 pub mod Ways
 pub mod Steps
 pub mod Close
+pub mod Arguments
+pub mod Chains
+pub mod Rest

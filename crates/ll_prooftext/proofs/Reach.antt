@@ -86,7 +86,7 @@ takes_full Closed e = absurd cc
 stop : (b : ℕ) (bs : List ℕ) → is_part b ≡ false → Stops is_part (b ∷ bs)
 stop b bs h = at_byte b bs refl h
 
-head_word : (names : List (List ℕ)) (h : Head) → IsPlainHead names h → IsHeadWord (head_text names h)
+pub head_word : (names : List (List ℕ)) (h : Head) → IsPlainHead names h → IsHeadWord (head_text names h)
 head_word names (Name n) p = name p
 head_word names (Eigen n) p = eigen (decimal n) refl (record { number = n; small = p; is = refl })
 head_word names (Bound n) p = absurd p

@@ -49,7 +49,7 @@ same s w e = (bytes_eq-Decides s w).1 e
 not_named : (s w : List ℕ) → is_name s ≡ false → is_name w ≡ true → bytes_eq s w ≡ false
 not_named s w f t = apart s w (λ e. let x : is_name s ≡ true = ap is_name e ∙ t in let y : ⊥ = cc in y)
 
-parts_false : (a b : Bool) → (a || b) ≡ false → (a ≡ false) × (b ≡ false)
+pub parts_false : (a b : Bool) → (a || b) ≡ false → (a ≡ false) × (b ≡ false)
 parts_false true b h = absurd cc
 parts_false false b h = (refl, h)
 
@@ -307,3 +307,12 @@ name_utf8 w h = IsUtf8-from_ascii w (shaped_low w (name_shaped w h))
 pub name_full : (w : List ℕ) → IsPlainName w → 0 < length w
 name_full [] p = let s = name_shaped [] p.spelled in absurd cc
 name_full (b ∷ w) p = omega arith
+
+starts_full : (p : ℕ → Bool) (w : List ℕ) → Starts p w → 0 < length w
+starts_full p w s = let l = ap length s.is in omega arith
+
+pub word_full : (w : List ℕ) (p : Shape) → IsWord w p → 0 < length w
+word_full w Wanted i = absurd i
+word_full w Applied i = absurd i
+word_full w Bare i = starts_full head_start w (head_first w i)
+word_full w Closed i = starts_full leaf_start w (leaf_first w i)

@@ -26,7 +26,8 @@ use Rattle.ll_prooftext.specs.Brackets.{shape_of, frame_of, frames, item_text, p
 use Rattle.ll_prooftext.proofs.Found.{grows_none, grows_on, moves_none}
 use Rattle.ll_prooftext.proofs.Extended.{at_kept, head_on, cons_on, app_text, app_spelled, app_closed, app_has, app_no_cons, arguments_text}
 use Rattle.ll_prooftext.proofs.Reach.{is_wanted}
-use Rattle.ll_prooftext.proofs.Ways.{first_bracket_on, first_word_on, argument_bracket_on, argument_word_on, sign_on, close_whole, close_argument, close_item_on}
+use Rattle.ll_prooftext.proofs.Spellings.{word_full}
+use Rattle.ll_prooftext.proofs.Ways.{first_bracket_on, first_word_on, first_none, argument_none, argument_refused, sign_none, argument_bracket_on, argument_word_on, sign_on, close_whole, close_argument, close_item_on}
 
 -- ---- names and terms more
 
@@ -92,7 +93,7 @@ pub frames_push : (xs : List Bracket) (x : Bracket) → reverse (map frame_of (x
 frames_push xs x = ap reverse (map-append frame_of xs (x ∷ [])) ∙ reverse-append (map frame_of xs) (frame_of x ∷ [])
 
 -- the shape behind a word
-word_shape : (names : List (List ℕ)) (bank : Nodes) (w : List ℕ) (x : Word) → IsWordOf names bank w x → IsWord w (shape_of (Some x) [])
+pub word_shape : (names : List (List ℕ)) (bank : Nodes) (w : List ℕ) (x : Word) → IsWordOf names bank w x → IsWord w (shape_of (Some x) [])
 word_shape names bank w (HeadWord h) i = i.word
 word_shape names bank w (LeafWord at) i = i.word
 
@@ -132,6 +133,7 @@ module _ (names : List (List ℕ)) (bank : Nodes) (o p : Open) (good : IsGood na
     good = opened_good;
     text = ap (λ z. z ++ left) opened_text ∙ (ap (λ q. (open_text names bank o ++ (gap q ++ 40 ∷ [])) ++ left) n ∙ append_assoc (open_text names bank o) (40 ∷ []) left);
     moves = record { grows = grows_none names; keeps = (moves_none names bank 0).keeps; few = omega arith };
+    shorter = omega arith;
     goes = λ end a.
         let c = not (is_none o.top.items.items) in
         let fs = reverse (map frame_of o.outer.items) in
@@ -145,6 +147,7 @@ module _ (names : List (List ℕ)) (bank : Nodes) (o p : Open) (good : IsGood na
     good = opened_good;
     text = ap (λ z. z ++ left) opened_text ∙ (ap (λ q. (open_text names bank o ++ (gap q ++ 40 ∷ [])) ++ left) n ∙ append_assoc (open_text names bank o) (32 ∷ 40 ∷ []) left);
     moves = record { grows = grows_none names; keeps = (moves_none names bank 0).keeps; few = omega arith };
+    shorter = omega arith;
     goes = λ end a. subst (λ fs. Accepts end fs left) (sym opened_frames) (argument_bracket_on end (not (is_none o.top.items.items)) (shape_of o.top.part o.top.args.items) (reverse (map frame_of o.outer.items)) left (rw n (shape_known (HeadWord h) o.top.args.items)) a);
   }
 
@@ -157,11 +160,11 @@ pub record IsPut (o p : Open) (x : Word) : Type 0 where
   pub part : p.top.part ≡ Some x
   pub args : p.top.args.items ≡ o.top.args.items
 
-word_good : (names : List (List ℕ)) (bank : Nodes) (w : List ℕ) (x : Word) → IsWordOf names bank w x → IsGoodPart names bank (Some x) []
+pub word_good : (names : List (List ℕ)) (bank : Nodes) (w : List ℕ) (x : Word) → IsWordOf names bank w x → IsGoodPart names bank (Some x) []
 word_good names bank w (HeadWord h) i = i.plain
 word_good names bank w (LeafWord at) i = (refl, (i.good, i.bare))
 
-word_text : (names : List (List ℕ)) (bank : Nodes) (w : List ℕ) (x : Word) → IsWordOf names bank w x → part_text names bank (Some x) ≡ w
+pub word_text : (names : List (List ℕ)) (bank : Nodes) (w : List ℕ) (x : Word) → IsWordOf names bank w x → part_text names bank (Some x) ≡ w
 word_text names bank w (HeadWord h) i = i.is
 word_text names bank w (LeafWord at) i = i.is
 
@@ -180,6 +183,7 @@ first_put names bank o p x bytes new over left good n m w put = record {
       ∙ (together (flat_map (outer_text new over) o.outer.items) (flat_map (item_text new over) o.top.items.items) w.spelling left
       ∙ (ap (λ z. z ++ (w.spelling ++ left)) same_o ∙ ap (λ z. open_text names bank o ++ z) (sym w.is)));
   moves = m;
+  shorter = let f = word_full w.spelling (shape_of (Some x) []) (word_shape new over w.spelling x w.word) in let l = ap length w.is in let k = length-append w.spelling left in omega arith;
   goes = λ end a.
       let b : Accepts end (frame (not (is_none o.top.items.items)) Wanted ∷ reverse (map frame_of o.outer.items)) bytes = rw n at a in
       let c = first_word_on end (not (is_none o.top.items.items)) (reverse (map frame_of o.outer.items)) bytes w.spelling left (shape_of (Some x) []) (word_shape new over w.spelling x w.word) w.end w.is b in
@@ -287,7 +291,7 @@ module _ (names : List (List ℕ)) (bank : Nodes) (o p : Open) (at : At) (h : He
   argued_frames = rw (put.outer, put.items, put.part, put.args, head) (ap (λ z. frame (not (is_none o.top.items.items)) z ∷ reverse (map frame_of o.outer.items)) (head_applied h o.top.args.items at))
 
 -- the argument of a word
-leaf_argument : (u : Term) (text : List ℕ) → has_arguments u ≡ false → argument_text u text ≡ text
+pub leaf_argument : (u : Term) (text : List ℕ) → has_arguments u ≡ false → argument_text u text ≡ text
 leaf_argument u text h = rw h refl
 
 module _ (names : List (List ℕ)) (bank : Nodes) (o p : Open) (x : Word) (h : Head) (bytes : List ℕ) (new : List (List ℕ)) (mid over : Nodes) (left : List ℕ) (at : At) where
@@ -305,6 +309,7 @@ module _ (names : List (List ℕ)) (bank : Nodes) (o p : Open) (x : Word) (h : H
             ∙ (ap (λ z. z ++ (32 ∷ (argument_at new over at.0 ++ left))) (open_same names bank new over m.grows keeps o good)
             ∙ ap (λ z. open_text names bank o ++ (32 ∷ z)) (ap (λ z. z ++ left) word ∙ sym w.is)));
         moves = record { grows = m.grows; keeps = keeps; few = let f = m.few in omega arith };
+        shorter = let l = ap length w.is in let q = length-append w.spelling left in omega arith;
         goes = λ end a.
             let c = not (is_none o.top.items.items) in
             let fs = reverse (map frame_of o.outer.items) in
@@ -340,3 +345,28 @@ module _ (names : List (List ℕ)) (bank : Nodes) (o p : Open) (i : Item) (good 
 
   pub item_put_frames : frames p ≡ frame true Wanted ∷ reverse (map frame_of o.outer.items)
   item_put_frames = rw (outer, has.items, has.part) (ap (λ z. frame z Wanted ∷ reverse (map frame_of o.outer.items)) (some_item o.top.items.items))
+
+-- ---- no step
+
+pub first_stuck : (o : Open) (bytes : List ℕ) → o.top.part ≡ None → BeginsNot 40 bytes → HasNoWord bytes → (end : List ℕ) → Accepts end (frames o) bytes → ⊥
+first_stuck o bytes n b w end a =
+    let c = not (is_none o.top.items.items) in
+    let fs = reverse (map frame_of o.outer.items) in
+    let e : frames o ≡ frame c Wanted ∷ fs = ap (λ q. frame c (shape_of q o.top.args.items) ∷ fs) n in
+    first_none end c fs bytes b w (subst (λ hs. Accepts end hs bytes) e a)
+
+known_part : (o : Open) (x : Word) → o.top.part ≡ Some x → is_wanted (shape_of o.top.part o.top.args.items) ≡ false
+known_part o x n = ap (λ q. is_wanted (shape_of q o.top.args.items)) n ∙ shape_known x o.top.args.items
+
+pub argument_stuck : (o : Open) (x : Word) (bytes : List ℕ) → o.top.part ≡ Some x → BeginsNot 40 bytes → HasNoWord bytes → (end : List ℕ) → Accepts end (frames o) (32 ∷ bytes) → ⊥
+argument_stuck o x bytes n b w end a = argument_none end (not (is_none o.top.items.items)) (shape_of o.top.part o.top.args.items) (reverse (map frame_of o.outer.items)) bytes (known_part o x n) b w a
+
+pub leaf_stuck : (o : Open) (at : At) (bytes : List ℕ) → o.top.part ≡ Some (LeafWord at) → (end : List ℕ) → Accepts end (frames o) (32 ∷ bytes) → ⊥
+leaf_stuck o at bytes n end a =
+    let c = not (is_none o.top.items.items) in
+    let fs = reverse (map frame_of o.outer.items) in
+    let e : frames o ≡ frame c Closed ∷ fs = ap (λ q. frame c (shape_of q o.top.args.items) ∷ fs) n in
+    argument_refused end c fs bytes (subst (λ hs. Accepts end hs (32 ∷ bytes)) e a)
+
+pub sign_stuck : (o : Open) (x : Word) (bytes : List ℕ) → o.top.part ≡ Some x → BeginsNot 32 bytes → BeginsNot 41 bytes → ((rest : List ℕ) → bytes ≡ 58 ∷ 58 ∷ rest → ⊥) → (end : List ℕ) → Accepts end (frames o) bytes → ⊥
+sign_stuck o x bytes n s e w end a = sign_none end (not (is_none o.top.items.items)) (shape_of o.top.part o.top.args.items) (reverse (map frame_of o.outer.items)) bytes (known_part o x n) s e w a

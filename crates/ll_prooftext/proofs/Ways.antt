@@ -27,17 +27,17 @@ part_way c Applied fs bytes gs left e w = w
 part_way c Closed fs bytes gs left e w = w
 
 -- two lists that begin with different bytes, and two with the same
-byte_apart : (a b : ℕ) (us vs : List ℕ) → a ∷ us ≡ b ∷ vs → (a == b) ≡ false → ⊥
+pub byte_apart : (a b : ℕ) (us vs : List ℕ) → a ∷ us ≡ b ∷ vs → (a == b) ≡ false → ⊥
 byte_apart a b us vs e f = let q : a ≡ b = cc in let t : (a == b) ≡ true = eq-eqb a b q in let x : ⊥ = cc in x
 
-behind_byte : (a : ℕ) (us vs : List ℕ) → a ∷ us ≡ a ∷ vs → us ≡ vs
+pub behind_byte : (a : ℕ) (us vs : List ℕ) → a ∷ us ≡ a ∷ vs → us ≡ vs
 behind_byte a us vs e = cc
 
 moved : (end : List ℕ) (fs gs : List Frame) (bs cs : List ℕ) → fs ≡ gs → bs ≡ cs → Accepts end fs bs → Accepts end gs cs
 moved end fs gs bs cs e f a = subst (λ hs. Accepts end hs cs) e (subst (Accepts end fs) f a)
 
 -- no word begins with a bracket
-no_bracket : (w left bs : List ℕ) (p : Shape) → IsWord w p → w ++ left ≡ 40 ∷ bs → ⊥
+pub no_bracket : (w left bs : List ℕ) (p : Shape) → IsWord w p → w ++ left ≡ 40 ∷ bs → ⊥
 unfolding is_lower
 no_bracket w left bs Wanted i e = i
 no_bracket w left bs Applied i e = i

@@ -1,5 +1,5 @@
 -- Open brackets, as they are kept while a term is read.
-use Rattle.std.specs.Prelude.{◌≡◌, ℕ, ◌+◌, ◌≤◌, length, Bool, true, false, not, List, [], ◌∷◌, ◌++◌, map, All, reverse, IsTrue, Option, Some, None, codes}
+use Rattle.std.specs.Prelude.{◌≡◌, ℕ, ◌+◌, ◌<◌, ◌≤◌, length, Bool, true, false, not, List, [], ◌∷◌, ◌++◌, map, All, reverse, IsTrue, Option, Some, None, codes}
 use Rattle.std.specs.List.{flat_map}
 use Rattle.ll_bank.specs.declared.At.{At}
 use Rattle.ll_bank.specs.declared.Head.TheVariants.{Name}
@@ -92,6 +92,7 @@ pub record Turns (names : List (List ℕ)) (bank : Nodes) (o : Open) (bytes : Li
   pub good : IsGood new over p
   pub text : open_text new over p ++ left ≡ open_text names bank o ++ bytes
   pub moves : Moves names bank (length bytes) new over (length left)
+  pub shorter : length left < length bytes
   pub goes : (end : List ℕ) → Accepts end (frames o) bytes → Accepts end (frames p) left
 
 -- the outermost bracket was closed round this term

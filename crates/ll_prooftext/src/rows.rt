@@ -1,4 +1,10 @@
 //! What a line of a derivation's text says, read field by field.
+ghost use Rattle.std.specs.Prelude.{◌≡◌, ℕ, ◌+◌, ◌<◌, ◌^◌, ◌++◌, [], length, decimal, IfOk, IfErr, OnOk};
+ghost use Rattle.ll_laws.specs.ProofText.{field};
+ghost use Rattle.ll_prooftext.specs.Reading.{Number, Set, Argument, Want, Nothing, Then, IsAtEnd};
+ghost use Rattle.ll_prooftext.specs.Terms.{Grows, Moves, IsSpelledAt, argument_at};
+ghost use Rattle.ll_prooftext.specs.Fields.{Refuses, LacksField, LacksPart, StopsAt, IsNumberField, IsSetField, IsPartField, IsTermField};
+
 use crate::bytes::{behind, split_before};
 use crate::numbers::number_of;
 use crate::sets::{is_at_end, set_at};
@@ -222,7 +228,11 @@ fn part_fields(alloc: Global, bytes: &[u8]) -> Result<Vec<Part>, Refusal> {
 }
 
 /// A premise, and what stands behind it.
-fn part_field(alloc: Global, bytes: &[u8]) -> Result<(Part, &[u8]), Refusal> {
+fn part_field(alloc: Global, bytes: &[u8]) -> Result<(Part, &[u8]), Refusal>
+    requires { IsAtEnd bytes.now }
+    ensures ok { IfOk result (λ p. IsPartField bytes.now p.0 p.1.now) }
+    ensures err { IfErr result (Refuses (LacksPart bytes.now)) }
+{
     let Some(field) = behind(bytes, b' ') else {
         return Err(Refusal::Field(bytes.len()));
     };
@@ -239,7 +249,11 @@ fn part_field(alloc: Global, bytes: &[u8]) -> Result<(Part, &[u8]), Refusal> {
 }
 
 /// A set behind a space, and what stands behind it.
-fn set_field(alloc: Global, bytes: &[u8]) -> Result<(Vec<u32>, &[u8]), Refusal> {
+fn set_field(alloc: Global, bytes: &[u8]) -> Result<(Vec<u32>, &[u8]), Refusal>
+    requires { IsAtEnd bytes.now }
+    ensures ok { IfOk result (λ p. IsSetField bytes.now p.0.items p.1.now) }
+    ensures err { IfErr result (Refuses (LacksField Set bytes.now)) }
+{
     let Some(field) = behind(bytes, b' ') else {
         return Err(Refusal::Field(bytes.len()));
     };
@@ -255,18 +269,28 @@ fn term_field<'a>(
     bytes: &'a [u8],
     names: &mut Names,
     bank: &mut Bank,
-) -> Result<(At, &'a [u8]), Refusal> {
+) -> Result<(At, &'a [u8]), Refusal>
+    requires end { IsAtEnd bytes.now }
+    requires room { length names.old + length bytes.now < 2 ^ 32 }
+    ensures ok { IfOk result (λ p. IsTermField names.old bank.old bytes.now names.new bank.new p.0.0 p.1.now) }
+    ensures err { IfErr result (Refuses (LacksField Argument bytes.now)) }
+    ensures grows { Grows names.old names.new }
+{
     let Some(field) = behind(bytes, b' ') else {
         return Err(Refusal::Field(bytes.len()));
     };
     match argument_at(alloc, field, names, bank)? {
-        Some((at, rest)) if is_at_end(rest) => Ok((at, rest)),
-        _ => Err(Refusal::Field(bytes.len())),
+        Some((at, rest)) => Ok((at, rest)),
+        None => Err(Refusal::Field(bytes.len())),
     }
 }
 
 /// A number behind a space, and what stands behind it.
-fn number_field(bytes: &[u8]) -> Result<(u32, &[u8]), Refusal> {
+fn number_field(bytes: &[u8]) -> Result<(u32, &[u8]), Refusal>
+    requires { IsAtEnd bytes.now }
+    ensures ok { IfOk result (λ p. IsNumberField bytes.now p.0 p.1.now) }
+    ensures err { IfErr result (Refuses (LacksField Number bytes.now)) }
+{
     let Some(field) = behind(bytes, b' ') else {
         return Err(Refusal::Field(bytes.len()));
     };
@@ -283,21 +307,35 @@ fn last_term(
     bytes: &[u8],
     names: &mut Names,
     bank: &mut Bank,
-) -> Result<At, Refusal> {
+) -> Result<At, Refusal>
+    requires end { IsAtEnd bytes.now }
+    requires room { length names.old + length bytes.now < 2 ^ 32 }
+    ensures ok { IfOk result (λ at. IsTermField names.old bank.old bytes.now names.new bank.new at.0 []) }
+    ensures err { IfErr result (Refuses (StopsAt (Then Argument Nothing) bytes.now)) }
+    ensures grows { Grows names.old names.new }
+{
     let (at, rest) = term_field(alloc, bytes, names, bank)?;
     no_more(rest)?;
     Ok(at)
 }
 
 /// The number of a line's last field.
-fn last_number(bytes: &[u8]) -> Result<u32, Refusal> {
+fn last_number(bytes: &[u8]) -> Result<u32, Refusal>
+    requires { IsAtEnd bytes.now }
+    ensures ok { IfOk result (λ n. IsNumberField bytes.now n []) }
+    ensures err { IfErr result (Refuses (StopsAt (Then Number Nothing) bytes.now)) }
+{
     let (number, rest) = number_field(bytes)?;
     no_more(rest)?;
     Ok(number)
 }
 
 /// Refuses a further field.
-fn no_more(bytes: &[u8]) -> Result<(), Refusal> {
+fn no_more(bytes: &[u8]) -> Result<(), Refusal>
+    requires { IsAtEnd bytes.now }
+    ensures ok { OnOk result (bytes.now ≡ []) }
+    ensures err { IfErr result (Refuses (StopsAt Nothing bytes.now)) }
+{
     if bytes.is_empty() {
         Ok(())
     } else {

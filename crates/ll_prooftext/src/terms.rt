@@ -1,7 +1,7 @@
 //! Terms in the form of arguments, read.
-ghost use Rattle.std.specs.Prelude.{◌≡◌, ℕ, ◌+◌, ◌<◌, ◌^◌, ◌∷◌, ◌++◌, List, [], length, All, Some, None, IfOk, IfSome, OnOk, MatchOption, codes};
+ghost use Rattle.std.specs.Prelude.{◌≡◌, ◌||◌, not, ℕ, ◌+◌, ◌<◌, ◌^◌, ◌∷◌, ◌++◌, List, [], length, All, Some, None, IfOk, IfSome, OnOk, MatchOption, codes};
 ghost use Rattle.ll_bank.specs.Nodes.{AllInTerms, HasTerm, ShowsTerm, Extends, term_tree};
-ghost use Rattle.ll_prooftext.specs.Reading.{IsArgument, IsAtEnd, Argument};
+ghost use Rattle.ll_prooftext.specs.Reading.{Argument, is_none};
 ghost use Rattle.ll_prooftext.specs.Words.{BeginsNot, HasNone};
 ghost use Rattle.ll_prooftext.specs.Terms.{Grows, Moves};
 ghost use Rattle.ll_prooftext.specs.Brackets.{IsTermFrom, chain_term, IsOpened, HasItem, IsSign, IsGood, IsStep, IsItemStep, IsArgumentAt};
@@ -62,8 +62,13 @@ pub(crate) fn argument_at<'a>(
         return bracketed(alloc, inside, names, bank);
     }
     match word_at(bytes, names, bank)? {
-        Some((word, rest)) if is_at_end(rest) => Ok(Some((term_of(word, &[], bank)?, rest))),
-        _ => Ok(None),
+        Some((word, rest)) => {
+            if !is_at_end(rest) {
+                return Ok(None);
+            }
+            Ok(Some((term_of(word, &[], bank)?, rest)))
+        }
+        None => Ok(None),
     }
 }
 
@@ -87,8 +92,12 @@ fn bracketed<'a>(
         match open.step(alloc, rest, names, bank)? {
             Step::Stuck => return Ok(None),
             Step::More(next) => rest = next,
-            Step::Whole(at, next) if is_at_end(next) => return Ok(Some((at, next))),
-            Step::Whole(_, _) => return Ok(None),
+            Step::Whole(at, next) => {
+                if !is_at_end(next) {
+                    return Ok(None);
+                }
+                return Ok(Some((at, next)));
+            }
         }
     }
 }
@@ -136,6 +145,20 @@ impl Bracket {
             part: None,
             args: Vec::new(alloc),
         }
+    }
+
+    /// Whether a term stands in front of a `::`.
+    fn is_chain(&self) -> bool
+        ensures { result ≡ not (is_none self.now.items.items) }
+    {
+        !self.items.is_empty()
+    }
+
+    /// Whether the term inside has arguments.
+    fn is_compound(&self) -> bool
+        ensures { result ≡ (not (is_none self.now.items.items) || not (is_none self.now.args.items)) }
+    {
+        !self.items.is_empty() || !self.args.is_empty()
     }
 
     /// A part with a `::` behind it.
@@ -298,23 +321,25 @@ impl Open {
         ensures step { IfOk result (λ step. IsStep names.old bank.old self.old (41 ∷ rest.now) names.new bank.new self.new step) }
         ensures grows { Grows names.old names.new }
     {
-        let is_chain = !self.top.items.is_empty();
-        if !is_chain && self.top.args.is_empty() {
+        if !self.top.is_compound() {
             return Ok(Step::Stuck);
         }
+        let is_chain = self.top.is_chain();
         let last = term_of(part, &self.top.args, bank)?;
         let at = self.top.chain(last, bank)?;
         let Some(outer) = self.outer.pop() else {
             return Ok(Step::Whole(at, rest));
         };
         self.top = outer;
-        match self.top.part {
-            Some(Word::Head(_)) => {
+        let Some(outside) = self.top.part else {
+            return self.close_item(is_chain, at, rest, names);
+        };
+        match outside {
+            Word::Head(_) => {
                 self.top.args.push(at)?;
                 Ok(Step::More(rest))
             }
-            Some(Word::Term(_)) => Ok(Step::Stuck),
-            None => self.close_item(is_chain, at, rest, names),
+            Word::Term(_) => Ok(Step::Stuck),
         }
     }
 

@@ -1,0 +1,143 @@
+-- The fields of a line, one by one.
+use Rattle.std.proofs.Common.{◌≡◌, ℕ, zero, suc, ◌+◌, ◌<◌, ◌≤◌, ◌^◌, Bool, true, false, List, [], ◌∷◌, ◌++◌, length, refl, ap, sym, subst, ◌∙◌, arith, codes, append_assoc, append-nil, IsTrue, Some, None, decimal, inl, inr}
+use Rattle.std.specs.Prelude.{◌==◌, not}
+use Rattle.std.specs.List.{list_all}
+use Rattle.std.proofs.lemmas.Bool.{eqb-true, eq-eqb}
+use Rattle.ll_bank.specs.Nodes.{Nodes, term_tree}
+use Rattle.ll_laws.specs.Output.{argument_text, term_text}
+use Rattle.ll_laws.specs.ProofText.{field, set_text}
+use Rattle.ll_laws.specs.declared.Part.{Part}
+use Rattle.ll_laws.specs.declared.Part.TheVariants.{Bounded, Unbounded}
+use Rattle.ll_prooftext.specs.declared.rows.Refusal.{Refusal}
+use Rattle.ll_prooftext.specs.declared.rows.Refusal.TheVariants as refusal
+use Rattle.ll_prooftext.specs.Reading.{Kind, Number, Set, Argument, Mark, Want, Nothing, Arguments, Premises, Then, after_field, may_end, IsField, IsNumber, IsSet, Fields, none, one, IsAtEnd, line_end, space, HasNoField}
+use Rattle.ll_prooftext.specs.Words.{Stops, ended, at_byte, is_not, BeginsNot, HasNone, IsSetAt}
+use Rattle.ll_prooftext.specs.Terms.{Grows, Moves, IsSpelledAt, argument_at}
+use Rattle.ll_prooftext.specs.Brackets.{IsArgumentAt}
+use Rattle.ll_prooftext.specs.Fields.{IsMissing, other, LacksField, LacksPart, IsBad, lacking, wrong, StopsAt, Refuses, IsNumberField, IsSetField, IsPartField, IsTermField}
+use Rattle.ll_prooftext.specs.Fields.{ended as all_read}
+use Rattle.ll_prooftext.proofs.Cuts.{one_cut}
+use Rattle.ll_prooftext.proofs.Labels.{decimal_not}
+
+-- ---- ends of fields
+
+-- where a field ends and no space follows the line ends
+pub end_empty : (bytes : List ℕ) → IsAtEnd bytes → BeginsNot 32 bytes → bytes ≡ []
+end_empty bytes line_end b = refl
+end_empty bytes (space {rest = rest}) b = absurd (b rest refl)
+
+pub stops_end : (rest : List ℕ) → Stops (is_not 32) rest → IsAtEnd rest
+stops_end rest (ended e) = subst IsAtEnd (sym e) line_end
+stops_end rest (at_byte b bs e f) = subst IsAtEnd (sym (e ∙ ap (λ x. x ∷ bs) (equal b f))) space
+  where
+    turned : (v : Bool) → not v ≡ false → v ≡ true
+    turned true h = refl
+    turned false h = absurd cc
+
+    equal : (b : ℕ) → is_not 32 b ≡ false → b ≡ 32
+    equal b f = eqb-true b 32 (turned (b == 32) f)
+
+end_stops : (rest : List ℕ) → IsAtEnd rest → Stops (is_not 32) rest
+end_stops rest line_end = ended refl
+end_stops rest (space {rest = bs}) = at_byte 32 bs refl refl
+
+-- ---- numbers
+
+pub number_none : (bytes word rest : List ℕ) → bytes ≡ word ++ rest → list_all (is_not 32) word ≡ true → Stops (is_not 32) rest → (IsNumber word → ⊥) → HasNone Number bytes
+number_none bytes word rest e f s bare field behind i g end =
+    let k = one_cut (is_not 32) word field rest behind f (subst (λ w. list_all (is_not 32) w ≡ true) (sym i.is) (decimal_not 32 i.number (let l = i.small in omega arith) (inl (omega arith)))) s (end_stops behind end) (sym e ∙ g) in
+    bare (subst IsNumber (sym k.0) i)
+
+-- ---- what is wrong
+
+-- no field of the one kind that may follow
+then_none : (k : Kind) (v : Want) (bytes : List ℕ) → HasNone k bytes → HasNoField (Then k v) bytes
+then_none Number v bytes h Number field rest next a i e end = h field rest i e end
+then_none Set v bytes h Set field rest next a i e end = h field rest i e end
+then_none Argument v bytes h Argument field rest next a i e end = h field rest i e end
+then_none Mark v bytes h Mark field rest next a i e end = h field rest i e end
+then_none Number v bytes h Set field rest next a i e end = let x : ⊥ = cc in x
+then_none Number v bytes h Argument field rest next a i e end = let x : ⊥ = cc in x
+then_none Number v bytes h Mark field rest next a i e end = let x : ⊥ = cc in x
+then_none Set v bytes h Number field rest next a i e end = let x : ⊥ = cc in x
+then_none Set v bytes h Argument field rest next a i e end = let x : ⊥ = cc in x
+then_none Set v bytes h Mark field rest next a i e end = let x : ⊥ = cc in x
+then_none Argument v bytes h Number field rest next a i e end = let x : ⊥ = cc in x
+then_none Argument v bytes h Set field rest next a i e end = let x : ⊥ = cc in x
+then_none Argument v bytes h Mark field rest next a i e end = let x : ⊥ = cc in x
+then_none Mark v bytes h Number field rest next a i e end = let x : ⊥ = cc in x
+then_none Mark v bytes h Set field rest next a i e end = let x : ⊥ = cc in x
+then_none Mark v bytes h Argument field rest next a i e end = let x : ⊥ = cc in x
+
+-- the field that should follow lacks
+pub stops_here : (k : Kind) (v : Want) (bytes : List ℕ) (left : ℕ) → LacksField k bytes left → StopsAt (Then k v) bytes left
+stops_here k v bytes left l = record { good = []; rest = bytes; next = Then k v; is = refl; fields = none; left_is = l.left_is; bad = bad l.missing }
+  where
+    bad : IsMissing k bytes → IsBad (Then k v) bytes
+    bad (all_read e) = lacking e refl
+    bad (other rest e h) = wrong rest e (then_none k v rest h)
+
+-- behind a good field
+pub stops_behind : (k : Kind) (v next : Want) (bytes text rest : List ℕ) (left : ℕ) → after_field v k ≡ Some next → IsField k text → bytes ≡ 32 ∷ (text ++ rest) → StopsAt next rest left → StopsAt v bytes left
+stops_behind k v next bytes text rest left a i e s = record {
+  good = 32 ∷ (text ++ s.good);
+  rest = s.rest;
+  next = s.next;
+  is = e ∙ (ap (λ z. 32 ∷ (text ++ z)) s.is ∙ ap (λ z. 32 ∷ z) (sym (append_assoc text s.good s.rest)));
+  fields = one k text next a i s.fields;
+  left_is = s.left_is;
+  bad = s.bad;
+}
+
+-- a field too many
+pub stops_more : (bytes : List ℕ) (left : ℕ) → IsAtEnd bytes → (bytes ≡ [] → ⊥) → left ≡ length bytes → StopsAt Nothing bytes left
+stops_more bytes left end full e = record { good = []; rest = bytes; next = Nothing; is = refl; fields = none; left_is = e; bad = bad bytes end full }
+  where
+    bad : (bs : List ℕ) → IsAtEnd bs → (bs ≡ [] → ⊥) → IsBad Nothing bs
+    bad bs line_end f = absurd (f refl)
+    bad bs (space {rest = rest}) f = wrong rest refl (λ k field behind next a i e z. let x : ⊥ = cc in x)
+
+-- ---- what the fields come to
+
+pub nothing_left : (k : Kind) (bytes : List ℕ) → IsAtEnd bytes → BeginsNot 32 bytes → LacksField k bytes (length bytes)
+nothing_left k bytes end b = record { left_is = refl; missing = all_read (end_empty bytes end b) }
+
+pub nothing_there : (k : Kind) (bytes rest : List ℕ) → bytes ≡ 32 ∷ rest → HasNone k rest → LacksField k bytes (length bytes)
+nothing_there k bytes rest e h = record { left_is = refl; missing = other rest e h }
+
+pub number_made : (bytes there word rest : List ℕ) (n : ℕ) → bytes ≡ 32 ∷ there → there ≡ word ++ rest → word ≡ decimal n → n < 2 ^ 32 → Stops (is_not 32) rest → IsNumberField bytes n rest
+number_made bytes there word rest n b t w small s = record { small = small; is = b ∙ ap (λ z. 32 ∷ z) (t ∙ ap (λ z. z ++ rest) w); end = stops_end rest s }
+
+-- a number is the last field
+pub number_last : (bytes rest : List ℕ) (n : ℕ) → IsNumberField bytes n rest → rest ≡ [] → IsNumberField bytes n []
+number_last bytes rest n f e = subst (IsNumberField bytes n) e f
+
+pub number_then : (bytes rest : List ℕ) (n left : ℕ) (next : Want) → IsNumberField bytes n rest → StopsAt next rest left → StopsAt (Then Number next) bytes left
+number_then bytes rest n left next f s = stops_behind Number (Then Number next) next bytes (decimal n) rest left refl (record { number = n; small = f.small; is = refl }) f.is s
+
+pub argument_then : (names : List (List ℕ)) (bank : Nodes) (bytes : List ℕ) (new : List (List ℕ)) (over : Nodes) (at : ℕ) (rest : List ℕ) (left : ℕ) (v next : Want) → after_field v Argument ≡ Some next → IsTermField names bank bytes new over at rest → StopsAt next rest left → StopsAt v bytes left
+argument_then names bank bytes new over at rest left v next a f s = stops_behind Argument v next bytes (argument_at new over at) rest left a (record { names = new; term = term_tree over at; spelled = f.good.spelled; closed = f.good.closed; is = refl }) f.is s
+
+pub set_then : (bytes labels rest : List ℕ) (left : ℕ) (v next : Want) → after_field v Set ≡ Some next → IsSetField bytes labels rest → StopsAt next rest left → StopsAt v bytes left
+set_then bytes labels rest left v next a f s = stops_behind Set v next bytes (set_text labels) rest left a (record { labels = labels; small = f.small; rising = f.rising; is = refl }) f.is s
+
+pub set_made_field : (bytes there labels rest : List ℕ) → bytes ≡ 32 ∷ there → IsSetAt there labels rest → IsSetField bytes labels rest
+set_made_field bytes there labels rest b s = record { small = s.small; rising = s.rising; is = b ∙ ap (λ z. 32 ∷ z) s.is; end = s.end }
+
+pub term_made_field : (names : List (List ℕ)) (bank : Nodes) (bytes there : List ℕ) (new : List (List ℕ)) (over : Nodes) (at : ℕ) (rest : List ℕ) → bytes ≡ 32 ∷ there → IsArgumentAt names bank there new over at rest → IsTermField names bank bytes new over at rest
+term_made_field names bank bytes there new over at rest b s = record {
+  good = s.good;
+  is = b ∙ ap (λ z. 32 ∷ z) s.is;
+  end = s.end;
+  moves = record { grows = s.moves.grows; keeps = s.moves.keeps; few = let f = s.moves.few in let l = ap length b in omega arith };
+}
+
+-- a refusal for another reason
+pub refuses_weaker : (P Q : ℕ → Type 0) → ((n : ℕ) → P n → Q n) → (e : Refusal) → Refuses P e → Refuses Q e
+refuses_weaker P Q f refusal.Word h = h
+refuses_weaker P Q f (refusal.Field left) h = f left h
+refuses_weaker P Q f refusal.OutOfMemory h = h
+
+pub not_empty : (bytes : List ℕ) {b : Bool} → b ≡ (length bytes == 0) → b ≡ false → bytes ≡ [] → ⊥
+not_empty [] h f e = absurd cc
+not_empty (x ∷ xs) h f e = absurd cc

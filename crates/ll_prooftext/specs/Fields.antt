@@ -1,0 +1,76 @@
+-- The fields of a line: what is read of one, and what is wrong behind the good ones.
+use Rattle.std.specs.Prelude.{◌≡◌, ℕ, ◌<◌, ◌^◌, false, List, [], ◌∷◌, ◌++◌, length, decimal, IsTrue}
+use Rattle.ll_bank.specs.Nodes.{Nodes}
+use Rattle.ll_laws.specs.Line.{rises, part_rises}
+use Rattle.ll_laws.specs.ProofText.{field, set_text, part_field}
+use Rattle.ll_laws.specs.ShownLines.{part_line}
+use Rattle.ll_laws.specs.declared.Part.{Part}
+use Rattle.ll_prooftext.specs.declared.rows.Refusal.{Refusal}
+use Rattle.ll_prooftext.specs.declared.rows.Refusal.TheVariants as refusal
+use Rattle.ll_prooftext.specs.Admitted.{AreLabels, IsSpelledPart}
+use Rattle.ll_prooftext.specs.Reading.{Kind, Set, Mark, Want, Fields, HasNoField, IsAtEnd, may_end}
+use Rattle.ll_prooftext.specs.Words.{HasNone}
+use Rattle.ll_prooftext.specs.Terms.{Moves, IsSpelledAt, argument_at}
+
+-- ---- refusals
+
+-- why a line was refused: a field is wrong or lacks where so many bytes are left, or want of memory
+abbrev pub Refuses : (ℕ → Type 0) → Refusal → Type 0
+Refuses P refusal.Word = ⊥
+Refuses P (refusal.Field left) = P left
+Refuses P refusal.OutOfMemory = Unit {0}
+
+-- no field of this kind stands behind a space
+pub data IsMissing (k : Kind) (bytes : List ℕ) : Type 0 where
+  ended : bytes ≡ [] → IsMissing k bytes
+  other : (rest : List ℕ) → bytes ≡ 32 ∷ rest → HasNone k rest → IsMissing k bytes
+
+pub record LacksField (k : Kind) (bytes : List ℕ) (left : ℕ) : Type 0 where
+  pub left_is : left ≡ length bytes
+  pub missing : IsMissing k bytes
+
+-- no premise stands behind a space
+pub record LacksPart (bytes : List ℕ) (left : ℕ) : Type 0 where
+  pub left_is : left ≡ length bytes
+  pub set : IsMissing Set bytes
+  pub mark : IsMissing Mark bytes
+
+-- what should follow is wrong or lacks
+pub data IsBad (v : Want) (bytes : List ℕ) : Type 0 where
+  lacking : bytes ≡ [] → may_end v ≡ false → IsBad v bytes
+  wrong : (rest : List ℕ) → bytes ≡ 32 ∷ rest → HasNoField v rest → IsBad v bytes
+
+-- behind good fields one is wrong or lacks, where so many bytes are left
+pub record StopsAt (v : Want) (bytes : List ℕ) (left : ℕ) : Type 0 where
+  pub good : List ℕ
+  pub rest : List ℕ
+  pub next : Want
+  pub is : bytes ≡ good ++ rest
+  pub fields : Fields v good next
+  pub left_is : left ≡ length rest
+  pub bad : IsBad next rest
+
+-- ---- fields
+
+pub record IsNumberField (bytes : List ℕ) (n : ℕ) (rest : List ℕ) : Type 0 where
+  pub small : n < 2 ^ 32
+  pub is : bytes ≡ field (decimal n) ++ rest
+  pub end : IsAtEnd rest
+
+pub record IsSetField (bytes labels rest : List ℕ) : Type 0 where
+  pub small : AreLabels labels
+  pub rising : IsTrue (rises labels)
+  pub is : bytes ≡ field (set_text labels) ++ rest
+  pub end : IsAtEnd rest
+
+pub record IsPartField (bytes : List ℕ) (part : Part) (rest : List ℕ) : Type 0 where
+  pub spelled : IsSpelledPart (part_line part)
+  pub rising : IsTrue (part_rises (part_line part))
+  pub is : bytes ≡ part_field (part_line part) ++ rest
+  pub end : IsAtEnd rest
+
+pub record IsTermField (names : List (List ℕ)) (bank : Nodes) (bytes : List ℕ) (new : List (List ℕ)) (over : Nodes) (at : ℕ) (rest : List ℕ) : Type 0 where
+  pub good : IsSpelledAt new over at
+  pub is : bytes ≡ field (argument_at new over at) ++ rest
+  pub end : IsAtEnd rest
+  pub moves : Moves names bank (length bytes) new over (length rest)

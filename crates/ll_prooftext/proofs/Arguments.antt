@@ -105,7 +105,7 @@ pub record IsReading (names : List (List ℕ)) (bank : Nodes) (inside : List ℕ
   pub moves : Moves names bank (length inside) new over (length rest)
   pub goes : (end : List ℕ) → Accepts end (fresh ∷ []) inside → Accepts end (frames o) rest
 
-moves_on : (a : List (List ℕ)) (p : Nodes) (i : ℕ) (b : List (List ℕ)) (q : Nodes) (j : ℕ) (c : List (List ℕ)) (r : Nodes) (k : ℕ) → Moves a p i b q j → Moves b q j c r k → Moves a p i c r k
+pub moves_on : (a : List (List ℕ)) (p : Nodes) (i : ℕ) (b : List (List ℕ)) (q : Nodes) (j : ℕ) (c : List (List ℕ)) (r : Nodes) (k : ℕ) → Moves a p i b q j → Moves b q j c r k → Moves a p i c r k
 moves_on a p i b q j c r k m n = record { grows = grows_on a b c m.grows n.grows; keeps = Extends-trans m.keeps n.keeps; few = let f = m.few in let g = n.few in omega arith }
 
 pub reading_on : (names : List (List ℕ)) (bank : Nodes) (inside : List ℕ) (new : List (List ℕ)) (over : Nodes) (o : Open) (rest : List ℕ) (later : List (List ℕ)) (after : Nodes) (p : Open) (left : List ℕ) → IsReading names bank inside new over o rest → Turns new over o rest later after p left → IsReading names bank inside later after p left

@@ -13,10 +13,19 @@ use Rattle.ll_prooftext.specs.declared.rows.Refusal.TheVariants as refusal
 use Rattle.ll_prooftext.specs.Reading.{Kind, Number, Set, Argument, Mark, Want, Nothing, Arguments, Premises, Then, after_field, may_end, IsField, IsNumber, IsSet, Fields, none, one, IsAtEnd, line_end, space, HasNoField}
 use Rattle.ll_prooftext.specs.Words.{Stops, ended, at_byte, is_not, BeginsNot, HasNone, IsSetAt}
 use Rattle.ll_prooftext.specs.Terms.{Grows, Moves, IsSpelledAt, argument_at}
-use Rattle.ll_prooftext.specs.Brackets.{IsArgumentAt}
-use Rattle.ll_prooftext.specs.Fields.{IsMissing, other, LacksField, LacksPart, IsBad, lacking, wrong, StopsAt, Refuses, IsNumberField, IsSetField, IsPartField, IsTermField}
+use Rattle.std.specs.List.{flat_map}
+use Rattle.std.proofs.lemmas.List.Concat.{flat_map-append}
+use Rattle.std.proofs.lemmas.List.Elements.{All-nil, All-push, All-weaker}
+use Rattle.ll_bank.specs.declared.At.{At}
+use Rattle.ll_bank.proofs.Trees.{Extends-refl}
+use Rattle.ll_prooftext.specs.Brackets.{IsArgumentAt, args_text}
+use Rattle.ll_prooftext.proofs.Found.{grows_none}
+use Rattle.ll_prooftext.proofs.Steps.{flat_same, arg_same, arg_good}
+use Rattle.ll_prooftext.proofs.Arguments.{moves_on}
+use Rattle.ll_prooftext.specs.Fields.{IsMissing, other, LacksField, LacksPart, IsBad, lacking, wrong, StopsAt, Refuses, IsNumberField, IsSetField, IsPartField, IsTermField, AreSets, BeginsPart, brace, mark, HasNoTerm, AreTermFields, ArePartFields}
 use Rattle.ll_prooftext.specs.Fields.{ended as all_read}
 use Rattle.ll_prooftext.proofs.Cuts.{one_cut}
+use Rattle.ll_prooftext.proofs.Ways.{byte_apart, behind_byte}
 use Rattle.ll_prooftext.proofs.Labels.{decimal_not}
 
 -- ---- ends of fields
@@ -141,3 +150,119 @@ refuses_weaker P Q f refusal.OutOfMemory h = h
 pub not_empty : (bytes : List ℕ) {b : Bool} → b ≡ (length bytes == 0) → b ≡ false → bytes ≡ [] → ⊥
 not_empty [] h f e = absurd cc
 not_empty (x ∷ xs) h f e = absurd cc
+
+-- ---- premises
+
+pub part_nothing_left : (bytes : List ℕ) → IsAtEnd bytes → BeginsNot 32 bytes → LacksPart bytes (length bytes)
+part_nothing_left bytes end b = record { left_is = refl; set = all_read (end_empty bytes end b); mark = all_read (end_empty bytes end b) }
+
+byte_of_mark : (field : List ℕ) → IsField Mark field → field ≡ 33 ∷ []
+byte_of_mark field e = e
+
+-- `!` with no end behind it
+pub part_marked : (bytes there rest : List ℕ) → bytes ≡ 32 ∷ there → there ≡ 33 ∷ rest → (IsAtEnd rest → ⊥) → LacksPart bytes (length bytes)
+part_marked bytes there rest b t bare = record { left_is = refl; set = other there b no_set; mark = other there b no_mark }
+  where
+    no_set : HasNone Set there
+    no_set field behind i e end = byte_apart _ _ _ _ (sym t ∙ (e ∙ ap (λ z. z ++ behind) i.is)) refl
+
+    no_mark : HasNone Mark there
+    no_mark field behind i e end = let q : 33 ∷ rest ≡ 33 ∷ behind = sym t ∙ (e ∙ ap (λ z. z ++ behind) (byte_of_mark field i)) in bare (subst IsAtEnd (sym (behind_byte 33 rest behind q)) end)
+
+-- no set, and no `!`
+pub part_other : (bytes there : List ℕ) → bytes ≡ 32 ∷ there → BeginsNot 33 there → HasNone Set there → LacksPart bytes (length bytes)
+part_other bytes there b bare h = record { left_is = refl; set = other there b h; mark = other there b no_mark }
+  where
+    no_mark : HasNone Mark there
+    no_mark field behind i e end = bare behind (e ∙ ap (λ z. z ++ behind) (byte_of_mark field i))
+
+pub part_unbounded : (bytes there rest : List ℕ) → bytes ≡ 32 ∷ there → there ≡ 33 ∷ rest → IsAtEnd rest → IsPartField bytes Unbounded rest
+part_unbounded bytes there rest b t end = record { spelled = tt; rising = refl; is = b ∙ ap (λ z. 32 ∷ z) t; end = end }
+
+-- ---- two sets
+
+pub sets_made : (bytes s middle t rest : List ℕ) → IsSetField bytes s middle → IsSetField middle t rest → rest ≡ [] → AreSets bytes s t
+sets_made bytes s middle t rest f g e = record {
+  small = (f.small, g.small);
+  rising = (f.rising, g.rising);
+  is = f.is ∙ ap (λ z. field (set_text s) ++ z) (g.is ∙ (ap (λ z. field (set_text t) ++ z) e ∙ append-nil (field (set_text t))));
+}
+
+-- ---- terms of a clause step
+
+fields_on : (v w u : Want) (a b : List ℕ) → Fields v a w → Fields w b u → Fields v (a ++ b) u
+fields_on v w u a b none g = g
+fields_on v w u a b (one {rest = rest} k field next e i f) g =
+    subst (λ z. Fields v z u) (ap (λ z. 32 ∷ z) (sym (append_assoc field rest b))) (one k field next e i (fields_on next w u rest b f g))
+
+-- behind good fields
+stops_after : (v w : Want) (bytes good rest : List ℕ) (left : ℕ) → bytes ≡ good ++ rest → Fields v good w → StopsAt w rest left → StopsAt v bytes left
+stops_after v w bytes good rest left e f s = record {
+  good = good ++ s.good;
+  rest = s.rest;
+  next = s.next;
+  is = e ∙ (ap (λ z. good ++ z) s.is ∙ sym (append_assoc good s.good s.rest));
+  fields = fields_on v w s.next good s.good f s.fields;
+  left_is = s.left_is;
+  bad = s.bad;
+}
+
+pub terms_none : (names : List (List ℕ)) (bank : Nodes) (bytes : List ℕ) → IsAtEnd bytes → AreTermFields names bank bytes names bank [] bytes
+terms_none names bank bytes end = record {
+  good = All-nil (λ (a : At). IsSpelledAt names bank a.0);
+  is = refl;
+  fields = none;
+  end = end;
+  moves = record { grows = grows_none names; keeps = Extends-refl bank; few = omega arith };
+}
+
+pub terms_more : (names : List (List ℕ)) (bank : Nodes) (bytes : List ℕ) (new : List (List ℕ)) (over : Nodes) (terms : List At) (rest : List ℕ) (later : List (List ℕ)) (after : Nodes) (at : At) (next : List ℕ) → AreTermFields names bank bytes new over terms rest → IsTermField new over rest later after at.0 next
+    → AreTermFields names bank bytes later after (terms ++ at ∷ []) next
+terms_more names bank bytes new over terms rest later after at next t f =
+    let g = f.moves.grows in
+    let e = f.moves.keeps in
+    let same : args_text later after terms ≡ args_text new over terms = flat_same (λ (a : At). IsSpelledAt new over a.0) (λ (a : At). field (argument_at later after a.0)) (λ (a : At). field (argument_at new over a.0)) (arg_same new over later after g e) terms t.good in
+    let arg = argument_at later after at.0 in
+    let text : args_text later after (terms ++ at ∷ []) ≡ args_text new over terms ++ (32 ∷ (arg ++ [])) = flat_map-append (λ (a : At). field (argument_at later after a.0)) terms (at ∷ []) ∙ ap (λ z. z ++ (32 ∷ (arg ++ []))) same in
+    let i : IsField Argument arg = record { names = later; term = term_tree after at.0; spelled = f.good.spelled; closed = f.good.closed; is = refl } in
+    record {
+      good = All-push (λ (a : At). IsSpelledAt later after a.0) terms at (All-weaker (λ (a : At). IsSpelledAt new over a.0) (λ (a : At). IsSpelledAt later after a.0) (arg_good new over later after g e) terms t.good) f.good;
+      is = t.is ∙ (ap (λ z. args_text new over terms ++ z) f.is ∙ (together (args_text new over terms) arg next ∙ ap (λ z. z ++ next) (sym text)));
+      fields = subst (λ z. Fields Arguments z Arguments) (sym text) (fields_on Arguments Arguments Arguments (args_text new over terms) (32 ∷ (arg ++ [])) t.fields (one Argument arg Arguments refl i none));
+      end = f.end;
+      moves = moves_on names bank (length bytes) new over (length rest) later after (length next) t.moves f.moves;
+    }
+  where
+    together : (a b c : List ℕ) → a ++ ((32 ∷ b) ++ c) ≡ (a ++ (32 ∷ (b ++ []))) ++ c
+    together a b c = simp (append_assoc, append-nil)
+
+-- no term, and no premise either
+no_argument_field : (rest : List ℕ) → (HasNoTerm (32 ∷ rest) → ⊥) → HasNone Argument rest → HasNoField Arguments rest
+no_argument_field rest bare h Number field behind next a i e end = let x : ⊥ = cc in x
+no_argument_field rest bare h Argument field behind next a i e end = h field behind i e end
+no_argument_field rest bare h Set field behind next a i e end = bare (inr (brace _ (ap (λ z. 32 ∷ z) (e ∙ ap (λ z. z ++ behind) i.is))))
+no_argument_field rest bare h Mark field behind next a i e end = bare (inr (mark _ (ap (λ z. 32 ∷ z) (e ∙ ap (λ z. z ++ behind) (byte_of_mark field i)))))
+
+pub terms_stop : (names : List (List ℕ)) (bank : Nodes) (bytes : List ℕ) (new : List (List ℕ)) (over : Nodes) (terms : List At) (rest : List ℕ) (left : ℕ) → AreTermFields names bank bytes new over terms rest → (HasNoTerm rest → ⊥) → LacksField Argument rest left → StopsAt Arguments bytes left
+terms_stop names bank bytes new over terms rest left t bare l =
+    stops_after Arguments Arguments bytes (args_text new over terms) rest left t.is t.fields (record { good = []; rest = rest; next = Arguments; is = refl; fields = none; left_is = l.left_is; bad = bad l.missing })
+  where
+    bad : IsMissing Argument rest → IsBad Arguments rest
+    bad (all_read e) = absurd (bare (inl e))
+    bad (other there e h) = wrong there e (no_argument_field there (subst (λ z. HasNoTerm z → ⊥) e bare) h)
+
+-- ---- where no term stands
+
+pub no_term_end : (bytes : List ℕ) → IsAtEnd bytes → BeginsNot 32 bytes → HasNoTerm bytes
+no_term_end bytes end b = inl (end_empty bytes end b)
+
+pub no_term_brace : (bytes there rest : List ℕ) → bytes ≡ 32 ∷ there → there ≡ 123 ∷ rest → HasNoTerm bytes
+no_term_brace bytes there rest b t = inr (brace rest (b ∙ ap (λ z. 32 ∷ z) t))
+
+pub no_term_mark : (bytes there rest : List ℕ) → bytes ≡ 32 ∷ there → there ≡ 33 ∷ rest → HasNoTerm bytes
+no_term_mark bytes there rest b t = inr (mark rest (b ∙ ap (λ z. 32 ∷ z) t))
+
+pub some_term : (bytes there : List ℕ) → bytes ≡ 32 ∷ there → BeginsNot 123 there → BeginsNot 33 there → HasNoTerm bytes → ⊥
+some_term bytes there b s m (inl e) = let q : [] ≡ 32 ∷ there = sym e ∙ b in let x : ⊥ = cc in x
+some_term bytes there b s m (inr (brace rest e)) = s rest (behind_byte 32 there (123 ∷ rest) (sym b ∙ e))
+some_term bytes there b s m (inr (mark rest e)) = m rest (behind_byte 32 there (33 ∷ rest) (sym b ∙ e))

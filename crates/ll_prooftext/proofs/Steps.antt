@@ -55,7 +55,7 @@ module _ (names : List (List ℕ)) (bank : Nodes) (new : List (List ℕ)) (over 
   part_same (Some (HeadWord x)) args h = (head_on names new x g h).1
   part_same (Some (LeafWord at)) args h = (at_kept names bank new over at.0 g e h.1.0).text
 
-  arg_good : (a : At) → IsSpelledAt names bank a.0 → IsSpelledAt new over a.0
+  pub arg_good : (a : At) → IsSpelledAt names bank a.0 → IsSpelledAt new over a.0
   arg_good a h = (at_kept names bank new over a.0 g e h).good
 
   pub arg_same : (a : At) → IsSpelledAt names bank a.0 → field (argument_at new over a.0) ≡ field (argument_at names bank a.0)

@@ -1,16 +1,21 @@
 -- The fields of a line: what is read of one, and what is wrong behind the good ones.
-use Rattle.std.specs.Prelude.{◌≡◌, ℕ, ◌<◌, ◌^◌, false, List, [], ◌∷◌, ◌++◌, length, decimal, IsTrue}
+use Rattle.std.specs.Prelude.{◌≡◌, ℕ, ◌<◌, ◌^◌, true, false, List, [], ◌∷◌, ◌++◌, length, map, All, decimal, IsTrue, ◌⊎◌}
+use Rattle.std.specs.List.{flat_map, list_all}
+use Rattle.ll_bank.specs.declared.At.{At}
 use Rattle.ll_bank.specs.Nodes.{Nodes}
 use Rattle.ll_laws.specs.Line.{rises, part_rises}
 use Rattle.ll_laws.specs.ProofText.{field, set_text, part_field}
 use Rattle.ll_laws.specs.ShownLines.{part_line}
 use Rattle.ll_laws.specs.declared.Part.{Part}
+use Rattle.ll_laws.specs.declared.Rule.{Rule}
+use Rattle.ll_laws.specs.declared.Rule.TheVariants.{Tensor}
 use Rattle.ll_prooftext.specs.declared.rows.Refusal.{Refusal}
 use Rattle.ll_prooftext.specs.declared.rows.Refusal.TheVariants as refusal
 use Rattle.ll_prooftext.specs.Admitted.{AreLabels, IsSpelledPart}
-use Rattle.ll_prooftext.specs.Reading.{Kind, Set, Mark, Want, Fields, HasNoField, IsAtEnd, may_end}
+use Rattle.ll_prooftext.specs.Reading.{Kind, Set, Mark, Want, Arguments, Fields, HasNoField, IsAtEnd, may_end}
 use Rattle.ll_prooftext.specs.Words.{HasNone}
 use Rattle.ll_prooftext.specs.Terms.{Moves, IsSpelledAt, argument_at}
+use Rattle.ll_prooftext.specs.Brackets.{args_text}
 
 -- ---- refusals
 
@@ -74,3 +79,38 @@ pub record IsTermField (names : List (List ℕ)) (bank : Nodes) (bytes : List �
   pub is : bytes ≡ field (argument_at new over at) ++ rest
   pub end : IsAtEnd rest
   pub moves : Moves names bank (length bytes) new over (length rest)
+
+-- two sets, and nothing behind them
+pub record AreSets (bytes s t : List ℕ) : Type 0 where
+  pub small : AreLabels s × AreLabels t
+  pub rising : IsTrue (rises s) × IsTrue (rises t)
+  pub is : bytes ≡ field (set_text s) ++ field (set_text t)
+
+abbrev pub IsTensor : List ℕ → Rule → Type 0
+IsTensor bytes (Tensor s t) = AreSets bytes s.items t.items
+IsTensor bytes _ = ⊥
+
+-- ---- terms and premises of a clause step
+
+-- a premise begins behind a space
+pub data BeginsPart (bytes : List ℕ) : Type 0 where
+  brace : (rest : List ℕ) → bytes ≡ 32 ∷ 123 ∷ rest → BeginsPart bytes
+  mark : (rest : List ℕ) → bytes ≡ 32 ∷ 33 ∷ rest → BeginsPart bytes
+
+-- no term stands here: the line ends, or a premise begins
+abbrev pub HasNoTerm : List ℕ → Type 0
+HasNoTerm bytes = (bytes ≡ []) ⊎ BeginsPart bytes
+
+-- terms were read up to here
+pub record AreTermFields (names : List (List ℕ)) (bank : Nodes) (bytes : List ℕ) (new : List (List ℕ)) (over : Nodes) (terms : List At) (rest : List ℕ) : Type 0 where
+  pub good : All (λ a. IsSpelledAt new over a.0) terms
+  pub is : bytes ≡ args_text new over terms ++ rest
+  pub fields : Fields Arguments (args_text new over terms) Arguments
+  pub end : IsAtEnd rest
+  pub moves : Moves names bank (length bytes) new over (length rest)
+
+-- the premises, up to the end of the line
+pub record ArePartFields (bytes : List ℕ) (parts : List Part) : Type 0 where
+  pub spelled : All IsSpelledPart (map part_line parts)
+  pub rising : list_all part_rises (map part_line parts) ≡ true
+  pub is : bytes ≡ flat_map part_field (map part_line parts)

@@ -1,9 +1,8 @@
 //! What a line of a derivation's text says, read field by field.
-ghost use Rattle.std.specs.Prelude.{◌≡◌, ℕ, ◌+◌, ◌<◌, ◌^◌, ◌++◌, [], length, decimal, IfOk, IfErr, OnOk};
-ghost use Rattle.ll_laws.specs.ProofText.{field};
-ghost use Rattle.ll_prooftext.specs.Reading.{Number, Set, Argument, Want, Nothing, Then, IsAtEnd};
-ghost use Rattle.ll_prooftext.specs.Terms.{Grows, Moves, IsSpelledAt, argument_at};
-ghost use Rattle.ll_prooftext.specs.Fields.{Refuses, LacksField, LacksPart, StopsAt, IsNumberField, IsSetField, IsPartField, IsTermField};
+ghost use Rattle.std.specs.Prelude.{◌≡◌, ◌+◌, ◌<◌, ◌^◌, [], length, IfOk, IfErr, OnOk, MatchBool};
+ghost use Rattle.ll_prooftext.specs.Reading.{Number, Set, Argument, Arguments, Nothing, Then, IsAtEnd};
+ghost use Rattle.ll_prooftext.specs.Terms.{Grows};
+ghost use Rattle.ll_prooftext.specs.Fields.{Refuses, LacksField, LacksPart, StopsAt, IsNumberField, IsSetField, IsPartField, IsTermField, IsTensor, HasNoTerm, AreTermFields, ArePartFields};
 
 use crate::bytes::{behind, split_before};
 use crate::numbers::number_of;
@@ -164,10 +163,14 @@ fn plain(word: RowWord) -> Rule {
 }
 
 /// Two sets.
-fn tensor(alloc: Global, rest: &[u8]) -> Result<Rule, Refusal> {
-    let (first, rest) = set_field(alloc, rest)?;
-    let (second, rest) = set_field(alloc, rest)?;
-    no_more(rest)?;
+fn tensor(alloc: Global, bytes: &[u8]) -> Result<Rule, Refusal>
+    requires { IsAtEnd bytes.now }
+    ensures ok { IfOk result (IsTensor bytes.now) }
+    ensures err { IfErr result (Refuses (StopsAt (Then Set (Then Set Nothing)) bytes.now)) }
+{
+    let (first, behind_first) = set_field(alloc, bytes)?;
+    let (second, behind_second) = set_field(alloc, behind_first)?;
+    no_more(behind_second)?;
     Ok(Rule::Tensor(first, second))
 }
 
@@ -196,10 +199,17 @@ fn term_fields<'a>(
     bytes: &'a [u8],
     names: &mut Names,
     bank: &mut Bank,
-) -> Result<(Vec<At>, &'a [u8]), Refusal> {
+) -> Result<(Vec<At>, &'a [u8]), Refusal>
+    requires end { IsAtEnd bytes.now }
+    requires room { length names.old + length bytes.now < 2 ^ 32 }
+    ensures ok { IfOk result (λ p. AreTermFields names.old bank.old bytes.now names.new bank.new p.0.items p.1.now) }
+    ensures stops { IfOk result (λ p. HasNoTerm p.1.now) }
+    ensures err { IfErr result (Refuses (StopsAt Arguments bytes.now)) }
+    ensures grows { Grows names.old names.new }
+{
     let mut terms = Vec::new(alloc);
     let mut rest = bytes;
-    while !rest.is_empty() && !begins_part(rest) {
+    while has_term(rest) {
         let (at, next) = term_field(alloc, rest, names, bank)?;
         terms.push(at)?;
         rest = next;
@@ -207,16 +217,27 @@ fn term_fields<'a>(
     Ok((terms, rest))
 }
 
-/// Whether the next field begins as a premise does.
-fn begins_part(bytes: &[u8]) -> bool {
-    match behind(bytes, b' ') {
-        Some(field) => behind(field, b'{').is_some() || behind(field, b'!').is_some(),
-        None => false,
+/// Whether a term stands here: the line goes on, and no premise begins.
+fn has_term(bytes: &[u8]) -> bool
+    requires { IsAtEnd bytes.now }
+    ensures { MatchBool result (HasNoTerm bytes.now → ⊥) (HasNoTerm bytes.now) }
+{
+    let Some(field) = behind(bytes, b' ') else {
+        return false;
+    };
+    if behind(field, b'{').is_some() {
+        return false;
     }
+    behind(field, b'!').is_none()
 }
 
 /// The premises up to the end of the line.
-fn part_fields(alloc: Global, bytes: &[u8]) -> Result<Vec<Part>, Refusal> {
+fn part_fields(alloc: Global, bytes: &[u8]) -> Result<Vec<Part>, Refusal>
+    requires end { IsAtEnd bytes.now }
+    requires begins { HasNoTerm bytes.now }
+    ensures ok { IfOk result (λ parts. ArePartFields bytes.now parts.items) }
+    ensures err { IfErr result (Refuses (StopsAt Arguments bytes.now)) }
+{
     let mut parts = Vec::new(alloc);
     let mut rest = bytes;
     while !rest.is_empty() {

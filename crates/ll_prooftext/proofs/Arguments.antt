@@ -1,6 +1,7 @@
 -- Arguments, whole.
 use Rattle.std.proofs.Common.{◌≡◌, ℕ, zero, suc, ◌+◌, ◌<◌, ◌≤◌, Bool, true, false, cond, List, [], ◌∷◌, ◌++◌, length, All, refl, ap, sym, subst, ◌∙◌, arith, codes, append_assoc, append-nil, IsTrue, Some, None, decimal}
 use Rattle.std.proofs.lemmas.List.Elements.{All-nil}
+use Rattle.std.specs.Prelude.{◌==◌}
 use Rattle.ll_bank.specs.declared.At.{At}
 use Rattle.ll_bank.specs.declared.Head.{Head}
 use Rattle.ll_bank.specs.Term.{Term, Var, Int, Con, Ap}
@@ -12,10 +13,10 @@ use Rattle.ll_prooftext.specs.declared.terms.Open.{Open}
 use Rattle.ll_prooftext.specs.Admitted.{IsSpelledTerm}
 use Rattle.ll_prooftext.specs.Reading.{IsArgument, IsAtEnd, line_end, space, Argument}
 use Rattle.ll_prooftext.specs.Words.{Stops, ended, at_byte, BeginsNot, HasNone}
-use Rattle.ll_prooftext.specs.Terms.{is_part, Shape, Bare, Closed, IsWord, variable, number, IsWordAt, HasNoWord, Frame, fresh, Accepts, Grows, Moves, IsSpelledAt, argument_at}
+use Rattle.ll_prooftext.specs.Terms.{is_part, Shape, Wanted, Bare, Applied, Closed, IsWord, variable, number, IsWordAt, HasNoWord, Frame, fresh, Accepts, Grows, Moves, IsSpelledAt, argument_at}
 use Rattle.ll_prooftext.specs.Brackets.{shape_of, frames, open_text, IsGoodItem, IsGoodPart, IsGoodBracket, IsGood, Turns, Ends, IsStep, IsTermFrom, IsArgumentAt}
 use Rattle.ll_prooftext.proofs.Found.{grows_none, grows_on}
-use Rattle.ll_prooftext.proofs.Spellings.{one_word, word_parts}
+use Rattle.ll_prooftext.proofs.Spellings.{one_word, word_parts, Starts, head_start, leaf_start, head_first, leaf_first}
 use Rattle.ll_prooftext.proofs.Reach.{head_word, accepts_whole}
 use Rattle.ll_prooftext.proofs.Steps.{word_good, word_text, word_shape, part_term, leaf_argument}
 use Rattle.ll_prooftext.proofs.Ways.{no_bracket, byte_apart, behind_byte}
@@ -152,3 +153,24 @@ reading_begins names bank inside o e i p a = record {
 
 pub not_ended : {b : Bool} {left : List ℕ} → (IsTrue b → IsAtEnd left) × (IsAtEnd left → IsTrue b) → b ≡ false → IsAtEnd left → ⊥
 not_ended {b} h f e = let t : b ≡ true = h.1 e in let x : ⊥ = cc in x
+
+-- no argument begins with `{` or `!`
+pub argument_first : (field behind bs : List ℕ) (b : ℕ) → IsArgument field → field ++ behind ≡ b ∷ bs → head_start b ≡ false → leaf_start b ≡ false → (40 == b) ≡ false → ⊥
+argument_first field behind bs b i e h l n = by_form (form field i)
+  where
+    begins : (p : ℕ → Bool) → Starts p field → p b ≡ false → ⊥
+    begins p s f =
+        let g : s.byte ∷ (s.others ++ behind) ≡ b ∷ bs = ap (λ z. z ++ behind) (sym s.is) ∙ e in
+        let q : s.byte ≡ b = cc in
+        let t : false ≡ true = sym f ∙ (ap p (sym q) ∙ s.passes) in
+        let x : ⊥ = cc in x
+
+    by_word : (p : Shape) → IsWord field p → ⊥
+    by_word Wanted w = w
+    by_word Applied w = w
+    by_word Bare w = begins head_start (head_first field w) h
+    by_word Closed w = begins leaf_start (leaf_first field w) l
+
+    by_form : Form field i → ⊥
+    by_form (bare p w) = by_word p w
+    by_form (boxed a f) = byte_apart 40 b ((term_text i.names i.term ++ 41 ∷ []) ++ behind) bs (ap (λ z. z ++ behind) (sym f) ∙ e) n

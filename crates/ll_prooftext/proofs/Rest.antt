@@ -5,7 +5,14 @@ use Rattle.std.specs.List.{list_all}
 use Rattle.std.proofs.lemmas.Bool.{eqb-true, eq-eqb}
 use Rattle.ll_bank.specs.Nodes.{Nodes, term_tree}
 use Rattle.ll_laws.specs.Output.{argument_text, term_text}
-use Rattle.ll_laws.specs.ProofText.{field, set_text}
+use Rattle.ll_laws.specs.ProofText.{field, set_text, part_field}
+use Rattle.ll_laws.specs.Line.{part_rises}
+use Rattle.ll_laws.specs.ShownLines.{part_line}
+use Rattle.std.proofs.Common.{map, All}
+use Rattle.std.proofs.lemmas.List.{map-append}
+use Rattle.std.proofs.lemmas.List.Folds.{list_all-append}
+use Rattle.ll_lexer.specs.Spelling.{is_lower}
+use Rattle.ll_prooftext.specs.Admitted.{IsSpelledPart}
 use Rattle.ll_laws.specs.declared.Part.{Part}
 use Rattle.ll_laws.specs.declared.Part.TheVariants.{Bounded, Unbounded}
 use Rattle.ll_prooftext.specs.declared.rows.Refusal.{Refusal}
@@ -21,7 +28,7 @@ use Rattle.ll_bank.proofs.Trees.{Extends-refl}
 use Rattle.ll_prooftext.specs.Brackets.{IsArgumentAt, args_text}
 use Rattle.ll_prooftext.proofs.Found.{grows_none}
 use Rattle.ll_prooftext.proofs.Steps.{flat_same, arg_same, arg_good}
-use Rattle.ll_prooftext.proofs.Arguments.{moves_on}
+use Rattle.ll_prooftext.proofs.Arguments.{moves_on, argument_first}
 use Rattle.ll_prooftext.specs.Fields.{IsMissing, other, LacksField, LacksPart, IsBad, lacking, wrong, StopsAt, Refuses, IsNumberField, IsSetField, IsPartField, IsTermField, AreSets, BeginsPart, brace, mark, HasNoTerm, AreTermFields, ArePartFields}
 use Rattle.ll_prooftext.specs.Fields.{ended as all_read}
 use Rattle.ll_prooftext.proofs.Cuts.{one_cut}
@@ -266,3 +273,80 @@ pub some_term : (bytes there : List ℕ) → bytes ≡ 32 ∷ there → BeginsNo
 some_term bytes there b s m (inl e) = let q : [] ≡ 32 ∷ there = sym e ∙ b in let x : ⊥ = cc in x
 some_term bytes there b s m (inr (brace rest e)) = s rest (behind_byte 32 there (123 ∷ rest) (sym b ∙ e))
 some_term bytes there b s m (inr (mark rest e)) = m rest (behind_byte 32 there (33 ∷ rest) (sym b ∙ e))
+
+-- ---- premises of a clause step
+
+-- what may follow is premises alone
+abbrev pub OnlyParts : Want → List ℕ → Type 0
+OnlyParts Premises rest = Unit {0}
+OnlyParts Arguments rest = HasNoTerm rest
+OnlyParts _ rest = ⊥
+
+-- premises were read up to here
+pub record ArePartsTo (bytes : List ℕ) (parts : List Part) (rest : List ℕ) : Type 0 where
+  pub next : Want
+  pub spelled : All IsSpelledPart (map part_line parts)
+  pub rising : list_all part_rises (map part_line parts) ≡ true
+  pub is : bytes ≡ flat_map part_field (map part_line parts) ++ rest
+  pub fields : Fields Arguments (flat_map part_field (map part_line parts)) next
+  pub only : OnlyParts next rest
+  pub end : IsAtEnd rest
+
+pub parts_none : (bytes : List ℕ) → IsAtEnd bytes → HasNoTerm bytes → ArePartsTo bytes [] bytes
+parts_none bytes end h = record { next = Arguments; spelled = All-nil IsSpelledPart; rising = refl; is = refl; fields = none; only = h; end = end }
+
+-- one premise after those that may follow
+one_part : (v : Want) (rest : List ℕ) (part : Part) → OnlyParts v rest → IsSpelledPart (part_line part) → IsTrue (part_rises (part_line part)) → Fields v (part_field (part_line part) ++ []) Premises
+one_part Premises rest (Bounded s) o sp r = one Set (set_text s.items) Premises refl (record { labels = s.items; small = sp; rising = r; is = refl }) none
+one_part Premises rest Unbounded o sp r = one Mark (codes "!") Premises refl refl none
+one_part Arguments rest (Bounded s) o sp r = one Set (set_text s.items) Premises refl (record { labels = s.items; small = sp; rising = r; is = refl }) none
+one_part Arguments rest Unbounded o sp r = one Mark (codes "!") Premises refl refl none
+one_part Nothing rest part o sp r = absurd o
+one_part (Then k v) rest part o sp r = absurd o
+
+pub parts_more : (bytes : List ℕ) (parts : List Part) (rest : List ℕ) (part : Part) (behind : List ℕ) → ArePartsTo bytes parts rest → IsPartField rest part behind → ArePartsTo bytes (parts ++ part ∷ []) behind
+parts_more bytes parts rest part behind t f =
+    let lines : map part_line (parts ++ part ∷ []) ≡ map part_line parts ++ part_line part ∷ [] = map-append part_line parts (part ∷ []) in
+    let text : flat_map part_field (map part_line (parts ++ part ∷ [])) ≡ flat_map part_field (map part_line parts) ++ (part_field (part_line part) ++ []) = ap (flat_map part_field) lines ∙ flat_map-append part_field (map part_line parts) (part_line part ∷ []) in
+    record {
+      next = Premises;
+      spelled = subst (All IsSpelledPart) (sym lines) (All-push IsSpelledPart (map part_line parts) (part_line part) t.spelled f.spelled);
+      rising = ap (list_all part_rises) lines ∙ (list_all-append part_rises (map part_line parts) (part_line part ∷ []) ∙ (let a = t.rising in let b : part_rises (part_line part) ≡ true = f.rising in rw (a, b) refl));
+      is = t.is ∙ (ap (λ z. flat_map part_field (map part_line parts) ++ z) f.is ∙ (together (flat_map part_field (map part_line parts)) (part_field (part_line part)) behind ∙ ap (λ z. z ++ behind) (sym text)));
+      fields = subst (λ z. Fields Arguments z Premises) (sym text) (fields_on Arguments t.next Premises (flat_map part_field (map part_line parts)) (part_field (part_line part) ++ []) t.fields (one_part t.next rest part t.only f.spelled f.rising));
+      only = tt;
+      end = f.end;
+    }
+  where
+    together : (a b c : List ℕ) → a ++ (b ++ c) ≡ (a ++ (b ++ [])) ++ c
+    together a b c = simp (append_assoc, append-nil)
+
+no_part_field : (v : Want) (rest there : List ℕ) → rest ≡ 32 ∷ there → OnlyParts v rest → HasNone Set there → HasNone Mark there → HasNoField v there
+unfolding is_lower
+no_part_field v rest there b o s m Set field behind next a i e end = s field behind i e end
+no_part_field v rest there b o s m Mark field behind next a i e end = m field behind i e end
+no_part_field Premises rest there b o s m Number field behind next a i e end = let x : ⊥ = cc in x
+no_part_field Premises rest there b o s m Argument field behind next a i e end = let x : ⊥ = cc in x
+no_part_field Arguments rest there b o s m Number field behind next a i e end = let x : ⊥ = cc in x
+no_part_field Arguments rest there b o s m Argument field behind next a i e end = by_begin o
+  where
+    by_begin : HasNoTerm rest → ⊥
+    by_begin (inl n) = let q : [] ≡ 32 ∷ there = sym n ∙ b in let x : ⊥ = cc in x
+    by_begin (inr (brace r f)) = argument_first field behind r 123 i (sym e ∙ behind_byte 32 there (123 ∷ r) (sym b ∙ f)) refl refl refl
+    by_begin (inr (mark r f)) = argument_first field behind r 33 i (sym e ∙ behind_byte 32 there (33 ∷ r) (sym b ∙ f)) refl refl refl
+no_part_field Nothing rest there b o s m k field behind next a i e end = o
+no_part_field (Then j v) rest there b o s m k field behind next a i e end = o
+
+pub parts_stop : (bytes : List ℕ) (parts : List Part) (rest : List ℕ) (left : ℕ) → ArePartsTo bytes parts rest → (rest ≡ [] → ⊥) → LacksPart rest left → StopsAt Arguments bytes left
+parts_stop bytes parts rest left t full l =
+    stops_after Arguments t.next bytes (flat_map part_field (map part_line parts)) rest left t.is t.fields (record { good = []; rest = rest; next = t.next; is = refl; fields = none; left_is = l.left_is; bad = bad l.set l.mark })
+  where
+    bad : IsMissing Set rest → IsMissing Mark rest → IsBad t.next rest
+    bad (all_read e) m = absurd (full e)
+    bad (other there e h) (all_read f) = absurd (full f)
+    bad (other there e h) (other there' f g) =
+        let q : there' ≡ there = behind_byte 32 there' there (sym f ∙ e) in
+        wrong there e (no_part_field t.next rest there e t.only h (subst (λ z. HasNone Mark z) q g))
+
+pub parts_all : (bytes : List ℕ) (parts : List Part) (rest : List ℕ) → ArePartsTo bytes parts rest → rest ≡ [] → ArePartFields bytes parts
+parts_all bytes parts rest t e = record { spelled = t.spelled; rising = t.rising; is = t.is ∙ (ap (λ z. flat_map part_field (map part_line parts) ++ z) e ∙ append-nil (flat_map part_field (map part_line parts))) }

@@ -225,10 +225,13 @@ fn has_term(bytes: &[u8]) -> bool
     let Some(field) = behind(bytes, b' ') else {
         return false;
     };
-    if behind(field, b'{').is_some() {
+    if let Some(_) = behind(field, b'{') {
         return false;
     }
-    behind(field, b'!').is_none()
+    if let Some(_) = behind(field, b'!') {
+        return false;
+    }
+    true
 }
 
 /// The premises up to the end of the line.

@@ -115,7 +115,7 @@ closed_term names bank mid over o x last at good n cl t e sh f =
     let later = bracket_good names bank names mid (grows_none names) e o.top good.top in
     let c = chain_is names mid o.top.items.items (term_tree mid last) later.items k.good.spelled k.good.closed in
     let inside : text_at names over at ≡ flat_map (item_text names mid) o.top.items.items ++ (part_text names mid (Some x) ++ args_text names mid o.top.args.items) =
-        ap (term_text names) sh.tree ∙ (c.text ∙ ap (λ z. flat_map (item_text names mid) o.top.items.items ++ z) (over_text names bank mid x o.top.args.items last part good.top.args t e)) in
+    ap (term_text names) sh.tree ∙ (c.text ∙ ap (λ z. flat_map (item_text names mid) o.top.items.items ++ z) (over_text names bank mid x o.top.args.items last part good.top.args t e)) in
     let top : 40 ∷ (flat_map (item_text names mid) o.top.items.items ++ (part_text names mid (Some x) ++ args_text names mid o.top.args.items)) ≡ bracket_text names mid o.top = ap (λ z. 40 ∷ (flat_map (item_text names mid) o.top.items.items ++ (part_text names mid z ++ args_text names mid o.top.args.items))) (sym n) in
     record {
       good = record { inside = sh.inside; spelled = subst (IsSpelledTerm names) (sym sh.tree) c.spelled; closed = ap is_closed sh.tree ∙ c.closed };

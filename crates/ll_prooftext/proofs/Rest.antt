@@ -23,13 +23,14 @@ use Rattle.ll_prooftext.specs.Terms.{Grows, Moves, IsSpelledAt, argument_at}
 use Rattle.std.specs.List.{flat_map}
 use Rattle.std.proofs.lemmas.List.Concat.{flat_map-append}
 use Rattle.std.proofs.lemmas.List.Elements.{All-nil, All-push, All-weaker}
+use Rattle.std.proofs.Common.{length-append}
 use Rattle.ll_bank.specs.declared.At.{At}
 use Rattle.ll_bank.proofs.Trees.{Extends-refl}
 use Rattle.ll_prooftext.specs.Brackets.{IsArgumentAt, args_text}
 use Rattle.ll_prooftext.proofs.Found.{grows_none}
 use Rattle.ll_prooftext.proofs.Steps.{flat_same, arg_same, arg_good}
 use Rattle.ll_prooftext.proofs.Arguments.{moves_on, argument_first}
-use Rattle.ll_prooftext.specs.Fields.{IsMissing, other, LacksField, LacksPart, IsBad, lacking, wrong, StopsAt, Refuses, IsNumberField, IsSetField, IsPartField, IsTermField, AreSets, BeginsPart, brace, mark, HasNoTerm, AreTermFields, ArePartFields}
+use Rattle.ll_prooftext.specs.Fields.{IsMissing, other, LacksField, LacksPart, IsBad, lacking, wrong, StopsAt, Refuses, IsNumberField, IsSetField, IsPartField, IsTermField, AreSets, BeginsPart, brace, mark, HasNoTerm, AreTermFields, ArePartFields, AreClauseFields}
 use Rattle.ll_prooftext.specs.Fields.{ended as all_read}
 use Rattle.ll_prooftext.proofs.Cuts.{one_cut}
 use Rattle.ll_prooftext.proofs.Ways.{byte_apart, behind_byte}
@@ -350,3 +351,27 @@ parts_stop bytes parts rest left t full l =
 
 pub parts_all : (bytes : List ℕ) (parts : List Part) (rest : List ℕ) → ArePartsTo bytes parts rest → rest ≡ [] → ArePartFields bytes parts
 parts_all bytes parts rest t e = record { spelled = t.spelled; rising = t.rising; is = t.is ∙ (ap (λ z. flat_map part_field (map part_line parts) ++ z) e ∙ append-nil (flat_map part_field (map part_line parts))) }
+
+-- ---- a clause step
+
+-- what is wrong behind the terms
+pub terms_then : (names : List (List ℕ)) (bank : Nodes) (bytes : List ℕ) (new : List (List ℕ)) (over : Nodes) (terms : List At) (rest : List ℕ) (left : ℕ) → AreTermFields names bank bytes new over terms rest → StopsAt Arguments rest left → StopsAt Arguments bytes left
+terms_then names bank bytes new over terms rest left t s = stops_after Arguments Arguments bytes (args_text new over terms) rest left t.is t.fields s
+
+-- a label and a leaf in front
+pub clause_then : (bytes : List ℕ) (n : ℕ) (rest : List ℕ) (k : ℕ) (behind : List ℕ) (left : ℕ) → IsNumberField bytes n rest → IsNumberField rest k behind → StopsAt Arguments behind left → StopsAt (Then Number (Then Number Arguments)) bytes left
+clause_then bytes n rest k behind left f g s = number_then bytes rest n left (Then Number Arguments) f (number_then rest behind k left Arguments g s)
+
+pub number_room : (bytes : List ℕ) (n : ℕ) (rest : List ℕ) → IsNumberField bytes n rest → length rest ≤ length bytes
+number_room bytes n rest f = let l = ap length f.is in let k = length-append (field (decimal n)) rest in omega arith
+
+pub clause_made : (names : List (List ℕ)) (bank : Nodes) (bytes : List ℕ) (new : List (List ℕ)) (over : Nodes) (n : ℕ) (rest : List ℕ) (k : ℕ) (behind : List ℕ) (terms : List At) (last : List ℕ) (parts : List Part) → IsNumberField bytes n rest → IsNumberField rest k behind → AreTermFields names bank behind new over terms last → ArePartFields last parts
+    → AreClauseFields names bank bytes new over n k terms parts
+clause_made names bank bytes new over n rest k behind terms last parts f g t p = record {
+  small = (f.small, g.small);
+  good = t.good;
+  spelled = p.spelled;
+  rising = p.rising;
+  is = f.is ∙ ap (λ z. field (decimal n) ++ z) (g.is ∙ ap (λ z. field (decimal k) ++ z) (t.is ∙ ap (λ z. args_text new over terms ++ z) p.is));
+  moves = record { grows = t.moves.grows; keeps = t.moves.keeps; few = let a = number_room bytes n rest f in let b = number_room rest k behind g in let c = t.moves.few in omega arith };
+}

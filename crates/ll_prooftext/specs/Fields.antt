@@ -8,7 +8,7 @@ use Rattle.ll_laws.specs.ProofText.{field, set_text, part_field}
 use Rattle.ll_laws.specs.ShownLines.{part_line}
 use Rattle.ll_laws.specs.declared.Part.{Part}
 use Rattle.ll_laws.specs.declared.Rule.{Rule}
-use Rattle.ll_laws.specs.declared.Rule.TheVariants.{Tensor}
+use Rattle.ll_laws.specs.declared.Rule.TheVariants.{Tensor, Clause}
 use Rattle.ll_prooftext.specs.declared.rows.Refusal.{Refusal}
 use Rattle.ll_prooftext.specs.declared.rows.Refusal.TheVariants as refusal
 use Rattle.ll_prooftext.specs.Admitted.{AreLabels, IsSpelledPart}
@@ -114,3 +114,16 @@ pub record ArePartFields (bytes : List ℕ) (parts : List Part) : Type 0 where
   pub spelled : All IsSpelledPart (map part_line parts)
   pub rising : list_all part_rises (map part_line parts) ≡ true
   pub is : bytes ≡ flat_map part_field (map part_line parts)
+
+-- what a clause step says
+pub record AreClauseFields (names : List (List ℕ)) (bank : Nodes) (bytes : List ℕ) (new : List (List ℕ)) (over : Nodes) (label leaf : ℕ) (terms : List At) (parts : List Part) : Type 0 where
+  pub small : (label < 2 ^ 32) × (leaf < 2 ^ 32)
+  pub good : All (λ a. IsSpelledAt new over a.0) terms
+  pub spelled : All IsSpelledPart (map part_line parts)
+  pub rising : list_all part_rises (map part_line parts) ≡ true
+  pub is : bytes ≡ field (decimal label) ++ (field (decimal leaf) ++ (args_text new over terms ++ flat_map part_field (map part_line parts)))
+  pub moves : Moves names bank (length bytes) new over 0
+
+abbrev pub IsClause : List (List ℕ) → Nodes → List ℕ → List (List ℕ) → Nodes → Rule → Type 0
+IsClause names bank bytes new over (Clause n k ts ps) = AreClauseFields names bank bytes new over n k ts.items ps.items
+IsClause names bank bytes new over _ = ⊥

@@ -2,7 +2,7 @@
 ghost use Rattle.std.specs.Prelude.{◌≡◌, ◌+◌, ◌<◌, ◌^◌, [], length, IfOk, IfErr, OnOk, MatchBool};
 ghost use Rattle.ll_prooftext.specs.Reading.{Number, Set, Argument, Arguments, Nothing, Then, IsAtEnd};
 ghost use Rattle.ll_prooftext.specs.Terms.{Grows};
-ghost use Rattle.ll_prooftext.specs.Fields.{Refuses, LacksField, LacksPart, StopsAt, IsNumberField, IsSetField, IsPartField, IsTermField, IsTensor, HasNoTerm, AreTermFields, ArePartFields};
+ghost use Rattle.ll_prooftext.specs.Fields.{Refuses, LacksField, LacksPart, StopsAt, IsNumberField, IsSetField, IsPartField, IsTermField, IsTensor, HasNoTerm, AreTermFields, ArePartFields, IsClause};
 
 use crate::bytes::{behind, split_before};
 use crate::numbers::number_of;
@@ -175,16 +175,17 @@ fn tensor(alloc: Global, bytes: &[u8]) -> Result<Rule, Refusal>
 }
 
 /// The fields of a clause step.
-fn clause(
-    alloc: Global,
-    rest: &[u8],
-    names: &mut Names,
-    bank: &mut Bank,
-) -> Result<Rule, Refusal> {
-    let (label, rest) = number_field(rest)?;
-    let (leaf, rest) = number_field(rest)?;
-    let (terms, rest) = term_fields(alloc, rest, names, bank)?;
-    let parts = part_fields(alloc, rest)?;
+fn clause(alloc: Global, bytes: &[u8], names: &mut Names, bank: &mut Bank) -> Result<Rule, Refusal>
+    requires end { IsAtEnd bytes.now }
+    requires room { length names.old + length bytes.now < 2 ^ 32 }
+    ensures ok { IfOk result (IsClause names.old bank.old bytes.now names.new bank.new) }
+    ensures err { IfErr result (Refuses (StopsAt (Then Number (Then Number Arguments)) bytes.now)) }
+    ensures grows { Grows names.old names.new }
+{
+    let (label, behind_label) = number_field(bytes)?;
+    let (leaf, behind_leaf) = number_field(behind_label)?;
+    let (terms, behind_terms) = term_fields(alloc, behind_leaf, names, bank)?;
+    let parts = part_fields(alloc, behind_terms)?;
     Ok(Rule::Clause {
         label,
         leaf,
@@ -326,12 +327,7 @@ fn number_field(bytes: &[u8]) -> Result<(u32, &[u8]), Refusal>
 }
 
 /// The term of a line's last field.
-fn last_term(
-    alloc: Global,
-    bytes: &[u8],
-    names: &mut Names,
-    bank: &mut Bank,
-) -> Result<At, Refusal>
+fn last_term(alloc: Global, bytes: &[u8], names: &mut Names, bank: &mut Bank) -> Result<At, Refusal>
     requires end { IsAtEnd bytes.now }
     requires room { length names.old + length bytes.now < 2 ^ 32 }
     ensures ok { IfOk result (λ at. IsTermField names.old bank.old bytes.now names.new bank.new at.0 []) }

@@ -9,10 +9,7 @@ use ll_bank::OutOfMemory;
 use std::alloc::Global;
 
 /// The labels of a set at the front of the bytes, and what stands behind it.
-pub(crate) fn set_at(
-    alloc: Global,
-    bytes: &[u8],
-) -> Result<Option<(Vec<u32>, &[u8])>, OutOfMemory>
+pub(crate) fn set_at(alloc: Global, bytes: &[u8]) -> Result<Option<(Vec<u32>, &[u8])>, OutOfMemory>
     ensures { IfOk result (λ found. MatchOption found (HasNone Set bytes.now) (λ set. IsSetAt bytes.now set.0.items set.1.now)) }
 {
     let Some(inside) = behind(bytes, b'{') else {

@@ -115,10 +115,7 @@ fn term_of(word: Word, args: &[At], bank: &mut Bank) -> Result<At, OutOfMemory>
 }
 
 /// The number of the sign `::` at the front of the bytes, and what stands behind it.
-fn sign_at<'a>(
-    bytes: &'a [u8],
-    names: &mut Names,
-) -> Result<Option<(u32, &'a [u8])>, OutOfMemory>
+fn sign_at<'a>(bytes: &'a [u8], names: &mut Names) -> Result<Option<(u32, &'a [u8])>, OutOfMemory>
     requires { length names.old < 2 ^ 32 }
     ensures found { IfOk result (λ found. MatchOption found ((rest : List ℕ) → bytes.now ≡ 58 ∷ 58 ∷ rest → ⊥) (λ p. bytes.now ≡ 58 ∷ 58 ∷ p.1.now)) }
     ensures sign { IfOk result (λ found. IfSome found (λ p. IsSign names.old names.new p.0)) }

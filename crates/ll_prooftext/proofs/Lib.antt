@@ -13,3 +13,4 @@ pub mod Close
 pub mod Arguments
 pub mod Chains
 pub mod Rest
+pub mod RowsRead

@@ -1,6 +1,7 @@
 //! What a line of a derivation's text says, read field by field.
-ghost use Rattle.std.specs.Prelude.{◌≡◌, ◌+◌, ◌<◌, ◌^◌, [], length, IfOk, IfErr, OnOk, MatchBool};
-ghost use Rattle.ll_prooftext.specs.Reading.{Number, Set, Argument, Arguments, Nothing, Then, IsAtEnd};
+ghost use Rattle.std.specs.Prelude.{◌≡◌, ◌+◌, ◌<◌, ◌^◌, [], ◌++◌, None, length, IfOk, IfErr, OnOk, MatchBool, MatchOption};
+ghost use Rattle.ll_prooftext.specs.Reading.{Number, Set, Argument, Arguments, Nothing, Then, IsAtEnd, want, listed, node_words};
+ghost use Rattle.ll_prooftext.specs.RowWords.{spelling, asks, IsNodeWord, IsRowWord, IsNodeRow, IsRow, IsRefused};
 ghost use Rattle.ll_prooftext.specs.Terms.{Grows};
 ghost use Rattle.ll_prooftext.specs.Fields.{Refuses, LacksField, LacksPart, StopsAt, IsNumberField, IsSetField, IsPartField, IsTermField, IsTensor, HasNoTerm, AreTermFields, ArePartFields, IsClause};
 
@@ -51,10 +52,16 @@ impl<T: Drop> From<AllocFailed<T>> for Refusal {
     }
 }
 
-/// The first words of lines.
+/// The first words of lines behind the first one.
 #[derive(Clone, Copy)]
 enum RowWord {
     Let,
+    Node(NodeWord),
+}
+
+/// The first words of nodes' lines.
+#[derive(Clone, Copy)]
+enum NodeWord {
     True,
     Erase,
     Tensor,
@@ -77,51 +84,60 @@ pub(crate) fn read_row(
     lets: bool,
     names: &mut Names,
     bank: &mut Bank,
-) -> Result<Row, Refusal> {
+) -> Result<Row, Refusal>
+    requires { length names.old + length line.now < 2 ^ 32 }
+    ensures ok { IfOk result (IsRow names.old bank.old line.now lets names.new bank.new) }
+    ensures err { IfErr result (IsRefused lets line.now) }
+    ensures grows { Grows names.old names.new }
+{
     let (first, rest) = split_before(line, b' ');
     match row_word(first, lets) {
         Some(RowWord::Let) => Ok(Row::Let(last_term(alloc, rest, names, bank)?)),
-        Some(word) => Ok(Row::Node(node(alloc, word, rest, names, bank)?)),
+        Some(RowWord::Node(word)) => Ok(Row::Node(node(alloc, word, rest, names, bank)?)),
         None => Err(Refusal::Word),
     }
 }
 
 /// The first word that is spelled so. `let` is one where it may stand.
-fn row_word(word: &[u8], lets: bool) -> Option<RowWord> {
+fn row_word(word: &[u8], lets: bool) -> Option<RowWord>
+    ensures { MatchOption result (want lets word.now ≡ None) (IsRowWord lets word.now) }
+{
     if word == b"let".as_slice() {
         return if lets { Some(RowWord::Let) } else { None };
     }
-    node_word(word)
+    Some(RowWord::Node(node_word(word)?))
 }
 
 /// The first word of a node's line that is spelled so.
-fn node_word(word: &[u8]) -> Option<RowWord> {
+fn node_word(word: &[u8]) -> Option<NodeWord>
+    ensures { MatchOption result (listed node_words word.now ≡ None) (IsNodeWord word.now) }
+{
     if word == b"true".as_slice() {
-        Some(RowWord::True)
+        Some(NodeWord::True)
     } else if word == b"erase".as_slice() {
-        Some(RowWord::Erase)
+        Some(NodeWord::Erase)
     } else if word == b"tensor".as_slice() {
-        Some(RowWord::Tensor)
+        Some(NodeWord::Tensor)
     } else if word == b"with".as_slice() {
-        Some(RowWord::With)
+        Some(NodeWord::With)
     } else if word == b"left".as_slice() {
-        Some(RowWord::Left)
+        Some(NodeWord::Left)
     } else if word == b"right".as_slice() {
-        Some(RowWord::Right)
+        Some(NodeWord::Right)
     } else if word == b"bang".as_slice() {
-        Some(RowWord::Bang)
+        Some(NodeWord::Bang)
     } else if word == b"lolli".as_slice() {
-        Some(RowWord::Lolli)
+        Some(NodeWord::Lolli)
     } else if word == b"imp".as_slice() {
-        Some(RowWord::Imp)
+        Some(NodeWord::Imp)
     } else if word == b"forall".as_slice() {
-        Some(RowWord::Forall)
+        Some(NodeWord::Forall)
     } else if word == b"exists".as_slice() {
-        Some(RowWord::Exists)
+        Some(NodeWord::Exists)
     } else if word == b"use".as_slice() {
-        Some(RowWord::Use)
+        Some(NodeWord::Use)
     } else if word == b"clause".as_slice() {
-        Some(RowWord::Clause)
+        Some(NodeWord::Clause)
     } else {
         None
     }
@@ -130,36 +146,42 @@ fn node_word(word: &[u8]) -> Option<RowWord> {
 /// The node of a first word and the fields behind it.
 fn node(
     alloc: Global,
-    word: RowWord,
+    word: NodeWord,
     rest: &[u8],
     names: &mut Names,
     bank: &mut Bank,
-) -> Result<Rule, Refusal> {
+) -> Result<Rule, Refusal>
+    requires end { IsAtEnd rest.now }
+    requires room { length names.old + length rest.now < 2 ^ 32 }
+    ensures ok { IfOk result (IsNodeRow names.old bank.old (spelling word ++ rest.now) names.new bank.new) }
+    ensures err { IfErr result (Refuses (StopsAt (asks word) rest.now)) }
+    ensures grows { Grows names.old names.new }
+{
     match word {
-        RowWord::Tensor => tensor(alloc, rest),
-        RowWord::Lolli => Ok(Rule::Lolli(last_number(rest)?)),
-        RowWord::Imp => Ok(Rule::Imp(last_number(rest)?)),
-        RowWord::Forall => Ok(Rule::Forall(last_number(rest)?)),
-        RowWord::Exists => Ok(Rule::Exists(last_term(alloc, rest, names, bank)?)),
-        RowWord::Clause => clause(alloc, rest, names, bank),
-        _ => {
-            no_more(rest)?;
-            Ok(plain(word))
-        }
+        NodeWord::True => alone(rest, Rule::One),
+        NodeWord::Erase => alone(rest, Rule::Erase),
+        NodeWord::Tensor => tensor(alloc, rest),
+        NodeWord::With => alone(rest, Rule::With),
+        NodeWord::Left => alone(rest, Rule::Left),
+        NodeWord::Right => alone(rest, Rule::Right),
+        NodeWord::Bang => alone(rest, Rule::Bang),
+        NodeWord::Lolli => Ok(Rule::Lolli(last_number(rest)?)),
+        NodeWord::Imp => Ok(Rule::Imp(last_number(rest)?)),
+        NodeWord::Forall => Ok(Rule::Forall(last_number(rest)?)),
+        NodeWord::Exists => Ok(Rule::Exists(last_term(alloc, rest, names, bank)?)),
+        NodeWord::Use => alone(rest, Rule::Use),
+        NodeWord::Clause => clause(alloc, rest, names, bank),
     }
 }
 
-/// The node of a first word behind which nothing stands.
-fn plain(word: RowWord) -> Rule {
-    match word {
-        RowWord::True => Rule::One,
-        RowWord::Erase => Rule::Erase,
-        RowWord::With => Rule::With,
-        RowWord::Left => Rule::Left,
-        RowWord::Right => Rule::Right,
-        RowWord::Bang => Rule::Bang,
-        _ => Rule::Use,
-    }
+/// The rule of a first word behind which nothing stands.
+fn alone(bytes: &[u8], rule: Rule) -> Result<Rule, Refusal>
+    requires { IsAtEnd bytes.now }
+    ensures ok { IfOk result (λ r. (r ≡ rule) × (bytes.now ≡ [])) }
+    ensures err { IfErr result (Refuses (StopsAt Nothing bytes.now)) }
+{
+    no_more(bytes)?;
+    Ok(rule)
 }
 
 /// Two sets.

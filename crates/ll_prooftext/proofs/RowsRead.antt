@@ -240,3 +240,6 @@ pub refused_row : (lets : Bool) (line w rest : List ℕ) (k : RowWord) (x : Refu
 refused_row lets line w rest k refusal.Word e i h = absurd h
 refused_row lets line w rest k (refusal.Field left) e i h = bad_left lets line w rest k left e i h
 refused_row lets line w rest k refusal.OutOfMemory e i h = h
+
+pub rest_room : (names : List (List ℕ)) (line w rest : List ℕ) → line ≡ w ++ rest → length names + length line < 2 ^ 32 → length names + length rest < 2 ^ 32
+rest_room names line w rest e h = let t = ap length e in let a = length-append w rest in omega arith

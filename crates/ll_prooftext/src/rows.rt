@@ -78,6 +78,7 @@ enum NodeWord {
 }
 
 /// What a line says. A line `let` is one where it may stand.
+#[tactic(none)]
 pub(crate) fn read_row(
     alloc: Global,
     line: &[u8],
@@ -144,6 +145,7 @@ fn node_word(word: &[u8]) -> Option<NodeWord>
 }
 
 /// The node of a first word and the fields behind it.
+#[tactic(none)]
 fn node(
     alloc: Global,
     word: NodeWord,

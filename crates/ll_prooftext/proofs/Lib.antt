@@ -14,3 +14,7 @@ pub mod Arguments
 pub mod Chains
 pub mod Rest
 pub mod RowsRead
+pub mod LinesRead
+pub mod SoFar
+pub mod Whole
+pub mod Faults

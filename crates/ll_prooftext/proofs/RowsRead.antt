@@ -140,7 +140,7 @@ tensor_row names bank rest _ f = absurd f
 pub tensor_rows : (names : List (List ℕ)) (bank : Nodes) (rest : List ℕ) (x : Result Rule Refusal) → IfOk x (IsTensor rest) → IfOk x (IsNodeRow names bank (codes "tensor" ++ rest) names bank)
 tensor_rows names bank rest x h = if_ok x (IsTensor rest) (IsNodeRow names bank (codes "tensor" ++ rest) names bank) (tensor_row names bank rest) h
 
-args_fields : (names : List (List ℕ)) (bank : Nodes) (ts : List At) → args_text names bank ts ≡ flat_map (term_field names) (term_trees bank ts)
+pub args_fields : (names : List (List ℕ)) (bank : Nodes) (ts : List At) → args_text names bank ts ≡ flat_map (term_field names) (term_trees bank ts)
 args_fields names bank [] = refl
 args_fields names bank (t ∷ ts) = ap (λ z. field (argument_at names bank t.0) ++ z) (args_fields names bank ts)
 

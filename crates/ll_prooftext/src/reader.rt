@@ -122,22 +122,19 @@ impl<'a> Lines<'a> {
         }
         let number = self.at.line;
         let (bytes, tail) = split_before(self.rest, b'\n');
-        match behind(tail, b'\n') {
-            Some(rest) => {
-                self.rest = rest;
-                self.at = Place {
-                    line: number + 1,
-                    column: 1,
-                };
-            }
-            None => {
-                self.rest = tail;
-                self.at = Place {
-                    line: number,
-                    column: bytes.len() as u32 + 1,
-                };
-            }
+        if let Some(rest) = behind(tail, b'\n') {
+            self.rest = rest;
+            self.at = Place {
+                line: number + 1,
+                column: 1,
+            };
+            return Some(TextLine { number, bytes });
         }
+        self.rest = tail;
+        self.at = Place {
+            line: number,
+            column: bytes.len() as u32 + 1,
+        };
         Some(TextLine { number, bytes })
     }
 }

@@ -1,6 +1,7 @@
 -- The faults that reading comes to.
 use Rattle.std.proofs.Common.{◌≡◌, ℕ, zero, suc, ◌+◌, ◌-◌, ◌<◌, ◌≤◌, ◌^◌, Bool, true, false, List, [], ◌∷◌, ◌++◌, length, map, refl, ap, sym, subst, ◌∙◌, arith, Some, None}
 use Rattle.std.proofs.lemmas.List.{length-map}
+use Rattle.ll_bank.specs.declared.At.{At}
 use Rattle.ll_bank.specs.Nodes.{Nodes, term_tree, term_trees}
 use Rattle.ll_laws.specs.ShownLines.{line_of}
 use Rattle.ll_lexer.specs.declared.Place.{Place}
@@ -31,7 +32,7 @@ module _ (text : List ℕ) (old names : List (List ℕ)) (o : Reading) (p : Line
   number_is : line.number ≡ length (term_trees o.bank o.asked.items) + length (map (line_of o.bank) o.nodes.items) + 2
   number_is =
       its_number text old names o p q line s t
-      ∙ (ap (λ z. z + length o.nodes.items + 2) (sym (length-map (λ a. term_tree o.bank a.0) o.asked.items)) ∙ ap (λ z. length (term_trees o.bank o.asked.items) + z + 2) (sym (length-map (line_of o.bank) o.nodes.items)))
+      ∙ (ap (λ z. z + length o.nodes.items + 2) (sym (length-map o.asked.items (λ (a : At). term_tree o.bank a.0))) ∙ ap (λ z. length (term_trees o.bank o.asked.items) + z + 2) (sym (length-map o.nodes.items (line_of o.bank))))
 
   pub left_cause : (x : TextFault) → o.lacking ≡ 0 → x ≡ fault_at line.number 1 16 → IsCause text x
   left_cause x l e = subst (IsCause text) (sym (e ∙ ap (λ n. fault_at n 1 16) number_is)) (left_over line.bytes.now (text_lines q.rest.now) (begun 0 l))

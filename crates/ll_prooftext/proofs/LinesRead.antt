@@ -118,7 +118,7 @@ no_line o p t f a = record { rest = empty o.rest.now t f; at = a }
   where
     empty : {b : Bool} (bs : List ℕ) → b ≡ (length bs == 0) → b ≡ true → bs ≡ []
     empty [] t f = refl
-    empty (x ∷ xs) t f = let y : ⊥ = cc in absurd y
+    empty (x ∷ xs) t f = let e : (length (x ∷ xs) == 0) ≡ true = sym t ∙ f in let l : length (x ∷ xs) ≡ 0 = eqb-true (length (x ∷ xs)) 0 e in absurd (omega arith)
 
 -- ---- the first line
 

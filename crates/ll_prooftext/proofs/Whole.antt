@@ -29,7 +29,7 @@ use Rattle.ll_prooftext.proofs.SoFar.{IsSoFar}
 -- ---- one tree
 
 -- as many trees as are wanted
-record AreTrees (o : Option (List Tree)) (k : ℕ) : Type 0 where
+pub record AreTrees (o : Option (List Tree)) (k : ℕ) : Type 0 where
   pub trees : List Tree
   pub is : o ≡ Some trees
   pub many : length trees ≡ k
@@ -86,7 +86,7 @@ trees_many (n ∷ ns) (suc k) e =
     let us = put_many n ts.trees k ts.many in
     record { trees = us.trees; is = ap (λ o. option_and_then (put n) o) ts.is ∙ us.is; many = us.many }
 
-record IsOneTree (ns : List Line) : Type 0 where
+pub record IsOneTree (ns : List Line) : Type 0 where
   pub tree : Tree
   pub is : trees_of ns ≡ Some (tree ∷ [])
 
@@ -103,14 +103,14 @@ one_tree ns e = by_trees (trees_many ns 1 e)
 
 -- ---- terms and nodes
 
-terms_closed : (names : List (List ℕ)) (bank : Nodes) (ts : List At) → All (λ a. IsSpelledAt names bank a.0) ts → list_all is_closed (term_trees bank ts) ≡ true
+pub terms_closed : (names : List (List ℕ)) (bank : Nodes) (ts : List At) → All (λ a. IsSpelledAt names bank a.0) ts → list_all is_closed (term_trees bank ts) ≡ true
 terms_closed names bank [] a = refl
 terms_closed names bank (t ∷ ts) a =
     let x : is_closed (term_tree bank t.0) ≡ true = (All-head (λ (b : At). IsSpelledAt names bank b.0) t ts a).closed in
     let y = terms_closed names bank ts (All-tail (λ (b : At). IsSpelledAt names bank b.0) t ts a) in
     rw (x, y) refl
 
-terms_spelled : (names : List (List ℕ)) (bank : Nodes) (ts : List At) → All (λ a. IsSpelledAt names bank a.0) ts → All (IsSpelledTerm names) (term_trees bank ts)
+pub terms_spelled : (names : List (List ℕ)) (bank : Nodes) (ts : List At) → All (λ a. IsSpelledAt names bank a.0) ts → All (IsSpelledTerm names) (term_trees bank ts)
 terms_spelled names bank [] a = All-nil (IsSpelledTerm names)
 terms_spelled names bank (t ∷ ts) a =
     All-cons (IsSpelledTerm names) (term_tree bank t.0) (term_trees bank ts) (All-head (λ (b : At). IsSpelledAt names bank b.0) t ts a).spelled (terms_spelled names bank ts (All-tail (λ (b : At). IsSpelledAt names bank b.0) t ts a))
@@ -145,12 +145,12 @@ rule_sound names bank (rule.Clause n k ts ps) h = record {
 pub rules_inside : (names : List (List ℕ)) (bank : Nodes) (rs : List Rule) → All (IsGoodRule names bank) rs → HasLines bank rs
 rules_inside names bank rs a = All-weaker (IsGoodRule names bank) (HasLine bank) (λ r h. (rule_sound names bank r h).has) rs a
 
-rules_spelled : (names : List (List ℕ)) (bank : Nodes) (rs : List Rule) → All (IsGoodRule names bank) rs → All (IsSpelledLine names) (map (line_of bank) rs)
+pub rules_spelled : (names : List (List ℕ)) (bank : Nodes) (rs : List Rule) → All (IsGoodRule names bank) rs → All (IsSpelledLine names) (map (line_of bank) rs)
 rules_spelled names bank [] a = All-nil (IsSpelledLine names)
 rules_spelled names bank (r ∷ rs) a =
     All-cons (IsSpelledLine names) (line_of bank r) (map (line_of bank) rs) (rule_sound names bank r (All-head (IsGoodRule names bank) r rs a)).spelled (rules_spelled names bank rs (All-tail (IsGoodRule names bank) r rs a))
 
-rules_ordered : (names : List (List ℕ)) (bank : Nodes) (rs : List Rule) → All (IsGoodRule names bank) rs → list_all is_line (map (line_of bank) rs) ≡ true
+pub rules_ordered : (names : List (List ℕ)) (bank : Nodes) (rs : List Rule) → All (IsGoodRule names bank) rs → list_all is_line (map (line_of bank) rs) ≡ true
 rules_ordered names bank [] a = refl
 rules_ordered names bank (r ∷ rs) a =
     let x : is_line (line_of bank r) ≡ true = (rule_sound names bank r (All-head (IsGoodRule names bank) r rs a)).ordered in

@@ -8,8 +8,10 @@ ghost use Rattle.ll_printer.specs.Pieces.{BeginsText};
 mod fields;
 mod lines;
 mod numbers;
+mod reader;
 
 use crate::lines::{write_asked, write_nodes, write_version};
+pub use crate::reader::read;
 use ll_bank::{Names, OutOfMemory};
 use ll_laws::Derivation;
 use std::alloc::Global;

@@ -29,7 +29,7 @@ use Rattle.ll_parser.specs.Raw.{ProgramTree}
 use Rattle.ll_parser.specs.Printed.{program_text}
 use Rattle.ll_top.specs.Verdicts.{yes_text, no_text}
 use Rattle.ll_top.specs.Judging.{IsProgramText, IsReadingFault, IsTextFault, TextsAsk, IsCheckFault, TextsGive}
-use Rattle.ll_top.specs.Outcome.{longest_text, name_of, RunFails, RunAsks, whole_text, RunComesTo, PrintFails, IsPrintedAs, name_in_check, CheckFails, CheckGives, IsRefuted, CheckComesTo, AppendsOwn}
+use Rattle.ll_top.specs.Outcome.{longest_text, name_of, RunFails, RunAsks, whole_text, RunComesTo, PrintFails, IsPrintedAs, name_in_check, CheckFails, IsRefuted, CheckComesTo, AppendsOwn}
 
 -- ---- causes
 
@@ -169,16 +169,16 @@ Finds program query proof (Err (Text role refusal)) = IsCheckFaultOf program que
 Finds program query proof (Err Unwritable) = ⊥
 Finds program query proof (Err OutOfMemory) = Unit {0}
 
--- what was found of the texts that a check names, or a cause why nothing was
-abbrev pub CheckFinds : Option Texts → Type 0 → Type 0 → CheckWords → Result Finding Refusal → Type 0
-CheckFinds told absence read_failed check (Ok finding) = (p : ProblemTree) × (d : DerivationLines) × CheckGives told check p d × IsFinding p d finding
-CheckFinds told absence read_failed check (Err (Text role refusal)) = CheckFails told absence read_failed check (cause_of (name_in_check check role) refusal)
-CheckFinds told absence read_failed check (Err Unwritable) = ⊥
-CheckFinds told absence read_failed check (Err OutOfMemory) = Unit {0}
-
 -- what a check comes to where it found this
 abbrev pub ComesToFinding : Option Texts → Type 0 → Type 0 → CheckWords → Finding → Type 0
 ComesToFinding told absence read_failed check finding = CheckComesTo told absence read_failed check (status_of_finding finding) (finding_text finding)
+
+-- what was found of the texts that a check names, or a cause why nothing was
+abbrev pub CheckFinds : Option Texts → Type 0 → Type 0 → CheckWords → Result Finding Refusal → Type 0
+CheckFinds told absence read_failed check (Ok finding) = ComesToFinding told absence read_failed check finding
+CheckFinds told absence read_failed check (Err (Text role refusal)) = CheckFails told absence read_failed check (cause_of (name_in_check check role) refusal)
+CheckFinds told absence read_failed check (Err Unwritable) = ⊥
+CheckFinds told absence read_failed check (Err OutOfMemory) = Unit {0}
 
 -- how a check ended, before any fault line is written
 abbrev pub CheckEnds : Option Texts → Type 0 → Type 0 → Type 0 → CheckWords → Option (List ℕ) → Option (List ℕ) → Result Finding Refusal → Type 0

@@ -3,19 +3,21 @@ ghost use Rattle.std.specs.Prelude.{◌≡◌, ◌≤◌, length, IfOk, IfErr};
 ghost use Rattle.std.specs.List.{IsDistinct};
 ghost use Rattle.std.specs.Str.{bytes_eq};
 ghost use Rattle.ll_edge.specs.Counts.{Rose};
+ghost use Rattle.ll_laws.specs.Line.{IsWhole};
+ghost use Rattle.ll_laws.specs.Valid.{IsValid};
 ghost use Rattle.ll_prooftext.specs.Reading.{IsTextOf};
 ghost use Rattle.ll_prooftext.specs.Terms.{Grows};
 ghost use Rattle.ll_top.specs.Words.{shown_check};
-ghost use Rattle.ll_top.specs.Endings.{IsNoDerivation, Finds, CheckFinds, CheckEnds};
+ghost use Rattle.ll_top.specs.Endings.{IsFinding, IsNoDerivation, Finds, CheckFinds, CheckEnds};
 
 use crate::finding::{Finding, write_finding};
 use crate::judge::Role;
 use crate::prepare::{problem_of, read, refusal};
 use crate::refusal::Refusal;
 use crate::words::CheckCommand;
-use ll_bank::Names;
+use ll_bank::{Names, OutOfMemory};
 use ll_edge::{Shelf, Sink};
-use ll_laws::Derivation;
+use ll_laws::{Derivation, Problem};
 use ll_sequent::{Verdict, check};
 use std::alloc::Global;
 
@@ -76,7 +78,21 @@ fn finding_of(
 {
     let mut problem = problem_of(alloc, program, query, 0)?;
     let derivation = derivation_of(alloc, proof, &mut problem.names)?;
-    match check(alloc, &problem, &derivation)? {
+    let finding = judged(alloc, &problem, &derivation)?;
+    Ok(finding)
+}
+
+// What the checker says of a derivation.
+fn judged(
+    alloc: Global,
+    problem: &Problem,
+    derivation: &Derivation,
+) -> Result<Finding, OutOfMemory>
+    requires valid { IsValid problem.now }
+    requires whole { IsWhole derivation.now }
+    ensures { IfOk result (IsFinding problem.now derivation.now) }
+{
+    match check(alloc, problem, derivation)? {
         Verdict::Yes => Ok(Finding::Shows {
             nodes: derivation.nodes.len(),
         }),

@@ -279,6 +279,8 @@ fn found_status(found: Found) -> u8
 }
 
 #[cfg(test)]
+mod check_tests;
+#[cfg(test)]
 mod proof_tests;
 #[cfg(test)]
 mod tests;

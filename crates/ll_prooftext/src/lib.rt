@@ -6,11 +6,13 @@ ghost use Rattle.ll_laws.specs.ProofText.{proof_text};
 ghost use Rattle.ll_printer.specs.Pieces.{BeginsText};
 
 mod fields;
+mod laws;
 mod lines;
 mod numbers;
 mod reader;
 
 use crate::lines::{write_asked, write_nodes, write_version};
+pub use crate::laws::one_derivation;
 pub use crate::reader::read;
 use ll_bank::{Names, OutOfMemory};
 use ll_laws::Derivation;

@@ -6,41 +6,43 @@ use std::alloc::AllocError;
 use std::test::Fail;
 
 // The program and the query of a derivation of five nodes.
-const PAIR: (&str, &str) = ("LINEAR a. LINEAR b.", "(erase & a) , b");
+const TWO: &str = "LINEAR a. LINEAR b.";
+
+const ERASED: &str = "(erase & a) , b";
 
 // A program, a query and the text of a derivation, with the status and the line.
 const CHECKED: [(&str, &str, &str, u8, &str); 18] = [
     (
-        PAIR.0,
-        PAIR.1,
+        TWO,
+        ERASED,
         "proof 1\ntensor {0} {1}\nwith\nerase\nclause 0 0\nclause 1 0\n",
         0,
         "yes, nodes 5\n",
     ),
     (
-        PAIR.0,
-        PAIR.1,
+        TWO,
+        ERASED,
         "proof 1\ntensor {0} {1}\nwith\nerase\nclause 0 0\nclause 1 0",
         0,
         "yes, nodes 5\n",
     ),
     (
-        PAIR.0,
-        PAIR.1,
+        TWO,
+        ERASED,
         "proof 1\ntensor {0 1} {}\nwith\nerase\nclause 0 0\nclause 1 0\n",
         9,
         "no, node 4, reason 3 not a dealing\n",
     ),
     (
-        PAIR.0,
-        PAIR.1,
+        TWO,
+        ERASED,
         "proof 1\ntensor {0} {1}\nwith\nerase\nclause 0 0\n",
         7,
         "fault: proof 6:1 kind 15 nodes missing\n",
     ),
     (
-        PAIR.0,
-        PAIR.1,
+        TWO,
+        ERASED,
         "proof 1\ntensor {0} {1}\nwith\nerase\nclause 0 0\nclause 1 0\ntrue\n",
         7,
         "fault: proof 7:1 kind 16 nodes left over\n",
@@ -147,11 +149,13 @@ fn shelf_of(
     query: &str,
     proof: &str,
 ) -> Result<MemShelf, AllocError> {
+    let program = Vec::from_slice(alloc, program.as_bytes())?;
+    let query = Vec::from_slice(alloc, query.as_bytes())?;
+    let proof = Vec::from_slice(alloc, proof.as_bytes())?;
     let mut texts = Vec::new(alloc);
-    for (name, text) in [("prog", program), ("ques", query), ("proof", proof)] {
-        let bytes = Vec::from_slice(alloc, text.as_bytes())?;
-        texts.push((String::from_str(alloc, name)?, bytes))?;
-    }
+    texts.push((String::from_str(alloc, "prog")?, program))?;
+    texts.push((String::from_str(alloc, "ques")?, query))?;
+    texts.push((String::from_str(alloc, "proof")?, proof))?;
     Ok(MemShelf::new(texts, Vec::new(alloc)))
 }
 

@@ -27,6 +27,7 @@ use ll_edge::{Gate, Shelf, Sink};
 use ll_laws::answers_are_shown;
 use ll_lexer::one_reading;
 use ll_parser::{one_program, one_query};
+use ll_prooftext::one_derivation;
 use prepare::prepare;
 use printing::print_program;
 use refusal::Refusal;
@@ -138,6 +139,7 @@ pub fn one_text()
     one_reading();
     one_program();
     one_query();
+    one_derivation();
 }
 
 // Runs a command, and says why not where it is not run.

@@ -1,5 +1,5 @@
 -- Numbers as they are written.
-use Rattle.std.proofs.Common.{◌≡◌, ℕ, ◌<◌, ◌≤◌, ◌^◌, List, ap, sym, subst, ◌∙◌, arith, decimal, Ok, Err, Result, true, false, rules, to_z, of_z}
+use Rattle.std.proofs.Common.{◌≡◌, ℕ, ◌<◌, ◌^◌, List, ap, sym, subst, ◌∙◌, arith, decimal, Ok, Err, Result, true, false, rules, to_z, of_z}
 use Rattle.std.specs.Prelude.{IsTrue, ℤ, pos, negsuc, FitsSigned}
 use Rattle.std.specs.Fmt.{signed_decimal}
 use Rattle.std.specs.Int.{w64}
@@ -23,7 +23,7 @@ pub integer_utf8 : (bytes : List ℕ) → IsInteger bytes → IsUtf8 bytes
 integer_utf8 bytes h = IsUtf8-from_ascii bytes (subst IsAscii (sym h.is) (IsAscii-signed_decimal h.value h.fits))
 
 -- 64 bits hold the size of a whole number
-mag_small : (z : ℤ) → FitsSigned w64 z → mag z < 2 ^ 63
+pub mag_small : (z : ℤ) → FitsSigned w64 z → mag z < 2 ^ 63
 mag_small (pos n) f = search rules
 mag_small (negsuc n) f = search rules
 

@@ -3,9 +3,11 @@ use Rattle.std.proofs.Common.{◌≡◌, ℕ, ◌<◌, ◌^◌, refl, List, [], 
 use Rattle.std.specs.Fmt.{digits}
 use Rattle.std.proofs.lemmas.List.Elements.{All-cons}
 use Rattle.ll_laws.specs.Shows.{EraseNode}
-use Rattle.ll_laws.specs.Line.{PartLine, Line, EraseLine, WithLine, TensorLine, ClauseLine, DerivationLines}
-use Rattle.ll_prooftext.specs.Admitted.{IsSpelledTerm, IsSpelledPart, IsSpelledLine, IsSpelled, AreLabels}
+use Rattle.ll_laws.specs.Line.{EraseLine, WithLine, TensorLine, ClauseLine}
+use Rattle.ll_lexer.specs.Spelling.{is_lower, is_word_byte}
+use Rattle.ll_prooftext.specs.Admitted.{IsSpelledTerm, IsSpelledPart, IsSpelledLine, AreLabels}
 use Rattle.ll_prooftext.specs.Reading.{IsTextOf, Set, Then, Nothing, none, one, lacks, Begins, HasFault, unknown_word, bad_field, nodes_missing, left_over, version, text_lines}
+use Rattle.ll_prooftext.specs.Mentions.{text_names, line_names, mentions, name_here, scanned, word_run}
 
 -- no item
 nothing : {X : Type 0} (P : X → Type 0) → All P []
@@ -111,3 +113,10 @@ node_left_over =
       spelled_nodes = alone (IsSpelledLine []) EraseLine tt;
       still = refl;
     })
+
+-- ---- names
+
+-- each name in the fields of a line, and the sign of a list; words of lines, numbers, sets and constants are none
+mentioned : text_names (codes "proof 1\nlet (1::nil)\nclause 1 0 (f a_2B ?7) #0 {0 2} !\nbang\n") ≡ codes "::" ∷ codes "nil" ∷ codes "f" ∷ codes "a_2B" ∷ []
+unfolding text_names line_names mentions name_here scanned word_run is_lower is_word_byte
+mentioned = refl

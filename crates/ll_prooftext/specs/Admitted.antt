@@ -1,5 +1,5 @@
 -- The derivations that a text can spell: their names are those of the language, and their numbers have limits.
-use Rattle.std.specs.Prelude.{◌≡◌, ℕ, ◌+◌, ◌<◌, ◌≤◌, ◌^◌, List, length, All, FitsSigned, IsTrue, ◌⊎◌}
+use Rattle.std.specs.Prelude.{ℕ, ◌<◌, ◌≤◌, ◌^◌, List, length, All, FitsSigned, IsTrue, ◌⊎◌}
 use Rattle.std.specs.Int.{w64}
 use Rattle.ll_bank.specs.declared.Head.{Head}
 use Rattle.ll_bank.specs.declared.Head.TheVariants.{Name, Eigen, Bound}

@@ -1,5 +1,5 @@
 -- What a text is read as: a derivation, or its first fault.
-use Rattle.std.specs.Prelude.{◌≡◌, ℕ, zero, suc, ◌+◌, ◌<◌, ◌^◌, Bool, true, false, ◌==◌, List, [], ◌∷◌, ◌++◌, length, map, All, count_by, Option, Some, None, if◌then◌else◌, IsTrue, ◌⊎◌, codes, decimal, ℤ, FitsSigned}
+use Rattle.std.specs.Prelude.{◌≡◌, ℕ, zero, suc, ◌+◌, ◌<◌, ◌^◌, Bool, true, false, ◌==◌, List, [], ◌∷◌, ◌++◌, length, map, All, Option, Some, None, if◌then◌else◌, IsTrue, ◌⊎◌, codes, decimal, ℤ, FitsSigned}
 use Rattle.std.specs.Fmt.{signed_decimal}
 use Rattle.std.specs.Int.{w64}
 use Rattle.std.specs.List.{list_all}
@@ -10,7 +10,7 @@ use Rattle.ll_lexer.specs.declared.TextFault.{TextFault}
 use Rattle.ll_lexer.specs.declared.TextFault.TheVariants as fault
 use Rattle.ll_lexer.specs.Reading.{place_at}
 use Rattle.ll_laws.specs.Output.{term_text, argument_text}
-use Rattle.ll_laws.specs.Line.{PartLine, Line, OneLine, EraseLine, TensorLine, WithLine, ClauseLine, DerivationLines, rises, is_line}
+use Rattle.ll_laws.specs.Line.{Line, OneLine, EraseLine, TensorLine, WithLine, ClauseLine, DerivationLines, rises, is_line}
 use Rattle.ll_laws.specs.ProofText.{term_field, set_text, node_text, proof_text}
 use Rattle.ll_prooftext.specs.Admitted.{AreLabels, IsSpelledTerm, IsSpelledLine, IsSpelled}
 

@@ -5,11 +5,22 @@ ghost use Rattle.std.specs.Prelude.{◌≡◌, ◌++◌, OnOk};
 ghost use Rattle.ll_laws.specs.ProofText.{proof_text};
 ghost use Rattle.ll_printer.specs.Pieces.{BeginsText};
 
+mod bytes;
 mod fields;
+mod laws;
 mod lines;
 mod numbers;
+mod reader;
+mod rows;
+mod sets;
+mod terms;
+#[cfg(test)]
+mod tests;
+mod words;
 
+pub use crate::laws::one_derivation;
 use crate::lines::{write_asked, write_nodes, write_version};
+pub use crate::reader::read;
 use ll_bank::{Names, OutOfMemory};
 use ll_laws::Derivation;
 use std::alloc::Global;

@@ -1,4 +1,4 @@
-use Rattle.std.proofs.Common.{◌≡◌, ℕ, List, ◌++◌, map, refl, ap, sym, subst, ◌∙◌, codes}
+use Rattle.std.proofs.Common.{List, ◌++◌, map, refl, ap, subst, ◌∙◌, codes}
 use Rattle.std.specs.List.{flat_map}
 use Rattle.ll_bank.specs.Term.{Term}
 use Rattle.ll_bank.specs.Nodes.{term_trees}

@@ -1,4 +1,4 @@
-use Rattle.std.proofs.Common.{◌≡◌, ◌++◌, ap, ◌∙◌, decimal}
+use Rattle.std.proofs.Common.{ap, ◌∙◌, decimal}
 use Rattle.std.specs.List.{flat_map}
 use Rattle.ll_laws.specs.ProofText.{field, labels_text}
 use Rattle.ll_prooftext.proofs.Writing.{labels_all, both_text, both_whole, both_stopped}

@@ -1,4 +1,4 @@
-use Rattle.std.proofs.Common.{◌≡◌, ◌++◌, arith, ap, subst, ◌∙◌}
+use Rattle.std.proofs.Common.{◌++◌, arith, ap, subst, ◌∙◌}
 use Rattle.ll_bank.specs.declared.At.{At}
 use Rattle.ll_bank.specs.Nodes.{term_tree}
 use Rattle.ll_laws.specs.ProofText.{term_field}

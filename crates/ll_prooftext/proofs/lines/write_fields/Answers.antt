@@ -1,4 +1,4 @@
-use Rattle.std.proofs.Common.{◌≡◌, ℕ, List, ◌++◌, map, refl, ap, sym, ◌∙◌, decimal}
+use Rattle.std.proofs.Common.{ℕ, List, ◌++◌, map, refl, ap, sym, ◌∙◌, decimal}
 use Rattle.std.specs.List.{flat_map}
 use Rattle.ll_bank.specs.Nodes.{term_trees}
 use Rattle.ll_bank.specs.declared.At.{At}

@@ -1,4 +1,4 @@
-use Rattle.std.proofs.Common.{ℕ, [], ◌∷◌, ◌++◌, refl, codes}
+use Rattle.std.proofs.Common.{[], ◌∷◌, ◌++◌, refl, codes}
 use Rattle.ll_bank.specs.Nodes.{term_tree}
 use Rattle.ll_laws.specs.ProofText.{term_field}
 use Rattle.ll_prooftext.specs.Rows.{let_text}

@@ -1,4 +1,4 @@
-use Rattle.std.proofs.Common.{◌≡◌, ◌++◌, arith, ap, subst, ◌∙◌}
+use Rattle.std.proofs.Common.{◌++◌, arith, ap, subst, ◌∙◌}
 use Rattle.ll_laws.specs.declared.Rule.{Rule}
 use Rattle.ll_laws.specs.declared.Rule.TheVariants.{One}
 use Rattle.ll_printer.specs.Pieces.{BeginsText}

@@ -1,11 +1,11 @@
--- The words of a print, and a form among the forms.
+-- The words of a print, those of a check, and a form among the forms.
 use Rattle.std.proofs.Common.{◌≡◌, ℕ, suc, ◌+◌, ◌<◌, ◌≤◌, Bool, true, false, List, [], ◌∷◌, ◌++◌, length, take, slice_get, get_or, Option, Some, None, refl, ap, sym, subst, ◌∙◌, inl, inr, arith}
 use Rattle.std.specs.Prelude.{IfSome, IsSomeAnd, codes, option_map}
 use Rattle.std.proofs.lemmas.Option.{slice_get_past, slice_get-map, slice_get-get_or}
 use Rattle.std.specs.Borrow.{Bor}
 use Rattle.ll_top.specs.Outcome.{word_texts}
 use Rattle.ll_top.specs.Begins.{Begins, Leads}
-use Rattle.ll_top.specs.Words.{ThisWord, AnyName, is_word, Form, Fits, part, done, FitsForm, run_form, print_form, IsInForm, IsPrint, IsBadWord}
+use Rattle.ll_top.specs.Words.{ThisWord, AnyName, is_word, Form, Fits, part, done, FitsForm, run_form, print_form, check_form, IsInForm, IsPrint, CheckWords, IsCheck, IsBadWord}
 use Rattle.ll_top.specs.RunForm.{HasPart, LacksPart, IsBadFormWord}
 use Rattle.ll_top.proofs.FirstBad.{drop-end, leads-start, leads-bad, IsStuck}
 use Rattle.ll_top.proofs.Forms.{same-word, words-same, leads-part, bad-part, bad-option}
@@ -36,6 +36,45 @@ module _ (words : List (List ℕ)) (print : HasPart words 0 (ThisWord (codes "pr
     pub whole-print : (text : List ℕ) → slice_get words 1 ≡ Some text → length words ≤ 2 → IsPrint words text
     whole-print text e l = record { form = to-end.good (subst (Fits [] []) (sym (drop-end words 2 (slice_get_past words 2 l))) (done refl)); program = e }
 
+-- ---- the words of a check
+
+can-name_two : Begins (Fits (AnyName ∷ AnyName ∷ []) []) []
+can-name_two = (codes "p" ∷ codes "q" ∷ [], part refl (part refl (done refl)))
+
+can-name_three : Begins (Fits (AnyName ∷ AnyName ∷ AnyName ∷ []) []) []
+can-name_three = (codes "p" ∷ codes "q" ∷ codes "r" ∷ [], part refl (part refl (part refl (done refl))))
+
+module _ (words : List (List ℕ)) (check : HasPart words 0 (ThisWord (codes "check"))) where
+  to-program : Leads (FitsForm check_form) (Fits (AnyName ∷ AnyName ∷ AnyName ∷ []) []) words 1
+  to-program = leads-part (FitsForm check_form) words 0 (ThisWord (codes "check")) (AnyName ∷ AnyName ∷ AnyName ∷ []) [] check (leads-start (FitsForm check_form) words)
+
+  pub no-checked_program : (number : ℕ) → number ≡ 2 → LacksPart words 1 AnyName → IsBadFormWord check_form words number
+  no-checked_program number e h = record { place = 1; is = e; bad = bad-part (FitsForm check_form) words 1 AnyName (AnyName ∷ AnyName ∷ []) [] h can-name_three to-program }
+
+  module _ (program : HasPart words 1 AnyName) where
+    to-query : Leads (FitsForm check_form) (Fits (AnyName ∷ AnyName ∷ []) []) words 2
+    to-query = leads-part (FitsForm check_form) words 1 AnyName (AnyName ∷ AnyName ∷ []) [] program to-program
+
+    pub no-checked_query : (number : ℕ) → number ≡ 3 → LacksPart words 2 AnyName → IsBadFormWord check_form words number
+    no-checked_query number e h = record { place = 2; is = e; bad = bad-part (FitsForm check_form) words 2 AnyName (AnyName ∷ []) [] h can-name_two to-query }
+
+    module _ (query : HasPart words 2 AnyName) where
+      to-proof : Leads (FitsForm check_form) (Fits (AnyName ∷ []) []) words 3
+      to-proof = leads-part (FitsForm check_form) words 2 AnyName (AnyName ∷ []) [] query to-query
+
+      pub no-checked_proof : (number : ℕ) → number ≡ 4 → LacksPart words 3 AnyName → IsBadFormWord check_form words number
+      no-checked_proof number e h = record { place = 3; is = e; bad = bad-part (FitsForm check_form) words 3 AnyName [] [] h can-name to-proof }
+
+      module _ (proof : HasPart words 3 AnyName) where
+        to-check_end : Leads (FitsForm check_form) (Fits [] []) words 4
+        to-check_end = leads-part (FitsForm check_form) words 3 AnyName [] [] proof to-proof
+
+        pub one-more_checked : 4 < length words → IsBadFormWord check_form words 5
+        one-more_checked l = record { place = 4; is = refl; bad = bad-option (FitsForm check_form) words 4 [] (get_or words 4 []) (slice_get-get_or words 4 [] l) refl can-end to-check_end }
+
+        pub whole-check : (check : CheckWords) → slice_get words 1 ≡ Some check.program → slice_get words 2 ≡ Some check.query → slice_get words 3 ≡ Some check.proof → length words ≤ 4 → IsCheck words check
+        whole-check check p q r l = record { form = to-check_end.good (subst (Fits [] []) (sym (drop-end words 4 (slice_get_past words 4 l))) (done refl)); program = p; query = q; proof = r }
+
 -- ---- a form among the forms
 
 run-first : {w : List ℕ} {ws : List (List ℕ)} → FitsForm run_form (w ∷ ws) → is_word w (codes "run") ≡ true
@@ -44,23 +83,42 @@ run-first (part h f) = h
 print-first : {w : List ℕ} {ws : List (List ℕ)} → FitsForm print_form (w ∷ ws) → is_word w (codes "print") ≡ true
 print-first (part h f) = h
 
-two-words : (w : List ℕ) → is_word w (codes "run") ≡ true → is_word w (codes "print") ≡ true → ⊥
-two-words w h k = let e : is_word w (codes "print") ≡ false = ap (λ v. is_word v (codes "print")) (words-same w (codes "run") h) in cc
+check-first : {w : List ℕ} {ws : List (List ℕ)} → FitsForm check_form (w ∷ ws) → is_word w (codes "check") ≡ true
+check-first (part h f) = h
+
+two-words : (w text other : List ℕ) → is_word text other ≡ false → is_word w text ≡ true → is_word w other ≡ true → ⊥
+two-words w text other d h k = let e : is_word w other ≡ false = ap (λ v. is_word v other) (words-same w text h) ∙ d in cc
 
 -- words are in one form
 pub run-or-print : (words : List (List ℕ)) → FitsForm run_form words → FitsForm print_form words → ⊥
 run-or-print [] f g = elim f [ ]
-run-or-print (w ∷ ws) f g = two-words w (run-first f) (print-first g)
+run-or-print (w ∷ ws) f g = two-words w (codes "run") (codes "print") refl (run-first f) (print-first g)
+
+pub run-or-check : (words : List (List ℕ)) → FitsForm run_form words → FitsForm check_form words → ⊥
+run-or-check [] f g = elim f [ ]
+run-or-check (w ∷ ws) f g = two-words w (codes "run") (codes "check") refl (run-first f) (check-first g)
+
+pub print-or-check : (words : List (List ℕ)) → FitsForm print_form words → FitsForm check_form words → ⊥
+print-or-check [] f g = elim f [ ]
+print-or-check (w ∷ ws) f g = two-words w (codes "print") (codes "check") refl (print-first f) (check-first g)
 
 run-alone : (w : List ℕ) (ws : List (List ℕ)) → is_word w (codes "run") ≡ true → IsInForm (w ∷ ws) → FitsForm run_form (w ∷ ws)
 run-alone w ws h (inl f) = f
-run-alone w ws h (inr (inl f)) = absurd (two-words w h (print-first f))
-run-alone w ws h (inr (inr f)) = absurd f
+run-alone w ws h (inr (inl f)) = absurd (two-words w (codes "run") (codes "print") refl h (print-first f))
+run-alone w ws h (inr (inr (inl f))) = absurd (two-words w (codes "run") (codes "check") refl h (check-first f))
+run-alone w ws h (inr (inr (inr f))) = absurd f
 
 print-alone : (w : List ℕ) (ws : List (List ℕ)) → is_word w (codes "print") ≡ true → IsInForm (w ∷ ws) → FitsForm print_form (w ∷ ws)
-print-alone w ws h (inl f) = absurd (two-words w (run-first f) h)
+print-alone w ws h (inl f) = absurd (two-words w (codes "run") (codes "print") refl (run-first f) h)
 print-alone w ws h (inr (inl f)) = f
-print-alone w ws h (inr (inr f)) = absurd f
+print-alone w ws h (inr (inr (inl f))) = absurd (two-words w (codes "print") (codes "check") refl h (check-first f))
+print-alone w ws h (inr (inr (inr f))) = absurd f
+
+check-alone : (w : List ℕ) (ws : List (List ℕ)) → is_word w (codes "check") ≡ true → IsInForm (w ∷ ws) → FitsForm check_form (w ∷ ws)
+check-alone w ws h (inl f) = absurd (two-words w (codes "run") (codes "check") refl (run-first f) h)
+check-alone w ws h (inr (inl f)) = absurd (two-words w (codes "print") (codes "check") refl (print-first f) h)
+check-alone w ws h (inr (inr (inl f))) = f
+check-alone w ws h (inr (inr (inr f))) = absurd f
 
 -- the first bad word of a form is that of the words, where the form is the one with their first word
 module _ (form : Form) (text : List ℕ) (into : (ws : List (List ℕ)) → FitsForm form ws → IsInForm ws) (alone : (w : List ℕ) (ws : List (List ℕ)) → is_word w text ≡ true → IsInForm (w ∷ ws) → FitsForm form (w ∷ ws)) where
@@ -88,27 +146,37 @@ bad-run words number h b = bad-among run_form (codes "run") (λ ws f. inl f) run
 pub bad-print : (words : List (List ℕ)) (number : ℕ) → HasPart words 0 (ThisWord (codes "print")) → IsBadFormWord print_form words number → IsBadWord words number
 bad-print words number h b = bad-among print_form (codes "print") (λ ws f. inr (inl f)) print-alone words number h b
 
+pub bad-check : (words : List (List ℕ)) (number : ℕ) → HasPart words 0 (ThisWord (codes "check")) → IsBadFormWord check_form words number → IsBadWord words number
+bad-check words number h b = bad-among check_form (codes "check") (λ ws f. inr (inr (inl f))) check-alone words number h b
+
 -- no form begins so
 none-in-form : IsInForm [] → ⊥
 none-in-form (inl f) = elim f [ ]
 none-in-form (inr (inl f)) = elim f [ ]
-none-in-form (inr (inr f)) = f
+none-in-form (inr (inr (inl f))) = elim f [ ]
+none-in-form (inr (inr (inr f))) = f
 
-pub bad-first : (words : List (List ℕ)) → IfSome (slice_get words 0) (λ w. is_word w (codes "run") ≡ false) → IfSome (slice_get words 0) (λ w. is_word w (codes "print") ≡ false) → IsBadWord words 1
-bad-first words h k = record {
+-- the first word, if there is one, is not this text
+abbrev pub IsOther : List ℕ → List (List ℕ) → Type 0
+IsOther text words = IfSome (slice_get words 0) (λ w. is_word w text ≡ false)
+
+pub bad-first : (words : List (List ℕ)) → IsOther (codes "run") words → IsOther (codes "print") words → IsOther (codes "check") words → IsBadWord words 1
+bad-first words h k l = record {
   place = 0;
   is = refl;
-  bad = leads-bad IsInForm IsInForm words 0 (leads-start IsInForm words) (can-run.0, inl can-run.1) (stuck (slice_get words 0) h k);
+  bad = leads-bad IsInForm IsInForm words 0 (leads-start IsInForm words) (can-run.0, inl can-run.1) (stuck (slice_get words 0) h k l);
 }
   where
-    other : (w : List ℕ) (ys : List (List ℕ)) → is_word w (codes "run") ≡ false → is_word w (codes "print") ≡ false → IsInForm (w ∷ ys) → ⊥
-    other w ys h k (inl f) = let e = run-first f in cc
-    other w ys h k (inr (inl f)) = let e = print-first f in cc
-    other w ys h k (inr (inr f)) = f
+    other : (w : List ℕ) (ys : List (List ℕ)) → is_word w (codes "run") ≡ false → is_word w (codes "print") ≡ false → is_word w (codes "check") ≡ false → IsInForm (w ∷ ys) → ⊥
+    other w ys h k l (inl f) = let e = run-first f in cc
+    other w ys h k l (inr (inl f)) = let e = print-first f in cc
+    other w ys h k l (inr (inr (inl f))) = let e = check-first f in cc
+    other w ys h k l (inr (inr (inr f))) = f
 
-    stuck : (next : Option (List ℕ)) → IfSome next (λ w. is_word w (codes "run") ≡ false) → IfSome next (λ w. is_word w (codes "print") ≡ false) → IsStuck IsInForm next
-    stuck None h k = none-in-form
-    stuck (Some w) h k = λ ys f. other w ys h k f
+    stuck : (next : Option (List ℕ)) → IfSome next (λ w. is_word w (codes "run") ≡ false) → IfSome next (λ w. is_word w (codes "print") ≡ false) → IfSome next (λ w. is_word w (codes "check") ≡ false)
+        → IsStuck IsInForm next
+    stuck None h k l = none-in-form
+    stuck (Some w) h k l = λ ys f. other w ys h k l f
 
 -- ---- the first word
 

@@ -11,13 +11,14 @@ use Rattle.ll_parser.specs.Text.{programs, queries}
 use Rattle.ll_parser.specs.Raw.{ProgramTree, Raw}
 use Rattle.ll_parser.specs.Reads.{Reads, HasFault as HasTokenFault, IsCause as IsTokenCause}
 use Rattle.ll_top.specs.declared.judge.Role.{Role}
-use Rattle.ll_top.specs.declared.judge.Role.TheVariants.{Program, Query}
+use Rattle.ll_top.specs.declared.judge.Role.TheVariants.{Program, Query, Proof}
 use Rattle.ll_top.specs.Judging.{HasGrammarFault, IsReadingCause, lexical, grammatical, most_open}
 
 -- the tokens of a text are read by the grammar as a program, or as a query
 abbrev pub IsOfGrammar : Role → LexedText → Type 0
 IsOfGrammar Program lexed = (tree : ProgramTree) × Reads programs most_open (toks_of lexed) tree
 IsOfGrammar Query lexed = (tree : Raw) × Reads queries most_open (toks_of lexed) tree
+IsOfGrammar Proof lexed = ⊥
 
 -- what holds of programs and of queries, by the role of a text
 pub one-grammar-fault : ((limit : ℕ) (ts : List Tok) (end : Place) (f g : Fault) → HasTokenFault programs limit ts end f → HasTokenFault programs limit ts end g → f ≡ g)
@@ -25,12 +26,14 @@ pub one-grammar-fault : ((limit : ℕ) (ts : List Tok) (end : Place) (f g : Faul
     → (role : Role) (l : LexedText) (f g : Fault) → HasGrammarFault role l f → HasGrammarFault role l g → f ≡ g
 one-grammar-fault p q Program l f g h k = p most_open (toks_of l) l.end f g h k
 one-grammar-fault p q Query l f g h k = q most_open (toks_of l) l.end f g h k
+one-grammar-fault p q Proof l f g h k = absurd h
 
 pub no-grammar-fault : ((limit : ℕ) (ts : List Tok) (end : Place) (t : ProgramTree) (f : Fault) → Reads programs limit ts t → HasTokenFault programs limit ts end f → ⊥)
     → ((limit : ℕ) (ts : List Tok) (end : Place) (t : Raw) (f : Fault) → Reads queries limit ts t → HasTokenFault queries limit ts end f → ⊥)
     → (role : Role) (l : LexedText) (f : Fault) → IsOfGrammar role l → HasGrammarFault role l f → ⊥
 no-grammar-fault p q Program l f h k = p most_open (toks_of l) l.end h.0 f h.1 k
 no-grammar-fault p q Query l f h k = q most_open (toks_of l) l.end h.0 f h.1 k
+no-grammar-fault p q Proof l f h k = h
 
 -- a text's fault, by its tokens
 pub not-lexed : (role : Role) (text : List ℕ) (e : TextFault) → IsLexedCause text e → IsReadingCause role text e

@@ -4,6 +4,15 @@ use Rattle.std.specs.Prelude.{IsSomeAnd, slice_get, codes, map}
 use Rattle.ll_edge.specs.Texts.{Texts, text_of}
 use Rattle.ll_laws.specs.Problem.{ProblemTree}
 use Rattle.ll_laws.specs.Output.{run_status}
+use Rattle.ll_laws.specs.Fault.{Fault as FaultAt}
+use Rattle.ll_laws.specs.Line.{DerivationLines, trees_of}
+use Rattle.ll_laws.specs.Shows.{Tree}
+use Rattle.ll_laws.specs.Verdict.{DerivationShows, first_fault}
+use Rattle.std.specs.List.{IsDistinct}
+use Rattle.std.specs.Str.{bytes_eq}
+use Rattle.ll_bank.specs.Names.{with_names}
+use Rattle.ll_prooftext.specs.Mentions.{text_names}
+use Rattle.ll_prooftext.specs.Reading.{IsTextOf, HasFault as HasProofFault}
 use Rattle.ll_lexer.specs.declared.Fault.{Fault}
 use Rattle.ll_lexer.specs.Reading.{LexedText, IsLexed, HasFault}
 use Rattle.ll_parser.specs.Tokens.{Tok, toks_of}
@@ -15,14 +24,16 @@ use Rattle.ll_polarity.specs.Faults.{heading, program_faults, query_faults}
 use Rattle.ll_polarity.specs.Asks.{part_of, problem_with, IsFirst, HasProgramFault, HasQueryFault}
 use Rattle.ll_top.specs.declared.judge.Role.{Role}
 use Rattle.ll_top.specs.declared.judge.Role.TheVariants.{Program, Query}
-use Rattle.ll_top.specs.Words.{RunWords, IsInForm, IsRun, IsBadWord, number_behind}
+use Rattle.ll_top.specs.Words.{RunWords, CheckWords, IsInForm, IsRun, IsCheck, IsBadWord, number_behind}
 use Rattle.ll_top.specs.Faults.{Cause, Usage, Absent, Oversized, Faulty, fault_text, cause_status}
-use Rattle.ll_top.specs.Judging.{HasGrammarFault, IsProgramText, IsQueryText, IsReadingFault, lexical, grammatical, IsFaultless, IsProgramFault, of_program_reading, of_program_scope, IsQueryFault, of_query_reading, of_query_scope, IsTextFault, of_program, of_query, TextsAsk, most_open}
-use Rattle.ll_top.specs.Outcome.{name_of, IsRead, Reaches, first, later, run_texts, ReadFails, absent, unreadable, oversized, RunFails, not_read, faulty, RunAsks, whole_text, RunComesTo, ran, failed, IsPrintedAs, PrintFails, source_not_read, faulty_source, PrintComesTo, printed, print_failed, ComesTo, misused, runs, prints, longest_text}
+use Rattle.ll_top.specs.Judging.{HasGrammarFault, IsProgramText, IsQueryText, IsReadingFault, lexical, grammatical, IsFaultless, IsProgramFault, of_program_reading, of_program_scope, IsQueryFault, of_query_reading, of_query_scope, IsTextFault, of_program, of_query, TextsAsk, most_open, IsCheckFault, of_run_texts, of_proof, TextsGive}
+use Rattle.ll_top.specs.Verdicts.{yes_text, no_text}
+use Rattle.ll_top.specs.Outcome.{name_of, IsRead, Reaches, first, later, run_texts, ReadFails, absent, unreadable, oversized, RunFails, not_read, faulty, RunAsks, whole_text, RunComesTo, ran, failed, IsPrintedAs, PrintFails, source_not_read, faulty_source, PrintComesTo, printed, print_failed, name_in_check, check_texts, CheckFails, texts_not_read, faulty_text, CheckGives, IsRefuted, CheckComesTo, shown, refuted, check_failed, ComesTo, misused, runs, prints, checks, longest_text}
 use Rattle.ll_top.proofs.FirstBad.{one-bad}
-use Rattle.ll_top.proofs.OutcomeLemmas.{bad-not-in-form, run-in-form, print-in-form}
-use Rattle.ll_top.proofs.CommandWords.{run-or-print}
+use Rattle.ll_top.proofs.OutcomeLemmas.{bad-not-in-form, run-in-form, print-in-form, check-in-form}
+use Rattle.ll_top.proofs.CommandWords.{run-or-print, run-or-check, print-or-check}
 use Rattle.ll_top.proofs.GrammarLemmas.{IsOfGrammar}
+use Rattle.ll_top.proofs.DistinctNames.{differ-names, differ-problem}
 
 -- ---- words
 
@@ -41,6 +52,13 @@ one-run words r s h k =
     let o = sym h.proofs ∙ k.proofs in
     λ i. record { program = p i; query = q i; bound = b i; workers = w i; proofs = o i }
 
+pub one-check : (words : List (List ℕ)) (c d : CheckWords) → IsCheck words c → IsCheck words d → c ≡ d
+one-check words c d h k =
+    let p = some-same c.program d.program (slice_get words 1) h.program k.program in
+    let q = some-same c.query d.query (slice_get words 2) h.query k.query in
+    let r = some-same c.proof d.proof (slice_get words 3) h.proof k.proof in
+    λ i. record { program = p i; query = q i; proof = r i }
+
 -- ---- texts
 
 module _ (same : (a b : LexedText) → a.text ≡ b.text → IsLexed a → IsLexed b → a ≡ b) (one : (text : List ℕ) (f g : Fault) → HasFault text f → HasFault text g → f ≡ g)
@@ -48,7 +66,10 @@ module _ (same : (a b : LexedText) → a.text ≡ b.text → IsLexed a → IsLex
     (one_grammar : (role : Role) (l : LexedText) (f g : Fault) → HasGrammarFault role l f → HasGrammarFault role l g → f ≡ g)
     (no_grammar : (role : Role) (l : LexedText) (f : Fault) → IsOfGrammar role l → HasGrammarFault role l f → ⊥)
     (one_tree : (limit : ℕ) (ts : List Tok) (p q : ProgramTree) → Reads programs limit ts p → Reads programs limit ts q → p ≡ q)
-    (one_goal : (limit : ℕ) (ts : List Tok) (p q : Raw) → Reads queries limit ts p → Reads queries limit ts q → p ≡ q) where
+    (one_goal : (limit : ℕ) (ts : List Tok) (p q : Raw) → Reads queries limit ts p → Reads queries limit ts q → p ≡ q)
+    (one_derivation : (names : List (List ℕ)) (text : List ℕ) (d e : DerivationLines) → IsDistinct bytes_eq names → IsTextOf names text d → IsTextOf names text e → d ≡ e)
+    (one_proof : (text : List ℕ) (f g : Fault) → HasProofFault text f → HasProofFault text g → f ≡ g)
+    (no_proof_fault : (names : List (List ℕ)) (text : List ℕ) (d : DerivationLines) (f : Fault) → IsTextOf names text d → HasProofFault text f → ⊥) where
   apart : (text : List ℕ) (l : LexedText) (f : Fault) → l.text ≡ text → IsLexed l → HasFault text f → ⊥
   apart text l f e h g = not_both l f h (subst (λ t. HasFault t f) (sym e) g)
 
@@ -137,6 +158,32 @@ module _ (same : (a b : LexedText) → a.text ≡ b.text → IsLexed a → IsLex
       let e = one-program program a.program_tree b.program_tree a.is_program b.is_program in
       let g = one-query query a.query_tree b.query_tree a.is_query b.is_query in
       a.asks.is ∙ (ap (λ x. problem_with (part_of x) a.query_tree bound) e ∙ (ap (λ x. problem_with (part_of b.program_tree) x bound) g ∙ sym b.asks.is))
+
+  -- ---- derivations
+
+  -- three texts have one fault
+  one-check-fault : (program query proof : List ℕ) (r s : Role) (f g : Fault) → IsCheckFault program query proof r f → IsCheckFault program query proof s g → (r ≡ s) × (f ≡ g)
+  one-check-fault program query proof r s f g (of_run_texts h) (of_run_texts k) = one-fault program query r s f g h k
+  one-check-fault program query proof r _ f g (of_run_texts h) (of_proof p a k) = absurd (asks-no-fault program query 0 p r f a h)
+  one-check-fault program query proof _ s f g (of_proof p a h) (of_run_texts k) = absurd (asks-no-fault program query 0 p s g a k)
+  one-check-fault program query proof _ _ f g (of_proof p a h) (of_proof q b k) = (refl, one_proof proof f g h k)
+
+  -- texts that give a problem and a derivation have none
+  gives-no-fault : (program query proof : List ℕ) (p : ProblemTree) (d : DerivationLines) (role : Role) (f : Fault) → TextsGive program query proof p d → IsCheckFault program query proof role f → ⊥
+  gives-no-fault program query proof p d role f a (of_run_texts h) = asks-no-fault program query 0 p role f a.asks h
+  gives-no-fault program query proof p d _ f a (of_proof q b h) = no_proof_fault (with_names p.names (text_names proof)) proof d f a.is_text h
+
+  -- the names of a problem that texts ask differ, and so do they with those that a derivation's text mentions
+  given-differ : (program query proof : List ℕ) (p : ProblemTree) → TextsAsk program query 0 p → IsDistinct bytes_eq (with_names p.names (text_names proof))
+  given-differ program query proof p a =
+      differ-names p.names (text_names proof) (subst (λ x. IsDistinct bytes_eq x.names) (sym a.asks.is) (differ-problem a.program_tree a.query_tree 0))
+
+  -- and they give one problem and one derivation
+  one-given : (program query proof : List ℕ) (p q : ProblemTree) (d e : DerivationLines) → TextsGive program query proof p d → TextsGive program query proof q e → (p ≡ q) × (d ≡ e)
+  one-given program query proof p q d e a b =
+      let o = one-asked program query 0 p q a.asks b.asks in
+      let moved = subst (λ x. IsTextOf (with_names x.names (text_names proof)) proof d) o a.is_text in
+      (o, one_derivation (with_names q.names (text_names proof)) proof d e (given-differ program query proof q b.asks) moved b.is_text)
 
   -- ---- reading
 
@@ -255,6 +302,63 @@ module _ (same : (a b : LexedText) → a.text ≡ b.text → IsLexed a → IsLex
       print-once s t u v (print_failed c b g h) (printed a e) = absurd (printed-not-fails v c a b)
       print-once s t u v (print_failed c a e f) (print_failed d b g h) = let o = print-fails-once c d a b in (e ∙ (ap cause_status o ∙ sym g), f ∙ (ap fault_text o ∙ sym h))
 
+    -- ---- checks
+
+    module _ (check : CheckWords) where
+      all-read : (p q r : List ℕ) → IsRead (Some texts) check.program p → IsRead (Some texts) check.query q → IsRead (Some texts) check.proof r → AreRead (check_texts check)
+      all-read p q r h k l = ((p, h), ((q, k), ((r, l), tt)))
+
+      check-fails-once : (c d : Cause) → CheckFails (Some texts) (Unit {0}) ⊥ check c → CheckFails (Some texts) (Unit {0}) ⊥ check d → c ≡ d
+      check-fails-once _ _ (texts_not_read c r) (texts_not_read d s) = unread-once (check_texts check) c d r s
+      check-fails-once _ _ (texts_not_read c x) (faulty_text p q r role f h k l t) = absurd (read-or-not (check_texts check) c (all-read p q r h k l) x)
+      check-fails-once _ _ (faulty_text p q r role f h k l t) (texts_not_read d x) = absurd (read-or-not (check_texts check) d (all-read p q r h k l) x)
+      check-fails-once _ _ (faulty_text p q r role g h k l t) (faulty_text u v w s f m n o z) =
+          let moved = subst (λ x. IsCheckFault x v w role g) (one-read check.program p u h m) (subst (λ x. IsCheckFault p x w role g) (one-read check.query q v k n) (subst (λ x. IsCheckFault p q x role g) (one-read check.proof r w l o) t)) in
+          let e = one-check-fault u v w role s g f moved z in
+          ap (λ x. Faulty (name_in_check check x) g) e.0 ∙ ap (Faulty (name_in_check check s)) e.1
+
+      gives-moved : (p q r : List ℕ) (problem : ProblemTree) (d : DerivationLines) → IsRead (Some texts) check.program p → IsRead (Some texts) check.query q → IsRead (Some texts) check.proof r → CheckGives (Some texts) check problem d
+          → TextsGive p q r problem d
+      gives-moved p q r problem d h k l a =
+          subst (λ x. TextsGive x q r problem d) (one-read check.program a.program p a.program_read h)
+          (subst (λ x. TextsGive a.program x r problem d) (one-read check.query a.query q a.query_read k) (subst (λ x. TextsGive a.program a.query x problem d) (one-read check.proof a.proof r a.proof_read l) a.give))
+
+      gives-not-fails : (p : ProblemTree) (d : DerivationLines) (c : Cause) → CheckGives (Some texts) check p d → CheckFails (Some texts) (Unit {0}) ⊥ check c → ⊥
+      gives-not-fails p d _ a (texts_not_read c x) = read-or-not (check_texts check) c (all-read a.program a.query a.proof a.program_read a.query_read a.proof_read) x
+      gives-not-fails p d _ a (faulty_text u v w role f h k l t) = gives-no-fault u v w p d role f (gives-moved u v w p d h k l a) t
+
+      given-once : (p q : ProblemTree) (d e : DerivationLines) → CheckGives (Some texts) check p d → CheckGives (Some texts) check q e → (p ≡ q) × (d ≡ e)
+      given-once p q d e a b = one-given b.program b.query b.proof p q d e (gives-moved b.program b.query b.proof p d b.program_read b.query_read b.proof_read a) b.give
+
+      shown-or-refuted : (p q : ProblemTree) (d e : DerivationLines) (n r : ℕ) → CheckGives (Some texts) check p d → DerivationShows p d → CheckGives (Some texts) check q e → IsRefuted q e n r → ⊥
+      shown-or-refuted p q d e n r a h b k = let o = given-once p q d e a b in k.not_shown (subst (DerivationShows q) o.1 (subst (λ x. DerivationShows x d) o.0 h))
+
+      -- a derivation has one tree
+      one-tree-of : (d : DerivationLines) (t u : Tree) → trees_of d.nodes ≡ Some (t ∷ []) → trees_of d.nodes ≡ Some (u ∷ []) → t ≡ u
+      one-tree-of d t u h k = let e = some-same (t ∷ []) (u ∷ []) (trees_of d.nodes) h k in cc
+
+      refuted-once : (p q : ProblemTree) (d e : DerivationLines) (n m r s : ℕ) → CheckGives (Some texts) check p d → IsRefuted p d n r → CheckGives (Some texts) check q e → IsRefuted q e m s → no_text n r ≡ no_text m s
+      refuted-once p q d e n m r s a h b k =
+          let o = given-once p q d e a b in
+          let t = one-tree-of e h.tree k.tree (subst (λ x. trees_of x.nodes ≡ Some (h.tree ∷ [])) o.1 h.is_tree) k.is_tree in
+          let f = subst (λ x. first_fault x d h.tree ≡ FaultAt n r) o.0 h.fault in
+          let moved = subst (λ x. first_fault q x h.tree ≡ FaultAt n r) o.1 f in
+          let g : FaultAt n r ≡ FaultAt m s = sym (subst (λ x. first_fault q e x ≡ FaultAt n r) t moved) ∙ k.fault in
+          let same_node : n ≡ m = cc in
+          let same_reason : r ≡ s = cc in
+          ap (λ x. no_text x r) same_node ∙ ap (no_text m) same_reason
+
+      check-once : (s t : ℕ) (u v : List ℕ) → CheckComesTo (Some texts) (Unit {0}) ⊥ check s u → CheckComesTo (Some texts) (Unit {0}) ⊥ check t v → (s ≡ t) × (u ≡ v)
+      check-once s t u v (shown p d a x e f) (shown q c b y g h) = let o = given-once p q d c a b in (e ∙ sym g, f ∙ (ap (λ x. yes_text (length x.nodes)) o.1 ∙ sym h))
+      check-once s t u v (shown p d a x e f) (refuted q c n r b y g h) = absurd (shown-or-refuted p q d c n r a x b y)
+      check-once s t u v (refuted q c n r b y g h) (shown p d a x e f) = absurd (shown-or-refuted p q d c n r a x b y)
+      check-once s t u v (refuted p d n r a x e f) (refuted q c m l b y g h) = (e ∙ sym g, f ∙ (refuted-once p q d c n m r l a x b y ∙ sym h))
+      check-once s t u v (shown p d a x e f) (check_failed c b g h) = absurd (gives-not-fails p d c a b)
+      check-once s t u v (check_failed c b g h) (shown p d a x e f) = absurd (gives-not-fails p d c a b)
+      check-once s t u v (refuted p d n r a x e f) (check_failed c b g h) = absurd (gives-not-fails p d c a b)
+      check-once s t u v (check_failed c b g h) (refuted p d n r a x e f) = absurd (gives-not-fails p d c a b)
+      check-once s t u v (check_failed c a e f) (check_failed d b g h) = let o = check-fails-once c d a b in (e ∙ (ap cause_status o ∙ sym g), f ∙ (ap fault_text o ∙ sym h))
+
     -- ---- calls
 
     pub one-text : (words : List (List ℕ)) (s t : ℕ) (u v : List ℕ) → ComesTo words (Some texts) (Unit {0}) ⊥ s u → ComesTo words (Some texts) (Unit {0}) ⊥ t v → (s ≡ t) × (u ≡ v)
@@ -267,3 +371,10 @@ module _ (same : (a b : LexedText) → a.text ≡ b.text → IsLexed a → IsLex
     one-text words s t u v (runs r h c) (prints q k d) = absurd (run-or-print words h.form k.form)
     one-text words s t u v (prints q k d) (runs r h c) = absurd (run-or-print words h.form k.form)
     one-text words s t u v (prints q h c) (prints r k d) = print-once r s t u v (subst (λ x. PrintComesTo (Some texts) (Unit {0}) ⊥ x s u) (some-same q r (slice_get words 1) h.program k.program) c) d
+    one-text words s t u v (misused n b e f) (checks r h c) = absurd (bad-not-in-form words n b (check-in-form words r h))
+    one-text words s t u v (checks r h c) (misused n b e f) = absurd (bad-not-in-form words n b (check-in-form words r h))
+    one-text words s t u v (runs r h c) (checks q k d) = absurd (run-or-check words h.form k.form)
+    one-text words s t u v (checks q k d) (runs r h c) = absurd (run-or-check words h.form k.form)
+    one-text words s t u v (prints r h c) (checks q k d) = absurd (print-or-check words h.form k.form)
+    one-text words s t u v (checks q k d) (prints r h c) = absurd (print-or-check words h.form k.form)
+    one-text words s t u v (checks q h c) (checks r k d) = check-once r s t u v (subst (λ x. CheckComesTo (Some texts) (Unit {0}) ⊥ x s u) (one-check words q r h k) c) d

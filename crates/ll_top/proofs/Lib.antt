@@ -10,4 +10,7 @@ pub mod GrammarLemmas
 pub mod OutcomeLemmas
 pub mod LawLemmas
 pub mod PrepareLemmas
+pub mod MoreNames
+pub mod DistinctNames
+pub mod CheckLemmas
 pub mod ProvedLemmas

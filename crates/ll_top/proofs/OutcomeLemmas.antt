@@ -11,12 +11,13 @@ use Rattle.ll_laws.specs.Search.{is_answer, is_reached}
 use Rattle.ll_laws.specs.Output.{run_status, status_by}
 use Rattle.ll_laws.specs.Valid.{IsValid}
 use Rattle.ll_top.specs.declared.run.Found.{Found}
+use Rattle.ll_top.specs.declared.finding.Finding.{Finding}
 use Rattle.ll_top.specs.declared.refusal.Refusal.{Refusal}
 use Rattle.ll_top.specs.declared.refusal.Refusal.TheVariants.{Text, Unwritable, OutOfMemory}
-use Rattle.ll_top.specs.Words.{RunWords, FitsForm, run_form, IsInForm, IsInWorkersForm, IsRun, IsPrint, IsBadWord}
+use Rattle.ll_top.specs.Words.{RunWords, CheckWords, FitsForm, run_form, IsInForm, IsInWorkersForm, IsRun, IsPrint, IsCheck, IsBadWord}
 use Rattle.ll_top.specs.Faults.{Cause, Usage, Absent, Unreadable, Oversized, Faulty, fault_text, cause_status}
-use Rattle.ll_top.specs.Outcome.{name_of, ReadFails, absent as is_absent, unreadable as is_unreadable, oversized as is_oversized, run_texts, RunFails, not_read, faulty, RunAsks, whole_text, RunComesTo, ran, failed, IsPrintedAs, PrintFails, source_not_read, faulty_source, PrintComesTo, printed, print_failed, ComesTo, misused, runs, prints, AppendsOwn, nothing, front, Ends, whole, unwritable, no_memory, Completes}
-use Rattle.ll_top.specs.Endings.{Refuses, line, cut, Prepares, RunEnds, status_of_found, PrintEnds}
+use Rattle.ll_top.specs.Outcome.{name_of, ReadFails, absent as is_absent, unreadable as is_unreadable, oversized as is_oversized, run_texts, RunFails, not_read, faulty, RunAsks, whole_text, RunComesTo, ran, failed, IsPrintedAs, PrintFails, source_not_read, faulty_source, PrintComesTo, printed, print_failed, name_in_check, check_texts, CheckFails, texts_not_read, faulty_text, CheckComesTo, shown, refuted, check_failed, IsDenied, ComesTo, misused, runs, prints, checks, AppendsOwn, nothing, front, Ends, whole, unwritable, no_memory, Completes}
+use Rattle.ll_top.specs.Endings.{Refuses, line, cut, Prepares, RunEnds, status_of_found, PrintEnds, status_of_finding, finding_text, CheckEnds}
 use Rattle.ll_top.specs.Running.{IsRunRefusal}
 use Rattle.ll_top.proofs.FirstBad.{good-or-bad}
 
@@ -83,6 +84,22 @@ module _ (told : Option Texts) (absence read_failed : Type 0) (name : List ℕ) 
     pub print-refusal-ends : (middle : Option (List ℕ)) (cause : Cause) (status : ℕ) → PrintFails told absence read_failed name cause → middle ≡ before → Refuses cause write_failed middle after status → Ends (PrintComesTo told absence read_failed name) write_failed before after status
     print-refusal-ends middle cause status f m r = refused-ends (PrintComesTo told absence read_failed name) write_failed before middle after cause status (print_failed cause f refl refl) m r
 
+-- ---- a check
+
+module _ (told : Option Texts) (absence read_failed : Type 0) (check : CheckWords) where
+  module _ (write_failed : Type 0) (before after : Option (List ℕ)) where
+    pub finding-ends : (finding : Finding) (status : ℕ) → status ≡ status_of_finding finding → CheckEnds told absence read_failed write_failed check before after (Ok finding) → Ends (CheckComesTo told absence read_failed check) write_failed before after status
+    finding-ends finding status e h = whole (finding_text finding) (subst (λ n. CheckComesTo told absence read_failed check n (finding_text finding)) (sym e) h.0) h.1
+
+    pub check-cut-ends : CheckEnds told absence read_failed write_failed check before after (Err Unwritable) → Ends (CheckComesTo told absence read_failed check) write_failed before after 6
+    check-cut-ends h = unwritable (status_of_finding h.0) (finding_text h.0) h.1 h.2 refl h.3
+
+    pub check-memory-ends : after ≡ before → Ends (CheckComesTo told absence read_failed check) write_failed before after 10
+    check-memory-ends h = no_memory refl (nothing h)
+
+    pub check-refusal-ends : (middle : Option (List ℕ)) (cause : Cause) (status : ℕ) → CheckFails told absence read_failed check cause → middle ≡ before → Refuses cause write_failed middle after status → Ends (CheckComesTo told absence read_failed check) write_failed before after status
+    check-refusal-ends middle cause status f m r = refused-ends (CheckComesTo told absence read_failed check) write_failed before middle after cause status (check_failed cause f refl refl) m r
+
 -- ---- a call
 
 ends-as : (Comes Other : ℕ → List ℕ → Type 0) → ((s : ℕ) (t : List ℕ) → Comes s t → Other s t) → (write_failed : Type 0) (before after : Option (List ℕ)) (status : ℕ) → Ends Comes write_failed before after status → Ends Other write_failed before after status
@@ -103,6 +120,11 @@ run-call words told absence read_failed w run before after status r h = ends-as 
 pub print-call : (words : List (List ℕ)) (told : Option Texts) (absence read_failed write_failed : Type 0) (name : List ℕ) (before after : Option (List ℕ)) (status : ℕ) → IsPrint words name → Ends (PrintComesTo told absence read_failed name) write_failed before after status
     → Ends (ComesTo words told absence read_failed) write_failed before after status
 print-call words told absence read_failed w name before after status p h = ends-as (PrintComesTo told absence read_failed name) (ComesTo words told absence read_failed) (λ s t c. prints name p c) w before after status h
+
+-- and with a check
+pub check-call : (words : List (List ℕ)) (told : Option Texts) (absence read_failed write_failed : Type 0) (check : CheckWords) (before after : Option (List ℕ)) (status : ℕ) → IsCheck words check → Ends (CheckComesTo told absence read_failed check) write_failed before after status
+    → Ends (ComesTo words told absence read_failed) write_failed before after status
+check-call words told absence read_failed w check before after status c h = ends-as (CheckComesTo told absence read_failed check) (ComesTo words told absence read_failed) (λ s t d. checks check c d) w before after status h
 
 -- words in no form
 pub usage-call : (words : List (List ℕ)) (told : Option Texts) (absence read_failed write_failed : Type 0) (number : ℕ) (before after : Option (List ℕ)) (status : ℕ) → IsBadWord words number → Refuses (Usage number) write_failed before after status
@@ -149,6 +171,10 @@ module _ (told : Option Texts) (absence read_failed write_failed : Type 0) where
   print-cause-says name cause (source_not_read c r) = unread-says (name ∷ []) c r
   print-cause-says name cause (faulty_source p f h t) = fault-says
 
+  check-cause-says : (check : CheckWords) (cause : Cause) → CheckFails told absence read_failed check cause → Says absence read_failed write_failed (cause_status cause)
+  check-cause-says check cause (texts_not_read c r) = unread-says (check_texts check) c r
+  check-cause-says check cause (faulty_text p q s role f h k l t) = fault-says
+
   run-comes-says : (run : RunWords) (status : ℕ) (text : List ℕ) → RunComesTo told absence read_failed run status text → Says absence read_failed write_failed status
   run-comes-says run status text (ran p a s t) = let small = run-small p in other-says status (λ e. omega arith) (λ e. omega arith) (λ e. omega arith) (λ e. omega arith)
   run-comes-says run status text (failed cause f s t) = subst (Says absence read_failed write_failed) (sym s) (run-cause-says run cause f)
@@ -156,6 +182,11 @@ module _ (told : Option Texts) (absence read_failed write_failed : Type 0) where
   print-comes-says : (name : List ℕ) (status : ℕ) (text : List ℕ) → PrintComesTo told absence read_failed name status text → Says absence read_failed write_failed status
   print-comes-says name status text (printed p s) = other-says status (λ e. omega arith) (λ e. omega arith) (λ e. omega arith) (λ e. omega arith)
   print-comes-says name status text (print_failed cause f s t) = subst (Says absence read_failed write_failed) (sym s) (print-cause-says name cause f)
+
+  check-comes-says : (check : CheckWords) (status : ℕ) (text : List ℕ) → CheckComesTo told absence read_failed check status text → Says absence read_failed write_failed status
+  check-comes-says check status text (shown p d g h s t) = other-says status (λ e. omega arith) (λ e. omega arith) (λ e. omega arith) (λ e. omega arith)
+  check-comes-says check status text (refuted p d n r g h s t) = other-says status (λ e. omega arith) (λ e. omega arith) (λ e. omega arith) (λ e. omega arith)
+  check-comes-says check status text (check_failed cause f s t) = subst (Says absence read_failed write_failed) (sym s) (check-cause-says check cause f)
 
   ends-say : (Comes : ℕ → List ℕ → Type 0) → ((s : ℕ) (t : List ℕ) → Comes s t → Says absence read_failed write_failed s) → (before after : Option (List ℕ)) (status : ℕ) → Ends Comes write_failed before after status → Says absence read_failed write_failed status
   ends-say Comes says before after status (whole text c a) = says status text c
@@ -168,6 +199,35 @@ module _ (told : Option Texts) (absence read_failed write_failed : Type 0) where
   pub print-says : (name : List ℕ) (before after : Option (List ℕ)) (status : ℕ) → Ends (PrintComesTo told absence read_failed name) write_failed before after status → Says absence read_failed write_failed status
   print-says name before after status h = ends-say (PrintComesTo told absence read_failed name) (print-comes-says name) before after status h
 
+  pub check-says : (check : CheckWords) (before after : Option (List ℕ)) (status : ℕ) → Ends (CheckComesTo told absence read_failed check) write_failed before after status → Says absence read_failed write_failed status
+  check-says check before after status h = ends-say (CheckComesTo told absence read_failed check) (check-comes-says check) before after status h
+
+-- ---- status 9
+
+cause-not-nine : (cause : Cause) → cause_status cause ≡ 9 → ⊥
+cause-not-nine (Usage number) e = omega arith
+cause-not-nine (Absent name) e = omega arith
+cause-not-nine (Unreadable name) e = omega arith
+cause-not-nine (Oversized name) e = omega arith
+cause-not-nine (Faulty name fault) e = omega arith
+
+-- it comes of a derivation that does not show the query, and of nothing else
+module _ (words : List (List ℕ)) (told : Option Texts) (absence read_failed : Type 0) where
+  comes-denied : (status : ℕ) (text : List ℕ) → status ≡ 9 → ComesTo words told absence read_failed status text → IsDenied words told
+  comes-denied status text e (misused number b s t) = absurd (omega arith)
+  comes-denied status text e (runs run r (ran p a s t)) = let small = run-small p in absurd (omega arith)
+  comes-denied status text e (runs run r (failed cause f s t)) = absurd (cause-not-nine cause (sym s ∙ e))
+  comes-denied status text e (prints name p (printed a s)) = absurd (omega arith)
+  comes-denied status text e (prints name p (print_failed cause f s t)) = absurd (cause-not-nine cause (sym s ∙ e))
+  comes-denied status text e (checks check c (shown p d g h s t)) = absurd (omega arith)
+  comes-denied status text e (checks check c (refuted p d n r g h s t)) = record { check = check; is_check = c; problem = p; derivation = d; gives = g; not_shown = h.not_shown }
+  comes-denied status text e (checks check c (check_failed cause f s t)) = absurd (cause-not-nine cause (sym s ∙ e))
+
+  pub call-denied : (write_failed : Type 0) (before after : Option (List ℕ)) (status : ℕ) → Ends (ComesTo words told absence read_failed) write_failed before after status → status ≡ 9 → IsDenied words told
+  call-denied write_failed before after status (whole text c a) e = comes-denied status text e c
+  call-denied write_failed before after status (unwritable meant text c w s a) e = absurd (omega arith)
+  call-denied write_failed before after status (no_memory s a) e = absurd (omega arith)
+
 -- ---- words in no form
 
 pub run-in-form : (words : List (List ℕ)) (run : RunWords) → IsRun words run → IsInForm words
@@ -175,6 +235,9 @@ run-in-form words run r = inl r.form
 
 pub print-in-form : (words : List (List ℕ)) (name : List ℕ) → IsPrint words name → IsInForm words
 print-in-form words name p = inr (inl p.form)
+
+pub check-in-form : (words : List (List ℕ)) (check : CheckWords) → IsCheck words check → IsInForm words
+check-in-form words check c = inr (inr (inl c.form))
 
 -- words with workers are those of a run
 pub workers-run : (words : List (List ℕ)) → IsInWorkersForm words → FitsForm run_form words
@@ -210,10 +273,17 @@ module _ (texts : Texts) (absence read_failed : Type 0) (no_fault : read_failed 
   told-print name status text (print_failed _ (source_not_read c r) e f) = print_failed c (source_not_read c (told-unread (name ∷ []) c r)) e f
   told-print name status text (print_failed _ (faulty_source p g h t) e f) = print_failed (Faulty name g) (faulty_source p g h t) e f
 
+  told-check : (check : CheckWords) (status : ℕ) (text : List ℕ) → CheckComesTo (Some texts) absence read_failed check status text → CheckComesTo (Some texts) (Unit {0}) ⊥ check status text
+  told-check check status text (shown p d g h e f) = shown p d g h e f
+  told-check check status text (refuted p d n r g h e f) = refuted p d n r g h e f
+  told-check check status text (check_failed _ (texts_not_read c r) e f) = check_failed c (texts_not_read c (told-unread (check_texts check) c r)) e f
+  told-check check status text (check_failed _ (faulty_text p q s role g h k l t) e f) = check_failed (Faulty (name_in_check check role) g) (faulty_text p q s role g h k l t) e f
+
   told-comes : (words : List (List ℕ)) (status : ℕ) (text : List ℕ) → ComesTo words (Some texts) absence read_failed status text → ComesTo words (Some texts) (Unit {0}) ⊥ status text
   told-comes words status text (misused n b e f) = misused n b e f
   told-comes words status text (runs run r c) = runs run r (told-run run status text c)
   told-comes words status text (prints name p c) = prints name p (told-print name status text c)
+  told-comes words status text (checks check h c) = checks check h (told-check check status text c)
 
 module _
     (one : (words : List (List ℕ)) (texts : Texts) (status other : ℕ) (text more : List ℕ) → ComesTo words (Some texts) (Unit {0}) ⊥ status text → ComesTo words (Some texts) (Unit {0}) ⊥ other more → (status ≡ other) × (text ≡ more))

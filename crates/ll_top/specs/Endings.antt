@@ -5,25 +5,31 @@ use Rattle.ll_edge.specs.Pieces.{AppendsFront}
 use Rattle.ll_edge.specs.Texts.{Texts, text_of}
 use Rattle.ll_laws.specs.Problem.{ProblemTree}
 use Rattle.ll_laws.specs.Output.{run_status}
+use Rattle.ll_laws.specs.Line.{DerivationLines}
+use Rattle.ll_laws.specs.Verdict.{DerivationShows}
+use Rattle.ll_prooftext.specs.Reading.{HasFault as HasProofFault}
 use Rattle.ll_laws.specs.Valid.{IsValid}
 use Rattle.ll_lexer.specs.declared.TextFault.{TextFault}
 use Rattle.ll_lexer.specs.declared.TextFault.TheVariants as text_fault
 use Rattle.ll_top.specs.declared.fault.Cause.{Cause as OwnCause}
 use Rattle.ll_top.specs.declared.fault.Cause.TheVariants as own
 use Rattle.ll_top.specs.declared.judge.Role.{Role}
-use Rattle.ll_top.specs.declared.judge.Role.TheVariants.{Program}
+use Rattle.ll_top.specs.declared.judge.Role.TheVariants.{Program, Proof}
 use Rattle.ll_top.specs.declared.run.Found.{Found}
 use Rattle.ll_top.specs.declared.run.Found.TheVariants.{Answer, Nothing, Bound}
+use Rattle.ll_top.specs.declared.finding.Finding.{Finding}
+use Rattle.ll_top.specs.declared.finding.Finding.TheVariants.{Shows, Fails}
 use Rattle.ll_top.specs.declared.refusal.TextRefusal.{TextRefusal}
 use Rattle.ll_top.specs.declared.refusal.TextRefusal.TheVariants as text
 use Rattle.ll_top.specs.declared.refusal.Refusal.{Refusal}
 use Rattle.ll_top.specs.declared.refusal.Refusal.TheVariants.{Text, Unwritable, OutOfMemory}
-use Rattle.ll_top.specs.Words.{RunWords}
+use Rattle.ll_top.specs.Words.{RunWords, CheckWords}
 use Rattle.ll_top.specs.Faults.{Cause, Usage, Absent, Unreadable, Oversized, Faulty, fault_text, cause_status}
 use Rattle.ll_parser.specs.Raw.{ProgramTree}
 use Rattle.ll_parser.specs.Printed.{program_text}
-use Rattle.ll_top.specs.Judging.{IsProgramText, IsReadingFault, IsTextFault, TextsAsk}
-use Rattle.ll_top.specs.Outcome.{longest_text, name_of, RunFails, RunAsks, whole_text, RunComesTo, PrintFails, IsPrintedAs, AppendsOwn}
+use Rattle.ll_top.specs.Verdicts.{yes_text, no_text}
+use Rattle.ll_top.specs.Judging.{IsProgramText, IsReadingFault, IsTextFault, TextsAsk, IsCheckFault, TextsGive}
+use Rattle.ll_top.specs.Outcome.{longest_text, name_of, RunFails, RunAsks, whole_text, RunComesTo, PrintFails, IsPrintedAs, name_in_check, CheckFails, IsRefuted, CheckComesTo, AppendsOwn}
 
 -- ---- causes
 
@@ -127,3 +133,56 @@ PrintEnds told absence read_failed write_failed name before after (Ok done) = (b
 PrintEnds told absence read_failed write_failed name before after (Err (Text role refusal)) = PrintFails told absence read_failed name (cause_of name refusal) × (after ≡ before)
 PrintEnds told absence read_failed write_failed name before after (Err Unwritable) = (bytes : List ℕ) × IsPrintedAs told name bytes × write_failed × AppendsFront before bytes after
 PrintEnds told absence read_failed write_failed name before after (Err OutOfMemory) = after ≡ before
+
+-- ---- the check
+
+-- the status and the line of what a check found
+abbrev pub status_of_finding : Finding → ℕ
+status_of_finding (Shows nodes) = 0
+status_of_finding (Fails node reason) = 9
+
+abbrev pub finding_text : Finding → List ℕ
+finding_text (Shows nodes) = yes_text nodes
+finding_text (Fails node reason) = no_text node reason
+
+-- the finding is true of a derivation over a problem
+abbrev pub IsFinding : ProblemTree → DerivationLines → Finding → Type 0
+IsFinding p d (Shows nodes) = DerivationShows p d × (nodes ≡ length d.nodes)
+IsFinding p d (Fails node reason) = IsRefuted p d node reason
+
+-- why the text of a derivation is not read
+abbrev pub IsNoDerivation : List ℕ → Refusal → Type 0
+IsNoDerivation proof (Text role (text.Faulty f)) = (role ≡ Proof) × HasProofFault proof f
+IsNoDerivation proof (Text role refusal) = ⊥
+IsNoDerivation proof Unwritable = ⊥
+IsNoDerivation proof OutOfMemory = Unit {0}
+
+-- why a text of three that were read is refused
+abbrev pub IsCheckFaultOf : List ℕ → List ℕ → List ℕ → Role → TextRefusal → Type 0
+IsCheckFaultOf program query proof role (text.Faulty f) = IsCheckFault program query proof role f
+IsCheckFaultOf program query proof role refusal = ⊥
+
+-- what was found of three texts, or why nothing was
+abbrev pub Finds : List ℕ → List ℕ → List ℕ → Result Finding Refusal → Type 0
+Finds program query proof (Ok finding) = (p : ProblemTree) × (d : DerivationLines) × TextsGive program query proof p d × IsFinding p d finding
+Finds program query proof (Err (Text role refusal)) = IsCheckFaultOf program query proof role refusal
+Finds program query proof (Err Unwritable) = ⊥
+Finds program query proof (Err OutOfMemory) = Unit {0}
+
+-- what a check comes to where it found this
+abbrev pub ComesToFinding : Option Texts → Type 0 → Type 0 → CheckWords → Finding → Type 0
+ComesToFinding told absence read_failed check finding = CheckComesTo told absence read_failed check (status_of_finding finding) (finding_text finding)
+
+-- what was found of the texts that a check names, or a cause why nothing was
+abbrev pub CheckFinds : Option Texts → Type 0 → Type 0 → CheckWords → Result Finding Refusal → Type 0
+CheckFinds told absence read_failed check (Ok finding) = ComesToFinding told absence read_failed check finding
+CheckFinds told absence read_failed check (Err (Text role refusal)) = CheckFails told absence read_failed check (cause_of (name_in_check check role) refusal)
+CheckFinds told absence read_failed check (Err Unwritable) = ⊥
+CheckFinds told absence read_failed check (Err OutOfMemory) = Unit {0}
+
+-- how a check ended, before any fault line is written
+abbrev pub CheckEnds : Option Texts → Type 0 → Type 0 → Type 0 → CheckWords → Option (List ℕ) → Option (List ℕ) → Result Finding Refusal → Type 0
+CheckEnds told absence read_failed write_failed check before after (Ok finding) = ComesToFinding told absence read_failed check finding × (after ≡ append_known before (finding_text finding))
+CheckEnds told absence read_failed write_failed check before after (Err (Text role refusal)) = CheckFails told absence read_failed check (cause_of (name_in_check check role) refusal) × (after ≡ before)
+CheckEnds told absence read_failed write_failed check before after (Err Unwritable) = (finding : Finding) × ComesToFinding told absence read_failed check finding × write_failed × AppendsFront before (finding_text finding) after
+CheckEnds told absence read_failed write_failed check before after (Err OutOfMemory) = after ≡ before

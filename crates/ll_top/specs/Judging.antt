@@ -12,7 +12,11 @@ use Rattle.ll_parser.specs.Reads.{Reads, IsWhole, HasFault as HasTokenFault}
 use Rattle.ll_polarity.specs.Faults.{program_faults}
 use Rattle.ll_polarity.specs.Asks.{ProgramPart, part_of, Asks, HasProgramFault, HasQueryFault}
 use Rattle.ll_top.specs.declared.judge.Role.{Role}
-use Rattle.ll_top.specs.declared.judge.Role.TheVariants.{Program, Query}
+use Rattle.ll_laws.specs.Line.{DerivationLines}
+use Rattle.ll_bank.specs.Names.{with_names}
+use Rattle.ll_prooftext.specs.Reading.{IsTextOf, HasFault as HasProofFault}
+use Rattle.ll_prooftext.specs.Mentions.{text_names}
+use Rattle.ll_top.specs.declared.judge.Role.TheVariants.{Program, Query, Proof}
 
 -- the greatest number of brackets that may be open at once
 abbrev pub most_open : ℕ
@@ -34,10 +38,12 @@ pub record IsQueryText (text : List ℕ) (tree : Raw) : Type 0 where
   pub is_lexed : IsLexed lexed
   pub reads : Reads queries most_open (toks_of lexed) tree
 
--- the tokens of a text have this first fault by the grammar of programs, or by that of queries: it is of kind 4, 5 or 6
+-- the tokens of a text have this first fault by the grammar of programs, or by that of queries: it is of kind 4, 5 or 6. A derivation's text
+-- has no tokens.
 abbrev pub HasGrammarFault : Role → LexedText → Fault → Type 0
 HasGrammarFault Program lexed f = HasTokenFault programs most_open (toks_of lexed) lexed.end f
 HasGrammarFault Query lexed f = HasTokenFault queries most_open (toks_of lexed) lexed.end f
+HasGrammarFault Proof lexed f = ⊥
 
 -- The fault of reading a text: the first one of kinds 1 to 3; or else, where its tokens are not read by the grammar, their first
 -- fault, of kinds 4 to 6.
@@ -80,6 +86,20 @@ pub record TextsAsk (program query : List ℕ) (bound : ℕ) (p : ProblemTree) :
   pub is_program : IsProgramText program program_tree
   pub is_query : IsQueryText query query_tree
   pub asks : Asks program_tree query_tree bound p
+
+-- ---- the texts of a check
+
+-- The fault of three texts that are judged in turn: that of the program or of the query; or else, where these ask a problem, the
+-- derivation's, of kinds 13 to 16.
+pub data IsCheckFault (program query proof : List ℕ) : Role → Fault → Type 0 where
+  of_run_texts : {role : Role} {f : Fault} → IsTextFault program query role f → IsCheckFault program query proof role f
+  of_proof : {f : Fault} (p : ProblemTree) → TextsAsk program query 0 p → HasProofFault proof f → IsCheckFault program query proof Proof f
+
+-- Three texts give a problem and a derivation: the first two ask the problem, and the third is the derivation's, over the problem's names
+-- and behind them the others that it mentions. The bound is 0, and no check looks at it.
+pub record TextsGive (program query proof : List ℕ) (p : ProblemTree) (d : DerivationLines) : Type 0 where
+  pub asks : TextsAsk program query 0 p
+  pub is_text : IsTextOf (with_names p.names (text_names proof)) proof d
 
 -- ---- a program that was loaded
 

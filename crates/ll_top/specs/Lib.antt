@@ -2,6 +2,7 @@ pub mod Begins
 pub mod Words
 pub mod RunForm
 pub mod Faults
+pub mod Verdicts
 pub mod Judging
 pub mod Outcome
 pub mod Endings

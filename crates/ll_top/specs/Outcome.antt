@@ -5,16 +5,21 @@ use Rattle.std.specs.Io.KnownBytes.{append_known}
 use Rattle.ll_edge.specs.Texts.{Texts, text_of}
 use Rattle.ll_edge.specs.Pieces.{AppendsFront}
 use Rattle.ll_laws.specs.Problem.{ProblemTree}
+use Rattle.ll_laws.specs.Shows.{Tree}
+use Rattle.ll_laws.specs.Fault.{Fault as FaultAt}
+use Rattle.ll_laws.specs.Line.{DerivationLines, trees_of}
+use Rattle.ll_laws.specs.Verdict.{DerivationShows, first_fault}
 use Rattle.ll_laws.specs.Output.{run_text, run_status}
 use Rattle.ll_laws.specs.ProofText.{proved_run_text}
 use Rattle.ll_lexer.specs.declared.Fault.{Fault}
 use Rattle.ll_parser.specs.Raw.{ProgramTree}
 use Rattle.ll_parser.specs.Printed.{program_text}
 use Rattle.ll_top.specs.declared.judge.Role.{Role}
-use Rattle.ll_top.specs.declared.judge.Role.TheVariants.{Program, Query}
-use Rattle.ll_top.specs.Words.{RunWords, IsBadWord, IsRun, IsPrint}
+use Rattle.ll_top.specs.declared.judge.Role.TheVariants.{Program, Query, Proof}
+use Rattle.ll_top.specs.Words.{RunWords, CheckWords, IsBadWord, IsRun, IsPrint, IsCheck}
 use Rattle.ll_top.specs.Faults.{Cause, Usage, Absent, Unreadable, Oversized, Faulty, fault_text, cause_status}
-use Rattle.ll_top.specs.Judging.{IsProgramText, IsReadingFault, IsTextFault, TextsAsk}
+use Rattle.ll_top.specs.Verdicts.{yes_text, no_text}
+use Rattle.ll_top.specs.Judging.{IsProgramText, IsReadingFault, IsTextFault, TextsAsk, IsCheckFault, TextsGive}
 
 -- the words as bytes
 abbrev pub word_texts : List (Bor (List ℕ)) → List (List ℕ)
@@ -47,10 +52,11 @@ pub data ReadFails (told : Option Texts) (absence read_failed : Type 0) (names :
 
 -- ---- runs
 
--- the name of a run's text
+-- the name of a run's text; a run has no derivation's
 abbrev pub name_of : RunWords → Role → List ℕ
 name_of run Program = run.program
 name_of run Query = run.query
+name_of run Proof = []
 
 -- Why a run ends with a fault line: its texts are not both read; or one of them has a fault, where the program is judged first.
 pub data RunFails (told : Option Texts) (absence read_failed : Type 0) (run : RunWords) : Cause → Type 0 where
@@ -95,6 +101,56 @@ pub data PrintComesTo (told : Option Texts) (absence read_failed : Type 0) (name
   printed : IsPrintedAs told name text → status ≡ 0 → PrintComesTo told absence read_failed name status text
   print_failed : (cause : Cause) → PrintFails told absence read_failed name cause → status ≡ cause_status cause → text ≡ fault_text cause → PrintComesTo told absence read_failed name status text
 
+-- ---- checks
+
+-- the texts that a check reads, in order
+abbrev pub check_texts : CheckWords → List (List ℕ)
+check_texts check = check.program ∷ check.query ∷ check.proof ∷ []
+
+-- the name of a check's text
+abbrev pub name_in_check : CheckWords → Role → List ℕ
+name_in_check check Program = check.program
+name_in_check check Query = check.query
+name_in_check check Proof = check.proof
+
+-- Why a check ends with a fault line: its texts are not all read; or one of them has a fault, where they are judged in the same order.
+pub data CheckFails (told : Option Texts) (absence read_failed : Type 0) (check : CheckWords) : Cause → Type 0 where
+  texts_not_read : (cause : Cause) → ReadFails told absence read_failed (check_texts check) cause → CheckFails told absence read_failed check cause
+  faulty_text : (program query proof : List ℕ) (role : Role) (f : Fault) → IsRead told check.program program → IsRead told check.query query → IsRead told check.proof proof
+      → IsCheckFault program query proof role f → CheckFails told absence read_failed check (Faulty (name_in_check check role) f)
+
+-- the texts of a check were read, and give this problem and this derivation
+pub record CheckGives (told : Option Texts) (check : CheckWords) (p : ProblemTree) (d : DerivationLines) : Type 0 where
+  pub program : List ℕ
+  pub query : List ℕ
+  pub proof : List ℕ
+  pub program_read : IsRead told check.program program
+  pub query_read : IsRead told check.query query
+  pub proof_read : IsRead told check.proof proof
+  pub give : TextsGive program query proof p d
+
+-- the derivation does not show the query: this is its first node that does not fit, and its first reason
+pub record IsRefuted (p : ProblemTree) (d : DerivationLines) (node reason : ℕ) : Type 0 where
+  pub not_shown : DerivationShows p d → ⊥
+  pub tree : Tree
+  pub is_tree : trees_of d.nodes ≡ Some (tree ∷ [])
+  pub fault : first_fault p d tree ≡ FaultAt node reason
+
+-- what a check comes to: yes, with the number of nodes; no, with the first node that does not fit; or a fault line, each with its status
+pub data CheckComesTo (told : Option Texts) (absence read_failed : Type 0) (check : CheckWords) (status : ℕ) (text : List ℕ) : Type 0 where
+  shown : (p : ProblemTree) (d : DerivationLines) → CheckGives told check p d → DerivationShows p d → status ≡ 0 → text ≡ yes_text (length d.nodes) → CheckComesTo told absence read_failed check status text
+  refuted : (p : ProblemTree) (d : DerivationLines) (node reason : ℕ) → CheckGives told check p d → IsRefuted p d node reason → status ≡ 9 → text ≡ no_text node reason → CheckComesTo told absence read_failed check status text
+  check_failed : (cause : Cause) → CheckFails told absence read_failed check cause → status ≡ cause_status cause → text ≡ fault_text cause → CheckComesTo told absence read_failed check status text
+
+-- the words are those of a check whose derivation does not show the query
+pub record IsDenied (words : List (List ℕ)) (told : Option Texts) : Type 0 where
+  pub check : CheckWords
+  pub is_check : IsCheck words check
+  pub problem : ProblemTree
+  pub derivation : DerivationLines
+  pub gives : CheckGives told check problem derivation
+  pub not_shown : DerivationShows problem derivation → ⊥
+
 -- ---- calls
 
 -- what a call with these words comes to: the status and the whole text, where memory does not run out and no write fails
@@ -102,6 +158,7 @@ pub data ComesTo (words : List (List ℕ)) (told : Option Texts) (absence read_f
   misused : (number : ℕ) → IsBadWord words number → status ≡ 3 → text ≡ fault_text (Usage number) → ComesTo words told absence read_failed status text
   runs : (run : RunWords) → IsRun words run → RunComesTo told absence read_failed run status text → ComesTo words told absence read_failed status text
   prints : (name : List ℕ) → IsPrint words name → PrintComesTo told absence read_failed name status text → ComesTo words told absence read_failed status text
+  checks : (check : CheckWords) → IsCheck words check → CheckComesTo told absence read_failed check status text → ComesTo words told absence read_failed status text
 
 -- what was appended where memory ran out: nothing, or a prefix of what would have been written
 pub data AppendsOwn (Comes : ℕ → List ℕ → Type 0) (before after : Option (List ℕ)) : Type 0 where

@@ -1,8 +1,9 @@
 -- The forms of a command's words.
 use Rattle.std.specs.Prelude.{◌≡◌, ◌⊎◌, ℕ, ◌+◌, ◌≤◌, Bool, true, false, ◌&&◌, not, List, [], ◌∷◌, length, filter, nat_eq, nat_le, slice_get, Option, Some, None, is_some, if◌then◌else◌, codes}
 use Rattle.ll_top.specs.declared.words.RunCommand.{RunCommand}
+use Rattle.ll_top.specs.declared.words.CheckCommand.{CheckCommand}
 use Rattle.ll_top.specs.declared.words.Command.{Command}
-use Rattle.ll_top.specs.declared.words.Command.TheVariants.{Run, Print}
+use Rattle.ll_top.specs.declared.words.Command.TheVariants.{Run, Print, Check}
 use Rattle.std.specs.Str.{bytes_eq}
 use Rattle.std.specs.Char.{is_ascii_digit}
 use Rattle.std.specs.Str.Parse.{digits_value}
@@ -103,8 +104,12 @@ run_form = record { parts = ThisWord (codes "run") ∷ AnyName ∷ AnyName ∷ [
 abbrev pub print_form : Form
 print_form = record { parts = ThisWord (codes "print") ∷ AnyName ∷ []; options = [] }
 
+-- `check PROGRAM QUERY PROOF`
+abbrev pub check_form : Form
+check_form = record { parts = ThisWord (codes "check") ∷ AnyName ∷ AnyName ∷ AnyName ∷ []; options = [] }
+
 abbrev pub forms : List Form
-forms = run_form ∷ print_form ∷ []
+forms = run_form ∷ print_form ∷ check_form ∷ []
 
 -- words are in a form
 abbrev pub IsInForm : List (List ℕ) → Type 0
@@ -157,16 +162,35 @@ pub record IsPrint (words : List (List ℕ)) (name : List ℕ) : Type 0 where
   pub form : FitsForm print_form words
   pub program : slice_get words 1 ≡ Some name
 
+-- what the words `check PROGRAM QUERY PROOF` ask for
+pub record CheckWords : Type 0 where
+  pub program : List ℕ
+  pub query : List ℕ
+  pub proof : List ℕ
+
+-- words are in the form of a check, and these are the names of its texts
+pub record IsCheck (words : List (List ℕ)) (check : CheckWords) : Type 0 where
+  pub form : FitsForm check_form words
+  pub program : slice_get words 1 ≡ Some check.program
+  pub query : slice_get words 2 ≡ Some check.query
+  pub proof : slice_get words 3 ≡ Some check.proof
+
 -- what the program's record of a run shows
 abbrev pub shown_words : RunCommand → RunWords
 shown_words c = record { program = c.program.now; query = c.query.now; bound = c.bound; workers = c.workers; proofs = c.proofs }
+
+-- what the program's record of a check shows
+abbrev pub shown_check : CheckCommand → CheckWords
+shown_check c = record { program = c.program.now; query = c.query.now; proof = c.proof.now }
 
 -- words ask for this command
 abbrev pub IsCommand : List (List ℕ) → Command → Type 0
 IsCommand words (Run run) = IsRun words (shown_words run)
 IsCommand words (Print name) = IsPrint words name.now
+IsCommand words (Check check) = IsCheck words (shown_check check)
 
 -- a command's bound, where it has one, is not past the greatest
 abbrev pub IsBounded : Command → Type 0
 IsBounded (Run run) = run.bound ≤ greatest_bound
 IsBounded (Print name) = Unit {0}
+IsBounded (Check check) = Unit {0}

@@ -115,8 +115,8 @@ fn write_fields<'a, O: Sink>(
     )
 }
 
-// Writes some texts, one behind the other. After a refusal a prefix of them was written.
-fn write_parts<O: Sink>(sink: &mut O, parts: &[&str]) -> Result<(), WriteFailed>
+/// Writes some texts, one behind the other. After a refusal a prefix of them was written.
+pub fn write_parts<O: Sink>(sink: &mut O, parts: &[&str]) -> Result<(), WriteFailed>
     ensures faults_kept { O.faults sink.old ≤ O.faults sink.new }
     ensures line { OnOk result (O.written sink.new ≡ append_known (O.written sink.old) (concat (map (λ part. part.now) parts.now))) }
     ensures failed { OnErr result (Rose (O.faults sink.old) (O.faults sink.new)) }

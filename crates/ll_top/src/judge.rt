@@ -15,6 +15,7 @@ use std::alloc::Global;
 pub enum Role {
     Program,
     Query,
+    Proof,
 }
 
 /// The program that a text is by the grammar, or its fault of kinds 1 to 6: no other kind is judged.

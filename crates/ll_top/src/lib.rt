@@ -1,7 +1,9 @@
 //! The top call: everything that the program does.
 #![tactic(auto)]
 
+mod checking;
 mod fault;
+mod finding;
 mod judge;
 mod prepare;
 mod printing;
@@ -12,17 +14,20 @@ mod words;
 ghost use Rattle.std.specs.Prelude.{◌≡◌, ◌≤◌, ◌↔◌, ◌⊎◌, ℕ, List, Option, None, Some, IfSome};
 ghost use Rattle.ll_edge.specs.Counts.{Rose};
 ghost use Rattle.ll_edge.specs.Texts.{Texts};
-ghost use Rattle.ll_top.specs.Words.{IsInForm, IsInWorkersForm, RunWords, IsRun, shown_words};
-ghost use Rattle.ll_top.specs.Outcome.{word_texts, name_of, ComesTo, RunComesTo, PrintComesTo, Ends, Completes};
-ghost use Rattle.ll_top.specs.Endings.{status_of_found, RunEnds};
+ghost use Rattle.ll_top.specs.Words.{IsInForm, IsInWorkersForm, RunWords, IsRun, shown_words, shown_check};
+ghost use Rattle.ll_top.specs.Outcome.{word_texts, name_of, name_in_check, ComesTo, RunComesTo, PrintComesTo, CheckComesTo, IsDenied, Ends, Completes};
+ghost use Rattle.ll_top.specs.Endings.{status_of_found, status_of_finding, RunEnds};
 ghost use Rattle.ll_top.specs.Proved.{WritesShown};
 
+use checking::check_derivation;
 use fault::{Cause, refuse};
+use finding::Finding;
 use judge::Role;
 use ll_edge::{Gate, Shelf, Sink};
 use ll_laws::answers_are_shown;
 use ll_lexer::one_reading;
 use ll_parser::{one_program, one_query};
+use ll_prooftext::one_derivation;
 use prepare::prepare;
 use printing::print_program;
 use refusal::Refusal;
@@ -30,12 +35,12 @@ use run::{Found, run};
 use std::alloc::Global;
 use std::sync::Wait;
 use std::thread::Threads;
-use words::{Command, RunCommand, read_command};
+use words::{CheckCommand, Command, RunCommand, read_command};
 
 /// Does what the words say, over the texts of the shelf, and writes to the sink. The answer is the program's exit status:
 ///
-/// - 0: there is an answer, or the program was printed; 1: there is none; 2: there is none, but some branch reached the bound. The
-///   whole text was written.
+/// - 0: there is an answer, the program was printed, or the derivation shows the query; 1: there is no answer; 2: there is none, but some
+///   branch reached the bound; 9: the derivation does not show the query. The whole text was written.
 /// - 3: the words are in no form; 4: there is no text of a name; 5: the shelf failed; 7: a text has a fault; 8: a text has more
 ///   than 16,777,216 bytes. The line of this cause was written.
 /// - 6: the sink failed; 10: memory ran out. A prefix of the text was written.
@@ -66,6 +71,7 @@ pub fn lolli<R: Threads + Wait + Sync, F: Shelf, O: Sink, G: Gate>(
     ensures absent { result ≡ 4 → Rose (F.absences shelf.old) (F.absences shelf.new) }
     ensures unreadable { result ≡ 5 → Rose (F.faults shelf.old) (F.faults shelf.new) }
     ensures unwritable { result ≡ 6 → Rose (O.faults sink.old) (O.faults sink.new) }
+    ensures denied { result ≡ 9 → IsDenied (word_texts words.now) (F.texts shelf.old) }
 
     ensures same_texts { F.texts shelf.new ≡ F.texts shelf.old }
     ensures counts_kept { (F.faults shelf.old ≤ F.faults shelf.new)
@@ -80,6 +86,7 @@ pub fn lolli<R: Threads + Wait + Sync, F: Shelf, O: Sink, G: Gate>(
         None => match read_command(words) {
             Ok(Command::Run(run)) => serve_run(alloc, &run, shelf, sink),
             Ok(Command::Print(_)) => unreachable!(),
+            Ok(Command::Check(_)) => unreachable!(),
             Err(_) => unreachable!(),
         },
     }
@@ -107,6 +114,7 @@ pub fn lolli_plain<F: Shelf, O: Sink>(
     ensures absent { result ≡ Some 4 → Rose (F.absences shelf.old) (F.absences shelf.new) }
     ensures unreadable { result ≡ Some 5 → Rose (F.faults shelf.old) (F.faults shelf.new) }
     ensures unwritable { result ≡ Some 6 → Rose (O.faults sink.old) (O.faults sink.new) }
+    ensures denied { result ≡ Some 9 → IsDenied (word_texts words.now) (F.texts shelf.old) }
 
     ensures same_texts { F.texts shelf.new ≡ F.texts shelf.old }
     ensures counts_kept { (F.faults shelf.old ≤ F.faults shelf.new)
@@ -117,6 +125,7 @@ pub fn lolli_plain<F: Shelf, O: Sink>(
     match read_command(words) {
         Ok(Command::Run(_)) => None,
         Ok(Command::Print(name)) => Some(serve_print(alloc, name, shelf, sink)),
+        Ok(Command::Check(check)) => Some(serve_check(alloc, &check, shelf, sink)),
         Err(number) => Some(refuse(Cause::Usage(number), sink)),
     }
 }
@@ -130,6 +139,7 @@ pub fn one_text()
     one_reading();
     one_program();
     one_query();
+    one_derivation();
 }
 
 // Runs a command, and says why not where it is not run.
@@ -207,6 +217,55 @@ fn text_name<'a>(run: &RunCommand<'a>, role: Role) -> &'a str
     match role {
         Role::Program => run.program,
         Role::Query => run.query,
+        // A run has no derivation.
+        Role::Proof => "",
+    }
+}
+
+// Checks a derivation, and says why not where it is not checked.
+fn serve_check<F: Shelf, O: Sink>(
+    alloc: Global,
+    check: &CheckCommand<'_>,
+    shelf: &mut F,
+    sink: &mut O,
+) -> u8
+    ensures same_texts { F.texts shelf.new ≡ F.texts shelf.old }
+    ensures shelf_faults_kept { F.faults shelf.old ≤ F.faults shelf.new }
+    ensures absences_kept { F.absences shelf.old ≤ F.absences shelf.new }
+    ensures sink_faults_kept { O.faults sink.old ≤ O.faults sink.new }
+
+    ensures ends { Ends (CheckComesTo (F.texts shelf.old) (Rose (F.absences shelf.old) (F.absences shelf.new))
+        (Rose (F.faults shelf.old) (F.faults shelf.new)) (shown_check check.now)) (Rose (O.faults sink.old) (O.faults sink.new))
+        (O.written sink.old) (O.written sink.new) result }
+{
+    match check_derivation(alloc, check, shelf, sink) {
+        Ok(finding) => finding_status(finding),
+        Err(Refusal::Text(role, refusal)) => {
+            refuse(refusal.cause(checked_name(check, role)), sink)
+        }
+        Err(Refusal::Unwritable) => 6,
+        Err(Refusal::OutOfMemory) => 10,
+    }
+}
+
+// The name of a check's text.
+fn checked_name<'a>(check: &CheckCommand<'a>, role: Role) -> &'a str
+    ensures { result.now ≡ name_in_check (shown_check check.now) role }
+{
+    match role {
+        Role::Program => check.program,
+        Role::Query => check.query,
+        Role::Proof => check.proof,
+    }
+}
+
+// The status of what a check found.
+fn finding_status(finding: Finding) -> u8
+    ensures { result ≡ status_of_finding finding }
+{
+    match finding {
+        Finding::Shows { .. } => 0,
+        Finding::Fails { .. } => 9,
     }
 }
 
@@ -221,6 +280,8 @@ fn found_status(found: Found) -> u8
     }
 }
 
+#[cfg(test)]
+mod check_tests;
 #[cfg(test)]
 mod proof_tests;
 #[cfg(test)]

@@ -64,8 +64,13 @@ pub fn read<F: Shelf>(
     }
 }
 
-// The problem of two texts: the program is judged first, and then the query.
-fn problem_of(alloc: Global, program: &[u8], query: &[u8], bound: u32) -> Result<Problem, Refusal>
+/// The problem of two texts: the program is judged first, and then the query.
+pub fn problem_of(
+    alloc: Global,
+    program: &[u8],
+    query: &[u8],
+    bound: u32,
+) -> Result<Problem, Refusal>
     requires program { length program.now ≤ 16777216 }
     requires query { length query.now ≤ 16777216 }
     requires bound { bound ≤ 1000000 }

@@ -6,7 +6,7 @@ use ll_edge::{MemSink, OpenGate};
 use std::test::Fail;
 
 // Rows with proofs. A program, a query and a bound, with the text; the status is 0.
-const PROVED: [(&str, &str, &str, &str); 8] = [
+pub(super) const PROVED: [(&str, &str, &str, &str); 8] = [
     (
         "LINEAR a.",
         "erase",

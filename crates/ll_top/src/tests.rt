@@ -184,11 +184,17 @@ fn a_run_is_cut_where_the_sink_fails(rt: HostRuntime) -> Result<(), Fail> {
 }
 
 // Words that are in no form, with the number of the first bad one.
-const MISUSED: [(&[&str], usize); 34] = [
+const MISUSED: [(&[&str], usize); 40] = [
     (&[], 1),
     (&["go"], 1),
     (&[""], 1),
     (&["make", "perm", "2"], 1),
+    (&["check"], 2),
+    (&["check", "prog"], 3),
+    (&["check", "prog", "ques"], 4),
+    (&["check", "prog", "ques", "--proofs"], 4),
+    (&["check", "prog", "ques", "proof", "more"], 5),
+    (&["check", "prog", "ques", "proof", "--bound", "3"], 5),
     (&["print"], 2),
     (&["print", "--bound", "5"], 2),
     (&["print", "prog", "--workers", "1"], 3),

@@ -2,7 +2,7 @@
 ghost use Rattle.std.specs.Prelude.{◌≡◌, ◌+◌, ◌≤◌, ◌<◌, length, map, true, codes, slice_get, Some, IsSomeAnd, IfOk, MatchOption, MatchResult, false};
 ghost use Rattle.std.specs.Char.{is_ascii_digit};
 ghost use Rattle.std.specs.List.{list_all, list_any};
-ghost use Rattle.ll_top.specs.Words.{is_word, is_name_word, is_number_word, number_from, value_within, ThisWord, AnyName, NumberFrom, IsRun, IsPrint, IsCommand, IsBounded, shown_words, IsBadWord, greatest_bound, print_form};
+ghost use Rattle.ll_top.specs.Words.{is_word, is_name_word, is_number_word, number_from, value_within, ThisWord, AnyName, NumberFrom, IsRun, IsPrint, IsCheck, IsCommand, IsBounded, shown_words, shown_check, IsBadWord, greatest_bound, print_form, check_form};
 ghost use Rattle.ll_top.specs.RunForm.{HasPart, LacksPart, options_left, IsOptionLeft, IsBadFormWord, IsBadRunWord, IsReadTo};
 ghost use Rattle.ll_top.specs.Outcome.{word_texts};
 
@@ -17,6 +17,14 @@ pub struct RunCommand<'a> {
     pub proofs: bool,
 }
 
+/// What the words `check PROGRAM QUERY PROOF` ask for.
+#[derive(Clone, Copy)]
+pub struct CheckCommand<'a> {
+    pub program: &'a str,
+    pub query: &'a str,
+    pub proof: &'a str,
+}
+
 /// What words ask for.
 #[derive(Clone, Copy)]
 pub enum Command<'a> {
@@ -24,6 +32,8 @@ pub enum Command<'a> {
     Run(RunCommand<'a>),
     /// The words `print PROGRAM`, with the name.
     Print(&'a str),
+    /// A check.
+    Check(CheckCommand<'a>),
 }
 
 // An option of a run.
@@ -65,6 +75,7 @@ pub fn read_command<'a>(words: &[&'a str]) -> Result<Command<'a>, usize>
     match *form {
         "run" => Ok(Command::Run(read_run(words)?)),
         "print" => Ok(Command::Print(read_print(words)?)),
+        "check" => Ok(Command::Check(read_check(words)?)),
         _ => Err(1),
     }
 }
@@ -79,6 +90,24 @@ fn read_print<'a>(words: &[&'a str]) -> Result<&'a str, usize>
         return Err(3);
     }
     Ok(name)
+}
+
+// The names of a check's texts, or the number of the first word through which no check begins.
+fn read_check<'a>(words: &[&'a str]) -> Result<CheckCommand<'a>, usize>
+    requires { HasPart (word_texts words.now) 0 (ThisWord (codes "check")) }
+    ensures { MatchResult result (λ check. IsCheck (word_texts words.now) (shown_check check)) (IsBadFormWord check_form (word_texts words.now)) }
+{
+    let program = name_at(words, 1)?;
+    let query = name_at(words, 2)?;
+    let proof = name_at(words, 3)?;
+    if words.len() > 4 {
+        return Err(5);
+    }
+    Ok(CheckCommand {
+        program,
+        query,
+        proof,
+    })
 }
 
 // What the words of a run ask for, or the number of the first word through which no run begins.

@@ -1,7 +1,7 @@
 use Rattle.std.proofs.Common.{refl}
 use Rattle.ll_top.specs.Outcome.{word_texts}
-use Rattle.ll_top.proofs.OutcomeLemmas.{run-call, completes, run-says, run-in-form, bad-not-in-form, workers-run, workers-in-form}
-use Rattle.ll_top.proofs.CommandWords.{run-or-print}
+use Rattle.ll_top.proofs.OutcomeLemmas.{run-call, call-denied, completes, run-says, run-in-form, bad-not-in-form, workers-run, workers-in-form}
+use Rattle.ll_top.proofs.CommandWords.{run-or-print, run-or-check}
 use Rattle.ll_top.proofs.ProvedLemmas.{shown-run}
 use Rattle.ll_top.proofs.lolli.Goals as goal
 
@@ -10,6 +10,12 @@ unreachable-requires g c =
     let words = word_texts c.args.words.now in
     let print = rw c.in-Ok-Print.field-0-is at c.in-Ok-Print.ensures.command in
     run-or-print words (workers-run words (c.in-None.ensures.workers.0 refl)) print.form
+
+pub unreachable-requires-in-Ok-Check : goal.unreachable-requires-in-Ok-Check
+unreachable-requires-in-Ok-Check g c =
+    let words = word_texts c.args.words.now in
+    let check = rw c.in-Ok-Check.field-0-is at c.in-Ok-Check.ensures.command in
+    run-or-check words (workers-run words (c.in-None.ensures.workers.0 refl)) check.form
 
 pub unreachable-requires-in-Err : goal.unreachable-requires-in-Err
 unreachable-requires-in-Err g c =
@@ -47,3 +53,9 @@ pub returns-in-Ok-Run-clause-proved : goal.returns-in-Ok-Run-clause-proved
 returns-in-Ok-Run-clause-proved g c = λ run is small.
     let u = c.in-None.ensures.untouched refl in
     shown-run (word_texts c.args.words.now) _ _ run _ _ (rw c.in-Ok-Run.field-0-is at c.in-Ok-Run.ensures.command) is ((rw (u.0, u.1) at c.serve_run.ensures.proved) small)
+
+pub returns-in-Ok-Run-clause-denied : goal.returns-in-Ok-Run-clause-denied
+returns-in-Ok-Run-clause-denied g c =
+    let u = c.in-None.ensures.untouched refl in
+    let words = word_texts c.args.words.now in
+    call-denied words _ _ _ _ _ _ _ (run-call words _ _ _ _ _ _ _ _ (rw c.in-Ok-Run.field-0-is at c.in-Ok-Run.ensures.command) (rw (u.0, u.1) at c.serve_run.ensures.ends))

@@ -1,5 +1,6 @@
 use Rattle.ll_top.specs.Outcome.{word_texts}
-use Rattle.ll_top.proofs.OutcomeLemmas.{usage-call, print-call, completes, print-says, workers-in-form, bad-not-in-form}
+use Rattle.ll_top.specs.Words.{shown_check}
+use Rattle.ll_top.proofs.OutcomeLemmas.{usage-call, print-call, check-call, call-denied, completes, print-says, check-says, workers-in-form, bad-not-in-form}
 use Rattle.ll_top.proofs.lolli_plain.Goals as goal
 
 pub returns-in-Err-clause-workers : goal.returns-in-Err-clause-workers
@@ -34,3 +35,37 @@ returns-in-Ok-Print-clause-complete g c =
     let words = word_texts c.args.words.now in
     completes c.one_text.ensures words _ _ _ _ _ _ _
     (print-call words _ _ _ _ c.in-Ok-Print.name.now _ _ _ (rw c.in-Ok-Print.field-0-is at c.in-Ok-Print.ensures.command) c.serve_print.ensures.ends)
+
+pub returns-in-Err-clause-denied : goal.returns-in-Err-clause-denied
+returns-in-Err-clause-denied g c = λ e.
+    let words = word_texts c.args.words.now in
+    call-denied words _ ⊥ ⊥ _ _ _ _ (usage-call words _ ⊥ ⊥ _ c.in-Err.number _ _ _ c.in-Err.ensures.command c.refuse.ensures.refuses) cc
+
+pub returns-in-Ok-Print-clause-denied : goal.returns-in-Ok-Print-clause-denied
+returns-in-Ok-Print-clause-denied g c = λ e.
+    let words = word_texts c.args.words.now in
+    call-denied words _ _ _ _ _ _ _ (print-call words _ _ _ _ c.in-Ok-Print.name.now _ _ _ (rw c.in-Ok-Print.field-0-is at c.in-Ok-Print.ensures.command) c.serve_print.ensures.ends) cc
+
+pub returns-in-Ok-Check-clause-outcome : goal.returns-in-Ok-Check-clause-outcome
+returns-in-Ok-Check-clause-outcome g c =
+    check-call (word_texts c.args.words.now) _ _ _ _ (shown_check c.in-Ok-Check.check) _ _ _ (rw c.in-Ok-Check.field-0-is at c.in-Ok-Check.ensures.command) c.serve_check.ensures.ends
+
+pub returns-in-Ok-Check-clause-usage : goal.returns-in-Ok-Check-clause-usage
+returns-in-Ok-Check-clause-usage g c = λ e f. (check-says _ _ _ _ _ _ _ _ c.serve_check.ensures.ends).used cc
+
+pub returns-in-Ok-Check-clause-absent : goal.returns-in-Ok-Check-clause-absent
+returns-in-Ok-Check-clause-absent g c = λ e. (check-says _ _ _ _ _ _ _ _ c.serve_check.ensures.ends).absent cc
+
+pub returns-in-Ok-Check-clause-unreadable : goal.returns-in-Ok-Check-clause-unreadable
+returns-in-Ok-Check-clause-unreadable g c = λ e. (check-says _ _ _ _ _ _ _ _ c.serve_check.ensures.ends).unreadable cc
+
+pub returns-in-Ok-Check-clause-complete : goal.returns-in-Ok-Check-clause-complete
+returns-in-Ok-Check-clause-complete g c =
+    let words = word_texts c.args.words.now in
+    completes c.one_text.ensures words _ _ _ _ _ _ _
+    (check-call words _ _ _ _ (shown_check c.in-Ok-Check.check) _ _ _ (rw c.in-Ok-Check.field-0-is at c.in-Ok-Check.ensures.command) c.serve_check.ensures.ends)
+
+pub returns-in-Ok-Check-clause-denied : goal.returns-in-Ok-Check-clause-denied
+returns-in-Ok-Check-clause-denied g c = λ e.
+    let words = word_texts c.args.words.now in
+    call-denied words _ _ _ _ _ _ _ (check-call words _ _ _ _ (shown_check c.in-Ok-Check.check) _ _ _ (rw c.in-Ok-Check.field-0-is at c.in-Ok-Check.ensures.command) c.serve_check.ensures.ends) cc

@@ -1,0 +1,34 @@
+-- The lines that say what a check finds.
+use Rattle.std.specs.Prelude.{ℕ, List, [], ◌∷◌, slice_index_or, codes, decimal}
+use Rattle.std.specs.List.{concat}
+
+-- the text of each reason why a node does not fit, from reason 0, which there is not, to reason 11
+abbrev pub reason_texts : List (List ℕ)
+reason_texts =
+    []
+    ∷ codes "rule does not fit the goal"
+    ∷ codes "bounded resources left"
+    ∷ codes "not a dealing"
+    ∷ codes "no such resource"
+    ∷ codes "no such leaf"
+    ∷ codes "wrong number of terms"
+    ∷ codes "head is not the goal"
+    ∷ codes "wrong parts"
+    ∷ codes "label not new"
+    ∷ codes "constant not new"
+    ∷ codes "wrong number of let terms"
+    ∷ []
+
+abbrev pub reason_text : ℕ → List ℕ
+reason_text reason = slice_index_or reason_texts reason []
+
+-- the line of a derivation that shows the query: `yes, nodes N`
+abbrev pub yes_text : ℕ → List ℕ
+yes_text nodes = concat (codes "yes, nodes " ∷ decimal nodes ∷ codes "\n" ∷ [])
+
+-- the line of one that does not, whose numbers are spelled: `no, node N, reason R TEXT`
+abbrev pub no_fields : List ℕ → List ℕ → List ℕ → List ℕ
+no_fields node reason text = concat (codes "no, node " ∷ node ∷ codes ", reason " ∷ reason ∷ codes " " ∷ text ∷ codes "\n" ∷ [])
+
+abbrev pub no_text : ℕ → ℕ → List ℕ
+no_text node reason = no_fields (decimal node) (decimal reason) (reason_text reason)

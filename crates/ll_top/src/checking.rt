@@ -1,0 +1,110 @@
+//! From the words of a check to what it finds.
+ghost use Rattle.std.specs.Prelude.{◌≡◌, ◌≤◌, length, IfOk, IfErr, OnOk};
+ghost use Rattle.ll_bank.specs.Names.{with_names};
+ghost use Rattle.ll_edge.specs.Counts.{Rose};
+ghost use Rattle.ll_laws.specs.Line.{IsWhole};
+ghost use Rattle.ll_laws.specs.Valid.{IsValid};
+ghost use Rattle.ll_prooftext.specs.Mentions.{text_names};
+ghost use Rattle.ll_prooftext.specs.Reading.{IsTextOf};
+ghost use Rattle.ll_prooftext.specs.Terms.{Grows};
+ghost use Rattle.ll_top.specs.Words.{shown_check};
+ghost use Rattle.ll_top.specs.Endings.{IsFinding, IsNoDerivation, Finds, CheckFinds, CheckEnds};
+
+use crate::finding::{Finding, write_finding};
+use crate::judge::Role;
+use crate::prepare::{problem_of, read, refusal};
+use crate::refusal::Refusal;
+use crate::words::CheckCommand;
+use ll_bank::{Names, OutOfMemory};
+use ll_edge::{Shelf, Sink};
+use ll_laws::{Derivation, Problem};
+use ll_sequent::{Verdict, check};
+use std::alloc::Global;
+
+// One more than the names that a reader of derivations can number.
+const MOST_NAMES: usize = 4_294_967_296;
+
+/// Checks the derivation of this name against the problem of the other two, and writes the line of what was found. After a refusal of a
+/// text nothing was written, else a prefix.
+pub fn check_derivation<F: Shelf, O: Sink>(
+    alloc: Global,
+    command: &CheckCommand<'_>,
+    shelf: &mut F,
+    sink: &mut O,
+) -> Result<Finding, Refusal>
+    ensures same_texts { F.texts shelf.new ≡ F.texts shelf.old }
+    ensures shelf_faults_kept { F.faults shelf.old ≤ F.faults shelf.new }
+    ensures absences_kept { F.absences shelf.old ≤ F.absences shelf.new }
+    ensures sink_faults_kept { O.faults sink.old ≤ O.faults sink.new }
+
+    ensures ends { CheckEnds (F.texts shelf.old) (Rose (F.absences shelf.old) (F.absences shelf.new)) (Rose (F.faults shelf.old) (F.faults shelf.new))
+        (Rose (O.faults sink.old) (O.faults sink.new)) (shown_check command.now) (O.written sink.old) (O.written sink.new) result }
+{
+    let finding = found(alloc, command, shelf)?;
+    write_finding(sink, finding)?;
+    Ok(finding)
+}
+
+// What a check finds: reads the program, the query and the derivation from the shelf, each to its end, and then judges them in turn.
+fn found<F: Shelf>(
+    alloc: Global,
+    command: &CheckCommand<'_>,
+    shelf: &mut F,
+) -> Result<Finding, Refusal>
+    ensures same_texts { F.texts shelf.new ≡ F.texts shelf.old }
+    ensures faults_kept { F.faults shelf.old ≤ F.faults shelf.new }
+    ensures absences_kept { F.absences shelf.old ≤ F.absences shelf.new }
+
+    ensures finds { CheckFinds (F.texts shelf.old) (Rose (F.absences shelf.old) (F.absences shelf.new))
+        (Rose (F.faults shelf.old) (F.faults shelf.new)) (shown_check command.now) result }
+{
+    let program = read(alloc, shelf, command.program, Role::Program)?;
+    let query = read(alloc, shelf, command.query, Role::Query)?;
+    let proof = read(alloc, shelf, command.proof, Role::Proof)?;
+    finding_of(alloc, &program, &query, &proof)
+}
+
+// What is found of three texts: the program is judged first, then the query, and then the derivation.
+fn finding_of(alloc: Global, program: &[u8], query: &[u8], proof: &[u8]) -> Result<Finding, Refusal>
+    requires program { length program.now ≤ 16777216 }
+    requires query { length query.now ≤ 16777216 }
+    requires proof { length proof.now ≤ 16777216 }
+    ensures { Finds program.now query.now proof.now result }
+{
+    let mut problem = problem_of(alloc, program, query, 0)?;
+    let derivation = derivation_of(alloc, proof, &mut problem.names)?;
+    let finding = judged(alloc, &problem, &derivation)?;
+    Ok(finding)
+}
+
+// What the checker says of a derivation.
+fn judged(alloc: Global, problem: &Problem, derivation: &Derivation) -> Result<Finding, OutOfMemory>
+    requires valid { IsValid problem.now }
+    requires whole { IsWhole derivation.now }
+    ensures { IfOk result (IsFinding problem.now derivation.now) }
+{
+    match check(alloc, problem, derivation)? {
+        Verdict::Yes => Ok(Finding::Shows {
+            nodes: derivation.nodes.len(),
+        }),
+        Verdict::No { node, reason } => Ok(Finding::Fails { node, reason }),
+    }
+}
+
+// The derivation of a text. Names may come to the others, also where it is refused.
+fn derivation_of(alloc: Global, text: &[u8], names: &mut Names) -> Result<Derivation, Refusal>
+    requires { length text.now ≤ 16777216 }
+    ensures read { IfOk result (λ d. IsTextOf names.new text.now d) }
+    ensures names { OnOk result (names.new ≡ with_names names.old (text_names text.now)) }
+    ensures grows { IfOk result (λ d. Grows names.old names.new) }
+    ensures refused { IfErr result (IsNoDerivation text.now) }
+{
+    // A program and a query of at most 16,777,216 bytes each have not so many names.
+    if names.len() >= MOST_NAMES - text.len() {
+        return Err(Refusal::OutOfMemory);
+    }
+    match ll_prooftext::read(alloc, text, names) {
+        Ok(derivation) => Ok(derivation),
+        Err(fault) => Err(refusal(Role::Proof, fault)),
+    }
+}

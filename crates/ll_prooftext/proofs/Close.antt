@@ -26,9 +26,8 @@ use Rattle.ll_prooftext.proofs.Kept.{grows_none, flat_same, arg_same}
 use Rattle.ll_prooftext.proofs.Found.{moves_still, moves_over, moves_behind, moves_sign}
 use Rattle.ll_prooftext.proofs.Mentioning.{close_mentions}
 use Rattle.ll_prooftext.proofs.Spellings.{parts_false}
-use Rattle.ll_prooftext.proofs.Reach.{is_wanted}
 use Rattle.ll_prooftext.proofs.Extended.{at_kept}
-use Rattle.ll_prooftext.proofs.Steps.{part_same, open_good, open_same, bracket_good, bracket_same, frames_push, shape_known, takes_head, part_term, IsArgued, argued_good, argued_text, argued_frames, item_put_good, item_put_text, item_put_frames}
+use Rattle.ll_prooftext.proofs.Steps.{part_same, open_good, open_same, bracket_good, bracket_same, frames_push, known_part, takes_head, part_term, IsArgued, argued_good, argued_text, argued_frames, item_put_good, item_put_text, item_put_frames}
 use Rattle.ll_prooftext.proofs.Ways.{sign_on, close_none, close_whole, close_argument, close_refused, close_item_on, close_item_none}
 
 -- the text of a part's term, in the bank that has it
@@ -46,9 +45,6 @@ part_known names bank o x good n = subst (λ z. IsGoodPart names bank z o.top.ar
 -- what is read, where the part is known
 open_known : (names : List (List ℕ)) (bank : Nodes) (o : Open) (x : Word) → o.top.part ≡ Some x → open_text names bank o ≡ flat_map (outer_text names bank) o.outer.items ++ (40 ∷ (flat_map (item_text names bank) o.top.items.items ++ (part_text names bank (Some x) ++ args_text names bank o.top.args.items)))
 open_known names bank o x n = ap (λ z. flat_map (outer_text names bank) o.outer.items ++ (40 ∷ (flat_map (item_text names bank) o.top.items.items ++ (part_text names bank z ++ args_text names bank o.top.args.items)))) n
-
-known_shape : (o : Open) (x : Word) → o.top.part ≡ Some x → is_wanted (shape_of o.top.part o.top.args.items) ≡ false
-known_shape o x n = ap (λ q. is_wanted (shape_of q o.top.args.items)) n ∙ shape_known x o.top.args.items
 
 -- a `::` behind a part
 pub sign_put : (names : List (List ℕ)) (bank : Nodes) (o p : Open) (x : Word) (new : List (List ℕ)) (over : Nodes) (i : Item) (left : List ℕ) → IsGood names bank o → o.top.part ≡ Some x → IsSign names new i.sign → IsTermFrom bank over x o.top.args.items i.at.0 → Extends bank over → HasItem o.top p.top i → p.outer.items ≡ o.outer.items
@@ -68,7 +64,7 @@ sign_put names bank o p x new over i left good n s t e has outer =
           ∙ ap (λ z. z ++ (58 ∷ 58 ∷ left)) (sym (open_known new over o x n) ∙ open_same names bank new over s.grows e o good));
       moves = moves_sign names new bank over left s.added e;
       shorter = omega arith;
-      goes = λ end a. subst (λ hs. Accepts end hs left) (sym (item_put_frames new over o p i g has outer it)) (sign_on end (not (is_none o.top.items.items)) (shape_of o.top.part o.top.args.items) (reverse (map frame_of o.outer.items)) left (known_shape o x n) a);
+      goes = λ end a. subst (λ hs. Accepts end hs left) (sym (item_put_frames new over o p i g has outer it)) (sign_on end (not (is_none o.top.items.items)) (shape_of o.top.part o.top.args.items) (reverse (map frame_of o.outer.items)) left (known_part o x n) a);
     }
   where
     together : (a b c d : List ℕ) → ((a ++ (40 ∷ b)) ++ ((c ++ d) ++ codes "::")) ++ left ≡ (a ++ (40 ∷ (b ++ (c ++ d)))) ++ (58 ∷ 58 ∷ left)
@@ -140,7 +136,7 @@ module _ (names : List (List ℕ)) (bank over : Nodes) (o : Open) (x : Word) (at
     good = k.good;
     text = ap (λ z. z ++ left) (boxed_argument names over at k.has ∙ k.boxed) ∙ (append_assoc (bracket_text names bank o.top) (41 ∷ []) left ∙ ap (λ z. (flat_map (outer_text names bank) z ++ bracket_text names bank o.top) ++ (41 ∷ left)) (sym none));
     moves = closed_moves;
-    ends = λ end a. close_whole end (not (is_none o.top.items.items)) (shape_of o.top.part o.top.args.items) (reverse (map frame_of o.outer.items)) left (known_shape o x n) (ap (λ z. reverse (map frame_of z)) none) a;
+    ends = λ end a. close_whole end (not (is_none o.top.items.items)) (shape_of o.top.part o.top.args.items) (reverse (map frame_of o.outer.items)) left (known_part o x n) (ap (λ z. reverse (map frame_of z)) none) a;
   }
 
   -- the bracket round it
@@ -186,7 +182,7 @@ module _ (names : List (List ℕ)) (bank over : Nodes) (o : Open) (x : Word) (at
           goes = λ end a.
               let b = subst (λ hs. Accepts end hs (41 ∷ left)) popped_frames a in
               let tk : takes (shape_of q.top.part q.top.args.items) ≡ true = ap (λ z. takes (shape_of z q.top.args.items)) head ∙ takes_head h q.top.args.items in
-              let c = close_argument end (not (is_none o.top.items.items)) (shape_of o.top.part o.top.args.items) (not (is_none q.top.items.items)) (shape_of q.top.part q.top.args.items) (reverse (map frame_of q.outer.items)) left (known_shape o x n) tk b in
+              let c = close_argument end (not (is_none o.top.items.items)) (shape_of o.top.part o.top.args.items) (not (is_none q.top.items.items)) (shape_of q.top.part q.top.args.items) (reverse (map frame_of q.outer.items)) left (known_part o x n) tk b in
               subst (λ hs. Accepts end hs left) (sym (argued_frames names over q p place h later head put arg)) c;
         }
       where
@@ -196,13 +192,13 @@ module _ (names : List (List ℕ)) (bank over : Nodes) (o : Open) (x : Word) (at
     pub closes_leaf : (b : At) → q.top.part ≡ Some (LeafWord b) → (end : List ℕ) → Accepts end (frames o) (41 ∷ left) → ⊥
     closes_leaf b leaf end a =
         let e : frames q ≡ frame (not (is_none q.top.items.items)) Closed ∷ reverse (map frame_of q.outer.items) = ap (λ z. frame (not (is_none q.top.items.items)) (shape_of z q.top.args.items) ∷ reverse (map frame_of q.outer.items)) leaf in
-        close_refused end (not (is_none o.top.items.items)) (shape_of o.top.part o.top.args.items) (not (is_none q.top.items.items)) (reverse (map frame_of q.outer.items)) left (known_shape o x n) (subst (λ hs. Accepts end hs (41 ∷ left)) (popped_frames ∙ ap (λ z. frame_of o.top ∷ z) e) a)
+        close_refused end (not (is_none o.top.items.items)) (shape_of o.top.part o.top.args.items) (not (is_none q.top.items.items)) (reverse (map frame_of q.outer.items)) left (known_part o x n) (subst (λ hs. Accepts end hs (41 ∷ left)) (popped_frames ∙ ap (λ z. frame_of o.top ∷ z) e) a)
 
     wanted_frames : q.top.part ≡ None → frames o ≡ frame_of o.top ∷ frame (not (is_none q.top.items.items)) Wanted ∷ reverse (map frame_of q.outer.items)
     wanted_frames w = popped_frames ∙ ap (λ z. frame_of o.top ∷ frame (not (is_none q.top.items.items)) (shape_of z q.top.args.items) ∷ reverse (map frame_of q.outer.items)) w
 
     pub closes_no_item : q.top.part ≡ None → (not (is_none o.top.items.items) ≡ true → (rest : List ℕ) → left ≡ 58 ∷ 58 ∷ rest → ⊥) → (end : List ℕ) → Accepts end (frames o) (41 ∷ left) → ⊥
-    closes_no_item w none end a = close_item_none end (not (is_none o.top.items.items)) (shape_of o.top.part o.top.args.items) (not (is_none q.top.items.items)) (reverse (map frame_of q.outer.items)) left (known_shape o x n) none (subst (λ hs. Accepts end hs (41 ∷ left)) (wanted_frames w) a)
+    closes_no_item w none end a = close_item_none end (not (is_none o.top.items.items)) (shape_of o.top.part o.top.args.items) (not (is_none q.top.items.items)) (reverse (map frame_of q.outer.items)) left (known_part o x n) none (subst (λ hs. Accepts end hs (41 ∷ left)) (wanted_frames w) a)
 
     pub closes_item : (p : Open) (i : Item) (new : List (List ℕ)) (rest : List ℕ) → i.at.0 ≡ at → q.top.part ≡ None → not (is_none o.top.items.items) ≡ true → left ≡ 58 ∷ 58 ∷ rest → IsSign names new i.sign → HasItem q.top p.top i → p.outer.items ≡ q.outer.items → Turns names bank o (41 ∷ left) new over p rest
     closes_item p i new rest same w chain l s has outer =
@@ -222,7 +218,7 @@ module _ (names : List (List ℕ)) (bank over : Nodes) (o : Open) (x : Word) (at
           shorter = let m = ap length l in omega arith;
           goes = λ end a.
               let b = subst (λ bs. Accepts end (frame_of o.top ∷ frame (not (is_none q.top.items.items)) Wanted ∷ reverse (map frame_of q.outer.items)) (41 ∷ bs)) l (subst (λ hs. Accepts end hs (41 ∷ left)) (wanted_frames w) a) in
-              let c = close_item_on end (not (is_none o.top.items.items)) (shape_of o.top.part o.top.args.items) (not (is_none q.top.items.items)) (reverse (map frame_of q.outer.items)) rest (known_shape o x n) b in
+              let c = close_item_on end (not (is_none o.top.items.items)) (shape_of o.top.part o.top.args.items) (not (is_none q.top.items.items)) (reverse (map frame_of q.outer.items)) rest (known_part o x n) b in
               subst (λ hs. Accepts end hs rest) (sym (item_put_frames new over q p i g has outer it)) c;
         }
       where
@@ -240,7 +236,7 @@ pub closes_none : (o : Open) (x : Word) (left : List ℕ) → o.top.part ≡ Som
 closes_none o x left n none end a =
     let c = parts_false (not (is_none o.top.items.items)) (not (is_none o.top.args.items)) none in
     let f : closes (not (is_none o.top.items.items)) (shape_of o.top.part o.top.args.items) ≡ false = ap (λ z. closes z (shape_of o.top.part o.top.args.items)) c.0 ∙ (ap (λ z. closes false (shape_of z o.top.args.items)) n ∙ bare x o.top.args.items c.1) in
-    close_none end (not (is_none o.top.items.items)) (shape_of o.top.part o.top.args.items) (reverse (map frame_of o.outer.items)) left (known_shape o x n) c.0 f a
+    close_none end (not (is_none o.top.items.items)) (shape_of o.top.part o.top.args.items) (reverse (map frame_of o.outer.items)) left (known_part o x n) c.0 f a
   where
     bare : (x : Word) (args : List At) → not (is_none args) ≡ false → closes false (shape_of (Some x) args) ≡ false
     bare (HeadWord h) [] e = refl

@@ -267,7 +267,8 @@ added_apart names more others = fold-append with_name names more others
 
 -- ---- lines
 
-first_alone : (w rest : List ℕ) → list_all (is_not 32) w ≡ true → IsAtEnd rest → first_word (w ++ rest) ≡ w
+-- the first word of a line ends at its first space
+pub first_alone : (w rest : List ℕ) → list_all (is_not 32) w ≡ true → IsAtEnd rest → first_word (w ++ rest) ≡ w
 first_alone [] rest h line_end = refl
 first_alone [] rest h (space {rest = bs}) = refl
 first_alone (b ∷ w) rest h s = let t : (b == 32) ≡ false = turned (b == 32) (first (is_not 32) b w h) in rw t (ap (λ z. b ∷ z) (first_alone w rest (tail (is_not 32) b w h) s))

@@ -4,19 +4,17 @@ use Rattle.std.specs.Prelude.{◌||◌, ◌==◌, ◌⊎◌}
 use Rattle.std.specs.List.{list_all}
 use Rattle.std.proofs.lemmas.Bool.{eqb-true}
 use Rattle.std.proofs.lemmas.List.{append_cancel_left, append_cancel_right}
-use Rattle.std.proofs.lemmas.List.Elements.{All-head, All-tail}
-use Rattle.std.proofs.lemmas.List.Folds.{list_all-append}
 use Rattle.ll_bank.specs.Term.{Term, Var, Int, Con, Ap}
 use Rattle.ll_lexer.specs.Spelling.{is_lower}
 use Rattle.ll_laws.specs.Output.{term_text, argument_text}
 use Rattle.ll_laws.specs.ProofText.{labels_text}
-use Rattle.ll_prooftext.specs.Admitted.{AreLabels, IsSpelledTerm}
+use Rattle.ll_prooftext.specs.Admitted.{IsSpelledTerm}
 use Rattle.ll_prooftext.specs.Reading.{Kind, Number, Set, Argument, Mark, Want, Nothing, Arguments, Premises, Then, after_field, IsNumber, IsSet, IsArgument, IsField, IsAtEnd, line_end, space}
 use Rattle.ll_prooftext.specs.Words.{is_not, Stops, ended, at_byte}
 use Rattle.ll_prooftext.specs.Terms.{is_part, Shape, Wanted, Bare, Applied, Closed, variable, number, IsWord, Frame, frame, fresh, FirstWay, first_bracket, first_word, PartWay, bracket, word, sign, whole, argument, item, Goes, Accepts, closed, goes}
 use Rattle.ll_prooftext.proofs.Cuts.{one_cut}
-use Rattle.ll_prooftext.proofs.Labels.{decimal_not, set_found, behind_text, labels_split}
-use Rattle.ll_prooftext.proofs.Spellings.{Starts, head_start, leaf_start, head_first, leaf_first, word_parts, one_word}
+use Rattle.ll_prooftext.proofs.Labels.{decimal_not, labels_avoid, set_found}
+use Rattle.ll_prooftext.proofs.Spellings.{Starts, weaker, or_left, or_right, head_start, leaf_start, head_first, leaf_first, word_parts, one_word}
 use Rattle.ll_prooftext.proofs.Reach.{is_wanted, head_word, accepts_whole}
 use Rattle.ll_prooftext.proofs.Ways.{no_bracket, behind_byte, first_bracket_on, first_word_on, argument_bracket_on, argument_word_on, sign_on, close_whole, close_argument, close_item_on}
 
@@ -92,24 +90,11 @@ numbers_once a b r s i j x y e = one_cut (is_not 32) a b r s (free a i) (free b 
     free : (w : List ℕ) → IsNumber w → list_all (is_not 32) w ≡ true
     free w n = ap (list_all (is_not 32)) n.is ∙ decimal_not 32 n.number (let l = n.small in omega arith) (inl (omega arith))
 
--- a byte that is no figure and no space is in no text of labels
-pub labels_without : (x : ℕ) → (x < 48) ⊎ (57 < x) → is_not x 32 ≡ true → (ns : List ℕ) → AreLabels ns → list_all (is_not x) (labels_text ns) ≡ true
-labels_without x o s [] a = refl
-labels_without x o s (n ∷ ns) a =
-    let l : n < 2 ^ 32 = All-head (λ m. m < 2 ^ 32) n ns a in
-    let f : list_all (is_not x) (decimal n) ≡ true = decimal_not x n (omega arith) o in
-    let g = others ns (labels_without x o s ns (All-tail (λ m. m < 2 ^ 32) n ns a)) in
-    ap (list_all (is_not x)) (labels_split n ns) ∙ (list_all-append (is_not x) (decimal n) (behind_text ns) ∙ (rw (f, g) refl))
-  where
-    others : (ms : List ℕ) → list_all (is_not x) (labels_text ms) ≡ true → list_all (is_not x) (behind_text ms) ≡ true
-    others [] h = refl
-    others (m ∷ ms) h = rw (s, h) refl
-
 sets_once : (a b r s : List ℕ) → IsSet a → IsSet b → a ++ r ≡ b ++ s → (a ≡ b) × (r ≡ s)
 sets_once a b r s i j e =
     let u = labels_text i.labels in
     let open_set : a ++ r ≡ 123 ∷ (u ++ 125 ∷ r) = ap (λ z. z ++ r) i.is ∙ simp append_assoc in
-    let k = set_found (a ++ r) (u ++ 125 ∷ r) u (125 ∷ r) b s open_set refl (labels_without 125 (inr (omega arith)) refl i.labels i.small) (at_byte 125 r refl refl) j e in
+    let k = set_found (a ++ r) (u ++ 125 ∷ r) u (125 ∷ r) b s open_set refl (labels_avoid 125 (inr (omega arith)) refl i.labels i.small) (at_byte 125 r refl refl) j e in
     let q : r ≡ s = behind_byte 125 r s k.1 in
     (append_cancel_right a b r (e ∙ ap (λ z. b ++ z) (sym q)), q)
 
@@ -130,21 +115,11 @@ begins Set b = b == 123
 begins Argument b = head_start b || (leaf_start b || b == 40)
 begins Mark b = b == 33
 
-wider : (p q : ℕ → Bool) (w : List ℕ) → ((b : ℕ) → p b ≡ true → q b ≡ true) → Starts p w → Starts q w
-wider p q w f s = record { byte = s.byte; others = s.others; is = s.is; passes = f s.byte s.passes }
-
-or_left : (a b : Bool) → a ≡ true → (a || b) ≡ true
-or_left a b h = rw h refl
-
-or_right : (a b : Bool) → b ≡ true → (a || b) ≡ true
-or_right true b h = refl
-or_right false b h = h
-
 form_begins : (a : List ℕ) → IsForm a → Starts (begins Argument) a
 form_begins a (plain Wanted i) = absurd i
 form_begins a (plain Applied i) = absurd i
-form_begins a (plain Bare i) = wider head_start (begins Argument) a (λ b h. or_left (head_start b) (leaf_start b || b == 40) h) (head_first a i)
-form_begins a (plain Closed i) = wider leaf_start (begins Argument) a (λ b h. or_right (head_start b) (leaf_start b || b == 40) (or_left (leaf_start b) (b == 40) h)) (leaf_first a i)
+form_begins a (plain Bare i) = weaker head_start (begins Argument) a (λ b h. or_left (head_start b) (leaf_start b || b == 40) h) (head_first a i)
+form_begins a (plain Closed i) = weaker leaf_start (begins Argument) a (λ b h. or_right (head_start b) (leaf_start b || b == 40) (or_left (leaf_start b) (b == 40) h)) (leaf_first a i)
 form_begins a (bracketed u e i) = record { byte = 40; others = u ++ 41 ∷ []; is = e; passes = or_right (head_start 40) (leaf_start 40 || true) (or_right (leaf_start 40) true refl) }
 
 field_begins : (k : Kind) (a : List ℕ) → (k ≡ Number → ⊥) → IsField k a → Starts (begins k) a

@@ -1,6 +1,6 @@
 -- A line has one first fault, or it is good and so many nodes stand under it.
 use Rattle.std.proofs.Common.{◌≡◌, ℕ, ◌+◌, ◌<◌, ◌^◌, Bool, true, false, List, [], ◌∷◌, ◌++◌, length, All, refl, ap, sym, subst, ◌∙◌, arith, decimal, codes, append_assoc, append-nil, length-append, Some, None}
-use Rattle.std.specs.Prelude.{◌||◌, ◌==◌, not, if◌then◌else◌}
+use Rattle.std.specs.Prelude.{◌||◌, ◌==◌, if◌then◌else◌}
 use Rattle.std.specs.List.{list_all, flat_map}
 use Rattle.std.specs.Str.{bytes_eq}
 use Rattle.std.proofs.lemmas.Slice.Eq.{bytes_eq-Decides}
@@ -12,7 +12,8 @@ use Rattle.ll_laws.specs.ProofText.{field, term_field, part_field, set_text, nod
 use Rattle.ll_prooftext.specs.Admitted.{AreLabels, IsSpelledTerm, IsSpelledPart, IsSpelledLine}
 use Rattle.ll_prooftext.specs.Reading.{Kind, Number, Set, Argument, Mark, Want, Nothing, Arguments, Premises, Then, after_field, may_end, IsNumber, IsSet, IsArgument, IsField, Fields, none, one, IsAtEnd, line_end, space, HasNoField, IsStop, lacks, no_field, listed, node_words, want, first_word, HasBadField, children}
 use Rattle.ll_prooftext.specs.Words.{is_not}
-use Rattle.ll_prooftext.proofs.Cuts.{one_cut, and_left, and_right, first as first_passes, tail}
+use Rattle.ll_prooftext.proofs.Cuts.{one_cut, and_left, and_right}
+use Rattle.ll_prooftext.proofs.Mentioning.{first_alone}
 use Rattle.ll_prooftext.proofs.OneField.{end_stops, one_field}
 
 -- ---- fields
@@ -105,16 +106,6 @@ word_free : (lets : Bool) (w : List ℕ) (v : Want) → want lets w ≡ Some v �
 word_free true w v e = listed_free ((codes "let", Then Argument Nothing) ∷ node_words) refl w v e
 word_free false w v e = listed_free node_words refl w v e
 
--- the first word of a line ends at its first space
-pub word_first : (w rest : List ℕ) → list_all (is_not 32) w ≡ true → IsAtEnd rest → first_word (w ++ rest) ≡ w
-word_first [] rest h line_end = refl
-word_first [] rest h space = refl
-word_first (b ∷ w) rest h x = by_test (b == 32) (first_passes (is_not 32) b w h) (word_first w rest (tail (is_not 32) b w h) x)
-  where
-    by_test : (v : Bool) → not v ≡ true → first_word (w ++ rest) ≡ w → (if v then [] else b ∷ first_word (w ++ rest)) ≡ b ∷ w
-    by_test true f ih = let y : false ≡ true = f in absurd cc
-    by_test false f ih = ap (λ z. b ∷ z) ih
-
 -- ---- lines
 
 -- what a line comes to
@@ -124,7 +115,7 @@ pub data Judges (o : Verdict) (lets : Bool) (bytes : List ℕ) : Type 0 where
 
 word_known : (lets : Bool) (bytes word rest : List ℕ) (asked : Want) → want lets (first_word bytes) ≡ None → bytes ≡ word ++ rest → want lets word ≡ Some asked → IsAtEnd rest → ⊥
 word_known lets bytes word rest asked n e k x =
-    let f : first_word bytes ≡ word = ap first_word e ∙ word_first word rest (word_free lets word asked k) x in
+    let f : first_word bytes ≡ word = ap first_word e ∙ first_alone word rest (word_free lets word asked k) x in
     let g : None ≡ Some asked = sym n ∙ (ap (want lets) f ∙ k) in
     let y : ⊥ = cc in y
 

@@ -1,6 +1,6 @@
 -- The first words of lines, and what lines say.
-use Rattle.std.proofs.Common.{◌≡◌, ℕ, suc, ◌+◌, ◌-◌, ◌<◌, ◌^◌, Bool, true, false, List, [], ◌∷◌, ◌++◌, length, map, refl, ap, sym, subst, ◌∙◌, arith, codes, append_assoc, append-nil, length-append, Result, Some, None, Ok, Err, IfOk, decimal}
-use Rattle.std.specs.Prelude.{not, ◌==◌, if◌then◌else◌}
+use Rattle.std.proofs.Common.{◌≡◌, ℕ, suc, ◌+◌, ◌-◌, ◌<◌, ◌^◌, Bool, true, false, List, [], ◌∷◌, ◌++◌, length, map, refl, ap, sym, subst, ◌∙◌, arith, codes, append_assoc, append-nil, length-append, Result, Some, None, IfOk, decimal}
+use Rattle.std.specs.Prelude.{◌==◌, if◌then◌else◌}
 use Rattle.std.specs.List.{list_all, flat_map}
 use Rattle.std.specs.Str.{bytes_eq}
 use Rattle.std.proofs.lemmas.Slice.Eq.{bytes_eq-Decides}
@@ -18,18 +18,18 @@ use Rattle.ll_prooftext.specs.declared.rows.RowWord.TheVariants as first
 use Rattle.ll_prooftext.specs.declared.rows.Refusal.{Refusal}
 use Rattle.ll_prooftext.specs.declared.rows.Refusal.TheVariants as refusal
 use Rattle.ll_prooftext.specs.Reading.{Want, Nothing, Then, Argument, listed, node_words, want, first_word, IsStop, lacks, no_field, IsAtEnd, line_end, space}
-use Rattle.ll_prooftext.specs.Words.{is_not, Stops, ended, at_byte}
+use Rattle.ll_prooftext.specs.Words.{is_not, Stops}
 use Rattle.ll_prooftext.specs.Terms.{MovesLine, argument_at}
 use Rattle.ll_prooftext.specs.Fields.{Refuses, StopsAt, IsBad, lacking, wrong, IsNumberField, IsTermField, IsTensor, IsClause}
 use Rattle.ll_prooftext.specs.RowWords.{spelling, asks, IsNodeWord, row_asks, IsRowWord, IsGoodRule, IsNodeRow, IsLetRow, bad_column, HasBadLeft, IsRefused}
 use Rattle.ll_prooftext.specs.Mentions.{Outside, mentions}
 use Rattle.ll_prooftext.proofs.Found.{moves_none, moves_line}
 use Rattle.ll_prooftext.proofs.Kept.{args_fields}
-use Rattle.ll_prooftext.proofs.Mentioning.{nothing_mentions, quiet_none, quiet_join, decimal_quiet, set_quiet, field_quiet}
+use Rattle.ll_prooftext.proofs.Mentioning.{first_alone, nothing_mentions, quiet_none, quiet_join, decimal_quiet, set_quiet, field_quiet}
 use Rattle.ll_bank.proofs.Trees.{Extends-refl}
+use Rattle.ll_prooftext.proofs.Close.{if_ok}
 use Rattle.ll_prooftext.proofs.Rest.{stops_end}
 use Rattle.ll_prooftext.proofs.Spellings.{apart}
-use Rattle.ll_prooftext.proofs.Cuts.{first as first_passes, tail}
 
 -- ---- first words
 
@@ -107,10 +107,6 @@ quiet_line names bank w rest h s q = moves_line names bank w rest names bank h s
 pub alone_row : (names : List (List ℕ)) (bank : Nodes) (w rest : List ℕ) (r : Rule) → list_all (is_not 32) w ≡ true → w ≡ node_text names (line_of bank r) → IsGoodRule names bank r → rest ≡ [] → IsNodeRow names bank (w ++ rest) names bank r
 alone_row names bank w rest r h e g n = record { good = g; is = ap (λ z. w ++ z) n ∙ (append-nil w ∙ e); moves = quiet_line names bank w rest h (subst IsAtEnd (sym n) line_end) (ap (mentions Outside) n ∙ nothing_mentions) }
 
-if_ok : {T E : Type 0} (r : Result T E) (P Q : T → Type 0) → ((t : T) → P t → Q t) → IfOk r P → IfOk r Q
-if_ok (Ok t) P Q f h = f t h
-if_ok (Err e) P Q f h = h
-
 -- a rule behind whose word nothing stands
 pub alone_rows : (names : List (List ℕ)) (bank : Nodes) (w rest : List ℕ) (r : Rule) (x : Result Rule Refusal) → list_all (is_not 32) w ≡ true → w ≡ node_text names (line_of bank r) → IsGoodRule names bank r → IfOk x (λ s. (s ≡ r) × (rest ≡ [])) → IfOk x (IsNodeRow names bank (w ++ rest) names bank)
 alone_rows names bank w rest r x f e g h = if_ok x (λ s. (s ≡ r) × (rest ≡ [])) (IsNodeRow names bank (w ++ rest) names bank) (λ s q. subst (IsNodeRow names bank (w ++ rest) names bank) (sym q.0) (alone_row names bank w rest r f e g q.1)) h
@@ -164,25 +160,6 @@ clause_rows names bank rest new over x h = if_ok x (IsClause names bank rest new
 
 -- ---- lines
 
-pub first_is : (w rest : List ℕ) → list_all (is_not 32) w ≡ true → Stops (is_not 32) rest → first_word (w ++ rest) ≡ w
-first_is [] rest h s = nothing rest s
-  where
-    nothing : (rest : List ℕ) → Stops (is_not 32) rest → first_word rest ≡ []
-    nothing rest (ended e) = ap first_word e
-    nothing rest (at_byte b bs e f) = ap first_word e ∙ by_test (b == 32) refl f
-      where
-        by_test : (v : Bool) → (b == 32) ≡ v → not v ≡ false → (if v then [] else b ∷ first_word bs) ≡ []
-        by_test true t f = refl
-        by_test false t f = let x : true ≡ false = f in let y : ⊥ = cc in absurd y
-first_is (b ∷ w) rest h s = by_test (b == 32) refl (first_passes (is_not 32) b w h) (first_is w rest (tail (is_not 32) b w h) s)
-  where
-    by_test : (v : Bool) → (b == 32) ≡ v → not v ≡ true → first_word (w ++ rest) ≡ w → (if v then [] else b ∷ first_word (w ++ rest)) ≡ b ∷ w
-    by_test true t f ih = let x : false ≡ true = f in let y : ⊥ = cc in absurd y
-    by_test false t f ih = ap (λ z. b ∷ z) ih
-
-pub row_end : (rest : List ℕ) → Stops (is_not 32) rest → IsAtEnd rest
-row_end rest s = stops_end rest s
-
 pub let_row : (names : List (List ℕ)) (bank : Nodes) (line w rest : List ℕ) (lets : Bool) (new : List (List ℕ)) (over : Nodes) (at : At) → line ≡ w ++ rest → IsRowWord lets w first.Let → IsTermField names bank rest new over at.0 [] → IsLetRow names bank line lets new over at.0
 let_row names bank line w rest lets new over at e k f =
     let text : line ≡ codes "let" ++ rest = e ∙ ap (λ z. z ++ rest) k.is in
@@ -197,7 +174,7 @@ pub node_row : (names : List (List ℕ)) (bank : Nodes) (line w rest : List ℕ)
 node_row names bank line w rest lets k new over r e i f = subst (λ z. IsNodeRow names bank z new over r) (sym (e ∙ ap (λ z. z ++ rest) i.is)) f
 
 pub word_none : (line w rest : List ℕ) (lets : Bool) → line ≡ w ++ rest → list_all (is_not 32) w ≡ true → Stops (is_not 32) rest → want lets w ≡ None → want lets (first_word line) ≡ None
-word_none line w rest lets e h s n = ap (λ z. want lets (first_word z)) e ∙ (ap (want lets) (first_is w rest h s) ∙ n)
+word_none line w rest lets e h s n = ap (λ z. want lets (first_word z)) e ∙ (ap (want lets) (first_alone w rest h (stops_end rest s)) ∙ n)
 
 -- the column of a wrong field
 stop_at : (v : Want) (good rest : List ℕ) (n left : ℕ) (line : List ℕ) → line ≡ good ++ rest → n ≡ length good → left ≡ length rest → IsBad v rest → IsStop v n rest (bad_column (length line) left)

@@ -148,7 +148,7 @@ signed_starts (negsuc n) f = record { byte = 45; others = decimal (suc n); is = 
 moved : (p : ℕ → Bool) (v w : List ℕ) → w ≡ v → Starts p v → Starts p w
 moved p v w e s = record { byte = s.byte; others = s.others; is = e ∙ s.is; passes = s.passes }
 
-weaker : (p q : ℕ → Bool) (w : List ℕ) → ((b : ℕ) → p b ≡ true → q b ≡ true) → Starts p w → Starts q w
+pub weaker : (p q : ℕ → Bool) (w : List ℕ) → ((b : ℕ) → p b ≡ true → q b ≡ true) → Starts p w → Starts q w
 weaker p q w f s = record { byte = s.byte; others = s.others; is = s.is; passes = f s.byte s.passes }
 
 -- the first bytes of heads and of terms that take no arguments
@@ -158,10 +158,10 @@ head_start b = is_lower b || b == 35
 abbrev pub leaf_start : ℕ → Bool
 leaf_start b = b == 63 || begins_number b
 
-or_left : (a b : Bool) → a ≡ true → (a || b) ≡ true
+pub or_left : (a b : Bool) → a ≡ true → (a || b) ≡ true
 or_left a b h = rw h refl
 
-or_right : (a b : Bool) → b ≡ true → (a || b) ≡ true
+pub or_right : (a b : Bool) → b ≡ true → (a || b) ≡ true
 or_right true b h = refl
 or_right false b h = h
 

@@ -343,7 +343,7 @@ first_stuck o bytes n b w end a =
     let e : frames o ≡ frame c Wanted ∷ fs = ap (λ q. frame c (shape_of q o.top.args.items) ∷ fs) n in
     first_none end c fs bytes b w (subst (λ hs. Accepts end hs bytes) e a)
 
-known_part : (o : Open) (x : Word) → o.top.part ≡ Some x → is_wanted (shape_of o.top.part o.top.args.items) ≡ false
+pub known_part : (o : Open) (x : Word) → o.top.part ≡ Some x → is_wanted (shape_of o.top.part o.top.args.items) ≡ false
 known_part o x n = ap (λ q. is_wanted (shape_of q o.top.args.items)) n ∙ shape_known x o.top.args.items
 
 pub argument_stuck : (o : Open) (x : Word) (bytes : List ℕ) → o.top.part ≡ Some x → BeginsNot 40 bytes → HasNoWord bytes → (end : List ℕ) → Accepts end (frames o) (32 ∷ bytes) → ⊥

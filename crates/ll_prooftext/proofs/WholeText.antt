@@ -22,11 +22,11 @@ use Rattle.ll_prooftext.specs.Reading.{text_lines, children, missing, Begins, Is
 use Rattle.ll_prooftext.specs.Words.{is_not}
 use Rattle.ll_prooftext.specs.Terms.{Shape, Wanted, Bare, Applied, Closed, name, eigen, variable, number, IsWord, Frame, frame, FirstWay, first_bracket, first_word, PartWay, bracket, word, sign, whole, argument, item, Goes, Accepts, closed, goes}
 use Rattle.ll_prooftext.proofs.Numerals.{mag_small}
-use Rattle.ll_prooftext.proofs.Labels.{decimal_not}
+use Rattle.ll_prooftext.proofs.Labels.{decimal_not, labels_avoid}
 use Rattle.ll_prooftext.proofs.Spellings.{name_shaped}
 use Rattle.ll_prooftext.proofs.LinesRead.{lines_more, lines_last}
 use Rattle.ll_prooftext.proofs.OneVerdict.{clause_text}
-use Rattle.ll_prooftext.proofs.OneField.{IsForm, plain, bracketed, form, labels_without}
+use Rattle.ll_prooftext.proofs.OneField.{IsForm, plain, bracketed, form}
 
 -- ---- trees and nodes
 
@@ -171,7 +171,7 @@ term_free : (names : List (List ℕ)) (t : Term) → IsSpelledTerm names t → H
 term_free names t s = form_free (argument_text t (term_text names t)) (form names t s)
 
 set_free : (ns : List ℕ) → AreLabels ns → HasNoEnd (field (set_text ns))
-set_free ns a = joined (labels_text ns) (125 ∷ []) (labels_without 10 (inl (omega arith)) refl ns a) refl
+set_free ns a = joined (labels_text ns) (125 ∷ []) (labels_avoid 10 (inl (omega arith)) refl ns a) refl
 
 terms_free : (names : List (List ℕ)) (ts : List Term) → All (IsSpelledTerm names) ts → HasNoEnd (flat_map (term_field names) ts)
 terms_free names [] a = refl

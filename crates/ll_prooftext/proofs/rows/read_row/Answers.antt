@@ -1,17 +1,18 @@
 use Rattle.std.proofs.lemmas.Result.{err_from_is_err_and}
 use Rattle.ll_prooftext.specs.declared.rows.RowWord.TheVariants as first
 use Rattle.ll_prooftext.proofs.Kept.{grows_none}
-use Rattle.ll_prooftext.proofs.RowsRead.{row_end, rest_room, let_row, node_row, word_none, refused_row}
+use Rattle.ll_prooftext.proofs.Rest.{stops_end}
+use Rattle.ll_prooftext.proofs.RowsRead.{rest_room, let_row, node_row, word_none, refused_row}
 use Rattle.ll_prooftext.proofs.rows.read_row.Goals as goal
 
 pub last_term-requires-clause-end : goal.last_term-requires-clause-end
-last_term-requires-clause-end c = row_end c.split_before.result.1.now c.split_before.ensures.stops
+last_term-requires-clause-end c = stops_end c.split_before.result.1.now c.split_before.ensures.stops
 
 pub last_term-requires-clause-room : goal.last_term-requires-clause-room
 last_term-requires-clause-room c = rest_room c.args.names.now c.args.line.now c.split_before.result.0.now c.split_before.result.1.now c.split_before.ensures.is c.requires
 
 pub node-requires-clause-end : goal.node-requires-clause-end
-node-requires-clause-end c = row_end c.split_before.result.1.now c.split_before.ensures.stops
+node-requires-clause-end c = stops_end c.split_before.result.1.now c.split_before.ensures.stops
 
 pub node-requires-clause-room : goal.node-requires-clause-room
 node-requires-clause-room c = rest_room c.args.names.now c.args.line.now c.split_before.result.0.now c.split_before.result.1.now c.split_before.ensures.is c.requires

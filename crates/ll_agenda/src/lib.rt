@@ -6,7 +6,5 @@
 #![tactic(auto)]
 
 mod agenda;
-#[cfg(test)]
-mod tests;
 
 pub use agenda::{Agenda, Top};

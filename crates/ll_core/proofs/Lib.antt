@@ -21,6 +21,5 @@ pub mod LawfulEvents
 pub mod Cuts
 pub mod Openings
 pub mod Runs
-pub mod OpenSlots
 pub mod Given
 pub mod Owing

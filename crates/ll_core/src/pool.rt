@@ -5,9 +5,6 @@ ghost use Rattle.ll_laws.specs.Sound.{Shaped};
 ghost use Rattle.ll_laws.specs.CoreEvents.{Publishes, Readies, opening, NoOpen, IsOpenAt, starves, stops, reported};
 ghost use Rattle.ll_core.specs.Calls.{ClaimsAs, LooksAs, HandsBack, publish_answer, ready_answer};
 
-#[cfg(test)]
-mod tests;
-
 use crate::answers::{Claimed, Look, PublishFault, Ready};
 use crate::cursor::{Stop, advance, take_report};
 use crate::room::{Slot, State, Waiting, copies_of, take_room};

@@ -7,8 +7,6 @@ mod memory;
 mod real;
 mod shelf;
 mod sink;
-#[cfg(test)]
-mod tests;
 mod text;
 
 pub use gate::{Gate, OpenGate};

@@ -7,7 +7,6 @@ pub mod LaterLemmas
 pub mod TakeLemmas
 pub mod StepLemmas
 pub mod WayLemmas
-pub mod SampleLemmas
 pub mod MachineLemmas
 mod Owing
 mod Forks

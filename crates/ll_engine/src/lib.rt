@@ -12,8 +12,6 @@ mod settle;
 mod spine;
 mod start;
 mod take;
-#[cfg(test)]
-mod tests;
 
 pub use engine::{Engine, Step2};
 pub use machine::{Item, Machine};

@@ -3,8 +3,6 @@
 
 mod order;
 mod outlet;
-#[cfg(test)]
-mod tests;
 
 pub use order::drain;
 pub use outlet::{OutFault, Outlet};

@@ -12,8 +12,6 @@ mod raws;
 mod reading;
 mod symbols;
 mod terms;
-#[cfg(test)]
-mod tests;
 mod texts;
 mod waiting;
 

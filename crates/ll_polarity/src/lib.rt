@@ -15,8 +15,6 @@ mod put_forms;
 mod put_modules;
 mod put_terms;
 mod scope;
-#[cfg(test)]
-mod tests;
 mod variables;
 mod walk;
 

@@ -3,4 +3,3 @@ pub mod Turns
 pub mod Codes
 pub mod OpenPieces
 pub mod Fitting
-pub mod Players

@@ -14,6 +14,3 @@ mod shared;
 pub use laws::no_piece_twice;
 pub use seat::Seat;
 pub use shared::SharedPool;
-
-#[cfg(test)]
-mod tests;

@@ -6,13 +6,9 @@ ghost use Rattle.ll_bank.specs.Nodes.{term_tree, HasTerm};
 ghost use Rattle.ll_laws.specs.Output.{line, term_text, answer_text, bindings_text, counts_text};
 ghost use Rattle.ll_printer.specs.Pieces.{BeginsText};
 
-#[cfg(test)]
-mod answer_tests;
 mod answers;
 mod formulas;
 mod pieces;
-#[cfg(test)]
-mod program_tests;
 mod programs;
 mod words;
 

@@ -14,8 +14,6 @@ mod reader;
 mod rows;
 mod sets;
 mod terms;
-#[cfg(test)]
-mod tests;
 mod words;
 
 pub use crate::laws::one_derivation;

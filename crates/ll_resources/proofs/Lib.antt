@@ -1,7 +1,6 @@
 pub mod SavesLemmas
 pub mod MarkLemmas
 pub mod EntryLemmas
-pub mod FitLemmas
 pub mod ChangeLemmas
 pub mod LeadLemmas
 pub mod EndLemmas

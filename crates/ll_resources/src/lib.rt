@@ -15,8 +15,6 @@ mod ends;
 mod marks;
 mod saves;
 mod state;
-#[cfg(test)]
-mod tests;
 
 pub use context::{Context, ContextMark, Saved};
 pub use ends::settling_ends;

@@ -13,4 +13,3 @@ pub mod Spanning
 pub mod Picking
 pub mod Placing
 pub mod Sharing
-pub mod SampleLemmas

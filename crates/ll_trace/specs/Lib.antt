@@ -8,4 +8,3 @@ pub mod Spans
 pub mod Picks
 pub mod Places
 pub mod Shares
-pub mod Sample

@@ -1,16 +1,12 @@
 //! The derivation of an answer's branch: its nodes, with every label dealt out.
 #![tactic(auto)]
 
-#[cfg(test)]
-mod answer_tests;
 mod deal;
 mod leaf;
 mod picks;
 mod places;
 mod root;
 mod spans;
-#[cfg(test)]
-mod tests;
 mod walk;
 
 ghost use Rattle.std.specs.Prelude.{◌≡◌, Contains, length, IfOk, Some};

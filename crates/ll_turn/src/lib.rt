@@ -18,6 +18,3 @@ pub use held::Held;
 pub use kept::Kept;
 pub use pass::Pass;
 pub use turn::{NewFault, Turn};
-
-#[cfg(test)]
-mod tests;

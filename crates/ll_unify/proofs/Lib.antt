@@ -7,5 +7,4 @@ mod Alike
 mod Pairs
 mod Solving
 mod Copies
-mod Answer
-mod Levels
+pub mod Answer

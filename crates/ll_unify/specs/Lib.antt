@@ -6,4 +6,3 @@ pub mod Pairs
 pub mod Solving
 pub mod Copied
 pub mod Unifies
-pub mod Levelled

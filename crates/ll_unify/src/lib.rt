@@ -6,8 +6,6 @@ mod copy;
 mod meet;
 mod scan;
 mod table;
-#[cfg(test)]
-mod tests;
 
 ghost use Rattle.std.specs.Prelude.{◌≡◌, ◌<◌, ◌≤◌, ◌+◌, max, true, length, option_map, IfOk, IfSome};
 ghost use Rattle.std.specs.List.{list_all};

@@ -1,0 +1,3 @@
+pub mod OpenHeads
+pub mod FitLemmas
+pub mod Levels

@@ -1,0 +1,17 @@
+//! Tests of the front end: rows of texts, what each is read as, and how it is written.
+#![tactic(auto)]
+
+#[cfg(test)]
+mod answers;
+#[cfg(test)]
+mod edge;
+#[cfg(test)]
+mod lexer;
+#[cfg(test)]
+mod parser;
+#[cfg(test)]
+mod polarity;
+#[cfg(test)]
+mod printer;
+#[cfg(test)]
+mod prooftext;

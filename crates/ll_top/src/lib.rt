@@ -279,12 +279,3 @@ fn found_status(found: Found) -> u8
         Found::Bound => 2,
     }
 }
-
-#[cfg(test)]
-mod check_tests;
-#[cfg(test)]
-mod proof_tests;
-#[cfg(test)]
-mod tests;
-#[cfg(test)]
-mod worked_tests;

@@ -1,0 +1,34 @@
+// The derivations that a run writes.
+use std::alloc::{AllocError, Global};
+
+/// A derivation's text, and how many nodes it has.
+#[derive(Drop)]
+pub struct Written {
+    pub text: String,
+    pub nodes: usize,
+}
+
+/// The derivations among what a run wrote, each with a node for each line but the first and those of the terms.
+pub fn derivations_in(alloc: Global, output: &str) -> Result<Vec<Written>, AllocError> {
+    let mut found = Vec::new(alloc);
+    for behind in output.split("proof 1\n").skip(1) {
+        let lines = match behind.split_once("\nanswer") {
+            Some((lines, _)) => lines,
+            None => behind,
+        };
+        let nodes = nodes_in(lines);
+        let text = format!(in alloc; "proof 1\n{lines}\n")?;
+        found.push(Written { text, nodes })?;
+    }
+    Ok(found)
+}
+
+fn nodes_in(lines: &str) -> usize {
+    let mut nodes = 0usize;
+    for line in lines.lines() {
+        if !line.starts_with("let ") {
+            nodes = nodes.saturating_add(1);
+        }
+    }
+    nodes
+}

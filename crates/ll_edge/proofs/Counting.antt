@@ -1,5 +1,5 @@
 -- What the counts of a shelf and a sink say of an answer.
-use Rattle.std.proofs.Common.{◌≡◌, ℕ, ◌<◌, ◌≤◌, List, Result, Ok, Err, length, inl, inr, arith, IfOk, OnErr}
+use Rattle.std.proofs.Common.{◌≡◌, ℕ, ◌<◌, ◌≤◌, List, Result, Ok, Err, length, inl, inr, ap, arith, IfOk, OnErr}
 use Rattle.std.proofs.lemmas.Bool.{cases_lt}
 use Rattle.std.proofs.lemmas.Bool.Decides.{nat_tests}
 use Rattle.ll_edge.specs.Counts.{last_count, Rose, counted_up, Counts, counts_after, faults_after}
@@ -47,3 +47,14 @@ IfOk-always P always (Err refusal) = tt
 pub OnErr-always : (P : Type 0) → P → (answer : Result ℕ WriteFailed) → OnErr answer P
 OnErr-always P always (Ok n) = tt
 OnErr-always P always (Err refusal) = always
+
+-- an answer of bytes counts nothing
+pub counts_no_fault : (before after : Counts) (answer : Got) → after ≡ counts_after before answer → IfBytes answer (λ _. after.faults ≡ before.faults)
+counts_no_fault before after (Bytes n) e = ap (λ c. c.faults) e
+counts_no_fault before after Absent e = tt
+counts_no_fault before after Failed e = tt
+
+pub counts_no_absence : (before after : Counts) (answer : Got) → after ≡ counts_after before answer → IfBytes answer (λ _. after.absences ≡ before.absences)
+counts_no_absence before after (Bytes n) e = ap (λ c. c.absences) e
+counts_no_absence before after Absent e = tt
+counts_no_absence before after Failed e = tt

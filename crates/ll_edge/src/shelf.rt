@@ -35,6 +35,8 @@ pub trait Shelf {
 
         ensures failed { result ≡ Got.Failed → Rose (faults self.old) (faults self.new) }
         ensures absent { result ≡ Got.Absent → Rose (absences self.old) (absences self.new) }
+        ensures no_fault { IfBytes result (λ _. faults self.new ≡ faults self.old) }
+        ensures no_absence { IfBytes result (λ _. absences self.new ≡ absences self.old) }
         ensures fits { IfBytes result (λ n. n ≤ length buf.new) }
 
         // Where the texts are told.

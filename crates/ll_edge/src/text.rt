@@ -41,7 +41,8 @@ const CHUNK_LEN: usize = 65536;
 /// Reads the text of a name to its end, if it has at most `limit` bytes.
 ///
 /// `TooLong` comes once `limit + 1` bytes were read, and no more are read then. `Absent` and `Failed` are the
-/// shelf's own answers, to any of the calls. The texts on the shelf stay as they are.
+/// shelf's own answers, to any of the calls: a text is whole only where each call gave bytes, the last one none.
+/// The texts on the shelf stay as they are.
 pub fn read_text<F: Shelf>(
     alloc: Global,
     shelf: &mut F,
@@ -54,6 +55,8 @@ pub fn read_text<F: Shelf>(
     ensures faults_kept { F.faults shelf.old ≤ F.faults shelf.new }
     ensures absences_kept { F.absences shelf.old ≤ F.absences shelf.new }
 
+    ensures no_fault { IfOk result (λ _. F.faults shelf.new ≡ F.faults shelf.old) }
+    ensures no_absence { IfOk result (λ _. F.absences shelf.new ≡ F.absences shelf.old) }
     ensures within_limit { IfOk result (λ text. vec_len text ≤ limit) }
     ensures absent { IsErrOf result ReadFault.Absent
         → Rose (F.absences shelf.old) (F.absences shelf.new) }

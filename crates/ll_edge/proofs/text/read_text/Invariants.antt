@@ -9,6 +9,8 @@ invariant-loop-chunk g l = record {
   same_texts : g.F.Shelf.texts l.shelf ≡ g.F.Shelf.texts l.initial.shelf;
   faults_kept : g.F.Shelf.faults l.initial.shelf ≤ g.F.Shelf.faults l.shelf;
   absences_kept : g.F.Shelf.absences l.initial.shelf ≤ g.F.Shelf.absences l.shelf;
+  no_fault : g.F.Shelf.faults l.shelf ≡ g.F.Shelf.faults l.initial.shelf;
+  no_absence : g.F.Shelf.absences l.shelf ≡ g.F.Shelf.absences l.initial.shelf;
   front : IsFrontOfTold (g.F.Shelf.texts l.initial.shelf) l.name l.text.items;
 }
 

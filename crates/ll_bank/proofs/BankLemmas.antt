@@ -16,10 +16,10 @@ use Rattle.ll_bank.specs.declared.BankSize.{BankSize}
 use Rattle.ll_bank.specs.declared.TermView.{TermView}
 use Rattle.ll_bank.specs.declared.TermView.TheVariants.{Var as VarView, Int as IntView, App as AppView}
 use Rattle.ll_bank.specs.declared.FormNode.{FormNode}
-use Rattle.ll_bank.specs.declared.FormNode.TheVariants.{Top as TopView, One as OneView, Atom as AtomView, With as WithView, Tensor as TensorView, Plus as PlusView, Bang as BangView, Lolli as LolliView, Imp as ImpView, Forall as ForallView, Exists as ExistsView, Use as UseView}
+use Rattle.ll_bank.specs.declared.FormNode.TheVariants.{Top as TopView, One as OneView, Atom as AtomView, With as WithView, Tensor as TensorView, Plus as PlusView, Bang as BangView, Lolli as LolliView, Imp as ImpView, Forall as ForallView, Exists as ExistsView, Use as UseView, Is as IsView, Less as LessView, Most as MostView}
 use Rattle.ll_bank.specs.Term.{Term, Var, Con, Ap, app, apply, term_depth}
-use Rattle.ll_bank.specs.Form.{Form, Top, Atom, With, Tensor, Plus, Bang, Lolli, Imp, Forall, Exists, Use}
-use Rattle.ll_bank.specs.Nodes.{Nodes, TermNode, VarNode, IntNode, AppNode, FormulaNode, TopNode, OneNode, AtomNode, WithNode, TensorNode, PlusNode, BangNode, LolliNode, ImpNode, ForallNode, ExistsNode, UseNode, grow, term_in, build_term, form_in, build_form, term_tree, form_tree, term_trees, HasTerm, HasForm, ShowsTerm, ShowsForm, Extends, form_of, HasPartsBelow, IsTermView, IsFormView, IsTermBelow, IsFormBelow, IsWellFounded, places, node_of_term, node_of, with_term, with_form, size_of, front, HasSize, IsCutTo}
+use Rattle.ll_bank.specs.Form.{Form, Top, Atom, With, Tensor, Plus, Bang, Lolli, Imp, Forall, Exists, Use, Num}
+use Rattle.ll_bank.specs.Nodes.{Nodes, TermNode, VarNode, IntNode, AppNode, FormulaNode, TopNode, OneNode, AtomNode, WithNode, TensorNode, PlusNode, BangNode, LolliNode, ImpNode, ForallNode, ExistsNode, UseNode, NumNode, grow, term_in, build_term, form_in, build_form, term_tree, form_tree, term_trees, HasTerm, HasForm, ShowsTerm, ShowsForm, Extends, form_of, HasPartsBelow, IsTermView, IsFormView, IsTermBelow, IsFormBelow, IsWellFounded, places, node_of_term, node_of, with_term, with_form, size_of, front, HasSize, IsCutTo}
 use Rattle.ll_bank.specs.Kept.{all_terms, IsKept, depth_over}
 use Rattle.ll_bank.proofs.Growing.{grow-append, grow_kept, grow_last, get_or-grow_at, length-grow, grow-take}
 use Rattle.ll_bank.proofs.FlatLemmas.{map_map}
@@ -91,6 +91,7 @@ module _ (term term' : ℕ → Term) (terms : ℕ) (same : (a : ℕ) → a < ter
   same_build_form trees trees' at h (ForallNode f) w = ap Forall (h f w)
   same_build_form trees trees' at h (ExistsNode f) w = ap Exists (h f w)
   same_build_form trees trees' at h (UseNode m args f) w = λ i. Use m (same_map term term' terms args same w.0 i) (h f w.1 i)
+  same_build_form trees trees' at h (NumNode r t u) w = λ i. Num r (same t w.0 i) (same u w.1 i)
 
   -- formulas grow alike over terms that are alike
   same_grow : (trees : List Form) (ns : List FormulaNode) → All (λ n. (at : ℕ) × IsFormBelow terms at n) ns → grow (build_form term) trees ns ≡ grow (build_form term') trees ns
@@ -205,6 +206,7 @@ more_terms terms more at le (ImpNode f g) w = w
 more_terms terms more at le (ForallNode f) w = w
 more_terms terms more at le (ExistsNode f) w = w
 more_terms terms more at le (UseNode m args f) w = (λ k d l. let h = w.0 k d l in omega arith, w.1)
+more_terms terms more at le (NumNode r t u) w = (let a = w.0 in omega arith, let a = w.1 in omega arith)
 
 module _ (old : Nodes) (low : IsWellFounded old) where
   -- a term on lower ones keeps a bank well-founded
@@ -248,6 +250,9 @@ below_parts terms forms (ImpView f g) h = h
 below_parts terms forms (ForallView f) h = h
 below_parts terms forms (ExistsView f) h = h
 below_parts terms forms (UseView m args f) h = (below_places terms args.now h.0, h.1)
+below_parts terms forms (IsView t u) h = h
+below_parts terms forms (LessView t u) h = h
+below_parts terms forms (MostView t u) h = h
 
 -- and back
 pub parts_below : (terms forms : ℕ) (view : FormNode) → IsFormBelow terms forms (node_of view) → HasPartsBelow terms forms view
@@ -263,6 +268,9 @@ parts_below terms forms (ImpView f g) h = h
 parts_below terms forms (ForallView f) h = h
 parts_below terms forms (ExistsView f) h = h
 parts_below terms forms (UseView m args f) h = (places_below terms args.now h.0, h.1)
+parts_below terms forms (IsView t u) h = h
+parts_below terms forms (LessView t u) h = h
+parts_below terms forms (MostView t u) h = h
 
 -- a head with places builds the head with their terms
 pub build_app : (old : Nodes) (h : Head) (args : List At) → build_term (all_terms old) (AppNode h (places args)) ≡ app h (term_trees old args)
@@ -284,6 +292,9 @@ build_parts old (ImpView f g) = refl
 build_parts old (ForallView f) = refl
 build_parts old (ExistsView f) = refl
 build_parts old (UseView m args f) = ap (λ ts. Use m ts (form_tree old f.0)) (map_map (term_tree old) (λ a. a.0) args.now)
+build_parts old (IsView t u) = refl
+build_parts old (LessView t u) = refl
+build_parts old (MostView t u) = refl
 
 -- ---- depths
 

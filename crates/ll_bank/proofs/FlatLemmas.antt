@@ -13,12 +13,12 @@ use Rattle.ll_bank.specs.declared.At.{At}
 use Rattle.ll_bank.specs.declared.Head.{Head}
 use Rattle.ll_bank.specs.declared.BankSize.{BankSize}
 use Rattle.ll_bank.specs.declared.FormNode.{FormNode}
-use Rattle.ll_bank.specs.declared.FormNode.TheVariants.{Top as TopView, One as OneView, Atom as AtomView, With as WithView, Tensor as TensorView, Plus as PlusView, Bang as BangView, Lolli as LolliView, Imp as ImpView, Forall as ForallView, Exists as ExistsView, Use as UseView}
+use Rattle.ll_bank.specs.declared.FormNode.TheVariants.{Top as TopView, One as OneView, Atom as AtomView, With as WithView, Tensor as TensorView, Plus as PlusView, Bang as BangView, Lolli as LolliView, Imp as ImpView, Forall as ForallView, Exists as ExistsView, Use as UseView, Is as IsView, Less as LessView, Most as MostView}
 use Rattle.ll_bank.specs.declared.flat.Span.{Span}
 use Rattle.ll_bank.specs.declared.flat.StoredTerm.{StoredTerm}
 use Rattle.ll_bank.specs.declared.flat.StoredTerm.TheVariants.{Var as StoredVar, Int as StoredInt, App as StoredApp}
 use Rattle.ll_bank.specs.declared.flat.StoredForm.{StoredForm}
-use Rattle.ll_bank.specs.declared.flat.StoredForm.TheVariants.{Top as StoredTop, One as StoredOne, Atom as StoredAtom, With as StoredWith, Tensor as StoredTensor, Plus as StoredPlus, Bang as StoredBang, Lolli as StoredLolli, Imp as StoredImp, Forall as StoredForall, Exists as StoredExists, Use as StoredUse}
+use Rattle.ll_bank.specs.declared.flat.StoredForm.TheVariants.{Top as StoredTop, One as StoredOne, Atom as StoredAtom, With as StoredWith, Tensor as StoredTensor, Plus as StoredPlus, Bang as StoredBang, Lolli as StoredLolli, Imp as StoredImp, Forall as StoredForall, Exists as StoredExists, Use as StoredUse, Is as StoredIs, Less as StoredLess, Most as StoredMost}
 use Rattle.ll_bank.specs.Nodes.{Nodes, AppNode, UseNode, places, node_of, argument_count, load_argument_count, size_of, front, with_term, with_form}
 use Rattle.ll_bank.specs.Storage.{children_of, term_node, form_node, nodes_of, span_from, stored_as, load_arguments_of, IsWithin, IsTermStored, IsFormStored, term_span, form_span, AreInTurn, IsStored}
 
@@ -194,6 +194,9 @@ form_more cs more (StoredLolli f g) h = tt
 form_more cs more (StoredImp f g) h = tt
 form_more cs more (StoredForall f) h = tt
 form_more cs more (StoredExists f) h = tt
+form_more cs more (StoredIs t u) h = tt
+form_more cs more (StoredLess t u) h = tt
+form_more cs more (StoredMost t u) h = tt
 
 form_less : (cs more : List At) (f : StoredForm) → IsFormStored (cs ++ more) f → EndsBy (length cs) (form_span f) → IsFormStored cs f
 form_less cs more (StoredUse m span g) h e = e
@@ -208,6 +211,9 @@ form_less cs more (StoredLolli f g) h e = tt
 form_less cs more (StoredImp f g) h e = tt
 form_less cs more (StoredForall f) h e = tt
 form_less cs more (StoredExists f) h e = tt
+form_less cs more (StoredIs t u) h e = tt
+form_less cs more (StoredLess t u) h e = tt
+form_less cs more (StoredMost t u) h e = tt
 
 form_counts : (cs : List At) (f : StoredForm) → IsFormStored cs f → load_argument_count (form_node cs f) ≡ span_size (form_span f)
 form_counts cs (StoredUse m span g) h = length-children cs span h
@@ -222,6 +228,9 @@ form_counts cs (StoredLolli f g) h = refl
 form_counts cs (StoredImp f g) h = refl
 form_counts cs (StoredForall f) h = refl
 form_counts cs (StoredExists f) h = refl
+form_counts cs (StoredIs t u) h = refl
+form_counts cs (StoredLess t u) h = refl
+form_counts cs (StoredMost t u) h = refl
 
 -- a formula put behind the others
 stored_as-ok : (cs : List At) (view : FormNode) → IsFormStored (cs ++ load_arguments_of view) (stored_as (length cs) view)
@@ -237,6 +246,9 @@ stored_as-ok cs (ImpView f g) = tt
 stored_as-ok cs (ForallView f) = tt
 stored_as-ok cs (ExistsView f) = tt
 stored_as-ok cs (UseView m args f) = (omega arith, simp length-append (omega arith))
+stored_as-ok cs (IsView t u) = tt
+stored_as-ok cs (LessView t u) = tt
+stored_as-ok cs (MostView t u) = tt
 
 stored_as-turn : (cs : List At) (view : FormNode) → AreInTurn (length cs) (form_span (stored_as (length cs) view) ∷ []) (length (cs ++ load_arguments_of view))
 stored_as-turn cs TopView = ap length (sym (append-nil cs))
@@ -251,6 +263,9 @@ stored_as-turn cs (ImpView f g) = ap length (sym (append-nil cs))
 stored_as-turn cs (ForallView f) = ap length (sym (append-nil cs))
 stored_as-turn cs (ExistsView f) = ap length (sym (append-nil cs))
 stored_as-turn cs (UseView m args f) = (refl, omega arith, sym (length-append cs args.now))
+stored_as-turn cs (IsView t u) = ap length (sym (append-nil cs))
+stored_as-turn cs (LessView t u) = ap length (sym (append-nil cs))
+stored_as-turn cs (MostView t u) = ap length (sym (append-nil cs))
 
 stored_as-node : (cs : List At) (view : FormNode) → form_node (cs ++ load_arguments_of view) (stored_as (length cs) view) ≡ node_of view
 stored_as-node cs TopView = refl
@@ -265,6 +280,9 @@ stored_as-node cs (ImpView f g) = refl
 stored_as-node cs (ForallView f) = refl
 stored_as-node cs (ExistsView f) = refl
 stored_as-node cs (UseView m args f) = ap (λ xs. UseNode m (places xs) f.0) (children_behind cs args.now)
+stored_as-node cs (IsView t u) = refl
+stored_as-node cs (LessView t u) = refl
+stored_as-node cs (MostView t u) = refl
 
 -- ---- what the calls leave
 

@@ -18,10 +18,10 @@ use Rattle.ll_bank.specs.declared.Head.TheVariants.{Name, Eigen, Bound}
 use Rattle.ll_bank.specs.declared.TermView.{TermView}
 use Rattle.ll_bank.specs.declared.TermView.TheVariants.{Var as VarView, Int as IntView, App as AppView}
 use Rattle.ll_bank.specs.declared.FormNode.{FormNode}
-use Rattle.ll_bank.specs.declared.FormNode.TheVariants.{Top as TopView, One as OneView, Atom as AtomView, With as WithView, Tensor as TensorView, Plus as PlusView, Bang as BangView, Lolli as LolliView, Imp as ImpView, Forall as ForallView, Exists as ExistsView, Use as UseView}
+use Rattle.ll_bank.specs.declared.FormNode.TheVariants.{Top as TopView, One as OneView, Atom as AtomView, With as WithView, Tensor as TensorView, Plus as PlusView, Bang as BangView, Lolli as LolliView, Imp as ImpView, Forall as ForallView, Exists as ExistsView, Use as UseView, Is as IsView, Less as LessView, Most as MostView}
 use Rattle.ll_bank.specs.Term.{Term, Var, Int, Con, Ap, Env, apply, app, place, close, close_head, is_spine, applies_heads}
-use Rattle.ll_bank.specs.Form.{Form, Top, One, Atom, With, Tensor, Plus, Bang, Lolli, Imp, Forall, Exists, Use, close_form, form_applies_heads}
-use Rattle.ll_bank.specs.Nodes.{Nodes, VarNode, IntNode, AppNode, FormulaNode, TopNode, AtomNode, WithNode, TensorNode, PlusNode, BangNode, LolliNode, ImpNode, ForallNode, ExistsNode, UseNode, grow, build_term, build_form, term_tree, form_tree, term_trees, HasTerm, HasForm, AllInTerms, ShowsTerm, ShowsForm, Extends, HasPartsBelow, IsTermView, IsFormView, places, node_of_term, node_of, form_of}
+use Rattle.ll_bank.specs.Form.{Form, Top, One, Atom, With, Tensor, Plus, Bang, Lolli, Imp, Forall, Exists, Use, Num, Is, Less, Most, close_form, form_applies_heads}
+use Rattle.ll_bank.specs.Nodes.{Nodes, VarNode, IntNode, AppNode, FormulaNode, TopNode, AtomNode, WithNode, TensorNode, PlusNode, BangNode, LolliNode, ImpNode, ForallNode, ExistsNode, UseNode, NumNode, grow, build_term, build_form, term_tree, form_tree, term_trees, HasTerm, HasForm, AllInTerms, ShowsTerm, ShowsForm, Extends, HasPartsBelow, IsTermView, IsFormView, places, node_of_term, node_of, form_of}
 use Rattle.ll_bank.specs.Walk.{HasImage, ShowsAt}
 use Rattle.ll_bank.specs.Kept.{all_terms}
 use Rattle.ll_bank.specs.declared.open.Task.{Task}
@@ -103,6 +103,7 @@ form_size-some (Imp f g) = omega arith
 form_size-some (Forall f) = omega arith
 form_size-some (Exists f) = omega arith
 form_size-some (Use m ts f) = omega arith
+form_size-some (Num r t u) = omega arith
 
 -- the arguments of a term as parts
 sizes_of_args : (bank : Nodes) (n : ℕ) (args : List At) → sum_by (term_size_at bank) (map (λ (a : ℕ). let k : Spot = (a, n) in k) (places args)) ≡ sum_by term_size (term_trees bank args)
@@ -174,6 +175,9 @@ form_parts_small bank at n view e v = subst (λ node. ArePartsOf (form_size_at b
     by TopView t h = record { lower = no_parts at; smaller = rw t (omega arith); still_good = λ w q j d l. absurd (omega arith) }
     by OneView t h = record { lower = no_parts at; smaller = rw t (omega arith); still_good = λ w q j d l. absurd (omega arith) }
     by (AtomView a) t h = record { lower = no_parts at; smaller = rw t (omega arith); still_good = λ w q j d l. absurd (omega arith) }
+    by (IsView a b) t h = record { lower = no_parts at; smaller = rw t (omega arith); still_good = λ w q j d l. absurd (omega arith) }
+    by (LessView a b) t h = record { lower = no_parts at; smaller = rw t (omega arith); still_good = λ w q j d l. absurd (omega arith) }
+    by (MostView a b) t h = record { lower = no_parts at; smaller = rw t (omega arith); still_good = λ w q j d l. absurd (omega arith) }
     by (WithView f g) t h = record { lower = two_parts at n f.0 g.0 n h.0 h.1; smaller = let s = ap form_size t in omega arith; still_good = λ w q. two_good bank w at n f.0 g.0 h.0 h.1 q (sym (ap (λ x. form_applies_heads (close_form (opened w.0 n) x)) t) ∙ q.heads) }
     by (TensorView f g) t h = record { lower = two_parts at n f.0 g.0 n h.0 h.1; smaller = let s = ap form_size t in omega arith; still_good = λ w q. two_good bank w at n f.0 g.0 h.0 h.1 q (sym (ap (λ x. form_applies_heads (close_form (opened w.0 n) x)) t) ∙ q.heads) }
     by (PlusView f g) t h = record { lower = two_parts at n f.0 g.0 n h.0 h.1; smaller = let s = ap form_size t in omega arith; still_good = λ w q. two_good bank w at n f.0 g.0 h.0 h.1 q (sym (ap (λ x. form_applies_heads (close_form (opened w.0 n) x)) t) ∙ q.heads) }
@@ -230,6 +234,9 @@ same_node (ExistsView f) (ExistsView h) e = ap ExistsNode (eqb-true f.0 h.0 e)
 same_node (UseView m xs f) (UseView n ys h) e =
     let p = and_parts (eqb m n) (pointwise (λ (a b : At). eqb a.0 b.0) xs.now ys.now && eqb f.0 h.0) e in let q = and_parts (pointwise (λ (a b : At). eqb a.0 b.0) xs.now ys.now) (eqb f.0 h.0) p.1 in
     λ i. UseNode (eqb-true m n p.0 i) (same_places xs.now ys.now q.0 i) (eqb-true f.0 h.0 q.1 i)
+same_node (IsView f g) (IsView h k) e = let p = and_parts (eqb f.0 h.0) (eqb g.0 k.0) e in λ i. NumNode Is (eqb-true f.0 h.0 p.0 i) (eqb-true g.0 k.0 p.1 i)
+same_node (LessView f g) (LessView h k) e = let p = and_parts (eqb f.0 h.0) (eqb g.0 k.0) e in λ i. NumNode Less (eqb-true f.0 h.0 p.0 i) (eqb-true g.0 k.0 p.1 i)
+same_node (MostView f g) (MostView h k) e = let p = and_parts (eqb f.0 h.0) (eqb g.0 k.0) e in λ i. NumNode Most (eqb-true f.0 h.0 p.0 i) (eqb-true g.0 k.0 p.1 i)
 same_node x y e = absurd (true≢false (sym e))
 
 -- so they build one tree

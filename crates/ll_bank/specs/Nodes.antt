@@ -6,9 +6,9 @@ use Rattle.ll_bank.specs.declared.BankSize.{BankSize}
 use Rattle.ll_bank.specs.declared.TermView.{TermView}
 use Rattle.ll_bank.specs.declared.TermView.TheVariants.{Var as VarView, Int as IntView, App as AppView}
 use Rattle.ll_bank.specs.declared.FormNode.{FormNode}
-use Rattle.ll_bank.specs.declared.FormNode.TheVariants.{Top as TopView, One as OneView, Atom as AtomView, With as WithView, Tensor as TensorView, Plus as PlusView, Bang as BangView, Lolli as LolliView, Imp as ImpView, Forall as ForallView, Exists as ExistsView, Use as UseView}
+use Rattle.ll_bank.specs.declared.FormNode.TheVariants.{Top as TopView, One as OneView, Atom as AtomView, With as WithView, Tensor as TensorView, Plus as PlusView, Bang as BangView, Lolli as LolliView, Imp as ImpView, Forall as ForallView, Exists as ExistsView, Use as UseView, Is as IsView, Less as LessView, Most as MostView}
 use Rattle.ll_bank.specs.Term.{Term, Var, Int, app}
-use Rattle.ll_bank.specs.Form.{Form, Top, One, Atom, With, Tensor, Plus, Bang, Lolli, Imp, Forall, Exists, Use}
+use Rattle.ll_bank.specs.Form.{Form, Top, One, Atom, With, Tensor, Plus, Bang, Lolli, Imp, Forall, Exists, Use, Num, Relation, Is, Less, Most}
 
 -- a term's outermost sign: a variable, a whole number, or a head with the places of its arguments
 pub data TermNode : Type 0 where
@@ -30,6 +30,7 @@ pub data FormulaNode : Type 0 where
   ForallNode : ℕ → FormulaNode
   ExistsNode : ℕ → FormulaNode
   UseNode : ℕ → List ℕ → ℕ → FormulaNode
+  NumNode : Relation → ℕ → ℕ → FormulaNode
 
 -- a bank: its nodes of terms and of formulas, each at its place
 pub record Nodes : Type 0 where
@@ -73,6 +74,7 @@ build_form term trees (ImpNode f g) = Imp (form_in trees f) (form_in trees g)
 build_form term trees (ForallNode f) = Forall (form_in trees f)
 build_form term trees (ExistsNode f) = Exists (form_in trees f)
 build_form term trees (UseNode m args f) = Use m (map term args) (form_in trees f)
+build_form term trees (NumNode r t u) = Num r (term t) (term u)
 
 -- the term that a place of the bank shows
 unfoldable pub term_tree : Nodes → ℕ → Term
@@ -130,6 +132,7 @@ IsFormBelow terms at (ImpNode f g) = (f < at) × (g < at)
 IsFormBelow terms at (ForallNode f) = f < at
 IsFormBelow terms at (ExistsNode f) = f < at
 IsFormBelow terms at (UseNode m args f) = All (λ a. a < terms) args × (f < at)
+IsFormBelow terms at (NumNode r t u) = (t < terms) × (u < terms)
 
 -- each node has its parts at lower places
 pub record IsWellFounded (nodes : Nodes) : Type 0 where
@@ -214,6 +217,9 @@ form_of nodes (ImpView f g) = Imp (form_tree nodes f.0) (form_tree nodes g.0)
 form_of nodes (ForallView f) = Forall (form_tree nodes f.0)
 form_of nodes (ExistsView f) = Exists (form_tree nodes f.0)
 form_of nodes (UseView m args f) = Use m (term_trees nodes args.now) (form_tree nodes f.0)
+form_of nodes (IsView t u) = Num Is (term_tree nodes t.0) (term_tree nodes u.0)
+form_of nodes (LessView t u) = Num Less (term_tree nodes t.0) (term_tree nodes u.0)
+form_of nodes (MostView t u) = Num Most (term_tree nodes t.0) (term_tree nodes u.0)
 
 -- places as numbers
 abbrev pub places : List At → List ℕ
@@ -239,6 +245,9 @@ node_of (ImpView f g) = ImpNode f.0 g.0
 node_of (ForallView f) = ForallNode f.0
 node_of (ExistsView f) = ExistsNode f.0
 node_of (UseView m args f) = UseNode m (places args.now) f.0
+node_of (IsView t u) = NumNode Is t.0 u.0
+node_of (LessView t u) = NumNode Less t.0 u.0
+node_of (MostView t u) = NumNode Most t.0 u.0
 
 -- the parts of a sign lie below these numbers of terms and of formulas
 abbrev pub HasPartsBelow : ℕ → ℕ → FormNode → Type 0
@@ -254,6 +263,9 @@ HasPartsBelow terms forms (ImpView f g) = (f.0 < forms) × (g.0 < forms)
 HasPartsBelow terms forms (ForallView f) = f.0 < forms
 HasPartsBelow terms forms (ExistsView f) = f.0 < forms
 HasPartsBelow terms forms (UseView m args f) = All (λ a. a.0 < terms) args.now × (f.0 < forms)
+HasPartsBelow terms forms (IsView t u) = (t.0 < terms) × (u.0 < terms)
+HasPartsBelow terms forms (LessView t u) = (t.0 < terms) × (u.0 < terms)
+HasPartsBelow terms forms (MostView t u) = (t.0 < terms) × (u.0 < terms)
 
 -- the parts of a sign are places of the bank
 abbrev pub HasParts : Nodes → FormNode → Type 0

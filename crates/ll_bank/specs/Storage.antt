@@ -3,13 +3,14 @@ use Rattle.std.specs.Prelude.{◌≡◌, ℕ, ◌+◌, ◌≤◌, List, [], ◌�
 use Rattle.std.specs.Int.{w64}
 use Rattle.ll_bank.specs.declared.At.{At}
 use Rattle.ll_bank.specs.declared.FormNode.{FormNode}
-use Rattle.ll_bank.specs.declared.FormNode.TheVariants.{Top as TopView, One as OneView, Atom as AtomView, With as WithView, Tensor as TensorView, Plus as PlusView, Bang as BangView, Lolli as LolliView, Imp as ImpView, Forall as ForallView, Exists as ExistsView, Use as UseView}
+use Rattle.ll_bank.specs.declared.FormNode.TheVariants.{Top as TopView, One as OneView, Atom as AtomView, With as WithView, Tensor as TensorView, Plus as PlusView, Bang as BangView, Lolli as LolliView, Imp as ImpView, Forall as ForallView, Exists as ExistsView, Use as UseView, Is as IsView, Less as LessView, Most as MostView}
 use Rattle.ll_bank.specs.declared.flat.Span.{Span}
 use Rattle.ll_bank.specs.declared.flat.StoredTerm.{StoredTerm}
 use Rattle.ll_bank.specs.declared.flat.StoredTerm.TheVariants.{Var as StoredVar, Int as StoredInt, App as StoredApp}
 use Rattle.ll_bank.specs.declared.flat.StoredForm.{StoredForm}
-use Rattle.ll_bank.specs.declared.flat.StoredForm.TheVariants.{Top as StoredTop, One as StoredOne, Atom as StoredAtom, With as StoredWith, Tensor as StoredTensor, Plus as StoredPlus, Bang as StoredBang, Lolli as StoredLolli, Imp as StoredImp, Forall as StoredForall, Exists as StoredExists, Use as StoredUse}
-use Rattle.ll_bank.specs.Nodes.{Nodes, TermNode, VarNode, IntNode, AppNode, FormulaNode, TopNode, OneNode, AtomNode, WithNode, TensorNode, PlusNode, BangNode, LolliNode, ImpNode, ForallNode, ExistsNode, UseNode, places}
+use Rattle.ll_bank.specs.declared.flat.StoredForm.TheVariants.{Top as StoredTop, One as StoredOne, Atom as StoredAtom, With as StoredWith, Tensor as StoredTensor, Plus as StoredPlus, Bang as StoredBang, Lolli as StoredLolli, Imp as StoredImp, Forall as StoredForall, Exists as StoredExists, Use as StoredUse, Is as StoredIs, Less as StoredLess, Most as StoredMost}
+use Rattle.ll_bank.specs.Nodes.{Nodes, TermNode, VarNode, IntNode, AppNode, FormulaNode, TopNode, OneNode, AtomNode, WithNode, TensorNode, PlusNode, BangNode, LolliNode, ImpNode, ForallNode, ExistsNode, UseNode, NumNode, places}
+use Rattle.ll_bank.specs.Form.{Is, Less, Most}
 
 -- the children of a span
 abbrev pub children_of : List At → Span → List At
@@ -35,6 +36,9 @@ form_node children (StoredImp f g) = ImpNode f.0 g.0
 form_node children (StoredForall f) = ForallNode f.0
 form_node children (StoredExists f) = ExistsNode f.0
 form_node children (StoredUse m args f) = UseNode m (places (children_of children args)) f.0
+form_node children (StoredIs t u) = NumNode Is t.0 u.0
+form_node children (StoredLess t u) = NumNode Less t.0 u.0
+form_node children (StoredMost t u) = NumNode Most t.0 u.0
 
 -- all nodes that are stored
 abbrev pub nodes_of : List At → List At → List StoredTerm → List StoredForm → Nodes
@@ -58,6 +62,9 @@ stored_as from (ImpView f g) = StoredImp f g
 stored_as from (ForallView f) = StoredForall f
 stored_as from (ExistsView f) = StoredExists f
 stored_as from (UseView m args f) = StoredUse m (span_from from (length args.now)) f
+stored_as from (IsView t u) = StoredIs t u
+stored_as from (LessView t u) = StoredLess t u
+stored_as from (MostView t u) = StoredMost t u
 
 -- the arguments of a load; other formulas have none
 abbrev pub load_arguments_of : FormNode → List At

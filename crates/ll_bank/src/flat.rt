@@ -38,6 +38,9 @@ enum StoredForm {
     Forall(FormAt),
     Exists(FormAt),
     Use(u32, Span, FormAt),
+    Is(At, At),
+    Less(At, At),
+    Most(At, At),
 }
 
 /// Nodes of terms and formulas, each at its place. Contracts see their lists.
@@ -251,6 +254,9 @@ fn stored_form(arguments: &mut Vec<At>, node: FormNode<'_>) -> Result<StoredForm
             let to = arguments.len();
             Ok(StoredForm::Use(module, Span { from, to }, goal))
         }
+        FormNode::Is(left, right) => Ok(StoredForm::Is(left, right)),
+        FormNode::Less(left, right) => Ok(StoredForm::Less(left, right)),
+        FormNode::Most(left, right) => Ok(StoredForm::Most(left, right)),
     }
 }
 
@@ -286,5 +292,8 @@ fn shown_form(children: &[At], form: StoredForm) -> FormNode<'_>
         StoredForm::Use(module, args, goal) => {
             FormNode::Use(module, &children[args.from..args.to], goal)
         }
+        StoredForm::Is(left, right) => FormNode::Is(left, right),
+        StoredForm::Less(left, right) => FormNode::Less(left, right),
+        StoredForm::Most(left, right) => FormNode::Most(left, right),
     }
 }

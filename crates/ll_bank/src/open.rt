@@ -89,6 +89,9 @@ fn push_form(bank: &Bank, task: Task, tasks: &mut Vec<Task>) -> Result<(), OutOf
         FormNode::Forall(f) => push_one(f, level + 1, tasks),
         FormNode::Exists(f) => push_one(f, level + 1, tasks),
         FormNode::Use(_, _, f) => push_one(f, level, tasks),
+        FormNode::Is(_, _) => Ok(()),
+        FormNode::Less(_, _) => Ok(()),
+        FormNode::Most(_, _) => Ok(()),
     }
 }
 
@@ -181,6 +184,18 @@ fn opened_form(
                 FormNode::Use(module, &args, form_image(forms, f, level)),
             )
         }
+        FormNode::Is(left, right) => {
+            let (left, right) = open_two(bank, left, right, level, value, terms)?;
+            share_form(bank, at, FormNode::Is(left, right))
+        }
+        FormNode::Less(left, right) => {
+            let (left, right) = open_two(bank, left, right, level, value, terms)?;
+            share_form(bank, at, FormNode::Less(left, right))
+        }
+        FormNode::Most(left, right) => {
+            let (left, right) = open_two(bank, left, right, level, value, terms)?;
+            share_form(bank, at, FormNode::Most(left, right))
+        }
     }
 }
 
@@ -204,6 +219,31 @@ fn share_form(bank: &mut Bank, at: FormAt, node: FormNode<'_>) -> Result<FormAt,
     } else {
         bank.form(node)
     }
+}
+
+/// The images of two terms at a level.
+fn open_two(
+    bank: &mut Bank,
+    left: At,
+    right: At,
+    level: usize,
+    value: At,
+    images: &mut TermImages,
+) -> Result<(At, At), OutOfMemory>
+    requires left { HasTerm bank.old left.0 }
+    requires right { HasTerm bank.old right.0 }
+    requires value { HasTerm bank.old value.0 }
+    requires left_heads { applies_heads (close (opened (term_tree bank.old value.0) level) (term_tree bank.old left.0)) ≡ true }
+    requires right_heads { applies_heads (close (opened (term_tree bank.old value.0) level) (term_tree bank.old right.0)) ≡ true }
+    requires images { AreImages (IsTermImage bank.old (term_tree bank.old value.0)) (get by_spot images.old) }
+    ensures left { IfOk result (λ made. ShowsImage bank.old bank.new (term_tree bank.old value.0) (left.0, level) made.0) }
+    ensures right { IfOk result (λ made. ShowsImage bank.old bank.new (term_tree bank.old value.0) (right.0, level) made.1) }
+    ensures images { OnOk result (AreImages (IsTermImage bank.new (term_tree bank.old value.0)) (get by_spot images.new)) }
+    ensures keeps { Extends bank.old bank.new }
+{
+    let first = open_term(bank, left, level, value, images)?;
+    let second = open_term(bank, right, level, value, images)?;
+    Ok((first, second))
 }
 
 /// The images of terms at a level.

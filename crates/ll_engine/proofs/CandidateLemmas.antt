@@ -7,7 +7,7 @@ use Rattle.ll_bank.specs.declared.At.{At}
 use Rattle.ll_bank.specs.declared.FormAt.{FormAt}
 use Rattle.ll_bank.specs.declared.Head.{Head}
 use Rattle.ll_bank.specs.declared.FormNode.{FormNode}
-use Rattle.ll_bank.specs.declared.FormNode.TheVariants.{Top as TopView, One as OneView, Atom as AtomView, With as WithView, Tensor as TensorView, Plus as PlusView, Bang as BangView, Lolli as LolliView, Imp as ImpView, Forall as ForallView, Exists as ExistsView, Use as UseView}
+use Rattle.ll_bank.specs.declared.FormNode.TheVariants.{Top as TopView, One as OneView, Atom as AtomView, With as WithView, Tensor as TensorView, Plus as PlusView, Bang as BangView, Lolli as LolliView, Imp as ImpView, Forall as ForallView, Exists as ExistsView, Use as UseView, Is as IsView, Less as LessView, Most as MostView}
 use Rattle.ll_bank.specs.Term.{Term, Con, Ap, sub, app, apply, head_of, arity}
 use Rattle.ll_bank.specs.Form.{sub_form}
 use Rattle.ll_bank.specs.Nodes.{Nodes, term_tree, term_trees, form_tree, form_of}
@@ -125,6 +125,9 @@ no_heads bank s (ImpView x y) a w l i f = absurd (i x y refl)
 no_heads bank s (ForallView x) a w l i f = absurd (f x refl)
 no_heads bank s (ExistsView x) a w l i f = refl
 no_heads bank s (UseView m ts x) a w l i f = refl
+no_heads bank s (IsView x y) a w l i f = refl
+no_heads bank s (LessView x y) a w l i f = refl
+no_heads bank s (MostView x y) a w l i f = refl
 
 -- without its last one, each of a list is as before
 pub All-front : {A : Type 0} (P : A → Type 0) (xs : List A) (x : A) → All P (xs ++ x ∷ []) → All P xs

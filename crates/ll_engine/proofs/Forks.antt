@@ -1,7 +1,7 @@
 -- The forks of a branch are counted by the path to it.
 use Rattle.std.proofs.Common.{◌≡◌, ℕ, ◌+◌, refl, ap, sym, ◌∙◌, subst, Bool, true, false, List, [], ◌∷◌, ◌++◌, append_assoc, arith, length, drop}
 use Rattle.std.proofs.lemmas.List.Folds.{list_any-append}
-use Rattle.std.specs.Prelude.{Option, Some, None, option_map, option_and_then, slice_get, ◌||◌, ◌&&◌, nat_eq}
+use Rattle.std.specs.Prelude.{Option, Some, None, option_map, option_and_then, slice_get, ◌||◌, ◌&&◌, nat_eq, ℤ, if◌then◌else◌}
 use Rattle.std.specs.List.{list_any}
 use Rattle.std.proofs.Math.Seq.{drop-append_seam}
 use Rattle.std.proofs.lemmas.Bool.{eq-eqb, eqb-true}
@@ -9,12 +9,13 @@ use Rattle.ll_laws.specs.declared.Candidate.{Candidate}
 use Rattle.ll_laws.specs.declared.Step.{Step}
 use Rattle.ll_laws.specs.declared.Step.TheVariants.{Plain, Left, Right, Clause as ClauseStep}
 use Rattle.ll_bank.specs.Term.{Term}
-use Rattle.ll_bank.specs.Form.{Form, Top, One, Atom, With, Tensor, Plus, Bang, Lolli, Imp, Forall, Exists, Use}
+use Rattle.ll_bank.specs.Form.{Form, Top, One, Atom, With, Tensor, Plus, Bang, Lolli, Imp, Forall, Exists, Use, Num, Is, Less, Most}
 use Rattle.ll_laws.specs.Leaf.{ways, leaf}
 use Rattle.ll_laws.specs.Module.{Setting, ModuleTree}
 use Rattle.ll_laws.specs.Settle.{Item, Goal, Front, settle_front}
 use Rattle.ll_laws.specs.State.{State, settle, front_of, with_front}
-use Rattle.ll_laws.specs.Attempt.{tries, agenda_tries, attempt, attempt_agenda, attempt_goal, goal_tries, take_entry, take_way, take_leaf, load_module, stepped, entry_at, vars_from}
+use Rattle.ll_laws.specs.Attempt.{tries, agenda_tries, attempt, attempt_agenda, attempt_goal, goal_tries, take_entry, take_way, take_leaf, load_module, take_value, stepped, entry_at, vars_from}
+use Rattle.ll_laws.specs.Number.{value_of, holds}
 use Rattle.ll_laws.specs.Search.{forks, forks_settled, forks_after, count_fork, gives_some, later, same_candidate, candidate_of}
 use Rattle.ll_engine.specs.Owed.{Thins, thin_keep, thin_skip}
 use Rattle.ll_engine.specs.Healthy.{Distinct, Path, here, next}
@@ -127,6 +128,18 @@ by_module : (s u : State) (rest : List (Item Form)) (ts : List Term) (g : Form) 
 by_module s u rest ts g None c k e = cc
 by_module s u rest ts g (Some m) c k e = by_plain s u (stepped s _ Plain) c e refl k
 
+-- an `is`, by the value of its right side
+by_value : (s u : State) (t : Term) (rest : List (Item Form)) (v : Option ℤ) (c : Candidate) → candidate_of Plain ≡ c
+    → take_value s t rest v ≡ Some u → Stepped s u c
+by_value s u t rest None c k e = cc
+by_value s u t rest (Some z) c k e = map_some (λ u. Stepped s u c) _ _ u e (λ v e1. record { step = Plain; steps = sym (ap (λ x. x.steps) e1); is = k })
+
+-- a test of two values
+by_test : (s u : State) (rest : List (Item Form)) (b : Bool) (c : Candidate) → candidate_of Plain ≡ c
+    → (if b then Some (stepped s rest Plain) else None) ≡ Some u → Stepped s u c
+by_test s u rest true c k e = by_side s u rest Plain e k
+by_test s u rest false c k e = cc
+
 goal_step : (beside : Setting) (s : State) (g : Form) (rest : List (Item Form)) (c : Candidate) (u : State) (pre post : List Candidate)
     → goal_tries s.context g ≡ pre ++ c ∷ post → attempt_goal beside s g rest c ≡ Some u → Stepped s u c
 goal_step beside s One rest c u pre post h e = by_plain s u _ c e refl (the_only pre post _ c h)
@@ -139,6 +152,9 @@ goal_step beside s (Imp f g) rest c u pre post h e = by_plain s u _ c e refl (th
 goal_step beside s (Forall f) rest c u pre post h e = by_plain s u _ c e refl (the_only pre post _ c h)
 goal_step beside s (Exists f) rest c u pre post h e = by_plain s u _ c e refl (the_only pre post _ c h)
 goal_step beside s (Use m ts g) rest c u pre post h e = by_module s u rest ts g (slice_get beside.modules m) c (the_only pre post _ c h) e
+goal_step beside s (Num Is t x) rest c u pre post h e = by_value s u t rest (value_of beside.operators x) c (the_only pre post _ c h) e
+goal_step beside s (Num Less t x) rest c u pre post h e = by_test s u rest (holds beside.operators Less t x) c (the_only pre post _ c h) e
+goal_step beside s (Num Most t x) rest c u pre post h e = by_test s u rest (holds beside.operators Most t x) c (the_only pre post _ c h) e
 goal_step beside s (Plus f g) rest c u [] post h e =
     let e1 : record { label = 0; leaf = 0 } ≡ c = cc in
     let P : Candidate → Type 0 = λ c. attempt_goal beside s (Plus f g) rest c ≡ Some u → Stepped s u c in subst P e1 (λ e. by_side s u _ Left e refl) e

@@ -4,7 +4,7 @@ use Rattle.std.proofs.lemmas.List.Elements.{All-head, All-tail}
 use Rattle.ll_bank.specs.declared.At.{At}
 use Rattle.ll_bank.specs.declared.FormAt.{FormAt}
 use Rattle.ll_bank.specs.Term.{Term, sub}
-use Rattle.ll_bank.specs.Form.{Form, Top, One, Atom, With, Tensor, Plus, Bang, Lolli, Imp, Forall, Exists, Use, sub_form}
+use Rattle.ll_bank.specs.Form.{Form, Top, One, Atom, With, Tensor, Plus, Bang, Lolli, Imp, Forall, Exists, Use, Num, sub_form}
 use Rattle.ll_bank.specs.Nodes.{Nodes, HasTerm, HasForm, AllInTerms, Extends, term_tree, form_tree}
 use Rattle.ll_bank.proofs.Trees.{term_tree-extends, form_tree-extends}
 use Rattle.ll_laws.specs.Settle.{Saved, Entry}
@@ -30,6 +30,7 @@ form_same f g h (Imp a b) = λ i. Imp (form_same f g h a i) (form_same f g h b i
 form_same f g h (Forall a) = ap Forall (form_same f g h a)
 form_same f g h (Exists a) = ap Exists (form_same f g h a)
 form_same f g h (Use m ts a) = λ i. Use m (map_same (sub f) (sub g) (sub_same f g h) ts i) (form_same f g h a i)
+form_same f g h (Num r t u) = λ i. Num r (sub_same f g h t i) (sub_same f g h u i)
 
 module _ (old new : Nodes) (before after : List (Option At)) (v : ℕ → Term) (keeps : Extends old new) (reads : (x : ℕ) → reading new after x ≡ sub v (reading old before x)) where
   pub term_later : (at : At) → HasTerm old at.0 → read_term new after at ≡ sub v (read_term old before at)

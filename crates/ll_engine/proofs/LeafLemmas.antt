@@ -7,7 +7,7 @@ use Rattle.std.proofs.Math.ListN.{get_or-append}
 use Rattle.ll_bank.specs.declared.Head.{Head}
 use Rattle.ll_bank.specs.declared.Head.TheVariants.{Name, Eigen, Bound}
 use Rattle.ll_bank.specs.Term.{Term, Var, Int, Con, Ap, Env, place, close, head_of, arity, head_eq, same_head, not_bound}
-use Rattle.ll_bank.specs.Form.{Form, Top, One, Atom, With, Tensor, Plus, Bang, Lolli, Imp, Forall, Exists, Use, close_form}
+use Rattle.ll_bank.specs.Form.{Form, Top, One, Atom, With, Tensor, Plus, Bang, Lolli, Imp, Forall, Exists, Use, Num, close_form}
 use Rattle.ll_laws.specs.declared.Candidate.{Candidate}
 use Rattle.ll_laws.specs.Leaf.{Leaf, Premise, Needs, NeedsFree, add_premise, ways, leaf_from}
 use Rattle.ll_laws.specs.Settle.{Entry}
@@ -78,6 +78,7 @@ heads_ways (Plus q r) = refl
 heads_ways (Bang r) = refl
 heads_ways (Exists r) = refl
 heads_ways (Use m ts r) = refl
+heads_ways (Num r t u) = refl
 
 -- ---- predicates under variables in place of bound places
 
@@ -191,6 +192,7 @@ module _ (p : Predicate) (a : Term) (is : HasPredicate p a) where
   leaf_fits e (Bang r) k ts v w h = cc
   leaf_fits e (Exists r) k ts v w h = cc
   leaf_fits e (Use m us r) k ts v w h = cc
+  leaf_fits e (Num r t u) k ts v w h = cc
 
   -- so the candidates among the leaves are those with the predicate
   tries_by : (e : Entry Form) (k : ℕ) (ws : List ℕ) (hs : List Term) → length hs ≡ length ws

@@ -3,7 +3,7 @@ use Rattle.std.proofs.Common.{◌≡◌, ℕ, zero, suc, ◌+◌, ◌-◌, List,
 use Rattle.std.specs.Prelude.{if◌then◌else◌, nat_lt, option_map}
 use Rattle.ll_bank.specs.declared.Head.TheVariants.{Name, Eigen, Bound}
 use Rattle.ll_bank.specs.Term.{Term, Var, Int, Con, Ap, Env, place, close, is_closed}
-use Rattle.ll_bank.specs.Form.{Form, Top, One, Atom, With, Tensor, Plus, Bang, Lolli, Imp, Forall, Exists, Use, close_form, instantiate}
+use Rattle.ll_bank.specs.Form.{Form, Top, One, Atom, With, Tensor, Plus, Bang, Lolli, Imp, Forall, Exists, Use, Num, close_form, instantiate}
 use Rattle.ll_laws.specs.Leaf.{Leaf, Needs, NeedsFree, add_premise, ways, leaf, leaf_from}
 use Rattle.ll_laws.proofs.SubLaws.{close_closed, map_map, map_same}
 use Rattle.std.proofs.lemmas.List.Sums.{sum_by-append}
@@ -52,6 +52,7 @@ module _ (t : Term) (closed : is_closed t ≡ true) where
   close_form_first e (Exists f) = ap Exists (close_form_first (None ∷ e) f)
   close_form_first e (Use m ts f) =
       let q = map_map (close e) (close (with_last (nones (length e)))) ts ∙ map_same _ _ (close_first e) ts in λ i. Use m (q i) (close_form_first e f i)
+  close_form_first e (Num r t u) = λ i. Num r (close_first e t i) (close_first e u i)
 
   pub ways_close : (e : Env) (r : Form) → ways (close_form e r) ≡ ways r
   ways_close e (Atom a) = refl
@@ -66,6 +67,7 @@ module _ (t : Term) (closed : is_closed t ≡ true) where
   ways_close e (Bang r) = refl
   ways_close e (Exists r) = refl
   ways_close e (Use m ts r) = refl
+  ways_close e (Num r t u) = refl
 
   -- a leaf of a clause whose outermost quantifier was opened first
   leaf_first : (e : Env) (r : Form) (k : ℕ) (ts : List Term) → leaf_from e (close_form (with_last (nones (length e))) r) k ts ≡ leaf_from (with_last e) r k ts
@@ -90,6 +92,7 @@ module _ (t : Term) (closed : is_closed t ≡ true) where
   leaf_first e (Bang r) k ts = refl
   leaf_first e (Exists r) k ts = refl
   leaf_first e (Use m us r) k ts = refl
+  leaf_first e (Num r t u) k ts = refl
 
   -- the outermost quantifier opened
   pub leaf_open : (r : Form) (k : ℕ) (ts : List Term) → leaf (Forall r) k (t ∷ ts) ≡ leaf (instantiate r t) k ts
@@ -129,6 +132,7 @@ close_form_none j (Imp f g) = λ i. Imp (close_form_none j f i) (close_form_none
 close_form_none j (Forall f) = ap Forall (close_form_none (suc j) f)
 close_form_none j (Exists f) = ap Exists (close_form_none (suc j) f)
 close_form_none j (Use m ts f) = λ i. Use m (close_all_none j ts i) (close_form_none j f i)
+close_form_none j (Num r t u) = λ i. Num r (close_none j t i) (close_none j u i)
 
 -- a premise as it stands
 pub leaf_lolli : (g r : Form) (k : ℕ) (ts : List Term) → leaf (Lolli g r) k ts ≡ option_map (add_premise (Needs g)) (leaf r k ts)
@@ -155,6 +159,7 @@ walk_close e (Plus q r) = refl
 walk_close e (Bang r) = refl
 walk_close e (Exists r) = refl
 walk_close e (Use m ts r) = refl
+walk_close e (Num r t u) = refl
 
 -- ---- counting
 

@@ -9,7 +9,7 @@ use Rattle.ll_bank.specs.declared.At.{At}
 use Rattle.ll_bank.specs.declared.FormAt.{FormAt}
 use Rattle.ll_bank.specs.declared.Head.TheVariants.{Eigen}
 use Rattle.ll_bank.specs.Term.{Term, Var, Int, Con, Ap, sub, is_spine, is_closed, applies_heads}
-use Rattle.ll_bank.specs.Form.{Form, Top, One, Atom, With, Tensor, Plus, Bang, Lolli, Imp, Forall, Exists, Use, sub_form, instantiate, form_applies_heads}
+use Rattle.ll_bank.specs.Form.{Form, Top, One, Atom, With, Tensor, Plus, Bang, Lolli, Imp, Forall, Exists, Use, Num, Relation, sub_form, instantiate, form_applies_heads}
 use Rattle.ll_bank.specs.Nodes.{Nodes, HasTerm, HasForm, AllInTerms, Extends, ShowsTerm, ShowsForm, term_tree, term_trees, form_tree}
 use Rattle.ll_bank.proofs.Trees.{HasTerm-extends, HasForm-extends, term_tree-extends, form_tree-extends, AllInTerms-extends, term_trees-extends}
 use Rattle.ll_laws.specs.declared.Candidate.{Candidate}
@@ -71,6 +71,7 @@ fits_apply may side scope (Imp f g) h = and_intro (form_applies_heads f) (form_a
 fits_apply may side scope (Forall f) h = fits_apply may side _ f h
 fits_apply may side scope (Exists f) h = fits_apply may side _ f h.1
 fits_apply may side scope (Use m ts f) h = and_intro (list_all applies_heads ts) (form_applies_heads f) (all_apply may scope ts h.2) (fits_apply may side scope f h.3)
+fits_apply may side scope (Num r t u) h = and_intro (applies_heads t) (applies_heads u) (fit_applies may scope t h.1) (fit_applies may scope u h.2)
 
 -- ---- what stands for a variable is closed
 
@@ -447,6 +448,11 @@ value_shown second third value t k v = record { inside = HasTerm-extends k value
 
 pub not_empty : (m : Machine) → is_empty (state_of m).agenda ≡ false → items_of m ≡ [] → ⊥
 not_empty m h e = let x : true ≡ false = sym (ap (λ xs. is_empty xs) (agenda_shown m [] e)) ∙ h in absurd (cc (x))
+
+-- no whole-number goal is in front, since none stands in a valid problem
+pub no_number : (m : Machine) (g : FormAt) (rest : List Item) (r : Relation) (t u : Term) → Fits m
+    → items_of m ≡ Goal g ∷ rest → form_tree m.bank g.0 ≡ Num r t u → ⊥
+no_number m g rest r t u f e1 e2 = (goal_fits m g rest (Num r t u) f e1 e2).0
 
 -- an end in front has no candidate
 pub no_candidate : (m : Machine) (i : Item) (rest : List Item) (c : Candidate) → Contains (tries (state_of m)) c → items_of m ≡ i ∷ rest → ((g : FormAt) → i ≡ Goal g → ⊥) → ⊥

@@ -6,7 +6,7 @@ use Rattle.std.specs.Prelude.{Option, None}
 use Rattle.ll_bank.specs.declared.At.{At}
 use Rattle.ll_bank.specs.declared.FormAt.{FormAt}
 use Rattle.ll_bank.specs.Term.{Term, Var, sub}
-use Rattle.ll_bank.specs.Form.{Form, Top, One, Atom, With, Tensor, Plus, Bang, Lolli, Imp, Forall, Exists, Use, sub_form}
+use Rattle.ll_bank.specs.Form.{Form, Top, One, Atom, With, Tensor, Plus, Bang, Lolli, Imp, Forall, Exists, Use, Num, sub_form}
 use Rattle.ll_bank.specs.Nodes.{Nodes, HasTerm, HasForm, AllInTerms, Extends, ShowsTerm, term_tree, term_trees, form_tree}
 use Rattle.ll_bank.proofs.Trees.{HasForm-extends, form_tree-extends, AllInTerms-extends, term_trees-extends}
 use Rattle.ll_laws.specs.declared.Clause.{Clause}
@@ -81,6 +81,7 @@ form_id (Lolli f g) = λ i. Lolli (form_id f i) (form_id g i)
 form_id (Imp f g) = λ i. Imp (form_id f i) (form_id g i)
 form_id (Forall f) = ap Forall (form_id f)
 form_id (Exists f) = ap Exists (form_id f)
+form_id (Num r t u) = λ i. Num r (sub_id t i) (sub_id u i)
 form_id (Use m ts f) = λ i. Use m (terms_id ts i) (form_id f i)
   where
     terms_id : (us : List Term) → map (sub Var) us ≡ us

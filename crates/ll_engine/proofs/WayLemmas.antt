@@ -8,7 +8,7 @@ use Rattle.std.proofs.lemmas.List.Elements.{All-cons, All-push}
 use Rattle.ll_bank.specs.declared.At.{At}
 use Rattle.ll_bank.specs.declared.FormAt.{FormAt}
 use Rattle.ll_bank.specs.Term.{Term, Var, Int, Con, Ap, applies_heads, is_spine, head_of}
-use Rattle.ll_bank.specs.Form.{Form, Top, One, Atom, With, Tensor, Plus, Bang, Lolli, Imp, Forall, Exists, Use, instantiate, form_applies_heads}
+use Rattle.ll_bank.specs.Form.{Form, Top, One, Atom, With, Tensor, Plus, Bang, Lolli, Imp, Forall, Exists, Use, Num, instantiate, form_applies_heads}
 use Rattle.ll_bank.specs.Nodes.{Nodes, HasTerm, HasForm, AllInTerms, Extends, term_tree, term_trees, form_tree}
 use Rattle.ll_bank.proofs.Trees.{HasForm-extends, form_tree-extends, AllInTerms-extends, term_trees-extends, Extends-refl, Extends-trans}
 use Rattle.ll_laws.specs.Leaf.{Leaf, Premise, add_premise, premise_goal, ways, leaf}
@@ -91,6 +91,9 @@ heads_apply o ClauseSide scope (Forall f) h = heads_apply o ClauseSide (false �
 heads_apply o side scope (Exists f) h = heads_apply o side (false ∷ scope) f h
 heads_apply o side scope (Use m ts f) h =
     and_intro (list_all applies_heads ts) (form_applies_heads f) (all_headed scope ts (and_left (list_all (is_headed scope) ts) (has_heads o side scope f) h)) (heads_apply o side scope f (and_right (list_all (is_headed scope) ts) (has_heads o side scope f) h))
+heads_apply o side scope (Num r t u) h =
+    and_intro (applies_heads t) (applies_heads u) (headed_applies scope t (and_left (is_headed scope t) (is_headed scope u) h))
+    (headed_applies scope u (and_right (is_headed scope t) (is_headed scope u) h))
 
 pub clause_applies : (f : Form) → IsClause f → form_applies_heads f ≡ true
 clause_applies f c = heads_apply c.0.opens ClauseSide [] f c.1.heads

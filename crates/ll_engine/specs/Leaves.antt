@@ -2,7 +2,7 @@
 use Rattle.std.specs.Prelude.{◌≡◌, ℕ, suc, ◌+◌, sum_by, length, Bool, ◌&&◌, nat_eq, List, [], ◌∷◌, ◌++◌, Option, Some, None, if◌then◌else◌}
 use Rattle.ll_bank.specs.declared.FormAt.{FormAt}
 use Rattle.ll_bank.specs.Term.{Term, head_of, arity, same_head}
-use Rattle.ll_bank.specs.Form.{Form, Top, One, Atom, With, Tensor, Plus, Bang, Lolli, Imp, Forall, Exists, Use}
+use Rattle.ll_bank.specs.Form.{Form, Top, One, Atom, With, Tensor, Plus, Bang, Lolli, Imp, Forall, Exists, Use, Num}
 use Rattle.ll_bank.specs.Nodes.{Nodes, form_tree}
 use Rattle.ll_bank.specs.declared.At.{At}
 use Rattle.ll_laws.specs.declared.Candidate.{Candidate}
@@ -35,6 +35,7 @@ heads (Imp g r) = heads r
 heads (Forall r) = heads r
 heads (Exists f) = []
 heads (Use m ts f) = []
+heads (Num r t u) = []
 
 -- the leaves from leaf k on whose heads have the predicate
 abbrev pub head_tries : Predicate → ℕ → ℕ → List Term → List Candidate

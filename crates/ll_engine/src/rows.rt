@@ -104,6 +104,10 @@ impl<'p> Machine<'p> {
                 let done = self.take_leaf(alloc, atom, rest, candidate)?;
                 Ok(done)
             }
+            // No text has a whole-number goal, so no problem has one.
+            FormNode::Is(_, _) => unreachable!(),
+            FormNode::Less(_, _) => unreachable!(),
+            FormNode::Most(_, _) => unreachable!(),
         }
     }
 

@@ -38,7 +38,7 @@ among [] x (k, l, e) = absurd (omega (arith, l))
 among (y ∷ ys) x (zero, l, e) = inl e
 among (y ∷ ys) x (suc k, l, e) = inr (among ys x (k, omega (arith, l), e))
 
-among_either : {A : Type 0} (x : A) (xs ys : List A) → Among x (xs ++ ys) → Among x xs ⊎ Among x ys
+pub among_either : {A : Type 0} (x : A) (xs ys : List A) → Among x (xs ++ ys) → Among x xs ⊎ Among x ys
 among_either x [] ys h = inr h
 among_either x (z ∷ xs) ys (inl e) = inl (inl e)
 among_either x (z ∷ xs) ys (inr h) = step (among_either x xs ys h)
@@ -111,7 +111,7 @@ settled_comes beside s t a h k c = step _ refl h
 
 -- ---- an answer
 
-live_grounded : (f : ℕ → Term) (es : List (Entry Form)) → has_live (map (sub_entry f) es) ≡ has_live es
+pub live_grounded : (f : ℕ → Term) (es : List (Entry Form)) → has_live (map (sub_entry f) es) ≡ has_live es
 live_grounded f [] = refl
 live_grounded f (e ∷ es) = ap (λ b. e.live || b) (live_grounded f es)
 

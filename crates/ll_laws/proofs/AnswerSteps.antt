@@ -1,17 +1,17 @@
 -- What an answer makes of the variables, inference by inference.
 use Rattle.std.proofs.Common.{◌≡◌, ◌≤◌, ◌<◌, ℕ, zero, suc, ◌+◌, refl, ap, subst, ◌∙◌, Bool, true, false, List, [], ◌∷◌, ◌++◌, map, length, replicate, arith}
-use Rattle.std.specs.Prelude.{◌||◌, nat_lt, nat_le, Option, Some, None, slice_get, slice_index}
+use Rattle.std.specs.Prelude.{◌||◌, nat_lt, nat_le, Option, Some, None, slice_get, slice_index, if◌then◌else◌}
 use Rattle.std.specs.List.{list_any, list_all}
 use Rattle.std.proofs.lemmas.Bool.{eqb-true, eq-eqb, ltb-true, ne_eqb, leb-true}
 use Rattle.std.proofs.Math.ListN.{get_or-append}
 use Rattle.ll_bank.specs.declared.Head.TheVariants.{Name, Eigen, Bound}
 use Rattle.ll_bank.specs.Term.{Term, Var, Int, Con, Ap, sub, is_closed, eigens_below, has_eigen, occurs}
-use Rattle.ll_bank.specs.Form.{Form, Top, One, Atom, With, Tensor, Plus, Bang, Lolli, Imp, Forall, Exists, Use, form_has_eigen}
+use Rattle.ll_bank.specs.Form.{Form, Top, One, Atom, With, Tensor, Plus, Bang, Lolli, Imp, Forall, Exists, Use, form_has_eigen, Num, Is, Less, Most}
 use Rattle.ll_laws.specs.declared.Candidate.{Candidate}
 use Rattle.ll_laws.specs.Module.{Setting, ModuleTree}
 use Rattle.ll_laws.specs.Settle.{Entry, Item, Goal}
 use Rattle.ll_laws.specs.State.{State, sub_entry}
-use Rattle.ll_laws.specs.Attempt.{attempt_goal, take_side, load_module, vars_from}
+use Rattle.ll_laws.specs.Attempt.{attempt_goal, take_side, load_module, vars_from, stepped}
 use Rattle.ll_laws.specs.Unify.{FitsLevel, vars_below}
 use Rattle.ll_laws.specs.Valid.{Allowed, given, AreModules, GoalSide, ClauseSide}
 use Rattle.ll_laws.specs.Consistent.{IsConsistent, AreGoals, AreResources, allowed_in}
@@ -22,8 +22,10 @@ use Rattle.ll_laws.proofs.ConsistentTerms.{and_intro, grows-refl}
 use Rattle.ll_laws.proofs.ConsistentForms.{Fits, fits_of_formula}
 use Rattle.ll_laws.proofs.ConsistentSteps.{module-fits}
 use Rattle.ll_laws.proofs.Leftovers.{or_split}
-use Rattle.ll_laws.proofs.Grounding.{Avoids, form_avoids, unfold_sub}
+use Rattle.ll_laws.proofs.Grounding.{or_none, Avoids, form_avoids, unfold_sub}
 use Rattle.ll_laws.proofs.Projected.{Ready, IsPlain}
+use Rattle.ll_laws.specs.Number.{holds}
+use Rattle.ll_laws.specs.declared.Step.TheVariants.{Plain}
 
 -- ---- levels
 
@@ -44,7 +46,7 @@ level_up_to e (l ∷ levels) (suc x) h = level_up_to e levels x (and_right (nat_
 
 -- ---- eigenconstants
 
-eigens_none : (k : ℕ) (t : Term) → eigens_below k t ≡ true → has_eigen k t ≡ false
+pub eigens_none : (k : ℕ) (t : Term) → eigens_below k t ≡ true → has_eigen k t ≡ false
 eigens_none k (Var x) h = refl
 eigens_none k (Int z) h = refl
 eigens_none k (Con (Name n)) h = refl
@@ -71,10 +73,6 @@ sub_below l levels f below (Ap t u) v fit =
     (sub_below l levels f below u (and_right (vars_below (length levels) t) (vars_below (length levels) u) v) (fits-right l t u levels fit))
 
 -- ---- what a run needs of a consistent state
-
-or_none : (a b : Bool) → a ≡ false → b ≡ false → a || b ≡ false
-or_none false b h k = k
-or_none true b h k = h
 
 fresh_label : (n : ℕ) (es : List (Entry Form)) → list_all (λ e. nat_lt e.label n) es ≡ true → IsFresh n es
 fresh_label n [] h = refl
@@ -114,6 +112,10 @@ pub record SameVariables (s u : State) : Type 0 where
 kept : (s x u : State) → Some x ≡ Some u → x.levels ≡ s.levels → x.terms ≡ s.terms → SameVariables s u
 kept s x u h a b = let e : x ≡ u = cc in subst (SameVariables s) e (record { levels = a; terms = b })
 
+tested : (s u : State) (rest : List (Item Form)) (b : Bool) → (if b then Some (stepped s rest Plain) else None) ≡ Some u → SameVariables s u
+tested s u rest true h = kept s _ u h refl refl
+tested s u rest false h = cc
+
 pub same_variables : (beside : Setting) (s u : State) (g : Form) (rest : List (Item Form)) (c : Candidate) → attempt_goal beside s g rest c ≡ Some u → IsPlain g → SameVariables s u
 same_variables beside s u One rest c h p = kept s _ u h refl refl
 same_variables beside s u Top rest c h p = kept s _ u h refl refl
@@ -135,6 +137,9 @@ same_variables beside s u (Use m ts g) rest c h p = step (slice_get beside.modul
     step None h = cc
     step (Some l) h = kept s _ u h refl refl
 same_variables beside s u (Atom a) rest c h p = absurd p
+same_variables beside s u (Num Is a b) rest c h p = absurd p
+same_variables beside s u (Num Less a b) rest c h p = tested s u rest (holds beside.operators Less a b) h
+same_variables beside s u (Num Most a b) rest c h p = tested s u rest (holds beside.operators Most a b) h
 
 -- ---- chosen terms
 

@@ -1,11 +1,11 @@
 -- Each answer of the search of a valid problem is shown by its derivation.
-use Rattle.std.proofs.Common.{◌≡◌, ◌≤◌, ◌<◌, ◌⊎◌, inl, inr, ℕ, zero, suc, refl, ap, sym, subst, ◌∙◌, Bool, true, List, [], ◌∷◌, ◌++◌, map, length, replicate, take, drop, arith, append_assoc, length-append}
-use Rattle.std.specs.Prelude.{◌&&◌, nat_lt, Option, Some, None, slice_get, slice_index, flat_map}
+use Rattle.std.proofs.Common.{◌≡◌, ◌≤◌, ◌<◌, ◌⊎◌, inl, inr, ℕ, zero, suc, refl, ap, sym, subst, ◌∙◌, Bool, true, List, [], ◌∷◌, ◌++◌, map, length, replicate, take, drop, arith, append_assoc, length-append, ℤ}
+use Rattle.std.specs.Prelude.{◌&&◌, nat_lt, Option, Some, None, slice_get, slice_index, flat_map, option_map}
 use Rattle.std.proofs.lemmas.Bool.{lt-ltb, cases_lt}
 use Rattle.std.proofs.lemmas.List.{map-append, length-map}
 use Rattle.std.proofs.Math.Seq.{drop-append_seam, take-append_seam, get_or-append_seam}
-use Rattle.ll_bank.specs.Term.{Term, Var, sub, is_closed, eigens_below}
-use Rattle.ll_bank.specs.Form.{Form, Top, One, Atom, With, Tensor, Plus, Bang, Lolli, Imp, Forall, Exists, Use, sub_form, instantiate}
+use Rattle.ll_bank.specs.Term.{Term, Var, sub, is_closed, eigens_below, Int}
+use Rattle.ll_bank.specs.Form.{Form, Top, One, Atom, With, Tensor, Plus, Bang, Lolli, Imp, Forall, Exists, Use, sub_form, instantiate, Num, Is, Less, Most}
 use Rattle.ll_laws.specs.declared.Candidate.{Candidate}
 use Rattle.ll_laws.specs.declared.Event.TheVariants.{Answer, Reached}
 use Rattle.ll_laws.specs.declared.Step.TheVariants.{Plain}
@@ -15,7 +15,7 @@ use Rattle.ll_laws.specs.Module.{Setting}
 use Rattle.ll_laws.specs.Settle.{Entry, Item, Goal}
 use Rattle.ll_laws.specs.State.{State, settle, sub_item}
 use Rattle.ll_laws.specs.Search.{events, events_settled, events_of}
-use Rattle.ll_laws.specs.Attempt.{attempt, attempt_goal, attempt_agenda, successors, option_to_states, tries, agenda_tries, goal_tries, entry_tries, with_leaf, instantiated, vars_from, stepped, is_open, entry_at}
+use Rattle.ll_laws.specs.Attempt.{attempt, attempt_goal, attempt_agenda, successors, option_to_states, tries, agenda_tries, goal_tries, entry_tries, with_leaf, instantiated, vars_from, stepped, is_open, entry_at, take_value}
 use Rattle.ll_laws.specs.Unify.{Solved, mgu, vars_below, IsUnifier}
 use Rattle.ll_laws.specs.Valid.{AreModules, GoalSide, ClauseSide}
 use Rattle.ll_laws.specs.Consistent.{IsConsistent, AreGoals, allowed_in}
@@ -33,9 +33,10 @@ use Rattle.ll_laws.proofs.ConsistentUnifier.{mgu-goes}
 use Rattle.ll_laws.proofs.ConsistentStates.{length-vars, settles_consistent}
 use Rattle.ll_laws.proofs.ConsistentSteps.{steps_consistent, entry-formula, levels_with, allowed_with, grows_with, vars_with, count_with, all_fit_of_made}
 use Rattle.ll_laws.proofs.Grounding.{grounded, closed_sub}
-use Rattle.ll_laws.proofs.Projected.{IsPlain, Projects, project, project_atom}
+use Rattle.ll_laws.proofs.Projected.{IsPlain, Projects, project, project_atom, project_value}
 use Rattle.ll_laws.proofs.AnswerRuns.{Among, from, Comes, settled_comes, answer_comes, step_comes, open_entry, found_entry, taken_from}
 use Rattle.ll_laws.proofs.AnswerSteps.{old_level, new_level, sub_below, ready, same_variables, may_choose}
+use Rattle.ll_laws.specs.Number.{value_of}
 
 -- ---- inferences that make no variable
 
@@ -154,6 +155,54 @@ atom_comes beside t u a at rest c i s ag m h w =
     let fl = leaf-fits (allowed_with beside t k.count) k.entry.clause c.leaf (vars_from (length t.levels) k.count) k.leaf_of fr (all_fit_of_made (allowed_with beside t k.count) (vars_from (length t.levels) k.count) (vars_with beside t k.count)) k.leaves in
     leaf_comes beside t at rest c.label c.leaf k.count k.entry k.leaf_of k.solved i fa fl k.solves a (subst (λ z. Comes beside z a) (sym k.is) w) s ag k.finds (subst (λ z. is_open z ≡ true) same q.opened) k.way k.leaves
 
+-- ---- `is`
+
+module _ (beside : Setting) (t : State) (left right : Term) (z : ℤ) (rest : List (Item Form)) (v : Solved) (i : IsConsistent beside t) (fl : Fit (allowed_in beside t) [] left)
+    (h : mgu (left ∷ []) (Int z ∷ []) t.levels ≡ Some v) where
+  value_goes : GoesTo (allowed_in beside t) v.subst
+  value_goes = mgu-goes (allowed_in beside t) (left ∷ []) (Int z ∷ []) t.levels v (fl, tt) (tt, tt) h
+
+  value_unifier : IsUnifier (left ∷ []) (Int z ∷ []) t.levels v.subst v.levels
+  value_unifier = found-unifier (left ∷ []) (Int z ∷ []) t.levels v (ap (λ b. b && true) (fit-vars (allowed_in beside t) [] left fl)) refl h
+
+  module _ (a : Answered) (w : Comes beside (instantiated (stepped t rest Plain) v) a) where
+    value_closing : IsClosing (λ x. sub w.values (v.subst x))
+    value_closing x = elim (below_or_not x (length t.levels)) [
+      | inl q ↦ closed_sub w.values w.closing (v.subst x) (and_left _ _ (and_left _ _ (fit-made (allowed_in beside t) (v.subst x) (value_goes x q))))
+      | inr q ↦ subst (λ y. is_closed (sub w.values y) ≡ true) (sym (value_unifier.over x q)) (w.closing x)
+    ]
+
+    value_below : (x : ℕ) → x < length t.levels → eigens_below (slice_index t.levels x) (sub w.values (v.subst x)) ≡ true
+    value_below x q =
+        sub_below (slice_index t.levels x) v.levels w.values w.below (v.subst x)
+        (subst (λ m. vars_below m (v.subst x) ≡ true) (sym value_unifier.count) (fit-vars (allowed_in beside t) [] (v.subst x) (value_goes x (lt-ltb x (length t.levels) q))))
+        (value_unifier.respects x q)
+
+    value_terms : a.terms ≡ map (sub (λ x. sub w.values (v.subst x))) t.terms ++ w.later
+    value_terms = w.terms ∙ ap (λ ts. ts ++ w.later) (map_map (sub w.values) (sub v.subst) t.terms ∙ map_same _ _ (sub_comp w.values v.subst) t.terms)
+
+    value_comes : settle t ≡ Some t → t.agenda ≡ Goal (Num Is left right) ∷ rest → value_of beside.operators right ≡ Some z → Comes beside t a
+    value_comes s ag e =
+        step_comes beside t (instantiated (stepped t rest Plain) v) a (Num Is left right) rest (λ x. sub w.values (v.subst x)) s ag w
+        (project_value w.values v beside a.terms t rest left right z e (same_heads v.subst left (Int z) value_unifier.unifies)) value_closing value_below w.later value_terms
+
+is_comes : (beside : Setting) (t u : State) (a : Answered) (left right : Term) (rest : List (Item Form)) → IsConsistent beside t → settle t ≡ Some t → t.agenda ≡ Goal (Num Is left right) ∷ rest
+    → take_value t left rest (value_of beside.operators right) ≡ Some u → Comes beside u a → Comes beside t a
+is_comes beside t u a left right rest i s ag h w = at_value (value_of beside.operators right) refl h
+  where
+    goals : AreGoals (allowed_in beside t) (Goal (Num Is left right) ∷ rest)
+    goals = subst (AreGoals (allowed_in beside t)) ag i.goals
+
+    at_mgu : (z : ℤ) → value_of beside.operators right ≡ Some z → (o : Option Solved) → mgu (left ∷ []) (Int z ∷ []) t.levels ≡ o → option_map (instantiated (stepped t rest Plain)) o ≡ Some u → Comes beside t a
+    at_mgu z e None q h = cc
+    at_mgu z e (Some v) q h =
+        let x : instantiated (stepped t rest Plain) v ≡ u = cc in
+        value_comes beside t left right z rest v i (fits_of_formula (allowed_in beside t) GoalSide [] (Num Is left right) goals.0).1 q a (subst (λ y. Comes beside y a) (sym x) w) s ag e
+
+    at_value : (o : Option ℤ) → value_of beside.operators right ≡ o → take_value t left rest o ≡ Some u → Comes beside t a
+    at_value None e h = cc
+    at_value (Some z) e h = at_mgu z e (mgu (left ∷ []) (Int z ∷ []) t.levels) refl h
+
 -- ---- any inference
 
 goal_comes : (names : ℕ) (beside : Setting) (t u : State) (a : Answered) (g : Form) (rest : List (Item Form)) (c : Candidate) → AreModules names beside.modules beside.modules → IsConsistent beside t
@@ -170,6 +219,9 @@ goal_comes names beside t u a (Imp f g) rest c v i s e m h w = plain_comes names
 goal_comes names beside t u a (Forall f) rest c v i s e m h w = plain_comes names beside t u a (Forall f) rest c v i s e h tt w
 goal_comes names beside t u a (Exists f) rest c v i s e m h w = let q : _ ≡ u = cc in exists_comes beside t a f rest i s e (subst (λ z. Comes beside z a) (sym q) w)
 goal_comes names beside t u a (Use k ts g) rest c v i s e m h w = plain_comes names beside t u a (Use k ts g) rest c v i s e h tt w
+goal_comes names beside t u a (Num Is l r) rest c v i s e m h w = is_comes beside t u a l r rest i s e h w
+goal_comes names beside t u a (Num Less l r) rest c v i s e m h w = plain_comes names beside t u a (Num Less l r) rest c v i s e h tt w
+goal_comes names beside t u a (Num Most l r) rest c v i s e m h w = plain_comes names beside t u a (Num Most l r) rest c v i s e h tt w
 
 successor_is : (o : Option State) (u : State) → Among u (option_to_states o) → o ≡ Some u
 successor_is None u h = absurd h

@@ -35,11 +35,11 @@ abbrev problem : List ClauseTree → Form → List (Option ℕ) → ProblemTree
 problem cs g asked = record { names = []; modules = []; clauses = cs; goal = g; asked = asked; bound = 0 }
 
 -- the verdict on the first tree of a derivation
-abbrev of_first : ProblemTree → DerivationLines → Option (List Tree) → Option Checked
+abbrev pub of_first : ProblemTree → DerivationLines → Option (List Tree) → Option Checked
 of_first p d (Some (x ∷ [])) = Some (first_fault p d x)
 of_first p d _ = None
 
-abbrev Says : ProblemTree → List Term → List Line → Checked → Type 0
+abbrev pub Says : ProblemTree → List Term → List Line → Checked → Type 0
 Says p ts ns v = of_first p (record { asked = ts; nodes = ns }) (trees_of ns) ≡ Some v
 
 -- `LINEAR a. LINEAR b.` and `(erase & a) , b`

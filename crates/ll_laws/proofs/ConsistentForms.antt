@@ -4,7 +4,7 @@ use Rattle.std.proofs.lemmas.List.{length-map}
 use Rattle.std.specs.Prelude.{◌&&◌, Option, Some, None, nat_eq, slice_get}
 use Rattle.std.specs.List.{list_all}
 use Rattle.ll_bank.specs.Term.{Term, Env, sub, close, head_of, is_spine, eigens_below}
-use Rattle.ll_bank.specs.Form.{Form, Top, One, Atom, With, Tensor, Plus, Bang, Lolli, Imp, Forall, Exists, Use, sub_form, close_form}
+use Rattle.ll_bank.specs.Form.{Form, Top, One, Atom, With, Tensor, Plus, Bang, Lolli, Imp, Forall, Exists, Use, sub_form, close_form, Num}
 use Rattle.ll_laws.specs.Module.{ModuleTree}
 use Rattle.ll_laws.specs.Unify.{vars_below}
 use Rattle.ll_laws.specs.Valid.{Side, GoalSide, ClauseSide, Allowed, Scope, IsFormula, is_on, each_term, places_below, may_head, is_headed, is_atom, has_heads, fits_module, loads_fit}
@@ -26,6 +26,10 @@ abbrev pub OnGoals : Side → Type 0
 OnGoals GoalSide = Unit {0}
 OnGoals ClauseSide = ⊥
 
+-- a whole-number goal may stand on this side: on none, as long as no text has one
+abbrev pub TakesNumbers : Side → Type 0
+TakesNumbers side = ⊥
+
 -- the formula may stand on this side, and its terms fit
 abbrev pub Fits : Allowed → Side → Scope → Form → Type 0
 Fits may side scope Top = Unit {0}
@@ -40,6 +44,7 @@ Fits may side scope (Imp f g) = Fits may (other side) scope f × Fits may side s
 Fits may side scope (Forall f) = Fits may side (opens_on may.opens side ∷ scope) f
 Fits may side scope (Exists f) = OnGoals side × Fits may side (false ∷ scope) f
 Fits may side scope (Use m ts f) = OnGoals side × (fits_module (slice_get may.modules m) ts ≡ true) × AllFit may scope ts × Fits may side scope f
+Fits may side scope (Num r t u) = TakesNumbers side × Fit may scope t × Fit may scope u
 
 -- ---- the type and the tests
 
@@ -176,6 +181,8 @@ fits_of may GoalSide scope m (Use k ts f) t = (
       }),
 )
 fits_of may ClauseSide scope m (Use k ts f) t = absurd (cc (t.sorted))
+fits_of may GoalSide scope m (Num r a b) t = absurd (cc (t.sorted))
+fits_of may ClauseSide scope m (Num r a b) t = absurd (cc (t.sorted))
 
 each_fit : (may : Allowed) (scope : Scope) (test : Term → Bool) → ((t : Term) → Fit may scope t → test t ≡ true) → (ts : List Term) → AllFit may scope ts → list_all test ts ≡ true
 each_fit may scope test p [] h = refl
@@ -225,6 +232,8 @@ tests_of may GoalSide scope m (Use k ts f) h =
       loads = and_intro _ _ h.1 t.loads;
     }
 tests_of may ClauseSide scope m (Use k ts f) h = absurd (h.0)
+tests_of may GoalSide scope m (Num r a b) h = absurd (h.0)
+tests_of may ClauseSide scope m (Num r a b) h = absurd (h.0)
 
 pub fits_of_formula : (may : Allowed) (side : Side) (scope : Scope) (f : Form) → IsFormula may side scope f → Fits may side scope f
 fits_of_formula may side scope f h =
@@ -259,9 +268,10 @@ fits-more may more side scope wide (Use m ts p) g w h = (
   all_fit-more may more scope wide ts g w h.2,
   fits-more may more side scope wide p g w h.3,
 )
+fits-more may more side scope wide (Num r a b) g w h = (h.0, fit-more may more scope wide a g w h.1, fit-more may more scope wide b g w h.2)
 
 -- only the number of arguments decides whether they fit a module
-fits_module-length : (o : Option ModuleTree) (ts us : List Term) → length us ≡ length ts → fits_module o ts ≡ true → fits_module o us ≡ true
+pub fits_module-length : (o : Option ModuleTree) (ts us : List Term) → length us ≡ length ts → fits_module o ts ≡ true → fits_module o us ≡ true
 fits_module-length None ts us e h = cc
 fits_module-length (Some m) ts us e h = subst (λ n. nat_eq n m.params ≡ true) (sym e) h
 
@@ -283,6 +293,7 @@ fits-sub may s side scope (Use m ts p) g h = (
   all_fit-sub may s scope ts g h.2,
   fits-sub may s side scope p g h.3,
 )
+fits-sub may s side scope (Num r a b) g h = (h.0, fit-sub may s scope a g h.1, fit-sub may s scope b g h.2)
 
 pub fits-close : (may : Allowed) (e : Env) (side : Side) (inner outer : Scope) (f : Form) → Closes may e inner outer → Fits may side inner f → Fits may side outer (close_form e f)
 fits-close may e side inner outer Top c h = tt
@@ -303,3 +314,4 @@ fits-close may e side inner outer (Use m ts p) c h = (
   all_fit-close may e inner outer ts c h.2,
   fits-close may e side inner outer p c h.3,
 )
+fits-close may e side inner outer (Num r a b) c h = (h.0, fit-close may e inner outer a c h.1, fit-close may e inner outer b c h.2)

@@ -80,7 +80,7 @@ load_all-fits may e inner outer [] g c f h = h
 load_all-fits may e inner outer (d ∷ cs) g c f h =
     load-fits may d.kind outer (close_form e d.form) (load_all e cs g) (fits-close may e ClauseSide inner outer d.form c f.0) (load_all-fits may e inner outer cs g c f.1 h)
 
-replicate-front : (n : ℕ) (b : Bool) (scope : Scope) → replicate n b ++ b ∷ scope ≡ b ∷ (replicate n b ++ scope)
+pub replicate-front : (n : ℕ) (b : Bool) (scope : Scope) → replicate n b ++ b ∷ scope ≡ b ∷ (replicate n b ++ scope)
 replicate-front zero b scope = refl
 replicate-front (suc n) b scope = ap (λ xs. b ∷ xs) (replicate-front n b scope)
 

@@ -1,13 +1,13 @@
 -- Each inference of a consistent state gives a consistent one.
-use Rattle.std.proofs.Common.{◌≡◌, ◌≤◌, ℕ, zero, suc, ◌+◌, refl, ap, sym, subst, ◌∙◌, Bool, true, false, List, [], ◌∷◌, ◌++◌, map, length, replicate, nat_eq, arith}
+use Rattle.std.proofs.Common.{◌≡◌, ◌≤◌, ℕ, zero, suc, ◌+◌, refl, ap, sym, subst, ◌∙◌, Bool, true, false, List, [], ◌∷◌, ◌++◌, map, length, replicate, nat_eq, arith, ℤ}
 use Rattle.std.proofs.lemmas.List.{length-replicate, length-append, length-map}
 use Rattle.std.proofs.lemmas.List.Folds.{list_all-append}
 use Rattle.std.proofs.lemmas.Bool.{ltb-true, lt-ltb, leb-true, le-leb, eqb-true, ne_eqb}
 use Rattle.std.specs.Prelude.{◌||◌, not, if◌then◌else◌, nat_lt, nat_le, Option, Some, None, slice_get, slice_index, option_map, option_and_then}
 use Rattle.std.specs.List.{list_all, list_any}
 use Rattle.ll_bank.specs.declared.Head.TheVariants.{Eigen}
-use Rattle.ll_bank.specs.Term.{Term, Var, Con, sub}
-use Rattle.ll_bank.specs.Form.{Form, Top, One, Atom, With, Tensor, Plus, Bang, Lolli, Imp, Forall, Exists, Use, instantiate}
+use Rattle.ll_bank.specs.Term.{Term, Var, Con, sub, Int}
+use Rattle.ll_bank.specs.Form.{Form, Top, One, Atom, With, Tensor, Plus, Bang, Lolli, Imp, Forall, Exists, Use, instantiate, Num, Is, Less, Most}
 use Rattle.ll_laws.specs.declared.Kind.{Kind}
 use Rattle.ll_laws.specs.declared.Kind.TheVariants.{Linear, Unbounded}
 use Rattle.ll_laws.specs.declared.Step.{Step}
@@ -17,7 +17,7 @@ use Rattle.ll_laws.specs.Module.{ClauseTree, ModuleTree, Setting, unfold_load}
 use Rattle.ll_laws.specs.Unify.{Solved, mgu}
 use Rattle.ll_laws.specs.Settle.{Entry, Item, Goal, LolliEnd, ImpEnd, WithMiddle, WithEnd, BangEnd, unlive}
 use Rattle.ll_laws.specs.State.{State, sub_item, sub_entry}
-use Rattle.ll_laws.specs.Attempt.{is_linear, vars_from, entry_at, saved_of, picked, instantiated, with_leaf, take_leaf, take_way, take_entry, take_side, load_module, attempt_goal, attempt_agenda, attempt}
+use Rattle.ll_laws.specs.Attempt.{is_linear, vars_from, entry_at, saved_of, picked, instantiated, with_leaf, take_leaf, take_way, take_entry, take_side, load_module, attempt_goal, attempt_agenda, attempt, stepped, take_value}
 use Rattle.ll_laws.specs.Valid.{GoalSide, ClauseSide, Allowed, Scope, IsFormula, given, AreClauses, AreModules, module_scope, fits_module}
 use Rattle.ll_laws.specs.Consistent.{ends_fit, allowed_in, AreGoals, AreResources, is_made, IsConsistent}
 use Rattle.ll_laws.specs.Laws.{StepsConsistent}
@@ -29,6 +29,8 @@ use Rattle.ll_laws.proofs.ConsistentUnifier.{mgu-goes}
 use Rattle.ll_laws.proofs.ConsistentLeaves.{PremisesFit, LeafFits, leaf-fits, ClausesFit, unfold_load-fits}
 use Rattle.ll_laws.proofs.ConsistentContexts.{alike-unlive, alike-picked, alike-sub, alike-ends, alike-below, alike-differ, marks-fit, may-unlive, may-picked, may-sub, resources-unlive, resources-picked, resources-more, resources-sub, goals-more, goals-sub, ends-sub}
 use Rattle.ll_laws.proofs.ConsistentStates.{IsFront, front_of_state, may_begin, vars-made, length-vars, levels-replicate, grows_given}
+use Rattle.ll_laws.specs.Number.{value_of, holds}
+use Rattle.ll_laws.specs.declared.Step.TheVariants.{Plain}
 
 -- ---- fronts
 
@@ -292,6 +294,29 @@ module-fits names modules [] may n d g h q = cc
 module-fits names modules (x ∷ ms) may zero d g h q = let e : x ≡ d = cc in subst (λ z. ClausesFit may (module_scope z) z.clauses) e (clauses-fit names modules may (module_scope x) x.clauses g h.0)
 module-fits names modules (x ∷ ms) may (suc n) d g h q = module-fits names modules ms may n d g h.2 q
 
+-- ---- whole-number goals
+
+-- the goal went, and nothing else was changed
+gone-consistent : (m : Setting) (s : State) (rest : List (Item Form)) → IsConsistent m s → AreGoals (allowed_in m s) rest → ends_fit rest s.context ≡ true → IsConsistent m (stepped s rest Plain)
+gone-consistent m s rest i r e = kept m s rest s.context s.flag s.label _ i (front-agenda (allowed_in m s) s.label s.agenda rest s.context (front_of_state m s i) r e)
+
+tested-consistent : (m : Setting) (s t : State) (rest : List (Item Form)) (b : Bool) → IsConsistent m s → AreGoals (allowed_in m s) rest → ends_fit rest s.context ≡ true
+    → (if b then Some (stepped s rest Plain) else None) ≡ Some t → IsConsistent m t
+tested-consistent m s t rest true i r e h = done m _ t h (gone-consistent m s rest i r e)
+tested-consistent m s t rest false i r e h = cc
+
+value-consistent : (m : Setting) (s t : State) (a : Term) (rest : List (Item Form)) (o : Option ℤ) → IsConsistent m s → AreGoals (allowed_in m s) rest → ends_fit rest s.context ≡ true → Fit (allowed_in m s) [] a
+    → take_value s a rest o ≡ Some t → IsConsistent m t
+value-consistent m s t a rest None i r e fa h = cc
+value-consistent m s t a rest (Some z) i r e fa h = step (mgu (a ∷ []) (Int z ∷ []) s.levels) refl h
+  where
+    step : (o : Option Solved) → mgu (a ∷ []) (Int z ∷ []) s.levels ≡ o → option_map (instantiated (stepped s rest Plain)) o ≡ Some t → IsConsistent m t
+    step None q h = cc
+    step (Some v) q h =
+        done m (instantiated (stepped s rest Plain) v) t h
+        (instantiated-consistent m (stepped s rest Plain) v (gone-consistent m s rest i r e) (mgu-goes (allowed_in m s) (a ∷ []) (Int z ∷ []) s.levels v (fa, tt) (tt, tt) q)
+        (mgu-falls (a ∷ []) (Int z ∷ []) s.levels v q))
+
 -- ---- inferences
 
 goal-consistent : (names : ℕ) (m : Setting) (s t : State) (g : Form) (rest : List (Item Form)) (c : Candidate) → AreModules names m.modules m.modules → IsConsistent m s
@@ -376,6 +401,9 @@ goal-consistent names m s t (Use n ts p) rest c v i f r e h = step (slice_get m.
         let a = Goal (unfold_load d ts p) ∷ rest in
         done m _ t h (kept m s a s.context s.flag s.label _ i (front-agenda may s.label s.agenda a s.context (front_of_state m s i) (formula_of_fits may GoalSide [] (unfold_load d ts p) b, r) e))
 goal-consistent names m s t (Atom a) rest c v i f r e h = atom-consistent m s t a rest c.label c.leaf i r e f.1 h
+goal-consistent names m s t (Num Is a b) rest c v i f r e h = value-consistent m s t a rest (value_of m.operators b) i r e f.1 h
+goal-consistent names m s t (Num Less a b) rest c v i f r e h = tested-consistent m s t rest (holds m.operators Less a b) i r e h
+goal-consistent names m s t (Num Most a b) rest c v i f r e h = tested-consistent m s t rest (holds m.operators Most a b) i r e h
 
 agenda-consistent : (names : ℕ) (m : Setting) (s t : State) (a : List (Item Form)) (c : Candidate) → AreModules names m.modules m.modules → IsConsistent m s
     → AreGoals (allowed_in m s) a → ends_fit a s.context ≡ true → attempt_agenda m s a c ≡ Some t → IsConsistent m t

@@ -88,6 +88,15 @@ fit-eigens may scope (Con (Eigen k)) h = h
 fit-eigens may scope (Con (Bound k)) h = refl
 fit-eigens may scope (Ap f a) h = and_intro _ _ (fit-eigens may scope f h.1) (fit-eigens may scope a h.2)
 
+-- the head of a closed term may stand in front of arguments
+pub head_of_closed : (scope : Scope) (t : Term) → is_closed t ≡ true → may_head scope (head_of t) ≡ true
+head_of_closed scope (Var x) c = refl
+head_of_closed scope (Int z) c = refl
+head_of_closed scope (Con (Name n)) c = refl
+head_of_closed scope (Con (Eigen k)) c = refl
+head_of_closed scope (Con (Bound k)) c = cc
+head_of_closed scope (Ap f a) c = head_of_closed scope f (and_right (is_spine f) (is_closed f) (and_left (is_spine f && is_closed f) (is_closed a) c))
+
 -- a closed term fits the empty scope
 fit_of_closed : (may : Allowed) (t : Term) → is_closed t ≡ true → vars_below may.variables t ≡ true → eigens_below may.eigens t ≡ true → Fit may [] t
 fit_of_closed may (Var x) c v e = v
@@ -98,18 +107,10 @@ fit_of_closed may (Con (Bound k)) c v e = cc
 fit_of_closed may (Ap f a) c v e =
     let i = and_left (is_spine f && is_closed f) (is_closed a) c in
     let g = and_right (is_spine f) (is_closed f) i in (
-      (and_left (is_spine f) (is_closed f) i, head_of_closed f g),
+      (and_left (is_spine f) (is_closed f) i, head_of_closed [] f g),
       fit_of_closed may f g (and_left _ (vars_below may.variables a) v) (and_left _ (eigens_below may.eigens a) e),
       fit_of_closed may a (and_right (is_spine f && is_closed f) _ c) (and_right (vars_below may.variables f) _ v) (and_right (eigens_below may.eigens f) _ e),
     )
-  where
-    head_of_closed : (t : Term) → is_closed t ≡ true → may_head [] (head_of t) ≡ true
-    head_of_closed (Var x) c = refl
-    head_of_closed (Int z) c = refl
-    head_of_closed (Con (Name n)) c = refl
-    head_of_closed (Con (Eigen k)) c = refl
-    head_of_closed (Con (Bound k)) c = cc
-    head_of_closed (Ap f a) c = head_of_closed f (and_right (is_spine f) (is_closed f) (and_left (is_spine f && is_closed f) (is_closed a) c))
 
 fit-closed : (may : Allowed) (t : Term) → Fit may [] t → is_closed t ≡ true
 fit-closed may (Var x) h = refl
@@ -149,12 +150,12 @@ pub widens-refl : (scope : Scope) → Widens scope scope
 widens-refl [] = tt
 widens-refl (b ∷ bs) = (λ h. h, widens-refl bs)
 
-widens-length : (scope wide : Scope) → Widens scope wide → length scope ≤ length wide
+pub widens-length : (scope wide : Scope) → Widens scope wide → length scope ≤ length wide
 widens-length [] wide w = omega arith
 widens-length (b ∷ bs) [] w = absurd w
 widens-length (b ∷ bs) (c ∷ cs) w = let i = widens-length bs cs w.1 in omega arith
 
-widens-may : (scope wide : Scope) (k : ℕ) → Widens scope wide → slice_index_or scope k false ≡ true → slice_index_or wide k false ≡ true
+pub widens-may : (scope wide : Scope) (k : ℕ) → Widens scope wide → slice_index_or scope k false ≡ true → slice_index_or wide k false ≡ true
 widens-may [] wide k w h = cc
 widens-may (b ∷ bs) [] k w h = absurd w
 widens-may (b ∷ bs) (c ∷ cs) zero w h = w.0 h
@@ -241,7 +242,7 @@ head-anywhere may scope (Con (Bound k)) h = none_below k h
 head-anywhere may scope (Ap f a) h = head-anywhere may scope f h.1
 
 -- each place of the outer scope is the one n further out of the full one
-abbrev Deep : ℕ → Scope → Scope → Type 0
+abbrev pub Deep : ℕ → Scope → Scope → Type 0
 Deep n outer full = (j : ℕ) → slice_index_or outer j false ≡ true → slice_index_or full (n + j) false ≡ true
 
 place-head : (may : Allowed) (e : Env) (inner outer full : Scope) (k n : ℕ) → Closes may e inner outer → Deep n outer full → slice_index_or inner k false ≡ true
@@ -257,7 +258,7 @@ place-head may (Some t ∷ e) [] outer full k n c d h = absurd c
 place-head may (Some t ∷ e) (b ∷ inner) outer full zero n c d h = (c.1 h, head-anywhere may full t c.0)
 place-head may (Some t ∷ e) (b ∷ inner) outer full (suc k) n c d h = place-head may e inner outer full k n c.2 d h
 
-deep-none : (scope : Scope) → Deep 0 scope scope
+pub deep-none : (scope : Scope) → Deep 0 scope scope
 deep-none scope j h = subst (λ i. slice_index_or scope i false ≡ true) (let q : j ≡ 0 + j = omega arith in q) h
 
 pub is_head-close : (may : Allowed) (e : Env) (inner outer : Scope) (t : Term) → Closes may e inner outer → IsHead inner t → IsHead outer (close e t)

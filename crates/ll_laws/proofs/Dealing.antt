@@ -7,10 +7,10 @@ use Rattle.std.proofs.lemmas.List.{map-append}
 use Rattle.std.proofs.lemmas.List.Folds.{list_any-append}
 use Rattle.std.proofs.Math.Bool.{or-false}
 use Rattle.ll_bank.specs.Term.{Term, Con}
-use Rattle.ll_bank.specs.Form.{Form, Top, One, Atom, With, Tensor, Plus, Bang, Lolli, Imp, Forall, Exists, Use, instantiate, form_has_eigen}
+use Rattle.ll_bank.specs.Form.{Form, Top, One, Atom, With, Tensor, Plus, Bang, Lolli, Imp, Forall, Exists, Use, instantiate, form_has_eigen, Num}
 use Rattle.ll_laws.specs.Leaf.{Premise, Needs, NeedsFree}
 use Rattle.ll_laws.specs.Module.{Setting, unfold_load}
-use Rattle.ll_laws.specs.Shows.{Tree, OneNode, EraseNode, TensorNode, WithNode, LeftNode, RightNode, BangNode, LolliNode, ImpNode, ForallNode, ExistsNode, UseNode, ClauseNode, Parts, NoParts, BoundedPart, UnboundedPart, Labelled, clauses, has, has_label, part, rest, splits, all_in, one_of, Found, Missing, Took, behind, take_label, pick_of, Shows, ShowsParts}
+use Rattle.ll_laws.specs.Shows.{Tree, OneNode, EraseNode, TensorNode, WithNode, LeftNode, RightNode, BangNode, LolliNode, ImpNode, ForallNode, ExistsNode, UseNode, ClauseNode, Parts, NoParts, BoundedPart, UnboundedPart, Labelled, clauses, has, has_label, part, rest, splits, all_in, one_of, Found, Missing, Took, behind, take_label, pick_of, Shows, ShowsParts, NumNode}
 use Rattle.ll_laws.specs.Dealing.{uses, uses_part, erases, erases_part, deal, deal_parts, goes_to, without}
 use Rattle.ll_laws.specs.Lazy.{Lazy, LazyParts, unused}
 
@@ -509,6 +509,7 @@ mutual
       → Shows beside (deal (labels (sel p i)) x) c (sel p i) g
   dealt_shows beside OneNode c i One a s z p v = sel_none p i (λ n h. off (p n) (v.takes n h))
   dealt_shows beside EraseNode c i Top a s z p v = tt
+  dealt_shows beside NumNode c i (Num r t u) a s z p v = (sel_none p i (λ n h. off (p n) (v.takes n h)), z)
   dealt_shows beside (TensorNode s t x y) c i (Tensor g k) a d z p v =
       let q : ℕ → Bool = λ n. goes_to (uses n x) (uses n y) (erases x) in
       let w = left_over (λ n. p n && not (q n)) x i (later_unused p x i (λ n. uses n y) (erases y) v.needs v.takes) in (

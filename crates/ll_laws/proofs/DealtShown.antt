@@ -1,13 +1,12 @@
 -- The derivation that is dealt out for an answer shows the query.
-use Rattle.std.proofs.Common.{◌≡◌, ◌<◌, ℕ, zero, suc, ◌+◌, refl, ap, sym, subst, ◌∙◌, true, List, [], ◌∷◌, ◌++◌, map, length, take, arith}
-use Rattle.std.specs.Prelude.{not, filter, nat_lt, Some, slice_index_or, Contains}
-use Rattle.std.proofs.lemmas.Bool.{ltb-true}
+use Rattle.std.proofs.Common.{◌≡◌, ℕ, zero, suc, ◌+◌, refl, ap, sym, subst, ◌∙◌, true, List, [], ◌∷◌, ◌++◌, map, length, take, arith}
+use Rattle.std.specs.Prelude.{not, filter, Some, slice_index_or, Contains}
 use Rattle.std.proofs.lemmas.List.{length-map}
 use Rattle.std.proofs.Math.Seq.{take-append_seam}
 use Rattle.std.specs.List.{list_all}
 use Rattle.ll_laws.specs.declared.Kind.TheVariants.{Linear}
-use Rattle.ll_bank.specs.Term.{Term, Var, Int, Con, Ap, sub, is_closed}
-use Rattle.ll_bank.specs.Form.{Form, Top, One, Atom, With, Tensor, Plus, Bang, Lolli, Imp, Forall, Exists, Use, sub_form}
+use Rattle.ll_bank.specs.Term.{Term, Var, sub, is_closed}
+use Rattle.ll_bank.specs.Form.{sub_form}
 use Rattle.ll_laws.specs.declared.Event.TheVariants.{Answer}
 use Rattle.ll_laws.specs.Answered.{Answered}
 use Rattle.ll_laws.specs.Module.{ClauseTree, ModuleTree}
@@ -15,8 +14,8 @@ use Rattle.ll_laws.specs.State.{sub_entry}
 use Rattle.ll_laws.specs.Attempt.{vars_from}
 use Rattle.ll_laws.specs.Search.{program_entries}
 use Rattle.ll_laws.specs.Problem.{ProblemTree, setting_of, start_of, problem_events}
-use Rattle.ll_laws.specs.Valid.{Allowed, given, Side, GoalSide, ClauseSide, Scope, AreClauses, IsValid}
-use Rattle.ll_laws.specs.Shows.{Tree, OneNode, EraseNode, TensorNode, WithNode, LeftNode, RightNode, BangNode, LolliNode, ImpNode, ForallNode, ExistsNode, UseNode, ClauseNode, Parts, NoParts, BoundedPart, UnboundedPart, nodes, part_nodes}
+use Rattle.ll_laws.specs.Valid.{given, GoalSide, ClauseSide, AreClauses, IsValid}
+use Rattle.ll_laws.specs.Shows.{Tree, OneNode, EraseNode, TensorNode, WithNode, LeftNode, RightNode, BangNode, LolliNode, ImpNode, ForallNode, ExistsNode, UseNode, ClauseNode, Parts, NoParts, BoundedPart, UnboundedPart, nodes, part_nodes, NumNode}
 use Rattle.ll_laws.specs.Line.{IsWhole, DerivationLines, trees_of, lines}
 use Rattle.ll_laws.specs.Verdict.{root_bounded, instantiated_goal, DerivationShows}
 use Rattle.ll_laws.specs.Run.{Trace, run_start}
@@ -27,13 +26,14 @@ use Rattle.ll_laws.proofs.Lines.{trees-count}
 use Rattle.ll_laws.proofs.Dealing.{labels}
 use Rattle.ll_laws.proofs.SubLaws.{IsClosing}
 use Rattle.ll_laws.proofs.DealtWhole.{AreRising, AreFormed, trace_rises, trace_formed, deal_formed, labels_rising}
-use Rattle.ll_laws.proofs.ConsistentTerms.{and_intro, Fit, AllFit}
-use Rattle.ll_laws.proofs.ConsistentForms.{Fits, fits_of_formula}
+use Rattle.ll_laws.proofs.ConsistentTerms.{and_intro}
+use Rattle.ll_laws.proofs.ConsistentForms.{fits_of_formula}
 use Rattle.ll_laws.proofs.ConsistentStates.{starts_consistent, length-vars}
 use Rattle.ll_laws.proofs.Grounding.{grounded, sub_none_form}
 use Rattle.ll_laws.proofs.RunsShown.{run_shown, tree_of_lines}
 use Rattle.ll_laws.proofs.AnswerRuns.{among, Comes}
 use Rattle.ll_laws.proofs.AnswersShown.{state_comes}
+use Rattle.ll_laws.proofs.Chosen.{form-agree, listed}
 
 -- ---- dealing keeps the nodes
 
@@ -41,6 +41,7 @@ mutual
   deal_nodes : (d : List ℕ) (x : Tree) → nodes (deal d x) ≡ nodes x
   deal_nodes d OneNode = refl
   deal_nodes d EraseNode = refl
+  deal_nodes d NumNode = refl
   deal_nodes d (TensorNode s t x y) =
       let p = deal_nodes (filter (λ n. goes_to (uses n x) (uses n y) (erases x)) d) x in let q = deal_nodes (filter (λ n. not (goes_to (uses n x) (uses n y) (erases x))) d) y in omega (arith, p, q)
   deal_nodes d (WithNode x y) = let p = deal_nodes d x in let q = deal_nodes d y in omega (arith, p, q)
@@ -61,46 +62,12 @@ mutual
       let q = deal_part_nodes (filter (λ n. not (goes_to (uses n x) (uses_part n ps) (erases x))) d) ps in omega (arith, p, q)
   deal_part_nodes d (UnboundedPart x ps) = let p = deal_nodes [] x in let q = deal_part_nodes d ps in omega (arith, p, q)
 
--- ---- substitutions that agree on the variables that there are
-
-abbrev Agrees : ℕ → (ℕ → Term) → (ℕ → Term) → Type 0
-Agrees n f g = (x : ℕ) → nat_lt x n ≡ true → f x ≡ g x
-
-agree_term : (may : Allowed) (f g : ℕ → Term) → Agrees may.variables f g → (scope : Scope) (t : Term) → Fit may scope t → sub f t ≡ sub g t
-agree_term may f g h scope (Var x) l = h x l
-agree_term may f g h scope (Int z) l = refl
-agree_term may f g h scope (Con k) l = refl
-agree_term may f g h scope (Ap t u) l = let a = agree_term may f g h scope t l.1 in let b = agree_term may f g h scope u l.2 in cc
-
-agree_terms : (may : Allowed) (f g : ℕ → Term) → Agrees may.variables f g → (scope : Scope) (ts : List Term) → AllFit may scope ts → map (sub f) ts ≡ map (sub g) ts
-agree_terms may f g h scope [] l = refl
-agree_terms may f g h scope (t ∷ ts) l = let a = agree_term may f g h scope t l.0 in let b = agree_terms may f g h scope ts l.1 in cc
-
-agree_form : (may : Allowed) (f g : ℕ → Term) → Agrees may.variables f g → (side : Side) (scope : Scope) (r : Form) → Fits may side scope r → sub_form f r ≡ sub_form g r
-agree_form may f g h side scope Top l = refl
-agree_form may f g h side scope One l = refl
-agree_form may f g h side scope (Atom a) l = ap Atom (agree_term may f g h scope a l.1)
-agree_form may f g h side scope (With p q) l = let a = agree_form may f g h _ scope p l.0 in let b = agree_form may f g h _ scope q l.1 in cc
-agree_form may f g h side scope (Tensor p q) l = let a = agree_form may f g h _ scope p l.1 in let b = agree_form may f g h _ scope q l.2 in cc
-agree_form may f g h side scope (Plus p q) l = let a = agree_form may f g h _ scope p l.1 in let b = agree_form may f g h _ scope q l.2 in cc
-agree_form may f g h side scope (Bang p) l = ap Bang (agree_form may f g h _ scope p l.1)
-agree_form may f g h side scope (Lolli p q) l = let a = agree_form may f g h _ scope p l.0 in let b = agree_form may f g h _ scope q l.1 in cc
-agree_form may f g h side scope (Imp p q) l = let a = agree_form may f g h _ scope p l.0 in let b = agree_form may f g h _ scope q l.1 in cc
-agree_form may f g h side scope (Forall p) l = ap Forall (agree_form may f g h _ _ p l)
-agree_form may f g h side scope (Exists p) l = ap Exists (agree_form may f g h _ _ p l.1)
-agree_form may f g h side scope (Use m ts p) l = let a = agree_terms may f g h scope ts l.2 in let b = agree_form may f g h _ scope p l.3 in cc
-
 -- ---- the start of a run
 
 entries_same : (f : ℕ → Term) (names : ℕ) (ms : List ModuleTree) (n : ℕ) (cs : List ClauseTree) → AreClauses names ms [] cs → map (sub_entry f) (program_entries n cs) ≡ program_entries n cs
 entries_same f names ms n [] h = refl
 entries_same f names ms n (c ∷ cs) h =
     let a = sub_none_form ms f ClauseSide [] c.form (fits_of_formula (given ms 0) ClauseSide [] c.form h.0) in let b = entries_same f names ms (suc n) cs h.2 in cc
-
-value_at : (f : ℕ → Term) (m k x : ℕ) (d : Term) → x < k → slice_index_or (map (sub f) (vars_from m k)) x d ≡ f (m + x)
-value_at f m zero x d h = absurd (omega (arith, h))
-value_at f m (suc k) zero d h = ap f (omega arith)
-value_at f m (suc k) (suc x) d h = value_at f (suc m) k x d (omega (arith, h)) ∙ ap f (omega arith)
 
 asked_are : (p : ProblemTree) (a : Answered) (f : ℕ → Term) (later : List Term) → a.terms ≡ map (sub f) (vars_from 0 (length p.asked)) ++ later → asked_terms p a ≡ map (sub f) (vars_from 0 (length p.asked))
 asked_are p a f later h =
@@ -109,11 +76,11 @@ asked_are p a f later h =
 
 goal_is : (p : ProblemTree) (f : ℕ → Term) → IsValid p → sub_form f p.goal ≡ instantiated_goal p (map (sub f) (vars_from 0 (length p.asked)))
 goal_is p f v =
-    agree_form (given p.modules (length p.asked)) f (λ x. slice_index_or (map (sub f) (vars_from 0 (length p.asked))) x (Var x))
-    (λ x l. let e : 0 + x ≡ x = omega arith in sym (value_at f 0 (length p.asked) x (Var x) (ltb-true x (length p.asked) l) ∙ ap f e)) GoalSide [] p.goal
+    form-agree (given p.modules (length p.asked)) f (λ x. slice_index_or (map (sub f) (vars_from 0 (length p.asked))) x (Var x))
+    (λ x l. let e : 0 + x ≡ x = omega arith in sym (listed f 0 (length p.asked) x (Var x) l ∙ ap f e)) GoalSide [] p.goal
     (fits_of_formula (given p.modules (length p.asked)) GoalSide [] p.goal v.goal)
 
-run_begins : (p : ProblemTree) (f : ℕ → Term) (ts : List Term) → IsValid p → ts ≡ map (sub f) (vars_from 0 (length p.asked)) → grounded f (start_of p) ≡ run_start p ts
+pub run_begins : (p : ProblemTree) (f : ℕ → Term) (ts : List Term) → IsValid p → ts ≡ map (sub f) (vars_from 0 (length p.asked)) → grounded f (start_of p) ≡ run_start p ts
 run_begins p f ts v h =
     let g = goal_is p f v ∙ ap (instantiated_goal p) (sym h) in let e = entries_same f (length p.names) p.modules 0 p.clauses v.clauses in let t = sym h in cc
 

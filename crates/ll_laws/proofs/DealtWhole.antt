@@ -11,10 +11,10 @@ use Rattle.ll_laws.specs.declared.Kind.{Kind}
 use Rattle.ll_laws.specs.Module.{Setting, ClauseTree}
 use Rattle.ll_laws.specs.Settle.{Item, Front}
 use Rattle.ll_laws.specs.State.{State, settle, front_of, with_front}
-use Rattle.ll_laws.specs.Shows.{Tree, OneNode, EraseNode, TensorNode, WithNode, LeftNode, RightNode, BangNode, LolliNode, ImpNode, ForallNode, ExistsNode, UseNode, ClauseNode, Parts, NoParts, BoundedPart, UnboundedPart}
-use Rattle.ll_laws.specs.Line.{Line, OneLine, EraseLine, TensorLine, WithLine, LeftLine, RightLine, BangLine, UseLine, LolliLine, ImpLine, ForallLine, ExistsLine, ClauseLine, lines, lines_of_parts, part_lines, part_line, rises, part_rises, is_line}
+use Rattle.ll_laws.specs.Shows.{Tree, OneNode, EraseNode, TensorNode, WithNode, LeftNode, RightNode, BangNode, LolliNode, ImpNode, ForallNode, ExistsNode, UseNode, ClauseNode, Parts, NoParts, BoundedPart, UnboundedPart, NumNode}
+use Rattle.ll_laws.specs.Line.{Line, OneLine, EraseLine, TensorLine, WithLine, LeftLine, RightLine, BangLine, UseLine, LolliLine, ImpLine, ForallLine, ExistsLine, ClauseLine, lines, lines_of_parts, part_lines, part_line, rises, part_rises, is_line, NumLine}
 use Rattle.ll_laws.specs.Verdict.{labelled, same_kind}
-use Rattle.ll_laws.specs.Run.{Goes, goes_one, goes_top, goes_tensor, goes_left, goes_right, goes_with, goes_bang, goes_lolli, goes_imp, goes_forall, goes_exists, goes_use, goes_atom, Trace, trace_end, trace_step, MayChoose}
+use Rattle.ll_laws.specs.Run.{Goes, goes_one, goes_top, goes_tensor, goes_left, goes_right, goes_with, goes_bang, goes_lolli, goes_imp, goes_forall, goes_exists, goes_use, goes_atom, Trace, trace_end, trace_step, MayChoose, goes_num}
 use Rattle.ll_laws.specs.Dealing.{deal, deal_parts, goes_to, uses, uses_part, erases, without}
 use Rattle.ll_laws.proofs.SubLaws.{and_left, and_right}
 use Rattle.ll_laws.proofs.ConsistentTerms.{and_intro}
@@ -32,6 +32,7 @@ rises_lower : (j k : ℕ) (ns : List Line) → j ≤ k → RisesFrom k ns → Ri
 rises_lower j k [] l h = tt
 rises_lower j k (OneLine ∷ ns) l h = rises_lower j k ns l h
 rises_lower j k (EraseLine ∷ ns) l h = rises_lower j k ns l h
+rises_lower j k (NumLine ∷ ns) l h = rises_lower j k ns l h
 rises_lower j k (TensorLine s t ∷ ns) l h = rises_lower j k ns l h
 rises_lower j k (WithLine ∷ ns) l h = rises_lower j k ns l h
 rises_lower j k (LeftLine ∷ ns) l h = rises_lower j k ns l h
@@ -48,6 +49,7 @@ first_rise : (k : ℕ) (ms ns : List Line) → RisesFrom k (ms ++ ns) → RisesF
 first_rise k [] ns h = tt
 first_rise k (OneLine ∷ ms) ns h = first_rise k ms ns h
 first_rise k (EraseLine ∷ ms) ns h = first_rise k ms ns h
+first_rise k (NumLine ∷ ms) ns h = first_rise k ms ns h
 first_rise k (TensorLine s t ∷ ms) ns h = first_rise k ms ns h
 first_rise k (WithLine ∷ ms) ns h = first_rise k ms ns h
 first_rise k (LeftLine ∷ ms) ns h = first_rise k ms ns h
@@ -64,6 +66,7 @@ last_rise : (k : ℕ) (ms ns : List Line) → RisesFrom k (ms ++ ns) → RisesFr
 last_rise k [] ns h = h
 last_rise k (OneLine ∷ ms) ns h = last_rise k ms ns h
 last_rise k (EraseLine ∷ ms) ns h = last_rise k ms ns h
+last_rise k (NumLine ∷ ms) ns h = last_rise k ms ns h
 last_rise k (TensorLine s t ∷ ms) ns h = last_rise k ms ns h
 last_rise k (WithLine ∷ ms) ns h = last_rise k ms ns h
 last_rise k (LeftLine ∷ ms) ns h = last_rise k ms ns h
@@ -89,6 +92,7 @@ goes_rises (goes_imp f) ns h = (omega arith, h)
 goes_rises (goes_forall f) ns h = h
 goes_rises (goes_exists t f) ns h = h
 goes_rises (goes_use m f) ns h = h
+goes_rises (goes_num p) ns h = h
 goes_rises (goes_atom e label k us ps a b c d) ns h = h
 
 settled_label : (s t : State) → settle s ≡ Some t → t.label ≡ s.label
@@ -127,6 +131,7 @@ goes_formed (goes_imp f) = refl
 goes_formed (goes_forall f) = refl
 goes_formed (goes_exists t f) = f.0
 goes_formed (goes_use m f) = refl
+goes_formed (goes_num p) = refl
 goes_formed {s = s} (goes_atom e label k us ps a b c d) = and_intro _ _ (chosen_closed s.eigens us c) (parts_rise ps)
 
 pub trace_formed : (beside : Setting) (ns : List Line) (s : State) → Trace beside ns s → list_all is_line ns ≡ true
@@ -216,6 +221,7 @@ mutual
   pub deal_formed : (k : ℕ) (d : List ℕ) (x : Tree) → AreRising k d → AreFormed k (lines x) → list_all is_line (lines (deal d x)) ≡ true
   deal_formed k d OneNode r f = refl
   deal_formed k d EraseNode r f = refl
+  deal_formed k d NumNode r f = refl
   deal_formed k d (TensorNode s t x y) r f =
       let p : ℕ → Bool = λ n. goes_to (uses n x) (uses n y) (erases x) in
       let g : AreFormed k (lines x ++ lines y) = record { formed = and_right (rises s && rises t) (list_all is_line (lines x ++ lines y)) f.formed; rise = f.rise } in

@@ -4,11 +4,11 @@ use Rattle.std.proofs.lemmas.List.{map-append}
 use Rattle.std.specs.Prelude.{cond, ◌&&◌, not, Some, suc, if◌then◌else◌}
 use Rattle.std.specs.List.{list_all}
 use Rattle.ll_bank.specs.Term.{Term, Con}
-use Rattle.ll_bank.specs.Form.{Form, Top, One, Atom, With, Tensor, Plus, Bang, Lolli, Imp, Forall, Exists, Use, instantiate}
+use Rattle.ll_bank.specs.Form.{Form, Top, One, Atom, With, Tensor, Plus, Bang, Lolli, Imp, Forall, Exists, Use, instantiate, Num}
 use Rattle.ll_laws.specs.Leaf.{Premise, Needs, NeedsFree, leaf}
 use Rattle.ll_laws.specs.Module.{Setting, unfold_load}
-use Rattle.ll_laws.specs.Derive.{AreClosed, Dealt, dealt_none, dealt_left, dealt_right, Derivable, by_one, by_top, by_tensor, by_with, by_left, by_right, by_bang, by_lolli, by_imp, by_forall, by_exists, by_use, by_free, by_linear, Premises, no_premise, a_premise, a_free_premise}
-use Rattle.ll_laws.specs.Shows.{Tree, OneNode, EraseNode, TensorNode, WithNode, LeftNode, RightNode, BangNode, LolliNode, ImpNode, ForallNode, ExistsNode, UseNode, ClauseNode, Parts, NoParts, BoundedPart, UnboundedPart, nodes, part_nodes, Labelled, clauses, has, part, rest, one_of, Found, Missing, Took, behind, take_label, pick, pick_of, Shows, ShowsParts}
+use Rattle.ll_laws.specs.Derive.{AreClosed, Dealt, dealt_none, dealt_left, dealt_right, Derivable, by_one, by_top, by_tensor, by_with, by_left, by_right, by_bang, by_lolli, by_imp, by_forall, by_exists, by_use, by_free, by_linear, Premises, no_premise, a_premise, a_free_premise, by_num}
+use Rattle.ll_laws.specs.Shows.{Tree, OneNode, EraseNode, TensorNode, WithNode, LeftNode, RightNode, BangNode, LolliNode, ImpNode, ForallNode, ExistsNode, UseNode, ClauseNode, Parts, NoParts, BoundedPart, UnboundedPart, nodes, part_nodes, Labelled, clauses, has, part, rest, one_of, Found, Missing, Took, behind, take_label, pick, pick_of, Shows, ShowsParts, NumNode}
 
 and_left : (a b : Bool) → a && b ≡ true → a ≡ true
 and_left true b h = refl
@@ -93,6 +93,7 @@ mutual
   pub derive : (beside : Setting) (x : Tree) (c d : List Labelled) (g : Form) → Shows beside x c d g → Derivable beside (nodes x) (clauses c) (clauses d) g
   derive beside OneNode c d One h = subst (λ e. Derivable beside 1 (clauses c) (clauses e) One) (sym h) by_one
   derive beside EraseNode c d Top h = by_top
+  derive beside NumNode c d (Num r t u) h = subst (λ e. Derivable beside 1 (clauses c) (clauses e) (Num r t u)) (sym h.0) (by_num h.1)
   derive beside (TensorNode s t x y) c d (Tensor g k) h =
       by_tensor (deal_two s t d (and_right _ _ h.0)) (derive beside x c (part s d) g h.1) (derive beside y c (part t d) k h.2)
   derive beside (WithNode x y) c d (With g k) h = by_with (derive beside x c d g h.0) (derive beside y c d k h.1)

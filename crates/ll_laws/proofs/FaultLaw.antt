@@ -6,13 +6,14 @@ use Rattle.std.proofs.lemmas.Bool.{eqb-true, eq-eqb, lt-ltb}
 use Rattle.std.proofs.lemmas.Bool.Decides.{Decides-int_eq}
 use Rattle.ll_bank.specs.declared.Head.TheVariants.{Eigen}
 use Rattle.ll_bank.specs.Term.{Term, Var, Int, Con, Ap}
-use Rattle.ll_bank.specs.Form.{Form, Top, One, Atom, With, Tensor, Plus, Bang, Lolli, Imp, Forall, Exists, Use, instantiate, form_has_eigen}
+use Rattle.ll_bank.specs.Form.{Form, Top, One, Atom, With, Tensor, Plus, Bang, Lolli, Imp, Forall, Exists, Use, instantiate, form_has_eigen, Num}
 use Rattle.ll_laws.specs.Leaf.{Premise, Needs, NeedsFree, Leaf, ways, leaf}
 use Rattle.ll_laws.specs.Module.{Setting, ModuleTree, unfold_load}
-use Rattle.ll_laws.specs.Shows.{Tree, OneNode, EraseNode, TensorNode, WithNode, LeftNode, RightNode, BangNode, LolliNode, ImpNode, ForallNode, ExistsNode, UseNode, ClauseNode, Parts, NoParts, BoundedPart, UnboundedPart, nodes, part_nodes, Labelled, clauses, has_label, part, rest, splits, all_in, Found, Missing, Took, pick, Shows, ShowsParts, HasClosedTerms, HaveClosedTerms}
+use Rattle.ll_laws.specs.Shows.{Tree, OneNode, EraseNode, TensorNode, WithNode, LeftNode, RightNode, BangNode, LolliNode, ImpNode, ForallNode, ExistsNode, UseNode, ClauseNode, Parts, NoParts, BoundedPart, UnboundedPart, nodes, part_nodes, Labelled, clauses, has_label, part, rest, splits, all_in, Found, Missing, Took, pick, Shows, ShowsParts, HasClosedTerms, HaveClosedTerms, NumNode}
 use Rattle.ll_laws.specs.Fault.{Checked, Fits, Fault, then_check, unless, is_empty, term_eq, parts_fit, parts_deal, Wrong, Right, judge_leaf, judge_clause, on_judged, on_module, fault, fault_parts}
 use Rattle.ll_laws.proofs.UnifyLaws.{head_eq-true, head_eq-refl}
 use Rattle.ll_laws.proofs.LeafWays.{leaf_ways}
+use Rattle.ll_laws.specs.Number.{holds}
 
 and_one : (a b : Bool) → (a && b) ≡ true → a ≡ true
 and_one true b h = refl
@@ -108,6 +109,8 @@ mutual
   pub yes_shows : (beside : Setting) (k : ℕ) (x : Tree) (c d : List Labelled) (g : Form) (m : ℕ) → HasClosedTerms x → fault beside k x c d g ≡ Fits m → Shows beside x c d g
   yes_shows beside k OneNode c d One m z h = let p = passed (is_empty d) k 2 _ m h in empty d p.holds
   yes_shows beside k EraseNode c d Top m z h = tt
+  yes_shows beside k NumNode c d (Num r t u) m z h =
+      let p = passed (is_empty d) k 2 _ m h in let q = passed (holds beside.operators r t u) k 12 _ m p.goes in (empty d p.holds, q.holds)
   yes_shows beside k (TensorNode s t x y) c d (Tensor g f) m z h =
       let p = passed (splits s t d) k 3 _ m h in let w = went _ _ m p.goes in
       (p.holds, yes_shows beside (suc k) x c (part s d) g w.to z.0 w.first, yes_shows beside w.to y c (part t d) f m z.1 w.then_on)
@@ -185,6 +188,8 @@ mutual
   pub shows_yes : (beside : Setting) (k : ℕ) (x : Tree) (c d : List Labelled) (g : Form) → Shows beside x c d g → fault beside k x c d g ≡ Fits (k + nodes x)
   shows_yes beside k OneNode c d One h = passes (is_empty d) k 2 _ (no_more d h) ∙ to _ _ (omega arith)
   shows_yes beside k EraseNode c d Top h = to _ _ (omega arith)
+  shows_yes beside k NumNode c d (Num r t u) h =
+      passes (is_empty d) k 2 _ (no_more d h.0) ∙ (passes (holds beside.operators r t u) k 12 _ h.1 ∙ to _ _ (omega arith))
   shows_yes beside k (TensorNode s t x y) c d (Tensor g f) h =
       passes (splits s t d) k 3 _ h.0 ∙ chain _ _ _ _ (shows_yes beside (suc k) x c (part s d) g h.1) (shows_yes beside (suc k + nodes x) y c (part t d) f h.2 ∙ to _ _ (omega arith))
   shows_yes beside k (WithNode x y) c d (With g f) h = chain _ _ _ _ (shows_yes beside (suc k) x c d g h.0) (shows_yes beside (suc k + nodes x) y c d f h.1 ∙ to _ _ (omega arith))

@@ -6,7 +6,7 @@ use Rattle.std.proofs.lemmas.Bool.{ltb-true, ne_eqb}
 use mathlib.Core.List.{reverse_aux}
 use Rattle.ll_bank.specs.declared.Head.TheVariants.{Name, Eigen, Bound}
 use Rattle.ll_bank.specs.Term.{Term, Var, Int, Con, Ap, sub, has_eigen, is_closed, is_spine, Env}
-use Rattle.ll_bank.specs.Form.{Form, Top, One, Atom, With, Tensor, Plus, Bang, Lolli, Imp, Forall, Exists, Use, sub_form, form_has_eigen, close_form}
+use Rattle.ll_bank.specs.Form.{Form, Top, One, Atom, With, Tensor, Plus, Bang, Lolli, Imp, Forall, Exists, Use, sub_form, form_has_eigen, close_form, Num}
 use Rattle.ll_laws.specs.declared.Kind.{Kind}
 use Rattle.ll_laws.specs.declared.Kind.TheVariants.{Linear, Unbounded}
 use Rattle.ll_laws.specs.Module.{ModuleTree, ClauseTree, load, load_all, forall_all, unfold_load}
@@ -26,23 +26,20 @@ grounded f s = record s { agenda = map (sub_item f) s.agenda; context = map (sub
 -- ---- settling
 
 -- levels play no part in it
-unlevelled : (s : State) (o : Option (Front Form Form)) (t : State) → front_of s o ≡ Some t → front_of (record s { levels = [] }) o ≡ Some (record t { levels = [] })
-unlevelled s None t h = cc
-unlevelled s (Some x) t h = same (with_front s x) (let e : with_front s x ≡ t = cc in e)
-  where
-    same : (w : State) → w ≡ t → Some (record w { levels = [] }) ≡ Some (record t { levels = [] })
-    same w q = ap {A = State} (λ z. Some (record z { levels = [] })) q
+front_with : (ls : List ℕ) (s : State) (o : Option (Front Form Form)) (t : State) → front_of s o ≡ Some t → front_of (record s { levels = ls }) o ≡ Some (record t { levels = ls })
+front_with ls s None t h = cc
+front_with ls s (Some x) t h = let e : with_front s x ≡ t = cc in ap {A = State} (λ z. Some (record z { levels = ls })) e
 
-settle_unlevelled : (s t : State) → settle s ≡ Some t → settle (record s { levels = [] }) ≡ Some (record t { levels = [] })
+pub settle_with : (ls : List ℕ) (s t : State) → settle s ≡ Some t → settle (record s { levels = ls }) ≡ Some (record t { levels = ls })
 unfolding settle
-settle_unlevelled s t h = unlevelled s _ t h
+settle_with ls s t h = front_with ls s _ t h
 
 pub settle_grounded : (f : ℕ → Term) (s t : State) → settle s ≡ Some t → settle (grounded f s) ≡ Some (grounded f t)
-settle_grounded f s t h = settle_unlevelled (sub_state f s) (sub_state f t) (settle-sub f s ∙ ap (option_map (sub_state f)) h)
+settle_grounded f s t h = settle_with [] (sub_state f s) (sub_state f t) (settle-sub f s ∙ ap (option_map (sub_state f)) h)
 
 -- ---- eigenconstants
 
-or_none : (a b : Bool) → a ≡ false → b ≡ false → a || b ≡ false
+pub or_none : (a b : Bool) → a ≡ false → b ≡ false → a || b ≡ false
 or_none false b h k = k
 or_none true b h k = h
 
@@ -75,6 +72,7 @@ form_avoids may f v side scope (Imp g k) h = or_none _ _ (form_avoids may f v _ 
 form_avoids may f v side scope (Forall g) h = form_avoids may f v _ _ g h
 form_avoids may f v side scope (Exists g) h = form_avoids may f v _ _ g h.1
 form_avoids may f v side scope (Use m ts g) h = or_none _ _ (terms_avoid may f v scope ts h.2) (form_avoids may f v _ scope g h.3)
+form_avoids may f v side scope (Num r a b) h = or_none _ _ (term_avoids may f v scope a h.1) (term_avoids may f v scope b h.2)
 
 -- ---- formulas without variables
 
@@ -101,6 +99,7 @@ sub_none_form ms f side scope (Imp g k) h = let a = sub_none_form ms f _ scope g
 sub_none_form ms f side scope (Forall g) h = ap Forall (sub_none_form ms f _ _ g h)
 sub_none_form ms f side scope (Exists g) h = ap Exists (sub_none_form ms f _ _ g h.1)
 sub_none_form ms f side scope (Use m ts g) h = let a = sub_none_all ms f scope ts h.2 in let b = sub_none_form ms f _ scope g h.3 in cc
+sub_none_form ms f side scope (Num r t u) h = let a = sub_none ms f scope t h.1 in let b = sub_none ms f scope u h.2 in cc
 
 -- ---- loads
 
@@ -120,7 +119,7 @@ loads_sub f cl ms scope e (c ∷ cs) g h =
     let b = sub_close_form f cl e c.form ∙ ap (close_form (sub_env f e)) (sub_none_form ms f _ scope c.form h.0) in
     load_sub f c.kind (close_form e c.form) (load_all e cs g) ∙ (ap (λ z. load c.kind z (sub_form f (load_all e cs g))) b ∙ ap (λ z. load c.kind (close_form (sub_env f e) c.form) z) a)
 
-map_onto : {A B : Type 0} (f : A → B) (xs acc : List A) → map f (reverse_aux xs acc) ≡ reverse_aux (map f xs) (map f acc)
+pub map_onto : {A B : Type 0} (f : A → B) (xs acc : List A) → map f (reverse_aux xs acc) ≡ reverse_aux (map f xs) (map f acc)
 map_onto f [] acc = refl
 map_onto f (x ∷ xs) acc = map_onto f xs (x ∷ acc)
 

@@ -21,12 +21,12 @@ get_suc [] k n h = cc
 get_suc (x ∷ xs) zero n h = let e : x ≡ n = cc in ap (λ z. Some (suc z)) e
 get_suc (x ∷ xs) (suc k) n h = get_suc xs k n h
 
-record Under (p : Premise) (o : Option Leaf) (l : Leaf) : Type 0 where
-  inner : Leaf
-  is : o ≡ Some inner
-  same : l.head ≡ inner.head
+pub record Under (p : Premise) (o : Option Leaf) (l : Leaf) : Type 0 where
+  pub inner : Leaf
+  pub is : o ≡ Some inner
+  pub same : l.head ≡ inner.head
 
-under : (p : Premise) (o : Option Leaf) (l : Leaf) → option_map (add_premise p) o ≡ Some l → Under p o l
+pub under : (p : Premise) (o : Option Leaf) (l : Leaf) → option_map (add_premise p) o ≡ Some l → Under p o l
 under p None l h = cc
 under p (Some i) l h = record { inner = i; is = refl; same = let e : l ≡ add_premise p i = cc in ap (λ x. x.head) e }
 

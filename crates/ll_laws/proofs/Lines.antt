@@ -6,9 +6,9 @@ use Rattle.std.proofs.lemmas.Bool.{eqb-true, eq-eqb}
 use Rattle.ll_bank.specs.Term.{Term, is_closed}
 use Rattle.ll_laws.specs.Problem.{ProblemTree, setting_of}
 use Rattle.ll_laws.specs.Derive.{AreClosed, Derivable}
-use Rattle.ll_laws.specs.Shows.{Tree, OneNode, EraseNode, TensorNode, WithNode, LeftNode, RightNode, BangNode, LolliNode, ImpNode, ForallNode, ExistsNode, UseNode, ClauseNode, Parts, NoParts, BoundedPart, UnboundedPart, nodes, part_nodes, clauses, HasClosedTerms, HaveClosedTerms}
+use Rattle.ll_laws.specs.Shows.{Tree, OneNode, EraseNode, TensorNode, WithNode, LeftNode, RightNode, BangNode, LolliNode, ImpNode, ForallNode, ExistsNode, UseNode, ClauseNode, Parts, NoParts, BoundedPart, UnboundedPart, nodes, part_nodes, clauses, HasClosedTerms, HaveClosedTerms, NumNode}
 use Rattle.ll_laws.specs.Fault.{Fits, Fault, fault}
-use Rattle.ll_laws.specs.Line.{PartLine, Labels, Free, Line, OneLine, EraseLine, WithLine, LeftLine, RightLine, BangLine, UseLine, TensorLine, LolliLine, ImpLine, ForallLine, ExistsLine, ClauseLine, Cut, Short, Cuts, add_part, cut_parts, put_clause, put, trees_of, is_line, part_rises, DerivationLines}
+use Rattle.ll_laws.specs.Line.{PartLine, Labels, Free, Line, OneLine, EraseLine, WithLine, LeftLine, RightLine, BangLine, UseLine, TensorLine, LolliLine, ImpLine, ForallLine, ExistsLine, ClauseLine, Cut, Short, Cuts, add_part, cut_parts, put_clause, put, trees_of, is_line, part_rises, DerivationLines, NumLine}
 use Rattle.ll_laws.specs.Verdict.{root_free, root_bounded, instantiated_goal, TreeShows, DerivationShows, first_fault}
 use Rattle.ll_laws.proofs.DeriveLaw.{derive}
 use Rattle.ll_laws.proofs.FaultLaw.{yes_shows, shows_yes}
@@ -49,6 +49,7 @@ cut-count (p ∷ ps) (t ∷ ts) qs us h = step p (cut_parts ps ts) (cut-count ps
 put-count : (l : Line) (ts us : List Tree) → put l ts ≡ Some us → total us ≡ suc (total ts)
 put-count OneLine ts us h = let e : OneNode ∷ ts ≡ us = cc in subst (λ v. total v ≡ suc (total ts)) e (omega arith)
 put-count EraseLine ts us h = let e : EraseNode ∷ ts ≡ us = cc in subst (λ v. total v ≡ suc (total ts)) e (omega arith)
+put-count NumLine ts us h = let e : NumNode ∷ ts ≡ us = cc in subst (λ v. total v ≡ suc (total ts)) e (omega arith)
 put-count (TensorLine s t) (x ∷ y ∷ ts) us h = let e : TensorNode s t x y ∷ ts ≡ us = cc in subst (λ v. total v ≡ suc (total (x ∷ y ∷ ts))) e (omega arith)
 put-count WithLine (x ∷ y ∷ ts) us h = let e : WithNode x y ∷ ts ≡ us = cc in subst (λ v. total v ≡ suc (total (x ∷ y ∷ ts))) e (omega arith)
 put-count LeftLine (x ∷ ts) us h = let e : LeftNode x ∷ ts ≡ us = cc in subst (λ v. total v ≡ suc (total (x ∷ ts))) e (omega arith)
@@ -106,6 +107,7 @@ cut-closed (p ∷ ps) (t ∷ ts) qs us z h = step p (cut_parts ps ts) (opened z)
 put-closed : (l : Line) (ts us : List Tree) → is_line l ≡ true → AllClosed ts → put l ts ≡ Some us → AllClosed us
 put-closed OneLine ts us i z h = let e : OneNode ∷ ts ≡ us = cc in subst AllClosed e (tt, z)
 put-closed EraseLine ts us i z h = let e : EraseNode ∷ ts ≡ us = cc in subst AllClosed e (tt, z)
+put-closed NumLine ts us i z h = let e : NumNode ∷ ts ≡ us = cc in subst AllClosed e (tt, z)
 put-closed (TensorLine s t) (x ∷ y ∷ ts) us i z h = let e : TensorNode s t x y ∷ ts ≡ us = cc in subst AllClosed e ((z.0, z.1.0), z.1.1)
 put-closed WithLine (x ∷ y ∷ ts) us i z h = let e : WithNode x y ∷ ts ≡ us = cc in subst AllClosed e ((z.0, z.1.0), z.1.1)
 put-closed LeftLine (x ∷ ts) us i z h = let e : LeftNode x ∷ ts ≡ us = cc in subst AllClosed e z

@@ -1,11 +1,11 @@
 -- What the search does, seen with closed terms for its variables, is an inference of a run.
-use Rattle.std.proofs.Common.{◌≡◌, ℕ, zero, suc, refl, ap, sym, subst, ◌∙◌, Bool, true, false, List, [], ◌∷◌, ◌++◌, map, nat_eq, length}
+use Rattle.std.proofs.Common.{◌≡◌, ℕ, zero, suc, refl, ap, sym, subst, ◌∙◌, Bool, true, false, List, [], ◌∷◌, ◌++◌, map, nat_eq, length, ℤ}
 use Rattle.std.specs.Prelude.{if◌then◌else◌, Option, Some, None, option_map, slice_get, slice_index}
 use Rattle.std.specs.List.{list_any}
 use Rattle.std.proofs.lemmas.List.{map-append, length-map}
 use Rattle.ll_bank.specs.declared.Head.TheVariants.{Eigen}
-use Rattle.ll_bank.specs.Term.{Term, Con, sub}
-use Rattle.ll_bank.specs.Form.{Form, Top, One, Atom, With, Tensor, Plus, Bang, Lolli, Imp, Forall, Exists, Use, sub_form, instantiate}
+use Rattle.ll_bank.specs.Term.{Term, Con, sub, Int}
+use Rattle.ll_bank.specs.Form.{Form, Top, One, Atom, With, Tensor, Plus, Bang, Lolli, Imp, Forall, Exists, Use, sub_form, instantiate, Num, Relation, Is, Less, Most}
 use Rattle.ll_laws.specs.declared.Candidate.{Candidate}
 use Rattle.ll_laws.specs.declared.Step.{Step}
 use Rattle.ll_laws.specs.declared.Step.TheVariants.{Plain, Left, Right, Clause as ClauseStep}
@@ -16,12 +16,14 @@ use Rattle.ll_laws.specs.State.{State, sub_item, sub_entry}
 use Rattle.ll_laws.specs.Unify.{Solved}
 use Rattle.ll_laws.specs.Attempt.{stepped, attempt_goal, take_side, load_module, with_leaf, instantiated, entry_at, picked, vars_from, is_open}
 use Rattle.ll_laws.specs.Derive.{IsNew}
-use Rattle.ll_laws.specs.Line.{Line, WithLine, LeftLine, RightLine, BangLine, UseLine, ForallLine, ExistsLine, ClauseLine, part_line}
-use Rattle.ll_laws.specs.Run.{Goes, goes_one, goes_top, goes_tensor, goes_left, goes_right, goes_with, goes_bang, goes_lolli, goes_imp, goes_forall, goes_exists, goes_use, goes_atom, taken_by, IsFresh, MayChoose}
+use Rattle.ll_laws.specs.Line.{Line, WithLine, LeftLine, RightLine, BangLine, UseLine, ForallLine, ExistsLine, ClauseLine, part_line, NumLine}
+use Rattle.ll_laws.specs.Run.{Goes, goes_one, goes_top, goes_tensor, goes_left, goes_right, goes_with, goes_bang, goes_lolli, goes_imp, goes_forall, goes_exists, goes_use, goes_atom, taken_by, IsFresh, MayChoose, goes_num}
 use Rattle.ll_laws.specs.Dealt.{value, values, On, replayed, atom_leaf, atom_line, line_of}
 use Rattle.ll_laws.proofs.SubLaws.{sub_comp, sub_form_comp, map_map, map_same, IsClosing, sub_instantiate, leaf-sub, ways-sub, sub_premise, sub_leaf}
 use Rattle.ll_laws.proofs.Leftovers.{or_off_left, or_off_right}
 use Rattle.ll_laws.proofs.Grounding.{grounded}
+use Rattle.ll_laws.specs.Number.{value_of, holds}
+use Rattle.ll_laws.proofs.Numbers.{value_sub, holds_sub, is_holds}
 
 -- ---- an inference of a run is what the branch's step tells again
 
@@ -51,6 +53,7 @@ goes_steps (goes_imp f) = refl
 goes_steps (goes_forall f) = refl
 goes_steps (goes_exists t f) = refl
 goes_steps (goes_use m f) = refl
+goes_steps (goes_num p) = refl
 goes_steps (goes_atom e label k us ps a b c d) = refl
 
 pub goes_line : {beside : Setting} {s : State} {rest : List (Item Form)} {g : Form} {n : Line} {u : State} → Goes beside s rest g n u → (all : List Term) → Chosen all s n
@@ -68,15 +71,17 @@ goes_line (goes_forall f) all h = refl
 goes_line {s = s} {rest = rest} (goes_exists {f = f} t q) all h =
     ap (λ z. On (ExistsLine z) (record (stepped s (Goal (instantiate f z) ∷ rest) Plain) { terms = s.terms ++ z ∷ [] })) h
 goes_line {s = s} {rest = rest} (goes_use {ts = ts} {g = g} m q) all h = ap (λ o. replayed UseLine (load_module s rest ts g o)) q
+goes_line (goes_num p) all h = refl
 goes_line {s = s} {rest = rest} (goes_atom e label k us ps he ho hc hl) all h =
     ap (atom_line all s rest label k) he ∙ (ap (λ z. atom_leaf s rest label k z (leaf e.clause k z)) (h e he) ∙ ap (atom_leaf s rest label k us) hl)
 
 -- ---- the inferences of the search
 
--- a goal that is neither an atom nor `exists`
+-- a goal that is none of an atom, `exists` and `is`
 abbrev pub IsPlain : Form → Type 0
 IsPlain (Atom a) = ⊥
 IsPlain (Exists a) = ⊥
+IsPlain (Num Is a b) = ⊥
 IsPlain _ = Unit {0}
 
 -- what a run needs of the state beyond what the search looks at
@@ -94,7 +99,7 @@ fresh_sub f n [] h = refl
 fresh_sub f n (e ∷ es) h =
     rw (or_off_left (nat_eq n e.label) (list_any (λ d. nat_eq n d.label) es) h) (fresh_sub f n es (or_off_right (nat_eq n e.label) (list_any (λ d. nat_eq n d.label) es) h))
 
-unlive_sub : (f : ℕ → Term) (es : List (Entry Form)) → map (sub_entry f) (map unlive es) ≡ map unlive (map (sub_entry f) es)
+pub unlive_sub : (f : ℕ → Term) (es : List (Entry Form)) → map (sub_entry f) (map unlive es) ≡ map unlive (map (sub_entry f) es)
 unlive_sub f [] = refl
 unlive_sub f (e ∷ es) = ap (λ xs. unlive (sub_entry f e) ∷ xs) (unlive_sub f es)
 
@@ -107,7 +112,13 @@ pub record Projects (beside : Setting) (all : List Term) (f : ℕ → Term) (s :
 keep : (beside : Setting) (all : List Term) (f : ℕ → Term) (s : State) (rest : List (Item Form)) (g : Form) (v u : State) → Some v ≡ Some u → Projects beside all f s rest g (grounded f v) → Projects beside all f s rest g (grounded f u)
 keep beside all f s rest g v u h p = subst (λ w. Projects beside all f s rest g (grounded f w)) (let e : v ≡ u = cc in e) p
 
--- one inference that makes no variable
+-- a test of numbers that holds
+tested : (beside : Setting) (all : List Term) (f : ℕ → Term) (s : State) (rest : List (Item Form)) (r : Relation) (a b : Term) (u : State) (o : Bool) → holds beside.operators r a b ≡ o
+    → (if o then Some (stepped s rest Plain) else None) ≡ Some u → Projects beside all f s rest (Num r a b) (grounded f u)
+tested beside all f s rest r a b u true q h = keep beside all f s rest (Num r a b) _ u h (record { node = _; goes = goes_num (holds_sub beside.operators f r a b q); chosen = tt })
+tested beside all f s rest r a b u false q h = cc
+
+-- one inference that makes no variable and binds none
 pub project : (beside : Setting) (all : List Term) (f : ℕ → Term) → IsClosing f → (s : State) (g : Form) → Ready beside s f g → (rest : List (Item Form)) (c : Candidate) (u : State) → attempt_goal beside s g rest c ≡ Some u
     → (IsPlain g) → Projects beside all f s rest g (grounded f u)
 project beside all f cl s One rd rest c u h i = keep beside all f s rest One _ u h (record { node = _; goes = goes_one; chosen = tt })
@@ -153,6 +164,9 @@ project beside all f cl s (Use m ts a) rd rest c u h i = step (slice_get beside.
           chosen = tt;
         })
 project beside all f cl s (Atom a) rd rest c u h i = absurd i
+project beside all f cl s (Num Is a b) rd rest c u h i = absurd i
+project beside all f cl s (Num Less a b) rd rest c u h i = tested beside all f s rest Less a b u (holds beside.operators Less a b) refl h
+project beside all f cl s (Num Most a b) rd rest c u h i = tested beside all f s rest Most a b u (holds beside.operators Most a b) refl h
 
 -- ---- an atom: the substitution before is the one after, behind the answer of `mgu`
 entry_sub : (f : ℕ → Term) (es : List (Entry Form)) (n : ℕ) (e : Entry Form) → entry_at es n ≡ Some e → entry_at (map (sub_entry f) es) n ≡ Some (sub_entry f e)
@@ -170,7 +184,7 @@ slice_at (m ∷ ns) zero n h = cc
 slice_at (m ∷ ns) (suc k) n h = slice_at ns k n h
 
 module _ (f : ℕ → Term) (v : Solved) where
-  abbrev back : ℕ → Term
+  abbrev pub back : ℕ → Term
   back x = sub f (v.subst x)
 
   item_comp : (i : Item Form) → sub_item f (sub_item v.subst i) ≡ sub_item back i
@@ -198,7 +212,7 @@ module _ (f : ℕ → Term) (v : Solved) where
       step true h = refl
       step false h = ap (λ xs. sub_entry back e ∷ xs) h
 
-  same_taken : (s : State) (rest : List (Item Form)) (label k n : ℕ) (l : Leaf)
+  pub same_taken : (s : State) (rest : List (Item Form)) (label k n : ℕ) (l : Leaf)
       → grounded f (instantiated (with_leaf s rest label k n l) v) ≡ taken_by (grounded back s) (map (sub_item back) rest) label k (map (sub back) (vars_from (length s.levels) n)) (map (sub_premise back) l.premises)
   same_taken s rest label k n l =
       parts
@@ -215,6 +229,28 @@ module _ (f : ℕ → Term) (v : Solved) where
           → record (grounded back s) { agenda = a; context = c; terms = x; steps = s.steps ++ ClauseStep label k ∷ [] }
           ≡ record (grounded back s) { agenda = b; context = d; terms = y; steps = s.steps ++ ClauseStep label k ∷ [] }
       parts p q r = cc
+
+  same_gone : (s : State) (rest : List (Item Form)) → grounded f (instantiated (stepped s rest Plain) v) ≡ stepped (grounded back s) (map (sub_item back) rest) Plain
+  same_gone s rest =
+      parts (map_map (sub_item f) (sub_item v.subst) rest ∙ map_same _ _ item_comp rest) (map_map (sub_entry f) (sub_entry v.subst) s.context ∙ map_same _ _ entry_comp s.context)
+      (map_map (sub f) (sub v.subst) s.terms ∙ map_same _ _ (sub_comp f v.subst) s.terms)
+    where
+      parts : {a b : List (Item Form)} {c d : List (Entry Form)} {x y : List Term} → a ≡ b → c ≡ d → x ≡ y
+          → record (grounded back s) { agenda = a; context = c; terms = x; steps = s.steps ++ Plain ∷ [] }
+          ≡ record (grounded back s) { agenda = b; context = d; terms = y; steps = s.steps ++ Plain ∷ [] }
+      parts p q r = cc
+
+  -- an `is`, whose left side is unified with the value of its right one
+  pub project_value : (beside : Setting) (all : List Term) (s : State) (rest : List (Item Form)) (a b : Term) (z : ℤ) → value_of beside.operators b ≡ Some z → sub v.subst a ≡ Int z
+      → Projects beside all back s rest (Num Is a b) (grounded f (instantiated (stepped s rest Plain) v))
+  project_value beside all s rest a b z h e =
+      record {
+        node = NumLine;
+        goes =
+            subst (λ u. Goes beside (grounded back s) (map (sub_item back) rest) (Num Is (sub back a) (sub back b)) NumLine u) (sym (same_gone s rest))
+            (goes_num (is_holds beside.operators (sub back a) (sub back b) z (sym (sub_comp f v.subst a) ∙ ap (sub f) e) (value_sub beside.operators back b z h)));
+        chosen = tt;
+      }
 
   same_ways : (es : List (Entry Form)) (label k n : ℕ) (e d : Entry Form) → entry_at es label ≡ Some e → slice_get (ways e.clause) k ≡ Some n
       → entry_at (map (sub_entry back) es) label ≡ Some d → slice_index (ways d.clause) k ≡ n

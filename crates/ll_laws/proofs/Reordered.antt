@@ -4,11 +4,11 @@ use Rattle.std.specs.Prelude.{filter, ◌||◌, not, if◌then◌else◌}
 use Rattle.std.specs.List.{list_any}
 use Rattle.std.proofs.lemmas.Bool.{eqb-true, eq-eqb, both_ways}
 use Rattle.std.proofs.lemmas.List.Folds.{list_any-append}
-use Rattle.ll_bank.specs.Form.{Form, Top, One, Atom, With, Tensor, Plus, Bang, Lolli, Imp, Forall, Exists, Use, instantiate, form_has_eigen}
+use Rattle.ll_bank.specs.Form.{Form, Top, One, Atom, With, Tensor, Plus, Bang, Lolli, Imp, Forall, Exists, Use, instantiate, form_has_eigen, Num}
 use Rattle.ll_laws.specs.Leaf.{Premise, Needs, NeedsFree}
 use Rattle.ll_laws.specs.Module.{Setting, unfold_load}
 use Rattle.ll_laws.specs.Derive.{IsNew}
-use Rattle.ll_laws.specs.Shows.{Tree, OneNode, EraseNode, TensorNode, WithNode, LeftNode, RightNode, BangNode, LolliNode, ImpNode, ForallNode, ExistsNode, UseNode, ClauseNode, Parts, NoParts, BoundedPart, UnboundedPart, Labelled, clauses, has_label, Found, Missing, Took, behind, take_label, pick, pick_of}
+use Rattle.ll_laws.specs.Shows.{Tree, OneNode, EraseNode, TensorNode, WithNode, LeftNode, RightNode, BangNode, LolliNode, ImpNode, ForallNode, ExistsNode, UseNode, ClauseNode, Parts, NoParts, BoundedPart, UnboundedPart, Labelled, clauses, has_label, Found, Missing, Took, behind, take_label, pick, pick_of, NumNode}
 use Rattle.ll_laws.specs.Dealing.{uses}
 use Rattle.ll_laws.specs.Lazy.{Lazy, LazyParts, Agree}
 use Rattle.ll_laws.proofs.Dealing.{Distinct, distinct_sel, distinct_add, taken_distinct, or_off_right}
@@ -164,6 +164,7 @@ mutual
   pub lazy_same : (beside : Setting) (x : Tree) (c : List Labelled) {i j : List Labelled} (g : Form) → Reordered i j → Distinct i → Lazy beside x c i g → Lazy beside x c j g
   lazy_same beside OneNode c One r d z = tt
   lazy_same beside EraseNode c Top r d z = tt
+  lazy_same beside NumNode c (Num k t u) r d z = z
   lazy_same beside (TensorNode s t x y) c {i = i} (Tensor g k) r d z =
       (lazy_same beside x c g r d z.0, lazy_same beside y c k (filter_same (λ l. not (uses l.label x)) r) (distinct_sel (λ n. not (uses n x)) i d) z.1)
   lazy_same beside (WithNode x y) c (With g k) r d z = (lazy_same beside x c g r d z.0, lazy_same beside y c k r d z.1, agree_same x y r z.2)

@@ -61,7 +61,7 @@ abbrev asking : List (Option ℕ) → List ClauseTree → Form → ℕ → Probl
 asking asked clauses goal bound = record { names = names; modules = []; clauses = clauses; goal = goal; asked = asked; bound = bound }
 
 -- the problem's run prints this text and ends with this status
-abbrev Gives : ProblemTree → List ℕ → ℕ → Type 0
+abbrev pub Gives : ProblemTree → List ℕ → ℕ → Type 0
 Gives p text status = (run_text p ≡ text) × (run_status p ≡ status)
 
 -- ---- `true`, and linear facts
@@ -255,7 +255,7 @@ module_loaded_inside_itself = (refl, refl)
 -- ---- with proofs
 
 -- the problem's run prints this text with proofs
-abbrev Proves : ProblemTree → List ℕ → Type 0
+abbrev pub Proves : ProblemTree → List ℕ → Type 0
 Proves p text = proved_run_text p ≡ text
 
 linear_fact_erased-proof : Proves (ground_problem (linear a ∷ []) Top 10) (codes "answer 1\nyes\nproof 1\nerase\nanswers 1, bound reached 0, inferences 1\n")

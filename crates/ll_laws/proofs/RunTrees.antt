@@ -13,9 +13,9 @@ use Rattle.ll_laws.specs.Module.{Setting, unfold_load}
 use Rattle.ll_laws.specs.Settle.{Entry, Saved, Item, Goal, LolliEnd, ImpEnd, WithMiddle, WithEnd, BangEnd, marks, remark, unlive}
 use Rattle.ll_laws.specs.State.{State}
 use Rattle.ll_laws.specs.Attempt.{stepped, picked}
-use Rattle.ll_laws.specs.Shows.{OneNode, EraseNode, TensorNode, WithNode, LeftNode, RightNode, BangNode, LolliNode, ImpNode, ForallNode, ExistsNode, UseNode, ClauseNode, NoParts, BoundedPart, UnboundedPart}
+use Rattle.ll_laws.specs.Shows.{OneNode, EraseNode, TensorNode, WithNode, LeftNode, RightNode, BangNode, LolliNode, ImpNode, ForallNode, ExistsNode, UseNode, ClauseNode, NoParts, BoundedPart, UnboundedPart, NumNode}
 use Rattle.ll_laws.specs.Line.{Labels, Free, Line, TensorLine, WithLine, LeftLine, RightLine, BangLine, UseLine, LolliLine, ImpLine, ForallLine, ExistsLine, ClauseLine, lines, lines_of_parts, part_lines}
-use Rattle.ll_laws.specs.Run.{Goes, goes_one, goes_top, goes_tensor, goes_left, goes_right, goes_with, goes_bang, goes_lolli, goes_imp, goes_forall, goes_exists, goes_use, goes_atom, Trace, taken_by}
+use Rattle.ll_laws.specs.Run.{Goes, goes_one, goes_top, goes_tensor, goes_left, goes_right, goes_with, goes_bang, goes_lolli, goes_imp, goes_forall, goes_exists, goes_use, goes_atom, Trace, taken_by, goes_num}
 use Rattle.ll_laws.specs.Dealing.{uses, erases, erases_part}
 use Rattle.ll_laws.specs.Lazy.{Lazy, LazyParts}
 use Rattle.ll_laws.proofs.Leftovers.{used_clause, used_then, used_parts_then, used_parts_none, used_none, on, use_entry, used_up, entry, live_of, free_of, or_assoc, first_step, settled_goal, Sound, live_used, free_used, remark_used, mid_trace, with_none, with_some, bang_trace, imp_trace, lolli_trace, shorter, with_joined, remark_to, remark_unlive, live_unlive, free_unlive, live_fresh, free_fresh, spent_or, sound_used, sound_unlive, sound_picked, free_picked, new_parts, closed_terms, take_entry, used_parts, bang_tree, Stepped, After, AfterParts}
@@ -180,6 +180,14 @@ case beside k ih s rest _ _ _ (goes_exists {f = f} t c) sd more le run =
 case beside k ih s rest _ _ _ (goes_use {ts = ts} {g = g} m q) sd more le run =
     let a = ih more le (stepped s (Goal (unfold_load m ts g) ∷ rest) Plain) (unfold_load m ts g) rest s.context s.flag sd run in
     record { tree = UseNode a.tree; more = a.more; nodes = ap (λ z. UseLine ∷ z) a.nodes; next = a.next; trace = a.trace; lazy = (m, q, a.lazy) }
+case beside k ih s rest _ _ _ (goes_num q) sd more le run = record {
+  tree = NumNode;
+  more = more;
+  nodes = refl;
+  next = stepped s rest Plain;
+  trace = subst (λ w. Trace beside more (on (stepped s rest Plain) rest w (s.flag || false))) (sym (used_none NumNode (λ n. refl) s.context)) (subst (λ b. Trace beside more (on (stepped s rest Plain) rest s.context b)) (sym (or-false s.flag)) run);
+  lazy = q;
+}
 case beside k ih s rest _ _ _ (goes_atom {a = at} e label j us ps q o c l) sd more le run =
     let u : State = taken_by s rest label j us ps in
     let t = take_entry label s.context e sd q o in

@@ -15,8 +15,8 @@ use Rattle.ll_laws.specs.State.{State, settle}
 use Rattle.ll_laws.specs.Attempt.{is_linear}
 use Rattle.ll_laws.specs.Search.{program_entries}
 use Rattle.ll_laws.specs.Problem.{ProblemTree, setting_of}
-use Rattle.ll_laws.specs.Shows.{Tree, OneNode, EraseNode, TensorNode, WithNode, LeftNode, RightNode, BangNode, LolliNode, ImpNode, ForallNode, ExistsNode, UseNode, ClauseNode, Parts, NoParts, BoundedPart, UnboundedPart, Labelled, has_label, Shows}
-use Rattle.ll_laws.specs.Line.{Labels, Free, Line, OneLine, EraseLine, TensorLine, WithLine, LeftLine, RightLine, BangLine, LolliLine, ImpLine, ForallLine, ExistsLine, UseLine, ClauseLine, Cuts, cut_parts, add_part, put, put_clause, trees_of, lines, lines_of_parts, part_lines}
+use Rattle.ll_laws.specs.Shows.{Tree, OneNode, EraseNode, TensorNode, WithNode, LeftNode, RightNode, BangNode, LolliNode, ImpNode, ForallNode, ExistsNode, UseNode, ClauseNode, Parts, NoParts, BoundedPart, UnboundedPart, Labelled, has_label, Shows, NumNode}
+use Rattle.ll_laws.specs.Line.{Labels, Free, Line, OneLine, EraseLine, TensorLine, WithLine, LeftLine, RightLine, BangLine, LolliLine, ImpLine, ForallLine, ExistsLine, UseLine, ClauseLine, Cuts, cut_parts, add_part, put, put_clause, trees_of, lines, lines_of_parts, part_lines, NumLine}
 use Rattle.ll_laws.specs.Verdict.{labelled, root_free, root_bounded, instantiated_goal, TreeShows, same_kind}
 use Rattle.ll_laws.specs.Run.{Trace, trace_end, trace_step, is_done, run_start}
 use Rattle.ll_laws.specs.Dealing.{uses, erases, deal}
@@ -45,6 +45,7 @@ mutual
   lines_back : (x : Tree) (ns : List Line) (ts : List Tree) → trees_of ns ≡ Some ts → trees_of (lines x ++ ns) ≡ Some (x ∷ ts)
   lines_back OneNode ns ts h = ap (option_and_then (put OneLine)) h
   lines_back EraseNode ns ts h = ap (option_and_then (put EraseLine)) h
+  lines_back NumNode ns ts h = ap (option_and_then (put NumLine)) h
   lines_back (TensorNode s t x y) ns ts h =
       ap (λ z. option_and_then (put (TensorLine s t)) (trees_of z)) (append_assoc (lines x) (lines y) ns) ∙ ap (option_and_then (put (TensorLine s t))) (lines_back x (lines y ++ ns) (y ∷ ts) (lines_back y ns ts h))
   lines_back (WithNode x y) ns ts h =
@@ -104,7 +105,7 @@ takes_all x es h n m = step (has_live (used_up x es)) refl (erases x) h
 -- ---- the clauses of a program
 
 -- labels from n on are no smaller one
-not_below : (k : Kind) (m n : ℕ) (cs : List ClauseTree) → m < n → has_label (labelled k n cs) m ≡ false
+pub not_below : (k : Kind) (m n : ℕ) (cs : List ClauseTree) → m < n → has_label (labelled k n cs) m ≡ false
 not_below k m n [] h = refl
 not_below k m n (c ∷ cs) h = step (same_kind k c.kind) (not_below k m (suc n) cs (omega (arith, h)))
   where
@@ -112,7 +113,7 @@ not_below k m n (c ∷ cs) h = step (same_kind k c.kind) (not_below k m (suc n) 
     step true g = ap (λ b. b || has_label (labelled k (suc n) cs) m) (ne_eqb m n (λ e. omega (arith, h, e))) ∙ g
     step false g = g
 
-labels_distinct : (k : Kind) (n : ℕ) (cs : List ClauseTree) → Distinct (labelled k n cs)
+pub labels_distinct : (k : Kind) (n : ℕ) (cs : List ClauseTree) → Distinct (labelled k n cs)
 labels_distinct k n [] = tt
 labels_distinct k n (c ∷ cs) = step (same_kind k c.kind) (labels_distinct k (suc n) cs)
   where
@@ -156,7 +157,7 @@ live_start n (c ∷ cs) = step c.kind (live_start (suc n) cs)
     step Linear h = both_orders (to_front (live_of (program_entries (suc n) cs)) (record { label = n; clause = c.form })) (same_first h)
     step Unbounded h = subst (λ z. Reordered z (labelled Linear (suc n) cs)) (sym (append-nil (live_of (program_entries (suc n) cs)))) h
 
-entries_sound : (n : ℕ) (cs : List ClauseTree) → Sound (program_entries n cs)
+pub entries_sound : (n : ℕ) (cs : List ClauseTree) → Sound (program_entries n cs)
 entries_sound n [] = tt
 entries_sound n (c ∷ cs) = (fresh n (suc n) cs (omega arith), may c.kind, entries_sound (suc n) cs)
   where

@@ -1,9 +1,9 @@
 -- One inference: the candidates of the first goal, and the state that each gives.
 -- Right rules and backchaining are those of Hodas and Miller 1994; the flag and the lazy leftovers are this system's own.
-use Rattle.std.specs.Prelude.{ℕ, zero, suc, Bool, true, false, ◌||◌, not, List, [], ◌∷◌, ◌++◌, map, length, replicate, nat_eq, slice_get, Option, Some, None, if◌then◌else◌, option_map, option_and_then, flat_map}
+use Rattle.std.specs.Prelude.{ℕ, zero, suc, Bool, true, false, ◌||◌, not, List, [], ◌∷◌, ◌++◌, map, length, replicate, nat_eq, slice_get, Option, Some, None, if◌then◌else◌, option_map, option_and_then, flat_map, ℤ}
 use Rattle.ll_bank.specs.declared.Head.TheVariants.{Eigen}
-use Rattle.ll_bank.specs.Term.{Term, Var, Con, sub, same_predicate}
-use Rattle.ll_bank.specs.Form.{Form, Top, One, Atom, With, Tensor, Plus, Bang, Lolli, Imp, Forall, Exists, Use, instantiate}
+use Rattle.ll_bank.specs.Term.{Term, Var, Con, sub, same_predicate, Int}
+use Rattle.ll_bank.specs.Form.{Form, Top, One, Atom, With, Tensor, Plus, Bang, Lolli, Imp, Forall, Exists, Use, instantiate, Num, Relation, Is}
 use Rattle.ll_laws.specs.declared.Kind.{Kind}
 use Rattle.ll_laws.specs.declared.Kind.TheVariants.{Linear, Unbounded}
 use Rattle.ll_laws.specs.declared.Step.{Step}
@@ -14,6 +14,7 @@ use Rattle.ll_laws.specs.Module.{ModuleTree, Setting, unfold_load}
 use Rattle.ll_laws.specs.Settle.{Entry, Saved, Item, Goal, LolliEnd, ImpEnd, WithMiddle, WithEnd, BangEnd, marks, unlive}
 use Rattle.ll_laws.specs.State.{State, sub_item, sub_entry}
 use Rattle.ll_laws.specs.Unify.{Solved, mgu}
+use Rattle.ll_laws.specs.Number.{value_of, holds}
 
 -- the variables from n on, so many
 abbrev pub vars_from : ℕ → ℕ → List Term
@@ -134,6 +135,16 @@ abbrev pub load_module : State → List (Item Form) → List Term → Form → O
 load_module s rest ts g None = None
 load_module s rest ts g (Some m) = Some (stepped s (Goal (unfold_load m ts g) ∷ rest) Plain)
 
+-- a state in which the variable of an `is` has its value, or a term is the number already
+abbrev pub take_value : State → Term → List (Item Form) → Option ℤ → Option State
+take_value s t rest None = None
+take_value s t rest (Some z) = option_map (instantiated (stepped s rest Plain)) (mgu (t ∷ []) (Int z ∷ []) s.levels)
+
+-- a whole-number goal: `is` unifies its left side with the value of its right one, and the others are tested
+abbrev pub take_number : Setting → State → Relation → Term → Term → List (Item Form) → Option State
+take_number m s Is t u rest = take_value s t rest (value_of m.operators u)
+take_number m s r t u rest = if holds m.operators r t u then Some (stepped s rest Plain) else None
+
 -- a first goal taken apart by a candidate, with this rest of the agenda
 abbrev pub attempt_goal : Setting → State → Form → List (Item Form) → Candidate → Option State
 attempt_goal m s One rest c = Some (stepped s rest Plain)
@@ -156,6 +167,7 @@ attempt_goal m s (Exists f) rest c =
       terms = s.terms ++ Var (length s.levels) ∷ [];
     })
 attempt_goal m s (Use n ts g) rest c = load_module s rest ts g (slice_get m.modules n)
+attempt_goal m s (Num r t u) rest c = take_number m s r t u rest
 attempt_goal m s (Atom a) rest c = option_and_then (take_entry s a rest c.label c.leaf) (entry_at s.context c.label)
 
 -- an agenda's first goal taken apart by a candidate

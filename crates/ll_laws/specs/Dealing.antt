@@ -1,13 +1,14 @@
 -- How the labels of bounded clauses are dealt out to the nodes of a tree: to the node that uses a label, and otherwise to one that can
 -- erase it.
 use Rattle.std.specs.Prelude.{ℕ, Bool, true, false, ◌||◌, ◌&&◌, not, List, [], ◌∷◌, ◌++◌, filter, nat_eq}
-use Rattle.ll_laws.specs.Shows.{Tree, OneNode, EraseNode, TensorNode, WithNode, LeftNode, RightNode, BangNode, LolliNode, ImpNode, ForallNode, ExistsNode, UseNode, ClauseNode, Parts, NoParts, BoundedPart, UnboundedPart}
+use Rattle.ll_laws.specs.Shows.{Tree, OneNode, EraseNode, TensorNode, WithNode, LeftNode, RightNode, BangNode, LolliNode, ImpNode, ForallNode, ExistsNode, UseNode, ClauseNode, Parts, NoParts, BoundedPart, UnboundedPart, NumNode}
 
 abbrev mutual
   -- a clause step in the tree picks the label of a linear clause; below a bang none can be picked
   pub uses : ℕ → Tree → Bool
   uses n OneNode = false
   uses n EraseNode = false
+  uses n NumNode = false
   uses n (TensorNode s t x y) = uses n x || uses n y
   uses n (WithNode x y) = uses n x || uses n y
   uses n (LeftNode x) = uses n x
@@ -30,6 +31,7 @@ abbrev mutual
   pub erases : Tree → Bool
   erases OneNode = false
   erases EraseNode = true
+  erases NumNode = false
   erases (TensorNode s t x y) = erases x || erases y
   erases (WithNode x y) = erases x && erases y
   erases (LeftNode x) = erases x
@@ -59,6 +61,7 @@ abbrev mutual
   pub deal : List ℕ → Tree → Tree
   deal d OneNode = OneNode
   deal d EraseNode = EraseNode
+  deal d NumNode = NumNode
   deal d (TensorNode s t x y) =
       TensorNode (filter (λ n. goes_to (uses n x) (uses n y) (erases x)) d) (filter (λ n. not (goes_to (uses n x) (uses n y) (erases x))) d)
       (deal (filter (λ n. goes_to (uses n x) (uses n y) (erases x)) d) x) (deal (filter (λ n. not (goes_to (uses n x) (uses n y) (erases x))) d) y)

@@ -3,14 +3,14 @@ use Rattle.std.specs.Prelude.{ℕ, List, [], ◌∷◌, ◌++◌, map, length, t
 use Rattle.ll_laws.specs.declared.Step.{Step}
 use Rattle.ll_laws.specs.declared.Step.TheVariants.{Plain, Right, Clause as ClauseStep}
 use Rattle.ll_bank.specs.Term.{Term, Var}
-use Rattle.ll_bank.specs.Form.{Form, Top, One, Atom, With, Tensor, Plus, Bang, Lolli, Imp, Forall, Exists, Use, instantiate}
+use Rattle.ll_bank.specs.Form.{Form, Top, One, Atom, With, Tensor, Plus, Bang, Lolli, Imp, Forall, Exists, Use, instantiate, Num}
 use Rattle.ll_laws.specs.Leaf.{Leaf, ways, leaf}
 use Rattle.ll_laws.specs.Module.{Setting}
 use Rattle.ll_laws.specs.Settle.{Entry, Item, Goal}
 use Rattle.ll_laws.specs.State.{State, settle}
 use Rattle.ll_laws.specs.Attempt.{stepped, entry_at, attempt_goal}
 use Rattle.ll_laws.specs.Shows.{Tree}
-use Rattle.ll_laws.specs.Line.{Line, OneLine, EraseLine, TensorLine, WithLine, LeftLine, RightLine, BangLine, UseLine, LolliLine, ImpLine, ForallLine, ExistsLine, ClauseLine, part_line, trees_of, lines, DerivationLines}
+use Rattle.ll_laws.specs.Line.{Line, OneLine, EraseLine, TensorLine, WithLine, LeftLine, RightLine, BangLine, UseLine, LolliLine, ImpLine, ForallLine, ExistsLine, ClauseLine, part_line, trees_of, lines, DerivationLines, NumLine}
 use Rattle.ll_laws.specs.Run.{taken_by, run_start}
 use Rattle.ll_laws.specs.Dealing.{deal}
 use Rattle.ll_laws.specs.Problem.{ProblemTree, setting_of}
@@ -66,6 +66,7 @@ line_of beside all s (Exists f) rest c =
       terms = s.terms ++ value all (length s.terms) ∷ [];
     })
 line_of beside all s (Use m ts g) rest c = replayed UseLine (attempt_goal beside s (Use m ts g) rest (record { label = 0; leaf = 0 }))
+line_of beside all s (Num r t u) rest c = On NumLine (stepped s rest Plain)
 line_of beside all s (Atom a) rest (ClauseStep label k) = atom_line all s rest label k (entry_at s.context label)
 line_of beside all s (Atom a) rest _ = Off
 

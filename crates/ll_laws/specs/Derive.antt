@@ -4,9 +4,10 @@ use Rattle.std.specs.Prelude.{◌≡◌, ℕ, suc, ◌+◌, true, false, List, [
 use Rattle.std.specs.List.{list_any}
 use Rattle.ll_bank.specs.declared.Head.TheVariants.{Eigen}
 use Rattle.ll_bank.specs.Term.{Term, Con, is_closed}
-use Rattle.ll_bank.specs.Form.{Form, Top, One, Atom, With, Tensor, Plus, Bang, Lolli, Imp, Forall, Exists, Use, instantiate, form_has_eigen}
+use Rattle.ll_bank.specs.Form.{Form, Top, One, Atom, With, Tensor, Plus, Bang, Lolli, Imp, Forall, Exists, Use, instantiate, form_has_eigen, Num, Relation}
 use Rattle.ll_laws.specs.Leaf.{Premise, Needs, NeedsFree, leaf}
 use Rattle.ll_laws.specs.Module.{Setting, ModuleTree, unfold_load}
+use Rattle.ll_laws.specs.Number.{holds}
 
 -- the third list is dealt out to the first and the second: it is a shuffle of them
 pub data Dealt {A : Type 0} : List A → List A → List A → Type 0 where
@@ -39,6 +40,7 @@ mutual
     by_forall : {m : ℕ} {c d : List Form} {g : Form} (k : ℕ) → IsNew k (g ∷ (c ++ d)) → Derivable beside m c d (instantiate g (Con (Eigen k))) → Derivable beside (suc m) c d (Forall g)
     by_exists : {m : ℕ} {c d : List Form} {g : Form} (t : Term) → is_closed t ≡ true → Derivable beside m c d (instantiate g t) → Derivable beside (suc m) c d (Exists g)
     by_use : {m k : ℕ} {c d : List Form} {g : Form} {ts : List Term} (l : ModuleTree) → slice_get beside.modules k ≡ Some l → Derivable beside m c d (unfold_load l ts g) → Derivable beside (suc m) c d (Use k ts g)
+    by_num : {c : List Form} {r : Relation} {t u : Term} → holds beside.operators r t u ≡ true → Derivable beside 1 c [] (Num r t u)
     by_free : {m : ℕ} {c d : List Form} {a : Term} (r : Form) (k : ℕ) (ts : List Term) (ps : List Premise) → Contains c r → AreClosed ts → leaf r k ts ≡ Some (record { premises = ps; head = a }) → Premises beside m c d ps → Derivable beside (suc m) c d (Atom a)
     by_linear : {m : ℕ} {c d e : List Form} {a : Term} (r : Form) (k : ℕ) (ts : List Term) (ps : List Premise) → Dealt (r ∷ []) e d → AreClosed ts → leaf r k ts ≡ Some (record { premises = ps; head = a }) → Premises beside m c e ps → Derivable beside (suc m) c d (Atom a)
 

@@ -2,16 +2,18 @@
 --
 -- Reasons: 1 the rule does not fit the goal; 2 bounded resources left; 3 not a dealing; 4 no such resource; 5 no such leaf; 6 wrong
 -- number of terms; 7 the head is not the goal; 8 wrong parts; 9 the label is not new; 10 the constant is not new; 11 wrong number of
--- terms for the query's variables, at node 0. At a clause node they are judged in the order 1, 4, 5, 6, 7, 8, 3.
+-- terms for the query's variables, at node 0; 12 numbers do not fit. At a clause node they are judged in the order 1, 4, 5, 6, 7, 8, 3, and
+-- at a whole-number node in the order 1, 2, 12.
 use Rattle.std.specs.Prelude.{ℕ, suc, Bool, true, false, ◌&&◌, ◌||◌, not, if◌then◌else◌, List, [], ◌∷◌, ◌++◌, length, nat_eq, nat_lt, Option, Some, None, slice_get}
 use Rattle.std.specs.List.{list_any}
 use Rattle.std.specs.Ordering.{int_eq}
 use Rattle.ll_bank.specs.declared.Head.TheVariants.{Eigen}
 use Rattle.ll_bank.specs.Term.{Term, Var, Int, Con, Ap, head_eq}
-use Rattle.ll_bank.specs.Form.{Form, Top, One, Atom, With, Tensor, Plus, Bang, Lolli, Imp, Forall, Exists, Use, instantiate, form_has_eigen}
+use Rattle.ll_bank.specs.Form.{Form, Top, One, Atom, With, Tensor, Plus, Bang, Lolli, Imp, Forall, Exists, Use, instantiate, form_has_eigen, Num}
 use Rattle.ll_laws.specs.Leaf.{Premise, Needs, NeedsFree, Leaf, ways, leaf}
 use Rattle.ll_laws.specs.Module.{Setting, ModuleTree, unfold_load}
-use Rattle.ll_laws.specs.Shows.{Tree, OneNode, EraseNode, TensorNode, WithNode, LeftNode, RightNode, BangNode, LolliNode, ImpNode, ForallNode, ExistsNode, UseNode, ClauseNode, Parts, NoParts, BoundedPart, UnboundedPart, Labelled, clauses, has_label, part, rest, splits, all_in, Found, Missing, Took, pick}
+use Rattle.ll_laws.specs.Shows.{Tree, OneNode, EraseNode, TensorNode, WithNode, LeftNode, RightNode, BangNode, LolliNode, ImpNode, ForallNode, ExistsNode, UseNode, ClauseNode, Parts, NoParts, BoundedPart, UnboundedPart, Labelled, clauses, has_label, part, rest, splits, all_in, Found, Missing, Took, pick, NumNode}
+use Rattle.ll_laws.specs.Number.{holds}
 
 -- what checking a tree gives
 pub data Checked : Type 0 where
@@ -100,6 +102,7 @@ abbrev mutual
   fault beside k (ForallNode e x) c d (Forall g) = unless (not (list_any (form_has_eigen e) (g ∷ (clauses c ++ clauses d)))) k 10 (fault beside (suc k) x c d (instantiate g (Con (Eigen e))))
   fault beside k (ExistsNode t x) c d (Exists g) = fault beside (suc k) x c d (instantiate g t)
   fault beside k (UseNode x) c d (Use m ts g) = on_module (module_of beside m) k (λ l. fault beside (suc k) x c d (unfold_load l ts g))
+  fault beside k NumNode c d (Num r t u) = unless (is_empty d) k 2 (unless (holds beside.operators r t u) k 12 (Fits (suc k)))
   fault beside k (ClauseNode n j ts ps) c d (Atom a) = on_judged (judge_clause a j ts ps (pick n c d)) k (λ gs e. fault_parts beside (suc k) ps c e gs)
   fault beside k _ c d _ = Fault k 1
 

@@ -2,12 +2,13 @@
 use Rattle.std.specs.Prelude.{◌≡◌, ℕ, true, false, ◌||◌, not, List, [], ◌∷◌, ◌++◌, filter, Some, slice_get}
 use Rattle.ll_bank.specs.declared.Head.TheVariants.{Eigen}
 use Rattle.ll_bank.specs.Term.{Con, is_closed}
-use Rattle.ll_bank.specs.Form.{Form, Top, One, Atom, With, Tensor, Plus, Bang, Lolli, Imp, Forall, Exists, Use, instantiate}
+use Rattle.ll_bank.specs.Form.{Form, Top, One, Atom, With, Tensor, Plus, Bang, Lolli, Imp, Forall, Exists, Use, instantiate, Num}
 use Rattle.ll_laws.specs.Leaf.{Needs, NeedsFree, Premise, leaf}
 use Rattle.ll_laws.specs.Module.{Setting, ModuleTree, unfold_load}
 use Rattle.ll_laws.specs.Derive.{AreClosed, IsNew}
-use Rattle.ll_laws.specs.Shows.{Tree, OneNode, EraseNode, TensorNode, WithNode, LeftNode, RightNode, BangNode, LolliNode, ImpNode, ForallNode, ExistsNode, UseNode, ClauseNode, Parts, NoParts, BoundedPart, UnboundedPart, Labelled, clauses, has_label, Took, pick}
+use Rattle.ll_laws.specs.Shows.{Tree, OneNode, EraseNode, TensorNode, WithNode, LeftNode, RightNode, BangNode, LolliNode, ImpNode, ForallNode, ExistsNode, UseNode, ClauseNode, Parts, NoParts, BoundedPart, UnboundedPart, Labelled, clauses, has_label, Took, pick, NumNode}
 use Rattle.ll_laws.specs.Dealing.{uses, erases}
+use Rattle.ll_laws.specs.Number.{holds}
 
 abbrev pub unused : Tree → List Labelled → List Labelled
 unused x i = filter (λ l. not (uses l.label x)) i
@@ -32,6 +33,7 @@ abbrev mutual
   Lazy beside (ForallNode k x) c i (Forall g) = IsNew k (g ∷ (clauses c ++ clauses i)) × Lazy beside x c i (instantiate g (Con (Eigen k)))
   Lazy beside (ExistsNode t x) c i (Exists g) = (is_closed t ≡ true) × Lazy beside x c i (instantiate g t)
   Lazy beside (UseNode x) c i (Use k ts g) = (l : ModuleTree) × (slice_get beside.modules k ≡ Some l) × Lazy beside x c i (unfold_load l ts g)
+  Lazy beside NumNode c i (Num r t u) = holds beside.operators r t u ≡ true
   Lazy beside (ClauseNode n k ts ps) c i (Atom a) =
       (r : Form) × (e : List Labelled) × (gs : List Premise) × (pick n c i ≡ Took r e) × AreClosed ts
       × (leaf r k ts ≡ Some (record { premises = gs; head = a })) × LazyParts beside ps c e gs

@@ -1,5 +1,6 @@
 pub mod Leaf
 pub mod Module
+pub mod Number
 pub mod Settle
 pub mod Unify
 pub mod State
@@ -29,3 +30,5 @@ pub mod Spread
 pub mod Sound
 pub mod CoreEvents
 pub mod Later
+pub mod Instance
+pub mod Completeness

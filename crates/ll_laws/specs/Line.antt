@@ -1,9 +1,9 @@
 -- A derivation as it is kept: its nodes in prefix order, and the tree that they are.
-use Rattle.std.specs.Prelude.{◌≡◌, ℕ, Bool, true, ◌&&◌, List, [], ◌∷◌, ◌++◌, nat_lt, Option, Some, None, option_and_then}
+use Rattle.std.specs.Prelude.{◌≡◌, ℕ, Bool, true, false, ◌&&◌, List, [], ◌∷◌, ◌++◌, nat_lt, Option, Some, None, option_and_then}
 use Rattle.std.specs.List.{list_all}
 use Rattle.ll_bank.specs.Term.{Term, is_closed}
 use Rattle.ll_laws.specs.Leaf.{Premise, Needs, NeedsFree}
-use Rattle.ll_laws.specs.Shows.{Tree, OneNode, EraseNode, TensorNode, WithNode, LeftNode, RightNode, BangNode, LolliNode, ImpNode, ForallNode, ExistsNode, UseNode, ClauseNode, Parts, NoParts, BoundedPart, UnboundedPart}
+use Rattle.ll_laws.specs.Shows.{Tree, OneNode, EraseNode, TensorNode, WithNode, LeftNode, RightNode, BangNode, LolliNode, ImpNode, ForallNode, ExistsNode, UseNode, ClauseNode, Parts, NoParts, BoundedPart, UnboundedPart, NumNode}
 
 -- what a clause node says of one premise: the labels of a bounded one, or that it is unbounded
 pub data PartLine : Type 0 where
@@ -12,7 +12,7 @@ pub data PartLine : Type 0 where
 
 -- one node: its rule, and what the rule chooses
 pub data Line : Type 0 where
-  OneLine EraseLine WithLine LeftLine RightLine BangLine UseLine : Line
+  OneLine EraseLine WithLine LeftLine RightLine BangLine UseLine NumLine : Line
   TensorLine : List ℕ → List ℕ → Line
   LolliLine ImpLine ForallLine : ℕ → Line
   ExistsLine : Term → Line
@@ -44,6 +44,7 @@ put_clause n k us (Cuts ps ts) = Some (ClauseNode n k us ps ∷ ts)
 abbrev pub put : Line → List Tree → Option (List Tree)
 put OneLine ts = Some (OneNode ∷ ts)
 put EraseLine ts = Some (EraseNode ∷ ts)
+put NumLine ts = Some (NumNode ∷ ts)
 put (TensorLine s t) (x ∷ y ∷ ts) = Some (TensorNode s t x y ∷ ts)
 put WithLine (x ∷ y ∷ ts) = Some (WithNode x y ∷ ts)
 put LeftLine (x ∷ ts) = Some (LeftNode x ∷ ts)
@@ -102,6 +103,7 @@ abbrev mutual
   pub lines : Tree → List Line
   lines OneNode = OneLine ∷ []
   lines EraseNode = EraseLine ∷ []
+  lines NumNode = NumLine ∷ []
   lines (TensorNode s t x y) = TensorLine s t ∷ (lines x ++ lines y)
   lines (WithNode x y) = WithLine ∷ (lines x ++ lines y)
   lines (LeftNode x) = LeftLine ∷ lines x
@@ -125,3 +127,8 @@ abbrev mutual
   part_lines NoParts = []
   part_lines (BoundedPart s x ps) = Labels s ∷ part_lines ps
   part_lines (UnboundedPart x ps) = Free ∷ part_lines ps
+
+-- the node is that of a whole-number goal
+abbrev pub counts_numbers : Line → Bool
+counts_numbers NumLine = true
+counts_numbers _ = false

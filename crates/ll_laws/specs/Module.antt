@@ -4,6 +4,7 @@ use Rattle.ll_bank.specs.Term.{Term, Env}
 use Rattle.ll_bank.specs.Form.{Form, Lolli, Imp, Forall, close_form}
 use Rattle.ll_laws.specs.declared.Kind.{Kind}
 use Rattle.ll_laws.specs.declared.Kind.TheVariants.{Linear, Unbounded}
+use Rattle.ll_laws.specs.Number.{Operators}
 
 -- a clause with its kind
 pub record ClauseTree : Type 0 where
@@ -17,9 +18,10 @@ pub record ModuleTree : Type 0 where
   pub locals : ℕ
   pub clauses : List ClauseTree
 
--- what a search looks at beside its state: the modules that loads name, by their places
+-- what a search looks at beside its state: the modules that loads name, by their places, and the operators of expressions
 pub record Setting : Type 0 where
   pub modules : List ModuleTree
+  pub operators : Operators
 
 -- a goal with one clause loaded for it
 abbrev pub load : Kind → Form → Form → Form

@@ -5,6 +5,7 @@ use Rattle.ll_laws.specs.declared.Event.{Event}
 use Rattle.ll_laws.specs.Module.{ClauseTree, ModuleTree, Setting}
 use Rattle.ll_laws.specs.State.{State}
 use Rattle.ll_laws.specs.Search.{start, events, cost}
+use Rattle.ll_laws.specs.Number.{operators_of}
 
 -- a problem
 pub record ProblemTree : Type 0 where
@@ -22,7 +23,7 @@ pub record ProblemTree : Type 0 where
 
 -- what the search of a problem looks at beside its state
 abbrev pub setting_of : ProblemTree → Setting
-setting_of p = record { modules = p.modules }
+setting_of p = record { modules = p.modules; operators = operators_of p.names }
 
 -- the state in which the search of a problem starts
 abbrev pub start_of : ProblemTree → State

@@ -6,7 +6,7 @@ use Rattle.ll_laws.specs.declared.Event.TheVariants.{Answer, Reached}
 use Rattle.ll_laws.specs.Search.{is_answer, is_reached}
 use Rattle.ll_laws.specs.Problem.{ProblemTree, problem_events, problem_cost}
 use Rattle.ll_laws.specs.Output.{line, argument_text, term_text, answer_text, summary_text}
-use Rattle.ll_laws.specs.Line.{PartLine, Labels, Free, Line, OneLine, EraseLine, TensorLine, WithLine, LeftLine, RightLine, BangLine, UseLine, LolliLine, ImpLine, ForallLine, ExistsLine, ClauseLine, DerivationLines}
+use Rattle.ll_laws.specs.Line.{PartLine, Labels, Free, Line, OneLine, EraseLine, TensorLine, WithLine, LeftLine, RightLine, BangLine, UseLine, LolliLine, ImpLine, ForallLine, ExistsLine, ClauseLine, DerivationLines, NumLine}
 use Rattle.ll_laws.specs.Dealt.{dealt}
 
 -- a field: a space and its text
@@ -46,6 +46,7 @@ node_text names (ImpLine n) = codes "imp" ++ field (decimal n)
 node_text names (ForallLine c) = codes "forall" ++ field (decimal c)
 node_text names (ExistsLine t) = codes "exists" ++ term_field names t
 node_text names UseLine = codes "use"
+node_text names NumLine = codes "num"
 node_text names (ClauseLine n k ts ps) = codes "clause" ++ field (decimal n) ++ field (decimal k) ++ flat_map (term_field names) ts ++ flat_map part_field ps
 
 -- the text of a derivation: its version, a line for each variable of the query, and a line for each node in prefix order

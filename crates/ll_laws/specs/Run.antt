@@ -5,17 +5,18 @@ use Rattle.ll_laws.specs.declared.Kind.TheVariants.{Linear, Unbounded}
 use Rattle.ll_laws.specs.declared.Step.TheVariants.{Plain, Left, Right, Clause as ClauseStep}
 use Rattle.ll_bank.specs.declared.Head.TheVariants.{Eigen}
 use Rattle.ll_bank.specs.Term.{Term, Con, is_closed, eigens_below}
-use Rattle.ll_bank.specs.Form.{Form, Top, One, Atom, With, Tensor, Plus, Bang, Lolli, Imp, Forall, Exists, Use, instantiate}
+use Rattle.ll_bank.specs.Form.{Form, Top, One, Atom, With, Tensor, Plus, Bang, Lolli, Imp, Forall, Exists, Use, instantiate, Num, Relation}
 use Rattle.ll_laws.specs.Leaf.{Premise, leaf, premise_goal}
 use Rattle.ll_laws.specs.Module.{Setting, ModuleTree, unfold_load}
 use Rattle.ll_laws.specs.Derive.{IsNew}
-use Rattle.ll_laws.specs.Line.{Line, OneLine, EraseLine, TensorLine, WithLine, LeftLine, RightLine, BangLine, UseLine, LolliLine, ImpLine, ForallLine, ExistsLine, ClauseLine, part_line}
+use Rattle.ll_laws.specs.Line.{Line, OneLine, EraseLine, TensorLine, WithLine, LeftLine, RightLine, BangLine, UseLine, LolliLine, ImpLine, ForallLine, ExistsLine, ClauseLine, part_line, NumLine, counts_numbers}
 use Rattle.ll_laws.specs.Settle.{Entry, Item, Goal, LolliEnd, ImpEnd, WithMiddle, WithEnd, BangEnd, has_live, unlive}
 use Rattle.ll_laws.specs.State.{State, settle}
 use Rattle.ll_laws.specs.Search.{start}
 use Rattle.ll_laws.specs.Problem.{ProblemTree}
 use Rattle.ll_laws.specs.Verdict.{instantiated_goal}
 use Rattle.ll_laws.specs.Attempt.{stepped, saved_of, loaded, entry_at, is_open, picked}
+use Rattle.ll_laws.specs.Number.{holds}
 
 -- the state after an atom was taken by leaf k of the entry with this label, with the terms us for its quantifiers
 abbrev pub taken_by : State → List (Item Form) → ℕ → ℕ → List Term → List Premise → State
@@ -52,6 +53,7 @@ pub data Goes (beside : Setting) (s : State) (rest : List (Item Form)) : Form �
   goes_exists : {f : Form} (t : Term) → MayChoose s.eigens (t ∷ [])
       → Goes beside s rest (Exists f) (ExistsLine t) (record (stepped s (Goal (instantiate f t) ∷ rest) Plain) { terms = s.terms ++ t ∷ [] })
   goes_use : {k : ℕ} {ts : List Term} {g : Form} (m : ModuleTree) → slice_get beside.modules k ≡ Some m → Goes beside s rest (Use k ts g) UseLine (stepped s (Goal (unfold_load m ts g) ∷ rest) Plain)
+  goes_num : {r : Relation} {t u : Term} → holds beside.operators r t u ≡ true → Goes beside s rest (Num r t u) NumLine (stepped s rest Plain)
   goes_atom : {a : Term} (e : Entry Form) (label k : ℕ) (us : List Term) (ps : List Premise) → entry_at s.context label ≡ Some e → is_open e ≡ true → MayChoose s.eigens us
       → leaf e.clause k us ≡ Some (record { premises = ps; head = a }) → Goes beside s rest (Atom a) (ClauseLine label k us (map part_line ps)) (taken_by s rest label k us ps)
 
@@ -65,11 +67,12 @@ pub data Trace (beside : Setting) : List Line → State → Type 0 where
   trace_step : {s : State} {n : Line} {ns : List Line} (t u : State) (g : Form) (rest : List (Item Form)) → settle s ≡ Some t → t.agenda ≡ Goal g ∷ rest → Goes beside t rest g n u → Trace beside ns u
       → Trace beside (n ∷ ns) s
 
--- so many inferences bring the state to an answer
+-- so many inferences, none of a whole-number goal, bring the state to an answer
 pub record Run (beside : Setting) (size : ℕ) (s : State) : Type 0 where
   pub nodes : List Line
   pub trace : Trace beside nodes s
   pub count : length nodes ≡ size
+  pub numberless : list_any counts_numbers nodes ≡ false
 
 -- the state in which the runs of a problem start, where these terms stand for the query's variables
 abbrev pub run_start : ProblemTree → List Term → State

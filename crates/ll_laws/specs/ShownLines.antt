@@ -7,8 +7,8 @@ use Rattle.ll_bank.specs.Nodes.{Nodes, term_tree, term_trees, HasTerm, AllInTerm
 use Rattle.ll_laws.specs.declared.Part.{Part}
 use Rattle.ll_laws.specs.declared.Part.TheVariants.{Bounded, Unbounded}
 use Rattle.ll_laws.specs.declared.Rule.{Rule}
-use Rattle.ll_laws.specs.declared.Rule.TheVariants.{One, Erase, Tensor, With, Left, Right, Bang, Lolli, Imp, Forall, Exists, Use, Clause}
-use Rattle.ll_laws.specs.Line.{PartLine, Labels, Free, Line, OneLine, EraseLine, WithLine, LeftLine, RightLine, BangLine, UseLine, TensorLine, LolliLine, ImpLine, ForallLine, ExistsLine, ClauseLine, DerivationLines}
+use Rattle.ll_laws.specs.declared.Rule.TheVariants.{One, Erase, Tensor, With, Left, Right, Bang, Lolli, Imp, Forall, Exists, Use, Clause, Num}
+use Rattle.ll_laws.specs.Line.{PartLine, Labels, Free, Line, OneLine, EraseLine, WithLine, LeftLine, RightLine, BangLine, UseLine, TensorLine, LolliLine, ImpLine, ForallLine, ExistsLine, ClauseLine, DerivationLines, NumLine}
 
 -- a part
 abbrev pub part_line : Part → PartLine
@@ -29,6 +29,7 @@ line_of bank (Imp n) = ImpLine n
 line_of bank (Forall c) = ForallLine c
 line_of bank (Exists t) = ExistsLine (term_tree bank t.0)
 line_of bank Use = UseLine
+line_of bank Num = NumLine
 line_of bank (Clause n k ts ps) = ClauseLine n k (term_trees bank ts.items) (map part_line ps.items)
 
 -- the places of a rule are in the bank
@@ -77,7 +78,8 @@ line_by (suc (suc (suc (suc (suc (suc (suc (suc zero)))))))) m n ts ps = LolliLi
 line_by (suc (suc (suc (suc (suc (suc (suc (suc (suc zero))))))))) m n ts ps = ImpLine (slice_index m 0)
 line_by (suc (suc (suc (suc (suc (suc (suc (suc (suc (suc zero)))))))))) m n ts ps = ForallLine (slice_index m 0)
 line_by (suc (suc (suc (suc (suc (suc (suc (suc (suc (suc (suc zero))))))))))) m n ts ps = ExistsLine (slice_index_or ts 0 (Var 0))
-line_by k m n ts ps = ClauseLine (slice_index m 0) (slice_index n 0) ts ps
+line_by (suc (suc (suc (suc (suc (suc (suc (suc (suc (suc (suc (suc zero)))))))))))) m n ts ps = ClauseLine (slice_index m 0) (slice_index n 0) ts ps
+line_by k m n ts ps = NumLine
 
 -- the fields of a line
 abbrev fields : Line → Fields
@@ -94,6 +96,7 @@ fields (ImpLine n) = (9, (n ∷ [], ([], ([], []))))
 fields (ForallLine c) = (10, (c ∷ [], ([], ([], []))))
 fields (ExistsLine t) = (11, ([], ([], (t ∷ [], []))))
 fields (ClauseLine n k ts ps) = (12, (n ∷ [], (k ∷ [], (ts, ps))))
+fields NumLine = (13, ([], ([], ([], []))))
 
 -- a line has its fields
 pub fields-line : (l : Line) → (let f = fields l in line_by f.0 f.1.0 f.1.1.0 f.1.1.1.0 f.1.1.1.1) ≡ l
@@ -110,6 +113,7 @@ fields-line (ImpLine n) = refl
 fields-line (ForallLine c) = refl
 fields-line (ExistsLine t) = refl
 fields-line (ClauseLine n k ts ps) = refl
+fields-line NumLine = refl
 
 -- a line, told apart
 abbrev line_code : Coded Line

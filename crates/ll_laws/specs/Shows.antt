@@ -3,10 +3,11 @@ use Rattle.std.specs.Prelude.{◌≡◌, ℕ, suc, ◌+◌, Bool, true, false, �
 use Rattle.std.specs.List.{list_any, list_all}
 use Rattle.ll_bank.specs.declared.Head.TheVariants.{Eigen}
 use Rattle.ll_bank.specs.Term.{Term, Con, is_closed}
-use Rattle.ll_bank.specs.Form.{Form, Top, One, Atom, With, Tensor, Plus, Bang, Lolli, Imp, Forall, Exists, Use, instantiate}
+use Rattle.ll_bank.specs.Form.{Form, Top, One, Atom, With, Tensor, Plus, Bang, Lolli, Imp, Forall, Exists, Use, instantiate, Num}
 use Rattle.ll_laws.specs.Leaf.{Premise, Needs, NeedsFree, leaf}
 use Rattle.ll_laws.specs.Module.{Setting, ModuleTree, unfold_load}
 use Rattle.ll_laws.specs.Derive.{AreClosed, IsNew}
+use Rattle.ll_laws.specs.Number.{holds}
 
 mutual
   -- A node has its rule's name. A tensor node has the labels of each side; a node for `-o` or `=>` the label of what it loads; one for
@@ -24,6 +25,7 @@ mutual
     ForallNode : ℕ → Tree → Tree
     ExistsNode : Term → Tree → Tree
     UseNode : Tree → Tree
+    NumNode : Tree
     ClauseNode : ℕ → ℕ → List Term → Parts → Tree
 
   -- one part for each premise of a clause: a bounded one with its labels
@@ -47,6 +49,7 @@ abbrev mutual
   nodes (ForallNode c d) = suc (nodes d)
   nodes (ExistsNode t d) = suc (nodes d)
   nodes (UseNode d) = suc (nodes d)
+  nodes NumNode = 1
   nodes (ClauseNode n k ts ps) = suc (part_nodes ps)
 
   -- the number of nodes of all parts
@@ -154,6 +157,7 @@ abbrev mutual
   Shows beside (ForallNode k x) c d (Forall g) = IsNew k (g ∷ (clauses c ++ clauses d)) × Shows beside x c d (instantiate g (Con (Eigen k)))
   Shows beside (ExistsNode t x) c d (Exists g) = (is_closed t ≡ true) × Shows beside x c d (instantiate g t)
   Shows beside (UseNode x) c d (Use k ts g) = (l : ModuleTree) × (slice_get beside.modules k ≡ Some l) × Shows beside x c d (unfold_load l ts g)
+  Shows beside NumNode c d (Num r t u) = (d ≡ []) × (holds beside.operators r t u ≡ true)
   Shows beside (ClauseNode n k ts ps) c d (Atom a) =
       (r : Form) × (e : List Labelled) × (gs : List Premise) × (pick n c d ≡ Took r e) × AreClosed ts
       × (leaf r k ts ≡ Some (record { premises = gs; head = a })) × ShowsParts beside ps c e gs

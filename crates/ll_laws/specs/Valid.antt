@@ -4,7 +4,7 @@ use Rattle.std.specs.List.{list_all}
 use Rattle.ll_bank.specs.declared.Head.{Head}
 use Rattle.ll_bank.specs.declared.Head.TheVariants.{Name, Bound}
 use Rattle.ll_bank.specs.Term.{Term, Con, Ap, head_of, arity, eigens_below, is_spine}
-use Rattle.ll_bank.specs.Form.{Form, Top, One, Atom, With, Tensor, Plus, Bang, Lolli, Imp, Forall, Exists, Use}
+use Rattle.ll_bank.specs.Form.{Form, Top, One, Atom, With, Tensor, Plus, Bang, Lolli, Imp, Forall, Exists, Use, Num}
 use Rattle.ll_laws.specs.Leaf.{ways}
 use Rattle.ll_laws.specs.Module.{ClauseTree, ModuleTree}
 use Rattle.ll_laws.specs.Unify.{vars_below}
@@ -29,6 +29,7 @@ is_on GoalSide (Imp r g) = is_on ClauseSide r && is_on GoalSide g
 is_on GoalSide (Forall f) = is_on GoalSide f
 is_on GoalSide (Exists f) = is_on GoalSide f
 is_on GoalSide (Use m ts f) = is_on GoalSide f
+is_on GoalSide (Num r t u) = false
 is_on ClauseSide Top = true
 is_on ClauseSide (Atom a) = true
 is_on ClauseSide (With r s) = is_on ClauseSide r && is_on ClauseSide s
@@ -45,7 +46,7 @@ is_goal g = is_on GoalSide g
 abbrev pub is_clause : Form → Bool
 is_clause r = is_on ClauseSide r
 
--- a test of each atom of a formula and of each argument of a load, given the number of quantifiers round it
+-- a test of each atom of a formula, of each argument of a load and of both sides of a whole-number goal, given the number of quantifiers round it
 abbrev pub each_term : (ℕ → Term → Bool) → ℕ → Form → Bool
 each_term test n Top = true
 each_term test n One = true
@@ -59,6 +60,7 @@ each_term test n (Imp f g) = each_term test n f && each_term test n g
 each_term test n (Forall f) = each_term test (suc n) f
 each_term test n (Exists f) = each_term test (suc n) f
 each_term test n (Use m ts f) = list_all (test n) ts && each_term test n f
+each_term test n (Num r t u) = test n t && test n u
 
 -- the bound places of a term are below n
 abbrev pub places_below : ℕ → Term → Bool
@@ -100,7 +102,7 @@ is_headed scope _ = true
 abbrev pub is_atom : Scope → Term → Bool
 is_atom scope a = is_spine a && may_head scope (head_of a) && is_headed scope a
 
--- the atoms of a formula on this side, and the arguments of its loads, have heads that may be. `opens` says that the bound
+-- the atoms of a formula on this side, the arguments of its loads and the sides of its whole-number goals have heads that may be. `opens` says that the bound
 -- place of a goal's `forall` may be one, as it may where an eigenconstant takes its place.
 abbrev pub has_heads : Bool → Side → Scope → Form → Bool
 has_heads opens side scope Top = true
@@ -118,6 +120,7 @@ has_heads opens GoalSide scope (Forall f) = has_heads opens GoalSide (opens ∷ 
 has_heads opens ClauseSide scope (Forall r) = has_heads opens ClauseSide (false ∷ scope) r
 has_heads opens side scope (Exists f) = has_heads opens side (false ∷ scope) f
 has_heads opens side scope (Use m ts f) = list_all (is_headed scope) ts && has_heads opens side scope f
+has_heads opens side scope (Num r t u) = is_headed scope t && is_headed scope u
 
 -- a load has a module, and as many arguments as this has parameters
 abbrev pub fits_module : Option ModuleTree → List Term → Bool

@@ -6,6 +6,7 @@
 
 ghost use Rattle.std.specs.Prelude.{◌≡◌, length};
 ghost use Rattle.ll_laws.specs.Laws.{StuckSearch, EndedSearch, BoundSearch, SteppedSearch, SteadySearch, SettledOnce, SettledUnder, StartsConsistent, SettlesConsistent, StepsConsistent, FoundUnifies, FoundLowers, FoundIsMostGeneral, NoneUnifies, ShownIsDerivable, FaultlessShows, ShownIsFaultless, RunsAreShown, AnswersAreShown};
+ghost use Rattle.ll_laws.specs.Completeness.{ShownRuns, HiddenCover, RunsAreFound, ShownIsFound, ShownIsAnswered, ShownIsNumbered, NothingIsShown};
 
 use ll_bank::{At, Bank, FormAt, Names};
 use std::marker::Model;
@@ -217,6 +218,8 @@ pub enum Rule {
     Exists(At),
     /// A module load, by the goal that it stands for.
     Use,
+    /// A whole-number goal that holds, from no bounded clause.
+    Num,
     /// An atom by a leaf of the clause with this label: the terms for the quantifiers on the way to the leaf, the outermost
     /// first, and one part for each premise, the one nearest the head first.
     Clause {
@@ -310,4 +313,28 @@ pub fn runs_are_shown()
 /// variables: so each linear clause is used exactly once, by a clause step or an `erase`. It has as many nodes as the branch has steps.
 pub fn answers_are_shown()
     ensures { AnswersAreShown }
+{}
+
+/// What a derivation without whole-number goals shows of the query of a valid problem, as many inferences of a run bring to an answer. The run
+/// starts with the derivation's terms for the query's variables, but for parts whose head is an eigenconstant: variables stand in their place,
+/// and they can be named so that the derivation's terms are an instance.
+pub fn derivations_are_run()
+    ensures runs { ShownRuns }
+    ensures hidden { HiddenCover }
+{}
+
+/// What a run brings to an answer, with closed terms chosen for the variables of a consistent state, the search finds from the state itself:
+/// an answer with as many steps, of whose terms the chosen ones are an instance. (Lifting, as Robinson's of 1965 for resolution.)
+pub fn runs_are_found()
+    ensures { RunsAreFound }
+{}
+
+/// The search of a valid problem is complete up to its bound, whole-number goals aside: for each derivation of the query with at most so many
+/// nodes, none of them of a whole-number goal, it has an answer, of whose terms those of the derivation are an instance, with as many steps
+/// as the derivation has nodes. So where it has no answer and reached no bound, no such derivation shows the query.
+pub fn search_is_complete()
+    ensures found { ShownIsFound }
+    ensures answered { ShownIsAnswered }
+    ensures numbered { ShownIsNumbered }
+    ensures nothing { NothingIsShown }
 {}

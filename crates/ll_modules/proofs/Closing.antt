@@ -4,7 +4,7 @@ use Rattle.std.specs.List.{list_all}
 use Rattle.std.proofs.lemmas.Bool.{and_from, and_parts, ltb-true}
 use Rattle.ll_bank.specs.declared.Head.TheVariants.{Name, Eigen, Bound}
 use Rattle.ll_bank.specs.Term.{Term, Var, Int, Con, Ap, Env, place, close, is_spine, applies_heads}
-use Rattle.ll_bank.specs.Form.{Form, Top, One, Atom, With, Tensor, Plus, Bang, Lolli, Imp, Forall, Exists, Use, close_form, instantiate, form_applies_heads}
+use Rattle.ll_bank.specs.Form.{Form, Top, One, Atom, With, Tensor, Plus, Bang, Lolli, Imp, Forall, Exists, Use, Num, close_form, instantiate, form_applies_heads}
 use Rattle.ll_laws.specs.Valid.{places_below}
 
 -- an environment under so many quantifiers that stay
@@ -71,6 +71,7 @@ module _ (t : Term) (e : Env) (closed : places_below 0 t ≡ true) where
   form_split n (Forall f) = ap Forall (form_split (suc n) f)
   form_split n (Exists f) = ap Exists (form_split (suc n) f)
   form_split n (Use m ts f) = λ i. Use m (each_split n ts i) (form_split n f i)
+  form_split n (Num r u v) = λ i. Num r (close_split n u i) (close_split n v i)
 
   -- so the innermost place may be opened first
   pub opens_first : (f : Form) → close_form (Some t ∷ e) f ≡ close_form e (instantiate f t)
@@ -107,6 +108,7 @@ form_nothing n (Imp f g) = λ i. Imp (form_nothing n f i) (form_nothing n g i)
 form_nothing n (Forall f) = ap Forall (form_nothing (suc n) f)
 form_nothing n (Exists f) = ap Exists (form_nothing (suc n) f)
 form_nothing n (Use m ts f) = λ i. Use m (each_nothing n ts i) (form_nothing n f i)
+form_nothing n (Num r u v) = λ i. Num r (close_nothing n u i) (close_nothing n v i)
 
 -- with nothing in place of its places a formula stays
 pub closes_nothing : (f : Form) → close_form [] f ≡ f
@@ -152,3 +154,4 @@ form_before e (Imp f g) h = two_before _ _ _ _ (form_before e f) (form_before e 
 form_before e (Forall f) h = form_before (None ∷ e) f h
 form_before e (Exists f) h = form_before (None ∷ e) f h
 form_before e (Use m ts f) h = two_before _ _ _ _ (each_before e ts) (form_before e f) h
+form_before e (Num r u v) h = two_before _ _ _ _ (heads_before e u) (heads_before e v) h

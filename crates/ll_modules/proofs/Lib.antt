@@ -1,2 +1,3 @@
 pub mod Closing
 pub mod Loading
+pub mod Evaluating

@@ -1,5 +1,7 @@
-//! The goal that a load of a module stands for.
+//! The goal that a load of a module stands for, and the value of an expression.
 #![tactic(auto)]
+
+mod evaluate;
 
 ghost use Rattle.std.specs.Prelude.{◌≡◌, true, length, map, All, IfOk};
 ghost use Rattle.ll_bank.specs.Form.{close_form, form_applies_heads};
@@ -8,6 +10,7 @@ ghost use Rattle.ll_laws.specs.Module.{forall_all, load, load_all, unfold_load};
 ghost use Rattle.ll_laws.specs.Shown.{clause_tree, module_tree, HasClauses};
 ghost use Rattle.ll_modules.specs.Loads.{arguments_env, AreClosed, MayLoad};
 
+pub use evaluate::value;
 use ll_bank::{At, Bank, FormAt, FormNode, OutOfMemory};
 use ll_laws::{Clause, Kind, Module};
 

@@ -6,7 +6,7 @@ use Rattle.std.proofs.lemmas.Bool.{ltb-true, lt-ltb, le-ltb, cases_lt}
 use Rattle.std.proofs.lemmas.List.{length-map, length-replicate}
 use Rattle.ll_bank.specs.declared.Head.TheVariants.{Name, Eigen, Bound}
 use Rattle.ll_bank.specs.Term.{Term, Var, Int, Con, Ap, arity}
-use Rattle.ll_bank.specs.Form.{Form, Top, One, Atom, With, Tensor, Plus, Bang, Lolli, Imp, Forall, Exists, Use}
+use Rattle.ll_bank.specs.Form.{Form, Top, One, Atom, With, Tensor, Plus, Bang, Lolli, Imp, Forall, Exists, Use, Num}
 use Rattle.ll_laws.specs.Module.{ModuleTree, forall_all}
 use Rattle.ll_laws.specs.Leaf.{ways}
 use Rattle.ll_laws.specs.Valid.{Side, GoalSide, ClauseSide, Scope, given, each_term, names_below, arity_up_to, fits_module, leaves_up_to}
@@ -115,6 +115,7 @@ module _ (modules : List ModuleTree) (n : ℕ) where
   bound_form d side inner outer (Exists f) m h = (h.0, bound_form (suc d) side (false ∷ inner) (false ∷ outer) f (moves_under n d false inner outer m) h.1)
   bound_form d side inner outer (Use k ts f) m h =
       (h.0, as_many (slice_get modules k) ts (map (bind_term n d) ts) (length-map ts (bind_term n d)) h.1, bound_fits d inner outer ts m h.2, bound_form d side inner outer f m h.3)
+  bound_form d side inner outer (Num r t u) m h = (h.0, bound_fit d inner outer t m h.1, bound_fit d inner outer u m h.2)
 
 -- ---- tests that binding does not change
 
@@ -160,6 +161,7 @@ module _ (test : Term → Bool) (n : ℕ) (same : (d : ℕ) (t : Term) → test 
   bound_each m d (Forall f) = bound_each (suc m) (suc d) f
   bound_each m d (Exists f) = bound_each (suc m) (suc d) f
   bound_each m d (Use k ts f) = let i = bound_all d ts in let j = bound_each m d f in cc
+  bound_each m d (Num r t u) = let i = same d t in let j = same d u in cc
 
 bound_ways : (n d : ℕ) (f : Form) → ways (bind_form n d f) ≡ ways f
 bound_ways n d Top = refl
@@ -174,6 +176,7 @@ bound_ways n d (Imp f g) = bound_ways n d g
 bound_ways n d (Forall f) = ap (map (λ n. suc n)) (bound_ways n (suc d) f)
 bound_ways n d (Exists f) = refl
 bound_ways n d (Use k ts f) = refl
+bound_ways n d (Num r t u) = refl
 
 bound_leaves : (most n d : ℕ) (side : Side) (f : Form) → leaves_up_to most side (bind_form n d f) ≡ leaves_up_to most side f
 bound_leaves most n d GoalSide Top = refl
@@ -201,6 +204,8 @@ bound_leaves most n d GoalSide (Exists f) = bound_leaves most n (suc d) GoalSide
 bound_leaves most n d ClauseSide (Exists f) = refl
 bound_leaves most n d GoalSide (Use k ts f) = bound_leaves most n d GoalSide f
 bound_leaves most n d ClauseSide (Use k ts f) = refl
+bound_leaves most n d GoalSide (Num r t u) = refl
+bound_leaves most n d ClauseSide (Num r t u) = refl
 
 -- ---- quantified formulas
 

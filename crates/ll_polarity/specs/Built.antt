@@ -43,7 +43,13 @@ abbrev mutual
   built_term a met (anything at) =
       record { it = put_term a.quantified a.depth (Var (length met.variables)); met = record met { variables = met.variables ++ None ∷ [] } }
   built_term a met (int at z) = record { it = Int z; met = met }
-  built_term a met r = record { it = Int (pos 0); met = met }
+  built_term a met (truth at) = record { it = Int (pos 0); met = met }
+  built_term a met (erasure at) = record { it = Int (pos 0); met = met }
+  built_term a met (braces at r) = record { it = Int (pos 0); met = met }
+  built_term a met (universal at n r) = record { it = Int (pos 0); met = met }
+  built_term a met (existential at n r) = record { it = Int (pos 0); met = met }
+  built_term a met (load at m args r) = record { it = Int (pos 0); met = met }
+  built_term a met (binary o at l r) = record { it = Int (pos 0); met = met }
 
   -- terms, from left to right
   pub built_terms : Around → Met → RawList → Read (List Term)
@@ -60,7 +66,9 @@ built_form places a met (existential at n r) = let g = built_form places (inside
 built_form places a met (load at m args r) =
     let ts = built_terms a met args in let g = built_form places a ts.met r in record { it = Use (places m.text) ts.it g.it; met = g.met }
 built_form places a met (binary o at l r) = let f = built_form places a met l in let g = built_form places a f.met r in record { it = joined o f.it g.it; met = g.met }
-built_form places a met r = let t = built_term a met r in record { it = Atom t.it; met = t.met }
+built_form places a met (head n args) = let t = built_term a met (head n args) in record { it = Atom t.it; met = t.met }
+built_form places a met (anything at) = let t = built_term a met (anything at) in record { it = Atom t.it; met = t.met }
+built_form places a met (int at z) = let t = built_term a met (int at z) in record { it = Atom t.it; met = t.met }
 
 -- ---- arguments
 
@@ -68,7 +76,14 @@ built_form places a met r = let t = built_term a met r in record { it = Atom t.i
 abbrev pub arguments : Raw → RawList
 arguments (head n args) = args
 arguments (load at m args r) = args
-arguments r = none
+arguments (truth at) = none
+arguments (erasure at) = none
+arguments (braces at r) = none
+arguments (universal at n r) = none
+arguments (existential at n r) = none
+arguments (binary o at l r) = none
+arguments (anything at) = none
+arguments (int at z) = none
 
 -- raw trees without the first ones
 abbrev pub raws_past : ℕ → RawList → RawList

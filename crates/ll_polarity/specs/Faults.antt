@@ -8,7 +8,7 @@ use Rattle.ll_laws.specs.Valid.{Side, GoalSide, ClauseSide}
 use Rattle.ll_parser.specs.declared.Op.{Op}
 use Rattle.ll_parser.specs.declared.Op.TheVariants as op
 use Rattle.ll_parser.specs.Tokens.{Identifier, Tok, tok_place}
-use Rattle.ll_parser.specs.Raw.{Raw, truth, erasure, braces, universal, existential, load, binary, head, RawList, none, more, ClauseTree, ModuleTree, ProgramTree}
+use Rattle.ll_parser.specs.Raw.{Raw, truth, erasure, braces, universal, existential, load, binary, head, anything, int, RawList, none, more, ClauseTree, ModuleTree, ProgramTree}
 use Rattle.ll_polarity.specs.Scope.{Scope, binds, Meaning, Bound, Local, Free, Constant, meaning, module_scope}
 
 -- one fault, unless the test holds
@@ -37,7 +37,16 @@ abbrev mutual
   -- the faults of a term
   pub term_faults : Scope → Raw → List Fault
   term_faults scope (head n args) = applied_fault scope n args ++ terms_faults scope args
-  term_faults scope r = []
+  term_faults scope (anything at) = []
+  term_faults scope (int at z) = []
+  -- no other raw tree is a term
+  term_faults scope (truth at) = []
+  term_faults scope (erasure at) = []
+  term_faults scope (braces at r) = []
+  term_faults scope (universal at n r) = []
+  term_faults scope (existential at n r) = []
+  term_faults scope (load at m args r) = []
+  term_faults scope (binary o at l r) = []
 
   pub terms_faults : Scope → RawList → List Fault
   terms_faults scope none = []
@@ -97,7 +106,8 @@ form_faults ms side scope (load at m args r) =
 form_faults ms side scope (binary o at l r) = form_faults ms (left_side o side) scope l ++ unless (may_join o side) 7 at ++ form_faults ms (right_side o side) scope r
 form_faults ms side scope (head n args) = unless (may_be_head (meaning scope n.text)) 9 n.at ++ terms_faults scope args
 -- no other raw tree is a formula
-form_faults ms side scope r = []
+form_faults ms side scope (anything at) = []
+form_faults ms side scope (int at z) = []
 
 -- the faults of clauses
 abbrev pub clauses_faults : List Heading → Scope → List ClauseTree → List Fault

@@ -6,7 +6,7 @@ use Rattle.std.specs.Str.{bytes_eq}
 use Rattle.ll_bank.specs.declared.Head.TheVariants as head
 use Rattle.ll_bank.specs.Names.{number_of, with_name}
 use Rattle.ll_bank.specs.Term.{Term, Var, Int, Con, Ap, apply}
-use Rattle.ll_bank.specs.Form.{Form, Top, One, Atom, With, Tensor, Plus, Bang, Lolli, Imp, Forall, Exists, Use}
+use Rattle.ll_bank.specs.Form.{Form, Top, One, Atom, With, Tensor, Plus, Bang, Lolli, Imp, Forall, Exists, Use, Num}
 use Rattle.ll_laws.specs.Module.{forall_all}
 use Rattle.ll_parser.specs.declared.Op.{Op}
 use Rattle.ll_parser.specs.declared.Op.TheVariants as op
@@ -63,7 +63,13 @@ abbrev mutual
   read_term scope met (anything at) = record { it = Var (length met.variables); met = record met { variables = met.variables ++ None ∷ [] } }
   read_term scope met (int at z) = record { it = Int z; met = met }
   -- no other raw tree is a term
-  read_term scope met r = record { it = Int (pos 0); met = met }
+  read_term scope met (truth at) = record { it = Int (pos 0); met = met }
+  read_term scope met (erasure at) = record { it = Int (pos 0); met = met }
+  read_term scope met (braces at r) = record { it = Int (pos 0); met = met }
+  read_term scope met (universal at n r) = record { it = Int (pos 0); met = met }
+  read_term scope met (existential at n r) = record { it = Int (pos 0); met = met }
+  read_term scope met (load at m args r) = record { it = Int (pos 0); met = met }
+  read_term scope met (binary o at l r) = record { it = Int (pos 0); met = met }
 
   -- terms, from left to right
   pub read_terms : Scope → Met → RawList → Read (List Term)
@@ -95,7 +101,9 @@ read_form ms scope met (load at m args r) =
     let ts = read_terms scope met args in let g = read_form ms scope ts.met r in record { it = Use (module_in ms m.text) ts.it g.it; met = g.met }
 read_form ms scope met (binary o at l r) =
     let f = read_form ms scope met l in let g = read_form ms scope f.met r in record { it = joined o f.it g.it; met = g.met }
-read_form ms scope met r = let a = read_term scope met r in record { it = Atom a.it; met = a.met }
+read_form ms scope met (head n args) = let a = read_term scope met (head n args) in record { it = Atom a.it; met = a.met }
+read_form ms scope met (anything at) = let a = read_term scope met (anything at) in record { it = Atom a.it; met = a.met }
+read_form ms scope met (int at z) = let a = read_term scope met (int at z) in record { it = Atom a.it; met = a.met }
 
 -- ---- the variables of a clause are quantified over it, outermost, in their order
 
@@ -125,6 +133,7 @@ bind_form n d (Imp f g) = Imp (bind_form n d f) (bind_form n d g)
 bind_form n d (Forall f) = Forall (bind_form n (suc d) f)
 bind_form n d (Exists f) = Exists (bind_form n (suc d) f)
 bind_form n d (Use m ts f) = Use m (map (bind_term n d) ts) (bind_form n d f)
+bind_form n d (Num r t u) = Num r (bind_term n d t) (bind_term n d u)
 
 -- a formula under quantifiers for its n variables, variable 0 outermost
 abbrev pub quantified : ℕ → Form → Form

@@ -41,7 +41,14 @@ pub fn argument(forms: &Raws, at: RawAt, number: usize) -> Option<RawAt>
     match forms.node(at) {
         RawNode::Head(_, args) => nth(args, number),
         RawNode::Load(_, args, _) => nth(args, number),
-        _ => None,
+        RawNode::True
+        | RawNode::Erase
+        | RawNode::Braces(_)
+        | RawNode::Forall(_, _)
+        | RawNode::Exists(_, _)
+        | RawNode::Binary(_, _, _)
+        | RawNode::Any
+        | RawNode::Int(_) => None,
     }
 }
 
@@ -85,7 +92,14 @@ fn begun(
             let term = bank.int(value)?;
             Ok(Turn::Give(term))
         }
-        _ => {
+        // no other raw tree is a term
+        RawNode::True
+        | RawNode::Erase
+        | RawNode::Braces(_)
+        | RawNode::Forall(_, _)
+        | RawNode::Exists(_, _)
+        | RawNode::Load(_, _, _)
+        | RawNode::Binary(_, _, _) => {
             let term = bank.int(0)?;
             Ok(Turn::Give(term))
         }

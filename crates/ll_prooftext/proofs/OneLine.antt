@@ -6,7 +6,7 @@ use Rattle.std.specs.Str.{bytes_eq}
 use Rattle.std.proofs.lemmas.Fmt.{decimal_injective, decimal_nonempty}
 use Rattle.std.proofs.lemmas.List.Elements.{All-head, All-tail}
 use Rattle.ll_bank.specs.Term.{Term}
-use Rattle.ll_laws.specs.Line.{PartLine, Labels, Free, Line, OneLine, EraseLine, TensorLine, WithLine, LeftLine, RightLine, BangLine, UseLine, LolliLine, ImpLine, ForallLine, ExistsLine, ClauseLine}
+use Rattle.ll_laws.specs.Line.{PartLine, Labels, Free, Line, OneLine, EraseLine, TensorLine, WithLine, LeftLine, RightLine, BangLine, UseLine, LolliLine, ImpLine, ForallLine, ExistsLine, ClauseLine, NumLine}
 use Rattle.ll_laws.specs.Output.{bracket_if, has_arguments, term_text, argument_text}
 use Rattle.ll_laws.specs.ProofText.{field, labels_text, set_text, term_field, part_field, node_text}
 use Rattle.ll_lexer.specs.Spelling.{is_lower}
@@ -144,6 +144,7 @@ line_word (ImpLine n) = codes "imp"
 line_word (ForallLine c) = codes "forall"
 line_word (ExistsLine t) = codes "exists"
 line_word UseLine = codes "use"
+line_word NumLine = codes "num"
 line_word (ClauseLine n k ts ps) = codes "clause"
 
 abbrev pub line_rest : List (List ℕ) → Line → List ℕ
@@ -153,17 +154,47 @@ line_rest names (ImpLine n) = field (decimal n)
 line_rest names (ForallLine c) = field (decimal c)
 line_rest names (ExistsLine t) = term_field names t
 line_rest names (ClauseLine n k ts ps) = field (decimal n) ++ field (decimal k) ++ flat_map (term_field names) ts ++ flat_map part_field ps
-line_rest names _ = []
+line_rest names OneLine = []
+line_rest names EraseLine = []
+line_rest names WithLine = []
+line_rest names LeftLine = []
+line_rest names RightLine = []
+line_rest names BangLine = []
+line_rest names UseLine = []
+line_rest names NumLine = []
 
 pub line_is : (names : List (List ℕ)) (l : Line) → node_text names l ≡ line_word l ++ line_rest names l
+line_is names OneLine = refl
+line_is names EraseLine = refl
 line_is names (TensorLine s t) = refl
+line_is names WithLine = refl
+line_is names LeftLine = refl
+line_is names RightLine = refl
+line_is names BangLine = refl
+line_is names (LolliLine n) = refl
+line_is names (ImpLine n) = refl
+line_is names (ForallLine n) = refl
+line_is names (ExistsLine t) = refl
+line_is names UseLine = refl
+line_is names NumLine = refl
 line_is names (ClauseLine n k ts ps) = refl
-line_is names _ = refl
 
 -- no space and no LF stands in the first word
 pub word_free : (l : Line) → (list_all (is_not 32) (line_word l) ≡ true) × (list_all (is_not 10) (line_word l) ≡ true)
+word_free OneLine = (refl, refl)
+word_free EraseLine = (refl, refl)
 word_free (TensorLine s t) = (refl, refl)
-word_free _ = (refl, refl)
+word_free WithLine = (refl, refl)
+word_free LeftLine = (refl, refl)
+word_free RightLine = (refl, refl)
+word_free BangLine = (refl, refl)
+word_free (LolliLine n) = (refl, refl)
+word_free (ImpLine n) = (refl, refl)
+word_free (ForallLine n) = (refl, refl)
+word_free (ExistsLine t) = (refl, refl)
+word_free UseLine = (refl, refl)
+word_free NumLine = (refl, refl)
+word_free (ClauseLine n k ts ps) = (refl, refl)
 
 -- the kinds of lines, numbered in the order of their words
 abbrev line_kind : Line → ℕ
@@ -179,23 +210,48 @@ line_kind (ImpLine n) = 8
 line_kind (ForallLine c) = 9
 line_kind (ExistsLine t) = 10
 line_kind UseLine = 11
-line_kind (ClauseLine n k ts ps) = 12
+line_kind NumLine = 12
+line_kind (ClauseLine n k ts ps) = 13
 
 abbrev index_in : List (List ℕ × Want) → List ℕ → ℕ
 index_in [] w = 0
 index_in (v ∷ vs) w = if bytes_eq v.0 w then 0 else suc (index_in vs w)
 
 kind_is : (l : Line) → index_in node_words (line_word l) ≡ line_kind l
+kind_is OneLine = refl
+kind_is EraseLine = refl
 kind_is (TensorLine s t) = refl
-kind_is _ = refl
+kind_is WithLine = refl
+kind_is LeftLine = refl
+kind_is RightLine = refl
+kind_is BangLine = refl
+kind_is (LolliLine n) = refl
+kind_is (ImpLine n) = refl
+kind_is (ForallLine n) = refl
+kind_is (ExistsLine t) = refl
+kind_is UseLine = refl
+kind_is NumLine = refl
+kind_is (ClauseLine n k ts ps) = refl
 
 one_kind : (l m : Line) → line_word l ≡ line_word m → line_kind l ≡ line_kind m
 one_kind l m e = sym (kind_is l) ∙ (ap (index_in node_words) e ∙ kind_is m)
 
 -- no node has the word of a variable
-not_let : (l : Line) → line_kind l ≡ 13 → ⊥
+not_let : (l : Line) → line_kind l ≡ 14 → ⊥
+not_let OneLine e = cc
+not_let EraseLine e = cc
 not_let (TensorLine s t) e = cc
-not_let _ e = cc
+not_let WithLine e = cc
+not_let LeftLine e = cc
+not_let RightLine e = cc
+not_let BangLine e = cc
+not_let (LolliLine n) e = cc
+not_let (ImpLine n) e = cc
+not_let (ForallLine n) e = cc
+not_let (ExistsLine t) e = cc
+not_let UseLine e = cc
+not_let NumLine e = cc
+not_let (ClauseLine n k ts ps) e = cc
 
 rest_stops : (names : List (List ℕ)) (l : Line) → Stops (is_not 32) (line_rest names l)
 rest_stops names (TensorLine s t) = at_byte 32 (set_text s ++ field (set_text t)) refl refl
@@ -204,7 +260,14 @@ rest_stops names (ImpLine n) = at_byte 32 (decimal n) refl refl
 rest_stops names (ForallLine n) = at_byte 32 (decimal n) refl refl
 rest_stops names (ExistsLine t) = at_byte 32 (argument_text t (term_text names t)) refl refl
 rest_stops names (ClauseLine n k ts ps) = at_byte 32 (((decimal n ++ field (decimal k)) ++ flat_map (term_field names) ts) ++ flat_map part_field ps) refl refl
-rest_stops names _ = ended refl
+rest_stops names OneLine = ended refl
+rest_stops names EraseLine = ended refl
+rest_stops names WithLine = ended refl
+rest_stops names LeftLine = ended refl
+rest_stops names RightLine = ended refl
+rest_stops names BangLine = ended refl
+rest_stops names UseLine = ended refl
+rest_stops names NumLine = ended refl
 
 -- no node has the line of a variable
 pub no_let : (names : List (List ℕ)) (l : Line) (t : Term) → node_text names l ≡ codes "let" ++ term_field names t → ⊥
@@ -264,6 +327,7 @@ module _ (names : List (List ℕ)) (distinct : IsDistinct bytes_eq names) where
   by_parts (ForallLine n) (ForallLine m) p q w e = ap ForallLine (last_number n m p q e)
   by_parts (ExistsLine t) (ExistsLine u) p q w e = ap ExistsLine (last_term t u p q e)
   by_parts UseLine UseLine p q w e = refl
+  by_parts NumLine NumLine p q w e = refl
   by_parts (ClauseLine n k ts ps) (ClauseLine m j us qs) p q w e = clause_same n k m j ts us ps qs p q e
   by_parts l m p q w e = absurd cc
 

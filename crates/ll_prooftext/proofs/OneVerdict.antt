@@ -1,13 +1,13 @@
 -- A line has one first fault, or it is good and so many nodes stand under it.
 use Rattle.std.proofs.Common.{◌≡◌, ℕ, ◌+◌, ◌<◌, ◌^◌, Bool, true, false, List, [], ◌∷◌, ◌++◌, length, All, refl, ap, sym, subst, ◌∙◌, arith, decimal, codes, append_assoc, append-nil, length-append, Some, None}
-use Rattle.std.specs.Prelude.{◌||◌, ◌==◌, if◌then◌else◌}
-use Rattle.std.specs.List.{list_all, flat_map}
+use Rattle.std.specs.Prelude.{◌==◌, if◌then◌else◌}
+use Rattle.std.specs.List.{list_all, list_any, flat_map}
 use Rattle.std.specs.Str.{bytes_eq}
 use Rattle.std.proofs.lemmas.Slice.Eq.{bytes_eq-Decides}
 use Rattle.std.proofs.lemmas.List.Elements.{All-head, All-tail}
 use Rattle.ll_bank.specs.Term.{Term, is_closed}
 use Rattle.ll_laws.specs.Output.{term_text, argument_text}
-use Rattle.ll_laws.specs.Line.{PartLine, Labels, Free, Line, OneLine, EraseLine, TensorLine, WithLine, LeftLine, RightLine, BangLine, UseLine, LolliLine, ImpLine, ForallLine, ExistsLine, ClauseLine, rises, part_rises, is_line}
+use Rattle.ll_laws.specs.Line.{PartLine, Labels, Free, Line, OneLine, EraseLine, TensorLine, WithLine, LeftLine, RightLine, BangLine, UseLine, LolliLine, ImpLine, ForallLine, ExistsLine, ClauseLine, NumLine, rises, part_rises, is_line}
 use Rattle.ll_laws.specs.ProofText.{field, term_field, part_field, set_text, node_text}
 use Rattle.ll_prooftext.specs.Admitted.{AreLabels, IsSpelledTerm, IsSpelledPart, IsSpelledLine}
 use Rattle.ll_prooftext.specs.Reading.{Kind, Number, Set, Argument, Mark, Want, Nothing, Arguments, Premises, Then, after_field, may_end, IsNumber, IsSet, IsArgument, IsField, Fields, none, one, IsAtEnd, line_end, space, HasNoField, IsStop, lacks, no_field, listed, node_words, want, first_word, HasBadField, children}
@@ -141,7 +141,10 @@ is_let bytes = bytes_eq (first_word bytes) (codes "let")
 
 -- how many nodes stand under a line beside its premises
 abbrev own : List ℕ → ℕ
-own w = if bytes_eq w (codes "with") then 2 else if bytes_eq w (codes "true") || (bytes_eq w (codes "erase") || (bytes_eq w (codes "tensor") || bytes_eq w (codes "clause"))) then 0 else 1
+own w =
+    if bytes_eq w (codes "with") then 2
+    else if list_any (bytes_eq w) (codes "true" ∷ codes "erase" ∷ codes "num" ∷ codes "tensor" ∷ codes "clause" ∷ []) then 0
+    else 1
 
 -- how many nodes stand under a line with so many premises
 abbrev pub under : List ℕ → ℕ → ℕ
@@ -241,6 +244,7 @@ node_good names lets LeftLine l s = record { premises = 0; judged = bare lets (c
 node_good names lets RightLine l s = record { premises = 0; judged = bare lets (codes "right") refl refl; many = refl; kind = refl }
 node_good names lets BangLine l s = record { premises = 0; judged = bare lets (codes "bang") refl refl; many = refl; kind = refl }
 node_good names lets UseLine l s = record { premises = 0; judged = bare lets (codes "use") refl refl; many = refl; kind = refl }
+node_good names lets NumLine l s = record { premises = 0; judged = bare lets (codes "num") refl refl; many = refl; kind = refl }
 node_good names lets (TensorLine s t) l a = record { premises = 2; judged = known (codes "tensor") (32 ∷ (set_text s ++ 32 ∷ set_text t)) (Then Set (Then Set Nothing)) refl (node_known lets (codes "tensor") (Then Set (Then Set Nothing)) refl refl) space (tensor_read s t 6 a l); many = refl; kind = refl }
 node_good names lets (LolliLine n) l s = record { premises = 0; judged = known (codes "lolli") (32 ∷ decimal n) (Then Number Nothing) refl (node_known lets (codes "lolli") (Then Number Nothing) refl refl) space (number_last 5 n s); many = refl; kind = refl }
 node_good names lets (ImpLine n) l s = record { premises = 0; judged = known (codes "imp") (32 ∷ decimal n) (Then Number Nothing) refl (node_known lets (codes "imp") (Then Number Nothing) refl refl) space (number_last 3 n s); many = refl; kind = refl }

@@ -46,6 +46,7 @@ known word.Imp = refl
 known word.Forall = refl
 known word.Exists = refl
 known word.Use = refl
+known word.Num = refl
 known word.Clause = refl
 
 -- the word that a test has found
@@ -136,7 +137,19 @@ tensor_row names bank rest (rule.Tensor s t) f = record {
   is = ap (λ z. codes "tensor" ++ z) f.is;
   moves = quiet_line names bank (codes "tensor") rest refl (subst IsAtEnd (sym f.is) space) (ap (mentions Outside) f.is ∙ quiet_none (field (set_text s.items) ++ field (set_text t.items)) (quiet_join (field (set_text s.items)) (field (set_text t.items)) (field_quiet (set_text s.items) (set_quiet s.items f.small.0)) (field_quiet (set_text t.items) (set_quiet t.items f.small.1))));
 }
-tensor_row names bank rest _ f = absurd f
+tensor_row names bank rest rule.One f = absurd f
+tensor_row names bank rest rule.Erase f = absurd f
+tensor_row names bank rest rule.With f = absurd f
+tensor_row names bank rest rule.Left f = absurd f
+tensor_row names bank rest rule.Right f = absurd f
+tensor_row names bank rest rule.Bang f = absurd f
+tensor_row names bank rest (rule.Lolli n) f = absurd f
+tensor_row names bank rest (rule.Imp n) f = absurd f
+tensor_row names bank rest (rule.Forall c) f = absurd f
+tensor_row names bank rest (rule.Exists t) f = absurd f
+tensor_row names bank rest rule.Use f = absurd f
+tensor_row names bank rest rule.Num f = absurd f
+tensor_row names bank rest (rule.Clause n k ts ps) f = absurd f
 
 pub tensor_rows : (names : List (List ℕ)) (bank : Nodes) (rest : List ℕ) (x : Result Rule Refusal) → IfOk x (IsTensor rest) → IfOk x (IsNodeRow names bank (codes "tensor" ++ rest) names bank)
 tensor_rows names bank rest x h = if_ok x (IsTensor rest) (IsNodeRow names bank (codes "tensor" ++ rest) names bank) (tensor_row names bank rest) h
@@ -153,7 +166,19 @@ clause_row names bank rest new over (rule.Clause n k ts ps) f =
   where
     together : (a b c d : List ℕ) → a ++ b ++ c ++ d ≡ a ++ (b ++ (c ++ d))
     together a b c d = simp append_assoc
-clause_row names bank rest new over _ f = absurd f
+clause_row names bank rest new over rule.One f = absurd f
+clause_row names bank rest new over rule.Erase f = absurd f
+clause_row names bank rest new over (rule.Tensor s t) f = absurd f
+clause_row names bank rest new over rule.With f = absurd f
+clause_row names bank rest new over rule.Left f = absurd f
+clause_row names bank rest new over rule.Right f = absurd f
+clause_row names bank rest new over rule.Bang f = absurd f
+clause_row names bank rest new over (rule.Lolli n) f = absurd f
+clause_row names bank rest new over (rule.Imp n) f = absurd f
+clause_row names bank rest new over (rule.Forall c) f = absurd f
+clause_row names bank rest new over (rule.Exists t) f = absurd f
+clause_row names bank rest new over rule.Use f = absurd f
+clause_row names bank rest new over rule.Num f = absurd f
 
 pub clause_rows : (names : List (List ℕ)) (bank : Nodes) (rest : List ℕ) (new : List (List ℕ)) (over : Nodes) (x : Result Rule Refusal) → IfOk x (IsClause names bank rest new over) → IfOk x (IsNodeRow names bank (codes "clause" ++ rest) new over)
 clause_rows names bank rest new over x h = if_ok x (IsClause names bank rest new over) (IsNodeRow names bank (codes "clause" ++ rest) new over) (clause_row names bank rest new over) h

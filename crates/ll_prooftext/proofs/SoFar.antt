@@ -8,7 +8,7 @@ use Rattle.ll_bank.specs.declared.At.{At}
 use Rattle.ll_bank.specs.Names.{with_name, with_names}
 use Rattle.ll_bank.specs.Nodes.{Nodes, term_tree, term_trees, HasTerm, AllInTerms, Extends}
 use Rattle.ll_bank.proofs.Trees.{term_trees-extends}
-use Rattle.ll_laws.specs.Line.{Line, OneLine, EraseLine, TensorLine, WithLine, LeftLine, RightLine, BangLine, UseLine, LolliLine, ImpLine, ForallLine, ExistsLine, ClauseLine, PartLine, Labels, Free}
+use Rattle.ll_laws.specs.Line.{Line, OneLine, EraseLine, TensorLine, WithLine, LeftLine, RightLine, BangLine, UseLine, LolliLine, ImpLine, ForallLine, ExistsLine, ClauseLine, NumLine, PartLine, Labels, Free}
 use Rattle.ll_laws.specs.ProofText.{field, term_field, part_field, node_text}
 use Rattle.ll_laws.specs.ShownLines.{line_of, part_line}
 use Rattle.ll_laws.specs.declared.Rule.{Rule}
@@ -53,6 +53,7 @@ module _ (names : List (List ℕ)) (bank : Nodes) (new : List (List ℕ)) (over 
   rule_kept rule.Right h = record { good = tt; same = refl; text = refl }
   rule_kept rule.Bang h = record { good = tt; same = refl; text = refl }
   rule_kept rule.Use h = record { good = tt; same = refl; text = refl }
+  rule_kept rule.Num h = record { good = tt; same = refl; text = refl }
   rule_kept (rule.Tensor s t) h = record { good = h; same = refl; text = refl }
   rule_kept (rule.Lolli n) h = record { good = h; same = refl; text = refl }
   rule_kept (rule.Imp n) h = record { good = h; same = refl; text = refl }
@@ -116,6 +117,7 @@ children_few names LeftLine = omega arith
 children_few names RightLine = omega arith
 children_few names BangLine = omega arith
 children_few names UseLine = omega arith
+children_few names NumLine = omega arith
 children_few names (LolliLine n) = omega arith
 children_few names (ImpLine n) = omega arith
 children_few names (ForallLine n) = omega arith

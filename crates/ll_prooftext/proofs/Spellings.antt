@@ -1,5 +1,5 @@
 -- How the words of terms are spelled.
-use Rattle.std.proofs.Common.{◌≡◌, ℕ, zero, suc, ◌<◌, ◌^◌, Bool, true, false, List, [], ◌∷◌, ◌++◌, length, refl, ap, sym, subst, ◌∙◌, arith, decimal, codes, Some, IsTrue, ℤ, pos, negsuc, FitsSigned}
+use Rattle.std.proofs.Common.{◌≡◌, ℕ, zero, suc, ◌<◌, ◌^◌, Bool, true, false, List, [], ◌∷◌, ◌++◌, length, refl, ap, sym, subst, ◌∙◌, arith, decimal, codes, IsTrue, ℤ, pos, negsuc, FitsSigned}
 use Rattle.std.specs.Prelude.{◌&&◌, ◌||◌, not, ◌==◌}
 use Rattle.std.specs.Fmt.{signed_decimal}
 use Rattle.std.specs.Int.{w64}
@@ -10,7 +10,7 @@ use Rattle.std.proofs.lemmas.Slice.Eq.{bytes_eq-Decides}
 use Rattle.std.proofs.lemmas.Bool.{ne_eqb}
 use Rattle.std.proofs.lemmas.Bool.Decides.{nat_tests}
 use Rattle.ll_lexer.specs.declared.TokenKind.{TokenKind}
-use Rattle.ll_lexer.specs.declared.TokenKind.TheVariants.{Name, True, Erase, Forall, Exists}
+use Rattle.ll_lexer.specs.declared.TokenKind.TheVariants.{Name}
 use Rattle.ll_lexer.specs.Spelling.{is_name, is_word_start, is_lower, is_word_byte, kind_of, fixed_spellings, Spells}
 use Rattle.ll_lexer.proofs.Spelled.{both, kind-passes}
 use Rattle.ll_lexer.proofs.Longest.{lower-start, NoKeyword, name-spelled}
@@ -55,18 +55,24 @@ parts_false false b h = (refl, h)
 turned : (s w : List ℕ) → bytes_eq w s ≡ false → bytes_eq s w ≡ false
 turned s w f = apart s w (λ e. let x : bytes_eq w s ≡ true = same w s (sym e) in let y : ⊥ = cc in y)
 
+-- each of these words is another one
+abbrev AreApart : List (List ℕ) → List ℕ → Type 0
+AreApart [] w = Unit {0}
+AreApart (s ∷ ss) w = (bytes_eq s w ≡ false) × AreApart ss w
+
+all_apart : (ss : List (List ℕ)) (w : List ℕ) → list_any (bytes_eq w) ss ≡ false → AreApart ss w
+all_apart [] w k = tt
+all_apart (s ∷ ss) w k = let p = parts_false (bytes_eq w s) (list_any (bytes_eq w) ss) k in (turned s w p.0, all_apart ss w p.1)
+
 no_keyword : (w : List ℕ) → is_name w ≡ true → list_any (bytes_eq w) small_keywords ≡ false → NoKeyword w
 unfolding is_lower
 no_keyword w s k =
-    let a = parts_false (bytes_eq w (codes "true")) (list_any (bytes_eq w) (codes "erase" ∷ codes "forall" ∷ codes "exists" ∷ [])) k in
-    let b = parts_false (bytes_eq w (codes "erase")) (list_any (bytes_eq w) (codes "forall" ∷ codes "exists" ∷ [])) a.1 in
-    let c = parts_false (bytes_eq w (codes "forall")) (list_any (bytes_eq w) (codes "exists" ∷ [])) b.1 in
-    let d = parts_false (bytes_eq w (codes "exists")) false c.1 in
+    let a = all_apart small_keywords w k in
     record {
-      true_word = turned (codes "true") w a.0;
-      erase_word = turned (codes "erase") w b.0;
-      forall_word = turned (codes "forall") w c.0;
-      exists_word = turned (codes "exists") w d.0;
+      true_word = a.0;
+      erase_word = a.1.0;
+      forall_word = a.1.1.0;
+      exists_word = a.1.1.1.0;
       module_word = not_named (codes "MODULE") w refl s;
       local_word = not_named (codes "LOCAL") w refl s;
       linear_word = not_named (codes "LINEAR") w refl s;
@@ -80,29 +86,23 @@ spelled_name (b ∷ bs) s k =
     let t : is_word_start b ≡ true = lower-start b p.0 in
     name-spelled (b ∷ bs) (rw (t, p.1) refl) p.0 (no_keyword (b ∷ bs) s k)
 
+-- none of these words is a name
+abbrev AreNoNames : List (List ℕ) → Type 0
+AreNoNames [] = Unit {0}
+AreNoNames (s ∷ ss) = (Spells Name s → ⊥) × AreNoNames ss
+
+none_named : (ss : List (List ℕ)) (w : List ℕ) → AreNoNames ss → list_any (bytes_eq w) ss ≡ true → Spells Name w → ⊥
+none_named [] w n k h = cc
+none_named (s ∷ ss) w n k h = by_test (bytes_eq w s) refl k (λ q. none_named ss w n.1 q h)
+  where
+    by_test : (v : Bool) → bytes_eq w s ≡ v → (v || list_any (bytes_eq w) ss) ≡ true → (list_any (bytes_eq w) ss ≡ true → ⊥) → ⊥
+    by_test true e q others = n.0 (subst (Spells Name) ((bytes_eq-Decides w s).0 e) h)
+    by_test false e q others = others q
+
 -- a keyword is no name
 keyword_is : (w : List ℕ) → list_any (bytes_eq w) small_keywords ≡ true → Spells Name w → ⊥
 unfolding kind_of fixed_spellings
-keyword_is w k h = by_true (bytes_eq w (codes "true")) refl
-  where
-    clash : (s : List ℕ) (j : TokenKind) → bytes_eq w s ≡ true → kind_of s ≡ Some j → (Some j ≡ Some Name → ⊥) → ⊥
-    clash s j e f n = n (sym f ∙ (ap kind_of (sym ((bytes_eq-Decides w s).0 e)) ∙ h))
-
-    by_exists : (v : Bool) → bytes_eq w (codes "true") ≡ false → bytes_eq w (codes "erase") ≡ false → bytes_eq w (codes "forall") ≡ false → bytes_eq w (codes "exists") ≡ v → ⊥
-    by_exists true a b c d = clash (codes "exists") Exists d refl (λ q. cc)
-    by_exists false a b c d = let x : false ≡ true = rw (a, b, c, d) at k in let y : ⊥ = cc in y
-
-    by_forall : (v : Bool) → bytes_eq w (codes "true") ≡ false → bytes_eq w (codes "erase") ≡ false → bytes_eq w (codes "forall") ≡ v → ⊥
-    by_forall true a b c = clash (codes "forall") Forall c refl (λ q. cc)
-    by_forall false a b c = by_exists (bytes_eq w (codes "exists")) a b c refl
-
-    by_erase : (v : Bool) → bytes_eq w (codes "true") ≡ false → bytes_eq w (codes "erase") ≡ v → ⊥
-    by_erase true a b = clash (codes "erase") Erase b refl (λ q. cc)
-    by_erase false a b = by_forall (bytes_eq w (codes "forall")) a b refl
-
-    by_true : (v : Bool) → bytes_eq w (codes "true") ≡ v → ⊥
-    by_true true a = clash (codes "true") True a refl (λ q. cc)
-    by_true false a = by_erase (bytes_eq w (codes "erase")) a refl
+keyword_is w k h = none_named small_keywords w ((λ q. cc), ((λ q. cc), ((λ q. cc), ((λ q. cc), tt)))) k h
 
 -- what the code tests
 pub name_iff : (w : List ℕ) (k : Bool) → is_name w ≡ true → k ≡ list_any (bytes_eq w) small_keywords → (IsTrue (not k) → Spells Name w) × (Spells Name w → IsTrue (not k))

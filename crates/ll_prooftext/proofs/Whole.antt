@@ -8,8 +8,8 @@ use Rattle.ll_bank.specs.declared.At.{At}
 use Rattle.ll_bank.specs.Names.{with_names}
 use Rattle.ll_bank.specs.Term.{is_closed}
 use Rattle.ll_bank.specs.Nodes.{Nodes, term_tree, term_trees, HasTerm, AllInTerms}
-use Rattle.ll_laws.specs.Shows.{Tree, OneNode, EraseNode, TensorNode, WithNode, LeftNode, RightNode, BangNode, LolliNode, ImpNode, ForallNode, ExistsNode, UseNode, ClauseNode, Parts, NoParts, BoundedPart, UnboundedPart}
-use Rattle.ll_laws.specs.Line.{Line, OneLine, EraseLine, TensorLine, WithLine, LeftLine, RightLine, BangLine, UseLine, LolliLine, ImpLine, ForallLine, ExistsLine, ClauseLine, is_line, rises, part_rises, PartLine, Labels, Free, Cut, Cuts, add_part, cut_parts, put_clause, put, trees_of, DerivationLines}
+use Rattle.ll_laws.specs.Shows.{Tree, OneNode, EraseNode, TensorNode, WithNode, LeftNode, RightNode, BangNode, LolliNode, ImpNode, ForallNode, ExistsNode, UseNode, ClauseNode, NumNode, Parts, NoParts, BoundedPart, UnboundedPart}
+use Rattle.ll_laws.specs.Line.{Line, OneLine, EraseLine, TensorLine, WithLine, LeftLine, RightLine, BangLine, UseLine, LolliLine, ImpLine, ForallLine, ExistsLine, ClauseLine, NumLine, is_line, rises, part_rises, PartLine, Labels, Free, Cut, Cuts, add_part, cut_parts, put_clause, put, trees_of, DerivationLines}
 use Rattle.ll_laws.specs.Output.{line as with_end}
 use Rattle.ll_laws.specs.ProofText.{term_field, node_text, proof_text}
 use Rattle.ll_laws.specs.ShownLines.{line_of, part_line, HasLine, HasLines}
@@ -52,6 +52,7 @@ one_less x xs k e = omega arith
 put_many : (n : Line) (ts : List Tree) (k : ℕ) → length ts ≡ children n + k → AreTrees (put n ts) (suc k)
 put_many OneLine ts k e = record { trees = OneNode ∷ ts; is = refl; many = omega arith }
 put_many EraseLine ts k e = record { trees = EraseNode ∷ ts; is = refl; many = omega arith }
+put_many NumLine ts k e = record { trees = NumNode ∷ ts; is = refl; many = omega arith }
 put_many (TensorLine s t) [] k e = absurd (omega arith)
 put_many (TensorLine s t) (x ∷ []) k e = absurd (omega arith)
 put_many (TensorLine s t) (x ∷ y ∷ ts) k e = record { trees = TensorNode s t x y ∷ ts; is = refl; many = omega arith }
@@ -131,6 +132,7 @@ rule_sound names bank rule.Left h = record { has = tt; spelled = tt; ordered = r
 rule_sound names bank rule.Right h = record { has = tt; spelled = tt; ordered = refl }
 rule_sound names bank rule.Bang h = record { has = tt; spelled = tt; ordered = refl }
 rule_sound names bank rule.Use h = record { has = tt; spelled = tt; ordered = refl }
+rule_sound names bank rule.Num h = record { has = tt; spelled = tt; ordered = refl }
 rule_sound names bank (rule.Tensor s t) h = record { has = tt; spelled = h.0; ordered = let a : rises s.items ≡ true = h.1.0 in let b : rises t.items ≡ true = h.1.1 in rw (a, b) refl }
 rule_sound names bank (rule.Lolli n) h = record { has = tt; spelled = h; ordered = refl }
 rule_sound names bank (rule.Imp n) h = record { has = tt; spelled = h; ordered = refl }

@@ -13,8 +13,8 @@ use Rattle.std.proofs.lemmas.List.Folds.{list_all-append}
 use Rattle.ll_bank.specs.Term.{Term}
 use Rattle.ll_lexer.specs.Spelling.{is_name, is_lower, is_word_byte}
 use Rattle.ll_lexer.proofs.Spelled.{both}
-use Rattle.ll_laws.specs.Shows.{Tree, OneNode, EraseNode, TensorNode, WithNode, LeftNode, RightNode, BangNode, LolliNode, ImpNode, ForallNode, ExistsNode, UseNode, ClauseNode, Parts}
-use Rattle.ll_laws.specs.Line.{PartLine, Labels, Free, Line, OneLine, EraseLine, TensorLine, WithLine, LeftLine, RightLine, BangLine, UseLine, LolliLine, ImpLine, ForallLine, ExistsLine, ClauseLine, Cut, Short, Cuts, add_part, cut_parts, put_clause, put, trees_of, DerivationLines}
+use Rattle.ll_laws.specs.Shows.{Tree, OneNode, EraseNode, TensorNode, WithNode, LeftNode, RightNode, BangNode, LolliNode, ImpNode, ForallNode, ExistsNode, UseNode, ClauseNode, NumNode, Parts}
+use Rattle.ll_laws.specs.Line.{PartLine, Labels, Free, Line, OneLine, EraseLine, TensorLine, WithLine, LeftLine, RightLine, BangLine, UseLine, LolliLine, ImpLine, ForallLine, ExistsLine, ClauseLine, NumLine, Cut, Short, Cuts, add_part, cut_parts, put_clause, put, trees_of, DerivationLines}
 use Rattle.ll_laws.specs.Output.{line as with_end, term_text, argument_text}
 use Rattle.ll_laws.specs.ProofText.{field, labels_text, set_text, term_field, part_field, node_text, proof_text}
 use Rattle.ll_prooftext.specs.Admitted.{AreLabels, IsSpelledTerm, IsSpelledPart, IsSpelledLine}
@@ -56,6 +56,7 @@ cut_back (p ∷ ps) (t ∷ ts) parts others e = by_cut p (cut_parts ps ts) refl 
 put_back : (n : Line) (ts us : List Tree) → put n ts ≡ Some us → ArePut (children n) ts us
 put_back OneLine ts us e = put_one 0 OneNode ts ts us e (omega arith)
 put_back EraseLine ts us e = put_one 0 EraseNode ts ts us e (omega arith)
+put_back NumLine ts us e = put_one 0 NumNode ts ts us e (omega arith)
 put_back (TensorLine s t) [] us e = absurd cc
 put_back (TensorLine s t) (x ∷ []) us e = absurd cc
 put_back (TensorLine s t) (x ∷ y ∷ ts) us e = put_one 2 (TensorNode s t x y) ts (x ∷ y ∷ ts) us e (omega arith)
@@ -199,6 +200,7 @@ node_full names LeftLine s = (refl, full _ _)
 node_full names RightLine s = (refl, full _ _)
 node_full names BangLine s = (refl, full _ _)
 node_full names UseLine s = (refl, full _ _)
+node_full names NumLine s = (refl, full _ _)
 node_full names (TensorLine s t) a = (joined (field (set_text s)) (field (set_text t)) (set_free s a.0) (set_free t a.1), full _ _)
 node_full names (LolliLine n) s = (small_free n s, full _ _)
 node_full names (ImpLine n) s = (small_free n s, full _ _)

@@ -4,7 +4,7 @@ use Rattle.std.specs.List.{flat_map}
 use Rattle.std.proofs.lemmas.List.{append-nil, take_all}
 use Rattle.ll_bank.specs.Nodes.{Nodes, term_trees}
 use Rattle.ll_laws.specs.declared.Rule.{Rule}
-use Rattle.ll_laws.specs.declared.Rule.TheVariants.{One, Erase, Tensor, With, Left, Right, Bang, Lolli, Imp, Forall, Exists, Use, Clause}
+use Rattle.ll_laws.specs.declared.Rule.TheVariants.{One, Erase, Tensor, With, Left, Right, Bang, Lolli, Imp, Forall, Exists, Use, Num, Clause}
 use Rattle.ll_laws.specs.Output.{line}
 use Rattle.ll_laws.specs.ProofText.{field, labels_text, node_text, term_field, part_field}
 use Rattle.ll_laws.specs.ShownLines.{line_of, part_line}
@@ -92,6 +92,7 @@ node_parts names bank (Imp n) = refl
 node_parts names bank (Forall c) = refl
 node_parts names bank (Exists t) = refl
 node_parts names bank Use = refl
+node_parts names bank Num = refl
 node_parts names bank (Clause n k ts ps) =
     let us = flat_map (term_field names) (term_trees bank ts.items) in
     let qs = flat_map part_field (map part_line ps.items) in

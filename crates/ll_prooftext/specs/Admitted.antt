@@ -5,7 +5,7 @@ use Rattle.ll_bank.specs.declared.Head.{Head}
 use Rattle.ll_bank.specs.declared.Head.TheVariants.{Name, Eigen, Bound}
 use Rattle.ll_bank.specs.Term.{Term, Var, Int, Con, Ap}
 use Rattle.ll_laws.specs.Output.{name_text, is_cons_head}
-use Rattle.ll_laws.specs.Line.{PartLine, Labels, Free, Line, TensorLine, LolliLine, ImpLine, ForallLine, ExistsLine, ClauseLine, DerivationLines, IsWhole}
+use Rattle.ll_laws.specs.Line.{PartLine, Labels, Free, Line, OneLine, EraseLine, TensorLine, WithLine, LeftLine, RightLine, BangLine, LolliLine, ImpLine, ForallLine, ExistsLine, UseLine, NumLine, ClauseLine, DerivationLines, IsWhole}
 use Rattle.ll_lexer.specs.declared.TokenKind.TheVariants.{Name as NameToken}
 use Rattle.ll_lexer.specs.Spelling.{Spells}
 
@@ -55,7 +55,14 @@ IsSpelledLine names (ImpLine n) = n < 2 ^ 32
 IsSpelledLine names (ForallLine c) = c < 2 ^ 32
 IsSpelledLine names (ExistsLine t) = IsSpelledTerm names t
 IsSpelledLine names (ClauseLine n k ts ps) = (n < 2 ^ 32) × ((k < 2 ^ 32) × (All (IsSpelledTerm names) ts × All IsSpelledPart ps))
-IsSpelledLine names _ = Unit {0}
+IsSpelledLine names OneLine = Unit {0}
+IsSpelledLine names EraseLine = Unit {0}
+IsSpelledLine names WithLine = Unit {0}
+IsSpelledLine names LeftLine = Unit {0}
+IsSpelledLine names RightLine = Unit {0}
+IsSpelledLine names BangLine = Unit {0}
+IsSpelledLine names UseLine = Unit {0}
+IsSpelledLine names NumLine = Unit {0}
 
 -- the derivation is one whole tree, and the text can spell it
 pub record IsSpelled (names : List (List ℕ)) (d : DerivationLines) : Type 0 where

@@ -8,7 +8,7 @@ use Rattle.ll_laws.specs.ProofText.{field, set_text, part_field}
 use Rattle.ll_laws.specs.ShownLines.{part_line}
 use Rattle.ll_laws.specs.declared.Part.{Part}
 use Rattle.ll_laws.specs.declared.Rule.{Rule}
-use Rattle.ll_laws.specs.declared.Rule.TheVariants.{Tensor, Clause}
+use Rattle.ll_laws.specs.declared.Rule.TheVariants.{One, Erase, Tensor, With, Left, Right, Bang, Lolli, Imp, Forall, Exists, Use, Num, Clause}
 use Rattle.ll_prooftext.specs.declared.rows.Refusal.{Refusal}
 use Rattle.ll_prooftext.specs.declared.rows.Refusal.TheVariants as refusal
 use Rattle.ll_prooftext.specs.Admitted.{AreLabels, IsSpelledPart}
@@ -88,7 +88,19 @@ pub record AreSets (bytes s t : List ℕ) : Type 0 where
 
 abbrev pub IsTensor : List ℕ → Rule → Type 0
 IsTensor bytes (Tensor s t) = AreSets bytes s.items t.items
-IsTensor bytes _ = ⊥
+IsTensor bytes One = ⊥
+IsTensor bytes Erase = ⊥
+IsTensor bytes With = ⊥
+IsTensor bytes Left = ⊥
+IsTensor bytes Right = ⊥
+IsTensor bytes Bang = ⊥
+IsTensor bytes (Lolli n) = ⊥
+IsTensor bytes (Imp n) = ⊥
+IsTensor bytes (Forall c) = ⊥
+IsTensor bytes (Exists t) = ⊥
+IsTensor bytes Use = ⊥
+IsTensor bytes Num = ⊥
+IsTensor bytes (Clause n k ts ps) = ⊥
 
 -- ---- terms and premises of a clause step
 
@@ -126,4 +138,16 @@ pub record AreClauseFields (names : List (List ℕ)) (bank : Nodes) (bytes : Lis
 
 abbrev pub IsClause : List (List ℕ) → Nodes → List ℕ → List (List ℕ) → Nodes → Rule → Type 0
 IsClause names bank bytes new over (Clause n k ts ps) = AreClauseFields names bank bytes new over n k ts.items ps.items
-IsClause names bank bytes new over _ = ⊥
+IsClause names bank bytes new over One = ⊥
+IsClause names bank bytes new over Erase = ⊥
+IsClause names bank bytes new over (Tensor s t) = ⊥
+IsClause names bank bytes new over With = ⊥
+IsClause names bank bytes new over Left = ⊥
+IsClause names bank bytes new over Right = ⊥
+IsClause names bank bytes new over Bang = ⊥
+IsClause names bank bytes new over (Lolli n) = ⊥
+IsClause names bank bytes new over (Imp n) = ⊥
+IsClause names bank bytes new over (Forall c) = ⊥
+IsClause names bank bytes new over (Exists t) = ⊥
+IsClause names bank bytes new over Use = ⊥
+IsClause names bank bytes new over Num = ⊥

@@ -10,7 +10,7 @@ use Rattle.ll_lexer.specs.declared.TextFault.{TextFault}
 use Rattle.ll_lexer.specs.declared.TextFault.TheVariants as fault
 use Rattle.ll_lexer.specs.Reading.{place_at}
 use Rattle.ll_laws.specs.Output.{term_text, argument_text}
-use Rattle.ll_laws.specs.Line.{Line, OneLine, EraseLine, TensorLine, WithLine, ClauseLine, DerivationLines, rises, is_line}
+use Rattle.ll_laws.specs.Line.{Line, OneLine, EraseLine, TensorLine, WithLine, LeftLine, RightLine, BangLine, LolliLine, ImpLine, ForallLine, ExistsLine, UseLine, NumLine, ClauseLine, DerivationLines, rises, is_line}
 use Rattle.ll_laws.specs.ProofText.{term_field, set_text, node_text, proof_text}
 use Rattle.ll_prooftext.specs.Admitted.{AreLabels, IsSpelledTerm, IsSpelledLine, IsSpelled}
 
@@ -94,8 +94,8 @@ abbrev pub node_words : List (List ℕ × Want)
 node_words =
     (codes "true", Nothing) ∷ (codes "erase", Nothing) ∷ (codes "tensor", Then Set (Then Set Nothing)) ∷ (codes "with", Nothing)
     ∷ (codes "left", Nothing) ∷ (codes "right", Nothing) ∷ (codes "bang", Nothing) ∷ (codes "lolli", Then Number Nothing) ∷ (codes "imp", Then Number Nothing)
-    ∷ (codes "forall", Then Number Nothing) ∷ (codes "exists", Then Argument Nothing) ∷ (codes "use", Nothing) ∷ (codes "clause", Then Number (Then Number Arguments))
-    ∷ []
+    ∷ (codes "forall", Then Number Nothing) ∷ (codes "exists", Then Argument Nothing) ∷ (codes "use", Nothing) ∷ (codes "num", Nothing)
+    ∷ (codes "clause", Then Number (Then Number Arguments)) ∷ []
 
 -- what follows a word by a list of words
 abbrev pub listed : List (List ℕ × Want) → List ℕ → Option Want
@@ -166,10 +166,18 @@ pub record HasBadField (lets : Bool) (bytes : List ℕ) (column : ℕ) : Type 0 
 abbrev pub children : Line → ℕ
 children OneLine = 0
 children EraseLine = 0
+children NumLine = 0
 children (TensorLine s t) = 2
 children WithLine = 2
 children (ClauseLine n k ts ps) = length ps
-children _ = 1
+children LeftLine = 1
+children RightLine = 1
+children BangLine = 1
+children UseLine = 1
+children (LolliLine n) = 1
+children (ImpLine n) = 1
+children (ForallLine c) = 1
+children (ExistsLine t) = 1
 
 -- how many nodes are still missing behind nodes, where so many were before them; none where a node was left over
 abbrev pub missing : ℕ → List Line → Option ℕ

@@ -35,6 +35,7 @@ spelling word.Imp = codes "imp"
 spelling word.Forall = codes "forall"
 spelling word.Exists = codes "exists"
 spelling word.Use = codes "use"
+spelling word.Num = codes "num"
 spelling word.Clause = codes "clause"
 
 -- what follows it
@@ -45,7 +46,14 @@ asks word.Imp = Then Number Nothing
 asks word.Forall = Then Number Nothing
 asks word.Exists = Then Argument Nothing
 asks word.Clause = Then Number (Then Number Arguments)
-asks _ = Nothing
+asks word.True = Nothing
+asks word.Erase = Nothing
+asks word.With = Nothing
+asks word.Left = Nothing
+asks word.Right = Nothing
+asks word.Bang = Nothing
+asks word.Use = Nothing
+asks word.Num = Nothing
 
 -- the first word of a node's line
 pub record IsNodeWord (w : List ℕ) (k : NodeWord) : Type 0 where
@@ -77,7 +85,14 @@ IsGoodRule names bank (rule.Forall n) = n < 2 ^ 32
 IsGoodRule names bank (rule.Exists t) = IsSpelledAt names bank t.0
 IsGoodRule names bank (rule.Clause n k ts ps) =
     ((n < 2 ^ 32) × (k < 2 ^ 32)) × (All (λ a. IsSpelledAt names bank a.0) ts.items × (All IsSpelledPart (map part_line ps.items) × (list_all part_rises (map part_line ps.items) ≡ true)))
-IsGoodRule names bank _ = Unit {0}
+IsGoodRule names bank rule.One = Unit {0}
+IsGoodRule names bank rule.Erase = Unit {0}
+IsGoodRule names bank rule.With = Unit {0}
+IsGoodRule names bank rule.Left = Unit {0}
+IsGoodRule names bank rule.Right = Unit {0}
+IsGoodRule names bank rule.Bang = Unit {0}
+IsGoodRule names bank rule.Use = Unit {0}
+IsGoodRule names bank rule.Num = Unit {0}
 
 -- the line of a node
 pub record IsNodeRow (names : List (List ℕ)) (bank : Nodes) (bytes : List ℕ) (new : List (List ℕ)) (over : Nodes) (r : Rule) : Type 0 where

@@ -3,9 +3,9 @@ use Rattle.std.specs.Prelude.{ℕ, List, [], ◌++◌, flat_map, codes, decimal}
 use Rattle.ll_bank.specs.Nodes.{Nodes}
 use Rattle.ll_bank.specs.Term.{Term}
 use Rattle.ll_laws.specs.declared.Rule.{Rule}
-use Rattle.ll_laws.specs.declared.Rule.TheVariants.{One, Erase, Tensor, With, Left, Right, Bang, Lolli, Imp, Forall, Exists, Use, Clause}
+use Rattle.ll_laws.specs.declared.Rule.TheVariants.{One, Erase, Tensor, With, Left, Right, Bang, Lolli, Imp, Forall, Exists, Use, Num, Clause}
 use Rattle.ll_laws.specs.Output.{line}
-use Rattle.ll_laws.specs.Line.{Line, TensorLine, LolliLine, ImpLine, ForallLine, ExistsLine, ClauseLine}
+use Rattle.ll_laws.specs.Line.{Line, OneLine, EraseLine, TensorLine, WithLine, LeftLine, RightLine, BangLine, LolliLine, ImpLine, ForallLine, ExistsLine, UseLine, NumLine, ClauseLine}
 use Rattle.ll_laws.specs.ShownLines.{line_of}
 use Rattle.ll_laws.specs.ProofText.{field, set_text, term_field, part_field}
 
@@ -23,6 +23,7 @@ word_text (Imp n) = codes "imp"
 word_text (Forall c) = codes "forall"
 word_text (Exists t) = codes "exists"
 word_text Use = codes "use"
+word_text Num = codes "num"
 word_text (Clause n k ts ps) = codes "clause"
 
 -- what stands behind the first word
@@ -33,7 +34,14 @@ fields_text names (ImpLine n) = field (decimal n)
 fields_text names (ForallLine c) = field (decimal c)
 fields_text names (ExistsLine t) = term_field names t
 fields_text names (ClauseLine n k ts ps) = field (decimal n) ++ (field (decimal k) ++ (flat_map (term_field names) ts ++ flat_map part_field ps))
-fields_text names _ = []
+fields_text names OneLine = []
+fields_text names EraseLine = []
+fields_text names WithLine = []
+fields_text names LeftLine = []
+fields_text names RightLine = []
+fields_text names BangLine = []
+fields_text names UseLine = []
+fields_text names NumLine = []
 
 -- the line of a variable of the query
 abbrev pub let_text : List (List ℕ) → Term → List ℕ

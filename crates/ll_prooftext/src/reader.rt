@@ -200,9 +200,16 @@ fn children(rule: &Rule) -> usize
     ensures { (bank : Nodes) → result ≡ children (line_of bank rule.now) }
 {
     match rule {
-        Rule::One | Rule::Erase => 0,
+        Rule::One | Rule::Erase | Rule::Num => 0,
         Rule::Tensor(_, _) | Rule::With => 2,
         Rule::Clause { parts, .. } => parts.len(),
-        _ => 1,
+        Rule::Left
+        | Rule::Right
+        | Rule::Bang
+        | Rule::Lolli(_)
+        | Rule::Imp(_)
+        | Rule::Forall(_)
+        | Rule::Exists(_)
+        | Rule::Use => 1,
     }
 }

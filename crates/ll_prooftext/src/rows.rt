@@ -74,6 +74,7 @@ enum NodeWord {
     Forall,
     Exists,
     Use,
+    Num,
     Clause,
 }
 
@@ -137,6 +138,8 @@ fn node_word(word: &[u8]) -> Option<NodeWord>
         Some(NodeWord::Exists)
     } else if word == b"use".as_slice() {
         Some(NodeWord::Use)
+    } else if word == b"num".as_slice() {
+        Some(NodeWord::Num)
     } else if word == b"clause".as_slice() {
         Some(NodeWord::Clause)
     } else {
@@ -172,6 +175,7 @@ fn node(
         NodeWord::Forall => Ok(Rule::Forall(last_number(rest)?)),
         NodeWord::Exists => Ok(Rule::Exists(last_term(alloc, rest, names, bank)?)),
         NodeWord::Use => alone(rest, Rule::Use),
+        NodeWord::Num => alone(rest, Rule::Num),
         NodeWord::Clause => clause(alloc, rest, names, bank),
     }
 }

@@ -8,11 +8,12 @@ use Rattle.std.proofs.lemmas.List.Elements.{All-cons, All-head, All-tail, All-pu
 use Rattle.ll_bank.specs.declared.At.{At}
 use Rattle.ll_bank.specs.declared.FormAt.{FormAt}
 use Rattle.ll_bank.specs.declared.FormNode.{FormNode}
-use Rattle.ll_bank.specs.declared.FormNode.TheVariants.{Top as TopView, One as OneView, Atom as AtomView, With as WithView, Tensor as TensorView, Plus as PlusView, Bang as BangView, Lolli as LolliView, Imp as ImpView, Forall as ForallView, Exists as ExistsView, Use as UseView}
+use Rattle.ll_bank.specs.declared.FormNode.TheVariants.{Top as TopView, One as OneView, Atom as AtomView, With as WithView, Tensor as TensorView, Plus as PlusView, Bang as BangView, Lolli as LolliView, Imp as ImpView, Forall as ForallView, Exists as ExistsView, Use as UseView, Is as IsView, Less as LessView, Most as MostView}
 use Rattle.ll_bank.specs.Term.{Term, Env, is_closed}
 use Rattle.ll_bank.specs.Form.{Form, Atom, With, Lolli, Imp, Forall, close_form}
 use Rattle.ll_bank.specs.Nodes.{Nodes, form_tree, form_of, term_tree, HasForm, IsFormView, Extends}
 use Rattle.ll_bank.proofs.Trees.{Extends-refl}
+use Rattle.ll_laws.specs.Number.{Operators}
 use Rattle.ll_laws.specs.Fault.{term_eq, parts_fit, parts_deal, Wrong, Right, judge_leaf, judge_clause}
 use Rattle.ll_laws.specs.Leaf.{Premise, Needs, NeedsFree, Leaf, add_premise, premise_goal, ways, leaf, leaf_from}
 use Rattle.ll_laws.specs.Line.{PartLine, Line, ClauseLine}
@@ -114,6 +115,9 @@ not_atom b bank c d n k ts ps (ImpView f g) m = refl
 not_atom b bank c d n k ts ps (ForallView f) m = refl
 not_atom b bank c d n k ts ps (ExistsView f) m = refl
 not_atom b bank c d n k ts ps (UseView m us f) z = refl
+not_atom b bank c d n k ts ps (IsView t u) z = refl
+not_atom b bank c d n k ts ps (LessView t u) z = refl
+not_atom b bank c d n k ts ps (MostView t u) z = refl
 
 not_below : (a b left : ℕ) → b + left ≡ a → nat_lt a b ≡ false
 not_below a b left h = go (nat_lt a b) refl
@@ -122,31 +126,31 @@ not_below a b left h = go (nat_lt a b) refl
     go true e = let l = ltb-true a b e in absurd (omega arith)
     go false e = refl
 
-module _ (modules : List ModuleTree) (old : Nodes) (free : List Resource) (s : Sequent) (h : Holds modules old free s) (n k : ℕ) (ts : List Term) (lines : List PartLine) where
+module _ (ops : Operators) (modules : List ModuleTree) (old : Nodes) (free : List Resource) (s : Sequent) (h : Holds modules old free s) (n k : ℕ) (ts : List Term) (lines : List PartLine) where
   abbrev line : Line
   line = ClauseLine n k ts lines
 
-  refused : (new : Nodes) → Extends old new → (r : ℕ) → made_at (beside modules) line (sequent_in old free s) ≡ Refuses r → IsStep modules line (sequent_in old free s) new free free (Refused r)
+  refused : (new : Nodes) → Extends old new → (r : ℕ) → made_at (beside ops modules) line (sequent_in old free s) ≡ Refuses r → IsStep ops modules line (sequent_in old free s) new free free (Refused r)
   refused new keeps r e = record { made = sym e; left = tt; free = are_held-extends keeps modules free h.unbounded; adds = none_added free }
 
-  pub clause_other : (v : FormNode) → IsFormView old s.goal.0 v → ((a : At) → v ≡ AtomView a → ⊥) → IsStep modules line (sequent_in old free s) old free free (Refused 1)
+  pub clause_other : (v : FormNode) → IsFormView old s.goal.0 v → ((a : At) → v ≡ AtomView a → ⊥) → IsStep ops modules line (sequent_in old free s) old free free (Refused 1)
   clause_other v seen m =
       refused old (Extends-refl old) 1
-      (ap (made (beside modules) line (free_in old (take s.free free)) (bounded_in old s.bounded.items)) seen.tree
-      ∙ not_atom (beside modules) old (free_in old (take s.free free)) (bounded_in old s.bounded.items) n k ts lines v m)
+      (ap (made (beside ops modules) line (free_in old (take s.free free)) (bounded_in old s.bounded.items)) seen.tree
+      ∙ not_atom (beside ops modules) old (free_in old (take s.free free)) (bounded_in old s.bounded.items) n k ts lines v m)
 
   module _ (atom : At) (seen : IsFormView old s.goal.0 (AtomView atom)) (found : Option FormAt) (left : List Resource) (picked : found_in old found left ≡ pick n (free_in old free) (bounded_in old s.bounded.items)) where
-    judged : made_at (beside modules) line (sequent_in old free s) ≡ made_of lines (free_in old (take s.free free)) (judge_clause (term_tree old atom.0) k ts (blank lines) (found_in old found left))
+    judged : made_at (beside ops modules) line (sequent_in old free s) ≡ made_of lines (free_in old (take s.free free)) (judge_clause (term_tree old atom.0) k ts (blank lines) (found_in old found left))
     judged =
         let low : length free ≤ s.free = let e = h.all in omega arith in
-        ap (made (beside modules) line (free_in old (take s.free free)) (bounded_in old s.bounded.items)) seen.tree
+        ap (made (beside ops modules) line (free_in old (take s.free free)) (bounded_in old s.bounded.items)) seen.tree
         ∙ ap (λ f. made_of lines (free_in old (take s.free free)) (judge_clause (term_tree old atom.0) k ts (blank lines) f))
         (ap (λ fs. pick n (free_in old fs) (bounded_in old s.bounded.items)) (take_all s.free free low) ∙ sym picked)
 
-    wrong : (new : Nodes) → Extends old new → (r : ℕ) → judge_clause (term_tree old atom.0) k ts (blank lines) (found_in old found left) ≡ Wrong r → IsStep modules line (sequent_in old free s) new free free (Refused r)
+    wrong : (new : Nodes) → Extends old new → (r : ℕ) → judge_clause (term_tree old atom.0) k ts (blank lines) (found_in old found left) ≡ Wrong r → IsStep ops modules line (sequent_in old free s) new free free (Refused r)
     wrong new keeps r e = refused new keeps r (judged ∙ ap (made_of lines (free_in old (take s.free free))) e)
 
-    pub clause_missing : found ≡ None → IsStep modules line (sequent_in old free s) old free free (Refused 4)
+    pub clause_missing : found ≡ None → IsStep ops modules line (sequent_in old free s) old free free (Refused 4)
     clause_missing e = wrong old (Extends-refl old) 4 (ap (λ f. judge_clause (term_tree old atom.0) k ts (blank lines) (found_in old f left)) e)
 
     module _ (f : FormAt) (is : found ≡ Some f) where
@@ -159,7 +163,7 @@ module _ (modules : List ModuleTree) (old : Nodes) (free : List Resource) (s : S
       took : judge_clause (term_tree old atom.0) k ts (blank lines) (found_in old found left) ≡ (if nat_lt k (length (ways r)) then judge_leaf (term_tree old atom.0) (blank lines) e (leaf r k ts) else Wrong 5)
       took = ap (λ g. judge_clause (term_tree old atom.0) k ts (blank lines) (found_in old g left)) is
 
-      pub clause_no_leaf : (new : Nodes) → Extends old new → (past : ℕ) → length (ways r) + past ≡ k → IsStep modules line (sequent_in old free s) new free free (Refused 5)
+      pub clause_no_leaf : (new : Nodes) → Extends old new → (past : ℕ) → length (ways r) + past ≡ k → IsStep ops modules line (sequent_in old free s) new free free (Refused 5)
       clause_no_leaf new keeps past p =
           wrong new keeps 5 (took ∙ ap (λ b. if b then judge_leaf (term_tree old atom.0) (blank lines) e (leaf r k ts) else Wrong 5) (not_below k (length (ways r)) past p))
 
@@ -167,14 +171,14 @@ module _ (modules : List ModuleTree) (old : Nodes) (free : List Resource) (s : S
         by_leaf : judge_clause (term_tree old atom.0) k ts (blank lines) (found_in old found left) ≡ judge_leaf (term_tree old atom.0) (blank lines) e (leaf r k ts)
         by_leaf = took ∙ ap (λ b. if b then judge_leaf (term_tree old atom.0) (blank lines) e (leaf r k ts) else Wrong 5) (lt-ltb k (length (ways r)) among)
 
-        pub clause_other_way : (new : Nodes) → Extends old new → leaf r k ts ≡ None → IsStep modules line (sequent_in old free s) new free free (Refused 6)
+        pub clause_other_way : (new : Nodes) → Extends old new → leaf r k ts ≡ None → IsStep ops modules line (sequent_in old free s) new free free (Refused 6)
         clause_other_way new keeps n = wrong new keeps 6 (by_leaf ∙ ap (judge_leaf (term_tree old atom.0) (blank lines) e) n)
 
         module _ (l : Leaf) (leaf_is : leaf r k ts ≡ Some l) where
           opened : judge_clause (term_tree old atom.0) k ts (blank lines) (found_in old found left) ≡ judge_leaf (term_tree old atom.0) (blank lines) e (Some l)
           opened = by_leaf ∙ ap (judge_leaf (term_tree old atom.0) (blank lines) e) leaf_is
 
-          pub clause_other_head : (new : Nodes) → Extends old new → term_eq l.head (term_tree old atom.0) ≡ false → IsStep modules line (sequent_in old free s) new free free (Refused 7)
+          pub clause_other_head : (new : Nodes) → Extends old new → term_eq l.head (term_tree old atom.0) ≡ false → IsStep ops modules line (sequent_in old free s) new free free (Refused 7)
           clause_other_head new keeps n =
               wrong new keeps 7
               (opened ∙ ap (λ b. if b then (if parts_fit (blank lines) l.premises then (if parts_deal (blank lines) e then Right l.premises e else Wrong 3) else Wrong 8) else Wrong 7) n)
@@ -184,7 +188,7 @@ module _ (modules : List ModuleTree) (old : Nodes) (free : List Resource) (s : S
                 ≡ (if parts_fit (blank lines) l.premises then (if parts_deal (blank lines) e then Right l.premises e else Wrong 3) else Wrong 8)
             headed = opened ∙ ap (λ b. if b then (if parts_fit (blank lines) l.premises then (if parts_deal (blank lines) e then Right l.premises e else Wrong 3) else Wrong 8) else Wrong 7) head
 
-            pub clause_other_parts : (new : Nodes) → Extends old new → parts_fit (blank lines) l.premises ≡ false → IsStep modules line (sequent_in old free s) new free free (Refused 8)
+            pub clause_other_parts : (new : Nodes) → Extends old new → parts_fit (blank lines) l.premises ≡ false → IsStep ops modules line (sequent_in old free s) new free free (Refused 8)
             clause_other_parts new keeps n = wrong new keeps 8 (headed ∙ ap (λ b. if b then (if parts_deal (blank lines) e then Right l.premises e else Wrong 3) else Wrong 8) n)
 
             module _ (fit : parts_fit (blank lines) l.premises ≡ true) (new : Nodes) (keeps : Extends old new) (held : AreHeld modules old left) (sound : IsHeld modules old ClauseSide f.0) (closed : list_all is_closed ts ≡ true)
@@ -200,9 +204,9 @@ module _ (modules : List ModuleTree) (old : Nodes) (free : List Resource) (s : S
                   let low : length free ≤ s.free = let e = h.all in omega arith in
                   ap (free_in new) (take_all s.free free low) ∙ (ap reverse (same_labelled keeps modules free h.unbounded) ∙ ap (free_in old) (sym (take_all s.free free low)))
 
-              pub clause_dealt : (step : Step) → IsDealing lines goals s.free left new l.premises step → IsStep modules line (sequent_in old free s) new free free step
+              pub clause_dealt : (step : Step) → IsDealing lines goals s.free left new l.premises step → IsStep ops modules line (sequent_in old free s) new free free step
               clause_dealt (Refused q) d =
-                  let P : ℕ → Type 0 = λ m. IsStep modules line (sequent_in old free s) new free free (Refused m) in
+                  let P : ℕ → Type 0 = λ m. IsStep ops modules line (sequent_in old free s) new free free (Refused m) in
                   subst P (sym d.0) (wrong new keeps 3 (fitting ∙ ap (λ b. if b then Right l.premises e else Wrong 3) (sym (ap (parts_deal (blank lines)) same_left) ∙ d.1)))
               clause_dealt (Leaves v) d =
                   let P : ℕ → Type 0 = λ m. AreLeft modules new m v.items in

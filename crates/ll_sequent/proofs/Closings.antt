@@ -6,7 +6,7 @@ use Rattle.std.proofs.lemmas.Bool.{and_from, and_parts, ltb-true, lt-ltb}
 use Rattle.std.proofs.lemmas.List.{length-map}
 use Rattle.ll_bank.specs.declared.Head.TheVariants.{Name, Eigen, Bound}
 use Rattle.ll_bank.specs.Term.{Term, Var, Int, Con, Ap, Env, place, close, head_of, is_spine, is_closed, applies_heads}
-use Rattle.ll_bank.specs.Form.{Form, Top, One, Atom, With, Tensor, Plus, Bang, Lolli, Imp, Forall, Exists, Use, close_form, instantiate, form_applies_heads}
+use Rattle.ll_bank.specs.Form.{Form, Top, One, Atom, With, Tensor, Plus, Bang, Lolli, Imp, Forall, Exists, Use, Num, close_form, instantiate, form_applies_heads}
 use Rattle.ll_laws.specs.Module.{ModuleTree}
 use Rattle.ll_laws.specs.Valid.{Side, GoalSide, ClauseSide, Scope, places_below, each_term, may_head, is_headed, is_atom, has_heads, fits_module, loads_fit}
 use Rattle.ll_sequent.specs.Sequents.{IsSound}
@@ -142,6 +142,7 @@ form_free {e} {inner} h (Imp f g) p = both_free (each_term places_below (length 
 form_free h (Forall f) p = form_free (under false h) f p
 form_free h (Exists f) p = form_free (under false h) f p
 form_free {e} {inner} h (Use m ts f) p = both_free (list_all (places_below (length inner)) ts) (each_term places_below (length inner) f) (terms_free h ts) (form_free h f) p
+form_free {e} {inner} h (Num r t u) p = both_free (places_below (length inner) t) (places_below (length inner) u) (term_free h t) (term_free h u) p
 
 pub form_heads : {e : Env} {inner outer : Scope} → Puts e inner outer → (side : Side) (f : Form) → has_heads true side inner f ≡ true → has_heads true side outer (close_form e f) ≡ true
 form_heads h side Top p = refl
@@ -159,6 +160,7 @@ form_heads h GoalSide (Forall f) p = form_heads (under true h) GoalSide f p
 form_heads h ClauseSide (Forall f) p = form_heads (under false h) ClauseSide f p
 form_heads h side (Exists f) p = form_heads (under false h) side f p
 form_heads {e} {inner} h side (Use m ts f) p = both_free (list_all (is_headed inner) ts) (has_heads true side inner f) (terms_headed h ts) (form_heads h side f) p
+form_heads {e} {inner} h side (Num r t u) p = both_free (is_headed inner t) (is_headed inner u) (term_headed h t) (term_headed h u) p
 
 pub module_after : (o : Option ModuleTree) (ts us : List Term) → length us ≡ length ts → fits_module o ts ≡ true → fits_module o us ≡ true
 module_after None ts us e p = p
@@ -178,6 +180,7 @@ form_loads modules e (Forall f) p = form_loads modules (None ∷ e) f p
 form_loads modules e (Exists f) p = form_loads modules (None ∷ e) f p
 form_loads modules e (Use m ts f) p =
     both_free (fits_module (slice_get modules m) ts) (loads_fit modules f) (module_after (slice_get modules m) ts (map (close e) ts) (length-map ts (close e))) (form_loads modules e f) p
+form_loads modules e (Num r t u) p = refl
 
 pub sound-close : {e : Env} {inner outer : Scope} → Puts e inner outer → (modules : List ModuleTree) (side : Side) (f : Form) → IsSound modules side inner f → IsSound modules side outer (close_form e f)
 sound-close {e} h modules side f s = record { closed = form_free h f s.closed; heads = form_heads h side f s.heads; loads = form_loads modules e f s.loads }
@@ -265,6 +268,7 @@ heads_apply GoalSide scope (Forall f) p = heads_apply GoalSide (true ∷ scope) 
 heads_apply ClauseSide scope (Forall f) p = heads_apply ClauseSide (false ∷ scope) f p
 heads_apply side scope (Exists f) p = heads_apply side (false ∷ scope) f p
 heads_apply side scope (Use m ts f) p = both_free (list_all (is_headed scope) ts) (has_heads true side scope f) (all_apply scope ts) (heads_apply side scope f) p
+heads_apply side scope (Num r t u) p = both_free (is_headed scope t) (is_headed scope u) (headed_applies scope t) (headed_applies scope u) p
 
 -- the body of a quantifier with a closed term in place of what it binds
 pub sound-instantiate : (modules : List ModuleTree) (side : Side) (b : Bool) (f : Form) (t : Term) → is_closed t ≡ true → (b ≡ true → is_spine t ≡ true) → IsSound modules side (b ∷ []) f

@@ -6,7 +6,7 @@ use Rattle.std.proofs.lemmas.List.{take_all}
 use Rattle.std.proofs.lemmas.List.Elements.{All-nil, All-cons, All-head, All-tail}
 use Rattle.ll_bank.specs.declared.FormAt.{FormAt}
 use Rattle.ll_bank.specs.declared.FormNode.{FormNode}
-use Rattle.ll_bank.specs.declared.FormNode.TheVariants.{Top as TopView, One as OneView, Atom as AtomView, With as WithView, Tensor as TensorView, Plus as PlusView, Bang as BangView, Lolli as LolliView, Imp as ImpView, Forall as ForallView, Exists as ExistsView, Use as UseView}
+use Rattle.ll_bank.specs.declared.FormNode.TheVariants.{Top as TopView, One as OneView, Atom as AtomView, With as WithView, Tensor as TensorView, Plus as PlusView, Bang as BangView, Lolli as LolliView, Imp as ImpView, Forall as ForallView, Exists as ExistsView, Use as UseView, Is as IsView, Less as LessView, Most as MostView}
 use Rattle.ll_bank.specs.declared.Head.TheVariants.{Eigen}
 use Rattle.ll_bank.specs.Term.{Con}
 use Rattle.ll_bank.specs.Form.{Form, instantiate, form_has_eigen, form_applies_heads}
@@ -68,12 +68,15 @@ not_forall b bank c d e (LolliView f g) n = refl
 not_forall b bank c d e (ImpView f g) n = refl
 not_forall b bank c d e (ExistsView f) n = refl
 not_forall b bank c d e (UseView m ts f) n = refl
+not_forall b bank c d e (IsView t u) n = refl
+not_forall b bank c d e (LessView t u) n = refl
+not_forall b bank c d e (MostView t u) n = refl
 
 pub forall_refused : (bank : Nodes) (free : List Resource) (s : Sequent) (e : ℕ) (view : FormNode) → IsFormView bank s.goal.0 view → ((f : FormAt) → view ≡ ForallView f → ⊥)
     → Steps (ForallLine e) bank free s bank free (Refused 1)
-forall_refused bank free s e view seen n = λ modules h. record {
-  made = sym (ap (made (beside modules) (ForallLine e) (free_in bank (take s.free free)) (bounded_in bank s.bounded.items)) seen.tree
-      ∙ not_forall (beside modules) bank (free_in bank (take s.free free)) (bounded_in bank s.bounded.items) e view n);
+forall_refused bank free s e view seen n = λ ops modules h. record {
+  made = sym (ap (made (beside ops modules) (ForallLine e) (free_in bank (take s.free free)) (bounded_in bank s.bounded.items)) seen.tree
+      ∙ not_forall (beside ops modules) bank (free_in bank (take s.free free)) (bounded_in bank s.bounded.items) e view n);
   left = tt;
   free = h.unbounded;
   adds = none_added free;
@@ -81,10 +84,10 @@ forall_refused bank free s e view seen n = λ modules h. record {
 
 module _ (bank : Nodes) (free : List Resource) (s : Sequent) (e : ℕ) (f : FormAt) (seen : IsFormView bank s.goal.0 (ForallView f)) where
   pub forall_known : stands_in e bank f free s.bounded.items ≡ true → Steps (ForallLine e) bank free s bank free (Refused 10)
-  forall_known old = λ modules h.
+  forall_known old = λ ops modules h.
       let ok = stands_shown e bank s.free free s.bounded.items f h.all ∙ old in
       record {
-        made = sym (ap (made (beside modules) (ForallLine e) (free_in bank (take s.free free)) (bounded_in bank s.bounded.items)) seen.tree
+        made = sym (ap (made (beside ops modules) (ForallLine e) (free_in bank (take s.free free)) (bounded_in bank s.bounded.items)) seen.tree
             ∙ (λ i. provided (not (ok i)) 10 (record { free = free_in bank (take s.free free); bounded = bounded_in bank s.bounded.items; goal = instantiate (form_tree bank f.0) (Con (Eigen e)) } ∷ [])));
         left = tt;
         free = h.unbounded;
@@ -98,12 +101,12 @@ module _ (bank : Nodes) (free : List Resource) (s : Sequent) (e : ℕ) (f : Form
   pub forall_steps : (new : Nodes) (p : Sequent) (step : Step) → stands_in e bank f free s.bounded.items ≡ false → Extends bank new
       → ShowsForm new p.goal.0 (instantiate (form_tree bank f.0) (Con (Eigen e))) → p.free ≡ s.free → p.bounded.items ≡ s.bounded.items → IsLeaving (p ∷ []) step
       → Steps (ForallLine e) bank free s new free step
-  forall_steps new p step fresh keeps shows same_free same_bounded leaving = λ modules h.
+  forall_steps new p step fresh keeps shows same_free same_bounded leaving = λ ops modules h.
       let g = goal_sound bank s modules (ForallView f) seen h.sequent in
       let ok = stands_shown e bank s.free free s.bounded.items f h.all ∙ fresh in
-      opened_steps bank new s p keeps same_free same_bounded (instantiate (form_tree bank f.0) (Con (Eigen e))) shows (ForallLine e) step free modules h leaving
+      opened_steps bank new s p keeps same_free same_bounded (instantiate (form_tree bank f.0) (Con (Eigen e))) shows (ForallLine e) step free ops modules h leaving
       (sound-instantiate modules GoalSide true (form_tree bank f.0) (Con (Eigen e)) refl (λ b. refl) (record { closed = g.closed; heads = g.heads; loads = g.loads }))
-      (ap (made (beside modules) (ForallLine e) (free_in bank (take s.free free)) (bounded_in bank s.bounded.items)) seen.tree
+      (ap (made (beside ops modules) (ForallLine e) (free_in bank (take s.free free)) (bounded_in bank s.bounded.items)) seen.tree
       ∙ (λ i. provided (not (ok i)) 10 (record { free = free_in bank (take s.free free); bounded = bounded_in bank s.bounded.items; goal = instantiate (form_tree bank f.0) (Con (Eigen e)) } ∷ [])))
 
 -- the formulas of clauses that are held lie in the bank

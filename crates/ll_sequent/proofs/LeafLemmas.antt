@@ -8,10 +8,10 @@ use Rattle.std.proofs.lemmas.List.Sums.{sum_by-append}
 use Rattle.ll_bank.specs.declared.At.{At}
 use Rattle.ll_bank.specs.declared.FormAt.{FormAt}
 use Rattle.ll_bank.specs.declared.FormNode.{FormNode}
-use Rattle.ll_bank.specs.declared.FormNode.TheVariants.{Top as TopView, One as OneView, Atom as AtomView, With as WithView, Tensor as TensorView, Plus as PlusView, Bang as BangView, Lolli as LolliView, Imp as ImpView, Forall as ForallView, Exists as ExistsView, Use as UseView}
+use Rattle.ll_bank.specs.declared.FormNode.TheVariants.{Top as TopView, One as OneView, Atom as AtomView, With as WithView, Tensor as TensorView, Plus as PlusView, Bang as BangView, Lolli as LolliView, Imp as ImpView, Forall as ForallView, Exists as ExistsView, Use as UseView, Is as IsView, Less as LessView, Most as MostView}
 use Rattle.ll_bank.specs.declared.Head.TheVariants.{Name, Eigen, Bound}
 use Rattle.ll_bank.specs.Term.{Term, Var, Int, Con, Ap, Env, place, close, is_closed}
-use Rattle.ll_bank.specs.Form.{Form, Top, One, Atom, With, Tensor, Plus, Bang, Lolli, Imp, Forall, Exists, Use, close_form, instantiate}
+use Rattle.ll_bank.specs.Form.{Form, Top, One, Atom, With, Tensor, Plus, Bang, Lolli, Imp, Forall, Exists, Use, Num, close_form, instantiate}
 use Rattle.ll_bank.specs.Nodes.{Nodes, form_tree, form_of}
 use Rattle.ll_bank.specs.Opened.{form_size}
 use Rattle.ll_laws.specs.Leaf.{Leaf, Premise, Needs, NeedsFree, add_premise, ways, leaf, leaf_from}
@@ -59,6 +59,7 @@ module _ (t : Term) (closed : is_closed t ≡ true) where
   close_form_first e (Exists f) = ap Exists (close_form_first (None ∷ e) f)
   close_form_first e (Use m ts f) =
       let q = map_map (close e) (close (with_last (nones (length e)))) ts ∙ map_same _ _ (close_first e) ts in λ i. Use m (q i) (close_form_first e f i)
+  close_form_first e (Num r t u) = λ i. Num r (close_first e t i) (close_first e u i)
 
   pub ways_close : (e : Env) (r : Form) → ways (close_form e r) ≡ ways r
   ways_close e (Atom a) = refl
@@ -73,6 +74,7 @@ module _ (t : Term) (closed : is_closed t ≡ true) where
   ways_close e (Bang r) = refl
   ways_close e (Exists r) = refl
   ways_close e (Use m ts r) = refl
+  ways_close e (Num r t u) = refl
 
   -- a leaf of a clause whose outermost quantifier was opened first
   leaf_first : (e : Env) (r : Form) (k : ℕ) (ts : List Term) → leaf_from e (close_form (with_last (nones (length e))) r) k ts ≡ leaf_from (with_last e) r k ts
@@ -97,6 +99,7 @@ module _ (t : Term) (closed : is_closed t ≡ true) where
   leaf_first e (Bang r) k ts = refl
   leaf_first e (Exists r) k ts = refl
   leaf_first e (Use m us r) k ts = refl
+  leaf_first e (Num r t u) k ts = refl
 
   -- the outermost quantifier opened
   pub leaf_open : (r : Form) (k : ℕ) (ts : List Term) → leaf (Forall r) k (t ∷ ts) ≡ leaf (instantiate r t) k ts
@@ -136,6 +139,7 @@ close_form_none j (Imp f g) = λ i. Imp (close_form_none j f i) (close_form_none
 close_form_none j (Forall f) = ap Forall (close_form_none (suc j) f)
 close_form_none j (Exists f) = ap Exists (close_form_none (suc j) f)
 close_form_none j (Use m ts f) = λ i. Use m (close_all_none j ts i) (close_form_none j f i)
+close_form_none j (Num r t u) = λ i. Num r (close_none j t i) (close_none j u i)
 
 -- a premise as it stands
 pub leaf_lolli : (g r : Form) (k : ℕ) (ts : List Term) → leaf (Lolli g r) k ts ≡ option_map (add_premise (Needs g)) (leaf r k ts)
@@ -162,6 +166,7 @@ size_close e (Imp q r) = λ i. 2 + (size_close e q i + size_close e r i)
 size_close e (Forall r) = λ i. 2 + size_close (None ∷ e) r i
 size_close e (Exists r) = λ i. 2 + size_close (None ∷ e) r i
 size_close e (Use m ts r) = λ i. 2 + size_close e r i
+size_close e (Num r t u) = refl
 
 -- ---- premises that were met
 
@@ -198,6 +203,9 @@ leaf_no bank (ImpView x y) k ts a w l i f = absurd (i x y refl)
 leaf_no bank (ForallView x) k ts a w l i f = absurd (f x refl)
 leaf_no bank (ExistsView x) k ts a w l i f = refl
 leaf_no bank (UseView m us x) k ts a w l i f = refl
+leaf_no bank (IsView t u) k ts a w l i f = refl
+leaf_no bank (LessView t u) k ts a w l i f = refl
+leaf_no bank (MostView t u) k ts a w l i f = refl
 
 pub leaf_past_atom : (a : Term) (k : ℕ) (ts : List Term) → (k ≡ 0 → ⊥) → leaf (Atom a) k ts ≡ None
 leaf_past_atom a zero ts n = absurd (n refl)

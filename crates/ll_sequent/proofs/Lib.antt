@@ -19,3 +19,4 @@ pub mod WayLemmas
 pub mod DealLemmas
 pub mod ClauseLemmas
 pub mod NodeLemmas
+pub mod NumberLemmas

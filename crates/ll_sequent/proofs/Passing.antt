@@ -6,6 +6,7 @@ use Rattle.std.proofs.lemmas.List.{take-take, length-take-le, length-append}
 use Rattle.std.proofs.lemmas.List.Elements.{All-nil, All-cons, All-take}
 use Rattle.ll_bank.specs.Nodes.{Nodes, Extends}
 use Rattle.ll_bank.proofs.Trees.{Extends-refl}
+use Rattle.ll_laws.specs.Number.{Operators}
 use Rattle.ll_laws.specs.declared.Rule.{Rule}
 use Rattle.ll_laws.specs.Module.{Setting, ModuleTree}
 use Rattle.ll_laws.specs.Shows.{Tree}
@@ -34,11 +35,11 @@ root_waits modules bank free root items e h =
     let high : root.free ≤ length free = let a = h.all in omega arith in
     subst P (sym e) (record { each = All-cons (IsSequent modules bank) root [] h.sequent (All-nil (IsSequent modules bank)); nested = (low, high) })
 
-pub root_owes : (modules : List ModuleTree) (bank : Nodes) (free : List Resource) (root : Sequent) (items : List Sequent) → items ≡ root ∷ [] → Holds modules bank free root → (lines : List Line) (x : Tree)
-    → trees_of lines ≡ Some (x ∷ []) → Owes (beside modules) (fault_at modules x (sequent_in bank free root)) 1 lines (waiting_in bank free items)
-root_owes modules bank free root items e h lines x is =
-    let P : List Sequent → Type 0 = λ ss. Owes (beside modules) (fault_at modules x (sequent_in bank free root)) 1 lines (waiting_in bank free ss) in
-    subst P (sym e) (whole_owes (beside modules) lines x (sequent_in bank free root) is)
+pub root_owes : (ops : Operators) (modules : List ModuleTree) (bank : Nodes) (free : List Resource) (root : Sequent) (items : List Sequent) → items ≡ root ∷ [] → Holds modules bank free root → (lines : List Line) (x : Tree)
+    → trees_of lines ≡ Some (x ∷ []) → Owes (beside ops modules) (fault_at ops modules x (sequent_in bank free root)) 1 lines (waiting_in bank free items)
+root_owes ops modules bank free root items e h lines x is =
+    let P : List Sequent → Type 0 = λ ss. Owes (beside ops modules) (fault_at ops modules x (sequent_in bank free root)) 1 lines (waiting_in bank free ss) in
+    subst P (sym e) (whole_owes (beside ops modules) lines x (sequent_in bank free root) is)
 
 -- ---- the nodes
 
@@ -111,10 +112,10 @@ left_of : (modules : List ModuleTree) (bank : Nodes) (n : ℕ) (qs : List Sequen
 left_of modules bank n qs (Refused r) l h = absurd l
 left_of modules bank n qs (Leaves v) l h = let P : List Sequent → Type 0 = AreLeft modules bank n in subst P l h
 
-module _ (modules : List ModuleTree) {old new : Nodes} (before after : List Resource) (s : Sequent) (ss : List Sequent) (line : Line) (step : Step) (keeps : Extends old new)
-    (t : Taken modules old before s ss) (is : IsStep modules line (sequent_in old before s) new before after step) where
+module _ (ops : Operators) (modules : List ModuleTree) {old new : Nodes} (before after : List Resource) (s : Sequent) (ss : List Sequent) (line : Line) (step : Step) (keeps : Extends old new)
+    (t : Taken modules old before s ss) (is : IsStep ops modules line (sequent_in old before s) new before after step) where
   pub step_refused : (whole : Checked) (k r : ℕ) (rest : List Line) → step ≡ Refused r
-      → Owes (beside modules) whole k (line ∷ rest) (sequent_in old before s ∷ waiting_in old before ss) → whole ≡ Fault k r
+      → Owes (beside ops modules) whole k (line ∷ rest) (sequent_in old before s ∷ waiting_in old before ss) → whole ≡ Fault k r
   step_refused whole k r rest e o = refused o (ap (made_in new after) (sym e) ∙ is.made)
 
   module _ (qs items : List Sequent) (leaving : IsLeaving qs step) (e : items ≡ ss ++ reverse qs) where
@@ -124,10 +125,10 @@ module _ (modules : List ModuleTree) {old new : Nodes} (before after : List Reso
         let n : length before ≤ length after = let a = ap length is.adds.is in let b = length-append before is.adds.more in omega arith in
         subst P (sym e) (waiting_after modules before after ss qs keeps t.behind n (left_of modules new (length after) qs step leaving is.left))
 
-    pub step_owes : (whole : Checked) (k : ℕ) (rest : List Line) → Owes (beside modules) whole k (line ∷ rest) (sequent_in old before s ∷ waiting_in old before ss)
-        → Owes (beside modules) whole (suc k) rest (waiting_in new after items)
+    pub step_owes : (whole : Checked) (k : ℕ) (rest : List Line) → Owes (beside ops modules) whole k (line ∷ rest) (sequent_in old before s ∷ waiting_in old before ss)
+        → Owes (beside ops modules) whole (suc k) rest (waiting_in new after items)
     step_owes whole k rest o =
-        let P : List SequentTree → Type 0 = Owes (beside modules) whole (suc k) rest in
+        let P : List SequentTree → Type 0 = Owes (beside ops modules) whole (suc k) rest in
         let w : waiting_in new after items ≡ map (sequent_in new after) qs ++ waiting_in old before ss =
         ap (waiting_in new after) e
         ∙ (waiting_front new after ss qs ∙ ap (λ xs. map (sequent_in new after) qs ++ xs) (waiting_grown modules before after ss keeps t.behind t.holds.unbounded is.adds)) in

@@ -10,6 +10,7 @@ use Rattle.ll_bank.specs.declared.FormNode.{FormNode}
 use Rattle.ll_bank.specs.declared.FormNode.TheVariants.{Tensor as TensorView, Lolli as LolliView, Imp as ImpView}
 use Rattle.ll_bank.specs.Form.{Form, Tensor, Lolli, Imp}
 use Rattle.ll_bank.specs.Nodes.{Nodes, form_tree, form_of, IsFormView}
+use Rattle.ll_laws.specs.Number.{Operators}
 use Rattle.ll_laws.specs.Module.{Setting, ModuleTree}
 use Rattle.ll_laws.specs.Shows.{Labelled, has, has_label, one_of, all_in, part, splits}
 use Rattle.ll_laws.specs.Line.{Line, TensorLine, LolliLine, ImpLine}
@@ -20,8 +21,8 @@ use Rattle.ll_sequent.specs.declared.sequents.Step.{Step}
 use Rattle.ll_sequent.specs.declared.sequents.Step.TheVariants.{Refused, Leaves}
 use Rattle.ll_sequent.specs.Sequents.{SequentTree, Adds, labelled_in, bounded_in, free_in, sequent_in, IsSound, IsHeld, AreHeld, IsSequent}
 use Rattle.ll_sequent.specs.Steps.{Refuses, Asks, made, made_at, made_in, provided, AreLeft, IsLeft}
-use Rattle.ll_sequent.specs.Named.{has_resource, deals, IsLeaving, Makes}
-use Rattle.ll_sequent.specs.Judging.{beside, IsStep, Steps}
+use Rattle.ll_sequent.specs.Named.{MakesBy, has_resource, deals, IsLeaving, Makes}
+use Rattle.ll_sequent.specs.Judging.{Holds, beside, IsStep, Steps}
 
 -- ---- labels
 
@@ -156,16 +157,23 @@ none_added rs = record { more = []; is = sym (append-nil rs) }
 
 -- a rule that is blind to unbounded clauses
 pub makes_step : (bank : Nodes) (line : Line) (s : Sequent) (step : Step) (free : List Resource) → Makes bank line s step → Steps line bank free s bank free step
-makes_step bank line s step free m = λ modules h.
+makes_step bank line s step free m = λ ops modules h.
     let P : ℕ → Type 0 = λ n. IsLeft modules bank n step in
-    record { made = m.is (beside modules) free; left = subst P h.all (m.left modules h.sequent); free = h.unbounded; adds = none_added free }
+    record { made = m.is (beside ops modules) free; left = subst P h.all (m.left modules h.sequent); free = h.unbounded; adds = none_added free }
+
+-- the same of a rule that looks at numbers
+pub makes_step_by : (ops : Operators) (bank : Nodes) (line : Line) (s : Sequent) (step : Step) (free : List Resource) → MakesBy ops bank line s step
+    → (modules : List ModuleTree) → Holds modules bank free s → IsStep ops modules line (sequent_in bank free s) bank free free step
+makes_step_by ops bank line s step free m modules h =
+    let P : ℕ → Type 0 = λ n. IsLeft modules bank n step in
+    record { made = m.is modules free; left = subst P h.all (m.left modules h.sequent); free = h.unbounded; adds = none_added free }
 
 -- a node that leaves one sequent
-pub one_steps : (modules : List ModuleTree) (line : Line) (q : SequentTree) (bank : Nodes) (before after : List Resource) (p : Sequent) (step : Step) → IsLeaving (p ∷ []) step
-    → made_at (beside modules) line q ≡ Asks (sequent_in bank after p ∷ []) → p.free ≡ length after → IsSequent modules bank p → AreHeld modules bank after → Adds before after
-    → IsStep modules line q bank before after step
-one_steps modules line q bank before after p (Refused r) l m n h held adds = absurd l
-one_steps modules line q bank before after p (Leaves v) l m n h held adds =
+pub one_steps : (ops : Operators) (modules : List ModuleTree) (line : Line) (q : SequentTree) (bank : Nodes) (before after : List Resource) (p : Sequent) (step : Step) → IsLeaving (p ∷ []) step
+    → made_at (beside ops modules) line q ≡ Asks (sequent_in bank after p ∷ []) → p.free ≡ length after → IsSequent modules bank p → AreHeld modules bank after → Adds before after
+    → IsStep ops modules line q bank before after step
+one_steps ops modules line q bank before after p (Refused r) l m n h held adds = absurd l
+one_steps ops modules line q bank before after p (Leaves v) l m n h held adds =
     let P : List Sequent → Type 0 = AreLeft modules bank (length after) in
     record { made = ap (λ xs. Asks (map (sequent_in bank after) xs)) l ∙ sym m; left = subst P (sym l) (one_left modules bank (length after) p n h); free = held; adds = adds }
 
@@ -206,12 +214,12 @@ new_shown bank n k free bounded e = λ i. not (label_free bank n k free e i || l
 module _ (bank : Nodes) (free : List Resource) (s : Sequent) (f g : FormAt) (n : ℕ) where
   pub lolli_known : IsFormView bank s.goal.0 (LolliView f g) → not (has_resource free n || has_resource s.bounded.items n) ≡ false → (step : Step) → step ≡ Refused 9
       → Steps (LolliLine n) bank free s bank free step
-  lolli_known seen old step e = λ modules q.
+  lolli_known seen old step e = λ ops modules q.
       let P : Step → Type 0 = λ t. IsLeft modules bank (length free) t in
       let ok = new_shown bank n s.free free s.bounded.items q.all ∙ old in
       record {
         made = ap (made_in bank free) e
-            ∙ sym (ap (made (beside modules) (LolliLine n) (sequent_in bank free s).free (bounded_in bank s.bounded.items)) seen.tree
+            ∙ sym (ap (made (beside ops modules) (LolliLine n) (sequent_in bank free s).free (bounded_in bank s.bounded.items)) seen.tree
             ∙ (λ i. provided (ok i) 9 (record { free = free_in bank (take s.free free); bounded = bounded_in bank s.bounded.items ++ record { label = n; clause = form_tree bank f.0 } ∷ []; goal = form_tree bank g.0 } ∷ [])));
         left = subst P (sym e) tt;
         free = q.unbounded;
@@ -220,12 +228,12 @@ module _ (bank : Nodes) (free : List Resource) (s : Sequent) (f g : FormAt) (n :
 
   pub imp_known : IsFormView bank s.goal.0 (ImpView f g) → not (has_resource free n || has_resource s.bounded.items n) ≡ false → (step : Step) → step ≡ Refused 9
       → Steps (ImpLine n) bank free s bank free step
-  imp_known seen old step e = λ modules q.
+  imp_known seen old step e = λ ops modules q.
       let P : Step → Type 0 = λ t. IsLeft modules bank (length free) t in
       let ok = new_shown bank n s.free free s.bounded.items q.all ∙ old in
       record {
         made = ap (made_in bank free) e
-            ∙ sym (ap (made (beside modules) (ImpLine n) (sequent_in bank free s).free (bounded_in bank s.bounded.items)) seen.tree
+            ∙ sym (ap (made (beside ops modules) (ImpLine n) (sequent_in bank free s).free (bounded_in bank s.bounded.items)) seen.tree
             ∙ (λ i. provided (ok i) 9 (record { free = record { label = n; clause = form_tree bank f.0 } ∷ free_in bank (take s.free free); bounded = bounded_in bank s.bounded.items; goal = form_tree bank g.0 } ∷ [])));
         left = subst P (sym e) tt;
         free = q.unbounded;
@@ -234,15 +242,15 @@ module _ (bank : Nodes) (free : List Resource) (s : Sequent) (f g : FormAt) (n :
 
   pub lolli_steps : (p : Sequent) (step : Step) → IsFormView bank s.goal.0 (LolliView f g) → not (has_resource free n || has_resource s.bounded.items n) ≡ true
       → IsAfter bank s (s.bounded.items ++ record { label = n; form = f } ∷ []) g p → IsLeaving (p ∷ []) step → Steps (LolliLine n) bank free s bank free step
-  lolli_steps p step seen new_ after leaving = λ modules h.
+  lolli_steps p step seen new_ after leaving = λ ops modules h.
       let r : Resource = record { label = n; form = f } in
       let ok = new_shown bank n s.free free s.bounded.items h.all ∙ new_ in
       let both = both_sound modules GoalSide ClauseSide (form_tree bank f.0) (form_tree bank g.0) (Lolli (form_tree bank f.0) (form_tree bank g.0)) refl refl refl (goal_sound bank s modules (LolliView f g) seen h.sequent) in
       let clause : IsHeld modules bank ClauseSide f.0 = record { inside = let i = h.sequent.goal.inside in let l = seen.parts.0 in omega arith; sound = both.0 } in
       let held = All-push (λ (r : Resource). IsHeld modules bank ClauseSide r.form.0) s.bounded.items r h.sequent.bounded clause in
       let m = map-append (labelled_in bank) s.bounded.items (r ∷ []) in
-      one_steps modules (LolliLine n) (sequent_in bank free s) bank free free p step leaving
-      (ap (made (beside modules) (LolliLine n) (sequent_in bank free s).free (bounded_in bank s.bounded.items)) seen.tree
+      one_steps ops modules (LolliLine n) (sequent_in bank free s) bank free free p step leaving
+      (ap (made (beside ops modules) (LolliLine n) (sequent_in bank free s).free (bounded_in bank s.bounded.items)) seen.tree
       ∙ ((λ i. provided (ok i) 9 (record { free = free_in bank (take s.free free); bounded = sym m i; goal = form_tree bank g.0 } ∷ []))
       ∙ (λ i. Asks (shown_after bank s (s.bounded.items ++ r ∷ []) g p after free i ∷ []))))
       (after.same ∙ h.all) (after_is bank s modules (s.bounded.items ++ r ∷ []) g p after held (held_at bank s modules g seen.parts.1 h.sequent both.1)) h.unbounded (none_added free)
@@ -250,7 +258,7 @@ module _ (bank : Nodes) (free : List Resource) (s : Sequent) (f g : FormAt) (n :
   pub imp_steps : (after : List Resource) (p : Sequent) (step : Step) → IsFormView bank s.goal.0 (ImpView f g) → not (has_resource free n || has_resource s.bounded.items n) ≡ true
       → after ≡ free ++ record { label = n; form = f } ∷ [] → p.free ≡ length after → p.bounded.items ≡ s.bounded.items → p.goal ≡ g → IsLeaving (p ∷ []) step
       → Steps (ImpLine n) bank free s bank after step
-  imp_steps after p step seen new_ more count bounded goal leaving = λ modules h.
+  imp_steps after p step seen new_ more count bounded goal leaving = λ ops modules h.
       let r : Resource = record { label = n; form = f } in
       let ok = new_shown bank n s.free free s.bounded.items h.all ∙ new_ in
       let both = both_sound modules GoalSide ClauseSide (form_tree bank f.0) (form_tree bank g.0) (Imp (form_tree bank f.0) (form_tree bank g.0)) refl refl refl (goal_sound bank s modules (ImpView f g) seen h.sequent) in
@@ -264,7 +272,7 @@ module _ (bank : Nodes) (free : List Resource) (s : Sequent) (f g : FormAt) (n :
       ∙ sym (ap (free_in bank) (take_all p.free after high ∙ more) ∙ (ap reverse (map-append (labelled_in bank) free (r ∷ [])) ∙ reverse-append (map (labelled_in bank) free) (labelled_in bank r ∷ []))) in
       let G : FormAt → Type 0 = λ a. IsHeld modules bank GoalSide a.0 in
       let B : List Resource → Type 0 = AreHeld modules bank in
-      one_steps modules (ImpLine n) (sequent_in bank free s) bank free after p step leaving
-      (ap (made (beside modules) (ImpLine n) (sequent_in bank free s).free (bounded_in bank s.bounded.items)) seen.tree
+      one_steps ops modules (ImpLine n) (sequent_in bank free s) bank free after p step leaving
+      (ap (made (beside ops modules) (ImpLine n) (sequent_in bank free s).free (bounded_in bank s.bounded.items)) seen.tree
       ∙ (λ i. provided (ok i) 9 (record { free = shown i; bounded = bounded_in bank (sym bounded i); goal = form_tree bank (sym goal i).0 } ∷ [])))
       count (record { goal = subst G (sym goal) (held_at bank s modules g seen.parts.1 h.sequent both.1); bounded = subst B (sym bounded) h.sequent.bounded }) held (record { more = r ∷ []; is = more })

@@ -4,11 +4,12 @@ use Rattle.std.specs.Prelude.{◌&&◌, ◌||◌, not, if◌then◌else◌, nat_
 use Rattle.std.specs.List.{list_any}
 use Rattle.ll_bank.specs.declared.Head.TheVariants.{Eigen}
 use Rattle.ll_bank.specs.Term.{Term, Con}
-use Rattle.ll_bank.specs.Form.{Form, Top, One, Atom, With, Tensor, Plus, Bang, Lolli, Imp, Forall, Exists, Use, instantiate, form_has_eigen}
+use Rattle.ll_bank.specs.Form.{Form, Top, One, Atom, With, Tensor, Plus, Bang, Lolli, Imp, Forall, Exists, Use, Num, instantiate, form_has_eigen}
 use Rattle.ll_laws.specs.Leaf.{Premise, Needs, NeedsFree, Leaf, ways, leaf}
 use Rattle.ll_laws.specs.Module.{Setting, ModuleTree, unfold_load}
+use Rattle.ll_laws.specs.Number.{holds}
 use Rattle.ll_laws.specs.Shows.{Tree, Parts, NoParts, BoundedPart, UnboundedPart, Labelled, clauses, has_label, part, rest, splits, all_in, Found, Missing, Took, pick}
-use Rattle.ll_laws.specs.Line.{PartLine, Labels, Free, Cut, Short, Cuts, add_part, cut_parts, put_clause, put, Line, OneLine, EraseLine, WithLine, LeftLine, RightLine, BangLine, UseLine, TensorLine, LolliLine, ImpLine, ForallLine, ExistsLine, ClauseLine, trees_of}
+use Rattle.ll_laws.specs.Line.{PartLine, Labels, Free, Cut, Short, Cuts, add_part, cut_parts, put_clause, put, Line, OneLine, EraseLine, WithLine, LeftLine, RightLine, BangLine, UseLine, TensorLine, LolliLine, ImpLine, ForallLine, ExistsLine, ClauseLine, NumLine, trees_of}
 use Rattle.ll_laws.specs.Fault.{Checked, Fits, Fault, then_check, unless, is_empty, term_eq, parts_fit, parts_deal, Judged, Wrong, Right, judge_leaf, judge_clause, module_of, on_judged, on_module, fault, fault_parts}
 use Rattle.ll_sequent.specs.Sequents.{SequentTree}
 use Rattle.ll_sequent.specs.Steps.{Made, Refuses, Asks, sequent, provided, blank, premises, made_of, made_by, made_at, faults, Owes}
@@ -27,6 +28,13 @@ by_test : (ok : Bool) (k r : ℕ) (c : Checked) (go : ℕ → Checked) (qs : Lis
     → then_check (unless ok k r c) go ≡ after (provided ok r qs) k next
 by_test true k r c go qs next e = e
 by_test false k r c go qs next e = refl
+
+-- a node that asks for nothing by two tests
+by_two : (a b : Bool) (k : ℕ) (go : ℕ → Checked) (next : List SequentTree → Checked) → go (suc k) ≡ next []
+    → then_check (unless a k 2 (unless b k 12 (Fits (suc k)))) go ≡ after (if a then provided b 12 [] else Refuses 2) k next
+by_two true true k go next e = e
+by_two true false k go next e = refl
+by_two false b k go next e = refl
 
 -- a load
 by_module : (o : Option ModuleTree) (k : ℕ) (f : ModuleTree → Checked) (s : ModuleTree → SequentTree) (go : ℕ → Checked) (next : List SequentTree → Checked)
@@ -198,6 +206,8 @@ goes b k UseLine c d g qs [] = tt
 goes b k UseLine c d (Use m ts g) qs (x ∷ ys) =
     by_module (module_of b m) k (λ l. fault b (suc k) x c d (unfold_load l ts g)) (λ l. sequent c d (unfold_load l ts g)) (λ m. faults b m ys qs) (λ ps. faults b (suc k) (x ∷ ys) (ps ++ qs)) (λ l. refl)
 goes b k UseLine c d _ qs (x ∷ ys) = refl
+goes b k NumLine c d (Num r t u) qs ys = by_two (is_empty d) (holds b.operators r t u) k (λ m. faults b m ys qs) (λ ps. faults b (suc k) ys (ps ++ qs)) refl
+goes b k NumLine c d _ qs ys = refl
 goes b k (ClauseLine n j us ps) c d g qs ys = clause_goes b k n j us ps c d g qs ys (cut_parts ps ys) (cutting b c qs ps ys)
 
 -- ---- what waits

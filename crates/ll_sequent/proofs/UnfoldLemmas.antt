@@ -12,7 +12,8 @@ use Rattle.ll_bank.specs.Nodes.{Nodes, form_tree, form_of, term_tree, term_trees
 use Rattle.ll_bank.specs.declared.At.{At}
 use Rattle.ll_bank.specs.declared.FormAt.{FormAt}
 use Rattle.ll_bank.specs.declared.FormNode.{FormNode}
-use Rattle.ll_bank.specs.declared.FormNode.TheVariants.{Top as TopView, One as OneView, Atom as AtomView, With as WithView, Tensor as TensorView, Plus as PlusView, Bang as BangView, Lolli as LolliView, Imp as ImpView, Forall as ForallView, Exists as ExistsView, Use as UseView}
+use Rattle.ll_bank.specs.declared.FormNode.TheVariants.{Top as TopView, One as OneView, Atom as AtomView, With as WithView, Tensor as TensorView, Plus as PlusView, Bang as BangView, Lolli as LolliView, Imp as ImpView, Forall as ForallView, Exists as ExistsView, Use as UseView, Is as IsView, Less as LessView, Most as MostView}
+use Rattle.ll_laws.specs.Number.{Operators}
 use Rattle.ll_laws.specs.declared.Clause.{Clause}
 use Rattle.ll_laws.specs.declared.Kind.{Kind}
 use Rattle.ll_laws.specs.declared.Kind.TheVariants.{Linear, Unbounded}
@@ -225,15 +226,15 @@ module _ (bank : Nodes) (modules : List Module) (number : ℕ) (m : Module) (arg
       (puts_arguments (module_tree bank m) (term_trees bank args) counted parts.args_closed parts.args_headed) clauses_sound
 
   pub load_steps : (new : Nodes) (p : Sequent) (step : Step) → Extends bank new → ShowsForm new p.goal.0 (unfold_load (module_tree bank m) (term_trees bank args) (form_tree bank body.0))
-      → p.free ≡ s.free → p.bounded.items ≡ s.bounded.items → IsLeaving (p ∷ []) step → (free : List Resource) → Holds (map (module_tree bank) modules) bank free s
-      → IsStep (map (module_tree bank) modules) UseLine (sequent_in bank free s) new free free step
-  load_steps new p step keeps shows same_free same_bounded leaving free h =
+      → p.free ≡ s.free → p.bounded.items ≡ s.bounded.items → IsLeaving (p ∷ []) step → (ops : Operators) (free : List Resource) → Holds (map (module_tree bank) modules) bank free s
+      → IsStep ops (map (module_tree bank) modules) UseLine (sequent_in bank free s) new free free step
+  load_steps new p step keeps shows same_free same_bounded leaving ops free h =
       let ms = map (module_tree bank) modules in
       let ts = term_trees bank args in
       let g = form_tree bank body.0 in
-      opened_steps bank new s p keeps same_free same_bounded (unfold_load (module_tree bank m) ts g) shows UseLine step free ms h leaving
+      opened_steps bank new s p keeps same_free same_bounded (unfold_load (module_tree bank m) ts g) shows UseLine step free ops ms h leaving
       (sound-unfold_load ms (module_tree bank m) ts g counted parts.args_closed parts.args_headed clauses_sound parts.inner)
-      (ap (made (beside ms) UseLine (free_in bank (take s.free free)) (bounded_in bank s.bounded.items)) tree
+      (ap (made (beside ops ms) UseLine (free_in bank (take s.free free)) (bounded_in bank s.bounded.items)) tree
       ∙ ap (λ o. made_by o (λ l. record { free = free_in bank (take s.free free); bounded = bounded_in bank s.bounded.items; goal = unfold_load l ts g })) got)
 
 -- ---- goals of another form
@@ -251,12 +252,15 @@ not_use b bank c d (LolliView f g) n = refl
 not_use b bank c d (ImpView f g) n = refl
 not_use b bank c d (ForallView f) n = refl
 not_use b bank c d (ExistsView f) n = refl
+not_use b bank c d (IsView t u) n = refl
+not_use b bank c d (LessView t u) n = refl
+not_use b bank c d (MostView t u) n = refl
 
 pub use_refused : (bank : Nodes) (s : Sequent) (view : FormNode) → IsFormView bank s.goal.0 view → ((m : ℕ) (ts : Bor (List At)) (f : FormAt) → view ≡ UseView m ts f → ⊥)
     → StepsOver UseLine bank s bank (Refused 1)
-use_refused bank s view seen n = λ modules free h. record {
-  made = sym (ap (made (beside modules) UseLine (free_in bank (take s.free free)) (bounded_in bank s.bounded.items)) seen.tree
-      ∙ not_use (beside modules) bank (free_in bank (take s.free free)) (bounded_in bank s.bounded.items) view n);
+use_refused bank s view seen n = λ ops modules free h. record {
+  made = sym (ap (made (beside ops modules) UseLine (free_in bank (take s.free free)) (bounded_in bank s.bounded.items)) seen.tree
+      ∙ not_use (beside ops modules) bank (free_in bank (take s.free free)) (bounded_in bank s.bounded.items) view n);
   left = tt;
   free = h.unbounded;
   adds = none_added free;

@@ -5,7 +5,7 @@ use Rattle.std.specs.List.{list_all}
 use Rattle.std.proofs.lemmas.Bool.{and_from, and_parts}
 use Rattle.std.proofs.lemmas.List.{length-map}
 use Rattle.ll_bank.specs.Term.{Term, Var, Int, Con, Ap, sub, head_of, is_spine, is_closed}
-use Rattle.ll_bank.specs.Form.{Form, Top, One, Atom, With, Tensor, Plus, Bang, Lolli, Imp, Forall, Exists, Use, sub_form}
+use Rattle.ll_bank.specs.Form.{Form, Top, One, Atom, With, Tensor, Plus, Bang, Lolli, Imp, Forall, Exists, Use, Num, sub_form}
 use Rattle.ll_laws.specs.Module.{ModuleTree}
 use Rattle.ll_laws.specs.Valid.{Side, GoalSide, ClauseSide, Scope, places_below, each_term, may_head, is_headed, is_atom, has_heads, fits_module, loads_fit}
 use Rattle.ll_sequent.specs.Sequents.{IsSound}
@@ -78,6 +78,7 @@ module _ (ts : List Term) (closed : list_all is_closed ts ≡ true) where
   form_free n (Forall f) p = form_free (suc n) f p
   form_free n (Exists f) p = form_free (suc n) f p
   form_free n (Use m us f) p = both_free (list_all (places_below n) us) (each_term places_below n f) (terms_free n us) (form_free n f) p
+  form_free n (Num r t u) p = both_free (places_below n t) (places_below n u) (term_free n t) (term_free n u) p
 
   form_heads : (side : Side) (scope : Scope) (f : Form) → has_heads true side scope f ≡ true → has_heads true side scope (sub_form (values ts) f) ≡ true
   form_heads side scope Top p = refl
@@ -95,6 +96,7 @@ module _ (ts : List Term) (closed : list_all is_closed ts ≡ true) where
   form_heads ClauseSide scope (Forall f) p = form_heads ClauseSide (false ∷ scope) f p
   form_heads side scope (Exists f) p = form_heads side (false ∷ scope) f p
   form_heads side scope (Use m us f) p = both_free (list_all (is_headed scope) us) (has_heads true side scope f) (terms_headed scope us) (form_heads side scope f) p
+  form_heads side scope (Num r t u) p = both_free (is_headed scope t) (is_headed scope u) (term_headed scope t) (term_headed scope u) p
 
   form_loads : (modules : List ModuleTree) (f : Form) → loads_fit modules f ≡ true → loads_fit modules (sub_form (values ts) f) ≡ true
   form_loads modules Top p = refl
@@ -110,6 +112,7 @@ module _ (ts : List Term) (closed : list_all is_closed ts ≡ true) where
   form_loads modules (Exists f) p = form_loads modules f p
   form_loads modules (Use m us f) p =
       both_free (fits_module (slice_get modules m) us) (loads_fit modules f) (module_after (slice_get modules m) us (map (sub (values ts)) us) (length-map us (sub (values ts)))) (form_loads modules f) p
+  form_loads modules (Num r t u) p = refl
 
   pub sound-values : (modules : List ModuleTree) (side : Side) (f : Form) → IsSound modules side [] f → IsSound modules side [] (sub_form (values ts) f)
   sound-values modules side f s = record { closed = form_free 0 f s.closed; heads = form_heads side [] f s.heads; loads = form_loads modules f s.loads }

@@ -2,6 +2,7 @@ pub mod Sequents
 pub mod Steps
 pub mod Constants
 pub mod Named
+pub mod Numbered
 pub mod Judging
 pub mod Told
 pub mod Starting

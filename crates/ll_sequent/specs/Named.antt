@@ -3,6 +3,7 @@ use Rattle.std.specs.Prelude.{◌≡◌, ℕ, Bool, ◌&&◌, List, nat_eq}
 use Rattle.std.specs.List.{list_any, list_all}
 use Rattle.ll_bank.specs.Nodes.{Nodes}
 use Rattle.ll_laws.specs.Module.{Setting, ModuleTree}
+use Rattle.ll_laws.specs.Number.{Operators}
 use Rattle.ll_laws.specs.Shows.{has, one_of}
 use Rattle.ll_laws.specs.Line.{Line}
 use Rattle.ll_sequent.specs.declared.sequents.Resource.{Resource}
@@ -28,4 +29,9 @@ IsLeaving qs (Leaves v) = v.items ≡ qs
 -- what a line makes of a sequent, beside any modules and over any unbounded clauses
 pub record Makes (bank : Nodes) (line : Line) (s : Sequent) (step : Step) : Type 0 where
   pub is : (b : Setting) (free : List Resource) → made_in bank free step ≡ made_at b line (sequent_in bank free s)
+  pub left : (modules : List ModuleTree) → IsSequent modules bank s → IsLeft modules bank s.free step
+
+-- the same of a line that looks at numbers, beside these operators
+pub record MakesBy (ops : Operators) (bank : Nodes) (line : Line) (s : Sequent) (step : Step) : Type 0 where
+  pub is : (modules : List ModuleTree) (free : List Resource) → made_in bank free step ≡ made_at (record { modules = modules; operators = ops }) line (sequent_in bank free s)
   pub left : (modules : List ModuleTree) → IsSequent modules bank s → IsLeft modules bank s.free step

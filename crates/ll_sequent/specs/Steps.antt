@@ -3,12 +3,13 @@ use Rattle.std.specs.Prelude.{◌≡◌, ℕ, Bool, ◌||◌, not, if◌then◌e
 use Rattle.std.specs.List.{list_any}
 use Rattle.ll_bank.specs.declared.Head.TheVariants.{Eigen}
 use Rattle.ll_bank.specs.Term.{Con}
-use Rattle.ll_bank.specs.Form.{Form, Top, One, Atom, With, Tensor, Plus, Bang, Lolli, Imp, Forall, Exists, Use, instantiate, form_has_eigen}
+use Rattle.ll_bank.specs.Form.{Form, Top, One, Atom, With, Tensor, Plus, Bang, Lolli, Imp, Forall, Exists, Use, Num, instantiate, form_has_eigen}
 use Rattle.ll_bank.specs.Nodes.{Nodes}
 use Rattle.ll_laws.specs.Leaf.{Premise, Needs, NeedsFree}
 use Rattle.ll_laws.specs.Module.{Setting, ModuleTree, unfold_load}
+use Rattle.ll_laws.specs.Number.{holds}
 use Rattle.ll_laws.specs.Shows.{Tree, OneNode, Parts, NoParts, BoundedPart, UnboundedPart, Labelled, clauses, has_label, part, rest, splits, pick}
-use Rattle.ll_laws.specs.Line.{PartLine, Labels, Free, Line, OneLine, EraseLine, WithLine, LeftLine, RightLine, BangLine, UseLine, TensorLine, LolliLine, ImpLine, ForallLine, ExistsLine, ClauseLine, trees_of}
+use Rattle.ll_laws.specs.Line.{PartLine, Labels, Free, Line, OneLine, EraseLine, WithLine, LeftLine, RightLine, BangLine, UseLine, TensorLine, LolliLine, ImpLine, ForallLine, ExistsLine, ClauseLine, NumLine, trees_of}
 use Rattle.ll_laws.specs.Fault.{Checked, Fits, then_check, is_empty, Judged, Wrong, Right, judge_clause, module_of, fault}
 use Rattle.ll_sequent.specs.declared.sequents.Resource.{Resource}
 use Rattle.ll_sequent.specs.declared.sequents.Sequent.{Sequent}
@@ -65,6 +66,7 @@ made beside (ImpLine n) c d (Imp r g) = provided (not (has_label c n || has_labe
 made beside (ForallLine e) c d (Forall g) = provided (not (list_any (form_has_eigen e) (g ∷ (clauses c ++ clauses d)))) 10 (sequent c d (instantiate g (Con (Eigen e))) ∷ [])
 made beside (ExistsLine t) c d (Exists g) = Asks (sequent c d (instantiate g t) ∷ [])
 made beside UseLine c d (Use m ts g) = made_by (module_of beside m) (λ l. sequent c d (unfold_load l ts g))
+made beside NumLine c d (Num r t u) = if is_empty d then provided (holds beside.operators r t u) 12 [] else Refuses 2
 made beside (ClauseLine n j ts ps) c d (Atom a) = made_of ps c (judge_clause a j ts (blank ps) (pick n c d))
 made beside _ c d _ = Refuses 1
 

@@ -3,6 +3,7 @@ ghost use Rattle.std.specs.Prelude.{◌≡◌, true, map, IfOk};
 ghost use Rattle.std.specs.List.{list_all};
 ghost use Rattle.ll_bank.specs.Term.{is_closed};
 ghost use Rattle.ll_bank.specs.Nodes.{term_trees, AllInTerms, Extends};
+ghost use Rattle.ll_laws.specs.Number.{Operators};
 ghost use Rattle.ll_laws.specs.Shown.{module_tree, HasModules};
 ghost use Rattle.ll_laws.specs.ShownLines.{part_line};
 ghost use Rattle.ll_laws.specs.Line.{ClauseLine, part_rises};
@@ -52,7 +53,7 @@ pub(crate) fn clause(
     requires inside { AllInTerms terms.now values.now }
     requires closed { list_all is_closed (term_trees terms.now values.now) ≡ true }
     requires rising { list_all part_rises (map part_line parts.now) ≡ true }
-    ensures is { IfOk result (IsStep (map (module_tree bank.old) modules.now) (ClauseLine label leaf (term_trees terms.now values.now) (map part_line parts.now)) (sequent_in bank.old free.now sequent) bank.new free.now free.now) }
+    ensures is { IfOk result (λ step. (ops : Operators) → IsStep ops (map (module_tree bank.old) modules.now) (ClauseLine label leaf (term_trees terms.now values.now) (map part_line parts.now)) (sequent_in bank.old free.now sequent) bank.new free.now free.now step) }
     ensures keeps { Extends bank.old bank.new }
 {
     let FormNode::Atom(atom) = bank.form_at(sequent.goal) else {

@@ -134,6 +134,18 @@ fn look_into(
             waiting.push(f)?;
             Ok(false)
         }
+        FormNode::Is(left, right) => {
+            let found = is_in_terms(alloc, bank, constant, &[left, right])?;
+            Ok(found)
+        }
+        FormNode::Less(left, right) => {
+            let found = is_in_terms(alloc, bank, constant, &[left, right])?;
+            Ok(found)
+        }
+        FormNode::Most(left, right) => {
+            let found = is_in_terms(alloc, bank, constant, &[left, right])?;
+            Ok(found)
+        }
     }
 }
 

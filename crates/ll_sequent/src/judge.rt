@@ -1,6 +1,7 @@
 //! The way through the nodes.
 ghost use Rattle.std.specs.Prelude.{◌≡◌, ◌++◌, ◌∷◌, [], true, map, reverse, Some, IfOk, OnOk};
 ghost use Rattle.std.specs.List.{list_all};
+ghost use Rattle.ll_laws.specs.Number.{operators_of};
 ghost use Rattle.ll_laws.specs.Shown.{module_tree, HasModules};
 ghost use Rattle.ll_laws.specs.ShownLines.{line_of, HasLines};
 ghost use Rattle.ll_laws.specs.Line.{is_line, trees_of};
@@ -12,7 +13,7 @@ ghost use Rattle.ll_sequent.specs.Told.{Tells};
 use crate::Verdict;
 use crate::rules::step;
 use crate::sequents::{Sequent, Start, Step};
-use ll_bank::{Bank, OutOfMemory};
+use ll_bank::{Bank, Names, OutOfMemory};
 use ll_laws::{Module, Rule};
 use std::alloc::Global;
 
@@ -20,6 +21,7 @@ use std::alloc::Global;
 pub(crate) fn judge(
     alloc: Global,
     start: Start,
+    names: &Names,
     modules: &[Module],
     terms: &Bank,
     rules: &[Rule],
@@ -29,7 +31,7 @@ pub(crate) fn judge(
     requires holds { Holds (map (module_tree start.bank) modules.now) start.bank start.free.items start.root }
     requires lines { HasLines terms.now rules.now }
     requires whole { list_all is_line (map (line_of terms.now) rules.now) ≡ true }
-    ensures { IfOk result (λ verdict. (x : Tree) → trees_of (map (line_of terms.now) rules.now) ≡ Some (x ∷ []) → Tells verdict (fault_at (map (module_tree start.bank) modules.now) x (sequent_in start.bank start.free.items start.root))) }
+    ensures { IfOk result (λ verdict. (x : Tree) → trees_of (map (line_of terms.now) rules.now) ≡ Some (x ∷ []) → Tells verdict (fault_at (operators_of names.now) (map (module_tree start.bank) modules.now) x (sequent_in start.bank start.free.items start.root))) }
 {
     let Start {
         mut bank,
@@ -46,6 +48,7 @@ pub(crate) fn judge(
         match step(
             alloc,
             &mut bank,
+            names,
             modules,
             terms,
             &rules[node],

@@ -17,6 +17,7 @@ mod judge;
 mod labels;
 mod leaves;
 mod loads;
+mod numbers;
 mod opening;
 mod plain;
 mod premises;
@@ -49,8 +50,8 @@ const WRONG_TERMS_OF_QUERY: u8 = 11;
 /// Nodes are judged with the sequents that their parents hand them. The reasons are: 1 the rule does not fit the goal; 2 bounded clauses
 /// are left; 3 the sets of labels hold not each label exactly once; 4 there is no clause with this label; 5 the clause has no such leaf;
 /// 6 the way to the leaf has another number of quantifiers; 7 the head is not the goal; 8 the premises have another number or kinds;
-/// 9 the label is not new; 10 the constant is not new; 11, at node 0 alone, another number of terms than the query has variables. A
-/// clause node is judged in the order 1, 4, 5, 6, 7, 8, 3.
+/// 9 the label is not new; 10 the constant is not new; 11, at node 0 alone, another number of terms than the query has variables;
+/// 12 the numbers do not fit. A clause node is judged in the order 1, 4, 5, 6, 7, 8, 3, and one of numbers in the order 1, 2, 12.
 pub fn check(
     alloc: Global,
     problem: &Problem,
@@ -77,6 +78,7 @@ pub fn check(
     let verdict = judge(
         alloc,
         start,
+        &problem.names,
         &problem.modules,
         &derivation.bank,
         &derivation.nodes,

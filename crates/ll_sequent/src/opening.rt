@@ -2,6 +2,7 @@
 ghost use Rattle.std.specs.Prelude.{◌≡◌, List, [], true, map, IfOk};
 ghost use Rattle.ll_bank.specs.Term.{is_closed};
 ghost use Rattle.ll_bank.specs.Nodes.{form_tree, term_tree, HasForm, HasTerm, Extends};
+ghost use Rattle.ll_laws.specs.Number.{Operators};
 ghost use Rattle.ll_laws.specs.Shown.{module_tree, HasModules};
 ghost use Rattle.ll_laws.specs.Line.{ForallLine, ExistsLine, UseLine};
 ghost use Rattle.ll_laws.specs.Valid.{GoalSide, has_heads};
@@ -96,7 +97,7 @@ pub(crate) fn load(
     requires has { HasModules bank.old modules.now }
     requires modules { AreModulesSound (map (module_tree bank.old) modules.now) }
     requires sequent { IsSequent (map (module_tree bank.old) modules.now) bank.old sequent }
-    ensures is { IfOk result (λ step. (free : List Resource) → Holds (map (module_tree bank.old) modules.now) bank.old free sequent → IsStep (map (module_tree bank.old) modules.now) UseLine (sequent_in bank.old free sequent) bank.new free free step) }
+    ensures is { IfOk result (λ step. (ops : Operators) (free : List Resource) → Holds (map (module_tree bank.old) modules.now) bank.old free sequent → IsStep ops (map (module_tree bank.old) modules.now) UseLine (sequent_in bank.old free sequent) bank.new free free step) }
     ensures keeps { Extends bank.old bank.new }
 {
     match bank.form_at(sequent.goal) {

@@ -13,7 +13,7 @@ use std::alloc::Global;
 pub(crate) const OTHER_FORM: u8 = 1;
 
 /// Bounded clauses are left.
-const BOUNDED_LEFT: u8 = 2;
+pub(crate) const BOUNDED_LEFT: u8 = 2;
 
 /// The sets of labels do not hold each label exactly once, or hold another.
 pub(crate) const NOT_DEALT: u8 = 3;

@@ -1,6 +1,7 @@
 //! The rules of nodes.
 ghost use Rattle.std.specs.Prelude.{◌≡◌, true, map, length, IfOk};
 ghost use Rattle.ll_bank.specs.Nodes.{Extends};
+ghost use Rattle.ll_laws.specs.Number.{operators_of};
 ghost use Rattle.ll_laws.specs.Shown.{module_tree, HasModules};
 ghost use Rattle.ll_laws.specs.ShownLines.{line_of, HasLine};
 ghost use Rattle.ll_laws.specs.Line.{is_line};
@@ -9,10 +10,11 @@ ghost use Rattle.ll_sequent.specs.Sequents.{sequent_in};
 
 use crate::clauses::clause;
 use crate::loads::{imp, lolli};
+use crate::numbers::num;
 use crate::opening::{exists, forall, load};
 use crate::plain::{bang, erase, left, one, right, tensor, with};
 use crate::sequents::{Resource, Sequent, Step};
-use ll_bank::{Bank, OutOfMemory};
+use ll_bank::{Bank, Names, OutOfMemory};
 use ll_laws::{Module, Rule};
 use std::alloc::Global;
 
@@ -20,6 +22,7 @@ use std::alloc::Global;
 pub(crate) fn step(
     alloc: Global,
     bank: &mut Bank,
+    names: &Names,
     modules: &[Module],
     terms: &Bank,
     rule: &Rule,
@@ -31,7 +34,7 @@ pub(crate) fn step(
     requires holds { Holds (map (module_tree bank.old) modules.now) bank.old free.old.items sequent }
     requires inside { HasLine terms.now rule.now }
     requires line { is_line (line_of terms.now rule.now) ≡ true }
-    ensures is { IfOk result (IsStep (map (module_tree bank.old) modules.now) (line_of terms.now rule.now) (sequent_in bank.old free.old.items sequent) bank.new free.old.items free.new.items) }
+    ensures is { IfOk result (IsStep (operators_of names.now) (map (module_tree bank.old) modules.now) (line_of terms.now rule.now) (sequent_in bank.old free.old.items sequent) bank.new free.old.items free.new.items) }
     ensures keeps { Extends bank.old bank.new }
 {
     match rule {
@@ -75,6 +78,10 @@ pub(crate) fn step(
         }
         Rule::Use => {
             let step = load(alloc, bank, modules, sequent)?;
+            Ok(step)
+        }
+        Rule::Num => {
+            let step = num(alloc, bank, names, sequent)?;
             Ok(step)
         }
         Rule::Clause {

@@ -73,7 +73,42 @@ fn form_image(
             let images = term_images(alloc, bank, &args, values, terms)?;
             bank.form(FormNode::Use(module, &images, forms[f.0]))
         }
+        FormNode::Is(left, right) => {
+            let (left, right) = two_images(alloc, bank, left, right, values, terms)?;
+            bank.form(FormNode::Is(left, right))
+        }
+        FormNode::Less(left, right) => {
+            let (left, right) = two_images(alloc, bank, left, right, values, terms)?;
+            bank.form(FormNode::Less(left, right))
+        }
+        FormNode::Most(left, right) => {
+            let (left, right) = two_images(alloc, bank, left, right, values, terms)?;
+            bank.form(FormNode::Most(left, right))
+        }
     }
+}
+
+/// The images of two terms.
+fn two_images(
+    alloc: Global,
+    bank: &mut Bank,
+    left: At,
+    right: At,
+    values: &[At],
+    terms: &mut Vec<At>,
+) -> Result<(At, At), OutOfMemory>
+    requires left { HasTerm bank.old left.0 }
+    requires right { HasTerm bank.old right.0 }
+    requires values { AllInTerms bank.old values.now }
+    requires terms { AreTermImages bank.old (term_trees bank.old values.now) terms.old.items }
+    ensures left { IfOk result (λ images. ShowsTerm bank.new images.0.0 (sub (values_of (term_trees bank.old values.now)) (term_tree bank.old left.0))) }
+    ensures right { IfOk result (λ images. ShowsTerm bank.new images.1.0 (sub (values_of (term_trees bank.old values.now)) (term_tree bank.old right.0))) }
+    ensures terms { OnOk result (AreTermImages bank.new (term_trees bank.old values.now) terms.new.items) }
+    ensures keeps { Extends bank.old bank.new }
+{
+    let first = term_image(alloc, bank, left, values, terms)?;
+    let second = term_image(alloc, bank, right, values, terms)?;
+    Ok((first, second))
 }
 
 /// The images of terms.

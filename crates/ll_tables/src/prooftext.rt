@@ -7,7 +7,7 @@ use std::alloc::Global;
 use std::test::Fail;
 
 // Texts that are read, and what is written of them again.
-const READ: [&str; 8] = [
+const READ: [&str; 9] = [
     "proof 1\nerase\n",
     "proof 1\ntensor {0} {1}\nwith\nerase\nclause 0 0\nclause 1 0\n",
     "proof 1\nforall 0\nexists #0\nclause 0 0 #0\n",
@@ -15,6 +15,7 @@ const READ: [&str; 8] = [
     "proof 1\nexists ?18446744073709551615\nforall 4294967295\nerase\n",
     "proof 1\nexists -9223372036854775808\nexists (f (f (f a::b::nil)))\nerase\n",
     "proof 1\nlet (f (g ?7 -3) (f a::(1::2)::g b))\nclause 4 1 (f ?7) {5} !\nerase\nbang\ntrue\n",
+    "proof 1\ntensor {} {}\nnum\nuse\nnum\n",
     FIELDS,
 ];
 
@@ -99,7 +100,7 @@ fn each_field_is_read(rt: HostRuntime) -> Result<(), Fail> {
 }
 
 // Texts with a fault: its line, column and kind.
-const FAULTS: [(&str, u32, u32, u8); 36] = [
+const FAULTS: [(&str, u32, u32, u8); 38] = [
     ("", 1, 1, 14),
     ("proof 1", 1, 8, 15),
     ("proof 1\nfoo\n", 2, 1, 13),
@@ -136,6 +137,8 @@ const FAULTS: [(&str, u32, u32, u8); 36] = [
     ("proof 1\nclause 0 0 !!\n", 2, 12, 14),
     ("proof 1\nclause 0\n", 2, 9, 14),
     ("proof 1\nclause 0 0 a {1 1}\n", 2, 14, 14),
+    ("proof 1\nnum 3\n", 2, 5, 14),
+    ("proof 1\nnum\ntrue\n", 3, 1, 16),
 ];
 
 #[test]

@@ -1,12 +1,16 @@
 -- From the reading and judging of three texts to what a check comes to.
 use Rattle.std.proofs.Common.{◌≡◌, ◌+◌, ℕ, List, length, Option, refl, ap, sym, subst, ◌∙◌, arith, length-append}
-use Rattle.std.specs.Prelude.{Result, Ok, Err}
+use Rattle.std.specs.Prelude.{Result, Ok, Err, nat_eq, if◌then◌else◌}
 use Rattle.ll_bank.specs.Names.{with_names}
 use Rattle.ll_edge.specs.Texts.{Texts}
-use Rattle.ll_laws.specs.Problem.{ProblemTree}
+use Rattle.ll_laws.specs.Module.{Setting}
+use Rattle.ll_laws.specs.Number.{operators_of}
+use Rattle.ll_laws.specs.Problem.{ProblemTree, setting_of}
+use Rattle.ll_laws.specs.Shows.{Tree, Shows as TreeShown}
+use Rattle.ll_laws.specs.Fault.{Checked, fault, Fault as FaultAt}
 use Rattle.ll_laws.specs.Line.{DerivationLines, IsWhole}
 use Rattle.ll_laws.specs.Valid.{IsValid}
-use Rattle.ll_laws.specs.Verdict.{DerivationShows}
+use Rattle.ll_laws.specs.Verdict.{DerivationShows, root_free, root_bounded, instantiated_goal, first_fault}
 use Rattle.ll_lexer.specs.declared.TextFault.{TextFault}
 use Rattle.ll_lexer.specs.declared.TextFault.TheVariants as text_fault
 use Rattle.ll_prooftext.specs.Mentions.{text_names}
@@ -29,6 +33,7 @@ use Rattle.ll_top.specs.Verdicts.{yes_text}
 use Rattle.ll_top.specs.Endings.{refusal_of, cause_of, IsNotRead, IsFaultOf, Judges, IsNoDerivation, IsCheckFaultOf, IsFinding, Finds, ComesToFinding, CheckFinds}
 use Rattle.ll_top.proofs.PrepareLemmas.{not-read}
 use Rattle.ll_top.proofs.MoreNames.{valid-with}
+use Rattle.ll_top.proofs.AddedNames.{same-operators}
 
 -- ---- texts that are read
 
@@ -67,16 +72,33 @@ derivation-refused proof text_fault.OutOfMemory e r h = subst (IsNoDerivation pr
 
 -- ---- more names
 
--- no derivation looks at the names
-shown-without : (p : ProblemTree) (names : List (List ℕ)) (d : DerivationLines) → DerivationShows (record p { names = names }) d → DerivationShows p d
-shown-without p names d s = record { tree = s.tree; is_tree = s.is_tree; count = s.count; shows = s.shows }
+-- the tree shows the query in this setting
+abbrev ShownIn : ProblemTree → DerivationLines → Tree → Setting → Type 0
+ShownIn p d x m = TreeShown m x (root_free p) (root_bounded p) (instantiated_goal p d.asked)
 
-shown-with : (p : ProblemTree) (names : List (List ℕ)) (d : DerivationLines) → DerivationShows p d → DerivationShows (record p { names = names }) d
-shown-with p names d s = record { tree = s.tree; is_tree = s.is_tree; count = s.count; shows = s.shows }
+-- what is said of it there
+abbrev said_in : ProblemTree → DerivationLines → Tree → Setting → Checked
+said_in p d x m =
+    if nat_eq (length d.asked) (length p.asked) then fault m 1 x (root_free p) (root_bounded p) (instantiated_goal p d.asked) else FaultAt 0 11
 
-finding-without : (p : ProblemTree) (names : List (List ℕ)) (d : DerivationLines) (finding : Finding) → IsFinding (record p { names = names }) d finding → IsFinding p d finding
-finding-without p names d (Shows nodes) h = (shown-without p names d h.0, h.1)
-finding-without p names d (Fails node reason) h = record { not_shown = λ s. h.not_shown (shown-with p names d s); tree = h.tree; is_tree = h.is_tree; fault = h.fault }
+-- of the names a derivation looks at the operators alone
+module _ (p : ProblemTree) (names : List (List ℕ)) (same : operators_of names ≡ operators_of p.names) where
+  same-setting : setting_of (record p { names = names }) ≡ setting_of p
+  same-setting = ap (λ operators. let m : Setting = record { modules = p.modules; operators = operators } in m) same
+
+  shown-without : (d : DerivationLines) → DerivationShows (record p { names = names }) d → DerivationShows p d
+  shown-without d s = record { tree = s.tree; is_tree = s.is_tree; count = s.count; shows = subst (ShownIn p d s.tree) same-setting s.shows }
+
+  shown-with : (d : DerivationLines) → DerivationShows p d → DerivationShows (record p { names = names }) d
+  shown-with d s = record { tree = s.tree; is_tree = s.is_tree; count = s.count; shows = subst (ShownIn p d s.tree) (sym same-setting) s.shows }
+
+  same-fault : (d : DerivationLines) (x : Tree) → first_fault p d x ≡ first_fault (record p { names = names }) d x
+  same-fault d x = ap (said_in p d x) (sym same-setting)
+
+  finding-without : (d : DerivationLines) (finding : Finding) → IsFinding (record p { names = names }) d finding → IsFinding p d finding
+  finding-without d (Shows nodes) h = (shown-without d h.0, h.1)
+  finding-without d (Fails node reason) h =
+      record { not_shown = λ s. h.not_shown (shown-with d s); tree = h.tree; is_tree = h.is_tree; fault = same-fault d h.tree ∙ h.fault }
 
 -- a problem with more names is valid too
 pub valid-grown : (p : ProblemTree) (names : List (List ℕ)) → Grows p.names names → IsValid p → IsValid (record p { names = names })
@@ -118,4 +140,5 @@ module _ (program query proof : List ℕ) where
     pub found-of : (names : List (List ℕ)) → names ≡ with_names p.names (text_names proof) → (d : DerivationLines) → IsTextOf names proof d → (finding : Finding) → IsFinding (record p { names = names }) d finding
         → Finds program query proof (Ok finding)
     found-of names e d is_text finding h =
-        (p, d, record { asks = asks; is_text = subst (λ ns. IsTextOf ns proof d) e is_text }, finding-without p names d finding h)
+        let same = ap operators_of e ∙ same-operators p.names proof in
+        (p, d, record { asks = asks; is_text = subst (λ ns. IsTextOf ns proof d) e is_text }, finding-without p names same d finding h)

@@ -12,5 +12,7 @@ pub mod LawLemmas
 pub mod PrepareLemmas
 pub mod MoreNames
 pub mod DistinctNames
+pub mod AddedNames
 pub mod CheckLemmas
 pub mod ProvedLemmas
+pub mod NothingLemmas

@@ -5,7 +5,7 @@ use Rattle.std.specs.List.{list_all}
 use Rattle.std.proofs.lemmas.Bool.{lt-ltb, ltb-true}
 use Rattle.ll_bank.specs.declared.Head.TheVariants.{Name, Eigen, Bound}
 use Rattle.ll_bank.specs.Term.{Term, Var, Int, Con, Ap}
-use Rattle.ll_bank.specs.Form.{Form, Top, One, Atom, With, Tensor, Plus, Bang, Lolli, Imp, Forall, Exists, Use}
+use Rattle.ll_bank.specs.Form.{Form, Top, One, Atom, With, Tensor, Plus, Bang, Lolli, Imp, Forall, Exists, Use, Num}
 use Rattle.ll_laws.specs.Module.{ModuleTree, ClauseTree}
 use Rattle.ll_laws.specs.Problem.{ProblemTree}
 use Rattle.ll_laws.specs.Valid.{Side, GoalSide, ClauseSide, Scope, module_scope, each_term, names_below, IsWithinLimits, AreClauses, AreModules, is_asked, IsValid}
@@ -48,6 +48,8 @@ names_in_form n m le d (Forall f) h = names_in_form n m le (suc d) f h
 names_in_form n m le d (Exists f) h = names_in_form n m le (suc d) f h
 names_in_form n m le d (Use k ts f) h =
     and_intro _ _ (names_in_terms n m le ts (and_left (list_all (names_below n) ts) (named n d f) h)) (names_in_form n m le d f (and_right (list_all (names_below n) ts) (named n d f) h))
+names_in_form n m le d (Num r t u) h =
+    and_intro _ _ (names_in_term n m le t (and_left (names_below n t) (names_below n u) h)) (names_in_term n m le u (and_right (names_below n t) (names_below n u) h))
 
 more_limits : (n m : ℕ) → n ≤ m → (side : Side) (f : Form) → IsWithinLimits n side f → IsWithinLimits m side f
 more_limits n m le side f w = record { named = names_in_form n m le 0 f w.named; leaves = w.leaves; arguments = w.arguments }

@@ -8,3 +8,4 @@ pub mod Outcome
 pub mod Endings
 pub mod Running
 pub mod Proved
+pub mod Nothing

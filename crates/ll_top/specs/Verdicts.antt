@@ -2,7 +2,7 @@
 use Rattle.std.specs.Prelude.{ℕ, List, [], ◌∷◌, slice_index_or, codes, decimal}
 use Rattle.std.specs.List.{concat}
 
--- the text of each reason why a node does not fit, from reason 0, which there is not, to reason 11
+-- the text of each reason why a node does not fit, from reason 0, which there is not, to reason 12
 abbrev pub reason_texts : List (List ℕ)
 reason_texts =
     []
@@ -17,6 +17,7 @@ reason_texts =
     ∷ codes "label not new"
     ∷ codes "constant not new"
     ∷ codes "wrong number of let terms"
+    ∷ codes "numbers do not fit"
     ∷ []
 
 abbrev pub reason_text : ℕ → List ℕ

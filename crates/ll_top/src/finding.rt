@@ -95,6 +95,7 @@ fn reason_text(reason: u8) -> &'static str
         9 => "label not new",
         10 => "constant not new",
         11 => "wrong number of let terms",
+        12 => "numbers do not fit",
         _ => "",
     }
 }

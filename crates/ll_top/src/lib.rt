@@ -18,13 +18,14 @@ ghost use Rattle.ll_top.specs.Words.{IsInForm, IsInWorkersForm, RunWords, IsRun,
 ghost use Rattle.ll_top.specs.Outcome.{word_texts, name_of, name_in_check, ComesTo, RunComesTo, PrintComesTo, CheckComesTo, IsDenied, Ends, Completes};
 ghost use Rattle.ll_top.specs.Endings.{status_of_found, status_of_finding, RunEnds};
 ghost use Rattle.ll_top.specs.Proved.{WritesShown};
+ghost use Rattle.ll_top.specs.Nothing.{AsksInVain};
 
 use checking::check_derivation;
 use fault::{Cause, refuse};
 use finding::Finding;
 use judge::Role;
 use ll_edge::{Gate, Shelf, Sink};
-use ll_laws::answers_are_shown;
+use ll_laws::{answers_are_shown, search_is_complete};
 use ll_lexer::one_reading;
 use ll_parser::{one_program, one_query};
 use ll_prooftext::one_derivation;
@@ -64,6 +65,9 @@ pub fn lolli<R: Threads + Wait + Sync, F: Shelf, O: Sink, G: Gate>(
     // Each answer of a run has a derivation that shows it; with `--proofs` its text stands behind the answer's.
     ensures proved { (run : RunWords) → IsRun (word_texts words.now) run → result ≤ 2
         → WritesShown (F.texts shelf.old) run (O.written sink.old) (O.written sink.new) }
+
+    // Where a run ends with status 1, no derivation shows its query, whatever its terms and its size, but for those with whole-number nodes.
+    ensures nothing { (run : RunWords) → IsRun (word_texts words.now) run → result ≡ 1 → AsksInVain (F.texts shelf.old) run }
 
     // The causes of statuses, over every shelf and sink.
     ensures usage { result ≡ 3 → IsInForm (word_texts words.now) → ⊥ }
@@ -160,8 +164,10 @@ fn serve_run<F: Shelf, O: Sink>(
         (Rose (F.faults shelf.old) (F.faults shelf.new)) (shown_words run.now)) (Rose (O.faults sink.old) (O.faults sink.new))
         (O.written sink.old) (O.written sink.new) result }
     ensures proved { result ≤ 2 → WritesShown (F.texts shelf.old) (shown_words run.now) (O.written sink.old) (O.written sink.new) }
+    ensures nothing { result ≡ 1 → AsksInVain (F.texts shelf.old) (shown_words run.now) }
 {
     answers_are_shown();
+    search_is_complete();
     match run_texts(alloc, run, shelf, sink) {
         Ok(found) => found_status(found),
         Err(Refusal::Text(role, refusal)) => refuse(refusal.cause(text_name(run, role)), sink),

@@ -32,7 +32,7 @@ pub record IsWalked (p : ProblemTree) (a : Answered) : Type 0 where
   pub tree : Tree
   pub is_tree : trees_of (branch_lines p a) ≡ Some (tree ∷ [])
   pub count : length (branch_lines p a) ≡ length a.steps
-  pub told : told (setting_of p) a.terms a.steps (walk_start p) ≡ branch_lines p a
+  pub told : told p.modules a.terms a.steps (walk_start p) ≡ branch_lines p a
   pub is_dealt : dealt p a ≡ Some (record { asked = asked_terms p a; nodes = lines (deal (root_labels p) tree) })
   -- each variable of the query has a term
   pub asked : length (asked_terms p a) ≡ length p.asked

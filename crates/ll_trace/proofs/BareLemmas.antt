@@ -2,7 +2,7 @@
 use Rattle.std.proofs.Common.{◌≡◌, ℕ, zero, suc, ◌-◌, refl, ap, sym, subst, ◌∙◌, Bool, true, false, List, [], ◌∷◌, ◌++◌, map, length, Option, Some, None}
 use Rattle.std.specs.Prelude.{if◌then◌else◌, nat_lt, option_map}
 use Rattle.ll_bank.specs.Term.{Term, Env}
-use Rattle.ll_bank.specs.Form.{Form, Top, One, Atom, With, Tensor, Plus, Bang, Lolli, Imp, Forall, Exists, Use, sub_form, close_form}
+use Rattle.ll_bank.specs.Form.{Form, Top, One, Atom, With, Tensor, Plus, Bang, Lolli, Imp, Forall, Exists, Use, sub_form, close_form, Num}
 use Rattle.ll_laws.specs.declared.Kind.{Kind}
 use Rattle.ll_laws.specs.declared.Kind.TheVariants.{Linear, Unbounded}
 use Rattle.ll_laws.specs.Leaf.{Premise, Needs, NeedsFree, premise_goal, Leaf, ways, leaf_from, add_premise}
@@ -23,6 +23,7 @@ bare-sub s (Imp f g) = λ i. Imp (bare-sub s f i) (bare-sub s g i)
 bare-sub s (Forall f) = ap Forall (bare-sub s f)
 bare-sub s (Exists f) = ap Exists (bare-sub s f)
 bare-sub s (Use m ts f) = ap (Use m []) (bare-sub s f)
+bare-sub s (Num r t u) = refl
 
 pub bare-close : (e : Env) (f : Form) → bare (close_form e f) ≡ bare f
 bare-close e Top = refl
@@ -37,6 +38,7 @@ bare-close e (Imp f g) = λ i. Imp (bare-close e f i) (bare-close e g i)
 bare-close e (Forall f) = ap Forall (bare-close (None ∷ e) f)
 bare-close e (Exists f) = ap Exists (bare-close (None ∷ e) f)
 bare-close e (Use m ts f) = ap (Use m []) (bare-close e f)
+bare-close e (Num r t u) = refl
 
 pub ways-bare : (r : Form) → ways (bare r) ≡ ways r
 ways-bare Top = refl
@@ -51,6 +53,7 @@ ways-bare (Imp q r) = ways-bare r
 ways-bare (Forall r) = ap (map (λ n. suc n)) (ways-bare r)
 ways-bare (Exists r) = refl
 ways-bare (Use m ts r) = refl
+ways-bare (Num r t u) = refl
 
 -- ---- loads
 
@@ -109,6 +112,7 @@ leaf-bare e (Plus q r) k ts = tt
 leaf-bare e (Bang r) k ts = tt
 leaf-bare e (Exists r) k ts = tt
 leaf-bare e (Use m us r) k ts = tt
+leaf-bare e (Num r t u) k ts = tt
 
 -- the goals by which premises are proved, and what a clause node says of them
 pub goals-bare : (ps : List Premise) → map premise_goal (map bare_premise ps) ≡ map (λ p. bare (premise_goal p)) ps

@@ -1,8 +1,8 @@
 -- A tree has as many nodes as lines, before labels are dealt out and after.
 use Rattle.std.proofs.Common.{◌≡◌, ℕ, suc, ◌+◌, refl, ap, subst, ◌∙◌, List, [], ◌∷◌, ◌++◌, length, arith, length-append}
 use Rattle.std.specs.Prelude.{not, filter, Option, Some, None, option_and_then}
-use Rattle.ll_laws.specs.Shows.{Tree, OneNode, EraseNode, TensorNode, WithNode, LeftNode, RightNode, BangNode, LolliNode, ImpNode, ForallNode, ExistsNode, UseNode, ClauseNode, Parts, NoParts, BoundedPart, UnboundedPart, nodes, part_nodes}
-use Rattle.ll_laws.specs.Line.{PartLine, Labels, Free, Line, OneLine, EraseLine, WithLine, LeftLine, RightLine, BangLine, UseLine, TensorLine, LolliLine, ImpLine, ForallLine, ExistsLine, ClauseLine, Cut, Short, Cuts, add_part, cut_parts, put_clause, put, trees_of, lines, lines_of_parts}
+use Rattle.ll_laws.specs.Shows.{Tree, OneNode, EraseNode, TensorNode, WithNode, LeftNode, RightNode, BangNode, LolliNode, ImpNode, ForallNode, ExistsNode, UseNode, ClauseNode, Parts, NoParts, BoundedPart, UnboundedPart, nodes, part_nodes, NumNode}
+use Rattle.ll_laws.specs.Line.{PartLine, Labels, Free, Line, OneLine, EraseLine, WithLine, LeftLine, RightLine, BangLine, UseLine, TensorLine, LolliLine, ImpLine, ForallLine, ExistsLine, ClauseLine, Cut, Short, Cuts, add_part, cut_parts, put_clause, put, trees_of, lines, lines_of_parts, NumLine}
 use Rattle.ll_laws.specs.Dealing.{uses, uses_part, erases, goes_to, without, deal, deal_parts}
 
 -- the nodes of all trees
@@ -27,6 +27,7 @@ cut-count (p ∷ ps) (t ∷ ts) qs us h = step p (cut_parts ps ts) (cut-count ps
 
 put-count : (l : Line) (ts us : List Tree) → put l ts ≡ Some us → total us ≡ suc (total ts)
 put-count OneLine ts us h = let e : OneNode ∷ ts ≡ us = cc in subst (λ v. total v ≡ suc (total ts)) e (omega arith)
+put-count NumLine ts us h = let e : NumNode ∷ ts ≡ us = cc in subst (λ v. total v ≡ suc (total ts)) e (omega arith)
 put-count EraseLine ts us h = let e : EraseNode ∷ ts ≡ us = cc in subst (λ v. total v ≡ suc (total ts)) e (omega arith)
 put-count (TensorLine s t) (x ∷ y ∷ ts) us h = let e : TensorNode s t x y ∷ ts ≡ us = cc in subst (λ v. total v ≡ suc (total (x ∷ y ∷ ts))) e (omega arith)
 put-count WithLine (x ∷ y ∷ ts) us h = let e : WithNode x y ∷ ts ≡ us = cc in subst (λ v. total v ≡ suc (total (x ∷ y ∷ ts))) e (omega arith)
@@ -59,6 +60,7 @@ trees-count (n ∷ ns) ts h = step (trees_of ns) (trees-count ns) h
 mutual
   pub deal_nodes : (d : List ℕ) (x : Tree) → nodes (deal d x) ≡ nodes x
   deal_nodes d OneNode = refl
+  deal_nodes d NumNode = refl
   deal_nodes d EraseNode = refl
   deal_nodes d (TensorNode s t x y) =
       let p = deal_nodes (filter (λ n. goes_to (uses n x) (uses n y) (erases x)) d) x in let q = deal_nodes (filter (λ n. not (goes_to (uses n x) (uses n y) (erases x))) d) y in omega (arith, p, q)
@@ -85,6 +87,7 @@ mutual
 mutual
   pub lines_count : (x : Tree) → length (lines x) ≡ nodes x
   lines_count OneNode = refl
+  lines_count NumNode = refl
   lines_count EraseNode = refl
   lines_count (TensorNode s t x y) = let p = lines_count x in let q = lines_count y in let r = length-append (lines x) (lines y) in omega (arith, p, q, r)
   lines_count (WithNode x y) = let p = lines_count x in let q = lines_count y in let r = length-append (lines x) (lines y) in omega (arith, p, q, r)

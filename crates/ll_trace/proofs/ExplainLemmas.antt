@@ -7,7 +7,7 @@ use Rattle.ll_bank.specs.declared.At.{At}
 use Rattle.ll_bank.specs.declared.FormAt.{FormAt}
 use Rattle.ll_bank.specs.declared.BankSize.{BankSize}
 use Rattle.ll_bank.specs.Term.{Term}
-use Rattle.ll_bank.specs.Form.{Form, Top, One, Atom, With, Tensor, Plus, Bang, Lolli, Imp, Forall, Exists, Use}
+use Rattle.ll_bank.specs.Form.{Form, Top, One, Atom, With, Tensor, Plus, Bang, Lolli, Imp, Forall, Exists, Use, Num}
 use Rattle.ll_bank.specs.Nodes.{Nodes, no_nodes, HasForm, HasTerm, AllInTerms, form_tree, term_tree, term_trees, size_of, IsCutTo}
 use Rattle.ll_bank.proofs.Trees.{term_trees-extends}
 use Rattle.ll_laws.specs.declared.Clause.{Clause}
@@ -37,7 +37,7 @@ use Rattle.ll_trace.specs.Bare.{bare, premises_at}
 use Rattle.ll_trace.specs.Walk.{Walk, Told, Lost, Tells, tell_load, tell_leaf, tell_clause, tell_goal, tell_front, tell, after_node, told, walk_start}
 use Rattle.ll_trace.specs.Goals.{HasGoal, stacked}
 use Rattle.ll_trace.specs.Start.{IsAtStart, with_label, linear_labels}
-use Rattle.ll_trace.specs.Walker.{trees, setting, bare_clauses, walk_of, IsInside, AreNodes}
+use Rattle.ll_trace.specs.Walker.{trees, bare_clauses, walk_of, IsInside, AreNodes}
 use Rattle.ll_trace.proofs.TakeLemmas.{trees-take}
 use Rattle.ll_trace.proofs.Answers.{IsWalked, root_labels}
 
@@ -62,7 +62,7 @@ same-take (suc n) [] (y ∷ ys) h = absurd (omega (arith, h))
 same-take (suc n) (x ∷ xs) [] h = absurd (omega (arith, h))
 same-take (suc n) (x ∷ xs) (y ∷ ys) h = ap suc (same-take n xs ys (omega (arith, h)))
 
-module _ (beside : Setting) (xs ys : List Term) (same : length xs ≡ length ys) where
+module _ (modules : List ModuleTree) (xs ys : List Term) (same : length xs ≡ length ys) where
   alike-load : (w : Walk) (g : Form) (rest : List Form) (o : Option ModuleTree) → Alike (tell_load w g rest o) (tell_load w g rest o)
   alike-load w g rest None = tt
   alike-load w g rest (Some m) = refl
@@ -77,7 +77,7 @@ module _ (beside : Setting) (xs ys : List Term) (same : length xs ≡ length ys)
       let n = slice_index (ways r) k in
       alike-leaf w rest label k (values xs w.used n) (values ys w.used n) (premises_at r k) (same-take n (drop w.used xs) (drop w.used ys) (same-drop w.used xs ys same))
 
-  alike-goal : (w : Walk) (g : Form) (rest : List Form) (c : Step) → Alike (tell_goal beside xs w g rest c) (tell_goal beside ys w g rest c)
+  alike-goal : (w : Walk) (g : Form) (rest : List Form) (c : Step) → Alike (tell_goal modules xs w g rest c) (tell_goal modules ys w g rest c)
   alike-goal w One rest c = refl
   alike-goal w Top rest c = refl
   alike-goal w (Tensor f g) rest c = refl
@@ -91,13 +91,14 @@ module _ (beside : Setting) (xs ys : List Term) (same : length xs ≡ length ys)
   alike-goal w (Imp r g) rest c = refl
   alike-goal w (Forall f) rest c = refl
   alike-goal w (Exists f) rest c = refl
-  alike-goal w (Use m ts g) rest c = alike-load w g rest (slice_get beside.modules m)
+  alike-goal w (Use m ts g) rest c = alike-load w g rest (slice_get modules m)
+  alike-goal w (Num r t u) rest c = refl
   alike-goal w (Atom a) rest (ClauseStep label k) = alike-clause w rest label k (slice_get w.clauses label)
   alike-goal w (Atom a) rest PlainStep = tt
   alike-goal w (Atom a) rest Left = tt
   alike-goal w (Atom a) rest Right = tt
 
-  alike-front : (w : Walk) (gs : List Form) (c : Step) → Alike (tell_front beside xs w gs c) (tell_front beside ys w gs c)
+  alike-front : (w : Walk) (gs : List Form) (c : Step) → Alike (tell_front modules xs w gs c) (tell_front modules ys w gs c)
   alike-front w [] c = tt
   alike-front w (g ∷ rest) c = alike-goal (record w { goals = rest }) g rest c
 
@@ -107,9 +108,9 @@ module _ (beside : Setting) (xs ys : List Term) (same : length xs ≡ length ys)
   alike-after (Tells m v) Lost go to a h = absurd a
   alike-after (Tells m v) (Tells n w) go to a h = ap suc (h v ∙ ap (λ x. length (to x)) a)
 
-  told-count : (cs : List Step) (w : Walk) → length (told beside xs cs w) ≡ length (told beside ys cs w)
+  told-count : (cs : List Step) (w : Walk) → length (told modules xs cs w) ≡ length (told modules ys cs w)
   told-count [] w = refl
-  told-count (c ∷ cs) w = alike-after (tell beside xs w c) (tell beside ys w c) (told beside xs cs) (told beside ys cs) (alike-front w w.goals c) (λ v. told-count cs v)
+  told-count (c ∷ cs) w = alike-after (tell modules xs w c) (tell modules ys w c) (told modules xs cs) (told modules ys cs) (alike-front w w.goals c) (λ v. told-count cs v)
 
 pub take_exact : (n : ℕ) (ats : List At) → n ≤ length ats → n ≡ length (take n ats)
 take_exact zero ats h = refl
@@ -168,8 +169,8 @@ module _ (p : ProblemTree) (a : Answered) (forms bank : Nodes) (modules : List M
     used = start.used i;
   }
 
-  told_is : (all : List Term) → all ≡ a.terms → told (setting forms modules) all steps (walk_of forms (trees forms modules) w) ≡ branch_lines p a
-  told_is all e = (λ i. told (record { modules = modules_are i }) (e i) (steps_are i) (walk_is i)) ∙ walked.told
+  told_is : (all : List Term) → all ≡ a.terms → told (trees forms modules) all steps (walk_of forms (trees forms modules) w) ≡ branch_lines p a
+  told_is all e = (λ i. told (modules_are i) (e i) (steps_are i) (walk_is i)) ∙ walked.told
 
   -- the terms are enough
   pub used_is : w.used ≤ length terms
@@ -186,9 +187,9 @@ module _ (p : ProblemTree) (a : Answered) (forms bank : Nodes) (modules : List M
       few (suc n) [] = omega arith
       few (suc n) (t ∷ ts) = let l = few n ts in omega (arith, l)
 
-  pub told_count : length (told (setting forms modules) (term_trees no_nodes terms) steps (walk_of forms (trees forms modules) w)) ≡ length steps
+  pub told_count : length (told (trees forms modules) (term_trees no_nodes terms) steps (walk_of forms (trees forms modules) w)) ≡ length steps
   told_count =
-      told-count (setting forms modules) (term_trees no_nodes terms) (term_trees bank terms) (length-map terms (λ (x : At). term_tree no_nodes x.0) ∙ sym (length-map terms (λ (x : At). term_tree bank x.0))) steps
+      told-count (trees forms modules) (term_trees no_nodes terms) (term_trees bank terms) (length-map terms (λ (x : At). term_tree no_nodes x.0) ∙ sym (length-map terms (λ (x : At). term_tree bank x.0))) steps
       (walk_of forms (trees forms modules) w)
       ∙ (ap (λ (ns : List Line). length ns) (told_is (term_trees bank terms) terms_are) ∙ (walked.count ∙ ap (λ (cs : List Step). length cs) (sym steps_are)))
 

@@ -7,7 +7,7 @@ use Rattle.std.proofs.lemmas.List.Elements.{All-nil, All-append, All-pop, All-pu
 use Rattle.std.proofs.lemmas.List.Sums.{sum_by-append}
 use Rattle.ll_bank.specs.declared.FormAt.{FormAt}
 use Rattle.ll_bank.specs.Term.{Term, Var}
-use Rattle.ll_bank.specs.Form.{Form, Top, One, Atom, With, Tensor, Plus, Bang, Lolli, Imp, Forall, Exists, Use}
+use Rattle.ll_bank.specs.Form.{Form, Top, One, Atom, With, Tensor, Plus, Bang, Lolli, Imp, Forall, Exists, Use, Num}
 use Rattle.ll_bank.specs.Nodes.{Nodes, HasForm, form_tree}
 use Rattle.ll_laws.specs.declared.Part.{Part}
 use Rattle.ll_laws.specs.Leaf.{Premise, Needs, NeedsFree, premise_goal, ways}
@@ -104,6 +104,7 @@ leaf_below (Plus q r) k h = absurd (cc (h))
 leaf_below (Bang r) k h = absurd (cc (h))
 leaf_below (Exists r) k h = absurd (cc (h))
 leaf_below (Use m ts r) k h = absurd (cc (h))
+leaf_below (Num r t u) k h = absurd (cc (h))
 
 at_zero : (k : ℕ) → IsSome (premises_at (Atom (Var 0)) k) → k ≡ 0
 at_zero zero h = refl

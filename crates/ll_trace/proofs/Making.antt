@@ -4,8 +4,8 @@ use Rattle.std.specs.Prelude.{Option, Some, None, option_and_then}
 use Rattle.std.proofs.lemmas.List.{reverse-append}
 use Rattle.ll_bank.specs.Term.{Term}
 use Rattle.ll_laws.specs.Dealing.{erases, deal}
-use Rattle.ll_laws.specs.Line.{PartLine, Labels, Free, Line, OneLine, EraseLine, WithLine, LeftLine, RightLine, BangLine, UseLine, TensorLine, LolliLine, ImpLine, ForallLine, ExistsLine, ClauseLine, Cut, Short, Cuts, add_part, cut_parts, put_clause, put, trees_of, lines}
-use Rattle.ll_laws.specs.Shows.{Tree, OneNode, EraseNode, TensorNode, WithNode, LeftNode, RightNode, BangNode, LolliNode, ImpNode, ForallNode, ExistsNode, UseNode, ClauseNode, Parts, NoParts, BoundedPart, UnboundedPart, nodes}
+use Rattle.ll_laws.specs.Line.{PartLine, Labels, Free, Line, OneLine, EraseLine, WithLine, LeftLine, RightLine, BangLine, UseLine, TensorLine, LolliLine, ImpLine, ForallLine, ExistsLine, ClauseLine, Cut, Short, Cuts, add_part, cut_parts, put_clause, put, trees_of, lines, NumLine}
+use Rattle.ll_laws.specs.Shows.{Tree, OneNode, EraseNode, TensorNode, WithNode, LeftNode, RightNode, BangNode, LolliNode, ImpNode, ForallNode, ExistsNode, UseNode, ClauseNode, Parts, NoParts, BoundedPart, UnboundedPart, nodes, NumNode}
 use Rattle.ll_trace.specs.Picks.{picks_of}
 
 -- a line over one tree, whose node uses and erases what its child does
@@ -121,6 +121,7 @@ first-made l ls vs h = step (trees_of ls) refl h
 -- a node is the root of some tree
 pub some-made : (l : Line) (ts : List Tree) → put l ts ≡ Some [] → ⊥
 some-made OneLine ts h = cc
+some-made NumLine ts h = cc
 some-made EraseLine ts h = cc
 some-made (TensorLine s t) (x ∷ y ∷ ts) h = cc
 some-made WithLine (x ∷ y ∷ ts) h = cc
@@ -148,6 +149,7 @@ newest xs x = reverse-append xs (x ∷ [])
 
 pub nodes-some : (x : Tree) → 0 < nodes x
 nodes-some OneNode = omega arith
+nodes-some NumNode = omega arith
 nodes-some EraseNode = omega arith
 nodes-some (TensorNode s t x y) = omega arith
 nodes-some (WithNode x y) = omega arith

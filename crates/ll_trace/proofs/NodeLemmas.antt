@@ -11,7 +11,7 @@ use Rattle.ll_laws.specs.Line.{Line}
 use Rattle.ll_laws.specs.ShownLines.{line_of, HasLine, HasLines}
 use Rattle.ll_trace.specs.declared.walk.Walker.{Walker}
 use Rattle.ll_trace.specs.Walk.{Walk, Told, Lost, Tells, tell, after_node, told, IsTold}
-use Rattle.ll_trace.specs.Walker.{trees, setting, walk_of, IsInside, MayStep, Steps, AreNodes, IsPartWay}
+use Rattle.ll_trace.specs.Walker.{trees, walk_of, IsInside, MayStep, Steps, AreNodes, IsPartWay}
 
 drop-next : (cs : List Step) (k : ℕ) (d : Step) → k < length cs → drop k cs ≡ slice_index_or cs k d ∷ drop (k + 1) cs
 drop-next [] k d l = absurd (omega (arith, l))
@@ -33,7 +33,7 @@ append-none (x ∷ xs) = ap (λ ys. x ∷ ys) (append-none xs)
 module _ (forms : Nodes) (modules : List Module) (terms : List At) (steps : List Step) (first : Walker) where
   -- the nodes of these steps from where the walker stands
   abbrev ahead : Nodes → List Step → Walker → List Line
-  ahead bank cs w = told (setting forms modules) (term_trees bank terms) cs (walk_of forms (trees forms modules) w)
+  ahead bank cs w = told (trees forms modules) (term_trees bank terms) cs (walk_of forms (trees forms modules) w)
 
   pub part_start : (rules : List Rule) → rules ≡ [] → IsInside forms (length modules) first → first.used ≤ length terms → length (ahead no_nodes steps first) ≡ length steps → IsPartWay forms modules terms steps first 0 first rules
   part_start rules e i u m = record {
@@ -47,7 +47,7 @@ module _ (forms : Nodes) (modules : List Module) (terms : List At) (steps : List
   pub part_may : (k : ℕ) (w : Walker) (rules : List Rule) (c : Step) → IsPartWay forms modules terms steps first k w rules → k < length steps → c ≡ slice_index_or steps k c → MayStep forms modules terms w c
   part_may k w rules c p l e =
       let d : drop k steps ≡ c ∷ drop (k + 1) steps = drop-next steps k c l ∙ ap (λ x. x ∷ drop (k + 1) steps) (sym e) in
-      tells-now (tell (setting forms modules) (term_trees no_nodes terms) (walk_of forms (trees forms modules) w) c) (told (setting forms modules) (term_trees no_nodes terms) (drop (k + 1) steps)) (length (drop (k + 1) steps))
+      tells-now (tell (trees forms modules) (term_trees no_nodes terms) (walk_of forms (trees forms modules) w) c) (told (trees forms modules) (term_trees no_nodes terms) (drop (k + 1) steps)) (length (drop (k + 1) steps))
       (subst (λ (cs : List Step). length (ahead no_nodes cs w) ≡ length cs) d p.more)
 
   pub part_more : (k next : ℕ) (w new : Walker) (rules more : List Rule) (d : Step) (rule : Rule) → IsPartWay forms modules terms steps first k w rules → k < length steps
@@ -56,7 +56,7 @@ module _ (forms : Nodes) (modules : List Module) (terms : List At) (steps : List
       let c = slice_index_or steps k x in
       let d : drop k steps ≡ c ∷ drop next steps = drop-next steps k x l ∙ ap (λ j. c ∷ drop j steps) (sym n) in
       let one : (bank : Nodes) → ahead bank (drop k steps) w ≡ line_of bank rule ∷ ahead bank (drop next steps) new = λ bank.
-      ap (λ (cs : List Step). ahead bank cs w) d ∙ ap (λ t. after_node t (told (setting forms modules) (term_trees bank terms) (drop next steps))) (s.told bank) in
+      ap (λ (cs : List Step). ahead bank cs w) d ∙ ap (λ t. after_node t (told (trees forms modules) (term_trees bank terms) (drop next steps))) (s.told bank) in
       let many = ap (λ (ns : List Line). length ns) (one no_nodes) in
       let same = p.more in
       let fewer = ap (λ (cs : List Step). length cs) d in

@@ -11,8 +11,8 @@ use Rattle.ll_bank.specs.Term.{Term}
 use Rattle.ll_laws.specs.declared.Part.{Part}
 use Rattle.ll_laws.specs.declared.Part.TheVariants.{Bounded, Unbounded}
 use Rattle.ll_laws.specs.Dealing.{uses, uses_part}
-use Rattle.ll_laws.specs.Line.{PartLine, Line, OneLine, EraseLine, BangLine, ClauseLine, Cuts, cut_parts, put, trees_of}
-use Rattle.ll_laws.specs.Shows.{Tree, OneNode, EraseNode, TensorNode, WithNode, LeftNode, RightNode, BangNode, LolliNode, ImpNode, ForallNode, ExistsNode, UseNode, ClauseNode, Parts, NoParts, BoundedPart, UnboundedPart, nodes, part_nodes}
+use Rattle.ll_laws.specs.Line.{PartLine, Line, OneLine, EraseLine, BangLine, ClauseLine, Cuts, cut_parts, put, trees_of, NumLine}
+use Rattle.ll_laws.specs.Shows.{Tree, OneNode, EraseNode, TensorNode, WithNode, LeftNode, RightNode, BangNode, LolliNode, ImpNode, ForallNode, ExistsNode, UseNode, ClauseNode, Parts, NoParts, BoundedPart, UnboundedPart, nodes, part_nodes, NumNode}
 use Rattle.ll_laws.specs.ShownLines.{part_line}
 use Rattle.ll_trace.specs.declared.picks.Pick.{Pick}
 use Rattle.ll_trace.specs.Picks.{picks_of, picks_of_parts, all_picks, is_pick, is_used_between, level_of_part, IsPickStep}
@@ -35,6 +35,7 @@ on false = refl
 mutual
   pub picks-count : (b : ℕ) (x : Tree) → length (picks_of b x) ≡ nodes x
   picks-count b OneNode = refl
+  picks-count b NumNode = refl
   picks-count b EraseNode = refl
   picks-count b (TensorNode s t x y) = let i = picks-count b x in let j = picks-count b y in let k = length-append (picks_of b x) (picks_of b y) in omega (arith, i, j, k)
   picks-count b (WithNode x y) = let i = picks-count b x in let j = picks-count b y in let k = length-append (picks_of b x) (picks_of b y) in omega (arith, i, j, k)
@@ -57,6 +58,7 @@ mutual
   -- of a lower level nothing is picked
   none_lower : (n a b : ℕ) (x : Tree) → a < b → list_any (is_pick n a) (picks_of b x) ≡ false
   none_lower n a b OneNode h = refl
+  none_lower n a b NumNode h = refl
   none_lower n a b EraseNode h = refl
   none_lower n a b (TensorNode s t x y) h = both n a (picks_of b x) (picks_of b y) (none_lower n a b x h) (none_lower n a b y h)
   none_lower n a b (WithNode x y) h = both n a (picks_of b x) (picks_of b y) (none_lower n a b x h) (none_lower n a b y h)
@@ -79,6 +81,7 @@ mutual
   -- a tree uses what is picked at the level of its root
   pub picks-uses : (n b : ℕ) (x : Tree) → list_any (is_pick n b) (picks_of b x) ≡ uses n x
   picks-uses n b OneNode = refl
+  picks-uses n b NumNode = refl
   picks-uses n b EraseNode = refl
   picks-uses n b (TensorNode s t x y) = either n b (picks_of b x) (picks_of b y) (uses n x) (uses n y) (picks-uses n b x) (picks-uses n b y)
   picks-uses n b (WithNode x y) = either n b (picks_of b x) (picks_of b y) (uses n x) (uses n y) (picks-uses n b x) (picks-uses n b y)
@@ -110,6 +113,9 @@ drop-on from to picks here more h e = ap (λ i. drop i picks) e ∙ (sym (drop-d
 
 pub pick-one : (b : ℕ) (old : List ℕ) (ts vs : List Tree) → put OneLine ts ≡ Some vs → IsPickStep b old old None ts vs
 pick-one b old ts vs h = let e : OneNode ∷ ts ≡ vs = cc in subst (IsPickStep b old old None ts) e (record { same = refl; count = λ k. omega (arith, k) })
+
+pub pick-num : (b : ℕ) (old : List ℕ) (ts vs : List Tree) → put NumLine ts ≡ Some vs → IsPickStep b old old None ts vs
+pick-num b old ts vs h = let e : NumNode ∷ ts ≡ vs = cc in subst (IsPickStep b old old None ts) e (record { same = refl; count = λ k. omega (arith, k) })
 
 pub pick-erase : (b : ℕ) (old : List ℕ) (ts vs : List Tree) → put EraseLine ts ≡ Some vs → IsPickStep b old old None ts vs
 pick-erase b old ts vs h = let e : EraseNode ∷ ts ≡ vs = cc in subst (IsPickStep b old old None ts) e (record { same = refl; count = λ k. omega (arith, k) })

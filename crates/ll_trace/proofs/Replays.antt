@@ -4,7 +4,7 @@ use Rattle.std.specs.Prelude.{◌&&◌, ◌||◌, not, if◌then◌else◌, nat_
 use Rattle.std.proofs.lemmas.Bool.{eqb-true}
 use Rattle.ll_bank.specs.declared.Head.TheVariants.{Eigen}
 use Rattle.ll_bank.specs.Term.{Term, Con}
-use Rattle.ll_bank.specs.Form.{Form, Top, One, Atom, With, Tensor, Plus, Bang, Lolli, Imp, Forall, Exists, Use}
+use Rattle.ll_bank.specs.Form.{Form, Top, One, Atom, With, Tensor, Plus, Bang, Lolli, Imp, Forall, Exists, Use, Num}
 use Rattle.ll_laws.specs.declared.Kind.{Kind}
 use Rattle.ll_laws.specs.declared.Kind.TheVariants.{Linear, Unbounded}
 use Rattle.ll_laws.specs.declared.Step.{Step}
@@ -175,7 +175,7 @@ module _ (beside : Setting) (all : List Term) (w : Walk) (s : State) (c : Covers
   newest : (kind : Kind) (r : Form) → Covers (w.clauses ++ bare r ∷ []) (loaded s kind r)
   newest kind r = (get-last w.clauses (bare r) s.label l, covers-push w.clauses (bare r) s.context c)
 
-  matches : (g : Form) (rest : List (Item Form)) (x : Step) → Matches (tell_goal beside all w (bare g) (bare_goals rest) x) (line_of beside all s g rest x)
+  matches : (g : Form) (rest : List (Item Form)) (x : Step) → Matches (tell_goal beside.modules all w (bare g) (bare_goals rest) x) (line_of beside all s g rest x)
   matches One rest x = (refl, record { goals = refl; covers = c; label = l; eigens = e; used = u })
   matches Top rest x = (refl, record { goals = refl; covers = c; label = l; eigens = e; used = u })
   matches (Tensor f g) rest x = (refl, record { goals = refl; covers = c; label = l; eigens = e; used = u })
@@ -200,13 +200,14 @@ module _ (beside : Setting) (all : List Term) (w : Walk) (s : State) (c : Covers
     },
   )
   matches (Use m ts g) rest x = matches-load w s rest ts g (slice_get beside.modules m) c l e u
+  matches (Num r t v) rest x = (refl, record { goals = refl; covers = c; label = l; eigens = e; used = u })
   matches (Atom a) rest Plain = tt
   matches (Atom a) rest Left = tt
   matches (Atom a) rest Right = tt
   matches (Atom a) rest (ClauseStep label k) = matches-atom all w s rest label k (entry_at s.context label) refl c l e u
 
 matches-front : (beside : Setting) (all : List Term) (w : Walk) (s : State) → Covers w.clauses s.context → length w.clauses ≡ s.label → w.eigens ≡ s.eigens → w.used ≡ length s.terms → (agenda : List (Item Form)) (x : Step)
-    → Matches (tell_front beside all w (bare_goals agenda) x) (front_line beside all s agenda x)
+    → Matches (tell_front beside.modules all w (bare_goals agenda) x) (front_line beside all s agenda x)
 matches-front beside all w s c l e u [] x = tt
 matches-front beside all w s c l e u (Goal g ∷ rest) x = matches beside all (to_prove w (bare_goals rest)) s c l e u g rest x
 matches-front beside all w s c l e u (LolliEnd b ∷ rest) x = tt
@@ -216,26 +217,26 @@ matches-front beside all w s c l e u (WithEnd b d ∷ rest) x = tt
 matches-front beside all w s c l e u (BangEnd b ∷ rest) x = tt
 
 -- a step of the state's settled form
-matches-settled : (beside : Setting) (all : List Term) (w : Walk) (s : State) (x : Step) → Follows w s → Matches (tell beside all w x) (settled_line beside all (settle s) x)
+matches-settled : (beside : Setting) (all : List Term) (w : Walk) (s : State) (x : Step) → Follows w s → Matches (tell beside.modules all w x) (settled_line beside all (settle s) x)
 unfolding settle
 matches-settled beside all w s x h = step (settle_front s.agenda s.context s.flag) (settles w.clauses s.agenda s.context s.flag h.covers)
   where
-    step : (o : Option (Front Form Form)) → Settles w.clauses (bare_goals s.agenda) o → Matches (tell beside all w x) (settled_line beside all (front_of s o) x)
+    step : (o : Option (Front Form Form)) → Settles w.clauses (bare_goals s.agenda) o → Matches (tell beside.modules all w x) (settled_line beside all (front_of s o) x)
     step None k = tt
     step (Some f) k =
-        subst (λ (gs : List Form). Matches (tell_front beside all w gs x) (front_line beside all (with_front s f) f.agenda x)) (sym (h.goals ∙ k.0))
+        subst (λ (gs : List Form). Matches (tell_front beside.modules all w gs x) (front_line beside all (with_front s f) f.agenda x)) (sym (h.goals ∙ k.0))
         (matches-front beside all w (with_front s f) k.1 h.label h.eigens h.used f.agenda x)
 
 -- ---- all steps
 
 -- a list of nodes that is as long as the steps are many has one for each
-pub told-replay : (beside : Setting) (all : List Term) (cs : List Step) (w : Walk) (s : State) → Follows w s → length (replay beside all cs s) ≡ length cs → told beside all cs w ≡ replay beside all cs s
+pub told-replay : (beside : Setting) (all : List Term) (cs : List Step) (w : Walk) (s : State) → Follows w s → length (replay beside all cs s) ≡ length cs → told beside.modules all cs w ≡ replay beside all cs s
 told-replay beside all [] w s h n = refl
 told-replay beside all (x ∷ cs) w s h n =
-    step (tell beside all w x) (settled_line beside all (settle s) x) (matches-settled beside all w s x h) (λ v u f k. told-replay beside all cs v u f k) n
+    step (tell beside.modules all w x) (settled_line beside all (settle s) x) (matches-settled beside all w s x h) (λ v u f k. told-replay beside all cs v u f k) n
   where
-    step : (t : Told) (r : Replayed) → Matches t r → ((v : Walk) (u : State) → Follows v u → length (replay beside all cs u) ≡ length cs → told beside all cs v ≡ replay beside all cs u)
-        → length (after_line r (replay beside all cs)) ≡ suc (length cs) → after_node t (told beside all cs) ≡ after_line r (replay beside all cs)
+    step : (t : Told) (r : Replayed) → Matches t r → ((v : Walk) (u : State) → Follows v u → length (replay beside all cs u) ≡ length cs → told beside.modules all cs v ≡ replay beside all cs u)
+        → length (after_line r (replay beside all cs)) ≡ suc (length cs) → after_node t (told beside.modules all cs) ≡ after_line r (replay beside all cs)
     step t Off m go k = absurd (omega (arith, k))
     step Lost (On a u) m go k = absurd m
     step (Tells b v) (On a u) m go k = λ i. m.0 i ∷ go v u m.1 (omega (arith, k)) i

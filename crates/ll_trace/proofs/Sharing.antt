@@ -8,8 +8,8 @@ use Rattle.ll_bank.specs.Term.{Term}
 use Rattle.ll_laws.specs.declared.Part.{Part}
 use Rattle.ll_laws.specs.declared.Rule.{Rule}
 use Rattle.ll_laws.specs.Dealing.{uses, uses_part, erases, deal, deal_parts, goes_to, without}
-use Rattle.ll_laws.specs.Line.{PartLine, Labels, Free, Line, OneLine, EraseLine, WithLine, BangLine, LolliLine, TensorLine, ClauseLine, Cuts, cut_parts, put, trees_of, lines, lines_of_parts, part_lines}
-use Rattle.ll_laws.specs.Shows.{Tree, OneNode, EraseNode, TensorNode, WithNode, BangNode, LolliNode, ClauseNode, Parts, NoParts, BoundedPart, UnboundedPart, nodes, part_nodes}
+use Rattle.ll_laws.specs.Line.{PartLine, Labels, Free, Line, OneLine, EraseLine, WithLine, BangLine, LolliLine, TensorLine, ClauseLine, Cuts, cut_parts, put, trees_of, lines, lines_of_parts, part_lines, NumLine}
+use Rattle.ll_laws.specs.Shows.{Tree, OneNode, EraseNode, TensorNode, WithNode, BangNode, LolliNode, ClauseNode, Parts, NoParts, BoundedPart, UnboundedPart, nodes, part_nodes, NumNode}
 use Rattle.ll_laws.specs.ShownLines.{line_of, part_line}
 use Rattle.ll_trace.specs.declared.deal.Fork.{Fork}
 use Rattle.ll_trace.specs.declared.deal.Outline.{Outline}
@@ -21,7 +21,7 @@ use Rattle.ll_trace.specs.Spans.{span_or_none, Fits}
 use Rattle.ll_trace.specs.Shares.{all_dealt, levels, goes_to_first, IsNodeStep, ArePartsDealt}
 use Rattle.ll_bank.specs.Nodes.{term_tree}
 use Rattle.ll_bank.specs.declared.At.{At}
-use Rattle.ll_laws.specs.declared.Rule.TheVariants.{One, Erase, Tensor, With, Left, Right, Bang, Lolli, Imp, Forall, Exists, Use, Clause}
+use Rattle.ll_laws.specs.declared.Rule.TheVariants.{One, Erase, Tensor, With, Left, Right, Bang, Lolli, Imp, Forall, Exists, Use, Clause, Num}
 use Rattle.ll_laws.specs.Shows.{LeftNode, RightNode, ImpNode, ForallNode, ExistsNode, UseNode}
 use Rattle.std.proofs.Common.{Vec, Global, get_or, drop-cons, ◌≤◌}
 use Rattle.std.specs.Prelude.{true, false, Result, Ok, Err, IfOk}
@@ -87,6 +87,11 @@ pub one-step : (outline : Outline) (at : ℕ) (share : Share) (old : List Share)
 one-step outline at share old ts vs h d =
     let e : OneNode ∷ ts ≡ vs = cc in
     subst (IsNodeStep outline (at + 1) share old old OneLine ts) e (leaf-step outline at share old OneLine OneNode ts refl refl (d ∙ ap (all_picks (share.level ∷ levels (reverse old))) (sym e)))
+
+pub num-step : (outline : Outline) (at : ℕ) (share : Share) (old : List Share) (ts vs : List Tree) → put NumLine ts ≡ Some vs → drop at outline.uses ≡ all_picks (share.level ∷ levels (reverse old)) vs → IsNodeStep outline (at + 1) share old old NumLine ts vs
+num-step outline at share old ts vs h d =
+    let e : NumNode ∷ ts ≡ vs = cc in
+    subst (IsNodeStep outline (at + 1) share old old NumLine ts) e (leaf-step outline at share old NumLine NumNode ts refl refl (d ∙ ap (all_picks (share.level ∷ levels (reverse old))) (sym e)))
 
 pub erase-step : (outline : Outline) (at : ℕ) (share : Share) (old : List Share) (ts vs : List Tree) → put EraseLine ts ≡ Some vs → drop at outline.uses ≡ all_picks (share.level ∷ levels (reverse old)) vs → IsNodeStep outline (at + 1) share old old EraseLine ts vs
 erase-step outline at share old ts vs h d =
@@ -172,21 +177,22 @@ pub record IsPassingRule (r : Rule) : Type 0 where
   pub mk : Nodes → Tree → Tree
   pub passing : (bank : Nodes) → IsPassing (line_of bank r) (mk bank)
 
-pub passing-rule : (r : Rule) → (r ≡ One → ⊥) → (r ≡ Erase → ⊥) → ((s t : Vec ℕ Global) → r ≡ Tensor s t → ⊥) → (r ≡ With → ⊥) → (r ≡ Bang → ⊥) → ((n : ℕ) → r ≡ Lolli n → ⊥)
+pub passing-rule : (r : Rule) → (r ≡ Num → ⊥) → (r ≡ One → ⊥) → (r ≡ Erase → ⊥) → ((s t : Vec ℕ Global) → r ≡ Tensor s t → ⊥) → (r ≡ With → ⊥) → (r ≡ Bang → ⊥) → ((n : ℕ) → r ≡ Lolli n → ⊥)
     → ((n k : ℕ) (us : Vec At Global) (ps : Vec Part Global) → r ≡ Clause n k us ps → ⊥) → IsPassingRule r
-passing-rule One a b c d e f g = absurd (a refl)
-passing-rule Erase a b c d e f g = absurd (b refl)
-passing-rule (Tensor s t) a b c d e f g = absurd (c s t refl)
-passing-rule With a b c d e f g = absurd (d refl)
-passing-rule Left a b c d e f g = record { mk = λ bank. LeftNode; passing = λ bank. left-passing }
-passing-rule Right a b c d e f g = record { mk = λ bank. RightNode; passing = λ bank. right-passing }
-passing-rule Bang a b c d e f g = absurd (e refl)
-passing-rule (Lolli n) a b c d e f g = absurd (f n refl)
-passing-rule (Imp n) a b c d e f g = record { mk = λ bank. ImpNode n; passing = λ bank. imp-passing n }
-passing-rule (Forall n) a b c d e f g = record { mk = λ bank. ForallNode n; passing = λ bank. forall-passing n }
-passing-rule (Exists t) a b c d e f g = record { mk = λ bank. ExistsNode (term_tree bank t.0); passing = λ bank. exists-passing (term_tree bank t.0) }
-passing-rule Use a b c d e f g = record { mk = λ bank. UseNode; passing = λ bank. use-passing }
-passing-rule (Clause n k us ps) a b c d e f g = absurd (g n k us ps refl)
+passing-rule One z a b c d e f g = absurd (a refl)
+passing-rule Num z a b c d e f g = absurd (z refl)
+passing-rule Erase z a b c d e f g = absurd (b refl)
+passing-rule (Tensor s t) z a b c d e f g = absurd (c s t refl)
+passing-rule With z a b c d e f g = absurd (d refl)
+passing-rule Left z a b c d e f g = record { mk = λ bank. LeftNode; passing = λ bank. left-passing }
+passing-rule Right z a b c d e f g = record { mk = λ bank. RightNode; passing = λ bank. right-passing }
+passing-rule Bang z a b c d e f g = absurd (e refl)
+passing-rule (Lolli n) z a b c d e f g = absurd (f n refl)
+passing-rule (Imp n) z a b c d e f g = record { mk = λ bank. ImpNode n; passing = λ bank. imp-passing n }
+passing-rule (Forall n) z a b c d e f g = record { mk = λ bank. ForallNode n; passing = λ bank. forall-passing n }
+passing-rule (Exists t) z a b c d e f g = record { mk = λ bank. ExistsNode (term_tree bank t.0); passing = λ bank. exists-passing (term_tree bank t.0) }
+passing-rule Use z a b c d e f g = record { mk = λ bank. UseNode; passing = λ bank. use-passing }
+passing-rule (Clause n k us ps) z a b c d e f g = absurd (g n k us ps refl)
 
 -- ---- the premises of a clause node, one after the other
 

@@ -19,7 +19,7 @@ use Rattle.ll_trace.specs.declared.walk.Walker.{Walker}
 use Rattle.ll_trace.specs.Bare.{bare}
 use Rattle.ll_trace.specs.Walk.{Tells, to_prove, tell_goal}
 use Rattle.ll_trace.specs.Goals.{HasGoal, stacked}
-use Rattle.ll_trace.specs.Walker.{trees, setting, walk_of, IsInside, Takes, Pushes, TakesSide}
+use Rattle.ll_trace.specs.Walker.{trees, walk_of, IsInside, Takes, Pushes, TakesSide}
 use Rattle.ll_trace.proofs.TakeLemmas.{takes_goals}
 
 module _ (forms : Nodes) (modules : List Module) (terms : List At) (old : Walker) (i : IsInside forms (length modules) old) (u : old.used ≤ length terms) (f g : FormAt) where
@@ -28,7 +28,7 @@ module _ (forms : Nodes) (modules : List Module) (terms : List At) (old : Walker
 
   one_side : (at : FormAt) (c : Step) (r : Rule) (n : Line) (rule : Rule) (new : Walker) → HasForm forms at.0 → (rule ≡ r) × Pushes old (Plain at) [] 0 0 new → ((bank : Nodes) → line_of bank r ≡ n)
       → ((bank : Nodes) → AllInTerms bank terms → HasLine bank r)
-      → ((all : List Term) → tell_goal (setting forms modules) all (walk_of forms (trees forms modules) old) sum (stacked forms (trees forms modules) old.goals.items []) c
+      → ((all : List Term) → tell_goal (trees forms modules) all (walk_of forms (trees forms modules) old) sum (stacked forms (trees forms modules) old.goals.items []) c
       ≡ Tells n (to_prove (walk_of forms (trees forms modules) old) (bare (form_tree forms at.0) ∷ stacked forms (trees forms modules) old.goals.items [])))
       → Takes forms modules terms old sum c rule new
   one_side at c r n rule new h s l p t =

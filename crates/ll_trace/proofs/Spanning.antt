@@ -3,8 +3,8 @@ use Rattle.std.proofs.Common.{◌≡◌, ℕ, ◌+◌, ◌≤◌, ◌<◌, refl,
 use Rattle.std.specs.Prelude.{Bool, true, false, ◌||◌, ◌&&◌, Some}
 use Rattle.ll_bank.specs.Term.{Term}
 use Rattle.ll_laws.specs.Dealing.{erases, erases_part}
-use Rattle.ll_laws.specs.Line.{PartLine, Labels, Free, Line, OneLine, EraseLine, WithLine, BangLine, TensorLine, ClauseLine, Cuts, cut_parts, put, trees_of}
-use Rattle.ll_laws.specs.Shows.{Tree, OneNode, EraseNode, TensorNode, WithNode, BangNode, Parts, nodes, part_nodes}
+use Rattle.ll_laws.specs.Line.{PartLine, Labels, Free, Line, OneLine, EraseLine, WithLine, BangLine, TensorLine, ClauseLine, Cuts, cut_parts, put, trees_of, NumLine}
+use Rattle.ll_laws.specs.Shows.{Tree, OneNode, EraseNode, TensorNode, WithNode, BangNode, Parts, nodes, part_nodes, NumNode}
 use Rattle.ll_trace.specs.declared.spans.Span.{Span}
 use Rattle.ll_trace.specs.Spans.{span_or_none, Fits, HasSpan, ArePartSpan}
 use Rattle.ll_trace.proofs.Making.{IsUnary, IsBinary, tensor-binary, with-binary, join, cut-step, cut-end, clause-made, first-made, some-made, nodes-some}
@@ -15,6 +15,9 @@ use Rattle.std.proofs.lemmas.List.{drop_all}
 
 pub span-one : (S : List Span) (first : ℕ) (ts vs : List Tree) → put OneLine ts ≡ Some vs → Fits S first ts → HasSpan S first (record { end = first; erases = false }) vs
 span-one S first ts vs h f = let e : OneNode ∷ ts ≡ vs = cc in subst (HasSpan S first (record { end = first; erases = false })) e (record { end = refl; erases = refl; rest = f })
+
+pub span-num : (S : List Span) (first : ℕ) (ts vs : List Tree) → put NumLine ts ≡ Some vs → Fits S first ts → HasSpan S first (record { end = first; erases = false }) vs
+span-num S first ts vs h f = let e : NumNode ∷ ts ≡ vs = cc in subst (HasSpan S first (record { end = first; erases = false })) e (record { end = refl; erases = refl; rest = f })
 
 pub span-erase : (S : List Span) (first : ℕ) (ts vs : List Tree) → put EraseLine ts ≡ Some vs → Fits S first ts → HasSpan S first (record { end = first; erases = true }) vs
 span-erase S first ts vs h f = let e : EraseNode ∷ ts ≡ vs = cc in subst (HasSpan S first (record { end = first; erases = true })) e (record { end = refl; erases = refl; rest = f })

@@ -30,7 +30,7 @@ use Rattle.ll_trace.specs.Bare.{bare, some_atom, premises_at, bare_load, bare_lo
 use Rattle.ll_trace.specs.Walk.{Walk, Told, Tells, to_prove, with_clause, tell_load, tell_leaf, tell_clause, tell_goal, tell_front, tell, IsTold}
 use Rattle.ll_trace.specs.Goals.{stacked, shown_goal, HasGoal, loading_goal, clauses_of}
 use Rattle.ll_trace.specs.Opening.{Opens}
-use Rattle.ll_trace.specs.Walker.{trees, setting, bare_clauses, walk_of, IsInside, MayTake, Takes, MayStep, Steps, Pushes, HasLeaf}
+use Rattle.ll_trace.specs.Walker.{trees, bare_clauses, walk_of, IsInside, MayTake, Takes, MayStep, Steps, Pushes, HasLeaf}
 
 -- what holds of a value holds weakened
 pub if_ok : {A E : Type 0} (P Q : A → Type 0) → ((x : A) → P x → Q x) → (r : Result A E) → IfOk r P → IfOk r Q
@@ -139,7 +139,7 @@ module _ (forms : Nodes) (modules : List Module) (terms : List At) (old : Walker
 
   -- what the step tells of a goal
   abbrev tells : List Term → Form → Told
-  tells all g = tell_goal (setting forms modules) all here g below c
+  tells all g = tell_goal (trees forms modules) all here g below c
 
   -- from the formula's sign to the formula
   pub takes_tree : (form : ℕ) (t : Form) (rule : Rule) (new : Walker) → form_tree forms form ≡ t → Takes forms modules terms old (bare t) c rule new → Takes forms modules terms old (bare (form_tree forms form)) c rule new
@@ -293,7 +293,7 @@ module _ (forms : Nodes) (modules : List Module) (terms : List At) (old : Walker
       let count = ap (λ (ats : List At). length ats) t in
       record {
         told = λ bank.
-            ap (λ x. tell_goal (setting forms modules) (term_trees bank terms) here some_atom below x) step
+            ap (λ x. tell_goal (trees forms modules) (term_trees bank terms) here some_atom below x) step
             ∙ (ap (λ x. tell_clause (term_trees bank terms) here below label k x) (known_clause forms old.clauses.items label k d leaf is)
             ∙ (ap (λ x. tell_leaf here below label k x (premises_at r k)) (us bank)
             ∙ (ap (λ x. tell_leaf here below label k (term_trees bank taken) x) o.are
@@ -340,15 +340,15 @@ module _ (forms : Nodes) (modules : List Module) (terms : List At) (old : Walker
 
 -- the walker with the goal in front taken off
 pub front_is : (forms : Nodes) (modules : List Module) (terms : List Term) (old popped : Walker) (g : Goal) (c : Step) → old.goals.items ≡ popped.goals.items ++ g ∷ [] → popped.clauses.items ≡ old.clauses.items → popped.eigens ≡ old.eigens
-    → popped.used ≡ old.used → tell (setting forms modules) terms (walk_of forms (trees forms modules) old) c
-    ≡ tell_goal (setting forms modules) terms (walk_of forms (trees forms modules) popped) (shown_goal forms (trees forms modules) g) (stacked forms (trees forms modules) popped.goals.items []) c
+    → popped.used ≡ old.used → tell (trees forms modules) terms (walk_of forms (trees forms modules) old) c
+    ≡ tell_goal (trees forms modules) terms (walk_of forms (trees forms modules) popped) (shown_goal forms (trees forms modules) g) (stacked forms (trees forms modules) popped.goals.items []) c
 front_is forms modules terms old popped g c e e2 e3 e4 =
     let ms = trees forms modules in
     let s : stacked forms ms old.goals.items [] ≡ shown_goal forms ms g ∷ stacked forms ms popped.goals.items [] = ap (λ gs. stacked forms ms gs []) e ∙ stacked-append forms ms popped.goals.items (g ∷ []) [] in
     let w : to_prove (walk_of forms ms old) (stacked forms ms popped.goals.items []) ≡ walk_of forms ms popped =
     (λ j. record { goals = stacked forms ms popped.goals.items []; clauses = bare_clauses forms (sym e2 j); eigens = sym e3 j; used = sym e4 j }) in
-    ap (λ gs. tell_front (setting forms modules) terms (walk_of forms ms old) gs c) s
-    ∙ ap (λ v. tell_goal (setting forms modules) terms v (shown_goal forms ms g) (stacked forms ms popped.goals.items []) c) w
+    ap (λ gs. tell_front (trees forms modules) terms (walk_of forms ms old) gs c) s
+    ∙ ap (λ v. tell_goal (trees forms modules) terms v (shown_goal forms ms g) (stacked forms ms popped.goals.items []) c) w
 
 pub steps_of : (forms : Nodes) (modules : List Module) (terms : List At) (old popped new : Walker) (g : Goal) (c : Step) (rule : Rule) → old.goals.items ≡ popped.goals.items ++ g ∷ [] → popped.clauses.items ≡ old.clauses.items
     → popped.eigens ≡ old.eigens → popped.used ≡ old.used → Takes forms modules terms popped (shown_goal forms (trees forms modules) g) c rule new → Steps forms modules terms old c rule new

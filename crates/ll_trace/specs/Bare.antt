@@ -1,7 +1,7 @@
 -- Formulas without their terms. The nodes of a branch depend on nothing else of its formulas, since a branch gives its terms itself.
 use Rattle.std.specs.Prelude.{ℕ, zero, ◌-◌, List, [], ◌∷◌, ◌++◌, length, nat_lt, Option, Some, None, if◌then◌else◌, option_map}
 use Rattle.ll_bank.specs.Term.{Var}
-use Rattle.ll_bank.specs.Form.{Form, Top, One, Atom, With, Tensor, Plus, Bang, Lolli, Imp, Forall, Exists, Use}
+use Rattle.ll_bank.specs.Form.{Form, Top, One, Atom, With, Tensor, Plus, Bang, Lolli, Imp, Forall, Exists, Use, Num}
 use Rattle.ll_laws.specs.Leaf.{Premise, Needs, NeedsFree, ways}
 use Rattle.ll_laws.specs.Module.{ClauseTree, ModuleTree, load, forall_all}
 
@@ -19,6 +19,7 @@ bare (Imp f g) = Imp (bare f) (bare g)
 bare (Forall f) = Forall (bare f)
 bare (Exists f) = Exists (bare f)
 bare (Use m ts f) = Use m [] (bare f)
+bare (Num r t u) = Num r (Var 0) (Var 0)
 
 -- an atom without its terms
 abbrev pub some_atom : Form

@@ -6,7 +6,7 @@ use Rattle.ll_laws.specs.declared.Part.{Part}
 use Rattle.ll_laws.specs.declared.Part.TheVariants.{Bounded, Unbounded}
 use Rattle.ll_laws.specs.declared.Rule.{Rule}
 use Rattle.ll_laws.specs.Line.{trees_of, put}
-use Rattle.ll_laws.specs.Shows.{Tree, OneNode, EraseNode, TensorNode, WithNode, LeftNode, RightNode, BangNode, LolliNode, ImpNode, ForallNode, ExistsNode, UseNode, ClauseNode, Parts, NoParts, BoundedPart, UnboundedPart}
+use Rattle.ll_laws.specs.Shows.{Tree, OneNode, EraseNode, TensorNode, WithNode, LeftNode, RightNode, BangNode, LolliNode, ImpNode, ForallNode, ExistsNode, UseNode, ClauseNode, Parts, NoParts, BoundedPart, UnboundedPart, NumNode}
 use Rattle.ll_laws.specs.ShownLines.{line_of}
 use Rattle.ll_trace.specs.declared.picks.Pick.{Pick}
 
@@ -15,6 +15,7 @@ abbrev mutual
   pub picks_of : ℕ → Tree → List (Option Pick)
   picks_of b OneNode = None ∷ []
   picks_of b EraseNode = None ∷ []
+  picks_of b NumNode = None ∷ []
   picks_of b (TensorNode s t x y) = None ∷ (picks_of b x ++ picks_of b y)
   picks_of b (WithNode x y) = None ∷ (picks_of b x ++ picks_of b y)
   picks_of b (LeftNode x) = None ∷ picks_of b x

@@ -3,10 +3,10 @@ use Rattle.std.specs.Prelude.{ℕ, suc, ◌+◌, List, [], ◌∷◌, ◌++◌, 
 use Rattle.ll_laws.specs.declared.Step.{Step}
 use Rattle.ll_laws.specs.declared.Step.TheVariants.{Right, Clause as ClauseStep}
 use Rattle.ll_bank.specs.Term.{Term}
-use Rattle.ll_bank.specs.Form.{Form, Top, One, Atom, With, Tensor, Plus, Bang, Lolli, Imp, Forall, Exists, Use}
+use Rattle.ll_bank.specs.Form.{Form, Top, One, Atom, With, Tensor, Plus, Bang, Lolli, Imp, Forall, Exists, Use, Num}
 use Rattle.ll_laws.specs.Leaf.{Premise, premise_goal, ways}
-use Rattle.ll_laws.specs.Module.{ModuleTree, Setting}
-use Rattle.ll_laws.specs.Line.{Line, OneLine, EraseLine, TensorLine, WithLine, LeftLine, RightLine, BangLine, UseLine, LolliLine, ImpLine, ForallLine, ExistsLine, ClauseLine, part_line}
+use Rattle.ll_laws.specs.Module.{ModuleTree}
+use Rattle.ll_laws.specs.Line.{Line, OneLine, EraseLine, TensorLine, WithLine, LeftLine, RightLine, BangLine, UseLine, LolliLine, ImpLine, ForallLine, ExistsLine, ClauseLine, part_line, NumLine}
 use Rattle.ll_laws.specs.Dealt.{value, values}
 use Rattle.ll_laws.specs.Problem.{ProblemTree}
 use Rattle.ll_trace.specs.Bare.{bare, premises_at, bare_load}
@@ -49,30 +49,31 @@ tell_clause all w rest label k None = Lost
 tell_clause all w rest label k (Some r) = tell_leaf w rest label k (values all w.used (slice_index (ways r) k)) (premises_at r k)
 
 -- what a step tells of a goal in front of others
-abbrev pub tell_goal : Setting → List Term → Walk → Form → List Form → Step → Told
-tell_goal beside all w One rest c = Tells OneLine (to_prove w rest)
-tell_goal beside all w Top rest c = Tells EraseLine (to_prove w rest)
-tell_goal beside all w (Tensor f g) rest c = Tells (TensorLine [] []) (to_prove w (f ∷ g ∷ rest))
-tell_goal beside all w (With f g) rest c = Tells WithLine (to_prove w (f ∷ g ∷ rest))
-tell_goal beside all w (Plus f g) rest Right = Tells RightLine (to_prove w (g ∷ rest))
-tell_goal beside all w (Plus f g) rest _ = Tells LeftLine (to_prove w (f ∷ rest))
-tell_goal beside all w (Bang f) rest c = Tells BangLine (to_prove w (f ∷ rest))
-tell_goal beside all w (Lolli r g) rest c = Tells (LolliLine (length w.clauses)) (with_clause w r (g ∷ rest))
-tell_goal beside all w (Imp r g) rest c = Tells (ImpLine (length w.clauses)) (with_clause w r (g ∷ rest))
-tell_goal beside all w (Forall f) rest c = Tells (ForallLine w.eigens) (record w { goals = f ∷ rest; eigens = suc w.eigens })
-tell_goal beside all w (Exists f) rest c = Tells (ExistsLine (value all w.used)) (record w { goals = f ∷ rest; used = suc w.used })
-tell_goal beside all w (Use m ts g) rest c = tell_load w g rest (slice_get beside.modules m)
-tell_goal beside all w (Atom a) rest (ClauseStep label k) = tell_clause all w rest label k (slice_get w.clauses label)
-tell_goal beside all w (Atom a) rest _ = Lost
+abbrev pub tell_goal : List ModuleTree → List Term → Walk → Form → List Form → Step → Told
+tell_goal modules all w One rest c = Tells OneLine (to_prove w rest)
+tell_goal modules all w Top rest c = Tells EraseLine (to_prove w rest)
+tell_goal modules all w (Tensor f g) rest c = Tells (TensorLine [] []) (to_prove w (f ∷ g ∷ rest))
+tell_goal modules all w (With f g) rest c = Tells WithLine (to_prove w (f ∷ g ∷ rest))
+tell_goal modules all w (Plus f g) rest Right = Tells RightLine (to_prove w (g ∷ rest))
+tell_goal modules all w (Plus f g) rest _ = Tells LeftLine (to_prove w (f ∷ rest))
+tell_goal modules all w (Bang f) rest c = Tells BangLine (to_prove w (f ∷ rest))
+tell_goal modules all w (Lolli r g) rest c = Tells (LolliLine (length w.clauses)) (with_clause w r (g ∷ rest))
+tell_goal modules all w (Imp r g) rest c = Tells (ImpLine (length w.clauses)) (with_clause w r (g ∷ rest))
+tell_goal modules all w (Forall f) rest c = Tells (ForallLine w.eigens) (record w { goals = f ∷ rest; eigens = suc w.eigens })
+tell_goal modules all w (Exists f) rest c = Tells (ExistsLine (value all w.used)) (record w { goals = f ∷ rest; used = suc w.used })
+tell_goal modules all w (Use m ts g) rest c = tell_load w g rest (slice_get modules m)
+tell_goal modules all w (Num r t u) rest c = Tells NumLine (to_prove w rest)
+tell_goal modules all w (Atom a) rest (ClauseStep label k) = tell_clause all w rest label k (slice_get w.clauses label)
+tell_goal modules all w (Atom a) rest _ = Lost
 
 -- what a step tells of these goals
-abbrev pub tell_front : Setting → List Term → Walk → List Form → Step → Told
-tell_front beside all w [] c = Lost
-tell_front beside all w (g ∷ rest) c = tell_goal beside all (to_prove w rest) g rest c
+abbrev pub tell_front : List ModuleTree → List Term → Walk → List Form → Step → Told
+tell_front modules all w [] c = Lost
+tell_front modules all w (g ∷ rest) c = tell_goal modules all (to_prove w rest) g rest c
 
 -- what a step tells of where the walk stands
-abbrev pub tell : Setting → List Term → Walk → Step → Told
-tell beside all w c = tell_front beside all w w.goals c
+abbrev pub tell : List ModuleTree → List Term → Walk → Step → Told
+tell modules all w c = tell_front modules all w w.goals c
 
 -- a node in front of those after it
 abbrev pub after_node : Told → (Walk → List Line) → List Line
@@ -80,9 +81,9 @@ after_node Lost go = []
 after_node (Tells n w) go = n ∷ go w
 
 -- the nodes that the steps tell
-abbrev pub told : Setting → List Term → List Step → Walk → List Line
-told beside all [] w = []
-told beside all (c ∷ cs) w = after_node (tell beside all w c) (told beside all cs)
+abbrev pub told : List ModuleTree → List Term → List Step → Walk → List Line
+told modules all [] w = []
+told modules all (c ∷ cs) w = after_node (tell modules all w c) (told modules all cs)
 
 -- the step tells a node
 abbrev pub IsTold : Told → Type 0

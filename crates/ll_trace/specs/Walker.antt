@@ -9,7 +9,7 @@ use Rattle.ll_laws.specs.declared.Rule.{Rule}
 use Rattle.ll_laws.specs.declared.Rule.TheVariants.{Left, Right}
 use Rattle.ll_laws.specs.declared.Step.{Step}
 use Rattle.ll_laws.specs.declared.Step.TheVariants.{Right as RightStep, Clause as ClauseStep}
-use Rattle.ll_laws.specs.Module.{ModuleTree, Setting}
+use Rattle.ll_laws.specs.Module.{ModuleTree}
 use Rattle.ll_laws.specs.Shown.{module_tree}
 use Rattle.ll_laws.specs.ShownLines.{line_of, HasLine, HasLines}
 use Rattle.ll_trace.specs.declared.walk.Goal.{Goal}
@@ -22,9 +22,6 @@ use Rattle.ll_trace.specs.Goals.{stacked, HasGoal}
 -- the modules, as they are shown in a bank
 abbrev pub trees : Nodes → List Module → List ModuleTree
 trees forms modules = map (module_tree forms) modules
-
-abbrev pub setting : Nodes → List Module → Setting
-setting forms modules = record { modules = trees forms modules }
 
 -- clauses without terms
 abbrev pub bare_clauses : Nodes → List FormAt → List Form
@@ -41,11 +38,11 @@ pub record IsInside (forms : Nodes) (count : ℕ) (w : Walker) : Type 0 where
 
 -- the step tells a node of this goal in front
 abbrev pub MayTake : Nodes → List Module → List At → Walker → Form → Step → Type 0
-MayTake forms modules terms w g c = IsTold (tell_goal (setting forms modules) (term_trees no_nodes terms) (walk_of forms (trees forms modules) w) g (stacked forms (trees forms modules) w.goals.items []) c)
+MayTake forms modules terms w g c = IsTold (tell_goal (trees forms modules) (term_trees no_nodes terms) (walk_of forms (trees forms modules) w) g (stacked forms (trees forms modules) w.goals.items []) c)
 
 -- the step tells this node of the goal in front, and the walker goes on
 pub record Takes (forms : Nodes) (modules : List Module) (terms : List At) (old : Walker) (g : Form) (c : Step) (rule : Rule) (new : Walker) : Type 0 where
-  pub told : (bank : Nodes) → tell_goal (setting forms modules) (term_trees bank terms) (walk_of forms (trees forms modules) old) g (stacked forms (trees forms modules) old.goals.items []) c
+  pub told : (bank : Nodes) → tell_goal (trees forms modules) (term_trees bank terms) (walk_of forms (trees forms modules) old) g (stacked forms (trees forms modules) old.goals.items []) c
       ≡ Tells (line_of bank rule) (walk_of forms (trees forms modules) new)
   pub inside : IsInside forms (length modules) new
   pub used : new.used ≤ length terms
@@ -53,11 +50,11 @@ pub record Takes (forms : Nodes) (modules : List Module) (terms : List At) (old 
 
 -- the step tells a node
 abbrev pub MayStep : Nodes → List Module → List At → Walker → Step → Type 0
-MayStep forms modules terms w c = IsTold (tell (setting forms modules) (term_trees no_nodes terms) (walk_of forms (trees forms modules) w) c)
+MayStep forms modules terms w c = IsTold (tell (trees forms modules) (term_trees no_nodes terms) (walk_of forms (trees forms modules) w) c)
 
 -- the step tells this node, and the walker goes on
 pub record Steps (forms : Nodes) (modules : List Module) (terms : List At) (old : Walker) (c : Step) (rule : Rule) (new : Walker) : Type 0 where
-  pub told : (bank : Nodes) → tell (setting forms modules) (term_trees bank terms) (walk_of forms (trees forms modules) old) c ≡ Tells (line_of bank rule) (walk_of forms (trees forms modules) new)
+  pub told : (bank : Nodes) → tell (trees forms modules) (term_trees bank terms) (walk_of forms (trees forms modules) old) c ≡ Tells (line_of bank rule) (walk_of forms (trees forms modules) new)
   pub inside : IsInside forms (length modules) new
   pub used : new.used ≤ length terms
   pub places : (bank : Nodes) → AllInTerms bank terms → HasLine bank rule
@@ -86,14 +83,14 @@ MayTakeAtom forms w _ = ⊥
 
 -- the rules are the nodes that the steps tell, whichever bank shows the terms, and hold places of terms alone
 pub record AreNodes (forms : Nodes) (modules : List Module) (terms : List At) (steps : List Step) (w : Walker) (rules : List Rule) : Type 0 where
-  pub told : (bank : Nodes) → map (line_of bank) rules ≡ told (setting forms modules) (term_trees bank terms) steps (walk_of forms (trees forms modules) w)
+  pub told : (bank : Nodes) → map (line_of bank) rules ≡ told (trees forms modules) (term_trees bank terms) steps (walk_of forms (trees forms modules) w)
   pub places : (bank : Nodes) → AllInTerms bank terms → HasLines bank rules
 
 -- the first steps have told these rules, and the walker is ready for the others
 pub record IsPartWay (forms : Nodes) (modules : List Module) (terms : List At) (steps : List Step) (first : Walker) (count : ℕ) (w : Walker) (rules : List Rule) : Type 0 where
-  pub so_far : (bank : Nodes) → told (setting forms modules) (term_trees bank terms) steps (walk_of forms (trees forms modules) first)
-      ≡ map (line_of bank) rules ++ told (setting forms modules) (term_trees bank terms) (drop count steps) (walk_of forms (trees forms modules) w)
-  pub more : length (told (setting forms modules) (term_trees no_nodes terms) (drop count steps) (walk_of forms (trees forms modules) w)) ≡ length (drop count steps)
+  pub so_far : (bank : Nodes) → told (trees forms modules) (term_trees bank terms) steps (walk_of forms (trees forms modules) first)
+      ≡ map (line_of bank) rules ++ told (trees forms modules) (term_trees bank terms) (drop count steps) (walk_of forms (trees forms modules) w)
+  pub more : length (told (trees forms modules) (term_trees no_nodes terms) (drop count steps) (walk_of forms (trees forms modules) w)) ≡ length (drop count steps)
   pub inside : IsInside forms (length modules) w
   pub used : w.used ≤ length terms
   pub places : (bank : Nodes) → AllInTerms bank terms → HasLines bank rules

@@ -84,6 +84,7 @@ fn deal_node(
     match rule {
         Rule::One => Ok(Rule::One),
         Rule::Erase => Ok(Rule::Erase),
+        Rule::Num => Ok(Rule::Num),
         Rule::Tensor(_, _) => deal_tensor(alloc, outline, at, share, pending),
         Rule::With => {
             let labels = Vec::from_slice(alloc, &share.labels)?;

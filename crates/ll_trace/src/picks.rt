@@ -34,6 +34,7 @@ fn pick_of(rule: &Rule, level: usize, pending: &mut Vec<usize>) -> Result<Option
 {
     match rule {
         Rule::One | Rule::Erase => Ok(None),
+        Rule::Num => Ok(None),
         Rule::Tensor(_, _) | Rule::With => {
             pending.push(level)?;
             pending.push(level)?;

@@ -54,6 +54,10 @@ fn span_of(rule: &Rule, first: usize, spans: &[Span]) -> Span
             end: first,
             erases: true,
         },
+        Rule::Num => Span {
+            end: first,
+            erases: false,
+        },
         Rule::Tensor(_, _) => {
             let left = span_at(spans, first);
             let right = span_at(spans, left.end);

@@ -8,7 +8,7 @@ ghost use Rattle.ll_trace.specs.Bare.{bare, some_atom};
 ghost use Rattle.ll_trace.specs.Walk.{told};
 ghost use Rattle.ll_trace.specs.Goals.{loading_goal};
 ghost use Rattle.ll_trace.specs.declared.walk.Goal.TheVariants.{Plain};
-ghost use Rattle.ll_trace.specs.Walker.{setting, trees, walk_of, IsInside, MayTake, Takes, MayStep, Steps, Pushes, TakesSide, MayTakeAtom, AreNodes};
+ghost use Rattle.ll_trace.specs.Walker.{trees, walk_of, IsInside, MayTake, Takes, MayStep, Steps, Pushes, TakesSide, MayTakeAtom, AreNodes};
 
 use crate::leaf::open_leaf;
 use ll_bank::{At, Bank, FormAt, FormNode, OutOfMemory};
@@ -60,7 +60,7 @@ pub(crate) fn nodes(
     requires modules { HasModules forms.now modules.now }
     requires inside { IsInside forms.now (length modules.now) walker }
     requires used { walker.used ≤ length terms.now }
-    requires told { length (told (setting forms.now modules.now) (term_trees no_nodes terms.now) steps.now (walk_of forms.now (trees forms.now modules.now) walker)) ≡ length steps.now }
+    requires told { length (told (trees forms.now modules.now) (term_trees no_nodes terms.now) steps.now (walk_of forms.now (trees forms.now modules.now) walker)) ≡ length steps.now }
     ensures { IfOk result (λ nodes. AreNodes forms.now modules.now terms.now steps.now walker nodes.items) }
 {
     let mut nodes = Vec::new(alloc);
@@ -122,6 +122,9 @@ impl Walker {
         match forms.form_at(form) {
             FormNode::One => Ok(Rule::One),
             FormNode::Top => Ok(Rule::Erase),
+            FormNode::Is(_, _) => Ok(Rule::Num),
+            FormNode::Less(_, _) => Ok(Rule::Num),
+            FormNode::Most(_, _) => Ok(Rule::Num),
             FormNode::Tensor(first, second) => {
                 self.goals
                     .extend_from_slice(&[Goal::Plain(second), Goal::Plain(first)])?;

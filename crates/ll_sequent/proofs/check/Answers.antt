@@ -2,6 +2,7 @@ use Rattle.std.proofs.Common.{◌≡◌, List, length, map, subst, sym, ap, ◌�
 use Rattle.std.proofs.lemmas.List.{length-map}
 use Rattle.ll_bank.specs.declared.At.{At}
 use Rattle.ll_bank.specs.Nodes.{term_tree, term_trees, form_tree}
+use Rattle.ll_laws.specs.Number.{operators_of}
 use Rattle.ll_laws.specs.Module.{ModuleTree}
 use Rattle.ll_laws.specs.Problem.{ProblemTree, setting_of}
 use Rattle.ll_laws.specs.Shown.{clause_tree, module_tree, HasModules}
@@ -63,9 +64,10 @@ returns c =
     verdict_told c.args.problem.now c.args.derivation.now c.in_ok-verdict.verdict c.requires.whole number
     (λ x e.
     let P : Checked → Type 0 = Tells c.in_ok-verdict.verdict in
-    let told : fault_at (map (module_tree bank) c.deref-3.result.now) x (sequent_in bank c.in_ok-start.start.free.items c.in_ok-start.start.root)
+    let names : c.problem.inside.names ≡ c.args.problem.now.names = ap (λ (p : ProblemTree). p.names) c.problem.view_is in
+    let told : fault_at (operators_of c.problem.inside.names) (map (module_tree bank) c.deref-3.result.now) x (sequent_in bank c.in_ok-start.start.free.items c.in_ok-start.start.root)
     ≡ fault (setting_of c.args.problem.now) 1 x (root_free c.args.problem.now) (root_bounded c.args.problem.now) (instantiated_goal c.args.problem.now c.args.derivation.now.asked) =
-    λ i. fault_at (same i) x (shows i) in
+    λ i. fault_at (operators_of (names i)) (same i) x (shows i) in
     subst P told (c.in_ok-verdict.ensures x (ap trees_of nodes ∙ e)))
 
 pub judge-requires-clause-has : goal.judge-requires-clause-has

@@ -3,6 +3,7 @@ use Rattle.ll_top.specs.Outcome.{word_texts}
 use Rattle.ll_top.proofs.OutcomeLemmas.{run-call, call-denied, completes, run-says, run-in-form, bad-not-in-form, workers-run, workers-in-form}
 use Rattle.ll_top.proofs.CommandWords.{run-or-print, run-or-check}
 use Rattle.ll_top.proofs.ProvedLemmas.{shown-run}
+use Rattle.ll_top.proofs.NothingLemmas.{vain-run}
 use Rattle.ll_top.proofs.lolli.Goals as goal
 
 pub unreachable-requires : goal.unreachable-requires
@@ -53,6 +54,12 @@ pub returns-in-Ok-Run-clause-proved : goal.returns-in-Ok-Run-clause-proved
 returns-in-Ok-Run-clause-proved g c = λ run is small.
     let u = c.in-None.ensures.untouched refl in
     shown-run (word_texts c.args.words.now) _ _ run _ _ (rw c.in-Ok-Run.field-0-is at c.in-Ok-Run.ensures.command) is ((rw (u.0, u.1) at c.serve_run.ensures.proved) small)
+
+pub returns-in-Ok-Run-clause-nothing : goal.returns-in-Ok-Run-clause-nothing
+returns-in-Ok-Run-clause-nothing g c = λ run is one.
+    let u = c.in-None.ensures.untouched refl in
+    let asked = rw c.in-Ok-Run.field-0-is at c.in-Ok-Run.ensures.command in
+    vain-run (word_texts c.args.words.now) _ _ run asked is ((rw u.0 at c.serve_run.ensures.nothing) one)
 
 pub returns-in-Ok-Run-clause-denied : goal.returns-in-Ok-Run-clause-denied
 returns-in-Ok-Run-clause-denied g c =

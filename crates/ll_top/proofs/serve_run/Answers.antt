@@ -1,10 +1,11 @@
-use Rattle.std.proofs.Common.{ap, ◌∙◌}
+use Rattle.std.proofs.Common.{ap, ◌∙◌, arith}
 use Rattle.ll_top.specs.Words.{shown_words}
 use Rattle.ll_top.specs.Endings.{cause_of}
 use Rattle.ll_top.specs.Outcome.{name_of}
 use Rattle.ll_top.proofs.OutcomeLemmas.{found-ends, cut-ends, memory-ends, refuses-later, refusal-ends}
 use Rattle.ll_top.proofs.PrepareLemmas.{rose-later}
 use Rattle.ll_top.proofs.ProvedLemmas.{run-shown, refused-past}
+use Rattle.ll_top.proofs.NothingLemmas.{asks-in-vain}
 use Rattle.ll_top.proofs.serve_run.Goals as goal
 
 pub returns-in-Ok-clause-ends : goal.returns-in-Ok-clause-ends
@@ -29,3 +30,11 @@ returns-in-Ok-clause-proved g c = λ _. let h = c.in-Ok.ensures.ends in run-show
 
 pub returns-in-Err-Text-clause-proved : goal.returns-in-Err-Text-clause-proved
 returns-in-Err-Text-clause-proved g c = λ h. absurd (refused-past _ _ _ _ _ c.refuse.ensures.refuses h)
+
+pub returns-in-Ok-clause-nothing : goal.returns-in-Ok-clause-nothing
+returns-in-Ok-clause-nothing g c = λ one.
+    let h = c.in-Ok.ensures.ends in
+    asks-in-vain c.search_is_complete.ensures.nothing _ (shown_words c.args.run.now) h.0 _ h.1 h.2 (c.found_status.ensures ∙ h.3) one
+
+pub returns-in-Err-Text-clause-nothing : goal.returns-in-Err-Text-clause-nothing
+returns-in-Err-Text-clause-nothing g c = λ one. absurd (refused-past _ _ _ _ _ c.refuse.ensures.refuses (omega (arith, one)))

@@ -198,3 +198,15 @@ returns-in_ok-args-in-Use-2-clause-terms c =
 pub returns-in_ok-atom-in-Atom-clause-terms : goal.returns-in_ok-atom-in-Atom-clause-terms
 returns-in_ok-atom-in-Atom-clause-terms c =
     IfOk-weaker c.share_form.result (λ image. ShowsForm c.share_form.new.bank image.0 _) (λ _. AreImages (IsTermImage c.share_form.new.bank (term_tree c.args.bank.now c.args.value.0)) (get by_spot c.open_term.new.images)) (λ x s. term_images_now c.open_term.new.bank c.share_form.new.bank c.share_form.ensures.keeps (term_tree c.args.bank.now c.args.value.0) (get by_spot c.open_term.new.images) c.in_ok-atom-in-Atom.ensures.images) c.share_form.ensures.shows
+
+pub returns-in_ok-left-in-Is-clause-terms : goal.returns-in_ok-left-in-Is-clause-terms
+returns-in_ok-left-in-Is-clause-terms c =
+    IfOk-weaker c.share_form-in-Is.result (λ image. ShowsForm c.share_form-in-Is.new.bank image.0 _) (λ _. AreImages (IsTermImage c.share_form-in-Is.new.bank (term_tree c.args.bank.now c.args.value.0)) (get by_spot c.open_two.new.images)) (λ x s. term_images_now c.open_two.new.bank c.share_form-in-Is.new.bank c.share_form-in-Is.ensures.keeps (term_tree c.args.bank.now c.args.value.0) (get by_spot c.open_two.new.images) c.in_ok-left-in-Is.ensures.images) c.share_form-in-Is.ensures.shows
+
+pub returns-in_ok-left-in-Less-clause-terms : goal.returns-in_ok-left-in-Less-clause-terms
+returns-in_ok-left-in-Less-clause-terms c =
+    IfOk-weaker c.share_form-in-Less.result (λ image. ShowsForm c.share_form-in-Less.new.bank image.0 _) (λ _. AreImages (IsTermImage c.share_form-in-Less.new.bank (term_tree c.args.bank.now c.args.value.0)) (get by_spot c.open_two-in-Less.new.images)) (λ x s. term_images_now c.open_two-in-Less.new.bank c.share_form-in-Less.new.bank c.share_form-in-Less.ensures.keeps (term_tree c.args.bank.now c.args.value.0) (get by_spot c.open_two-in-Less.new.images) c.in_ok-left-in-Less.ensures.images) c.share_form-in-Less.ensures.shows
+
+pub returns-in_ok-left-in-Most-clause-terms : goal.returns-in_ok-left-in-Most-clause-terms
+returns-in_ok-left-in-Most-clause-terms c =
+    IfOk-weaker c.share_form-in-Most.result (λ image. ShowsForm c.share_form-in-Most.new.bank image.0 _) (λ _. AreImages (IsTermImage c.share_form-in-Most.new.bank (term_tree c.args.bank.now c.args.value.0)) (get by_spot c.open_two-in-Most.new.images)) (λ x s. term_images_now c.open_two-in-Most.new.bank c.share_form-in-Most.new.bank c.share_form-in-Most.ensures.keeps (term_tree c.args.bank.now c.args.value.0) (get by_spot c.open_two-in-Most.new.images) c.in_ok-left-in-Most.ensures.images) c.share_form-in-Most.ensures.shows

@@ -1,4 +1,4 @@
-use Rattle.std.proofs.Common.{◌+◌, ◌<◌, refl, sym, subst}
+use Rattle.std.proofs.Common.{◌+◌, ◌<◌, refl, sym, subst, arith}
 use Rattle.ll_bank.proofs.Trees.{Extends-refl}
 use Rattle.ll_parser.specs.Nodes.{raw_at}
 use Rattle.ll_polarity.specs.declared.put_terms.Turn.{Turn}
@@ -8,7 +8,7 @@ use Rattle.ll_bank.specs.Term.{Term}
 use Rattle.ll_polarity.specs.Built.{built_term}
 use Rattle.ll_polarity.specs.Standing.{met_of, around}
 use Rattle.ll_polarity.specs.Calls.{Site}
-use Rattle.ll_polarity.proofs.Calling.{IsOnTheWay, calls_left, turn_left, room_on_the_way, way_begun, way_resumed, way_given, less_resumed, less_given}
+use Rattle.ll_polarity.proofs.Calling.{IsOnTheWay, calls_left, turn_left, room_on_the_way, way_begun, way_resumed, way_given, less_begun, less_resumed, less_given}
 use Rattle.ll_polarity.proofs.put_terms.term.Goals as goal
 
 pub turns-init : goal.turns-init
@@ -22,6 +22,12 @@ begun-requires-clause-room c =
     let target : Read Term = built_term a (met_of c.args.names.now c.args.met.now) (raw_at c.args.names.now c.args.forms.now c.args.at.0) in
     let w = subst (λ (t : Turn). IsOnTheWay s target c.args.bank.now c.turns.bank c.turns.calls.items t (met_of c.args.names.now c.turns.met)) c.in-Read.is c.turns.invariant in
     room_on_the_way s target c.args.bank.now c.turns.bank c.turns.calls.items (turn.Read c.in-Read.at) (met_of c.args.names.now c.turns.met) w c.requires.room
+
+pub turns-smaller-in_ok-turn-in-Read : goal.turns-smaller-in_ok-turn-in-Read
+turns-smaller-in_ok-turn-in-Read c =
+    let less = less_begun c.args.names.now c.args.forms.now c.in-Read.at c.in_ok-turn-in-Read.turn c.in_ok-turn-in-Read.ensures.next in
+    subst (λ (t : Turn). calls_left c.args.names.now c.args.forms.now c.turns.calls.items + turn_left c.args.names.now c.args.forms.now c.in_ok-turn-in-Read.turn < calls_left c.args.names.now c.args.forms.now c.turns.calls.items + turn_left c.args.names.now c.args.forms.now t) (sym c.in-Read.is)
+    (omega (arith, less))
 
 pub turns-preserved-in_ok-turn-in-Read : goal.turns-preserved-in_ok-turn-in-Read
 turns-preserved-in_ok-turn-in-Read c =

@@ -89,6 +89,19 @@ returns-in-Use-clause-err c = rw c.in-Use.is c.alone-in-Use.ensures.err
 pub returns-in-Use-clause-grows : goal.returns-in-Use-clause-grows
 returns-in-Use-clause-grows c = grows_none c.args.names.now
 
+pub alone-requires-in-Num : goal.alone-requires-in-Num
+alone-requires-in-Num c = c.requires.end
+
+pub returns-in-Num-clause-ok : goal.returns-in-Num-clause-ok
+returns-in-Num-clause-ok c =
+    rw c.in-Num.is (alone_rows c.args.names.now c.args.bank.now (codes "num") c.args.rest.now rule.Num c.alone-in-Num.result refl refl tt c.alone-in-Num.ensures.ok)
+
+pub returns-in-Num-clause-err : goal.returns-in-Num-clause-err
+returns-in-Num-clause-err c = rw c.in-Num.is c.alone-in-Num.ensures.err
+
+pub returns-in-Num-clause-grows : goal.returns-in-Num-clause-grows
+returns-in-Num-clause-grows c = grows_none c.args.names.now
+
 pub tensor-requires : goal.tensor-requires
 tensor-requires c = c.requires.end
 

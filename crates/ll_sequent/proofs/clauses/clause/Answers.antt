@@ -16,7 +16,7 @@ use Rattle.ll_sequent.proofs.clauses.clause.Goals as goal
 
 pub returns-in_default : goal.returns-in_default
 returns-in_default c = record {
-  is = clause_other (map (module_tree c.args.bank.now) c.args.modules.now) c.args.bank.now c.args.free.now c.args.sequent c.requires.holds c.args.label c.args.leaf (term_trees c.args.terms.now c.args.values.now) (map part_line c.args.parts.now) c.form_at.result c.form_at.ensures.shown c.in_default.not-Atom;
+  is = λ ops. clause_other ops (map (module_tree c.args.bank.now) c.args.modules.now) c.args.bank.now c.args.free.now c.args.sequent c.requires.holds c.args.label c.args.leaf (term_trees c.args.terms.now c.args.values.now) (map part_line c.args.parts.now) c.form_at.result c.form_at.ensures.shown c.in_default.not-Atom;
   keeps = Extends-refl c.args.bank.now;
 }
 
@@ -42,17 +42,17 @@ open_leaf-requires-clause-heads c =
 
 pub returns-in_default-2-clause-is : goal.returns-in_default-2-clause-is
 returns-in_default-2-clause-is c =
-    clause_other_way (map (module_tree c.args.bank.now) c.args.modules.now) c.args.bank.now c.args.free.now c.args.sequent c.requires.holds c.args.label c.args.leaf (term_trees c.args.terms.now c.args.values.now) (map part_line c.args.parts.now) c.in-Atom.atom c.in-Atom.ensures.shown (Some c.in-Some.form) c.take_clause.new.bounded.items (c.in-Some.ensures.found c.args.bank.now) c.in-Some.form refl (among _ c.args.leaf c.in_ok-leaves_left.field-0 (sym c.is_some.ensures ∙ c.if-is_some.false) c.in_ok-leaves_left.ensures) c.open_leaf.new.bank (Extends-trans c.copies.ensures.keeps c.open_leaf.ensures.keeps)
+    λ ops. clause_other_way ops (map (module_tree c.args.bank.now) c.args.modules.now) c.args.bank.now c.args.free.now c.args.sequent c.requires.holds c.args.label c.args.leaf (term_trees c.args.terms.now c.args.values.now) (map part_line c.args.parts.now) c.in-Atom.atom c.in-Atom.ensures.shown (Some c.in-Some.form) c.take_clause.new.bounded.items (c.in-Some.ensures.found c.args.bank.now) c.in-Some.form refl (among _ c.args.leaf c.in_ok-leaves_left.field-0 (sym c.is_some.ensures ∙ c.if-is_some.false) c.in_ok-leaves_left.ensures) c.open_leaf.new.bank (Extends-trans c.copies.ensures.keeps c.open_leaf.ensures.keeps)
     (leaf_same c.args.bank.now c.copies.new.bank c.copies.ensures.keeps c.in-Some.form c.args.leaf (term_trees c.args.terms.now c.args.values.now) (term_trees c.copies.new.bank c.deref.result.now) (c.in-Some.ensures.held (map (module_tree c.args.bank.now) c.args.modules.now) c.args.bank.now c.requires.holds.unbounded c.requires.holds.sequent.bounded).1.inside (ap (term_trees c.copies.new.bank) c.deref.ensures.value ∙ c.in_ok-values.ensures.shows) ∙ none_of c.open_leaf.new.bank _ c.in_ok-opened.field-0 c.in_default-2.not-Some c.in_ok-opened.ensures.opened)
 
 pub returns-then-not-branch-clause-is : goal.returns-then-not-branch-clause-is
 returns-then-not-branch-clause-is c =
-    clause_other_head (map (module_tree c.args.bank.now) c.args.modules.now) c.args.bank.now c.args.free.now c.args.sequent c.requires.holds c.args.label c.args.leaf (term_trees c.args.terms.now c.args.values.now) (map part_line c.args.parts.now) c.in-Atom.atom c.in-Atom.ensures.shown (Some c.in-Some.form) c.take_clause.new.bounded.items (c.in-Some.ensures.found c.args.bank.now) c.in-Some.form refl (among _ c.args.leaf c.in_ok-leaves_left.field-0 (sym c.is_some.ensures ∙ c.if-is_some.false) c.in_ok-leaves_left.ensures) (opened_in c.open_leaf.new.bank c.in-Some-2.opened) (leaf_same c.args.bank.now c.copies.new.bank c.copies.ensures.keeps c.in-Some.form c.args.leaf (term_trees c.args.terms.now c.args.values.now) (term_trees c.copies.new.bank c.deref.result.now) (c.in-Some.ensures.held (map (module_tree c.args.bank.now) c.args.modules.now) c.args.bank.now c.requires.holds.unbounded c.requires.holds.sequent.bounded).1.inside (ap (term_trees c.copies.new.bank) c.deref.ensures.value ∙ c.in_ok-values.ensures.shows) ∙ (shows_of c.open_leaf.new.bank (leaf (form_tree c.copies.new.bank c.in-Some.form.0) c.args.leaf (term_trees c.copies.new.bank c.deref.result.now)) c.in_ok-opened.field-0 c.in-Some-2.opened c.in-Some-2.is c.in_ok-opened.ensures.opened).is) c.open_leaf.new.bank (Extends-trans c.copies.ensures.keeps c.open_leaf.ensures.keeps)
+    λ ops. clause_other_head ops (map (module_tree c.args.bank.now) c.args.modules.now) c.args.bank.now c.args.free.now c.args.sequent c.requires.holds c.args.label c.args.leaf (term_trees c.args.terms.now c.args.values.now) (map part_line c.args.parts.now) c.in-Atom.atom c.in-Atom.ensures.shown (Some c.in-Some.form) c.take_clause.new.bounded.items (c.in-Some.ensures.found c.args.bank.now) c.in-Some.form refl (among _ c.args.leaf c.in_ok-leaves_left.field-0 (sym c.is_some.ensures ∙ c.if-is_some.false) c.in_ok-leaves_left.ensures) (opened_in c.open_leaf.new.bank c.in-Some-2.opened) (leaf_same c.args.bank.now c.copies.new.bank c.copies.ensures.keeps c.in-Some.form c.args.leaf (term_trees c.args.terms.now c.args.values.now) (term_trees c.copies.new.bank c.deref.result.now) (c.in-Some.ensures.held (map (module_tree c.args.bank.now) c.args.modules.now) c.args.bank.now c.requires.holds.unbounded c.requires.holds.sequent.bounded).1.inside (ap (term_trees c.copies.new.bank) c.deref.ensures.value ∙ c.in_ok-values.ensures.shows) ∙ (shows_of c.open_leaf.new.bank (leaf (form_tree c.copies.new.bank c.in-Some.form.0) c.args.leaf (term_trees c.copies.new.bank c.deref.result.now)) c.in_ok-opened.field-0 c.in-Some-2.opened c.in-Some-2.is c.in_ok-opened.ensures.opened).is) c.open_leaf.new.bank (Extends-trans c.copies.ensures.keeps c.open_leaf.ensures.keeps)
     (equal_not c.in_ok-equal.field-0 _ _ (term_tree c.args.bank.now c.in-Atom.atom.0) c.in_ok-equal.ensures (atom_same c.args.bank.now c.open_leaf.new.bank (Extends-trans c.copies.ensures.keeps c.open_leaf.ensures.keeps) c.args.sequent.goal.0 c.in-Atom.atom c.in-Atom.ensures.shown) c.if-not-branch.true)
 
 pub returns-then-not-fit-clause-is : goal.returns-then-not-fit-clause-is
 returns-then-not-fit-clause-is c =
-    clause_other_parts (map (module_tree c.args.bank.now) c.args.modules.now) c.args.bank.now c.args.free.now c.args.sequent c.requires.holds c.args.label c.args.leaf (term_trees c.args.terms.now c.args.values.now) (map part_line c.args.parts.now) c.in-Atom.atom c.in-Atom.ensures.shown (Some c.in-Some.form) c.take_clause.new.bounded.items (c.in-Some.ensures.found c.args.bank.now) c.in-Some.form refl (among _ c.args.leaf c.in_ok-leaves_left.field-0 (sym c.is_some.ensures ∙ c.if-is_some.false) c.in_ok-leaves_left.ensures) (opened_in c.open_leaf.new.bank c.in-Some-2.opened) (leaf_same c.args.bank.now c.copies.new.bank c.copies.ensures.keeps c.in-Some.form c.args.leaf (term_trees c.args.terms.now c.args.values.now) (term_trees c.copies.new.bank c.deref.result.now) (c.in-Some.ensures.held (map (module_tree c.args.bank.now) c.args.modules.now) c.args.bank.now c.requires.holds.unbounded c.requires.holds.sequent.bounded).1.inside (ap (term_trees c.copies.new.bank) c.deref.ensures.value ∙ c.in_ok-values.ensures.shows) ∙ (shows_of c.open_leaf.new.bank (leaf (form_tree c.copies.new.bank c.in-Some.form.0) c.args.leaf (term_trees c.copies.new.bank c.deref.result.now)) c.in_ok-opened.field-0 c.in-Some-2.opened c.in-Some-2.is c.in_ok-opened.ensures.opened).is) (equal_is c.in_ok-equal.field-0 _ _ (term_tree c.args.bank.now c.in-Atom.atom.0) c.in_ok-equal.ensures (atom_same c.args.bank.now c.open_leaf.new.bank (Extends-trans c.copies.ensures.keeps c.open_leaf.ensures.keeps) c.args.sequent.goal.0 c.in-Atom.atom c.in-Atom.ensures.shown) c.if-not-branch.false) c.open_leaf.new.bank (Extends-trans c.copies.ensures.keeps c.open_leaf.ensures.keeps) (ap (λ xs. parts_fit (blank (map part_line c.args.parts.now)) (map (needed_in c.open_leaf.new.bank) xs)) (sym c.deref-2.ensures.value) ∙ (sym (c.fit.ensures c.open_leaf.new.bank) ∙ c.if-not-fit.true))
+    λ ops. clause_other_parts ops (map (module_tree c.args.bank.now) c.args.modules.now) c.args.bank.now c.args.free.now c.args.sequent c.requires.holds c.args.label c.args.leaf (term_trees c.args.terms.now c.args.values.now) (map part_line c.args.parts.now) c.in-Atom.atom c.in-Atom.ensures.shown (Some c.in-Some.form) c.take_clause.new.bounded.items (c.in-Some.ensures.found c.args.bank.now) c.in-Some.form refl (among _ c.args.leaf c.in_ok-leaves_left.field-0 (sym c.is_some.ensures ∙ c.if-is_some.false) c.in_ok-leaves_left.ensures) (opened_in c.open_leaf.new.bank c.in-Some-2.opened) (leaf_same c.args.bank.now c.copies.new.bank c.copies.ensures.keeps c.in-Some.form c.args.leaf (term_trees c.args.terms.now c.args.values.now) (term_trees c.copies.new.bank c.deref.result.now) (c.in-Some.ensures.held (map (module_tree c.args.bank.now) c.args.modules.now) c.args.bank.now c.requires.holds.unbounded c.requires.holds.sequent.bounded).1.inside (ap (term_trees c.copies.new.bank) c.deref.ensures.value ∙ c.in_ok-values.ensures.shows) ∙ (shows_of c.open_leaf.new.bank (leaf (form_tree c.copies.new.bank c.in-Some.form.0) c.args.leaf (term_trees c.copies.new.bank c.deref.result.now)) c.in_ok-opened.field-0 c.in-Some-2.opened c.in-Some-2.is c.in_ok-opened.ensures.opened).is) (equal_is c.in_ok-equal.field-0 _ _ (term_tree c.args.bank.now c.in-Atom.atom.0) c.in_ok-equal.ensures (atom_same c.args.bank.now c.open_leaf.new.bank (Extends-trans c.copies.ensures.keeps c.open_leaf.ensures.keeps) c.args.sequent.goal.0 c.in-Atom.atom c.in-Atom.ensures.shown) c.if-not-branch.false) c.open_leaf.new.bank (Extends-trans c.copies.ensures.keeps c.open_leaf.ensures.keeps) (ap (λ xs. parts_fit (blank (map part_line c.args.parts.now)) (map (needed_in c.open_leaf.new.bank) xs)) (sym c.deref-2.ensures.value) ∙ (sym (c.fit.ensures c.open_leaf.new.bank) ∙ c.if-not-fit.true))
 
 pub returns-in_err-goals-clause-keeps : goal.returns-in_err-goals-clause-keeps
 returns-in_err-goals-clause-keeps c = Extends-trans (Extends-trans c.copies.ensures.keeps c.open_leaf.ensures.keeps) c.goals_of.ensures.keeps
@@ -67,7 +67,7 @@ returns-in_err-step-clause-keeps c = (Extends-trans (Extends-trans c.copies.ensu
 pub returns-clause-is : goal.returns-clause-is
 returns-clause-is c =
     let h = (c.in-Some.ensures.held (map (module_tree c.args.bank.now) c.args.modules.now) c.args.bank.now c.requires.holds.unbounded c.requires.holds.sequent.bounded) in
-    clause_dealt (map (module_tree c.args.bank.now) c.args.modules.now) c.args.bank.now c.args.free.now c.args.sequent c.requires.holds c.args.label c.args.leaf (term_trees c.args.terms.now c.args.values.now) (map part_line c.args.parts.now) c.in-Atom.atom c.in-Atom.ensures.shown (Some c.in-Some.form) c.take_clause.new.bounded.items (c.in-Some.ensures.found c.args.bank.now) c.in-Some.form refl (among _ c.args.leaf c.in_ok-leaves_left.field-0 (sym c.is_some.ensures ∙ c.if-is_some.false) c.in_ok-leaves_left.ensures) (opened_in c.open_leaf.new.bank c.in-Some-2.opened) (leaf_same c.args.bank.now c.copies.new.bank c.copies.ensures.keeps c.in-Some.form c.args.leaf (term_trees c.args.terms.now c.args.values.now) (term_trees c.copies.new.bank c.deref.result.now) (c.in-Some.ensures.held (map (module_tree c.args.bank.now) c.args.modules.now) c.args.bank.now c.requires.holds.unbounded c.requires.holds.sequent.bounded).1.inside (ap (term_trees c.copies.new.bank) c.deref.ensures.value ∙ c.in_ok-values.ensures.shows) ∙ (shows_of c.open_leaf.new.bank (leaf (form_tree c.copies.new.bank c.in-Some.form.0) c.args.leaf (term_trees c.copies.new.bank c.deref.result.now)) c.in_ok-opened.field-0 c.in-Some-2.opened c.in-Some-2.is c.in_ok-opened.ensures.opened).is) (equal_is c.in_ok-equal.field-0 _ _ (term_tree c.args.bank.now c.in-Atom.atom.0) c.in_ok-equal.ensures (atom_same c.args.bank.now c.open_leaf.new.bank (Extends-trans c.copies.ensures.keeps c.open_leaf.ensures.keeps) c.args.sequent.goal.0 c.in-Atom.atom c.in-Atom.ensures.shown) c.if-not-branch.false) (ap (λ xs. parts_fit (blank (map part_line c.args.parts.now)) (map (needed_in c.open_leaf.new.bank) xs)) (sym c.deref-2.ensures.value) ∙ (sym (c.fit.ensures c.open_leaf.new.bank) ∙ c.if-not-fit.false)) c.goals_of.new.bank (Extends-trans (Extends-trans c.copies.ensures.keeps c.open_leaf.ensures.keeps) c.in_ok-goals.ensures.keeps) h.0 h.1 c.requires.closed c.deref-4.result.now (let P : List FormAt → Type 0 = AllInForms c.goals_of.new.bank in subst P (sym c.deref-4.ensures.value) c.in_ok-goals.ensures.inside) (ap (form_trees c.goals_of.new.bank) c.deref-4.ensures.value ∙ (c.in_ok-goals.ensures.shows ∙ ap (λ xs. map premise_goal (map (needed_in c.open_leaf.new.bank) xs)) c.deref-3.ensures.value)) c.in_ok-step.step
+    λ ops. clause_dealt ops (map (module_tree c.args.bank.now) c.args.modules.now) c.args.bank.now c.args.free.now c.args.sequent c.requires.holds c.args.label c.args.leaf (term_trees c.args.terms.now c.args.values.now) (map part_line c.args.parts.now) c.in-Atom.atom c.in-Atom.ensures.shown (Some c.in-Some.form) c.take_clause.new.bounded.items (c.in-Some.ensures.found c.args.bank.now) c.in-Some.form refl (among _ c.args.leaf c.in_ok-leaves_left.field-0 (sym c.is_some.ensures ∙ c.if-is_some.false) c.in_ok-leaves_left.ensures) (opened_in c.open_leaf.new.bank c.in-Some-2.opened) (leaf_same c.args.bank.now c.copies.new.bank c.copies.ensures.keeps c.in-Some.form c.args.leaf (term_trees c.args.terms.now c.args.values.now) (term_trees c.copies.new.bank c.deref.result.now) (c.in-Some.ensures.held (map (module_tree c.args.bank.now) c.args.modules.now) c.args.bank.now c.requires.holds.unbounded c.requires.holds.sequent.bounded).1.inside (ap (term_trees c.copies.new.bank) c.deref.ensures.value ∙ c.in_ok-values.ensures.shows) ∙ (shows_of c.open_leaf.new.bank (leaf (form_tree c.copies.new.bank c.in-Some.form.0) c.args.leaf (term_trees c.copies.new.bank c.deref.result.now)) c.in_ok-opened.field-0 c.in-Some-2.opened c.in-Some-2.is c.in_ok-opened.ensures.opened).is) (equal_is c.in_ok-equal.field-0 _ _ (term_tree c.args.bank.now c.in-Atom.atom.0) c.in_ok-equal.ensures (atom_same c.args.bank.now c.open_leaf.new.bank (Extends-trans c.copies.ensures.keeps c.open_leaf.ensures.keeps) c.args.sequent.goal.0 c.in-Atom.atom c.in-Atom.ensures.shown) c.if-not-branch.false) (ap (λ xs. parts_fit (blank (map part_line c.args.parts.now)) (map (needed_in c.open_leaf.new.bank) xs)) (sym c.deref-2.ensures.value) ∙ (sym (c.fit.ensures c.open_leaf.new.bank) ∙ c.if-not-fit.false)) c.goals_of.new.bank (Extends-trans (Extends-trans c.copies.ensures.keeps c.open_leaf.ensures.keeps) c.in_ok-goals.ensures.keeps) h.0 h.1 c.requires.closed c.deref-4.result.now (let P : List FormAt → Type 0 = AllInForms c.goals_of.new.bank in subst P (sym c.deref-4.ensures.value) c.in_ok-goals.ensures.inside) (ap (form_trees c.goals_of.new.bank) c.deref-4.ensures.value ∙ (c.in_ok-goals.ensures.shows ∙ ap (λ xs. map premise_goal (map (needed_in c.open_leaf.new.bank) xs)) c.deref-3.ensures.value)) c.in_ok-step.step
     (c.in_ok-step.ensures c.goals_of.new.bank (map (needed_in c.open_leaf.new.bank) c.in-Some-2.opened.premises.items) (ap (form_trees c.goals_of.new.bank) c.deref-4.ensures.value ∙ (c.in_ok-goals.ensures.shows ∙ ap (λ xs. map premise_goal (map (needed_in c.open_leaf.new.bank) xs)) c.deref-3.ensures.value)) (ap (λ xs. parts_fit (blank (map part_line c.args.parts.now)) (map (needed_in c.open_leaf.new.bank) xs)) (sym c.deref-2.ensures.value) ∙ (sym (c.fit.ensures c.open_leaf.new.bank) ∙ c.if-not-fit.false)))
 
 pub returns-clause-keeps : goal.returns-clause-keeps

@@ -1,5 +1,6 @@
 use Rattle.std.proofs.Common.{◌≡◌, suc, [], ◌∷◌, map, drop, length, Some}
 use Rattle.ll_bank.specs.Nodes.{Extends}
+use Rattle.ll_laws.specs.Number.{operators_of}
 use Rattle.ll_laws.specs.Shown.{module_tree}
 use Rattle.ll_laws.specs.ShownLines.{line_of}
 use Rattle.ll_laws.specs.Line.{trees_of}
@@ -11,6 +12,7 @@ use Rattle.ll_sequent.proofs.judge.judge.Given as goal
 
 abbrev pub invariant-loop-node : goal.invariant-loop-node
 invariant-loop-node l =
+    let ops = operators_of l.names in
     let modules = map (module_tree l.fn.start.bank) l.modules in
     let lines = map (line_of l.terms) l.rules in
     let root = sequent_in l.fn.start.bank l.fn.start.free.items l.fn.start.root in
@@ -18,5 +20,5 @@ invariant-loop-node l =
       keeps : Extends l.fn.start.bank l.bank;
       waiting : AreWaiting modules l.bank (length l.free.items) l.waiting.items;
       free : AreHeld modules l.bank l.free.items;
-      owes : (x : Tree) → trees_of lines ≡ Some (x ∷ []) → Owes (beside modules) (fault_at modules x root) (suc l.node) (drop l.node lines) (waiting_in l.bank l.free.items l.waiting.items);
+      owes : (x : Tree) → trees_of lines ≡ Some (x ∷ []) → Owes (beside ops modules) (fault_at ops modules x root) (suc l.node) (drop l.node lines) (waiting_in l.bank l.free.items l.waiting.items);
     }

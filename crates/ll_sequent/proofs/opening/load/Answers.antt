@@ -37,6 +37,6 @@ returns-in_ok-step-in-Use-clause-is c =
 
 pub returns-in_default : goal.returns-in_default
 returns-in_default c = record {
-  is = use_refused c.args.bank.now c.args.sequent c.form_at.result c.form_at.ensures.shown c.in_default.not-Use (map (module_tree c.args.bank.now) c.args.modules.now);
+  is = λ ops. use_refused c.args.bank.now c.args.sequent c.form_at.result c.form_at.ensures.shown c.in_default.not-Use ops (map (module_tree c.args.bank.now) c.args.modules.now);
   keeps = Extends-refl c.args.bank.now;
 }

@@ -41,3 +41,12 @@ returns-in-Forall-clause-terms c = on_ok c.form-in-Forall.result (terms_extend c
 
 pub returns-in-Exists-clause-terms : goal.returns-in-Exists-clause-terms
 returns-in-Exists-clause-terms c = on_ok c.form-in-Exists.result (terms_extend c.form-in-Exists.ensures.keeps (term_trees c.args.bank.now c.args.values.now) c.args.terms.now.items c.requires.terms)
+
+pub returns-in_ok-left-in-Is-clause-terms : goal.returns-in_ok-left-in-Is-clause-terms
+returns-in_ok-left-in-Is-clause-terms c = on_ok c.form-in-Is.result (terms_extend c.form-in-Is.ensures.keeps (term_trees c.args.bank.now c.args.values.now) c.two_images.new.terms.items c.in_ok-left-in-Is.ensures.terms)
+
+pub returns-in_ok-left-in-Less-clause-terms : goal.returns-in_ok-left-in-Less-clause-terms
+returns-in_ok-left-in-Less-clause-terms c = on_ok c.form-in-Less.result (terms_extend c.form-in-Less.ensures.keeps (term_trees c.args.bank.now c.args.values.now) c.two_images-in-Less.new.terms.items c.in_ok-left-in-Less.ensures.terms)
+
+pub returns-in_ok-left-in-Most-clause-terms : goal.returns-in_ok-left-in-Most-clause-terms
+returns-in_ok-left-in-Most-clause-terms c = on_ok c.form-in-Most.result (terms_extend c.form-in-Most.ensures.keeps (term_trees c.args.bank.now c.args.values.now) c.two_images-in-Most.new.terms.items c.in_ok-left-in-Most.ensures.terms)

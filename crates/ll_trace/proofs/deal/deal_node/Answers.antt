@@ -5,13 +5,17 @@ use Rattle.ll_laws.specs.declared.Part.{Part}
 use Rattle.ll_laws.specs.declared.Rule.{Rule}
 use Rattle.ll_laws.specs.Line.{put, ClauseLine}
 use Rattle.ll_laws.specs.ShownLines.{line_of, part_line}
-use Rattle.ll_trace.proofs.Sharing.{one-step, erase-step, with-step, bang-step, lolli-step, passing-step, passing-rule, given-tensor, if_ok-more}
+use Rattle.ll_trace.proofs.Sharing.{one-step, num-step, erase-step, with-step, bang-step, lolli-step, passing-step, passing-rule, given-tensor, if_ok-more}
 use Rattle.ll_trace.specs.Shares.{GivesTensor, GivesRule}
 use Rattle.ll_trace.proofs.deal.deal_node.Goals as goal
 
 pub returns-in-One-clause-dealt : goal.returns-in-One-clause-dealt
 returns-in-One-clause-dealt c = λ bank ts vs h f1 f2 d.
     one-step c.args.outline.now c.args.at c.args.share c.args.pending.now.items ts vs (subst (λ (r : Rule). put (line_of bank r) ts ≡ Some vs) c.in-One.is h) d
+
+pub returns-in-Num-clause-dealt : goal.returns-in-Num-clause-dealt
+returns-in-Num-clause-dealt c = λ bank ts vs h f1 f2 d.
+    num-step c.args.outline.now c.args.at c.args.share c.args.pending.now.items ts vs (subst (λ (r : Rule). put (line_of bank r) ts ≡ Some vs) c.in-Num.is h) d
 
 pub returns-in-Erase-clause-dealt : goal.returns-in-Erase-clause-dealt
 returns-in-Erase-clause-dealt c = λ bank ts vs h f1 f2 d.
@@ -46,5 +50,5 @@ returns-in_ok-parts-in-Clause-clause-dealt c = λ bank ts vs h f1 f2 d.
 
 pub returns-in_ok-push-in_default-clause-dealt : goal.returns-in_ok-push-in_default-clause-dealt
 returns-in_ok-push-in_default-clause-dealt c = λ bank ts vs h f1 f2 d.
-    let p = passing-rule c.args.rule c.in_default.not-One c.in_default.not-Erase c.in_default.not-Tensor c.in_default.not-With c.in_default.not-Bang c.in_default.not-Lolli c.in_default.not-Clause in
+    let p = passing-rule c.args.rule c.in_default.not-Num c.in_default.not-One c.in_default.not-Erase c.in_default.not-Tensor c.in_default.not-With c.in_default.not-Bang c.in_default.not-Lolli c.in_default.not-Clause in
     passing-step (line_of bank c.args.rule) (p.mk bank) (p.passing bank) c.args.outline.now c.args.at c.args.share c.args.pending.now.items c.push-in_default.new.self.items ts vs c.in_ok-push-in_default.ensures.items h d

@@ -1,9 +1,9 @@
 use Rattle.std.proofs.Common.{rules, refl, ap, sym, ◌≡◌, ◌∙◌, ◌∷◌}
 use Rattle.ll_agenda.specs.Frames.{items_at}
 use Rattle.ll_engine.proofs.Rowing.{one, top, tensor, left, right, implies, linear, both, bang}
-use Rattle.ll_engine.proofs.Quantifying.{forall_heads, exists_heads, forall_row, exists_row, not_empty, no_candidate}
-use Rattle.ll_bank.specs.Form.{Use}
-use Rattle.ll_bank.specs.Nodes.{term_trees, form_tree}
+use Rattle.ll_engine.proofs.Quantifying.{forall_heads, exists_heads, forall_row, exists_row, no_number, not_empty, no_candidate}
+use Rattle.ll_bank.specs.Form.{Use, Is, Less, Most}
+use Rattle.ll_bank.specs.Nodes.{term_tree, term_trees, form_tree}
 use Rattle.ll_engine.proofs.Loading.{use_count, use_closed, use_clauses, use_heads, use_row}
 use Rattle.ll_engine.proofs.machine.Machine.attempt.Goals as goal
 
@@ -58,6 +58,24 @@ unreachable-requires c = not_empty c.args.self.now c.requires.goal (c.in_default
 pub unreachable-requires-in_default-item : goal.unreachable-requires-in_default-item
 unreachable-requires-in_default-item c =
     no_candidate c.args.self.now c.in-Some.item (items_at c.args.self.now.agenda c.in-Some.rest) c.args.candidate c.requires.candidate c.in-Some.ensures.some.list c.in_default-item.not-Goal
+
+pub unreachable-requires-in-Is : goal.unreachable-requires-in-Is
+unreachable-requires-in-Is c =
+    let m = c.args.self.now in let rest = items_at m.agenda c.in-Some.rest in
+    no_number m c.in-Goal.goal rest Is (term_tree m.bank c.in-Is.field-0.0) (term_tree m.bank c.in-Is.field-1.0) c.requires.fits
+    (c.in-Some.ensures.some.list ∙ ap (λ x. x ∷ rest) c.in-Goal.is) c.in-Is.ensures.shown.tree
+
+pub unreachable-requires-in-Less : goal.unreachable-requires-in-Less
+unreachable-requires-in-Less c =
+    let m = c.args.self.now in let rest = items_at m.agenda c.in-Some.rest in
+    no_number m c.in-Goal.goal rest Less (term_tree m.bank c.in-Less.field-0.0) (term_tree m.bank c.in-Less.field-1.0) c.requires.fits
+    (c.in-Some.ensures.some.list ∙ ap (λ x. x ∷ rest) c.in-Goal.is) c.in-Less.ensures.shown.tree
+
+pub unreachable-requires-in-Most : goal.unreachable-requires-in-Most
+unreachable-requires-in-Most c =
+    let m = c.args.self.now in let rest = items_at m.agenda c.in-Some.rest in
+    no_number m c.in-Goal.goal rest Most (term_tree m.bank c.in-Most.field-0.0) (term_tree m.bank c.in-Most.field-1.0) c.requires.fits
+    (c.in-Some.ensures.some.list ∙ ap (λ x. x ∷ rest) c.in-Goal.is) c.in-Most.ensures.shown.tree
 
 pub take_forall-requires-clause-heads : goal.take_forall-requires-clause-heads
 take_forall-requires-clause-heads c =

@@ -1,0 +1,22 @@
+use Rattle.std.proofs.Common.{ap, sym, ◌∙◌}
+use Rattle.ll_bank.specs.Nodes.{term_tree}
+use Rattle.ll_laws.specs.Number.{operators_of, value_of}
+use Rattle.ll_modules.specs.Values.{seen_operator}
+use Rattle.ll_modules.proofs.Evaluating.{other_none, two_none, starts_nothing, starts_operator, arguments_inside}
+use Rattle.ll_modules.proofs.evaluate.enter.Goals as goal
+
+pub returns-then-args-ne2 : goal.returns-then-args-ne2
+returns-then-args-ne2 c =
+    starts_nothing (operators_of c.args.names.now) c.args.bank.now c.args.frames.now.items (term_tree c.args.bank.now c.args.at.0)
+    (ap (value_of (operators_of c.args.names.now)) c.in-App.ensures.shown.0 ∙ other_none (operators_of c.args.names.now) c.in-App.head c.args.bank.now c.in-App.args.now c.if-args-ne2.true) c.requires.frames
+
+pub returns-in_ok-push-in-Some : goal.returns-in_ok-push-in-Some
+returns-in_ok-push-in-Some c =
+    starts_operator (operators_of c.args.names.now) c.args.bank.now c.args.frames.now.items c.push.new.self.items (term_tree c.args.bank.now c.args.at.0) c.in-App.head c.in-App.args.now _ c.in-Some.operator
+    c.in-App.ensures.shown.0 c.if-args-ne2.false (sym c.operator_at.ensures ∙ ap seen_operator c.in-Some.is) c.in_ok-push-in-Some.ensures.items c.requires.frames
+    (arguments_inside c.args.bank.now c.args.at.0 c.in-App.args.now c.requires.place c.in-App.ensures.shown.1)
+
+pub returns-in-None : goal.returns-in-None
+returns-in-None c =
+    starts_nothing (operators_of c.args.names.now) c.args.bank.now c.args.frames.now.items (term_tree c.args.bank.now c.args.at.0)
+    (ap (value_of (operators_of c.args.names.now)) c.in-App.ensures.shown.0 ∙ two_none (operators_of c.args.names.now) c.in-App.head c.args.bank.now c.in-App.args.now c.if-args-ne2.false (sym c.operator_at.ensures ∙ ap seen_operator c.in-None.is)) c.requires.frames

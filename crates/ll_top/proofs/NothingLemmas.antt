@@ -1,0 +1,21 @@
+-- From a run that ends with status 1 to the derivations that there are not.
+use Rattle.std.proofs.Common.{◌≡◌, ◌≤◌, ℕ, List, Option, subst, sym, ◌∙◌, arith}
+use Rattle.ll_edge.specs.Texts.{Texts}
+use Rattle.ll_laws.specs.Problem.{ProblemTree}
+use Rattle.ll_laws.specs.Output.{run_status}
+use Rattle.ll_laws.specs.Valid.{IsValid}
+use Rattle.ll_laws.specs.Completeness.{NothingIsShown}
+use Rattle.ll_top.specs.Words.{RunWords, IsRun}
+use Rattle.ll_top.specs.Outcome.{RunAsks}
+use Rattle.ll_top.specs.Nothing.{AsksInVain}
+use Rattle.ll_top.proofs.LawLemmas.{one-run}
+
+-- a run that ended without an answer, and without having reached the bound
+pub asks-in-vain : NothingIsShown → (told : Option Texts) (run : RunWords) (p : ProblemTree) (status : ℕ) → RunAsks told run p → IsValid p
+    → status ≡ run_status p → status ≡ 1 → AsksInVain told run
+asks-in-vain nothing told run p status asks valid is one = record { problem = p; asks = asks; not_shown = λ d s. nothing p d valid (sym is ∙ one) s }
+
+-- what the words of a run ask for
+pub vain-run : (words : List (List ℕ)) (told : Option Texts) (run other : RunWords) → IsRun words run → IsRun words other
+    → AsksInVain told run → AsksInVain told other
+vain-run words told run other h k v = subst (AsksInVain told) (one-run words run other h k) v

@@ -26,10 +26,6 @@ abbrev pub OnGoals : Side → Type 0
 OnGoals GoalSide = Unit {0}
 OnGoals ClauseSide = ⊥
 
--- a whole-number goal may stand on this side: on none, as long as no text has one
-abbrev pub TakesNumbers : Side → Type 0
-TakesNumbers side = ⊥
-
 -- the formula may stand on this side, and its terms fit
 abbrev pub Fits : Allowed → Side → Scope → Form → Type 0
 Fits may side scope Top = Unit {0}
@@ -44,7 +40,7 @@ Fits may side scope (Imp f g) = Fits may (other side) scope f × Fits may side s
 Fits may side scope (Forall f) = Fits may side (opens_on may.opens side ∷ scope) f
 Fits may side scope (Exists f) = OnGoals side × Fits may side (false ∷ scope) f
 Fits may side scope (Use m ts f) = OnGoals side × (fits_module (slice_get may.modules m) ts ≡ true) × AllFit may scope ts × Fits may side scope f
-Fits may side scope (Num r t u) = TakesNumbers side × Fit may scope t × Fit may scope u
+Fits may side scope (Num r t u) = OnGoals side × Fit may scope t × Fit may scope u
 
 -- ---- the type and the tests
 
@@ -181,7 +177,11 @@ fits_of may GoalSide scope m (Use k ts f) t = (
       }),
 )
 fits_of may ClauseSide scope m (Use k ts f) t = absurd (cc (t.sorted))
-fits_of may GoalSide scope m (Num r a b) t = absurd (cc (t.sorted))
+fits_of may GoalSide scope m (Num r a b) t = (
+  tt,
+  fit may scope a (and_left _ (places_below (length scope) b) t.closed) (and_left _ (is_headed scope b) t.heads) (and_left _ (vars_below may.variables b) t.variables) (and_left _ (eigens_below may.eigens b) t.eigens),
+  fit may scope b (and_right (places_below (length scope) a) _ t.closed) (and_right (is_headed scope a) _ t.heads) (and_right (vars_below may.variables a) _ t.variables) (and_right (eigens_below may.eigens a) _ t.eigens),
+)
 fits_of may ClauseSide scope m (Num r a b) t = absurd (cc (t.sorted))
 
 each_fit : (may : Allowed) (scope : Scope) (test : Term → Bool) → ((t : Term) → Fit may scope t → test t ≡ true) → (ts : List Term) → AllFit may scope ts → list_all test ts ≡ true
@@ -232,7 +232,14 @@ tests_of may GoalSide scope m (Use k ts f) h =
       loads = and_intro _ _ h.1 t.loads;
     }
 tests_of may ClauseSide scope m (Use k ts f) h = absurd (h.0)
-tests_of may GoalSide scope m (Num r a b) h = absurd (h.0)
+tests_of may GoalSide scope m (Num r a b) h = record {
+  sorted = refl;
+  closed = and_intro _ _ (fit-places may scope a h.1) (fit-places may scope b h.2);
+  heads = and_intro _ _ (fit-headed may scope a h.1) (fit-headed may scope b h.2);
+  variables = and_intro _ _ (fit-vars may scope a h.1) (fit-vars may scope b h.2);
+  eigens = and_intro _ _ (fit-eigens may scope a h.1) (fit-eigens may scope b h.2);
+  loads = refl;
+}
 tests_of may ClauseSide scope m (Num r a b) h = absurd (h.0)
 
 pub fits_of_formula : (may : Allowed) (side : Side) (scope : Scope) (f : Form) → IsFormula may side scope f → Fits may side scope f

@@ -15,7 +15,7 @@ use Rattle.ll_laws.specs.Answered.{Answered}
 use Rattle.ll_laws.specs.Problem.{ProblemTree, setting_of, start_of, problem_events}
 use Rattle.ll_laws.specs.Valid.{AreModules, IsValid}
 use Rattle.ll_laws.specs.Derive.{Derivable}
-use Rattle.ll_laws.specs.Shows.{Tree, clauses, nodes}
+use Rattle.ll_laws.specs.Shows.{Tree, Labelled, clauses, nodes, Shows}
 use Rattle.ll_laws.specs.Fault.{Fits}
 use Rattle.ll_laws.specs.Line.{Line, DerivationLines, IsWhole, trees_of}
 use Rattle.ll_laws.specs.Verdict.{root_free, root_bounded, instantiated_goal, TreeShows, DerivationShows, first_fault}
@@ -99,6 +99,11 @@ NoneUnifies =
     → mgu ls rs levels ≡ None → IsUnifier ls rs levels s new → ⊥
 
 -- ---- derivations
+
+-- what a tree shows of a goal, from clauses with labels, is derivable from the clauses, with as many nodes
+abbrev pub TreesDerive : Type 0
+TreesDerive =
+    (beside : Setting) (x : Tree) (free bounded : List Labelled) (g : Form) → Shows beside x free bounded g → Derivable beside (nodes x) (clauses free) (clauses bounded) g
 
 -- a derivation that shows the query makes it derivable, from the program's unbounded and linear clauses, with as many nodes
 abbrev pub ShownIsDerivable : Type 0

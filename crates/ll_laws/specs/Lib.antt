@@ -7,6 +7,7 @@ pub mod State
 pub mod Attempt
 pub mod Answered
 pub mod Search
+pub mod Tried
 pub mod Laws
 pub mod Problem
 pub mod Shown

@@ -5,7 +5,7 @@
 #![tactic(auto)]
 
 ghost use Rattle.std.specs.Prelude.{◌≡◌, length};
-ghost use Rattle.ll_laws.specs.Laws.{StuckSearch, EndedSearch, BoundSearch, SteppedSearch, SteadySearch, SettledOnce, SettledUnder, StartsConsistent, SettlesConsistent, StepsConsistent, FoundUnifies, FoundLowers, FoundIsMostGeneral, NoneUnifies, ShownIsDerivable, FaultlessShows, ShownIsFaultless, RunsAreShown, AnswersAreShown};
+ghost use Rattle.ll_laws.specs.Laws.{StuckSearch, EndedSearch, BoundSearch, SteppedSearch, SteadySearch, SettledOnce, SettledUnder, StartsConsistent, SettlesConsistent, StepsConsistent, FoundUnifies, FoundLowers, FoundIsMostGeneral, NoneUnifies, TreesDerive, ShownIsDerivable, FaultlessShows, ShownIsFaultless, RunsAreShown, AnswersAreShown};
 ghost use Rattle.ll_laws.specs.Completeness.{ShownRuns, HiddenCover, RunsAreFound, ShownIsFound, ShownIsAnswered, ShownIsNumbered, NothingIsShown};
 
 use ll_bank::{At, Bank, FormAt, Names};
@@ -294,7 +294,8 @@ pub fn unification_is_best()
 
 /// What a derivation shows is derivable, with as many nodes as it has (derivability after Hodas and Miller 1994).
 pub fn shown_is_derivable()
-    ensures { ShownIsDerivable }
+    ensures tree { TreesDerive }
+    ensures query { ShownIsDerivable }
 {}
 
 /// A whole derivation has a first fault exactly where it does not show the query.

@@ -1,5 +1,9 @@
+use Rattle.ll_laws.proofs.DeriveLaw.{derive}
 use Rattle.ll_laws.proofs.Lines.{shown-derivable}
 use Rattle.ll_laws.proofs.shown_is_derivable.Goals as goal
 
-pub returns : goal.returns
-returns c = shown-derivable
+pub returns-clause-tree : goal.returns-clause-tree
+returns-clause-tree c = derive
+
+pub returns-clause-query : goal.returns-clause-query
+returns-clause-query c = shown-derivable

@@ -8,7 +8,7 @@ use Rattle.std.proofs.lemmas.List.Sums.{prefix_len-le-length}
 use Rattle.std.proofs.lemmas.Bool.Decides.{nat_tests, Decides-eqb}
 use Rattle.std.proofs.lemmas.Slice.Eq.{bytes_eq-Decides, starts_is}
 use Rattle.ll_lexer.specs.declared.TokenKind.{TokenKind}
-use Rattle.ll_lexer.specs.declared.TokenKind.TheVariants.{Name, Variable, Number}
+use Rattle.ll_lexer.specs.declared.TokenKind.TheVariants.{Name, Variable, Number, Minus}
 use Rattle.ll_lexer.specs.Spelling.{is_lower, is_upper, is_digit, is_word_start, is_word_byte, is_word, is_name, is_variable, is_numeral, is_number, fixed_spellings, listed_kind, shaped_kind, kind_of, Spells, IsLongest, HasNone}
 use Rattle.ll_lexer.proofs.Spelled.{kind-passes, ShapesPass, both}
 
@@ -102,12 +102,12 @@ digit-tail = tail-of is_digit (list_all is_digit) refl record {
 abbrev pub one_of : List (List ℕ) → List ℕ → Bool
 one_of ts u = list_any (λ t. bytes_eq t u) ts
 
--- behind a dash: digits, `o` or `->`
+-- behind a dash: digits, `o`, `->` or nothing
 abbrev pub dash_tails : List (List ℕ)
 dash_tails = codes "o" ∷ codes "->" ∷ []
 
 abbrev dash_tail : List ℕ → Bool
-dash_tail u = is_numeral u || one_of dash_tails u
+dash_tail u = is_numeral u || one_of ([] ∷ dash_tails) u
 
 dash-tail : (u : List ℕ) (k : TokenKind) → kind_of (45 ∷ u) ≡ Some k → dash_tail u ≡ true
 unfolding is_digit is_word_start fixed_spellings
@@ -126,7 +126,7 @@ sign-tail b ts n d m t u k s = tail-of (λ x. x == b) (one_of ts) t record {
 
 -- the bytes with which signs begin, but for the dash
 abbrev pub is_sign_start : ℕ → Bool
-is_sign_start b = list_any (λ c. c == b) (codes ".,&;(){}:<=" ++ 92 ∷ [])
+is_sign_start b = list_any (λ c. c == b) (codes ".,&;(){}:<=+*" ++ 92 ∷ [])
 
 abbrev pub begins : ℕ → Bool
 begins b = ((is_word_start b || is_digit b) || b == 45) || is_sign_start b
@@ -298,7 +298,7 @@ pub nonempty : (j : TokenKind) → kind_of [] ≡ Some j → ⊥
 unfolding kind_of fixed_spellings
 nonempty j s = let f : None ≡ Some j = s in absurd cc
 
-neither : (a b : Bool) → (a || b) ≡ false → (a ≡ false) × (b ≡ false)
+pub neither : (a b : Bool) → (a || b) ≡ false → (a ≡ false) × (b ≡ false)
 neither false false h = (refl, refl)
 neither false true h = absurd cc
 neither true b h = absurd cc
@@ -328,9 +328,31 @@ dashed-longest (c ∷ bs) n e h = by-test (is_digit c) refl
     by-test true d = let f : n ≡ 1 + prefix_len is_digit bs = rw d at e in rw f (negative-longest c bs d)
     by-test false d = let f : n ≡ 0 = rw d at e in absurd (omega arith)
 
-pub dash-none : (rest : List ℕ) → prefix_len is_digit rest ≡ 0 → list_any (λ t. starts_with nat_eq rest t) dash_tails ≡ false → HasNone (45 ∷ rest)
-dash-none rest d t j zero le s = nonempty j s
-dash-none rest d t j (suc i) le s = by-numeral (is_numeral (take i rest)) refl (dash-tail (take i rest) j s)
+-- the same behind one byte, which may stand alone
+beyond-one : (ts : List (List ℕ)) (rest : List ℕ) (i : ℕ) → suc i ≤ length rest → list_any (λ t. starts_with nat_eq rest t) ts ≡ false
+    → one_of ([] ∷ ts) (take (suc i) rest) ≡ true → ⊥
+beyond-one ts [] i le h g = absurd (omega arith)
+beyond-one ts (c ∷ bs) i le h g = one_of-take ts (c ∷ bs) (suc i) h g
+
+-- a sign of one byte, which longer ones begin with
+pub short-longest : (b : ℕ) (ts : List (List ℕ)) (rest : List ℕ) (k : TokenKind) → is_word_start b ≡ false → is_digit b ≡ false → (45 == b) ≡ false
+    → list_all (λ e. tail_test (λ x. x == b) (one_of ([] ∷ ts)) e.0) fixed_spellings ≡ true → kind_of (b ∷ []) ≡ Some k
+    → list_any (λ t. starts_with nat_eq rest t) ts ≡ false → IsLongest (b ∷ rest) k 1
+short-longest b ts rest k n d m t s h = record { within = omega arith; spells = s; longest = beyond }
+  where
+    beyond : (j : TokenKind) (i : ℕ) → 1 < i → i ≤ length (b ∷ rest) → Spells j (take i (b ∷ rest)) → ⊥
+    beyond j zero lt le g = absurd (omega arith)
+    beyond j (suc zero) lt le g = absurd (omega arith)
+    beyond j (suc (suc i)) lt le g = beyond-one ts rest i (omega arith) h (sign-tail b ([] ∷ ts) n d m t (take (suc i) rest) j g)
+
+minus-spelled : kind_of (45 ∷ []) ≡ Some Minus
+unfolding fixed_spellings kind_of
+minus-spelled = refl
+
+-- a dash that nothing longer begins with
+pub minus-longest : (rest : List ℕ) → prefix_len is_digit rest ≡ 0 → list_any (λ t. starts_with nat_eq rest t) dash_tails ≡ false
+    → IsLongest (45 ∷ rest) Minus 1
+minus-longest rest d t = record { within = omega arith; spells = minus-spelled; longest = beyond }
   where
     no-numeral : (rest : List ℕ) (i : ℕ) → prefix_len is_digit rest ≡ 0 → is_numeral (take i rest) ≡ true → ⊥
     no-numeral rest zero d e = absurd cc
@@ -339,9 +361,14 @@ dash-none rest d t j (suc i) le s = by-numeral (is_numeral (take i rest)) refl (
         let h = both (is_digit c) (list_all is_digit (take i bs)) e in
         let f : 1 + prefix_len is_digit bs ≡ 0 = rw h.0 at d in absurd (omega arith)
 
-    by-numeral : (v : Bool) → is_numeral (take i rest) ≡ v → (v || one_of dash_tails (take i rest)) ≡ true → ⊥
-    by-numeral true e g = no-numeral rest i d e
-    by-numeral false e g = one_of-take dash_tails rest i t g
+    by-numeral : (i : ℕ) (v : Bool) → suc i ≤ length rest → is_numeral (take (suc i) rest) ≡ v → (v || one_of ([] ∷ dash_tails) (take (suc i) rest)) ≡ true → ⊥
+    by-numeral i true le e g = no-numeral rest (suc i) d e
+    by-numeral i false le e g = beyond-one dash_tails rest i le t g
+
+    beyond : (j : TokenKind) (i : ℕ) → 1 < i → i ≤ length (45 ∷ rest) → Spells j (take i (45 ∷ rest)) → ⊥
+    beyond j zero lt le g = absurd (omega arith)
+    beyond j (suc zero) lt le g = absurd (omega arith)
+    beyond j (suc (suc i)) lt le g = by-numeral i (is_numeral (take (suc i) rest)) (omega arith) refl (dash-tail (take (suc i) rest) j g)
 
 -- ---- words
 
@@ -364,6 +391,7 @@ pub record NoKeyword (w : List ℕ) : Type 0 where
   pub erase_word : bytes_eq (codes "erase") w ≡ false
   pub forall_word : bytes_eq (codes "forall") w ≡ false
   pub exists_word : bytes_eq (codes "exists") w ≡ false
+  pub is_word : bytes_eq (codes "is") w ≡ false
   pub module_word : bytes_eq (codes "MODULE") w ≡ false
   pub local_word : bytes_eq (codes "LOCAL") w ≡ false
   pub linear_word : bytes_eq (codes "LINEAR") w ≡ false
@@ -378,7 +406,7 @@ word-kind : (w : List ℕ) → is_word w ≡ true → NoKeyword w → kind_of w 
 unfolding fixed_spellings kind_of is_word_start
 word-kind w h n =
     let t : begins_with is_word_start w ≡ true = word-begins w h in
-    rw (n.true_word, n.erase_word, n.forall_word, n.exists_word, n.module_word, n.local_word, n.linear_word, n.bar) (rw (unlisted (begins_with is_word_start) (drop 8 fixed_spellings) w refl t) refl)
+    rw (n.true_word, n.erase_word, n.forall_word, n.exists_word, n.is_word, n.module_word, n.local_word, n.linear_word, n.bar) (rw (unlisted (begins_with is_word_start) (drop 9 fixed_spellings) w refl t) refl)
 
 no-upper : (b : ℕ) → is_lower b ≡ true → is_upper b ≡ false
 unfolding is_lower is_upper

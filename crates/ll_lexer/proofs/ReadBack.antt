@@ -1,5 +1,5 @@
 -- What is spelled as a token, and then followed by a byte that does not go on with it, is read as this token.
-use Rattle.std.proofs.Common.{◌≡◌, ℕ, suc, ◌+◌, Bool, true, false, cond, ◌||◌, ◌==◌, List, [], ◌∷◌, ◌++◌, length, take, codes, refl, ap, subst, arith}
+use Rattle.std.proofs.Common.{◌≡◌, ℕ, suc, ◌+◌, Bool, true, false, cond, ◌||◌, ◌==◌, List, [], ◌∷◌, ◌++◌, length, take, drop, codes, refl, ap, subst, arith}
 use Rattle.std.specs.List.{list_all, prefix_len, starts_with}
 use Rattle.std.specs.Prelude.{nat_eq}
 use Rattle.std.specs.Str.{bytes_eq}
@@ -7,10 +7,10 @@ use Rattle.std.proofs.Math.Seq.{take-append_seam}
 use Rattle.std.proofs.lemmas.Bool.Decides.{Decides-eqb}
 use Rattle.std.proofs.lemmas.Slice.Eq.{bytes_eq-Decides, starts_is}
 use Rattle.ll_lexer.specs.declared.TokenKind.{TokenKind}
-use Rattle.ll_lexer.specs.declared.TokenKind.TheVariants.{Name, Variable, Any, Number, True, Erase, Forall, Exists, Module, Local, Linear, Dot, Comma, Ampersand, Semicolon, ParenLeft, ParenRight, BraceLeft, BraceRight, Backslash, Cons, ColonDash, LeftArrow, RightArrow, Lolli, LoadArrow}
+use Rattle.ll_lexer.specs.declared.TokenKind.TheVariants.{Name, Variable, Any, Number, True, Erase, Forall, Exists, Is, Module, Local, Linear, Dot, Comma, Ampersand, Semicolon, ParenLeft, ParenRight, BraceLeft, BraceRight, Backslash, Cons, ColonDash, LeftArrow, RightArrow, Most, Less, Plus, Minus, Star, Lolli, LoadArrow}
 use Rattle.ll_lexer.specs.Spelling.{is_lower, is_upper, is_digit, is_word_start, is_word_byte, is_name, is_variable, is_numeral, is_number, fixed_spellings, Spells, IsLongest}
 use Rattle.ll_lexer.proofs.Spelled.{kind-passes, both}
-use Rattle.ll_lexer.proofs.Longest.{lower-start, upper-start, bar-start, begins_with, word-tail, word-longest, number-longest, negative-longest}
+use Rattle.ll_lexer.proofs.Longest.{lower-start, upper-start, bar-start, begins_with, word-tail, word-longest, number-longest, negative-longest, neither, minus-longest}
 use Rattle.ll_lexer.proofs.Numerals.{number-spelled}
 use Rattle.ll_lexer.proofs.Signs.{signs}
 
@@ -24,9 +24,12 @@ goes_on True b = is_word_byte b
 goes_on Erase b = is_word_byte b
 goes_on Forall b = is_word_byte b
 goes_on Exists b = is_word_byte b
+goes_on Is b = is_word_byte b
 goes_on Module b = is_word_byte b
 goes_on Local b = is_word_byte b
 goes_on Linear b = is_word_byte b
+goes_on Less b = b == 61
+goes_on Minus b = is_digit b || (b == 111 || b == 45)
 goes_on _ b = false
 
 -- the bytes do not begin with one that passes
@@ -50,6 +53,11 @@ fits_kind Cons w = bytes_eq (codes "::") w
 fits_kind ColonDash w = bytes_eq (codes ":-") w
 fits_kind LeftArrow w = bytes_eq (codes "<=") w
 fits_kind RightArrow w = bytes_eq (codes "=>") w
+fits_kind Most w = bytes_eq (codes "=<") w
+fits_kind Less w = bytes_eq (codes "<") w
+fits_kind Plus w = bytes_eq (codes "+") w
+fits_kind Minus w = bytes_eq (codes "-") w
+fits_kind Star w = bytes_eq (codes "*") w
 fits_kind Lolli w = bytes_eq (codes "-o") w
 fits_kind LoadArrow w = bytes_eq (codes "-->") w
 fits_kind _ w = begins_with is_word_start w
@@ -114,6 +122,25 @@ sign-read s k w rest l e = subst (λ z. IsLongest (z ++ rest) k (length z)) ((by
 begins-so : (t rest : List ℕ) → starts_with nat_eq (t ++ rest) t ≡ true
 begins-so t rest = (starts_is Decides-eqb (t ++ rest) t _ refl).1 rest refl
 
+-- what does not begin with a byte begins with nothing that does
+no-start : (b : ℕ) (t rest : List ℕ) → Ends (λ x. x == b) rest → starts_with nat_eq rest (b ∷ t) ≡ false
+no-start b t rest e = by-test (starts_with nat_eq rest (b ∷ t)) refl
+  where
+    by-test : (v : Bool) → starts_with nat_eq rest (b ∷ t) ≡ v → v ≡ false
+    by-test false q = refl
+    by-test true q =
+        let d : rest ≡ (b ∷ t) ++ drop (length (b ∷ t)) rest = (starts_is Decides-eqb rest (b ∷ t) _ refl).0 q in
+        let f : (b == b) ≡ false = subst (Ends (λ x. x == b)) d e in
+        let g : (b == b) ≡ true = (Decides-eqb b b).1 refl in absurd cc
+
+-- a dash that no byte goes on with
+minus-alone : (rest : List ℕ) → Ends (goes_on Minus) rest → IsLongest (45 ∷ rest) Minus 1
+minus-alone [] e = minus-longest [] refl refl
+minus-alone (b ∷ bs) e =
+    let p = neither (is_digit b) (b == 111 || b == 45) e in
+    let q = neither (b == 111) (b == 45) p.1 in
+    minus-longest (b ∷ bs) (rw p.0 refl) (rw (no-start 111 [] (b ∷ bs) q.0, no-start 45 (62 ∷ []) (b ∷ bs) q.1) refl)
+
 pub spelled-read : (k : TokenKind) (w rest : List ℕ) → Spells k w → Ends (goes_on k) rest → IsLongest (w ++ rest) k (length w)
 unfolding fits_kind
 spelled-read Name w rest s e = word-read Name w rest s (kind-fits Name w s) e
@@ -124,6 +151,7 @@ spelled-read True w rest s e = word-read True w rest s (kind-fits True w s) e
 spelled-read Erase w rest s e = word-read Erase w rest s (kind-fits Erase w s) e
 spelled-read Forall w rest s e = word-read Forall w rest s (kind-fits Forall w s) e
 spelled-read Exists w rest s e = word-read Exists w rest s (kind-fits Exists w s) e
+spelled-read Is w rest s e = word-read Is w rest s (kind-fits Is w s) e
 spelled-read Module w rest s e = word-read Module w rest s (kind-fits Module w s) e
 spelled-read Local w rest s e = word-read Local w rest s (kind-fits Local w s) e
 spelled-read Linear w rest s e = word-read Linear w rest s (kind-fits Linear w s) e
@@ -140,5 +168,10 @@ spelled-read Cons w rest s e = sign-read (codes "::") Cons w rest (signs.cons_si
 spelled-read ColonDash w rest s e = sign-read (codes ":-") ColonDash w rest (signs.colon_dash (codes "-" ++ rest) (begins-so (codes "-") rest)) (kind-fits ColonDash w s)
 spelled-read LeftArrow w rest s e = sign-read (codes "<=") LeftArrow w rest (signs.left_arrow (codes "=" ++ rest) (begins-so (codes "=") rest)) (kind-fits LeftArrow w s)
 spelled-read RightArrow w rest s e = sign-read (codes "=>") RightArrow w rest (signs.right_arrow (codes ">" ++ rest) (begins-so (codes ">") rest)) (kind-fits RightArrow w s)
+spelled-read Most w rest s e = sign-read (codes "=<") Most w rest (signs.most (codes "<" ++ rest) (begins-so (codes "<") rest)) (kind-fits Most w s)
+spelled-read Less w rest s e = sign-read (codes "<") Less w rest (signs.less rest (no-start 61 [] rest e)) (kind-fits Less w s)
+spelled-read Plus w rest s e = sign-read (codes "+") Plus w rest (signs.plus rest) (kind-fits Plus w s)
+spelled-read Minus w rest s e = sign-read (codes "-") Minus w rest (minus-alone rest e) (kind-fits Minus w s)
+spelled-read Star w rest s e = sign-read (codes "*") Star w rest (signs.star rest) (kind-fits Star w s)
 spelled-read Lolli w rest s e = sign-read (codes "-o") Lolli w rest (signs.lolli (codes "o" ++ rest) (begins-so (codes "o") rest)) (kind-fits Lolli w s)
 spelled-read LoadArrow w rest s e = sign-read (codes "-->") LoadArrow w rest (signs.load_arrow (codes "->" ++ rest) (begins-so (codes "->") rest)) (kind-fits LoadArrow w s)

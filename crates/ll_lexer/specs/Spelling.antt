@@ -5,7 +5,7 @@ use Rattle.std.specs.List.{list_all}
 use Rattle.std.specs.Option.{option_or}
 use Rattle.std.specs.Str.{bytes_eq}
 use Rattle.ll_lexer.specs.declared.TokenKind.{TokenKind}
-use Rattle.ll_lexer.specs.declared.TokenKind.TheVariants.{Name, Variable, Any, Number, True, Erase, Forall, Exists, Module, Local, Linear, Dot, Comma, Ampersand, Semicolon, ParenLeft, ParenRight, BraceLeft, BraceRight, Backslash, Cons, ColonDash, LeftArrow, RightArrow, Lolli, LoadArrow}
+use Rattle.ll_lexer.specs.declared.TokenKind.TheVariants.{Name, Variable, Any, Number, True, Erase, Forall, Exists, Is, Module, Local, Linear, Dot, Comma, Ampersand, Semicolon, ParenLeft, ParenRight, BraceLeft, BraceRight, Backslash, Cons, ColonDash, LeftArrow, RightArrow, Most, Less, Plus, Minus, Star, Lolli, LoadArrow}
 
 -- a lower-case letter, an upper-case letter, a decimal digit
 unfoldable pub is_lower : ℕ → Bool
@@ -45,13 +45,14 @@ is_number (b ∷ bs) = if b == 45 then is_numeral bs else is_numeral (b ∷ bs)
 -- the keywords, `_` alone, and the signs: each has one spelling
 unfoldable pub fixed_spellings : List (List ℕ × TokenKind)
 fixed_spellings =
-    (codes "true", True) ∷ (codes "erase", Erase) ∷ (codes "forall", Forall) ∷ (codes "exists", Exists)
+    (codes "true", True) ∷ (codes "erase", Erase) ∷ (codes "forall", Forall) ∷ (codes "exists", Exists) ∷ (codes "is", Is)
     ∷ (codes "MODULE", Module) ∷ (codes "LOCAL", Local) ∷ (codes "LINEAR", Linear)
     ∷ (codes "_", Any)
     ∷ (codes ".", Dot) ∷ (codes ",", Comma) ∷ (codes "&", Ampersand) ∷ (codes ";", Semicolon)
     ∷ (codes "(", ParenLeft) ∷ (codes ")", ParenRight) ∷ (codes "{", BraceLeft) ∷ (codes "}", BraceRight)
     ∷ (92 ∷ [], Backslash)
     ∷ (codes "::", Cons) ∷ (codes ":-", ColonDash) ∷ (codes "<=", LeftArrow) ∷ (codes "=>", RightArrow)
+    ∷ (codes "=<", Most) ∷ (codes "<", Less) ∷ (codes "+", Plus) ∷ (codes "-", Minus) ∷ (codes "*", Star)
     ∷ (codes "-o", Lolli) ∷ (codes "-->", LoadArrow)
     ∷ []
 

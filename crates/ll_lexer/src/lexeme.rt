@@ -63,6 +63,8 @@ fn word_kind(word: &[u8]) -> TokenKind
         TokenKind::Forall
     } else if word == b"exists".as_slice() {
         TokenKind::Exists
+    } else if word == b"is".as_slice() {
+        TokenKind::Is
     } else if word == b"MODULE".as_slice() {
         TokenKind::Module
     } else if word == b"LOCAL".as_slice() {
@@ -98,26 +100,30 @@ fn sign(first: u8, rest: &[u8]) -> Option<(TokenKind, usize)>
         b':' if rest.starts_with(b":") => Some((TokenKind::Cons, 2)),
         b':' if rest.starts_with(b"-") => Some((TokenKind::ColonDash, 2)),
         b'<' if rest.starts_with(b"=") => Some((TokenKind::LeftArrow, 2)),
+        b'<' => Some((TokenKind::Less, 1)),
         b'=' if rest.starts_with(b">") => Some((TokenKind::RightArrow, 2)),
+        b'=' if rest.starts_with(b"<") => Some((TokenKind::Most, 2)),
+        b'+' => Some((TokenKind::Plus, 1)),
+        b'*' => Some((TokenKind::Star, 1)),
         _ => None,
     }
 }
 
-// What begins with a dash, behind it.
-fn dashed(rest: &[u8]) -> Option<(TokenKind, usize)>
-    ensures { MatchOption result (HasNone (45 ∷ rest.now)) (λ p. IsLongest (45 ∷ rest.now) p.0 p.1) }
+// What begins with a dash, behind it: a longer sign, a number, or the sign `-`.
+fn dashed(rest: &[u8]) -> (TokenKind, usize)
+    ensures { IsLongest (45 ∷ rest.now) result.0 result.1 }
 {
     if rest.starts_with(b"o") {
-        return Some((TokenKind::Lolli, 2));
+        return (TokenKind::Lolli, 2);
     }
     if rest.starts_with(b"->") {
-        return Some((TokenKind::LoadArrow, 3));
+        return (TokenKind::LoadArrow, 3);
     }
     let digits = digits_len(rest);
     if digits > 0 {
-        Some((TokenKind::Number, 1 + digits))
+        (TokenKind::Number, 1 + digits)
     } else {
-        None
+        (TokenKind::Minus, 1)
     }
 }
 
@@ -134,7 +140,7 @@ pub fn longest_token(bytes: &[u8]) -> Option<(TokenKind, usize)>
     } else if is_digit(*first) {
         Some((TokenKind::Number, 1 + digits_len(rest)))
     } else if *first == b'-' {
-        dashed(rest)
+        Some(dashed(rest))
     } else {
         sign(*first, rest)
     }

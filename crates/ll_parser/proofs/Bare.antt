@@ -1,15 +1,15 @@
 -- Places do not steer the machine: tokens that differ in their places alone give trees that differ in their places alone.
 use Rattle.std.proofs.Common.{◌≡◌, Bool, true, false, cond, List, [], ◌∷◌, Some, None, option_map, refl, ◌∙◌, ap}
 use Rattle.ll_lexer.specs.declared.Place.{Place}
-use Rattle.ll_parser.specs.Tokens.{Tok, name, variable, any, number, ampersand, semicolon, paren_left, paren_right, brace_right, backslash, cons_sign, colon_dash, left_arrow, right_arrow, lolli, load_arrow}
+use Rattle.ll_parser.specs.Tokens.{Tok, name, variable, any, number, ampersand, semicolon, paren_left, paren_right, brace_right, backslash, cons_sign, colon_dash, left_arrow, right_arrow, lolli, load_arrow, is_sign, most_sign, less_sign, plus_sign, minus_sign, star_sign}
 use Rattle.ll_parser.specs.declared.Op.TheVariants as op
 use Rattle.ll_parser.specs.declared.Quantifier.TheVariants as quantifier
-use Rattle.ll_parser.specs.Raw.{Raw, head, anything, int, RawList, none, more, raws_then, cons_raw}
-use Rattle.ll_parser.specs.Grammar.{Word, lower, upper, word_identifier}
+use Rattle.ll_parser.specs.Raw.{Raw, head, anything, int, is_goal, less_goal, most_goal, RawList, none, more, raws_then, cons_raw}
+use Rattle.ll_parser.specs.Grammar.{Word, lower, upper, word_identifier, by_plus, by_minus, by_less, by_most}
 use Rattle.ll_parser.specs.Bare.{nowhere, bare_identifier, bare_tok, bare_raw, bare_raws}
 use Rattle.ll_parser.specs.declared.Level.{Level}
 use Rattle.ll_parser.specs.declared.Level.TheVariants as level
-use Rattle.ll_parser.specs.Flat.{Pending, operand, loading, in_bracket, in_brace, in_quantifier, in_atom, in_argument, in_group, cell, Flat, want, part, whole, binder, slash, term_want, term_part, term_whole, taken, build, reduce, gather, push, close_bracket, close_brace, close_term, end_with, admits_load, begin_load, operate, term_operate, flat_step, flat_final}
+use Rattle.ll_parser.specs.Flat.{Pending, operand, loading, in_bracket, in_brace, in_quantifier, in_atom, in_argument, in_group, cell, added, multiplied, valuing, testing, in_expression, in_left_side, Flat, want, part, whole, binder, slash, term_want, term_part, term_whole, plain, led, lead_want, item_want, item, take_product, take_sum, take_both, multiply, add, test, after_plain, after_word, after_led, close_group, end_expression, after_item, final_expression, taken, build, reduce, gather, push, close_bracket, close_brace, close_term, end_with, admits_load, begin_load, operate, term_operate, flat_step, flat_final}
 
 abbrev pub bare_word : Word → Word
 bare_word (lower n) = lower (bare_identifier n)
@@ -25,6 +25,12 @@ bare_pending (in_atom w rs) = in_atom (bare_word w) (bare_raws rs)
 bare_pending (in_argument w rs) = in_argument (bare_word w) (bare_raws rs)
 bare_pending in_group = in_group
 bare_pending (cell at r) = cell nowhere (bare_raw r)
+bare_pending (added o at r) = added o nowhere (bare_raw r)
+bare_pending (multiplied at r) = multiplied nowhere (bare_raw r)
+bare_pending (valuing at r) = valuing nowhere (bare_raw r)
+bare_pending (testing c at r) = testing c nowhere (bare_raw r)
+bare_pending in_expression = in_expression
+bare_pending in_left_side = in_left_side
 
 abbrev pub bares : List Pending → List Pending
 bares [] = []
@@ -39,6 +45,11 @@ bare_flat (slash q at w ps) = slash q nowhere (bare_word w) (bares ps)
 bare_flat (term_want ps) = term_want (bares ps)
 bare_flat (term_part w rs ps) = term_part (bare_word w) (bare_raws rs) (bares ps)
 bare_flat (term_whole r ps) = term_whole (bare_raw r) (bares ps)
+bare_flat (plain r ps) = plain (bare_raw r) (bares ps)
+bare_flat (led r ps) = led (bare_raw r) (bares ps)
+bare_flat (lead_want ps) = lead_want (bares ps)
+bare_flat (item_want ps) = item_want (bares ps)
+bare_flat (item r ps) = item (bare_raw r) (bares ps)
 
 abbrev bare_pair : Raw × List Pending → Raw × List Pending
 bare_pair q = (bare_raw q.0, bares q.1)
@@ -61,6 +72,12 @@ taken-bare l (in_atom w rs) = refl
 taken-bare l (in_argument w rs) = refl
 taken-bare l in_group = refl
 taken-bare l (cell at r) = refl
+taken-bare l (added o at x) = refl
+taken-bare l (multiplied at x) = refl
+taken-bare l (valuing at x) = refl
+taken-bare l (testing c at x) = refl
+taken-bare l in_expression = refl
+taken-bare l in_left_side = refl
 
 build-bare : (p : Pending) (r : Raw) → build (bare_pending p) (bare_raw r) ≡ bare_raw (build p r)
 build-bare (operand o at l) r = refl
@@ -73,6 +90,12 @@ build-bare (in_atom w rs) r = refl
 build-bare (in_argument w rs) r = refl
 build-bare in_group r = refl
 build-bare (cell at x) r = refl
+build-bare (added o at x) r = refl
+build-bare (multiplied at x) r = refl
+build-bare (valuing at x) r = refl
+build-bare (testing c at x) r = refl
+build-bare in_expression r = refl
+build-bare in_left_side r = refl
 
 reduce-bare : (l : Level) (ps : List Pending) (r : Raw) → reduce l (bare_raw r) (bares ps) ≡ bare_pair (reduce l r ps)
 reduce-bare l [] r = refl
@@ -93,6 +116,12 @@ gather-bare (in_quantifier q at n ∷ ps) r = refl
 gather-bare (in_atom w rs ∷ ps) r = refl
 gather-bare (in_argument w rs ∷ ps) r = refl
 gather-bare (in_group ∷ ps) r = refl
+gather-bare (added o at x ∷ ps) r = refl
+gather-bare (multiplied at x ∷ ps) r = refl
+gather-bare (valuing at x ∷ ps) r = refl
+gather-bare (testing c at x ∷ ps) r = refl
+gather-bare (in_expression ∷ ps) r = refl
+gather-bare (in_left_side ∷ ps) r = refl
 
 bracket-bare : (r : Raw) (ps : List Pending) → close_bracket (bare_raw r) (bares ps) ≡ option_map bare_flat (close_bracket r ps)
 bracket-bare r [] = refl
@@ -105,6 +134,12 @@ bracket-bare r (in_atom w rs ∷ ps) = refl
 bracket-bare r (in_argument w rs ∷ ps) = refl
 bracket-bare r (in_group ∷ ps) = refl
 bracket-bare r (cell at x ∷ ps) = refl
+bracket-bare r (added o at x ∷ ps) = refl
+bracket-bare r (multiplied at x ∷ ps) = refl
+bracket-bare r (valuing at x ∷ ps) = refl
+bracket-bare r (testing c at x ∷ ps) = refl
+bracket-bare r (in_expression ∷ ps) = refl
+bracket-bare r (in_left_side ∷ ps) = refl
 
 brace-bare : (r : Raw) (ps : List Pending) → close_brace (bare_raw r) (bares ps) ≡ option_map bare_flat (close_brace r ps)
 brace-bare r [] = refl
@@ -117,6 +152,12 @@ brace-bare r (in_atom w rs ∷ ps) = refl
 brace-bare r (in_argument w rs ∷ ps) = refl
 brace-bare r (in_group ∷ ps) = refl
 brace-bare r (cell at x ∷ ps) = refl
+brace-bare r (added o at x ∷ ps) = refl
+brace-bare r (multiplied at x ∷ ps) = refl
+brace-bare r (valuing at x ∷ ps) = refl
+brace-bare r (testing c at x ∷ ps) = refl
+brace-bare r (in_expression ∷ ps) = refl
+brace-bare r (in_left_side ∷ ps) = refl
 
 term-bare : (r : Raw) (ps : List Pending) → close_term (bare_raw r) (bares ps) ≡ option_map bare_flat (close_term r ps)
 term-bare r [] = refl
@@ -129,6 +170,12 @@ term-bare r (operand o at x ∷ ps) = refl
 term-bare r (loading at n rs ∷ ps) = refl
 term-bare r (in_quantifier q at n ∷ ps) = refl
 term-bare r (cell at x ∷ ps) = refl
+term-bare r (added o at x ∷ ps) = refl
+term-bare r (multiplied at x ∷ ps) = refl
+term-bare r (valuing at x ∷ ps) = refl
+term-bare r (testing c at x ∷ ps) = refl
+term-bare r (in_expression ∷ ps) = refl
+term-bare r (in_left_side ∷ ps) = refl
 
 admits-bare : (ps : List Pending) → admits_load (bares ps) ≡ admits_load ps
 admits-bare [] = refl
@@ -141,6 +188,12 @@ admits-bare (in_atom w rs ∷ ps) = refl
 admits-bare (in_argument w rs ∷ ps) = refl
 admits-bare (in_group ∷ ps) = refl
 admits-bare (cell at x ∷ ps) = refl
+admits-bare (added o at x ∷ ps) = refl
+admits-bare (multiplied at x ∷ ps) = refl
+admits-bare (valuing at x ∷ ps) = refl
+admits-bare (testing c at x ∷ ps) = refl
+admits-bare (in_expression ∷ ps) = refl
+admits-bare (in_left_side ∷ ps) = refl
 
 load-bare : (w : Word) (rs : RawList) (at : Place) (ps : List Pending) → begin_load (bare_word w) (bare_raws rs) nowhere (bares ps) ≡ option_map bare_flat (begin_load w rs at ps)
 load-bare (upper n) rs at ps = refl
@@ -174,6 +227,96 @@ term-part-bare : (w : Word) (rs : RawList) (ps : List Pending) (t : Tok) → ter
 term-part-bare (lower n) rs ps t = term-operate-bare (head n rs) ps t
 term-part-bare (upper n) rs ps t = term-operate-bare (head n rs) ps t
 
+-- ---- expressions of whole numbers
+
+take-product-bare : (r : Raw) (ps : List Pending) → take_product (bare_raw r) (bares ps) ≡ bare_pair (take_product r ps)
+take-product-bare r [] = refl
+take-product-bare r (operand o at x ∷ ps) = refl
+take-product-bare r (loading at n rs ∷ ps) = refl
+take-product-bare r (in_bracket ∷ ps) = refl
+take-product-bare r (in_brace at ∷ ps) = refl
+take-product-bare r (in_quantifier q at n ∷ ps) = refl
+take-product-bare r (in_atom w rs ∷ ps) = refl
+take-product-bare r (in_argument w rs ∷ ps) = refl
+take-product-bare r (in_group ∷ ps) = refl
+take-product-bare r (cell at x ∷ ps) = refl
+take-product-bare r (added o at x ∷ ps) = refl
+take-product-bare r (multiplied at x ∷ ps) = refl
+take-product-bare r (valuing at x ∷ ps) = refl
+take-product-bare r (testing c at x ∷ ps) = refl
+take-product-bare r (in_expression ∷ ps) = refl
+take-product-bare r (in_left_side ∷ ps) = refl
+
+take-sum-bare : (r : Raw) (ps : List Pending) → take_sum (bare_raw r) (bares ps) ≡ bare_pair (take_sum r ps)
+take-sum-bare r [] = refl
+take-sum-bare r (operand o at x ∷ ps) = refl
+take-sum-bare r (loading at n rs ∷ ps) = refl
+take-sum-bare r (in_bracket ∷ ps) = refl
+take-sum-bare r (in_brace at ∷ ps) = refl
+take-sum-bare r (in_quantifier q at n ∷ ps) = refl
+take-sum-bare r (in_atom w rs ∷ ps) = refl
+take-sum-bare r (in_argument w rs ∷ ps) = refl
+take-sum-bare r (in_group ∷ ps) = refl
+take-sum-bare r (cell at x ∷ ps) = refl
+take-sum-bare r (added o at x ∷ ps) = refl
+take-sum-bare r (multiplied at x ∷ ps) = refl
+take-sum-bare r (valuing at x ∷ ps) = refl
+take-sum-bare r (testing c at x ∷ ps) = refl
+take-sum-bare r (in_expression ∷ ps) = refl
+take-sum-bare r (in_left_side ∷ ps) = refl
+
+take-both-bare : (r : Raw) (ps : List Pending) → take_both (bare_raw r) (bares ps) ≡ bare_pair (take_both r ps)
+take-both-bare r ps = ap (λ q. take_sum q.0 q.1) (take-product-bare r ps) ∙ take-sum-bare (take_product r ps).0 (take_product r ps).1
+
+after-plain-bare : (r : Raw) (ps : List Pending) (t : Tok) → after_plain (bare_raw r) (bares ps) (bare_tok t) ≡ option_map bare_flat (after_plain r ps t)
+after-plain-bare r ps (name n) = refl
+after-plain-bare r ps _ = refl
+
+after-word-bare : (w : Word) (rs : RawList) (ps : List Pending) (t : Tok)
+    → after_word (bare_word w) (bare_raws rs) (bares ps) (bare_tok t) ≡ option_map bare_flat (after_word w rs ps t)
+after-word-bare (lower n) none ps t = after-plain-bare (head n none) ps t
+after-word-bare (upper n) none ps t = after-plain-bare (head n none) ps t
+after-word-bare w (more x rs) ps t = refl
+
+after-led-bare : (r : Raw) (ps : List Pending) (t : Tok) → after_led (bare_raw r) (bares ps) (bare_tok t) ≡ option_map bare_flat (after_led r ps t)
+after-led-bare r ps (star_sign at) = ap (multiply lead_want nowhere) (take-product-bare r ps)
+after-led-bare r ps (plus_sign at) = ap (add lead_want by_plus nowhere) (take-both-bare r ps)
+after-led-bare r ps (minus_sign at) = ap (add lead_want by_minus nowhere) (take-both-bare r ps)
+after-led-bare r ps (less_sign at) = ap (test by_less nowhere) (take-both-bare r ps)
+after-led-bare r ps (most_sign at) = ap (test by_most nowhere) (take-both-bare r ps)
+after-led-bare r ps _ = refl
+
+close-group-bare : (f : Flat) (t : Tok) → close_group (bare_flat f) (bare_tok t) ≡ option_map bare_flat (close_group f t)
+close-group-bare f (paren_right at) = refl
+close-group-bare f _ = refl
+
+end-expression-bare : (r : Raw) (ps : List Pending) (t : Tok)
+    → end_expression (bare_raw r) (bares ps) (bare_tok t) ≡ option_map bare_flat (end_expression r ps t)
+end-expression-bare r [] t = refl
+end-expression-bare r (operand o at x ∷ ps) t = refl
+end-expression-bare r (loading at n rs ∷ ps) t = refl
+end-expression-bare r (in_bracket ∷ ps) t = refl
+end-expression-bare r (in_brace at ∷ ps) t = refl
+end-expression-bare r (in_quantifier q at n ∷ ps) t = refl
+end-expression-bare r (in_atom w rs ∷ ps) t = refl
+end-expression-bare r (in_argument w rs ∷ ps) t = refl
+end-expression-bare r (in_group ∷ ps) t = refl
+end-expression-bare r (cell at x ∷ ps) t = refl
+end-expression-bare r (added o at x ∷ ps) t = refl
+end-expression-bare r (multiplied at x ∷ ps) t = refl
+end-expression-bare r (valuing at x ∷ ps) t = operate-bare (is_goal at x r) ps t
+end-expression-bare r (testing by_less at x ∷ ps) t = operate-bare (less_goal at x r) ps t
+end-expression-bare r (testing by_most at x ∷ ps) t = operate-bare (most_goal at x r) ps t
+end-expression-bare r (in_expression ∷ ps) t = close-group-bare (item r ps) t
+end-expression-bare r (in_left_side ∷ ps) t = close-group-bare (led r ps) t
+
+after-item-bare : (r : Raw) (ps : List Pending) (t : Tok) → after_item (bare_raw r) (bares ps) (bare_tok t) ≡ option_map bare_flat (after_item r ps t)
+after-item-bare r ps (star_sign at) = ap (multiply item_want nowhere) (take-product-bare r ps)
+after-item-bare r ps (plus_sign at) = ap (add item_want by_plus nowhere) (take-both-bare r ps)
+after-item-bare r ps (minus_sign at) = ap (add item_want by_minus nowhere) (take-both-bare r ps)
+after-item-bare r ps t =
+    ap (λ q. end_expression q.0 q.1 (bare_tok t)) (take-both-bare r ps) ∙ end-expression-bare (take_both r ps).0 (take_both r ps).1 t
+
 pub step-bare : (s : Flat) (t : Tok) → flat_step (bare_flat s) (bare_tok t) ≡ option_map bare_flat (flat_step s t)
 step-bare (want ps) (name n) = refl
 step-bare (want ps) _ = refl
@@ -183,6 +326,12 @@ step-bare (part w rs ps) (any at) = ap (λ z. Some (part (bare_word w) z (bares 
 step-bare (part w rs ps) (number n at) = ap (λ z. Some (part (bare_word w) z (bares ps))) (then-bare rs (int at n))
 step-bare (part w rs ps) (paren_left at) = refl
 step-bare (part w rs ps) (load_arrow at) = load-bare w rs at ps
+step-bare (part w rs ps) (is_sign at) = after-word-bare w rs ps (is_sign at)
+step-bare (part w rs ps) (most_sign at) = after-word-bare w rs ps (most_sign at)
+step-bare (part w rs ps) (less_sign at) = after-word-bare w rs ps (less_sign at)
+step-bare (part w rs ps) (plus_sign at) = after-word-bare w rs ps (plus_sign at)
+step-bare (part w rs ps) (minus_sign at) = after-word-bare w rs ps (minus_sign at)
+step-bare (part w rs ps) (star_sign at) = after-word-bare w rs ps (star_sign at)
 step-bare (part w rs ps) t = part-bare w rs ps t
 step-bare (whole r ps) t = operate-bare r ps t
 step-bare (binder q at ps) (name n) = refl
@@ -198,10 +347,40 @@ step-bare (term_part w rs ps) (number n at) = ap (λ z. Some (term_part (bare_wo
 step-bare (term_part w rs ps) (paren_left at) = refl
 step-bare (term_part w rs ps) t = term-part-bare w rs ps t
 step-bare (term_whole r ps) t = term-operate-bare r ps t
+step-bare (plain r ps) t = after-plain-bare r ps t
+step-bare (led r ps) t = after-led-bare r ps t
+step-bare (lead_want ps) (name n) = refl
+step-bare (lead_want ps) _ = refl
+step-bare (item_want ps) (name n) = refl
+step-bare (item_want ps) _ = refl
+step-bare (item r ps) t = after-item-bare r ps t
 
 end-bare : (r : Raw) (ps : List Pending) → end_with (bare_raw r) (bares ps) ≡ option_map bare_raw (end_with r ps)
 end-bare r [] = refl
 end-bare r (p ∷ ps) = refl
+
+final-goal-bare : (r : Raw) (ps : List Pending)
+    → (let q = reduce level.Close (bare_raw r) (bares ps) in end_with q.0 q.1) ≡ option_map bare_raw (let q = reduce level.Close r ps in end_with q.0 q.1)
+final-goal-bare r ps = ap (λ q. end_with q.0 q.1) (reduce-bare level.Close ps r) ∙ end-bare (reduce level.Close r ps).0 (reduce level.Close r ps).1
+
+final-expression-bare : (r : Raw) (ps : List Pending) → final_expression (bare_raw r) (bares ps) ≡ option_map bare_raw (final_expression r ps)
+final-expression-bare r [] = refl
+final-expression-bare r (operand o at x ∷ ps) = refl
+final-expression-bare r (loading at n rs ∷ ps) = refl
+final-expression-bare r (in_bracket ∷ ps) = refl
+final-expression-bare r (in_brace at ∷ ps) = refl
+final-expression-bare r (in_quantifier q at n ∷ ps) = refl
+final-expression-bare r (in_atom w rs ∷ ps) = refl
+final-expression-bare r (in_argument w rs ∷ ps) = refl
+final-expression-bare r (in_group ∷ ps) = refl
+final-expression-bare r (cell at x ∷ ps) = refl
+final-expression-bare r (added o at x ∷ ps) = refl
+final-expression-bare r (multiplied at x ∷ ps) = refl
+final-expression-bare r (valuing at x ∷ ps) = final-goal-bare (is_goal at x r) ps
+final-expression-bare r (testing by_less at x ∷ ps) = final-goal-bare (less_goal at x r) ps
+final-expression-bare r (testing by_most at x ∷ ps) = final-goal-bare (most_goal at x r) ps
+final-expression-bare r (in_expression ∷ ps) = refl
+final-expression-bare r (in_left_side ∷ ps) = refl
 
 pub final-bare : (s : Flat) → flat_final (bare_flat s) ≡ option_map bare_raw (flat_final s)
 final-bare (part (lower n) rs ps) = ap (λ q. end_with q.0 q.1) (reduce-bare level.Close ps (head n rs)) ∙ end-bare (reduce level.Close (head n rs) ps).0 (reduce level.Close (head n rs) ps).1
@@ -213,3 +392,8 @@ final-bare (slash q at w ps) = refl
 final-bare (term_want ps) = refl
 final-bare (term_part w rs ps) = refl
 final-bare (term_whole r ps) = refl
+final-bare (plain r ps) = refl
+final-bare (led r ps) = refl
+final-bare (lead_want ps) = refl
+final-bare (item_want ps) = refl
+final-bare (item r ps) = ap (λ q. final_expression q.0 q.1) (take-both-bare r ps) ∙ final-expression-bare (take_both r ps).0 (take_both r ps).1

@@ -34,6 +34,12 @@ no-bracket (frame.Atom x from) h texts trees args ps r = refl
 no-bracket (frame.Application x from) h texts trees args ps r = refl
 no-bracket frame.Group h texts trees args ps r = refl
 no-bracket (frame.Cell at l) h texts trees args ps r = refl
+no-bracket (frame.Sum o at first) h texts trees args ps r = refl
+no-bracket (frame.Product at first) h texts trees args ps r = refl
+no-bracket (frame.Is at first) h texts trees args ps r = refl
+no-bracket (frame.Comparison o at first) h texts trees args ps r = refl
+no-bracket frame.NumberGroup h texts trees args ps r = refl
+no-bracket frame.LeadGroup h texts trees args ps r = refl
 
 pub no-brace : (f : Frame) → ((at : Place) → f ≡ frame.Brace at → ⊥) → (texts : List (List ℕ)) (trees : List Raw) (args : List RawAt) (ps : List Pending) (r : Raw) → close_brace r (frame_view texts trees args f ∷ ps) ≡ None
 no-brace (frame.Front (prefix.Operator o at l)) h texts trees args ps r = refl
@@ -45,6 +51,12 @@ no-brace (frame.Atom x from) h texts trees args ps r = refl
 no-brace (frame.Application x from) h texts trees args ps r = refl
 no-brace frame.Group h texts trees args ps r = refl
 no-brace (frame.Cell at l) h texts trees args ps r = refl
+no-brace (frame.Sum o at first) h texts trees args ps r = refl
+no-brace (frame.Product at first) h texts trees args ps r = refl
+no-brace (frame.Is at first) h texts trees args ps r = refl
+no-brace (frame.Comparison o at first) h texts trees args ps r = refl
+no-brace frame.NumberGroup h texts trees args ps r = refl
+no-brace frame.LeadGroup h texts trees args ps r = refl
 
 pub no-term : (f : Frame) → ((x : Word) (from : ℕ) → f ≡ frame.Atom x from → ⊥) → ((x : Word) (from : ℕ) → f ≡ frame.Application x from → ⊥) → (f ≡ frame.Group → ⊥)
     → (texts : List (List ℕ)) (trees : List Raw) (args : List RawAt) (ps : List Pending) (r : Raw) → close_term r (frame_view texts trees args f ∷ ps) ≡ None
@@ -57,6 +69,12 @@ no-term (frame.Atom x from) h i j texts trees args ps r = absurd (h x from refl)
 no-term (frame.Application x from) h i j texts trees args ps r = absurd (i x from refl)
 no-term frame.Group h i j texts trees args ps r = absurd (j refl)
 no-term (frame.Cell at l) h i j texts trees args ps r = refl
+no-term (frame.Sum o at first) h i j texts trees args ps r = refl
+no-term (frame.Product at first) h i j texts trees args ps r = refl
+no-term (frame.Is at first) h i j texts trees args ps r = refl
+no-term (frame.Comparison o at first) h i j texts trees args ps r = refl
+no-term frame.NumberGroup h i j texts trees args ps r = refl
+no-term frame.LeadGroup h i j texts trees args ps r = refl
 
 -- the end of a formula
 module _ (old new : Waiting) (i j : RawAt) (r : Reduced Close old new i j) where

@@ -1,10 +1,10 @@
 -- Each parse tree of a formula is found again from its tokens.
 use Rattle.std.proofs.Common.{◌≡◌, Bool, false, List, [], ◌∷◌, ◌++◌, Option, Some, None, option_and_then, refl, sym, ◌∙◌, ap, append_assoc, append-nil}
 use Rattle.ll_lexer.specs.declared.Place.{Place}
-use Rattle.ll_parser.specs.Tokens.{Identifier, Tok, name, comma, ampersand, semicolon, paren_right, brace_right, cons_sign, right_arrow, lolli, load_arrow}
+use Rattle.ll_parser.specs.Tokens.{Identifier, Tok, name, comma, ampersand, semicolon, paren_right, brace_right, cons_sign, right_arrow, lolli, load_arrow, is_sign, star_sign}
 use Rattle.ll_parser.specs.declared.Quantifier.TheVariants as quantifier
-use Rattle.ll_parser.specs.Grammar.{Word, lower, upper, Term, of_app, cons, App, applied, app_any, app_number, app_bracket, Simple, simple_word, simple_any, simple_number, simple_bracket, Simples, no_more, and_then, ClauseOp, by_colon, by_left, by_lolli, by_right, Formula, of_arrow, clause, Arrow, of_sum, implies, loads, Sum, of_with, plus, With, of_tensor, with, Tensor, of_primary, times, Primary, truly, erased, bracket, brace, quantified, atom, word_token, clause_token, term_tokens, app_tokens, simple_tokens, simples_tokens, formula_tokens, arrow_tokens, sum_tokens, with_tokens, tensor_tokens, primary_tokens}
-use Rattle.ll_parser.proofs.Machine.{Factor, factor, Share, share, Part, part, Left, implying, loading, Before, nothing, after_clause, Scope, scope, fresh, Frame, in_bracket, in_brace, in_quantifier, Cell, cell, TermFrame, in_argument, in_group, Base, base, State, want, whole, term_want, term_whole, fold_factors, fold_shares, fold_parts, fold_lefts, fold_before, up_to_with, up_to_sum, up_to_formula, fold_cells, Shut, shut, shut_whole, shut_right, shut_brace, Closed, closed, shut_end, term_closed, parse, start}
+use Rattle.ll_parser.specs.Grammar.{Word, lower, upper, Term, of_app, cons, App, applied, app_any, app_number, app_bracket, Simple, simple_word, simple_any, simple_number, simple_bracket, Simples, no_more, and_then, ClauseOp, by_colon, by_left, by_lolli, by_right, Formula, of_arrow, clause, Arrow, of_sum, implies, loads, Sum, of_with, plus, With, of_tensor, with, Tensor, of_primary, times, Primary, truly, erased, bracket, brace, quantified, atom, word_token, clause_token, term_tokens, app_tokens, simple_tokens, simples_tokens, formula_tokens, arrow_tokens, sum_tokens, with_tokens, tensor_tokens, primary_tokens, SumOp, by_plus, by_minus, TestOp, by_less, by_most, Plain, plain_word, plain_any, plain_number, Expr, of_product, adds, Product, of_item, multiplies, Item, item_plain, item_bracket, First, first_plain, first_times, Lead, of_first, lead_adds, valued, tested, plain_token, add_token, test_token, expr_tokens, product_tokens, item_tokens, first_tokens, lead_tokens}
+use Rattle.ll_parser.proofs.Machine.{Factor, factor, Share, share, Part, part, Left, implying, loading, Before, nothing, after_clause, Scope, scope, fresh, Frame, in_bracket, in_brace, in_quantifier, Cell, cell, TermFrame, in_argument, in_group, Base, base, State, want, whole, term_want, term_whole, fold_factors, fold_shares, fold_parts, fold_lefts, fold_before, up_to_with, up_to_sum, up_to_formula, fold_cells, Shut, shut, shut_whole, shut_right, shut_brace, Closed, closed, shut_end, term_closed, parse, start, Hole, first_hole, times_hole, sum_hole, both_hole, LeadHole, lead_times, lead_sum, lead_both, value_of, test_of, Around, on_right, within, in_lead, in_item, led, lead_want, expr_want, fill, fill_lead, star_hole, star_lead, settled}
 
 -- ---- terms
 
@@ -61,6 +61,162 @@ arguments-run (and_then ss x) w s k ts =
 atom-run : (w : Word) (ss : Simples) (s : Scope) (k : List Frame) (ts : List Tok) → parse (want s k) (word_token w ∷ (simples_tokens ss ++ ts)) ≡ parse (whole (atom w ss) s k) ts
 atom-run (lower n) ss s k ts = arguments-run ss (lower n) s k ts
 atom-run (upper n) ss s k ts = arguments-run ss (upper n) s k ts
+
+-- ---- expressions
+
+-- behind a left side: an atom without arguments is one too
+abbrev pub led_state : Lead → Scope → List Frame → State
+led_state (of_first (first_plain (plain_word w))) s k = whole (atom w no_more) s k
+led_state l s k = led l s k
+
+-- the part of an expression in front of a product
+data Front : Type 0 where
+  no_front : Front
+  front : Expr → SumOp → Place → Front
+
+abbrev hole_behind : Front → Hole
+hole_behind no_front = first_hole
+hole_behind (front e o at) = sum_hole e o at
+
+abbrev with_product : Front → Product → Expr
+with_product no_front p = of_product p
+with_product (front e o at) p = adds e o at p
+
+star-step : (e : Expr) (at : Place) (a : Around) (s : Scope) (k : List Frame) (ts : List Tok) → parse (settled e a s k) (star_sign at ∷ ts)
+    ≡ parse (expr_want (star_hole e at) a s k) ts
+star-step e at (on_right (value_of x b)) s k ts = refl
+star-step e at (on_right (test_of l c b)) s k ts = refl
+star-step e at (within i) s k ts = refl
+
+add-step : (e : Expr) (o : SumOp) (at : Place) (a : Around) (s : Scope) (k : List Frame) (ts : List Tok)
+    → parse (settled e a s k) (add_token o at ∷ ts) ≡ parse (expr_want (sum_hole e o at) a s k) ts
+add-step e by_plus at (on_right (value_of x b)) s k ts = refl
+add-step e by_plus at (on_right (test_of l c b)) s k ts = refl
+add-step e by_plus at (within i) s k ts = refl
+add-step e by_minus at (on_right (value_of x b)) s k ts = refl
+add-step e by_minus at (on_right (test_of l c b)) s k ts = refl
+add-step e by_minus at (within i) s k ts = refl
+
+mutual
+  item-run : (x : Item) (h : Hole) (a : Around) (s : Scope) (k : List Frame) (ts : List Tok) → parse (expr_want h a s k) (item_tokens x ++ ts)
+      ≡ parse (settled (fill h x) a s k) ts
+  item-run (item_plain (plain_word (lower n))) h a s k ts = refl
+  item-run (item_plain (plain_word (upper n))) h a s k ts = refl
+  item-run (item_plain (plain_any at)) h a s k ts = refl
+  item-run (item_plain (plain_number n at)) h a s k ts = refl
+  item-run (item_bracket at e end) h a s k ts =
+      ap (parse (expr_want first_hole (within (in_item at h a)) s k)) (append_assoc (expr_tokens e) (paren_right end ∷ []) ts)
+      ∙ expr-run e (within (in_item at h a)) s k (paren_right end ∷ ts)
+
+  product-run : (p : Product) (c : Front) (a : Around) (s : Scope) (k : List Frame) (ts : List Tok)
+      → parse (expr_want (hole_behind c) a s k) (product_tokens p ++ ts) ≡ parse (settled (with_product c p) a s k) ts
+  product-run (of_item x) no_front a s k ts = item-run x first_hole a s k ts
+  product-run (of_item x) (front e o b) a s k ts = item-run x (sum_hole e o b) a s k ts
+  product-run (multiplies p at x) no_front a s k ts =
+      ap (parse (expr_want first_hole a s k)) (append_assoc (product_tokens p) (star_sign at ∷ item_tokens x) ts)
+      ∙ product-run p no_front a s k (star_sign at ∷ (item_tokens x ++ ts)) ∙ star-step (of_product p) at a s k (item_tokens x ++ ts)
+      ∙ item-run x (times_hole p at) a s k ts
+  product-run (multiplies p at x) (front e o b) a s k ts =
+      ap (parse (expr_want (sum_hole e o b) a s k)) (append_assoc (product_tokens p) (star_sign at ∷ item_tokens x) ts)
+      ∙ product-run p (front e o b) a s k (star_sign at ∷ (item_tokens x ++ ts)) ∙ star-step (adds e o b p) at a s k (item_tokens x ++ ts)
+      ∙ item-run x (both_hole e o b p at) a s k ts
+
+  expr-run : (e : Expr) (a : Around) (s : Scope) (k : List Frame) (ts : List Tok) → parse (expr_want first_hole a s k) (expr_tokens e ++ ts)
+      ≡ parse (settled e a s k) ts
+  expr-run (of_product p) a s k ts = product-run p no_front a s k ts
+  expr-run (adds e o at p) a s k ts =
+      ap (parse (expr_want first_hole a s k)) (append_assoc (expr_tokens e) (add_token o at ∷ product_tokens p) ts)
+      ∙ expr-run e a s k (add_token o at ∷ (product_tokens p ++ ts)) ∙ add-step e o at a s k (product_tokens p ++ ts) ∙ product-run p (front e o at) a s k ts
+
+-- ---- the left side of a comparison
+
+plain-run : (x : Plain) (s : Scope) (k : List Frame) (ts : List Tok) → parse (want s k) (plain_token x ∷ ts)
+    ≡ parse (led_state (of_first (first_plain x)) s k) ts
+plain-run (plain_word (lower n)) s k ts = refl
+plain-run (plain_word (upper n)) s k ts = refl
+plain-run (plain_any at) s k ts = refl
+plain-run (plain_number n at) s k ts = refl
+
+is-led : (x : Plain) (at : Place) (s : Scope) (k : List Frame) (ts : List Tok) → parse (led_state (of_first (first_plain x)) s k) (is_sign at ∷ ts)
+    ≡ parse (expr_want first_hole (on_right (value_of x at)) s k) ts
+is-led (plain_word w) at s k ts = refl
+is-led (plain_any b) at s k ts = refl
+is-led (plain_number n b) at s k ts = refl
+
+star-led : (l : Lead) (at : Place) (s : Scope) (k : List Frame) (ts : List Tok) → parse (led_state l s k) (star_sign at ∷ ts)
+    ≡ parse (lead_want (star_lead l at) s k) ts
+star-led (of_first (first_plain (plain_word w))) at s k ts = refl
+star-led (of_first (first_plain (plain_any b))) at s k ts = refl
+star-led (of_first (first_plain (plain_number n b))) at s k ts = refl
+star-led (of_first (first_times f b x)) at s k ts = refl
+star-led (lead_adds l o b p) at s k ts = refl
+
+add-led : (l : Lead) (o : SumOp) (at : Place) (s : Scope) (k : List Frame) (ts : List Tok) → parse (led_state l s k) (add_token o at ∷ ts)
+    ≡ parse (lead_want (lead_sum l o at) s k) ts
+add-led (of_first (first_plain (plain_word w))) by_plus at s k ts = refl
+add-led (of_first (first_plain (plain_any b))) by_plus at s k ts = refl
+add-led (of_first (first_plain (plain_number n b))) by_plus at s k ts = refl
+add-led (of_first (first_times f b x)) by_plus at s k ts = refl
+add-led (lead_adds l o b p) by_plus at s k ts = refl
+add-led (of_first (first_plain (plain_word w))) by_minus at s k ts = refl
+add-led (of_first (first_plain (plain_any b))) by_minus at s k ts = refl
+add-led (of_first (first_plain (plain_number n b))) by_minus at s k ts = refl
+add-led (of_first (first_times f b x)) by_minus at s k ts = refl
+add-led (lead_adds l o b p) by_minus at s k ts = refl
+
+test-led : (l : Lead) (c : TestOp) (at : Place) (s : Scope) (k : List Frame) (ts : List Tok) → parse (led_state l s k) (test_token c at ∷ ts)
+    ≡ parse (expr_want first_hole (on_right (test_of l c at)) s k) ts
+test-led (of_first (first_plain (plain_word w))) by_less at s k ts = refl
+test-led (of_first (first_plain (plain_any b))) by_less at s k ts = refl
+test-led (of_first (first_plain (plain_number n b))) by_less at s k ts = refl
+test-led (of_first (first_times f b x)) by_less at s k ts = refl
+test-led (lead_adds l o b p) by_less at s k ts = refl
+test-led (of_first (first_plain (plain_word w))) by_most at s k ts = refl
+test-led (of_first (first_plain (plain_any b))) by_most at s k ts = refl
+test-led (of_first (first_plain (plain_number n b))) by_most at s k ts = refl
+test-led (of_first (first_times f b x)) by_most at s k ts = refl
+test-led (lead_adds l o b p) by_most at s k ts = refl
+
+lead-item-run : (x : Item) (h : LeadHole) (s : Scope) (k : List Frame) (ts : List Tok) → parse (lead_want h s k) (item_tokens x ++ ts)
+    ≡ parse (led (fill_lead h x) s k) ts
+lead-item-run (item_plain (plain_word (lower n))) h s k ts = refl
+lead-item-run (item_plain (plain_word (upper n))) h s k ts = refl
+lead-item-run (item_plain (plain_any at)) h s k ts = refl
+lead-item-run (item_plain (plain_number n at)) h s k ts = refl
+lead-item-run (item_bracket at e end) h s k ts =
+    ap (parse (expr_want first_hole (within (in_lead at h)) s k)) (append_assoc (expr_tokens e) (paren_right end ∷ []) ts)
+    ∙ expr-run e (within (in_lead at h)) s k (paren_right end ∷ ts)
+
+lead-product-run : (p : Product) (l : Lead) (o : SumOp) (at : Place) (s : Scope) (k : List Frame) (ts : List Tok)
+    → parse (lead_want (lead_sum l o at) s k) (product_tokens p ++ ts) ≡ parse (led (lead_adds l o at p) s k) ts
+lead-product-run (of_item x) l o at s k ts = lead-item-run x (lead_sum l o at) s k ts
+lead-product-run (multiplies p b x) l o at s k ts =
+    ap (parse (lead_want (lead_sum l o at) s k)) (append_assoc (product_tokens p) (star_sign b ∷ item_tokens x) ts)
+    ∙ lead-product-run p l o at s k (star_sign b ∷ (item_tokens x ++ ts)) ∙ lead-item-run x (lead_both l o at p b) s k ts
+
+first-run : (f : First) (s : Scope) (k : List Frame) (ts : List Tok) → parse (want s k) (first_tokens f ++ ts) ≡ parse (led_state (of_first f) s k) ts
+first-run (first_plain x) s k ts = plain-run x s k ts
+first-run (first_times f at x) s k ts =
+    ap (parse (want s k)) (append_assoc (first_tokens f) (star_sign at ∷ item_tokens x) ts)
+    ∙ first-run f s k (star_sign at ∷ (item_tokens x ++ ts)) ∙ star-led (of_first f) at s k (item_tokens x ++ ts) ∙ lead-item-run x (lead_times f at) s k ts
+
+lead-run : (l : Lead) (s : Scope) (k : List Frame) (ts : List Tok) → parse (want s k) (lead_tokens l ++ ts) ≡ parse (led_state l s k) ts
+lead-run (of_first f) s k ts = first-run f s k ts
+lead-run (lead_adds l o at p) s k ts =
+    ap (parse (want s k)) (append_assoc (lead_tokens l) (add_token o at ∷ product_tokens p) ts)
+    ∙ lead-run l s k (add_token o at ∷ (product_tokens p ++ ts)) ∙ add-led l o at s k (product_tokens p ++ ts) ∙ lead-product-run p l o at s k ts
+
+-- whole-number goals
+valued-run : (x : Plain) (at : Place) (e : Expr) (s : Scope) (k : List Frame) (ts : List Tok)
+    → parse (want s k) (plain_token x ∷ is_sign at ∷ (expr_tokens e ++ ts)) ≡ parse (whole (valued x at e) s k) ts
+valued-run x at e s k ts =
+    plain-run x s k (is_sign at ∷ (expr_tokens e ++ ts)) ∙ is-led x at s k (expr_tokens e ++ ts) ∙ expr-run e (on_right (value_of x at)) s k ts
+
+tested-run : (l : Lead) (c : TestOp) (at : Place) (e : Expr) (s : Scope) (k : List Frame) (ts : List Tok)
+    → parse (want s k) ((lead_tokens l ++ test_token c at ∷ expr_tokens e) ++ ts) ≡ parse (whole (tested l c at e) s k) ts
+tested-run l c at e s k ts =
+    ap (parse (want s k)) (append_assoc (lead_tokens l) (test_token c at ∷ expr_tokens e) ts)
+    ∙ lead-run l s k (test_token c at ∷ (expr_tokens e ++ ts)) ∙ test-led l c at s k (expr_tokens e ++ ts) ∙ expr-run e (on_right (test_of l c at)) s k ts
 
 -- ---- what closes a formula
 
@@ -145,6 +301,8 @@ mutual
       ap (parse (want fresh (in_brace at s ∷ k))) (append_assoc (formula_tokens f) (brace_right end ∷ []) ts)
       ∙ formula-closes f (in_brace at s ∷ k) (brace_right end ∷ ts) (at_brace_right end ts)
   primary-run (atom w ss) s k ts = atom-run w ss s k ts
+  primary-run (valued x at e) s k ts = valued-run x at e s k ts
+  primary-run (tested l c at e) s k ts = tested-run l c at e s k ts
 
   tensor-ends : (t : Tensor false) (b : Before) (ls : List Left) (ws : List Part) (qs : List Share) (ps : List Factor) (k : List Frame) → TensorEnds t b ls ws qs ps k
   tensor-ends (of_primary p) b ls ws qs ps k = record { last = p; factors = ps; folded = refl; runs = λ ts. primary-run p (scope b ls ws qs ps) k ts }
@@ -252,6 +410,8 @@ mutual
   primary-closes (quantified quantifier.Exists at (lower n) sl f) s k ts c = formula-closes f (in_quantifier quantifier.Exists at (lower n) sl s ∷ k) ts c
   primary-closes (quantified quantifier.Exists at (upper n) sl f) s k ts c = formula-closes f (in_quantifier quantifier.Exists at (upper n) sl s ∷ k) ts c
   primary-closes (atom w ss) s k ts c = atom-run w ss s k ts ∙ whole-closes (atom w ss) s k ts c
+  primary-closes (valued x at e) s k ts c = valued-run x at e s k ts ∙ whole-closes (valued x at e) s k ts c
+  primary-closes (tested l b at e) s k ts c = tested-run l b at e s k ts ∙ whole-closes (tested l b at e) s k ts c
 
   tensor-closes : {o : Bool} (t : Tensor o) (b : Before) (ls : List Left) (ws : List Part) (qs : List Share) (ps : List Factor) (k : List Frame) (ts : List Tok) → Closes ts → parse (want (scope b ls ws qs ps) k) (tensor_tokens t ++ ts) ≡ resume (shut k (fold_before b (fold_lefts ls (of_sum (fold_parts ws (of_with (fold_shares qs (of_tensor (fold_factors ps t))))))))) ts
   tensor-closes (of_primary p) b ls ws qs ps k ts c = primary-closes p (scope b ls ws qs ps) k ts c

@@ -5,7 +5,7 @@ use Rattle.std.proofs.lemmas.List.{take_all, take-append-drop, length-take}
 use Rattle.std.proofs.Math.Seq.{take-append-add}
 use Rattle.ll_lexer.specs.declared.Place.{Place}
 use Rattle.ll_lexer.specs.declared.Fault.{Fault}
-use Rattle.ll_parser.specs.Tokens.{Tok, name, variable, any, number, true_word, erase_word, forall_word, exists_word, module_word, local_word, linear_word, dot, comma, ampersand, semicolon, paren_left, paren_right, brace_left, brace_right, backslash, cons_sign, colon_dash, left_arrow, right_arrow, lolli, load_arrow, tok_place}
+use Rattle.ll_parser.specs.Tokens.{Tok, name, variable, any, number, true_word, erase_word, forall_word, exists_word, module_word, local_word, linear_word, dot, comma, ampersand, semicolon, paren_left, paren_right, brace_left, brace_right, backslash, cons_sign, colon_dash, left_arrow, right_arrow, lolli, load_arrow, is_sign, most_sign, less_sign, plus_sign, minus_sign, star_sign, tok_place}
 use Rattle.ll_parser.specs.Text.{Language}
 use Rattle.ll_parser.specs.Reads.{Derives, Begins, open_after, Within, Reads, Stands, opens, HasFault, bad_token, ends_early, too_many_open}
 use Rattle.ll_parser.proofs.Verdict.{open-snoc}
@@ -41,6 +41,12 @@ opens-more (cons_sign at) n h = absurd cc
 opens-more (colon_dash at) n h = absurd cc
 opens-more (left_arrow at) n h = absurd cc
 opens-more (right_arrow at) n h = absurd cc
+opens-more (is_sign at) n h = absurd cc
+opens-more (most_sign at) n h = absurd cc
+opens-more (less_sign at) n h = absurd cc
+opens-more (plus_sign at) n h = absurd cc
+opens-more (minus_sign at) n h = absurd cc
+opens-more (star_sign at) n h = absurd cc
 opens-more (lolli at) n h = absurd cc
 opens-more (load_arrow at) n h = absurd cc
 

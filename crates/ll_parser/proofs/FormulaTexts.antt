@@ -2,18 +2,14 @@
 use Rattle.std.proofs.Common.{◌≡◌, ℕ, true, false, List, ◌++◌, codes, refl, ◌∙◌, ap}
 use Rattle.ll_parser.specs.declared.Op.TheVariants as op
 use Rattle.ll_parser.specs.Tokens.{Identifier}
-use Rattle.ll_parser.specs.Raw.{Raw, truth, erasure, braces, universal, existential, load, binary, head, anything, int, RawList}
+use Rattle.ll_parser.specs.Raw.{Raw, truth, erasure, braces, universal, existential, load, binary, head, anything, int, RawList, is_goal, less_goal, most_goal}
 use Rattle.ll_parser.specs.Grammar.{word_identifier}
 use Rattle.ll_parser.proofs.PrintedTree.{word_of, arguments_of, to_formula, to_arrow, to_sum, to_with, to_tensor, to_primary, last_formula, last_arrow, last_sum, last_with, last_tensor, followed, ending}
 use Rattle.ll_parser.specs.Printed.{between, clauses, arrows, sums, withs, tensors, primaries, bracketed, arguments_text, bound_text, formula_text}
 use Rattle.ll_parser.proofs.Written.{simples_bytes, formula_bytes, arrow_bytes, sum_bytes, with_bytes, tensor_bytes, primary_bytes}
 use Rattle.ll_parser.proofs.Printable.{AreTerms, IsFormula}
 use Rattle.ll_parser.proofs.PrintedTerms.{word-kept}
-use Rattle.ll_parser.proofs.TermTexts.{arguments-shown}
-
--- both sides of an operator
-sides : (w : List ℕ) {a b c d : List ℕ} → a ≡ b → c ≡ d → a ++ between w c ≡ b ++ between w d
-sides w {b = b} {c = c} h k = ap (λ z. z ++ between w c) h ∙ ap (λ z. b ++ between w z) k
+use Rattle.ll_parser.proofs.TermTexts.{arguments-shown, sides, is-shown, test-shown}
 
 bound-same : (n : Identifier) {a b : List ℕ} → a ≡ b → bound_text (word_identifier (word_of n)) a ≡ bound_text n b
 bound-same n {a = a} h = ap (λ z. bound_text z a) (word-kept n) ∙ ap (bound_text n) h
@@ -42,6 +38,9 @@ mutual
   formula-followed-shown (head n rs) h = head-same n rs h.1
   formula-followed-shown (anything at) h = absurd h
   formula-followed-shown (int at z) h = absurd h
+  formula-followed-shown (is_goal at l r) h = is-shown l r h.0 h.1
+  formula-followed-shown (less_goal at l r) h = test-shown (codes "<") l r h.0 h.1
+  formula-followed-shown (most_goal at l r) h = test-shown (codes "=<") l r h.0 h.1
 
   arrow-followed-shown : (x : Raw) → IsFormula x → arrow_bytes (to_arrow (followed x) (ending x)) ≡ formula_text arrows true x
   arrow-followed-shown (truth at) h = refl
@@ -60,6 +59,9 @@ mutual
   arrow-followed-shown (head n rs) h = head-same n rs h.1
   arrow-followed-shown (anything at) h = absurd h
   arrow-followed-shown (int at z) h = absurd h
+  arrow-followed-shown (is_goal at l r) h = is-shown l r h.0 h.1
+  arrow-followed-shown (less_goal at l r) h = test-shown (codes "<") l r h.0 h.1
+  arrow-followed-shown (most_goal at l r) h = test-shown (codes "=<") l r h.0 h.1
 
   sum-followed-shown : (x : Raw) → IsFormula x → sum_bytes (to_sum (followed x) (ending x)) ≡ formula_text sums true x
   sum-followed-shown (truth at) h = refl
@@ -78,6 +80,9 @@ mutual
   sum-followed-shown (head n rs) h = head-same n rs h.1
   sum-followed-shown (anything at) h = absurd h
   sum-followed-shown (int at z) h = absurd h
+  sum-followed-shown (is_goal at l r) h = is-shown l r h.0 h.1
+  sum-followed-shown (less_goal at l r) h = test-shown (codes "<") l r h.0 h.1
+  sum-followed-shown (most_goal at l r) h = test-shown (codes "=<") l r h.0 h.1
 
   with-followed-shown : (x : Raw) → IsFormula x → with_bytes (to_with (followed x) (ending x)) ≡ formula_text withs true x
   with-followed-shown (truth at) h = refl
@@ -96,6 +101,9 @@ mutual
   with-followed-shown (head n rs) h = head-same n rs h.1
   with-followed-shown (anything at) h = absurd h
   with-followed-shown (int at z) h = absurd h
+  with-followed-shown (is_goal at l r) h = is-shown l r h.0 h.1
+  with-followed-shown (less_goal at l r) h = test-shown (codes "<") l r h.0 h.1
+  with-followed-shown (most_goal at l r) h = test-shown (codes "=<") l r h.0 h.1
 
   tensor-followed-shown : (x : Raw) → IsFormula x → tensor_bytes (to_tensor (followed x) (ending x)) ≡ formula_text tensors true x
   tensor-followed-shown (truth at) h = refl
@@ -114,6 +122,9 @@ mutual
   tensor-followed-shown (head n rs) h = head-same n rs h.1
   tensor-followed-shown (anything at) h = absurd h
   tensor-followed-shown (int at z) h = absurd h
+  tensor-followed-shown (is_goal at l r) h = is-shown l r h.0 h.1
+  tensor-followed-shown (less_goal at l r) h = test-shown (codes "<") l r h.0 h.1
+  tensor-followed-shown (most_goal at l r) h = test-shown (codes "=<") l r h.0 h.1
 
   primary-followed-shown : (x : Raw) → IsFormula x → primary_bytes (to_primary (followed x) (ending x)) ≡ formula_text primaries true x
   primary-followed-shown (truth at) h = refl
@@ -132,6 +143,9 @@ mutual
   primary-followed-shown (head n rs) h = head-same n rs h.1
   primary-followed-shown (anything at) h = absurd h
   primary-followed-shown (int at z) h = absurd h
+  primary-followed-shown (is_goal at l r) h = is-shown l r h.0 h.1
+  primary-followed-shown (less_goal at l r) h = test-shown (codes "<") l r h.0 h.1
+  primary-followed-shown (most_goal at l r) h = test-shown (codes "=<") l r h.0 h.1
 
   pub formula-ending-shown : (x : Raw) → IsFormula x → formula_bytes (last_formula (ending x)) ≡ formula_text clauses false x
   formula-ending-shown (truth at) h = refl
@@ -150,6 +164,9 @@ mutual
   formula-ending-shown (head n rs) h = head-same n rs h.1
   formula-ending-shown (anything at) h = absurd h
   formula-ending-shown (int at z) h = absurd h
+  formula-ending-shown (is_goal at l r) h = is-shown l r h.0 h.1
+  formula-ending-shown (less_goal at l r) h = test-shown (codes "<") l r h.0 h.1
+  formula-ending-shown (most_goal at l r) h = test-shown (codes "=<") l r h.0 h.1
 
   arrow-ending-shown : (x : Raw) → IsFormula x → arrow_bytes (last_arrow (ending x)) ≡ formula_text arrows false x
   arrow-ending-shown (truth at) h = refl
@@ -168,6 +185,9 @@ mutual
   arrow-ending-shown (head n rs) h = head-same n rs h.1
   arrow-ending-shown (anything at) h = absurd h
   arrow-ending-shown (int at z) h = absurd h
+  arrow-ending-shown (is_goal at l r) h = is-shown l r h.0 h.1
+  arrow-ending-shown (less_goal at l r) h = test-shown (codes "<") l r h.0 h.1
+  arrow-ending-shown (most_goal at l r) h = test-shown (codes "=<") l r h.0 h.1
 
   sum-ending-shown : (x : Raw) → IsFormula x → sum_bytes (last_sum (ending x)) ≡ formula_text sums false x
   sum-ending-shown (truth at) h = refl
@@ -186,6 +206,9 @@ mutual
   sum-ending-shown (head n rs) h = head-same n rs h.1
   sum-ending-shown (anything at) h = absurd h
   sum-ending-shown (int at z) h = absurd h
+  sum-ending-shown (is_goal at l r) h = is-shown l r h.0 h.1
+  sum-ending-shown (less_goal at l r) h = test-shown (codes "<") l r h.0 h.1
+  sum-ending-shown (most_goal at l r) h = test-shown (codes "=<") l r h.0 h.1
 
   with-ending-shown : (x : Raw) → IsFormula x → with_bytes (last_with (ending x)) ≡ formula_text withs false x
   with-ending-shown (truth at) h = refl
@@ -204,6 +227,9 @@ mutual
   with-ending-shown (head n rs) h = head-same n rs h.1
   with-ending-shown (anything at) h = absurd h
   with-ending-shown (int at z) h = absurd h
+  with-ending-shown (is_goal at l r) h = is-shown l r h.0 h.1
+  with-ending-shown (less_goal at l r) h = test-shown (codes "<") l r h.0 h.1
+  with-ending-shown (most_goal at l r) h = test-shown (codes "=<") l r h.0 h.1
 
   tensor-ending-shown : (x : Raw) → IsFormula x → tensor_bytes (last_tensor (ending x)) ≡ formula_text tensors false x
   tensor-ending-shown (truth at) h = refl
@@ -222,3 +248,6 @@ mutual
   tensor-ending-shown (head n rs) h = head-same n rs h.1
   tensor-ending-shown (anything at) h = absurd h
   tensor-ending-shown (int at z) h = absurd h
+  tensor-ending-shown (is_goal at l r) h = is-shown l r h.0 h.1
+  tensor-ending-shown (less_goal at l r) h = test-shown (codes "<") l r h.0 h.1
+  tensor-ending-shown (most_goal at l r) h = test-shown (codes "=<") l r h.0 h.1

@@ -134,6 +134,7 @@ spelling kind.True = codes "true"
 spelling kind.Erase = codes "erase"
 spelling kind.Forall = codes "forall"
 spelling kind.Exists = codes "exists"
+spelling kind.Is = codes "is"
 spelling kind.Module = codes "MODULE"
 spelling kind.Local = codes "LOCAL"
 spelling kind.Linear = codes "LINEAR"
@@ -151,6 +152,11 @@ spelling kind.Cons = codes "::"
 spelling kind.ColonDash = codes ":-"
 spelling kind.LeftArrow = codes "<="
 spelling kind.RightArrow = codes "=>"
+spelling kind.Most = codes "=<"
+spelling kind.Less = codes "<"
+spelling kind.Plus = codes "+"
+spelling kind.Minus = codes "-"
+spelling kind.Star = codes "*"
 spelling kind.Lolli = codes "-o"
 spelling kind.LoadArrow = codes "-->"
 
@@ -184,3 +190,8 @@ any-end k h (b ∷ bs) = h b
 
 pub sign : (k : TokenKind) (t : Tok) → IsFixed k → ((at : Place) → bare_tok (tok_by k (spelling k) at) ≡ bare_tok t) → ((b : ℕ) → goes_on k b ≡ false) → Piece Anything (spelling k) (t ∷ [])
 sign k t f b h = token-piece Anything k (spelling k) t (fixed-spelled k f) (fixed-sound k (spelling k) f) b (λ rest p. any-end k h rest)
+
+-- a word or a sign, behind which its bytes end
+pub ended : (k : TokenKind) (t : Tok) → IsFixed k → ((at : Place) → bare_tok (tok_by k (spelling k) at) ≡ bare_tok t)
+    → Piece (λ rest. Ends (goes_on k) rest) (spelling k) (t ∷ [])
+ended k t f b = token-piece (λ rest. Ends (goes_on k) rest) k (spelling k) t (fixed-spelled k f) (fixed-sound k (spelling k) f) b (λ rest p. p)

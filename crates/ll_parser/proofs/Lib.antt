@@ -15,6 +15,7 @@ pub mod StoredLemmas
 pub mod Shown
 pub mod Newest
 pub mod Closing
+pub mod NumberFrames
 pub mod Answer
 pub mod Rows
 pub mod Spelled

@@ -59,6 +59,12 @@ no-front level (frame.Atom x from) h texts trees args = refl
 no-front level (frame.Application x from) h texts trees args = refl
 no-front level frame.Group h texts trees args = refl
 no-front level (frame.Cell at l) h texts trees args = refl
+no-front level (frame.Sum o at first) h texts trees args = refl
+no-front level (frame.Product at first) h texts trees args = refl
+no-front level (frame.Is at first) h texts trees args = refl
+no-front level (frame.Comparison o at first) h texts trees args = refl
+no-front level frame.NumberGroup h texts trees args = refl
+no-front level frame.LeadGroup h texts trees args = refl
 
 pub takes-other : (level : Level) (w : Waiting) (f : Frame) → HasNewest w f → ((p : Prefix) → f ≡ frame.Front p → ⊥) → TakesNone level w w
 takes-other level w f t h = takes-stays level w f t (no-front level f h)
@@ -85,6 +91,12 @@ no-cell (frame.Atom x from) h texts trees args ps r = refl
 no-cell (frame.Application x from) h texts trees args ps r = refl
 no-cell frame.Group h texts trees args ps r = refl
 no-cell (frame.Cell at l) h texts trees args ps r = absurd (h at l refl)
+no-cell (frame.Sum o at first) h texts trees args ps r = refl
+no-cell (frame.Product at first) h texts trees args ps r = refl
+no-cell (frame.Is at first) h texts trees args ps r = refl
+no-cell (frame.Comparison o at first) h texts trees args ps r = refl
+no-cell frame.NumberGroup h texts trees args ps r = refl
+no-cell frame.LeadGroup h texts trees args ps r = refl
 
 pub no-cell-other : (w : Waiting) (f : Frame) → HasNewest w f → ((at : Place) (l : RawAt) → f ≡ frame.Cell at l → ⊥) → HasNoCell w w
 no-cell-other w f t h = record {

@@ -8,9 +8,9 @@ use Rattle.ll_lexer.specs.declared.TokenKind.TheVariants as kind
 use Rattle.ll_lexer.specs.Spelling.{Spells, kind_of, fixed_spellings}
 use Rattle.ll_parser.specs.declared.Quantifier.{Quantifier}
 use Rattle.ll_parser.specs.declared.Quantifier.TheVariants as quantifier
-use Rattle.ll_parser.specs.Tokens.{Identifier, Tok, paren_right, brace_right, cons_sign, comma, ampersand, semicolon, load_arrow, backslash, IsSpelled}
-use Rattle.ll_parser.specs.Raw.{Raw, truth, erasure, braces, universal, existential, load, binary, head, anything, int, RawList, none, more, raws_then}
-use Rattle.ll_parser.specs.Grammar.{Word, lower, upper, Term, of_app, cons, App, applied, app_any, app_number, app_bracket, Simple, simple_word, simple_any, simple_number, simple_bracket, Simples, no_more, and_then, Formula, of_arrow, clause, Arrow, of_sum, implies, loads, Sum, of_with, plus, With, of_tensor, with, Tensor, of_primary, times, Primary, truly, erased, bracket, brace, quantified, atom, word_token, word_identifier, clause_token, arrow_token, term_tokens, app_tokens, simple_tokens, simples_tokens, formula_tokens, arrow_tokens, sum_tokens, with_tokens, tensor_tokens, primary_tokens, term_raw, app_raw, simple_raw, simples_raws, quantifier_raw, formula_raw, arrow_raw, sum_raw, with_raw, tensor_raw, primary_raw}
+use Rattle.ll_parser.specs.Tokens.{Identifier, Tok, paren_right, brace_right, cons_sign, comma, ampersand, semicolon, load_arrow, backslash, IsSpelled, less_sign, most_sign}
+use Rattle.ll_parser.specs.Raw.{Raw, truth, erasure, braces, universal, existential, load, binary, head, anything, int, RawList, none, more, raws_then, is_goal, less_goal, most_goal}
+use Rattle.ll_parser.specs.Grammar.{Word, lower, upper, Term, of_app, cons, App, applied, app_any, app_number, app_bracket, Simple, simple_word, simple_any, simple_number, simple_bracket, Simples, no_more, and_then, Formula, of_arrow, clause, Arrow, of_sum, implies, loads, Sum, of_with, plus, With, of_tensor, with, Tensor, of_primary, times, Primary, truly, erased, bracket, brace, quantified, atom, word_token, word_identifier, clause_token, arrow_token, term_tokens, app_tokens, simple_tokens, simples_tokens, formula_tokens, arrow_tokens, sum_tokens, with_tokens, tensor_tokens, primary_tokens, term_raw, app_raw, simple_raw, simples_raws, quantifier_raw, formula_raw, arrow_raw, sum_raw, with_raw, tensor_raw, primary_raw, Plain, Expr, Lead, valued, tested, by_less, by_most, plain_token, expr_tokens, lead_tokens, plain_raw, expr_raw, lead_raw}
 use Rattle.ll_parser.specs.Printed.{is_cons}
 
 -- a Name that can stand in a text, and a Variable
@@ -39,10 +39,28 @@ abbrev mutual
   IsTerm (existential at n g) = ⊥
   IsTerm (load at n rs g) = ⊥
   IsTerm (binary o at l r) = ⊥
+  IsTerm (is_goal at l r) = ⊥
+  IsTerm (less_goal at l r) = ⊥
+  IsTerm (most_goal at l r) = ⊥
 
   pub AreTerms : RawList → Type 0
   AreTerms none = Unit {0}
   AreTerms (more r rs) = IsTerm r × AreTerms rs
+
+-- all tokens can stand in a text
+abbrev pub Spelled : List Tok → Type 0
+Spelled ts = AllByRecursion IsSpelled ts
+
+-- Whole-number goals stand on both sides of their signs what the grammar has there. So no sign is the head of an argument, the left
+-- side of `is` is a plain term, and the left side of a comparison does not begin with a bracket.
+abbrev pub IsPlainTerm : Raw → Type 0
+IsPlainTerm r = (x : Plain) × Spelled (plain_token x ∷ []) × (plain_raw x ≡ r)
+
+abbrev pub IsExpr : Raw → Type 0
+IsExpr r = (e : Expr) × Spelled (expr_tokens e) × (expr_raw e ≡ r)
+
+abbrev pub IsLead : Raw → Type 0
+IsLead r = (l : Lead) × Spelled (lead_tokens l) × (lead_raw l ≡ r)
 
 abbrev pub IsFormula : Raw → Type 0
 IsFormula (truth at) = Unit {0}
@@ -55,6 +73,9 @@ IsFormula (binary o at l r) = IsFormula l × IsFormula r
 IsFormula (head n rs) = IsWord n × AreTerms rs
 IsFormula (anything at) = ⊥
 IsFormula (int at z) = ⊥
+IsFormula (is_goal at l r) = IsPlainTerm l × IsExpr r
+IsFormula (less_goal at l r) = IsLead l × IsExpr r
+IsFormula (most_goal at l r) = IsLead l × IsExpr r
 
 -- ---- what is known of words
 
@@ -76,9 +97,6 @@ word-no-cons n h = by_test (is_cons n.text) refl
     by_test false e = refl
 
 -- ---- what is read of tokens that can stand in a text
-
-abbrev pub Spelled : List Tok → Type 0
-Spelled ts = AllByRecursion IsSpelled ts
 
 pub spelled-split : (xs ys : List Tok) → Spelled (xs ++ ys) → Spelled xs × Spelled ys
 spelled-split [] ys h = (tt, h)
@@ -162,3 +180,6 @@ mutual
   primary-printable (brace at f end) h = formula-printable f (spelled-split (formula_tokens f) (brace_right end ∷ []) h.1).0
   primary-printable (quantified q at w slash f) h = quantified-printable q at w (formula_raw f) (word-spelled w (backslash slash ∷ formula_tokens f) h.1) (formula-printable f h.1.1.1)
   primary-printable (atom w ss) h = (word-spelled w (simples_tokens ss) h, simples-printable ss h.1)
+  primary-printable (valued x at e) h = ((x, (h.0, tt), refl), (e, h.1.1, refl))
+  primary-printable (tested l by_less at e) h = let k = spelled-split (lead_tokens l) (less_sign at ∷ expr_tokens e) h in ((l, k.0, refl), (e, k.1.1, refl))
+  primary-printable (tested l by_most at e) h = let k = spelled-split (lead_tokens l) (most_sign at ∷ expr_tokens e) h in ((l, k.0, refl), (e, k.1.1, refl))

@@ -1,11 +1,11 @@
 -- The formula that is printed has the raw tree that is printed.
 use Rattle.std.proofs.Common.{◌≡◌, Bool, false, refl, ◌∙◌, ap}
 use Rattle.ll_parser.specs.declared.Op.TheVariants as op
-use Rattle.ll_parser.specs.Raw.{Raw, truth, erasure, braces, universal, existential, load, binary, head, anything, int}
+use Rattle.ll_parser.specs.Raw.{Raw, truth, erasure, braces, universal, existential, load, binary, head, anything, int, is_goal, less_goal, most_goal}
 use Rattle.ll_parser.specs.Grammar.{simples_raws, formula_raw, arrow_raw, sum_raw, with_raw, tensor_raw, primary_raw}
 use Rattle.ll_parser.proofs.PrintedTree.{arguments_of, Any, at_formula, at_arrow, at_sum, at_with, at_tensor, at_primary, Last, last, any_raw, last_raw, to_formula, in_parens, to_arrow, to_sum, to_with, to_tensor, to_primary, last_formula, last_arrow, last_sum, last_with, last_tensor, followed, ending}
 use Rattle.ll_parser.proofs.Printable.{IsFormula}
-use Rattle.ll_parser.proofs.PrintedTerms.{word-kept, arguments-kept}
+use Rattle.ll_parser.proofs.PrintedTerms.{word-kept, arguments-kept, left-kept, lead-side-kept, right-kept}
 
 formula-kept : {o : Bool} (a : Any o) → formula_raw (to_formula a) ≡ any_raw a
 formula-kept (at_formula x) = refl
@@ -117,6 +117,9 @@ mutual
   followed-kept (head n rs) h = ap (λ z. head z (simples_raws (arguments_of rs))) (word-kept n) ∙ ap (head n) (arguments-kept rs h.1)
   followed-kept (anything at) h = absurd h
   followed-kept (int at z) h = absurd h
+  followed-kept (is_goal at l r) h = λ i. is_goal at (left-kept l h.0 i) (right-kept r h.1 i)
+  followed-kept (less_goal at l r) h = λ i. less_goal at (lead-side-kept l h.0 i) (right-kept r h.1 i)
+  followed-kept (most_goal at l r) h = λ i. most_goal at (lead-side-kept l h.0 i) (right-kept r h.1 i)
 
   pub ending-kept : (r : Raw) → IsFormula r → last_raw (ending r) ≡ r
   ending-kept (truth at) h = refl
@@ -135,3 +138,6 @@ mutual
   ending-kept (head n rs) h = ap (λ z. head z (simples_raws (arguments_of rs))) (word-kept n) ∙ ap (head n) (arguments-kept rs h.1)
   ending-kept (anything at) h = absurd h
   ending-kept (int at z) h = absurd h
+  ending-kept (is_goal at l r) h = λ i. is_goal at (left-kept l h.0 i) (right-kept r h.1 i)
+  ending-kept (less_goal at l r) h = λ i. less_goal at (lead-side-kept l h.0 i) (right-kept r h.1 i)
+  ending-kept (most_goal at l r) h = λ i. most_goal at (lead-side-kept l h.0 i) (right-kept r h.1 i)

@@ -3,12 +3,12 @@ use Rattle.std.proofs.Common.{ℕ, zero, suc, Bool, false, [], ◌∷◌}
 use Rattle.ll_parser.specs.declared.Op.TheVariants as op
 use Rattle.ll_parser.specs.declared.Quantifier.TheVariants as quantifier
 use Rattle.ll_parser.specs.Tokens.{comma, ampersand, semicolon, paren_right, brace_right, load_arrow}
-use Rattle.ll_parser.specs.Raw.{Raw, truth, erasure, braces, universal, existential, load, binary, head, anything, int}
-use Rattle.ll_parser.specs.Grammar.{by_colon, by_left, by_lolli, by_right, Formula, of_arrow, clause, Arrow, of_sum, implies, loads, Sum, of_with, plus, With, of_tensor, with, Tensor, of_primary, times, Primary, truly, erased, bracket, brace, quantified, atom, clause_token, arrow_token, simples_tokens, formula_tokens, arrow_tokens, sum_tokens, with_tokens, tensor_tokens, primary_tokens, formula_raw, arrow_raw, sum_raw, with_raw, tensor_raw, primary_raw}
-use Rattle.ll_parser.proofs.PrintedTree.{arguments_of, at_formula, at_arrow, at_sum, at_with, at_tensor, at_primary, Last, last, to_formula, to_arrow, to_sum, to_with, to_tensor, to_primary, last_formula, last_arrow, last_sum, last_with, last_tensor, followed, ending}
+use Rattle.ll_parser.specs.Raw.{Raw, truth, erasure, braces, universal, existential, load, binary, head, anything, int, is_goal, less_goal, most_goal}
+use Rattle.ll_parser.specs.Grammar.{by_colon, by_left, by_lolli, by_right, Formula, of_arrow, clause, Arrow, of_sum, implies, loads, Sum, of_with, plus, With, of_tensor, with, Tensor, of_primary, times, Primary, truly, erased, bracket, brace, quantified, atom, clause_token, arrow_token, simples_tokens, formula_tokens, arrow_tokens, sum_tokens, with_tokens, tensor_tokens, primary_tokens, formula_raw, arrow_raw, sum_raw, with_raw, tensor_raw, primary_raw, valued, tested, by_less, by_most}
+use Rattle.ll_parser.proofs.PrintedTree.{arguments_of, at_formula, at_arrow, at_sum, at_with, at_tensor, at_primary, Last, last, to_formula, to_arrow, to_sum, to_with, to_tensor, to_primary, last_formula, last_arrow, last_sum, last_with, last_tensor, followed, ending, expr_of, lead_of}
 use Rattle.ll_parser.proofs.Printable.{Spelled, spelled-split}
 use Rattle.ll_parser.proofs.Room.{Enough, FormulaRoom, ArrowRoom, SumRoom, WithRoom, TensorRoom, PrimaryRoom}
-use Rattle.ll_parser.proofs.PrintedTermRoom.{enough-more, simples-more, arguments-room}
+use Rattle.ll_parser.proofs.PrintedTermRoom.{enough-more, simples-more, arguments-room, expr-more, lead-more, expr-room, lead-room}
 
 -- ---- more room does no harm
 
@@ -41,6 +41,8 @@ mutual
   primary-more (brace at f end) n h = enough-more (λ m. FormulaRoom m f) (formula-more f) n h
   primary-more (quantified q at w slash f) n h = formula-more f n h
   primary-more (atom w ss) n h = simples-more ss n h
+  primary-more (valued x at e) n h = expr-more e n h
+  primary-more (tested l c at e) n h = (lead-more l n h.0, expr-more e n h.1)
 
 -- ---- one bracket more is room enough for what an operator follows, where there is room for the same behind which it ends
 
@@ -62,6 +64,9 @@ mutual
   formula-followed-more (head x rs) n h = simples-more (arguments_of rs) n h
   formula-followed-more (anything at) n h = tt
   formula-followed-more (int at z) n h = tt
+  formula-followed-more (is_goal at l r) n h = expr-more (expr_of r) n h
+  formula-followed-more (less_goal at l r) n h = (lead-more (lead_of l) n h.0, expr-more (expr_of r) n h.1)
+  formula-followed-more (most_goal at l r) n h = (lead-more (lead_of l) n h.0, expr-more (expr_of r) n h.1)
 
   arrow-followed-more : (y : Raw) (n : ℕ) → ArrowRoom n (last_arrow (ending y)) → ArrowRoom (suc n) (to_arrow (followed y) (ending y))
   arrow-followed-more (truth at) n h = tt
@@ -80,6 +85,9 @@ mutual
   arrow-followed-more (head x rs) n h = simples-more (arguments_of rs) n h
   arrow-followed-more (anything at) n h = tt
   arrow-followed-more (int at z) n h = tt
+  arrow-followed-more (is_goal at l r) n h = expr-more (expr_of r) n h
+  arrow-followed-more (less_goal at l r) n h = (lead-more (lead_of l) n h.0, expr-more (expr_of r) n h.1)
+  arrow-followed-more (most_goal at l r) n h = (lead-more (lead_of l) n h.0, expr-more (expr_of r) n h.1)
 
   sum-followed-more : (y : Raw) (n : ℕ) → SumRoom n (last_sum (ending y)) → SumRoom (suc n) (to_sum (followed y) (ending y))
   sum-followed-more (truth at) n h = tt
@@ -98,6 +106,9 @@ mutual
   sum-followed-more (head x rs) n h = simples-more (arguments_of rs) n h
   sum-followed-more (anything at) n h = tt
   sum-followed-more (int at z) n h = tt
+  sum-followed-more (is_goal at l r) n h = expr-more (expr_of r) n h
+  sum-followed-more (less_goal at l r) n h = (lead-more (lead_of l) n h.0, expr-more (expr_of r) n h.1)
+  sum-followed-more (most_goal at l r) n h = (lead-more (lead_of l) n h.0, expr-more (expr_of r) n h.1)
 
   with-followed-more : (y : Raw) (n : ℕ) → WithRoom n (last_with (ending y)) → WithRoom (suc n) (to_with (followed y) (ending y))
   with-followed-more (truth at) n h = tt
@@ -116,6 +127,9 @@ mutual
   with-followed-more (head x rs) n h = simples-more (arguments_of rs) n h
   with-followed-more (anything at) n h = tt
   with-followed-more (int at z) n h = tt
+  with-followed-more (is_goal at l r) n h = expr-more (expr_of r) n h
+  with-followed-more (less_goal at l r) n h = (lead-more (lead_of l) n h.0, expr-more (expr_of r) n h.1)
+  with-followed-more (most_goal at l r) n h = (lead-more (lead_of l) n h.0, expr-more (expr_of r) n h.1)
 
   tensor-followed-more : (y : Raw) (n : ℕ) → TensorRoom n (last_tensor (ending y)) → TensorRoom (suc n) (to_tensor (followed y) (ending y))
   tensor-followed-more (truth at) n h = tt
@@ -134,6 +148,9 @@ mutual
   tensor-followed-more (head x rs) n h = simples-more (arguments_of rs) n h
   tensor-followed-more (anything at) n h = tt
   tensor-followed-more (int at z) n h = tt
+  tensor-followed-more (is_goal at l r) n h = expr-more (expr_of r) n h
+  tensor-followed-more (less_goal at l r) n h = (lead-more (lead_of l) n h.0, expr-more (expr_of r) n h.1)
+  tensor-followed-more (most_goal at l r) n h = (lead-more (lead_of l) n h.0, expr-more (expr_of r) n h.1)
 
 -- ---- what stands in brackets leaves room for a bracket
 
@@ -154,6 +171,9 @@ primary-enclosed (binary op.Tensor at l r) n h = h
 primary-enclosed (head x rs) n h = simples-more (arguments_of rs) n h
 primary-enclosed (anything at) n h = tt
 primary-enclosed (int at z) n h = tt
+primary-enclosed (is_goal at l r) n h = expr-more (expr_of r) n h
+primary-enclosed (less_goal at l r) n h = (lead-more (lead_of l) n h.0, expr-more (expr_of r) n h.1)
+primary-enclosed (most_goal at l r) n h = (lead-more (lead_of l) n h.0, expr-more (expr_of r) n h.1)
 
 tensor-enclosed : (e : Last) (n : ℕ) → FormulaRoom n (last_formula e) → TensorRoom (suc n) (last_tensor e)
 tensor-enclosed (last o (at_formula x)) n h = h
@@ -219,6 +239,9 @@ tensor-loosened (binary op.Tensor at l r) (suc n) h = tensor-followed-more (bina
 tensor-loosened (head x rs) n h = h
 tensor-loosened (anything at) n h = h
 tensor-loosened (int at z) n h = h
+tensor-loosened (is_goal at l r) n h = h
+tensor-loosened (less_goal at l r) n h = h
+tensor-loosened (most_goal at l r) n h = h
 
 with-loosened : (y : Raw) (n : ℕ) → TensorRoom n (to_tensor (followed y) (ending y)) → WithRoom n (to_with (followed y) (ending y))
 with-loosened (truth at) n h = h
@@ -238,6 +261,9 @@ with-loosened (binary op.Tensor at l r) n h = h
 with-loosened (head x rs) n h = h
 with-loosened (anything at) n h = h
 with-loosened (int at z) n h = h
+with-loosened (is_goal at l r) n h = h
+with-loosened (less_goal at l r) n h = h
+with-loosened (most_goal at l r) n h = h
 
 sum-loosened : (y : Raw) (n : ℕ) → WithRoom n (to_with (followed y) (ending y)) → SumRoom n (to_sum (followed y) (ending y))
 sum-loosened (truth at) n h = h
@@ -257,6 +283,9 @@ sum-loosened (binary op.Tensor at l r) n h = h
 sum-loosened (head x rs) n h = h
 sum-loosened (anything at) n h = h
 sum-loosened (int at z) n h = h
+sum-loosened (is_goal at l r) n h = h
+sum-loosened (less_goal at l r) n h = h
+sum-loosened (most_goal at l r) n h = h
 
 arrow-loosened : (y : Raw) (n : ℕ) → SumRoom n (to_sum (followed y) (ending y)) → ArrowRoom n (to_arrow (followed y) (ending y))
 arrow-loosened (truth at) n h = h
@@ -278,6 +307,9 @@ arrow-loosened (binary op.Tensor at l r) n h = h
 arrow-loosened (head x rs) n h = h
 arrow-loosened (anything at) n h = h
 arrow-loosened (int at z) n h = h
+arrow-loosened (is_goal at l r) n h = h
+arrow-loosened (less_goal at l r) n h = h
+arrow-loosened (most_goal at l r) n h = h
 
 formula-loosened : (y : Raw) (n : ℕ) → ArrowRoom n (to_arrow (followed y) (ending y)) → FormulaRoom n (to_formula (followed y))
 formula-loosened (truth at) n h = h
@@ -298,6 +330,9 @@ formula-loosened (binary op.Tensor at l r) n h = h
 formula-loosened (head x rs) n h = h
 formula-loosened (anything at) n h = h
 formula-loosened (int at z) n h = h
+formula-loosened (is_goal at l r) n h = h
+formula-loosened (less_goal at l r) n h = h
+formula-loosened (most_goal at l r) n h = h
 
 -- ---- the whole formula
 
@@ -358,6 +393,9 @@ mutual
   primary-ending (quantified quantifier.Forall at w slash f) n s h = formula-ending f n s.1.1.1 h
   primary-ending (quantified quantifier.Exists at w slash f) n s h = formula-ending f n s.1.1.1 h
   primary-ending (atom w ss) n s h = arguments-room ss n s.1 h
+  primary-ending (valued x at e) n s h = expr-room e n h
+  primary-ending (tested l by_less at e) n s h = (lead-room l n h.0, expr-room e n h.1)
+  primary-ending (tested l by_most at e) n s h = (lead-room l n h.0, expr-room e n h.1)
 
   primary-followed : (p : Primary false) (n : ℕ) → Spelled (primary_tokens p) → PrimaryRoom n p → PrimaryRoom n (to_primary (followed (primary_raw p)) (ending (primary_raw p)))
   primary-followed (truly at) n s h = tt
@@ -367,3 +405,6 @@ mutual
   primary-followed (brace at f end) zero s h = absurd h
   primary-followed (brace at f end) (suc n) s h = formula-ending f n (spelled-split (formula_tokens f) (brace_right end ∷ []) s.1).0 h
   primary-followed (atom w ss) n s h = arguments-room ss n s.1 h
+  primary-followed (valued x at e) n s h = expr-room e n h
+  primary-followed (tested l by_less at e) n s h = (lead-room l n h.0, expr-room e n h.1)
+  primary-followed (tested l by_most at e) n s h = (lead-room l n h.0, expr-room e n h.1)

@@ -1,11 +1,11 @@
 -- Worked examples: how some formulas and a program are printed, each evaluated by the checker.
-use Rattle.std.proofs.Common.{◌≡◌, ℕ, true, false, List, [], ◌∷◌, ◌++◌, codes, refl, negsuc}
+use Rattle.std.proofs.Common.{◌≡◌, ℕ, true, false, List, [], ◌∷◌, ◌++◌, codes, refl, pos, negsuc}
 use Rattle.std.specs.Fmt.{digits}
 use Rattle.ll_lexer.specs.declared.Place.{Place}
 use Rattle.ll_parser.specs.declared.Op.TheVariants as op
 use Rattle.ll_parser.specs.Tokens.{Identifier}
 use Rattle.ll_parser.specs.Printed.{clauses, formula_text, program_text}
-use Rattle.ll_parser.specs.Raw.{Raw, braces, universal, load, binary, head, anything, int, none, more, cons_raw}
+use Rattle.ll_parser.specs.Raw.{Raw, braces, universal, load, binary, head, anything, int, none, more, cons_raw, is_goal, less_goal, most_goal, sign_raw}
 
 -- the text of a formula
 abbrev somewhere : Place
@@ -121,6 +121,38 @@ arguments = refl
 
 application-beside-cons : text (head (id (codes "p")) (more (cons_raw somewhere (head (id (codes "f")) (more a none)) b) none)) ≡ codes "p (f a::b)"
 application-beside-cons = refl
+
+-- ---- whole-number goals
+
+abbrev signed : List ℕ → Raw → Raw → Raw
+signed w x y = sign_raw w somewhere x y
+
+abbrev number : ℕ → Raw
+number n = int somewhere (pos n)
+
+sum-left-of-star : text (is_goal somewhere a (signed (codes "*") (signed (codes "+") (number 1) (number 2)) (number 3))) ≡ codes "a is (1 + 2) * 3"
+unfolding digits
+sum-left-of-star = refl
+
+product-beside-star : text (is_goal somewhere a (signed (codes "*") (signed (codes "*") b (number 2)) (signed (codes "*") c (number 3))))
+    ≡ codes "a is b * 2 * (c * 3)"
+unfolding digits
+product-beside-star = refl
+
+sums-lean-left : text (less_goal somewhere (signed (codes "-") (signed (codes "-") a b) c) (signed (codes "-") a (signed (codes "+") b c)))
+    ≡ codes "a - b - c < a - (b + c)"
+sums-lean-left = refl
+
+products-in-sums : text (less_goal somewhere (signed (codes "+") (signed (codes "*") a b) c) (signed (codes "-") a (signed (codes "*") b c)))
+    ≡ codes "a * b + c < a - b * c"
+products-in-sums = refl
+
+number-behind-minus : text (most_goal somewhere (signed (codes "-") a (int somewhere (negsuc 0))) (number 2)) ≡ codes "a - -1 =< 2"
+unfolding digits
+number-behind-minus = refl
+
+goals-have-no-brackets : text (to (tensor (is_goal somewhere a b) (less_goal somewhere a b)) (most_goal somewhere a b)) ≡ codes "a is b , a < b -o a =< b"
+goals-have-no-brackets = refl
 
 -- ---- programs
 

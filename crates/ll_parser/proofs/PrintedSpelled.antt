@@ -1,5 +1,5 @@
 -- The tokens of what is printed can stand in a text.
-use Rattle.std.proofs.Common.{◌≡◌, ℕ, Bool, true, false, not, ◌||◌, ◌==◌, List, [], ◌∷◌, codes, inl, inr, refl, sym, subst, arith}
+use Rattle.std.proofs.Common.{◌≡◌, ℕ, Bool, true, false, not, ◌||◌, ◌==◌, List, [], ◌∷◌, codes, inl, inr, refl, sym, subst, arith, ◌++◌}
 use Rattle.std.specs.List.{list_all}
 use Rattle.std.proofs.lemmas.Bool.Decides.{nat_tests}
 use Rattle.ll_lexer.specs.declared.TokenKind.{TokenKind}
@@ -7,12 +7,13 @@ use Rattle.ll_lexer.specs.declared.TokenKind.TheVariants as kind
 use Rattle.ll_lexer.specs.Spelling.{is_lower, is_upper, is_word_byte, is_name, is_variable, fixed_spellings, Spells}
 use Rattle.ll_lexer.proofs.Spelled.{kind-passes, both}
 use Rattle.ll_parser.specs.declared.Op.TheVariants as op
-use Rattle.ll_parser.specs.Tokens.{Identifier, Tok, comma, ampersand, semicolon, paren_right, brace_right, cons_sign, load_arrow, colon_dash, left_arrow, right_arrow, lolli, IsSpelled}
-use Rattle.ll_parser.specs.Raw.{Raw, truth, erasure, braces, universal, existential, load, binary, head, anything, int, RawList, none, more}
-use Rattle.ll_parser.specs.Grammar.{lower, upper, Term, of_app, cons, applied, app_any, app_number, app_bracket, Simples, no_more, and_then, word_token, term_tokens, app_tokens, simple_tokens, simples_tokens, formula_tokens, arrow_tokens, sum_tokens, with_tokens, tensor_tokens, primary_tokens}
+use Rattle.ll_parser.specs.Tokens.{Identifier, Tok, comma, ampersand, semicolon, paren_right, brace_right, cons_sign, load_arrow, colon_dash, left_arrow, right_arrow, lolli, IsSpelled, is_sign, less_sign, most_sign, star_sign}
+use Rattle.ll_parser.specs.Raw.{Raw, truth, erasure, braces, universal, existential, load, binary, head, anything, int, RawList, none, more, is_goal, less_goal, most_goal}
+use Rattle.ll_parser.specs.Grammar.{lower, upper, Term, of_app, cons, applied, app_any, app_number, app_bracket, Simples, no_more, and_then, word_token, term_tokens, app_tokens, simple_tokens, simples_tokens, formula_tokens, arrow_tokens, sum_tokens, with_tokens, tensor_tokens, primary_tokens, Plain, plain_word, plain_any, plain_number, Expr, of_product, adds, Product, of_item, multiplies, Item, item_plain, item_bracket, First, first_plain, first_times, Lead, of_first, lead_adds, by_plus, by_minus, plain_token, add_token, expr_tokens, product_tokens, item_tokens, first_tokens, lead_tokens, plain_raw, expr_raw, product_raw, item_raw, first_raw, lead_raw}
 use Rattle.ll_parser.specs.Printed.{is_cons}
-use Rattle.ll_parser.proofs.PrintedTree.{somewhere, word_of, to_app, to_simple, pick, term_of, terms_of, simples_of, arguments_of, Any, at_formula, at_arrow, at_sum, at_with, at_tensor, at_primary, Last, last, to_formula, in_parens, to_arrow, to_sum, to_with, to_tensor, to_primary, last_formula, last_arrow, last_sum, last_with, last_tensor, followed, ending}
-use Rattle.ll_parser.proofs.Printable.{IsLower, IsUpper, IsWord, HasShape, IsTerm, AreTerms, IsFormula, word-no-cons, Spelled, spelled-join}
+use Rattle.ll_parser.proofs.PrintedTree.{somewhere, word_of, to_app, to_simple, pick, term_of, terms_of, simples_of, arguments_of, Any, at_formula, at_arrow, at_sum, at_with, at_tensor, at_primary, Last, last, to_formula, in_parens, to_arrow, to_sum, to_with, to_tensor, to_primary, last_formula, last_arrow, last_sum, last_with, last_tensor, followed, ending, plain_of, to_product, to_item, expr_of, to_first, lead_of}
+use Rattle.ll_parser.proofs.Printable.{IsLower, IsUpper, IsWord, HasShape, IsTerm, AreTerms, IsFormula, word-no-cons, Spelled, spelled-split, spelled-join, IsPlainTerm, IsExpr, IsLead}
+use Rattle.ll_lexer.specs.declared.Place.{Place}
 
 -- ---- names and variables
 
@@ -105,6 +106,9 @@ mutual
   term-spelled (existential at n g) h = absurd h
   term-spelled (load at n rs g) h = absurd h
   term-spelled (binary o at l r) h = absurd h
+  term-spelled (is_goal at l r) h = absurd h
+  term-spelled (less_goal at l r) h = absurd h
+  term-spelled (most_goal at l r) h = absurd h
 
   simples-spelled : (rs : RawList) (acc : Simples) → AreTerms rs → Spelled (simples_tokens acc) → Spelled (simples_tokens (simples_of acc rs))
   simples-spelled none acc h k = k
@@ -116,6 +120,94 @@ mutual
 
 arguments-spelled : (rs : RawList) → AreTerms rs → Spelled (simples_tokens (arguments_of rs))
 arguments-spelled rs h = simples-spelled rs no_more h tt
+
+-- ---- expressions of whole numbers
+
+plain-spelled : (x : Plain) → Spelled (plain_token x ∷ []) → Spelled (plain_token (plain_of (plain_raw x)) ∷ [])
+plain-spelled (plain_word (lower n)) h = rw (lower-printed n h.0) h
+plain-spelled (plain_word (upper n)) h = rw (upper-printed n h.0) h
+plain-spelled (plain_any at) h = h
+plain-spelled (plain_number z at) h = h
+
+unit-spelled : (x : Plain) → Spelled (plain_token x ∷ []) → Spelled (expr_tokens (expr_of (plain_raw x)))
+unit-spelled (plain_word w) h = plain-spelled (plain_word w) h
+unit-spelled (plain_any at) h = h
+unit-spelled (plain_number z at) h = h
+
+in-brackets : (e : Expr) → Spelled (expr_tokens e) → Spelled (item_tokens (item_bracket somewhere e somewhere))
+in-brackets e h = (tt, spelled-join (expr_tokens e) (paren_right somewhere ∷ []) h (tt, tt))
+
+to-product : (e : Expr) → Spelled (expr_tokens e) → Spelled (product_tokens (to_product e))
+to-product (of_product p) h = h
+to-product (adds e o at p) h = in-brackets (adds e o at p) h
+
+to-item : (e : Expr) → Spelled (expr_tokens e) → Spelled (item_tokens (to_item e))
+to-item (of_product (of_item x)) h = h
+to-item (of_product (multiplies p at x)) h = in-brackets (of_product (multiplies p at x)) h
+to-item (adds e o at p) h = in-brackets (adds e o at p) h
+
+mutual
+  expr-spelled : (e : Expr) → Spelled (expr_tokens e) → Spelled (expr_tokens (expr_of (expr_raw e)))
+  expr-spelled (of_product p) h = product-spelled p h
+  expr-spelled (adds e by_plus at p) h =
+      let k = spelled-split (expr_tokens e) (add_token by_plus at ∷ product_tokens p) h in
+      spelled-join (expr_tokens (expr_of (expr_raw e))) (add_token by_plus at ∷ product_tokens (to_product (expr_of (product_raw p))))
+      (expr-spelled e k.0) (tt, to-product (expr_of (product_raw p)) (product-spelled p k.1.1))
+  expr-spelled (adds e by_minus at p) h =
+      let k = spelled-split (expr_tokens e) (add_token by_minus at ∷ product_tokens p) h in
+      spelled-join (expr_tokens (expr_of (expr_raw e))) (add_token by_minus at ∷ product_tokens (to_product (expr_of (product_raw p))))
+      (expr-spelled e k.0) (tt, to-product (expr_of (product_raw p)) (product-spelled p k.1.1))
+
+  product-spelled : (p : Product) → Spelled (product_tokens p) → Spelled (expr_tokens (expr_of (product_raw p)))
+  product-spelled (of_item x) h = item-spelled x h
+  product-spelled (multiplies p at x) h =
+      let k = spelled-split (product_tokens p) (star_sign at ∷ item_tokens x) h in
+      spelled-join (product_tokens (to_product (expr_of (product_raw p)))) (star_sign at ∷ item_tokens (to_item (expr_of (item_raw x))))
+      (to-product (expr_of (product_raw p)) (product-spelled p k.0)) (tt, to-item (expr_of (item_raw x)) (item-spelled x k.1.1))
+
+  item-spelled : (x : Item) → Spelled (item_tokens x) → Spelled (expr_tokens (expr_of (item_raw x)))
+  item-spelled (item_plain x) h = unit-spelled x h
+  item-spelled (item_bracket at e end) h = expr-spelled e (spelled-split (expr_tokens e) (paren_right end ∷ []) h.1).0
+
+first-tokens : (f : First) → Spelled (lead_tokens (lead_of (first_raw f))) → Spelled (first_tokens (to_first (lead_of (first_raw f))))
+first-tokens (first_plain (plain_word w)) h = h
+first-tokens (first_plain (plain_any at)) h = h
+first-tokens (first_plain (plain_number z at)) h = h
+first-tokens (first_times f at x) h = h
+
+lead-unit-spelled : (x : Plain) → Spelled (plain_token x ∷ []) → Spelled (lead_tokens (lead_of (plain_raw x)))
+lead-unit-spelled (plain_word w) h = plain-spelled (plain_word w) h
+lead-unit-spelled (plain_any at) h = h
+lead-unit-spelled (plain_number z at) h = h
+
+first-spelled : (f : First) → Spelled (first_tokens f) → Spelled (lead_tokens (lead_of (first_raw f)))
+first-spelled (first_plain x) h = lead-unit-spelled x h
+first-spelled (first_times f at x) h =
+    let k = spelled-split (first_tokens f) (star_sign at ∷ item_tokens x) h in
+    spelled-join (first_tokens (to_first (lead_of (first_raw f)))) (star_sign at ∷ item_tokens (to_item (expr_of (item_raw x))))
+    (first-tokens f (first-spelled f k.0)) (tt, to-item (expr_of (item_raw x)) (item-spelled x k.1.1))
+
+lead-spelled : (l : Lead) → Spelled (lead_tokens l) → Spelled (lead_tokens (lead_of (lead_raw l)))
+lead-spelled (of_first f) h = first-spelled f h
+lead-spelled (lead_adds l by_plus at p) h =
+    let k = spelled-split (lead_tokens l) (add_token by_plus at ∷ product_tokens p) h in
+    spelled-join (lead_tokens (lead_of (lead_raw l))) (add_token by_plus at ∷ product_tokens (to_product (expr_of (product_raw p))))
+    (lead-spelled l k.0) (tt, to-product (expr_of (product_raw p)) (product-spelled p k.1.1))
+lead-spelled (lead_adds l by_minus at p) h =
+    let k = spelled-split (lead_tokens l) (add_token by_minus at ∷ product_tokens p) h in
+    spelled-join (lead_tokens (lead_of (lead_raw l))) (add_token by_minus at ∷ product_tokens (to_product (expr_of (product_raw p))))
+    (lead-spelled l k.0) (tt, to-product (expr_of (product_raw p)) (product-spelled p k.1.1))
+
+right-spelled : (r : Raw) → IsExpr r → Spelled (expr_tokens (expr_of r))
+right-spelled r (e, s, q) = subst (λ z. Spelled (expr_tokens (expr_of z))) q (expr-spelled e s)
+
+is-spelled : (at : Place) (l r : Raw) → IsPlainTerm l → IsExpr r → Spelled (plain_token (plain_of l) ∷ is_sign at ∷ expr_tokens (expr_of r))
+is-spelled at l r (x, s, q) h = ((subst (λ z. Spelled (plain_token (plain_of z) ∷ [])) q (plain-spelled x s)).0, (tt, right-spelled r h))
+
+test-spelled : (t : Tok) (l r : Raw) → IsSpelled t → IsLead l → IsExpr r → Spelled (lead_tokens (lead_of l) ++ t ∷ expr_tokens (expr_of r))
+test-spelled t l r f (x, s, q) h =
+    spelled-join (lead_tokens (lead_of l)) (t ∷ expr_tokens (expr_of r)) (subst (λ z. Spelled (lead_tokens (lead_of z))) q (lead-spelled x s))
+    (f, right-spelled r h)
 
 -- ---- formulas
 
@@ -218,6 +310,9 @@ mutual
   followed-spelled (head n rs) h = (word-spelled n h.0, arguments-spelled rs h.1)
   followed-spelled (anything at) h = absurd h
   followed-spelled (int at z) h = absurd h
+  followed-spelled (is_goal at l r) h = is-spelled at l r h.0 h.1
+  followed-spelled (less_goal at l r) h = test-spelled (less_sign at) l r tt h.0 h.1
+  followed-spelled (most_goal at l r) h = test-spelled (most_sign at) l r tt h.0 h.1
 
   pub ending-spelled : (r : Raw) → IsFormula r → Spelled (last_tokens (ending r))
   ending-spelled (truth at) h = (tt, tt)
@@ -236,3 +331,6 @@ mutual
   ending-spelled (head n rs) h = (word-spelled n h.0, arguments-spelled rs h.1)
   ending-spelled (anything at) h = absurd h
   ending-spelled (int at z) h = absurd h
+  ending-spelled (is_goal at l r) h = is-spelled at l r h.0 h.1
+  ending-spelled (less_goal at l r) h = test-spelled (less_sign at) l r tt h.0 h.1
+  ending-spelled (most_goal at l r) h = test-spelled (most_sign at) l r tt h.0 h.1

@@ -2,11 +2,11 @@
 use Rattle.std.proofs.Common.{◌≡◌, ℕ, zero, suc, Bool, true, false, List, [], ◌∷◌, inl, inr}
 use Rattle.ll_parser.specs.Tokens.{Identifier, Tok, paren_right, cons_sign}
 use Rattle.ll_parser.specs.Raw.{Raw, RawList, none, more, raws_then}
-use Rattle.ll_parser.specs.Grammar.{Word, lower, upper, Term, of_app, cons, App, applied, app_any, app_number, app_bracket, Simple, simple_word, simple_any, simple_number, simple_bracket, Simples, no_more, and_then, word_token, word_identifier, term_tokens, app_tokens, simple_tokens, simples_tokens, term_raw, app_raw, simple_raw, simples_raws}
+use Rattle.ll_parser.specs.Grammar.{Word, lower, upper, Term, of_app, cons, App, applied, app_any, app_number, app_bracket, Simple, simple_word, simple_any, simple_number, simple_bracket, Simples, no_more, and_then, word_token, word_identifier, term_tokens, app_tokens, simple_tokens, simples_tokens, term_raw, app_raw, simple_raw, simples_raws, Plain, plain_word, plain_any, plain_number, Expr, of_product, adds, Product, of_item, multiplies, Item, item_plain, item_bracket, First, first_plain, first_times, Lead, of_first, lead_adds, by_plus, by_minus, plain_raw, expr_raw, product_raw, item_raw, first_raw, lead_raw}
 use Rattle.ll_parser.specs.Printed.{is_cons}
-use Rattle.ll_parser.proofs.PrintedTree.{to_app, to_simple, pick, term_of, terms_of, simples_of, arguments_of}
+use Rattle.ll_parser.proofs.PrintedTree.{to_app, to_simple, pick, term_of, terms_of, simples_of, arguments_of, to_product, to_item, expr_of, to_first, lead_of}
 use Rattle.ll_parser.proofs.Printable.{Spelled, spelled-split, word-no-cons}
-use Rattle.ll_parser.proofs.Room.{Enough, TermRoom, AppRoom, SimpleRoom, SimplesRoom}
+use Rattle.ll_parser.proofs.Room.{Enough, TermRoom, AppRoom, SimpleRoom, SimplesRoom, ExprRoom, ProductRoom, ItemRoom, FirstRoom, LeadRoom}
 
 -- ---- more room does no harm
 
@@ -118,3 +118,97 @@ mutual
 -- the arguments that are printed
 pub arguments-room : (ss : Simples) (n : ℕ) → Spelled (simples_tokens ss) → SimplesRoom n ss → SimplesRoom n (arguments_of (simples_raws ss))
 arguments-room ss n s h = simples-of-room (simples_raws ss) no_more n tt (simples-room ss n s h)
+
+-- ---- expressions of whole numbers
+
+mutual
+  pub expr-more : (e : Expr) (n : ℕ) → ExprRoom n e → ExprRoom (suc n) e
+  expr-more (of_product p) n h = product-more p n h
+  expr-more (adds e o at p) n h = (expr-more e n h.0, product-more p n h.1)
+
+  product-more : (p : Product) (n : ℕ) → ProductRoom n p → ProductRoom (suc n) p
+  product-more (of_item x) n h = item-more x n h
+  product-more (multiplies p at x) n h = (product-more p n h.0, item-more x n h.1)
+
+  item-more : (x : Item) (n : ℕ) → ItemRoom n x → ItemRoom (suc n) x
+  item-more (item_plain x) n h = tt
+  item-more (item_bracket at e end) n h = enough-more (λ m. ExprRoom m e) (expr-more e) n h
+
+first-more : (f : First) (n : ℕ) → FirstRoom n f → FirstRoom (suc n) f
+first-more (first_plain x) n h = tt
+first-more (first_times f at x) n h = (first-more f n h.0, item-more x n h.1)
+
+pub lead-more : (l : Lead) (n : ℕ) → LeadRoom n l → LeadRoom (suc n) l
+lead-more (of_first f) n h = first-more f n h
+lead-more (lead_adds l o at p) n h = (lead-more l n h.0, product-more p n h.1)
+
+product-enclosed : (e : Expr) (n : ℕ) → ExprRoom n e → ProductRoom (suc n) (to_product e)
+product-enclosed (of_product p) n h = product-more p n h
+product-enclosed (adds e o at p) n h = h
+
+item-enclosed : (e : Expr) (n : ℕ) → ExprRoom n e → ItemRoom (suc n) (to_item e)
+item-enclosed (of_product (of_item x)) n h = item-more x n h
+item-enclosed (of_product (multiplies p at x)) n h = h
+item-enclosed (adds e o at p) n h = h
+
+plain-expr : (x : Plain) (n : ℕ) → ExprRoom n (expr_of (plain_raw x))
+plain-expr (plain_word w) n = tt
+plain-expr (plain_any at) n = tt
+plain-expr (plain_number z at) n = tt
+
+plain-product : (x : Plain) (n : ℕ) → ProductRoom n (to_product (expr_of (plain_raw x)))
+plain-product (plain_word w) n = tt
+plain-product (plain_any at) n = tt
+plain-product (plain_number z at) n = tt
+
+plain-item : (x : Plain) (n : ℕ) → ItemRoom n (to_item (expr_of (plain_raw x)))
+plain-item (plain_word w) n = tt
+plain-item (plain_any at) n = tt
+plain-item (plain_number z at) n = tt
+
+-- the expression that is printed, by itself, on the right of `+` and `-` or on the left of `*`, and on the right of `*`
+mutual
+  pub expr-room : (e : Expr) (n : ℕ) → ExprRoom n e → ExprRoom n (expr_of (expr_raw e))
+  expr-room (of_product p) n h = product-expr p n h
+  expr-room (adds e by_plus at p) n h = (expr-room e n h.0, product-room p n h.1)
+  expr-room (adds e by_minus at p) n h = (expr-room e n h.0, product-room p n h.1)
+
+  product-expr : (p : Product) (n : ℕ) → ProductRoom n p → ExprRoom n (expr_of (product_raw p))
+  product-expr (of_item x) n h = item-expr x n h
+  product-expr (multiplies p at x) n h = (product-room p n h.0, item-room x n h.1)
+
+  product-room : (p : Product) (n : ℕ) → ProductRoom n p → ProductRoom n (to_product (expr_of (product_raw p)))
+  product-room (of_item x) n h = item-product x n h
+  product-room (multiplies p at x) n h = (product-room p n h.0, item-room x n h.1)
+
+  item-expr : (x : Item) (n : ℕ) → ItemRoom n x → ExprRoom n (expr_of (item_raw x))
+  item-expr (item_plain x) n h = plain-expr x n
+  item-expr (item_bracket at e end) zero h = absurd h
+  item-expr (item_bracket at e end) (suc n) h = expr-more (expr_of (expr_raw e)) n (expr-room e n h)
+
+  item-product : (x : Item) (n : ℕ) → ItemRoom n x → ProductRoom n (to_product (expr_of (item_raw x)))
+  item-product (item_plain x) n h = plain-product x n
+  item-product (item_bracket at e end) zero h = absurd h
+  item-product (item_bracket at e end) (suc n) h = product-enclosed (expr_of (expr_raw e)) n (expr-room e n h)
+
+  item-room : (x : Item) (n : ℕ) → ItemRoom n x → ItemRoom n (to_item (expr_of (item_raw x)))
+  item-room (item_plain x) n h = plain-item x n
+  item-room (item_bracket at e end) zero h = absurd h
+  item-room (item_bracket at e end) (suc n) h = item-enclosed (expr_of (expr_raw e)) n (expr-room e n h)
+
+first-room : (f : First) (n : ℕ) → FirstRoom n f → FirstRoom n (to_first (lead_of (first_raw f)))
+first-room (first_plain (plain_word w)) n h = tt
+first-room (first_plain (plain_any at)) n h = tt
+first-room (first_plain (plain_number z at)) n h = tt
+first-room (first_times f at x) n h = (first-room f n h.0, item-room x n h.1)
+
+first-lead : (f : First) (n : ℕ) → FirstRoom n f → LeadRoom n (lead_of (first_raw f))
+first-lead (first_plain (plain_word w)) n h = tt
+first-lead (first_plain (plain_any at)) n h = tt
+first-lead (first_plain (plain_number z at)) n h = tt
+first-lead (first_times f at x) n h = (first-room f n h.0, item-room x n h.1)
+
+pub lead-room : (l : Lead) (n : ℕ) → LeadRoom n l → LeadRoom n (lead_of (lead_raw l))
+lead-room (of_first f) n h = first-lead f n h
+lead-room (lead_adds l by_plus at p) n h = (lead-room l n h.0, product-room p n h.1)
+lead-room (lead_adds l by_minus at p) n h = (lead-room l n h.0, product-room p n h.1)

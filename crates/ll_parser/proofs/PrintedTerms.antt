@@ -1,12 +1,13 @@
 -- The term that is printed has the raw tree that is printed, and its tokens can stand in a text.
-use Rattle.std.proofs.Common.{◌≡◌, Bool, true, false, List, [], ◌∷◌, codes, inl, inr, if◌then◌else◌, refl, sym, ◌∙◌, ap, subst}
+use Rattle.std.proofs.Common.{◌≡◌, Bool, true, false, List, [], ◌∷◌, codes, inl, inr, if◌then◌else◌, refl, sym, ◌∙◌, ap, subst, ℕ}
 use Rattle.ll_lexer.specs.Spelling.{is_name}
 use Rattle.ll_parser.specs.Tokens.{Identifier}
-use Rattle.ll_parser.specs.Raw.{Raw, truth, erasure, braces, universal, existential, load, binary, head, anything, int, RawList, none, more, raws_then}
-use Rattle.ll_parser.specs.Grammar.{lower, upper, Term, of_app, cons, applied, app_any, app_number, app_bracket, Simples, no_more, and_then, word_identifier, term_raw, app_raw, simple_raw, simples_raws}
+use Rattle.ll_parser.specs.Raw.{Raw, truth, erasure, braces, universal, existential, load, binary, head, anything, int, RawList, none, more, raws_then, is_goal, less_goal, most_goal, sign_raw}
+use Rattle.ll_parser.specs.Grammar.{lower, upper, Term, of_app, cons, applied, app_any, app_number, app_bracket, Simples, no_more, and_then, word_identifier, term_raw, app_raw, simple_raw, simples_raws, Plain, plain_word, plain_any, plain_number, Expr, of_product, adds, Product, of_item, multiplies, Item, item_plain, item_bracket, First, first_plain, first_times, Lead, of_first, lead_adds, by_plus, by_minus, plain_raw, expr_raw, product_raw, item_raw, first_raw, lead_raw}
 use Rattle.ll_parser.specs.Printed.{is_cons}
-use Rattle.ll_parser.proofs.PrintedTree.{word_of, to_app, to_simple, pick, term_of, terms_of, simples_of, arguments_of}
-use Rattle.ll_parser.proofs.Printable.{HasShape, IsTerm, AreTerms, word-no-cons}
+use Rattle.ll_parser.proofs.PrintedTree.{word_of, to_app, to_simple, pick, term_of, terms_of, simples_of, arguments_of, plain_of, to_product, to_item, expr_of, to_first, lead_of}
+use Rattle.ll_parser.proofs.Printable.{HasShape, IsTerm, AreTerms, word-no-cons, IsPlainTerm, IsExpr, IsLead}
+use Rattle.ll_lexer.specs.declared.Place.{Place}
 
 -- a word has its name back
 pub word-kept : (n : Identifier) → word_identifier (word_of n) ≡ n
@@ -82,6 +83,9 @@ mutual
   term-kept (existential at n g) h = absurd h
   term-kept (load at n rs g) h = absurd h
   term-kept (binary o at l r) h = absurd h
+  term-kept (is_goal at l r) h = absurd h
+  term-kept (less_goal at l r) h = absurd h
+  term-kept (most_goal at l r) h = absurd h
 
   simples-kept : (rs : RawList) (acc : Simples) → AreTerms rs → simples_raws (simples_of acc rs) ≡ joined (simples_raws acc) rs
   simples-kept none acc h = sym (join-none (simples_raws acc))
@@ -97,3 +101,72 @@ mutual
 -- the arguments that are printed are those of the tree
 pub arguments-kept : (rs : RawList) → AreTerms rs → simples_raws (arguments_of rs) ≡ rs
 arguments-kept rs h = simples-kept rs no_more h
+
+-- ---- expressions of whole numbers
+
+signed : (w : List ℕ) (at : Place) {a b c d : Raw} → a ≡ b → c ≡ d → sign_raw w at a c ≡ sign_raw w at b d
+signed w at h k = λ i. sign_raw w at (h i) (k i)
+
+product-raw : (e : Expr) → product_raw (to_product e) ≡ expr_raw e
+product-raw (of_product p) = refl
+product-raw (adds e o at p) = refl
+
+item-raw : (e : Expr) → item_raw (to_item e) ≡ expr_raw e
+item-raw (of_product (of_item x)) = refl
+item-raw (of_product (multiplies p at x)) = refl
+item-raw (adds e o at p) = refl
+
+plain-kept : (x : Plain) → plain_raw (plain_of (plain_raw x)) ≡ plain_raw x
+plain-kept (plain_word w) = ap (λ z. head z none) (word-kept (word_identifier w))
+plain-kept (plain_any at) = refl
+plain-kept (plain_number z at) = refl
+
+unit-kept : (x : Plain) → expr_raw (expr_of (plain_raw x)) ≡ plain_raw x
+unit-kept (plain_word w) = plain-kept (plain_word w)
+unit-kept (plain_any at) = refl
+unit-kept (plain_number z at) = refl
+
+mutual
+  expr-kept : (e : Expr) → expr_raw (expr_of (expr_raw e)) ≡ expr_raw e
+  expr-kept (of_product p) = product-kept p
+  expr-kept (adds e by_plus at p) = signed (codes "+") at (expr-kept e) (product-raw (expr_of (product_raw p)) ∙ product-kept p)
+  expr-kept (adds e by_minus at p) = signed (codes "-") at (expr-kept e) (product-raw (expr_of (product_raw p)) ∙ product-kept p)
+
+  product-kept : (p : Product) → expr_raw (expr_of (product_raw p)) ≡ product_raw p
+  product-kept (of_item x) = item-kept x
+  product-kept (multiplies p at x) =
+      signed (codes "*") at (product-raw (expr_of (product_raw p)) ∙ product-kept p) (item-raw (expr_of (item_raw x)) ∙ item-kept x)
+
+  item-kept : (x : Item) → expr_raw (expr_of (item_raw x)) ≡ item_raw x
+  item-kept (item_plain x) = unit-kept x
+  item-kept (item_bracket at e end) = expr-kept e
+
+lead-unit-kept : (x : Plain) → lead_raw (lead_of (plain_raw x)) ≡ plain_raw x
+lead-unit-kept (plain_word w) = plain-kept (plain_word w)
+lead-unit-kept (plain_any at) = refl
+lead-unit-kept (plain_number z at) = refl
+
+first-raw : (f : First) → first_raw (to_first (lead_of (first_raw f))) ≡ lead_raw (lead_of (first_raw f))
+first-raw (first_plain (plain_word w)) = refl
+first-raw (first_plain (plain_any at)) = refl
+first-raw (first_plain (plain_number z at)) = refl
+first-raw (first_times f at x) = refl
+
+first-kept : (f : First) → lead_raw (lead_of (first_raw f)) ≡ first_raw f
+first-kept (first_plain x) = lead-unit-kept x
+first-kept (first_times f at x) = signed (codes "*") at (first-raw f ∙ first-kept f) (item-raw (expr_of (item_raw x)) ∙ item-kept x)
+
+lead-kept : (l : Lead) → lead_raw (lead_of (lead_raw l)) ≡ lead_raw l
+lead-kept (of_first f) = first-kept f
+lead-kept (lead_adds l by_plus at p) = signed (codes "+") at (lead-kept l) (product-raw (expr_of (product_raw p)) ∙ product-kept p)
+lead-kept (lead_adds l by_minus at p) = signed (codes "-") at (lead-kept l) (product-raw (expr_of (product_raw p)) ∙ product-kept p)
+
+-- the goals that are printed have the sides of the trees
+pub left-kept : (r : Raw) → IsPlainTerm r → plain_raw (plain_of r) ≡ r
+left-kept r (x, s, e) = subst (λ z. plain_raw (plain_of z) ≡ z) e (plain-kept x)
+
+pub lead-side-kept : (r : Raw) → IsLead r → lead_raw (lead_of r) ≡ r
+lead-side-kept r (l, s, e) = subst (λ z. lead_raw (lead_of z) ≡ z) e (lead-kept l)
+
+pub right-kept : (r : Raw) → IsExpr r → expr_raw (expr_of r) ≡ r
+right-kept r (x, s, e) = subst (λ z. expr_raw (expr_of z) ≡ z) e (expr-kept x)

@@ -1,14 +1,15 @@
 -- The parse tree that is printed of a raw tree: brackets stand exactly where the levels or a quantifier ask for them.
-use Rattle.std.specs.Prelude.{Bool, true, false, if◌then◌else◌, List, [], ◌∷◌, map}
+use Rattle.std.specs.Prelude.{ℕ, Bool, true, false, if◌then◌else◌, codes, List, [], ◌∷◌, map}
 use Rattle.ll_lexer.specs.declared.Place.{Place}
 use Rattle.ll_lexer.specs.Spelling.{is_name}
 use Rattle.ll_parser.specs.declared.Op.TheVariants as op
 use Rattle.ll_parser.specs.declared.Quantifier.TheVariants as quantifier
 use Rattle.ll_parser.specs.Tokens.{Identifier}
-use Rattle.ll_parser.specs.Raw.{Raw, truth, erasure, braces, universal, existential, load, binary, head, anything, int, RawList, none, more, ClauseTree, ModuleTree, ProgramTree}
-use Rattle.ll_parser.specs.Grammar.{Word, lower, upper, Term, of_app, cons, App, applied, app_any, app_number, app_bracket, Simple, simple_word, simple_any, simple_number, simple_bracket, Simples, no_more, and_then, by_colon, by_left, by_lolli, by_right, Formula, of_arrow, clause, Arrow, of_sum, implies, loads, Sum, of_with, plus, With, of_tensor, with, Tensor, of_primary, times, Primary, truly, erased, bracket, brace, quantified, atom, formula_raw, arrow_raw, sum_raw, with_raw, tensor_raw, primary_raw}
-use Rattle.ll_parser.specs.Printed.{is_cons}
+use Rattle.ll_parser.specs.Raw.{Raw, truth, erasure, braces, universal, existential, load, binary, head, anything, int, RawList, none, more, ClauseTree, ModuleTree, ProgramTree, is_goal, less_goal, most_goal}
+use Rattle.ll_parser.specs.Grammar.{Word, lower, upper, Term, of_app, cons, App, applied, app_any, app_number, app_bracket, Simple, simple_word, simple_any, simple_number, simple_bracket, Simples, no_more, and_then, by_colon, by_left, by_lolli, by_right, Formula, of_arrow, clause, Arrow, of_sum, implies, loads, Sum, of_with, plus, With, of_tensor, with, Tensor, of_primary, times, Primary, truly, erased, bracket, brace, quantified, atom, formula_raw, arrow_raw, sum_raw, with_raw, tensor_raw, primary_raw, Plain, plain_word, plain_any, plain_number, Expr, of_product, adds, Product, of_item, multiplies, Item, item_plain, item_bracket, First, first_plain, first_times, Lead, of_first, lead_adds, valued, tested, by_plus, by_minus, by_less, by_most, SumOp}
+use Rattle.ll_parser.specs.Printed.{is_cons, is_star}
 use Rattle.ll_parser.specs.Text.{Clause, plain, linear, Local, Module, Program}
+use Rattle.std.specs.Str.{bytes_eq}
 
 -- the place of tokens that a raw tree does not keep
 abbrev pub somewhere : Place
@@ -52,6 +53,9 @@ abbrev mutual
   term_of (existential at n g) = of_app (app_any at)
   term_of (load at n rs g) = of_app (app_any at)
   term_of (binary o at l r) = of_app (app_any at)
+  term_of (is_goal at l r) = of_app (app_any at)
+  term_of (less_goal at l r) = of_app (app_any at)
+  term_of (most_goal at l r) = of_app (app_any at)
 
   pub terms_of : RawList → List Term
   terms_of none = []
@@ -64,6 +68,70 @@ abbrev mutual
 -- the arguments of a head
 abbrev pub arguments_of : RawList → Simples
 arguments_of rs = simples_of no_more rs
+
+-- ---- expressions of whole numbers
+
+-- a plain term
+abbrev pub plain_of : Raw → Plain
+plain_of (head n rs) = plain_word (word_of n)
+plain_of (int at z) = plain_number z at
+plain_of (anything at) = plain_any at
+plain_of _ = plain_any somewhere
+
+abbrev pub of_plain : Plain → Expr
+of_plain x = of_product (of_item (item_plain x))
+
+-- what stands on the right of `+` and `-`, or on the left of `*`; and what stands on the right of `*`
+abbrev pub to_product : Expr → Product
+to_product (of_product p) = p
+to_product (adds e o at p) = of_item (item_bracket somewhere (adds e o at p) somewhere)
+
+abbrev pub to_item : Expr → Item
+to_item (of_product (of_item x)) = x
+to_item (of_product (multiplies p at x)) = item_bracket somewhere (of_product (multiplies p at x)) somewhere
+to_item (adds e o at p) = item_bracket somewhere (adds e o at p) somewhere
+
+-- the sign of a sum, by its text
+abbrev pub sum_op : List ℕ → SumOp
+sum_op w = if bytes_eq (codes "+") w then by_plus else by_minus
+
+-- a product, or a sum
+abbrev pub operated : Bool → SumOp → Place → Expr → Expr → Expr
+operated true o at x y = of_product (multiplies (to_product x) at (to_item y))
+operated false o at x y = adds x o at (to_product y)
+
+-- the expression that is printed
+abbrev mutual
+  pub expr_of : Raw → Expr
+  expr_of (head n rs) = sides_of n rs
+  expr_of (int at z) = of_plain (plain_number z at)
+  expr_of (anything at) = of_plain (plain_any at)
+  expr_of _ = of_plain (plain_any somewhere)
+
+  pub sides_of : Identifier → RawList → Expr
+  sides_of n (more x (more y none)) = operated (is_star n.text) (sum_op n.text) n.at (expr_of x) (expr_of y)
+  sides_of n _ = of_plain (plain_word (word_of n))
+
+-- what stands on the left of `*` in a left side, where no sum stands
+abbrev pub to_first : Lead → First
+to_first (of_first f) = f
+to_first (lead_adds l o at p) = to_first l
+
+abbrev pub lead_operated : Bool → SumOp → Place → Lead → Expr → Lead
+lead_operated true o at l y = of_first (first_times (to_first l) at (to_item y))
+lead_operated false o at l y = lead_adds l o at (to_product y)
+
+-- the left side of a comparison that is printed
+abbrev mutual
+  pub lead_of : Raw → Lead
+  lead_of (head n rs) = lead_sides n rs
+  lead_of (int at z) = of_first (first_plain (plain_number z at))
+  lead_of (anything at) = of_first (first_plain (plain_any at))
+  lead_of _ = of_first (first_plain (plain_any somewhere))
+
+  pub lead_sides : Identifier → RawList → Lead
+  lead_sides n (more x (more y none)) = lead_operated (is_star n.text) (sum_op n.text) n.at (lead_of x) (expr_of y)
+  lead_sides n _ = of_first (first_plain (plain_word (word_of n)))
 
 -- ---- formulas
 
@@ -250,6 +318,9 @@ abbrev mutual
   followed (head n rs) = at_primary (atom (word_of n) (arguments_of rs))
   followed (anything at) = at_primary (truly at)
   followed (int at z) = at_primary (truly at)
+  followed (is_goal at l r) = at_primary (valued (plain_of l) at (expr_of r))
+  followed (less_goal at l r) = at_primary (tested (lead_of l) by_less at (expr_of r))
+  followed (most_goal at l r) = at_primary (tested (lead_of l) by_most at (expr_of r))
 
   pub ending : Raw → Last
   ending (truth at) = last false (at_primary (truly at))
@@ -268,6 +339,9 @@ abbrev mutual
   ending (head n rs) = last false (at_primary (atom (word_of n) (arguments_of rs)))
   ending (anything at) = last false (at_primary (truly at))
   ending (int at z) = last false (at_primary (truly at))
+  ending (is_goal at l r) = last false (at_primary (valued (plain_of l) at (expr_of r)))
+  ending (less_goal at l r) = last false (at_primary (tested (lead_of l) by_less at (expr_of r)))
+  ending (most_goal at l r) = last false (at_primary (tested (lead_of l) by_most at (expr_of r)))
 
 -- ---- programs
 

@@ -18,6 +18,10 @@ no-dot (m.binder q at s k) end = refl
 no-dot (m.slash q at w s k) end = refl
 no-dot (m.term_want cs tk b) end = refl
 no-dot (m.term_whole a cs tk b) end = refl
+no-dot (m.led l s k) end = refl
+no-dot (m.lead_want h s k) end = refl
+no-dot (m.expr_want h a s k) end = refl
+no-dot (m.expr_whole e i s k) end = refl
 
 inside-moves : (k : Mark) (d : Done) (s n : State) (t : Tok) → step s t ≡ Some n → move (inside k d s) t ≡ Some (inside k d n)
 inside-moves k d s n (dot end) e = let h : None ≡ Some n = sym (no-dot s end) ∙ e in absurd cc

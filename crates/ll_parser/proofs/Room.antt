@@ -3,8 +3,8 @@ use Rattle.std.proofs.Common.{◌≡◌, ℕ, zero, suc, ◌+◌, ◌-◌, ◌�
 use Rattle.ll_lexer.specs.declared.Place.{Place}
 use Rattle.ll_parser.specs.declared.Quantifier.{Quantifier}
 use Rattle.ll_parser.specs.declared.Quantifier.TheVariants as quantifier
-use Rattle.ll_parser.specs.Tokens.{Identifier, Tok, name, variable, any, number, true_word, erase_word, module_word, local_word, linear_word, dot, comma, ampersand, semicolon, paren_left, paren_right, brace_left, brace_right, backslash, cons_sign, load_arrow}
-use Rattle.ll_parser.specs.Grammar.{Word, lower, upper, Term, of_app, cons, App, applied, app_any, app_number, app_bracket, Simple, simple_word, simple_any, simple_number, simple_bracket, Simples, no_more, and_then, ClauseOp, by_colon, by_left, ArrowOp, by_lolli, by_right, Formula, of_arrow, clause, Arrow, of_sum, implies, loads, Sum, of_with, plus, With, of_tensor, with, Tensor, of_primary, times, Primary, truly, erased, bracket, brace, quantified, atom, word_token, clause_token, arrow_token, quantifier_token, term_tokens, app_tokens, simple_tokens, simples_tokens, formula_tokens, arrow_tokens, sum_tokens, with_tokens, tensor_tokens, primary_tokens}
+use Rattle.ll_parser.specs.Tokens.{Identifier, Tok, name, variable, any, number, true_word, erase_word, module_word, local_word, linear_word, dot, comma, ampersand, semicolon, paren_left, paren_right, brace_left, brace_right, backslash, cons_sign, load_arrow, is_sign, star_sign}
+use Rattle.ll_parser.specs.Grammar.{Word, lower, upper, Term, of_app, cons, App, applied, app_any, app_number, app_bracket, Simple, simple_word, simple_any, simple_number, simple_bracket, Simples, no_more, and_then, ClauseOp, by_colon, by_left, ArrowOp, by_lolli, by_right, Formula, of_arrow, clause, Arrow, of_sum, implies, loads, Sum, of_with, plus, With, of_tensor, with, Tensor, of_primary, times, Primary, truly, erased, bracket, brace, quantified, atom, word_token, clause_token, arrow_token, quantifier_token, term_tokens, app_tokens, simple_tokens, simples_tokens, formula_tokens, arrow_tokens, sum_tokens, with_tokens, tensor_tokens, primary_tokens, Plain, plain_word, plain_any, plain_number, Expr, of_product, adds, Product, of_item, multiplies, Item, item_plain, item_bracket, First, first_plain, first_times, Lead, of_first, lead_adds, valued, tested, by_plus, by_minus, by_less, by_most, SumOp, TestOp, plain_token, add_token, test_token, expr_tokens, product_tokens, item_tokens, first_tokens, lead_tokens}
 use Rattle.ll_parser.specs.Text.{Clause, plain, linear, Local, Heading, Module, Program, clause_tokens, names, variables, local_tokens, heading_tokens, clauses_tokens, locals_tokens, modules_tokens, program_tokens, Query, bare, dotted, query_tokens}
 use Rattle.ll_parser.specs.Reads.{open_after, Within}
 
@@ -37,6 +37,27 @@ abbrev mutual
   SimplesRoom n (and_then ss s) = SimplesRoom n ss × SimpleRoom n s
 
 abbrev mutual
+  pub ExprRoom : ℕ → Expr → Type 0
+  ExprRoom n (of_product p) = ProductRoom n p
+  ExprRoom n (adds e o at p) = ExprRoom n e × ProductRoom n p
+
+  pub ProductRoom : ℕ → Product → Type 0
+  ProductRoom n (of_item x) = ItemRoom n x
+  ProductRoom n (multiplies p at x) = ProductRoom n p × ItemRoom n x
+
+  pub ItemRoom : ℕ → Item → Type 0
+  ItemRoom n (item_plain x) = Unit {0}
+  ItemRoom n (item_bracket at e end) = Enough n (λ m. ExprRoom m e)
+
+abbrev pub FirstRoom : ℕ → First → Type 0
+FirstRoom n (first_plain x) = Unit {0}
+FirstRoom n (first_times f at x) = FirstRoom n f × ItemRoom n x
+
+abbrev pub LeadRoom : ℕ → Lead → Type 0
+LeadRoom n (of_first f) = FirstRoom n f
+LeadRoom n (lead_adds l o at p) = LeadRoom n l × ProductRoom n p
+
+abbrev mutual
   pub FormulaRoom : {o : Bool} → ℕ → Formula o → Type 0
   FormulaRoom n (of_arrow a) = ArrowRoom n a
   FormulaRoom n (clause f c at a) = FormulaRoom n f × ArrowRoom n a
@@ -65,6 +86,8 @@ abbrev mutual
   PrimaryRoom n (brace at f end) = Enough n (λ m. FormulaRoom m f)
   PrimaryRoom n (quantified q at w slash f) = FormulaRoom n f
   PrimaryRoom n (atom w ss) = SimplesRoom n ss
+  PrimaryRoom n (valued x at e) = ExprRoom n e
+  PrimaryRoom n (tested l c at e) = LeadRoom n l × ExprRoom n e
 
 abbrev pub ClauseRoom : ℕ → Clause → Type 0
 ClauseRoom n (plain f end) = FormulaRoom n f
@@ -197,6 +220,42 @@ module _ (limit : ℕ) where
     simples-segment no_more = nothing
     simples-segment (and_then ss s) = both (simples-segment ss) (simple-segment s)
 
+  -- ---- expressions of whole numbers
+
+  token-plain : (x : Plain) → IsPlain (plain_token x)
+  token-plain (plain_word w) n = word-plain w n
+  token-plain (plain_any at) n = refl
+  token-plain (plain_number z at) n = refl
+
+  add-plain : (o : SumOp) (at : Place) → IsPlain (add_token o at)
+  add-plain by_plus at n = refl
+  add-plain by_minus at n = refl
+
+  test-plain : (c : TestOp) (at : Place) → IsPlain (test_token c at)
+  test-plain by_less at n = refl
+  test-plain by_most at n = refl
+
+  mutual
+    expr-segment : (e : Expr) → Segment limit (λ n. ExprRoom n e) (expr_tokens e)
+    expr-segment (of_product p) = product-segment p
+    expr-segment (adds e o at p) = both (expr-segment e) (plainly (add_token o at) (add-plain o at) (product-segment p))
+
+    product-segment : (p : Product) → Segment limit (λ n. ProductRoom n p) (product_tokens p)
+    product-segment (of_item x) = item-segment x
+    product-segment (multiplies p at x) = both (product-segment p) (plainly (star_sign at) (λ n. refl) (item-segment x))
+
+    item-segment : (x : Item) → Segment limit (λ n. ItemRoom n x) (item_tokens x)
+    item-segment (item_plain x) = plainly (plain_token x) (token-plain x) nothing
+    item-segment (item_bracket at e end) = parens at end (expr-segment e)
+
+  first-segment : (f : First) → Segment limit (λ n. FirstRoom n f) (first_tokens f)
+  first-segment (first_plain x) = plainly (plain_token x) (token-plain x) nothing
+  first-segment (first_times f at x) = both (first-segment f) (plainly (star_sign at) (λ n. refl) (item-segment x))
+
+  lead-segment : (l : Lead) → Segment limit (λ n. LeadRoom n l) (lead_tokens l)
+  lead-segment (of_first f) = first-segment f
+  lead-segment (lead_adds l o at p) = both (lead-segment l) (plainly (add_token o at) (add-plain o at) (product-segment p))
+
   -- ---- formulas
 
   clause-plain : (c : ClauseOp) (at : Place) → IsPlain (clause_token c at)
@@ -240,6 +299,8 @@ module _ (limit : ℕ) where
     primary-segment (brace at f end) = curly at end (formula-segment f)
     primary-segment (quantified q at w slash f) = plainly (quantifier_token q at) (quantifier-plain q at) (plainly (word_token w) (word-plain w) (plainly (backslash slash) (λ n. refl) (formula-segment f)))
     primary-segment (atom w ss) = plainly (word_token w) (word-plain w) (simples-segment ss)
+    primary-segment (valued x at e) = plainly (plain_token x) (token-plain x) (plainly (is_sign at) (λ n. refl) (expr-segment e))
+    primary-segment (tested l c at e) = both (lead-segment l) (plainly (test_token c at) (test-plain c at) (expr-segment e))
 
   -- ---- programs and queries
 

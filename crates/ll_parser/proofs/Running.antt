@@ -43,6 +43,12 @@ place-by kind.Cons bytes at = refl
 place-by kind.ColonDash bytes at = refl
 place-by kind.LeftArrow bytes at = refl
 place-by kind.RightArrow bytes at = refl
+place-by kind.Is bytes at = refl
+place-by kind.Most bytes at = refl
+place-by kind.Less bytes at = refl
+place-by kind.Plus bytes at = refl
+place-by kind.Minus bytes at = refl
+place-by kind.Star bytes at = refl
 place-by kind.Lolli bytes at = refl
 place-by kind.LoadArrow bytes at = refl
 
@@ -61,7 +67,7 @@ place-of tokens i token t e f =
 -- the names, and what the machine has read of the tokens so far, whatever names are added later
 pub record Running {F : Type 0} (begin : F) (next : F → Tok → Option F) (tokens : LexedText) (i : ℕ) (names : List (List ℕ)) (view : List (List ℕ) → F) (depth : ℕ) : Type 0 where
   pub begins : (rest : List (List ℕ)) × (names ≡ known rest)
-  pub few : length names ≤ i + 1
+  pub few : length names ≤ i + 4
   pub below : depth ≤ 1000
   pub taken : (more : List (List ℕ)) → Taken begin next 1000 (toks_of tokens) i (view (names ++ more)) depth
 

@@ -12,7 +12,8 @@ use Rattle.ll_parser.specs.declared.waiting.Frame.{Frame}
 use Rattle.ll_parser.specs.declared.waiting.Frame.TheVariants as frame
 use Rattle.ll_parser.specs.declared.waiting.Waiting.{Waiting}
 use Rattle.ll_parser.specs.Raw.{Raw, truth, load, head, raws_then}
-use Rattle.ll_parser.specs.Flat.{operand, loading, in_atom, in_argument, cell}
+use Rattle.ll_parser.specs.Flat.{operand, loading, in_atom, in_argument, cell, multiplied, valuing, testing}
+use Rattle.ll_parser.specs.Flat.{added as adding}
 use Rattle.ll_parser.specs.Nodes.{Node, HeadNode, LoadNode, identifier, raw_in, raws_in, build_raw, raw_trees, raw_at}
 use Rattle.ll_parser.specs.Seen.{places}
 use Rattle.ll_parser.specs.Waiting.{known, word_view, args_view, frame_view, left, base, frames_view, pending, tree, args_from, waiting_below, FrameFits, FramesFit, FitsTo, FitsBelow, IsNode, CanWait, Added, Pushed, Dropped, HasMore, Leaves}
@@ -48,6 +49,12 @@ module _ (texts : List (List ℕ)) (ts us : List Raw) (n : ℕ) (same : (i : ℕ
   frame-kept k args h (frame.Application x from) w = ap (in_argument (word_view texts x)) (dropped from args h)
   frame-kept k args h frame.Group w = refl
   frame-kept k args h (frame.Cell at l) w = ap (cell at) (same l.0 w)
+  frame-kept k args h (frame.Sum o at first) w = ap (adding o at) (same first.0 w)
+  frame-kept k args h (frame.Product at first) w = ap (multiplied at) (same first.0 w)
+  frame-kept k args h (frame.Is at first) w = ap (valuing at) (same first.0 w)
+  frame-kept k args h (frame.Comparison o at first) w = ap (testing o at) (same first.0 w)
+  frame-kept k args h frame.NumberGroup w = refl
+  frame-kept k args h frame.LeadGroup w = refl
 
   left-below : (args : List RawAt) → All (λ a. a.0 < n) args → (f : Frame) → All (λ a. a.0 < n) (left args f)
   left-below args h (frame.Front (prefix.Operator o at l)) = h
@@ -59,6 +66,12 @@ module _ (texts : List (List ℕ)) (ts us : List Raw) (n : ℕ) (same : (i : ℕ
   left-below args h (frame.Application x from) = All-take (λ (a : RawAt). a.0 < n) from args h
   left-below args h frame.Group = h
   left-below args h (frame.Cell at l) = h
+  left-below args h (frame.Sum o at first) = h
+  left-below args h (frame.Product at first) = h
+  left-below args h (frame.Is at first) = h
+  left-below args h (frame.Comparison o at first) = h
+  left-below args h frame.NumberGroup = h
+  left-below args h frame.LeadGroup = h
 
   frames-kept : (k : ℕ) (args : List RawAt) → All (λ a. a.0 < n) args → (fs : List Frame) → FramesFit n k fs → frames_view texts us args fs ≡ frames_view texts ts args fs
   frames-kept k args h [] w = refl
@@ -84,6 +97,12 @@ frame-more n m k le (frame.Atom x from) w = w
 frame-more n m k le (frame.Application x from) w = w
 frame-more n m k le frame.Group w = tt
 frame-more n m k le (frame.Cell at l) w = omega arith
+frame-more n m k le (frame.Sum o at first) w = omega arith
+frame-more n m k le (frame.Product at first) w = omega arith
+frame-more n m k le (frame.Is at first) w = omega arith
+frame-more n m k le (frame.Comparison o at first) w = omega arith
+frame-more n m k le frame.NumberGroup w = tt
+frame-more n m k le frame.LeadGroup w = tt
 
 frames-more : (n m k : ℕ) → n ≤ m → (fs : List Frame) → FramesFit n k fs → FramesFit m k fs
 frames-more n m k le [] w = tt
@@ -159,6 +178,12 @@ left-within n k (frame.Atom x from) w = w
 left-within n k (frame.Application x from) w = w
 left-within n k frame.Group w = omega arith
 left-within n k (frame.Cell at l) w = omega arith
+left-within n k (frame.Sum o at first) w = omega arith
+left-within n k (frame.Product at first) w = omega arith
+left-within n k (frame.Is at first) w = omega arith
+left-within n k (frame.Comparison o at first) w = omega arith
+left-within n k frame.NumberGroup w = omega arith
+left-within n k frame.LeadGroup w = omega arith
 
 pub cut : (old new : Waiting) (rest : List Frame) (f : Frame) → old.frames.items ≡ rest ++ f ∷ [] → new.forms ≡ old.forms → new.args.items ≡ old.args.items
     → (n : ℕ) → n ≡ length old.frames.items → new.frames.items ≡ take (n - 1) old.frames.items → Dropped old new f

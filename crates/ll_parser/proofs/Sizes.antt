@@ -1,9 +1,9 @@
 -- Whole programs and queries: formulas where formulas stand, and no more nodes than tokens.
-use Rattle.std.proofs.Common.{◌≡◌, ℕ, suc, ◌+◌, ◌≤◌, Bool, List, [], ◌∷◌, ◌++◌, map, length, sym, subst, arith, length-append}
+use Rattle.std.proofs.Common.{◌≡◌, ℕ, suc, ◌+◌, ◌≤◌, Bool, List, [], ◌∷◌, ◌++◌, map, length, refl, sym, subst, arith, length-append}
 use Rattle.ll_parser.specs.declared.Quantifier.TheVariants as quantifier
-use Rattle.ll_parser.specs.Tokens.{Tok, cons_sign, paren_right, brace_right, semicolon, ampersand, comma, load_arrow, dot}
-use Rattle.ll_parser.specs.Raw.{Raw, truth, erasure, braces, universal, existential, load, binary, head, anything, int, RawList, none, more, raws_then, ClauseTree, ModuleTree, ProgramTree}
-use Rattle.ll_parser.specs.Grammar.{Term, of_app, cons, App, applied, app_any, app_number, app_bracket, Simple, simple_word, simple_any, simple_number, simple_bracket, Simples, no_more, and_then, Formula, of_arrow, clause, Arrow, of_sum, implies, loads, Sum, of_with, plus, With, of_tensor, with, Tensor, of_primary, times, Primary, truly, erased, bracket, brace, quantified, atom, clause_token, arrow_token, term_tokens, app_tokens, simple_tokens, simples_tokens, formula_tokens, arrow_tokens, sum_tokens, with_tokens, tensor_tokens, primary_tokens, term_raw, app_raw, simple_raw, simples_raws, formula_raw, arrow_raw, sum_raw, with_raw, tensor_raw, primary_raw}
+use Rattle.ll_parser.specs.Tokens.{Tok, cons_sign, paren_right, brace_right, semicolon, ampersand, comma, load_arrow, dot, star_sign, less_sign, most_sign}
+use Rattle.ll_parser.specs.Raw.{Raw, truth, erasure, braces, universal, existential, load, binary, head, anything, int, RawList, none, more, raws_then, ClauseTree, ModuleTree, ProgramTree, is_goal, less_goal, most_goal}
+use Rattle.ll_parser.specs.Grammar.{Term, of_app, cons, App, applied, app_any, app_number, app_bracket, Simple, simple_word, simple_any, simple_number, simple_bracket, Simples, no_more, and_then, Formula, of_arrow, clause, Arrow, of_sum, implies, loads, Sum, of_with, plus, With, of_tensor, with, Tensor, of_primary, times, Primary, truly, erased, bracket, brace, quantified, atom, clause_token, arrow_token, term_tokens, app_tokens, simple_tokens, simples_tokens, formula_tokens, arrow_tokens, sum_tokens, with_tokens, tensor_tokens, primary_tokens, term_raw, app_raw, simple_raw, simples_raws, formula_raw, arrow_raw, sum_raw, with_raw, tensor_raw, primary_raw, Plain, plain_word, plain_any, plain_number, Expr, of_product, adds, Product, of_item, multiplies, Item, item_plain, item_bracket, First, first_plain, first_times, Lead, of_first, lead_adds, valued, tested, by_less, by_most, add_token, expr_tokens, product_tokens, item_tokens, first_tokens, lead_tokens, plain_raw, expr_raw, product_raw, item_raw, first_raw, lead_raw}
 use Rattle.ll_parser.specs.Text.{Clause, plain, linear, Module, Query, bare, dotted, clause_tokens, locals_tokens, heading_tokens, clauses_tokens, module_tokens, modules_tokens, program_tokens, clause_tree, module_tree, query_tokens, query_tree, programs, queries}
 use Rattle.ll_parser.specs.Reads.{IsWhole}
 
@@ -19,6 +19,9 @@ abbrev mutual
   weight (existential at n r) = suc (weight r)
   weight (load at m args r) = suc (weights args + weight r)
   weight (binary o at l r) = suc (weight l + weight r)
+  weight (is_goal at l r) = suc (weight l + weight r)
+  weight (less_goal at l r) = suc (weight l + weight r)
+  weight (most_goal at l r) = suc (weight l + weight r)
   weight (head n args) = suc (weights args)
   weight (anything at) = 1
   weight (int at z) = 1
@@ -36,6 +39,9 @@ IsForm (universal at n r) = IsForm r
 IsForm (existential at n r) = IsForm r
 IsForm (load at m args r) = IsForm r
 IsForm (binary o at l r) = IsForm l × IsForm r
+IsForm (is_goal at l r) = Unit {0}
+IsForm (less_goal at l r) = Unit {0}
+IsForm (most_goal at l r) = Unit {0}
 IsForm (head n args) = Unit {0}
 IsForm (anything at) = ⊥
 IsForm (int at z) = ⊥
@@ -48,6 +54,9 @@ weight_some (universal at n r) = omega arith
 weight_some (existential at n r) = omega arith
 weight_some (load at m args r) = omega arith
 weight_some (binary o at l r) = omega arith
+weight_some (is_goal at l r) = omega arith
+weight_some (less_goal at l r) = omega arith
+weight_some (most_goal at l r) = omega arith
 weight_some (head n args) = omega arith
 weight_some (anything at) = omega arith
 weight_some (int at z) = omega arith
@@ -80,6 +89,38 @@ mutual
   light_simples no_more = omega arith
   light_simples (and_then ss s) =
       let i = light_simples ss in let j = light_simple s in omega (arith, weights-then (simples_raws ss) (simple_raw s), length-append (simples_tokens ss) (simple_tokens s))
+
+-- ---- expressions of whole numbers
+
+light_plain : (x : Plain) → weight (plain_raw x) ≡ 1
+light_plain (plain_word w) = refl
+light_plain (plain_any at) = refl
+light_plain (plain_number z at) = refl
+
+mutual
+  light_expr : (e : Expr) → weight (expr_raw e) ≤ length (expr_tokens e)
+  light_expr (of_product p) = light_product p
+  light_expr (adds e o at p) =
+      let i = light_expr e in let j = light_product p in omega (arith, length-append (expr_tokens e) (add_token o at ∷ product_tokens p))
+
+  light_product : (p : Product) → weight (product_raw p) ≤ length (product_tokens p)
+  light_product (of_item x) = light_item x
+  light_product (multiplies p at x) =
+      let i = light_product p in let j = light_item x in omega (arith, length-append (product_tokens p) (star_sign at ∷ item_tokens x))
+
+  light_item : (x : Item) → weight (item_raw x) ≤ length (item_tokens x)
+  light_item (item_plain x) = let i = light_plain x in omega arith
+  light_item (item_bracket at e end) = let i = light_expr e in omega (arith, length-append (expr_tokens e) (paren_right end ∷ []))
+
+light_first : (f : First) → weight (first_raw f) ≤ length (first_tokens f)
+light_first (first_plain x) = let i = light_plain x in omega arith
+light_first (first_times f at x) =
+    let i = light_first f in let j = light_item x in omega (arith, length-append (first_tokens f) (star_sign at ∷ item_tokens x))
+
+light_lead : (l : Lead) → weight (lead_raw l) ≤ length (lead_tokens l)
+light_lead (of_first f) = light_first f
+light_lead (lead_adds l o at p) =
+    let i = light_lead l in let j = light_product p in omega (arith, length-append (lead_tokens l) (add_token o at ∷ product_tokens p))
 
 -- ---- formulas
 
@@ -132,6 +173,11 @@ mutual
   light_primary (quantified quantifier.Forall at w slash f) = let i = light_formula f in record { form = i.form; light = omega (arith, i.light) }
   light_primary (quantified quantifier.Exists at w slash f) = let i = light_formula f in record { form = i.form; light = omega (arith, i.light) }
   light_primary (atom w ss) = let i = light_simples ss in record { form = tt; light = omega arith }
+  light_primary (valued x at e) = let i = light_plain x in let j = light_expr e in record { form = tt; light = omega arith }
+  light_primary (tested l by_less at e) =
+      let i = light_lead l in let j = light_expr e in record { form = tt; light = omega (arith, length-append (lead_tokens l) (less_sign at ∷ expr_tokens e)) }
+  light_primary (tested l by_most at e) =
+      let i = light_lead l in let j = light_expr e in record { form = tt; light = omega (arith, length-append (lead_tokens l) (most_sign at ∷ expr_tokens e)) }
 
 -- ---- clauses, modules, programs
 

@@ -56,6 +56,12 @@ kind-spelled kind.Cons w at s f = tt
 kind-spelled kind.ColonDash w at s f = tt
 kind-spelled kind.LeftArrow w at s f = tt
 kind-spelled kind.RightArrow w at s f = tt
+kind-spelled kind.Is w at s f = tt
+kind-spelled kind.Most w at s f = tt
+kind-spelled kind.Less w at s f = tt
+kind-spelled kind.Plus w at s f = tt
+kind-spelled kind.Minus w at s f = tt
+kind-spelled kind.Star w at s f = tt
 kind-spelled kind.Lolli w at s f = tt
 kind-spelled kind.LoadArrow w at s f = tt
 

@@ -16,8 +16,8 @@ use Rattle.ll_parser.specs.declared.RawNode.TheVariants as seen
 use Rattle.ll_parser.specs.declared.raws.Span.{Span}
 use Rattle.ll_parser.specs.declared.raws.Row.{Row}
 use Rattle.ll_parser.specs.declared.raws.Row.TheVariants as row
-use Rattle.ll_parser.specs.Raw.{Raw, truth, braces, universal, existential, load, binary, head, raw_place}
-use Rattle.ll_parser.specs.Nodes.{Node, TrueNode, EraseNode, AnyNode, BracesNode, ForallNode, ExistsNode, LoadNode, BinaryNode, HeadNode, IntNode, identifier, raw_in, raws_in, build_raw, raw_trees, raw_at}
+use Rattle.ll_parser.specs.Raw.{Raw, truth, braces, universal, existential, load, binary, head, is_goal, less_goal, most_goal, raw_place}
+use Rattle.ll_parser.specs.Nodes.{Node, TrueNode, EraseNode, AnyNode, BracesNode, ForallNode, ExistsNode, LoadNode, BinaryNode, HeadNode, IntNode, IsGoalNode, LessGoalNode, MostGoalNode, identifier, raw_in, raws_in, build_raw, raw_trees, raw_at}
 use Rattle.ll_parser.specs.Seen.{places, node_of, HasPartsBelow, IsRawNode}
 use Rattle.ll_parser.specs.Stored.{args_of, row_node, node_place, IsWithin, IsRowKept, IsBelow, IsWellFounded, IsKept, AddsTo}
 
@@ -40,6 +40,9 @@ same_build texts trees trees' at h (LoadNode p n args g) w = λ i. load p (ident
 same_build texts trees trees' at h (BinaryNode o p f g) w = λ i. binary o p (h f w.0 i) (h g w.1 i)
 same_build texts trees trees' at h (HeadNode n args) w = ap (head (identifier texts n)) (same_raws trees trees' at h args w)
 same_build texts trees trees' at h (IntNode p z) w = refl
+same_build texts trees trees' at h (IsGoalNode p f g) w = λ i. is_goal p (h f w.0 i) (h g w.1 i)
+same_build texts trees trees' at h (LessGoalNode p f g) w = λ i. less_goal p (h f w.0 i) (h g w.1 i)
+same_build texts trees trees' at h (MostGoalNode p f g) w = λ i. most_goal p (h f w.0 i) (h g w.1 i)
 
 module _ (texts : List (List ℕ)) (nodes : List Node) (low : IsWellFounded nodes) where
   -- a tree is what its node builds over all trees
@@ -94,6 +97,9 @@ kept_more cs more (row.Forall at n g) h = tt
 kept_more cs more (row.Exists at n g) h = tt
 kept_more cs more (row.Binary at o f g) h = tt
 kept_more cs more (row.Any at) h = tt
+kept_more cs more (row.Is at f g) h = tt
+kept_more cs more (row.Less at f g) h = tt
+kept_more cs more (row.Most at f g) h = tt
 
 -- functions that agree where P holds map alike
 pub same_map : {A B : Type 0} (f g : A → B) (P : A → Type 0) (xs : List A) → ((x : A) → P x → f x ≡ g x) → All P xs → map f xs ≡ map g xs
@@ -139,6 +145,9 @@ parts_below k at (seen.Binary o f g) h = h
 parts_below k at (seen.Head n args) h = places_below k args.now h
 parts_below k at seen.Any h = tt
 parts_below k at (seen.Int z) h = tt
+parts_below k at (seen.Is f g) h = h
+parts_below k at (seen.Less f g) h = h
+parts_below k at (seen.Most f g) h = h
 
 pub below_parts : (k : ℕ) (at : Place) (v : RawNode) → IsBelow k (node_of at v) → HasPartsBelow k v
 below_parts k at seen.True h = tt
@@ -151,6 +160,9 @@ below_parts k at (seen.Binary o f g) h = h
 below_parts k at (seen.Head n args) h = below_places k args.now h
 below_parts k at seen.Any h = tt
 below_parts k at (seen.Int z) h = tt
+below_parts k at (seen.Is f g) h = h
+below_parts k at (seen.Less f g) h = h
+below_parts k at (seen.Most f g) h = h
 
 -- the vectors after a node was put behind the others
 module _ (cs ds : List RawAt) (adds : AddsTo cs ds) (rs ss : List Row) (kept : IsKept cs rs) (old : List Node) (view : map (row_node cs) rs ≡ old)
@@ -192,6 +204,9 @@ module _ (cs : List RawAt) (rs : List Row) (kept : IsKept cs rs) (old : List Nod
   place-build texts trees (BinaryNode o at f g) = refl
   place-build texts trees (HeadNode n args) = refl
   place-build texts trees (IntNode at z) = refl
+  place-build texts trees (IsGoalNode at f g) = refl
+  place-build texts trees (LessGoalNode at f g) = refl
+  place-build texts trees (MostGoalNode at f g) = refl
 
   pub place_read : (texts : List (List ℕ)) → raw_place (raw_at texts old at) ≡ node_place (row_node cs r)
   place_read texts = ap raw_place (tree_read texts) ∙ place-build texts (raw_trees texts old) (row_node cs r)

@@ -1,12 +1,12 @@
 -- The text by levels is the text of the parse tree that is printed: terms.
-use Rattle.std.proofs.Common.{◌≡◌, Bool, true, false, List, [], ◌∷◌, ◌++◌, codes, inl, inr, refl, sym, ◌∙◌, ap, subst, append_assoc, append-nil}
+use Rattle.std.proofs.Common.{◌≡◌, Bool, true, false, List, [], ◌∷◌, ◌++◌, codes, inl, inr, refl, sym, ◌∙◌, ap, subst, append_assoc, append-nil, ℕ, ◌||◌}
 use Rattle.ll_parser.specs.Tokens.{Identifier}
-use Rattle.ll_parser.specs.Raw.{Raw, truth, erasure, braces, universal, existential, load, binary, head, anything, int, RawList, none, more}
-use Rattle.ll_parser.specs.Grammar.{Term, Simple, Simples, no_more, and_then, word_identifier}
-use Rattle.ll_parser.specs.Printed.{is_cons, bracketed, is_pair, has_arguments, head_text, term_text, arguments_text, pair_text}
-use Rattle.ll_parser.proofs.PrintedTree.{word_of, to_app, to_simple, pick, term_of, terms_of, simples_of, arguments_of}
-use Rattle.ll_parser.proofs.Written.{term_bytes, app_bytes, simple_bytes, simples_bytes}
-use Rattle.ll_parser.proofs.Printable.{HasShape, IsTerm, AreTerms, word-no-cons}
+use Rattle.ll_parser.specs.Raw.{Raw, truth, erasure, braces, universal, existential, load, binary, head, anything, int, RawList, none, more, is_goal, less_goal, most_goal}
+use Rattle.ll_parser.specs.Grammar.{Term, Simple, Simples, no_more, and_then, word_identifier, Plain, plain_word, plain_any, plain_number, Expr, of_product, adds, Product, of_item, multiplies, Item, item_plain, item_bracket, First, first_plain, first_times, Lead, of_first, lead_adds, by_plus, by_minus, plain_raw, expr_raw, product_raw, item_raw, first_raw, lead_raw}
+use Rattle.ll_parser.specs.Printed.{is_cons, bracketed, is_pair, has_arguments, head_text, term_text, arguments_text, pair_text, between, is_sum, is_product, expr_text}
+use Rattle.ll_parser.proofs.PrintedTree.{word_of, to_app, to_simple, pick, term_of, terms_of, simples_of, arguments_of, plain_of, to_product, to_item, expr_of, to_first, lead_of}
+use Rattle.ll_parser.proofs.Written.{term_bytes, app_bytes, simple_bytes, simples_bytes, plain_bytes, expr_bytes, product_bytes, item_bytes, first_bytes, lead_bytes}
+use Rattle.ll_parser.proofs.Printable.{HasShape, IsTerm, AreTerms, word-no-cons, IsPlainTerm, IsExpr, IsLead}
 use Rattle.ll_parser.proofs.PrintedTerms.{word-kept}
 
 -- ---- where brackets stand
@@ -42,6 +42,9 @@ app-brackets (universal at n g) = refl
 app-brackets (existential at n g) = refl
 app-brackets (load at n rs g) = refl
 app-brackets (binary o at l r) = refl
+app-brackets (is_goal at l r) = refl
+app-brackets (less_goal at l r) = refl
+app-brackets (most_goal at l r) = refl
 
 -- an argument with arguments
 enclosed : (n : Identifier) (v : Bool) (ts : List Term) (ss : Simples) (s : Simple) → simple_bytes (to_simple (pick v n ts (and_then ss s))) ≡ bracketed true (term_bytes (pick v n ts (and_then ss s)))
@@ -79,6 +82,9 @@ simple-brackets (universal at n g) = refl
 simple-brackets (existential at n g) = refl
 simple-brackets (load at n rs g) = refl
 simple-brackets (binary o at l r) = refl
+simple-brackets (is_goal at l r) = refl
+simple-brackets (less_goal at l r) = refl
+simple-brackets (most_goal at l r) = refl
 
 -- ---- the text
 
@@ -133,6 +139,9 @@ mutual
   term-shown (existential at n g) h = absurd h
   term-shown (load at n rs g) h = absurd h
   term-shown (binary o at l r) h = absurd h
+  term-shown (is_goal at l r) h = absurd h
+  term-shown (less_goal at l r) h = absurd h
+  term-shown (most_goal at l r) h = absurd h
 
   all-shown : (rs : RawList) → AreTerms rs → AllShown rs
   all-shown none h = tt
@@ -141,3 +150,135 @@ mutual
 -- the arguments of a head or a load
 pub arguments-shown : (rs : RawList) → AreTerms rs → simples_bytes (arguments_of rs) ≡ arguments_text rs
 arguments-shown rs h = arguments-all rs no_more (all-shown rs h)
+
+-- ---- expressions of whole numbers
+
+-- both sides of a sign
+pub sides : (w : List ℕ) {a b c d : List ℕ} → a ≡ b → c ≡ d → a ++ between w c ≡ b ++ between w d
+sides w {b = b} {c = c} h k = ap (λ z. z ++ between w c) h ∙ ap (λ z. b ++ between w z) k
+
+-- a sum or a difference, or a product
+abbrev is_adds : Expr → Bool
+is_adds (of_product p) = false
+is_adds (adds e o at p) = true
+
+abbrev is_times : Expr → Bool
+is_times (of_product (multiplies p at x)) = true
+is_times _ = false
+
+plain-shape : (x : Plain) → (is_adds (expr_of (plain_raw x)) ≡ is_sum (plain_raw x)) × (is_times (expr_of (plain_raw x)) ≡ is_product (plain_raw x))
+plain-shape (plain_word w) = (refl, refl)
+plain-shape (plain_any at) = (refl, refl)
+plain-shape (plain_number z at) = (refl, refl)
+
+-- what the expression is that is printed, the tree says
+mutual
+  expr-shape : (e : Expr) → (is_adds (expr_of (expr_raw e)) ≡ is_sum (expr_raw e)) × (is_times (expr_of (expr_raw e)) ≡ is_product (expr_raw e))
+  expr-shape (of_product p) = product-shape p
+  expr-shape (adds e by_plus at p) = (refl, refl)
+  expr-shape (adds e by_minus at p) = (refl, refl)
+
+  product-shape : (p : Product)
+      → (is_adds (expr_of (product_raw p)) ≡ is_sum (product_raw p)) × (is_times (expr_of (product_raw p)) ≡ is_product (product_raw p))
+  product-shape (of_item x) = item-shape x
+  product-shape (multiplies p at x) = (refl, refl)
+
+  item-shape : (x : Item) → (is_adds (expr_of (item_raw x)) ≡ is_sum (item_raw x)) × (is_times (expr_of (item_raw x)) ≡ is_product (item_raw x))
+  item-shape (item_plain x) = plain-shape x
+  item-shape (item_bracket at e end) = expr-shape e
+
+product-brackets : (e : Expr) → product_bytes (to_product e) ≡ bracketed (is_adds e) (expr_bytes e)
+product-brackets (of_product p) = refl
+product-brackets (adds e o at p) = refl
+
+item-brackets : (e : Expr) → item_bytes (to_item e) ≡ bracketed (is_adds e || is_times e) (expr_bytes e)
+item-brackets (of_product (of_item x)) = refl
+item-brackets (of_product (multiplies p at x)) = refl
+item-brackets (adds e o at p) = refl
+
+or-false : (v : Bool) → v ≡ (v || false)
+or-false true = refl
+or-false false = refl
+
+plain-shown : (x : Plain) → expr_bytes (expr_of (plain_raw x)) ≡ expr_text (plain_raw x)
+plain-shown (plain_word w) = ap (λ z. z.text) (word-kept (word_identifier w))
+plain-shown (plain_any at) = refl
+plain-shown (plain_number z at) = refl
+
+-- what stands on the right of `+` and `-`, on the left of `*`, and on its right, where the text of the expression is known
+right-of-sum : (e : Expr) (r : Raw) → is_adds e ≡ is_sum r → expr_bytes e ≡ expr_text r → product_bytes (to_product e)
+    ≡ bracketed (is_sum r || false) (expr_text r)
+right-of-sum e r s t = product-brackets e ∙ (λ i. bracketed ((s ∙ or-false (is_sum r)) i) (t i))
+
+left-of-star : (e : Expr) (r : Raw) → is_adds e ≡ is_sum r → expr_bytes e ≡ expr_text r → product_bytes (to_product e) ≡ bracketed (is_sum r) (expr_text r)
+left-of-star e r s t = product-brackets e ∙ (λ i. bracketed (s i) (t i))
+
+right-of-star : (e : Expr) (r : Raw) → (is_adds e ≡ is_sum r) × (is_times e ≡ is_product r) → expr_bytes e ≡ expr_text r
+    → item_bytes (to_item e) ≡ bracketed (is_sum r || is_product r) (expr_text r)
+right-of-star e r s t = item-brackets e ∙ (λ i. bracketed (s.0 i || s.1 i) (t i))
+
+mutual
+  expr-shown : (e : Expr) → expr_bytes (expr_of (expr_raw e)) ≡ expr_text (expr_raw e)
+  expr-shown (of_product p) = product-shown p
+  expr-shown (adds e by_plus at p) =
+      sides (codes "+") (expr-shown e) (right-of-sum (expr_of (product_raw p)) (product_raw p) (product-shape p).0 (product-shown p))
+  expr-shown (adds e by_minus at p) =
+      sides (codes "-") (expr-shown e) (right-of-sum (expr_of (product_raw p)) (product_raw p) (product-shape p).0 (product-shown p))
+
+  product-shown : (p : Product) → expr_bytes (expr_of (product_raw p)) ≡ expr_text (product_raw p)
+  product-shown (of_item x) = item-shown x
+  product-shown (multiplies p at x) =
+      sides (codes "*") (left-of-star (expr_of (product_raw p)) (product_raw p) (product-shape p).0 (product-shown p))
+      (right-of-star (expr_of (item_raw x)) (item_raw x) (item-shape x) (item-shown x))
+
+  item-shown : (x : Item) → expr_bytes (expr_of (item_raw x)) ≡ expr_text (item_raw x)
+  item-shown (item_plain x) = plain-shown x
+  item-shown (item_bracket at e end) = expr-shown e
+
+lead-plain-shown : (x : Plain) → lead_bytes (lead_of (plain_raw x)) ≡ expr_text (plain_raw x)
+lead-plain-shown (plain_word w) = ap (λ z. z.text) (word-kept (word_identifier w))
+lead-plain-shown (plain_any at) = refl
+lead-plain-shown (plain_number z at) = refl
+
+-- no sum stands on the left of `*` in a left side
+first-no-sum : (f : First) (bytes : List ℕ) → bytes ≡ bracketed (is_sum (first_raw f)) bytes
+first-no-sum (first_plain (plain_word w)) bytes = refl
+first-no-sum (first_plain (plain_any at)) bytes = refl
+first-no-sum (first_plain (plain_number z at)) bytes = refl
+first-no-sum (first_times f at x) bytes = refl
+
+first-brackets : (f : First) → first_bytes (to_first (lead_of (first_raw f))) ≡ lead_bytes (lead_of (first_raw f))
+first-brackets (first_plain (plain_word w)) = refl
+first-brackets (first_plain (plain_any at)) = refl
+first-brackets (first_plain (plain_number z at)) = refl
+first-brackets (first_times f at x) = refl
+
+first-shown : (f : First) → lead_bytes (lead_of (first_raw f)) ≡ expr_text (first_raw f)
+first-shown (first_plain x) = lead-plain-shown x
+first-shown (first_times f at x) =
+    sides (codes "*") (first-brackets f ∙ first-shown f ∙ first-no-sum f (expr_text (first_raw f)))
+    (right-of-star (expr_of (item_raw x)) (item_raw x) (item-shape x) (item-shown x))
+
+lead-shown : (l : Lead) → lead_bytes (lead_of (lead_raw l)) ≡ expr_text (lead_raw l)
+lead-shown (of_first f) = first-shown f
+lead-shown (lead_adds l by_plus at p) =
+    sides (codes "+") (lead-shown l) (right-of-sum (expr_of (product_raw p)) (product_raw p) (product-shape p).0 (product-shown p))
+lead-shown (lead_adds l by_minus at p) =
+    sides (codes "-") (lead-shown l) (right-of-sum (expr_of (product_raw p)) (product_raw p) (product-shape p).0 (product-shown p))
+
+left-shown : (x : Plain) → plain_bytes (plain_of (plain_raw x)) ≡ expr_text (plain_raw x)
+left-shown (plain_word w) = ap (λ z. z.text) (word-kept (word_identifier w))
+left-shown (plain_any at) = refl
+left-shown (plain_number z at) = refl
+
+right-shown : (r : Raw) → IsExpr r → expr_bytes (expr_of r) ≡ expr_text r
+right-shown r (e, s, q) = subst (λ z. expr_bytes (expr_of z) ≡ expr_text z) q (expr-shown e)
+
+-- whole-number goals
+pub is-shown : (l r : Raw) → IsPlainTerm l → IsExpr r → plain_bytes (plain_of l) ++ between (codes "is") (expr_bytes (expr_of r))
+    ≡ expr_text l ++ between (codes "is") (expr_text r)
+is-shown l r (x, s, q) h = sides (codes "is") (subst (λ z. plain_bytes (plain_of z) ≡ expr_text z) q (left-shown x)) (right-shown r h)
+
+pub test-shown : (w : List ℕ) (l r : Raw) → IsLead l → IsExpr r → lead_bytes (lead_of l) ++ between w (expr_bytes (expr_of r))
+    ≡ expr_text l ++ between w (expr_text r)
+test-shown w l r (x, s, q) h = sides w (subst (λ z. lead_bytes (lead_of z) ≡ expr_text z) q (lead-shown x)) (right-shown r h)

@@ -3,7 +3,7 @@ use Rattle.std.specs.Prelude.{ℕ, Bool, List, [], ◌∷◌, ◌++◌, codes}
 use Rattle.std.specs.Fmt.{signed_decimal}
 use Rattle.ll_parser.specs.declared.Quantifier.{Quantifier}
 use Rattle.ll_parser.specs.declared.Quantifier.TheVariants as quantifier
-use Rattle.ll_parser.specs.Grammar.{Term, of_app, cons, App, applied, app_any, app_number, app_bracket, Simple, simple_word, simple_any, simple_number, simple_bracket, Simples, no_more, and_then, ClauseOp, by_colon, by_left, ArrowOp, by_lolli, by_right, Formula, of_arrow, clause, Arrow, of_sum, implies, loads, Sum, of_with, plus, With, of_tensor, with, Tensor, of_primary, times, Primary, truly, erased, bracket, brace, quantified, atom, word_identifier}
+use Rattle.ll_parser.specs.Grammar.{Term, of_app, cons, App, applied, app_any, app_number, app_bracket, Simple, simple_word, simple_any, simple_number, simple_bracket, Simples, no_more, and_then, ClauseOp, by_colon, by_left, ArrowOp, by_lolli, by_right, Formula, of_arrow, clause, Arrow, of_sum, implies, loads, Sum, of_with, plus, With, of_tensor, with, Tensor, of_primary, times, Primary, truly, erased, bracket, brace, quantified, atom, word_identifier, Plain, plain_word, plain_any, plain_number, Expr, of_product, adds, Product, of_item, multiplies, Item, item_plain, item_bracket, First, first_plain, first_times, Lead, of_first, lead_adds, valued, tested, by_less, by_most, TestOp, add_sign, star}
 use Rattle.ll_parser.specs.Printed.{between, line_end, names_text}
 use Rattle.ll_parser.specs.Text.{Clause, plain, linear, Local, Heading, Module, Program}
 
@@ -44,6 +44,37 @@ abbrev pub quantifier_bytes : Quantifier → List ℕ
 quantifier_bytes quantifier.Forall = codes "forall"
 quantifier_bytes quantifier.Exists = codes "exists"
 
+abbrev pub test_bytes : TestOp → List ℕ
+test_bytes by_less = codes "<"
+test_bytes by_most = codes "=<"
+
+-- expressions of whole numbers: a space on each side of a sign
+abbrev pub plain_bytes : Plain → List ℕ
+plain_bytes (plain_word w) = (word_identifier w).text
+plain_bytes (plain_any at) = codes "_"
+plain_bytes (plain_number z at) = signed_decimal z
+
+abbrev mutual
+  pub expr_bytes : Expr → List ℕ
+  expr_bytes (of_product p) = product_bytes p
+  expr_bytes (adds e o at p) = expr_bytes e ++ between (add_sign o) (product_bytes p)
+
+  pub product_bytes : Product → List ℕ
+  product_bytes (of_item x) = item_bytes x
+  product_bytes (multiplies p at x) = product_bytes p ++ between star (item_bytes x)
+
+  pub item_bytes : Item → List ℕ
+  item_bytes (item_plain x) = plain_bytes x
+  item_bytes (item_bracket at e end) = codes "(" ++ (expr_bytes e ++ codes ")")
+
+abbrev pub first_bytes : First → List ℕ
+first_bytes (first_plain x) = plain_bytes x
+first_bytes (first_times f at x) = first_bytes f ++ between star (item_bytes x)
+
+abbrev pub lead_bytes : Lead → List ℕ
+lead_bytes (of_first f) = first_bytes f
+lead_bytes (lead_adds l o at p) = lead_bytes l ++ between (add_sign o) (product_bytes p)
+
 abbrev mutual
   pub formula_bytes : {o : Bool} → Formula o → List ℕ
   formula_bytes (of_arrow a) = arrow_bytes a
@@ -73,6 +104,8 @@ abbrev mutual
   primary_bytes (brace at f end) = codes "{" ++ (formula_bytes f ++ codes "}")
   primary_bytes (quantified q at w slash f) = quantifier_bytes q ++ (codes " " ++ ((word_identifier w).text ++ (92 ∷ (codes " " ++ formula_bytes f))))
   primary_bytes (atom w ss) = (word_identifier w).text ++ simples_bytes ss
+  primary_bytes (valued x at e) = plain_bytes x ++ between (codes "is") (expr_bytes e)
+  primary_bytes (tested l c at e) = lead_bytes l ++ between (test_bytes c) (expr_bytes e)
 
 -- ---- programs: each line ends with a dot and LF
 

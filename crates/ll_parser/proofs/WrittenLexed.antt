@@ -4,18 +4,18 @@ use Rattle.std.proofs.Math.Seq.{drop-length}
 use Rattle.ll_lexer.specs.declared.Place.{Place}
 use Rattle.ll_lexer.specs.declared.TokenKind.{TokenKind}
 use Rattle.ll_lexer.specs.declared.TokenKind.TheVariants as kind
-use Rattle.ll_lexer.specs.Spelling.{is_word_byte}
+use Rattle.ll_lexer.specs.Spelling.{is_word_byte, is_digit}
 use Rattle.ll_lexer.specs.Reading.{place_at, done, Lexes, at_end, LexedText, IsLexed}
 use Rattle.ll_lexer.proofs.ReadBack.{goes_on}
 use Rattle.ll_parser.specs.declared.Quantifier.TheVariants as quantifier
-use Rattle.ll_parser.specs.Tokens.{Identifier, Tok, tok_by, toks_of, any, true_word, erase_word, forall_word, exists_word, module_word, local_word, linear_word, dot, comma, ampersand, semicolon, paren_left, paren_right, brace_left, brace_right, backslash, cons_sign, colon_dash, left_arrow, right_arrow, lolli, load_arrow}
-use Rattle.ll_parser.specs.Grammar.{Word, lower, upper, Term, of_app, cons, App, applied, app_any, app_number, app_bracket, Simple, simple_word, simple_any, simple_number, simple_bracket, Simples, no_more, and_then, by_colon, by_left, by_lolli, by_right, Formula, of_arrow, clause, Arrow, of_sum, implies, loads, Sum, of_with, plus, With, of_tensor, with, Tensor, of_primary, times, Primary, truly, erased, bracket, brace, quantified, atom, word_token, word_identifier, clause_token, arrow_token, term_tokens, app_tokens, simple_tokens, simples_tokens, formula_tokens, arrow_tokens, sum_tokens, with_tokens, tensor_tokens, primary_tokens}
+use Rattle.ll_parser.specs.Tokens.{Identifier, Tok, tok_by, toks_of, any, true_word, erase_word, forall_word, exists_word, module_word, local_word, linear_word, dot, comma, ampersand, semicolon, paren_left, paren_right, brace_left, brace_right, backslash, cons_sign, colon_dash, left_arrow, right_arrow, lolli, load_arrow, is_sign, less_sign, most_sign, plus_sign, minus_sign, star_sign}
+use Rattle.ll_parser.specs.Grammar.{Word, lower, upper, Term, of_app, cons, App, applied, app_any, app_number, app_bracket, Simple, simple_word, simple_any, simple_number, simple_bracket, Simples, no_more, and_then, by_colon, by_left, by_lolli, by_right, Formula, of_arrow, clause, Arrow, of_sum, implies, loads, Sum, of_with, plus, With, of_tensor, with, Tensor, of_primary, times, Primary, truly, erased, bracket, brace, quantified, atom, word_token, word_identifier, clause_token, arrow_token, term_tokens, app_tokens, simple_tokens, simples_tokens, formula_tokens, arrow_tokens, sum_tokens, with_tokens, tensor_tokens, primary_tokens, Plain, plain_word, plain_any, plain_number, Expr, of_product, adds, Product, of_item, multiplies, Item, item_plain, item_bracket, First, first_plain, first_times, Lead, of_first, lead_adds, valued, tested, by_plus, by_minus, by_less, by_most, plain_token, expr_tokens, product_tokens, item_tokens, first_tokens, lead_tokens}
 use Rattle.ll_parser.specs.Text.{Clause, plain, linear, Local, Heading, Module, Program, clause_tokens, names, variables, local_tokens, heading_tokens, clauses_tokens, locals_tokens, module_tokens, modules_tokens, program_tokens}
 use Rattle.ll_parser.specs.Bare.{bare_tok}
 use Rattle.ll_parser.specs.Printed.{between, line_end, names_text}
-use Rattle.ll_parser.proofs.Written.{term_bytes, app_bytes, simple_bytes, simples_bytes, formula_bytes, arrow_bytes, sum_bytes, with_bytes, tensor_bytes, primary_bytes, clause_bytes, clauses_bytes, local_bytes, locals_bytes, heading_bytes, module_bytes, modules_bytes, program_bytes}
+use Rattle.ll_parser.proofs.Written.{term_bytes, app_bytes, simple_bytes, simples_bytes, formula_bytes, arrow_bytes, sum_bytes, with_bytes, tensor_bytes, primary_bytes, clause_bytes, clauses_bytes, local_bytes, locals_bytes, heading_bytes, module_bytes, modules_bytes, program_bytes, plain_bytes, expr_bytes, product_bytes, item_bytes, first_bytes, lead_bytes}
 use Rattle.ll_parser.proofs.Printable.{Spelled, spelled-split}
-use Rattle.ll_parser.proofs.Lexing.{Piece, Safe, Anything, nothing, joined, spaced, lined, name-piece, variable-piece, number-piece, spelling, IsFixed, keyword, sign}
+use Rattle.ll_parser.proofs.Lexing.{Piece, Safe, Anything, nothing, joined, spaced, lined, name-piece, variable-piece, number-piece, spelling, IsFixed, keyword, sign, ended}
 
 -- ---- bytes that end a word
 
@@ -96,6 +96,63 @@ operator k t f b h p = spaced (joined (sign k t f b h) (spaced p) (λ rest s. tt
 left-of : {xs : List ℕ} {us vs : List Tok} (sign_bytes ys : List ℕ) → Piece Safe xs us → Piece Safe (between sign_bytes ys) vs → Piece Safe (xs ++ between sign_bytes ys) (us ++ vs)
 left-of sign_bytes ys p q = joined p q (λ rest h. safe-space ((sign_bytes ++ (codes " " ++ ys)) ++ rest))
 
+-- a word or a sign with a space on each side, which ends it
+apart : {ys : List ℕ} {vs : List Tok} (k : TokenKind) (t : Tok) → IsFixed k → ((at : Place) → bare_tok (tok_by k (spelling k) at) ≡ bare_tok t)
+    → goes_on k 32 ≡ false → Piece Safe ys vs → Piece Safe (between (spelling k) ys) (t ∷ vs)
+apart k t f b h p = spaced (joined (ended k t f b) (spaced p) (λ rest s. h))
+
+is-ends : goes_on kind.Is 32 ≡ false
+unfolding is_word_byte
+is-ends = refl
+
+minus-ends : goes_on kind.Minus 32 ≡ false
+unfolding is_digit
+minus-ends = refl
+
+-- ---- expressions of whole numbers
+
+plain-piece : (x : Plain) → Spelled (plain_token x ∷ []) → Piece Safe (plain_bytes x) (plain_token x ∷ [])
+plain-piece (plain_word w) s = word-piece w [] s
+plain-piece (plain_any at) s = any-piece at
+plain-piece (plain_number z at) s = number-piece z at s.0
+
+mutual
+  expr-piece : (e : Expr) → Spelled (expr_tokens e) → Piece Safe (expr_bytes e) (expr_tokens e)
+  expr-piece (of_product p) s = product-piece p s
+  expr-piece (adds e by_plus at p) s =
+      let k = spelled-split (expr_tokens e) (plus_sign at ∷ product_tokens p) s in
+      left-of (codes "+") (product_bytes p) (expr-piece e k.0) (apart kind.Plus (plus_sign at) tt (λ x. refl) refl (product-piece p k.1.1))
+  expr-piece (adds e by_minus at p) s =
+      let k = spelled-split (expr_tokens e) (minus_sign at ∷ product_tokens p) s in
+      left-of (codes "-") (product_bytes p) (expr-piece e k.0) (apart kind.Minus (minus_sign at) tt (λ x. refl) minus-ends (product-piece p k.1.1))
+
+  product-piece : (p : Product) → Spelled (product_tokens p) → Piece Safe (product_bytes p) (product_tokens p)
+  product-piece (of_item x) s = item-piece x s
+  product-piece (multiplies p at x) s =
+      let k = spelled-split (product_tokens p) (star_sign at ∷ item_tokens x) s in
+      left-of (codes "*") (item_bytes x) (product-piece p k.0) (apart kind.Star (star_sign at) tt (λ x. refl) refl (item-piece x k.1.1))
+
+  item-piece : (x : Item) → Spelled (item_tokens x) → Piece Safe (item_bytes x) (item_tokens x)
+  item-piece (item_plain x) s = plain-piece x s
+  item-piece (item_bracket at e end) s = in-parens at end (expr-piece e (spelled-split (expr_tokens e) (paren_right end ∷ []) s.1).0)
+
+first-piece : (f : First) → Spelled (first_tokens f) → Piece Safe (first_bytes f) (first_tokens f)
+first-piece (first_plain x) s = plain-piece x s
+first-piece (first_times f at x) s =
+    let k = spelled-split (first_tokens f) (star_sign at ∷ item_tokens x) s in
+    left-of (codes "*") (item_bytes x) (first-piece f k.0) (apart kind.Star (star_sign at) tt (λ x. refl) refl (item-piece x k.1.1))
+
+lead-piece : (l : Lead) → Spelled (lead_tokens l) → Piece Safe (lead_bytes l) (lead_tokens l)
+lead-piece (of_first f) s = first-piece f s
+lead-piece (lead_adds l by_plus at p) s =
+    let k = spelled-split (lead_tokens l) (plus_sign at ∷ product_tokens p) s in
+    left-of (codes "+") (product_bytes p) (lead-piece l k.0) (apart kind.Plus (plus_sign at) tt (λ x. refl) refl (product-piece p k.1.1))
+lead-piece (lead_adds l by_minus at p) s =
+    let k = spelled-split (lead_tokens l) (minus_sign at ∷ product_tokens p) s in
+    left-of (codes "-") (product_bytes p) (lead-piece l k.0) (apart kind.Minus (minus_sign at) tt (λ x. refl) minus-ends (product-piece p k.1.1))
+
+-- ---- the levels of formulas
+
 mutual
   formula-piece : {o : Bool} (f : Formula o) → Spelled (formula_tokens f) → Piece Safe (formula_bytes f) (formula_tokens f)
   formula-piece (of_arrow a) s = arrow-piece a s
@@ -148,6 +205,14 @@ mutual
   primary-piece (quantified quantifier.Exists at w slash f) s =
       joined (keyword kind.Exists (exists_word at) tt (λ x. refl) (λ rest h. h)) (spaced (joined (word-piece w (backslash slash ∷ formula_tokens f) s.1) (joined (sign kind.Backslash (backslash slash) tt (λ x. refl) (λ b. refl)) (spaced (formula-piece f s.1.1.1)) (λ rest h. tt)) (λ rest h. safe-backslash ((codes " " ++ formula_bytes f) ++ rest)))) (λ rest h. safe-space (((word_identifier w).text ++ (92 ∷ (codes " " ++ formula_bytes f))) ++ rest))
   primary-piece (atom w ss) s = joined (word-piece w (simples_tokens ss) s) (simples-piece ss s.1) (simples-safe ss)
+  primary-piece (valued x at e) s =
+      left-of (codes "is") (expr_bytes e) (plain-piece x (s.0, tt)) (apart kind.Is (is_sign at) tt (λ x. refl) is-ends (expr-piece e s.1.1))
+  primary-piece (tested l by_less at e) s =
+      let k = spelled-split (lead_tokens l) (less_sign at ∷ expr_tokens e) s in
+      left-of (codes "<") (expr_bytes e) (lead-piece l k.0) (apart kind.Less (less_sign at) tt (λ x. refl) refl (expr-piece e k.1.1))
+  primary-piece (tested l by_most at e) s =
+      let k = spelled-split (lead_tokens l) (most_sign at ∷ expr_tokens e) s in
+      left-of (codes "=<") (expr_bytes e) (lead-piece l k.0) (apart kind.Most (most_sign at) tt (λ x. refl) refl (expr-piece e k.1.1))
 
 -- ---- programs: what ends a line may be followed by anything
 

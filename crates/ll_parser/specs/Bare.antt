@@ -1,8 +1,8 @@
 -- Tokens and trees without their places: two that are the same so are the same, places aside.
 use Rattle.std.specs.Prelude.{map}
 use Rattle.ll_lexer.specs.declared.Place.{Place}
-use Rattle.ll_parser.specs.Tokens.{Identifier, Tok, name, variable, any, number, true_word, erase_word, forall_word, exists_word, module_word, local_word, linear_word, dot, comma, ampersand, semicolon, paren_left, paren_right, brace_left, brace_right, backslash, cons_sign, colon_dash, left_arrow, right_arrow, lolli, load_arrow}
-use Rattle.ll_parser.specs.Raw.{Raw, truth, erasure, braces, universal, existential, load, binary, head, anything, int, RawList, none, more, ClauseTree, ModuleTree, ProgramTree}
+use Rattle.ll_parser.specs.Tokens.{Identifier, Tok, name, variable, any, number, true_word, erase_word, forall_word, exists_word, is_sign, module_word, local_word, linear_word, dot, comma, ampersand, semicolon, paren_left, paren_right, brace_left, brace_right, backslash, cons_sign, colon_dash, left_arrow, right_arrow, most_sign, less_sign, plus_sign, minus_sign, star_sign, lolli, load_arrow}
+use Rattle.ll_parser.specs.Raw.{Raw, truth, erasure, braces, universal, existential, load, binary, head, anything, int, is_goal, less_goal, most_goal, RawList, none, more, ClauseTree, ModuleTree, ProgramTree}
 
 -- the place that stands for every place
 abbrev pub nowhere : Place
@@ -22,6 +22,7 @@ bare_tok (true_word at) = true_word nowhere
 bare_tok (erase_word at) = erase_word nowhere
 bare_tok (forall_word at) = forall_word nowhere
 bare_tok (exists_word at) = exists_word nowhere
+bare_tok (is_sign at) = is_sign nowhere
 bare_tok (module_word at) = module_word nowhere
 bare_tok (local_word at) = local_word nowhere
 bare_tok (linear_word at) = linear_word nowhere
@@ -38,6 +39,11 @@ bare_tok (cons_sign at) = cons_sign nowhere
 bare_tok (colon_dash at) = colon_dash nowhere
 bare_tok (left_arrow at) = left_arrow nowhere
 bare_tok (right_arrow at) = right_arrow nowhere
+bare_tok (most_sign at) = most_sign nowhere
+bare_tok (less_sign at) = less_sign nowhere
+bare_tok (plus_sign at) = plus_sign nowhere
+bare_tok (minus_sign at) = minus_sign nowhere
+bare_tok (star_sign at) = star_sign nowhere
 bare_tok (lolli at) = lolli nowhere
 bare_tok (load_arrow at) = load_arrow nowhere
 
@@ -53,6 +59,9 @@ abbrev mutual
   bare_raw (head n rs) = head (bare_identifier n) (bare_raws rs)
   bare_raw (anything at) = anything nowhere
   bare_raw (int at n) = int nowhere n
+  bare_raw (is_goal at l r) = is_goal nowhere (bare_raw l) (bare_raw r)
+  bare_raw (less_goal at l r) = less_goal nowhere (bare_raw l) (bare_raw r)
+  bare_raw (most_goal at l r) = most_goal nowhere (bare_raw l) (bare_raw r)
 
   pub bare_raws : RawList → RawList
   bare_raws none = none

@@ -1,12 +1,16 @@
 -- The grammar of terms and formulas: a parse tree has one constructor per production, and with it come its tokens and its raw tree.
-use Rattle.std.specs.Prelude.{ℤ, Bool, true, false, List, [], ◌∷◌, ◌++◌}
+use Rattle.std.specs.Prelude.{ℤ, Bool, true, false, List, [], ◌∷◌, ◌++◌, ℕ, codes}
 use Rattle.ll_lexer.specs.declared.Place.{Place}
 use Rattle.ll_parser.specs.declared.Op.{Op}
 use Rattle.ll_parser.specs.declared.Op.TheVariants as op
 use Rattle.ll_parser.specs.declared.Quantifier.{Quantifier}
 use Rattle.ll_parser.specs.declared.Quantifier.TheVariants as quantifier
-use Rattle.ll_parser.specs.Tokens.{Identifier, Tok, name, variable, any, number, true_word, erase_word, forall_word, exists_word, comma, ampersand, semicolon, paren_left, paren_right, brace_left, brace_right, backslash, cons_sign, colon_dash, left_arrow, right_arrow, lolli, load_arrow}
-use Rattle.ll_parser.specs.Raw.{Raw, truth, erasure, braces, universal, existential, load, binary, head, anything, int, RawList, none, raws_then, cons_raw}
+pub use Rattle.ll_parser.specs.declared.SumOp.{SumOp}
+pub use Rattle.ll_parser.specs.declared.SumOp.TheVariants.{Plus as by_plus, Minus as by_minus}
+pub use Rattle.ll_parser.specs.declared.TestOp.{TestOp}
+pub use Rattle.ll_parser.specs.declared.TestOp.TheVariants.{Less as by_less, Most as by_most}
+use Rattle.ll_parser.specs.Tokens.{Identifier, Tok, name, variable, any, number, true_word, erase_word, forall_word, exists_word, comma, ampersand, semicolon, paren_left, paren_right, brace_left, brace_right, backslash, cons_sign, colon_dash, left_arrow, right_arrow, lolli, load_arrow, is_sign, most_sign, less_sign, plus_sign, minus_sign, star_sign}
+use Rattle.ll_parser.specs.Raw.{Raw, truth, erasure, braces, universal, existential, load, binary, head, anything, int, RawList, none, raws_then, cons_raw, is_goal, less_goal, most_goal, sign_raw}
 
 -- ---- parse trees
 
@@ -47,6 +51,38 @@ pub data ClauseOp : Type 0 where
 pub data ArrowOp : Type 0 where
   by_lolli by_right : ArrowOp
 
+-- plain = Name | Variable | Any | Number
+pub data Plain : Type 0 where
+  plain_word : Word → Plain
+  plain_any : Place → Plain
+  plain_number : ℤ → Place → Plain
+
+mutual
+  -- expr = factor { ( "+" | "-" ) factor }, the last one outermost
+  pub data Expr : Type 0 where
+    of_product : Product → Expr
+    adds : Expr → SumOp → Place → Product → Expr
+
+  -- factor = unit { "*" unit }
+  pub data Product : Type 0 where
+    of_item : Item → Product
+    multiplies : Product → Place → Item → Product
+
+  -- unit = plain | "(" expr ")"
+  pub data Item : Type 0 where
+    item_plain : Plain → Item
+    item_bracket : Place → Expr → Place → Item
+
+-- first = plain { "*" unit }
+pub data First : Type 0 where
+  first_plain : Plain → First
+  first_times : First → Place → Item → First
+
+-- lead = first { ( "+" | "-" ) factor }: the left side of a comparison, which does not begin with a bracket
+pub data Lead : Type 0 where
+  of_first : First → Lead
+  lead_adds : Lead → SumOp → Place → Product → Lead
+
 -- The Bool says that the form ends in a quantifier that has no brackets of its own. What stands on the left of an operator does
 -- not, so the scope of a quantifier reaches as far to the right as it can.
 mutual
@@ -79,11 +115,15 @@ mutual
   -- primary = "true" | "erase" | "(" formula ")" | "{" formula "}"
   --         | ( "forall" | "exists" ) ( Name | Variable ) "\" formula
   --         | ( Name | Variable ) { simple }
+  --         | plain "is" expr
+  --         | lead ( "<" | "=<" ) expr
   pub data Primary : Bool → Type 0 where
     truly erased : Place → Primary false
     bracket brace : {o : Bool} → Place → Formula o → Place → Primary false
     quantified : {o : Bool} → Quantifier → Place → Word → Place → Formula o → Primary true
     atom : Word → Simples → Primary false
+    valued : Plain → Place → Expr → Primary false
+    tested : Lead → TestOp → Place → Expr → Primary false
 
 -- ---- their tokens
 
@@ -104,6 +144,42 @@ arrow_token by_right at = right_arrow at
 abbrev pub quantifier_token : Quantifier → Place → Tok
 quantifier_token quantifier.Forall at = forall_word at
 quantifier_token quantifier.Exists at = exists_word at
+
+-- the tokens `+` and `-`, `<` and `=<`
+abbrev pub add_token : SumOp → Place → Tok
+add_token by_plus at = plus_sign at
+add_token by_minus at = minus_sign at
+
+abbrev pub test_token : TestOp → Place → Tok
+test_token by_less at = less_sign at
+test_token by_most at = most_sign at
+
+-- the token of a plain
+abbrev pub plain_token : Plain → Tok
+plain_token (plain_word w) = word_token w
+plain_token (plain_any at) = any at
+plain_token (plain_number n at) = number n at
+
+abbrev mutual
+  pub expr_tokens : Expr → List Tok
+  expr_tokens (of_product p) = product_tokens p
+  expr_tokens (adds e o at p) = expr_tokens e ++ add_token o at ∷ product_tokens p
+
+  pub product_tokens : Product → List Tok
+  product_tokens (of_item x) = item_tokens x
+  product_tokens (multiplies p at x) = product_tokens p ++ star_sign at ∷ item_tokens x
+
+  pub item_tokens : Item → List Tok
+  item_tokens (item_plain x) = plain_token x ∷ []
+  item_tokens (item_bracket at e end) = paren_left at ∷ (expr_tokens e ++ paren_right end ∷ [])
+
+abbrev pub first_tokens : First → List Tok
+first_tokens (first_plain x) = plain_token x ∷ []
+first_tokens (first_times f at x) = first_tokens f ++ star_sign at ∷ item_tokens x
+
+abbrev pub lead_tokens : Lead → List Tok
+lead_tokens (of_first f) = first_tokens f
+lead_tokens (lead_adds l o at p) = lead_tokens l ++ add_token o at ∷ product_tokens p
 
 abbrev mutual
   pub term_tokens : Term → List Tok
@@ -155,6 +231,8 @@ abbrev mutual
   primary_tokens (brace at f end) = brace_left at ∷ (formula_tokens f ++ brace_right end ∷ [])
   primary_tokens (quantified q at w slash f) = quantifier_token q at ∷ word_token w ∷ backslash slash ∷ formula_tokens f
   primary_tokens (atom w ss) = word_token w ∷ simples_tokens ss
+  primary_tokens (valued x at e) = plain_token x ∷ is_sign at ∷ expr_tokens e
+  primary_tokens (tested l c at e) = lead_tokens l ++ test_token c at ∷ expr_tokens e
 
 -- ---- their raw trees
 
@@ -198,6 +276,46 @@ abbrev pub quantifier_raw : Quantifier → Place → Identifier → Raw → Raw
 quantifier_raw quantifier.Forall at n r = universal at n r
 quantifier_raw quantifier.Exists at n r = existential at n r
 
+-- the sign of an operator
+abbrev pub add_sign : SumOp → List ℕ
+add_sign by_plus = codes "+"
+add_sign by_minus = codes "-"
+
+abbrev pub star : List ℕ
+star = codes "*"
+
+-- the raw tree of a comparison
+abbrev pub test_raw : TestOp → Place → Raw → Raw → Raw
+test_raw by_less at l r = less_goal at l r
+test_raw by_most at l r = most_goal at l r
+
+-- the raw trees of expressions
+abbrev pub plain_raw : Plain → Raw
+plain_raw (plain_word w) = head (word_identifier w) none
+plain_raw (plain_any at) = anything at
+plain_raw (plain_number n at) = int at n
+
+abbrev mutual
+  pub expr_raw : Expr → Raw
+  expr_raw (of_product p) = product_raw p
+  expr_raw (adds e o at p) = sign_raw (add_sign o) at (expr_raw e) (product_raw p)
+
+  pub product_raw : Product → Raw
+  product_raw (of_item x) = item_raw x
+  product_raw (multiplies p at x) = sign_raw star at (product_raw p) (item_raw x)
+
+  pub item_raw : Item → Raw
+  item_raw (item_plain x) = plain_raw x
+  item_raw (item_bracket at e end) = expr_raw e
+
+abbrev pub first_raw : First → Raw
+first_raw (first_plain x) = plain_raw x
+first_raw (first_times f at x) = sign_raw star at (first_raw f) (item_raw x)
+
+abbrev pub lead_raw : Lead → Raw
+lead_raw (of_first f) = first_raw f
+lead_raw (lead_adds l o at p) = sign_raw (add_sign o) at (lead_raw l) (product_raw p)
+
 abbrev mutual
   pub formula_raw : {o : Bool} → Formula o → Raw
   formula_raw (of_arrow a) = arrow_raw a
@@ -227,3 +345,5 @@ abbrev mutual
   primary_raw (brace at f end) = braces at (formula_raw f)
   primary_raw (quantified q at w slash f) = quantifier_raw q at (word_identifier w) (formula_raw f)
   primary_raw (atom w ss) = head (word_identifier w) (simples_raws ss)
+  primary_raw (valued x at e) = is_goal at (plain_raw x) (expr_raw e)
+  primary_raw (tested l c at e) = test_raw c at (lead_raw l) (expr_raw e)

@@ -7,7 +7,7 @@ use Rattle.ll_parser.specs.declared.Named.{Named}
 use Rattle.ll_parser.specs.declared.RawClause.{RawClause}
 use Rattle.ll_parser.specs.declared.RawModule.{RawModule}
 use Rattle.ll_parser.specs.Tokens.{Identifier}
-use Rattle.ll_parser.specs.Raw.{Raw, truth, erasure, braces, universal, existential, load, binary, head, anything, int, RawList, none, more, ClauseTree, ModuleTree, ProgramTree}
+use Rattle.ll_parser.specs.Raw.{Raw, truth, erasure, braces, universal, existential, load, binary, head, anything, int, is_goal, less_goal, most_goal, RawList, none, more, ClauseTree, ModuleTree, ProgramTree}
 
 -- a node of a raw tree; its parts are the places of other nodes
 pub data Node : Type 0 where
@@ -18,6 +18,7 @@ pub data Node : Type 0 where
   BinaryNode : Op → Place → ℕ → ℕ → Node
   HeadNode : Named → List ℕ → Node
   IntNode : Place → ℤ → Node
+  IsGoalNode LessGoalNode MostGoalNode : Place → ℕ → ℕ → Node
 
 -- the text that has a name's number among the texts, and the name's place
 abbrev pub identifier : List (List ℕ) → Named → Identifier
@@ -44,6 +45,9 @@ build_raw texts trees (LoadNode at n args g) = load at (identifier texts n) (raw
 build_raw texts trees (BinaryNode o at f g) = binary o at (raw_in trees f) (raw_in trees g)
 build_raw texts trees (HeadNode n args) = head (identifier texts n) (raws_in trees args)
 build_raw texts trees (IntNode at z) = int at z
+build_raw texts trees (IsGoalNode at f g) = is_goal at (raw_in trees f) (raw_in trees g)
+build_raw texts trees (LessGoalNode at f g) = less_goal at (raw_in trees f) (raw_in trees g)
+build_raw texts trees (MostGoalNode at f g) = most_goal at (raw_in trees f) (raw_in trees g)
 
 -- the trees that nodes show in turn, each over the trees of the nodes before it
 unfoldable pub raw_trees : List (List ℕ) → List Node → List Raw

@@ -1,11 +1,11 @@
 -- The text of raw trees as they are printed: brackets stand exactly where the levels or a quantifier ask for them.
-use Rattle.std.specs.Prelude.{ℕ, nat_lt, Bool, true, false, cond, if◌then◌else◌, List, [], ◌∷◌, ◌++◌, codes}
+use Rattle.std.specs.Prelude.{ℕ, nat_lt, Bool, true, false, cond, if◌then◌else◌, ◌&&◌, ◌||◌, List, [], ◌∷◌, ◌++◌, codes}
 use Rattle.std.specs.Fmt.{signed_decimal}
 use Rattle.std.specs.Str.{bytes_eq}
 use Rattle.ll_parser.specs.declared.Op.{Op}
 use Rattle.ll_parser.specs.declared.Op.TheVariants as op
 use Rattle.ll_parser.specs.Tokens.{Identifier}
-use Rattle.ll_parser.specs.Raw.{Raw, truth, erasure, braces, universal, existential, load, binary, head, anything, int, RawList, none, more, ClauseTree, ModuleTree, ProgramTree}
+use Rattle.ll_parser.specs.Raw.{Raw, truth, erasure, braces, universal, existential, load, binary, head, anything, int, is_goal, less_goal, most_goal, RawList, none, more, ClauseTree, ModuleTree, ProgramTree}
 
 -- the levels, from the loosest: `:-` and `<=`; `-o`, `=>` and `-->`; `;`; `&`; `,`; primary formulas
 pub data Rank : Type 0 where
@@ -109,6 +109,43 @@ abbrev mutual
   pair_text (more r none) = []
   pair_text (more r (more s rs)) = bracketed (is_pair r) (term_text r) ++ (codes "::" ++ term_text s)
 
+-- ---- expressions of whole numbers
+
+-- the sign is `+` or `-`; it is `*`
+abbrev pub is_add : List ℕ → Bool
+is_add w = bytes_eq (codes "+") w || bytes_eq (codes "-") w
+
+abbrev pub is_star : List ℕ → Bool
+is_star w = bytes_eq (codes "*") w
+
+-- an expression is a sum or a difference; it is a product
+abbrev pub is_sum : Raw → Bool
+is_sum (head n (more x (more y none))) = is_add n.text
+is_sum _ = false
+
+abbrev pub is_product : Raw → Bool
+is_product (head n (more x (more y none))) = is_star n.text
+is_product _ = false
+
+-- brackets stand round a left operand of `*` that is a sum or a difference
+abbrev pub left_encloses : List ℕ → Raw → Bool
+left_encloses w x = is_star w && is_sum x
+
+-- and round a right operand that is a sum or a difference, or, behind `*`, a product
+abbrev pub right_encloses : List ℕ → Raw → Bool
+right_encloses w y = is_sum y || (is_star w && is_product y)
+
+-- the text of an expression, and of a sign with its two operands or a word that has none
+abbrev mutual
+  pub expr_text : Raw → List ℕ
+  expr_text (head n rs) = sides_text n.text rs
+  expr_text (int at z) = signed_decimal z
+  expr_text _ = codes "_"
+
+  pub sides_text : List ℕ → RawList → List ℕ
+  sides_text w (more x (more y none)) = bracketed (left_encloses w x) (expr_text x) ++ between w (bracketed (right_encloses w y) (expr_text y))
+  sides_text w _ = w
+
 -- ---- formulas
 
 -- a quantified formula, behind its word
@@ -132,6 +169,9 @@ formula_text s f (binary o at l r) =
 formula_text s f (head n rs) = n.text ++ arguments_text rs
 formula_text s f (anything at) = codes "true"
 formula_text s f (int at z) = codes "true"
+formula_text s f (is_goal at l r) = expr_text l ++ between (codes "is") (expr_text r)
+formula_text s f (less_goal at l r) = expr_text l ++ between (codes "<") (expr_text r)
+formula_text s f (most_goal at l r) = expr_text l ++ between (codes "=<") (expr_text r)
 
 -- ---- programs: each line ends with a dot and LF
 

@@ -5,7 +5,7 @@ use Rattle.ll_parser.specs.declared.RawAt.{RawAt}
 use Rattle.ll_parser.specs.declared.RawNode.{RawNode}
 use Rattle.ll_parser.specs.declared.RawNode.TheVariants as seen
 use Rattle.ll_parser.specs.Raw.{raw_place}
-use Rattle.ll_parser.specs.Nodes.{Node, TrueNode, EraseNode, AnyNode, BracesNode, ForallNode, ExistsNode, LoadNode, BinaryNode, HeadNode, IntNode, build_raw, raw_trees, raw_at}
+use Rattle.ll_parser.specs.Nodes.{Node, TrueNode, EraseNode, AnyNode, BracesNode, ForallNode, ExistsNode, LoadNode, BinaryNode, HeadNode, IntNode, IsGoalNode, LessGoalNode, MostGoalNode, build_raw, raw_trees, raw_at}
 
 -- places as numbers
 abbrev pub places : List RawAt → List ℕ
@@ -23,6 +23,9 @@ node_of at (seen.Binary o f g) = BinaryNode o at f.0 g.0
 node_of at (seen.Head n args) = HeadNode n (places args.now)
 node_of at seen.Any = AnyNode at
 node_of at (seen.Int z) = IntNode at z
+node_of at (seen.Is f g) = IsGoalNode at f.0 g.0
+node_of at (seen.Less f g) = LessGoalNode at f.0 g.0
+node_of at (seen.Most f g) = MostGoalNode at f.0 g.0
 
 -- the parts of a node that is seen lie below a place
 abbrev pub HasPartsBelow : ℕ → RawNode → Type 0
@@ -36,6 +39,9 @@ HasPartsBelow at (seen.Binary o f g) = (f.0 < at) × (g.0 < at)
 HasPartsBelow at (seen.Head n args) = All (λ a. a.0 < at) args.now
 HasPartsBelow at seen.Any = Unit {0}
 HasPartsBelow at (seen.Int z) = Unit {0}
+HasPartsBelow at (seen.Is f g) = (f.0 < at) × (g.0 < at)
+HasPartsBelow at (seen.Less f g) = (f.0 < at) × (g.0 < at)
+HasPartsBelow at (seen.Most f g) = (f.0 < at) × (g.0 < at)
 
 -- What is seen at a place of the nodes is what its tree begins with, whatever the texts of the names are; and its parts lie at
 -- lower places.

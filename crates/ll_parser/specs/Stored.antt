@@ -6,7 +6,7 @@ use Rattle.ll_parser.specs.declared.RawAt.{RawAt}
 use Rattle.ll_parser.specs.declared.raws.Span.{Span}
 use Rattle.ll_parser.specs.declared.raws.Row.{Row}
 use Rattle.ll_parser.specs.declared.raws.Row.TheVariants as row
-use Rattle.ll_parser.specs.Nodes.{Node, TrueNode, EraseNode, AnyNode, BracesNode, ForallNode, ExistsNode, LoadNode, BinaryNode, HeadNode, IntNode}
+use Rattle.ll_parser.specs.Nodes.{Node, TrueNode, EraseNode, AnyNode, BracesNode, ForallNode, ExistsNode, LoadNode, BinaryNode, HeadNode, IntNode, IsGoalNode, LessGoalNode, MostGoalNode}
 use Rattle.ll_parser.specs.Seen.{places}
 
 -- the arguments of a span
@@ -25,6 +25,9 @@ row_node args (row.Binary at o f g) = BinaryNode o at f.0 g.0
 row_node args (row.Head n span) = HeadNode n (places (args_of args span))
 row_node args (row.Any at) = AnyNode at
 row_node args (row.Int at z) = IntNode at z
+row_node args (row.Is at f g) = IsGoalNode at f.0 g.0
+row_node args (row.Less at f g) = LessGoalNode at f.0 g.0
+row_node args (row.Most at f g) = MostGoalNode at f.0 g.0
 
 -- the place in the text of a node
 abbrev pub node_place : Node → Place
@@ -38,6 +41,9 @@ node_place (LoadNode at n args g) = at
 node_place (BinaryNode o at f g) = at
 node_place (HeadNode n args) = n.at
 node_place (IntNode at z) = at
+node_place (IsGoalNode at f g) = at
+node_place (LessGoalNode at f g) = at
+node_place (MostGoalNode at f g) = at
 
 -- a span lies within the arguments
 abbrev pub IsWithin : List RawAt → Span → Type 0
@@ -62,6 +68,9 @@ IsBelow at (LoadNode p n args g) = All (λ a. a < at) args × (g < at)
 IsBelow at (BinaryNode o p f g) = (f < at) × (g < at)
 IsBelow at (HeadNode n args) = All (λ a. a < at) args
 IsBelow at (IntNode p z) = Unit {0}
+IsBelow at (IsGoalNode p f g) = (f < at) × (g < at)
+IsBelow at (LessGoalNode p f g) = (f < at) × (g < at)
+IsBelow at (MostGoalNode p f g) = (f < at) × (g < at)
 
 -- each node has its parts at lower places
 abbrev pub IsWellFounded : List Node → Type 0

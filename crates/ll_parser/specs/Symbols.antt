@@ -2,7 +2,7 @@
 use Rattle.std.specs.Prelude.{◌≡◌, ℕ, ◌+◌, ◌≤◌, List, ◌++◌, length}
 use Rattle.ll_parser.specs.declared.symbols.Symbol.{Symbol}
 use Rattle.ll_parser.specs.declared.symbols.Symbol.TheVariants as symbol
-use Rattle.ll_parser.specs.Tokens.{Tok, name, variable, any, number, true_word, erase_word, forall_word, exists_word, module_word, local_word, linear_word, dot, comma, ampersand, semicolon, paren_left, paren_right, brace_left, brace_right, backslash, cons_sign, colon_dash, left_arrow, right_arrow, lolli, load_arrow}
+use Rattle.ll_parser.specs.Tokens.{Tok, name, variable, any, number, true_word, erase_word, forall_word, exists_word, is_sign, module_word, local_word, linear_word, dot, comma, ampersand, semicolon, paren_left, paren_right, brace_left, brace_right, backslash, cons_sign, colon_dash, left_arrow, right_arrow, most_sign, less_sign, plus_sign, minus_sign, star_sign, lolli, load_arrow}
 use Rattle.ll_parser.specs.Nodes.{identifier}
 
 -- the token, where the names have these texts
@@ -15,6 +15,7 @@ symbol_tok texts (symbol.True at) = true_word at
 symbol_tok texts (symbol.Erase at) = erase_word at
 symbol_tok texts (symbol.Forall at) = forall_word at
 symbol_tok texts (symbol.Exists at) = exists_word at
+symbol_tok texts (symbol.Is at) = is_sign at
 symbol_tok texts (symbol.Module at) = module_word at
 symbol_tok texts (symbol.Local at) = local_word at
 symbol_tok texts (symbol.Linear at) = linear_word at
@@ -31,6 +32,11 @@ symbol_tok texts (symbol.Cons at) = cons_sign at
 symbol_tok texts (symbol.ColonDash at) = colon_dash at
 symbol_tok texts (symbol.LeftArrow at) = left_arrow at
 symbol_tok texts (symbol.RightArrow at) = right_arrow at
+symbol_tok texts (symbol.Most at) = most_sign at
+symbol_tok texts (symbol.Less at) = less_sign at
+symbol_tok texts (symbol.Plus at) = plus_sign at
+symbol_tok texts (symbol.Minus at) = minus_sign at
+symbol_tok texts (symbol.Star at) = star_sign at
 symbol_tok texts (symbol.Lolli at) = lolli at
 symbol_tok texts (symbol.LoadArrow at) = load_arrow at
 

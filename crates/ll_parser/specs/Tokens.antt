@@ -18,9 +18,9 @@ pub data Tok : Type 0 where
   name variable : Identifier → Tok
   any : Place → Tok
   number : ℤ → Place → Tok
-  true_word erase_word forall_word exists_word module_word local_word linear_word : Place → Tok
+  true_word erase_word forall_word exists_word is_sign module_word local_word linear_word : Place → Tok
   dot comma ampersand semicolon paren_left paren_right brace_left brace_right backslash : Place → Tok
-  cons_sign colon_dash left_arrow right_arrow lolli load_arrow : Place → Tok
+  cons_sign colon_dash left_arrow right_arrow most_sign less_sign plus_sign minus_sign star_sign lolli load_arrow : Place → Tok
 
 -- the place of a token
 abbrev pub tok_place : Tok → Place
@@ -32,6 +32,7 @@ tok_place (true_word at) = at
 tok_place (erase_word at) = at
 tok_place (forall_word at) = at
 tok_place (exists_word at) = at
+tok_place (is_sign at) = at
 tok_place (module_word at) = at
 tok_place (local_word at) = at
 tok_place (linear_word at) = at
@@ -48,6 +49,11 @@ tok_place (cons_sign at) = at
 tok_place (colon_dash at) = at
 tok_place (left_arrow at) = at
 tok_place (right_arrow at) = at
+tok_place (most_sign at) = at
+tok_place (less_sign at) = at
+tok_place (plus_sign at) = at
+tok_place (minus_sign at) = at
+tok_place (star_sign at) = at
 tok_place (lolli at) = at
 tok_place (load_arrow at) = at
 
@@ -61,6 +67,7 @@ tok_by kind.True bytes at = true_word at
 tok_by kind.Erase bytes at = erase_word at
 tok_by kind.Forall bytes at = forall_word at
 tok_by kind.Exists bytes at = exists_word at
+tok_by kind.Is bytes at = is_sign at
 tok_by kind.Module bytes at = module_word at
 tok_by kind.Local bytes at = local_word at
 tok_by kind.Linear bytes at = linear_word at
@@ -77,6 +84,11 @@ tok_by kind.Cons bytes at = cons_sign at
 tok_by kind.ColonDash bytes at = colon_dash at
 tok_by kind.LeftArrow bytes at = left_arrow at
 tok_by kind.RightArrow bytes at = right_arrow at
+tok_by kind.Most bytes at = most_sign at
+tok_by kind.Less bytes at = less_sign at
+tok_by kind.Plus bytes at = plus_sign at
+tok_by kind.Minus bytes at = minus_sign at
+tok_by kind.Star bytes at = star_sign at
 tok_by kind.Lolli bytes at = lolli at
 tok_by kind.LoadArrow bytes at = load_arrow at
 

@@ -2,6 +2,7 @@
 use Rattle.std.specs.Prelude.{◌≡◌, ℕ, ◌<◌, ◌≤◌, List, [], ◌∷◌, ◌++◌, length, take, drop, reverse, All, codes, Option, Some, None}
 use Rattle.ll_lexer.specs.declared.Place.{Place}
 use Rattle.ll_parser.specs.declared.Level.{Level}
+use Rattle.ll_parser.specs.declared.Level.TheVariants.{Close}
 use Rattle.ll_parser.specs.declared.RawAt.{RawAt}
 use Rattle.ll_parser.specs.declared.waiting.Word.{Word}
 use Rattle.ll_parser.specs.declared.waiting.Word.TheVariants as word
@@ -12,15 +13,16 @@ use Rattle.ll_parser.specs.declared.waiting.Frame.TheVariants as frame
 use Rattle.ll_parser.specs.declared.formulas.Mode.{Mode}
 use Rattle.ll_parser.specs.declared.formulas.Mode.TheVariants as mode
 use Rattle.ll_parser.specs.declared.waiting.Waiting.{Waiting}
-use Rattle.ll_parser.specs.Raw.{Raw, RawList, raws_then, cons_raw}
+use Rattle.ll_parser.specs.Tokens.{Tok}
+use Rattle.ll_parser.specs.Raw.{Raw, RawList, raws_then, cons_raw, sign_raw}
 use Rattle.ll_parser.specs.Grammar.{Word as GrammarWord, lower, upper}
-use Rattle.ll_parser.specs.Flat.{Pending, operand, loading, in_bracket, in_brace, in_quantifier, in_atom, in_argument, in_group, cell, Flat, want, part, whole, binder, slash, term_want, term_part, term_whole, build, reduce, gather}
+use Rattle.ll_parser.specs.Flat.{Pending, operand, loading, in_bracket, in_brace, in_quantifier, in_atom, in_argument, in_group, cell, added, multiplied, valuing, testing, in_expression, in_left_side, Flat, want, part, whole, binder, slash, term_want, term_part, term_whole, plain, led, lead_want, item_want, item, build, reduce, gather, end_with, operate, close_number, end_expression, final_expression}
 use Rattle.ll_parser.specs.Nodes.{Node, identifier, raw_in, raws_in, raw_trees, raw_at}
 use Rattle.ll_parser.specs.Seen.{places}
 
--- the texts of names, of which `::` is the first
+-- the texts of names, of which the signs are the first
 abbrev pub known : List (List ℕ) → List (List ℕ)
-known texts = codes "::" ∷ texts
+known texts = codes "::" ∷ codes "+" ∷ codes "-" ∷ codes "*" ∷ texts
 
 -- a word with its text
 abbrev pub word_view : List (List ℕ) → Word → GrammarWord
@@ -45,6 +47,12 @@ frame_view texts trees args (frame.Atom w from) = in_atom (word_view texts w) (a
 frame_view texts trees args (frame.Application w from) = in_argument (word_view texts w) (args_view trees (drop from args))
 frame_view texts trees args frame.Group = in_group
 frame_view texts trees args (frame.Cell at first) = cell at (raw_in trees first.0)
+frame_view texts trees args (frame.Sum o at first) = added o at (raw_in trees first.0)
+frame_view texts trees args (frame.Product at first) = multiplied at (raw_in trees first.0)
+frame_view texts trees args (frame.Is at first) = valuing at (raw_in trees first.0)
+frame_view texts trees args (frame.Comparison o at first) = testing o at (raw_in trees first.0)
+frame_view texts trees args frame.NumberGroup = in_expression
+frame_view texts trees args frame.LeadGroup = in_left_side
 
 -- how many of so many arguments wait below a frame
 abbrev pub prefix_base : ℕ → Prefix → ℕ
@@ -60,6 +68,12 @@ base n (frame.Atom w from) = from
 base n (frame.Application w from) = from
 base n frame.Group = n
 base n (frame.Cell at first) = n
+base n (frame.Sum o at first) = n
+base n (frame.Product at first) = n
+base n (frame.Is at first) = n
+base n (frame.Comparison o at first) = n
+base n frame.NumberGroup = n
+base n frame.LeadGroup = n
 
 -- the arguments that wait below a frame
 abbrev pub prefix_left : List RawAt → Prefix → List RawAt
@@ -75,6 +89,12 @@ left args (frame.Atom w from) = take from args
 left args (frame.Application w from) = take from args
 left args frame.Group = args
 left args (frame.Cell at first) = args
+left args (frame.Sum o at first) = args
+left args (frame.Product at first) = args
+left args (frame.Is at first) = args
+left args (frame.Comparison o at first) = args
+left args frame.NumberGroup = args
+left args frame.LeadGroup = args
 
 -- frames, the newest first
 abbrev pub frames_view : List (List ℕ) → List Raw → List RawAt → List Frame → List Pending
@@ -115,6 +135,11 @@ mode_view texts w (mode.Slash q at x) = slash q at (word_view texts x) (waiting 
 mode_view texts w mode.Term = term_want (waiting texts w)
 mode_view texts w (mode.Application x from) = term_part (word_view texts x) (args_from texts w from) (waiting_below texts w from)
 mode_view texts w (mode.WholeTerm at) = term_whole (tree texts w at) (waiting texts w)
+mode_view texts w (mode.Plain at) = plain (tree texts w at) (waiting texts w)
+mode_view texts w mode.LeadUnit = lead_want (waiting texts w)
+mode_view texts w (mode.Lead at) = led (tree texts w at) (waiting texts w)
+mode_view texts w mode.Unit = item_want (waiting texts w)
+mode_view texts w (mode.Expression at) = item (tree texts w at) (waiting texts w)
 
 -- ---- places are those of nodes, and arguments those that wait
 
@@ -132,6 +157,12 @@ FrameFits nodes n (frame.Atom w from) = from ≤ n
 FrameFits nodes n (frame.Application w from) = from ≤ n
 FrameFits nodes n frame.Group = Unit {0}
 FrameFits nodes n (frame.Cell at first) = first.0 < nodes
+FrameFits nodes n (frame.Sum o at first) = first.0 < nodes
+FrameFits nodes n (frame.Product at first) = first.0 < nodes
+FrameFits nodes n (frame.Is at first) = first.0 < nodes
+FrameFits nodes n (frame.Comparison o at first) = first.0 < nodes
+FrameFits nodes n frame.NumberGroup = Unit {0}
+FrameFits nodes n frame.LeadGroup = Unit {0}
 
 -- the newest first
 abbrev pub FramesFit : ℕ → ℕ → List Frame → Type 0
@@ -176,6 +207,11 @@ ModeFits w (mode.Slash q at x) = Fits w
 ModeFits w mode.Term = Fits w
 ModeFits w (mode.Application x from) = FitsBelow w from
 ModeFits w (mode.WholeTerm at) = Fits w × IsNode w at
+ModeFits w (mode.Plain at) = Fits w × IsNode w at
+ModeFits w mode.LeadUnit = Fits w
+ModeFits w (mode.Lead at) = Fits w × IsNode w at
+ModeFits w mode.Unit = Fits w
+ModeFits w (mode.Expression at) = Fits w × IsNode w at
 
 -- ---- what calls leave, whatever the texts of the names are
 
@@ -280,3 +316,39 @@ pub record HasNoCell (old new : Waiting) : Type 0 where
 pub record TakesNone (level : Level) (old new : Waiting) : Type 0 where
   pub same : new ≡ old
   pub reduces : (texts : List (List ℕ)) (r : Raw) → reduce level r (waiting (known texts) old) ≡ (r, waiting (known texts) old)
+
+-- ---- whole-number goals
+
+-- an expression with what it ends, where this is what it takes
+pub record Takes (take : Raw → List Pending → Raw × List Pending) (old new : Waiting) (i j : RawAt) : Type 0 where
+  pub fits : Fits new
+  pub inside : IsNode new j
+  pub takes : (texts : List (List ℕ)) → take (tree (known texts) old i) (waiting (known texts) old) ≡ (tree (known texts) new j, waiting (known texts) new)
+
+-- a sign was taken off, with what stands in front of it
+pub record PoppedSign (take : Raw → List Pending → Raw × List Pending) (sign : List ℕ) (old new : Waiting) (at : Place) (left : RawAt) : Type 0 where
+  pub fits : Fits new
+  pub inside : IsNode new left
+  pub forms : new.forms ≡ old.forms
+  pub takes : (texts : List (List ℕ)) (r : Raw)
+      → take r (waiting (known texts) old) ≡ (sign_raw sign at (tree (known texts) new left) r, waiting (known texts) new)
+
+-- an expression takes nothing
+pub record TakesNothing (take : Raw → List Pending → Raw × List Pending) (old new : Waiting) : Type 0 where
+  pub same : new ≡ old
+  pub takes : (texts : List (List ℕ)) (r : Raw) → take r (waiting (known texts) old) ≡ (r, waiting (known texts) old)
+
+-- a place shows the goal that an expression ends, and its sign waits no more
+pub record IsGoal (old new : Waiting) (i j : RawAt) : Type 0 where
+  pub fits : Fits new
+  pub inside : IsNode new j
+  pub goes_on : (texts : List (List ℕ)) (t : Tok)
+      → end_expression (tree (known texts) old i) (waiting (known texts) old) t ≡ operate (tree (known texts) new j) (waiting (known texts) new) t
+  pub ends : (texts : List (List ℕ)) → final_expression (tree (known texts) old i) (waiting (known texts) old)
+      ≡ (let q = reduce Close (tree (known texts) new j) (waiting (known texts) new) in end_with q.0 q.1)
+
+-- no goal waits for an expression
+pub record HasNoGoal (old new : Waiting) : Type 0 where
+  pub same : new ≡ old
+  pub goes_on : (texts : List (List ℕ)) (r : Raw) (t : Tok) → end_expression r (waiting (known texts) old) t ≡ close_number r (waiting (known texts) old) t
+  pub ends : (texts : List (List ℕ)) (r : Raw) → final_expression r (waiting (known texts) old) ≡ None

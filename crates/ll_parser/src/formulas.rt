@@ -4,7 +4,7 @@ ghost use Rattle.ll_parser.specs.declared.RawAt.{RawAt};
 ghost use Rattle.ll_parser.specs.declared.waiting.Waiting.{Waiting};
 ghost use Rattle.ll_parser.specs.declared.Level.TheVariants.{Close};
 ghost use Rattle.ll_parser.specs.Raw.{Raw, raws_then};
-ghost use Rattle.ll_parser.specs.Flat.{Pending, want, part, whole, binder, slash, term_want, push as push_operator, reduce, admits_load, begin_load, close_bracket, close_brace, operate, end_with, flat_step, flat_final};
+ghost use Rattle.ll_parser.specs.Flat.{Pending, want, part, whole, binder, slash, term_want, push as push_operator, reduce, admits_load, begin_load, close_bracket, close_brace, operate, end_with, take_both, final_expression, flat_step, flat_final};
 ghost use Rattle.ll_parser.specs.Nodes.{identifier, build_raw, raw_trees};
 ghost use Rattle.ll_parser.specs.Seen.{node_of, HasPartsBelow};
 ghost use Rattle.ll_parser.specs.Symbols.{symbol_tok};
@@ -35,6 +35,16 @@ pub enum Mode {
     Application(Word, usize),
     /// What follows a term that takes no arguments.
     WholeTerm(RawAt),
+    /// What follows `_` or a number with which a formula begins.
+    Plain(RawAt),
+    /// A unit of the left side of a comparison, behind one of its signs.
+    LeadUnit,
+    /// What follows a unit of the left side of a comparison.
+    Lead(RawAt),
+    /// A unit of any other expression.
+    Unit,
+    /// What follows a unit of any other expression.
+    Expression(RawAt),
 }
 
 impl Waiting {
@@ -53,6 +63,11 @@ impl Waiting {
             Mode::Term => self.begin_term(symbol),
             Mode::Application(word, from) => self.after_application(word, from, symbol),
             Mode::WholeTerm(term) => self.after_term(term, symbol),
+            Mode::Plain(unit) => self.after_plain(unit, symbol),
+            Mode::LeadUnit => self.begin_lead_unit(symbol),
+            Mode::Lead(unit) => self.after_lead(unit, symbol),
+            Mode::Unit => self.begin_unit(symbol),
+            Mode::Expression(unit) => self.after_unit(unit, symbol),
         }
     }
 
@@ -96,6 +111,8 @@ impl Waiting {
         match symbol {
             Symbol::Name(name) => Ok(Some(Mode::Atom(Word::Name(name), self.args.len()))),
             Symbol::Variable(name) => Ok(Some(Mode::Atom(Word::Variable(name), self.args.len()))),
+            Symbol::Any(at) => self.plain(at, RawNode::Any),
+            Symbol::Number(at, value) => self.plain(at, RawNode::Int(value)),
             Symbol::True(at) => self.primary(at, RawNode::True),
             Symbol::Erase(at) => self.primary(at, RawNode::Erase),
             Symbol::Forall(at) => Ok(Some(Mode::Binder(Quantifier::Forall, at))),
@@ -143,7 +160,7 @@ impl Waiting {
         Ok(Some(Mode::Atom(word, from)))
     }
 
-    // The token behind an atom: one more argument, the arrow of a load, or what follows an operand.
+    // The token behind an atom: one more argument, the arrow of a load, a sign of a whole-number goal, or what follows an operand.
     fn after_atom(
         &mut self,
         word: Word,
@@ -163,6 +180,12 @@ impl Waiting {
             Symbol::Number(at, value) => self.extend_atom(word, from, at, RawNode::Int(value)),
             Symbol::ParenLeft(_) => self.want_term(Frame::Atom(word, from)),
             Symbol::LoadArrow(at) => self.begin_load(word, from, at),
+            Symbol::Is(_)
+            | Symbol::Most(_)
+            | Symbol::Less(_)
+            | Symbol::Plus(_)
+            | Symbol::Minus(_)
+            | Symbol::Star(_) => self.after_word(word, from, symbol),
             _ => {
                 let operand = self.finish_head(named(word), from)?;
                 self.after_operand(operand, symbol)
@@ -203,8 +226,12 @@ impl Waiting {
         }
     }
 
-    // The operator behind an operand, or the bracket that closes round it.
-    fn after_operand(&mut self, operand: RawAt, symbol: Symbol) -> Result<Option<Mode>, OutOfMemory>
+    /// The operator behind an operand, or the bracket that closes round it.
+    pub fn after_operand(
+        &mut self,
+        operand: RawAt,
+        symbol: Symbol,
+    ) -> Result<Option<Mode>, OutOfMemory>
         requires fits { Fits self.old }
         requires operand { IsNode self.old operand }
         ensures gives { IfOk result (λ o. Gives self.new o (λ texts. operate (tree texts self.old operand) (waiting texts self.old) (symbol_tok texts symbol))) }
@@ -297,7 +324,23 @@ impl Waiting {
                 self.finish_operand(operand)
             }
             Mode::Formula(operand) => self.finish_operand(operand),
+            Mode::Expression(unit) => self.finish_expression(unit),
             _ => Ok(None),
+        }
+    }
+
+    // The whole formula that ends with an expression, if no bracket is open.
+    fn finish_expression(&mut self, unit: RawAt) -> Result<Option<RawAt>, OutOfMemory>
+        requires fits { Fits self.old }
+        requires unit { IsNode self.old unit }
+        ensures gives { IfOk result (λ o. GivesTree self.new o (λ texts.
+            let q = take_both (tree texts self.old unit) (waiting texts self.old) in final_expression q.0 q.1)) }
+        ensures grows { IfOk result (λ _. Grows self.old.forms self.new.forms) }
+    {
+        let expression = self.take_both(unit)?;
+        match self.goal(expression)? {
+            Some(goal) => self.finish_operand(goal),
+            None => Ok(None),
         }
     }
 
@@ -342,6 +385,12 @@ fn loads_above(frame: Frame) -> bool
         | Frame::Atom(_, _)
         | Frame::Application(_, _)
         | Frame::Group
-        | Frame::Cell(_, _) => true,
+        | Frame::Cell(_, _)
+        | Frame::Sum(_, _, _)
+        | Frame::Product(_, _)
+        | Frame::Is(_, _)
+        | Frame::Comparison(_, _, _)
+        | Frame::NumberGroup
+        | Frame::LeadGroup => true,
     }
 }

@@ -7,6 +7,7 @@
 
 mod formulas;
 mod laws;
+mod numbers;
 mod operators;
 mod raws;
 mod reading;
@@ -71,12 +72,19 @@ pub enum RawNode<'a> {
     Load(Named, &'a [RawAt], RawAt),
     /// An operator with its left and its right operand.
     Binary(Op, RawAt, RawAt),
-    /// An atom, a name or a variable with its arguments. `X::L` is one whose name has the text `::`.
+    /// An atom, a name or a variable with its arguments. `X::L`, `E + F`, `E - F` and `E * F` are such nodes, whose name has the
+    /// sign as its text and stands at the sign.
     Head(Named, &'a [RawAt]),
     /// `_`.
     Any,
     /// A whole number.
     Int(i64),
+    /// `X is E`.
+    Is(RawAt, RawAt),
+    /// `E < F`.
+    Less(RawAt, RawAt),
+    /// `E =< F`.
+    Most(RawAt, RawAt),
 }
 
 /// A clause, and whether it is marked `LINEAR`.
@@ -120,6 +128,20 @@ enum Level {
     Arrow,
     Clause,
     Close,
+}
+
+// The sign of a sum.
+#[derive(Clone, Copy, Debug, PartialEq, Eq)]
+enum SumOp {
+    Plus,
+    Minus,
+}
+
+// The sign of a comparison: `<` or `=<`.
+#[derive(Clone, Copy, Debug, PartialEq, Eq)]
+enum TestOp {
+    Less,
+    Most,
 }
 
 // The word of a quantifier.

@@ -1,15 +1,26 @@
 //! Operands with all that an operator or a closing bracket takes together.
-ghost use Rattle.std.specs.Prelude.{◌≡◌, ℕ, ◌<◌, List, length, IfOk, IfSome, IfNone};
+ghost use Rattle.std.specs.Prelude.{◌≡◌, ℕ, ◌<◌, List, [], length, IfOk, IfSome, IfNone, MatchOption, slice_index_or};
 ghost use Rattle.ll_parser.specs.declared.waiting.Frame.TheVariants.{Front};
-ghost use Rattle.ll_parser.specs.Flat.{build};
-ghost use Rattle.ll_parser.specs.Raw.{load, cons_raw};
+ghost use Rattle.ll_parser.specs.Grammar.{add_sign, star, test_raw};
+ghost use Rattle.ll_parser.specs.Flat.{build, take_product, take_sum, take_both};
+ghost use Rattle.ll_parser.specs.Raw.{load, cons_raw, sign_raw};
 ghost use Rattle.ll_parser.specs.Nodes.{identifier, raw_trees};
-ghost use Rattle.ll_parser.specs.Waiting.{tree, waiting, args_from, waiting_below, pending, prefix_view, prefix_left, Fits, FitsBelow, IsNode, CanWait, Grows, Leaves, IsBuilt, Popped, Reduced, Gathered, PoppedCell, HasNoCell, TakesNone};
+ghost use Rattle.ll_parser.specs.Waiting.{tree, waiting, args_from, waiting_below, pending, prefix_view, prefix_left, Fits, FitsBelow, IsNode, CanWait, Grows, Leaves, IsBuilt, Popped, Reduced, Gathered, PoppedCell, HasNoCell, TakesNone, Takes, PoppedSign, TakesNothing, IsGoal, HasNoGoal, known};
 
-use crate::waiting::{CONS, Frame, Prefix, Waiting, newest, takes};
-use crate::{Level, Named, Quantifier, RawAt, RawNode};
+use crate::waiting::{CONS, Frame, MINUS, PLUS, Prefix, STAR, Waiting, newest, takes};
+use crate::{Level, Named, Quantifier, RawAt, RawNode, SumOp, TestOp};
 use ll_bank::OutOfMemory;
 use ll_lexer::Place;
+
+// The number of a sum's sign among the names.
+fn sum_name(op: SumOp) -> u32
+    ensures { (texts : List (List ℕ)) → slice_index_or (known texts) result [] ≡ add_sign op }
+{
+    match op {
+        SumOp::Plus => PLUS,
+        SumOp::Minus => MINUS,
+    }
+}
 
 impl Waiting {
     // The load with the arguments that wait from a place on, which wait no more.
@@ -117,6 +128,148 @@ impl Waiting {
         let name = Named { name: CONS, at };
         let list = self.add(at, RawNode::Head(name, &[first, rest]))?;
         Ok(list)
+    }
+
+    // A sign with a term on each side.
+    fn pair(&mut self, sign: Named, left: RawAt, right: RawAt) -> Result<RawAt, OutOfMemory>
+        requires fits { Fits self.old }
+        requires left { IsNode self.old left }
+        requires right { IsNode self.old right }
+        ensures gives { IfOk result (λ i. IsBuilt self.old self.new i
+            (λ texts. sign_raw (identifier texts sign).text sign.at (tree texts self.old left) (tree texts self.old right))
+            (λ texts. waiting texts self.old)) }
+        ensures grows { IfOk result (λ _. Grows self.old.forms self.new.forms) }
+    {
+        let pair = self.add(sign.at, RawNode::Head(sign, &[left, right]))?;
+        Ok(pair)
+    }
+
+    // Takes `*` and what stands in front of it off, if they are the newest.
+    fn pop_product(&mut self) -> Option<(Place, RawAt)>
+        requires { Fits self.old }
+        ensures none { IfNone result (TakesNothing take_product self.old self.new) }
+        ensures some { IfSome result (λ product. PoppedSign take_product star self.old self.new product.0 product.1) }
+        ensures grows { Grows self.old.forms self.new.forms }
+    {
+        match newest(&self.frames) {
+            None => None,
+            Some(frame) => match frame {
+                Frame::Product(at, left) => {
+                    self.drop_newest();
+                    Some((at, left))
+                }
+                _ => None,
+            },
+        }
+    }
+
+    /// A unit with the product that it ends.
+    pub fn take_product(&mut self, unit: RawAt) -> Result<RawAt, OutOfMemory>
+        requires fits { Fits self.old }
+        requires unit { IsNode self.old unit }
+        ensures gives { IfOk result (λ i. Takes take_product self.old self.new unit i) }
+        ensures grows { IfOk result (λ _. Grows self.old.forms self.new.forms) }
+    {
+        match self.pop_product() {
+            Some((at, left)) => {
+                let sign = Named { name: STAR, at };
+                self.pair(sign, left, unit)
+            }
+            None => Ok(unit),
+        }
+    }
+
+    // Takes `+` or `-` and what stands in front of it off, if they are the newest.
+    fn pop_sum(&mut self) -> Option<(SumOp, Place, RawAt)>
+        requires { Fits self.old }
+        ensures none { IfNone result (TakesNothing take_sum self.old self.new) }
+        ensures some { IfSome result (λ sum. PoppedSign take_sum (add_sign sum.0) self.old self.new sum.1 sum.2) }
+        ensures grows { Grows self.old.forms self.new.forms }
+    {
+        match newest(&self.frames) {
+            None => None,
+            Some(frame) => match frame {
+                Frame::Sum(op, at, left) => {
+                    self.drop_newest();
+                    Some((op, at, left))
+                }
+                _ => None,
+            },
+        }
+    }
+
+    // A product with the sum that it ends.
+    fn take_sum(&mut self, product: RawAt) -> Result<RawAt, OutOfMemory>
+        requires fits { Fits self.old }
+        requires product { IsNode self.old product }
+        ensures gives { IfOk result (λ i. Takes take_sum self.old self.new product i) }
+        ensures grows { IfOk result (λ _. Grows self.old.forms self.new.forms) }
+    {
+        match self.pop_sum() {
+            Some((op, at, left)) => {
+                let name = sum_name(op);
+                let sum = self.pair(Named { name, at }, left, product)?;
+                Ok(sum)
+            }
+            None => Ok(product),
+        }
+    }
+
+    /// A unit with the product that it ends, and with the sum that this ends.
+    pub fn take_both(&mut self, unit: RawAt) -> Result<RawAt, OutOfMemory>
+        requires fits { Fits self.old }
+        requires unit { IsNode self.old unit }
+        ensures gives { IfOk result (λ i. Takes take_both self.old self.new unit i) }
+        ensures grows { IfOk result (λ _. Grows self.old.forms self.new.forms) }
+    {
+        let product = self.take_product(unit)?;
+        self.take_sum(product)
+    }
+
+    // A comparison.
+    fn comparison(
+        &mut self,
+        op: TestOp,
+        at: Place,
+        left: RawAt,
+        right: RawAt,
+    ) -> Result<RawAt, OutOfMemory>
+        requires fits { Fits self.old }
+        requires left { IsNode self.old left }
+        requires right { IsNode self.old right }
+        ensures gives { IfOk result (λ i. IsBuilt self.old self.new i
+            (λ texts. test_raw op at (tree texts self.old left) (tree texts self.old right)) (λ texts. waiting texts self.old)) }
+        ensures grows { IfOk result (λ _. Grows self.old.forms self.new.forms) }
+    {
+        match op {
+            TestOp::Less => self.add(at, RawNode::Less(left, right)),
+            TestOp::Most => self.add(at, RawNode::Most(left, right)),
+        }
+    }
+
+    /// The whole-number goal that an expression ends, if one is the newest that waits for it.
+    pub fn goal(&mut self, expression: RawAt) -> Result<Option<RawAt>, OutOfMemory>
+        requires fits { Fits self.old }
+        requires expression { IsNode self.old expression }
+        ensures gives { IfOk result (λ o. MatchOption o (HasNoGoal self.old self.new) (λ i. IsGoal self.old self.new expression i)) }
+        ensures grows { IfOk result (λ _. Grows self.old.forms self.new.forms) }
+    {
+        match newest(&self.frames) {
+            None => Ok(None),
+            Some(frame) => match frame {
+                Frame::Is(at, left) => {
+                    self.drop_newest();
+                    let goal = self.add(at, RawNode::Is(left, expression))?;
+                    Ok(Some(goal))
+                }
+                Frame::Comparison(op, at, left) => {
+                    self.drop_newest();
+                    let goal = self.comparison(op, at, left, expression)?;
+                    Ok(Some(goal))
+                }
+                _ => Ok(None),
+            },
+        }
     }
 
     /// The list of all newest cells and the term behind them.

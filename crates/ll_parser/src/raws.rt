@@ -33,6 +33,9 @@ enum Row {
     Head(Named, Span),
     Any(Place),
     Int(Place, i64),
+    Is(Place, RawAt, RawAt),
+    Less(Place, RawAt, RawAt),
+    Most(Place, RawAt, RawAt),
 }
 
 /// The nodes of raw trees, each at a place, whose parts stand at lower places.
@@ -130,8 +133,8 @@ impl Raws {
         shown(&self.args, self.rows[at.0])
     }
 
-    /// Where the node at a place stands in the text: an operator's node at its sign, that of a load at its `-->`, that of `X::L`
-    /// at its `::`, and any other at its first token, brackets round it not counted.
+    /// Where the node at a place stands in the text: an operator's node and a whole-number goal at its sign, that of a load at its
+    /// `-->`, that of `X::L`, `E + F`, `E - F` or `E * F` at its sign, and any other at its first token, brackets round it not counted.
     pub fn place(&self, at: RawAt) -> Place
         requires { at.0 < length self.now }
         ensures { (texts : List (List ℕ)) → result ≡ raw_place (raw_at texts self.now at.0) }
@@ -155,6 +158,9 @@ fn place_of(row: Row) -> Place
         Row::Head(name, _) => name.at,
         Row::Any(at) => at,
         Row::Int(at, _) => at,
+        Row::Is(at, _, _) => at,
+        Row::Less(at, _, _) => at,
+        Row::Most(at, _, _) => at,
     }
 }
 
@@ -195,6 +201,9 @@ fn kept_row(args: &mut Vec<RawAt>, at: Place, node: RawNode<'_>) -> Result<Row, 
         }
         RawNode::Any => Ok(Row::Any(at)),
         RawNode::Int(value) => Ok(Row::Int(at, value)),
+        RawNode::Is(left, right) => Ok(Row::Is(at, left, right)),
+        RawNode::Less(left, right) => Ok(Row::Less(at, left, right)),
+        RawNode::Most(left, right) => Ok(Row::Most(at, left, right)),
     }
 }
 
@@ -214,5 +223,8 @@ fn shown(args: &[RawAt], row: Row) -> RawNode<'_>
         Row::Head(name, span) => RawNode::Head(name, &args[span.from..span.to]),
         Row::Any(_) => RawNode::Any,
         Row::Int(_, value) => RawNode::Int(value),
+        Row::Is(_, left, right) => RawNode::Is(left, right),
+        Row::Less(_, left, right) => RawNode::Less(left, right),
+        Row::Most(_, left, right) => RawNode::Most(left, right),
     }
 }

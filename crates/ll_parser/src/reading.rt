@@ -18,12 +18,15 @@ use ll_bank::{Names, OutOfMemory};
 use ll_lexer::{Fault, TextFault, TokenList};
 use std::alloc::Global;
 
-// The names of a text before its first token: the text `::` alone.
+// The names of a text before its first token: the signs that are heads of terms.
 fn first_names(alloc: Global) -> Result<Names, OutOfMemory>
     ensures { IfOk result (λ names. names ≡ known []) }
 {
     let mut names = Names::new(alloc);
     names.add("::")?;
+    names.add("+")?;
+    names.add("-")?;
+    names.add("*")?;
     Ok(names)
 }
 

@@ -1,4 +1,5 @@
-//! What waits while a formula is read: left operands, quantifiers, brackets and heads, and the arguments of unfinished heads.
+//! What waits while a formula is read: left operands, quantifiers, brackets and heads, the signs of whole-number goals, and the
+//! arguments of unfinished heads.
 ghost use Rattle.std.specs.Prelude.{◌≡◌, ℕ, ◌<◌, ◌++◌, ◌∷◌, List, [], length, IfOk, MatchOption};
 ghost use Rattle.ll_parser.specs.declared.waiting.Frame.{Frame};
 ghost use Rattle.ll_parser.specs.Raw.{Raw, head};
@@ -9,13 +10,19 @@ ghost use Rattle.ll_parser.specs.Seen.{node_of, HasPartsBelow};
 ghost use Rattle.ll_parser.specs.declared.RawAt.{RawAt};
 ghost use Rattle.ll_parser.specs.Waiting.{word_view, prefix_view};
 
-use crate::{Level, Named, Op, Quantifier, RawAt, RawNode, Raws};
+use crate::{Level, Named, Op, Quantifier, RawAt, RawNode, Raws, SumOp, TestOp};
 use ll_bank::OutOfMemory;
 use ll_lexer::Place;
 use std::alloc::Global;
 
-/// The number of the text `::` among the names.
+/// The number of the text `::` among the names, and those of `+`, `-` and `*`.
 pub const CONS: u32 = 0;
+
+pub const PLUS: u32 = 1;
+
+pub const MINUS: u32 = 2;
+
+pub const STAR: u32 = 3;
 
 /// The word at the head of an atom or of an application.
 #[derive(Clone, Copy)]
@@ -52,6 +59,18 @@ pub enum Frame {
     Group,
     /// `::` and the term in front of it.
     Cell(Place, RawAt),
+    /// `+` or `-` and the expression in front of it.
+    Sum(SumOp, Place, RawAt),
+    /// `*` and the expression in front of it.
+    Product(Place, RawAt),
+    /// `is` and the term in front of it.
+    Is(Place, RawAt),
+    /// `<` or `=<` and the expression in front of it.
+    Comparison(TestOp, Place, RawAt),
+    /// `(` in an expression.
+    NumberGroup,
+    /// `(` in the left side of a comparison.
+    LeadGroup,
 }
 
 /// The nodes so far, the arguments of unfinished heads, and what waits, the newest last.

@@ -6,17 +6,17 @@ use Rattle.std.specs.Str.{bytes_eq}
 use Rattle.ll_bank.specs.declared.Head.TheVariants as head
 use Rattle.ll_bank.specs.Names.{with_name}
 use Rattle.ll_bank.specs.Term.{Term, Con, apply}
-use Rattle.ll_bank.specs.Form.{Form, Atom, Bang, Forall, Exists, Use}
+use Rattle.ll_bank.specs.Form.{Form, Atom, Bang, Forall, Exists, Use, Num, Relation, Is, Less, Most}
 use Rattle.ll_bank.proofs.NameLaws.{number_of-slice_get, with_name-present}
 use Rattle.ll_laws.specs.Valid.{Side}
-use Rattle.ll_parser.specs.Raw.{Raw, truth, erasure, braces, universal, existential, load, binary, anything, int, RawList, none, more}
+use Rattle.ll_parser.specs.Raw.{Raw, truth, erasure, braces, universal, existential, load, binary, is_goal, less_goal, most_goal, anything, int, RawList, none, more}
 use Rattle.ll_parser.specs.Raw as raw
 use Rattle.ll_polarity.specs.Scope.{Scope, Meaning, Bound, Local, Free, Constant, meaning, binds}
-use Rattle.ll_polarity.specs.Reading.{Met, Read, number_in, read_name, read_term, read_terms, read_form, joined, module_in, bind_form}
+use Rattle.ll_polarity.specs.Reading.{Met, Read, number_in, read_name, read_term, read_terms, read_number, read_form, joined, module_in, bind_form}
 use Rattle.ll_polarity.specs.Faults.{Heading, form_faults}
 use Rattle.ll_polarity.specs.Built.{built_form}
 use Rattle.ll_polarity.specs.Standing.{outermost}
-use Rattle.ll_polarity.proofs.Grows.{More, more_refl, more_trans, numbered, longer_terms, longer_form}
+use Rattle.ll_polarity.proofs.Grows.{More, more_refl, more_trans, numbered, longer_term, longer_terms, longer_form}
 use Rattle.ll_polarity.proofs.Building.{same_form}
 
 module _ (all : List (List ℕ)) (distinct : IsDistinct bytes_eq all) where
@@ -59,6 +59,9 @@ module _ (all : List (List ℕ)) (distinct : IsDistinct bytes_eq all) where
     again_term scope met (existential at n r) h = refl
     again_term scope met (load at m args r) h = refl
     again_term scope met (binary o at l r) h = refl
+    again_term scope met (is_goal at l r) h = refl
+    again_term scope met (less_goal at l r) h = refl
+    again_term scope met (most_goal at l r) h = refl
 
     again_terms : (scope : Scope) (met : Met) (rs : RawList) → More (read_terms scope met rs).met.names all → read_terms scope (knowing met) rs ≡ again (read_terms scope met rs)
     again_terms scope met none h = refl
@@ -71,6 +74,13 @@ module _ (all : List (List ℕ)) (distinct : IsDistinct bytes_eq all) where
 
   abbrev read_as : Form → Met → Read Form
   read_as f met = record { it = f; met = met }
+
+  again_number : (q : Relation) (scope : Scope) (met : Met) (l r : Raw) → More (read_number q scope met l r).met.names all → read_number q scope (knowing met) l r ≡ again (read_number q scope met l r)
+  again_number q scope met l r h =
+      let t = read_term scope met l in
+      let i = again_term scope met l (more_trans (longer_term scope t.met r).names h) in
+      let j = again_term scope t.met r h in
+      ap (λ x. let u = read_term scope x.met r in read_as (Num q x.it u.it) u.met) i ∙ ap (λ u. read_as (Num q t.it u.it) u.met) j
 
   pub again_form : (ms : List (List ℕ)) (scope : Scope) (met : Met) (r : Raw) → More (read_form ms scope met r).met.names all → read_form ms scope (knowing met) r ≡ again (read_form ms scope met r)
   again_form ms scope met (truth at) h = refl
@@ -88,6 +98,9 @@ module _ (all : List (List ℕ)) (distinct : IsDistinct bytes_eq all) where
       let i = again_form ms scope met l (more_trans (longer_form ms scope f.met r).names h) in
       let j = again_form ms scope f.met r h in
       ap (λ x. let g = read_form ms scope x.met r in read_as (joined o x.it g.it) g.met) i ∙ ap (λ g. read_as (joined o f.it g.it) g.met) j
+  again_form ms scope met (is_goal at l r) h = again_number Is scope met l r h
+  again_form ms scope met (less_goal at l r) h = again_number Less scope met l r h
+  again_form ms scope met (most_goal at l r) h = again_number Most scope met l r h
   again_form ms scope met (raw.head n args) h = ap (λ t. read_as (Atom t.it) t.met) (again_term scope met (raw.head n args) h)
   again_form ms scope met (anything at) h = refl
   again_form ms scope met (int at z) h = refl

@@ -3,17 +3,18 @@ use Rattle.std.proofs.Common.{◌≡◌, ℕ, suc, true, List, [], ◌∷◌, �
 use Rattle.std.specs.Prelude.{pos}
 use Rattle.ll_bank.specs.declared.Head.TheVariants as head
 use Rattle.ll_bank.specs.Term.{Term, Var, Int, Con, Ap, apply}
-use Rattle.ll_bank.specs.Form.{Form, Top, One, Atom, Bang, Forall, Exists, Use}
+use Rattle.ll_bank.specs.Form.{Form, Top, One, Atom, Bang, Forall, Exists, Use, Num, Relation, Is, Less, Most}
+use Rattle.ll_lexer.specs.declared.Place.{Place}
 use Rattle.ll_laws.specs.Valid.{Side}
 use Rattle.ll_parser.specs.declared.Op.{Op}
 use Rattle.ll_parser.specs.declared.Op.TheVariants as op
 use Rattle.ll_parser.specs.Tokens.{Identifier}
-use Rattle.ll_parser.specs.Raw.{Raw, truth, erasure, braces, universal, existential, load, binary, anything, int, RawList, none, more}
+use Rattle.ll_parser.specs.Raw.{Raw, truth, erasure, braces, universal, existential, load, binary, is_goal, less_goal, most_goal, anything, int, RawList, none, more}
 use Rattle.ll_parser.specs.Raw as raw
 use Rattle.ll_polarity.specs.Scope.{Meaning, Bound, Local, Free, Constant, meaning, binds}
-use Rattle.ll_polarity.specs.Reading.{Met, Read, read_name, read_term, read_terms, read_form, joined, module_in}
-use Rattle.ll_polarity.specs.Faults.{Heading, unless, may_be_head, on_goal_side, left_side, right_side, may_join, load_fault, is_named, count, applied_fault, term_faults, terms_faults, form_faults}
-use Rattle.ll_polarity.specs.Built.{Around, inside, put_term, put_form, applied, built_term, built_terms, built_form}
+use Rattle.ll_polarity.specs.Reading.{Met, Read, read_name, read_term, read_terms, read_number, read_form, joined, module_in}
+use Rattle.ll_polarity.specs.Faults.{Heading, unless, may_be_head, on_goal_side, left_side, right_side, may_join, load_fault, is_named, count, applied_fault, term_faults, terms_faults, number_faults, form_faults}
+use Rattle.ll_polarity.specs.Built.{Around, inside, put_term, put_form, applied, built_term, built_terms, built_number, built_form}
 use Rattle.ll_polarity.proofs.Terms.{none_left, none_right, none_unless}
 
 -- ---- what was met is the same in any case
@@ -30,10 +31,16 @@ mutual
   met_term a met (existential at n r) = refl
   met_term a met (load at m args r) = refl
   met_term a met (binary o at l r) = refl
+  met_term a met (is_goal at l r) = refl
+  met_term a met (less_goal at l r) = refl
+  met_term a met (most_goal at l r) = refl
 
   pub met_terms : (a : Around) (met : Met) (rs : RawList) → (built_terms a met rs).met ≡ (read_terms a.scope met rs).met
   met_terms a met none = refl
   met_terms a met (more r rs) = ap (λ m. (built_terms a m rs).met) (met_term a met r) ∙ met_terms a (read_term a.scope met r).met rs
+
+met_number : (q : Relation) (a : Around) (met : Met) (l r : Raw) → (built_number q a met l r).met ≡ (read_number q a.scope met l r).met
+met_number q a met l r = ap (λ x. (built_term a x r).met) (met_term a met l) ∙ met_term a (read_term a.scope met l).met r
 
 module _ (places : List ℕ → ℕ) (ms : List (List ℕ)) where
   pub met_form : (a : Around) (met : Met) (r : Raw) → (built_form places a met r).met ≡ (read_form ms a.scope met r).met
@@ -44,6 +51,9 @@ module _ (places : List ℕ → ℕ) (ms : List (List ℕ)) where
   met_form a met (existential at n r) = met_form (inside n.text a) met r
   met_form a met (load at m args r) = ap (λ x. (built_form places a x r).met) (met_terms a met args) ∙ met_form a (read_terms a.scope met args).met r
   met_form a met (binary o at l r) = ap (λ x. (built_form places a x r).met) (met_form a met l) ∙ met_form a (read_form ms a.scope met l).met r
+  met_form a met (is_goal at l r) = met_number Is a met l r
+  met_form a met (less_goal at l r) = met_number Less a met l r
+  met_form a met (most_goal at l r) = met_number Most a met l r
   met_form a met (raw.head n args) = met_term a met (raw.head n args)
   met_form a met (anything at) = refl
   met_form a met (int at z) = refl
@@ -96,6 +106,9 @@ mutual
   same_term a met (existential at n r) h = ap (λ t. let x : Read Term = record { it = t; met = met } in x) (put_int a.quantified a.depth (pos 0))
   same_term a met (load at m args r) h = ap (λ t. let x : Read Term = record { it = t; met = met } in x) (put_int a.quantified a.depth (pos 0))
   same_term a met (binary o at l r) h = ap (λ t. let x : Read Term = record { it = t; met = met } in x) (put_int a.quantified a.depth (pos 0))
+  same_term a met (is_goal at l r) h = ap (λ t. let x : Read Term = record { it = t; met = met } in x) (put_int a.quantified a.depth (pos 0))
+  same_term a met (less_goal at l r) h = ap (λ t. let x : Read Term = record { it = t; met = met } in x) (put_int a.quantified a.depth (pos 0))
+  same_term a met (most_goal at l r) h = ap (λ t. let x : Read Term = record { it = t; met = met } in x) (put_int a.quantified a.depth (pos 0))
 
   same_args : (a : Around) (met : Met) (n : Identifier) (args : RawList) → term_faults a.scope (raw.head n args) ≡ []
       → (let f = read_name (meaning a.scope n.text) met n.text in built_terms a f.met args ≡ record { it = map (put_term a.quantified a.depth) (read_terms a.scope f.met args).it; met = (read_terms a.scope f.met args).met })
@@ -163,11 +176,25 @@ put_use : (q : Option ℕ) (d k : ℕ) (ts : List Term) (f : Form) → Use k (ma
 put_use None d k ts f = ap (λ us. Use k us f) (put_none d ts)
 put_use (Some n) d k ts f = refl
 
+put_number : (o : Option ℕ) (d : ℕ) (q : Relation) (t u : Term) → Num q (put_term o d t) (put_term o d u) ≡ put_form o d (Num q t u)
+put_number None d q t u = refl
+put_number (Some n) d q t u = refl
+
 abbrev read_as : Form → Met → Read Form
 read_as f met = record { it = f; met = met }
 
 abbrev atom_of : Read Term → Read Form
 atom_of t = record { it = Atom t.it; met = t.met }
+
+same_number : (q : Relation) (side : Side) (a : Around) (met : Met) (at : Place) (l r : Raw) → number_faults side a.scope at l r ≡ []
+    → built_number q a met l r ≡ record { it = put_form a.quantified a.depth (read_number q a.scope met l r).it; met = (read_number q a.scope met l r).met }
+same_number q side a met at l r h =
+    let x = term_faults a.scope l in let y = unless (on_goal_side side) 7 at in let z = term_faults a.scope r in
+    let t = read_term a.scope met l in let u = read_term a.scope t.met r in
+    let i = same_term a met l (none_left x y (none_left (x ++ y) z h)) in
+    let j = same_term a t.met r (none_right (x ++ y) z h) in
+    ap (λ p. let v = built_term a p.met r in read_as (Num q p.it v.it) v.met) i
+    ∙ (ap (λ v. read_as (Num q (put_term a.quantified a.depth t.it) v.it) v.met) j ∙ ap (λ f. read_as f u.met) (put_number a.quantified a.depth q t.it u.it))
 
 module _ (places : List ℕ → ℕ) (ms : List (List ℕ)) (heads : List Heading) (first : (w : List ℕ) → places w ≡ module_in ms w) where
   pub same_form : (side : Side) (a : Around) (met : Met) (r : Raw) → form_faults heads side a.scope r ≡ []
@@ -212,6 +239,9 @@ module _ (places : List ℕ → ℕ) (ms : List (List ℕ)) (heads : List Headin
       ap (λ p. let q = built_form places a p.met r in read_as (joined o p.it q.it) q.met) i
       ∙ (ap (λ q. read_as (joined o (put_form a.quantified a.depth f.it) q.it) q.met) j
       ∙ ap (λ f. read_as f g.met) (put_joined a.quantified a.depth o f.it g.it))
+  same_form side a met (is_goal at l r) h = same_number Is side a met at l r h
+  same_form side a met (less_goal at l r) h = same_number Less side a met at l r h
+  same_form side a met (most_goal at l r) h = same_number Most side a met at l r h
   same_form side a met (raw.head n args) h =
       let i = same_term a met (raw.head n args) (head_faultless a n args h) in
       let t = read_term a.scope met (raw.head n args) in

@@ -12,7 +12,7 @@ use Rattle.ll_parser.specs.declared.RawAt.{RawAt}
 use Rattle.ll_parser.specs.Tokens.{Identifier}
 use Rattle.ll_parser.specs.Nodes.{Node, raw_in, raws_in, raw_at, raw_trees}
 use Rattle.ll_parser.specs.Seen.{places}
-use Rattle.ll_parser.specs.Raw.{Raw, truth, erasure, braces, universal, existential, load, binary, anything, int, RawList, none, more}
+use Rattle.ll_parser.specs.Raw.{Raw, truth, erasure, braces, universal, existential, load, binary, is_goal, less_goal, most_goal, anything, int, RawList, none, more}
 use Rattle.ll_parser.specs.Raw as raw
 use Rattle.ll_parser.proofs.Sizes.{weight, weights, weight_some}
 use Rattle.ll_polarity.specs.declared.put_terms.Call.{Call}
@@ -118,6 +118,9 @@ named_arguments (universal at n r) h = tt
 named_arguments (existential at n r) h = tt
 named_arguments (load at m args r) h = h.1
 named_arguments (binary o at l r) h = tt
+named_arguments (is_goal at l r) h = tt
+named_arguments (less_goal at l r) h = tt
+named_arguments (most_goal at l r) h = tt
 named_arguments (raw.head n args) h = h.1
 named_arguments (anything at) h = tt
 named_arguments (int at z) h = tt
@@ -136,6 +139,9 @@ light_arguments (universal at n r) = omega arith
 light_arguments (existential at n r) = omega arith
 light_arguments (load at m args r) = omega arith
 light_arguments (binary o at l r) = omega arith
+light_arguments (is_goal at l r) = omega arith
+light_arguments (less_goal at l r) = omega arith
+light_arguments (most_goal at l r) = omega arith
 light_arguments (raw.head n args) = omega arith
 light_arguments (anything at) = omega arith
 light_arguments (int at z) = omega arith

@@ -2,14 +2,15 @@
 use Rattle.std.proofs.Common.{ℕ, suc, ◌+◌, ◌≤◌, Bool, true, false, List, [], ◌∷◌, ◌++◌, length, Option, Some, None, if◌then◌else◌, arith, length-append}
 use Rattle.std.specs.List.{list_any}
 use Rattle.ll_bank.specs.Names.{with_name}
+use Rattle.ll_bank.specs.Form.{Relation, Is, Less, Most}
 use Rattle.ll_bank.proofs.NameLaws.{length-with_name}
-use Rattle.ll_parser.specs.Raw.{Raw, truth, erasure, braces, universal, existential, load, binary, head, anything, int, RawList, none, more, ProgramTree}
+use Rattle.ll_parser.specs.Raw.{Raw, truth, erasure, braces, universal, existential, load, binary, is_goal, less_goal, most_goal, head, anything, int, RawList, none, more, ProgramTree}
 use Rattle.ll_parser.specs.Raw as raw
 use Rattle.ll_parser.specs.Text.{programs, queries}
 use Rattle.ll_parser.specs.Reads.{IsWhole}
 use Rattle.ll_parser.proofs.Sizes.{weight, weights, clauses_weight, modules_weight, few_nodes, small_query}
 use Rattle.ll_polarity.specs.Scope.{Scope, binds, Meaning, Bound, Local, Free, Constant, meaning, module_scope}
-use Rattle.ll_polarity.specs.Reading.{Met, has_text, read_name, read_term, read_terms, read_form}
+use Rattle.ll_polarity.specs.Reading.{Met, has_text, read_name, read_term, read_terms, read_number, read_form}
 use Rattle.ll_polarity.specs.Asks.{module_names, read_clause, read_clauses, read_module, read_modules, part_of, read_asked, modules_of, problem_with}
 
 -- how many names and variables were met
@@ -37,6 +38,9 @@ mutual
   few_terms scope met none = omega arith
   few_terms scope met (more r rs) = let i = few_term scope met r in let j = few_terms scope (read_term scope met r).met rs in omega arith
 
+few_number : (q : Relation) (scope : Scope) (met : Met) (l r : Raw) → met_count (read_number q scope met l r).met ≤ met_count met + (weight l + weight r)
+few_number q scope met l r = let i = few_term scope met l in let j = few_term scope (read_term scope met l).met r in omega arith
+
 -- a formula adds no more names and variables than its raw tree has nodes
 pub few_form : (ms : List (List ℕ)) (scope : Scope) (met : Met) (r : Raw) → met_count (read_form ms scope met r).met ≤ met_count met + weight r
 few_form ms scope met (truth at) = omega arith
@@ -46,6 +50,9 @@ few_form ms scope met (universal at n r) = let i = few_form ms (binds n.text ∷
 few_form ms scope met (existential at n r) = let i = few_form ms (binds n.text ∷ scope) met r in omega arith
 few_form ms scope met (load at m args r) = let i = few_terms scope met args in let j = few_form ms scope (read_terms scope met args).met r in omega arith
 few_form ms scope met (binary o at l r) = let i = few_form ms scope met l in let j = few_form ms scope (read_form ms scope met l).met r in omega arith
+few_form ms scope met (is_goal at l r) = let i = few_number Is scope met l r in omega arith
+few_form ms scope met (less_goal at l r) = let i = few_number Less scope met l r in omega arith
+few_form ms scope met (most_goal at l r) = let i = few_number Most scope met l r in omega arith
 few_form ms scope met (head n args) = few_term scope met (head n args)
 few_form ms scope met (anything at) = few_term scope met (anything at)
 few_form ms scope met (int at z) = few_term scope met (int at z)

@@ -4,7 +4,8 @@ use Rattle.std.specs.Prelude.{nat_eq, find}
 use Rattle.std.proofs.lemmas.Bool.{le-leb}
 use Rattle.std.proofs.lemmas.List.{length-map}
 use Rattle.ll_bank.specs.Term.{Term}
-use Rattle.ll_bank.specs.Form.{Form, Top, One, Atom, With, Tensor, Plus, Bang, Lolli, Imp, Forall, Exists, Use}
+use Rattle.ll_bank.specs.Form.{Form, Top, One, Atom, With, Tensor, Plus, Bang, Lolli, Imp, Forall, Exists, Use, Num, Relation, Is, Less, Most}
+use Rattle.ll_lexer.specs.declared.Place.{Place}
 use Rattle.ll_laws.specs.Module.{ModuleTree}
 use Rattle.ll_laws.specs.Leaf.{ways}
 use Rattle.ll_laws.specs.Valid.{Side, GoalSide, ClauseSide, given, each_term, names_below, arity_up_to, fits_module, leaves_up_to}
@@ -14,15 +15,15 @@ use Rattle.ll_laws.proofs.ConsistentForms.{Fits}
 use Rattle.ll_parser.specs.declared.Op.{Op}
 use Rattle.ll_parser.specs.declared.Op.TheVariants as op
 use Rattle.ll_parser.specs.Tokens.{Identifier}
-use Rattle.ll_parser.specs.Raw.{Raw, truth, erasure, braces, universal, existential, load, binary, head, anything, int}
+use Rattle.ll_parser.specs.Raw.{Raw, truth, erasure, braces, universal, existential, load, binary, is_goal, less_goal, most_goal, head, anything, int}
 use Rattle.ll_polarity.specs.Scope.{Scope, binds, meaning}
-use Rattle.ll_polarity.specs.Reading.{Met, read_name, read_terms, joined, module_in, read_form}
-use Rattle.ll_polarity.specs.Faults.{unless, count, may_be_head, terms_faults, on_goal_side, left_side, right_side, may_join, Heading, is_named, load_fault, form_faults}
-use Rattle.ll_polarity.proofs.Grows.{longer_form}
+use Rattle.ll_polarity.specs.Reading.{Met, read_name, read_term, read_terms, joined, module_in, read_number, read_form}
+use Rattle.ll_polarity.specs.Faults.{unless, count, may_be_head, term_faults, terms_faults, on_goal_side, left_side, right_side, may_join, Heading, is_named, load_fault, number_faults, form_faults}
+use Rattle.ll_polarity.proofs.Grows.{longer_term, longer_form}
 use Rattle.ll_parser.proofs.Sizes.{weight, IsForm}
 use Rattle.ll_polarity.proofs.Weight.{length-read_terms}
 use Rattle.ll_polarity.proofs.Meant.{places}
-use Rattle.ll_polarity.proofs.Terms.{none_left, none_right, none_unless, Room, IsIn, in_before, AreTerms, IsApplied, applied_term, read_are_terms}
+use Rattle.ll_polarity.proofs.Terms.{none_left, none_right, none_unless, Room, IsIn, in_before, IsTerm, AreTerms, IsApplied, applied_term, read_is_term, read_are_terms}
 
 -- a formula on a side in a scope
 pub record IsGood (room : Room) (side : Side) (scope : valid.Scope) (f : Form) : Type 0 where
@@ -52,6 +53,9 @@ few_ways ms scope met (binary o at l r) = by o (few_ways ms scope met l) (few_wa
     by op.Plus a b = omega arith
     by op.With a b = omega (arith, length-append (ways (read_form ms scope met l).it) (ways (read_form ms scope (read_form ms scope met l).met r).it))
     by op.Tensor a b = omega arith
+few_ways ms scope met (is_goal at l r) = omega arith
+few_ways ms scope met (less_goal at l r) = omega arith
+few_ways ms scope met (most_goal at l r) = omega arith
 few_ways ms scope met (head n args) = omega arith
 few_ways ms scope met (anything at) = omega arith
 few_ways ms scope met (int at z) = omega arith
@@ -142,6 +146,16 @@ atom_good : (room : Room) (side : Side) (scope : Scope) (t : Term) → IsApplied
 atom_good room GoalSide scope t a = record { fits = (a.head, a.term.fit); named = λ m. a.term.named; leaves = refl; arguments = λ m. a.term.arguments }
 atom_good room ClauseSide scope t a = record { fits = (a.head, a.term.fit); named = λ m. a.term.named; leaves = refl; arguments = λ m. a.term.arguments }
 
+number_good : (room : Room) (side : Side) (scope : Scope) (q : Relation) (t u : Term) → on_goal_side side ≡ true → IsTerm room (places scope) t → IsTerm room (places scope) u
+    → IsGood room side (places scope) (Num q t u)
+number_good room GoalSide scope q t u h a b = record {
+  fits = (tt, a.fit, b.fit);
+  named = λ m. and_intro _ _ a.named b.named;
+  leaves = refl;
+  arguments = λ m. and_intro _ _ a.arguments b.arguments;
+}
+number_good room ClauseSide scope q t u h a b = absurd (cc)
+
 -- ---- loads
 
 -- the first module that has a name stands at the name's place, with as many parameters
@@ -163,6 +177,16 @@ load_fits modules ms heads n ts k finds e h = by (find (is_named n.text) heads) 
 -- ---- formulas
 
 module _ (room : Room) (ms : List (List ℕ)) (heads : List Heading) (finds : Finds room.modules ms heads) where
+  read_number_is_good : (q : Relation) (side : Side) (scope : Scope) (met : Met) (at : Place) (l r : Raw) → number_faults side scope at l r ≡ [] → IsIn room (read_number q scope met l r).met
+      → weight l + weight r ≤ room.most → IsGood room side (places scope) (read_number q scope met l r).it
+  read_number_is_good q side scope met at l r h i le =
+      let a = term_faults scope l in let b = unless (on_goal_side side) 7 at in let c = term_faults scope r in
+      let t = read_term scope met l in
+      let p = none_left (a ++ b) c h in
+      number_good room side scope q t.it (read_term scope t.met r).it (none_unless (on_goal_side side) 7 at (none_right a b p))
+      (read_is_term room scope met l (none_left a b p) (in_before (longer_term scope t.met r) i) (omega arith))
+      (read_is_term room scope t.met r (none_right (a ++ b) c h) i (omega arith))
+
   pub read_is_good : (side : Side) (scope : Scope) (met : Met) (r : Raw) → IsForm r → form_faults heads side scope r ≡ [] → IsIn room (read_form ms scope met r).met → weight r ≤ room.most
       → IsGood room side (places scope) (read_form ms scope met r).it
   read_is_good side scope met (truth at) w h i le = one_good room side (places scope) (none_unless (on_goal_side side) 7 at h)
@@ -195,5 +219,8 @@ module _ (room : Room) (ms : List (List ℕ)) (heads : List Heading) (finds : Fi
       atom_good room side scope _
       (applied_term room scope met n args (none_unless b 9 n.at (none_left u v h)) i
       (read_are_terms room scope (read_name (meaning scope n.text) met n.text).met args (none_right u v h) i (omega arith)) le)
+  read_is_good side scope met (is_goal at l r) w h i le = read_number_is_good Is side scope met at l r h i (omega arith)
+  read_is_good side scope met (less_goal at l r) w h i le = read_number_is_good Less side scope met at l r h i (omega arith)
+  read_is_good side scope met (most_goal at l r) w h i le = read_number_is_good Most side scope met at l r h i (omega arith)
   read_is_good side scope met (anything at) w h i le = absurd w
   read_is_good side scope met (int at z) w h i le = absurd w

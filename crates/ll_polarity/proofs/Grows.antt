@@ -8,10 +8,11 @@ use Rattle.std.proofs.lemmas.List.Folds.{list_any-append}
 use Rattle.std.proofs.lemmas.Option.{slice_get_within}
 use Rattle.std.proofs.lemmas.Slice.Eq.{bytes_eq-Decides}
 use Rattle.ll_bank.specs.Names.{with_name}
+use Rattle.ll_bank.specs.Form.{Relation, Is, Less, Most}
 use Rattle.ll_bank.proofs.NameLaws.{slice_get-number_of, number_of-with_name, slice_get-with_name}
-use Rattle.ll_parser.specs.Raw.{Raw, truth, erasure, braces, universal, existential, load, binary, head, anything, int, RawList, none, more}
+use Rattle.ll_parser.specs.Raw.{Raw, truth, erasure, braces, universal, existential, load, binary, is_goal, less_goal, most_goal, head, anything, int, RawList, none, more}
 use Rattle.ll_polarity.specs.Scope.{Scope, binds, Meaning, Bound, Local, Free, Constant, meaning}
-use Rattle.ll_polarity.specs.Reading.{Met, has_text, number_in, variable_in, with_variable, read_name, read_term, read_terms, read_form}
+use Rattle.ll_polarity.specs.Reading.{Met, has_text, number_in, variable_in, with_variable, read_name, read_term, read_terms, read_number, read_form}
 
 -- ---- the first place at which a test passes
 
@@ -100,6 +101,9 @@ mutual
   longer_terms scope met none = longer_refl met
   longer_terms scope met (more r rs) = longer_trans (longer_term scope met r) (longer_terms scope (read_term scope met r).met rs)
 
+pub longer_number : (q : Relation) (scope : Scope) (met : Met) (l r : Raw) → Longer met (read_number q scope met l r).met
+longer_number q scope met l r = longer_trans (longer_term scope met l) (longer_term scope (read_term scope met l).met r)
+
 pub longer_form : (ms : List (List ℕ)) (scope : Scope) (met : Met) (r : Raw) → Longer met (read_form ms scope met r).met
 longer_form ms scope met (truth at) = longer_refl met
 longer_form ms scope met (erasure at) = longer_refl met
@@ -108,6 +112,9 @@ longer_form ms scope met (universal at n r) = longer_form ms (binds n.text ∷ s
 longer_form ms scope met (existential at n r) = longer_form ms (binds n.text ∷ scope) met r
 longer_form ms scope met (load at m args r) = longer_trans (longer_terms scope met args) (longer_form ms scope (read_terms scope met args).met r)
 longer_form ms scope met (binary o at l r) = longer_trans (longer_form ms scope met l) (longer_form ms scope (read_form ms scope met l).met r)
+longer_form ms scope met (is_goal at l r) = longer_number Is scope met l r
+longer_form ms scope met (less_goal at l r) = longer_number Less scope met l r
+longer_form ms scope met (most_goal at l r) = longer_number Most scope met l r
 longer_form ms scope met (head n args) = longer_term scope met (head n args)
 longer_form ms scope met (anything at) = longer_term scope met (anything at)
 longer_form ms scope met (int at z) = longer_term scope met (int at z)

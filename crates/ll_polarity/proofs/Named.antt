@@ -7,13 +7,15 @@ use Rattle.std.proofs.lemmas.List.{get_or_past}
 use Rattle.ll_lexer.specs.declared.TokenKind.TheVariants as kind
 use Rattle.ll_lexer.specs.Spelling.{Spells, kind_of, fixed_spellings}
 use Rattle.ll_parser.specs.declared.Named.{Named}
-use Rattle.ll_parser.specs.Tokens.{Identifier, IsSpelled, dot}
-use Rattle.ll_parser.specs.Raw.{Raw, truth, erasure, braces, universal, existential, load, binary, head, anything, int, RawList, none, more, ClauseTree, ProgramTree}
-use Rattle.ll_parser.specs.Grammar.{formula_tokens, formula_raw}
+use Rattle.ll_parser.specs.declared.SumOp.{SumOp}
+use Rattle.ll_parser.specs.declared.SumOp.TheVariants.{Plus as by_plus, Minus as by_minus}
+use Rattle.ll_parser.specs.Tokens.{Identifier, IsSpelled, dot, paren_right, star_sign}
+use Rattle.ll_parser.specs.Raw.{Raw, truth, erasure, braces, universal, existential, load, binary, is_goal, less_goal, most_goal, head, anything, int, RawList, none, more, ClauseTree, ProgramTree}
+use Rattle.ll_parser.specs.Grammar.{lower, upper, Plain, plain_word, plain_any, plain_number, Expr, of_product, adds, Product, of_item, multiplies, Item, item_plain, item_bracket, First, first_plain, first_times, Lead, of_first, lead_adds, add_token, add_sign, plain_token, expr_tokens, product_tokens, item_tokens, first_tokens, lead_tokens, plain_raw, expr_raw, product_raw, item_raw, first_raw, lead_raw, formula_tokens, formula_raw}
 use Rattle.ll_parser.specs.Text.{Clause, plain, linear, Local, Module, Query, bare, dotted, names, variables, clause_tokens, local_tokens, locals_tokens, heading_tokens, clauses_tokens, module_tokens, modules_tokens, program_tokens, query_tokens, clause_tree, locals_of, module_tree, query_tree, programs, queries}
 use Rattle.ll_parser.specs.Reads.{IsWhole}
 use Rattle.ll_parser.specs.Nodes.{identifier}
-use Rattle.ll_parser.proofs.Printable.{IsLower, IsUpper, IsWord, IsTerm, AreTerms, IsFormula, Spelled, spelled-split, formula-printable}
+use Rattle.ll_parser.proofs.Printable.{IsLower, IsUpper, IsWord, IsTerm, AreTerms, IsPlainTerm, IsExpr, IsLead, IsFormula, Spelled, spelled-split, formula-printable}
 use Rattle.ll_polarity.proofs.Binders.{not_below}
 use Rattle.ll_polarity.specs.Named.{HasText, IsNamed, AreNamed, IsModuleNamed, IsProgramNamed}
 
@@ -64,10 +66,57 @@ mutual
   term_named (existential at n g) h = absurd h
   term_named (load at n rs g) h = absurd h
   term_named (binary o at l r) h = absurd h
+  term_named (is_goal at l r) h = absurd h
+  term_named (less_goal at l r) h = absurd h
+  term_named (most_goal at l r) h = absurd h
 
   terms_named : (rs : RawList) → AreTerms rs → AreNamed rs
   terms_named none h = tt
   terms_named (more r rs) h = (term_named r h.0, terms_named rs h.1)
+
+-- ---- expressions
+
+plain_named : (x : Plain) → Spelled (plain_token x ∷ []) → IsNamed (plain_raw x)
+plain_named (plain_word (lower n)) h = (lower_text n h.0, tt)
+plain_named (plain_word (upper n)) h = (upper_text n h.0, tt)
+plain_named (plain_any at) h = tt
+plain_named (plain_number z at) h = tt
+
+sum_text : (o : SumOp) → 0 < length (add_sign o)
+sum_text by_plus = let l : 0 < 1 = omega arith in l
+sum_text by_minus = let l : 0 < 1 = omega arith in l
+
+mutual
+  expr_named : (e : Expr) → Spelled (expr_tokens e) → IsNamed (expr_raw e)
+  expr_named (of_product p) h = product_named p h
+  expr_named (adds e o at p) h = let k = spelled-split (expr_tokens e) (add_token o at ∷ product_tokens p) h in (sum_text o, (expr_named e k.0, (product_named p k.1.1, tt)))
+
+  product_named : (p : Product) → Spelled (product_tokens p) → IsNamed (product_raw p)
+  product_named (of_item x) h = item_named x h
+  product_named (multiplies p at x) h =
+      let k = spelled-split (product_tokens p) (star_sign at ∷ item_tokens x) h in ((let l : 0 < 1 = omega arith in l), (product_named p k.0, (item_named x k.1.1, tt)))
+
+  item_named : (x : Item) → Spelled (item_tokens x) → IsNamed (item_raw x)
+  item_named (item_plain x) h = plain_named x h
+  item_named (item_bracket at e end) h = expr_named e (spelled-split (expr_tokens e) (paren_right end ∷ []) h.1).0
+
+first_named : (f : First) → Spelled (first_tokens f) → IsNamed (first_raw f)
+first_named (first_plain x) h = plain_named x h
+first_named (first_times f at x) h =
+    let k = spelled-split (first_tokens f) (star_sign at ∷ item_tokens x) h in ((let l : 0 < 1 = omega arith in l), (first_named f k.0, (item_named x k.1.1, tt)))
+
+lead_named : (l : Lead) → Spelled (lead_tokens l) → IsNamed (lead_raw l)
+lead_named (of_first f) h = first_named f h
+lead_named (lead_adds l o at p) h = let k = spelled-split (lead_tokens l) (add_token o at ∷ product_tokens p) h in (sum_text o, (lead_named l k.0, (product_named p k.1.1, tt)))
+
+plain_term_named : (r : Raw) → IsPlainTerm r → IsNamed r
+plain_term_named r (x, s, e) = subst IsNamed e (plain_named x s)
+
+side_named : (r : Raw) → IsExpr r → IsNamed r
+side_named r (x, s, e) = subst IsNamed e (expr_named x s)
+
+left_side_named : (r : Raw) → IsLead r → IsNamed r
+left_side_named r (x, s, e) = subst IsNamed e (lead_named x s)
 
 formula_named : (r : Raw) → IsFormula r → IsNamed r
 formula_named (truth at) h = tt
@@ -77,6 +126,9 @@ formula_named (universal at n g) h = (word_text n h.0, formula_named g h.1)
 formula_named (existential at n g) h = (word_text n h.0, formula_named g h.1)
 formula_named (load at n rs g) h = (lower_text n h.0, terms_named rs h.1, formula_named g h.2)
 formula_named (binary o at l r) h = (formula_named l h.0, formula_named r h.1)
+formula_named (is_goal at l r) h = (plain_term_named l h.0, side_named r h.1)
+formula_named (less_goal at l r) h = (left_side_named l h.0, side_named r h.1)
+formula_named (most_goal at l r) h = (left_side_named l h.0, side_named r h.1)
 formula_named (head n rs) h = (word_text n h.0, terms_named rs h.1)
 formula_named (anything at) h = absurd h
 formula_named (int at z) h = absurd h

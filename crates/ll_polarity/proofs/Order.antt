@@ -1,20 +1,22 @@
 -- The faults of a text stand in the order of its tokens, so the first of them has the first place.
-use Rattle.std.proofs.Common.{◌≡◌, ℕ, suc, Bool, true, false, List, [], ◌∷◌, ◌++◌, Option, Some, None, if◌then◌else◌, codes, inl, inr, refl, sym, subst, ap, ◌∙◌, append_assoc}
+use Rattle.std.proofs.Common.{◌≡◌, ℕ, suc, Bool, true, false, List, [], ◌∷◌, ◌++◌, Option, Some, None, if◌then◌else◌, inl, inr, refl, sym, subst, ap, ◌∙◌, append_assoc}
 use Rattle.std.specs.Prelude.{find, nat_eq}
-use Rattle.std.specs.Str.{bytes_eq}
 use Rattle.std.proofs.lemmas.List.{append-nil}
 use Rattle.ll_lexer.specs.declared.Place.{Place}
 use Rattle.ll_lexer.specs.declared.Fault.{Fault}
 use Rattle.ll_laws.specs.Valid.{Side}
 use Rattle.ll_parser.specs.declared.Op.{Op}
 use Rattle.ll_parser.specs.declared.Op.TheVariants as op
-use Rattle.ll_parser.specs.Tokens.{Identifier, Tok, name, tok_place, true_word, cons_sign, paren_left, paren_right, brace_left, brace_right, semicolon, ampersand, comma, load_arrow, backslash}
-use Rattle.ll_parser.specs.Raw.{Raw, RawList, none, more, raws_then, binary}
-use Rattle.ll_parser.specs.Grammar.{Word, lower, upper, Term, of_app, cons, App, applied, app_any, app_number, app_bracket, Simple, simple_word, simple_any, simple_number, simple_bracket, Simples, no_more, and_then, ClauseOp, by_colon, by_left, ArrowOp, by_lolli, by_right, Formula, of_arrow, clause, Arrow, of_sum, implies, loads, Sum, of_with, plus, With, of_tensor, with, Tensor, of_primary, times, Primary, truly, erased, bracket, brace, quantified, atom, word_token, clause_token, arrow_token, quantifier_token, term_tokens, app_tokens, simple_tokens, simples_tokens, formula_tokens, arrow_tokens, sum_tokens, with_tokens, tensor_tokens, primary_tokens, word_identifier, term_raw, app_raw, simple_raw, simples_raws, clause_op, arrow_op, formula_raw, arrow_raw, sum_raw, with_raw, tensor_raw, primary_raw}
-use Rattle.ll_parser.proofs.Printable.{word-no-cons, Spelled, spelled-split}
+use Rattle.ll_parser.specs.declared.SumOp.TheVariants.{Plus as by_plus, Minus as by_minus}
+use Rattle.ll_parser.specs.declared.TestOp.TheVariants.{Less as by_less, Most as by_most}
+use Rattle.ll_parser.specs.Tokens.{Identifier, Tok, name, tok_place, true_word, cons_sign, paren_left, paren_right, brace_left, brace_right, semicolon, ampersand, comma, load_arrow, backslash, is_sign, less_sign, most_sign, plus_sign, minus_sign, star_sign}
+use Rattle.ll_parser.specs.Raw.{Raw, RawList, none, more, raws_then, sign_raw, binary}
+use Rattle.ll_parser.specs.Grammar.{Word, lower, upper, Term, of_app, cons, App, applied, app_any, app_number, app_bracket, Simple, simple_word, simple_any, simple_number, simple_bracket, Simples, no_more, and_then, ClauseOp, by_colon, by_left, ArrowOp, by_lolli, by_right, Formula, of_arrow, clause, Arrow, of_sum, implies, loads, Sum, of_with, plus, With, of_tensor, with, Tensor, of_primary, times, Primary, truly, erased, bracket, brace, quantified, atom, valued, tested, Plain, plain_word, plain_any, plain_number, Expr, of_product, adds, Product, of_item, multiplies, Item, item_plain, item_bracket, First, first_plain, first_times, Lead, of_first, lead_adds, plain_token, expr_tokens, product_tokens, item_tokens, first_tokens, lead_tokens, plain_raw, expr_raw, product_raw, item_raw, first_raw, lead_raw, word_token, clause_token, arrow_token, quantifier_token, term_tokens, app_tokens, simple_tokens, simples_tokens, formula_tokens, arrow_tokens, sum_tokens, with_tokens, tensor_tokens, primary_tokens, word_identifier, term_raw, app_raw, simple_raw, simples_raws, clause_op, arrow_op, formula_raw, arrow_raw, sum_raw, with_raw, tensor_raw, primary_raw}
+use Rattle.ll_parser.proofs.Printable.{Spelled, spelled-split}
 use Rattle.ll_parser.proofs.QuantifierWords.{either_quantifier, quantifier_place}
-use Rattle.ll_polarity.specs.Scope.{Scope, binds, Constant, bound_by, meaning, meaning_from}
-use Rattle.ll_polarity.specs.Faults.{unless, may_be_head, count, applied_fault, term_faults, terms_faults, on_goal_side, left_side, right_side, may_join, Heading, is_named, load_fault, form_faults, AreInOrder}
+use Rattle.ll_polarity.specs.Scope.{Scope, binds, Constant, bound_by, unbound, meaning, meaning_from}
+use Rattle.ll_polarity.specs.Faults.{unless, may_be_head, count, applied_fault, term_faults, terms_faults, on_goal_side, left_side, right_side, may_join, Heading, is_named, load_fault, number_faults, form_faults, AreInOrder}
+use Rattle.ll_polarity.proofs.Signs.{Sign, cell, plus_head, minus_head, star_head, sign_text, sign_no_variable, IsNoSign, word_no_sign}
 
 -- ---- lists of faults and of tokens
 
@@ -54,19 +56,19 @@ before_none [] t at one e = tt
 before_none (f ∷ []) t at one e = inl (one ∙ sym e, tt)
 before_none (f ∷ g ∷ fs) t at one e = absurd one
 
--- ---- the sign `::` is no variable
+-- ---- a sign is no variable
 
--- nothing binds the sign
+-- nothing binds a sign
 abbrev pub NoSign : Scope → Type 0
 NoSign [] = Unit {0}
-NoSign (b ∷ bs) = (bytes_eq (codes "::") b.text ≡ false) × NoSign bs
+NoSign (b ∷ bs) = IsNoSign b.text × NoSign bs
 
-sign_means : (k : ℕ) (scope : Scope) → NoSign scope → meaning_from k scope (codes "::") ≡ Constant
-sign_means k [] h = refl
-sign_means k (b ∷ bs) h = ap (λ v. if v then bound_by b.local k else meaning_from (suc k) bs (codes "::")) h.0 ∙ sign_means (suc k) bs h.1
+sign_means : (s : Sign) (k : ℕ) (scope : Scope) → NoSign scope → meaning_from k scope (sign_text s) ≡ Constant
+sign_means s k [] h = ap unbound (sign_no_variable s)
+sign_means s k (b ∷ bs) h = ap (λ v. if v then bound_by b.local k else meaning_from (suc k) bs (sign_text s)) (h.0 s) ∙ sign_means s (suc k) bs h.1
 
-sign_may : (scope : Scope) → NoSign scope → may_be_head (meaning scope (codes "::")) ≡ true
-sign_may scope h = ap may_be_head (sign_means 0 scope h)
+sign_may : (s : Sign) (scope : Scope) → NoSign scope → may_be_head (meaning scope (sign_text s)) ≡ true
+sign_may s scope h = ap may_be_head (sign_means s 0 scope h)
 
 -- ---- terms
 
@@ -84,14 +86,18 @@ word_place (lower n) = refl
 word_place (upper n) = refl
 
 module _ (scope : Scope) (no_sign : NoSign scope) where
+  -- a sign between two terms
+  order_sign : (s : Sign) (at : Place) (x y : Raw) (t : Tok) (xs ys : List Tok) → AreInOrder (term_faults scope x) xs → AreInOrder (term_faults scope y) ys
+      → AreInOrder (term_faults scope (sign_raw (sign_text s) at x y)) (xs ++ t ∷ ys)
+  order_sign s at x y t xs ys h k =
+      let l = term_faults scope x in let r = term_faults scope y in
+      subst (λ b. AreInOrder (unless b 9 at ++ (l ++ (r ++ []))) (xs ++ t ∷ ys)) (sym (sign_may s scope no_sign))
+      (both l (r ++ []) xs (t ∷ ys) h (later (r ++ []) t ys (subst (λ z. AreInOrder z ys) (sym (append-nil r)) k)))
+
   mutual
     order_term : (t : Term) → AreInOrder (term_faults scope (term_raw t)) (term_tokens t)
     order_term (of_app a) = order_app a
-    order_term (cons a at t) =
-        let x = term_faults scope (app_raw a) in let r = term_faults scope (term_raw t) in
-        subst (λ b. AreInOrder (unless b 9 at ++ (x ++ (r ++ []))) (app_tokens a ++ cons_sign at ∷ term_tokens t)) (sym (sign_may scope no_sign))
-        (both x (r ++ []) (app_tokens a) (cons_sign at ∷ term_tokens t) (order_app a)
-        (later (r ++ []) (cons_sign at) (term_tokens t) (subst (λ z. AreInOrder z (term_tokens t)) (sym (append-nil r)) (order_term t))))
+    order_term (cons a at t) = order_sign cell at (app_raw a) (term_raw t) (cons_sign at) (app_tokens a) (term_tokens t) (order_app a) (order_term t)
 
     order_app : (a : App) → AreInOrder (term_faults scope (app_raw a)) (app_tokens a)
     order_app (applied w ss) =
@@ -116,6 +122,44 @@ module _ (scope : Scope) (no_sign : NoSign scope) where
         subst (λ z. AreInOrder z (simples_tokens ss ++ simple_tokens s)) (sym (terms_then scope (simples_raws ss) (simple_raw s)))
         (both (terms_faults scope (simples_raws ss)) (term_faults scope (simple_raw s)) (simples_tokens ss) (simple_tokens s) (order_simples ss) (order_simple s))
 
+  -- ---- expressions
+
+  order_plain : (x : Plain) → AreInOrder (term_faults scope (plain_raw x)) (plain_token x ∷ [])
+  order_plain (plain_word w) = tt
+  order_plain (plain_any at) = tt
+  order_plain (plain_number z at) = tt
+
+  mutual
+    order_expr : (e : Expr) → AreInOrder (term_faults scope (expr_raw e)) (expr_tokens e)
+    order_expr (of_product p) = order_product p
+    order_expr (adds e by_plus at p) = order_sign plus_head at (expr_raw e) (product_raw p) (plus_sign at) (expr_tokens e) (product_tokens p) (order_expr e) (order_product p)
+    order_expr (adds e by_minus at p) = order_sign minus_head at (expr_raw e) (product_raw p) (minus_sign at) (expr_tokens e) (product_tokens p) (order_expr e) (order_product p)
+
+    order_product : (p : Product) → AreInOrder (term_faults scope (product_raw p)) (product_tokens p)
+    order_product (of_item x) = order_item x
+    order_product (multiplies p at x) = order_sign star_head at (product_raw p) (item_raw x) (star_sign at) (product_tokens p) (item_tokens x) (order_product p) (order_item x)
+
+    order_item : (x : Item) → AreInOrder (term_faults scope (item_raw x)) (item_tokens x)
+    order_item (item_plain x) = order_plain x
+    order_item (item_bracket at e end) =
+        let f = term_faults scope (expr_raw e) in later f (paren_left at) (expr_tokens e ++ paren_right end ∷ []) (before f (expr_tokens e) (paren_right end ∷ []) (order_expr e))
+
+  order_first : (f : First) → AreInOrder (term_faults scope (first_raw f)) (first_tokens f)
+  order_first (first_plain x) = order_plain x
+  order_first (first_times f at x) = order_sign star_head at (first_raw f) (item_raw x) (star_sign at) (first_tokens f) (item_tokens x) (order_first f) (order_item x)
+
+  order_lead : (l : Lead) → AreInOrder (term_faults scope (lead_raw l)) (lead_tokens l)
+  order_lead (of_first f) = order_first f
+  order_lead (lead_adds l by_plus at p) = order_sign plus_head at (lead_raw l) (product_raw p) (plus_sign at) (lead_tokens l) (product_tokens p) (order_lead l) (order_product p)
+  order_lead (lead_adds l by_minus at p) = order_sign minus_head at (lead_raw l) (product_raw p) (minus_sign at) (lead_tokens l) (product_tokens p) (order_lead l) (order_product p)
+
+  -- the sides of a whole-number goal, and its own fault between them
+  order_number : (side : Side) (at : Place) (l r : Raw) (t : Tok) (ls rs : List Tok) → tok_place t ≡ at → AreInOrder (term_faults scope l) ls → AreInOrder (term_faults scope r) rs
+      → AreInOrder (number_faults side scope at l r) (ls ++ t ∷ rs)
+  order_number side at l r t ls rs e h k =
+      let a = term_faults scope l in let b = unless (on_goal_side side) 7 at in let c = term_faults scope r in
+      subst (λ z. AreInOrder z (ls ++ t ∷ rs)) (sym (append_assoc a b c)) (both a (b ++ c) ls (t ∷ rs) h (here b c t rs at (one_unless (on_goal_side side) 7 at) e k))
+
 -- ---- formulas
 
 clause_place : (c : ClauseOp) (at : Place) → tok_place (clause_token c at) ≡ at
@@ -130,10 +174,10 @@ one_load : (o : Option Heading) (m : Identifier) (n : ℕ) → AtMostOne m.at (l
 one_load None m n = refl
 one_load (Some h) m n = one_unless (nat_eq n h.params) 11 m.at
 
--- a quantifier's name is not the sign
+-- a quantifier's name is no sign
 name_no_sign : (scope : Scope) (w : Word) (ts : List Tok) → Spelled (word_token w ∷ ts) → NoSign scope → NoSign (binds (word_identifier w).text ∷ scope)
-name_no_sign scope (lower n) ts h k = (word-no-cons n (inl h.0), k)
-name_no_sign scope (upper n) ts h k = (word-no-cons n (inr h.0), k)
+name_no_sign scope (lower n) ts h k = (word_no_sign n (inl h.0), k)
+name_no_sign scope (upper n) ts h k = (word_no_sign n (inr h.0), k)
 
 module _ (heads : List Heading) where
   -- the operands of an operator, and its own fault between them
@@ -209,3 +253,9 @@ module _ (heads : List Heading) where
     order_primary side scope n (atom w ss) h =
         let i = word_identifier w in let b = may_be_head (meaning scope i.text) in
         here (unless b 9 i.at) (terms_faults scope (simples_raws ss)) (word_token w) (simples_tokens ss) i.at (one_unless b 9 i.at) (word_place w) (order_simples scope n ss)
+    order_primary side scope n (valued x at e) h =
+        order_number scope n side at (plain_raw x) (expr_raw e) (is_sign at) (plain_token x ∷ []) (expr_tokens e) refl (order_plain scope n x) (order_expr scope n e)
+    order_primary side scope n (tested l by_less at e) h =
+        order_number scope n side at (lead_raw l) (expr_raw e) (less_sign at) (lead_tokens l) (expr_tokens e) refl (order_lead scope n l) (order_expr scope n e)
+    order_primary side scope n (tested l by_most at e) h =
+        order_number scope n side at (lead_raw l) (expr_raw e) (most_sign at) (lead_tokens l) (expr_tokens e) refl (order_lead scope n l) (order_expr scope n e)

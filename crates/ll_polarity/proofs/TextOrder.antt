@@ -1,5 +1,5 @@
 -- The faults of whole programs and queries stand in the order of their tokens.
-use Rattle.std.proofs.Common.{◌≡◌, ℕ, Bool, true, false, List, [], ◌∷◌, ◌++◌, map, reverse, if◌then◌else◌, codes, inl, inr, refl, sym, subst, append_assoc}
+use Rattle.std.proofs.Common.{ℕ, Bool, true, false, List, [], ◌∷◌, ◌++◌, map, reverse, if◌then◌else◌, inl, inr, refl, sym, subst, append_assoc}
 use Rattle.std.specs.List.{list_any, All}
 use Rattle.std.specs.Str.{bytes_eq}
 use Rattle.std.proofs.lemmas.Grind.{reverse_onto}
@@ -12,9 +12,10 @@ use Rattle.ll_parser.specs.Raw.{Raw, ProgramTree}
 use Rattle.ll_parser.specs.Grammar.{formula_tokens, formula_raw}
 use Rattle.ll_parser.specs.Text.{Clause, plain, linear, Local, Module, Query, bare, dotted, clause_tokens, names, variables, local_tokens, heading_tokens, clauses_tokens, locals_tokens, module_tokens, modules_tokens, program_tokens, query_tokens, clause_tree, locals_of, module_tree, program_tree, query_tree, programs, queries}
 use Rattle.ll_parser.specs.Reads.{Reads}
-use Rattle.ll_parser.proofs.Printable.{word-no-cons, Spelled, spelled-split}
+use Rattle.ll_parser.proofs.Printable.{Spelled, spelled-split}
 use Rattle.ll_polarity.specs.Scope.{Scope, binds, declares, module_scope}
 use Rattle.ll_polarity.specs.Faults.{form_faults, clauses_faults, repeated, modules_faults, Heading, heading, program_faults, query_faults, AreInOrder}
+use Rattle.ll_polarity.proofs.Signs.{IsNoSign, word_no_sign}
 use Rattle.ll_polarity.proofs.Order.{later, both, before, AtMostOne, here, NoSign, order_formula}
 
 -- ---- clauses
@@ -73,11 +74,11 @@ order_locals [] = tt
 order_locals (l ∷ ls) =
     inr (inl (refl, both_names l.others (locals_of ls) (names l.others ++ dot l.end ∷ []) (locals_tokens ls) (before (at_names l.others) (names l.others) (dot l.end ∷ []) (order_names l.others)) (order_locals ls)))
 
--- ---- nothing of a module binds the sign `::`
+-- ---- nothing of a module binds a sign
 
 abbrev NoSigns : List Identifier → Type 0
 NoSigns [] = Unit {0}
-NoSigns (n ∷ ns) = (bytes_eq (codes "::") n.text ≡ false) × NoSigns ns
+NoSigns (n ∷ ns) = IsNoSign n.text × NoSigns ns
 
 signs_both : (ms ns : List Identifier) → NoSigns ms → NoSigns ns → NoSigns (ms ++ ns)
 signs_both [] ns h k = k
@@ -89,17 +90,17 @@ signs_reverse (n ∷ ns) h = subst NoSigns (sym (reverse_onto ns n [])) (signs_b
 
 signs_variables : (ns : List Identifier) (ts : List Tok) → Spelled (variables ns ++ ts) → NoSigns ns
 signs_variables [] ts h = tt
-signs_variables (n ∷ ns) ts h = (word-no-cons n (inr h.0), signs_variables ns ts h.1)
+signs_variables (n ∷ ns) ts h = (word_no_sign n (inr h.0), signs_variables ns ts h.1)
 
 signs_names : (ns : List Identifier) (ts : List Tok) → Spelled (names ns ++ ts) → NoSigns ns
 signs_names [] ts h = tt
-signs_names (n ∷ ns) ts h = (word-no-cons n (inl h.0), signs_names ns ts h.1)
+signs_names (n ∷ ns) ts h = (word_no_sign n (inl h.0), signs_names ns ts h.1)
 
 signs_locals : (ls : List Local) → Spelled (locals_tokens ls) → NoSigns (locals_of ls)
 signs_locals [] h = tt
 signs_locals (l ∷ ls) h =
     let k = spelled-split (local_tokens l) (locals_tokens ls) h in
-    (word-no-cons l.first (inl k.0.1.0), signs_both l.others (locals_of ls) (signs_names l.others (dot l.end ∷ []) k.0.1.1) (signs_locals ls k.1))
+    (word_no_sign l.first (inl k.0.1.0), signs_both l.others (locals_of ls) (signs_names l.others (dot l.end ∷ []) k.0.1.1) (signs_locals ls k.1))
 
 no_sign_declared : (ns : List Identifier) → NoSigns ns → NoSign (map (λ n. declares n.text) ns)
 no_sign_declared [] h = tt

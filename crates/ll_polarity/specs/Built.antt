@@ -1,8 +1,8 @@
 -- How the trees of terms and formulas are put together from raw trees, part by part.
 use Rattle.std.specs.Prelude.{ℕ, zero, suc, pos, List, [], ◌∷◌, ◌++◌, length, Option, Some, None}
 use Rattle.ll_bank.specs.Term.{Term, Var, Int, Con, Ap, apply}
-use Rattle.ll_bank.specs.Form.{Form, Top, One, Atom, Bang, Forall, Exists, Use}
-use Rattle.ll_parser.specs.Raw.{Raw, truth, erasure, braces, universal, existential, load, binary, head, anything, int, RawList, none, more}
+use Rattle.ll_bank.specs.Form.{Form, Top, One, Atom, Bang, Forall, Exists, Use, Num, Relation, Is, Less, Most}
+use Rattle.ll_parser.specs.Raw.{Raw, truth, erasure, braces, universal, existential, load, binary, is_goal, less_goal, most_goal, head, anything, int, RawList, none, more}
 use Rattle.ll_polarity.specs.Scope.{Scope, binds, meaning}
 use Rattle.ll_polarity.specs.Reading.{Met, Read, read_name, joined, bind_term, bind_form}
 
@@ -50,11 +50,18 @@ abbrev mutual
   built_term a met (existential at n r) = record { it = Int (pos 0); met = met }
   built_term a met (load at m args r) = record { it = Int (pos 0); met = met }
   built_term a met (binary o at l r) = record { it = Int (pos 0); met = met }
+  built_term a met (is_goal at l r) = record { it = Int (pos 0); met = met }
+  built_term a met (less_goal at l r) = record { it = Int (pos 0); met = met }
+  built_term a met (most_goal at l r) = record { it = Int (pos 0); met = met }
 
   -- terms, from left to right
   pub built_terms : Around → Met → RawList → Read (List Term)
   built_terms a met none = record { it = []; met = met }
   built_terms a met (more r rs) = let t = built_term a met r in let ts = built_terms a t.met rs in record { it = t.it ∷ ts.it; met = ts.met }
+
+-- a whole-number goal that stands there
+abbrev pub built_number : Relation → Around → Met → Raw → Raw → Read Form
+built_number q a met l r = let t = built_term a met l in let u = built_term a t.met r in record { it = Num q t.it u.it; met = u.met }
 
 -- a formula that stands there, where the modules with these names have these places
 abbrev pub built_form : (List ℕ → ℕ) → Around → Met → Raw → Read Form
@@ -66,6 +73,9 @@ built_form places a met (existential at n r) = let g = built_form places (inside
 built_form places a met (load at m args r) =
     let ts = built_terms a met args in let g = built_form places a ts.met r in record { it = Use (places m.text) ts.it g.it; met = g.met }
 built_form places a met (binary o at l r) = let f = built_form places a met l in let g = built_form places a f.met r in record { it = joined o f.it g.it; met = g.met }
+built_form places a met (is_goal at l r) = built_number Is a met l r
+built_form places a met (less_goal at l r) = built_number Less a met l r
+built_form places a met (most_goal at l r) = built_number Most a met l r
 built_form places a met (head n args) = let t = built_term a met (head n args) in record { it = Atom t.it; met = t.met }
 built_form places a met (anything at) = let t = built_term a met (anything at) in record { it = Atom t.it; met = t.met }
 built_form places a met (int at z) = let t = built_term a met (int at z) in record { it = Atom t.it; met = t.met }
@@ -82,6 +92,9 @@ arguments (braces at r) = none
 arguments (universal at n r) = none
 arguments (existential at n r) = none
 arguments (binary o at l r) = none
+arguments (is_goal at l r) = none
+arguments (less_goal at l r) = none
+arguments (most_goal at l r) = none
 arguments (anything at) = none
 arguments (int at z) = none
 

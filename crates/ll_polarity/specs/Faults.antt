@@ -8,7 +8,7 @@ use Rattle.ll_laws.specs.Valid.{Side, GoalSide, ClauseSide}
 use Rattle.ll_parser.specs.declared.Op.{Op}
 use Rattle.ll_parser.specs.declared.Op.TheVariants as op
 use Rattle.ll_parser.specs.Tokens.{Identifier, Tok, tok_place}
-use Rattle.ll_parser.specs.Raw.{Raw, truth, erasure, braces, universal, existential, load, binary, head, anything, int, RawList, none, more, ClauseTree, ModuleTree, ProgramTree}
+use Rattle.ll_parser.specs.Raw.{Raw, truth, erasure, braces, universal, existential, load, binary, is_goal, less_goal, most_goal, head, anything, int, RawList, none, more, ClauseTree, ModuleTree, ProgramTree}
 use Rattle.ll_polarity.specs.Scope.{Scope, binds, Meaning, Bound, Local, Free, Constant, meaning, module_scope}
 
 -- one fault, unless the test holds
@@ -47,6 +47,9 @@ abbrev mutual
   term_faults scope (existential at n r) = []
   term_faults scope (load at m args r) = []
   term_faults scope (binary o at l r) = []
+  term_faults scope (is_goal at l r) = []
+  term_faults scope (less_goal at l r) = []
+  term_faults scope (most_goal at l r) = []
 
   pub terms_faults : Scope → RawList → List Fault
   terms_faults scope none = []
@@ -94,6 +97,10 @@ abbrev pub load_fault : Option Heading → Identifier → ℕ → List Fault
 load_fault None m n = record { at = m.at; kind = 10 } ∷ []
 load_fault (Some h) m n = unless (nat_eq n h.params) 11 m.at
 
+-- the faults of a whole-number goal, whose sign stands at this place between its sides
+abbrev pub number_faults : Side → Scope → Place → Raw → Raw → List Fault
+number_faults side scope at l r = term_faults scope l ++ unless (on_goal_side side) 7 at ++ term_faults scope r
+
 -- the faults of a formula on a side
 abbrev pub form_faults : List Heading → Side → Scope → Raw → List Fault
 form_faults ms side scope (truth at) = unless (on_goal_side side) 7 at
@@ -104,6 +111,9 @@ form_faults ms side scope (existential at n r) = unless (on_goal_side side) 7 at
 form_faults ms side scope (load at m args r) =
     load_fault (find (is_named m.text) ms) m (count args) ++ terms_faults scope args ++ unless (on_goal_side side) 8 at ++ form_faults ms side scope r
 form_faults ms side scope (binary o at l r) = form_faults ms (left_side o side) scope l ++ unless (may_join o side) 7 at ++ form_faults ms (right_side o side) scope r
+form_faults ms side scope (is_goal at l r) = number_faults side scope at l r
+form_faults ms side scope (less_goal at l r) = number_faults side scope at l r
+form_faults ms side scope (most_goal at l r) = number_faults side scope at l r
 form_faults ms side scope (head n args) = unless (may_be_head (meaning scope n.text)) 9 n.at ++ terms_faults scope args
 -- no other raw tree is a formula
 form_faults ms side scope (anything at) = []

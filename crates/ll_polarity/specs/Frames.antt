@@ -1,7 +1,9 @@
 -- The fronts of formulas whose other parts are being put in, and what comes of them.
 use Rattle.std.specs.Prelude.{◌≡◌, ℕ, ◌<◌, ◌+◌, ◌*◌, List, [], ◌∷◌, ◌++◌}
+use Rattle.ll_bank.specs.Term.{Term}
 use Rattle.ll_bank.specs.Form.{Form, Bang, Forall, Exists, Use}
 use Rattle.ll_bank.specs.Nodes.{Nodes, term_trees, form_tree, HasForm, AllInTerms}
+use Rattle.ll_parser.specs.declared.RawAt.{RawAt}
 use Rattle.ll_parser.specs.Nodes.{Node, raw_at}
 use Rattle.ll_parser.proofs.Sizes.{weight}
 use Rattle.ll_polarity.specs.declared.put_forms.Frame.{Frame}
@@ -10,7 +12,7 @@ use Rattle.ll_polarity.specs.declared.put_forms.Step.{Step}
 use Rattle.ll_polarity.specs.declared.put_forms.Step.TheVariants as step
 use Rattle.ll_polarity.specs.Reading.{Met, Read, joined}
 use Rattle.ll_polarity.specs.Numbered.{text_of}
-use Rattle.ll_polarity.specs.Built.{Around, inside, built_form}
+use Rattle.ll_polarity.specs.Built.{Around, inside, built_term, built_form}
 use Rattle.ll_polarity.specs.Calls.{IsReady}
 
 -- where a formula is put together: the texts of the names, the nodes of the raw trees, and the places of modules by their names
@@ -18,6 +20,13 @@ pub record Ground : Type 0 where
   pub texts : List (List ℕ)
   pub forms : List Node
   pub modules : List ℕ → ℕ
+
+-- what is put together of the left side of a whole-number goal, and of the right one behind it
+abbrev pub left_built : Ground → Around → Met → RawAt → Read Term
+left_built g a met l = built_term a met (raw_at g.texts g.forms l.0)
+
+abbrev pub right_built : Ground → Around → Met → RawAt → RawAt → Read Term
+right_built g a met l r = built_term a (left_built g a met l).met (raw_at g.texts g.forms r.0)
 
 -- what is round the part that a front waits for
 abbrev pub within : Ground → Around → Frame → Around

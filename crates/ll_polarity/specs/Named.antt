@@ -1,7 +1,7 @@
 -- Raw trees in which each name has a text.
 use Rattle.std.specs.Prelude.{◌<◌, length, All}
 use Rattle.ll_parser.specs.Tokens.{Identifier}
-use Rattle.ll_parser.specs.Raw.{Raw, truth, erasure, braces, universal, existential, load, binary, head, anything, int, RawList, none, more, ModuleTree, ProgramTree}
+use Rattle.ll_parser.specs.Raw.{Raw, truth, erasure, braces, universal, existential, load, binary, is_goal, less_goal, most_goal, head, anything, int, RawList, none, more, ModuleTree, ProgramTree}
 
 -- the text of a name has a byte at least
 abbrev pub HasText : Identifier → Type 0
@@ -17,6 +17,9 @@ abbrev mutual
   IsNamed (existential at n r) = HasText n × IsNamed r
   IsNamed (load at m args r) = HasText m × AreNamed args × IsNamed r
   IsNamed (binary o at l r) = IsNamed l × IsNamed r
+  IsNamed (is_goal at l r) = IsNamed l × IsNamed r
+  IsNamed (less_goal at l r) = IsNamed l × IsNamed r
+  IsNamed (most_goal at l r) = IsNamed l × IsNamed r
   IsNamed (head n args) = HasText n × AreNamed args
   IsNamed (anything at) = Unit {0}
   IsNamed (int at z) = Unit {0}

@@ -7,7 +7,7 @@ use denote.Ref.{Bor}
 use Rattle.ll_lexer.specs.declared.Fault.{Fault}
 use Rattle.ll_laws.specs.Valid.{Side, GoalSide, ClauseSide}
 use Rattle.ll_parser.specs.declared.RawAt.{RawAt}
-use Rattle.ll_parser.specs.Raw.{Raw, truth, erasure, braces, universal, existential, load, binary, head, anything, int, RawList, none, more}
+use Rattle.ll_parser.specs.Raw.{Raw, truth, erasure, braces, universal, existential, load, binary, is_goal, less_goal, most_goal, head, anything, int, RawList, none, more}
 use Rattle.ll_parser.specs.Nodes.{Node, raw_at}
 use Rattle.ll_polarity.specs.declared.pending.Side as seen
 use Rattle.ll_polarity.specs.declared.pending.Side.TheVariants as side
@@ -39,6 +39,9 @@ abbrev mutual
   size (existential at n r) = suc (size r)
   size (load at m args r) = suc (sizes args + size r)
   size (binary o at l r) = suc (size l + size r)
+  size (is_goal at l r) = suc (size l + size r)
+  size (less_goal at l r) = suc (size l + size r)
+  size (most_goal at l r) = suc (size l + size r)
   size (head n args) = suc (sizes args)
   size (anything at) = 1
   size (int at z) = 1

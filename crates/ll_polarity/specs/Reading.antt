@@ -6,11 +6,11 @@ use Rattle.std.specs.Str.{bytes_eq}
 use Rattle.ll_bank.specs.declared.Head.TheVariants as head
 use Rattle.ll_bank.specs.Names.{number_of, with_name}
 use Rattle.ll_bank.specs.Term.{Term, Var, Int, Con, Ap, apply}
-use Rattle.ll_bank.specs.Form.{Form, Top, One, Atom, With, Tensor, Plus, Bang, Lolli, Imp, Forall, Exists, Use, Num}
+use Rattle.ll_bank.specs.Form.{Form, Top, One, Atom, With, Tensor, Plus, Bang, Lolli, Imp, Forall, Exists, Use, Num, Relation, Is, Less, Most}
 use Rattle.ll_laws.specs.Module.{forall_all}
 use Rattle.ll_parser.specs.declared.Op.{Op}
 use Rattle.ll_parser.specs.declared.Op.TheVariants as op
-use Rattle.ll_parser.specs.Raw.{Raw, truth, erasure, braces, universal, existential, load, binary, head, anything, int, RawList, none, more}
+use Rattle.ll_parser.specs.Raw.{Raw, truth, erasure, braces, universal, existential, load, binary, is_goal, less_goal, most_goal, head, anything, int, RawList, none, more}
 use Rattle.ll_polarity.specs.Scope.{Scope, binds, Meaning, Bound, Local, Free, Constant, meaning}
 
 -- what was met in a text so far: the texts of its names, and the variables of the clause or query at hand, `_` without a text
@@ -70,6 +70,9 @@ abbrev mutual
   read_term scope met (existential at n r) = record { it = Int (pos 0); met = met }
   read_term scope met (load at m args r) = record { it = Int (pos 0); met = met }
   read_term scope met (binary o at l r) = record { it = Int (pos 0); met = met }
+  read_term scope met (is_goal at l r) = record { it = Int (pos 0); met = met }
+  read_term scope met (less_goal at l r) = record { it = Int (pos 0); met = met }
+  read_term scope met (most_goal at l r) = record { it = Int (pos 0); met = met }
 
   -- terms, from left to right
   pub read_terms : Scope → Met → RawList → Read (List Term)
@@ -90,6 +93,10 @@ joined op.Tensor f g = Tensor f g
 abbrev pub module_in : List (List ℕ) → List ℕ → ℕ
 module_in modules w = unwrap_or (number_of modules w) 0
 
+-- a whole-number goal: its left side, and then its right one
+abbrev pub read_number : Relation → Scope → Met → Raw → Raw → Read Form
+read_number q scope met l r = let t = read_term scope met l in let u = read_term scope t.met r in record { it = Num q t.it u.it; met = u.met }
+
 -- a formula, where the modules have these names
 abbrev pub read_form : List (List ℕ) → Scope → Met → Raw → Read Form
 read_form ms scope met (truth at) = record { it = One; met = met }
@@ -101,6 +108,9 @@ read_form ms scope met (load at m args r) =
     let ts = read_terms scope met args in let g = read_form ms scope ts.met r in record { it = Use (module_in ms m.text) ts.it g.it; met = g.met }
 read_form ms scope met (binary o at l r) =
     let f = read_form ms scope met l in let g = read_form ms scope f.met r in record { it = joined o f.it g.it; met = g.met }
+read_form ms scope met (is_goal at l r) = read_number Is scope met l r
+read_form ms scope met (less_goal at l r) = read_number Less scope met l r
+read_form ms scope met (most_goal at l r) = read_number Most scope met l r
 read_form ms scope met (head n args) = let a = read_term scope met (head n args) in record { it = Atom a.it; met = a.met }
 read_form ms scope met (anything at) = let a = read_term scope met (anything at) in record { it = Atom a.it; met = a.met }
 read_form ms scope met (int at z) = let a = read_term scope met (int at z) in record { it = Atom a.it; met = a.met }

@@ -1,7 +1,7 @@
 //! Formulas, put into a bank from raw trees without recursion.
 
 ghost use Rattle.std.specs.Prelude.{◌≡◌, ◌*◌, ◌+◌, ◌-◌, ◌^◌, ◌<◌, ◌≤◌, false, List, [], ◌∷◌, length, unwrap_or, slice_index_or, IfOk};
-ghost use Rattle.ll_bank.specs.Nodes.{HasForm, ShowsForm, form_tree, Extends};
+ghost use Rattle.ll_bank.specs.Nodes.{HasForm, ShowsForm, ShowsTerm, form_tree, Extends};
 ghost use Rattle.ll_parser.specs.Nodes.{raw_at};
 ghost use Rattle.ll_parser.proofs.Sizes.{weight};
 ghost use Rattle.ll_bank.specs.Form.{Atom};
@@ -11,7 +11,7 @@ ghost use Rattle.ll_polarity.specs.Built.{Around, built_term, built_form};
 ghost use Rattle.ll_polarity.specs.Standing.{met_of, around, outermost, HasRoom, StandsIn};
 ghost use Rattle.ll_polarity.specs.Calls.{IsReady};
 ghost use Rattle.ll_polarity.specs.Places.{place_in};
-ghost use Rattle.ll_polarity.specs.Frames.{Ground, FrameHas, FrameFits, Advances, wraps, within, frame_left};
+ghost use Rattle.ll_polarity.specs.Frames.{Ground, left_built, right_built, FrameHas, FrameFits, Advances, wraps, within, frame_left};
 ghost use Rattle.ll_polarity.specs.Grounds.{ground};
 
 use crate::front::{Met, Place};
@@ -116,6 +116,42 @@ fn atom(
     bank.form(FormNode::Atom(term))
 }
 
+/// The two sides of a whole-number goal.
+#[derive(Clone, Copy)]
+struct Sides {
+    left: At,
+    right: At,
+}
+
+/// The terms at two places, from left to right.
+fn both_sides(
+    alloc: Global,
+    text: &Text<'_>,
+    binders: &Binders<'_>,
+    place: Place,
+    met: &mut Met,
+    bank: &mut Bank,
+    left: RawAt,
+    right: RawAt,
+) -> Result<Sides, OutOfMemory>
+    requires stands { StandsIn text.now.names.now binders.now place }
+    requires left { IsReady text.now.names.now text.now.forms.now left.0 }
+    requires right { IsReady text.now.names.now text.now.forms.now right.0 }
+    requires room { HasRoom (right_built (ground text.now) (around place binders.now.scope) (met_of text.now.names.now met.old) left right).met }
+    ensures left { IfOk result (λ sides. ShowsTerm bank.new sides.left.0 (left_built (ground text.now) (around place binders.now.scope) (met_of text.now.names.now met.old) left).it) }
+    ensures right { IfOk result (λ sides. ShowsTerm bank.new sides.right.0 (right_built (ground text.now) (around place binders.now.scope) (met_of text.now.names.now met.old) left right).it) }
+    ensures met { IfOk result (λ _. met_of text.now.names.now met.new ≡ (right_built (ground text.now) (around place binders.now.scope) (met_of text.now.names.now met.old) left right).met) }
+    ensures keeps { Extends bank.old bank.new }
+{
+    let left = term(
+        alloc, text.names, text.forms, binders, place, met, bank, left,
+    )?;
+    let right = term(
+        alloc, text.names, text.forms, binders, place, met, bank, right,
+    )?;
+    Ok(Sides { left, right })
+}
+
 /// Begins the formula at a place.
 fn begun(
     alloc: Global,
@@ -165,17 +201,21 @@ fn begun(
             frames.push(Frame::Left(op, right))?;
             Ok(Step::Read(left))
         }
-        RawNode::Head(_, _) => {
+        RawNode::Head(_, _) | RawNode::Any | RawNode::Int(_) => {
             let form = atom(alloc, text, binders, *place, met, bank, at)?;
             Ok(Step::Give(form))
         }
-        RawNode::Any => {
-            let form = atom(alloc, text, binders, *place, met, bank, at)?;
-            Ok(Step::Give(form))
+        RawNode::Is(left, right) => {
+            let sides = both_sides(alloc, text, binders, *place, met, bank, left, right)?;
+            Ok(Step::Give(bank.form(FormNode::Is(sides.left, sides.right))?))
         }
-        RawNode::Int(_) => {
-            let form = atom(alloc, text, binders, *place, met, bank, at)?;
-            Ok(Step::Give(form))
+        RawNode::Less(left, right) => {
+            let sides = both_sides(alloc, text, binders, *place, met, bank, left, right)?;
+            Ok(Step::Give(bank.form(FormNode::Less(sides.left, sides.right))?))
+        }
+        RawNode::Most(left, right) => {
+            let sides = both_sides(alloc, text, binders, *place, met, bank, left, right)?;
+            Ok(Step::Give(bank.form(FormNode::Most(sides.left, sides.right))?))
         }
     }
 }

@@ -48,6 +48,9 @@ pub fn argument(forms: &Raws, at: RawAt, number: usize) -> Option<RawAt>
         | RawNode::Exists(_, _)
         | RawNode::Binary(_, _, _)
         | RawNode::Any
+        | RawNode::Is(_, _)
+        | RawNode::Less(_, _)
+        | RawNode::Most(_, _)
         | RawNode::Int(_) => None,
     }
 }
@@ -99,7 +102,10 @@ fn begun(
         | RawNode::Forall(_, _)
         | RawNode::Exists(_, _)
         | RawNode::Load(_, _, _)
-        | RawNode::Binary(_, _, _) => {
+        | RawNode::Binary(_, _, _)
+        | RawNode::Is(_, _)
+        | RawNode::Less(_, _)
+        | RawNode::Most(_, _) => {
             let term = bank.int(0)?;
             Ok(Turn::Give(term))
         }

@@ -138,6 +138,20 @@ fn open_load(
     parts.push_fault(fault)
 }
 
+// Puts the parts of a whole-number goal next, of which this is the fault between its sides.
+fn open_number(
+    parts: &mut Parts,
+    left: RawAt,
+    fault: Option<Fault>,
+    right: RawAt,
+) -> Result<(), OutOfMemory>
+    ensures { OnOk result (parts.new ≡ Term left ∷ (map Found (option_to_list fault) ++ Term right ∷ parts.old)) }
+{
+    parts.push(Part::Term(right))?;
+    parts.push_fault(fault)?;
+    parts.push(Part::Term(left))
+}
+
 // Puts the parts of a formula next.
 fn open_form(
     source: &Source<'_, '_, '_>,
@@ -172,6 +186,10 @@ fn open_form(
             parts.push(Part::Form(right_side(op, side), right))?;
             parts.push_fault(unless(may_join(op, side), place, 7))?;
             parts.push(Part::Form(left_side(op, side), left))?;
+        }
+        RawNode::Is(left, right) | RawNode::Less(left, right) | RawNode::Most(left, right) => {
+            let fault = unless(is_goal(side), place, 7);
+            open_number(parts, left, fault, right)?;
         }
         RawNode::Head(name, args) => {
             parts.push_terms(args)?;

@@ -1,7 +1,7 @@
 -- The lines of an answer's variables, one after the other.
-use Rattle.std.proofs.Common.{◌≡◌, ℕ, zero, suc, ◌+◌, ◌<◌, ◌≤◌, List, [], ◌∷◌, ◌++◌, length, get_or, take, drop, refl, ap, sym, subst, ◌∙◌, arith, append_assoc, codes, Option, Some, None}
-use Rattle.std.proofs.lemmas.List.{append-nil, take-append-drop}
-use Rattle.ll_bank.specs.Term.{Term, Var}
+use Rattle.std.proofs.Common.{◌≡◌, ℕ, zero, suc, ◌+◌, ◌<◌, ◌≤◌, List, [], ◌∷◌, ◌++◌, length, get_or, take, drop, refl, ap, sym, ◌∙◌, arith, append_assoc, codes, Option, Some, None}
+use Rattle.std.proofs.lemmas.List.{append-nil}
+use Rattle.ll_bank.specs.Term.{Term}
 use Rattle.ll_laws.specs.Output.{line, name_text, term_text, binding_lines, bindings_text, is_named}
 use Rattle.ll_laws.specs.Problem.{ProblemTree}
 use Rattle.ll_laws.specs.Answered.{Answered}

@@ -1,5 +1,5 @@
 -- Formulas part by part.
-use Rattle.std.proofs.Common.{◌≡◌, ℕ, suc, ◌+◌, ◌*◌, ◌<◌, ◌≤◌, Bool, true, false, ◌&&◌, cond, eqb, not, List, [], ◌∷◌, ◌++◌, length, All, refl, ap, sym, subst, ◌∙◌, arith, append_assoc, codes, to_z, of_z, w64}
+use Rattle.std.proofs.Common.{◌≡◌, ℕ, suc, ◌+◌, ◌*◌, ◌<◌, ◌≤◌, Bool, true, false, ◌&&◌, ◌||◌, cond, eqb, not, List, [], ◌∷◌, ◌++◌, length, All, refl, ap, sym, subst, ◌∙◌, arith, append_assoc, codes, to_z, of_z, w64}
 use Rattle.std.specs.Prelude.{ℤ, FitsSigned, Result, Ok, Err, OnOk, OnErr}
 use Rattle.std.specs.Fmt.{signed_decimal}
 use Rattle.std.proofs.lemmas.Int.{to_z-of_z}
@@ -12,10 +12,10 @@ use Rattle.ll_parser.specs.declared.Op.{Op}
 use Rattle.ll_parser.specs.declared.Op.TheVariants as op
 use Rattle.ll_parser.specs.declared.RawAt.{RawAt}
 use Rattle.ll_parser.specs.Tokens.{Identifier}
-use Rattle.ll_parser.specs.Raw.{Raw, truth, erasure, braces, universal, existential, load, binary, head, anything, int, RawList, none, more}
+use Rattle.ll_parser.specs.Raw.{Raw, truth, erasure, braces, universal, existential, load, binary, is_goal, less_goal, most_goal, head, anything, int, RawList, none, more}
 use Rattle.ll_parser.specs.Nodes.{Node, identifier, raw_at, raws_in, raw_trees}
 use Rattle.ll_parser.specs.Seen.{places}
-use Rattle.ll_parser.specs.Printed.{Rank, clauses, left_rank, right_rank, op_bytes, between, bracketed, is_cons, is_pair, has_arguments, head_text, term_text, arguments_text, pair_text, formula_text}
+use Rattle.ll_parser.specs.Printed.{Rank, clauses, left_rank, right_rank, op_bytes, between, bracketed, is_cons, is_pair, has_arguments, head_text, term_text, arguments_text, pair_text, is_add, is_star, is_sum, is_product, left_encloses, right_encloses, expr_text, formula_text}
 use Rattle.ll_printer.specs.declared.formulas.Level.{Level}
 use Rattle.ll_printer.specs.declared.formulas.Level.TheVariants as level
 use Rattle.ll_printer.specs.declared.formulas.Word.{Word}
@@ -23,7 +23,7 @@ use Rattle.ll_printer.specs.declared.formulas.Word.TheVariants as word
 use Rattle.ll_printer.specs.declared.formulas.Part.{Part}
 use Rattle.ll_printer.specs.declared.formulas.Part.TheVariants as part
 use Rattle.ll_printer.specs.Pieces.{BeginsText}
-use Rattle.ll_printer.specs.Parts.{rank_of, word_text, needs_brackets, inner_text, part_text, parts_text, raw_size, raws_size, part_weight, parts_weight, HasPart, AreParts, argument_parts, head_parts, Leaves, PartMoves, IsWriting}
+use Rattle.ll_printer.specs.Parts.{rank_of, word_text, needs_brackets, inner_text, part_text, parts_text, raw_size, raws_size, part_weight, parts_weight, HasPart, AreParts, argument_parts, head_parts, operator_text, operand_parts, sides_parts, expression_parts, Leaves, PartMoves, IsWriting}
 
 -- what follows from a fact on success
 pub on_ok : {T E P Q : Type 0} (r : Result T E) → (P → Q) → OnOk r P → OnOk r Q
@@ -69,6 +69,29 @@ pub writing-last : (text start now next last : List ℕ) → IsWriting text star
 writing-last text start now next last w e =
     writing-ends text start next (writing-on text start now next [] last (subst (IsWriting text start now) (sym (append-nil last)) w) e)
 
+-- ---- the operators of expressions
+
+pub sum-is : (r : Raw) → is_sum r ≡ is_add (operator_text r)
+sum-is (head n none) = refl
+sum-is (head n (more x none)) = refl
+sum-is (head n (more x (more y none))) = refl
+sum-is (head n (more x (more y (more z rs)))) = refl
+sum-is _ = refl
+
+pub product-is : (r : Raw) → is_product r ≡ is_star (operator_text r)
+product-is (head n none) = refl
+product-is (head n (more x none)) = refl
+product-is (head n (more x (more y none))) = refl
+product-is (head n (more x (more y (more z rs)))) = refl
+product-is _ = refl
+
+pub left-encloses-is : (w s o : List ℕ) (r : Raw) (v : Bool) → s ≡ w → o ≡ operator_text r → v ≡ (is_star s && is_add o) → v ≡ left_encloses w r
+left-encloses-is w s o r v se oe e = e ∙ ((λ i. is_star (se i) && is_add (oe i)) ∙ ap (λ b. is_star w && b) (sym (sum-is r)))
+
+pub right-encloses-is : (w s o : List ℕ) (r : Raw) (v : Bool) → s ≡ w → o ≡ operator_text r → v ≡ (is_add o || (is_star s && is_star o)) → v ≡ right_encloses w r
+right-encloses-is w s o r v se oe e =
+    e ∙ ((λ i. is_add (oe i) || (is_star (se i) && is_star (oe i))) ∙ (ap (λ b. b || (is_star w && is_star (operator_text r))) (sym (sum-is r)) ∙ ap (λ b. is_sum r || (is_star w && b)) (sym (product-is r))))
+
 -- ---- the stack
 
 size-positive : (t : Raw) → 1 ≤ raw_size t
@@ -79,6 +102,9 @@ size-positive (universal at n g) = omega arith
 size-positive (existential at n g) = omega arith
 size-positive (load at n rs g) = omega arith
 size-positive (binary o at l r) = omega arith
+size-positive (is_goal at l r) = omega arith
+size-positive (less_goal at l r) = omega arith
+size-positive (most_goal at l r) = omega arith
 size-positive (head n rs) = omega arith
 size-positive (anything at) = omega arith
 size-positive (int at z) = omega arith
@@ -165,6 +191,9 @@ module _ (names : List (List ℕ)) (nodes : List Node) where
   formula-is s f (existential at n g) = refl
   formula-is s f (load at n rs g) = refl
   formula-is s f (binary o at l r) = refl
+  formula-is s f (is_goal at l r) = refl
+  formula-is s f (less_goal at l r) = refl
+  formula-is s f (most_goal at l r) = refl
   formula-is s f (head n rs) = refl
   formula-is s f (anything at) = refl
   formula-is s f (int at z) = refl
@@ -234,6 +263,19 @@ module _ (names : List (List ℕ)) (nodes : List Node) where
       ∙ (ap (λ u. formula_text (left_rank o) true x ++ u) (operator-text o (formula_text (right_rank o) f y) rest)
       ∙ sym (append_assoc (formula_text (left_rank o) true x) (between (op_bytes o) (formula_text (right_rank o) f y)) rest))))
       ((let a : r.0 < length nodes = omega arith in a), (tt, ((let b : l.0 < length nodes = omega arith in b), tt))) (omega arith)
+
+  -- a whole-number goal, by its word
+  pub inside-number : (at l r : RawAt) (w : Word) (f : Bool) (t : Raw) (old new : List Part) → at.0 < length nodes → raw_at names nodes at.0 ≡ t → (l.0 < at.0) × (r.0 < at.0)
+      → inner_text f t ≡ expr_text (raw_at names nodes l.0) ++ (word_text w ++ expr_text (raw_at names nodes r.0))
+      → raw_size t ≡ 1 + raw_size (raw_at names nodes l.0) + raw_size (raw_at names nodes r.0)
+      → new ≡ old ++ (part.Expression r ∷ part.Word w ∷ part.Expression l ∷ []) → Leaves names nodes (part.Inside at f) old new
+  inside-number at l r w f t old new h is lt text size e =
+      let x : List ℕ = expr_text (raw_at names nodes l.0) in
+      let y : List ℕ = expr_text (raw_at names nodes r.0) in
+      let a = lt.0 in let b = lt.1 in
+      leaves-inside at f old new (part.Expression r ∷ part.Word w ∷ part.Expression l ∷ []) t is e
+      (λ rest. sym (ap (λ u. u ++ rest) text ∙ (append_assoc x (word_text w ++ y) rest ∙ ap (λ u. x ++ u) (append_assoc (word_text w) y rest))))
+      ((let c : r.0 < length nodes = omega arith in c), (tt, ((let c : l.0 < length nodes = omega arith in c), tt))) (omega arith)
 
   -- a name and its arguments
   name-text : (n : Named) (args : List RawAt) (rest : List ℕ) → parts_text names nodes (argument_parts args ++ part.Name n ∷ []) rest
@@ -307,6 +349,106 @@ module _ (names : List (List ℕ)) (nodes : List Node) where
       → raw_at names nodes at.0 ≡ head (identifier names n) (raws_in (raw_trees names nodes) (places args)) → All (λ (a : RawAt). a.0 < at.0) args
       → new ≡ old ++ head_parts (eqb (length args) 2 && is_cons (identifier names n).text) n args → Leaves names nodes (part.Term at) old new
   term-head at n args old new h is all e = head-term at n args (eqb (length args) 2 && is_cons (identifier names n).text) old new h refl is all e
+
+  -- ---- expressions
+
+  pub leaves-expression : (at : RawAt) (old new qs : List Part) (t : Raw) → raw_at names nodes at.0 ≡ t → new ≡ old ++ qs → ((rest : List ℕ) → parts_text names nodes qs rest ≡ expr_text t ++ rest)
+      → AreParts nodes qs → parts_weight names nodes qs < 8 * raw_size t → Leaves names nodes (part.Expression at) old new
+  leaves-expression at old new qs t is e same inside lighter = record {
+    left = qs;
+    is = e;
+    same = λ rest. same rest ∙ ap (λ r. expr_text r ++ rest) (sym is);
+    inside = inside;
+    lighter = subst (λ r. parts_weight names nodes qs < 8 * raw_size r) (sym is) lighter;
+  }
+
+  pub word-expression : (at : RawAt) (old new : List Part) (t : Raw) → raw_at names nodes at.0 ≡ t → new ≡ old ++ part.Word word.Any ∷ [] → expr_text t ≡ codes "_"
+      → Leaves names nodes (part.Expression at) old new
+  word-expression at old new t is e same =
+      leaves-expression at old new (part.Word word.Any ∷ []) t is e (λ rest. ap (λ u. u ++ rest) (sym same)) (tt, tt) (let s = size-positive t in omega arith)
+
+  pub expression-number : (at : RawAt) (z : ℤ) (p : Place) (old new : List Part) → FitsSigned w64 z → raw_at names nodes at.0 ≡ int p z → new ≡ old ++ part.Number (to_z w64 (of_z w64 z)) ∷ []
+      → Leaves names nodes (part.Expression at) old new
+  expression-number at z p old new fits is e =
+      leaves-expression at old new (part.Number z ∷ []) (int p z) is (e ∙ ap (λ v. old ++ part.Number v ∷ []) (to_z-of_z w64 z fits)) (λ rest. refl) (tt, tt) (omega arith)
+
+  pub operator-two : (n : Identifier) (args : List RawAt) → length args ≡ 2 → operator_text (head n (raws_in (raw_trees names nodes) (places args))) ≡ n.text
+  operator-two n [] h = absurd (let x : ⊥ = absurd (omega arith) in x)
+  operator-two n (x ∷ []) h = absurd (let x : ⊥ = absurd (omega arith) in x)
+  operator-two n (x ∷ y ∷ []) h = refl
+  operator-two n (x ∷ y ∷ z ∷ args) h = absurd (let x : ⊥ = absurd (omega arith) in x)
+
+  pub operator-none : (n : Identifier) (args : List RawAt) → (length args ≡ 2 → ⊥) → operator_text (head n (raws_in (raw_trees names nodes) (places args))) ≡ []
+  operator-none n [] h = refl
+  operator-none n (x ∷ []) h = refl
+  operator-none n (x ∷ y ∷ []) h = absurd (h refl)
+  operator-none n (x ∷ y ∷ z ∷ args) h = refl
+
+  -- what is put on the stack for a sign between its two operands
+  pub sides-pushed : (n : Named) (x y : RawAt) (p q : Bool) (old first second new : List Part) → p ≡ left_encloses (identifier names n).text (raw_at names nodes x.0)
+      → q ≡ right_encloses (identifier names n).text (raw_at names nodes y.0) → first ≡ old ++ operand_parts q y
+      → second ≡ first ++ (part.Word word.Space ∷ part.Name n ∷ part.Word word.Space ∷ []) → new ≡ second ++ operand_parts p x → new ≡ old ++ sides_parts names nodes n x y
+  sides-pushed n x y p q old first second new pe qe a b e =
+      let front : List Part = part.Word word.Space ∷ part.Name n ∷ part.Word word.Space ∷ [] in
+      e ∙ (ap (λ u. u ++ operand_parts p x) (b ∙ ap (λ u. u ++ front) a)
+      ∙ (append_assoc (old ++ operand_parts q y) front (operand_parts p x) ∙ (append_assoc old (operand_parts q y) (front ++ operand_parts p x)
+      ∙ λ i. old ++ (operand_parts (qe i) y ++ (front ++ operand_parts (pe i) x)))))
+
+  operand-text : (b : Bool) (x : RawAt) (rest : List ℕ) → parts_text names nodes (operand_parts b x) rest ≡ bracketed b (expr_text (raw_at names nodes x.0)) ++ rest
+  operand-text true x rest = ap (λ u. codes "(" ++ u) (sym (append_assoc (expr_text (raw_at names nodes x.0)) (codes ")") rest))
+  operand-text false x rest = refl
+
+  operand-weight : (b : Bool) (x : RawAt) → parts_weight names nodes (operand_parts b x) ≤ 8 * raw_size (raw_at names nodes x.0) + 2
+  operand-weight true x = omega arith
+  operand-weight false x = omega arith
+
+  operand-inside : (b : Bool) (x : RawAt) → x.0 < length nodes → AreParts nodes (operand_parts b x)
+  operand-inside true x h = (tt, (h, (tt, tt)))
+  operand-inside false x h = (h, tt)
+
+  expression-two : (at : RawAt) (n : Named) (x y : RawAt) (old new : List Part) → at.0 < length nodes
+      → raw_at names nodes at.0 ≡ head (identifier names n) (more (raw_at names nodes x.0) (more (raw_at names nodes y.0) none)) → x.0 < at.0 → y.0 < at.0
+      → new ≡ old ++ sides_parts names nodes n x y → Leaves names nodes (part.Expression at) old new
+  expression-two at n x y old new h is first second e =
+      let w : List ℕ = (identifier names n).text in
+      let a : Raw = raw_at names nodes x.0 in
+      let b : Raw = raw_at names nodes y.0 in
+      let p : Bool = left_encloses w a in
+      let q : Bool = right_encloses w b in
+      let front : List Part = part.Word word.Space ∷ part.Name n ∷ part.Word word.Space ∷ operand_parts p x in
+      let s : List ℕ = bracketed p (expr_text a) in
+      let t : List ℕ = bracketed q (expr_text b) in
+      leaves-expression at old new (operand_parts q y ++ front) (head (identifier names n) (more a (more b none))) is e
+      (λ rest. parts_text-append (operand_parts q y) front rest
+      ∙ (ap (parts_text names nodes front) (operand-text q y rest)
+      ∙ (operand-text p x (codes " " ++ (w ++ (codes " " ++ (t ++ rest))))
+      ∙ (ap (λ u. s ++ (codes " " ++ u)) (sym (append_assoc w (codes " " ++ t) rest)) ∙ sym (append_assoc s (between w t) rest)))))
+      (parts-append (operand_parts q y) front (operand-inside q y (omega arith)) (tt, (tt, (tt, operand-inside p x (omega arith)))))
+      (let c = parts_weight-append (operand_parts q y) front in let d = operand-weight q y in let f = operand-weight p x in omega arith)
+
+  expression-head : (at : RawAt) (n : Named) (args : List RawAt) (b : Bool) (old new : List Part) → at.0 < length nodes → eqb (length args) 2 ≡ b
+      → raw_at names nodes at.0 ≡ head (identifier names n) (raws_in (raw_trees names nodes) (places args)) → All (λ (a : RawAt). a.0 < at.0) args
+      → new ≡ old ++ expression_parts names nodes b n args → Leaves names nodes (part.Expression at) old new
+  expression-head at n [] true old new h t is all e = absurd (let x : ⊥ = cc in x)
+  expression-head at n (x ∷ []) true old new h t is all e = absurd (let x : ⊥ = cc in x)
+  expression-head at n (x ∷ y ∷ []) true old new h t is all e =
+      expression-two at n x y old new h is (All-head (λ (c : RawAt). c.0 < at.0) x (y ∷ []) all)
+      (All-head (λ (c : RawAt). c.0 < at.0) y [] (All-tail (λ (c : RawAt). c.0 < at.0) x (y ∷ []) all)) e
+  expression-head at n (x ∷ y ∷ z ∷ args) true old new h t is all e = absurd (let p = eqb-true (suc (suc (suc (length args)))) 2 t in omega arith)
+  expression-head at n [] false old new h t is all e =
+      leaves-expression at old new (part.Name n ∷ []) (head (identifier names n) none) is e (λ rest. refl) (tt, tt) (omega arith)
+  expression-head at n (x ∷ []) false old new h t is all e =
+      leaves-expression at old new (part.Name n ∷ []) (head (identifier names n) (more (raw_at names nodes x.0) none)) is e (λ rest. refl) (tt, tt) (omega arith)
+  expression-head at n (x ∷ y ∷ []) false old new h t is all e = absurd (let u : ⊥ = cc in u)
+  expression-head at n (x ∷ y ∷ z ∷ args) false old new h t is all e =
+      leaves-expression at old new (part.Name n ∷ []) (head (identifier names n) (raws_in (raw_trees names nodes) (places (x ∷ y ∷ z ∷ args)))) is e (λ rest. refl) (tt, tt) (omega arith)
+
+  pub expression-head-is : (at : RawAt) (n : Named) (args : List RawAt) (old new : List Part) → at.0 < length nodes
+      → raw_at names nodes at.0 ≡ head (identifier names n) (raws_in (raw_trees names nodes) (places args)) → All (λ (a : RawAt). a.0 < at.0) args
+      → new ≡ old ++ expression_parts names nodes (eqb (length args) 2) n args → Leaves names nodes (part.Expression at) old new
+  expression-head-is at n args old new h is all e = expression-head at n args (eqb (length args) 2) old new h refl is all e
+
+  -- ---- arguments
 
   pub argument-bracketed : (at : RawAt) (old new : List Part) → at.0 < length nodes → has_arguments (raw_at names nodes at.0) ≡ true
       → new ≡ old ++ (part.Word word.Close ∷ part.Term at ∷ part.Word word.Open ∷ part.Word word.Space ∷ []) → Leaves names nodes (part.Argument at) old new

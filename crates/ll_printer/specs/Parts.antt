@@ -3,9 +3,9 @@ use Rattle.std.specs.Prelude.{◌≡◌, ℕ, ◌+◌, ◌*◌, ◌<◌, Bool, t
 use Rattle.std.specs.Fmt.{signed_decimal}
 use Rattle.ll_parser.specs.declared.Named.{Named}
 use Rattle.ll_parser.specs.declared.RawAt.{RawAt}
-use Rattle.ll_parser.specs.Raw.{Raw, truth, erasure, braces, universal, existential, load, binary, head, anything, int, RawList, none, more}
+use Rattle.ll_parser.specs.Raw.{Raw, truth, erasure, braces, universal, existential, load, binary, is_goal, less_goal, most_goal, head, anything, int, RawList, none, more}
 use Rattle.ll_parser.specs.Nodes.{Node, identifier, raw_at}
-use Rattle.ll_parser.specs.Printed.{Rank, clauses, arrows, sums, withs, tensors, primaries, is_looser, op_rank, left_rank, right_rank, op_bytes, between, bracketed, is_pair, has_arguments, term_text, arguments_text, bound_text, formula_text}
+use Rattle.ll_parser.specs.Printed.{Rank, clauses, arrows, sums, withs, tensors, primaries, is_looser, op_rank, left_rank, right_rank, op_bytes, between, bracketed, is_pair, has_arguments, term_text, arguments_text, left_encloses, right_encloses, expr_text, bound_text, formula_text}
 use Rattle.ll_printer.specs.declared.formulas.Level.{Level}
 use Rattle.ll_printer.specs.declared.formulas.Level.TheVariants as level
 use Rattle.ll_printer.specs.declared.formulas.Word.{Word}
@@ -36,6 +36,9 @@ word_text word.Exists = codes "exists "
 word_text word.Backslash = 92 ∷ codes " "
 word_text word.LoadArrow = codes " --> "
 word_text (word.Operator o) = between (op_bytes o) []
+word_text word.Is = between (codes "is") []
+word_text word.Less = between (codes "<") []
+word_text word.Most = between (codes "=<") []
 word_text word.Cons = codes "::"
 word_text word.Any = codes "_"
 
@@ -59,6 +62,9 @@ inner_text f (binary o at l r) = formula_text (left_rank o) true l ++ between (o
 inner_text f (head n rs) = n.text ++ arguments_text rs
 inner_text f (anything at) = codes "true"
 inner_text f (int at z) = codes "true"
+inner_text f (is_goal at l r) = expr_text l ++ between (codes "is") (expr_text r)
+inner_text f (less_goal at l r) = expr_text l ++ between (codes "<") (expr_text r)
+inner_text f (most_goal at l r) = expr_text l ++ between (codes "=<") (expr_text r)
 
 -- the text of a part
 abbrev pub part_text : List (List ℕ) → List Node → Part → List ℕ
@@ -67,6 +73,7 @@ part_text names nodes (part.Inside at f) = inner_text f (raw_at names nodes at.0
 part_text names nodes (part.Term at) = term_text (raw_at names nodes at.0)
 part_text names nodes (part.Argument at) = codes " " ++ bracketed (has_arguments (raw_at names nodes at.0)) (term_text (raw_at names nodes at.0))
 part_text names nodes (part.Item at) = bracketed (is_pair (raw_at names nodes at.0)) (term_text (raw_at names nodes at.0))
+part_text names nodes (part.Expression at) = expr_text (raw_at names nodes at.0)
 part_text names nodes (part.Name n) = (identifier names n).text
 part_text names nodes (part.Number z) = signed_decimal z
 part_text names nodes (part.Word w) = word_text w
@@ -84,6 +91,9 @@ abbrev mutual
   raw_size (existential at n g) = 1 + raw_size g
   raw_size (load at n rs g) = 1 + raws_size rs + raw_size g
   raw_size (binary o at l r) = 1 + raw_size l + raw_size r
+  raw_size (is_goal at l r) = 1 + raw_size l + raw_size r
+  raw_size (less_goal at l r) = 1 + raw_size l + raw_size r
+  raw_size (most_goal at l r) = 1 + raw_size l + raw_size r
   raw_size (head n rs) = 1 + raws_size rs
   raw_size _ = 1
 
@@ -98,6 +108,7 @@ part_weight names nodes (part.Inside at f) = 8 * raw_size (raw_at names nodes at
 part_weight names nodes (part.Term at) = 8 * raw_size (raw_at names nodes at.0)
 part_weight names nodes (part.Argument at) = 8 * raw_size (raw_at names nodes at.0) + 4
 part_weight names nodes (part.Item at) = 8 * raw_size (raw_at names nodes at.0) + 3
+part_weight names nodes (part.Expression at) = 8 * raw_size (raw_at names nodes at.0)
 part_weight names nodes (part.Name n) = 1
 part_weight names nodes (part.Number z) = 1
 part_weight names nodes (part.Word w) = 1
@@ -113,6 +124,7 @@ HasPart nodes (part.Inside at f) = at.0 < length nodes
 HasPart nodes (part.Term at) = at.0 < length nodes
 HasPart nodes (part.Argument at) = at.0 < length nodes
 HasPart nodes (part.Item at) = at.0 < length nodes
+HasPart nodes (part.Expression at) = at.0 < length nodes
 HasPart nodes (part.Name n) = Unit {0}
 HasPart nodes (part.Number z) = Unit {0}
 HasPart nodes (part.Word w) = Unit {0}
@@ -135,6 +147,29 @@ pair_parts _ = []
 abbrev pub head_parts : Bool → Named → List RawAt → List Part
 head_parts true n args = pair_parts args
 head_parts false n args = argument_parts args ++ part.Name n ∷ []
+
+-- the sign of an expression with two operands, and of any other an empty text
+abbrev pub operator_text : Raw → List ℕ
+operator_text (head n (more x (more y none))) = n.text
+operator_text _ = []
+
+-- the parts of an operand, with its brackets if it has any
+abbrev pub operand_parts : Bool → RawAt → List Part
+operand_parts true at = part.Word word.Close ∷ part.Expression at ∷ part.Word word.Open ∷ []
+operand_parts false at = part.Expression at ∷ []
+
+-- the parts of a sign between its two operands
+abbrev pub sides_parts : List (List ℕ) → List Node → Named → RawAt → RawAt → List Part
+sides_parts names nodes n x y =
+    let w = (identifier names n).text in
+    operand_parts (right_encloses w (raw_at names nodes y.0)) y
+    ++ (part.Word word.Space ∷ part.Name n ∷ part.Word word.Space ∷ operand_parts (left_encloses w (raw_at names nodes x.0)) x)
+
+-- those of a name with these arguments in an expression; with two it is a sign
+abbrev pub expression_parts : List (List ℕ) → List Node → Bool → Named → List RawAt → List Part
+expression_parts names nodes true n (x ∷ y ∷ []) = sides_parts names nodes n x y
+expression_parts names nodes true n _ = []
+expression_parts names nodes false n args = part.Name n ∷ []
 
 -- the parts that were put on the stack have the text of a part, and are less work
 pub record Leaves (names : List (List ℕ)) (nodes : List Node) (p : Part) (old new : List Part) : Type 0 where

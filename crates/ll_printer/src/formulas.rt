@@ -5,6 +5,7 @@ ghost use Rattle.ll_parser.specs.Printed.{clauses, op_rank, left_rank, right_ran
 ghost use Rattle.ll_printer.specs.Pieces.{BeginsText};
 ghost use Rattle.ll_printer.specs.Parts.{rank_of, word_text, needs_brackets, inner_text, raw_size, HasPart, AreParts, argument_parts, pair_parts, head_parts, Leaves, PartMoves};
 
+use crate::expressions::push_expression;
 use crate::words::{name_of, write_integer};
 use ll_bank::{Names, OutOfMemory};
 use ll_parser::{Named, Op, RawAt, RawNode, RawProgram};
@@ -54,6 +55,12 @@ pub(crate) enum Word {
     LoadArrow,
     /// An operator between spaces.
     Operator(Op),
+    /// `is` between spaces.
+    Is,
+    /// `<` between spaces.
+    Less,
+    /// `=<` between spaces.
+    Most,
     /// `::`.
     Cons,
     /// `_`.
@@ -74,6 +81,8 @@ pub(crate) enum Part {
     Argument(RawAt),
     /// A term, in brackets where it is of the form `X::L`.
     Item(RawAt),
+    /// An expression, without brackets round it.
+    Expression(RawAt),
     /// A name or a variable.
     Name(Named),
     /// A whole number.
@@ -119,6 +128,7 @@ fn print_part(
         Part::Term(at) => push_term(program, at, parts),
         Part::Argument(at) => push_argument(program, at, parts),
         Part::Item(at) => push_item(program, at, parts),
+        Part::Expression(at) => push_expression(program, at, parts),
         Part::Name(name) => write_identifier(&program.names, name, out),
         Part::Number(value) => write_integer(value, out),
         Part::Word(word) => write_word(word, out),
@@ -162,6 +172,9 @@ fn word_bytes(word: Word) -> &'static [u8]
         Word::Backslash => b"\\ ",
         Word::LoadArrow => b" --> ",
         Word::Operator(op) => operator_bytes(op),
+        Word::Is => b" is ",
+        Word::Less => b" < ",
+        Word::Most => b" =< ",
         Word::Cons => b"::",
         Word::Any => b"_",
     }
@@ -251,6 +264,7 @@ fn has_brackets(program: &RawProgram, at: RawAt, level: Level, followed: bool) -
         RawNode::Head(_, _) => false,
         RawNode::Any => false,
         RawNode::Int(_) => false,
+        RawNode::Is(_, _) | RawNode::Less(_, _) | RawNode::Most(_, _) => false,
     }
 }
 
@@ -314,11 +328,33 @@ fn push_inside(
         RawNode::Head(name, args) => push_head(name, args, parts),
         RawNode::Any => push_part(Part::Word(Word::True), parts),
         RawNode::Int(_) => push_part(Part::Word(Word::True), parts),
+        RawNode::Is(left, right) => push_number(Word::Is, left, right, parts),
+        RawNode::Less(left, right) => push_number(Word::Less, left, right, parts),
+        RawNode::Most(left, right) => push_number(Word::Most, left, right, parts),
     }
 }
 
+/// Leaves a whole-number goal.
+fn push_number(
+    word: Word,
+    left: RawAt,
+    right: RawAt,
+    parts: &mut Vec<Part>,
+) -> Result<(), OutOfMemory>
+    ensures { OnOk result (parts.new.items ≡ parts.old.items ++ Part.Expression right ∷ Part.Word word ∷ Part.Expression left ∷ []) }
+{
+    push_all(
+        &[
+            Part::Expression(right),
+            Part::Word(word),
+            Part::Expression(left),
+        ],
+        parts,
+    )
+}
+
 /// Leaves parts, the last one on top.
-fn push_all(more: &[Part], parts: &mut Vec<Part>) -> Result<(), OutOfMemory>
+pub(crate) fn push_all(more: &[Part], parts: &mut Vec<Part>) -> Result<(), OutOfMemory>
     ensures { OnOk result (parts.new.items ≡ parts.old.items ++ more.now) }
 {
     parts.extend_from_slice(more)
@@ -340,7 +376,7 @@ fn push_load(
 }
 
 /// Leaves one part.
-fn push_part(part: Part, parts: &mut Vec<Part>) -> Result<(), OutOfMemory>
+pub(crate) fn push_part(part: Part, parts: &mut Vec<Part>) -> Result<(), OutOfMemory>
     ensures { OnOk result (parts.new.items ≡ parts.old.items ++ part ∷ []) }
 {
     parts.push(part)?;
@@ -403,6 +439,9 @@ fn push_term(program: &RawProgram, at: RawAt, parts: &mut Vec<Part>) -> Result<(
         RawNode::Load(_, _, _) => push_part(Part::Word(Word::Any), parts),
         RawNode::Binary(_, _, _) => push_part(Part::Word(Word::Any), parts),
         RawNode::Any => push_part(Part::Word(Word::Any), parts),
+        RawNode::Is(_, _) => push_part(Part::Word(Word::Any), parts),
+        RawNode::Less(_, _) => push_part(Part::Word(Word::Any), parts),
+        RawNode::Most(_, _) => push_part(Part::Word(Word::Any), parts),
     }
 }
 
@@ -492,6 +531,7 @@ fn has_any_arguments(program: &RawProgram, at: RawAt) -> bool
         RawNode::Binary(_, _, _) => false,
         RawNode::Any => false,
         RawNode::Int(_) => false,
+        RawNode::Is(_, _) | RawNode::Less(_, _) | RawNode::Most(_, _) => false,
     }
 }
 
@@ -511,6 +551,7 @@ fn is_pair_at(program: &RawProgram, at: RawAt) -> bool
         RawNode::Binary(_, _, _) => false,
         RawNode::Any => false,
         RawNode::Int(_) => false,
+        RawNode::Is(_, _) | RawNode::Less(_, _) | RawNode::Most(_, _) => false,
     }
 }
 

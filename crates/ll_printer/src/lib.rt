@@ -7,6 +7,7 @@ ghost use Rattle.ll_laws.specs.Output.{line, term_text, answer_text, bindings_te
 ghost use Rattle.ll_printer.specs.Pieces.{BeginsText};
 
 mod answers;
+mod expressions;
 mod formulas;
 mod pieces;
 mod programs;

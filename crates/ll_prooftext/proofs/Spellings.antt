@@ -73,6 +73,7 @@ no_keyword w s k =
       erase_word = a.1.0;
       forall_word = a.1.1.0;
       exists_word = a.1.1.1.0;
+      is_word = a.1.1.1.1.0;
       module_word = not_named (codes "MODULE") w refl s;
       local_word = not_named (codes "LOCAL") w refl s;
       linear_word = not_named (codes "LINEAR") w refl s;
@@ -102,7 +103,7 @@ none_named (s ∷ ss) w n k h = by_test (bytes_eq w s) refl k (λ q. none_named 
 -- a keyword is no name
 keyword_is : (w : List ℕ) → list_any (bytes_eq w) small_keywords ≡ true → Spells Name w → ⊥
 unfolding kind_of fixed_spellings
-keyword_is w k h = none_named small_keywords w ((λ q. cc), ((λ q. cc), ((λ q. cc), ((λ q. cc), tt)))) k h
+keyword_is w k h = none_named small_keywords w ((λ q. cc), ((λ q. cc), ((λ q. cc), ((λ q. cc), ((λ q. cc), tt))))) k h
 
 -- what the code tests
 pub name_iff : (w : List ℕ) (k : Bool) → is_name w ≡ true → k ≡ list_any (bytes_eq w) small_keywords → (IsTrue (not k) → Spells Name w) × (Spells Name w → IsTrue (not k))

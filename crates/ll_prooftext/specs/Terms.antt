@@ -93,7 +93,7 @@ IsWordOf names bank bytes (LeafWord at) = IsLeafOf names bank bytes at.0
 
 -- the keywords of small letters
 abbrev pub small_keywords : List (List ℕ)
-small_keywords = codes "true" ∷ codes "erase" ∷ codes "forall" ∷ codes "exists" ∷ []
+small_keywords = codes "true" ∷ codes "erase" ∷ codes "forall" ∷ codes "exists" ∷ codes "is" ∷ []
 
 -- no word begins these bytes
 abbrev pub HasNoWord : List ℕ → Type 0

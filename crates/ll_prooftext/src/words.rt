@@ -147,6 +147,7 @@ fn is_keyword(bytes: &[u8]) -> bool
         || bytes == b"erase".as_slice()
         || bytes == b"forall".as_slice()
         || bytes == b"exists".as_slice()
+        || bytes == b"is".as_slice()
 }
 
 /// A letter, a digit or `_`.

@@ -43,6 +43,41 @@ const TOKENS: [(TokenKind, u32, u32, &[u8]); 34] = [
     (TokenKind::RightArrow, 5, 7, b"=>"),
 ];
 
+// The word and the signs of whole-number goals, beside what is spelled nearly so.
+const NUMBERS: &[u8] = b"is isa =<<<=<- -1-- -o--> +*=>";
+
+const NUMBER_TOKENS: [(TokenKind, u32, &[u8]); 15] = [
+    (TokenKind::Is, 1, b"is"),
+    (TokenKind::Name, 4, b"isa"),
+    (TokenKind::Most, 8, b"=<"),
+    (TokenKind::Less, 10, b"<"),
+    (TokenKind::LeftArrow, 11, b"<="),
+    (TokenKind::Less, 13, b"<"),
+    (TokenKind::Minus, 14, b"-"),
+    (TokenKind::Number, 16, b"-1"),
+    (TokenKind::Minus, 18, b"-"),
+    (TokenKind::Minus, 19, b"-"),
+    (TokenKind::Lolli, 21, b"-o"),
+    (TokenKind::LoadArrow, 23, b"-->"),
+    (TokenKind::Plus, 27, b"+"),
+    (TokenKind::Star, 28, b"*"),
+    (TokenKind::RightArrow, 29, b"=>"),
+];
+
+#[test]
+fn reads_numbers(rt: HostRuntime) -> Result<(), Fail> {
+    let list = tokens(rt.alloc(), NUMBERS)?;
+    assert_eq!(rt; list.len(), NUMBER_TOKENS.len());
+    for i in 0..list.len() {
+        let (kind, column, bytes) = NUMBER_TOKENS[i];
+        let token = list.get(i);
+        assert_eq!(rt; token.kind, kind, "at {i}");
+        assert_eq!(rt; token.at, Place { line: 1, column }, "at {i}");
+        assert_eq!(rt; list.bytes(i), bytes, "at {i}");
+    }
+    Ok(())
+}
+
 #[test]
 fn reads(rt: HostRuntime) -> Result<(), Fail> {
     let list = tokens(rt.alloc(), TEXT)?;
@@ -65,16 +100,17 @@ fn reads(rt: HostRuntime) -> Result<(), Fail> {
 }
 
 // Texts with a fault, its line, column and kind: the first one wins.
-const FAULTS: [(&[u8], u32, u32, u8); 12] = [
+const FAULTS: [(&[u8], u32, u32, u8); 13] = [
     (b"p \"a\".", 1, 3, 1),
     (b"p 9223372036854775808.", 1, 3, 2),
     (b"a\n\tb -9223372036854775809", 2, 4, 2),
-    (b"a - 99999999999999999999", 1, 3, 1),
+    (b"a - 99999999999999999999", 1, 5, 2),
     (b"00099999999999999999999 -", 1, 1, 2),
-    (b"a --", 1, 3, 1),
-    (b"a -", 1, 3, 1),
+    (b"a -- \xff", 1, 6, 1),
+    (b"a -> b", 1, 4, 1),
     (b"a : b", 1, 3, 1),
-    (b"a <- b", 1, 3, 1),
+    (b"a =- b", 1, 3, 1),
+    (b"p :- X is = 1.", 1, 11, 1),
     (b"a == b", 1, 3, 1),
     (b"a.\x00", 1, 3, 1),
     (b"a % b\n \xff", 2, 2, 1),

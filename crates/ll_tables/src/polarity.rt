@@ -60,7 +60,7 @@ fn shown(fault: Option<Fault>) -> (u32, u32, u8) {
 }
 
 // Programs, and the first fault of each.
-const PROGRAMS: [(&str, (u32, u32, u8)); 22] = [
+const PROGRAMS: [(&str, (u32, u32, u8)); 29] = [
     ("p :- q , r.", (0, 0, 0)),
     ("true , q.", (1, 1, 7)),
     ("p\n, q.", (2, 1, 7)),
@@ -83,10 +83,17 @@ const PROGRAMS: [(&str, (u32, u32, u8)); 22] = [
     ("MODULE m X. LOCAL c. X a.", (1, 22, 9)),
     ("MODULE m. LOCAL c. p :- forall c\\ c a.", (1, 35, 9)),
     ("MODULE m X. LOCAL c. MODULE n X. LOCAL c. p X.", (0, 0, 0)),
+    ("p :- X is Y + 1 , 2 < X , X =< 3.", (0, 0, 0)),
+    ("X < 1.", (1, 3, 7)),
+    ("p & 1 + 1 =< X.", (1, 11, 7)),
+    ("(X is 1 , p) :- q.", (1, 4, 7)),
+    ("p :- (1 < 2 -o q).", (1, 9, 7)),
+    ("p :- ((1 < 2 -o q) -o r).", (0, 0, 0)),
+    ("MODULE m X. LOCAL c. p :- X is c * X.", (0, 0, 0)),
 ];
 
 // Queries of a program with one module, `m` with one parameter, and the first fault of each.
-const QUERIES: [(&str, (u32, u32, u8)); 8] = [
+const QUERIES: [(&str, (u32, u32, u8)); 11] = [
     ("m a --> p , true", (0, 0, 0)),
     ("m --> p", (1, 1, 11)),
     ("n --> p", (1, 1, 10)),
@@ -95,6 +102,9 @@ const QUERIES: [(&str, (u32, u32, u8)); 8] = [
     ("(m a --> p) -o q", (1, 6, 8)),
     ("exists x\\ x", (1, 11, 9)),
     ("q -o m X --> {p ; r}", (0, 0, 0)),
+    ("forall x\\ x < 1 & {_ is x - 1}", (0, 0, 0)),
+    ("X =< 1 => p", (1, 3, 7)),
+    ("1 < 2 , X , 2 < 1 -o p", (1, 3, 7)),
 ];
 
 #[test]
@@ -111,11 +121,13 @@ fn first_faults(rt: HostRuntime) -> Result<(), Fail> {
 }
 
 // Programs, and how many names, clauses and modules each fixes.
-const PARTS: [(&str, (usize, usize, usize)); 4] = [
+const PARTS: [(&str, (usize, usize, usize)); 6] = [
     ("", (0, 0, 0)),
     ("p :- q. LINEAR r X X.", (3, 2, 0)),
     ("p a. MODULE m X. LOCAL c. q c X a. MODULE n.", (5, 1, 2)),
     ("p :- m --> m --> p. MODULE m. p.", (2, 1, 1)),
+    ("p :- X is 1 , 2 < X.", (1, 1, 0)),
+    ("p :- X is 1 + 2 + 3 * Y , Y =< 4 - X.", (4, 1, 0)),
 ];
 
 #[test]
@@ -136,5 +148,22 @@ fn a_problem(rt: HostRuntime) -> Result<(), Fail> {
         [Some(4), None, Some(5)].as_slice()
     );
     assert!(rt; matches!(problem.bank.form_at(problem.goal), FormNode::Use(0, ..)));
+    Ok(())
+}
+
+// Queries of an empty program, whether the goal of each is the one that is wanted, and the numbers of the names that it asks for.
+#[test]
+fn whole_number_goals(rt: HostRuntime) -> Result<(), Fail> {
+    let alloc = rt.alloc();
+    let problem = asked(alloc, b"", b"Y is X * 2 - Y")?;
+    assert!(rt; matches!(problem.bank.form_at(problem.goal), FormNode::Is(..)));
+    assert_eq!(rt; problem.names.len(), 4);
+    assert_eq!(rt; problem.asked.as_slice(), [Some(2), Some(3)].as_slice());
+    let problem = asked(alloc, b"", b"_ + X < 2")?;
+    assert!(rt; matches!(problem.bank.form_at(problem.goal), FormNode::Less(..)));
+    assert_eq!(rt; problem.asked.as_slice(), [None, Some(1)].as_slice());
+    let problem = asked(alloc, b"", b"1 =< X")?;
+    assert!(rt; matches!(problem.bank.form_at(problem.goal), FormNode::Most(..)));
+    assert_eq!(rt; problem.asked.as_slice(), [Some(0)].as_slice());
     Ok(())
 }

@@ -100,7 +100,7 @@ fn each_field_is_read(rt: HostRuntime) -> Result<(), Fail> {
 }
 
 // Texts with a fault: its line, column and kind.
-const FAULTS: [(&str, u32, u32, u8); 38] = [
+const FAULTS: [(&str, u32, u32, u8); 39] = [
     ("", 1, 1, 14),
     ("proof 1", 1, 8, 15),
     ("proof 1\nfoo\n", 2, 1, 13),
@@ -116,6 +116,7 @@ const FAULTS: [(&str, u32, u32, u8); 38] = [
     ("proof 1\nexists ((f a)::b)\n", 2, 8, 14),
     ("proof 1\nexists f a\n", 2, 10, 14),
     ("proof 1\nexists true\n", 2, 8, 14),
+    ("proof 1\nexists is\n", 2, 8, 14),
     ("proof 1\nexists -0\n", 2, 8, 14),
     ("proof 1\nclause 0 0 {} a\n", 2, 15, 14),
     ("proof 1\nwith\nlet a\n", 3, 1, 13),

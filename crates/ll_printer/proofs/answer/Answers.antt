@@ -1,4 +1,4 @@
-use Rattle.std.proofs.Common.{◌≡◌, ◌++◌, ap, sym, subst, ◌∙◌, refl, codes, decimal}
+use Rattle.std.proofs.Common.{◌++◌, ap, sym, subst, ◌∙◌, refl, codes, decimal}
 use Rattle.std.specs.List.{list_any}
 use Rattle.ll_bank.specs.Nodes.{term_trees}
 use Rattle.ll_laws.specs.Answered.{Answered}

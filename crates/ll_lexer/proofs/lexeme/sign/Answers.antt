@@ -40,17 +40,26 @@ returns-in-58-2 c = rw c.in-58.is (signs.colon_dash c.args.rest.now (sym c.if-st
 pub returns-in-60 : goal.returns-in-60
 returns-in-60 c = rw c.in-60.is (signs.left_arrow c.args.rest.now (sym c.if-starts_with-3.ensures.value))
 
+pub returns-in-60-2 : goal.returns-in-60-2
+returns-in-60-2 c = rw c.in-60.is (signs.less c.args.rest.now (sym c.if-starts_with-3.ensures.value))
+
 pub returns-in-61 : goal.returns-in-61
 returns-in-61 c = rw c.in-61.is (signs.right_arrow c.args.rest.now (sym c.if-starts_with-4.ensures.value))
+
+pub returns-in-61-2 : goal.returns-in-61-2
+returns-in-61-2 c = rw c.in-61.is (signs.most c.args.rest.now (sym c.if-starts_with-5.ensures.value))
+
+pub returns-in-43 : goal.returns-in-43
+returns-in-43 c = rw c.in-43.is (signs.plus c.args.rest.now)
+
+pub returns-in-42 : goal.returns-in-42
+returns-in-42 c = rw c.in-42.is (signs.star c.args.rest.now)
 
 pub returns-in_default : goal.returns-in_default
 returns-in_default c = rw c.in-58.is (signs.no_colon c.args.rest.now (sym c.if-starts_with.ensures.value) (sym c.if-starts_with-2.ensures.value))
 
 pub returns-in_default-2 : goal.returns-in_default-2
-returns-in_default-2 c = rw c.in-60.is (signs.no_left c.args.rest.now (sym c.if-starts_with-3.ensures.value))
+returns-in_default-2 c = rw c.in-61.is (signs.no_equals c.args.rest.now (sym c.if-starts_with-4.ensures.value) (sym c.if-starts_with-5.ensures.value))
 
 pub returns-in_default-3 : goal.returns-in_default-3
-returns-in_default-3 c = rw c.in-61.is (signs.no_right c.args.rest.now (sym c.if-starts_with-4.ensures.value))
-
-pub returns-in_default-4 : goal.returns-in_default-4
-returns-in_default-4 c = byte-none c.args.first c.args.rest.now (grind (arith, nat_tests))
+returns-in_default-3 c = byte-none c.args.first c.args.rest.now (grind (arith, nat_tests))

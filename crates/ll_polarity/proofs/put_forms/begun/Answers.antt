@@ -4,7 +4,7 @@ use Rattle.std.specs.Prelude.{[]}
 use Rattle.ll_bank.specs.Form.{Form, Forall, Exists}
 use Rattle.ll_polarity.specs.Reading.{Read}
 use Rattle.ll_bank.specs.Nodes.{term_trees}
-use Rattle.ll_bank.proofs.Trees.{Extends-refl}
+use Rattle.ll_bank.proofs.Trees.{Extends-refl, Extends-trans}
 use Rattle.ll_parser.specs.Nodes.{raw_at, identifier, raws_in, raw_trees}
 use Rattle.ll_parser.specs.Seen.{places}
 use Rattle.ll_parser.specs.Raw.{Raw, raw_place}
@@ -82,3 +82,12 @@ returns-in_ok-push-in-Load-clause-step c =
     (load_read (place_in c.args.text.now.modules.now.places) (around c.args.place.now c.args.binders.now.scope) (met_of c.args.text.now.names.now c.args.met.now) (met_of c.args.text.now.names.now c.arguments_of.new.met) (raw_at c.args.text.now.names.now c.args.text.now.forms.now c.args.at.0) (raw_place (raw_at c.args.text.now.names.now c.args.text.now.forms.now c.args.at.0)) (identifier c.args.text.now.names.now c.in-Load.name) (raws_in (raw_trees c.args.text.now.names.now c.args.text.now.forms.now) (places c.in-Load.field-1.now)) (raw_at c.args.text.now.names.now c.args.text.now.forms.now c.in-Load.goal.0) c.place_of-module.result (term_trees c.arguments_of.new.bank c.in_ok-args-in-Load.args.items) tree (c.place_of-module.ensures ∙ ap (place_in c.args.text.now.modules.now.places) (sym t)) c.in_ok-args-in-Load.ensures.show c.in_ok-args-in-Load.ensures.met)
     refl c.in_ok-args-in-Load.ensures.inside (record { inside = omega (arith, c.requires.ready.inside, c.in-Load.ensures.parts.1); named = named.2 })
     (let w = ap weight tree in omega arith)
+
+pub returns-in_ok-form-in-Is-clause-keeps : goal.returns-in_ok-form-in-Is-clause-keeps
+returns-in_ok-form-in-Is-clause-keeps c = Extends-trans c.both_sides.ensures.keeps c.form-in-Is.ensures.keeps
+
+pub returns-in_ok-form-in-Less-clause-keeps : goal.returns-in_ok-form-in-Less-clause-keeps
+returns-in_ok-form-in-Less-clause-keeps c = Extends-trans c.both_sides-in-Less.ensures.keeps c.form-in-Less.ensures.keeps
+
+pub returns-in_ok-form-in-Most-clause-keeps : goal.returns-in_ok-form-in-Most-clause-keeps
+returns-in_ok-form-in-Most-clause-keeps c = Extends-trans c.both_sides-in-Most.ensures.keeps c.form-in-Most.ensures.keeps

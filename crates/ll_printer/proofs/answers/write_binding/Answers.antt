@@ -1,10 +1,9 @@
-use Rattle.std.proofs.Common.{◌≡◌, ◌++◌, ◌∷◌, [], refl, ap, sym, ◌∙◌, codes, append_assoc}
+use Rattle.std.proofs.Common.{◌++◌, ◌∷◌, [], ap, ◌∙◌, codes}
 use Rattle.std.proofs.lemmas.Grind.{common_steps}
 use Rattle.std.proofs.Common.{arith, Some}
 use Rattle.ll_bank.specs.Nodes.{term_tree}
-use Rattle.ll_laws.specs.Output.{name_text, term_text, line}
+use Rattle.ll_laws.specs.Output.{name_text, term_text}
 use Rattle.ll_printer.specs.Answers.{one_line}
-use Rattle.ll_printer.specs.Pieces.{BeginsText}
 use Rattle.ll_printer.proofs.Printing.{begins_all}
 use Rattle.ll_printer.proofs.AnswerLines.{begins_between, name_written, line_written}
 use Rattle.ll_printer.proofs.answers.write_binding.Goals as goal

@@ -28,3 +28,6 @@ pub returns-in-Number-clause-moves : goal.returns-in-Number-clause-moves
 returns-in-Number-clause-moves c =
     let fits : FitsSigned w64 c.in-Number.value = search rules in
     on_ok c.write_integer.result (λ e. moves-number c.args.program.now.names c.args.program.now.forms c.in-Number.value c.args.part c.args.parts.now.items c.args.out.now.items c.write_integer.new.out.items fits c.in-Number.is e) c.write_integer.ensures.text
+
+pub returns-in-Expression-clause-moves : goal.returns-in-Expression-clause-moves
+returns-in-Expression-clause-moves c = on_ok c.push_expression.result (moves-left c.args.program.now.names c.args.program.now.forms _ c.args.part c.args.parts.now.items c.push_expression.new.parts.items c.args.out.now.items c.in-Expression.is) c.push_expression.ensures

@@ -37,3 +37,12 @@ returns-in-Binary c = on_ok c.push_part-in-Binary.result (λ e. word-term c.args
 
 pub returns-in-Any : goal.returns-in-Any
 returns-in-Any c = on_ok c.push_part-in-Any.result (λ e. word-term c.args.program.now.names c.args.program.now.forms c.args.at c.args.parts.now.items c.push_part-in-Any.new.parts.items _ (c.in-Any.ensures.tree c.args.program.now.names) e refl) c.push_part-in-Any.ensures
+
+pub returns-in-Is : goal.returns-in-Is
+returns-in-Is c = on_ok c.push_part-in-Is.result (λ e. word-term c.args.program.now.names c.args.program.now.forms c.args.at c.args.parts.now.items c.push_part-in-Is.new.parts.items _ (c.in-Is.ensures.tree c.args.program.now.names) e refl) c.push_part-in-Is.ensures
+
+pub returns-in-Less : goal.returns-in-Less
+returns-in-Less c = on_ok c.push_part-in-Less.result (λ e. word-term c.args.program.now.names c.args.program.now.forms c.args.at c.args.parts.now.items c.push_part-in-Less.new.parts.items _ (c.in-Less.ensures.tree c.args.program.now.names) e refl) c.push_part-in-Less.ensures
+
+pub returns-in-Most : goal.returns-in-Most
+returns-in-Most c = on_ok c.push_part-in-Most.result (λ e. word-term c.args.program.now.names c.args.program.now.forms c.args.at c.args.parts.now.items c.push_part-in-Most.new.parts.items _ (c.in-Most.ensures.tree c.args.program.now.names) e refl) c.push_part-in-Most.ensures

@@ -1,0 +1,15 @@
+use Rattle.std.proofs.Common.{ap, sym, ◌∙◌}
+use Rattle.ll_parser.specs.Nodes.{identifier}
+use Rattle.ll_printer.specs.Parts.{operator_text}
+use Rattle.ll_printer.proofs.Parts.{operator-two, operator-none}
+use Rattle.ll_printer.proofs.expressions.operator_of.Goals as goal
+
+pub returns-then-args-eq2 : goal.returns-then-args-eq2
+returns-then-args-eq2 c =
+    let names = c.args.program.now.names in let nodes = c.args.program.now.forms in
+    c.name_of.ensures ∙ (sym (operator-two names nodes (identifier names c.in-Head.name) c.in-Head.args.now c.if-args-eq2.true) ∙ ap operator_text (sym (c.in-Head.ensures.tree names)))
+
+pub returns-else-args-eq2 : goal.returns-else-args-eq2
+returns-else-args-eq2 c =
+    let names = c.args.program.now.names in let nodes = c.args.program.now.forms in
+    sym (operator-none names nodes (identifier names c.in-Head.name) c.in-Head.args.now c.if-args-eq2.false) ∙ ap operator_text (sym (c.in-Head.ensures.tree names))

@@ -1,0 +1,149 @@
+//! The expressions of a program, as their text had them.
+ghost use Rattle.std.specs.Prelude.{◌≡◌, ◌<◌, ◌++◌, ◌∷◌, ◌&&◌, ◌||◌, [], OnOk, All, length, nat_eq};
+ghost use Rattle.ll_parser.specs.Nodes.{raw_at, identifier};
+ghost use Rattle.ll_parser.specs.Printed.{is_add as is_add_sign, is_star as is_star_sign};
+ghost use Rattle.ll_printer.specs.Parts.{operator_text, operand_parts, sides_parts, expression_parts, Leaves};
+
+use crate::formulas::{Part, Word, push_all, push_part};
+use crate::words::name_of;
+use ll_bank::OutOfMemory;
+use ll_parser::{Named, RawAt, RawNode, RawProgram};
+
+/// Leaves the parts of an expression.
+pub(crate) fn push_expression(
+    program: &RawProgram,
+    at: RawAt,
+    parts: &mut Vec<Part>,
+) -> Result<(), OutOfMemory>
+    requires { at.0 < length program.now.forms }
+    ensures { OnOk result (Leaves program.now.names program.now.forms (Part.Expression at) parts.old.items parts.new.items) }
+{
+    match program.forms.node(at) {
+        RawNode::Head(name, args) => push_head(program, name, args, parts),
+        RawNode::Int(value) => push_part(Part::Number(value), parts),
+        RawNode::True => push_part(Part::Word(Word::Any), parts),
+        RawNode::Erase => push_part(Part::Word(Word::Any), parts),
+        RawNode::Braces(_) => push_part(Part::Word(Word::Any), parts),
+        RawNode::Forall(_, _) => push_part(Part::Word(Word::Any), parts),
+        RawNode::Exists(_, _) => push_part(Part::Word(Word::Any), parts),
+        RawNode::Load(_, _, _) => push_part(Part::Word(Word::Any), parts),
+        RawNode::Binary(_, _, _) => push_part(Part::Word(Word::Any), parts),
+        RawNode::Any => push_part(Part::Word(Word::Any), parts),
+        RawNode::Is(_, _) => push_part(Part::Word(Word::Any), parts),
+        RawNode::Less(_, _) => push_part(Part::Word(Word::Any), parts),
+        RawNode::Most(_, _) => push_part(Part::Word(Word::Any), parts),
+    }
+}
+
+/// Leaves a sign between its two operands, or a name alone.
+fn push_head(
+    program: &RawProgram,
+    name: Named,
+    args: &[RawAt],
+    parts: &mut Vec<Part>,
+) -> Result<(), OutOfMemory>
+    requires { All (λ a. a.0 < length program.now.forms) args.now }
+    ensures { OnOk result (parts.new.items ≡ parts.old.items ++ expression_parts program.now.names program.now.forms (nat_eq (length args.now) 2) name args.now) }
+{
+    if args.len() == 2 {
+        push_sides(program, name, args[0], args[1], parts)
+    } else {
+        push_part(Part::Name(name), parts)
+    }
+}
+
+/// Leaves a sign between its two operands.
+fn push_sides(
+    program: &RawProgram,
+    name: Named,
+    left: RawAt,
+    right: RawAt,
+    parts: &mut Vec<Part>,
+) -> Result<(), OutOfMemory>
+    requires left { left.0 < length program.now.forms }
+    requires right { right.0 < length program.now.forms }
+    ensures { OnOk result (parts.new.items ≡ parts.old.items ++ sides_parts program.now.names program.now.forms name left right) }
+{
+    let sign = name_of(&program.names, name.name);
+    push_operand(
+        right,
+        encloses_right(sign, operator_of(program, right)),
+        parts,
+    )?;
+    push_all(
+        &[
+            Part::Word(Word::Space),
+            Part::Name(name),
+            Part::Word(Word::Space),
+        ],
+        parts,
+    )?;
+    push_operand(left, encloses_left(sign, operator_of(program, left)), parts)
+}
+
+/// Leaves an operand, with its brackets if it has any.
+fn push_operand(at: RawAt, enclosed: bool, parts: &mut Vec<Part>) -> Result<(), OutOfMemory>
+    ensures { OnOk result (parts.new.items ≡ parts.old.items ++ operand_parts enclosed at) }
+{
+    if enclosed {
+        push_all(
+            &[
+                Part::Word(Word::Close),
+                Part::Expression(at),
+                Part::Word(Word::Open),
+            ],
+            parts,
+        )
+    } else {
+        push_part(Part::Expression(at), parts)
+    }
+}
+
+/// The sign of an expression with two operands, and of any other an empty text.
+fn operator_of(program: &RawProgram, at: RawAt) -> &str
+    requires { at.0 < length program.now.forms }
+    ensures { result.now ≡ operator_text (raw_at program.now.names program.now.forms at.0) }
+{
+    match program.forms.node(at) {
+        RawNode::Head(name, args) => {
+            if args.len() == 2 {
+                name_of(&program.names, name.name)
+            } else {
+                ""
+            }
+        }
+        RawNode::True
+        | RawNode::Erase
+        | RawNode::Braces(_)
+        | RawNode::Forall(_, _)
+        | RawNode::Exists(_, _)
+        | RawNode::Load(_, _, _)
+        | RawNode::Binary(_, _, _)
+        | RawNode::Any
+        | RawNode::Int(_)
+        | RawNode::Is(_, _)
+        | RawNode::Less(_, _)
+        | RawNode::Most(_, _) => "",
+    }
+}
+
+/// Whether brackets stand round a left operand with an operator.
+fn encloses_left(sign: &str, operator: &str) -> bool
+    ensures { result ≡ (is_star_sign sign.now && is_add_sign operator.now) }
+{
+    sign == "*" && is_add(operator)
+}
+
+/// Whether brackets stand round a right operand with an operator.
+fn encloses_right(sign: &str, operator: &str) -> bool
+    ensures { result ≡ (is_add_sign operator.now || (is_star_sign sign.now && is_star_sign operator.now)) }
+{
+    is_add(operator) || (sign == "*" && operator == "*")
+}
+
+/// Whether a sign is `+` or `-`.
+fn is_add(sign: &str) -> bool
+    ensures { result ≡ is_add_sign sign.now }
+{
+    sign == "+" || sign == "-"
+}

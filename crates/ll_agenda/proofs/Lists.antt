@@ -111,11 +111,15 @@ module _ {T : Type 0} where
       → top.place ≡ at + 1 → frame ≡ get_or frames at frame → BeginsWith now top frame.0 frame.1
   BeginsWith-frame frames now top at frame low view inside is read = subst (λ fs. BeginsWith fs top frame.0 frame.1) view (record {
     list = subst (λ (f : T × Top). items_at frames top ≡ f.0 ∷ items_at frames f.1) (sym read) (items_at-frame frames top at frame low below is);
-    inside = let l : frame.1.place ≤ at = subst (λ (f : T × Top). f.1.place ≤ at) (sym read) (low at frame below) in let b = below in omega arith;
+    inside = let l = behind in let b = below in omega arith;
+    earlier = let l = behind in omega arith;
   })
     where
       below : at < length frames
       below = let e = ap length view in omega arith
+
+      behind : frame.1.place ≤ at
+      behind = subst (λ (f : T × Top). f.1.place ≤ at) (sym read) (low at frame below)
 
   -- so the list of such a top is not empty
   pub items_at-first : {frames : Frames T} {top rest : Top} {item : T} → BeginsWith frames top item rest → items_at frames top ≡ [] → true ≡ false

@@ -38,6 +38,12 @@ module _ {T : Type 0} where
   pub record BeginsWith (frames : Frames T) (top : Top) (item : T) (rest : Top) : Type 0 where
     pub list : items_at frames top ≡ item ∷ items_at frames rest
     pub inside : HasTop frames rest
+    -- and one of the frames before its own
+    pub earlier : rest.place < top.place
+
+  -- no frame is behind that of this top
+  abbrev pub IsLast : Frames T → Top → Type 0
+  IsLast frames top = top.place ≡ length frames
 
   -- the later agenda has the frames of the earlier one and more behind them, and the earlier tops have the lists that they had
   pub record Extends (old new : Frames T) : Type 0 where

@@ -1,6 +1,6 @@
 //! The frames of an agenda, and the lists that its tops show.
-ghost use Rattle.std.specs.Prelude.{◌≡◌, ◌+◌, ◌≤◌, ◌↔◌, [], ◌∷◌, length, IsNone, IfSome, IfOk, OnOk, OnErr};
-ghost use Rattle.ll_agenda.specs.Frames.{Frames, items_at, HasTop, ShowsItems, Extends, BeginsWith};
+ghost use Rattle.std.specs.Prelude.{◌≡◌, ◌+◌, ◌≤◌, ◌↔◌, [], ◌∷◌, length, IsTrue, IsNone, IfSome, IfOk, OnOk, OnErr};
+ghost use Rattle.ll_agenda.specs.Frames.{Frames, items_at, HasTop, ShowsItems, Extends, BeginsWith, IsLast};
 
 use ll_bank::OutOfMemory;
 use std::alloc::Global;
@@ -73,6 +73,14 @@ impl<T: Copy> Agenda<T> {
     {
         self.frames.push((item, rest))?;
         Ok(Top { place: self.len() })
+    }
+
+    /// Whether no frame was pushed behind that of this top. The frame can then be let go of, by `cut` to one frame less, once its
+    /// item is taken off: the top of the list behind it keeps its list.
+    pub fn is_last(&self, top: Top) -> bool
+        ensures { IsTrue result ↔ IsLast self.now top }
+    {
+        top.place == self.len()
     }
 
     /// Lets go of all frames but the first `len`: the tops that were made before there were more keep their lists.

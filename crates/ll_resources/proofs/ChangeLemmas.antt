@@ -1,103 +1,177 @@
 -- Changes taken back one after another, and what a context has kept before them.
-use Rattle.std.proofs.Common.{◌≡◌, ℕ, zero, suc, ◌<◌, ◌≤◌, List, [], ◌∷◌, ◌++◌, length, get_or, take, drop, refl, ap, sym, subst, ◌∙◌, inl, inr, arith, length-append}
+use Rattle.std.proofs.Common.{◌≡◌, ℕ, zero, suc, ◌+◌, ◌-◌, ◌<◌, ◌≤◌, Bool, false, List, [], ◌∷◌, ◌++◌, length, get_or, take, drop, set, refl, ap, sym, subst, ◌∙◌, inl, inr, arith, length-append}
 use Rattle.std.proofs.lemmas.Bool.{cases_lt}
-use Rattle.std.proofs.lemmas.List.{length-map, drop_all, drop-append-le, take-append-drop, length-take-le, get_or-take}
+use Rattle.std.proofs.lemmas.List.{length-map, drop_all, drop_more, drop-append-le, take-append-drop, length-take-le, get_or-take, get_or_push}
+use Rattle.std.proofs.Math.Seq.{take-append_seam, drop-append_seam, take-length}
+use Rattle.std.specs.Prelude.{Option}
+use Rattle.std.specs.Vec.{vec_capacity}
+use Rattle.ll_laws.specs.declared.Kind.{Kind}
+use Rattle.ll_laws.specs.Attempt.{is_linear}
 use Rattle.ll_resources.specs.declared.context.Saved.{Saved as Handle}
 use Rattle.ll_resources.specs.declared.context.ContextMark.{ContextMark}
+use Rattle.ll_resources.specs.declared.saves.Kept.{Kept as KeptRange}
 use Rattle.ll_resources.specs.declared.state.Change.{Change}
 use Rattle.ll_resources.specs.declared.state.Change.TheVariants.{Loaded, Closed, Picked, Erased, Kept, Remarked}
-use Rattle.ll_resources.specs.Resources.{Resources, saved_at, KeepsSaved}
-use Rattle.ll_resources.specs.History.{History, HasMark, state_at, KeepsMarks, KeepsMarksTo}
-use Rattle.ll_resources.specs.Changes.{shown, room, without_last, taken_back, before, states_before, history, HasRoom, Leads}
 use Rattle.ll_resources.specs.declared.state.State.{State}
-use Rattle.ll_resources.specs.Seen.{resource}
+use Rattle.ll_resources.specs.declared.state.Stored.{Stored}
+use Rattle.ll_resources.specs.Saves.{block_of, kept_marks}
+use Rattle.ll_resources.specs.Resources.{Resources, saved_at, KeepsSaved}
+use Rattle.ll_resources.specs.Raw.{Raw, raw, shown, front, stored, raw_loaded, raw_picked, raw_closed, raw_kept, kept_now, raw_remarked, kept_under, IsSound}
+use Rattle.ll_resources.specs.History.{History, HasMark, state_at, KeepsMarks, KeepsMarksTo}
+use Rattle.ll_resources.specs.Changes.{with_last, without_last, taken_back, before, states_before, history, AreSound, Leads}
+use Rattle.ll_resources.proofs.SeenLemmas.{front-push, front-last}
+use Rattle.ll_resources.proofs.KeptLemmas.{saved-cut}
+use Rattle.ll_resources.proofs.RawLemmas.{HasWithin}
+
+-- a range of no marks
+pub none_kept : KeptRange
+none_kept = record { count = 0; from = 0; to = 0; flag = false }
 
 module _ {C : Type 0} where
   -- later changes are taken back first
-  pub before-append : (cs ds : List (Change C)) (r : Resources C) → before (cs ++ ds) r ≡ before cs (before ds r)
+  pub before-append : (cs ds : List (Change C)) (r : Raw C) → before (cs ++ ds) r ≡ before cs (before ds r)
   before-append [] ds r = refl
   before-append (c ∷ cs) ds r = ap (taken_back c) (before-append cs ds r)
 
   -- the first changes are taken back after the others
-  pub before-split : (n : ℕ) (cs : List (Change C)) (r : Resources C) → before (take n cs) (before (drop n cs) r) ≡ before cs r
+  pub before-split : (n : ℕ) (cs : List (Change C)) (r : Raw C) → before (take n cs) (before (drop n cs) r) ≡ before cs r
   before-split n cs r = sym (before-append (take n cs) (drop n cs) r) ∙ ap (λ ds. before ds r) (take-append-drop n cs)
 
   -- the state before the changes behind the first n is the n-th of the states before each
-  pub state-before : (cs : List (Change C)) (n : ℕ) (r : Resources C) → get_or (states_before cs r) n r ≡ before (drop n cs) r
-  state-before [] n r = ap (λ ds. before ds r) (sym (let e : drop n [] ≡ [] = drop_all n [] (omega arith) in e))
+  pub state-before : (cs : List (Change C)) (n : ℕ) (r : Raw C) → get_or (states_before cs r) n (shown r) ≡ shown (before (drop n cs) r)
+  state-before [] n r = ap (λ ds. shown (before ds r)) (sym (let e : drop n [] ≡ [] = drop_all n [] (omega arith) in e))
   state-before (c ∷ cs) zero r = refl
   state-before (c ∷ cs) (suc n) r = state-before cs n r
 
   -- there are as many of them as changes
-  pub length-states : (cs : List (Change C)) (r : Resources C) → length (states_before cs r) ≡ length cs
+  pub length-states : (cs : List (Change C)) (r : Raw C) → length (states_before cs r) ≡ length cs
   length-states [] r = refl
   length-states (c ∷ cs) r = ap suc (length-states cs r)
 
   -- after a change the state before it is the last of them
-  pub states-more : (cs : List (Change C)) (c : Change C) (r s : Resources C) → taken_back c s ≡ r → states_before (cs ++ c ∷ []) s ≡ states_before cs r ++ r ∷ []
-  states-more [] c r s e = ap (λ t. t ∷ []) e
+  pub states-more : (cs : List (Change C)) (c : Change C) (r s : Raw C) → taken_back c s ≡ r → states_before (cs ++ c ∷ []) s ≡ states_before cs r ++ shown r ∷ []
+  states-more [] c r s e = ap (λ t. shown t ∷ []) e
   states-more (d ∷ cs) c r s e =
       let h = states-more cs c r s e in
       let k : before (cs ++ c ∷ []) s ≡ before cs r = before-append cs (c ∷ []) s ∙ ap (before cs) e in
-      ap (λ t. taken_back d t ∷ states_before (cs ++ c ∷ []) s) k ∙ ap (λ ts. taken_back d (before cs r) ∷ ts) h
+      ap (λ t. shown (taken_back d t) ∷ states_before (cs ++ c ∷ []) s) k ∙ ap (λ ts. shown (taken_back d (before cs r)) ∷ ts) h
 
   -- where the changes behind the first n are taken back the states before the others stay
-  pub states-take : (n : ℕ) (cs : List (Change C)) (r : Resources C) → states_before (take n cs) (before (drop n cs) r) ≡ take n (states_before cs r)
+  pub states-take : (n : ℕ) (cs : List (Change C)) (r : Raw C) → states_before (take n cs) (before (drop n cs) r) ≡ take n (states_before cs r)
   states-take zero cs r = refl
   states-take (suc n) [] r = refl
   states-take (suc n) (c ∷ cs) r =
-      ap (λ t. taken_back c t ∷ states_before (take n cs) (before (drop n cs) r)) (before-split n cs r)
-      ∙ ap (λ ts. before (c ∷ cs) r ∷ ts) (states-take n cs r)
+      ap (λ t. shown (taken_back c t) ∷ states_before (take n cs) (before (drop n cs) r)) (before-split n cs r)
+      ∙ ap (λ ts. shown (before (c ∷ cs) r) ∷ ts) (states-take n cs r)
 
-  -- ---- room
+  -- one change more taken back
+  pub one-back : (cs : List (Change C)) (i : ℕ) (d : Change C) (r : Raw C) → i < length cs → before (drop i cs) r ≡ taken_back (get_or cs i d) (before (drop (i + 1) cs) r)
+  one-back cs i d r l = ap (λ ds. before ds r) (drop_more cs i d l)
+
+  -- ---- sound states
+
+  -- with more room
+  pub sound-wider : (r : Raw C) (n m k l : ℕ) → n ≤ k → m ≤ l → IsSound n m r → IsSound k l r
+  sound-wider r n m k l a b s = record { entries_fit = (let e = s.entries_fit in omega arith); live_fit = (let e = s.live_fit in omega arith); within = s.within }
 
   -- with no change, for the state alone
-  pub room-none : (r : Resources C) (n : ℕ) → length r.entries ≤ n → HasRoom [] r n
-  room-none r n l i = subst (λ ds. length (before ds r).entries ≤ n) (sym (let e : drop i [] ≡ [] = drop_all i [] (omega arith) in e)) l
+  pub sound-none : (r : Raw C) (n m : ℕ) → IsSound n m r → AreSound [] r n m
+  sound-none r n m s i = subst (λ ds. IsSound n m (before ds r)) (sym (let e : drop i [] ≡ [] = drop_all i [] (omega arith) in e)) s
 
-  -- more room
-  pub room-alike : (cs ds : List (Change C)) (r s : Resources C) (n m : ℕ) → ds ≡ cs → s ≡ r → n ≤ m → HasRoom cs r n → HasRoom ds s m
-  room-alike cs ds r s n m e f l h i = rw (e, f) (let k = h i in omega arith)
+  -- the present one
+  pub sound-now : (cs : List (Change C)) (r : Raw C) (n m : ℕ) → AreSound cs r n m → IsSound n m r
+  sound-now cs r n m h = subst (λ ds. IsSound n m (before ds r)) (drop_all (length cs) cs (omega arith)) (h (length cs))
+
+  -- in more room
+  pub sound-alike : (cs ds : List (Change C)) (r s : Raw C) (n m k l : ℕ) → ds ≡ cs → s ≡ r → n ≤ k → m ≤ l → AreSound cs r n m → AreSound ds s k l
+  sound-alike cs ds r s n m k l e f a b h i = rw (e, f) (sound-wider (before (drop i cs) r) n m k l a b (h i))
 
   -- after a change
-  pub room-more : (cs ds : List (Change C)) (c : Change C) (r s : Resources C) (n m : ℕ) → ds ≡ cs ++ c ∷ [] → taken_back c s ≡ r → n ≤ m → length s.entries ≤ m
-      → HasRoom cs r n → HasRoom ds s m
-  room-more cs ds c r s n m e f l k h i = rw e (elim (cases_lt (length cs) i) [
+  sound-more : (cs ds : List (Change C)) (c : Change C) (r s : Raw C) (n m k l : ℕ) → ds ≡ cs ++ c ∷ [] → taken_back c s ≡ r → n ≤ k → m ≤ l → IsSound k l s
+      → AreSound cs r n m → AreSound ds s k l
+  sound-more cs ds c r s n m k l e f a b now h i = rw e (elim (cases_lt (length cs) i) [
     | inl more ↦
         let n = length-append cs (c ∷ []) in
         let all : drop i (cs ++ c ∷ []) ≡ [] = drop_all i (cs ++ c ∷ []) (omega arith) in
-        subst (λ ds. length (before ds s).entries ≤ m) (sym all) k
+        subst (λ ds. IsSound k l (before ds s)) (sym all) now
     | inr within ↦
         let same : before (drop i (cs ++ c ∷ [])) s ≡ before (drop i cs) r =
         ap (λ ds. before ds s) (drop-append-le i cs (c ∷ []) within) ∙ (before-append (drop i cs) (c ∷ []) s ∙ ap (before (drop i cs)) f) in
-        let old = h i in
-        subst (λ t. length t.entries ≤ m) (sym same) (omega arith)
+        subst (λ (t : Raw C). IsSound k l t) (sym same) (sound-wider (before (drop i cs) r) n m k l a b (h i))
   ])
 
   -- where the last changes are taken back
-  pub room-take : (k : ℕ) (cs ds : List (Change C)) (r s : Resources C) (n m : ℕ) → k ≤ length cs → ds ≡ take k cs → s ≡ before (drop k cs) r → m ≡ n → HasRoom cs r n → HasRoom ds s m
-  room-take k cs ds r s n m l e f q h i = rw (e, f, q) (elim (cases_lt k i) [
+  pub sound-take : (j : ℕ) (cs ds : List (Change C)) (r s : Raw C) (n m k l : ℕ) → j ≤ length cs → ds ≡ take j cs → s ≡ before (drop j cs) r → n ≤ k → m ≤ l → AreSound cs r n m
+      → AreSound ds s k l
+  sound-take j cs ds r s n m k l i0 e f a b h i = rw (e, f) (elim (cases_lt j i) [
     | inl more ↦
-        let t = length-take-le k cs l in
-        let all : drop i (take k cs) ≡ [] = drop_all i (take k cs) (omega arith) in
-        subst (λ ds. length (before ds (before (drop k cs) r)).entries ≤ n) (sym all) (h k)
+        let t = length-take-le j cs i0 in
+        let all : drop i (take j cs) ≡ [] = drop_all i (take j cs) (omega arith) in
+        subst (λ ds. IsSound k l (before ds (before (drop j cs) r))) (sym all) (sound-wider (before (drop j cs) r) n m k l a b (h j))
     | inr within ↦
-        let t = length-take-le k cs l in
-        let same : before (drop i (take k cs)) (before (drop k cs) r) ≡ before (drop i cs) r =
-        sym (before-append (drop i (take k cs)) (drop k cs) r)
-        ∙ ap (λ ds. before ds r) (sym (drop-append-le i (take k cs) (drop k cs) (omega arith)) ∙ ap (drop i) (take-append-drop k cs)) in
-        subst (λ t. length t.entries ≤ n) (sym same) (h i)
+        let t = length-take-le j cs i0 in
+        let same : before (drop i (take j cs)) (before (drop j cs) r) ≡ before (drop i cs) r =
+        sym (before-append (drop i (take j cs)) (drop j cs) r)
+        ∙ ap (λ ds. before ds r) (sym (drop-append-le i (take j cs) (drop j cs) (omega arith)) ∙ ap (drop i) (take-append-drop j cs)) in
+        subst (λ (t : Raw C). IsSound k l t) (sym same) (sound-wider (before (drop i cs) r) n m k l a b (h i))
   ])
 
-  -- a state has no more entries than it has room for
-  pub shown-fits : (s : State C) → length (shown s).entries ≤ room s
-  shown-fits s = let m = length-map s.entries.items resource in omega (arith, m, s.entries.ok, s.entries.small.1)
+  -- a state whose ranges lie among its marks is sound as it lies
+  pub sound-state : (s : State C) → HasWithin (raw s) → IsSound (vec_capacity s.entries) (vec_capacity s.live) (raw s)
+  sound-state s w = record {
+    entries_fit = omega (arith, s.entries.ok.0, s.entries.ok.1);
+    live_fit = omega (arith, s.live.ok.0, s.live.ok.1);
+    within = w;
+  }
 
-  -- the room stays that of its history when a change is noted
-  pub room-noted : (cs bs ds : List (Change C)) (c : Change C) (old new : State C) → bs ≡ cs → ds ≡ bs ++ c ∷ [] → Leads c old new → HasRoom cs (shown old) (room old)
-      → HasRoom ds (shown new) (room new)
-  room-noted cs bs ds c old new f e l h =
-      room-more cs ds c (shown old) (shown new) (room old) (room new) (e ∙ ap (λ xs. xs ++ c ∷ []) f) l.back l.room (shown-fits new) h
+  -- all stay sound when a change is noted
+  pub sound-noted : (cs bs ds : List (Change C)) (c : Change C) (old new : State C) → bs ≡ cs → ds ≡ bs ++ c ∷ [] → Leads c old new → HasWithin (raw new)
+      → AreSound cs (raw old) (vec_capacity old.entries) (vec_capacity old.live) → AreSound ds (raw new) (vec_capacity new.entries) (vec_capacity new.live)
+  sound-noted cs bs ds c old new f e l w h =
+      sound-more cs ds c (raw old) (raw new) (vec_capacity old.entries) (vec_capacity old.live) (vec_capacity new.entries) (vec_capacity new.live)
+      (e ∙ ap (λ xs. xs ++ c ∷ []) f) l.back l.room.entries l.room.live (sound-state new w) h
+
+  -- ---- what each change is taken back to
+
+  pub back-loaded : (kind : Kind) (clause : C) (r : Raw C) → taken_back (Loaded r.next r.flag) (raw_loaded kind clause r) ≡ r
+  back-loaded kind clause r =
+      ap (λ es. let s : Raw C = record r { entries = es; live = front (r.live ++ is_linear kind ∷ []) } in s) (front-push r.entries (stored r.next kind clause))
+      ∙ ap (λ bs. let s : Raw C = record r { live = bs } in s) (front-push r.live (is_linear kind))
+
+  pub back-picked : (at : ℕ) (live : Bool) (r : Raw C) → (at < length r.live → live ≡ get_or r.live at false) → taken_back (Picked at live) (raw_picked at r) ≡ r
+  back-picked at live r h = ap (λ bs. let s : Raw C = record r { live = bs } in s) (same r.live at live h)
+    where
+      same : (xs : List Bool) (i : ℕ) (v : Bool) → (i < length xs → v ≡ get_or xs i false) → set (set xs i false) i v ≡ xs
+      same [] i v h = refl
+      same (x ∷ xs) zero v h = ap (λ y. y ∷ xs) (h (omega arith))
+      same (x ∷ xs) (suc i) v h = ap (λ ys. x ∷ ys) (same xs i v (λ l. h (omega (arith, l))))
+
+  pub back-closed : (e : Stored C) (live : Option Bool) (flag : Bool) (r : Raw C) → 0 < length r.entries → e ≡ get_or r.entries (length r.entries - 1) e → with_last (front r.live) live ≡ r.live
+      → taken_back (Closed e live r.flag) (raw_closed flag r) ≡ r
+  back-closed e live flag r l h m =
+      ap (λ x. let s : Raw C = record r { entries = front r.entries ++ x ∷ []; live = with_last (front r.live) live } in s) h
+      ∙ (ap (λ es. let s : Raw C = record r { entries = es; live = with_last (front r.live) live } in s) (front-last r.entries e l)
+      ∙ ap (λ bs. let s : Raw C = record r { live = bs } in s) m)
+
+  pub back-remarked : (live : List Bool) (flag : Bool) (r : Raw C) → taken_back (Remarked (length r.marks) r.flag) (raw_remarked live flag r) ≡ r
+  back-remarked live flag r =
+      ap (λ bs. let s : Raw C = record r { live = bs; marks = take (length r.marks) (r.marks ++ r.live) } in s) (drop-append_seam r.marks r.live)
+      ∙ ap (λ ms. let s : Raw C = record r { marks = ms } in s) (take-append_seam r.marks r.live)
+
+  pub back-kept : (live : List Bool) (r : Raw C) → taken_back Kept (raw_kept live r) ≡ r
+  back-kept live r =
+      let n = length-append r.kept (kept_now r ∷ []) in
+      let count : length (r.kept ++ kept_now r ∷ []) ≡ suc (length r.kept) = omega (arith, n) in
+      let last : kept_under (length r.kept) (raw_kept live r) ≡ kept_now r = get_or_push r.kept (kept_now r) _ (length r.kept) refl in
+      let block : block_of (r.marks ++ r.live) (kept_now r) ≡ r.live =
+      ap (take (length r.marks + length r.live - length r.marks)) (drop-append_seam r.marks r.live)
+      ∙ (ap (λ k. take k r.live) (let e : length r.marks + length r.live - length r.marks ≡ length r.live = omega arith in e) ∙ take-length r.live) in
+      let by : KeptRange → List KeptRange → Raw C = λ k ks. record r { live = block_of (r.marks ++ r.live) k; flag = k.flag; marks = take k.from (r.marks ++ r.live); kept = ks } in
+      ap (λ m. without_last m (raw_kept live r)) count
+      ∙ (ap (λ k. by k (take (length r.kept) (r.kept ++ kept_now r ∷ []))) last
+      ∙ (ap (λ ks. by (kept_now r) ks) (take-append_seam r.kept (kept_now r ∷ []))
+      ∙ (ap (λ bs. let s : Raw C = record r { live = bs; marks = take (length r.marks) (r.marks ++ r.live) } in s) block
+      ∙ ap (λ ms. let s : Raw C = record r { marks = ms } in s) (take-append_seam r.marks r.live))))
 
   -- ---- marks
 
@@ -109,22 +183,22 @@ module _ {C : Type 0} where
   same-states (p ∷ ps) r s (suc n) l = same-states ps r s n (omega arith)
 
   -- each good mark stays good when a change is noted
-  pub marks-noted : (cs bs ds : List (Change C)) (c : Change C) (old new : State C) (h : History C) → bs ≡ cs → ds ≡ bs ++ c ∷ [] → Leads c old new → history cs (shown old) ≡ h
-      → KeepsMarks h (history ds (shown new))
-  marks-noted cs bs ds c old new h f e l v = subst (λ k. KeepsMarks k (history ds (shown new))) v (λ mark good.
-      let more : states_before ds (shown new) ≡ states_before cs (shown old) ++ shown old ∷ [] =
-      ap (λ xs. states_before xs (shown new)) (e ∙ ap (λ xs. xs ++ c ∷ []) f) ∙ states-more cs c (shown old) (shown new) l.back in
+  pub marks-noted : (cs bs ds : List (Change C)) (c : Change C) (old new : State C) (h : History C) → bs ≡ cs → ds ≡ bs ++ c ∷ [] → Leads c old new → history cs (raw old) ≡ h
+      → KeepsMarks h (history ds (raw new))
+  marks-noted cs bs ds c old new h f e l v = subst (λ k. KeepsMarks k (history ds (raw new))) v (λ mark good.
+      let more : states_before ds (raw new) ≡ states_before cs (raw old) ++ shown (raw old) ∷ [] =
+      ap (λ xs. states_before xs (raw new)) (e ∙ ap (λ xs. xs ++ c ∷ []) f) ∙ states-more cs c (raw old) (raw new) l.back in
       record {
-        good = let n = ap length more in let m = length-append (states_before cs (shown old)) (shown old ∷ []) in omega arith;
-        state = ap (λ ss. get_or ss mark.changes (shown new)) more ∙ same-states (states_before cs (shown old)) (shown old) (shown new) mark.changes good;
+        good = let n = ap length more in let m = length-append (states_before cs (raw old)) (shown (raw old) ∷ []) in omega arith;
+        state = ap (λ ss. get_or ss mark.changes (shown (raw new))) more ∙ same-states (states_before cs (raw old)) (shown (raw old)) (shown (raw new)) mark.changes good;
       })
 
   -- a good mark is of one of the changes
-  pub mark-within : (cs : List (Change C)) (r : Resources C) (h : History C) (mark : ContextMark) → history cs r ≡ h → HasMark mark h → mark.changes ≤ length cs
+  pub mark-within : (cs : List (Change C)) (r : Raw C) (h : History C) (mark : ContextMark) → history cs r ≡ h → HasMark mark h → mark.changes ≤ length cs
   mark-within cs r h mark v good = let n = length-states cs r in let m : length (states_before cs r) ≡ length h.past = ap (λ (k : History C). length k.past) v in omega arith
 
   -- the state at a mark is that before the changes past it
-  pub state-marked : (cs : List (Change C)) (r : Resources C) (h : History C) (mark : ContextMark) → history cs r ≡ h → state_at mark h ≡ before (drop mark.changes cs) r
+  pub state-marked : (cs : List (Change C)) (r : Raw C) (h : History C) (mark : ContextMark) → history cs r ≡ h → state_at mark h ≡ shown (before (drop mark.changes cs) r)
   state-marked cs r h mark v = ap (state_at mark) (sym v) ∙ state-before cs mark.changes r
 
   -- the first states of those from which a context came
@@ -135,51 +209,68 @@ module _ {C : Type 0} where
   first-states (p ∷ ps) r (suc n) (suc m) l i k = first-states ps r n m (omega arith) (omega arith) (omega arith)
 
   -- each good mark that is not past the one to which changes are taken back stays good
-  pub marks-undone : (cs ds : List (Change C)) (r s : Resources C) (h : History C) (mark : ContextMark) → history cs r ≡ h → HasMark mark h
+  pub marks-undone : (cs ds : List (Change C)) (r s : Raw C) (h : History C) (mark : ContextMark) → history cs r ≡ h → HasMark mark h
       → ds ≡ take mark.changes cs → s ≡ before (drop mark.changes cs) r → KeepsMarksTo mark h (history ds s)
   marks-undone cs ds r s h mark v good e f = subst (λ k. KeepsMarksTo mark k (history ds s)) v (λ m l i.
       let within = mark-within cs r h mark v good in
       let count = length-states cs r in
       let left : states_before ds s ≡ take mark.changes (states_before cs r) = ap (λ xs. states_before xs s) e ∙ (ap (states_before (take mark.changes cs)) f ∙ states-take mark.changes cs r) in
-      let now : s ≡ get_or (states_before cs r) mark.changes r = f ∙ sym (state-before cs mark.changes r) in
+      let now : shown s ≡ get_or (states_before cs r) mark.changes (shown r) = ap (λ (t : Raw C). shown t) f ∙ sym (state-before cs mark.changes r) in
       record {
         good = let n = ap length left in let k = length-take-le mark.changes (states_before cs r) (omega arith) in omega arith;
-        state = ap (λ ss. get_or ss m.changes s) left
+        state = ap (λ ss. get_or ss m.changes (shown s)) left
             ∙ (ap (get_or (take mark.changes (states_before cs r)) m.changes) now
-            ∙ first-states (states_before cs r) r m.changes mark.changes l i (omega arith));
+            ∙ first-states (states_before cs r) (shown r) m.changes mark.changes l i (omega arith));
       })
 
   -- ---- what was kept
 
   -- what is still kept is what was kept under the same numbers
-  abbrev KeptWithin : Resources C → Resources C → Type 0
-  KeptWithin r s = (n : Handle) → n.number < length s.kept → (n.number < length r.kept) × (saved_at s.kept n ≡ saved_at r.kept n)
+  abbrev KeptWithin : Raw C → Raw C → Type 0
+  KeptWithin r s = (n : Handle) → n.number < length s.kept → (n.number < length r.kept) × (saved_at (shown s).kept n ≡ saved_at (shown r).kept n)
 
-  kept-last : (n : ℕ) (r : Resources C) → length r.kept ≡ n → KeptWithin r (without_last n r)
-  kept-last zero r e h l = (l, refl)
-  kept-last (suc n) r e h l =
+  kept-last : (n : ℕ) (r : Raw C) → length r.kept ≡ n → HasWithin (without_last n r) → KeptWithin r (without_last n r)
+  kept-last zero r e w h l = (l, refl)
+  kept-last (suc n) r e w h l =
       let t = length-take-le n r.kept (omega arith) in
-      (omega arith, get_or-take n r.kept h.number _ (omega arith))
+      let i : h.number < length r.kept = omega arith in
+      (i, saved-cut r.marks (kept_under n r).from r.kept (take n r.kept) h none_kept l i (get_or-take n r.kept h.number none_kept (omega arith)) w)
 
-  kept-back : (c : Change C) (r : Resources C) → KeptWithin r (taken_back c r)
-  kept-back (Loaded label flag) r h l = (l, refl)
-  kept-back (Closed e flag) r h l = (l, refl)
-  kept-back (Picked at live) r h l = (l, refl)
-  kept-back (Erased flag) r h l = (l, refl)
-  kept-back Kept r h l = kept-last (length r.kept) r refl h l
-  kept-back (Remarked live flag) r h l = (l, refl)
+  kept-back : (c : Change C) (r : Raw C) → HasWithin (taken_back c r) → KeptWithin r (taken_back c r)
+  kept-back (Loaded label flag) r w h l = (l, refl)
+  kept-back (Closed e live flag) r w h l = (l, refl)
+  kept-back (Picked at live) r w h l = (l, refl)
+  kept-back (Erased flag) r w h l = (l, refl)
+  kept-back Kept r w h l = kept-last (length r.kept) r refl w h l
+  kept-back (Remarked from flag) r w h l = (l, saved-cut r.marks from r.kept r.kept h none_kept l l refl w)
 
-  kept-before : (cs : List (Change C)) (r : Resources C) → KeptWithin r (before cs r)
-  kept-before [] r h l = (l, refl)
-  kept-before (c ∷ cs) r h l =
-      let k = kept-back c (before cs r) h l in
-      let i = kept-before cs r h k.0 in
+  kept-before : (cs : List (Change C)) (r : Raw C) → ((i : ℕ) → HasWithin (before (drop i cs) r)) → KeptWithin r (before cs r)
+  kept-before [] r w h l = (l, refl)
+  kept-before (c ∷ cs) r w h l =
+      let k = kept-back c (before cs r) (w 0) h l in
+      let i = kept-before cs r (λ j. w (suc j)) h k.0 in
       (i.0, k.1 ∙ i.1)
 
+  drop-drop : (i j : ℕ) (cs : List (Change C)) → drop i (drop j cs) ≡ drop (j + i) cs
+  drop-drop i zero cs = ap (λ n. drop n cs) (let e : i ≡ zero + i = omega arith in e)
+  drop-drop i (suc j) [] = drop_all i [] (omega arith) ∙ sym (drop_all (suc j + i) [] (omega arith))
+  drop-drop i (suc j) (c ∷ cs) = drop-drop i j cs ∙ ap (λ n. drop n (c ∷ cs)) (let e : suc (j + i) ≡ suc j + i = omega arith in e)
+
   -- what was kept at a mark means the same in the state at it
-  pub saved-marked : (cs : List (Change C)) (r s : Resources C) (h : History C) (mark : ContextMark) → history cs r ≡ h → s ≡ before (drop mark.changes cs) r
-      → KeepsSaved (length (state_at mark h).kept) h.present s
-  saved-marked cs r s h mark v e n l =
-      let inside : n.number < length (before (drop mark.changes cs) r).kept = subst (λ (x : Resources C). n.number < length x.kept) (state-marked cs r h mark v) l in
-      ap (λ (x : Resources C). saved_at x.kept n) e
-      ∙ ((kept-before (drop mark.changes cs) r n inside).1 ∙ ap (λ (k : History C). saved_at k.present.kept n) v)
+  pub saved-marked : (cs : List (Change C)) (r s : Raw C) (n m : ℕ) (h : History C) (mark : ContextMark) → history cs r ≡ h → s ≡ before (drop mark.changes cs) r → AreSound cs r n m
+      → KeepsSaved (length (state_at mark h).kept) h.present (shown s)
+  saved-marked cs r s n m h mark v e sound k l =
+      let t = before (drop mark.changes cs) r in
+      let inside : k.number < length (shown t).kept = subst (λ (x : Resources C). k.number < length x.kept) (state-marked cs r h mark v) l in
+      let count = length-map t.kept (kept_marks t.marks) in
+      let within : (i : ℕ) → HasWithin (before (drop i (drop mark.changes cs)) r) =
+      λ i. subst (λ ds. HasWithin (before ds r)) (sym (drop-drop i mark.changes cs)) (sound (mark.changes + i)).within in
+      ap (λ (x : Raw C). saved_at (shown x).kept k) e
+      ∙ ((kept-before (drop mark.changes cs) r within k (omega (arith, count, inside))).1 ∙ ap (λ (q : History C). saved_at q.present.kept k) v)
+
+  -- ranges of a context's own state lie among its marks
+  pub within-now : (cs : List (Change C)) (s : State C) → AreSound cs (raw s) (vec_capacity s.entries) (vec_capacity s.live) → HasWithin (raw s)
+  within-now cs s h = let n = sound-now cs (raw s) (vec_capacity s.entries) (vec_capacity s.live) h in n.within
+
+  pub within-along : (r s : Raw C) → s ≡ r → HasWithin r → HasWithin s
+  within-along r s e w = subst (λ (t : Raw C). HasWithin t) (sym e) w

@@ -1,7 +1,8 @@
-pub mod SavesLemmas
+pub mod SeenLemmas
+pub mod KeptLemmas
 pub mod MarkLemmas
-pub mod EntryLemmas
+pub mod RawLemmas
 pub mod ChangeLemmas
-pub mod LeadLemmas
+pub mod EntryLemmas
 pub mod EndLemmas
 pub mod HistoryLemmas

@@ -5,12 +5,10 @@ ghost use Rattle.ll_resources.specs.History.{begun, HasMark, state_at, KeepsMark
 ghost use Rattle.ll_resources.specs.Seen.{resource};
 
 use crate::Entry;
-use crate::saves::Saves;
-use crate::state::{Change, State};
+use crate::state::{Change, State, place_of};
 use ll_bank::OutOfMemory;
 use ll_laws::Kind;
 use std::alloc::Global;
-use std::collections::VecDeque;
 use std::marker::Model;
 
 /// The resources that a goal may use. Contracts see the context as it stands, which is the entries, the newest in front, the
@@ -31,11 +29,13 @@ impl<C: Copy> Model for Context<C> {
 
     ghost Value = { History C };
 
-    ghost use Rattle.ll_resources.specs.Changes.{history, shown, room, HasRoom};
+    ghost use Rattle.std.specs.Vec.{vec_capacity};
+    ghost use Rattle.ll_resources.specs.Raw.{raw};
+    ghost use Rattle.ll_resources.specs.Changes.{history, AreSound};
 
-    ghost view = { λ a. history a.changes.items (shown a.state) };
+    ghost view = { λ a. history a.changes.items (raw a.state) };
 
-    ghost invariant = { λ a. HasRoom a.changes.items (shown a.state) (room a.state) };
+    ghost invariant = { λ a. AreSound a.changes.items (raw a.state) (vec_capacity a.state.entries) (vec_capacity a.state.live) };
 }
 
 /// The live marks and the flag that a context has kept. Contracts see their place among all that it has kept.
@@ -56,16 +56,7 @@ impl<C: Copy> Context<C> {
         requires { length clauses.now ≤ 2 ^ 32 }
         ensures { IfOk result (λ context. context ≡ begun (started clauses.now)) }
     {
-        let mut entries = VecDeque::new(alloc);
-        for (i, (kind, clause)) in clauses.iter().enumerate() {
-            entries.push_back(Entry::new(i as u32, *kind, *clause))?;
-        }
-        let state = State {
-            entries,
-            flag: false,
-            next: clauses.len(),
-            saves: Saves::new(alloc),
-        };
+        let state = State::start(alloc, clauses)?;
         Ok(Context {
             state,
             changes: Vec::new(alloc),
@@ -84,7 +75,7 @@ impl<C: Copy> Context<C> {
         requires { from_front < length self.now.present.entries }
         ensures { slice_get self.now.present.entries from_front ≡ Some (resource result) }
     {
-        self.state.entries[from_front]
+        self.state.entry(from_front)
     }
 
     /// Whether an `erase` may still take what is left.
@@ -117,7 +108,8 @@ impl<C: Copy> Context<C> {
         ensures refused { OnErr result (self.new ≡ self.old) }
     {
         self.changes.reserve(1)?;
-        let change = self.state.pick(label);
+        let from_front = place_of(self.state.entries.as_slice(), label);
+        let change = self.state.pick(from_front);
         self.changes.push_reserved(change);
         Ok(())
     }

@@ -6,10 +6,6 @@
 //! that are proved in it, and their ends, are no part of it.
 #![tactic(auto)]
 
-ghost use Rattle.std.specs.Prelude.{◌≡◌};
-ghost use Rattle.ll_resources.specs.Resources.{new_entry};
-ghost use Rattle.ll_resources.specs.Seen.{resource};
-
 mod context;
 mod ends;
 mod marks;
@@ -28,18 +24,4 @@ pub struct Entry<C> {
     /// It is still to be used.
     pub live: bool,
     pub clause: C,
-}
-
-impl<C> Entry<C> {
-    /// A clause as it comes into a context.
-    fn new(label: u32, kind: Kind, clause: C) -> Self
-        ensures { resource result ≡ new_entry label kind clause }
-    {
-        Entry {
-            label,
-            kind,
-            live: kind == Kind::Linear,
-            clause,
-        }
-    }
 }

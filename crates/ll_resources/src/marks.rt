@@ -1,75 +1,82 @@
-//! The live marks of entries, and what both sides of `&` leave.
-ghost use Rattle.std.specs.Prelude.{◌≡◌, ◌||◌, ◌&&◌, map, length, IfOk};
-ghost use Rattle.std.specs.VecDeque.{deque_capacity};
-ghost use Rattle.ll_laws.specs.Settle.{marks, remark, unlive, within, both_live, join_by, kept_if};
-ghost use Rattle.ll_resources.specs.Changes.{with_mark, first_place};
-ghost use Rattle.ll_resources.specs.Seen.{resource};
+//! Live marks as they are stored, the oldest first, and what both sides of `&` leave.
+//!
+//! Two lists of marks belong to the same entries by their ends: the newest entry has the last mark of each. Where one begins
+//! later than the other, what comes before it is not live.
+ghost use Rattle.std.specs.Prelude.{◌≡◌, ℕ, ◌≤◌, ◌||◌, ◌&&◌, false, length, reverse, slice_index_or, slice_set, OnOk};
+ghost use Rattle.std.specs.Vec.{vec_capacity};
+ghost use Rattle.ll_laws.specs.Settle.{within, both_live, join_by, kept_if};
+ghost use Rattle.ll_resources.specs.Seen.{filled};
+ghost use Rattle.ll_resources.specs.Raw.{mark_slot, HasOneMore};
 
-use crate::Entry;
 use ll_bank::OutOfMemory;
-use std::collections::VecDeque;
 
-/// The live marks of entries.
-pub(crate) fn live_marks<C: Copy>(entries: &VecDeque<Entry<C>>) -> Result<Vec<bool>, OutOfMemory>
-    ensures { IfOk result (λ live. live.items ≡ marks (map resource entries.now.items)) }
+/// Puts other marks in place of these, for which there is room.
+pub(crate) fn put_marks(live: &mut Vec<bool>, others: &[bool])
+    requires { length others.now ≤ vec_capacity live.old }
+    ensures marks { live.new.items ≡ others.now }
+    ensures room { vec_capacity live.old ≤ vec_capacity live.new }
 {
-    let mut live = Vec::with_capacity(*entries.allocator(), entries.len())?;
-    for i in 0..entries.len() {
-        live.push(entries[i].live)?;
-    }
-    Ok(live)
+    live.clear();
+    let _ = live.extend_from_slice(others);
 }
 
-/// Gives entries other live marks, as far as there are both.
-pub(crate) fn set_marks<C: Copy>(entries: &mut VecDeque<Entry<C>>, live: &[bool])
-    ensures marks { map resource entries.new.items ≡ remark (map resource entries.old.items) live.now }
-    ensures room { deque_capacity entries.new ≡ deque_capacity entries.old }
+/// The place among so many marks of the one that is this far from the newest, or their number if there is none.
+pub(crate) fn slot_of(count: usize, from_front: usize) -> usize
+    ensures { result ≡ mark_slot count from_front }
 {
-    let both = entries.len().min(live.len());
-    for i in 0..both {
-        entries[i].live = live[i];
+    if from_front < count {
+        count - 1 - from_front
+    } else {
+        count
     }
 }
 
-/// Gives the entry at this place another live mark, if there is one.
-pub(crate) fn set_mark<C: Copy>(entries: &mut VecDeque<Entry<C>>, at: usize, live: bool)
-    ensures mark { map resource entries.new.items ≡ with_mark at live (map resource entries.old.items) }
-    ensures room { deque_capacity entries.new ≡ deque_capacity entries.old }
+/// Changes the mark at this place, if there is one.
+pub(crate) fn set_mark(live: &mut Vec<bool>, at: usize, mark: bool)
+    ensures mark { live.new.items ≡ slice_set live.old.items at mark }
+    ensures room { vec_capacity live.new ≡ vec_capacity live.old }
 {
-    if at < entries.len() {
-        entries[at].live = live;
+    if at < live.len() {
+        live[at] = mark;
     }
 }
 
-/// Takes the live marks of all entries away.
-pub(crate) fn clear_marks<C: Copy>(entries: &mut VecDeque<Entry<C>>)
-    ensures marks { map resource entries.new.items ≡ map unlive (map resource entries.old.items) }
-    ensures room { deque_capacity entries.new ≡ deque_capacity entries.old }
+/// The mark at this place, if there is one and it is set.
+pub(crate) fn mark_in(live: &[bool], at: usize) -> bool
+    ensures { result ≡ slice_index_or live.now at false }
 {
-    for i in 0..entries.len() {
-        entries[i].live = false;
+    if at < live.len() { live[at] } else { false }
+}
+
+/// One more entry has this mark. The oldest entries need no marks up to the first that is live.
+pub(crate) fn push_mark(live: &mut Vec<bool>, mark: bool) -> Result<(), OutOfMemory>
+    ensures { OnOk result (HasOneMore live.old.items mark live.new.items) }
+{
+    if mark || !live.is_empty() {
+        live.push(mark)?;
+    }
+    Ok(())
+}
+
+/// Whether the entry at this place, the newest being 0, has a mark that is set.
+pub(crate) fn mark_at(live: &[bool], from_front: usize) -> bool
+    ensures { result ≡ slice_index_or (reverse live.now) from_front false }
+{
+    if from_front < live.len() {
+        live[live.len() - 1 - from_front]
+    } else {
+        false
     }
 }
 
-/// The place of the first entry with this label, or their number if there is none.
-pub(crate) fn place_of<C: Copy>(entries: &VecDeque<Entry<C>>, label: u32) -> usize
-    ensures { result ≡ first_place label (map resource entries.now.items) }
+/// Each of so many entries that is live in the first marks is live in the second.
+fn is_within(count: usize, first: &[bool], second: &[bool]) -> bool
+    ensures { result ≡ within (filled count (reverse first.now)) (filled count (reverse second.now)) }
 {
-    for i in 0..entries.len() {
-        if entries[i].label == label {
-            return i;
-        }
-    }
-    entries.len()
-}
-
-/// Each place that is live in the first marks is live in the second.
-fn is_within(first: &[bool], second: &[bool]) -> bool
-    requires { length first.now ≡ length second.now }
-    ensures { result ≡ within first.now second.now }
-{
-    for (i, mark) in first.iter().enumerate() {
-        if *mark & !second[i] {
+    for i in 0..first.len().min(count) {
+        let one = mark_at(first, i);
+        let other = mark_at(second, i);
+        if one & !other {
             return false;
         }
     }
@@ -77,29 +84,32 @@ fn is_within(first: &[bool], second: &[bool]) -> bool
 }
 
 /// Leaves of the second marks what is live in both.
-fn keep_both(first: &[bool], second: &mut [bool])
-    requires { length first.now ≡ length second.old }
-    ensures { second.new ≡ both_live first.now second.old }
+pub(crate) fn keep_both(first: &[bool], second: &mut Vec<bool>)
+    ensures both { (n : ℕ) → filled n (reverse second.new.items) ≡ both_live (filled n (reverse first.now)) (filled n (reverse second.old.items)) }
+    ensures room { vec_capacity second.new ≡ vec_capacity second.old }
 {
-    for (i, mark) in first.iter().enumerate() {
-        second[i] = *mark & second[i];
+    let count = second.len();
+    for i in 0..count {
+        let one = mark_at(first, count - 1 - i);
+        let other = mark_in(second.as_slice(), i);
+        set_mark(second, i, other & one);
     }
 }
 
-/// Makes of the second side's marks what both sides of `&` leave. `false` where they can't agree.
+/// Whether both sides of `&` agree on what they leave of so many entries.
 ///
 /// A side without its flag has left nothing that the other one has used, so what is given is always what is live in both.
-pub(crate) fn join_marks(
+pub(crate) fn agree(
+    count: usize,
     first: &[bool],
     first_flag: bool,
-    second: &mut [bool],
+    second: &[bool],
     second_flag: bool,
 ) -> bool
-    requires { length first.now ≡ length second.old }
-    ensures { join_by first_flag second_flag first.now second.old ≡ kept_if result second.new (first_flag && second_flag) }
+    ensures { let a = filled count (reverse first.now) in let b = filled count (reverse second.now) in
+        join_by first_flag second_flag a b ≡ kept_if result (both_live a b) (first_flag && second_flag) }
 {
-    let agree = (first_flag || is_within(first, second))
-        && (second_flag || is_within(second, first));
-    keep_both(first, second);
-    agree
+    let forth = first_flag || is_within(count, first, second);
+    let back = second_flag || is_within(count, second, first);
+    forth & back
 }

@@ -1,44 +1,34 @@
-//! Live marks and flags, as they were kept one after another.
-ghost use Rattle.std.specs.Prelude.{◌≡◌, ◌<◌, [], length, take, IfOk, OnOk, OnErr};
-ghost use Rattle.ll_resources.specs.Saves.{with_saved};
-ghost use Rattle.ll_resources.specs.Resources.{saved_as, saved_at};
+//! Blocks of live marks, one behind the other: those that were kept, with their flags, and those from before a change.
+ghost use Rattle.std.specs.Prelude.{◌≡◌, ◌<◌, ◌≤◌, ◌+◌, Bool, List, [], ◌∷◌, ◌++◌, length, take, drop, slice_index_or, IfOk, OnOk, OnErr};
+ghost use Rattle.ll_resources.specs.declared.saves.Kept.{Kept};
+ghost use Rattle.ll_resources.specs.Saves.{block_of};
 
 use ll_bank::OutOfMemory;
 use std::alloc::Global;
-use std::marker::Model;
 
-/// A range of the marks, and a flag.
+/// Marks and a flag that were kept, as a range of the marks.
 #[derive(Clone, Copy)]
-struct Kept {
+pub(crate) struct Kept {
+    /// The number of entries at that time.
+    count: usize,
     from: usize,
     to: usize,
     flag: bool,
 }
 
-/// What a context has kept. It changes at its end alone, so a number means the same as long as it is there. Contracts see the list.
+/// What a context has kept. It changes at its end alone, so a number means the same as long as it is there.
 #[derive(Drop)]
 pub(crate) struct Saves {
+    /// The oldest mark of each block first.
     marks: Vec<bool>,
     kept: Vec<Kept>,
-}
-
-impl Model for Saves {
-    ghost use Rattle.std.specs.Prelude.{List, map, All};
-    ghost use Rattle.ll_laws.specs.Settle.{Saved};
-
-    ghost Value = { List Saved };
-
-    ghost use Rattle.ll_resources.specs.Saves.{kept_marks, IsWithin, AreInOrder};
-
-    ghost view = { λ j. map (kept_marks j.marks.items) j.kept.items };
-
-    ghost invariant = { λ j. All (IsWithin j.marks.items) j.kept.items × AreInOrder j.kept.items };
 }
 
 impl Saves {
     /// Nothing is kept.
     pub(crate) fn new(alloc: Global) -> Self
-        ensures { result ≡ [] }
+        ensures marks { result.marks.items ≡ [] }
+        ensures kept { result.kept.items ≡ [] }
     {
         Saves {
             marks: Vec::new(alloc),
@@ -48,44 +38,104 @@ impl Saves {
 
     /// How much has been kept.
     pub(crate) fn len(&self) -> usize
-        ensures { result ≡ length self.now }
+        ensures { result ≡ length self.now.kept.items }
     {
         self.kept.len()
     }
 
-    /// Keeps live marks and a flag. After a refusal the list is as before.
-    pub(crate) fn keep(&mut self, live: &[bool], flag: bool) -> Result<(), OutOfMemory>
-        ensures kept { OnOk result (self.new ≡ with_saved self.old live.now flag) }
-        ensures refused { OnErr result (self.new ≡ self.old) }
+    /// Puts marks behind all others. The answer is the place of the first.
+    pub(crate) fn note(&mut self, live: &[bool]) -> Result<usize, OutOfMemory>
+        ensures from { IfOk result (λ from. from ≡ length self.old.marks.items) }
+        ensures marks { OnOk result (self.new.marks.items ≡ self.old.marks.items ++ live.now) }
+        ensures refused { OnErr result (self.new.marks.items ≡ self.old.marks.items) }
+        ensures kept { self.new.kept.items ≡ self.old.kept.items }
     {
         let from = self.marks.len();
         self.marks.extend_from_slice(live)?;
+        Ok(from)
+    }
+
+    /// Keeps marks of so many entries and a flag.
+    pub(crate) fn keep(
+        &mut self,
+        count: usize,
+        live: &[bool],
+        flag: bool,
+    ) -> Result<(), OutOfMemory>
+        ensures marks { OnOk result (self.new.marks.items ≡ self.old.marks.items ++ live.now) }
+        ensures kept { OnOk result (let from = length self.old.marks.items in
+            self.new.kept.items ≡ self.old.kept.items ++ record { count = count; from = from; to = from + length live.now; flag = flag } ∷ []) }
+        ensures same_marks { OnErr result (self.new.marks.items ≡ self.old.marks.items) }
+        ensures same_kept { OnErr result (self.new.kept.items ≡ self.old.kept.items) }
+    {
+        self.kept.reserve(1)?;
+        let from = self.marks.len();
+        self.marks.extend_from_slice(live)?;
         let to = self.marks.len();
-        self.kept.push(Kept { from, to, flag })?;
+        self.kept.push_reserved(Kept {
+            count,
+            from,
+            to,
+            flag,
+        });
         Ok(())
     }
 
-    /// The live marks that were kept under this number.
+    /// The live marks that were kept under this number, the oldest first.
     pub(crate) fn live(&self, number: usize) -> &[bool]
-        requires { number < length self.now }
-        ensures { result.now ≡ (saved_at self.now (saved_as number)).live }
+        requires { number < length self.now.kept.items }
+        ensures { (d : Kept) → result.now ≡ block_of self.now.marks.items (slice_index_or self.now.kept.items number d) }
     {
-        let kept = self.kept[number];
-        &self.marks[kept.from..kept.to]
+        self.block(self.kept[number])
+    }
+
+    // The marks of a range, as far as they are there.
+    fn block(&self, kept: Kept) -> &[bool]
+        ensures { result.now ≡ block_of self.now.marks.items kept }
+    {
+        let to = kept.to.min(self.marks.len());
+        let from = kept.from.min(to);
+        &self.marks[from..to]
     }
 
     /// The flag that was kept under this number.
     pub(crate) fn flag(&self, number: usize) -> bool
-        requires { number < length self.now }
-        ensures { result ≡ (saved_at self.now (saved_as number)).flag }
+        requires { number < length self.now.kept.items }
+        ensures { (d : Kept) → result ≡ (slice_index_or self.now.kept.items number d).flag }
     {
         self.kept[number].flag
     }
 
-    /// Lets go of what was kept under this number and later ones.
-    pub(crate) fn cut(&mut self, number: usize)
-        requires { number < length self.old }
-        ensures { self.new ≡ take number self.old }
+    /// No fewer than the marks that were kept under this number.
+    pub(crate) fn size(&self, number: usize) -> usize
+        requires { number < length self.now.kept.items }
+        ensures { (marks : List Bool) (d : Kept) → length (block_of marks (slice_index_or self.now.kept.items number d)) ≤ result }
+    {
+        let kept = self.kept[number];
+        kept.to.saturating_sub(kept.from)
+    }
+
+    /// The marks from this place on, the oldest first.
+    pub(crate) fn from(&self, from: usize) -> &[bool]
+        ensures { result.now ≡ drop from self.now.marks.items }
+    {
+        let from = from.min(self.marks.len());
+        &self.marks[from..]
+    }
+
+    /// Lets go of the marks from this place on.
+    pub(crate) fn cut(&mut self, from: usize)
+        ensures marks { self.new.marks.items ≡ take from self.old.marks.items }
+        ensures kept { self.new.kept.items ≡ self.old.kept.items }
+    {
+        self.marks.truncate(from);
+    }
+
+    /// Lets go of what was kept under this number and later ones, and of the marks from its own on.
+    pub(crate) fn forget(&mut self, number: usize)
+        requires { number < length self.old.kept.items }
+        ensures marks { (d : Kept) → self.new.marks.items ≡ take (slice_index_or self.old.kept.items number d).from self.old.marks.items }
+        ensures kept { self.new.kept.items ≡ take number self.old.kept.items }
     {
         let from = self.kept[number].from;
         self.kept.truncate(number);
@@ -94,7 +144,8 @@ impl Saves {
 
     /// A copy.
     pub(crate) fn copy(&self) -> Result<Saves, OutOfMemory>
-        ensures { IfOk result (λ saves. saves ≡ self.now) }
+        ensures marks { IfOk result (λ saves. saves.marks.items ≡ self.now.marks.items) }
+        ensures kept { IfOk result (λ saves. saves.kept.items ≡ self.now.kept.items) }
     {
         let alloc = *self.kept.allocator();
         let marks = Vec::from_slice(alloc, self.marks.as_slice())?;

@@ -1,7 +1,7 @@
-use Rattle.std.proofs.Common.{◌≡◌, drop}
-use Rattle.ll_laws.specs.Settle.{within}
+use Rattle.std.proofs.Common.{◌≡◌, ℕ, ◌<◌, false, ◌&&◌, not, get_or}
+use Rattle.std.specs.Prelude.{reverse}
 use Rattle.ll_resources.proofs.marks.is_within.Given as goal
 
--- what is left of the marks decides
+-- the first places are in order
 abbrev pub invariant-loop-i : goal.invariant-loop-i
-invariant-loop-i l = within (drop l.i l.first) (drop l.i l.second) ≡ within l.first l.second
+invariant-loop-i l = (k : ℕ) → k < l.i → (get_or (reverse l.first) k false && not (get_or (reverse l.second) k false)) ≡ false

@@ -1,14 +1,54 @@
-use Rattle.std.proofs.Common.{subst, IfSome}
-use Rattle.ll_resources.specs.Changes.{Leads}
-use Rattle.ll_resources.proofs.ChangeLemmas.{room-noted, marks-noted}
+use Rattle.std.proofs.Common.{◌≡◌, ◌||◌, ◌&&◌, refl, ap, sym, subst, ◌∙◌, IfSome}
+use Rattle.std.specs.Prelude.{is_some, true, false, IsNone}
+use Rattle.ll_resources.specs.History.{History}
+use Rattle.ll_resources.specs.Resources.{settled, with_end, Fits}
+use Rattle.ll_resources.specs.Raw.{raw, Agrees, Joins, kept_under}
+use Rattle.ll_resources.specs.Changes.{Leads, history}
+use Rattle.ll_resources.specs.declared.state.State.{State}
+use Rattle.ll_resources.proofs.RawLemmas.{number-inside, shown-joined, shown-apart, within-remarked}
+use Rattle.ll_resources.proofs.ChangeLemmas.{sound-noted, marks-noted, within-now, within-along}
 use Rattle.ll_resources.proofs.context.Context.with_end.Goals as goal
+
+pub with_end-requires-clause-saved : goal.with_end-requires-clause-saved
+with_end-requires-clause-saved g c = number-inside c.args.saved (raw c.self.inside.state) (subst (λ (h : History g.row.C.Denot). Fits c.args.saved h.present) (sym c.self.view_is) c.requires.saved)
+
+pub with_end-requires-clause-half : goal.with_end-requires-clause-half
+with_end-requires-clause-half g c = number-inside c.args.half (raw c.self.inside.state) (subst (λ (h : History g.row.C.Denot). Fits c.args.half h.present) (sym c.self.view_is) c.requires.half)
 
 pub invariant_of-self-2 : goal.invariant_of-self-2
 invariant_of-self-2 g c =
-    room-noted c.self.inside.changes.items _ _ _ c.self.inside.state c.with_end.new.self c.reserve.ensures.items c.push_reserved.ensures.items
-    (subst (λ done. IfSome done (λ change. Leads change c.self.inside.state c.with_end.new.self)) c.in-Some.is c.in_ok-change.ensures.leads) c.self.invariant
+    let j : Joins c.args.saved.number c.args.half.number (raw c.self.inside.state) (raw c.with_end.new.self) =
+    subst (λ done. IfSome done (λ x. Joins c.args.saved.number c.args.half.number (raw c.self.inside.state) (raw c.with_end.new.self))) c.in-Some.is c.in_ok-change.ensures.joins in
+    sound-noted c.self.inside.changes.items _ _ _ c.self.inside.state c.with_end.new.self c.reserve.ensures.items c.push_reserved.ensures.items
+    (subst (λ done. IfSome done (λ change. Leads change c.self.inside.state c.with_end.new.self)) c.in-Some.is c.in_ok-change.ensures.leads)
+    (within-along _ _ j.state (within-remarked c.with_end.new.self.live.items
+    ((kept_under c.args.saved.number (raw c.self.inside.state)).flag || ((kept_under c.args.half.number (raw c.self.inside.state)).flag && c.self.inside.state.flag)) (raw c.self.inside.state) (within-now c.self.inside.changes.items c.self.inside.state c.self.invariant))) c.self.invariant
 
 pub returns-clause-marks : goal.returns-clause-marks
 returns-clause-marks g c =
     marks-noted c.self.inside.changes.items _ _ _ c.self.inside.state c.with_end.new.self _ c.reserve.ensures.items c.push_reserved.ensures.items
     (subst (λ done. IfSome done (λ change. Leads change c.self.inside.state c.with_end.new.self)) c.in-Some.is c.in_ok-change.ensures.leads) c.self.view_is
+
+pub returns-clause-settles : goal.returns-clause-settles
+returns-clause-settles g c =
+    let r = raw c.self.inside.state in
+    let j : Joins c.args.saved.number c.args.half.number r (raw c.with_end.new.self) =
+    subst (λ done. IfSome done (λ x. Joins c.args.saved.number c.args.half.number r (raw c.with_end.new.self))) c.in-Some.is c.in_ok-change.ensures.joins in
+    let a : Agrees c.args.half.number r true = subst (λ done. Agrees c.args.half.number r (is_some done)) c.in-Some.is c.in_ok-change.ensures.agrees in
+    ap (λ (h : History g.row.C.Denot). settled (with_end h.present.kept c.args.saved c.args.half) h.present) (sym c.self.view_is)
+    ∙ shown-joined c.args.saved c.args.half r (raw c.with_end.new.self) (within-now c.self.inside.changes.items c.self.inside.state c.self.invariant)
+    (subst (λ (h : History g.row.C.Denot). Fits c.args.saved h.present) (sym c.self.view_is) c.requires.saved)
+    (subst (λ (h : History g.row.C.Denot). Fits c.args.half h.present) (sym c.self.view_is) c.requires.half) a j
+
+pub returns-in_default-clause-settles : goal.returns-in_default-clause-settles
+returns-in_default-clause-settles g c =
+    let r = raw c.self.inside.state in
+    let a : Agrees c.args.half.number r false = subst (λ done. Agrees c.args.half.number r (is_some done)) c.in_default.is c.in_ok-change.ensures.agrees in
+    let same = subst (λ done. IsNone done → c.with_end.new.self ≡ c.self.inside.state) c.in_default.is c.in_ok-change.ensures.same in (
+      ap (λ (h : History g.row.C.Denot). settled (with_end h.present.kept c.args.saved c.args.half) h.present) (sym c.self.view_is)
+          ∙ shown-apart c.args.saved c.args.half r (within-now c.self.inside.changes.items c.self.inside.state c.self.invariant)
+          (subst (λ (h : History g.row.C.Denot). Fits c.args.saved h.present) (sym c.self.view_is) c.requires.saved)
+          (subst (λ (h : History g.row.C.Denot). Fits c.args.half h.present) (sym c.self.view_is) c.requires.half) a,
+      ap (λ cs. history cs (raw c.with_end.new.self)) c.reserve.ensures.items
+          ∙ (ap (λ (t : State g.row.C.Denot). history c.self.inside.changes.items (raw t)) (same refl) ∙ c.self.view_is),
+    )

@@ -1,10 +1,12 @@
-use Rattle.std.proofs.Common.{arith}
-use Rattle.ll_resources.specs.Changes.{shown}
-use Rattle.ll_resources.proofs.LeadLemmas.{with_entries, back-remark}
+use Rattle.std.proofs.Common.{◌≡◌, length, get_or, ap, ◌∙◌, arith}
+use Rattle.ll_resources.specs.Saves.{block_of}
+use Rattle.ll_resources.proofs.ChangeLemmas.{none_kept}
 use Rattle.ll_resources.proofs.state.State.bang_end.Goals as goal
 
-pub returns-clause-leads : goal.returns-clause-leads
-returns-clause-leads g c = record {
-  back = with_entries (shown c.args.self.now) _ (back-remark _ _ _ _ c.set_marks.ensures.marks c.in_ok-live.ensures);
-  room = omega arith;
-}
+pub put_marks-requires : goal.put_marks-requires
+put_marks-requires g c =
+    let ms = c.note.new.self.marks.items in
+    let e : length c.live.result.now ≡ length (block_of ms (get_or c.args.self.now.saves.kept.items c.args.number none_kept)) =
+    ap length (c.live.ensures none_kept ∙ ap (λ ks. block_of ms (get_or ks c.args.number none_kept)) c.in_ok-from.ensures.kept) in
+    let s = c.size.ensures ms none_kept in
+    omega (arith, e, s, c.in_ok-reserve.ensures.ok)

@@ -1,23 +1,17 @@
-use Rattle.std.proofs.Common.{◌≡◌, arith, ap, refl, sym, subst, ◌∙◌, map}
-use Rattle.ll_laws.specs.Settle.{remark}
-use Rattle.ll_resources.specs.Changes.{shown, taken_back}
-use Rattle.ll_resources.specs.Resources.{Resources}
-use Rattle.ll_resources.specs.declared.state.Change.{Change}
-use Rattle.ll_resources.specs.Seen.{resource}
-use Rattle.ll_resources.proofs.LeadLemmas.{back-kept, back-remark}
+use Rattle.std.proofs.Common.{◌≡◌, length, get_or, ap, ◌∙◌, arith}
+use Rattle.std.proofs.lemmas.List.{get_or_append_left}
+use Rattle.ll_resources.specs.Saves.{block_of}
+use Rattle.ll_resources.specs.Raw.{Raw}
+use Rattle.ll_resources.proofs.ChangeLemmas.{none_kept}
 use Rattle.ll_resources.proofs.state.State.with_mid.Goals as goal
 
-pub returns-clause-leads : goal.returns-clause-leads
-returns-clause-leads g c =
-    let old = c.args.self.now in
-    let saved = c.in_ok-change.ensures.saved in
-    let new : Resources g.row.C.Denot =
-    record { entries = map resource c.set_marks.new.entries.items; flag = c.save.new.self.flag; next = c.save.new.self.next; kept = c.save.new.self.saves } in
-    let marks : new.entries ≡ remark (map resource old.entries.items) c.live.result.now =
-    c.set_marks.ensures.marks ∙ ap (λ (r : Resources g.row.C.Denot). remark r.entries c.live.result.now) saved in
-    record {
-      back = subst (λ (d : Change g.row.C.Denot). taken_back d new ≡ shown old) (sym c.in_ok-change.ensures.change)
-          (back-kept (shown old) new (ap (λ (r : Resources g.row.C.Denot). r.kept) saved) (ap (λ (r : Resources g.row.C.Denot). r.next) saved)
-          (back-remark (map resource old.entries.items) new.entries _ c.live.result.now marks refl));
-      room = omega (arith, c.in_ok-change.ensures.leads.room);
-    }
+pub put_marks-requires : goal.put_marks-requires
+put_marks-requires g c =
+    let ms = c.save.new.self.saves.marks.items in
+    let old = c.args.self.now.saves.kept.items in
+    let e : length c.live.result.now ≡ length (block_of ms (get_or old c.args.number none_kept)) =
+    ap length (c.live.ensures none_kept
+    ∙ (ap (λ ks. block_of ms (get_or ks c.args.number none_kept)) (ap (λ (r : Raw g.row.C.Denot). r.kept) c.in_ok-change.ensures.saved)
+    ∙ ap (block_of ms) (get_or_append_left old _ none_kept c.args.number c.requires))) in
+    let s = c.size.ensures ms none_kept in
+    omega (arith, e, s, c.in_ok-reserve.ensures.ok, c.in_ok-change.ensures.room.live)

@@ -1,0 +1,50 @@
+use Rattle.std.proofs.Common.{◌≡◌, ℕ, ◌+◌, ◌-◌, ◌<◌, false, List, ◌∷◌, length, map, drop, ap, sym, ◌∙◌, arith}
+use Rattle.std.specs.Prelude.{reverse}
+use Rattle.std.proofs.lemmas.List.{drop_all}
+use Rattle.ll_laws.specs.Attempt.{is_linear}
+use Rattle.ll_laws.specs.Settle.{Entry}
+use Rattle.ll_resources.specs.declared.state.Stored.{Stored}
+use Rattle.ll_resources.specs.declared.saves.Kept.{Kept}
+use Rattle.ll_resources.specs.Seen.{seen, seen_all}
+use Rattle.ll_resources.specs.Saves.{kept_marks}
+use Rattle.ll_resources.specs.Raw.{stored}
+use Rattle.ll_resources.specs.Resources.{Resources, entries_from}
+use Rattle.ll_resources.proofs.SeenLemmas.{reverse-push, seen-more, started-more}
+use Rattle.ll_resources.proofs.state.State.start.Goals as goal
+
+pub loop-i-init : goal.loop-i-init
+loop-i-init g c =
+    let cs = c.args.clauses.now in
+    ap (λ es. seen_all (reverse es) (reverse c.new-live.result.items)) c.in_ok-entries.ensures.items
+    ∙ sym (ap (λ ds. entries_from (length cs - 0) ds) (drop_all (length cs - 0) cs (omega arith)))
+
+pub loop-i-preserved : goal.loop-i-preserved
+loop-i-preserved g c =
+    let cs = c.args.clauses.now in let i = c.loop-i.i in
+    let at : ℕ = length cs - 1 - i in
+    let x = c.index-clauses-at.result in
+    let s : Stored g.row.C.Denot = stored at x.0 x.1 in
+    let live = c.push_mark.new.live.items in
+    let below : i < length cs = omega (arith, c.loop-i-test.true) in
+    let next : length cs - i ≡ at + 1 = omega (arith, below) in
+    let more : seen_all (reverse c.push.new.self.items) (reverse live) ≡ seen s (is_linear x.0) ∷ entries_from (at + 1) (drop (at + 1) cs) =
+    ap (λ es. seen_all (reverse es) (reverse live)) c.in_ok-push.ensures.items
+    ∙ (ap (λ ss. seen_all ss (reverse live)) (reverse-push c.loop-i.entries.items s)
+    ∙ (seen-more s (reverse c.loop-i.entries.items) c.loop-i.live.items live c.is_bounded.result c.in_ok-push_mark.ensures
+    ∙ (ap (λ b. seen s b ∷ seen_all (reverse c.loop-i.entries.items) (reverse c.loop-i.live.items)) c.is_bounded.ensures
+    ∙ (ap (λ ys. seen s (is_linear x.0) ∷ ys) c.loop-i.invariant
+    ∙ ap (λ n. seen s (is_linear x.0) ∷ entries_from n (drop n cs)) next)))) in
+    started-more cs (seen_all (reverse c.push.new.self.items) (reverse live)) at x (omega (arith, below)) c.index-clauses-at.is more
+    ∙ ap (λ n. entries_from n (drop n cs)) (let e : at ≡ length cs - (i + 1) = omega arith in e)
+
+pub returns : goal.returns
+returns g c =
+    let cs = c.args.clauses.now in
+    let end : length cs - c.loop-i.i ≡ 0 = omega (arith, c.loop-i-test.false) in
+    let by : List (Entry g.row.C.Denot) → List Kept → Resources g.row.C.Denot =
+    λ es ks. record { entries = es; flag = false; next = length cs; kept = map (kept_marks c.new.result.marks.items) ks } in
+    record {
+      state = ap (λ es. by es c.new.result.kept.items) (c.loop-i.invariant ∙ ap (λ n. entries_from n (drop n cs)) end)
+          ∙ ap (λ ks. by (entries_from 0 cs) ks) c.new.ensures.kept;
+      kept = c.new.ensures.kept;
+    }

@@ -13,7 +13,7 @@ use Rattle.ll_bank.specs.Form.{sub_form}
 use Rattle.ll_bank.specs.Nodes.{Nodes, term_tree, term_trees, form_tree, form_of}
 use Rattle.ll_laws.specs.declared.Candidate.{Candidate}
 use Rattle.ll_engine.specs.declared.candidates.Predicate.{Predicate}
-use Rattle.ll_engine.specs.Reading.{reading, read_form}
+use Rattle.ll_freeze.specs.Reading.{reading, read_form}
 use Rattle.ll_engine.specs.Leaves.{has_predicate, heads, head_tries, waiting_heads}
 use Rattle.ll_engine.proofs.ReadLemmas.{sub_app}
 

@@ -10,27 +10,12 @@ use Rattle.ll_bank.proofs.Trees.{term_tree-extends, form_tree-extends}
 use Rattle.ll_laws.specs.Settle.{Saved, Entry}
 use Rattle.ll_laws.specs.State.{sub_item, sub_entry}
 use Rattle.ll_laws.proofs.SubLaws.{sub_comp, sub_same, sub_form_comp, map_same}
-use Rattle.ll_engine.specs.declared.machine.Item.{Item}
-use Rattle.ll_engine.specs.declared.machine.Item.TheVariants.{Goal, LolliEnd, ImpEnd, Mid, WithEnd, BangEnd}
-use Rattle.ll_engine.specs.Reading.{reading, read_term, read_form}
-use Rattle.ll_engine.specs.Shown.{shown_item, shown_entry}
-use Rattle.ll_engine.specs.Fits.{HasItem}
-
--- two substitutions that agree make one formula
-pub form_same : (f g : ℕ → Term) → ((x : ℕ) → f x ≡ g x) → (r : Form) → sub_form f r ≡ sub_form g r
-form_same f g h Top = refl
-form_same f g h One = refl
-form_same f g h (Atom t) = ap Atom (sub_same f g h t)
-form_same f g h (With a b) = λ i. With (form_same f g h a i) (form_same f g h b i)
-form_same f g h (Tensor a b) = λ i. Tensor (form_same f g h a i) (form_same f g h b i)
-form_same f g h (Plus a b) = λ i. Plus (form_same f g h a i) (form_same f g h b i)
-form_same f g h (Bang a) = ap Bang (form_same f g h a)
-form_same f g h (Lolli a b) = λ i. Lolli (form_same f g h a i) (form_same f g h b i)
-form_same f g h (Imp a b) = λ i. Imp (form_same f g h a i) (form_same f g h b i)
-form_same f g h (Forall a) = ap Forall (form_same f g h a)
-form_same f g h (Exists a) = ap Exists (form_same f g h a)
-form_same f g h (Use m ts a) = λ i. Use m (map_same (sub f) (sub g) (sub_same f g h) ts i) (form_same f g h a i)
-form_same f g h (Num r t u) = λ i. Num r (sub_same f g h t i) (sub_same f g h u i)
+use Rattle.ll_freeze.specs.declared.machine.Item.{Item}
+use Rattle.ll_freeze.specs.declared.machine.Item.TheVariants.{Goal, LolliEnd, ImpEnd, Mid, WithEnd, BangEnd}
+use Rattle.ll_freeze.specs.Reading.{reading, read_term, read_form}
+use Rattle.ll_freeze.specs.Shown.{shown_item, shown_entry}
+use Rattle.ll_freeze.specs.Fits.{HasItem}
+use Rattle.ll_freeze.proofs.CallerLemmas.{form_same}
 
 module _ (old new : Nodes) (before after : List (Option At)) (v : ℕ → Term) (keeps : Extends old new) (reads : (x : ℕ) → reading new after x ≡ sub v (reading old before x)) where
   pub term_later : (at : At) → HasTerm old at.0 → read_term new after at ≡ sub v (read_term old before at)

@@ -15,12 +15,11 @@ mod Stepping
 mod Labels
 mod Pointing
 mod Showing
-mod Fitting
 mod Rowing
 mod Settling
 mod Quantifying
-mod Starting
 mod Loading
 pub mod TakingLemmas
 pub mod UnifiedLemmas
 pub mod TakenLemmas
+mod NumberLemmas

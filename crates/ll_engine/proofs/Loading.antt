@@ -28,12 +28,13 @@ use Rattle.ll_laws.proofs.ConsistentStates.{grows_given}
 use Rattle.ll_laws.proofs.ConsistentSteps.{module-fits}
 use Rattle.ll_laws.proofs.Grounding.{unfold_sub}
 use Rattle.ll_modules.specs.Loads.{arguments_env, AreClosed, MayLoad}
-use Rattle.ll_engine.specs.declared.machine.Machine.{Machine}
-use Rattle.ll_engine.specs.declared.machine.Item.{Item}
-use Rattle.ll_engine.specs.declared.machine.Item.TheVariants.{Goal}
-use Rattle.ll_engine.specs.Reading.{reading}
-use Rattle.ll_engine.specs.Shown.{shown_item, items_of}
-use Rattle.ll_engine.specs.Fits.{Fits, allowed, Infers}
+use Rattle.ll_freeze.specs.declared.machine.Machine.{Machine}
+use Rattle.ll_freeze.specs.declared.machine.Item.{Item}
+use Rattle.ll_freeze.specs.declared.machine.Item.TheVariants.{Goal}
+use Rattle.ll_freeze.specs.Reading.{reading}
+use Rattle.ll_freeze.specs.Shown.{shown_item, items_of}
+use Rattle.ll_freeze.specs.Fits.{Fits, allowed}
+use Rattle.ll_engine.specs.Attempts.{Infers}
 use Rattle.ll_engine.specs.Rows.{Loads}
 use Rattle.ll_engine.proofs.Rowing.{at_goal, attempt_by, goal_fits}
 use Rattle.ll_engine.proofs.Quantifying.{fits_apply, closing, still, still_state}

@@ -2,16 +2,20 @@
 use Rattle.std.proofs.Common.{◌≡◌, List, [], ◌∷◌, map, refl, ap, subst, ◌∙◌, All}
 use Rattle.std.proofs.lemmas.List.Elements.{All-head}
 use Rattle.ll_bank.specs.declared.FormAt.{FormAt}
-use Rattle.ll_bank.specs.Nodes.{HasForm}
+use Rattle.ll_bank.specs.declared.FormNode.{FormNode}
+use Rattle.ll_bank.specs.Nodes.{HasForm, IsFormView}
 use Rattle.ll_laws.specs.Attempt.{tries, agenda_tries, goal_tries}
 use Rattle.ll_laws.specs.Valid.{IsFormula, GoalSide}
 use Rattle.ll_laws.specs.Consistent.{AreGoals, allowed_in}
-use Rattle.ll_engine.specs.declared.machine.Machine.{Machine}
-use Rattle.ll_engine.specs.declared.machine.Item.{Item as KeptItem}
-use Rattle.ll_engine.specs.declared.machine.Item.TheVariants.{Goal as KeptGoal, LolliEnd as KeptLolliEnd, ImpEnd as KeptImpEnd, Mid as KeptMiddle, WithEnd as KeptWithEnd, BangEnd as KeptBangEnd}
-use Rattle.ll_engine.specs.Reading.{read_form}
-use Rattle.ll_engine.specs.Shown.{shown_item, shown_entry, items_of, state_of}
-use Rattle.ll_engine.specs.Fits.{Fits, setting, HasItem}
+use Rattle.ll_agenda.specs.declared.agenda.Top.{Top}
+use Rattle.ll_agenda.specs.Frames.{HasTop, items_at}
+use Rattle.ll_freeze.specs.declared.machine.Machine.{Machine}
+use Rattle.ll_freeze.specs.declared.machine.Item.{Item as KeptItem}
+use Rattle.ll_freeze.specs.declared.machine.Item.TheVariants.{Goal as KeptGoal, LolliEnd as KeptLolliEnd, ImpEnd as KeptImpEnd, Mid as KeptMiddle, WithEnd as KeptWithEnd, BangEnd as KeptBangEnd}
+use Rattle.ll_freeze.specs.Reading.{read_form}
+use Rattle.ll_freeze.specs.Shown.{shown_item, shown_entry, items_of, state_of}
+use Rattle.ll_freeze.specs.Fits.{Fits, setting, HasItem}
+use Rattle.ll_engine.specs.Front.{IsFront}
 
 -- the agenda of the state
 pub agenda_shown : (m : Machine) (items : List KeptItem) → items_of m ≡ items → (state_of m).agenda ≡ map (shown_item m.bank m.bound.items m.context.present.kept) items
@@ -52,3 +56,9 @@ goal_in_front m g rest f e = (subst (AreGoals (allowed_in (setting m) (state_of 
 -- and a place of the bank
 pub goal_inside : (m : Machine) (g : FormAt) (rest : List KeptItem) → Fits m → items_of m ≡ KeptGoal g ∷ rest → HasForm m.bank g.0
 goal_inside m g rest f e = All-head (HasItem m.bank _) (KeptGoal g) rest (subst (All (HasItem m.bank _)) e f.items)
+
+-- what is seen of it
+pub in_front : (m : Machine) (g : FormAt) (item : KeptItem) (view : FormNode) (rest : Top) → items_of m ≡ item ∷ items_at m.agenda rest
+    → item ≡ KeptGoal g → HasTop m.agenda rest → IsFormView m.bank g.0 view → IsFront m view rest
+in_front m g item view rest list is inside seen =
+    record { goal = g; list = list ∙ ap (λ i. i ∷ items_at m.agenda rest) is; behind = inside; seen = seen }

@@ -10,7 +10,8 @@ use Rattle.ll_laws.specs.State.{State}
 use Rattle.ll_laws.specs.Attempt.{attempt, option_to_states}
 use Rattle.ll_laws.specs.Search.{events, cost, gives_some}
 use Rattle.ll_engine.specs.Seen.{Point}
-use Rattle.ll_engine.specs.Owed.{events_from, number_from, owed_by, cost_by, owed, cost_left, one_if_some, open_points, work_by, work, work_left, Thins, thin_end, thin_keep, thin_skip, put_point}
+use Rattle.ll_laws.specs.Tried.{events_from, number_from, tried_events, tried_cost}
+use Rattle.ll_engine.specs.Owed.{owed, cost_left, one_if_some, open_points, work_by, work, work_left, Thins, thin_end, thin_keep, thin_skip, put_point}
 
 pub append_nil : {A : Type 0} (xs : List A) → xs ++ [] ≡ xs
 append_nil [] = refl
@@ -22,23 +23,23 @@ from_states : (f : State → List Event) (o : Option State) (us : List State) �
 from_states f None us = refl
 from_states f (Some u) us = refl
 
-pub owed_by_flat : (beside : Setting) (n : ℕ) (t : State) (cs : List Candidate)
-    → flat_map (events beside n) (flat_map (λ c. option_to_states (attempt beside t c)) cs) ≡ owed_by beside n t cs
-owed_by_flat beside n t [] = refl
-owed_by_flat beside n t (c ∷ cs) =
+pub tried_events_flat : (beside : Setting) (n : ℕ) (t : State) (cs : List Candidate)
+    → flat_map (events beside n) (flat_map (λ c. option_to_states (attempt beside t c)) cs) ≡ tried_events beside n t cs
+tried_events_flat beside n t [] = refl
+tried_events_flat beside n t (c ∷ cs) =
     let e1 = from_states (events beside n) (attempt beside t c) (flat_map (λ c. option_to_states (attempt beside t c)) cs) in
-    let e2 = ap (λ x. events_from (events beside n) (attempt beside t c) ++ x) (owed_by_flat beside n t cs) in e1 ∙ e2
+    let e2 = ap (λ x. events_from (events beside n) (attempt beside t c) ++ x) (tried_events_flat beside n t cs) in e1 ∙ e2
 
 cost_states : (f : State → ℕ) (o : Option State) (us : List State) → sum_by f (option_to_states o ++ us) ≡ number_from f o + sum_by f us
 cost_states f None us = omega arith
 cost_states f (Some u) us = sum_by-cons f u us
 
-pub cost_by_flat : (beside : Setting) (n : ℕ) (t : State) (cs : List Candidate)
-    → sum_by (cost beside n) (flat_map (λ c. option_to_states (attempt beside t c)) cs) ≡ cost_by beside n t cs
-cost_by_flat beside n t [] = refl
-cost_by_flat beside n t (c ∷ cs) =
+pub tried_cost_flat : (beside : Setting) (n : ℕ) (t : State) (cs : List Candidate)
+    → sum_by (cost beside n) (flat_map (λ c. option_to_states (attempt beside t c)) cs) ≡ tried_cost beside n t cs
+tried_cost_flat beside n t [] = refl
+tried_cost_flat beside n t (c ∷ cs) =
     let e1 = cost_states (cost beside n) (attempt beside t c) (flat_map (λ c. option_to_states (attempt beside t c)) cs) in
-    let e2 = ap (λ x. number_from (cost beside n) (attempt beside t c) + x) (cost_by_flat beside n t cs) in e1 ∙ e2
+    let e2 = ap (λ x. number_from (cost beside n) (attempt beside t c) + x) (tried_cost_flat beside n t cs) in e1 ∙ e2
 
 -- candidates that give nothing may be left out
 
@@ -50,18 +51,18 @@ number_none : (f : State → ℕ) (o : Option State) → o ≡ None → number_f
 number_none f None e = refl
 number_none f (Some u) e = cc
 
-pub owed_by_thins : (beside : Setting) (t : State) (n : ℕ) (cs ds : List Candidate) → Thins beside t cs ds → owed_by beside n t cs ≡ owed_by beside n t ds
-owed_by_thins beside t n [] [] thin_end = refl
-owed_by_thins beside t n (c ∷ cs) [] h = elim h [ ]
-owed_by_thins beside t n (c ∷ cs) (d ∷ ds) (thin_keep h) = ap (λ x. events_from (events beside n) (attempt beside t c) ++ x) (owed_by_thins beside t n cs ds h)
-owed_by_thins beside t n cs (d ∷ ds) (thin_skip e h) = owed_by_thins beside t n cs ds h ∙ from_none (events beside n) (attempt beside t d) (owed_by beside n t ds) e
+pub tried_events_thins : (beside : Setting) (t : State) (n : ℕ) (cs ds : List Candidate) → Thins beside t cs ds → tried_events beside n t cs ≡ tried_events beside n t ds
+tried_events_thins beside t n [] [] thin_end = refl
+tried_events_thins beside t n (c ∷ cs) [] h = elim h [ ]
+tried_events_thins beside t n (c ∷ cs) (d ∷ ds) (thin_keep h) = ap (λ x. events_from (events beside n) (attempt beside t c) ++ x) (tried_events_thins beside t n cs ds h)
+tried_events_thins beside t n cs (d ∷ ds) (thin_skip e h) = tried_events_thins beside t n cs ds h ∙ from_none (events beside n) (attempt beside t d) (tried_events beside n t ds) e
 
-pub cost_by_thins : (beside : Setting) (t : State) (n : ℕ) (cs ds : List Candidate) → Thins beside t cs ds → cost_by beside n t cs ≡ cost_by beside n t ds
-cost_by_thins beside t n [] [] thin_end = refl
-cost_by_thins beside t n (c ∷ cs) [] h = elim h [ ]
-cost_by_thins beside t n (c ∷ cs) (d ∷ ds) (thin_keep h) = ap (λ x. number_from (cost beside n) (attempt beside t c) + x) (cost_by_thins beside t n cs ds h)
-cost_by_thins beside t n cs (d ∷ ds) (thin_skip e h) =
-    let e1 = cost_by_thins beside t n cs ds h in let e2 = number_none (cost beside n) (attempt beside t d) e in omega arith
+pub tried_cost_thins : (beside : Setting) (t : State) (n : ℕ) (cs ds : List Candidate) → Thins beside t cs ds → tried_cost beside n t cs ≡ tried_cost beside n t ds
+tried_cost_thins beside t n [] [] thin_end = refl
+tried_cost_thins beside t n (c ∷ cs) [] h = elim h [ ]
+tried_cost_thins beside t n (c ∷ cs) (d ∷ ds) (thin_keep h) = ap (λ x. number_from (cost beside n) (attempt beside t c) + x) (tried_cost_thins beside t n cs ds h)
+tried_cost_thins beside t n cs (d ∷ ds) (thin_skip e h) =
+    let e1 = tried_cost_thins beside t n cs ds h in let e2 = number_none (cost beside n) (attempt beside t d) e in omega arith
 
 pub work_by_thins : (beside : Setting) (t : State) (f : State → ℕ) (cs ds : List Candidate) → Thins beside t cs ds → work_by f beside t cs ≤ work_by f beside t ds
 work_by_thins beside t f [] [] thin_end = omega arith
@@ -91,12 +92,12 @@ gives_thins beside t cs (d ∷ ds) (thin_skip e h) =
 
 -- one point more
 
-pub owed_put : (beside : Setting) (t : State) (n : ℕ) (cs : List Candidate) (ps : List Point) → owed beside (put_point t n cs ps) ≡ owed_by beside n t cs ++ owed beside ps
+pub owed_put : (beside : Setting) (t : State) (n : ℕ) (cs : List Candidate) (ps : List Point) → owed beside (put_point t n cs ps) ≡ tried_events beside n t cs ++ owed beside ps
 owed_put beside t n [] ps = refl
 owed_put beside t n (c ∷ cs) ps = refl
 
 pub cost_put : (beside : Setting) (t : State) (n : ℕ) (cs : List Candidate) (ps : List Point)
-    → cost_left beside (put_point t n cs ps) ≡ cost_by beside n t cs + cost_left beside ps
+    → cost_left beside (put_point t n cs ps) ≡ tried_cost beside n t cs + cost_left beside ps
 cost_put beside t n [] ps = omega arith
 cost_put beside t n (c ∷ cs) ps = refl
 

@@ -1,6 +1,6 @@
 -- Choice points that are machines of their own.
 use Rattle.std.proofs.Common.{◌≡◌, ◌≢◌, ℕ, suc, ◌-◌, ◌<◌, refl, ap, sym, ◌∙◌, subst, Bool, true, false, List, [], ◌∷◌, ◌++◌, arith, map, reverse, length}
-use Rattle.std.proofs.lemmas.List.{reverse-append}
+use Rattle.std.proofs.lemmas.List.{reverse-append, length-reverse}
 use Rattle.std.proofs.lemmas.List.Elements.{All-push, All-tail, All-head, All-contains_itself, All-pop}
 use Rattle.std.proofs.Math.Dec.{eqb, eqb-suc-zero}
 use Rattle.std.specs.Prelude.{Some, None, All}
@@ -9,13 +9,15 @@ use Rattle.ll_laws.specs.declared.Candidate.{Candidate}
 use Rattle.ll_laws.specs.State.{State}
 use Rattle.ll_laws.specs.Attempt.{tries, attempt}
 use Rattle.ll_laws.specs.Problem.{ProblemTree, setting_of, start_of}
-use Rattle.ll_engine.specs.declared.machine.Machine.{Machine}
+use Rattle.ll_freeze.specs.declared.machine.Machine.{Machine}
 use Rattle.ll_engine.specs.declared.spine.Kept.{Kept}
-use Rattle.ll_engine.specs.Shown.{state_of}
-use Rattle.ll_engine.specs.Fits.{Fits, Attempts}
-use Rattle.ll_engine.specs.Calls.{IsImage, SettlesOr, SameSearch}
+use Rattle.ll_freeze.specs.Shown.{state_of}
+use Rattle.ll_freeze.specs.Fits.{Fits}
+use Rattle.ll_engine.specs.Attempts.{Attempts}
+use Rattle.ll_freeze.specs.Calls.{IsImage}
+use Rattle.ll_engine.specs.Calls.{SettlesOr, SameSearch}
 use Rattle.ll_engine.specs.Seen.{Point, Spine}
-use Rattle.ll_engine.specs.Owed.{Thins, thin_end, thin_keep, put_point}
+use Rattle.ll_engine.specs.Owed.{Thins, thin_end, thin_keep, one_if_some, open_points, put_point}
 use Rattle.ll_engine.specs.Turned.{is_empty, has_none, Settles, Gave, Chose, Expands, Retries, RetriesAt}
 use Rattle.ll_engine.specs.Pointed.{point_of, points_of, spine_at, AreTries, IsOpen, IsKept, AreKept, IsSoundAt, KeepsKept, Puts}
 use Rattle.ll_engine.proofs.Labels.{tries_distinct}
@@ -70,8 +72,8 @@ puts_some m ps k e h =
 pub keeps_none : (m : Machine) (cs : List Candidate) (ps : List Kept) → KeepsKept m cs ps ps
 keeps_none m cs ps = λ p o t a. a
 
-pub keeps_some : (m : Machine) (ps : List Kept) (k : Kept) → IsImage m k.machine → KeepsKept m k.untried.items ps (ps ++ k ∷ [])
-keeps_some m ps k e = λ p o t a.
+pub keeps_some : (m : Machine) (ps : List Kept) (k : Kept) → IsImage m k.machine → k.untried.items ≢ [] → KeepsKept m k.untried.items ps (ps ++ k ∷ [])
+keeps_some m ps k e h = λ p o t a.
     All-push (IsKept p) ps k a
     (record {
       opened = record {
@@ -81,7 +83,28 @@ keeps_some m ps k e = λ p o t a.
         left = subst (λ (n : ℕ). 0 < n) (sym e.left) o.left;
       };
       tries = subst (λ (s : State). All (λ c. Contains (tries s) c) k.untried.items) (sym e.state) t;
+      some = h;
     })
+
+-- each point has an untried candidate, so as many are open as there are
+
+one_open : (cs : List Candidate) → cs ≢ [] → one_if_some (reverse cs) ≡ 1
+one_open [] h = absurd (h refl)
+one_open (c ∷ cs) h = ap one_if_some (reverse-append (c ∷ []) cs) ∙ last (reverse cs)
+  where
+    last : (us : List Candidate) → one_if_some (us ++ c ∷ []) ≡ 1
+    last [] = refl
+    last (u ∷ us) = refl
+
+all_open : (p : ProblemTree) (ks : List Kept) → All (IsKept p) ks → open_points (map point_of ks) ≡ length ks
+all_open p [] h = refl
+all_open p (k ∷ ks) h =
+    let a = one_open k.untried.items (All-head (IsKept p) k ks h).some in
+    let b = all_open p ks (All-tail (IsKept p) k ks h) in
+    omega (arith, a, b)
+
+pub open_count : (p : ProblemTree) (ps : List Kept) → AreKept p ps → open_points (points_of ps) ≡ length ps
+open_count p ps h = all_open p (reverse ps) (all_reverse (IsKept p) ps h) ∙ length-reverse ps
 
 -- the first goal is taken apart
 
@@ -172,3 +195,6 @@ settled_sound p old new ps false h s a = record { points = a.points; machine = t
 
 pub popped_tries : (p : ProblemTree) (ps qs : List Kept) (k : Kept) → ps ≡ qs ++ k ∷ [] → AreKept p ps → AreTries k.machine k.untried.items
 popped_tries p ps qs k e a = (All-pop (IsKept p) ps qs (Some k) e a).1.tries
+
+pub popped_kept : (p : ProblemTree) (ps qs : List Kept) (k : Kept) → ps ≡ qs ++ k ∷ [] → AreKept p ps → AreKept p qs
+popped_kept p ps qs k e a = (All-pop (IsKept p) ps qs (Some k) e a).0

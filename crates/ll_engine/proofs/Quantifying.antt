@@ -9,7 +9,7 @@ use Rattle.ll_bank.specs.declared.At.{At}
 use Rattle.ll_bank.specs.declared.FormAt.{FormAt}
 use Rattle.ll_bank.specs.declared.Head.TheVariants.{Eigen}
 use Rattle.ll_bank.specs.Term.{Term, Var, Int, Con, Ap, sub, is_spine, is_closed, applies_heads}
-use Rattle.ll_bank.specs.Form.{Form, Top, One, Atom, With, Tensor, Plus, Bang, Lolli, Imp, Forall, Exists, Use, Num, Relation, sub_form, instantiate, form_applies_heads}
+use Rattle.ll_bank.specs.Form.{Form, Top, One, Atom, With, Tensor, Plus, Bang, Lolli, Imp, Forall, Exists, Use, Num, sub_form, instantiate, form_applies_heads}
 use Rattle.ll_bank.specs.Nodes.{Nodes, HasTerm, HasForm, AllInTerms, Extends, ShowsTerm, ShowsForm, term_tree, term_trees, form_tree}
 use Rattle.ll_bank.proofs.Trees.{HasTerm-extends, HasForm-extends, term_tree-extends, form_tree-extends, AllInTerms-extends, term_trees-extends}
 use Rattle.ll_laws.specs.declared.Candidate.{Candidate}
@@ -26,20 +26,19 @@ use Rattle.ll_laws.proofs.ConsistentTerms.{and_intro, Grows, Fit, AllFit}
 use Rattle.ll_laws.proofs.ConsistentForms.{Fits as FormFits, formula_of_fits, fits-more, fits-close}
 use Rattle.ll_laws.proofs.ConsistentContexts.{formula-more}
 use Rattle.ll_laws.proofs.ConsistentSteps.{steps_consistent}
-use Rattle.ll_unify.specs.Unifies.{shown}
 use Rattle.ll_resources.specs.Resources.{Resources}
-use Rattle.ll_engine.specs.declared.machine.Machine.{Machine}
-use Rattle.ll_engine.specs.declared.machine.Item.{Item}
-use Rattle.ll_engine.specs.declared.machine.Item.TheVariants.{Goal, LolliEnd, ImpEnd, Mid, WithEnd, BangEnd}
-use Rattle.ll_engine.specs.Reading.{reading, read_term, read_form, HasValue}
-use Rattle.ll_engine.specs.Shown.{shown_item, shown_entry, items_of, state_of}
-use Rattle.ll_engine.specs.Fits.{Fits, HasItem, IsGoalIn, allowed, setting, Infers}
+use Rattle.ll_freeze.specs.declared.machine.Machine.{Machine}
+use Rattle.ll_freeze.specs.declared.machine.Item.{Item}
+use Rattle.ll_freeze.specs.declared.machine.Item.TheVariants.{Goal, LolliEnd, ImpEnd, Mid, WithEnd, BangEnd}
+use Rattle.ll_freeze.specs.Reading.{shown, reading, read_term, read_form, HasValue}
+use Rattle.ll_freeze.specs.Shown.{shown_item, shown_entry, items_of, state_of}
+use Rattle.ll_freeze.specs.Fits.{Fits, HasItem, IsGoalIn, allowed, setting}
+use Rattle.ll_engine.specs.Attempts.{Infers}
 use Rattle.ll_engine.specs.Rows.{GoesOn, PutsInFront, OpensForall, OpensExists}
 use Rattle.ll_engine.proofs.ReadLemmas.{reading_same, values_extend}
 use Rattle.ll_engine.specs.Turned.{is_empty}
-use Rattle.ll_engine.proofs.LaterLemmas.{form_same}
+use Rattle.ll_freeze.proofs.CallerLemmas.{trees_read, vars_more, form_same, state_by, state_is, modules_later, modules_has}
 use Rattle.ll_engine.proofs.MachineLemmas.{agenda_shown, tries_end}
-use Rattle.ll_engine.proofs.Fitting.{state_by, state_is, modules_later, modules_has}
 use Rattle.ll_engine.proofs.Rowing.{attempt_by, rest_items, rest_goals, goal_fits}
 
 -- ---- nothing but a head has arguments in a formula that fits
@@ -95,10 +94,6 @@ made_closed s v e a (suc n) h (suc k) l =
     let q : suc a + k ≡ a + suc k = omega arith in
     subst (λ x. is_closed (s x) ≡ true) q (made_closed s v e (suc a) n i k (omega (arith, l)))
 
-pub trees_read : (s : ℕ → Term) (bank : Nodes) (ats : List At) → map (λ (a : At). sub s (term_tree bank a.0)) ats ≡ map (sub s) (term_trees bank ats)
-trees_read s bank [] = refl
-trees_read s bank (a ∷ ats) = ap (λ ts. sub s (term_tree bank a.0) ∷ ts) (trees_read s bank ats)
-
 pub closing : (m : Machine) → Fits m → IsClosing (reading m.bank m.bound.items)
 unfolding state_of
 closing m f x =
@@ -124,19 +119,19 @@ module _ (old new : Nodes) (before after : List (Option At)) (keeps : Extends ol
   item_stays kept n (WithEnd s t) h = refl
   item_stays kept n (BangEnd s) h = refl
 
-  items_stay : (kept : List Saved) (n : ℕ) (is : List Item) → All (HasItem old n) is → map (shown_item new after kept) is ≡ map (shown_item old before kept) is
+  pub items_stay : (kept : List Saved) (n : ℕ) (is : List Item) → All (HasItem old n) is → map (shown_item new after kept) is ≡ map (shown_item old before kept) is
   items_stay kept n [] h = refl
   items_stay kept n (i ∷ is) h = λ j. item_stays kept n i (All-head (HasItem old n) i is h) j ∷ items_stay kept n is (All-tail (HasItem old n) i is h) j
 
   entry_stays : (e : Entry FormAt) → HasForm old e.clause.0 → shown_entry new after e ≡ shown_entry old before e
   entry_stays e h = λ i. record { label = e.label; kind = e.kind; live = e.live; clause = form_stays e.clause h i }
 
-  entries_stay : (es : List (Entry FormAt)) → All (λ e. HasForm old e.clause.0) es → map (shown_entry new after) es ≡ map (shown_entry old before) es
+  pub entries_stay : (es : List (Entry FormAt)) → All (λ e. HasForm old e.clause.0) es → map (shown_entry new after) es ≡ map (shown_entry old before) es
   entries_stay [] h = refl
   entries_stay (e ∷ es) h =
       λ i. entry_stays e (All-head (λ (d : Entry FormAt). HasForm old d.clause.0) e es h) i ∷ entries_stay es (All-tail (λ (d : Entry FormAt). HasForm old d.clause.0) e es h) i
 
-  terms_stay : (ats : List At) → AllInTerms old ats → map (read_term new after) ats ≡ map (read_term old before) ats
+  pub terms_stay : (ats : List At) → AllInTerms old ats → map (read_term new after) ats ≡ map (read_term old before) ats
   terms_stay [] h = refl
   terms_stay (a ∷ ats) h =
       let t : read_term new after a ≡ read_term old before a =
@@ -149,7 +144,7 @@ module _ (old new : Nodes) (may more : Allowed) (keeps : Extends old new) (grows
   sorted_stays : (side : Side) (at : ℕ) → HasForm old at → IsFormula may side [] (form_tree old at) → IsFormula more side [] (form_tree new at)
   sorted_stays side at h f = subst (λ (r : Form). IsFormula more side [] r) (sym (form_tree-extends keeps at h)) (formula-more may more side (form_tree old at) grows f)
 
-  clauses_stay : (es : List (Entry FormAt)) → All (λ e. HasForm old e.clause.0) es → All (λ e. IsFormula may ClauseSide [] (form_tree old e.clause.0)) es
+  pub clauses_stay : (es : List (Entry FormAt)) → All (λ e. HasForm old e.clause.0) es → All (λ e. IsFormula may ClauseSide [] (form_tree old e.clause.0)) es
       → All (λ e. IsFormula more ClauseSide [] (form_tree new e.clause.0)) es
   clauses_stay [] h f = All-nil (λ (e : Entry FormAt). IsFormula more ClauseSide [] (form_tree new e.clause.0))
   clauses_stay (e ∷ es) h f =
@@ -165,13 +160,13 @@ module _ (old new : Nodes) (may more : Allowed) (keeps : Extends old new) (grows
   goal_stays n (WithEnd s t) h f = tt
   goal_stays n (BangEnd s) h f = tt
 
-  goals_stay : (n : ℕ) (is : List Item) → All (HasItem old n) is → All (IsGoalIn may old) is → All (IsGoalIn more new) is
+  pub goals_stay : (n : ℕ) (is : List Item) → All (HasItem old n) is → All (IsGoalIn may old) is → All (IsGoalIn more new) is
   goals_stay n [] h f = All-nil (IsGoalIn more new)
   goals_stay n (i ∷ is) h f =
       All-cons (IsGoalIn more new) i is (goal_stays n i (All-head (HasItem old n) i is h) (All-head (IsGoalIn may old) i is f))
       (goals_stay n is (All-tail (HasItem old n) i is h) (All-tail (IsGoalIn may old) i is f))
 
-  item_has : (n : ℕ) (i : Item) → HasItem old n i → HasItem new n i
+  pub item_has : (n : ℕ) (i : Item) → HasItem old n i → HasItem new n i
   item_has n (Goal g) h = HasForm-extends keeps g.0 h
   item_has n (LolliEnd b) h = tt
   item_has n ImpEnd h = tt
@@ -359,10 +354,6 @@ look_more [] (suc x) = refl
 look_more (b ∷ bs) zero = refl
 look_more (b ∷ bs) (suc x) = look_more bs x
 
-pub vars_more : (a n b : ℕ) → b ≡ a + n → vars_from a (suc n) ≡ vars_from a n ++ Var b ∷ []
-vars_more a zero b e = ap (λ c. Var c ∷ []) (let q : a ≡ b = omega (arith, e) in q)
-vars_more a (suc n) b e = ap (λ ts. Var a ∷ ts) (vars_more (suc a) n b (omega (arith, e)))
-
 pub exists_row : (old new : Machine) (g body : FormAt) (rest : List Item) (c : Candidate) → Fits old → items_of old ≡ Goal g ∷ rest
     → form_tree old.bank g.0 ≡ Exists (form_tree old.bank body.0) → OpensExists old body rest new → Infers old c new
 exists_row old new g body rest c f e1 e2 w =
@@ -448,11 +439,6 @@ value_shown second third value t k v = record { inside = HasTerm-extends k value
 
 pub not_empty : (m : Machine) → is_empty (state_of m).agenda ≡ false → items_of m ≡ [] → ⊥
 not_empty m h e = let x : true ≡ false = sym (ap (λ xs. is_empty xs) (agenda_shown m [] e)) ∙ h in absurd (cc (x))
-
--- no whole-number goal is in front, since none stands in a valid problem
-pub no_number : (m : Machine) (g : FormAt) (rest : List Item) (r : Relation) (t u : Term) → Fits m
-    → items_of m ≡ Goal g ∷ rest → form_tree m.bank g.0 ≡ Num r t u → ⊥
-no_number m g rest r t u f e1 e2 = (goal_fits m g rest (Num r t u) f e1 e2).0
 
 -- an end in front has no candidate
 pub no_candidate : (m : Machine) (i : Item) (rest : List Item) (c : Candidate) → Contains (tries (state_of m)) c → items_of m ≡ i ∷ rest → ((g : FormAt) → i ≡ Goal g → ⊥) → ⊥

@@ -13,8 +13,7 @@ use Rattle.ll_bank.specs.Walk.{arguments_of, term_node_at, IsInOrder, HasImage, 
 use Rattle.ll_bank.proofs.Trees.{term_tree-extends, HasTerm-extends}
 use Rattle.ll_bank.proofs.ImageLemmas.{argument_images, root_image, image_found, shown_images}
 use Rattle.ll_laws.proofs.SubLaws.{sub_same}
-use Rattle.ll_unify.specs.Unifies.{shown}
-use Rattle.ll_engine.specs.Reading.{reading, HasValue}
+use Rattle.ll_freeze.specs.Reading.{shown, reading, HasValue}
 
 sub-apply : (s : ℕ → Term) (f : Term) (ts : List Term) → sub s (apply f ts) ≡ apply (sub s f) (map (sub s) ts)
 sub-apply s f [] = refl

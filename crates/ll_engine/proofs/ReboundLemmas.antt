@@ -8,8 +8,7 @@ use Rattle.ll_bank.specs.Term.{Term, Var, sub}
 use Rattle.ll_bank.specs.Nodes.{Nodes, AllInTerms, term_tree, term_trees, Extends}
 use Rattle.ll_laws.specs.Attempt.{vars_from}
 use Rattle.ll_laws.proofs.SubLaws.{sub_same}
-use Rattle.ll_unify.specs.Unifies.{shown}
-use Rattle.ll_engine.specs.Reading.{reading, read_term, HasValue}
+use Rattle.ll_freeze.specs.Reading.{shown, reading, read_term, HasValue}
 use Rattle.ll_engine.proofs.ReadLemmas.{reading_same}
 
 abbrev pub as_entries : List At → List (Option At)

@@ -20,16 +20,17 @@ use Rattle.ll_laws.proofs.ConsistentSteps.{steps_consistent}
 use Rattle.ll_resources.specs.History.{History}
 use Rattle.ll_resources.specs.Resources.{Resources, saved_at, saved_now, saved_as, KeepsSaved, after_load, after_erase, after_save, after_bang}
 use Rattle.ll_resources.specs.declared.context.Saved.{Saved as Handle}
-use Rattle.ll_engine.specs.declared.machine.Machine.{Machine}
-use Rattle.ll_engine.specs.declared.machine.Item.{Item}
-use Rattle.ll_engine.specs.declared.machine.Item.TheVariants.{Goal, LolliEnd, ImpEnd, Mid, WithEnd, BangEnd}
-use Rattle.ll_engine.specs.Reading.{reading}
-use Rattle.ll_engine.specs.Shown.{shown_item, shown_entry, items_of, state_of}
-use Rattle.ll_engine.specs.Fits.{Fits, HasItem, IsGoalIn, allowed, setting, Infers}
+use Rattle.ll_freeze.specs.declared.machine.Machine.{Machine}
+use Rattle.ll_freeze.specs.declared.machine.Item.{Item}
+use Rattle.ll_freeze.specs.declared.machine.Item.TheVariants.{Goal, LolliEnd, ImpEnd, Mid, WithEnd, BangEnd}
+use Rattle.ll_freeze.specs.Reading.{reading}
+use Rattle.ll_freeze.specs.Shown.{shown_item, shown_entry, items_of, state_of}
+use Rattle.ll_freeze.specs.Fits.{Fits, HasItem, IsGoalIn, allowed, setting}
+use Rattle.ll_engine.specs.Attempts.{Infers}
 use Rattle.ll_engine.specs.Rows.{GoesOn}
-use Rattle.ll_engine.specs.Going.{SameTerms}
+use Rattle.ll_freeze.specs.Calls.{SameTerms}
 use Rattle.ll_engine.proofs.MachineLemmas.{goal_inside}
-use Rattle.ll_engine.proofs.Fitting.{state_by, state_is, fits_kept, more_kept, one_more}
+use Rattle.ll_freeze.proofs.CallerLemmas.{state_by, state_is, fits_kept, more_kept, one_more}
 
 -- a machine with this goal in front
 abbrev pub at_goal : Machine → FormAt → List Item → State

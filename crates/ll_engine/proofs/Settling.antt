@@ -23,17 +23,17 @@ use Rattle.ll_resources.specs.Ends.{is_end, as_end, settled_after}
 use Rattle.ll_resources.proofs.EndLemmas.{ends_settle, middles_settle}
 use Rattle.ll_agenda.specs.Frames.{Frames, HasTop, items_at}
 use Rattle.ll_agenda.specs.declared.agenda.Top.{Top}
-use Rattle.ll_engine.specs.declared.machine.Machine.{Machine}
-use Rattle.ll_engine.specs.declared.machine.Item.{Item}
-use Rattle.ll_engine.specs.declared.machine.Item.TheVariants.{Goal, LolliEnd, ImpEnd, Mid, WithEnd, BangEnd}
-use Rattle.ll_engine.specs.Reading.{read_form, read_term}
-use Rattle.ll_engine.specs.Shown.{shown_item, shown_entry, items_of, state_of}
-use Rattle.ll_engine.specs.Fits.{Fits, HasItem, IsGoalIn, allowed, setting}
+use Rattle.ll_freeze.specs.declared.machine.Machine.{Machine}
+use Rattle.ll_freeze.specs.declared.machine.Item.{Item}
+use Rattle.ll_freeze.specs.declared.machine.Item.TheVariants.{Goal, LolliEnd, ImpEnd, Mid, WithEnd, BangEnd}
+use Rattle.ll_freeze.specs.Reading.{read_form, read_term}
+use Rattle.ll_freeze.specs.Shown.{shown_item, shown_entry, items_of, state_of}
+use Rattle.ll_freeze.specs.Fits.{Fits, HasItem, IsGoalIn, allowed, setting}
 use Rattle.ll_engine.specs.Calls.{IsSettled, SameSearch}
 use Rattle.ll_engine.specs.declared.settle.Worked.{Worked}
 use Rattle.ll_engine.specs.declared.settle.Worked.TheVariants.{Settled, Failed}
 use Rattle.ll_engine.specs.Going.{raw_item, front_raw, EndsFit, Reaches, Going, IsDone, Works}
-use Rattle.ll_engine.proofs.Fitting.{state_by, state_is, fits_kept, same_allowed, clauses_moved, goals_moved, one_more, more_kept}
+use Rattle.ll_freeze.proofs.CallerLemmas.{state_by, state_is, fits_kept, same_allowed, clauses_moved, goals_moved, one_more, more_kept}
 
 shown_raw : (bank : Nodes) (bound : List (Option At)) (kept : List Saved) (i : Item) → shown_item bank bound kept i ≡ map_item (read_form bank bound) (raw_item kept i)
 shown_raw bank bound kept (Goal g) = refl

@@ -5,12 +5,17 @@ use Rattle.std.proofs.lemmas.Option.{get_or_from_slice_get, slice_get_within}
 use Rattle.std.specs.Prelude.{Option, Some, None, is_some, IsNone, ◌↔◌, not, ◌||◌, slice_get}
 use Rattle.ll_bank.specs.declared.At.{At}
 use Rattle.ll_bank.specs.declared.FormAt.{FormAt}
-use Rattle.ll_bank.specs.Nodes.{Nodes}
+use Rattle.ll_bank.specs.Term.{Term}
+use Rattle.ll_bank.specs.Nodes.{Nodes, term_tree}
+use Rattle.ll_laws.specs.Answered.{Answered}
+use Rattle.ll_laws.specs.declared.Step.{Step}
+use Rattle.ll_laws.specs.State.{State}
 use Rattle.ll_laws.specs.Settle.{Entry, Saved, has_live}
 use Rattle.ll_agenda.specs.declared.agenda.Top.{Top}
-use Rattle.ll_engine.specs.declared.machine.Machine.{Machine}
-use Rattle.ll_engine.specs.declared.machine.Item.{Item}
-use Rattle.ll_engine.specs.Shown.{shown_item, shown_entry, items_of, state_of}
+use Rattle.ll_freeze.specs.declared.machine.Machine.{Machine}
+use Rattle.ll_freeze.specs.declared.machine.Item.{Item}
+use Rattle.ll_freeze.specs.Reading.{read_term}
+use Rattle.ll_freeze.specs.Shown.{shown_item, shown_entry, items_of, state_of}
 use Rattle.ll_engine.specs.Turned.{is_empty, answers}
 
 -- nothing is left to prove where the agenda's list is empty
@@ -63,3 +68,17 @@ module _ {C : Type 0} where
   not_live_more es i e b h l f k =
       list_any_more (λ (e : Entry C). e.live) es i e (slice_get_within es i e h)
       ∙ (ap (λ x. x || (get_or es i e).live) k ∙ (ap (λ (x : Entry C). x.live) (get_or_from_slice_get es i e e h) ∙ (sym l ∙ f)))
+
+-- the terms and the steps of a state
+abbrev branched : State → Answered
+branched s = record { terms = s.terms; steps = s.steps }
+
+-- the state as a branch, whose terms were read under the bindings
+pub branch_of : (m : Machine) (bank new : Nodes) (bound : List (Option At)) (terms read : List At) (steps : List Step) → bank ≡ m.bank → bound ≡ m.bound.items → terms ≡ m.terms.items
+    → map (λ at. term_tree new at.0) read ≡ map (read_term bank bound) terms → steps ≡ m.steps.items
+    → record { terms = map (λ at. term_tree new at.0) read; steps = steps } ≡ branched (state_of m)
+unfolding state_of
+branch_of m bank new bound terms read steps e1 e2 e3 r e4 =
+    let make : List Term → List Step → Answered = λ xs ys. record { terms = xs; steps = ys } in
+    let a : map (read_term bank bound) terms ≡ map (read_term m.bank m.bound.items) m.terms.items = rw (e1, e2, e3) refl in
+    ap (λ xs. make xs steps) (r ∙ a) ∙ ap (λ ys. make (map (read_term m.bank m.bound.items) m.terms.items) ys) e4

@@ -20,13 +20,14 @@ use Rattle.ll_laws.specs.Consistent.{is_made}
 use Rattle.ll_laws.proofs.SubLaws.{sub_premise, sub_same, map_same, and_left, and_right}
 use Rattle.ll_laws.proofs.ConsistentForms.{formula_of_fits}
 use Rattle.ll_laws.proofs.ConsistentLeaves.{PremisesFit}
-use Rattle.ll_engine.specs.declared.machine.Item.TheVariants.{Goal}
-use Rattle.ll_engine.specs.Reading.{reading, read_term, read_form, HasValue}
-use Rattle.ll_engine.specs.Shown.{shown_item, shown_entry}
-use Rattle.ll_engine.specs.Fits.{HasItem, IsGoalIn}
+use Rattle.ll_freeze.specs.declared.machine.Item.TheVariants.{Goal}
+use Rattle.ll_freeze.specs.Reading.{reading, read_term, read_form, HasValue}
+use Rattle.ll_freeze.specs.Shown.{shown_item, shown_entry}
+use Rattle.ll_freeze.specs.Fits.{HasItem, IsGoalIn}
 use Rattle.ll_engine.proofs.ReadLemmas.{reading_same, map_trees}
 use Rattle.ll_engine.proofs.ReboundLemmas.{reading_past}
-use Rattle.ll_engine.proofs.LaterLemmas.{form_same, form_later, terms_later, entries_later}
+use Rattle.ll_freeze.proofs.CallerLemmas.{form_same}
+use Rattle.ll_engine.proofs.LaterLemmas.{form_later, terms_later, entries_later}
 use Rattle.ll_engine.proofs.StepLemmas.{vars_fixed}
 
 -- ---- variables

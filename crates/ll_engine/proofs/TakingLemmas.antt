@@ -7,6 +7,7 @@ use Rattle.std.proofs.lemmas.List.{map-append, length-append, length-replicate, 
 use Rattle.std.proofs.lemmas.List.Elements.{All-append, All-tail}
 use Rattle.ll_bank.specs.declared.At.{At}
 use Rattle.ll_bank.specs.declared.FormAt.{FormAt}
+use Rattle.ll_bank.specs.declared.FormNode.TheVariants.{Atom as AtomView}
 use Rattle.ll_bank.specs.Term.{sub, is_closed, eigens_below}
 use Rattle.ll_bank.specs.Form.{Form, Atom, sub_form}
 use Rattle.ll_bank.specs.Nodes.{Nodes, HasForm, AllInTerms, Extends, term_tree, term_trees, form_tree}
@@ -30,16 +31,18 @@ use Rattle.ll_laws.proofs.ConsistentSteps.{steps_consistent}
 use Rattle.ll_agenda.specs.declared.agenda.Top.{Top as AgendaTop}
 use Rattle.ll_resources.specs.Resources.{Resources, after_pick}
 use Rattle.ll_agenda.specs.Frames.{Frames, HasTop, items_at}
-use Rattle.ll_engine.specs.declared.machine.Machine.{Machine}
-use Rattle.ll_engine.specs.declared.machine.Item.{Item}
-use Rattle.ll_engine.specs.declared.machine.Item.TheVariants.{Goal, LolliEnd, ImpEnd, Mid, WithEnd, BangEnd}
+use Rattle.ll_freeze.specs.declared.machine.Machine.{Machine}
+use Rattle.ll_freeze.specs.declared.machine.Item.{Item}
+use Rattle.ll_freeze.specs.declared.machine.Item.TheVariants.{Goal, LolliEnd, ImpEnd, Mid, WithEnd, BangEnd}
 use Rattle.ll_engine.specs.declared.take.Unified.{Unified}
-use Rattle.ll_engine.specs.Reading.{reading, read_term, read_form, HasValue}
-use Rattle.ll_engine.specs.Shown.{shown_item, shown_entry, items_of, state_of}
-use Rattle.ll_engine.proofs.Fitting.{modules_has, modules_later}
-use Rattle.ll_engine.specs.Fits.{setting, Fits, allowed, HasItem, IsGoalIn, Infers}
+use Rattle.ll_freeze.specs.Reading.{reading, read_term, read_form, HasValue}
+use Rattle.ll_freeze.specs.Shown.{shown_item, shown_entry, items_of, state_of}
+use Rattle.ll_freeze.proofs.CallerLemmas.{modules_has, modules_later}
+use Rattle.ll_freeze.specs.Fits.{setting, Fits, allowed, HasItem, IsGoalIn}
+use Rattle.ll_engine.specs.Attempts.{Infers}
 use Rattle.ll_engine.specs.Opening.{Opens}
-use Rattle.ll_engine.specs.Taking.{HasAtom, IsUnified, Unifies}
+use Rattle.ll_engine.specs.Front.{IsFront}
+use Rattle.ll_engine.specs.Taking.{IsUnified, Unifies}
 use Rattle.ll_engine.proofs.ReadLemmas.{map_trees, reading_same, read_same}
 use Rattle.ll_engine.proofs.ReboundLemmas.{reading_past}
 use Rattle.ll_engine.proofs.MachineLemmas.{agenda_shown, goal_in_front}
@@ -58,19 +61,19 @@ terms_made : (m : Machine) → Fits m → list_all (is_made (length m.levels.ite
 unfolding state_of
 terms_made m f = f.consistent.terms
 
-term_count : (m : Machine) → IsConsistent (setting m) (state_of m) → length m.terms.items ≡ length m.levels.items
+pub term_count : (m : Machine) → IsConsistent (setting m) (state_of m) → length m.terms.items ≡ length m.levels.items
 unfolding state_of
 term_count m c = sym (length-map m.terms.items (read_term m.bank m.bound.items)) ∙ c.term_count
 
 -- the atom in front, as the state shows it
-atom_shown : (m : Machine) (atom : At) (rest : AgendaTop) → HasAtom m atom rest
+atom_shown : (m : Machine) (atom : At) (rest : AgendaTop) → IsFront m (AtomView atom) rest
     → (state_of m).agenda ≡ Rattle.ll_laws.specs.Settle.Goal (Atom (read_term m.bank m.bound.items atom)) ∷ map (shown_item m.bank m.bound.items m.context.present.kept) (items_at m.agenda rest)
 atom_shown m atom rest h =
     agenda_shown m (Goal h.goal ∷ items_at m.agenda rest) h.list
-    ∙ ap (λ g. Rattle.ll_laws.specs.Settle.Goal (sub_form (reading m.bank m.bound.items) g) ∷ map (shown_item m.bank m.bound.items m.context.present.kept) (items_at m.agenda rest)) h.tree
+    ∙ ap (λ g. Rattle.ll_laws.specs.Settle.Goal (sub_form (reading m.bank m.bound.items) g) ∷ map (shown_item m.bank m.bound.items m.context.present.kept) (items_at m.agenda rest)) h.seen.tree
 
 -- an inference on it
-attempt_atom : (m : Machine) (atom : At) (rest : AgendaTop) (label k count : ℕ) (e : Entry Form) (l : Leaf) → HasAtom m atom rest
+attempt_atom : (m : Machine) (atom : At) (rest : AgendaTop) (label k count : ℕ) (e : Entry Form) (l : Leaf) → IsFront m (AtomView atom) rest
     → entry_at (map (shown_entry m.bank m.bound.items) m.context.present.entries) label ≡ Some e → slice_get (ways e.clause) k ≡ Some count → leaf e.clause k (vars_from (length m.levels.items) count) ≡ Some l
     → attempt (setting m) (state_of m) (record { label = label; leaf = k })
     ≡ option_map (instantiated (with_leaf (state_of m) (map (shown_item m.bank m.bound.items m.context.present.kept) (items_at m.agenda rest)) label k count l))
@@ -85,7 +88,7 @@ past (x ∷ xs) zero h = absurd (omega arith)
 past (x ∷ xs) (suc k) h = past xs k (omega arith)
 
 -- no entry has the label
-pub no_entry : (m : Machine) (atom : At) (rest : AgendaTop) (c : Candidate) → HasAtom m atom rest → entry_at m.context.present.entries c.label ≡ None → attempt (setting m) (state_of m) c ≡ None
+pub no_entry : (m : Machine) (atom : At) (rest : AgendaTop) (c : Candidate) → IsFront m (AtomView atom) rest → entry_at m.context.present.entries c.label ≡ None → attempt (setting m) (state_of m) c ≡ None
 unfolding attempt state_of
 no_entry m atom rest c h none =
     let a = read_term m.bank m.bound.items atom in
@@ -94,7 +97,7 @@ no_entry m atom rest c h none =
     ∙ ap (option_and_then (take_entry (state_of m) a behind c.label c.leaf)) (entry_read (read_form m.bank m.bound.items) m.context.present.entries c.label ∙ ap (option_map (shown_entry m.bank m.bound.items)) none)
 
 -- its clause has no such leaf
-pub no_leaf : (m : Machine) (atom : At) (rest : AgendaTop) (c : Candidate) (e : Entry FormAt) → HasAtom m atom rest → entry_at m.context.present.entries c.label ≡ Some e
+pub no_leaf : (m : Machine) (atom : At) (rest : AgendaTop) (c : Candidate) (e : Entry FormAt) → IsFront m (AtomView atom) rest → entry_at m.context.present.entries c.label ≡ Some e
     → length (ways (form_tree m.bank e.clause.0)) ≤ c.leaf → attempt (setting m) (state_of m) c ≡ None
 unfolding attempt state_of
 no_leaf m atom rest c e h found few =
@@ -162,9 +165,9 @@ module _ (m : Machine) (f : Fits m) where
   vars_fit n (suc count) all h = (lt-ltb n (length m.levels.items + all) (omega arith), vars_fit (suc n) count all (omega arith))
 
   -- the atom has no variable but those that there are
-  pub atom_below : (atom : At) (rest : AgendaTop) (count : ℕ) → HasAtom m atom rest → vars_below (length m.levels.items + count) (read_term m.bank m.bound.items atom) ≡ true
+  pub atom_below : (atom : At) (rest : AgendaTop) (count : ℕ) → IsFront m (AtomView atom) rest → vars_below (length m.levels.items + count) (read_term m.bank m.bound.items atom) ≡ true
   atom_below atom rest count h =
-      let is = subst (λ g. IsFormula (allowed_in (setting m) (state_of m)) GoalSide [] (sub_form (reading m.bank m.bound.items) g)) h.tree (goal_in_front m h.goal (items_at m.agenda rest) f h.list) in
+      let is = subst (λ g. IsFormula (allowed_in (setting m) (state_of m)) GoalSide [] (sub_form (reading m.bank m.bound.items) g)) h.seen.tree (goal_in_front m h.goal (items_at m.agenda rest) f h.list) in
       let now = subst (λ may. IsFormula may GoalSide [] (Atom (read_term m.bank m.bound.items atom))) (allowed_shown m) is in
       let fit = fits_of_formula (allowed m) GoalSide [] (Atom (read_term m.bank m.bound.items atom)) now in
       fit-vars (with_more count) [] (read_term m.bank m.bound.items atom) (fit-more (allowed m) (with_more count) [] [] (read_term m.bank m.bound.items atom) (grows count) tt fit.1)
@@ -200,7 +203,7 @@ module _ (m : Machine) (f : Fits m) where
           ∙ fit-vars (with_more o.count) [] (sub (reading m.bank m.bound.items) (term_tree mid head.0)) (fit-sub (with_more o.count) (reading m.bank m.bound.items) [] (term_tree mid head.0) (goes_more o.count) leaf_sorted.head.1)
 
       -- what the inference comes to, by what unification gives
-      pub step_is : (atom : At) → HasAtom m atom rest
+      pub step_is : (atom : At) → IsFront m (AtomView atom) rest
           → attempt (setting m) (state_of m) (record { label = label; leaf = k })
           ≡ option_map (instantiated (with_leaf (state_of m) (map (shown_item m.bank m.bound.items m.context.present.kept) (items_at m.agenda rest)) label k o.count (sub_leaf (reading m.bank m.bound.items) opened)))
           (mgu (read_term m.bank m.bound.items atom ∷ []) (read_term mid m.bound.items head ∷ []) (m.levels.items ++ replicate o.count m.eigens))
@@ -232,7 +235,7 @@ module _ (m : Machine) (f : Fits m) where
         pub steps : new.steps.items ≡ m.steps.items ++ ClauseStep label k ∷ []
         pub left : suc new.left ≡ m.left
 
-      module _ (atom : At) (h : HasAtom m atom rest) (v : Solved)
+      module _ (atom : At) (h : IsFront m (AtomView atom) rest) (v : Solved)
           (unified : mgu (read_term m.bank m.bound.items atom ∷ []) (read_term mid m.bound.items head ∷ []) (m.levels.items ++ replicate o.count m.eigens) ≡ Some v) (new : Machine) (t : IsTaken v new) where
         behind : All (HasItem m.bank (length m.context.present.kept)) (items_at m.agenda rest)
         behind =
@@ -377,19 +380,19 @@ module _ (m : Machine) (f : Fits m) where
           let d = length-replicate o.count m.eigens in
           let n = variable_count in omega arith
 
-      module _ (atom : At) (h : HasAtom m atom rest) (end : Nodes) (bound : List (Option At)) (levels : List ℕ) (bound_is : bound ≡ m.bound.items) (levels_is : levels ≡ m.levels.items ++ replicate o.count m.eigens) where
+      module _ (atom : At) (h : IsFront m (AtomView atom) rest) (end : Nodes) (bound : List (Option At)) (levels : List ℕ) (bound_is : bound ≡ m.bound.items) (levels_is : levels ≡ m.levels.items ++ replicate o.count m.eigens) where
         abbrev pub Finds : Option Unified → Type 0
         Finds u = Unifies mid end bound levels (mgu (read_term mid bound atom ∷ []) (read_term mid bound head ∷ []) levels) u
 
         same_problem : mgu (read_term m.bank m.bound.items atom ∷ []) (read_term mid m.bound.items head ∷ []) (m.levels.items ++ replicate o.count m.eigens) ≡ mgu (read_term mid bound atom ∷ []) (read_term mid bound head ∷ []) levels
         same_problem =
-            (λ i. mgu (sym (read_same m.bank mid keeps m.bound.items f.bound atom.0 h.inside) i ∷ []) (read_term mid m.bound.items head ∷ []) (m.levels.items ++ replicate o.count m.eigens))
+            (λ i. mgu (sym (read_same m.bank mid keeps m.bound.items f.bound atom.0 h.seen.parts) i ∷ []) (read_term mid m.bound.items head ∷ []) (m.levels.items ++ replicate o.count m.eigens))
             ∙ (λ i. mgu (read_term mid (sym bound_is i) atom ∷ []) (read_term mid (sym bound_is i) head ∷ []) (sym levels_is i))
 
         pub atom_fits : vars_below (length levels) (read_term mid bound atom) ≡ true
         atom_fits =
             (λ i. vars_below (length (levels_is i)) (read_term mid (bound_is i) atom))
-            ∙ ((λ i. vars_below (sized i) (read_same m.bank mid keeps m.bound.items f.bound atom.0 h.inside i)) ∙ atom_below atom rest o.count h)
+            ∙ ((λ i. vars_below (sized i) (read_same m.bank mid keeps m.bound.items f.bound atom.0 h.seen.parts i)) ∙ atom_below atom rest o.count h)
           where
             sized : length (m.levels.items ++ replicate o.count m.eigens) ≡ length m.levels.items + o.count
             sized = let a = length-append m.levels.items (replicate o.count m.eigens) in let b = length-replicate o.count m.eigens in omega arith

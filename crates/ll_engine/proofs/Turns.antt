@@ -14,29 +14,30 @@ use Rattle.ll_laws.specs.Search.{answer_of, events, cost, forks, same_candidate,
 use Rattle.ll_laws.specs.Problem.{ProblemTree, setting_of}
 use Rattle.ll_laws.proofs.SearchLaws.{events_none, events_answer, events_reached, events_step, cost_none, cost_answer, cost_zero, cost_step}
 use Rattle.ll_engine.specs.Seen.{Point, Spine}
-use Rattle.ll_engine.specs.Owed.{events_from, number_from, owed_by, cost_by, owed, cost_left, one_if_some, open_points, work_by, work, work_left, Thins, put_point, if_running}
+use Rattle.ll_laws.specs.Tried.{events_from, number_from, tried_events, tried_cost}
+use Rattle.ll_engine.specs.Owed.{owed, cost_left, one_if_some, open_points, work_by, work, work_left, Thins, put_point, if_running}
 use Rattle.ll_engine.specs.Healthy.{Distinct, Path, next, IsPoint, ArePoints, IsNow, RunsFrom, HealthyFrom, Healthy}
 use Rattle.ll_engine.specs.Turned.{is_empty, answers, Settles, Gave, Chose, Expands, RetriesAt, Retries, ForksKept, Turned}
-use Rattle.ll_engine.proofs.Owing.{owed_by_flat, cost_by_flat, owed_by_thins, cost_by_thins, work_by_thins, gives_thins, owed_put, cost_put, work_put, open_put}
+use Rattle.ll_engine.proofs.Owing.{tried_events_flat, tried_cost_flat, tried_events_thins, tried_cost_thins, work_by_thins, gives_thins, owed_put, cost_put, work_put, open_put}
 use Rattle.ll_engine.proofs.Forks.{not_before, cut, forks_of, settle_steps}
 
 -- what a state owes whose goal is taken apart
 
-pub events_tries : (beside : Setting) (n : ℕ) (s t : State) → settle s ≡ Some t → is_empty t.agenda ≡ false → events beside (suc n) s ≡ owed_by beside n t (tries t)
+pub events_tries : (beside : Setting) (n : ℕ) (s t : State) → settle s ≡ Some t → is_empty t.agenda ≡ false → events beside (suc n) s ≡ tried_events beside n t (tries t)
 unfolding successors
 events_tries beside n s t h e = go t.agenda refl e
   where
-    go : (a : List (Item Form)) → t.agenda ≡ a → is_empty a ≡ false → events beside (suc n) s ≡ owed_by beside n t (tries t)
+    go : (a : List (Item Form)) → t.agenda ≡ a → is_empty a ≡ false → events beside (suc n) s ≡ tried_events beside n t (tries t)
     go [] h1 h2 = cc
-    go (i ∷ is) h1 h2 = events_step beside n s t i is h h1 ∙ owed_by_flat beside n t (tries t)
+    go (i ∷ is) h1 h2 = events_step beside n s t i is h h1 ∙ tried_events_flat beside n t (tries t)
 
-pub cost_tries : (beside : Setting) (n : ℕ) (s t : State) → settle s ≡ Some t → is_empty t.agenda ≡ false → cost beside (suc n) s ≡ suc (cost_by beside n t (tries t))
+pub cost_tries : (beside : Setting) (n : ℕ) (s t : State) → settle s ≡ Some t → is_empty t.agenda ≡ false → cost beside (suc n) s ≡ suc (tried_cost beside n t (tries t))
 unfolding successors
 cost_tries beside n s t h e = go t.agenda refl e
   where
-    go : (a : List (Item Form)) → t.agenda ≡ a → is_empty a ≡ false → cost beside (suc n) s ≡ suc (cost_by beside n t (tries t))
+    go : (a : List (Item Form)) → t.agenda ≡ a → is_empty a ≡ false → cost beside (suc n) s ≡ suc (tried_cost beside n t (tries t))
     go [] h1 h2 = cc
-    go (i ∷ is) h1 h2 = cost_step beside n s t i is h h1 ∙ ap (λ x. suc x) (cost_by_flat beside n t (tries t))
+    go (i ∷ is) h1 h2 = cost_step beside n s t i is h h1 ∙ ap (λ x. suc x) (tried_cost_flat beside n t (tries t))
 
 work_tries : (beside : Setting) (n : ℕ) (s t : State) → settle s ≡ Some t → work beside (suc n) s ≡ suc (work_by (work beside n) beside t (tries t))
 unfolding work
@@ -92,8 +93,8 @@ work_gave beside o n true z h = rw (h.0, h.1)
 work_gave beside o n false z h = rw h
 
 pub record Chosen (beside : Setting) (t : State) (n : ℕ) (cs : List Candidate) (ps : List Point) (r : Bool) (z : Spine) : Type 0 where
-  pub events : owed_by beside n t cs ++ owed beside ps ≡ if_running r (events beside z.left z.now) [] ++ owed beside z.points
-  pub cost : cost_by beside n t cs + cost_left beside ps ≡ if_running r (cost beside z.left z.now) 0 + cost_left beside z.points
+  pub events : tried_events beside n t cs ++ owed beside ps ≡ if_running r (events beside z.left z.now) [] ++ owed beside z.points
+  pub cost : tried_cost beside n t cs + cost_left beside ps ≡ if_running r (cost beside z.left z.now) 0 + cost_left beside z.points
   pub work : suc (if_running r (work beside z.left z.now) 0 + work_left beside z.points) ≤ work_by (work beside n) beside t cs + work_left beside ps
   pub healthy : (f : State) (k : ℕ) → IsPoint beside f (k + open_points ps) (record { state = t; left = n; untried = cs }) → ArePoints beside f k ps
       → ArePoints beside f k z.points × RunsFrom beside f k r z.now z.points
@@ -139,8 +140,8 @@ chosen_some : (beside : Setting) (t : State) (n : ℕ) (c : Candidate) (cs : Lis
 chosen_some beside t n c cs ps r z e g =
     record {
       events =
-          append_assoc (events_from (events beside n) (attempt beside t c)) (owed_by beside n t cs) (owed beside ps)
-          ∙ (ap (λ x. x ++ (owed_by beside n t cs ++ owed beside ps)) (events_gave beside (attempt beside t c) n r z g)
+          append_assoc (events_from (events beside n) (attempt beside t c)) (tried_events beside n t cs) (owed beside ps)
+          ∙ (ap (λ x. x ++ (tried_events beside n t cs ++ owed beside ps)) (events_gave beside (attempt beside t c) n r z g)
           ∙ ap (λ x. if_running r (events beside z.left z.now) [] ++ x) (sym (owed_put beside t n cs ps) ∙ ap (λ x. owed beside x) (sym e)));
       cost = let e1 = cost_gave beside (attempt beside t c) n r z g in let e2 = cost_put beside t n cs ps in rw e (omega (arith, e1, e2));
       work = let e1 = work_gave beside (attempt beside t c) n r z g in let e2 = work_put beside t n cs ps in rw e (omega (arith, e1, e2));
@@ -284,10 +285,10 @@ turned_expand z0 z1 z r true b h e x =
     let s = same z1 z1.now x.left x.candidates z1.points r z x.chose in
     let ch = chosen z1 z1.now x.left x.candidates z1.points r z x.chose in
     let l : z0.left ≡ suc x.left = sym q.2 ∙ x.left_is in
-    let e1 : events (setting_of z0.problem) z0.left z0.now ≡ owed_by (setting_of z1.problem) x.left z1.now x.candidates =
-    rw (l, q.0) (events_tries (setting_of z0.problem) x.left z0.now z1.now h.1 e ∙ sym (owed_by_thins (setting_of z0.problem) z1.now x.left x.candidates (tries z1.now) (subst (λ (p : ProblemTree). Thins (setting_of p) z1.now x.candidates (tries z1.now)) q.0 x.thins))) in
-    let e2 : cost (setting_of z0.problem) z0.left z0.now ≡ suc (cost_by (setting_of z1.problem) x.left z1.now x.candidates) =
-    rw (l, q.0) (cost_tries (setting_of z0.problem) x.left z0.now z1.now h.1 e ∙ ap (λ x. suc x) (sym (cost_by_thins (setting_of z0.problem) z1.now x.left x.candidates (tries z1.now) (subst (λ (p : ProblemTree). Thins (setting_of p) z1.now x.candidates (tries z1.now)) q.0 x.thins)))) in
+    let e1 : events (setting_of z0.problem) z0.left z0.now ≡ tried_events (setting_of z1.problem) x.left z1.now x.candidates =
+    rw (l, q.0) (events_tries (setting_of z0.problem) x.left z0.now z1.now h.1 e ∙ sym (tried_events_thins (setting_of z0.problem) z1.now x.left x.candidates (tries z1.now) (subst (λ (p : ProblemTree). Thins (setting_of p) z1.now x.candidates (tries z1.now)) q.0 x.thins))) in
+    let e2 : cost (setting_of z0.problem) z0.left z0.now ≡ suc (tried_cost (setting_of z1.problem) x.left z1.now x.candidates) =
+    rw (l, q.0) (cost_tries (setting_of z0.problem) x.left z0.now z1.now h.1 e ∙ ap (λ x. suc x) (sym (tried_cost_thins (setting_of z0.problem) z1.now x.left x.candidates (tries z1.now) (subst (λ (p : ProblemTree). Thins (setting_of p) z1.now x.candidates (tries z1.now)) q.0 x.thins)))) in
     let e3 : suc (work_by (work (setting_of z1.problem) x.left) (setting_of z1.problem) z1.now x.candidates) ≤ work (setting_of z0.problem) z0.left z0.now =
     rw (l, q.0) (let a = work_tries (setting_of z0.problem) x.left z0.now z1.now h.1 in let b = work_by_thins (setting_of z0.problem) z1.now (work (setting_of z0.problem) x.left) x.candidates (tries z1.now) (subst (λ (p : ProblemTree). Thins (setting_of p) z1.now x.candidates (tries z1.now)) q.0 x.thins) in omega arith) in
     record {

@@ -14,7 +14,7 @@ use Rattle.ll_laws.proofs.ConsistentStates.{length-vars}
 use Rattle.ll_unify.specs.declared.Subst.{Subst}
 use Rattle.ll_unify.specs.Unifies.{solved_of, IsEntry, HasEntries}
 use Rattle.ll_engine.specs.declared.take.Unified.{Unified}
-use Rattle.ll_engine.specs.Reading.{reading, read_term, HasValue}
+use Rattle.ll_freeze.specs.Reading.{reading, read_term, HasValue}
 use Rattle.ll_engine.specs.Taking.{IsUnified, Unifies}
 use Rattle.ll_engine.proofs.ReadLemmas.{read_same, reading_same}
 

@@ -20,8 +20,8 @@ use Rattle.ll_laws.proofs.ConsistentForms.{fits_of_formula, formula_of_fits, fit
 use Rattle.ll_laws.proofs.ConsistentStates.{length-vars}
 use Rattle.ll_agenda.specs.declared.agenda.Top.{Top as AgendaTop}
 use Rattle.ll_agenda.specs.Frames.{Frames, ShowsItems, items_at}
-use Rattle.ll_engine.specs.declared.machine.Item.{Item}
-use Rattle.ll_engine.specs.declared.machine.Item.TheVariants.{Goal}
+use Rattle.ll_freeze.specs.declared.machine.Item.{Item}
+use Rattle.ll_freeze.specs.declared.machine.Item.TheVariants.{Goal}
 use Rattle.ll_engine.specs.Opening.{IsClause, IsOnWay, Opens}
 use Rattle.ll_engine.proofs.OpeningLemmas.{leaf_open, ways_open, leaf_atom}
 

@@ -1,24 +1,9 @@
 -- What the calls of a machine do. Nothing is said of a machine after a refusal.
 use Rattle.std.specs.Prelude.{◌≡◌, Bool, true, false, Some, None}
 use Rattle.ll_laws.specs.State.{settle}
-use Rattle.ll_laws.specs.Problem.{ProblemTree, start_of}
-use Rattle.ll_engine.specs.declared.machine.Machine.{Machine}
-use Rattle.ll_engine.specs.Shown.{state_of}
-use Rattle.ll_engine.specs.Fits.{Fits}
-
--- the machine in which the search of a problem starts
-pub record IsStart (p : ProblemTree) (m : Machine) : Type 0 where
-  pub problem : m.problem.now ≡ p
-  pub state : state_of m ≡ start_of p
-  pub left : m.left ≡ p.bound
-  pub fits : Fits m
-
--- the later machine shows what the earlier one shows
-pub record IsImage (old new : Machine) : Type 0 where
-  pub problem : new.problem.now ≡ old.problem.now
-  pub state : state_of new ≡ state_of old
-  pub left : new.left ≡ old.left
-  pub fits : Fits new
+use Rattle.ll_freeze.specs.declared.machine.Machine.{Machine}
+use Rattle.ll_freeze.specs.Shown.{state_of}
+use Rattle.ll_freeze.specs.Fits.{Fits}
 
 -- the later machine is the earlier one with its ends in front worked off
 pub record IsSettled (old new : Machine) : Type 0 where

@@ -8,14 +8,15 @@ use Rattle.ll_laws.specs.Consistent.{ends_fit}
 use Rattle.ll_laws.specs.Valid.{IsFormula, ClauseSide}
 use Rattle.ll_agenda.specs.Frames.{HasTop}
 use Rattle.ll_resources.specs.Resources.{Resources, saved_at}
-use Rattle.ll_engine.specs.declared.machine.Machine.{Machine}
-use Rattle.ll_engine.specs.declared.machine.Item.{Item}
-use Rattle.ll_engine.specs.declared.machine.Item.TheVariants.{Goal, LolliEnd, ImpEnd, Mid, WithEnd, BangEnd}
+use Rattle.ll_freeze.specs.declared.machine.Machine.{Machine}
+use Rattle.ll_freeze.specs.declared.machine.Item.{Item}
+use Rattle.ll_freeze.specs.declared.machine.Item.TheVariants.{Goal, LolliEnd, ImpEnd, Mid, WithEnd, BangEnd}
 use Rattle.ll_engine.specs.declared.settle.Worked.{Worked}
 use Rattle.ll_engine.specs.declared.settle.Worked.TheVariants.{Off, Settled, Failed}
-use Rattle.ll_engine.specs.Shown.{shown_item, shown_entry, items_of}
-use Rattle.ll_engine.specs.Fits.{HasItem, allowed, IsGoalIn}
+use Rattle.ll_freeze.specs.Shown.{shown_item, shown_entry, items_of}
+use Rattle.ll_freeze.specs.Fits.{HasItem, allowed, IsGoalIn}
 use Rattle.ll_engine.specs.Calls.{SameSearch}
+use Rattle.ll_freeze.specs.Calls.{SameTerms}
 
 -- an item over what was kept, with its goal as a place
 abbrev pub raw_item : List Saved → Item → ItemOf FormAt
@@ -33,15 +34,6 @@ front_raw r xs = settle_front (map (raw_item r.kept) xs) r.entries r.flag
 -- the ends of these items belong to the entries
 abbrev pub EndsFit : Nodes → List (Option At) → Resources FormAt → List Item → Type 0
 EndsFit bank bound r xs = ends_fit (map (shown_item bank bound r.kept) xs) (map (shown_entry bank bound) r.entries) ≡ true
-
--- the later machine has the problem and the terms of the earlier one
-pub record SameTerms (old new : Machine) : Type 0 where
-  pub problem : new.problem.now ≡ old.problem.now
-  pub modules : new.modules.now ≡ old.modules.now
-  pub bank : new.bank ≡ old.bank
-  pub bound : new.bound.items ≡ old.bound.items
-  pub levels : new.levels.items ≡ old.levels.items
-  pub terms : new.terms.items ≡ old.terms.items
 
 -- the later machine is the earlier one with some ends worked off
 pub record Reaches (o m : Machine) : Type 0 where

@@ -10,7 +10,7 @@ use Rattle.ll_laws.specs.Leaf.{ways}
 use Rattle.ll_laws.specs.Settle.{Entry}
 use Rattle.ll_laws.specs.Attempt.{is_open}
 use Rattle.ll_engine.specs.declared.candidates.Predicate.{Predicate}
-use Rattle.ll_engine.specs.Reading.{read_form}
+use Rattle.ll_freeze.specs.Reading.{read_form}
 
 -- the predicate of a term, none where it has no head
 abbrev pub IsPredicate : Term → Option Predicate → Type 0

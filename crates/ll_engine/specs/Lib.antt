@@ -1,6 +1,4 @@
-pub mod Reading
-pub mod Shown
-pub mod Fits
+pub mod Attempts
 pub mod Leaves
 pub mod Seen
 pub mod Owed
@@ -14,4 +12,6 @@ pub mod Moves
 pub mod Steps
 pub mod Codes
 pub mod Opening
+pub mod Front
 pub mod Taking
+pub mod Numbers

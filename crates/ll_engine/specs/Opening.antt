@@ -10,8 +10,8 @@ use Rattle.ll_laws.specs.Valid.{Allowed, IsFormula, ClauseSide}
 use Rattle.ll_agenda.specs.declared.agenda.Top.{Top}
 use Rattle.ll_agenda.specs.Frames.{Frames, ShowsItems}
 use Rattle.ll_engine.specs.declared.open.Side.{Side}
-use Rattle.ll_engine.specs.declared.machine.Item.{Item}
-use Rattle.ll_engine.specs.declared.machine.Item.TheVariants.{Goal}
+use Rattle.ll_freeze.specs.declared.machine.Item.{Item}
+use Rattle.ll_freeze.specs.declared.machine.Item.TheVariants.{Goal}
 
 -- the formula is a clause, closed and well sorted
 abbrev pub IsClause : Form → Type 0

@@ -1,43 +1,24 @@
 -- What a stack of choice points owes, and the work that it still makes.
-use Rattle.std.specs.Prelude.{ℕ, zero, suc, ◌+◌, ◌≡◌, Bool, true, false, List, [], ◌∷◌, ◌++◌, Option, Some, None}
+use Rattle.std.specs.Prelude.{ℕ, zero, suc, ◌+◌, ◌≡◌, Bool, true, false, List, [], ◌∷◌, ◌++◌, None}
 use Rattle.ll_laws.specs.declared.Candidate.{Candidate}
 use Rattle.ll_laws.specs.declared.Event.{Event}
 use Rattle.ll_laws.specs.Module.{Setting}
 use Rattle.ll_laws.specs.State.{State, settle}
 use Rattle.ll_laws.specs.Attempt.{tries, attempt}
 use Rattle.ll_laws.specs.Search.{events, cost}
+use Rattle.ll_laws.specs.Tried.{number_from, tried_events, tried_cost}
 use Rattle.ll_laws.specs.Problem.{setting_of}
 use Rattle.ll_engine.specs.Seen.{Point, Spine, Owing}
-
--- the events of the state that a candidate gives, if it gives one
-abbrev pub events_from : (State → List Event) → Option State → List Event
-events_from f None = []
-events_from f (Some u) = f u
-
--- a number of the state that a candidate gives, if it gives one
-abbrev pub number_from : (State → ℕ) → Option State → ℕ
-number_from f None = 0
-number_from f (Some u) = f u
-
--- what candidates of the settled state t owe, where a branch may make n inferences after one of them
-abbrev pub owed_by : Setting → ℕ → State → List Candidate → List Event
-owed_by beside n t [] = []
-owed_by beside n t (c ∷ cs) = events_from (events beside n) (attempt beside t c) ++ owed_by beside n t cs
-
--- the inferences that they owe
-abbrev pub cost_by : Setting → ℕ → State → List Candidate → ℕ
-cost_by beside n t [] = 0
-cost_by beside n t (c ∷ cs) = number_from (cost beside n) (attempt beside t c) + cost_by beside n t cs
 
 -- what choice points owe, the newest first
 abbrev pub owed : Setting → List Point → List Event
 owed beside [] = []
-owed beside (p ∷ ps) = owed_by beside p.left p.state p.untried ++ owed beside ps
+owed beside (p ∷ ps) = tried_events beside p.left p.state p.untried ++ owed beside ps
 
 -- the inferences that choice points owe
 abbrev pub cost_left : Setting → List Point → ℕ
 cost_left beside [] = 0
-cost_left beside (p ∷ ps) = cost_by beside p.left p.state p.untried + cost_left beside ps
+cost_left beside (p ∷ ps) = tried_cost beside p.left p.state p.untried + cost_left beside ps
 
 -- 1 where there is a candidate
 abbrev pub one_if_some : List Candidate → ℕ

@@ -1,14 +1,14 @@
 -- Choice points that are machines of their own.
-use Rattle.std.specs.Prelude.{◌-◌, ◌<◌, ◌≡◌, Bool, true, false, List, reverse, map, All, Some}
+use Rattle.std.specs.Prelude.{◌-◌, ◌<◌, ◌≡◌, ◌≢◌, Bool, true, false, List, [], reverse, map, All, Some}
 use Rattle.std.specs.List.{Contains}
 use Rattle.ll_laws.specs.declared.Candidate.{Candidate}
 use Rattle.ll_laws.specs.Attempt.{tries}
 use Rattle.ll_laws.specs.Problem.{ProblemTree, start_of}
-use Rattle.ll_engine.specs.declared.machine.Machine.{Machine}
+use Rattle.ll_freeze.specs.declared.machine.Machine.{Machine}
 use Rattle.ll_engine.specs.declared.spine.Kept.{Kept}
 use Rattle.ll_engine.specs.declared.spine.Spine.{Spine as Stored}
-use Rattle.ll_engine.specs.Shown.{state_of}
-use Rattle.ll_engine.specs.Fits.{Fits}
+use Rattle.ll_freeze.specs.Shown.{state_of}
+use Rattle.ll_freeze.specs.Fits.{Fits}
 use Rattle.ll_engine.specs.Seen.{Point, Spine}
 use Rattle.ll_engine.specs.Owed.{put_point}
 use Rattle.ll_engine.specs.Turned.{is_empty, Chose}
@@ -39,10 +39,11 @@ pub record IsOpen (p : ProblemTree) (m : Machine) : Type 0 where
   pub goal : is_empty (state_of m).agenda ≡ false
   pub left : 0 < m.left
 
--- a choice point of a search of this problem
+-- a choice point of a search of this problem, with a candidate that was not tried yet
 pub record IsKept (p : ProblemTree) (k : Kept) : Type 0 where
   pub opened : IsOpen p k.machine
   pub tries : AreTries k.machine k.untried.items
+  pub some : k.untried.items ≢ []
 
 -- choice points of a search of this problem
 abbrev pub AreKept : ProblemTree → List Kept → Type 0

@@ -12,10 +12,10 @@ use Rattle.ll_laws.specs.Shown.{module_tree}
 use Rattle.ll_agenda.specs.Frames.{HasTop}
 use Rattle.ll_laws.specs.declared.Step.{Step}
 use Rattle.ll_laws.specs.declared.Step.TheVariants.{Plain}
-use Rattle.ll_engine.specs.declared.machine.Machine.{Machine}
-use Rattle.ll_engine.specs.declared.machine.Item.{Item}
-use Rattle.ll_engine.specs.declared.machine.Item.TheVariants.{Goal}
-use Rattle.ll_engine.specs.Shown.{items_of}
+use Rattle.ll_freeze.specs.declared.machine.Machine.{Machine}
+use Rattle.ll_freeze.specs.declared.machine.Item.{Item}
+use Rattle.ll_freeze.specs.declared.machine.Item.TheVariants.{Goal}
+use Rattle.ll_freeze.specs.Shown.{items_of}
 
 -- the later machine is the earlier one with these items in front of the rest, after one step more
 pub record GoesOn (old : Machine) (front rest : List Item) (step : Step) (new : Machine) : Type 0 where

@@ -1,26 +1,11 @@
--- An atom in front of an agenda, and what unification makes of a machine's bindings.
-use Rattle.std.specs.Prelude.{◌≡◌, ℕ, List, ◌∷◌, length, All, Option, Some, None}
+-- What unification makes of a machine's bindings.
+use Rattle.std.specs.Prelude.{◌≡◌, ℕ, List, length, All, Option, Some, None}
 use Rattle.ll_bank.specs.declared.At.{At}
-use Rattle.ll_bank.specs.declared.FormAt.{FormAt}
 use Rattle.ll_bank.specs.Term.{sub}
-use Rattle.ll_bank.specs.Form.{Atom}
-use Rattle.ll_bank.specs.Nodes.{Nodes, HasTerm, term_tree, form_tree}
+use Rattle.ll_bank.specs.Nodes.{Nodes}
 use Rattle.ll_laws.specs.Unify.{Solved}
-use Rattle.ll_agenda.specs.declared.agenda.Top.{Top}
-use Rattle.ll_agenda.specs.Frames.{HasTop, items_at}
-use Rattle.ll_engine.specs.declared.machine.Machine.{Machine}
-use Rattle.ll_engine.specs.declared.machine.Item.TheVariants.{Goal}
 use Rattle.ll_engine.specs.declared.take.Unified.{Unified}
-use Rattle.ll_engine.specs.Reading.{reading, HasValue}
-use Rattle.ll_engine.specs.Shown.{items_of}
-
--- the goal in front of the agenda is this atom, and this is the rest of the agenda behind it
-pub record HasAtom (m : Machine) (atom : At) (rest : Top) : Type 0 where
-  pub goal : FormAt
-  pub list : items_of m ≡ Goal goal ∷ items_at m.agenda rest
-  pub behind : HasTop m.agenda rest
-  pub inside : HasTerm m.bank atom.0
-  pub tree : form_tree m.bank goal.0 ≡ Atom (term_tree m.bank atom.0)
+use Rattle.ll_freeze.specs.Reading.{reading, HasValue}
 
 -- the bindings and levels are the old ones, followed by what unification finds
 pub record IsUnified (old new : Nodes) (bound : List (Option At)) (levels : List ℕ) (v : Solved) (u : Unified) : Type 0 where

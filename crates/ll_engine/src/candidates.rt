@@ -2,18 +2,43 @@
 ghost use Rattle.std.specs.Prelude.{◌≡◌, ◌+◌, ◌<◌, ◌++◌, true, length, All, IfOk, OnOk, map, flat_map};
 ghost use Rattle.ll_bank.specs.Nodes.{term_tree, form_tree, HasTerm, HasForm};
 ghost use Rattle.ll_laws.specs.Leaf.{ways};
-ghost use Rattle.ll_engine.specs.Reading.{read_term, read_form, HasValue};
-ghost use Rattle.ll_engine.specs.Shown.{shown_entry};
+ghost use Rattle.ll_freeze.specs.Reading.{read_term, read_form, HasValue};
+ghost use Rattle.ll_freeze.specs.Shown.{shown_entry, state_of};
+ghost use Rattle.ll_freeze.specs.Fits.{Fits};
 ghost use Rattle.ll_engine.specs.Leaves.{IsPredicate, has_predicate, heads, head_tries, open_tries};
-ghost use Rattle.ll_laws.specs.Attempt.{entry_tries, goal_tries};
+ghost use Rattle.ll_laws.specs.Attempt.{tries, entry_tries, goal_tries};
 ghost use Rattle.ll_laws.specs.Valid.{places_below, free_below};
 ghost use Rattle.ll_resources.specs.Seen.{resource};
 
 use crate::read::value_of;
 use ll_bank::{At, Bank, FormAt, FormNode, Head, OutOfMemory, TermView};
+use ll_freeze::{Item, Machine};
 use ll_laws::{Candidate, Kind};
 use ll_resources::{Context, Entry};
 use std::alloc::{AllocError, Global};
+
+/// The candidates for the goal in front, in the order in which they are tried; none where no goal is in front.
+pub fn candidates(machine: &Machine<'_>, alloc: Global) -> Result<Vec<Candidate>, OutOfMemory>
+    requires { Fits machine.now }
+    ensures { IfOk result (λ found. found.items ≡ tries (state_of machine.now)) }
+{
+    let Some((item, _)) = machine.agenda.item(machine.top) else {
+        return Ok(Vec::new(alloc));
+    };
+    match item {
+        Item::Goal(goal) => {
+            let found = goal_candidates(
+                alloc,
+                &machine.bank,
+                &machine.bound,
+                &machine.context,
+                goal,
+            )?;
+            Ok(found)
+        }
+        _ => Ok(Vec::new(alloc)),
+    }
+}
 
 /// A head with a number of arguments.
 #[derive(Clone, Copy, PartialEq, Eq)]

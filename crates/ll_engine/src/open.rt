@@ -7,9 +7,9 @@ ghost use Rattle.ll_laws.specs.Attempt.{vars_from};
 ghost use Rattle.ll_engine.specs.Opening.{IsClause, Opens, IsSide};
 
 use crate::candidates::count_leaves;
-use crate::machine::Item;
 use ll_agenda::{Agenda, Top};
 use ll_bank::{At, Bank, FormAt, FormNode, OutOfMemory};
+use ll_freeze::Item;
 use std::alloc::Global;
 
 /// A leaf that is open: its head, and the agenda with its premises in front.

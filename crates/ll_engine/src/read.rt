@@ -8,7 +8,7 @@ ghost use Rattle.ll_bank.specs.Term.{sub};
 ghost use Rattle.ll_bank.specs.Nodes.{term_tree, term_trees, AllInTerms, HasTerm, ShowsTerm, Extends, places};
 ghost use Rattle.ll_bank.specs.Walk.{arguments_of, term_node_at, IsInOrder, HasImage, ShowsAt};
 ghost use Rattle.ll_laws.specs.Attempt.{vars_from};
-ghost use Rattle.ll_engine.specs.Reading.{reading, read_term, HasValue};
+ghost use Rattle.ll_freeze.specs.Reading.{reading, read_term, HasValue};
 
 use ll_bank::{At, Bank, Head, OutOfMemory, TermView};
 use std::alloc::Global;

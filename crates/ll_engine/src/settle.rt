@@ -1,15 +1,15 @@
 //! Settling: the ends in front of an agenda are worked off.
 ghost use Rattle.std.specs.Prelude.{◌≡◌, ◌∷◌, IfOk, OnOk};
 ghost use Rattle.ll_agenda.specs.Frames.{HasTop, items_at};
-ghost use Rattle.ll_engine.specs.Shown.{items_of};
-ghost use Rattle.ll_engine.specs.Fits.{Fits};
+ghost use Rattle.ll_freeze.specs.Shown.{items_of};
+ghost use Rattle.ll_freeze.specs.Fits.{Fits};
 ghost use Rattle.ll_engine.specs.Calls.{SettlesOr, SameSearch};
 ghost use Rattle.ll_engine.specs.Going.{Going, Reaches, IsDone, Works};
-ghost use Rattle.ll_engine.specs.declared.machine.Item.TheVariants.{Mid};
+ghost use Rattle.ll_freeze.specs.declared.machine.Item.TheVariants.{Mid};
 
-use crate::machine::{Item, Machine};
 use ll_agenda::Top;
 use ll_bank::OutOfMemory;
+use ll_freeze::{Item, Machine};
 use ll_resources::Saved;
 
 // What working off the item in front came to.
@@ -22,80 +22,78 @@ enum Worked {
     Failed,
 }
 
-impl<'p> Machine<'p> {
-    /// Works off the ends in front; false where one of them fails.
-    pub fn settle(&mut self) -> Result<bool, OutOfMemory>
-        requires fits { Fits self.old }
-        ensures settles { IfOk result (λ ok. SettlesOr self.old ok self.new) }
-        ensures same { IfOk result (λ _. SameSearch self.old self.new) }
-    {
-        while let Some((item, rest)) = self.agenda.item(self.top) {
-            match self.work_off(item, rest)? {
-                Worked::Off => {}
-                Worked::Settled => return Ok(true),
-                Worked::Failed => return Ok(false),
-            }
+/// Works off the ends in front; false where one of them fails.
+pub fn settle(machine: &mut Machine<'_>) -> Result<bool, OutOfMemory>
+    requires fits { Fits machine.old }
+    ensures settles { IfOk result (λ ok. SettlesOr machine.old ok machine.new) }
+    ensures same { IfOk result (λ _. SameSearch machine.old machine.new) }
+{
+    while let Some((item, rest)) = machine.agenda.item(machine.top) {
+        match work_off(machine, item, rest)? {
+            Worked::Off => {}
+            Worked::Settled => return Ok(true),
+            Worked::Failed => return Ok(false),
         }
-        Ok(true)
     }
+    Ok(true)
+}
 
-    // Works off the item in front, if it is an end.
-    fn work_off(&mut self, item: Item, rest: Top) -> Result<Worked, OutOfMemory>
-        requires going { Going self.old self.old }
-        requires front { items_of self.old ≡ item ∷ items_at self.old.agenda rest }
-        requires rest { HasTop self.old.agenda rest }
-        ensures { IfOk result (λ worked. Works self.old worked self.new) }
-    {
-        match item {
-            Item::Goal(_) => Ok(Worked::Settled),
-            Item::LolliEnd(saved) => {
-                if !self.context.close(saved)? {
-                    return Ok(Worked::Failed);
-                }
-                self.top = rest;
-                Ok(Worked::Off)
+// Works off the item in front, if it is an end.
+fn work_off(machine: &mut Machine<'_>, item: Item, rest: Top) -> Result<Worked, OutOfMemory>
+    requires going { Going machine.old machine.old }
+    requires front { items_of machine.old ≡ item ∷ items_at machine.old.agenda rest }
+    requires rest { HasTop machine.old.agenda rest }
+    ensures { IfOk result (λ worked. Works machine.old worked machine.new) }
+{
+    match item {
+        Item::Goal(_) => Ok(Worked::Settled),
+        Item::LolliEnd(saved) => {
+            if !machine.context.close(saved)? {
+                return Ok(Worked::Failed);
             }
-            Item::ImpEnd => {
-                if !self.context.close(false)? {
-                    return Ok(Worked::Failed);
-                }
-                self.top = rest;
-                Ok(Worked::Off)
+            machine.top = rest;
+            Ok(Worked::Off)
+        }
+        Item::ImpEnd => {
+            if !machine.context.close(false)? {
+                return Ok(Worked::Failed);
             }
-            Item::Mid(saved) => {
-                self.second_side(saved, rest)?;
-                Ok(Worked::Settled)
+            machine.top = rest;
+            Ok(Worked::Off)
+        }
+        Item::Mid(saved) => {
+            second_side(machine, saved, rest)?;
+            Ok(Worked::Settled)
+        }
+        Item::WithEnd(saved, half) => {
+            if !machine.context.with_end(saved, half)? {
+                return Ok(Worked::Failed);
             }
-            Item::WithEnd(saved, half) => {
-                if !self.context.with_end(saved, half)? {
-                    return Ok(Worked::Failed);
-                }
-                self.top = rest;
-                Ok(Worked::Off)
-            }
-            Item::BangEnd(saved) => {
-                self.context.bang_end(saved)?;
-                self.top = rest;
-                Ok(Worked::Off)
-            }
+            machine.top = rest;
+            Ok(Worked::Off)
+        }
+        Item::BangEnd(saved) => {
+            machine.context.bang_end(saved)?;
+            machine.top = rest;
+            Ok(Worked::Off)
         }
     }
-    // Works off the middle of `&`, which is in front: its second side is next.
-    fn second_side(&mut self, saved: Saved, rest: Top) -> Result<(), OutOfMemory>
-        requires going { Going self.old self.old }
-        requires front { items_of self.old ≡ Mid saved ∷ items_at self.old.agenda rest }
-        requires rest { HasTop self.old.agenda rest }
-        ensures { OnOk result (Reaches self.old self.new × IsDone self.new) }
-    {
-        let Some((Item::Goal(goal), after)) = self.agenda.item(rest) else {
-            unreachable!()
-        };
-        let Some((Item::WithEnd(before, _), behind)) = self.agenda.item(after) else {
-            unreachable!()
-        };
-        let half = self.context.with_mid(saved)?;
-        let end = self.agenda.push(Item::WithEnd(before, half), behind)?;
-        self.top = self.agenda.push(Item::Goal(goal), end)?;
-        Ok(())
-    }
+}
+// Works off the middle of `&`, which is in front: its second side is next.
+fn second_side(machine: &mut Machine<'_>, saved: Saved, rest: Top) -> Result<(), OutOfMemory>
+    requires going { Going machine.old machine.old }
+    requires front { items_of machine.old ≡ Mid saved ∷ items_at machine.old.agenda rest }
+    requires rest { HasTop machine.old.agenda rest }
+    ensures { OnOk result (Reaches machine.old machine.new × IsDone machine.new) }
+{
+    let Some((Item::Goal(goal), after)) = machine.agenda.item(rest) else {
+        unreachable!()
+    };
+    let Some((Item::WithEnd(before, _), behind)) = machine.agenda.item(after) else {
+        unreachable!()
+    };
+    let half = machine.context.with_mid(saved)?;
+    let end = machine.agenda.push(Item::WithEnd(before, half), behind)?;
+    machine.top = machine.agenda.push(Item::Goal(goal), end)?;
+    Ok(())
 }

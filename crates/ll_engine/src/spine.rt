@@ -2,17 +2,22 @@
 ghost use Rattle.std.specs.Prelude.{◌≡◌, ◌<◌, true, false, IfOk};
 ghost use Rattle.ll_laws.specs.Valid.{IsValid};
 ghost use Rattle.ll_laws.specs.Problem.{start_of};
-ghost use Rattle.ll_engine.specs.Shown.{state_of};
-ghost use Rattle.ll_engine.specs.Fits.{Fits};
+ghost use Rattle.ll_freeze.specs.Shown.{state_of};
+ghost use Rattle.ll_freeze.specs.Fits.{Fits};
 ghost use Rattle.ll_engine.specs.Pointed.{spine_of, IsSound, IsOpen, AreKept, AreTries, Puts, KeepsKept, ChoseOf};
 ghost use Rattle.ll_engine.specs.Turned.{has_none, is_empty, answers, starting, Settles, Expands, Retries};
 
-use crate::machine::Machine;
+use crate::answer::{answers, branch, is_empty};
+use crate::attempt::attempt;
+use crate::candidates::candidates;
+use crate::settle::settle;
 use ll_bank::OutOfMemory;
+use ll_freeze::Machine;
 use ll_laws::{Branch, Candidate, Problem};
 use std::alloc::Global;
+use std::collections::VecDeque;
 
-/// A choice point: a settled machine with a goal in front, and the candidates not tried yet, the first one last.
+/// A choice point: a settled machine with a goal in front, and the candidates not tried yet, the first one last. There is one.
 #[derive(Drop)]
 pub struct Kept<'p> {
     pub machine: Machine<'p>,
@@ -25,8 +30,8 @@ pub struct Spine<'p> {
     pub alloc: Global,
     pub problem: &'p Problem,
     pub machine: Machine<'p>,
-    /// The newest one last.
-    pub points: Vec<Kept<'p>>,
+    /// The newest one last. Each has an untried candidate.
+    pub points: VecDeque<Kept<'p>>,
 }
 
 impl<'p> Spine<'p> {
@@ -41,7 +46,7 @@ impl<'p> Spine<'p> {
             alloc,
             problem,
             machine,
-            points: Vec::new(alloc),
+            points: VecDeque::new(alloc),
         })
     }
 
@@ -51,7 +56,7 @@ impl<'p> Spine<'p> {
         ensures sound { IfOk result (λ ok. IsSound ok self.new) }
         ensures settles { IfOk result (λ ok. Settles (spine_of self.old) ok (spine_of self.new)) }
     {
-        let ok = self.machine.settle()?;
+        let ok = settle(&mut self.machine)?;
         Ok(ok)
     }
 
@@ -60,7 +65,7 @@ impl<'p> Spine<'p> {
         requires sound { IsSound true self.now }
         ensures { result ≡ is_empty (state_of self.now.machine).agenda }
     {
-        self.machine.is_empty()
+        is_empty(&self.machine)
     }
 
     /// Whether a state with nothing left to prove is an answer.
@@ -68,7 +73,7 @@ impl<'p> Spine<'p> {
         requires sound { IsSound true self.now }
         ensures { result ≡ answers (state_of self.now.machine) }
     {
-        self.machine.answers()
+        answers(&self.machine)
     }
 
     /// How many inferences the branch may still make.
@@ -83,7 +88,7 @@ impl<'p> Spine<'p> {
         requires sound { IsSound true self.now }
         ensures { IfOk result (λ b. b ≡ record { terms = (state_of self.now.machine).terms; steps = (state_of self.now.machine).steps }) }
     {
-        self.machine.branch(self.alloc)
+        branch(&self.machine, self.alloc)
     }
 
     /// Takes the first goal apart by its first candidate, and keeps the others in a choice point; false where it gives nothing.
@@ -94,7 +99,7 @@ impl<'p> Spine<'p> {
         ensures sound { IfOk result (λ running. IsSound running self.new) }
         ensures expands { IfOk result (λ running. Expands (spine_of self.old) running (spine_of self.new)) }
     {
-        let mut untried = self.machine.candidates(self.alloc)?;
+        let mut untried = candidates(&self.machine, self.alloc)?;
         untried.reverse();
         let running = self.choose(untried)?;
         Ok(running)
@@ -114,7 +119,7 @@ impl<'p> Spine<'p> {
         ensures sound { IfOk result (λ running. IsSound running self.new) }
         ensures retries { IfOk result (λ running. Retries (spine_of self.old) running (spine_of self.new)) }
     {
-        match self.points.pop() {
+        match self.points.pop_back() {
             None => unreachable!(),
             Some(kept) => {
                 self.machine = kept.machine;
@@ -137,7 +142,7 @@ impl<'p> Spine<'p> {
             None => Ok(false),
             Some(candidate) => {
                 keep(&mut self.points, &self.machine, untried)?;
-                let running = self.machine.attempt(self.alloc, candidate)?;
+                let running = attempt(&mut self.machine, self.alloc, candidate)?;
                 Ok(running)
             }
         }
@@ -146,7 +151,7 @@ impl<'p> Spine<'p> {
 
 // Keeps a machine and its untried candidates, the first one last, in a choice point, if there are any.
 fn keep<'p>(
-    points: &mut Vec<Kept<'p>>,
+    points: &mut VecDeque<Kept<'p>>,
     machine: &Machine<'p>,
     untried: Vec<Candidate>,
 ) -> Result<(), OutOfMemory>
@@ -158,6 +163,6 @@ fn keep<'p>(
         return Ok(());
     }
     let machine = machine.image()?;
-    points.push(Kept { machine, untried })?;
+    points.push_back(Kept { machine, untried })?;
     Ok(())
 }

@@ -4,18 +4,20 @@ ghost use Rattle.ll_bank.specs.Nodes.{HasTerm, AllInTerms, Extends, term_trees, 
 ghost use Rattle.ll_laws.specs.Leaf.{ways};
 ghost use Rattle.ll_laws.specs.Attempt.{entry_at, vars_from};
 ghost use Rattle.ll_laws.specs.Unify.{mgu, vars_below};
-ghost use Rattle.ll_engine.specs.Reading.{read_term, HasValue};
-ghost use Rattle.ll_engine.specs.Fits.{Fits, Attempts};
-ghost use Rattle.ll_engine.specs.Taking.{HasAtom, Unifies};
+ghost use Rattle.ll_freeze.specs.Reading.{read_term, HasValue};
+ghost use Rattle.ll_freeze.specs.Fits.{Fits};
+ghost use Rattle.ll_engine.specs.Attempts.{Attempts};
+ghost use Rattle.ll_engine.specs.Front.{IsFront};
+ghost use Rattle.ll_engine.specs.Taking.{Unifies};
 ghost use Rattle.ll_resources.specs.Resources.{after_pick};
 ghost use Rattle.ll_resources.specs.Seen.{resource};
 
 use crate::candidates::count_leaves;
-use crate::machine::Machine;
 use crate::open::open_leaf;
 use crate::read::{read_all, rebound};
 use ll_agenda::Top;
-use ll_bank::{At, Bank, FormAt, OutOfMemory};
+use ll_bank::{At, Bank, FormAt, FormNode, OutOfMemory};
+use ll_freeze::Machine;
 use ll_laws::{Candidate, Step};
 use ll_resources::{Context, Entry};
 use ll_unify::mgu;
@@ -102,81 +104,79 @@ pub fn unify_under(
     }))
 }
 
-impl<'p> Machine<'p> {
-    /// Takes the leaf that a candidate names for the atom in front of the agenda, which has `rest` behind it.
-    ///
-    /// False where there is no such leaf, or where its head and the atom don't unify. Then, and after a refusal, the machine is spent.
-    pub fn take_leaf(
-        &mut self,
-        alloc: Global,
-        atom: At,
-        rest: Top,
-        candidate: Candidate,
-    ) -> Result<bool, OutOfMemory>
-        requires fits { Fits self.old }
-        requires left { 0 < self.old.left }
-        requires front { HasAtom self.old atom rest }
-        ensures { IfOk result (Attempts self.old candidate self.new) }
-    {
-        let Some(entry) = entry_with(&self.context, candidate.label) else {
-            return Ok(false);
-        };
-        let leaves = count_leaves(alloc, &self.bank, entry.clause)?;
-        if candidate.leaf >= leaves {
-            return Ok(false);
-        }
-        let done = self.take_leaf_of(alloc, atom, rest, candidate, entry)?;
-        Ok(done)
+/// Takes the leaf that a candidate names for the atom in front of the agenda, which has `rest` behind it.
+///
+/// False where there is no such leaf, or where its head and the atom don't unify. Then, and after a refusal, the machine is spent.
+pub fn take_leaf(
+    machine: &mut Machine<'_>,
+    alloc: Global,
+    atom: At,
+    rest: Top,
+    candidate: Candidate,
+) -> Result<bool, OutOfMemory>
+    requires fits { Fits machine.old }
+    requires left { 0 < machine.old.left }
+    requires front { IsFront machine.old (FormNode.Atom atom) rest }
+    ensures { IfOk result (Attempts machine.old candidate machine.new) }
+{
+    let Some(entry) = entry_with(&machine.context, candidate.label) else {
+        return Ok(false);
+    };
+    let leaves = count_leaves(alloc, &machine.bank, entry.clause)?;
+    if candidate.leaf >= leaves {
+        return Ok(false);
     }
+    let done = take_leaf_of(machine, alloc, atom, rest, candidate, entry)?;
+    Ok(done)
+}
 
-    /// Takes a leaf of an entry for the atom in front, as `take_leaf` does.
-    fn take_leaf_of(
-        &mut self,
-        alloc: Global,
-        atom: At,
-        rest: Top,
-        candidate: Candidate,
-        entry: Entry<FormAt>,
-    ) -> Result<bool, OutOfMemory>
-        requires fits { Fits self.old }
-        requires left { 0 < self.old.left }
-        requires front { HasAtom self.old atom rest }
-        requires found { entry_at self.old.context.present.entries candidate.label ≡ Some (resource entry) }
-        requires among { candidate.leaf < length (ways (form_tree self.old.bank entry.clause.0)) }
-        ensures { IfOk result (Attempts self.old candidate self.new) }
-    {
-        let label = candidate.label;
-        let leaf = candidate.leaf;
-        let before = self.terms.len();
-        let opened = open_leaf(
-            alloc,
-            &mut self.bank,
-            &mut self.agenda,
-            &mut self.terms,
-            entry.clause,
-            leaf,
-            rest,
-        )?;
-        let count = self.terms.len() - before;
-        add_levels(&mut self.levels, self.eigens, count)?;
-        let found = unify_under(
-            alloc,
-            &mut self.bank,
-            &self.bound,
-            &self.terms,
-            &self.levels,
-            atom,
-            opened.head,
-        )?;
-        let Some(unified) = found else {
-            return Ok(false);
-        };
-        use_entry(&mut self.context, label, entry)?;
-        self.steps.push(Step::Clause { label, leaf })?;
-        self.bound = unified.bound;
-        self.levels = unified.levels;
-        self.top = opened.top;
-        self.left -= 1;
-        Ok(true)
-    }
+/// Takes a leaf of an entry for the atom in front, as `take_leaf` does.
+fn take_leaf_of(
+    machine: &mut Machine<'_>,
+    alloc: Global,
+    atom: At,
+    rest: Top,
+    candidate: Candidate,
+    entry: Entry<FormAt>,
+) -> Result<bool, OutOfMemory>
+    requires fits { Fits machine.old }
+    requires left { 0 < machine.old.left }
+    requires front { IsFront machine.old (FormNode.Atom atom) rest }
+    requires found { entry_at machine.old.context.present.entries candidate.label ≡ Some (resource entry) }
+    requires among { candidate.leaf < length (ways (form_tree machine.old.bank entry.clause.0)) }
+    ensures { IfOk result (Attempts machine.old candidate machine.new) }
+{
+    let label = candidate.label;
+    let leaf = candidate.leaf;
+    let before = machine.terms.len();
+    let opened = open_leaf(
+        alloc,
+        &mut machine.bank,
+        &mut machine.agenda,
+        &mut machine.terms,
+        entry.clause,
+        leaf,
+        rest,
+    )?;
+    let count = machine.terms.len() - before;
+    add_levels(&mut machine.levels, machine.eigens, count)?;
+    let found = unify_under(
+        alloc,
+        &mut machine.bank,
+        &machine.bound,
+        &machine.terms,
+        &machine.levels,
+        atom,
+        opened.head,
+    )?;
+    let Some(unified) = found else {
+        return Ok(false);
+    };
+    use_entry(&mut machine.context, label, entry)?;
+    machine.steps.push(Step::Clause { label, leaf })?;
+    machine.bound = unified.bound;
+    machine.levels = unified.levels;
+    machine.top = opened.top;
+    machine.left -= 1;
+    Ok(true)
 }

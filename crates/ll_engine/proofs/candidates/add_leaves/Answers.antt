@@ -2,7 +2,7 @@ use Rattle.std.proofs.Common.{◌<◌, ◌++◌, ap, sym, subst, ◌∙◌, arit
 use Rattle.std.proofs.lemmas.List.Elements.{All-push}
 use Rattle.ll_bank.specs.declared.FormAt.{FormAt}
 use Rattle.ll_bank.specs.Form.{sub_form}
-use Rattle.ll_engine.specs.Reading.{reading, read_term}
+use Rattle.ll_freeze.specs.Reading.{reading, read_term}
 use Rattle.ll_engine.specs.Leaves.{heads, head_tries, waiting_heads}
 use Rattle.ll_engine.proofs.CandidateLemmas.{heads_seen, no_heads, walk_past, walk_in, walk_both, leaf_found, leaf_passed, All-front, All-end}
 use Rattle.ll_engine.proofs.candidates.add_leaves.Goals as goal

@@ -1,5 +1,5 @@
 use Rattle.std.proofs.Common.{◌≡◌, ◌<◌, ◌++◌, All, length}
-use Rattle.ll_engine.specs.Reading.{read_form}
+use Rattle.ll_freeze.specs.Reading.{read_form}
 use Rattle.ll_engine.specs.Leaves.{heads, head_tries, waiting_heads, waiting_size}
 use Rattle.ll_engine.proofs.candidates.add_leaves.Given as goal
 

@@ -1,8 +1,8 @@
 use Rattle.std.proofs.Common.{ap, sym, ◌∙◌, arith, map, flat_map, ◌++◌, ◌+◌}
 use Rattle.std.proofs.lemmas.List.{take_all}
 use Rattle.ll_resources.specs.Seen.{resource}
-use Rattle.ll_engine.specs.Reading.{read_term}
-use Rattle.ll_engine.specs.Shown.{shown_entry}
+use Rattle.ll_freeze.specs.Reading.{read_term}
+use Rattle.ll_freeze.specs.Shown.{shown_entry}
 use Rattle.ll_engine.specs.Leaves.{open_tries}
 use Rattle.ll_engine.proofs.LeafLemmas.{no_tries, head_free, tries_by_predicate, flat_more}
 use Rattle.ll_engine.proofs.candidates.atom_candidates.Goals as goal

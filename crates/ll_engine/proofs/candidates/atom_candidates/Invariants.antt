@@ -1,5 +1,5 @@
 use Rattle.std.proofs.Common.{◌≡◌, map, flat_map, take}
-use Rattle.ll_engine.specs.Shown.{shown_entry}
+use Rattle.ll_freeze.specs.Shown.{shown_entry}
 use Rattle.ll_engine.specs.Leaves.{open_tries}
 use Rattle.ll_engine.proofs.candidates.atom_candidates.Given as goal
 

@@ -1,5 +1,5 @@
 use Rattle.ll_bank.specs.Nodes.{term_tree}
-use Rattle.ll_engine.specs.Reading.{reading}
+use Rattle.ll_freeze.specs.Reading.{reading}
 use Rattle.ll_engine.proofs.CandidateLemmas.{predicate_read}
 use Rattle.ll_engine.proofs.candidates.predicate_of.Goals as goal
 

@@ -1,7 +1,7 @@
 use Rattle.std.proofs.Common.{rules, sym, subst, ◌≡◌, true, false, [], ◌∷◌}
 use Rattle.ll_laws.specs.declared.Event.TheVariants.{Answer}
 use Rattle.ll_laws.specs.Answered.{Answered}
-use Rattle.ll_engine.specs.Shown.{state_of}
+use Rattle.ll_freeze.specs.Shown.{state_of}
 use Rattle.ll_engine.specs.Pointed.{spine_of}
 use Rattle.ll_engine.specs.Turned.{Turned}
 use Rattle.ll_engine.proofs.Turns.{turned_fails, turned_over, turned_answer, turned_reached, turned_expand}

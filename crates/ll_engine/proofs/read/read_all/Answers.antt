@@ -7,7 +7,7 @@ use Rattle.ll_bank.specs.Nodes.{term_tree}
 use Rattle.ll_bank.specs.Walk.{IsInOrder}
 use Rattle.ll_bank.proofs.Trees.{Extends-refl}
 use Rattle.ll_bank.proofs.ImageLemmas.{copying_begins, copying_more}
-use Rattle.ll_engine.specs.Reading.{reading}
+use Rattle.ll_freeze.specs.Reading.{reading}
 use Rattle.ll_engine.proofs.ReadLemmas.{arguments_read, read_same, shows_as, roots_found, read_inside, read_shown}
 use Rattle.ll_engine.proofs.read.read_all.Goals as goal
 

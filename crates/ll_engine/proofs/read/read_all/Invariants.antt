@@ -4,7 +4,7 @@ use Rattle.std.specs.BTreeMap.{get}
 use Rattle.ll_bank.specs.Term.{sub}
 use Rattle.ll_bank.specs.Nodes.{term_tree}
 use Rattle.ll_bank.specs.Walk.{IsCopying}
-use Rattle.ll_engine.specs.Reading.{reading}
+use Rattle.ll_freeze.specs.Reading.{reading}
 use Rattle.ll_engine.proofs.read.read_all.Given as goal
 
 abbrev pub invariant-loop-place : goal.invariant-loop-place

@@ -7,7 +7,7 @@ use Rattle.ll_bank.specs.Nodes.{term_tree, term_trees, ShowsTerm}
 use Rattle.ll_bank.specs.Walk.{ShowsAt}
 use Rattle.ll_bank.proofs.Trees.{Extends-refl}
 use Rattle.ll_bank.proofs.ImageLemmas.{shown_images, some_images, each_image}
-use Rattle.ll_engine.specs.Reading.{reading}
+use Rattle.ll_freeze.specs.Reading.{reading}
 use Rattle.ll_engine.proofs.ReadLemmas.{unchanged, rebuilt, map_shows}
 use Rattle.ll_engine.proofs.read.read_one.Goals as goal
 

@@ -1,5 +1,5 @@
 use Rattle.std.proofs.Common.{ap, sym, subst, ◌∙◌, map, All, length}
-use Rattle.ll_engine.specs.Reading.{reading, read_term, HasValue}
+use Rattle.ll_freeze.specs.Reading.{reading, read_term, HasValue}
 use Rattle.ll_engine.proofs.ReboundLemmas.{as_entries, entries_inside, reads_both}
 use Rattle.ll_engine.proofs.read.rebound.Goals as goal
 

@@ -7,7 +7,7 @@ use Rattle.ll_bank.specs.declared.At.{At}
 use Rattle.ll_bank.specs.Nodes.{AllInTerms, term_trees}
 use Rattle.ll_bank.proofs.Trees.{Extends-trans, AllInTerms-extends, HasTerm-extends, term_trees-extends}
 use Rattle.ll_laws.specs.Attempt.{vars_from}
-use Rattle.ll_engine.specs.Reading.{reading, read_term, HasValue}
+use Rattle.ll_freeze.specs.Reading.{reading, read_term, HasValue}
 use Rattle.ll_engine.proofs.ReadLemmas.{values_extend}
 use Rattle.ll_engine.proofs.UnifiedLemmas.{length_variables, one_long, one_below, entries_values, left_read, right_read, none_unifies, some_unifies}
 use Rattle.ll_engine.proofs.take.unify_under.Goals as goal

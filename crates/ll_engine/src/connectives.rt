@@ -1,0 +1,153 @@
+//! Inferences on connectives. Each takes the goal in front of the agenda apart, which has `rest` behind it.
+//!
+//! The answer is true, as each of these goals gives a state. After a refusal the machine is spent.
+ghost use Rattle.std.specs.Prelude.{◌<◌, IfOk};
+ghost use Rattle.ll_laws.specs.declared.Candidate.{Candidate};
+ghost use Rattle.ll_freeze.specs.Fits.{Fits};
+ghost use Rattle.ll_engine.specs.Attempts.{Attempts};
+ghost use Rattle.ll_engine.specs.Front.{IsFront};
+
+use crate::attempt::go_on;
+use ll_agenda::Top;
+use ll_bank::{FormAt, FormNode, OutOfMemory};
+use ll_freeze::{Item, Machine};
+use ll_laws::{Candidate, Kind, Step};
+
+/// Takes `true`: the goal goes.
+pub fn take_one(machine: &mut Machine<'_>, rest: Top) -> Result<bool, OutOfMemory>
+    requires fits { Fits machine.old }
+    requires left { 0 < machine.old.left }
+    requires front { IsFront machine.old FormNode.One rest }
+    ensures { (candidate : Candidate) → IfOk result (Attempts machine.old candidate machine.new) }
+{
+    go_on(machine, &[], rest, Step::Plain)?;
+    Ok(true)
+}
+
+/// Takes `erase`: the goal goes, and what is left may be left.
+pub fn take_top(machine: &mut Machine<'_>, rest: Top) -> Result<bool, OutOfMemory>
+    requires fits { Fits machine.old }
+    requires left { 0 < machine.old.left }
+    requires front { IsFront machine.old FormNode.Top rest }
+    ensures { (candidate : Candidate) → IfOk result (Attempts machine.old candidate machine.new) }
+{
+    machine.context.erase()?;
+    go_on(machine, &[], rest, Step::Plain)?;
+    Ok(true)
+}
+
+/// Takes `first , second`: both come in front.
+pub fn take_tensor(
+    machine: &mut Machine<'_>,
+    first: FormAt,
+    second: FormAt,
+    rest: Top,
+) -> Result<bool, OutOfMemory>
+    requires fits { Fits machine.old }
+    requires left { 0 < machine.old.left }
+    requires front { IsFront machine.old (FormNode.Tensor first second) rest }
+    ensures { (candidate : Candidate) → IfOk result (Attempts machine.old candidate machine.new) }
+{
+    let items = [Item::Goal(first), Item::Goal(second)];
+    go_on(machine, &items, rest, Step::Plain)?;
+    Ok(true)
+}
+
+/// Takes `left ; right`: the side that the candidate names comes in front.
+pub fn take_plus(
+    machine: &mut Machine<'_>,
+    left: FormAt,
+    right: FormAt,
+    rest: Top,
+    candidate: Candidate,
+) -> Result<bool, OutOfMemory>
+    requires fits { Fits machine.old }
+    requires left { 0 < machine.old.left }
+    requires front { IsFront machine.old (FormNode.Plus left right) rest }
+    ensures { IfOk result (Attempts machine.old candidate machine.new) }
+{
+    if candidate.leaf == 0 {
+        go_on(machine, &[Item::Goal(left)], rest, Step::Left)?;
+        return Ok(true);
+    }
+    go_on(machine, &[Item::Goal(right)], rest, Step::Right)?;
+    Ok(true)
+}
+
+/// Takes `first & second`: both come in front, with the resources from before for each.
+pub fn take_with(
+    machine: &mut Machine<'_>,
+    first: FormAt,
+    second: FormAt,
+    rest: Top,
+) -> Result<bool, OutOfMemory>
+    requires fits { Fits machine.old }
+    requires left { 0 < machine.old.left }
+    requires front { IsFront machine.old (FormNode.With first second) rest }
+    ensures { (candidate : Candidate) → IfOk result (Attempts machine.old candidate machine.new) }
+{
+    let saved = machine.context.save()?;
+    let items = [
+        Item::Goal(first),
+        Item::Mid(saved),
+        Item::Goal(second),
+        Item::WithEnd(saved, saved),
+    ];
+    go_on(machine, &items, rest, Step::Plain)?;
+    Ok(true)
+}
+
+/// Takes `{ body }`: it comes in front, with no live entry.
+pub fn take_bang(machine: &mut Machine<'_>, body: FormAt, rest: Top) -> Result<bool, OutOfMemory>
+    requires fits { Fits machine.old }
+    requires left { 0 < machine.old.left }
+    requires front { IsFront machine.old (FormNode.Bang body) rest }
+    ensures { (candidate : Candidate) → IfOk result (Attempts machine.old candidate machine.new) }
+{
+    let saved = machine.context.save()?;
+    machine.context.bang()?;
+    let items = [Item::Goal(body), Item::BangEnd(saved)];
+    go_on(machine, &items, rest, Step::Plain)?;
+    Ok(true)
+}
+
+/// Takes `clause -o body`: the body comes in front, with the clause as a linear entry.
+pub fn take_lolli(
+    machine: &mut Machine<'_>,
+    clause: FormAt,
+    body: FormAt,
+    rest: Top,
+) -> Result<bool, OutOfMemory>
+    requires fits { Fits machine.old }
+    requires left { 0 < machine.old.left }
+    requires front { IsFront machine.old (FormNode.Lolli clause body) rest }
+    ensures { (candidate : Candidate) → IfOk result (Attempts machine.old candidate machine.new) }
+{
+    let flag = machine.context.flag();
+    machine.context.load(Kind::Linear, clause)?;
+    let items = [Item::Goal(body), Item::LolliEnd(flag)];
+    go_on(machine, &items, rest, Step::Plain)?;
+    Ok(true)
+}
+
+/// Takes `clause => body`: the body comes in front, with the clause as an unbounded entry.
+pub fn take_imp(
+    machine: &mut Machine<'_>,
+    clause: FormAt,
+    body: FormAt,
+    rest: Top,
+) -> Result<bool, OutOfMemory>
+    requires fits { Fits machine.old }
+    requires left { 0 < machine.old.left }
+    requires front { IsFront machine.old (FormNode.Imp clause body) rest }
+    ensures { (candidate : Candidate) → IfOk result (Attempts machine.old candidate machine.new) }
+{
+    machine.context.load(Kind::Unbounded, clause)?;
+    go_on(
+        machine,
+        &[Item::Goal(body), Item::ImpEnd],
+        rest,
+        Step::Plain,
+    )?;
+    Ok(true)
+}

@@ -1,0 +1,203 @@
+-- The machine in which a search starts.
+use Rattle.std.proofs.Common.{◌≡◌, ℕ, zero, suc, ◌+◌, ◌≤◌, refl, ap, sym, ◌∙◌, subst, true, List, [], ◌∷◌, ◌++◌, map, length, replicate, arith, All, slice_index_or}
+use Rattle.std.proofs.lemmas.List.{map-append, length-map, length-replicate}
+use Rattle.std.proofs.lemmas.List.Elements.{All-nil, All-cons, All-head, All-tail, All-push, All-weaker}
+use Rattle.std.specs.Prelude.{Option, None}
+use Rattle.ll_bank.specs.declared.At.{At}
+use Rattle.ll_bank.specs.declared.FormAt.{FormAt}
+use Rattle.ll_bank.specs.Term.{Term, Var, sub}
+use Rattle.ll_bank.specs.Form.{Form, Top, One, Atom, With, Tensor, Plus, Bang, Lolli, Imp, Forall, Exists, Use, Num, sub_form}
+use Rattle.ll_bank.specs.Nodes.{Nodes, HasTerm, HasForm, AllInTerms, Extends, ShowsTerm, term_tree, term_trees, form_tree}
+use Rattle.ll_bank.proofs.Trees.{HasForm-extends, form_tree-extends, AllInTerms-extends, term_trees-extends}
+use Rattle.ll_laws.specs.declared.Clause.{Clause}
+use Rattle.ll_laws.specs.declared.Kind.{Kind}
+use Rattle.ll_laws.specs.Module.{ClauseTree, ModuleTree}
+use Rattle.ll_laws.specs.Problem.{ProblemTree, setting_of, start_of}
+use Rattle.ll_laws.specs.Search.{program_entries}
+use Rattle.ll_laws.specs.Settle.{Entry, Goal as GoalOf}
+use Rattle.ll_laws.specs.State.{State}
+use Rattle.ll_laws.specs.Shown.{clause_tree, module_tree, HasClauses, HasModules}
+use Rattle.ll_laws.specs.declared.Module.{Module}
+use Rattle.ll_laws.specs.Attempt.{is_linear, vars_from}
+use Rattle.ll_laws.specs.Valid.{IsValid, IsFormula, AreClauses, Allowed, GoalSide, ClauseSide, given}
+use Rattle.ll_laws.specs.Consistent.{IsConsistent}
+use Rattle.ll_laws.proofs.SubLaws.{sub_id}
+use Rattle.ll_laws.proofs.ConsistentTerms.{Grows}
+use Rattle.ll_laws.proofs.ConsistentContexts.{formula-more}
+use Rattle.ll_laws.proofs.ConsistentStates.{starts_consistent, grows_given}
+use Rattle.ll_resources.specs.History.{History, begun}
+use Rattle.ll_resources.specs.Resources.{Resources, started, entries_from}
+use Rattle.ll_agenda.specs.Frames.{ShowsItems}
+use Rattle.ll_freeze.specs.declared.machine.Machine.{Machine}
+use Rattle.ll_freeze.specs.declared.machine.Item.TheVariants.{Goal}
+use Rattle.ll_freeze.specs.Reading.{shown, reading, read_term, read_form, HasValue}
+use Rattle.ll_freeze.specs.Shown.{shown_item, shown_entry, items_of, state_of}
+use Rattle.ll_freeze.specs.Fits.{HasItem, IsGoalIn, allowed, setting}
+use Rattle.ll_freeze.specs.Calls.{IsStart}
+use Rattle.ll_freeze.proofs.CallerLemmas.{form_same, state_is, clauses_later, modules_later, modules_has, vars_more, trees_read}
+
+-- clauses as a context takes them
+abbrev pub pair_of : Clause → Kind × FormAt
+pair_of c = (c.kind, c.form)
+
+abbrev pub pairs : List Clause → List (Kind × FormAt)
+pairs cs = map pair_of cs
+
+-- one variable more
+pub variable_more : (old new : Nodes) (made more : List At) (at : At) (n : ℕ) → Extends old new → AllInTerms old made → term_trees old made ≡ vars_from 0 n → ShowsTerm new at.0 (Var n)
+    → more ≡ made ++ at ∷ [] → AllInTerms new more × (term_trees new more ≡ vars_from 0 (n + 1))
+variable_more old new made more at n k h v s e =
+    let q : suc n ≡ n + 1 = omega arith in (
+      subst (λ (xs : List At). AllInTerms new xs) (sym e) (All-push (λ (x : At). HasTerm new x.0) made at (AllInTerms-extends k made h) s.inside),
+      ap (λ xs. term_trees new xs) e
+          ∙ (map-append (λ (x : At). term_tree new x.0) made (at ∷ [])
+          ∙ (ap (λ ts. ts ++ term_tree new at.0 ∷ []) (term_trees-extends k made h ∙ v)
+          ∙ (ap (λ t. vars_from 0 n ++ t ∷ []) s.tree ∙ (sym (vars_more 0 n n (omega arith)) ∙ ap (λ i. vars_from 0 i) q)))),
+    )
+
+-- ---- where nothing is bound, what is read is what stands there
+
+abbrev nones : ℕ → List (Option At)
+nones n = replicate n None
+
+look_none : (n x : ℕ) → slice_index_or (nones n) x None ≡ None
+look_none zero zero = refl
+look_none zero (suc x) = refl
+look_none (suc n) zero = refl
+look_none (suc n) (suc x) = look_none n x
+
+form_id : (f : Form) → sub_form Var f ≡ f
+form_id Top = refl
+form_id One = refl
+form_id (Atom a) = ap Atom (sub_id a)
+form_id (With f g) = λ i. With (form_id f i) (form_id g i)
+form_id (Tensor f g) = λ i. Tensor (form_id f i) (form_id g i)
+form_id (Plus f g) = λ i. Plus (form_id f i) (form_id g i)
+form_id (Bang f) = ap Bang (form_id f)
+form_id (Lolli f g) = λ i. Lolli (form_id f i) (form_id g i)
+form_id (Imp f g) = λ i. Imp (form_id f i) (form_id g i)
+form_id (Forall f) = ap Forall (form_id f)
+form_id (Exists f) = ap Exists (form_id f)
+form_id (Num r t u) = λ i. Num r (sub_id t i) (sub_id u i)
+form_id (Use m ts f) = λ i. Use m (terms_id ts i) (form_id f i)
+  where
+    terms_id : (us : List Term) → map (sub Var) us ≡ us
+    terms_id [] = refl
+    terms_id (u ∷ us) = λ i. sub_id u i ∷ terms_id us i
+
+module _ (bank : Nodes) (bound : List (Option At)) (reads : (x : ℕ) → reading bank bound x ≡ Var x) where
+  form_as_is : (at : FormAt) → read_form bank bound at ≡ form_tree bank at.0
+  form_as_is at = form_same (reading bank bound) Var reads (form_tree bank at.0) ∙ form_id (form_tree bank at.0)
+
+  entries_as_are : (n : ℕ) (cs : List Clause)
+      → map (shown_entry bank bound) (entries_from n (pairs cs)) ≡ program_entries n (map (clause_tree bank) cs)
+  entries_as_are n [] = refl
+  entries_as_are n (c ∷ cs) =
+      λ i. record { label = n; kind = c.kind; live = is_linear c.kind; clause = form_as_is c.form i } ∷ entries_as_are (suc n) cs i
+
+  vars_as_are : (a n : ℕ) → map (sub (reading bank bound)) (vars_from a n) ≡ vars_from a n
+  vars_as_are a zero = refl
+  vars_as_are a (suc n) = λ i. reads a i ∷ vars_as_are (suc a) n i
+
+-- ---- what a machine has at the start
+
+none_bound : (bank : Nodes) (n : ℕ) → All (HasValue bank) (replicate n None)
+none_bound bank zero = All-nil (HasValue bank)
+none_bound bank (suc n) = All-cons (HasValue bank) None (replicate n None) tt (none_bound bank n)
+
+-- the clauses of the entries at the start
+started_has : (P : FormAt → Type 0) (n : ℕ) (cs : List Clause) → All (λ (c : Clause). P c.form) cs
+    → All (λ (e : Entry FormAt). P e.clause) (entries_from n (pairs cs))
+started_has P n [] h = All-nil (λ (e : Entry FormAt). P e.clause)
+started_has P n (c ∷ cs) h =
+    All-cons (λ (e : Entry FormAt). P e.clause) _ (entries_from (suc n) (pairs cs)) (All-head (λ (c : Clause). P c.form) c cs h)
+    (started_has P (suc n) cs (All-tail (λ (c : Clause). P c.form) c cs h))
+
+clauses_sorted : (names : ℕ) (ms : List ModuleTree) (bank : Nodes) (more : Allowed) (cs : List Clause) → Grows (given ms 0) more → AreClauses names ms [] (map (clause_tree bank) cs)
+    → All (λ (c : Clause). IsFormula more ClauseSide [] (form_tree bank c.form.0)) cs
+clauses_sorted names ms bank more [] g h = All-nil (λ (c : Clause). IsFormula more ClauseSide [] (form_tree bank c.form.0))
+clauses_sorted names ms bank more (c ∷ cs) g h =
+    All-cons (λ (c : Clause). IsFormula more ClauseSide [] (form_tree bank c.form.0)) c cs (formula-more (given ms 0) more ClauseSide (form_tree bank c.form.0) g h.0)
+    (clauses_sorted names ms bank more cs g h.2)
+
+pub starts : (p : ProblemTree) (m : Machine) (goal : FormAt) (cs : List Clause) (n : ℕ) → IsValid p → m.problem.now ≡ p → form_tree m.bank goal.0 ≡ p.goal → HasForm m.bank goal.0
+    → map (clause_tree m.bank) cs ≡ p.clauses → HasClauses m.bank cs → n ≡ length p.asked → m.bound.items ≡ replicate n None → m.levels.items ≡ replicate n 0
+    → m.context ≡ begun (started (pairs cs)) → ShowsItems m.agenda m.top (Goal goal ∷ []) → m.left ≡ p.bound → m.eigens ≡ 0
+    → AllInTerms m.bank m.terms.items → term_trees m.bank m.terms.items ≡ vars_from 0 n → m.steps.items ≡ []
+    → HasModules m.bank m.modules.now → map (module_tree m.bank) m.modules.now ≡ p.modules → IsStart p m
+starts p m goal cs n v ep eg hg ec hc en eb el ex it left eigens inside vars es hm em =
+    let bank = m.bank in let bound = m.bound.items in let xs : List (Kind × FormAt) = pairs cs in
+    let r : m.context.present ≡ started xs = ap (λ (h : History FormAt). h.present) ex in
+    let reads : (x : ℕ) → reading bank bound x ≡ Var x = λ x. ap (λ bs. reading bank bs x) eb ∙ ap (λ o. shown bank x o) (look_none n x) in
+    let count : length m.levels.items ≡ n = ap (λ (ls : List ℕ). length ls) el ∙ length-replicate n 0 in
+    let many : length xs ≡ length p.clauses =
+    length-map cs pair_of ∙ (sym (length-map cs (clause_tree bank)) ∙ ap (λ (ks : List ClauseTree). length ks) ec) in
+    let items : map (shown_item bank bound m.context.present.kept) (items_of m) ≡ GoalOf p.goal ∷ [] =
+    ap (λ ys. map (shown_item bank bound m.context.present.kept) ys) it.list ∙ ap (λ f. GoalOf f ∷ []) (form_as_is bank bound reads goal ∙ eg) in
+    let entries : map (shown_entry bank bound) m.context.present.entries ≡ program_entries 0 p.clauses =
+    ap (λ (s : Resources FormAt). map (shown_entry bank bound) s.entries) r ∙ (entries_as_are bank bound reads 0 cs ∙ ap (λ ks. program_entries 0 ks) ec) in
+    let flag = ap (λ (s : Resources FormAt). s.flag) r in
+    let levels : m.levels.items ≡ replicate (length p.asked) 0 = el ∙ ap (λ k. replicate k 0) en in
+    let terms : map (read_term bank bound) m.terms.items ≡ vars_from 0 (length p.asked) =
+    trees_read (reading bank bound) bank m.terms.items
+    ∙ (ap (λ ts. map (sub (reading bank bound)) ts) vars ∙ (vars_as_are bank bound reads 0 n ∙ ap (λ k. vars_from 0 k) en)) in
+    let label : m.context.present.next ≡ length p.clauses = ap (λ (s : Resources FormAt). s.next) r ∙ many in
+    let state : state_of m ≡ start_of p =
+    state_is m
+    ∙ (λ i. record {
+      agenda = items i;
+      context = entries i;
+      flag = flag i;
+      levels = levels i;
+      eigens = eigens i;
+      terms = terms i;
+      label = label i;
+      steps = es i;
+    }) in
+    let may : Allowed = record { modules = p.modules; variables = length m.levels.items; eigens = m.eigens; opens = true } in
+    let a : may ≡ allowed m = ap (λ (q : ProblemTree). record { modules = q.modules; variables = length m.levels.items; eigens = m.eigens; opens = true }) (sym ep) in
+    let cl : AreClauses (length p.names) p.modules [] (map (clause_tree bank) cs) = subst (λ (ks : List ClauseTree). AreClauses (length p.names) p.modules [] ks) (sym ec) v.clauses in
+    let low : 0 ≤ length m.levels.items = omega arith in let grows : Grows (given p.modules 0) may = grows_given p.modules 0 (length m.levels.items) m.eigens low in
+    let gl : IsFormula may GoalSide [] (form_tree bank goal.0) =
+    subst (λ (f : Form). IsFormula may GoalSide [] f) (sym eg)
+    (formula-more (given p.modules (length p.asked)) may GoalSide p.goal (grows_given p.modules (length p.asked) (length m.levels.items) m.eigens (omega (arith, count, en))) v.goal) in
+    record {
+      problem = ep;
+      state = state;
+      left = left;
+      fits = record {
+        valid = rw ep v;
+        consistent = subst (λ (s : State). IsConsistent (setting m) s) (sym state) (subst (λ (q : ProblemTree). IsConsistent (setting_of q) (start_of p)) (sym ep) (starts_consistent p v));
+        count = ap (λ (bs : List (Option At)). length bs) eb ∙ (length-replicate n None ∙ sym count);
+        bound = rw eb (none_bound bank n);
+        terms = inside;
+        variables = vars ∙ ap (λ k. vars_from 0 k) (sym count);
+        clauses = rw r (started_has (λ f. HasForm bank f.0) 0 cs hc);
+        sorted_clauses =
+            rw r
+            (started_has (λ f. IsFormula (allowed m) ClauseSide [] (form_tree bank f.0)) 0 cs
+            (subst (λ (k : Allowed). All (λ (c : Clause). IsFormula k ClauseSide [] (form_tree bank c.form.0)) cs) a
+            (clauses_sorted (length p.names) p.modules bank may cs grows cl)));
+        sorted_goals =
+            rw it.list
+            (All-cons (IsGoalIn (allowed m) bank) (Goal goal) [] (subst (λ (k : Allowed). IsFormula k GoalSide [] (form_tree bank goal.0)) a gl) (All-nil (IsGoalIn (allowed m) bank)));
+        has_modules = hm;
+        modules = em ∙ ap (λ (q : ProblemTree). q.modules) (sym ep);
+        top = it.inside;
+        items = rw it.list (All-cons (HasItem bank (length m.context.present.kept)) (Goal goal) [] hg (All-nil (HasItem bank (length m.context.present.kept))));
+        labels = let c : length p.clauses ≤ 16777216 = v.clause_count in let b = v.bound in omega (arith, label, left, c, b);
+        eigens = let b = v.bound in omega (arith, eigens, left, b);
+      };
+    }
+
+-- ---- a bank with more places
+
+pub starts_in : (p : ProblemTree) (b : Nodes) (m : Machine) (goal : FormAt) (cs : List Clause) (n : ℕ) → IsValid p → m.problem.now ≡ p → Extends b m.bank → form_tree b goal.0 ≡ p.goal
+    → HasForm b goal.0 → map (clause_tree b) cs ≡ p.clauses → HasClauses b cs → n ≡ length p.asked → m.bound.items ≡ replicate n None → m.levels.items ≡ replicate n 0
+    → m.context ≡ begun (started (pairs cs)) → ShowsItems m.agenda m.top (Goal goal ∷ []) → m.left ≡ p.bound → m.eigens ≡ 0
+    → AllInTerms m.bank m.terms.items → term_trees m.bank m.terms.items ≡ vars_from 0 n → m.steps.items ≡ []
+    → (ms : List Module) → m.modules.now ≡ ms → HasModules b ms → map (module_tree b) ms ≡ p.modules → IsStart p m
+starts_in p b m goal cs n v ep k eg hg ec hc en eb el ex it left eigens inside vars es ms sm hm em =
+    starts p m goal cs n v ep (form_tree-extends k goal.0 hg ∙ eg) (HasForm-extends k goal.0 hg) (clauses_later b m.bank cs k hc ∙ ec)
+    (All-weaker (λ (c : Clause). HasForm b c.form.0) (λ (c : Clause). HasForm m.bank c.form.0) (λ c h. HasForm-extends k c.form.0 h) cs hc) en eb el ex it left eigens inside vars es
+    (rw sm (modules_has b m.bank ms k hm)) (ap (λ ds. map (module_tree m.bank) ds) sm ∙ (modules_later b m.bank ms k hm ∙ em))

@@ -1,0 +1,45 @@
+-- How a machine shows the state of a search: its terms and formulas are places of its bank, read under its bindings.
+use Rattle.std.specs.Prelude.{List, map, Option}
+use Rattle.ll_bank.specs.declared.At.{At}
+use Rattle.ll_bank.specs.declared.FormAt.{FormAt}
+use Rattle.ll_bank.specs.Form.{Form}
+use Rattle.ll_bank.specs.Nodes.{Nodes}
+use Rattle.ll_laws.specs.Settle.{Saved, Entry, Item, Goal, LolliEnd, ImpEnd, WithMiddle, WithEnd, BangEnd, map_entry}
+use Rattle.ll_laws.specs.State.{State}
+use Rattle.ll_agenda.specs.Frames.{items_at}
+use Rattle.ll_resources.specs.Resources.{saved_at}
+use Rattle.ll_freeze.specs.Reading.{read_term, read_form}
+use Rattle.ll_freeze.specs.declared.machine.Machine.{Machine}
+use Rattle.ll_freeze.specs.declared.machine.Item.{Item as KeptItem}
+use Rattle.ll_freeze.specs.declared.machine.Item.TheVariants.{Goal as KeptGoal, LolliEnd as KeptLolliEnd, ImpEnd as KeptImpEnd, Mid as KeptMiddle, WithEnd as KeptWithEnd, BangEnd as KeptBangEnd}
+
+-- an item of an agenda, over what was kept of the context
+abbrev pub shown_item : Nodes → List (Option At) → List Saved → KeptItem → Item Form
+shown_item bank bound kept (KeptGoal g) = Goal (read_form bank bound g)
+shown_item bank bound kept (KeptLolliEnd flag) = LolliEnd flag
+shown_item bank bound kept KeptImpEnd = ImpEnd
+shown_item bank bound kept (KeptMiddle saved) = WithMiddle (saved_at kept saved)
+shown_item bank bound kept (KeptWithEnd saved half) = WithEnd (saved_at kept saved) (saved_at kept half)
+shown_item bank bound kept (KeptBangEnd saved) = BangEnd (saved_at kept saved)
+
+-- an entry of the context
+abbrev pub shown_entry : Nodes → List (Option At) → Entry FormAt → Entry Form
+shown_entry bank bound e = map_entry (read_form bank bound) e
+
+-- the items of the agenda
+abbrev pub items_of : Machine → List KeptItem
+items_of m = items_at m.agenda m.top
+
+-- the state of a search that a machine shows
+unfoldable pub state_of : Machine → State
+state_of m =
+    record {
+      agenda = map (shown_item m.bank m.bound.items m.context.present.kept) (items_of m);
+      context = map (shown_entry m.bank m.bound.items) m.context.present.entries;
+      flag = m.context.present.flag;
+      levels = m.levels.items;
+      eigens = m.eigens;
+      terms = map (read_term m.bank m.bound.items) m.terms.items;
+      label = m.context.present.next;
+      steps = m.steps.items;
+    }

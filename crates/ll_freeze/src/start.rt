@@ -1,0 +1,69 @@
+//! The machine in which the search of a problem starts.
+ghost use Rattle.std.specs.Prelude.{◌≡◌, map, IfOk};
+ghost use Rattle.ll_bank.specs.Nodes.{AllInTerms, Extends, term_trees};
+ghost use Rattle.ll_laws.specs.Attempt.{vars_from};
+ghost use Rattle.ll_laws.specs.Valid.{IsValid};
+ghost use Rattle.ll_freeze.specs.Calls.{IsStart};
+
+use crate::machine::{Item, Machine};
+use ll_agenda::Agenda;
+use ll_bank::{At, Bank, FormAt, OutOfMemory};
+use ll_laws::{Clause, Kind, Problem};
+use ll_resources::Context;
+use std::alloc::Global;
+
+impl<'p> Machine<'p> {
+    /// The start of a valid problem's search.
+    pub fn start(alloc: Global, problem: &'p Problem) -> Result<Machine<'p>, OutOfMemory>
+        requires valid { IsValid problem.now }
+        ensures { IfOk result (λ m. IsStart problem.entry.now m) }
+    {
+        let size = problem.bank.size();
+        let mut bank = problem.bank.image(size)?;
+        let count = problem.asked.len();
+        let terms = first_variables(alloc, &mut bank, count)?;
+        let clauses = resources_of(alloc, &problem.clauses)?;
+        let context = Context::start(alloc, &clauses)?;
+        let mut agenda = Agenda::new(alloc);
+        let top = agenda.push(Item::Goal(problem.goal), Agenda::<Item>::none())?;
+        Ok(Machine {
+            problem,
+            modules: &problem.modules,
+            bank,
+            bound: vec![in alloc; None; count]?,
+            levels: vec![in alloc; 0; count]?,
+            context,
+            agenda,
+            top,
+            left: problem.bound,
+            eigens: 0,
+            terms,
+            steps: Vec::new(alloc),
+        })
+    }
+}
+
+// The first variables, in the order of their numbers.
+fn first_variables(alloc: Global, bank: &mut Bank, count: usize) -> Result<Vec<At>, OutOfMemory>
+    ensures inside { IfOk result (λ made. AllInTerms bank.new made.items) }
+    ensures shows { IfOk result (λ made. term_trees bank.new made.items ≡ vars_from 0 count) }
+    ensures keeps { IfOk result (λ _. Extends bank.old bank.new) }
+{
+    let mut made = Vec::new(alloc);
+    for number in 0..count {
+        let variable = bank.var(number as u64)?;
+        made.push(variable)?;
+    }
+    Ok(made)
+}
+
+// Clauses as a context takes them.
+fn resources_of(alloc: Global, clauses: &[Clause]) -> Result<Vec<(Kind, FormAt)>, OutOfMemory>
+    ensures { IfOk result (λ made. made.items ≡ map (λ c. (c.kind, c.form)) clauses.now) }
+{
+    let mut made = Vec::new(alloc);
+    for clause in clauses {
+        made.push((clause.kind, clause.form))?;
+    }
+    Ok(made)
+}

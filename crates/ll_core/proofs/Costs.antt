@@ -2,10 +2,11 @@
 use Rattle.std.proofs.Common.{◌≡◌, ℕ, zero, suc, ◌+◌, ◌<◌, ◌≤◌, List, [], ◌∷◌, length, refl, sym, ap, ◌∙◌, arith, Option, Some, None}
 use Rattle.std.specs.Prelude.{sum_by}
 use Rattle.ll_laws.specs.Pool.{Owed, Piece, PoolData, Alternative}
-use Rattle.ll_laws.specs.Spread.{numbers, walk_alternative, walk_deep, piece_of, kids_of, published_by, owed_by, owed_at, list_or_empty, owed_or_nothing, batch_cost, given_cost, share, owes_of, length_of, walk}
+use Rattle.ll_laws.specs.Spread.{numbers, walk_alternative, walk_deep, piece_of, kids_of, published_by, owed_by, owed_at, list_or_empty, owed_or_nothing, batch_cost, given_cost, owes_of, length_of, walk}
 use Rattle.ll_laws.specs.Sound.{Every, Each, Sound}
+use Rattle.ll_core.specs.Given.{share_cost, total}
 use Rattle.ll_core.proofs.Walks.{every_more}
-use Rattle.ll_core.proofs.Once.{total, total_same, total_flat, total_last_first, total_numbers}
+use Rattle.ll_core.proofs.Once.{total_same, total_flat, total_last_first, total_numbers}
 use Rattle.ll_core.proofs.Pieces.{lookup}
 use Rattle.ll_core.proofs.Facts.{ends, kids_within}
 use Rattle.ll_core.proofs.AllClaimed.{total_by_index, sum_total}
@@ -26,11 +27,6 @@ module _ (kids : ℕ → ℕ → List ℕ) (len : ℕ → ℕ) (n : ℕ) (ends :
       ∙ sym (whole_is b))
 
 module _ {E : Type 0} where
-  -- what the share of an alternative costs
-  abbrev pub share_cost : List (List (Owed E)) → Alternative → Option (Piece E) → ℕ
-  share_cost owes a None = (owed_at owes a.batch a.k).cost
-  share_cost owes a (Some x) = (share owes x).cost
-
   cost_parts : (owes : List (List (Owed E))) (pieces : List (Piece E)) → Each pieces (λ (x : Piece E). given_cost owes x ≤ (owed_at owes x.batch x.k).cost)
       → (a : Alternative) (o : Option (Piece E)) → piece_of pieces a ≡ o → share_cost owes a o + total (batch_cost owes) (published_by o) ≡ (owed_at owes a.batch a.k).cost
   cost_parts owes pieces costs a None e = omega arith

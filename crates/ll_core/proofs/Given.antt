@@ -10,15 +10,15 @@ use Rattle.ll_laws.specs.Spread.{alternatives_of, numbers, last_first, walk_alte
 use Rattle.ll_laws.specs.Search.{cut_count}
 use Rattle.ll_laws.specs.Sound.{Every, Shaped, Sound, report_of, is_open, is_taken, is_taken_piece, is_taken_status}
 use Rattle.ll_laws.specs.CoreEvents.{CoreEvent, Claim, Publish, Report, Ready, Work, Done, Events, change, new_piece, with_batch, with_status, claimed, published, reported, took, Does, MayTake}
+use Rattle.ll_core.specs.Given.{Given, cost_in, price, share_cost, total, value}
 use Rattle.ll_core.proofs.Conditions.{MayGrow}
 use Rattle.ll_core.proofs.Walks.{walk_same, insert_after, is_alternative}
-use Rattle.ll_core.proofs.Once.{total, total-append, one_if, is_at}
+use Rattle.ll_core.proofs.Once.{total-append, one_if, is_at}
 use Rattle.ll_core.proofs.Pieces.{found, lookup, is_of_from}
 use Rattle.ll_core.proofs.Unique.{unique}
 use Rattle.ll_core.proofs.Statuses.{read_same, piece_here, piece_elsewhere, took_share, split_same, all_more, untaken_elsewhere}
 use Rattle.ll_core.proofs.Claims.{read_snoc}
 use Rattle.ll_core.proofs.Publishes.{walk_published, taken_same, not_taken_here, none_new, front_same, back_same, all_new}
-use Rattle.ll_core.proofs.Costs.{share_cost}
 use Rattle.ll_core.proofs.Cursors.{every_all}
 use Rattle.ll_core.proofs.Pointing.{every_append}
 use Rattle.ll_core.proofs.Cuts.{cut_sum, cut_twice}
@@ -40,11 +40,11 @@ module _ {E : Type 0} where
   was_closed (Closed report) o t = (report, refl)
   was_closed Taken o t = absurd (true≢false t)
 
-values_same : {A : Type 0} (f g : Alternative → List A) (t : Alternative → Bool) (front : List Alternative) → ((a : Alternative) → t a ≡ true → f a ≡ g a) → list_all t front ≡ true → flat_map f front ≡ flat_map g front
+pub values_same : {A : Type 0} (f g : Alternative → List A) (t : Alternative → Bool) (front : List Alternative) → ((a : Alternative) → t a ≡ true → f a ≡ g a) → list_all t front ≡ true → flat_map f front ≡ flat_map g front
 values_same f g t [] same h = refl
 values_same f g t (a ∷ front) same h = let p = and_parts (t a) (list_all t front) h in λ i. same a p.0 i ++ values_same f g t front same p.1 i
 
-prices_same : (f g : Alternative → ℕ) (t : Alternative → Bool) (front : List Alternative) → ((a : Alternative) → t a ≡ true → f a ≡ g a) → list_all t front ≡ true → total f front ≡ total g front
+pub prices_same : (f g : Alternative → ℕ) (t : Alternative → Bool) (front : List Alternative) → ((a : Alternative) → t a ≡ true → f a ≡ g a) → list_all t front ≡ true → total f front ≡ total g front
 prices_same f g t [] same h = refl
 prices_same f g t (a ∷ front) same h = let p = and_parts (t a) (list_all t front) h in λ i. same a p.0 i + prices_same f g t front same p.1 i
 
@@ -76,28 +76,6 @@ walk_inside kids len (suc deep) b =
     )))
 
 module _ {N Of E : Type 0} (of : N → Of) (alternatives : N → List (Owed E)) where
-  abbrev pub value : PoolData N E → Alternative → List E
-  value p a = gives (owes_of alternatives p) a (piece_of p.pieces a)
-
-  abbrev pub price : PoolData N E → Alternative → ℕ
-  price p a = share_cost (owes_of alternatives p) a (piece_of p.pieces a)
-
-  abbrev pub events_in : List (Owed E) → List E
-  events_in reports = flat_map (λ (o : Owed E). o.events) reports
-
-  abbrev pub cost_in : List (Owed E) → ℕ
-  cost_in reports = total (λ (o : Owed E). o.cost) reports
-
-  -- these reports are what the taken front of the walk owes
-  pub record Given (p : PoolData N E) (reports : List (Owed E)) : Type 0 where
-    pub front : List Alternative
-    pub back : List Alternative
-    pub order : walk alternatives p ≡ front ++ back
-    pub before : list_all (is_taken p.pieces) front ≡ true
-    pub others : list_all (λ a. not (is_taken p.pieces a)) back ≡ true
-    pub events : events_in reports ≡ flat_map (value p) front
-    pub costs : cut_count (cost_in reports) ≡ cut_count (total (price p) front)
-
   -- what is taken keeps its piece and its share
   module _ (p q : PoolData N E) (e : CoreEvent N E) (s : Shaped alternatives p) (t : Shaped alternatives q) (d : Does alternatives p e q) (a : Alternative) (taken : is_taken p.pieces a ≡ true) where
     steady_piece : (x : Piece E) × (piece_of p.pieces a ≡ Some x) × (x.status ≡ Taken) × (piece_of q.pieces a ≡ Some x) × (share (owes_of alternatives q) x ≡ share (owes_of alternatives p) x)
@@ -111,7 +89,7 @@ module _ {N Of E : Type 0} (of : N → Of) (alternatives : N → List (Owed E)) 
     still_taken : is_taken q.pieces a ≡ true
     still_taken = let h = steady_piece in ap is_taken_piece h.3 ∙ ap is_taken_status h.2
 
-    steady_value : value q a ≡ value p a
+    steady_value : value of alternatives q a ≡ value of alternatives p a
     steady_value =
         let h = steady_piece in
         ap (gives (owes_of alternatives q) a) h.3
@@ -119,35 +97,35 @@ module _ {N Of E : Type 0} (of : N → Of) (alternatives : N → List (Owed E)) 
         ∙ (ap (λ (o : Owed E). o.events) h.4
         ∙ sym (ap (gives (owes_of alternatives p) a) h.1 ∙ ap (piece_events (owes_of alternatives p) h.0) h.2)))
 
-    steady_price : price q a ≡ price p a
+    steady_price : price of alternatives q a ≡ price of alternatives p a
     steady_price =
         let h = steady_piece in
         ap (share_cost (owes_of alternatives q) a) h.3 ∙ (ap (λ (o : Owed E). o.cost) h.4 ∙ sym (ap (share_cost (owes_of alternatives p) a) h.1))
 
   -- the front stays where nothing is taken
-  carried : (p q : PoolData N E) (e : CoreEvent N E) (reports : List (Owed E)) → Shaped alternatives p → Shaped alternatives q → Does alternatives p e q → (g : Given p reports)
-      → (back : List Alternative) → walk alternatives q ≡ g.front ++ back → list_all (λ a. not (is_taken q.pieces a)) back ≡ true → Given q reports
+  carried : (p q : PoolData N E) (e : CoreEvent N E) (reports : List (Owed E)) → Shaped alternatives p → Shaped alternatives q → Does alternatives p e q → (g : Given of alternatives p reports)
+      → (back : List Alternative) → walk alternatives q ≡ g.front ++ back → list_all (λ a. not (is_taken q.pieces a)) back ≡ true → Given of alternatives q reports
   carried p q e reports s t d g back order others = record {
     front = g.front;
     back = back;
     order = order;
     before = all_more (is_taken p.pieces) (is_taken q.pieces) g.front (still_taken p q e s t d) g.before;
     others = others;
-    events = g.events ∙ sym (values_same (value q) (value p) (is_taken p.pieces) g.front (steady_value p q e s t d) g.before);
-    costs = g.costs ∙ sym (ap cut_count (prices_same (price q) (price p) (is_taken p.pieces) g.front (steady_price p q e s t d) g.before));
+    events = g.events ∙ sym (values_same (value of alternatives q) (value of alternatives p) (is_taken p.pieces) g.front (steady_value p q e s t d) g.before);
+    costs = g.costs ∙ sym (ap cut_count (prices_same (price of alternatives q) (price of alternatives p) (is_taken p.pieces) g.front (steady_price p q e s t d) g.before));
   }
 
-  pub same_given : (p q : PoolData N E) (reports : List (Owed E)) → q ≡ p → Given p reports → Given q (reports ++ [])
-  same_given p q reports e g = subst (λ r. Given r (reports ++ [])) (sym e) (subst (Given p) (sym (append-nil reports)) g)
+  pub same_given : (p q : PoolData N E) (reports : List (Owed E)) → q ≡ p → Given of alternatives p reports → Given of alternatives q (reports ++ [])
+  same_given p q reports e g = subst (λ r. Given of alternatives r (reports ++ [])) (sym e) (subst (Given of alternatives p) (sym (append-nil reports)) g)
 
-  pub marked_given : (p : PoolData N E) (reports : List (Owed E)) (starved stopped : Bool) → Given p reports → Given (record p { starved = starved; stopped = stopped }) (reports ++ [])
-  marked_given p reports starved stopped g = subst (Given (record p { starved = starved; stopped = stopped })) (sym (append-nil reports)) (record { front = g.front; back = g.back; order = g.order; before = g.before; others = g.others; events = g.events; costs = g.costs })
+  pub marked_given : (p : PoolData N E) (reports : List (Owed E)) (starved stopped : Bool) → Given of alternatives p reports → Given of alternatives (record p { starved = starved; stopped = stopped }) (reports ++ [])
+  marked_given p reports starved stopped g = subst (Given of alternatives (record p { starved = starved; stopped = stopped })) (sym (append-nil reports)) (record { front = g.front; back = g.back; order = g.order; before = g.before; others = g.others; events = g.events; costs = g.costs })
 
   untaken_same : (taken taken' : Alternative → Bool) (back : List Alternative) → ((a : Alternative) → taken' a ≡ taken a) → list_all (λ a. not (taken a)) back ≡ true → list_all (λ a. not (taken' a)) back ≡ true
   untaken_same taken taken' back same h = subst (λ (t : Alternative → Bool). list_all (λ a. not (t a)) back ≡ true) (λ i a. sym (same a) i) h
 
-  module _ (p : PoolData N E) (problem : Of) (pair : Owed E) (s : Sound of alternatives p problem pair) (reports : List (Owed E)) (g : Given p reports) where
-    pub given_claimed : (w i b k : ℕ) → Shaped alternatives (claimed p w b k) → Does alternatives p (Claim w (Work i b k)) (claimed p w b k) → Given (claimed p w b k) reports
+  module _ (p : PoolData N E) (problem : Of) (pair : Owed E) (s : Sound of alternatives p problem pair) (reports : List (Owed E)) (g : Given of alternatives p reports) where
+    pub given_claimed : (w i b k : ℕ) → Shaped alternatives (claimed p w b k) → Does alternatives p (Claim w (Work i b k)) (claimed p w b k) → Given of alternatives (claimed p w b k) reports
     given_claimed w i b k t d =
         let y : Piece E = new_piece w b k in
         let u = d.1 in
@@ -156,7 +134,7 @@ module _ {N Of E : Type 0} (of : N → Of) (alternatives : N → List (Owed E)) 
         (walk_same (kids_of p.pieces) (kids_of (p.pieces ++ y ∷ [])) (length_of alternatives p) (λ c j. read_snoc published_by p.pieces y refl free t.apart (record { batch = c; k = j })) (length p.batches) 0 ∙ g.order)
         (untaken_same (is_taken p.pieces) (is_taken (p.pieces ++ y ∷ [])) g.back (read_snoc is_taken_piece p.pieces y refl free t.apart) g.others)
 
-    pub given_published : (w i : ℕ) (x : Piece E) (n : N) → MayGrow alternatives p i x n → Shaped alternatives (published p i n (length (alternatives n))) → Does alternatives p (Publish w n Done) (published p i n (length (alternatives n))) → Given (published p i n (length (alternatives n))) reports
+    pub given_published : (w i : ℕ) (x : Piece E) (n : N) → MayGrow alternatives p i x n → Shaped alternatives (published p i n (length (alternatives n))) → Does alternatives p (Publish w n Done) (published p i n (length (alternatives n))) → Given of alternatives (published p i n (length (alternatives n))) reports
     given_published w i x n may t d =
         let new : List Alternative = alternatives_of (length p.batches) (length (alternatives n)) in
         let into : Alternative → List Alternative = insert_after (place x) new in
@@ -166,7 +144,7 @@ module _ {N Of E : Type 0} (of : N → Of) (alternatives : N → List (Owed E)) 
         (untaken_same taken (is_taken (change i (with_batch (length p.batches)) p.pieces)) (flat_map into g.back) (taken_same alternatives p s.shape i x n may)
         (back_same (λ a. not (taken a)) (place x) new (all_new (λ a. not (taken a)) (length p.batches) (λ k. ap (λ o. not (is_taken_piece o)) (none_new alternatives p s.shape i x n may k)) 0 (length (alternatives n))) g.back g.others))
 
-    pub given_reported : (w i : ℕ) (x : Piece E) (report : Owed E) → slice_get p.pieces i ≡ Some x → x.status ≡ Open → Shaped alternatives (reported p i report) → Does alternatives p (Report w report) (reported p i report) → Given (reported p i report) reports
+    pub given_reported : (w i : ℕ) (x : Piece E) (report : Owed E) → slice_get p.pieces i ≡ Some x → x.status ≡ Open → Shaped alternatives (reported p i report) → Does alternatives p (Report w report) (reported p i report) → Given of alternatives (reported p i report) reports
     given_reported w i x report at o t d =
         let f : Piece E → Piece E = with_status (Closed report) in
         let was : is_taken_status x.status ≡ false = ap is_taken_status o in
@@ -213,14 +191,14 @@ module _ {N Of E : Type 0} (of : N → Of) (alternatives : N → List (Owed E)) 
       its_share = took_share of alternatives p problem pair s i x report may
 
       -- the report that is taken joins the front
-      pub given_took : Given q (reports ++ report ∷ [])
+      pub given_took : Given of alternatives q (reports ++ report ∷ [])
       given_took =
           let untaken : list_all (λ a. not (is_taken p.pieces a)) (at ∷ may.next.back) ≡ true = subst (λ l. list_all (λ a. not (is_taken p.pieces a)) l ≡ true) split.1 g.others in
-          let value_now : value q at ≡ report.events = ap (gives (owes_of alternatives q) at) piece_now ∙ sym (ap (λ (o : Owed E). o.events) its_share) in
-          let price_now : price q at ≡ (share (owes_of alternatives p) x).cost = ap (share_cost (owes_of alternatives q) at) piece_now in
+          let value_now : value of alternatives q at ≡ report.events = ap (gives (owes_of alternatives q) at) piece_now ∙ sym (ap (λ (o : Owed E). o.events) its_share) in
+          let price_now : price of alternatives q at ≡ (share (owes_of alternatives p) x).cost = ap (share_cost (owes_of alternatives q) at) piece_now in
           let cost_now : report.cost ≡ cut_count (share (owes_of alternatives p) x).cost = ap (λ (o : Owed E). o.cost) its_share in
-          let front_values = values_same (value q) (value p) (is_taken p.pieces) g.front (steady_value p q (Ready (Events report)) s.shape t d) g.before in
-          let front_prices = prices_same (price q) (price p) (is_taken p.pieces) g.front (steady_price p q (Ready (Events report)) s.shape t d) g.before in
+          let front_values = values_same (value of alternatives q) (value of alternatives p) (is_taken p.pieces) g.front (steady_value p q (Ready (Events report)) s.shape t d) g.before in
+          let front_prices = prices_same (price of alternatives q) (price of alternatives p) (is_taken p.pieces) g.front (steady_price p q (Ready (Events report)) s.shape t d) g.before in
           record {
             front = g.front ++ at ∷ [];
             back = may.next.back;
@@ -229,16 +207,16 @@ module _ {N Of E : Type 0} (of : N → Of) (alternatives : N → List (Owed E)) 
                 (all_more (is_taken p.pieces) (is_taken q.pieces) g.front (still_taken p q (Ready (Events report)) s.shape t d) g.before)
                 (and_from (is_taken q.pieces at) true (ap is_taken_piece piece_now) refl);
             others = untaken_elsewhere (is_taken p.pieces) (is_taken q.pieces) at elsewhere may.next.back none_behind (and_parts (not (is_taken p.pieces at)) (list_all (λ a. not (is_taken p.pieces a)) may.next.back) untaken).1;
-            events = flat_map-append (λ (o : Owed E). o.events) reports (report ∷ []) ∙ ((λ j. (g.events ∙ sym front_values) j ++ (ap (λ l. l ++ []) (sym value_now)) j) ∙ sym (flat_map-append (value q) g.front (at ∷ [])));
+            events = flat_map-append (λ (o : Owed E). o.events) reports (report ∷ []) ∙ ((λ j. (g.events ∙ sym front_values) j ++ (ap (λ l. l ++ []) (sym value_now)) j) ∙ sym (flat_map-append (value of alternatives q) g.front (at ∷ [])));
             costs = ap cut_count (total-append (λ (o : Owed E). o.cost) reports (report ∷ []))
-                ∙ (cut_sum (cost_in reports) (cost_in (report ∷ [])) (total (price q) g.front) (total (price q) (at ∷ [])) (g.costs ∙ sym (ap cut_count front_prices)) last_cost
-                ∙ sym (ap cut_count (total-append (price q) g.front (at ∷ []))));
+                ∙ (cut_sum (cost_in of alternatives reports) (cost_in of alternatives (report ∷ [])) (total (price of alternatives q) g.front) (total (price of alternatives q) (at ∷ [])) (g.costs ∙ sym (ap cut_count front_prices)) last_cost
+                ∙ sym (ap cut_count (total-append (price of alternatives q) g.front (at ∷ []))));
           }
         where
-          last_cost : cut_count (cost_in (report ∷ [])) ≡ cut_count (total (price q) (at ∷ []))
+          last_cost : cut_count (cost_in of alternatives (report ∷ [])) ≡ cut_count (total (price of alternatives q) (at ∷ []))
           last_cost =
-              let price_now : price q at ≡ (share (owes_of alternatives p) x).cost = ap (share_cost (owes_of alternatives q) at) piece_now in
+              let price_now : price of alternatives q at ≡ (share (owes_of alternatives p) x).cost = ap (share_cost (owes_of alternatives q) at) piece_now in
               let cost_now : report.cost ≡ cut_count (share (owes_of alternatives p) x).cost = ap (λ (o : Owed E). o.cost) its_share in
-              let a : cost_in (report ∷ []) ≡ report.cost = omega arith in
-              let b : total (price q) (at ∷ []) ≡ price q at = omega arith in
+              let a : cost_in of alternatives (report ∷ []) ≡ report.cost = omega arith in
+              let b : total (price of alternatives q) (at ∷ []) ≡ price of alternatives q at = omega arith in
               ap cut_count (a ∙ cost_now) ∙ (cut_twice (share (owes_of alternatives p) x).cost ∙ sym (ap cut_count (b ∙ price_now)))

@@ -8,6 +8,7 @@ use Rattle.ll_laws.specs.Spread.{share, owed_at, owes_of}
 use Rattle.ll_laws.specs.Sound.{Shaped, Sound, is_open, is_taken_status, report_of}
 use Rattle.ll_laws.specs.CoreEvents.{CoreEvent, Claim, Publish, Report, Starve, Stop, Look, Ready, Work, Idle, Finished, Starved, Stopped, Done, Full, NoMemory, Events, NotYet, All, change, new_piece, with_batch, with_status, claimed, published, Holds, NoOpen, Does, By, Splits, Lawful}
 use Rattle.ll_core.specs.Laws.{IsQuiet, IsTakenAt}
+use Rattle.ll_core.specs.Given.{TakesNone, MarksNone, SameTaken, SameMarks}
 use Rattle.ll_core.proofs.Walks.{every_more}
 use Rattle.ll_core.proofs.Pieces.{get_front, get_seam, get_snoc, change_get, change_at, change_other, some_is}
 use Rattle.ll_core.proofs.Facts.{owed_before}
@@ -210,28 +211,64 @@ module _ {N Of E : Type 0} (of : N → Of) (alternatives : N → List (Owed E)) 
         (λ (u : (i ≡ j → ⊥) × (t.0 ≡ c.0)). (c.0, c.1, ap (λ (z : Piece E). z.status) (sym u.1) ∙ t.2))
         c.2
 
-    taken_back : (e : CoreEvent N E) (v : ℕ) → Does alternatives p e q → By v e → (v ≡ 0 → ⊥) → IsTakenAt q i → IsTakenAt p i
-    taken_back (Claim u (Work i' b k)) v d by other t =
+    taken_back : (e : CoreEvent N E) → Does alternatives p e q → TakesNone e → IsTakenAt q i → IsTakenAt p i
+    taken_back (Claim u (Work i' b k)) d none t =
         let t' : IsTakenAt (claimed p u b k) i = subst (λ r. IsTakenAt r i) d.3 t in
         ⊎_elim
         (λ (old : slice_get p.pieces i ≡ Some t'.0). (t'.0, old, t'.2))
         (λ (new : (i ≡ length p.pieces) × (t'.0 ≡ new_piece u b k)). absurd (false≢true (ap (λ (z : Piece E). is_taken_status z.status) (sym new.1) ∙ ap is_taken_status t'.2)))
         (get_snoc p.pieces (new_piece u b k) i t'.0 t'.1)
-    taken_back (Claim u (Idle busy)) v d by other t = same_taken d.4 t
-    taken_back (Claim u Finished) v d by other t = same_taken d.3 t
-    taken_back (Claim u Starved) v d by other t = same_taken d.2 t
-    taken_back (Claim u Stopped) v d by other t = same_taken d.1 t
-    taken_back (Publish u n Done) v d by other t = back_changed (with_batch (length p.batches)) d.0 (λ x h. h) (subst (λ r. IsTakenAt r i) d.3.1 t)
-    taken_back (Publish u n (Full total)) v d by other t = same_taken d.3.2 t
-    taken_back (Publish u n NoMemory) v d by other t = same_taken d.3.1 t
-    taken_back (Report u report) v d by other t = back_changed (with_status (Closed report)) d.0 (λ x h. absurd (false≢true (ap is_taken_status h))) (subst (λ r. IsTakenAt r i) d.3 t)
-    taken_back (Starve u) v d by other t = subst (λ r. IsTakenAt r i) d t
-    taken_back Stop v d by other t = subst (λ r. IsTakenAt r i) d t
-    taken_back (Look seen) v d by other t = same_taken d.1 t
-    taken_back (Ready answer) v d by other t = absurd (other by)
+    taken_back (Claim u (Idle busy)) d none t = same_taken d.4 t
+    taken_back (Claim u Finished) d none t = same_taken d.3 t
+    taken_back (Claim u Starved) d none t = same_taken d.2 t
+    taken_back (Claim u Stopped) d none t = same_taken d.1 t
+    taken_back (Publish u n Done) d none t = back_changed (with_batch (length p.batches)) d.0 (λ x h. h) (subst (λ r. IsTakenAt r i) d.3.1 t)
+    taken_back (Publish u n (Full total)) d none t = same_taken d.3.2 t
+    taken_back (Publish u n NoMemory) d none t = same_taken d.3.1 t
+    taken_back (Report u report) d none t = back_changed (with_status (Closed report)) d.0 (λ x h. absurd (false≢true (ap is_taken_status h))) (subst (λ r. IsTakenAt r i) d.3 t)
+    taken_back (Starve u) d none t = subst (λ r. IsTakenAt r i) d t
+    taken_back Stop d none t = subst (λ r. IsTakenAt r i) d t
+    taken_back (Look seen) d none t = same_taken d.1 t
+    taken_back (Ready (Events report)) d none t = absurd none
+    taken_back (Ready (NotYet (Some j))) d none t = same_taken d.4 t
+    taken_back (Ready (NotYet None)) d none t = same_taken d.3 t
+    taken_back (Ready All) d none t = same_taken d.2 t
+
+  pub leaves_taken : (p q : PoolData N E) (e : CoreEvent N E) → Does alternatives p e q → TakesNone e → SameTaken p q
+  leaves_taken p q e d none = λ i. (taken_on p q e i d, taken_back p q i e d none)
+
+  none_taken : (e : CoreEvent N E) (v : ℕ) → By v e → (v ≡ 0 → ⊥) → TakesNone e
+  none_taken (Claim u answer) v by other = tt
+  none_taken (Publish u n answer) v by other = tt
+  none_taken (Report u report) v by other = tt
+  none_taken (Starve u) v by other = tt
+  none_taken Stop v by other = tt
+  none_taken (Look seen) v by other = tt
+  none_taken (Ready answer) v by other = absurd (other by)
 
   pub takes_alone : (p q : PoolData N E) (e : CoreEvent N E) (v i : ℕ) → Does alternatives p e q → By v e → (v ≡ 0 → ⊥) → (IsTakenAt p i → IsTakenAt q i) × (IsTakenAt q i → IsTakenAt p i)
-  takes_alone p q e v i d by other = (taken_on p q e i d, taken_back p q i e v d by other)
+  takes_alone p q e v i d by other = leaves_taken p q e d (none_taken e v by other) i
+
+  marks_of : (p q : PoolData N E) → q ≡ p → SameMarks p q
+  marks_of p q e = (ap (λ r. r.starved) e, ap (λ r. r.stopped) e)
+
+  pub leaves_marks : (p q : PoolData N E) (e : CoreEvent N E) → Does alternatives p e q → MarksNone e → SameMarks p q
+  leaves_marks p q (Claim u (Work i' b k)) d none = (ap (λ r. r.starved) d.3, ap (λ r. r.stopped) d.3)
+  leaves_marks p q (Claim u (Idle busy)) d none = marks_of p q d.4
+  leaves_marks p q (Claim u Finished) d none = marks_of p q d.3
+  leaves_marks p q (Claim u Starved) d none = marks_of p q d.2
+  leaves_marks p q (Claim u Stopped) d none = marks_of p q d.1
+  leaves_marks p q (Publish u n Done) d none = (ap (λ r. r.starved) d.3.1, ap (λ r. r.stopped) d.3.1)
+  leaves_marks p q (Publish u n (Full total)) d none = marks_of p q d.3.2
+  leaves_marks p q (Publish u n NoMemory) d none = marks_of p q d.3.1
+  leaves_marks p q (Report u report) d none = (ap (λ r. r.starved) d.3, ap (λ r. r.stopped) d.3)
+  leaves_marks p q (Starve u) d none = absurd none
+  leaves_marks p q Stop d none = absurd none
+  leaves_marks p q (Look seen) d none = marks_of p q d.1
+  leaves_marks p q (Ready (Events report)) d none = (ap (λ r. r.starved) d.3, ap (λ r. r.stopped) d.3)
+  leaves_marks p q (Ready (NotYet (Some j))) d none = marks_of p q d.4
+  leaves_marks p q (Ready (NotYet None)) d none = marks_of p q d.3
+  leaves_marks p q (Ready All) d none = marks_of p q d.2
 
   pub workers_kept : (p q : PoolData N E) (e : CoreEvent N E) → Does alternatives p e q → q.workers ≡ p.workers
   workers_kept p q (Claim u (Work i' b k)) d = ap (λ r. r.workers) d.3

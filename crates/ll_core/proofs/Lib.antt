@@ -23,3 +23,4 @@ pub mod Openings
 pub mod Runs
 pub mod Given
 pub mod Owing
+pub mod FrontStays

@@ -11,20 +11,21 @@ use Rattle.ll_laws.specs.Search.{cut_count}
 use Rattle.ll_laws.specs.Sound.{Every, Sound, Reported, report_of, is_open, is_taken, is_taken_piece, count_open}
 use Rattle.ll_laws.specs.Later.{Later}
 use Rattle.ll_laws.specs.CoreEvents.{CoreEvent, Claim, Publish, Report, Starve, Stop, Look, Ready, Work, Idle, Finished, Starved, Stopped, Done, Full, NoMemory, Events, NotYet, All, opening, claimed, published, reported, Does, Lawful, RunsTo, report_taken, report_in, report_left, reports_left}
-use Rattle.ll_core.proofs.Once.{total, total-append, one_if}
+use Rattle.ll_core.specs.Given.{Given, cost_in, events_in, price, share_cost, total, value}
+use Rattle.ll_core.proofs.Once.{total-append, one_if}
 use Rattle.ll_core.proofs.Pieces.{found, some_is, get_below}
 use Rattle.ll_core.proofs.Facts.{spread_is, get_map}
-use Rattle.ll_core.proofs.Costs.{share_cost, cost_is}
+use Rattle.ll_core.proofs.Costs.{cost_is}
 use Rattle.ll_core.proofs.AllClaimed.{all_claimed, closed_all, nothing_new, sum_total}
 use Rattle.ll_core.proofs.Cuts.{cut_sum, cut_twice}
 use Rattle.ll_core.proofs.Laters.{still_closed}
 use Rattle.ll_core.proofs.LawfulEvents.{keeps_sound, may_publish}
 use Rattle.ll_core.proofs.Runs.{run_sound}
 use Rattle.ll_core.proofs.Openings.{all_untaken, opening_sound}
-use Rattle.ll_core.proofs.Given.{value, price, events_in, cost_in, Given, same_given, marked_given, given_claimed, given_published, given_reported, given_took, every_back, walk_inside, was_closed, taken_piece}
+use Rattle.ll_core.proofs.Given.{same_given, marked_given, given_claimed, given_published, given_reported, given_took, every_back, walk_inside, was_closed, taken_piece}
 
 module _ {N Of E : Type 0} (of : N → Of) (alternatives : N → List (Owed E)) where
-  step_given : (p q : PoolData N E) (problem : Of) (pair : Owed E) (reports : List (Owed E)) → Sound of alternatives p problem pair → Given of alternatives p reports → (e : CoreEvent N E) → Lawful of alternatives p e → Does alternatives p e q → Given of alternatives q (reports ++ report_taken e)
+  pub step_given : (p q : PoolData N E) (problem : Of) (pair : Owed E) (reports : List (Owed E)) → Sound of alternatives p problem pair → Given of alternatives p reports → (e : CoreEvent N E) → Lawful of alternatives p e → Does alternatives p e q → Given of alternatives q (reports ++ report_taken e)
   step_given p q problem pair reports s g (Claim w (Work i b k)) l d =
       let t = keeps_sound of alternatives p q problem pair s (Claim w (Work i b k)) l d in
       let t' = subst (λ r. Sound of alternatives r problem pair) d.3 t in
@@ -61,7 +62,7 @@ module _ {N Of E : Type 0} (of : N → Of) (alternatives : N → List (Owed E)) 
       subst (Given of alternatives q) (append_assoc reports (report_taken e) (flat_map report_taken es))
       (run_given es r.0 q problem pair (reports ++ report_taken e) (keeps_sound of alternatives p r.0 problem pair s e r.1 r.2) (step_given p r.0 problem pair reports s g e r.1 r.2) r.3)
 
-  opening_given : (root : N) (workers : ℕ) → Given of alternatives (opening root workers) []
+  pub opening_given : (root : N) (workers : ℕ) → Given of alternatives (opening root workers) []
   opening_given root workers = record {
     front = [];
     back = walk alternatives (opening root workers);
@@ -148,6 +149,15 @@ module _ {N Of E : Type 0} (of : N → Of) (alternatives : N → List (Owed E)) 
           ap cut_count (sum_total (λ (o : Owed E). o.cost) (reports ++ reports_left alternatives q) ∙ (ap (λ l. cost_in of alternatives (reports ++ l)) left_is ∙ total-append (λ (o : Owed E). o.cost) reports (flat_map left g.back)))
           ∙ (cut_sum (cost_in of alternatives reports) (cost_in of alternatives (flat_map left g.back)) (total (price of alternatives q) g.front) (total (price of alternatives q) g.back) g.costs (left_prices g.back behind g.others)
           ∙ ap cut_count (sym (total-append (price of alternatives q) g.front g.back) ∙ (ap (total (price of alternatives q)) (sym g.order) ∙ cost_is of alternatives q problem pair s)))
+
+  pub given_in_front : (p : PoolData N E) (problem : Of) (pair : Owed E) (reports : List (Owed E)) → Sound of alternatives p problem pair → Given of alternatives p reports
+      → (rest : List E) × (pair.events ≡ events_in of alternatives reports ++ rest)
+  given_in_front p problem pair reports s g =
+      let v : Alternative → List E = value of alternatives p in (
+        flat_map v g.back,
+        sym (spread_is of alternatives p problem pair s)
+            ∙ (ap (flat_map v) g.order ∙ (flat_map-append v g.front g.back ∙ ap (λ l. l ++ flat_map v g.back) (sym g.events))),
+      )
 
   pub reports_owed : (root : N) (workers : ℕ) (pair : Owed E) (es : List (CoreEvent N E)) (q : PoolData N E) → alternatives root ≡ pair ∷ [] → RunsTo of alternatives (opening root workers) es q → q.untried ≡ 0 → q.busy ≡ 0
       → (flat_map (λ (o : Owed E). o.events) (flat_map report_taken es ++ reports_left alternatives q) ≡ pair.events)

@@ -10,10 +10,11 @@ use Rattle.ll_laws.specs.Pool.{Owed, Open, Closed, Taken, Piece, PoolData, Alter
 use Rattle.ll_laws.specs.Spread.{last_first, is_of, kids_of, published_by, alternatives_of, length_of, walk}
 use Rattle.ll_laws.specs.Sound.{Every, Shaped, is_taken, is_taken_piece, is_taken_status}
 use Rattle.ll_laws.specs.CoreEvents.{change, with_status, with_batch, new_piece, claimed, reported, published, took, MayTake}
+use Rattle.ll_core.specs.Given.{total}
 use Rattle.ll_core.proofs.Conditions.{MayClaim, MayGrow}
 use Rattle.ll_core.specs.Cursor.{rest, begin, next_of, untaken, Points, PointsIn}
 use Rattle.ll_core.proofs.Walks.{every_more, insert_after, flat_last_first, last_first_same}
-use Rattle.ll_core.proofs.Once.{one_if, is_at, total, total-append}
+use Rattle.ll_core.proofs.Once.{one_if, is_at, total-append}
 use Rattle.ll_laws.specs.Pool.{place}
 use Rattle.ll_core.proofs.Pieces.{found, some_is, none_not_some, is_of_from}
 use Rattle.ll_core.proofs.Facts.{ends, kids_within, owed_before}

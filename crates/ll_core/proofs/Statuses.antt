@@ -8,9 +8,10 @@ use Rattle.ll_laws.specs.Pool.{Owed, Status, Open, Closed, Taken, Piece, PoolDat
 use Rattle.ll_laws.specs.Spread.{is_of, piece_of, kids_of, published_by, share, owes_of, length_of, walk}
 use Rattle.ll_laws.specs.Sound.{Each, Reported, report_of, Shaped, Sound, HasPiece, is_open, is_taken, is_taken_piece, is_taken_status, count_open, count_of, TakenFirst}
 use Rattle.ll_laws.specs.CoreEvents.{change, with_status, reported, took, MayTake}
+use Rattle.ll_core.specs.Given.{total}
 use Rattle.ll_core.proofs.Conditions.{MayReport}
 use Rattle.ll_core.proofs.Walks.{walk_same, is_alternative}
-use Rattle.ll_core.proofs.Once.{one_if, is_at, total, total-append}
+use Rattle.ll_core.proofs.Once.{one_if, is_at, total-append}
 use Rattle.ll_core.proofs.Unique.{unique}
 use Rattle.ll_laws.specs.Pool.{place}
 use Rattle.ll_core.proofs.Pieces.{Apart, Changed, change_get, change_at, change_other, length-change, flat_change_same, found, find_change_other, is_of_parts, is_of_from, some_is, none_not_some}

@@ -21,8 +21,9 @@ use Rattle.ll_core.specs.Slots.{piece_in, stop_in, status_in, data_of}
 use Rattle.ll_core.specs.declared.cursor.Stop.{Stop}
 use Rattle.ll_core.specs.declared.room.Slot.{Slot}
 use Rattle.ll_core.specs.declared.room.Waiting.{Waiting}
+use Rattle.ll_core.specs.Given.{total}
 use Rattle.ll_core.proofs.Walks.{is_alternative}
-use Rattle.ll_core.proofs.Once.{one_if, is_at, total}
+use Rattle.ll_core.proofs.Once.{one_if, is_at}
 use Rattle.ll_core.proofs.Pieces.{found, lookup, length-change, none_not_some, some_is}
 use Rattle.ll_core.proofs.Facts.{get_map_at}
 use Rattle.ll_core.proofs.Unique.{stands_once}

@@ -6,3 +6,4 @@ pub mod Copies
 pub mod Cursor
 pub mod Whole
 pub mod Laws
+pub mod Given

@@ -1,5 +1,6 @@
 //! The laws of core events. The program calls no function of this module.
 ghost use Rattle.ll_core.specs.Laws.{KeepsSound, LeadsOn, LeavesOpen, LeavesNone, ClaimGives, PublishSplits, ReportCloses, TakesAlone, KeepsWorkers, SpreadsRoot, RunsSound, ClaimsOnce, ReportsOwed, LaterItself, LaterOn, NothingComes};
+ghost use Rattle.ll_core.specs.Given.{NoneGiven, GivenOn, TakenStays, GivenInFront, GivenAndLeft, LeavesTaken, LeavesMarks};
 
 use ll_laws::Batch;
 
@@ -30,4 +31,17 @@ pub fn later_pools<N: Batch>()
     ensures itself { LaterItself N.of N.alternatives }
     ensures on { LaterOn N.of N.alternatives }
     ensures nothing { NothingComes N.of N.alternatives }
+{}
+
+/// The reports that were taken from a pool are what the front of its walk owes: of a new pool none, after a lawful event those of before and the one
+/// that it takes. Others may publish meanwhile: what they do stands behind. Once nothing is untried or open, what was taken and what is left are
+/// what the root owes. An event that takes no report leaves the taken pieces as they are, and only `starve` and `stop` change their marks.
+pub fn taken_reports<N: Batch>()
+    ensures none { NoneGiven N.of N.alternatives }
+    ensures on { GivenOn N.of N.alternatives }
+    ensures stays { TakenStays N.of N.alternatives }
+    ensures front { GivenInFront N.of N.alternatives }
+    ensures left { GivenAndLeft N.of N.alternatives }
+    ensures leaves_taken { LeavesTaken N.of N.alternatives }
+    ensures leaves_marks { LeavesMarks N.of N.alternatives }
 {}

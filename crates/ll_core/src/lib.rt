@@ -13,5 +13,5 @@ mod pool;
 mod room;
 
 pub use answers::{Claimed, Look, PublishFault, Ready};
-pub use laws::{every_run, later_pools, lawful_events};
+pub use laws::{every_run, later_pools, lawful_events, taken_reports};
 pub use pool::Pool;

@@ -8,8 +8,9 @@ use Rattle.ll_laws.specs.Pool.{Owed, Closed, Taken, Piece, PoolData, Alternative
 use Rattle.ll_laws.specs.Spread.{piece_of, kids_of, published_by, length_of, walk, is_of}
 use Rattle.ll_laws.specs.Sound.{Every, Shaped, is_open, is_taken, is_taken_status}
 use Rattle.ll_laws.specs.CoreEvents.{change, with_status, took, MayTake, Readies, NotYet, report_in, report_left, reports_left}
+use Rattle.ll_core.specs.Given.{total}
 use Rattle.ll_core.proofs.Walks.{walk_same}
-use Rattle.ll_core.proofs.Once.{total, total-append, one_if, is_at}
+use Rattle.ll_core.proofs.Once.{total-append, one_if, is_at}
 use Rattle.ll_core.proofs.Pieces.{found, lookup, none_not_some, some_is, is_of_from}
 use Rattle.ll_core.proofs.Unique.{unique}
 use Rattle.ll_core.proofs.Statuses.{read_same, piece_here, piece_elsewhere}

@@ -4,5 +4,5 @@
 mod order;
 mod outlet;
 
-pub use order::drain;
+pub use order::{drain, give};
 pub use outlet::{OutFault, Outlet};

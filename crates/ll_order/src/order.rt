@@ -48,8 +48,15 @@ pub fn drain<N: Batch, O: Outlet>(pool: &mut Pool<N>, out: &mut O) -> Result<Cou
     Ok(counts)
 }
 
-// Gives the events, which are welcome, and counts them.
-fn give<O: Outlet>(events: Vec<Event>, out: &mut O, mut counts: Counts) -> Result<Counts, OutFault>
+/// Gives an outlet the events of one report, which are welcome, in order, and adds them to the counts, whose inferences stay.
+///
+/// After a refusal, which is the outlet's, a prefix of the events was given, and the next one was refused. `Write` only where the outlet's
+/// count of faults rose.
+pub fn give<O: Outlet>(
+    events: Vec<Event>,
+    out: &mut O,
+    mut counts: Counts,
+) -> Result<Counts, OutFault>
     requires welcome { Every (O.welcome out.old) events.items }
     requires few { (counts.answers ≤ 18446744073709551615) × (counts.reached ≤ 18446744073709551615) }
     ensures given { OnOk result (Gives O.takes out.old events.items out.new) }

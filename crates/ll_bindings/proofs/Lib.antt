@@ -1,0 +1,10 @@
+pub mod Spines
+pub mod Stacks
+pub mod Readings
+pub mod Tables
+pub mod Scans
+pub mod Alike
+pub mod Binding
+pub mod Pairs
+pub mod Solving
+pub mod Settling

@@ -1,0 +1,14 @@
+use Rattle.ll_bindings.specs.Bindings.{unbound}
+use Rattle.ll_bindings.specs.Pairs.{AreClasses}
+use Rattle.ll_bindings.proofs.Settling.{IsSettling}
+use Rattle.ll_bindings.proofs.equate.settle.Given as goal
+
+abbrev pub invariant-pairs : goal.invariant-pairs
+invariant-pairs g l = record {
+  settling : IsSettling l.bank (g.T.Bindings.table l.fn.table) (g.T.Bindings.table l.table) l.fn.work.pairs.items l.work.pairs.items;
+  classes : AreClasses l.bank (g.T.Bindings.table l.table) l.work.classes.up.items;
+  grows : g.T.Bindings.grows l.fn.table l.table;
+}
+
+abbrev pub decreases-pairs : goal.decreases-pairs
+decreases-pairs g l = unbound (g.T.Bindings.table l.table).bound

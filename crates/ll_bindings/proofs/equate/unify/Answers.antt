@@ -1,0 +1,70 @@
+use Rattle.std.proofs.Common.{◌≡◌, ◌<◌, ◌≤◌, ◌+◌, ◌∙◌, suc, List, [], ◌∷◌, length, drop, get_or, refl, subst, arith}
+use Rattle.std.proofs.lemmas.List.{get_or_default}
+use Rattle.ll_bank.specs.declared.At.{At}
+use Rattle.ll_bank.specs.Term.{Term}
+use Rattle.ll_bank.specs.Nodes.{term_tree, term_trees}
+use Rattle.ll_bindings.specs.Solving.{Solves, Settles, wanted, spare}
+use Rattle.ll_bindings.proofs.Settling.{next-refused, next-settled, trees-none}
+use Rattle.ll_bindings.proofs.Solving.{solves-start, solves-none}
+use Rattle.ll_bindings.proofs.equate.unify.Goals as goal
+
+pub loop-index-init : goal.loop-index-init
+loop-index-init g c = record {
+  table = c.requires.table;
+  count = refl;
+  cells = λ w h. h;
+  classes = c.new-2.ensures c.args.bank.now (g.T.Bindings.table c.args.table.now);
+  grows = g.met.T.Bindings.stays c.args.table.now;
+  solves = solves-start c.args.bank.now (g.T.Bindings.table c.args.table.now) (term_trees c.args.bank.now c.args.left.now) (term_trees c.args.bank.now c.args.right.now) c.requires.table;
+}
+
+pub returns-then-not-branch-clause-solved : goal.returns-then-not-branch-clause-solved
+returns-then-not-branch-clause-solved g c =
+    let old = g.T.Bindings.table c.args.table.now in
+    let none : At = record { 0 = 0 } in
+    let a = get_or c.args.left.now c.loop-index.index none in
+    let b = get_or c.args.right.now c.loop-index.index none in
+    let below : c.loop-index.index < length c.args.left.now = omega (arith, c.loop-index-test.true, c.loop-index.auto.index-end) in
+    next-refused c.args.bank.now old (g.T.Bindings.table c.loop-index.table) (g.T.Bindings.table c.make_equal.new.table) (spare old)
+    (wanted c.args.bank.now old (term_trees c.args.bank.now c.args.left.now) (term_trees c.args.bank.now c.args.right.now)) c.args.left.now c.args.right.now c.loop-index.index a b
+    below c.requires.pairs (get_or_default c.args.left.now c.loop-index.index none a below) (get_or_default c.args.right.now c.loop-index.index none b (let q = c.requires.pairs in omega arith)) c.loop-index.invariant.solves
+    (subst (Settles c.args.bank.now (g.T.Bindings.table c.loop-index.table) (g.T.Bindings.table c.make_equal.new.table) (term_tree c.args.bank.now a.0 ∷ []) (term_tree c.args.bank.now b.0 ∷ [])) c.if-not-branch.true
+    c.in_ok-make_equal.ensures.settles)
+
+pub loop-index-preserved : goal.loop-index-preserved
+loop-index-preserved g c =
+    let old = g.T.Bindings.table c.args.table.now in
+    let none : At = record { 0 = 0 } in
+    let a = get_or c.args.left.now c.loop-index.index none in
+    let b = get_or c.args.right.now c.loop-index.index none in
+    let below : c.loop-index.index < length c.args.left.now = omega (arith, c.loop-index-test.true, c.loop-index.auto.index-end) in
+    let next : c.loop-index.index + 1 ≡ suc c.loop-index.index = omega arith in
+    let h = subst (Settles c.args.bank.now (g.T.Bindings.table c.loop-index.table) (g.T.Bindings.table c.make_equal.new.table) (term_tree c.args.bank.now a.0 ∷ []) (term_tree c.args.bank.now b.0 ∷ [])) c.if-not-branch.false
+    c.in_ok-make_equal.ensures.settles in
+    record {
+      table = h.table;
+      count = h.count ∙ c.loop-index.invariant.count;
+      cells = λ w q. h.cells w (c.loop-index.invariant.cells w q);
+      classes = c.in_ok-make_equal.ensures.classes c.if-not-branch.false;
+      grows = g.met.T.Bindings.again c.args.table.now c.loop-index.table c.make_equal.new.table c.loop-index.invariant.grows c.make_equal.ensures.grows;
+      solves = next-settled c.args.bank.now old (g.T.Bindings.table c.loop-index.table) (g.T.Bindings.table c.make_equal.new.table) (spare old)
+          (wanted c.args.bank.now old (term_trees c.args.bank.now c.args.left.now) (term_trees c.args.bank.now c.args.right.now)) c.args.left.now c.args.right.now c.loop-index.index (c.loop-index.index + 1)
+          a b below c.requires.pairs (get_or_default c.args.left.now c.loop-index.index none a below) (get_or_default c.args.right.now c.loop-index.index none b (let q = c.requires.pairs in omega arith)) next c.loop-index.invariant.solves h;
+    }
+
+pub returns-clause-solved : goal.returns-clause-solved
+returns-clause-solved g c =
+    let old = g.T.Bindings.table c.args.table.now in
+    let end : length c.args.left.now ≤ c.loop-index.index = omega (arith, c.loop-index-test.false, c.loop-index.auto.index-end) in
+    let q = c.requires.pairs in
+    record {
+      is = solves-none c.args.bank.now (g.T.Bindings.table c.loop-index.table) (spare old)
+          (wanted c.args.bank.now old (term_trees c.args.bank.now c.args.left.now) (term_trees c.args.bank.now c.args.right.now))
+          (subst (λ (us : List Term). Solves c.args.bank.now (g.T.Bindings.table c.loop-index.table) (spare old) (wanted c.args.bank.now old (term_trees c.args.bank.now c.args.left.now) (term_trees c.args.bank.now c.args.right.now)) us [])
+          (trees-none c.args.bank.now c.args.left.now c.loop-index.index end)
+          (subst (λ (us : List Term). Solves c.args.bank.now (g.T.Bindings.table c.loop-index.table) (spare old) (wanted c.args.bank.now old (term_trees c.args.bank.now c.args.left.now) (term_trees c.args.bank.now c.args.right.now))
+          (drop c.loop-index.index (term_trees c.args.bank.now c.args.left.now)) us)
+          (trees-none c.args.bank.now c.args.right.now c.loop-index.index (omega arith)) c.loop-index.invariant.solves));
+      table = c.loop-index.invariant.table;
+      same_count = c.loop-index.invariant.count;
+    }

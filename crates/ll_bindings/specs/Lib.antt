@@ -1,0 +1,6 @@
+pub mod Spines
+pub mod Stacks
+pub mod Bindings
+pub mod Scanned
+pub mod Pairs
+pub mod Solving

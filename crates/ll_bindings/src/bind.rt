@@ -1,0 +1,103 @@
+//! How a variable is bound.
+ghost use Rattle.std.specs.Prelude.{◌≡◌, ◌<◌, ℕ, None, length, All, IfOk, OnOk};
+ghost use Rattle.ll_bank.specs.Term.{Var, sub};
+ghost use Rattle.ll_bank.specs.Nodes.{term_tree};
+ghost use Rattle.ll_laws.specs.Unify.{bind};
+ghost use Rattle.ll_bindings.specs.Bindings.{IsTable, IsEnd, found, count, cell, FallsOne, Falls, Binds, IsMeeting, Meets};
+
+use crate::scan::{Seen, scan};
+use crate::table::{Bindings, is_older};
+use ll_bank::{At, Bank, OutOfMemory, TermView};
+use std::alloc::Global;
+
+// The level of a variable falls to a level where it was higher.
+fn lower_one<T: Bindings>(table: &mut T, var: usize, level: u32) -> Result<(), OutOfMemory>
+    requires { var < length (T.table table.old).levels }
+    ensures falls { OnOk result (FallsOne (T.table table.old) (T.table table.new) var level) }
+    ensures grows { T.grows table.old table.new }
+{
+    if level < table.level(var) {
+        table.lower(var, level)
+    } else {
+        Ok(())
+    }
+}
+
+// The levels of these variables fall to a level where they were higher.
+fn lower<T: Bindings>(table: &mut T, vars: &[usize], level: u32) -> Result<(), OutOfMemory>
+    requires { All (λ x. x < length (T.table table.old).levels) vars.now }
+    ensures falls { OnOk result (Falls (T.table table.old) (T.table table.new) vars.now level) }
+    ensures grows { T.grows table.old table.new }
+{
+    for var in vars {
+        lower_one(table, *var, level)?;
+    }
+    Ok(())
+}
+
+// Binds a variable to a term that is no variable, or finds that it may not be.
+fn bind_term<T: Bindings>(
+    alloc: Global,
+    bank: &Bank,
+    table: &mut T,
+    seen: &mut Seen,
+    var: usize,
+    to: At,
+) -> Result<bool, OutOfMemory>
+    requires table { IsTable bank.now (T.table table.old) }
+    requires below { var < count (T.table table.old) }
+    requires free { cell (T.table table.old) var ≡ None }
+    requires to { IsEnd bank.now (T.table table.old) to.0 }
+    requires no_var { (x : ℕ) → term_tree bank.now to.0 ≡ Var x → ⊥ }
+    ensures grows { T.grows table.old table.new }
+    ensures binds { IfOk result (λ bound. Binds bank.now (T.table table.old) (T.table table.new) (Var var) (term_tree bank.now to.0) (bind (T.table table.old).levels var (sub (found bank.now (T.table table.old)) (term_tree bank.now to.0))) bound) }
+{
+    let level = table.level(var);
+    seen.clear();
+    if !scan(alloc, bank, table, seen, var, level, to)? {
+        return Ok(false);
+    }
+    lower(table, &seen.vars, level)?;
+    table.set(var, to)?;
+    Ok(true)
+}
+
+/// Binds a variable at one of two places to what the other shows, or finds that it may not be.
+pub fn bind<T: Bindings>(
+    alloc: Global,
+    bank: &Bank,
+    table: &mut T,
+    seen: &mut Seen,
+    left: At,
+    right: At,
+) -> Result<bool, OutOfMemory>
+    requires table { IsTable bank.now (T.table table.old) }
+    requires meet { IsMeeting bank.now (T.table table.old) left.0 right.0 }
+    ensures grows { T.grows table.old table.new }
+    ensures meets { IfOk result (λ bound. Meets bank.now (T.table table.old) (T.table table.new) (term_tree bank.now left.0) (term_tree bank.now right.0) bound) }
+{
+    match bank.term_at(left) {
+        TermView::Var(x) => match bank.term_at(right) {
+            TermView::Var(y) => {
+                if is_older(table, x as usize, y as usize) {
+                    table.set(y as usize, left)?;
+                } else {
+                    table.set(x as usize, right)?;
+                }
+                Ok(true)
+            }
+            TermView::Int(_) => bind_term(alloc, bank, table, seen, x as usize, right),
+            TermView::App(_, _) => bind_term(alloc, bank, table, seen, x as usize, right),
+        },
+        TermView::Int(_) => match bank.term_at(right) {
+            TermView::Var(y) => bind_term(alloc, bank, table, seen, y as usize, left),
+            TermView::Int(_) => unreachable!(),
+            TermView::App(_, _) => unreachable!(),
+        },
+        TermView::App(_, _) => match bank.term_at(right) {
+            TermView::Var(y) => bind_term(alloc, bank, table, seen, y as usize, left),
+            TermView::Int(_) => unreachable!(),
+            TermView::App(_, _) => unreachable!(),
+        },
+    }
+}

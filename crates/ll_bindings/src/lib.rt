@@ -1,0 +1,14 @@
+//! Unification by levels on the terms of a bank, under bindings that are there already (after Robinson, A Machine-Oriented Logic
+//! Based on the Resolution Principle, 1965), over any table of bindings.
+#![tactic(auto)]
+
+mod bind;
+mod classes;
+mod equate;
+mod meet;
+mod scan;
+mod table;
+
+pub use equate::unify;
+pub use scan::Frame;
+pub use table::{Bindings, argument, walk};

@@ -1,0 +1,139 @@
+//! What stands in a term.
+ghost use Rattle.std.specs.Prelude.{◌≡◌, ◌<◌, ◌++◌, ◌∷◌, ◌⊎◌, [], ℕ, Bool, true, length, All, IfOk, OnOk, slice_set};
+ghost use Rattle.ll_bank.specs.Term.{sub};
+ghost use Rattle.ll_bank.specs.Nodes.{term_tree, HasTerm};
+ghost use Rattle.ll_bindings.specs.Bindings.{IsTable, IsPlaceOf, IsEnd, found, count};
+ghost use Rattle.ll_bindings.specs.Scanned.{IsScan, IsKnown, IsLook};
+
+use crate::classes::{grow, is_worth};
+use crate::table::{Bindings, argument, walk};
+use ll_bank::{At, Bank, Head, OutOfMemory, TermView};
+use std::alloc::Global;
+
+/// A term whose arguments before `next` are done.
+#[derive(Clone, Copy)]
+pub struct Frame {
+    pub at: At,
+    pub next: usize,
+}
+
+/// Places that were looked through, and the variables of all that was.
+#[derive(Drop)]
+pub struct Seen {
+    places: Vec<At>,
+    slots: Vec<usize>,
+    steps: usize,
+    pub vars: Vec<usize>,
+}
+
+impl Seen {
+    /// Nothing seen.
+    pub fn new(alloc: Global) -> Self {
+        Seen {
+            places: Vec::new(alloc),
+            slots: Vec::new(alloc),
+            steps: 0,
+            vars: Vec::new(alloc),
+        }
+    }
+
+    /// Forgets all.
+    pub fn clear(&mut self)
+        ensures places { self.new.places.items ≡ [] }
+        ensures vars { self.new.vars.items ≡ [] }
+    {
+        self.places.clear();
+        self.vars.clear();
+        self.steps = 0;
+    }
+
+    // Whether it is known that a place was looked through.
+    fn has(&self, at: At) -> bool
+        ensures { IsKnown self.now.places.items at result }
+    {
+        if at.0 >= self.slots.len() {
+            return false;
+        }
+        let slot = self.slots[at.0];
+        if slot < self.places.len() {
+            self.places[slot].0 == at.0
+        } else {
+            false
+        }
+    }
+
+    // Notes a place, where that is worth its cost.
+    fn add(&mut self, at: At) -> Result<(), OutOfMemory>
+        ensures places { OnOk result ((self.new.places.items ≡ self.old.places.items ++ at ∷ []) ⊎ (self.new.places.items ≡ self.old.places.items)) }
+        ensures vars { self.new.vars.items ≡ self.old.vars.items }
+    {
+        self.steps = self.steps.saturating_add(1);
+        if !is_worth(self.steps, at.0) {
+            return Ok(());
+        }
+        grow(&mut self.slots, at.0)?;
+        self.slots[at.0] = self.places.len();
+        self.places.push(at)?;
+        Ok(())
+    }
+
+    // Looks at the sign at a place, and notes its variable.
+    fn look(&mut self, bank: &Bank, var: usize, level: u32, at: At) -> Result<bool, OutOfMemory>
+        requires { HasTerm bank.now at.0 }
+        ensures look { IfOk result (λ good. IsLook (term_tree bank.now at.0) var level self.old.vars.items self.new.vars.items good) }
+        ensures places { self.new.places.items ≡ self.old.places.items }
+    {
+        match bank.term_at(at) {
+            TermView::Var(other) => {
+                self.vars.push(other as usize)?;
+                Ok(other as usize != var)
+            }
+            TermView::Int(_) => Ok(true),
+            TermView::App(Head::Eigen(eigen), _) => Ok(eigen < level),
+            TermView::App(Head::Name(_), _) => Ok(true),
+            TermView::App(Head::Bound(_), _) => Ok(true),
+        }
+    }
+}
+
+/// Whether a variable of this level may be bound to the term at a place: it does not stand in the term, and the term's
+/// eigenconstants are below the level. The term's variables are then noted.
+pub fn scan<T: Bindings>(
+    alloc: Global,
+    bank: &Bank,
+    table: &T,
+    seen: &mut Seen,
+    var: usize,
+    level: u32,
+    start: At,
+) -> Result<bool, OutOfMemory>
+    requires table { IsTable bank.now (T.table table.now) }
+    requires start { IsEnd bank.now (T.table table.now) start.0 }
+    requires places { seen.old.places.items ≡ [] }
+    requires vars { seen.old.vars.items ≡ [] }
+    ensures { IfOk result (λ good. IsScan (T.table table.now) var level seen.new.vars.items (sub (found bank.now (T.table table.now)) (term_tree bank.now start.0)) good) }
+{
+    let mut frames = Vec::new(alloc);
+    frames.push(Frame { at: start, next: 0 })?;
+    while let Some(frame) = frames.pop() {
+        match argument(bank, frame.at, frame.next) {
+            Some(arg) => {
+                frames.push(Frame {
+                    at: frame.at,
+                    next: frame.next + 1,
+                })?;
+                let end = walk(bank, table, arg);
+                if !seen.has(end) {
+                    frames.push(Frame { at: end, next: 0 })?;
+                }
+            }
+            None => {
+                if !seen.look(bank, var, level, frame.at)? {
+                    return Ok(false);
+                }
+                seen.add(frame.at)?;
+            }
+        }
+    }
+    Ok(true)
+}

@@ -1,0 +1,4 @@
+pub mod Cells
+pub mod Trails
+pub mod Stored
+pub mod Lending

@@ -1,11 +1,12 @@
 // The derivations that a run writes.
 use std::alloc::{AllocError, Global};
 
-/// A derivation's text, and how many nodes it has.
+/// A derivation's text, how many nodes it has, and whether one of them is of a whole-number goal.
 #[derive(Drop)]
 pub struct Written {
     pub text: String,
     pub nodes: usize,
+    pub counts_numbers: bool,
 }
 
 /// The derivations among what a run wrote, each with a node for each line but the first and those of the terms.
@@ -17,8 +18,13 @@ pub fn derivations_in(alloc: Global, output: &str) -> Result<Vec<Written>, Alloc
             None => behind,
         };
         let nodes = nodes_in(lines);
+        let counts_numbers = has_number_line(lines);
         let text = format!(in alloc; "proof 1\n{lines}\n")?;
-        found.push(Written { text, nodes })?;
+        found.push(Written {
+            text,
+            nodes,
+            counts_numbers,
+        })?;
     }
     Ok(found)
 }
@@ -31,4 +37,13 @@ fn nodes_in(lines: &str) -> usize {
         }
     }
     nodes
+}
+
+fn has_number_line(lines: &str) -> bool {
+    for line in lines.lines() {
+        if line == "num" {
+            return true;
+        }
+    }
+    false
 }

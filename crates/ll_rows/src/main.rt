@@ -27,7 +27,8 @@
 //! What isn't given is empty, or 0, or doesn't fail. A line `[subject]` begins a group: what is set there, in front of its first
 //! row, holds for each row of the group that doesn't set it itself. Empty lines and those that begin with `#` say nothing.
 //!
-//! Where a row has the word `--proofs` and the status 0, each derivation that was written is checked as well.
+//! Where a row has the word `--proofs` and the status 0, each derivation that was written is checked as well, and covered with the row's
+//! bound unless it counts numbers.
 //! Each row that fails is told with what was wanted and what came, and the last line says how many hold or fail.
 #![tactic(auto)]
 

@@ -14,6 +14,11 @@ impl Outcome {
         self.status == status && self.written.as_slice() == text
     }
 
+    /// Whether this is what a cover says of a derivation that an answer covers.
+    pub fn is_covered(&self) -> bool {
+        self.status == 0 && self.written.starts_with(b"covered by answer ")
+    }
+
     /// Whether the sink failed, and a front of the text was written that isn't the whole.
     pub fn is_cut_from(&self, text: &[u8]) -> bool {
         self.status == UNWRITABLE
@@ -48,6 +53,8 @@ pub enum Trial {
     RoomEnds(u64),
     /// The derivation with this number, counted from 1, was checked.
     Checked(usize),
+    /// The derivation with this number, counted from 1, was asked to be covered.
+    Covered(usize),
 }
 
 impl fmt::Display for Trial {
@@ -58,6 +65,7 @@ impl fmt::Display for Trial {
             Trial::CallFails(call) => write!(f, "where call {call} of the sink fails"),
             Trial::RoomEnds(room) => write!(f, "where the sink has room for {room} bytes"),
             Trial::Checked(number) => write!(f, "where its derivation {number} is checked"),
+            Trial::Covered(number) => write!(f, "where its derivation {number} is covered"),
         }
     }
 }

@@ -1,5 +1,5 @@
 // Running a row.
-use crate::derivations::derivations_in;
+use crate::derivations::{Written, derivations_in};
 use crate::outcome::{Failure, Outcome, Trial, UNWRITABLE};
 use crate::row::Row;
 use ll_edge::{MemShelf, MemSink, OpenGate};
@@ -13,7 +13,7 @@ const SPARE_ROOM: usize = 1000;
 /// Why a row fails, if it does.
 ///
 /// The row is run as it stands, by the top call and, where that answers, by the plain one. Then it is run with each fault of
-/// the sink that is to cut its output, and each derivation that it wrote is checked.
+/// the sink that is to cut its output, and each derivation that it wrote is checked and covered.
 pub fn failure_of<R: Threads + Wait + Sync>(
     rt: &R,
     alloc: Global,
@@ -107,7 +107,7 @@ fn room_failure<R: Threads + Wait + Sync>(
     Ok(None)
 }
 
-// Each derivation that the row wrote is checked.
+// Each derivation that the row wrote is checked, and covered with the row's bound, unless it counts numbers.
 fn derivation_failure(alloc: Global, row: &Row) -> Result<Option<Failure>, AllocError> {
     let Ok(output) = str::from_utf8(&row.output) else {
         return Ok(None);
@@ -118,15 +118,59 @@ fn derivation_failure(alloc: Global, row: &Row) -> Result<Option<Failure>, Alloc
     let mut number = 0usize;
     for derivation in &derivations_in(alloc, output)? {
         number = number.saturating_add(1);
-        let came = check(alloc, row, derivation.text.as_bytes())?;
-        let nodes = derivation.nodes;
-        let line = format!(in alloc; "yes, nodes {nodes}\n")?;
-        let failure = unless_wanted(alloc, Trial::Checked(number), came, 0, line.as_bytes())?;
-        if failure.is_some() {
-            return Ok(failure);
+        if let Some(failure) = check_failure(alloc, row, derivation, number)? {
+            return Ok(Some(failure));
+        }
+        if let Some(failure) = cover_failure(alloc, row, derivation, number)? {
+            return Ok(Some(failure));
         }
     }
     Ok(None)
+}
+
+// The derivation with this number is checked.
+fn check_failure(
+    alloc: Global,
+    row: &Row,
+    derivation: &Written,
+    number: usize,
+) -> Result<Option<Failure>, AllocError> {
+    let words = ["check", "prog", "ques", "proof"];
+    let came = judge(alloc, row, derivation.text.as_bytes(), &words)?;
+    let nodes = derivation.nodes;
+    let line = format!(in alloc; "yes, nodes {nodes}\n")?;
+    unless_wanted(alloc, Trial::Checked(number), came, 0, line.as_bytes())
+}
+
+// The derivation with this number is covered with the row's bound, unless it counts numbers. An answer before its own may cover it too.
+fn cover_failure(
+    alloc: Global,
+    row: &Row,
+    derivation: &Written,
+    number: usize,
+) -> Result<Option<Failure>, AllocError> {
+    if derivation.counts_numbers {
+        return Ok(None);
+    }
+    let words = ["cover", "prog", "ques", "proof", "--bound", bound_of(row)];
+    let came = judge(alloc, row, derivation.text.as_bytes(), &words)?;
+    if came.is_covered() {
+        return Ok(None);
+    }
+    let line = format!(in alloc; "covered by answer {number}\n")?;
+    unless_wanted(alloc, Trial::Covered(number), came, 0, line.as_bytes())
+}
+
+// The word behind `--bound`.
+fn bound_of(row: &Row) -> &str {
+    let mut behind = false;
+    for word in &row.words {
+        if behind {
+            return word.as_str();
+        }
+        behind = word.as_str() == "--bound";
+    }
+    ""
 }
 
 // What a run of the row over this sink comes to.
@@ -142,13 +186,17 @@ fn play<R: Threads + Wait + Sync>(
     outcome(alloc, status, &sink)
 }
 
-// What a check of this derivation comes to, of the row's program and query.
-fn check(alloc: Global, row: &Row, derivation: &[u8]) -> Result<Outcome, AllocError> {
-    let words = ["check", "prog", "ques", "proof"];
+// What these words, of a check or a cover, come to with this derivation, over the row's program and query.
+fn judge(
+    alloc: Global,
+    row: &Row,
+    derivation: &[u8],
+    words: &[&str],
+) -> Result<Outcome, AllocError> {
     let mut shelf = shelf_of(alloc, row, derivation)?;
     let mut sink = MemSink::new(alloc, SPARE_ROOM, Vec::new(alloc))?;
-    // The words of a check are in a form that the plain call serves.
-    let status = ll_top::lolli_plain(alloc, &words, &mut shelf, &mut sink).unwrap_or(u8::MAX);
+    // The words of a check or a cover are in a form that the plain call serves.
+    let status = ll_top::lolli_plain(alloc, words, &mut shelf, &mut sink).unwrap_or(u8::MAX);
     outcome(alloc, status, &sink)
 }
 

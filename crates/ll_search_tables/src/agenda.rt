@@ -54,6 +54,19 @@ fn images_one_list(rt: HostRuntime) -> Result<(), Fail> {
 }
 
 #[test]
+fn drops_the_last_frame(rt: HostRuntime) -> Result<(), Fail> {
+    let mut agenda = Agenda::new(rt.alloc());
+    let rest = agenda.push(2, Agenda::<u32>::none())?;
+    let top = agenda.push(1, rest)?;
+    assert!(rt; agenda.is_last(top));
+    assert!(rt; !agenda.is_last(rest));
+    agenda.cut(1);
+    assert!(rt; agenda.is_last(rest));
+    assert_items(&rt, &agenda, rest, &[2]);
+    Ok(())
+}
+
+#[test]
 fn cuts_frames(rt: HostRuntime) -> Result<(), Fail> {
     let mut agenda = Agenda::new(rt.alloc());
     let none = Agenda::<u32>::none();

@@ -1,10 +1,12 @@
-//! Tests of the search: banks, agendas, unification and resources.
+//! Tests of the search: banks, agendas, unification, resources and instances.
 #![tactic(auto)]
 
 #[cfg(test)]
 mod agenda;
 #[cfg(test)]
 mod bank;
+#[cfg(test)]
+mod instances;
 #[cfg(test)]
 mod resources;
 #[cfg(test)]

@@ -1,15 +1,16 @@
--- The words of a print, those of a check, and a form among the forms.
-use Rattle.std.proofs.Common.{◌≡◌, ℕ, suc, ◌+◌, ◌<◌, ◌≤◌, Bool, true, false, List, [], ◌∷◌, ◌++◌, length, take, slice_get, get_or, Option, Some, None, refl, ap, sym, subst, ◌∙◌, inl, inr, arith}
-use Rattle.std.specs.Prelude.{IfSome, IsSomeAnd, codes, option_map}
+-- The words of a print, those of a check, those of a cover, and a form among the forms.
+use Rattle.std.proofs.Common.{◌≡◌, ℕ, suc, ◌+◌, ◌<◌, ◌≤◌, Bool, true, false, ◌||◌, List, [], ◌∷◌, ◌++◌, length, take, slice_get, get_or, Option, Some, None, refl, ap, sym, subst, ◌∙◌, inl, inr, arith}
+use Rattle.std.specs.Prelude.{IfSome, IsSomeAnd, codes, option_map, is_some}
+use Rattle.std.specs.Str.Parse.{digits_value}
 use Rattle.std.proofs.lemmas.Option.{slice_get_past, slice_get-map, slice_get-get_or}
 use Rattle.std.specs.Borrow.{Bor}
 use Rattle.ll_top.specs.Outcome.{word_texts}
-use Rattle.ll_top.specs.Begins.{Begins, Leads}
-use Rattle.ll_top.specs.Words.{ThisWord, AnyName, is_word, Form, Fits, part, done, FitsForm, run_form, print_form, check_form, IsInForm, IsPrint, CheckWords, IsCheck, IsBadWord}
+use Rattle.ll_top.specs.Begins.{Begins, IsFirstBad, Leads}
+use Rattle.ll_top.specs.Words.{ThisWord, AnyName, is_word, Form, Fits, part, done, FitsForm, NumberFrom, option, here, bound_option, greatest_bound, number_from, run_form, print_form, check_form, cover_form, IsInForm, IsPrint, CheckWords, IsCheckForm, IsCheck, IsBadWord}
 use Rattle.ll_top.specs.RunForm.{HasPart, LacksPart, IsBadFormWord}
 use Rattle.ll_top.proofs.FirstBad.{drop-end, leads-start, leads-bad, IsStuck}
-use Rattle.ll_top.proofs.Forms.{same-word, words-same, leads-part, bad-part, bad-option}
-use Rattle.ll_top.proofs.RunWords.{can-run}
+use Rattle.ll_top.proofs.Forms.{same-word, words-same, leads-part, bad-part, leads-option, bad-option, bad-end}
+use Rattle.ll_top.proofs.RunWords.{can-run, value-of}
 
 -- ---- the words of a print
 
@@ -72,8 +73,102 @@ module _ (words : List (List ℕ)) (check : HasPart words 0 (ThisWord (codes "ch
         pub one-more_checked : 4 < length words → IsBadFormWord check_form words 5
         one-more_checked l = record { place = 4; is = refl; bad = bad-option (FitsForm check_form) words 4 [] (get_or words 4 []) (slice_get-get_or words 4 [] l) refl can-end to-check_end }
 
-        pub whole-check : (check : CheckWords) → slice_get words 1 ≡ Some check.program → slice_get words 2 ≡ Some check.query → slice_get words 3 ≡ Some check.proof → length words ≤ 4 → IsCheck words check
-        whole-check check p q r l = record { form = to-check_end.good (subst (Fits [] []) (sym (drop-end words 4 (slice_get_past words 4 l))) (done refl)); program = p; query = q; proof = r }
+        pub whole-check : (check : CheckWords) → check.bound ≡ None → slice_get words 1 ≡ Some check.program → slice_get words 2 ≡ Some check.query → slice_get words 3 ≡ Some check.proof → length words ≤ 4 → IsCheck words check
+        whole-check check e p q r l =
+            let form = to-check_end.good (subst (Fits [] []) (sym (drop-end words 4 (slice_get_past words 4 l))) (done refl)) in
+            record { form = subst (IsCheckForm words) (sym e) form; program = p; query = q; proof = r }
+
+-- ---- the words of a cover
+
+can-bound : Begins (Fits [] (bound_option ∷ [])) []
+can-bound = (codes "--bound" ∷ codes "0" ∷ [], option (here refl) refl (part refl (done refl)))
+
+can-number : Begins (Fits (NumberFrom 0 greatest_bound ∷ []) []) []
+can-number = (codes "0" ∷ [], part refl (done refl))
+
+can-cover_one : Begins (Fits (AnyName ∷ []) (bound_option ∷ [])) []
+can-cover_one = (codes "r" ∷ can-bound.0, part refl can-bound.1)
+
+can-cover_two : Begins (Fits (AnyName ∷ AnyName ∷ []) (bound_option ∷ [])) []
+can-cover_two = (codes "q" ∷ can-cover_one.0, part refl can-cover_one.1)
+
+can-cover_three : Begins (Fits (AnyName ∷ AnyName ∷ AnyName ∷ []) (bound_option ∷ [])) []
+can-cover_three = (codes "p" ∷ can-cover_two.0, part refl can-cover_two.1)
+
+-- the number at the sixth word
+has-number : (words : List (List ℕ)) (value : ℕ) → IsSomeAnd (slice_get words 5) (λ w. number_from 0 greatest_bound w ≡ Some value) → HasPart words 5 (NumberFrom 0 greatest_bound)
+has-number words value h = by (slice_get words 5) h
+  where
+    by : (o : Option (List ℕ)) → IsSomeAnd o (λ w. number_from 0 greatest_bound w ≡ Some value) → IsSomeAnd o (λ w. is_some (number_from 0 greatest_bound w) ≡ true)
+    by None h = absurd h
+    by (Some w) h = ap is_some h
+
+number-is : (words : List (List ℕ)) (value : ℕ) → IsSomeAnd (slice_get words 5) (λ w. number_from 0 greatest_bound w ≡ Some value) → option_map (digits_value 10) (slice_get words 5) ≡ Some value
+number-is words value h = by (slice_get words 5) h
+  where
+    by : (o : Option (List ℕ)) → IsSomeAnd o (λ w. number_from 0 greatest_bound w ≡ Some value) → option_map (digits_value 10) o ≡ Some value
+    by None h = absurd h
+    by (Some w) h = let e = value-of 0 greatest_bound w value h in cc
+
+module _ (words : List (List ℕ)) (cover : HasPart words 0 (ThisWord (codes "cover"))) where
+  to-covered_program : Leads (FitsForm cover_form) (Fits (AnyName ∷ AnyName ∷ AnyName ∷ []) (bound_option ∷ [])) words 1
+  to-covered_program = leads-part (FitsForm cover_form) words 0 (ThisWord (codes "cover")) (AnyName ∷ AnyName ∷ AnyName ∷ []) (bound_option ∷ []) cover (leads-start (FitsForm cover_form) words)
+
+  pub no-covered_program : (number : ℕ) → number ≡ 2 → LacksPart words 1 AnyName → IsBadFormWord cover_form words number
+  no-covered_program number e h =
+      record { place = 1; is = e; bad = bad-part (FitsForm cover_form) words 1 AnyName (AnyName ∷ AnyName ∷ []) (bound_option ∷ []) h can-cover_three to-covered_program }
+
+  module _ (program : HasPart words 1 AnyName) where
+    to-covered_query : Leads (FitsForm cover_form) (Fits (AnyName ∷ AnyName ∷ []) (bound_option ∷ [])) words 2
+    to-covered_query = leads-part (FitsForm cover_form) words 1 AnyName (AnyName ∷ AnyName ∷ []) (bound_option ∷ []) program to-covered_program
+
+    pub no-covered_query : (number : ℕ) → number ≡ 3 → LacksPart words 2 AnyName → IsBadFormWord cover_form words number
+    no-covered_query number e h =
+        record { place = 2; is = e; bad = bad-part (FitsForm cover_form) words 2 AnyName (AnyName ∷ []) (bound_option ∷ []) h can-cover_two to-covered_query }
+
+    module _ (query : HasPart words 2 AnyName) where
+      to-covered_proof : Leads (FitsForm cover_form) (Fits (AnyName ∷ []) (bound_option ∷ [])) words 3
+      to-covered_proof = leads-part (FitsForm cover_form) words 2 AnyName (AnyName ∷ []) (bound_option ∷ []) query to-covered_query
+
+      pub no-covered_proof : (number : ℕ) → number ≡ 4 → LacksPart words 3 AnyName → IsBadFormWord cover_form words number
+      no-covered_proof number e h =
+          record { place = 3; is = e; bad = bad-part (FitsForm cover_form) words 3 AnyName [] (bound_option ∷ []) h can-cover_one to-covered_proof }
+
+      module _ (proof : HasPart words 3 AnyName) where
+        to-bound_word : Leads (FitsForm cover_form) (Fits [] (bound_option ∷ [])) words 4
+        to-bound_word = leads-part (FitsForm cover_form) words 3 AnyName [] (bound_option ∷ []) proof to-covered_proof
+
+        pub no-bound_word : (number : ℕ) → number ≡ 5 → LacksPart words 4 (ThisWord (codes "--bound")) → IsBadFormWord cover_form words number
+        no-bound_word number e h = record { place = 4; is = e; bad = by (slice_get words 4) refl h }
+          where
+            by : (next : Option (List ℕ)) → slice_get words 4 ≡ next → IfSome next (λ w. is_word w (codes "--bound") ≡ false) → IsFirstBad (FitsForm cover_form) words 4
+            by None q h = bad-end (FitsForm cover_form) words 4 (bound_option ∷ []) q refl can-bound to-bound_word
+            by (Some w) q h = bad-option (FitsForm cover_form) words 4 (bound_option ∷ []) w q (ap (λ b. b || false) h) can-bound to-bound_word
+
+        module _ (bound_word : HasPart words 4 (ThisWord (codes "--bound"))) where
+          to-number : Leads (FitsForm cover_form) (Fits (NumberFrom 0 greatest_bound ∷ []) []) words 5
+          to-number = leads-option (FitsForm cover_form) words 4 (refl, tt) (here refl) (by (slice_get words 4) bound_word) to-bound_word
+            where
+              by : (next : Option (List ℕ)) → IsSomeAnd next (λ w. is_word w (codes "--bound") ≡ true) → next ≡ Some (codes "--bound")
+              by None h = absurd h
+              by (Some w) h = let e = words-same w (codes "--bound") h in cc
+
+          pub no-number : (number : ℕ) → number ≡ 6 → LacksPart words 5 (NumberFrom 0 greatest_bound) → IsBadFormWord cover_form words number
+          no-number number e h = record { place = 5; is = e; bad = bad-part (FitsForm cover_form) words 5 (NumberFrom 0 greatest_bound) [] [] h can-number to-number }
+
+          module _ (value : ℕ) (bound : IsSomeAnd (slice_get words 5) (λ w. number_from 0 greatest_bound w ≡ Some value)) where
+            to-cover_end : Leads (FitsForm cover_form) (Fits [] []) words 6
+            to-cover_end = leads-part (FitsForm cover_form) words 5 (NumberFrom 0 greatest_bound) [] [] (has-number words value bound) to-number
+
+            pub one-more_covered : 6 < length words → IsBadFormWord cover_form words 7
+            one-more_covered l =
+                record { place = 6; is = refl; bad = bad-option (FitsForm cover_form) words 6 [] (get_or words 6 []) (slice_get-get_or words 6 [] l) refl can-end to-cover_end }
+
+            pub whole-cover : (check : CheckWords) → check.bound ≡ Some value → slice_get words 1 ≡ Some check.program → slice_get words 2 ≡ Some check.query → slice_get words 3 ≡ Some check.proof → length words ≤ 6
+                → IsCheck words check
+            whole-cover check e p q r l =
+                let form = to-cover_end.good (subst (Fits [] []) (sym (drop-end words 6 (slice_get_past words 6 l))) (done refl)) in
+                record { form = subst (IsCheckForm words) (sym e) (form, number-is words value bound); program = p; query = q; proof = r }
 
 -- ---- a form among the forms
 
@@ -85,6 +180,9 @@ print-first (part h f) = h
 
 check-first : {w : List ℕ} {ws : List (List ℕ)} → FitsForm check_form (w ∷ ws) → is_word w (codes "check") ≡ true
 check-first (part h f) = h
+
+cover-first : {w : List ℕ} {ws : List (List ℕ)} → FitsForm cover_form (w ∷ ws) → is_word w (codes "cover") ≡ true
+cover-first (part h f) = h
 
 two-words : (w text other : List ℕ) → is_word text other ≡ false → is_word w text ≡ true → is_word w other ≡ true → ⊥
 two-words w text other d h k = let e : is_word w other ≡ false = ap (λ v. is_word v other) (words-same w text h) ∙ d in cc
@@ -102,23 +200,60 @@ pub print-or-check : (words : List (List ℕ)) → FitsForm print_form words →
 print-or-check [] f g = elim f [ ]
 print-or-check (w ∷ ws) f g = two-words w (codes "print") (codes "check") refl (print-first f) (check-first g)
 
+pub run-or-cover : (words : List (List ℕ)) → FitsForm run_form words → FitsForm cover_form words → ⊥
+run-or-cover [] f g = elim f [ ]
+run-or-cover (w ∷ ws) f g = two-words w (codes "run") (codes "cover") refl (run-first f) (cover-first g)
+
+pub print-or-cover : (words : List (List ℕ)) → FitsForm print_form words → FitsForm cover_form words → ⊥
+print-or-cover [] f g = elim f [ ]
+print-or-cover (w ∷ ws) f g = two-words w (codes "print") (codes "cover") refl (print-first f) (cover-first g)
+
+pub check-or-cover : (words : List (List ℕ)) → FitsForm check_form words → FitsForm cover_form words → ⊥
+check-or-cover [] f g = elim f [ ]
+check-or-cover (w ∷ ws) f g = two-words w (codes "check") (codes "cover") refl (check-first f) (cover-first g)
+
+-- nor with the words of a check or a cover
+run-no-check : (words : List (List ℕ)) (bound : Option ℕ) → FitsForm run_form words → IsCheckForm words bound → ⊥
+run-no-check words None f g = run-or-check words f g
+run-no-check words (Some bound) f g = run-or-cover words f g.0
+
+pub run-not-checked : (words : List (List ℕ)) (check : CheckWords) → FitsForm run_form words → IsCheck words check → ⊥
+run-not-checked words check f c = run-no-check words check.bound f c.form
+
+print-no-check : (words : List (List ℕ)) (bound : Option ℕ) → FitsForm print_form words → IsCheckForm words bound → ⊥
+print-no-check words None f g = print-or-check words f g
+print-no-check words (Some bound) f g = print-or-cover words f g.0
+
+pub print-not-checked : (words : List (List ℕ)) (check : CheckWords) → FitsForm print_form words → IsCheck words check → ⊥
+print-not-checked words check f c = print-no-check words check.bound f c.form
+
 run-alone : (w : List ℕ) (ws : List (List ℕ)) → is_word w (codes "run") ≡ true → IsInForm (w ∷ ws) → FitsForm run_form (w ∷ ws)
 run-alone w ws h (inl f) = f
 run-alone w ws h (inr (inl f)) = absurd (two-words w (codes "run") (codes "print") refl h (print-first f))
 run-alone w ws h (inr (inr (inl f))) = absurd (two-words w (codes "run") (codes "check") refl h (check-first f))
-run-alone w ws h (inr (inr (inr f))) = absurd f
+run-alone w ws h (inr (inr (inr (inl f)))) = absurd (two-words w (codes "run") (codes "cover") refl h (cover-first f))
+run-alone w ws h (inr (inr (inr (inr f)))) = absurd f
 
 print-alone : (w : List ℕ) (ws : List (List ℕ)) → is_word w (codes "print") ≡ true → IsInForm (w ∷ ws) → FitsForm print_form (w ∷ ws)
 print-alone w ws h (inl f) = absurd (two-words w (codes "run") (codes "print") refl (run-first f) h)
 print-alone w ws h (inr (inl f)) = f
 print-alone w ws h (inr (inr (inl f))) = absurd (two-words w (codes "print") (codes "check") refl h (check-first f))
-print-alone w ws h (inr (inr (inr f))) = absurd f
+print-alone w ws h (inr (inr (inr (inl f)))) = absurd (two-words w (codes "print") (codes "cover") refl h (cover-first f))
+print-alone w ws h (inr (inr (inr (inr f)))) = absurd f
 
 check-alone : (w : List ℕ) (ws : List (List ℕ)) → is_word w (codes "check") ≡ true → IsInForm (w ∷ ws) → FitsForm check_form (w ∷ ws)
 check-alone w ws h (inl f) = absurd (two-words w (codes "run") (codes "check") refl (run-first f) h)
 check-alone w ws h (inr (inl f)) = absurd (two-words w (codes "print") (codes "check") refl (print-first f) h)
 check-alone w ws h (inr (inr (inl f))) = f
-check-alone w ws h (inr (inr (inr f))) = absurd f
+check-alone w ws h (inr (inr (inr (inl f)))) = absurd (two-words w (codes "check") (codes "cover") refl h (cover-first f))
+check-alone w ws h (inr (inr (inr (inr f)))) = absurd f
+
+cover-alone : (w : List ℕ) (ws : List (List ℕ)) → is_word w (codes "cover") ≡ true → IsInForm (w ∷ ws) → FitsForm cover_form (w ∷ ws)
+cover-alone w ws h (inl f) = absurd (two-words w (codes "run") (codes "cover") refl (run-first f) h)
+cover-alone w ws h (inr (inl f)) = absurd (two-words w (codes "print") (codes "cover") refl (print-first f) h)
+cover-alone w ws h (inr (inr (inl f))) = absurd (two-words w (codes "check") (codes "cover") refl (check-first f) h)
+cover-alone w ws h (inr (inr (inr (inl f)))) = f
+cover-alone w ws h (inr (inr (inr (inr f)))) = absurd f
 
 -- the first bad word of a form is that of the words, where the form is the one with their first word
 module _ (form : Form) (text : List ℕ) (into : (ws : List (List ℕ)) → FitsForm form ws → IsInForm ws) (alone : (w : List ℕ) (ws : List (List ℕ)) → is_word w text ≡ true → IsInForm (w ∷ ws) → FitsForm form (w ∷ ws)) where
@@ -149,34 +284,39 @@ bad-print words number h b = bad-among print_form (codes "print") (λ ws f. inr 
 pub bad-check : (words : List (List ℕ)) (number : ℕ) → HasPart words 0 (ThisWord (codes "check")) → IsBadFormWord check_form words number → IsBadWord words number
 bad-check words number h b = bad-among check_form (codes "check") (λ ws f. inr (inr (inl f))) check-alone words number h b
 
+pub bad-cover : (words : List (List ℕ)) (number : ℕ) → HasPart words 0 (ThisWord (codes "cover")) → IsBadFormWord cover_form words number → IsBadWord words number
+bad-cover words number h b = bad-among cover_form (codes "cover") (λ ws f. inr (inr (inr (inl f)))) cover-alone words number h b
+
 -- no form begins so
 none-in-form : IsInForm [] → ⊥
 none-in-form (inl f) = elim f [ ]
 none-in-form (inr (inl f)) = elim f [ ]
 none-in-form (inr (inr (inl f))) = elim f [ ]
-none-in-form (inr (inr (inr f))) = f
+none-in-form (inr (inr (inr (inl f)))) = elim f [ ]
+none-in-form (inr (inr (inr (inr f)))) = f
 
 -- the first word, if there is one, is not this text
 abbrev pub IsOther : List ℕ → List (List ℕ) → Type 0
 IsOther text words = IfSome (slice_get words 0) (λ w. is_word w text ≡ false)
 
-pub bad-first : (words : List (List ℕ)) → IsOther (codes "run") words → IsOther (codes "print") words → IsOther (codes "check") words → IsBadWord words 1
-bad-first words h k l = record {
+pub bad-first : (words : List (List ℕ)) → IsOther (codes "run") words → IsOther (codes "print") words → IsOther (codes "check") words → IsOther (codes "cover") words → IsBadWord words 1
+bad-first words h k l m = record {
   place = 0;
   is = refl;
-  bad = leads-bad IsInForm IsInForm words 0 (leads-start IsInForm words) (can-run.0, inl can-run.1) (stuck (slice_get words 0) h k l);
+  bad = leads-bad IsInForm IsInForm words 0 (leads-start IsInForm words) (can-run.0, inl can-run.1) (stuck (slice_get words 0) h k l m);
 }
   where
-    other : (w : List ℕ) (ys : List (List ℕ)) → is_word w (codes "run") ≡ false → is_word w (codes "print") ≡ false → is_word w (codes "check") ≡ false → IsInForm (w ∷ ys) → ⊥
-    other w ys h k l (inl f) = let e = run-first f in cc
-    other w ys h k l (inr (inl f)) = let e = print-first f in cc
-    other w ys h k l (inr (inr (inl f))) = let e = check-first f in cc
-    other w ys h k l (inr (inr (inr f))) = f
+    other : (w : List ℕ) (ys : List (List ℕ)) → is_word w (codes "run") ≡ false → is_word w (codes "print") ≡ false → is_word w (codes "check") ≡ false → is_word w (codes "cover") ≡ false → IsInForm (w ∷ ys) → ⊥
+    other w ys h k l m (inl f) = let e = run-first f in cc
+    other w ys h k l m (inr (inl f)) = let e = print-first f in cc
+    other w ys h k l m (inr (inr (inl f))) = let e = check-first f in cc
+    other w ys h k l m (inr (inr (inr (inl f)))) = let e = cover-first f in cc
+    other w ys h k l m (inr (inr (inr (inr f)))) = f
 
     stuck : (next : Option (List ℕ)) → IfSome next (λ w. is_word w (codes "run") ≡ false) → IfSome next (λ w. is_word w (codes "print") ≡ false) → IfSome next (λ w. is_word w (codes "check") ≡ false)
-        → IsStuck IsInForm next
-    stuck None h k l = none-in-form
-    stuck (Some w) h k l = λ ys f. other w ys h k l f
+        → IfSome next (λ w. is_word w (codes "cover") ≡ false) → IsStuck IsInForm next
+    stuck None h k l m = none-in-form
+    stuck (Some w) h k l m = λ ys f. other w ys h k l m f
 
 -- ---- the first word
 

@@ -4,11 +4,12 @@ use Rattle.std.specs.List.{list_any, IsDistinct, AllByRecursion}
 use Rattle.std.specs.Str.{bytes_eq}
 use Rattle.std.proofs.lemmas.Bool.{false_from_ne_true}
 use Rattle.std.proofs.lemmas.Slice.Eq.{bytes_eq-Decides}
+use Rattle.ll_bank.specs.Form.{Relation, Is, Less, Most}
 use Rattle.ll_bank.specs.Names.{with_name, with_names}
-use Rattle.ll_parser.specs.Raw.{Raw, truth, erasure, braces, universal, existential, load, binary, head, anything, int, RawList, none, more, ProgramTree}
+use Rattle.ll_parser.specs.Raw.{Raw, truth, erasure, braces, universal, existential, load, binary, is_goal, less_goal, most_goal, head, anything, int, RawList, none, more, ProgramTree}
 use Rattle.ll_parser.specs.Raw as raw
 use Rattle.ll_polarity.specs.Scope.{Scope, binds, Meaning, Bound, Local, Free, Constant, meaning, module_scope}
-use Rattle.ll_polarity.specs.Reading.{Met, read_name, read_term, read_terms, read_form}
+use Rattle.ll_polarity.specs.Reading.{Met, read_name, read_term, read_terms, read_number, read_form}
 use Rattle.ll_polarity.specs.Asks.{read_clause, read_clauses, read_module, read_modules, part_of, read_asked, problem_with, modules_of, module_names}
 
 -- all texts differ
@@ -67,6 +68,9 @@ mutual
   differ-terms scope met none d = d
   differ-terms scope met (more r rs) d = differ-terms scope (read_term scope met r).met rs (differ-term scope met r d)
 
+differ-number : (q : Relation) (scope : Scope) (met : Met) (l r : Raw) → Differ met.names → Differ (read_number q scope met l r).met.names
+differ-number q scope met l r d = differ-term scope (read_term scope met l).met r (differ-term scope met l d)
+
 module _ (ms : List (List ℕ)) where
   differ-form : (scope : Scope) (met : Met) (r : Raw) → Differ met.names → Differ (read_form ms scope met r).met.names
   differ-form scope met (truth at) d = d
@@ -76,6 +80,9 @@ module _ (ms : List (List ℕ)) where
   differ-form scope met (existential at n r) d = differ-form (binds n.text ∷ scope) met r d
   differ-form scope met (load at m args r) d = differ-form scope (read_terms scope met args).met r (differ-terms scope met args d)
   differ-form scope met (binary o at l r) d = differ-form scope (read_form ms scope met l).met r (differ-form scope met l d)
+  differ-form scope met (is_goal at l r) d = differ-number Is scope met l r d
+  differ-form scope met (less_goal at l r) d = differ-number Less scope met l r d
+  differ-form scope met (most_goal at l r) d = differ-number Most scope met l r d
   differ-form scope met (head n args) d = differ-term scope met (head n args) d
   differ-form scope met (anything at) d = d
   differ-form scope met (int at z) d = d

@@ -1,14 +1,18 @@
 -- Words and texts determine what is written.
-use Rattle.std.proofs.Common.{◌≡◌, ◌<◌, ◌+◌, ℕ, List, [], ◌∷◌, length, Option, Some, None, refl, ap, sym, subst, ◌∙◌, arith}
-use Rattle.std.specs.Prelude.{IsSomeAnd, slice_get, codes, map}
+use Rattle.std.proofs.Common.{◌≡◌, ◌<◌, ◌≤◌, ◌+◌, ℕ, List, [], ◌∷◌, length, Option, Some, None, refl, ap, sym, subst, ◌∙◌, arith}
+use Rattle.std.specs.Prelude.{IsSomeAnd, slice_get, codes, map, Bool, true, false}
+use Rattle.std.specs.List.{list_any, position_from}
 use Rattle.ll_edge.specs.Texts.{Texts, text_of}
 use Rattle.ll_laws.specs.Problem.{ProblemTree}
 use Rattle.ll_laws.specs.Output.{run_status}
 use Rattle.ll_laws.specs.Fault.{Fault as FaultAt}
-use Rattle.ll_laws.specs.Line.{DerivationLines, trees_of}
+use Rattle.ll_cover.specs.Covering.{NamesFirst}
+use Rattle.ll_cover.proofs.Covers.{first_once}
+use Rattle.ll_laws.specs.Line.{Line, DerivationLines, trees_of, counts_numbers}
 use Rattle.ll_laws.specs.Shows.{Tree}
 use Rattle.ll_laws.specs.Verdict.{DerivationShows, first_fault}
 use Rattle.std.specs.List.{IsDistinct}
+use Rattle.ll_top.proofs.CountingLemmas.{none-counts}
 use Rattle.std.specs.Str.{bytes_eq}
 use Rattle.ll_bank.specs.Names.{with_names}
 use Rattle.ll_prooftext.specs.Mentions.{text_names}
@@ -24,14 +28,14 @@ use Rattle.ll_polarity.specs.Faults.{heading, program_faults, query_faults}
 use Rattle.ll_polarity.specs.Asks.{part_of, problem_with, IsFirst, HasProgramFault, HasQueryFault}
 use Rattle.ll_top.specs.declared.judge.Role.{Role}
 use Rattle.ll_top.specs.declared.judge.Role.TheVariants.{Program, Query}
-use Rattle.ll_top.specs.Words.{RunWords, CheckWords, IsInForm, IsRun, IsCheck, IsBadWord, number_behind}
+use Rattle.ll_top.specs.Words.{RunWords, CheckWords, IsInForm, IsRun, IsCheckForm, IsCheck, IsBadWord, number_behind}
 use Rattle.ll_top.specs.Faults.{Cause, Usage, Absent, Oversized, Faulty, fault_text, cause_status}
 use Rattle.ll_top.specs.Judging.{HasGrammarFault, IsProgramText, IsQueryText, IsReadingFault, lexical, grammatical, IsFaultless, IsProgramFault, of_program_reading, of_program_scope, IsQueryFault, of_query_reading, of_query_scope, IsTextFault, of_program, of_query, TextsAsk, most_open, IsCheckFault, of_run_texts, of_proof, TextsGive}
-use Rattle.ll_top.specs.Verdicts.{yes_text, no_text}
-use Rattle.ll_top.specs.Outcome.{name_of, IsRead, Reaches, first, later, run_texts, ReadFails, absent, unreadable, oversized, RunFails, not_read, faulty, RunAsks, whole_text, RunComesTo, ran, failed, IsPrintedAs, PrintFails, source_not_read, faulty_source, PrintComesTo, printed, print_failed, name_in_check, check_texts, CheckFails, texts_not_read, faulty_text, CheckGives, IsRefuted, CheckComesTo, shown, refuted, check_failed, ComesTo, misused, runs, prints, checks, longest_text}
+use Rattle.ll_top.specs.Verdicts.{yes_text, no_text, covered_text, too_long_text, counts_text}
+use Rattle.ll_top.specs.Outcome.{name_of, IsRead, Reaches, first, later, run_texts, ReadFails, absent, unreadable, oversized, RunFails, not_read, faulty, RunAsks, whole_text, RunComesTo, ran, failed, IsPrintedAs, PrintFails, source_not_read, faulty_source, PrintComesTo, printed, print_failed, name_in_check, check_texts, CheckFails, texts_not_read, faulty_text, CheckGives, bound_in, IsRefuted, IsCovered, CountsAt, CheckComesTo, shown, refuted, covered, too_long, counting, check_failed, ComesTo, misused, runs, prints, checks, longest_text}
 use Rattle.ll_top.proofs.FirstBad.{one-bad}
 use Rattle.ll_top.proofs.OutcomeLemmas.{bad-not-in-form, run-in-form, print-in-form, check-in-form}
-use Rattle.ll_top.proofs.CommandWords.{run-or-print, run-or-check, print-or-check}
+use Rattle.ll_top.proofs.CommandWords.{run-or-print, run-not-checked, print-not-checked, check-or-cover}
 use Rattle.ll_top.proofs.GrammarLemmas.{IsOfGrammar}
 use Rattle.ll_top.proofs.DistinctNames.{differ-names, differ-problem}
 
@@ -52,12 +56,19 @@ one-run words r s h k =
     let o = sym h.proofs ∙ k.proofs in
     λ i. record { program = p i; query = q i; bound = b i; workers = w i; proofs = o i }
 
+one-bound : (words : List (List ℕ)) (b c : Option ℕ) → IsCheckForm words b → IsCheckForm words c → b ≡ c
+one-bound words None None f g = refl
+one-bound words None (Some c) f g = absurd (check-or-cover words f g.0)
+one-bound words (Some b) None f g = absurd (check-or-cover words g f.0)
+one-bound words (Some b) (Some c) f g = sym f.1 ∙ g.1
+
 pub one-check : (words : List (List ℕ)) (c d : CheckWords) → IsCheck words c → IsCheck words d → c ≡ d
 one-check words c d h k =
     let p = some-same c.program d.program (slice_get words 1) h.program k.program in
     let q = some-same c.query d.query (slice_get words 2) h.query k.query in
     let r = some-same c.proof d.proof (slice_get words 3) h.proof k.proof in
-    λ i. record { program = p i; query = q i; proof = r i }
+    let b = one-bound words c.bound d.bound h.form k.form in
+    λ i. record { program = p i; query = q i; proof = r i; bound = b i }
 
 -- ---- texts
 
@@ -164,26 +175,26 @@ module _ (same : (a b : LexedText) → a.text ≡ b.text → IsLexed a → IsLex
   -- three texts have one fault
   one-check-fault : (program query proof : List ℕ) (r s : Role) (f g : Fault) → IsCheckFault program query proof r f → IsCheckFault program query proof s g → (r ≡ s) × (f ≡ g)
   one-check-fault program query proof r s f g (of_run_texts h) (of_run_texts k) = one-fault program query r s f g h k
-  one-check-fault program query proof r _ f g (of_run_texts h) (of_proof p a k) = absurd (asks-no-fault program query 0 p r f a h)
-  one-check-fault program query proof _ s f g (of_proof p a h) (of_run_texts k) = absurd (asks-no-fault program query 0 p s g a k)
-  one-check-fault program query proof _ _ f g (of_proof p a h) (of_proof q b k) = (refl, one_proof proof f g h k)
+  one-check-fault program query proof r _ f g (of_run_texts h) (of_proof b p a k) = absurd (asks-no-fault program query b p r f a h)
+  one-check-fault program query proof _ s f g (of_proof b p a h) (of_run_texts k) = absurd (asks-no-fault program query b p s g a k)
+  one-check-fault program query proof _ _ f g (of_proof b p a h) (of_proof c q d k) = (refl, one_proof proof f g h k)
 
   -- texts that give a problem and a derivation have none
-  gives-no-fault : (program query proof : List ℕ) (p : ProblemTree) (d : DerivationLines) (role : Role) (f : Fault) → TextsGive program query proof p d → IsCheckFault program query proof role f → ⊥
-  gives-no-fault program query proof p d role f a (of_run_texts h) = asks-no-fault program query 0 p role f a.asks h
-  gives-no-fault program query proof p d _ f a (of_proof q b h) = no_proof_fault (with_names p.names (text_names proof)) proof d f a.is_text h
+  gives-no-fault : (program query proof : List ℕ) (bound : ℕ) (p : ProblemTree) (d : DerivationLines) (role : Role) (f : Fault) → TextsGive program query proof bound p d → IsCheckFault program query proof role f → ⊥
+  gives-no-fault program query proof bound p d role f a (of_run_texts h) = asks-no-fault program query bound p role f a.asks h
+  gives-no-fault program query proof bound p d _ f a (of_proof c q b h) = no_proof_fault (with_names p.names (text_names proof)) proof d f a.is_text h
 
   -- the names of a problem that texts ask differ, and so do they with those that a derivation's text mentions
-  given-differ : (program query proof : List ℕ) (p : ProblemTree) → TextsAsk program query 0 p → IsDistinct bytes_eq (with_names p.names (text_names proof))
-  given-differ program query proof p a =
-      differ-names p.names (text_names proof) (subst (λ x. IsDistinct bytes_eq x.names) (sym a.asks.is) (differ-problem a.program_tree a.query_tree 0))
+  given-differ : (program query proof : List ℕ) (bound : ℕ) (p : ProblemTree) → TextsAsk program query bound p → IsDistinct bytes_eq (with_names p.names (text_names proof))
+  given-differ program query proof bound p a =
+      differ-names p.names (text_names proof) (subst (λ x. IsDistinct bytes_eq x.names) (sym a.asks.is) (differ-problem a.program_tree a.query_tree bound))
 
   -- and they give one problem and one derivation
-  one-given : (program query proof : List ℕ) (p q : ProblemTree) (d e : DerivationLines) → TextsGive program query proof p d → TextsGive program query proof q e → (p ≡ q) × (d ≡ e)
-  one-given program query proof p q d e a b =
-      let o = one-asked program query 0 p q a.asks b.asks in
+  one-given : (program query proof : List ℕ) (bound : ℕ) (p q : ProblemTree) (d e : DerivationLines) → TextsGive program query proof bound p d → TextsGive program query proof bound q e → (p ≡ q) × (d ≡ e)
+  one-given program query proof bound p q d e a b =
+      let o = one-asked program query bound p q a.asks b.asks in
       let moved = subst (λ x. IsTextOf (with_names x.names (text_names proof)) proof d) o a.is_text in
-      (o, one_derivation (with_names q.names (text_names proof)) proof d e (given-differ program query proof q b.asks) moved b.is_text)
+      (o, one_derivation (with_names q.names (text_names proof)) proof d e (given-differ program query proof bound q b.asks) moved b.is_text)
 
   -- ---- reading
 
@@ -318,17 +329,17 @@ module _ (same : (a b : LexedText) → a.text ≡ b.text → IsLexed a → IsLex
           ap (λ x. Faulty (name_in_check check x) g) e.0 ∙ ap (Faulty (name_in_check check s)) e.1
 
       gives-moved : (p q r : List ℕ) (problem : ProblemTree) (d : DerivationLines) → IsRead (Some texts) check.program p → IsRead (Some texts) check.query q → IsRead (Some texts) check.proof r → CheckGives (Some texts) check problem d
-          → TextsGive p q r problem d
+          → TextsGive p q r (bound_in check) problem d
       gives-moved p q r problem d h k l a =
-          subst (λ x. TextsGive x q r problem d) (one-read check.program a.program p a.program_read h)
-          (subst (λ x. TextsGive a.program x r problem d) (one-read check.query a.query q a.query_read k) (subst (λ x. TextsGive a.program a.query x problem d) (one-read check.proof a.proof r a.proof_read l) a.give))
+          subst (λ x. TextsGive x q r (bound_in check) problem d) (one-read check.program a.program p a.program_read h)
+          (subst (λ x. TextsGive a.program x r (bound_in check) problem d) (one-read check.query a.query q a.query_read k) (subst (λ x. TextsGive a.program a.query x (bound_in check) problem d) (one-read check.proof a.proof r a.proof_read l) a.give))
 
       gives-not-fails : (p : ProblemTree) (d : DerivationLines) (c : Cause) → CheckGives (Some texts) check p d → CheckFails (Some texts) (Unit {0}) ⊥ check c → ⊥
       gives-not-fails p d _ a (texts_not_read c x) = read-or-not (check_texts check) c (all-read a.program a.query a.proof a.program_read a.query_read a.proof_read) x
-      gives-not-fails p d _ a (faulty_text u v w role f h k l t) = gives-no-fault u v w p d role f (gives-moved u v w p d h k l a) t
+      gives-not-fails p d _ a (faulty_text u v w role f h k l t) = gives-no-fault u v w (bound_in check) p d role f (gives-moved u v w p d h k l a) t
 
       given-once : (p q : ProblemTree) (d e : DerivationLines) → CheckGives (Some texts) check p d → CheckGives (Some texts) check q e → (p ≡ q) × (d ≡ e)
-      given-once p q d e a b = one-given b.program b.query b.proof p q d e (gives-moved b.program b.query b.proof p d b.program_read b.query_read b.proof_read a) b.give
+      given-once p q d e a b = one-given b.program b.query b.proof (bound_in check) p q d e (gives-moved b.program b.query b.proof p d b.program_read b.query_read b.proof_read a) b.give
 
       shown-or-refuted : (p q : ProblemTree) (d e : DerivationLines) (n r : ℕ) → CheckGives (Some texts) check p d → DerivationShows p d → CheckGives (Some texts) check q e → IsRefuted q e n r → ⊥
       shown-or-refuted p q d e n r a h b k = let o = given-once p q d e a b in k.not_shown (subst (DerivationShows q) o.1 (subst (λ x. DerivationShows x d) o.0 h))
@@ -348,15 +359,69 @@ module _ (same : (a b : LexedText) → a.text ≡ b.text → IsLexed a → IsLex
           let same_reason : r ≡ s = cc in
           ap (λ x. no_text x r) same_node ∙ ap (no_text m) same_reason
 
+      -- a derivation that shows the query is covered, or too long, or counts numbers
+      covered-once : (p q : ProblemTree) (d e : DerivationLines) (m n : ℕ) → CheckGives (Some texts) check p d → IsCovered p d m → CheckGives (Some texts) check q e → IsCovered q e n → m ≡ n
+      covered-once p q d e m n a h b k =
+          let o = given-once p q d e a b in
+          first_once q e m n (subst (λ x. NamesFirst q x m) o.1 (subst (λ x. NamesFirst x d m) o.0 h.first)) k.first
+
+      short-or-long : (p q : ProblemTree) (d e : DerivationLines) → CheckGives (Some texts) check p d → length d.nodes ≤ p.bound → CheckGives (Some texts) check q e → q.bound < length e.nodes → ⊥
+      short-or-long p q d e a h b k =
+          let o = given-once p q d e a b in let x = ap (λ (z : ProblemTree). z.bound) o.0 in let y = ap (λ (z : DerivationLines). length z.nodes) o.1 in omega arith
+
+      covered-or-counts : (p q : ProblemTree) (d e : DerivationLines) (m n : ℕ) → CheckGives (Some texts) check p d → IsCovered p d m → CheckGives (Some texts) check q e → CountsAt q e n → ⊥
+      covered-or-counts p q d e m n a h b k =
+          let o = given-once p q d e a b in
+          let none = none-counts 1 e.nodes (subst (λ x. list_any counts_numbers x.nodes ≡ false) o.1 h.shows.numberless) in
+          let f = k.first in
+          let w : None ≡ Some n = sym none ∙ f in cc
+
+      counts-once : (p q : ProblemTree) (d e : DerivationLines) (m n : ℕ) → CheckGives (Some texts) check p d → CountsAt p d m → CheckGives (Some texts) check q e → CountsAt q e n → m ≡ n
+      counts-once p q d e m n a h b k =
+          let o = given-once p q d e a b in
+          some-same m n (position_from counts_numbers 1 e.nodes) (subst (λ x. position_from counts_numbers 1 x.nodes ≡ Some m) o.1 h.first) k.first
+
+      too-long-once : (p q : ProblemTree) (d e : DerivationLines) → CheckGives (Some texts) check p d → CheckGives (Some texts) check q e → too_long_text (length d.nodes) p.bound ≡ too_long_text (length e.nodes) q.bound
+      too-long-once p q d e a b =
+          let o = given-once p q d e a b in
+          ap (λ (x : DerivationLines). too_long_text (length x.nodes) p.bound) o.1 ∙ ap (λ (x : ProblemTree). too_long_text (length e.nodes) x.bound) o.0
+
       check-once : (s t : ℕ) (u v : List ℕ) → CheckComesTo (Some texts) (Unit {0}) ⊥ check s u → CheckComesTo (Some texts) (Unit {0}) ⊥ check t v → (s ≡ t) × (u ≡ v)
-      check-once s t u v (shown p d a x e f) (shown q c b y g h) = let o = given-once p q d c a b in (e ∙ sym g, f ∙ (ap (λ x. yes_text (length x.nodes)) o.1 ∙ sym h))
-      check-once s t u v (shown p d a x e f) (refuted q c n r b y g h) = absurd (shown-or-refuted p q d c n r a x b y)
-      check-once s t u v (refuted q c n r b y g h) (shown p d a x e f) = absurd (shown-or-refuted p q d c n r a x b y)
+      check-once s t u v (shown p d w a x e f) (shown q c z b y g h) = let o = given-once p q d c a b in (e ∙ sym g, f ∙ (ap (λ x. yes_text (length x.nodes)) o.1 ∙ sym h))
+      check-once s t u v (shown p d w a x e f) (refuted q c n r b y g h) = absurd (shown-or-refuted p q d c n r a x b y)
+      check-once s t u v (shown p d w a x e f) (covered q c n z b y g h) = absurd (let k = sym w ∙ z in cc)
+      check-once s t u v (shown p d w a x e f) (too_long q c z b y g h) = absurd (let k = sym w ∙ z in cc)
+      check-once s t u v (shown p d w a x e f) (counting q c n z b y g h) = absurd (let k = sym w ∙ z in cc)
+      check-once s t u v (shown p d w a x e f) (check_failed c b g h) = absurd (gives-not-fails p d c a b)
+      check-once s t u v (refuted q c n r b y g h) (shown p d w a x e f) = absurd (shown-or-refuted p q d c n r a x b y)
       check-once s t u v (refuted p d n r a x e f) (refuted q c m l b y g h) = (e ∙ sym g, f ∙ (refuted-once p q d c n m r l a x b y ∙ sym h))
-      check-once s t u v (shown p d a x e f) (check_failed c b g h) = absurd (gives-not-fails p d c a b)
-      check-once s t u v (check_failed c b g h) (shown p d a x e f) = absurd (gives-not-fails p d c a b)
+      check-once s t u v (refuted q c n r b y g h) (covered p d m w a x e f) = absurd (shown-or-refuted p q d c n r a x.shows.shows b y)
+      check-once s t u v (refuted q c n r b y g h) (too_long p d w a x e f) = absurd (shown-or-refuted p q d c n r a x.shows b y)
+      check-once s t u v (refuted q c n r b y g h) (counting p d m w a x e f) = absurd (shown-or-refuted p q d c n r a x.shows b y)
       check-once s t u v (refuted p d n r a x e f) (check_failed c b g h) = absurd (gives-not-fails p d c a b)
+      check-once s t u v (covered q c n z b y g h) (shown p d w a x e f) = absurd (let k = sym w ∙ z in cc)
+      check-once s t u v (covered p d m w a x e f) (refuted q c n r b y g h) = absurd (shown-or-refuted p q d c n r a x.shows.shows b y)
+      check-once s t u v (covered p d m w a x e f) (covered q c n z b y g h) = (e ∙ sym g, f ∙ (ap covered_text (covered-once p q d c m n a x b y) ∙ sym h))
+      check-once s t u v (covered p d m w a x e f) (too_long q c z b y g h) = absurd (short-or-long p q d c a x.within b y.beyond)
+      check-once s t u v (covered p d m w a x e f) (counting q c n z b y g h) = absurd (covered-or-counts p q d c m n a x b y)
+      check-once s t u v (covered p d m w a x e f) (check_failed c b g h) = absurd (gives-not-fails p d c a b)
+      check-once s t u v (too_long q c z b y g h) (shown p d w a x e f) = absurd (let k = sym w ∙ z in cc)
+      check-once s t u v (too_long p d w a x e f) (refuted q c n r b y g h) = absurd (shown-or-refuted p q d c n r a x.shows b y)
+      check-once s t u v (too_long q c z b y g h) (covered p d m w a x e f) = absurd (short-or-long p q d c a x.within b y.beyond)
+      check-once s t u v (too_long p d w a x e f) (too_long q c z b y g h) = (e ∙ sym g, f ∙ (too-long-once p q d c a b ∙ sym h))
+      check-once s t u v (too_long q c z b y g h) (counting p d m w a x e f) = absurd (short-or-long p q d c a x.within b y.beyond)
+      check-once s t u v (too_long p d w a x e f) (check_failed c b g h) = absurd (gives-not-fails p d c a b)
+      check-once s t u v (counting q c n z b y g h) (shown p d w a x e f) = absurd (let k = sym w ∙ z in cc)
+      check-once s t u v (counting p d m w a x e f) (refuted q c n r b y g h) = absurd (shown-or-refuted p q d c n r a x.shows b y)
+      check-once s t u v (counting q c n z b y g h) (covered p d m w a x e f) = absurd (covered-or-counts p q d c m n a x b y)
+      check-once s t u v (counting p d m w a x e f) (too_long q c z b y g h) = absurd (short-or-long p q d c a x.within b y.beyond)
+      check-once s t u v (counting p d m w a x e f) (counting q c n z b y g h) = (e ∙ sym g, f ∙ (ap counts_text (counts-once p q d c m n a x b y) ∙ sym h))
+      check-once s t u v (counting p d m w a x e f) (check_failed c b g h) = absurd (gives-not-fails p d c a b)
+      check-once s t u v (check_failed c b g h) (shown p d w a x e f) = absurd (gives-not-fails p d c a b)
       check-once s t u v (check_failed c b g h) (refuted p d n r a x e f) = absurd (gives-not-fails p d c a b)
+      check-once s t u v (check_failed c b g h) (covered p d n w a x e f) = absurd (gives-not-fails p d c a b)
+      check-once s t u v (check_failed c b g h) (too_long p d w a x e f) = absurd (gives-not-fails p d c a b)
+      check-once s t u v (check_failed c b g h) (counting p d n w a x e f) = absurd (gives-not-fails p d c a b)
       check-once s t u v (check_failed c a e f) (check_failed d b g h) = let o = check-fails-once c d a b in (e ∙ (ap cause_status o ∙ sym g), f ∙ (ap fault_text o ∙ sym h))
 
     -- ---- calls
@@ -373,8 +438,8 @@ module _ (same : (a b : LexedText) → a.text ≡ b.text → IsLexed a → IsLex
     one-text words s t u v (prints q h c) (prints r k d) = print-once r s t u v (subst (λ x. PrintComesTo (Some texts) (Unit {0}) ⊥ x s u) (some-same q r (slice_get words 1) h.program k.program) c) d
     one-text words s t u v (misused n b e f) (checks r h c) = absurd (bad-not-in-form words n b (check-in-form words r h))
     one-text words s t u v (checks r h c) (misused n b e f) = absurd (bad-not-in-form words n b (check-in-form words r h))
-    one-text words s t u v (runs r h c) (checks q k d) = absurd (run-or-check words h.form k.form)
-    one-text words s t u v (checks q k d) (runs r h c) = absurd (run-or-check words h.form k.form)
-    one-text words s t u v (prints r h c) (checks q k d) = absurd (print-or-check words h.form k.form)
-    one-text words s t u v (checks q k d) (prints r h c) = absurd (print-or-check words h.form k.form)
+    one-text words s t u v (runs r h c) (checks q k d) = absurd (run-not-checked words q h.form k)
+    one-text words s t u v (checks q k d) (runs r h c) = absurd (run-not-checked words q h.form k)
+    one-text words s t u v (prints r h c) (checks q k d) = absurd (print-not-checked words q h.form k)
+    one-text words s t u v (checks q k d) (prints r h c) = absurd (print-not-checked words q h.form k)
     one-text words s t u v (checks q h c) (checks r k d) = check-once r s t u v (subst (λ x. CheckComesTo (Some texts) (Unit {0}) ⊥ x s u) (one-check words q r h k) c) d

@@ -16,3 +16,4 @@ pub mod AddedNames
 pub mod CheckLemmas
 pub mod ProvedLemmas
 pub mod NothingLemmas
+pub mod CountingLemmas

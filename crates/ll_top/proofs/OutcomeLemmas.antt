@@ -1,6 +1,6 @@
 -- From the way a run ends to the status and the text of the call.
 use Rattle.std.proofs.Common.{◌≡◌, ◌⊎◌, ◌≤◌, ℕ, refl, ap, sym, subst, ◌∙◌, Bool, true, false, List, [], ◌∷◌, inl, inr, arith}
-use Rattle.std.specs.Prelude.{Option, Some, Result, Ok, Err, IfOk, IfErr, OnOk, OnErr, IsErrAnd}
+use Rattle.std.specs.Prelude.{Option, None, Some, is_some, Result, Ok, Err, IfOk, IfErr, OnOk, OnErr, IsErrAnd}
 use Rattle.std.specs.Io.KnownBytes.{append_known}
 use Rattle.ll_edge.specs.Counts.{Rose}
 use Rattle.ll_edge.specs.Pieces.{AppendsFront}
@@ -14,12 +14,13 @@ use Rattle.ll_top.specs.declared.run.Found.{Found}
 use Rattle.ll_top.specs.declared.finding.Finding.{Finding}
 use Rattle.ll_top.specs.declared.refusal.Refusal.{Refusal}
 use Rattle.ll_top.specs.declared.refusal.Refusal.TheVariants.{Text, Unwritable, OutOfMemory}
-use Rattle.ll_top.specs.Words.{RunWords, CheckWords, FitsForm, run_form, IsInForm, IsInWorkersForm, IsRun, IsPrint, IsCheck, IsBadWord}
+use Rattle.ll_top.specs.Words.{RunWords, CheckWords, FitsForm, run_form, cover_form, IsCheckForm, IsInForm, IsInWorkersForm, IsRun, IsPrint, IsCheck, IsBadWord}
 use Rattle.ll_top.specs.Faults.{Cause, Usage, Absent, Unreadable, Oversized, Faulty, fault_text, cause_status}
-use Rattle.ll_top.specs.Outcome.{name_of, ReadFails, absent as is_absent, unreadable as is_unreadable, oversized as is_oversized, run_texts, RunFails, not_read, faulty, RunAsks, whole_text, RunComesTo, ran, failed, IsPrintedAs, PrintFails, source_not_read, faulty_source, PrintComesTo, printed, print_failed, name_in_check, check_texts, CheckFails, texts_not_read, faulty_text, CheckComesTo, shown, refuted, check_failed, IsDenied, ComesTo, misused, runs, prints, checks, AppendsOwn, nothing, front, Ends, whole, unwritable, no_memory, Completes}
+use Rattle.ll_top.specs.Outcome.{name_of, ReadFails, absent as is_absent, unreadable as is_unreadable, oversized as is_oversized, run_texts, RunFails, not_read, faulty, RunAsks, whole_text, RunComesTo, ran, failed, IsPrintedAs, PrintFails, source_not_read, faulty_source, PrintComesTo, printed, print_failed, name_in_check, check_texts, CheckFails, texts_not_read, faulty_text, CheckComesTo, shown, refuted, covered, too_long, counting, check_failed, IsDenied, IsCoveredCall, IsUncoveredCall, ComesTo, misused, runs, prints, checks, AppendsOwn, nothing, front, Ends, whole, unwritable, no_memory, Completes}
 use Rattle.ll_top.specs.Endings.{Refuses, line, cut, Prepares, RunEnds, status_of_found, PrintEnds, status_of_finding, finding_text, CheckEnds}
 use Rattle.ll_top.specs.Running.{IsRunRefusal}
 use Rattle.ll_top.proofs.FirstBad.{good-or-bad}
+use Rattle.ll_top.proofs.CommandWords.{run-or-cover, print-or-cover, check-or-cover}
 
 -- ---- a run
 
@@ -184,8 +185,11 @@ module _ (told : Option Texts) (absence read_failed write_failed : Type 0) where
   print-comes-says name status text (print_failed cause f s t) = subst (Says absence read_failed write_failed) (sym s) (print-cause-says name cause f)
 
   check-comes-says : (check : CheckWords) (status : ℕ) (text : List ℕ) → CheckComesTo told absence read_failed check status text → Says absence read_failed write_failed status
-  check-comes-says check status text (shown p d g h s t) = other-says status (λ e. omega arith) (λ e. omega arith) (λ e. omega arith) (λ e. omega arith)
+  check-comes-says check status text (shown p d c g h s t) = other-says status (λ e. omega arith) (λ e. omega arith) (λ e. omega arith) (λ e. omega arith)
   check-comes-says check status text (refuted p d n r g h s t) = other-says status (λ e. omega arith) (λ e. omega arith) (λ e. omega arith) (λ e. omega arith)
+  check-comes-says check status text (covered p d n c g h s t) = other-says status (λ e. omega arith) (λ e. omega arith) (λ e. omega arith) (λ e. omega arith)
+  check-comes-says check status text (too_long p d c g h s t) = other-says status (λ e. omega arith) (λ e. omega arith) (λ e. omega arith) (λ e. omega arith)
+  check-comes-says check status text (counting p d n c g h s t) = other-says status (λ e. omega arith) (λ e. omega arith) (λ e. omega arith) (λ e. omega arith)
   check-comes-says check status text (check_failed cause f s t) = subst (Says absence read_failed write_failed) (sym s) (check-cause-says check cause f)
 
   ends-say : (Comes : ℕ → List ℕ → Type 0) → ((s : ℕ) (t : List ℕ) → Comes s t → Says absence read_failed write_failed s) → (before after : Option (List ℕ)) (status : ℕ) → Ends Comes write_failed before after status → Says absence read_failed write_failed status
@@ -219,7 +223,10 @@ module _ (words : List (List ℕ)) (told : Option Texts) (absence read_failed : 
   comes-denied status text e (runs run r (failed cause f s t)) = absurd (cause-not-nine cause (sym s ∙ e))
   comes-denied status text e (prints name p (printed a s)) = absurd (omega arith)
   comes-denied status text e (prints name p (print_failed cause f s t)) = absurd (cause-not-nine cause (sym s ∙ e))
-  comes-denied status text e (checks check c (shown p d g h s t)) = absurd (omega arith)
+  comes-denied status text e (checks check c (shown p d b g h s t)) = absurd (omega arith)
+  comes-denied status text e (checks check c (covered p d n b g h s t)) = absurd (omega arith)
+  comes-denied status text e (checks check c (too_long p d b g h s t)) = absurd (omega arith)
+  comes-denied status text e (checks check c (counting p d n b g h s t)) = absurd (omega arith)
   comes-denied status text e (checks check c (refuted p d n r g h s t)) = record { check = check; is_check = c; problem = p; derivation = d; gives = g; not_shown = h.not_shown }
   comes-denied status text e (checks check c (check_failed cause f s t)) = absurd (cause-not-nine cause (sym s ∙ e))
 
@@ -227,6 +234,63 @@ module _ (words : List (List ℕ)) (told : Option Texts) (absence read_failed : 
   call-denied write_failed before after status (whole text c a) e = comes-denied status text e c
   call-denied write_failed before after status (unwritable meant text c w s a) e = absurd (omega arith)
   call-denied write_failed before after status (no_memory s a) e = absurd (omega arith)
+
+-- ---- the statuses of a cover
+
+cause-not-zero : (cause : Cause) → cause_status cause ≡ 0 → ⊥
+cause-not-zero (Usage number) e = omega arith
+cause-not-zero (Absent name) e = omega arith
+cause-not-zero (Unreadable name) e = omega arith
+cause-not-zero (Oversized name) e = omega arith
+cause-not-zero (Faulty name fault) e = omega arith
+
+cause-not-eleven : (cause : Cause) → cause_status cause ≡ 11 → ⊥
+cause-not-eleven (Usage number) e = omega arith
+cause-not-eleven (Absent name) e = omega arith
+cause-not-eleven (Unreadable name) e = omega arith
+cause-not-eleven (Oversized name) e = omega arith
+cause-not-eleven (Faulty name fault) e = omega arith
+
+-- the words of a cover have a bound
+cover-bound : (words : List (List ℕ)) (bound : Option ℕ) → FitsForm cover_form words → IsCheckForm words bound → is_some bound ≡ false → ⊥
+cover-bound words None f g e = check-or-cover words g f
+cover-bound words (Some bound) f g e = cc
+
+module _ (words : List (List ℕ)) (told : Option Texts) (absence read_failed : Type 0) where
+  comes-covered : FitsForm cover_form words → (status : ℕ) (text : List ℕ) → status ≡ 0 → ComesTo words told absence read_failed status text → IsCoveredCall words told
+  comes-covered f status text e (misused number b s t) = absurd (omega arith)
+  comes-covered f status text e (runs run r c) = absurd (run-or-cover words r.form f)
+  comes-covered f status text e (prints name p c) = absurd (print-or-cover words p.form f)
+  comes-covered f status text e (checks check c (shown p d b g h s t)) = absurd (cover-bound words check.bound f c.form b)
+  comes-covered f status text e (checks check c (refuted p d n r g h s t)) = absurd (omega arith)
+  comes-covered f status text e (checks check c (covered p d n b g h s t)) = record { check = check; is_check = c; problem = p; derivation = d; gives = g; number = n; covered = h }
+  comes-covered f status text e (checks check c (too_long p d b g h s t)) = absurd (omega arith)
+  comes-covered f status text e (checks check c (counting p d n b g h s t)) = absurd (omega arith)
+  comes-covered f status text e (checks check c (check_failed cause h s t)) = absurd (cause-not-zero cause (sym s ∙ e))
+
+  comes-uncovered : (status : ℕ) (text : List ℕ) → status ≡ 11 → ComesTo words told absence read_failed status text → IsUncoveredCall words told
+  comes-uncovered status text e (misused number b s t) = absurd (omega arith)
+  comes-uncovered status text e (runs run r (ran p a s t)) = let small = run-small p in absurd (omega arith)
+  comes-uncovered status text e (runs run r (failed cause f s t)) = absurd (cause-not-eleven cause (sym s ∙ e))
+  comes-uncovered status text e (prints name p (printed a s)) = absurd (omega arith)
+  comes-uncovered status text e (prints name p (print_failed cause f s t)) = absurd (cause-not-eleven cause (sym s ∙ e))
+  comes-uncovered status text e (checks check c (shown p d b g h s t)) = absurd (omega arith)
+  comes-uncovered status text e (checks check c (refuted p d n r g h s t)) = absurd (omega arith)
+  comes-uncovered status text e (checks check c (covered p d n b g h s t)) = absurd (omega arith)
+  comes-uncovered status text e (checks check c (too_long p d b g h s t)) = record { check = check; is_check = c; problem = p; derivation = d; gives = g; why = inl h }
+  comes-uncovered status text e (checks check c (counting p d n b g h s t)) = record { check = check; is_check = c; problem = p; derivation = d; gives = g; why = inr (n, h) }
+  comes-uncovered status text e (checks check c (check_failed cause f s t)) = absurd (cause-not-eleven cause (sym s ∙ e))
+
+  pub call-covered : (write_failed : Type 0) (before after : Option (List ℕ)) (status : ℕ) → Ends (ComesTo words told absence read_failed) write_failed before after status → FitsForm cover_form words → status ≡ 0
+      → IsCoveredCall words told
+  call-covered write_failed before after status (whole text c a) f e = comes-covered f status text e c
+  call-covered write_failed before after status (unwritable meant text c w s a) f e = absurd (omega arith)
+  call-covered write_failed before after status (no_memory s a) f e = absurd (omega arith)
+
+  pub call-uncovered : (write_failed : Type 0) (before after : Option (List ℕ)) (status : ℕ) → Ends (ComesTo words told absence read_failed) write_failed before after status → status ≡ 11 → IsUncoveredCall words told
+  call-uncovered write_failed before after status (whole text c a) e = comes-uncovered status text e c
+  call-uncovered write_failed before after status (unwritable meant text c w s a) e = absurd (omega arith)
+  call-uncovered write_failed before after status (no_memory s a) e = absurd (omega arith)
 
 -- ---- words in no form
 
@@ -237,7 +301,11 @@ pub print-in-form : (words : List (List ℕ)) (name : List ℕ) → IsPrint word
 print-in-form words name p = inr (inl p.form)
 
 pub check-in-form : (words : List (List ℕ)) (check : CheckWords) → IsCheck words check → IsInForm words
-check-in-form words check c = inr (inr (inl c.form))
+check-in-form words check c = by check.bound c.form
+  where
+    by : (bound : Option ℕ) → IsCheckForm words bound → IsInForm words
+    by None f = inr (inr (inl f))
+    by (Some bound) f = inr (inr (inr (inl f.0)))
 
 -- words with workers are those of a run
 pub workers-run : (words : List (List ℕ)) → IsInWorkersForm words → FitsForm run_form words
@@ -274,7 +342,10 @@ module _ (texts : Texts) (absence read_failed : Type 0) (no_fault : read_failed 
   told-print name status text (print_failed _ (faulty_source p g h t) e f) = print_failed (Faulty name g) (faulty_source p g h t) e f
 
   told-check : (check : CheckWords) (status : ℕ) (text : List ℕ) → CheckComesTo (Some texts) absence read_failed check status text → CheckComesTo (Some texts) (Unit {0}) ⊥ check status text
-  told-check check status text (shown p d g h e f) = shown p d g h e f
+  told-check check status text (shown p d b g h e f) = shown p d b g h e f
+  told-check check status text (covered p d n b g h e f) = covered p d n b g h e f
+  told-check check status text (too_long p d b g h e f) = too_long p d b g h e f
+  told-check check status text (counting p d n b g h e f) = counting p d n b g h e f
   told-check check status text (refuted p d n r g h e f) = refuted p d n r g h e f
   told-check check status text (check_failed _ (texts_not_read c r) e f) = check_failed c (texts_not_read c (told-unread (check_texts check) c r)) e f
   told-check check status text (check_failed _ (faulty_text p q s role g h k l t) e f) = check_failed (Faulty (name_in_check check role) g) (faulty_text p q s role g h k l t) e f

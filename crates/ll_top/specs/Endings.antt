@@ -1,5 +1,5 @@
 -- How the parts of a run end, in the program's own types.
-use Rattle.std.specs.Prelude.{◌≡◌, ◌<◌, ℕ, List, length, Option, None, Result, Ok, Err, IsSomeAnd, IfSome}
+use Rattle.std.specs.Prelude.{◌≡◌, ◌<◌, ℕ, Bool, true, false, List, length, Option, None, is_some, unwrap_or, Result, Ok, Err, IsSomeAnd, IfSome}
 use Rattle.std.specs.Io.KnownBytes.{append_known}
 use Rattle.ll_edge.specs.Pieces.{AppendsFront}
 use Rattle.ll_edge.specs.Texts.{Texts, text_of}
@@ -18,7 +18,7 @@ use Rattle.ll_top.specs.declared.judge.Role.TheVariants.{Program, Proof}
 use Rattle.ll_top.specs.declared.run.Found.{Found}
 use Rattle.ll_top.specs.declared.run.Found.TheVariants.{Answer, Nothing, Bound}
 use Rattle.ll_top.specs.declared.finding.Finding.{Finding}
-use Rattle.ll_top.specs.declared.finding.Finding.TheVariants.{Shows, Fails}
+use Rattle.ll_top.specs.declared.finding.Finding.TheVariants.{Shows, Fails, Covered, TooLong, CountsNumbers}
 use Rattle.ll_top.specs.declared.refusal.TextRefusal.{TextRefusal}
 use Rattle.ll_top.specs.declared.refusal.TextRefusal.TheVariants as text
 use Rattle.ll_top.specs.declared.refusal.Refusal.{Refusal}
@@ -27,9 +27,9 @@ use Rattle.ll_top.specs.Words.{RunWords, CheckWords}
 use Rattle.ll_top.specs.Faults.{Cause, Usage, Absent, Unreadable, Oversized, Faulty, fault_text, cause_status}
 use Rattle.ll_parser.specs.Raw.{ProgramTree}
 use Rattle.ll_parser.specs.Printed.{program_text}
-use Rattle.ll_top.specs.Verdicts.{yes_text, no_text}
+use Rattle.ll_top.specs.Verdicts.{yes_text, no_text, covered_text, too_long_text, counts_text}
 use Rattle.ll_top.specs.Judging.{IsProgramText, IsReadingFault, IsTextFault, TextsAsk, IsCheckFault, TextsGive}
-use Rattle.ll_top.specs.Outcome.{longest_text, name_of, RunFails, RunAsks, whole_text, RunComesTo, PrintFails, IsPrintedAs, name_in_check, CheckFails, IsRefuted, CheckComesTo, AppendsOwn}
+use Rattle.ll_top.specs.Outcome.{longest_text, name_of, RunFails, RunAsks, whole_text, RunComesTo, PrintFails, IsPrintedAs, name_in_check, CheckFails, IsRefuted, IsCovered, IsTooLong, CountsAt, CheckComesTo, AppendsOwn}
 
 -- ---- causes
 
@@ -134,21 +134,30 @@ PrintEnds told absence read_failed write_failed name before after (Err (Text rol
 PrintEnds told absence read_failed write_failed name before after (Err Unwritable) = (bytes : List ℕ) × IsPrintedAs told name bytes × write_failed × AppendsFront before bytes after
 PrintEnds told absence read_failed write_failed name before after (Err OutOfMemory) = after ≡ before
 
--- ---- the check
+-- ---- the check, and the cover
 
 -- the status and the line of what a check found
 abbrev pub status_of_finding : Finding → ℕ
 status_of_finding (Shows nodes) = 0
 status_of_finding (Fails node reason) = 9
+status_of_finding (Covered answer) = 0
+status_of_finding (TooLong nodes bound) = 11
+status_of_finding (CountsNumbers node) = 11
 
 abbrev pub finding_text : Finding → List ℕ
 finding_text (Shows nodes) = yes_text nodes
 finding_text (Fails node reason) = no_text node reason
+finding_text (Covered answer) = covered_text answer
+finding_text (TooLong nodes bound) = too_long_text nodes bound
+finding_text (CountsNumbers node) = counts_text node
 
--- the finding is true of a derivation over a problem
-abbrev pub IsFinding : ProblemTree → DerivationLines → Finding → Type 0
-IsFinding p d (Shows nodes) = DerivationShows p d × (nodes ≡ length d.nodes)
-IsFinding p d (Fails node reason) = IsRefuted p d node reason
+-- the finding is true of a derivation over a problem, and one of a cover, or else of a check
+abbrev pub IsFinding : Bool → ProblemTree → DerivationLines → Finding → Type 0
+IsFinding covers p d (Shows nodes) = (covers ≡ false) × DerivationShows p d × (nodes ≡ length d.nodes)
+IsFinding covers p d (Fails node reason) = IsRefuted p d node reason
+IsFinding covers p d (Covered answer) = (covers ≡ true) × IsCovered p d answer
+IsFinding covers p d (TooLong nodes bound) = (covers ≡ true) × IsTooLong p d × (nodes ≡ length d.nodes) × (bound ≡ p.bound)
+IsFinding covers p d (CountsNumbers node) = (covers ≡ true) × CountsAt p d node
 
 -- why the text of a derivation is not read
 abbrev pub IsNoDerivation : List ℕ → Refusal → Type 0
@@ -162,12 +171,13 @@ abbrev pub IsCheckFaultOf : List ℕ → List ℕ → List ℕ → Role → Text
 IsCheckFaultOf program query proof role (text.Faulty f) = IsCheckFault program query proof role f
 IsCheckFaultOf program query proof role refusal = ⊥
 
--- what was found of three texts, or why nothing was
-abbrev pub Finds : List ℕ → List ℕ → List ℕ → Result Finding Refusal → Type 0
-Finds program query proof (Ok finding) = (p : ProblemTree) × (d : DerivationLines) × TextsGive program query proof p d × IsFinding p d finding
-Finds program query proof (Err (Text role refusal)) = IsCheckFaultOf program query proof role refusal
-Finds program query proof (Err Unwritable) = ⊥
-Finds program query proof (Err OutOfMemory) = Unit {0}
+-- what was found of three texts, with the bound of a cover or none, or why nothing was
+abbrev pub Finds : List ℕ → List ℕ → List ℕ → Option ℕ → Result Finding Refusal → Type 0
+Finds program query proof bound (Ok finding) =
+    (p : ProblemTree) × (d : DerivationLines) × TextsGive program query proof (unwrap_or bound 0) p d × IsFinding (is_some bound) p d finding
+Finds program query proof bound (Err (Text role refusal)) = IsCheckFaultOf program query proof role refusal
+Finds program query proof bound (Err Unwritable) = ⊥
+Finds program query proof bound (Err OutOfMemory) = Unit {0}
 
 -- what a check comes to where it found this
 abbrev pub ComesToFinding : Option Texts → Type 0 → Type 0 → CheckWords → Finding → Type 0

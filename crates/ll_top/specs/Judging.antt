@@ -87,18 +87,18 @@ pub record TextsAsk (program query : List ℕ) (bound : ℕ) (p : ProblemTree) :
   pub is_query : IsQueryText query query_tree
   pub asks : Asks program_tree query_tree bound p
 
--- ---- the texts of a check
+-- ---- the texts of a check or a cover
 
 -- The fault of three texts that are judged in turn: that of the program or of the query; or else, where these ask a problem, the
 -- derivation's, of kinds 13 to 16.
 pub data IsCheckFault (program query proof : List ℕ) : Role → Fault → Type 0 where
   of_run_texts : {role : Role} {f : Fault} → IsTextFault program query role f → IsCheckFault program query proof role f
-  of_proof : {f : Fault} (p : ProblemTree) → TextsAsk program query 0 p → HasProofFault proof f → IsCheckFault program query proof Proof f
+  of_proof : {f : Fault} (bound : ℕ) (p : ProblemTree) → TextsAsk program query bound p → HasProofFault proof f → IsCheckFault program query proof Proof f
 
--- Three texts give a problem and a derivation: the first two ask the problem, and the third is the derivation's, over the problem's names
--- and behind them the others that it mentions. The bound is 0, and no check looks at it.
-pub record TextsGive (program query proof : List ℕ) (p : ProblemTree) (d : DerivationLines) : Type 0 where
-  pub asks : TextsAsk program query 0 p
+-- Three texts give a problem and a derivation: the first two ask the problem with this bound, and the third is the derivation's, over the
+-- problem's names and behind them the others that it mentions.
+pub record TextsGive (program query proof : List ℕ) (bound : ℕ) (p : ProblemTree) (d : DerivationLines) : Type 0 where
+  pub asks : TextsAsk program query bound p
   pub is_text : IsTextOf (with_names p.names (text_names proof)) proof d
 
 -- ---- a program that was loaded

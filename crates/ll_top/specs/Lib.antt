@@ -9,3 +9,4 @@ pub mod Endings
 pub mod Running
 pub mod Proved
 pub mod Nothing
+pub mod Counting

@@ -1,4 +1,4 @@
--- The lines that say what a check finds.
+-- The lines that say what a check finds, and those of a cover.
 use Rattle.std.specs.Prelude.{ℕ, List, [], ◌∷◌, slice_index_or, codes, decimal}
 use Rattle.std.specs.List.{concat}
 
@@ -33,3 +33,18 @@ no_fields node reason text = concat (codes "no, node " ∷ node ∷ codes ", rea
 
 abbrev pub no_text : ℕ → ℕ → List ℕ
 no_text node reason = no_fields (decimal node) (decimal reason) (reason_text reason)
+
+-- the line of a derivation that an answer covers, by the answer's number: `covered by answer K`
+abbrev pub covered_text : ℕ → List ℕ
+covered_text number = concat (codes "covered by answer " ∷ decimal number ∷ codes "\n" ∷ [])
+
+-- the line of one with more nodes than the bound, whose numbers are spelled: `not covered: derivation has M nodes, bound N`
+abbrev pub too_long_fields : List ℕ → List ℕ → List ℕ
+too_long_fields nodes bound = concat (codes "not covered: derivation has " ∷ nodes ∷ codes " nodes, bound " ∷ bound ∷ codes "\n" ∷ [])
+
+abbrev pub too_long_text : ℕ → ℕ → List ℕ
+too_long_text nodes bound = too_long_fields (decimal nodes) (decimal bound)
+
+-- the line of one with a node of a whole-number goal: `not covered: node I counts numbers`
+abbrev pub counts_text : ℕ → List ℕ
+counts_text node = concat (codes "not covered: node " ∷ decimal node ∷ codes " counts numbers\n" ∷ [])

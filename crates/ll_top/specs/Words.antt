@@ -1,5 +1,5 @@
 -- The forms of a command's words.
-use Rattle.std.specs.Prelude.{◌≡◌, ◌⊎◌, ℕ, ◌+◌, ◌≤◌, Bool, true, false, ◌&&◌, not, List, [], ◌∷◌, length, filter, nat_eq, nat_le, slice_get, Option, Some, None, is_some, if◌then◌else◌, codes}
+use Rattle.std.specs.Prelude.{◌≡◌, ◌⊎◌, ℕ, ◌+◌, ◌≤◌, Bool, true, false, ◌&&◌, not, List, [], ◌∷◌, length, filter, nat_eq, nat_le, slice_get, Option, Some, None, is_some, if◌then◌else◌, codes, option_map, IfSome}
 use Rattle.ll_top.specs.declared.words.RunCommand.{RunCommand}
 use Rattle.ll_top.specs.declared.words.CheckCommand.{CheckCommand}
 use Rattle.ll_top.specs.declared.words.Command.{Command}
@@ -108,8 +108,12 @@ print_form = record { parts = ThisWord (codes "print") ∷ AnyName ∷ []; optio
 abbrev pub check_form : Form
 check_form = record { parts = ThisWord (codes "check") ∷ AnyName ∷ AnyName ∷ AnyName ∷ []; options = [] }
 
+-- `cover PROGRAM QUERY PROOF --bound N`
+abbrev pub cover_form : Form
+cover_form = record { parts = ThisWord (codes "cover") ∷ AnyName ∷ AnyName ∷ AnyName ∷ []; options = bound_option ∷ [] }
+
 abbrev pub forms : List Form
-forms = run_form ∷ print_form ∷ check_form ∷ []
+forms = run_form ∷ print_form ∷ check_form ∷ cover_form ∷ []
 
 -- words are in a form
 abbrev pub IsInForm : List (List ℕ) → Type 0
@@ -162,15 +166,22 @@ pub record IsPrint (words : List (List ℕ)) (name : List ℕ) : Type 0 where
   pub form : FitsForm print_form words
   pub program : slice_get words 1 ≡ Some name
 
--- what the words `check PROGRAM QUERY PROOF` ask for
+-- What the words `check PROGRAM QUERY PROOF` ask for, or the words `cover PROGRAM QUERY PROOF --bound N`. These have a bound: they also ask
+-- which answer of the search with this bound covers the derivation.
 pub record CheckWords : Type 0 where
   pub program : List ℕ
   pub query : List ℕ
   pub proof : List ℕ
+  pub bound : Option ℕ
 
--- words are in the form of a check, and these are the names of its texts
+-- words are in the form of a check where there is no bound, and otherwise in that of a cover, whose last word is the bound
+abbrev pub IsCheckForm : List (List ℕ) → Option ℕ → Type 0
+IsCheckForm words None = FitsForm check_form words
+IsCheckForm words (Some bound) = FitsForm cover_form words × (option_map (digits_value 10) (slice_get words 5) ≡ Some bound)
+
+-- words are in the form of a check or of a cover, with these names of its texts, and this bound
 pub record IsCheck (words : List (List ℕ)) (check : CheckWords) : Type 0 where
-  pub form : FitsForm check_form words
+  pub form : IsCheckForm words check.bound
   pub program : slice_get words 1 ≡ Some check.program
   pub query : slice_get words 2 ≡ Some check.query
   pub proof : slice_get words 3 ≡ Some check.proof
@@ -179,9 +190,9 @@ pub record IsCheck (words : List (List ℕ)) (check : CheckWords) : Type 0 where
 abbrev pub shown_words : RunCommand → RunWords
 shown_words c = record { program = c.program.now; query = c.query.now; bound = c.bound; workers = c.workers; proofs = c.proofs }
 
--- what the program's record of a check shows
+-- what the program's record of a check or a cover shows
 abbrev pub shown_check : CheckCommand → CheckWords
-shown_check c = record { program = c.program.now; query = c.query.now; proof = c.proof.now }
+shown_check c = record { program = c.program.now; query = c.query.now; proof = c.proof.now; bound = c.bound }
 
 -- words ask for this command
 abbrev pub IsCommand : List (List ℕ) → Command → Type 0
@@ -193,4 +204,4 @@ IsCommand words (Check check) = IsCheck words (shown_check check)
 abbrev pub IsBounded : Command → Type 0
 IsBounded (Run run) = run.bound ≤ greatest_bound
 IsBounded (Print name) = Unit {0}
-IsBounded (Check check) = Unit {0}
+IsBounded (Check check) = IfSome check.bound (λ bound. bound ≤ greatest_bound)

@@ -1,12 +1,15 @@
-//! From the words of a check to what it finds.
-ghost use Rattle.std.specs.Prelude.{◌≡◌, ◌≤◌, length, IfOk, IfErr, OnOk};
+//! From the words of a check, or of a cover, to what it finds.
+ghost use Rattle.std.specs.Prelude.{◌≡◌, ◌≤◌, length, true, IfOk, IfErr, IfSome, OnOk};
+ghost use Rattle.std.specs.List.{position_from};
 ghost use Rattle.ll_bank.specs.Names.{with_names};
 ghost use Rattle.ll_edge.specs.Counts.{Rose};
 ghost use Rattle.ll_laws.specs.Line.{IsWhole};
 ghost use Rattle.ll_laws.specs.Valid.{IsValid};
+ghost use Rattle.ll_laws.specs.Verdict.{DerivationShows};
 ghost use Rattle.ll_prooftext.specs.Mentions.{text_names};
 ghost use Rattle.ll_prooftext.specs.Reading.{IsTextOf};
 ghost use Rattle.ll_prooftext.specs.Terms.{Grows};
+ghost use Rattle.ll_top.specs.Counting.{is_counting};
 ghost use Rattle.ll_top.specs.Words.{shown_check};
 ghost use Rattle.ll_top.specs.Endings.{IsFinding, IsNoDerivation, Finds, CheckFinds, CheckEnds};
 
@@ -16,22 +19,25 @@ use crate::prepare::{problem_of, read, refusal};
 use crate::refusal::Refusal;
 use crate::words::CheckCommand;
 use ll_bank::{Names, OutOfMemory};
+use ll_cover::cover;
 use ll_edge::{Shelf, Sink};
-use ll_laws::{Derivation, Problem};
+use ll_laws::{Derivation, Problem, Rule};
 use ll_sequent::{Verdict, check};
 use std::alloc::Global;
 
 // One more than the names that a reader of derivations can number.
 const MOST_NAMES: usize = 4_294_967_296;
 
-/// Checks the derivation of this name against the problem of the other two, and writes the line of what was found. After a refusal of a
-/// text nothing was written, else a prefix.
+/// Checks the derivation of this name against the problem of the other two, asks for a cover which answer of the search covers it, and
+/// writes the line of what was found. After a refusal of a text nothing was written, else a prefix.
 pub fn check_derivation<F: Shelf, O: Sink>(
     alloc: Global,
     command: &CheckCommand<'_>,
     shelf: &mut F,
     sink: &mut O,
 ) -> Result<Finding, Refusal>
+    requires bound { IfSome command.now.bound (λ bound. bound ≤ 1000000) }
+
     ensures same_texts { F.texts shelf.new ≡ F.texts shelf.old }
     ensures shelf_faults_kept { F.faults shelf.old ≤ F.faults shelf.new }
     ensures absences_kept { F.absences shelf.old ≤ F.absences shelf.new }
@@ -45,12 +51,14 @@ pub fn check_derivation<F: Shelf, O: Sink>(
     Ok(finding)
 }
 
-// What a check finds: reads the program, the query and the derivation from the shelf, each to its end, and then judges them in turn.
+// What a check or a cover finds: reads the program, the query and the derivation from the shelf, each to its end, and then judges them in turn.
 fn found<F: Shelf>(
     alloc: Global,
     command: &CheckCommand<'_>,
     shelf: &mut F,
 ) -> Result<Finding, Refusal>
+    requires bound { IfSome command.now.bound (λ bound. bound ≤ 1000000) }
+
     ensures same_texts { F.texts shelf.new ≡ F.texts shelf.old }
     ensures faults_kept { F.faults shelf.old ≤ F.faults shelf.new }
     ensures absences_kept { F.absences shelf.old ≤ F.absences shelf.new }
@@ -61,34 +69,91 @@ fn found<F: Shelf>(
     let program = read(alloc, shelf, command.program, Role::Program)?;
     let query = read(alloc, shelf, command.query, Role::Query)?;
     let proof = read(alloc, shelf, command.proof, Role::Proof)?;
-    finding_of(alloc, &program, &query, &proof)
+    finding_of(alloc, &program, &query, &proof, command.bound)
 }
 
-// What is found of three texts: the program is judged first, then the query, and then the derivation.
-fn finding_of(alloc: Global, program: &[u8], query: &[u8], proof: &[u8]) -> Result<Finding, Refusal>
+// What is found of three texts, with the bound of a cover or none: the program is judged first, then the query, and then the derivation.
+fn finding_of(
+    alloc: Global,
+    program: &[u8],
+    query: &[u8],
+    proof: &[u8],
+    bound: Option<u32>,
+) -> Result<Finding, Refusal>
     requires program { length program.now ≤ 16777216 }
     requires query { length query.now ≤ 16777216 }
     requires proof { length proof.now ≤ 16777216 }
-    ensures { Finds program.now query.now proof.now result }
+    requires bound { IfSome bound (λ bound. bound ≤ 1000000) }
+    ensures { Finds program.now query.now proof.now bound result }
 {
-    let mut problem = problem_of(alloc, program, query, 0)?;
+    let mut problem = problem_of(alloc, program, query, bound.unwrap_or(0))?;
     let derivation = derivation_of(alloc, proof, &mut problem.names)?;
-    let finding = judged(alloc, &problem, &derivation)?;
+    let finding = judged(alloc, &problem, &derivation, bound.is_some())?;
     Ok(finding)
 }
 
-// What the checker says of a derivation.
-fn judged(alloc: Global, problem: &Problem, derivation: &Derivation) -> Result<Finding, OutOfMemory>
+// What the checker says of a derivation, and for a cover, where it shows the query, which answer covers it.
+fn judged(
+    alloc: Global,
+    problem: &Problem,
+    derivation: &Derivation,
+    covers: bool,
+) -> Result<Finding, OutOfMemory>
     requires valid { IsValid problem.now }
     requires whole { IsWhole derivation.now }
-    ensures { IfOk result (IsFinding problem.now derivation.now) }
+    ensures { IfOk result (IsFinding covers problem.now derivation.now) }
 {
     match check(alloc, problem, derivation)? {
+        Verdict::Yes if covers => covered(alloc, problem, derivation),
         Verdict::Yes => Ok(Finding::Shows {
-            nodes: derivation.nodes.len(),
+            nodes: node_count(derivation),
         }),
         Verdict::No { node, reason } => Ok(Finding::Fails { node, reason }),
     }
+}
+
+// Which answer covers a derivation that shows the query, or why none is looked for.
+fn covered(
+    alloc: Global,
+    problem: &Problem,
+    derivation: &Derivation,
+) -> Result<Finding, OutOfMemory>
+    requires valid { IsValid problem.now }
+    requires whole { IsWhole derivation.now }
+    requires shows { DerivationShows problem.now derivation.now }
+    ensures { IfOk result (IsFinding true problem.now derivation.now) }
+{
+    let nodes = node_count(derivation);
+    if nodes > problem.bound as usize {
+        return Ok(Finding::TooLong {
+            nodes,
+            bound: problem.bound,
+        });
+    }
+    if let Some(node) = first_counting(&derivation.nodes) {
+        return Ok(Finding::CountsNumbers { node });
+    }
+    let answer = cover(alloc, problem, derivation)?;
+    Ok(Finding::Covered { answer })
+}
+
+// The number of nodes of a derivation.
+fn node_count(derivation: &Derivation) -> usize
+    ensures { result ≡ length derivation.now.nodes }
+{
+    derivation.nodes.len()
+}
+
+// The number of the first node of a whole-number goal, counted from 1.
+fn first_counting(nodes: &[Rule]) -> Option<usize>
+    ensures { result ≡ position_from is_counting 1 nodes.now }
+{
+    for (i, rule) in nodes.iter().enumerate() {
+        if let Rule::Num = rule {
+            return Some(i + 1);
+        }
+    }
+    None
 }
 
 // The derivation of a text. Names may come to the others, also where it is refused.

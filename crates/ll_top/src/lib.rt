@@ -14,8 +14,8 @@ mod words;
 ghost use Rattle.std.specs.Prelude.{◌≡◌, ◌≤◌, ◌↔◌, ◌⊎◌, ℕ, List, Option, None, Some, IfSome};
 ghost use Rattle.ll_edge.specs.Counts.{Rose};
 ghost use Rattle.ll_edge.specs.Texts.{Texts};
-ghost use Rattle.ll_top.specs.Words.{IsInForm, IsInWorkersForm, RunWords, IsRun, shown_words, shown_check};
-ghost use Rattle.ll_top.specs.Outcome.{word_texts, name_of, name_in_check, ComesTo, RunComesTo, PrintComesTo, CheckComesTo, IsDenied, Ends, Completes};
+ghost use Rattle.ll_top.specs.Words.{FitsForm, cover_form, IsInForm, IsInWorkersForm, RunWords, IsRun, shown_words, shown_check};
+ghost use Rattle.ll_top.specs.Outcome.{word_texts, name_of, name_in_check, ComesTo, RunComesTo, PrintComesTo, CheckComesTo, IsDenied, IsCoveredCall, IsUncoveredCall, Ends, Completes};
 ghost use Rattle.ll_top.specs.Endings.{status_of_found, status_of_finding, RunEnds};
 ghost use Rattle.ll_top.specs.Proved.{WritesShown};
 ghost use Rattle.ll_top.specs.Nothing.{AsksInVain};
@@ -40,8 +40,9 @@ use words::{CheckCommand, Command, RunCommand, read_command};
 
 /// Does what the words say, over the texts of the shelf, and writes to the sink. The answer is the program's exit status:
 ///
-/// - 0: there is an answer, the program was printed, or the derivation shows the query; 1: there is no answer; 2: there is none, but some
-///   branch reached the bound; 9: the derivation does not show the query. The whole text was written.
+/// - 0: there is an answer, the program was printed, or the derivation shows the query, or is covered by an answer; 1: there is no answer; 2: there is none, but some
+///   branch reached the bound; 9: the derivation does not show the query; 11: it shows it, but is too long or counts numbers, so no answer
+///   that covers it is looked for. The whole text was written.
 /// - 3: the words are in no form; 4: there is no text of a name; 5: the shelf failed; 7: a text has a fault; 8: a text has more
 ///   than 16,777,216 bytes. The line of this cause was written.
 /// - 6: the sink failed; 10: memory ran out. A prefix of the text was written.
@@ -76,6 +77,8 @@ pub fn lolli<R: Threads + Wait + Sync, F: Shelf, O: Sink, G: Gate>(
     ensures unreadable { result ≡ 5 → Rose (F.faults shelf.old) (F.faults shelf.new) }
     ensures unwritable { result ≡ 6 → Rose (O.faults sink.old) (O.faults sink.new) }
     ensures denied { result ≡ 9 → IsDenied (word_texts words.now) (F.texts shelf.old) }
+    ensures covered { FitsForm cover_form (word_texts words.now) → result ≡ 0 → IsCoveredCall (word_texts words.now) (F.texts shelf.old) }
+    ensures uncovered { result ≡ 11 → IsUncoveredCall (word_texts words.now) (F.texts shelf.old) }
 
     ensures same_texts { F.texts shelf.new ≡ F.texts shelf.old }
     ensures counts_kept { (F.faults shelf.old ≤ F.faults shelf.new)
@@ -119,6 +122,8 @@ pub fn lolli_plain<F: Shelf, O: Sink>(
     ensures unreadable { result ≡ Some 5 → Rose (F.faults shelf.old) (F.faults shelf.new) }
     ensures unwritable { result ≡ Some 6 → Rose (O.faults sink.old) (O.faults sink.new) }
     ensures denied { result ≡ Some 9 → IsDenied (word_texts words.now) (F.texts shelf.old) }
+    ensures covered { FitsForm cover_form (word_texts words.now) → result ≡ Some 0 → IsCoveredCall (word_texts words.now) (F.texts shelf.old) }
+    ensures uncovered { result ≡ Some 11 → IsUncoveredCall (word_texts words.now) (F.texts shelf.old) }
 
     ensures same_texts { F.texts shelf.new ≡ F.texts shelf.old }
     ensures counts_kept { (F.faults shelf.old ≤ F.faults shelf.new)
@@ -228,13 +233,15 @@ fn text_name<'a>(run: &RunCommand<'a>, role: Role) -> &'a str
     }
 }
 
-// Checks a derivation, and says why not where it is not checked.
+// Checks a derivation, or says which answer covers it, and says why not where this is not done.
 fn serve_check<F: Shelf, O: Sink>(
     alloc: Global,
     check: &CheckCommand<'_>,
     shelf: &mut F,
     sink: &mut O,
 ) -> u8
+    requires bound { IfSome check.now.bound (λ bound. bound ≤ 1000000) }
+
     ensures same_texts { F.texts shelf.new ≡ F.texts shelf.old }
     ensures shelf_faults_kept { F.faults shelf.old ≤ F.faults shelf.new }
     ensures absences_kept { F.absences shelf.old ≤ F.absences shelf.new }
@@ -272,6 +279,9 @@ fn finding_status(finding: Finding) -> u8
     match finding {
         Finding::Shows { .. } => 0,
         Finding::Fails { .. } => 9,
+        Finding::Covered { .. } => 0,
+        Finding::TooLong { .. } => 11,
+        Finding::CountsNumbers { .. } => 11,
     }
 }
 

@@ -1,8 +1,8 @@
 // The words of a command, read by hand.
-ghost use Rattle.std.specs.Prelude.{◌≡◌, ◌+◌, ◌≤◌, ◌<◌, length, map, true, codes, slice_get, Some, IsSomeAnd, IfOk, MatchOption, MatchResult, false};
+ghost use Rattle.std.specs.Prelude.{◌≡◌, ◌+◌, ◌≤◌, ◌<◌, length, map, true, codes, slice_get, Some, IsSomeAnd, IfOk, IfSome, MatchOption, MatchResult, false};
 ghost use Rattle.std.specs.Char.{is_ascii_digit};
 ghost use Rattle.std.specs.List.{list_all, list_any};
-ghost use Rattle.ll_top.specs.Words.{is_word, is_name_word, is_number_word, number_from, value_within, ThisWord, AnyName, NumberFrom, IsRun, IsPrint, IsCheck, IsCommand, IsBounded, shown_words, shown_check, IsBadWord, greatest_bound, print_form, check_form};
+ghost use Rattle.ll_top.specs.Words.{is_word, is_name_word, is_number_word, number_from, value_within, ThisWord, AnyName, NumberFrom, IsRun, IsPrint, IsCheck, IsCommand, IsBounded, shown_words, shown_check, IsBadWord, greatest_bound, print_form, check_form, cover_form};
 ghost use Rattle.ll_top.specs.RunForm.{HasPart, LacksPart, options_left, IsOptionLeft, IsBadFormWord, IsBadRunWord, IsReadTo};
 ghost use Rattle.ll_top.specs.Outcome.{word_texts};
 
@@ -17,12 +17,14 @@ pub struct RunCommand<'a> {
     pub proofs: bool,
 }
 
-/// What the words `check PROGRAM QUERY PROOF` ask for.
+/// What the words `check PROGRAM QUERY PROOF` ask for, or the words `cover PROGRAM QUERY PROOF --bound N`.
 #[derive(Clone, Copy)]
 pub struct CheckCommand<'a> {
     pub program: &'a str,
     pub query: &'a str,
     pub proof: &'a str,
+    /// The bound of the search that a cover asks about. A check has none.
+    pub bound: Option<u32>,
 }
 
 /// What words ask for.
@@ -32,7 +34,7 @@ pub enum Command<'a> {
     Run(RunCommand<'a>),
     /// The words `print PROGRAM`, with the name.
     Print(&'a str),
-    /// A check.
+    /// A check, or a cover.
     Check(CheckCommand<'a>),
 }
 
@@ -76,6 +78,7 @@ pub fn read_command<'a>(words: &[&'a str]) -> Result<Command<'a>, usize>
         "run" => Ok(Command::Run(read_run(words)?)),
         "print" => Ok(Command::Print(read_print(words)?)),
         "check" => Ok(Command::Check(read_check(words)?)),
+        "cover" => Ok(Command::Check(read_cover(words)?)),
         _ => Err(1),
     }
 }
@@ -107,6 +110,29 @@ fn read_check<'a>(words: &[&'a str]) -> Result<CheckCommand<'a>, usize>
         program,
         query,
         proof,
+        bound: None,
+    })
+}
+
+// The names of a cover's texts and its bound, or the number of the first word through which no cover begins.
+fn read_cover<'a>(words: &[&'a str]) -> Result<CheckCommand<'a>, usize>
+    requires { HasPart (word_texts words.now) 0 (ThisWord (codes "cover")) }
+    ensures cover { MatchResult result (λ cover. IsCheck (word_texts words.now) (shown_check cover)) (IsBadFormWord cover_form (word_texts words.now)) }
+    ensures bound { IfOk result (λ cover. IfSome cover.bound (λ bound. bound ≤ greatest_bound)) }
+{
+    let program = name_at(words, 1)?;
+    let query = name_at(words, 2)?;
+    let proof = name_at(words, 3)?;
+    this_at(words, 4, "--bound")?;
+    let bound = number_at(words, 5, 0, GREATEST_BOUND)?;
+    if words.len() > 6 {
+        return Err(7);
+    }
+    Ok(CheckCommand {
+        program,
+        query,
+        proof,
+        bound: Some(bound),
     })
 }
 
@@ -206,6 +232,18 @@ fn name_at<'a>(words: &[&'a str], at: usize) -> Result<&'a str, usize>
 {
     match words.get(at) {
         Some(word) if is_name(word) => Ok(*word),
+        _ => Err(at + 1),
+    }
+}
+
+// Whether this word stands there: nothing, or the word's number.
+fn this_at(words: &[&str], at: usize, text: &str) -> Result<(), usize>
+    requires { at ≤ length words.now }
+    ensures { MatchResult result (λ _. HasPart (word_texts words.now) at (ThisWord text.now))
+        (λ number. (number ≡ at + 1) × LacksPart (word_texts words.now) at (ThisWord text.now)) }
+{
+    match words.get(at) {
+        Some(word) if *word == text => Ok(()),
         _ => Err(at + 1),
     }
 }

@@ -1,7 +1,7 @@
 use Rattle.std.proofs.Common.{refl}
 use Rattle.ll_top.specs.Outcome.{word_texts}
-use Rattle.ll_top.proofs.OutcomeLemmas.{run-call, call-denied, completes, run-says, run-in-form, bad-not-in-form, workers-run, workers-in-form}
-use Rattle.ll_top.proofs.CommandWords.{run-or-print, run-or-check}
+use Rattle.ll_top.proofs.OutcomeLemmas.{run-call, call-denied, call-covered, call-uncovered, completes, run-says, run-in-form, bad-not-in-form, workers-run, workers-in-form}
+use Rattle.ll_top.proofs.CommandWords.{run-or-print, run-not-checked}
 use Rattle.ll_top.proofs.ProvedLemmas.{shown-run}
 use Rattle.ll_top.proofs.NothingLemmas.{vain-run}
 use Rattle.ll_top.proofs.lolli.Goals as goal
@@ -16,7 +16,7 @@ pub unreachable-requires-in-Ok-Check : goal.unreachable-requires-in-Ok-Check
 unreachable-requires-in-Ok-Check g c =
     let words = word_texts c.args.words.now in
     let check = rw c.in-Ok-Check.field-0-is at c.in-Ok-Check.ensures.command in
-    run-or-check words (workers-run words (c.in-None.ensures.workers.0 refl)) check.form
+    run-not-checked words _ (workers-run words (c.in-None.ensures.workers.0 refl)) check
 
 pub unreachable-requires-in-Err : goal.unreachable-requires-in-Err
 unreachable-requires-in-Err g c =
@@ -66,3 +66,15 @@ returns-in-Ok-Run-clause-denied g c =
     let u = c.in-None.ensures.untouched refl in
     let words = word_texts c.args.words.now in
     call-denied words _ _ _ _ _ _ _ (run-call words _ _ _ _ _ _ _ _ (rw c.in-Ok-Run.field-0-is at c.in-Ok-Run.ensures.command) (rw (u.0, u.1) at c.serve_run.ensures.ends))
+
+pub returns-in-Ok-Run-clause-covered : goal.returns-in-Ok-Run-clause-covered
+returns-in-Ok-Run-clause-covered g c =
+    let u = c.in-None.ensures.untouched refl in
+    let words = word_texts c.args.words.now in
+    call-covered words _ _ _ _ _ _ _ (run-call words _ _ _ _ _ _ _ _ (rw c.in-Ok-Run.field-0-is at c.in-Ok-Run.ensures.command) (rw (u.0, u.1) at c.serve_run.ensures.ends))
+
+pub returns-in-Ok-Run-clause-uncovered : goal.returns-in-Ok-Run-clause-uncovered
+returns-in-Ok-Run-clause-uncovered g c =
+    let u = c.in-None.ensures.untouched refl in
+    let words = word_texts c.args.words.now in
+    call-uncovered words _ _ _ _ _ _ _ (run-call words _ _ _ _ _ _ _ _ (rw c.in-Ok-Run.field-0-is at c.in-Ok-Run.ensures.command) (rw (u.0, u.1) at c.serve_run.ensures.ends))

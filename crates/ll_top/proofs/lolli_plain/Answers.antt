@@ -1,6 +1,7 @@
 use Rattle.ll_top.specs.Outcome.{word_texts}
 use Rattle.ll_top.specs.Words.{shown_check}
-use Rattle.ll_top.proofs.OutcomeLemmas.{usage-call, print-call, check-call, call-denied, completes, print-says, check-says, workers-in-form, bad-not-in-form}
+use Rattle.ll_top.proofs.OutcomeLemmas.{workers-run, usage-call, print-call, check-call, call-denied, call-covered, call-uncovered, completes, print-says, check-says, workers-in-form, bad-not-in-form}
+use Rattle.ll_top.proofs.CommandWords.{run-not-checked}
 use Rattle.ll_top.proofs.lolli_plain.Goals as goal
 
 pub returns-in-Err-clause-workers : goal.returns-in-Err-clause-workers
@@ -46,6 +47,11 @@ returns-in-Ok-Print-clause-denied g c = λ e.
     let words = word_texts c.args.words.now in
     call-denied words _ _ _ _ _ _ _ (print-call words _ _ _ _ c.in-Ok-Print.name.now _ _ _ (rw c.in-Ok-Print.field-0-is at c.in-Ok-Print.ensures.command) c.serve_print.ensures.ends) cc
 
+pub returns-in-Ok-Check-clause-workers : goal.returns-in-Ok-Check-clause-workers
+returns-in-Ok-Check-clause-workers g c =
+    let words = word_texts c.args.words.now in let asked = rw c.in-Ok-Check.field-0-is at c.in-Ok-Check.ensures.command in
+    (λ e. cc, λ f. absurd (run-not-checked words (shown_check c.in-Ok-Check.check) (workers-run words f) asked))
+
 pub returns-in-Ok-Check-clause-outcome : goal.returns-in-Ok-Check-clause-outcome
 returns-in-Ok-Check-clause-outcome g c =
     check-call (word_texts c.args.words.now) _ _ _ _ (shown_check c.in-Ok-Check.check) _ _ _ (rw c.in-Ok-Check.field-0-is at c.in-Ok-Check.ensures.command) c.serve_check.ensures.ends
@@ -69,3 +75,33 @@ pub returns-in-Ok-Check-clause-denied : goal.returns-in-Ok-Check-clause-denied
 returns-in-Ok-Check-clause-denied g c = λ e.
     let words = word_texts c.args.words.now in
     call-denied words _ _ _ _ _ _ _ (check-call words _ _ _ _ (shown_check c.in-Ok-Check.check) _ _ _ (rw c.in-Ok-Check.field-0-is at c.in-Ok-Check.ensures.command) c.serve_check.ensures.ends) cc
+
+pub returns-in-Err-clause-covered : goal.returns-in-Err-clause-covered
+returns-in-Err-clause-covered g c = λ f e.
+    let words = word_texts c.args.words.now in
+    call-covered words _ ⊥ ⊥ _ _ _ _ (usage-call words _ ⊥ ⊥ _ c.in-Err.number _ _ _ c.in-Err.ensures.command c.refuse.ensures.refuses) f cc
+
+pub returns-in-Err-clause-uncovered : goal.returns-in-Err-clause-uncovered
+returns-in-Err-clause-uncovered g c = λ e.
+    let words = word_texts c.args.words.now in
+    call-uncovered words _ ⊥ ⊥ _ _ _ _ (usage-call words _ ⊥ ⊥ _ c.in-Err.number _ _ _ c.in-Err.ensures.command c.refuse.ensures.refuses) cc
+
+pub returns-in-Ok-Print-clause-covered : goal.returns-in-Ok-Print-clause-covered
+returns-in-Ok-Print-clause-covered g c = λ f e.
+    let words = word_texts c.args.words.now in
+    call-covered words _ _ _ _ _ _ _ (print-call words _ _ _ _ c.in-Ok-Print.name.now _ _ _ (rw c.in-Ok-Print.field-0-is at c.in-Ok-Print.ensures.command) c.serve_print.ensures.ends) f cc
+
+pub returns-in-Ok-Print-clause-uncovered : goal.returns-in-Ok-Print-clause-uncovered
+returns-in-Ok-Print-clause-uncovered g c = λ e.
+    let words = word_texts c.args.words.now in
+    call-uncovered words _ _ _ _ _ _ _ (print-call words _ _ _ _ c.in-Ok-Print.name.now _ _ _ (rw c.in-Ok-Print.field-0-is at c.in-Ok-Print.ensures.command) c.serve_print.ensures.ends) cc
+
+pub returns-in-Ok-Check-clause-covered : goal.returns-in-Ok-Check-clause-covered
+returns-in-Ok-Check-clause-covered g c = λ f e.
+    let words = word_texts c.args.words.now in
+    call-covered words _ _ _ _ _ _ _ (check-call words _ _ _ _ (shown_check c.in-Ok-Check.check) _ _ _ (rw c.in-Ok-Check.field-0-is at c.in-Ok-Check.ensures.command) c.serve_check.ensures.ends) f cc
+
+pub returns-in-Ok-Check-clause-uncovered : goal.returns-in-Ok-Check-clause-uncovered
+returns-in-Ok-Check-clause-uncovered g c = λ e.
+    let words = word_texts c.args.words.now in
+    call-uncovered words _ _ _ _ _ _ _ (check-call words _ _ _ _ (shown_check c.in-Ok-Check.check) _ _ _ (rw c.in-Ok-Check.field-0-is at c.in-Ok-Check.ensures.command) c.serve_check.ensures.ends) cc

@@ -1,4 +1,4 @@
-use Rattle.std.proofs.Common.{◌<◌, ◌≤◌, ℕ, List, length, arith}
+use Rattle.std.proofs.Common.{◌<◌, ◌≤◌, ℕ, List, length, refl, arith}
 use Rattle.std.specs.Borrow.{Bor}
 use Rattle.std.proofs.lemmas.List.{length-map}
 use Rattle.ll_top.specs.Outcome.{word_texts}
@@ -41,4 +41,4 @@ returns c =
     let same = length-map c.args.words.now (λ (b : Bor (List ℕ)). b.now) in
     let few : length words ≤ 4 = let h = c.if-words-gt4.false in omega arith in
     whole-check words c.requires (has-name words 1 _ c.in_ok-program.ensures.0 c.in_ok-program.ensures.1) (has-name words 2 _ c.in_ok-query.ensures.0 c.in_ok-query.ensures.1)
-    (has-name words 3 _ c.in_ok-proof.ensures.0 c.in_ok-proof.ensures.1) _ c.in_ok-program.ensures.0 c.in_ok-query.ensures.0 c.in_ok-proof.ensures.0 few
+    (has-name words 3 _ c.in_ok-proof.ensures.0 c.in_ok-proof.ensures.1) _ refl c.in_ok-program.ensures.0 c.in_ok-query.ensures.0 c.in_ok-proof.ensures.0 few

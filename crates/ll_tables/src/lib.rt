@@ -8,10 +8,4 @@ mod edge;
 #[cfg(test)]
 mod lexer;
 #[cfg(test)]
-mod parser;
-#[cfg(test)]
-mod polarity;
-#[cfg(test)]
-mod printer;
-#[cfg(test)]
 mod prooftext;

@@ -17,7 +17,7 @@ fn printed(alloc: Global, text: &[u8]) -> Result<Vec<u8>, TextFault> {
 }
 
 // Programs and how they are printed.
-const PRINTED: [(&str, &str); 22] = [
+const PRINTED: [(&str, &str); 13] = [
     ("", ""),
     ("p X:-q X,(r;s).%c", "p X :- q X , (r ; s).\n"),
     ("LINEAR ((a)).", "LINEAR a.\n"),
@@ -30,18 +30,6 @@ const PRINTED: [(&str, &str); 22] = [
     ("p ((a::b)::c) (f -07) _.", "p ((a::b)::c) (f -7) _.\n"),
     ("p (((f x)::nil)).", "p (f x::nil).\n"),
     ("a:-b:-(c<=d).", "a :- b :- (c <= d).\n"),
-    ("p:-X is(1+2)*3,X<4.", "p :- X is (1 + 2) * 3 , X < 4.\n"),
-    ("p:-X - -1=<2.", "p :- X - -1 =< 2.\n"),
-    ("p:-0<1-(2-3)-(4-5).", "p :- 0 < 1 - (2 - 3) - (4 - 5).\n"),
-    ("p:-0<1+(2*3)-(4*5).", "p :- 0 < 1 + 2 * 3 - 4 * 5.\n"),
-    ("p:-0<1*(2*3)*(4+5).", "p :- 0 < 1 * (2 * 3) * (4 + 5).\n"),
-    ("p:-0<((1*2)*3)+4.", "p :- 0 < 1 * 2 * 3 + 4.\n"),
-    (
-        "p:-{a=<X},(1<_;(Y is-7)).",
-        "p :- {a =< X} , (1 < _ ; Y is -7).\n",
-    ),
-    ("p:-(forall x\\1<x),q.", "p :- (forall x\\ 1 < x) , q.\n"),
-    ("p:-X<Y-o Y<X.", "p :- X < Y -o Y < X.\n"),
     ("(a-o b)-o(b=>c).", "(a -o b) -o b => c.\n"),
     ("a&(b;c)&(d,e).", "a & (b ; c) & d , e.\n"),
     (
@@ -81,12 +69,10 @@ fn repeated(
 }
 
 // Pieces between a front and an end, laid out as they are printed.
-const CHAINS: [(&[u8], &[u8], &[u8]); 5] = [
+const CHAINS: [(&[u8], &[u8], &[u8]); 3] = [
     (b"", b"a , ", b"b.\n"),
     (b"", b"a :- ", b"b.\n"),
     (b"p (", b"1::", b"nil).\n"),
-    (b"p :- X is ", b"1 + ", b"0.\n"),
-    (b"p :- ", b"1 < 2 , ", b"_ is a.\n"),
 ];
 
 #[test]

@@ -1,21 +1,17 @@
 //! Unification by levels on the cells of a store.
 #![tactic(auto)]
 
-mod table;
-
 ghost use Rattle.std.specs.Prelude.{◌≡◌, length, All, IfOk};
 ghost use Rattle.ll_bank.specs.declared.At.{At as AtView};
 ghost use Rattle.ll_bank.specs.Nodes.{term_trees};
 ghost use Rattle.ll_bindings.specs.Bindings.{IsTable, IsPlaceOf};
 ghost use Rattle.ll_bindings.specs.Solving.{IsSolved, wanted};
 ghost use Rattle.ll_store.specs.Stored.{stored, KeepsMarks};
-ghost use Rattle.ll_bind.specs.Tables.{table_of};
+ghost use Rattle.ll_store.specs.Tables.{table_of};
 
 use ll_bank::{At, OutOfMemory};
-use ll_store::{Cells, Store};
+use ll_store::Store;
 use std::alloc::Global;
-use std::mem;
-use table::Table;
 
 /// Makes two lists of terms equal by bindings of a store's variables, or finds that this can't be.
 ///
@@ -40,10 +36,5 @@ pub fn unify(
     ensures bank { store.new.bank ≡ store.old.bank }
     ensures marks { KeepsMarks (stored store.old) (stored store.new) }
 {
-    let mut table = Table {
-        cells: mem::replace(&mut store.cells, Cells::new(alloc)),
-    };
-    let answer = ll_bindings::unify(alloc, &store.bank, &mut table, left, right);
-    store.cells = table.cells;
-    answer
+    ll_bindings::unify(alloc, &store.bank, &mut store.cells, left, right)
 }

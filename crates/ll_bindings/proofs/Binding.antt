@@ -2,7 +2,7 @@
 use Rattle.std.proofs.Common.{◌≡◌, ◌≢◌, ℕ, zero, suc, ◌+◌, ◌*◌, ◌<◌, ◌≤◌, Bool, true, false, List, [], ◌∷◌, ◌++◌, length, get_or, All, refl, ap, sym, subst, ◌∙◌, arith, nat_eq, ◌⊎◌, inl, inr}
 use Rattle.std.specs.Prelude.{Result, Ok, Err, IfOk, OnOk, ℤ, ◌||◌, ◌&&◌, not, cond, min, Option, Some, None, slice_index, slice_set, if◌then◌else◌, nat_lt}
 use Rattle.std.specs.List.{list_any}
-use Rattle.std.proofs.lemmas.Bool.{eqb-true, eqb-false, eq-eqb, ne_eqb}
+use Rattle.std.proofs.lemmas.Bool.{or_left, or_right, eqb-true, eqb-false, eq-eqb, ne_eqb}
 use Rattle.std.proofs.lemmas.List.{length-set, get_or-set_same, get_or-set_other, ext_get_or, get_or_default}
 use Rattle.ll_bank.specs.declared.At.{At}
 use Rattle.ll_bank.specs.declared.Head.{Head}
@@ -14,7 +14,7 @@ use Rattle.ll_laws.proofs.UnifyLaws.{level-lower, or_cases}
 use Rattle.ll_bindings.specs.Bindings.{Table, then_bound, found, cell, count, Reaches, stands, through, HasCells, IsPlaceOf, IsOrdered, IsTable, Obeys, IsEnd, IsSet, IsLowered, unbound, HasBound, Binds, IsMeeting, Meets, is_var}
 use Rattle.ll_bindings.specs.Scanned.{is_among, IsScan, is_bad}
 use Rattle.ll_bindings.proofs.Spines.{app-var}
-use Rattle.ll_bindings.proofs.Readings.{or-left, or-right, found-free, Obeys-found, found-only}
+use Rattle.ll_bindings.proofs.Readings.{found-free, Obeys-found, found-only}
 use Rattle.ll_bindings.proofs.Tables.{end-var, var-below}
 
 -- a variable that does not stand in a term
@@ -58,8 +58,8 @@ occurs-sub s x z (Var y) o p = subst (λ w. occurs x (s w) ≡ true) (eqb-true z
 occurs-sub s x z (Int y) o p = cc
 occurs-sub s x z (Con k) o p = cc
 occurs-sub s x z (Ap f a) o p =
-    or_cases (occurs z f) (occurs z a) o (λ q. or-left (occurs x (sub s f)) (occurs x (sub s a)) (occurs-sub s x z f q p))
-    (λ q. or-right (occurs x (sub s f)) (occurs x (sub s a)) (occurs-sub s x z a q p))
+    or_cases (occurs z f) (occurs z a) o (λ q. or_left (occurs x (sub s f)) (occurs x (sub s a)) (occurs-sub s x z f q p))
+    (λ q. or_right (occurs x (sub s f)) (occurs x (sub s a)) (occurs-sub s x z a q p))
 
 -- the highest rank of a term's variables
 abbrev highest : (ℕ → ℕ) → Term → ℕ
@@ -130,7 +130,7 @@ module _ (nodes : Nodes) (old new : Table) (x : ℕ) (to : At) (c : Change nodes
       step : (b : Bool) → occurs x (found nodes old y) ≡ b → raised (c.table.ordered.rank y) b < raised (c.table.ordered.rank x) (occurs x (found nodes old x))
       step true e = let p = occurs-sub (found nodes old) x y (term_tree nodes to.0) o e in let q = c.absent in cc
       step false e =
-          subst (λ b. c.table.ordered.rank y < raised (c.table.ordered.rank x) b) (sym (ap (occurs x) (found-free nodes old c.table.ordered x c.free) ∙ eq-eqb x x refl))
+          subst (λ b. c.table.ordered.rank y < raised (c.table.ordered.rank x) b) (sym (ap (occurs x) (found-free nodes old x c.free) ∙ eq-eqb x x refl))
           (let h = highest-le c.table.ordered.rank y (term_tree nodes to.0) o in omega arith)
 
   falls-there : (y : ℕ) (at : At) → cell old y ≡ Some at → (z : ℕ) → occurs z (term_tree nodes at.0) ≡ true → rank-new z < rank-new y
@@ -150,7 +150,7 @@ module _ (nodes : Nodes) (old new : Table) (x : ℕ) (to : At) (c : Change nodes
 
   then-here : then_bound (found nodes old) x (sub (found nodes old) (term_tree nodes to.0)) x ≡ sub (found nodes old) (term_tree nodes to.0)
   then-here =
-      ap (sub (bound_to x (sub (found nodes old) (term_tree nodes to.0)))) (found-free nodes old c.table.ordered x c.free)
+      ap (sub (bound_to x (sub (found nodes old) (term_tree nodes to.0)))) (found-free nodes old x c.free)
       ∙ bound-here x (sub (found nodes old) (term_tree nodes to.0))
 
   then-sub : (u : Term) → sub (then_bound (found nodes old) x (sub (found nodes old) (term_tree nodes to.0))) u
@@ -170,7 +170,7 @@ module _ (nodes : Nodes) (old new : Table) (x : ℕ) (to : At) (c : Change nodes
   then-free : (y : ℕ) → cell new y ≡ None → then_bound (found nodes old) x (sub (found nodes old) (term_tree nodes to.0)) y ≡ Var y
   then-free y e = either y
       (λ q. let d : Some to ≡ None = sym cell-here ∙ (ap (cell new) (sym q) ∙ e) in cc)
-      (λ q. ap (sub (bound_to x (sub (found nodes old) (term_tree nodes to.0)))) (found-free nodes old c.table.ordered y (sym (cell-other y q) ∙ e))
+      (λ q. ap (sub (bound_to x (sub (found nodes old) (term_tree nodes to.0)))) (found-free nodes old y (sym (cell-other y q) ∙ e))
       ∙ bound-other x y (sub (found nodes old) (term_tree nodes to.0)) q)
 
   pub new-found : found nodes new ≡ then_bound (found nodes old) x (sub (found nodes old) (term_tree nodes to.0))

@@ -8,3 +8,5 @@ pub mod Binding
 pub mod Pairs
 pub mod Solving
 pub mod Settling
+pub mod CallerLemmas
+pub mod Copies

@@ -1,19 +1,11 @@
 -- What bindings say when they are followed to the end.
 use Rattle.std.proofs.Common.{◌≡◌, ℕ, zero, suc, ◌+◌, ◌<◌, ◌≤◌, ◌⊎◌, inl, inr, Bool, true, false, List, [], ◌∷◌, length, get_or, refl, ap, sym, subst, ◌∙◌, arith, nat_eq}
 use Rattle.std.specs.Prelude.{Option, Some, None, ◌||◌, nat_lt, slice_index_or}
-use Rattle.std.proofs.lemmas.Bool.{eq-eqb, ltb-true, ltb-false, cases_lt}
+use Rattle.std.proofs.lemmas.Bool.{or_left, or_right, eq-eqb, ltb-true, ltb-false, cases_lt}
 use Rattle.ll_bank.specs.declared.At.{At}
 use Rattle.ll_bank.specs.Term.{Term, Var, Int, Con, Ap, sub, occurs}
 use Rattle.ll_bank.specs.Nodes.{Nodes, term_tree}
 use Rattle.ll_bindings.specs.Bindings.{Table, cell, count, shown, followed, found, IsOrdered, IsTable, Obeys, Leads, leads_to, one_more, chain}
-
-pub or-left : (a b : Bool) → a ≡ true → (a || b) ≡ true
-or-left true b h = refl
-or-left false b h = cc
-
-pub or-right : (a b : Bool) → b ≡ true → (a || b) ≡ true
-or-right true b h = refl
-or-right false b h = h
 
 -- two substitutions that agree on the variables of a term
 pub sub-agree : (f g : ℕ → Term) (u : Term) → ((y : ℕ) → occurs y u ≡ true → f y ≡ g y) → sub f u ≡ sub g u
@@ -21,8 +13,8 @@ sub-agree f g (Var x) h = h x (eq-eqb x x refl)
 sub-agree f g (Int z) h = refl
 sub-agree f g (Con k) h = refl
 sub-agree f g (Ap t a) h =
-    let p = sub-agree f g t (λ y o. h y (or-left (occurs y t) (occurs y a) o)) in
-    let q = sub-agree f g a (λ y o. h y (or-right (occurs y t) (occurs y a) o)) in cc
+    let p = sub-agree f g t (λ y o. h y (or_left (occurs y t) (occurs y a) o)) in
+    let q = sub-agree f g a (λ y o. h y (or_right (occurs y t) (occurs y a) o)) in cc
 
 -- a cell that is bound lies among the cells
 pub bound-inside : (os : List (Option At)) (x : ℕ) (at : At) → slice_index_or os x None ≡ Some at → x < length os
@@ -103,15 +95,18 @@ module _ (r : ℕ → ℕ) where
 
 -- ---- following bindings
 
+-- an unbound variable stands for itself
+followed-free : (nodes : Nodes) (t : Table) (n x : ℕ) → cell t x ≡ None → followed nodes t.bound n x ≡ Var x
+followed-free nodes t zero x e = refl
+followed-free nodes t (suc n) x e = ap (λ o. sub (followed nodes t.bound n) (shown nodes x o)) e ∙ followed-free nodes t n x e
+
+pub found-free : (nodes : Nodes) (t : Table) (x : ℕ) → cell t x ≡ None → found nodes t x ≡ Var x
+found-free nodes t x e = followed-free nodes t (length t.bound) x e
+
 module _ (nodes : Nodes) (t : Table) (h : IsOrdered nodes t) where
   -- how many cells have a rank up to that of a variable
   abbrev rank_of : ℕ → ℕ
   rank_of x = up_to h.rank (length t.bound) (h.rank x)
-
-  -- an unbound variable stands for itself
-  followed-free : (n x : ℕ) → cell t x ≡ None → followed nodes t.bound n x ≡ Var x
-  followed-free zero x e = refl
-  followed-free (suc n) x e = ap (λ o. sub (followed nodes t.bound n) (shown nodes x o)) e ∙ followed-free n x e
 
   settled-bound : (n x : ℕ) (at : At) → cell t x ≡ Some at → ((y : ℕ) → occurs y (term_tree nodes at.0) ≡ true → followed nodes t.bound (suc n) y ≡ followed nodes t.bound n y)
       → followed nodes t.bound (suc (suc n)) x ≡ followed nodes t.bound (suc n) x
@@ -125,19 +120,16 @@ module _ (nodes : Nodes) (t : Table) (h : IsOrdered nodes t) where
   settled zero x l = step (cell t x) refl
     where
       step : (o : Option At) → cell t x ≡ o → followed nodes t.bound 1 x ≡ followed nodes t.bound 0 x
-      step None e = followed-free 1 x e ∙ sym (followed-free 0 x e)
+      step None e = followed-free nodes t 1 x e ∙ sym (followed-free nodes t 0 x e)
       step (Some at) e = let p = up_to-some h.rank (length t.bound) x (bound-inside t.bound x at e) in absurd (omega arith)
   settled (suc n) x l = step (λ y. settled n y) (cell t x) refl
     where
       step : ((y : ℕ) → rank_of y ≤ n → followed nodes t.bound (suc n) y ≡ followed nodes t.bound n y)
           → (o : Option At) → cell t x ≡ o → followed nodes t.bound (suc (suc n)) x ≡ followed nodes t.bound (suc n) x
-      step ih None e = followed-free (suc (suc n)) x e ∙ sym (followed-free (suc n) x e)
+      step ih None e = followed-free nodes t (suc (suc n)) x e ∙ sym (followed-free nodes t (suc n) x e)
       step ih (Some at) e =
           settled-bound n x at e
           (λ y o. ih y (let p = up_to-more h.rank (length t.bound) x (h.rank y) (bound-inside t.bound x at e) (h.falls x at e y o) in omega arith))
-
-  pub found-free : (x : ℕ) → cell t x ≡ None → found nodes t x ≡ Var x
-  found-free x e = followed-free (length t.bound) x e
 
   pub Obeys-found : Obeys nodes t (found nodes t)
   Obeys-found x at e =
@@ -153,7 +145,7 @@ module _ (nodes : Nodes) (t : Table) (h : IsOrdered nodes t) where
       go (suc n) x l = step (λ y m. go n y m) (cell t x) refl
         where
           step : ((y : ℕ) → h.rank y < n → found nodes t y ≡ s y) → (c : Option At) → cell t x ≡ c → found nodes t x ≡ s x
-          step ih None e = found-free x e ∙ sym (f x e)
+          step ih None e = found-free nodes t x e ∙ sym (f x e)
           step ih (Some at) e =
               Obeys-found x at e
               ∙ (sub-agree (found nodes t) s (term_tree nodes at.0) (λ y i. ih y (let q = h.falls x at e y i in omega arith)) ∙ sym (o x at e))

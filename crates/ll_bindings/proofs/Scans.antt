@@ -1,7 +1,7 @@
 -- How a term is looked through.
 use Rattle.std.proofs.Common.{◌≡◌, ℕ, ◌+◌, ◌<◌, ◌≤◌, ◌⊎◌, inl, inr, Bool, true, false, List, [], ◌∷◌, ◌++◌, length, get_or, All, refl, ap, sym, subst, ◌∙◌, arith, nat_eq}
 use Rattle.std.specs.Prelude.{◌||◌, ◌&&◌, not, Option, Some, None}
-use Rattle.std.proofs.lemmas.Bool.{eqb-true, eq-eqb, cases_lt}
+use Rattle.std.proofs.lemmas.Bool.{not_from_false, or_left, or_right, eqb-true, eq-eqb, cases_lt}
 use Rattle.std.proofs.lemmas.List.Elements.{All-push}
 use Rattle.std.proofs.lemmas.List.Sums.{sum_by_push}
 use Rattle.ll_bank.specs.declared.Head.{Head}
@@ -20,7 +20,7 @@ use Rattle.ll_bindings.specs.Scanned.{is_among, IsGood, IsPart, is_bad, AreNoted
 use Rattle.ll_bindings.proofs.Spines.{build_up, take_down, weight-two, rest_weight-more, weight-place, is_spine-app}
 use Rattle.ll_bindings.proofs.Stacks.{opened, closed, lowest-push, Waits-push, Waits-last, Waits-map, no_item, an_item, split_last, All-before, All-last}
 use Rattle.ll_bindings.proofs.Tables.{end-var, var-below}
-use Rattle.ll_bindings.proofs.Readings.{or-left, or-right, Obeys-found}
+use Rattle.ll_bindings.proofs.Readings.{Obeys-found}
 
 -- ---- tests
 
@@ -35,10 +35,6 @@ and_both false b h k = h
 not_true : (b : Bool) → not b ≡ true → b ≡ false
 not_true true h = cc
 not_true false h = refl
-
-not_false : (b : Bool) → b ≡ false → not b ≡ true
-not_false true h = cc
-not_false false h = refl
 
 among-append : (xs ys : List ℕ) (y : ℕ) → is_among (xs ++ ys) y ≡ (is_among xs y || is_among ys y)
 among-append [] ys y = refl
@@ -55,7 +51,7 @@ good-more : (x l : ℕ) (vars more : List ℕ) (u : Term) → IsGood x l vars u 
 good-more x l vars more u g = record {
   free = g.free;
   eigens = g.eigens;
-  noted = λ y o. among-append vars more y ∙ or-left (is_among vars y) (is_among more y) (g.noted y o);
+  noted = λ y o. among-append vars more y ∙ or_left (is_among vars y) (is_among more y) (g.noted y o);
 }
 
 good-ap : (x l : ℕ) (vars : List ℕ) (f a : Term) → IsGood x l vars f → IsGood x l vars a → IsGood x l vars (Ap f a)
@@ -78,7 +74,7 @@ good-term x l vars s (Var y) h e g args =
     subst (IsGood x l (vars ++ y ∷ [])) (sym (e y refl)) (record {
       free = not_true (nat_eq x y) g;
       eigens = refl;
-      noted = λ z o. among-append vars (y ∷ []) z ∙ or-right (is_among vars z) (nat_eq z y || false) (or-left (nat_eq z y) false o);
+      noted = λ z o. among-append vars (y ∷ []) z ∙ or_right (is_among vars z) (nat_eq z y || false) (or_left (nat_eq z y) false o);
     })
 good-term x l vars s (Int z) h e g args = record { free = refl; eigens = refl; noted = λ y o. cc }
 good-term x l vars s (Con k) h e g args = record { free = refl; eigens = g; noted = λ y o. cc }
@@ -98,8 +94,8 @@ part-trans x l u v w p q = record { vars = λ y o. q.vars y (p.vars y o); eigens
 
 part-ap : (x l : ℕ) (f a w : Term) → IsPart x l (Ap f a) w → IsPart x l f w × IsPart x l a w
 part-ap x l f a w p = (
-  record { vars = λ y o. p.vars y (or-left (occurs y f) (occurs y a) o); eigens = λ e. and_left (eigens_below l f) (eigens_below l a) (p.eigens e) },
-  record { vars = λ y o. p.vars y (or-right (occurs y f) (occurs y a) o); eigens = λ e. and_right (eigens_below l f) (eigens_below l a) (p.eigens e) },
+  record { vars = λ y o. p.vars y (or_left (occurs y f) (occurs y a) o); eigens = λ e. and_left (eigens_below l f) (eigens_below l a) (p.eigens e) },
+  record { vars = λ y o. p.vars y (or_right (occurs y f) (occurs y a) o); eigens = λ e. and_right (eigens_below l f) (eigens_below l a) (p.eigens e) },
 )
 
 part-arg : (x l : ℕ) (s : ℕ → Term) (u w : Term) (k : ℕ) → IsPart x l (sub s u) w → k < length (args_in u) → IsPart x l (sub s (arg u k)) w
@@ -107,8 +103,8 @@ part-arg x l s u w k p b = take_down (λ t. IsPart x l (sub s t) w) (λ f a. par
 
 bad-part : (x l : ℕ) (u w : Term) → IsPart x l u w → is_bad x l u ≡ true → is_bad x l w ≡ true
 bad-part x l u w p h =
-    or_cases (occurs x u) (not (eigens_below l u)) h (λ o. or-left (occurs x w) (not (eigens_below l w)) (p.vars x o))
-    (λ e. or-right (occurs x w) (not (eigens_below l w)) (not_false (eigens_below l w) (step (eigens_below l w) refl (not_true (eigens_below l u) e))))
+    or_cases (occurs x u) (not (eigens_below l u)) h (λ o. or_left (occurs x w) (not (eigens_below l w)) (p.vars x o))
+    (λ e. or_right (occurs x w) (not (eigens_below l w)) (not_from_false (eigens_below l w) (step (eigens_below l w) refl (not_true (eigens_below l u) e))))
   where
     step : (b : Bool) → eigens_below l w ≡ b → eigens_below l u ≡ false → b ≡ false
     step true e f = let q = p.eigens e in cc
@@ -122,13 +118,13 @@ bad-head l s (Ap f a) h e b = ap (λ c. c && eigens_below l (sub s a)) (bad-head
 
 -- a bad sign makes a term bad
 bad-term : (x l : ℕ) (s : ℕ → Term) (u : Term) → applies_heads u ≡ true → ((y : ℕ) → u ≡ Var y → s y ≡ Var y) → is_good_sign x l u ≡ false → is_bad x l (sub s u) ≡ true
-bad-term x l s (Var y) h e b = subst (λ t. is_bad x l t ≡ true) (sym (e y refl)) (or-left (nat_eq x y) false (step (nat_eq x y) b))
+bad-term x l s (Var y) h e b = subst (λ t. is_bad x l t ≡ true) (sym (e y refl)) (or_left (nat_eq x y) false (step (nat_eq x y) b))
   where
     step : (c : Bool) → not c ≡ false → c ≡ true
     step true q = refl
     step false q = cc
 bad-term x l s (Int z) h e b = cc
-bad-term x l s (Con k) h e b = not_false (eigen_below l k) b
+bad-term x l s (Con k) h e b = not_from_false (eigen_below l k) b
 bad-term x l s (Ap f a) h e b = go (head_of f) refl
   where
     spine : is_spine f ≡ true
@@ -143,8 +139,8 @@ bad-term x l s (Ap f a) h e b = go (head_of f) refl
     go : (o : Option Head) → head_of f ≡ o → is_bad x l (sub s (Ap f a)) ≡ true
     go None n = absurd (none f spine n)
     go (Some k) n =
-        or-right (occurs x (sub s (Ap f a))) (not (eigens_below l (sub s (Ap f a))))
-        (not_false (eigens_below l (sub s (Ap f a))) (bad-head l s (Ap f a) k n (sym (sign-head x l (Ap f a) k n) ∙ b)))
+        or_right (occurs x (sub s (Ap f a))) (not (eigens_below l (sub s (Ap f a))))
+        (not_from_false (eigens_below l (sub s (Ap f a))) (bad-head l s (Ap f a) k n (sym (sign-head x l (Ap f a) k n) ∙ b)))
 
 -- ---- the stack of frames
 

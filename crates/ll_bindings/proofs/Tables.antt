@@ -1,13 +1,13 @@
 -- Bindings seen as a substitution.
 use Rattle.std.proofs.Common.{◌≡◌, ℕ, ◌<◌, Bool, true, false, ap, sym, subst, ◌∙◌, arith, refl}
 use Rattle.std.specs.Prelude.{Some, None, ◌||◌}
-use Rattle.std.proofs.lemmas.Bool.{eq-eqb}
+use Rattle.std.proofs.lemmas.Bool.{or_left, or_right, eq-eqb}
 use Rattle.ll_bank.specs.declared.At.{At}
 use Rattle.ll_bank.specs.Term.{Term, Var, Ap, sub, occurs}
 use Rattle.ll_bank.specs.Nodes.{Nodes, term_tree}
 use Rattle.ll_bindings.specs.Spines.{ShowsArgument}
 use Rattle.ll_bindings.proofs.Spines.{take_down}
-use Rattle.ll_bindings.proofs.Readings.{or-left, or-right, found-free}
+use Rattle.ll_bindings.proofs.Readings.{found-free}
 use Rattle.ll_bindings.specs.Bindings.{Table, found, cell, count, Reaches, stands, through, HasCells, IsPlaceOf, IsTable, Obeys, Leads, IsEnd, AreSame}
 
 -- a variable at a place has a cell
@@ -31,8 +31,8 @@ reaches-whole nodes t y u v f (through w x at o c r) = through v x at (f x o) c 
 
 cells-apply : (nodes : Nodes) (t : Table) (f a : Term) → HasCells nodes t (Ap f a) → HasCells nodes t f × HasCells nodes t a
 cells-apply nodes t f a h = (
-  λ y r. h y (reaches-whole nodes t y f (Ap f a) (λ x o. or-left (occurs x f) (occurs x a) o) r),
-  λ y r. h y (reaches-whole nodes t y a (Ap f a) (λ x o. or-right (occurs x f) (occurs x a) o) r),
+  λ y r. h y (reaches-whole nodes t y f (Ap f a) (λ x o. or_left (occurs x f) (occurs x a) o) r),
+  λ y r. h y (reaches-whole nodes t y a (Ap f a) (λ x o. or_right (occurs x f) (occurs x a) o) r),
 )
 
 -- the place of an argument
@@ -44,4 +44,4 @@ step-inside nodes t at k to p a = record {
 
 -- an unbound variable at a place stands for itself
 pub end-var : (nodes : Nodes) (t : Table) (at x : ℕ) → IsTable nodes t → IsEnd nodes t at → term_tree nodes at ≡ Var x → found nodes t x ≡ Var x
-end-var nodes t at x h e v = found-free nodes t h.ordered x (e.free x v)
+end-var nodes t at x h e v = found-free nodes t x (e.free x v)

@@ -4,3 +4,4 @@ pub mod Bindings
 pub mod Scanned
 pub mod Pairs
 pub mod Solving
+pub mod Copied

@@ -6,9 +6,11 @@ mod bind;
 mod classes;
 mod equate;
 mod meet;
+mod read;
 mod scan;
 mod table;
 
 pub use equate::unify;
+pub use read::read_all;
 pub use scan::Frame;
 pub use table::{Bindings, argument, walk};

@@ -42,11 +42,6 @@ module _ {A : Type 0} where
   update-back zero f g (x ∷ xs) h = ap (λ y. y ∷ xs) (h x refl)
   update-back (suc n) f g (x ∷ xs) h = ap (λ ys. x ∷ ys) (update-back n f g xs (λ y e. h y e))
 
--- later changes are taken back first
-pub before-append : (cs ds : List Change) (cells : List Cell) → before (cs ++ ds) cells ≡ before cs (before ds cells)
-before-append [] ds cells = refl
-before-append (c ∷ cs) ds cells = ap (taken_back c) (before-append cs ds cells)
-
 back-length : (c : Change) (cells : List Cell) → length (taken_back c cells) ≡ length cells
 back-length (Bound x) cells = update-length cells x (with_to None)
 back-length (Lowered x l) cells = update-length cells x (with_level l)

@@ -1,2 +1,4 @@
 pub mod CellLemmas
 pub mod MarkLemmas
+mod TableLemmas
+pub mod CallerLemmas

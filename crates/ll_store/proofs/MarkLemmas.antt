@@ -9,7 +9,8 @@ use Rattle.ll_store.specs.declared.cells.Change.{Change}
 use Rattle.ll_store.specs.declared.store.Mark.{Mark}
 use Rattle.ll_store.specs.Cells.{taken_back, before}
 use Rattle.ll_store.specs.Stored.{State, Stored, state_of, state_at, AreWithin, IsGood, StandsFor, KeepsMarks, IsBefore, KeepsMarksTo}
-use Rattle.ll_store.proofs.CellLemmas.{before-append, before-length, before-take}
+use Rattle.ll_store.specs.Tables.{before-append}
+use Rattle.ll_store.proofs.CellLemmas.{before-length, before-take}
 
 -- a state with these parts
 pub same_state : (n n2 : Nodes) (cs cs2 : List Cell) → n2 ≡ n → cs2 ≡ cs → let s : State = record { nodes = n2; cells = cs2 } in let t : State = record { nodes = n; cells = cs } in s ≡ t

@@ -2,3 +2,4 @@ pub mod Cells
 pub mod Trails
 pub mod Stored
 pub mod Lending
+pub mod Tables

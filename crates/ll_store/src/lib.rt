@@ -3,6 +3,7 @@
 
 mod cells;
 mod store;
+mod table;
 
 pub use cells::{Cell, Cells, Change};
 pub use store::{Mark, Store};

@@ -1,0 +1,179 @@
+-- Laws of bindings for the crates above.
+use Rattle.std.proofs.Common.{◌≡◌, ℕ, zero, suc, ◌+◌, ◌<◌, ◌≤◌, Bool, true, false, List, [], ◌∷◌, ◌++◌, length, get_or, refl, ap, sym, subst, ◌∙◌, arith, length-append}
+use Rattle.std.specs.Prelude.{Option, Some, None, nat_lt, replicate}
+use Rattle.std.proofs.lemmas.Bool.{eqb-true, ltb-true}
+use Rattle.std.proofs.lemmas.List.{length-replicate, get_or-replicate}
+use Rattle.std.proofs.Math.ListN.{get_or-eq_default}
+use Rattle.ll_bank.specs.declared.At.{At}
+use Rattle.ll_bank.specs.Term.{Term, Var, Int, Con, Ap, sub, occurs}
+use Rattle.ll_bank.specs.Nodes.{Nodes, HasTerm, term_tree, Extends}
+use Rattle.ll_bank.proofs.Trees.{HasTerm-extends, term_tree-extends}
+use Rattle.ll_laws.specs.Unify.{vars_below}
+use Rattle.ll_laws.proofs.SubLaws.{and_left, and_right}
+use Rattle.ll_laws.proofs.UnifyLaws.{or_cases}
+use Rattle.ll_bindings.specs.Bindings.{Table, cell, count, shown, followed, found, Reaches, stands, through, IsPlaceOf, IsOrdered, IsTable, Obeys}
+pub use Rattle.ll_bindings.proofs.Readings.{found-free}
+use Rattle.ll_bindings.proofs.Readings.{sub-agree, bound-inside, Obeys-found, found-only}
+
+-- ---- what is found for a variable
+
+-- for a bound one what is found for the term that it is bound to
+pub found-bound : (nodes : Nodes) (t : Table) (x : ℕ) (at : At) → IsTable nodes t → cell t x ≡ Some at → found nodes t x ≡ sub (found nodes t) (term_tree nodes at.0)
+found-bound nodes t x at h e = Obeys-found nodes t h.ordered x at e
+
+-- ---- other nodes
+
+-- the places that cells name show the same in both
+pub record SameBound (old new : Nodes) (t : Table) : Type 0 where
+  pub places : (x : ℕ) (at : At) → cell t x ≡ Some at → HasTerm new at.0
+  pub trees : (x : ℕ) (at : At) → cell t x ≡ Some at → term_tree new at.0 ≡ term_tree old at.0
+
+-- a table depends on the nodes by the places that cells name alone
+pub table-replaced : (old new : Nodes) (t : Table) → IsTable old t → SameBound old new t → IsTable new t
+table-replaced old new t h s = record {
+  bound = h.bound;
+  places = s.places;
+  ordered = record {
+    rank = h.ordered.rank;
+    falls = λ x at e y o. h.ordered.falls x at e y (subst (λ u. occurs y u ≡ true) (s.trees x at e) o);
+  };
+}
+
+-- and so does what is found
+pub found-replaced : (old new : Nodes) (t : Table) → SameBound old new t → (x : ℕ) → found new t x ≡ found old t x
+found-replaced old new t s = go (length t.bound)
+  where
+    go : (n x : ℕ) → followed new t.bound n x ≡ followed old t.bound n x
+    go zero x = refl
+    go (suc n) x = step (λ y. go n y) (cell t x) refl
+      where
+        step : ((y : ℕ) → followed new t.bound n y ≡ followed old t.bound n y) → (o : Option At) → cell t x ≡ o → followed new t.bound (suc n) x ≡ followed old t.bound (suc n) x
+        step ih None e =
+            ap (λ c. sub (followed new t.bound n) (shown new x c)) e
+            ∙ (ih x ∙ ap (λ c. sub (followed old t.bound n) (shown old x c)) (sym e))
+        step ih (Some at) e =
+            ap (λ c. sub (followed new t.bound n) (shown new x c)) e
+            ∙ (ap (sub (followed new t.bound n)) (s.trees x at e)
+            ∙ (sub-agree (followed new t.bound n) (followed old t.bound n) (term_tree old at.0) (λ y o. ih y)
+            ∙ ap (λ c. sub (followed old t.bound n) (shown old x c)) (sym e)))
+
+-- a bank that grew
+pub SameBound-extends : (old new : Nodes) (t : Table) → IsTable old t → Extends old new → SameBound old new t
+SameBound-extends old new t h e = record {
+  places = λ x at c. HasTerm-extends e at.0 (h.places x at c);
+  trees = λ x at c. term_tree-extends e at.0 (h.places x at c);
+}
+
+pub table-extends : (old new : Nodes) (t : Table) → IsTable old t → Extends old new → IsTable new t
+table-extends old new t h e = table-replaced old new t h (SameBound-extends old new t h e)
+
+pub found-extends : (old new : Nodes) (t : Table) → IsTable old t → Extends old new → (x : ℕ) → found new t x ≡ found old t x
+found-extends old new t h e = found-replaced old new t (SameBound-extends old new t h e)
+
+-- what a place shows with all bindings applied stays the same
+pub sub-extends : (old new : Nodes) (t : Table) (at : ℕ) → IsTable old t → Extends old new → HasTerm old at → sub (found new t) (term_tree new at) ≡ sub (found old t) (term_tree old at)
+sub-extends old new t at h e l =
+    ap (sub (found new t)) (term_tree-extends e at l)
+    ∙ sub-agree (found new t) (found old t) (term_tree old at) (λ y o. found-extends old new t h e y)
+
+-- what is reached in the grown bank was reached before
+reaches-before : (old new : Nodes) (t : Table) (y : ℕ) (u : Term) → IsTable old t → Extends old new → Reaches new t y u → Reaches old t y u
+reaches-before old new t y u h e (stands w o) = stands w o
+reaches-before old new t y u h e (through w x at o c r) =
+    through w x at o c (subst (Reaches old t y) (term_tree-extends e at.0 (h.places x at c)) (reaches-before old new t y (term_tree new at.0) h e r))
+
+-- and what was reached before is reached
+pub reaches-after : (old new : Nodes) (t : Table) (y : ℕ) (u : Term) → IsTable old t → Extends old new → Reaches old t y u → Reaches new t y u
+reaches-after old new t y u h e (stands w o) = stands w o
+reaches-after old new t y u h e (through w x at o c r) =
+    through w x at o c (subst (Reaches new t y) (sym (term_tree-extends e at.0 (h.places x at c))) (reaches-after old new t y (term_tree old at.0) h e r))
+
+-- a place stays one
+pub place-extends : (old new : Nodes) (t : Table) (at : ℕ) → IsTable old t → Extends old new → IsPlaceOf old t at → IsPlaceOf new t at
+place-extends old new t at h e p = record {
+  inside = HasTerm-extends e at p.inside;
+  vars = λ y r. p.vars y (subst (Reaches old t y) (term_tree-extends e at p.inside) (reaches-before old new t y (term_tree new at) h e r));
+}
+
+-- ---- new cells
+
+-- the table with one unbound cell more, of this level
+abbrev pub with_cell : Table → ℕ → Table
+with_cell t l = record { bound = t.bound ++ None ∷ []; levels = t.levels ++ l ∷ [] }
+
+-- each cell is as it was
+pub cell-fresh : (t : Table) (l x : ℕ) → cell (with_cell t l) x ≡ cell t x
+cell-fresh t l x = go t.bound x
+  where
+    go : (os : List (Option At)) (n : ℕ) → get_or (os ++ None ∷ []) n None ≡ get_or os n None
+    go [] zero = refl
+    go [] (suc n) = refl
+    go (o ∷ os) zero = refl
+    go (o ∷ os) (suc n) = go os n
+
+pub table-fresh : (nodes : Nodes) (t : Table) (l : ℕ) → IsTable nodes t → IsTable nodes (with_cell t l)
+table-fresh nodes t l h = record {
+  bound = let a = length-append t.bound (None ∷ []) in let b = length-append t.levels (l ∷ []) in let c = h.bound in omega arith;
+  places = λ x at e. h.places x at (sym (cell-fresh t l x) ∙ e);
+  ordered = record { rank = h.ordered.rank; falls = λ x at e. h.ordered.falls x at (sym (cell-fresh t l x) ∙ e) };
+}
+
+pub found-fresh : (nodes : Nodes) (t : Table) (l : ℕ) → IsTable nodes t → (x : ℕ) → found nodes (with_cell t l) x ≡ found nodes t x
+found-fresh nodes t l h =
+    found-only nodes (with_cell t l) (table-fresh nodes t l h).ordered (found nodes t)
+    (λ x at e. Obeys-found nodes t h.ordered x at (sym (cell-fresh t l x) ∙ e))
+    (λ x e. found-free nodes t x (sym (cell-fresh t l x) ∙ e))
+
+-- cells that are all unbound
+pub table-unbound : (nodes : Nodes) (t : Table) → length t.bound ≡ count t → ((x : ℕ) → cell t x ≡ None) → IsTable nodes t
+table-unbound nodes t n h = record {
+  bound = n;
+  places = λ x at e. no_cell x at e;
+  ordered = record { rank = λ x. 0; falls = λ x at e y o. no_cell x at e };
+}
+  where
+    no_cell : {P : Type 0} → (x : ℕ) (at : At) → cell t x ≡ Some at → P
+    no_cell x at e = let f = sym (h x) ∙ e in cc
+
+-- unbound cells alone, of these levels
+abbrev pub unbound_cells : List ℕ → Table
+unbound_cells levels = record { bound = replicate (length levels) None; levels = levels }
+
+pub cell-start : (levels : List ℕ) (x : ℕ) → cell (unbound_cells levels) x ≡ None
+cell-start levels x = go (length levels) x
+  where
+    go : (n x : ℕ) → get_or (replicate {A = Option At} n None) x None ≡ None
+    go zero x = refl
+    go (suc n) zero = refl
+    go (suc n) (suc x) = go n x
+
+pub table-start : (nodes : Nodes) (levels : List ℕ) → IsTable nodes (unbound_cells levels)
+table-start nodes levels = table-unbound nodes (unbound_cells levels) (length-replicate (length levels) None) (cell-start levels)
+
+pub found-start : (nodes : Nodes) (levels : List ℕ) (x : ℕ) → found nodes (unbound_cells levels) x ≡ Var x
+found-start nodes levels x = found-free nodes (unbound_cells levels) x (cell-start levels x)
+
+-- ---- places
+
+-- what stands for a variable of a term has variables below a number where the whole has
+below-part : (n x : ℕ) (s : ℕ → Term) (u : Term) → vars_below n (sub s u) ≡ true → occurs x u ≡ true → vars_below n (s x) ≡ true
+below-part n x s (Var y) b o = subst (λ z. vars_below n (s z) ≡ true) (sym (eqb-true x y o)) b
+below-part n x s (Int z) b o = cc
+below-part n x s (Con h) b o = cc
+below-part n x s (Ap f a) b o =
+    or_cases (occurs x f) (occurs x a) o
+    (below-part n x s f (and_left (vars_below n (sub s f)) (vars_below n (sub s a)) b))
+    (below-part n x s a (and_right (vars_below n (sub s f)) (vars_below n (sub s a)) b))
+
+-- a place whose term, with all bindings applied, has only variables with cells is one of the table
+pub place-below : (nodes : Nodes) (t : Table) (at : ℕ) → IsTable nodes t → HasTerm nodes at → vars_below (count t) (sub (found nodes t) (term_tree nodes at)) ≡ true → IsPlaceOf nodes t at
+place-below nodes t at h l b = record { inside = l; vars = λ y r. go y (term_tree nodes at) b r }
+  where
+    free : (y : ℕ) (u : Term) → vars_below (count t) (found nodes t y) ≡ true → (o : Option At) → cell t y ≡ o → y < count t
+    free y u b None e = ltb-true y (count t) (subst (λ w. vars_below (count t) w ≡ true) (found-free nodes t y e) b)
+    free y u b (Some to) e = let i = bound-inside t.bound y to e in let c = h.bound in omega arith
+
+    go : (y : ℕ) (u : Term) → vars_below (count t) (sub (found nodes t) u) ≡ true → Reaches nodes t y u → y < count t
+    go y u b (stands w o) = free y w (below-part (count t) y (found nodes t) w b o) (cell t y) refl
+    go y u b (through w x to o c r) =
+        go y (term_tree nodes to.0) (subst (λ v. vars_below (count t) v ≡ true) (found-bound nodes t x to h c) (below-part (count t) x (found nodes t) w b o)) r

@@ -1,9 +1,8 @@
 -- Laws of bindings for the crates above.
-use Rattle.std.proofs.Common.{◌≡◌, ℕ, zero, suc, ◌+◌, ◌<◌, ◌≤◌, Bool, true, false, List, [], ◌∷◌, ◌++◌, length, get_or, refl, ap, sym, subst, ◌∙◌, arith, length-append}
-use Rattle.std.specs.Prelude.{Option, Some, None, nat_lt, replicate}
+use Rattle.std.proofs.Common.{◌≡◌, ℕ, zero, suc, ◌<◌, true, List, [], ◌∷◌, ◌++◌, length, get_or, refl, ap, sym, subst, ◌∙◌, arith, length-append}
+use Rattle.std.specs.Prelude.{Option, Some, None, replicate}
 use Rattle.std.proofs.lemmas.Bool.{eqb-true, ltb-true}
-use Rattle.std.proofs.lemmas.List.{length-replicate, get_or-replicate}
-use Rattle.std.proofs.Math.ListN.{get_or-eq_default}
+use Rattle.std.proofs.lemmas.List.{length-replicate}
 use Rattle.ll_bank.specs.declared.At.{At}
 use Rattle.ll_bank.specs.Term.{Term, Var, Int, Con, Ap, sub, occurs}
 use Rattle.ll_bank.specs.Nodes.{Nodes, HasTerm, term_tree, Extends}
@@ -11,7 +10,7 @@ use Rattle.ll_bank.proofs.Trees.{HasTerm-extends, term_tree-extends}
 use Rattle.ll_laws.specs.Unify.{vars_below}
 use Rattle.ll_laws.proofs.SubLaws.{and_left, and_right}
 use Rattle.ll_laws.proofs.UnifyLaws.{or_cases}
-use Rattle.ll_bindings.specs.Bindings.{Table, cell, count, shown, followed, found, Reaches, stands, through, IsPlaceOf, IsOrdered, IsTable, Obeys}
+use Rattle.ll_bindings.specs.Bindings.{Table, cell, count, shown, followed, found, Reaches, stands, through, IsPlaceOf, IsTable}
 pub use Rattle.ll_bindings.proofs.Readings.{found-free}
 use Rattle.ll_bindings.proofs.Readings.{sub-agree, bound-inside, Obeys-found, found-only}
 

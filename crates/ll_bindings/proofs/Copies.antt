@@ -14,14 +14,14 @@ use Rattle.ll_laws.proofs.SubLaws.{and_left}
 use Rattle.ll_bindings.specs.declared.scan.Frame.{Frame}
 use Rattle.ll_bindings.specs.Spines.{args_in, arg, ShowsArgument}
 use Rattle.ll_bindings.specs.Stacks.{lowest, is_empty, is_full}
-use Rattle.ll_bindings.specs.Bindings.{Table, found, cell, Reaches, IsPlaceOf, IsAmong, IsTable, IsFree, IsEnd, AreSame}
+use Rattle.ll_bindings.specs.Bindings.{Table, found, Reaches, IsPlaceOf, IsAmong, IsTable, IsFree, IsEnd, AreSame}
 use Rattle.ll_bindings.specs.Scanned.{frame_tree}
 use Rattle.ll_bindings.specs.Copied.{HasCopy, AreCopies, AddsCopy, CopyArgs, Lacks, Held, IsCopying, IsCopied, IsChanged, IsBuilt, AreRead}
 use Rattle.ll_bindings.proofs.Spines.{args_in-app, build_up}
 use Rattle.ll_bindings.proofs.Stacks.{opened, closed, no_item, an_item, split_last, All-before, All-last}
 use Rattle.ll_bindings.proofs.Readings.{Obeys-found}
 use Rattle.ll_bindings.proofs.Tables.{end-var, step-inside}
-use Rattle.ll_bindings.proofs.CallerLemmas.{table-extends, sub-extends, place-extends, reaches-after}
+use Rattle.ll_bindings.proofs.CallerLemmas.{table-extends, sub-extends, reaches-after}
 
 -- ---- a bank that grows
 

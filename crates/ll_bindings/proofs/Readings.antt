@@ -1,11 +1,11 @@
 -- What bindings say when they are followed to the end.
-use Rattle.std.proofs.Common.{◌≡◌, ℕ, zero, suc, ◌+◌, ◌<◌, ◌≤◌, ◌⊎◌, inl, inr, Bool, true, false, List, [], ◌∷◌, length, get_or, refl, ap, sym, subst, ◌∙◌, arith, nat_eq}
-use Rattle.std.specs.Prelude.{Option, Some, None, ◌||◌, nat_lt, slice_index_or}
+use Rattle.std.proofs.Common.{◌≡◌, ℕ, zero, suc, ◌+◌, ◌<◌, ◌≤◌, inl, inr, Bool, true, false, List, [], ◌∷◌, length, refl, ap, sym, subst, ◌∙◌, arith}
+use Rattle.std.specs.Prelude.{Option, Some, None, nat_lt, slice_index_or}
 use Rattle.std.proofs.lemmas.Bool.{or_left, or_right, eq-eqb, ltb-true, ltb-false, cases_lt}
 use Rattle.ll_bank.specs.declared.At.{At}
 use Rattle.ll_bank.specs.Term.{Term, Var, Int, Con, Ap, sub, occurs}
 use Rattle.ll_bank.specs.Nodes.{Nodes, term_tree}
-use Rattle.ll_bindings.specs.Bindings.{Table, cell, count, shown, followed, found, IsOrdered, IsTable, Obeys, Leads, leads_to, one_more, chain}
+use Rattle.ll_bindings.specs.Bindings.{Table, cell, shown, followed, found, IsOrdered, Obeys, Leads, leads_to, one_more, chain}
 
 -- two substitutions that agree on the variables of a term
 pub sub-agree : (f g : ℕ → Term) (u : Term) → ((y : ℕ) → occurs y u ≡ true → f y ≡ g y) → sub f u ≡ sub g u

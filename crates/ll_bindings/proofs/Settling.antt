@@ -12,8 +12,8 @@ use Rattle.ll_bindings.specs.declared.meet.Difference.TheVariants.{Same as SameL
 use Rattle.ll_bindings.specs.Spines.{args_in}
 use Rattle.ll_bindings.specs.Stacks.{is_empty, is_full}
 use Rattle.ll_bindings.specs.Bindings.{Table, HasCells, IsTable, Obeys, AreSame, Meets, count}
-use Rattle.ll_bindings.specs.Pairs.{IsPair, ArePairs, Awaits, AreClasses, Alike, Opens, MeetsAt, IsDifference, lefts, rights}
-use Rattle.ll_bindings.specs.Solving.{Solves, Settled, Settles, IsAnswer}
+use Rattle.ll_bindings.specs.Pairs.{IsPair, ArePairs, AreClasses, Alike, Opens, MeetsAt, IsDifference, lefts, rights}
+use Rattle.ll_bindings.specs.Solving.{Solves, Settled, Settles}
 use Rattle.ll_bindings.proofs.Alike.{diff-append, shape-length}
 use Rattle.ll_bindings.proofs.Pairs.{alike-equal, alike-open}
 use Rattle.ll_bindings.proofs.Solving.{solves-alike, solves-clash, solves-refused, solves-bound, met, awaits-bound, classes-bound}

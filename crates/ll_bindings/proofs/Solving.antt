@@ -1,22 +1,21 @@
 -- How bindings lead to what solves a list of equations.
-use Rattle.std.proofs.Common.{◌≡◌, ℕ, zero, suc, ◌+◌, ◌≤◌, ◌<◌, true, false, List, [], ◌∷◌, ◌++◌, length, map, get_or, refl, ap, sym, subst, ◌∙◌, arith}
+use Rattle.std.proofs.Common.{◌≡◌, ℕ, zero, suc, ◌+◌, ◌≤◌, true, false, List, [], ◌∷◌, ◌++◌, length, map, get_or, refl, ap, sym, ◌∙◌, arith}
 use Rattle.std.specs.Prelude.{Option, Some, None, option_map, option_and_then, slice_index}
 use Rattle.ll_bank.specs.declared.At.{At}
 use Rattle.ll_bank.specs.Term.{Term, Var, sub}
 use Rattle.ll_bank.specs.Nodes.{Nodes, term_tree}
-use Rattle.ll_laws.specs.Unify.{Clash, Meet, and_then, diff, diff_lists, bound_to, Solved, Binding, bind, after, resolve, solve, mgu, vars_below}
+use Rattle.ll_laws.specs.Unify.{Clash, Meet, and_then, diff, diff_lists, bound_to, Solved, Binding, bind, after, resolve, solve, mgu}
 use Rattle.ll_laws.proofs.SubLaws.{sub_comp, sub_id, map_map, map_same}
 use Rattle.ll_bindings.specs.Bindings.{Table}
 use Rattle.ll_bindings.specs.declared.meet.Pair.{Pair}
-use Rattle.ll_bindings.specs.Spines.{args_in}
 use Rattle.ll_bindings.specs.Bindings.{found, count, IsPlaceOf, IsTable, Obeys, AreSame, HasBound, Binds, Meets, unbound}
-use Rattle.ll_bindings.specs.Pairs.{pair_trees, lefts, rights, AwaitsEqual, IsPair, ArePairs, Awaits, IsClass, AreClasses, Alike}
+use Rattle.ll_bindings.specs.Pairs.{pair_trees, AwaitsEqual, IsPair, ArePairs, Awaits, AreClasses, Alike}
 use Rattle.ll_bindings.specs.Solving.{along, Solves, wanted, spare}
 use Rattle.ll_bindings.specs.Stacks.{is_full}
 use Rattle.ll_bindings.proofs.Stacks.{Waits-map}
 use Rattle.ll_bindings.proofs.Readings.{Obeys-found}
 use Rattle.ll_bindings.proofs.Alike.{alike-solve, solve-drop}
-use Rattle.ll_bindings.proofs.Pairs.{awaits-equal, class-refl}
+use Rattle.ll_bindings.proofs.Pairs.{awaits-equal}
 
 -- the same lists in another form
 pub solves-alike : (nodes : Nodes) (t : Table) (k : ℕ) (goal : Option Solved) (ls rs ls2 rs2 : List Term) → IsTable nodes t → Alike nodes t ls rs ls2 rs2 → Solves nodes t k goal ls rs → Solves nodes t k goal ls2 rs2

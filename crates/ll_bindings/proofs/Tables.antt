@@ -1,6 +1,5 @@
 -- Bindings seen as a substitution.
-use Rattle.std.proofs.Common.{◌≡◌, ℕ, ◌<◌, Bool, true, false, ap, sym, subst, ◌∙◌, arith, refl}
-use Rattle.std.specs.Prelude.{Some, None, ◌||◌}
+use Rattle.std.proofs.Common.{◌≡◌, ℕ, ◌<◌, true, ap, sym, subst, ◌∙◌, arith, refl}
 use Rattle.std.proofs.lemmas.Bool.{or_left, or_right, eq-eqb}
 use Rattle.ll_bank.specs.declared.At.{At}
 use Rattle.ll_bank.specs.Term.{Term, Var, Ap, sub, occurs}
@@ -8,7 +7,7 @@ use Rattle.ll_bank.specs.Nodes.{Nodes, term_tree}
 use Rattle.ll_bindings.specs.Spines.{ShowsArgument}
 use Rattle.ll_bindings.proofs.Spines.{take_down}
 use Rattle.ll_bindings.proofs.Readings.{found-free}
-use Rattle.ll_bindings.specs.Bindings.{Table, found, cell, count, Reaches, stands, through, HasCells, IsPlaceOf, IsTable, Obeys, Leads, IsEnd, AreSame}
+use Rattle.ll_bindings.specs.Bindings.{Table, found, count, Reaches, stands, through, HasCells, IsPlaceOf, IsTable, Leads, IsEnd, AreSame}
 
 -- a variable at a place has a cell
 pub var-below : (nodes : Nodes) (t : Table) (x : ℕ) (u : Term) → HasCells nodes t u → u ≡ Var x → x < count t

@@ -1,14 +1,14 @@
 -- Marks over the changes of a store.
-use Rattle.std.proofs.Common.{◌≡◌, ℕ, zero, suc, ◌<◌, ◌≤◌, List, [], ◌∷◌, ◌++◌, length, take, drop, refl, ap, sym, subst, ◌∙◌, arith, length-append}
-use Rattle.std.specs.Prelude.{All, IfSome, Result, Ok, Err, OnOk, OnErr}
+use Rattle.std.proofs.Common.{◌≡◌, ℕ, zero, suc, ◌≤◌, List, [], ◌∷◌, ◌++◌, length, take, drop, refl, ap, sym, subst, ◌∙◌, arith, length-append}
+use Rattle.std.specs.Prelude.{Result, Ok, Err, OnOk, OnErr}
 use Rattle.std.proofs.lemmas.List.{drop_all, drop-append-le, take-append-le, take-append-drop, take-take, take_all, length-take-le}
-use Rattle.ll_bank.specs.Nodes.{Nodes, front, HasSize, HasTerm, IsCutTo, IsNotPast, Extends, size_of}
+use Rattle.ll_bank.specs.Nodes.{Nodes, front, HasSize, IsCutTo, Extends}
 use Rattle.ll_bank.specs.declared.BankSize.{BankSize}
 use Rattle.ll_store.specs.declared.cells.Cell.{Cell}
 use Rattle.ll_store.specs.declared.cells.Change.{Change}
 use Rattle.ll_store.specs.declared.store.Mark.{Mark}
 use Rattle.ll_store.specs.Cells.{taken_back, before}
-use Rattle.ll_store.specs.Stored.{State, Stored, state_of, state_at, AreWithin, IsGood, StandsFor, KeepsMarks, IsBefore, KeepsMarksTo}
+use Rattle.ll_store.specs.Stored.{State, Stored, state_of, state_at, AreWithin, IsGood, StandsFor, KeepsMarks, KeepsMarksTo}
 use Rattle.ll_store.specs.Tables.{before-append}
 use Rattle.ll_store.proofs.CellLemmas.{before-length, before-take}
 

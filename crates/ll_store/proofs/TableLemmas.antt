@@ -1,9 +1,9 @@
 -- What changes of cells make of their table.
-use Rattle.std.proofs.Common.{◌≡◌, ℕ, zero, suc, ◌<◌, List, [], ◌∷◌, length, map, refl, ap, ◌∙◌, arith, get_or}
-use Rattle.std.specs.Prelude.{Option, Some, None, slice_get, slice_set, slice_index, slice_index_or, option_map}
+use Rattle.std.proofs.Common.{◌≡◌, ℕ, zero, suc, ◌<◌, List, [], ◌∷◌, length, map, refl, ap, arith}
+use Rattle.std.specs.Prelude.{Option, Some, None, slice_set, slice_index, slice_index_or}
 use Rattle.ll_bank.specs.declared.At.{At}
 use Rattle.ll_store.specs.declared.cells.Cell.{Cell}
-use Rattle.ll_store.specs.Cells.{update, with_to, with_level}
+use Rattle.ll_store.specs.Cells.{update}
 use Rattle.ll_store.specs.Trails.{IsUnbound, IsAtMost, cell_to, cell_level}
 
 -- an update seen through one field

@@ -1,7 +1,5 @@
 -- A store as contracts see it, its marks, and the state at a mark.
-use Rattle.std.specs.Prelude.{◌≡◌, ◌<◌, ◌≤◌, ℕ, List, [], length, take, drop, All, Option, Some, None, IfSome, slice_get, option_map}
-use Rattle.ll_bank.specs.declared.At.{At}
-use Rattle.ll_bank.specs.declared.BankSize.{BankSize}
+use Rattle.std.specs.Prelude.{◌≡◌, ◌≤◌, List, length, take, drop, All, IfSome}
 use Rattle.ll_bank.specs.Nodes.{Nodes, front, HasSize, IsNotPast, HasTerm}
 use Rattle.ll_store.specs.declared.cells.Cell.{Cell}
 use Rattle.ll_store.specs.declared.cells.Change.{Change}

@@ -1,5 +1,5 @@
 -- Cells with the changes that led to them.
-use Rattle.std.specs.Prelude.{◌≡◌, ◌≤◌, ◌++◌, ℕ, List, Option, Some, None, IfSome, slice_get, option_map}
+use Rattle.std.specs.Prelude.{◌≡◌, ◌≤◌, ◌++◌, ℕ, List, Option, Some, None, slice_get, option_map}
 use Rattle.ll_bank.specs.declared.At.{At}
 use Rattle.ll_store.specs.declared.cells.Cell.{Cell}
 use Rattle.ll_store.specs.declared.cells.Change.{Change}

@@ -1,4 +1,4 @@
-use Rattle.std.proofs.Common.{subst, true, false}
+use Rattle.std.proofs.Common.{subst}
 use Rattle.ll_bank.specs.Nodes.{term_tree}
 use Rattle.ll_bindings.specs.Bindings.{Meets}
 use Rattle.ll_bindings.specs.Pairs.{IsDifference}

@@ -1,4 +1,4 @@
-use Rattle.std.proofs.Common.{◌+◌, Some, nat_eq, refl, sym, ap, ◌∙◌, arith}
+use Rattle.std.proofs.Common.{◌+◌, nat_eq, refl, sym, ap, ◌∙◌}
 use Rattle.std.specs.HashMap.{get}
 use Rattle.std.specs.Option.{option_copied}
 use Rattle.ll_bank.specs.Term.{sub}

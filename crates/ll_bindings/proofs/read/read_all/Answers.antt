@@ -1,4 +1,4 @@
-use Rattle.std.proofs.Common.{get_or, refl, arith, ◌+◌}
+use Rattle.std.proofs.Common.{get_or, refl, ◌+◌}
 use Rattle.ll_bank.specs.declared.At.{At}
 use Rattle.ll_bank.proofs.Trees.{Extends-refl, Extends-trans}
 use Rattle.ll_bindings.proofs.CallerLemmas.{table-extends, place-extends}

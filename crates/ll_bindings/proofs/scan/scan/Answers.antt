@@ -1,4 +1,4 @@
-use Rattle.std.proofs.Common.{◌+◌, length, rules, arith, sym, ap, ◌∙◌, refl, subst}
+use Rattle.std.proofs.Common.{◌+◌, rules, arith, sym, ap, ◌∙◌, refl, subst}
 use Rattle.ll_bank.specs.Term.{sub}
 use Rattle.ll_bank.specs.Nodes.{term_tree}
 use Rattle.ll_bindings.specs.Bindings.{found}

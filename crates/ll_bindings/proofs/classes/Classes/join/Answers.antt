@@ -1,5 +1,3 @@
-use Rattle.ll_bindings.specs.Pairs.{AreClasses}
-use Rattle.std.specs.Prelude.{OnOk, Result, Ok, Err}
 use Rattle.ll_bindings.proofs.Pairs.{joined-flip}
 use Rattle.ll_bindings.proofs.Binding.{map-on}
 use Rattle.ll_bindings.proofs.classes.Classes.join.Goals as goal

@@ -1,4 +1,4 @@
-use Rattle.std.proofs.Common.{◌≡◌, ◌<◌, length}
+use Rattle.std.proofs.Common.{◌<◌, length}
 use Rattle.ll_bank.specs.Nodes.{Nodes}
 use Rattle.ll_bindings.specs.Bindings.{Table}
 use Rattle.ll_bindings.specs.Pairs.{AreBelow, AreClasses, IsClass}

@@ -1,4 +1,4 @@
-use Rattle.std.proofs.Common.{◌≡◌, refl, sym, ap, ◌∙◌, ◌++◌, ◌∷◌, [], length, Some, None}
+use Rattle.std.proofs.Common.{◌≡◌, ap, ◌∙◌, ◌++◌, ◌∷◌, [], Some}
 use Rattle.ll_store.specs.Trails.{Trailed}
 use Rattle.ll_store.specs.declared.cells.Change.TheVariants.{Bound}
 use Rattle.ll_store.specs.Cells.{update, with_to, taken_back}

@@ -1,4 +1,4 @@
-use Rattle.std.proofs.Common.{◌≡◌, refl, sym, ap, ◌∙◌, ◌++◌, ◌∷◌, [], length, Some, None, slice_index_or}
+use Rattle.std.proofs.Common.{◌≡◌, ap, ◌∙◌, ◌++◌, ◌∷◌, [], slice_index_or}
 use Rattle.ll_store.specs.Trails.{Trailed}
 use Rattle.ll_store.specs.declared.cells.Change.TheVariants.{Lowered}
 use Rattle.ll_store.specs.Cells.{update, with_level, taken_back}

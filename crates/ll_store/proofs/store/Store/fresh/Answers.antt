@@ -1,4 +1,4 @@
-use Rattle.std.proofs.Common.{refl, sym, ap, None, subst}
+use Rattle.std.proofs.Common.{refl, sym, None, subst}
 use Rattle.ll_store.specs.declared.cells.Cell.{Cell}
 use Rattle.ll_store.specs.declared.store.Store.{Store}
 use Rattle.ll_store.specs.Trails.{Trailed}

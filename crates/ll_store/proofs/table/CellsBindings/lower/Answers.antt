@@ -1,6 +1,6 @@
-use Rattle.std.proofs.Common.{◌≡◌, refl, ap, ◌∙◌}
+use Rattle.std.proofs.Common.{refl, ap, ◌∙◌}
 use Rattle.ll_store.specs.declared.cells.Cell.{Cell}
-use Rattle.ll_store.specs.Cells.{update, with_level}
+use Rattle.ll_store.specs.Cells.{with_level}
 use Rattle.std.proofs.lemmas.Result.{on_ok_weaker}
 use Rattle.ll_store.specs.Tables.{table_of}
 use Rattle.ll_store.proofs.TableLemmas.{map-update, map-update-same}

@@ -1,6 +1,6 @@
-use Rattle.std.proofs.Common.{◌≡◌, refl, ap, ◌∙◌, Some}
+use Rattle.std.proofs.Common.{refl, ap, ◌∙◌, Some}
 use Rattle.ll_store.specs.declared.cells.Cell.{Cell}
-use Rattle.ll_store.specs.Cells.{update, with_to}
+use Rattle.ll_store.specs.Cells.{with_to}
 use Rattle.std.proofs.lemmas.Result.{on_ok_weaker}
 use Rattle.ll_store.specs.Tables.{table_of}
 use Rattle.ll_store.proofs.TableLemmas.{map-update, map-update-same}

@@ -1,10 +1,10 @@
 //! Unification by levels on the cells of a store.
 #![tactic(auto)]
 
-ghost use Rattle.std.specs.Prelude.{◌≡◌, length, All, IfOk};
+ghost use Rattle.std.specs.Prelude.{◌≡◌, true, length, All, IfOk};
 ghost use Rattle.ll_bank.specs.declared.At.{At as AtView};
 ghost use Rattle.ll_bank.specs.Nodes.{term_trees};
-ghost use Rattle.ll_bindings.specs.Bindings.{IsTable, IsPlaceOf};
+ghost use Rattle.ll_bindings.specs.Bindings.{IsTable, IsPlaceOf, KeepsCells};
 ghost use Rattle.ll_bindings.specs.Solving.{IsSolved, wanted};
 ghost use Rattle.ll_store.specs.Stored.{stored, KeepsMarks};
 ghost use Rattle.ll_store.specs.Tables.{table_of};
@@ -17,7 +17,7 @@ use std::alloc::Global;
 ///
 /// The lists are equally long, and each variable in the terms, through bindings too, has a cell. The answer is true exactly where
 /// the lists, read under the bindings that are there, have a most general unifier that respects the levels. What is read afterwards
-/// is what was read before, followed by it, and the levels are its levels.
+/// is what was read before, followed by it, and the levels are its levels; terms whose variables have cells keep that.
 ///
 /// In every case each good mark of the store stays good, with its state. Where the answer is `false`, and after a refusal, some
 /// bindings and levels may have been changed: go back to a mark. It takes memory for what is pending, for the variables of a term
@@ -32,6 +32,7 @@ pub fn unify(
     requires pairs { length left.now ≡ length right.now }
     requires left { All (λ (at : AtView). IsPlaceOf store.old.bank (table_of store.old.cells.cells) at.0) left.now }
     requires right { All (λ (at : AtView). IsPlaceOf store.old.bank (table_of store.old.cells.cells) at.0) right.now }
+    ensures cells { IfOk result (λ good. good ≡ true → KeepsCells store.old.bank (table_of store.old.cells.cells) (table_of store.new.cells.cells)) }
     ensures solved { IfOk result (IsSolved store.old.bank (table_of store.old.cells.cells) (table_of store.new.cells.cells) (wanted store.old.bank (table_of store.old.cells.cells) (term_trees store.old.bank left.now) (term_trees store.old.bank right.now))) }
     ensures bank { store.new.bank ≡ store.old.bank }
     ensures marks { KeepsMarks (stored store.old) (stored store.new) }

@@ -1,7 +1,8 @@
 -- How a binding changes a table.
 use Rattle.std.proofs.Common.{◌≡◌, ◌≢◌, ℕ, zero, suc, ◌+◌, ◌<◌, ◌≤◌, Bool, true, false, List, [], ◌∷◌, ◌++◌, length, get_or, refl, ap, sym, subst, ◌∙◌, arith, nat_eq, ◌⊎◌, inl, inr}
-use Rattle.std.specs.Prelude.{Result, Ok, Err, IfOk, OnOk, ℤ, ◌||◌, not, cond, min, Option, Some, None, slice_index, slice_set, if◌then◌else◌}
+use Rattle.std.specs.Prelude.{ℤ, ◌||◌, not, cond, min, Option, Some, None, slice_index, slice_set, if◌then◌else◌}
 use Rattle.std.specs.List.{list_any}
+use Rattle.std.proofs.Math.Bool.{or-true}
 use Rattle.std.proofs.lemmas.Bool.{or_left, or_right, eqb-true, eqb-false, eq-eqb, ne_eqb}
 use Rattle.std.proofs.lemmas.List.{length-set, get_or-set_same, get_or-set_other, ext_get_or, get_or_default}
 use Rattle.ll_bank.specs.declared.At.{At}
@@ -11,7 +12,7 @@ use Rattle.ll_bank.specs.Nodes.{Nodes, HasTerm, term_tree}
 use Rattle.ll_laws.specs.Unify.{bound_to, Binding, bind, bind_term, lower, is_older, diff, Meet, Same}
 use Rattle.ll_laws.proofs.SubLaws.{sub_comp}
 use Rattle.ll_laws.proofs.UnifyLaws.{level-lower, or_cases}
-use Rattle.ll_bindings.specs.Bindings.{Table, then_bound, found, cell, count, Reaches, stands, through, HasCells, IsPlaceOf, IsOrdered, IsTable, Obeys, IsEnd, IsSet, IsLowered, unbound, HasBound, Binds, IsMeeting, Meets, is_var}
+use Rattle.ll_bindings.specs.Bindings.{Table, then_bound, found, cell, count, Reaches, stands, through, HasCells, KeepsCells, IsPlaceOf, IsOrdered, IsTable, Obeys, IsEnd, IsSet, IsLowered, unbound, HasBound, Binds, IsMeeting, Meets, is_var}
 use Rattle.ll_bindings.specs.Scanned.{is_among, IsScan, is_bad}
 use Rattle.ll_bindings.proofs.Spines.{app-var}
 use Rattle.ll_bindings.proofs.Readings.{found-free, Obeys-found, found-only}
@@ -200,6 +201,14 @@ module _ (nodes : Nodes) (old new : Table) (x : ℕ) (to : At) (c : Change nodes
   old-cells : (w : Term) → HasCells nodes new w → HasCells nodes old w
   old-cells w h y r = let l = h y (reached-before y w r) in let e = c.count in omega arith
 
+  keeps-cells : KeepsCells nodes old new
+  keeps-cells = record {
+    terms = new-cells;
+    bound = λ k y at e. either y
+        (λ q. subst (λ (a : At). IsPlaceOf nodes new a.0) (sym (to-here y at q e)) (record { inside = c.place.inside; vars = new-cells (term_tree nodes to.0) c.place.vars }))
+        (λ q. let p = k y at (sym (cell-other y q) ∙ e) in record { inside = p.inside; vars = new-cells (term_tree nodes at.0) p.vars });
+  }
+
   -- ---- the table
 
   pub new-table : IsTable nodes new
@@ -221,7 +230,7 @@ module _ (nodes : Nodes) (old new : Table) (x : ℕ) (to : At) (c : Change nodes
     fewer = ap (λ os. suc (unbound os)) c.bound ∙ unbound-set old.bound x to (let e = c.table.bound in let l = c.below in omega arith) c.free;
     obeys = λ s o y at e. o y at (cell-kept y at e);
     same = λ s o. o x to cell-here;
-    cells = new-cells;
+    cells = keeps-cells;
     cells_before = old-cells;
   }
 
@@ -455,10 +464,6 @@ pub scan-level : (t : Table) (x l : ℕ) (vars : List ℕ) (u : Term) (b c : Boo
 scan-level t x l vars u b c e f h = subst (λ k. IsScan t x k vars u c) e (subst (IsScan t x l vars u) f h)
 
 -- what holds of an answer, another way
-pub map-ok : {A E : Type 0} {P Q : A → Type 0} → (r : Result A E) → ((a : A) → P a → Q a) → IfOk r P → IfOk r Q
-map-ok (Ok a) f h = f a h
-map-ok (Err e) f h = h
-
 -- ---- levels that fall one by one
 
 any-push : (x v : ℕ) (vs : List ℕ) → list_any (nat_eq x) (vs ++ v ∷ []) ≡ (list_any (nat_eq x) vs || nat_eq x v)
@@ -476,10 +481,6 @@ any-push x v (w ∷ vs) = step (nat_eq x w) (any-push x v vs)
 min-twice : (o l : ℕ) (b : Bool) → min (cond b (min o l) o) l ≡ min o l
 min-twice o l true = omega arith
 min-twice o l false = refl
-
-or-true : (b : Bool) → (b || true) ≡ true
-or-true true = refl
-or-true false = refl
 
 or-false : (b : Bool) → (b || false) ≡ b
 or-false true = refl
@@ -503,7 +504,3 @@ lowered-more old mid new vs v l b h e = record {
         ap (λ ys. slice_index ys x) e
         ∙ (get_or-set_other mid v x (min (slice_index mid v) l) 0 (eqb-false x v q)
         ∙ (h.each x ∙ sym (ap (λ k. cond k (min (slice_index old x) l) (slice_index old x)) (any-push x v vs ∙ (ap (λ k. list_any (nat_eq x) vs || k) q ∙ or-false (list_any (nat_eq x) vs))))))
-
-pub map-on : {A E : Type 0} {P Q : Type 0} → (r : Result A E) → (P → Q) → OnOk r P → OnOk r Q
-map-on (Ok a) f h = f h
-map-on (Err e) f h = h

@@ -1,16 +1,17 @@
 -- Laws of bindings for the crates above.
-use Rattle.std.proofs.Common.{◌≡◌, ℕ, zero, suc, ◌<◌, true, List, [], ◌∷◌, ◌++◌, length, get_or, refl, ap, sym, subst, ◌∙◌, arith, length-append}
-use Rattle.std.specs.Prelude.{Option, Some, None, replicate}
-use Rattle.std.proofs.lemmas.Bool.{eqb-true, ltb-true}
+use Rattle.std.proofs.Common.{◌≡◌, ℕ, zero, suc, ◌<◌, true, List, [], ◌∷◌, ◌++◌, length, map, get_or, refl, ap, sym, subst, ◌∙◌, arith, length-append}
+use Rattle.std.specs.Prelude.{Option, Some, None, replicate, option_map}
+use Rattle.std.proofs.lemmas.Bool.{or_left, or_right, eqb-true, eq-eqb, ltb-true}
 use Rattle.std.proofs.lemmas.List.{length-replicate}
 use Rattle.ll_bank.specs.declared.At.{At}
 use Rattle.ll_bank.specs.Term.{Term, Var, Int, Con, Ap, sub, occurs}
 use Rattle.ll_bank.specs.Nodes.{Nodes, HasTerm, term_tree, Extends}
 use Rattle.ll_bank.proofs.Trees.{HasTerm-extends, term_tree-extends}
-use Rattle.ll_laws.specs.Unify.{vars_below}
-use Rattle.ll_laws.proofs.SubLaws.{and_left, and_right}
+use Rattle.ll_laws.specs.Unify.{vars_below, Solved, mgu}
+use Rattle.ll_laws.proofs.SubLaws.{and_left, and_right, sub_id}
 use Rattle.ll_laws.proofs.UnifyLaws.{or_cases}
 use Rattle.ll_bindings.specs.Bindings.{Table, cell, count, shown, followed, found, Reaches, stands, through, IsPlaceOf, IsTable}
+use Rattle.ll_bindings.specs.Solving.{along, wanted}
 pub use Rattle.ll_bindings.proofs.Readings.{found-free}
 use Rattle.ll_bindings.proofs.Readings.{sub-agree, bound-inside, Obeys-found, found-only}
 
@@ -176,3 +177,49 @@ place-below nodes t at h l b = record { inside = l; vars = λ y r. go y (term_tr
     go y u b (stands w o) = free y w (below-part (count t) y (found nodes t) w b o) (cell t y) refl
     go y u b (through w x to o c r) =
         go y (term_tree nodes to.0) (subst (λ v. vars_below (count t) v ≡ true) (found-bound nodes t x to h c) (below-part (count t) x (found nodes t) w b o)) r
+
+-- ---- what is found holds unbound variables alone
+
+-- a variable of an instance stands in what some variable is replaced by
+occurs-from : {P : Type 0} (s : ℕ → Term) (z : ℕ) (u : Term) → occurs z (sub s u) ≡ true → ((w : ℕ) → occurs w u ≡ true → occurs z (s w) ≡ true → P) → P
+occurs-from s z (Var x) o f = f x (eq-eqb x x refl) o
+occurs-from s z (Int i) o f = cc
+occurs-from s z (Con h) o f = cc
+occurs-from s z (Ap g a) o f =
+    or_cases (occurs z (sub s g)) (occurs z (sub s a)) o
+    (λ q. occurs-from s z g q (λ w i j. f w (or_left (occurs w g) (occurs w a) i) j))
+    (λ q. occurs-from s z a q (λ w i j. f w (or_right (occurs w g) (occurs w a) i) j))
+
+pub found-unbound : (nodes : Nodes) (t : Table) (y z : ℕ) → IsTable nodes t → occurs z (found nodes t y) ≡ true → cell t z ≡ None
+found-unbound nodes t y z h = go (suc (h.ordered.rank y)) y (omega arith)
+  where
+    go : (n y : ℕ) → h.ordered.rank y < n → occurs z (found nodes t y) ≡ true → cell t z ≡ None
+    go zero y l o = absurd (omega arith)
+    go (suc n) y l o = step (λ w. go n w) (cell t y) refl
+      where
+        step : ((w : ℕ) → h.ordered.rank w < n → occurs z (found nodes t w) ≡ true → cell t z ≡ None) → (c : Option At) → cell t y ≡ c → cell t z ≡ None
+        step ih None e =
+            let q : occurs z (Var y) ≡ true = subst (λ u. occurs z u ≡ true) (found-free nodes t y e) o in
+            subst (λ x. cell t x ≡ None) (sym (eqb-true z y q)) e
+        step ih (Some at) e =
+            occurs-from (found nodes t) z (term_tree nodes at.0) (subst (λ u. occurs z u ≡ true) (found-bound nodes t y at h e) o)
+            (λ w i j. ih w (let f = h.ordered.falls y at e w i in omega arith) j)
+
+-- ---- what unification asks for
+
+sub-ids : (ts : List Term) → map (sub Var) ts ≡ ts
+sub-ids [] = refl
+sub-ids (t ∷ ts) = λ i. sub_id t i ∷ sub-ids ts i
+
+-- where nothing is bound, what unifies the lists as they stand
+pub wanted-start : (nodes : Nodes) (t : Table) (ls rs : List Term) → ((x : ℕ) → cell t x ≡ None) → wanted nodes t ls rs ≡ mgu ls rs t.levels
+wanted-start nodes t ls rs h =
+    (λ i. option_map (along (free i)) (mgu (map (sub (free i)) ls) (map (sub (free i)) rs) t.levels))
+    ∙ ((λ i. option_map (along Var) (mgu (sub-ids ls i) (sub-ids rs i) t.levels)) ∙ same (mgu ls rs t.levels))
+  where
+    free : found nodes t ≡ Var
+    free = λ i x. found-free nodes t x (h x) i
+
+    same : (o : Option Solved) → option_map (along Var) o ≡ o
+    same None = refl
+    same (Some v) = refl

@@ -1,27 +1,29 @@
 -- How terms are copied with all bindings applied.
 use Rattle.std.proofs.Common.{◌≡◌, ℕ, zero, suc, ◌+◌, ◌-◌, ◌<◌, ◌≤◌, ◌⊎◌, inl, inr, Bool, true, false, List, [], ◌∷◌, ◌++◌, length, map, get_or, take, drop, All, refl, ap, sym, subst, ◌∙◌, arith, nat_eq, cond, length-append, append_assoc, length-drop}
 use Rattle.std.specs.Prelude.{Option, Some, None, ◌&&◌}
-use Rattle.std.proofs.lemmas.Bool.{eqb-true}
+use Rattle.std.proofs.lemmas.Bool.{eqb-true, cases_lt}
 use Rattle.std.proofs.lemmas.List.{append-nil, length-map, map-append, length-take-le, take_all, ext_get_or}
 use Rattle.std.proofs.lemmas.List.Elements.{All-push}
-use Rattle.std.proofs.Math.Seq.{take-suc}
+use Rattle.std.proofs.Math.Seq.{take-suc, get_or-append_seam}
+use Rattle.std.proofs.Math.ListN.{get_or-append}
 use Rattle.ll_bank.specs.declared.Head.{Head}
 use Rattle.ll_bank.specs.declared.At.{At}
 use Rattle.ll_bank.specs.Term.{Term, Var, Int, Con, Ap, apply, app, sub, head_of, is_spine, applies_heads}
 use Rattle.ll_bank.specs.Nodes.{Nodes, HasTerm, term_tree, term_trees, AllInTerms, ShowsTerm, Extends}
 use Rattle.ll_bank.proofs.Trees.{HasTerm-extends, term_tree-extends, AllInTerms-extends, term_trees-extends, ShowsTerm-extends, applies_heads-term_tree}
+use Rattle.ll_bank.proofs.OpenLemmas.{apply-append}
 use Rattle.ll_laws.proofs.SubLaws.{and_left}
 use Rattle.ll_bindings.specs.declared.scan.Frame.{Frame}
 use Rattle.ll_bindings.specs.Spines.{args_in, arg, ShowsArgument}
 use Rattle.ll_bindings.specs.Stacks.{lowest, is_empty, is_full}
-use Rattle.ll_bindings.specs.Bindings.{Table, found, Reaches, IsPlaceOf, IsAmong, IsTable, IsFree, IsEnd, AreSame}
+use Rattle.ll_bindings.specs.Bindings.{Table, found, cell, Reaches, IsPlaceOf, IsAmong, IsTable, IsFree, IsEnd, AreSame}
 use Rattle.ll_bindings.specs.Scanned.{frame_tree}
-use Rattle.ll_bindings.specs.Copied.{HasCopy, AreCopies, AddsCopy, CopyArgs, Lacks, Held, IsCopying, IsCopied, IsChanged, IsBuilt, AreRead}
+use Rattle.ll_bindings.specs.Copied.{HasCopy, AreCopies, AddsCopy, CopyArgs, Lacks, Held, IsCopying, IsCopied, IsChanged, IsBuilt, AreRead, IsCellCopy, IsFinal, AreFinal}
 use Rattle.ll_bindings.proofs.Spines.{args_in-app, build_up}
 use Rattle.ll_bindings.proofs.Stacks.{opened, closed, no_item, an_item, split_last, All-before, All-last}
 use Rattle.ll_bindings.proofs.Readings.{Obeys-found}
 use Rattle.ll_bindings.proofs.Tables.{end-var, step-inside}
-use Rattle.ll_bindings.proofs.CallerLemmas.{table-extends, sub-extends, reaches-after}
+use Rattle.ll_bindings.proofs.CallerLemmas.{found-bound, table-extends, sub-extends, reaches-after}
 
 -- ---- a bank that grows
 
@@ -72,10 +74,6 @@ same-places ats bts n h = ext_get_or (record { 0 = 0 }) ats bts n (λ k l. one (
 sub-apply : (s : ℕ → Term) (f : Term) (ts : List Term) → sub s (apply f ts) ≡ apply (sub s f) (map (sub s) ts)
 sub-apply s f [] = refl
 sub-apply s f (u ∷ ts) = sub-apply s (Ap f u) ts
-
-apply-append : (f : Term) (ts us : List Term) → apply f (ts ++ us) ≡ apply (apply f ts) us
-apply-append f [] us = refl
-apply-append f (u ∷ ts) us = apply-append (Ap f u) ts us
 
 -- a term is its head with its arguments
 spine-is : (u : Term) (h : Head) → head_of u ≡ Some h → u ≡ app h (args_in u)
@@ -425,3 +423,35 @@ read-more first base new t n m places made d at copy h e g l k q i r c = record 
   where
     last : take m places ≡ take n places ++ at ∷ []
     last = ap (λ j. take j places) (let e : m ≡ suc n = omega arith in e) ∙ (take-suc places n d l ∙ ap (λ a. take n places ++ a ∷ []) q)
+
+-- ---- the copies of all cells
+
+pub final-none : (first : Nodes) (t : Table) → AreFinal first first t 0 []
+final-none first t = record { size = refl; each = λ x l. absurd (omega arith) }
+
+cell-final : (first base new : Nodes) (t : Table) (x : ℕ) (to o : Option At) → IsTable first t → Extends first base → cell t x ≡ to → IsCellCopy base new t to o → IsFinal new (found first t x) to o
+cell-final first base new t x None None tb e c h = tt
+cell-final first base new t x None (Some b) tb e c h = h
+cell-final first base new t x (Some a) None tb e c h = h
+cell-final first base new t x (Some a) (Some b) tb e c h = subst (ShowsTerm new b.0) (sub-extends first base t a.0 tb e (tb.places x a c) ∙ sym (found-bound first t x a tb c)) h
+
+final-extends : (old new : Nodes) (u : Term) (to o : Option At) → Extends old new → IsFinal old u to o → IsFinal new u to o
+final-extends old new u None None e h = tt
+final-extends old new u None (Some b) e h = h
+final-extends old new u (Some a) None e h = h
+final-extends old new u (Some a) (Some b) e h = ShowsTerm-extends e h
+
+-- one more cell is copied
+pub final-more : (first base new : Nodes) (t : Table) (n m : ℕ) (cells : List (Option At)) (to o : Option At) → IsTable first t → Extends first base → Extends base new → m ≡ n + 1 → cell t n ≡ to
+    → AreFinal first base t n cells → IsCellCopy base new t to o → AreFinal first new t m (cells ++ o ∷ [])
+final-more first base new t n m cells to o tb e e2 me c h k = record {
+  size = let q = length-append cells (o ∷ []) in let p = h.size in omega arith;
+  each = λ x b. elim (cases_lt x n) [
+    | inl d ↦ subst (IsFinal new (found first t x) (cell t x)) (sym (get_or-append cells (o ∷ []) None x (let p = h.size in omega arith)))
+        (final-extends base new (found first t x) (cell t x) (get_or cells x None) e2 (h.each x d))
+    | inr d ↦ subst (λ y. IsFinal new (found first t y) (cell t y) (get_or (cells ++ o ∷ []) y None)) (let z : n ≡ x = omega arith in z)
+        (subst (λ w. IsFinal new (found first t n) w (get_or (cells ++ o ∷ []) n None)) (sym c)
+        (subst (IsFinal new (found first t n) to) (sym (ap (λ y. get_or (cells ++ o ∷ []) y None) (sym h.size) ∙ get_or-append_seam cells o [] None))
+        (cell-final first base new t n to o tb e c k)))
+  ];
+}

@@ -1,7 +1,8 @@
 -- How a term is looked through.
 use Rattle.std.proofs.Common.{◌≡◌, ℕ, ◌+◌, ◌<◌, ◌≤◌, ◌⊎◌, inl, inr, Bool, true, false, List, [], ◌∷◌, ◌++◌, length, get_or, All, refl, ap, sym, subst, ◌∙◌, arith, nat_eq}
 use Rattle.std.specs.Prelude.{◌||◌, ◌&&◌, not, Option, Some, None}
-use Rattle.std.proofs.lemmas.Bool.{not_from_false, or_left, or_right, eqb-true, eq-eqb, cases_lt}
+use Rattle.std.proofs.Math.Bool.{or_assoc}
+use Rattle.std.proofs.lemmas.Bool.{and_from, or_from, not_from_false, or_left, or_right, eqb-true, eq-eqb, cases_lt}
 use Rattle.std.proofs.lemmas.List.Elements.{All-push}
 use Rattle.std.proofs.lemmas.List.Sums.{sum_by_push}
 use Rattle.ll_bank.specs.declared.Head.{Head}
@@ -24,25 +25,13 @@ use Rattle.ll_bindings.proofs.Readings.{Obeys-found}
 
 -- ---- tests
 
-or_both : (a b : Bool) → a ≡ false → b ≡ false → (a || b) ≡ false
-or_both true b h k = h
-or_both false b h k = k
-
-and_both : (a b : Bool) → a ≡ true → b ≡ true → (a && b) ≡ true
-and_both true b h k = k
-and_both false b h k = h
-
 not_true : (b : Bool) → not b ≡ true → b ≡ false
 not_true true h = cc
 not_true false h = refl
 
 among-append : (xs ys : List ℕ) (y : ℕ) → is_among (xs ++ ys) y ≡ (is_among xs y || is_among ys y)
 among-append [] ys y = refl
-among-append (x ∷ xs) ys y = ap (λ b. nat_eq y x || b) (among-append xs ys y) ∙ assoc (nat_eq y x) (is_among xs y) (is_among ys y)
-  where
-    assoc : (a b c : Bool) → (a || (b || c)) ≡ ((a || b) || c)
-    assoc true b c = refl
-    assoc false b c = refl
+among-append (x ∷ xs) ys y = ap (λ b. nat_eq y x || b) (among-append xs ys y) ∙ sym (or_assoc (nat_eq y x) (is_among xs y) (is_among ys y))
 
 -- ---- good terms
 
@@ -56,8 +45,8 @@ good-more x l vars more u g = record {
 
 good-ap : (x l : ℕ) (vars : List ℕ) (f a : Term) → IsGood x l vars f → IsGood x l vars a → IsGood x l vars (Ap f a)
 good-ap x l vars f a p q = record {
-  free = or_both (occurs x f) (occurs x a) p.free q.free;
-  eigens = and_both (eigens_below l f) (eigens_below l a) p.eigens q.eigens;
+  free = or_from (occurs x f) (occurs x a) p.free q.free;
+  eigens = and_from (eigens_below l f) (eigens_below l a) p.eigens q.eigens;
   noted = λ y o. or_cases (occurs y f) (occurs y a) o (p.noted y) (q.noted y);
 }
 

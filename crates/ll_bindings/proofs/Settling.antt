@@ -11,7 +11,7 @@ use Rattle.ll_bindings.specs.declared.meet.Pair.{Pair}
 use Rattle.ll_bindings.specs.declared.meet.Difference.TheVariants.{Same as SameLists, Clash as ClashLists, Meet as MeetLists}
 use Rattle.ll_bindings.specs.Spines.{args_in}
 use Rattle.ll_bindings.specs.Stacks.{is_empty, is_full}
-use Rattle.ll_bindings.specs.Bindings.{Table, HasCells, IsTable, Obeys, AreSame, Meets, count}
+use Rattle.ll_bindings.specs.Bindings.{Table, KeepsCells, IsTable, Obeys, AreSame, Meets, count}
 use Rattle.ll_bindings.specs.Pairs.{IsPair, ArePairs, AreClasses, Alike, Opens, MeetsAt, IsDifference, lefts, rights}
 use Rattle.ll_bindings.specs.Solving.{Solves, Settled, Settles}
 use Rattle.ll_bindings.proofs.Alike.{diff-append, shape-length}
@@ -56,6 +56,14 @@ all-pairs nodes t ps (is_full qs q e h) = subst (All (IsPair nodes t)) (sym e) (
 even-pairs : (nodes : Nodes) (t : Table) (ps : List Pair) → ArePairs nodes t ps → length (lefts nodes ps) ≡ length (rights nodes ps)
 even-pairs nodes t ps h = even nodes t ps (all-pairs nodes t ps h)
 
+-- ---- terms whose variables have cells
+
+pub keeps-same : (nodes : Nodes) (t : Table) → KeepsCells nodes t t
+keeps-same nodes t = record { terms = λ w h. h; bound = λ h. h }
+
+pub keeps-then : (nodes : Nodes) (old now new : Table) → KeepsCells nodes old now → KeepsCells nodes now new → KeepsCells nodes old new
+keeps-then nodes old now new h k = record { terms = λ w q. k.terms w (h.terms w q); bound = λ q. k.bound (h.bound q) }
+
 -- ---- one equation
 
 -- the two terms are the same
@@ -63,7 +71,7 @@ pub settled-same : (nodes : Nodes) (t : Table) (u v : Term) → IsTable nodes t 
 settled-same nodes t u v tb a = record {
   table = tb;
   count = refl;
-  cells = λ w h. h;
+  cells = keeps-same nodes t;
   solves = λ k goal more others h. solves-alike nodes t k goal (u ∷ more) (v ∷ others) more others tb (alike-equal nodes t u v more others a) h;
 }
 
@@ -122,13 +130,13 @@ settles-open nodes old new u v a b good tb o h = step good h
 pub record IsSettling (nodes : Nodes) (old now : Table) (first ps : List Pair) : Type 0 where
   pub table : IsTable nodes now
   pub count : count now ≡ count old
-  pub cells : (w : Term) → HasCells nodes old w → HasCells nodes now w
+  pub cells : KeepsCells nodes old now
   pub pairs : ArePairs nodes now ps
   pub solves : (k : ℕ) (goal : Option Solved) (more others : List Term) → Solves nodes old k goal (lefts nodes first ++ more) (rights nodes first ++ others)
       → Solves nodes now k goal (lefts nodes ps ++ more) (rights nodes ps ++ others)
 
 pub settling-start : (nodes : Nodes) (t : Table) (ps : List Pair) → IsTable nodes t → ArePairs nodes t ps → IsSettling nodes t t ps ps
-settling-start nodes t ps tb h = record { table = tb; count = refl; cells = λ w q. q; pairs = h; solves = λ k goal more others q. q }
+settling-start nodes t ps tb h = record { table = tb; count = refl; cells = keeps-same nodes t; pairs = h; solves = λ k goal more others q. q }
 
 -- nothing is left
 pub settling-done : (nodes : Nodes) (old now : Table) (first ps next : List Pair) → IsSettling nodes old now first ps → IsDifference nodes now ps next SameLists → Settled nodes old now (lefts nodes first) (rights nodes first)
@@ -167,7 +175,7 @@ module _ (nodes : Nodes) (old now : Table) (first ps next : List Pair) (a b : At
       let r = met nodes now new (term_tree nodes a.0) (term_tree nodes b.0) m in record {
         table = r.2.table;
         count = ap length r.2.levels ∙ (r.2.count ∙ h.count);
-        cells = λ w q. r.2.cells w (h.cells w q);
+        cells = keeps-then nodes old now new h.cells r.2.cells;
         pairs = awaits-bound nodes now new (term_tree nodes a.0) (term_tree nodes b.0) r.0 next r.2 d.rest;
         solves = λ k goal more others q.
             solves-bound nodes now new k goal (term_tree nodes a.0) (term_tree nodes b.0) (lefts nodes next ++ more) (rights nodes next ++ others) r.2.table (in-front k goal more others q) m;

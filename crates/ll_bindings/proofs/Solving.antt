@@ -122,12 +122,12 @@ pub bound-same : (nodes : Nodes) (old new : Table) (u v p q : Term) (b : Binding
 bound-same nodes old new u v p q b h a s o = a s (h.obeys s o)
 
 pub place-bound : (nodes : Nodes) (old new : Table) (u v : Term) (b : Binding) (at : ℕ) → HasBound nodes old new u v b → IsPlaceOf nodes old at → IsPlaceOf nodes new at
-place-bound nodes old new u v b at h p = record { inside = p.inside; vars = h.cells (term_tree nodes at) p.vars }
+place-bound nodes old new u v b at h p = record { inside = p.inside; vars = h.cells.terms (term_tree nodes at) p.vars }
 
 pub classes-bound : (nodes : Nodes) (old new : Table) (u v : Term) (b : Binding) (ups : List ℕ) → HasBound nodes old new u v b → AreClasses nodes old ups → AreClasses nodes new ups
 classes-bound nodes old new u v b ups h c at l = let k = c at l in record {
   below = k.below;
-  vars = λ w. h.cells (term_tree nodes (slice_index ups at)) (k.vars (h.cells_before (term_tree nodes at) w));
+  vars = λ w. h.cells.terms (term_tree nodes (slice_index ups at)) (k.vars (h.cells_before (term_tree nodes at) w));
   spine = k.spine;
   same = bound-same nodes old new u v (term_tree nodes (slice_index ups at)) (term_tree nodes at) b h k.same;
 }

@@ -136,6 +136,15 @@ pub record Falls (old new : Table) (vars : List ℕ) (l : ℕ) : Type 0 where
   pub levels : IsLowered old.levels vars l new.levels
   pub bound : new.bound ≡ old.bound
 
+-- each binding names a place of a term whose variables have cells
+abbrev pub BindsPlaces : Nodes → Table → Type 0
+BindsPlaces nodes t = (x : ℕ) (at : At) → cell t x ≡ Some at → IsPlaceOf nodes t at.0
+
+-- terms whose variables have cells in the earlier table have them in the later one, and so have the terms that are bound
+pub record KeepsCells (nodes : Nodes) (old new : Table) : Type 0 where
+  pub terms : (w : Term) → HasCells nodes old w → HasCells nodes new w
+  pub bound : BindsPlaces nodes old → BindsPlaces nodes new
+
 -- the term is a variable
 abbrev pub is_var : Term → Bool
 is_var (Var x) = true
@@ -158,7 +167,7 @@ pub record HasBound (nodes : Nodes) (old new : Table) (u v : Term) (b : Binding)
   pub fewer : suc (unbound new.bound) ≡ unbound old.bound
   pub obeys : (s : ℕ → Term) → Obeys nodes new s → Obeys nodes old s
   pub same : AreSame nodes new u v
-  pub cells : (w : Term) → HasCells nodes old w → HasCells nodes new w
+  pub cells : KeepsCells nodes old new
   pub cells_before : (w : Term) → HasCells nodes new w → HasCells nodes old w
 
 -- the later table has the binding that is asked for, or there is none

@@ -1,5 +1,5 @@
 -- Copies of terms with all bindings applied.
-use Rattle.std.specs.Prelude.{◌≡◌, ◌<◌, ◌≤◌, ◌⊎◌, ℕ, suc, false, ◌++◌, List, [], ◌∷◌, map, take, length, All, Option, Some, None}
+use Rattle.std.specs.Prelude.{◌≡◌, ◌<◌, ◌≤◌, ◌⊎◌, ℕ, suc, false, ◌++◌, List, [], ◌∷◌, map, take, length, All, Option, Some, None, slice_index_or}
 use Rattle.ll_bank.specs.declared.Head.{Head}
 use Rattle.ll_bank.specs.declared.At.{At}
 use Rattle.ll_bank.specs.Term.{Term, Var, sub, head_of, is_spine}
@@ -7,7 +7,7 @@ use Rattle.ll_bank.specs.Nodes.{Nodes, HasTerm, ShowsTerm, term_tree, term_trees
 use Rattle.ll_bindings.specs.declared.scan.Frame.{Frame}
 use Rattle.ll_bindings.specs.Spines.{args_in, arg}
 use Rattle.ll_bindings.specs.Stacks.{lowest, Stack}
-use Rattle.ll_bindings.specs.Bindings.{Table, found, IsEnd}
+use Rattle.ll_bindings.specs.Bindings.{Table, found, cell, IsEnd}
 use Rattle.ll_bindings.specs.Scanned.{frame_tree}
 
 -- a place of the first bank has a copy that shows what it shows with all bindings applied
@@ -72,3 +72,20 @@ IsBuilt old new at own copy =
 pub record AreRead (first nodes : Nodes) (t : Table) (terms : List Term) (made : List At) : Type 0 where
   pub inside : AllInTerms nodes made
   pub shows : term_trees nodes made ≡ map (sub (found first t)) terms
+
+-- a copy of what a cell is bound to
+abbrev pub IsCellCopy : Nodes → Nodes → Table → Option At → Option At → Type 0
+IsCellCopy old new t None None = Unit {0}
+IsCellCopy old new t (Some to) (Some at) = ShowsTerm new at.0 (sub (found old t) (term_tree old to.0))
+IsCellCopy old new t _ _ = ⊥
+
+-- what is found for a variable, by its cell: nothing for an unbound one, and a place that shows it for a bound one
+abbrev pub IsFinal : Nodes → Term → Option At → Option At → Type 0
+IsFinal nodes u None None = Unit {0}
+IsFinal nodes u (Some to) (Some at) = ShowsTerm nodes at.0 u
+IsFinal nodes u _ _ = ⊥
+
+-- what is found for each of the first n variables
+pub record AreFinal (first nodes : Nodes) (t : Table) (n : ℕ) (cells : List (Option At)) : Type 0 where
+  pub size : length cells ≡ n
+  pub each : (x : ℕ) → x < n → IsFinal nodes (found first t x) (cell t x) (slice_index_or cells x None)

@@ -3,7 +3,7 @@ use Rattle.std.specs.Prelude.{◌≡◌, ℕ, ◌+◌, ◌-◌, ◌++◌, Bool, 
 use Rattle.ll_bank.specs.Term.{Term, sub}
 use Rattle.ll_bank.specs.Nodes.{Nodes}
 use Rattle.ll_laws.specs.Unify.{Solved, solve, mgu}
-use Rattle.ll_bindings.specs.Bindings.{Table, HasCells, found, unbound, count, IsTable}
+use Rattle.ll_bindings.specs.Bindings.{Table, KeepsCells, found, unbound, count, IsTable}
 
 -- a substitution, followed by what was found
 abbrev pub along : (ℕ → Term) → Solved → Solved
@@ -37,7 +37,7 @@ IsSolved nodes old new goal false = goal ≡ None
 pub record Settled (nodes : Nodes) (old new : Table) (ls rs : List Term) : Type 0 where
   pub table : IsTable nodes new
   pub count : count new ≡ count old
-  pub cells : (w : Term) → HasCells nodes old w → HasCells nodes new w
+  pub cells : KeepsCells nodes old new
   pub solves : (k : ℕ) (goal : Option Solved) (more others : List Term) → Solves nodes old k goal (ls ++ more) (rs ++ others) → Solves nodes new k goal more others
 
 -- these lists are solved, or nothing solves them

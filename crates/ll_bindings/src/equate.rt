@@ -2,7 +2,7 @@
 ghost use Rattle.std.specs.Prelude.{◌≡◌, ◌<◌, ℕ, true, length, All, IfOk, [], ◌∷◌, slice_index_or};
 ghost use Rattle.ll_bank.specs.declared.At.{At as AtView};
 ghost use Rattle.ll_bank.specs.Nodes.{term_tree, term_trees};
-ghost use Rattle.ll_bindings.specs.Bindings.{IsTable, IsPlaceOf};
+ghost use Rattle.ll_bindings.specs.Bindings.{IsTable, IsPlaceOf, KeepsCells};
 ghost use Rattle.ll_bindings.specs.Pairs.{AreClasses, ArePairs, IsPair, lefts, rights};
 ghost use Rattle.ll_bindings.specs.Solving.{IsSolved, Settles, wanted};
 
@@ -102,6 +102,7 @@ fn make_equal<T: Bindings>(
 /// Makes two lists of terms equal by bindings, or finds that this can't be.
 ///
 /// The terms are read under the bindings that are there. Equations are solved from left to right, with the occurs check and by levels.
+/// Where the answer is `true`, terms whose variables have cells keep that, and so do the terms that variables are bound to.
 /// Where the answer is `false`, and after a refusal, some bindings and levels may have been changed.
 pub fn unify<T: Bindings>(
     alloc: Global,
@@ -115,6 +116,7 @@ pub fn unify<T: Bindings>(
     requires left { All (λ (at : AtView). IsPlaceOf bank.now (T.table table.old) at.0) left.now }
     requires right { All (λ (at : AtView). IsPlaceOf bank.now (T.table table.old) at.0) right.now }
     ensures grows { T.grows table.old table.new }
+    ensures cells { IfOk result (λ good. good ≡ true → KeepsCells bank.now (T.table table.old) (T.table table.new)) }
     ensures solved { IfOk result (IsSolved bank.now (T.table table.old) (T.table table.new) (wanted bank.now (T.table table.old) (term_trees bank.now left.now) (term_trees bank.now right.now))) }
 {
     let mut work = Work {

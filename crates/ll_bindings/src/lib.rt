@@ -11,6 +11,6 @@ mod scan;
 mod table;
 
 pub use equate::unify;
-pub use read::read_all;
+pub use read::{read_all, read_cells};
 pub use scan::Frame;
 pub use table::{Bindings, argument, walk};

@@ -1,11 +1,11 @@
 //! Terms with all bindings applied.
-ghost use Rattle.std.specs.Prelude.{◌≡◌, ◌≤◌, ◌<◌, ◌-◌, ℕ, true, length, take, drop, map, All, IfOk, OnOk, nat_eq};
+ghost use Rattle.std.specs.Prelude.{◌≡◌, ◌≤◌, ◌<◌, ◌-◌, ℕ, true, length, take, drop, map, All, IfOk, OnOk, nat_eq, Some};
 ghost use Rattle.std.specs.HashMap.{get};
 ghost use Rattle.ll_bank.specs.declared.At.{At as AtView};
 ghost use Rattle.ll_bank.specs.Term.{sub};
 ghost use Rattle.ll_bank.specs.Nodes.{term_tree, term_trees, HasTerm, ShowsTerm, AllInTerms, Extends};
-ghost use Rattle.ll_bindings.specs.Bindings.{IsTable, IsPlaceOf, IsEnd, found};
-ghost use Rattle.ll_bindings.specs.Copied.{AreCopies, AddsCopy, IsChanged, IsBuilt};
+ghost use Rattle.ll_bindings.specs.Bindings.{IsTable, IsPlaceOf, BindsPlaces, IsEnd, found};
+ghost use Rattle.ll_bindings.specs.Copied.{AreCopies, AddsCopy, IsChanged, IsBuilt, IsCellCopy, AreFinal};
 
 use crate::scan::Frame;
 use crate::table::{Bindings, argument, walk};
@@ -146,6 +146,57 @@ fn copy_of<T: Bindings>(
         Some(copy) => Ok(*copy),
         None => copy(alloc, bank, table, known, end),
     }
+}
+
+// A copy of what a cell is bound to with all bindings applied, none of an unbound one.
+fn cell_copy<T: Bindings>(
+    alloc: Global,
+    bank: &mut Bank,
+    table: &T,
+    known: &mut HashMap<usize, At>,
+    to: Option<At>,
+) -> Result<Option<At>, OutOfMemory>
+    requires table { IsTable bank.old (T.table table.now) }
+    requires known { AreCopies bank.old bank.old (T.table table.now) (get nat_eq known.old) }
+    requires to { (at : AtView) → to ≡ Some at → IsPlaceOf bank.old (T.table table.now) at.0 }
+    ensures copy { IfOk result (IsCellCopy bank.old bank.new (T.table table.now) to) }
+    ensures known { IfOk result (λ _. AreCopies bank.old bank.new (T.table table.now) (get nat_eq known.new)) }
+    ensures keeps { Extends bank.old bank.new }
+{
+    match to {
+        None => Ok(None),
+        Some(at) => {
+            let copy = copy_of(alloc, bank, table, known, at)?;
+            Ok(Some(copy))
+        }
+    }
+}
+
+/// For each of so many variables, which are all, a place that shows what stands for it with all bindings applied, none where it is
+/// unbound. What stands in two terms is shared.
+///
+/// It takes time and memory for the places that are reached, each of which is passed through once. After a refusal the bank may hold
+/// further nodes.
+pub fn read_cells<T: Bindings>(
+    alloc: Global,
+    bank: &mut Bank,
+    table: &T,
+    count: usize,
+) -> Result<Vec<Option<At>>, OutOfMemory>
+    requires table { IsTable bank.old (T.table table.now) }
+    requires places { BindsPlaces bank.old (T.table table.now) }
+    requires count { count ≡ length (T.table table.now).levels }
+    ensures cells { IfOk result (λ cells. AreFinal bank.old bank.new (T.table table.now) count cells.items) }
+    ensures keeps { Extends bank.old bank.new }
+{
+    let mut known = HashMap::new(alloc);
+    let mut cells = Vec::new(alloc);
+    for var in 0..count {
+        let to = table.value(var);
+        let copy = cell_copy(alloc, bank, table, &mut known, to)?;
+        cells.push(copy)?;
+    }
+    Ok(cells)
 }
 
 /// Places of the bank that show what these show with all bindings applied. What does not change is shared, and so is what stands

@@ -2,16 +2,16 @@
 use Rattle.std.proofs.Common.{◌≡◌, ℕ, ◌<◌, Bool, true, List, [], ◌∷◌, false, get_or, refl, sym, subst}
 use Rattle.std.specs.Prelude.{◌&&◌, ℤ}
 use Rattle.std.specs.List.{list_all}
-use Rattle.std.proofs.lemmas.Bool.{lt-ltb}
+use Rattle.std.proofs.lemmas.Bool.{and_from, lt-ltb}
 use Rattle.std.proofs.lemmas.List.Elements.{All-head, All-tail}
 use Rattle.ll_bank.specs.declared.Head.{Head}
 use Rattle.ll_bank.specs.declared.At.{At}
-use Rattle.ll_bank.specs.Term.{Var, Int, Con, app}
+use Rattle.ll_bank.specs.Term.{Term, Var, Int, Con, Ap, apply, app}
 use Rattle.ll_bank.specs.Nodes.{Nodes, term_tree, term_trees, AllInTerms, ShowsTerm, Extends}
 use Rattle.ll_bank.proofs.Trees.{HasTerm-extends, term_tree-extends}
 use Rattle.ll_laws.specs.Unify.{vars_below}
+use Rattle.ll_laws.proofs.SubLaws.{and_left, and_right}
 use Rattle.ll_search_tables.specs.Levelled.{IsLevelled, AreLevelled}
-use Rattle.ll_unify.proofs.Answer.{vars-apply}
 
 pub levelled-var : (nodes : Nodes) (n x at : ℕ) → x < n → ShowsTerm nodes at (Var x) → IsLevelled nodes n at
 levelled-var nodes n x at l s = record { inside = s.inside; vars = subst (λ u. vars_below n u ≡ true) (sym s.tree) (lt-ltb x n l) }
@@ -19,14 +19,16 @@ levelled-var nodes n x at l s = record { inside = s.inside; vars = subst (λ u. 
 pub levelled-int : (nodes : Nodes) (n at : ℕ) (z : ℤ) → ShowsTerm nodes at (Int z) → IsLevelled nodes n at
 levelled-int nodes n at z s = record { inside = s.inside; vars = subst (λ u. vars_below n u ≡ true) (sym s.tree) refl }
 
+-- a term with arguments
+vars-apply : (n : ℕ) (f : Term) (ts : List Term) → vars_below n f ≡ true → list_all (vars_below n) ts ≡ true → vars_below n (apply f ts) ≡ true
+vars-apply n f [] h k = h
+vars-apply n f (u ∷ ts) h k =
+    vars-apply n (Ap f u) ts (and_from (vars_below n f) (vars_below n u) h (and_left (vars_below n u) (list_all (vars_below n) ts) k)) (and_right (vars_below n u) (list_all (vars_below n) ts) k)
+
 pub all-levelled : (nodes : Nodes) (n : ℕ) (ats : List At) → AreLevelled nodes n ats → list_all (vars_below n) (term_trees nodes ats) ≡ true
 all-levelled nodes n [] h = refl
 all-levelled nodes n (a ∷ ats) h =
-    both (vars_below n (term_tree nodes a.0)) (list_all (vars_below n) (term_trees nodes ats)) (All-head (λ (b : At). IsLevelled nodes n b.0) a ats h).vars (all-levelled nodes n ats (All-tail (λ (b : At). IsLevelled nodes n b.0) a ats h))
-  where
-    both : (a b : Bool) → a ≡ true → b ≡ true → a && b ≡ true
-    both true b p q = q
-    both false b p q = p
+    and_from (vars_below n (term_tree nodes a.0)) (list_all (vars_below n) (term_trees nodes ats)) (All-head (λ (b : At). IsLevelled nodes n b.0) a ats h).vars (all-levelled nodes n ats (All-tail (λ (b : At). IsLevelled nodes n b.0) a ats h))
 
 pub all-inside : (nodes : Nodes) (n : ℕ) (ats : List At) → AreLevelled nodes n ats → AllInTerms nodes ats
 all-inside nodes n ats h k d l = (h k d l).inside

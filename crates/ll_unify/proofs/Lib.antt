@@ -1,10 +1,1 @@
-mod Spines
-mod Stacks
-mod Tables
-mod Scans
-mod Binding
-mod Alike
-mod Pairs
-mod Solving
-mod Copies
-pub mod Answer
+mod Answer

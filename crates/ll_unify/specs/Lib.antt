@@ -1,8 +1,2 @@
-pub mod Spines
-pub mod Stacks
-pub mod Bindings
-pub mod Scanned
-pub mod Pairs
-pub mod Solving
-pub mod Copied
+pub mod Tables
 pub mod Unifies

@@ -1,22 +1,17 @@
 //! Unification by levels, on the terms of a bank (after Robinson, A Machine-Oriented Logic Based on the Resolution Principle, 1965).
 #![tactic(auto)]
 
-mod bind;
-mod copy;
-mod meet;
-mod scan;
 mod table;
 
-ghost use Rattle.std.specs.Prelude.{◌≡◌, ◌<◌, ◌≤◌, ◌+◌, max, true, length, option_map, IfOk, IfSome};
+ghost use Rattle.std.specs.Prelude.{◌≡◌, true, length, option_map, IfOk, IfSome};
 ghost use Rattle.std.specs.List.{list_all};
 ghost use Rattle.ll_bank.specs.Nodes.{term_trees, AllInTerms, Extends};
 ghost use Rattle.ll_laws.specs.Unify.{mgu, vars_below};
 ghost use Rattle.ll_unify.specs.Unifies.{solved_of, HasEntries, IsBest};
 
-use copy::copies;
-use ll_bank::{At, Bank, Head, OutOfMemory};
-use meet::unify;
-use std::alloc::{AllocError, Global};
+use ll_bank::{At, Bank, OutOfMemory};
+use ll_bindings::{read_cells, unify};
+use std::alloc::Global;
 use table::Table;
 
 /// A substitution with its levels. Contracts see it as trees in the bank of the call that gave it.
@@ -53,28 +48,13 @@ pub fn mgu(
     ensures best { IfOk result (λ answer. IsBest (term_trees bank.old left.now) (term_trees bank.old right.now) levels.now (option_map (solved_of bank.new) answer)) }
     ensures keeps { Extends bank.old bank.new }
 {
-    let first = bank.app(Head::Name(0), left)?;
-    let second = bank.app(Head::Name(0), right)?;
-    let size = size_with(first, second)?;
-    let mut table = Table::new(alloc, levels, size)?;
-    if !unify(alloc, bank, &mut table, first, second)? {
+    let mut table = Table::new(alloc, levels)?;
+    if !unify(alloc, bank, &mut table, left, right)? {
         return Ok(None);
     }
-    let bound = copies(alloc, bank, &table)?;
+    let bound = read_cells(alloc, bank, &table, levels.len())?;
     Ok(Some(Subst {
         bound,
         levels: table.levels,
     }))
-}
-
-// A number of places that has these two. A bank with no such number would be past all memory.
-fn size_with(first: At, second: At) -> Result<usize, OutOfMemory>
-    ensures first { IfOk result (λ size. first.0 < size) }
-    ensures second { IfOk result (λ size. second.0 < size) }
-    ensures least { IfOk result (λ size. size ≤ max first.0 second.0 + 1) }
-{
-    match first.0.max(second.0).checked_add(1) {
-        Some(size) => Ok(size),
-        None => Err(AllocError),
-    }
 }

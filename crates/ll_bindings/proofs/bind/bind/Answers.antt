@@ -1,6 +1,7 @@
 use Rattle.std.proofs.Common.{sym, ◌∙◌, arith}
+use Rattle.std.proofs.lemmas.Result.{IfOk-weaker}
 use Rattle.ll_bank.specs.Nodes.{term_tree, term_trees}
-use Rattle.ll_bindings.proofs.Binding.{left-below, right-below, no-var-int, no-var-app, no-meeting, meets-left, meets-right, meets-older, meets-newer, map-ok}
+use Rattle.ll_bindings.proofs.Binding.{left-below, right-below, no-var-int, no-var-app, no-meeting, meets-left, meets-right, meets-older, meets-newer}
 use Rattle.ll_bindings.proofs.bind.bind.Goals as goal
 
 pub bind_term-requires-in-App-term_at-clause-no_var : goal.bind_term-requires-in-App-term_at-clause-no_var
@@ -33,19 +34,19 @@ returns-in_ok-set-in-Var-term_at-2-clause-meets g c =
 
 pub returns-in-Int-term_at-clause-meets : goal.returns-in-Int-term_at-clause-meets
 returns-in-Int-term_at-clause-meets g c =
-    map-ok c.bind_term.result (λ b. meets-left c.args.bank.now (g.T.Bindings.table c.args.table.now) (g.T.Bindings.table c.bind_term.new.table) c.args.left c.args.right c.in-Var.x b c.requires.table c.requires.meet c.in-Var.ensures.shown (no-var-int (term_tree c.args.bank.now c.args.right.0) c.in-Int-term_at.field-0 c.in-Int-term_at.ensures.shown)) c.bind_term.ensures.binds
+    IfOk-weaker c.bind_term.result _ _ (λ b. meets-left c.args.bank.now (g.T.Bindings.table c.args.table.now) (g.T.Bindings.table c.bind_term.new.table) c.args.left c.args.right c.in-Var.x b c.requires.table c.requires.meet c.in-Var.ensures.shown (no-var-int (term_tree c.args.bank.now c.args.right.0) c.in-Int-term_at.field-0 c.in-Int-term_at.ensures.shown)) c.bind_term.ensures.binds
 
 pub returns-in-App-term_at-clause-meets : goal.returns-in-App-term_at-clause-meets
 returns-in-App-term_at-clause-meets g c =
-    map-ok c.bind_term-in-App-term_at.result (λ b. meets-left c.args.bank.now (g.T.Bindings.table c.args.table.now) (g.T.Bindings.table c.bind_term-in-App-term_at.new.table) c.args.left c.args.right c.in-Var.x b c.requires.table c.requires.meet c.in-Var.ensures.shown (no-var-app (term_tree c.args.bank.now c.args.right.0) c.in-App-term_at.field-0 (term_trees c.args.bank.now c.in-App-term_at.field-1.now) c.in-App-term_at.ensures.shown.0)) c.bind_term-in-App-term_at.ensures.binds
+    IfOk-weaker c.bind_term-in-App-term_at.result _ _ (λ b. meets-left c.args.bank.now (g.T.Bindings.table c.args.table.now) (g.T.Bindings.table c.bind_term-in-App-term_at.new.table) c.args.left c.args.right c.in-Var.x b c.requires.table c.requires.meet c.in-Var.ensures.shown (no-var-app (term_tree c.args.bank.now c.args.right.0) c.in-App-term_at.field-0 (term_trees c.args.bank.now c.in-App-term_at.field-1.now) c.in-App-term_at.ensures.shown.0)) c.bind_term-in-App-term_at.ensures.binds
 
 pub returns-in-Var-term_at-2-clause-meets : goal.returns-in-Var-term_at-2-clause-meets
 returns-in-Var-term_at-2-clause-meets g c =
-    map-ok c.bind_term-in-Var-term_at-2.result (λ b. meets-right c.args.bank.now (g.T.Bindings.table c.args.table.now) (g.T.Bindings.table c.bind_term-in-Var-term_at-2.new.table) c.args.left c.args.right c.in-Var-term_at-2.y b c.requires.table c.requires.meet c.in-Var-term_at-2.ensures.shown (no-var-int (term_tree c.args.bank.now c.args.left.0) c.in-Int.field-0 c.in-Int.ensures.shown)) c.bind_term-in-Var-term_at-2.ensures.binds
+    IfOk-weaker c.bind_term-in-Var-term_at-2.result _ _ (λ b. meets-right c.args.bank.now (g.T.Bindings.table c.args.table.now) (g.T.Bindings.table c.bind_term-in-Var-term_at-2.new.table) c.args.left c.args.right c.in-Var-term_at-2.y b c.requires.table c.requires.meet c.in-Var-term_at-2.ensures.shown (no-var-int (term_tree c.args.bank.now c.args.left.0) c.in-Int.field-0 c.in-Int.ensures.shown)) c.bind_term-in-Var-term_at-2.ensures.binds
 
 pub returns-in-Var-term_at-3-clause-meets : goal.returns-in-Var-term_at-3-clause-meets
 returns-in-Var-term_at-3-clause-meets g c =
-    map-ok c.bind_term-in-Var-term_at-3.result (λ b. meets-right c.args.bank.now (g.T.Bindings.table c.args.table.now) (g.T.Bindings.table c.bind_term-in-Var-term_at-3.new.table) c.args.left c.args.right c.in-Var-term_at-3.y b c.requires.table c.requires.meet c.in-Var-term_at-3.ensures.shown (no-var-app (term_tree c.args.bank.now c.args.left.0) c.in-App.field-0 (term_trees c.args.bank.now c.in-App.field-1.now) c.in-App.ensures.shown.0)) c.bind_term-in-Var-term_at-3.ensures.binds
+    IfOk-weaker c.bind_term-in-Var-term_at-3.result _ _ (λ b. meets-right c.args.bank.now (g.T.Bindings.table c.args.table.now) (g.T.Bindings.table c.bind_term-in-Var-term_at-3.new.table) c.args.left c.args.right c.in-Var-term_at-3.y b c.requires.table c.requires.meet c.in-Var-term_at-3.ensures.shown (no-var-app (term_tree c.args.bank.now c.args.left.0) c.in-App.field-0 (term_trees c.args.bank.now c.in-App.field-1.now) c.in-App.ensures.shown.0)) c.bind_term-in-Var-term_at-3.ensures.binds
 
 pub is_older-requires-clause-first : goal.is_older-requires-clause-first
 is_older-requires-clause-first g c = left-below c.args.bank.now (g.T.Bindings.table c.args.table.now) c.args.left c.args.right c.in-Var.x c.requires.meet c.in-Var.ensures.shown

@@ -1,9 +1,9 @@
 use Rattle.std.proofs.Common.{refl, [], ◌∷◌, ◌++◌, ◌≡◌, ◌∙◌, List, ap, subst}
+use Rattle.std.proofs.lemmas.Result.{IfOk-weaker}
 use Rattle.ll_bindings.specs.declared.meet.Pair.{Pair}
 use Rattle.ll_bindings.specs.Pairs.{lefts, rights}
 use Rattle.ll_bindings.specs.Solving.{Settles}
 use Rattle.ll_bindings.proofs.Solving.{pairs-start}
-use Rattle.ll_bindings.proofs.Binding.{map-ok}
 use Rattle.ll_bindings.proofs.equate.open.Goals as goal
 
 pub settle-requires-clause-pairs : goal.settle-requires-clause-pairs
@@ -15,6 +15,6 @@ pub returns-clause-settles : goal.returns-clause-settles
 returns-clause-settles g c =
     let p : Pair = record { left = c.args.left; right = c.args.right; next = 0 } in
     let e : c.push.new.self.items ≡ p ∷ [] = c.in_ok-push.ensures.items ∙ ap (λ (ps : List Pair). ps ++ p ∷ []) c.clear.ensures.items in
-    map-ok c.settle.result
+    IfOk-weaker c.settle.result _ _
     (λ good h. subst (λ (ps : List Pair). Settles c.args.bank.now (g.T.Bindings.table c.args.table.now) (g.T.Bindings.table c.settle.new.table) (lefts c.args.bank.now ps) (rights c.args.bank.now ps) good) e h)
     c.settle.ensures.settles

@@ -4,7 +4,7 @@ use Rattle.ll_bank.specs.declared.At.{At}
 use Rattle.ll_bank.specs.Term.{Term}
 use Rattle.ll_bank.specs.Nodes.{term_tree, term_trees}
 use Rattle.ll_bindings.specs.Solving.{Solves, Settles, wanted, spare}
-use Rattle.ll_bindings.proofs.Settling.{next-refused, next-settled, trees-none}
+use Rattle.ll_bindings.proofs.Settling.{keeps-same, keeps-then, next-refused, next-settled, trees-none}
 use Rattle.ll_bindings.proofs.Solving.{solves-start, solves-none}
 use Rattle.ll_bindings.proofs.equate.unify.Goals as goal
 
@@ -12,7 +12,7 @@ pub loop-index-init : goal.loop-index-init
 loop-index-init g c = record {
   table = c.requires.table;
   count = refl;
-  cells = λ w h. h;
+  cells = keeps-same c.args.bank.now (g.T.Bindings.table c.args.table.now);
   classes = c.new-2.ensures c.args.bank.now (g.T.Bindings.table c.args.table.now);
   grows = g.met.T.Bindings.stays c.args.table.now;
   solves = solves-start c.args.bank.now (g.T.Bindings.table c.args.table.now) (term_trees c.args.bank.now c.args.left.now) (term_trees c.args.bank.now c.args.right.now) c.requires.table;
@@ -44,7 +44,7 @@ loop-index-preserved g c =
     record {
       table = h.table;
       count = h.count ∙ c.loop-index.invariant.count;
-      cells = λ w q. h.cells w (c.loop-index.invariant.cells w q);
+      cells = keeps-then c.args.bank.now old (g.T.Bindings.table c.loop-index.table) (g.T.Bindings.table c.make_equal.new.table) c.loop-index.invariant.cells h.cells;
       classes = c.in_ok-make_equal.ensures.classes c.if-not-branch.false;
       grows = g.met.T.Bindings.again c.args.table.now c.loop-index.table c.make_equal.new.table c.loop-index.invariant.grows c.make_equal.ensures.grows;
       solves = next-settled c.args.bank.now old (g.T.Bindings.table c.loop-index.table) (g.T.Bindings.table c.make_equal.new.table) (spare old)

@@ -1,7 +1,6 @@
 use Rattle.std.proofs.Common.{◌≡◌, drop}
-use Rattle.ll_bank.specs.Term.{Term}
 use Rattle.ll_bank.specs.Nodes.{term_trees}
-use Rattle.ll_bindings.specs.Bindings.{IsTable, HasCells, count}
+use Rattle.ll_bindings.specs.Bindings.{IsTable, KeepsCells, count}
 use Rattle.ll_bindings.specs.Pairs.{AreClasses}
 use Rattle.ll_bindings.specs.Solving.{Solves, wanted, spare}
 use Rattle.ll_bindings.proofs.equate.unify.Given as goal
@@ -10,7 +9,7 @@ abbrev pub invariant-loop-index : goal.invariant-loop-index
 invariant-loop-index g l = record {
   table : IsTable l.bank (g.T.Bindings.table l.table);
   count : count (g.T.Bindings.table l.table) ≡ count (g.T.Bindings.table l.fn.table);
-  cells : (w : Term) → HasCells l.bank (g.T.Bindings.table l.fn.table) w → HasCells l.bank (g.T.Bindings.table l.table) w;
+  cells : KeepsCells l.bank (g.T.Bindings.table l.fn.table) (g.T.Bindings.table l.table);
   classes : AreClasses l.bank (g.T.Bindings.table l.table) l.work.classes.up.items;
   grows : g.T.Bindings.grows l.fn.table l.table;
   solves : Solves l.bank (g.T.Bindings.table l.table) (spare (g.T.Bindings.table l.fn.table))

@@ -1,9 +1,0 @@
-use Rattle.ll_bank.proofs.Trees.{Extends-refl}
-use Rattle.ll_unify.proofs.copy.cell_copy.Goals as goal
-
-pub returns-in-None-clause-keeps : goal.returns-in-None-clause-keeps
-returns-in-None-clause-keeps c =
-    Extends-refl c.args.bank.now
-
-pub copy_of-requires-clause-at : goal.copy_of-requires-clause-at
-copy_of-requires-clause-at c = c.requires.to c.in-Some.at c.in-Some.is

@@ -1,6 +1,0 @@
-use Rattle.ll_bank.proofs.Trees.{Extends-refl}
-use Rattle.ll_unify.proofs.copy.copy_of.Goals as goal
-
-pub returns-in-Some-clause-keeps : goal.returns-in-Some-clause-keeps
-returns-in-Some-clause-keeps c =
-    Extends-refl c.args.bank.now

@@ -1,4 +1,5 @@
 pub mod CellLemmas
 pub mod MarkLemmas
 mod TableLemmas
+pub mod PackedLemmas
 pub mod CallerLemmas

@@ -1,3 +1,4 @@
+pub mod Packed
 pub mod Cells
 pub mod Trails
 pub mod Stored

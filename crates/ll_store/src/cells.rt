@@ -1,8 +1,10 @@
 //! Cells with their trail.
-ghost use Rattle.std.specs.Prelude.{◌≡◌, ◌<◌, ◌≤◌, ◌++◌, ◌∷◌, [], length, take, drop, Some, None, IfOk, OnOk, OnErr};
+ghost use Rattle.std.specs.Prelude.{◌≡◌, ◌<◌, ◌≤◌, ◌++◌, ◌∷◌, [], length, map, take, drop, Some, None, IfOk, OnOk, OnErr};
 ghost use Rattle.ll_store.specs.Cells.{update, with_to, with_level, taken_back, before};
+ghost use Rattle.ll_store.specs.Packed.{place_of, cell_of, change_of};
 ghost use Rattle.ll_store.specs.Trails.{Trailed, Grows, IsUnbound, IsAtMost, cell_to, cell_level};
 
+use crate::packed::{Entry, NOTHING, Slot, packed};
 use ll_bank::{At, OutOfMemory};
 use std::alloc::Global;
 use std::marker::Model;
@@ -23,19 +25,24 @@ pub enum Change {
     Lowered(u64, u32),
 }
 
-/// Cells with a trail of their changes. Contracts see the cells, and the changes from the oldest on.
+/// Cells with a trail of their changes, each in eight bytes. Contracts see the cells, and the changes from the oldest on.
+///
+/// There is no memory for a change of a variable past 32 bits, for a place from 4,294,967,295 on, nor for lowering the level
+/// 4,294,967,295.
 #[derive(Drop)]
 pub struct Cells {
-    slots: Vec<Cell>,
-    trail: Vec<Change>,
+    slots: Vec<Slot>,
+    trail: Vec<Entry>,
 }
 
 impl Model for Cells {
+    ghost use Rattle.std.specs.Prelude.{map};
+    ghost use Rattle.ll_store.specs.Packed.{cell_of, change_of};
     ghost use Rattle.ll_store.specs.Trails.{Trailed};
 
     ghost Value = { Trailed };
 
-    ghost view = { λ s. record { cells = s.slots.items; changes = s.trail.items } };
+    ghost view = { λ s. record { cells = map cell_of s.slots.items; changes = map change_of s.trail.items } };
 }
 
 impl Cells {
@@ -71,7 +78,7 @@ impl Cells {
         ensures refused { OnErr result (self.new ≡ self.old) }
     {
         let var = self.slots.len() as u64;
-        self.slots.push(Cell { to: None, level })?;
+        self.slots.push(Slot { to: NOTHING, level })?;
         Ok(var)
     }
 
@@ -82,8 +89,10 @@ impl Cells {
         ensures grows { Grows self.old self.new }
         ensures refused { OnErr result (self.new ≡ self.old) }
     {
-        self.trail.push(Change::Bound(var))?;
-        set_to(&mut self.slots, var as usize, Some(to));
+        let kept = packed(to)?;
+        let entry = Entry::bound(var)?;
+        self.trail.push(entry)?;
+        set_to(&mut self.slots, var as usize, kept);
         Ok(())
     }
 
@@ -95,7 +104,8 @@ impl Cells {
         ensures refused { OnErr result (self.new ≡ self.old) }
     {
         let old = self.slots[var as usize].level;
-        self.trail.push(Change::Lowered(var, old))?;
+        let entry = Entry::lowered(var, old)?;
+        self.trail.push(entry)?;
         set_level(&mut self.slots, var as usize, level);
         Ok(())
     }
@@ -105,7 +115,7 @@ impl Cells {
         requires { var < length self.now.cells }
         ensures { cell_to self.now.cells var ≡ Some result }
     {
-        self.slots[var as usize].to
+        self.slots[var as usize].cell().to
     }
 
     /// The level of a variable.
@@ -143,8 +153,8 @@ impl Cells {
 }
 
 // Binds the variable at a place of the cells, or unbinds it, if there is one.
-fn set_to(cells: &mut Vec<Cell>, at: usize, to: Option<At>)
-    ensures { cells.new.items ≡ update at (with_to to) cells.old.items }
+fn set_to(cells: &mut Vec<Slot>, at: usize, to: u32)
+    ensures { map cell_of cells.new.items ≡ update at (with_to (place_of to)) (map cell_of cells.old.items) }
 {
     if at < cells.len() {
         cells[at].to = to;
@@ -152,8 +162,8 @@ fn set_to(cells: &mut Vec<Cell>, at: usize, to: Option<At>)
 }
 
 // Gives the variable at a place of the cells another level, if there is one.
-fn set_level(cells: &mut Vec<Cell>, at: usize, level: u32)
-    ensures { cells.new.items ≡ update at (with_level level) cells.old.items }
+fn set_level(cells: &mut Vec<Slot>, at: usize, level: u32)
+    ensures { map cell_of cells.new.items ≡ update at (with_level level) (map cell_of cells.old.items) }
 {
     if at < cells.len() {
         cells[at].level = level;
@@ -161,23 +171,23 @@ fn set_level(cells: &mut Vec<Cell>, at: usize, level: u32)
 }
 
 // Takes a change back.
-fn take_one_back(cells: &mut Vec<Cell>, change: Change)
-    ensures { cells.new.items ≡ taken_back change cells.old.items }
+fn take_one_back(cells: &mut Vec<Slot>, change: Change)
+    ensures { map cell_of cells.new.items ≡ taken_back change (map cell_of cells.old.items) }
 {
     match change {
-        Change::Bound(var) => set_to(cells, var as usize, None),
+        Change::Bound(var) => set_to(cells, var as usize, NOTHING),
         Change::Lowered(var, level) => set_level(cells, var as usize, level),
     }
 }
 
 // Takes back all but the first `from` of changes that were made one after another.
-fn take_back(cells: &mut Vec<Cell>, changes: &[Change], from: usize)
+fn take_back(cells: &mut Vec<Slot>, changes: &[Entry], from: usize)
     requires { from ≤ length changes.now }
-    ensures { cells.new.items ≡ before (drop from changes.now) cells.old.items }
+    ensures { map cell_of cells.new.items ≡ before (drop from (map change_of changes.now)) (map cell_of cells.old.items) }
 {
     let mut at = changes.len();
     while at > from {
         at -= 1;
-        take_one_back(cells, changes[at]);
+        take_one_back(cells, changes[at].change());
     }
 }

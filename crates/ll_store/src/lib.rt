@@ -2,6 +2,7 @@
 #![tactic(auto)]
 
 mod cells;
+mod packed;
 mod store;
 mod table;
 

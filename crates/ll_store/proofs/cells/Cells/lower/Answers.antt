@@ -1,18 +1,25 @@
-use Rattle.std.proofs.Common.{◌≡◌, ap, ◌∙◌, ◌++◌, ◌∷◌, [], slice_index_or}
+use Rattle.std.proofs.Common.{◌≡◌, sym, ap, ◌∙◌, ◌++◌, ◌∷◌, [], map, slice_index_or}
+use Rattle.std.proofs.lemmas.List.{map-append}
+use Rattle.std.proofs.Math.ListN.{get_or-map}
 use Rattle.ll_store.specs.Trails.{Trailed}
 use Rattle.ll_store.specs.declared.cells.Change.TheVariants.{Lowered}
 use Rattle.ll_store.specs.Cells.{update, with_level, taken_back}
+use Rattle.ll_store.specs.Packed.{cell_of, change_of}
 use Rattle.ll_store.proofs.CellLemmas.{lower-back}
 use Rattle.ll_store.proofs.cells.Cells.lower.Goals as goal
 
 pub returns-clause-grows : goal.returns-clause-grows
 returns-clause-grows c =
     let f = with_level c.args.level in
-    let cells : c.set_level.new.cells.items ≡ update c.args.var f c.args.self.now.cells =
-    c.set_level.ensures ∙ ap (update c.args.var f) (ap (λ (s : Trailed). s.cells) c.self.view_is) in
-    let old = c.index.result.now.level in
+    let slot = c.index.result.now in
+    let cells : map cell_of c.set_level.new.cells.items ≡ update c.args.var f c.args.self.now.cells =
+    c.set_level.ensures ∙ ap (λ (s : Trailed). update c.args.var f s.cells) c.self.view_is in
     record {
-      more = Lowered c.args.var old ∷ [];
-      changes = c.in_ok-push.ensures.items ∙ ap (λ (s : Trailed). s.changes ++ Lowered c.args.var old ∷ []) c.self.view_is;
-      back = ap (taken_back (Lowered c.args.var old)) cells ∙ lower-back c.args.var c.args.level c.index.result.now c.args.self.now.cells (c.index.ensures ∙ ap (λ (s : Trailed). slice_index_or s.cells c.args.var c.index.result.now) c.self.view_is);
+      more = Lowered c.args.var slot.level ∷ [];
+      changes = ap (map change_of) c.in_ok-push.ensures.items
+          ∙ (map-append change_of c.self.inside.trail.items (c.in_ok-entry.entry ∷ [])
+          ∙ (λ i. (c.self.view_is i).changes ++ c.in_ok-entry.ensures i ∷ []));
+      back = ap (taken_back (Lowered c.args.var slot.level)) cells
+          ∙ lower-back c.args.var c.args.level (cell_of slot) c.args.self.now.cells
+          (ap cell_of c.index.ensures ∙ (sym (get_or-map cell_of c.self.inside.slots.items c.args.var slot) ∙ ap (λ (s : Trailed). slice_index_or s.cells c.args.var (cell_of slot)) c.self.view_is));
     }

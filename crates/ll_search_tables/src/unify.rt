@@ -127,6 +127,21 @@ fn shared(alloc: Global, depth: u8) -> Result<Vec<Sign>, OutOfMemory> {
     Ok(list)
 }
 
+// So many variables, each to be a term that has the next one twice.
+fn doubled(alloc: Global, depth: u8) -> Result<Vec<Sign>, OutOfMemory> {
+    let mut list = Vec::new(alloc);
+    for number in 0..=depth as u64 {
+        list.push(Sign::Var(number))?;
+    }
+    for number in 0..depth as u64 {
+        list.push(Sign::Var(number))?;
+    }
+    for index in 0..depth as usize {
+        list.push(Sign::Two(0, index + 1, index + 1))?;
+    }
+    Ok(list)
+}
+
 // Two lists of so many variables and numbers.
 fn lists(alloc: Global, length: u32) -> Result<Vec<Sign>, OutOfMemory> {
     let mut list = Vec::new(alloc);
@@ -230,6 +245,14 @@ fn equations(rt: HostRuntime) -> Result<(), Fail> {
 fn shared_parts(rt: HostRuntime) -> Result<(), Fail> {
     let list = shared(rt.alloc(), 60)?;
     assert!(rt; solve(rt.alloc(), &list, 1, &[])?.is_some());
+    Ok(())
+}
+
+// A variable that stands for a term with 2^40 leaves.
+#[test]
+fn shared_variables(rt: HostRuntime) -> Result<(), Fail> {
+    let list = doubled(rt.alloc(), 40)?;
+    assert!(rt; solve(rt.alloc(), &list, 40, &[0; 41])?.is_some());
     Ok(())
 }
 

@@ -39,55 +39,44 @@ predicate_app nodes t h args e =
     let r = ap arity e in
     (ap head_of e ∙ head-apply (Con h) (term_trees nodes args), omega arith)
 
--- also under a substitution
-pub predicate_read : (nodes : Nodes) (s : ℕ → Term) (t : Term) (h : Head) (args : List At) → t ≡ app h (term_trees nodes args) → (head_of (sub s t) ≡ Some h) × (arity (sub s t) ≡ length args)
-predicate_read nodes s t h args e =
-    let ts = term_trees nodes args in
-    let q = ap (sub s) e ∙ sub_app s h ts in
-    let a = arity-apply (Con h) (map (sub s) ts) in
-    let m = length-map (sub s) ts in
-    let n = length-map (λ (a : At). term_tree nodes a.0) args in
-    let r = ap arity q in
-    (ap head_of q ∙ head-apply (Con h) (map (sub s) ts), omega arith)
-
 -- ---- the walk
 
-module _ (bank : Nodes) (bound : List (Option At)) where
-  wait-more : (fs : List FormAt) (f : FormAt) → waiting_heads bank bound (fs ++ f ∷ []) ≡ heads (read_form bank bound f) ++ waiting_heads bank bound fs
-  wait-more [] f = sym (append-nil (heads (read_form bank bound f)))
-  wait-more (g ∷ fs) f = ap (λ xs. xs ++ heads (read_form bank bound g)) (wait-more fs f) ∙ append_assoc (heads (read_form bank bound f)) (waiting_heads bank bound fs) (heads (read_form bank bound g))
+module _ (bank : Nodes) where
+  wait-more : (fs : List FormAt) (f : FormAt) → waiting_heads bank (fs ++ f ∷ []) ≡ heads (form_tree bank f.0) ++ waiting_heads bank fs
+  wait-more [] f = sym (append-nil (heads (form_tree bank f.0)))
+  wait-more (g ∷ fs) f = ap (λ xs. xs ++ heads (form_tree bank g.0)) (wait-more fs f) ∙ append_assoc (heads (form_tree bank f.0)) (waiting_heads bank fs) (heads (form_tree bank g.0))
 
   module _ (p : Predicate) (label k : ℕ) (goal : List Candidate) (found : List Candidate) (old rest : List FormAt) (f : FormAt) (popped : old ≡ rest ++ f ∷ [])
-      (so_far : found ++ head_tries p label k (waiting_heads bank bound old) ≡ goal) where
+      (so_far : found ++ head_tries p label k (waiting_heads bank old) ≡ goal) where
     -- what is left begins with the heads of the clause taken
-    begins : found ++ head_tries p label k (heads (read_form bank bound f) ++ waiting_heads bank bound rest) ≡ goal
-    begins = ap (λ hs. found ++ head_tries p label k hs) (sym (ap (waiting_heads bank bound) popped ∙ wait-more rest f)) ∙ so_far
+    begins : found ++ head_tries p label k (heads (form_tree bank f.0) ++ waiting_heads bank rest) ≡ goal
+    begins = ap (λ hs. found ++ head_tries p label k hs) (sym (ap (waiting_heads bank) popped ∙ wait-more rest f)) ∙ so_far
 
     -- a clause without leaves goes
-    pub walk_past : heads (read_form bank bound f) ≡ [] → found ++ head_tries p label k (waiting_heads bank bound rest) ≡ goal
-    walk_past e = ap (λ hs. found ++ head_tries p label k (hs ++ waiting_heads bank bound rest)) (sym e) ∙ begins
+    pub walk_past : heads (form_tree bank f.0) ≡ [] → found ++ head_tries p label k (waiting_heads bank rest) ≡ goal
+    walk_past e = ap (λ hs. found ++ head_tries p label k (hs ++ waiting_heads bank rest)) (sym e) ∙ begins
 
     -- another with the same leaves takes its place
-    pub walk_in : (g : FormAt) (new : List FormAt) → new ≡ rest ++ g ∷ [] → heads (read_form bank bound f) ≡ heads (read_form bank bound g)
-        → found ++ head_tries p label k (waiting_heads bank bound new) ≡ goal
+    pub walk_in : (g : FormAt) (new : List FormAt) → new ≡ rest ++ g ∷ [] → heads (form_tree bank f.0) ≡ heads (form_tree bank g.0)
+        → found ++ head_tries p label k (waiting_heads bank new) ≡ goal
     walk_in g new n e =
-        ap (λ hs. found ++ head_tries p label k hs) (ap (waiting_heads bank bound) n ∙ (wait-more rest g ∙ ap (λ hs. hs ++ waiting_heads bank bound rest) (sym e))) ∙ begins
+        ap (λ hs. found ++ head_tries p label k hs) (ap (waiting_heads bank) n ∙ (wait-more rest g ∙ ap (λ hs. hs ++ waiting_heads bank rest) (sym e))) ∙ begins
 
     -- or two, the left one behind
-    pub walk_both : (g h : FormAt) (mid new : List FormAt) → mid ≡ rest ++ h ∷ [] → new ≡ mid ++ g ∷ [] → heads (read_form bank bound f) ≡ heads (read_form bank bound g) ++ heads (read_form bank bound h)
-        → found ++ head_tries p label k (waiting_heads bank bound new) ≡ goal
+    pub walk_both : (g h : FormAt) (mid new : List FormAt) → mid ≡ rest ++ h ∷ [] → new ≡ mid ++ g ∷ [] → heads (form_tree bank f.0) ≡ heads (form_tree bank g.0) ++ heads (form_tree bank h.0)
+        → found ++ head_tries p label k (waiting_heads bank new) ≡ goal
     walk_both g h mid new m n e =
         ap (λ hs. found ++ head_tries p label k hs)
-        (ap (waiting_heads bank bound) n
+        (ap (waiting_heads bank) n
         ∙ (wait-more mid g
-        ∙ (ap (λ hs. heads (read_form bank bound g) ++ hs) (ap (waiting_heads bank bound) m ∙ wait-more rest h)
-        ∙ (sym (append_assoc (heads (read_form bank bound g)) (heads (read_form bank bound h)) (waiting_heads bank bound rest)) ∙ ap (λ hs. hs ++ waiting_heads bank bound rest) (sym e))))) ∙ begins
+        ∙ (ap (λ hs. heads (form_tree bank g.0) ++ hs) (ap (waiting_heads bank) m ∙ wait-more rest h)
+        ∙ (sym (append_assoc (heads (form_tree bank g.0)) (heads (form_tree bank h.0)) (waiting_heads bank rest)) ∙ ap (λ hs. hs ++ waiting_heads bank rest) (sym e))))) ∙ begins
 
     -- a leaf that has the predicate is found, and the next one is on
-    pub leaf_found : (t : Term) (new : List Candidate) (next : ℕ) → heads (read_form bank bound f) ≡ t ∷ [] → has_predicate p t ≡ true → new ≡ found ++ record { label = label; leaf = k } ∷ [] → next ≡ k + 1
-        → new ++ head_tries p label next (waiting_heads bank bound rest) ≡ goal
+    pub leaf_found : (t : Term) (new : List Candidate) (next : ℕ) → heads (form_tree bank f.0) ≡ t ∷ [] → has_predicate p t ≡ true → new ≡ found ++ record { label = label; leaf = k } ∷ [] → next ≡ k + 1
+        → new ++ head_tries p label next (waiting_heads bank rest) ≡ goal
     leaf_found t new next e has n s =
-        let hs = waiting_heads bank bound rest in
+        let hs = waiting_heads bank rest in
         let c : Candidate = record { label = label; leaf = k } in
         let tail = head_tries p label (suc k) hs in
         let one : (if has_predicate p t then c ∷ tail else tail) ≡ c ∷ tail = ap (λ b. if b then c ∷ tail else tail) has in
@@ -97,9 +86,9 @@ module _ (bank : Nodes) (bound : List (Option At)) where
         ∙ (ap (λ j. found ++ c ∷ head_tries p label j hs) go ∙ (ap (λ xs. found ++ xs) (sym one) ∙ (ap (λ us. found ++ head_tries p label k (us ++ hs)) (sym e) ∙ begins))))
 
     -- another one is not
-    pub leaf_passed : (t : Term) (next : ℕ) → heads (read_form bank bound f) ≡ t ∷ [] → has_predicate p t ≡ false → next ≡ k + 1 → found ++ head_tries p label next (waiting_heads bank bound rest) ≡ goal
+    pub leaf_passed : (t : Term) (next : ℕ) → heads (form_tree bank f.0) ≡ t ∷ [] → has_predicate p t ≡ false → next ≡ k + 1 → found ++ head_tries p label next (waiting_heads bank rest) ≡ goal
     leaf_passed t next e lacks s =
-        let hs = waiting_heads bank bound rest in
+        let hs = waiting_heads bank rest in
         let c : Candidate = record { label = label; leaf = k } in
         let tail = head_tries p label (suc k) hs in
         let none : (if has_predicate p t then c ∷ tail else tail) ≡ tail = ap (λ b. if b then c ∷ tail else tail) lacks in
@@ -107,27 +96,27 @@ module _ (bank : Nodes) (bound : List (Option At)) where
         ap (λ j. found ++ head_tries p label j hs) go ∙ (ap (λ xs. found ++ xs) (sym none) ∙ (ap (λ us. found ++ head_tries p label k (us ++ hs)) (sym e) ∙ begins))
 
 -- the heads of what is seen at a place
-pub heads_seen : (bank : Nodes) (bound : List (Option At)) (f : FormAt) (view : FormNode) → form_tree bank f.0 ≡ form_of bank view → heads (read_form bank bound f) ≡ heads (sub_form (reading bank bound) (form_of bank view))
-heads_seen bank bound f view e = ap (λ t. heads (sub_form (reading bank bound) t)) e
+pub heads_seen : (bank : Nodes) (f : FormAt) (view : FormNode) → form_tree bank f.0 ≡ form_of bank view → heads (form_tree bank f.0) ≡ heads (form_of bank view)
+heads_seen bank f view e = ap (λ t. heads t) e
 
 -- a formula of no other sort has no leaf
-pub no_heads : (bank : Nodes) (s : ℕ → Term) (v : FormNode) → ((a : At) → v ≡ AtomView a → ⊥) → ((f g : FormAt) → v ≡ WithView f g → ⊥) → ((f g : FormAt) → v ≡ LolliView f g → ⊥)
-    → ((f g : FormAt) → v ≡ ImpView f g → ⊥) → ((f : FormAt) → v ≡ ForallView f → ⊥) → heads (sub_form s (form_of bank v)) ≡ []
-no_heads bank s TopView a w l i f = refl
-no_heads bank s OneView a w l i f = refl
-no_heads bank s (AtomView t) a w l i f = absurd (a t refl)
-no_heads bank s (WithView x y) a w l i f = absurd (w x y refl)
-no_heads bank s (TensorView x y) a w l i f = refl
-no_heads bank s (PlusView x y) a w l i f = refl
-no_heads bank s (BangView x) a w l i f = refl
-no_heads bank s (LolliView x y) a w l i f = absurd (l x y refl)
-no_heads bank s (ImpView x y) a w l i f = absurd (i x y refl)
-no_heads bank s (ForallView x) a w l i f = absurd (f x refl)
-no_heads bank s (ExistsView x) a w l i f = refl
-no_heads bank s (UseView m ts x) a w l i f = refl
-no_heads bank s (IsView x y) a w l i f = refl
-no_heads bank s (LessView x y) a w l i f = refl
-no_heads bank s (MostView x y) a w l i f = refl
+pub no_heads : (bank : Nodes) (v : FormNode) → ((a : At) → v ≡ AtomView a → ⊥) → ((f g : FormAt) → v ≡ WithView f g → ⊥) → ((f g : FormAt) → v ≡ LolliView f g → ⊥)
+    → ((f g : FormAt) → v ≡ ImpView f g → ⊥) → ((f : FormAt) → v ≡ ForallView f → ⊥) → heads (form_of bank v) ≡ []
+no_heads bank TopView a w l i f = refl
+no_heads bank OneView a w l i f = refl
+no_heads bank (AtomView t) a w l i f = absurd (a t refl)
+no_heads bank (WithView x y) a w l i f = absurd (w x y refl)
+no_heads bank (TensorView x y) a w l i f = refl
+no_heads bank (PlusView x y) a w l i f = refl
+no_heads bank (BangView x) a w l i f = refl
+no_heads bank (LolliView x y) a w l i f = absurd (l x y refl)
+no_heads bank (ImpView x y) a w l i f = absurd (i x y refl)
+no_heads bank (ForallView x) a w l i f = absurd (f x refl)
+no_heads bank (ExistsView x) a w l i f = refl
+no_heads bank (UseView m ts x) a w l i f = refl
+no_heads bank (IsView x y) a w l i f = refl
+no_heads bank (LessView x y) a w l i f = refl
+no_heads bank (MostView x y) a w l i f = refl
 
 -- without its last one, each of a list is as before
 pub All-front : {A : Type 0} (P : A → Type 0) (xs : List A) (x : A) → All P (xs ++ x ∷ []) → All P xs

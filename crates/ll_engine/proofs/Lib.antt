@@ -1,5 +1,6 @@
 pub mod ReadLemmas
-pub mod ReboundLemmas
+pub mod Standing
+pub mod UnifyLemmas
 pub mod CandidateLemmas
 pub mod LeafLemmas
 pub mod OpeningLemmas
@@ -8,6 +9,7 @@ pub mod TakeLemmas
 pub mod StepLemmas
 pub mod WayLemmas
 pub mod MachineLemmas
+pub mod Keeping
 mod Owing
 mod Forks
 mod Turns
@@ -20,6 +22,5 @@ mod Settling
 mod Quantifying
 mod Loading
 pub mod TakingLemmas
-pub mod UnifiedLemmas
 pub mod TakenLemmas
 mod NumberLemmas

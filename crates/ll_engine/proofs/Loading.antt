@@ -28,7 +28,7 @@ use Rattle.ll_laws.proofs.ConsistentStates.{grows_given}
 use Rattle.ll_laws.proofs.ConsistentSteps.{module-fits}
 use Rattle.ll_laws.proofs.Grounding.{unfold_sub}
 use Rattle.ll_modules.specs.Loads.{arguments_env, AreClosed, MayLoad}
-use Rattle.ll_freeze.specs.declared.machine.Machine.{Machine}
+use Rattle.ll_freeze.specs.Parts.{Parts}
 use Rattle.ll_freeze.specs.declared.machine.Item.{Item}
 use Rattle.ll_freeze.specs.declared.machine.Item.TheVariants.{Goal}
 use Rattle.ll_freeze.specs.Reading.{reading}
@@ -85,23 +85,23 @@ all_closed may (t ∷ ts) h = All-cons (λ (t : Term). places_below 0 t ≡ true
 
 -- ---- a load in front
 
-module _ (m : Machine) (g body : FormAt) (k : ℕ) (args : List At) (rest : List Item) (f : Fits m) (e1 : items_of m ≡ Goal g ∷ rest)
+module _ (m : Parts) (g body : FormAt) (k : ℕ) (args : List At) (rest : List Item) (f : Fits m) (e1 : items_of m ≡ Goal g ∷ rest)
     (e2 : form_tree m.bank g.0 ≡ Use k (term_trees m.bank args) (form_tree m.bank body.0)) where
   -- it names a module
-  pub is_known : k < length m.modules.now
+  pub is_known : k < length m.modules
   is_known =
       let h = goal_fits m g rest (Use k (term_trees m.bank args) (form_tree m.bank body.0)) f e1 e2 in
-      let l = known_module m.problem.now.modules k (term_trees m.bank args) h.1 in
-      let n : length m.modules.now ≡ length m.problem.now.modules =
-      sym (length-map m.modules.now (module_tree m.bank)) ∙ ap (λ (ms : List ModuleTree). length ms) f.modules in
+      let l = known_module m.problem.modules k (term_trees m.bank args) h.1 in
+      let n : length m.modules ≡ length m.problem.modules =
+      sym (length-map m.modules (module_tree m.bank)) ∙ ap (λ (ms : List ModuleTree). length ms) f.modules in
       omega (arith, l, n)
 
-  module _ (d : Module) (i : d ≡ slice_index_or m.modules.now k d) where
-    e : slice_get m.modules.now k ≡ Some d
-    e = found_at m.modules.now k d d is_known i
+  module _ (d : Module) (i : d ≡ slice_index_or m.modules k d) where
+    e : slice_get m.modules k ≡ Some d
+    e = found_at m.modules k d d is_known i
 
-    tree_is : slice_get m.problem.now.modules k ≡ Some (module_tree m.bank d)
-    tree_is = ap (λ ms. slice_get ms k) (sym f.modules) ∙ tree_at m.bank m.modules.now k d e
+    tree_is : slice_get m.problem.modules k ≡ Some (module_tree m.bank d)
+    tree_is = ap (λ ms. slice_get ms k) (sym f.modules) ∙ tree_at m.bank m.modules k d e
 
     count_is : length (term_trees m.bank args) ≡ d.params
     count_is =
@@ -110,9 +110,9 @@ module _ (m : Machine) (g body : FormAt) (k : ℕ) (args : List At) (rest : List
 
     fits_load : FormFits (allowed m) GoalSide [] (unfold_load (module_tree m.bank d) (term_trees m.bank args) (form_tree m.bank body.0))
     fits_load =
-        let h = goal_fits m g rest (Use k (term_trees m.bank args) (form_tree m.bank body.0)) f e1 e2 in let ms = m.problem.now.modules in
-        let low : 0 ≤ length m.levels.items = omega arith in
-        let cf = module-fits (length m.problem.now.names) ms ms (allowed m) k (module_tree m.bank d) (grows_given ms 0 (length m.levels.items) m.eigens low) f.valid.modules tree_is in
+        let h = goal_fits m g rest (Use k (term_trees m.bank args) (form_tree m.bank body.0)) f e1 e2 in let ms = m.problem.modules in
+        let low : 0 ≤ length m.levels = omega arith in
+        let cf = module-fits (length m.problem.names) ms ms (allowed m) k (module_tree m.bank d) (grows_given ms 0 (length m.levels) m.eigens low) f.valid.modules tree_is in
         unfold_load-fits (allowed m) (module_tree m.bank d) (term_trees m.bank args) (form_tree m.bank body.0) refl cf count_is h.2 h.3
 
     -- with as many arguments as parameters, closed, and clauses that may be loaded
@@ -123,7 +123,7 @@ module _ (m : Machine) (g body : FormAt) (k : ℕ) (args : List At) (rest : List
     use_closed = all_closed (allowed m) (term_trees m.bank args) (goal_fits m g rest (Use k (term_trees m.bank args) (form_tree m.bank body.0)) f e1 e2).2
 
     pub use_clauses : HasClauses m.bank d.clauses.items
-    use_clauses = clauses_at m.bank m.modules.now k d e f.has_modules
+    use_clauses = clauses_at m.bank m.modules k d e f.has_modules
 
     pub use_heads : MayLoad m.bank d.clauses.items (term_trees m.bank args)
     use_heads =
@@ -132,17 +132,17 @@ module _ (m : Machine) (g body : FormAt) (k : ℕ) (args : List At) (rest : List
         (forall_heads_of d.locals (load_all env (map (clause_tree m.bank) d.clauses.items) (form_tree m.bank body.0))
         (fits_apply (allowed m) GoalSide [] (unfold_load (module_tree m.bank d) (term_trees m.bank args) (form_tree m.bank body.0)) fits_load))
 
-    pub use_row : (new : Machine) (c : Candidate) → Loads m d args body rest new → Infers m c new
+    pub use_row : (new : Parts) (c : Candidate) → Loads m d args body rest new → Infers m c new
     use_row new c w =
-        let o = w.opens in let t = module_tree m.bank d in let ts = term_trees m.bank args in let p = form_tree m.bank body.0 in let s = reading m.bank m.bound.items in
-        let ms = m.problem.now.modules in let x = w.eigens in
-        let n : length new.levels.items ≡ length m.levels.items = ap (λ (ls : List ℕ). length ls) w.levels in
+        let o = w.opens in let t = module_tree m.bank d in let ts = term_trees m.bank args in let p = form_tree m.bank body.0 in let s = reading m.bank m.bound in
+        let ms = m.problem.modules in let x = w.eigens in
+        let n : length new.levels ≡ length m.levels = ap (λ (ls : List ℕ). length ls) w.levels in
         let grows : Grows (allowed m) (allowed new) =
         record { modules = ap (λ (q : ProblemTree). q.modules) (sym o.problem); variables = omega (arith, n); eigens = omega (arith, x); opens = λ h. h } in
         let sorted = formula-more (allowed m) (allowed new) GoalSide (unfold_load t ts p) grows (formula_of_fits (allowed m) GoalSide [] (unfold_load t ts p) fits_load) in
-        let cf = module-fits (length m.problem.now.names) ms ms (given ms 0) k t (grows-refl (given ms 0)) f.valid.modules tree_is in
+        let cf = module-fits (length m.problem.names) ms ms (given ms 0) k t (grows-refl (given ms 0)) f.valid.modules tree_is in
         still m new g rest c (unfold_load t ts p) f e1 o w.bound w.levels w.terms (omega (arith, x)) (omega (arith, x)) sorted
         (attempt_by m g rest c (Use k ts p) e1 e2
-        ∙ (ap (λ o. load_module (at_goal m g rest) (map (shown_item m.bank m.bound.items m.context.present.kept) rest) (map (sub s) ts) (sub_form s p) o) tree_is
+        ∙ (ap (λ o. load_module (at_goal m g rest) (map (shown_item m.bank m.bound m.resources.kept) rest) (map (sub s) ts) (sub_form s p) o) tree_is
         ∙ (ap (λ h. Some (still_state m h rest m.eigens)) (sym (unfold_sub s (closing m f) ms (module_scope t) t ts p cf))
         ∙ ap (λ e. Some (still_state m (sub_form s (unfold_load t ts p)) rest e)) (sym x))))

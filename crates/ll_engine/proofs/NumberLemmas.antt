@@ -27,12 +27,10 @@ use Rattle.ll_laws.proofs.ConsistentForms.{fits_of_formula}
 use Rattle.ll_laws.proofs.ConsistentSteps.{steps_consistent}
 use Rattle.ll_agenda.specs.declared.agenda.Top.{Top as AgendaTop}
 use Rattle.ll_agenda.specs.Frames.{HasTop, items_at}
-use Rattle.ll_resources.specs.History.{History}
 use Rattle.ll_resources.specs.Resources.{Resources}
-use Rattle.ll_freeze.specs.declared.machine.Machine.{Machine}
+use Rattle.ll_freeze.specs.Parts.{Parts, table}
 use Rattle.ll_freeze.specs.declared.machine.Item.{Item}
 use Rattle.ll_freeze.specs.declared.machine.Item.TheVariants.{Goal}
-use Rattle.ll_engine.specs.declared.take.Unified.{Unified}
 use Rattle.ll_freeze.specs.Reading.{reading, read_term, HasValue}
 use Rattle.ll_freeze.specs.Shown.{shown_item, shown_entry, items_of, state_of}
 use Rattle.ll_freeze.specs.Fits.{Fits, HasItem, IsGoalIn, allowed, setting}
@@ -42,82 +40,84 @@ use Rattle.ll_engine.specs.Numbers.{tested}
 use Rattle.ll_engine.specs.declared.numbers.Values.{Values}
 use Rattle.ll_engine.specs.Front.{IsFront}
 use Rattle.ll_engine.specs.Rows.{GoesOn}
-use Rattle.ll_engine.proofs.ReadLemmas.{reading_same, read_same}
+use Rattle.ll_bindings.specs.Bindings.{Table, IsTable, IsOrdered, IsPlaceOf}
+use Rattle.ll_bindings.proofs.CallerLemmas.{table-extends, place-extends, place-below}
+use Rattle.ll_engine.proofs.ReadLemmas.{reading_same, read_same, length_variables, values_extend, table_values, fits_table, ordered_extends}
 use Rattle.ll_engine.proofs.LaterLemmas.{items_later, entries_later, terms_later}
 use Rattle.ll_engine.proofs.MachineLemmas.{goal_in_front}
 use Rattle.ll_freeze.proofs.CallerLemmas.{modules_later, modules_has}
 use Rattle.ll_engine.proofs.Rowing.{at_goal, attempt_by, rest_items, rest_goals}
 use Rattle.ll_engine.proofs.Quantifying.{items_stay, entries_stay, terms_stay, clauses_stay, goals_stay, item_has}
 use Rattle.ll_engine.proofs.TakingLemmas.{allowed_shown, term_count}
-use Rattle.ll_engine.proofs.UnifiedLemmas.{length_variables}
 
 -- a goal went: the later machine has the rest of the agenda, after one step more, and may have other bindings
-pub record Went (old : Machine) (rest : List Item) (new : Machine) : Type 0 where
-  pub problem : new.problem.now ≡ old.problem.now
-  pub modules : new.modules.now ≡ old.modules.now
-  pub context : new.context.present ≡ old.context.present
+pub record Went (old : Parts) (rest : List Item) (new : Parts) : Type 0 where
+  pub problem : new.problem ≡ old.problem
+  pub modules : new.modules ≡ old.modules
+  pub resources : new.resources ≡ old.resources
   pub bank : Extends old.bank new.bank
-  pub count : length new.bound.items ≡ length old.levels.items
-  pub inside : All (HasValue new.bank) new.bound.items
-  pub terms : new.terms.items ≡ old.terms.items
+  pub count : length new.bound ≡ length old.levels
+  pub inside : All (HasValue new.bank) new.bound
+  pub ordered : IsOrdered new.bank (table new)
+  pub terms : new.terms ≡ old.terms
   pub eigens : new.eigens ≡ old.eigens
   pub top : HasTop new.agenda new.top
   pub items : items_of new ≡ rest
-  pub steps : new.steps.items ≡ old.steps.items ++ Plain ∷ []
+  pub steps : new.steps ≡ old.steps ++ Plain ∷ []
   pub left : suc new.left ≡ old.left
 
 -- what is left of the agenda, as it is shown
-abbrev pub behind : Machine → List Item → List (ItemOf Form)
-behind m rest = map (shown_item m.bank m.bound.items m.context.present.kept) rest
+abbrev pub behind : Parts → List Item → List (ItemOf Form)
+behind m rest = map (shown_item m.bank m.bound m.resources.kept) rest
 
 -- then the inference is the one that gives its state
-infers : (old new : Machine) (g : FormAt) (rest : List Item) (c : Candidate) → Fits old → items_of old ≡ Goal g ∷ rest → Went old rest new
+infers : (old new : Parts) (g : FormAt) (rest : List Item) (c : Candidate) → Fits old → items_of old ≡ Goal g ∷ rest → Went old rest new
     → attempt (setting old) (state_of old) c ≡ Some (state_of new) → Infers old c new
 infers old new g rest c f e o gives =
     record { gives = gives; problem = o.problem; left = o.left; fits = fits }
   where
     kept : ℕ
-    kept = length old.context.present.kept
+    kept = length old.resources.kept
 
-    items : All (HasItem old.bank (length old.context.present.kept)) rest
+    items : All (HasItem old.bank (length old.resources.kept)) rest
     items = rest_items old g rest f e
 
     consistent : IsConsistent (setting new) (state_of new)
     consistent =
         subst (λ (p : ProblemTree). IsConsistent (setting_of p) (state_of new)) (sym o.problem)
-        (steps_consistent (length old.problem.now.names) (setting old) (state_of old) (state_of new) c f.valid.modules f.consistent gives)
+        (steps_consistent (length old.problem.names) (setting old) (state_of old) (state_of new) c f.valid.modules f.consistent gives)
 
-    levels : length new.levels.items ≡ length old.levels.items
+    levels : length new.levels ≡ length old.levels
     levels =
         sym (term_count new consistent)
-        ∙ (ap (λ (ats : List At). length ats) o.terms ∙ length_variables old.bank old.terms.items (length old.levels.items) f.variables)
+        ∙ (ap (λ (ats : List At). length ats) o.terms ∙ length_variables old.bank old.terms (length old.levels) f.variables)
 
     may : allowed old ≡ allowed new
     may = λ i. record { modules = (setting_of (sym o.problem i)).modules; variables = sym levels i; eigens = sym o.eigens i; opens = true }
 
-    clauses : All (λ e. HasForm new.bank e.clause.0) old.context.present.entries
+    clauses : All (λ e. HasForm new.bank e.clause.0) old.resources.entries
     clauses =
         All-weaker (λ (e : Entry FormAt). HasForm old.bank e.clause.0) (λ (e : Entry FormAt). HasForm new.bank e.clause.0)
-        (λ e h. HasForm-extends o.bank e.clause.0 h) old.context.present.entries f.clauses
+        (λ e h. HasForm-extends o.bank e.clause.0 h) old.resources.entries f.clauses
 
-    sorted : All (λ e. IsFormula (allowed old) ClauseSide [] (form_tree new.bank e.clause.0)) old.context.present.entries
+    sorted : All (λ e. IsFormula (allowed old) ClauseSide [] (form_tree new.bank e.clause.0)) old.resources.entries
     sorted =
-        clauses_stay old.bank new.bank (allowed old) (allowed old) o.bank (grows-refl (allowed old)) old.context.present.entries f.clauses
+        clauses_stay old.bank new.bank (allowed old) (allowed old) o.bank (grows-refl (allowed old)) old.resources.entries f.clauses
         f.sorted_clauses
 
     goals : All (IsGoalIn (allowed old) new.bank) rest
     goals =
-        goals_stay old.bank new.bank (allowed old) (allowed old) o.bank (grows-refl (allowed old)) (length old.context.present.kept) rest items
+        goals_stay old.bank new.bank (allowed old) (allowed old) o.bank (grows-refl (allowed old)) (length old.resources.kept) rest items
         (rest_goals old g rest f e)
 
-    inside : All (HasItem new.bank (length old.context.present.kept)) rest
+    inside : All (HasItem new.bank (length old.resources.kept)) rest
     inside =
-        All-weaker (HasItem old.bank (length old.context.present.kept)) (HasItem new.bank (length old.context.present.kept))
-        (λ i h. item_has old.bank new.bank (allowed old) (allowed old) o.bank (grows-refl (allowed old)) (length old.context.present.kept) i h)
+        All-weaker (HasItem old.bank (length old.resources.kept)) (HasItem new.bank (length old.resources.kept))
+        (λ i h. item_has old.bank new.bank (allowed old) (allowed old) o.bank (grows-refl (allowed old)) (length old.resources.kept) i h)
         rest items
 
-    next : new.context.present.next ≡ old.context.present.next
-    next = ap (λ (p : Resources FormAt). p.next) o.context
+    next : new.resources.next ≡ old.resources.next
+    next = ap (λ (p : Resources FormAt). p.next) o.resources
 
     fits : Fits new
     fits = record {
@@ -125,124 +125,131 @@ infers old new g rest c f e o gives =
       consistent = consistent;
       count = o.count ∙ sym levels;
       bound = o.inside;
-      terms = subst (AllInTerms new.bank) (sym o.terms) (AllInTerms-extends o.bank old.terms.items f.terms);
+      ordered = o.ordered;
+      terms = subst (AllInTerms new.bank) (sym o.terms) (AllInTerms-extends o.bank old.terms f.terms);
       variables =
           ap (term_trees new.bank) o.terms
-          ∙ (term_trees-extends o.bank old.terms.items f.terms ∙ (f.variables ∙ ap (vars_from 0) (sym levels)));
-      clauses = subst (λ (r : Resources FormAt). All (λ e. HasForm new.bank e.clause.0) r.entries) (sym o.context) clauses;
+          ∙ (term_trees-extends o.bank old.terms f.terms ∙ (f.variables ∙ ap (vars_from 0) (sym levels)));
+      clauses = subst (λ (r : Resources FormAt). All (λ e. HasForm new.bank e.clause.0) r.entries) (sym o.resources) clauses;
       sorted_clauses =
-          subst (λ (r : Resources FormAt). All (λ e. IsFormula (allowed new) ClauseSide [] (form_tree new.bank e.clause.0)) r.entries) (sym o.context)
-          (subst (λ k. All (λ (e : Entry FormAt). IsFormula k ClauseSide [] (form_tree new.bank e.clause.0)) old.context.present.entries) may sorted);
+          subst (λ (r : Resources FormAt). All (λ e. IsFormula (allowed new) ClauseSide [] (form_tree new.bank e.clause.0)) r.entries) (sym o.resources)
+          (subst (λ k. All (λ (e : Entry FormAt). IsFormula k ClauseSide [] (form_tree new.bank e.clause.0)) old.resources.entries) may sorted);
       sorted_goals = subst (λ (xs : List Item). All (IsGoalIn (allowed new) new.bank) xs) (sym o.items)
           (subst (λ k. All (IsGoalIn k new.bank) rest) may goals);
-      has_modules = rw o.modules (modules_has old.bank new.bank old.modules.now o.bank f.has_modules);
-      modules = rw (o.problem, o.modules) (modules_later old.bank new.bank old.modules.now o.bank f.has_modules ∙ f.modules);
+      has_modules = rw o.modules (modules_has old.bank new.bank old.modules o.bank f.has_modules);
+      modules = rw (o.problem, o.modules) (modules_later old.bank new.bank old.modules o.bank f.has_modules ∙ f.modules);
       top = o.top;
-      items = subst (λ (xs : List Item). All (HasItem new.bank (length new.context.present.kept)) xs) (sym o.items)
-          (subst (λ (r : Resources FormAt). All (HasItem new.bank (length r.kept)) rest) (sym o.context) inside);
+      items = subst (λ (xs : List Item). All (HasItem new.bank (length new.resources.kept)) xs) (sym o.items)
+          (subst (λ (r : Resources FormAt). All (HasItem new.bank (length r.kept)) rest) (sym o.resources) inside);
       labels = (let a = next in let b = o.left in let d = f.labels in omega arith);
       eigens = (let a = o.eigens in let b = o.left in let d = f.eigens in omega arith);
     }
 
 -- with the bindings that were there, the state has lost its goal
-state_went : (old new : Machine) (g : FormAt) (rest : List Item) → Fits old → items_of old ≡ Goal g ∷ rest → Went old rest new
-    → new.bound.items ≡ old.bound.items → new.levels.items ≡ old.levels.items → stepped (at_goal old g rest) (behind old rest) Plain ≡ state_of new
+state_went : (old new : Parts) (g : FormAt) (rest : List Item) → Fits old → items_of old ≡ Goal g ∷ rest → Went old rest new
+    → new.bound ≡ old.bound → new.levels ≡ old.levels → stepped (at_goal old g rest) (behind old rest) Plain ≡ state_of new
 unfolding state_of
 state_went old new g rest f e o bound levels = λ i. record {
   agenda = agenda i;
   context = context i;
-  flag = (sym o.context i).flag;
+  flag = (sym o.resources i).flag;
   levels = sym levels i;
   eigens = sym o.eigens i;
   terms = terms i;
-  label = (sym o.context i).next;
+  label = (sym o.resources i).next;
   steps = sym o.steps i;
 }
   where
-    reads : (x : ℕ) → reading new.bank new.bound.items x ≡ reading old.bank old.bound.items x
-    reads x = ap (λ xs. reading new.bank xs x) bound ∙ reading_same old.bank new.bank o.bank old.bound.items f.bound x
+    reads : (x : ℕ) → reading new.bank new.bound x ≡ reading old.bank old.bound x
+    reads x = ap (λ xs. reading new.bank xs x) bound ∙ reading_same old.bank new.bank o.bank old.bound f.bound x
 
-    agenda : behind old rest ≡ map (shown_item new.bank new.bound.items new.context.present.kept) (items_of new)
+    agenda : behind old rest ≡ map (shown_item new.bank new.bound new.resources.kept) (items_of new)
     agenda =
-        sym (items_stay old.bank new.bank old.bound.items new.bound.items o.bank reads old.context.present.kept
-        (length old.context.present.kept) rest (rest_items old g rest f e))
-        ∙ (λ i. map (shown_item new.bank new.bound.items (sym o.context i).kept) (sym o.items i))
+        sym (items_stay old.bank new.bank old.bound new.bound o.bank reads old.resources.kept
+        (length old.resources.kept) rest (rest_items old g rest f e))
+        ∙ (λ i. map (shown_item new.bank new.bound (sym o.resources i).kept) (sym o.items i))
 
-    context : map (shown_entry old.bank old.bound.items) old.context.present.entries ≡ map (shown_entry new.bank new.bound.items) new.context.present.entries
+    context : map (shown_entry old.bank old.bound) old.resources.entries ≡ map (shown_entry new.bank new.bound) new.resources.entries
     context =
-        sym (entries_stay old.bank new.bank old.bound.items new.bound.items o.bank reads old.context.present.entries f.clauses)
-        ∙ (λ i. map (shown_entry new.bank new.bound.items) (sym o.context i).entries)
+        sym (entries_stay old.bank new.bank old.bound new.bound o.bank reads old.resources.entries f.clauses)
+        ∙ (λ i. map (shown_entry new.bank new.bound) (sym o.resources i).entries)
 
-    terms : map (read_term old.bank old.bound.items) old.terms.items ≡ map (read_term new.bank new.bound.items) new.terms.items
+    terms : map (read_term old.bank old.bound) old.terms ≡ map (read_term new.bank new.bound) new.terms
     terms =
-        sym (terms_stay old.bank new.bank old.bound.items new.bound.items o.bank reads old.terms.items f.terms)
-        ∙ ap (map (read_term new.bank new.bound.items)) (sym o.terms)
+        sym (terms_stay old.bank new.bank old.bound new.bound o.bank reads old.terms f.terms)
+        ∙ ap (map (read_term new.bank new.bound)) (sym o.terms)
 
 -- with more bindings, it stands under the substitution between, too
-state_bound : (old new : Machine) (g : FormAt) (rest : List Item) (v : Solved) → Fits old → items_of old ≡ Goal g ∷ rest → Went old rest new
-    → ((x : ℕ) → reading new.bank new.bound.items x ≡ sub v.subst (reading old.bank old.bound.items x)) → new.levels.items ≡ v.levels
+state_bound : (old new : Parts) (g : FormAt) (rest : List Item) (v : Solved) → Fits old → items_of old ≡ Goal g ∷ rest → Went old rest new
+    → ((x : ℕ) → reading new.bank new.bound x ≡ sub v.subst (reading old.bank old.bound x)) → new.levels ≡ v.levels
     → instantiated (stepped (at_goal old g rest) (behind old rest) Plain) v ≡ state_of new
 unfolding state_of
 state_bound old new g rest v f e o reads levels = λ i. record {
   agenda = agenda i;
   context = context i;
-  flag = (sym o.context i).flag;
+  flag = (sym o.resources i).flag;
   levels = sym levels i;
   eigens = sym o.eigens i;
   terms = terms i;
-  label = (sym o.context i).next;
+  label = (sym o.resources i).next;
   steps = sym o.steps i;
 }
   where
-    agenda : map (sub_item v.subst) (behind old rest) ≡ map (shown_item new.bank new.bound.items new.context.present.kept) (items_of new)
+    agenda : map (sub_item v.subst) (behind old rest) ≡ map (shown_item new.bank new.bound new.resources.kept) (items_of new)
     agenda =
-        sym (items_later old.bank new.bank old.bound.items new.bound.items v.subst o.bank reads old.context.present.kept
-        (length old.context.present.kept) rest (rest_items old g rest f e))
-        ∙ (λ i. map (shown_item new.bank new.bound.items (sym o.context i).kept) (sym o.items i))
+        sym (items_later old.bank new.bank old.bound new.bound v.subst o.bank reads old.resources.kept
+        (length old.resources.kept) rest (rest_items old g rest f e))
+        ∙ (λ i. map (shown_item new.bank new.bound (sym o.resources i).kept) (sym o.items i))
 
-    context : map (sub_entry v.subst) (map (shown_entry old.bank old.bound.items) old.context.present.entries)
-        ≡ map (shown_entry new.bank new.bound.items) new.context.present.entries
+    context : map (sub_entry v.subst) (map (shown_entry old.bank old.bound) old.resources.entries)
+        ≡ map (shown_entry new.bank new.bound) new.resources.entries
     context =
-        sym (entries_later old.bank new.bank old.bound.items new.bound.items v.subst o.bank reads old.context.present.entries f.clauses)
-        ∙ (λ i. map (shown_entry new.bank new.bound.items) (sym o.context i).entries)
+        sym (entries_later old.bank new.bank old.bound new.bound v.subst o.bank reads old.resources.entries f.clauses)
+        ∙ (λ i. map (shown_entry new.bank new.bound) (sym o.resources i).entries)
 
-    terms : map (sub v.subst) (map (read_term old.bank old.bound.items) old.terms.items) ≡ map (read_term new.bank new.bound.items) new.terms.items
+    terms : map (sub v.subst) (map (read_term old.bank old.bound) old.terms) ≡ map (read_term new.bank new.bound) new.terms
     terms =
-        sym (terms_later old.bank new.bank old.bound.items new.bound.items v.subst o.bank reads old.terms.items f.terms)
-        ∙ ap (map (read_term new.bank new.bound.items)) (sym o.terms)
+        sym (terms_later old.bank new.bank old.bound new.bound v.subst o.bank reads old.terms f.terms)
+        ∙ ap (map (read_term new.bank new.bound)) (sym o.terms)
 
 -- a goal went, as a machine went on without it
-pub goes : (m mid new : Machine) (rest : List Item) → mid.problem.now ≡ m.problem.now → mid.modules.now ≡ m.modules.now → mid.context ≡ m.context
-    → Extends m.bank mid.bank → length mid.bound.items ≡ length m.levels.items → All (HasValue mid.bank) mid.bound.items → mid.terms.items ≡ m.terms.items
-    → mid.eigens ≡ m.eigens → mid.steps.items ≡ m.steps.items → mid.left ≡ m.left → GoesOn mid [] rest Plain new → Went m rest new
-goes m mid new rest problem modules context bank count inside terms eigens steps left go =
-    let place : new.bank ≡ mid.bank = ap (λ (x : Machine). x.bank) go.same in
-    let values : new.bound.items ≡ mid.bound.items = ap (λ (x : Machine). x.bound.items) go.same in
+pub goes : (m mid new : Parts) (rest : List Item) → mid.problem ≡ m.problem → mid.modules ≡ m.modules → mid.resources ≡ m.resources
+    → Extends m.bank mid.bank → length mid.bound ≡ length m.levels → All (HasValue mid.bank) mid.bound → IsOrdered mid.bank (table mid) → mid.terms ≡ m.terms
+    → mid.eigens ≡ m.eigens → mid.steps ≡ m.steps → mid.left ≡ m.left → GoesOn mid [] rest Plain new → Went m rest new
+goes m mid new rest problem modules resources bank count inside ordered terms eigens steps left go =
+    let place : new.bank ≡ mid.bank = ap (λ (x : Parts). x.bank) go.same in
+    let values : new.bound ≡ mid.bound = ap (λ (x : Parts). x.bound) go.same in
     record {
-      problem = ap (λ (x : Machine). x.problem.now) go.same ∙ problem;
-      modules = ap (λ (x : Machine). x.modules.now) go.same ∙ modules;
-      context = ap (λ (x : Machine). x.context.present) go.same ∙ ap (λ (h : History FormAt). h.present) context;
+      problem = ap (λ (x : Parts). x.problem) go.same ∙ problem;
+      modules = ap (λ (x : Parts). x.modules) go.same ∙ modules;
+      resources = ap (λ (x : Parts). x.resources) go.same ∙ resources;
       bank = subst (Extends m.bank) (sym place) bank;
       count = ap (λ (xs : List (Option At)). length xs) values ∙ count;
-      inside = subst (All (HasValue new.bank)) (sym values) (subst (λ b. All (HasValue b) mid.bound.items) (sym place) inside);
-      terms = ap (λ (x : Machine). x.terms.items) go.same ∙ terms;
-      eigens = ap (λ (x : Machine). x.eigens) go.same ∙ eigens;
+      inside = subst (All (HasValue new.bank)) (sym values) (subst (λ b. All (HasValue b) mid.bound) (sym place) inside);
+      ordered = subst (λ (x : Parts). IsOrdered x.bank (table x)) (sym go.same) ordered;
+      terms = ap (λ (x : Parts). x.terms) go.same ∙ terms;
+      eigens = ap (λ (x : Parts). x.eigens) go.same ∙ eigens;
       top = go.top;
       items = go.items;
       steps = go.steps ∙ ap (λ (ss : List Step). ss ++ Plain ∷ []) steps;
       left = go.left ∙ left;
     }
 
--- what a machine's bindings make of an expression has the value that was found
-pub value_is : (m : Machine) (at : At) (found : Option ℤ) (names : List (List ℕ)) (bound : List (Option At)) → names ≡ m.problem.now.names → bound ≡ m.bound.items
-    → found ≡ value_of (operators_of names) (read_term m.bank bound at) → value_of (setting m).operators (read_term m.bank m.bound.items at) ≡ found
-value_is m at found names bound n b e = sym (e ∙ (λ i. value_of (operators_of (n i)) (read_term m.bank (b i) at)))
+-- and in particular with the cells that it had
+pub goes_same : (m mid new : Parts) (rest : List Item) → Fits m → mid.problem ≡ m.problem → mid.modules ≡ m.modules → mid.resources ≡ m.resources
+    → Extends m.bank mid.bank → table mid ≡ table m → mid.terms ≡ m.terms → mid.eigens ≡ m.eigens → mid.steps ≡ m.steps → mid.left ≡ m.left
+    → GoesOn mid [] rest Plain new → Went m rest new
+goes_same m mid new rest f problem modules resources bank cells terms eigens steps left go =
+    let values : mid.bound ≡ m.bound = ap (λ (t : Table). t.bound) cells in
+    goes m mid new rest problem modules resources bank (ap (λ (xs : List (Option At)). length xs) values ∙ f.count)
+    (subst (All (HasValue mid.bank)) (sym values) (values_extend m.bank mid.bank bank m.bound f.bound))
+    (subst (λ (t : Table). IsOrdered mid.bank t) (sym cells) (ordered_extends m mid.bank f bank)) terms eigens steps left go
 
 -- a value stays that of an expression as the bank grows
-pub value_kept : (names : List (List ℕ)) (old new : Nodes) → Extends old new → (bound : List (Option At)) → All (HasValue old) bound → (at : At) → HasTerm old at.0
-    → (found : Option ℤ) → found ≡ value_of (operators_of names) (read_term new bound at) → value_of (operators_of names) (read_term old bound at) ≡ found
-value_kept names old new keeps bound has at inside found e =
-    sym (e ∙ ap (value_of (operators_of names)) (read_same old new keeps bound has at.0 inside))
+pub value_kept : (names : List (List ℕ)) (old new : Nodes) (t : Table) → IsTable old t → Extends old new → (at : At) → HasTerm old at.0
+    → (found : Option ℤ) → found ≡ value_of (operators_of names) (read_term new t.bound at) → value_of (operators_of names) (read_term old t.bound at) ≡ found
+value_kept names old new t is keeps at inside found e =
+    sym (e ∙ ap (value_of (operators_of names)) (read_same old new keeps t.bound (table_values old t.bound is.places) at.0 inside))
 
 -- a test fails where the second value lacks, and is that of the values where both are there
 pub second_lacks : (test : ℤ → ℤ → Bool) (a b : Option ℤ) → b ≡ None → false ≡ compared test a b
@@ -256,10 +263,10 @@ pub both_values : (test : ℤ → ℤ → Bool) (x y : ℤ) (a b : Option ℤ) �
     → test (to_z w64 (of_z w64 x)) (to_z w64 (of_z w64 y)) ≡ compared test a b
 both_values test x y a b f g e1 e2 = (λ i. test (to_z-of_z w64 x f i) (to_z-of_z w64 y g i)) ∙ (λ i. compared test (sym e1 i) (sym e2 i))
 
-module _ (m : Machine) (r : Relation) (left right : At) (rest : AgendaTop) (f : Fits m) (view : FormNode) (h : IsFront m view rest)
+module _ (m : Parts) (r : Relation) (left right : At) (rest : AgendaTop) (f : Fits m) (view : FormNode) (h : IsFront m view rest)
     (tree : form_of m.bank view ≡ Num r (term_tree m.bank left.0) (term_tree m.bank right.0)) where
   abbrev shown : At → Term
-  shown at = read_term m.bank m.bound.items at
+  shown at = read_term m.bank m.bound at
 
   -- an inference on the goal
   step : (c : Candidate) → attempt (setting m) (state_of m) c
@@ -268,29 +275,45 @@ module _ (m : Machine) (r : Relation) (left right : At) (rest : AgendaTop) (f : 
       attempt_by m h.goal (items_at m.agenda rest) c (Num r (term_tree m.bank left.0) (term_tree m.bank right.0)) h.list (h.seen.tree ∙ tree)
 
   -- the left side has no variable but those that there are
-  pub left_below : vars_below (length m.levels.items) (shown left) ≡ true
+  pub left_below : vars_below (length m.levels) (shown left) ≡ true
   left_below =
-      let is = subst (λ g. IsFormula (allowed_in (setting m) (state_of m)) GoalSide [] (sub_form (reading m.bank m.bound.items) g)) (h.seen.tree ∙ tree)
+      let is = subst (λ g. IsFormula (allowed_in (setting m) (state_of m)) GoalSide [] (sub_form (reading m.bank m.bound) g)) (h.seen.tree ∙ tree)
       (goal_in_front m h.goal (items_at m.agenda rest) f h.list) in
       let now = subst (λ may. IsFormula may GoalSide [] (Num r (shown left) (shown right))) (allowed_shown m) is in
       fit-vars (allowed m) [] (shown left) (fits_of_formula (allowed m) GoalSide [] (Num r (shown left) (shown right)) now).1
 
+  -- a side is a place over cells of the machine
+  side_place : (at : At) → HasTerm m.bank at.0 → vars_below (length m.levels) (shown at) ≡ true → IsPlaceOf m.bank (table m) at.0
+  side_place at inside below = place-below m.bank (table m) at.0 (fits_table m f) inside below
+
+  right_below : vars_below (length m.levels) (shown right) ≡ true
+  right_below =
+      let is = subst (λ g. IsFormula (allowed_in (setting m) (state_of m)) GoalSide [] (sub_form (reading m.bank m.bound) g)) (h.seen.tree ∙ tree)
+      (goal_in_front m h.goal (items_at m.agenda rest) f h.list) in
+      let now = subst (λ may. IsFormula may GoalSide [] (Num r (shown left) (shown right))) (allowed_shown m) is in
+      fit-vars (allowed m) [] (shown right) (fits_of_formula (allowed m) GoalSide [] (Num r (shown left) (shown right)) now).2
+
+  pub left_place : HasTerm m.bank left.0 → IsPlaceOf m.bank (table m) left.0
+  left_place inside = side_place left inside left_below
+
+  pub right_place : HasTerm m.bank right.0 → IsPlaceOf m.bank (table m) right.0
+  right_place inside = side_place right inside right_below
+
 -- ---- a comparison
 
-abbrev pub test_of : Machine → At → At → (ℤ → ℤ → Bool) → Bool
+abbrev pub test_of : Parts → At → At → (ℤ → ℤ → Bool) → Bool
 test_of m left right test =
-    compared test (value_of (setting m).operators (read_term m.bank m.bound.items left)) (value_of (setting m).operators (read_term m.bank m.bound.items right))
+    compared test (value_of (setting m).operators (read_term m.bank m.bound left)) (value_of (setting m).operators (read_term m.bank m.bound right))
 
 -- what is found out of two values holds of the sides as they are read
-pub test_is : (m : Machine) (left right : At) (test : ℤ → ℤ → Bool) (found : Option Values) (names : List (List ℕ)) (bound : List (Option At)) (b : Bool)
-    → names ≡ m.problem.now.names → bound ≡ m.bound.items
-    → tested test found ≡ compared test (value_of (operators_of names) (read_term m.bank bound left)) (value_of (operators_of names) (read_term m.bank bound right))
+pub test_is : (m : Parts) (left right : At) (test : ℤ → ℤ → Bool) (found : Option Values) (names : List (List ℕ)) (b : Bool) → names ≡ m.problem.names
+    → tested test found ≡ compared test (value_of (operators_of names) (read_term m.bank m.bound left)) (value_of (operators_of names) (read_term m.bank m.bound right))
     → tested test found ≡ b → test_of m left right test ≡ b
-test_is m left right test found names bound b n e told is =
-    (λ i. compared test (value_of (operators_of (sym n i)) (read_term m.bank (sym e i) left)) (value_of (operators_of (sym n i)) (read_term m.bank (sym e i) right)))
+test_is m left right test found names b n told is =
+    (λ i. compared test (value_of (operators_of (sym n i)) (read_term m.bank m.bound left)) (value_of (operators_of (sym n i)) (read_term m.bank m.bound right)))
     ∙ (sym told ∙ is)
 
-module _ (m : Machine) (left right : At) (rest : AgendaTop) (f : Fits m) where
+module _ (m : Parts) (left right : At) (rest : AgendaTop) (f : Fits m) where
   less_step : (h : IsFront m (LessView left right) rest) (c : Candidate) → attempt (setting m) (state_of m) c
       ≡ (if test_of m left right int_lt then Some (stepped (at_goal m h.goal (items_at m.agenda rest)) (behind m (items_at m.agenda rest)) Plain) else None)
   less_step h c = step m Less left right rest f (LessView left right) h refl c
@@ -298,6 +321,18 @@ module _ (m : Machine) (left right : At) (rest : AgendaTop) (f : Fits m) where
   most_step : (h : IsFront m (MostView left right) rest) (c : Candidate) → attempt (setting m) (state_of m) c
       ≡ (if test_of m left right int_le then Some (stepped (at_goal m h.goal (items_at m.agenda rest)) (behind m (items_at m.agenda rest)) Plain) else None)
   most_step h c = step m Most left right rest f (MostView left right) h refl c
+
+  pub less_left : IsFront m (LessView left right) rest → IsPlaceOf m.bank (table m) left.0
+  less_left h = left_place m Less left right rest f (LessView left right) h refl h.seen.parts.0
+
+  pub less_right : IsFront m (LessView left right) rest → IsPlaceOf m.bank (table m) right.0
+  less_right h = right_place m Less left right rest f (LessView left right) h refl h.seen.parts.1
+
+  pub most_left : IsFront m (MostView left right) rest → IsPlaceOf m.bank (table m) left.0
+  most_left h = left_place m Most left right rest f (MostView left right) h refl h.seen.parts.0
+
+  pub most_right : IsFront m (MostView left right) rest → IsPlaceOf m.bank (table m) right.0
+  most_right h = right_place m Most left right rest f (MostView left right) h refl h.seen.parts.1
 
   pub less_fails : (c : Candidate) → IsFront m (LessView left right) rest → test_of m left right int_lt ≡ false → attempt (setting m) (state_of m) c ≡ None
   less_fails c h fails =
@@ -307,15 +342,15 @@ module _ (m : Machine) (left right : At) (rest : AgendaTop) (f : Fits m) where
   most_fails c h fails =
       most_step h c ∙ ap (λ b. if b then Some (stepped (at_goal m h.goal (items_at m.agenda rest)) (behind m (items_at m.agenda rest)) Plain) else None) fails
 
-  pub less_holds : (new : Machine) (c : Candidate) → IsFront m (LessView left right) rest → test_of m left right int_lt ≡ true → Went m (items_at m.agenda rest) new
-      → new.bound.items ≡ m.bound.items → new.levels.items ≡ m.levels.items → Infers m c new
+  pub less_holds : (new : Parts) (c : Candidate) → IsFront m (LessView left right) rest → test_of m left right int_lt ≡ true → Went m (items_at m.agenda rest) new
+      → new.bound ≡ m.bound → new.levels ≡ m.levels → Infers m c new
   less_holds new c h holds o bound levels =
       infers m new h.goal (items_at m.agenda rest) c f h.list o
       (less_step h c ∙ (ap (λ b. if b then Some (stepped (at_goal m h.goal (items_at m.agenda rest)) (behind m (items_at m.agenda rest)) Plain) else None) holds
       ∙ ap (λ (s : State). Some s) (state_went m new h.goal (items_at m.agenda rest) f h.list o bound levels)))
 
-  pub most_holds : (new : Machine) (c : Candidate) → IsFront m (MostView left right) rest → test_of m left right int_le ≡ true → Went m (items_at m.agenda rest) new
-      → new.bound.items ≡ m.bound.items → new.levels.items ≡ m.levels.items → Infers m c new
+  pub most_holds : (new : Parts) (c : Candidate) → IsFront m (MostView left right) rest → test_of m left right int_le ≡ true → Went m (items_at m.agenda rest) new
+      → new.bound ≡ m.bound → new.levels ≡ m.levels → Infers m c new
   most_holds new c h holds o bound levels =
       infers m new h.goal (items_at m.agenda rest) c f h.list o
       (most_step h c ∙ (ap (λ b. if b then Some (stepped (at_goal m h.goal (items_at m.agenda rest)) (behind m (items_at m.agenda rest)) Plain) else None) holds
@@ -323,67 +358,81 @@ module _ (m : Machine) (left right : At) (rest : AgendaTop) (f : Fits m) where
 
 -- ---- an equation with a value
 
-module _ (m : Machine) (left right : At) (rest : AgendaTop) (f : Fits m) (h : IsFront m (IsView left right) rest) where
+module _ (m : Parts) (left right : At) (rest : AgendaTop) (f : Fits m) (h : IsFront m (IsView left right) rest) where
   abbrev value : Option ℤ
-  value = value_of (setting m).operators (read_term m.bank m.bound.items right)
+  value = value_of (setting m).operators (read_term m.bank m.bound right)
 
   abbrev went : State
   went = stepped (at_goal m h.goal (items_at m.agenda rest)) (behind m (items_at m.agenda rest)) Plain
 
   is_step : (c : Candidate) → attempt (setting m) (state_of m) c
-      ≡ take_value (at_goal m h.goal (items_at m.agenda rest)) (read_term m.bank m.bound.items left) (behind m (items_at m.agenda rest)) value
+      ≡ take_value (at_goal m h.goal (items_at m.agenda rest)) (read_term m.bank m.bound left) (behind m (items_at m.agenda rest)) value
   is_step c = step m Is left right rest f (IsView left right) h refl c
 
   pub no_value : (c : Candidate) → value ≡ None → attempt (setting m) (state_of m) c ≡ None
   no_value c none =
-      is_step c ∙ ap (take_value (at_goal m h.goal (items_at m.agenda rest)) (read_term m.bank m.bound.items left) (behind m (items_at m.agenda rest))) none
+      is_step c ∙ ap (take_value (at_goal m h.goal (items_at m.agenda rest)) (read_term m.bank m.bound left) (behind m (items_at m.agenda rest))) none
+
+  -- what its value is found to be
+  pub value_is : (found : Option ℤ) (names : List (List ℕ)) → names ≡ m.problem.names → found ≡ value_of (operators_of names) (read_term m.bank m.bound right) → value ≡ found
+  value_is found names n e = sym (e ∙ (λ i. value_of (operators_of (n i)) (read_term m.bank m.bound right)))
+
+  pub target_place : IsPlaceOf m.bank (table m) left.0
+  target_place = left_place m Is left right rest f (IsView left right) h refl h.seen.parts.0
+
+  pub expression_place : IsPlaceOf m.bank (table m) right.0
+  expression_place = right_place m Is left right rest f (IsView left right) h refl h.seen.parts.1
 
   module _ (z : ℤ) (some : value ≡ Some z) (mid : Nodes) (keeps : Extends m.bank mid) (place : At) (shows : ShowsTerm mid place.0 (Int z))
-      (bound : List (Option At)) (levels : List ℕ) (bound_is : bound ≡ m.bound.items) (levels_is : levels ≡ m.levels.items) where
-    abbrev pub Finds : Nodes → Option Unified → Type 0
-    Finds end u = Unifies mid end bound levels (mgu (read_term mid bound left ∷ []) (read_term mid bound place ∷ []) levels) u
+      (start : Table) (start_is : start ≡ table m) where
+    abbrev pub Finds : Table → Bool → Type 0
+    Finds after answer = Unifies mid start after (mgu (read_term mid start.bound left ∷ []) (read_term mid start.bound place ∷ []) start.levels) answer
 
-    number : read_term mid bound place ≡ Int z
-    number = ap (sub (reading mid bound)) shows.tree
+    number : read_term mid start.bound place ≡ Int z
+    number = ap (sub (reading mid start.bound)) shows.tree
 
-    same : read_term mid bound left ≡ read_term m.bank m.bound.items left
-    same = ap (λ xs. read_term mid xs left) bound_is ∙ read_same m.bank mid keeps m.bound.items f.bound left.0 h.seen.parts.0
+    same : read_term mid start.bound left ≡ read_term m.bank m.bound left
+    same = ap (λ (t : Table). read_term mid t.bound left) start_is ∙ read_same m.bank mid keeps m.bound f.bound left.0 h.seen.parts.0
 
-    pub target_below : vars_below (length levels) (read_term mid bound left) ≡ true
-    target_below = (λ i. vars_below (length (levels_is i)) (same i)) ∙ left_below m Is left right rest f (IsView left right) h refl
+    pub start_table : IsTable mid start
+    start_table = subst (IsTable mid) (sym start_is) (table-extends m.bank mid (table m) (fits_table m f) keeps)
 
-    pub value_below : vars_below (length levels) (read_term mid bound place) ≡ true
-    value_below = ap (vars_below (length levels)) number
+    pub target_is_place : IsPlaceOf mid start left.0
+    target_is_place = subst (λ (t : Table). IsPlaceOf mid t left.0) (sym start_is) (place-extends m.bank mid (table m) left.0 (fits_table m f) keeps target_place)
 
-    same_problem : mgu (read_term m.bank m.bound.items left ∷ []) (Int z ∷ []) m.levels.items ≡ mgu (read_term mid bound left ∷ []) (read_term mid bound place ∷ []) levels
-    same_problem = λ i. mgu (sym same i ∷ []) (sym number i ∷ []) (sym levels_is i)
+    pub value_is_place : IsPlaceOf mid start place.0
+    value_is_place = place-below mid start place.0 start_table shows.inside (ap (vars_below (length start.levels)) number)
+
+    same_problem : mgu (read_term m.bank m.bound left ∷ []) (Int z ∷ []) m.levels ≡ mgu (read_term mid start.bound left ∷ []) (read_term mid start.bound place ∷ []) start.levels
+    same_problem = λ i. mgu (sym same i ∷ []) (sym number i ∷ []) (sym start_is i).levels
 
     gives : (c : Candidate) → attempt (setting m) (state_of m) c
-        ≡ option_map (instantiated went) (mgu (read_term mid bound left ∷ []) (read_term mid bound place ∷ []) levels)
+        ≡ option_map (instantiated went) (mgu (read_term mid start.bound left ∷ []) (read_term mid start.bound place ∷ []) start.levels)
     gives c =
         is_step c
-        ∙ (ap (take_value (at_goal m h.goal (items_at m.agenda rest)) (read_term m.bank m.bound.items left) (behind m (items_at m.agenda rest))) some
+        ∙ (ap (take_value (at_goal m h.goal (items_at m.agenda rest)) (read_term m.bank m.bound left) (behind m (items_at m.agenda rest))) some
         ∙ ap (option_map (instantiated went)) same_problem)
 
-    pub clash : (end : Nodes) (c : Candidate) → Finds end None → attempt (setting m) (state_of m) c ≡ None
-    clash end c w = gives c ∙ ap (option_map (instantiated went)) (go (mgu (read_term mid bound left ∷ []) (read_term mid bound place ∷ []) levels) w)
+    pub clash : (after : Table) (c : Candidate) → Finds after false → attempt (setting m) (state_of m) c ≡ None
+    clash after c w = gives c ∙ ap (option_map (instantiated went)) (go (mgu (read_term mid start.bound left ∷ []) (read_term mid start.bound place ∷ []) start.levels) w)
       where
-        go : (s : Option Solved) → Unifies mid end bound levels s None → s ≡ None
+        go : (s : Option Solved) → Unifies mid start after s false → s ≡ None
         go None x = refl
         go (Some v) x = absurd x
 
-    pub equal : (end : Nodes) (u : Unified) (new : Machine) (c : Candidate) → Finds end (Some u) → new.bank ≡ end → new.bound.items ≡ u.bound.items
-        → new.levels.items ≡ u.levels.items → (length u.bound.items ≡ length m.levels.items → All (HasValue end) u.bound.items → Went m (items_at m.agenda rest) new) → Infers m c new
-    equal end u new c w bank_is bound_new levels_new o =
-        go (mgu (read_term mid bound left ∷ []) (read_term mid bound place ∷ []) levels) refl w
+    pub equal : (after : Table) (new : Parts) (c : Candidate) → Finds after true → new.bank ≡ mid → new.bound ≡ after.bound → new.levels ≡ after.levels
+        → (length after.bound ≡ length m.levels → All (HasValue mid) after.bound → IsOrdered mid after → Went m (items_at m.agenda rest) new) → Infers m c new
+    equal after new c w bank_is bound_new levels_new o =
+        go (mgu (read_term mid start.bound left ∷ []) (read_term mid start.bound place ∷ []) start.levels) refl w
       where
-        go : (s : Option Solved) → mgu (read_term mid bound left ∷ []) (read_term mid bound place ∷ []) levels ≡ s → Unifies mid end bound levels s (Some u) → Infers m c new
+        go : (s : Option Solved) → mgu (read_term mid start.bound left ∷ []) (read_term mid start.bound place ∷ []) start.levels ≡ s → Unifies mid start after s true → Infers m c new
         go None p x = absurd x
         go (Some v) p x =
-            let reads : (y : ℕ) → reading new.bank new.bound.items y ≡ sub v.subst (reading m.bank m.bound.items y) =
+            let reads : (y : ℕ) → reading new.bank new.bound y ≡ sub v.subst (reading m.bank m.bound y) =
             λ y. (λ i. reading (bank_is i) (bound_new i) y)
-            ∙ (x.reads y ∙ ap (sub v.subst) (ap (λ xs. reading mid xs y) bound_is ∙ reading_same m.bank mid keeps m.bound.items f.bound y)) in
-            let w : Went m (items_at m.agenda rest) new = o (x.count ∙ ap (λ (ls : List ℕ). length ls) levels_is) x.inside in
+            ∙ (x.reads y ∙ ap (sub v.subst) (ap (λ (t : Table). reading mid t.bound y) start_is ∙ reading_same m.bank mid keeps m.bound f.bound y)) in
+            let w : Went m (items_at m.agenda rest) new =
+            o (x.table.bound ∙ (x.same_count ∙ ap (λ (t : Table). length t.levels) start_is)) (table_values mid after.bound x.table.places) x.table.ordered in
             infers m new h.goal (items_at m.agenda rest) c f h.list w
             (gives c ∙ (ap (option_map (instantiated went)) p
             ∙ ap (λ (s : State). Some s) (state_bound m new h.goal (items_at m.agenda rest) v f h.list w reads (levels_new ∙ x.levels_are))))

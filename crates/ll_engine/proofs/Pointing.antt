@@ -1,7 +1,7 @@
--- Choice points that are machines of their own.
+-- What choice points keep, before and after a choice.
 use Rattle.std.proofs.Common.{◌≡◌, ◌≢◌, ℕ, suc, ◌-◌, ◌<◌, refl, ap, sym, ◌∙◌, subst, Bool, true, false, List, [], ◌∷◌, ◌++◌, arith, map, reverse, length}
-use Rattle.std.proofs.lemmas.List.{reverse-append, length-reverse}
-use Rattle.std.proofs.lemmas.List.Elements.{All-push, All-tail, All-head, All-contains_itself, All-pop}
+use Rattle.std.proofs.lemmas.List.{reverse-append, length-reverse, map-append}
+use Rattle.std.proofs.lemmas.List.Elements.{All-push, All-cons, All-tail, All-head, All-contains_itself, All-pop, All-weaker}
 use Rattle.std.proofs.Math.Dec.{eqb, eqb-suc-zero}
 use Rattle.std.specs.Prelude.{Some, None, All}
 use Rattle.std.specs.List.{Contains}
@@ -10,16 +10,17 @@ use Rattle.ll_laws.specs.State.{State}
 use Rattle.ll_laws.specs.Attempt.{tries, attempt}
 use Rattle.ll_laws.specs.Problem.{ProblemTree, setting_of, start_of}
 use Rattle.ll_freeze.specs.declared.machine.Machine.{Machine}
+use Rattle.ll_freeze.specs.declared.mark.ChoiceMark.{ChoiceMark}
+use Rattle.ll_freeze.specs.Parts.{Parts, IsGood, IsBefore, KeepsMarks, KeepsMarksTo}
 use Rattle.ll_engine.specs.declared.spine.Kept.{Kept}
 use Rattle.ll_freeze.specs.Shown.{state_of}
 use Rattle.ll_freeze.specs.Fits.{Fits}
 use Rattle.ll_engine.specs.Attempts.{Attempts}
-use Rattle.ll_freeze.specs.Calls.{IsImage}
 use Rattle.ll_engine.specs.Calls.{SettlesOr, SameSearch}
 use Rattle.ll_engine.specs.Seen.{Point, Spine}
 use Rattle.ll_engine.specs.Owed.{Thins, thin_end, thin_keep, one_if_some, open_points, put_point}
 use Rattle.ll_engine.specs.Turned.{is_empty, has_none, Settles, Gave, Chose, Expands, Retries, RetriesAt}
-use Rattle.ll_engine.specs.Pointed.{point_of, points_of, spine_at, AreTries, IsOpen, IsKept, AreKept, IsSoundAt, KeepsKept, Puts}
+use Rattle.ll_engine.specs.Pointed.{Held, held_of, helds, Rises, AreMarks, point_of, points_of, spine_at, AreTries, IsOpen, IsKept, AreKept, IsSoundAt, KeepsKept, Puts}
 use Rattle.ll_engine.proofs.Labels.{tries_distinct}
 
 newest : {A : Type 0} (xs : List A) (x : A) → reverse (xs ++ x ∷ []) ≡ x ∷ reverse xs
@@ -35,7 +36,7 @@ all_reverse P (x ∷ xs) h =
     subst (λ ys. All P ys) (sym (reverse-append (x ∷ []) xs)) (All-push P (reverse xs) x (all_reverse P xs (All-tail P x xs h)) (All-head P x xs h))
 
 -- the candidates of a first goal, the first one last
-pub are_tries : (m : Machine) (cs ds : List Candidate) → cs ≡ tries (state_of m) → ds ≡ reverse cs → AreTries m ds
+pub are_tries : (m : Parts) (cs ds : List Candidate) → cs ≡ tries (state_of m) → ds ≡ reverse cs → AreTries m ds
 are_tries m cs ds e f =
     subst (λ (xs : List Candidate). AreTries m xs) (sym f) (all_reverse (λ c. Contains (tries (state_of m)) c) cs
     (subst (λ (xs : List Candidate). All (λ c. Contains xs c) cs) e (All-contains_itself cs)))
@@ -47,7 +48,7 @@ some_left cs n b e f l = λ h.
 
 -- one point more
 
-pub puts_none : (m : Machine) (cs : List Candidate) (ps : List Kept) → cs ≡ [] → Puts m cs ps ps
+pub puts_none : (m : Parts) (cs : List Candidate) (ps : List Held) → cs ≡ [] → Puts m cs ps ps
 puts_none m cs ps e = rw e refl
 
 some_last : (t : State) (n : ℕ) (x : Candidate) (us : List Candidate) (ps : List Point)
@@ -62,27 +63,20 @@ put_some t n (c ∷ cs) ps h =
     let P : List Candidate → Type 0 = λ us. put_point t n us ps ≡ record { state = t; left = n; untried = us } ∷ ps in
     subst P (sym (reverse-append (c ∷ []) cs)) (some_last t n c (reverse cs) ps)
 
-pub puts_some : (m : Machine) (ps : List Kept) (k : Kept) → IsImage m k.machine → k.untried.items ≢ [] → Puts m k.untried.items ps (ps ++ k ∷ [])
+pub puts_some : (m : Parts) (ps : List Held) (k : Held) → k.parts ≡ m → k.untried ≢ [] → Puts m k.untried ps (ps ++ k ∷ [])
 puts_some m ps k e h =
-    let make : State → ℕ → List Point = λ t n. record { state = t; left = n; untried = reverse k.untried.items } ∷ points_of ps in
-    ap (λ qs. map point_of qs) (newest ps k)
-    ∙ (ap (λ t. make t (k.machine.left - 1)) e.state ∙ (ap (λ n. make (state_of m) (n - 1)) e.left
-    ∙ sym (put_some (state_of m) (m.left - 1) k.untried.items (points_of ps) h)))
+    let make : Parts → List Point = λ t. record { state = state_of t; left = t.left - 1; untried = reverse k.untried } ∷ points_of ps in
+    ap (λ qs. map point_of qs) (newest ps k) ∙ (ap make e ∙ sym (put_some (state_of m) (m.left - 1) k.untried (points_of ps) h))
 
-pub keeps_none : (m : Machine) (cs : List Candidate) (ps : List Kept) → KeepsKept m cs ps ps
+pub keeps_none : (m : Parts) (cs : List Candidate) (ps : List Held) → KeepsKept m cs ps ps
 keeps_none m cs ps = λ p o t a. a
 
-pub keeps_some : (m : Machine) (ps : List Kept) (k : Kept) → IsImage m k.machine → k.untried.items ≢ [] → KeepsKept m k.untried.items ps (ps ++ k ∷ [])
+pub keeps_some : (m : Parts) (ps : List Held) (k : Held) → k.parts ≡ m → k.untried ≢ [] → KeepsKept m k.untried ps (ps ++ k ∷ [])
 keeps_some m ps k e h = λ p o t a.
     All-push (IsKept p) ps k a
     (record {
-      opened = record {
-        fits = e.fits;
-        problem = e.problem ∙ o.problem;
-        goal = ap (λ s. is_empty s.agenda) e.state ∙ o.goal;
-        left = subst (λ (n : ℕ). 0 < n) (sym e.left) o.left;
-      };
-      tries = subst (λ (s : State). All (λ c. Contains (tries s) c) k.untried.items) (sym e.state) t;
+      opened = subst (λ (n : Parts). IsOpen p n) (sym e) o;
+      tries = subst (λ (n : Parts). AreTries n k.untried) (sym e) t;
       some = h;
     })
 
@@ -96,42 +90,42 @@ one_open (c ∷ cs) h = ap one_if_some (reverse-append (c ∷ []) cs) ∙ last (
     last [] = refl
     last (u ∷ us) = refl
 
-all_open : (p : ProblemTree) (ks : List Kept) → All (IsKept p) ks → open_points (map point_of ks) ≡ length ks
+all_open : (p : ProblemTree) (ks : List Held) → All (IsKept p) ks → open_points (map point_of ks) ≡ length ks
 all_open p [] h = refl
 all_open p (k ∷ ks) h =
-    let a = one_open k.untried.items (All-head (IsKept p) k ks h).some in
+    let a = one_open k.untried (All-head (IsKept p) k ks h).some in
     let b = all_open p ks (All-tail (IsKept p) k ks h) in
     omega (arith, a, b)
 
-pub open_count : (p : ProblemTree) (ps : List Kept) → AreKept p ps → open_points (points_of ps) ≡ length ps
+pub open_count : (p : ProblemTree) (ps : List Held) → AreKept p ps → open_points (points_of ps) ≡ length ps
 open_count p ps h = all_open p (reverse ps) (all_reverse (IsKept p) ps h) ∙ length-reverse ps
 
 -- the first goal is taken apart
 
-same_points : (p : ProblemTree) (old new : Machine) (ps qs : List Kept) (points : List Point) → points_of qs ≡ points
+same_points : (p : ProblemTree) (old new : Parts) (ps qs : List Held) (points : List Point) → points_of qs ≡ points
     → spine_at p new qs ≡ record (spine_at p old ps) { now = state_of new; left = new.left; points = points }
 same_points p old new ps qs points e =
     let make : List Point → Spine = λ xs. record { problem = p; first = Some (start_of p); now = state_of new; left = new.left; points = xs } in ap make e
 
-pub chose_none : (p : ProblemTree) (m : Machine) (ps : List Kept) (cs : List Candidate) → cs ≡ []
+pub chose_none : (p : ProblemTree) (m : Parts) (ps : List Held) (cs : List Candidate) → cs ≡ []
     → Chose (spine_at p m ps) (state_of m) (m.left - 1) (reverse cs) (points_of ps) false (spine_at p m ps)
 chose_none p m ps cs e = subst (λ (xs : List Candidate). Chose (spine_at p m ps) (state_of m) (m.left - 1) (reverse xs) (points_of ps) false (spine_at p m ps)) (sym e) (refl, refl)
 
-gave : (p : ProblemTree) (old new : Machine) (qs : List Kept) (c : Candidate) (ok : Bool) → old.problem.now ≡ p → Attempts old c new ok
+gave : (p : ProblemTree) (old new : Parts) (qs : List Held) (c : Candidate) (ok : Bool) → old.problem ≡ p → Attempts old c new ok
     → Gave (attempt (setting_of p) (state_of old) c) (old.left - 1) ok (spine_at p new qs)
 gave p old new qs c true e h =
     (subst (λ (q : ProblemTree). attempt (setting_of q) (state_of old) c ≡ Some (state_of new)) e h.gives, let l = h.left in omega arith)
 gave p old new qs c false e h = subst (λ (q : ProblemTree). attempt (setting_of q) (state_of old) c ≡ None) e h
 
-pub chose_some : (p : ProblemTree) (old new : Machine) (ps qs : List Kept) (cs rest : List Candidate) (c : Candidate) (ok : Bool) → cs ≡ rest ++ c ∷ []
-    → old.problem.now ≡ p → Puts old rest ps qs → Attempts old c new ok
+pub chose_some : (p : ProblemTree) (old new : Parts) (ps qs : List Held) (cs rest : List Candidate) (c : Candidate) (ok : Bool) → cs ≡ rest ++ c ∷ []
+    → old.problem ≡ p → Puts old rest ps qs → Attempts old c new ok
     → Chose (spine_at p old ps) (state_of old) (old.left - 1) (reverse cs) (points_of ps) ok (spine_at p new qs)
 chose_some p old new ps qs cs rest c ok e f u h =
     subst (λ (xs : List Candidate). Chose (spine_at p old ps) (state_of old) (old.left - 1) xs (points_of ps) ok (spine_at p new qs))
     (sym (ap (λ xs. reverse xs) e ∙ newest rest c)) (same_points p old new ps qs _ u, gave p old new qs c ok f h)
 
 -- what stays of a search after an inference
-pub sound_after : (p : ProblemTree) (old new : Machine) (ps qs : List Kept) (cs : List Candidate) (c : Candidate) (ok : Bool) → IsOpen p old
+pub sound_after : (p : ProblemTree) (old new : Parts) (ps qs : List Held) (cs : List Candidate) (c : Candidate) (ok : Bool) → IsOpen p old
     → AreTries old cs → AreKept p ps → KeepsKept old cs ps qs → Attempts old c new ok → IsSoundAt ok p new qs
 sound_after p old new ps qs cs c true o t a k h = record { points = k p o t a; machine = (h.fits, h.problem ∙ o.problem) }
 sound_after p old new ps qs cs c false o t a k h = record { points = k p o t a; machine = tt }
@@ -140,7 +134,7 @@ thins_itself : (beside : _) (t : State) (cs : List Candidate) → Thins beside t
 thins_itself beside t [] = thin_end
 thins_itself beside t (c ∷ cs) = thin_keep (thins_itself beside t cs)
 
-pub expands : (p : ProblemTree) (old : Machine) (ps : List Kept) (z : Spine) (cs ds : List Candidate) (ok : Bool) → Fits old → 0 < old.left
+pub expands : (p : ProblemTree) (old : Parts) (ps : List Held) (z : Spine) (cs ds : List Candidate) (ok : Bool) → Fits old → 0 < old.left
     → cs ≡ tries (state_of old) → ds ≡ reverse cs
     → Chose (spine_at p old ps) (state_of old) (old.left - 1) (reverse ds) (points_of ps) ok z
     → Expands (spine_at p old ps) ok z
@@ -156,45 +150,126 @@ expands p old ps z cs ds ok f l e1 e2 h =
     }
 
 -- another present state, and other points, are as good before a choice
-chose_same : (p : ProblemTree) (m n : Machine) (ps qs : List Kept) (t : State) (k : ℕ) (cs : List Candidate) (points : List Point) (ok : Bool) (z : Spine)
+chose_same : (p : ProblemTree) (m n : Parts) (ps qs : List Held) (t : State) (k : ℕ) (cs : List Candidate) (points : List Point) (ok : Bool) (z : Spine)
     → Chose (spine_at p m ps) t k cs points ok z → Chose (spine_at p n qs) t k cs points ok z
 chose_same p m n ps qs t k [] points ok z h = h
 chose_same p m n ps qs t k (c ∷ cs) points ok z h = h
 
-pub retries : (p : ProblemTree) (old new : Machine) (ps rest qs : List Kept) (k : Kept) (ok : Bool) → ps ≡ rest ++ k ∷ []
-    → Chose (spine_at p k.machine rest) (state_of k.machine) (k.machine.left - 1) (reverse k.untried.items) (points_of rest) ok (spine_at p new qs)
+pub retries : (p : ProblemTree) (old new : Parts) (ps rest qs : List Held) (k : Held) (ok : Bool) → ps ≡ rest ++ k ∷ []
+    → Chose (spine_at p k.parts rest) (state_of k.parts) (k.parts.left - 1) (reverse k.untried) (points_of rest) ok (spine_at p new qs)
     → Retries (spine_at p old ps) ok (spine_at p new qs)
 retries p old new ps rest qs k ok e h =
     subst (λ (xs : List Point). RetriesAt (spine_at p old ps) xs ok (spine_at p new qs)) (sym (ap (λ xs. points_of xs) e ∙ ap (λ xs. map point_of xs) (newest rest k)))
-    (chose_same p k.machine old rest ps _ _ _ _ ok (spine_at p new qs) h)
+    (chose_same p k.parts old rest ps _ _ _ _ ok (spine_at p new qs) h)
 
-pub over : (ps : List Kept) (b : Bool) → b ≡ eqb (length ps) 0 → b ≡ has_none (points_of ps)
+pub over : (ps : List Held) (b : Bool) → b ≡ eqb (length ps) 0 → b ≡ has_none (points_of ps)
 over [] b e = e
 over (k ∷ ps) b e = e ∙ (none_of ps ∙ sym (ap (λ xs. has_none (map point_of xs)) (reverse-append (k ∷ []) ps) ∙ some (reverse ps)))
   where
-    none_of : (ps : List Kept) → eqb (suc (length ps)) 0 ≡ false
+    none_of : (ps : List Held) → eqb (suc (length ps)) 0 ≡ false
     none_of ps = eqb-suc-zero (length ps)
 
-    some : (qs : List Kept) → has_none (map point_of (qs ++ k ∷ [])) ≡ false
+    some : (qs : List Held) → has_none (map point_of (qs ++ k ∷ [])) ≡ false
     some [] = refl
     some (q ∷ qs) = refl
 
 -- settling
 
-pub settles : (p : ProblemTree) (old new : Machine) (ps : List Kept) (ok : Bool) → SettlesOr old ok new → SameSearch old new
+pub settles : (p : ProblemTree) (old new : Parts) (ps : List Held) (ok : Bool) → SettlesOr old ok new → SameSearch old new
     → Settles (spine_at p old ps) ok (spine_at p new ps)
 settles p old new ps true h s =
     (ap (λ (n : ℕ). let z : Spine = record (spine_at p old ps) { now = state_of new; left = n } in z) s.left, h.settles)
 settles p old new ps false h s =
     (ap (λ (n : ℕ). let z : Spine = record (spine_at p old ps) { now = state_of new; left = n } in z) s.left, h)
 
-pub settled_sound : (p : ProblemTree) (old new : Machine) (ps : List Kept) (ok : Bool) → SettlesOr old ok new → SameSearch old new → IsSoundAt true p old ps
+pub settled_sound : (p : ProblemTree) (old new : Parts) (ps : List Held) (ok : Bool) → SettlesOr old ok new → SameSearch old new → IsSoundAt true p old ps
     → IsSoundAt ok p new ps
 settled_sound p old new ps true h s a = record { points = a.points; machine = (h.fits, s.problem ∙ a.machine.1) }
 settled_sound p old new ps false h s a = record { points = a.points; machine = tt }
 
-pub popped_tries : (p : ProblemTree) (ps qs : List Kept) (k : Kept) → ps ≡ qs ++ k ∷ [] → AreKept p ps → AreTries k.machine k.untried.items
+pub popped_tries : (p : ProblemTree) (ps qs : List Held) (k : Held) → ps ≡ qs ++ k ∷ [] → AreKept p ps → AreTries k.parts k.untried
 popped_tries p ps qs k e a = (All-pop (IsKept p) ps qs (Some k) e a).1.tries
 
-pub popped_kept : (p : ProblemTree) (ps qs : List Kept) (k : Kept) → ps ≡ qs ++ k ∷ [] → AreKept p ps → AreKept p qs
+pub popped_open : (p : ProblemTree) (ps qs : List Held) (k : Held) → ps ≡ qs ++ k ∷ [] → AreKept p ps → IsOpen p k.parts
+popped_open p ps qs k e a = (All-pop (IsKept p) ps qs (Some k) e a).1.opened
+
+-- the newest point was gone back to
+pub retries_by : (p : ProblemTree) (old mid : Parts) (ps rest more : List Held) (k : Held) (ok : Bool) (z : Spine) → ps ≡ rest ++ k ∷ [] → mid ≡ k.parts → more ≡ rest
+    → Chose (spine_at p mid more) (state_of mid) (mid.left - 1) (reverse k.untried) (points_of more) ok z → Retries (spine_at p old ps) ok z
+retries_by p old mid ps rest more k ok z e same others h =
+    let moved : Chose (spine_at p k.parts rest) (state_of k.parts) (k.parts.left - 1) (reverse k.untried) (points_of rest) ok z =
+    subst (λ (hs : List Held). Chose (spine_at p k.parts hs) (state_of k.parts) (k.parts.left - 1) (reverse k.untried) (points_of hs) ok z) others
+    (subst (λ (n : Parts). Chose (spine_at p n more) (state_of n) (n.left - 1) (reverse k.untried) (points_of more) ok z) same h) in
+    subst (λ (xs : List Point). RetriesAt (spine_at p old ps) xs ok z) (sym (ap (λ xs. points_of xs) e ∙ ap (λ xs. map point_of xs) (newest rest k)))
+    (chose_same p k.parts old rest ps _ _ _ _ ok z moved)
+
+pub popped_kept : (p : ProblemTree) (ps qs : List Held) (k : Held) → ps ≡ qs ++ k ∷ [] → AreKept p ps → AreKept p qs
 popped_kept p ps qs k e a = (All-pop (IsKept p) ps qs (Some k) e a).0
+
+-- ---- marks
+
+pub rises_push : (ks : List Kept) (k : Kept) → Rises ks → All (λ j. IsBefore j.mark k.mark) ks → Rises (ks ++ k ∷ [])
+rises_push [] k r b = ((λ i d l. absurd (omega arith)), tt)
+rises_push (j ∷ ks) k r b = (
+  All-push (λ (i : Kept). IsBefore j.mark i.mark) ks k r.0 (All-head (λ (i : Kept). IsBefore i.mark k.mark) j ks b),
+  rises_push ks k r.1 (All-tail (λ (i : Kept). IsBefore i.mark k.mark) j ks b),
+)
+
+pub rises_popped : (ks : List Kept) (k : Kept) → Rises (ks ++ k ∷ []) → Rises ks × All (λ j. IsBefore j.mark k.mark) ks
+rises_popped [] k r = (tt, λ i d l. absurd (omega arith))
+rises_popped (j ∷ ks) k r =
+    let rest = rises_popped ks k r.1 in
+    let both = All-pop (λ (i : Kept). IsBefore j.mark i.mark) (ks ++ k ∷ []) ks (Some k) refl r.0 in
+    ((both.0, rest.0), All-cons (λ (i : Kept). IsBefore i.mark k.mark) j ks both.1 rest.1)
+
+-- a machine that keeps marks keeps what its choice points keep
+pub helds_kept : (old new : Machine) (ps : List Kept) → KeepsMarks old new → All (λ k. IsGood k.mark old) ps → helds new ps ≡ helds old ps
+helds_kept old new [] h g = refl
+helds_kept old new (k ∷ ps) h g =
+    let q = h k.mark (All-head (λ (j : Kept). IsGood j.mark old) k ps g) in
+    let make : Parts → Held = λ p. record { parts = p; untried = k.untried.items } in
+    λ i. make (q.parts i) ∷ helds_kept old new ps h (All-tail (λ (j : Kept). IsGood j.mark old) k ps g) i
+
+pub marks_kept : (old new : Machine) (ps : List Kept) → KeepsMarks old new → AreMarks old ps → AreMarks new ps
+marks_kept old new ps h a =
+    record { good = All-weaker (λ (k : Kept). IsGood k.mark old) (λ (k : Kept). IsGood k.mark new) (λ k g. (h k.mark g).good) ps a.good; rise = a.rise }
+
+-- the way back to the newest one
+pub helds_undone : (old new : Machine) (last : ChoiceMark) (ps : List Kept) → KeepsMarksTo last old new → All (λ k. IsGood k.mark old) ps → All (λ k. IsBefore k.mark last) ps
+    → helds new ps ≡ helds old ps
+helds_undone old new last [] h g b = refl
+helds_undone old new last (k ∷ ps) h g b =
+    let q = h k.mark (All-head (λ (j : Kept). IsBefore j.mark last) k ps b) (All-head (λ (j : Kept). IsGood j.mark old) k ps g) in
+    let make : Parts → Held = λ p. record { parts = p; untried = k.untried.items } in
+    λ i. make (q.parts i) ∷ helds_undone old new last ps h (All-tail (λ (j : Kept). IsGood j.mark old) k ps g) (All-tail (λ (j : Kept). IsBefore j.mark last) k ps b) i
+
+pub marks_undone : (old new : Machine) (last : ChoiceMark) (ps : List Kept) → KeepsMarksTo last old new → All (λ k. IsGood k.mark old) ps → All (λ k. IsBefore k.mark last) ps
+    → All (λ k. IsGood k.mark new) ps
+marks_undone old new last [] h g b = λ i d l. absurd (omega arith)
+marks_undone old new last (k ∷ ps) h g b =
+    let q = h k.mark (All-head (λ (j : Kept). IsBefore j.mark last) k ps b) (All-head (λ (j : Kept). IsGood j.mark old) k ps g) in
+    All-cons (λ (j : Kept). IsGood j.mark new) k ps q.good
+    (marks_undone old new last ps h (All-tail (λ (j : Kept). IsGood j.mark old) k ps g) (All-tail (λ (j : Kept). IsBefore j.mark last) k ps b))
+
+pub helds_push : (m : Machine) (ps : List Kept) (k : Kept) → helds m (ps ++ k ∷ []) ≡ helds m ps ++ held_of m k ∷ []
+helds_push m ps k = map-append (held_of m) ps (k ∷ [])
+
+-- what is known of the newest choice point and those before it
+pub record Popped (m : Machine) (ps qs : List Kept) (k : Kept) : Type 0 where
+  pub good : IsGood k.mark m
+  pub list : helds m ps ≡ helds m qs ++ held_of m k ∷ []
+  pub goods : All (λ j. IsGood j.mark m) qs
+  pub rises : Rises qs
+  pub before : All (λ j. IsBefore j.mark k.mark) qs
+
+pub popped : (m : Machine) (ps qs : List Kept) (k : Kept) → ps ≡ qs ++ k ∷ [] → AreMarks m ps → Popped m ps qs k
+popped m ps qs k e a =
+    let both = All-pop (λ (j : Kept). IsGood j.mark m) ps qs (Some k) e a.good in
+    let rest = rises_popped qs k (subst (λ (ks : List Kept). Rises ks) e a.rise) in
+    record {
+      good = both.1;
+      list = ap (λ ks. helds m ks) e ∙ helds_push m qs k;
+      goods = both.0;
+      rises = rest.0;
+      before = rest.1;
+    }

@@ -27,15 +27,17 @@ use Rattle.ll_laws.proofs.ConsistentForms.{Fits as FormFits, formula_of_fits, fi
 use Rattle.ll_laws.proofs.ConsistentContexts.{formula-more}
 use Rattle.ll_laws.proofs.ConsistentSteps.{steps_consistent}
 use Rattle.ll_resources.specs.Resources.{Resources}
-use Rattle.ll_freeze.specs.declared.machine.Machine.{Machine}
+use Rattle.ll_freeze.specs.Parts.{Parts, table}
 use Rattle.ll_freeze.specs.declared.machine.Item.{Item}
 use Rattle.ll_freeze.specs.declared.machine.Item.TheVariants.{Goal, LolliEnd, ImpEnd, Mid, WithEnd, BangEnd}
-use Rattle.ll_freeze.specs.Reading.{shown, reading, read_term, read_form, HasValue}
+use Rattle.ll_freeze.specs.Reading.{reading, read_term, read_form, HasValue}
 use Rattle.ll_freeze.specs.Shown.{shown_item, shown_entry, items_of, state_of}
 use Rattle.ll_freeze.specs.Fits.{Fits, HasItem, IsGoalIn, allowed, setting}
 use Rattle.ll_engine.specs.Attempts.{Infers}
 use Rattle.ll_engine.specs.Rows.{GoesOn, PutsInFront, OpensForall, OpensExists}
-use Rattle.ll_engine.proofs.ReadLemmas.{reading_same, values_extend}
+use Rattle.ll_engine.proofs.ReadLemmas.{reading_same, reading_past, read_same, values_extend, fits_table, ordered_extends}
+use Rattle.ll_bindings.specs.Bindings.{IsTable, IsOrdered}
+use Rattle.ll_bindings.proofs.CallerLemmas.{table-extends, table-fresh, found-fresh}
 use Rattle.ll_engine.specs.Turned.{is_empty}
 use Rattle.ll_freeze.proofs.CallerLemmas.{trees_read, vars_more, form_same, state_by, state_is, modules_later, modules_has}
 use Rattle.ll_engine.proofs.MachineLemmas.{agenda_shown, tries_end}
@@ -74,15 +76,6 @@ fits_apply may side scope (Num r t u) h = and_intro (applies_heads t) (applies_h
 
 -- ---- what stands for a variable is closed
 
-vars_past : (bound : List (Option At)) (x : ℕ) → length bound ≤ x → slice_index_or bound x None ≡ None
-vars_past [] zero l = refl
-vars_past [] (suc x) l = refl
-vars_past (o ∷ os) zero l = absurd (omega (arith, l))
-vars_past (o ∷ os) (suc x) l = vars_past os x (omega (arith, l))
-
-pub unbound : (bank : Nodes) (bound : List (Option At)) (x : ℕ) → length bound ≤ x → reading bank bound x ≡ Var x
-unbound bank bound x l = ap (λ o. shown bank x o) (vars_past bound x l)
-
 made_closed : (s : ℕ → Term) (v e : ℕ) (a n : ℕ) → list_all (is_made v e) (map (sub s) (vars_from a n)) ≡ true → (k : ℕ) → k < n → is_closed (s (a + k)) ≡ true
 made_closed s v e a zero h k l = absurd (omega (arith, l))
 made_closed s v e a (suc n) h zero l =
@@ -94,15 +87,15 @@ made_closed s v e a (suc n) h (suc k) l =
     let q : suc a + k ≡ a + suc k = omega arith in
     subst (λ x. is_closed (s x) ≡ true) q (made_closed s v e (suc a) n i k (omega (arith, l)))
 
-pub closing : (m : Machine) → Fits m → IsClosing (reading m.bank m.bound.items)
+pub closing : (m : Parts) → Fits m → IsClosing (reading m.bank m.bound)
 unfolding state_of
 closing m f x =
-    let s = reading m.bank m.bound.items in let n = length m.levels.items in
-    let a : map (read_term m.bank m.bound.items) m.terms.items ≡ map (sub s) (vars_from 0 n) = trees_read s m.bank m.terms.items ∙ ap (λ ts. map (sub s) ts) f.variables in
+    let s = reading m.bank m.bound in let n = length m.levels in
+    let a : map (read_term m.bank m.bound) m.terms ≡ map (sub s) (vars_from 0 n) = trees_read s m.bank m.terms ∙ ap (λ ts. map (sub s) ts) f.variables in
     let h : list_all (is_made n m.eigens) (map (sub s) (vars_from 0 n)) ≡ true = subst (λ (ts : List Term). list_all (is_made n m.eigens) ts ≡ true) a f.consistent.terms in
     elim (cases_lt x n) [
       | inl l ↦ let q : 0 + x ≡ x = omega arith in subst (λ (y : ℕ). is_closed (s y) ≡ true) q (made_closed s n m.eigens 0 n h x l)
-      | inr l ↦ let c = f.count in subst (λ (t : Term). is_closed t ≡ true) (sym (unbound m.bank m.bound.items x (omega (arith, l, c)))) refl
+      | inr l ↦ let c = f.count in subst (λ (t : Term). is_closed t ≡ true) (sym (reading_past m.bank m.bound x (omega (arith, l, c)))) refl
     ]
 
 -- ---- what is read stays
@@ -177,55 +170,55 @@ module _ (old new : Nodes) (may more : Allowed) (keeps : Extends old new) (grows
 -- ---- a goal in place of the one in front
 
 -- what the state of the later machine is
-abbrev opened_state : Machine → Machine → Form → List Item → State
+abbrev opened_state : Parts → Parts → Form → List Item → State
 opened_state old new f rest =
     record {
-      agenda = GoalOf (sub_form (reading old.bank old.bound.items) f) ∷ map (shown_item old.bank old.bound.items old.context.present.kept) rest;
-      context = map (shown_entry old.bank old.bound.items) old.context.present.entries;
-      flag = old.context.present.flag;
-      levels = new.levels.items;
+      agenda = GoalOf (sub_form (reading old.bank old.bound) f) ∷ map (shown_item old.bank old.bound old.resources.kept) rest;
+      context = map (shown_entry old.bank old.bound) old.resources.entries;
+      flag = old.resources.flag;
+      levels = new.levels;
       eigens = new.eigens;
-      terms = map (read_term new.bank new.bound.items) new.terms.items;
-      label = old.context.present.next;
-      steps = old.steps.items ++ Plain ∷ [];
+      terms = map (read_term new.bank new.bound) new.terms;
+      label = old.resources.next;
+      steps = old.steps ++ Plain ∷ [];
     }
 
-state_opened : (old new : Machine) (f : Form) (rest : List Item) → PutsInFront old f rest new → ((x : ℕ) → reading new.bank new.bound.items x ≡ reading old.bank old.bound.items x)
-    → All (HasItem old.bank (length old.context.present.kept)) rest → All (λ e. HasForm old.bank e.clause.0) old.context.present.entries → state_of new ≡ opened_state old new f rest
+state_opened : (old new : Parts) (f : Form) (rest : List Item) → PutsInFront old f rest new → ((x : ℕ) → reading new.bank new.bound x ≡ reading old.bank old.bound x)
+    → All (HasItem old.bank (length old.resources.kept)) rest → All (λ e. HasForm old.bank e.clause.0) old.resources.entries → state_of new ≡ opened_state old new f rest
 state_opened old new f rest o reads items clauses =
-    let r = old.context.present in let b = new.bank in let a = new.bound.items in
-    let by : Resources FormAt → List Item → List Step → State = λ p xs ss. state_by b a p xs new.levels.items new.eigens new.terms.items ss in
+    let r = old.resources in let b = new.bank in let a = new.bound in
+    let by : Resources FormAt → List Item → List Step → State = λ p xs ss. state_by b a p xs new.levels new.eigens new.terms ss in
     let make : Form → List (ItemOf Form) → List (Entry Form) → State = λ h xs es. record {
       agenda = GoalOf h ∷ xs;
       context = es;
       flag = r.flag;
-      levels = new.levels.items;
+      levels = new.levels;
       eigens = new.eigens;
-      terms = map (read_term b a) new.terms.items;
+      terms = map (read_term b a) new.terms;
       label = r.next;
-      steps = old.steps.items ++ Plain ∷ [];
+      steps = old.steps ++ Plain ∷ [];
     } in
-    let g : read_form b a o.goal ≡ sub_form (reading old.bank old.bound.items) f =
-    ap (sub_form (reading b a)) o.shows.tree ∙ form_same (reading b a) (reading old.bank old.bound.items) reads f in
+    let g : read_form b a o.goal ≡ sub_form (reading old.bank old.bound) f =
+    ap (sub_form (reading b a)) o.shows.tree ∙ form_same (reading b a) (reading old.bank old.bound) reads f in
     state_is new
-    ∙ (ap (λ p. by p (items_of new) new.steps.items) (ap (λ h. h.present) o.context)
-    ∙ (ap (λ xs. by r xs new.steps.items) o.items
+    ∙ (ap (λ p. by p (items_of new) new.steps) o.resources
+    ∙ (ap (λ xs. by r xs new.steps) o.items
     ∙ (ap (λ ss. by r (Goal o.goal ∷ rest) ss) o.steps
     ∙ (ap (λ h. make h (map (shown_item b a r.kept) rest) (map (shown_entry b a) r.entries)) g
-    ∙ (ap (λ xs. make (sub_form (reading old.bank old.bound.items) f) xs (map (shown_entry b a) r.entries)) (items_stay old.bank b old.bound.items a o.bank reads r.kept (length r.kept) rest items)
-    ∙ ap (λ es. make (sub_form (reading old.bank old.bound.items) f) (map (shown_item old.bank old.bound.items r.kept) rest) es) (entries_stay old.bank b old.bound.items a o.bank reads r.entries clauses))))))
+    ∙ (ap (λ xs. make (sub_form (reading old.bank old.bound) f) xs (map (shown_entry b a) r.entries)) (items_stay old.bank b old.bound a o.bank reads r.kept (length r.kept) rest items)
+    ∙ ap (λ es. make (sub_form (reading old.bank old.bound) f) (map (shown_item old.bank old.bound r.kept) rest) es) (entries_stay old.bank b old.bound a o.bank reads r.entries clauses))))))
 
-pub opened : (old new : Machine) (g : FormAt) (rest : List Item) (c : Candidate) (f : Form) → Fits old → items_of old ≡ Goal g ∷ rest → PutsInFront old f rest new
-    → ((x : ℕ) → reading new.bank new.bound.items x ≡ reading old.bank old.bound.items x) → Grows (allowed old) (allowed new)
-    → length new.bound.items ≡ length new.levels.items → All (HasValue new.bank) new.bound.items → AllInTerms new.bank new.terms.items
-    → term_trees new.bank new.terms.items ≡ vars_from 0 (length new.levels.items) → IsFormula (allowed new) GoalSide [] f → new.eigens + new.left ≤ 2 ^ 20
+pub opened : (old new : Parts) (g : FormAt) (rest : List Item) (c : Candidate) (f : Form) → Fits old → items_of old ≡ Goal g ∷ rest → PutsInFront old f rest new
+    → ((x : ℕ) → reading new.bank new.bound x ≡ reading old.bank old.bound x) → Grows (allowed old) (allowed new)
+    → length new.bound ≡ length new.levels → All (HasValue new.bank) new.bound → IsOrdered new.bank (table new) → AllInTerms new.bank new.terms
+    → term_trees new.bank new.terms ≡ vars_from 0 (length new.levels) → IsFormula (allowed new) GoalSide [] f → new.eigens + new.left ≤ 2 ^ 20
     → attempt (setting old) (state_of old) c ≡ Some (opened_state old new f rest) → Infers old c new
-opened old new g rest c f fits e1 o reads grows count bound terms variables sorted eigens gives =
-    let r = old.context.present in let k = length r.kept in let xs = rest_items old g rest fits e1 in
-    let r2 : new.context.present ≡ r = ap (λ h. h.present) o.context in
+opened old new g rest c f fits e1 o reads grows count bound ordered terms variables sorted eigens gives =
+    let r = old.resources in let k = length r.kept in let xs = rest_items old g rest fits e1 in
+    let r2 : new.resources ≡ r = o.resources in
     let P : Item → Type 0 = HasItem new.bank k in let R : Item → Type 0 = IsGoalIn (allowed new) new.bank in
     let a : attempt (setting old) (state_of old) c ≡ Some (state_of new) = gives ∙ ap (λ (s : State). Some s) (sym (state_opened old new f rest o reads xs fits.clauses)) in
-    let n : new.context.present.next ≡ r.next = ap (λ (p : Resources FormAt). p.next) r2 in let l = o.left in
+    let n : new.resources.next ≡ r.next = ap (λ (p : Resources FormAt). p.next) r2 in let l = o.left in
     record {
       gives = a;
       problem = o.problem;
@@ -234,9 +227,10 @@ opened old new g rest c f fits e1 o reads grows count bound terms variables sort
         valid = rw o.problem fits.valid;
         consistent =
             subst (λ (p : ProblemTree). IsConsistent (setting_of p) (state_of new)) (sym o.problem)
-            (steps_consistent (length old.problem.now.names) (setting old) (state_of old) (state_of new) c fits.valid.modules fits.consistent a);
+            (steps_consistent (length old.problem.names) (setting old) (state_of old) (state_of new) c fits.valid.modules fits.consistent a);
         count = count;
         bound = bound;
+        ordered = ordered;
         terms = terms;
         variables = variables;
         clauses =
@@ -247,8 +241,8 @@ opened old new g rest c f fits e1 o reads grows count bound terms variables sort
             rw o.items
             (All-cons R (Goal o.goal) rest (subst (λ (h : Form). IsFormula (allowed new) GoalSide [] h) (sym o.shows.tree) sorted)
             (goals_stay old.bank new.bank (allowed old) (allowed new) o.bank grows k rest xs (rest_goals old g rest fits e1)));
-        has_modules = rw o.modules (modules_has old.bank new.bank old.modules.now o.bank fits.has_modules);
-        modules = rw (o.problem, o.modules) (modules_later old.bank new.bank old.modules.now o.bank fits.has_modules ∙ fits.modules);
+        has_modules = rw o.modules (modules_has old.bank new.bank old.modules o.bank fits.has_modules);
+        modules = rw (o.problem, o.modules) (modules_later old.bank new.bank old.modules o.bank fits.has_modules ∙ fits.modules);
         top = o.top;
         items =
             rw (r2, o.items)
@@ -280,65 +274,65 @@ exists_opened may p f =
     fits-close more (Some (Var may.variables) ∷ []) GoalSide (false ∷ []) [] p (lt-ltb may.variables (suc may.variables) (omega arith), λ h. absurd (cc (h)), tt)
     (fits-more may more GoalSide (false ∷ []) (false ∷ []) p k (λ h. h, tt) f)
 
-pub forall_heads : (m : Machine) (g body : FormAt) (rest : List Item) → Fits m → items_of m ≡ Goal g ∷ rest → form_tree m.bank g.0 ≡ Forall (form_tree m.bank body.0)
+pub forall_heads : (m : Parts) (g body : FormAt) (rest : List Item) → Fits m → items_of m ≡ Goal g ∷ rest → form_tree m.bank g.0 ≡ Forall (form_tree m.bank body.0)
     → form_applies_heads (instantiate (form_tree m.bank body.0) (Con (Eigen m.eigens))) ≡ true
 forall_heads m g body rest f e1 e2 =
     fits_apply (with_eigen (allowed m)) GoalSide [] (instantiate (form_tree m.bank body.0) (Con (Eigen m.eigens)))
     (forall_opened (allowed m) (form_tree m.bank body.0) (goal_fits m g rest (Forall (form_tree m.bank body.0)) f e1 e2))
 
-pub exists_heads : (m : Machine) (g body : FormAt) (rest : List Item) → Fits m → items_of m ≡ Goal g ∷ rest → form_tree m.bank g.0 ≡ Exists (form_tree m.bank body.0)
-    → form_applies_heads (instantiate (form_tree m.bank body.0) (Var (length m.levels.items))) ≡ true
+pub exists_heads : (m : Parts) (g body : FormAt) (rest : List Item) → Fits m → items_of m ≡ Goal g ∷ rest → form_tree m.bank g.0 ≡ Exists (form_tree m.bank body.0)
+    → form_applies_heads (instantiate (form_tree m.bank body.0) (Var (length m.levels))) ≡ true
 exists_heads m g body rest f e1 e2 =
-    fits_apply (with_variable (allowed m)) GoalSide [] (instantiate (form_tree m.bank body.0) (Var (length m.levels.items)))
+    fits_apply (with_variable (allowed m)) GoalSide [] (instantiate (form_tree m.bank body.0) (Var (length m.levels)))
     (exists_opened (allowed m) (form_tree m.bank body.0) (goal_fits m g rest (Exists (form_tree m.bank body.0)) f e1 e2).1)
 
 -- the later state where no variable is new
-abbrev pub still_state : Machine → Form → List Item → ℕ → State
+abbrev pub still_state : Parts → Form → List Item → ℕ → State
 still_state old h rest e =
     record {
-      agenda = GoalOf h ∷ map (shown_item old.bank old.bound.items old.context.present.kept) rest;
-      context = map (shown_entry old.bank old.bound.items) old.context.present.entries;
-      flag = old.context.present.flag;
-      levels = old.levels.items;
+      agenda = GoalOf h ∷ map (shown_item old.bank old.bound old.resources.kept) rest;
+      context = map (shown_entry old.bank old.bound) old.resources.entries;
+      flag = old.resources.flag;
+      levels = old.levels;
       eigens = e;
-      terms = map (read_term old.bank old.bound.items) old.terms.items;
-      label = old.context.present.next;
-      steps = old.steps.items ++ Plain ∷ [];
+      terms = map (read_term old.bank old.bound) old.terms;
+      label = old.resources.next;
+      steps = old.steps ++ Plain ∷ [];
     }
 
 -- a goal in place of the one in front where no variable is new
-pub still : (old new : Machine) (g : FormAt) (rest : List Item) (c : Candidate) (f : Form) → Fits old → items_of old ≡ Goal g ∷ rest → PutsInFront old f rest new
-    → new.bound.items ≡ old.bound.items → new.levels.items ≡ old.levels.items → new.terms.items ≡ old.terms.items → old.eigens ≤ new.eigens → new.eigens ≤ suc old.eigens
-    → IsFormula (allowed new) GoalSide [] f → attempt (setting old) (state_of old) c ≡ Some (still_state old (sub_form (reading old.bank old.bound.items) f) rest new.eigens) → Infers old c new
+pub still : (old new : Parts) (g : FormAt) (rest : List Item) (c : Candidate) (f : Form) → Fits old → items_of old ≡ Goal g ∷ rest → PutsInFront old f rest new
+    → new.bound ≡ old.bound → new.levels ≡ old.levels → new.terms ≡ old.terms → old.eigens ≤ new.eigens → new.eigens ≤ suc old.eigens
+    → IsFormula (allowed new) GoalSide [] f → attempt (setting old) (state_of old) c ≡ Some (still_state old (sub_form (reading old.bank old.bound) f) rest new.eigens) → Infers old c new
 still old new g rest c f fits e1 o wb wl wt low high sorted gives =
-    let reads : (y : ℕ) → reading new.bank new.bound.items y ≡ reading old.bank old.bound.items y =
-    λ y. ap (λ bs. reading new.bank bs y) wb ∙ reading_same old.bank new.bank o.bank old.bound.items fits.bound y in
-    let n : length new.levels.items ≡ length old.levels.items = ap (λ (ls : List ℕ). length ls) wl in let l = o.left in
+    let reads : (y : ℕ) → reading new.bank new.bound y ≡ reading old.bank old.bound y =
+    λ y. ap (λ bs. reading new.bank bs y) wb ∙ reading_same old.bank new.bank o.bank old.bound fits.bound y in
+    let n : length new.levels ≡ length old.levels = ap (λ (ls : List ℕ). length ls) wl in let l = o.left in
     let grows : Grows (allowed old) (allowed new) =
     record { modules = ap (λ (q : ProblemTree). q.modules) (sym o.problem); variables = omega (arith, n); eigens = low; opens = λ h. h } in
     let make : List ℕ → List Term → Option State = λ ls ts. Some (record {
-      agenda = GoalOf (sub_form (reading old.bank old.bound.items) f) ∷ map (shown_item old.bank old.bound.items old.context.present.kept) rest;
-      context = map (shown_entry old.bank old.bound.items) old.context.present.entries;
-      flag = old.context.present.flag;
+      agenda = GoalOf (sub_form (reading old.bank old.bound) f) ∷ map (shown_item old.bank old.bound old.resources.kept) rest;
+      context = map (shown_entry old.bank old.bound) old.resources.entries;
+      flag = old.resources.flag;
       levels = ls;
       eigens = new.eigens;
       terms = ts;
-      label = old.context.present.next;
-      steps = old.steps.items ++ Plain ∷ [];
+      label = old.resources.next;
+      steps = old.steps ++ Plain ∷ [];
     }) in
-    let ts : map (read_term new.bank new.bound.items) new.terms.items ≡ map (read_term old.bank old.bound.items) old.terms.items =
-    ap (λ xs. map (read_term new.bank new.bound.items) xs) wt ∙ terms_stay old.bank new.bank old.bound.items new.bound.items o.bank reads old.terms.items fits.terms in
+    let ts : map (read_term new.bank new.bound) new.terms ≡ map (read_term old.bank old.bound) old.terms =
+    ap (λ xs. map (read_term new.bank new.bound) xs) wt ∙ terms_stay old.bank new.bank old.bound new.bound o.bank reads old.terms fits.terms in
     opened old new g rest c f fits e1 o reads grows (ap (λ (bs : List (Option At)). length bs) wb ∙ (fits.count ∙ sym n))
-    (rw wb (values_extend old.bank new.bank o.bank old.bound.items fits.bound)) (rw wt (AllInTerms-extends o.bank old.terms.items fits.terms))
-    (rw (wt, wl) (term_trees-extends o.bank old.terms.items fits.terms ∙ fits.variables)) sorted (let b = fits.eigens in omega (arith, b, high, l))
-    (gives ∙ (ap (λ ls. make ls (map (read_term old.bank old.bound.items) old.terms.items)) (sym wl) ∙ ap (λ xs. make new.levels.items xs) (sym ts)))
+    (rw wb (values_extend old.bank new.bank o.bank old.bound fits.bound)) (rw (wb, wl) (ordered_extends old new.bank fits o.bank)) (rw wt (AllInTerms-extends o.bank old.terms fits.terms))
+    (rw (wt, wl) (term_trees-extends o.bank old.terms fits.terms ∙ fits.variables)) sorted (let b = fits.eigens in omega (arith, b, high, l))
+    (gives ∙ (ap (λ ls. make ls (map (read_term old.bank old.bound) old.terms)) (sym wl) ∙ ap (λ xs. make new.levels xs) (sym ts)))
 
-pub forall_row : (old new : Machine) (g body : FormAt) (rest : List Item) (c : Candidate) → Fits old → items_of old ≡ Goal g ∷ rest
+pub forall_row : (old new : Parts) (g body : FormAt) (rest : List Item) (c : Candidate) → Fits old → items_of old ≡ Goal g ∷ rest
     → form_tree old.bank g.0 ≡ Forall (form_tree old.bank body.0) → OpensForall old body rest new → Infers old c new
 forall_row old new g body rest c f e1 e2 w =
-    let o = w.opens in let p = form_tree old.bank body.0 in let x = Con (Eigen old.eigens) in let s = reading old.bank old.bound.items in
+    let o = w.opens in let p = form_tree old.bank body.0 in let x = Con (Eigen old.eigens) in let s = reading old.bank old.bound in
     let may = allowed old in let more = with_eigen may in let k = w.eigens in
-    let n : length new.levels.items ≡ length old.levels.items = ap (λ (ls : List ℕ). length ls) w.levels in
+    let n : length new.levels ≡ length old.levels = ap (λ (ls : List ℕ). length ls) w.levels in
     let grown : Grows more (allowed new) =
     record { modules = ap (λ (q : ProblemTree). q.modules) (sym o.problem); variables = omega (arith, n); eigens = omega (arith, k); opens = λ h. h } in
     let sorted =
@@ -348,23 +342,18 @@ forall_row old new g body rest c f e1 e2 w =
     (attempt_by old g rest c (Forall p) e1 e2
     ∙ (ap (λ h. Some (still_state old h rest (suc old.eigens))) (sym (sub_instantiate s (closing old f) p x)) ∙ ap (λ e. Some (still_state old (sub_form s (instantiate p x)) rest e)) (sym k)))
 
-look_more : (bs : List (Option At)) (x : ℕ) → slice_index_or (bs ++ None ∷ []) x None ≡ slice_index_or bs x None
-look_more [] zero = refl
-look_more [] (suc x) = refl
-look_more (b ∷ bs) zero = refl
-look_more (b ∷ bs) (suc x) = look_more bs x
-
-pub exists_row : (old new : Machine) (g body : FormAt) (rest : List Item) (c : Candidate) → Fits old → items_of old ≡ Goal g ∷ rest
+pub exists_row : (old new : Parts) (g body : FormAt) (rest : List Item) (c : Candidate) → Fits old → items_of old ≡ Goal g ∷ rest
     → form_tree old.bank g.0 ≡ Exists (form_tree old.bank body.0) → OpensExists old body rest new → Infers old c new
 exists_row old new g body rest c f e1 e2 w =
-    let o = w.opens in let p = form_tree old.bank body.0 in let n = length old.levels.items in let s = reading old.bank old.bound.items in
-    let may = allowed old in let more = with_variable may in let b = new.bank in let a = new.bound.items in
-    let reads : (y : ℕ) → reading b a y ≡ reading old.bank old.bound.items y =
-    λ y. ap (λ bs. reading b bs y) w.bound ∙ (ap (λ v. shown b y v) (look_more old.bound.items y) ∙ reading_same old.bank b o.bank old.bound.items f.bound y) in
-    let free : s n ≡ Var n = let q = f.count in unbound old.bank old.bound.items n (omega (arith, q)) in
-    let ln : length new.levels.items ≡ suc n = ap (λ (ls : List ℕ). length ls) w.levels ∙ (length-append old.levels.items (old.eigens ∷ []) ∙ (let q : n + 1 ≡ suc n = omega arith in q)) in
-    let bn : length a ≡ suc (length old.bound.items) =
-    ap (λ (bs : List (Option At)). length bs) w.bound ∙ (length-append old.bound.items (None ∷ []) ∙ (let q : length old.bound.items + 1 ≡ suc (length old.bound.items) = omega arith in q)) in
+    let o = w.opens in let p = form_tree old.bank body.0 in let n = length old.levels in let s = reading old.bank old.bound in
+    let may = allowed old in let more = with_variable may in let b = new.bank in let a = new.bound in
+    let grown_table : IsTable b (table old) = table-extends old.bank b (table old) (fits_table old f) o.bank in
+    let reads : (y : ℕ) → reading b a y ≡ reading old.bank old.bound y =
+    λ y. ap (λ bs. reading b bs y) w.bound ∙ (found-fresh b (table old) old.eigens grown_table y ∙ reading_same old.bank b o.bank old.bound f.bound y) in
+    let free : s n ≡ Var n = let q = f.count in reading_past old.bank old.bound n (omega (arith, q)) in
+    let ln : length new.levels ≡ suc n = ap (λ (ls : List ℕ). length ls) w.levels ∙ (length-append old.levels (old.eigens ∷ []) ∙ (let q : n + 1 ≡ suc n = omega arith in q)) in
+    let bn : length a ≡ suc (length old.bound) =
+    ap (λ (bs : List (Option At)). length bs) w.bound ∙ (length-append old.bound (None ∷ []) ∙ (let q : length old.bound + 1 ≡ suc (length old.bound) = omega arith in q)) in
     let k = w.eigens in let l = o.left in
     let ms = ap (λ (q : ProblemTree). q.modules) (sym o.problem) in
     let grows : Grows may (allowed new) = record { modules = ms; variables = omega (arith, ln); eigens = omega (arith, k); opens = λ h. h } in
@@ -373,46 +362,47 @@ exists_row old new g body rest c f e1 e2 w =
     formula-more more (allowed new) GoalSide (instantiate p (Var n)) grown
     (formula_of_fits more GoalSide [] (instantiate p (Var n)) (exists_opened may p (goal_fits old g rest (Exists p) f e1 e2).1)) in
     let make : Form → List ℕ → ℕ → List Term → Option State = λ h ls e ts. Some (record {
-      agenda = GoalOf h ∷ map (shown_item old.bank old.bound.items old.context.present.kept) rest;
-      context = map (shown_entry old.bank old.bound.items) old.context.present.entries;
-      flag = old.context.present.flag;
+      agenda = GoalOf h ∷ map (shown_item old.bank old.bound old.resources.kept) rest;
+      context = map (shown_entry old.bank old.bound) old.resources.entries;
+      flag = old.resources.flag;
       levels = ls;
       eigens = e;
       terms = ts;
-      label = old.context.present.next;
-      steps = old.steps.items ++ Plain ∷ [];
+      label = old.resources.next;
+      steps = old.steps ++ Plain ∷ [];
     }) in
-    let us = map (read_term old.bank old.bound.items) old.terms.items in
+    let us = map (read_term old.bank old.bound) old.terms in
     let value : read_term b a w.value ≡ Var n = ap (sub (reading b a)) w.shows.tree ∙ (reads n ∙ free) in
-    let ts : map (read_term b a) new.terms.items ≡ us ++ Var n ∷ [] =
+    let ts : map (read_term b a) new.terms ≡ us ++ Var n ∷ [] =
     ap (λ xs. map (read_term b a) xs) w.terms
-    ∙ (map-append (read_term b a) old.terms.items (w.value ∷ [])
-    ∙ (ap (λ xs. xs ++ read_term b a w.value ∷ []) (terms_stay old.bank b old.bound.items a o.bank reads old.terms.items f.terms) ∙ ap (λ t. us ++ t ∷ []) value)) in
+    ∙ (map-append (read_term b a) old.terms (w.value ∷ [])
+    ∙ (ap (λ xs. xs ++ read_term b a w.value ∷ []) (terms_stay old.bank b old.bound a o.bank reads old.terms f.terms) ∙ ap (λ t. us ++ t ∷ []) value)) in
     let goal = instantiate p (Var n) in
     opened old new g rest c goal f e1 o reads grows (let q = f.count in omega (arith, q, bn, ln))
-    (rw w.bound (All-push (HasValue b) old.bound.items None (values_extend old.bank b o.bank old.bound.items f.bound) tt))
-    (rw w.terms (All-push (λ (x : At). HasTerm b x.0) old.terms.items w.value (AllInTerms-extends o.bank old.terms.items f.terms) w.shows.inside))
+    (rw w.bound (All-push (HasValue b) old.bound None (values_extend old.bank b o.bank old.bound f.bound) tt))
+    (rw (w.bound, w.levels) (table-fresh b (table old) old.eigens grown_table).ordered)
+    (rw w.terms (All-push (λ (x : At). HasTerm b x.0) old.terms w.value (AllInTerms-extends o.bank old.terms f.terms) w.shows.inside))
     (ap (λ xs. term_trees b xs) w.terms
-    ∙ (map-append (λ (x : At). term_tree b x.0) old.terms.items (w.value ∷ [])
-    ∙ (ap (λ xs. xs ++ term_tree b w.value.0 ∷ []) (term_trees-extends o.bank old.terms.items f.terms ∙ f.variables)
+    ∙ (map-append (λ (x : At). term_tree b x.0) old.terms (w.value ∷ [])
+    ∙ (ap (λ xs. xs ++ term_tree b w.value.0 ∷ []) (term_trees-extends o.bank old.terms f.terms ∙ f.variables)
     ∙ (ap (λ t. vars_from 0 n ++ t ∷ []) w.shows.tree ∙ (sym (vars_more 0 n n (omega arith)) ∙ ap (λ i. vars_from 0 i) (sym ln))))))
     sorted (let q = f.eigens in omega (arith, q, k, l))
     (attempt_by old g rest c (Exists p) e1 e2
-    ∙ (ap (λ h. make h (old.levels.items ++ old.eigens ∷ []) old.eigens (us ++ Var n ∷ [])) (ap (λ t. instantiate (sub_form s p) t) (sym free) ∙ sym (sub_instantiate s (closing old f) p (Var n)))
+    ∙ (ap (λ h. make h (old.levels ++ old.eigens ∷ []) old.eigens (us ++ Var n ∷ [])) (ap (λ t. instantiate (sub_form s p) t) (sym free) ∙ sym (sub_instantiate s (closing old f) p (Var n)))
     ∙ (ap (λ ls. make (sub_form s goal) ls old.eigens (us ++ Var n ∷ [])) (sym w.levels)
-    ∙ (ap (λ e. make (sub_form s goal) new.levels.items e (us ++ Var n ∷ [])) (sym k) ∙ ap (λ xs. make (sub_form s goal) new.levels.items new.eigens xs) (sym ts)))))
+    ∙ (ap (λ e. make (sub_form s goal) new.levels e (us ++ Var n ∷ [])) (sym k) ∙ ap (λ xs. make (sub_form s goal) new.levels new.eigens xs) (sym ts)))))
 
 -- ---- how the goal comes in front
 
 -- the machine that goes on has a place that shows the formula
-pub opens_shown : (old mid new : Machine) → mid.problem.now ≡ old.problem.now → mid.modules.now ≡ old.modules.now → mid.context ≡ old.context → mid.steps.items ≡ old.steps.items → mid.left ≡ old.left
+pub opens_shown : (old mid new : Parts) → mid.problem ≡ old.problem → mid.modules ≡ old.modules → mid.resources ≡ old.resources → mid.steps ≡ old.steps → mid.left ≡ old.left
     → (goal : FormAt) (f : Form) (rest : List Item) → Extends old.bank mid.bank → ShowsForm mid.bank goal.0 f → GoesOn mid (Goal goal ∷ []) rest Plain new → PutsInFront old f rest new
 opens_shown old mid new p ms q st l goal f rest k sh go =
-    let nb : new.bank ≡ mid.bank = ap (λ (m : Machine). m.bank) go.same in
+    let nb : new.bank ≡ mid.bank = ap (λ (m : Parts). m.bank) go.same in
     record {
-      problem = ap (λ (m : Machine). m.problem.now) go.same ∙ p;
-      modules = ap (λ (m : Machine). m.modules.now) go.same ∙ ms;
-      context = ap (λ (m : Machine). m.context) go.same ∙ q;
+      problem = ap (λ (m : Parts). m.problem) go.same ∙ p;
+      modules = ap (λ (m : Parts). m.modules) go.same ∙ ms;
+      resources = ap (λ (m : Parts). m.resources) go.same ∙ q;
       bank = subst (λ (b : Nodes). Extends old.bank b) (sym nb) k;
       goal = goal;
       shows = subst (λ (b : Nodes). ShowsForm b goal.0 f) (sym nb) sh;
@@ -437,10 +427,10 @@ value_shown second third value t k v = record { inside = HasTerm-extends k value
 
 -- ---- a goal is in front
 
-pub not_empty : (m : Machine) → is_empty (state_of m).agenda ≡ false → items_of m ≡ [] → ⊥
+pub not_empty : (m : Parts) → is_empty (state_of m).agenda ≡ false → items_of m ≡ [] → ⊥
 not_empty m h e = let x : true ≡ false = sym (ap (λ xs. is_empty xs) (agenda_shown m [] e)) ∙ h in absurd (cc (x))
 
 -- an end in front has no candidate
-pub no_candidate : (m : Machine) (i : Item) (rest : List Item) (c : Candidate) → Contains (tries (state_of m)) c → items_of m ≡ i ∷ rest → ((g : FormAt) → i ≡ Goal g → ⊥) → ⊥
+pub no_candidate : (m : Parts) (i : Item) (rest : List Item) (c : Candidate) → Contains (tries (state_of m)) c → items_of m ≡ i ∷ rest → ((g : FormAt) → i ≡ Goal g → ⊥) → ⊥
 no_candidate m i rest c h e n =
     let p = subst (λ (cs : List Candidate). Contains cs c) (tries_end m i rest e n) h in let l = p.1 in absurd (omega (arith, l))

@@ -1,19 +1,23 @@
--- Terms read under bindings, as a bank grows.
-use Rattle.std.proofs.Common.{◌≡◌, ℕ, zero, suc, ◌<◌, ◌≤◌, List, [], ◌∷◌, length, map, All, get_or, take, refl, ap, sym, subst, ◌∙◌, arith, Option, Some, None}
-use Rattle.std.specs.Prelude.{slice_index_or, Result, Ok, Err, IfOk, IsSome}
-use Rattle.std.specs.List.{Contains, slice_index}
-use Rattle.std.proofs.Math.ListN.{get_or-append}
-use Rattle.std.proofs.lemmas.List.Elements.{All-head, All-tail}
-use Rattle.std.proofs.lemmas.List.{ext_get_or}
+-- Terms read under bindings, as a bank and its cells grow.
+use Rattle.std.proofs.Common.{◌≡◌, ℕ, zero, suc, ◌+◌, ◌<◌, ◌≤◌, List, [], ◌∷◌, ◌++◌, length, map, replicate, All, get_or, refl, ap, sym, subst, ◌∙◌, arith, Option, Some, None, append_assoc}
+use Rattle.std.specs.Prelude.{slice_index_or}
+use Rattle.std.proofs.lemmas.List.{append-nil}
+use Rattle.std.proofs.lemmas.List.Elements.{All-nil, All-cons, All-head, All-tail}
 use Rattle.ll_bank.specs.declared.At.{At}
 use Rattle.ll_bank.specs.declared.Head.{Head}
-use Rattle.ll_bank.specs.Term.{Term, Con, Ap, sub, app, apply}
-use Rattle.ll_bank.specs.Nodes.{Nodes, VarNode, HasTerm, term_tree, term_trees, ShowsTerm, Extends, AllInTerms}
-use Rattle.ll_bank.specs.Walk.{arguments_of, term_node_at, IsInOrder, HasImage, HasImages, ShowsAt, IsCopying}
+use Rattle.ll_bank.specs.Term.{Term, Var, Con, Ap, sub, app, apply}
+use Rattle.ll_bank.specs.Nodes.{Nodes, HasTerm, term_tree, term_trees, Extends}
 use Rattle.ll_bank.proofs.Trees.{term_tree-extends, HasTerm-extends}
-use Rattle.ll_bank.proofs.ImageLemmas.{argument_images, root_image, image_found, shown_images}
+use Rattle.ll_laws.specs.Attempt.{vars_from}
+use Rattle.ll_laws.proofs.ConsistentStates.{length-vars}
 use Rattle.ll_laws.proofs.SubLaws.{sub_same}
-use Rattle.ll_freeze.specs.Reading.{shown, reading, HasValue}
+use Rattle.ll_bindings.specs.Bindings.{Table, cell, shown, followed, IsTable, IsOrdered}
+use Rattle.ll_bindings.proofs.CallerLemmas.{with_cell, table-extends, table-fresh, found-fresh}
+use Rattle.ll_store.specs.declared.cells.Cell.{Cell}
+use Rattle.ll_store.specs.Tables.{table_of}
+use Rattle.ll_freeze.specs.Parts.{Parts, table}
+use Rattle.ll_freeze.specs.Reading.{reading, HasValue}
+use Rattle.ll_freeze.specs.Fits.{Fits}
 
 sub-apply : (s : ℕ → Term) (f : Term) (ts : List Term) → sub s (apply f ts) ≡ apply (sub s f) (map (sub s) ts)
 sub-apply s f [] = refl
@@ -28,7 +32,7 @@ map_trees s nodes [] = refl
 map_trees s nodes (a ∷ ats) = λ i. sub s (term_tree nodes a.0) ∷ map_trees s nodes ats i
 
 -- what an entry shows stays
-pub shown_same : (old new : Nodes) → Extends old new → (x : ℕ) (o : Option At) → HasValue old o → shown new x o ≡ shown old x o
+shown_same : (old new : Nodes) → Extends old new → (x : ℕ) (o : Option At) → HasValue old o → shown new x o ≡ shown old x o
 shown_same old new e x None h = refl
 shown_same old new e x (Some at) h = term_tree-extends e at.0 h
 
@@ -37,9 +41,16 @@ entry_has nodes [] h x = tt
 entry_has nodes (o ∷ bound) h zero = All-head (HasValue nodes) o bound h
 entry_has nodes (o ∷ bound) h (suc x) = entry_has nodes bound (All-tail (HasValue nodes) o bound h) x
 
+followed_same : (old new : Nodes) → Extends old new → (bound : List (Option At)) → All (HasValue old) bound → (n x : ℕ) → followed new bound n x ≡ followed old bound n x
+followed_same old new e bound h zero x = refl
+followed_same old new e bound h (suc n) x =
+    let o = slice_index_or bound x None in
+    ap (sub (followed new bound n)) (shown_same old new e x o (entry_has old bound h x))
+    ∙ sub_same (followed new bound n) (followed old bound n) (followed_same old new e bound h n) (shown old x o)
+
 -- and so does every variable's reading
 pub reading_same : (old new : Nodes) → Extends old new → (bound : List (Option At)) → All (HasValue old) bound → (x : ℕ) → reading new bound x ≡ reading old bound x
-reading_same old new e bound h x = shown_same old new e x (slice_index_or bound x None) (entry_has old bound h x)
+reading_same old new e bound h x = followed_same old new e bound h (length bound) x
 
 -- and every term's
 pub read_same : (old new : Nodes) → Extends old new → (bound : List (Option At)) → All (HasValue old) bound → (at : ℕ) → HasTerm old at
@@ -54,76 +65,89 @@ values_extend old new e bound h k d l = go (get_or bound k d) (h k d l)
     go None v = tt
     go (Some at) v = HasTerm-extends e at.0 v
 
--- the node at an old place stays
-pub node_same : (old new : Nodes) → Extends old new → (at : ℕ) → HasTerm old at → term_node_at new at ≡ term_node_at old at
-node_same old new e at l = ap (λ ts. slice_index_or ts at (VarNode 0)) e.terms ∙ get_or-append old.terms e.more_terms (VarNode 0) at l
+-- a variable past all entries stands for itself
+entry_past : (bound : List (Option At)) (x : ℕ) → length bound ≤ x → slice_index_or bound x None ≡ None
+entry_past [] x l = refl
+entry_past (o ∷ bound) zero l = absurd (omega arith)
+entry_past (o ∷ bound) (suc x) l = entry_past bound x (omega arith)
 
--- the arguments of the next place have been read
-pub arguments_read : (old now : Nodes) (lookup : ℕ → Option At) (bound : List (Option At)) (places : List ℕ) (i : ℕ) → All (HasValue old) bound → IsInOrder old places → i < length places
-    → IsCopying old now lookup (λ a. sub (reading old bound) (term_tree old a)) (take i places) → (a : ℕ) → Contains (arguments_of (term_node_at now (slice_index places i))) a
-    → HasImage (ShowsAt now) lookup a (sub (reading now bound) (term_tree now a))
-arguments_read old now lookup bound places i has order inside c a arg =
-    let here : HasTerm old (slice_index places i) = order.inside i 0 inside in
-    let old_arg = subst (λ n. Contains (arguments_of n) a) (node_same old now c.keeps (slice_index places i) here) arg in
-    let b = order.before i a inside old_arg in
-    let below : HasTerm old a = subst (λ z. z < length old.terms) b.1.1 (order.inside b.0 0 (let m = b.1.0 in omega arith)) in
-    subst (λ t. HasImage (ShowsAt now) lookup a t) (sym (read_same old now c.keeps bound has a below))
-    (argument_images old (ShowsAt now) lookup (λ z. sub (reading old bound) (term_tree old z)) places i order inside c.images a old_arg)
+followed_free : (nodes : Nodes) (bound : List (Option At)) (n x : ℕ) → slice_index_or bound x None ≡ None → followed nodes bound n x ≡ Var x
+followed_free nodes bound zero x e = refl
+followed_free nodes bound (suc n) x e = ap (λ o. sub (followed nodes bound n) (shown nodes x o)) e ∙ followed_free nodes bound n x e
 
--- an application whose arguments read as they stand is read as it stands
-pub unchanged : (nodes : Nodes) (s : ℕ → Term) (at : ℕ) (h : Head) (args read : List At) → HasTerm nodes at → term_tree nodes at ≡ app h (term_trees nodes args) → args ≡ read
-    → term_trees nodes read ≡ map (λ a. sub s (term_tree nodes a.0)) args → ShowsTerm nodes at (sub s (term_tree nodes at))
-unchanged nodes s at h args read inside tree same e = record {
-  inside = inside;
-  tree = tree ∙ (ap (app h) (ap (term_trees nodes) same ∙ (e ∙ sym (map_trees s nodes args))) ∙ (sym (sub_app s h (term_trees nodes args)) ∙ ap (sub s) (sym tree)));
-}
+pub reading_past : (nodes : Nodes) (bound : List (Option At)) (x : ℕ) → length bound ≤ x → reading nodes bound x ≡ Var x
+reading_past nodes bound x l = followed_free nodes bound (length bound) x (entry_past bound x l)
 
--- an application over its arguments as they were read
-pub rebuilt : (nodes new : Nodes) (s : ℕ → Term) (at copy : ℕ) (h : Head) (args read : List At) → term_tree nodes at ≡ app h (term_trees nodes args)
-    → term_trees nodes read ≡ map (λ a. sub s (term_tree nodes a.0)) args → ShowsTerm new copy (app h (term_trees nodes read)) → ShowsTerm new copy (sub s (term_tree nodes at))
-rebuilt nodes new s at copy h args read tree e shows = record {
-  inside = shows.inside;
-  tree = shows.tree ∙ (ap (app h) (e ∙ sym (map_trees s nodes args)) ∙ (sym (sub_app s h (term_trees nodes args)) ∙ ap (sub s) (sym tree)));
-}
+-- ---- tables
 
--- an answer that shows a term, under an implication
-pub map_shows : {E : Type 0} (r : Result At E) (new : Nodes) (t u : Term) → ((copy : At) → ShowsTerm new copy.0 t → ShowsTerm new copy.0 u) → IfOk r (λ copy. ShowsTerm new copy.0 t)
-    → IfOk r (λ copy. ShowsTerm new copy.0 u)
-map_shows (Ok copy) new t u f h = f copy h
-map_shows (Err e) new t u f h = tt
-
--- two lists of places are one where each of their places is
-pub same_places : (ats bts : List At) → length ats ≡ length bts → ((k : ℕ) → k < length ats → (get_or ats k (record { 0 = 0 })).0 ≡ (get_or bts k (record { 0 = 0 })).0) → ats ≡ bts
-same_places ats bts n h = ext_get_or (record { 0 = 0 }) ats bts n (λ k l. one (get_or ats k (record { 0 = 0 })) (get_or bts k (record { 0 = 0 })) (h k l))
+-- the entries of a table are places of the bank
+pub table_values : (nodes : Nodes) (bound : List (Option At)) → ((x : ℕ) (at : At) → slice_index_or bound x None ≡ Some at → HasTerm nodes at.0) → All (HasValue nodes) bound
+table_values nodes [] h = All-nil (HasValue nodes)
+table_values nodes (o ∷ bound) h = All-cons (HasValue nodes) o bound (one o (h 0)) (table_values nodes bound (λ x at e. h (suc x) at e))
   where
-    one : (p q : At) → p.0 ≡ q.0 → p ≡ q
-    one p q d = λ i. record { 0 = d i }
+    one : (p : Option At) → ((at : At) → p ≡ Some at → HasTerm nodes at.0) → HasValue nodes p
+    one None k = tt
+    one (Some at) k = k at refl
 
-pub shows_as : (nodes : Nodes) (at : ℕ) (t u : Term) → t ≡ u → ShowsTerm nodes at t → ShowsTerm nodes at u
-shows_as nodes at t u e s = record { inside = s.inside; tree = s.tree ∙ e }
+value_at : (nodes : Nodes) (bound : List (Option At)) → All (HasValue nodes) bound → (x : ℕ) (at : At) → slice_index_or bound x None ≡ Some at → HasTerm nodes at.0
+value_at nodes bound h x at e = subst (HasValue nodes) e (entry_has nodes bound h x)
 
--- at the end each root has its image
-module _ (now : Nodes) (lookup : ℕ → Option At) (made : ℕ → Term) (places : List ℕ) (i : ℕ) (roots : List At) (all : length places ≤ i) (images : HasImages (ShowsAt now) lookup made (take i places))
-    (listed : All (λ root. Contains places root.0) roots) where
-  roots_have : All (λ a. HasImage (ShowsAt now) lookup a.0 (made a.0)) roots
-  roots_have k d l = root_image lookup made places i (ShowsAt now) (get_or roots k d).0 all images (listed k d l)
+-- the bindings of a machine are a table
+pub fits_table : (m : Parts) → Fits m → IsTable m.bank (table m)
+fits_table m f = record { bound = f.count; places = value_at m.bank m.bound f.bound; ordered = f.ordered }
 
-  pub roots_found : All (λ a. IsSome (lookup a.0)) roots
-  roots_found k d l = image_found (ShowsAt now) lookup (get_or roots k d).0 (made (get_or roots k d).0) (roots_have k d l)
+-- so they are as the bank grows
+pub ordered_extends : (m : Parts) (bank : Nodes) → Fits m → Extends m.bank bank → IsOrdered bank (table m)
+ordered_extends m bank f e = (table-extends m.bank bank (table m) (fits_table m f) e).ordered
 
-  pub roots_shown : (found : List At) → map (λ (v : At). let o : Option At = Some v in o) found ≡ map (λ a. lookup a.0) roots
-      → AllInTerms now found × (term_trees now found ≡ map (λ a. made a.0) roots)
-  roots_shown found e = shown_images now lookup made roots found e roots_have
+-- ---- more cells
 
--- the answer's places
-pub read_inside : {X E : Type 0} (items : X → List At) (r : Result X E) (now : Nodes) (lookup : ℕ → Option At) (made : ℕ → Term) (places : List ℕ) (i : ℕ) (roots : List At) → length places ≤ i
-    → HasImages (ShowsAt now) lookup made (take i places) → All (λ root. Contains places root.0) roots
-    → IfOk r (λ found. map (λ (v : At). let o : Option At = Some v in o) (items found) ≡ map (λ a. lookup a.0) roots) → IfOk r (λ found. AllInTerms now (items found))
-read_inside items (Ok found) now lookup made places i roots all images listed e = (roots_shown now lookup made places i roots all images listed (items found) e).0
-read_inside items (Err x) now lookup made places i roots all images listed e = tt
+-- with so many unbound cells more
+abbrev pub with_cells : Table → ℕ → ℕ → Table
+with_cells t n l = record { bound = t.bound ++ replicate n None; levels = t.levels ++ replicate n l }
 
-pub read_shown : {X E : Type 0} (items : X → List At) (r : Result X E) (now : Nodes) (lookup : ℕ → Option At) (made : ℕ → Term) (places : List ℕ) (i : ℕ) (roots : List At) → length places ≤ i
-    → HasImages (ShowsAt now) lookup made (take i places) → All (λ root. Contains places root.0) roots
-    → IfOk r (λ found. map (λ (v : At). let o : Option At = Some v in o) (items found) ≡ map (λ a. lookup a.0) roots) → IfOk r (λ found. term_trees now (items found) ≡ map (λ a. made a.0) roots)
-read_shown items (Ok found) now lookup made places i roots all images listed e = (roots_shown now lookup made places i roots all images listed (items found) e).1
-read_shown items (Err x) now lookup made places i roots all images listed e = tt
+pub same_table : (t : Table) (bound : List (Option At)) (levels : List ℕ) → bound ≡ t.bound → levels ≡ t.levels → record { bound = bound; levels = levels } ≡ t
+same_table t bound levels p q = λ i. record { bound = p i; levels = q i }
+
+none_more : (t : Table) (l : ℕ) → with_cells t 0 l ≡ t
+none_more t l = same_table t (t.bound ++ []) (t.levels ++ []) (append-nil t.bound) (append-nil t.levels)
+
+one_more : (t : Table) (n l : ℕ) → with_cells t (suc n) l ≡ with_cells (with_cell t l) n l
+one_more t n l = λ i. record { bound = sym (append_assoc t.bound (None ∷ []) (replicate n None)) i; levels = sym (append_assoc t.levels (l ∷ []) (replicate n l)) i }
+
+pub table_more : (nodes : Nodes) (t : Table) (n l : ℕ) → IsTable nodes t → IsTable nodes (with_cells t n l)
+table_more nodes t zero l h = subst (IsTable nodes) (sym (none_more t l)) h
+table_more nodes t (suc n) l h = subst (IsTable nodes) (sym (one_more t n l)) (table_more nodes (with_cell t l) n l (table-fresh nodes t l h))
+
+pub reads_more : (nodes : Nodes) (t : Table) (n l : ℕ) → IsTable nodes t → (x : ℕ) → reading nodes (t.bound ++ replicate n None) x ≡ reading nodes t.bound x
+reads_more nodes t zero l h x = ap (λ bs. reading nodes bs x) (append-nil t.bound)
+reads_more nodes t (suc n) l h x =
+    ap (λ bs. reading nodes bs x) (sym (append_assoc t.bound (None ∷ []) (replicate n None)))
+    ∙ (reads_more nodes (with_cell t l) n l (table-fresh nodes t l h) x ∙ found-fresh nodes t l h x)
+
+-- the cells of a store with more
+pub bound_more : (cells : List Cell) (n l : ℕ) → (table_of (cells ++ replicate n (record { to = None; level = l }))).bound ≡ (table_of cells).bound ++ replicate n None
+bound_more [] zero l = refl
+bound_more [] (suc n) l = ap (λ bs. None ∷ bs) (bound_more [] n l)
+bound_more (c ∷ cells) n l = ap (λ bs. c.to ∷ bs) (bound_more cells n l)
+
+pub levels_more : (cells : List Cell) (n l : ℕ) → (table_of (cells ++ replicate n (record { to = None; level = l }))).levels ≡ (table_of cells).levels ++ replicate n l
+levels_more [] zero l = refl
+levels_more [] (suc n) l = ap (λ ls. l ∷ ls) (levels_more [] n l)
+levels_more (c ∷ cells) n l = ap (λ ls. c.level ∷ ls) (levels_more cells n l)
+
+pub cells_bound : (old new : List Cell) (n count l : ℕ) → new ≡ old ++ replicate n (record { to = None; level = l }) → n ≡ count → (table_of new).bound ≡ (table_of old).bound ++ replicate count None
+cells_bound old new n count l e s = ap (λ cs. (table_of cs).bound) e ∙ (bound_more old n l ∙ ap (λ k. (table_of old).bound ++ replicate k None) s)
+
+pub cells_levels : (old new : List Cell) (n count l : ℕ) → new ≡ old ++ replicate n (record { to = None; level = l }) → n ≡ count → (table_of new).levels ≡ (table_of old).levels ++ replicate count l
+cells_levels old new n count l e s = ap (λ cs. (table_of cs).levels) e ∙ (levels_more old n l ∙ ap (λ k. (table_of old).levels ++ replicate k l) s)
+
+-- ---- lists of terms
+
+pub length_trees : (nodes : Nodes) (ats : List At) → length (term_trees nodes ats) ≡ length ats
+length_trees nodes [] = refl
+length_trees nodes (a ∷ ats) = ap suc (length_trees nodes ats)
+
+-- as many terms as variables
+pub length_variables : (nodes : Nodes) (ats : List At) (n : ℕ) → term_trees nodes ats ≡ vars_from 0 n → length ats ≡ n
+length_variables nodes ats n e = sym (length_trees nodes ats) ∙ (ap (λ (ts : List Term). length ts) e ∙ length-vars 0 n)

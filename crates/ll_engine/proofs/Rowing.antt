@@ -17,10 +17,9 @@ use Rattle.ll_laws.specs.Attempt.{attempt, attempt_agenda, attempt_goal, take_si
 use Rattle.ll_laws.specs.Valid.{IsFormula, GoalSide, ClauseSide}
 use Rattle.ll_laws.proofs.ConsistentForms.{Fits as FormFits, fits_of_formula, formula_of_fits}
 use Rattle.ll_laws.proofs.ConsistentSteps.{steps_consistent}
-use Rattle.ll_resources.specs.History.{History}
 use Rattle.ll_resources.specs.Resources.{Resources, saved_at, saved_now, saved_as, KeepsSaved, after_load, after_erase, after_save, after_bang}
 use Rattle.ll_resources.specs.declared.context.Saved.{Saved as Handle}
-use Rattle.ll_freeze.specs.declared.machine.Machine.{Machine}
+use Rattle.ll_freeze.specs.Parts.{Parts}
 use Rattle.ll_freeze.specs.declared.machine.Item.{Item}
 use Rattle.ll_freeze.specs.declared.machine.Item.TheVariants.{Goal, LolliEnd, ImpEnd, Mid, WithEnd, BangEnd}
 use Rattle.ll_freeze.specs.Reading.{reading}
@@ -33,138 +32,138 @@ use Rattle.ll_engine.proofs.MachineLemmas.{goal_inside}
 use Rattle.ll_freeze.proofs.CallerLemmas.{state_by, state_is, fits_kept, more_kept, one_more}
 
 -- a machine with this goal in front
-abbrev pub at_goal : Machine → FormAt → List Item → State
-at_goal m g rest = state_by m.bank m.bound.items m.context.present (Goal g ∷ rest) m.levels.items m.eigens m.terms.items m.steps.items
+abbrev pub at_goal : Parts → FormAt → List Item → State
+at_goal m g rest = state_by m.bank m.bound m.resources (Goal g ∷ rest) m.levels m.eigens m.terms m.steps
 
-pub attempt_by : (old : Machine) (g : FormAt) (rest : List Item) (c : Candidate) (f : Form) → items_of old ≡ Goal g ∷ rest → form_tree old.bank g.0 ≡ f
+pub attempt_by : (old : Parts) (g : FormAt) (rest : List Item) (c : Candidate) (f : Form) → items_of old ≡ Goal g ∷ rest → form_tree old.bank g.0 ≡ f
     → attempt (setting old) (state_of old) c
-    ≡ attempt_goal (setting old) (at_goal old g rest) (sub_form (reading old.bank old.bound.items) f) (map (shown_item old.bank old.bound.items old.context.present.kept) rest) c
+    ≡ attempt_goal (setting old) (at_goal old g rest) (sub_form (reading old.bank old.bound) f) (map (shown_item old.bank old.bound old.resources.kept) rest) c
 unfolding attempt
 attempt_by old g rest c f e1 e2 =
     let s : state_of old ≡ at_goal old g rest =
-    state_is old ∙ ap (λ xs. state_by old.bank old.bound.items old.context.present xs old.levels.items old.eigens old.terms.items old.steps.items) e1 in
+    state_is old ∙ ap (λ xs. state_by old.bank old.bound old.resources xs old.levels old.eigens old.terms old.steps) e1 in
     ap (λ (s : State). attempt_agenda (setting old) s s.agenda c) s
-    ∙ ap (λ (f : Form). attempt_goal (setting old) (at_goal old g rest) (sub_form (reading old.bank old.bound.items) f) (map (shown_item old.bank old.bound.items old.context.present.kept) rest) c) e2
+    ∙ ap (λ (f : Form). attempt_goal (setting old) (at_goal old g rest) (sub_form (reading old.bank old.bound) f) (map (shown_item old.bank old.bound old.resources.kept) rest) c) e2
 
 -- an inference that leaves the terms as they are
-pub row : (old new : Machine) (h : History FormAt) (k : Resources FormAt) (g : FormAt) (rest front : List Item) (step : Step) (c : Candidate) (f : Form) → Fits old → items_of old ≡ Goal g ∷ rest
-    → form_tree old.bank g.0 ≡ f → GoesOn (record old { context = h }) front rest step new → h.present ≡ k
-    → attempt_goal (setting old) (at_goal old g rest) (sub_form (reading old.bank old.bound.items) f) (map (shown_item old.bank old.bound.items old.context.present.kept) rest) c
-    ≡ Some (state_by old.bank old.bound.items k (front ++ rest) old.levels.items old.eigens old.terms.items (old.steps.items ++ step ∷ []))
+pub row : (old new : Parts) (h : Resources FormAt) (k : Resources FormAt) (g : FormAt) (rest front : List Item) (step : Step) (c : Candidate) (f : Form) → Fits old → items_of old ≡ Goal g ∷ rest
+    → form_tree old.bank g.0 ≡ f → GoesOn (record old { resources = h }) front rest step new → h ≡ k
+    → attempt_goal (setting old) (at_goal old g rest) (sub_form (reading old.bank old.bound) f) (map (shown_item old.bank old.bound old.resources.kept) rest) c
+    ≡ Some (state_by old.bank old.bound k (front ++ rest) old.levels old.eigens old.terms (old.steps ++ step ∷ []))
     → All (λ e. HasForm old.bank e.clause.0) k.entries → All (HasItem old.bank (length k.kept)) (front ++ rest)
     → All (λ e. IsFormula (allowed old) ClauseSide [] (form_tree old.bank e.clause.0)) k.entries → All (IsGoalIn (allowed old) old.bank) (front ++ rest)
-    → k.next ≤ suc old.context.present.next → Infers old c new
+    → k.next ≤ suc old.resources.next → Infers old c new
 row old new h k g rest front step c f fits e1 e2 go e4 e3 clauses items sorted goals next =
     let s : SameTerms old new =
     record {
-      problem = ap (λ (m : Machine). m.problem.now) go.same;
-      modules = ap (λ (m : Machine). m.modules.now) go.same;
-      bank = ap (λ (m : Machine). m.bank) go.same;
-      bound = ap (λ (m : Machine). m.bound.items) go.same;
-      levels = ap (λ (m : Machine). m.levels.items) go.same;
-      terms = ap (λ (m : Machine). m.terms.items) go.same;
+      problem = ap (λ (m : Parts). m.problem) go.same;
+      modules = ap (λ (m : Parts). m.modules) go.same;
+      bank = ap (λ (m : Parts). m.bank) go.same;
+      bound = ap (λ (m : Parts). m.bound) go.same;
+      levels = ap (λ (m : Parts). m.levels) go.same;
+      terms = ap (λ (m : Parts). m.terms) go.same;
     } in
-    let r : new.context.present ≡ k = ap (λ (m : Machine). m.context.present) go.same ∙ e4 in
-    let x : new.eigens ≡ old.eigens = ap (λ (m : Machine). m.eigens) go.same in
-    let t : state_of new ≡ state_by old.bank old.bound.items k (front ++ rest) old.levels.items old.eigens old.terms.items (old.steps.items ++ step ∷ []) =
+    let r : new.resources ≡ k = ap (λ (m : Parts). m.resources) go.same ∙ e4 in
+    let x : new.eigens ≡ old.eigens = ap (λ (m : Parts). m.eigens) go.same in
+    let t : state_of new ≡ state_by old.bank old.bound k (front ++ rest) old.levels old.eigens old.terms (old.steps ++ step ∷ []) =
     state_is new ∙ rw (s.bank, s.bound, r, go.items, s.levels, x, s.terms, go.steps) refl in
     let a : attempt (setting old) (state_of old) c ≡ Some (state_of new) = attempt_by old g rest c f e1 e2 ∙ (e3 ∙ ap (λ (s : State). Some s) (sym t)) in
-    let l = go.left in let n : new.context.present.next ≡ k.next = ap (λ r. r.next) r in
+    let l = go.left in let n : new.resources.next ≡ k.next = ap (λ r. r.next) r in
     record {
       gives = a;
       problem = s.problem;
       left = l;
       fits = fits_kept old new s fits
-          (steps_consistent (length old.problem.now.names) (setting old) (state_of old) (state_of new) c fits.valid.modules fits.consistent a)
+          (steps_consistent (length old.problem.names) (setting old) (state_of old) (state_of new) c fits.valid.modules fits.consistent a)
           x (rw r clauses) (rw r sorted) go.top (rw (r, go.items) items) (rw go.items goals) (let b = fits.labels in omega (arith, b, l, n, next)) (let b = fits.eigens in omega (arith, b, l, x));
     }
 
 -- items behind a goal are items of the machine
-pub rest_items : (m : Machine) (g : FormAt) (rest : List Item) → Fits m → items_of m ≡ Goal g ∷ rest → All (HasItem m.bank (length m.context.present.kept)) rest
+pub rest_items : (m : Parts) (g : FormAt) (rest : List Item) → Fits m → items_of m ≡ Goal g ∷ rest → All (HasItem m.bank (length m.resources.kept)) rest
 rest_items m g rest f e =
-    let a : All (HasItem m.bank (length m.context.present.kept)) (Goal g ∷ rest) = subst (λ (xs : List Item). All (HasItem m.bank (length m.context.present.kept)) xs) e f.items in
-    All-tail (HasItem m.bank (length m.context.present.kept)) (Goal g) rest a
+    let a : All (HasItem m.bank (length m.resources.kept)) (Goal g ∷ rest) = subst (λ (xs : List Item). All (HasItem m.bank (length m.resources.kept)) xs) e f.items in
+    All-tail (HasItem m.bank (length m.resources.kept)) (Goal g) rest a
 
-pub rest_goals : (m : Machine) (g : FormAt) (rest : List Item) → Fits m → items_of m ≡ Goal g ∷ rest → All (IsGoalIn (allowed m) m.bank) rest
+pub rest_goals : (m : Parts) (g : FormAt) (rest : List Item) → Fits m → items_of m ≡ Goal g ∷ rest → All (IsGoalIn (allowed m) m.bank) rest
 rest_goals m g rest f e =
     All-tail (IsGoalIn (allowed m) m.bank) (Goal g) rest (subst (λ (xs : List Item). All (IsGoalIn (allowed m) m.bank) xs) e f.sorted_goals)
 
 -- the goal in front as it stands
-pub goal_fits : (m : Machine) (g : FormAt) (rest : List Item) (h : Form) → Fits m → items_of m ≡ Goal g ∷ rest → form_tree m.bank g.0 ≡ h → FormFits (allowed m) GoalSide [] h
+pub goal_fits : (m : Parts) (g : FormAt) (rest : List Item) (h : Form) → Fits m → items_of m ≡ Goal g ∷ rest → form_tree m.bank g.0 ≡ h → FormFits (allowed m) GoalSide [] h
 goal_fits m g rest h f e1 e2 =
     let a : All (IsGoalIn (allowed m) m.bank) (Goal g ∷ rest) = subst (λ (xs : List Item). All (IsGoalIn (allowed m) m.bank) xs) e1 f.sorted_goals in
     fits_of_formula (allowed m) GoalSide [] h (subst (λ (x : Form). IsFormula (allowed m) GoalSide [] x) e2 (All-head (IsGoalIn (allowed m) m.bank) (Goal g) rest a))
 
 -- parts of the goal in front are places of the bank
-part : (m : Machine) (g f : FormAt) (rest : List Item) → Fits m → items_of m ≡ Goal g ∷ rest → f.0 < g.0 → HasForm m.bank f.0
+part : (m : Parts) (g f : FormAt) (rest : List Item) → Fits m → items_of m ≡ Goal g ∷ rest → f.0 < g.0 → HasForm m.bank f.0
 part m g f rest h e l = let a = goal_inside m g rest h e in omega (arith, a, l)
 
-pub one : (old new : Machine) (g : FormAt) (rest : List Item) (c : Candidate) → Fits old → items_of old ≡ Goal g ∷ rest → form_tree old.bank g.0 ≡ One
+pub one : (old new : Parts) (g : FormAt) (rest : List Item) (c : Candidate) → Fits old → items_of old ≡ Goal g ∷ rest → form_tree old.bank g.0 ≡ One
     → GoesOn old [] rest Plain new → Infers old c new
-one old new g rest c f e1 e2 go = row old new old.context old.context.present g rest [] Plain c One f e1 e2 go refl refl f.clauses (rest_items old g rest f e1) f.sorted_clauses (rest_goals old g rest f e1) (omega arith)
+one old new g rest c f e1 e2 go = row old new old.resources old.resources g rest [] Plain c One f e1 e2 go refl refl f.clauses (rest_items old g rest f e1) f.sorted_clauses (rest_goals old g rest f e1) (omega arith)
 
-pub top : (old new : Machine) (h : History FormAt) (g : FormAt) (rest : List Item) (c : Candidate) → Fits old → items_of old ≡ Goal g ∷ rest → form_tree old.bank g.0 ≡ Top
-    → h.present ≡ after_erase old.context.present → GoesOn (record old { context = h }) [] rest Plain new → Infers old c new
-top old new h g rest c f e1 e2 e go = row old new h (after_erase old.context.present) g rest [] Plain c Top f e1 e2 go e refl f.clauses (rest_items old g rest f e1) f.sorted_clauses (rest_goals old g rest f e1) (omega arith)
+pub top : (old new : Parts) (h : Resources FormAt) (g : FormAt) (rest : List Item) (c : Candidate) → Fits old → items_of old ≡ Goal g ∷ rest → form_tree old.bank g.0 ≡ Top
+    → h ≡ after_erase old.resources → GoesOn (record old { resources = h }) [] rest Plain new → Infers old c new
+top old new h g rest c f e1 e2 e go = row old new h (after_erase old.resources) g rest [] Plain c Top f e1 e2 go e refl f.clauses (rest_items old g rest f e1) f.sorted_clauses (rest_goals old g rest f e1) (omega arith)
 
-pub tensor : (old new : Machine) (g a b : FormAt) (rest : List Item) (c : Candidate) → Fits old → items_of old ≡ Goal g ∷ rest
+pub tensor : (old new : Parts) (g a b : FormAt) (rest : List Item) (c : Candidate) → Fits old → items_of old ≡ Goal g ∷ rest
     → form_tree old.bank g.0 ≡ Tensor (form_tree old.bank a.0) (form_tree old.bank b.0) → (a.0 < g.0) × (b.0 < g.0)
     → GoesOn old (Goal a ∷ Goal b ∷ []) rest Plain new → Infers old c new
 tensor old new g a b rest c f e1 e2 l go =
-    let P : Item → Type 0 = HasItem old.bank (length old.context.present.kept) in let may = allowed old in let R : Item → Type 0 = IsGoalIn may old.bank in
+    let P : Item → Type 0 = HasItem old.bank (length old.resources.kept) in let may = allowed old in let R : Item → Type 0 = IsGoalIn may old.bank in
     let s = goal_fits old g rest _ f e1 e2 in
-    row old new old.context old.context.present g rest (Goal a ∷ Goal b ∷ []) Plain c _ f e1 e2 go refl refl f.clauses
+    row old new old.resources old.resources g rest (Goal a ∷ Goal b ∷ []) Plain c _ f e1 e2 go refl refl f.clauses
     (All-cons P (Goal a) (Goal b ∷ rest) (part old g a rest f e1 l.0) (All-cons P (Goal b) rest (part old g b rest f e1 l.1) (rest_items old g rest f e1)))
     f.sorted_clauses
     (All-cons R (Goal a) (Goal b ∷ rest) (formula_of_fits may GoalSide [] _ s.1) (All-cons R (Goal b) rest (formula_of_fits may GoalSide [] _ s.2) (rest_goals old g rest f e1))) (omega arith)
 
-pub left : (old new : Machine) (g a b : FormAt) (rest : List Item) (c : Candidate) → Fits old → items_of old ≡ Goal g ∷ rest
+pub left : (old new : Parts) (g a b : FormAt) (rest : List Item) (c : Candidate) → Fits old → items_of old ≡ Goal g ∷ rest
     → form_tree old.bank g.0 ≡ Plus (form_tree old.bank a.0) (form_tree old.bank b.0) → (a.0 < g.0) × (b.0 < g.0) → c.leaf ≡ 0
     → GoesOn old (Goal a ∷ []) rest Left new → Infers old c new
 left old new g a b rest c f e1 e2 l z go =
-    let s = reading old.bank old.bound.items in let p = goal_fits old g rest _ f e1 e2 in
-    row old new old.context old.context.present g rest (Goal a ∷ []) Left c _ f e1 e2 go refl
-    (ap (λ k. Some (take_side k (at_goal old g rest) (sub_form s (form_tree old.bank a.0)) (sub_form s (form_tree old.bank b.0)) (map (shown_item old.bank old.bound.items old.context.present.kept) rest))) z)
-    f.clauses (All-cons (HasItem old.bank (length old.context.present.kept)) (Goal a) rest (part old g a rest f e1 l.0) (rest_items old g rest f e1))
+    let s = reading old.bank old.bound in let p = goal_fits old g rest _ f e1 e2 in
+    row old new old.resources old.resources g rest (Goal a ∷ []) Left c _ f e1 e2 go refl
+    (ap (λ k. Some (take_side k (at_goal old g rest) (sub_form s (form_tree old.bank a.0)) (sub_form s (form_tree old.bank b.0)) (map (shown_item old.bank old.bound old.resources.kept) rest))) z)
+    f.clauses (All-cons (HasItem old.bank (length old.resources.kept)) (Goal a) rest (part old g a rest f e1 l.0) (rest_items old g rest f e1))
     f.sorted_clauses (All-cons (IsGoalIn (allowed old) old.bank) (Goal a) rest (formula_of_fits (allowed old) GoalSide [] _ p.1) (rest_goals old g rest f e1)) (omega arith)
 
 right_side : (k : ℕ) (s : State) (f g : Form) (rest : List (ItemOf Form)) → (k ≡ 0 → ⊥) → take_side k s f g rest ≡ stepped s (GoalOf g ∷ rest) Right
 right_side zero s f g rest n = absurd (n refl)
 right_side (suc k) s f g rest n = refl
 
-pub right : (old new : Machine) (g a b : FormAt) (rest : List Item) (c : Candidate) → Fits old → items_of old ≡ Goal g ∷ rest
+pub right : (old new : Parts) (g a b : FormAt) (rest : List Item) (c : Candidate) → Fits old → items_of old ≡ Goal g ∷ rest
     → form_tree old.bank g.0 ≡ Plus (form_tree old.bank a.0) (form_tree old.bank b.0) → (a.0 < g.0) × (b.0 < g.0) → (c.leaf ≡ 0 → ⊥)
     → GoesOn old (Goal b ∷ []) rest Right new → Infers old c new
 right old new g a b rest c f e1 e2 l z go =
     let p = goal_fits old g rest _ f e1 e2 in
-    row old new old.context old.context.present g rest (Goal b ∷ []) Right c _ f e1 e2 go refl
+    row old new old.resources old.resources g rest (Goal b ∷ []) Right c _ f e1 e2 go refl
     (ap (λ (s : State). Some s) (right_side c.leaf (at_goal old g rest) _ _ _ z))
-    f.clauses (All-cons (HasItem old.bank (length old.context.present.kept)) (Goal b) rest (part old g b rest f e1 l.1) (rest_items old g rest f e1))
+    f.clauses (All-cons (HasItem old.bank (length old.resources.kept)) (Goal b) rest (part old g b rest f e1 l.1) (rest_items old g rest f e1))
     f.sorted_clauses (All-cons (IsGoalIn (allowed old) old.bank) (Goal b) rest (formula_of_fits (allowed old) GoalSide [] _ p.2) (rest_goals old g rest f e1)) (omega arith)
 
-pub implies : (old new : Machine) (h : History FormAt) (g r b : FormAt) (rest : List Item) (c : Candidate) → Fits old → items_of old ≡ Goal g ∷ rest
+pub implies : (old new : Parts) (h : Resources FormAt) (g r b : FormAt) (rest : List Item) (c : Candidate) → Fits old → items_of old ≡ Goal g ∷ rest
     → form_tree old.bank g.0 ≡ Imp (form_tree old.bank r.0) (form_tree old.bank b.0) → (r.0 < g.0) × (b.0 < g.0)
-    → h.present ≡ after_load Unbounded r old.context.present → GoesOn (record old { context = h }) (Goal b ∷ ImpEnd ∷ []) rest Plain new → Infers old c new
+    → h ≡ after_load Unbounded r old.resources → GoesOn (record old { resources = h }) (Goal b ∷ ImpEnd ∷ []) rest Plain new → Infers old c new
 implies old new h g r b rest c f e1 e2 l e go =
-    let P : Item → Type 0 = HasItem old.bank (length old.context.present.kept) in let may = allowed old in let R : Item → Type 0 = IsGoalIn may old.bank in
+    let P : Item → Type 0 = HasItem old.bank (length old.resources.kept) in let may = allowed old in let R : Item → Type 0 = IsGoalIn may old.bank in
     let s = goal_fits old g rest _ f e1 e2 in
-    row old new h (after_load Unbounded r old.context.present) g rest (Goal b ∷ ImpEnd ∷ []) Plain c _ f e1 e2 go e refl
-    (All-cons (λ (e : Entry FormAt). HasForm old.bank e.clause.0) _ old.context.present.entries (part old g r rest f e1 l.0) f.clauses)
+    row old new h (after_load Unbounded r old.resources) g rest (Goal b ∷ ImpEnd ∷ []) Plain c _ f e1 e2 go e refl
+    (All-cons (λ (e : Entry FormAt). HasForm old.bank e.clause.0) _ old.resources.entries (part old g r rest f e1 l.0) f.clauses)
     (All-cons P (Goal b) (ImpEnd ∷ rest) (part old g b rest f e1 l.1) (All-cons P ImpEnd rest tt (rest_items old g rest f e1)))
-    (All-cons (λ (e : Entry FormAt). IsFormula may ClauseSide [] (form_tree old.bank e.clause.0)) _ old.context.present.entries (formula_of_fits may ClauseSide [] _ s.0) f.sorted_clauses)
+    (All-cons (λ (e : Entry FormAt). IsFormula may ClauseSide [] (form_tree old.bank e.clause.0)) _ old.resources.entries (formula_of_fits may ClauseSide [] _ s.0) f.sorted_clauses)
     (All-cons R (Goal b) (ImpEnd ∷ rest) (formula_of_fits may GoalSide [] _ s.1) (All-cons R ImpEnd rest tt (rest_goals old g rest f e1))) (omega arith)
 
-pub linear : (old new : Machine) (h : History FormAt) (g r b : FormAt) (flag : _) (rest : List Item) (c : Candidate) → Fits old → items_of old ≡ Goal g ∷ rest
-    → form_tree old.bank g.0 ≡ Lolli (form_tree old.bank r.0) (form_tree old.bank b.0) → (r.0 < g.0) × (b.0 < g.0) → flag ≡ old.context.present.flag
-    → h.present ≡ after_load Linear r old.context.present → GoesOn (record old { context = h }) (Goal b ∷ LolliEnd flag ∷ []) rest Plain new → Infers old c new
+pub linear : (old new : Parts) (h : Resources FormAt) (g r b : FormAt) (flag : _) (rest : List Item) (c : Candidate) → Fits old → items_of old ≡ Goal g ∷ rest
+    → form_tree old.bank g.0 ≡ Lolli (form_tree old.bank r.0) (form_tree old.bank b.0) → (r.0 < g.0) × (b.0 < g.0) → flag ≡ old.resources.flag
+    → h ≡ after_load Linear r old.resources → GoesOn (record old { resources = h }) (Goal b ∷ LolliEnd flag ∷ []) rest Plain new → Infers old c new
 linear old new h g r b flag rest c f e1 e2 l w e go =
-    let P : Item → Type 0 = HasItem old.bank (length old.context.present.kept) in let may = allowed old in let R : Item → Type 0 = IsGoalIn may old.bank in
+    let P : Item → Type 0 = HasItem old.bank (length old.resources.kept) in let may = allowed old in let R : Item → Type 0 = IsGoalIn may old.bank in
     let s = goal_fits old g rest _ f e1 e2 in
-    row old new h (after_load Linear r old.context.present) g rest (Goal b ∷ LolliEnd flag ∷ []) Plain c _ f e1 e2 go e
-    (ap (λ v. Some (state_by old.bank old.bound.items (after_load Linear r old.context.present) (Goal b ∷ LolliEnd v ∷ rest) old.levels.items old.eigens old.terms.items (old.steps.items ++ Plain ∷ []))) (sym w))
-    (All-cons (λ (e : Entry FormAt). HasForm old.bank e.clause.0) _ old.context.present.entries (part old g r rest f e1 l.0) f.clauses)
+    row old new h (after_load Linear r old.resources) g rest (Goal b ∷ LolliEnd flag ∷ []) Plain c _ f e1 e2 go e
+    (ap (λ v. Some (state_by old.bank old.bound (after_load Linear r old.resources) (Goal b ∷ LolliEnd v ∷ rest) old.levels old.eigens old.terms (old.steps ++ Plain ∷ []))) (sym w))
+    (All-cons (λ (e : Entry FormAt). HasForm old.bank e.clause.0) _ old.resources.entries (part old g r rest f e1 l.0) f.clauses)
     (All-cons P (Goal b) (LolliEnd flag ∷ rest) (part old g b rest f e1 l.1) (All-cons P (LolliEnd flag) rest tt (rest_items old g rest f e1)))
-    (All-cons (λ (e : Entry FormAt). IsFormula may ClauseSide [] (form_tree old.bank e.clause.0)) _ old.context.present.entries (formula_of_fits may ClauseSide [] _ s.0) f.sorted_clauses)
+    (All-cons (λ (e : Entry FormAt). IsFormula may ClauseSide [] (form_tree old.bank e.clause.0)) _ old.resources.entries (formula_of_fits may ClauseSide [] _ s.0) f.sorted_clauses)
     (All-cons R (Goal b) (LolliEnd flag ∷ rest) (formula_of_fits may GoalSide [] _ s.1) (All-cons R (LolliEnd flag) rest tt (rest_goals old g rest f e1))) (omega arith)
 
 -- what was kept stays, so items behind a goal show what they showed
@@ -194,22 +193,22 @@ unlive_shown : (bank : Nodes) (bound : List (Option At)) (es : List (Entry FormA
 unlive_shown bank bound [] = refl
 unlive_shown bank bound (e ∷ es) = ap (λ xs. unlive (shown_entry bank bound e) ∷ xs) (unlive_shown bank bound es)
 
-saved_shown : (old : Machine) (g : FormAt) (rest : List Item) (saved : Handle) (r : Resources FormAt) → saved_at r.kept saved ≡ saved_now old.context.present
+saved_shown : (old : Parts) (g : FormAt) (rest : List Item) (saved : Handle) (r : Resources FormAt) → saved_at r.kept saved ≡ saved_now old.resources
     → saved_of (at_goal old g rest) ≡ saved_at r.kept saved
 saved_shown old g rest saved r e =
-    ap (λ bs. record { live = bs; flag = old.context.present.flag }) (marks_shown old.bank old.bound.items old.context.present.entries) ∙ sym e
+    ap (λ bs. record { live = bs; flag = old.resources.flag }) (marks_shown old.bank old.bound old.resources.entries) ∙ sym e
 
-pub both : (old new : Machine) (h : History FormAt) (g a b : FormAt) (saved : Handle) (rest : List Item) (c : Candidate) → Fits old → items_of old ≡ Goal g ∷ rest
+pub both : (old new : Parts) (h : Resources FormAt) (g a b : FormAt) (saved : Handle) (rest : List Item) (c : Candidate) → Fits old → items_of old ≡ Goal g ∷ rest
     → form_tree old.bank g.0 ≡ With (form_tree old.bank a.0) (form_tree old.bank b.0) → (a.0 < g.0) × (b.0 < g.0)
-    → saved ≡ saved_as (length old.context.present.kept) → saved_at h.present.kept saved ≡ saved_now old.context.present
-    → KeepsSaved (length old.context.present.kept) old.context.present h.present → h.present ≡ after_save old.context.present
-    → GoesOn (record old { context = h }) (Goal a ∷ Mid saved ∷ Goal b ∷ WithEnd saved saved ∷ []) rest Plain new → Infers old c new
+    → saved ≡ saved_as (length old.resources.kept) → saved_at h.kept saved ≡ saved_now old.resources
+    → KeepsSaved (length old.resources.kept) old.resources h → h ≡ after_save old.resources
+    → GoesOn (record old { resources = h }) (Goal a ∷ Mid saved ∷ Goal b ∷ WithEnd saved saved ∷ []) rest Plain new → Infers old c new
 both old new h g a b saved rest c f e1 e2 l n s k e go =
     let may = allowed old in let R : Item → Type 0 = IsGoalIn may old.bank in let w = goal_fits old g rest _ f e1 e2 in
-    let bank = old.bank in let bound = old.bound.items in let q = after_save old.context.present in let t = reading bank bound in
-    let s2 : saved_at q.kept saved ≡ saved_now old.context.present = subst (λ (r : Resources FormAt). saved_at r.kept saved ≡ saved_now old.context.present) e s in
-    let k2 : KeepsSaved (length old.context.present.kept) old.context.present q = subst (λ (r : Resources FormAt). KeepsSaved (length old.context.present.kept) old.context.present r) e k in
-    let m = one_more old.context.present.kept (saved_now old.context.present) in
+    let bank = old.bank in let bound = old.bound in let q = after_save old.resources in let t = reading bank bound in
+    let s2 : saved_at q.kept saved ≡ saved_now old.resources = subst (λ (r : Resources FormAt). saved_at r.kept saved ≡ saved_now old.resources) e s in
+    let k2 : KeepsSaved (length old.resources.kept) old.resources q = subst (λ (r : Resources FormAt). KeepsSaved (length old.resources.kept) old.resources r) e k in
+    let m = one_more old.resources.kept (saved_now old.resources) in
     let P : Item → Type 0 = HasItem bank (length q.kept) in
     let d = rest_items old g rest f e1 in
     let i : saved.number < length q.kept = let x = ap (λ (h : Handle). h.number) n in omega (arith, x, m) in
@@ -218,39 +217,39 @@ both old new h g a b saved rest c f e1 e2 l n s k e go =
       agenda = GoalOf (sub_form t (form_tree bank a.0)) ∷ WithMiddle v ∷ GoalOf (sub_form t (form_tree bank b.0)) ∷ EndOfWith v v ∷ xs;
       context = map (shown_entry bank bound) q.entries;
       flag = false;
-      levels = old.levels.items;
+      levels = old.levels;
       eigens = old.eigens;
       terms = (at_goal old g rest).terms;
       label = q.next;
-      steps = old.steps.items ++ Plain ∷ [];
+      steps = old.steps ++ Plain ∷ [];
     }) in
     row old new h q g rest (Goal a ∷ Mid saved ∷ Goal b ∷ WithEnd saved saved ∷ []) Plain c _ f e1 e2 go e
-    (ap (λ v. make v (map (shown_item bank bound old.context.present.kept) rest)) (saved_shown old g rest saved q s2)
-    ∙ ap (λ xs. make (saved_at q.kept saved) xs) (sym (all_shown bank bound (length old.context.present.kept) old.context.present q rest k2 d)))
+    (ap (λ v. make v (map (shown_item bank bound old.resources.kept) rest)) (saved_shown old g rest saved q s2)
+    ∙ ap (λ xs. make (saved_at q.kept saved) xs) (sym (all_shown bank bound (length old.resources.kept) old.resources q rest k2 d)))
     f.clauses
     (All-cons P (Goal a) (Mid saved ∷ Goal b ∷ WithEnd saved saved ∷ rest) (part old g a rest f e1 l.0)
     (All-cons P (Mid saved) (Goal b ∷ WithEnd saved saved ∷ rest) i
     (All-cons P (Goal b) (WithEnd saved saved ∷ rest) (part old g b rest f e1 l.1)
     (All-cons P (WithEnd saved saved) rest (i, i)
-    (All-weaker (HasItem bank (length old.context.present.kept)) P (λ x y. more_kept bank (length old.context.present.kept) (length q.kept) x (omega (arith, m)) y) rest d)))))
+    (All-weaker (HasItem bank (length old.resources.kept)) P (λ x y. more_kept bank (length old.resources.kept) (length q.kept) x (omega (arith, m)) y) rest d)))))
     f.sorted_clauses
     (All-cons R (Goal a) (Mid saved ∷ Goal b ∷ WithEnd saved saved ∷ rest) (formula_of_fits may GoalSide [] _ w.0)
     (All-cons R (Mid saved) (Goal b ∷ WithEnd saved saved ∷ rest) tt
     (All-cons R (Goal b) (WithEnd saved saved ∷ rest) (formula_of_fits may GoalSide [] _ w.1) (All-cons R (WithEnd saved saved) rest tt (rest_goals old g rest f e1)))))
     (omega arith)
 
-pub bang : (old new : Machine) (h1 h : History FormAt) (g a : FormAt) (saved : Handle) (rest : List Item) (c : Candidate) → Fits old → items_of old ≡ Goal g ∷ rest
+pub bang : (old new : Parts) (h1 h : Resources FormAt) (g a : FormAt) (saved : Handle) (rest : List Item) (c : Candidate) → Fits old → items_of old ≡ Goal g ∷ rest
     → form_tree old.bank g.0 ≡ Bang (form_tree old.bank a.0) → a.0 < g.0
-    → saved ≡ saved_as (length old.context.present.kept) → saved_at h1.present.kept saved ≡ saved_now old.context.present
-    → KeepsSaved (length old.context.present.kept) old.context.present h1.present → h1.present ≡ after_save old.context.present
-    → h.present ≡ after_bang h1.present
-    → GoesOn (record old { context = h }) (Goal a ∷ BangEnd saved ∷ []) rest Plain new → Infers old c new
+    → saved ≡ saved_as (length old.resources.kept) → saved_at h1.kept saved ≡ saved_now old.resources
+    → KeepsSaved (length old.resources.kept) old.resources h1 → h1 ≡ after_save old.resources
+    → h ≡ after_bang h1
+    → GoesOn (record old { resources = h }) (Goal a ∷ BangEnd saved ∷ []) rest Plain new → Infers old c new
 bang old new h1 h g a saved rest c f e1 e2 l n s k e0 e go =
     let may = allowed old in let R : Item → Type 0 = IsGoalIn may old.bank in let w = goal_fits old g rest _ f e1 e2 in
-    let bank = old.bank in let bound = old.bound.items in let q = after_save old.context.present in let t = reading bank bound in
-    let s2 : saved_at q.kept saved ≡ saved_now old.context.present = subst (λ (r : Resources FormAt). saved_at r.kept saved ≡ saved_now old.context.present) e0 s in
-    let k2 : KeepsSaved (length old.context.present.kept) old.context.present q = subst (λ (r : Resources FormAt). KeepsSaved (length old.context.present.kept) old.context.present r) e0 k in
-    let m = one_more old.context.present.kept (saved_now old.context.present) in
+    let bank = old.bank in let bound = old.bound in let q = after_save old.resources in let t = reading bank bound in
+    let s2 : saved_at q.kept saved ≡ saved_now old.resources = subst (λ (r : Resources FormAt). saved_at r.kept saved ≡ saved_now old.resources) e0 s in
+    let k2 : KeepsSaved (length old.resources.kept) old.resources q = subst (λ (r : Resources FormAt). KeepsSaved (length old.resources.kept) old.resources r) e0 k in
+    let m = one_more old.resources.kept (saved_now old.resources) in
     let P : Item → Type 0 = HasItem bank (length q.kept) in
     let d = rest_items old g rest f e1 in
     let i : saved.number < length q.kept = let x = ap (λ (h : Handle). h.number) n in omega (arith, x, m) in
@@ -259,20 +258,20 @@ bang old new h1 h g a saved rest c f e1 e2 l n s k e0 e go =
       agenda = GoalOf (sub_form t (form_tree bank a.0)) ∷ EndOfBang v ∷ xs;
       context = es;
       flag = false;
-      levels = old.levels.items;
+      levels = old.levels;
       eigens = old.eigens;
       terms = (at_goal old g rest).terms;
       label = q.next;
-      steps = old.steps.items ++ Plain ∷ [];
+      steps = old.steps ++ Plain ∷ [];
     }) in
     row old new h (after_bang q) g rest (Goal a ∷ BangEnd saved ∷ []) Plain c _ f e1 e2 go (e ∙ ap (λ (r : Resources FormAt). after_bang r) e0)
-    (ap (λ v. make v (map unlive (map (shown_entry bank bound) old.context.present.entries)) (map (shown_item bank bound old.context.present.kept) rest)) (saved_shown old g rest saved q s2)
-    ∙ (ap (λ es. make (saved_at q.kept saved) es (map (shown_item bank bound old.context.present.kept) rest)) (unlive_shown bank bound old.context.present.entries)
-    ∙ ap (λ xs. make (saved_at q.kept saved) (map (shown_entry bank bound) (map unlive old.context.present.entries)) xs) (sym (all_shown bank bound (length old.context.present.kept) old.context.present q rest k2 d))))
-    (All-map (λ (e : Entry FormAt). HasForm bank e.clause.0) unlive old.context.present.entries f.clauses)
+    (ap (λ v. make v (map unlive (map (shown_entry bank bound) old.resources.entries)) (map (shown_item bank bound old.resources.kept) rest)) (saved_shown old g rest saved q s2)
+    ∙ (ap (λ es. make (saved_at q.kept saved) es (map (shown_item bank bound old.resources.kept) rest)) (unlive_shown bank bound old.resources.entries)
+    ∙ ap (λ xs. make (saved_at q.kept saved) (map (shown_entry bank bound) (map unlive old.resources.entries)) xs) (sym (all_shown bank bound (length old.resources.kept) old.resources q rest k2 d))))
+    (All-map (λ (e : Entry FormAt). HasForm bank e.clause.0) unlive old.resources.entries f.clauses)
     (All-cons P (Goal a) (BangEnd saved ∷ rest) (part old g a rest f e1 l)
     (All-cons P (BangEnd saved) rest i
-    (All-weaker (HasItem bank (length old.context.present.kept)) P (λ x y. more_kept bank (length old.context.present.kept) (length q.kept) x (omega (arith, m)) y) rest d)))
-    (All-map (λ (e : Entry FormAt). IsFormula may ClauseSide [] (form_tree bank e.clause.0)) unlive old.context.present.entries f.sorted_clauses)
+    (All-weaker (HasItem bank (length old.resources.kept)) P (λ x y. more_kept bank (length old.resources.kept) (length q.kept) x (omega (arith, m)) y) rest d)))
+    (All-map (λ (e : Entry FormAt). IsFormula may ClauseSide [] (form_tree bank e.clause.0)) unlive old.resources.entries f.sorted_clauses)
     (All-cons R (Goal a) (BangEnd saved ∷ rest) (formula_of_fits may GoalSide [] _ w.1) (All-cons R (BangEnd saved) rest tt (rest_goals old g rest f e1)))
     (omega arith)

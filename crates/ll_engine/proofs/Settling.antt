@@ -23,7 +23,7 @@ use Rattle.ll_resources.specs.Ends.{is_end, as_end, settled_after}
 use Rattle.ll_resources.proofs.EndLemmas.{ends_settle, middles_settle}
 use Rattle.ll_agenda.specs.Frames.{Frames, HasTop, items_at}
 use Rattle.ll_agenda.specs.declared.agenda.Top.{Top}
-use Rattle.ll_freeze.specs.declared.machine.Machine.{Machine}
+use Rattle.ll_freeze.specs.Parts.{Parts}
 use Rattle.ll_freeze.specs.declared.machine.Item.{Item}
 use Rattle.ll_freeze.specs.declared.machine.Item.TheVariants.{Goal, LolliEnd, ImpEnd, Mid, WithEnd, BangEnd}
 use Rattle.ll_freeze.specs.Reading.{read_form, read_term}
@@ -51,18 +51,18 @@ shown_raws bank bound kept (x ∷ xs) =
     ∙ ap (λ ys. map_item (read_form bank bound) (raw_item kept x) ∷ ys) (shown_raws bank bound kept xs)
 
 -- the state that a machine shows, with the front of another
-abbrev over : Machine → Option (Front FormAt FormAt) → Option State
-over m o = front_of (state_of m) (option_map (map_front (read_form m.bank m.bound.items) (read_form m.bank m.bound.items)) o)
+abbrev over : Parts → Option (Front FormAt FormAt) → Option State
+over m o = front_of (state_of m) (option_map (map_front (read_form m.bank m.bound) (read_form m.bank m.bound)) o)
 
-settle_is : (m : Machine) → settle (state_of m) ≡ over m (front_raw m.context.present (items_of m))
+settle_is : (m : Parts) → settle (state_of m) ≡ over m (front_raw m.resources (items_of m))
 unfolding settle state_of
 settle_is m =
-    let r = m.context.present in let f = read_form m.bank m.bound.items in
+    let r = m.resources in let f = read_form m.bank m.bound in
     ap (λ o. front_of (state_of m) o)
-    (ap (λ xs. settle_front xs (map (map_entry f) r.entries) r.flag) (shown_raws m.bank m.bound.items r.kept (items_of m))
+    (ap (λ xs. settle_front xs (map (map_entry f) r.entries) r.flag) (shown_raws m.bank m.bound r.kept (items_of m))
     ∙ front-map f f (map (raw_item r.kept) (items_of m)) r.entries r.flag)
 
-pub begins : (o : Machine) → Fits o → Going o o
+pub begins : (o : Parts) → Fits o → Going o o
 unfolding state_of
 begins o f =
     record {
@@ -82,31 +82,31 @@ begins o f =
       ends = f.consistent.ends;
     }
 
-pub fails : (o m : Machine) → Reaches o m → front_raw m.context.present (items_of m) ≡ None → settle (state_of o) ≡ None
+pub fails : (o m : Parts) → Reaches o m → front_raw m.resources (items_of m) ≡ None → settle (state_of o) ≡ None
 fails o m g e = settle_is o ∙ ap (λ x. over o x) (sym g.raw ∙ e)
 
-pub done : (o m : Machine) → Reaches o m → Fits o
-    → front_raw m.context.present (items_of m) ≡ Some (record { agenda = map (raw_item m.context.present.kept) (items_of m); context = m.context.present.entries; flag = m.context.present.flag })
+pub done : (o m : Parts) → Reaches o m → Fits o
+    → front_raw m.resources (items_of m) ≡ Some (record { agenda = map (raw_item m.resources.kept) (items_of m); context = m.resources.entries; flag = m.resources.flag })
     → IsSettled o m
 done o m g f e =
-    let s = g.same in let r = m.context.present in
-    let t : state_of m ≡ state_by o.bank o.bound.items m.context.present (items_of m) o.levels.items o.eigens o.terms.items o.steps.items =
+    let s = g.same in let r = m.resources in
+    let t : state_of m ≡ state_by o.bank o.bound m.resources (items_of m) o.levels o.eigens o.terms o.steps =
     state_is m ∙ rw (s.bank, s.bound, s.levels, g.eigens, s.terms, g.steps) refl in
     let make : List (ItemOf Form) → ℕ → State = λ xs n. record {
       agenda = xs;
-      context = map (shown_entry o.bank o.bound.items) r.entries;
+      context = map (shown_entry o.bank o.bound) r.entries;
       flag = r.flag;
-      levels = o.levels.items;
+      levels = o.levels;
       eigens = o.eigens;
-      terms = map (read_term o.bank o.bound.items) o.terms.items;
+      terms = map (read_term o.bank o.bound) o.terms;
       label = n;
-      steps = o.steps.items;
+      steps = o.steps;
     } in
-    let u : over o (front_raw m.context.present (items_of m)) ≡ Some (state_of m) =
+    let u : over o (front_raw m.resources (items_of m)) ≡ Some (state_of m) =
     ap (λ x. over o x) e
-    ∙ (ap (λ (s : State). Some (with_front s (map_front (read_form o.bank o.bound.items) (read_form o.bank o.bound.items) (record { agenda = map (raw_item r.kept) (items_of m); context = r.entries; flag = r.flag })))) (state_is o)
-    ∙ (ap (λ xs. Some (make xs o.context.present.next)) (sym (shown_raws o.bank o.bound.items r.kept (items_of m)))
-    ∙ (ap (λ n. Some (make (map (shown_item o.bank o.bound.items r.kept) (items_of m)) n)) (sym g.next) ∙ ap (λ (s : State). Some s) (sym t)))) in
+    ∙ (ap (λ (s : State). Some (with_front s (map_front (read_form o.bank o.bound) (read_form o.bank o.bound) (record { agenda = map (raw_item r.kept) (items_of m); context = r.entries; flag = r.flag })))) (state_is o)
+    ∙ (ap (λ xs. Some (make xs o.resources.next)) (sym (shown_raws o.bank o.bound r.kept (items_of m)))
+    ∙ (ap (λ n. Some (make (map (shown_item o.bank o.bound r.kept) (items_of m)) n)) (sym g.next) ∙ ap (λ (s : State). Some s) (sym t)))) in
     let a : settle (state_of o) ≡ Some (state_of m) = settle_is o ∙ (ap (λ x. over o x) (sym g.raw) ∙ u) in
     let n = g.next in let l = g.left in let x = g.eigens in
     record {
@@ -124,19 +124,19 @@ settled_keeps i r h e = go (settle_front (i ∷ []) r.entries r.flag) e
     go (Some f) e = let x : front_put r f ≡ h = cc in (ap (λ z. z.kept) (sym x), ap (λ z. z.next) (sym x))
 
 -- one end worked off
-pub off : (o m : Machine) (h : History FormAt) (i : Item) (rest : List Item) (top : _) → Going o m → items_of m ≡ i ∷ rest → is_end (raw_item m.context.present.kept i) ≡ true
-    → settled (as_end (raw_item m.context.present.kept i)) m.context.present ≡ Some h.present
-    → items_of (record m { context = h; top = top }) ≡ rest → HasTop m.agenda top
-    → ((P : FormAt → Type 0) → All (λ (e : Entry FormAt). P e.clause) m.context.present.entries → All (λ (e : Entry FormAt). P e.clause) h.present.entries)
-    → ends_fit (map (shown_item o.bank o.bound.items m.context.present.kept) rest) (map (shown_entry o.bank o.bound.items) h.present.entries) ≡ true
-    → Going o (record m { context = h; top = top })
+pub off : (o m : Parts) (h : Resources FormAt) (i : Item) (rest : List Item) (top : _) → Going o m → items_of m ≡ i ∷ rest → is_end (raw_item m.resources.kept i) ≡ true
+    → settled (as_end (raw_item m.resources.kept i)) m.resources ≡ Some h
+    → items_of (record m { resources = h; top = top }) ≡ rest → HasTop m.agenda top
+    → ((P : FormAt → Type 0) → All (λ (e : Entry FormAt). P e.clause) m.resources.entries → All (λ (e : Entry FormAt). P e.clause) h.entries)
+    → ends_fit (map (shown_item o.bank o.bound m.resources.kept) rest) (map (shown_entry o.bank o.bound) h.entries) ≡ true
+    → Going o (record m { resources = h; top = top })
 off o m h i rest top g e1 e2 e3 e4 t c w =
-    let r = m.context.present in let y = g.reached in
-    let k = settled_keeps (as_end (raw_item r.kept i)) r h.present e3 in
-    let a : front_raw r (items_of m) ≡ front_raw h.present rest =
+    let r = m.resources in let y = g.reached in
+    let k = settled_keeps (as_end (raw_item r.kept i)) r h e3 in
+    let a : front_raw r (items_of m) ≡ front_raw h rest =
     ap (λ xs. front_raw r xs) e1
     ∙ (ends_settle (raw_item r.kept i) (map (raw_item r.kept) rest) r e2
-    ∙ (ap (λ x. settled_after (map (raw_item r.kept) rest) x) e3 ∙ ap (λ ks. settle_front (map (raw_item ks) rest) h.present.entries h.present.flag) (sym k.0))) in
+    ∙ (ap (λ x. settled_after (map (raw_item r.kept) rest) x) e3 ∙ ap (λ ks. settle_front (map (raw_item ks) rest) h.entries h.flag) (sym k.0))) in
     let d : All (HasItem o.bank (length r.kept)) (i ∷ rest) = subst (λ (xs : List Item). All (HasItem o.bank (length r.kept)) xs) e1 y.items in
     let v : All (IsGoalIn (allowed o) o.bank) (i ∷ rest) = subst (λ (xs : List Item). All (IsGoalIn (allowed o) o.bank) xs) e1 y.sorted_goals in
     record {
@@ -146,7 +146,7 @@ off o m h i rest top g e1 e2 e3 e4 t c w =
         left = y.left;
         steps = y.steps;
         next = k.1 ∙ y.next;
-        raw = ap (λ xs. front_raw h.present xs) e4 ∙ (sym a ∙ y.raw);
+        raw = ap (λ xs. front_raw h xs) e4 ∙ (sym a ∙ y.raw);
         top = t;
         items = rw (e4, k.0) (All-tail (HasItem o.bank (length r.kept)) i rest d);
         clauses = c (λ f. HasForm o.bank f.0) y.clauses;
@@ -156,7 +156,7 @@ off o m h i rest top g e1 e2 e3 e4 t c w =
       ends = rw (e4, k.0) w;
     }
 
-pub here : (o m : Machine) → Going o m → Going m m
+pub here : (o m : Parts) → Going o m → Going m m
 here o m g =
     let y = g.reached in let a : allowed o ≡ allowed m = sym (same_allowed o m y.same y.eigens) in
     record {
@@ -170,13 +170,13 @@ here o m g =
         top = y.top;
         items = rw y.same.bank y.items;
         clauses = rw y.same.bank y.clauses;
-        sorted_clauses = clauses_moved (allowed o) (allowed m) o.bank m.bank m.context.present.entries a (sym y.same.bank) y.sorted_clauses;
+        sorted_clauses = clauses_moved (allowed o) (allowed m) o.bank m.bank m.resources.entries a (sym y.same.bank) y.sorted_clauses;
         sorted_goals = goals_moved (allowed o) (allowed m) o.bank m.bank (items_of m) a (sym y.same.bank) y.sorted_goals;
       };
       ends = rw (y.same.bank, y.same.bound) g.ends;
     }
 
-pub reach_further : (o m n : Machine) → Reaches o m → Reaches m n → Reaches o n
+pub reach_further : (o m n : Parts) → Reaches o m → Reaches m n → Reaches o n
 reach_further o m n g h =
     let a : allowed m ≡ allowed o = same_allowed o m g.same g.eigens in
     record {
@@ -196,11 +196,11 @@ reach_further o m n g h =
       top = h.top;
       items = rw (sym g.same.bank) h.items;
       clauses = rw (sym g.same.bank) h.clauses;
-      sorted_clauses = clauses_moved (allowed m) (allowed o) m.bank o.bank n.context.present.entries a g.same.bank h.sorted_clauses;
+      sorted_clauses = clauses_moved (allowed m) (allowed o) m.bank o.bank n.resources.entries a g.same.bank h.sorted_clauses;
       sorted_goals = goals_moved (allowed m) (allowed o) m.bank o.bank (items_of n) a g.same.bank h.sorted_goals;
     }
 
-pub further : (o m n : Machine) → Going o m → Going m n → Going o n
+pub further : (o m n : Parts) → Going o m → Going m n → Going o n
 further o m n g h =
     let s = g.reached.same in record { reached = reach_further o m n g.reached h.reached; ends = rw (sym s.bank, sym s.bound) h.ends }
 
@@ -225,8 +225,8 @@ newest_of linear bank bound (e ∷ es) xs h =
       ends = and_right (is_of_kind linear e.kind) (ends_fit xs (map (shown_entry bank bound) es)) h;
     }
 
-ends_at : (o m : Machine) (i : Item) (rest : List Item) → Going o m → items_of m ≡ i ∷ rest → EndsFit o.bank o.bound.items m.context.present (i ∷ rest)
-ends_at o m i rest g e = subst (λ (xs : List Item). EndsFit o.bank o.bound.items m.context.present xs) e g.ends
+ends_at : (o m : Parts) (i : Item) (rest : List Item) → Going o m → items_of m ≡ i ∷ rest → EndsFit o.bank o.bound m.resources (i ∷ rest)
+ends_at o m i rest g e = subst (λ (xs : List Item). EndsFit o.bank o.bound m.resources xs) e g.ends
 
 lolli_entries : (saved : Bool) (r h : Resources FormAt) (e : Entry FormAt) (es : List (Entry FormAt)) → r.entries ≡ e ∷ es → settled (EndOfLolli saved) r ≡ Some h → h.entries ≡ es
 lolli_entries saved r h e es k q = step (e.live && not r.flag) (ap (λ ys. option_map (front_put r) (settle_front (EndOfLolli saved ∷ []) ys r.flag)) (sym k) ∙ q)
@@ -250,7 +250,7 @@ not_true false h = refl
 free_is : (saved : Bool) (e : Entry FormAt) (es : List (Entry FormAt)) → is_of_kind false e.kind ≡ true → load_end saved (e ∷ es) ≡ EndOfImp
 free_is saved e es h = rw (not_true (is_linear e.kind) h) refl
 
-shorter : (m : Machine) (i : Item) (rest : List Item) (n : Machine) → items_of m ≡ i ∷ rest → items_of n ≡ rest → length (items_of n) < length (items_of m)
+shorter : (m : Parts) (i : Item) (rest : List Item) (n : Parts) → items_of m ≡ i ∷ rest → items_of n ≡ rest → length (items_of n) < length (items_of m)
 shorter m i rest n e f = let a = ap (λ (xs : List Item). length xs) e in let b = ap (λ (xs : List Item). length xs) f in omega (arith, a, b)
 
 tail_keeps : (es : List (Entry FormAt)) (e : Entry FormAt) (rest hs : List (Entry FormAt)) → es ≡ e ∷ rest → hs ≡ rest
@@ -259,28 +259,28 @@ tail_keeps es e rest hs k q P c =
     let Q : Entry FormAt → Type 0 = λ e. P e.clause in
     subst (λ (xs : List (Entry FormAt)). All Q xs) (sym q) (All-tail Q e rest (subst (λ (xs : List (Entry FormAt)). All Q xs) k c))
 
-pub off_lolli : (m : Machine) (h : History FormAt) (saved : Bool) (rest : List Item) (top : _) → Going m m → items_of m ≡ LolliEnd saved ∷ rest
-    → settled (load_end saved m.context.present.entries) m.context.present ≡ Some h.present → items_of (record m { context = h; top = top }) ≡ rest → HasTop m.agenda top
-    → Going m (record m { context = h; top = top }) × (length (items_of (record m { context = h; top = top })) < length (items_of m))
+pub off_lolli : (m : Parts) (h : Resources FormAt) (saved : Bool) (rest : List Item) (top : _) → Going m m → items_of m ≡ LolliEnd saved ∷ rest
+    → settled (load_end saved m.resources.entries) m.resources ≡ Some h → items_of (record m { resources = h; top = top }) ≡ rest → HasTop m.agenda top
+    → Going m (record m { resources = h; top = top }) × (length (items_of (record m { resources = h; top = top })) < length (items_of m))
 off_lolli m h saved rest top g e1 e3 e4 t =
-    let w = newest_of true m.bank m.bound.items m.context.present.entries (map (shown_item m.bank m.bound.items m.context.present.kept) rest) (ends_at m m (LolliEnd saved) rest g e1) in
-    let q : settled (EndOfLolli saved) m.context.present ≡ Some h.present =
-    ap (λ i. settled i m.context.present) (sym (ap (λ es. load_end saved es) w.is ∙ load_is saved w.front w.rest w.kind)) ∙ e3 in
-    let k = lolli_entries saved m.context.present h.present w.front w.rest w.is q in (
-      off m m h (LolliEnd saved) rest top g e1 refl q e4 t (tail_keeps m.context.present.entries w.front w.rest h.present.entries w.is k) (rw k w.ends),
-      shorter m (LolliEnd saved) rest (record m { context = h; top = top }) e1 e4,
+    let w = newest_of true m.bank m.bound m.resources.entries (map (shown_item m.bank m.bound m.resources.kept) rest) (ends_at m m (LolliEnd saved) rest g e1) in
+    let q : settled (EndOfLolli saved) m.resources ≡ Some h =
+    ap (λ i. settled i m.resources) (sym (ap (λ es. load_end saved es) w.is ∙ load_is saved w.front w.rest w.kind)) ∙ e3 in
+    let k = lolli_entries saved m.resources h w.front w.rest w.is q in (
+      off m m h (LolliEnd saved) rest top g e1 refl q e4 t (tail_keeps m.resources.entries w.front w.rest h.entries w.is k) (rw k w.ends),
+      shorter m (LolliEnd saved) rest (record m { resources = h; top = top }) e1 e4,
     )
 
-pub off_imp : (m : Machine) (h : History FormAt) (rest : List Item) (top : _) → Going m m → items_of m ≡ ImpEnd ∷ rest
-    → settled (load_end false m.context.present.entries) m.context.present ≡ Some h.present → items_of (record m { context = h; top = top }) ≡ rest → HasTop m.agenda top
-    → Going m (record m { context = h; top = top }) × (length (items_of (record m { context = h; top = top })) < length (items_of m))
+pub off_imp : (m : Parts) (h : Resources FormAt) (rest : List Item) (top : _) → Going m m → items_of m ≡ ImpEnd ∷ rest
+    → settled (load_end false m.resources.entries) m.resources ≡ Some h → items_of (record m { resources = h; top = top }) ≡ rest → HasTop m.agenda top
+    → Going m (record m { resources = h; top = top }) × (length (items_of (record m { resources = h; top = top })) < length (items_of m))
 off_imp m h rest top g e1 e3 e4 t =
-    let w = newest_of false m.bank m.bound.items m.context.present.entries (map (shown_item m.bank m.bound.items m.context.present.kept) rest) (ends_at m m ImpEnd rest g e1) in
-    let q : settled EndOfImp m.context.present ≡ Some h.present =
-    ap (λ i. settled i m.context.present) (sym (ap (λ es. load_end false es) w.is ∙ free_is false w.front w.rest w.kind)) ∙ e3 in
-    let k = imp_entries m.context.present h.present w.front w.rest w.is q in (
-      off m m h ImpEnd rest top g e1 refl q e4 t (tail_keeps m.context.present.entries w.front w.rest h.present.entries w.is k) (rw k w.ends),
-      shorter m ImpEnd rest (record m { context = h; top = top }) e1 e4,
+    let w = newest_of false m.bank m.bound m.resources.entries (map (shown_item m.bank m.bound m.resources.kept) rest) (ends_at m m ImpEnd rest g e1) in
+    let q : settled EndOfImp m.resources ≡ Some h =
+    ap (λ i. settled i m.resources) (sym (ap (λ es. load_end false es) w.is ∙ free_is false w.front w.rest w.kind)) ∙ e3 in
+    let k = imp_entries m.resources h w.front w.rest w.is q in (
+      off m m h ImpEnd rest top g e1 refl q e4 t (tail_keeps m.resources.entries w.front w.rest h.entries w.is k) (rw k w.ends),
+      shorter m ImpEnd rest (record m { resources = h; top = top }) e1 e4,
     )
 
 -- marks that an end gives back
@@ -296,52 +296,52 @@ saved_fits : (bank : Nodes) (bound : List (Option At)) (r : Resources FormAt) (s
 saved_fits bank bound r s n h =
     (n, marks_length (saved_at r.kept s).live (map (shown_entry bank bound) r.entries) h ∙ length-map r.entries (shown_entry bank bound))
 
-item_at : (m : Machine) (i : Item) (rest : List Item) → Going m m → items_of m ≡ i ∷ rest → All (HasItem m.bank (length m.context.present.kept)) (i ∷ rest)
-item_at m i rest g e = subst (λ (xs : List Item). All (HasItem m.bank (length m.context.present.kept)) xs) e g.reached.items
+item_at : (m : Parts) (i : Item) (rest : List Item) → Going m m → items_of m ≡ i ∷ rest → All (HasItem m.bank (length m.resources.kept)) (i ∷ rest)
+item_at m i rest g e = subst (λ (xs : List Item). All (HasItem m.bank (length m.resources.kept)) xs) e g.reached.items
 
-front_item : (m : Machine) (i : Item) (rest : List Item) → Going m m → items_of m ≡ i ∷ rest → HasItem m.bank (length m.context.present.kept) i
-front_item m i rest g e = All-head (HasItem m.bank (length m.context.present.kept)) i rest (item_at m i rest g e)
+front_item : (m : Parts) (i : Item) (rest : List Item) → Going m m → items_of m ≡ i ∷ rest → HasItem m.bank (length m.resources.kept) i
+front_item m i rest g e = All-head (HasItem m.bank (length m.resources.kept)) i rest (item_at m i rest g e)
 
 -- the tests that the end of `&` passes
-with_parts : (m : Machine) (s h : Handle) (rest : List Item) → Going m m → items_of m ≡ WithEnd s h ∷ rest
-    → (marks_fit (saved_at m.context.present.kept s).live (map (shown_entry m.bank m.bound.items) m.context.present.entries) ≡ true)
-    × (marks_fit (saved_at m.context.present.kept h).live (map (shown_entry m.bank m.bound.items) m.context.present.entries) ≡ true)
-    × EndsFit m.bank m.bound.items m.context.present rest
+with_parts : (m : Parts) (s h : Handle) (rest : List Item) → Going m m → items_of m ≡ WithEnd s h ∷ rest
+    → (marks_fit (saved_at m.resources.kept s).live (map (shown_entry m.bank m.bound) m.resources.entries) ≡ true)
+    × (marks_fit (saved_at m.resources.kept h).live (map (shown_entry m.bank m.bound) m.resources.entries) ≡ true)
+    × EndsFit m.bank m.bound m.resources rest
 with_parts m s h rest g e =
-    let r = m.context.present in let es = map (shown_entry m.bank m.bound.items) r.entries in
+    let r = m.resources in let es = map (shown_entry m.bank m.bound) r.entries in
     let a : Bool = marks_fit (saved_at r.kept s).live es in let b : Bool = marks_fit (saved_at r.kept h).live es in
-    let c : Bool = ends_fit (map (shown_item m.bank m.bound.items r.kept) rest) es in
+    let c : Bool = ends_fit (map (shown_item m.bank m.bound r.kept) rest) es in
     let w : a && b && c ≡ true = ends_at m m (WithEnd s h) rest g e in
     let x = and_left (a && b) c w in (and_left a b x, and_right a b x, and_right (a && b) c w)
 
-pub with_fits : (m : Machine) (s h : Handle) (rest : List Item) → Going m m → items_of m ≡ WithEnd s h ∷ rest → SavedFits s m.context.present × SavedFits h m.context.present
+pub with_fits : (m : Parts) (s h : Handle) (rest : List Item) → Going m m → items_of m ≡ WithEnd s h ∷ rest → SavedFits s m.resources × SavedFits h m.resources
 with_fits m s h rest g e =
     let p = with_parts m s h rest g e in let n = front_item m (WithEnd s h) rest g e in
-    (saved_fits m.bank m.bound.items m.context.present s n.0 p.0, saved_fits m.bank m.bound.items m.context.present h n.1 p.1)
+    (saved_fits m.bank m.bound m.resources s n.0 p.0, saved_fits m.bank m.bound m.resources h n.1 p.1)
 
-bang_parts : (m : Machine) (s : Handle) (rest : List Item) → Going m m → items_of m ≡ BangEnd s ∷ rest
-    → (marks_fit (saved_at m.context.present.kept s).live (map (shown_entry m.bank m.bound.items) m.context.present.entries) ≡ true) × EndsFit m.bank m.bound.items m.context.present rest
+bang_parts : (m : Parts) (s : Handle) (rest : List Item) → Going m m → items_of m ≡ BangEnd s ∷ rest
+    → (marks_fit (saved_at m.resources.kept s).live (map (shown_entry m.bank m.bound) m.resources.entries) ≡ true) × EndsFit m.bank m.bound m.resources rest
 bang_parts m s rest g e =
-    let r = m.context.present in let es = map (shown_entry m.bank m.bound.items) r.entries in
-    let a : Bool = marks_fit (saved_at r.kept s).live es in let c : Bool = ends_fit (map (shown_item m.bank m.bound.items r.kept) rest) es in
+    let r = m.resources in let es = map (shown_entry m.bank m.bound) r.entries in
+    let a : Bool = marks_fit (saved_at r.kept s).live es in let c : Bool = ends_fit (map (shown_item m.bank m.bound r.kept) rest) es in
     let w : a && c ≡ true = ends_at m m (BangEnd s) rest g e in (and_left a c w, and_right a c w)
 
-pub bang_fits : (m : Machine) (s : Handle) (rest : List Item) → Going m m → items_of m ≡ BangEnd s ∷ rest → SavedFits s m.context.present
+pub bang_fits : (m : Parts) (s : Handle) (rest : List Item) → Going m m → items_of m ≡ BangEnd s ∷ rest → SavedFits s m.resources
 bang_fits m s rest g e =
-    saved_fits m.bank m.bound.items m.context.present s (front_item m (BangEnd s) rest g e) (bang_parts m s rest g e).0
+    saved_fits m.bank m.bound m.resources s (front_item m (BangEnd s) rest g e) (bang_parts m s rest g e).0
 
-middle_parts : (m : Machine) (s : Handle) (rest : List Item) → Going m m → items_of m ≡ Mid s ∷ rest
-    → (begins_second_side (map (shown_item m.bank m.bound.items m.context.present.kept) rest) ≡ true)
-    × (marks_fit (saved_at m.context.present.kept s).live (map (shown_entry m.bank m.bound.items) m.context.present.entries) ≡ true)
+middle_parts : (m : Parts) (s : Handle) (rest : List Item) → Going m m → items_of m ≡ Mid s ∷ rest
+    → (begins_second_side (map (shown_item m.bank m.bound m.resources.kept) rest) ≡ true)
+    × (marks_fit (saved_at m.resources.kept s).live (map (shown_entry m.bank m.bound) m.resources.entries) ≡ true)
 middle_parts m s rest g e =
-    let r = m.context.present in let es = map (shown_entry m.bank m.bound.items) r.entries in let xs = map (shown_item m.bank m.bound.items r.kept) rest in
+    let r = m.resources in let es = map (shown_entry m.bank m.bound) r.entries in let xs = map (shown_item m.bank m.bound r.kept) rest in
     let a : Bool = begins_second_side xs in let b : Bool = marks_fit (saved_at r.kept s).live es in let c : Bool = ends_fit xs es in
     let w : a && b && c ≡ true = ends_at m m (Mid s) rest g e in
     let x = and_left (a && b) c w in (and_left a b x, and_right a b x)
 
-pub middle_fits : (m : Machine) (s : Handle) (rest : List Item) → Going m m → items_of m ≡ Mid s ∷ rest → SavedFits s m.context.present
+pub middle_fits : (m : Parts) (s : Handle) (rest : List Item) → Going m m → items_of m ≡ Mid s ∷ rest → SavedFits s m.resources
 middle_fits m s rest g e =
-    saved_fits m.bank m.bound.items m.context.present s (front_item m (Mid s) rest g e) (middle_parts m s rest g e).1
+    saved_fits m.bank m.bound m.resources s (front_item m (Mid s) rest g e) (middle_parts m s rest g e).1
 
 -- other marks
 
@@ -370,14 +370,14 @@ marked_ends bank bound xs es hs bs q h =
     (subst (λ (ys : List (Entry Form)). ends_fit xs ys ≡ true) (sym (remark_shown bank bound es bs))
     (alike-ends xs (map f es) (remark (map f es) bs) (alike-remark (map f es) bs) h))
 
-off_marks : (m : Machine) (h : History FormAt) (i : Item) (rest : List Item) (top : _) (bs : List Bool) → Going m m → items_of m ≡ i ∷ rest → is_end (raw_item m.context.present.kept i) ≡ true
-    → settled (as_end (raw_item m.context.present.kept i)) m.context.present ≡ Some h.present → h.present.entries ≡ remark m.context.present.entries bs
-    → EndsFit m.bank m.bound.items m.context.present rest → items_of (record m { context = h; top = top }) ≡ rest → HasTop m.agenda top
-    → Going m (record m { context = h; top = top }) × (length (items_of (record m { context = h; top = top })) < length (items_of m))
+off_marks : (m : Parts) (h : Resources FormAt) (i : Item) (rest : List Item) (top : _) (bs : List Bool) → Going m m → items_of m ≡ i ∷ rest → is_end (raw_item m.resources.kept i) ≡ true
+    → settled (as_end (raw_item m.resources.kept i)) m.resources ≡ Some h → h.entries ≡ remark m.resources.entries bs
+    → EndsFit m.bank m.bound m.resources rest → items_of (record m { resources = h; top = top }) ≡ rest → HasTop m.agenda top
+    → Going m (record m { resources = h; top = top }) × (length (items_of (record m { resources = h; top = top })) < length (items_of m))
 off_marks m h i rest top bs g e1 e2 e3 q w e4 t = (
-  off m m h i rest top g e1 e2 e3 e4 t (marked_keeps m.context.present.entries h.present.entries bs q)
-      (marked_ends m.bank m.bound.items (map (shown_item m.bank m.bound.items m.context.present.kept) rest) m.context.present.entries h.present.entries bs q w),
-  shorter m i rest (record m { context = h; top = top }) e1 e4,
+  off m m h i rest top g e1 e2 e3 e4 t (marked_keeps m.resources.entries h.entries bs q)
+      (marked_ends m.bank m.bound (map (shown_item m.bank m.bound m.resources.kept) rest) m.resources.entries h.entries bs q w),
+  shorter m i rest (record m { resources = h; top = top }) e1 e4,
 )
 
 with_entries : (sv hf : Saved) (r h : Resources FormAt) → settled (EndOfWith sv hf) r ≡ Some h → (bs : List Bool) × (h.entries ≡ remark r.entries bs)
@@ -392,25 +392,25 @@ bang_entries : (sv : Saved) (r h : Resources FormAt) → settled (EndOfBang sv) 
 bang_entries sv r h e =
     let x : front_put r (record { agenda = []; context = remark r.entries sv.live; flag = sv.flag }) ≡ h = cc in sym (ap (λ z. z.entries) x)
 
-pub off_with : (m : Machine) (h : History FormAt) (s f : Handle) (rest : List Item) (top : _) → Going m m → items_of m ≡ WithEnd s f ∷ rest
-    → settled (with_end m.context.present.kept s f) m.context.present ≡ Some h.present → items_of (record m { context = h; top = top }) ≡ rest → HasTop m.agenda top
-    → Going m (record m { context = h; top = top }) × (length (items_of (record m { context = h; top = top })) < length (items_of m))
+pub off_with : (m : Parts) (h : Resources FormAt) (s f : Handle) (rest : List Item) (top : _) → Going m m → items_of m ≡ WithEnd s f ∷ rest
+    → settled (with_end m.resources.kept s f) m.resources ≡ Some h → items_of (record m { resources = h; top = top }) ≡ rest → HasTop m.agenda top
+    → Going m (record m { resources = h; top = top }) × (length (items_of (record m { resources = h; top = top })) < length (items_of m))
 off_with m h s f rest top g e1 e3 e4 t =
-    let k = m.context.present.kept in
-    let q = with_entries (saved_at k s) (saved_at k f) m.context.present h.present e3 in
+    let k = m.resources.kept in
+    let q = with_entries (saved_at k s) (saved_at k f) m.resources h e3 in
     off_marks m h (WithEnd s f) rest top q.0 g e1 refl e3 q.1 (with_parts m s f rest g e1).2 e4 t
 
-pub off_bang : (m : Machine) (h : History FormAt) (s : Handle) (rest : List Item) (top : _) → Going m m → items_of m ≡ BangEnd s ∷ rest
-    → settled (bang_end m.context.present.kept s) m.context.present ≡ Some h.present → items_of (record m { context = h; top = top }) ≡ rest → HasTop m.agenda top
-    → Going m (record m { context = h; top = top }) × (length (items_of (record m { context = h; top = top })) < length (items_of m))
+pub off_bang : (m : Parts) (h : Resources FormAt) (s : Handle) (rest : List Item) (top : _) → Going m m → items_of m ≡ BangEnd s ∷ rest
+    → settled (bang_end m.resources.kept s) m.resources ≡ Some h → items_of (record m { resources = h; top = top }) ≡ rest → HasTop m.agenda top
+    → Going m (record m { resources = h; top = top }) × (length (items_of (record m { resources = h; top = top })) < length (items_of m))
 off_bang m h s rest top g e1 e3 e4 t =
-    let sv = saved_at m.context.present.kept s in
-    off_marks m h (BangEnd s) rest top sv.live g e1 refl e3 (bang_entries sv m.context.present h.present e3) (bang_parts m s rest g e1).1 e4 t
+    let sv = saved_at m.resources.kept s in
+    off_marks m h (BangEnd s) rest top sv.live g e1 refl e3 (bang_entries sv m.resources h e3) (bang_parts m s rest g e1).1 e4 t
 
 -- a goal is in front
-pub goal_done : (n : Machine) (g : FormAt) (rest : List Item) → items_of n ≡ Goal g ∷ rest → IsDone n
+pub goal_done : (n : Parts) (g : FormAt) (rest : List Item) → items_of n ≡ Goal g ∷ rest → IsDone n
 goal_done n g rest e =
-    let r = n.context.present in
+    let r = n.resources in
     subst (λ (xs : List Item). front_raw r xs ≡ Some (record { agenda = map (raw_item r.kept) xs; context = r.entries; flag = r.flag })) (sym e) refl
 
 -- the middle of `&`
@@ -426,8 +426,8 @@ second_of : (bank : Nodes) (bound : List (Option At)) (kept : List Saved) (xs : 
 second_of bank bound kept (Goal g ∷ WithEnd s h ∷ rest) e = record { goal = g; before = s; old = h; behind = rest; is = refl }
 second_of bank bound kept _ e = cc
 
-pub second_at : (m : Machine) (s : Handle) (rest : List Item) → Going m m → items_of m ≡ Mid s ∷ rest → IsSecond rest
-second_at m s rest g e = second_of m.bank m.bound.items m.context.present.kept rest (middle_parts m s rest g e).0
+pub second_at : (m : Parts) (s : Handle) (rest : List Item) → Going m m → items_of m ≡ Mid s ∷ rest → IsSecond rest
+second_at m s rest g e = second_of m.bank m.bound m.resources.kept rest (middle_parts m s rest g e).0
 
 raw_same : (bank : Nodes) (n : ℕ) (r s : Resources FormAt) (i : Item) → KeepsSaved n r s → HasItem bank n i → raw_item s.kept i ≡ raw_item r.kept i
 raw_same bank n r s (Goal g) k h = refl
@@ -444,16 +444,16 @@ raws_same bank n r s (x ∷ xs) k h =
     ap (λ y. y ∷ map (raw_item s.kept) xs) a ∙ ap (λ ys. raw_item r.kept x ∷ ys) b
 
 -- the machine at the second side of `&`
-abbrev pub at_second : Machine → History FormAt → Frames Item → Top → Machine
-at_second m h agenda top = record m { context = h; agenda = agenda; top = top }
+abbrev pub at_second : Parts → Resources FormAt → Frames Item → Top → Parts
+at_second m h agenda top = record m { resources = h; agenda = agenda; top = top }
 
-pub middle : (m : Machine) (h : History FormAt) (agenda : Frames Item) (top : Top) (s before old half : Handle) (g : FormAt) (rest : List Item) → Going m m
-    → items_of m ≡ Mid s ∷ Goal g ∷ WithEnd before old ∷ rest → half ≡ saved_as (length m.context.present.kept)
-    → SettlesMiddle (saved_at m.context.present.kept s) (saved_at h.present.kept half) m.context.present h.present
-    → KeepsSaved (length m.context.present.kept) m.context.present h.present → h.present ≡ after_with_mid s m.context.present
+pub middle : (m : Parts) (h : Resources FormAt) (agenda : Frames Item) (top : Top) (s before old half : Handle) (g : FormAt) (rest : List Item) → Going m m
+    → items_of m ≡ Mid s ∷ Goal g ∷ WithEnd before old ∷ rest → half ≡ saved_as (length m.resources.kept)
+    → SettlesMiddle (saved_at m.resources.kept s) (saved_at h.kept half) m.resources h
+    → KeepsSaved (length m.resources.kept) m.resources h → h ≡ after_with_mid s m.resources
     → items_at agenda top ≡ Goal g ∷ WithEnd before half ∷ rest → HasTop agenda top → Reaches m (at_second m h agenda top) × IsDone (at_second m h agenda top)
 middle m h agenda top s before old half g rest go e1 n sm k e e4 t =
-    let r = m.context.present in let y = go.reached in let z = h.present in
+    let r = m.resources in let y = go.reached in let z = h in
     let P : Item → Type 0 = HasItem m.bank (length r.kept) in let Q : Item → Type 0 = HasItem m.bank (length z.kept) in let R : Item → Type 0 = IsGoalIn (allowed m) m.bank in
     let d = item_at m (Mid s) (Goal g ∷ WithEnd before old ∷ rest) go e1 in
     let d1 = All-tail P (Mid s) (Goal g ∷ WithEnd before old ∷ rest) d in
@@ -495,24 +495,24 @@ middle m h agenda top s before old half g rest go e1 n sm k e e4 t =
     )
 
 -- what settling a machine comes to, by what working off the item in front came to
-pub settled_done : (o m n : Machine) (w : Worked) → Fits o → Going o m → w ≡ Settled → Works m w n → IsSettled o n
+pub settled_done : (o m n : Parts) (w : Worked) → Fits o → Going o m → w ≡ Settled → Works m w n → IsSettled o n
 settled_done o m n w f g e h = let x = subst (λ (w : Worked). Works m w n) e h in done o n (reach_further o m n g.reached x.0) f x.1
 
-pub settled_fails : (o m n : Machine) (w : Worked) → Going o m → w ≡ Failed → Works m w n → settle (state_of o) ≡ None
+pub settled_fails : (o m n : Parts) (w : Worked) → Going o m → w ≡ Failed → Works m w n → settle (state_of o) ≡ None
 settled_fails o m n w g e h = let x = subst (λ (w : Worked). Works m w n) e h in fails o m g.reached x.0
 
-pub settled_same : (o m n : Machine) (w : Worked) → Going o m → w ≡ Settled → Works m w n → SameSearch o n
+pub settled_same : (o m n : Parts) (w : Worked) → Going o m → w ≡ Settled → Works m w n → SameSearch o n
 settled_same o m n w g e h =
     let x = subst (λ (w : Worked). Works m w n) e h in let y = reach_further o m n g.reached x.0 in record { problem = y.same.problem; left = y.left }
 
-pub failed_same : (o m n : Machine) (w : Worked) → Going o m → w ≡ Failed → Works m w n → SameSearch o n
+pub failed_same : (o m n : Parts) (w : Worked) → Going o m → w ≡ Failed → Works m w n → SameSearch o n
 failed_same o m n w g e h =
     let x = subst (λ (w : Worked). Works m w n) e h in record { problem = x.1.problem ∙ g.reached.same.problem; left = x.1.left ∙ g.reached.left }
 
-pub settled_empty : (o m : Machine) → Fits o → Going o m → items_of m ≡ [] → IsSettled o m
+pub settled_empty : (o m : Parts) → Fits o → Going o m → items_of m ≡ [] → IsSettled o m
 settled_empty o m f g e =
     done o m g.reached f
-    (ap (λ xs. front_raw m.context.present xs) e ∙ ap (λ xs. Some (record { agenda = map (raw_item m.context.present.kept) xs; context = m.context.present.entries; flag = m.context.present.flag })) (sym e))
+    (ap (λ xs. front_raw m.resources xs) e ∙ ap (λ xs. Some (record { agenda = map (raw_item m.resources.kept) xs; context = m.resources.entries; flag = m.resources.flag })) (sym e))
 
 pub worked : (end : End) (old new : History FormAt) (b : Bool) → b ≡ true → Settles end old new b → settled end old.present ≡ Some new.present
 worked end old new b e h = subst (λ (b : Bool). Settles end old new b) e h

@@ -1,5 +1,5 @@
 -- A leaf taken for the atom in front of a machine's agenda.
-use Rattle.std.proofs.Common.{◌≡◌, ℕ, zero, suc, inl, inr, ◌+◌, ◌<◌, ◌≤◌, List, [], ◌∷◌, ◌++◌, length, map, All, get_or, refl, ap, sym, subst, ◌∙◌, arith, Option, Some, None, true}
+use Rattle.std.proofs.Common.{◌≡◌, ℕ, zero, suc, inl, inr, ◌+◌, ◌<◌, ◌≤◌, List, [], ◌∷◌, ◌++◌, length, map, All, get_or, refl, ap, sym, subst, ◌∙◌, arith, Option, Some, None, Bool, true, false}
 use Rattle.std.specs.Prelude.{slice_get, option_map, option_and_then, replicate, ◌&&◌}
 use Rattle.std.specs.List.{list_all}
 use Rattle.std.proofs.lemmas.Bool.{lt-ltb, ltb-true, cases_lt}
@@ -11,7 +11,7 @@ use Rattle.ll_bank.specs.declared.FormNode.TheVariants.{Atom as AtomView}
 use Rattle.ll_bank.specs.Term.{sub, is_closed, eigens_below}
 use Rattle.ll_bank.specs.Form.{Form, Atom, sub_form}
 use Rattle.ll_bank.specs.Nodes.{Nodes, HasForm, AllInTerms, Extends, term_tree, term_trees, form_tree}
-use Rattle.ll_bank.proofs.Trees.{Extends-trans, HasForm-extends, form_tree-extends, AllInTerms-extends, term_trees-extends}
+use Rattle.ll_bank.proofs.Trees.{Extends-refl, Extends-trans, HasForm-extends, HasTerm-extends, form_tree-extends, AllInTerms-extends, term_trees-extends}
 use Rattle.ll_laws.specs.declared.Candidate.{Candidate}
 use Rattle.ll_laws.specs.declared.Step.TheVariants.{Clause as ClauseStep}
 use Rattle.ll_laws.specs.Leaf.{Leaf, premise_goal, ways, leaf}
@@ -31,10 +31,9 @@ use Rattle.ll_laws.proofs.ConsistentSteps.{steps_consistent}
 use Rattle.ll_agenda.specs.declared.agenda.Top.{Top as AgendaTop}
 use Rattle.ll_resources.specs.Resources.{Resources, after_pick}
 use Rattle.ll_agenda.specs.Frames.{Frames, HasTop, items_at}
-use Rattle.ll_freeze.specs.declared.machine.Machine.{Machine}
+use Rattle.ll_freeze.specs.Parts.{Parts, table}
 use Rattle.ll_freeze.specs.declared.machine.Item.{Item}
 use Rattle.ll_freeze.specs.declared.machine.Item.TheVariants.{Goal, LolliEnd, ImpEnd, Mid, WithEnd, BangEnd}
-use Rattle.ll_engine.specs.declared.take.Unified.{Unified}
 use Rattle.ll_freeze.specs.Reading.{reading, read_term, read_form, HasValue}
 use Rattle.ll_freeze.specs.Shown.{shown_item, shown_entry, items_of, state_of}
 use Rattle.ll_freeze.proofs.CallerLemmas.{modules_has, modules_later}
@@ -43,44 +42,44 @@ use Rattle.ll_engine.specs.Attempts.{Infers}
 use Rattle.ll_engine.specs.Opening.{Opens}
 use Rattle.ll_engine.specs.Front.{IsFront}
 use Rattle.ll_engine.specs.Taking.{IsUnified, Unifies}
-use Rattle.ll_engine.proofs.ReadLemmas.{map_trees, reading_same, read_same}
-use Rattle.ll_engine.proofs.ReboundLemmas.{reading_past}
+use Rattle.ll_bindings.specs.Bindings.{Table, IsTable, IsOrdered, IsPlaceOf}
+use Rattle.ll_bindings.proofs.CallerLemmas.{table-extends, place-below}
+use Rattle.ll_engine.proofs.ReadLemmas.{map_trees, reading_same, reading_past, read_same, length_variables, fits_table, with_cells, same_table, table_more, table_values, reads_more}
 use Rattle.ll_engine.proofs.MachineLemmas.{agenda_shown, goal_in_front}
 use Rattle.ll_engine.proofs.LaterLemmas.{items_later}
 use Rattle.ll_engine.proofs.StepLemmas.{atom_step, leaf_read, way_read}
-use Rattle.ll_engine.proofs.UnifiedLemmas.{length_variables}
 use Rattle.ll_engine.proofs.TakenLemmas.{made_at, found_has, entry_read, picked_all, reads_first, goals_later, picked_later, terms_taken, goals_sorted, goals_inside}
 
 -- ---- what the state of a machine says
 
-pub allowed_shown : (m : Machine) → allowed_in (setting m) (state_of m) ≡ allowed m
+pub allowed_shown : (m : Parts) → allowed_in (setting m) (state_of m) ≡ allowed m
 unfolding state_of
 allowed_shown m = refl
 
-terms_made : (m : Machine) → Fits m → list_all (is_made (length m.levels.items) m.eigens) (map (read_term m.bank m.bound.items) m.terms.items) ≡ true
+terms_made : (m : Parts) → Fits m → list_all (is_made (length m.levels) m.eigens) (map (read_term m.bank m.bound) m.terms) ≡ true
 unfolding state_of
 terms_made m f = f.consistent.terms
 
-pub term_count : (m : Machine) → IsConsistent (setting m) (state_of m) → length m.terms.items ≡ length m.levels.items
+pub term_count : (m : Parts) → IsConsistent (setting m) (state_of m) → length m.terms ≡ length m.levels
 unfolding state_of
-term_count m c = sym (length-map m.terms.items (read_term m.bank m.bound.items)) ∙ c.term_count
+term_count m c = sym (length-map m.terms (read_term m.bank m.bound)) ∙ c.term_count
 
 -- the atom in front, as the state shows it
-atom_shown : (m : Machine) (atom : At) (rest : AgendaTop) → IsFront m (AtomView atom) rest
-    → (state_of m).agenda ≡ Rattle.ll_laws.specs.Settle.Goal (Atom (read_term m.bank m.bound.items atom)) ∷ map (shown_item m.bank m.bound.items m.context.present.kept) (items_at m.agenda rest)
+atom_shown : (m : Parts) (atom : At) (rest : AgendaTop) → IsFront m (AtomView atom) rest
+    → (state_of m).agenda ≡ Rattle.ll_laws.specs.Settle.Goal (Atom (read_term m.bank m.bound atom)) ∷ map (shown_item m.bank m.bound m.resources.kept) (items_at m.agenda rest)
 atom_shown m atom rest h =
     agenda_shown m (Goal h.goal ∷ items_at m.agenda rest) h.list
-    ∙ ap (λ g. Rattle.ll_laws.specs.Settle.Goal (sub_form (reading m.bank m.bound.items) g) ∷ map (shown_item m.bank m.bound.items m.context.present.kept) (items_at m.agenda rest)) h.seen.tree
+    ∙ ap (λ g. Rattle.ll_laws.specs.Settle.Goal (sub_form (reading m.bank m.bound) g) ∷ map (shown_item m.bank m.bound m.resources.kept) (items_at m.agenda rest)) h.seen.tree
 
 -- an inference on it
-attempt_atom : (m : Machine) (atom : At) (rest : AgendaTop) (label k count : ℕ) (e : Entry Form) (l : Leaf) → IsFront m (AtomView atom) rest
-    → entry_at (map (shown_entry m.bank m.bound.items) m.context.present.entries) label ≡ Some e → slice_get (ways e.clause) k ≡ Some count → leaf e.clause k (vars_from (length m.levels.items) count) ≡ Some l
+attempt_atom : (m : Parts) (atom : At) (rest : AgendaTop) (label k count : ℕ) (e : Entry Form) (l : Leaf) → IsFront m (AtomView atom) rest
+    → entry_at (map (shown_entry m.bank m.bound) m.resources.entries) label ≡ Some e → slice_get (ways e.clause) k ≡ Some count → leaf e.clause k (vars_from (length m.levels) count) ≡ Some l
     → attempt (setting m) (state_of m) (record { label = label; leaf = k })
-    ≡ option_map (instantiated (with_leaf (state_of m) (map (shown_item m.bank m.bound.items m.context.present.kept) (items_at m.agenda rest)) label k count l))
-    (mgu (read_term m.bank m.bound.items atom ∷ []) (l.head ∷ []) (m.levels.items ++ replicate count m.eigens))
+    ≡ option_map (instantiated (with_leaf (state_of m) (map (shown_item m.bank m.bound m.resources.kept) (items_at m.agenda rest)) label k count l))
+    (mgu (read_term m.bank m.bound atom ∷ []) (l.head ∷ []) (m.levels ++ replicate count m.eigens))
 unfolding state_of
 attempt_atom m atom rest label k count e l h entry way is =
-    atom_step (setting m) (state_of m) (read_term m.bank m.bound.items atom) (map (shown_item m.bank m.bound.items m.context.present.kept) (items_at m.agenda rest)) label k count e l (atom_shown m atom rest h) entry way is
+    atom_step (setting m) (state_of m) (read_term m.bank m.bound atom) (map (shown_item m.bank m.bound m.resources.kept) (items_at m.agenda rest)) label k count e l (atom_shown m atom rest h) entry way is
 
 past : (xs : List ℕ) (k : ℕ) → length xs ≤ k → slice_get xs k ≡ None
 past [] k h = refl
@@ -88,25 +87,25 @@ past (x ∷ xs) zero h = absurd (omega arith)
 past (x ∷ xs) (suc k) h = past xs k (omega arith)
 
 -- no entry has the label
-pub no_entry : (m : Machine) (atom : At) (rest : AgendaTop) (c : Candidate) → IsFront m (AtomView atom) rest → entry_at m.context.present.entries c.label ≡ None → attempt (setting m) (state_of m) c ≡ None
+pub no_entry : (m : Parts) (atom : At) (rest : AgendaTop) (c : Candidate) → IsFront m (AtomView atom) rest → entry_at m.resources.entries c.label ≡ None → attempt (setting m) (state_of m) c ≡ None
 unfolding attempt state_of
 no_entry m atom rest c h none =
-    let a = read_term m.bank m.bound.items atom in
-    let behind = map (shown_item m.bank m.bound.items m.context.present.kept) (items_at m.agenda rest) in
+    let a = read_term m.bank m.bound atom in
+    let behind = map (shown_item m.bank m.bound m.resources.kept) (items_at m.agenda rest) in
     ap (λ items. attempt_agenda (setting m) (state_of m) items c) (atom_shown m atom rest h)
-    ∙ ap (option_and_then (take_entry (state_of m) a behind c.label c.leaf)) (entry_read (read_form m.bank m.bound.items) m.context.present.entries c.label ∙ ap (option_map (shown_entry m.bank m.bound.items)) none)
+    ∙ ap (option_and_then (take_entry (state_of m) a behind c.label c.leaf)) (entry_read (read_form m.bank m.bound) m.resources.entries c.label ∙ ap (option_map (shown_entry m.bank m.bound)) none)
 
 -- its clause has no such leaf
-pub no_leaf : (m : Machine) (atom : At) (rest : AgendaTop) (c : Candidate) (e : Entry FormAt) → IsFront m (AtomView atom) rest → entry_at m.context.present.entries c.label ≡ Some e
+pub no_leaf : (m : Parts) (atom : At) (rest : AgendaTop) (c : Candidate) (e : Entry FormAt) → IsFront m (AtomView atom) rest → entry_at m.resources.entries c.label ≡ Some e
     → length (ways (form_tree m.bank e.clause.0)) ≤ c.leaf → attempt (setting m) (state_of m) c ≡ None
 unfolding attempt state_of
 no_leaf m atom rest c e h found few =
-    let a = read_term m.bank m.bound.items atom in
-    let r = reading m.bank m.bound.items in
-    let behind = map (shown_item m.bank m.bound.items m.context.present.kept) (items_at m.agenda rest) in
+    let a = read_term m.bank m.bound atom in
+    let r = reading m.bank m.bound in
+    let behind = map (shown_item m.bank m.bound m.resources.kept) (items_at m.agenda rest) in
     ap (λ items. attempt_agenda (setting m) (state_of m) items c) (atom_shown m atom rest h)
-    ∙ (ap (option_and_then (take_entry (state_of m) a behind c.label c.leaf)) (entry_read (read_form m.bank m.bound.items) m.context.present.entries c.label ∙ ap (option_map (shown_entry m.bank m.bound.items)) found)
-    ∙ ap (option_and_then (take_way (state_of m) a behind c.label c.leaf (shown_entry m.bank m.bound.items e))) (ap (λ (ws : List ℕ). slice_get ws c.leaf) (ways-sub r (form_tree m.bank e.clause.0)) ∙ past (ways (form_tree m.bank e.clause.0)) c.leaf few))
+    ∙ (ap (option_and_then (take_entry (state_of m) a behind c.label c.leaf)) (entry_read (read_form m.bank m.bound) m.resources.entries c.label ∙ ap (option_map (shown_entry m.bank m.bound)) found)
+    ∙ ap (option_and_then (take_way (state_of m) a behind c.label c.leaf (shown_entry m.bank m.bound e))) (ap (λ (ws : List ℕ). slice_get ws c.leaf) (ways-sub r (form_tree m.bank e.clause.0)) ∙ past (ways (form_tree m.bank e.clause.0)) c.leaf few))
 
 -- ---- items as the bank grows
 
@@ -128,118 +127,119 @@ item_extends old new n e (BangEnd x) h = h
 
 -- ---- what a machine's variables stand for
 
-module _ (m : Machine) (f : Fits m) where
-  pub variable_count : length m.terms.items ≡ length m.levels.items
-  variable_count = length_variables m.bank m.terms.items (length m.levels.items) f.variables
+module _ (m : Parts) (f : Fits m) where
+  pub variable_count : length m.terms ≡ length m.levels
+  variable_count = length_variables m.bank m.terms (length m.levels) f.variables
 
-  made : (x : ℕ) → x < length m.levels.items → is_made (length m.levels.items) m.eigens (reading m.bank m.bound.items x) ≡ true
+  made : (x : ℕ) → x < length m.levels → is_made (length m.levels) m.eigens (reading m.bank m.bound x) ≡ true
   made x l =
-      made_at (length m.levels.items) m.eigens (reading m.bank m.bound.items) 0 (length m.levels.items) x
-      (ap (list_all (is_made (length m.levels.items) m.eigens)) (ap (map (sub (reading m.bank m.bound.items))) (sym f.variables) ∙ map_trees (reading m.bank m.bound.items) m.bank m.terms.items) ∙ terms_made m f) (omega arith) (omega arith)
+      made_at (length m.levels) m.eigens (reading m.bank m.bound) 0 (length m.levels) x
+      (ap (list_all (is_made (length m.levels) m.eigens)) (ap (map (sub (reading m.bank m.bound))) (sym f.variables) ∙ map_trees (reading m.bank m.bound) m.bank m.terms) ∙ terms_made m f) (omega arith) (omega arith)
 
-  goes : Goes (allowed m) (reading m.bank m.bound.items)
-  goes x l = fit_of_made (allowed m) (reading m.bank m.bound.items x) (made x (ltb-true x (length m.levels.items) l))
+  goes : Goes (allowed m) (reading m.bank m.bound)
+  goes x l = fit_of_made (allowed m) (reading m.bank m.bound x) (made x (ltb-true x (length m.levels) l))
 
-  closing : IsClosing (reading m.bank m.bound.items)
-  closing x = elim (cases_lt x (length m.levels.items)) [
-    | inl l ↦ let t = reading m.bank m.bound.items x in
-        and_left (is_closed t) (vars_below (length m.levels.items) t) (and_left (is_closed t && vars_below (length m.levels.items) t) (eigens_below m.eigens t) (made x l))
-    | inr l ↦ ap is_closed (reading_past m.bank m.bound.items x (let c = f.count in omega arith))
+  closing : IsClosing (reading m.bank m.bound)
+  closing x = elim (cases_lt x (length m.levels)) [
+    | inl l ↦ let t = reading m.bank m.bound x in
+        and_left (is_closed t) (vars_below (length m.levels) t) (and_left (is_closed t && vars_below (length m.levels) t) (eigens_below m.eigens t) (made x l))
+    | inr l ↦ ap is_closed (reading_past m.bank m.bound x (let c = f.count in omega arith))
   ]
 
   -- with more variables
   abbrev pub with_more : ℕ → Allowed
-  with_more count = record { modules = (setting m).modules; variables = length m.levels.items + count; eigens = m.eigens; opens = true }
+  with_more count = record { modules = (setting m).modules; variables = length m.levels + count; eigens = m.eigens; opens = true }
 
   grows : (count : ℕ) → Grows (allowed m) (with_more count)
   grows count = record { modules = refl; variables = omega arith; eigens = omega arith; opens = λ h. h }
 
-  goes_more : (count : ℕ) → Goes (with_more count) (reading m.bank m.bound.items)
-  goes_more count x l = elim (cases_lt x (length m.levels.items)) [
-    | inl s ↦ fit-more (allowed m) (with_more count) [] [] (reading m.bank m.bound.items x) (grows count) tt (goes x (lt-ltb x (length m.levels.items) s))
-    | inr s ↦ subst (Fit (with_more count) []) (sym (reading_past m.bank m.bound.items x (let c = f.count in omega arith))) l
+  goes_more : (count : ℕ) → Goes (with_more count) (reading m.bank m.bound)
+  goes_more count x l = elim (cases_lt x (length m.levels)) [
+    | inl s ↦ fit-more (allowed m) (with_more count) [] [] (reading m.bank m.bound x) (grows count) tt (goes x (lt-ltb x (length m.levels) s))
+    | inr s ↦ subst (Fit (with_more count) []) (sym (reading_past m.bank m.bound x (let c = f.count in omega arith))) l
   ]
 
-  vars_fit : (n count all : ℕ) → n + count ≤ length m.levels.items + all → AllFit (with_more all) [] (vars_from n count)
+  vars_fit : (n count all : ℕ) → n + count ≤ length m.levels + all → AllFit (with_more all) [] (vars_from n count)
   vars_fit n zero all h = tt
-  vars_fit n (suc count) all h = (lt-ltb n (length m.levels.items + all) (omega arith), vars_fit (suc n) count all (omega arith))
+  vars_fit n (suc count) all h = (lt-ltb n (length m.levels + all) (omega arith), vars_fit (suc n) count all (omega arith))
 
   -- the atom has no variable but those that there are
-  pub atom_below : (atom : At) (rest : AgendaTop) (count : ℕ) → IsFront m (AtomView atom) rest → vars_below (length m.levels.items + count) (read_term m.bank m.bound.items atom) ≡ true
+  pub atom_below : (atom : At) (rest : AgendaTop) (count : ℕ) → IsFront m (AtomView atom) rest → vars_below (length m.levels + count) (read_term m.bank m.bound atom) ≡ true
   atom_below atom rest count h =
-      let is = subst (λ g. IsFormula (allowed_in (setting m) (state_of m)) GoalSide [] (sub_form (reading m.bank m.bound.items) g)) h.seen.tree (goal_in_front m h.goal (items_at m.agenda rest) f h.list) in
-      let now = subst (λ may. IsFormula may GoalSide [] (Atom (read_term m.bank m.bound.items atom))) (allowed_shown m) is in
-      let fit = fits_of_formula (allowed m) GoalSide [] (Atom (read_term m.bank m.bound.items atom)) now in
-      fit-vars (with_more count) [] (read_term m.bank m.bound.items atom) (fit-more (allowed m) (with_more count) [] [] (read_term m.bank m.bound.items atom) (grows count) tt fit.1)
+      let is = subst (λ g. IsFormula (allowed_in (setting m) (state_of m)) GoalSide [] (sub_form (reading m.bank m.bound) g)) h.seen.tree (goal_in_front m h.goal (items_at m.agenda rest) f h.list) in
+      let now = subst (λ may. IsFormula may GoalSide [] (Atom (read_term m.bank m.bound atom))) (allowed_shown m) is in
+      let fit = fits_of_formula (allowed m) GoalSide [] (Atom (read_term m.bank m.bound atom)) now in
+      fit-vars (with_more count) [] (read_term m.bank m.bound atom) (fit-more (allowed m) (with_more count) [] [] (read_term m.bank m.bound atom) (grows count) tt fit.1)
 
-  module _ (label : ℕ) (e : Entry FormAt) (found : entry_at m.context.present.entries label ≡ Some e) where
+  module _ (label : ℕ) (e : Entry FormAt) (found : entry_at m.resources.entries label ≡ Some e) where
     pub clause_inside : HasForm m.bank e.clause.0
-    clause_inside = found_has (λ d. HasForm m.bank d.clause.0) m.context.present.entries label e f.clauses found
+    clause_inside = found_has (λ d. HasForm m.bank d.clause.0) m.resources.entries label e f.clauses found
 
     pub clause_sorted : IsFormula (allowed m) ClauseSide [] (form_tree m.bank e.clause.0)
-    clause_sorted = found_has (λ d. IsFormula (allowed m) ClauseSide [] (form_tree m.bank d.clause.0)) m.context.present.entries label e f.sorted_clauses found
+    clause_sorted = found_has (λ d. IsFormula (allowed m) ClauseSide [] (form_tree m.bank d.clause.0)) m.resources.entries label e f.sorted_clauses found
 
     module _ (rest : AgendaTop) (k : ℕ) (mid : Nodes) (now : Frames Item) (terms : List At) (head : At) (top : AgendaTop) (keeps : Extends m.bank mid)
-        (o : Opens m.bank (items_at m.agenda rest) (length m.terms.items) e.clause.0 k mid now terms head top) where
+        (o : Opens m.bank (items_at m.agenda rest) (length m.terms) e.clause.0 k mid now terms head top) where
       abbrev pub opened : Leaf
       opened = record { premises = o.premises; head = term_tree mid head.0 }
 
-      leaf_is : leaf (form_tree m.bank e.clause.0) k (vars_from (length m.levels.items) o.count) ≡ Some opened
+      leaf_is : leaf (form_tree m.bank e.clause.0) k (vars_from (length m.levels) o.count) ≡ Some opened
       leaf_is = ap (λ n. leaf (form_tree m.bank e.clause.0) k (vars_from n o.count)) (sym variable_count) ∙ o.leaf_is
 
       leaf_sorted : LeafFits (with_more o.count) opened
       leaf_sorted =
-          leaf-fits (with_more o.count) (form_tree m.bank e.clause.0) k (vars_from (length m.levels.items) o.count) opened
+          leaf-fits (with_more o.count) (form_tree m.bank e.clause.0) k (vars_from (length m.levels) o.count) opened
           (fits-more (allowed m) (with_more o.count) ClauseSide [] [] (form_tree m.bank e.clause.0) (grows o.count) tt (fits_of_formula (allowed m) ClauseSide [] (form_tree m.bank e.clause.0) clause_sorted))
-          (vars_fit (length m.levels.items) o.count o.count (omega arith)) leaf_is
+          (vars_fit (length m.levels) o.count o.count (omega arith)) leaf_is
 
-      head_read : read_term mid m.bound.items head ≡ sub (reading m.bank m.bound.items) (term_tree mid head.0)
-      head_read = sub_same (reading mid m.bound.items) (reading m.bank m.bound.items) (reading_same m.bank mid keeps m.bound.items f.bound) (term_tree mid head.0)
+      head_read : read_term mid m.bound head ≡ sub (reading m.bank m.bound) (term_tree mid head.0)
+      head_read = sub_same (reading mid m.bound) (reading m.bank m.bound) (reading_same m.bank mid keeps m.bound f.bound) (term_tree mid head.0)
 
       -- nor has the head
-      pub head_below : vars_below (length m.levels.items + o.count) (read_term mid m.bound.items head) ≡ true
+      pub head_below : vars_below (length m.levels + o.count) (read_term mid m.bound head) ≡ true
       head_below =
-          ap (vars_below (length m.levels.items + o.count)) head_read
-          ∙ fit-vars (with_more o.count) [] (sub (reading m.bank m.bound.items) (term_tree mid head.0)) (fit-sub (with_more o.count) (reading m.bank m.bound.items) [] (term_tree mid head.0) (goes_more o.count) leaf_sorted.head.1)
+          ap (vars_below (length m.levels + o.count)) head_read
+          ∙ fit-vars (with_more o.count) [] (sub (reading m.bank m.bound) (term_tree mid head.0)) (fit-sub (with_more o.count) (reading m.bank m.bound) [] (term_tree mid head.0) (goes_more o.count) leaf_sorted.head.1)
 
       -- what the inference comes to, by what unification gives
       pub step_is : (atom : At) → IsFront m (AtomView atom) rest
           → attempt (setting m) (state_of m) (record { label = label; leaf = k })
-          ≡ option_map (instantiated (with_leaf (state_of m) (map (shown_item m.bank m.bound.items m.context.present.kept) (items_at m.agenda rest)) label k o.count (sub_leaf (reading m.bank m.bound.items) opened)))
-          (mgu (read_term m.bank m.bound.items atom ∷ []) (read_term mid m.bound.items head ∷ []) (m.levels.items ++ replicate o.count m.eigens))
+          ≡ option_map (instantiated (with_leaf (state_of m) (map (shown_item m.bank m.bound m.resources.kept) (items_at m.agenda rest)) label k o.count (sub_leaf (reading m.bank m.bound) opened)))
+          (mgu (read_term m.bank m.bound atom ∷ []) (read_term mid m.bound head ∷ []) (m.levels ++ replicate o.count m.eigens))
       step_is atom h =
-          let r = reading m.bank m.bound.items in
-          attempt_atom m atom rest label k o.count (shown_entry m.bank m.bound.items e) (sub_leaf r opened) h (entry_read (read_form m.bank m.bound.items) m.context.present.entries label ∙ ap (option_map (shown_entry m.bank m.bound.items)) found)
+          let r = reading m.bank m.bound in
+          attempt_atom m atom rest label k o.count (shown_entry m.bank m.bound e) (sub_leaf r opened) h (entry_read (read_form m.bank m.bound) m.resources.entries label ∙ ap (option_map (shown_entry m.bank m.bound)) found)
           (way_read r (form_tree m.bank e.clause.0) k o.count o.way)
-          (leaf_read r closing (form_tree m.bank e.clause.0) k (length m.levels.items) o.count opened (λ x l. reading_past m.bank m.bound.items x (let c = f.count in omega arith)) leaf_is)
-          ∙ ap (λ t. option_map (instantiated (with_leaf (state_of m) (map (shown_item m.bank m.bound.items m.context.present.kept) (items_at m.agenda rest)) label k o.count (sub_leaf r opened)))
-          (mgu (read_term m.bank m.bound.items atom ∷ []) (t ∷ []) (m.levels.items ++ replicate o.count m.eigens))) (sym head_read)
+          (leaf_read r closing (form_tree m.bank e.clause.0) k (length m.levels) o.count opened (λ x l. reading_past m.bank m.bound x (let c = f.count in omega arith)) leaf_is)
+          ∙ ap (λ t. option_map (instantiated (with_leaf (state_of m) (map (shown_item m.bank m.bound m.resources.kept) (items_at m.agenda rest)) label k o.count (sub_leaf r opened)))
+          (mgu (read_term m.bank m.bound atom ∷ []) (t ∷ []) (m.levels ++ replicate o.count m.eigens))) (sym head_read)
 
       -- a machine with all that a leaf brings, after unification found a substitution
-      pub record IsTaken (v : Solved) (new : Machine) : Type 0 where
-        pub problem : new.problem.now ≡ m.problem.now
-        pub modules : new.modules.now ≡ m.modules.now
+      pub record IsTaken (v : Solved) (new : Parts) : Type 0 where
+        pub problem : new.problem ≡ m.problem
+        pub modules : new.modules ≡ m.modules
         pub later : Extends mid new.bank
-        pub levels : new.levels.items ≡ v.levels
-        pub count : length new.bound.items ≡ length (m.levels.items ++ replicate o.count m.eigens)
-        pub inside : All (HasValue new.bank) new.bound.items
-        pub reads : (x : ℕ) → reading new.bank new.bound.items x ≡ sub v.subst (reading mid m.bound.items x)
-        pub entries : new.context.present.entries ≡ picked label m.context.present.entries
-        pub flag : new.context.present.flag ≡ m.context.present.flag
-        pub next : new.context.present.next ≡ m.context.present.next
-        pub kept : new.context.present.kept ≡ m.context.present.kept
+        pub levels : new.levels ≡ v.levels
+        pub count : length new.bound ≡ length (m.levels ++ replicate o.count m.eigens)
+        pub inside : All (HasValue new.bank) new.bound
+        pub ordered : IsOrdered new.bank (table new)
+        pub reads : (x : ℕ) → reading new.bank new.bound x ≡ sub v.subst (reading mid m.bound x)
+        pub entries : new.resources.entries ≡ picked label m.resources.entries
+        pub flag : new.resources.flag ≡ m.resources.flag
+        pub next : new.resources.next ≡ m.resources.next
+        pub kept : new.resources.kept ≡ m.resources.kept
         pub agenda : new.agenda ≡ now
         pub front : new.top ≡ top
-        pub all : new.terms.items ≡ terms
+        pub all : new.terms ≡ terms
         pub eigens : new.eigens ≡ m.eigens
-        pub steps : new.steps.items ≡ m.steps.items ++ ClauseStep label k ∷ []
+        pub steps : new.steps ≡ m.steps ++ ClauseStep label k ∷ []
         pub left : suc new.left ≡ m.left
 
       module _ (atom : At) (h : IsFront m (AtomView atom) rest) (v : Solved)
-          (unified : mgu (read_term m.bank m.bound.items atom ∷ []) (read_term mid m.bound.items head ∷ []) (m.levels.items ++ replicate o.count m.eigens) ≡ Some v) (new : Machine) (t : IsTaken v new) where
-        behind : All (HasItem m.bank (length m.context.present.kept)) (items_at m.agenda rest)
+          (unified : mgu (read_term m.bank m.bound atom ∷ []) (read_term mid m.bound head ∷ []) (m.levels ++ replicate o.count m.eigens) ≡ Some v) (new : Parts) (t : IsTaken v new) where
+        behind : All (HasItem m.bank (length m.resources.kept)) (items_at m.agenda rest)
         behind =
-            All-tail (HasItem m.bank (length m.context.present.kept)) (Goal h.goal) (items_at m.agenda rest) (subst (All (HasItem m.bank (length m.context.present.kept))) h.list f.items)
+            All-tail (HasItem m.bank (length m.resources.kept)) (Goal h.goal) (items_at m.agenda rest) (subst (All (HasItem m.bank (length m.resources.kept))) h.list f.items)
 
         behind_sorted : All (IsGoalIn (allowed m) m.bank) (items_at m.agenda rest)
         behind_sorted = All-tail (IsGoalIn (allowed m) m.bank) (Goal h.goal) (items_at m.agenda rest) (subst (All (IsGoalIn (allowed m) m.bank)) h.list f.sorted_goals)
@@ -247,33 +247,33 @@ module _ (m : Machine) (f : Fits m) where
         items_are : items_of new ≡ map Goal o.goals ++ items_at m.agenda rest
         items_are = (λ i. items_at (t.agenda i) (t.front i)) ∙ o.shows.list
 
-        firsts : (x : ℕ) → reading new.bank new.bound.items x ≡ sub v.subst (reading m.bank m.bound.items x)
-        firsts = reads_first m.bank mid new.bank m.bound.items new.bound.items v.subst keeps t.later f.bound t.reads
+        firsts : (x : ℕ) → reading new.bank new.bound x ≡ sub v.subst (reading m.bank m.bound x)
+        firsts = reads_first m.bank mid new.bank m.bound new.bound v.subst keeps t.later f.bound t.reads
 
-        agenda_is : map (sub_item v.subst) (map (λ p. Rattle.ll_laws.specs.Settle.Goal (premise_goal p)) (map (sub_premise (reading m.bank m.bound.items)) o.premises) ++ map (shown_item m.bank m.bound.items m.context.present.kept) (items_at m.agenda rest))
-            ≡ map (shown_item new.bank new.bound.items new.context.present.kept) (items_of new)
+        agenda_is : map (sub_item v.subst) (map (λ p. Rattle.ll_laws.specs.Settle.Goal (premise_goal p)) (map (sub_premise (reading m.bank m.bound)) o.premises) ++ map (shown_item m.bank m.bound m.resources.kept) (items_at m.agenda rest))
+            ≡ map (shown_item new.bank new.bound new.resources.kept) (items_of new)
         agenda_is =
-            let kept = m.context.present.kept in
-            let one = goals_later m.bank mid new.bank m.bound.items new.bound.items v.subst keeps t.later f.bound t.reads o.goals o.premises kept o.goals_are.inside o.goals_are.trees in
-            let two = items_later m.bank new.bank m.bound.items new.bound.items v.subst (Extends-trans keeps t.later) firsts kept (length kept) (items_at m.agenda rest) behind in
-            map-append (sub_item v.subst) (map (λ p. Rattle.ll_laws.specs.Settle.Goal (premise_goal p)) (map (sub_premise (reading m.bank m.bound.items)) o.premises)) (map (shown_item m.bank m.bound.items kept) (items_at m.agenda rest))
+            let kept = m.resources.kept in
+            let one = goals_later m.bank mid new.bank m.bound new.bound v.subst keeps t.later f.bound t.reads o.goals o.premises kept o.goals_are.inside o.goals_are.trees in
+            let two = items_later m.bank new.bank m.bound new.bound v.subst (Extends-trans keeps t.later) firsts kept (length kept) (items_at m.agenda rest) behind in
+            map-append (sub_item v.subst) (map (λ p. Rattle.ll_laws.specs.Settle.Goal (premise_goal p)) (map (sub_premise (reading m.bank m.bound)) o.premises)) (map (shown_item m.bank m.bound kept) (items_at m.agenda rest))
             ∙ ((λ i. sym one i ++ sym two i)
-            ∙ (sym (map-append (shown_item new.bank new.bound.items kept) (map Goal o.goals) (items_at m.agenda rest)) ∙ (λ i. map (shown_item new.bank new.bound.items (sym t.kept i)) (sym items_are i))))
+            ∙ (sym (map-append (shown_item new.bank new.bound kept) (map Goal o.goals) (items_at m.agenda rest)) ∙ (λ i. map (shown_item new.bank new.bound (sym t.kept i)) (sym items_are i))))
 
-        context_is : map (sub_entry v.subst) (picked label (map (shown_entry m.bank m.bound.items) m.context.present.entries)) ≡ map (shown_entry new.bank new.bound.items) new.context.present.entries
+        context_is : map (sub_entry v.subst) (picked label (map (shown_entry m.bank m.bound) m.resources.entries)) ≡ map (shown_entry new.bank new.bound) new.resources.entries
         context_is =
-            picked_later m.bank mid new.bank m.bound.items new.bound.items v.subst keeps t.later f.bound t.reads m.context.present.entries label f.clauses
-            ∙ ap (map (shown_entry new.bank new.bound.items)) (sym t.entries)
+            picked_later m.bank mid new.bank m.bound new.bound v.subst keeps t.later f.bound t.reads m.resources.entries label f.clauses
+            ∙ ap (map (shown_entry new.bank new.bound)) (sym t.entries)
 
-        variables_are : term_trees mid terms ≡ vars_from 0 (length m.levels.items + o.count)
+        variables_are : term_trees mid terms ≡ vars_from 0 (length m.levels + o.count)
         variables_are = o.variables ∙ ap (λ n. vars_from 0 (n + o.count)) variable_count
 
-        terms_are : map (sub v.subst) (map (read_term m.bank m.bound.items) m.terms.items ++ vars_from (length m.levels.items) o.count) ≡ map (read_term new.bank new.bound.items) new.terms.items
+        terms_are : map (sub v.subst) (map (read_term m.bank m.bound) m.terms ++ vars_from (length m.levels) o.count) ≡ map (read_term new.bank new.bound) new.terms
         terms_are =
-            terms_taken m.bank mid new.bank m.bound.items new.bound.items v.subst keeps t.later f.bound t.reads m.terms.items terms (length m.levels.items) o.count (let c = f.count in omega arith) f.variables o.terms_inside variables_are
-            ∙ ap (map (read_term new.bank new.bound.items)) (sym t.all)
+            terms_taken m.bank mid new.bank m.bound new.bound v.subst keeps t.later f.bound t.reads m.terms terms (length m.levels) o.count (let c = f.count in omega arith) f.variables o.terms_inside variables_are
+            ∙ ap (map (read_term new.bank new.bound)) (sym t.all)
 
-        state_is : instantiated (with_leaf (state_of m) (map (shown_item m.bank m.bound.items m.context.present.kept) (items_at m.agenda rest)) label k o.count (sub_leaf (reading m.bank m.bound.items) opened)) v ≡ state_of new
+        state_is : instantiated (with_leaf (state_of m) (map (shown_item m.bank m.bound m.resources.kept) (items_at m.agenda rest)) label k o.count (sub_leaf (reading m.bank m.bound) opened)) v ≡ state_of new
         unfolding state_of
         state_is = λ i. record {
           agenda = agenda_is i;
@@ -289,16 +289,16 @@ module _ (m : Machine) (f : Fits m) where
         gives : attempt (setting m) (state_of m) (record { label = label; leaf = k }) ≡ Some (state_of new)
         gives =
             step_is atom h
-            ∙ (ap (option_map (instantiated (with_leaf (state_of m) (map (shown_item m.bank m.bound.items m.context.present.kept) (items_at m.agenda rest)) label k o.count (sub_leaf (reading m.bank m.bound.items) opened)))) unified
+            ∙ (ap (option_map (instantiated (with_leaf (state_of m) (map (shown_item m.bank m.bound m.resources.kept) (items_at m.agenda rest)) label k o.count (sub_leaf (reading m.bank m.bound) opened)))) unified
             ∙ ap (λ s. Some s) state_is)
 
         consistent : IsConsistent (setting new) (state_of new)
         consistent =
             subst (λ p. IsConsistent (setting_of p) (state_of new)) (sym t.problem)
-            (steps_consistent (length m.problem.now.names) (setting m) (state_of m) (state_of new) (record { label = label; leaf = k }) f.valid.modules f.consistent gives)
+            (steps_consistent (length m.problem.names) (setting m) (state_of m) (state_of new) (record { label = label; leaf = k }) f.valid.modules f.consistent gives)
 
-        level_count : length new.levels.items ≡ length m.levels.items + o.count
-        level_count = sym (term_count new consistent) ∙ (ap (λ (ats : List At). length ats) t.all ∙ length_variables mid terms (length m.levels.items + o.count) variables_are)
+        level_count : length new.levels ≡ length m.levels + o.count
+        level_count = sym (term_count new consistent) ∙ (ap (λ (ats : List At). length ats) t.all ∙ length_variables mid terms (length m.levels + o.count) variables_are)
 
         may_is : allowed new ≡ with_more o.count
         may_is = λ i. record { modules = (setting_of (t.problem i)).modules; variables = level_count i; eigens = t.eigens i; opens = true }
@@ -306,22 +306,22 @@ module _ (m : Machine) (f : Fits m) where
         whole : Extends m.bank new.bank
         whole = Extends-trans keeps t.later
 
-        clauses_are : All (λ e. HasForm new.bank e.clause.0) new.context.present.entries
+        clauses_are : All (λ e. HasForm new.bank e.clause.0) new.resources.entries
         clauses_are =
             subst (All (λ (d : Entry FormAt). HasForm new.bank d.clause.0)) (sym t.entries)
-            (picked_all (λ g. HasForm new.bank g.0) m.context.present.entries label (λ j d l. HasForm-extends whole (get_or m.context.present.entries j d).clause.0 (f.clauses j d l)))
+            (picked_all (λ g. HasForm new.bank g.0) m.resources.entries label (λ j d l. HasForm-extends whole (get_or m.resources.entries j d).clause.0 (f.clauses j d l)))
 
-        sorted_are : All (λ e. IsFormula (allowed new) ClauseSide [] (form_tree new.bank e.clause.0)) new.context.present.entries
+        sorted_are : All (λ e. IsFormula (allowed new) ClauseSide [] (form_tree new.bank e.clause.0)) new.resources.entries
         sorted_are =
-            subst (λ may. All (λ (d : Entry FormAt). IsFormula may ClauseSide [] (form_tree new.bank d.clause.0)) new.context.present.entries) (sym may_is)
+            subst (λ may. All (λ (d : Entry FormAt). IsFormula may ClauseSide [] (form_tree new.bank d.clause.0)) new.resources.entries) (sym may_is)
             (subst (All (λ (d : Entry FormAt). IsFormula (with_more o.count) ClauseSide [] (form_tree new.bank d.clause.0))) (sym t.entries)
-            (picked_all (λ g. IsFormula (with_more o.count) ClauseSide [] (form_tree new.bank g.0)) m.context.present.entries label
-            (λ j d l. let g = (get_or m.context.present.entries j d).clause.0 in
+            (picked_all (λ g. IsFormula (with_more o.count) ClauseSide [] (form_tree new.bank g.0)) m.resources.entries label
+            (λ j d l. let g = (get_or m.resources.entries j d).clause.0 in
             subst (IsFormula (with_more o.count) ClauseSide []) (sym (form_tree-extends whole g (f.clauses j d l))) (formula-more (allowed m) (with_more o.count) ClauseSide (form_tree m.bank g) (grows o.count) (f.sorted_clauses j d l)))))
 
         goals_are : All (IsGoalIn (allowed new) new.bank) (items_of new)
         goals_are =
-            let kept = length m.context.present.kept in
+            let kept = length m.resources.kept in
             let fresh = goals_sorted (with_more o.count) mid o.goals o.premises leaf_sorted.premises o.goals_are.trees in
             let has = goals_inside mid kept o.goals o.goals_are.inside in
             subst (λ may. All (IsGoalIn may new.bank) (items_of new)) (sym may_is)
@@ -330,31 +330,32 @@ module _ (m : Machine) (f : Fits m) where
             (λ j d l. item_more (with_more o.count) (with_more o.count) mid new.bank kept (grows-refl (with_more o.count)) t.later (get_or (map Goal o.goals) j d) (has j d l) (fresh j d l))
             (λ j d l. item_more (allowed m) (with_more o.count) m.bank new.bank kept (grows o.count) whole (get_or (items_at m.agenda rest) j d) (behind j d l) (behind_sorted j d l))))
 
-        items_inside : All (HasItem new.bank (length new.context.present.kept)) (items_of new)
+        items_inside : All (HasItem new.bank (length new.resources.kept)) (items_of new)
         items_inside =
-            let kept = length m.context.present.kept in
+            let kept = length m.resources.kept in
             subst (λ n. All (HasItem new.bank n) (items_of new)) (ap (λ (s : List Saved). length s) (sym t.kept))
             (subst (All (HasItem new.bank kept)) (sym items_are)
             (All-append (HasItem new.bank kept) (map Goal o.goals) (items_at m.agenda rest)
             (λ j d l. item_extends mid new.bank kept t.later (get_or (map Goal o.goals) j d) (goals_inside mid kept o.goals o.goals_are.inside j d l))
             (λ j d l. item_extends m.bank new.bank kept whole (get_or (items_at m.agenda rest) j d) (behind j d l))))
 
-        terms_inside : AllInTerms new.bank new.terms.items
+        terms_inside : AllInTerms new.bank new.terms
         terms_inside = subst (AllInTerms new.bank) (sym t.all) (AllInTerms-extends t.later terms o.terms_inside)
 
         fits_new : Fits new
         fits_new = record {
           valid = subst IsValid (sym t.problem) f.valid;
           consistent = consistent;
-          count = (let c = t.count in let a = length-append m.levels.items (replicate o.count m.eigens) in let b = length-replicate o.count m.eigens in let d = level_count in omega arith);
+          count = (let c = t.count in let a = length-append m.levels (replicate o.count m.eigens) in let b = length-replicate o.count m.eigens in let d = level_count in omega arith);
           bound = t.inside;
+          ordered = t.ordered;
           terms = terms_inside;
           variables = ap (term_trees new.bank) t.all ∙ (term_trees-extends t.later terms o.terms_inside ∙ (variables_are ∙ ap (vars_from 0) (sym level_count)));
           clauses = clauses_are;
           sorted_clauses = sorted_are;
           sorted_goals = goals_are;
-          has_modules = rw t.modules (modules_has m.bank new.bank m.modules.now whole f.has_modules);
-          modules = rw (t.problem, t.modules) (modules_later m.bank new.bank m.modules.now whole f.has_modules ∙ f.modules);
+          has_modules = rw t.modules (modules_has m.bank new.bank m.modules whole f.has_modules);
+          modules = rw (t.problem, t.modules) (modules_later m.bank new.bank m.modules whole f.has_modules ∙ f.modules);
           top = subst (λ top. HasTop new.agenda top) (sym t.front) (subst (λ (frames : Frames Item). HasTop frames top) (sym t.agenda) o.shows.inside);
           items = items_inside;
           labels = (let a = t.next in let b = t.left in let c = f.labels in omega arith);
@@ -366,91 +367,110 @@ module _ (m : Machine) (f : Fits m) where
 
       -- ---- with what unification was given
 
-      pub count_is : length terms ≡ length m.terms.items + o.count
-      count_is = length_variables mid terms (length m.terms.items + o.count) o.variables
+      pub count_is : length terms ≡ length m.terms + o.count
+      count_is = length_variables mid terms (length m.terms + o.count) o.variables
 
-      -- as many levels came as variables
-      pub levels_grown : (levels : List ℕ) (count : ℕ) → count ≡ o.count → levels ≡ m.levels.items ++ replicate count m.eigens → levels ≡ m.levels.items ++ replicate o.count m.eigens
-      levels_grown levels count same e = e ∙ ap (λ n. m.levels.items ++ replicate n m.eigens) same
+      module _ (atom : At) (h : IsFront m (AtomView atom) rest) (start : Table) (start_bound : start.bound ≡ m.bound ++ replicate o.count None)
+          (start_levels : start.levels ≡ m.levels ++ replicate o.count m.eigens) where
+        opened_table : IsTable mid (table m)
+        opened_table = table-extends m.bank mid (table m) (fits_table m f) keeps
 
-      pub levels_count : (levels : List ℕ) → levels ≡ m.levels.items ++ replicate o.count m.eigens → length m.terms.items + o.count ≡ length levels
-      levels_count levels e =
-          let a = ap (λ (xs : List ℕ). length xs) e in
-          let b = length-append m.levels.items (replicate o.count m.eigens) in
-          let d = length-replicate o.count m.eigens in
-          let n = variable_count in omega arith
+        -- the bindings with new cells for the variables of the leaf
+        pub start_table : IsTable mid start
+        start_table =
+            subst (IsTable mid) (sym (same_table (with_cells (table m) o.count m.eigens) start.bound start.levels start_bound start_levels))
+            (table_more mid (table m) o.count m.eigens opened_table)
 
-      module _ (atom : At) (h : IsFront m (AtomView atom) rest) (end : Nodes) (bound : List (Option At)) (levels : List ℕ) (bound_is : bound ≡ m.bound.items) (levels_is : levels ≡ m.levels.items ++ replicate o.count m.eigens) where
-        abbrev pub Finds : Option Unified → Type 0
-        Finds u = Unifies mid end bound levels (mgu (read_term mid bound atom ∷ []) (read_term mid bound head ∷ []) levels) u
+        reads_is : (x : ℕ) → reading mid start.bound x ≡ reading mid m.bound x
+        reads_is x = ap (λ bs. reading mid bs x) start_bound ∙ reads_more mid (table m) o.count m.eigens opened_table x
 
-        same_problem : mgu (read_term m.bank m.bound.items atom ∷ []) (read_term mid m.bound.items head ∷ []) (m.levels.items ++ replicate o.count m.eigens) ≡ mgu (read_term mid bound atom ∷ []) (read_term mid bound head ∷ []) levels
-        same_problem =
-            (λ i. mgu (sym (read_same m.bank mid keeps m.bound.items f.bound atom.0 h.seen.parts) i ∷ []) (read_term mid m.bound.items head ∷ []) (m.levels.items ++ replicate o.count m.eigens))
-            ∙ (λ i. mgu (read_term mid (sym bound_is i) atom ∷ []) (read_term mid (sym bound_is i) head ∷ []) (sym levels_is i))
+        term_is : (at : At) → read_term mid start.bound at ≡ read_term mid m.bound at
+        term_is at = sub_same (reading mid start.bound) (reading mid m.bound) reads_is (term_tree mid at.0)
 
-        pub atom_fits : vars_below (length levels) (read_term mid bound atom) ≡ true
-        atom_fits =
-            (λ i. vars_below (length (levels_is i)) (read_term mid (bound_is i) atom))
-            ∙ ((λ i. vars_below (sized i) (read_same m.bank mid keeps m.bound.items f.bound atom.0 h.seen.parts i)) ∙ atom_below atom rest o.count h)
-          where
-            sized : length (m.levels.items ++ replicate o.count m.eigens) ≡ length m.levels.items + o.count
-            sized = let a = length-append m.levels.items (replicate o.count m.eigens) in let b = length-replicate o.count m.eigens in omega arith
+        atom_is : read_term mid start.bound atom ≡ read_term m.bank m.bound atom
+        atom_is = term_is atom ∙ read_same m.bank mid keeps m.bound f.bound atom.0 h.seen.parts
 
-        pub head_fits : vars_below (length levels) (read_term mid bound head) ≡ true
-        head_fits = (λ i. vars_below (length (levels_is i)) (read_term mid (bound_is i) head)) ∙ ((λ i. vars_below (sized i) (read_term mid m.bound.items head)) ∙ head_below)
-          where
-            sized : length (m.levels.items ++ replicate o.count m.eigens) ≡ length m.levels.items + o.count
-            sized = let a = length-append m.levels.items (replicate o.count m.eigens) in let b = length-replicate o.count m.eigens in omega arith
+        sized : length start.levels ≡ length m.levels + o.count
+        sized =
+            let a = ap (λ (xs : List ℕ). length xs) start_levels in let b = length-append m.levels (replicate o.count m.eigens) in
+            let d = length-replicate o.count m.eigens in omega arith
 
-        pub none_taken : Finds None → attempt (setting m) (state_of m) (record { label = label; leaf = k }) ≡ None
-        none_taken w =
+        pub atom_place : IsPlaceOf mid start atom.0
+        atom_place =
+            place-below mid start atom.0 start_table (HasTerm-extends keeps atom.0 h.seen.parts)
+            ((λ i. vars_below (sized i) (atom_is i)) ∙ atom_below atom rest o.count h)
+
+        pub head_place : IsPlaceOf mid start head.0
+        head_place = place-below mid start head.0 start_table o.inside ((λ i. vars_below (sized i) (term_is head i)) ∙ head_below)
+
+        abbrev pub Finds : Table → Bool → Type 0
+        Finds after answer = Unifies mid start after (mgu (read_term mid start.bound atom ∷ []) (read_term mid start.bound head ∷ []) start.levels) answer
+
+        -- what was found over an equal bank
+        pub finds_in : (bank : Nodes) (after : Table) (found b : Bool) → bank ≡ mid → found ≡ b
+            → Unifies bank start after (mgu (read_term bank start.bound atom ∷ []) (read_term bank start.bound head ∷ []) start.levels) found → Finds after b
+        finds_in bank after found b e q w =
+            subst (λ x. Finds after x) q
+            (subst (λ (n : Nodes). Unifies n start after (mgu (read_term n start.bound atom ∷ []) (read_term n start.bound head ∷ []) start.levels) found) e w)
+
+        same_problem : mgu (read_term m.bank m.bound atom ∷ []) (read_term mid m.bound head ∷ []) (m.levels ++ replicate o.count m.eigens)
+            ≡ mgu (read_term mid start.bound atom ∷ []) (read_term mid start.bound head ∷ []) start.levels
+        same_problem = λ i. mgu (sym atom_is i ∷ []) (sym (term_is head) i ∷ []) (sym start_levels i)
+
+        pub none_taken : (after : Table) → Finds after false → attempt (setting m) (state_of m) (record { label = label; leaf = k }) ≡ None
+        none_taken after w =
             step_is atom h
-            ∙ ap (option_map (instantiated (with_leaf (state_of m) (map (shown_item m.bank m.bound.items m.context.present.kept) (items_at m.agenda rest)) label k o.count (sub_leaf (reading m.bank m.bound.items) opened)))) (same_problem ∙ go (mgu (read_term mid bound atom ∷ []) (read_term mid bound head ∷ []) levels) w)
+            ∙ ap (option_map (instantiated (with_leaf (state_of m) (map (shown_item m.bank m.bound m.resources.kept) (items_at m.agenda rest)) label k o.count (sub_leaf (reading m.bank m.bound) opened))))
+            (same_problem ∙ go (mgu (read_term mid start.bound atom ∷ []) (read_term mid start.bound head ∷ []) start.levels) w)
           where
-            go : (s : Option Solved) → Unifies mid end bound levels s None → s ≡ None
+            go : (s : Option Solved) → Unifies mid start after s false → s ≡ None
             go None x = refl
             go (Some v) x = absurd x
 
         -- a machine with all that a leaf and unification bring
-        pub record IsMoved (u : Unified) (new : Machine) : Type 0 where
-          pub problem : new.problem.now ≡ m.problem.now
-          pub modules : new.modules.now ≡ m.modules.now
-          pub bank : new.bank ≡ end
-          pub bound_new : new.bound.items ≡ u.bound.items
-          pub levels_new : new.levels.items ≡ u.levels.items
-          pub context : new.context.present ≡ after_pick label m.context.present
+        pub record IsMoved (after : Table) (new : Parts) : Type 0 where
+          pub problem : new.problem ≡ m.problem
+          pub modules : new.modules ≡ m.modules
+          pub bank : new.bank ≡ mid
+          pub bound_new : new.bound ≡ after.bound
+          pub levels_new : new.levels ≡ after.levels
+          pub resources : new.resources ≡ after_pick label m.resources
           pub agenda : new.agenda ≡ now
           pub top_new : new.top ≡ top
-          pub terms_new : new.terms.items ≡ terms
+          pub terms_new : new.terms ≡ terms
           pub eigens : new.eigens ≡ m.eigens
-          pub steps : new.steps.items ≡ m.steps.items ++ ClauseStep label k ∷ []
+          pub steps : new.steps ≡ m.steps ++ ClauseStep label k ∷ []
           pub left : suc new.left ≡ m.left
 
-        moved : (u : Unified) (new : Machine) (v : Solved) → Extends mid end → IsMoved u new → IsUnified mid end bound levels v u → IsTaken v new
-        moved u new v e t w = record {
-          problem = t.problem;
-          modules = t.modules;
-          later = subst (Extends mid) (sym t.bank) e;
-          levels = t.levels_new ∙ w.levels_are;
-          count = ap (λ (xs : List (Option At)). length xs) t.bound_new ∙ (w.count ∙ ap (λ (xs : List ℕ). length xs) levels_is);
-          inside = subst (All (HasValue new.bank)) (sym t.bound_new) (subst (λ bank. All (HasValue bank) u.bound.items) (sym t.bank) w.inside);
-          reads = λ x. (λ i. reading (t.bank i) (t.bound_new i) x) ∙ (w.reads x ∙ ap (λ xs. sub v.subst (reading mid xs x)) bound_is);
-          entries = ap (λ (r : Resources FormAt). r.entries) t.context;
-          flag = ap (λ (r : Resources FormAt). r.flag) t.context;
-          next = ap (λ (r : Resources FormAt). r.next) t.context;
-          kept = ap (λ (r : Resources FormAt). r.kept) t.context;
-          agenda = t.agenda;
-          front = t.top_new;
-          all = t.terms_new;
-          eigens = t.eigens;
-          steps = t.steps;
-          left = t.left;
-        }
+        moved : (after : Table) (new : Parts) (v : Solved) → IsMoved after new → IsUnified mid start after v → IsTaken v new
+        moved after new v t w =
+            let same : table new ≡ after = same_table after new.bound new.levels t.bound_new t.levels_new in
+            record {
+              problem = t.problem;
+              modules = t.modules;
+              later = subst (Extends mid) (sym t.bank) (Extends-refl mid);
+              levels = t.levels_new ∙ w.levels_are;
+              count = ap (λ (xs : List (Option At)). length xs) t.bound_new ∙ (w.table.bound ∙ (w.same_count ∙ ap (λ (xs : List ℕ). length xs) start_levels));
+              inside =
+                  subst (All (HasValue new.bank)) (sym t.bound_new) (subst (λ bank. All (HasValue bank) after.bound) (sym t.bank) (table_values mid after.bound w.table.places));
+              ordered = subst (λ (bank : Nodes). IsOrdered bank (table new)) (sym t.bank) (subst (λ (u : Table). IsOrdered mid u) (sym same) w.table.ordered);
+              reads = λ x. (λ i. reading (t.bank i) (t.bound_new i) x) ∙ (w.reads x ∙ ap (sub v.subst) (reads_is x));
+              entries = ap (λ (r : Resources FormAt). r.entries) t.resources;
+              flag = ap (λ (r : Resources FormAt). r.flag) t.resources;
+              next = ap (λ (r : Resources FormAt). r.next) t.resources;
+              kept = ap (λ (r : Resources FormAt). r.kept) t.resources;
+              agenda = t.agenda;
+              front = t.top_new;
+              all = t.terms_new;
+              eigens = t.eigens;
+              steps = t.steps;
+              left = t.left;
+            }
 
-        pub some_taken : (u : Unified) (new : Machine) → Extends mid end → IsMoved u new → Finds (Some u) → Infers m (record { label = label; leaf = k }) new
-        some_taken u new e t w = go (mgu (read_term mid bound atom ∷ []) (read_term mid bound head ∷ []) levels) refl w
+        pub some_taken : (after : Table) (new : Parts) → IsMoved after new → Finds after true → Infers m (record { label = label; leaf = k }) new
+        some_taken after new t w = go (mgu (read_term mid start.bound atom ∷ []) (read_term mid start.bound head ∷ []) start.levels) refl w
           where
-            go : (s : Option Solved) → mgu (read_term mid bound atom ∷ []) (read_term mid bound head ∷ []) levels ≡ s → Unifies mid end bound levels s (Some u) → Infers m (record { label = label; leaf = k }) new
+            go : (s : Option Solved) → mgu (read_term mid start.bound atom ∷ []) (read_term mid start.bound head ∷ []) start.levels ≡ s → Unifies mid start after s true
+                → Infers m (record { label = label; leaf = k }) new
             go None p x = absurd x
-            go (Some v) p x = taken atom h v (same_problem ∙ p) new (moved u new v e t x)
+            go (Some v) p x = taken atom h v (same_problem ∙ p) new (moved after new v t x)

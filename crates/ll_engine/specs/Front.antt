@@ -5,12 +5,12 @@ use Rattle.ll_bank.specs.declared.FormNode.{FormNode}
 use Rattle.ll_bank.specs.Nodes.{IsFormView}
 use Rattle.ll_agenda.specs.declared.agenda.Top.{Top}
 use Rattle.ll_agenda.specs.Frames.{HasTop, items_at}
-use Rattle.ll_freeze.specs.declared.machine.Machine.{Machine}
+use Rattle.ll_freeze.specs.Parts.{Parts}
 use Rattle.ll_freeze.specs.declared.machine.Item.TheVariants.{Goal}
 use Rattle.ll_freeze.specs.Shown.{items_of}
 
 -- this is seen of the goal in front of the agenda, and this is the rest of the agenda behind it
-pub record IsFront (m : Machine) (view : FormNode) (rest : Top) : Type 0 where
+pub record IsFront (m : Parts) (view : FormNode) (rest : Top) : Type 0 where
   pub goal : FormAt
   pub list : items_of m ≡ Goal goal ∷ items_at m.agenda rest
   pub behind : HasTop m.agenda rest

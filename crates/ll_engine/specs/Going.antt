@@ -8,7 +8,7 @@ use Rattle.ll_laws.specs.Consistent.{ends_fit}
 use Rattle.ll_laws.specs.Valid.{IsFormula, ClauseSide}
 use Rattle.ll_agenda.specs.Frames.{HasTop}
 use Rattle.ll_resources.specs.Resources.{Resources, saved_at}
-use Rattle.ll_freeze.specs.declared.machine.Machine.{Machine}
+use Rattle.ll_freeze.specs.Parts.{Parts}
 use Rattle.ll_freeze.specs.declared.machine.Item.{Item}
 use Rattle.ll_freeze.specs.declared.machine.Item.TheVariants.{Goal, LolliEnd, ImpEnd, Mid, WithEnd, BangEnd}
 use Rattle.ll_engine.specs.declared.settle.Worked.{Worked}
@@ -36,30 +36,30 @@ abbrev pub EndsFit : Nodes → List (Option At) → Resources FormAt → List It
 EndsFit bank bound r xs = ends_fit (map (shown_item bank bound r.kept) xs) (map (shown_entry bank bound) r.entries) ≡ true
 
 -- the later machine is the earlier one with some ends worked off
-pub record Reaches (o m : Machine) : Type 0 where
+pub record Reaches (o m : Parts) : Type 0 where
   pub same : SameTerms o m
   pub eigens : m.eigens ≡ o.eigens
   pub left : m.left ≡ o.left
-  pub steps : m.steps.items ≡ o.steps.items
-  pub next : m.context.present.next ≡ o.context.present.next
-  pub raw : front_raw m.context.present (items_of m) ≡ front_raw o.context.present (items_of o)
+  pub steps : m.steps ≡ o.steps
+  pub next : m.resources.next ≡ o.resources.next
+  pub raw : front_raw m.resources (items_of m) ≡ front_raw o.resources (items_of o)
   pub top : HasTop m.agenda m.top
-  pub items : All (HasItem o.bank (length m.context.present.kept)) (items_of m)
-  pub clauses : All (λ e. HasForm o.bank e.clause.0) m.context.present.entries
-  pub sorted_clauses : All (λ e. IsFormula (allowed o) ClauseSide [] (form_tree o.bank e.clause.0)) m.context.present.entries
+  pub items : All (HasItem o.bank (length m.resources.kept)) (items_of m)
+  pub clauses : All (λ e. HasForm o.bank e.clause.0) m.resources.entries
+  pub sorted_clauses : All (λ e. IsFormula (allowed o) ClauseSide [] (form_tree o.bank e.clause.0)) m.resources.entries
   pub sorted_goals : All (IsGoalIn (allowed o) o.bank) (items_of m)
 
 -- and the ends that are left belong to its entries
-pub record Going (o m : Machine) : Type 0 where
+pub record Going (o m : Parts) : Type 0 where
   pub reached : Reaches o m
-  pub ends : EndsFit o.bank o.bound.items m.context.present (items_of m)
+  pub ends : EndsFit o.bank o.bound m.resources (items_of m)
 
 -- no end is in front
-abbrev pub IsDone : Machine → Type 0
-IsDone m = front_raw m.context.present (items_of m) ≡ Some (record { agenda = map (raw_item m.context.present.kept) (items_of m); context = m.context.present.entries; flag = m.context.present.flag })
+abbrev pub IsDone : Parts → Type 0
+IsDone m = front_raw m.resources (items_of m) ≡ Some (record { agenda = map (raw_item m.resources.kept) (items_of m); context = m.resources.entries; flag = m.resources.flag })
 
 -- what working off the item in front came to
-abbrev pub Works : Machine → Worked → Machine → Type 0
+abbrev pub Works : Parts → Worked → Parts → Type 0
 Works old Off new = Going old new × (length (items_of new) < length (items_of old))
 Works old Settled new = Reaches old new × IsDone new
-Works old Failed new = (front_raw old.context.present (items_of old) ≡ None) × SameSearch old new
+Works old Failed new = (front_raw old.resources (items_of old) ≡ None) × SameSearch old new

@@ -4,13 +4,11 @@ use Rattle.ll_bank.specs.declared.FormAt.{FormAt}
 use Rattle.ll_bank.specs.Term.{Term, head_of, arity, same_head}
 use Rattle.ll_bank.specs.Form.{Form, Top, One, Atom, With, Tensor, Plus, Bang, Lolli, Imp, Forall, Exists, Use, Num}
 use Rattle.ll_bank.specs.Nodes.{Nodes, form_tree}
-use Rattle.ll_bank.specs.declared.At.{At}
 use Rattle.ll_laws.specs.declared.Candidate.{Candidate}
 use Rattle.ll_laws.specs.Leaf.{ways}
-use Rattle.ll_laws.specs.Settle.{Entry}
+use Rattle.ll_laws.specs.Settle.{Entry, map_entry}
 use Rattle.ll_laws.specs.Attempt.{is_open}
 use Rattle.ll_engine.specs.declared.candidates.Predicate.{Predicate}
-use Rattle.ll_freeze.specs.Reading.{read_form}
 
 -- the predicate of a term, none where it has no head
 abbrev pub IsPredicate : Term → Option Predicate → Type 0
@@ -46,10 +44,14 @@ head_tries p label k (h ∷ hs) = if has_predicate p h then record { label = lab
 abbrev pub open_tries : Predicate → Entry Form → List Candidate
 open_tries p e = if is_open e then head_tries p e.label 0 (heads e.clause) else []
 
+-- an entry with its clause as it stands in the bank
+abbrev pub standing_entry : Nodes → Entry FormAt → Entry Form
+standing_entry bank e = map_entry (λ f. form_tree bank f.0) e
+
 -- the heads of clauses that wait, the last one first
-abbrev pub waiting_heads : Nodes → List (Option At) → List FormAt → List Term
-waiting_heads bank bound [] = []
-waiting_heads bank bound (f ∷ fs) = waiting_heads bank bound fs ++ heads (read_form bank bound f)
+abbrev pub waiting_heads : Nodes → List FormAt → List Term
+waiting_heads bank [] = []
+waiting_heads bank (f ∷ fs) = waiting_heads bank fs ++ heads (form_tree bank f.0)
 
 -- how much of a clause there is to walk through
 abbrev pub walk_size : Form → ℕ

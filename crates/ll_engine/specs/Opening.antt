@@ -57,3 +57,8 @@ pub record Opens (first : Nodes) (items : List Item) (before clause k : ℕ) (ba
 abbrev pub IsSide : List ℕ → FormAt → FormAt → ℕ → Side → Type 0
 IsSide lefts left right k side =
     (k < length lefts → (side.form ≡ left) × (side.leaf ≡ k)) × (length lefts ≤ k → (side.form ≡ right) × (side.leaf ≡ k - length lefts))
+
+-- the later list is the earlier one with more behind it
+pub record Appends {A : Type 0} (old new : List A) : Type 0 where
+  pub more : List A
+  pub is : new ≡ old ++ more

@@ -1,21 +1,27 @@
--- What unification makes of a machine's bindings.
-use Rattle.std.specs.Prelude.{◌≡◌, ℕ, List, length, All, Option, Some, None}
+-- What unification makes of a store's bindings.
+use Rattle.std.specs.Prelude.{◌≡◌, ℕ, Bool, true, false, Option, Some, None}
 use Rattle.ll_bank.specs.declared.At.{At}
-use Rattle.ll_bank.specs.Term.{sub}
+use Rattle.ll_bank.specs.Term.{Term, sub}
 use Rattle.ll_bank.specs.Nodes.{Nodes}
+use Rattle.ll_bindings.specs.Bindings.{Table, IsTable, count}
+use Rattle.ll_store.specs.declared.store.Store.{Store}
+use Rattle.ll_store.specs.Tables.{table_of}
 use Rattle.ll_laws.specs.Unify.{Solved}
-use Rattle.ll_engine.specs.declared.take.Unified.{Unified}
-use Rattle.ll_freeze.specs.Reading.{reading, HasValue}
+use Rattle.ll_freeze.specs.Reading.{reading, read_term}
+
+-- the term at a place, read under the bindings of a store
+abbrev pub read_in : Store → At → Term
+read_in s at = read_term s.bank (table_of s.cells.cells).bound at
 
 -- the bindings and levels are the old ones, followed by what unification finds
-pub record IsUnified (old new : Nodes) (bound : List (Option At)) (levels : List ℕ) (v : Solved) (u : Unified) : Type 0 where
-  pub levels_are : u.levels.items ≡ v.levels
-  pub count : length u.bound.items ≡ length levels
-  pub inside : All (HasValue new) u.bound.items
-  pub reads : (x : ℕ) → reading new u.bound.items x ≡ sub v.subst (reading old bound x)
+pub record IsUnified (bank : Nodes) (old new : Table) (v : Solved) : Type 0 where
+  pub levels_are : new.levels ≡ v.levels
+  pub table : IsTable bank new
+  pub same_count : count new ≡ count old
+  pub reads : (x : ℕ) → reading bank new.bound x ≡ sub v.subst (reading bank old.bound x)
 
--- there is an answer exactly where unification finds one
-abbrev pub Unifies : Nodes → Nodes → List (Option At) → List ℕ → Option Solved → Option Unified → Type 0
-Unifies old new bound levels (Some v) (Some u) = IsUnified old new bound levels v u
-Unifies old new bound levels None None = Unit {0}
-Unifies old new bound levels _ _ = ⊥
+-- the answer is true exactly where unification finds something
+abbrev pub Unifies : Nodes → Table → Table → Option Solved → Bool → Type 0
+Unifies bank old new (Some v) true = IsUnified bank old new v
+Unifies bank old new None false = Unit {0}
+Unifies bank old new _ _ = ⊥

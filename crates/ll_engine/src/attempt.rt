@@ -1,8 +1,9 @@
 //! One inference of a machine.
 ghost use Rattle.std.specs.Prelude.{◌≡◌, ◌<◌, ◌++◌, false, IfOk, OnOk};
 ghost use Rattle.std.specs.List.{Contains};
-ghost use Rattle.ll_agenda.specs.Frames.{HasTop, ShowsItems, items_at};
+ghost use Rattle.ll_agenda.specs.Frames.{HasTop, ShowsItems, Extends, items_at};
 ghost use Rattle.ll_laws.specs.Attempt.{tries};
+ghost use Rattle.ll_freeze.specs.Parts.{parts_of, Later};
 ghost use Rattle.ll_freeze.specs.Shown.{state_of};
 ghost use Rattle.ll_freeze.specs.Fits.{Fits};
 ghost use Rattle.ll_engine.specs.Attempts.{Attempts};
@@ -23,17 +24,18 @@ use std::alloc::Global;
 
 /// One inference: the first goal taken apart by one of its candidates; false where this gives nothing.
 ///
-/// Then, and after a refusal, the machine is spent.
+/// Then the machine can only go back to a mark. After a refusal it is spent.
 pub fn attempt(
     machine: &mut Machine<'_>,
     alloc: Global,
     candidate: Candidate,
 ) -> Result<bool, OutOfMemory>
-    requires fits { Fits machine.old }
-    requires goal { is_empty (state_of machine.old).agenda ≡ false }
+    requires fits { Fits (parts_of machine.old) }
+    requires goal { is_empty (state_of (parts_of machine.old)).agenda ≡ false }
     requires left { 0 < machine.old.left }
-    requires candidate { Contains (tries (state_of machine.old)) candidate }
-    ensures { IfOk result (λ ok. Attempts machine.old candidate machine.new ok) }
+    requires candidate { Contains (tries (state_of (parts_of machine.old))) candidate }
+    ensures attempts { IfOk result (λ ok. Attempts (parts_of machine.old) candidate (parts_of machine.new) ok) }
+    ensures later { IfOk result (λ _. Later machine.old machine.new) }
 {
     let Some((item, rest)) = machine.agenda.item(machine.top) else {
         unreachable!()
@@ -41,7 +43,7 @@ pub fn attempt(
     let Item::Goal(goal) = item else {
         unreachable!()
     };
-    match machine.bank.form_at(goal) {
+    match machine.store.bank.form_at(goal) {
         FormNode::One => take_one(machine, rest),
         FormNode::Top => take_top(machine, rest),
         FormNode::Tensor(first, second) => take_tensor(machine, first, second, rest),
@@ -80,7 +82,8 @@ pub fn go_on(
 ) -> Result<(), OutOfMemory>
     requires rest { HasTop machine.old.agenda rest }
     requires left { 0 < machine.old.left }
-    ensures { OnOk result (GoesOn machine.old items.now (items_at machine.old.agenda rest) step machine.new) }
+    ensures goes { OnOk result (GoesOn (parts_of machine.old) items.now (items_at machine.old.agenda rest) step (parts_of machine.new)) }
+    ensures later { OnOk result (Later machine.old machine.new) }
 {
     machine.top = push_all(&mut machine.agenda, items, rest)?;
     machine.steps.push(step)?;
@@ -91,7 +94,8 @@ pub fn go_on(
 // The list of these items in front of another list.
 fn push_all(agenda: &mut Agenda<Item>, items: &[Item], rest: Top) -> Result<Top, OutOfMemory>
     requires { HasTop agenda.old rest }
-    ensures { IfOk result (λ top. ShowsItems agenda.new top (items.now ++ items_at agenda.old rest)) }
+    ensures shows { IfOk result (λ top. ShowsItems agenda.new top (items.now ++ items_at agenda.old rest)) }
+    ensures keeps { OnOk result (Extends agenda.old agenda.new) }
 {
     let mut top = rest;
     let mut at = items.len();

@@ -3,6 +3,7 @@
 //! The answer is true, as each of these goals gives a state. After a refusal the machine is spent.
 ghost use Rattle.std.specs.Prelude.{◌<◌, IfOk};
 ghost use Rattle.ll_laws.specs.declared.Candidate.{Candidate};
+ghost use Rattle.ll_freeze.specs.Parts.{parts_of, Later};
 ghost use Rattle.ll_freeze.specs.Fits.{Fits};
 ghost use Rattle.ll_engine.specs.Attempts.{Attempts};
 ghost use Rattle.ll_engine.specs.Front.{IsFront};
@@ -15,10 +16,11 @@ use ll_laws::{Candidate, Kind, Step};
 
 /// Takes `true`: the goal goes.
 pub fn take_one(machine: &mut Machine<'_>, rest: Top) -> Result<bool, OutOfMemory>
-    requires fits { Fits machine.old }
+    requires fits { Fits (parts_of machine.old) }
     requires left { 0 < machine.old.left }
-    requires front { IsFront machine.old FormNode.One rest }
-    ensures { (candidate : Candidate) → IfOk result (Attempts machine.old candidate machine.new) }
+    requires front { IsFront (parts_of machine.old) FormNode.One rest }
+    ensures attempts { (candidate : Candidate) → IfOk result (Attempts (parts_of machine.old) candidate (parts_of machine.new)) }
+    ensures later { IfOk result (λ _. Later machine.old machine.new) }
 {
     go_on(machine, &[], rest, Step::Plain)?;
     Ok(true)
@@ -26,10 +28,11 @@ pub fn take_one(machine: &mut Machine<'_>, rest: Top) -> Result<bool, OutOfMemor
 
 /// Takes `erase`: the goal goes, and what is left may be left.
 pub fn take_top(machine: &mut Machine<'_>, rest: Top) -> Result<bool, OutOfMemory>
-    requires fits { Fits machine.old }
+    requires fits { Fits (parts_of machine.old) }
     requires left { 0 < machine.old.left }
-    requires front { IsFront machine.old FormNode.Top rest }
-    ensures { (candidate : Candidate) → IfOk result (Attempts machine.old candidate machine.new) }
+    requires front { IsFront (parts_of machine.old) FormNode.Top rest }
+    ensures attempts { (candidate : Candidate) → IfOk result (Attempts (parts_of machine.old) candidate (parts_of machine.new)) }
+    ensures later { IfOk result (λ _. Later machine.old machine.new) }
 {
     machine.context.erase()?;
     go_on(machine, &[], rest, Step::Plain)?;
@@ -43,10 +46,11 @@ pub fn take_tensor(
     second: FormAt,
     rest: Top,
 ) -> Result<bool, OutOfMemory>
-    requires fits { Fits machine.old }
+    requires fits { Fits (parts_of machine.old) }
     requires left { 0 < machine.old.left }
-    requires front { IsFront machine.old (FormNode.Tensor first second) rest }
-    ensures { (candidate : Candidate) → IfOk result (Attempts machine.old candidate machine.new) }
+    requires front { IsFront (parts_of machine.old) (FormNode.Tensor first second) rest }
+    ensures attempts { (candidate : Candidate) → IfOk result (Attempts (parts_of machine.old) candidate (parts_of machine.new)) }
+    ensures later { IfOk result (λ _. Later machine.old machine.new) }
 {
     let items = [Item::Goal(first), Item::Goal(second)];
     go_on(machine, &items, rest, Step::Plain)?;
@@ -61,10 +65,11 @@ pub fn take_plus(
     rest: Top,
     candidate: Candidate,
 ) -> Result<bool, OutOfMemory>
-    requires fits { Fits machine.old }
+    requires fits { Fits (parts_of machine.old) }
     requires left { 0 < machine.old.left }
-    requires front { IsFront machine.old (FormNode.Plus left right) rest }
-    ensures { IfOk result (Attempts machine.old candidate machine.new) }
+    requires front { IsFront (parts_of machine.old) (FormNode.Plus left right) rest }
+    ensures attempts { IfOk result (Attempts (parts_of machine.old) candidate (parts_of machine.new)) }
+    ensures later { IfOk result (λ _. Later machine.old machine.new) }
 {
     if candidate.leaf == 0 {
         go_on(machine, &[Item::Goal(left)], rest, Step::Left)?;
@@ -81,10 +86,11 @@ pub fn take_with(
     second: FormAt,
     rest: Top,
 ) -> Result<bool, OutOfMemory>
-    requires fits { Fits machine.old }
+    requires fits { Fits (parts_of machine.old) }
     requires left { 0 < machine.old.left }
-    requires front { IsFront machine.old (FormNode.With first second) rest }
-    ensures { (candidate : Candidate) → IfOk result (Attempts machine.old candidate machine.new) }
+    requires front { IsFront (parts_of machine.old) (FormNode.With first second) rest }
+    ensures attempts { (candidate : Candidate) → IfOk result (Attempts (parts_of machine.old) candidate (parts_of machine.new)) }
+    ensures later { IfOk result (λ _. Later machine.old machine.new) }
 {
     let saved = machine.context.save()?;
     let items = [
@@ -99,10 +105,11 @@ pub fn take_with(
 
 /// Takes `{ body }`: it comes in front, with no live entry.
 pub fn take_bang(machine: &mut Machine<'_>, body: FormAt, rest: Top) -> Result<bool, OutOfMemory>
-    requires fits { Fits machine.old }
+    requires fits { Fits (parts_of machine.old) }
     requires left { 0 < machine.old.left }
-    requires front { IsFront machine.old (FormNode.Bang body) rest }
-    ensures { (candidate : Candidate) → IfOk result (Attempts machine.old candidate machine.new) }
+    requires front { IsFront (parts_of machine.old) (FormNode.Bang body) rest }
+    ensures attempts { (candidate : Candidate) → IfOk result (Attempts (parts_of machine.old) candidate (parts_of machine.new)) }
+    ensures later { IfOk result (λ _. Later machine.old machine.new) }
 {
     let saved = machine.context.save()?;
     machine.context.bang()?;
@@ -118,10 +125,11 @@ pub fn take_lolli(
     body: FormAt,
     rest: Top,
 ) -> Result<bool, OutOfMemory>
-    requires fits { Fits machine.old }
+    requires fits { Fits (parts_of machine.old) }
     requires left { 0 < machine.old.left }
-    requires front { IsFront machine.old (FormNode.Lolli clause body) rest }
-    ensures { (candidate : Candidate) → IfOk result (Attempts machine.old candidate machine.new) }
+    requires front { IsFront (parts_of machine.old) (FormNode.Lolli clause body) rest }
+    ensures attempts { (candidate : Candidate) → IfOk result (Attempts (parts_of machine.old) candidate (parts_of machine.new)) }
+    ensures later { IfOk result (λ _. Later machine.old machine.new) }
 {
     let flag = machine.context.flag();
     machine.context.load(Kind::Linear, clause)?;
@@ -137,10 +145,11 @@ pub fn take_imp(
     body: FormAt,
     rest: Top,
 ) -> Result<bool, OutOfMemory>
-    requires fits { Fits machine.old }
+    requires fits { Fits (parts_of machine.old) }
     requires left { 0 < machine.old.left }
-    requires front { IsFront machine.old (FormNode.Imp clause body) rest }
-    ensures { (candidate : Candidate) → IfOk result (Attempts machine.old candidate machine.new) }
+    requires front { IsFront (parts_of machine.old) (FormNode.Imp clause body) rest }
+    ensures attempts { (candidate : Candidate) → IfOk result (Attempts (parts_of machine.old) candidate (parts_of machine.new)) }
+    ensures later { IfOk result (λ _. Later machine.old machine.new) }
 {
     machine.context.load(Kind::Unbounded, clause)?;
     go_on(

@@ -9,7 +9,6 @@ mod engine;
 mod numbers;
 mod open;
 mod quantifiers;
-mod read;
 mod settle;
 mod spine;
 mod take;

@@ -1,10 +1,10 @@
 //! Leaves of clauses, opened with new variables.
-ghost use Rattle.std.specs.Prelude.{◌≡◌, ◌<◌, length, IfOk};
+ghost use Rattle.std.specs.Prelude.{◌≡◌, ◌<◌, length, IfOk, OnOk};
 ghost use Rattle.ll_bank.specs.Nodes.{term_trees, form_tree, HasForm, AllInTerms, Extends};
-ghost use Rattle.ll_agenda.specs.Frames.{HasTop, items_at};
+ghost use Rattle.ll_agenda.specs.Frames.{HasTop, items_at, Extends as ExtendsFrames};
 ghost use Rattle.ll_laws.specs.Leaf.{ways};
 ghost use Rattle.ll_laws.specs.Attempt.{vars_from};
-ghost use Rattle.ll_engine.specs.Opening.{IsClause, Opens, IsSide};
+ghost use Rattle.ll_engine.specs.Opening.{IsClause, Opens, IsSide, Appends};
 
 use crate::candidates::count_leaves;
 use ll_agenda::{Agenda, Top};
@@ -45,6 +45,8 @@ pub fn open_leaf(
     requires variables { term_trees bank.old terms.old.items ≡ vars_from 0 (length terms.old.items) }
     ensures opened { IfOk result (λ found. Opens bank.old (items_at agenda.old rest) (length terms.old.items) clause.0 leaf bank.new agenda.new terms.new.items found.head found.top) }
     ensures keeps { Extends bank.old bank.new }
+    ensures frames { OnOk result (ExtendsFrames agenda.old agenda.new) }
+    ensures more { OnOk result (Appends terms.old.items terms.new.items) }
 {
     let mut form = clause;
     let mut leaf = leaf;

@@ -7,6 +7,7 @@ ghost use Rattle.ll_bank.specs.Nodes.{AllInTerms, HasForm, form_tree, term_trees
 ghost use Rattle.ll_laws.specs.Shown.{HasClauses};
 ghost use Rattle.ll_modules.specs.Loads.{AreClosed, MayLoad};
 ghost use Rattle.ll_agenda.specs.Frames.{HasTop, items_at};
+ghost use Rattle.ll_freeze.specs.Parts.{parts_of, Later};
 ghost use Rattle.ll_engine.specs.Rows.{OpensForall, OpensExists, Loads};
 
 use crate::attempt::go_on;
@@ -21,12 +22,13 @@ pub fn take_forall(machine: &mut Machine<'_>, body: FormAt, rest: Top) -> Result
     requires rest { HasTop machine.old.agenda rest }
     requires left { 0 < machine.old.left }
     requires eigens { machine.old.eigens < 2 ^ 20 }
-    requires body { HasForm machine.old.bank body.0 }
-    requires heads { form_applies_heads (instantiate (form_tree machine.old.bank body.0) (Con (Eigen machine.old.eigens))) ≡ true }
-    ensures { OnOk result (OpensForall machine.old body (items_at machine.old.agenda rest) machine.new) }
+    requires body { HasForm machine.old.store.bank body.0 }
+    requires heads { form_applies_heads (instantiate (form_tree machine.old.store.bank body.0) (Con (Eigen machine.old.eigens))) ≡ true }
+    ensures opens { OnOk result (OpensForall (parts_of machine.old) body (items_at machine.old.agenda rest) (parts_of machine.new)) }
+    ensures later { OnOk result (Later machine.old machine.new) }
 {
-    let value = machine.bank.app(Head::Eigen(machine.eigens), &[])?;
-    let goal = machine.bank.instantiate(body, value)?;
+    let value = machine.store.bank.app(Head::Eigen(machine.eigens), &[])?;
+    let goal = machine.store.bank.instantiate(body, value)?;
     machine.eigens += 1;
     go_on(machine, &[Item::Goal(goal)], rest, Step::Plain)?;
     Ok(())
@@ -36,14 +38,14 @@ pub fn take_forall(machine: &mut Machine<'_>, body: FormAt, rest: Top) -> Result
 pub fn take_exists(machine: &mut Machine<'_>, body: FormAt, rest: Top) -> Result<(), OutOfMemory>
     requires rest { HasTop machine.old.agenda rest }
     requires left { 0 < machine.old.left }
-    requires body { HasForm machine.old.bank body.0 }
-    requires heads { form_applies_heads (instantiate (form_tree machine.old.bank body.0) (VarTerm (length machine.old.levels.items))) ≡ true }
-    ensures { OnOk result (OpensExists machine.old body (items_at machine.old.agenda rest) machine.new) }
+    requires body { HasForm machine.old.store.bank body.0 }
+    requires heads { form_applies_heads (instantiate (form_tree machine.old.store.bank body.0) (VarTerm (length (parts_of machine.old).levels))) ≡ true }
+    ensures opens { OnOk result (OpensExists (parts_of machine.old) body (items_at machine.old.agenda rest) (parts_of machine.new)) }
+    ensures later { OnOk result (Later machine.old machine.new) }
 {
-    let value = machine.bank.var(machine.levels.len() as u64)?;
-    let goal = machine.bank.instantiate(body, value)?;
-    machine.bound.push(None)?;
-    machine.levels.push(machine.eigens)?;
+    let number = machine.store.fresh(machine.eigens)?;
+    let value = machine.store.bank.var(number)?;
+    let goal = machine.store.bank.instantiate(body, value)?;
     machine.terms.push(value)?;
     go_on(machine, &[Item::Goal(goal)], rest, Step::Plain)?;
     Ok(())
@@ -59,15 +61,16 @@ pub fn take_load(
 ) -> Result<(), OutOfMemory>
     requires rest { HasTop machine.old.agenda rest }
     requires left { 0 < machine.old.left }
-    requires args { AllInTerms machine.old.bank args.now }
-    requires body { HasForm machine.old.bank body.0 }
+    requires args { AllInTerms machine.old.store.bank args.now }
+    requires body { HasForm machine.old.store.bank body.0 }
     requires count { length args.now ≡ «module».now.params }
-    requires closed { AreClosed (term_trees machine.old.bank args.now) }
-    requires clauses { HasClauses machine.old.bank «module».now.clauses.items }
-    requires heads { MayLoad machine.old.bank «module».now.clauses.items (term_trees machine.old.bank args.now) }
-    ensures { OnOk result (Loads machine.old «module».now args.now body (items_at machine.old.agenda rest) machine.new) }
+    requires closed { AreClosed (term_trees machine.old.store.bank args.now) }
+    requires clauses { HasClauses machine.old.store.bank «module».now.clauses.items }
+    requires heads { MayLoad machine.old.store.bank «module».now.clauses.items (term_trees machine.old.store.bank args.now) }
+    ensures loads { OnOk result (Loads (parts_of machine.old) «module».now args.now body (items_at machine.old.agenda rest) (parts_of machine.new)) }
+    ensures later { OnOk result (Later machine.old machine.new) }
 {
-    let goal = unfold(&mut machine.bank, module, args, body)?;
+    let goal = unfold(&mut machine.store.bank, module, args, body)?;
     go_on(machine, &[Item::Goal(goal)], rest, Step::Plain)?;
     Ok(())
 }

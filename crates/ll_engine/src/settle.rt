@@ -1,6 +1,7 @@
 //! Settling: the ends in front of an agenda are worked off.
 ghost use Rattle.std.specs.Prelude.{◌≡◌, ◌∷◌, IfOk, OnOk};
 ghost use Rattle.ll_agenda.specs.Frames.{HasTop, items_at};
+ghost use Rattle.ll_freeze.specs.Parts.{parts_of, Later};
 ghost use Rattle.ll_freeze.specs.Shown.{items_of};
 ghost use Rattle.ll_freeze.specs.Fits.{Fits};
 ghost use Rattle.ll_engine.specs.Calls.{SettlesOr, SameSearch};
@@ -24,9 +25,10 @@ enum Worked {
 
 /// Works off the ends in front; false where one of them fails.
 pub fn settle(machine: &mut Machine<'_>) -> Result<bool, OutOfMemory>
-    requires fits { Fits machine.old }
-    ensures settles { IfOk result (λ ok. SettlesOr machine.old ok machine.new) }
-    ensures same { IfOk result (λ _. SameSearch machine.old machine.new) }
+    requires fits { Fits (parts_of machine.old) }
+    ensures settles { IfOk result (λ ok. SettlesOr (parts_of machine.old) ok (parts_of machine.new)) }
+    ensures same { IfOk result (λ _. SameSearch (parts_of machine.old) (parts_of machine.new)) }
+    ensures later { IfOk result (λ _. Later machine.old machine.new) }
 {
     while let Some((item, rest)) = machine.agenda.item(machine.top) {
         match work_off(machine, item, rest)? {
@@ -40,10 +42,11 @@ pub fn settle(machine: &mut Machine<'_>) -> Result<bool, OutOfMemory>
 
 // Works off the item in front, if it is an end.
 fn work_off(machine: &mut Machine<'_>, item: Item, rest: Top) -> Result<Worked, OutOfMemory>
-    requires going { Going machine.old machine.old }
-    requires front { items_of machine.old ≡ item ∷ items_at machine.old.agenda rest }
+    requires going { Going (parts_of machine.old) (parts_of machine.old) }
+    requires front { items_of (parts_of machine.old) ≡ item ∷ items_at machine.old.agenda rest }
     requires rest { HasTop machine.old.agenda rest }
-    ensures { IfOk result (λ worked. Works machine.old worked machine.new) }
+    ensures works { IfOk result (λ worked. Works (parts_of machine.old) worked (parts_of machine.new)) }
+    ensures later { IfOk result (λ _. Later machine.old machine.new) }
 {
     match item {
         Item::Goal(_) => Ok(Worked::Settled),
@@ -81,10 +84,11 @@ fn work_off(machine: &mut Machine<'_>, item: Item, rest: Top) -> Result<Worked, 
 }
 // Works off the middle of `&`, which is in front: its second side is next.
 fn second_side(machine: &mut Machine<'_>, saved: Saved, rest: Top) -> Result<(), OutOfMemory>
-    requires going { Going machine.old machine.old }
-    requires front { items_of machine.old ≡ Mid saved ∷ items_at machine.old.agenda rest }
+    requires going { Going (parts_of machine.old) (parts_of machine.old) }
+    requires front { items_of (parts_of machine.old) ≡ Mid saved ∷ items_at machine.old.agenda rest }
     requires rest { HasTop machine.old.agenda rest }
-    ensures { OnOk result (Reaches machine.old machine.new × IsDone machine.new) }
+    ensures reaches { OnOk result (Reaches (parts_of machine.old) (parts_of machine.new) × IsDone (parts_of machine.new)) }
+    ensures later { OnOk result (Later machine.old machine.new) }
 {
     let Some((Item::Goal(goal), after)) = machine.agenda.item(rest) else {
         unreachable!()

@@ -1,10 +1,11 @@
-//! A machine with its choice points, which are machines of their own.
+//! A machine with its choice points, which are marks of it.
 ghost use Rattle.std.specs.Prelude.{◌≡◌, ◌<◌, true, false, IfOk};
 ghost use Rattle.ll_laws.specs.Valid.{IsValid};
 ghost use Rattle.ll_laws.specs.Problem.{start_of};
+ghost use Rattle.ll_freeze.specs.Parts.{parts_of};
 ghost use Rattle.ll_freeze.specs.Shown.{state_of};
 ghost use Rattle.ll_freeze.specs.Fits.{Fits};
-ghost use Rattle.ll_engine.specs.Pointed.{spine_of, IsSound, IsOpen, AreKept, AreTries, Puts, KeepsKept, ChoseOf};
+ghost use Rattle.ll_engine.specs.Pointed.{spine_of, helds, IsSound, IsOpen, AreKept, AreMarks, AreTries, Puts, KeepsKept, ChoseOf};
 ghost use Rattle.ll_engine.specs.Turned.{has_none, is_empty, answers, starting, Settles, Expands, Retries};
 
 use crate::answer::{answers, branch, is_empty};
@@ -12,15 +13,16 @@ use crate::attempt::attempt;
 use crate::candidates::candidates;
 use crate::settle::settle;
 use ll_bank::OutOfMemory;
-use ll_freeze::Machine;
+use ll_freeze::{ChoiceMark, Machine};
 use ll_laws::{Branch, Candidate, Problem};
 use std::alloc::Global;
 use std::collections::VecDeque;
 
-/// A choice point: a settled machine with a goal in front, and the candidates not tried yet, the first one last. There is one.
+/// A choice point: a mark of the machine as it was settled, with a goal in front, and the candidates not tried yet, the first one last.
+/// There is one.
 #[derive(Drop)]
-pub struct Kept<'p> {
-    pub machine: Machine<'p>,
+pub struct Kept {
+    pub mark: ChoiceMark,
     pub untried: Vec<Candidate>,
 }
 
@@ -31,7 +33,7 @@ pub struct Spine<'p> {
     pub problem: &'p Problem,
     pub machine: Machine<'p>,
     /// The newest one last. Each has an untried candidate.
-    pub points: VecDeque<Kept<'p>>,
+    pub points: VecDeque<Kept>,
 }
 
 impl<'p> Spine<'p> {
@@ -63,7 +65,7 @@ impl<'p> Spine<'p> {
     /// Whether nothing is left to prove.
     pub fn is_empty(&self) -> bool
         requires sound { IsSound true self.now }
-        ensures { result ≡ is_empty (state_of self.now.machine).agenda }
+        ensures { result ≡ is_empty (state_of (parts_of self.now.machine)).agenda }
     {
         is_empty(&self.machine)
     }
@@ -71,7 +73,7 @@ impl<'p> Spine<'p> {
     /// Whether a state with nothing left to prove is an answer.
     pub fn answers(&self) -> bool
         requires sound { IsSound true self.now }
-        ensures { result ≡ answers (state_of self.now.machine) }
+        ensures { result ≡ answers (state_of (parts_of self.now.machine)) }
     {
         answers(&self.machine)
     }
@@ -86,7 +88,7 @@ impl<'p> Spine<'p> {
     /// The state as a branch.
     pub fn branch(&self) -> Result<Branch, OutOfMemory>
         requires sound { IsSound true self.now }
-        ensures { IfOk result (λ b. b ≡ record { terms = (state_of self.now.machine).terms; steps = (state_of self.now.machine).steps }) }
+        ensures { IfOk result (λ b. b ≡ record { terms = (state_of (parts_of self.now.machine)).terms; steps = (state_of (parts_of self.now.machine)).steps }) }
     {
         branch(&self.machine, self.alloc)
     }
@@ -94,7 +96,7 @@ impl<'p> Spine<'p> {
     /// Takes the first goal apart by its first candidate, and keeps the others in a choice point; false where it gives nothing.
     pub fn expand(&mut self) -> Result<bool, OutOfMemory>
         requires sound { IsSound true self.old }
-        requires goal { is_empty (state_of self.old.machine).agenda ≡ false }
+        requires goal { is_empty (state_of (parts_of self.old.machine)).agenda ≡ false }
         requires left { 0 < self.old.machine.left }
         ensures sound { IfOk result (λ running. IsSound running self.new) }
         ensures expands { IfOk result (λ running. Expands (spine_of self.old) running (spine_of self.new)) }
@@ -122,7 +124,7 @@ impl<'p> Spine<'p> {
         match self.points.pop_back() {
             None => unreachable!(),
             Some(kept) => {
-                self.machine = kept.machine;
+                self.machine.undo(kept.mark);
                 let running = self.choose(kept.untried)?;
                 Ok(running)
             }
@@ -132,9 +134,10 @@ impl<'p> Spine<'p> {
     // Takes the first goal apart by the last of these candidates, and keeps the others in a choice point; false where it gives
     // nothing, or there is none.
     fn choose(&mut self, mut untried: Vec<Candidate>) -> Result<bool, OutOfMemory>
-        requires open { IsOpen self.old.problem.now self.old.machine }
-        requires tries { AreTries self.old.machine untried.items }
-        requires points { AreKept self.old.problem.now self.old.points.items }
+        requires open { IsOpen self.old.problem.now (parts_of self.old.machine) }
+        requires tries { AreTries (parts_of self.old.machine) untried.items }
+        requires points { AreKept self.old.problem.now (helds self.old.machine self.old.points.items) }
+        requires marks { AreMarks self.old.machine self.old.points.items }
         ensures sound { IfOk result (λ running. IsSound running self.new) }
         ensures chose { IfOk result (λ running. ChoseOf self.old untried.items running self.new) }
     {
@@ -149,20 +152,24 @@ impl<'p> Spine<'p> {
     }
 }
 
-// Keeps a machine and its untried candidates, the first one last, in a choice point, if there are any.
-fn keep<'p>(
-    points: &mut VecDeque<Kept<'p>>,
-    machine: &Machine<'p>,
+// Keeps a mark of a machine and its untried candidates, the first one last, in a choice point, if there are any.
+fn keep(
+    points: &mut VecDeque<Kept>,
+    machine: &Machine<'_>,
     untried: Vec<Candidate>,
 ) -> Result<(), OutOfMemory>
-    requires fits { Fits machine.now }
-    ensures puts { IfOk result (λ _. Puts machine.now untried.items points.old.items points.new.items) }
-    ensures kept { IfOk result (λ _. KeepsKept machine.now untried.items points.old.items points.new.items) }
+    requires fits { Fits (parts_of machine.now) }
+    requires marks { AreMarks machine.now points.old.items }
+    ensures puts { IfOk result (λ _. Puts (parts_of machine.now) untried.items (helds machine.now points.old.items) (helds machine.now points.new.items)) }
+    ensures kept { IfOk result (λ _. KeepsKept (parts_of machine.now) untried.items (helds machine.now points.old.items) (helds machine.now points.new.items)) }
+    ensures marks { IfOk result (λ _. AreMarks machine.now points.new.items) }
 {
     if untried.is_empty() {
         return Ok(());
     }
-    let machine = machine.image()?;
-    points.push_back(Kept { machine, untried })?;
+    points.push_back(Kept {
+        mark: machine.mark(),
+        untried,
+    })?;
     Ok(())
 }

@@ -23,7 +23,7 @@ use Rattle.ll_laws.specs.Attempt.{vars_from}
 use Rattle.ll_laws.proofs.SubLaws.{sub_same, map_same}
 use Rattle.ll_agenda.specs.Frames.{HasTop}
 use Rattle.ll_resources.specs.Resources.{Resources}
-use Rattle.ll_freeze.specs.declared.machine.Machine.{Machine}
+use Rattle.ll_freeze.specs.Parts.{Parts}
 use Rattle.ll_freeze.specs.declared.machine.Item.{Item}
 use Rattle.ll_freeze.specs.declared.machine.Item.TheVariants.{Goal, LolliEnd, ImpEnd, Mid, WithEnd, BangEnd}
 use Rattle.ll_freeze.specs.Reading.{read_term}
@@ -45,15 +45,15 @@ state_by bank bound r items levels eigens terms steps =
       steps = steps;
     }
 
-pub state_is : (m : Machine) → state_of m ≡ state_by m.bank m.bound.items m.context.present (items_of m) m.levels.items m.eigens m.terms.items m.steps.items
+pub state_is : (m : Parts) → state_of m ≡ state_by m.bank m.bound m.resources (items_of m) m.levels m.eigens m.terms m.steps
 unfolding state_of
 state_is m = refl
 
 -- with the same terms and eigenconstants formulas may mention the same
-pub same_allowed : (m n : Machine) → SameTerms m n → n.eigens ≡ m.eigens → allowed n ≡ allowed m
+pub same_allowed : (m n : Parts) → SameTerms m n → n.eigens ≡ m.eigens → allowed n ≡ allowed m
 same_allowed m n s e =
     let make : ProblemTree → List ℕ → ℕ → Allowed = λ p ls k. record { modules = p.modules; variables = length ls; eigens = k; opens = true } in
-    ap (λ p. make p n.levels.items n.eigens) s.problem ∙ (ap (λ ls. make m.problem.now ls n.eigens) s.levels ∙ ap (λ k. make m.problem.now m.levels.items k) e)
+    ap (λ p. make p n.levels n.eigens) s.problem ∙ (ap (λ ls. make m.problem ls n.eigens) s.levels ∙ ap (λ k. make m.problem m.levels k) e)
 
 pub clauses_moved : (may more : Allowed) (bank other : Nodes) (es : List (Entry FormAt)) → may ≡ more → bank ≡ other
     → All (λ e. IsFormula may ClauseSide [] (form_tree bank e.clause.0)) es → All (λ e. IsFormula more ClauseSide [] (form_tree other e.clause.0)) es
@@ -65,10 +65,10 @@ pub goals_moved : (may more : Allowed) (bank other : Nodes) (xs : List Item) →
 goals_moved may more bank other xs p q h =
     subst (λ (b : Nodes). All (IsGoalIn more b) xs) q (subst (λ (k : Allowed). All (IsGoalIn k bank) xs) p h)
 
-pub fits_kept : (m n : Machine) → SameTerms m n → Fits m → IsConsistent (setting m) (state_of n) → n.eigens ≡ m.eigens
-    → All (λ e. HasForm m.bank e.clause.0) n.context.present.entries → All (λ e. IsFormula (allowed m) ClauseSide [] (form_tree m.bank e.clause.0)) n.context.present.entries
-    → HasTop n.agenda n.top → All (HasItem m.bank (length n.context.present.kept)) (items_of n) → All (IsGoalIn (allowed m) m.bank) (items_of n)
-    → n.context.present.next + n.left ≤ 2 ^ 25 → n.eigens + n.left ≤ 2 ^ 20 → Fits n
+pub fits_kept : (m n : Parts) → SameTerms m n → Fits m → IsConsistent (setting m) (state_of n) → n.eigens ≡ m.eigens
+    → All (λ e. HasForm m.bank e.clause.0) n.resources.entries → All (λ e. IsFormula (allowed m) ClauseSide [] (form_tree m.bank e.clause.0)) n.resources.entries
+    → HasTop n.agenda n.top → All (HasItem m.bank (length n.resources.kept)) (items_of n) → All (IsGoalIn (allowed m) m.bank) (items_of n)
+    → n.resources.next + n.left ≤ 2 ^ 25 → n.eigens + n.left ≤ 2 ^ 20 → Fits n
 fits_kept m n s f h x c d t i g l e =
     let a : allowed m ≡ allowed n = sym (same_allowed m n s x) in
     record {
@@ -76,10 +76,11 @@ fits_kept m n s f h x c d t i g l e =
       consistent = subst (λ (p : ProblemTree). IsConsistent (setting_of p) (state_of n)) (sym s.problem) h;
       count = rw (s.bound, s.levels) f.count;
       bound = rw (s.bank, s.bound) f.bound;
+      ordered = rw (s.bank, s.bound, s.levels) f.ordered;
       terms = rw (s.bank, s.terms) f.terms;
       variables = rw (s.bank, s.terms, s.levels) f.variables;
       clauses = rw s.bank c;
-      sorted_clauses = clauses_moved (allowed m) (allowed n) m.bank n.bank n.context.present.entries a (sym s.bank) d;
+      sorted_clauses = clauses_moved (allowed m) (allowed n) m.bank n.bank n.resources.entries a (sym s.bank) d;
       sorted_goals = goals_moved (allowed m) (allowed n) m.bank n.bank (items_of n) a (sym s.bank) g;
       has_modules = rw (s.bank, s.modules) f.has_modules;
       modules = rw (s.problem, s.bank, s.modules) f.modules;

@@ -1,14 +1,14 @@
 -- The image of a machine.
 use Rattle.std.proofs.Common.{◌≡◌, refl, sym, ◌∙◌}
 use Rattle.ll_agenda.specs.Frames.{ShowsItems}
-use Rattle.ll_freeze.specs.declared.machine.Machine.{Machine}
+use Rattle.ll_freeze.specs.Parts.{Parts}
 use Rattle.ll_freeze.specs.Shown.{items_of, state_of}
 use Rattle.ll_freeze.specs.Fits.{Fits}
 use Rattle.ll_freeze.specs.Calls.{IsImage, SameTerms}
 use Rattle.ll_freeze.proofs.CallerLemmas.{state_is, fits_kept}
 
-pub image_of : (m n : Machine) → SameTerms m n → n.context.present ≡ m.context.present → ShowsItems n.agenda n.top (items_of m) → n.eigens ≡ m.eigens
-    → n.left ≡ m.left → n.steps.items ≡ m.steps.items → Fits m → IsImage m n
+pub image_of : (m n : Parts) → SameTerms m n → n.resources ≡ m.resources → ShowsItems n.agenda n.top (items_of m) → n.eigens ≡ m.eigens
+    → n.left ≡ m.left → n.steps ≡ m.steps → Fits m → IsImage m n
 image_of m n s r i e l st f =
     let a : state_of n ≡ state_of m =
     state_is n ∙ (rw (s.bank, s.bound, r, i.list, s.levels, e, s.terms, st) refl ∙ sym (state_is m)) in

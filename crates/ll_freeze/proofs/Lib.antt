@@ -1,3 +1,4 @@
 pub mod CallerLemmas
+pub mod Marks
 mod Imaging
 mod Starting

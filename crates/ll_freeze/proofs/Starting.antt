@@ -2,7 +2,7 @@
 use Rattle.std.proofs.Common.{◌≡◌, ℕ, zero, suc, ◌+◌, ◌≤◌, refl, ap, sym, ◌∙◌, subst, true, List, [], ◌∷◌, ◌++◌, map, length, replicate, arith, All, slice_index_or}
 use Rattle.std.proofs.lemmas.List.{map-append, length-map, length-replicate}
 use Rattle.std.proofs.lemmas.List.Elements.{All-nil, All-cons, All-head, All-tail, All-push, All-weaker}
-use Rattle.std.specs.Prelude.{Option, None}
+use Rattle.std.specs.Prelude.{Option, Some, None}
 use Rattle.ll_bank.specs.declared.At.{At}
 use Rattle.ll_bank.specs.declared.FormAt.{FormAt}
 use Rattle.ll_bank.specs.Term.{Term, Var, sub}
@@ -25,12 +25,13 @@ use Rattle.ll_laws.proofs.SubLaws.{sub_id}
 use Rattle.ll_laws.proofs.ConsistentTerms.{Grows}
 use Rattle.ll_laws.proofs.ConsistentContexts.{formula-more}
 use Rattle.ll_laws.proofs.ConsistentStates.{starts_consistent, grows_given}
-use Rattle.ll_resources.specs.History.{History, begun}
 use Rattle.ll_resources.specs.Resources.{Resources, started, entries_from}
 use Rattle.ll_agenda.specs.Frames.{ShowsItems}
-use Rattle.ll_freeze.specs.declared.machine.Machine.{Machine}
+use Rattle.ll_freeze.specs.Parts.{Parts, table}
 use Rattle.ll_freeze.specs.declared.machine.Item.TheVariants.{Goal}
-use Rattle.ll_freeze.specs.Reading.{shown, reading, read_term, read_form, HasValue}
+use Rattle.ll_bindings.specs.Bindings.{Table, shown, followed, IsOrdered}
+use Rattle.ll_store.specs.declared.cells.Cell.{Cell}
+use Rattle.ll_freeze.specs.Reading.{reading, read_term, read_form, HasValue}
 use Rattle.ll_freeze.specs.Shown.{shown_item, shown_entry, items_of, state_of}
 use Rattle.ll_freeze.specs.Fits.{HasItem, IsGoalIn, allowed, setting}
 use Rattle.ll_freeze.specs.Calls.{IsStart}
@@ -65,6 +66,11 @@ look_none zero zero = refl
 look_none zero (suc x) = refl
 look_none (suc n) zero = refl
 look_none (suc n) (suc x) = look_none n x
+
+-- an unbound variable stands for itself
+followed_none : (bank : Nodes) (bound : List (Option At)) (k x : ℕ) → slice_index_or bound x None ≡ None → followed bank bound k x ≡ Var x
+followed_none bank bound zero x e = refl
+followed_none bank bound (suc k) x e = ap (λ o. sub (followed bank bound k) (shown bank x o)) e ∙ followed_none bank bound k x e
 
 form_id : (f : Form) → sub_form Var f ≡ f
 form_id Top = refl
@@ -105,6 +111,24 @@ none_bound : (bank : Nodes) (n : ℕ) → All (HasValue bank) (replicate n None)
 none_bound bank zero = All-nil (HasValue bank)
 none_bound bank (suc n) = All-cons (HasValue bank) None (replicate n None) tt (none_bound bank n)
 
+-- where nothing is bound nothing leads to itself
+nothing_ordered : (bank : Nodes) (t : Table) (n : ℕ) → t.bound ≡ nones n → IsOrdered bank t
+nothing_ordered bank t n e =
+    record {
+      rank = λ x. 0;
+      falls = λ x at b y o.
+          let c : None ≡ Some at = sym (ap (λ os. slice_index_or os x None) e ∙ look_none n x) ∙ b in absurd (cc (c));
+    }
+
+-- the cells at the start
+pub cells_bound : (n l : ℕ) → map (λ (c : Cell). c.to) (replicate n (record { to = None; level = l })) ≡ nones n
+cells_bound zero l = refl
+cells_bound (suc n) l = ap (λ os. None ∷ os) (cells_bound n l)
+
+pub cells_levels : (n l : ℕ) → map (λ (c : Cell). c.level) (replicate n (record { to = None; level = l })) ≡ replicate n l
+cells_levels zero l = refl
+cells_levels (suc n) l = ap (λ ls. l ∷ ls) (cells_levels n l)
+
 -- the clauses of the entries at the start
 started_has : (P : FormAt → Type 0) (n : ℕ) (cs : List Clause) → All (λ (c : Clause). P c.form) cs
     → All (λ (e : Entry FormAt). P e.clause) (entries_from n (pairs cs))
@@ -120,28 +144,28 @@ clauses_sorted names ms bank more (c ∷ cs) g h =
     All-cons (λ (c : Clause). IsFormula more ClauseSide [] (form_tree bank c.form.0)) c cs (formula-more (given ms 0) more ClauseSide (form_tree bank c.form.0) g h.0)
     (clauses_sorted names ms bank more cs g h.2)
 
-pub starts : (p : ProblemTree) (m : Machine) (goal : FormAt) (cs : List Clause) (n : ℕ) → IsValid p → m.problem.now ≡ p → form_tree m.bank goal.0 ≡ p.goal → HasForm m.bank goal.0
-    → map (clause_tree m.bank) cs ≡ p.clauses → HasClauses m.bank cs → n ≡ length p.asked → m.bound.items ≡ replicate n None → m.levels.items ≡ replicate n 0
-    → m.context ≡ begun (started (pairs cs)) → ShowsItems m.agenda m.top (Goal goal ∷ []) → m.left ≡ p.bound → m.eigens ≡ 0
-    → AllInTerms m.bank m.terms.items → term_trees m.bank m.terms.items ≡ vars_from 0 n → m.steps.items ≡ []
-    → HasModules m.bank m.modules.now → map (module_tree m.bank) m.modules.now ≡ p.modules → IsStart p m
+pub starts : (p : ProblemTree) (m : Parts) (goal : FormAt) (cs : List Clause) (n : ℕ) → IsValid p → m.problem ≡ p → form_tree m.bank goal.0 ≡ p.goal → HasForm m.bank goal.0
+    → map (clause_tree m.bank) cs ≡ p.clauses → HasClauses m.bank cs → n ≡ length p.asked → m.bound ≡ replicate n None → m.levels ≡ replicate n 0
+    → m.resources ≡ started (pairs cs) → ShowsItems m.agenda m.top (Goal goal ∷ []) → m.left ≡ p.bound → m.eigens ≡ 0
+    → AllInTerms m.bank m.terms → term_trees m.bank m.terms ≡ vars_from 0 n → m.steps ≡ []
+    → HasModules m.bank m.modules → map (module_tree m.bank) m.modules ≡ p.modules → IsStart p m
 starts p m goal cs n v ep eg hg ec hc en eb el ex it left eigens inside vars es hm em =
-    let bank = m.bank in let bound = m.bound.items in let xs : List (Kind × FormAt) = pairs cs in
-    let r : m.context.present ≡ started xs = ap (λ (h : History FormAt). h.present) ex in
-    let reads : (x : ℕ) → reading bank bound x ≡ Var x = λ x. ap (λ bs. reading bank bs x) eb ∙ ap (λ o. shown bank x o) (look_none n x) in
-    let count : length m.levels.items ≡ n = ap (λ (ls : List ℕ). length ls) el ∙ length-replicate n 0 in
+    let bank = m.bank in let bound = m.bound in let xs : List (Kind × FormAt) = pairs cs in
+    let r : m.resources ≡ started xs = ex in
+    let reads : (x : ℕ) → reading bank bound x ≡ Var x = λ x. ap (λ bs. reading bank bs x) eb ∙ followed_none bank (nones n) (length (nones n)) x (look_none n x) in
+    let count : length m.levels ≡ n = ap (λ (ls : List ℕ). length ls) el ∙ length-replicate n 0 in
     let many : length xs ≡ length p.clauses =
     length-map cs pair_of ∙ (sym (length-map cs (clause_tree bank)) ∙ ap (λ (ks : List ClauseTree). length ks) ec) in
-    let items : map (shown_item bank bound m.context.present.kept) (items_of m) ≡ GoalOf p.goal ∷ [] =
-    ap (λ ys. map (shown_item bank bound m.context.present.kept) ys) it.list ∙ ap (λ f. GoalOf f ∷ []) (form_as_is bank bound reads goal ∙ eg) in
-    let entries : map (shown_entry bank bound) m.context.present.entries ≡ program_entries 0 p.clauses =
+    let items : map (shown_item bank bound m.resources.kept) (items_of m) ≡ GoalOf p.goal ∷ [] =
+    ap (λ ys. map (shown_item bank bound m.resources.kept) ys) it.list ∙ ap (λ f. GoalOf f ∷ []) (form_as_is bank bound reads goal ∙ eg) in
+    let entries : map (shown_entry bank bound) m.resources.entries ≡ program_entries 0 p.clauses =
     ap (λ (s : Resources FormAt). map (shown_entry bank bound) s.entries) r ∙ (entries_as_are bank bound reads 0 cs ∙ ap (λ ks. program_entries 0 ks) ec) in
     let flag = ap (λ (s : Resources FormAt). s.flag) r in
-    let levels : m.levels.items ≡ replicate (length p.asked) 0 = el ∙ ap (λ k. replicate k 0) en in
-    let terms : map (read_term bank bound) m.terms.items ≡ vars_from 0 (length p.asked) =
-    trees_read (reading bank bound) bank m.terms.items
+    let levels : m.levels ≡ replicate (length p.asked) 0 = el ∙ ap (λ k. replicate k 0) en in
+    let terms : map (read_term bank bound) m.terms ≡ vars_from 0 (length p.asked) =
+    trees_read (reading bank bound) bank m.terms
     ∙ (ap (λ ts. map (sub (reading bank bound)) ts) vars ∙ (vars_as_are bank bound reads 0 n ∙ ap (λ k. vars_from 0 k) en)) in
-    let label : m.context.present.next ≡ length p.clauses = ap (λ (s : Resources FormAt). s.next) r ∙ many in
+    let label : m.resources.next ≡ length p.clauses = ap (λ (s : Resources FormAt). s.next) r ∙ many in
     let state : state_of m ≡ start_of p =
     state_is m
     ∙ (λ i. record {
@@ -154,13 +178,13 @@ starts p m goal cs n v ep eg hg ec hc en eb el ex it left eigens inside vars es 
       label = label i;
       steps = es i;
     }) in
-    let may : Allowed = record { modules = p.modules; variables = length m.levels.items; eigens = m.eigens; opens = true } in
-    let a : may ≡ allowed m = ap (λ (q : ProblemTree). record { modules = q.modules; variables = length m.levels.items; eigens = m.eigens; opens = true }) (sym ep) in
+    let may : Allowed = record { modules = p.modules; variables = length m.levels; eigens = m.eigens; opens = true } in
+    let a : may ≡ allowed m = ap (λ (q : ProblemTree). record { modules = q.modules; variables = length m.levels; eigens = m.eigens; opens = true }) (sym ep) in
     let cl : AreClauses (length p.names) p.modules [] (map (clause_tree bank) cs) = subst (λ (ks : List ClauseTree). AreClauses (length p.names) p.modules [] ks) (sym ec) v.clauses in
-    let low : 0 ≤ length m.levels.items = omega arith in let grows : Grows (given p.modules 0) may = grows_given p.modules 0 (length m.levels.items) m.eigens low in
+    let low : 0 ≤ length m.levels = omega arith in let grows : Grows (given p.modules 0) may = grows_given p.modules 0 (length m.levels) m.eigens low in
     let gl : IsFormula may GoalSide [] (form_tree bank goal.0) =
     subst (λ (f : Form). IsFormula may GoalSide [] f) (sym eg)
-    (formula-more (given p.modules (length p.asked)) may GoalSide p.goal (grows_given p.modules (length p.asked) (length m.levels.items) m.eigens (omega (arith, count, en))) v.goal) in
+    (formula-more (given p.modules (length p.asked)) may GoalSide p.goal (grows_given p.modules (length p.asked) (length m.levels) m.eigens (omega (arith, count, en))) v.goal) in
     record {
       problem = ep;
       state = state;
@@ -170,6 +194,7 @@ starts p m goal cs n v ep eg hg ec hc en eb el ex it left eigens inside vars es 
         consistent = subst (λ (s : State). IsConsistent (setting m) s) (sym state) (subst (λ (q : ProblemTree). IsConsistent (setting_of q) (start_of p)) (sym ep) (starts_consistent p v));
         count = ap (λ (bs : List (Option At)). length bs) eb ∙ (length-replicate n None ∙ sym count);
         bound = rw eb (none_bound bank n);
+        ordered = nothing_ordered bank (table m) n eb;
         terms = inside;
         variables = vars ∙ ap (λ k. vars_from 0 k) (sym count);
         clauses = rw r (started_has (λ f. HasForm bank f.0) 0 cs hc);
@@ -184,7 +209,7 @@ starts p m goal cs n v ep eg hg ec hc en eb el ex it left eigens inside vars es 
         has_modules = hm;
         modules = em ∙ ap (λ (q : ProblemTree). q.modules) (sym ep);
         top = it.inside;
-        items = rw it.list (All-cons (HasItem bank (length m.context.present.kept)) (Goal goal) [] hg (All-nil (HasItem bank (length m.context.present.kept))));
+        items = rw it.list (All-cons (HasItem bank (length m.resources.kept)) (Goal goal) [] hg (All-nil (HasItem bank (length m.resources.kept))));
         labels = let c : length p.clauses ≤ 16777216 = v.clause_count in let b = v.bound in omega (arith, label, left, c, b);
         eigens = let b = v.bound in omega (arith, eigens, left, b);
       };
@@ -192,12 +217,20 @@ starts p m goal cs n v ep eg hg ec hc en eb el ex it left eigens inside vars es 
 
 -- ---- a bank with more places
 
-pub starts_in : (p : ProblemTree) (b : Nodes) (m : Machine) (goal : FormAt) (cs : List Clause) (n : ℕ) → IsValid p → m.problem.now ≡ p → Extends b m.bank → form_tree b goal.0 ≡ p.goal
-    → HasForm b goal.0 → map (clause_tree b) cs ≡ p.clauses → HasClauses b cs → n ≡ length p.asked → m.bound.items ≡ replicate n None → m.levels.items ≡ replicate n 0
-    → m.context ≡ begun (started (pairs cs)) → ShowsItems m.agenda m.top (Goal goal ∷ []) → m.left ≡ p.bound → m.eigens ≡ 0
-    → AllInTerms m.bank m.terms.items → term_trees m.bank m.terms.items ≡ vars_from 0 n → m.steps.items ≡ []
-    → (ms : List Module) → m.modules.now ≡ ms → HasModules b ms → map (module_tree b) ms ≡ p.modules → IsStart p m
+pub starts_in : (p : ProblemTree) (b : Nodes) (m : Parts) (goal : FormAt) (cs : List Clause) (n : ℕ) → IsValid p → m.problem ≡ p → Extends b m.bank → form_tree b goal.0 ≡ p.goal
+    → HasForm b goal.0 → map (clause_tree b) cs ≡ p.clauses → HasClauses b cs → n ≡ length p.asked → m.bound ≡ replicate n None → m.levels ≡ replicate n 0
+    → m.resources ≡ started (pairs cs) → ShowsItems m.agenda m.top (Goal goal ∷ []) → m.left ≡ p.bound → m.eigens ≡ 0
+    → AllInTerms m.bank m.terms → term_trees m.bank m.terms ≡ vars_from 0 n → m.steps ≡ []
+    → (ms : List Module) → m.modules ≡ ms → HasModules b ms → map (module_tree b) ms ≡ p.modules → IsStart p m
 starts_in p b m goal cs n v ep k eg hg ec hc en eb el ex it left eigens inside vars es ms sm hm em =
     starts p m goal cs n v ep (form_tree-extends k goal.0 hg ∙ eg) (HasForm-extends k goal.0 hg) (clauses_later b m.bank cs k hc ∙ ec)
     (All-weaker (λ (c : Clause). HasForm b c.form.0) (λ (c : Clause). HasForm m.bank c.form.0) (λ c h. HasForm-extends k c.form.0 h) cs hc) en eb el ex it left eigens inside vars es
     (rw sm (modules_has b m.bank ms k hm)) (ap (λ ds. map (module_tree m.bank) ds) sm ∙ (modules_later b m.bank ms k hm ∙ em))
+
+-- one cell more
+pub cells_push : (n m : ℕ) → m ≡ n + 1 → let c : Cell = record { to = None; level = 0 } in replicate m c ≡ replicate n c ++ c ∷ []
+cells_push zero (suc zero) e = refl
+cells_push zero zero e = absurd (omega (arith, e))
+cells_push zero (suc (suc m)) e = absurd (omega (arith, e))
+cells_push (suc n) zero e = absurd (omega (arith, e))
+cells_push (suc n) (suc m) e = let c : Cell = record { to = None; level = 0 } in ap (λ cs. c ∷ cs) (cells_push n m (omega (arith, e)))

@@ -8,15 +8,16 @@ use Rattle.ll_laws.specs.Attempt.{vars_from}
 use Rattle.ll_laws.specs.Valid.{IsValid, Allowed, IsFormula, GoalSide, ClauseSide}
 use Rattle.ll_laws.specs.Consistent.{IsConsistent}
 use Rattle.ll_agenda.specs.Frames.{HasTop}
-use Rattle.ll_freeze.specs.declared.machine.Machine.{Machine}
+use Rattle.ll_bindings.specs.Bindings.{IsOrdered}
+use Rattle.ll_freeze.specs.Parts.{Parts, table}
 use Rattle.ll_freeze.specs.declared.machine.Item.{Item}
 use Rattle.ll_freeze.specs.declared.machine.Item.TheVariants.{Goal, LolliEnd, ImpEnd, Mid, WithEnd, BangEnd}
 use Rattle.ll_freeze.specs.Reading.{HasValue}
 use Rattle.ll_freeze.specs.Shown.{items_of, state_of}
 
 -- what the search of a machine's problem looks at beside its state
-abbrev pub setting : Machine → Setting
-setting m = setting_of m.problem.now
+abbrev pub setting : Parts → Setting
+setting m = setting_of m.problem
 
 -- a goal is a place of the bank, and marks that an end gives back are among those that were kept
 abbrev pub HasItem : Nodes → ℕ → Item → Type 0
@@ -28,8 +29,8 @@ HasItem bank kept (WithEnd saved half) = (saved.number < kept) × (half.number <
 HasItem bank kept (BangEnd saved) = saved.number < kept
 
 -- what formulas of a machine may mention
-abbrev pub allowed : Machine → Allowed
-allowed m = record { modules = (setting m).modules; variables = length m.levels.items; eigens = m.eigens; opens = true }
+abbrev pub allowed : Parts → Allowed
+allowed m = record { modules = (setting m).modules; variables = length m.levels; eigens = m.eigens; opens = true }
 
 -- a goal is one as it stands in the bank, before it is read
 abbrev pub IsGoalIn : Allowed → Nodes → Item → Type 0
@@ -41,25 +42,27 @@ IsGoalIn may bank (WithEnd saved half) = Unit {0}
 IsGoalIn may bank (BangEnd saved) = Unit {0}
 
 -- the parts of a machine fit each other
-pub record Fits (m : Machine) : Type 0 where
-  pub valid : IsValid m.problem.now
+pub record Fits (m : Parts) : Type 0 where
+  pub valid : IsValid m.problem
   -- what it shows is a state as a search of its problem reaches them
   pub consistent : IsConsistent (setting m) (state_of m)
   -- there is an entry for each variable
-  pub count : length m.bound.items ≡ length m.levels.items
-  pub bound : All (HasValue m.bank) m.bound.items
+  pub count : length m.bound ≡ length m.levels
+  pub bound : All (HasValue m.bank) m.bound
+  -- no variable is reached from itself through bindings
+  pub ordered : IsOrdered m.bank (table m)
   -- its terms are the variables, which are read as what stands for them
-  pub terms : AllInTerms m.bank m.terms.items
-  pub variables : term_trees m.bank m.terms.items ≡ vars_from 0 (length m.levels.items)
-  pub clauses : All (λ e. HasForm m.bank e.clause.0) m.context.present.entries
+  pub terms : AllInTerms m.bank m.terms
+  pub variables : term_trees m.bank m.terms ≡ vars_from 0 (length m.levels)
+  pub clauses : All (λ e. HasForm m.bank e.clause.0) m.resources.entries
   -- clauses and goals are well sorted as they stand, whatever stands for their variables
-  pub sorted_clauses : All (λ e. IsFormula (allowed m) ClauseSide [] (form_tree m.bank e.clause.0)) m.context.present.entries
+  pub sorted_clauses : All (λ e. IsFormula (allowed m) ClauseSide [] (form_tree m.bank e.clause.0)) m.resources.entries
   pub sorted_goals : All (IsGoalIn (allowed m) m.bank) (items_of m)
   -- the modules are those of the problem, in the machine's bank
-  pub has_modules : HasModules m.bank m.modules.now
-  pub modules : map (module_tree m.bank) m.modules.now ≡ m.problem.now.modules
+  pub has_modules : HasModules m.bank m.modules
+  pub modules : map (module_tree m.bank) m.modules ≡ m.problem.modules
   pub top : HasTop m.agenda m.top
-  pub items : All (HasItem m.bank (length m.context.present.kept)) (items_of m)
+  pub items : All (HasItem m.bank (length m.resources.kept)) (items_of m)
   -- numbers stay small: there are no more inferences to come than `left`
-  pub labels : m.context.present.next + m.left ≤ 2 ^ 25
+  pub labels : m.resources.next + m.left ≤ 2 ^ 25
   pub eigens : m.eigens + m.left ≤ 2 ^ 20

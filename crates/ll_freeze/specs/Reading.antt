@@ -1,19 +1,15 @@
 -- Terms and formulas at places of a bank, read under bindings.
-use Rattle.std.specs.Prelude.{ℕ, List, slice_index_or, Option, Some, None}
+use Rattle.std.specs.Prelude.{ℕ, List, length, Option, Some, None}
 use Rattle.ll_bank.specs.declared.At.{At}
 use Rattle.ll_bank.specs.declared.FormAt.{FormAt}
-use Rattle.ll_bank.specs.Term.{Term, Var, sub}
+use Rattle.ll_bank.specs.Term.{Term, sub}
 use Rattle.ll_bank.specs.Form.{Form, sub_form}
 use Rattle.ll_bank.specs.Nodes.{Nodes, HasTerm, term_tree, form_tree}
+use Rattle.ll_bindings.specs.Bindings.{followed}
 
--- what stands for a variable whose entry is this
-abbrev pub shown : Nodes → ℕ → Option At → Term
-shown bank x None = Var x
-shown bank x (Some at) = term_tree bank at.0
-
--- what stands for a variable: what its entry shows, or the variable itself
+-- what stands for a variable, with all bindings applied
 abbrev pub reading : Nodes → List (Option At) → ℕ → Term
-reading bank bound x = shown bank x (slice_index_or bound x None)
+reading bank bound = followed bank bound (length bound)
 
 -- the term at a place, read under bindings
 abbrev pub read_term : Nodes → List (Option At) → At → Term
@@ -23,7 +19,7 @@ read_term bank bound at = sub (reading bank bound) (term_tree bank at.0)
 abbrev pub read_form : Nodes → List (Option At) → FormAt → Form
 read_form bank bound at = sub_form (reading bank bound) (form_tree bank at.0)
 
--- a variable is unbound, or bound to what a place of the bank shows
+-- a variable is unbound, or bound to a place of the bank
 abbrev pub HasValue : Nodes → Option At → Type 0
 HasValue bank None = Unit {0}
 HasValue bank (Some at) = HasTerm bank at.0

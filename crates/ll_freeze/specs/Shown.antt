@@ -9,7 +9,7 @@ use Rattle.ll_laws.specs.State.{State}
 use Rattle.ll_agenda.specs.Frames.{items_at}
 use Rattle.ll_resources.specs.Resources.{saved_at}
 use Rattle.ll_freeze.specs.Reading.{read_term, read_form}
-use Rattle.ll_freeze.specs.declared.machine.Machine.{Machine}
+use Rattle.ll_freeze.specs.Parts.{Parts}
 use Rattle.ll_freeze.specs.declared.machine.Item.{Item as KeptItem}
 use Rattle.ll_freeze.specs.declared.machine.Item.TheVariants.{Goal as KeptGoal, LolliEnd as KeptLolliEnd, ImpEnd as KeptImpEnd, Mid as KeptMiddle, WithEnd as KeptWithEnd, BangEnd as KeptBangEnd}
 
@@ -27,19 +27,19 @@ abbrev pub shown_entry : Nodes → List (Option At) → Entry FormAt → Entry F
 shown_entry bank bound e = map_entry (read_form bank bound) e
 
 -- the items of the agenda
-abbrev pub items_of : Machine → List KeptItem
+abbrev pub items_of : Parts → List KeptItem
 items_of m = items_at m.agenda m.top
 
 -- the state of a search that a machine shows
-unfoldable pub state_of : Machine → State
+unfoldable pub state_of : Parts → State
 state_of m =
     record {
-      agenda = map (shown_item m.bank m.bound.items m.context.present.kept) (items_of m);
-      context = map (shown_entry m.bank m.bound.items) m.context.present.entries;
-      flag = m.context.present.flag;
-      levels = m.levels.items;
+      agenda = map (shown_item m.bank m.bound m.resources.kept) (items_of m);
+      context = map (shown_entry m.bank m.bound) m.resources.entries;
+      flag = m.resources.flag;
+      levels = m.levels;
       eigens = m.eigens;
-      terms = map (read_term m.bank m.bound.items) m.terms.items;
-      label = m.context.present.next;
-      steps = m.steps.items;
+      terms = map (read_term m.bank m.bound) m.terms;
+      label = m.resources.next;
+      steps = m.steps;
     }

@@ -1,47 +1,45 @@
 //! Images of machines.
-ghost use Rattle.std.specs.Prelude.{◌≡◌, IfOk};
+ghost use Rattle.std.specs.Prelude.{◌≡◌, ◌≤◌, length, take, IfOk};
+ghost use Rattle.ll_freeze.specs.Parts.{parts_of, parts_at, IsGood};
 ghost use Rattle.ll_freeze.specs.Fits.{Fits};
 ghost use Rattle.ll_freeze.specs.Calls.{IsImage};
 
 use crate::machine::Machine;
+use crate::mark::ChoiceMark;
 use ll_bank::OutOfMemory;
 
 impl<'p> Machine<'p> {
-    /// A machine of its own in the same state.
-    pub fn image(&self) -> Result<Machine<'p>, OutOfMemory>
-        requires fits { Fits self.now }
-        ensures { IfOk result (λ m. IsImage self.entry.now m) }
+    /// A machine of its own in the state at a good mark.
+    pub fn image(&self, mark: ChoiceMark) -> Result<Machine<'p>, OutOfMemory>
+        requires good { IsGood mark self.now }
+        requires fits { Fits (parts_at mark self.now) }
+        ensures { IfOk result (λ m. IsImage (parts_at mark self.entry.now) (parts_of m)) }
     {
-        let size = self.bank.size();
-        let bank = self.bank.image(size)?;
-        let mark = self.context.mark();
-        let context = self.context.image(mark)?;
-        let (agenda, top) = self.agenda.image(self.top)?;
-        let bound = copy_of(&self.bound)?;
-        let levels = copy_of(&self.levels)?;
-        let terms = copy_of(&self.terms)?;
-        let steps = copy_of(&self.steps)?;
+        let store = self.store.image(mark.store)?;
+        let context = self.context.image(mark.context)?;
+        let (agenda, top) = self.agenda.image(mark.top)?;
+        let terms = first(&self.terms, mark.terms)?;
+        let steps = first(&self.steps, mark.steps)?;
         Ok(Machine {
             problem: self.problem,
             modules: self.modules,
-            bank,
-            bound,
-            levels,
+            store,
             context,
             agenda,
             top,
-            left: self.left,
-            eigens: self.eigens,
+            left: mark.left,
+            eigens: mark.eigens,
             terms,
             steps,
         })
     }
 }
 
-// A vector of its own with the same elements.
-fn copy_of<T: Copy>(items: &Vec<T>) -> Result<Vec<T>, OutOfMemory>
-    ensures { IfOk result (λ copy. copy.items ≡ items.now.items) }
+// A vector of its own with the first elements.
+fn first<T: Copy>(items: &Vec<T>, count: usize) -> Result<Vec<T>, OutOfMemory>
+    requires { count ≤ length items.now.items }
+    ensures { IfOk result (λ copy. copy.items ≡ take count items.now.items) }
 {
-    let copy = Vec::from_slice(*items.allocator(), items.as_slice())?;
+    let copy = Vec::from_slice(*items.allocator(), &items[..count])?;
     Ok(copy)
 }

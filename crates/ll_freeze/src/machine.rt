@@ -1,10 +1,11 @@
-//! A machine: one state of a search, over a bank of its own.
+//! A machine: one state of a search, over cells with a trail and a bank.
 ghost use Rattle.std.specs.Prelude.{◌≡◌};
 
 use ll_agenda::{Agenda, Top};
-use ll_bank::{At, Bank, FormAt};
+use ll_bank::{At, FormAt};
 use ll_laws::{Module, Problem, Step};
 use ll_resources::{Context, Saved};
+use ll_store::Store;
 
 /// An item of an agenda: a goal, or the end of one.
 #[derive(Clone, Copy, Debug)]
@@ -25,18 +26,17 @@ pub enum Item {
 
 /// One state of a search, with the number of inferences that a branch may still make.
 ///
-/// Its terms and formulas are places of its bank, read under its bindings. `state_of` is the state that it shows, and `Fits` says how
-/// its parts belong together.
+/// Its terms and formulas are places of its store's bank, read under the bindings of its cells. `parts_of` is what it holds, `state_of`
+/// the state that this shows, and `Fits` says how the parts belong together. What it adds can be taken back to a [`ChoiceMark`].
+///
+/// [`ChoiceMark`]: crate::ChoiceMark
 #[derive(Drop)]
 pub struct Machine<'p> {
     pub problem: &'p Problem,
     /// The problem's modules, whose clauses are places of the machine's bank too.
     pub modules: &'p [Module],
-    pub bank: Bank,
-    /// For each variable the place of what stands for it, with all bindings applied; none where it stands for itself.
-    pub bound: Vec<Option<At>>,
-    /// The level of each variable.
-    pub levels: Vec<u32>,
+    /// A cell for each variable: what it is bound to, and its level.
+    pub store: Store,
     pub context: Context<FormAt>,
     pub agenda: Agenda<Item>,
     pub top: Top,

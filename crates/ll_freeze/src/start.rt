@@ -1,8 +1,9 @@
 //! The machine in which the search of a problem starts.
-ghost use Rattle.std.specs.Prelude.{◌≡◌, map, IfOk};
+ghost use Rattle.std.specs.Prelude.{◌≡◌, map, replicate, None, IfOk};
 ghost use Rattle.ll_bank.specs.Nodes.{AllInTerms, Extends, term_trees};
 ghost use Rattle.ll_laws.specs.Attempt.{vars_from};
 ghost use Rattle.ll_laws.specs.Valid.{IsValid};
+ghost use Rattle.ll_freeze.specs.Parts.{parts_of};
 ghost use Rattle.ll_freeze.specs.Calls.{IsStart};
 
 use crate::machine::{Item, Machine};
@@ -10,18 +11,20 @@ use ll_agenda::Agenda;
 use ll_bank::{At, Bank, FormAt, OutOfMemory};
 use ll_laws::{Clause, Kind, Problem};
 use ll_resources::Context;
+use ll_store::Store;
 use std::alloc::Global;
 
 impl<'p> Machine<'p> {
     /// The start of a valid problem's search.
     pub fn start(alloc: Global, problem: &'p Problem) -> Result<Machine<'p>, OutOfMemory>
         requires valid { IsValid problem.now }
-        ensures { IfOk result (λ m. IsStart problem.entry.now m) }
+        ensures { IfOk result (λ m. IsStart problem.entry.now (parts_of m)) }
     {
         let size = problem.bank.size();
         let mut bank = problem.bank.image(size)?;
         let count = problem.asked.len();
         let terms = first_variables(alloc, &mut bank, count)?;
+        let store = first_cells(alloc, bank, count)?;
         let clauses = resources_of(alloc, &problem.clauses)?;
         let context = Context::start(alloc, &clauses)?;
         let mut agenda = Agenda::new(alloc);
@@ -29,9 +32,7 @@ impl<'p> Machine<'p> {
         Ok(Machine {
             problem,
             modules: &problem.modules,
-            bank,
-            bound: vec![in alloc; None; count]?,
-            levels: vec![in alloc; 0; count]?,
+            store,
             context,
             agenda,
             top,
@@ -55,6 +56,18 @@ fn first_variables(alloc: Global, bank: &mut Bank, count: usize) -> Result<Vec<A
         made.push(variable)?;
     }
     Ok(made)
+}
+
+// A store of this bank with so many unbound variables, all of level 0.
+fn first_cells(alloc: Global, bank: Bank, count: usize) -> Result<Store, OutOfMemory>
+    ensures bank { IfOk result (λ store. store.bank ≡ bank) }
+    ensures cells { IfOk result (λ store. store.cells.cells ≡ replicate count (record { to = None; level = 0 })) }
+{
+    let mut store = Store::new(alloc, bank);
+    for _ in 0..count {
+        store.fresh(0)?;
+    }
+    Ok(store)
 }
 
 // Clauses as a context takes them.

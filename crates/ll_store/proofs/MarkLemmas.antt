@@ -1,14 +1,15 @@
 -- Marks over the changes of a store.
 use Rattle.std.proofs.Common.{◌≡◌, ℕ, zero, suc, ◌≤◌, List, [], ◌∷◌, ◌++◌, length, take, drop, refl, ap, sym, subst, ◌∙◌, arith, length-append}
-use Rattle.std.specs.Prelude.{Result, Ok, Err, OnOk, OnErr}
-use Rattle.std.proofs.lemmas.List.{drop_all, drop-append-le, take-append-le, take-append-drop, take-take, take_all, length-take-le}
-use Rattle.ll_bank.specs.Nodes.{Nodes, front, HasSize, IsCutTo, Extends}
+use Rattle.std.specs.Prelude.{Result, Ok, Err, OnOk, OnErr, min}
+use Rattle.std.proofs.lemmas.List.{drop_all, drop-append-le, take-append-le, take-append-drop, take-take, take_all, length-take, length-take-le}
+use Rattle.std.proofs.lemmas.List.Sums.{sum_by-take-le}
+use Rattle.ll_bank.specs.Nodes.{Nodes, front, HasSize, IsCutTo, IsNotPast, Extends, size_of, argument_count, load_argument_count}
 use Rattle.ll_bank.specs.declared.BankSize.{BankSize}
 use Rattle.ll_store.specs.declared.cells.Cell.{Cell}
 use Rattle.ll_store.specs.declared.cells.Change.{Change}
 use Rattle.ll_store.specs.declared.store.Mark.{Mark}
 use Rattle.ll_store.specs.Cells.{taken_back, before}
-use Rattle.ll_store.specs.Stored.{State, Stored, state_of, state_at, AreWithin, IsGood, StandsFor, KeepsMarks, KeepsMarksTo}
+use Rattle.ll_store.specs.Stored.{State, Stored, state_of, state_at, AreWithin, IsGood, StandsFor, KeepsMarks, IsBefore, KeepsMarksTo}
 use Rattle.ll_store.specs.Tables.{before-append}
 use Rattle.ll_store.proofs.CellLemmas.{before-length, before-take}
 
@@ -134,6 +135,29 @@ marks-extend s nodes e m g =
 
     fronts : take m.bank.terms nodes.terms ≡ take m.bank.terms s.nodes.terms → take m.bank.forms nodes.forms ≡ take m.bank.forms s.nodes.forms → front nodes m.bank ≡ front s.nodes m.bank
     fronts p q = λ i. let n : Nodes = record { terms = p i; forms = q i } in n
+
+-- no good mark is past the numbers of the store
+pub before-last : (s : Stored) (m last : Mark) → IsGood m s → last.cells ≡ length s.cells → last.trail ≡ length s.changes → last.bank ≡ size_of s.nodes → IsBefore m last
+before-last s m last g c t b =
+    let k = g.cells in let l = g.trail in let z = g.bank.counts in
+    record {
+      cells = omega (arith, k, c);
+      trail = omega (arith, l, t);
+      bank =
+          subst (λ (other : BankSize). IsNotPast m.bank other) (sym b)
+          (subst (λ (own : BankSize). IsNotPast own (size_of s.nodes)) z
+          (record {
+            terms = subst (λ n. n ≤ length s.nodes.terms) (sym (length-take m.bank.terms s.nodes.terms)) (min-right m.bank.terms (length s.nodes.terms));
+            forms = subst (λ n. n ≤ length s.nodes.forms) (sym (length-take m.bank.forms s.nodes.forms)) (min-right m.bank.forms (length s.nodes.forms));
+            arguments = sum_by-take-le argument_count s.nodes.terms m.bank.terms;
+            load_arguments = sum_by-take-le load_argument_count s.nodes.forms m.bank.forms;
+          }));
+    }
+  where
+    min-right : (a b : ℕ) → min a b ≤ b
+    min-right zero b = omega arith
+    min-right (suc a) zero = omega arith
+    min-right (suc a) (suc b) = let h = min-right a b in omega (arith, h)
 
 -- what follows from either answer
 pub either-way : {A E : Type 0} {P Q R : Type 0} → (r : Result A E) → (P → R) → (Q → R) → OnOk r P → OnErr r Q → R

@@ -5,7 +5,8 @@ ghost use Rattle.ll_bank.specs.Nodes.{Nodes, HasTerm, Extends, size_of};
 ghost use Rattle.ll_store.specs.Lending.{LendsBank};
 ghost use Rattle.ll_store.specs.Cells.{update, with_to, with_level};
 ghost use Rattle.ll_store.specs.Trails.{IsUnbound, IsAtMost, cell_to, cell_level};
-ghost use Rattle.ll_store.specs.Stored.{stored, state_of, state_at, AreWithin, IsGood, KeepsMarks, KeepsMarksTo};
+ghost use Rattle.ll_store.specs.Stored.{stored, state_of, state_at, AreWithin, IsGood, IsBefore, KeepsMarks, KeepsMarksTo};
+ghost use Rattle.ll_store.specs.declared.store.Mark.{Mark as MarkView};
 
 use crate::cells::Cells;
 use ll_bank::{At, Bank, BankSize, OutOfMemory};
@@ -108,11 +109,12 @@ impl Store {
         &mut self.bank
     }
 
-    /// The present state: a good mark, where each binding names a place of the bank.
+    /// The present state: a good mark, where each binding names a place of the bank. No good mark is past it.
     pub fn mark(&self) -> Mark
         requires { AreWithin (state_of (stored self.now)) }
         ensures good { IsGood result (stored self.now) }
         ensures state { state_at result (stored self.now) ≡ state_of (stored self.now) }
+        ensures last { (m : MarkView) → IsGood m (stored self.now) → IsBefore m result }
     {
         Mark {
             cells: self.cells.len(),

@@ -1,5 +1,6 @@
 use Rattle.std.proofs.Common.{refl, ap, sym, ◌≡◌, ◌∙◌, ◌∷◌}
 use Rattle.ll_agenda.specs.Frames.{items_at}
+use Rattle.ll_freeze.specs.Parts.{parts_of}
 use Rattle.ll_engine.proofs.MachineLemmas.{in_front}
 use Rattle.ll_engine.proofs.Quantifying.{forall_heads, exists_heads, forall_row, exists_row, not_empty, no_candidate}
 use Rattle.ll_bank.specs.Form.{Use}
@@ -8,155 +9,155 @@ use Rattle.ll_engine.proofs.Loading.{use_count, use_closed, use_clauses, use_hea
 use Rattle.ll_engine.proofs.attempt.attempt.Goals as goal
 
 pub unreachable-requires : goal.unreachable-requires
-unreachable-requires c = not_empty c.args.machine.now c.requires.goal (c.in_default.ensures.none.0 refl)
+unreachable-requires c = not_empty (parts_of c.args.machine.now) c.requires.goal (c.in_default.ensures.none.0 refl)
 
 pub unreachable-requires-in_default-item : goal.unreachable-requires-in_default-item
 unreachable-requires-in_default-item c =
-    no_candidate c.args.machine.now c.in-Some.item (items_at c.args.machine.now.agenda c.in-Some.rest) c.args.candidate c.requires.candidate c.in-Some.ensures.some.list c.in_default-item.not-Goal
+    no_candidate (parts_of c.args.machine.now) c.in-Some.item (items_at c.args.machine.now.agenda c.in-Some.rest) c.args.candidate c.requires.candidate c.in-Some.ensures.some.list c.in_default-item.not-Goal
 
 pub take_forall-requires-clause-heads : goal.take_forall-requires-clause-heads
 take_forall-requires-clause-heads c =
-    let m = c.args.machine.now in
+    let m = parts_of c.args.machine.now in
     forall_heads m c.in-Goal.goal c.in-Forall.body (items_at m.agenda c.in-Some.rest) c.requires.fits (c.in-Some.ensures.some.list ∙ ap (λ x. x ∷ items_at m.agenda c.in-Some.rest) c.in-Goal.is) c.in-Forall.ensures.shown.tree
 
 pub take_exists-requires-clause-heads : goal.take_exists-requires-clause-heads
 take_exists-requires-clause-heads c =
-    let m = c.args.machine.now in
+    let m = parts_of c.args.machine.now in
     exists_heads m c.in-Goal.goal c.in-Exists.body (items_at m.agenda c.in-Some.rest) c.requires.fits (c.in-Some.ensures.some.list ∙ ap (λ x. x ∷ items_at m.agenda c.in-Some.rest) c.in-Goal.is) c.in-Exists.ensures.shown.tree
 
-pub returns-in_ok-take_forall-in-Forall : goal.returns-in_ok-take_forall-in-Forall
-returns-in_ok-take_forall-in-Forall c =
-    let m = c.args.machine.now in
-    forall_row m c.take_forall.new.machine c.in-Goal.goal c.in-Forall.body (items_at m.agenda c.in-Some.rest) c.args.candidate c.requires.fits (c.in-Some.ensures.some.list ∙ ap (λ x. x ∷ items_at m.agenda c.in-Some.rest) c.in-Goal.is)
-    c.in-Forall.ensures.shown.tree c.in_ok-take_forall-in-Forall.ensures
+pub returns-in_ok-take_forall-in-Forall-clause-attempts : goal.returns-in_ok-take_forall-in-Forall-clause-attempts
+returns-in_ok-take_forall-in-Forall-clause-attempts c =
+    let m = parts_of c.args.machine.now in
+    forall_row m (parts_of c.take_forall.new.machine) c.in-Goal.goal c.in-Forall.body (items_at m.agenda c.in-Some.rest) c.args.candidate c.requires.fits (c.in-Some.ensures.some.list ∙ ap (λ x. x ∷ items_at m.agenda c.in-Some.rest) c.in-Goal.is)
+    c.in-Forall.ensures.shown.tree c.in_ok-take_forall-in-Forall.ensures.opens
 
-pub returns-in_ok-take_exists-in-Exists : goal.returns-in_ok-take_exists-in-Exists
-returns-in_ok-take_exists-in-Exists c =
-    let m = c.args.machine.now in
-    exists_row m c.take_exists.new.machine c.in-Goal.goal c.in-Exists.body (items_at m.agenda c.in-Some.rest) c.args.candidate c.requires.fits (c.in-Some.ensures.some.list ∙ ap (λ x. x ∷ items_at m.agenda c.in-Some.rest) c.in-Goal.is)
-    c.in-Exists.ensures.shown.tree c.in_ok-take_exists-in-Exists.ensures
+pub returns-in_ok-take_exists-in-Exists-clause-attempts : goal.returns-in_ok-take_exists-in-Exists-clause-attempts
+returns-in_ok-take_exists-in-Exists-clause-attempts c =
+    let m = parts_of c.args.machine.now in
+    exists_row m (parts_of c.take_exists.new.machine) c.in-Goal.goal c.in-Exists.body (items_at m.agenda c.in-Some.rest) c.args.candidate c.requires.fits (c.in-Some.ensures.some.list ∙ ap (λ x. x ∷ items_at m.agenda c.in-Some.rest) c.in-Goal.is)
+    c.in-Exists.ensures.shown.tree c.in_ok-take_exists-in-Exists.ensures.opens
 
 pub take_load-requires-clause-count : goal.take_load-requires-clause-count
 take_load-requires-clause-count c =
-    let m = c.args.machine.now in let u = c.in-Use in let rest = items_at m.agenda c.in-Some.rest in
+    let m = parts_of c.args.machine.now in let u = c.in-Use in let rest = items_at m.agenda c.in-Some.rest in
     let q : u.args.now ≡ c.deref.result.now = sym (c.deref.ensures.value ∙ c.in_ok-args-in-Use.ensures.items) in
     use_count m c.in-Goal.goal u.body u.number c.deref.result.now rest c.requires.fits (c.in-Some.ensures.some.list ∙ ap (λ x. x ∷ rest) c.in-Goal.is)
     (u.ensures.shown.tree ∙ ap (λ xs. Use u.number (term_trees m.bank xs) (form_tree m.bank u.body.0)) q) c.index-modules-number.result c.index-modules-number.is
 
 pub take_load-requires-clause-closed : goal.take_load-requires-clause-closed
 take_load-requires-clause-closed c =
-    let m = c.args.machine.now in let u = c.in-Use in let rest = items_at m.agenda c.in-Some.rest in
+    let m = parts_of c.args.machine.now in let u = c.in-Use in let rest = items_at m.agenda c.in-Some.rest in
     let q : u.args.now ≡ c.deref.result.now = sym (c.deref.ensures.value ∙ c.in_ok-args-in-Use.ensures.items) in
     use_closed m c.in-Goal.goal u.body u.number c.deref.result.now rest c.requires.fits (c.in-Some.ensures.some.list ∙ ap (λ x. x ∷ rest) c.in-Goal.is)
     (u.ensures.shown.tree ∙ ap (λ xs. Use u.number (term_trees m.bank xs) (form_tree m.bank u.body.0)) q) c.index-modules-number.result c.index-modules-number.is
 
 pub take_load-requires-clause-clauses : goal.take_load-requires-clause-clauses
 take_load-requires-clause-clauses c =
-    let m = c.args.machine.now in let u = c.in-Use in let rest = items_at m.agenda c.in-Some.rest in
+    let m = parts_of c.args.machine.now in let u = c.in-Use in let rest = items_at m.agenda c.in-Some.rest in
     let q : u.args.now ≡ c.deref.result.now = sym (c.deref.ensures.value ∙ c.in_ok-args-in-Use.ensures.items) in
     use_clauses m c.in-Goal.goal u.body u.number c.deref.result.now rest c.requires.fits (c.in-Some.ensures.some.list ∙ ap (λ x. x ∷ rest) c.in-Goal.is)
     (u.ensures.shown.tree ∙ ap (λ xs. Use u.number (term_trees m.bank xs) (form_tree m.bank u.body.0)) q) c.index-modules-number.result c.index-modules-number.is
 
 pub take_load-requires-clause-heads : goal.take_load-requires-clause-heads
 take_load-requires-clause-heads c =
-    let m = c.args.machine.now in let u = c.in-Use in let rest = items_at m.agenda c.in-Some.rest in
+    let m = parts_of c.args.machine.now in let u = c.in-Use in let rest = items_at m.agenda c.in-Some.rest in
     let q : u.args.now ≡ c.deref.result.now = sym (c.deref.ensures.value ∙ c.in_ok-args-in-Use.ensures.items) in
     use_heads m c.in-Goal.goal u.body u.number c.deref.result.now rest c.requires.fits (c.in-Some.ensures.some.list ∙ ap (λ x. x ∷ rest) c.in-Goal.is)
     (u.ensures.shown.tree ∙ ap (λ xs. Use u.number (term_trees m.bank xs) (form_tree m.bank u.body.0)) q) c.index-modules-number.result c.index-modules-number.is
 
-pub returns-in_ok-take_load-in-Use : goal.returns-in_ok-take_load-in-Use
-returns-in_ok-take_load-in-Use c =
-    let m = c.args.machine.now in let u = c.in-Use in let rest = items_at m.agenda c.in-Some.rest in
+pub returns-in_ok-take_load-in-Use-clause-attempts : goal.returns-in_ok-take_load-in-Use-clause-attempts
+returns-in_ok-take_load-in-Use-clause-attempts c =
+    let m = parts_of c.args.machine.now in let u = c.in-Use in let rest = items_at m.agenda c.in-Some.rest in
     let q : u.args.now ≡ c.deref.result.now = sym (c.deref.ensures.value ∙ c.in_ok-args-in-Use.ensures.items) in
     use_row m c.in-Goal.goal u.body u.number c.deref.result.now rest c.requires.fits (c.in-Some.ensures.some.list ∙ ap (λ x. x ∷ rest) c.in-Goal.is)
-    (u.ensures.shown.tree ∙ ap (λ xs. Use u.number (term_trees m.bank xs) (form_tree m.bank u.body.0)) q) c.index-modules-number.result c.index-modules-number.is c.take_load.new.machine c.args.candidate c.in_ok-take_load-in-Use.ensures
+    (u.ensures.shown.tree ∙ ap (λ xs. Use u.number (term_trees m.bank xs) (form_tree m.bank u.body.0)) q) c.index-modules-number.result c.index-modules-number.is (parts_of c.take_load.new.machine) c.args.candidate c.in_ok-take_load-in-Use.ensures.loads
 
 pub take_one-requires-clause-front : goal.take_one-requires-clause-front
 take_one-requires-clause-front c =
-    in_front c.args.machine.now c.in-Goal.goal c.in-Some.item _ c.in-Some.rest c.in-Some.ensures.some.list c.in-Goal.is c.in-Some.ensures.some.inside
+    in_front (parts_of c.args.machine.now) c.in-Goal.goal c.in-Some.item _ c.in-Some.rest c.in-Some.ensures.some.list c.in-Goal.is c.in-Some.ensures.some.inside
     c.in-One.ensures.shown
 
 pub take_top-requires-clause-front : goal.take_top-requires-clause-front
 take_top-requires-clause-front c =
-    in_front c.args.machine.now c.in-Goal.goal c.in-Some.item _ c.in-Some.rest c.in-Some.ensures.some.list c.in-Goal.is c.in-Some.ensures.some.inside
+    in_front (parts_of c.args.machine.now) c.in-Goal.goal c.in-Some.item _ c.in-Some.rest c.in-Some.ensures.some.list c.in-Goal.is c.in-Some.ensures.some.inside
     c.in-Top.ensures.shown
 
 pub take_tensor-requires-clause-front : goal.take_tensor-requires-clause-front
 take_tensor-requires-clause-front c =
-    in_front c.args.machine.now c.in-Goal.goal c.in-Some.item _ c.in-Some.rest c.in-Some.ensures.some.list c.in-Goal.is c.in-Some.ensures.some.inside
+    in_front (parts_of c.args.machine.now) c.in-Goal.goal c.in-Some.item _ c.in-Some.rest c.in-Some.ensures.some.list c.in-Goal.is c.in-Some.ensures.some.inside
     c.in-Tensor.ensures.shown
 
 pub take_plus-requires-clause-front : goal.take_plus-requires-clause-front
 take_plus-requires-clause-front c =
-    in_front c.args.machine.now c.in-Goal.goal c.in-Some.item _ c.in-Some.rest c.in-Some.ensures.some.list c.in-Goal.is c.in-Some.ensures.some.inside
+    in_front (parts_of c.args.machine.now) c.in-Goal.goal c.in-Some.item _ c.in-Some.rest c.in-Some.ensures.some.list c.in-Goal.is c.in-Some.ensures.some.inside
     c.in-Plus.ensures.shown
 
 pub take_with-requires-clause-front : goal.take_with-requires-clause-front
 take_with-requires-clause-front c =
-    in_front c.args.machine.now c.in-Goal.goal c.in-Some.item _ c.in-Some.rest c.in-Some.ensures.some.list c.in-Goal.is c.in-Some.ensures.some.inside
+    in_front (parts_of c.args.machine.now) c.in-Goal.goal c.in-Some.item _ c.in-Some.rest c.in-Some.ensures.some.list c.in-Goal.is c.in-Some.ensures.some.inside
     c.in-With.ensures.shown
 
 pub take_bang-requires-clause-front : goal.take_bang-requires-clause-front
 take_bang-requires-clause-front c =
-    in_front c.args.machine.now c.in-Goal.goal c.in-Some.item _ c.in-Some.rest c.in-Some.ensures.some.list c.in-Goal.is c.in-Some.ensures.some.inside
+    in_front (parts_of c.args.machine.now) c.in-Goal.goal c.in-Some.item _ c.in-Some.rest c.in-Some.ensures.some.list c.in-Goal.is c.in-Some.ensures.some.inside
     c.in-Bang.ensures.shown
 
 pub take_lolli-requires-clause-front : goal.take_lolli-requires-clause-front
 take_lolli-requires-clause-front c =
-    in_front c.args.machine.now c.in-Goal.goal c.in-Some.item _ c.in-Some.rest c.in-Some.ensures.some.list c.in-Goal.is c.in-Some.ensures.some.inside
+    in_front (parts_of c.args.machine.now) c.in-Goal.goal c.in-Some.item _ c.in-Some.rest c.in-Some.ensures.some.list c.in-Goal.is c.in-Some.ensures.some.inside
     c.in-Lolli.ensures.shown
 
 pub take_imp-requires-clause-front : goal.take_imp-requires-clause-front
 take_imp-requires-clause-front c =
-    in_front c.args.machine.now c.in-Goal.goal c.in-Some.item _ c.in-Some.rest c.in-Some.ensures.some.list c.in-Goal.is c.in-Some.ensures.some.inside
+    in_front (parts_of c.args.machine.now) c.in-Goal.goal c.in-Some.item _ c.in-Some.rest c.in-Some.ensures.some.list c.in-Goal.is c.in-Some.ensures.some.inside
     c.in-Imp.ensures.shown
 
 pub take_leaf-requires-clause-front : goal.take_leaf-requires-clause-front
 take_leaf-requires-clause-front c =
-    in_front c.args.machine.now c.in-Goal.goal c.in-Some.item _ c.in-Some.rest c.in-Some.ensures.some.list c.in-Goal.is c.in-Some.ensures.some.inside
+    in_front (parts_of c.args.machine.now) c.in-Goal.goal c.in-Some.item _ c.in-Some.rest c.in-Some.ensures.some.list c.in-Goal.is c.in-Some.ensures.some.inside
     c.in-Atom.ensures.shown
 
 pub take_is-requires-clause-front : goal.take_is-requires-clause-front
 take_is-requires-clause-front c =
-    in_front c.args.machine.now c.in-Goal.goal c.in-Some.item _ c.in-Some.rest c.in-Some.ensures.some.list c.in-Goal.is c.in-Some.ensures.some.inside
+    in_front (parts_of c.args.machine.now) c.in-Goal.goal c.in-Some.item _ c.in-Some.rest c.in-Some.ensures.some.list c.in-Goal.is c.in-Some.ensures.some.inside
     c.in-Is.ensures.shown
 
 pub take_less-requires-clause-front : goal.take_less-requires-clause-front
 take_less-requires-clause-front c =
-    in_front c.args.machine.now c.in-Goal.goal c.in-Some.item _ c.in-Some.rest c.in-Some.ensures.some.list c.in-Goal.is c.in-Some.ensures.some.inside
+    in_front (parts_of c.args.machine.now) c.in-Goal.goal c.in-Some.item _ c.in-Some.rest c.in-Some.ensures.some.list c.in-Goal.is c.in-Some.ensures.some.inside
     c.in-Less.ensures.shown
 
 pub take_most-requires-clause-front : goal.take_most-requires-clause-front
 take_most-requires-clause-front c =
-    in_front c.args.machine.now c.in-Goal.goal c.in-Some.item _ c.in-Some.rest c.in-Some.ensures.some.list c.in-Goal.is c.in-Some.ensures.some.inside
+    in_front (parts_of c.args.machine.now) c.in-Goal.goal c.in-Some.item _ c.in-Some.rest c.in-Some.ensures.some.list c.in-Goal.is c.in-Some.ensures.some.inside
     c.in-Most.ensures.shown
 
-pub returns-in-One : goal.returns-in-One
-returns-in-One c = c.take_one.ensures c.args.candidate
+pub returns-in-One-clause-attempts : goal.returns-in-One-clause-attempts
+returns-in-One-clause-attempts c = c.take_one.ensures.attempts c.args.candidate
 
-pub returns-in-Top : goal.returns-in-Top
-returns-in-Top c = c.take_top.ensures c.args.candidate
+pub returns-in-Top-clause-attempts : goal.returns-in-Top-clause-attempts
+returns-in-Top-clause-attempts c = c.take_top.ensures.attempts c.args.candidate
 
-pub returns-in-Tensor : goal.returns-in-Tensor
-returns-in-Tensor c = c.take_tensor.ensures c.args.candidate
+pub returns-in-Tensor-clause-attempts : goal.returns-in-Tensor-clause-attempts
+returns-in-Tensor-clause-attempts c = c.take_tensor.ensures.attempts c.args.candidate
 
-pub returns-in-With : goal.returns-in-With
-returns-in-With c = c.take_with.ensures c.args.candidate
+pub returns-in-With-clause-attempts : goal.returns-in-With-clause-attempts
+returns-in-With-clause-attempts c = c.take_with.ensures.attempts c.args.candidate
 
-pub returns-in-Bang : goal.returns-in-Bang
-returns-in-Bang c = c.take_bang.ensures c.args.candidate
+pub returns-in-Bang-clause-attempts : goal.returns-in-Bang-clause-attempts
+returns-in-Bang-clause-attempts c = c.take_bang.ensures.attempts c.args.candidate
 
-pub returns-in-Lolli : goal.returns-in-Lolli
-returns-in-Lolli c = c.take_lolli.ensures c.args.candidate
+pub returns-in-Lolli-clause-attempts : goal.returns-in-Lolli-clause-attempts
+returns-in-Lolli-clause-attempts c = c.take_lolli.ensures.attempts c.args.candidate
 
-pub returns-in-Imp : goal.returns-in-Imp
-returns-in-Imp c = c.take_imp.ensures c.args.candidate
+pub returns-in-Imp-clause-attempts : goal.returns-in-Imp-clause-attempts
+returns-in-Imp-clause-attempts c = c.take_imp.ensures.attempts c.args.candidate
 
-pub returns-in-Is : goal.returns-in-Is
-returns-in-Is c = c.take_is.ensures c.args.candidate
+pub returns-in-Is-clause-attempts : goal.returns-in-Is-clause-attempts
+returns-in-Is-clause-attempts c = c.take_is.ensures.attempts c.args.candidate
 
-pub returns-in-Less : goal.returns-in-Less
-returns-in-Less c = c.take_less.ensures c.args.candidate
+pub returns-in-Less-clause-attempts : goal.returns-in-Less-clause-attempts
+returns-in-Less-clause-attempts c = c.take_less.ensures.attempts c.args.candidate
 
-pub returns-in-Most : goal.returns-in-Most
-returns-in-Most c = c.take_most.ensures c.args.candidate
+pub returns-in-Most-clause-attempts : goal.returns-in-Most-clause-attempts
+returns-in-Most-clause-attempts c = c.take_most.ensures.attempts c.args.candidate

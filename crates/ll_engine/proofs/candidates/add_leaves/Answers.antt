@@ -2,7 +2,7 @@ use Rattle.std.proofs.Common.{◌<◌, ◌++◌, ap, sym, subst, ◌∙◌, arit
 use Rattle.std.proofs.lemmas.List.Elements.{All-push}
 use Rattle.ll_bank.specs.declared.FormAt.{FormAt}
 use Rattle.ll_bank.specs.Form.{sub_form}
-use Rattle.ll_freeze.specs.Reading.{reading, read_term}
+use Rattle.ll_bank.specs.Nodes.{term_tree, form_tree}
 use Rattle.ll_engine.specs.Leaves.{heads, head_tries, waiting_heads}
 use Rattle.ll_engine.proofs.CandidateLemmas.{heads_seen, no_heads, walk_past, walk_in, walk_both, leaf_found, leaf_passed, All-front, All-end}
 use Rattle.ll_engine.proofs.candidates.add_leaves.Goals as goal
@@ -11,29 +11,29 @@ use Rattle.ll_engine.proofs.candidates.add_leaves.Goals.{then-has_predicate+in_o
 pub loop-form-preserved : goal.loop-form-preserved
 loop-form-preserved c = record {
   inside = All-front (λ (f : FormAt). f.0 < length c.args.bank.now.forms) c.pop.new.self.items c.in-Some.form (subst (All (λ (f : FormAt). f.0 < length c.args.bank.now.forms)) c.in-Some.ensures.items c.loop-form.invariant.inside);
-  so_far = walk_past c.args.bank.now c.args.bound.now c.args.predicate c.args.label c.loop-form.leaf _ c.loop-form.found.items c.loop-form.waiting.items c.pop.new.self.items c.in-Some.form c.in-Some.ensures.items c.loop-form.invariant.so_far
-      (heads_seen c.args.bank.now c.args.bound.now c.in-Some.form c.form_at.result c.form_at.ensures.shown.tree ∙ no_heads c.args.bank.now (reading c.args.bank.now c.args.bound.now) c.form_at.result c.in_default-form_at.not-Atom c.in_default-form_at.not-With c.in_default-form_at.not-Lolli c.in_default-form_at.not-Imp c.in_default-form_at.not-Forall);
+  so_far = walk_past c.args.bank.now c.args.predicate c.args.label c.loop-form.leaf _ c.loop-form.found.items c.loop-form.waiting.items c.pop.new.self.items c.in-Some.form c.in-Some.ensures.items c.loop-form.invariant.so_far
+      (heads_seen c.args.bank.now c.in-Some.form c.form_at.result c.form_at.ensures.shown.tree ∙ no_heads c.args.bank.now c.form_at.result c.in_default-form_at.not-Atom c.in_default-form_at.not-With c.in_default-form_at.not-Lolli c.in_default-form_at.not-Imp c.in_default-form_at.not-Forall);
 }
 
 pub loop-form-preserved-in-Continue-branch-6 : goal.loop-form-preserved-in-Continue-branch-6
 loop-form-preserved-in-Continue-branch-6 c = let h = All-end (λ (f : FormAt). f.0 < length c.args.bank.now.forms) c.pop.new.self.items c.in-Some.form (subst (All (λ (f : FormAt). f.0 < length c.args.bank.now.forms)) c.in-Some.ensures.items c.loop-form.invariant.inside) in record {
   inside = subst (All (λ (f : FormAt). f.0 < length c.args.bank.now.forms)) (sym c.in_ok-push-in-Lolli.ensures.items) (All-push (λ (f : FormAt). f.0 < length c.args.bank.now.forms) c.pop.new.self.items c.in-Lolli.rest
       (All-front (λ (f : FormAt). f.0 < length c.args.bank.now.forms) c.pop.new.self.items c.in-Some.form (subst (All (λ (f : FormAt). f.0 < length c.args.bank.now.forms)) c.in-Some.ensures.items c.loop-form.invariant.inside)) (let p = c.in-Lolli.ensures.shown.parts.1 in let q = h in omega arith));
-  so_far = walk_in c.args.bank.now c.args.bound.now c.args.predicate c.args.label c.loop-form.leaf _ c.loop-form.found.items c.loop-form.waiting.items c.pop.new.self.items c.in-Some.form c.in-Some.ensures.items c.loop-form.invariant.so_far c.in-Lolli.rest c.push-in-Lolli.new.self.items c.in_ok-push-in-Lolli.ensures.items (ap (λ t. heads (sub_form (reading c.args.bank.now c.args.bound.now) t)) c.in-Lolli.ensures.shown.tree);
+  so_far = walk_in c.args.bank.now c.args.predicate c.args.label c.loop-form.leaf _ c.loop-form.found.items c.loop-form.waiting.items c.pop.new.self.items c.in-Some.form c.in-Some.ensures.items c.loop-form.invariant.so_far c.in-Lolli.rest c.push-in-Lolli.new.self.items c.in_ok-push-in-Lolli.ensures.items (ap (λ t. heads t) c.in-Lolli.ensures.shown.tree);
 }
 
 pub loop-form-preserved-in-Continue-branch-7 : goal.loop-form-preserved-in-Continue-branch-7
 loop-form-preserved-in-Continue-branch-7 c = let h = All-end (λ (f : FormAt). f.0 < length c.args.bank.now.forms) c.pop.new.self.items c.in-Some.form (subst (All (λ (f : FormAt). f.0 < length c.args.bank.now.forms)) c.in-Some.ensures.items c.loop-form.invariant.inside) in record {
   inside = subst (All (λ (f : FormAt). f.0 < length c.args.bank.now.forms)) (sym c.in_ok-push-in-Imp.ensures.items) (All-push (λ (f : FormAt). f.0 < length c.args.bank.now.forms) c.pop.new.self.items c.in-Imp.rest
       (All-front (λ (f : FormAt). f.0 < length c.args.bank.now.forms) c.pop.new.self.items c.in-Some.form (subst (All (λ (f : FormAt). f.0 < length c.args.bank.now.forms)) c.in-Some.ensures.items c.loop-form.invariant.inside)) (let p = c.in-Imp.ensures.shown.parts.1 in let q = h in omega arith));
-  so_far = walk_in c.args.bank.now c.args.bound.now c.args.predicate c.args.label c.loop-form.leaf _ c.loop-form.found.items c.loop-form.waiting.items c.pop.new.self.items c.in-Some.form c.in-Some.ensures.items c.loop-form.invariant.so_far c.in-Imp.rest c.push-in-Imp.new.self.items c.in_ok-push-in-Imp.ensures.items (ap (λ t. heads (sub_form (reading c.args.bank.now c.args.bound.now) t)) c.in-Imp.ensures.shown.tree);
+  so_far = walk_in c.args.bank.now c.args.predicate c.args.label c.loop-form.leaf _ c.loop-form.found.items c.loop-form.waiting.items c.pop.new.self.items c.in-Some.form c.in-Some.ensures.items c.loop-form.invariant.so_far c.in-Imp.rest c.push-in-Imp.new.self.items c.in_ok-push-in-Imp.ensures.items (ap (λ t. heads t) c.in-Imp.ensures.shown.tree);
 }
 
 pub loop-form-preserved-in-Continue-branch-8 : goal.loop-form-preserved-in-Continue-branch-8
 loop-form-preserved-in-Continue-branch-8 c = let h = All-end (λ (f : FormAt). f.0 < length c.args.bank.now.forms) c.pop.new.self.items c.in-Some.form (subst (All (λ (f : FormAt). f.0 < length c.args.bank.now.forms)) c.in-Some.ensures.items c.loop-form.invariant.inside) in record {
   inside = subst (All (λ (f : FormAt). f.0 < length c.args.bank.now.forms)) (sym c.in_ok-push-in-Forall.ensures.items) (All-push (λ (f : FormAt). f.0 < length c.args.bank.now.forms) c.pop.new.self.items c.in-Forall.rest
       (All-front (λ (f : FormAt). f.0 < length c.args.bank.now.forms) c.pop.new.self.items c.in-Some.form (subst (All (λ (f : FormAt). f.0 < length c.args.bank.now.forms)) c.in-Some.ensures.items c.loop-form.invariant.inside)) (let p = c.in-Forall.ensures.shown.parts in let q = h in omega arith));
-  so_far = walk_in c.args.bank.now c.args.bound.now c.args.predicate c.args.label c.loop-form.leaf _ c.loop-form.found.items c.loop-form.waiting.items c.pop.new.self.items c.in-Some.form c.in-Some.ensures.items c.loop-form.invariant.so_far c.in-Forall.rest c.push-in-Forall.new.self.items c.in_ok-push-in-Forall.ensures.items (ap (λ t. heads (sub_form (reading c.args.bank.now c.args.bound.now) t)) c.in-Forall.ensures.shown.tree);
+  so_far = walk_in c.args.bank.now c.args.predicate c.args.label c.loop-form.leaf _ c.loop-form.found.items c.loop-form.waiting.items c.pop.new.self.items c.in-Some.form c.in-Some.ensures.items c.loop-form.invariant.so_far c.in-Forall.rest c.push-in-Forall.new.self.items c.in_ok-push-in-Forall.ensures.items (ap (λ t. heads t) c.in-Forall.ensures.shown.tree);
 }
 
 pub loop-form-preserved-in-Continue-branch-5 : goal.loop-form-preserved-in-Continue-branch-5
@@ -43,18 +43,18 @@ loop-form-preserved-in-Continue-branch-5 c =
     let mid = subst (All (λ (f : FormAt). f.0 < length c.args.bank.now.forms)) (sym c.in_ok-push-in-With.ensures.items) (All-push (λ (f : FormAt). f.0 < length c.args.bank.now.forms) c.pop.new.self.items c.in-With.right
     (All-front (λ (f : FormAt). f.0 < length c.args.bank.now.forms) c.pop.new.self.items c.in-Some.form (subst (All (λ (f : FormAt). f.0 < length c.args.bank.now.forms)) c.in-Some.ensures.items c.loop-form.invariant.inside)) (omega arith)) in record {
       inside = subst (All (λ (f : FormAt). f.0 < length c.args.bank.now.forms)) (sym c.in_ok-push-in-With-2.ensures.items) (All-push (λ (f : FormAt). f.0 < length c.args.bank.now.forms) c.push-in-With.new.self.items c.in-With.left mid (omega arith));
-      so_far = walk_both c.args.bank.now c.args.bound.now c.args.predicate c.args.label c.loop-form.leaf _ c.loop-form.found.items c.loop-form.waiting.items c.pop.new.self.items c.in-Some.form c.in-Some.ensures.items c.loop-form.invariant.so_far c.in-With.left c.in-With.right c.push-in-With.new.self.items c.push-in-With-2.new.self.items c.in_ok-push-in-With.ensures.items c.in_ok-push-in-With-2.ensures.items
-          (ap (λ t. heads (sub_form (reading c.args.bank.now c.args.bound.now) t)) c.in-With.ensures.shown.tree);
+      so_far = walk_both c.args.bank.now c.args.predicate c.args.label c.loop-form.leaf _ c.loop-form.found.items c.loop-form.waiting.items c.pop.new.self.items c.in-Some.form c.in-Some.ensures.items c.loop-form.invariant.so_far c.in-With.left c.in-With.right c.push-in-With.new.self.items c.push-in-With-2.new.self.items c.in_ok-push-in-With.ensures.items c.in_ok-push-in-With-2.ensures.items
+          (ap (λ t. heads t) c.in-With.ensures.shown.tree);
     }
 
 pub loop-form-preserved-in-Atom : goal.loop-form-preserved-in-Atom
 loop-form-preserved-in-Atom c = record {
   inside = All-front (λ (f : FormAt). f.0 < length c.args.bank.now.forms) c.pop.new.self.items c.in-Some.form (subst (All (λ (f : FormAt). f.0 < length c.args.bank.now.forms)) c.in-Some.ensures.items c.loop-form.invariant.inside);
   so_far = elim c.if-has_predicate.branch [
-    | then-has_predicate+in_ok-push-in-Atom w ↦ leaf_found c.args.bank.now c.args.bound.now c.args.predicate c.args.label c.loop-form.leaf _ c.loop-form.found.items c.loop-form.waiting.items c.pop.new.self.items c.in-Some.form c.in-Some.ensures.items c.loop-form.invariant.so_far (read_term c.args.bank.now c.args.bound.now c.in-Atom.head) c.if-has_predicate.found.items c.in_ok-leaf-in-Atom.leaf
-        (ap (λ t. heads (sub_form (reading c.args.bank.now c.args.bound.now) t)) c.in-Atom.ensures.shown.tree) (sym c.has_predicate.ensures ∙ w.if-has_predicate.true) (ap (λ v. v.items) w.found-is ∙ w.in_ok-push-in-Atom.ensures.items) c.in_ok-leaf-in-Atom.ensures
-    | else-has_predicate w ↦ ap (λ v. v.items ++ head_tries c.args.predicate c.args.label c.in_ok-leaf-in-Atom.leaf (waiting_heads c.args.bank.now c.args.bound.now c.pop.new.self.items)) w.found-is
-        ∙ leaf_passed c.args.bank.now c.args.bound.now c.args.predicate c.args.label c.loop-form.leaf _ c.loop-form.found.items c.loop-form.waiting.items c.pop.new.self.items c.in-Some.form c.in-Some.ensures.items c.loop-form.invariant.so_far (read_term c.args.bank.now c.args.bound.now c.in-Atom.head) c.in_ok-leaf-in-Atom.leaf
-        (ap (λ t. heads (sub_form (reading c.args.bank.now c.args.bound.now) t)) c.in-Atom.ensures.shown.tree) (sym c.has_predicate.ensures ∙ w.if-has_predicate.false) c.in_ok-leaf-in-Atom.ensures
+    | then-has_predicate+in_ok-push-in-Atom w ↦ leaf_found c.args.bank.now c.args.predicate c.args.label c.loop-form.leaf _ c.loop-form.found.items c.loop-form.waiting.items c.pop.new.self.items c.in-Some.form c.in-Some.ensures.items c.loop-form.invariant.so_far (term_tree c.args.bank.now c.in-Atom.head.0) c.if-has_predicate.found.items c.in_ok-leaf-in-Atom.leaf
+        (ap (λ t. heads t) c.in-Atom.ensures.shown.tree) (sym c.has_predicate.ensures ∙ w.if-has_predicate.true) (ap (λ v. v.items) w.found-is ∙ w.in_ok-push-in-Atom.ensures.items) c.in_ok-leaf-in-Atom.ensures
+    | else-has_predicate w ↦ ap (λ v. v.items ++ head_tries c.args.predicate c.args.label c.in_ok-leaf-in-Atom.leaf (waiting_heads c.args.bank.now c.pop.new.self.items)) w.found-is
+        ∙ leaf_passed c.args.bank.now c.args.predicate c.args.label c.loop-form.leaf _ c.loop-form.found.items c.loop-form.waiting.items c.pop.new.self.items c.in-Some.form c.in-Some.ensures.items c.loop-form.invariant.so_far (term_tree c.args.bank.now c.in-Atom.head.0) c.in_ok-leaf-in-Atom.leaf
+        (ap (λ t. heads t) c.in-Atom.ensures.shown.tree) (sym c.has_predicate.ensures ∙ w.if-has_predicate.false) c.in_ok-leaf-in-Atom.ensures
   ];
 }

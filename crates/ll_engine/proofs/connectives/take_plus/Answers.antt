@@ -1,16 +1,17 @@
 use Rattle.std.proofs.Common.{rules}
 use Rattle.ll_agenda.specs.Frames.{items_at}
+use Rattle.ll_freeze.specs.Parts.{parts_of}
 use Rattle.ll_engine.proofs.Rowing.{left, right}
 use Rattle.ll_engine.proofs.connectives.take_plus.Goals as goal
 
-pub returns-then-candidate-eq0 : goal.returns-then-candidate-eq0
-returns-then-candidate-eq0 c =
-    let m = c.args.machine.now in let h = c.requires.front in
-    left m c.go_on.new.machine h.goal c.args.left c.args.right (items_at m.agenda c.args.rest) c.args.candidate c.requires.fits h.list
-    h.seen.tree h.seen.parts (search rules) c.in_ok-go_on.ensures
+pub returns-then-candidate-eq0-clause-attempts : goal.returns-then-candidate-eq0-clause-attempts
+returns-then-candidate-eq0-clause-attempts c =
+    let m = parts_of c.args.machine.now in let h = c.requires.front in
+    left m (parts_of c.go_on.new.machine) h.goal c.args.left c.args.right (items_at m.agenda c.args.rest) c.args.candidate c.requires.fits h.list
+    h.seen.tree h.seen.parts (search rules) c.in_ok-go_on.ensures.goes
 
-pub returns : goal.returns
-returns c =
-    let m = c.args.machine.now in let h = c.requires.front in
-    right m c.go_on-2.new.machine h.goal c.args.left c.args.right (items_at m.agenda c.args.rest) c.args.candidate c.requires.fits h.list
-    h.seen.tree h.seen.parts (search rules) c.in_ok-go_on-2.ensures
+pub returns-clause-attempts : goal.returns-clause-attempts
+returns-clause-attempts c =
+    let m = parts_of c.args.machine.now in let h = c.requires.front in
+    right m (parts_of c.go_on-2.new.machine) h.goal c.args.left c.args.right (items_at m.agenda c.args.rest) c.args.candidate c.requires.fits h.list
+    h.seen.tree h.seen.parts (search rules) c.in_ok-go_on-2.ensures.goes

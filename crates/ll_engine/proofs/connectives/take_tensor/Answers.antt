@@ -1,9 +1,10 @@
 use Rattle.ll_agenda.specs.Frames.{items_at}
+use Rattle.ll_freeze.specs.Parts.{parts_of}
 use Rattle.ll_engine.proofs.Rowing.{tensor}
 use Rattle.ll_engine.proofs.connectives.take_tensor.Goals as goal
 
-pub returns : goal.returns
-returns c candidate =
-    let m = c.args.machine.now in let h = c.requires.front in
-    tensor m c.go_on.new.machine h.goal c.args.first c.args.second (items_at m.agenda c.args.rest) candidate c.requires.fits h.list h.seen.tree
-    h.seen.parts c.in_ok-go_on.ensures
+pub returns-clause-attempts : goal.returns-clause-attempts
+returns-clause-attempts c candidate =
+    let m = parts_of c.args.machine.now in let h = c.requires.front in
+    tensor m (parts_of c.go_on.new.machine) h.goal c.args.first c.args.second (items_at m.agenda c.args.rest) candidate c.requires.fits h.list h.seen.tree
+    h.seen.parts c.in_ok-go_on.ensures.goes

@@ -1,9 +1,17 @@
 use Rattle.ll_agenda.specs.Frames.{items_at}
+use Rattle.ll_freeze.specs.Parts.{parts_of}
+use Rattle.ll_freeze.proofs.Marks.{later_then}
+use Rattle.ll_engine.proofs.Keeping.{later_context}
 use Rattle.ll_engine.proofs.Rowing.{top}
 use Rattle.ll_engine.proofs.connectives.take_top.Goals as goal
 
-pub returns : goal.returns
-returns c candidate =
-    let m = c.args.machine.now in let h = c.requires.front in
-    top m c.go_on.new.machine c.erase.new.self h.goal (items_at m.agenda c.args.rest) candidate c.requires.fits h.list h.seen.tree
-    c.in_ok-erase.ensures.erased c.in_ok-go_on.ensures
+pub returns-clause-attempts : goal.returns-clause-attempts
+returns-clause-attempts c candidate =
+    let m = parts_of c.args.machine.now in let h = c.requires.front in
+    top m (parts_of c.go_on.new.machine) c.erase.new.self.present h.goal (items_at m.agenda c.args.rest) candidate c.requires.fits h.list h.seen.tree
+    c.in_ok-erase.ensures.erased c.in_ok-go_on.ensures.goes
+
+pub returns-clause-later : goal.returns-clause-later
+returns-clause-later c =
+    let m = c.args.machine.now in
+    later_then m _ c.go_on.new.machine (later_context m c.erase.new.self c.erase.ensures.marks) c.in_ok-go_on.ensures.later

@@ -1,10 +1,18 @@
 use Rattle.ll_agenda.specs.Frames.{items_at}
+use Rattle.ll_freeze.specs.Parts.{parts_of}
+use Rattle.ll_freeze.proofs.Marks.{later_then}
+use Rattle.ll_engine.proofs.Keeping.{later_context}
 use Rattle.ll_engine.proofs.Rowing.{both}
 use Rattle.ll_engine.proofs.connectives.take_with.Goals as goal
 
-pub returns : goal.returns
-returns c candidate =
-    let m = c.args.machine.now in let h = c.requires.front in
-    both m c.go_on.new.machine c.save.new.self h.goal c.args.first c.args.second c.in_ok-saved.saved (items_at m.agenda c.args.rest)
+pub returns-clause-attempts : goal.returns-clause-attempts
+returns-clause-attempts c candidate =
+    let m = parts_of c.args.machine.now in let h = c.requires.front in
+    both m (parts_of c.go_on.new.machine) c.save.new.self.present h.goal c.args.first c.args.second c.in_ok-saved.saved (items_at m.agenda c.args.rest)
     candidate c.requires.fits h.list h.seen.tree h.seen.parts c.in_ok-saved.ensures.number c.in_ok-saved.ensures.kept
-    c.in_ok-saved.ensures.same c.in_ok-saved.ensures.saved c.in_ok-go_on.ensures
+    c.in_ok-saved.ensures.same c.in_ok-saved.ensures.saved c.in_ok-go_on.ensures.goes
+
+pub returns-clause-later : goal.returns-clause-later
+returns-clause-later c =
+    let m = c.args.machine.now in
+    later_then m _ c.go_on.new.machine (later_context m c.save.new.self c.save.ensures.marks) c.in_ok-go_on.ensures.later

@@ -1,17 +1,36 @@
-use Rattle.std.proofs.Common.{rules, w64, FitsSigned, sym, ◌∙◌}
+use Rattle.std.proofs.Common.{rules, w64, FitsSigned, ap, sym, subst, ◌∙◌}
+use Rattle.ll_bindings.specs.Bindings.{Table, IsTable, IsPlaceOf}
+use Rattle.ll_bindings.proofs.CallerLemmas.{table-extends, place-extends}
+use Rattle.ll_store.specs.Tables.{table_of}
+use Rattle.ll_laws.specs.Number.{operators_of, value_of}
+use Rattle.ll_freeze.specs.Reading.{read_term}
 use Rattle.ll_engine.proofs.NumberLemmas.{value_kept, second_lacks, both_values}
 use Rattle.ll_engine.proofs.numbers.values_under.Goals as goal
 
+pub value_under-requires-2-clause-table : goal.value_under-requires-2-clause-table
+value_under-requires-2-clause-table c =
+    let s = c.args.store.now in let t = c.value_under.new.store in
+    subst (λ (u : Table). IsTable t.bank u) (sym (ap (λ cells. table_of cells.cells) c.value_under.ensures.cells))
+    (table-extends s.bank t.bank (table_of s.cells.cells) c.requires.table c.value_under.ensures.keeps)
+
+pub value_under-requires-2-clause-place : goal.value_under-requires-2-clause-place
+value_under-requires-2-clause-place c =
+    let s = c.args.store.now in let t = c.value_under.new.store in
+    subst (λ (u : Table). IsPlaceOf t.bank u c.args.right.0) (sym (ap (λ cells. table_of cells.cells) c.value_under.ensures.cells))
+    (place-extends s.bank t.bank (table_of s.cells.cells) c.args.right.0 c.requires.table c.value_under.ensures.keeps c.requires.right)
+
 pub returns-in_default-2-clause-values : goal.returns-in_default-2-clause-values
 returns-in_default-2-clause-values c test =
+    let s = c.args.store.now in let t = c.value_under.new.store in
     second_lacks test _ _
-    (value_kept c.args.names.now c.args.bank.now c.value_under.new.bank c.in_ok-first.ensures.keeps c.args.bound.now c.requires.bound c.args.right
-    c.requires.right c.in_ok-second.field-0 c.in_ok-second.ensures.value ∙ c.in_default-2.is)
+    (value_kept c.args.names.now s.bank t.bank (table_of s.cells.cells) c.requires.table c.value_under.ensures.keeps c.args.right c.requires.right.inside c.in_ok-second.field-0
+    (c.in_ok-second.ensures.value ∙ ap (λ u. value_of (operators_of c.args.names.now) (read_term t.bank (table_of u.cells).bound c.args.right)) c.value_under.ensures.cells) ∙ c.in_default-2.is)
 
 pub returns-clause-values : goal.returns-clause-values
 returns-clause-values c test =
+    let s = c.args.store.now in let t = c.value_under.new.store in
     let f : FitsSigned w64 c.in-Some.first = search rules in
     let g : FitsSigned w64 c.in-Some-2.second = search rules in
     both_values test c.in-Some.first c.in-Some-2.second _ _ f g (sym c.in_ok-first.ensures.value ∙ c.in-Some.is)
-    (value_kept c.args.names.now c.args.bank.now c.value_under.new.bank c.in_ok-first.ensures.keeps c.args.bound.now c.requires.bound c.args.right
-    c.requires.right c.in_ok-second.field-0 c.in_ok-second.ensures.value ∙ c.in-Some-2.is)
+    (value_kept c.args.names.now s.bank t.bank (table_of s.cells.cells) c.requires.table c.value_under.ensures.keeps c.args.right c.requires.right.inside c.in_ok-second.field-0
+    (c.in_ok-second.ensures.value ∙ ap (λ u. value_of (operators_of c.args.names.now) (read_term t.bank (table_of u.cells).bound c.args.right)) c.value_under.ensures.cells) ∙ c.in-Some-2.is)

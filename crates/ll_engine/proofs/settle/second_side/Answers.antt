@@ -1,19 +1,27 @@
-use Rattle.std.proofs.Common.{ap, ◌∙◌, ◌∷◌}
+use Rattle.std.proofs.Common.{refl, ap, ◌∙◌, ◌∷◌}
 use Rattle.ll_agenda.specs.Frames.{items_at}
+use Rattle.ll_agenda.proofs.Lists.{Extends-trans}
 use Rattle.ll_freeze.specs.declared.machine.Item.TheVariants.{Goal, Mid}
+use Rattle.ll_freeze.specs.Parts.{parts_of}
+use Rattle.ll_engine.proofs.Keeping.{later_frames}
 use Rattle.ll_engine.proofs.Settling.{middle, middle_fits}
 use Rattle.ll_engine.proofs.settle.second_side.Goals as goal
 
 pub with_mid-requires : goal.with_mid-requires
-with_mid-requires c = let m = c.args.machine.now in middle_fits m c.args.saved (items_at m.agenda c.args.rest) c.requires.going c.requires.front
+with_mid-requires c = let m = parts_of c.args.machine.now in middle_fits m c.args.saved (items_at m.agenda c.args.rest) c.requires.going c.requires.front
 
-pub returns : goal.returns
-returns c =
-    let m = c.args.machine.now in let i = c.in-Some-Goal-default in let j = c.in-Some-WithEnd-default in
-    middle m c.with_mid.new.self c.push-2.new.self c.in_ok-machine.field-0 c.args.saved j.before j.field-0-0-1 c.in_ok-half.half i.goal (items_at m.agenda j.behind) c.requires.going
+pub returns-clause-reaches : goal.returns-clause-reaches
+returns-clause-reaches c =
+    let m = parts_of c.args.machine.now in let i = c.in-Some-Goal-default in let j = c.in-Some-WithEnd-default in
+    middle m c.with_mid.new.self.present c.push-2.new.self c.in_ok-machine.field-0 c.args.saved j.before j.field-0-0-1 c.in_ok-half.half i.goal (items_at m.agenda j.behind) c.requires.going
     (c.requires.front
     ∙ ap (λ xs. Mid c.args.saved ∷ xs)
     (i.ensures.some.list
     ∙ (ap (λ x. x ∷ items_at m.agenda i.after) i.field-0-0-is ∙ ap (λ ys. Goal i.goal ∷ ys) (j.ensures.some.list ∙ ap (λ x. x ∷ items_at m.agenda j.behind) j.field-0-0-is))))
     c.in_ok-half.ensures.number c.in_ok-half.ensures.settles c.in_ok-half.ensures.same c.in_ok-half.ensures.middle
     (c.in_ok-machine.ensures.list.list ∙ ap (λ xs. Goal i.goal ∷ xs) c.in_ok-end.ensures.list.list) c.in_ok-machine.ensures.list.inside
+
+pub returns-clause-later : goal.returns-clause-later
+returns-clause-later c =
+    let e = Extends-trans c.push.ensures.keeps c.push-2.ensures.keeps in
+    later_frames c.args.machine.now _ refl refl refl c.with_mid.ensures.marks e.more e.frames refl refl

@@ -1,19 +1,33 @@
-use Rattle.std.proofs.Common.{rules, sym, subst, List}
+use Rattle.std.proofs.Common.{rules, refl, sym, subst, ◌∙◌, List, ◌∷◌, [], ◌++◌}
+use Rattle.std.proofs.lemmas.List.Elements.{All-push, All-weaker}
+use Rattle.ll_freeze.specs.Parts.{parts_of, parts_at, IsGood, IsBefore}
 use Rattle.ll_engine.specs.declared.spine.Kept.{Kept}
-use Rattle.ll_engine.specs.Pointed.{Puts, KeepsKept}
-use Rattle.ll_engine.proofs.Pointing.{puts_some, keeps_some, some_left}
+use Rattle.ll_engine.specs.Pointed.{Held, Puts, KeepsKept, AreMarks, helds, held_of}
+use Rattle.ll_engine.proofs.Pointing.{puts_some, keeps_some, some_left, helds_push, rises_push}
 use Rattle.ll_engine.proofs.spine.keep.Goals as goal
 
 pub returns-clause-puts : goal.returns-clause-puts
 returns-clause-puts c =
-    let k : Kept = record { machine = c.in_ok-machine.machine; untried = c.args.untried } in
-    subst (λ (qs : List Kept). Puts c.args.machine.now c.args.untried.items c.args.points.now.items qs) (sym c.in_ok-push_back.ensures.items)
-    (puts_some c.args.machine.now c.args.points.now.items k c.in_ok-machine.ensures
+    let m = c.args.machine.now in let k : Kept = record { mark = c.mark.result; untried = c.args.untried } in
+    subst (λ (qs : List Held). Puts (parts_of m) c.args.untried.items (helds m c.args.points.now.items) qs)
+    (sym (Rattle.std.proofs.Common.ap (λ ks. helds m ks) c.in_ok-push_back.ensures.items ∙ helds_push m c.args.points.now.items k))
+    (puts_some (parts_of m) (helds m c.args.points.now.items) (held_of m k) c.mark.ensures.parts
     (some_left c.args.untried.items c.args.untried.len c.is_empty.result c.is_empty.ensures (search rules) c.args.untried.ok.0))
 
 pub returns-clause-kept : goal.returns-clause-kept
 returns-clause-kept c =
-    let k : Kept = record { machine = c.in_ok-machine.machine; untried = c.args.untried } in
-    subst (λ (qs : List Kept). KeepsKept c.args.machine.now c.args.untried.items c.args.points.now.items qs) (sym c.in_ok-push_back.ensures.items)
-    (keeps_some c.args.machine.now c.args.points.now.items k c.in_ok-machine.ensures
+    let m = c.args.machine.now in let k : Kept = record { mark = c.mark.result; untried = c.args.untried } in
+    subst (λ (qs : List Held). KeepsKept (parts_of m) c.args.untried.items (helds m c.args.points.now.items) qs)
+    (sym (Rattle.std.proofs.Common.ap (λ ks. helds m ks) c.in_ok-push_back.ensures.items ∙ helds_push m c.args.points.now.items k))
+    (keeps_some (parts_of m) (helds m c.args.points.now.items) (held_of m k) c.mark.ensures.parts
     (some_left c.args.untried.items c.args.untried.len c.is_empty.result c.is_empty.ensures (search rules) c.args.untried.ok.0))
+
+pub returns-clause-marks : goal.returns-clause-marks
+returns-clause-marks c =
+    let m = c.args.machine.now in let k : Kept = record { mark = c.mark.result; untried = c.args.untried } in
+    let ps = c.args.points.now.items in let a = c.requires.marks in
+    subst (λ (qs : List Kept). AreMarks m qs) (sym c.in_ok-push_back.ensures.items)
+    (record {
+      good = All-push (λ (j : Kept). IsGood j.mark m) ps k a.good c.mark.ensures.good;
+      rise = rises_push ps k a.rise (All-weaker (λ (j : Kept). IsGood j.mark m) (λ (j : Kept). IsBefore j.mark k.mark) (λ j g. c.mark.ensures.last j.mark g) ps a.good);
+    })

@@ -1,21 +1,23 @@
-use Rattle.std.proofs.Common.{◌-◌, ◌<◌, List, length, All, refl, ap, sym, subst, ◌∙◌, arith}
-use Rattle.std.specs.Prelude.{Option}
-use Rattle.ll_bank.specs.declared.At.{At}
-use Rattle.ll_bank.specs.Nodes.{term_trees}
-use Rattle.ll_bank.proofs.Trees.{HasTerm-extends}
+use Rattle.std.proofs.Common.{◌-◌, [], true, false, refl, ap, sym, subst, ◌∙◌, arith}
+use Rattle.std.proofs.lemmas.List.{append-nil}
+use Rattle.ll_bank.specs.Nodes.{Nodes}
 use Rattle.ll_laws.specs.Attempt.{vars_from}
+use Rattle.ll_bindings.specs.Bindings.{IsTable, IsPlaceOf}
+use Rattle.ll_store.specs.Tables.{table_of}
 use Rattle.ll_resources.specs.Seen.{resource}
-use Rattle.ll_freeze.specs.Reading.{HasValue}
 use Rattle.ll_freeze.specs.Fits.{allowed}
-use Rattle.ll_engine.proofs.ReadLemmas.{values_extend}
-use Rattle.ll_engine.proofs.TakingLemmas.{variable_count, clause_inside, clause_sorted, count_is, levels_grown, levels_count, Finds, atom_fits, head_fits, none_taken, some_taken}
+use Rattle.ll_freeze.specs.Parts.{parts_of}
+use Rattle.ll_freeze.proofs.Marks.{store_then, context_same}
+use Rattle.ll_engine.proofs.ReadLemmas.{cells_bound, cells_levels}
+use Rattle.ll_engine.proofs.Keeping.{store_extends, later_of}
+use Rattle.ll_engine.proofs.TakingLemmas.{variable_count, clause_inside, clause_sorted, count_is, finds_in, start_table, atom_place, head_place, none_taken, some_taken}
 use Rattle.ll_engine.proofs.take.take_leaf_of.Goals as goal
 
 pub open_leaf-requires-clause-inside : goal.open_leaf-requires-clause-inside
-open_leaf-requires-clause-inside c = clause_inside c.args.machine.now c.requires.fits c.args.candidate.label (resource c.args.entry) c.requires.found
+open_leaf-requires-clause-inside c = clause_inside (parts_of c.args.machine.now) c.requires.fits c.args.candidate.label (resource c.args.entry) c.requires.found
 
 pub open_leaf-requires-clause-clause : goal.open_leaf-requires-clause-clause
-open_leaf-requires-clause-clause c = (allowed c.args.machine.now, clause_sorted c.args.machine.now c.requires.fits c.args.candidate.label (resource c.args.entry) c.requires.found)
+open_leaf-requires-clause-clause c = (allowed (parts_of c.args.machine.now), clause_sorted (parts_of c.args.machine.now) c.requires.fits c.args.candidate.label (resource c.args.entry) c.requires.found)
 
 pub open_leaf-requires-clause-top : goal.open_leaf-requires-clause-top
 open_leaf-requires-clause-top c = c.requires.front.behind
@@ -24,48 +26,19 @@ pub open_leaf-requires-clause-terms : goal.open_leaf-requires-clause-terms
 open_leaf-requires-clause-terms c = c.requires.fits.terms
 
 pub open_leaf-requires-clause-variables : goal.open_leaf-requires-clause-variables
-open_leaf-requires-clause-variables c = c.requires.fits.variables ∙ ap (vars_from 0) (sym (variable_count c.args.machine.now c.requires.fits))
+open_leaf-requires-clause-variables c = c.requires.fits.variables ∙ ap (vars_from 0) (sym (variable_count (parts_of c.args.machine.now) c.requires.fits))
 
 pub overflow_sub-count : goal.overflow_sub-count
-overflow_sub-count c = let n = count_is c.args.machine.now c.requires.fits c.args.candidate.label (resource c.args.entry) c.requires.found c.args.rest c.args.candidate.leaf c.open_leaf.new.bank c.open_leaf.new.agenda c.open_leaf.new.terms.items c.in_ok-opened.opened.head c.in_ok-opened.opened.top c.in_ok-opened.ensures.keeps c.in_ok-opened.ensures.opened in omega arith
+overflow_sub-count c = let n = count_is (parts_of c.args.machine.now) c.requires.fits c.args.candidate.label (resource c.args.entry) c.requires.found c.args.rest c.args.candidate.leaf c.open_leaf.new.bank c.open_leaf.new.agenda c.open_leaf.new.terms.items c.in_ok-opened.opened.head c.in_ok-opened.opened.top c.in_ok-opened.ensures.keeps c.in_ok-opened.ensures.opened in omega arith
 
-pub unify_under-requires-clause-bound : goal.unify_under-requires-clause-bound
-unify_under-requires-clause-bound c =
-    subst (All (HasValue c.open_leaf.new.bank)) (sym c.deref.ensures.value) (values_extend c.args.machine.now.bank c.open_leaf.new.bank c.in_ok-opened.ensures.keeps c.args.machine.now.bound.items c.requires.fits.bound)
+pub unify_under-requires-clause-table : goal.unify_under-requires-clause-table
+unify_under-requires-clause-table c = subst (λ (b : Nodes). IsTable b (table_of c.add_cells.new.store.cells.cells)) (sym c.add_cells.ensures.bank) (start_table (parts_of c.args.machine.now) c.requires.fits c.args.candidate.label (resource c.args.entry) c.requires.found c.args.rest c.args.candidate.leaf c.open_leaf.new.bank c.open_leaf.new.agenda c.open_leaf.new.terms.items c.in_ok-opened.opened.head c.in_ok-opened.opened.top c.in_ok-opened.ensures.keeps c.in_ok-opened.ensures.opened c.args.atom c.requires.front (table_of c.add_cells.new.store.cells.cells) (cells_bound c.args.machine.now.store.cells.cells c.add_cells.new.store.cells.cells (c.len.result - c.len-before.result) c.in_ok-opened.ensures.opened.count c.args.machine.now.eigens c.in_ok-add_cells.ensures.cells (let n = count_is (parts_of c.args.machine.now) c.requires.fits c.args.candidate.label (resource c.args.entry) c.requires.found c.args.rest c.args.candidate.leaf c.open_leaf.new.bank c.open_leaf.new.agenda c.open_leaf.new.terms.items c.in_ok-opened.opened.head c.in_ok-opened.opened.top c.in_ok-opened.ensures.keeps c.in_ok-opened.ensures.opened in let a = c.len.ensures in let b = c.len-before.ensures in omega arith)) (cells_levels c.args.machine.now.store.cells.cells c.add_cells.new.store.cells.cells (c.len.result - c.len-before.result) c.in_ok-opened.ensures.opened.count c.args.machine.now.eigens c.in_ok-add_cells.ensures.cells (let n = count_is (parts_of c.args.machine.now) c.requires.fits c.args.candidate.label (resource c.args.entry) c.requires.found c.args.rest c.args.candidate.leaf c.open_leaf.new.bank c.open_leaf.new.agenda c.open_leaf.new.terms.items c.in_ok-opened.opened.head c.in_ok-opened.opened.top c.in_ok-opened.ensures.keeps c.in_ok-opened.ensures.opened in let a = c.len.ensures in let b = c.len-before.ensures in omega arith)))
 
-pub unify_under-requires-clause-terms : goal.unify_under-requires-clause-terms
-unify_under-requires-clause-terms c =
-    subst (λ (ats : List At). All (λ (a : At). a.0 < length c.open_leaf.new.bank.terms) ats) (sym c.deref-2.ensures.value) c.in_ok-opened.ensures.opened.terms_inside
+pub unify_under-requires-clause-left : goal.unify_under-requires-clause-left
+unify_under-requires-clause-left c = subst (λ (b : Nodes). IsPlaceOf b (table_of c.add_cells.new.store.cells.cells) c.args.atom.0) (sym c.add_cells.ensures.bank) (atom_place (parts_of c.args.machine.now) c.requires.fits c.args.candidate.label (resource c.args.entry) c.requires.found c.args.rest c.args.candidate.leaf c.open_leaf.new.bank c.open_leaf.new.agenda c.open_leaf.new.terms.items c.in_ok-opened.opened.head c.in_ok-opened.opened.top c.in_ok-opened.ensures.keeps c.in_ok-opened.ensures.opened c.args.atom c.requires.front (table_of c.add_cells.new.store.cells.cells) (cells_bound c.args.machine.now.store.cells.cells c.add_cells.new.store.cells.cells (c.len.result - c.len-before.result) c.in_ok-opened.ensures.opened.count c.args.machine.now.eigens c.in_ok-add_cells.ensures.cells (let n = count_is (parts_of c.args.machine.now) c.requires.fits c.args.candidate.label (resource c.args.entry) c.requires.found c.args.rest c.args.candidate.leaf c.open_leaf.new.bank c.open_leaf.new.agenda c.open_leaf.new.terms.items c.in_ok-opened.opened.head c.in_ok-opened.opened.top c.in_ok-opened.ensures.keeps c.in_ok-opened.ensures.opened in let a = c.len.ensures in let b = c.len-before.ensures in omega arith)) (cells_levels c.args.machine.now.store.cells.cells c.add_cells.new.store.cells.cells (c.len.result - c.len-before.result) c.in_ok-opened.ensures.opened.count c.args.machine.now.eigens c.in_ok-add_cells.ensures.cells (let n = count_is (parts_of c.args.machine.now) c.requires.fits c.args.candidate.label (resource c.args.entry) c.requires.found c.args.rest c.args.candidate.leaf c.open_leaf.new.bank c.open_leaf.new.agenda c.open_leaf.new.terms.items c.in_ok-opened.opened.head c.in_ok-opened.opened.top c.in_ok-opened.ensures.keeps c.in_ok-opened.ensures.opened in let a = c.len.ensures in let b = c.len-before.ensures in omega arith)))
 
-pub unify_under-requires-clause-variables : goal.unify_under-requires-clause-variables
-unify_under-requires-clause-variables c =
-    ap (term_trees c.open_leaf.new.bank) c.deref-2.ensures.value
-    ∙ (c.in_ok-opened.ensures.opened.variables
-    ∙ ap (vars_from 0) (let n = levels_count c.args.machine.now c.requires.fits c.args.candidate.label (resource c.args.entry) c.requires.found c.args.rest c.args.candidate.leaf c.open_leaf.new.bank c.open_leaf.new.agenda c.open_leaf.new.terms.items c.in_ok-opened.opened.head c.in_ok-opened.opened.top c.in_ok-opened.ensures.keeps c.in_ok-opened.ensures.opened c.deref-3.result.now (levels_grown c.args.machine.now c.requires.fits c.args.candidate.label (resource c.args.entry) c.requires.found c.args.rest c.args.candidate.leaf c.open_leaf.new.bank c.open_leaf.new.agenda c.open_leaf.new.terms.items c.in_ok-opened.opened.head c.in_ok-opened.opened.top c.in_ok-opened.ensures.keeps c.in_ok-opened.ensures.opened c.deref-3.result.now (c.len.result - c.len-before.result) (let n = count_is c.args.machine.now c.requires.fits c.args.candidate.label (resource c.args.entry) c.requires.found c.args.rest c.args.candidate.leaf c.open_leaf.new.bank c.open_leaf.new.agenda c.open_leaf.new.terms.items c.in_ok-opened.opened.head c.in_ok-opened.opened.top c.in_ok-opened.ensures.keeps c.in_ok-opened.ensures.opened in let a = c.len.ensures in let b = c.len-before.ensures in omega arith) (c.deref-3.ensures.value ∙ c.in_ok-add_levels.ensures)) in omega arith))
-
-pub unify_under-requires-clause-bound_count : goal.unify_under-requires-clause-bound_count
-unify_under-requires-clause-bound_count c =
-    let a = ap (λ (xs : List (Option At)). length xs) c.deref.ensures.value in
-    let n = levels_count c.args.machine.now c.requires.fits c.args.candidate.label (resource c.args.entry) c.requires.found c.args.rest c.args.candidate.leaf c.open_leaf.new.bank c.open_leaf.new.agenda c.open_leaf.new.terms.items c.in_ok-opened.opened.head c.in_ok-opened.opened.top c.in_ok-opened.ensures.keeps c.in_ok-opened.ensures.opened c.deref-3.result.now (levels_grown c.args.machine.now c.requires.fits c.args.candidate.label (resource c.args.entry) c.requires.found c.args.rest c.args.candidate.leaf c.open_leaf.new.bank c.open_leaf.new.agenda c.open_leaf.new.terms.items c.in_ok-opened.opened.head c.in_ok-opened.opened.top c.in_ok-opened.ensures.keeps c.in_ok-opened.ensures.opened c.deref-3.result.now (c.len.result - c.len-before.result) (let n = count_is c.args.machine.now c.requires.fits c.args.candidate.label (resource c.args.entry) c.requires.found c.args.rest c.args.candidate.leaf c.open_leaf.new.bank c.open_leaf.new.agenda c.open_leaf.new.terms.items c.in_ok-opened.opened.head c.in_ok-opened.opened.top c.in_ok-opened.ensures.keeps c.in_ok-opened.ensures.opened in let a = c.len.ensures in let b = c.len-before.ensures in omega arith) (c.deref-3.ensures.value ∙ c.in_ok-add_levels.ensures)) in
-    let b = c.requires.fits.count in
-    let d = variable_count c.args.machine.now c.requires.fits in omega arith
-
-pub unify_under-requires-clause-atom : goal.unify_under-requires-clause-atom
-unify_under-requires-clause-atom c = HasTerm-extends c.in_ok-opened.ensures.keeps c.args.atom.0 c.requires.front.seen.parts
-
-pub unify_under-requires-clause-head : goal.unify_under-requires-clause-head
-unify_under-requires-clause-head c = c.in_ok-opened.ensures.opened.inside
-
-pub unify_under-requires-clause-atom_levels : goal.unify_under-requires-clause-atom_levels
-unify_under-requires-clause-atom_levels c = atom_fits c.args.machine.now c.requires.fits c.args.candidate.label (resource c.args.entry) c.requires.found c.args.rest c.args.candidate.leaf c.open_leaf.new.bank c.open_leaf.new.agenda c.open_leaf.new.terms.items c.in_ok-opened.opened.head c.in_ok-opened.opened.top c.in_ok-opened.ensures.keeps c.in_ok-opened.ensures.opened c.args.atom c.requires.front c.open_leaf.new.bank c.deref.result.now c.deref-3.result.now c.deref.ensures.value (levels_grown c.args.machine.now c.requires.fits c.args.candidate.label (resource c.args.entry) c.requires.found c.args.rest c.args.candidate.leaf c.open_leaf.new.bank c.open_leaf.new.agenda c.open_leaf.new.terms.items c.in_ok-opened.opened.head c.in_ok-opened.opened.top c.in_ok-opened.ensures.keeps c.in_ok-opened.ensures.opened c.deref-3.result.now (c.len.result - c.len-before.result) (let n = count_is c.args.machine.now c.requires.fits c.args.candidate.label (resource c.args.entry) c.requires.found c.args.rest c.args.candidate.leaf c.open_leaf.new.bank c.open_leaf.new.agenda c.open_leaf.new.terms.items c.in_ok-opened.opened.head c.in_ok-opened.opened.top c.in_ok-opened.ensures.keeps c.in_ok-opened.ensures.opened in let a = c.len.ensures in let b = c.len-before.ensures in omega arith) (c.deref-3.ensures.value ∙ c.in_ok-add_levels.ensures))
-
-pub unify_under-requires-clause-head_levels : goal.unify_under-requires-clause-head_levels
-unify_under-requires-clause-head_levels c = head_fits c.args.machine.now c.requires.fits c.args.candidate.label (resource c.args.entry) c.requires.found c.args.rest c.args.candidate.leaf c.open_leaf.new.bank c.open_leaf.new.agenda c.open_leaf.new.terms.items c.in_ok-opened.opened.head c.in_ok-opened.opened.top c.in_ok-opened.ensures.keeps c.in_ok-opened.ensures.opened c.args.atom c.requires.front c.open_leaf.new.bank c.deref.result.now c.deref-3.result.now c.deref.ensures.value (levels_grown c.args.machine.now c.requires.fits c.args.candidate.label (resource c.args.entry) c.requires.found c.args.rest c.args.candidate.leaf c.open_leaf.new.bank c.open_leaf.new.agenda c.open_leaf.new.terms.items c.in_ok-opened.opened.head c.in_ok-opened.opened.top c.in_ok-opened.ensures.keeps c.in_ok-opened.ensures.opened c.deref-3.result.now (c.len.result - c.len-before.result) (let n = count_is c.args.machine.now c.requires.fits c.args.candidate.label (resource c.args.entry) c.requires.found c.args.rest c.args.candidate.leaf c.open_leaf.new.bank c.open_leaf.new.agenda c.open_leaf.new.terms.items c.in_ok-opened.opened.head c.in_ok-opened.opened.top c.in_ok-opened.ensures.keeps c.in_ok-opened.ensures.opened in let a = c.len.ensures in let b = c.len-before.ensures in omega arith) (c.deref-3.ensures.value ∙ c.in_ok-add_levels.ensures))
-
-pub returns-in_default : goal.returns-in_default
-returns-in_default c =
-    none_taken c.args.machine.now c.requires.fits c.args.candidate.label (resource c.args.entry) c.requires.found c.args.rest c.args.candidate.leaf c.open_leaf.new.bank c.open_leaf.new.agenda c.open_leaf.new.terms.items c.in_ok-opened.opened.head c.in_ok-opened.opened.top c.in_ok-opened.ensures.keeps c.in_ok-opened.ensures.opened c.args.atom c.requires.front c.unify_under.new.bank c.deref.result.now c.deref-3.result.now c.deref.ensures.value (levels_grown c.args.machine.now c.requires.fits c.args.candidate.label (resource c.args.entry) c.requires.found c.args.rest c.args.candidate.leaf c.open_leaf.new.bank c.open_leaf.new.agenda c.open_leaf.new.terms.items c.in_ok-opened.opened.head c.in_ok-opened.opened.top c.in_ok-opened.ensures.keeps c.in_ok-opened.ensures.opened c.deref-3.result.now (c.len.result - c.len-before.result) (let n = count_is c.args.machine.now c.requires.fits c.args.candidate.label (resource c.args.entry) c.requires.found c.args.rest c.args.candidate.leaf c.open_leaf.new.bank c.open_leaf.new.agenda c.open_leaf.new.terms.items c.in_ok-opened.opened.head c.in_ok-opened.opened.top c.in_ok-opened.ensures.keeps c.in_ok-opened.ensures.opened in let a = c.len.ensures in let b = c.len-before.ensures in omega arith) (c.deref-3.ensures.value ∙ c.in_ok-add_levels.ensures))
-    (subst (λ u. Finds c.args.machine.now c.requires.fits c.args.candidate.label (resource c.args.entry) c.requires.found c.args.rest c.args.candidate.leaf c.open_leaf.new.bank c.open_leaf.new.agenda c.open_leaf.new.terms.items c.in_ok-opened.opened.head c.in_ok-opened.opened.top c.in_ok-opened.ensures.keeps c.in_ok-opened.ensures.opened c.args.atom c.requires.front c.unify_under.new.bank c.deref.result.now c.deref-3.result.now c.deref.ensures.value (levels_grown c.args.machine.now c.requires.fits c.args.candidate.label (resource c.args.entry) c.requires.found c.args.rest c.args.candidate.leaf c.open_leaf.new.bank c.open_leaf.new.agenda c.open_leaf.new.terms.items c.in_ok-opened.opened.head c.in_ok-opened.opened.top c.in_ok-opened.ensures.keeps c.in_ok-opened.ensures.opened c.deref-3.result.now (c.len.result - c.len-before.result) (let n = count_is c.args.machine.now c.requires.fits c.args.candidate.label (resource c.args.entry) c.requires.found c.args.rest c.args.candidate.leaf c.open_leaf.new.bank c.open_leaf.new.agenda c.open_leaf.new.terms.items c.in_ok-opened.opened.head c.in_ok-opened.opened.top c.in_ok-opened.ensures.keeps c.in_ok-opened.ensures.opened in let a = c.len.ensures in let b = c.len-before.ensures in omega arith) (c.deref-3.ensures.value ∙ c.in_ok-add_levels.ensures)) u) c.in_default.is c.in_ok-found.ensures.found)
+pub unify_under-requires-clause-right : goal.unify_under-requires-clause-right
+unify_under-requires-clause-right c = subst (λ (b : Nodes). IsPlaceOf b (table_of c.add_cells.new.store.cells.cells) c.in_ok-opened.opened.head.0) (sym c.add_cells.ensures.bank) (head_place (parts_of c.args.machine.now) c.requires.fits c.args.candidate.label (resource c.args.entry) c.requires.found c.args.rest c.args.candidate.leaf c.open_leaf.new.bank c.open_leaf.new.agenda c.open_leaf.new.terms.items c.in_ok-opened.opened.head c.in_ok-opened.opened.top c.in_ok-opened.ensures.keeps c.in_ok-opened.ensures.opened c.args.atom c.requires.front (table_of c.add_cells.new.store.cells.cells) (cells_bound c.args.machine.now.store.cells.cells c.add_cells.new.store.cells.cells (c.len.result - c.len-before.result) c.in_ok-opened.ensures.opened.count c.args.machine.now.eigens c.in_ok-add_cells.ensures.cells (let n = count_is (parts_of c.args.machine.now) c.requires.fits c.args.candidate.label (resource c.args.entry) c.requires.found c.args.rest c.args.candidate.leaf c.open_leaf.new.bank c.open_leaf.new.agenda c.open_leaf.new.terms.items c.in_ok-opened.opened.head c.in_ok-opened.opened.top c.in_ok-opened.ensures.keeps c.in_ok-opened.ensures.opened in let a = c.len.ensures in let b = c.len-before.ensures in omega arith)) (cells_levels c.args.machine.now.store.cells.cells c.add_cells.new.store.cells.cells (c.len.result - c.len-before.result) c.in_ok-opened.ensures.opened.count c.args.machine.now.eigens c.in_ok-add_cells.ensures.cells (let n = count_is (parts_of c.args.machine.now) c.requires.fits c.args.candidate.label (resource c.args.entry) c.requires.found c.args.rest c.args.candidate.leaf c.open_leaf.new.bank c.open_leaf.new.agenda c.open_leaf.new.terms.items c.in_ok-opened.opened.head c.in_ok-opened.opened.top c.in_ok-opened.ensures.keeps c.in_ok-opened.ensures.opened in let a = c.len.ensures in let b = c.len-before.ensures in omega arith)))
 
 pub use_entry-requires : goal.use_entry-requires
 use_entry-requires c = c.requires.found
@@ -73,17 +46,26 @@ use_entry-requires c = c.requires.found
 pub overflow_sub-machine : goal.overflow_sub-machine
 overflow_sub-machine c = let l = c.requires.left in omega arith
 
-pub returns : goal.returns
-returns c =
-    some_taken c.args.machine.now c.requires.fits c.args.candidate.label (resource c.args.entry) c.requires.found c.args.rest c.args.candidate.leaf c.open_leaf.new.bank c.open_leaf.new.agenda c.open_leaf.new.terms.items c.in_ok-opened.opened.head c.in_ok-opened.opened.top c.in_ok-opened.ensures.keeps c.in_ok-opened.ensures.opened c.args.atom c.requires.front c.unify_under.new.bank c.deref.result.now c.deref-3.result.now c.deref.ensures.value (levels_grown c.args.machine.now c.requires.fits c.args.candidate.label (resource c.args.entry) c.requires.found c.args.rest c.args.candidate.leaf c.open_leaf.new.bank c.open_leaf.new.agenda c.open_leaf.new.terms.items c.in_ok-opened.opened.head c.in_ok-opened.opened.top c.in_ok-opened.ensures.keeps c.in_ok-opened.ensures.opened c.deref-3.result.now (c.len.result - c.len-before.result) (let n = count_is c.args.machine.now c.requires.fits c.args.candidate.label (resource c.args.entry) c.requires.found c.args.rest c.args.candidate.leaf c.open_leaf.new.bank c.open_leaf.new.agenda c.open_leaf.new.terms.items c.in_ok-opened.opened.head c.in_ok-opened.opened.top c.in_ok-opened.ensures.keeps c.in_ok-opened.ensures.opened in let a = c.len.ensures in let b = c.len-before.ensures in omega arith) (c.deref-3.ensures.value ∙ c.in_ok-add_levels.ensures))
-    c.in-Some.unified _ c.in_ok-found.ensures.keeps
+pub returns-then-not-branch-clause-attempts : goal.returns-then-not-branch-clause-attempts
+returns-then-not-branch-clause-attempts c =
+    none_taken (parts_of c.args.machine.now) c.requires.fits c.args.candidate.label (resource c.args.entry) c.requires.found c.args.rest c.args.candidate.leaf c.open_leaf.new.bank c.open_leaf.new.agenda c.open_leaf.new.terms.items c.in_ok-opened.opened.head c.in_ok-opened.opened.top c.in_ok-opened.ensures.keeps c.in_ok-opened.ensures.opened c.args.atom c.requires.front (table_of c.add_cells.new.store.cells.cells) (cells_bound c.args.machine.now.store.cells.cells c.add_cells.new.store.cells.cells (c.len.result - c.len-before.result) c.in_ok-opened.ensures.opened.count c.args.machine.now.eigens c.in_ok-add_cells.ensures.cells (let n = count_is (parts_of c.args.machine.now) c.requires.fits c.args.candidate.label (resource c.args.entry) c.requires.found c.args.rest c.args.candidate.leaf c.open_leaf.new.bank c.open_leaf.new.agenda c.open_leaf.new.terms.items c.in_ok-opened.opened.head c.in_ok-opened.opened.top c.in_ok-opened.ensures.keeps c.in_ok-opened.ensures.opened in let a = c.len.ensures in let b = c.len-before.ensures in omega arith)) (cells_levels c.args.machine.now.store.cells.cells c.add_cells.new.store.cells.cells (c.len.result - c.len-before.result) c.in_ok-opened.ensures.opened.count c.args.machine.now.eigens c.in_ok-add_cells.ensures.cells (let n = count_is (parts_of c.args.machine.now) c.requires.fits c.args.candidate.label (resource c.args.entry) c.requires.found c.args.rest c.args.candidate.leaf c.open_leaf.new.bank c.open_leaf.new.agenda c.open_leaf.new.terms.items c.in_ok-opened.opened.head c.in_ok-opened.opened.top c.in_ok-opened.ensures.keeps c.in_ok-opened.ensures.opened in let a = c.len.ensures in let b = c.len-before.ensures in omega arith)) (table_of c.unify_under.new.store.cells.cells)
+    (finds_in (parts_of c.args.machine.now) c.requires.fits c.args.candidate.label (resource c.args.entry) c.requires.found c.args.rest c.args.candidate.leaf c.open_leaf.new.bank c.open_leaf.new.agenda c.open_leaf.new.terms.items c.in_ok-opened.opened.head c.in_ok-opened.opened.top c.in_ok-opened.ensures.keeps c.in_ok-opened.ensures.opened c.args.atom c.requires.front (table_of c.add_cells.new.store.cells.cells) (cells_bound c.args.machine.now.store.cells.cells c.add_cells.new.store.cells.cells (c.len.result - c.len-before.result) c.in_ok-opened.ensures.opened.count c.args.machine.now.eigens c.in_ok-add_cells.ensures.cells (let n = count_is (parts_of c.args.machine.now) c.requires.fits c.args.candidate.label (resource c.args.entry) c.requires.found c.args.rest c.args.candidate.leaf c.open_leaf.new.bank c.open_leaf.new.agenda c.open_leaf.new.terms.items c.in_ok-opened.opened.head c.in_ok-opened.opened.top c.in_ok-opened.ensures.keeps c.in_ok-opened.ensures.opened in let a = c.len.ensures in let b = c.len-before.ensures in omega arith)) (cells_levels c.args.machine.now.store.cells.cells c.add_cells.new.store.cells.cells (c.len.result - c.len-before.result) c.in_ok-opened.ensures.opened.count c.args.machine.now.eigens c.in_ok-add_cells.ensures.cells (let n = count_is (parts_of c.args.machine.now) c.requires.fits c.args.candidate.label (resource c.args.entry) c.requires.found c.args.rest c.args.candidate.leaf c.open_leaf.new.bank c.open_leaf.new.agenda c.open_leaf.new.terms.items c.in_ok-opened.opened.head c.in_ok-opened.opened.top c.in_ok-opened.ensures.keeps c.in_ok-opened.ensures.opened in let a = c.len.ensures in let b = c.len-before.ensures in omega arith)) c.add_cells.new.store.bank (table_of c.unify_under.new.store.cells.cells) c.in_ok-unify_under.field-0 false c.add_cells.ensures.bank (c.if-not-branch.true) c.in_ok-unify_under.ensures.found)
+
+pub returns-then-not-branch-clause-later : goal.returns-then-not-branch-clause-later
+returns-then-not-branch-clause-later c =
+    let m = c.args.machine.now in let e = c.in_ok-opened.ensures.frames in let t = c.in_ok-opened.ensures.more in
+    later_of m _ refl refl (store_then _ _ _ (store_then _ _ _ (store_extends m.store (record (m.store) { bank = c.open_leaf.new.bank }) c.in_ok-opened.ensures.keeps refl) c.add_cells.ensures.marks) c.unify_under.ensures.marks) (context_same m.context) e.more e.frames t.more t.is [] (sym (append-nil m.steps.items))
+
+pub returns-clause-attempts : goal.returns-clause-attempts
+returns-clause-attempts c =
+    some_taken (parts_of c.args.machine.now) c.requires.fits c.args.candidate.label (resource c.args.entry) c.requires.found c.args.rest c.args.candidate.leaf c.open_leaf.new.bank c.open_leaf.new.agenda c.open_leaf.new.terms.items c.in_ok-opened.opened.head c.in_ok-opened.opened.top c.in_ok-opened.ensures.keeps c.in_ok-opened.ensures.opened c.args.atom c.requires.front (table_of c.add_cells.new.store.cells.cells) (cells_bound c.args.machine.now.store.cells.cells c.add_cells.new.store.cells.cells (c.len.result - c.len-before.result) c.in_ok-opened.ensures.opened.count c.args.machine.now.eigens c.in_ok-add_cells.ensures.cells (let n = count_is (parts_of c.args.machine.now) c.requires.fits c.args.candidate.label (resource c.args.entry) c.requires.found c.args.rest c.args.candidate.leaf c.open_leaf.new.bank c.open_leaf.new.agenda c.open_leaf.new.terms.items c.in_ok-opened.opened.head c.in_ok-opened.opened.top c.in_ok-opened.ensures.keeps c.in_ok-opened.ensures.opened in let a = c.len.ensures in let b = c.len-before.ensures in omega arith)) (cells_levels c.args.machine.now.store.cells.cells c.add_cells.new.store.cells.cells (c.len.result - c.len-before.result) c.in_ok-opened.ensures.opened.count c.args.machine.now.eigens c.in_ok-add_cells.ensures.cells (let n = count_is (parts_of c.args.machine.now) c.requires.fits c.args.candidate.label (resource c.args.entry) c.requires.found c.args.rest c.args.candidate.leaf c.open_leaf.new.bank c.open_leaf.new.agenda c.open_leaf.new.terms.items c.in_ok-opened.opened.head c.in_ok-opened.opened.top c.in_ok-opened.ensures.keeps c.in_ok-opened.ensures.opened in let a = c.len.ensures in let b = c.len-before.ensures in omega arith)) (table_of c.unify_under.new.store.cells.cells) _
     (record {
       problem = refl;
       modules = refl;
-      bank = refl;
+      bank = c.unify_under.ensures.bank ∙ c.add_cells.ensures.bank;
       bound_new = refl;
       levels_new = refl;
-      context = c.in_ok-use_entry.ensures;
+      resources = c.in_ok-use_entry.ensures.used;
       agenda = refl;
       top_new = refl;
       terms_new = refl;
@@ -91,4 +73,9 @@ returns c =
       steps = c.in_ok-push.ensures.items;
       left = (let l = c.requires.left in omega arith);
     })
-    (subst (λ u. Finds c.args.machine.now c.requires.fits c.args.candidate.label (resource c.args.entry) c.requires.found c.args.rest c.args.candidate.leaf c.open_leaf.new.bank c.open_leaf.new.agenda c.open_leaf.new.terms.items c.in_ok-opened.opened.head c.in_ok-opened.opened.top c.in_ok-opened.ensures.keeps c.in_ok-opened.ensures.opened c.args.atom c.requires.front c.unify_under.new.bank c.deref.result.now c.deref-3.result.now c.deref.ensures.value (levels_grown c.args.machine.now c.requires.fits c.args.candidate.label (resource c.args.entry) c.requires.found c.args.rest c.args.candidate.leaf c.open_leaf.new.bank c.open_leaf.new.agenda c.open_leaf.new.terms.items c.in_ok-opened.opened.head c.in_ok-opened.opened.top c.in_ok-opened.ensures.keeps c.in_ok-opened.ensures.opened c.deref-3.result.now (c.len.result - c.len-before.result) (let n = count_is c.args.machine.now c.requires.fits c.args.candidate.label (resource c.args.entry) c.requires.found c.args.rest c.args.candidate.leaf c.open_leaf.new.bank c.open_leaf.new.agenda c.open_leaf.new.terms.items c.in_ok-opened.opened.head c.in_ok-opened.opened.top c.in_ok-opened.ensures.keeps c.in_ok-opened.ensures.opened in let a = c.len.ensures in let b = c.len-before.ensures in omega arith) (c.deref-3.ensures.value ∙ c.in_ok-add_levels.ensures)) u) c.in-Some.is c.in_ok-found.ensures.found)
+    (finds_in (parts_of c.args.machine.now) c.requires.fits c.args.candidate.label (resource c.args.entry) c.requires.found c.args.rest c.args.candidate.leaf c.open_leaf.new.bank c.open_leaf.new.agenda c.open_leaf.new.terms.items c.in_ok-opened.opened.head c.in_ok-opened.opened.top c.in_ok-opened.ensures.keeps c.in_ok-opened.ensures.opened c.args.atom c.requires.front (table_of c.add_cells.new.store.cells.cells) (cells_bound c.args.machine.now.store.cells.cells c.add_cells.new.store.cells.cells (c.len.result - c.len-before.result) c.in_ok-opened.ensures.opened.count c.args.machine.now.eigens c.in_ok-add_cells.ensures.cells (let n = count_is (parts_of c.args.machine.now) c.requires.fits c.args.candidate.label (resource c.args.entry) c.requires.found c.args.rest c.args.candidate.leaf c.open_leaf.new.bank c.open_leaf.new.agenda c.open_leaf.new.terms.items c.in_ok-opened.opened.head c.in_ok-opened.opened.top c.in_ok-opened.ensures.keeps c.in_ok-opened.ensures.opened in let a = c.len.ensures in let b = c.len-before.ensures in omega arith)) (cells_levels c.args.machine.now.store.cells.cells c.add_cells.new.store.cells.cells (c.len.result - c.len-before.result) c.in_ok-opened.ensures.opened.count c.args.machine.now.eigens c.in_ok-add_cells.ensures.cells (let n = count_is (parts_of c.args.machine.now) c.requires.fits c.args.candidate.label (resource c.args.entry) c.requires.found c.args.rest c.args.candidate.leaf c.open_leaf.new.bank c.open_leaf.new.agenda c.open_leaf.new.terms.items c.in_ok-opened.opened.head c.in_ok-opened.opened.top c.in_ok-opened.ensures.keeps c.in_ok-opened.ensures.opened in let a = c.len.ensures in let b = c.len-before.ensures in omega arith)) c.add_cells.new.store.bank (table_of c.unify_under.new.store.cells.cells) c.in_ok-unify_under.field-0 true c.add_cells.ensures.bank (c.if-not-branch.false) c.in_ok-unify_under.ensures.found)
+
+pub returns-clause-later : goal.returns-clause-later
+returns-clause-later c =
+    let m = c.args.machine.now in let e = c.in_ok-opened.ensures.frames in let t = c.in_ok-opened.ensures.more in
+    later_of m _ refl refl (store_then _ _ _ (store_then _ _ _ (store_extends m.store (record (m.store) { bank = c.open_leaf.new.bank }) c.in_ok-opened.ensures.keeps refl) c.add_cells.ensures.marks) c.unify_under.ensures.marks) c.use_entry.ensures.marks e.more e.frames t.more t.is _ c.in_ok-push.ensures.items

@@ -1,13 +1,14 @@
 use Rattle.std.proofs.Common.{sym}
 use Rattle.ll_resources.specs.Seen.{resource}
+use Rattle.ll_freeze.proofs.Marks.{context_same}
 use Rattle.ll_engine.proofs.TakenLemmas.{can_pick, picked_dead}
 use Rattle.ll_engine.proofs.take.use_entry.Goals as goal
 
 pub pick-requires : goal.pick-requires
 pick-requires c = can_pick c.args.context.now.present.entries c.args.label (resource c.args.entry) c.requires c.if-entry.true
 
-pub returns-else-entry : goal.returns-else-entry
-returns-else-entry c =
+pub returns-else-entry-clause-used : goal.returns-else-entry-clause-used
+returns-else-entry-clause-used c =
     let same = picked_dead c.args.context.now.present.entries c.args.label (resource c.args.entry) c.requires c.if-entry.false in
     λ i. record {
       entries = sym same i;
@@ -15,3 +16,6 @@ returns-else-entry c =
       next = c.args.context.now.present.next;
       kept = c.args.context.now.present.kept;
     }
+
+pub returns-else-entry-clause-marks : goal.returns-else-entry-clause-marks
+returns-else-entry-clause-marks c = context_same c.args.context.now

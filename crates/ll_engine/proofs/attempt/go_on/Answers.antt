@@ -1,0 +1,11 @@
+use Rattle.std.proofs.Common.{refl, sym, ◌∷◌, []}
+use Rattle.std.proofs.lemmas.List.{append-nil}
+use Rattle.ll_store.specs.Stored.{stored}
+use Rattle.ll_freeze.proofs.Marks.{store_same, context_same}
+use Rattle.ll_engine.proofs.Keeping.{later_of}
+use Rattle.ll_engine.proofs.attempt.go_on.Goals as goal
+
+pub returns-clause-later : goal.returns-clause-later
+returns-clause-later c =
+    let m = c.args.machine.now in let e = c.in_ok-machine.ensures.keeps in
+    later_of m _ refl refl (store_same (stored m.store)) (context_same m.context) e.more e.frames [] (sym (append-nil m.terms.items)) (c.args.step ∷ []) c.in_ok-push.ensures.items

@@ -1,0 +1,10 @@
+use Rattle.std.proofs.Common.{arith, ap, ◌∙◌, sym, ◌++◌, ◌+◌, replicate, ◌∷◌, []}
+use Rattle.ll_freeze.proofs.Starting.{cells_push}
+use Rattle.ll_freeze.proofs.start.first_cells.Goals as goal
+
+pub loop-preserved : goal.loop-preserved
+loop-preserved c =
+    record {
+      bank = c.fresh.ensures.bank ∙ c.loop.invariant.bank;
+      cells = c.in_ok-fresh.ensures.cells ∙ (ap (λ xs. xs ++ record { to = _; level = 0 } ∷ []) c.loop.invariant.cells ∙ sym (cells_push c.loop.counter (c.loop.counter + 1) (omega arith)));
+    }

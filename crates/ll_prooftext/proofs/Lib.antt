@@ -28,3 +28,9 @@ pub mod OneTerm
 pub mod OneLine
 pub mod OneText
 pub mod TakesRead
+pub mod TableTerms
+pub mod Classing
+pub mod TableSteps
+pub mod ShortLines
+pub mod Places
+pub mod Sizing

@@ -66,7 +66,7 @@ pub(crate) fn write_set_field(labels: &[u32], out: &mut Vec<u8>) -> Result<(), O
 }
 
 /// Whether a term has arguments.
-fn has_any_arguments(bank: &Bank, at: At) -> bool
+pub(crate) fn has_any_arguments(bank: &Bank, at: At) -> bool
     requires { HasTerm bank.now at.0 }
     ensures { result ≡ has_arguments (term_tree bank.now at.0) }
 {

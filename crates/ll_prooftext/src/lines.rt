@@ -79,7 +79,7 @@ pub(crate) fn write_nodes(
 }
 
 /// Appends the line of a node. After a refusal some first bytes of it may have been appended.
-fn write_node(
+pub(crate) fn write_node(
     alloc: Global,
     names: &Names,
     bank: &Bank,

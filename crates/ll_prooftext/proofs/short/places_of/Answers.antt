@@ -1,0 +1,13 @@
+use Rattle.std.proofs.Common.{arith, ap, ◌∙◌, ◌++◌}
+use Rattle.ll_laws.specs.declared.Rule.{Rule}
+use Rattle.ll_prooftext.specs.Short.{rule_places}
+use Rattle.ll_prooftext.proofs.Places.{places_on, places_whole}
+use Rattle.ll_prooftext.proofs.short.places_of.Goals as goal
+
+pub loop-i-preserved : goal.loop-i-preserved
+loop-i-preserved c =
+    places_on c.args.asked.now c.args.nodes.now c.loop-i.i c.index-nodes-i.result c.loop-i.places.items c.push_places.new.places.items c.loop-i.invariant (omega arith)
+    (c.in_ok-push_places.ensures ∙ ap (λ (r : Rule). c.loop-i.places.items ++ rule_places r) c.index-nodes-i.is)
+
+pub returns : goal.returns
+returns c = places_whole c.args.asked.now c.args.nodes.now c.loop-i.i c.loop-i.places.items c.loop-i.invariant (omega arith)

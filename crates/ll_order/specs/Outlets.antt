@@ -10,16 +10,16 @@ use Rattle.ll_laws.specs.CoreEvents.{reports_left}
 abbrev pub Rose : ℕ → ℕ → Type 0
 Rose before after = (before < after) ⊎ (after ≡ 18446744073709551615)
 
--- the outlet took the events, one after the other
-abbrev pub Gives : {O : Type 0} → (O → Event → O → Type 0) → O → List Event → O → Type 0
+-- the outlet took the events, one after the other; what else is given in order, as the queries of a session are, is taken in the same way
+abbrev pub Gives : {O X : Type 0} → (O → X → O → Type 0) → O → List X → O → Type 0
 Gives takes before [] after = after ≡ before
 Gives {O = O} takes before (e ∷ es) after = (between : O) × takes before e between × Gives takes between es after
 
 -- the outlet took the events in front of one that it refused
-pub record Refuses {O : Type 0} (takes breaks : O → Event → O → Type 0) (before : O) (events : List Event) (after : O) : Type 0 where
-  pub front : List Event
-  pub refused : Event
-  pub back : List Event
+pub record Refuses {O X : Type 0} (takes breaks : O → X → O → Type 0) (before : O) (events : List X) (after : O) : Type 0 where
+  pub front : List X
+  pub refused : X
+  pub back : List X
   pub between : O
   pub order : events ≡ front ++ refused ∷ back
   pub given : Gives takes before front between

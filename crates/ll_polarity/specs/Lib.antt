@@ -17,3 +17,4 @@ pub mod Pending
 pub mod Ready
 pub mod Causes
 pub mod Loading
+pub mod Copied

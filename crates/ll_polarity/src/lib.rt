@@ -2,6 +2,7 @@
 #![tactic(auto)]
 
 mod asking;
+mod copying;
 mod front;
 mod headings;
 mod judge;

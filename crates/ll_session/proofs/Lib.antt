@@ -1,0 +1,4 @@
+pub mod Lexes
+pub mod Questions
+pub mod Lining
+pub mod Replying

@@ -1,0 +1,13 @@
+//! Sessions: many queries over one program, each a line of a text.
+#![tactic(auto)]
+
+mod answering;
+mod asking;
+mod laws;
+mod lines;
+mod replies;
+
+pub use answering::{answer_lines, session};
+pub use asking::ask_text;
+pub use laws::one_session;
+pub use replies::{Asked, Replies};

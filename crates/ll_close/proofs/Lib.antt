@@ -1,0 +1,5 @@
+pub mod Known
+pub mod Stacks
+pub mod Values
+pub mod Parts
+pub mod Steps

@@ -1,0 +1,8 @@
+use Rattle.std.specs.HashMap.{get}
+use Rattle.ll_close.specs.Closing.{same_spot}
+use Rattle.ll_close.proofs.Known.{adds_put}
+use Rattle.ll_close.proofs.images.Images.remember.Goals as goal
+
+pub returns-in_ok-insert : goal.returns-in_ok-insert
+returns-in_ok-insert c =
+    adds_put (get same_spot c.args.self.now.places) (get same_spot c.insert.new.self) (c.args.task.place, c.args.task.level) c.args.image c.in_ok-insert.ensures.updates.0

@@ -1,53 +1,60 @@
 -- The way to a leaf, step by step.
-use Rattle.std.proofs.Common.{◌≡◌, ℕ, zero, suc, ◌+◌, ◌-◌, ◌<◌, ◌≤◌, List, [], ◌∷◌, ◌++◌, length, map, All, refl, ap, sym, subst, ◌∙◌, arith, Option, Some, Bool, true, false, append_assoc, get_or}
+use Rattle.std.proofs.Common.{◌≡◌, ℕ, zero, suc, ◌+◌, ◌-◌, ◌<◌, ◌≤◌, List, [], ◌∷◌, ◌++◌, length, map, take, drop, reverse, All, refl, ap, sym, subst, ◌∙◌, arith, Option, Some, Bool, true, false, append_assoc, get_or}
 use Rattle.std.specs.Prelude.{if◌then◌else◌, nat_lt, slice_get, option_map, ◌&&◌}
 use Rattle.std.specs.List.{list_all}
 use Rattle.std.proofs.lemmas.Bool.{ltb-true, lt-ltb}
-use Rattle.std.proofs.lemmas.List.{append-nil}
+use Rattle.std.proofs.lemmas.List.{append-nil, map-append, reverse-append, take_all, length-drop}
 use Rattle.std.proofs.lemmas.List.Elements.{All-cons, All-push}
 use Rattle.ll_bank.specs.declared.At.{At}
 use Rattle.ll_bank.specs.declared.FormAt.{FormAt}
-use Rattle.ll_bank.specs.Term.{Term, Var, Int, Con, Ap, applies_heads, is_spine, head_of}
-use Rattle.ll_bank.specs.Form.{Form, Top, One, Atom, With, Tensor, Plus, Bang, Lolli, Imp, Forall, Exists, Use, Num, instantiate, form_applies_heads}
+use Rattle.ll_bank.specs.Term.{Term, Var, Int, Con, Ap, Env, close, applies_heads, is_spine, head_of}
+use Rattle.ll_bank.specs.Form.{Form, Top, One, Atom, With, Tensor, Plus, Bang, Lolli, Imp, Forall, Exists, Use, Num, close_form, form_applies_heads}
 use Rattle.ll_bank.specs.Nodes.{Nodes, HasTerm, HasForm, AllInTerms, Extends, term_tree, term_trees, form_tree}
 use Rattle.ll_bank.proofs.Trees.{HasForm-extends, form_tree-extends, AllInTerms-extends, term_trees-extends, Extends-refl, Extends-trans}
-use Rattle.ll_laws.specs.Leaf.{Leaf, Premise, add_premise, premise_goal, ways, leaf}
+use Rattle.ll_laws.specs.Leaf.{Leaf, Premise, add_premise, premise_goal, ways, leaf, leaf_from}
 use Rattle.ll_laws.specs.Attempt.{vars_from}
 use Rattle.ll_laws.specs.Valid.{Allowed, Side, GoalSide, ClauseSide, Scope, has_heads, is_headed, may_head}
 use Rattle.ll_laws.proofs.SubLaws.{and_left, and_right}
-use Rattle.ll_laws.proofs.ConsistentTerms.{Grows, and_intro}
-use Rattle.ll_laws.proofs.ConsistentForms.{fits_of_formula, formula_of_fits, fits-more, fits-close}
+use Rattle.ll_laws.proofs.ConsistentTerms.{Grows, Closes, Widens, and_intro}
+use Rattle.ll_laws.proofs.ConsistentForms.{Fits as FormFits, fits_of_formula, formula_of_fits, fits-more, fits-close}
 use Rattle.ll_laws.proofs.ConsistentStates.{length-vars}
 use Rattle.ll_agenda.specs.declared.agenda.Top.{Top as AgendaTop}
 use Rattle.ll_agenda.specs.Frames.{Frames, ShowsItems, items_at}
 use Rattle.ll_freeze.specs.declared.machine.Item.{Item}
 use Rattle.ll_freeze.specs.declared.machine.Item.TheVariants.{Goal}
-use Rattle.ll_engine.specs.Opening.{IsClause, IsOnWay, Opens}
-use Rattle.ll_engine.proofs.OpeningLemmas.{leaf_open, ways_open, leaf_atom}
+use Rattle.ll_engine.specs.Opening.{IsClause, AreGoalsOf, Opens}
+use Rattle.ll_close.specs.Closing.{env_of}
+use Rattle.ll_engine.proofs.TakenLemmas.{vars_split}
 
--- ---- clauses and their parts
+-- the values of the first variables from one on, as an environment: the last made stands in front
+abbrev pub env_vars : ℕ → ℕ → Env
+env_vars before zero = []
+env_vars before (suc n) = Some (Var (before + n)) ∷ env_vars before n
 
-pub clause_left : (f g : Form) → IsClause (With f g) → IsClause f
-clause_left f g c = (c.0, formula_of_fits c.0 ClauseSide [] f (fits_of_formula c.0 ClauseSide [] (With f g) c.1).0)
+-- quantifiers whose bound places are no heads
+abbrev pub scope_of : ℕ → Scope
+scope_of zero = []
+scope_of (suc n) = false ∷ scope_of n
 
-pub clause_right : (f g : Form) → IsClause (With f g) → IsClause g
-clause_right f g c = (c.0, formula_of_fits c.0 ClauseSide [] g (fits_of_formula c.0 ClauseSide [] (With f g) c.1).1)
-
-pub clause_lolli : (f g : Form) → IsClause (Lolli f g) → IsClause g
-clause_lolli f g c = (c.0, formula_of_fits c.0 ClauseSide [] g (fits_of_formula c.0 ClauseSide [] (Lolli f g) c.1).1)
-
-pub clause_imp : (f g : Form) → IsClause (Imp f g) → IsClause g
-clause_imp f g c = (c.0, formula_of_fits c.0 ClauseSide [] g (fits_of_formula c.0 ClauseSide [] (Imp f g) c.1).1)
-
--- the body of a quantifier, opened with a variable
-pub clause_open : (f : Form) (n : ℕ) → IsClause (Forall f) → IsClause (instantiate f (Var n))
-clause_open f n c =
-    let may = c.0 in
-    let more : Allowed = record { modules = may.modules; variables = may.variables + suc n; eigens = may.eigens; opens = may.opens } in
-    let grows : Grows may more = record { modules = refl; variables = omega arith; eigens = omega arith; opens = λ h. h } in
-    let f1 = fits_of_formula may ClauseSide [] (Forall f) c.1 in
-    let f2 = fits-more may more ClauseSide (false ∷ []) (false ∷ []) f grows (λ h. h, tt) f1 in
-    (more, formula_of_fits more ClauseSide [] (instantiate f (Var n)) (fits-close more (Some (Var n) ∷ []) ClauseSide (false ∷ []) [] f (lt-ltb n (may.variables + suc n) (omega arith), λ h. absurd (cc (h)), tt) f2))
+-- What is left of a clause on the way to one of its leaves: a part of it with a leaf, under the quantifiers that were passed, whose
+-- premises are those nearest the head. The others are on the agenda in front of the items that were there, and the variables made so far
+-- are behind those that there were.
+pub record IsOnWay (first : Nodes) (items : List Item) (before clause k : ℕ) (bank : Nodes) (now : Frames Item) (terms : List At) (form at : ℕ) (top : AgendaTop) : Type 0 where
+  pub keeps : Extends first bank
+  pub inside : HasForm first form
+  pub count : ℕ
+  pub may : Allowed
+  pub fits : FormFits may ClauseSide (scope_of count) (form_tree first form)
+  pub among : at < length (ways (form_tree first form))
+  pub premises : List Premise
+  pub goals : List FormAt
+  pub shows : ShowsItems now top (map Goal goals ++ items)
+  pub goals_are : AreGoalsOf bank goals premises
+  pub terms_inside : AllInTerms bank terms
+  pub variables : term_trees bank terms ≡ vars_from 0 (before + count)
+  pub way : (n : ℕ) → slice_get (ways (form_tree first form)) at ≡ Some n → slice_get (ways (form_tree first clause)) k ≡ Some (count + n)
+  pub leaf_is : (n : ℕ) (l : Leaf) → leaf_from (env_vars before count) (form_tree first form) at (vars_from (before + count) n) ≡ Some l
+      → leaf (form_tree first clause) k (vars_from before (count + n)) ≡ Some (record { premises = l.premises ++ premises; head = l.head })
 
 -- nothing but a head has arguments in a clause
 headed_applies : (scope : Scope) (t : Term) → is_headed scope t ≡ true → applies_heads t ≡ true
@@ -95,8 +102,34 @@ heads_apply o side scope (Num r t u) h =
     and_intro (applies_heads t) (applies_heads u) (headed_applies scope t (and_left (is_headed scope t) (is_headed scope u) h))
     (headed_applies scope u (and_right (is_headed scope t) (is_headed scope u) h))
 
-pub clause_applies : (f : Form) → IsClause f → form_applies_heads f ≡ true
-clause_applies f c = heads_apply c.0.opens ClauseSide [] f c.1.heads
+-- ---- the environment of the variables made on the way
+
+same_scope : (n : ℕ) → Widens (scope_of n) (scope_of n)
+same_scope zero = tt
+same_scope (suc n) = (λ h. h, same_scope n)
+
+closes_vars : (may : Allowed) (before n : ℕ) → before + n ≤ may.variables → Closes may (env_vars before n) (scope_of n) []
+closes_vars may before zero h = tt
+closes_vars may before (suc n) h = (lt-ltb (before + n) may.variables (omega arith), λ e. absurd (cc (e)), closes_vars may before n (omega arith))
+
+abbrev with_vars : Allowed → ℕ → Allowed
+with_vars may n = record { modules = may.modules; variables = may.variables + n; eigens = may.eigens; opens = may.opens }
+
+grows_vars : (may : Allowed) (n : ℕ) → Grows may (with_vars may n)
+grows_vars may n = record { modules = refl; variables = omega arith; eigens = omega arith; opens = λ h. h }
+
+-- what fits under the quantifiers is well sorted with the variables in place of their bound places
+closed_fits : (may : Allowed) (before count : ℕ) (side : Side) (f : Form) → FormFits may side (scope_of count) f
+    → FormFits (with_vars may (before + count)) side [] (close_form (env_vars before count) f)
+closed_fits may before count side f h =
+    let more = with_vars may (before + count) in
+    fits-close more (env_vars before count) side (scope_of count) [] f (closes_vars more before count (omega arith))
+    (fits-more may more side (scope_of count) (scope_of count) f (grows_vars may (before + count)) (same_scope count) h)
+
+pub closed_applies : (may : Allowed) (before count : ℕ) (side : Side) (f : Form) → FormFits may side (scope_of count) f → form_applies_heads (close_form (env_vars before count) f) ≡ true
+closed_applies may before count side f h =
+    let more = with_vars may (before + count) in let g = close_form (env_vars before count) f in
+    heads_apply more.opens side [] g (formula_of_fits more side [] g (closed_fits may before count side f h)).heads
 
 -- ---- lists
 
@@ -144,6 +177,45 @@ trees_same : (old new : Nodes) (gs : List FormAt) → Extends old new → All (�
 trees_same old new [] e h = refl
 trees_same old new (g ∷ gs) e h = λ i. form_tree-extends e g.0 (h 0 g (omega arith)) i ∷ trees_same old new gs e (λ k d l. h (suc k) d (omega arith)) i
 
+env_push : (before n : ℕ) → reverse (map (λ t. Some t) (vars_from before n)) ≡ env_vars before n
+env_push before zero = refl
+env_push before (suc n) =
+    ap (λ ts. reverse (map (λ t. Some t) ts)) (vars_push before n (suc n) refl)
+    ∙ (ap (λ os. reverse os) (map-append (λ t. let o : Option Term = Some t in o) (vars_from before n) (Var (before + n) ∷ []))
+    ∙ (reverse-append (map (λ t. let o : Option Term = Some t in o) (vars_from before n)) (Some (Var (before + n)) ∷ []) ∙ ap (λ os. Some (Var (before + n)) ∷ os) (env_push before n)))
+
+drop_first : {A : Type 0} (xs ys : List A) (n : ℕ) → length xs ≡ n → drop n (xs ++ ys) ≡ ys
+drop_first [] ys zero e = refl
+drop_first [] ys (suc n) e = absurd (omega (arith, e))
+drop_first (x ∷ xs) ys zero e = absurd (omega (arith, e))
+drop_first (x ∷ xs) ys (suc n) e = drop_first xs ys n (omega (arith, e))
+
+map_some : (nodes : Nodes) (ats : List At) → map (λ (v : At). let o : Option Term = Some (term_tree nodes v.0) in o) ats ≡ map (λ t. Some t) (term_trees nodes ats)
+map_some nodes [] = refl
+map_some nodes (a ∷ ats) = ap (λ os. Some (term_tree nodes a.0) ∷ os) (map_some nodes ats)
+
+drop_trees : (nodes : Nodes) (n : ℕ) (ats : List At) → term_trees nodes (drop n ats) ≡ drop n (term_trees nodes ats)
+drop_trees nodes zero ats = refl
+drop_trees nodes (suc n) [] = refl
+drop_trees nodes (suc n) (a ∷ ats) = drop_trees nodes n ats
+
+-- the variables made on the way are the environment
+pub env_is : (nodes : Nodes) (terms : List At) (before count : ℕ) → term_trees nodes terms ≡ vars_from 0 (before + count) → env_of nodes (drop before terms) ≡ env_vars before count
+env_is nodes terms before count e =
+    let z : 0 + before ≡ before = omega arith in
+    ap (λ os. reverse os) (map_some nodes (drop before terms))
+    ∙ (ap (λ ts. reverse (map (λ t. Some t) ts))
+    (drop_trees nodes before terms ∙ (ap (drop before) (e ∙ (vars_split 0 before count ∙ ap (λ b. vars_from 0 before ++ vars_from b count) z)) ∙ drop_first (vars_from 0 before) (vars_from before count) before (length-vars 0 before)))
+    ∙ env_push before count)
+
+-- so is the part of the list of variables that is lent
+pub slice_env : (nodes : Nodes) (lent terms : List At) (from before count : ℕ) → lent ≡ terms → from ≡ before → term_trees nodes terms ≡ vars_from 0 (before + count)
+    → env_of nodes (take (length lent - from) (drop from lent)) ≡ env_vars before count
+slice_env nodes lent terms from before count e f vars =
+    let n = length-drop from lent in
+    ap (λ ats. env_of nodes ats) (take_all (length lent - from) (drop from lent) (omega (arith, n)))
+    ∙ ((λ i. env_of nodes (drop (f i) (e i))) ∙ env_is nodes terms before count vars)
+
 -- ---- the way
 
 module _ (first : Nodes) (items : List Item) (before clause k : ℕ) where
@@ -153,13 +225,14 @@ module _ (first : Nodes) (items : List Item) (before clause k : ℕ) where
   way_start now terms top inside is among shows in_terms vars = record {
     keeps = Extends-refl first;
     inside = inside;
-    is = is;
+    count = 0;
+    may = is.0;
+    fits = fits_of_formula is.0 ClauseSide [] (form_tree first clause) is.1;
     among = among;
     premises = [];
     goals = [];
     shows = shows;
     goals_are = record { inside = λ i d l. absurd (omega arith); trees = refl };
-    count = 0;
     terms_inside = in_terms;
     variables = vars ∙ ap (vars_from 0) (omega arith);
     way = λ n h. h ∙ ap (λ m. Some m) (omega arith);
@@ -170,139 +243,167 @@ module _ (first : Nodes) (items : List Item) (before clause k : ℕ) where
   }
 
   module _ (bank : Nodes) (now : Frames Item) (terms : List At) (form : FormAt) (at : ℕ) (top : AgendaTop) (w : IsOnWay first items before clause k bank now terms form.0 at top) where
+    -- a part of the clause shows in the bank what it showed at first
+    pub same_part : (g : FormAt) → HasForm first g.0 → form_tree bank g.0 ≡ form_tree first g.0
+    same_part g inside = form_tree-extends w.keeps g.0 inside
+
+    pub part_inside : (g : FormAt) → g.0 < form.0 → HasForm first g.0
+    part_inside g l = let i = w.inside in omega (arith, i, l)
+
     -- it goes along with the bank
     pub way_extends : (new : Nodes) → Extends bank new → IsOnWay first items before clause k new now terms form.0 at top
     way_extends new e =
-        let same = form_tree-extends e form.0 w.inside in record {
+        record {
           keeps = Extends-trans w.keeps e;
-          inside = HasForm-extends e form.0 w.inside;
-          is = subst IsClause (sym same) w.is;
-          among = subst (λ t. at < length (ways t)) (sym same) w.among;
+          inside = w.inside;
+          count = w.count;
+          may = w.may;
+          fits = w.fits;
+          among = w.among;
           premises = w.premises;
           goals = w.goals;
           shows = w.shows;
           goals_are = record { inside = λ i d l. HasForm-extends e (get_or w.goals i d).0 (w.goals_are.inside i d l); trees = trees_same bank new w.goals e w.goals_are.inside ∙ w.goals_are.trees };
-          count = w.count;
           terms_inside = AllInTerms-extends e terms w.terms_inside;
           variables = term_trees-extends e terms w.terms_inside ∙ w.variables;
-          way = λ n h. w.way n (ap (λ t. slice_get (ways t) at) (sym same) ∙ h);
-          leaf_is = λ n l h. w.leaf_is n l (ap (λ t. leaf t at (vars_from (before + w.count) n)) (sym same) ∙ h);
+          way = w.way;
+          leaf_is = w.leaf_is;
         }
 
     -- to the left side of a `&`
-    pub way_left : (g h : FormAt) → form_tree bank form.0 ≡ With (form_tree bank g.0) (form_tree bank h.0) → HasForm bank g.0 → at < length (ways (form_tree bank g.0)) → IsOnWay first items before clause k bank now terms g.0 at top
-    way_left g h tree inside among =
-        let left = form_tree bank g.0 in let right = form_tree bank h.0 in record {
+    pub way_left : (g h : FormAt) → form_tree bank form.0 ≡ With (form_tree bank g.0) (form_tree bank h.0) → (g.0 < form.0) × (h.0 < form.0) → at < length (ways (form_tree bank g.0))
+        → IsOnWay first items before clause k bank now terms g.0 at top
+    way_left g h seen parts many =
+        let left = form_tree first g.0 in let right = form_tree first h.0 in
+        let a = part_inside g parts.0 in let b = part_inside h parts.1 in
+        let tree : form_tree first form.0 ≡ With left right = sym (same_part form w.inside) ∙ (seen ∙ (λ i. With (same_part g a i) (same_part h b i))) in
+        let among : at < length (ways left) = subst (λ t. at < length (ways t)) (same_part g a) many in record {
           keeps = w.keeps;
-          inside = inside;
-          is = clause_left left right (subst IsClause tree w.is);
+          inside = a;
+          count = w.count;
+          may = w.may;
+          fits = (subst (FormFits w.may ClauseSide (scope_of w.count)) tree w.fits).0;
           among = among;
           premises = w.premises;
           goals = w.goals;
           shows = w.shows;
           goals_are = w.goals_are;
-          count = w.count;
           terms_inside = w.terms_inside;
           variables = w.variables;
           way = λ n q. w.way n (ap (λ t. slice_get (ways t) at) tree ∙ (get_left (ways left) (ways right) at among ∙ q));
-          leaf_is = λ n l q. let ts = vars_from (before + w.count) n in
-              w.leaf_is n l (ap (λ t. leaf t at ts) tree ∙ (ap (λ b. if b then leaf left at ts else leaf right (at - length (ways left)) ts) (lt-ltb at (length (ways left)) among) ∙ q));
+          leaf_is = λ n l q. let ts = vars_from (before + w.count) n in let e = env_vars before w.count in
+              w.leaf_is n l (ap (λ t. leaf_from e t at ts) tree ∙ (ap (λ b. if b then leaf_from e left at ts else leaf_from e right (at - length (ways left)) ts) (lt-ltb at (length (ways left)) among) ∙ q));
         }
 
     -- or to the right one
-    pub way_right : (g h : FormAt) (at' : ℕ) → form_tree bank form.0 ≡ With (form_tree bank g.0) (form_tree bank h.0) → HasForm bank h.0 → length (ways (form_tree bank g.0)) ≤ at → at' ≡ at - length (ways (form_tree bank g.0))
-        → IsOnWay first items before clause k bank now terms h.0 at' top
-    way_right g h at' tree inside past e =
-        let left = form_tree bank g.0 in let right = form_tree bank h.0 in record {
+    pub way_right : (g h : FormAt) (at' : ℕ) → form_tree bank form.0 ≡ With (form_tree bank g.0) (form_tree bank h.0) → (g.0 < form.0) × (h.0 < form.0) → length (ways (form_tree bank g.0)) ≤ at
+        → at' ≡ at - length (ways (form_tree bank g.0)) → IsOnWay first items before clause k bank now terms h.0 at' top
+    way_right g h at' seen parts few is =
+        let left = form_tree first g.0 in let right = form_tree first h.0 in
+        let a = part_inside g parts.0 in let b = part_inside h parts.1 in
+        let tree : form_tree first form.0 ≡ With left right = sym (same_part form w.inside) ∙ (seen ∙ (λ i. With (same_part g a i) (same_part h b i))) in
+        let past : length (ways left) ≤ at = subst (λ t. length (ways t) ≤ at) (same_part g a) few in
+        let e : at' ≡ at - length (ways left) = is ∙ ap (λ t. at - length (ways t)) (same_part g a) in record {
           keeps = w.keeps;
-          inside = inside;
-          is = clause_right left right (subst IsClause tree w.is);
+          inside = b;
+          count = w.count;
+          may = w.may;
+          fits = (subst (FormFits w.may ClauseSide (scope_of w.count)) tree w.fits).1;
           among = (let a = subst (λ t. at < length (ways t)) tree w.among in let b = length-both (ways left) (ways right) in omega arith);
           premises = w.premises;
           goals = w.goals;
           shows = w.shows;
           goals_are = w.goals_are;
-          count = w.count;
           terms_inside = w.terms_inside;
           variables = w.variables;
           way = λ n q. w.way n (ap (λ t. slice_get (ways t) at) tree ∙ (get_right (ways left) (ways right) at at' (omega arith) ∙ q));
-          leaf_is = λ n l q. let ts = vars_from (before + w.count) n in
-              w.leaf_is n l (ap (λ t. leaf t at ts) tree ∙ (ap (λ b. if b then leaf left at ts else leaf right (at - length (ways left)) ts) (not_below at (length (ways left)) past) ∙ (ap (λ j. leaf right j ts) (sym e) ∙ q)));
+          leaf_is = λ n l q. let ts = vars_from (before + w.count) n in let v = env_vars before w.count in
+              w.leaf_is n l (ap (λ t. leaf_from v t at ts) tree ∙ (ap (λ b. if b then leaf_from v left at ts else leaf_from v right (at - length (ways left)) ts) (not_below at (length (ways left)) past) ∙ (ap (λ j. leaf_from v right j ts) (sym e) ∙ q)));
         }
 
-    -- past a premise, whose goal came in front of the agenda
-    pub way_past : (p : Premise) (b r : FormAt) (new : Frames Item) (top' : AgendaTop) → ways (form_tree bank form.0) ≡ ways (form_tree bank r.0)
-        → ((ts : List Term) → leaf (form_tree bank form.0) at ts ≡ option_map (add_premise p) (leaf (form_tree bank r.0) at ts)) → HasForm bank r.0 → IsClause (form_tree bank r.0) → HasForm bank b.0 → form_tree bank b.0 ≡ premise_goal p
-        → ShowsItems new top' (Goal b ∷ items_at now top) → IsOnWay first items before clause k bank new terms r.0 at top'
-    way_past p b r new top' same leaves inside is goal_inside goal shows = record {
-      keeps = w.keeps;
-      inside = inside;
-      is = is;
-      among = subst (λ (ws : List ℕ). at < length ws) same w.among;
-      premises = p ∷ w.premises;
-      goals = b ∷ w.goals;
-      shows = record { inside = shows.inside; list = shows.list ∙ ap (λ is. Goal b ∷ is) w.shows.list };
-      goals_are = record { inside = All-cons (λ (g : FormAt). HasForm bank g.0) b w.goals goal_inside w.goals_are.inside; trees = λ i. goal i ∷ w.goals_are.trees i };
-      count = w.count;
-      terms_inside = w.terms_inside;
-      variables = w.variables;
-      way = λ n q. w.way n (ap (λ (ws : List ℕ). slice_get ws at) same ∙ q);
-      leaf_is = λ n l q.
-          w.leaf_is n (add_premise p l) (leaves (vars_from (before + w.count) n) ∙ ap (option_map (add_premise p)) q)
-          ∙ ap (λ ps. let o : Option Leaf = Some (record { premises = ps; head = l.head }) in o) (append_assoc l.premises (p ∷ []) w.premises);
-    }
+    -- past a premise, whose goal came in front of the agenda in a bank with more places
+    pub way_past : (p : Premise) (b r : FormAt) (more : Nodes) (new : Frames Item) (top' : AgendaTop) → Extends bank more → ways (form_tree first form.0) ≡ ways (form_tree first r.0)
+        → ((ts : List Term) → leaf_from (env_vars before w.count) (form_tree first form.0) at ts ≡ option_map (add_premise p) (leaf_from (env_vars before w.count) (form_tree first r.0) at ts))
+        → HasForm first r.0 → FormFits w.may ClauseSide (scope_of w.count) (form_tree first r.0) → HasForm more b.0 → form_tree more b.0 ≡ premise_goal p
+        → ShowsItems new top' (Goal b ∷ items_at now top) → IsOnWay first items before clause k more new terms r.0 at top'
+    unfolding way_extends
+    way_past p b r more new top' e same leaves inside fits goal_inside goal shows =
+        let v = way_extends more e in record {
+          keeps = v.keeps;
+          inside = inside;
+          count = w.count;
+          may = w.may;
+          fits = fits;
+          among = subst (λ (ws : List ℕ). at < length ws) same w.among;
+          premises = p ∷ w.premises;
+          goals = b ∷ w.goals;
+          shows = record { inside = shows.inside; list = shows.list ∙ ap (λ is. Goal b ∷ is) w.shows.list };
+          goals_are = record { inside = All-cons (λ (g : FormAt). HasForm more g.0) b w.goals goal_inside v.goals_are.inside; trees = λ i. goal i ∷ v.goals_are.trees i };
+          terms_inside = v.terms_inside;
+          variables = v.variables;
+          way = λ n q. w.way n (ap (λ (ws : List ℕ). slice_get ws at) same ∙ q);
+          leaf_is = λ n l q.
+              w.leaf_is n (add_premise p l) (leaves (vars_from (before + w.count) n) ∙ ap (option_map (add_premise p)) q)
+              ∙ ap (λ ps. let o : Option Leaf = Some (record { premises = ps; head = l.head }) in o) (append_assoc l.premises (p ∷ []) w.premises);
+        }
 
-    count_terms : length terms ≡ before + w.count
+    pub count_terms : length terms ≡ before + w.count
     count_terms = sym (length_trees terms) ∙ (ap (λ (ts : List Term). length ts) w.variables ∙ length-vars 0 (before + w.count))
       where
         length_trees : (ats : List At) → length (term_trees bank ats) ≡ length ats
         length_trees [] = refl
         length_trees (a ∷ ats) = ap suc (length_trees ats)
 
-    -- into a quantifier, opened with a new variable
-    pub way_in : (body g : FormAt) (v : At) (more : List At) → form_tree bank form.0 ≡ Forall (form_tree bank body.0) → HasTerm bank v.0 → term_tree bank v.0 ≡ Var (length terms) → more ≡ terms ++ v ∷ [] → HasForm bank g.0
-        → form_tree bank g.0 ≡ instantiate (form_tree bank body.0) (term_tree bank v.0) → IsOnWay first items before clause k bank now more g.0 at top
-    way_in body g v more tree has var is_more inside is_open =
-        let inner = form_tree bank body.0 in
-        let x = before + w.count in
+    -- into a quantifier, with a new variable
+    pub way_in : (body : FormAt) (v : At) (new : Nodes) (more : List At) → form_tree bank form.0 ≡ Forall (form_tree bank body.0) → body.0 < form.0 → Extends bank new → HasTerm new v.0
+        → term_tree new v.0 ≡ Var (length terms) → more ≡ terms ++ v ∷ [] → IsOnWay first items before clause k new now more body.0 at top
+    unfolding way_extends
+    way_in body v new more seen part e has var is_more =
+        let a = part_inside body part in let inner = form_tree first body.0 in
+        let tree : form_tree first form.0 ≡ Forall inner = sym (same_part form w.inside) ∙ (seen ∙ ap Forall (same_part body a)) in
+        let x = before + w.count in let z = way_extends new e in
         let x_is = var ∙ ap Var count_terms in
-        let opened : form_tree bank g.0 ≡ instantiate inner (Var x) = is_open ∙ ap (instantiate inner) x_is in
-        let open_ways : ways (form_tree bank form.0) ≡ map (λ n. suc n) (ways (form_tree bank g.0)) = ap ways tree ∙ (ways_open (Var x) refl inner ∙ ap (λ t. map (λ n. suc n) (ways t)) (sym opened)) in
+        let open_ways : ways (form_tree first form.0) ≡ map (λ n. suc n) (ways inner) = ap ways tree in
         record {
-          keeps = w.keeps;
-          inside = inside;
-          is = subst IsClause (sym opened) (clause_open inner x (subst IsClause tree w.is));
-          among = (let a = subst (λ (ws : List ℕ). at < length ws) open_ways w.among in let b = length-suc (ways (form_tree bank g.0)) in omega arith);
+          keeps = z.keeps;
+          inside = a;
+          count = suc w.count;
+          may = w.may;
+          fits = subst (FormFits w.may ClauseSide (scope_of w.count)) tree w.fits;
+          among = (let a = subst (λ (ws : List ℕ). at < length ws) open_ways w.among in let b = length-suc (ways inner) in omega arith);
           premises = w.premises;
           goals = w.goals;
           shows = w.shows;
-          goals_are = w.goals_are;
-          count = suc w.count;
-          terms_inside = subst (AllInTerms bank) (sym is_more) (All-push (λ (a : At). a.0 < length bank.terms) terms v w.terms_inside has);
-          variables = ap (term_trees bank) is_more ∙ (trees_push bank terms v ∙ ((λ i. w.variables i ++ x_is i ∷ []) ∙ sym (vars_push 0 x (before + suc w.count) (omega arith) ∙ ap (λ c. vars_from 0 x ++ Var c ∷ []) (let e : 0 + x ≡ x = omega arith in e))));
-          way = λ n q. w.way (suc n) (ap (λ (ws : List ℕ). slice_get ws at) open_ways ∙ get_suc (ways (form_tree bank g.0)) at n q) ∙ ap (λ m. Some m) (omega arith);
+          goals_are = z.goals_are;
+          terms_inside = subst (AllInTerms new) (sym is_more) (All-push (λ (a : At). a.0 < length new.terms) terms v z.terms_inside has);
+          variables = ap (term_trees new) is_more ∙ (trees_push new terms v ∙ ((λ i. z.variables i ++ x_is i ∷ []) ∙ sym (vars_push 0 x (before + suc w.count) (omega arith) ∙ ap (λ c. vars_from 0 x ++ Var c ∷ []) (let e : 0 + x ≡ x = omega arith in e))));
+          way = λ n q. w.way (suc n) (ap (λ (ws : List ℕ). slice_get ws at) open_ways ∙ get_suc (ways inner) at n q) ∙ ap (λ m. Some m) (omega arith);
           leaf_is = λ n l q.
               let next : before + suc w.count ≡ suc x = omega arith in
               ap (λ m. leaf (form_tree first clause) k (vars_from before m)) (let e : suc w.count + n ≡ w.count + suc n = omega arith in e)
               ∙ w.leaf_is (suc n) l
-              (ap (λ t. leaf t at (Var x ∷ vars_from (suc x) n)) tree
-              ∙ (leaf_open (Var x) refl inner at (vars_from (suc x) n) ∙ (ap (λ t. leaf t at (vars_from (suc x) n)) (sym opened) ∙ (ap (λ m. leaf (form_tree bank g.0) at (vars_from m n)) (sym next) ∙ q))));
+              (ap (λ t. leaf_from (env_vars before w.count) t at (Var x ∷ vars_from (suc x) n)) tree
+              ∙ (ap (λ m. leaf_from (env_vars before (suc w.count)) inner at (vars_from m n)) (sym next) ∙ q));
         }
 
-    -- to the head
-    pub way_end : (a : At) → form_tree bank form.0 ≡ Atom (term_tree bank a.0) → HasTerm bank a.0 → Opens first items before clause k bank now terms a top
-    way_end a tree has =
-        let last : at ≡ 0 = (let q = subst (λ t. at < length (ways t)) tree w.among in omega arith) in record {
+    -- to the head, closed in a bank with more places
+    pub way_end : (a head : At) (new : Nodes) → form_tree bank form.0 ≡ Atom (term_tree bank a.0) → Extends bank new → HasTerm new head.0
+        → term_tree new head.0 ≡ close (env_vars before w.count) (term_tree bank a.0) → Opens first items before clause k new now terms head top
+    unfolding way_extends
+    way_end a head new seen e has closed =
+        let tree : form_tree first form.0 ≡ Atom (term_tree bank a.0) = sym (same_part form w.inside) ∙ seen in
+        let last : at ≡ 0 = (let q = subst (λ t. at < length (ways t)) tree w.among in omega arith) in let z = way_extends new e in record {
           premises = w.premises;
           goals = w.goals;
           shows = w.shows;
-          goals_are = w.goals_are;
+          goals_are = z.goals_are;
           count = w.count;
-          terms_inside = w.terms_inside;
-          variables = w.variables;
+          terms_inside = z.terms_inside;
+          variables = z.variables;
           way = w.way 0 ((λ i. slice_get (ways (tree i)) (last i))) ∙ ap (λ m. Some m) (let e : w.count + 0 ≡ w.count = omega arith in e);
           inside = has;
           leaf_is =
               ap (λ m. leaf (form_tree first clause) k (vars_from before m)) (let e : w.count ≡ w.count + 0 = omega arith in e)
-              ∙ w.leaf_is 0 (record { premises = []; head = term_tree bank a.0 }) ((λ i. leaf (tree i) (last i) []) ∙ leaf_atom (term_tree bank a.0));
+              ∙ w.leaf_is 0 (record { premises = []; head = term_tree new head.0 })
+              ((λ i. leaf_from (env_vars before w.count) (tree i) (last i) []) ∙ (let some : Term → Option Leaf = λ t. Some (record { premises = []; head = t }) in ap some (sym closed)));
         }

@@ -22,24 +22,6 @@ pub record AreGoalsOf (bank : Nodes) (goals : List FormAt) (premises : List Prem
   pub inside : All (λ g. HasForm bank g.0) goals
   pub trees : map (λ g. form_tree bank g.0) goals ≡ map premise_goal premises
 
--- What is left of a clause on the way to one of its leaves: a clause with a leaf, whose premises are those nearest the head. The
--- others are on the agenda in front of the items that were there, and the variables made so far are behind those that there were.
-pub record IsOnWay (first : Nodes) (items : List Item) (before clause k : ℕ) (bank : Nodes) (now : Frames Item) (terms : List At) (form at : ℕ) (top : Top) : Type 0 where
-  pub keeps : Extends first bank
-  pub inside : HasForm bank form
-  pub is : IsClause (form_tree bank form)
-  pub among : at < length (ways (form_tree bank form))
-  pub premises : List Premise
-  pub goals : List FormAt
-  pub shows : ShowsItems now top (map Goal goals ++ items)
-  pub goals_are : AreGoalsOf bank goals premises
-  pub count : ℕ
-  pub terms_inside : AllInTerms bank terms
-  pub variables : term_trees bank terms ≡ vars_from 0 (before + count)
-  pub way : (n : ℕ) → slice_get (ways (form_tree bank form)) at ≡ Some n → slice_get (ways (form_tree first clause)) k ≡ Some (count + n)
-  pub leaf_is : (n : ℕ) (l : Leaf) → leaf (form_tree bank form) at (vars_from (before + count) n) ≡ Some l
-      → leaf (form_tree first clause) k (vars_from before (count + n)) ≡ Some (record { premises = l.premises ++ premises; head = l.head })
-
 -- the leaf is open: its premises are on the agenda, the nearest to the head in front, its head is at a place, and it has its variables
 pub record Opens (first : Nodes) (items : List Item) (before clause k : ℕ) (bank : Nodes) (now : Frames Item) (terms : List At) (head : At) (top : Top) : Type 0 where
   pub premises : List Premise

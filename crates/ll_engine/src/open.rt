@@ -9,6 +9,7 @@ ghost use Rattle.ll_engine.specs.Opening.{IsClause, Opens, IsSide, Appends};
 use crate::candidates::count_leaves;
 use ll_agenda::{Agenda, Top};
 use ll_bank::{At, Bank, FormAt, FormNode, OutOfMemory};
+use ll_close::{close_form, close_term};
 use ll_freeze::Item;
 use std::alloc::Global;
 
@@ -27,7 +28,8 @@ pub struct Side {
 }
 
 /// Opens a leaf of a clause: new variables come behind `terms` for the quantifiers on its way, the outermost first, and its premises
-/// come in front of the agenda, the nearest to its head first. After a refusal the agenda and the variables may have grown.
+/// come in front of the agenda, the nearest to its head first. What holds no variable of the clause is shared with it. After a refusal the
+/// agenda and the variables may have grown.
 pub fn open_leaf(
     alloc: Global,
     bank: &mut Bank,
@@ -48,22 +50,28 @@ pub fn open_leaf(
     ensures frames { OnOk result (ExtendsFrames agenda.old agenda.new) }
     ensures more { OnOk result (Appends terms.old.items terms.new.items) }
 {
+    let from = terms.len();
     let mut form = clause;
     let mut leaf = leaf;
     let mut top = rest;
     loop {
         match bank.form_at(form) {
-            FormNode::Atom(head) => return Ok(Opened { head, top }),
+            FormNode::Atom(atom) => {
+                let head = close_term(alloc, bank, atom, &terms[from..])?;
+                return Ok(Opened { head, top });
+            }
             FormNode::With(left, right) => {
                 let side = side_of(alloc, bank, left, right, leaf)?;
                 form = side.form;
                 leaf = side.leaf;
             }
-            FormNode::Lolli(goal, next) => {
+            FormNode::Lolli(premise, next) => {
+                let goal = close_form(alloc, bank, premise, &terms[from..])?;
                 top = agenda.push(Item::Goal(goal), top)?;
                 form = next;
             }
-            FormNode::Imp(goal, next) => {
+            FormNode::Imp(premise, next) => {
+                let goal = close_form(alloc, bank, premise, &terms[from..])?;
                 let free = bank.form(FormNode::Bang(goal))?;
                 top = agenda.push(Item::Goal(free), top)?;
                 form = next;
@@ -71,7 +79,7 @@ pub fn open_leaf(
             FormNode::Forall(body) => {
                 let variable = bank.var(terms.len() as u64)?;
                 terms.push(variable)?;
-                form = bank.instantiate(body, variable)?;
+                form = body;
             }
             _ => unreachable!(),
         }

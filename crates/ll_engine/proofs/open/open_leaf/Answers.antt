@@ -1,137 +1,128 @@
+use Rattle.std.proofs.Common.{◌≡◌, ℕ, ◌++◌, List, append_assoc, refl, ap, sym, subst, ◌∙◌, length, take, drop, ◌-◌, inl, inr, [], ◌∷◌, true}
 use Rattle.std.proofs.lemmas.List.{append-nil}
-use Rattle.std.proofs.Common.{◌≡◌, ℕ, ◌++◌, append_assoc, refl, ap, sym, subst, ◌∙◌, arith, length, inl, inr, [], ◌∷◌, Some}
 use Rattle.std.proofs.lemmas.Bool.{cases_lt}
 use Rattle.ll_bank.specs.declared.FormAt.{FormAt}
-use Rattle.ll_bank.specs.Term.{Var}
-use Rattle.ll_bank.specs.Form.{Imp, Forall, Bang, instantiate, form_applies_heads}
-use Rattle.ll_bank.specs.Nodes.{form_tree, term_tree, HasForm, Extends}
-use Rattle.ll_bank.proofs.Trees.{Extends-trans, form_tree-extends, term_tree-extends, HasForm-extends, HasTerm-extends}
-use Rattle.ll_laws.specs.Leaf.{Needs, NeedsFree, ways, leaf}
+use Rattle.ll_bank.specs.Form.{Form, Atom, Lolli, Imp, Bang, close_form, form_applies_heads}
+use Rattle.ll_bank.specs.Term.{Env, Var, close, applies_heads}
+use Rattle.ll_bank.specs.Nodes.{Nodes, form_tree, term_tree, AllInTerms, HasForm, Extends}
+use Rattle.ll_bank.proofs.Trees.{Extends-trans, form_tree-extends, HasForm-extends}
+use Rattle.ll_close.specs.Closing.{env_of}
+use Rattle.ll_laws.specs.Leaf.{Needs, NeedsFree, ways, leaf_from}
+use Rattle.ll_laws.specs.Valid.{GoalSide, ClauseSide}
+use Rattle.ll_laws.proofs.ConsistentForms.{Fits as FormFits}
 use Rattle.ll_agenda.specs.Frames.{items_at}
-use Rattle.ll_engine.specs.Leaves.{walk_size}
-use Rattle.ll_engine.specs.Opening.{IsClause, IsOnWay}
-use Rattle.ll_engine.proofs.OpeningLemmas.{leaf_lolli, leaf_imp, walk_close}
-use Rattle.ll_engine.proofs.WayLemmas.{way_start, way_extends, way_left, way_right, way_past, way_in, way_end, clause_applies, clause_open, clause_lolli, clause_imp}
+use Rattle.ll_agenda.proofs.Lists.{Extends-refl as frames-refl, Extends-trans as frames-trans}
+use Rattle.ll_engine.proofs.WayLemmas.{IsOnWay, env_vars, scope_of, way_start, way_left, way_right, way_past, way_in, way_end, same_part, part_inside, closed_applies, slice_env}
 use Rattle.ll_engine.proofs.open.open_leaf.Goals as goal
 
-pub loop-head-init : goal.loop-head-init
-loop-head-init c = record {
+pub loop-atom-init : goal.loop-atom-init
+loop-atom-init c = record {
   way =
       way_start c.args.bank.now (items_at c.args.agenda.now c.args.rest) (length c.args.terms.now.items) c.args.clause.0 c.args.leaf c.args.agenda.now c.args.terms.now.items c.args.rest c.requires.inside c.requires.clause c.requires.among
       (record { inside = c.requires.top; list = refl }) c.requires.terms c.requires.variables;
-  frames = Rattle.ll_agenda.proofs.Lists.Extends-refl c.args.agenda.now;
+  frames = frames-refl c.args.agenda.now;
   more = record { more = []; is = sym (append-nil c.args.terms.now.items) };
 }
 
+pub close_term-requires-clause-heads : goal.close_term-requires-clause-heads
+close_term-requires-clause-heads c =
+    let w = c.loop-atom.invariant.way in let a = term_tree c.loop-atom.bank c.in-Atom.atom.0 in
+    let tree : form_tree c.args.bank.now c.loop-atom.form.0 ≡ Atom a = sym (same_part c.args.bank.now (items_at c.args.agenda.now c.args.rest) (length c.args.terms.now.items) c.args.clause.0 c.args.leaf c.loop-atom.bank c.loop-atom.agenda c.loop-atom.terms.items c.loop-atom.form c.loop-atom.leaf c.loop-atom.top c.loop-atom.invariant.way c.loop-atom.form w.inside) ∙ c.in-Atom.ensures.shown.tree in
+    subst (λ (e : Env). applies_heads (close e a) ≡ true) (sym (slice_env c.loop-atom.bank c.deref.result.now c.loop-atom.terms.items c.len-from.result (length c.args.terms.now.items) c.loop-atom.invariant.way.count c.deref.ensures.value (c.len-from.ensures ∙ c.args.terms.now.ok.0) c.loop-atom.invariant.way.variables))
+    (closed_applies w.may (length c.args.terms.now.items) w.count ClauseSide (Atom a) (subst (FormFits w.may ClauseSide (scope_of w.count)) tree w.fits))
+
 pub returns-in-Atom-clause-opened : goal.returns-in-Atom-clause-opened
-returns-in-Atom-clause-opened c = way_end c.args.bank.now (items_at c.args.agenda.now c.args.rest) (length c.args.terms.now.items) c.args.clause.0 c.args.leaf c.loop-head.bank c.loop-head.agenda c.loop-head.terms.items c.loop-head.form c.loop-head.leaf c.loop-head.top c.loop-head.invariant.way c.in-Atom.head c.in-Atom.ensures.shown.tree c.in-Atom.ensures.shown.parts
+returns-in-Atom-clause-opened c =
+    let made = c.in_ok-head-in-Atom.ensures.shows in
+    way_end c.args.bank.now (items_at c.args.agenda.now c.args.rest) (length c.args.terms.now.items) c.args.clause.0 c.args.leaf c.loop-atom.bank c.loop-atom.agenda c.loop-atom.terms.items c.loop-atom.form c.loop-atom.leaf c.loop-atom.top c.loop-atom.invariant.way c.in-Atom.atom c.in_ok-head-in-Atom.head c.close_term.new.bank c.in-Atom.ensures.shown.tree c.in_ok-head-in-Atom.ensures.keeps made.inside
+    (made.tree ∙ ap (λ (e : Env). close e (term_tree c.loop-atom.bank c.in-Atom.atom.0)) (slice_env c.loop-atom.bank c.deref.result.now c.loop-atom.terms.items c.len-from.result (length c.args.terms.now.items) c.loop-atom.invariant.way.count c.deref.ensures.value (c.len-from.ensures ∙ c.args.terms.now.ok.0) c.loop-atom.invariant.way.variables))
 
-pub loop-head-preserved-in-With : goal.loop-head-preserved-in-With
-loop-head-preserved-in-With c = record {
+pub loop-atom-preserved-in-With : goal.loop-atom-preserved-in-With
+loop-atom-preserved-in-With c = record {
   way =
-      let h = c.loop-head.invariant.way.inside in
-      let p = c.in-With.ensures.shown.parts.0 in
-      let q = c.in-With.ensures.shown.parts.1 in
       let side = c.in_ok-side-in-With.side in
-      elim (cases_lt c.loop-head.leaf (length (ways (form_tree c.loop-head.bank c.in-With.left.0)))) [
+      elim (cases_lt c.loop-atom.leaf (length (ways (form_tree c.loop-atom.bank c.in-With.left.0)))) [
         | inl l ↦ let s = c.in_ok-side-in-With.ensures.0 l in
-            subst (λ (f : FormAt). IsOnWay c.args.bank.now (items_at c.args.agenda.now c.args.rest) (length c.args.terms.now.items) c.args.clause.0 c.args.leaf c.loop-head.bank c.loop-head.agenda c.loop-head.terms.items f.0 side.leaf c.loop-head.top) (sym s.0)
-            (subst (λ (j : ℕ). IsOnWay c.args.bank.now (items_at c.args.agenda.now c.args.rest) (length c.args.terms.now.items) c.args.clause.0 c.args.leaf c.loop-head.bank c.loop-head.agenda c.loop-head.terms.items c.in-With.left.0 j c.loop-head.top) (sym s.1)
-            (way_left c.args.bank.now (items_at c.args.agenda.now c.args.rest) (length c.args.terms.now.items) c.args.clause.0 c.args.leaf c.loop-head.bank c.loop-head.agenda c.loop-head.terms.items c.loop-head.form c.loop-head.leaf c.loop-head.top c.loop-head.invariant.way c.in-With.left c.in-With.right c.in-With.ensures.shown.tree (omega arith) l))
+            subst (λ (f : FormAt). IsOnWay c.args.bank.now (items_at c.args.agenda.now c.args.rest) (length c.args.terms.now.items) c.args.clause.0 c.args.leaf c.loop-atom.bank c.loop-atom.agenda c.loop-atom.terms.items f.0 side.leaf c.loop-atom.top) (sym s.0)
+            (subst (λ (j : ℕ). IsOnWay c.args.bank.now (items_at c.args.agenda.now c.args.rest) (length c.args.terms.now.items) c.args.clause.0 c.args.leaf c.loop-atom.bank c.loop-atom.agenda c.loop-atom.terms.items c.in-With.left.0 j c.loop-atom.top) (sym s.1)
+            (way_left c.args.bank.now (items_at c.args.agenda.now c.args.rest) (length c.args.terms.now.items) c.args.clause.0 c.args.leaf c.loop-atom.bank c.loop-atom.agenda c.loop-atom.terms.items c.loop-atom.form c.loop-atom.leaf c.loop-atom.top c.loop-atom.invariant.way c.in-With.left c.in-With.right c.in-With.ensures.shown.tree c.in-With.ensures.shown.parts l))
         | inr l ↦ let s = c.in_ok-side-in-With.ensures.1 l in
-            subst (λ (f : FormAt). IsOnWay c.args.bank.now (items_at c.args.agenda.now c.args.rest) (length c.args.terms.now.items) c.args.clause.0 c.args.leaf c.loop-head.bank c.loop-head.agenda c.loop-head.terms.items f.0 side.leaf c.loop-head.top) (sym s.0)
-            (way_right c.args.bank.now (items_at c.args.agenda.now c.args.rest) (length c.args.terms.now.items) c.args.clause.0 c.args.leaf c.loop-head.bank c.loop-head.agenda c.loop-head.terms.items c.loop-head.form c.loop-head.leaf c.loop-head.top c.loop-head.invariant.way c.in-With.left c.in-With.right side.leaf c.in-With.ensures.shown.tree (omega arith) l s.1)
+            subst (λ (f : FormAt). IsOnWay c.args.bank.now (items_at c.args.agenda.now c.args.rest) (length c.args.terms.now.items) c.args.clause.0 c.args.leaf c.loop-atom.bank c.loop-atom.agenda c.loop-atom.terms.items f.0 side.leaf c.loop-atom.top) (sym s.0)
+            (way_right c.args.bank.now (items_at c.args.agenda.now c.args.rest) (length c.args.terms.now.items) c.args.clause.0 c.args.leaf c.loop-atom.bank c.loop-atom.agenda c.loop-atom.terms.items c.loop-atom.form c.loop-atom.leaf c.loop-atom.top c.loop-atom.invariant.way c.in-With.left c.in-With.right side.leaf c.in-With.ensures.shown.tree c.in-With.ensures.shown.parts l s.1)
       ];
-  frames = c.loop-head.invariant.frames;
-  more = c.loop-head.invariant.more;
+  frames = c.loop-atom.invariant.frames;
+  more = c.loop-atom.invariant.more;
 }
 
-pub loop-head-preserved-in-Lolli : goal.loop-head-preserved-in-Lolli
-loop-head-preserved-in-Lolli c = record {
+pub close_form-requires-clause-heads : goal.close_form-requires-clause-heads
+close_form-requires-clause-heads c =
+    let w = c.loop-atom.invariant.way in
+    let a = part_inside c.args.bank.now (items_at c.args.agenda.now c.args.rest) (length c.args.terms.now.items) c.args.clause.0 c.args.leaf c.loop-atom.bank c.loop-atom.agenda c.loop-atom.terms.items c.loop-atom.form c.loop-atom.leaf c.loop-atom.top c.loop-atom.invariant.way c.in-Lolli.premise c.in-Lolli.ensures.shown.parts.0 in let b = part_inside c.args.bank.now (items_at c.args.agenda.now c.args.rest) (length c.args.terms.now.items) c.args.clause.0 c.args.leaf c.loop-atom.bank c.loop-atom.agenda c.loop-atom.terms.items c.loop-atom.form c.loop-atom.leaf c.loop-atom.top c.loop-atom.invariant.way c.in-Lolli.next c.in-Lolli.ensures.shown.parts.1 in
+    let g = form_tree c.args.bank.now c.in-Lolli.premise.0 in let r = form_tree c.args.bank.now c.in-Lolli.next.0 in
+    let tree : form_tree c.args.bank.now c.loop-atom.form.0 ≡ Lolli g r =
+    sym (same_part c.args.bank.now (items_at c.args.agenda.now c.args.rest) (length c.args.terms.now.items) c.args.clause.0 c.args.leaf c.loop-atom.bank c.loop-atom.agenda c.loop-atom.terms.items c.loop-atom.form c.loop-atom.leaf c.loop-atom.top c.loop-atom.invariant.way c.loop-atom.form w.inside) ∙ (c.in-Lolli.ensures.shown.tree ∙ (λ i. Lolli (same_part c.args.bank.now (items_at c.args.agenda.now c.args.rest) (length c.args.terms.now.items) c.args.clause.0 c.args.leaf c.loop-atom.bank c.loop-atom.agenda c.loop-atom.terms.items c.loop-atom.form c.loop-atom.leaf c.loop-atom.top c.loop-atom.invariant.way c.in-Lolli.premise a i) (same_part c.args.bank.now (items_at c.args.agenda.now c.args.rest) (length c.args.terms.now.items) c.args.clause.0 c.args.leaf c.loop-atom.bank c.loop-atom.agenda c.loop-atom.terms.items c.loop-atom.form c.loop-atom.leaf c.loop-atom.top c.loop-atom.invariant.way c.in-Lolli.next b i))) in
+    subst (λ (f : Form). form_applies_heads (close_form (env_of c.loop-atom.bank (take (length c.deref-in-Lolli.result.now - c.len-from.result) (drop c.len-from.result c.deref-in-Lolli.result.now))) f) ≡ true) (sym (same_part c.args.bank.now (items_at c.args.agenda.now c.args.rest) (length c.args.terms.now.items) c.args.clause.0 c.args.leaf c.loop-atom.bank c.loop-atom.agenda c.loop-atom.terms.items c.loop-atom.form c.loop-atom.leaf c.loop-atom.top c.loop-atom.invariant.way c.in-Lolli.premise a))
+    (subst (λ (e : Env). form_applies_heads (close_form e g) ≡ true) (sym (slice_env c.loop-atom.bank c.deref-in-Lolli.result.now c.loop-atom.terms.items c.len-from.result (length c.args.terms.now.items) c.loop-atom.invariant.way.count c.deref-in-Lolli.ensures.value (c.len-from.ensures ∙ c.args.terms.now.ok.0) c.loop-atom.invariant.way.variables))
+    (closed_applies w.may (length c.args.terms.now.items) w.count GoalSide g (subst (FormFits w.may ClauseSide (scope_of w.count)) tree w.fits).0))
+
+pub close_form-requires-in-Imp-clause-heads : goal.close_form-requires-in-Imp-clause-heads
+close_form-requires-in-Imp-clause-heads c =
+    let w = c.loop-atom.invariant.way in
+    let a = part_inside c.args.bank.now (items_at c.args.agenda.now c.args.rest) (length c.args.terms.now.items) c.args.clause.0 c.args.leaf c.loop-atom.bank c.loop-atom.agenda c.loop-atom.terms.items c.loop-atom.form c.loop-atom.leaf c.loop-atom.top c.loop-atom.invariant.way c.in-Imp.premise c.in-Imp.ensures.shown.parts.0 in let b = part_inside c.args.bank.now (items_at c.args.agenda.now c.args.rest) (length c.args.terms.now.items) c.args.clause.0 c.args.leaf c.loop-atom.bank c.loop-atom.agenda c.loop-atom.terms.items c.loop-atom.form c.loop-atom.leaf c.loop-atom.top c.loop-atom.invariant.way c.in-Imp.next c.in-Imp.ensures.shown.parts.1 in
+    let g = form_tree c.args.bank.now c.in-Imp.premise.0 in let r = form_tree c.args.bank.now c.in-Imp.next.0 in
+    let tree : form_tree c.args.bank.now c.loop-atom.form.0 ≡ Imp g r =
+    sym (same_part c.args.bank.now (items_at c.args.agenda.now c.args.rest) (length c.args.terms.now.items) c.args.clause.0 c.args.leaf c.loop-atom.bank c.loop-atom.agenda c.loop-atom.terms.items c.loop-atom.form c.loop-atom.leaf c.loop-atom.top c.loop-atom.invariant.way c.loop-atom.form w.inside) ∙ (c.in-Imp.ensures.shown.tree ∙ (λ i. Imp (same_part c.args.bank.now (items_at c.args.agenda.now c.args.rest) (length c.args.terms.now.items) c.args.clause.0 c.args.leaf c.loop-atom.bank c.loop-atom.agenda c.loop-atom.terms.items c.loop-atom.form c.loop-atom.leaf c.loop-atom.top c.loop-atom.invariant.way c.in-Imp.premise a i) (same_part c.args.bank.now (items_at c.args.agenda.now c.args.rest) (length c.args.terms.now.items) c.args.clause.0 c.args.leaf c.loop-atom.bank c.loop-atom.agenda c.loop-atom.terms.items c.loop-atom.form c.loop-atom.leaf c.loop-atom.top c.loop-atom.invariant.way c.in-Imp.next b i))) in
+    subst (λ (f : Form). form_applies_heads (close_form (env_of c.loop-atom.bank (take (length c.deref-in-Imp.result.now - c.len-from.result) (drop c.len-from.result c.deref-in-Imp.result.now))) f) ≡ true) (sym (same_part c.args.bank.now (items_at c.args.agenda.now c.args.rest) (length c.args.terms.now.items) c.args.clause.0 c.args.leaf c.loop-atom.bank c.loop-atom.agenda c.loop-atom.terms.items c.loop-atom.form c.loop-atom.leaf c.loop-atom.top c.loop-atom.invariant.way c.in-Imp.premise a))
+    (subst (λ (e : Env). form_applies_heads (close_form e g) ≡ true) (sym (slice_env c.loop-atom.bank c.deref-in-Imp.result.now c.loop-atom.terms.items c.len-from.result (length c.args.terms.now.items) c.loop-atom.invariant.way.count c.deref-in-Imp.ensures.value (c.len-from.ensures ∙ c.args.terms.now.ok.0) c.loop-atom.invariant.way.variables))
+    (closed_applies w.may (length c.args.terms.now.items) w.count GoalSide g (subst (FormFits w.may ClauseSide (scope_of w.count)) tree w.fits).0))
+
+pub loop-atom-preserved-in-Lolli : goal.loop-atom-preserved-in-Lolli
+loop-atom-preserved-in-Lolli c = record {
   way =
-      let h = c.loop-head.invariant.way.inside in
-      let p = c.in-Lolli.ensures.shown.parts.0 in
-      let q = c.in-Lolli.ensures.shown.parts.1 in
-      let tree = c.in-Lolli.ensures.shown.tree in
-      let g = form_tree c.loop-head.bank c.in-Lolli.goal.0 in
-      let r = form_tree c.loop-head.bank c.in-Lolli.next.0 in
-      way_past c.args.bank.now (items_at c.args.agenda.now c.args.rest) (length c.args.terms.now.items) c.args.clause.0 c.args.leaf c.loop-head.bank c.loop-head.agenda c.loop-head.terms.items c.loop-head.form c.loop-head.leaf c.loop-head.top c.loop-head.invariant.way (Needs g) c.in-Lolli.goal c.in-Lolli.next c.push.new.self c.in_ok-top-in-Lolli.top (ap ways tree)
-      (λ ts. ap (λ t. leaf t c.loop-head.leaf ts) tree ∙ leaf_lolli g r c.loop-head.leaf ts) (omega arith) (clause_lolli g r (subst IsClause tree c.loop-head.invariant.way.is)) (omega arith) refl c.in_ok-top-in-Lolli.ensures.list;
-  frames = Rattle.ll_agenda.proofs.Lists.Extends-trans c.loop-head.invariant.frames c.push.ensures.keeps;
-  more = c.loop-head.invariant.more;
+      let w = c.loop-atom.invariant.way in let made = c.in_ok-goal-in-Lolli.ensures.shows in
+      let a = part_inside c.args.bank.now (items_at c.args.agenda.now c.args.rest) (length c.args.terms.now.items) c.args.clause.0 c.args.leaf c.loop-atom.bank c.loop-atom.agenda c.loop-atom.terms.items c.loop-atom.form c.loop-atom.leaf c.loop-atom.top c.loop-atom.invariant.way c.in-Lolli.premise c.in-Lolli.ensures.shown.parts.0 in let b = part_inside c.args.bank.now (items_at c.args.agenda.now c.args.rest) (length c.args.terms.now.items) c.args.clause.0 c.args.leaf c.loop-atom.bank c.loop-atom.agenda c.loop-atom.terms.items c.loop-atom.form c.loop-atom.leaf c.loop-atom.top c.loop-atom.invariant.way c.in-Lolli.next c.in-Lolli.ensures.shown.parts.1 in
+      let g = form_tree c.args.bank.now c.in-Lolli.premise.0 in let r = form_tree c.args.bank.now c.in-Lolli.next.0 in
+      let tree : form_tree c.args.bank.now c.loop-atom.form.0 ≡ Lolli g r =
+      sym (same_part c.args.bank.now (items_at c.args.agenda.now c.args.rest) (length c.args.terms.now.items) c.args.clause.0 c.args.leaf c.loop-atom.bank c.loop-atom.agenda c.loop-atom.terms.items c.loop-atom.form c.loop-atom.leaf c.loop-atom.top c.loop-atom.invariant.way c.loop-atom.form w.inside) ∙ (c.in-Lolli.ensures.shown.tree ∙ (λ i. Lolli (same_part c.args.bank.now (items_at c.args.agenda.now c.args.rest) (length c.args.terms.now.items) c.args.clause.0 c.args.leaf c.loop-atom.bank c.loop-atom.agenda c.loop-atom.terms.items c.loop-atom.form c.loop-atom.leaf c.loop-atom.top c.loop-atom.invariant.way c.in-Lolli.premise a i) (same_part c.args.bank.now (items_at c.args.agenda.now c.args.rest) (length c.args.terms.now.items) c.args.clause.0 c.args.leaf c.loop-atom.bank c.loop-atom.agenda c.loop-atom.terms.items c.loop-atom.form c.loop-atom.leaf c.loop-atom.top c.loop-atom.invariant.way c.in-Lolli.next b i))) in
+      way_past c.args.bank.now (items_at c.args.agenda.now c.args.rest) (length c.args.terms.now.items) c.args.clause.0 c.args.leaf c.loop-atom.bank c.loop-atom.agenda c.loop-atom.terms.items c.loop-atom.form c.loop-atom.leaf c.loop-atom.top c.loop-atom.invariant.way (Needs (close_form (env_vars (length c.args.terms.now.items) w.count) g)) c.in_ok-goal-in-Lolli.goal c.in-Lolli.next c.close_form.new.bank c.push.new.self c.in_ok-top-in-Lolli.top
+      c.in_ok-goal-in-Lolli.ensures.keeps (ap ways tree) (λ ts. ap (λ t. leaf_from (env_vars (length c.args.terms.now.items) w.count) t c.loop-atom.leaf ts) tree) b
+      (subst (FormFits w.may ClauseSide (scope_of w.count)) tree w.fits).1 made.inside
+      (made.tree ∙ (λ i. close_form ((slice_env c.loop-atom.bank c.deref-in-Lolli.result.now c.loop-atom.terms.items c.len-from.result (length c.args.terms.now.items) c.loop-atom.invariant.way.count c.deref-in-Lolli.ensures.value (c.len-from.ensures ∙ c.args.terms.now.ok.0) c.loop-atom.invariant.way.variables) i) (same_part c.args.bank.now (items_at c.args.agenda.now c.args.rest) (length c.args.terms.now.items) c.args.clause.0 c.args.leaf c.loop-atom.bank c.loop-atom.agenda c.loop-atom.terms.items c.loop-atom.form c.loop-atom.leaf c.loop-atom.top c.loop-atom.invariant.way c.in-Lolli.premise a i))) c.in_ok-top-in-Lolli.ensures.list;
+  frames = frames-trans c.loop-atom.invariant.frames c.push.ensures.keeps;
+  more = c.loop-atom.invariant.more;
 }
+
+pub loop-atom-preserved-in-Imp : goal.loop-atom-preserved-in-Imp
+loop-atom-preserved-in-Imp c = record {
+  way =
+      let w = c.loop-atom.invariant.way in let made = c.in_ok-goal-in-Imp.ensures.shows in let free = c.in_ok-free-in-Imp.ensures in
+      let a = part_inside c.args.bank.now (items_at c.args.agenda.now c.args.rest) (length c.args.terms.now.items) c.args.clause.0 c.args.leaf c.loop-atom.bank c.loop-atom.agenda c.loop-atom.terms.items c.loop-atom.form c.loop-atom.leaf c.loop-atom.top c.loop-atom.invariant.way c.in-Imp.premise c.in-Imp.ensures.shown.parts.0 in let b = part_inside c.args.bank.now (items_at c.args.agenda.now c.args.rest) (length c.args.terms.now.items) c.args.clause.0 c.args.leaf c.loop-atom.bank c.loop-atom.agenda c.loop-atom.terms.items c.loop-atom.form c.loop-atom.leaf c.loop-atom.top c.loop-atom.invariant.way c.in-Imp.next c.in-Imp.ensures.shown.parts.1 in
+      let g = form_tree c.args.bank.now c.in-Imp.premise.0 in let r = form_tree c.args.bank.now c.in-Imp.next.0 in
+      let tree : form_tree c.args.bank.now c.loop-atom.form.0 ≡ Imp g r =
+      sym (same_part c.args.bank.now (items_at c.args.agenda.now c.args.rest) (length c.args.terms.now.items) c.args.clause.0 c.args.leaf c.loop-atom.bank c.loop-atom.agenda c.loop-atom.terms.items c.loop-atom.form c.loop-atom.leaf c.loop-atom.top c.loop-atom.invariant.way c.loop-atom.form w.inside) ∙ (c.in-Imp.ensures.shown.tree ∙ (λ i. Imp (same_part c.args.bank.now (items_at c.args.agenda.now c.args.rest) (length c.args.terms.now.items) c.args.clause.0 c.args.leaf c.loop-atom.bank c.loop-atom.agenda c.loop-atom.terms.items c.loop-atom.form c.loop-atom.leaf c.loop-atom.top c.loop-atom.invariant.way c.in-Imp.premise a i) (same_part c.args.bank.now (items_at c.args.agenda.now c.args.rest) (length c.args.terms.now.items) c.args.clause.0 c.args.leaf c.loop-atom.bank c.loop-atom.agenda c.loop-atom.terms.items c.loop-atom.form c.loop-atom.leaf c.loop-atom.top c.loop-atom.invariant.way c.in-Imp.next b i))) in
+      way_past c.args.bank.now (items_at c.args.agenda.now c.args.rest) (length c.args.terms.now.items) c.args.clause.0 c.args.leaf c.loop-atom.bank c.loop-atom.agenda c.loop-atom.terms.items c.loop-atom.form c.loop-atom.leaf c.loop-atom.top c.loop-atom.invariant.way (NeedsFree (close_form (env_vars (length c.args.terms.now.items) w.count) g)) c.in_ok-free-in-Imp.free c.in-Imp.next c.form.new.self c.push-in-Imp.new.self c.in_ok-top-in-Imp.top
+      (Extends-trans c.in_ok-goal-in-Imp.ensures.keeps free.keeps) (ap ways tree) (λ ts. ap (λ t. leaf_from (env_vars (length c.args.terms.now.items) w.count) t c.loop-atom.leaf ts) tree) b
+      (subst (FormFits w.may ClauseSide (scope_of w.count)) tree w.fits).1 free.shows.inside
+      (free.shows.tree ∙ ap Bang (made.tree ∙ (λ i. close_form ((slice_env c.loop-atom.bank c.deref-in-Imp.result.now c.loop-atom.terms.items c.len-from.result (length c.args.terms.now.items) c.loop-atom.invariant.way.count c.deref-in-Imp.ensures.value (c.len-from.ensures ∙ c.args.terms.now.ok.0) c.loop-atom.invariant.way.variables) i) (same_part c.args.bank.now (items_at c.args.agenda.now c.args.rest) (length c.args.terms.now.items) c.args.clause.0 c.args.leaf c.loop-atom.bank c.loop-atom.agenda c.loop-atom.terms.items c.loop-atom.form c.loop-atom.leaf c.loop-atom.top c.loop-atom.invariant.way c.in-Imp.premise a i)))) c.in_ok-top-in-Imp.ensures.list;
+  frames = frames-trans c.loop-atom.invariant.frames c.push-in-Imp.ensures.keeps;
+  more = c.loop-atom.invariant.more;
+}
+
+pub loop-atom-preserved : goal.loop-atom-preserved
+loop-atom-preserved c = record {
+  way =
+      let v = c.in_ok-variable-in-Forall.variable in let shows = c.in_ok-variable-in-Forall.ensures.shows in
+      way_in c.args.bank.now (items_at c.args.agenda.now c.args.rest) (length c.args.terms.now.items) c.args.clause.0 c.args.leaf c.loop-atom.bank c.loop-atom.agenda c.loop-atom.terms.items c.loop-atom.form c.loop-atom.leaf c.loop-atom.top c.loop-atom.invariant.way c.in-Forall.body v c.var.new.self c.push-in-Forall.new.self.items c.in-Forall.ensures.shown.tree c.in-Forall.ensures.shown.parts c.in_ok-variable-in-Forall.ensures.keeps shows.inside
+      (shows.tree ∙ ap Var (c.len.ensures ∙ c.loop-atom.terms.ok.0)) c.in_ok-push-in-Forall.ensures.items;
+  frames = c.loop-atom.invariant.frames;
+  more = record { more = c.loop-atom.invariant.more.more ++ c.in_ok-variable-in-Forall.variable ∷ []; is = c.in_ok-push-in-Forall.ensures.items ∙ (ap (λ ts. ts ++ c.in_ok-variable-in-Forall.variable ∷ []) c.loop-atom.invariant.more.is ∙ append_assoc c.args.terms.now.items c.loop-atom.invariant.more.more (c.in_ok-variable-in-Forall.variable ∷ [])) };
+}
+
+pub returns-in_err-free-in-Imp-clause-keeps : goal.returns-in_err-free-in-Imp-clause-keeps
+returns-in_err-free-in-Imp-clause-keeps c = Extends-trans c.loop-atom.invariant.way.keeps (Extends-trans c.close_form-in-Imp.ensures.keeps c.form.ensures.keeps)
 
 pub returns-in_err-top-in-Imp-clause-keeps : goal.returns-in_err-top-in-Imp-clause-keeps
-returns-in_err-top-in-Imp-clause-keeps c = Extends-trans c.loop-head.invariant.way.keeps c.in_ok-free-in-Imp.ensures.keeps
-
-pub loop-head-preserved-in-Imp : goal.loop-head-preserved-in-Imp
-loop-head-preserved-in-Imp c = record {
-  way =
-      let h = c.loop-head.invariant.way.inside in
-      let p = c.in-Imp.ensures.shown.parts.0 in
-      let q = c.in-Imp.ensures.shown.parts.1 in
-      let e = c.in_ok-free-in-Imp.ensures.keeps in
-      let g = form_tree c.form.new.self c.in-Imp.goal.0 in
-      let r = form_tree c.form.new.self c.in-Imp.next.0 in
-      let has_goal : HasForm c.loop-head.bank c.in-Imp.goal.0 = omega arith in
-      let has_next : HasForm c.loop-head.bank c.in-Imp.next.0 = omega arith in
-      let same_goal = form_tree-extends e c.in-Imp.goal.0 has_goal in
-      let same_next = form_tree-extends e c.in-Imp.next.0 has_next in
-      let tree : form_tree c.form.new.self c.loop-head.form.0 ≡ Imp g r = form_tree-extends e c.loop-head.form.0 h ∙ (c.in-Imp.ensures.shown.tree ∙ (λ i. Imp (sym same_goal i) (sym same_next i))) in
-      let w = way_extends c.args.bank.now (items_at c.args.agenda.now c.args.rest) (length c.args.terms.now.items) c.args.clause.0 c.args.leaf c.loop-head.bank c.loop-head.agenda c.loop-head.terms.items c.loop-head.form c.loop-head.leaf c.loop-head.top c.loop-head.invariant.way c.form.new.self e in
-      way_past c.args.bank.now (items_at c.args.agenda.now c.args.rest) (length c.args.terms.now.items) c.args.clause.0 c.args.leaf c.form.new.self c.loop-head.agenda c.loop-head.terms.items c.loop-head.form c.loop-head.leaf c.loop-head.top w (NeedsFree g) c.in_ok-free-in-Imp.free c.in-Imp.next
-      c.push-in-Imp.new.self c.in_ok-top-in-Imp.top (ap ways tree) (λ ts. ap (λ t. leaf t c.loop-head.leaf ts) tree ∙ leaf_imp g r c.loop-head.leaf ts) (HasForm-extends e c.in-Imp.next.0 has_next)
-      (clause_imp g r (subst IsClause tree w.is)) c.in_ok-free-in-Imp.ensures.shows.inside (c.in_ok-free-in-Imp.ensures.shows.tree ∙ ap Bang (sym same_goal)) c.in_ok-top-in-Imp.ensures.list;
-  frames = Rattle.ll_agenda.proofs.Lists.Extends-trans c.loop-head.invariant.frames c.push-in-Imp.ensures.keeps;
-  more = c.loop-head.invariant.more;
-}
+returns-in_err-top-in-Imp-clause-keeps c = Extends-trans c.loop-atom.invariant.way.keeps (Extends-trans c.close_form-in-Imp.ensures.keeps c.form.ensures.keeps)
 
 pub returns-in_err-push-in-Forall-clause-keeps : goal.returns-in_err-push-in-Forall-clause-keeps
-returns-in_err-push-in-Forall-clause-keeps c = Extends-trans c.loop-head.invariant.way.keeps c.in_ok-variable-in-Forall.ensures.keeps
-
-pub instantiate-requires-clause-heads : goal.instantiate-requires-clause-heads
-instantiate-requires-clause-heads c =
-    let h = c.loop-head.invariant.way.inside in
-    let p = c.in-Forall.ensures.shown.parts in
-    let has_body : HasForm c.loop-head.bank c.in-Forall.body.0 = omega arith in
-    let same = form_tree-extends c.in_ok-variable-in-Forall.ensures.keeps c.in-Forall.body.0 has_body in
-    let inner = form_tree c.loop-head.bank c.in-Forall.body.0 in
-    let var = c.in_ok-variable-in-Forall.ensures.shows.tree in
-    (λ i. form_applies_heads (instantiate (same i) (var i))) ∙ clause_applies (instantiate inner (Var c.len.result)) (clause_open inner c.len.result (subst IsClause c.in-Forall.ensures.shown.tree c.loop-head.invariant.way.is))
-
-pub returns-in_err-form-in-Forall-clause-keeps : goal.returns-in_err-form-in-Forall-clause-keeps
-returns-in_err-form-in-Forall-clause-keeps c = Extends-trans (Extends-trans c.loop-head.invariant.way.keeps c.in_ok-variable-in-Forall.ensures.keeps) c.instantiate.ensures.keeps
-
-pub loop-head-smaller : goal.loop-head-smaller
-loop-head-smaller c =
-    let h = c.loop-head.invariant.way.inside in
-    let p = c.in-Forall.ensures.shown.parts in
-    let has_body : HasForm c.loop-head.bank c.in-Forall.body.0 = omega arith in
-    let same = ap walk_size (form_tree-extends c.in_ok-variable-in-Forall.ensures.keeps c.in-Forall.body.0 has_body) in
-    let a = ap walk_size c.in_ok-form-in-Forall.ensures.shows.tree ∙ walk_close (Some (term_tree c.var.new.self c.in_ok-variable-in-Forall.variable.0) ∷ []) (form_tree c.var.new.self c.in-Forall.body.0) in
-    let b = ap walk_size c.in-Forall.ensures.shown.tree in
-    omega arith
-
-pub loop-head-preserved : goal.loop-head-preserved
-loop-head-preserved c = record {
-  way =
-      let h = c.loop-head.invariant.way.inside in
-      let p = c.in-Forall.ensures.shown.parts in
-      let has_body : HasForm c.loop-head.bank c.in-Forall.body.0 = omega arith in
-      let e1 = c.in_ok-variable-in-Forall.ensures.keeps in
-      let e2 = c.in_ok-form-in-Forall.ensures.keeps in
-      let e : Extends c.loop-head.bank c.instantiate.new.self = Extends-trans e1 e2 in
-      let v = c.in_ok-variable-in-Forall.variable in
-      let shows = c.in_ok-variable-in-Forall.ensures.shows in
-      let same_var = term_tree-extends e2 v.0 shows.inside in
-      let same_body = form_tree-extends e2 c.in-Forall.body.0 (HasForm-extends e1 c.in-Forall.body.0 has_body) in
-      let tree : form_tree c.instantiate.new.self c.loop-head.form.0 ≡ Forall (form_tree c.instantiate.new.self c.in-Forall.body.0) =
-      form_tree-extends e c.loop-head.form.0 h ∙ (c.in-Forall.ensures.shown.tree ∙ ap Forall (sym (form_tree-extends e c.in-Forall.body.0 has_body)))
-      in
-      way_in c.args.bank.now (items_at c.args.agenda.now c.args.rest) (length c.args.terms.now.items) c.args.clause.0 c.args.leaf c.instantiate.new.self c.loop-head.agenda c.loop-head.terms.items c.loop-head.form c.loop-head.leaf c.loop-head.top
-      (way_extends c.args.bank.now (items_at c.args.agenda.now c.args.rest) (length c.args.terms.now.items) c.args.clause.0 c.args.leaf c.loop-head.bank c.loop-head.agenda c.loop-head.terms.items c.loop-head.form c.loop-head.leaf c.loop-head.top c.loop-head.invariant.way c.instantiate.new.self e) c.in-Forall.body c.in_ok-form-in-Forall.form v c.push-in-Forall.new.self.items tree (HasTerm-extends e2 v.0 shows.inside)
-      (same_var ∙ (shows.tree ∙ ap Var (let n : c.len.result ≡ length c.loop-head.terms.items = omega arith in n))) c.in_ok-push-in-Forall.ensures.items c.in_ok-form-in-Forall.ensures.shows.inside
-      (c.in_ok-form-in-Forall.ensures.shows.tree ∙ (λ i. instantiate (sym same_body i) (sym same_var i)));
-  frames = c.loop-head.invariant.frames;
-  more = record { more = c.loop-head.invariant.more.more ++ c.in_ok-variable-in-Forall.variable ∷ []; is = c.in_ok-push-in-Forall.ensures.items ∙ (ap (λ ts. ts ++ c.in_ok-variable-in-Forall.variable ∷ []) c.loop-head.invariant.more.is ∙ append_assoc c.args.terms.now.items c.loop-head.invariant.more.more (c.in_ok-variable-in-Forall.variable ∷ [])) };
-}
+returns-in_err-push-in-Forall-clause-keeps c = Extends-trans c.loop-atom.invariant.way.keeps c.var.ensures.keeps

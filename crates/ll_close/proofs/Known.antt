@@ -19,9 +19,6 @@ adds_put old new k image h q other e = step (same_spot k q) refl
         inr ((λ i. (eqb-true k.0 q.0 p.0 i, eqb-true k.1 q.1 p.1 i)), cc)
     step false s = inl (sym (h q ∙ ap (λ c. cond c (Some image) (old q)) s) ∙ e)
 
-pub adds_none : (old new : Spot → Option ℕ) (k : Spot) (image : ℕ) → ((q : Spot) → new q ≡ old q) → AddsImage old new k image
-adds_none old new k image h q other e = inl (sym (h q) ∙ e)
-
 pub images_add : (is_image : Spot → ℕ → Type 0) (old new : Spot → Option ℕ) (k : Spot) (image : ℕ) → AreImages is_image old → is_image k image → AddsImage old new k image → AreImages is_image new
 images_add is_image old new k image h here a = λ q other e. elim (a q other e) [
   | inl f ↦ h q other f

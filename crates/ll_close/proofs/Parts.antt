@@ -212,3 +212,11 @@ module _ (bank : Nodes) (env : Env) (at n : ℕ) (images : List FormAt) (are : A
   two_images f g m d e =
       let r = images_two (λ k (x : FormAt). IsFormImage bank env k x.0) (f, m) (g, m) images (subst (λ ps. AreImagesOf (λ k (x : FormAt). IsFormImage bank env k x.0) ps images) e seen_images) in
       (subst (λ xs. ShowsForm bank (get_or xs 0 d).0 (close_form (under env m) (form_tree bank f))) (sym r.2) r.3.1, subst (λ xs. ShowsForm bank (get_or xs 1 d).0 (close_form (under env m) (form_tree bank g))) (sym r.2) r.4.1)
+
+-- a term without arguments has no parts
+pub no_arguments : (bank : Nodes) (at n : ℕ) (h : Head) (args : List At) → slice_get bank.terms at ≡ Some (AppNode h (places args)) → length args ≡ 0 → term_parts_at bank (at, n) ≡ []
+no_arguments bank at n h args seen e = ap (λ node. term_parts node n) (node_seen bank at (AppNode h (places args)) seen) ∙ none args e
+  where
+    none : (xs : List At) → length xs ≡ 0 → map (λ (a : ℕ). let k : Spot = (a, n) in k) (places xs) ≡ []
+    none [] q = refl
+    none (x ∷ xs) q = absurd (omega arith)

@@ -99,6 +99,9 @@ slice_own {X} xs made below own i n e f g h =
     drop_front [] os = refl
     drop_front (b ∷ bs) os = drop_front bs os
 
+pub ends_with_none : {X : Type 0} (P : Spot → X → Type 0) (parts : List Spot) (made : List X) → parts ≡ [] → EndsWith P parts made
+ends_with_none P parts made e = record { below = made; own = []; is = sym (append-nil made); images = subst (λ ps. AreImagesOf P ps []) (sym e) tt }
+
 pub take_none : {X : Type 0} (made : List X) (parts : List Spot) → parts ≡ [] → made ≡ take (length made - length parts) made
 take_none made parts e = sym (take_all (length made - length parts) made (let l = ap length e in omega arith))
 

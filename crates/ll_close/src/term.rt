@@ -1,5 +1,5 @@
 //! Terms with values in place of their free bound places.
-ghost use Rattle.std.specs.Prelude.{◌≡◌, ◌-◌, ◌++◌, ◌∷◌, true, length, map, take, reverse, All, IfOk, OnOk};
+ghost use Rattle.std.specs.Prelude.{◌≡◌, ◌-◌, ◌++◌, ◌∷◌, [], true, length, map, take, reverse, All, IfOk, OnOk};
 ghost use Rattle.std.specs.HashMap.{get};
 ghost use Rattle.ll_bank.specs.Term.{close, close_head, place, apply, app as app_term, applies_heads};
 ghost use Rattle.ll_bank.specs.Nodes.{term_tree, term_trees, HasTerm, AllInTerms, ShowsTerm, Extends};
@@ -58,11 +58,26 @@ pub(crate) fn closed_term(
             made.push(image)?;
         } else if let Some(image) = images.find(task) {
             made.push(At(image))?;
+        } else if is_leaf(bank, task) {
+            let image = build_term(alloc, bank, task, values, &mut made)?;
+            made.push(image)?;
         } else {
             push_term(bank, task, &mut tasks)?;
         }
     }
     Ok(made[0])
+}
+
+/// Whether a term has no arguments.
+fn is_leaf(bank: &Bank, task: Task) -> bool
+    requires { HasTerm bank.now task.place }
+    ensures { result ≡ true → term_parts_at bank.now (task.place, task.level) ≡ [] }
+{
+    match bank.term_at(At(task.place)) {
+        TermView::Var(_) => true,
+        TermView::Int(_) => true,
+        TermView::App(_, args) => args.is_empty(),
+    }
 }
 
 /// Puts a term on the stack, which is ready, and its arguments above it.

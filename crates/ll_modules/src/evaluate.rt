@@ -1,14 +1,17 @@
 //! The values of expressions.
-ghost use Rattle.std.specs.Prelude.{◌≡◌, ◌++◌, ◌∷◌, [], ◌*◌, IfOk, length};
+ghost use Rattle.std.specs.Prelude.{◌≡◌, ◌++◌, ◌∷◌, [], ◌*◌, IfOk, OnOk, length};
+ghost use Rattle.std.specs.Ordering.{nat_cmp};
+ghost use Rattle.std.specs.BTreeMap.{get};
 ghost use Rattle.ll_bank.specs.Term.{Con};
 ghost use Rattle.ll_bank.specs.Nodes.{Nodes, term_tree, HasTerm};
 ghost use Rattle.ll_bank.specs.Opened.{term_size};
 ghost use Rattle.ll_laws.specs.Output.{name_text};
 ghost use Rattle.ll_laws.specs.Number.{Operators, operated, exactly, operator_spelled, operator_of, operators_of, value_of};
-ghost use Rattle.ll_modules.specs.Values.{shown_operator, seen_operator, AreInside, IsStep};
+ghost use Rattle.ll_modules.specs.Values.{shown_operator, seen_operator, AreInside, AreNoted, AreKnown, IsNoting, IsStep};
 
 use ll_bank::{At, Bank, Head, Names, OutOfMemory, TermView};
 use std::alloc::Global;
+use std::collections::BTreeMap;
 
 /// What an expression does with two whole numbers.
 #[derive(Clone, Copy)]
@@ -18,11 +21,15 @@ enum Operator {
     Product,
 }
 
-/// An operator whose left side is being evaluated, with its right side, or whose right side is, with the left one's value.
+/// What stands round the part that is being evaluated.
 #[derive(Clone, Copy)]
 enum Frame {
+    /// An operator whose left side is being evaluated, with its right side.
     Left(Operator, At),
+    /// An operator whose right side is being evaluated, with the left one's value.
     Right(Operator, i64),
+    /// The value is that of the term at this place, and is to be noted.
+    Note(At),
 }
 
 /// What is next: to evaluate an expression, or to go on with a value, if there is one.
@@ -34,33 +41,42 @@ enum Todo {
 
 /// The value of an expression, or none where it has none.
 ///
-/// The operators round the part that is being evaluated are kept in memory, not on the call stack. Nothing wraps: a part whose exact
-/// result does not fit in 64 bits has no value.
+/// The operators round the part that is being evaluated are kept in memory, not on the call stack. A part that is shared is evaluated
+/// once. Nothing wraps: a part whose exact result does not fit in 64 bits has no value.
 pub fn value(alloc: Global, bank: &Bank, names: &Names, at: At) -> Result<Option<i64>, OutOfMemory>
     requires { HasTerm bank.now at.0 }
     ensures { IfOk result (λ found. found ≡ value_of (operators_of names.now) (term_tree bank.now at.0)) }
 {
     let mut frames = Vec::new(alloc);
+    let mut known = BTreeMap::new(alloc);
     let mut todo = Todo::Enter(at);
     loop {
         match todo {
             Todo::Enter(at) => {
-                todo = enter(bank, names, at, &mut frames)?;
+                todo = enter(bank, names, at, &known, &mut frames)?;
             }
             Todo::Leave(value) => {
                 let Some(frame) = frames.pop() else {
                     return Ok(value);
                 };
-                todo = leave(frame, value, &mut frames)?;
+                todo = leave(frame, value, &mut known, &mut frames)?;
             }
         }
     }
 }
 
-/// The first step of evaluating an expression: an operator comes behind those round it, and its left side is next.
-fn enter(bank: &Bank, names: &Names, at: At, frames: &mut Vec<Frame>) -> Result<Todo, OutOfMemory>
+/// The first step of evaluating an expression: its value, if it is known, or else an operator comes behind those round it, and its left
+/// side is next.
+fn enter(
+    bank: &Bank,
+    names: &Names,
+    at: At,
+    known: &BTreeMap<usize, i64>,
+    frames: &mut Vec<Frame>,
+) -> Result<Todo, OutOfMemory>
     requires place { HasTerm bank.now at.0 }
     requires frames { AreInside bank.now frames.old.items }
+    requires known { AreKnown (operators_of names.now) bank.now (get nat_cmp known.now) }
     ensures { IfOk result (IsStep (operators_of names.now) bank.now frames.old.items (value_of (operators_of names.now) (term_tree bank.now at.0)) (2 * term_size (term_tree bank.now at.0)) frames.new.items) }
 {
     match bank.term_at(at) {
@@ -70,8 +86,12 @@ fn enter(bank: &Bank, names: &Names, at: At, frames: &mut Vec<Frame>) -> Result<
             if args.len() != 2 {
                 return Ok(Todo::Leave(None));
             }
+            if let Some(value) = known.get(&at.0).copied() {
+                return Ok(Todo::Leave(Some(value)));
+            }
             match operator_at(names, head) {
                 Some(operator) => {
+                    note(at, frames)?;
                     frames.push(Frame::Left(operator, args[1]))?;
                     Ok(Todo::Enter(args[0]))
                 }
@@ -81,9 +101,25 @@ fn enter(bank: &Bank, names: &Names, at: At, frames: &mut Vec<Frame>) -> Result<
     }
 }
 
+/// Wants the value of a term noted, unless nothing stands round it.
+fn note(at: At, frames: &mut Vec<Frame>) -> Result<(), OutOfMemory>
+    ensures { OnOk result (IsNoting at frames.old.items frames.new.items) }
+{
+    if !frames.is_empty() {
+        frames.push(Frame::Note(at))?;
+    }
+    Ok(())
+}
+
 /// The step from the value of one side of an operator: to its right side, or to its own value.
-fn leave(frame: Frame, value: Option<i64>, frames: &mut Vec<Frame>) -> Result<Todo, OutOfMemory>
-    ensures { IfOk result (λ todo. (ops : Operators) → (bank : Nodes) → AreInside bank (frames.old.items ++ frame ∷ []) → IsStep ops bank (frames.old.items ++ frame ∷ []) value 0 frames.new.items todo) }
+fn leave(
+    frame: Frame,
+    value: Option<i64>,
+    known: &mut BTreeMap<usize, i64>,
+    frames: &mut Vec<Frame>,
+) -> Result<Todo, OutOfMemory>
+    ensures known { OnOk result ((ops : Operators) → (bank : Nodes) → AreNoted ops bank (frames.old.items ++ frame ∷ []) value → AreKnown ops bank (get nat_cmp known.old) → AreKnown ops bank (get nat_cmp known.new)) }
+    ensures step { IfOk result (λ todo. (ops : Operators) → (bank : Nodes) → AreInside bank (frames.old.items ++ frame ∷ []) → IsStep ops bank (frames.old.items ++ frame ∷ []) value 0 frames.new.items todo) }
 {
     let Some(number) = value else {
         return Ok(Todo::Leave(None));
@@ -94,6 +130,10 @@ fn leave(frame: Frame, value: Option<i64>, frames: &mut Vec<Frame>) -> Result<To
             Ok(Todo::Enter(right))
         }
         Frame::Right(operator, left) => Ok(Todo::Leave(operate(operator, left, number))),
+        Frame::Note(at) => {
+            known.insert(at.0, number)?;
+            Ok(Todo::Leave(value))
+        }
     }
 }
 

@@ -1,0 +1,9 @@
+pub mod StandingLaws
+pub mod FirstLaws
+pub mod FirstRows
+pub mod KeyLemmas
+pub mod ChainLemmas
+pub mod WalkLemmas
+pub mod Matching
+pub mod IndexLemmas
+pub mod CallerLemmas

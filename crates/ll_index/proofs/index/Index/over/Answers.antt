@@ -1,0 +1,14 @@
+use Rattle.std.proofs.Common.{true, false, arith}
+use Rattle.ll_index.proofs.IndexLemmas.{length-next}
+use Rattle.ll_index.proofs.index.Index.over.Goals as goal
+
+pub invariant_of-result : goal.invariant_of-result
+invariant_of-result c =
+    let k = c.in_ok-leaves.leaves.ok.0 in
+    let n = c.in_ok-in_32_bits.ensures.fits in
+    let l = c.len.ensures in
+    record {
+      places = omega (arith, k, n, l);
+      by_predicate = length-next c.args.bank.now false c.deref.result.now c.in_ok-leaves.leaves.items c.in_ok-predicates.predicates c.in_ok-predicates.ensures c.deref.ensures.value;
+      by_sign = length-next c.args.bank.now true c.deref-2.result.now c.in_ok-leaves.leaves.items c.in_ok-signs.signs c.in_ok-signs.ensures c.deref-2.ensures.value;
+    }

@@ -16,6 +16,8 @@ mod Turns
 mod Stepping
 mod Labels
 mod Pointing
+mod Splitting
+mod Resuming
 mod Showing
 mod Rowing
 mod Settling

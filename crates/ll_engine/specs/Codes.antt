@@ -1,5 +1,5 @@
 -- Codes of what contracts see of engines, by which proofs tell their values apart.
-use Rattle.std.specs.Prelude.{◌≡◌, ℕ, List, Bool, Option, refl}
+use Rattle.std.specs.Prelude.{ℕ, List, Bool, Option, refl}
 use Rattle.std.specs.Coded.{Coded, code_by, coded×, coded_list, coded_ℕ, coded_bool, coded_option}
 use Rattle.ll_laws.specs.declared.Event.{Event}
 use Rattle.ll_laws.specs.contracts.Event as event

@@ -9,8 +9,10 @@ mod engine;
 mod numbers;
 mod open;
 mod quantifiers;
+mod resume;
 mod settle;
 mod spine;
+mod split;
 mod take;
 
 pub use engine::{Engine, Step2};

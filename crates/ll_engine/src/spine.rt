@@ -17,6 +17,7 @@ use ll_freeze::{ChoiceMark, Machine};
 use ll_laws::{Branch, Candidate, Problem};
 use std::alloc::Global;
 use std::collections::VecDeque;
+use std::snapshot::Snapshot;
 
 /// A choice point: a mark of the machine as it was settled, with a goal in front, and the candidates not tried yet, the first one last.
 /// There is one.
@@ -34,6 +35,10 @@ pub struct Spine<'p> {
     pub machine: Machine<'p>,
     /// The newest one last. Each has an untried candidate.
     pub points: VecDeque<Kept>,
+    /// The machine with which the search began, for contracts alone.
+    pub origin: Snapshot<Machine<'p>>,
+    /// There was a state in which it began.
+    pub began: bool,
 }
 
 impl<'p> Spine<'p> {
@@ -44,11 +49,14 @@ impl<'p> Spine<'p> {
         ensures start { IfOk result (λ z. spine_of z ≡ starting problem.entry.now (start_of problem.entry.now)) }
     {
         let machine = Machine::start(alloc, problem)?;
+        let origin = Snapshot::of(&machine);
         Ok(Spine {
             alloc,
             problem,
             machine,
             points: VecDeque::new(alloc),
+            origin,
+            began: true,
         })
     }
 

@@ -1,6 +1,6 @@
 use Rattle.std.proofs.Common.{sym, subst, List}
 use Rattle.ll_freeze.specs.Parts.{Parts, parts_of}
-use Rattle.ll_engine.specs.Pointed.{Held, held_of, helds, spine_of, IsOpen, AreTries, AreKept}
+use Rattle.ll_engine.specs.Pointed.{Held, held_of, helds, spine_of, first_of, IsOpen, AreTries, AreKept}
 use Rattle.ll_engine.proofs.Pointing.{popped, popped_kept, popped_tries, popped_open, helds_undone, marks_undone, retries_by}
 use Rattle.ll_engine.proofs.spine.Spine.retry.Goals as goal
 
@@ -36,6 +36,6 @@ choose-requires-clause-marks c =
 pub returns-clause-retries : goal.returns-clause-retries
 returns-clause-retries c =
     let z = c.args.self.now in let w = (popped c.args.self.now.machine c.args.self.now.points.items c.pop_back.new.self.items c.in-Some.kept c.in-Some.ensures.items c.requires.sound.marks) in
-    retries_by z.problem.now (parts_of z.machine) (parts_of c.undo.new.self) (helds z.machine z.points.items) (helds z.machine c.pop_back.new.self.items) (helds c.undo.new.self c.pop_back.new.self.items)
+    retries_by (first_of z) z.problem.now (parts_of z.machine) (parts_of c.undo.new.self) (helds z.machine z.points.items) (helds z.machine c.pop_back.new.self.items) (helds c.undo.new.self c.pop_back.new.self.items)
     (held_of z.machine c.in-Some.kept) c.in_ok-running-in-Some.running (spine_of c.choose.new.self) w.list c.undo.ensures.parts
     (helds_undone z.machine c.undo.new.self c.in-Some.kept.mark c.pop_back.new.self.items c.undo.ensures.marks w.goods w.before) c.in_ok-running-in-Some.ensures.chose

@@ -1,15 +1,14 @@
--- Eigenconstants in a head with arguments, and in the terms that wait.
-use Rattle.std.proofs.Common.{◌≡◌, ℕ, ◌+◌, ◌<◌, refl, ap, sym, subst, ◌∙◌, Bool, true, false, List, [], ◌∷◌, ◌++◌, length, arith}
-use Rattle.std.proofs.lemmas.List.Elements.{All-append, All-cons, All-head, All-tail}
-use Rattle.std.specs.Prelude.{◌||◌}
+-- Eigenconstants in a head with arguments, and in the terms at the places of a set.
+use Rattle.std.proofs.Common.{◌≡◌, ◌≢◌, ℕ, ◌<◌, refl, ap, sym, subst, ◌∙◌, Bool, true, false, eqb, List, [], ◌∷◌, length, inl, inr, arith, true≢false}
+use Rattle.std.proofs.lemmas.Bool.{or_left, or_right, or_cases, or_parts, eqb-true, eq-eqb, cases_eq}
+use Rattle.std.proofs.lemmas.List.Elements.{All-head, All-tail, All-cons}
+use Rattle.std.specs.Prelude.{◌||◌, All}
 use Rattle.std.specs.List.{list_any}
 use Rattle.ll_bank.specs.declared.At.{At}
 use Rattle.ll_bank.specs.declared.Head.{Head}
 use Rattle.ll_bank.specs.Term.{Term, Con, Ap, apply, app, has_eigen, is_eigen}
-use Rattle.std.specs.Prelude.{All}
-use Rattle.ll_bank.specs.Nodes.{Nodes, term_tree, term_trees, HasTerm, AllInTerms}
-use Rattle.ll_bank.specs.Opened.{term_size}
-use Rattle.ll_sequent.specs.Constants.{is_in, sizes}
+use Rattle.ll_bank.specs.Nodes.{Nodes, term_tree, term_trees, places, AllInTerms}
+use Rattle.ll_sequent.specs.Constants.{is_in, AreWithin, Gathers, IsFoundAmong, ArePartsOf, IsFreeBy}
 
 or_false : (b : Bool) → b ≡ (b || false)
 or_false true = refl
@@ -36,62 +35,108 @@ pub eigen_behind : (c : ℕ) (bank : Nodes) (h : Head) (args : List At) → is_e
 eigen_behind c bank h args e =
     eigen_apply c (Con h) (term_trees bank args) ∙ (ap (λ b. b || list_any (has_eigen c) (term_trees bank args)) e ∙ eigen_trees c bank args)
 
-size_apply : (bank : Nodes) (f : Term) (args : List At) → term_size (apply f (term_trees bank args)) ≡ term_size f + sizes bank args
-size_apply bank f [] = omega arith
-size_apply bank f (a ∷ args) = let h = size_apply bank (Ap f (term_tree bank a.0)) args in let e : sizes bank (a ∷ args) ≡ term_size (term_tree bank a.0) + sizes bank args = refl in omega (arith, h, e)
+-- ---- places among others
 
-pub size_behind : (bank : Nodes) (h : Head) (args : List At) → sizes bank args < term_size (app h (term_trees bank args))
-size_behind bank h args = let e = size_apply bank (Con h) args in let z : term_size (Con h) ≡ 2 = refl in omega (arith, e, z)
+each_free : (c : ℕ) (bank : Nodes) (args : List At) (k : ℕ) → is_in c bank args ≡ false → list_any (eqb k) (places args) ≡ true → has_eigen c (term_tree bank k) ≡ false
+each_free c bank [] k h e = absurd (true≢false (sym e))
+each_free c bank (a ∷ args) k h e =
+    let p = or_parts (has_eigen c (term_tree bank a.0)) (is_in c bank args) h in
+    elim (or_cases (eqb k a.0) (list_any (eqb k) (places args)) e) [
+      | inl q ↦ subst (λ n. has_eigen c (term_tree bank n) ≡ false) (sym (eqb-true k a.0 q)) p.0
+      | inr q ↦ each_free c bank args k p.1 q
+    ]
 
--- ---- the terms that wait
+free_each : (c : ℕ) (bank : Nodes) (args : List At) → ((k : ℕ) → list_any (eqb k) (places args) ≡ true → has_eigen c (term_tree bank k) ≡ false) → is_in c bank args ≡ false
+free_each c bank [] h = refl
+free_each c bank (a ∷ args) h =
+    let p = h a.0 (or_left (eqb a.0 a.0) (list_any (eqb a.0) (places args)) (eq-eqb a.0 a.0 refl)) in
+    let q = free_each c bank args (λ k e. h k (or_right (eqb k a.0) (list_any (eqb k) (places args)) e)) in
+    ap (λ b. b || is_in c bank args) p ∙ q
 
-any_onto : (c : ℕ) (bank : Nodes) (xs ys : List At) → is_in c bank (xs ++ ys) ≡ (is_in c bank xs || is_in c bank ys)
-any_onto c bank [] ys = refl
-any_onto c bank (x ∷ xs) ys =
-    ap (λ b. has_eigen c (term_tree bank x.0) || b) (any_onto c bank xs ys) ∙ sym (or_assoc (has_eigen c (term_tree bank x.0)) (is_in c bank xs) (is_in c bank ys))
+below_each : (args : List At) (k n : ℕ) → All (λ a. a.0 < n) args → list_any (eqb k) (places args) ≡ true → k < n
+below_each [] k n h e = absurd (true≢false (sym e))
+below_each (a ∷ args) k n h e = elim (or_cases (eqb k a.0) (list_any (eqb k) (places args)) e) [
+  | inl q ↦ let x = eqb-true k a.0 q in let y = All-head (λ (b : At). b.0 < n) a args h in omega arith
+  | inr q ↦ below_each args k n (All-tail (λ (b : At). b.0 < n) a args h) q
+]
 
-sizes_onto : (bank : Nodes) (xs ys : List At) → sizes bank (xs ++ ys) ≡ sizes bank xs + sizes bank ys
-sizes_onto bank [] ys = omega arith
-sizes_onto bank (x ∷ xs) ys = let h = sizes_onto bank xs ys in
-    let d : sizes bank (x ∷ (xs ++ ys)) ≡ term_size (term_tree bank x.0) + sizes bank (xs ++ ys) = refl in
-    let e : sizes bank (x ∷ xs) ≡ term_size (term_tree bank x.0) + sizes bank xs = refl in omega (arith, h, d, e)
+pub lower_places : (args : List At) (n : ℕ) → All (λ a. a.0 < n) args → All (λ a. a < n) (places args)
+lower_places [] n h = λ k d l. absurd (omega arith)
+lower_places (a ∷ args) n h = All-cons (λ b. b < n) a.0 (places args) (All-head (λ (b : At). b.0 < n) a args h) (lower_places args n (All-tail (λ (b : At). b.0 < n) a args h))
 
--- the last one is the constant's
-pub last_is_in : (c : ℕ) (bank : Nodes) (all rest : List At) (at : At) → all ≡ rest ++ at ∷ [] → has_eigen c (term_tree bank at.0) ≡ true → is_in c bank all ≡ true
-last_is_in c bank all rest at e h = ap (is_in c bank) e ∙ (any_onto c bank rest (at ∷ []) ∙ (ap (λ b. is_in c bank rest || (b || false)) h ∙ by_true (is_in c bank rest)))
+-- ---- sets that grow
+
+-- the places of terms came to a set
+pub gathers_terms : (bank : Nodes) (old new : ℕ → Bool) (args : List At) → AllInTerms bank args → ((k : ℕ) → new k ≡ (old k || list_any (eqb k) (places args))) → Gathers bank old new (λ c. is_in c bank args)
+gathers_terms bank old new args all ins = record {
+  inside = λ within k h. elim (or_cases (old k) (list_any (eqb k) (places args)) (sym (ins k) ∙ h)) [
+    | inl q ↦ within k q
+    | inr q ↦ below_each args k (length bank.terms) all q
+  ];
+  free = λ c f h k e. elim (or_cases (old k) (list_any (eqb k) (places args)) (sym (ins k) ∙ e)) [
+    | inl q ↦ f k q
+    | inr q ↦ each_free c bank args k h q
+  ];
+  older = λ c f k e. f k (ins k ∙ or_left (old k) (list_any (eqb k) (places args)) e);
+  none = λ c f. free_each c bank args (λ k e. f k (ins k ∙ or_right (old k) (list_any (eqb k) (places args)) e));
+}
+
+-- nothing came
+pub gathers_nothing : (bank : Nodes) (set : ℕ → Bool) → Gathers bank set set (λ c. false)
+gathers_nothing bank set = record { inside = λ w. w; free = λ c f h. f; older = λ c f. f; none = λ c f. refl }
+
+-- one after the other
+pub gathers_both : (bank : Nodes) (old mid new : ℕ → Bool) (one two : ℕ → Bool) → Gathers bank old mid one → Gathers bank mid new two → Gathers bank old new (λ c. one c || two c)
+gathers_both bank old mid new one two g h = record {
+  inside = λ w. h.inside (g.inside w);
+  free = λ c f e. let p = or_parts (one c) (two c) e in h.free c (g.free c f p.0) p.1;
+  older = λ c f. g.older c (h.older c f);
+  none = λ c f. ap (λ b. b || two c) (g.none c (h.older c f)) ∙ h.none c f;
+}
+
+pub gathers_as : (bank : Nodes) (old new : ℕ → Bool) (one two : ℕ → Bool) → ((c : ℕ) → one c ≡ two c) → Gathers bank old new one → Gathers bank old new two
+gathers_as bank old new one two same g = record { inside = g.inside; free = λ c f e. g.free c f (same c ∙ e); older = g.older; none = λ c f. sym (same c) ∙ g.none c f }
+
+-- ---- the look at a set
+
+pub looking_begins : (c : ℕ) (bank : Nodes) (set : ℕ → Bool) → AreWithin bank set → IsFreeBy c bank set set
+looking_begins c bank set within = record { inside = within; enough = λ f. f; needed = λ f. f }
+
+-- it goes on with the greatest place that waits, whose arguments then wait
+module _ (c : ℕ) (bank : Nodes) (set waits popped next : ℕ → Bool) (p : ℕ) (args : List At) (w : IsFreeBy c bank set waits) (member : waits p ≡ true)
+    (other : (k : ℕ) → k ≢ p → popped k ≡ waits k) (less : (k : ℕ) → popped k ≡ true → waits k ≡ true)
+    (ins : (k : ℕ) → next k ≡ (popped k || list_any (eqb k) (places args))) (parts : ArePartsOf c bank p args) where
+  pub looking_on : IsFreeBy c bank set next
+  looking_on = record {
+    inside = λ k h. elim (or_cases (popped k) (list_any (eqb k) (places args)) (sym (ins k) ∙ h)) [
+      | inl q ↦ w.inside k (less k q)
+      | inr q ↦ let a = below_each args k p parts.lower q in let b = w.inside p member in omega arith
+    ];
+    enough = λ all. w.enough (λ k h. elim (cases_eq k p) [
+      | inl e ↦ subst (λ n. has_eigen c (term_tree bank n) ≡ false) (sym e)
+          (parts.same ∙ free_each c bank args (λ j q. all j (ins j ∙ or_right (popped j) (list_any (eqb j) (places args)) q)))
+      | inr ne ↦ all k (ins k ∙ or_left (popped k) (list_any (eqb k) (places args)) (other k ne ∙ h))
+    ]);
+    needed = λ f k h. elim (or_cases (popped k) (list_any (eqb k) (places args)) (sym (ins k) ∙ h)) [
+      | inl q ↦ w.needed f k (less k q)
+      | inr q ↦ each_free c bank args k (sym parts.same ∙ w.needed f p member) q
+    ];
+  }
+
+-- it stops at a term whose head is the constant
+pub looking_stops : (c : ℕ) (bank : Nodes) (set waits : ℕ → Bool) (p : ℕ) → IsFreeBy c bank set waits → waits p ≡ true → has_eigen c (term_tree bank p) ≡ true → IsFoundAmong c bank set true
+looking_stops c bank set waits p w member e = record { none = λ h. absurd (true≢false h); free = λ f. absurd (true≢false (sym e ∙ w.needed f p member)) }
+
+-- at its end nothing waits
+pub looking_ends : (c : ℕ) (bank : Nodes) (set waits : ℕ → Bool) → IsFreeBy c bank set waits → ((k : ℕ) → waits k ≢ true) → IsFoundAmong c bank set false
+looking_ends c bank set waits w none = record { none = λ h. w.enough (λ k q. absurd (none k q)); free = λ f. refl }
+
+-- what is found among all that was gathered is found in what it was gathered from
+pub found_in : (c : ℕ) (bank : Nodes) (old new : ℕ → Bool) (has : ℕ → Bool) (found : Bool) → Gathers bank old new has → ((k : ℕ) → old k ≢ true) → IsFoundAmong c bank new found → found ≡ has c
+found_in c bank old new has found g none f = by found (has c) (λ e. g.none c (f.none e)) (λ e. f.free (g.free c (λ k q. absurd (none k q)) e))
   where
-    by_true : (b : Bool) → (b || true) ≡ true
-    by_true true = refl
-    by_true false = refl
-
--- the last one makes place for its arguments
-pub looked_at : (c : ℕ) (bank : Nodes) (all rest args new : List At) (at : At) → all ≡ rest ++ at ∷ [] → new ≡ rest ++ args → has_eigen c (term_tree bank at.0) ≡ is_in c bank args
-    → is_in c bank all ≡ is_in c bank new
-looked_at c bank all rest args new at e f h =
-    ap (is_in c bank) e
-    ∙ (any_onto c bank rest (at ∷ []) ∙ (ap (λ b. is_in c bank rest || b) (sym (or_false (has_eigen c (term_tree bank at.0))) ∙ h) ∙ (sym (any_onto c bank rest args) ∙ ap (is_in c bank) (sym f))))
-
-pub sizes_less : (bank : Nodes) (all rest args new : List At) (at : At) → all ≡ rest ++ at ∷ [] → new ≡ rest ++ args → sizes bank args < term_size (term_tree bank at.0)
-    → sizes bank new < sizes bank all
-sizes_less bank all rest args new at e f l =
-    let a = ap (sizes bank) e in
-    let b = ap (sizes bank) f in
-    let x = sizes_onto bank rest (at ∷ []) in
-    let y = sizes_onto bank rest args in
-    let z : sizes bank (at ∷ []) ≡ term_size (term_tree bank at.0) + sizes bank [] = refl in
-    omega (arith, a, b, x, y, l, z)
-
--- arguments lie below their term
-pub args_inside : (bank : Nodes) (at : ℕ) (args : List At) → HasTerm bank at → All (λ (a : At). a.0 < at) args → AllInTerms bank args
-args_inside bank at args h lower = λ k d l. let p = lower k d l in omega arith
-
--- the terms that wait stay in the bank
-pub front_inside : (bank : Nodes) (all rest args new : List At) (at : At) → all ≡ rest ++ at ∷ [] → new ≡ rest ++ args → AllInTerms bank all → AllInTerms bank args → AllInTerms bank new
-front_inside bank all rest args new at e f h i =
-    let P : List At → Type 0 = AllInTerms bank in subst P (sym f) (All-append (λ (a : At). a.0 < length bank.terms) rest args (front bank at rest (subst P e h)) i)
-  where
-    front : (bank : Nodes) (at : At) (xs : List At) → AllInTerms bank (xs ++ at ∷ []) → AllInTerms bank xs
-    front bank at [] h = λ k d l. absurd (let z : k < 0 = l in omega arith)
-    front bank at (x ∷ xs) h =
-        All-cons (λ (a : At). a.0 < length bank.terms) x xs (All-head (λ (a : At). a.0 < length bank.terms) x (xs ++ at ∷ []) h)
-        (front bank at xs (All-tail (λ (a : At). a.0 < length bank.terms) x (xs ++ at ∷ []) h))
+    by : (a b : Bool) → (a ≡ false → b ≡ false) → (b ≡ false → a ≡ false) → a ≡ b
+    by true true l r = refl
+    by true false l r = r refl
+    by false true l r = sym (l refl)
+    by false false l r = refl

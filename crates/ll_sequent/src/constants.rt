@@ -1,14 +1,19 @@
 //! Where eigenconstants stand.
-ghost use Rattle.std.specs.Prelude.{◌≡◌, ◌++◌, ◌∷◌, [], IfOk, OnOk};
-ghost use Rattle.ll_bank.specs.Term.{is_eigen};
-ghost use Rattle.ll_bank.specs.Nodes.{HasTerm, HasForm, AllInTerms};
-ghost use Rattle.ll_sequent.specs.Constants.{is_in, is_in_each, forms_of, stands_in, AllInForms, IsLookedAt, IsLookedInto};
+ghost use Rattle.std.specs.Prelude.{◌≡◌, ℕ, ◌++◌, ◌∷◌, [], ◌||◌, IfOk, OnOk, MatchOption, true, nat_eq};
+ghost use Rattle.std.specs.List.{list_any};
+ghost use Rattle.std.specs.Ordering.{nat_cmp};
+ghost use Rattle.std.specs.BTreeSet.{contains};
+ghost use Rattle.ll_bank.specs.Term.{is_eigen, has_eigen};
+ghost use Rattle.ll_bank.specs.Form.{form_has_eigen};
+ghost use Rattle.ll_bank.specs.Nodes.{term_tree, form_tree, places, HasTerm, HasForm, AllInTerms};
+ghost use Rattle.ll_sequent.specs.Constants.{is_in_each, forms_of, stands_in, AllInForms, AreWithin, Gathers, IsOpenedUp, IsFoundAmong, ArePartsOf};
 
 use crate::sequents::Resource;
 use ll_bank::{At, Bank, FormAt, FormNode, Head, OutOfMemory, TermView};
 use std::alloc::Global;
+use std::collections::BTreeSet;
 
-/// Whether the eigenconstant stands in a goal, in an unbounded clause or in a bounded one.
+/// Whether the eigenconstant stands in a goal, in an unbounded clause or in a bounded one. Terms that are shared are looked at once.
 pub(crate) fn stands(
     alloc: Global,
     bank: &Bank,
@@ -22,134 +27,91 @@ pub(crate) fn stands(
     requires bounded { AllInForms bank.now (forms_of bounded.now) }
     ensures { IfOk result (λ found. found ≡ stands_in constant bank.now goal free.now bounded.now) }
 {
-    if is_in_forms(alloc, bank, constant, &[goal])? {
-        return Ok(true);
-    }
-    if is_in_clauses(alloc, bank, constant, free)? {
-        return Ok(true);
-    }
-    let found = is_in_clauses(alloc, bank, constant, bounded)?;
+    let mut terms = BTreeSet::new(alloc);
+    gather(alloc, bank, goal, &mut terms)?;
+    gather_all(alloc, bank, free, &mut terms)?;
+    gather_all(alloc, bank, bounded, &mut terms)?;
+    let found = is_in_terms(bank, constant, terms)?;
     Ok(found)
 }
 
-/// Whether the eigenconstant stands in one of the clauses.
-fn is_in_clauses(
+// Puts the terms of clauses among those that are to be looked at. After a refusal some of them may be there.
+fn gather_all(
     alloc: Global,
     bank: &Bank,
-    constant: u32,
     clauses: &[Resource],
-) -> Result<bool, OutOfMemory>
+    terms: &mut BTreeSet<usize>,
+) -> Result<(), OutOfMemory>
     requires { AllInForms bank.now (forms_of clauses.now) }
-    ensures { IfOk result (λ found. found ≡ is_in_each constant bank.now (forms_of clauses.now)) }
+    ensures { OnOk result (Gathers bank.now (contains nat_cmp terms.old) (contains nat_cmp terms.new) (λ c. is_in_each c bank.now (forms_of clauses.now))) }
 {
-    let forms = forms_in(alloc, clauses)?;
-    let found = is_in_forms(alloc, bank, constant, &forms)?;
-    Ok(found)
-}
-
-/// The formulas of clauses.
-fn forms_in(alloc: Global, clauses: &[Resource]) -> Result<Vec<FormAt>, OutOfMemory>
-    ensures { IfOk result (λ forms. forms.items ≡ forms_of clauses.now) }
-{
-    let mut forms = Vec::new(alloc);
     for each in clauses {
-        forms.push(each.form)?;
+        gather(alloc, bank, each.form, terms)?;
     }
-    Ok(forms)
+    Ok(())
 }
 
-/// Whether the eigenconstant stands in one of the formulas. Parts that are shared are looked at once for each place where they stand.
-fn is_in_forms(
+// Puts the terms of a formula among those that are to be looked at. After a refusal some of them may be there.
+fn gather(
     alloc: Global,
     bank: &Bank,
-    constant: u32,
-    forms: &[FormAt],
-) -> Result<bool, OutOfMemory>
-    requires { AllInForms bank.now forms.now }
-    ensures { IfOk result (λ found. found ≡ is_in_each constant bank.now forms.now) }
+    form: FormAt,
+    terms: &mut BTreeSet<usize>,
+) -> Result<(), OutOfMemory>
+    requires { HasForm bank.now form.0 }
+    ensures { OnOk result (Gathers bank.now (contains nat_cmp terms.old) (contains nat_cmp terms.new) (λ c. form_has_eigen c (form_tree bank.now form.0))) }
 {
-    let mut waiting = Vec::from_slice(alloc, forms)?;
-    while let Some(form) = waiting.pop() {
-        if look_into(alloc, bank, constant, form, &mut waiting)? {
-            return Ok(true);
-        }
+    let mut waiting = Vec::new(alloc);
+    waiting.push(form)?;
+    while let Some(next) = waiting.pop() {
+        look_into(bank, next, &mut waiting, terms)?;
     }
-    Ok(false)
+    Ok(())
 }
 
-/// Whether the eigenconstant stands in a term of a formula. If not, the formulas inside come behind those that wait.
+// Puts the terms of a formula among those that are to be looked at, and the formulas inside behind those that wait.
 fn look_into(
-    alloc: Global,
     bank: &Bank,
-    constant: u32,
     form: FormAt,
     waiting: &mut Vec<FormAt>,
-) -> Result<bool, OutOfMemory>
+    terms: &mut BTreeSet<usize>,
+) -> Result<(), OutOfMemory>
     requires { HasForm bank.now form.0 }
-    ensures { IfOk result (IsLookedInto constant bank.now form.0 waiting.old.items waiting.new.items) }
+    ensures { OnOk result (IsOpenedUp bank.now form.0 waiting.old.items waiting.new.items (contains nat_cmp terms.old) (contains nat_cmp terms.new)) }
 {
     match bank.form_at(form) {
-        FormNode::Top => Ok(false),
-        FormNode::One => Ok(false),
-        FormNode::Atom(term) => {
-            let found = is_in_terms(alloc, bank, constant, &[term])?;
-            Ok(found)
-        }
-        FormNode::With(f, g) => {
-            wait_for(f, g, waiting)?;
-            Ok(false)
-        }
-        FormNode::Tensor(f, g) => {
-            wait_for(f, g, waiting)?;
-            Ok(false)
-        }
-        FormNode::Plus(f, g) => {
-            wait_for(f, g, waiting)?;
-            Ok(false)
-        }
+        FormNode::Top => Ok(()),
+        FormNode::One => Ok(()),
+        FormNode::Atom(term) => insert_all(terms, &[term]),
+        FormNode::With(f, g) => wait_for(f, g, waiting),
+        FormNode::Tensor(f, g) => wait_for(f, g, waiting),
+        FormNode::Plus(f, g) => wait_for(f, g, waiting),
         FormNode::Bang(f) => {
             waiting.push(f)?;
-            Ok(false)
+            Ok(())
         }
-        FormNode::Lolli(f, g) => {
-            wait_for(f, g, waiting)?;
-            Ok(false)
-        }
-        FormNode::Imp(f, g) => {
-            wait_for(f, g, waiting)?;
-            Ok(false)
-        }
+        FormNode::Lolli(f, g) => wait_for(f, g, waiting),
+        FormNode::Imp(f, g) => wait_for(f, g, waiting),
         FormNode::Forall(f) => {
             waiting.push(f)?;
-            Ok(false)
+            Ok(())
         }
         FormNode::Exists(f) => {
             waiting.push(f)?;
-            Ok(false)
+            Ok(())
         }
         FormNode::Use(_, args, f) => {
-            if is_in_terms(alloc, bank, constant, args)? {
-                return Ok(true);
-            }
+            insert_all(terms, args)?;
             waiting.push(f)?;
-            Ok(false)
+            Ok(())
         }
-        FormNode::Is(left, right) => {
-            let found = is_in_terms(alloc, bank, constant, &[left, right])?;
-            Ok(found)
-        }
-        FormNode::Less(left, right) => {
-            let found = is_in_terms(alloc, bank, constant, &[left, right])?;
-            Ok(found)
-        }
-        FormNode::Most(left, right) => {
-            let found = is_in_terms(alloc, bank, constant, &[left, right])?;
-            Ok(found)
-        }
+        FormNode::Is(left, right) => insert_all(terms, &[left, right]),
+        FormNode::Less(left, right) => insert_all(terms, &[left, right]),
+        FormNode::Most(left, right) => insert_all(terms, &[left, right]),
     }
 }
 
-/// Puts two formulas behind those that wait.
+// Puts two formulas behind those that wait.
 fn wait_for(left: FormAt, right: FormAt, waiting: &mut Vec<FormAt>) -> Result<(), OutOfMemory>
     ensures { OnOk result (waiting.new.items ≡ waiting.old.items ++ left ∷ right ∷ []) }
 {
@@ -158,39 +120,49 @@ fn wait_for(left: FormAt, right: FormAt, waiting: &mut Vec<FormAt>) -> Result<()
     Ok(())
 }
 
-/// Whether the eigenconstant stands in one of the terms.
-fn is_in_terms(alloc: Global, bank: &Bank, constant: u32, terms: &[At]) -> Result<bool, OutOfMemory>
-    requires { AllInTerms bank.now terms.now }
-    ensures { IfOk result (λ found. found ≡ is_in constant bank.now terms.now) }
+// Puts places among others. After a refusal some of them may be there.
+fn insert_all(terms: &mut BTreeSet<usize>, more: &[At]) -> Result<(), OutOfMemory>
+    ensures { OnOk result ((at : ℕ) → contains nat_cmp terms.new at ≡ (contains nat_cmp terms.old at || list_any (nat_eq at) (places more.now))) }
 {
-    let mut waiting = Vec::from_slice(alloc, terms)?;
-    while let Some(at) = waiting.pop() {
-        if look_at(bank, constant, at, &mut waiting)? {
+    for place in more {
+        terms.insert(place.0)?;
+    }
+    Ok(())
+}
+
+// Whether the eigenconstant stands in a term at one of these places.
+fn is_in_terms(bank: &Bank, constant: u32, mut terms: BTreeSet<usize>) -> Result<bool, OutOfMemory>
+    requires { AreWithin bank.now (contains nat_cmp terms) }
+    ensures { IfOk result (IsFoundAmong constant bank.now (contains nat_cmp terms)) }
+{
+    // Arguments lie at lower places, so the greatest place that waits has been met by all that it is an argument of.
+    while let Some(place) = terms.pop_last() {
+        let Some(args) = parts(bank, constant, At(place)) else {
             return Ok(true);
-        }
+        };
+        insert_all(&mut terms, args)?;
     }
     Ok(false)
 }
 
-/// Whether the eigenconstant is the head of a term. If not, the term's arguments come behind those that wait.
-fn look_at(bank: &Bank, constant: u32, at: At, waiting: &mut Vec<At>) -> Result<bool, OutOfMemory>
+// The arguments of a term; none where its head is the eigenconstant.
+fn parts(bank: &Bank, constant: u32, at: At) -> Option<&[At]>
     requires { HasTerm bank.now at.0 }
-    ensures { IfOk result (IsLookedAt constant bank.now at.0 waiting.old.items waiting.new.items) }
+    ensures { MatchOption result (has_eigen constant (term_tree bank.now at.0) ≡ true) (λ args. ArePartsOf constant bank.now at.0 args.now) }
 {
     match bank.term_at(at) {
-        TermView::Var(_) => Ok(false),
-        TermView::Int(_) => Ok(false),
+        TermView::Var(_) => Some(&[]),
+        TermView::Int(_) => Some(&[]),
         TermView::App(head, args) => {
             if is_constant(constant, head) {
-                return Ok(true);
+                return None;
             }
-            waiting.extend_from_slice(args)?;
-            Ok(false)
+            Some(args)
         }
     }
 }
 
-/// Whether a head is the eigenconstant.
+// Whether a head is the eigenconstant.
 fn is_constant(constant: u32, head: Head) -> bool
     ensures { result ≡ is_eigen constant head }
 {

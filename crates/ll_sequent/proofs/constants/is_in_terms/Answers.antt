@@ -1,19 +1,19 @@
-use Rattle.std.proofs.Common.{◌∙◌, Bool, false, subst}
-use Rattle.ll_sequent.specs.Constants.{IsLookedAt}
-use Rattle.ll_sequent.proofs.ConstantLemmas.{looked_at, sizes_less, front_inside}
+use Rattle.std.specs.Ordering.{nat_cmp}
+use Rattle.std.specs.BTreeSet.{contains}
+use Rattle.ll_bank.specs.Nodes.{places}
+use Rattle.ll_bank.proofs.WalkLemmas.{ceiling_falls, removed_other, removed_less}
+use Rattle.ll_sequent.proofs.ConstantLemmas.{lower_places, looking_on}
 use Rattle.ll_sequent.proofs.constants.is_in_terms.Goals as goal
 
-pub loop-at-smaller : goal.loop-at-smaller
-loop-at-smaller c =
-    let P : Bool → Type 0 = IsLookedAt c.args.constant c.args.bank.now c.in-Some.at.0 c.pop.new.self.items c.look_at.new.waiting.items in
-    let e : P false = subst P c.if-branch.false c.in_ok-look_at.ensures in
-    sizes_less c.args.bank.now c.loop-at.waiting.items c.pop.new.self.items e.0 c.look_at.new.waiting.items c.in-Some.at c.in-Some.ensures.items e.1.0 e.1.1.1.1
+pub loop-place-smaller : goal.loop-place-smaller
+loop-place-smaller c =
+    ceiling_falls c.loop-place.terms.keys c.pop_last.new.self.keys c.insert_all.new.terms.keys c.in-Some.place (places c.in-Some-parts.args.now)
+    c.in-Some.ensures.removal c.in-Some.ensures.all_below (λ at. c.in_ok-insert_all.ensures at) (lower_places c.in-Some-parts.args.now c.in-Some.place c.in-Some-parts.ensures.lower)
 
-pub loop-at-preserved : goal.loop-at-preserved
-loop-at-preserved c =
-    let P : Bool → Type 0 = IsLookedAt c.args.constant c.args.bank.now c.in-Some.at.0 c.pop.new.self.items c.look_at.new.waiting.items in
-    let e : P false = subst P c.if-branch.false c.in_ok-look_at.ensures in
-    record {
-      inside = front_inside c.args.bank.now c.loop-at.waiting.items c.pop.new.self.items e.0 c.look_at.new.waiting.items c.in-Some.at c.in-Some.ensures.items e.1.0 c.loop-at.invariant.inside e.1.1.0;
-      same = c.loop-at.invariant.same ∙ looked_at c.args.constant c.args.bank.now c.loop-at.waiting.items c.pop.new.self.items e.0 c.look_at.new.waiting.items c.in-Some.at c.in-Some.ensures.items e.1.0 e.1.1.1.0;
-    }
+pub loop-place-preserved : goal.loop-place-preserved
+loop-place-preserved c =
+    looking_on c.args.constant c.args.bank.now (contains nat_cmp c.args.terms) (contains nat_cmp c.loop-place.terms) (contains nat_cmp c.pop_last.new.self) (contains nat_cmp c.insert_all.new.terms)
+    c.in-Some.place c.in-Some-parts.args.now c.loop-place.invariant c.in-Some.ensures.member
+    (removed_other (contains nat_cmp c.loop-place.terms) (contains nat_cmp c.pop_last.new.self) c.in-Some.place c.in-Some.ensures.updates.0)
+    (removed_less (contains nat_cmp c.loop-place.terms) (contains nat_cmp c.pop_last.new.self) c.in-Some.place c.in-Some.ensures.updates.0)
+    (λ k. c.in_ok-insert_all.ensures k) c.in-Some-parts.ensures

@@ -1,13 +1,11 @@
-use Rattle.std.proofs.Common.{◌≡◌}
-use Rattle.ll_bank.specs.Nodes.{AllInTerms}
-use Rattle.ll_sequent.specs.Constants.{is_in, sizes}
+use Rattle.std.specs.Ordering.{nat_cmp}
+use Rattle.std.specs.BTreeSet.{contains}
+use Rattle.ll_bank.proofs.Ceiling.{ceiling}
+use Rattle.ll_sequent.specs.Constants.{IsFreeBy}
 use Rattle.ll_sequent.proofs.constants.is_in_terms.Given as goal
 
-abbrev pub invariant-loop-at : goal.invariant-loop-at
-invariant-loop-at l = record {
-  inside : AllInTerms l.bank l.waiting.items;
-  same : is_in l.constant l.bank l.terms ≡ is_in l.constant l.bank l.waiting.items;
-}
+abbrev pub invariant-loop-place : goal.invariant-loop-place
+invariant-loop-place l = IsFreeBy l.constant l.bank (contains nat_cmp l.fn.terms) (contains nat_cmp l.terms)
 
-abbrev pub decreases-loop-at : goal.decreases-loop-at
-decreases-loop-at l = sizes l.bank l.waiting.items
+abbrev pub decreases-loop-place : goal.decreases-loop-place
+decreases-loop-place l = ceiling l.terms.keys

@@ -1,6 +1,8 @@
 //! Unification by levels on the cells of a store.
 #![tactic(auto)]
 
+mod head;
+
 ghost use Rattle.std.specs.Prelude.{◌≡◌, true, length, All, IfOk};
 ghost use Rattle.ll_bank.specs.declared.At.{At as AtView};
 ghost use Rattle.ll_bank.specs.Nodes.{term_trees};
@@ -9,6 +11,7 @@ ghost use Rattle.ll_bindings.specs.Solving.{IsSolved, wanted};
 ghost use Rattle.ll_store.specs.Stored.{stored, KeepsMarks};
 ghost use Rattle.ll_store.specs.Tables.{table_of};
 
+pub use head::unify_head;
 use ll_bank::{At, OutOfMemory};
 use ll_store::Store;
 use std::alloc::Global;

@@ -41,7 +41,7 @@ sub-absent x t (Ap f a) o =
 bound-here : (x : ℕ) (t : Term) → bound_to x t x ≡ t
 bound-here x t = ap (λ b. if b then t else Var x) (eq-eqb x x refl)
 
-bound-other : (x y : ℕ) (t : Term) → y ≢ x → bound_to x t y ≡ Var y
+pub bound-other : (x y : ℕ) (t : Term) → y ≢ x → bound_to x t y ≡ Var y
 bound-other x y t n = ap (λ b. if b then t else Var y) (ne_eqb y x n)
 
 -- ---- cells
@@ -236,7 +236,7 @@ module _ (nodes : Nodes) (old new : Table) (x : ℕ) (to : At) (c : Change nodes
 
 -- ---- a variable and a term that is no variable
 
-length-lower : (l : ℕ) (t : Term) (levels : List ℕ) → length (lower l t levels) ≡ length levels
+pub length-lower : (l : ℕ) (t : Term) (levels : List ℕ) → length (lower l t levels) ≡ length levels
 length-lower l (Var x) levels = length-set levels x (min (slice_index levels x) l)
 length-lower l (Int z) levels = refl
 length-lower l (Con h) levels = refl
@@ -303,6 +303,33 @@ binds-good nodes old new x to vars tb b fr en n scan low bound =
       bound = bound;
       count = low.same_length;
       absent = scan.0.free;
+    }
+
+-- the binding to a term in which no level falls
+pub binds-plain : (nodes : Nodes) (old new : Table) (x : ℕ) (to : At) → IsTable nodes old → x < count old → cell old x ≡ None → IsEnd nodes old to.0 → ((y : ℕ) → term_tree nodes to.0 ≡ Var y → ⊥)
+    → occurs x (sub (found nodes old) (term_tree nodes to.0)) ≡ false → eigens_below (slice_index old.levels x) (sub (found nodes old) (term_tree nodes to.0)) ≡ true
+    → lower (slice_index old.levels x) (sub (found nodes old) (term_tree nodes to.0)) old.levels ≡ old.levels → IsSet old new x to
+    → Binds nodes old new (Var x) (term_tree nodes to.0) (bind old.levels x (sub (found nodes old) (term_tree nodes to.0))) true
+binds-plain nodes old new x to tb b fr en n absent eigens low set =
+    subst (λ o. Binds nodes old new (Var x) (term_tree nodes to.0) o true) (sym (bind-no_var old.levels x (found nodes old) (term_tree nodes to.0) n
+    ∙ (ap (λ c. if c then None else Some (record { var = x; value = t; levels = lower l t old.levels })) (λ i. absent i || not (eigens i))
+    ∙ ap (λ ls. Some (record { var = x; value = t; levels = ls })) (low ∙ sym set.levels)))) (has-bound nodes old new x to change)
+  where
+    l : ℕ
+    l = slice_index old.levels x
+
+    t : Term
+    t = sub (found nodes old) (term_tree nodes to.0)
+
+    change : Change nodes old new x to
+    change = record {
+      table = tb;
+      below = b;
+      free = fr;
+      place = en.place;
+      bound = set.bound;
+      count = ap length set.levels;
+      absent = absent;
     }
 
 -- ---- two variables
@@ -466,7 +493,7 @@ scan-level t x l vars u b c e f h = subst (λ k. IsScan t x k vars u c) e (subst
 -- what holds of an answer, another way
 -- ---- levels that fall one by one
 
-any-push : (x v : ℕ) (vs : List ℕ) → list_any (nat_eq x) (vs ++ v ∷ []) ≡ (list_any (nat_eq x) vs || nat_eq x v)
+pub any-push : (x v : ℕ) (vs : List ℕ) → list_any (nat_eq x) (vs ++ v ∷ []) ≡ (list_any (nat_eq x) vs || nat_eq x v)
 any-push x v [] = step (nat_eq x v)
   where
     step : (b : Bool) → (b || false) ≡ b

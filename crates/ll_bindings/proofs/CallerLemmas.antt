@@ -13,6 +13,12 @@ use Rattle.ll_laws.proofs.UnifyLaws.{or_cases}
 use Rattle.ll_bindings.specs.Bindings.{Table, cell, count, shown, followed, found, Reaches, stands, through, IsPlaceOf, IsTable}
 use Rattle.ll_bindings.specs.Solving.{along, wanted}
 pub use Rattle.ll_bindings.proofs.Readings.{found-free}
+pub use Rattle.ll_bindings.proofs.FreshLemmas.{clear-of, clear-var, fresh-keeps, fresh-first, clear-args, clear-join, clear-before, clear-behind, clear-same, none-false}
+pub use Rattle.ll_bindings.proofs.Spines.{args_in-app, weight-two, is_spine-app}
+pub use Rattle.ll_bindings.proofs.Alike.{diff-spine, diff-clash, diff-append, shape-length}
+pub use Rattle.ll_bindings.proofs.Pairs.{shape-app, spine-place, clash-int-app, clash-app-int}
+pub use Rattle.ll_bindings.proofs.Solving.{solves-alike, solves-none, solves-clash, solves-start}
+pub use Rattle.ll_bindings.proofs.Settling.{keeps-same, keeps-then}
 use Rattle.ll_bindings.proofs.Readings.{sub-agree, bound-inside, Obeys-found, found-only}
 
 -- ---- what is found for a variable

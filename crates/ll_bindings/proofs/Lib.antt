@@ -7,6 +7,7 @@ pub mod Alike
 pub mod Binding
 pub mod Pairs
 pub mod Solving
+pub mod FreshLemmas
 pub mod Settling
 pub mod CallerLemmas
 pub mod Copies

@@ -191,7 +191,7 @@ compare-classes nodes t u v a b c d ups e sa sb ca cb (OpenTerms x y) h =
 
 -- ---- what is left to compare
 
-lefts-push : (nodes : Nodes) (ps : List Pair) (p : Pair) → lefts nodes (ps ++ p ∷ []) ≡ drop p.next (args_in (term_tree nodes p.left.0)) ++ lefts nodes ps
+pub lefts-push : (nodes : Nodes) (ps : List Pair) (p : Pair) → lefts nodes (ps ++ p ∷ []) ≡ drop p.next (args_in (term_tree nodes p.left.0)) ++ lefts nodes ps
 lefts-push nodes [] p = sym (append-nil (drop p.next (args_in (term_tree nodes p.left.0))))
 lefts-push nodes (q ∷ ps) p =
     ap (λ ts. ts ++ drop q.next (args_in (term_tree nodes q.left.0))) (lefts-push nodes ps p)
@@ -219,29 +219,40 @@ alike-same nodes t ls rs ls2 rs2 p q s o = λ i. diff_lists (map (sub s) (p i)) 
 pub alike-trans : (nodes : Nodes) (t : Table) (a b c d e f : List Term) → Alike nodes t a b c d → Alike nodes t c d e f → Alike nodes t a b e f
 alike-trans nodes t a b c d e f p q s o = p s o ∙ q s o
 
+suc-next : (m n : ℕ) → m ≡ n + 1 → m ≡ suc n
+suc-next m n e = omega arith
+
+drop-first : (ts : List Term) (k : ℕ) (u : Term) → k < length ts → get_or ts k (Var 0) ≡ u → drop k ts ≡ u ∷ drop (suc k) ts
+drop-first ts k u l g = drop-cons ts k (Var 0) l ∙ ap (λ v. v ∷ drop (suc k) ts) g
+
 -- the next arguments of the pair on top
+pub lefts-next : (nodes : Nodes) (items ps : List Pair) (p q : Pair) (a : At) → items ≡ ps ++ p ∷ [] → ShowsArgument nodes p.left.0 p.next a.0 → q.left ≡ p.left → q.next ≡ p.next + 1
+    → lefts nodes items ≡ term_tree nodes a.0 ∷ lefts nodes (ps ++ q ∷ [])
+lefts-next nodes items ps p q a e sa ql qn =
+    ap (lefts nodes) e ∙ (lefts-push nodes ps p ∙ (ap (λ ts. ts ++ lefts nodes ps) (drop-first (args_in (term_tree nodes p.left.0)) p.next (term_tree nodes a.0) sa.among sa.is)
+    ∙ ap (λ ts. term_tree nodes a.0 ∷ ts) (sym (lefts-push nodes ps q ∙ (λ i. drop (suc-next q.next p.next qn i) (args_in (term_tree nodes (ql i).0)) ++ lefts nodes ps)))))
+
+rights-next : (nodes : Nodes) (items ps : List Pair) (p q : Pair) (b : At) → items ≡ ps ++ p ∷ [] → ShowsArgument nodes p.right.0 p.next b.0 → q.right ≡ p.right → q.next ≡ p.next + 1
+    → rights nodes items ≡ term_tree nodes b.0 ∷ rights nodes (ps ++ q ∷ [])
+rights-next nodes items ps p q b e sb qr qn =
+    ap (rights nodes) e ∙ (rights-push nodes ps p ∙ (ap (λ ts. ts ++ rights nodes ps) (drop-first (args_in (term_tree nodes p.right.0)) p.next (term_tree nodes b.0) sb.among sb.is)
+    ∙ ap (λ ts. term_tree nodes b.0 ∷ ts) (sym (rights-push nodes ps q ∙ (λ i. drop (suc-next q.next p.next qn i) (args_in (term_tree nodes (qr i).0)) ++ rights nodes ps)))))
+
 pub alike-next : (nodes : Nodes) (t : Table) (items ps : List Pair) (p q : Pair) (a b : At) → items ≡ ps ++ p ∷ [] → ShowsArgument nodes p.left.0 p.next a.0 → ShowsArgument nodes p.right.0 p.next b.0
     → q.left ≡ p.left → q.right ≡ p.right → q.next ≡ p.next + 1
     → Alike nodes t (lefts nodes items) (rights nodes items) (term_tree nodes a.0 ∷ lefts nodes (ps ++ q ∷ [])) (term_tree nodes b.0 ∷ rights nodes (ps ++ q ∷ []))
 alike-next nodes t items ps p q a b e sa sb ql qr qn =
     alike-same nodes t (lefts nodes items) (rights nodes items) (term_tree nodes a.0 ∷ lefts nodes (ps ++ q ∷ [])) (term_tree nodes b.0 ∷ rights nodes (ps ++ q ∷ []))
-    (ap (lefts nodes) e ∙ (lefts-push nodes ps p ∙ (ap (λ ts. ts ++ lefts nodes ps) (first (args_in (term_tree nodes p.left.0)) p.next (term_tree nodes a.0) sa.among sa.is)
-    ∙ ap (λ ts. term_tree nodes a.0 ∷ ts) (sym (lefts-push nodes ps q ∙ (λ i. drop (count1 i) (args_in (term_tree nodes (ql i).0)) ++ lefts nodes ps))))))
-    (ap (rights nodes) e ∙ (rights-push nodes ps p ∙ (ap (λ ts. ts ++ rights nodes ps) (first (args_in (term_tree nodes p.right.0)) p.next (term_tree nodes b.0) sb.among sb.is)
-    ∙ ap (λ ts. term_tree nodes b.0 ∷ ts) (sym (rights-push nodes ps q ∙ (λ i. drop (count1 i) (args_in (term_tree nodes (qr i).0)) ++ rights nodes ps))))))
-  where
-    count1 : q.next ≡ suc p.next
-    count1 = qn ∙ (omega arith)
-
-    first : (ts : List Term) (k : ℕ) (u : Term) → k < length ts → get_or ts k (Var 0) ≡ u → drop k ts ≡ u ∷ drop (suc k) ts
-    first ts k u l g = drop-cons ts k (Var 0) l ∙ ap (λ v. v ∷ drop (suc k) ts) g
+    (lefts-next nodes items ps p q a e sa ql qn) (rights-next nodes items ps p q b e sb qr qn)
 
 -- nothing is left of the pair on top
+pub lefts-done : (nodes : Nodes) (items ps : List Pair) (p : Pair) → items ≡ ps ++ p ∷ [] → length (args_in (term_tree nodes p.left.0)) ≤ p.next → lefts nodes items ≡ lefts nodes ps
+lefts-done nodes items ps p e l = ap (lefts nodes) e ∙ (lefts-push nodes ps p ∙ ap (λ ts. ts ++ lefts nodes ps) (drop_all p.next (args_in (term_tree nodes p.left.0)) l))
+
 pub alike-done : (nodes : Nodes) (t : Table) (items ps : List Pair) (p : Pair) → items ≡ ps ++ p ∷ [] → length (args_in (term_tree nodes p.left.0)) ≤ p.next
     → length (args_in (term_tree nodes p.left.0)) ≡ length (args_in (term_tree nodes p.right.0)) → Alike nodes t (lefts nodes items) (rights nodes items) (lefts nodes ps) (rights nodes ps)
 alike-done nodes t items ps p e l n =
-    alike-same nodes t (lefts nodes items) (rights nodes items) (lefts nodes ps) (rights nodes ps)
-    (ap (lefts nodes) e ∙ (lefts-push nodes ps p ∙ ap (λ ts. ts ++ lefts nodes ps) (drop_all p.next (args_in (term_tree nodes p.left.0)) l)))
+    alike-same nodes t (lefts nodes items) (rights nodes items) (lefts nodes ps) (rights nodes ps) (lefts-done nodes items ps p e l)
     (ap (rights nodes) e ∙ (rights-push nodes ps p ∙ ap (λ ts. ts ++ rights nodes ps) (drop_all p.next (args_in (term_tree nodes p.right.0)) (omega arith))))
 
 -- equal terms in front

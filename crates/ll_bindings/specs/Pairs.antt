@@ -11,7 +11,8 @@ use Rattle.ll_bindings.specs.declared.meet.Difference.{Difference}
 use Rattle.ll_bindings.specs.declared.meet.Difference.TheVariants.{Same as SameLists, Clash as ClashLists, Meet as MeetLists}
 use Rattle.ll_bindings.specs.Spines.{args_in, arg, rest_weight}
 use Rattle.ll_bindings.specs.Stacks.{Waits, Stack}
-use Rattle.ll_bindings.specs.Bindings.{Table, HasCells, IsPlaceOf, Obeys, AreSame, IsMeeting}
+use Rattle.ll_bindings.specs.Bindings.{Table, HasCells, IsPlaceOf, Obeys, AreSame, IsMeeting, found}
+use Rattle.ll_bindings.specs.Fresh.{AreClear}
 
 -- two terms
 pub record Two : Type 0 where
@@ -107,6 +108,8 @@ pub record MeetsFirst (nodes : Nodes) (t : Table) (old new : List Pair) (a b : A
   pub meeting : IsMeeting nodes t a.0 b.0
   pub alike : Alike nodes t (lefts nodes old) (rights nodes old) (term_tree nodes a.0 ∷ lefts nodes new) (term_tree nodes b.0 ∷ rights nodes new)
   pub rest : Awaits nodes t new (record { left = term_tree nodes a.0; right = term_tree nodes b.0 })
+  -- what stands in none of the left sides stands in none of those that are left
+  pub clear : (x l : ℕ) → AreClear (found nodes t) x l (lefts nodes old) → AreClear (found nodes t) x l (term_tree nodes a.0 ∷ lefts nodes new)
 
 -- where the pairs first differ
 abbrev pub IsDifference : Nodes → Table → List Pair → List Pair → Difference → Type 0

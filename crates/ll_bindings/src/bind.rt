@@ -1,10 +1,12 @@
 //! How a variable is bound.
-ghost use Rattle.std.specs.Prelude.{◌≡◌, ◌<◌, ℕ, None, length, All, IfOk, OnOk};
+ghost use Rattle.std.specs.Prelude.{◌≡◌, ◌<◌, ℕ, true, None, length, All, IfOk, OnOk, [], ◌∷◌};
 ghost use Rattle.ll_bank.specs.Term.{Var, sub};
 ghost use Rattle.ll_bank.specs.Nodes.{term_tree};
 ghost use Rattle.ll_laws.specs.Unify.{bind};
 ghost use Rattle.ll_bindings.specs.Bindings.{IsTable, IsEnd, found, count, cell, FallsOne, Falls, Binds, IsMeeting, Meets};
+ghost use Rattle.ll_bindings.specs.Fresh.{IsFresh, AreFresh, LeavesFresh, IsLeft, IsOther};
 
+use crate::fresh::Fresh;
 use crate::scan::{Seen, scan};
 use crate::table::{Bindings, is_older};
 use ll_bank::{At, Bank, OutOfMemory, TermView};
@@ -41,6 +43,7 @@ fn bind_term<T: Bindings>(
     bank: &Bank,
     table: &mut T,
     seen: &mut Seen,
+    fresh: &mut Fresh,
     var: usize,
     to: At,
 ) -> Result<bool, OutOfMemory>
@@ -51,6 +54,7 @@ fn bind_term<T: Bindings>(
     requires no_var { (x : ℕ) → term_tree bank.now to.0 ≡ Var x → ⊥ }
     ensures grows { T.grows table.old table.new }
     ensures binds { IfOk result (λ bound. Binds bank.now (T.table table.old) (T.table table.new) (Var var) (term_tree bank.now to.0) (bind (T.table table.old).levels var (sub (found bank.now (T.table table.old)) (term_tree bank.now to.0))) bound) }
+    ensures left { IfOk result (λ bound. bound ≡ true → (x : ℕ) → IsFresh fresh.new x → IsLeft fresh.old (T.table table.old).levels var (sub (found bank.now (T.table table.old)) (term_tree bank.now to.0)) x) }
 {
     let level = table.level(var);
     seen.clear();
@@ -59,26 +63,62 @@ fn bind_term<T: Bindings>(
     }
     lower(table, &seen.vars, level)?;
     table.set(var, to)?;
+    fresh.meet(var);
+    fresh.meet_all(&seen.vars);
     Ok(true)
 }
 
-/// Binds a variable at one of two places to what the other shows, or finds that it may not be.
+// Binds a variable to a term that is no variable, or finds that it may not be. A new one that was not met is bound at once: it does
+// not stand in the term, and no level falls.
+fn bind_right<T: Bindings>(
+    alloc: Global,
+    bank: &Bank,
+    table: &mut T,
+    seen: &mut Seen,
+    fresh: &mut Fresh,
+    var: usize,
+    to: At,
+) -> Result<bool, OutOfMemory>
+    requires table { IsTable bank.now (T.table table.old) }
+    requires below { var < count (T.table table.old) }
+    requires free { cell (T.table table.old) var ≡ None }
+    requires to { IsEnd bank.now (T.table table.old) to.0 }
+    requires no_var { (x : ℕ) → term_tree bank.now to.0 ≡ Var x → ⊥ }
+    requires fresh { AreFresh bank.now (T.table table.old) fresh.old (term_tree bank.now to.0 ∷ []) }
+    ensures grows { T.grows table.old table.new }
+    ensures binds { IfOk result (λ bound. Binds bank.now (T.table table.old) (T.table table.new) (Var var) (term_tree bank.now to.0) (bind (T.table table.old).levels var (sub (found bank.now (T.table table.old)) (term_tree bank.now to.0))) bound) }
+    ensures other { IfOk result (λ bound. bound ≡ true → (x : ℕ) → IsFresh fresh.new x → IsOther fresh.old var x) }
+{
+    if !fresh.has(var) {
+        return bind_term(alloc, bank, table, seen, fresh, var, to);
+    }
+    table.set(var, to)?;
+    fresh.meet(var);
+    Ok(true)
+}
+
+/// Binds a variable at one of two places to what the other shows, or finds that it may not be. New variables that were not met do not
+/// stand on the left.
 pub fn bind<T: Bindings>(
     alloc: Global,
     bank: &Bank,
     table: &mut T,
     seen: &mut Seen,
+    fresh: &mut Fresh,
     left: At,
     right: At,
 ) -> Result<bool, OutOfMemory>
     requires table { IsTable bank.now (T.table table.old) }
     requires meet { IsMeeting bank.now (T.table table.old) left.0 right.0 }
+    requires fresh { AreFresh bank.now (T.table table.old) fresh.old (term_tree bank.now left.0 ∷ []) }
     ensures grows { T.grows table.old table.new }
     ensures meets { IfOk result (λ bound. Meets bank.now (T.table table.old) (T.table table.new) (term_tree bank.now left.0) (term_tree bank.now right.0) bound) }
+    ensures fresh { IfOk result (λ bound. bound ≡ true → LeavesFresh bank.now (T.table table.old) (T.table table.new) fresh.old fresh.new (term_tree bank.now left.0 ∷ []) []) }
 {
     match bank.term_at(left) {
         TermView::Var(x) => match bank.term_at(right) {
             TermView::Var(y) => {
+                fresh.meet(y as usize);
                 if is_older(table, x as usize, y as usize) {
                     table.set(y as usize, left)?;
                 } else {
@@ -86,16 +126,16 @@ pub fn bind<T: Bindings>(
                 }
                 Ok(true)
             }
-            TermView::Int(_) => bind_term(alloc, bank, table, seen, x as usize, right),
-            TermView::App(_, _) => bind_term(alloc, bank, table, seen, x as usize, right),
+            TermView::Int(_) => bind_term(alloc, bank, table, seen, fresh, x as usize, right),
+            TermView::App(_, _) => bind_term(alloc, bank, table, seen, fresh, x as usize, right),
         },
         TermView::Int(_) => match bank.term_at(right) {
-            TermView::Var(y) => bind_term(alloc, bank, table, seen, y as usize, left),
+            TermView::Var(y) => bind_right(alloc, bank, table, seen, fresh, y as usize, left),
             TermView::Int(_) => unreachable!(),
             TermView::App(_, _) => unreachable!(),
         },
         TermView::App(_, _) => match bank.term_at(right) {
-            TermView::Var(y) => bind_term(alloc, bank, table, seen, y as usize, left),
+            TermView::Var(y) => bind_right(alloc, bank, table, seen, fresh, y as usize, left),
             TermView::Int(_) => unreachable!(),
             TermView::App(_, _) => unreachable!(),
         },

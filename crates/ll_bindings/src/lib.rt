@@ -5,12 +5,14 @@
 mod bind;
 mod classes;
 mod equate;
+mod fresh;
 mod meet;
 mod read;
 mod scan;
 mod table;
 
-pub use equate::unify;
+pub use equate::{unify, unify_next};
+pub use fresh::Fresh;
 pub use read::{read_all, read_cells};
 pub use scan::Frame;
 pub use table::{Bindings, argument, walk};

@@ -1,5 +1,6 @@
 pub mod ReadLemmas
 pub mod Standing
+pub mod CellLemmas
 pub mod UnifyLemmas
 pub mod CandidateLemmas
 pub mod LeafLemmas

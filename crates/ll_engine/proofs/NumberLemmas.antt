@@ -386,7 +386,7 @@ module _ (m : Parts) (left right : At) (rest : AgendaTop) (f : Fits m) (h : IsFr
   module _ (z : ℤ) (some : value ≡ Some z) (mid : Nodes) (keeps : Extends m.bank mid) (place : At) (shows : ShowsTerm mid place.0 (Int z))
       (start : Table) (start_is : start ≡ table m) where
     abbrev pub Finds : Table → Bool → Type 0
-    Finds after answer = Unifies mid start after (mgu (read_term mid start.bound left ∷ []) (read_term mid start.bound place ∷ []) start.levels) answer
+    Finds after answer = Unifies mid mid start after (mgu (read_term mid start.bound left ∷ []) (read_term mid start.bound place ∷ []) start.levels) answer
 
     number : read_term mid start.bound place ≡ Int z
     number = ap (sub (reading mid start.bound)) shows.tree
@@ -416,7 +416,7 @@ module _ (m : Parts) (left right : At) (rest : AgendaTop) (f : Fits m) (h : IsFr
     pub clash : (after : Table) (c : Candidate) → Finds after false → attempt (setting m) (state_of m) c ≡ None
     clash after c w = gives c ∙ ap (option_map (instantiated went)) (go (mgu (read_term mid start.bound left ∷ []) (read_term mid start.bound place ∷ []) start.levels) w)
       where
-        go : (s : Option Solved) → Unifies mid start after s false → s ≡ None
+        go : (s : Option Solved) → Unifies mid mid start after s false → s ≡ None
         go None x = refl
         go (Some v) x = absurd x
 
@@ -425,7 +425,7 @@ module _ (m : Parts) (left right : At) (rest : AgendaTop) (f : Fits m) (h : IsFr
     equal after new c w bank_is bound_new levels_new o =
         go (mgu (read_term mid start.bound left ∷ []) (read_term mid start.bound place ∷ []) start.levels) refl w
       where
-        go : (s : Option Solved) → mgu (read_term mid start.bound left ∷ []) (read_term mid start.bound place ∷ []) start.levels ≡ s → Unifies mid start after s true → Infers m c new
+        go : (s : Option Solved) → mgu (read_term mid start.bound left ∷ []) (read_term mid start.bound place ∷ []) start.levels ≡ s → Unifies mid mid start after s true → Infers m c new
         go None p x = absurd x
         go (Some v) p x =
             let reads : (y : ℕ) → reading new.bank new.bound y ≡ sub v.subst (reading m.bank m.bound y) =

@@ -1,17 +1,18 @@
 -- A leaf taken for the atom in front of a machine's agenda.
-use Rattle.std.proofs.Common.{◌≡◌, ℕ, zero, suc, inl, inr, ◌+◌, ◌<◌, ◌≤◌, List, [], ◌∷◌, ◌++◌, length, map, All, get_or, refl, ap, sym, subst, ◌∙◌, arith, Option, Some, None, Bool, true, false}
-use Rattle.std.specs.Prelude.{slice_get, option_map, option_and_then, replicate, ◌&&◌}
+use Rattle.std.proofs.Common.{drop, ◌≡◌, ◌≢◌, ℕ, zero, suc, inl, inr, ◌+◌, ◌<◌, ◌≤◌, List, [], ◌∷◌, ◌++◌, length, map, All, get_or, refl, ap, sym, subst, ◌∙◌, arith, Option, Some, None, Bool, true, false}
+use Rattle.std.specs.Prelude.{slice_get, option_map, option_and_then, replicate, ◌&&◌, nat_le, slice_index}
 use Rattle.std.specs.List.{list_all}
 use Rattle.std.proofs.lemmas.Bool.{lt-ltb, ltb-true, cases_lt}
 use Rattle.std.proofs.lemmas.List.{map-append, length-append, length-replicate, length-map}
 use Rattle.std.proofs.lemmas.List.Elements.{All-append, All-tail}
+use Rattle.std.proofs.lemmas.List.Folds.{list_all-append}
 use Rattle.ll_bank.specs.declared.At.{At}
 use Rattle.ll_bank.specs.declared.FormAt.{FormAt}
 use Rattle.ll_bank.specs.declared.FormNode.TheVariants.{Atom as AtomView}
-use Rattle.ll_bank.specs.Term.{sub, is_closed, eigens_below}
+use Rattle.ll_bank.specs.Term.{Term, sub, close, applies_heads, is_closed, eigens_below, occurs}
 use Rattle.ll_bank.specs.Form.{Form, Atom, sub_form}
-use Rattle.ll_bank.specs.Nodes.{Nodes, HasForm, AllInTerms, Extends, term_tree, term_trees, form_tree}
-use Rattle.ll_bank.proofs.Trees.{Extends-refl, Extends-trans, HasForm-extends, HasTerm-extends, form_tree-extends, AllInTerms-extends, term_trees-extends}
+use Rattle.ll_bank.specs.Nodes.{Nodes, HasTerm, HasForm, AllInTerms, Extends, term_tree, term_trees, form_tree}
+use Rattle.ll_bank.proofs.Trees.{Extends-trans, HasForm-extends, HasTerm-extends, form_tree-extends, AllInTerms-extends, term_trees-extends}
 use Rattle.ll_laws.specs.declared.Candidate.{Candidate}
 use Rattle.ll_laws.specs.declared.Step.TheVariants.{Clause as ClauseStep}
 use Rattle.ll_laws.specs.Leaf.{Leaf, premise_goal, ways, leaf}
@@ -23,7 +24,9 @@ use Rattle.ll_laws.specs.Problem.{setting_of}
 use Rattle.ll_laws.specs.Valid.{Allowed, IsFormula, IsValid, GoalSide, ClauseSide}
 use Rattle.ll_laws.specs.Consistent.{IsConsistent, allowed_in, is_made}
 use Rattle.ll_laws.proofs.SubLaws.{IsClosing, ways-sub, sub_leaf, sub_premise, sub_same, and_left}
-use Rattle.ll_laws.proofs.ConsistentTerms.{grows-refl, Fit, AllFit, Goes, Grows, fit_of_made, fit-more, fit-sub, fit-vars}
+use Rattle.ll_laws.proofs.ConsistentTerms.{grows-refl, Fit, AllFit, Goes, Grows, fit_of_made, fit-more, fit-sub, fit-vars, fit-eigens, and_intro}
+use Rattle.ll_laws.proofs.ConsistentStates.{levels-replicate}
+use Rattle.ll_laws.proofs.AnswerSteps.{level_up_to, new_level, occurs_below}
 use Rattle.ll_laws.proofs.ConsistentForms.{fits_of_formula, fits-more}
 use Rattle.ll_laws.proofs.ConsistentContexts.{formula-more}
 use Rattle.ll_laws.proofs.ConsistentLeaves.{LeafFits, leaf-fits}
@@ -38,13 +41,17 @@ use Rattle.ll_freeze.specs.Reading.{reading, read_term, read_form, HasValue}
 use Rattle.ll_freeze.specs.Shown.{shown_item, shown_entry, items_of, state_of}
 use Rattle.ll_freeze.proofs.CallerLemmas.{modules_has, modules_later}
 use Rattle.ll_freeze.specs.Fits.{setting, Fits, allowed, HasItem, IsGoalIn}
+use Rattle.ll_close.specs.Closing.{env_of}
 use Rattle.ll_engine.specs.Attempts.{Infers}
 use Rattle.ll_engine.specs.Opening.{Opens}
 use Rattle.ll_engine.specs.Front.{IsFront}
 use Rattle.ll_engine.specs.Taking.{IsUnified, Unifies}
-use Rattle.ll_bindings.specs.Bindings.{Table, IsTable, IsOrdered, IsPlaceOf}
-use Rattle.ll_bindings.proofs.CallerLemmas.{table-extends, place-below}
+use Rattle.ll_bindings.specs.Bindings.{Table, IsTable, IsOrdered, IsPlaceOf, HasCells}
+use Rattle.ll_bindings.specs.Scanned.{is_bad}
+use Rattle.ll_bindings.specs.Fresh.{StandsNowhere}
+use Rattle.ll_bindings.proofs.CallerLemmas.{table-extends, place-below, clear-of, clear-var}
 use Rattle.ll_engine.proofs.ReadLemmas.{map_trees, reading_same, reading_past, read_same, length_variables, fits_table, with_cells, same_table, table_more, table_values, reads_more}
+use Rattle.ll_engine.proofs.CellLemmas.{cells_below, all_drop}
 use Rattle.ll_engine.proofs.MachineLemmas.{agenda_shown, goal_in_front}
 use Rattle.ll_engine.proofs.LaterLemmas.{items_later}
 use Rattle.ll_engine.proofs.StepLemmas.{atom_step, leaf_read, way_read}
@@ -163,13 +170,28 @@ module _ (m : Parts) (f : Fits m) where
   vars_fit n zero all h = tt
   vars_fit n (suc count) all h = (lt-ltb n (length m.levels + all) (omega arith), vars_fit (suc n) count all (omega arith))
 
+  -- the atom is of what there is
+  atom_fit : (atom : At) (rest : AgendaTop) → IsFront m (AtomView atom) rest → Fit (allowed m) [] (read_term m.bank m.bound atom)
+  atom_fit atom rest h =
+      let is = subst (λ g. IsFormula (allowed_in (setting m) (state_of m)) GoalSide [] (sub_form (reading m.bank m.bound) g)) h.seen.tree (goal_in_front m h.goal (items_at m.agenda rest) f h.list) in
+      (fits_of_formula (allowed m) GoalSide [] (Atom (read_term m.bank m.bound atom)) (subst (λ may. IsFormula may GoalSide [] (Atom (read_term m.bank m.bound atom))) (allowed_shown m) is)).1
+
+  -- a further variable stands in nothing that is of what there is, and further eigenconstants don't
+  clear_fit : (t : Term) (x : ℕ) → length m.levels ≤ x → Fit (allowed m) [] t → is_bad x m.eigens t ≡ false
+  clear_fit t x l h = clear-of x m.eigens t (absent (occurs x t) refl) (fit-eigens (allowed m) [] t h)
+    where
+      absent : (b : Bool) → occurs x t ≡ b → b ≡ false
+      absent true o = let p = occurs_below (length m.levels) x t (fit-vars (allowed m) [] t h) o in absurd (omega arith)
+      absent false o = refl
+
   -- the atom has no variable but those that there are
   pub atom_below : (atom : At) (rest : AgendaTop) (count : ℕ) → IsFront m (AtomView atom) rest → vars_below (length m.levels + count) (read_term m.bank m.bound atom) ≡ true
   atom_below atom rest count h =
-      let is = subst (λ g. IsFormula (allowed_in (setting m) (state_of m)) GoalSide [] (sub_form (reading m.bank m.bound) g)) h.seen.tree (goal_in_front m h.goal (items_at m.agenda rest) f h.list) in
-      let now = subst (λ may. IsFormula may GoalSide [] (Atom (read_term m.bank m.bound atom))) (allowed_shown m) is in
-      let fit = fits_of_formula (allowed m) GoalSide [] (Atom (read_term m.bank m.bound atom)) now in
-      fit-vars (with_more count) [] (read_term m.bank m.bound atom) (fit-more (allowed m) (with_more count) [] [] (read_term m.bank m.bound atom) (grows count) tt fit.1)
+      fit-vars (with_more count) [] (read_term m.bank m.bound atom) (fit-more (allowed m) (with_more count) [] [] (read_term m.bank m.bound atom) (grows count) tt (atom_fit atom rest h))
+
+  levels_most : list_all (λ l. nat_le l m.eigens) m.levels ≡ true
+  unfolding state_of
+  levels_most = f.consistent.levels
 
   module _ (label : ℕ) (e : Entry FormAt) (found : entry_at m.resources.entries label ≡ Some e) where
     pub clause_inside : HasForm m.bank e.clause.0
@@ -180,8 +202,15 @@ module _ (m : Parts) (f : Fits m) where
 
     module _ (rest : AgendaTop) (k : ℕ) (mid : Nodes) (now : Frames Item) (terms : List At) (head : At) (top : AgendaTop) (keeps : Extends m.bank mid)
         (o : Opens m.bank (items_at m.agenda rest) (length m.terms) e.clause.0 k mid now terms head top) where
+      -- its head, closed by its variables
+      abbrev pub shut_in : Nodes → List At → Term
+      shut_in bank values = close (env_of bank values) (term_tree bank head.0)
+
+      abbrev pub shut : Term
+      shut = shut_in mid (drop (length m.terms) terms)
+
       abbrev pub opened : Leaf
-      opened = record { premises = o.premises; head = term_tree mid head.0 }
+      opened = record { premises = o.premises; head = shut }
 
       leaf_is : leaf (form_tree m.bank e.clause.0) k (vars_from (length m.levels) o.count) ≡ Some opened
       leaf_is = ap (λ n. leaf (form_tree m.bank e.clause.0) k (vars_from n o.count)) (sym variable_count) ∙ o.leaf_is
@@ -192,20 +221,20 @@ module _ (m : Parts) (f : Fits m) where
           (fits-more (allowed m) (with_more o.count) ClauseSide [] [] (form_tree m.bank e.clause.0) (grows o.count) tt (fits_of_formula (allowed m) ClauseSide [] (form_tree m.bank e.clause.0) clause_sorted))
           (vars_fit (length m.levels) o.count o.count (omega arith)) leaf_is
 
-      head_read : read_term mid m.bound head ≡ sub (reading m.bank m.bound) (term_tree mid head.0)
-      head_read = sub_same (reading mid m.bound) (reading m.bank m.bound) (reading_same m.bank mid keeps m.bound f.bound) (term_tree mid head.0)
+      head_read : sub (reading mid m.bound) shut ≡ sub (reading m.bank m.bound) shut
+      head_read = sub_same (reading mid m.bound) (reading m.bank m.bound) (reading_same m.bank mid keeps m.bound f.bound) shut
 
       -- nor has the head
-      pub head_below : vars_below (length m.levels + o.count) (read_term mid m.bound head) ≡ true
+      pub head_below : vars_below (length m.levels + o.count) (sub (reading mid m.bound) shut) ≡ true
       head_below =
           ap (vars_below (length m.levels + o.count)) head_read
-          ∙ fit-vars (with_more o.count) [] (sub (reading m.bank m.bound) (term_tree mid head.0)) (fit-sub (with_more o.count) (reading m.bank m.bound) [] (term_tree mid head.0) (goes_more o.count) leaf_sorted.head.1)
+          ∙ fit-vars (with_more o.count) [] (sub (reading m.bank m.bound) shut) (fit-sub (with_more o.count) (reading m.bank m.bound) [] shut (goes_more o.count) leaf_sorted.head.1)
 
       -- what the inference comes to, by what unification gives
       pub step_is : (atom : At) → IsFront m (AtomView atom) rest
           → attempt (setting m) (state_of m) (record { label = label; leaf = k })
           ≡ option_map (instantiated (with_leaf (state_of m) (map (shown_item m.bank m.bound m.resources.kept) (items_at m.agenda rest)) label k o.count (sub_leaf (reading m.bank m.bound) opened)))
-          (mgu (read_term m.bank m.bound atom ∷ []) (read_term mid m.bound head ∷ []) (m.levels ++ replicate o.count m.eigens))
+          (mgu (read_term m.bank m.bound atom ∷ []) (sub (reading mid m.bound) shut ∷ []) (m.levels ++ replicate o.count m.eigens))
       step_is atom h =
           let r = reading m.bank m.bound in
           attempt_atom m atom rest label k o.count (shown_entry m.bank m.bound e) (sub_leaf r opened) h (entry_read (read_form m.bank m.bound) m.resources.entries label ∙ ap (option_map (shown_entry m.bank m.bound)) found)
@@ -236,7 +265,7 @@ module _ (m : Parts) (f : Fits m) where
         pub left : suc new.left ≡ m.left
 
       module _ (atom : At) (h : IsFront m (AtomView atom) rest) (v : Solved)
-          (unified : mgu (read_term m.bank m.bound atom ∷ []) (read_term mid m.bound head ∷ []) (m.levels ++ replicate o.count m.eigens) ≡ Some v) (new : Parts) (t : IsTaken v new) where
+          (unified : mgu (read_term m.bank m.bound atom ∷ []) (sub (reading mid m.bound) shut ∷ []) (m.levels ++ replicate o.count m.eigens) ≡ Some v) (new : Parts) (t : IsTaken v new) where
         behind : All (HasItem m.bank (length m.resources.kept)) (items_at m.agenda rest)
         behind =
             All-tail (HasItem m.bank (length m.resources.kept)) (Goal h.goal) (items_at m.agenda rest) (subst (All (HasItem m.bank (length m.resources.kept))) h.list f.items)
@@ -384,11 +413,11 @@ module _ (m : Parts) (f : Fits m) where
         reads_is : (x : ℕ) → reading mid start.bound x ≡ reading mid m.bound x
         reads_is x = ap (λ bs. reading mid bs x) start_bound ∙ reads_more mid (table m) o.count m.eigens opened_table x
 
-        term_is : (at : At) → read_term mid start.bound at ≡ read_term mid m.bound at
-        term_is at = sub_same (reading mid start.bound) (reading mid m.bound) reads_is (term_tree mid at.0)
+        term_is : (u : Term) → sub (reading mid start.bound) u ≡ sub (reading mid m.bound) u
+        term_is u = sub_same (reading mid start.bound) (reading mid m.bound) reads_is u
 
         atom_is : read_term mid start.bound atom ≡ read_term m.bank m.bound atom
-        atom_is = term_is atom ∙ read_same m.bank mid keeps m.bound f.bound atom.0 h.seen.parts
+        atom_is = term_is (term_tree mid atom.0) ∙ read_same m.bank mid keeps m.bound f.bound atom.0 h.seen.parts
 
         sized : length start.levels ≡ length m.levels + o.count
         sized =
@@ -400,38 +429,95 @@ module _ (m : Parts) (f : Fits m) where
             place-below mid start atom.0 start_table (HasTerm-extends keeps atom.0 h.seen.parts)
             ((λ i. vars_below (sized i) (atom_is i)) ∙ atom_below atom rest o.count h)
 
-        pub head_place : IsPlaceOf mid start head.0
-        head_place = place-below mid start head.0 start_table o.inside ((λ i. vars_below (sized i) (term_is head i)) ∙ head_below)
+        start_level : (x : ℕ) → length m.levels ≤ x → x < length start.levels → slice_index start.levels x ≡ m.eigens
+        start_level x l b = ap (λ ls. slice_index ls x) start_levels ∙ new_level m.levels o.count m.eigens x l (let s = sized in omega arith)
 
-        abbrev pub Finds : Table → Bool → Type 0
-        Finds after answer = Unifies mid start after (mgu (read_term mid start.bound atom ∷ []) (read_term mid start.bound head ∷ []) start.levels) answer
+        levels_up_to : (y : ℕ) → slice_index start.levels y ≤ m.eigens
+        levels_up_to y =
+            level_up_to m.eigens start.levels y
+            (ap (list_all (λ l. nat_le l m.eigens)) start_levels
+            ∙ (list_all-append (λ l. nat_le l m.eigens) m.levels (replicate o.count m.eigens) ∙ and_intro _ _ levels_most (levels-replicate m.eigens m.eigens o.count (omega arith))))
+
+        first_read : (x : ℕ) → reading mid start.bound x ≡ reading m.bank m.bound x
+        first_read x = reads_is x ∙ reading_same m.bank mid keeps m.bound f.bound x
+
+        -- the variables of the leaf stand in its head alone
+        pub atom_apart : (x : ℕ) → length m.terms ≤ x → x < length start.levels → StandsNowhere mid start (term_tree mid atom.0 ∷ []) x
+        atom_apart x l b = record {
+          own = first_read x ∙ reading_past m.bank m.bound x (let c = f.count in let v = variable_count in omega arith);
+          others = λ y n. subst (λ e. is_bad x e (reading mid start.bound y) ≡ false) (sym level) (ap (is_bad x m.eigens) (first_read y) ∙ other y n);
+          terms = (subst (λ e. is_bad x e (read_term mid start.bound atom) ≡ false) (sym level) (ap (is_bad x m.eigens) atom_is ∙ clear_fit (read_term m.bank m.bound atom) x past_all (atom_fit atom rest h)), tt);
+          newest = λ y. subst (λ e. slice_index start.levels y ≤ e) (sym level) (levels_up_to y);
+        }
+          where
+            past_all : length m.levels ≤ x
+            past_all = let v = variable_count in omega arith
+
+            level : slice_index start.levels x ≡ m.eigens
+            level = start_level x past_all b
+
+            other : (y : ℕ) → y ≢ x → is_bad x m.eigens (reading m.bank m.bound y) ≡ false
+            other y n = elim (cases_lt y (length m.levels)) [
+              | inl s ↦ clear_fit (reading m.bank m.bound y) x past_all (goes y (lt-ltb y (length m.levels) s))
+              | inr s ↦ ap (is_bad x m.eigens) (reading_past m.bank m.bound y (let c = f.count in omega arith)) ∙ clear-var x m.eigens y n
+            ]
+
+        -- what unification asks for
+        pub record IsReady (bank : Nodes) (values : List At) : Type 0 where
+          pub table : IsTable bank start
+          pub atom_place : IsPlaceOf bank start atom.0
+          pub head_inside : HasTerm bank head.0
+          pub values_inside : AllInTerms bank values
+          pub heads : applies_heads (shut_in bank values) ≡ true
+          pub vars : HasCells bank start (shut_in bank values)
+          pub apart : (x : ℕ) → length m.terms ≤ x → x < length start.levels → StandsNowhere bank start (term_tree bank atom.0 ∷ []) x
+
+        ready_now : IsReady mid (drop (length m.terms) terms)
+        ready_now = record {
+          table = start_table;
+          atom_place = atom_place;
+          head_inside = o.inside;
+          values_inside = all_drop (λ (a : At). HasTerm mid a.0) (length m.terms) terms o.terms_inside;
+          heads = o.heads;
+          vars = cells_below mid start shut start_table ((λ i. vars_below (sized i) (term_is shut i)) ∙ head_below);
+          apart = atom_apart;
+        }
+
+        -- over an equal bank
+        pub ready_in : (bank : Nodes) (values : List At) → bank ≡ mid → values ≡ drop (length m.terms) terms → IsReady bank values
+        ready_in bank values e q = subst (λ (b : Nodes). IsReady b values) (sym e) (subst (IsReady mid) (sym q) ready_now)
+
+        abbrev pub Finds : Nodes → Table → Bool → Type 0
+        Finds last after answer = Unifies mid last start after (mgu (read_term mid start.bound atom ∷ []) (sub (reading mid start.bound) shut ∷ []) start.levels) answer
 
         -- what was found over an equal bank
-        pub finds_in : (bank : Nodes) (after : Table) (found b : Bool) → bank ≡ mid → found ≡ b
-            → Unifies bank start after (mgu (read_term bank start.bound atom ∷ []) (read_term bank start.bound head ∷ []) start.levels) found → Finds after b
-        finds_in bank after found b e q w =
-            subst (λ x. Finds after x) q
-            (subst (λ (n : Nodes). Unifies n start after (mgu (read_term n start.bound atom ∷ []) (read_term n start.bound head ∷ []) start.levels) found) e w)
+        pub finds_in : (bank last : Nodes) (values : List At) (after : Table) (found b : Bool) → bank ≡ mid → values ≡ drop (length m.terms) terms → found ≡ b
+            → Unifies bank last start after (mgu (read_term bank start.bound atom ∷ []) (sub (reading bank start.bound) (shut_in bank values) ∷ []) start.levels) found → Finds last after b
+        finds_in bank last values after found b e r q w =
+            subst (λ x. Finds last after x) q
+            (subst (λ (vs : List At). Unifies mid last start after (mgu (read_term mid start.bound atom ∷ []) (sub (reading mid start.bound) (shut_in mid vs) ∷ []) start.levels) found) r
+            (subst (λ (n : Nodes). Unifies n last start after (mgu (read_term n start.bound atom ∷ []) (sub (reading n start.bound) (shut_in n values) ∷ []) start.levels) found) e w))
 
-        same_problem : mgu (read_term m.bank m.bound atom ∷ []) (read_term mid m.bound head ∷ []) (m.levels ++ replicate o.count m.eigens)
-            ≡ mgu (read_term mid start.bound atom ∷ []) (read_term mid start.bound head ∷ []) start.levels
-        same_problem = λ i. mgu (sym atom_is i ∷ []) (sym (term_is head) i ∷ []) (sym start_levels i)
+        same_problem : mgu (read_term m.bank m.bound atom ∷ []) (sub (reading mid m.bound) shut ∷ []) (m.levels ++ replicate o.count m.eigens)
+            ≡ mgu (read_term mid start.bound atom ∷ []) (sub (reading mid start.bound) shut ∷ []) start.levels
+        same_problem = λ i. mgu (sym atom_is i ∷ []) (sym (term_is shut) i ∷ []) (sym start_levels i)
 
-        pub none_taken : (after : Table) → Finds after false → attempt (setting m) (state_of m) (record { label = label; leaf = k }) ≡ None
-        none_taken after w =
+        pub none_taken : (last : Nodes) (after : Table) → Finds last after false → attempt (setting m) (state_of m) (record { label = label; leaf = k }) ≡ None
+        none_taken last after w =
             step_is atom h
             ∙ ap (option_map (instantiated (with_leaf (state_of m) (map (shown_item m.bank m.bound m.resources.kept) (items_at m.agenda rest)) label k o.count (sub_leaf (reading m.bank m.bound) opened))))
-            (same_problem ∙ go (mgu (read_term mid start.bound atom ∷ []) (read_term mid start.bound head ∷ []) start.levels) w)
+            (same_problem ∙ go (mgu (read_term mid start.bound atom ∷ []) (sub (reading mid start.bound) shut ∷ []) start.levels) w)
           where
-            go : (s : Option Solved) → Unifies mid start after s false → s ≡ None
+            go : (s : Option Solved) → Unifies mid last start after s false → s ≡ None
             go None x = refl
             go (Some v) x = absurd x
 
         -- a machine with all that a leaf and unification bring
-        pub record IsMoved (after : Table) (new : Parts) : Type 0 where
+        pub record IsMoved (last : Nodes) (after : Table) (new : Parts) : Type 0 where
           pub problem : new.problem ≡ m.problem
           pub modules : new.modules ≡ m.modules
-          pub bank : new.bank ≡ mid
+          pub grown : Extends mid last
+          pub bank : new.bank ≡ last
           pub bound_new : new.bound ≡ after.bound
           pub levels_new : new.levels ≡ after.levels
           pub resources : new.resources ≡ after_pick label m.resources
@@ -442,18 +528,18 @@ module _ (m : Parts) (f : Fits m) where
           pub steps : new.steps ≡ m.steps ++ ClauseStep label k ∷ []
           pub left : suc new.left ≡ m.left
 
-        moved : (after : Table) (new : Parts) (v : Solved) → IsMoved after new → IsUnified mid start after v → IsTaken v new
-        moved after new v t w =
+        moved : (last : Nodes) (after : Table) (new : Parts) (v : Solved) → IsMoved last after new → IsUnified mid last start after v → IsTaken v new
+        moved last after new v t w =
             let same : table new ≡ after = same_table after new.bound new.levels t.bound_new t.levels_new in
             record {
               problem = t.problem;
               modules = t.modules;
-              later = subst (Extends mid) (sym t.bank) (Extends-refl mid);
+              later = subst (Extends mid) (sym t.bank) t.grown;
               levels = t.levels_new ∙ w.levels_are;
               count = ap (λ (xs : List (Option At)). length xs) t.bound_new ∙ (w.table.bound ∙ (w.same_count ∙ ap (λ (xs : List ℕ). length xs) start_levels));
               inside =
-                  subst (All (HasValue new.bank)) (sym t.bound_new) (subst (λ bank. All (HasValue bank) after.bound) (sym t.bank) (table_values mid after.bound w.table.places));
-              ordered = subst (λ (bank : Nodes). IsOrdered bank (table new)) (sym t.bank) (subst (λ (u : Table). IsOrdered mid u) (sym same) w.table.ordered);
+                  subst (All (HasValue new.bank)) (sym t.bound_new) (subst (λ bank. All (HasValue bank) after.bound) (sym t.bank) (table_values last after.bound w.table.places));
+              ordered = subst (λ (bank : Nodes). IsOrdered bank (table new)) (sym t.bank) (subst (λ (u : Table). IsOrdered last u) (sym same) w.table.ordered);
               reads = λ x. (λ i. reading (t.bank i) (t.bound_new i) x) ∙ (w.reads x ∙ ap (sub v.subst) (reads_is x));
               entries = ap (λ (r : Resources FormAt). r.entries) t.resources;
               flag = ap (λ (r : Resources FormAt). r.flag) t.resources;
@@ -467,10 +553,10 @@ module _ (m : Parts) (f : Fits m) where
               left = t.left;
             }
 
-        pub some_taken : (after : Table) (new : Parts) → IsMoved after new → Finds after true → Infers m (record { label = label; leaf = k }) new
-        some_taken after new t w = go (mgu (read_term mid start.bound atom ∷ []) (read_term mid start.bound head ∷ []) start.levels) refl w
+        pub some_taken : (last : Nodes) (after : Table) (new : Parts) → IsMoved last after new → Finds last after true → Infers m (record { label = label; leaf = k }) new
+        some_taken last after new t w = go (mgu (read_term mid start.bound atom ∷ []) (sub (reading mid start.bound) shut ∷ []) start.levels) refl w
           where
-            go : (s : Option Solved) → mgu (read_term mid start.bound atom ∷ []) (read_term mid start.bound head ∷ []) start.levels ≡ s → Unifies mid start after s true
+            go : (s : Option Solved) → mgu (read_term mid start.bound atom ∷ []) (sub (reading mid start.bound) shut ∷ []) start.levels ≡ s → Unifies mid last start after s true
                 → Infers m (record { label = label; leaf = k }) new
             go None p x = absurd x
-            go (Some v) p x = taken atom h v (same_problem ∙ p) new (moved after new v t x)
+            go (Some v) p x = taken atom h v (same_problem ∙ p) new (moved last after new v t x)

@@ -386,24 +386,24 @@ module _ (first : Nodes) (items : List Item) (before clause k : ℕ) where
               ∙ (ap (λ m. leaf_from (env_vars before (suc w.count)) inner at (vars_from m n)) (sym next) ∙ q));
         }
 
-    -- to the head, closed in a bank with more places
-    pub way_end : (a head : At) (new : Nodes) → form_tree bank form.0 ≡ Atom (term_tree bank a.0) → Extends bank new → HasTerm new head.0
-        → term_tree new head.0 ≡ close (env_vars before w.count) (term_tree bank a.0) → Opens first items before clause k new now terms head top
-    unfolding way_extends
-    way_end a head new seen e has closed =
+    -- to the head, whose bound places stand for the variables
+    pub way_end : (a : At) → form_tree bank form.0 ≡ Atom (term_tree bank a.0) → HasTerm bank a.0 → Opens first items before clause k bank now terms a top
+    way_end a seen has =
+        let env : env_of bank (drop before terms) ≡ env_vars before w.count = env_is bank terms before w.count w.variables in
         let tree : form_tree first form.0 ≡ Atom (term_tree bank a.0) = sym (same_part form w.inside) ∙ seen in
-        let last : at ≡ 0 = (let q = subst (λ t. at < length (ways t)) tree w.among in omega arith) in let z = way_extends new e in record {
+        let last : at ≡ 0 = (let q = subst (λ t. at < length (ways t)) tree w.among in omega arith) in record {
           premises = w.premises;
           goals = w.goals;
           shows = w.shows;
-          goals_are = z.goals_are;
+          goals_are = w.goals_are;
           count = w.count;
-          terms_inside = z.terms_inside;
-          variables = z.variables;
+          terms_inside = w.terms_inside;
+          variables = w.variables;
           way = w.way 0 ((λ i. slice_get (ways (tree i)) (last i))) ∙ ap (λ m. Some m) (let e : w.count + 0 ≡ w.count = omega arith in e);
           inside = has;
+          heads = ap (λ z. applies_heads (close z (term_tree bank a.0))) env ∙ closed_applies w.may before w.count ClauseSide (Atom (term_tree bank a.0)) (subst (FormFits w.may ClauseSide (scope_of w.count)) tree w.fits);
           leaf_is =
               ap (λ m. leaf (form_tree first clause) k (vars_from before m)) (let e : w.count ≡ w.count + 0 = omega arith in e)
-              ∙ w.leaf_is 0 (record { premises = []; head = term_tree new head.0 })
-              ((λ i. leaf_from (env_vars before w.count) (tree i) (last i) []) ∙ (let some : Term → Option Leaf = λ t. Some (record { premises = []; head = t }) in ap some (sym closed)));
+              ∙ w.leaf_is 0 (record { premises = []; head = close (env_of bank (drop before terms)) (term_tree bank a.0) })
+              ((λ i. leaf_from (env_vars before w.count) (tree i) (last i) []) ∙ (let some : Term → Option Leaf = λ t. Some (record { premises = []; head = t }) in ap (λ z. some (close z (term_tree bank a.0))) (sym env)));
         }

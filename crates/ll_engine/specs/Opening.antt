@@ -1,10 +1,12 @@
 -- A leaf of a clause, opened with new variables, as its premises come onto an agenda.
-use Rattle.std.specs.Prelude.{◌≡◌, ℕ, ◌+◌, ◌-◌, ◌<◌, ◌≤◌, List, [], ◌++◌, length, map, All, slice_get, Some}
+use Rattle.std.specs.Prelude.{◌≡◌, true, drop, ℕ, ◌+◌, ◌-◌, ◌<◌, ◌≤◌, List, [], ◌++◌, length, map, All, slice_get, Some}
 use Rattle.ll_bank.specs.declared.At.{At}
 use Rattle.ll_bank.specs.declared.FormAt.{FormAt}
+use Rattle.ll_bank.specs.Term.{close, applies_heads}
 use Rattle.ll_bank.specs.Form.{Form}
-use Rattle.ll_bank.specs.Nodes.{Nodes, HasTerm, HasForm, AllInTerms, Extends, term_tree, term_trees, form_tree}
-use Rattle.ll_laws.specs.Leaf.{Leaf, Premise, premise_goal, ways, leaf}
+use Rattle.ll_bank.specs.Nodes.{Nodes, HasTerm, HasForm, AllInTerms, term_tree, term_trees, form_tree}
+use Rattle.ll_close.specs.Closing.{env_of}
+use Rattle.ll_laws.specs.Leaf.{Premise, premise_goal, ways, leaf}
 use Rattle.ll_laws.specs.Attempt.{vars_from}
 use Rattle.ll_laws.specs.Valid.{Allowed, IsFormula, ClauseSide}
 use Rattle.ll_agenda.specs.declared.agenda.Top.{Top}
@@ -22,7 +24,8 @@ pub record AreGoalsOf (bank : Nodes) (goals : List FormAt) (premises : List Prem
   pub inside : All (λ g. HasForm bank g.0) goals
   pub trees : map (λ g. form_tree bank g.0) goals ≡ map premise_goal premises
 
--- the leaf is open: its premises are on the agenda, the nearest to the head in front, its head is at a place, and it has its variables
+-- the leaf is open: its premises are on the agenda, the nearest to the head in front, it has its variables, and its head is at a place
+-- where bound places stand for them
 pub record Opens (first : Nodes) (items : List Item) (before clause k : ℕ) (bank : Nodes) (now : Frames Item) (terms : List At) (head : At) (top : Top) : Type 0 where
   pub premises : List Premise
   pub goals : List FormAt
@@ -33,7 +36,8 @@ pub record Opens (first : Nodes) (items : List Item) (before clause k : ℕ) (ba
   pub variables : term_trees bank terms ≡ vars_from 0 (before + count)
   pub way : slice_get (ways (form_tree first clause)) k ≡ Some count
   pub inside : HasTerm bank head.0
-  pub leaf_is : leaf (form_tree first clause) k (vars_from before count) ≡ Some (record { premises = premises; head = term_tree bank head.0 })
+  pub heads : applies_heads (close (env_of bank (drop before terms)) (term_tree bank head.0)) ≡ true
+  pub leaf_is : leaf (form_tree first clause) k (vars_from before count) ≡ Some (record { premises = premises; head = close (env_of bank (drop before terms)) (term_tree bank head.0) })
 
 -- the side on which a leaf is, given the ways of the left one, and its number there
 abbrev pub IsSide : List ℕ → FormAt → FormAt → ℕ → Side → Type 0

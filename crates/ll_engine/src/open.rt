@@ -9,11 +9,11 @@ ghost use Rattle.ll_engine.specs.Opening.{IsClause, Opens, IsSide, Appends};
 use crate::candidates::count_leaves;
 use ll_agenda::{Agenda, Top};
 use ll_bank::{At, Bank, FormAt, FormNode, OutOfMemory};
-use ll_close::{close_form, close_term};
+use ll_close::close_form;
 use ll_freeze::Item;
 use std::alloc::Global;
 
-/// A leaf that is open: its head, and the agenda with its premises in front.
+/// A leaf that is open: its head, whose bound places stand for its variables, and the agenda with its premises in front.
 #[derive(Clone, Copy)]
 pub struct Opened {
     pub head: At,
@@ -57,8 +57,7 @@ pub fn open_leaf(
     loop {
         match bank.form_at(form) {
             FormNode::Atom(atom) => {
-                let head = close_term(alloc, bank, atom, &terms[from..])?;
-                return Ok(Opened { head, top });
+                return Ok(Opened { head: atom, top });
             }
             FormNode::With(left, right) => {
                 let side = side_of(alloc, bank, left, right, leaf)?;

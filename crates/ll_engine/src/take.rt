@@ -1,7 +1,10 @@
 //! Parts of an inference on an atom.
-ghost use Rattle.std.specs.Prelude.{◌≡◌, ◌<◌, ◌++◌, ◌∷◌, [], length, Some, None, IfOk, OnOk, option_map, replicate};
-ghost use Rattle.ll_bank.specs.Nodes.{form_tree};
-ghost use Rattle.ll_bindings.specs.Bindings.{IsTable, IsPlaceOf};
+ghost use Rattle.std.specs.Prelude.{◌≡◌, ◌<◌, ◌≤◌, ℕ, true, ◌++◌, ◌∷◌, [], length, Some, None, IfOk, OnOk, option_map, replicate};
+ghost use Rattle.ll_bank.specs.Term.{close, applies_heads};
+ghost use Rattle.ll_bank.specs.Nodes.{form_tree, term_tree, HasTerm, AllInTerms, Extends};
+ghost use Rattle.ll_close.specs.Closing.{env_of};
+ghost use Rattle.ll_bindings.specs.Bindings.{IsTable, IsPlaceOf, HasCells, count};
+ghost use Rattle.ll_bindings.specs.Fresh.{StandsNowhere};
 ghost use Rattle.ll_store.specs.Stored.{stored, KeepsMarks};
 ghost use Rattle.ll_store.specs.Tables.{table_of};
 ghost use Rattle.ll_laws.specs.Leaf.{ways};
@@ -11,7 +14,7 @@ ghost use Rattle.ll_freeze.specs.Parts.{parts_of, Later};
 ghost use Rattle.ll_freeze.specs.Fits.{Fits};
 ghost use Rattle.ll_engine.specs.Attempts.{Attempts};
 ghost use Rattle.ll_engine.specs.Front.{IsFront};
-ghost use Rattle.ll_engine.specs.Taking.{read_in, Unifies};
+ghost use Rattle.ll_engine.specs.Taking.{read_in, read_closed, Unifies};
 ghost use Rattle.ll_resources.specs.Resources.{after_pick};
 ghost use Rattle.ll_resources.specs.History.{KeepsMarks as KeepsContextMarks};
 ghost use Rattle.ll_resources.specs.Seen.{resource};
@@ -20,7 +23,7 @@ use crate::candidates::count_leaves;
 use crate::open::open_leaf;
 use ll_agenda::Top;
 use ll_bank::{At, FormAt, FormNode, OutOfMemory};
-use ll_bind::unify;
+use ll_bind::{unify, unify_head};
 use ll_freeze::Machine;
 use ll_laws::{Candidate, Step};
 use ll_resources::{Context, Entry};
@@ -78,12 +81,38 @@ pub fn unify_under(
     requires table { IsTable store.old.bank (table_of store.old.cells.cells) }
     requires left { IsPlaceOf store.old.bank (table_of store.old.cells.cells) left.0 }
     requires right { IsPlaceOf store.old.bank (table_of store.old.cells.cells) right.0 }
-    ensures found { IfOk result (Unifies store.old.bank (table_of store.old.cells.cells) (table_of store.new.cells.cells)
+    ensures found { IfOk result (Unifies store.old.bank store.old.bank (table_of store.old.cells.cells) (table_of store.new.cells.cells)
         (mgu (read_in store.old left ∷ []) (read_in store.old right ∷ []) (table_of store.old.cells.cells).levels)) }
     ensures bank { store.new.bank ≡ store.old.bank }
     ensures marks { KeepsMarks (stored store.old) (stored store.new) }
 {
     let answer = unify(alloc, store, &[left], &[right])?;
+    Ok(answer)
+}
+
+/// Unifies an atom with the head of a leaf, whose bound places stand for its variables, the outermost first; false where they don't unify.
+/// They are the variables from `first` on, and stand nowhere else.
+fn unify_leaf(
+    alloc: Global,
+    store: &mut Store,
+    first: usize,
+    atom: At,
+    head: At,
+    variables: &[At],
+) -> Result<bool, OutOfMemory>
+    requires table { IsTable store.old.bank (table_of store.old.cells.cells) }
+    requires atom { IsPlaceOf store.old.bank (table_of store.old.cells.cells) atom.0 }
+    requires head { HasTerm store.old.bank head.0 }
+    requires variables { AllInTerms store.old.bank variables.now }
+    requires heads { applies_heads (close (env_of store.old.bank variables.now) (term_tree store.old.bank head.0)) ≡ true }
+    requires vars { HasCells store.old.bank (table_of store.old.cells.cells) (close (env_of store.old.bank variables.now) (term_tree store.old.bank head.0)) }
+    requires new { (x : ℕ) → first ≤ x → x < count (table_of store.old.cells.cells) → StandsNowhere store.old.bank (table_of store.old.cells.cells) (term_tree store.old.bank atom.0 ∷ []) x }
+    ensures found { IfOk result (Unifies store.old.bank store.new.bank (table_of store.old.cells.cells) (table_of store.new.cells.cells)
+        (mgu (read_in store.old atom ∷ []) (read_closed store.old variables.now head ∷ []) (table_of store.old.cells.cells).levels)) }
+    ensures keeps { Extends store.old.bank store.new.bank }
+    ensures marks { KeepsMarks (stored store.old) (stored store.new) }
+{
+    let answer = unify_head(alloc, store, first, atom, head, variables)?;
     Ok(answer)
 }
 
@@ -146,7 +175,15 @@ fn take_leaf_of(
     )?;
     let count = machine.terms.len() - before;
     add_cells(&mut machine.store, machine.eigens, count)?;
-    if !unify_under(alloc, &mut machine.store, atom, opened.head)? {
+    let variables = &machine.terms[before..];
+    if !unify_leaf(
+        alloc,
+        &mut machine.store,
+        before,
+        atom,
+        opened.head,
+        variables,
+    )? {
         return Ok(false);
     }
     use_entry(&mut machine.context, label, entry)?;

@@ -1,5 +1,6 @@
 use Rattle.ll_bindings.specs.Bindings.{unbound}
-use Rattle.ll_bindings.specs.Pairs.{AreClasses}
+use Rattle.ll_bindings.specs.Pairs.{AreClasses, lefts}
+use Rattle.ll_bindings.specs.Fresh.{LeavesFresh}
 use Rattle.ll_bindings.proofs.Settling.{IsSettling}
 use Rattle.ll_bindings.proofs.equate.settle.Given as goal
 
@@ -7,6 +8,7 @@ abbrev pub invariant-pairs : goal.invariant-pairs
 invariant-pairs g l = record {
   settling : IsSettling l.bank (g.T.Bindings.table l.fn.table) (g.T.Bindings.table l.table) l.fn.work.pairs.items l.work.pairs.items;
   classes : AreClasses l.bank (g.T.Bindings.table l.table) l.work.classes.up.items;
+  fresh : LeavesFresh l.bank (g.T.Bindings.table l.fn.table) (g.T.Bindings.table l.table) l.fn.work.fresh l.work.fresh (lefts l.bank l.fn.work.pairs.items) (lefts l.bank l.work.pairs.items);
   grows : g.T.Bindings.grows l.fn.table l.table;
 }
 

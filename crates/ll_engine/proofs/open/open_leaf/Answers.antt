@@ -1,11 +1,11 @@
-use Rattle.std.proofs.Common.{◌≡◌, ℕ, ◌++◌, List, append_assoc, refl, ap, sym, subst, ◌∙◌, length, take, drop, ◌-◌, inl, inr, [], ◌∷◌, true}
+use Rattle.std.proofs.Common.{◌≡◌, ℕ, ◌++◌, append_assoc, refl, ap, sym, subst, ◌∙◌, length, take, drop, ◌-◌, inl, inr, [], ◌∷◌, true}
 use Rattle.std.proofs.lemmas.List.{append-nil}
 use Rattle.std.proofs.lemmas.Bool.{cases_lt}
 use Rattle.ll_bank.specs.declared.FormAt.{FormAt}
-use Rattle.ll_bank.specs.Form.{Form, Atom, Lolli, Imp, Bang, close_form, form_applies_heads}
-use Rattle.ll_bank.specs.Term.{Env, Var, close, applies_heads}
-use Rattle.ll_bank.specs.Nodes.{Nodes, form_tree, term_tree, AllInTerms, HasForm, Extends}
-use Rattle.ll_bank.proofs.Trees.{Extends-trans, form_tree-extends, HasForm-extends}
+use Rattle.ll_bank.specs.Form.{Form, Lolli, Imp, Bang, close_form, form_applies_heads}
+use Rattle.ll_bank.specs.Term.{Env, Var}
+use Rattle.ll_bank.specs.Nodes.{form_tree}
+use Rattle.ll_bank.proofs.Trees.{Extends-trans}
 use Rattle.ll_close.specs.Closing.{env_of}
 use Rattle.ll_laws.specs.Leaf.{Needs, NeedsFree, ways, leaf_from}
 use Rattle.ll_laws.specs.Valid.{GoalSide, ClauseSide}
@@ -24,18 +24,8 @@ loop-atom-init c = record {
   more = record { more = []; is = sym (append-nil c.args.terms.now.items) };
 }
 
-pub close_term-requires-clause-heads : goal.close_term-requires-clause-heads
-close_term-requires-clause-heads c =
-    let w = c.loop-atom.invariant.way in let a = term_tree c.loop-atom.bank c.in-Atom.atom.0 in
-    let tree : form_tree c.args.bank.now c.loop-atom.form.0 ≡ Atom a = sym (same_part c.args.bank.now (items_at c.args.agenda.now c.args.rest) (length c.args.terms.now.items) c.args.clause.0 c.args.leaf c.loop-atom.bank c.loop-atom.agenda c.loop-atom.terms.items c.loop-atom.form c.loop-atom.leaf c.loop-atom.top c.loop-atom.invariant.way c.loop-atom.form w.inside) ∙ c.in-Atom.ensures.shown.tree in
-    subst (λ (e : Env). applies_heads (close e a) ≡ true) (sym (slice_env c.loop-atom.bank c.deref.result.now c.loop-atom.terms.items c.len-from.result (length c.args.terms.now.items) c.loop-atom.invariant.way.count c.deref.ensures.value (c.len-from.ensures ∙ c.args.terms.now.ok.0) c.loop-atom.invariant.way.variables))
-    (closed_applies w.may (length c.args.terms.now.items) w.count ClauseSide (Atom a) (subst (FormFits w.may ClauseSide (scope_of w.count)) tree w.fits))
-
 pub returns-in-Atom-clause-opened : goal.returns-in-Atom-clause-opened
-returns-in-Atom-clause-opened c =
-    let made = c.in_ok-head-in-Atom.ensures.shows in
-    way_end c.args.bank.now (items_at c.args.agenda.now c.args.rest) (length c.args.terms.now.items) c.args.clause.0 c.args.leaf c.loop-atom.bank c.loop-atom.agenda c.loop-atom.terms.items c.loop-atom.form c.loop-atom.leaf c.loop-atom.top c.loop-atom.invariant.way c.in-Atom.atom c.in_ok-head-in-Atom.head c.close_term.new.bank c.in-Atom.ensures.shown.tree c.in_ok-head-in-Atom.ensures.keeps made.inside
-    (made.tree ∙ ap (λ (e : Env). close e (term_tree c.loop-atom.bank c.in-Atom.atom.0)) (slice_env c.loop-atom.bank c.deref.result.now c.loop-atom.terms.items c.len-from.result (length c.args.terms.now.items) c.loop-atom.invariant.way.count c.deref.ensures.value (c.len-from.ensures ∙ c.args.terms.now.ok.0) c.loop-atom.invariant.way.variables))
+returns-in-Atom-clause-opened c = way_end c.args.bank.now (items_at c.args.agenda.now c.args.rest) (length c.args.terms.now.items) c.args.clause.0 c.args.leaf c.loop-atom.bank c.loop-atom.agenda c.loop-atom.terms.items c.loop-atom.form c.loop-atom.leaf c.loop-atom.top c.loop-atom.invariant.way c.in-Atom.atom c.in-Atom.ensures.shown.tree c.in-Atom.ensures.shown.parts
 
 pub loop-atom-preserved-in-With : goal.loop-atom-preserved-in-With
 loop-atom-preserved-in-With c = record {
@@ -61,8 +51,8 @@ close_form-requires-clause-heads c =
     let g = form_tree c.args.bank.now c.in-Lolli.premise.0 in let r = form_tree c.args.bank.now c.in-Lolli.next.0 in
     let tree : form_tree c.args.bank.now c.loop-atom.form.0 ≡ Lolli g r =
     sym (same_part c.args.bank.now (items_at c.args.agenda.now c.args.rest) (length c.args.terms.now.items) c.args.clause.0 c.args.leaf c.loop-atom.bank c.loop-atom.agenda c.loop-atom.terms.items c.loop-atom.form c.loop-atom.leaf c.loop-atom.top c.loop-atom.invariant.way c.loop-atom.form w.inside) ∙ (c.in-Lolli.ensures.shown.tree ∙ (λ i. Lolli (same_part c.args.bank.now (items_at c.args.agenda.now c.args.rest) (length c.args.terms.now.items) c.args.clause.0 c.args.leaf c.loop-atom.bank c.loop-atom.agenda c.loop-atom.terms.items c.loop-atom.form c.loop-atom.leaf c.loop-atom.top c.loop-atom.invariant.way c.in-Lolli.premise a i) (same_part c.args.bank.now (items_at c.args.agenda.now c.args.rest) (length c.args.terms.now.items) c.args.clause.0 c.args.leaf c.loop-atom.bank c.loop-atom.agenda c.loop-atom.terms.items c.loop-atom.form c.loop-atom.leaf c.loop-atom.top c.loop-atom.invariant.way c.in-Lolli.next b i))) in
-    subst (λ (f : Form). form_applies_heads (close_form (env_of c.loop-atom.bank (take (length c.deref-in-Lolli.result.now - c.len-from.result) (drop c.len-from.result c.deref-in-Lolli.result.now))) f) ≡ true) (sym (same_part c.args.bank.now (items_at c.args.agenda.now c.args.rest) (length c.args.terms.now.items) c.args.clause.0 c.args.leaf c.loop-atom.bank c.loop-atom.agenda c.loop-atom.terms.items c.loop-atom.form c.loop-atom.leaf c.loop-atom.top c.loop-atom.invariant.way c.in-Lolli.premise a))
-    (subst (λ (e : Env). form_applies_heads (close_form e g) ≡ true) (sym (slice_env c.loop-atom.bank c.deref-in-Lolli.result.now c.loop-atom.terms.items c.len-from.result (length c.args.terms.now.items) c.loop-atom.invariant.way.count c.deref-in-Lolli.ensures.value (c.len-from.ensures ∙ c.args.terms.now.ok.0) c.loop-atom.invariant.way.variables))
+    subst (λ (f : Form). form_applies_heads (close_form (env_of c.loop-atom.bank (take (length c.deref.result.now - c.len-from.result) (drop c.len-from.result c.deref.result.now))) f) ≡ true) (sym (same_part c.args.bank.now (items_at c.args.agenda.now c.args.rest) (length c.args.terms.now.items) c.args.clause.0 c.args.leaf c.loop-atom.bank c.loop-atom.agenda c.loop-atom.terms.items c.loop-atom.form c.loop-atom.leaf c.loop-atom.top c.loop-atom.invariant.way c.in-Lolli.premise a))
+    (subst (λ (e : Env). form_applies_heads (close_form e g) ≡ true) (sym (slice_env c.loop-atom.bank c.deref.result.now c.loop-atom.terms.items c.len-from.result (length c.args.terms.now.items) c.loop-atom.invariant.way.count c.deref.ensures.value (c.len-from.ensures ∙ c.args.terms.now.ok.0) c.loop-atom.invariant.way.variables))
     (closed_applies w.may (length c.args.terms.now.items) w.count GoalSide g (subst (FormFits w.may ClauseSide (scope_of w.count)) tree w.fits).0))
 
 pub close_form-requires-in-Imp-clause-heads : goal.close_form-requires-in-Imp-clause-heads
@@ -87,7 +77,7 @@ loop-atom-preserved-in-Lolli c = record {
       way_past c.args.bank.now (items_at c.args.agenda.now c.args.rest) (length c.args.terms.now.items) c.args.clause.0 c.args.leaf c.loop-atom.bank c.loop-atom.agenda c.loop-atom.terms.items c.loop-atom.form c.loop-atom.leaf c.loop-atom.top c.loop-atom.invariant.way (Needs (close_form (env_vars (length c.args.terms.now.items) w.count) g)) c.in_ok-goal-in-Lolli.goal c.in-Lolli.next c.close_form.new.bank c.push.new.self c.in_ok-top-in-Lolli.top
       c.in_ok-goal-in-Lolli.ensures.keeps (ap ways tree) (λ ts. ap (λ t. leaf_from (env_vars (length c.args.terms.now.items) w.count) t c.loop-atom.leaf ts) tree) b
       (subst (FormFits w.may ClauseSide (scope_of w.count)) tree w.fits).1 made.inside
-      (made.tree ∙ (λ i. close_form ((slice_env c.loop-atom.bank c.deref-in-Lolli.result.now c.loop-atom.terms.items c.len-from.result (length c.args.terms.now.items) c.loop-atom.invariant.way.count c.deref-in-Lolli.ensures.value (c.len-from.ensures ∙ c.args.terms.now.ok.0) c.loop-atom.invariant.way.variables) i) (same_part c.args.bank.now (items_at c.args.agenda.now c.args.rest) (length c.args.terms.now.items) c.args.clause.0 c.args.leaf c.loop-atom.bank c.loop-atom.agenda c.loop-atom.terms.items c.loop-atom.form c.loop-atom.leaf c.loop-atom.top c.loop-atom.invariant.way c.in-Lolli.premise a i))) c.in_ok-top-in-Lolli.ensures.list;
+      (made.tree ∙ (λ i. close_form ((slice_env c.loop-atom.bank c.deref.result.now c.loop-atom.terms.items c.len-from.result (length c.args.terms.now.items) c.loop-atom.invariant.way.count c.deref.ensures.value (c.len-from.ensures ∙ c.args.terms.now.ok.0) c.loop-atom.invariant.way.variables) i) (same_part c.args.bank.now (items_at c.args.agenda.now c.args.rest) (length c.args.terms.now.items) c.args.clause.0 c.args.leaf c.loop-atom.bank c.loop-atom.agenda c.loop-atom.terms.items c.loop-atom.form c.loop-atom.leaf c.loop-atom.top c.loop-atom.invariant.way c.in-Lolli.premise a i))) c.in_ok-top-in-Lolli.ensures.list;
   frames = frames-trans c.loop-atom.invariant.frames c.push.ensures.keeps;
   more = c.loop-atom.invariant.more;
 }

@@ -1,12 +1,14 @@
-use Rattle.std.proofs.Common.{◌≡◌, ◌<◌, ◌≤◌, ◌+◌, ◌∙◌, suc, List, [], ◌∷◌, length, drop, get_or, refl, subst, arith}
+use Rattle.std.proofs.Common.{◌≡◌, ℕ, sym, ◌<◌, ◌≤◌, ◌+◌, ◌∙◌, suc, List, [], ◌∷◌, length, drop, get_or, refl, subst, arith}
 use Rattle.std.proofs.lemmas.List.{get_or_default}
 use Rattle.ll_bank.specs.declared.At.{At}
 use Rattle.ll_bank.specs.Term.{Term}
 use Rattle.ll_bank.specs.Nodes.{term_tree, term_trees}
+use Rattle.ll_bindings.specs.Fresh.{AreFresh}
 use Rattle.ll_bindings.specs.Solving.{Solves, Settles, wanted, spare}
-use Rattle.ll_bindings.proofs.Settling.{keeps-same, keeps-then, next-refused, next-settled, trees-none}
+use Rattle.ll_bindings.proofs.Settling.{keeps-same, keeps-then, next-refused, next-settled, trees-drop, trees-none}
+use Rattle.ll_bindings.proofs.FreshLemmas.{fresh-first}
 use Rattle.ll_bindings.proofs.Solving.{solves-start, solves-none}
-use Rattle.ll_bindings.proofs.equate.unify.Goals as goal
+use Rattle.ll_bindings.proofs.equate.solve.Goals as goal
 
 pub loop-index-init : goal.loop-index-init
 loop-index-init g c = record {
@@ -14,6 +16,7 @@ loop-index-init g c = record {
   count = refl;
   cells = keeps-same c.args.bank.now (g.T.Bindings.table c.args.table.now);
   classes = c.new-2.ensures c.args.bank.now (g.T.Bindings.table c.args.table.now);
+  fresh = c.requires.fresh;
   grows = g.met.T.Bindings.stays c.args.table.now;
   solves = solves-start c.args.bank.now (g.T.Bindings.table c.args.table.now) (term_trees c.args.bank.now c.args.left.now) (term_trees c.args.bank.now c.args.right.now) c.requires.table;
 }
@@ -46,6 +49,10 @@ loop-index-preserved g c =
       count = h.count ∙ c.loop-index.invariant.count;
       cells = keeps-then c.args.bank.now old (g.T.Bindings.table c.loop-index.table) (g.T.Bindings.table c.make_equal.new.table) c.loop-index.invariant.cells h.cells;
       classes = c.in_ok-make_equal.ensures.classes c.if-not-branch.false;
+      fresh = subst (λ (m : ℕ). AreFresh c.args.bank.now (g.T.Bindings.table c.make_equal.new.table) c.make_equal.new.work.fresh (drop m (term_trees c.args.bank.now c.args.left.now))) (sym next)
+          (c.in_ok-make_equal.ensures.fresh c.if-not-branch.false (drop (suc c.loop-index.index) (term_trees c.args.bank.now c.args.left.now))
+          (subst (λ (us : List Term). AreFresh c.args.bank.now (g.T.Bindings.table c.loop-index.table) c.loop-index.work.fresh us)
+          (trees-drop c.args.bank.now c.args.left.now c.loop-index.index a below (get_or_default c.args.left.now c.loop-index.index none a below)) c.loop-index.invariant.fresh));
       grows = g.met.T.Bindings.again c.args.table.now c.loop-index.table c.make_equal.new.table c.loop-index.invariant.grows c.make_equal.ensures.grows;
       solves = next-settled c.args.bank.now old (g.T.Bindings.table c.loop-index.table) (g.T.Bindings.table c.make_equal.new.table) (spare old)
           (wanted c.args.bank.now old (term_trees c.args.bank.now c.args.left.now) (term_trees c.args.bank.now c.args.right.now)) c.args.left.now c.args.right.now c.loop-index.index (c.loop-index.index + 1)
@@ -68,3 +75,12 @@ returns-clause-solved g c =
       table = c.loop-index.invariant.table;
       same_count = c.loop-index.invariant.count;
     }
+
+pub make_equal-requires-clause-fresh : goal.make_equal-requires-clause-fresh
+make_equal-requires-clause-fresh g c =
+    let none : At = record { 0 = 0 } in
+    let a = get_or c.args.left.now c.loop-index.index none in
+    let below : c.loop-index.index < length c.args.left.now = omega (arith, c.loop-index-test.true, c.loop-index.auto.index-end) in
+    fresh-first c.args.bank.now (g.T.Bindings.table c.loop-index.table) c.loop-index.work.fresh (term_tree c.args.bank.now a.0) (drop (suc c.loop-index.index) (term_trees c.args.bank.now c.args.left.now))
+    (subst (λ (us : List Term). AreFresh c.args.bank.now (g.T.Bindings.table c.loop-index.table) c.loop-index.work.fresh us)
+    (trees-drop c.args.bank.now c.args.left.now c.loop-index.index a below (get_or_default c.args.left.now c.loop-index.index none a below)) c.loop-index.invariant.fresh)

@@ -2,8 +2,9 @@ use Rattle.std.proofs.Common.{◌≡◌, drop}
 use Rattle.ll_bank.specs.Nodes.{term_trees}
 use Rattle.ll_bindings.specs.Bindings.{IsTable, KeepsCells, count}
 use Rattle.ll_bindings.specs.Pairs.{AreClasses}
+use Rattle.ll_bindings.specs.Fresh.{AreFresh}
 use Rattle.ll_bindings.specs.Solving.{Solves, wanted, spare}
-use Rattle.ll_bindings.proofs.equate.unify.Given as goal
+use Rattle.ll_bindings.proofs.equate.solve.Given as goal
 
 abbrev pub invariant-loop-index : goal.invariant-loop-index
 invariant-loop-index g l = record {
@@ -11,6 +12,7 @@ invariant-loop-index g l = record {
   count : count (g.T.Bindings.table l.table) ≡ count (g.T.Bindings.table l.fn.table);
   cells : KeepsCells l.bank (g.T.Bindings.table l.fn.table) (g.T.Bindings.table l.table);
   classes : AreClasses l.bank (g.T.Bindings.table l.table) l.work.classes.up.items;
+  fresh : AreFresh l.bank (g.T.Bindings.table l.table) l.work.fresh (drop l.index (term_trees l.bank l.left));
   grows : g.T.Bindings.grows l.fn.table l.table;
   solves : Solves l.bank (g.T.Bindings.table l.table) (spare (g.T.Bindings.table l.fn.table))
       (wanted l.bank (g.T.Bindings.table l.fn.table) (term_trees l.bank l.left) (term_trees l.bank l.right))

@@ -1,0 +1,5 @@
+use Rattle.ll_bank.proofs.Trees.{Extends-refl}
+use Rattle.ll_bind.proofs.head.closed.Goals as goal
+
+pub returns-in-Some-clause-keeps : goal.returns-in-Some-clause-keeps
+returns-in-Some-clause-keeps c = Extends-refl c.args.bank.now

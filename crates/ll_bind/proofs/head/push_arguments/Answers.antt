@@ -1,0 +1,13 @@
+use Rattle.std.proofs.Common.{◌-◌, arith}
+use Rattle.ll_bind.proofs.Heads.{equate_begin, equate_more}
+use Rattle.ll_bind.proofs.head.push_arguments.Goals as goal
+
+pub loop-left-init : goal.loop-left-init
+loop-left-init c = record { among = omega arith; pushed = equate_begin c.args.places.now c.args.patterns.now c.args.equations.now.items c.requires }
+
+pub loop-left-preserved : goal.loop-left-preserved
+loop-left-preserved c = record {
+  among = omega arith;
+  pushed = equate_more c.args.places.now c.args.patterns.now c.loop-left.left (c.loop-left.left - 1) (record { 0 = 0 }) c.args.equations.now.items c.loop-left.equations.items c.push.new.self.items (omega arith) (omega arith) c.requires c.loop-left.invariant.pushed
+      c.in_ok-push.ensures.items;
+}

@@ -1,0 +1,57 @@
+-- The head of a clause against an atom: equations of terms with patterns, whose bound places stand for values.
+use Rattle.std.specs.Prelude.{◌≡◌, ◌<◌, ℕ, ◌++◌, true, List, [], ◌∷◌, map, reverse, length, All}
+use Rattle.ll_bank.specs.declared.At.{At}
+use Rattle.ll_bank.specs.declared.Head.{Head}
+use Rattle.ll_bank.specs.Term.{Term, Env, sub, app, close, applies_heads, not_bound}
+use Rattle.ll_bank.specs.Nodes.{Nodes, HasTerm, term_tree, term_trees}
+use Rattle.ll_laws.specs.Unify.{Clash as Differ, diff}
+use Rattle.ll_bindings.specs.Bindings.{Table, HasCells, IsPlaceOf}
+use Rattle.ll_bind.specs.declared.head.Equation.{Equation}
+use Rattle.ll_bind.specs.declared.head.Opened.{Opened}
+use Rattle.ll_bind.specs.declared.head.Opened.TheVariants.{Open, Clash, Shut}
+
+-- the terms, and what the patterns are once their bound places are closed
+abbrev pub terms_of : Nodes → List Equation → List Term
+terms_of nodes es = map (λ e. term_tree nodes e.place.0) es
+
+abbrev pub closed_of : Nodes → Env → List Equation → List Term
+closed_of nodes env es = map (λ e. close env (term_tree nodes e.pattern.0)) es
+
+-- a place with each pattern
+abbrev pub equate : List At → List At → List Equation
+equate (a ∷ places) (p ∷ patterns) = record { place = a; pattern = p } ∷ equate places patterns
+equate _ _ = []
+
+-- the variables of the term and of the closed pattern have cells, and nothing but a head has arguments
+pub record IsEquation (nodes : Nodes) (t : Table) (env : Env) (e : Equation) : Type 0 where
+  pub place : IsPlaceOf nodes t e.place.0
+  pub inside : HasTerm nodes e.pattern.0
+  pub heads : applies_heads (close env (term_tree nodes e.pattern.0)) ≡ true
+  pub vars : HasCells nodes t (close env (term_tree nodes e.pattern.0))
+
+abbrev pub AreEquations : Nodes → Table → Env → List Equation → Type 0
+AreEquations nodes t env [] = Unit {0}
+AreEquations nodes t env (e ∷ es) = IsEquation nodes t env e × AreEquations nodes t env es
+
+-- a term and a pattern with one head, which is no bound place, and as many arguments, with equations for the arguments
+pub record AreOpened (nodes : Nodes) (place pattern : ℕ) (old new : List Equation) : Type 0 where
+  pub head : Head
+  pub places : List At
+  pub patterns : List At
+  pub fixed : not_bound head ≡ true
+  pub term : term_tree nodes place ≡ app head (term_trees nodes places)
+  pub shape : term_tree nodes pattern ≡ app head (term_trees nodes patterns)
+  pub even : length places ≡ length patterns
+  pub places_below : All (λ a. a.0 < place) places
+  pub patterns_below : All (λ a. a.0 < pattern) patterns
+  pub pushed : reverse new ≡ equate places patterns ++ reverse old
+
+-- whatever stands for the variables and the bound places, they differ in a sign
+abbrev pub AreApart : Nodes → ℕ → ℕ → Type 0
+AreApart nodes place pattern = (env : Env) (s : ℕ → Term) → diff (sub s (term_tree nodes place)) (sub s (close env (term_tree nodes pattern))) ≡ Differ
+
+-- what became of a term and a pattern
+abbrev pub IsOpened : Nodes → ℕ → ℕ → List Equation → List Equation → Opened → Type 0
+IsOpened nodes place pattern old new Open = AreOpened nodes place pattern old new
+IsOpened nodes place pattern old new Clash = AreApart nodes place pattern
+IsOpened nodes place pattern old new Shut = new ≡ old

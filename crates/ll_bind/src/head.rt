@@ -1,0 +1,238 @@
+//! An atom against the head of a clause.
+ghost use Rattle.std.specs.Prelude.{not, ◌≡◌, ◌≤◌, ◌<◌, ◌++◌, ℕ, true, length, reverse, All, IfOk, IfSome, OnOk, [], ◌∷◌};
+ghost use Rattle.ll_bank.specs.declared.At.{At as AtView};
+ghost use Rattle.ll_bank.specs.Term.{head_eq, close, close_head, applies_heads, not_bound};
+ghost use Rattle.ll_bank.specs.Nodes.{term_tree, HasTerm, AllInTerms, ShowsTerm, Extends};
+ghost use Rattle.ll_close.specs.Closing.{env_of};
+ghost use Rattle.ll_bindings.specs.Bindings.{IsTable, IsPlaceOf, IsEnd, HasCells, count};
+ghost use Rattle.ll_bindings.specs.Fresh.{AreFresh, LeavesFresh, StandsNowhere};
+ghost use Rattle.ll_bindings.specs.Solving.{IsSolved, Settles, wanted};
+ghost use Rattle.ll_store.specs.Stored.{stored, KeepsMarks};
+ghost use Rattle.ll_store.specs.Tables.{table_of};
+ghost use Rattle.ll_bind.specs.Heads.{equate, IsOpened};
+
+use ll_bank::{At, Bank, Head, OutOfMemory, TermView};
+use ll_bindings::{Fresh, unify_next, walk};
+use ll_close::close_term;
+use ll_store::Store;
+use std::alloc::Global;
+
+/// The term at a place, and a pattern that it has to match.
+#[derive(Clone, Copy)]
+pub struct Equation {
+    pub place: At,
+    pub pattern: At,
+}
+
+/// What becomes of a term and a pattern.
+#[derive(Clone, Copy)]
+pub enum Opened {
+    /// They have one head, and equations for their arguments.
+    Open,
+    /// They differ in a sign.
+    Clash,
+    /// The pattern has to be closed.
+    Shut,
+}
+
+/// Whether two heads are one.
+fn is_same_head(left: Head, right: Head) -> bool
+    ensures { result ≡ head_eq left right }
+{
+    left == right
+}
+
+/// Whether a head is a bound place.
+fn is_place(head: Head) -> bool
+    ensures { result ≡ not (not_bound head) }
+{
+    match head {
+        Head::Bound(_) => true,
+        Head::Name(_) => false,
+        Head::Eigen(_) => false,
+    }
+}
+
+/// Puts equations of arguments on the stack, the first on top.
+fn push_arguments(
+    places: &[At],
+    patterns: &[At],
+    equations: &mut Vec<Equation>,
+) -> Result<(), OutOfMemory>
+    requires { length places.now ≡ length patterns.now }
+    ensures { OnOk result (reverse equations.new.items ≡ equate places.now patterns.now ++ reverse equations.old.items) }
+{
+    let mut left = patterns.len();
+    while left > 0 {
+        left -= 1;
+        equations.push(Equation {
+            place: places[left],
+            pattern: patterns[left],
+        })?;
+    }
+    Ok(())
+}
+
+/// Compares the sign of a term with that of a pattern.
+fn open(
+    bank: &Bank,
+    place: At,
+    pattern: At,
+    equations: &mut Vec<Equation>,
+) -> Result<Opened, OutOfMemory>
+    requires place { HasTerm bank.now place.0 }
+    requires pattern { HasTerm bank.now pattern.0 }
+    ensures { IfOk result (IsOpened bank.now place.0 pattern.0 equations.old.items equations.new.items) }
+{
+    match bank.term_at(pattern) {
+        TermView::Var(_) => Ok(Opened::Shut),
+        TermView::Int(_) => Ok(Opened::Shut),
+        TermView::App(head, args) => {
+            if is_place(head) {
+                return Ok(Opened::Shut);
+            }
+            match bank.term_at(place) {
+                TermView::Var(_) => Ok(Opened::Shut),
+                TermView::Int(_) => Ok(Opened::Clash),
+                TermView::App(other, others) => {
+                    if !is_same_head(other, head) {
+                        return Ok(Opened::Clash);
+                    }
+                    if others.len() != args.len() {
+                        return Ok(Opened::Clash);
+                    }
+                    push_arguments(others, args, equations)?;
+                    Ok(Opened::Open)
+                }
+            }
+        }
+    }
+}
+
+/// The value of a head that is a bound place, where it has one.
+fn value(bank: &Bank, head: Head, values: &[At]) -> Option<At>
+    requires { AllInTerms bank.now values.now }
+    ensures { IfSome result (λ at. ShowsTerm bank.now at.0 (close_head (env_of bank.now values.now) head)) }
+{
+    match head {
+        Head::Bound(bound) => {
+            let number = bound as usize;
+            if number < values.len() {
+                Some(values[values.len() - 1 - number])
+            } else {
+                None
+            }
+        }
+        Head::Name(_) => None,
+        Head::Eigen(_) => None,
+    }
+}
+
+/// The place that shows a pattern with its bound places closed, where there is one already.
+fn value_of(bank: &Bank, pattern: At, values: &[At]) -> Option<At>
+    requires pattern { HasTerm bank.now pattern.0 }
+    requires values { AllInTerms bank.now values.now }
+    ensures { IfSome result (λ at. ShowsTerm bank.now at.0 (close (env_of bank.now values.now) (term_tree bank.now pattern.0))) }
+{
+    match bank.term_at(pattern) {
+        TermView::Var(_) => Some(pattern),
+        TermView::Int(_) => Some(pattern),
+        TermView::App(head, args) => {
+            if args.is_empty() {
+                value(bank, head, values)
+            } else {
+                None
+            }
+        }
+    }
+}
+
+/// A place that shows a pattern with its bound places closed.
+fn closed(alloc: Global, bank: &mut Bank, pattern: At, values: &[At]) -> Result<At, OutOfMemory>
+    requires pattern { HasTerm bank.old pattern.0 }
+    requires values { AllInTerms bank.old values.now }
+    requires heads { applies_heads (close (env_of bank.old values.now) (term_tree bank.old pattern.0)) ≡ true }
+    ensures shows { IfOk result (λ made. ShowsTerm bank.new made.0 (close (env_of bank.old values.now) (term_tree bank.old pattern.0))) }
+    ensures keeps { Extends bank.old bank.new }
+{
+    match value_of(bank, pattern, values) {
+        Some(value) => Ok(value),
+        None => close_term(alloc, bank, pattern, values),
+    }
+}
+
+/// Makes a term equal to a closed pattern by bindings, or finds that this can't be.
+fn meet(
+    alloc: Global,
+    store: &mut Store,
+    fresh: &mut Fresh,
+    place: At,
+    pattern: At,
+    values: &[At],
+) -> Result<bool, OutOfMemory>
+    requires store { IsTable store.old.bank (table_of store.old.cells.cells) }
+    requires place { IsPlaceOf store.old.bank (table_of store.old.cells.cells) place.0 }
+    requires pattern { HasTerm store.old.bank pattern.0 }
+    requires values { AllInTerms store.old.bank values.now }
+    requires heads { applies_heads (close (env_of store.old.bank values.now) (term_tree store.old.bank pattern.0)) ≡ true }
+    requires vars { HasCells store.old.bank (table_of store.old.cells.cells) (close (env_of store.old.bank values.now) (term_tree store.old.bank pattern.0)) }
+    requires fresh { AreFresh store.old.bank (table_of store.old.cells.cells) fresh.old (term_tree store.old.bank place.0 ∷ []) }
+    ensures settles { IfOk result (Settles store.new.bank (table_of store.old.cells.cells) (table_of store.new.cells.cells) (term_tree store.old.bank place.0 ∷ []) (close (env_of store.old.bank values.now) (term_tree store.old.bank pattern.0) ∷ [])) }
+    ensures fresh { IfOk result (λ good. good ≡ true → LeavesFresh store.new.bank (table_of store.old.cells.cells) (table_of store.new.cells.cells) fresh.old fresh.new (term_tree store.old.bank place.0 ∷ []) []) }
+    ensures keeps { Extends store.old.bank store.new.bank }
+    ensures marks { KeepsMarks (stored store.old) (stored store.new) }
+{
+    let right = closed(alloc, &mut store.bank, pattern, values)?;
+    unify_next(alloc, &store.bank, &mut store.cells, fresh, place, right)
+}
+
+/// Makes an atom equal to the head of a clause by bindings of a store's variables, or finds that this can't be.
+///
+/// The bound places of the head stand for values, the outermost first. Of the head only what a variable of the atom is bound to is built.
+/// The variables from `first` on are those of the clause, made just before: none of them stands in the atom or in what another variable
+/// stands for, none has a lower level than another variable, and the eigenconstants in the atom and in what variables stand for are below
+/// their level. Where one is met in the head for the first time it takes the end of what stands against it, without a look through that:
+/// it can't stand there, and no level falls. The first 64 of them are told apart; those past them are looked for each time.
+///
+/// The answer, the bindings and the levels are those of [`unify`](crate::unify) on the atom and the closed head. In every case each good
+/// mark of the store stays good, with its state, and its bank may have more places. Where the answer is `false`, and after a refusal,
+/// some bindings and levels may have been changed: go back to a mark.
+pub fn unify_head(
+    alloc: Global,
+    store: &mut Store,
+    first: usize,
+    atom: At,
+    head: At,
+    values: &[At],
+) -> Result<bool, OutOfMemory>
+    requires store { IsTable store.old.bank (table_of store.old.cells.cells) }
+    requires atom { IsPlaceOf store.old.bank (table_of store.old.cells.cells) atom.0 }
+    requires head { HasTerm store.old.bank head.0 }
+    requires values { AllInTerms store.old.bank values.now }
+    requires heads { applies_heads (close (env_of store.old.bank values.now) (term_tree store.old.bank head.0)) ≡ true }
+    requires vars { HasCells store.old.bank (table_of store.old.cells.cells) (close (env_of store.old.bank values.now) (term_tree store.old.bank head.0)) }
+    requires new { (x : ℕ) → first ≤ x → x < count (table_of store.old.cells.cells) → StandsNowhere store.old.bank (table_of store.old.cells.cells) (term_tree store.old.bank atom.0 ∷ []) x }
+    ensures solved { IfOk result (IsSolved store.new.bank (table_of store.old.cells.cells) (table_of store.new.cells.cells) (wanted store.old.bank (table_of store.old.cells.cells) (term_tree store.old.bank atom.0 ∷ []) (close (env_of store.old.bank values.now) (term_tree store.old.bank head.0) ∷ []))) }
+    ensures keeps { Extends store.old.bank store.new.bank }
+    ensures marks { KeepsMarks (stored store.old) (stored store.new) }
+{
+    let mut fresh = Fresh::from(first);
+    let mut equations = Vec::new(alloc);
+    equations.push(Equation {
+        place: atom,
+        pattern: head,
+    })?;
+    while let Some(equation) = equations.pop() {
+        let end = walk(&store.bank, &store.cells, equation.place);
+        match open(&store.bank, end, equation.pattern, &mut equations)? {
+            Opened::Open => {}
+            Opened::Clash => return Ok(false),
+            Opened::Shut => {
+                if !meet(alloc, store, &mut fresh, end, equation.pattern, values)? {
+                    return Ok(false);
+                }
+            }
+        }
+    }
+    Ok(true)
+}

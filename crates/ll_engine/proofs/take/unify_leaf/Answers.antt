@@ -1,0 +1,11 @@
+use Rattle.ll_bank.specs.Term.{close}
+use Rattle.ll_bank.specs.Nodes.{term_tree}
+use Rattle.ll_close.specs.Closing.{env_of}
+use Rattle.ll_store.specs.Tables.{table_of}
+use Rattle.ll_engine.proofs.UnifyLemmas.{unifies}
+use Rattle.ll_engine.proofs.take.unify_leaf.Goals as goal
+
+pub returns-clause-found : goal.returns-clause-found
+returns-clause-found c =
+    let s = c.args.store.now in
+    unifies s.bank c.unify_head.new.store.bank (table_of s.cells.cells) (table_of c.unify_head.new.store.cells.cells) (term_tree s.bank c.args.atom.0) (close (env_of s.bank c.args.variables.now) (term_tree s.bank c.args.head.0)) c.in_ok-answer.answer c.in_ok-answer.ensures.solved

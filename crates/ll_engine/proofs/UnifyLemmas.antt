@@ -1,12 +1,12 @@
 -- What unification on the cells of a store finds.
-use Rattle.std.proofs.Common.{◌≡◌, ℕ, [], ◌∷◌, refl, ap, sym, ◌∙◌, Bool, true, false, Option, Some, None}
-use Rattle.std.specs.Prelude.{option_map, map}
+use Rattle.std.proofs.Common.{◌≡◌, [], ◌∷◌, ap, sym, Bool, true, false, Option, Some, None}
+use Rattle.std.specs.Prelude.{option_map}
 use Rattle.ll_bank.specs.Term.{Term, sub}
 use Rattle.ll_bank.specs.Nodes.{Nodes}
 use Rattle.ll_laws.specs.Unify.{Solved, mgu}
 use Rattle.ll_bindings.specs.Bindings.{Table, found}
 use Rattle.ll_bindings.specs.Solving.{along, wanted, IsSolved}
-use Rattle.ll_engine.specs.Taking.{IsUnified, Unifies}
+use Rattle.ll_engine.specs.Taking.{Unifies}
 
 solved_by : (nodes : Nodes) (old new : Table) (o : Option Solved) (answer : Bool) → IsSolved nodes old new (option_map (along (found nodes old)) o) answer → Unifies nodes old new o answer
 solved_by nodes old new (Some v) true h =

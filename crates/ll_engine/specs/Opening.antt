@@ -3,8 +3,8 @@ use Rattle.std.specs.Prelude.{◌≡◌, ℕ, ◌+◌, ◌-◌, ◌<◌, ◌≤�
 use Rattle.ll_bank.specs.declared.At.{At}
 use Rattle.ll_bank.specs.declared.FormAt.{FormAt}
 use Rattle.ll_bank.specs.Form.{Form}
-use Rattle.ll_bank.specs.Nodes.{Nodes, HasTerm, HasForm, AllInTerms, Extends, term_tree, term_trees, form_tree}
-use Rattle.ll_laws.specs.Leaf.{Leaf, Premise, premise_goal, ways, leaf}
+use Rattle.ll_bank.specs.Nodes.{Nodes, HasTerm, HasForm, AllInTerms, term_tree, term_trees, form_tree}
+use Rattle.ll_laws.specs.Leaf.{Premise, premise_goal, ways, leaf}
 use Rattle.ll_laws.specs.Attempt.{vars_from}
 use Rattle.ll_laws.specs.Valid.{Allowed, IsFormula, ClauseSide}
 use Rattle.ll_agenda.specs.declared.agenda.Top.{Top}

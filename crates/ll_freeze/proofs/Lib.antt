@@ -1,4 +1,5 @@
 pub mod CallerLemmas
 pub mod Marks
+pub mod Resting
 mod Imaging
 mod Starting

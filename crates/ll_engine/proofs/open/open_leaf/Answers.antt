@@ -1,11 +1,11 @@
-use Rattle.std.proofs.Common.{◌≡◌, ℕ, ◌++◌, List, append_assoc, refl, ap, sym, subst, ◌∙◌, length, take, drop, ◌-◌, inl, inr, [], ◌∷◌, true}
+use Rattle.std.proofs.Common.{◌≡◌, ℕ, ◌++◌, append_assoc, refl, ap, sym, subst, ◌∙◌, length, take, drop, ◌-◌, inl, inr, [], ◌∷◌, true}
 use Rattle.std.proofs.lemmas.List.{append-nil}
 use Rattle.std.proofs.lemmas.Bool.{cases_lt}
 use Rattle.ll_bank.specs.declared.FormAt.{FormAt}
 use Rattle.ll_bank.specs.Form.{Form, Atom, Lolli, Imp, Bang, close_form, form_applies_heads}
 use Rattle.ll_bank.specs.Term.{Env, Var, close, applies_heads}
-use Rattle.ll_bank.specs.Nodes.{Nodes, form_tree, term_tree, AllInTerms, HasForm, Extends}
-use Rattle.ll_bank.proofs.Trees.{Extends-trans, form_tree-extends, HasForm-extends}
+use Rattle.ll_bank.specs.Nodes.{form_tree, term_tree}
+use Rattle.ll_bank.proofs.Trees.{Extends-trans}
 use Rattle.ll_close.specs.Closing.{env_of}
 use Rattle.ll_laws.specs.Leaf.{Needs, NeedsFree, ways, leaf_from}
 use Rattle.ll_laws.specs.Valid.{GoalSide, ClauseSide}

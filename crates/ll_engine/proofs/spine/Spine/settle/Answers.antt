@@ -1,7 +1,6 @@
 use Rattle.std.proofs.Common.{sym, subst, List}
 use Rattle.ll_freeze.specs.Parts.{parts_of}
 use Rattle.ll_freeze.proofs.Marks.{keeps}
-use Rattle.ll_engine.specs.Seen.{Spine}
 use Rattle.ll_engine.specs.Turned.{Settles}
 use Rattle.ll_engine.specs.Pointed.{Held, IsSoundAt, spine_at, spine_of, helds}
 use Rattle.ll_engine.proofs.Pointing.{settles, settled_sound, helds_kept, marks_kept}
@@ -11,6 +10,7 @@ pub returns-clause-sound : goal.returns-clause-sound
 returns-clause-sound c =
     let z = c.args.self.now in let m = c.settle.new.machine in let ps = z.points.items in
     record {
+      index = c.requires.sound.index;
       sound =
           subst (λ (hs : List Held). IsSoundAt c.in_ok-ok.ok z.problem.now (parts_of m) hs) (sym (helds_kept z.machine m ps (keeps z.machine m c.in_ok-ok.ensures.later) c.requires.sound.marks.good))
           (settled_sound z.problem.now (parts_of z.machine) (parts_of m) (helds z.machine ps) c.in_ok-ok.ok c.in_ok-ok.ensures.settles c.in_ok-ok.ensures.same c.requires.sound.sound);

@@ -21,6 +21,8 @@ mod Turns
 mod Stepping
 mod Labels
 mod Pointing
+mod Splitting
+mod Resuming
 mod Showing
 mod Rowing
 mod Settling

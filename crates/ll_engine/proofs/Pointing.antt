@@ -3,12 +3,12 @@ use Rattle.std.proofs.Common.{◌≡◌, ◌≢◌, ℕ, suc, ◌-◌, ◌<◌, 
 use Rattle.std.proofs.lemmas.List.{reverse-append, length-reverse, map-append}
 use Rattle.std.proofs.lemmas.List.Elements.{All-push, All-cons, All-tail, All-head, All-pop, All-weaker}
 use Rattle.std.proofs.Math.Dec.{eqb, eqb-suc-zero}
-use Rattle.std.specs.Prelude.{Some, None, All}
+use Rattle.std.specs.Prelude.{Option, Some, None, All}
 use Rattle.std.specs.List.{Contains}
 use Rattle.ll_laws.specs.declared.Candidate.{Candidate}
 use Rattle.ll_laws.specs.State.{State}
 use Rattle.ll_laws.specs.Attempt.{tries, attempt}
-use Rattle.ll_laws.specs.Problem.{ProblemTree, setting_of, start_of}
+use Rattle.ll_laws.specs.Problem.{ProblemTree, setting_of}
 use Rattle.ll_freeze.specs.declared.machine.Machine.{Machine}
 use Rattle.ll_freeze.specs.declared.mark.ChoiceMark.{ChoiceMark}
 use Rattle.ll_freeze.specs.Parts.{Parts, IsGood, IsBefore, KeepsMarks, KeepsMarksTo}
@@ -32,7 +32,7 @@ twice : {A : Type 0} (xs : List A) → reverse (reverse xs) ≡ xs
 twice [] = refl
 twice (x ∷ xs) = ap (λ ys. reverse ys) (reverse-append (x ∷ []) xs) ∙ (newest (reverse xs) x ∙ ap (λ ys. x ∷ ys) (twice xs))
 
-all_reverse : {A : Type 0} (P : A → Type 0) (xs : List A) → All P xs → All P (reverse xs)
+pub all_reverse : {A : Type 0} (P : A → Type 0) (xs : List A) → All P xs → All P (reverse xs)
 all_reverse P [] h = h
 all_reverse P (x ∷ xs) h =
     subst (λ ys. All P ys) (sym (reverse-append (x ∷ []) xs)) (All-push P (reverse xs) x (all_reverse P xs (All-tail P x xs h)) (All-head P x xs h))
@@ -106,27 +106,27 @@ open_count p ps h = all_open p (reverse ps) (all_reverse (IsKept p) ps h) ∙ le
 
 -- the first goal is taken apart
 
-same_points : (p : ProblemTree) (old new : Parts) (ps qs : List Held) (points : List Point) → points_of qs ≡ points
-    → spine_at p new qs ≡ record (spine_at p old ps) { now = state_of new; left = new.left; points = points }
-same_points p old new ps qs points e =
-    let make : List Point → Spine = λ xs. record { problem = p; first = Some (start_of p); now = state_of new; left = new.left; points = xs } in ap make e
+same_points : (o : Option State) (p : ProblemTree) (old new : Parts) (ps qs : List Held) (points : List Point) → points_of qs ≡ points
+    → spine_at o p new qs ≡ record (spine_at o p old ps) { now = state_of new; left = new.left; points = points }
+same_points o p old new ps qs points e =
+    let make : List Point → Spine = λ xs. record { problem = p; first = o; now = state_of new; left = new.left; points = xs } in ap make e
 
-pub chose_none : (p : ProblemTree) (m : Parts) (ps : List Held) (cs : List Candidate) → cs ≡ []
-    → Chose (spine_at p m ps) (state_of m) (m.left - 1) (reverse cs) (points_of ps) false (spine_at p m ps)
-chose_none p m ps cs e = subst (λ (xs : List Candidate). Chose (spine_at p m ps) (state_of m) (m.left - 1) (reverse xs) (points_of ps) false (spine_at p m ps)) (sym e) (refl, refl)
+pub chose_none : (o : Option State) (p : ProblemTree) (m : Parts) (ps : List Held) (cs : List Candidate) → cs ≡ []
+    → Chose (spine_at o p m ps) (state_of m) (m.left - 1) (reverse cs) (points_of ps) false (spine_at o p m ps)
+chose_none o p m ps cs e = subst (λ (xs : List Candidate). Chose (spine_at o p m ps) (state_of m) (m.left - 1) (reverse xs) (points_of ps) false (spine_at o p m ps)) (sym e) (refl, refl)
 
-gave : (p : ProblemTree) (old new : Parts) (qs : List Held) (c : Candidate) (ok : Bool) → old.problem ≡ p → Attempts old c new ok
-    → Gave (attempt (setting_of p) (state_of old) c) (old.left - 1) ok (spine_at p new qs)
-gave p old new qs c true e h =
+gave : (o : Option State) (p : ProblemTree) (old new : Parts) (qs : List Held) (c : Candidate) (ok : Bool) → old.problem ≡ p → Attempts old c new ok
+    → Gave (attempt (setting_of p) (state_of old) c) (old.left - 1) ok (spine_at o p new qs)
+gave o p old new qs c true e h =
     (subst (λ (q : ProblemTree). attempt (setting_of q) (state_of old) c ≡ Some (state_of new)) e h.gives, let l = h.left in omega arith)
-gave p old new qs c false e h = subst (λ (q : ProblemTree). attempt (setting_of q) (state_of old) c ≡ None) e h
+gave o p old new qs c false e h = subst (λ (q : ProblemTree). attempt (setting_of q) (state_of old) c ≡ None) e h
 
-pub chose_some : (p : ProblemTree) (old new : Parts) (ps qs : List Held) (cs rest : List Candidate) (c : Candidate) (ok : Bool) → cs ≡ rest ++ c ∷ []
+pub chose_some : (o : Option State) (p : ProblemTree) (old new : Parts) (ps qs : List Held) (cs rest : List Candidate) (c : Candidate) (ok : Bool) → cs ≡ rest ++ c ∷ []
     → old.problem ≡ p → Puts old rest ps qs → Attempts old c new ok
-    → Chose (spine_at p old ps) (state_of old) (old.left - 1) (reverse cs) (points_of ps) ok (spine_at p new qs)
-chose_some p old new ps qs cs rest c ok e f u h =
-    subst (λ (xs : List Candidate). Chose (spine_at p old ps) (state_of old) (old.left - 1) xs (points_of ps) ok (spine_at p new qs))
-    (sym (ap (λ xs. reverse xs) e ∙ newest rest c)) (same_points p old new ps qs _ u, gave p old new qs c ok f h)
+    → Chose (spine_at o p old ps) (state_of old) (old.left - 1) (reverse cs) (points_of ps) ok (spine_at o p new qs)
+chose_some o p old new ps qs cs rest c ok e f u h =
+    subst (λ (xs : List Candidate). Chose (spine_at o p old ps) (state_of old) (old.left - 1) xs (points_of ps) ok (spine_at o p new qs))
+    (sym (ap (λ xs. reverse xs) e ∙ newest rest c)) (same_points o p old new ps qs _ u, gave o p old new qs c ok f h)
 
 -- what stays of a search after an inference
 pub sound_after : (p : ProblemTree) (old new : Parts) (ps qs : List Held) (cs : List Candidate) (c : Candidate) (ok : Bool) → IsOpen p old
@@ -134,11 +134,11 @@ pub sound_after : (p : ProblemTree) (old new : Parts) (ps qs : List Held) (cs : 
 sound_after p old new ps qs cs c true o t a k h = record { points = k p o t a; machine = (h.fits, h.problem ∙ o.problem) }
 sound_after p old new ps qs cs c false o t a k h = record { points = k p o t a; machine = tt }
 
-pub expands : (p : ProblemTree) (old : Parts) (ps : List Held) (z : Spine) (ds : List Candidate) (ok : Bool) → Fits old → 0 < old.left
+pub expands : (o : Option State) (p : ProblemTree) (old : Parts) (ps : List Held) (z : Spine) (ds : List Candidate) (ok : Bool) → Fits old → 0 < old.left
     → reverse ds ≡ matches (state_of old)
-    → Chose (spine_at p old ps) (state_of old) (old.left - 1) (reverse ds) (points_of ps) ok z
-    → Expands (spine_at p old ps) ok z
-expands p old ps z ds ok f l e h =
+    → Chose (spine_at o p old ps) (state_of old) (old.left - 1) (reverse ds) (points_of ps) ok z
+    → Expands (spine_at o p old ps) ok z
+expands o p old ps z ds ok f l e h =
     record {
       candidates = reverse ds;
       left = old.left - 1;
@@ -149,26 +149,26 @@ expands p old ps z ds ok f l e h =
     }
 
 -- there is no candidate
-pub expands_none : (p : ProblemTree) (old : Parts) (ps : List Held) (cs : List Candidate) → Fits old → 0 < old.left → cs ≡ matches (state_of old) → cs ≡ []
-    → Expands (spine_at p old ps) false (spine_at p old ps)
-expands_none p old ps cs f l e n = expands p old ps (spine_at p old ps) [] false f l (sym n ∙ e) (chose_none p old ps [] refl)
+pub expands_none : (o : Option State) (p : ProblemTree) (old : Parts) (ps : List Held) (cs : List Candidate) → Fits old → 0 < old.left → cs ≡ matches (state_of old) → cs ≡ []
+    → Expands (spine_at o p old ps) false (spine_at o p old ps)
+expands_none o p old ps cs f l e n = expands o p old ps (spine_at o p old ps) [] false f l (sym n ∙ e) (chose_none o p old ps [] refl)
 
 -- the first one behind the others, with the first one last
 pub first_last : (cs ds : List Candidate) (c : Candidate) → cs ≡ c ∷ reverse ds → reverse (ds ++ c ∷ []) ≡ cs
 first_last cs ds c e = newest ds c ∙ sym e
 
 -- another present state, and other points, are as good before a choice
-chose_same : (p : ProblemTree) (m n : Parts) (ps qs : List Held) (t : State) (k : ℕ) (cs : List Candidate) (points : List Point) (ok : Bool) (z : Spine)
-    → Chose (spine_at p m ps) t k cs points ok z → Chose (spine_at p n qs) t k cs points ok z
-chose_same p m n ps qs t k [] points ok z h = h
-chose_same p m n ps qs t k (c ∷ cs) points ok z h = h
+chose_same : (o : Option State) (p : ProblemTree) (m n : Parts) (ps qs : List Held) (t : State) (k : ℕ) (cs : List Candidate) (points : List Point) (ok : Bool) (z : Spine)
+    → Chose (spine_at o p m ps) t k cs points ok z → Chose (spine_at o p n qs) t k cs points ok z
+chose_same o p m n ps qs t k [] points ok z h = h
+chose_same o p m n ps qs t k (c ∷ cs) points ok z h = h
 
-pub retries : (p : ProblemTree) (old new : Parts) (ps rest qs : List Held) (k : Held) (ok : Bool) → ps ≡ rest ++ k ∷ []
-    → Chose (spine_at p k.parts rest) (state_of k.parts) (k.parts.left - 1) (reverse k.untried) (points_of rest) ok (spine_at p new qs)
-    → Retries (spine_at p old ps) ok (spine_at p new qs)
-retries p old new ps rest qs k ok e h =
-    subst (λ (xs : List Point). RetriesAt (spine_at p old ps) xs ok (spine_at p new qs)) (sym (ap (λ xs. points_of xs) e ∙ ap (λ xs. map point_of xs) (newest rest k)))
-    (chose_same p k.parts old rest ps _ _ _ _ ok (spine_at p new qs) h)
+pub retries : (o : Option State) (p : ProblemTree) (old new : Parts) (ps rest qs : List Held) (k : Held) (ok : Bool) → ps ≡ rest ++ k ∷ []
+    → Chose (spine_at o p k.parts rest) (state_of k.parts) (k.parts.left - 1) (reverse k.untried) (points_of rest) ok (spine_at o p new qs)
+    → Retries (spine_at o p old ps) ok (spine_at o p new qs)
+retries o p old new ps rest qs k ok e h =
+    subst (λ (xs : List Point). RetriesAt (spine_at o p old ps) xs ok (spine_at o p new qs)) (sym (ap (λ xs. points_of xs) e ∙ ap (λ xs. map point_of xs) (newest rest k)))
+    (chose_same o p k.parts old rest ps _ _ _ _ ok (spine_at o p new qs) h)
 
 pub over : (ps : List Held) (b : Bool) → b ≡ eqb (length ps) 0 → b ≡ has_none (points_of ps)
 over [] b e = e
@@ -183,12 +183,12 @@ over (k ∷ ps) b e = e ∙ (none_of ps ∙ sym (ap (λ xs. has_none (map point_
 
 -- settling
 
-pub settles : (p : ProblemTree) (old new : Parts) (ps : List Held) (ok : Bool) → SettlesOr old ok new → SameSearch old new
-    → Settles (spine_at p old ps) ok (spine_at p new ps)
-settles p old new ps true h s =
-    (ap (λ (n : ℕ). let z : Spine = record (spine_at p old ps) { now = state_of new; left = n } in z) s.left, h.settles)
-settles p old new ps false h s =
-    (ap (λ (n : ℕ). let z : Spine = record (spine_at p old ps) { now = state_of new; left = n } in z) s.left, h)
+pub settles : (o : Option State) (p : ProblemTree) (old new : Parts) (ps : List Held) (ok : Bool) → SettlesOr old ok new → SameSearch old new
+    → Settles (spine_at o p old ps) ok (spine_at o p new ps)
+settles o p old new ps true h s =
+    (ap (λ (n : ℕ). let z : Spine = record (spine_at o p old ps) { now = state_of new; left = n } in z) s.left, h.settles)
+settles o p old new ps false h s =
+    (ap (λ (n : ℕ). let z : Spine = record (spine_at o p old ps) { now = state_of new; left = n } in z) s.left, h)
 
 pub settled_sound : (p : ProblemTree) (old new : Parts) (ps : List Held) (ok : Bool) → SettlesOr old ok new → SameSearch old new → IsSoundAt true p old ps
     → IsSoundAt ok p new ps
@@ -202,14 +202,14 @@ pub popped_open : (p : ProblemTree) (ps qs : List Held) (k : Held) → ps ≡ qs
 popped_open p ps qs k e a = (All-pop (IsKept p) ps qs (Some k) e a).1.opened
 
 -- the newest point was gone back to
-pub retries_by : (p : ProblemTree) (old mid : Parts) (ps rest more : List Held) (k : Held) (ok : Bool) (z : Spine) → ps ≡ rest ++ k ∷ [] → mid ≡ k.parts → more ≡ rest
-    → Chose (spine_at p mid more) (state_of mid) (mid.left - 1) (reverse k.untried) (points_of more) ok z → Retries (spine_at p old ps) ok z
-retries_by p old mid ps rest more k ok z e same others h =
-    let moved : Chose (spine_at p k.parts rest) (state_of k.parts) (k.parts.left - 1) (reverse k.untried) (points_of rest) ok z =
-    subst (λ (hs : List Held). Chose (spine_at p k.parts hs) (state_of k.parts) (k.parts.left - 1) (reverse k.untried) (points_of hs) ok z) others
-    (subst (λ (n : Parts). Chose (spine_at p n more) (state_of n) (n.left - 1) (reverse k.untried) (points_of more) ok z) same h) in
-    subst (λ (xs : List Point). RetriesAt (spine_at p old ps) xs ok z) (sym (ap (λ xs. points_of xs) e ∙ ap (λ xs. map point_of xs) (newest rest k)))
-    (chose_same p k.parts old rest ps _ _ _ _ ok z moved)
+pub retries_by : (o : Option State) (p : ProblemTree) (old mid : Parts) (ps rest more : List Held) (k : Held) (ok : Bool) (z : Spine) → ps ≡ rest ++ k ∷ [] → mid ≡ k.parts → more ≡ rest
+    → Chose (spine_at o p mid more) (state_of mid) (mid.left - 1) (reverse k.untried) (points_of more) ok z → Retries (spine_at o p old ps) ok z
+retries_by o p old mid ps rest more k ok z e same others h =
+    let moved : Chose (spine_at o p k.parts rest) (state_of k.parts) (k.parts.left - 1) (reverse k.untried) (points_of rest) ok z =
+    subst (λ (hs : List Held). Chose (spine_at o p k.parts hs) (state_of k.parts) (k.parts.left - 1) (reverse k.untried) (points_of hs) ok z) others
+    (subst (λ (n : Parts). Chose (spine_at o p n more) (state_of n) (n.left - 1) (reverse k.untried) (points_of more) ok z) same h) in
+    subst (λ (xs : List Point). RetriesAt (spine_at o p old ps) xs ok z) (sym (ap (λ xs. points_of xs) e ∙ ap (λ xs. map point_of xs) (newest rest k)))
+    (chose_same o p k.parts old rest ps _ _ _ _ ok z moved)
 
 pub popped_kept : (p : ProblemTree) (ps qs : List Held) (k : Held) → ps ≡ qs ++ k ∷ [] → AreKept p ps → AreKept p qs
 popped_kept p ps qs k e a = (All-pop (IsKept p) ps qs (Some k) e a).0

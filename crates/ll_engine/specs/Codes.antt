@@ -1,71 +1,13 @@
 -- Codes of what contracts see of engines, by which proofs tell their values apart.
-use Rattle.std.specs.Prelude.{◌≡◌, ◌⊎◌, ℕ, List, Bool, Option, refl}
-use Rattle.std.specs.Coded.{Coded, code_by, coded×, coded⊎, coded_list, coded_ℕ, coded_bool, coded_option}
-use mathlib.Core.Logic.{inl, inr}
-use base.Stored.{coded_unit}
-use Rattle.ll_bank.specs.Term.{Term}
-use Rattle.ll_bank.specs.Form.{Form}
-use Rattle.ll_bank.specs.Codes.{coded_term, coded_form}
-use Rattle.ll_laws.specs.declared.Step.{Step}
+use Rattle.std.specs.Prelude.{ℕ, List, Bool, Option, refl}
+use Rattle.std.specs.Coded.{Coded, code_by, coded×, coded_list, coded_ℕ, coded_bool, coded_option}
 use Rattle.ll_laws.specs.declared.Event.{Event}
-use Rattle.ll_laws.specs.declared.Kind.{Kind}
-use Rattle.ll_laws.specs.contracts.Step as step
 use Rattle.ll_laws.specs.contracts.Event as event
-use Rattle.ll_laws.specs.contracts.Kind as kind
-use Rattle.ll_laws.specs.Settle.{Entry, Saved, Item, Goal, LolliEnd, ImpEnd, WithMiddle, WithEnd, BangEnd}
 use Rattle.ll_laws.specs.State.{State}
 use Rattle.ll_laws.specs.Problem.{ProblemTree}
 use Rattle.ll_laws.specs.Shown.{problem_code}
+use Rattle.ll_freeze.specs.Codes.{state_code}
 use Rattle.ll_engine.specs.Seen.{Owing}
-
-abbrev pub saved_code : Coded Saved
-saved_code = code_by (List Bool × Bool) (coded× (coded_list coded_bool) coded_bool) (λ s. (s.live, s.flag)) (λ p. record { live = p.0; flag = p.1 }) (λ _. refl)
-
-abbrev pub entry_code : Coded (Entry Form)
-entry_code =
-    code_by (ℕ × (Kind × (Bool × Form))) (coded× coded_ℕ (coded× kind.the_row.coded (coded× coded_bool coded_form)))
-    (λ e. (e.label, (e.kind, (e.live, e.clause)))) (λ p. record { label = p.0; kind = p.1.0; live = p.1.1.0; clause = p.1.1.1 }) (λ _. refl)
-
--- an item by its kind
-abbrev Parts : Type 0
-Parts = Form ⊎ (Bool ⊎ (Unit {0} ⊎ (Saved ⊎ ((Saved × Saved) ⊎ Saved))))
-
-abbrev item_into : Item Form → Parts
-item_into (Goal g) = inl g
-item_into (LolliEnd b) = inr (inl b)
-item_into ImpEnd = inr (inr (inl tt))
-item_into (WithMiddle s) = inr (inr (inr (inl s)))
-item_into (WithEnd s h) = inr (inr (inr (inr (inl (s, h)))))
-item_into (BangEnd s) = inr (inr (inr (inr (inr s))))
-
-abbrev item_back : Parts → Item Form
-item_back (inl g) = Goal g
-item_back (inr (inl b)) = LolliEnd b
-item_back (inr (inr (inl _))) = ImpEnd
-item_back (inr (inr (inr (inl s)))) = WithMiddle s
-item_back (inr (inr (inr (inr (inl p))))) = WithEnd p.0 p.1
-item_back (inr (inr (inr (inr (inr s))))) = BangEnd s
-
-abbrev item_same : (i : Item Form) → item_back (item_into i) ≡ i
-item_same (Goal g) = refl
-item_same (LolliEnd b) = refl
-item_same ImpEnd = refl
-item_same (WithMiddle s) = refl
-item_same (WithEnd s h) = refl
-item_same (BangEnd s) = refl
-
-abbrev pub item_code : Coded (Item Form)
-item_code =
-    code_by Parts (coded⊎ coded_form (coded⊎ coded_bool (coded⊎ coded_unit (coded⊎ saved_code (coded⊎ (coded× saved_code saved_code) saved_code)))))
-    item_into item_back item_same
-
-abbrev pub state_code : Coded State
-state_code =
-    code_by (List (Item Form) × (List (Entry Form) × (Bool × (List ℕ × (ℕ × (List Term × (ℕ × List Step)))))))
-    (coded× (coded_list item_code) (coded× (coded_list entry_code) (coded× coded_bool (coded× (coded_list coded_ℕ) (coded× coded_ℕ (coded× (coded_list coded_term) (coded× coded_ℕ (coded_list step.the_row.coded))))))))
-    (λ s. (s.agenda, (s.context, (s.flag, (s.levels, (s.eigens, (s.terms, (s.label, s.steps))))))))
-    (λ p. record { agenda = p.0; context = p.1.0; flag = p.1.1.0; levels = p.1.1.1.0; eigens = p.1.1.1.1.0; terms = p.1.1.1.1.1.0; label = p.1.1.1.1.1.1.0; steps = p.1.1.1.1.1.1.1 })
-    (λ _. refl)
 
 abbrev pub owing_code : Coded Owing
 owing_code =

@@ -11,6 +11,9 @@ pub mod Going
 pub mod Pointed
 pub mod Moves
 pub mod Steps
+pub mod Resumes
+pub mod Begun
+pub mod Splits
 pub mod Codes
 pub mod Opening
 pub mod Front

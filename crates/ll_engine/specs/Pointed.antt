@@ -1,10 +1,11 @@
 -- Choice points, which are marks of a machine with the candidates not tried yet.
-use Rattle.std.specs.Prelude.{◌-◌, ◌<◌, ◌≡◌, ◌≢◌, Bool, true, false, List, [], ◌∷◌, reverse, map, All, Some}
+use Rattle.std.specs.Prelude.{◌-◌, ◌<◌, ◌≡◌, ◌≢◌, Bool, true, false, List, [], ◌∷◌, reverse, map, All, Option, Some, None}
 use Rattle.std.specs.List.{Contains}
 use Rattle.std.specs.Arc.{arc_value}
 use Rattle.ll_laws.specs.declared.Candidate.{Candidate}
 use Rattle.ll_laws.specs.Attempt.{tries}
-use Rattle.ll_laws.specs.Problem.{ProblemTree, start_of}
+use Rattle.ll_laws.specs.State.{State}
+use Rattle.ll_laws.specs.Problem.{ProblemTree}
 use Rattle.ll_freeze.specs.declared.machine.Machine.{Machine}
 use Rattle.ll_freeze.specs.Parts.{Parts, parts_of, parts_at, IsGood, IsBefore}
 use Rattle.ll_engine.specs.declared.spine.Kept.{Kept}
@@ -36,12 +37,20 @@ point_of h = record { state = state_of h.parts; left = h.parts.left - 1; untried
 abbrev pub points_of : List Held → List Point
 points_of ps = map point_of (reverse ps)
 
--- a machine with its choice points, of a search that began at the start of this problem
-abbrev pub spine_at : ProblemTree → Parts → List Held → Spine
-spine_at p m ps = record { problem = p; first = Some (start_of p); now = state_of m; left = m.left; points = points_of ps }
+-- a machine with its choice points, of a search that began in this state, if there was one
+abbrev pub spine_at : Option State → ProblemTree → Parts → List Held → Spine
+spine_at first p m ps = record { problem = p; first = first; now = state_of m; left = m.left; points = points_of ps }
+
+-- the state of the machine with which a search began, if it did
+abbrev pub began_in : Bool → Parts → Option State
+began_in true m = Some (state_of m)
+began_in false m = None
+
+abbrev pub first_of : Stored → Option State
+first_of z = began_in z.began (parts_of z.origin.value)
 
 abbrev pub spine_of : Stored → Spine
-spine_of z = spine_at z.problem.now (parts_of z.machine) (helds z.machine z.points.items)
+spine_of z = spine_at (first_of z) z.problem.now (parts_of z.machine) (helds z.machine z.points.items)
 
 -- all are candidates of the machine's first goal
 abbrev pub AreTries : Parts → List Candidate → Type 0

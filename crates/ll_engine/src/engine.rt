@@ -1,13 +1,19 @@
 //! Engines, and one turn of an engine.
-ghost use Rattle.std.specs.Prelude.{◌≡◌, true, false, IfOk, OnErr, IsErr};
+ghost use Rattle.std.specs.Prelude.{◌≡◌, ◌<◌, true, false, length, slice_get, Some, IfOk, OnErr, IsErr};
+ghost use Rattle.ll_laws.specs.Pool.{Owed};
+ghost use Rattle.ll_laws.specs.declared.Event.{Event as TheEvent};
+ghost use Rattle.ll_freeze.specs.Frozen.{alternatives_in};
 ghost use Rattle.ll_laws.specs.Valid.{IsValid};
 ghost use Rattle.ll_engine.specs.Pointed.{spine_of, IsSound};
 ghost use Rattle.ll_engine.specs.Turned.{Turned, has_none};
 ghost use Rattle.ll_engine.specs.Moves.{found_of, made_of, running_of};
 ghost use Rattle.ll_engine.specs.Steps.{Steps, fresh};
+ghost use Rattle.ll_engine.specs.Resumes.{Resumes, resumed};
+ghost use Rattle.ll_engine.specs.Splits.{Splits};
 
 use crate::spine::Spine;
 use ll_bank::OutOfMemory;
+use ll_freeze::Frozen;
 use ll_laws::{Event, Problem};
 use std::alloc::{AllocError, Global};
 use std::marker::Model;
@@ -83,12 +89,15 @@ fn turn(spine: &mut Spine<'_>, running: bool) -> Result<Move, OutOfMemory>
 }
 
 /// A depth-first engine. Contracts see it as its problem, the events and the inferences that it still owes, the number of its
-/// choice points with a candidate that was not tried, the state in which it began, and how far it is from its end.
+/// choice points with a candidate that was not tried, the state in which it began, how many choice points were split off, and how far
+/// it is from its end.
 #[derive(Drop)]
 pub struct Engine<'p> {
     spine: Spine<'p>,
     // The state of the spine is still to be searched.
     running: bool,
+    // How many choice points were split off.
+    splits: u64,
     made: u64,
     spent: bool,
 }
@@ -105,9 +114,9 @@ impl<'p> Model for Engine<'p> {
 
     ghost coded = { owing_code };
 
-    ghost view = { λ e. owing (spine_of e.spine) e.running e.made 0 e.spent };
+    ghost view = { λ e. owing (spine_of e.spine) e.running e.made e.splits e.spent };
 
-    ghost invariant = { λ e. e.spent ≡ false → (IsSound e.running e.spine × Healthy 0 e.running (spine_of e.spine)) };
+    ghost invariant = { λ e. e.spent ≡ false → (IsSound e.running e.spine × Healthy e.splits e.running (spine_of e.spine)) };
 }
 
 impl<'p> Engine<'p> {
@@ -120,6 +129,30 @@ impl<'p> Engine<'p> {
         Ok(Engine {
             spine,
             running: true,
+            splits: 0,
+            made: 0,
+            spent: false,
+        })
+    }
+
+    /// An engine that owes what an alternative of a frozen choice point of this problem owes. That of the start is the engine of the problem.
+    pub fn resume(
+        alloc: Global,
+        problem: &'p Problem,
+        frozen: &Frozen<'p>,
+        k: u32,
+    ) -> Result<Engine<'p>, OutOfMemory>
+        requires inside { k < length (alternatives_in frozen.now) }
+        requires of { frozen.now.problem ≡ problem.now }
+        ensures resumed { IfOk result (λ e. e ≡ resumed frozen.now k) }
+        ensures owes { IfOk result (λ e. (owes : Owed TheEvent) → slice_get (alternatives_in frozen.now) k ≡ Some owes → Resumes problem.entry.now owes e) }
+    {
+        let spine = Spine::resume(alloc, problem, frozen, k)?;
+        let running = spine.began;
+        Ok(Engine {
+            spine,
+            running,
+            splits: 0,
             made: 0,
             spent: false,
         })
@@ -128,7 +161,7 @@ impl<'p> Engine<'p> {
     /// Goes on by one step. After a refusal the engine is spent: every later step is refused too.
     ///
     /// Each step but `Done` lessens the work that is left. After an answer at least as many choice points have an untried
-    /// candidate as the way to it has forks.
+    /// candidate as the way to it has forks, less those that were split off.
     pub fn step(&mut self) -> Result<Step2, OutOfMemory>
         ensures spent { self.old.spent ≡ true → IsErr result }
         ensures refused { OnErr result (self.new.spent ≡ true) }
@@ -159,6 +192,31 @@ impl<'p> Engine<'p> {
                 Ok(Step2::Event(event))
             }
         }
+    }
+
+    /// Splits the oldest choice point off, for another engine: what was owed is then what this one still owes, followed by what the batch
+    /// owes. `None` exactly where no choice point has an untried candidate.
+    ///
+    /// After a refusal the engine is spent. More candidates than a `u32` counts, and more splits than a `u64` counts, are refused.
+    pub fn split_oldest(&mut self) -> Result<Option<Frozen<'p>>, OutOfMemory>
+        ensures spent { self.old.spent ≡ true → IsErr result }
+        ensures refused { OnErr result (self.new.spent ≡ true) }
+        ensures split { IfOk result (λ b. Splits self.old b self.new) }
+    {
+        if self.spent {
+            return Err(AllocError);
+        }
+        if self.spine.is_over() {
+            return Ok(None);
+        }
+        self.spent = true;
+        if self.splits == u64::MAX {
+            return Err(AllocError);
+        }
+        let batch = self.spine.split()?;
+        self.splits += 1;
+        self.spent = false;
+        Ok(Some(batch))
     }
 
     /// The number of inferences made so far, cut at the greatest `u64`.

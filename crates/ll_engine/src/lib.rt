@@ -11,8 +11,10 @@ mod heads;
 mod numbers;
 mod open;
 mod quantifiers;
+mod resume;
 mod settle;
 mod spine;
+mod split;
 mod take;
 
 pub use engine::{Engine, Step2};

@@ -20,6 +20,7 @@ use ll_index::Index;
 use ll_laws::{Branch, Candidate, Problem};
 use std::alloc::Global;
 use std::collections::VecDeque;
+use std::snapshot::Snapshot;
 use std::sync::Arc;
 
 /// A choice point: a mark of the machine as it was settled, with a goal in front, and the candidates not tried yet that can match, the
@@ -40,6 +41,10 @@ pub struct Spine<'p> {
     pub machine: Machine<'p>,
     /// The newest one last. Each has an untried candidate.
     pub points: VecDeque<Kept>,
+    /// The machine with which the search began, for contracts alone.
+    pub origin: Snapshot<Machine<'p>>,
+    /// There was a state in which it began.
+    pub began: bool,
 }
 
 impl<'p> Spine<'p> {
@@ -51,12 +56,15 @@ impl<'p> Spine<'p> {
     {
         let machine = Machine::start(alloc, problem)?;
         let index = Index::build(alloc, problem)?;
+        let origin = Snapshot::of(&machine);
         Ok(Spine {
             alloc,
             problem,
             index: Arc::new(alloc, index)?,
             machine,
             points: VecDeque::new(alloc),
+            origin,
+            began: true,
         })
     }
 

@@ -3,3 +3,4 @@ pub mod Marks
 pub mod Resting
 mod Imaging
 mod Starting
+pub mod Freezing

@@ -18,11 +18,10 @@ use Rattle.ll_store.specs.Stored.{State, Stored, stored, state_of, IsBefore as I
 use Rattle.ll_store.specs.Tables.{table_of}
 use Rattle.ll_store.specs.declared.store.Mark.{Mark}
 use Rattle.ll_resources.specs.Resources.{Resources}
-use Rattle.ll_resources.specs.declared.context.ContextMark.{ContextMark}
-use Rattle.ll_resources.specs.History.{History, HasMark, KeepsMarks as KeepsContextMarks, StandsFor as ContextStandsFor, IsLastMark, state_at as context_at}
+use Rattle.ll_resources.specs.History.{History, KeepsMarks as KeepsContextMarks, StandsFor as ContextStandsFor, IsLastMark, state_at as context_at}
 use Rattle.ll_freeze.specs.declared.machine.Machine.{Machine}
 use Rattle.ll_freeze.specs.declared.mark.ChoiceMark.{ChoiceMark}
-use Rattle.ll_freeze.specs.Parts.{Parts, parts_of, parts_at, IsGood, IsBefore, StandsFor, KeepsMarks, KeepsMarksTo, Later}
+use Rattle.ll_freeze.specs.Parts.{Parts, parts_of, parts_at, IsGood, IsBefore, StandsFor, KeepsMarks, Later}
 
 -- the parts at a mark, by what each part was
 abbrev pub parts_by : ChoiceMark → Machine → State → Resources FormAt → Machine → Parts

@@ -1,4 +1,4 @@
-use Rattle.std.proofs.Common.{arith, ap, ◌∙◌, sym, ◌++◌, ◌+◌, replicate, ◌∷◌, []}
+use Rattle.std.proofs.Common.{arith, ap, ◌∙◌, sym, ◌++◌, ◌+◌, ◌∷◌, []}
 use Rattle.ll_freeze.proofs.Starting.{cells_push}
 use Rattle.ll_freeze.proofs.start.first_cells.Goals as goal
 

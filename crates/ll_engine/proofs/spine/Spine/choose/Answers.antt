@@ -5,7 +5,7 @@ use Rattle.ll_laws.specs.declared.Candidate.{Candidate}
 use Rattle.ll_freeze.specs.Shown.{state_of}
 use Rattle.ll_freeze.specs.Parts.{parts_of}
 use Rattle.ll_freeze.proofs.Marks.{keeps}
-use Rattle.ll_engine.specs.Pointed.{Held, IsSoundAt, helds, points_of, spine_at, spine_of}
+use Rattle.ll_engine.specs.Pointed.{Held, IsSoundAt, helds, points_of, spine_at, spine_of, first_of}
 use Rattle.ll_engine.specs.Turned.{Chose}
 use Rattle.ll_engine.proofs.CandidateLemmas.{All-front, All-end}
 use Rattle.ll_engine.proofs.Pointing.{sound_after, chose_some, helds_kept, marks_kept}
@@ -34,6 +34,6 @@ returns-clause-chose c =
     let z = c.args.self.now in let m = c.attempt.new.machine in let ps = c.keep.new.points.items in
     let same = helds_kept z.machine m ps (keeps z.machine m c.in_ok-running.ensures.later) c.in_ok-keep.ensures.marks.good in
     subst (λ (hs : List Held). Chose (spine_of z) (state_of (parts_of z.machine)) (z.machine.left - 1) (reverse (c.args.untried.items ++ c.args.candidate ∷ [])) (points_of (helds z.machine z.points.items))
-    c.in_ok-running.running (spine_at z.problem.now (parts_of m) hs)) (sym same)
-    (chose_some z.problem.now (parts_of z.machine) (parts_of m) (helds z.machine z.points.items) (helds z.machine ps) (c.args.untried.items ++ c.args.candidate ∷ []) c.args.untried.items c.args.candidate
+    c.in_ok-running.running (spine_at (first_of z) z.problem.now (parts_of m) hs)) (sym same)
+    (chose_some (first_of z) z.problem.now (parts_of z.machine) (parts_of m) (helds z.machine z.points.items) (helds z.machine ps) (c.args.untried.items ++ c.args.candidate ∷ []) c.args.untried.items c.args.candidate
     c.in_ok-running.running refl c.requires.open.problem c.in_ok-keep.ensures.puts c.in_ok-running.ensures.attempts)

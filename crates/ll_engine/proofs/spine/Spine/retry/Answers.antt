@@ -1,6 +1,6 @@
 use Rattle.std.proofs.Common.{sym, subst, List, reverse, ◌-◌}
 use Rattle.ll_freeze.specs.Parts.{Parts, parts_of}
-use Rattle.ll_engine.specs.Pointed.{Held, held_of, helds, spine_at, spine_of, points_of, IsOpen, AreTries, AreKept}
+use Rattle.ll_engine.specs.Pointed.{Held, held_of, helds, spine_at, spine_of, first_of, points_of, IsOpen, AreTries, AreKept}
 use Rattle.ll_laws.specs.declared.Candidate.{Candidate}
 use Rattle.ll_freeze.specs.Shown.{state_of}
 use Rattle.ll_engine.specs.Turned.{Chose}
@@ -48,8 +48,8 @@ returns-clause-retries c =
     let z = c.args.self.now in let w = (popped c.args.self.now.machine c.args.self.now.points.items c.pop_back.new.self.items c.in-Some.kept c.in-Some.ensures.items c.requires.sound.marks) in
     let m = parts_of c.undo.new.self in let ps = helds c.undo.new.self c.pop_back.new.self.items in
     let chose =
-    subst (λ (cs : List Candidate). Chose (spine_at z.problem.now m ps) (state_of m) (c.undo.new.self.left - 1) (reverse cs) (points_of ps) c.in_ok-running.running (spine_of c.choose.new.self))
+    subst (λ (cs : List Candidate). Chose (spine_at (first_of z) z.problem.now m ps) (state_of m) (c.undo.new.self.left - 1) (reverse cs) (points_of ps) c.in_ok-running.running (spine_of c.choose.new.self))
     (sym c.in-Some-pop.ensures.items) c.in_ok-running.ensures.chose in
-    retries_by z.problem.now (parts_of z.machine) m (helds z.machine z.points.items) (helds z.machine c.pop_back.new.self.items) ps
+    retries_by (first_of z) z.problem.now (parts_of z.machine) m (helds z.machine z.points.items) (helds z.machine c.pop_back.new.self.items) ps
     (held_of z.machine c.in-Some.kept) c.in_ok-running.running (spine_of c.choose.new.self) w.list c.undo.ensures.parts
     (helds_undone z.machine c.undo.new.self c.in-Some.kept.mark c.pop_back.new.self.items c.undo.ensures.marks w.goods w.before) chose

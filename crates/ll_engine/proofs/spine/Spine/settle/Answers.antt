@@ -2,7 +2,7 @@ use Rattle.std.proofs.Common.{sym, subst, List}
 use Rattle.ll_freeze.specs.Parts.{parts_of}
 use Rattle.ll_freeze.proofs.Marks.{keeps}
 use Rattle.ll_engine.specs.Turned.{Settles}
-use Rattle.ll_engine.specs.Pointed.{Held, IsSoundAt, spine_at, spine_of, helds}
+use Rattle.ll_engine.specs.Pointed.{Held, IsSoundAt, spine_at, spine_of, first_of, helds}
 use Rattle.ll_engine.proofs.Pointing.{settles, settled_sound, helds_kept, marks_kept}
 use Rattle.ll_engine.proofs.spine.Spine.settle.Goals as goal
 
@@ -20,5 +20,5 @@ returns-clause-sound c =
 pub returns-clause-settles : goal.returns-clause-settles
 returns-clause-settles c =
     let z = c.args.self.now in let m = c.settle.new.machine in let ps = z.points.items in
-    subst (λ (hs : List Held). Settles (spine_of z) c.in_ok-ok.ok (spine_at z.problem.now (parts_of m) hs)) (sym (helds_kept z.machine m ps (keeps z.machine m c.in_ok-ok.ensures.later) c.requires.sound.marks.good))
-    (settles z.problem.now (parts_of z.machine) (parts_of m) (helds z.machine ps) c.in_ok-ok.ok c.in_ok-ok.ensures.settles c.in_ok-ok.ensures.same)
+    subst (λ (hs : List Held). Settles (spine_of z) c.in_ok-ok.ok (spine_at (first_of z) z.problem.now (parts_of m) hs)) (sym (helds_kept z.machine m ps (keeps z.machine m c.in_ok-ok.ensures.later) c.requires.sound.marks.good))
+    (settles (first_of z) z.problem.now (parts_of z.machine) (parts_of m) (helds z.machine ps) c.in_ok-ok.ok c.in_ok-ok.ensures.settles c.in_ok-ok.ensures.same)

@@ -1,6 +1,5 @@
 use Rattle.std.proofs.Common.{refl, ap, sym, ◌∙◌, arith}
 use Rattle.ll_store.specs.declared.cells.Cell.{Cell}
-use Rattle.ll_resources.specs.History.{History}
 use Rattle.ll_freeze.specs.declared.machine.Machine.{Machine}
 use Rattle.ll_freeze.specs.Parts.{parts_of, parts_at}
 use Rattle.ll_freeze.proofs.Imaging.{image_of}

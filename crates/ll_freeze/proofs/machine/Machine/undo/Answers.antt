@@ -1,8 +1,5 @@
-use Rattle.std.proofs.Common.{refl, ◌≡◌, List, length, take}
-use Rattle.ll_store.specs.Stored.{State}
-use Rattle.ll_store.specs.Tables.{table_of}
+use Rattle.std.proofs.Common.{refl}
 use Rattle.ll_freeze.specs.declared.machine.Machine.{Machine}
-use Rattle.ll_freeze.specs.Parts.{parts_of, parts_at}
 use Rattle.ll_freeze.proofs.Marks.{undone, cut_front, back_to}
 use Rattle.ll_freeze.proofs.machine.Machine.undo.Goals as goal
 

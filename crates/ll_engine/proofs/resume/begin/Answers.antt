@@ -1,0 +1,12 @@
+use Rattle.std.proofs.Common.{rules}
+use Rattle.ll_freeze.specs.Parts.{parts_of}
+use Rattle.ll_engine.proofs.Resuming.{tried}
+use Rattle.ll_engine.proofs.resume.begin.Goals as goal
+
+pub attempt-requires-clause-goal : goal.attempt-requires-clause-goal
+attempt-requires-clause-goal c =
+    let t = tried c.args.frozen.now (parts_of c.args.machine.now) c.args.k c.candidate.result c.requires.thaws c.is_start.ensures.stands (search rules) c.candidate.ensures in t.goal
+
+pub attempt-requires-clause-candidate : goal.attempt-requires-clause-candidate
+attempt-requires-clause-candidate c =
+    let t = tried c.args.frozen.now (parts_of c.args.machine.now) c.args.k c.candidate.result c.requires.thaws c.is_start.ensures.stands (search rules) c.candidate.ensures in t.candidate

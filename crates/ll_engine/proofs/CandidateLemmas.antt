@@ -1,21 +1,18 @@
 -- The walk over the leaves of a clause, and what it finds.
-use Rattle.std.proofs.Common.{◌≡◌, ℕ, suc, ◌+◌, List, [], ◌∷◌, ◌++◌, length, map, refl, ap, sym, subst, ◌∙◌, arith, Option, Some, true, false, append_assoc, All}
+use Rattle.std.proofs.Common.{◌≡◌, ℕ, suc, ◌+◌, Bool, List, [], ◌∷◌, ◌++◌, length, map, refl, ap, sym, subst, ◌∙◌, arith, Some, true, false, append_assoc, All}
 use Rattle.std.specs.Prelude.{if◌then◌else◌}
 use Rattle.std.proofs.lemmas.List.{append-nil, length_push, get_or_push}
 use Rattle.std.proofs.Math.ListN.{get_or-append}
+use Rattle.std.proofs.lemmas.List.Elements.{All-head, All-tail}
 use Rattle.ll_bank.specs.declared.At.{At}
 use Rattle.ll_bank.specs.declared.FormAt.{FormAt}
 use Rattle.ll_bank.specs.declared.Head.{Head}
 use Rattle.ll_bank.specs.declared.FormNode.{FormNode}
 use Rattle.ll_bank.specs.declared.FormNode.TheVariants.{Top as TopView, One as OneView, Atom as AtomView, With as WithView, Tensor as TensorView, Plus as PlusView, Bang as BangView, Lolli as LolliView, Imp as ImpView, Forall as ForallView, Exists as ExistsView, Use as UseView, Is as IsView, Less as LessView, Most as MostView}
-use Rattle.ll_bank.specs.Term.{Term, Con, Ap, sub, app, apply, head_of, arity}
-use Rattle.ll_bank.specs.Form.{sub_form}
+use Rattle.ll_bank.specs.Term.{Term, Con, Ap, app, apply, head_of, arity}
 use Rattle.ll_bank.specs.Nodes.{Nodes, term_tree, term_trees, form_tree, form_of}
 use Rattle.ll_laws.specs.declared.Candidate.{Candidate}
-use Rattle.ll_engine.specs.declared.candidates.Predicate.{Predicate}
-use Rattle.ll_freeze.specs.Reading.{reading, read_form}
-use Rattle.ll_engine.specs.Leaves.{has_predicate, heads, head_tries, waiting_heads}
-use Rattle.ll_engine.proofs.ReadLemmas.{sub_app}
+use Rattle.ll_engine.specs.Leaves.{heads, head_tries, waiting_heads}
 
 -- ---- predicates
 
@@ -46,54 +43,84 @@ module _ (bank : Nodes) where
   wait-more [] f = sym (append-nil (heads (form_tree bank f.0)))
   wait-more (g ∷ fs) f = ap (λ xs. xs ++ heads (form_tree bank g.0)) (wait-more fs f) ∙ append_assoc (heads (form_tree bank f.0)) (waiting_heads bank fs) (heads (form_tree bank g.0))
 
-  module _ (p : Predicate) (label k : ℕ) (goal : List Candidate) (found : List Candidate) (old rest : List FormAt) (f : FormAt) (popped : old ≡ rest ++ f ∷ [])
-      (so_far : found ++ head_tries p label k (waiting_heads bank old) ≡ goal) where
+  module _ (test : Term → Bool) (label k : ℕ) (goal : List Candidate) (found : List Candidate) (old rest : List FormAt) (f : FormAt) (popped : old ≡ rest ++ f ∷ [])
+      (so_far : found ++ head_tries test label k (waiting_heads bank old) ≡ goal) where
     -- what is left begins with the heads of the clause taken
-    begins : found ++ head_tries p label k (heads (form_tree bank f.0) ++ waiting_heads bank rest) ≡ goal
-    begins = ap (λ hs. found ++ head_tries p label k hs) (sym (ap (waiting_heads bank) popped ∙ wait-more rest f)) ∙ so_far
+    begins : found ++ head_tries test label k (heads (form_tree bank f.0) ++ waiting_heads bank rest) ≡ goal
+    begins = ap (λ hs. found ++ head_tries test label k hs) (sym (ap (waiting_heads bank) popped ∙ wait-more rest f)) ∙ so_far
 
     -- a clause without leaves goes
-    pub walk_past : heads (form_tree bank f.0) ≡ [] → found ++ head_tries p label k (waiting_heads bank rest) ≡ goal
-    walk_past e = ap (λ hs. found ++ head_tries p label k (hs ++ waiting_heads bank rest)) (sym e) ∙ begins
+    pub walk_past : heads (form_tree bank f.0) ≡ [] → found ++ head_tries test label k (waiting_heads bank rest) ≡ goal
+    walk_past e = ap (λ hs. found ++ head_tries test label k (hs ++ waiting_heads bank rest)) (sym e) ∙ begins
 
     -- another with the same leaves takes its place
     pub walk_in : (g : FormAt) (new : List FormAt) → new ≡ rest ++ g ∷ [] → heads (form_tree bank f.0) ≡ heads (form_tree bank g.0)
-        → found ++ head_tries p label k (waiting_heads bank new) ≡ goal
+        → found ++ head_tries test label k (waiting_heads bank new) ≡ goal
     walk_in g new n e =
-        ap (λ hs. found ++ head_tries p label k hs) (ap (waiting_heads bank) n ∙ (wait-more rest g ∙ ap (λ hs. hs ++ waiting_heads bank rest) (sym e))) ∙ begins
+        ap (λ hs. found ++ head_tries test label k hs) (ap (waiting_heads bank) n ∙ (wait-more rest g ∙ ap (λ hs. hs ++ waiting_heads bank rest) (sym e))) ∙ begins
 
     -- or two, the left one behind
     pub walk_both : (g h : FormAt) (mid new : List FormAt) → mid ≡ rest ++ h ∷ [] → new ≡ mid ++ g ∷ [] → heads (form_tree bank f.0) ≡ heads (form_tree bank g.0) ++ heads (form_tree bank h.0)
-        → found ++ head_tries p label k (waiting_heads bank new) ≡ goal
+        → found ++ head_tries test label k (waiting_heads bank new) ≡ goal
     walk_both g h mid new m n e =
-        ap (λ hs. found ++ head_tries p label k hs)
+        ap (λ hs. found ++ head_tries test label k hs)
         (ap (waiting_heads bank) n
         ∙ (wait-more mid g
         ∙ (ap (λ hs. heads (form_tree bank g.0) ++ hs) (ap (waiting_heads bank) m ∙ wait-more rest h)
         ∙ (sym (append_assoc (heads (form_tree bank g.0)) (heads (form_tree bank h.0)) (waiting_heads bank rest)) ∙ ap (λ hs. hs ++ waiting_heads bank rest) (sym e))))) ∙ begins
 
-    -- a leaf that has the predicate is found, and the next one is on
-    pub leaf_found : (t : Term) (new : List Candidate) (next : ℕ) → heads (form_tree bank f.0) ≡ t ∷ [] → has_predicate p t ≡ true → new ≡ found ++ record { label = label; leaf = k } ∷ [] → next ≡ k + 1
-        → new ++ head_tries p label next (waiting_heads bank rest) ≡ goal
+    -- a leaf that passes the test is found, and the next one is on
+    pub leaf_found : (t : Term) (new : List Candidate) (next : ℕ) → heads (form_tree bank f.0) ≡ t ∷ [] → test t ≡ true → new ≡ found ++ record { label = label; leaf = k } ∷ [] → next ≡ k + 1
+        → new ++ head_tries test label next (waiting_heads bank rest) ≡ goal
     leaf_found t new next e has n s =
         let hs = waiting_heads bank rest in
         let c : Candidate = record { label = label; leaf = k } in
-        let tail = head_tries p label (suc k) hs in
-        let one : (if has_predicate p t then c ∷ tail else tail) ≡ c ∷ tail = ap (λ b. if b then c ∷ tail else tail) has in
+        let tail = head_tries test label (suc k) hs in
+        let one : (if test t then c ∷ tail else tail) ≡ c ∷ tail = ap (λ b. if b then c ∷ tail else tail) has in
         let go : next ≡ suc k = omega arith in
-        ap (λ xs. xs ++ head_tries p label next hs) n
-        ∙ (append_assoc found (c ∷ []) (head_tries p label next hs)
-        ∙ (ap (λ j. found ++ c ∷ head_tries p label j hs) go ∙ (ap (λ xs. found ++ xs) (sym one) ∙ (ap (λ us. found ++ head_tries p label k (us ++ hs)) (sym e) ∙ begins))))
+        ap (λ xs. xs ++ head_tries test label next hs) n
+        ∙ (append_assoc found (c ∷ []) (head_tries test label next hs)
+        ∙ (ap (λ j. found ++ c ∷ head_tries test label j hs) go ∙ (ap (λ xs. found ++ xs) (sym one) ∙ (ap (λ us. found ++ head_tries test label k (us ++ hs)) (sym e) ∙ begins))))
 
     -- another one is not
-    pub leaf_passed : (t : Term) (next : ℕ) → heads (form_tree bank f.0) ≡ t ∷ [] → has_predicate p t ≡ false → next ≡ k + 1 → found ++ head_tries p label next (waiting_heads bank rest) ≡ goal
+    pub leaf_passed : (t : Term) (next : ℕ) → heads (form_tree bank f.0) ≡ t ∷ [] → test t ≡ false → next ≡ k + 1 → found ++ head_tries test label next (waiting_heads bank rest) ≡ goal
     leaf_passed t next e lacks s =
         let hs = waiting_heads bank rest in
         let c : Candidate = record { label = label; leaf = k } in
-        let tail = head_tries p label (suc k) hs in
-        let none : (if has_predicate p t then c ∷ tail else tail) ≡ tail = ap (λ b. if b then c ∷ tail else tail) lacks in
+        let tail = head_tries test label (suc k) hs in
+        let none : (if test t then c ∷ tail else tail) ≡ tail = ap (λ b. if b then c ∷ tail else tail) lacks in
         let go : next ≡ suc k = omega arith in
-        ap (λ j. found ++ head_tries p label j hs) go ∙ (ap (λ xs. found ++ xs) (sym none) ∙ (ap (λ us. found ++ head_tries p label k (us ++ hs)) (sym e) ∙ begins))
+        ap (λ j. found ++ head_tries test label j hs) go ∙ (ap (λ xs. found ++ xs) (sym none) ∙ (ap (λ us. found ++ head_tries test label k (us ++ hs)) (sym e) ∙ begins))
+
+-- each head that waits is as before
+module _ (P : Term → Type 0) (bank : Nodes) (old rest : List FormAt) (f : FormAt) (popped : old ≡ rest ++ f ∷ []) (each : All P (waiting_heads bank old)) where
+  each_next : All P (heads (form_tree bank f.0) ++ waiting_heads bank rest)
+  each_next = subst (All P) (ap (waiting_heads bank) popped ∙ wait-more bank rest f) each
+
+  pub each_past : heads (form_tree bank f.0) ≡ [] → All P (waiting_heads bank rest)
+  each_past e = subst (λ hs. All P (hs ++ waiting_heads bank rest)) e each_next
+
+  pub each_in : (g : FormAt) (new : List FormAt) → new ≡ rest ++ g ∷ [] → heads (form_tree bank f.0) ≡ heads (form_tree bank g.0) → All P (waiting_heads bank new)
+  each_in g new n e = subst (All P) (sym (ap (waiting_heads bank) n ∙ (wait-more bank rest g ∙ ap (λ hs. hs ++ waiting_heads bank rest) (sym e)))) each_next
+
+  pub each_both : (g h : FormAt) (mid new : List FormAt) → mid ≡ rest ++ h ∷ [] → new ≡ mid ++ g ∷ [] → heads (form_tree bank f.0) ≡ heads (form_tree bank g.0) ++ heads (form_tree bank h.0)
+      → All P (waiting_heads bank new)
+  each_both g h mid new m n e =
+      subst (All P)
+      (sym (ap (waiting_heads bank) n
+      ∙ (wait-more bank mid g
+      ∙ (ap (λ hs. heads (form_tree bank g.0) ++ hs) (ap (waiting_heads bank) m ∙ wait-more bank rest h)
+      ∙ (sym (append_assoc (heads (form_tree bank g.0)) (heads (form_tree bank h.0)) (waiting_heads bank rest)) ∙ ap (λ hs. hs ++ waiting_heads bank rest) (sym e))))))
+      each_next
+
+  leaf_next : (t : Term) → heads (form_tree bank f.0) ≡ t ∷ [] → All P (t ∷ waiting_heads bank rest)
+  leaf_next t e = subst (λ hs. All P (hs ++ waiting_heads bank rest)) e each_next
+
+  pub each_leaf : (t : Term) → heads (form_tree bank f.0) ≡ t ∷ [] → P t
+  each_leaf t e = All-head P t (waiting_heads bank rest) (leaf_next t e)
+
+  pub each_behind : (t : Term) → heads (form_tree bank f.0) ≡ t ∷ [] → All P (waiting_heads bank rest)
+  each_behind t e = All-tail P t (waiting_heads bank rest) (leaf_next t e)
 
 -- the heads of what is seen at a place
 pub heads_seen : (bank : Nodes) (f : FormAt) (view : FormNode) → form_tree bank f.0 ≡ form_of bank view → heads (form_tree bank f.0) ≡ heads (form_of bank view)

@@ -4,16 +4,16 @@ use Rattle.std.proofs.lemmas.List.{append-nil}
 use Rattle.ll_bank.specs.declared.At.{At}
 use Rattle.ll_bank.specs.declared.FormAt.{FormAt}
 use Rattle.ll_laws.specs.declared.Step.{Step}
-use Rattle.ll_bank.specs.Nodes.{Nodes, Extends}
+use Rattle.ll_bank.specs.Nodes.{Extends}
 use Rattle.ll_store.specs.declared.store.Store.{Store}
 use Rattle.ll_store.specs.Stored.{Stored, stored, KeepsMarks as KeepsStoreMarks}
 use Rattle.ll_store.proofs.MarkLemmas.{marks-extend}
 use Rattle.ll_resources.specs.History.{History, KeepsMarks as KeepsContextMarks}
-use Rattle.ll_agenda.specs.Frames.{Frames, Extends as ExtendsFrames}
+use Rattle.ll_agenda.specs.Frames.{Frames}
 use Rattle.ll_freeze.specs.declared.machine.Machine.{Machine}
 use Rattle.ll_freeze.specs.declared.machine.Item.{Item}
 use Rattle.ll_freeze.specs.Parts.{Later}
-use Rattle.ll_freeze.proofs.Marks.{later_same, later_then, store_same, store_then, context_same}
+use Rattle.ll_freeze.proofs.Marks.{store_same, context_same}
 
 -- marks of a store
 pub store_extends : (s t : Store) → Extends s.bank t.bank → t.cells ≡ s.cells → KeepsStoreMarks (stored s) (stored t)

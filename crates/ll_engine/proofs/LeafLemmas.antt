@@ -16,7 +16,7 @@ use Rattle.ll_laws.specs.Valid.{places_below}
 use Rattle.ll_laws.proofs.SubLaws.{and_left}
 use Rattle.ll_laws.proofs.ConsistentStates.{length-vars}
 use Rattle.ll_laws.proofs.ConsistentTerms.{none_below}
-use Rattle.ll_engine.specs.declared.candidates.Predicate.{Predicate}
+use Rattle.ll_engine.specs.declared.heads.Predicate.{Predicate}
 use Rattle.ll_engine.specs.Leaves.{has_predicate, heads, head_tries, open_tries}
 
 -- ---- lists
@@ -197,7 +197,7 @@ module _ (p : Predicate) (a : Term) (is : HasPredicate p a) where
   -- so the candidates among the leaves are those with the predicate
   tries_by : (e : Entry Form) (k : ℕ) (ws : List ℕ) (hs : List Term) → length hs ≡ length ws
       → ((j m : ℕ) → m ≡ k + j → j < length ws → fits_head a (leaf_head e.clause m (get_or ws j 0)) ≡ has_predicate p (get_or hs j (Var 0)))
-      → leaf_tries a e k ws ≡ head_tries p e.label k hs
+      → leaf_tries a e k ws ≡ head_tries (has_predicate p) e.label k hs
   tries_by e k [] [] n each = refl
   tries_by e k [] (h ∷ hs) n each = absurd (omega arith)
   tries_by e k (w ∷ ws) [] n each = absurd (omega arith)
@@ -207,7 +207,7 @@ module _ (p : Predicate) (a : Term) (is : HasPredicate p a) where
       let c : Candidate = record { label = e.label; leaf = k } in
       λ i. if here i then c ∷ rest i else rest i
 
-  pub entry_tries_by : (e : Entry Form) → entry_tries a e ≡ open_tries p e
+  pub entry_tries_by : (e : Entry Form) → entry_tries a e ≡ open_tries (has_predicate p) e
   entry_tries_by e = ap (λ xs. if is_open e then xs else []) (tries_by e 0 (ways e.clause) (heads e.clause) (heads_ways e.clause) (λ j m q l.
       let q2 : m ≡ j = omega arith in
       let n = get_or (ways e.clause) j 0 in
@@ -246,7 +246,7 @@ head_free (Con (Bound n)) h f e = none_below n f
 head_free (Ap t u) h f e = head_free t h (and_left (places_below 0 t) (places_below 0 u) f) e
 
 -- the candidates among entries, by the predicate
-pub tries_by_predicate : (p : Predicate) (a : Term) → HasPredicate p a → (es : List (Entry Form)) → flat_map (entry_tries a) es ≡ flat_map (open_tries p) es
+pub tries_by_predicate : (p : Predicate) (a : Term) → HasPredicate p a → (es : List (Entry Form)) → flat_map (entry_tries a) es ≡ flat_map (open_tries (has_predicate p)) es
 tries_by_predicate p a is [] = refl
 tries_by_predicate p a is (e ∷ es) = λ i. entry_tries_by p a is e i ++ tries_by_predicate p a is es i
 

@@ -4,6 +4,11 @@ pub mod CellLemmas
 pub mod UnifyLemmas
 pub mod CandidateLemmas
 pub mod LeafLemmas
+mod MatchLemmas
+mod SignLemmas
+mod Finding
+mod AtomLemmas
+mod ProgramLemmas
 pub mod OpeningLemmas
 pub mod LaterLemmas
 pub mod TakeLemmas

@@ -25,6 +25,8 @@ use Rattle.ll_laws.specs.Consistent.{IsConsistent, allowed_in}
 use Rattle.ll_laws.proofs.ConsistentTerms.{grows-refl, fit-vars}
 use Rattle.ll_laws.proofs.ConsistentForms.{fits_of_formula}
 use Rattle.ll_laws.proofs.ConsistentSteps.{steps_consistent}
+use Rattle.ll_freeze.specs.Resting.{RestsOn}
+use Rattle.ll_freeze.proofs.Resting.{step_rests}
 use Rattle.ll_agenda.specs.declared.agenda.Top.{Top as AgendaTop}
 use Rattle.ll_agenda.specs.Frames.{HasTop, items_at}
 use Rattle.ll_resources.specs.Resources.{Resources}
@@ -123,6 +125,8 @@ infers old new g rest c f e o gives =
     fits = record {
       valid = subst IsValid (sym o.problem) f.valid;
       consistent = consistent;
+      rests = subst (λ (p : ProblemTree). RestsOn p.clauses (state_of new)) (sym o.problem)
+          (step_rests (length old.problem.names) old.problem.modules old.problem.clauses f.valid.clauses (setting old) (state_of old) (state_of new) c gives f.rests);
       count = o.count ∙ sym levels;
       bound = o.inside;
       ordered = o.ordered;

@@ -1,15 +1,11 @@
 -- Counting the leaves of a clause.
-use Rattle.std.proofs.Common.{◌≡◌, ℕ, zero, suc, ◌+◌, ◌-◌, List, [], ◌∷◌, ◌++◌, length, map, refl, ap, sym, ◌∙◌, arith, Option, Some, None, true, length-append}
-use Rattle.std.specs.Prelude.{if◌then◌else◌, nat_lt, option_map}
-use Rattle.ll_bank.specs.declared.Head.TheVariants.{Name, Eigen, Bound}
-use Rattle.ll_bank.specs.Term.{Term, Var, Int, Con, Ap, Env, place, close, is_closed}
-use Rattle.ll_bank.specs.Form.{Form, Top, One, Atom, With, Tensor, Plus, Bang, Lolli, Imp, Forall, Exists, Use, Num, close_form, instantiate}
-use Rattle.ll_laws.specs.Leaf.{Leaf, Needs, NeedsFree, add_premise, ways, leaf, leaf_from}
-use Rattle.ll_laws.proofs.SubLaws.{close_closed, map_map, map_same}
+use Rattle.std.proofs.Common.{◌≡◌, ℕ, suc, ◌+◌, List, [], ◌∷◌, ◌++◌, length, map, refl, ap, ◌∙◌, arith, length-append}
+use Rattle.ll_bank.specs.Form.{Form, Forall}
+use Rattle.ll_laws.specs.Leaf.{ways}
 use Rattle.std.proofs.lemmas.List.Sums.{sum_by-append}
 use Rattle.ll_bank.specs.declared.FormAt.{FormAt}
 use Rattle.ll_bank.specs.Nodes.{Nodes, form_tree}
-use Rattle.ll_engine.specs.Leaves.{walk_size, waiting_ways}
+use Rattle.ll_engine.specs.Leaves.{waiting_ways}
 
 ways-push : (bank : Nodes) (fs : List FormAt) (f : FormAt) → waiting_ways bank (fs ++ f ∷ []) ≡ waiting_ways bank fs + length (ways (form_tree bank f.0))
 ways-push bank fs f = let e = sum_by-append (λ (g : FormAt). length (ways (form_tree bank g.0))) fs (f ∷ []) in omega (arith, e)

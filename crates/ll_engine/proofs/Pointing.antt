@@ -1,7 +1,7 @@
 -- What choice points keep, before and after a choice.
 use Rattle.std.proofs.Common.{◌≡◌, ◌≢◌, ℕ, suc, ◌-◌, ◌<◌, refl, ap, sym, ◌∙◌, subst, Bool, true, false, List, [], ◌∷◌, ◌++◌, arith, map, reverse, length}
 use Rattle.std.proofs.lemmas.List.{reverse-append, length-reverse, map-append}
-use Rattle.std.proofs.lemmas.List.Elements.{All-push, All-cons, All-tail, All-head, All-contains_itself, All-pop, All-weaker}
+use Rattle.std.proofs.lemmas.List.Elements.{All-push, All-cons, All-tail, All-head, All-pop, All-weaker}
 use Rattle.std.proofs.Math.Dec.{eqb, eqb-suc-zero}
 use Rattle.std.specs.Prelude.{Option, Some, None, All}
 use Rattle.std.specs.List.{Contains}
@@ -14,14 +14,16 @@ use Rattle.ll_freeze.specs.declared.mark.ChoiceMark.{ChoiceMark}
 use Rattle.ll_freeze.specs.Parts.{Parts, IsGood, IsBefore, KeepsMarks, KeepsMarksTo}
 use Rattle.ll_engine.specs.declared.spine.Kept.{Kept}
 use Rattle.ll_freeze.specs.Shown.{state_of}
-use Rattle.ll_freeze.specs.Fits.{Fits}
+use Rattle.ll_freeze.specs.Fits.{Fits, setting}
 use Rattle.ll_engine.specs.Attempts.{Attempts}
 use Rattle.ll_engine.specs.Calls.{SettlesOr, SameSearch}
 use Rattle.ll_engine.specs.Seen.{Point, Spine}
-use Rattle.ll_engine.specs.Owed.{Thins, thin_end, thin_keep, one_if_some, open_points, put_point}
+use Rattle.ll_engine.specs.Owed.{Thins, one_if_some, open_points, put_point}
+use Rattle.ll_engine.specs.Matches.{matches}
 use Rattle.ll_engine.specs.Turned.{has_none, Settles, Gave, Chose, Expands, Retries, RetriesAt}
 use Rattle.ll_engine.specs.Pointed.{Held, held_of, helds, Rises, AreMarks, point_of, points_of, spine_at, AreTries, IsOpen, IsKept, AreKept, IsSoundAt, KeepsKept, Puts}
 use Rattle.ll_engine.proofs.Labels.{tries_distinct}
+use Rattle.ll_engine.proofs.MatchLemmas.{matches_thin, thins_contains}
 
 newest : {A : Type 0} (xs : List A) (x : A) → reverse (xs ++ x ∷ []) ≡ x ∷ reverse xs
 newest xs x = reverse-append xs (x ∷ [])
@@ -35,11 +37,13 @@ all_reverse P [] h = h
 all_reverse P (x ∷ xs) h =
     subst (λ ys. All P ys) (sym (reverse-append (x ∷ []) xs)) (All-push P (reverse xs) x (all_reverse P xs (All-tail P x xs h)) (All-head P x xs h))
 
--- the candidates of a first goal, the first one last
-pub are_tries : (m : Parts) (cs ds : List Candidate) → cs ≡ tries (state_of m) → ds ≡ reverse cs → AreTries m ds
-are_tries m cs ds e f =
-    subst (λ (xs : List Candidate). AreTries m xs) (sym f) (all_reverse (λ c. Contains (tries (state_of m)) c) cs
-    (subst (λ (xs : List Candidate). All (λ c. Contains xs c) cs) e (All-contains_itself cs)))
+-- the candidates of a first goal that can match, the first one last
+pub are_tries : (m : Parts) (ds : List Candidate) → Fits m → reverse ds ≡ matches (state_of m) → AreTries m ds
+are_tries m ds f e =
+    subst (λ (xs : List Candidate). AreTries m xs) (twice ds)
+    (all_reverse (λ c. Contains (tries (state_of m)) c) (reverse ds)
+    (subst (λ (xs : List Candidate). AreTries m xs) (sym e)
+    (thins_contains (setting m) (state_of m) (matches (state_of m)) (tries (state_of m)) (matches_thin (setting m) (state_of m) f.consistent.labels_differ))))
 
 -- a list that is not empty, by its number of elements
 pub some_left : (cs : List Candidate) (n : ℕ) (b : Bool) → b ≡ eqb n 0 → b ≡ false → n ≡ length cs → cs ≢ []
@@ -130,24 +134,28 @@ pub sound_after : (p : ProblemTree) (old new : Parts) (ps qs : List Held) (cs : 
 sound_after p old new ps qs cs c true o t a k h = record { points = k p o t a; machine = (h.fits, h.problem ∙ o.problem) }
 sound_after p old new ps qs cs c false o t a k h = record { points = k p o t a; machine = tt }
 
-thins_itself : (beside : _) (t : State) (cs : List Candidate) → Thins beside t cs cs
-thins_itself beside t [] = thin_end
-thins_itself beside t (c ∷ cs) = thin_keep (thins_itself beside t cs)
-
-pub expands : (o : Option State) (p : ProblemTree) (old : Parts) (ps : List Held) (z : Spine) (cs ds : List Candidate) (ok : Bool) → Fits old → 0 < old.left
-    → cs ≡ tries (state_of old) → ds ≡ reverse cs
+pub expands : (o : Option State) (p : ProblemTree) (old : Parts) (ps : List Held) (z : Spine) (ds : List Candidate) (ok : Bool) → Fits old → 0 < old.left
+    → reverse ds ≡ matches (state_of old)
     → Chose (spine_at o p old ps) (state_of old) (old.left - 1) (reverse ds) (points_of ps) ok z
     → Expands (spine_at o p old ps) ok z
-expands o p old ps z cs ds ok f l e1 e2 h =
+expands o p old ps z ds ok f l e h =
     record {
       candidates = reverse ds;
       left = old.left - 1;
       left_is = omega arith;
-      thins = subst (λ (xs : List Candidate). Thins (setting_of p) (state_of old) xs (tries (state_of old))) (sym (ap (λ xs. reverse xs) e2 ∙ (twice cs ∙ e1)))
-          (thins_itself (setting_of p) (state_of old) (tries (state_of old)));
+      thins = subst (λ (xs : List Candidate). Thins (setting_of p) (state_of old) xs (tries (state_of old))) (sym e) (matches_thin (setting_of p) (state_of old) f.consistent.labels_differ);
       distinct = tries_distinct (state_of old) f.consistent.labels_differ;
       chose = h;
     }
+
+-- there is no candidate
+pub expands_none : (o : Option State) (p : ProblemTree) (old : Parts) (ps : List Held) (cs : List Candidate) → Fits old → 0 < old.left → cs ≡ matches (state_of old) → cs ≡ []
+    → Expands (spine_at o p old ps) false (spine_at o p old ps)
+expands_none o p old ps cs f l e n = expands o p old ps (spine_at o p old ps) [] false f l (sym n ∙ e) (chose_none o p old ps [] refl)
+
+-- the first one behind the others, with the first one last
+pub first_last : (cs ds : List Candidate) (c : Candidate) → cs ≡ c ∷ reverse ds → reverse (ds ++ c ∷ []) ≡ cs
+first_last cs ds c e = newest ds c ∙ sym e
 
 -- another present state, and other points, are as good before a choice
 chose_same : (o : Option State) (p : ProblemTree) (m n : Parts) (ps qs : List Held) (t : State) (k : ℕ) (cs : List Candidate) (points : List Point) (ok : Bool) (z : Spine)
@@ -273,3 +281,12 @@ popped m ps qs k e a =
       rises = rest.0;
       before = rest.1;
     }
+
+-- a choice point has a candidate left
+pub popped_some : (p : ProblemTree) (ps qs : List Held) (k : Held) → ps ≡ qs ++ k ∷ [] → AreKept p ps → k.untried ≡ [] → ⊥
+popped_some p ps qs k e a = (All-pop (IsKept p) ps qs (Some k) e a).1.some
+
+-- a list without elements
+pub none_left : (cs : List Candidate) (n : ℕ) → n ≡ length cs → n ≡ 0 → cs ≡ []
+none_left [] n l z = refl
+none_left (c ∷ cs) n l z = absurd (omega arith)

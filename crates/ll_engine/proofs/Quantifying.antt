@@ -1,5 +1,5 @@
 -- An inference that opens a quantifier or a load: what it makes of a machine.
-use Rattle.std.proofs.Common.{◌≡◌, ℕ, zero, suc, ◌+◌, ◌≤◌, ◌<◌, ◌^◌, refl, ap, sym, ◌∙◌, subst, true, Bool, List, [], ◌∷◌, ◌++◌, map, length, arith, All, length-append, slice_index_or, inl, inr, false}
+use Rattle.std.proofs.Common.{◌≡◌, ℕ, zero, suc, ◌+◌, ◌≤◌, ◌<◌, ◌^◌, refl, ap, sym, ◌∙◌, subst, true, Bool, List, [], ◌∷◌, ◌++◌, map, length, arith, All, length-append, inl, inr, false}
 use Rattle.std.proofs.lemmas.List.{map-append}
 use Rattle.std.proofs.lemmas.List.Elements.{All-nil, All-cons, All-head, All-tail, All-weaker, All-push}
 use Rattle.std.proofs.lemmas.Bool.{lt-ltb, cases_lt}
@@ -26,6 +26,8 @@ use Rattle.ll_laws.proofs.ConsistentTerms.{and_intro, Grows, Fit, AllFit}
 use Rattle.ll_laws.proofs.ConsistentForms.{Fits as FormFits, formula_of_fits, fits-more, fits-close}
 use Rattle.ll_laws.proofs.ConsistentContexts.{formula-more}
 use Rattle.ll_laws.proofs.ConsistentSteps.{steps_consistent}
+use Rattle.ll_freeze.specs.Resting.{RestsOn}
+use Rattle.ll_freeze.proofs.Resting.{step_rests}
 use Rattle.ll_resources.specs.Resources.{Resources}
 use Rattle.ll_freeze.specs.Parts.{Parts, table}
 use Rattle.ll_freeze.specs.declared.machine.Item.{Item}
@@ -35,7 +37,7 @@ use Rattle.ll_freeze.specs.Shown.{shown_item, shown_entry, items_of, state_of}
 use Rattle.ll_freeze.specs.Fits.{Fits, HasItem, IsGoalIn, allowed, setting}
 use Rattle.ll_engine.specs.Attempts.{Infers}
 use Rattle.ll_engine.specs.Rows.{GoesOn, PutsInFront, OpensForall, OpensExists}
-use Rattle.ll_engine.proofs.ReadLemmas.{reading_same, reading_past, read_same, values_extend, fits_table, ordered_extends}
+use Rattle.ll_engine.proofs.ReadLemmas.{reading_same, reading_past, values_extend, fits_table, ordered_extends}
 use Rattle.ll_bindings.specs.Bindings.{IsTable, IsOrdered}
 use Rattle.ll_bindings.proofs.CallerLemmas.{table-extends, table-fresh, found-fresh}
 use Rattle.ll_engine.specs.Turned.{is_empty}
@@ -228,6 +230,8 @@ opened old new g rest c f fits e1 o reads grows count bound ordered terms variab
         consistent =
             subst (λ (p : ProblemTree). IsConsistent (setting_of p) (state_of new)) (sym o.problem)
             (steps_consistent (length old.problem.names) (setting old) (state_of old) (state_of new) c fits.valid.modules fits.consistent a);
+        rests = subst (λ (p : ProblemTree). RestsOn p.clauses (state_of new)) (sym o.problem)
+            (step_rests (length old.problem.names) old.problem.modules old.problem.clauses fits.valid.clauses (setting old) (state_of old) (state_of new) c a fits.rests);
         count = count;
         bound = bound;
         ordered = ordered;

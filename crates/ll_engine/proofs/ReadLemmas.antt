@@ -1,5 +1,5 @@
 -- Terms read under bindings, as a bank and its cells grow.
-use Rattle.std.proofs.Common.{◌≡◌, ℕ, zero, suc, ◌+◌, ◌<◌, ◌≤◌, List, [], ◌∷◌, ◌++◌, length, map, replicate, All, get_or, refl, ap, sym, subst, ◌∙◌, arith, Option, Some, None, append_assoc}
+use Rattle.std.proofs.Common.{◌≡◌, ℕ, zero, suc, ◌≤◌, List, [], ◌∷◌, ◌++◌, length, map, replicate, All, get_or, refl, ap, sym, subst, ◌∙◌, arith, Option, Some, None, append_assoc}
 use Rattle.std.specs.Prelude.{slice_index_or}
 use Rattle.std.proofs.lemmas.List.{append-nil}
 use Rattle.std.proofs.lemmas.List.Elements.{All-nil, All-cons, All-head, All-tail}
@@ -11,7 +11,7 @@ use Rattle.ll_bank.proofs.Trees.{term_tree-extends, HasTerm-extends}
 use Rattle.ll_laws.specs.Attempt.{vars_from}
 use Rattle.ll_laws.proofs.ConsistentStates.{length-vars}
 use Rattle.ll_laws.proofs.SubLaws.{sub_same}
-use Rattle.ll_bindings.specs.Bindings.{Table, cell, shown, followed, IsTable, IsOrdered}
+use Rattle.ll_bindings.specs.Bindings.{Table, shown, followed, IsTable, IsOrdered}
 use Rattle.ll_bindings.proofs.CallerLemmas.{with_cell, table-extends, table-fresh, found-fresh}
 use Rattle.ll_store.specs.declared.cells.Cell.{Cell}
 use Rattle.ll_store.specs.Tables.{table_of}

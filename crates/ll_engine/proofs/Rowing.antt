@@ -17,6 +17,7 @@ use Rattle.ll_laws.specs.Attempt.{attempt, attempt_agenda, attempt_goal, take_si
 use Rattle.ll_laws.specs.Valid.{IsFormula, GoalSide, ClauseSide}
 use Rattle.ll_laws.proofs.ConsistentForms.{Fits as FormFits, fits_of_formula, formula_of_fits}
 use Rattle.ll_laws.proofs.ConsistentSteps.{steps_consistent}
+use Rattle.ll_freeze.proofs.Resting.{step_rests}
 use Rattle.ll_resources.specs.Resources.{Resources, saved_at, saved_now, saved_as, KeepsSaved, after_load, after_erase, after_save, after_bang}
 use Rattle.ll_resources.specs.declared.context.Saved.{Saved as Handle}
 use Rattle.ll_freeze.specs.Parts.{Parts}
@@ -75,6 +76,7 @@ row old new h k g rest front step c f fits e1 e2 go e4 e3 clauses items sorted g
       left = l;
       fits = fits_kept old new s fits
           (steps_consistent (length old.problem.names) (setting old) (state_of old) (state_of new) c fits.valid.modules fits.consistent a)
+          (step_rests (length old.problem.names) old.problem.modules old.problem.clauses fits.valid.clauses (setting old) (state_of old) (state_of new) c a fits.rests)
           x (rw r clauses) (rw r sorted) go.top (rw (r, go.items) items) (rw go.items goals) (let b = fits.labels in omega (arith, b, l, n, next)) (let b = fits.eigens in omega (arith, b, l, x));
     }
 

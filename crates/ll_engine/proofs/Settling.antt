@@ -15,6 +15,7 @@ use Rattle.ll_laws.specs.Valid.{IsFormula, ClauseSide}
 use Rattle.ll_laws.specs.Consistent.{ends_fit, marks_fit, may_live, is_of_kind, newest_is, begins_second_side}
 use Rattle.ll_laws.proofs.SettleLaws.{front-map}
 use Rattle.ll_laws.proofs.ConsistentStates.{settles_consistent}
+use Rattle.ll_freeze.proofs.Resting.{settle_rests}
 use Rattle.ll_laws.proofs.ConsistentContexts.{alike-remark, alike-ends}
 use Rattle.ll_resources.specs.History.{History, Settles}
 use Rattle.ll_resources.specs.Resources.{Resources, saved_at, saved_as, saved_now, End, settled, load_end, with_end, bang_end, after_with_mid, SettlesMiddle, KeepsSaved, Fits as SavedFits, with_front as front_put}
@@ -111,7 +112,7 @@ done o m g f e =
     let n = g.next in let l = g.left in let x = g.eigens in
     record {
       settles = a;
-      fits = fits_kept o m s f (settles_consistent (setting o) (state_of o) (state_of m) f.consistent a) g.eigens g.clauses g.sorted_clauses g.top g.items g.sorted_goals
+      fits = fits_kept o m s f (settles_consistent (setting o) (state_of o) (state_of m) f.consistent a) (settle_rests o.problem.clauses (state_of o) (state_of m) a f.rests) g.eigens g.clauses g.sorted_clauses g.top g.items g.sorted_goals
           (let b = f.labels in omega (arith, b, l, n)) (let b = f.eigens in omega (arith, b, l, x));
     }
 

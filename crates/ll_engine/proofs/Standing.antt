@@ -13,29 +13,29 @@ use Rattle.ll_bank.specs.Nodes.{Nodes, form_tree}
 use Rattle.ll_laws.specs.declared.Candidate.{Candidate}
 use Rattle.ll_laws.specs.Settle.{Entry}
 use Rattle.ll_laws.specs.Attempt.{goal_tries, entry_tries, is_open}
-use Rattle.ll_laws.specs.Valid.{Allowed, Scope, IsFormula, GoalSide, ClauseSide, has_heads, is_atom, is_headed, may_head, free_below, places_below}
+use Rattle.ll_laws.specs.Valid.{Allowed, Scope, IsFormula, GoalSide, ClauseSide, has_heads, is_headed, may_head, free_below, places_below}
 use Rattle.ll_laws.proofs.SubLaws.{and_left, and_right}
 use Rattle.ll_laws.proofs.ConsistentTerms.{and_intro}
-use Rattle.ll_freeze.specs.Reading.{reading, read_form}
+use Rattle.ll_freeze.specs.Reading.{reading}
 use Rattle.ll_freeze.specs.Shown.{shown_entry}
-use Rattle.ll_engine.specs.declared.candidates.Predicate.{Predicate}
+use Rattle.ll_engine.specs.declared.heads.Predicate.{Predicate}
 use Rattle.ll_engine.specs.Leaves.{has_predicate, heads, head_tries, open_tries, standing_entry}
 use Rattle.ll_engine.proofs.LeafLemmas.{HasPredicate, head_free, tries_by_predicate}
 
 module _ (s : ℕ → Term) where
-  spine-head : (t : Term) → is_spine t ≡ true → head_of (sub s t) ≡ head_of t
+  pub spine-head : (t : Term) → is_spine t ≡ true → head_of (sub s t) ≡ head_of t
   spine-head (Var x) e = cc
   spine-head (Int z) e = refl
   spine-head (Con h) e = refl
   spine-head (Ap f a) e = spine-head f e
 
-  spine-arity : (t : Term) → is_spine t ≡ true → arity (sub s t) ≡ arity t
+  pub spine-arity : (t : Term) → is_spine t ≡ true → arity (sub s t) ≡ arity t
   spine-arity (Var x) e = cc
   spine-arity (Int z) e = refl
   spine-arity (Con h) e = refl
   spine-arity (Ap f a) e = ap suc (spine-arity f e)
 
-  heads-sub : (f : Form) → heads (sub_form s f) ≡ map (sub s) (heads f)
+  pub heads-sub : (f : Form) → heads (sub_form s f) ≡ map (sub s) (heads f)
   heads-sub Top = refl
   heads-sub One = refl
   heads-sub (Atom a) = refl
@@ -53,7 +53,7 @@ module _ (s : ℕ → Term) where
   same_predicate : (p : Predicate) (t : Term) → is_spine t ≡ true → has_predicate p (sub s t) ≡ has_predicate p t
   same_predicate p t e = λ i. Rattle.ll_bank.specs.Term.same_head (Some p.head) (spine-head t e i) && Rattle.std.specs.Prelude.nat_eq p.arity (spine-arity t e i)
 
-  head_tries-sub : (p : Predicate) (label k : ℕ) (hs : List Term) → list_all is_spine hs ≡ true → head_tries p label k (map (sub s) hs) ≡ head_tries p label k hs
+  head_tries-sub : (p : Predicate) (label k : ℕ) (hs : List Term) → list_all is_spine hs ≡ true → head_tries (has_predicate p) label k (map (sub s) hs) ≡ head_tries (has_predicate p) label k hs
   head_tries-sub p label k [] e = refl
   head_tries-sub p label k (h ∷ hs) e =
       let c : Candidate = record { label = label; leaf = k } in
@@ -90,15 +90,15 @@ module _ (may : Allowed) (bank : Nodes) (bound : List (Option Rattle.ll_bank.spe
   abbrev pub s : ℕ → Term
   s = reading bank bound
 
-  entry_stands : (p : Predicate) (e : Entry FormAt) → IsFormula may ClauseSide [] (form_tree bank e.clause.0) → open_tries p (shown_entry bank bound e) ≡ open_tries p (standing_entry bank e)
+  pub entry_stands : (p : Predicate) (e : Entry FormAt) → IsFormula may ClauseSide [] (form_tree bank e.clause.0) → open_tries (has_predicate p) (shown_entry bank bound e) ≡ open_tries (has_predicate p) (standing_entry bank e)
   entry_stands p e h =
       let f = form_tree bank e.clause.0 in
-      let q : head_tries p e.label 0 (heads (sub_form s f)) ≡ head_tries p e.label 0 (heads f) =
-      ap (head_tries p e.label 0) (heads-sub s f) ∙ head_tries-sub s p e.label 0 (heads f) (heads-spines may.opens [] f h.heads) in
+      let q : head_tries (has_predicate p) e.label 0 (heads (sub_form s f)) ≡ head_tries (has_predicate p) e.label 0 (heads f) =
+      ap (head_tries (has_predicate p) e.label 0) (heads-sub s f) ∙ head_tries-sub s p e.label 0 (heads f) (heads-spines may.opens [] f h.heads) in
       ap (λ cs. if is_open e then cs else []) q
 
   entries_stand : (p : Predicate) (es : List (Entry FormAt)) → All (λ e. IsFormula may ClauseSide [] (form_tree bank e.clause.0)) es
-      → flat_map (open_tries p) (map (shown_entry bank bound) es) ≡ flat_map (open_tries p) (map (standing_entry bank) es)
+      → flat_map (open_tries (has_predicate p)) (map (shown_entry bank bound) es) ≡ flat_map (open_tries (has_predicate p)) (map (standing_entry bank) es)
   entries_stand p [] h = refl
   entries_stand p (e ∷ es) h =
       let P : Entry FormAt → Type 0 = λ d. IsFormula may ClauseSide [] (form_tree bank d.clause.0) in

@@ -1,9 +1,22 @@
 -- Parts of an inference on an atom.
-use Rattle.std.proofs.Common.{◌≡◌, ℕ, zero, suc, ◌+◌, List, [], ◌∷◌, ◌++◌, ap, sym, ◌∙◌, Some, true, false, arith, drop}
-use Rattle.std.specs.Prelude.{if◌then◌else◌, nat_eq, slice_get, replicate}
+use Rattle.std.proofs.Common.{◌≡◌, ℕ, zero, suc, ◌+◌, Bool, List, [], ◌∷◌, ◌++◌, map, refl, ap, sym, subst, ◌∙◌, Option, Some, true, false, arith, drop, All, slice_index_or}
+use Rattle.std.specs.Prelude.{◌||◌, not, if◌then◌else◌, nat_eq, slice_get, replicate}
+use Rattle.std.specs.List.{list_any}
+use Rattle.std.proofs.lemmas.Bool.{eq-eqb}
+use Rattle.std.proofs.lemmas.List.Elements.{All-cons}
+use Rattle.std.proofs.lemmas.Option.{slice_get_within, slice_get-get_or}
+use Rattle.ll_bank.specs.declared.At.{At}
 use Rattle.ll_bank.specs.declared.FormAt.{FormAt}
+use Rattle.ll_bank.specs.Form.{Form}
+use Rattle.ll_bank.specs.Nodes.{Nodes}
 use Rattle.ll_laws.specs.Settle.{Entry}
 use Rattle.ll_laws.specs.Attempt.{entry_at}
+use Rattle.ll_laws.specs.Consistent.{labels_differ}
+use Rattle.ll_laws.proofs.SubLaws.{and_left, and_right}
+use Rattle.ll_freeze.specs.Parts.{Parts}
+use Rattle.ll_freeze.specs.Fits.{Fits}
+use Rattle.ll_freeze.specs.Shown.{shown_entry, state_of}
+use Rattle.ll_engine.specs.Taking.{AreFoundByLabel}
 
 -- the first entry with another label is passed
 pub passed : (es : List (Entry FormAt)) (i j : ℕ) (e : Entry FormAt) (label : ℕ) → j ≡ i + 1 → slice_get es i ≡ Some e → nat_eq e.label label ≡ false → entry_at (drop j es) label ≡ entry_at (drop i es) label
@@ -28,3 +41,48 @@ replicate_push x zero zero e = absurd (omega arith)
 replicate_push x zero (suc m) e = let z : m ≡ 0 = omega arith in ap (λ k. x ∷ replicate k x) z
 replicate_push x (suc n) zero e = absurd (omega arith)
 replicate_push x (suc n) (suc m) e = ap (λ xs. x ∷ xs) (replicate_push x n m (omega arith))
+
+-- ---- the entry with a label, by its place
+
+-- an entry with the label is the one
+pub found_at_place : (es : List (Entry FormAt)) (i : ℕ) (e : Entry FormAt) (label : ℕ) → AreFoundByLabel es → slice_get es i ≡ Some e → e.label ≡ label → entry_at es label ≡ Some e
+found_at_place es i e label own h q =
+    let inside = slice_get_within es i e h in
+    let read : Some (slice_index_or es i e) ≡ Some e = sym (slice_get-get_or es i e inside) ∙ h in
+    let same : slice_index_or es i e ≡ e = cc in
+    subst (λ (l : ℕ). entry_at es l ≡ Some e) q (subst (λ (d : Entry FormAt). entry_at es d.label ≡ Some d) same (own i e inside))
+
+module _ (bank : Nodes) (bound : List (Option At)) where
+  abbrev shown : List (Entry FormAt) → List (Entry Form)
+  shown es = map (shown_entry bank bound) es
+
+  others_differ : (label : ℕ) (es : List (Entry FormAt)) → list_any (λ d. nat_eq label d.label) (shown es) ≡ false → All (λ (d : Entry FormAt). nat_eq label d.label ≡ false) es
+  others_differ label [] h = λ i d l. absurd (omega arith)
+  others_differ label (d ∷ es) h =
+      All-cons (λ (x : Entry FormAt). nat_eq label x.label ≡ false) d es (left (nat_eq label d.label) h) (others_differ label es (right (nat_eq label d.label) h))
+    where
+      left : (b : Bool) → b || list_any (λ x. nat_eq label x.label) (shown es) ≡ false → b ≡ false
+      left true h = cc
+      left false h = refl
+
+      right : (b : Bool) → b || list_any (λ x. nat_eq label x.label) (shown es) ≡ false → list_any (λ x. nat_eq label x.label) (shown es) ≡ false
+      right true h = cc
+      right false h = h
+
+  not_true : (b : Bool) → not b ≡ true → b ≡ false
+  not_true true h = cc
+  not_true false h = refl
+
+  found_by : (es : List (Entry FormAt)) → labels_differ (shown es) ≡ true → AreFoundByLabel es
+  found_by [] h = λ i d l. absurd (omega arith)
+  found_by (e ∷ es) h =
+      let any = list_any (λ d. nat_eq e.label d.label) (shown es) in
+      let others = others_differ e.label es (not_true any (and_left (not any) (labels_differ (shown es)) h)) in
+      let rest = found_by es (and_right (not any) (labels_differ (shown es)) h) in
+      All-cons (λ (d : Entry FormAt). entry_at (e ∷ es) d.label ≡ Some d) e es (ap (λ b. if b then Some e else entry_at es e.label) (eq-eqb e.label e.label refl))
+      (λ i d l. ap (λ b. if b then Some e else entry_at es (slice_index_or es i d).label) (others i d l) ∙ rest i d l)
+
+-- the labels of a machine's entries differ
+pub found_by_label : (m : Parts) → Fits m → AreFoundByLabel m.resources.entries
+unfolding state_of
+found_by_label m f = found_by m.bank m.bound m.resources.entries f.consistent.labels_differ

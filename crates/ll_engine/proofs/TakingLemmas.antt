@@ -20,7 +20,7 @@ use Rattle.ll_laws.specs.Settle.{Saved, Entry, map_entry}
 use Rattle.ll_laws.specs.State.{sub_item, sub_entry}
 use Rattle.ll_laws.specs.Unify.{Solved, mgu, vars_below}
 use Rattle.ll_laws.specs.Attempt.{vars_from, entry_at, picked, instantiated, with_leaf, take_way, take_entry, attempt_agenda, attempt}
-use Rattle.ll_laws.specs.Problem.{setting_of}
+use Rattle.ll_laws.specs.Problem.{ProblemTree, setting_of}
 use Rattle.ll_laws.specs.Valid.{Allowed, IsFormula, IsValid, GoalSide, ClauseSide}
 use Rattle.ll_laws.specs.Consistent.{IsConsistent, allowed_in, is_made}
 use Rattle.ll_laws.proofs.SubLaws.{IsClosing, ways-sub, sub_leaf, sub_premise, sub_same, and_left}
@@ -31,6 +31,8 @@ use Rattle.ll_laws.proofs.ConsistentForms.{fits_of_formula, fits-more}
 use Rattle.ll_laws.proofs.ConsistentContexts.{formula-more}
 use Rattle.ll_laws.proofs.ConsistentLeaves.{LeafFits, leaf-fits}
 use Rattle.ll_laws.proofs.ConsistentSteps.{steps_consistent}
+use Rattle.ll_freeze.specs.Resting.{RestsOn}
+use Rattle.ll_freeze.proofs.Resting.{step_rests}
 use Rattle.ll_agenda.specs.declared.agenda.Top.{Top as AgendaTop}
 use Rattle.ll_resources.specs.Resources.{Resources, after_pick}
 use Rattle.ll_agenda.specs.Frames.{Frames, HasTop, items_at}
@@ -375,6 +377,8 @@ module _ (m : Parts) (f : Fits m) where
         fits_new = record {
           valid = subst IsValid (sym t.problem) f.valid;
           consistent = consistent;
+          rests = subst (λ (p : ProblemTree). RestsOn p.clauses (state_of new)) (sym t.problem)
+              (step_rests (length m.problem.names) m.problem.modules m.problem.clauses f.valid.clauses (setting m) (state_of m) (state_of new) (record { label = label; leaf = k }) gives f.rests);
           count = (let c = t.count in let a = length-append m.levels (replicate o.count m.eigens) in let b = length-replicate o.count m.eigens in let d = level_count in omega arith);
           bound = t.inside;
           ordered = t.ordered;

@@ -8,7 +8,7 @@ use Rattle.ll_laws.specs.declared.Candidate.{Candidate}
 use Rattle.ll_laws.specs.Leaf.{ways}
 use Rattle.ll_laws.specs.Settle.{Entry, map_entry}
 use Rattle.ll_laws.specs.Attempt.{is_open}
-use Rattle.ll_engine.specs.declared.candidates.Predicate.{Predicate}
+use Rattle.ll_engine.specs.declared.heads.Predicate.{Predicate}
 
 -- the predicate of a term, none where it has no head
 abbrev pub IsPredicate : Term → Option Predicate → Type 0
@@ -35,14 +35,14 @@ heads (Exists f) = []
 heads (Use m ts f) = []
 heads (Num r t u) = []
 
--- the leaves from leaf k on whose heads have the predicate
-abbrev pub head_tries : Predicate → ℕ → ℕ → List Term → List Candidate
-head_tries p label k [] = []
-head_tries p label k (h ∷ hs) = if has_predicate p h then record { label = label; leaf = k } ∷ head_tries p label (suc k) hs else head_tries p label (suc k) hs
+-- the leaves from leaf k on whose heads pass a test
+abbrev pub head_tries : (Term → Bool) → ℕ → ℕ → List Term → List Candidate
+head_tries test label k [] = []
+head_tries test label k (h ∷ hs) = if test h then record { label = label; leaf = k } ∷ head_tries test label (suc k) hs else head_tries test label (suc k) hs
 
--- the candidates for an atom with the predicate among the leaves of an entry
-abbrev pub open_tries : Predicate → Entry Form → List Candidate
-open_tries p e = if is_open e then head_tries p e.label 0 (heads e.clause) else []
+-- the leaves of an entry that may be picked whose heads pass a test
+abbrev pub open_tries : (Term → Bool) → Entry Form → List Candidate
+open_tries test e = if is_open e then head_tries test e.label 0 (heads e.clause) else []
 
 -- an entry with its clause as it stands in the bank
 abbrev pub standing_entry : Nodes → Entry FormAt → Entry Form

@@ -1,5 +1,6 @@
 pub mod Attempts
 pub mod Leaves
+pub mod Matches
 pub mod Seen
 pub mod Owed
 pub mod Healthy

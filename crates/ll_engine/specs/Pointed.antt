@@ -1,6 +1,7 @@
 -- Choice points, which are marks of a machine with the candidates not tried yet.
 use Rattle.std.specs.Prelude.{◌-◌, ◌<◌, ◌≡◌, ◌≢◌, Bool, true, false, List, [], ◌∷◌, reverse, map, All, Option, Some, None}
 use Rattle.std.specs.List.{Contains}
+use Rattle.std.specs.Arc.{arc_value}
 use Rattle.ll_laws.specs.declared.Candidate.{Candidate}
 use Rattle.ll_laws.specs.Attempt.{tries}
 use Rattle.ll_laws.specs.State.{State}
@@ -11,6 +12,7 @@ use Rattle.ll_engine.specs.declared.spine.Kept.{Kept}
 use Rattle.ll_engine.specs.declared.spine.Spine.{Spine as Stored}
 use Rattle.ll_freeze.specs.Shown.{state_of}
 use Rattle.ll_freeze.specs.Fits.{Fits}
+use Rattle.ll_freeze.specs.Indexed.{IsIndexOf}
 use Rattle.ll_engine.specs.Seen.{Point, Spine}
 use Rattle.ll_engine.specs.Owed.{put_point}
 use Rattle.ll_engine.specs.Turned.{is_empty, Chose}
@@ -92,6 +94,7 @@ pub record AreMarks (m : Machine) (ps : List Kept) : Type 0 where
   pub rise : Rises ps
 
 pub record IsSound (running : Bool) (z : Stored) : Type 0 where
+  pub index : IsIndexOf z.problem.now (arc_value z.index)
   pub sound : IsSoundAt running z.problem.now (parts_of z.machine) (helds z.machine z.points.items)
   pub marks : AreMarks z.machine z.points.items
 

@@ -1,91 +1,174 @@
 //! The candidates for a goal.
-ghost use Rattle.std.specs.Prelude.{◌≡◌, ◌+◌, ◌<◌, ◌++◌, [], true, length, All, IfOk, OnOk, map, flat_map};
-ghost use Rattle.ll_bank.specs.Nodes.{term_tree, form_tree, HasTerm, HasForm};
+ghost use Rattle.std.specs.Prelude.{◌≡◌, ◌+◌, ◌^◌, ◌≤◌, ◌<◌, ◌++◌, [], Some, length, All, IfOk, OnOk, map, flat_map, take, drop};
+ghost use Rattle.ll_bank.specs.declared.Head.TheVariants.{Name};
+ghost use Rattle.ll_bank.specs.Nodes.{form_tree, HasForm};
+ghost use Rattle.ll_bank.specs.Term.{Term, head_of, arity};
+ghost use Rattle.ll_bindings.specs.Bindings.{IsTable};
+ghost use Rattle.ll_store.specs.Tables.{table_of};
 ghost use Rattle.ll_laws.specs.Leaf.{ways};
+ghost use Rattle.ll_laws.specs.Attempt.{is_open};
+ghost use Rattle.ll_resources.specs.Seen.{resource};
+ghost use Rattle.ll_index.specs.Context.{AreOfProgram};
+ghost use Rattle.ll_index.specs.First.{entry_matches};
 ghost use Rattle.ll_freeze.specs.Parts.{parts_of};
 ghost use Rattle.ll_freeze.specs.Shown.{state_of};
 ghost use Rattle.ll_freeze.specs.Fits.{Fits};
-ghost use Rattle.ll_engine.specs.Leaves.{IsPredicate, has_predicate, heads, head_tries, open_tries, standing_entry};
-ghost use Rattle.ll_laws.specs.Attempt.{tries, entry_tries, goal_tries};
-ghost use Rattle.ll_laws.specs.Valid.{places_below, free_below};
-ghost use Rattle.ll_resources.specs.Seen.{resource};
+ghost use Rattle.ll_freeze.specs.Indexed.{IsIndexOf};
+ghost use Rattle.ll_engine.specs.Front.{HasAtom};
+ghost use Rattle.ll_engine.specs.Leaves.{heads, head_tries, open_tries, standing_entry};
+ghost use Rattle.ll_engine.specs.Matches.{matches, head_fits, HeadsHaveCells, all_found, shown_context};
 
-use ll_bank::{At, Bank, FormAt, FormNode, Head, OutOfMemory, TermView};
+use crate::found::Found;
+use crate::heads::{Asked, asked_by, can_match, in_32_bits};
+use ll_bank::{At, Bank, FormAt, FormNode, Head, OutOfMemory};
 use ll_freeze::{Item, Machine};
+use ll_index::Index;
 use ll_laws::{Candidate, Kind};
 use ll_resources::{Context, Entry};
+use ll_store::Store;
 use std::alloc::{AllocError, Global};
 
-/// The candidates for the goal in front, in the order in which they are tried; none where no goal is in front.
-pub fn candidates(machine: &Machine<'_>, alloc: Global) -> Result<Vec<Candidate>, OutOfMemory>
-    requires { Fits (parts_of machine.now) }
-    ensures { IfOk result (λ found. found.items ≡ tries (state_of (parts_of machine.now))) }
+/// The candidates for the goal in front that can match, in the order in which they are tried; none where no goal is in front.
+///
+/// Those of loaded entries are found by a walk, those of the program's clauses by the index. A single one takes no memory.
+pub fn candidates(machine: &Machine<'_>, index: &Index, alloc: Global) -> Result<Found, OutOfMemory>
+    requires fits { Fits (parts_of machine.now) }
+    requires index { IsIndexOf machine.now.problem.now index.now }
+    ensures { IfOk result (λ found. all_found found ≡ matches (state_of (parts_of machine.now))) }
 {
     let Some((item, _)) = machine.agenda.item(machine.top) else {
-        return Ok(Vec::new(alloc));
+        return Ok(Found::none(alloc));
     };
-    match item {
-        Item::Goal(goal) => {
-            let found = goal_candidates(alloc, &machine.store.bank, &machine.context, goal)?;
+    let Item::Goal(goal) = item else {
+        return Ok(Found::none(alloc));
+    };
+    match machine.store.bank.form_at(goal) {
+        FormNode::Atom(atom) => atom_candidates(machine, index, alloc, atom),
+        FormNode::Plus(_, _) => {
+            let mut found = Found::one(alloc, Candidate { label: 0, leaf: 0 });
+            found.push(Candidate { label: 0, leaf: 1 })?;
             Ok(found)
         }
-        _ => Ok(Vec::new(alloc)),
+        _ => Ok(Found::one(alloc, Candidate { label: 0, leaf: 0 })),
     }
 }
 
-/// A head with a number of arguments.
-#[derive(Clone, Copy, PartialEq, Eq)]
-pub struct Predicate {
-    pub head: Head,
-    pub arity: usize,
-}
-
-/// The predicate of a term as it stands.
-fn predicate_at(bank: &Bank, at: At) -> Option<Predicate>
-    requires { HasTerm bank.now at.0 }
-    ensures { IsPredicate (term_tree bank.now at.0) result }
+/// The candidates for the atom in front that can match, in order.
+fn atom_candidates(
+    machine: &Machine<'_>,
+    index: &Index,
+    alloc: Global,
+    atom: At,
+) -> Result<Found, OutOfMemory>
+    requires fits { Fits (parts_of machine.now) }
+    requires index { IsIndexOf machine.now.problem.now index.now }
+    requires front { HasAtom (parts_of machine.now) atom }
+    ensures { IfOk result (λ found. all_found found ≡ matches (state_of (parts_of machine.now))) }
 {
-    match bank.term_at(at) {
-        TermView::Var(_) => None,
-        TermView::Int(_) => None,
-        TermView::App(head, args) => Some(Predicate {
-            head,
-            arity: args.len(),
-        }),
+    let mut found = Found::none(alloc);
+    let Some(asked) = asked_by(&machine.store, atom)? else {
+        return Ok(found);
+    };
+    let problem = machine.problem;
+    let loaded = machine.context.len() - problem.clauses.len();
+    add_loaded(
+        alloc,
+        &machine.store,
+        &machine.context,
+        asked,
+        loaded,
+        &mut found,
+    )?;
+    if let Head::Name(name) = asked.predicate.head {
+        add_program(machine, index, loaded, name, asked, &mut found)?;
     }
+    Ok(found)
 }
 
-/// Whether a term has a predicate.
-fn has_predicate(bank: &Bank, at: At, predicate: Predicate) -> bool
-    requires { HasTerm bank.now at.0 }
-    ensures { result ≡ has_predicate predicate (term_tree bank.now at.0) }
+/// Adds the candidates among the first entries of a context.
+fn add_loaded(
+    alloc: Global,
+    store: &Store,
+    context: &Context<FormAt>,
+    asked: Asked,
+    count: usize,
+    found: &mut Found,
+) -> Result<(), OutOfMemory>
+    requires table { IsTable store.now.bank (table_of store.now.cells.cells) }
+    requires count { count ≤ length context.now.present.entries }
+    requires inside { All (λ e. HasForm store.now.bank e.clause.0) context.now.present.entries }
+    requires cells { All (λ e. HeadsHaveCells store.now e.clause) context.now.present.entries }
+    ensures { OnOk result (all_found found.new ≡ all_found found.old ++ flat_map (open_tries (head_fits store.now asked)) (map (standing_entry store.now.bank) (take count context.now.present.entries))) }
 {
-    match predicate_at(bank, at) {
-        Some(other) => predicate.head == other.head && predicate.arity == other.arity,
-        None => false,
+    let mut waiting = Vec::new(alloc);
+    for from_front in 0..count {
+        let entry = context.entry(from_front);
+        add_entry(store, asked, entry, &mut waiting, found)?;
+    }
+    Ok(())
+}
+
+/// Adds the candidates of an entry. `waiting` is as for `add_leaves`.
+fn add_entry(
+    store: &Store,
+    asked: Asked,
+    entry: Entry<FormAt>,
+    waiting: &mut Vec<FormAt>,
+    found: &mut Found,
+) -> Result<(), OutOfMemory>
+    requires table { IsTable store.now.bank (table_of store.now.cells.cells) }
+    requires inside { HasForm store.now.bank entry.clause.0 }
+    requires cells { HeadsHaveCells store.now entry.clause }
+    requires none { waiting.old.items ≡ [] }
+    ensures found { OnOk result (all_found found.new ≡ all_found found.old ++ open_tries (head_fits store.now asked) (standing_entry store.now.bank (resource entry))) }
+    ensures none { OnOk result (waiting.new.items ≡ []) }
+{
+    if !is_open(entry) {
+        return Ok(());
+    }
+    match store.bank.form_at(entry.clause) {
+        FormNode::Atom(head) => {
+            if can_match(store, asked, head)? {
+                found.push(Candidate {
+                    label: entry.label,
+                    leaf: 0,
+                })?;
+            }
+            Ok(())
+        }
+        _ => add_leaves(store, asked, entry.label, entry.clause, waiting, found),
     }
 }
 
-/// Adds the leaves of a clause whose heads have a predicate, from left to right. `waiting` is a list to work with, empty before and after.
-pub fn add_leaves(
-    bank: &Bank,
-    predicate: Predicate,
+/// Whether an entry can be picked: an unbounded one, or a linear one that is live.
+fn is_open(entry: Entry<FormAt>) -> bool
+    ensures { result ≡ is_open (resource entry) }
+{
+    entry.kind == Kind::Unbounded || entry.live
+}
+
+/// Adds the leaves of a clause whose heads can match, from left to right. `waiting` is a list to work with, empty before and after.
+fn add_leaves(
+    store: &Store,
+    asked: Asked,
     label: u32,
     clause: FormAt,
     waiting: &mut Vec<FormAt>,
-    found: &mut Vec<Candidate>,
+    found: &mut Found,
 ) -> Result<(), OutOfMemory>
-    requires inside { HasForm bank.now clause.0 }
+    requires table { IsTable store.now.bank (table_of store.now.cells.cells) }
+    requires inside { HasForm store.now.bank clause.0 }
+    requires cells { HeadsHaveCells store.now clause }
     requires none { waiting.old.items ≡ [] }
-    ensures found { OnOk result (found.new.items ≡ found.old.items ++ head_tries predicate label 0 (heads (form_tree bank.now clause.0))) }
+    ensures found { OnOk result (all_found found.new ≡ all_found found.old ++ head_tries (head_fits store.now asked) label 0 (heads (form_tree store.now.bank clause.0))) }
     ensures none { OnOk result (waiting.new.items ≡ []) }
 {
     waiting.push(clause)?;
     let mut leaf = 0;
     while let Some(form) = waiting.pop() {
-        match bank.form_at(form) {
+        match store.bank.form_at(form) {
             FormNode::Atom(head) => {
-                if has_predicate(bank, head, predicate) {
+                if can_match(store, asked, head)? {
                     found.push(Candidate { label, leaf })?;
                 }
                 leaf = next_leaf(leaf)?;
@@ -103,6 +186,36 @@ pub fn add_leaves(
     Ok(())
 }
 
+/// Adds the candidates among the program's clauses, whose entries come behind so many loaded ones. Entries that can't be picked are left
+/// out.
+fn add_program(
+    machine: &Machine<'_>,
+    index: &Index,
+    loaded: usize,
+    name: u32,
+    asked: Asked,
+    found: &mut Found,
+) -> Result<(), OutOfMemory>
+    requires index { IsIndexOf machine.now.problem.now index.now }
+    requires room { length machine.now.context.present.entries < 2 ^ 64 }
+    requires program { AreOfProgram 0 machine.now.problem.now.clauses (drop loaded (shown_context (parts_of machine.now))) }
+    ensures { (atom : Term) → head_of atom ≡ Some (Name name) → arity atom ≡ asked.predicate.arity
+        → OnOk result (all_found found.new ≡ all_found found.old ++ flat_map (entry_matches asked.first atom) (drop loaded (shown_context (parts_of machine.now)))) }
+{
+    let arity = in_32_bits(asked.predicate.arity)?;
+    let mut cursor = index.candidates(name, arity, asked.first);
+    while let Some((leaf, next)) = index.next(cursor) {
+        let entry = machine
+            .context
+            .entry(loaded + leaf.candidate.label as usize);
+        if is_open(entry) {
+            found.push(leaf.candidate)?;
+        }
+        cursor = next;
+    }
+    Ok(())
+}
+
 /// The number after that of a leaf. No clause of a problem has so many leaves that there is none.
 fn next_leaf(leaf: u32) -> Result<u32, OutOfMemory>
     ensures { IfOk result (λ next. next ≡ leaf + 1) }
@@ -110,80 +223,6 @@ fn next_leaf(leaf: u32) -> Result<u32, OutOfMemory>
     match leaf.checked_add(1) {
         Some(next) => Ok(next),
         None => Err(AllocError),
-    }
-}
-
-/// Adds the candidates of an entry for an atom with a predicate. `waiting` is as for `add_leaves`.
-fn add_entry(
-    bank: &Bank,
-    predicate: Predicate,
-    entry: Entry<FormAt>,
-    waiting: &mut Vec<FormAt>,
-    found: &mut Vec<Candidate>,
-) -> Result<(), OutOfMemory>
-    requires inside { HasForm bank.now entry.clause.0 }
-    requires none { waiting.old.items ≡ [] }
-    ensures found { OnOk result (found.new.items ≡ found.old.items ++ open_tries predicate (standing_entry bank.now (resource entry))) }
-    ensures none { OnOk result (waiting.new.items ≡ []) }
-{
-    if entry.kind == Kind::Linear && !entry.live {
-        return Ok(());
-    }
-    add_leaves(bank, predicate, entry.label, entry.clause, waiting, found)
-}
-
-/// The candidates for an atom among the entries of a context, in order.
-pub fn atom_candidates(
-    alloc: Global,
-    bank: &Bank,
-    context: &Context<FormAt>,
-    atom: At,
-) -> Result<Vec<Candidate>, OutOfMemory>
-    requires inside { HasTerm bank.now atom.0 }
-    requires free { places_below 0 (term_tree bank.now atom.0) ≡ true }
-    requires clauses { All (λ e. HasForm bank.now e.clause.0) context.now.present.entries }
-    ensures { IfOk result (λ found. found.items ≡ flat_map (entry_tries (term_tree bank.now atom.0)) (map (standing_entry bank.now) context.now.present.entries)) }
-{
-    let mut found = Vec::new(alloc);
-    let Some(predicate) = predicate_at(bank, atom) else {
-        return Ok(found);
-    };
-    let mut waiting = Vec::new(alloc);
-    for from_front in 0..context.len() {
-        let entry = context.entry(from_front);
-        add_entry(bank, predicate, entry, &mut waiting, &mut found)?;
-    }
-    Ok(found)
-}
-
-/// The candidates for a goal in a context, in the order in which they are tried.
-pub fn goal_candidates(
-    alloc: Global,
-    bank: &Bank,
-    context: &Context<FormAt>,
-    goal: FormAt,
-) -> Result<Vec<Candidate>, OutOfMemory>
-    requires inside { HasForm bank.now goal.0 }
-    requires free { free_below 0 (form_tree bank.now goal.0) ≡ true }
-    requires clauses { All (λ e. HasForm bank.now e.clause.0) context.now.present.entries }
-    ensures { IfOk result (λ found. found.items ≡ goal_tries (map (standing_entry bank.now) context.now.present.entries) (form_tree bank.now goal.0)) }
-{
-    match bank.form_at(goal) {
-        FormNode::Atom(atom) => {
-            let found = atom_candidates(alloc, bank, context, atom)?;
-            Ok(found)
-        }
-        FormNode::Plus(_, _) => {
-            let mut found = Vec::new(alloc);
-            found.push(Candidate { label: 0, leaf: 0 })?;
-            found.push(Candidate { label: 0, leaf: 1 })?;
-            Ok(found)
-        }
-        _ => {
-            let mut found = Vec::new(alloc);
-            found.push(Candidate { label: 0, leaf: 0 })?;
-            Ok(found)
-        }
     }
 }
 

@@ -6,6 +6,8 @@ mod attempt;
 mod candidates;
 mod connectives;
 mod engine;
+mod found;
+mod heads;
 mod numbers;
 mod open;
 mod quantifiers;

@@ -1,6 +1,8 @@
 //! Machines that begin with an alternative of a frozen choice point.
 ghost use Rattle.std.specs.Prelude.{◌≡◌, ◌<◌, length, IfOk};
+ghost use Rattle.std.specs.Arc.{arc_value};
 ghost use Rattle.ll_freeze.specs.Parts.{parts_of};
+ghost use Rattle.ll_freeze.specs.Indexed.{IsIndexOf};
 ghost use Rattle.ll_freeze.specs.Frozen.{alternatives_in, Thaws};
 ghost use Rattle.ll_engine.specs.Pointed.{spine_of, IsSound};
 ghost use Rattle.ll_engine.specs.Begun.{BeginsIn, Begins};
@@ -9,10 +11,12 @@ use crate::attempt::attempt;
 use crate::spine::Spine;
 use ll_bank::OutOfMemory;
 use ll_freeze::{Frozen, Machine};
+use ll_index::Index;
 use ll_laws::Problem;
 use std::alloc::Global;
 use std::collections::VecDeque;
 use std::snapshot::Snapshot;
+use std::sync::Arc;
 
 impl<'p> Spine<'p> {
     /// The state that an alternative gives, with no choice point; that of the start is the one in which the search starts.
@@ -27,18 +31,36 @@ impl<'p> Spine<'p> {
         ensures sound { IfOk result (λ z. IsSound z.began z) }
         ensures begins { IfOk result (λ z. Begins frozen.now k z.began (spine_of z)) }
     {
+        let index = index_of(alloc, problem, frozen)?;
         let mut machine = frozen.thaw(k)?;
         let began = begin(&mut machine, alloc, frozen, k)?;
         let origin = Snapshot::of(&machine);
         Ok(Spine {
             alloc,
             problem,
+            index,
             machine,
             points: VecDeque::new(alloc),
             origin,
             began,
         })
     }
+}
+
+// The index that goes with a frozen choice point of a problem, or one that is made.
+fn index_of(
+    alloc: Global,
+    problem: &Problem,
+    frozen: &Frozen<'_>,
+) -> Result<Arc<Index>, OutOfMemory>
+    requires of { frozen.now.problem ≡ problem.now }
+    ensures { IfOk result (λ index. IsIndexOf problem.now (arc_value index)) }
+{
+    if let Some(index) = frozen.index()? {
+        return Ok(index);
+    }
+    let index = Index::build(alloc, problem)?;
+    Ok(Arc::new(alloc, index)?)
 }
 
 // Makes the inference of an alternative in its state, if it is not the start; false where it gives nothing.

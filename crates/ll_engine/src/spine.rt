@@ -1,10 +1,12 @@
 //! A machine with its choice points, which are marks of it.
-ghost use Rattle.std.specs.Prelude.{◌≡◌, ◌<◌, true, false, IfOk};
+ghost use Rattle.std.specs.Prelude.{◌≡◌, ◌<◌, ◌++◌, ◌∷◌, [], true, false, IfOk};
+ghost use Rattle.std.specs.Arc.{arc_value};
 ghost use Rattle.ll_laws.specs.Valid.{IsValid};
 ghost use Rattle.ll_laws.specs.Problem.{start_of};
 ghost use Rattle.ll_freeze.specs.Parts.{parts_of};
 ghost use Rattle.ll_freeze.specs.Shown.{state_of};
 ghost use Rattle.ll_freeze.specs.Fits.{Fits};
+ghost use Rattle.ll_freeze.specs.Indexed.{IsIndexOf};
 ghost use Rattle.ll_engine.specs.Pointed.{spine_of, helds, IsSound, IsOpen, AreKept, AreMarks, AreTries, Puts, KeepsKept, ChoseOf};
 ghost use Rattle.ll_engine.specs.Turned.{has_none, is_empty, answers, starting, Settles, Expands, Retries};
 
@@ -14,13 +16,15 @@ use crate::candidates::candidates;
 use crate::settle::settle;
 use ll_bank::OutOfMemory;
 use ll_freeze::{ChoiceMark, Machine};
+use ll_index::Index;
 use ll_laws::{Branch, Candidate, Problem};
 use std::alloc::Global;
 use std::collections::VecDeque;
 use std::snapshot::Snapshot;
+use std::sync::Arc;
 
-/// A choice point: a mark of the machine as it was settled, with a goal in front, and the candidates not tried yet, the first one last.
-/// There is one.
+/// A choice point: a mark of the machine as it was settled, with a goal in front, and the candidates not tried yet that can match, the
+/// first one last. There is one.
 #[derive(Drop)]
 pub struct Kept {
     pub mark: ChoiceMark,
@@ -32,6 +36,8 @@ pub struct Kept {
 pub struct Spine<'p> {
     pub alloc: Global,
     pub problem: &'p Problem,
+    /// Of the problem's clauses.
+    pub index: Arc<Index>,
     pub machine: Machine<'p>,
     /// The newest one last. Each has an untried candidate.
     pub points: VecDeque<Kept>,
@@ -49,10 +55,12 @@ impl<'p> Spine<'p> {
         ensures start { IfOk result (λ z. spine_of z ≡ starting problem.entry.now (start_of problem.entry.now)) }
     {
         let machine = Machine::start(alloc, problem)?;
+        let index = Index::build(alloc, problem)?;
         let origin = Snapshot::of(&machine);
         Ok(Spine {
             alloc,
             problem,
+            index: Arc::new(alloc, index)?,
             machine,
             points: VecDeque::new(alloc),
             origin,
@@ -101,7 +109,8 @@ impl<'p> Spine<'p> {
         branch(&self.machine, self.alloc)
     }
 
-    /// Takes the first goal apart by its first candidate, and keeps the others in a choice point; false where it gives nothing.
+    /// Takes the first goal apart by its first candidate that can match, and keeps the others in a choice point; false where it gives
+    /// nothing, or there is none.
     pub fn expand(&mut self) -> Result<bool, OutOfMemory>
         requires sound { IsSound true self.old }
         requires goal { is_empty (state_of (parts_of self.old.machine)).agenda ≡ false }
@@ -109,9 +118,11 @@ impl<'p> Spine<'p> {
         ensures sound { IfOk result (λ running. IsSound running self.new) }
         ensures expands { IfOk result (λ running. Expands (spine_of self.old) running (spine_of self.new)) }
     {
-        let mut untried = candidates(&self.machine, self.alloc)?;
-        untried.reverse();
-        let running = self.choose(untried)?;
+        let found = candidates(&self.machine, &self.index, self.alloc)?;
+        let Some((candidate, untried)) = found.split() else {
+            return Ok(false);
+        };
+        let running = self.choose(candidate, untried)?;
         Ok(running)
     }
 
@@ -129,34 +140,32 @@ impl<'p> Spine<'p> {
         ensures sound { IfOk result (λ running. IsSound running self.new) }
         ensures retries { IfOk result (λ running. Retries (spine_of self.old) running (spine_of self.new)) }
     {
-        match self.points.pop_back() {
-            None => unreachable!(),
-            Some(kept) => {
-                self.machine.undo(kept.mark);
-                let running = self.choose(kept.untried)?;
-                Ok(running)
-            }
-        }
+        let Some(kept) = self.points.pop_back() else {
+            unreachable!()
+        };
+        let mut untried = kept.untried;
+        let Some(candidate) = untried.pop() else {
+            unreachable!()
+        };
+        self.machine.undo(kept.mark);
+        let running = self.choose(candidate, untried)?;
+        Ok(running)
     }
 
-    // Takes the first goal apart by the last of these candidates, and keeps the others in a choice point; false where it gives
-    // nothing, or there is none.
-    fn choose(&mut self, mut untried: Vec<Candidate>) -> Result<bool, OutOfMemory>
+    // Takes the first goal apart by this candidate, and keeps the others, the first one last, in a choice point; false where it gives
+    // nothing.
+    fn choose(&mut self, candidate: Candidate, untried: Vec<Candidate>) -> Result<bool, OutOfMemory>
         requires open { IsOpen self.old.problem.now (parts_of self.old.machine) }
-        requires tries { AreTries (parts_of self.old.machine) untried.items }
+        requires index { IsIndexOf self.old.problem.now (arc_value self.old.index) }
+        requires tries { AreTries (parts_of self.old.machine) (untried.items ++ candidate ∷ []) }
         requires points { AreKept self.old.problem.now (helds self.old.machine self.old.points.items) }
         requires marks { AreMarks self.old.machine self.old.points.items }
         ensures sound { IfOk result (λ running. IsSound running self.new) }
-        ensures chose { IfOk result (λ running. ChoseOf self.old untried.items running self.new) }
+        ensures chose { IfOk result (λ running. ChoseOf self.old (untried.items ++ candidate ∷ []) running self.new) }
     {
-        match untried.pop() {
-            None => Ok(false),
-            Some(candidate) => {
-                keep(&mut self.points, &self.machine, untried)?;
-                let running = attempt(&mut self.machine, self.alloc, candidate)?;
-                Ok(running)
-            }
-        }
+        keep(&mut self.points, &self.machine, untried)?;
+        let running = attempt(&mut self.machine, self.alloc, candidate)?;
+        Ok(running)
     }
 }
 

@@ -1,5 +1,7 @@
 //! Choice points that are split off a machine, for others to work on.
 ghost use Rattle.std.specs.Prelude.{◌≡◌, false, reverse, IfOk};
+ghost use Rattle.std.specs.Arc.{arc_value};
+ghost use Rattle.ll_freeze.specs.Indexed.{IsIndexOf};
 ghost use Rattle.ll_freeze.specs.Parts.{parts_of, parts_at, IsGood};
 ghost use Rattle.ll_freeze.specs.Frozen.{sight_of};
 ghost use Rattle.ll_engine.specs.Pointed.{spine_of, helds, held_of, IsSound, IsKept, AreKept, AreMarks};
@@ -10,10 +12,12 @@ use crate::spine::{Kept, Spine};
 use ll_bank::OutOfMemory;
 use ll_freeze::{Frozen, Machine};
 use std::alloc::AllocError;
+use std::sync::Arc;
 
 impl<'p> Spine<'p> {
     /// Takes the oldest choice point away, as a batch of its own. Where it has more candidates than a `u32` counts, memory is wanting.
     pub fn split(&mut self) -> Result<Frozen<'p>, OutOfMemory>
+        requires index { IsIndexOf self.old.problem.now (arc_value self.old.index) }
         requires kept { AreKept self.old.problem.now (helds self.old.machine self.old.points.items) }
         requires marks { AreMarks self.old.machine self.old.points.items }
         requires points { has_none (spine_of self.old).points ≡ false }
@@ -24,7 +28,8 @@ impl<'p> Spine<'p> {
             None => unreachable!(),
             Some(kept) => {
                 let batch = frozen(&self.machine, kept)?;
-                Ok(batch)
+                let index = Arc::try_clone(&self.index)?;
+                Ok(batch.with_index(index))
             }
         }
     }

@@ -1,5 +1,5 @@
 //! Parts of an inference on an atom.
-ghost use Rattle.std.specs.Prelude.{◌≡◌, ◌<◌, ◌≤◌, ℕ, true, ◌++◌, ◌∷◌, [], length, Some, None, IfOk, OnOk, option_map, replicate};
+ghost use Rattle.std.specs.Prelude.{◌≡◌, ◌<◌, ◌≤◌, ℕ, true, ◌++◌, ◌∷◌, [], length, Some, None, IfOk, IfSome, OnOk, option_map, replicate};
 ghost use Rattle.ll_bank.specs.Term.{close, applies_heads};
 ghost use Rattle.ll_bank.specs.Nodes.{form_tree, term_tree, HasTerm, AllInTerms, Extends};
 ghost use Rattle.ll_close.specs.Closing.{env_of};
@@ -14,7 +14,7 @@ ghost use Rattle.ll_freeze.specs.Parts.{parts_of, Later};
 ghost use Rattle.ll_freeze.specs.Fits.{Fits};
 ghost use Rattle.ll_engine.specs.Attempts.{Attempts};
 ghost use Rattle.ll_engine.specs.Front.{IsFront};
-ghost use Rattle.ll_engine.specs.Taking.{read_in, read_closed, Unifies};
+ghost use Rattle.ll_engine.specs.Taking.{read_in, read_closed, Unifies, AreFoundByLabel};
 ghost use Rattle.ll_resources.specs.Resources.{after_pick};
 ghost use Rattle.ll_resources.specs.History.{KeepsMarks as KeepsContextMarks};
 ghost use Rattle.ll_resources.specs.Seen.{resource};
@@ -30,15 +30,37 @@ use ll_resources::{Context, Entry};
 use ll_store::Store;
 use std::alloc::Global;
 
-/// The entry with a label.
-pub fn entry_with(context: &Context<FormAt>, label: u32) -> Option<Entry<FormAt>>
+/// The entry with a label. Those of so many program clauses come last: one of them is found at its place, in constant time, and another
+/// entry by a walk from the front.
+pub fn entry_with(context: &Context<FormAt>, clauses: usize, label: u32) -> Option<Entry<FormAt>>
+    requires { AreFoundByLabel context.now.present.entries }
     ensures { option_map resource result ≡ entry_at context.now.present.entries label }
 {
+    if let Some(entry) = clause_entry(context, clauses, label) {
+        return Some(entry);
+    }
     for from_front in 0..context.len() {
         let entry = context.entry(from_front);
         if entry.label == label {
             return Some(entry);
         }
+    }
+    None
+}
+
+/// The entry with a label, if it is at the place of a program clause with this label, of which there are so many.
+fn clause_entry(context: &Context<FormAt>, clauses: usize, label: u32) -> Option<Entry<FormAt>>
+    requires { AreFoundByLabel context.now.present.entries }
+    ensures { IfSome result (λ entry. entry_at context.now.present.entries label ≡ Some (resource entry)) }
+{
+    let loaded = context.len().checked_sub(clauses)?;
+    let place = loaded.checked_add(label as usize)?;
+    if place >= context.len() {
+        return None;
+    }
+    let entry = context.entry(place);
+    if entry.label == label {
+        return Some(entry);
     }
     None
 }
@@ -133,7 +155,9 @@ pub fn take_leaf(
     ensures attempts { IfOk result (Attempts (parts_of machine.old) candidate (parts_of machine.new)) }
     ensures later { IfOk result (λ _. Later machine.old machine.new) }
 {
-    let Some(entry) = entry_with(&machine.context, candidate.label) else {
+    let problem = machine.problem;
+    let clauses = problem.clauses.len();
+    let Some(entry) = entry_with(&machine.context, clauses, candidate.label) else {
         return Ok(false);
     };
     let leaves = count_leaves(alloc, &machine.store.bank, entry.clause)?;

@@ -30,6 +30,7 @@ use Rattle.ll_freeze.specs.Reading.{read_term}
 use Rattle.ll_freeze.specs.Shown.{shown_item, shown_entry, items_of, state_of}
 use Rattle.ll_freeze.specs.Fits.{Fits, HasItem, IsGoalIn, allowed, setting}
 use Rattle.ll_freeze.specs.Calls.{SameTerms}
+use Rattle.ll_freeze.specs.Resting.{RestsOn}
 
 -- the state that parts show
 abbrev pub state_by : Nodes → List (Option At) → Resources FormAt → List Item → List ℕ → ℕ → List At → List Step → State
@@ -65,15 +66,16 @@ pub goals_moved : (may more : Allowed) (bank other : Nodes) (xs : List Item) →
 goals_moved may more bank other xs p q h =
     subst (λ (b : Nodes). All (IsGoalIn more b) xs) q (subst (λ (k : Allowed). All (IsGoalIn k bank) xs) p h)
 
-pub fits_kept : (m n : Parts) → SameTerms m n → Fits m → IsConsistent (setting m) (state_of n) → n.eigens ≡ m.eigens
+pub fits_kept : (m n : Parts) → SameTerms m n → Fits m → IsConsistent (setting m) (state_of n) → RestsOn m.problem.clauses (state_of n) → n.eigens ≡ m.eigens
     → All (λ e. HasForm m.bank e.clause.0) n.resources.entries → All (λ e. IsFormula (allowed m) ClauseSide [] (form_tree m.bank e.clause.0)) n.resources.entries
     → HasTop n.agenda n.top → All (HasItem m.bank (length n.resources.kept)) (items_of n) → All (IsGoalIn (allowed m) m.bank) (items_of n)
     → n.resources.next + n.left ≤ 2 ^ 25 → n.eigens + n.left ≤ 2 ^ 20 → Fits n
-fits_kept m n s f h x c d t i g l e =
+fits_kept m n s f h y x c d t i g l e =
     let a : allowed m ≡ allowed n = sym (same_allowed m n s x) in
     record {
       valid = rw s.problem f.valid;
       consistent = subst (λ (p : ProblemTree). IsConsistent (setting_of p) (state_of n)) (sym s.problem) h;
+      rests = subst (λ (p : ProblemTree). RestsOn p.clauses (state_of n)) (sym s.problem) y;
       count = rw (s.bound, s.levels) f.count;
       bound = rw (s.bank, s.bound) f.bound;
       ordered = rw (s.bank, s.bound, s.levels) f.ordered;

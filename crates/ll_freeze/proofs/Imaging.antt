@@ -16,6 +16,6 @@ image_of m n s r i e l st f =
       problem = s.problem;
       state = a;
       left = l;
-      fits = fits_kept m n s f (rw a f.consistent) e (rw r f.clauses) (rw r f.sorted_clauses) i.inside (rw (r, i.list) f.items) (rw i.list f.sorted_goals) (rw (r, l) f.labels)
+      fits = fits_kept m n s f (rw a f.consistent) (rw a f.rests) e (rw r f.clauses) (rw r f.sorted_clauses) i.inside (rw (r, i.list) f.items) (rw i.list f.sorted_goals) (rw (r, l) f.labels)
           (rw (e, l) f.eigens);
     }

@@ -1,5 +1,6 @@
 pub mod CallerLemmas
 pub mod Marks
+pub mod Resting
 mod Imaging
 mod Starting
 pub mod Freezing

@@ -35,6 +35,8 @@ use Rattle.ll_freeze.specs.Reading.{reading, read_term, read_form, HasValue}
 use Rattle.ll_freeze.specs.Shown.{shown_item, shown_entry, items_of, state_of}
 use Rattle.ll_freeze.specs.Fits.{HasItem, IsGoalIn, allowed, setting}
 use Rattle.ll_freeze.specs.Calls.{IsStart}
+use Rattle.ll_freeze.specs.Resting.{RestsOn}
+use Rattle.ll_freeze.proofs.Resting.{start_rests}
 use Rattle.ll_freeze.proofs.CallerLemmas.{form_same, state_is, clauses_later, modules_later, modules_has, vars_more, trees_read}
 
 -- clauses as a context takes them
@@ -192,6 +194,7 @@ starts p m goal cs n v ep eg hg ec hc en eb el ex it left eigens inside vars es 
       fits = record {
         valid = rw ep v;
         consistent = subst (λ (s : State). IsConsistent (setting m) s) (sym state) (subst (λ (q : ProblemTree). IsConsistent (setting_of q) (start_of p)) (sym ep) (starts_consistent p v));
+        rests = subst (λ (s : State). RestsOn m.problem.clauses s) (sym state) (subst (λ (q : ProblemTree). RestsOn q.clauses (start_of p)) (sym ep) (start_rests p));
         count = ap (λ (bs : List (Option At)). length bs) eb ∙ (length-replicate n None ∙ sym count);
         bound = rw eb (none_bound bank n);
         ordered = nothing_ordered bank (table m) n eb;

@@ -14,6 +14,7 @@ use Rattle.ll_freeze.specs.declared.machine.Item.{Item}
 use Rattle.ll_freeze.specs.declared.machine.Item.TheVariants.{Goal, LolliEnd, ImpEnd, Mid, WithEnd, BangEnd}
 use Rattle.ll_freeze.specs.Reading.{HasValue}
 use Rattle.ll_freeze.specs.Shown.{items_of, state_of}
+use Rattle.ll_freeze.specs.Resting.{RestsOn}
 
 -- what the search of a machine's problem looks at beside its state
 abbrev pub setting : Parts → Setting
@@ -46,6 +47,8 @@ pub record Fits (m : Parts) : Type 0 where
   pub valid : IsValid m.problem
   -- what it shows is a state as a search of its problem reaches them
   pub consistent : IsConsistent (setting m) (state_of m)
+  -- under what was loaded the program's clauses are in its context
+  pub rests : RestsOn m.problem.clauses (state_of m)
   -- there is an entry for each variable
   pub count : length m.bound ≡ length m.levels
   pub bound : All (HasValue m.bank) m.bound

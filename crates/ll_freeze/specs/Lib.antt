@@ -3,6 +3,7 @@ pub mod Reading
 pub mod Shown
 pub mod Fits
 pub mod Calls
+pub mod Resting
 pub mod Frozen
 pub mod Indexed
 pub mod Codes

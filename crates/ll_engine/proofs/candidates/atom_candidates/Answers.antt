@@ -1,29 +1,50 @@
-use Rattle.std.proofs.Common.{ap, sym, ◌∙◌, arith, map, flat_map, ◌++◌, ◌+◌}
-use Rattle.std.proofs.lemmas.List.{take_all}
-use Rattle.ll_resources.specs.Seen.{resource}
-use Rattle.ll_bank.specs.Nodes.{term_tree, form_tree}
-use Rattle.ll_engine.specs.Leaves.{open_tries, standing_entry}
-use Rattle.ll_engine.proofs.LeafLemmas.{no_tries, head_free, tries_by_predicate, flat_more}
+use Rattle.std.proofs.Common.{length, refl, ap, subst, ◌∙◌, arith, ◌-◌}
+use Rattle.std.proofs.lemmas.List.{length-map}
+use Rattle.ll_laws.specs.Shown.{clause_tree}
+use Rattle.ll_freeze.specs.Parts.{parts_of}
+use Rattle.ll_freeze.specs.Reading.{read_term}
+use Rattle.ll_bank.specs.Nodes.{term_tree}
+use Rattle.ll_engine.specs.Matches.{Asks, AsksFor, all_found}
+use Rattle.ll_engine.proofs.AtomLemmas.{atom_front, splits, heads_below, has_head, name_read, arity_read, all_matches, loaded_match}
 use Rattle.ll_engine.proofs.candidates.atom_candidates.Goals as goal
+use Rattle.ll_engine.proofs.candidates.atom_candidates.Goals.{in-Name+in_ok-add_program, in_default-head}
+
+pub asked_by-requires-clause-cells : goal.asked_by-requires-clause-cells
+asked_by-requires-clause-cells c = (atom_front (parts_of c.args.machine.now) c.args.atom c.requires.fits c.requires.front).variables
 
 pub returns-in_default : goal.returns-in_default
-returns-in_default c =
-    c.new-found.ensures.items
-    ∙ sym (no_tries (term_tree c.args.bank.now c.args.atom.0) c.in_default.ensures (map (standing_entry c.args.bank.now) c.args.context.now.present.entries))
+returns-in_default c = has_head (parts_of c.args.machine.now) c.args.atom _ (atom_front (parts_of c.args.machine.now) c.args.atom c.requires.fits c.requires.front)
+    (subst (Asks c.args.machine.now.store (term_tree c.args.machine.now.store.bank c.args.atom.0)) c.in_default.is c.in_ok-asked.ensures)
 
-pub loop-from_front-preserved : goal.loop-from_front-preserved
-loop-from_front-preserved c = (
-  c.in_ok-add_entry.ensures.none,
-  c.in_ok-add_entry.ensures.found
-      ∙ (ap (λ xs. xs ++ open_tries c.in-Some.predicate (standing_entry c.args.bank.now (resource c.entry-entry.result))) c.loop-from_front.invariant.1
-      ∙ sym (flat_more (open_tries c.in-Some.predicate) (standing_entry c.args.bank.now) c.args.context.now.present.entries c.loop-from_front.from_front (c.loop-from_front.from_front + 1)
-      (resource c.entry-entry.result) (omega arith) c.entry-entry.ensures)),
-)
+pub overflow_sub-loaded : goal.overflow_sub-loaded
+overflow_sub-loaded c =
+    let w = splits (parts_of c.args.machine.now) _ c.requires.fits refl in
+    let clauses = ap (λ p. length p.clauses) c.problem.view_is in
+    let map = length-map c.problem.inside.clauses.items (clause_tree c.problem.inside.bank) in
+    let enough = w.enough in let a = c.len.ensures in let b = c.len-2.ensures in let d = c.problem.inside.clauses.ok.0 in omega arith
+
+pub add_loaded-requires-clause-cells : goal.add_loaded-requires-clause-cells
+add_loaded-requires-clause-cells c = heads_below (parts_of c.args.machine.now) c.requires.fits
+
+pub add_program-requires-clause-program : goal.add_program-requires-clause-program
+add_program-requires-clause-program c =
+    let clauses = ap (λ p. length p.clauses) c.problem.view_is in
+    let map = length-map c.problem.inside.clauses.items (clause_tree c.problem.inside.bank) in
+    let a = c.len.ensures in let b = c.len-2.ensures in let d = c.problem.inside.clauses.ok.0 in
+    (splits (parts_of c.args.machine.now) (c.len.result - c.len-2.result) c.requires.fits (omega arith)).of
 
 pub returns : goal.returns
 returns c =
-    let a = term_tree c.args.bank.now c.args.atom.0 in
-    let es = map (standing_entry c.args.bank.now) c.args.context.now.present.entries in
-    c.loop-from_front.invariant.1
-    ∙ (ap (λ xs. flat_map (open_tries c.in-Some.predicate) (map (standing_entry c.args.bank.now) xs)) (take_all c.loop-from_front.from_front c.args.context.now.present.entries (omega arith))
-    ∙ sym (tries_by_predicate c.in-Some.predicate a (record { head = c.in-Some.ensures.0; arity = c.in-Some.ensures.1; free = head_free a c.in-Some.predicate.head c.requires.free c.in-Some.ensures.0 }) es))
+    let k = c.args.machine.now in let f = c.requires.fits in let w = atom_front (parts_of k) c.args.atom f c.requires.front in
+    let n = c.len.result - c.len-2.result in
+    let asks : AsksFor k.store (term_tree k.store.bank c.args.atom.0) c.in-Some.asked = subst (Asks k.store (term_tree k.store.bank c.args.atom.0)) c.in-Some.is c.in_ok-asked.ensures in
+    let clauses = ap (λ p. length p.clauses) c.problem.view_is in
+    let map = length-map c.problem.inside.clauses.items (clause_tree c.problem.inside.bank) in
+    let a = c.len.ensures in let b = c.len-2.ensures in let d = c.problem.inside.clauses.ok.0 in
+    elim c.match-asked.branch [
+      | in-Name+in_ok-add_program v ↦ all_matches k c.args.atom c.in-Some.asked f w asks n (all_found c.none-found.result) (all_found c.add_loaded.new.found) (all_found c.match-asked.found) c.none-found.ensures c.in_ok-add_loaded.ensures
+          (ap all_found v.found-is
+          ∙ v.in_ok-add_program.ensures (read_term (parts_of k).bank (parts_of k).bound c.args.atom) (name_read k c.args.atom c.in-Some.asked f w asks v.in-Name.name v.in-Name.is) (arity_read k c.args.atom c.in-Some.asked f w asks))
+      | in_default-head v ↦ loaded_match k c.args.atom c.in-Some.asked f w asks n (all_found c.none-found.result) (all_found c.add_loaded.new.found) (all_found c.match-asked.found) (splits (parts_of k) n f (omega arith)).of v.in_default-head.not-Name
+          c.none-found.ensures c.in_ok-add_loaded.ensures (ap all_found v.found-is)
+    ]

@@ -1,4 +1,4 @@
-use Rattle.std.proofs.Common.{rules, w64, FitsSigned, refl, ap, sym, subst, ◌∙◌, ◌≡◌, true, false}
+use Rattle.std.proofs.Common.{rules, w64, FitsSigned, refl, ap, sym, subst, ◌∙◌}
 use Rattle.std.proofs.lemmas.Int.{to_z-of_z}
 use Rattle.std.specs.Prelude.{All}
 use Rattle.ll_bank.specs.Nodes.{Nodes, Extends}
@@ -6,8 +6,6 @@ use Rattle.ll_bank.proofs.Trees.{Extends-trans}
 use Rattle.ll_laws.specs.Problem.{ProblemTree}
 use Rattle.ll_agenda.specs.Frames.{items_at}
 use Rattle.ll_bindings.specs.Bindings.{IsOrdered}
-use Rattle.ll_store.specs.declared.store.Store.{Store}
-use Rattle.ll_store.specs.Stored.{stored, KeepsMarks}
 use Rattle.ll_store.specs.Tables.{table_of}
 use Rattle.ll_freeze.specs.declared.machine.Machine.{Machine}
 use Rattle.ll_freeze.specs.Parts.{Parts, parts_of}

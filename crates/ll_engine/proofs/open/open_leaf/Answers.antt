@@ -2,9 +2,9 @@ use Rattle.std.proofs.Common.{◌≡◌, ℕ, ◌++◌, append_assoc, refl, ap, 
 use Rattle.std.proofs.lemmas.List.{append-nil}
 use Rattle.std.proofs.lemmas.Bool.{cases_lt}
 use Rattle.ll_bank.specs.declared.FormAt.{FormAt}
-use Rattle.ll_bank.specs.Form.{Form, Lolli, Imp, Bang, close_form, form_applies_heads}
-use Rattle.ll_bank.specs.Term.{Env, Var}
-use Rattle.ll_bank.specs.Nodes.{form_tree}
+use Rattle.ll_bank.specs.Form.{Form, Atom, Lolli, Imp, Bang, close_form, form_applies_heads}
+use Rattle.ll_bank.specs.Term.{Env, Var, close, applies_heads}
+use Rattle.ll_bank.specs.Nodes.{form_tree, term_tree}
 use Rattle.ll_bank.proofs.Trees.{Extends-trans}
 use Rattle.ll_close.specs.Closing.{env_of}
 use Rattle.ll_laws.specs.Leaf.{Needs, NeedsFree, ways, leaf_from}

@@ -1,6 +1,6 @@
 use Rattle.std.proofs.Common.{rules, refl, sym, subst, ◌∙◌, List, ◌∷◌, [], ◌++◌}
 use Rattle.std.proofs.lemmas.List.Elements.{All-push, All-weaker}
-use Rattle.ll_freeze.specs.Parts.{parts_of, parts_at, IsGood, IsBefore}
+use Rattle.ll_freeze.specs.Parts.{parts_of, IsGood, IsBefore}
 use Rattle.ll_engine.specs.declared.spine.Kept.{Kept}
 use Rattle.ll_engine.specs.Pointed.{Held, Puts, KeepsKept, AreMarks, helds, held_of}
 use Rattle.ll_engine.proofs.Pointing.{puts_some, keeps_some, some_left, helds_push, rises_push}

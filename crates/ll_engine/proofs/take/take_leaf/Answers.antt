@@ -2,6 +2,7 @@ use Rattle.std.proofs.Common.{sym, arith}
 use Rattle.ll_resources.specs.Seen.{resource}
 use Rattle.ll_freeze.specs.Parts.{parts_of}
 use Rattle.ll_freeze.proofs.Marks.{later_same}
+use Rattle.ll_engine.proofs.TakeLemmas.{found_by_label}
 use Rattle.ll_engine.proofs.TakingLemmas.{no_entry, no_leaf, clause_inside}
 use Rattle.ll_engine.proofs.take.take_leaf.Goals as goal
 
@@ -26,3 +27,6 @@ returns-in_default-clause-later c = later_same c.args.machine.now
 
 pub returns-then-candidate-leaves-clause-later : goal.returns-then-candidate-leaves-clause-later
 returns-then-candidate-leaves-clause-later c = later_same c.args.machine.now
+
+pub entry_with-requires : goal.entry_with-requires
+entry_with-requires c = found_by_label (parts_of c.args.machine.now) c.requires.fits

@@ -1,13 +1,26 @@
+use Rattle.std.proofs.Common.{◌∙◌, ◌++◌, ◌∷◌, []}
 use Rattle.ll_freeze.specs.Parts.{parts_of}
+use Rattle.ll_engine.specs.Matches.{all_found}
 use Rattle.ll_engine.specs.Pointed.{spine_of, first_of, helds}
-use Rattle.ll_engine.proofs.Pointing.{are_tries, expands}
+use Rattle.ll_engine.proofs.Pointing.{are_tries, expands, expands_none, first_last}
 use Rattle.ll_engine.proofs.spine.Spine.expand.Goals as goal
 
 pub choose-requires-clause-tries : goal.choose-requires-clause-tries
-choose-requires-clause-tries c = are_tries (parts_of c.args.self.now.machine) c.in_ok-untried.untried.items c.reverse.new.self.items c.in_ok-untried.ensures c.reverse.ensures.items
+choose-requires-clause-tries c =
+    are_tries (parts_of c.args.self.now.machine) (c.in-Some.untried.items ++ c.in-Some.candidate ∷ []) c.requires.sound.sound.machine.0
+    (first_last (all_found c.in_ok-found.found) c.in-Some.untried.items c.in-Some.candidate c.in-Some.ensures.some ∙ c.in_ok-found.ensures)
 
 pub returns-clause-expands : goal.returns-clause-expands
 returns-clause-expands c =
     let z = c.args.self.now in
-    expands (first_of z) z.problem.now (parts_of z.machine) (helds z.machine z.points.items) (spine_of c.choose.new.self) c.in_ok-untried.untried.items c.reverse.new.self.items c.in_ok-running.running
-    c.requires.sound.sound.machine.0 c.requires.left c.in_ok-untried.ensures c.reverse.ensures.items c.in_ok-running.ensures.chose
+    expands (first_of z) z.problem.now (parts_of z.machine) (helds z.machine z.points.items) (spine_of c.choose.new.self) (c.in-Some.untried.items ++ c.in-Some.candidate ∷ []) c.in_ok-running.running
+    c.requires.sound.sound.machine.0 c.requires.left (first_last (all_found c.in_ok-found.found) c.in-Some.untried.items c.in-Some.candidate c.in-Some.ensures.some ∙ c.in_ok-found.ensures) c.in_ok-running.ensures.chose
+
+pub returns-in_default-clause-expands : goal.returns-in_default-clause-expands
+returns-in_default-clause-expands c =
+    let z = c.args.self.now in
+    expands_none (first_of z) z.problem.now (parts_of z.machine) (helds z.machine z.points.items) (all_found c.in_ok-found.found) c.requires.sound.sound.machine.0 c.requires.left c.in_ok-found.ensures c.in_default.ensures.none
+
+pub returns-in_default-clause-sound : goal.returns-in_default-clause-sound
+returns-in_default-clause-sound c =
+    record { index = c.requires.sound.index; sound = record { points = c.requires.sound.sound.points; machine = tt }; marks = c.requires.sound.marks }

@@ -1,7 +1,10 @@
-use Rattle.std.proofs.Common.{sym, subst, List}
+use Rattle.std.proofs.Common.{sym, subst, List, reverse, ◌-◌}
 use Rattle.ll_freeze.specs.Parts.{Parts, parts_of}
-use Rattle.ll_engine.specs.Pointed.{Held, held_of, helds, spine_of, first_of, IsOpen, AreTries, AreKept}
-use Rattle.ll_engine.proofs.Pointing.{popped, popped_kept, popped_tries, popped_open, helds_undone, marks_undone, retries_by}
+use Rattle.ll_engine.specs.Pointed.{Held, held_of, helds, spine_at, spine_of, first_of, points_of, IsOpen, AreTries, AreKept}
+use Rattle.ll_laws.specs.declared.Candidate.{Candidate}
+use Rattle.ll_freeze.specs.Shown.{state_of}
+use Rattle.ll_engine.specs.Turned.{Chose}
+use Rattle.ll_engine.proofs.Pointing.{popped, popped_kept, popped_tries, popped_open, popped_some, none_left, helds_undone, marks_undone, retries_by}
 use Rattle.ll_engine.proofs.spine.Spine.retry.Goals as goal
 
 pub undo-requires : goal.undo-requires
@@ -16,8 +19,15 @@ choose-requires-clause-open c =
 pub choose-requires-clause-tries : goal.choose-requires-clause-tries
 choose-requires-clause-tries c =
     let z = c.args.self.now in let w = (popped c.args.self.now.machine c.args.self.now.points.items c.pop_back.new.self.items c.in-Some.kept c.in-Some.ensures.items c.requires.sound.marks) in
-    subst (λ (p : Parts). AreTries p c.in-Some.kept.untried.items) (sym c.undo.ensures.parts)
-    (popped_tries z.problem.now (helds z.machine z.points.items) (helds z.machine c.pop_back.new.self.items) (held_of z.machine c.in-Some.kept) w.list c.requires.sound.sound.points)
+    subst (λ (cs : List Candidate). AreTries (parts_of c.undo.new.self) cs) c.in-Some-pop.ensures.items
+    (subst (λ (p : Parts). AreTries p c.in-Some.kept.untried.items) (sym c.undo.ensures.parts)
+    (popped_tries z.problem.now (helds z.machine z.points.items) (helds z.machine c.pop_back.new.self.items) (held_of z.machine c.in-Some.kept) w.list c.requires.sound.sound.points))
+
+pub unreachable-requires-in_default-pop : goal.unreachable-requires-in_default-pop
+unreachable-requires-in_default-pop c =
+    let z = c.args.self.now in let w = (popped c.args.self.now.machine c.args.self.now.points.items c.pop_back.new.self.items c.in-Some.kept c.in-Some.ensures.items c.requires.sound.marks) in
+    popped_some z.problem.now (helds z.machine z.points.items) (helds z.machine c.pop_back.new.self.items) (held_of z.machine c.in-Some.kept) w.list c.requires.sound.sound.points
+    (none_left c.in-Some.kept.untried.items c.in-Some.kept.untried.len c.in-Some.kept.untried.ok.0 c.in_default-pop.ensures.cases.0)
 
 pub choose-requires-clause-points : goal.choose-requires-clause-points
 choose-requires-clause-points c =
@@ -36,6 +46,10 @@ choose-requires-clause-marks c =
 pub returns-clause-retries : goal.returns-clause-retries
 returns-clause-retries c =
     let z = c.args.self.now in let w = (popped c.args.self.now.machine c.args.self.now.points.items c.pop_back.new.self.items c.in-Some.kept c.in-Some.ensures.items c.requires.sound.marks) in
-    retries_by (first_of z) z.problem.now (parts_of z.machine) (parts_of c.undo.new.self) (helds z.machine z.points.items) (helds z.machine c.pop_back.new.self.items) (helds c.undo.new.self c.pop_back.new.self.items)
-    (held_of z.machine c.in-Some.kept) c.in_ok-running-in-Some.running (spine_of c.choose.new.self) w.list c.undo.ensures.parts
-    (helds_undone z.machine c.undo.new.self c.in-Some.kept.mark c.pop_back.new.self.items c.undo.ensures.marks w.goods w.before) c.in_ok-running-in-Some.ensures.chose
+    let m = parts_of c.undo.new.self in let ps = helds c.undo.new.self c.pop_back.new.self.items in
+    let chose =
+    subst (λ (cs : List Candidate). Chose (spine_at (first_of z) z.problem.now m ps) (state_of m) (c.undo.new.self.left - 1) (reverse cs) (points_of ps) c.in_ok-running.running (spine_of c.choose.new.self))
+    (sym c.in-Some-pop.ensures.items) c.in_ok-running.ensures.chose in
+    retries_by (first_of z) z.problem.now (parts_of z.machine) m (helds z.machine z.points.items) (helds z.machine c.pop_back.new.self.items) ps
+    (held_of z.machine c.in-Some.kept) c.in_ok-running.running (spine_of c.choose.new.self) w.list c.undo.ensures.parts
+    (helds_undone z.machine c.undo.new.self c.in-Some.kept.mark c.pop_back.new.self.items c.undo.ensures.marks w.goods w.before) chose

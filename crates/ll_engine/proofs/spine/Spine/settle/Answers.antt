@@ -10,6 +10,7 @@ pub returns-clause-sound : goal.returns-clause-sound
 returns-clause-sound c =
     let z = c.args.self.now in let m = c.settle.new.machine in let ps = z.points.items in
     record {
+      index = c.requires.sound.index;
       sound =
           subst (λ (hs : List Held). IsSoundAt c.in_ok-ok.ok z.problem.now (parts_of m) hs) (sym (helds_kept z.machine m ps (keeps z.machine m c.in_ok-ok.ensures.later) c.requires.sound.marks.good))
           (settled_sound z.problem.now (parts_of z.machine) (parts_of m) (helds z.machine ps) c.in_ok-ok.ok c.in_ok-ok.ensures.settles c.in_ok-ok.ensures.same c.requires.sound.sound);

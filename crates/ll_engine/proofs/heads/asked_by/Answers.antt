@@ -1,0 +1,6 @@
+use Rattle.ll_bank.specs.Nodes.{term_tree}
+use Rattle.ll_engine.proofs.SignLemmas.{spine_of_head}
+use Rattle.ll_engine.proofs.heads.asked_by.Goals as goal
+
+pub first_under-requires-clause-spine : goal.first_under-requires-clause-spine
+first_under-requires-clause-spine c = spine_of_head (term_tree c.args.store.now.bank c.args.atom.0) c.in-Some.predicate.head c.in-Some.ensures.0

@@ -30,11 +30,11 @@ end_stops (b ∷ rest) e = at_byte b rest refl (ap is_part (byte (b ∷ rest) b 
     byte bs b rest e space = cc
 
 -- the word of a term without arguments
-record IsSomeWord (w : List ℕ) : Type 0 where
+pub record IsSomeWord (w : List ℕ) : Type 0 where
   pub shape : Shape
   pub word : IsWord w shape
 
-bare_word : (names : List (List ℕ)) (t : Term) → IsSpelledTerm names t → has_arguments t ≡ false → IsSomeWord (term_text names t)
+pub bare_word : (names : List (List ℕ)) (t : Term) → IsSpelledTerm names t → has_arguments t ≡ false → IsSomeWord (term_text names t)
 bare_word names (Var n) s h = record { shape = Closed; word = variable (decimal n) refl (record { number = n; small = s; is = refl }) }
 bare_word names (Int z) s h = record { shape = Closed; word = number (record { value = z; fits = s; is = refl }) }
 bare_word names (Con c) s h = record { shape = Bare; word = head_word names c s }

@@ -1,5 +1,5 @@
 -- The faults that reading comes to.
-use Rattle.std.proofs.Common.{◌≡◌, ℕ, suc, ◌+◌, ◌-◌, ◌<◌, Bool, List, [], ◌∷◌, length, map, refl, ap, sym, subst, ◌∙◌, arith, None}
+use Rattle.std.proofs.Common.{◌≡◌, ℕ, suc, ◌+◌, ◌-◌, ◌<◌, List, [], ◌∷◌, length, map, refl, ap, sym, subst, ◌∙◌, arith, codes, Option, None}
 use Rattle.std.proofs.lemmas.List.{length-map}
 use Rattle.ll_bank.specs.declared.At.{At}
 use Rattle.ll_bank.specs.Nodes.{term_tree, term_trees}
@@ -12,16 +12,16 @@ use Rattle.ll_prooftext.specs.declared.rows.Refusal.TheVariants as refusal
 use Rattle.ll_prooftext.specs.declared.reader.TextLine.{TextLine}
 use Rattle.ll_prooftext.specs.declared.reader.Lines.{Lines}
 use Rattle.ll_prooftext.specs.declared.reader.Reading.{Reading}
-use Rattle.ll_prooftext.specs.Reading.{text_lines, is_none, want, first_word, HasBadField, Begins, HasNoVersion, HasFault, version, unknown_word, bad_field, nodes_missing, left_over, IsCause}
+use Rattle.ll_prooftext.specs.Reading.{text_lines, is_none, Want, want, first_word, HasBadField, Begins, HasNoVersion, HasFault, version, unknown_word, bad_field, nodes_missing, left_over, IsCause}
 use Rattle.ll_prooftext.specs.RowWords.{bad_column, IsRefused}
 use Rattle.ll_prooftext.specs.Reader.{fault_at, refused_fault, IsWithin, end_from, TakesLine}
 use Rattle.ll_prooftext.proofs.SoFar.{IsSoFar, its_number}
 use Rattle.ll_prooftext.proofs.Whole.{so_far_begins}
 
-pub no_version_cause : (text : List ℕ) (x : TextFault) → HasNoVersion (text_lines text) → x ≡ fault_at 1 1 14 → IsCause text x
+pub no_version_cause : (text : List ℕ) (x : TextFault) → HasNoVersion (codes "proof 1") (text_lines text) → x ≡ fault_at 1 1 14 → IsCause text x
 no_version_cause text x h e = subst (IsCause text) (sym e) (version h)
 
-same_none : {X Y : Type 0} (f : X → Y) (xs : List X) → is_none (map f xs) ≡ is_none xs
+pub same_none : {X Y : Type 0} (f : X → Y) (xs : List X) → is_none (map f xs) ≡ is_none xs
 same_none f [] = refl
 same_none f (x ∷ xs) = refl
 
@@ -40,21 +40,21 @@ module _ (text : List ℕ) (old names : List (List ℕ)) (o : Reading) (p : Line
   word_fault : (k : ℕ) → o.lacking ≡ suc k → want (is_none o.nodes.items) (first_word line.bytes.now) ≡ None → HasFault text (record { at = record { line = length (term_trees o.bank o.asked.items) + length (map (line_of o.bank) o.nodes.items) + 2; column = 1 }; kind = 13 })
   word_fault k l h = unknown_word line.bytes.now (text_lines q.rest.now) k (begun (suc k) l) (ap (λ b. want b (first_word line.bytes.now)) (same_none (line_of o.bank) o.nodes.items) ∙ h)
 
-  field_fault : (k column : ℕ) → o.lacking ≡ suc k → HasBadField (is_none o.nodes.items) line.bytes.now column → HasFault text (record { at = record { line = length (term_trees o.bank o.asked.items) + length (map (line_of o.bank) o.nodes.items) + 2; column = column }; kind = 14 })
-  field_fault k column l h = bad_field line.bytes.now (text_lines q.rest.now) k column (begun (suc k) l) (subst (λ b. HasBadField b line.bytes.now column) (sym (same_none (line_of o.bank) o.nodes.items)) h)
+  field_fault : (k column : ℕ) → o.lacking ≡ suc k → HasBadField (want (is_none o.nodes.items)) line.bytes.now column → HasFault text (record { at = record { line = length (term_trees o.bank o.asked.items) + length (map (line_of o.bank) o.nodes.items) + 2; column = column }; kind = 14 })
+  field_fault k column l h = bad_field line.bytes.now (text_lines q.rest.now) k column (begun (suc k) l) (subst (λ b. HasBadField (want b) line.bytes.now column) (sym (same_none (line_of o.bank) o.nodes.items)) h)
 
-  refused : (y : Refusal) → 0 < o.lacking → IsRefused (is_none o.nodes.items) line.bytes.now y → IsCause text (refused_fault line.number (length line.bytes.now) y)
+  refused : (y : Refusal) → 0 < o.lacking → IsRefused (want (is_none o.nodes.items)) line.bytes.now y → IsCause text (refused_fault line.number (length line.bytes.now) y)
   refused refusal.Word l h = subst (λ n. IsCause text (fault_at n 1 13)) (sym number_is) (word_fault (o.lacking - 1) (omega arith) h)
   refused (refusal.Field left) l h = subst (λ n. IsCause text (fault_at n (bad_column (length line.bytes.now) left) 14)) (sym number_is) (field_fault (o.lacking - 1) (bad_column (length line.bytes.now) left) (omega arith) h.bad)
   refused refusal.OutOfMemory l h = tt
 
-  pub refused_cause : (y : Refusal) (x : TextFault) → 0 < o.lacking → IsRefused (is_none o.nodes.items) line.bytes.now y → x ≡ refused_fault line.number (length line.bytes.now) y → IsCause text x
+  pub refused_cause : (y : Refusal) (x : TextFault) → 0 < o.lacking → IsRefused (want (is_none o.nodes.items)) line.bytes.now y → x ≡ refused_fault line.number (length line.bytes.now) y → IsCause text x
   refused_cause y x l h e = subst (IsCause text) (sym e) (refused y l h)
 
-pub refused_within : (lets : Bool) (bytes : List ℕ) (y : Refusal) → IsRefused lets bytes y → IsWithin (length bytes) y
-refused_within lets bytes refusal.Word h = tt
-refused_within lets bytes (refusal.Field left) h = h.within
-refused_within lets bytes refusal.OutOfMemory h = tt
+pub refused_within : (wants : List ℕ → Option Want) (bytes : List ℕ) (y : Refusal) → IsRefused wants bytes y → IsWithin (length bytes) y
+refused_within wants bytes refusal.Word h = tt
+refused_within wants bytes (refusal.Field left) h = h.within
+refused_within wants bytes refusal.OutOfMemory h = tt
 
 pub missing_cause : (text : List ℕ) (old names : List (List ℕ)) (o : Reading) (p : Lines) (at : Place) (x : TextFault) → IsSoFar text old names o p → p.rest.now ≡ [] → at ≡ p.at → 0 < o.lacking → x ≡ fault_at at.line at.column 15 → IsCause text x
 missing_cause text old names o p at x s r a l e =

@@ -34,3 +34,9 @@ pub mod TableSteps
 pub mod ShortLines
 pub mod Places
 pub mod Sizing
+pub mod CellsRead
+pub mod LinesOver
+pub mod RowsInPlace
+pub mod SoFarOver
+pub mod FaultsOver
+pub mod TakesOver

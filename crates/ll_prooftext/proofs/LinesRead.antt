@@ -1,5 +1,5 @@
 -- Lines, taken from a text, and texts, made of their lines.
-use Rattle.std.proofs.Common.{◌≡◌, ℕ, suc, ◌+◌, ◌<◌, Bool, true, false, List, [], ◌∷◌, ◌++◌, length, refl, ap, sym, subst, ◌∙◌, arith, codes, append-nil, length-append, inl, inr}
+use Rattle.std.proofs.Common.{◌≡◌, ℕ, suc, ◌+◌, ◌<◌, Bool, true, false, List, [], ◌∷◌, ◌++◌, length, refl, ap, sym, subst, ◌∙◌, arith, append-nil, length-append, inl, inr}
 use Rattle.std.specs.Prelude.{not, ◌==◌, ◌⊎◌, if◌then◌else◌}
 use Rattle.std.specs.List.{list_all, flat_map}
 use Rattle.std.specs.Str.{bytes_eq}
@@ -121,9 +121,9 @@ no_line o p t f a = record { rest = empty o.rest.now t f; at = a }
 
 -- ---- the first line
 
-pub version_is : (text : List ℕ) (o p : Lines) (line : TextLine) (v : List ℕ) → o.rest.now ≡ text → o.at ≡ record { line = 1; column = 1 } → TakesLine o line p → true ≡ bytes_eq line.bytes.now v → v ≡ codes "proof 1" → IsBehindVersion text p
-version_is text o p line v r a t h e =
-    let w : line.bytes.now ≡ codes "proof 1" = (bytes_eq-Decides line.bytes.now v).0 (sym h) ∙ e in
+pub version_is : (text : List ℕ) (o p : Lines) (line : TextLine) (v : List ℕ) → o.rest.now ≡ text → o.at ≡ record { line = 1; column = 1 } → TakesLine o line p → true ≡ bytes_eq line.bytes.now v → IsBehindVersion v text p
+version_is text o p line v r a t h =
+    let w : line.bytes.now ≡ v = (bytes_eq-Decides line.bytes.now v).0 (sym h) in
     let l : o.at.line ≡ 1 = ap (λ (z : Place). z.line) a in
     let n : o.at.line + 1 ≡ 2 = omega arith in
     let long = ap length r in
@@ -137,19 +137,19 @@ version_is text o p line v r a t h e =
       low = omega arith;
     }
 
-pub other_version : (text : List ℕ) (o p : Lines) (line : TextLine) (v : List ℕ) → o.rest.now ≡ text → TakesLine o line p → false ≡ bytes_eq line.bytes.now v → v ≡ codes "proof 1" → HasNoVersion (text_lines text)
-other_version text o p line v r t h e rest k =
-    let lines : line.bytes.now ∷ text_lines p.rest.now ≡ codes "proof 1" ∷ rest = sym t.lines ∙ (ap text_lines r ∙ k) in
-    let w : line.bytes.now ≡ codes "proof 1" = heads line.bytes.now (codes "proof 1") (text_lines p.rest.now) rest lines in
-    let x : bytes_eq line.bytes.now v ≡ true = (bytes_eq-Decides line.bytes.now v).1 (w ∙ sym e) in
+pub other_version : (text : List ℕ) (o p : Lines) (line : TextLine) (v : List ℕ) → o.rest.now ≡ text → TakesLine o line p → false ≡ bytes_eq line.bytes.now v → HasNoVersion v (text_lines text)
+other_version text o p line v r t h rest k =
+    let lines : line.bytes.now ∷ text_lines p.rest.now ≡ v ∷ rest = sym t.lines ∙ (ap text_lines r ∙ k) in
+    let w : line.bytes.now ≡ v = heads line.bytes.now v (text_lines p.rest.now) rest lines in
+    let x : bytes_eq line.bytes.now v ≡ true = (bytes_eq-Decides line.bytes.now v).1 w in
     let y : false ≡ true = h ∙ x in
     let z : ⊥ = cc in z
   where
     heads : (a b : List ℕ) (us vs : List (List ℕ)) → a ∷ us ≡ b ∷ vs → a ≡ b
     heads a b us vs e = cc
 
-pub no_version : (text : List ℕ) (o p : Lines) → o.rest.now ≡ text → HasNoLine o p → HasNoVersion (text_lines text)
-no_version text o p r n rest k = apart (codes "proof 1") rest (ap text_lines (sym n.rest ∙ r) ∙ k)
+pub no_version : (text v : List ℕ) (o p : Lines) → o.rest.now ≡ text → HasNoLine o p → HasNoVersion v (text_lines text)
+no_version text v o p r n rest k = apart v rest (ap text_lines (sym n.rest ∙ r) ∙ k)
   where
     apart : (a : List ℕ) (us : List (List ℕ)) → [] ≡ a ∷ us → ⊥
     apart a us e = cc

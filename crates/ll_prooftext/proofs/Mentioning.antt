@@ -181,7 +181,7 @@ nothing_mentions = refl
 
 -- ---- numbers and sets
 
-quiet_behind : (b : ℕ) (w : List ℕ) → is_quiet b ≡ true → list_all is_quiet w ≡ true → list_all is_quiet (b ∷ w) ≡ true
+pub quiet_behind : (b : ℕ) (w : List ℕ) → is_quiet b ≡ true → list_all is_quiet w ≡ true → list_all is_quiet (b ∷ w) ≡ true
 quiet_behind b w h t = rw (h, t) refl
 
 pub quiet_join : (v w : List ℕ) → list_all is_quiet v ≡ true → list_all is_quiet w ≡ true → list_all is_quiet (v ++ w) ≡ true
@@ -198,6 +198,10 @@ minus_quiet = refl
 variable_quiet : is_quiet 63 ≡ true
 unfolding is_lower
 variable_quiet = refl
+
+pub row_quiet : is_quiet 64 ≡ true
+unfolding is_lower
+row_quiet = refl
 
 eigen_quiet : is_quiet 35 ≡ true
 unfolding is_lower

@@ -93,7 +93,7 @@ lets_ran end o names (t ∷ ts) rest n l s r =
 
 -- what a text comes to
 data Comes (lines : List (List ℕ)) (end : Place) (o : Option Fault) : Type 0 where
-  no_version : HasNoVersion lines → o ≡ Some (fault_in 1 1 14) → Comes lines end o
+  no_version : HasNoVersion (codes "proof 1") lines → o ≡ Some (fault_in 1 1 14) → Comes lines end o
   begun : (rest : List (List ℕ)) → lines ≡ codes "proof 1" ∷ rest → Ran end o true 2 1 rest → Comes lines end o
 
 comes_once : (lines : List (List ℕ)) (end : Place) (o p : Option Fault) → Comes lines end o → Comes lines end p → o ≡ p

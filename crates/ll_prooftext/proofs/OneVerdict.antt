@@ -10,11 +10,11 @@ use Rattle.ll_laws.specs.Output.{term_text, argument_text}
 use Rattle.ll_laws.specs.Line.{PartLine, Labels, Free, Line, OneLine, EraseLine, TensorLine, WithLine, LeftLine, RightLine, BangLine, UseLine, LolliLine, ImpLine, ForallLine, ExistsLine, ClauseLine, NumLine, rises, part_rises, is_line}
 use Rattle.ll_laws.specs.ProofText.{field, term_field, part_field, set_text, node_text}
 use Rattle.ll_prooftext.specs.Admitted.{AreLabels, IsSpelledTerm, IsSpelledPart, IsSpelledLine}
-use Rattle.ll_prooftext.specs.Reading.{Kind, Number, Set, Argument, Mark, Want, Nothing, Arguments, Premises, Then, after_field, may_end, IsNumber, IsSet, IsArgument, IsField, Fields, none, one, IsAtEnd, line_end, space, HasNoField, IsStop, lacks, no_field, listed, node_words, want, first_word, HasBadField, children}
+use Rattle.ll_prooftext.specs.Reading.{Kind, Number, Set, Argument, Mark, Plain, Sign, Cell, Want, Nothing, Arguments, Premises, Then, after_field, may_end, IsNumber, IsSet, IsArgument, IsField, Fields, none, one, IsAtEnd, line_end, space, HasNoField, IsStop, lacks, no_field, listed, node_words, want, first_word, HasBadField, children}
 use Rattle.ll_prooftext.specs.Words.{is_not}
 use Rattle.ll_prooftext.proofs.Cuts.{one_cut, and_left, and_right}
 use Rattle.ll_prooftext.proofs.Mentioning.{first_alone}
-use Rattle.ll_prooftext.proofs.OneField.{end_stops, one_field}
+use Rattle.ll_prooftext.proofs.OneField.{IsSmall, small_after, end_stops, one_field}
 
 -- ---- fields
 
@@ -26,6 +26,9 @@ pub data Verdict : Type 0 where
 abbrev pub premise : Kind → ℕ
 premise Number = 0
 premise Argument = 0
+premise Plain = 0
+premise Sign = 0
+premise (Cell n) = 0
 premise Set = 1
 premise Mark = 1
 
@@ -48,26 +51,26 @@ none_there v w us vs r field rest k next e f g h l a i x =
     let t : r ≡ field ++ rest = cc in
     h k field rest next (ap (λ z. after_field z k) e ∙ a) i t x
 
-pub reads_once : (o p : Verdict) (v w : Want) (n i m j : ℕ) (us vs : List ℕ) → Reads o v n m us → Reads p w i j vs → v ≡ w → n ≡ i → m ≡ j → us ≡ vs → o ≡ p
-reads_once o p v w n i m j us vs (ends e t q) (ends f u r) a b c d = cc
-reads_once o p v w n i m j us vs (ends e t q) (lacking f u r) a b c d = absurd (may_not v w a t u)
-reads_once o p v w n i m j us vs (ends e t q) (wrong rest f h r) a b c d = absurd (empty_not us vs rest e d f)
-reads_once o p v w n i m j us vs (ends e t q) (more k field rest next f h x y z) a b c d = absurd (empty_not us vs (field ++ rest) e d f)
-reads_once o p v w n i m j us vs (lacking e t q) (ends f u r) a b c d = absurd (may_not w v (sym a) u t)
-reads_once o p v w n i m j us vs (lacking e t q) (lacking f u r) a b c d = q ∙ (ap (λ z. Bad (z + 1)) b ∙ sym r)
-reads_once o p v w n i m j us vs (lacking e t q) (wrong rest f h r) a b c d = absurd (empty_not us vs rest e d f)
-reads_once o p v w n i m j us vs (lacking e t q) (more k field rest next f h x y z) a b c d = absurd (empty_not us vs (field ++ rest) e d f)
-reads_once o p v w n i m j us vs (wrong s e g q) (ends f u r) a b c d = absurd (empty_not vs us s f (sym d) e)
-reads_once o p v w n i m j us vs (wrong s e g q) (lacking f u r) a b c d = absurd (empty_not vs us s f (sym d) e)
-reads_once o p v w n i m j us vs (wrong s e g q) (wrong rest f h r) a b c d = q ∙ (ap (λ z. Bad (z + 2)) b ∙ sym r)
-reads_once o p v w n i m j us vs (wrong s e g q) (more k field rest next f h x y z) a b c d = absurd (none_there v w us vs s field rest k next a d e g f h x y)
-reads_once o p v w n i m j us vs (more l fd s nx e g q y t) (ends f u r) a b c d = absurd (empty_not vs us (fd ++ s) f (sym d) e)
-reads_once o p v w n i m j us vs (more l fd s nx e g q y t) (lacking f u r) a b c d = absurd (empty_not vs us (fd ++ s) f (sym d) e)
-reads_once o p v w n i m j us vs (more l fd s nx e g q y t) (wrong rest f h r) a b c d = absurd (none_there w v vs us rest fd s l nx (sym a) (sym d) f h e g q y)
-reads_once o p v w n i m j us vs (more l fd s nx e g q y t) (more k field rest next f h x z u) a b c d =
+pub reads_once : (o p : Verdict) (v w : Want) (n i m j : ℕ) (us vs : List ℕ) → IsSmall v → Reads o v n m us → Reads p w i j vs → v ≡ w → n ≡ i → m ≡ j → us ≡ vs → o ≡ p
+reads_once o p v w n i m j us vs few (ends e t q) (ends f u r) a b c d = cc
+reads_once o p v w n i m j us vs few (ends e t q) (lacking f u r) a b c d = absurd (may_not v w a t u)
+reads_once o p v w n i m j us vs few (ends e t q) (wrong rest f h r) a b c d = absurd (empty_not us vs rest e d f)
+reads_once o p v w n i m j us vs few (ends e t q) (more k field rest next f h x y z) a b c d = absurd (empty_not us vs (field ++ rest) e d f)
+reads_once o p v w n i m j us vs few (lacking e t q) (ends f u r) a b c d = absurd (may_not w v (sym a) u t)
+reads_once o p v w n i m j us vs few (lacking e t q) (lacking f u r) a b c d = q ∙ (ap (λ z. Bad (z + 1)) b ∙ sym r)
+reads_once o p v w n i m j us vs few (lacking e t q) (wrong rest f h r) a b c d = absurd (empty_not us vs rest e d f)
+reads_once o p v w n i m j us vs few (lacking e t q) (more k field rest next f h x y z) a b c d = absurd (empty_not us vs (field ++ rest) e d f)
+reads_once o p v w n i m j us vs few (wrong s e g q) (ends f u r) a b c d = absurd (empty_not vs us s f (sym d) e)
+reads_once o p v w n i m j us vs few (wrong s e g q) (lacking f u r) a b c d = absurd (empty_not vs us s f (sym d) e)
+reads_once o p v w n i m j us vs few (wrong s e g q) (wrong rest f h r) a b c d = q ∙ (ap (λ z. Bad (z + 2)) b ∙ sym r)
+reads_once o p v w n i m j us vs few (wrong s e g q) (more k field rest next f h x y z) a b c d = absurd (none_there v w us vs s field rest k next a d e g f h x y)
+reads_once o p v w n i m j us vs few (more l fd s nx e g q y t) (ends f u r) a b c d = absurd (empty_not vs us (fd ++ s) f (sym d) e)
+reads_once o p v w n i m j us vs few (more l fd s nx e g q y t) (lacking f u r) a b c d = absurd (empty_not vs us (fd ++ s) f (sym d) e)
+reads_once o p v w n i m j us vs few (more l fd s nx e g q y t) (wrong rest f h r) a b c d = absurd (none_there w v vs us rest fd s l nx (sym a) (sym d) f h e g q y)
+reads_once o p v w n i m j us vs few (more l fd s nx e g q y t) (more k field rest next f h x z u) a b c d =
     let both : 32 ∷ (fd ++ s) ≡ 32 ∷ (field ++ rest) = sym e ∙ (d ∙ f) in
-    let same = one_field v l k nx next fd field s rest g (ap (λ z. after_field z k) a ∙ h) q x y z (let behind : fd ++ s ≡ field ++ rest = cc in behind) in
-    reads_once o p nx next (n + 1 + length fd) (i + 1 + length field) (m + premise l) (j + premise k) s rest t u same.next
+    let same = one_field v l k nx next fd field s rest few g (ap (λ z. after_field z k) a ∙ h) q x y z (let behind : fd ++ s ≡ field ++ rest = cc in behind) in
+    reads_once o p nx next (n + 1 + length fd) (i + 1 + length field) (m + premise l) (j + premise k) s rest (small_after v l nx g few).1 t u same.next
     (ap (λ z. z + 1 + length fd) b ∙ ap (λ z. i + 1 + length z) same.text)
     (ap (λ z. z + premise l) c ∙ ap (λ z. j + premise z) same.kind)
     same.rest
@@ -106,6 +109,26 @@ word_free : (lets : Bool) (w : List ℕ) (v : Want) → want lets w ≡ Some v �
 word_free true w v e = listed_free ((codes "let", Then Argument Nothing) ∷ node_words) refl w v e
 word_free false w v e = listed_free node_words refl w v e
 
+-- and what follows it has no rows
+abbrev AreSmall : List (List ℕ × Want) → Type 0
+AreSmall [] = Unit {0}
+AreSmall (e ∷ es) = IsSmall e.1 × AreSmall es
+
+listed_small : (entries : List (List ℕ × Want)) → AreSmall entries → (w : List ℕ) (v : Want) → listed entries w ≡ Some v → IsSmall v
+listed_small [] a w v e = absurd cc
+listed_small (x ∷ xs) a w v e = by_test (bytes_eq x.0 w) e (λ h. listed_small xs a.1 w v h)
+  where
+    by_test : (t : Bool) → (if t then Some x.1 else listed xs w) ≡ Some v → (listed xs w ≡ Some v → IsSmall v) → IsSmall v
+    by_test true h ih = subst IsSmall (let q : x.1 ≡ v = cc in q) a.0
+    by_test false h ih = ih h
+
+nodes_small : AreSmall node_words
+nodes_small = (tt, (tt, ((tt, (tt, tt)), (tt, (tt, (tt, (tt, ((tt, tt), ((tt, tt), ((tt, tt), ((tt, tt), (tt, (tt, ((tt, (tt, tt)), tt))))))))))))))
+
+want_small : (lets : Bool) (w : List ℕ) (v : Want) → want lets w ≡ Some v → IsSmall v
+want_small true w v e = listed_small ((codes "let", Then Argument Nothing) ∷ node_words) ((tt, tt), nodes_small) w v e
+want_small false w v e = listed_small node_words nodes_small w v e
+
 -- ---- lines
 
 -- what a line comes to
@@ -126,9 +149,9 @@ judges_once o p lets bytes (known w s a e k x r) (unknown n q) = absurd (word_kn
 judges_once o p lets bytes (known w s a e k x r) (known v t b f l y q) =
     let c = one_cut (is_not 32) w v s t (word_free lets w a k) (word_free lets v b l) (end_stops (is_not 32) s refl x) (end_stops (is_not 32) t refl y) (sym e ∙ f) in
     let g : Some a ≡ Some b = sym k ∙ (ap (want lets) c.0 ∙ l) in
-    reads_once o p a b (length w) (length v) 0 0 s t r q (let z : a ≡ b = cc in z) (ap length c.0) refl c.1
+    reads_once o p a b (length w) (length v) 0 0 s t (want_small lets w a k) r q (let z : a ≡ b = cc in z) (ap length c.0) refl c.1
 
-pub bad_judged : (lets : Bool) (bytes : List ℕ) (c : ℕ) → HasBadField lets bytes c → Judges (Bad c) lets bytes
+pub bad_judged : (lets : Bool) (bytes : List ℕ) (c : ℕ) → HasBadField (want lets) bytes c → Judges (Bad c) lets bytes
 bad_judged lets bytes c h =
     known h.word (h.good ++ h.rest) h.asked h.is h.known (fields_end h.asked h.left h.good h.rest h.fields (stop_end h.left (length h.word + length h.good) c h.rest h.stop))
     (fields_read h.asked h.left h.good h.rest (length h.word) 0 c h.fields h.stop)

@@ -1,6 +1,6 @@
 -- The fields of a line, one by one.
-use Rattle.std.proofs.Common.{◌≡◌, ℕ, ◌<◌, ◌≤◌, ◌^◌, Bool, true, false, List, [], ◌∷◌, ◌++◌, length, refl, ap, sym, subst, ◌∙◌, arith, codes, append_assoc, append-nil, IsTrue, Some, decimal, inl, inr}
-use Rattle.std.specs.Prelude.{◌==◌, not}
+use Rattle.std.proofs.Common.{◌≡◌, ℕ, ◌<◌, ◌≤◌, ◌^◌, Bool, true, false, List, [], ◌∷◌, ◌++◌, length, refl, ap, sym, subst, ◌∙◌, arith, codes, append_assoc, append-nil, IsTrue, Option, Some, None, decimal, inl, inr}
+use Rattle.std.specs.Prelude.{◌==◌, not, if◌then◌else◌}
 use Rattle.std.specs.List.{list_all}
 use Rattle.std.proofs.lemmas.Bool.{eqb-true}
 use Rattle.ll_bank.specs.Nodes.{Nodes, term_tree}
@@ -16,7 +16,7 @@ use Rattle.ll_laws.specs.declared.Part.{Part}
 use Rattle.ll_laws.specs.declared.Part.TheVariants.{Bounded, Unbounded}
 use Rattle.ll_prooftext.specs.declared.rows.Refusal.{Refusal}
 use Rattle.ll_prooftext.specs.declared.rows.Refusal.TheVariants as refusal
-use Rattle.ll_prooftext.specs.Reading.{Kind, Number, Set, Argument, Mark, Want, Nothing, Arguments, Premises, Then, after_field, IsField, IsNumber, Fields, none, one, IsAtEnd, line_end, space, HasNoField}
+use Rattle.ll_prooftext.specs.Reading.{Kind, Number, Set, Argument, Mark, Plain, Sign, Cell, Want, Nothing, Arguments, Premises, Row, More, Cells, Then, after_field, IsField, IsNumber, Fields, none, one, IsAtEnd, line_end, space, HasNoField}
 use Rattle.ll_prooftext.specs.Words.{Stops, ended, at_byte, is_not, BeginsNot, HasNone, IsSetAt}
 use Rattle.ll_prooftext.specs.Terms.{Moves, IsSpelledAt, argument_at}
 use Rattle.std.specs.List.{flat_map}
@@ -55,7 +55,7 @@ stops_end rest (at_byte b bs e f) = subst IsAtEnd (sym (e ∙ ap (λ x. x ∷ bs
     equal : (b : ℕ) → is_not 32 b ≡ false → b ≡ 32
     equal b f = eqb-true b 32 (turned (b == 32) f)
 
-end_stops : (rest : List ℕ) → IsAtEnd rest → Stops (is_not 32) rest
+pub end_stops : (rest : List ℕ) → IsAtEnd rest → Stops (is_not 32) rest
 end_stops rest line_end = ended refl
 end_stops rest (space {rest = bs}) = at_byte 32 bs refl refl
 
@@ -68,24 +68,65 @@ number_none bytes word rest e f s bare field behind i g end =
 
 -- ---- what is wrong
 
+-- a cell behind so many rows is one of that kind
+pub same_row : (n j : ℕ) (o : Option Want) (next : Want) → (if n == j then o else None) ≡ Some next → n ≡ j
+same_row n j o next e = by_test (n == j) refl e
+  where
+    by_test : (t : Bool) → (n == j) ≡ t → (if t then o else None) ≡ Some next → n ≡ j
+    by_test true t e = eqb-true n j t
+    by_test false t e = absurd cc
+
 -- no field of the one kind that may follow
 then_none : (k : Kind) (v : Want) (bytes : List ℕ) → HasNone k bytes → HasNoField (Then k v) bytes
 then_none Number v bytes h Number field rest next a i e end = h field rest i e end
 then_none Set v bytes h Set field rest next a i e end = h field rest i e end
 then_none Argument v bytes h Argument field rest next a i e end = h field rest i e end
 then_none Mark v bytes h Mark field rest next a i e end = h field rest i e end
+then_none Plain v bytes h Plain field rest next a i e end = h field rest i e end
+then_none Sign v bytes h Sign field rest next a i e end = h field rest i e end
+then_none (Cell n) v bytes h (Cell j) field rest next a i e end = h field rest (subst (λ m. IsField (Cell m) field) (sym (same_row n j (Some v) next a)) i) e end
 then_none Number v bytes h Set field rest next a i e end = let x : ⊥ = cc in x
 then_none Number v bytes h Argument field rest next a i e end = let x : ⊥ = cc in x
 then_none Number v bytes h Mark field rest next a i e end = let x : ⊥ = cc in x
+then_none Number v bytes h Plain field rest next a i e end = let x : ⊥ = cc in x
+then_none Number v bytes h Sign field rest next a i e end = let x : ⊥ = cc in x
+then_none Number v bytes h (Cell j) field rest next a i e end = let x : ⊥ = cc in x
 then_none Set v bytes h Number field rest next a i e end = let x : ⊥ = cc in x
 then_none Set v bytes h Argument field rest next a i e end = let x : ⊥ = cc in x
 then_none Set v bytes h Mark field rest next a i e end = let x : ⊥ = cc in x
+then_none Set v bytes h Plain field rest next a i e end = let x : ⊥ = cc in x
+then_none Set v bytes h Sign field rest next a i e end = let x : ⊥ = cc in x
+then_none Set v bytes h (Cell j) field rest next a i e end = let x : ⊥ = cc in x
 then_none Argument v bytes h Number field rest next a i e end = let x : ⊥ = cc in x
 then_none Argument v bytes h Set field rest next a i e end = let x : ⊥ = cc in x
 then_none Argument v bytes h Mark field rest next a i e end = let x : ⊥ = cc in x
+then_none Argument v bytes h Plain field rest next a i e end = let x : ⊥ = cc in x
+then_none Argument v bytes h Sign field rest next a i e end = let x : ⊥ = cc in x
+then_none Argument v bytes h (Cell j) field rest next a i e end = let x : ⊥ = cc in x
 then_none Mark v bytes h Number field rest next a i e end = let x : ⊥ = cc in x
 then_none Mark v bytes h Set field rest next a i e end = let x : ⊥ = cc in x
 then_none Mark v bytes h Argument field rest next a i e end = let x : ⊥ = cc in x
+then_none Mark v bytes h Plain field rest next a i e end = let x : ⊥ = cc in x
+then_none Mark v bytes h Sign field rest next a i e end = let x : ⊥ = cc in x
+then_none Mark v bytes h (Cell j) field rest next a i e end = let x : ⊥ = cc in x
+then_none Plain v bytes h Number field rest next a i e end = let x : ⊥ = cc in x
+then_none Plain v bytes h Set field rest next a i e end = let x : ⊥ = cc in x
+then_none Plain v bytes h Argument field rest next a i e end = let x : ⊥ = cc in x
+then_none Plain v bytes h Mark field rest next a i e end = let x : ⊥ = cc in x
+then_none Plain v bytes h Sign field rest next a i e end = let x : ⊥ = cc in x
+then_none Plain v bytes h (Cell j) field rest next a i e end = let x : ⊥ = cc in x
+then_none Sign v bytes h Number field rest next a i e end = let x : ⊥ = cc in x
+then_none Sign v bytes h Set field rest next a i e end = let x : ⊥ = cc in x
+then_none Sign v bytes h Argument field rest next a i e end = let x : ⊥ = cc in x
+then_none Sign v bytes h Mark field rest next a i e end = let x : ⊥ = cc in x
+then_none Sign v bytes h Plain field rest next a i e end = let x : ⊥ = cc in x
+then_none Sign v bytes h (Cell j) field rest next a i e end = let x : ⊥ = cc in x
+then_none (Cell n) v bytes h Number field rest next a i e end = let x : ⊥ = cc in x
+then_none (Cell n) v bytes h Set field rest next a i e end = let x : ⊥ = cc in x
+then_none (Cell n) v bytes h Argument field rest next a i e end = let x : ⊥ = cc in x
+then_none (Cell n) v bytes h Mark field rest next a i e end = let x : ⊥ = cc in x
+then_none (Cell n) v bytes h Plain field rest next a i e end = let x : ⊥ = cc in x
+then_none (Cell n) v bytes h Sign field rest next a i e end = let x : ⊥ = cc in x
 
 -- the field that should follow lacks
 pub stops_here : (k : Kind) (v : Want) (bytes : List ℕ) (left : ℕ) → LacksField k bytes left → StopsAt (Then k v) bytes left
@@ -199,13 +240,13 @@ sets_made bytes s middle t rest f g e = record {
 
 -- ---- terms of a clause step
 
-fields_on : (v w u : Want) (a b : List ℕ) → Fields v a w → Fields w b u → Fields v (a ++ b) u
+pub fields_on : (v w u : Want) (a b : List ℕ) → Fields v a w → Fields w b u → Fields v (a ++ b) u
 fields_on v w u a b none g = g
 fields_on v w u a b (one {rest = rest} k field next e i f) g =
     subst (λ z. Fields v z u) (ap (λ z. 32 ∷ z) (sym (append_assoc field rest b))) (one k field next e i (fields_on next w u rest b f g))
 
 -- behind good fields
-stops_after : (v w : Want) (bytes good rest : List ℕ) (left : ℕ) → bytes ≡ good ++ rest → Fields v good w → StopsAt w rest left → StopsAt v bytes left
+pub stops_after : (v w : Want) (bytes good rest : List ℕ) (left : ℕ) → bytes ≡ good ++ rest → Fields v good w → StopsAt w rest left → StopsAt v bytes left
 stops_after v w bytes good rest left e f s = record {
   good = good ++ s.good;
   rest = s.rest;
@@ -250,6 +291,9 @@ no_argument_field : (rest : List ℕ) → (HasNoTerm (32 ∷ rest) → ⊥) → 
 no_argument_field rest bare h Number field behind next a i e end = let x : ⊥ = cc in x
 no_argument_field rest bare h Argument field behind next a i e end = h field behind i e end
 no_argument_field rest bare h Set field behind next a i e end = bare (inr (brace _ (ap (λ z. 32 ∷ z) (e ∙ ap (λ z. z ++ behind) i.is))))
+no_argument_field rest bare h Plain field behind next a i e end = let x : ⊥ = cc in x
+no_argument_field rest bare h Sign field behind next a i e end = let x : ⊥ = cc in x
+no_argument_field rest bare h (Cell j) field behind next a i e end = let x : ⊥ = cc in x
 no_argument_field rest bare h Mark field behind next a i e end = bare (inr (mark _ (ap (λ z. 32 ∷ z) (e ∙ ap (λ z. z ++ behind) (byte_of_mark field i)))))
 
 pub terms_stop : (names : List (List ℕ)) (bank : Nodes) (bytes : List ℕ) (new : List (List ℕ)) (over : Nodes) (terms : List At) (rest : List ℕ) (left : ℕ) → AreTermFields names bank bytes new over terms rest → (HasNoTerm rest → ⊥) → LacksField Argument rest left → StopsAt Arguments bytes left
@@ -304,6 +348,9 @@ one_part Premises rest Unbounded o sp r = one Mark (codes "!") Premises refl ref
 one_part Arguments rest (Bounded s) o sp r = one Set (set_text s.items) Premises refl (record { labels = s.items; small = sp; rising = r; is = refl }) none
 one_part Arguments rest Unbounded o sp r = one Mark (codes "!") Premises refl refl none
 one_part Nothing rest part o sp r = absurd o
+one_part (Row n) rest part o sp r = absurd o
+one_part (More n) rest part o sp r = absurd o
+one_part (Cells n) rest part o sp r = absurd o
 one_part (Then k v) rest part o sp r = absurd o
 
 pub parts_more : (bytes : List ℕ) (parts : List Part) (rest : List ℕ) (part : Part) (behind : List ℕ) → ArePartsTo bytes parts rest → IsPartField rest part behind → ArePartsTo bytes (parts ++ part ∷ []) behind
@@ -336,7 +383,16 @@ no_part_field Arguments rest there b o s m Argument field behind next a i e end 
     by_begin (inl n) = let q : [] ≡ 32 ∷ there = sym n ∙ b in let x : ⊥ = cc in x
     by_begin (inr (brace r f)) = argument_first field behind r 123 i (sym e ∙ behind_byte 32 there (123 ∷ r) (sym b ∙ f)) refl refl refl
     by_begin (inr (mark r f)) = argument_first field behind r 33 i (sym e ∙ behind_byte 32 there (33 ∷ r) (sym b ∙ f)) refl refl refl
+no_part_field Premises rest there b o s m Plain field behind next a i e end = let x : ⊥ = cc in x
+no_part_field Premises rest there b o s m Sign field behind next a i e end = let x : ⊥ = cc in x
+no_part_field Premises rest there b o s m (Cell j) field behind next a i e end = let x : ⊥ = cc in x
+no_part_field Arguments rest there b o s m Plain field behind next a i e end = let x : ⊥ = cc in x
+no_part_field Arguments rest there b o s m Sign field behind next a i e end = let x : ⊥ = cc in x
+no_part_field Arguments rest there b o s m (Cell j) field behind next a i e end = let x : ⊥ = cc in x
 no_part_field Nothing rest there b o s m k field behind next a i e end = o
+no_part_field (Row n) rest there b o s m k field behind next a i e end = o
+no_part_field (More n) rest there b o s m k field behind next a i e end = o
+no_part_field (Cells n) rest there b o s m k field behind next a i e end = o
 no_part_field (Then j v) rest there b o s m k field behind next a i e end = o
 
 pub parts_stop : (bytes : List ℕ) (parts : List Part) (rest : List ℕ) (left : ℕ) → ArePartsTo bytes parts rest → (rest ≡ [] → ⊥) → LacksPart rest left → StopsAt Arguments bytes left
@@ -370,11 +426,11 @@ number_room bytes n rest f = let l = ap length f.is in let k = length-append (fi
 number_mentions : (bytes : List ℕ) (n : ℕ) (rest : List ℕ) → IsNumberField bytes n rest → mentions Outside (field (decimal n) ++ rest) ≡ mentions Outside rest
 number_mentions bytes n rest f = quiet_apart (field (decimal n)) rest (field_quiet (decimal n) (decimal_quiet n (let l = f.small in omega arith))) (end_stops_word rest f.end)
 
-behind_number : (names : List (List ℕ)) (bank : Nodes) (bytes : List ℕ) (n : ℕ) (rest : List ℕ) (new : List (List ℕ)) (over : Nodes) (left : List ℕ) → IsNumberField bytes n rest → Moves names bank rest new over left → Moves names bank bytes new over left
+pub behind_number : (names : List (List ℕ)) (bank : Nodes) (bytes : List ℕ) (n : ℕ) (rest : List ℕ) (new : List (List ℕ)) (over : Nodes) (left : List ℕ) → IsNumberField bytes n rest → Moves names bank rest new over left → Moves names bank bytes new over left
 behind_number names bank bytes n rest new over left f m = moves_behind names bank bytes (field (decimal n)) rest new over left f.is (number_mentions bytes n rest f) m
 
 -- nor do premises
-parts_move : (names : List (List ℕ)) (bank : Nodes) (bytes : List ℕ) (parts : List Part) → ArePartFields bytes parts → Moves names bank bytes names bank []
+pub parts_move : (names : List (List ℕ)) (bank : Nodes) (bytes : List ℕ) (parts : List Part) → ArePartFields bytes parts → Moves names bank bytes names bank []
 parts_move names bank bytes parts p = moves_none names bank bank bytes (Extends-refl bank) (ap (mentions Outside) p.is ∙ quiet_none (flat_map part_field (map part_line parts)) (parts_quiet (map part_line parts) p.spelled))
 
 pub clause_made : (names : List (List ℕ)) (bank : Nodes) (bytes : List ℕ) (new : List (List ℕ)) (over : Nodes) (n : ℕ) (rest : List ℕ) (k : ℕ) (behind : List ℕ) (terms : List At) (last : List ℕ) (parts : List Part) → IsNumberField bytes n rest → IsNumberField rest k behind → AreTermFields names bank behind new over terms last → ArePartFields last parts

@@ -1,5 +1,5 @@
 -- The first words of lines, and what lines say.
-use Rattle.std.proofs.Common.{◌≡◌, ℕ, suc, ◌+◌, ◌-◌, ◌<◌, ◌^◌, Bool, true, false, List, [], ◌∷◌, ◌++◌, length, map, refl, ap, sym, subst, ◌∙◌, arith, codes, append_assoc, append-nil, length-append, Result, Some, None, IfOk, decimal}
+use Rattle.std.proofs.Common.{◌≡◌, ℕ, suc, ◌+◌, ◌-◌, ◌<◌, ◌^◌, Bool, true, false, List, [], ◌∷◌, ◌++◌, length, map, refl, ap, sym, subst, ◌∙◌, arith, codes, append_assoc, append-nil, length-append, Result, Option, Some, None, IfOk, decimal}
 use Rattle.std.specs.Prelude.{◌==◌, if◌then◌else◌}
 use Rattle.std.specs.List.{list_all, flat_map}
 use Rattle.std.specs.Str.{bytes_eq}
@@ -59,7 +59,7 @@ equal w t h = (bytes_eq-Decides w t).0 (sym h)
 pub found : (w t : List ℕ) (k : NodeWord) → true ≡ bytes_eq w t → t ≡ spelling k → IsNodeWord w k
 found w t k h e = node_word_is w k (equal w t h ∙ e)
 
-other : (w t : List ℕ) → false ≡ bytes_eq w t → w ≡ t → ⊥
+pub other : (w t : List ℕ) → false ≡ bytes_eq w t → w ≡ t → ⊥
 other w t h e = let x : bytes_eq w t ≡ true = (bytes_eq-Decides w t).1 e in let y : false ≡ true = h ∙ x in let z : ⊥ = cc in z
 
 -- no word of the list is this one
@@ -220,8 +220,8 @@ stop_at v good rest n left line e l k (wrong bs f h) =
     subst (λ us. IsStop v n us (bad_column (length line) left)) (sym f)
     (subst (λ j. IsStop v n (32 ∷ bs) (bad_column (length line) j)) (sym z) (subst (IsStop v n (32 ∷ bs)) q (no_field h)))
 
-pub bad_left : (lets : Bool) (line w rest : List ℕ) (k : RowWord) (left : ℕ) → line ≡ w ++ rest → IsRowWord lets w k → StopsAt (row_asks k) rest left → HasBadLeft lets line left
-bad_left lets line w rest k left e i s =
+pub bad_left : (wants : List ℕ → Option Want) (line w rest : List ℕ) (asked : Want) (left : ℕ) → line ≡ w ++ rest → wants w ≡ Some asked → StopsAt asked rest left → HasBadLeft wants line left
+bad_left wants line w rest asked left e known s =
     let text : line ≡ w ++ (s.good ++ s.rest) = e ∙ ap (λ z. w ++ z) s.is in
     let split : line ≡ (w ++ s.good) ++ s.rest = text ∙ sym (append_assoc w s.good s.rest) in
     record {
@@ -230,19 +230,22 @@ bad_left lets line w rest k left e i s =
         word = w;
         good = s.good;
         rest = s.rest;
-        asked = row_asks k;
+        asked = asked;
         left = s.next;
         is = text;
-        known = i.known;
+        known = known;
         fields = s.fields;
         stop = stop_at s.next (w ++ s.good) s.rest (length w + length s.good) left line split (sym (length-append w s.good)) s.left_is s.bad;
       };
     }
 
-pub refused_row : (lets : Bool) (line w rest : List ℕ) (k : RowWord) (x : Refusal) → line ≡ w ++ rest → IsRowWord lets w k → Refuses (StopsAt (row_asks k) rest) x → IsRefused lets line x
-refused_row lets line w rest k refusal.Word e i h = absurd h
-refused_row lets line w rest k (refusal.Field left) e i h = bad_left lets line w rest k left e i h
-refused_row lets line w rest k refusal.OutOfMemory e i h = h
+pub refused_at : (wants : List ℕ → Option Want) (line w rest : List ℕ) (asked : Want) (x : Refusal) → line ≡ w ++ rest → wants w ≡ Some asked → Refuses (StopsAt asked rest) x → IsRefused wants line x
+refused_at wants line w rest asked refusal.Word e i h = absurd h
+refused_at wants line w rest asked (refusal.Field left) e i h = bad_left wants line w rest asked left e i h
+refused_at wants line w rest asked refusal.OutOfMemory e i h = h
+
+pub refused_row : (lets : Bool) (line w rest : List ℕ) (k : RowWord) (x : Refusal) → line ≡ w ++ rest → IsRowWord lets w k → Refuses (StopsAt (row_asks k) rest) x → IsRefused (want lets) line x
+refused_row lets line w rest k x e i h = refused_at (want lets) line w rest (row_asks k) x e i.known h
 
 pub rest_room : (names : List (List ℕ)) (line w rest : List ℕ) → line ≡ w ++ rest → length names + length line < 2 ^ 32 → length names + length rest < 2 ^ 32
 rest_room names line w rest e h = let t = ap length e in let a = length-append w rest in omega arith

@@ -100,7 +100,7 @@ missing_push (suc k) [] n j e = let x : suc k ≡ suc j = cc in let q : k ≡ j 
 missing_push zero (m ∷ ns) n j e = let x : None ≡ Some (suc j) = e in let y : ⊥ = cc in absurd y
 missing_push (suc k) (m ∷ ns) n j e = missing_push (children m + k) ns n j e
 
-parts_few : (ps : List PartLine) → length ps ≤ length (flat_map part_field ps)
+pub parts_few : (ps : List PartLine) → length ps ≤ length (flat_map part_field ps)
 parts_few [] = omega arith
 parts_few (p ∷ ps) = let ih = parts_few ps in let l = length-append (part_field p) (flat_map part_field ps) in let f = full p in omega arith
   where
@@ -137,7 +137,7 @@ version_names : line_names (codes "proof 1") ≡ []
 unfolding line_names mentions name_here scanned word_run is_lower is_word_byte
 version_names = refl
 
-names_more : (names new : List (List ℕ)) (line : List ℕ) (ls rest : List (List ℕ)) → ls ≡ line ∷ rest → with_names names (line_names line) ≡ new → with_names names (flat_map line_names ls) ≡ with_names new (flat_map line_names rest)
+pub names_more : (names new : List (List ℕ)) (line : List ℕ) (ls rest : List (List ℕ)) → ls ≡ line ∷ rest → with_names names (line_names line) ≡ new → with_names names (flat_map line_names ls) ≡ with_names new (flat_map line_names rest)
 names_more names new line ls rest e h =
     ap (λ z. with_names names (flat_map line_names z)) e ∙ (fold-append with_name names (line_names line) (flat_map line_names rest) ∙ ap (λ z. with_names z (flat_map line_names rest)) h)
 
@@ -157,7 +157,7 @@ pub record IsSoFar (text : List ℕ) (old names : List (List ℕ)) (o : Reading)
   pub low : p.at.line + length p.rest.now ≤ 1 + length text
   pub few : o.lacking + length p.rest.now ≤ 1 + length text
 
-pub so_far_none : (text : List ℕ) (names : List (List ℕ)) (o : Reading) (p : Lines) → IsBehindVersion text p → o.asked.items ≡ [] → o.nodes.items ≡ [] → o.lacking ≡ 1 → IsSoFar text names names o p
+pub so_far_none : (text : List ℕ) (names : List (List ℕ)) (o : Reading) (p : Lines) → IsBehindVersion (codes "proof 1") text p → o.asked.items ≡ [] → o.nodes.items ≡ [] → o.lacking ≡ 1 → IsSoFar text names names o p
 so_far_none text names o p b a n l = record {
   lines = rw (a, n) b.lines;
   asked = subst (All (λ (t : At). IsSpelledAt names o.bank t.0)) (sym a) (All-nil (λ (t : At). IsSpelledAt names o.bank t.0));
@@ -183,7 +183,7 @@ its_number text old names o p q line s t = t.number ∙ by_next s.next
     by_next (inl e) = absurd (some e)
     by_next (inr e) = ap (λ (z : Place). z.line) e
 
-empty : {X : Type 0} (xs : List X) → is_none xs ≡ true → xs ≡ []
+pub empty : {X : Type 0} (xs : List X) → is_none xs ≡ true → xs ≡ []
 empty [] e = refl
 empty (x ∷ xs) e = let y : false ≡ true = e in let z : ⊥ = cc in absurd z
 

@@ -150,7 +150,7 @@ front_among : (before front : List Term) (t : Term) (back : List Term) → AreBe
 front_among before [] t back h = subst (λ bs. AreAmong bs (completed_arguments t)) (sym (append-nil before)) h.0
 front_among before (x ∷ front) t back h = subst (λ bs. AreAmong bs (completed_arguments t)) (append_assoc before (x ∷ []) front) (front_among (before ++ x ∷ []) front t back h.1)
 
-wider : (xs ys ts : List Term) → AreAmong xs ts → AreAmong (xs ++ ys) ts
+pub wider : (xs ys ts : List Term) → AreAmong xs ts → AreAmong (xs ++ ys) ts
 wider xs ys ts h = All-weaker (λ t. is_among xs t ≡ true) (λ t. is_among (xs ++ ys) t ≡ true) (λ t k. among_left xs ys t k) ts h
 
 -- a term with arguments is completed behind those in its arguments

@@ -1,5 +1,5 @@
 -- A text on its way: the lines that are still to come, and what was read of them.
-use Rattle.std.specs.Prelude.{◌≡◌, ℕ, ◌+◌, ◌-◌, ◌<◌, ◌≤◌, List, [], ◌∷◌, ◌++◌, length, fold, ◌⊎◌, codes}
+use Rattle.std.specs.Prelude.{◌≡◌, ℕ, ◌+◌, ◌-◌, ◌<◌, ◌≤◌, List, [], ◌∷◌, ◌++◌, length, fold, ◌⊎◌}
 use Rattle.ll_bank.specs.declared.At.{At}
 use Rattle.ll_laws.specs.ShownLines.{line_of}
 use Rattle.ll_laws.specs.declared.Rule.{Rule}
@@ -56,9 +56,9 @@ pub record HasNoLine (o p : Lines) : Type 0 where
   pub rest : o.rest.now ≡ []
   pub at : p.at ≡ o.at
 
--- the lines behind the first one, which is that of the version
-pub record IsBehindVersion (text : List ℕ) (p : Lines) : Type 0 where
-  pub lines : text_lines text ≡ codes "proof 1" ∷ text_lines p.rest.now
+-- the lines behind the first one, which is this one
+pub record IsBehindVersion (first text : List ℕ) (p : Lines) : Type 0 where
+  pub lines : text_lines text ≡ first ∷ text_lines p.rest.now
   pub end : end_from p.at p.rest.now ≡ place_at text (length text)
   pub next : IsNext 2 p.rest.now p.at
   pub shorter : length p.rest.now < length text

@@ -1,5 +1,5 @@
 -- The first words of lines, and what a line behind the first one says.
-use Rattle.std.specs.Prelude.{◌≡◌, ℕ, ◌+◌, ◌-◌, ◌<◌, ◌≤◌, ◌^◌, Bool, true, List, ◌++◌, length, map, All, IsTrue, Some, None, codes, if◌then◌else◌, ◌==◌}
+use Rattle.std.specs.Prelude.{◌≡◌, ℕ, ◌+◌, ◌-◌, ◌<◌, ◌≤◌, ◌^◌, Bool, true, List, ◌++◌, length, map, All, IsTrue, Option, Some, None, codes, if◌then◌else◌, ◌==◌}
 use Rattle.std.specs.List.{list_all}
 use Rattle.ll_bank.specs.Nodes.{Nodes, term_tree}
 use Rattle.ll_laws.specs.Line.{rises, part_rises}
@@ -119,12 +119,12 @@ abbrev pub bad_column : ℕ → ℕ → ℕ
 bad_column all left = all - left + (if left == 0 then 1 else 2)
 
 -- a field is wrong or lacks, where so many bytes are left
-pub record HasBadLeft (lets : Bool) (bytes : List ℕ) (left : ℕ) : Type 0 where
+pub record HasBadLeft (wants : List ℕ → Option Want) (bytes : List ℕ) (left : ℕ) : Type 0 where
   pub within : left ≤ length bytes
-  pub bad : HasBadField lets bytes (bad_column (length bytes) left)
+  pub bad : HasBadField wants bytes (bad_column (length bytes) left)
 
--- why a line was refused
-abbrev pub IsRefused : Bool → List ℕ → Refusal → Type 0
-IsRefused lets bytes refusal.Word = want lets (first_word bytes) ≡ None
-IsRefused lets bytes (refusal.Field left) = HasBadLeft lets bytes left
-IsRefused lets bytes refusal.OutOfMemory = Unit {0}
+-- why a line was refused, where these are the first words and what follows them
+abbrev pub IsRefused : (List ℕ → Option Want) → List ℕ → Refusal → Type 0
+IsRefused wants bytes refusal.Word = wants (first_word bytes) ≡ None
+IsRefused wants bytes (refusal.Field left) = HasBadLeft wants bytes left
+IsRefused wants bytes refusal.OutOfMemory = Unit {0}

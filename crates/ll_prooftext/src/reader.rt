@@ -6,7 +6,7 @@ ghost use Rattle.ll_laws.specs.ShownLines.{line_of};
 ghost use Rattle.ll_lexer.specs.Reading.{place_at};
 ghost use Rattle.ll_prooftext.specs.Terms.{Grows};
 ghost use Rattle.ll_prooftext.specs.Mentions.{text_names};
-ghost use Rattle.ll_prooftext.specs.Reading.{IsTextOf, IsCause, HasNoVersion, text_lines, is_none, children};
+ghost use Rattle.ll_prooftext.specs.Reading.{IsTextOf, IsCause, HasNoVersion, text_lines, is_none, children, want};
 ghost use Rattle.ll_prooftext.specs.RowWords.{IsRefused};
 ghost use Rattle.ll_prooftext.specs.Reader.{fault_at, refused_fault, IsWithin, IsNext, TakesLine, HasNoLine, IsBehindVersion, Takes};
 
@@ -20,25 +20,25 @@ use std::alloc::Global;
 // The numbers of the kinds of faults.
 const UNKNOWN_WORD: u8 = 13;
 
-const MALFORMED_FIELD: u8 = 14;
+pub(crate) const MALFORMED_FIELD: u8 = 14;
 
-const NODES_MISSING: u8 = 15;
+pub(crate) const NODES_MISSING: u8 = 15;
 
-const NODES_LEFT_OVER: u8 = 16;
+pub(crate) const NODES_LEFT_OVER: u8 = 16;
 
 /// A line of a text, without its LF.
 #[derive(Clone, Copy)]
-struct TextLine<'a> {
-    number: u32,
-    bytes: &'a [u8],
+pub(crate) struct TextLine<'a> {
+    pub(crate) number: u32,
+    pub(crate) bytes: &'a [u8],
 }
 
 /// The lines of a text that are still to come.
 #[derive(Clone, Copy)]
-struct Lines<'a> {
-    rest: &'a [u8],
+pub(crate) struct Lines<'a> {
+    pub(crate) rest: &'a [u8],
     // The place of the first byte that is left.
-    at: Place,
+    pub(crate) at: Place,
 }
 
 /// A derivation on its way.
@@ -62,7 +62,7 @@ pub fn read(alloc: Global, text: &[u8], names: &mut Names) -> Result<Derivation,
     ensures err { IfErr result (IsCause text.now) }
     ensures grows { Grows names.old names.new }
 {
-    let Some(mut lines) = behind_version(text) else {
+    let Some(mut lines) = behind_version(text, b"proof 1") else {
         return Err(fault(1, 1, MALFORMED_FIELD));
     };
     let mut reading = Reading::new(alloc);
@@ -84,7 +84,7 @@ pub fn read(alloc: Global, text: &[u8], names: &mut Names) -> Result<Derivation,
     })
 }
 
-fn fault(line: u32, column: u32, kind: u8) -> TextFault
+pub(crate) fn fault(line: u32, column: u32, kind: u8) -> TextFault
     ensures { result ≡ fault_at line column kind }
 {
     TextFault::Text(Fault {
@@ -93,17 +93,17 @@ fn fault(line: u32, column: u32, kind: u8) -> TextFault
     })
 }
 
-/// The lines behind the first one, if that is `proof 1`.
-fn behind_version(text: &[u8]) -> Option<Lines<'_>>
+/// The lines behind the first one, if that is this one.
+pub(crate) fn behind_version<'a>(text: &'a [u8], version: &[u8]) -> Option<Lines<'a>>
     requires { length text.now ≤ 16777216 }
-    ensures { MatchOption result (HasNoVersion (text_lines text.now)) (IsBehindVersion text.now) }
+    ensures { MatchOption result (HasNoVersion version.now (text_lines text.now)) (IsBehindVersion version.now text.now) }
 {
     let mut lines = Lines {
         rest: text,
         at: Place { line: 1, column: 1 },
     };
     let first = lines.next()?;
-    if first.bytes == b"proof 1".as_slice() {
+    if first.bytes == version {
         Some(lines)
     } else {
         None
@@ -112,7 +112,7 @@ fn behind_version(text: &[u8]) -> Option<Lines<'_>>
 
 impl<'a> Lines<'a> {
     /// Takes a line.
-    fn next(&mut self) -> Option<TextLine<'a>>
+    pub(crate) fn next(&mut self) -> Option<TextLine<'a>>
         requires begins { IsNext self.old.at.line self.old.rest.now self.old.at }
         requires room { self.old.at.line + length self.old.rest.now < 2 ^ 31 }
         ensures { MatchOption result (HasNoLine self.old self.new) (λ line. TakesLine self.old line self.new) }
@@ -140,7 +140,7 @@ impl<'a> Lines<'a> {
 }
 
 /// The fault of a line.
-fn line_fault(line: TextLine, refusal: Refusal) -> TextFault
+pub(crate) fn line_fault(line: TextLine, refusal: Refusal) -> TextFault
     requires within { IsWithin (length line.bytes.now) refusal }
     requires short { length line.bytes.now < 2 ^ 31 }
     ensures { result ≡ refused_fault line.entry.number (length line.entry.bytes.now) refusal }
@@ -177,7 +177,7 @@ impl Reading {
         requires few { self.old.lacking + length line.now < 2 ^ 32 }
         requires room { length names.old + length line.now < 2 ^ 32 }
         ensures ok { OnOk result (Takes names.old self.old line.now names.new self.new) }
-        ensures err { IfErr result (IsRefused (is_none self.old.nodes.items) line.now) }
+        ensures err { IfErr result (IsRefused (want (is_none self.old.nodes.items)) line.now) }
         ensures grows { Grows names.old names.new }
     {
         let lets = self.nodes.is_empty();
@@ -196,7 +196,7 @@ impl Reading {
 }
 
 /// How many nodes stand under a node.
-fn children(rule: &Rule) -> usize
+pub(crate) fn children(rule: &Rule) -> usize
     ensures { (bank : Nodes) → result ≡ children (line_of bank rule.now) }
 {
     match rule {

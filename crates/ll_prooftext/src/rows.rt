@@ -61,7 +61,7 @@ enum RowWord {
 
 /// The first words of nodes' lines.
 #[derive(Clone, Copy)]
-enum NodeWord {
+pub(crate) enum NodeWord {
     True,
     Erase,
     Tensor,
@@ -89,7 +89,7 @@ pub(crate) fn read_row(
 ) -> Result<Row, Refusal>
     requires { length names.old + length line.now < 2 ^ 32 }
     ensures ok { IfOk result (IsRow names.old bank.old line.now lets names.new bank.new) }
-    ensures err { IfErr result (IsRefused lets line.now) }
+    ensures err { IfErr result (IsRefused (want lets) line.now) }
     ensures grows { Grows names.old names.new }
 {
     let (first, rest) = split_before(line, b' ');
@@ -111,7 +111,7 @@ fn row_word(word: &[u8], lets: bool) -> Option<RowWord>
 }
 
 /// The first word of a node's line that is spelled so.
-fn node_word(word: &[u8]) -> Option<NodeWord>
+pub(crate) fn node_word(word: &[u8]) -> Option<NodeWord>
     ensures { MatchOption result (listed node_words word.now ≡ None) (IsNodeWord word.now) }
 {
     if word == b"true".as_slice() {
@@ -149,7 +149,7 @@ fn node_word(word: &[u8]) -> Option<NodeWord>
 
 /// The node of a first word and the fields behind it.
 #[tactic(none)]
-fn node(
+pub(crate) fn node(
     alloc: Global,
     word: NodeWord,
     rest: &[u8],
@@ -247,7 +247,7 @@ fn term_fields<'a>(
 }
 
 /// Whether a term stands here: the line goes on, and no premise begins.
-fn has_term(bytes: &[u8]) -> bool
+pub(crate) fn has_term(bytes: &[u8]) -> bool
     requires { IsAtEnd bytes.now }
     ensures { MatchBool result (HasNoTerm bytes.now → ⊥) (HasNoTerm bytes.now) }
 {
@@ -264,7 +264,7 @@ fn has_term(bytes: &[u8]) -> bool
 }
 
 /// The premises up to the end of the line.
-fn part_fields(alloc: Global, bytes: &[u8]) -> Result<Vec<Part>, Refusal>
+pub(crate) fn part_fields(alloc: Global, bytes: &[u8]) -> Result<Vec<Part>, Refusal>
     requires end { IsAtEnd bytes.now }
     requires begins { HasNoTerm bytes.now }
     ensures ok { IfOk result (λ parts. ArePartFields bytes.now parts.items) }
@@ -339,7 +339,7 @@ fn term_field<'a>(
 }
 
 /// A number behind a space, and what stands behind it.
-fn number_field(bytes: &[u8]) -> Result<(u32, &[u8]), Refusal>
+pub(crate) fn number_field(bytes: &[u8]) -> Result<(u32, &[u8]), Refusal>
     requires { IsAtEnd bytes.now }
     ensures ok { IfOk result (λ p. IsNumberField bytes.now p.0 p.1.now) }
     ensures err { IfErr result (Refuses (LacksField Number bytes.now)) }
@@ -379,7 +379,7 @@ fn last_number(bytes: &[u8]) -> Result<u32, Refusal>
 }
 
 /// Refuses a further field.
-fn no_more(bytes: &[u8]) -> Result<(), Refusal>
+pub(crate) fn no_more(bytes: &[u8]) -> Result<(), Refusal>
     requires { IsAtEnd bytes.now }
     ensures ok { OnOk result (bytes.now ≡ []) }
     ensures err { IfErr result (Refuses (StopsAt Nothing bytes.now)) }

@@ -1,7 +1,8 @@
 //! The table of the shared terms of some fields.
-ghost use Rattle.std.specs.Prelude.{◌≡◌, ◌++◌, ◌∷◌, [], IfOk, OnOk, All};
+ghost use Rattle.std.specs.Prelude.{◌≡◌, ◌<◌, ◌++◌, ◌∷◌, [], length, IfOk, OnOk, All};
 ghost use Rattle.std.specs.List.{flat_map};
 ghost use Rattle.ll_bank.specs.Nodes.{term_trees, AllInTerms, HasTerm};
+ghost use Rattle.ll_prooftext.specs.Classes.{AreClasses};
 ghost use Rattle.ll_prooftext.specs.Table.{completed, rows_in};
 ghost use Rattle.ll_prooftext.specs.Tables.{HasNumberAt, row_at, task_at, IsTableOf, Entered, Left, Taken, entries};
 
@@ -35,6 +36,23 @@ pub(crate) fn table_of(alloc: Global, bank: &Bank, fields: &[At]) -> Result<Tabl
     ensures reach { IfOk result (λ table. All (λ a. HasNumberAt table a.0) fields.now) }
 {
     let classes = number_terms(alloc, bank, fields)?;
+    table_with(alloc, bank, fields, classes)
+}
+
+/// The table of some fields, whose terms have these numbers.
+pub(crate) fn table_with(
+    alloc: Global,
+    bank: &Bank,
+    fields: &[At],
+    classes: Classes,
+) -> Result<Table, OutOfMemory>
+    requires inside { AllInTerms bank.now fields.now }
+    requires classes { AreClasses bank.now classes }
+    requires numbered { All (λ a. a.0 < length classes.numbers.items) fields.now }
+    ensures table { IfOk result (λ table. IsTableOf bank.now table (rows_in (flat_map completed (term_trees bank.now fields.now)))) }
+    ensures same { IfOk result (λ table. table.classes ≡ classes) }
+    ensures reach { IfOk result (λ table. All (λ a. HasNumberAt table a.0) fields.now) }
+{
     let mut table = Table {
         numbered: vec![in alloc; None; classes.count]?,
         classes,

@@ -103,7 +103,7 @@ fn bracketed<'a>(
 }
 
 /// A head with arguments, or the term itself.
-fn term_of(word: Word, args: &[At], bank: &mut Bank) -> Result<At, OutOfMemory>
+pub(crate) fn term_of(word: Word, args: &[At], bank: &mut Bank) -> Result<At, OutOfMemory>
     requires { AllInTerms bank.old args.now }
     ensures term { IfOk result (λ at. IsTermFrom bank.old bank.new word args.now at.0) }
     ensures keeps { OnOk result (Extends bank.old bank.new) }

@@ -66,7 +66,11 @@ pub(crate) fn word_at<'a>(
 }
 
 /// The word that is spelled so, if one is. A name that is new is added.
-fn word_of(bytes: &[u8], names: &mut Names, bank: &mut Bank) -> Result<Option<Word>, OutOfMemory>
+pub(crate) fn word_of(
+    bytes: &[u8],
+    names: &mut Names,
+    bank: &mut Bank,
+) -> Result<Option<Word>, OutOfMemory>
     requires { length names.old < 2 ^ 32 }
     ensures found { IfOk result (λ found. MatchOption found ((p : Shape) → IsWord bytes.now p → ⊥) (IsWordOf names.new bank.new bytes.now)) }
     ensures moves { IfOk result (λ found. IfSome found (λ word. Moves names.old bank.old bytes.now names.new bank.new [])) }

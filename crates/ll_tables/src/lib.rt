@@ -9,3 +9,5 @@ mod edge;
 mod lexer;
 #[cfg(test)]
 mod prooftext;
+#[cfg(test)]
+mod prooftext2;

@@ -1,5 +1,5 @@
 use Rattle.std.proofs.Common.{arith}
-use Rattle.ll_prooftext.specs.Reading.{is_none}
+use Rattle.ll_prooftext.specs.Reading.{is_none, want}
 use Rattle.ll_prooftext.proofs.Kept.{grows_none, grows_on}
 use Rattle.ll_prooftext.proofs.SoFar.{so_far_none, so_far_more}
 use Rattle.ll_prooftext.proofs.Whole.{text_read, names_read, terms_inside, rules_inside}
@@ -42,7 +42,7 @@ pub take-requires-clause-room : goal.take-requires-clause-room
 take-requires-clause-room c = let so_far = c.loop-line.invariant.room in let room = c.in-Some-next.ensures.room in let all = c.requires.room in omega arith
 
 pub line_fault-requires-clause-within : goal.line_fault-requires-clause-within
-line_fault-requires-clause-within c = refused_within (is_none c.loop-line.reading.nodes.items) c.in-Some-next.line.bytes.now c.in-Err.refusal c.in-Err.ensures.err
+line_fault-requires-clause-within c = refused_within (want (is_none c.loop-line.reading.nodes.items)) c.in-Some-next.line.bytes.now c.in-Err.refusal c.in-Err.ensures.err
 
 pub line_fault-requires-clause-short : goal.line_fault-requires-clause-short
 line_fault-requires-clause-short c = let few = c.loop-line.invariant.few in let room = c.in-Some-next.ensures.room in let short = c.requires.short in omega arith

@@ -1,22 +1,21 @@
-use Rattle.std.proofs.Common.{◌<◌, ◌++◌, length, get_or, All, ap, sym, subst, ◌∙◌, rules}
+use Rattle.std.proofs.Common.{◌<◌, ◌++◌, length, get_or, ap, sym, subst, ◌∙◌, refl, rules}
 use Rattle.std.specs.List.{flat_map}
-use Rattle.ll_bank.specs.declared.At.{At}
 use Rattle.ll_bank.specs.Nodes.{term_trees}
 use Rattle.ll_prooftext.specs.declared.classes.Classes.{Classes}
 use Rattle.ll_prooftext.specs.declared.table.Table.{Table}
 use Rattle.ll_prooftext.specs.Table.{completed, rows_in}
 use Rattle.ll_prooftext.specs.Tables.{IsBuilding, tasks_weight, entries}
 use Rattle.ll_prooftext.proofs.TableSteps.{taken_on, table_done, table_starts, building_starts, argument_numbered}
-use Rattle.ll_prooftext.proofs.table.table_of.Goals as goal
+use Rattle.ll_prooftext.proofs.table.table_with.Goals as goal
 
 pub loop-task-init : goal.loop-task-init
 loop-task-init c =
-    let start : Table = record { classes = c.in_ok-classes.classes; numbered = c.in_ok-vec.field-0; rows = c.new.result } in (
+    let start : Table = record { classes = c.args.classes; numbered = c.in_ok-vec.field-0; rows = c.new.result } in (
       subst (λ ts. IsBuilding c.args.bank.now (flat_map completed (term_trees c.args.bank.now c.args.fields.now)) start ts)
           (sym (c.in_ok-push_entries.ensures ∙ ap (λ ts. ts ++ entries c.args.fields.now) c.new-tasks.ensures.items))
           (building_starts c.args.bank.now c.args.fields.now start
-          (table_starts c.args.bank.now start c.in_ok-classes.ensures.classes (c.in_ok-vec.ensures.items_if_clones_equal (search rules)) c.new.ensures.items) c.in_ok-classes.ensures.reach),
-      c.in_ok-classes.ensures.reach,
+          (table_starts c.args.bank.now start c.requires.classes (c.in_ok-vec.ensures.items_if_clones_equal (search rules)) c.new.ensures.items) c.requires.numbered),
+      refl,
     )
 
 pub loop-task-preserved : goal.loop-task-preserved
@@ -24,7 +23,7 @@ loop-task-preserved c =
     let goes = taken_on c.args.bank.now (term_trees c.args.bank.now c.args.fields.now) c.loop-task.table c.pop.new.self.items c.in-Some.task c.take.new.self c.take.new.tasks.items
     (subst (IsBuilding c.args.bank.now (flat_map completed (term_trees c.args.bank.now c.args.fields.now)) c.loop-task.table) c.in-Some.ensures.items c.loop-task.invariant.0) c.in_ok-take.ensures in (
       goes.building,
-      subst (λ (k : Classes). All (λ (a : At). a.0 < length k.numbers.items) c.args.fields.now) (sym goes.same) c.loop-task.invariant.1,
+      goes.same ∙ c.loop-task.invariant.1,
     )
 
 pub loop-task-smaller : goal.loop-task-smaller
@@ -39,4 +38,7 @@ returns-clause-table c =
 
 pub returns-clause-reach : goal.returns-clause-reach
 returns-clause-reach c =
-    λ k d l. argument_numbered c.args.bank.now c.loop-task.table (rows_in c.loop-task.invariant.0.done) c.loop-task.invariant.0.table (get_or c.args.fields.now k d).0 (c.loop-task.invariant.1 k d l)
+    λ k d l. argument_numbered c.args.bank.now c.loop-task.table (rows_in c.loop-task.invariant.0.done) c.loop-task.invariant.0.table (get_or c.args.fields.now k d).0 (subst (λ (t : Classes). (get_or c.args.fields.now k d).0 < length t.numbers.items) (sym c.loop-task.invariant.1) (c.requires.numbered k d l))
+
+pub returns-clause-same : goal.returns-clause-same
+returns-clause-same c = c.loop-task.invariant.1

@@ -1,15 +1,18 @@
 -- The words of a print, those of a check, those of a cover, and a form among the forms.
-use Rattle.std.proofs.Common.{◌≡◌, ℕ, suc, ◌+◌, ◌<◌, ◌≤◌, Bool, true, false, ◌||◌, List, [], ◌∷◌, ◌++◌, length, take, slice_get, get_or, Option, Some, None, refl, ap, sym, subst, ◌∙◌, inl, inr, arith}
-use Rattle.std.specs.Prelude.{IfSome, IsSomeAnd, codes, option_map, is_some}
+use Rattle.std.proofs.Common.{◌≡◌, ℕ, suc, ◌+◌, ◌<◌, ◌≤◌, Bool, true, false, ◌||◌, List, [], ◌∷◌, ◌++◌, length, take, slice_get, get_or, Option, Some, None, refl, ap, sym, subst, ◌∙◌, inl, inr, ◌⊎◌, cond, arith}
+use Rattle.std.specs.Prelude.{IfSome, IsSomeAnd, codes, option_map, is_some, filter}
 use Rattle.std.specs.Str.Parse.{digits_value}
 use Rattle.std.proofs.lemmas.Option.{slice_get_past, slice_get-map, slice_get-get_or}
 use Rattle.std.specs.Borrow.{Bor}
 use Rattle.ll_top.specs.Outcome.{word_texts}
+use Rattle.ll_make.specs.declared.kind.MakeKind.{MakeKind}
+use Rattle.ll_make.specs.declared.kind.MakeKind.TheVariants.{Perm, Choice, Chain}
 use Rattle.ll_top.specs.Begins.{Begins, IsFirstBad, Leads}
-use Rattle.ll_top.specs.Words.{ThisWord, AnyName, is_word, Form, Fits, part, done, FitsForm, NumberFrom, option, here, bound_option, greatest_bound, number_from, run_form, print_form, check_form, cover_form, IsInForm, IsPrint, CheckWords, IsCheckForm, IsCheck, IsBadWord}
+use Rattle.ll_top.specs.Words.{Part, ThisWord, AnyName, is_word, OptionForm, Form, Fits, part, done, FitsForm, FitsSome, NumberFrom, option, here, bound_option, greatest_bound, number_from, run_form, print_form, check_form, cover_form, make_form, forms, IsInForm, IsPrint, CheckWords, IsCheckForm, IsCheck, IsBadWord}
 use Rattle.ll_top.specs.RunForm.{HasPart, LacksPart, IsBadFormWord}
+use Rattle.ll_top.specs.MakeForm.{IsMakeForm, IsBadMakeWord}
 use Rattle.ll_top.proofs.FirstBad.{drop-end, leads-start, leads-bad, IsStuck}
-use Rattle.ll_top.proofs.Forms.{same-word, words-same, leads-part, bad-part, leads-option, bad-option, bad-end}
+use Rattle.ll_top.proofs.Forms.{same-word, words-same, part-first, leads-part, bad-part, leads-option, bad-option, bad-end}
 use Rattle.ll_top.proofs.RunWords.{can-run, value-of}
 
 -- ---- the words of a print
@@ -212,6 +215,20 @@ pub check-or-cover : (words : List (List ℕ)) → FitsForm check_form words →
 check-or-cover [] f g = elim f [ ]
 check-or-cover (w ∷ ws) f g = two-words w (codes "check") (codes "cover") refl (check-first f) (cover-first g)
 
+-- words that begin with another word are in another form
+other-form : {ps qs : List Part} {os us : List OptionForm} (text other : List ℕ) (words : List (List ℕ)) → is_word text other ≡ false → Fits (ThisWord text ∷ ps) os words → Fits (ThisWord other ∷ qs) us words → ⊥
+other-form text other [] d f g = elim f [ ]
+other-form text other (w ∷ ws) d f g = two-words w text other d (part-first f).0 (part-first g).0
+
+pub run-or-make : (words : List (List ℕ)) (kind : MakeKind) → FitsForm run_form words → FitsForm (make_form kind) words → ⊥
+run-or-make words kind f g = other-form (codes "run") (codes "make") words refl f g
+
+pub print-or-make : (words : List (List ℕ)) (kind : MakeKind) → FitsForm print_form words → FitsForm (make_form kind) words → ⊥
+print-or-make words kind f g = other-form (codes "print") (codes "make") words refl f g
+
+pub cover-or-make : (words : List (List ℕ)) (kind : MakeKind) → FitsForm cover_form words → FitsForm (make_form kind) words → ⊥
+cover-or-make words kind f g = other-form (codes "cover") (codes "make") words refl f g
+
 -- nor with the words of a check or a cover
 run-no-check : (words : List (List ℕ)) (bound : Option ℕ) → FitsForm run_form words → IsCheckForm words bound → ⊥
 run-no-check words None f g = run-or-check words f g
@@ -227,65 +244,104 @@ print-no-check words (Some bound) f g = print-or-cover words f g.0
 pub print-not-checked : (words : List (List ℕ)) (check : CheckWords) → FitsForm print_form words → IsCheck words check → ⊥
 print-not-checked words check f c = print-no-check words check.bound f c.form
 
+make-no-check : (words : List (List ℕ)) (kind : MakeKind) (bound : Option ℕ) → FitsForm (make_form kind) words → IsCheckForm words bound → ⊥
+make-no-check words kind None f g = other-form (codes "make") (codes "check") words refl f g
+make-no-check words kind (Some bound) f g = cover-or-make words kind g.0 f
+
+pub make-not-checked : (words : List (List ℕ)) (kind : MakeKind) (check : CheckWords) → FitsForm (make_form kind) words → IsCheck words check → ⊥
+make-not-checked words kind check f c = make-no-check words kind check.bound f c.form
+
+-- a form may begin with this word
+abbrev may_begin : List ℕ → List Part → Bool
+may_begin text (ThisWord first ∷ ps) = is_word text first
+may_begin text _ = true
+
+begins-so : {w text : List ℕ} {ws : List (List ℕ)} (ps : List Part) (os : List OptionForm) → w ≡ text → Fits ps os (w ∷ ws) → may_begin text ps ≡ true
+begins-so [] os e f = refl
+begins-so (ThisWord first ∷ ps) os e f = ap (λ v. is_word v first) (sym e) ∙ (part-first f).0
+begins-so (AnyName ∷ ps) os e f = refl
+begins-so (NumberFrom least greatest ∷ ps) os e f = refl
+
+-- words are in one of those forms that may begin with their first word
+begun-so : (text w : List ℕ) (ws : List (List ℕ)) → w ≡ text → (fs : List Form) → FitsSome fs (w ∷ ws) → FitsSome (filter (λ form. may_begin text form.parts) fs) (w ∷ ws)
+begun-so text w ws e [] f = f
+begun-so text w ws e (form ∷ fs) f = by (may_begin text form.parts) refl f (begun-so text w ws e fs)
+  where
+    by : (b : Bool) → may_begin text form.parts ≡ b → FitsForm form (w ∷ ws) ⊎ FitsSome fs (w ∷ ws) → (FitsSome fs (w ∷ ws) → FitsSome (filter (λ g. may_begin text g.parts) fs) (w ∷ ws))
+        → FitsSome (cond b (form ∷ filter (λ g. may_begin text g.parts) fs) (filter (λ g. may_begin text g.parts) fs)) (w ∷ ws)
+    by true h (inl g) later = inl g
+    by true h (inr g) later = inr (later g)
+    by false h (inl g) later = absurd (let t = begins-so form.parts form.options e g in cc)
+    by false h (inr g) later = later g
+
+begun : (text w : List ℕ) (ws : List (List ℕ)) → is_word w text ≡ true → IsInForm (w ∷ ws) → FitsSome (filter (λ form. may_begin text form.parts) forms) (w ∷ ws)
+begun text w ws h f = begun-so text w ws (words-same w text h) forms f
+
+one-alone : (form : Form) (words : List (List ℕ)) → FitsSome (form ∷ []) words → FitsForm form words
+one-alone form words (inl f) = f
+one-alone form words (inr f) = absurd f
+
 run-alone : (w : List ℕ) (ws : List (List ℕ)) → is_word w (codes "run") ≡ true → IsInForm (w ∷ ws) → FitsForm run_form (w ∷ ws)
-run-alone w ws h (inl f) = f
-run-alone w ws h (inr (inl f)) = absurd (two-words w (codes "run") (codes "print") refl h (print-first f))
-run-alone w ws h (inr (inr (inl f))) = absurd (two-words w (codes "run") (codes "check") refl h (check-first f))
-run-alone w ws h (inr (inr (inr (inl f)))) = absurd (two-words w (codes "run") (codes "cover") refl h (cover-first f))
-run-alone w ws h (inr (inr (inr (inr f)))) = absurd f
+run-alone w ws h f = one-alone run_form (w ∷ ws) (begun (codes "run") w ws h f)
 
 print-alone : (w : List ℕ) (ws : List (List ℕ)) → is_word w (codes "print") ≡ true → IsInForm (w ∷ ws) → FitsForm print_form (w ∷ ws)
-print-alone w ws h (inl f) = absurd (two-words w (codes "run") (codes "print") refl (run-first f) h)
-print-alone w ws h (inr (inl f)) = f
-print-alone w ws h (inr (inr (inl f))) = absurd (two-words w (codes "print") (codes "check") refl h (check-first f))
-print-alone w ws h (inr (inr (inr (inl f)))) = absurd (two-words w (codes "print") (codes "cover") refl h (cover-first f))
-print-alone w ws h (inr (inr (inr (inr f)))) = absurd f
+print-alone w ws h f = one-alone print_form (w ∷ ws) (begun (codes "print") w ws h f)
 
 check-alone : (w : List ℕ) (ws : List (List ℕ)) → is_word w (codes "check") ≡ true → IsInForm (w ∷ ws) → FitsForm check_form (w ∷ ws)
-check-alone w ws h (inl f) = absurd (two-words w (codes "run") (codes "check") refl (run-first f) h)
-check-alone w ws h (inr (inl f)) = absurd (two-words w (codes "print") (codes "check") refl (print-first f) h)
-check-alone w ws h (inr (inr (inl f))) = f
-check-alone w ws h (inr (inr (inr (inl f)))) = absurd (two-words w (codes "check") (codes "cover") refl h (cover-first f))
-check-alone w ws h (inr (inr (inr (inr f)))) = absurd f
+check-alone w ws h f = one-alone check_form (w ∷ ws) (begun (codes "check") w ws h f)
 
 cover-alone : (w : List ℕ) (ws : List (List ℕ)) → is_word w (codes "cover") ≡ true → IsInForm (w ∷ ws) → FitsForm cover_form (w ∷ ws)
-cover-alone w ws h (inl f) = absurd (two-words w (codes "run") (codes "cover") refl (run-first f) h)
-cover-alone w ws h (inr (inl f)) = absurd (two-words w (codes "print") (codes "cover") refl (print-first f) h)
-cover-alone w ws h (inr (inr (inl f))) = absurd (two-words w (codes "check") (codes "cover") refl (check-first f) h)
-cover-alone w ws h (inr (inr (inr (inl f)))) = f
-cover-alone w ws h (inr (inr (inr (inr f)))) = absurd f
+cover-alone w ws h f = one-alone cover_form (w ∷ ws) (begun (codes "cover") w ws h f)
 
--- the first bad word of a form is that of the words, where the form is the one with their first word
-module _ (form : Form) (text : List ℕ) (into : (ws : List (List ℕ)) → FitsForm form ws → IsInForm ws) (alone : (w : List ℕ) (ws : List (List ℕ)) → is_word w text ≡ true → IsInForm (w ∷ ws) → FitsForm form (w ∷ ws)) where
-  alone-front : (w : List ℕ) (ws more : List (List ℕ)) (k : ℕ) → is_word w text ≡ true → IsInForm (take (k + 1) (w ∷ ws) ++ more) → FitsForm form (take (k + 1) (w ∷ ws) ++ more)
+make-alone : (w : List ℕ) (ws : List (List ℕ)) → is_word w (codes "make") ≡ true → IsInForm (w ∷ ws) → IsMakeForm (w ∷ ws)
+make-alone w ws h f = by (begun (codes "make") w ws h f)
+  where
+    by : FitsSome (make_form Perm ∷ make_form Choice ∷ make_form Chain ∷ []) (w ∷ ws) → IsMakeForm (w ∷ ws)
+    by (inl g) = (Perm, g)
+    by (inr (inl g)) = (Choice, g)
+    by (inr (inr (inl g))) = (Chain, g)
+    by (inr (inr (inr g))) = absurd g
+
+-- a make is in a form
+pub make-in-form : (words : List (List ℕ)) → IsMakeForm words → IsInForm words
+make-in-form words (Perm, f) = inr (inr (inr (inr (inl f))))
+make-in-form words (Choice, f) = inr (inr (inr (inr (inr (inl f)))))
+make-in-form words (Chain, f) = inr (inr (inr (inr (inr (inr (inl f))))))
+
+-- the first bad word of some forms is that of the words, where these forms are those with the first word
+module _ (L : List (List ℕ) → Type 0) (text : List ℕ) (into : (ws : List (List ℕ)) → L ws → IsInForm ws) (alone : (w : List ℕ) (ws : List (List ℕ)) → is_word w text ≡ true → IsInForm (w ∷ ws) → L (w ∷ ws)) where
+  alone-front : (w : List ℕ) (ws more : List (List ℕ)) (k : ℕ) → is_word w text ≡ true → IsInForm (take (k + 1) (w ∷ ws) ++ more) → L (take (k + 1) (w ∷ ws) ++ more)
   alone-front w ws more k h m =
-      subst (λ n. FitsForm form (take n (w ∷ ws) ++ more)) (let e : suc k ≡ k + 1 = omega arith in e)
+      subst (λ n. L (take n (w ∷ ws) ++ more)) (let e : suc k ≡ k + 1 = omega arith in e)
       (alone w (take k ws ++ more) h (subst (λ n. IsInForm (take n (w ∷ ws) ++ more)) (let e : k + 1 ≡ suc k = omega arith in e) m))
 
-  bad-among : (words : List (List ℕ)) (number : ℕ) → HasPart words 0 (ThisWord text) → IsBadFormWord form words number → IsBadWord words number
-  bad-among [] number h b = absurd h
-  bad-among (w ∷ ws) number h b = record {
-    place = b.place;
-    is = b.is;
+  bad-among : (words : List (List ℕ)) (number place : ℕ) → HasPart words 0 (ThisWord text) → number ≡ place + 1 → IsFirstBad L words place → IsBadWord words number
+  bad-among [] number place h e b = absurd h
+  bad-among (w ∷ ws) number place h e b = record {
+    place = place;
+    is = e;
     bad = record {
-      within = b.bad.within;
-      before = (b.bad.before.0, into (take b.place (w ∷ ws) ++ b.bad.before.0) b.bad.before.1);
-      here = λ l m. b.bad.here l (m.0, alone-front w ws m.0 b.place h m.1);
-      at_end = λ e m. b.bad.at_end e (alone w ws h m);
+      within = b.within;
+      before = (b.before.0, into (take place (w ∷ ws) ++ b.before.0) b.before.1);
+      here = λ l m. b.here l (m.0, alone-front w ws m.0 place h m.1);
+      at_end = λ e m. b.at_end e (alone w ws h m);
     };
   }
 
 pub bad-run : (words : List (List ℕ)) (number : ℕ) → HasPart words 0 (ThisWord (codes "run")) → IsBadFormWord run_form words number → IsBadWord words number
-bad-run words number h b = bad-among run_form (codes "run") (λ ws f. inl f) run-alone words number h b
+bad-run words number h b = bad-among (FitsForm run_form) (codes "run") (λ ws f. inl f) run-alone words number b.place h b.is b.bad
 
 pub bad-print : (words : List (List ℕ)) (number : ℕ) → HasPart words 0 (ThisWord (codes "print")) → IsBadFormWord print_form words number → IsBadWord words number
-bad-print words number h b = bad-among print_form (codes "print") (λ ws f. inr (inl f)) print-alone words number h b
+bad-print words number h b = bad-among (FitsForm print_form) (codes "print") (λ ws f. inr (inl f)) print-alone words number b.place h b.is b.bad
 
 pub bad-check : (words : List (List ℕ)) (number : ℕ) → HasPart words 0 (ThisWord (codes "check")) → IsBadFormWord check_form words number → IsBadWord words number
-bad-check words number h b = bad-among check_form (codes "check") (λ ws f. inr (inr (inl f))) check-alone words number h b
+bad-check words number h b = bad-among (FitsForm check_form) (codes "check") (λ ws f. inr (inr (inl f))) check-alone words number b.place h b.is b.bad
 
 pub bad-cover : (words : List (List ℕ)) (number : ℕ) → HasPart words 0 (ThisWord (codes "cover")) → IsBadFormWord cover_form words number → IsBadWord words number
-bad-cover words number h b = bad-among cover_form (codes "cover") (λ ws f. inr (inr (inr (inl f)))) cover-alone words number h b
+bad-cover words number h b = bad-among (FitsForm cover_form) (codes "cover") (λ ws f. inr (inr (inr (inl f)))) cover-alone words number b.place h b.is b.bad
+
+pub bad-make : (words : List (List ℕ)) (number : ℕ) → HasPart words 0 (ThisWord (codes "make")) → IsBadMakeWord words number → IsBadWord words number
+bad-make words number h b = bad-among IsMakeForm (codes "make") make-in-form make-alone words number b.place h b.is b.bad
 
 -- no form begins so
 none-in-form : IsInForm [] → ⊥
@@ -293,30 +349,37 @@ none-in-form (inl f) = elim f [ ]
 none-in-form (inr (inl f)) = elim f [ ]
 none-in-form (inr (inr (inl f))) = elim f [ ]
 none-in-form (inr (inr (inr (inl f)))) = elim f [ ]
-none-in-form (inr (inr (inr (inr f)))) = f
+none-in-form (inr (inr (inr (inr (inl f))))) = elim f [ ]
+none-in-form (inr (inr (inr (inr (inr (inl f)))))) = elim f [ ]
+none-in-form (inr (inr (inr (inr (inr (inr (inl f))))))) = elim f [ ]
+none-in-form (inr (inr (inr (inr (inr (inr (inr f))))))) = f
 
 -- the first word, if there is one, is not this text
 abbrev pub IsOther : List ℕ → List (List ℕ) → Type 0
 IsOther text words = IfSome (slice_get words 0) (λ w. is_word w text ≡ false)
 
-pub bad-first : (words : List (List ℕ)) → IsOther (codes "run") words → IsOther (codes "print") words → IsOther (codes "check") words → IsOther (codes "cover") words → IsBadWord words 1
-bad-first words h k l m = record {
+pub bad-first : (words : List (List ℕ)) → IsOther (codes "run") words → IsOther (codes "print") words → IsOther (codes "check") words → IsOther (codes "cover") words → IsOther (codes "make") words → IsBadWord words 1
+bad-first words h k l m n = record {
   place = 0;
   is = refl;
-  bad = leads-bad IsInForm IsInForm words 0 (leads-start IsInForm words) (can-run.0, inl can-run.1) (stuck (slice_get words 0) h k l m);
+  bad = leads-bad IsInForm IsInForm words 0 (leads-start IsInForm words) (can-run.0, inl can-run.1) (stuck (slice_get words 0) h k l m n);
 }
   where
-    other : (w : List ℕ) (ys : List (List ℕ)) → is_word w (codes "run") ≡ false → is_word w (codes "print") ≡ false → is_word w (codes "check") ≡ false → is_word w (codes "cover") ≡ false → IsInForm (w ∷ ys) → ⊥
-    other w ys h k l m (inl f) = let e = run-first f in cc
-    other w ys h k l m (inr (inl f)) = let e = print-first f in cc
-    other w ys h k l m (inr (inr (inl f))) = let e = check-first f in cc
-    other w ys h k l m (inr (inr (inr (inl f)))) = let e = cover-first f in cc
-    other w ys h k l m (inr (inr (inr (inr f)))) = f
+    other : (w : List ℕ) (ys : List (List ℕ)) → is_word w (codes "run") ≡ false → is_word w (codes "print") ≡ false → is_word w (codes "check") ≡ false → is_word w (codes "cover") ≡ false
+        → is_word w (codes "make") ≡ false → IsInForm (w ∷ ys) → ⊥
+    other w ys h k l m n (inl f) = let e = run-first f in cc
+    other w ys h k l m n (inr (inl f)) = let e = print-first f in cc
+    other w ys h k l m n (inr (inr (inl f))) = let e = check-first f in cc
+    other w ys h k l m n (inr (inr (inr (inl f)))) = let e = cover-first f in cc
+    other w ys h k l m n (inr (inr (inr (inr (inl f))))) = let e = (part-first f).0 in cc
+    other w ys h k l m n (inr (inr (inr (inr (inr (inl f)))))) = let e = (part-first f).0 in cc
+    other w ys h k l m n (inr (inr (inr (inr (inr (inr (inl f))))))) = let e = (part-first f).0 in cc
+    other w ys h k l m n (inr (inr (inr (inr (inr (inr (inr f))))))) = f
 
     stuck : (next : Option (List ℕ)) → IfSome next (λ w. is_word w (codes "run") ≡ false) → IfSome next (λ w. is_word w (codes "print") ≡ false) → IfSome next (λ w. is_word w (codes "check") ≡ false)
-        → IfSome next (λ w. is_word w (codes "cover") ≡ false) → IsStuck IsInForm next
-    stuck None h k l m = none-in-form
-    stuck (Some w) h k l m = λ ys f. other w ys h k l m f
+        → IfSome next (λ w. is_word w (codes "cover") ≡ false) → IfSome next (λ w. is_word w (codes "make") ≡ false) → IsStuck IsInForm next
+    stuck None h k l m n = none-in-form
+    stuck (Some w) h k l m n = λ ys f. other w ys h k l m n f
 
 -- ---- the first word
 

@@ -24,10 +24,10 @@ or-right false b h = h
 
 -- ---- what words in a form begin with
 
-part-first : {p : Part} {ps : List Part} {os : List OptionForm} {w : List ℕ} {ws : List (List ℕ)} → Fits (p ∷ ps) os (w ∷ ws) → (is_part p w ≡ true) × Fits ps os ws
+pub part-first : {p : Part} {ps : List Part} {os : List OptionForm} {w : List ℕ} {ws : List (List ℕ)} → Fits (p ∷ ps) os (w ∷ ws) → (is_part p w ≡ true) × Fits ps os ws
 part-first (part h f) = (h, f)
 
-part-lacks : {p : Part} {ps : List Part} {os : List OptionForm} → Fits (p ∷ ps) os [] → ⊥
+pub part-lacks : {p : Part} {ps : List Part} {os : List OptionForm} → Fits (p ∷ ps) os [] → ⊥
 part-lacks h = elim h [ ]
 
 pub record Chosen (os : List OptionForm) (w : List ℕ) (ws : List (List ℕ)) : Type 0 where

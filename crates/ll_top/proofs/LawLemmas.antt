@@ -1,6 +1,7 @@
 -- Words and texts determine what is written.
 use Rattle.std.proofs.Common.{◌≡◌, ◌<◌, ◌≤◌, ◌+◌, ℕ, List, [], ◌∷◌, length, Option, Some, None, refl, ap, sym, subst, ◌∙◌, arith}
-use Rattle.std.specs.Prelude.{IsSomeAnd, slice_get, codes, map, Bool, true, false}
+use Rattle.std.specs.Prelude.{IsSomeAnd, slice_get, codes, map, false, option_map}
+use Rattle.std.specs.Str.Parse.{digits_value}
 use Rattle.std.specs.List.{list_any, position_from}
 use Rattle.ll_edge.specs.Texts.{Texts, text_of}
 use Rattle.ll_laws.specs.Problem.{ProblemTree}
@@ -8,7 +9,7 @@ use Rattle.ll_laws.specs.Output.{run_status}
 use Rattle.ll_laws.specs.Fault.{Fault as FaultAt}
 use Rattle.ll_cover.specs.Covering.{NamesFirst}
 use Rattle.ll_cover.proofs.Covers.{first_once}
-use Rattle.ll_laws.specs.Line.{Line, DerivationLines, trees_of, counts_numbers}
+use Rattle.ll_laws.specs.Line.{DerivationLines, trees_of, counts_numbers}
 use Rattle.ll_laws.specs.Shows.{Tree}
 use Rattle.ll_laws.specs.Verdict.{DerivationShows, first_fault}
 use Rattle.std.specs.List.{IsDistinct}
@@ -28,14 +29,16 @@ use Rattle.ll_polarity.specs.Faults.{heading, program_faults, query_faults}
 use Rattle.ll_polarity.specs.Asks.{part_of, problem_with, IsFirst, HasProgramFault, HasQueryFault}
 use Rattle.ll_top.specs.declared.judge.Role.{Role}
 use Rattle.ll_top.specs.declared.judge.Role.TheVariants.{Program, Query}
-use Rattle.ll_top.specs.Words.{RunWords, CheckWords, IsInForm, IsRun, IsCheckForm, IsCheck, IsBadWord, number_behind}
+use Rattle.ll_top.specs.Words.{RunWords, CheckWords, IsInForm, IsRun, IsCheckForm, IsCheck, IsMake, IsBadWord, number_behind}
+use Rattle.ll_top.specs.Making.{MakeWords, make_text}
 use Rattle.ll_top.specs.Faults.{Cause, Usage, Absent, Oversized, Faulty, fault_text, cause_status}
 use Rattle.ll_top.specs.Judging.{HasGrammarFault, IsProgramText, IsQueryText, IsReadingFault, lexical, grammatical, IsFaultless, IsProgramFault, of_program_reading, of_program_scope, IsQueryFault, of_query_reading, of_query_scope, IsTextFault, of_program, of_query, TextsAsk, most_open, IsCheckFault, of_run_texts, of_proof, TextsGive}
 use Rattle.ll_top.specs.Verdicts.{yes_text, no_text, covered_text, too_long_text, counts_text}
-use Rattle.ll_top.specs.Outcome.{name_of, IsRead, Reaches, first, later, run_texts, ReadFails, absent, unreadable, oversized, RunFails, not_read, faulty, RunAsks, whole_text, RunComesTo, ran, failed, IsPrintedAs, PrintFails, source_not_read, faulty_source, PrintComesTo, printed, print_failed, name_in_check, check_texts, CheckFails, texts_not_read, faulty_text, CheckGives, bound_in, IsRefuted, IsCovered, CountsAt, CheckComesTo, shown, refuted, covered, too_long, counting, check_failed, ComesTo, misused, runs, prints, checks, longest_text}
+use Rattle.ll_top.specs.Outcome.{name_of, IsRead, Reaches, first, later, run_texts, ReadFails, absent, unreadable, oversized, RunFails, not_read, faulty, RunAsks, whole_text, RunComesTo, ran, failed, IsPrintedAs, PrintFails, source_not_read, faulty_source, PrintComesTo, printed, print_failed, name_in_check, check_texts, CheckFails, texts_not_read, faulty_text, CheckGives, bound_in, IsRefuted, IsCovered, CountsAt, CheckComesTo, shown, refuted, covered, too_long, counting, check_failed, ComesTo, misused, runs, prints, checks, makes, longest_text}
 use Rattle.ll_top.proofs.FirstBad.{one-bad}
-use Rattle.ll_top.proofs.OutcomeLemmas.{bad-not-in-form, run-in-form, print-in-form, check-in-form}
-use Rattle.ll_top.proofs.CommandWords.{run-or-print, run-not-checked, print-not-checked, check-or-cover}
+use Rattle.ll_top.proofs.OutcomeLemmas.{bad-not-in-form, run-in-form, print-in-form, check-in-form, made-in-form}
+use Rattle.ll_top.proofs.CommandWords.{run-or-print, run-not-checked, print-not-checked, check-or-cover, run-or-make, print-or-make, make-not-checked}
+use Rattle.ll_top.proofs.MakeLemmas.{same-kind}
 use Rattle.ll_top.proofs.GrammarLemmas.{IsOfGrammar}
 use Rattle.ll_top.proofs.DistinctNames.{differ-names, differ-problem}
 
@@ -69,6 +72,12 @@ one-check words c d h k =
     let r = some-same c.proof d.proof (slice_get words 3) h.proof k.proof in
     let b = one-bound words c.bound d.bound h.form k.form in
     λ i. record { program = p i; query = q i; proof = r i; bound = b i }
+
+pub one-make : (words : List (List ℕ)) (m n : MakeWords) → IsMake words m → IsMake words n → m ≡ n
+one-make words m n h k =
+    let e = same-kind words m.kind n.kind h.form k.form in
+    let v = some-same m.number n.number (option_map (digits_value 10) (slice_get words 2)) h.number k.number in
+    λ i. record { kind = e i; number = v i }
 
 -- ---- texts
 
@@ -443,3 +452,13 @@ module _ (same : (a b : LexedText) → a.text ≡ b.text → IsLexed a → IsLex
     one-text words s t u v (prints r h c) (checks q k d) = absurd (print-not-checked words q h.form k)
     one-text words s t u v (checks q k d) (prints r h c) = absurd (print-not-checked words q h.form k)
     one-text words s t u v (checks q h c) (checks r k d) = check-once r s t u v (subst (λ x. CheckComesTo (Some texts) (Unit {0}) ⊥ x s u) (one-check words q r h k) c) d
+    one-text words s t u v (misused n b e f) (makes r h c) = absurd (bad-not-in-form words n b (made-in-form words r h))
+    one-text words s t u v (makes r h c) (misused n b e f) = absurd (bad-not-in-form words n b (made-in-form words r h))
+    one-text words s t u v (runs r h c) (makes q k d) = absurd (run-or-make words q.kind h.form k.form)
+    one-text words s t u v (makes q k d) (runs r h c) = absurd (run-or-make words q.kind h.form k.form)
+    one-text words s t u v (prints r h c) (makes q k d) = absurd (print-or-make words q.kind h.form k.form)
+    one-text words s t u v (makes q k d) (prints r h c) = absurd (print-or-make words q.kind h.form k.form)
+    one-text words s t u v (checks r h c) (makes q k d) = absurd (make-not-checked words q.kind r k.form h)
+    one-text words s t u v (makes q k d) (checks r h c) = absurd (make-not-checked words q.kind r k.form h)
+    one-text words s t u v (makes q h c) (makes r k d) =
+        let o = one-make words q r h k in (c.succeeds ∙ sym d.succeeds, c.is ∙ (ap make_text o ∙ sym d.is))

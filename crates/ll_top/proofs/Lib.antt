@@ -3,6 +3,7 @@ pub mod FirstBad
 pub mod Forms
 pub mod RunWords
 pub mod CommandWords
+pub mod MakeLemmas
 pub mod WordsLemmas
 pub mod RunLemmas
 pub mod PartsLemmas

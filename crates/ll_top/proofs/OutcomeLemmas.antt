@@ -14,13 +14,14 @@ use Rattle.ll_top.specs.declared.run.Found.{Found}
 use Rattle.ll_top.specs.declared.finding.Finding.{Finding}
 use Rattle.ll_top.specs.declared.refusal.Refusal.{Refusal}
 use Rattle.ll_top.specs.declared.refusal.Refusal.TheVariants.{Text, Unwritable, OutOfMemory}
-use Rattle.ll_top.specs.Words.{RunWords, CheckWords, FitsForm, run_form, cover_form, IsCheckForm, IsInForm, IsInWorkersForm, IsRun, IsPrint, IsCheck, IsBadWord}
+use Rattle.ll_top.specs.Words.{RunWords, CheckWords, FitsForm, run_form, cover_form, IsCheckForm, IsInForm, IsInWorkersForm, IsRun, IsPrint, IsCheck, IsMake, IsBadWord}
+use Rattle.ll_top.specs.Making.{MakeWords, make_text, MakeComesTo}
 use Rattle.ll_top.specs.Faults.{Cause, Usage, Absent, Unreadable, Oversized, Faulty, fault_text, cause_status}
-use Rattle.ll_top.specs.Outcome.{name_of, ReadFails, absent as is_absent, unreadable as is_unreadable, oversized as is_oversized, run_texts, RunFails, not_read, faulty, RunAsks, whole_text, RunComesTo, ran, failed, IsPrintedAs, PrintFails, source_not_read, faulty_source, PrintComesTo, printed, print_failed, name_in_check, check_texts, CheckFails, texts_not_read, faulty_text, CheckComesTo, shown, refuted, covered, too_long, counting, check_failed, IsDenied, IsCoveredCall, IsUncoveredCall, ComesTo, misused, runs, prints, checks, AppendsOwn, nothing, front, Ends, whole, unwritable, no_memory, Completes}
+use Rattle.ll_top.specs.Outcome.{name_of, ReadFails, absent as is_absent, unreadable as is_unreadable, oversized as is_oversized, run_texts, RunFails, not_read, faulty, RunAsks, whole_text, RunComesTo, ran, failed, IsPrintedAs, PrintFails, source_not_read, faulty_source, PrintComesTo, printed, print_failed, name_in_check, check_texts, CheckFails, texts_not_read, faulty_text, CheckComesTo, shown, refuted, covered, too_long, counting, check_failed, IsDenied, IsCoveredCall, IsUncoveredCall, ComesTo, misused, runs, prints, checks, makes, AppendsOwn, nothing, front, Ends, whole, unwritable, no_memory, Completes}
 use Rattle.ll_top.specs.Endings.{Refuses, line, cut, Prepares, RunEnds, status_of_found, PrintEnds, status_of_finding, finding_text, CheckEnds}
 use Rattle.ll_top.specs.Running.{IsRunRefusal}
 use Rattle.ll_top.proofs.FirstBad.{good-or-bad}
-use Rattle.ll_top.proofs.CommandWords.{run-or-cover, print-or-cover, check-or-cover}
+use Rattle.ll_top.proofs.CommandWords.{run-or-cover, print-or-cover, check-or-cover, cover-or-make, make-in-form}
 
 -- ---- a run
 
@@ -101,6 +102,15 @@ module _ (told : Option Texts) (absence read_failed : Type 0) (check : CheckWord
     pub check-refusal-ends : (middle : Option (List ℕ)) (cause : Cause) (status : ℕ) → CheckFails told absence read_failed check cause → middle ≡ before → Refuses cause write_failed middle after status → Ends (CheckComesTo told absence read_failed check) write_failed before after status
     check-refusal-ends middle cause status f m r = refused-ends (CheckComesTo told absence read_failed check) write_failed before middle after cause status (check_failed cause f refl refl) m r
 
+-- ---- a make
+
+module _ (make : MakeWords) (write_failed : Type 0) (before after : Option (List ℕ)) where
+  pub made-ends : after ≡ append_known before (make_text make) → Ends (MakeComesTo make) write_failed before after 0
+  made-ends w = whole (make_text make) (record { succeeds = refl; is = refl }) w
+
+  pub made-cut : write_failed → AppendsFront before (make_text make) after → Ends (MakeComesTo make) write_failed before after 6
+  made-cut f a = unwritable 0 (make_text make) (record { succeeds = refl; is = refl }) f refl a
+
 -- ---- a call
 
 ends-as : (Comes Other : ℕ → List ℕ → Type 0) → ((s : ℕ) (t : List ℕ) → Comes s t → Other s t) → (write_failed : Type 0) (before after : Option (List ℕ)) (status : ℕ) → Ends Comes write_failed before after status → Ends Other write_failed before after status
@@ -126,6 +136,11 @@ print-call words told absence read_failed w name before after status p h = ends-
 pub check-call : (words : List (List ℕ)) (told : Option Texts) (absence read_failed write_failed : Type 0) (check : CheckWords) (before after : Option (List ℕ)) (status : ℕ) → IsCheck words check → Ends (CheckComesTo told absence read_failed check) write_failed before after status
     → Ends (ComesTo words told absence read_failed) write_failed before after status
 check-call words told absence read_failed w check before after status c h = ends-as (CheckComesTo told absence read_failed check) (ComesTo words told absence read_failed) (λ s t d. checks check c d) w before after status h
+
+-- and with a make
+pub make-call : (words : List (List ℕ)) (told : Option Texts) (absence read_failed write_failed : Type 0) (make : MakeWords) (before after : Option (List ℕ)) (status : ℕ) → IsMake words make → Ends (MakeComesTo make) write_failed before after status
+    → Ends (ComesTo words told absence read_failed) write_failed before after status
+make-call words told absence read_failed w make before after status c h = ends-as (MakeComesTo make) (ComesTo words told absence read_failed) (λ s t d. makes make c d) w before after status h
 
 -- words in no form
 pub usage-call : (words : List (List ℕ)) (told : Option Texts) (absence read_failed write_failed : Type 0) (number : ℕ) (before after : Option (List ℕ)) (status : ℕ) → IsBadWord words number → Refuses (Usage number) write_failed before after status
@@ -206,6 +221,10 @@ module _ (told : Option Texts) (absence read_failed write_failed : Type 0) where
   pub check-says : (check : CheckWords) (before after : Option (List ℕ)) (status : ℕ) → Ends (CheckComesTo told absence read_failed check) write_failed before after status → Says absence read_failed write_failed status
   check-says check before after status h = ends-say (CheckComesTo told absence read_failed check) (check-comes-says check) before after status h
 
+pub make-says : (absence read_failed write_failed : Type 0) (make : MakeWords) (before after : Option (List ℕ)) (status : ℕ) → Ends (MakeComesTo make) write_failed before after status → Says absence read_failed write_failed status
+make-says absence read_failed write_failed make before after status h =
+    ends-say None absence read_failed write_failed (MakeComesTo make) (λ s t c. let e = c.succeeds in other-says None absence read_failed write_failed s (λ e. omega arith) (λ e. omega arith) (λ e. omega arith) (λ e. omega arith)) before after status h
+
 -- ---- status 9
 
 cause-not-nine : (cause : Cause) → cause_status cause ≡ 9 → ⊥
@@ -229,6 +248,7 @@ module _ (words : List (List ℕ)) (told : Option Texts) (absence read_failed : 
   comes-denied status text e (checks check c (counting p d n b g h s t)) = absurd (omega arith)
   comes-denied status text e (checks check c (refuted p d n r g h s t)) = record { check = check; is_check = c; problem = p; derivation = d; gives = g; not_shown = h.not_shown }
   comes-denied status text e (checks check c (check_failed cause f s t)) = absurd (cause-not-nine cause (sym s ∙ e))
+  comes-denied status text e (makes make c d) = absurd (let z = d.succeeds in omega arith)
 
   pub call-denied : (write_failed : Type 0) (before after : Option (List ℕ)) (status : ℕ) → Ends (ComesTo words told absence read_failed) write_failed before after status → status ≡ 9 → IsDenied words told
   call-denied write_failed before after status (whole text c a) e = comes-denied status text e c
@@ -267,6 +287,7 @@ module _ (words : List (List ℕ)) (told : Option Texts) (absence read_failed : 
   comes-covered f status text e (checks check c (too_long p d b g h s t)) = absurd (omega arith)
   comes-covered f status text e (checks check c (counting p d n b g h s t)) = absurd (omega arith)
   comes-covered f status text e (checks check c (check_failed cause h s t)) = absurd (cause-not-zero cause (sym s ∙ e))
+  comes-covered f status text e (makes make c d) = absurd (cover-or-make words make.kind f c.form)
 
   comes-uncovered : (status : ℕ) (text : List ℕ) → status ≡ 11 → ComesTo words told absence read_failed status text → IsUncoveredCall words told
   comes-uncovered status text e (misused number b s t) = absurd (omega arith)
@@ -280,6 +301,7 @@ module _ (words : List (List ℕ)) (told : Option Texts) (absence read_failed : 
   comes-uncovered status text e (checks check c (too_long p d b g h s t)) = record { check = check; is_check = c; problem = p; derivation = d; gives = g; why = inl h }
   comes-uncovered status text e (checks check c (counting p d n b g h s t)) = record { check = check; is_check = c; problem = p; derivation = d; gives = g; why = inr (n, h) }
   comes-uncovered status text e (checks check c (check_failed cause f s t)) = absurd (cause-not-eleven cause (sym s ∙ e))
+  comes-uncovered status text e (makes make c d) = absurd (let z = d.succeeds in omega arith)
 
   pub call-covered : (write_failed : Type 0) (before after : Option (List ℕ)) (status : ℕ) → Ends (ComesTo words told absence read_failed) write_failed before after status → FitsForm cover_form words → status ≡ 0
       → IsCoveredCall words told
@@ -306,6 +328,9 @@ check-in-form words check c = by check.bound c.form
     by : (bound : Option ℕ) → IsCheckForm words bound → IsInForm words
     by None f = inr (inr (inl f))
     by (Some bound) f = inr (inr (inr (inl f.0)))
+
+pub made-in-form : (words : List (List ℕ)) (make : MakeWords) → IsMake words make → IsInForm words
+made-in-form words make m = make-in-form words (make.kind, m.form)
 
 -- words with workers are those of a run
 pub workers-run : (words : List (List ℕ)) → IsInWorkersForm words → FitsForm run_form words
@@ -355,6 +380,7 @@ module _ (texts : Texts) (absence read_failed : Type 0) (no_fault : read_failed 
   told-comes words status text (runs run r c) = runs run r (told-run run status text c)
   told-comes words status text (prints name p c) = prints name p (told-print name status text c)
   told-comes words status text (checks check h c) = checks check h (told-check check status text c)
+  told-comes words status text (makes make h c) = makes make h c
 
 module _
     (one : (words : List (List ℕ)) (texts : Texts) (status other : ℕ) (text more : List ℕ) → ComesTo words (Some texts) (Unit {0}) ⊥ status text → ComesTo words (Some texts) (Unit {0}) ⊥ other more → (status ≡ other) × (text ≡ more))

@@ -1,6 +1,8 @@
 pub mod Begins
+pub mod Making
 pub mod Words
 pub mod RunForm
+pub mod MakeForm
 pub mod Faults
 pub mod Verdicts
 pub mod Judging

@@ -2,13 +2,18 @@
 use Rattle.std.specs.Prelude.{◌≡◌, ◌⊎◌, ℕ, ◌+◌, ◌≤◌, Bool, true, false, ◌&&◌, not, List, [], ◌∷◌, length, filter, nat_eq, nat_le, slice_get, Option, Some, None, is_some, if◌then◌else◌, codes, option_map, IfSome}
 use Rattle.ll_top.specs.declared.words.RunCommand.{RunCommand}
 use Rattle.ll_top.specs.declared.words.CheckCommand.{CheckCommand}
+use Rattle.ll_top.specs.declared.making.MakeCommand.{MakeCommand}
 use Rattle.ll_top.specs.declared.words.Command.{Command}
-use Rattle.ll_top.specs.declared.words.Command.TheVariants.{Run, Print, Check}
+use Rattle.ll_top.specs.declared.words.Command.TheVariants.{Run, Print, Check, Make}
 use Rattle.std.specs.Str.{bytes_eq}
 use Rattle.std.specs.Char.{is_ascii_digit}
 use Rattle.std.specs.Str.Parse.{digits_value}
 use Rattle.std.specs.List.{list_all, list_any, starts_with}
+use Rattle.ll_make.specs.declared.kind.MakeKind.{MakeKind}
+use Rattle.ll_make.specs.declared.kind.MakeKind.TheVariants.{Perm, Choice, Chain}
+use Rattle.ll_make.specs.Kinds.{least_number, greatest_number, Fits as FitsKind}
 use Rattle.ll_top.specs.Begins.{IsFirstBad}
+use Rattle.ll_top.specs.Making.{kind_word, MakeWords}
 
 -- the word is this text
 abbrev pub is_word : List ℕ → List ℕ → Bool
@@ -112,8 +117,13 @@ check_form = record { parts = ThisWord (codes "check") ∷ AnyName ∷ AnyName �
 abbrev pub cover_form : Form
 cover_form = record { parts = ThisWord (codes "cover") ∷ AnyName ∷ AnyName ∷ AnyName ∷ []; options = bound_option ∷ [] }
 
+-- `make KIND N`, of this kind
+abbrev pub make_form : MakeKind → Form
+make_form kind =
+    record { parts = ThisWord (codes "make") ∷ ThisWord (kind_word kind) ∷ NumberFrom (least_number kind) (greatest_number kind) ∷ []; options = [] }
+
 abbrev pub forms : List Form
-forms = run_form ∷ print_form ∷ check_form ∷ cover_form ∷ []
+forms = run_form ∷ print_form ∷ check_form ∷ cover_form ∷ make_form Perm ∷ make_form Choice ∷ make_form Chain ∷ []
 
 -- words are in a form
 abbrev pub IsInForm : List (List ℕ) → Type 0
@@ -186,6 +196,11 @@ pub record IsCheck (words : List (List ℕ)) (check : CheckWords) : Type 0 where
   pub query : slice_get words 2 ≡ Some check.query
   pub proof : slice_get words 3 ≡ Some check.proof
 
+-- words are in the form of a make of this kind, and this is their number
+pub record IsMake (words : List (List ℕ)) (make : MakeWords) : Type 0 where
+  pub form : FitsForm (make_form make.kind) words
+  pub number : option_map (digits_value 10) (slice_get words 2) ≡ Some make.number
+
 -- what the program's record of a run shows
 abbrev pub shown_words : RunCommand → RunWords
 shown_words c = record { program = c.program.now; query = c.query.now; bound = c.bound; workers = c.workers; proofs = c.proofs }
@@ -194,14 +209,20 @@ shown_words c = record { program = c.program.now; query = c.query.now; bound = c
 abbrev pub shown_check : CheckCommand → CheckWords
 shown_check c = record { program = c.program.now; query = c.query.now; proof = c.proof.now; bound = c.bound }
 
+-- what the program's record of a make shows
+abbrev pub shown_make : MakeCommand → MakeWords
+shown_make c = record { kind = c.kind; number = c.number }
+
 -- words ask for this command
 abbrev pub IsCommand : List (List ℕ) → Command → Type 0
 IsCommand words (Run run) = IsRun words (shown_words run)
 IsCommand words (Print name) = IsPrint words name.now
 IsCommand words (Check check) = IsCheck words (shown_check check)
+IsCommand words (Make make) = IsMake words (shown_make make)
 
--- a command's bound, where it has one, is not past the greatest
+-- a command's bound, where it has one, is not past the greatest, and the number of a make fits its kind
 abbrev pub IsBounded : Command → Type 0
 IsBounded (Run run) = run.bound ≤ greatest_bound
 IsBounded (Print name) = Unit {0}
 IsBounded (Check check) = IfSome check.bound (λ bound. bound ≤ greatest_bound)
+IsBounded (Make make) = FitsKind make.kind make.number

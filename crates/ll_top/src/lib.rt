@@ -5,6 +5,7 @@ mod checking;
 mod fault;
 mod finding;
 mod judge;
+mod making;
 mod prepare;
 mod printing;
 mod refusal;
@@ -29,6 +30,7 @@ use ll_laws::{answers_are_shown, search_is_complete};
 use ll_lexer::one_reading;
 use ll_parser::{one_program, one_query};
 use ll_prooftext::one_derivation;
+use making::serve_make;
 use prepare::prepare;
 use printing::print_program;
 use refusal::Refusal;
@@ -40,7 +42,7 @@ use words::{CheckCommand, Command, RunCommand, read_command};
 
 /// Does what the words say, over the texts of the shelf, and writes to the sink. The answer is the program's exit status:
 ///
-/// - 0: there is an answer, the program was printed, or the derivation shows the query, or is covered by an answer; 1: there is no answer; 2: there is none, but some
+/// - 0: there is an answer, the program was printed or made, or the derivation shows the query, or is covered by an answer; 1: there is no answer; 2: there is none, but some
 ///   branch reached the bound; 9: the derivation does not show the query; 11: it shows it, but is too long or counts numbers, so no answer
 ///   that covers it is looked for. The whole text was written.
 /// - 3: the words are in no form; 4: there is no text of a name; 5: the shelf failed; 7: a text has a fault; 8: a text has more
@@ -94,6 +96,7 @@ pub fn lolli<R: Threads + Wait + Sync, F: Shelf, O: Sink, G: Gate>(
             Ok(Command::Run(run)) => serve_run(alloc, &run, shelf, sink),
             Ok(Command::Print(_)) => unreachable!(),
             Ok(Command::Check(_)) => unreachable!(),
+            Ok(Command::Make(_)) => unreachable!(),
             Err(_) => unreachable!(),
         },
     }
@@ -135,6 +138,7 @@ pub fn lolli_plain<F: Shelf, O: Sink>(
         Ok(Command::Run(_)) => None,
         Ok(Command::Print(name)) => Some(serve_print(alloc, name, shelf, sink)),
         Ok(Command::Check(check)) => Some(serve_check(alloc, &check, shelf, sink)),
+        Ok(Command::Make(make)) => Some(serve_make(alloc, make, sink)),
         Err(number) => Some(refuse(Cause::Usage(number), sink)),
     }
 }

@@ -6,6 +6,8 @@ ghost use Rattle.ll_top.specs.Words.{is_word, is_name_word, is_number_word, numb
 ghost use Rattle.ll_top.specs.RunForm.{HasPart, LacksPart, options_left, IsOptionLeft, IsBadFormWord, IsBadRunWord, IsReadTo};
 ghost use Rattle.ll_top.specs.Outcome.{word_texts};
 
+use crate::making::{MakeCommand, read_make};
+
 /// What the words `run PROGRAM QUERY --bound N --workers W [--proofs]` ask for.
 #[derive(Clone, Copy)]
 pub struct RunCommand<'a> {
@@ -36,6 +38,8 @@ pub enum Command<'a> {
     Print(&'a str),
     /// A check, or a cover.
     Check(CheckCommand<'a>),
+    /// A program that is made.
+    Make(MakeCommand),
 }
 
 // An option of a run.
@@ -79,6 +83,7 @@ pub fn read_command<'a>(words: &[&'a str]) -> Result<Command<'a>, usize>
         "print" => Ok(Command::Print(read_print(words)?)),
         "check" => Ok(Command::Check(read_check(words)?)),
         "cover" => Ok(Command::Check(read_cover(words)?)),
+        "make" => Ok(Command::Make(read_make(words)?)),
         _ => Err(1),
     }
 }
@@ -248,8 +253,8 @@ fn this_at(words: &[&str], at: usize, text: &str) -> Result<(), usize>
     }
 }
 
-// The value of the number at a word.
-fn number_at(words: &[&str], at: usize, least: u32, greatest: u32) -> Result<u32, usize>
+/// The value of the number at a word, which is from `least` to `greatest`, or the word's number, counted from 1, where there is none.
+pub fn number_at(words: &[&str], at: usize, least: u32, greatest: u32) -> Result<u32, usize>
     requires { at ≤ length words.now }
     ensures { MatchResult result (λ value. IsSomeAnd (slice_get (word_texts words.now) at) (λ w. number_from least greatest w ≡ Some value))
         (λ number. (number ≡ at + 1) × LacksPart (word_texts words.now) at (NumberFrom least greatest)) }

@@ -1,7 +1,7 @@
 use Rattle.std.proofs.Common.{refl}
 use Rattle.ll_top.specs.Outcome.{word_texts}
 use Rattle.ll_top.proofs.OutcomeLemmas.{run-call, call-denied, call-covered, call-uncovered, completes, run-says, run-in-form, bad-not-in-form, workers-run, workers-in-form}
-use Rattle.ll_top.proofs.CommandWords.{run-or-print, run-not-checked}
+use Rattle.ll_top.proofs.CommandWords.{run-or-print, run-not-checked, run-or-make}
 use Rattle.ll_top.proofs.ProvedLemmas.{shown-run}
 use Rattle.ll_top.proofs.NothingLemmas.{vain-run}
 use Rattle.ll_top.proofs.lolli.Goals as goal
@@ -17,6 +17,12 @@ unreachable-requires-in-Ok-Check g c =
     let words = word_texts c.args.words.now in
     let check = rw c.in-Ok-Check.field-0-is at c.in-Ok-Check.ensures.command in
     run-not-checked words _ (workers-run words (c.in-None.ensures.workers.0 refl)) check
+
+pub unreachable-requires-in-Ok-Make : goal.unreachable-requires-in-Ok-Make
+unreachable-requires-in-Ok-Make g c =
+    let words = word_texts c.args.words.now in
+    let make = rw c.in-Ok-Make.field-0-is at c.in-Ok-Make.ensures.command in
+    run-or-make words _ (workers-run words (c.in-None.ensures.workers.0 refl)) make.form
 
 pub unreachable-requires-in-Err : goal.unreachable-requires-in-Err
 unreachable-requires-in-Err g c =

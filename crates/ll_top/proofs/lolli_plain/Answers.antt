@@ -1,7 +1,7 @@
 use Rattle.ll_top.specs.Outcome.{word_texts}
-use Rattle.ll_top.specs.Words.{shown_check}
-use Rattle.ll_top.proofs.OutcomeLemmas.{workers-run, usage-call, print-call, check-call, call-denied, call-covered, call-uncovered, completes, print-says, check-says, workers-in-form, bad-not-in-form}
-use Rattle.ll_top.proofs.CommandWords.{run-not-checked}
+use Rattle.ll_top.specs.Words.{shown_check, shown_make}
+use Rattle.ll_top.proofs.OutcomeLemmas.{workers-run, usage-call, print-call, check-call, make-call, call-denied, call-covered, call-uncovered, completes, print-says, check-says, make-says, workers-in-form, bad-not-in-form}
+use Rattle.ll_top.proofs.CommandWords.{run-not-checked, run-or-make}
 use Rattle.ll_top.proofs.lolli_plain.Goals as goal
 
 pub returns-in-Err-clause-workers : goal.returns-in-Err-clause-workers
@@ -105,3 +105,46 @@ pub returns-in-Ok-Check-clause-uncovered : goal.returns-in-Ok-Check-clause-uncov
 returns-in-Ok-Check-clause-uncovered g c = λ e.
     let words = word_texts c.args.words.now in
     call-uncovered words _ _ _ _ _ _ _ (check-call words _ _ _ _ (shown_check c.in-Ok-Check.check) _ _ _ (rw c.in-Ok-Check.field-0-is at c.in-Ok-Check.ensures.command) c.serve_check.ensures.ends) cc
+
+pub returns-in-Ok-Make-clause-workers : goal.returns-in-Ok-Make-clause-workers
+returns-in-Ok-Make-clause-workers g c =
+    let words = word_texts c.args.words.now in let asked = rw c.in-Ok-Make.field-0-is at c.in-Ok-Make.ensures.command in
+    (λ e. cc, λ f. absurd (run-or-make words _ (workers-run words f) asked.form))
+
+pub returns-in-Ok-Make-clause-outcome : goal.returns-in-Ok-Make-clause-outcome
+returns-in-Ok-Make-clause-outcome g c =
+    let words = word_texts c.args.words.now in
+    make-call words _ _ _ _ (shown_make c.in-Ok-Make.make) _ _ _ (rw c.in-Ok-Make.field-0-is at c.in-Ok-Make.ensures.command) c.serve_make.ensures.ends
+
+pub returns-in-Ok-Make-clause-usage : goal.returns-in-Ok-Make-clause-usage
+returns-in-Ok-Make-clause-usage g c = λ e f. (make-says ⊥ ⊥ _ _ _ _ _ c.serve_make.ensures.ends).used cc
+
+pub returns-in-Ok-Make-clause-absent : goal.returns-in-Ok-Make-clause-absent
+returns-in-Ok-Make-clause-absent g c = λ e. absurd ((make-says ⊥ ⊥ _ _ _ _ _ c.serve_make.ensures.ends).absent cc)
+
+pub returns-in-Ok-Make-clause-unreadable : goal.returns-in-Ok-Make-clause-unreadable
+returns-in-Ok-Make-clause-unreadable g c = λ e. absurd ((make-says ⊥ ⊥ _ _ _ _ _ c.serve_make.ensures.ends).unreadable cc)
+
+pub returns-in-Ok-Make-clause-unwritable : goal.returns-in-Ok-Make-clause-unwritable
+returns-in-Ok-Make-clause-unwritable g c = λ e. (make-says ⊥ ⊥ _ _ _ _ _ c.serve_make.ensures.ends).unwritable cc
+
+pub returns-in-Ok-Make-clause-complete : goal.returns-in-Ok-Make-clause-complete
+returns-in-Ok-Make-clause-complete g c =
+    let words = word_texts c.args.words.now in
+    completes c.one_text.ensures words _ ⊥ _ _ _ _ _
+    (make-call words _ _ _ _ (shown_make c.in-Ok-Make.make) _ _ _ (rw c.in-Ok-Make.field-0-is at c.in-Ok-Make.ensures.command) c.serve_make.ensures.ends)
+
+pub returns-in-Ok-Make-clause-denied : goal.returns-in-Ok-Make-clause-denied
+returns-in-Ok-Make-clause-denied g c = λ e.
+    let words = word_texts c.args.words.now in
+    call-denied words _ ⊥ ⊥ _ _ _ _ (make-call words _ _ _ _ (shown_make c.in-Ok-Make.make) _ _ _ (rw c.in-Ok-Make.field-0-is at c.in-Ok-Make.ensures.command) c.serve_make.ensures.ends) cc
+
+pub returns-in-Ok-Make-clause-covered : goal.returns-in-Ok-Make-clause-covered
+returns-in-Ok-Make-clause-covered g c = λ f e.
+    let words = word_texts c.args.words.now in
+    call-covered words _ ⊥ ⊥ _ _ _ _ (make-call words _ _ _ _ (shown_make c.in-Ok-Make.make) _ _ _ (rw c.in-Ok-Make.field-0-is at c.in-Ok-Make.ensures.command) c.serve_make.ensures.ends) f cc
+
+pub returns-in-Ok-Make-clause-uncovered : goal.returns-in-Ok-Make-clause-uncovered
+returns-in-Ok-Make-clause-uncovered g c = λ e.
+    let words = word_texts c.args.words.now in
+    call-uncovered words _ ⊥ ⊥ _ _ _ _ (make-call words _ _ _ _ (shown_make c.in-Ok-Make.make) _ _ _ (rw c.in-Ok-Make.field-0-is at c.in-Ok-Make.ensures.command) c.serve_make.ensures.ends) cc

@@ -2,14 +2,14 @@ use Rattle.std.specs.Prelude.{codes}
 use Rattle.ll_top.specs.Outcome.{word_texts}
 use Rattle.ll_top.specs.Words.{IsCommand, IsBadWord}
 use Rattle.ll_top.proofs.RunWords.{bad-answer}
-use Rattle.ll_top.proofs.CommandWords.{bad-run, bad-print, bad-check, bad-cover, bad-first, first-lacks, first-other, first-same}
+use Rattle.ll_top.proofs.CommandWords.{bad-run, bad-print, bad-check, bad-cover, bad-make, bad-first, first-lacks, first-other, first-same}
 use Rattle.ll_top.proofs.words.read_command.Goals as goal
 
 pub returns-in_default-clause-command : goal.returns-in_default-clause-command
 returns-in_default-clause-command c =
     let v = c.in_default.ensures.value in
     bad-first (word_texts c.args.words.now) (first-lacks (codes "run") c.args.words.now v) (first-lacks (codes "print") c.args.words.now v) (first-lacks (codes "check") c.args.words.now v)
-    (first-lacks (codes "cover") c.args.words.now v)
+    (first-lacks (codes "cover") c.args.words.now v) (first-lacks (codes "make") c.args.words.now v)
 
 pub returns-in_err-read_run-in-run-clause-command : goal.returns-in_err-read_run-in-run-clause-command
 returns-in_err-read_run-in-run-clause-command c =
@@ -35,9 +35,16 @@ returns-in_err-read_cover-in-cover-clause-command c =
     bad-answer (IsCommand words) (IsBadWord words) _ _ c.from_residual-in_err-read_cover-in-cover.ensures.1
     (bad-cover words _ (first-same (codes "cover") c.args.words.now c.in-Some.form c.in-Some.ensures.value c.in-cover.is) c.in_err-read_cover-in-cover.ensures.cover)
 
+pub returns-in_err-read_make-in-make-clause-command : goal.returns-in_err-read_make-in-make-clause-command
+returns-in_err-read_make-in-make-clause-command c =
+    let words = word_texts c.args.words.now in
+    bad-answer (IsCommand words) (IsBadWord words) _ _ c.from_residual-in_err-read_make-in-make.ensures.1
+    (bad-make words _ (first-same (codes "make") c.args.words.now c.in-Some.form c.in-Some.ensures.value c.in-make.is) c.in_err-read_make-in-make.ensures.make)
+
 pub returns-in_default-form-clause-command : goal.returns-in_default-form-clause-command
 returns-in_default-form-clause-command c =
     let v = c.in-Some.ensures.value in
     let words = c.args.words.now in
     bad-first (word_texts words) (first-other (codes "run") words c.in-Some.form v c.in_default-form.not-run) (first-other (codes "print") words c.in-Some.form v c.in_default-form.not-print)
     (first-other (codes "check") words c.in-Some.form v c.in_default-form.not-check) (first-other (codes "cover") words c.in-Some.form v c.in_default-form.not-cover)
+    (first-other (codes "make") words c.in-Some.form v c.in_default-form.not-make)

@@ -4,6 +4,7 @@ pub mod Forms
 pub mod RunWords
 pub mod CommandWords
 pub mod WordsLemmas
+pub mod GivenLemmas
 pub mod RunLemmas
 pub mod PartsLemmas
 pub mod GrammarLemmas

@@ -5,6 +5,7 @@ pub mod RunWords
 pub mod CommandWords
 pub mod MakeLemmas
 pub mod WordsLemmas
+pub mod GivenLemmas
 pub mod RunLemmas
 pub mod PartsLemmas
 pub mod GrammarLemmas

@@ -8,7 +8,7 @@ use Rattle.std.proofs.lemmas.List.{take_all, take_more, take-append-drop, append
 use Rattle.std.proofs.lemmas.List.Folds.{concat-append}
 use Rattle.ll_edge.specs.Pieces.{AppendsFront}
 use Rattle.ll_edge.proofs.Writing.{append_known-nil, append_known-append}
-use Rattle.ll_top.proofs.RunLemmas.{front_in}
+use Rattle.ll_top.proofs.GivenLemmas.{front_in}
 
 -- the texts as bytes
 abbrev pub parts_of : List (Bor (List ℕ)) → List (List ℕ)

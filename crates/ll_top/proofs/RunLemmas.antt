@@ -1,11 +1,11 @@
 -- A run from its start to its end.
-use Rattle.std.proofs.Common.{◌≡◌, ◌≤◌, ◌<◌, ℕ, zero, suc, ◌+◌, ◌-◌, refl, subst, ap, sym, ◌∙◌, Bool, true, false, List, [], ◌∷◌, ◌++◌, length, take, arith, append_assoc, length-append}
-use Rattle.std.specs.Prelude.{Option, Some, None, Result, Ok, Err, OnErr, count_by, cond, nat_lt, ◌||◌, codes, decimal, ◌^◌}
+use Rattle.std.proofs.Common.{◌≡◌, ◌≤◌, ℕ, zero, suc, ◌+◌, refl, subst, ap, sym, ◌∙◌, Bool, true, false, List, [], ◌∷◌, ◌++◌, length, take, arith, append_assoc, inl, inr}
+use Rattle.std.specs.Prelude.{Option, Result, Ok, Err, OnErr, count_by, cond, nat_lt, ◌||◌, codes, decimal}
 use Rattle.std.specs.List.{list_any}
 use Rattle.std.specs.Io.KnownBytes.{append_known}
 use Rattle.std.proofs.lemmas.List.Sums.{sum_by-cons}
 use Rattle.std.proofs.lemmas.Bool.{lt-ltb}
-use Rattle.std.proofs.lemmas.List.{append-nil, take-append-le, length-take}
+use Rattle.std.proofs.lemmas.List.{append-nil, length-take}
 use Rattle.std.proofs.lemmas.List.Elements.{Contains-append_right}
 use Rattle.std.specs.List.{Contains}
 use Rattle.ll_bank.specs.Term.{Term}
@@ -21,49 +21,17 @@ use Rattle.ll_laws.specs.ProofText.{derivation_text, proved_answers_text}
 use Rattle.ll_laws.specs.Dealt.{dealt}
 use Rattle.ll_laws.specs.Laws.{AnswersAreShown}
 use Rattle.ll_laws.specs.Valid.{IsValid}
-use Rattle.ll_engine.specs.declared.engine.Step2.TheVariants.{Moved, Event as EventFound, Done}
-use Rattle.ll_engine.specs.Seen.{Owing}
-use Rattle.ll_engine.specs.Steps.{Steps, fresh}
+use Rattle.ll_laws.specs.Sound.{Every}
+use Rattle.ll_order.specs.Outlets.{Gives, CountsOf}
+use Rattle.ll_crew.specs.Crews.{GivesPrefix}
 use Rattle.ll_top.specs.Outcome.{whole_text}
-use Rattle.ll_top.specs.Running.{event_lines, all_lines, no_counts, counted, status_of_counts, AnswersAll, IsRunning}
-
--- ---- what is appended
-
-append_known-append : (w : Option (List ℕ)) (a b : List ℕ) → append_known (append_known w a) b ≡ append_known w (a ++ b)
-append_known-append None a b = refl
-append_known-append (Some w) a b = ap Some (append_assoc w a b)
-
-append_known-nil : (w : Option (List ℕ)) → append_known w [] ≡ w
-append_known-nil None = refl
-append_known-nil (Some w) = ap Some (append-nil w)
-
-take-append_front : (done piece rest : List ℕ) (n k : ℕ) → k ≡ length done + n → n ≤ length piece → take k (done ++ (piece ++ rest)) ≡ done ++ take n piece
-take-append_front [] piece rest n k e h = let q : k ≡ n = omega arith in ap (λ i. take i (piece ++ rest)) q ∙ take-append-le n piece rest h
-take-append_front (b ∷ done) piece rest n zero e h = absurd (omega arith)
-take-append_front (b ∷ done) piece rest n (suc k) e h = ap (λ xs. b ∷ xs) (take-append_front done piece rest n k (omega arith) h)
-
--- some first bytes of a piece, after what comes before it in a text
-pub front_in : (before mid after : Option (List ℕ)) (done piece rest text : List ℕ) → mid ≡ append_known before done → done ++ (piece ++ rest) ≡ text
-    → AppendsFront mid piece after → AppendsFront before text after
-front_in before mid after done piece rest text w e f = record {
-  taken = length done + f.taken;
-  within = let l = ap length e in let h = f.within in omega (arith, length-append done (piece ++ rest), length-append piece rest);
-  appended =
-      f.appended
-      ∙ (ap (λ o. append_known o (take f.taken piece)) w
-      ∙ (append_known-append before done (take f.taken piece) ∙ ap (append_known before) (sym (take-append_front done piece rest f.taken (length done + f.taken) refl f.within) ∙ ap (take (length done + f.taken)) e)));
-}
-
-no_front : (w : Option (List ℕ)) (piece : List ℕ) → AppendsFront w piece w
-no_front w piece = record { taken = 0; within = omega arith; appended = sym (append_known-nil w) }
+use Rattle.ll_top.proofs.GivenLemmas.{append_known-append, no_front, front_in, given-kept, refused-kept, given-written, front-given, refused-written}
+use Rattle.ll_top.specs.Running.{event_lines, all_lines, counted, status_of_counts, AnswersAll, IsWelcome, OutletState, SameOutlet, Writes, BreaksOff}
 
 -- ---- counts that are cut
 
 cut-suc : (k : ℕ) → cut_count (suc (cut_count k)) ≡ cut_count (suc k)
 cut-suc k = omega arith
-
-cut-more : (k n : ℕ) → cut_count (cut_count (suc k) + n) ≡ cut_count (k + suc n)
-cut-more k n = omega arith
 
 -- the text of answers does not change where the count of those before is cut
 answers_text-cut : (p : ProblemTree) (k : ℕ) (es : List Event) → answers_text p (cut_count k) es ≡ answers_text p k es
@@ -86,13 +54,13 @@ proved_answers_text-cut p k (Answer a ∷ es) =
 proved_answers_text-cut p k (Reached ∷ es) = proved_answers_text-cut p k es
 
 -- the lines of an event, and the text of the answers after it
-event_then : (proofs : Bool) (p : ProblemTree) (c : Counts) (e : Event) (es : List Event) → event_lines proofs p c.answers e ++ all_lines proofs p (counted c e).answers es ≡ all_lines proofs p c.answers (e ∷ es)
-event_then false p c (Answer a) es = ap (λ xs. answer_text p (suc c.answers) a ++ xs) (answers_text-cut p (suc c.answers) es)
-event_then true p c (Answer a) es =
+event_then : (proofs : Bool) (p : ProblemTree) (k : ℕ) (e : Event) (es : List Event) → event_lines proofs p k e ++ all_lines proofs p (counted k e) es ≡ all_lines proofs p k (e ∷ es)
+event_then false p k (Answer a) es = ap (λ xs. answer_text p (suc k) a ++ xs) (answers_text-cut p (suc k) es)
+event_then true p k (Answer a) es =
     let proof = derivation_text p.names (dealt p a) in
-    ap (λ xs. answer_text p (suc c.answers) a ++ proof ++ xs) (proved_answers_text-cut p (suc c.answers) es)
-event_then false p c Reached es = refl
-event_then true p c Reached es = refl
+    ap (λ xs. answer_text p (suc k) a ++ proof ++ xs) (proved_answers_text-cut p (suc k) es)
+event_then false p k Reached es = refl
+event_then true p k Reached es = refl
 
 -- the whole text: the lines of the events, and the last line
 pub whole-lines : (proofs : Bool) (p : ProblemTree) → all_lines proofs p 0 (problem_events p) ++ summary_text (count_by is_answer (problem_events p)) (count_by is_reached (problem_events p)) (problem_cost p) ≡ whole_text proofs p
@@ -106,139 +74,106 @@ no-lines true p k = refl
 count-cons : (test : Event → Bool) (e : Event) (es : List Event) (b : Bool) → test e ≡ b → count_by test (e ∷ es) ≡ cond b 1 0 + count_by test es
 count-cons test e es b h = sum_by-cons (λ x. cond (test x) 1 0) e es ∙ ap (λ x. cond x 1 0 + count_by test es) h
 
-answers-counted : (c : Counts) (e : Event) (es : List Event) → cut_count ((counted c e).answers + count_by is_answer es) ≡ cut_count (c.answers + count_by is_answer (e ∷ es))
-answers-counted c (Answer a) es = let q = count-cons is_answer (Answer a) es true refl in omega arith
-answers-counted c Reached es = let q = count-cons is_answer Reached es false refl in omega arith
-
-reached-counted : (c : Counts) (e : Event) (es : List Event) → cut_count ((counted c e).reached + count_by is_reached es) ≡ cut_count (c.reached + count_by is_reached (e ∷ es))
-reached-counted c (Answer a) es = let q = count-cons is_reached (Answer a) es false refl in omega arith
-reached-counted c Reached es = let q = count-cons is_reached Reached es true refl in omega arith
-
--- ---- the run
-
--- what is owed of the inferences falls by what is told
-cost-moves : (made cost more less k : ℕ) → less ≤ cost → more ≡ cut_count (made + (cost - less)) → cut_count (made + cost) ≡ k → cut_count (more + less) ≡ k
-cost-moves made cost more less k h e f = omega arith
-
-pub run-starts : (proofs : Bool) (p : ProblemTree) (o : Owing) (w : Option (List ℕ)) → o ≡ fresh p → IsRunning proofs p o no_counts w w
-run-starts proofs p o w h = subst (λ x. IsRunning proofs p x no_counts w w) (sym h) (record {
-  found = [];
-  events = refl;
-  done = [];
-  written = sym (append_known-nil w);
-  rest = refl;
-  answers = ap cut_count (let e : 0 + count_by is_answer (problem_events p) ≡ count_by is_answer (problem_events p) = omega arith in e);
-  reached = ap cut_count (let e : 0 + count_by is_reached (problem_events p) ≡ count_by is_reached (problem_events p) = omega arith in e);
-  answers_fit = omega arith;
-  reached_fit = omega arith;
-  cost = ap cut_count (let e : 0 + problem_cost p ≡ problem_cost p = omega arith in e);
-})
-
-pub run-moves : (proofs : Bool) (p : ProblemTree) (old new : Owing) (c : Counts) (before now : Option (List ℕ)) → IsRunning proofs p old c before now → Steps old Moved new → IsRunning proofs p new c before now
-run-moves proofs p old new c before now r s = record {
-  found = r.found;
-  events = ap (λ es. r.found ++ es) (sym s.events) ∙ r.events;
-  done = r.done;
-  written = r.written;
-  rest = ap (λ es. r.done ++ all_lines proofs p c.answers es) (sym s.events) ∙ r.rest;
-  answers = ap (λ es. cut_count (c.answers + count_by is_answer es)) (sym s.events) ∙ r.answers;
-  reached = ap (λ es. cut_count (c.reached + count_by is_reached es)) (sym s.events) ∙ r.reached;
-  answers_fit = r.answers_fit;
-  reached_fit = r.reached_fit;
-  cost = cost-moves old.made old.cost new.made new.cost (cut_count (problem_cost p)) s.cost s.made r.cost;
-}
-
-answers-fit : (c : Counts) (e : Event) → c.answers < 2 ^ 64 → (counted c e).answers < 2 ^ 64
-answers-fit c (Answer a) h = omega arith
-answers-fit c Reached h = h
-
-reached-fit : (c : Counts) (e : Event) → c.reached < 2 ^ 64 → (counted c e).reached < 2 ^ 64
-reached-fit c (Answer a) h = h
-reached-fit c Reached h = omega arith
-
-pub run-goes_on : (proofs : Bool) (p : ProblemTree) (old new : Owing) (c : Counts) (e : Event) (before now after : Option (List ℕ)) → IsRunning proofs p old c before now → Steps old (EventFound e) new
-    → after ≡ append_known now (event_lines proofs p c.answers e) → IsRunning proofs p new (counted c e) before after
-run-goes_on proofs p old new c e before now after r s w = record {
-  found = r.found ++ e ∷ [];
-  events = append_assoc r.found (e ∷ []) new.events ∙ (ap (λ es. r.found ++ es) (sym s.events) ∙ r.events);
-  done = r.done ++ event_lines proofs p c.answers e;
-  written = w ∙ (ap (λ o. append_known o (event_lines proofs p c.answers e)) r.written ∙ append_known-append before r.done (event_lines proofs p c.answers e));
-  rest =
-      append_assoc r.done (event_lines proofs p c.answers e) (all_lines proofs p (counted c e).answers new.events)
-      ∙ (ap (λ xs. r.done ++ xs) (event_then proofs p c e new.events) ∙ (ap (λ es. r.done ++ all_lines proofs p c.answers es) (sym s.events) ∙ r.rest));
-  answers = answers-counted c e new.events ∙ (ap (λ es. cut_count (c.answers + count_by is_answer es)) (sym s.events) ∙ r.answers);
-  reached = reached-counted c e new.events ∙ (ap (λ es. cut_count (c.reached + count_by is_reached es)) (sym s.events) ∙ r.reached);
-  answers_fit = answers-fit c e r.answers_fit;
-  reached_fit = reached-fit c e r.reached_fit;
-  cost = cost-moves old.made old.cost new.made new.cost (cut_count (problem_cost p)) s.cost s.made r.cost;
-}
-
 -- an answer that was found has a term for each variable that is asked for
 enough-terms : (p : ProblemTree) (a : Answered) (ts : List Term) → ts ≡ take (length p.asked) a.terms → length ts ≡ length p.asked → length p.asked ≤ length a.terms
 enough-terms p a ts e f = let g = ap length e in let h = length-take (length p.asked) a.terms in omega arith
-
--- an event that is found is one of the search
-pub run-finds : (proofs : Bool) (p : ProblemTree) (old new : Owing) (c : Counts) (e : Event) (before now : Option (List ℕ)) → IsRunning proofs p old c before now → Steps old (EventFound e) new → Contains (problem_events p) e
-run-finds proofs p old new c e before now r s =
-    let all : r.found ++ e ∷ new.events ≡ problem_events p = ap (λ es. r.found ++ es) (sym s.events) ∙ r.events in
-    subst (λ es. Contains es e) all (Contains-append_right r.found (e ∷ new.events) e (0, omega arith, refl))
 
 pub found-answers_all : AnswersAreShown → (p : ProblemTree) (e : Event) → IsValid p → Contains (problem_events p) e → AnswersAll p e
 found-answers_all shown p (Answer a) v has = let d = shown p a v has in enough-terms p a d.0.asked d.2 d.4.count
 found-answers_all shown p Reached v has = tt
 
--- ---- where it is refused
+-- the last line of a text
+abbrev pub last_text : ProblemTree → List ℕ
+last_text p = summary_text (count_by is_answer (problem_events p)) (count_by is_reached (problem_events p)) (problem_cost p)
 
-pub run-stops : (proofs : Bool) (p : ProblemTree) (o : Owing) (c : Counts) (before now : Option (List ℕ)) → IsRunning proofs p o c before now → AppendsFront before (whole_text proofs p) now
-run-stops proofs p o c before now r =
-    let rest = all_lines proofs p c.answers o.events in
-    let last = summary_text (count_by is_answer (problem_events p)) (count_by is_reached (problem_events p)) (problem_cost p) in
-    front_in before now now r.done rest last (whole_text proofs p) r.written (sym (append_assoc r.done rest last) ∙ (ap (λ xs. xs ++ last) r.rest ∙ whole-lines proofs p)) (no_front now rest)
+-- ---- events that were given
 
-pub run-breaks : (proofs : Bool) (p : ProblemTree) (old new : Owing) (c : Counts) (e : Event) (before now after : Option (List ℕ)) → IsRunning proofs p old c before now → Steps old (EventFound e) new
-    → AppendsFront now (event_lines proofs p c.answers e) after → AppendsFront before (whole_text proofs p) after
-run-breaks proofs p old new c e before now after r s f =
-    let piece = event_lines proofs p c.answers e in
-    let rest = all_lines proofs p (counted c e).answers new.events in
-    let last = summary_text (count_by is_answer (problem_events p)) (count_by is_reached (problem_events p)) (problem_cost p) in
-    let all : r.done ++ (piece ++ rest) ≡ all_lines proofs p 0 (problem_events p) =
-    ap (λ xs. r.done ++ xs) (event_then proofs p c e new.events) ∙ (ap (λ es. r.done ++ all_lines proofs p c.answers es) (sym s.events) ∙ r.rest) in
-    front_in before now after r.done piece (rest ++ last) (whole_text proofs p) r.written
-    (ap (λ xs. r.done ++ xs) (sym (append_assoc piece rest last)) ∙ (sym (append_assoc r.done (piece ++ rest) last) ∙ (ap (λ xs. xs ++ last) all ∙ whole-lines proofs p))) f
+-- each event of the search is welcome to an outlet of its problem
+pub welcome-all : AnswersAreShown → (p : ProblemTree) → IsValid p → Every (IsWelcome p) (problem_events p)
+welcome-all shown p v = by [] (problem_events p) refl
+  where
+    one : (e : Event) → Contains (problem_events p) e → IsWelcome p e
+    one e h = record { valid = v; among = h; all = found-answers_all shown p e v h }
 
--- ---- the end
+    by : (front es : List Event) → front ++ es ≡ problem_events p → Every (IsWelcome p) es
+    by front [] h = tt
+    by front (e ∷ es) h =
+        (one e (subst (λ xs. Contains xs e) h (Contains-append_right front (e ∷ es) e (0, omega arith, refl))), by (front ++ e ∷ []) es (append_assoc front (e ∷ []) es ∙ h))
 
--- the counts at the end are those of the whole search, cut
-pub run-counted : (proofs : Bool) (p : ProblemTree) (old new : Owing) (c : Counts) (n : ℕ) (before now : Option (List ℕ)) → n < 2 ^ 64 → n ≡ new.made → IsRunning proofs p old c before now → Steps old Done new
-    → counts_text c.answers c.reached n ≡ summary_text (count_by is_answer (problem_events p)) (count_by is_reached (problem_events p)) (problem_cost p)
-run-counted proofs p old new c n before now ln en r s =
-    let a = ap (λ es. cut_count (c.answers + count_by is_answer es)) (sym s.ends.1) ∙ r.answers in
-    let b = ap (λ es. cut_count (c.reached + count_by is_reached es)) (sym s.ends.1) ∙ r.reached in
-    let m : new.made ≡ old.made = ap (λ o. o.made) s.ends.0 in
-    let k = s.ends.2 in let d = r.cost in let fa = r.answers_fit in let fb = r.reached_fit in
-    let ea : c.answers ≡ cut_count (count_by is_answer (problem_events p)) = omega arith in
-    let eb : c.reached ≡ cut_count (count_by is_reached (problem_events p)) = omega arith in
-    let em : n ≡ cut_count (problem_cost p) = omega arith in cc
+module _ {W : Type 0} (takes breaks : W → Event → W → Type 0) (state : W → OutletState) (writes : (x : W) (e : Event) (y : W) → takes x e y → Writes (state x) e (state y))
+    (breaks_off : (x : W) (e : Event) (y : W) → breaks x e y → BreaksOff (state x) e (state y)) where
+  -- the lines of an event, and of events from this state on
+  abbrev lines_of : W → Event → List ℕ
+  lines_of x e = event_lines (state x).proofs (state x).problem (state x).answers e
 
--- everything was written once the last line is
-pub run-ends : (proofs : Bool) (p : ProblemTree) (old new : Owing) (c : Counts) (n : ℕ) (before now after : Option (List ℕ)) → n < 2 ^ 64 → n ≡ new.made → IsRunning proofs p old c before now → Steps old Done new
-    → after ≡ append_known now (counts_text c.answers c.reached n) → after ≡ append_known before (whole_text proofs p)
-run-ends proofs p old new c n before now after ln en r s w =
-    let last = counts_text c.answers c.reached n in
-    let all : r.done ≡ all_lines proofs p 0 (problem_events p) = sym (append-nil r.done) ∙ (ap (λ xs. r.done ++ xs) (sym (no-lines proofs p c.answers)) ∙ (ap (λ es. r.done ++ all_lines proofs p c.answers es) (sym s.ends.1) ∙ r.rest)) in
-    w
-    ∙ (ap (λ o. append_known o last) r.written
-    ∙ (append_known-append before r.done last
-    ∙ (ap (λ xs. append_known before (xs ++ last)) all ∙ (ap (λ xs. append_known before (all_lines proofs p 0 (problem_events p) ++ xs)) (run-counted proofs p old new c n before now ln en r s) ∙ ap (append_known before) (whole-lines proofs p)))))
+  abbrev lines_from : W → List Event → List ℕ
+  lines_from x es = all_lines (state x).proofs (state x).problem (state x).answers es
 
--- or a prefix of it, where the last line is not
-pub run-ends_broken : (proofs : Bool) (p : ProblemTree) (old new : Owing) (c : Counts) (n : ℕ) (before now after : Option (List ℕ)) → n < 2 ^ 64 → n ≡ new.made → IsRunning proofs p old c before now
-    → Steps old Done new → AppendsFront now (counts_text c.answers c.reached n) after → AppendsFront before (whole_text proofs p) after
-run-ends_broken proofs p old new c n before now after ln en r s f =
-    let last = counts_text c.answers c.reached n in
-    let all : r.done ≡ all_lines proofs p 0 (problem_events p) = sym (append-nil r.done) ∙ (ap (λ xs. r.done ++ xs) (sym (no-lines proofs p c.answers)) ∙ (ap (λ es. r.done ++ all_lines proofs p c.answers es) (sym s.ends.1) ∙ r.rest)) in
-    front_in before now after r.done last [] (whole_text proofs p) r.written
-    (ap (λ xs. r.done ++ xs) (append-nil last) ∙ (ap (λ xs. xs ++ last) all ∙ (ap (λ xs. all_lines proofs p 0 (problem_events p) ++ xs) (run-counted proofs p old new c n before now ln en r s) ∙ whole-lines proofs p))) f
+  -- the lines of the first event, and of those behind it
+  lines-then : (x : W) (e : Event) (y : W) (es : List Event) → takes x e y → lines_of x e ++ lines_from y es ≡ lines_from x (e ∷ es)
+  lines-then x e y es h =
+      let w = writes x e y h in
+      let s = state x in
+      let t = state y in
+      let same : lines_from y es ≡ all_lines s.proofs s.problem (counted s.answers e) es =
+      ap (λ q. all_lines q t.problem t.answers es) w.same.proofs ∙ (ap (λ q. all_lines s.proofs q t.answers es) w.same.problem ∙ ap (λ k. all_lines s.proofs s.problem k es) w.answers) in
+      ap (λ xs. lines_of x e ++ xs) same ∙ event_then s.proofs s.problem s.answers e es
+
+  lines-begin : (x : W) (e : Event) (es : List Event) → (rest : List ℕ) × (lines_of x e ++ rest ≡ lines_from x (e ∷ es))
+  lines-begin x e es = (all_lines (state x).proofs (state x).problem (counted (state x).answers e) es, event_then (state x).proofs (state x).problem (state x).answers e es)
+
+  same-on : (a b c : OutletState) → SameOutlet a b → SameOutlet b c → SameOutlet a c
+  same-on a b c h k =
+      record { problem = k.problem ∙ h.problem; proofs = k.proofs ∙ h.proofs; lent = k.lent ∙ h.lent; faults = let f = h.faults in let g = k.faults in omega arith }
+
+  same-self : (a : OutletState) → SameOutlet a a
+  same-self a = record { problem = refl; proofs = refl; lent = refl; faults = omega arith }
+
+  took-same : (x : W) (e : Event) (y : W) → takes x e y → SameOutlet (state x) (state y)
+  took-same x e y h = (writes x e y h).same
+
+  broke-same : (x : W) (e : Event) (y : W) → breaks x e y → SameOutlet (state x) (state y)
+  broke-same x e y h = (breaks_off x e y h).same
+
+  abbrev Kept : W → W → Type 0
+  Kept x y = SameOutlet (state x) (state y)
+
+  -- all events were given
+  pub events-same : (x y : W) (es : List Event) → Gives takes x es y → SameOutlet (state x) (state y)
+  events-same x y es g = given-kept takes breaks Kept (λ z. same-self (state z)) (λ a b c. same-on (state a) (state b) (state c)) took-same broke-same x y es g
+
+  pub events-written : (x y : W) (es : List Event) → Gives takes x es y → (state y).written ≡ append_known (state x).written (lines_from x es)
+  events-written x y es g =
+      given-written takes breaks (λ z. (state z).written) lines_of lines_from (λ z. no-lines (state z).proofs (state z).problem (state z).answers) (λ a e b h. (writes a e b h).written) lines-then lines-begin
+      (λ a e b h. (breaks_off a e b h).written) x y es g
+
+  -- only the first of them were
+  pub prefix-same : (x y : W) (es : List Event) → GivesPrefix takes breaks x es y → SameOutlet (state x) (state y)
+  prefix-same x y es (inl (front, back, e, g)) = events-same x y front g
+  prefix-same x y es (inr r) = refused-kept takes breaks Kept (λ z. same-self (state z)) (λ a b c. same-on (state a) (state b) (state c)) took-same broke-same x y es r
+
+  pub prefix-written : (x y : W) (es : List Event) (last : List ℕ) → GivesPrefix takes breaks x es y → AppendsFront (state x).written (lines_from x es ++ last) (state y).written
+  prefix-written x y es last (inl (front, back, e, g)) =
+      subst (λ xs. AppendsFront (state x).written (lines_from x xs ++ last) (state y).written) (sym e)
+      (front-given takes breaks (λ z. (state z).written) lines_of lines_from (λ z. no-lines (state z).proofs (state z).problem (state z).answers) (λ a e b h. (writes a e b h).written) lines-then lines-begin
+      (λ a e b h. (breaks_off a e b h).written) x y front back last g)
+  prefix-written x y es last (inr r) =
+      refused-written takes breaks (λ z. (state z).written) lines_of lines_from (λ z. no-lines (state z).proofs (state z).problem (state z).answers) (λ a e b h. (writes a e b h).written) lines-then lines-begin
+      (λ a e b h. (breaks_off a e b h).written) x y es last r
+
+  -- the whole text of a problem of which no answer was taken yet: a prefix of it was written
+  pub text-begun : (x y : W) (p : ProblemTree) → (state x).problem ≡ p → (state x).answers ≡ 0 → GivesPrefix takes breaks x (problem_events p) y → AppendsFront (state x).written (whole_text (state x).proofs p) (state y).written
+  text-begun x y p e k g =
+      let f = prefix-written x y (problem_events p) (last_text p) g in
+      let same : lines_from x (problem_events p) ++ last_text p ≡ whole_text (state x).proofs p =
+      ap (λ q. all_lines (state x).proofs q (state x).answers (problem_events p) ++ last_text p) e ∙ (ap (λ n. all_lines (state x).proofs p n (problem_events p) ++ last_text p) k ∙ whole-lines (state x).proofs p) in
+      subst (λ t. AppendsFront (state x).written t (state y).written) same f
+
+  -- all of its lines were written
+  pub lines-written : (x y : W) (p : ProblemTree) → (state x).problem ≡ p → (state x).answers ≡ 0 → Gives takes x (problem_events p) y → (state y).written ≡ append_known (state x).written (all_lines (state x).proofs p 0 (problem_events p))
+  lines-written x y p e k g =
+      events-written x y (problem_events p) g
+      ∙ ap (append_known (state x).written) (ap (λ q. all_lines (state x).proofs q (state x).answers (problem_events p)) e ∙ ap (λ n. all_lines (state x).proofs p n (problem_events p)) k)
 
 any-count : (test : Event → Bool) (es : List Event) → list_any test es ≡ nat_lt 0 (count_by test es)
 any-count test [] = refl
@@ -261,16 +196,43 @@ status-by zero r (suc n) m e f = absurd (omega arith)
 status-by (suc a) r zero m e f = absurd (omega arith)
 status-by (suc a) r (suc n) m e f = sym (ap (λ b. status_by b (nat_lt 0 m)) (lt-ltb 0 (suc n) (omega arith)))
 
+-- ---- the end
+
+-- the last line has the counts of the whole search, cut
+pub last-line : (p : ProblemTree) (c : Counts) → CountsOf c (problem_events p) (problem_cost p) → counts_text c.answers c.reached c.inferences ≡ last_text p
+last-line p c h = let a = h.0 in let b = h.1 in let m = h.2 in cc
+
+-- everything was written once the last line is
+pub whole-written : (proofs : Bool) (p : ProblemTree) (c : Counts) (before now after : Option (List ℕ)) → CountsOf c (problem_events p) (problem_cost p)
+    → now ≡ append_known before (all_lines proofs p 0 (problem_events p)) → after ≡ append_known now (counts_text c.answers c.reached c.inferences) → after ≡ append_known before (whole_text proofs p)
+whole-written proofs p c before now after h d w =
+    let lines = all_lines proofs p 0 (problem_events p) in
+    w
+    ∙ (ap (λ o. append_known o (counts_text c.answers c.reached c.inferences)) d
+    ∙ (ap (append_known (append_known before lines)) (last-line p c h) ∙ (append_known-append before lines (last_text p) ∙ ap (append_known before) (whole-lines proofs p))))
+
+-- or a prefix of it, where the last line is not
+pub last-broken : (proofs : Bool) (p : ProblemTree) (c : Counts) (before now after : Option (List ℕ)) → CountsOf c (problem_events p) (problem_cost p)
+    → now ≡ append_known before (all_lines proofs p 0 (problem_events p)) → AppendsFront now (counts_text c.answers c.reached c.inferences) after → AppendsFront before (whole_text proofs p) after
+last-broken proofs p c before now after h d f =
+    let lines = all_lines proofs p 0 (problem_events p) in
+    let last = counts_text c.answers c.reached c.inferences in
+    front_in before now after lines last [] (whole_text proofs p) d
+    (ap (λ xs. lines ++ xs) (append-nil last) ∙ (ap (λ xs. lines ++ xs) (last-line p c h) ∙ whole-lines proofs p)) f
+
+-- the lines of all events are a prefix
+pub lines-front : (proofs : Bool) (p : ProblemTree) (before now : Option (List ℕ)) → now ≡ append_known before (all_lines proofs p 0 (problem_events p)) → AppendsFront before (whole_text proofs p) now
+lines-front proofs p before now d =
+    let lines = all_lines proofs p 0 (problem_events p) in
+    front_in before now now lines (last_text p) [] (whole_text proofs p) d (ap (λ xs. lines ++ xs) (append-nil (last_text p)) ∙ whole-lines proofs p) (no_front now (last_text p))
+
 -- the status is that of the whole search
-pub run-status : (proofs : Bool) (p : ProblemTree) (old new : Owing) (c : Counts) (before now : Option (List ℕ)) → IsRunning proofs p old c before now → Steps old Done new
-    → status_of_counts c.answers c.reached ≡ run_status p
-run-status proofs p old new c before now r s =
+pub run-status : (p : ProblemTree) (c : Counts) → CountsOf c (problem_events p) (problem_cost p) → status_of_counts c.answers c.reached ≡ run_status p
+run-status p c h =
     let es = problem_events p in
-    let a = ap (λ es. cut_count (c.answers + count_by is_answer es)) (sym s.ends.1) ∙ r.answers in
-    let b = ap (λ es. cut_count (c.reached + count_by is_reached es)) (sym s.ends.1) ∙ r.reached in
-    let f = any-count is_answer es in let g = any-count is_reached es in
-    let fa = r.answers_fit in let fb = r.reached_fit in
-    let i = status-by c.answers c.reached (count_by is_answer es) (count_by is_reached es) (omega arith) (omega arith) in cc
+    let f = any-count is_answer es in
+    let g = any-count is_reached es in
+    let i = status-by c.answers c.reached (count_by is_answer es) (count_by is_reached es) h.0 h.1 in cc
 
 -- a fact for a refusal, where it holds anyhow
 pub on_err : {T E P : Type 0} (r : Result T E) → P → OnErr r P

@@ -92,6 +92,19 @@ value-small least greatest w v e = by (is_number_word w) refl e
     by true h k = inner (nat_le least (digits_value 10 w)) (nat_le (digits_value 10 w) greatest) refl refl k
     by false h k = cc
 
+-- nor is it too small
+pub value-least : (least greatest : ℕ) (w : List ℕ) (v : ℕ) → number_from least greatest w ≡ Some v → least ≤ v
+value-least least greatest w v e = by (is_number_word w) refl e
+  where
+    inner : (a b : Bool) → nat_le least (digits_value 10 w) ≡ a → nat_le (digits_value 10 w) greatest ≡ b → (if a && b then Some (digits_value 10 w) else None) ≡ Some v → least ≤ v
+    inner true true h l k = let f = leb-true least (digits_value 10 w) h in let g : digits_value 10 w ≡ v = cc in omega arith
+    inner true false h l k = cc
+    inner false b h l k = cc
+
+    by : (b : Bool) → is_number_word w ≡ b → (if b then value_within least greatest (digits_value 10 w) else None) ≡ Some v → least ≤ v
+    by true h k = inner (nat_le least (digits_value 10 w)) (nat_le (digits_value 10 w) greatest) refl refl k
+    by false h k = cc
+
 number-word : (least greatest : ℕ) (w : List ℕ) (v : ℕ) → number_from least greatest w ≡ Some v → is_number_word w ≡ true
 number-word least greatest w v e = by (is_number_word w) refl e
   where
@@ -248,6 +261,7 @@ module _ (words : List (List ℕ)) (options : RunOptions) (at : ℕ) (read : IsR
           workers = value-kept (codes "--workers") words at (codes "--bound") v options.workers e refl f (other-word is_number_word (codes "--workers") v refl is_number) read.workers;
           proofs = has-kept (codes "--proofs") words at (codes "--bound") v options.proofs e refl f (other-word is_number_word (codes "--proofs") v refl is_number) read.proofs;
           small = value-small 0 greatest_bound v value d;
+          few = read.few;
         }
 
     bound-next : (value : ℕ) (next : Option (List ℕ)) → slice_get words (at + 1) ≡ next → IsSomeAnd next (λ w. number_from 0 greatest_bound w ≡ Some value) → IsReadTo words (record options { bound = Some value }) (at + 2)
@@ -281,6 +295,7 @@ module _ (words : List (List ℕ)) (options : RunOptions) (at : ℕ) (read : IsR
           workers = value-found (codes "--workers") words at v options.workers value none read.workers e f (value-of 1 greatest_workers v value d);
           proofs = has-kept (codes "--proofs") words at (codes "--workers") v options.proofs e refl f (other-word is_number_word (codes "--proofs") v refl is_number) read.proofs;
           small = read.small;
+          few = (let l = value-least 1 greatest_workers v value d in omega arith, value-small 1 greatest_workers v value d);
         }
 
     workers-next : (value : ℕ) (next : Option (List ℕ)) → slice_get words (at + 1) ≡ next → IsSomeAnd next (λ w. number_from 1 greatest_workers w ≡ Some value) → IsReadTo words (record options { workers = Some value }) (at + 2)
@@ -300,6 +315,7 @@ module _ (words : List (List ℕ)) (options : RunOptions) (at : ℕ) (read : IsR
     workers = value-stays (codes "--workers") words at (codes "--proofs") options.workers e refl read.workers;
     proofs = has-found (codes "--proofs") words at e;
     small = read.small;
+    few = read.few;
   }
 
 -- ---- the whole run
@@ -342,6 +358,7 @@ module _ (words : List (List ℕ)) (run : HasPart words 0 (ThisWord (codes "run"
       workers = before-options (codes "--workers") refl refl query;
       proofs = has-none (codes "--proofs") (take 3 words) (before-options (codes "--proofs") refl refl query);
       small = tt;
+      few = tt;
     }
 
 -- ---- the end of the words

@@ -4,7 +4,7 @@ use Rattle.ll_top.specs.declared.words.RunOption.{RunOption}
 use Rattle.ll_top.specs.declared.words.RunOption.TheVariants.{Bound, Workers, Proofs}
 use Rattle.ll_top.specs.declared.words.RunOptions.{RunOptions}
 use Rattle.ll_top.specs.Begins.{IsFirstBad, Leads}
-use Rattle.ll_top.specs.Words.{Part, is_part, is_word, OptionForm, Form, Fits, FitsForm, run_form, bound_option, workers_option, proofs_option, number_behind, has_word, greatest_bound}
+use Rattle.ll_top.specs.Words.{Part, is_part, is_word, OptionForm, Form, Fits, FitsForm, run_form, bound_option, workers_option, proofs_option, number_behind, has_word, greatest_bound, IsWorkerCount}
 
 -- the word at this place may stand for the part
 abbrev pub HasPart : List (List ℕ) → ℕ → Part → Type 0
@@ -55,3 +55,4 @@ pub record IsReadTo (words : List (List ℕ)) (options : RunOptions) (at : ℕ) 
   pub workers : IsValue words (codes "--workers") at options.workers
   pub proofs : has_word (codes "--proofs") (take at words) ≡ options.proofs
   pub small : IfSome options.bound (λ b. b ≤ greatest_bound)
+  pub few : IfSome options.workers IsWorkerCount

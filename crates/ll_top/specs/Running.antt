@@ -1,16 +1,16 @@
--- A run that is on its way: what was counted and written of its events so far.
-use Rattle.std.specs.Prelude.{◌≡◌, ◌<◌, ◌≤◌, ◌^◌, length, ⊤, ℕ, Bool, true, false, ◌+◌, zero, suc, List, [], ◌++◌, count_by, Option}
+-- A run that is on its way: what was written of its events so far.
+use Rattle.std.specs.Prelude.{◌≡◌, ◌≤◌, length, ⊤, ℕ, Bool, true, false, zero, suc, List, [], ◌++◌, Option, Contains}
 use Rattle.std.specs.Io.KnownBytes.{append_known}
 use Rattle.ll_edge.specs.Counts.{Rose}
+use Rattle.ll_edge.specs.Pieces.{AppendsFront}
 use Rattle.ll_laws.specs.declared.Event.{Event}
 use Rattle.ll_laws.specs.declared.Event.TheVariants.{Answer, Reached}
-use Rattle.ll_laws.specs.declared.Counts.{Counts}
-use Rattle.ll_laws.specs.Search.{cut_count, is_answer, is_reached}
-use Rattle.ll_laws.specs.Problem.{ProblemTree, problem_events, problem_cost}
+use Rattle.ll_laws.specs.Search.{cut_count}
+use Rattle.ll_laws.specs.Problem.{ProblemTree, problem_events}
 use Rattle.ll_laws.specs.Output.{answer_text, answers_text}
 use Rattle.ll_laws.specs.ProofText.{derivation_text, proved_answers_text}
 use Rattle.ll_laws.specs.Dealt.{dealt}
-use Rattle.ll_engine.specs.Seen.{Owing}
+use Rattle.ll_laws.specs.Valid.{IsValid}
 use Rattle.ll_top.specs.declared.refusal.Refusal.{Refusal}
 use Rattle.ll_top.specs.declared.refusal.Refusal.TheVariants.{Text, Unwritable, OutOfMemory}
 
@@ -30,14 +30,10 @@ abbrev pub AnswersAll : ProblemTree → Event → Type 0
 AnswersAll p (Answer a) = length p.asked ≤ length a.terms
 AnswersAll p Reached = ⊤
 
--- nothing counted
-abbrev pub no_counts : Counts
-no_counts = record { answers = 0; reached = 0; inferences = 0 }
-
--- the counts after one event more
-abbrev pub counted : Counts → Event → Counts
-counted c (Answer a) = record c { answers = cut_count (suc c.answers) }
-counted c Reached = record c { reached = cut_count (suc c.reached) }
+-- the number of answers after one event more, cut at the greatest u64
+abbrev pub counted : ℕ → Event → ℕ
+counted k (Answer a) = cut_count (suc k)
+counted k Reached = k
 
 -- the status by the numbers of answers and of branches that reached the bound
 abbrev pub status_of_counts : ℕ → ℕ → ℕ
@@ -51,18 +47,39 @@ IsRunRefusal before after Unwritable = Rose before after
 IsRunRefusal before after OutOfMemory = ⊤
 IsRunRefusal before after (Text role refusal) = ⊥
 
--- a run of a problem is on its way: its engine owes the rest, and this was counted and written so far
-pub record IsRunning (proofs : Bool) (p : ProblemTree) (owing : Owing) (counts : Counts) (before after : Option (List ℕ)) : Type 0 where
-  -- the events that were found
-  pub found : List Event
-  pub events : found ++ owing.events ≡ problem_events p
-  -- what was written
-  pub done : List ℕ
-  pub written : after ≡ append_known before done
-  -- what was written, and what is still to be written of the answers
-  pub rest : done ++ all_lines proofs p counts.answers owing.events ≡ all_lines proofs p 0 (problem_events p)
-  pub answers : cut_count (counts.answers + count_by is_answer owing.events) ≡ cut_count (count_by is_answer (problem_events p))
-  pub reached : cut_count (counts.reached + count_by is_reached owing.events) ≡ cut_count (count_by is_reached (problem_events p))
-  pub answers_fit : counts.answers < 2 ^ 64
-  pub reached_fit : counts.reached < 2 ^ 64
-  pub cost : cut_count (owing.made + owing.cost) ≡ cut_count (problem_cost p)
+-- ---- the outlet of a run
+
+-- the event is one of the search of the problem, which is valid
+pub record IsWelcome (p : ProblemTree) (e : Event) : Type 0 where
+  pub valid : IsValid p
+  pub among : Contains (problem_events p) e
+  pub all : AnswersAll p e
+
+-- what an outlet shows that writes the events of a problem
+pub record OutletState : Type 0 where
+  pub problem : ProblemTree
+  pub proofs : Bool
+  -- how many answers it took, cut at the greatest u64
+  pub answers : ℕ
+  -- what its sink tells, the sink's count of faults, and the name of the borrow by which it has the sink
+  pub written : Option (List ℕ)
+  pub faults : ℕ
+  pub lent : ℕ
+
+-- it has the same problem and the same sink
+pub record SameOutlet (before after : OutletState) : Type 0 where
+  pub problem : after.problem ≡ before.problem
+  pub proofs : after.proofs ≡ before.proofs
+  pub lent : after.lent ≡ before.lent
+  pub faults : before.faults ≤ after.faults
+
+-- the lines of the event were appended, and it was counted
+pub record Writes (before : OutletState) (e : Event) (after : OutletState) : Type 0 where
+  pub same : SameOutlet before after
+  pub answers : after.answers ≡ counted before.answers e
+  pub written : after.written ≡ append_known before.written (event_lines before.proofs before.problem before.answers e)
+
+-- only a prefix of the lines of the event was appended
+pub record BreaksOff (before : OutletState) (e : Event) (after : OutletState) : Type 0 where
+  pub same : SameOutlet before after
+  pub written : AppendsFront before.written (event_lines before.proofs before.problem before.answers e) after.written

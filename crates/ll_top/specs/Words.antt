@@ -1,5 +1,5 @@
 -- The forms of a command's words.
-use Rattle.std.specs.Prelude.{◌≡◌, ◌⊎◌, ℕ, ◌+◌, ◌≤◌, Bool, true, false, ◌&&◌, not, List, [], ◌∷◌, length, filter, nat_eq, nat_le, slice_get, Option, Some, None, is_some, if◌then◌else◌, codes, option_map, IfSome}
+use Rattle.std.specs.Prelude.{◌≡◌, ◌⊎◌, ℕ, ◌+◌, ◌<◌, ◌≤◌, Bool, true, false, ◌&&◌, not, List, [], ◌∷◌, length, filter, nat_eq, nat_le, slice_get, Option, Some, None, is_some, if◌then◌else◌, codes, option_map, IfSome}
 use Rattle.ll_top.specs.declared.words.RunCommand.{RunCommand}
 use Rattle.ll_top.specs.declared.words.CheckCommand.{CheckCommand}
 use Rattle.ll_top.specs.declared.making.MakeCommand.{MakeCommand}
@@ -82,12 +82,12 @@ FitsSome (form ∷ others) words = FitsForm form words ⊎ FitsSome others words
 
 -- ---- the forms of today
 
--- the greatest bound, and the greatest number of workers today
+-- the greatest bound, and the greatest number of workers
 abbrev pub greatest_bound : ℕ
 greatest_bound = 1000000
 
 abbrev pub greatest_workers : ℕ
-greatest_workers = 1
+greatest_workers = 64
 
 -- `--bound N`
 abbrev pub bound_option : OptionForm
@@ -220,9 +220,13 @@ IsCommand words (Print name) = IsPrint words name.now
 IsCommand words (Check check) = IsCheck words (shown_check check)
 IsCommand words (Make make) = IsMake words (shown_make make)
 
--- a command's bound, where it has one, is not past the greatest, and the number of a make fits its kind
+-- a number of workers
+abbrev pub IsWorkerCount : ℕ → Type 0
+IsWorkerCount n = (0 < n) × (n ≤ greatest_workers)
+
+-- a command's bound, where it has one, is not past the greatest, nor is the number of its workers, and the number of a make fits its kind
 abbrev pub IsBounded : Command → Type 0
-IsBounded (Run run) = run.bound ≤ greatest_bound
+IsBounded (Run run) = (run.bound ≤ greatest_bound) × IsWorkerCount run.workers
 IsBounded (Print name) = Unit {0}
 IsBounded (Check check) = IfSome check.bound (λ bound. bound ≤ greatest_bound)
 IsBounded (Make make) = FitsKind make.kind make.number

@@ -6,10 +6,12 @@ mod fault;
 mod finding;
 mod judge;
 mod making;
+mod outlet;
 mod prepare;
 mod printing;
 mod refusal;
 mod run;
+mod team;
 mod words;
 
 ghost use Rattle.std.specs.Prelude.{◌≡◌, ◌≤◌, ◌↔◌, ◌⊎◌, ℕ, List, Option, None, Some, IfSome};
@@ -38,6 +40,7 @@ use run::{Found, run};
 use std::alloc::Global;
 use std::sync::Wait;
 use std::thread::Threads;
+use team::Team;
 use words::{CheckCommand, Command, RunCommand, read_command};
 
 /// Does what the words say, over the texts of the shelf, and writes to the sink. The answer is the program's exit status:
@@ -87,13 +90,19 @@ pub fn lolli<R: Threads + Wait + Sync, F: Shelf, O: Sink, G: Gate>(
         × (F.absences shelf.old ≤ F.absences shelf.new)
         × (O.faults sink.old ≤ O.faults sink.new) }
 {
-    let _ = rt;
-    let _ = gate;
     one_text();
     match lolli_plain(alloc, words, shelf, sink) {
         Some(status) => status,
         None => match read_command(words) {
-            Ok(Command::Run(run)) => serve_run(alloc, &run, shelf, sink),
+            Ok(Command::Run(run)) => {
+                let team = Team {
+                    rt,
+                    alloc,
+                    workers: run.workers,
+                    gate,
+                };
+                serve_run(&team, &run, shelf, sink)
+            }
             Ok(Command::Print(_)) => unreachable!(),
             Ok(Command::Check(_)) => unreachable!(),
             Ok(Command::Make(_)) => unreachable!(),
@@ -156,8 +165,8 @@ pub fn one_text()
 }
 
 // Runs a command, and says why not where it is not run.
-fn serve_run<F: Shelf, O: Sink>(
-    alloc: Global,
+fn serve_run<R: Threads + Wait + Sync, F: Shelf, O: Sink, G: Gate>(
+    team: &Team<'_, R, G>,
     run: &RunCommand<'_>,
     shelf: &mut F,
     sink: &mut O,
@@ -177,7 +186,7 @@ fn serve_run<F: Shelf, O: Sink>(
 {
     answers_are_shown();
     search_is_complete();
-    match run_texts(alloc, run, shelf, sink) {
+    match run_texts(team, run, shelf, sink) {
         Ok(found) => found_status(found),
         Err(Refusal::Text(role, refusal)) => refuse(refusal.cause(text_name(run, role)), sink),
         Err(Refusal::Unwritable) => 6,
@@ -186,8 +195,8 @@ fn serve_run<F: Shelf, O: Sink>(
 }
 
 // Runs a command.
-fn run_texts<F: Shelf, O: Sink>(
-    alloc: Global,
+fn run_texts<R: Threads + Wait + Sync, F: Shelf, O: Sink, G: Gate>(
+    team: &Team<'_, R, G>,
     command: &RunCommand<'_>,
     shelf: &mut F,
     sink: &mut O,
@@ -202,8 +211,8 @@ fn run_texts<F: Shelf, O: Sink>(
     ensures ends { RunEnds (F.texts shelf.old) (Rose (F.absences shelf.old) (F.absences shelf.new)) (Rose (F.faults shelf.old) (F.faults shelf.new))
         (Rose (O.faults sink.old) (O.faults sink.new)) (shown_words command.now) (O.written sink.old) (O.written sink.new) result }
 {
-    let problem = prepare(alloc, command, shelf)?;
-    run(alloc, &problem, command.proofs, sink)
+    let problem = prepare(team.alloc, command, shelf)?;
+    run(team, &problem, command.proofs, sink)
 }
 
 // Prints a program, and says why not where it is not printed.

@@ -1,26 +1,24 @@
-// A run of a problem: the engine's answers, written as they come, and the last line.
-ghost use Rattle.std.specs.Prelude.{◌≡◌, ◌≤◌, ◌++◌, [], IfOk, IfErr, OnOk, OnErr, Contains};
+// A run of a problem: its answers, written as they come, and the last line.
+ghost use Rattle.std.specs.Prelude.{◌≡◌, ◌≤◌, IfOk, IfErr, OnOk, OnErr};
 ghost use Rattle.std.specs.Io.KnownBytes.{append_known};
 ghost use Rattle.ll_edge.specs.Pieces.{AppendsFront};
-ghost use Rattle.ll_laws.specs.declared.Event.TheVariants.{Answer};
-ghost use Rattle.ll_laws.specs.Dealt.{dealt};
 ghost use Rattle.ll_laws.specs.Output.{run_status};
-ghost use Rattle.ll_laws.specs.Problem.{problem_events};
-ghost use Rattle.ll_laws.specs.ProofText.{derivation_text};
+ghost use Rattle.ll_laws.specs.Problem.{problem_events, problem_cost};
 ghost use Rattle.ll_laws.specs.Valid.{IsValid};
-ghost use Rattle.ll_top.specs.Running.{AnswersAll, event_lines, counted, status_of_counts, IsRunRefusal};
+ghost use Rattle.ll_order.specs.Outlets.{CountsOf};
+ghost use Rattle.ll_top.specs.Running.{all_lines, status_of_counts, IsRunRefusal};
 ghost use Rattle.ll_top.specs.Endings.{status_of_found};
 ghost use Rattle.ll_top.specs.Outcome.{whole_text};
 
+use crate::outlet::Writing;
 use crate::refusal::Refusal;
-use ll_bank::OutOfMemory;
-use ll_edge::{Sink, write_all};
-use ll_engine::{Engine, Step2};
-use ll_laws::{Branch, Counts, Event, Problem, answers_are_shown};
-use ll_printer::{answer, summary};
-use ll_prooftext::write;
-use ll_trace::explain;
-use std::alloc::Global;
+use crate::team::Team;
+use ll_crew::{CrewFault, crew};
+use ll_edge::{Gate, Sink, write_all};
+use ll_laws::{Counts, Problem, answers_are_shown};
+use ll_printer::summary;
+use std::sync::Wait;
+use std::thread::Threads;
 
 /// What a run found.
 #[derive(Clone, Copy, Debug, PartialEq, Eq)]
@@ -35,8 +33,8 @@ pub enum Found {
 
 /// Runs the problem, writes its whole text, with proofs or without, and answers what was found. After a refusal a prefix of the
 /// text was written.
-pub fn run<O: Sink>(
-    alloc: Global,
+pub fn run<R: Threads + Wait + Sync, O: Sink, G: Gate>(
+    team: &Team<'_, R, G>,
     problem: &Problem,
     proofs: bool,
     sink: &mut O,
@@ -49,73 +47,65 @@ pub fn run<O: Sink>(
     ensures refused { IfErr result (IsRunRefusal (O.faults sink.old) (O.faults sink.new)) }
     ensures prefix { OnErr result (AppendsFront (O.written sink.old) (whole_text proofs problem.now) (O.written sink.new)) }
 {
-    answers_are_shown();
-    let mut engine = Engine::start(alloc, problem)?;
-    let mut counts = Counts {
-        answers: 0,
-        reached: 0,
-        inferences: 0,
-    };
-    let mut lines = Vec::new(alloc);
-    loop {
-        match engine.step()? {
-            Step2::Moved => {}
-            Step2::Event(event) => {
-                count_event(alloc, problem, proofs, &event, &mut counts, &mut lines)?;
-                write_all(sink, &lines)?;
-            }
-            Step2::Done => break,
-        }
-    }
-    counts.inferences = engine.cost();
+    let mut lines = Vec::new(team.alloc);
+    let counts = write_events(team, problem, proofs, &mut lines, sink)?;
     lines.clear();
     summary(&counts, &mut lines)?;
     write_all(sink, &lines)?;
     Ok(what_was_found(&counts))
 }
 
-// Counts an event, and makes its lines, with proofs or without. After a refusal nothing is said of either.
-fn count_event(
-    alloc: Global,
+// Writes the lines of all events of the problem, each as it comes, and tells how many they are. After a refusal a prefix of the lines was
+// written. It leaves anything in the room for lines.
+fn write_events<R: Threads + Wait + Sync, O: Sink, G: Gate>(
+    team: &Team<'_, R, G>,
     problem: &Problem,
     proofs: bool,
-    event: &Event,
-    counts: &mut Counts,
     lines: &mut Vec<u8>,
-) -> Result<(), OutOfMemory>
+    sink: &mut O,
+) -> Result<Counts, Refusal>
     requires valid { IsValid problem.now }
-    requires found { Contains (problem_events problem.now) event.now }
-    requires all { AnswersAll problem.now event.now }
-    ensures counts { OnOk result (counts.new ≡ counted counts.old event.now) }
-    ensures lines { OnOk result (lines.new.items ≡ event_lines proofs problem.now counts.old.answers event.now) }
+
+    ensures faults_kept { O.faults sink.old ≤ O.faults sink.new }
+    ensures counts { IfOk result (λ counts. CountsOf counts (problem_events problem.now) (problem_cost problem.now)) }
+    ensures lines { OnOk result (O.written sink.new ≡ append_known (O.written sink.old) (all_lines proofs problem.now 0 (problem_events problem.now))) }
+    ensures refused { IfErr result (IsRunRefusal (O.faults sink.old) (O.faults sink.new)) }
+    ensures prefix { OnErr result (AppendsFront (O.written sink.old) (whole_text proofs problem.now) (O.written sink.new)) }
 {
-    lines.clear();
-    match event {
-        Event::Answer(branch) => {
-            counts.answers = counts.answers.saturating_add(1);
-            answer(alloc, problem, counts.answers, branch, lines)?;
-            if proofs {
-                write_proof(alloc, problem, branch, lines)?;
-            }
-        }
-        Event::Reached => counts.reached = counts.reached.saturating_add(1),
-    }
-    Ok(())
+    let mut out = Writing {
+        alloc: team.alloc,
+        problem,
+        proofs,
+        sink,
+        lines,
+        answers: 0,
+    };
+    give_events(team, problem, &mut out)
 }
 
-// Appends the text of the derivation of an answer. After a refusal some first bytes of it may have been appended.
-fn write_proof(
-    alloc: Global,
-    problem: &Problem,
-    branch: &Branch,
-    lines: &mut Vec<u8>,
-) -> Result<(), OutOfMemory>
+// Gives all events of the problem to an outlet that took none yet.
+fn give_events<'p, 's, R: Threads + Wait + Sync, O: Sink, G: Gate>(
+    team: &Team<'_, R, G>,
+    problem: &'p Problem,
+    out: &mut Writing<'p, 's, O>,
+) -> Result<Counts, Refusal>
     requires valid { IsValid problem.now }
-    requires found { Contains (problem_events problem.now) (Answer branch.now) }
-    ensures { OnOk result (lines.new.items ≡ lines.old.items ++ derivation_text problem.now.names (dealt problem.now branch.now)) }
+    requires problem { out.old.problem.now ≡ problem.now }
+    requires answers { out.old.answers ≡ 0 }
+
+    ensures same_reference { out.new.sink.ghost_name ≡ out.old.sink.ghost_name }
+    ensures faults_kept { O.faults out.old.sink.now ≤ O.faults out.new.sink.now }
+    ensures counts { IfOk result (λ counts. CountsOf counts (problem_events problem.entry.now) (problem_cost problem.entry.now)) }
+    ensures lines { OnOk result (O.written out.new.sink.now ≡ append_known (O.written out.old.sink.now) (all_lines out.old.proofs problem.entry.now 0 (problem_events problem.entry.now))) }
+    ensures refused { IfErr result (IsRunRefusal (O.faults out.old.sink.now) (O.faults out.new.sink.now)) }
+    ensures prefix { OnErr result (AppendsFront (O.written out.old.sink.now) (whole_text out.old.proofs problem.entry.now) (O.written out.new.sink.now)) }
 {
-    let derivation = explain(alloc, problem, branch)?;
-    write(alloc, &problem.names, &derivation, lines)
+    answers_are_shown();
+    match crew(team.rt, team.alloc, problem, team.workers, team.gate, out) {
+        Ok(counts) => Ok(counts),
+        Err(CrewFault::Write) => Err(Refusal::Unwritable),
+        Err(CrewFault::OutOfMemory) => Err(Refusal::OutOfMemory),
+    }
 }
 
 // What was found, by the numbers of answers and of branches that reached the bound.

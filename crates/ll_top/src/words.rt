@@ -2,7 +2,7 @@
 ghost use Rattle.std.specs.Prelude.{◌≡◌, ◌+◌, ◌≤◌, ◌<◌, length, map, true, codes, slice_get, Some, IsSomeAnd, IfOk, IfSome, MatchOption, MatchResult, false};
 ghost use Rattle.std.specs.Char.{is_ascii_digit};
 ghost use Rattle.std.specs.List.{list_all, list_any};
-ghost use Rattle.ll_top.specs.Words.{is_word, is_name_word, is_number_word, number_from, value_within, ThisWord, AnyName, NumberFrom, IsRun, IsPrint, IsCheck, IsCommand, IsBounded, shown_words, shown_check, IsBadWord, greatest_bound, print_form, check_form, cover_form};
+ghost use Rattle.ll_top.specs.Words.{is_word, is_name_word, is_number_word, number_from, value_within, ThisWord, AnyName, NumberFrom, IsRun, IsPrint, IsCheck, IsCommand, IsBounded, IsWorkerCount, shown_words, shown_check, IsBadWord, greatest_bound, print_form, check_form, cover_form};
 ghost use Rattle.ll_top.specs.RunForm.{HasPart, LacksPart, options_left, IsOptionLeft, IsBadFormWord, IsBadRunWord, IsReadTo};
 ghost use Rattle.ll_top.specs.Outcome.{word_texts};
 
@@ -14,6 +14,7 @@ pub struct RunCommand<'a> {
     pub program: &'a str,
     pub query: &'a str,
     pub bound: u32,
+    /// How many search, from 1 to 64.
     pub workers: u32,
     /// Whether each answer is written with its derivation.
     pub proofs: bool,
@@ -67,7 +68,7 @@ struct OptionsRead {
 
 const GREATEST_BOUND: u32 = 1_000_000;
 
-const GREATEST_WORKERS: u32 = 1;
+const GREATEST_WORKERS: u32 = 64;
 
 /// What the words ask for. `Err` is the number, counted from 1, of the first word through which no form's words begin, or one
 /// past the last where the words end early.
@@ -146,6 +147,7 @@ fn read_run<'a>(words: &[&'a str]) -> Result<RunCommand<'a>, usize>
     requires { HasPart (word_texts words.now) 0 (ThisWord (codes "run")) }
     ensures run { MatchResult result (λ run. IsRun (word_texts words.now) (shown_words run)) (IsBadRunWord (word_texts words.now)) }
     ensures bound { IfOk result (λ run. run.bound ≤ greatest_bound) }
+    ensures workers { IfOk result (λ run. IsWorkerCount run.workers) }
 {
     let program = name_at(words, 1)?;
     let query = name_at(words, 2)?;

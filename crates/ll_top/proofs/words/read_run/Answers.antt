@@ -1,7 +1,7 @@
 use Rattle.std.proofs.Common.{◌≤◌, subst}
 use Rattle.std.specs.Prelude.{IfSome}
 use Rattle.ll_top.specs.Outcome.{word_texts}
-use Rattle.ll_top.specs.Words.{shown_words, IsRun, greatest_bound}
+use Rattle.ll_top.specs.Words.{shown_words, IsRun, greatest_bound, IsWorkerCount}
 use Rattle.ll_top.specs.RunForm.{IsBadRunWord}
 use Rattle.ll_top.proofs.RunWords.{bad-answer, has-name, no-program, no-query, bound-lacks, workers-lack, whole-run}
 use Rattle.ll_top.proofs.words.read_run.Goals as goal
@@ -30,3 +30,6 @@ returns-clause-run c =
 
 pub returns-clause-bound : goal.returns-clause-bound
 returns-clause-bound c = subst (λ o. IfSome o (λ b. b ≤ greatest_bound)) c.in-Some.is c.in_ok-options.ensures.small
+
+pub returns-clause-workers : goal.returns-clause-workers
+returns-clause-workers c = subst (λ o. IfSome o IsWorkerCount) c.in-Some-workers.is c.in_ok-options.ensures.few

@@ -1,6 +1,6 @@
 -- The words of a print, those of a check, those of a cover, and a form among the forms.
 use Rattle.std.proofs.Common.{◌≡◌, ℕ, suc, ◌+◌, ◌<◌, ◌≤◌, Bool, true, false, ◌||◌, List, [], ◌∷◌, ◌++◌, length, take, slice_get, get_or, Option, Some, None, refl, ap, sym, subst, ◌∙◌, inl, inr, ◌⊎◌, cond, arith}
-use Rattle.std.specs.Prelude.{IfSome, IsSomeAnd, codes, option_map, is_some, filter}
+use Rattle.std.specs.Prelude.{IfSome, IsSomeAnd, codes, option_map, is_some, filter, Result, Ok, Err, MatchResult}
 use Rattle.std.specs.Str.Parse.{digits_value}
 use Rattle.std.proofs.lemmas.Option.{slice_get_past, slice_get-map, slice_get-get_or}
 use Rattle.std.specs.Borrow.{Bor}
@@ -8,11 +8,11 @@ use Rattle.ll_top.specs.Outcome.{word_texts}
 use Rattle.ll_make.specs.declared.kind.MakeKind.{MakeKind}
 use Rattle.ll_make.specs.declared.kind.MakeKind.TheVariants.{Perm, Choice, Chain}
 use Rattle.ll_top.specs.Begins.{Begins, IsFirstBad, Leads}
-use Rattle.ll_top.specs.Words.{Part, ThisWord, AnyName, is_word, OptionForm, Form, Fits, part, done, FitsForm, FitsSome, NumberFrom, option, here, bound_option, greatest_bound, number_from, run_form, print_form, check_form, cover_form, make_form, forms, IsInForm, IsPrint, CheckWords, IsCheckForm, IsCheck, IsBadWord}
+use Rattle.ll_top.specs.Words.{Part, ThisWord, AnyName, is_word, OptionForm, Form, Fits, part, done, FitsForm, FitsSome, NumberFrom, option, here, bound_option, greatest_bound, number_from, run_form, print_form, check_form, cover_form, make_parts, make_form, made_options, made_run_form, forms, IsInForm, IsInWorkersForm, IsPrint, CheckWords, IsCheckForm, IsCheck, IsBadWord}
 use Rattle.ll_top.specs.RunForm.{HasPart, LacksPart, IsBadFormWord}
 use Rattle.ll_top.specs.MakeForm.{IsMakeForm, IsBadMakeWord}
 use Rattle.ll_top.proofs.FirstBad.{drop-end, leads-start, leads-bad, IsStuck}
-use Rattle.ll_top.proofs.Forms.{same-word, words-same, part-first, leads-part, bad-part, leads-option, bad-option, bad-end}
+use Rattle.ll_top.proofs.Forms.{same-word, words-same, part-first, part-lacks, options-end, leads-part, bad-part, leads-option, bad-option, bad-end}
 use Rattle.ll_top.proofs.RunWords.{can-run, value-of}
 
 -- ---- the words of a print
@@ -220,14 +220,17 @@ other-form : {ps qs : List Part} {os us : List OptionForm} (text other : List �
 other-form text other [] d f g = elim f [ ]
 other-form text other (w ∷ ws) d f g = two-words w text other d (part-first f).0 (part-first g).0
 
-pub run-or-make : (words : List (List ℕ)) (kind : MakeKind) → FitsForm run_form words → FitsForm (make_form kind) words → ⊥
-run-or-make words kind f g = other-form (codes "run") (codes "make") words refl f g
+pub run-or-make : (words : List (List ℕ)) (kind : MakeKind) (os : List OptionForm) → FitsForm run_form words → Fits (make_parts kind) os words → ⊥
+run-or-make words kind os f g = other-form (codes "run") (codes "make") words refl f g
 
-pub print-or-make : (words : List (List ℕ)) (kind : MakeKind) → FitsForm print_form words → FitsForm (make_form kind) words → ⊥
-print-or-make words kind f g = other-form (codes "print") (codes "make") words refl f g
+pub print-or-make : (words : List (List ℕ)) (kind : MakeKind) (os : List OptionForm) → FitsForm print_form words → Fits (make_parts kind) os words → ⊥
+print-or-make words kind os f g = other-form (codes "print") (codes "make") words refl f g
 
-pub cover-or-make : (words : List (List ℕ)) (kind : MakeKind) → FitsForm cover_form words → FitsForm (make_form kind) words → ⊥
-cover-or-make words kind f g = other-form (codes "cover") (codes "make") words refl f g
+pub cover-or-make : (words : List (List ℕ)) (kind : MakeKind) (os : List OptionForm) → FitsForm cover_form words → Fits (make_parts kind) os words → ⊥
+cover-or-make words kind os f g = other-form (codes "cover") (codes "make") words refl f g
+
+no-option : {w : List ℕ} {ws : List (List ℕ)} → Fits [] [] (w ∷ ws) → ⊥
+no-option (option t e f) = elim t [ ]
 
 -- nor with the words of a check or a cover
 run-no-check : (words : List (List ℕ)) (bound : Option ℕ) → FitsForm run_form words → IsCheckForm words bound → ⊥
@@ -244,12 +247,49 @@ print-no-check words (Some bound) f g = print-or-cover words f g.0
 pub print-not-checked : (words : List (List ℕ)) (check : CheckWords) → FitsForm print_form words → IsCheck words check → ⊥
 print-not-checked words check f c = print-no-check words check.bound f c.form
 
-make-no-check : (words : List (List ℕ)) (kind : MakeKind) (bound : Option ℕ) → FitsForm (make_form kind) words → IsCheckForm words bound → ⊥
-make-no-check words kind None f g = other-form (codes "make") (codes "check") words refl f g
-make-no-check words kind (Some bound) f g = cover-or-make words kind g.0 f
+make-no-check : (words : List (List ℕ)) (kind : MakeKind) (os : List OptionForm) (bound : Option ℕ) → Fits (make_parts kind) os words → IsCheckForm words bound → ⊥
+make-no-check words kind os None f g = other-form (codes "make") (codes "check") words refl f g
+make-no-check words kind os (Some bound) f g = cover-or-make words kind os g.0 f
 
-pub make-not-checked : (words : List (List ℕ)) (kind : MakeKind) (check : CheckWords) → FitsForm (make_form kind) words → IsCheck words check → ⊥
-make-not-checked words kind check f c = make-no-check words kind check.bound f c.form
+pub make-not-checked : (words : List (List ℕ)) (kind : MakeKind) (os : List OptionForm) (check : CheckWords) → Fits (make_parts kind) os words → IsCheck words check → ⊥
+make-not-checked words kind os check f c = make-no-check words kind os check.bound f c.form
+
+-- the words of a run, or of a run of a make
+abbrev pub HasWorkers : List (List ℕ) → Type 0
+HasWorkers words = FitsForm run_form words ⊎ ((kind : MakeKind) × FitsForm (made_run_form kind) words)
+
+pub has-workers : (words : List (List ℕ)) → IsInWorkersForm words → HasWorkers words
+has-workers words (inl f) = inl f
+has-workers words (inr (inl f)) = inr (Perm, f)
+has-workers words (inr (inr (inl f))) = inr (Choice, f)
+has-workers words (inr (inr (inr (inl f)))) = inr (Chain, f)
+has-workers words (inr (inr (inr (inr f)))) = absurd f
+
+pub made-workers : (words : List (List ℕ)) (kind : MakeKind) → FitsForm (made_run_form kind) words → IsInWorkersForm words
+made-workers words Perm f = inr (inl f)
+made-workers words Choice f = inr (inr (inl f))
+made-workers words Chain f = inr (inr (inr (inl f)))
+
+-- these are those of no other form
+pub workers-or-print : (words : List (List ℕ)) → HasWorkers words → FitsForm print_form words → ⊥
+workers-or-print words (inl f) g = run-or-print words f g
+workers-or-print words (inr (kind, f)) g = print-or-make words kind made_options g f
+
+pub workers-not-checked : (words : List (List ℕ)) (check : CheckWords) → HasWorkers words → IsCheck words check → ⊥
+workers-not-checked words check (inl f) c = run-not-checked words check f c
+workers-not-checked words check (inr (kind, f)) c = make-not-checked words kind made_options check f c
+
+-- a make has no options, or both of them
+pub make-or-run : (words : List (List ℕ)) (kind other : MakeKind) → FitsForm (make_form kind) words → FitsForm (made_run_form other) words → ⊥
+make-or-run [] kind other f g = absurd (part-lacks f)
+make-or-run (w ∷ []) kind other f g = absurd (part-lacks (part-first f).1)
+make-or-run (w ∷ v ∷ []) kind other f g = absurd (part-lacks (part-first (part-first f).1).1)
+make-or-run (w ∷ v ∷ u ∷ []) kind other f g = let e = options-end (part-first (part-first (part-first g).1).1).1 in cc
+make-or-run (w ∷ v ∷ u ∷ x ∷ ws) kind other f g = no-option (part-first (part-first (part-first f).1).1).1
+
+pub workers-or-make : (words : List (List ℕ)) (kind : MakeKind) → HasWorkers words → FitsForm (make_form kind) words → ⊥
+workers-or-make words kind (inl f) g = run-or-make words kind [] f g
+workers-or-make words kind (inr (other, f)) g = make-or-run words kind other g f
 
 -- a form may begin with this word
 abbrev may_begin : List ℕ → List Part → Bool
@@ -296,17 +336,23 @@ cover-alone w ws h f = one-alone cover_form (w ∷ ws) (begun (codes "cover") w 
 make-alone : (w : List ℕ) (ws : List (List ℕ)) → is_word w (codes "make") ≡ true → IsInForm (w ∷ ws) → IsMakeForm (w ∷ ws)
 make-alone w ws h f = by (begun (codes "make") w ws h f)
   where
-    by : FitsSome (make_form Perm ∷ make_form Choice ∷ make_form Chain ∷ []) (w ∷ ws) → IsMakeForm (w ∷ ws)
-    by (inl g) = (Perm, g)
-    by (inr (inl g)) = (Choice, g)
-    by (inr (inr (inl g))) = (Chain, g)
-    by (inr (inr (inr g))) = absurd g
+    by : FitsSome (make_form Perm ∷ make_form Choice ∷ make_form Chain ∷ made_run_form Perm ∷ made_run_form Choice ∷ made_run_form Chain ∷ []) (w ∷ ws) → IsMakeForm (w ∷ ws)
+    by (inl g) = (Perm, inl g)
+    by (inr (inl g)) = (Choice, inl g)
+    by (inr (inr (inl g))) = (Chain, inl g)
+    by (inr (inr (inr (inl g)))) = (Perm, inr g)
+    by (inr (inr (inr (inr (inl g))))) = (Choice, inr g)
+    by (inr (inr (inr (inr (inr (inl g)))))) = (Chain, inr g)
+    by (inr (inr (inr (inr (inr (inr g)))))) = absurd g
 
 -- a make is in a form
 pub make-in-form : (words : List (List ℕ)) → IsMakeForm words → IsInForm words
-make-in-form words (Perm, f) = inr (inr (inr (inr (inl f))))
-make-in-form words (Choice, f) = inr (inr (inr (inr (inr (inl f)))))
-make-in-form words (Chain, f) = inr (inr (inr (inr (inr (inr (inl f))))))
+make-in-form words (Perm, inl f) = inr (inr (inr (inr (inl f))))
+make-in-form words (Choice, inl f) = inr (inr (inr (inr (inr (inl f)))))
+make-in-form words (Chain, inl f) = inr (inr (inr (inr (inr (inr (inl f))))))
+make-in-form words (Perm, inr f) = inr (inr (inr (inr (inr (inr (inr (inl f)))))))
+make-in-form words (Choice, inr f) = inr (inr (inr (inr (inr (inr (inr (inr (inl f))))))))
+make-in-form words (Chain, inr f) = inr (inr (inr (inr (inr (inr (inr (inr (inr (inl f)))))))))
 
 -- the first bad word of some forms is that of the words, where these forms are those with the first word
 module _ (L : List (List ℕ) → Type 0) (text : List ℕ) (into : (ws : List (List ℕ)) → L ws → IsInForm ws) (alone : (w : List ℕ) (ws : List (List ℕ)) → is_word w text ≡ true → IsInForm (w ∷ ws) → L (w ∷ ws)) where
@@ -343,6 +389,11 @@ bad-cover words number h b = bad-among (FitsForm cover_form) (codes "cover") (λ
 pub bad-make : (words : List (List ℕ)) (number : ℕ) → HasPart words 0 (ThisWord (codes "make")) → IsBadMakeWord words number → IsBadWord words number
 bad-make words number h b = bad-among IsMakeForm (codes "make") make-in-form make-alone words number b.place h b.is b.bad
 
+-- words that begin as a make, and what they ask for
+pub make-answer : {A : Type 0} (words : List (List ℕ)) (Good : A → Type 0) (r : Result A ℕ) → HasPart words 0 (ThisWord (codes "make")) → MatchResult r Good (IsBadMakeWord words) → MatchResult r Good (IsBadWord words)
+make-answer words Good (Ok x) h m = m
+make-answer words Good (Err n) h m = bad-make words n h m
+
 -- no form begins so
 none-in-form : IsInForm [] → ⊥
 none-in-form (inl f) = elim f [ ]
@@ -352,7 +403,10 @@ none-in-form (inr (inr (inr (inl f)))) = elim f [ ]
 none-in-form (inr (inr (inr (inr (inl f))))) = elim f [ ]
 none-in-form (inr (inr (inr (inr (inr (inl f)))))) = elim f [ ]
 none-in-form (inr (inr (inr (inr (inr (inr (inl f))))))) = elim f [ ]
-none-in-form (inr (inr (inr (inr (inr (inr (inr f))))))) = f
+none-in-form (inr (inr (inr (inr (inr (inr (inr (inl f)))))))) = elim f [ ]
+none-in-form (inr (inr (inr (inr (inr (inr (inr (inr (inl f))))))))) = elim f [ ]
+none-in-form (inr (inr (inr (inr (inr (inr (inr (inr (inr (inl f)))))))))) = elim f [ ]
+none-in-form (inr (inr (inr (inr (inr (inr (inr (inr (inr (inr f)))))))))) = f
 
 -- the first word, if there is one, is not this text
 abbrev pub IsOther : List ℕ → List (List ℕ) → Type 0
@@ -374,7 +428,10 @@ bad-first words h k l m n = record {
     other w ys h k l m n (inr (inr (inr (inr (inl f))))) = let e = (part-first f).0 in cc
     other w ys h k l m n (inr (inr (inr (inr (inr (inl f)))))) = let e = (part-first f).0 in cc
     other w ys h k l m n (inr (inr (inr (inr (inr (inr (inl f))))))) = let e = (part-first f).0 in cc
-    other w ys h k l m n (inr (inr (inr (inr (inr (inr (inr f))))))) = f
+    other w ys h k l m n (inr (inr (inr (inr (inr (inr (inr (inl f)))))))) = let e = (part-first f).0 in cc
+    other w ys h k l m n (inr (inr (inr (inr (inr (inr (inr (inr (inl f))))))))) = let e = (part-first f).0 in cc
+    other w ys h k l m n (inr (inr (inr (inr (inr (inr (inr (inr (inr (inl f)))))))))) = let e = (part-first f).0 in cc
+    other w ys h k l m n (inr (inr (inr (inr (inr (inr (inr (inr (inr (inr f)))))))))) = f
 
     stuck : (next : Option (List ℕ)) → IfSome next (λ w. is_word w (codes "run") ≡ false) → IfSome next (λ w. is_word w (codes "print") ≡ false) → IfSome next (λ w. is_word w (codes "check") ≡ false)
         → IfSome next (λ w. is_word w (codes "cover") ≡ false) → IfSome next (λ w. is_word w (codes "make") ≡ false) → IsStuck IsInForm next

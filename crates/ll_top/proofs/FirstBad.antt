@@ -12,7 +12,7 @@ module _ {A : Type 0} where
   take-none [] = refl
   take-none (x ∷ xs) = refl
 
-  drop-none : (xs : List A) → drop 0 xs ≡ xs
+  pub drop-none : (xs : List A) → drop 0 xs ≡ xs
   drop-none [] = refl
   drop-none (x ∷ xs) = refl
 

@@ -1,5 +1,5 @@
 -- Words and texts determine what is written.
-use Rattle.std.proofs.Common.{◌≡◌, ◌<◌, ◌≤◌, ◌+◌, ℕ, List, [], ◌∷◌, length, Option, Some, None, refl, ap, sym, subst, ◌∙◌, arith}
+use Rattle.std.proofs.Common.{◌≡◌, ◌<◌, ◌≤◌, ◌+◌, ℕ, List, [], ◌∷◌, length, Option, Some, None, refl, ap, sym, subst, ◌∙◌, inl, inr, arith}
 use Rattle.std.specs.Prelude.{IsSomeAnd, slice_get, codes, map, false, option_map}
 use Rattle.std.specs.Str.Parse.{digits_value}
 use Rattle.std.specs.List.{list_any, position_from}
@@ -29,15 +29,17 @@ use Rattle.ll_polarity.specs.Faults.{heading, program_faults, query_faults}
 use Rattle.ll_polarity.specs.Asks.{part_of, problem_with, IsFirst, HasProgramFault, HasQueryFault}
 use Rattle.ll_top.specs.declared.judge.Role.{Role}
 use Rattle.ll_top.specs.declared.judge.Role.TheVariants.{Program, Query}
-use Rattle.ll_top.specs.Words.{RunWords, CheckWords, IsInForm, IsRun, IsCheckForm, IsCheck, IsMake, IsBadWord, number_behind}
-use Rattle.ll_top.specs.Making.{MakeWords, make_text}
+use Rattle.ll_top.specs.Words.{RunWords, CheckWords, IsInForm, IsRun, IsCheckForm, IsCheck, IsMake, IsMadeRun, made_options, IsBadWord, number_behind}
+use Rattle.ll_make.specs.Kinds.{query_text}
+use Rattle.ll_top.specs.Making.{MakeWords, MadeRunWords, make_text, kind_word}
+use Rattle.ll_top.specs.MadeRuns.{MadeRunComesTo, made_ran, made_faulty, last_line}
 use Rattle.ll_top.specs.Faults.{Cause, Usage, Absent, Oversized, Faulty, fault_text, cause_status}
 use Rattle.ll_top.specs.Judging.{HasGrammarFault, IsProgramText, IsQueryText, IsReadingFault, lexical, grammatical, IsFaultless, IsProgramFault, of_program_reading, of_program_scope, IsQueryFault, of_query_reading, of_query_scope, IsTextFault, of_program, of_query, TextsAsk, most_open, IsCheckFault, of_run_texts, of_proof, TextsGive}
 use Rattle.ll_top.specs.Verdicts.{yes_text, no_text, covered_text, too_long_text, counts_text}
-use Rattle.ll_top.specs.Outcome.{name_of, IsRead, Reaches, first, later, run_texts, ReadFails, absent, unreadable, oversized, RunFails, not_read, faulty, RunAsks, whole_text, RunComesTo, ran, failed, IsPrintedAs, PrintFails, source_not_read, faulty_source, PrintComesTo, printed, print_failed, name_in_check, check_texts, CheckFails, texts_not_read, faulty_text, CheckGives, bound_in, IsRefuted, IsCovered, CountsAt, CheckComesTo, shown, refuted, covered, too_long, counting, check_failed, ComesTo, misused, runs, prints, checks, makes, longest_text}
+use Rattle.ll_top.specs.Outcome.{name_of, IsRead, Reaches, first, later, run_texts, ReadFails, absent, unreadable, oversized, RunFails, not_read, faulty, RunAsks, whole_text, RunComesTo, ran, failed, IsPrintedAs, PrintFails, source_not_read, faulty_source, PrintComesTo, printed, print_failed, name_in_check, check_texts, CheckFails, texts_not_read, faulty_text, CheckGives, bound_in, IsRefuted, IsCovered, CountsAt, CheckComesTo, shown, refuted, covered, too_long, counting, check_failed, ComesTo, misused, runs, prints, checks, makes, runs_made, longest_text}
 use Rattle.ll_top.proofs.FirstBad.{one-bad}
-use Rattle.ll_top.proofs.OutcomeLemmas.{bad-not-in-form, run-in-form, print-in-form, check-in-form, made-in-form}
-use Rattle.ll_top.proofs.CommandWords.{run-or-print, run-not-checked, print-not-checked, check-or-cover, run-or-make, print-or-make, make-not-checked}
+use Rattle.ll_top.proofs.OutcomeLemmas.{bad-not-in-form, run-in-form, print-in-form, check-in-form, made-in-form, made-run-in-form}
+use Rattle.ll_top.proofs.CommandWords.{run-or-print, run-not-checked, print-not-checked, check-or-cover, run-or-make, print-or-make, make-not-checked, make-or-run}
 use Rattle.ll_top.proofs.MakeLemmas.{same-kind}
 use Rattle.ll_top.proofs.GrammarLemmas.{IsOfGrammar}
 use Rattle.ll_top.proofs.DistinctNames.{differ-names, differ-problem}
@@ -75,9 +77,17 @@ one-check words c d h k =
 
 pub one-make : (words : List (List ℕ)) (m n : MakeWords) → IsMake words m → IsMake words n → m ≡ n
 one-make words m n h k =
-    let e = same-kind words m.kind n.kind h.form k.form in
+    let e = same-kind words m.kind n.kind (inl h.form) (inl k.form) in
     let v = some-same m.number n.number (option_map (digits_value 10) (slice_get words 2)) h.number k.number in
     λ i. record { kind = e i; number = v i }
+
+pub one-made-run : (words : List (List ℕ)) (m n : MadeRunWords) → IsMadeRun words m → IsMadeRun words n → m ≡ n
+one-made-run words m n h k =
+    let e = same-kind words m.make.kind n.make.kind (inr h.form) (inr k.form) in
+    let v = some-same m.make.number n.make.number (option_map (digits_value 10) (slice_get words 2)) h.number k.number in
+    let b = some-same m.bound n.bound (number_behind (codes "--bound") words) h.bound k.bound in
+    let w = some-same m.workers n.workers (number_behind (codes "--workers") words) h.workers k.workers in
+    λ i. record { make = record { kind = e i; number = v i }; bound = b i; workers = w i }
 
 -- ---- texts
 
@@ -433,6 +443,16 @@ module _ (same : (a b : LexedText) → a.text ≡ b.text → IsLexed a → IsLex
       check-once s t u v (check_failed c b g h) (counting p d n w a x e f) = absurd (gives-not-fails p d c a b)
       check-once s t u v (check_failed c a e f) (check_failed d b g h) = let o = check-fails-once c d a b in (e ∙ (ap cause_status o ∙ sym g), f ∙ (ap fault_text o ∙ sym h))
 
+    -- ---- runs of programs that are made
+
+    made-once : (run : MadeRunWords) (s t : ℕ) (u v : List ℕ) → MadeRunComesTo run s u → MadeRunComesTo run t v → (s ≡ t) × (u ≡ v)
+    made-once run s t u v (made_ran p a e f) (made_ran q b g h) =
+        let o = one-asked (make_text run.make) (query_text run.make.kind) run.bound p q a b in (e ∙ (ap run_status o ∙ sym g), f ∙ (ap last_line o ∙ sym h))
+    made-once run s t u v (made_ran p a e f) (made_faulty role x b g h) = absurd (asks-no-fault (make_text run.make) (query_text run.make.kind) run.bound p role x a b)
+    made-once run s t u v (made_faulty role x b g h) (made_ran p a e f) = absurd (asks-no-fault (make_text run.make) (query_text run.make.kind) run.bound p role x a b)
+    made-once run s t u v (made_faulty r x a e f) (made_faulty q y b g h) =
+        let o = one-fault (make_text run.make) (query_text run.make.kind) r q x y a b in (e ∙ sym g, f ∙ (ap (λ z. fault_text (Faulty (kind_word run.make.kind) z)) o.1 ∙ sym h))
+
     -- ---- calls
 
     pub one-text : (words : List (List ℕ)) (s t : ℕ) (u v : List ℕ) → ComesTo words (Some texts) (Unit {0}) ⊥ s u → ComesTo words (Some texts) (Unit {0}) ⊥ t v → (s ≡ t) × (u ≡ v)
@@ -454,11 +474,22 @@ module _ (same : (a b : LexedText) → a.text ≡ b.text → IsLexed a → IsLex
     one-text words s t u v (checks q h c) (checks r k d) = check-once r s t u v (subst (λ x. CheckComesTo (Some texts) (Unit {0}) ⊥ x s u) (one-check words q r h k) c) d
     one-text words s t u v (misused n b e f) (makes r h c) = absurd (bad-not-in-form words n b (made-in-form words r h))
     one-text words s t u v (makes r h c) (misused n b e f) = absurd (bad-not-in-form words n b (made-in-form words r h))
-    one-text words s t u v (runs r h c) (makes q k d) = absurd (run-or-make words q.kind h.form k.form)
-    one-text words s t u v (makes q k d) (runs r h c) = absurd (run-or-make words q.kind h.form k.form)
-    one-text words s t u v (prints r h c) (makes q k d) = absurd (print-or-make words q.kind h.form k.form)
-    one-text words s t u v (makes q k d) (prints r h c) = absurd (print-or-make words q.kind h.form k.form)
-    one-text words s t u v (checks r h c) (makes q k d) = absurd (make-not-checked words q.kind r k.form h)
-    one-text words s t u v (makes q k d) (checks r h c) = absurd (make-not-checked words q.kind r k.form h)
+    one-text words s t u v (runs r h c) (makes q k d) = absurd (run-or-make words q.kind [] h.form k.form)
+    one-text words s t u v (makes q k d) (runs r h c) = absurd (run-or-make words q.kind [] h.form k.form)
+    one-text words s t u v (prints r h c) (makes q k d) = absurd (print-or-make words q.kind [] h.form k.form)
+    one-text words s t u v (makes q k d) (prints r h c) = absurd (print-or-make words q.kind [] h.form k.form)
+    one-text words s t u v (checks r h c) (makes q k d) = absurd (make-not-checked words q.kind [] r k.form h)
+    one-text words s t u v (makes q k d) (checks r h c) = absurd (make-not-checked words q.kind [] r k.form h)
     one-text words s t u v (makes q h c) (makes r k d) =
         let o = one-make words q r h k in (c.succeeds ∙ sym d.succeeds, c.is ∙ (ap make_text o ∙ sym d.is))
+    one-text words s t u v (misused n b e f) (runs_made r h c) = absurd (bad-not-in-form words n b (made-run-in-form words r h))
+    one-text words s t u v (runs_made r h c) (misused n b e f) = absurd (bad-not-in-form words n b (made-run-in-form words r h))
+    one-text words s t u v (runs r h c) (runs_made q k d) = absurd (run-or-make words q.make.kind made_options h.form k.form)
+    one-text words s t u v (runs_made q k d) (runs r h c) = absurd (run-or-make words q.make.kind made_options h.form k.form)
+    one-text words s t u v (prints r h c) (runs_made q k d) = absurd (print-or-make words q.make.kind made_options h.form k.form)
+    one-text words s t u v (runs_made q k d) (prints r h c) = absurd (print-or-make words q.make.kind made_options h.form k.form)
+    one-text words s t u v (checks r h c) (runs_made q k d) = absurd (make-not-checked words q.make.kind made_options r k.form h)
+    one-text words s t u v (runs_made q k d) (checks r h c) = absurd (make-not-checked words q.make.kind made_options r k.form h)
+    one-text words s t u v (makes r h c) (runs_made q k d) = absurd (make-or-run words r.kind q.make.kind h.form k.form)
+    one-text words s t u v (runs_made q k d) (makes r h c) = absurd (make-or-run words r.kind q.make.kind h.form k.form)
+    one-text words s t u v (runs_made q h c) (runs_made r k d) = made-once r s t u v (subst (λ x. MadeRunComesTo x s u) (one-made-run words q r h k) c) d

@@ -10,6 +10,7 @@ pub mod RunLemmas
 pub mod PartsLemmas
 pub mod GrammarLemmas
 pub mod OutcomeLemmas
+pub mod MadeRunLemmas
 pub mod LawLemmas
 pub mod PrepareLemmas
 pub mod MoreNames

@@ -14,14 +14,15 @@ use Rattle.ll_top.specs.declared.run.Found.{Found}
 use Rattle.ll_top.specs.declared.finding.Finding.{Finding}
 use Rattle.ll_top.specs.declared.refusal.Refusal.{Refusal}
 use Rattle.ll_top.specs.declared.refusal.Refusal.TheVariants.{Text, Unwritable, OutOfMemory}
-use Rattle.ll_top.specs.Words.{RunWords, CheckWords, FitsForm, run_form, cover_form, IsCheckForm, IsInForm, IsInWorkersForm, IsRun, IsPrint, IsCheck, IsMake, IsBadWord}
-use Rattle.ll_top.specs.Making.{MakeWords, make_text, MakeComesTo}
+use Rattle.ll_top.specs.Words.{RunWords, CheckWords, FitsForm, cover_form, IsCheckForm, made_options, IsInForm, IsInWorkersForm, IsRun, IsPrint, IsCheck, IsMake, IsMadeRun, IsBadWord}
+use Rattle.ll_top.specs.Making.{MakeWords, make_text, MakeComesTo, MadeRunWords}
+use Rattle.ll_top.specs.MadeRuns.{MadeRunComesTo, made_ran, made_faulty}
 use Rattle.ll_top.specs.Faults.{Cause, Usage, Absent, Unreadable, Oversized, Faulty, fault_text, cause_status}
-use Rattle.ll_top.specs.Outcome.{name_of, ReadFails, absent as is_absent, unreadable as is_unreadable, oversized as is_oversized, run_texts, RunFails, not_read, faulty, RunAsks, whole_text, RunComesTo, ran, failed, IsPrintedAs, PrintFails, source_not_read, faulty_source, PrintComesTo, printed, print_failed, name_in_check, check_texts, CheckFails, texts_not_read, faulty_text, CheckComesTo, shown, refuted, covered, too_long, counting, check_failed, IsDenied, IsCoveredCall, IsUncoveredCall, ComesTo, misused, runs, prints, checks, makes, AppendsOwn, nothing, front, Ends, whole, unwritable, no_memory, Completes}
+use Rattle.ll_top.specs.Outcome.{name_of, ReadFails, absent as is_absent, unreadable as is_unreadable, oversized as is_oversized, run_texts, RunFails, not_read, faulty, RunAsks, whole_text, RunComesTo, ran, failed, IsPrintedAs, PrintFails, source_not_read, faulty_source, PrintComesTo, printed, print_failed, name_in_check, check_texts, CheckFails, texts_not_read, faulty_text, CheckComesTo, shown, refuted, covered, too_long, counting, check_failed, IsDenied, IsCoveredCall, IsUncoveredCall, ComesTo, misused, runs, prints, checks, makes, runs_made, AppendsOwn, nothing, front, Ends, whole, unwritable, no_memory, Completes}
 use Rattle.ll_top.specs.Endings.{Refuses, line, cut, Prepares, RunEnds, status_of_found, PrintEnds, status_of_finding, finding_text, CheckEnds}
 use Rattle.ll_top.specs.Running.{IsRunRefusal}
 use Rattle.ll_top.proofs.FirstBad.{good-or-bad}
-use Rattle.ll_top.proofs.CommandWords.{run-or-cover, print-or-cover, check-or-cover, cover-or-make, make-in-form}
+use Rattle.ll_top.proofs.CommandWords.{run-or-cover, print-or-cover, check-or-cover, cover-or-make, make-in-form, HasWorkers, has-workers}
 
 -- ---- a run
 
@@ -62,7 +63,7 @@ refuses-later cause w w' before after status f (line s a) = line s a
 refuses-later cause w w' before after status f (cut s h a) = cut s (f h) a
 
 -- the line of its cause was written
-refused-ends : (Comes : ℕ → List ℕ → Type 0) (write_failed : Type 0) (before middle after : Option (List ℕ)) (cause : Cause) (status : ℕ) → Comes (cause_status cause) (fault_text cause) → middle ≡ before → Refuses cause write_failed middle after status → Ends Comes write_failed before after status
+pub refused-ends : (Comes : ℕ → List ℕ → Type 0) (write_failed : Type 0) (before middle after : Option (List ℕ)) (cause : Cause) (status : ℕ) → Comes (cause_status cause) (fault_text cause) → middle ≡ before → Refuses cause write_failed middle after status → Ends Comes write_failed before after status
 refused-ends Comes w before middle after cause status f m (line s a) = whole (fault_text cause) (subst (λ n. Comes n (fault_text cause)) (sym s) f) (a ∙ ap (λ o. append_known o (fault_text cause)) m)
 refused-ends Comes w before middle after cause status f m (cut s h a) = unwritable (cause_status cause) (fault_text cause) f h s (subst (λ o. AppendsFront o (fault_text cause) after) m a)
 
@@ -141,6 +142,11 @@ check-call words told absence read_failed w check before after status c h = ends
 pub make-call : (words : List (List ℕ)) (told : Option Texts) (absence read_failed write_failed : Type 0) (make : MakeWords) (before after : Option (List ℕ)) (status : ℕ) → IsMake words make → Ends (MakeComesTo make) write_failed before after status
     → Ends (ComesTo words told absence read_failed) write_failed before after status
 make-call words told absence read_failed w make before after status c h = ends-as (MakeComesTo make) (ComesTo words told absence read_failed) (λ s t d. makes make c d) w before after status h
+
+-- and with a run of a make
+pub made-run-call : (words : List (List ℕ)) (told : Option Texts) (absence read_failed write_failed : Type 0) (run : MadeRunWords) (before after : Option (List ℕ)) (status : ℕ) → IsMadeRun words run → Ends (MadeRunComesTo run) write_failed before after status
+    → Ends (ComesTo words told absence read_failed) write_failed before after status
+made-run-call words told absence read_failed w run before after status c h = ends-as (MadeRunComesTo run) (ComesTo words told absence read_failed) (λ s t d. runs_made run c d) w before after status h
 
 -- words in no form
 pub usage-call : (words : List (List ℕ)) (told : Option Texts) (absence read_failed write_failed : Type 0) (number : ℕ) (before after : Option (List ℕ)) (status : ℕ) → IsBadWord words number → Refuses (Usage number) write_failed before after status
@@ -225,6 +231,14 @@ pub make-says : (absence read_failed write_failed : Type 0) (make : MakeWords) (
 make-says absence read_failed write_failed make before after status h =
     ends-say None absence read_failed write_failed (MakeComesTo make) (λ s t c. let e = c.succeeds in other-says None absence read_failed write_failed s (λ e. omega arith) (λ e. omega arith) (λ e. omega arith) (λ e. omega arith)) before after status h
 
+made-comes-says : (absence read_failed write_failed : Type 0) (run : MadeRunWords) (status : ℕ) (text : List ℕ) → MadeRunComesTo run status text → Says absence read_failed write_failed status
+made-comes-says absence read_failed write_failed run status text (made_ran p a s t) =
+    let small = run-small p in other-says None absence read_failed write_failed status (λ e. omega arith) (λ e. omega arith) (λ e. omega arith) (λ e. omega arith)
+made-comes-says absence read_failed write_failed run status text (made_faulty role f h s t) = other-says None absence read_failed write_failed status (λ e. omega arith) (λ e. omega arith) (λ e. omega arith) (λ e. omega arith)
+
+pub made-run-says : (absence read_failed write_failed : Type 0) (run : MadeRunWords) (before after : Option (List ℕ)) (status : ℕ) → Ends (MadeRunComesTo run) write_failed before after status → Says absence read_failed write_failed status
+made-run-says absence read_failed write_failed run before after status h = ends-say None absence read_failed write_failed (MadeRunComesTo run) (made-comes-says absence read_failed write_failed run) before after status h
+
 -- ---- status 9
 
 cause-not-nine : (cause : Cause) → cause_status cause ≡ 9 → ⊥
@@ -248,6 +262,8 @@ module _ (words : List (List ℕ)) (told : Option Texts) (absence read_failed : 
   comes-denied status text e (checks check c (counting p d n b g h s t)) = absurd (omega arith)
   comes-denied status text e (checks check c (refuted p d n r g h s t)) = record { check = check; is_check = c; problem = p; derivation = d; gives = g; not_shown = h.not_shown }
   comes-denied status text e (checks check c (check_failed cause f s t)) = absurd (cause-not-nine cause (sym s ∙ e))
+  comes-denied status text e (runs_made run r (made_ran p a s t)) = let small = run-small p in absurd (omega arith)
+  comes-denied status text e (runs_made run r (made_faulty role f h s t)) = absurd (omega arith)
   comes-denied status text e (makes make c d) = absurd (let z = d.succeeds in omega arith)
 
   pub call-denied : (write_failed : Type 0) (before after : Option (List ℕ)) (status : ℕ) → Ends (ComesTo words told absence read_failed) write_failed before after status → status ≡ 9 → IsDenied words told
@@ -287,7 +303,8 @@ module _ (words : List (List ℕ)) (told : Option Texts) (absence read_failed : 
   comes-covered f status text e (checks check c (too_long p d b g h s t)) = absurd (omega arith)
   comes-covered f status text e (checks check c (counting p d n b g h s t)) = absurd (omega arith)
   comes-covered f status text e (checks check c (check_failed cause h s t)) = absurd (cause-not-zero cause (sym s ∙ e))
-  comes-covered f status text e (makes make c d) = absurd (cover-or-make words make.kind f c.form)
+  comes-covered f status text e (makes make c d) = absurd (cover-or-make words make.kind [] f c.form)
+  comes-covered f status text e (runs_made run r d) = absurd (cover-or-make words run.make.kind made_options f r.form)
 
   comes-uncovered : (status : ℕ) (text : List ℕ) → status ≡ 11 → ComesTo words told absence read_failed status text → IsUncoveredCall words told
   comes-uncovered status text e (misused number b s t) = absurd (omega arith)
@@ -301,6 +318,8 @@ module _ (words : List (List ℕ)) (told : Option Texts) (absence read_failed : 
   comes-uncovered status text e (checks check c (too_long p d b g h s t)) = record { check = check; is_check = c; problem = p; derivation = d; gives = g; why = inl h }
   comes-uncovered status text e (checks check c (counting p d n b g h s t)) = record { check = check; is_check = c; problem = p; derivation = d; gives = g; why = inr (n, h) }
   comes-uncovered status text e (checks check c (check_failed cause f s t)) = absurd (cause-not-eleven cause (sym s ∙ e))
+  comes-uncovered status text e (runs_made run r (made_ran p a s t)) = let small = run-small p in absurd (omega arith)
+  comes-uncovered status text e (runs_made run r (made_faulty role f h s t)) = absurd (omega arith)
   comes-uncovered status text e (makes make c d) = absurd (let z = d.succeeds in omega arith)
 
   pub call-covered : (write_failed : Type 0) (before after : Option (List ℕ)) (status : ℕ) → Ends (ComesTo words told absence read_failed) write_failed before after status → FitsForm cover_form words → status ≡ 0
@@ -330,15 +349,21 @@ check-in-form words check c = by check.bound c.form
     by (Some bound) f = inr (inr (inr (inl f.0)))
 
 pub made-in-form : (words : List (List ℕ)) (make : MakeWords) → IsMake words make → IsInForm words
-made-in-form words make m = make-in-form words (make.kind, m.form)
+made-in-form words make m = make-in-form words (make.kind, inl m.form)
 
--- words with workers are those of a run
-pub workers-run : (words : List (List ℕ)) → IsInWorkersForm words → FitsForm run_form words
-workers-run words (inl f) = f
-workers-run words (inr f) = absurd f
+pub made-run-in-form : (words : List (List ℕ)) (run : MadeRunWords) → IsMadeRun words run → IsInForm words
+made-run-in-form words run m = make-in-form words (run.make.kind, inr m.form)
+
+-- words with workers are those of a run, or of a run of a make
+pub workers-run : (words : List (List ℕ)) → IsInWorkersForm words → HasWorkers words
+workers-run words f = has-workers words f
 
 pub workers-in-form : (words : List (List ℕ)) → IsInWorkersForm words → IsInForm words
-workers-in-form words h = inl (workers-run words h)
+workers-in-form words h = by (workers-run words h)
+  where
+    by : HasWorkers words → IsInForm words
+    by (inl f) = inl f
+    by (inr (kind, f)) = make-in-form words (kind, inr f)
 
 pub bad-not-in-form : (words : List (List ℕ)) (number : ℕ) → IsBadWord words number → IsInForm words → ⊥
 bad-not-in-form words number b f = good-or-bad IsInForm words b.place f b.bad
@@ -381,6 +406,7 @@ module _ (texts : Texts) (absence read_failed : Type 0) (no_fault : read_failed 
   told-comes words status text (prints name p c) = prints name p (told-print name status text c)
   told-comes words status text (checks check h c) = checks check h (told-check check status text c)
   told-comes words status text (makes make h c) = makes make h c
+  told-comes words status text (runs_made run h c) = runs_made run h c
 
 module _
     (one : (words : List (List ℕ)) (texts : Texts) (status other : ℕ) (text more : List ℕ) → ComesTo words (Some texts) (Unit {0}) ⊥ status text → ComesTo words (Some texts) (Unit {0}) ⊥ other more → (status ≡ other) × (text ≡ more))

@@ -105,7 +105,7 @@ value-least least greatest w v e = by (is_number_word w) refl e
     by true h k = inner (nat_le least (digits_value 10 w)) (nat_le (digits_value 10 w) greatest) refl refl k
     by false h k = cc
 
-number-word : (least greatest : ℕ) (w : List ℕ) (v : ℕ) → number_from least greatest w ≡ Some v → is_number_word w ≡ true
+pub number-word : (least greatest : ℕ) (w : List ℕ) (v : ℕ) → number_from least greatest w ≡ Some v → is_number_word w ≡ true
 number-word least greatest w v e = by (is_number_word w) refl e
   where
     by : (b : Bool) → is_number_word w ≡ b → (if b then value_within least greatest (digits_value 10 w) else None) ≡ Some v → is_number_word w ≡ true
@@ -113,14 +113,14 @@ number-word least greatest w v e = by (is_number_word w) refl e
     by false h k = cc
 
 -- a word with a test that this text fails is not this text
-other-word : (test : List ℕ → Bool) (text w : List ℕ) → test text ≡ false → test w ≡ true → is_word w text ≡ false
+pub other-word : (test : List ℕ → Bool) (text w : List ℕ) → test text ≡ false → test w ≡ true → is_word w text ≡ false
 other-word test text w fails holds = by (is_word w text) refl
   where
     by : (b : Bool) → is_word w text ≡ b → is_word w text ≡ false
     by true h = let e = ap test (words-same w text h) in cc
     by false h = h
 
-found-behind : (text : List ℕ) (words : List (List ℕ)) (at : ℕ) (v : List ℕ) → All (λ w. is_word w text ≡ false) (take at words) → slice_get words at ≡ Some text → slice_get words (at + 1) ≡ Some v
+pub found-behind : (text : List ℕ) (words : List (List ℕ)) (at : ℕ) (v : List ℕ) → All (λ w. is_word w text ≡ false) (take at words) → slice_get words at ≡ Some text → slice_get words (at + 1) ≡ Some v
     → number_behind text words ≡ Some (digits_value 10 v)
 found-behind text [] at v h e f = cc
 found-behind text (w ∷ []) zero v h e f = cc
@@ -140,7 +140,7 @@ taken-one words at w e =
     take_more words at [] (slice_get_within words at w e) ∙ ap (λ x. take at words ++ x ∷ []) (get_or_from_slice_get words at w [] e)
 
 -- one word more that is not this text
-none-more : (text : List ℕ) (words : List (List ℕ)) (at : ℕ) (w : List ℕ) → slice_get words at ≡ Some w → is_word w text ≡ false → All (λ u. is_word u text ≡ false) (take at words) → All (λ u. is_word u text ≡ false) (take (at + 1) words)
+pub none-more : (text : List ℕ) (words : List (List ℕ)) (at : ℕ) (w : List ℕ) → slice_get words at ≡ Some w → is_word w text ≡ false → All (λ u. is_word u text ≡ false) (take at words) → All (λ u. is_word u text ≡ false) (take (at + 1) words)
 none-more text words at w e n h =
     subst (All (λ u. is_word u text ≡ false)) (sym (taken-one words at w e)) (All-append (λ u. is_word u text ≡ false) (take at words) (w ∷ []) h (All-cons (λ u. is_word u text ≡ false) w [] n (λ k d l. absurd (omega arith))))
 

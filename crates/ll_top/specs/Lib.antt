@@ -6,8 +6,10 @@ pub mod MakeForm
 pub mod Faults
 pub mod Verdicts
 pub mod Judging
+pub mod MadeRuns
 pub mod Outcome
 pub mod Endings
+pub mod MadeEnds
 pub mod Running
 pub mod Proved
 pub mod Nothing

@@ -15,6 +15,12 @@ pub record MakeWords : Type 0 where
   pub kind : MakeKind
   pub number : ℕ
 
+-- what the words `make KIND N --bound B --workers W` ask for
+pub record MadeRunWords : Type 0 where
+  pub make : MakeWords
+  pub bound : ℕ
+  pub workers : ℕ
+
 -- the text of the program that is asked for
 abbrev pub make_text : MakeWords → List ℕ
 make_text make = program_text make.kind make.number

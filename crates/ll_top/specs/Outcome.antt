@@ -19,8 +19,9 @@ use Rattle.ll_parser.specs.Raw.{ProgramTree}
 use Rattle.ll_parser.specs.Printed.{program_text}
 use Rattle.ll_top.specs.declared.judge.Role.{Role}
 use Rattle.ll_top.specs.declared.judge.Role.TheVariants.{Program, Query, Proof}
-use Rattle.ll_top.specs.Making.{MakeWords, MakeComesTo}
-use Rattle.ll_top.specs.Words.{RunWords, CheckWords, IsBadWord, IsRun, IsPrint, IsCheck, IsMake}
+use Rattle.ll_top.specs.Making.{MakeWords, MakeComesTo, MadeRunWords}
+use Rattle.ll_top.specs.MadeRuns.{MadeRunComesTo}
+use Rattle.ll_top.specs.Words.{RunWords, CheckWords, IsBadWord, IsRun, IsPrint, IsCheck, IsMake, IsMadeRun}
 use Rattle.ll_top.specs.Faults.{Cause, Usage, Absent, Unreadable, Oversized, Faulty, fault_text, cause_status}
 use Rattle.ll_top.specs.Verdicts.{yes_text, no_text, covered_text, too_long_text, counts_text}
 use Rattle.ll_top.specs.Judging.{IsProgramText, IsReadingFault, IsTextFault, TextsAsk, IsCheckFault, TextsGive}
@@ -212,6 +213,7 @@ pub data ComesTo (words : List (List ℕ)) (told : Option Texts) (absence read_f
   runs : (run : RunWords) → IsRun words run → RunComesTo told absence read_failed run status text → ComesTo words told absence read_failed status text
   prints : (name : List ℕ) → IsPrint words name → PrintComesTo told absence read_failed name status text → ComesTo words told absence read_failed status text
   checks : (check : CheckWords) → IsCheck words check → CheckComesTo told absence read_failed check status text → ComesTo words told absence read_failed status text
+  runs_made : (run : MadeRunWords) → IsMadeRun words run → MadeRunComesTo run status text → ComesTo words told absence read_failed status text
   makes : (make : MakeWords) → IsMake words make → MakeComesTo make status text → ComesTo words told absence read_failed status text
 
 -- what was appended where memory ran out: nothing, or a prefix of what would have been written

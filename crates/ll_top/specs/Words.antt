@@ -3,8 +3,9 @@ use Rattle.std.specs.Prelude.{◌≡◌, ◌⊎◌, ℕ, ◌+◌, ◌<◌, ◌�
 use Rattle.ll_top.specs.declared.words.RunCommand.{RunCommand}
 use Rattle.ll_top.specs.declared.words.CheckCommand.{CheckCommand}
 use Rattle.ll_top.specs.declared.making.MakeCommand.{MakeCommand}
+use Rattle.ll_top.specs.declared.making.MadeRunCommand.{MadeRunCommand}
 use Rattle.ll_top.specs.declared.words.Command.{Command}
-use Rattle.ll_top.specs.declared.words.Command.TheVariants.{Run, Print, Check, Make}
+use Rattle.ll_top.specs.declared.words.Command.TheVariants.{Run, Print, Check, Make, MadeRun}
 use Rattle.std.specs.Str.{bytes_eq}
 use Rattle.std.specs.Char.{is_ascii_digit}
 use Rattle.std.specs.Str.Parse.{digits_value}
@@ -13,7 +14,7 @@ use Rattle.ll_make.specs.declared.kind.MakeKind.{MakeKind}
 use Rattle.ll_make.specs.declared.kind.MakeKind.TheVariants.{Perm, Choice, Chain}
 use Rattle.ll_make.specs.Kinds.{least_number, greatest_number, Fits as FitsKind}
 use Rattle.ll_top.specs.Begins.{IsFirstBad}
-use Rattle.ll_top.specs.Making.{kind_word, MakeWords}
+use Rattle.ll_top.specs.Making.{kind_word, MakeWords, MadeRunWords}
 
 -- the word is this text
 abbrev pub is_word : List ℕ → List ℕ → Bool
@@ -118,12 +119,21 @@ abbrev pub cover_form : Form
 cover_form = record { parts = ThisWord (codes "cover") ∷ AnyName ∷ AnyName ∷ AnyName ∷ []; options = bound_option ∷ [] }
 
 -- `make KIND N`, of this kind
+abbrev pub make_parts : MakeKind → List Part
+make_parts kind = ThisWord (codes "make") ∷ ThisWord (kind_word kind) ∷ NumberFrom (least_number kind) (greatest_number kind) ∷ []
+
 abbrev pub make_form : MakeKind → Form
-make_form kind =
-    record { parts = ThisWord (codes "make") ∷ ThisWord (kind_word kind) ∷ NumberFrom (least_number kind) (greatest_number kind) ∷ []; options = [] }
+make_form kind = record { parts = make_parts kind; options = [] }
+
+-- `make KIND N --bound B --workers W`, of this kind
+abbrev pub made_options : List OptionForm
+made_options = bound_option ∷ workers_option ∷ []
+
+abbrev pub made_run_form : MakeKind → Form
+made_run_form kind = record { parts = make_parts kind; options = made_options }
 
 abbrev pub forms : List Form
-forms = run_form ∷ print_form ∷ check_form ∷ cover_form ∷ make_form Perm ∷ make_form Choice ∷ make_form Chain ∷ []
+forms = run_form ∷ print_form ∷ check_form ∷ cover_form ∷ make_form Perm ∷ make_form Choice ∷ make_form Chain ∷ made_run_form Perm ∷ made_run_form Choice ∷ made_run_form Chain ∷ []
 
 -- words are in a form
 abbrev pub IsInForm : List (List ℕ) → Type 0
@@ -201,6 +211,13 @@ pub record IsMake (words : List (List ℕ)) (make : MakeWords) : Type 0 where
   pub form : FitsForm (make_form make.kind) words
   pub number : option_map (digits_value 10) (slice_get words 2) ≡ Some make.number
 
+-- words are in the form of a run of a make of this kind, and ask for this
+pub record IsMadeRun (words : List (List ℕ)) (run : MadeRunWords) : Type 0 where
+  pub form : FitsForm (made_run_form run.make.kind) words
+  pub number : option_map (digits_value 10) (slice_get words 2) ≡ Some run.make.number
+  pub bound : number_behind (codes "--bound") words ≡ Some run.bound
+  pub workers : number_behind (codes "--workers") words ≡ Some run.workers
+
 -- what the program's record of a run shows
 abbrev pub shown_words : RunCommand → RunWords
 shown_words c = record { program = c.program.now; query = c.query.now; bound = c.bound; workers = c.workers; proofs = c.proofs }
@@ -213,12 +230,17 @@ shown_check c = record { program = c.program.now; query = c.query.now; proof = c
 abbrev pub shown_make : MakeCommand → MakeWords
 shown_make c = record { kind = c.kind; number = c.number }
 
+-- what the program's record of a run of a make shows
+abbrev pub shown_made_run : MadeRunCommand → MadeRunWords
+shown_made_run c = record { make = shown_make c.make; bound = c.bound; workers = c.workers }
+
 -- words ask for this command
 abbrev pub IsCommand : List (List ℕ) → Command → Type 0
 IsCommand words (Run run) = IsRun words (shown_words run)
 IsCommand words (Print name) = IsPrint words name.now
 IsCommand words (Check check) = IsCheck words (shown_check check)
 IsCommand words (Make make) = IsMake words (shown_make make)
+IsCommand words (MadeRun run) = IsMadeRun words (shown_made_run run)
 
 -- a number of workers
 abbrev pub IsWorkerCount : ℕ → Type 0
@@ -230,3 +252,4 @@ IsBounded (Run run) = (run.bound ≤ greatest_bound) × IsWorkerCount run.worker
 IsBounded (Print name) = Unit {0}
 IsBounded (Check check) = IfSome check.bound (λ bound. bound ≤ greatest_bound)
 IsBounded (Make make) = FitsKind make.kind make.number
+IsBounded (MadeRun run) = FitsKind run.make.kind run.make.number × (run.bound ≤ greatest_bound) × IsWorkerCount run.workers

@@ -5,12 +5,14 @@ mod checking;
 mod fault;
 mod finding;
 mod judge;
+mod made_runs;
 mod making;
 mod outlet;
 mod prepare;
 mod printing;
 mod refusal;
 mod run;
+mod silent;
 mod team;
 mod words;
 
@@ -32,6 +34,7 @@ use ll_laws::{answers_are_shown, search_is_complete};
 use ll_lexer::one_reading;
 use ll_parser::{one_program, one_query};
 use ll_prooftext::one_derivation;
+use made_runs::serve_made_run;
 use making::serve_make;
 use prepare::prepare;
 use printing::print_program;
@@ -103,6 +106,15 @@ pub fn lolli<R: Threads + Wait + Sync, F: Shelf, O: Sink, G: Gate>(
                 };
                 serve_run(&team, &run, shelf, sink)
             }
+            Ok(Command::MadeRun(made)) => {
+                let team = Team {
+                    rt,
+                    alloc,
+                    workers: made.workers,
+                    gate,
+                };
+                serve_made_run(&team, made, sink)
+            }
             Ok(Command::Print(_)) => unreachable!(),
             Ok(Command::Check(_)) => unreachable!(),
             Ok(Command::Make(_)) => unreachable!(),
@@ -145,6 +157,7 @@ pub fn lolli_plain<F: Shelf, O: Sink>(
     one_text();
     match read_command(words) {
         Ok(Command::Run(_)) => None,
+        Ok(Command::MadeRun(_)) => None,
         Ok(Command::Print(name)) => Some(serve_print(alloc, name, shelf, sink)),
         Ok(Command::Check(check)) => Some(serve_check(alloc, &check, shelf, sink)),
         Ok(Command::Make(make)) => Some(serve_make(alloc, make, sink)),

@@ -108,8 +108,8 @@ fn give_events<'p, 's, R: Threads + Wait + Sync, O: Sink, G: Gate>(
     }
 }
 
-// What was found, by the numbers of answers and of branches that reached the bound.
-fn what_was_found(counts: &Counts) -> Found
+/// What was found, by the numbers of answers and of branches that reached the bound.
+pub fn what_was_found(counts: &Counts) -> Found
     ensures { status_of_found result ≡ status_of_counts counts.now.answers counts.now.reached }
 {
     if counts.answers > 0 {

@@ -6,7 +6,7 @@ ghost use Rattle.ll_top.specs.Words.{is_word, is_name_word, is_number_word, numb
 ghost use Rattle.ll_top.specs.RunForm.{HasPart, LacksPart, options_left, IsOptionLeft, IsBadFormWord, IsBadRunWord, IsReadTo};
 ghost use Rattle.ll_top.specs.Outcome.{word_texts};
 
-use crate::making::{MakeCommand, read_make};
+use crate::making::{MadeRunCommand, MakeCommand, read_make};
 
 /// What the words `run PROGRAM QUERY --bound N --workers W [--proofs]` ask for.
 #[derive(Clone, Copy)]
@@ -41,6 +41,8 @@ pub enum Command<'a> {
     Check(CheckCommand<'a>),
     /// A program that is made.
     Make(MakeCommand),
+    /// A run of a program that is made.
+    MadeRun(MadeRunCommand),
 }
 
 // An option of a run.
@@ -66,9 +68,9 @@ struct OptionsRead {
     next: usize,
 }
 
-const GREATEST_BOUND: u32 = 1_000_000;
+pub const GREATEST_BOUND: u32 = 1_000_000;
 
-const GREATEST_WORKERS: u32 = 64;
+pub const GREATEST_WORKERS: u32 = 64;
 
 /// What the words ask for. `Err` is the number, counted from 1, of the first word through which no form's words begin, or one
 /// past the last where the words end early.
@@ -84,7 +86,7 @@ pub fn read_command<'a>(words: &[&'a str]) -> Result<Command<'a>, usize>
         "print" => Ok(Command::Print(read_print(words)?)),
         "check" => Ok(Command::Check(read_check(words)?)),
         "cover" => Ok(Command::Check(read_cover(words)?)),
-        "make" => Ok(Command::Make(read_make(words)?)),
+        "make" => read_make(words),
         _ => Err(1),
     }
 }
@@ -243,8 +245,8 @@ fn name_at<'a>(words: &[&'a str], at: usize) -> Result<&'a str, usize>
     }
 }
 
-// Whether this word stands there: nothing, or the word's number.
-fn this_at(words: &[&str], at: usize, text: &str) -> Result<(), usize>
+/// Whether this word stands there: nothing, or the word's number, counted from 1.
+pub fn this_at(words: &[&str], at: usize, text: &str) -> Result<(), usize>
     requires { at ≤ length words.now }
     ensures { MatchResult result (λ _. HasPart (word_texts words.now) at (ThisWord text.now))
         (λ number. (number ≡ at + 1) × LacksPart (word_texts words.now) at (ThisWord text.now)) }

@@ -1,7 +1,8 @@
+use Rattle.std.proofs.Common.{refl}
 use Rattle.ll_top.specs.Outcome.{word_texts}
 use Rattle.ll_top.specs.Words.{shown_check, shown_make}
 use Rattle.ll_top.proofs.OutcomeLemmas.{workers-run, usage-call, print-call, check-call, make-call, call-denied, call-covered, call-uncovered, completes, print-says, check-says, make-says, workers-in-form, bad-not-in-form}
-use Rattle.ll_top.proofs.CommandWords.{run-not-checked, run-or-make}
+use Rattle.ll_top.proofs.CommandWords.{workers-or-print, workers-not-checked, workers-or-make, made-workers}
 use Rattle.ll_top.proofs.lolli_plain.Goals as goal
 
 pub returns-in-Err-clause-workers : goal.returns-in-Err-clause-workers
@@ -50,7 +51,7 @@ returns-in-Ok-Print-clause-denied g c = λ e.
 pub returns-in-Ok-Check-clause-workers : goal.returns-in-Ok-Check-clause-workers
 returns-in-Ok-Check-clause-workers g c =
     let words = word_texts c.args.words.now in let asked = rw c.in-Ok-Check.field-0-is at c.in-Ok-Check.ensures.command in
-    (λ e. cc, λ f. absurd (run-not-checked words (shown_check c.in-Ok-Check.check) (workers-run words f) asked))
+    (λ e. cc, λ f. absurd (workers-not-checked words (shown_check c.in-Ok-Check.check) (workers-run words f) asked))
 
 pub returns-in-Ok-Check-clause-outcome : goal.returns-in-Ok-Check-clause-outcome
 returns-in-Ok-Check-clause-outcome g c =
@@ -109,7 +110,7 @@ returns-in-Ok-Check-clause-uncovered g c = λ e.
 pub returns-in-Ok-Make-clause-workers : goal.returns-in-Ok-Make-clause-workers
 returns-in-Ok-Make-clause-workers g c =
     let words = word_texts c.args.words.now in let asked = rw c.in-Ok-Make.field-0-is at c.in-Ok-Make.ensures.command in
-    (λ e. cc, λ f. absurd (run-or-make words _ (workers-run words f) asked.form))
+    (λ e. cc, λ f. absurd (workers-or-make words _ (workers-run words f) asked.form))
 
 pub returns-in-Ok-Make-clause-outcome : goal.returns-in-Ok-Make-clause-outcome
 returns-in-Ok-Make-clause-outcome g c =
@@ -148,3 +149,13 @@ pub returns-in-Ok-Make-clause-uncovered : goal.returns-in-Ok-Make-clause-uncover
 returns-in-Ok-Make-clause-uncovered g c = λ e.
     let words = word_texts c.args.words.now in
     call-uncovered words _ ⊥ ⊥ _ _ _ _ (make-call words _ _ _ _ (shown_make c.in-Ok-Make.make) _ _ _ (rw c.in-Ok-Make.field-0-is at c.in-Ok-Make.ensures.command) c.serve_make.ensures.ends) cc
+
+pub returns-in-Ok-MadeRun-clause-workers : goal.returns-in-Ok-MadeRun-clause-workers
+returns-in-Ok-MadeRun-clause-workers g c =
+    let words = word_texts c.args.words.now in let asked = rw c.in-Ok-MadeRun.field-0-is at c.in-Ok-MadeRun.ensures.command in
+    (λ e. made-workers words _ asked.form, λ f. refl)
+
+pub returns-in-Ok-Print-clause-workers : goal.returns-in-Ok-Print-clause-workers
+returns-in-Ok-Print-clause-workers g c =
+    let words = word_texts c.args.words.now in let asked = rw c.in-Ok-Print.field-0-is at c.in-Ok-Print.ensures.command in
+    (λ e. cc, λ f. absurd (workers-or-print words (workers-run words f) asked.form))

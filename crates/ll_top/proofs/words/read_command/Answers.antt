@@ -2,7 +2,7 @@ use Rattle.std.specs.Prelude.{codes}
 use Rattle.ll_top.specs.Outcome.{word_texts}
 use Rattle.ll_top.specs.Words.{IsCommand, IsBadWord}
 use Rattle.ll_top.proofs.RunWords.{bad-answer}
-use Rattle.ll_top.proofs.CommandWords.{bad-run, bad-print, bad-check, bad-cover, bad-make, bad-first, first-lacks, first-other, first-same}
+use Rattle.ll_top.proofs.CommandWords.{bad-run, bad-print, bad-check, bad-cover, make-answer, bad-first, first-lacks, first-other, first-same}
 use Rattle.ll_top.proofs.words.read_command.Goals as goal
 
 pub returns-in_default-clause-command : goal.returns-in_default-clause-command
@@ -35,11 +35,10 @@ returns-in_err-read_cover-in-cover-clause-command c =
     bad-answer (IsCommand words) (IsBadWord words) _ _ c.from_residual-in_err-read_cover-in-cover.ensures.1
     (bad-cover words _ (first-same (codes "cover") c.args.words.now c.in-Some.form c.in-Some.ensures.value c.in-cover.is) c.in_err-read_cover-in-cover.ensures.cover)
 
-pub returns-in_err-read_make-in-make-clause-command : goal.returns-in_err-read_make-in-make-clause-command
-returns-in_err-read_make-in-make-clause-command c =
+pub returns-in-make-clause-command : goal.returns-in-make-clause-command
+returns-in-make-clause-command c =
     let words = word_texts c.args.words.now in
-    bad-answer (IsCommand words) (IsBadWord words) _ _ c.from_residual-in_err-read_make-in-make.ensures.1
-    (bad-make words _ (first-same (codes "make") c.args.words.now c.in-Some.form c.in-Some.ensures.value c.in-make.is) c.in_err-read_make-in-make.ensures.make)
+    make-answer words (IsCommand words) c.read_make.result (first-same (codes "make") c.args.words.now c.in-Some.form c.in-Some.ensures.value c.in-make.is) c.read_make.ensures.command
 
 pub returns-in_default-form-clause-command : goal.returns-in_default-form-clause-command
 returns-in_default-form-clause-command c =

@@ -1,0 +1,25 @@
+use Rattle.std.proofs.Common.{◌∙◌}
+use Rattle.ll_top.specs.MadeRuns.{last_line}
+use Rattle.ll_top.proofs.GivenLemmas.{no_front}
+use Rattle.ll_top.proofs.RunLemmas.{on_err, run-status}
+use Rattle.ll_top.proofs.MadeRunLemmas.{line-written, line-cut}
+use Rattle.ll_top.proofs.made_runs.write_counts.Goals as goal
+
+pub returns-in_err-counts-clause-prefix : goal.returns-in_err-counts-clause-prefix
+returns-in_err-counts-clause-prefix g c = on_err _ (no_front _ (last_line c.args.problem.now))
+
+pub returns-in_err-summary-clause-prefix : goal.returns-in_err-summary-clause-prefix
+returns-in_err-summary-clause-prefix g c = on_err _ (no_front _ (last_line c.args.problem.now))
+
+pub returns-in_err-write_all-clause-prefix : goal.returns-in_err-write_all-clause-prefix
+returns-in_err-write_all-clause-prefix g c =
+    let f = rw (c.deref.ensures.value, c.in_ok-summary.ensures.text, c.new-line.ensures.items) at c.in_err-write_all.ensures.prefix in
+    on_err _ (line-cut _ c.in_ok-counts.counts _ _ c.in_ok-counts.ensures.counts f)
+
+pub returns-clause-found : goal.returns-clause-found
+returns-clause-found g c = c.what_was_found.ensures ∙ run-status _ _ c.in_ok-counts.ensures.counts
+
+pub returns-clause-line : goal.returns-clause-line
+returns-clause-line g c =
+    let w = rw (c.deref.ensures.value, c.in_ok-summary.ensures.text, c.new-line.ensures.items) at c.in_ok-write_all.ensures.appends in
+    line-written _ c.in_ok-counts.counts _ _ c.in_ok-counts.ensures.counts w

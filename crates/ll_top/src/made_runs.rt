@@ -1,0 +1,116 @@
+//! A run of a program that is made from a kind and a number: the counts of its search.
+ghost use Rattle.std.specs.Prelude.{◌≡◌, ◌≤◌, IfOk, IfErr, OnOk, OnErr};
+ghost use Rattle.std.specs.Io.KnownBytes.{append_known};
+ghost use Rattle.ll_edge.specs.Counts.{Rose};
+ghost use Rattle.ll_edge.specs.Pieces.{AppendsFront};
+ghost use Rattle.ll_laws.specs.Output.{run_status};
+ghost use Rattle.ll_laws.specs.Problem.{problem_events, problem_cost};
+ghost use Rattle.ll_laws.specs.Valid.{IsValid};
+ghost use Rattle.ll_make.specs.Kinds.{Fits};
+ghost use Rattle.ll_order.specs.Outlets.{CountsOf};
+ghost use Rattle.ll_top.specs.declared.refusal.Refusal.TheVariants.{OutOfMemory};
+ghost use Rattle.ll_top.specs.Words.{shown_made_run};
+ghost use Rattle.ll_top.specs.MadeRuns.{last_line, MadeRunComesTo};
+ghost use Rattle.ll_top.specs.MadeEnds.{MadeRunEnds};
+ghost use Rattle.ll_top.specs.Outcome.{Ends};
+ghost use Rattle.ll_top.specs.Endings.{status_of_found};
+ghost use Rattle.ll_top.specs.Running.{IsRunRefusal};
+
+use crate::fault::refuse;
+use crate::found_status;
+use crate::making::{MadeRunCommand, kind_word};
+use crate::prepare::problem_of;
+use crate::refusal::Refusal;
+use crate::run::{Found, what_was_found};
+use crate::silent::Silent;
+use crate::team::Team;
+use ll_crew::{CrewFault, crew};
+use ll_edge::{Gate, Sink, write_all};
+use ll_laws::{Counts, Problem};
+use ll_make::{program, query};
+use ll_printer::summary;
+use std::sync::Wait;
+use std::thread::Threads;
+
+/// Runs the program that is made with the query of its kind, writes the last line alone, and answers the status: 0, 1 or 2 as that of a run,
+/// 6 where the sink failed, with a prefix of the line written, or 10 where memory ran out. A fault of the program or the query would be
+/// written with status 7, under the word of the kind.
+pub fn serve_made_run<R: Threads + Wait + Sync, O: Sink, G: Gate>(
+    team: &Team<'_, R, G>,
+    run: MadeRunCommand,
+    sink: &mut O,
+) -> u8
+    requires fits { Fits run.make.kind run.make.number }
+    requires bound { run.bound ≤ 1000000 }
+    ensures faults_kept { O.faults sink.old ≤ O.faults sink.new }
+    ensures ends { Ends (MadeRunComesTo (shown_made_run run)) (Rose (O.faults sink.old) (O.faults sink.new))
+        (O.written sink.old) (O.written sink.new) result }
+{
+    match run_made(team, run, sink) {
+        Ok(found) => found_status(found),
+        Err(Refusal::Text(_, refusal)) => { refuse(refusal.cause(kind_word(run.make.kind)), sink) }
+        Err(Refusal::Unwritable) => 6,
+        Err(Refusal::OutOfMemory) => 10,
+    }
+}
+
+// Runs the program that is made.
+fn run_made<R: Threads + Wait + Sync, O: Sink, G: Gate>(
+    team: &Team<'_, R, G>,
+    run: MadeRunCommand,
+    sink: &mut O,
+) -> Result<Found, Refusal>
+    requires fits { Fits run.make.kind run.make.number }
+    requires bound { run.bound ≤ 1000000 }
+    ensures faults_kept { O.faults sink.old ≤ O.faults sink.new }
+    ensures ends { MadeRunEnds (Rose (O.faults sink.old) (O.faults sink.new)) (shown_made_run run) (O.written sink.old) (O.written sink.new) result }
+{
+    let text = program(team.alloc, run.make.kind, run.make.number)?;
+    let asked = query(run.make.kind).as_bytes();
+    let problem = problem_of(team.alloc, &text, asked, run.bound)?;
+    write_counts(team, &problem, sink)
+}
+
+// Writes the last line of a run of the problem, and answers what was found. After a refusal a prefix of the line was written.
+fn write_counts<R: Threads + Wait + Sync, O: Sink, G: Gate>(
+    team: &Team<'_, R, G>,
+    problem: &Problem,
+    sink: &mut O,
+) -> Result<Found, Refusal>
+    requires valid { IsValid problem.now }
+    ensures faults_kept { O.faults sink.old ≤ O.faults sink.new }
+    ensures found { IfOk result (λ found. status_of_found found ≡ run_status problem.now) }
+    ensures line { OnOk result (O.written sink.new ≡ append_known (O.written sink.old) (last_line problem.now)) }
+    ensures refused { IfErr result (IsRunRefusal (O.faults sink.old) (O.faults sink.new)) }
+    ensures prefix { OnErr result (AppendsFront (O.written sink.old) (last_line problem.now) (O.written sink.new)) }
+{
+    let counts = count_events(team, problem)?;
+    let mut line = Vec::new(team.alloc);
+    summary(&counts, &mut line)?;
+    write_all(sink, &line)?;
+    Ok(what_was_found(&counts))
+}
+
+// Counts the events of the problem and its inferences.
+fn count_events<R: Threads + Wait + Sync, G: Gate>(
+    team: &Team<'_, R, G>,
+    problem: &Problem,
+) -> Result<Counts, Refusal>
+    requires valid { IsValid problem.now }
+    ensures counts { IfOk result (λ counts. CountsOf counts (problem_events problem.now) (problem_cost problem.now)) }
+    ensures refused { IfErr result (λ refusal. refusal ≡ OutOfMemory) }
+{
+    let mut out = Silent {};
+    match crew(
+        team.rt,
+        team.alloc,
+        problem,
+        team.workers,
+        team.gate,
+        &mut out,
+    ) {
+        Ok(counts) => Ok(counts),
+        Err(CrewFault::Write) => unreachable!(),
+        Err(CrewFault::OutOfMemory) => Err(Refusal::OutOfMemory),
+    }
+}

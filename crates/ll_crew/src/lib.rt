@@ -1,6 +1,13 @@
 //! Workers over one shared pool: a problem is searched by 1 to 64 of them, and its events are given in the order of one engine.
 #![tactic(auto)]
 
+mod bell;
+mod beside;
+mod crowd;
+mod lead;
+mod piece;
 mod whole;
+mod worker;
 
 pub use whole::{CrewFault, crew};
+pub use worker::work;

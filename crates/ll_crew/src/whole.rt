@@ -1,19 +1,70 @@
 //! The crew of a problem.
-ghost use Rattle.std.specs.Prelude.{◌≡◌, ◌<◌, ◌≤◌, ◌↔◌, Err, IfOk, OnOk, OnErr};
+ghost use Rattle.std.specs.Prelude.{◌≡◌, ◌<◌, ◌≤◌, ◌↔◌, ◌+◌, [], None, Err, IfOk, OnOk, OnErr, map};
 ghost use Rattle.ll_laws.specs.declared.Event.{Event};
 ghost use Rattle.ll_laws.specs.Problem.{problem_events, problem_cost};
+ghost use Rattle.ll_laws.specs.Search.{cut_count};
 ghost use Rattle.ll_laws.specs.Sound.{Every};
 ghost use Rattle.ll_laws.specs.Valid.{IsValid};
-ghost use Rattle.ll_order.specs.Outlets.{Rose, Gives, CountsOf};
-ghost use Rattle.ll_crew.specs.Crews.{GivesPrefix};
+ghost use Rattle.ll_order.specs.Outlets.{Rose, Gives, Refuses, CountsOf};
+ghost use Rattle.ll_order.specs.declared.outlet.OutFault.{OutFault};
+ghost use Rattle.ll_crew.specs.declared.whole.CrewFault.{CrewFault};
+ghost use Rattle.ll_crew.specs.Seats.{IsSeat};
+ghost use Rattle.ll_crew.specs.Crews.{worker_of, without_all, IsBack, GivesPrefix};
+ghost use Rattle.ll_crew.specs.Leading.{Kept, Leads};
+ghost use Rattle.ll_crew.specs.Turns.{CanWork};
 
+use crate::bell::Bell;
+use crate::crowd::work_together;
+use crate::lead::Told;
+use ll_bank::OutOfMemory;
+use ll_core::Pool;
 use ll_edge::Gate;
+use ll_freeze::Frozen;
 use ll_laws::{Counts, Problem};
-use ll_order::Outlet;
+use ll_order::{OutFault, Outlet, drain};
+use ll_pool::{Seat, SharedPool};
 use std::alloc::Global;
-use std::sync::Wait;
+use std::snapshot::Snapshot;
+use std::sync::{Arc, Wait};
 use std::thread::Threads;
 use thiserror::Error;
+
+// Seats for the workers after the first.
+fn seats<'p>(
+    alloc: Global,
+    problem: &'p Problem,
+    pool: &SharedPool<Frozen<'p>>,
+    first: &mut Seat<Frozen<'p>>,
+) -> Result<Vec<Seat<Frozen<'p>>>, OutOfMemory>
+    requires own { IsSeat pool.now problem.now first.old × (first.old.mine.piece ≡ None) × (first.old.given ≡ []) × (first.old.mine.worker ≡ 0) }
+    requires range { (first.old.mine.from ≡ 1) × (first.old.mine.end ≡ pool.now.workers) }
+    ensures first { IsSeat pool.now problem.now first.new × (first.new.mine.piece ≡ None) × (first.new.mine.worker ≡ 0) × (first.new.mine.seen ≡ first.old.mine.seen) }
+    ensures ok { IfOk result (λ v. Every (CanWork pool.now problem.entry.now) v.items × (without_all (map worker_of v.items) first.new.given ≡ [])) }
+{
+    let _problem = problem;
+    let mut all = Vec::new(alloc);
+    for worker in 1..pool.workers() {
+        all.push(pool.seat(first, worker))?;
+    }
+    Ok(all)
+}
+
+// Takes all seats back.
+fn gather<'p>(
+    problem: &'p Problem,
+    pool: &SharedPool<Frozen<'p>>,
+    first: &mut Seat<Frozen<'p>>,
+    others: Vec<Seat<Frozen<'p>>>,
+)
+    requires own { first.old.table ≡ pool.now.table }
+    requires others { Every (IsBack pool.now) others.items × (without_all (map worker_of others.items) first.old.given ≡ []) }
+    ensures { (first.new.table ≡ first.old.table) × (first.new.problem ≡ first.old.problem) × (first.new.mine ≡ first.old.mine) × (first.new.given ≡ []) }
+{
+    let _problem = problem;
+    for other in others {
+        pool.join(first, other);
+    }
+}
 
 /// Why a crew gave up.
 #[derive(Clone, Copy, Debug, PartialEq, Eq, Error)]
@@ -24,6 +75,94 @@ pub enum CrewFault {
     /// Memory was wanting.
     #[error("out of memory")]
     OutOfMemory,
+}
+
+fn fault_of(fault: OutFault) -> CrewFault
+    ensures { result ≡ CrewFault.Write → fault ≡ OutFault.Write }
+{
+    match fault {
+        OutFault::Write => CrewFault::Write,
+        OutFault::OutOfMemory => CrewFault::OutOfMemory,
+    }
+}
+
+// The counts of both, each cut at the greatest `u64`.
+fn sum_of(one: Counts, other: Counts) -> Counts
+    ensures answers { result.answers ≡ cut_count (one.answers + other.answers) }
+    ensures reached { result.reached ≡ cut_count (one.reached + other.reached) }
+    ensures inferences { result.inferences ≡ cut_count (one.inferences + other.inferences) }
+{
+    Counts {
+        answers: one.answers.saturating_add(other.answers),
+        reached: one.reached.saturating_add(other.reached),
+        inferences: one.inferences.saturating_add(other.inferences),
+    }
+}
+
+// Gives the outlet what worker 0 has not given, once nothing is untried or open.
+fn give_rest<'p, O: Outlet>(
+    problem: &'p Problem,
+    mut pool: Pool<Frozen<'p>>,
+    start: &Snapshot<O>,
+    counts: Counts,
+    out: &mut O,
+) -> Result<Counts, CrewFault>
+    requires done { (pool.untried ≡ 0) × (pool.busy ≡ 0) }
+    requires leads { Leads O.takes O.breaks O.welcome O.faults start.now.value problem.now pool out.old counts }
+    ensures given { OnOk result (Gives O.takes start.now.value (problem_events problem.entry.now) out.new) }
+    ensures counts { IfOk result (λ counts. CountsOf counts (problem_events problem.entry.now) (problem_cost problem.entry.now)) }
+    ensures refused { OnErr result (Refuses O.takes O.breaks start.now.value (problem_events problem.entry.now) out.new) }
+    ensures write { result ≡ Err CrewFault.Write → Rose (O.faults start.now.value) (O.faults out.new) }
+    ensures kept { Kept O.takes O.breaks O.welcome O.faults start.now.value out.new }
+{
+    let _problem = problem;
+    match drain(&mut pool, out) {
+        Ok(rest) => Ok(sum_of(counts, rest)),
+        Err(fault) => Err(fault_of(fault)),
+    }
+}
+
+// Searches with these seats, and gives the outlet what was found.
+fn search<'p, R: Threads + Wait + Sync, G: Gate, O: Outlet>(
+    rt: &R,
+    alloc: Global,
+    problem: &'p Problem,
+    pool: SharedPool<Frozen<'p>>,
+    gate: &G,
+    mut first: Seat<Frozen<'p>>,
+    others: Vec<Seat<Frozen<'p>>>,
+    out: &mut O,
+) -> Result<Counts, CrewFault>
+    requires first { CanWork pool problem.now first × (first.mine.worker ≡ 0) × (without_all (map worker_of others.items) first.given ≡ []) }
+    requires others { Every (CanWork pool problem.now) others.items }
+    requires leads { Leads O.takes O.breaks O.welcome O.faults out.old problem.now first.mine.seen out.old (record { answers = 0; reached = 0; inferences = 0 }) }
+    ensures given { OnOk result (Gives O.takes out.old (problem_events problem.entry.now) out.new) }
+    ensures counts { IfOk result (λ counts. CountsOf counts (problem_events problem.entry.now) (problem_cost problem.entry.now)) }
+    ensures refused { OnErr result (GivesPrefix O.takes O.breaks out.old (problem_events problem.entry.now) out.new) }
+    ensures write { result ≡ Err CrewFault.Write → Rose (O.faults out.old) (O.faults out.new) }
+    ensures kept { Kept O.takes O.breaks O.welcome O.faults out.old out.new }
+{
+    let start = Snapshot::of(&*out);
+    let mut told = Told::new(true);
+    let bell = if others.is_empty() {
+        Bell::silent()
+    } else {
+        Bell::new()
+    };
+    let (others, done) = work_together(
+        rt, alloc, problem, &pool, &bell, gate, &start, &mut first, &mut told, out, others,
+    );
+    gather(problem, &pool, &mut first, others);
+    let closed = pool.close(first);
+    if let Ok(finished) = done {
+        if finished {
+            return give_rest(problem, closed, &start, told.counts, out);
+        }
+    }
+    match told.fault {
+        Some(fault) => Err(fault_of(fault)),
+        None => Err(CrewFault::OutOfMemory),
+    }
 }
 
 /// Searches a valid problem with 1 to 64 workers, of which the caller is the first, and gives the outlet the events of the search in
@@ -49,5 +188,17 @@ pub fn crew<'p, R: Threads + Wait + Sync, G: Gate, O: Outlet>(
     ensures faults_kept { O.faults out.old ≤ O.faults out.new }
     ensures welcome_kept { (e : Event) → O.welcome out.old e ↔ O.welcome out.new e }
 {
-    Err(CrewFault::OutOfMemory)
+    let Ok(root) = Frozen::start(alloc, problem) else {
+        return Err(CrewFault::OutOfMemory);
+    };
+    let Ok(root) = Arc::new(alloc, root) else {
+        return Err(CrewFault::OutOfMemory);
+    };
+    let Ok((pool, mut first)) = SharedPool::new(alloc, root, workers) else {
+        return Err(CrewFault::OutOfMemory);
+    };
+    let Ok(others) = seats(alloc, problem, &pool, &mut first) else {
+        return Err(CrewFault::OutOfMemory);
+    };
+    search(rt, alloc, problem, pool, gate, first, others, out)
 }

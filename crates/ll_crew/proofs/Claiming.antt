@@ -1,0 +1,90 @@
+-- How a claim goes, and a piece.
+use Rattle.std.proofs.Common.{◌≡◌, ◌⊎◌, ℕ, List, Bool, true, false, refl, sym, ap, ◌∙◌, subst, inl, inr, Option, Some, None, Result, Ok, Err, IfOk}
+use Rattle.std.specs.Prelude.{IfSome, IfNone}
+use Rattle.std.specs.Arc.{arc_value}
+use Rattle.std.specs.declared.sync.Arc.{Arc}
+use Rattle.std.specs.declared.alloc.Global.{Global}
+use Rattle.ll_laws.specs.declared.Event.{Event}
+use Rattle.ll_laws.specs.Pool.{PoolData}
+use Rattle.ll_laws.specs.CoreEvents.{Starve, Does}
+use Rattle.ll_core.specs.Calls.{ClaimsAs}
+use Rattle.ll_core.specs.declared.answers.Claimed.{Claimed}
+use Rattle.ll_core.specs.declared.answers.Claimed.TheVariants.{Work, Idle, Finished, Starved, Stopped}
+use Rattle.ll_pool.specs.Turns.{OneTurn}
+use Rattle.ll_laws.specs.Problem.{ProblemTree}
+use Rattle.ll_freeze.specs.Frozen.{FrozenSight, alternatives_in}
+use Rattle.ll_crew.specs.Seats.{Sat, asked, of_batch, IsSound, IsSeat, Same, HasLeft}
+use Rattle.ll_crew.specs.Leading.{Stands}
+use Rattle.ll_crew.specs.Leading as leading
+use Rattle.ll_crew.specs.Turns.{Stays, Leaves, Ended, Fails}
+use Rattle.ll_engine.specs.Seen.{Owing}
+use Rattle.ll_crew.specs.Runs.{RunsTo}
+use Rattle.ll_crew.specs.declared.lead.Told.{Told}
+use Rattle.ll_crew.specs.declared.piece.Ran.{Ran}
+use Rattle.ll_crew.specs.declared.piece.Ran.TheVariants.{Back}
+use Rattle.ll_crew.proofs.Calms.{same_on, turn_same, turn_seen, seen_sound, calm_claim}
+use Rattle.ll_crew.proofs.Goings.{stands_calm, prefix_stands}
+
+pub some_of : {X : Type 0} (P : X → Type 0) (o : Option X) (x : X) → o ≡ Some x → IfSome o P → P x
+some_of P o x e h = subst (λ p. IfSome p P) e h
+
+module _ {O : Type 0} (takes breaks : O → Event → O → Type 0) (welcome : O → Event → Type 0) (faults : O → ℕ) (start : O) (problem : ProblemTree) where
+  abbrev Standing : Sat → O → Told → Type 0
+  Standing = Stands takes breaks welcome faults start problem
+
+  abbrev Stopping : O → Told → Type 0
+  Stopping = leading.Stopped takes breaks welcome faults start problem
+
+  module _ (answer : Claimed FrozenSight) (s a : Sat) (out : O) (told : Told) (t : OneTurn of_batch alternatives_in (λ found left. ClaimsAs alternatives_in found s.mine.worker answer left) s a) (is : s.problem ≡ Some (asked problem)) (st : Standing s out told) where
+    pub claim_stands : Standing a out told
+    claim_stands = stands_calm takes breaks welcome faults start problem s a out told is (calm_claim answer s a t) st
+
+    pub claim_stays : Stays (Standing a out told) s a
+    claim_stays = let c = calm_claim answer s a t in record { same = c.same; quit = c.quit; stands = claim_stands }
+
+    leaves_with : HasLeft a → Leaves (Stopping out told) told.leads s a
+    leaves_with left = let c = calm_claim answer s a t in record { same = c.same; left = left; quit = λ f. c.quit; stopped = prefix_stands takes breaks welcome faults start problem a out told claim_stands }
+
+  pub claim_starved : (s a : Sat) (out : O) (told : Told) → OneTurn of_batch alternatives_in (λ found left. ClaimsAs alternatives_in found s.mine.worker Starved left) s a → s.problem ≡ Some (asked problem) → Standing s out told → Leaves (Stopping out told) told.leads s a
+  claim_starved s a out told t is st = let d = t.changed in leaves_with Starved s a out told t is st (inl (ap (λ (p : PoolData FrozenSight Event). p.starved) (turn_seen _ s a t ∙ d.2) ∙ d.1))
+
+  pub claim_stopped : (s a : Sat) (out : O) (told : Told) → OneTurn of_batch alternatives_in (λ found left. ClaimsAs alternatives_in found s.mine.worker Stopped left) s a → s.problem ≡ Some (asked problem) → Standing s out told → Leaves (Stopping out told) told.leads s a
+  claim_stopped s a out told t is st = let d = t.changed in leaves_with Stopped s a out told t is st (inr (ap (λ (p : PoolData FrozenSight Event). p.stopped) (turn_seen _ s a t ∙ d.1) ∙ d.0))
+
+  -- nothing is untried or open
+  pub claim_ended : (s a : Sat) (out : O) (told : Told) → OneTurn of_batch alternatives_in (λ found left. ClaimsAs alternatives_in found s.mine.worker Finished left) s a → s.problem ≡ Some (asked problem) → Standing s out told → a.mine.piece ≡ None
+      → Ended (Standing a out told) problem s a
+  claim_ended s a out told t is st none =
+      let d = t.changed in
+      record {
+        stays = claim_stays Finished s a out told t is st;
+        piece = none;
+        sound = seen_sound _ s a t problem is;
+        untried = ap (λ (p : PoolData FrozenSight Event). p.untried) (turn_seen _ s a t ∙ d.3) ∙ d.1;
+        busy = ap (λ (p : PoolData FrozenSight Event). p.busy) (turn_seen _ s a t ∙ d.3) ∙ d.2;
+      }
+
+pub stays_out : (x e : Type 0) (leads leads' : Bool) (s a b : Sat) → leads ≡ leads' → Stays x s a → Leaves e leads a b → Leaves e leads' s b
+stays_out x e leads leads' s a b is f g = record { same = same_on s a b f.same g.same; left = g.left; quit = λ h. g.quit (is ∙ h) ∙ f.quit; stopped = g.stopped }
+
+pub stays_on : (x y : Type 0) (s a b : Sat) → Stays x s a → Stays y a b → Stays y s b
+stays_on x y s a b f g = record { same = same_on s a b f.same g.same; quit = g.quit ∙ f.quit; stands = g.stands }
+
+-- want of memory: the pool is starved
+pub starve_fails : {O : Type 0} (takes breaks : O → Event → O → Type 0) (welcome : O → Event → Type 0) (faults : O → ℕ) (start : O) (problem : ProblemTree) (s a b : Sat) (out : O) (told : Told) → Stays (Stands takes breaks welcome faults start problem a out told) s a
+    → OneTurn of_batch alternatives_in (λ found left. Does alternatives_in found (Starve a.mine.worker) left) a b → Fails (leading.Stopped takes breaks welcome faults start problem out told) s b
+starve_fails takes breaks welcome faults start problem s a b out told f t = record {
+  same = same_on s a b f.same (turn_same _ a b t);
+  starved = ap (λ (p : PoolData FrozenSight Event). p.starved) (turn_seen _ a b t ∙ t.changed);
+  stopped = prefix_stands takes breaks welcome faults start problem a out told f.stands;
+}
+
+-- ---- a batch that came back
+
+pub back_stays : (standing end : Type 0) (leads : Bool) (problem : ProblemTree) (ran : Ran) (batch : Arc FrozenSight Global) (s a : Sat) (events : List Event) (engine : Owing) → ran ≡ Back batch → RunsTo standing end leads problem ran s a events engine → Stays standing s a
+back_stays standing end leads problem ran batch s a events engine is r = let back = subst (λ x. RunsTo standing end leads problem x s a events engine) is r in back.0
+
+pub none_on : {E : Type 0} (result : Result (Option ℕ) E) (P Q : Type 0) → IfOk result (λ o. IfNone o P) → (P → Q) → IfOk result (λ o. IfNone o Q)
+none_on (Ok None) P Q h f = f h
+none_on (Ok (Some n)) P Q h f = tt
+none_on (Err e) P Q h f = tt

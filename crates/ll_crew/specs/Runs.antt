@@ -1,0 +1,52 @@
+-- How the run of an engine ends, and the turns of a worker.
+use Rattle.std.specs.Prelude.{◌≡◌, ℕ, ◌+◌, List, [], ◌++◌, Bool, take, None, IsSomeAnd}
+use Rattle.std.specs.Arc.{arc_value}
+use Rattle.ll_laws.specs.declared.Event.{Event}
+use Rattle.ll_laws.specs.Pool.{Owed}
+use Rattle.ll_laws.specs.Search.{cut_count}
+use Rattle.ll_laws.specs.Sound.{report_of}
+use Rattle.ll_pool.specs.declared.data.OpenPiece.{OpenPiece}
+use Rattle.ll_laws.specs.Problem.{ProblemTree}
+use Rattle.ll_freeze.specs.Frozen.{alternatives_in}
+use Rattle.ll_engine.specs.Seen.{Owing}
+use Rattle.ll_crew.specs.Seats.{Sat}
+use Rattle.ll_crew.specs.Pieces.{OwesAll, events_in, cost_in}
+use Rattle.ll_crew.specs.Turns.{Stays, Goes, Leaves, Ended}
+use Rattle.ll_crew.specs.declared.piece.Ran.{Ran}
+use Rattle.ll_crew.specs.declared.piece.Ran.TheVariants.{Done, Back, Left}
+use Rattle.ll_crew.specs.declared.worker.Went.{Went}
+use Rattle.ll_crew.specs.declared.worker.Went.TheVariants as went
+
+-- the engine has nothing left, or the piece owes a batch that came back, too, or the worker leaves
+abbrev pub RunsTo : Type 0 → Type 0 → Bool → ProblemTree → Ran → Sat → Sat → List Event → Owing → Type 0
+RunsTo standing end leads problem Done before after events engine = Stays standing before after × OwesAll after.mine.piece events engine [] × (engine.events ≡ []) × (engine.cost ≡ 0)
+RunsTo standing end leads problem (Back batch) before after events engine = Stays standing before after × OwesAll after.mine.piece events engine (alternatives_in (arc_value batch)) × ((arc_value batch).problem ≡ problem)
+RunsTo standing end leads problem Left before after events engine = Leaves end leads before after
+
+-- the engine gave all that it owed, and nothing was published
+pub record RunsAlone (standing : Type 0) (before after : Sat) (found : List Event) (old : Owing) (events : List Event) (new : Owing) : Type 0 where
+  pub goes : Goes standing before after
+  pub whole : events ≡ found ++ old.events
+  pub made : cut_count new.made ≡ cut_count (old.made + old.cost)
+
+-- so many inferences were added, and these events, and nothing was published
+pub record RunsAll (standing : Type 0) (before after : Sat) (found owed : List Event) (cost : ℕ) (events : List Event) (inferences : ℕ) : Type 0 where
+  pub goes : Goes standing before after
+  pub whole : events ≡ found ++ owed
+  pub counted : inferences ≡ cut_count cost
+
+-- the first k alternatives of a batch were run
+abbrev pub RunsFirst : Type 0 → Sat → Sat → List Event → ℕ → List (Owed Event) → ℕ → List Event → ℕ → Type 0
+RunsFirst standing before after found first owed k events inferences = RunsAll standing before after found (events_in (take k owed)) (first + cost_in (take k owed)) events inferences
+
+-- the piece is to be closed with these events and inferences
+pub record Reports (standing : Type 0) (before after : Sat) (events : List Event) (inferences : ℕ) : Type 0 where
+  pub stays : Stays standing before after
+  pub whole : IsSomeAnd after.mine.piece (λ (piece : OpenPiece). record { events = events; cost = inferences } ≡ report_of piece.owes)
+
+-- how a claim went: the seat has no open piece, unless the worker leaves
+abbrev pub WentTo : Type 0 → Type 0 → Bool → ProblemTree → Went → Sat → Sat → Type 0
+WentTo standing end leads problem went.Worked before after = Stays standing before after × (after.mine.piece ≡ None)
+WentTo standing end leads problem went.Idle before after = Stays standing before after × (after.mine.piece ≡ None)
+WentTo standing end leads problem went.Ended before after = Ended standing problem before after
+WentTo standing end leads problem went.Left before after = Leaves end leads before after

@@ -1,0 +1,182 @@
+//! The workers of a crew, each in a thread of its own.
+ghost use Rattle.std.specs.Prelude.{◌≡◌, ◌≤◌, IfOk, OnErr, true, false, vec_len};
+ghost use Rattle.std.specs.Vec.{vec_capacity};
+ghost use Rattle.std.specs.Thread.{IsSync};
+ghost use Rattle.ll_laws.specs.Sound.{Every};
+ghost use Rattle.ll_crew.specs.Crews.{EachWorked};
+ghost use Rattle.ll_crew.specs.Leading.{Stands, Stopped};
+ghost use Rattle.ll_crew.specs.Turns.{Ended, Leaves, Fails, CanWork, Worked};
+
+use crate::bell::Bell;
+use crate::beside::join_beside;
+use crate::lead::{Mute, Told};
+use crate::worker::work_as;
+use ll_bank::OutOfMemory;
+use ll_edge::Gate;
+use ll_freeze::Frozen;
+use ll_laws::Problem;
+use ll_order::Outlet;
+use ll_pool::{Seat, SharedPool};
+use std::alloc::Global;
+use std::snapshot::Snapshot;
+use std::sync::Wait;
+use std::thread::{Threads, join};
+
+// A worker that tells nothing: its seat, and all that it works with.
+#[derive(Drop)]
+struct Hand<'a, 'p, R, G> {
+    rt: &'a R,
+    alloc: Global,
+    problem: &'p Problem,
+    pool: &'a SharedPool<Frozen<'p>>,
+    bell: &'a Bell,
+    gate: &'a G,
+    seat: Seat<Frozen<'p>>,
+}
+
+// Some workers that tell nothing.
+#[derive(Drop)]
+struct Crowd<'a, 'p, R, G> {
+    rt: &'a R,
+    alloc: Global,
+    problem: &'p Problem,
+    pool: &'a SharedPool<Frozen<'p>>,
+    bell: &'a Bell,
+    gate: &'a G,
+    seats: Vec<Seat<Frozen<'p>>>,
+}
+
+// The work of a worker that tells nothing.
+fn help<'a, 'p, R: Wait, G: Gate>(hand: Hand<'a, 'p, R, G>) -> Seat<Frozen<'p>>
+    requires { CanWork hand.pool.now hand.problem.now hand.seat }
+    ensures { Worked hand.entry.seat result }
+{
+    let Hand {
+        rt,
+        alloc,
+        problem,
+        pool,
+        bell,
+        gate,
+        mut seat,
+    } = hand;
+    let mut mute = Mute;
+    let start = Snapshot::of(&mute);
+    let mut told = Told::new(false);
+    let _done = work_as(
+        rt, alloc, problem, pool, bell, gate, &start, &mut seat, &mut told, &mut mute,
+    );
+    seat
+}
+
+// The work of some workers, each in a thread of its own where one can be made.
+fn work_all<'a, 'p, R: Threads + Wait + Sync, G: Gate>(
+    crowd: Crowd<'a, 'p, R, G>,
+) -> Vec<Seat<Frozen<'p>>>
+    requires { Every (CanWork crowd.pool.now crowd.problem.now) crowd.seats.items }
+    ensures each { EachWorked crowd.entry.seats.items result.items }
+    ensures len { vec_len result ≡ vec_len crowd.entry.seats }
+    ensures room { vec_capacity crowd.entry.seats ≤ vec_capacity result }
+{
+    let Crowd {
+        rt,
+        alloc,
+        problem,
+        pool,
+        bell,
+        gate,
+        mut seats,
+    } = crowd;
+    let Some(seat) = seats.pop() else {
+        return seats;
+    };
+    let hand = Hand {
+        rt,
+        alloc,
+        problem,
+        pool,
+        bell,
+        gate,
+        seat,
+    };
+    let rest = Crowd {
+        rt,
+        alloc,
+        problem,
+        pool,
+        bell,
+        gate,
+        seats,
+    };
+    let (mut back, seat) = join(
+        rt,
+        move ||
+            requires { IsSync R.row × IsSync G.row × Every (CanWork rest.pool.now rest.problem.now) rest.seats.items }
+            ensures { EachWorked rest.entry.seats.items result.items × (vec_len result ≡ vec_len rest.entry.seats) × (vec_capacity rest.entry.seats ≤ vec_capacity result) }
+        { work_all(rest) },
+        move ||
+            requires { IsSync G.row × CanWork hand.pool.now hand.problem.now hand.seat }
+            ensures { Worked hand.entry.seat result }
+        { help(hand) },
+    );
+    back.push_reserved(seat);
+    back
+}
+
+/// All workers at work: the caller is the first. The other seats come back.
+pub(crate) fn work_together<'p, R: Threads + Wait + Sync, G: Gate, O: Outlet>(
+    rt: &R,
+    alloc: Global,
+    problem: &'p Problem,
+    pool: &SharedPool<Frozen<'p>>,
+    bell: &Bell,
+    gate: &G,
+    start: &Snapshot<O>,
+    first: &mut Seat<Frozen<'p>>,
+    told: &mut Told,
+    out: &mut O,
+    seats: Vec<Seat<Frozen<'p>>>,
+) -> (Vec<Seat<Frozen<'p>>>, Result<bool, OutOfMemory>)
+    requires first { CanWork pool.now problem.now first.old }
+    requires stands { Stands O.takes O.breaks O.welcome O.faults start.now.value problem.now first.old out.old told.old }
+    requires seats { Every (CanWork pool.now problem.now) seats.items }
+    ensures leads { told.new.leads ≡ told.old.leads }
+    ensures done { IfOk result.1 (λ done. done ≡ true → Ended (Stands O.takes O.breaks O.welcome O.faults start.now.value problem.entry.now first.new out.new told.new) problem.entry.now first.old first.new) }
+    ensures left { IfOk result.1 (λ done. done ≡ false → Leaves (Stopped O.takes O.breaks O.welcome O.faults start.now.value problem.entry.now out.new told.new) told.old.leads first.old first.new) }
+    ensures failed { OnErr result.1 (Fails (Stopped O.takes O.breaks O.welcome O.faults start.now.value problem.entry.now out.new told.new) first.old first.new) }
+    ensures seats { EachWorked seats.entry.items result.0.items }
+{
+    if seats.is_empty() {
+        let done = work_as(
+            rt, alloc, problem, pool, bell, gate, start, first, told, out,
+        );
+        return (seats, done);
+    }
+    let crowd = Crowd {
+        rt,
+        alloc,
+        problem,
+        pool,
+        bell,
+        gate,
+        seats,
+    };
+    join_beside(
+        rt,
+        move ||
+            requires { IsSync R.row × IsSync G.row × Every (CanWork crowd.pool.now crowd.problem.now) crowd.seats.items }
+            ensures { EachWorked crowd.entry.seats.items result.items }
+        { work_all(crowd) },
+        &mut ||
+            requires { IsSync G.row × CanWork pool.now problem.now first.now × Stands O.takes O.breaks O.welcome O.faults start.now.value problem.now first.now out.now told.now }
+            ensures leads { told.exit.now.leads ≡ told.entry.now.leads }
+            ensures done { IfOk result (λ done. done ≡ true → Ended (Stands O.takes O.breaks O.welcome O.faults start.entry.now.value problem.entry.now first.exit.now out.exit.now told.exit.now) problem.entry.now first.entry.now first.exit.now) }
+            ensures left { IfOk result (λ done. done ≡ false → Leaves (Stopped O.takes O.breaks O.welcome O.faults start.entry.now.value problem.entry.now out.exit.now told.exit.now) told.entry.now.leads first.entry.now first.exit.now) }
+            ensures failed { OnErr result (Fails (Stopped O.takes O.breaks O.welcome O.faults start.entry.now.value problem.entry.now out.exit.now told.exit.now) first.entry.now first.exit.now) }
+        {
+            work_as(
+                rt, alloc, problem, pool, bell, gate, start, first, told, out,
+            )
+        },
+    )
+}

@@ -1,0 +1,162 @@
+//! What worker 0 tells the outlet, and a look at the pool.
+ghost use Rattle.std.specs.Prelude.{◌≡◌, None, IsSome, IsNone, true, false};
+ghost use Rattle.ll_crew.specs.Seats.{IsSeat, Same, Calm, HasLeft};
+ghost use Rattle.ll_crew.specs.Leading.{Stands, Stopped};
+ghost use Rattle.ll_crew.specs.Turns.{Goes, Leaves};
+
+use ll_core::{Look, Ready};
+use ll_freeze::Frozen;
+use ll_laws::{Counts, Event, Problem};
+use ll_order::{OutFault, Outlet, give};
+use ll_pool::{Seat, SharedPool};
+use std::snapshot::Snapshot;
+use std::sync::Wait;
+
+/// What a worker has told the outlet: nothing, unless it leads.
+#[derive(Drop)]
+pub(crate) struct Told {
+    pub(crate) leads: bool,
+    pub(crate) counts: Counts,
+    pub(crate) fault: Option<OutFault>,
+}
+
+impl Told {
+    pub(crate) fn new(leads: bool) -> Told
+        ensures { result ≡ record { leads = leads; counts = record { answers = 0; reached = 0; inferences = 0 }; fault = None } }
+    {
+        Told {
+            leads,
+            counts: Counts {
+                answers: 0,
+                reached: 0,
+                inferences: 0,
+            },
+            fault: None,
+        }
+    }
+}
+
+/// An outlet for a worker that tells nothing.
+#[derive(Drop)]
+pub(crate) struct Mute;
+
+impl Outlet for Mute {
+    ghost takes = { λ before event after. Unit {0} };
+
+    ghost breaks = { λ before event after. Unit {0} };
+
+    ghost welcome = { λ before event. Unit {0} };
+
+    ghost faults = { λ outlet. 0 };
+
+    fn event(&mut self, _event: Event) -> Result<(), OutFault> {
+        Ok(())
+    }
+}
+
+// After a failed write the pool is stopped, and where the outlet wanted memory it is starved.
+fn quit<'p, R: Wait>(
+    rt: &R,
+    pool: &SharedPool<Frozen<'p>>,
+    seat: &mut Seat<Frozen<'p>>,
+    fault: OutFault,
+)
+    requires own { seat.old.table ≡ pool.now.table }
+    ensures same { Same seat.old seat.new }
+    ensures left { HasLeft seat.new }
+{
+    match fault {
+        OutFault::Write => pool.stop(rt, seat),
+        OutFault::OutOfMemory => pool.starve(rt, seat),
+    }
+}
+
+// Gives the outlet the events that are ready. False where it refused one: the pool is then stopped, or starved where the outlet wanted
+// memory.
+fn tell_all<'p, R: Wait, O: Outlet>(
+    rt: &R,
+    problem: &'p Problem,
+    pool: &SharedPool<Frozen<'p>>,
+    start: &Snapshot<O>,
+    seat: &mut Seat<Frozen<'p>>,
+    told: &mut Told,
+    out: &mut O,
+) -> bool
+    requires seat { IsSeat pool.now problem.now seat.old }
+    requires leads { told.old.leads ≡ true }
+    requires stands { Stands O.takes O.breaks O.welcome O.faults start.now.value problem.now seat.old out.old told.old }
+    ensures leads { told.new.leads ≡ true }
+    ensures on { result ≡ true → Goes (Stands O.takes O.breaks O.welcome O.faults start.now.value problem.now seat.new out.new told.new) seat.old seat.new }
+    ensures left { result ≡ false → Leaves (Stopped O.takes O.breaks O.welcome O.faults start.now.value problem.now out.new told.new) true seat.old seat.new }
+{
+    for _ in rt.forever() {
+        let Ready::Events(report) = pool.ready(rt, seat) else {
+            return true;
+        };
+        let inferences = told.counts.inferences.saturating_add(report.inferences);
+        match give(report.events, out, told.counts) {
+            Ok(counts) => {
+                told.counts = Counts {
+                    inferences,
+                    ..counts
+                };
+            }
+            Err(fault) => {
+                told.fault = Some(fault);
+                quit(rt, pool, seat, fault);
+                return false;
+            }
+        }
+    }
+    unreachable!()
+}
+
+/// A worker that leads gives the outlet the events that are ready. False where it refused one: the pool is then stopped, or starved where
+/// the outlet wanted memory.
+pub(crate) fn tell<'p, R: Wait, O: Outlet>(
+    rt: &R,
+    problem: &'p Problem,
+    pool: &SharedPool<Frozen<'p>>,
+    start: &Snapshot<O>,
+    seat: &mut Seat<Frozen<'p>>,
+    told: &mut Told,
+    out: &mut O,
+) -> bool
+    requires seat { IsSeat pool.now problem.now seat.old }
+    requires stands { Stands O.takes O.breaks O.welcome O.faults start.now.value problem.now seat.old out.old told.old }
+    ensures leads { told.new.leads ≡ told.old.leads }
+    ensures on { result ≡ true → Goes (Stands O.takes O.breaks O.welcome O.faults start.now.value problem.now seat.new out.new told.new) seat.old seat.new }
+    ensures left { result ≡ false → Leaves (Stopped O.takes O.breaks O.welcome O.faults start.now.value problem.now out.new told.new) told.old.leads seat.old seat.new }
+{
+    if told.leads {
+        return tell_all(rt, problem, pool, start, seat, told, out);
+    }
+    true
+}
+
+/// A look at the pool, after which a worker that leads gives the outlet what is ready. `None` where it is to leave: the pool is starved or
+/// stopped.
+pub(crate) fn look<'p, R: Wait, O: Outlet>(
+    rt: &R,
+    problem: &'p Problem,
+    pool: &SharedPool<Frozen<'p>>,
+    start: &Snapshot<O>,
+    seat: &mut Seat<Frozen<'p>>,
+    told: &mut Told,
+    out: &mut O,
+) -> Option<Look>
+    requires seat { IsSeat pool.now problem.now seat.old }
+    requires stands { Stands O.takes O.breaks O.welcome O.faults start.now.value problem.now seat.old out.old told.old }
+    ensures leads { told.new.leads ≡ told.old.leads }
+    ensures on { IsSome result → Goes (Stands O.takes O.breaks O.welcome O.faults start.now.value problem.now seat.new out.new told.new) seat.old seat.new }
+    ensures left { IsNone result → Leaves (Stopped O.takes O.breaks O.welcome O.faults start.now.value problem.now out.new told.new) told.old.leads seat.old seat.new }
+{
+    let look = pool.look(rt, seat);
+    if look.starved || look.stopped {
+        return None;
+    }
+    if !tell(rt, problem, pool, start, seat, told, out) {
+        return None;
+    }
+    Some(look)
+}

@@ -1,0 +1,184 @@
+//! The work of one worker.
+ghost use Rattle.std.specs.Prelude.{◌≡◌, ◌⊎◌, None, IfOk, OnOk, OnErr, true, false};
+ghost use Rattle.ll_crew.specs.Seats.{IsSeat, Same, HasLeft, IsOver};
+ghost use Rattle.ll_crew.specs.Leading.{Stands, Stopped};
+ghost use Rattle.ll_crew.specs.Turns.{Stays, Ended, Leaves, Fails, CanWork};
+ghost use Rattle.ll_crew.specs.Runs.{WentTo};
+
+use crate::bell::Bell;
+use crate::lead::{Mute, Told, tell};
+use crate::piece::work_piece;
+use ll_bank::OutOfMemory;
+use ll_core::Claimed;
+use ll_edge::Gate;
+use ll_freeze::Frozen;
+use ll_laws::Problem;
+use ll_order::Outlet;
+use ll_pool::{Seat, SharedPool};
+use std::alloc::Global;
+use std::snapshot::Snapshot;
+use std::sync::Wait;
+use std::thread;
+
+/// So often a worker that finds nothing to claim yields and tries again, before it waits for the bell.
+const YIELDS: u32 = 4;
+
+// How a claim went.
+enum Went {
+    // An alternative was claimed, worked and reported.
+    Worked,
+    // Nothing is untried, and others work.
+    Idle,
+    // Nothing is untried or open.
+    Ended,
+    // The pool is starved or stopped.
+    Left,
+}
+
+// Claims an alternative and works it, if there is one. Where there is none a worker that leads gives the outlet what is ready.
+fn claim_one<'p, R: Wait, O: Outlet>(
+    rt: &R,
+    alloc: Global,
+    problem: &'p Problem,
+    pool: &SharedPool<Frozen<'p>>,
+    bell: &Bell,
+    start: &Snapshot<O>,
+    seat: &mut Seat<Frozen<'p>>,
+    told: &mut Told,
+    out: &mut O,
+) -> Result<Went, OutOfMemory>
+    requires seat { CanWork pool.now problem.now seat.old }
+    requires stands { Stands O.takes O.breaks O.welcome O.faults start.now.value problem.now seat.old out.old told.old }
+    ensures leads { told.new.leads ≡ told.old.leads }
+    ensures went { IfOk result (λ went. WentTo (Stands O.takes O.breaks O.welcome O.faults start.now.value problem.now seat.new out.new told.new) (Stopped O.takes O.breaks O.welcome O.faults start.now.value problem.now out.new told.new) told.old.leads problem.entry.now went seat.old seat.new) }
+    ensures failed { OnErr result (Stays (Stands O.takes O.breaks O.welcome O.faults start.now.value problem.now seat.new out.new told.new) seat.old seat.new) }
+{
+    match pool.claim(rt, seat) {
+        Claimed::Work { piece: _, batch, k } => {
+            if work_piece(
+                rt, alloc, problem, pool, bell, start, seat, &batch, k, told, out,
+            )? {
+                return Ok(Went::Worked);
+            }
+            Ok(Went::Left)
+        }
+        Claimed::Idle { busy: _ } => {
+            if tell(rt, problem, pool, start, seat, told, out) {
+                return Ok(Went::Idle);
+            }
+            Ok(Went::Left)
+        }
+        Claimed::Finished => Ok(Went::Ended),
+        Claimed::Starved => Ok(Went::Left),
+        Claimed::Stopped => Ok(Went::Left),
+    }
+}
+
+// Claims and works until nothing is untried or open, which is answered by true, or until the pool is starved or stopped.
+fn work_on<'p, R: Wait, G: Gate, O: Outlet>(
+    rt: &R,
+    alloc: Global,
+    problem: &'p Problem,
+    pool: &SharedPool<Frozen<'p>>,
+    bell: &Bell,
+    gate: &G,
+    start: &Snapshot<O>,
+    seat: &mut Seat<Frozen<'p>>,
+    told: &mut Told,
+    out: &mut O,
+) -> Result<bool, OutOfMemory>
+    requires seat { CanWork pool.now problem.now seat.old }
+    requires stands { Stands O.takes O.breaks O.welcome O.faults start.now.value problem.now seat.old out.old told.old }
+    ensures leads { told.new.leads ≡ told.old.leads }
+    ensures done { IfOk result (λ done. done ≡ true → Ended (Stands O.takes O.breaks O.welcome O.faults start.now.value problem.now seat.new out.new told.new) problem.now seat.old seat.new) }
+    ensures left { IfOk result (λ done. done ≡ false → Leaves (Stopped O.takes O.breaks O.welcome O.faults start.now.value problem.now out.new told.new) told.old.leads seat.old seat.new) }
+    ensures failed { OnErr result (Stays (Stands O.takes O.breaks O.welcome O.faults start.now.value problem.now seat.new out.new told.new) seat.old seat.new) }
+{
+    let mut claims = 0u64;
+    let mut misses = 0u32;
+    'claims: for _ in rt.forever() {
+        gate.pause(seat.worker(), claims);
+        let heard = bell.heard(rt);
+        match claim_one(rt, alloc, problem, pool, bell, start, seat, told, out)? {
+            Went::Worked => {
+                claims = claims.saturating_add(1);
+                misses = 0;
+            }
+            Went::Idle => {
+                if misses < YIELDS {
+                    thread::yield_now();
+                } else {
+                    bell.wait(rt, told.leads, heard);
+                }
+                misses = misses.saturating_add(1);
+            }
+            Went::Ended => return Ok(true),
+            Went::Left => return Ok(false),
+        }
+    }
+    unreachable!()
+}
+
+/// Claims and works until nothing is untried or open, which is answered by true, or until the pool is starved or stopped. A worker that
+/// leads gives the outlet what is ready. On want of memory it starves the pool. In each case the other workers are woken.
+pub(crate) fn work_as<'p, R: Wait, G: Gate, O: Outlet>(
+    rt: &R,
+    alloc: Global,
+    problem: &'p Problem,
+    pool: &SharedPool<Frozen<'p>>,
+    bell: &Bell,
+    gate: &G,
+    start: &Snapshot<O>,
+    seat: &mut Seat<Frozen<'p>>,
+    told: &mut Told,
+    out: &mut O,
+) -> Result<bool, OutOfMemory>
+    requires seat { CanWork pool.now problem.now seat.old }
+    requires stands { Stands O.takes O.breaks O.welcome O.faults start.now.value problem.now seat.old out.old told.old }
+    ensures leads { told.new.leads ≡ told.old.leads }
+    ensures done { IfOk result (λ done. done ≡ true → Ended (Stands O.takes O.breaks O.welcome O.faults start.now.value problem.now seat.new out.new told.new) problem.now seat.old seat.new) }
+    ensures left { IfOk result (λ done. done ≡ false → Leaves (Stopped O.takes O.breaks O.welcome O.faults start.now.value problem.now out.new told.new) told.old.leads seat.old seat.new) }
+    ensures failed { OnErr result (Fails (Stopped O.takes O.breaks O.welcome O.faults start.now.value problem.now out.new told.new) seat.old seat.new) }
+{
+    match work_on(rt, alloc, problem, pool, bell, gate, start, seat, told, out) {
+        Ok(done) => {
+            bell.ring_all(rt);
+            Ok(done)
+        }
+        Err(refused) => {
+            pool.starve(rt, seat);
+            bell.ring_all(rt);
+            Err(refused)
+        }
+    }
+}
+
+/// Claims alternatives of a shared pool and works them, until nothing is untried or open, or until the pool is starved or stopped. The
+/// pool is one of this problem, and the seat has no open piece.
+///
+/// Between two looks the worker makes at most 256 steps. Where nothing is untried and fewer pieces are open than there are workers, it
+/// publishes its oldest choice point. After `Ok` it has neither starved nor stopped the pool. On want of memory it starves the pool.
+pub fn work<'p, R: Wait, G: Gate>(
+    rt: &R,
+    alloc: Global,
+    problem: &'p Problem,
+    pool: &SharedPool<Frozen<'p>>,
+    seat: &mut Seat<Frozen<'p>>,
+    gate: &G,
+) -> Result<(), OutOfMemory>
+    requires asked { IsSeat pool.now problem.now seat.old }
+    requires rests { seat.old.mine.piece ≡ None }
+    ensures same { Same seat.old seat.new }
+    ensures ended { OnOk result (IsOver problem.now seat.new ⊎ HasLeft seat.new) }
+    ensures quit { OnOk result (seat.new.mine.quit ≡ seat.old.mine.quit) }
+    ensures starved { OnErr result (seat.new.mine.seen.starved ≡ true) }
+{
+    let mut mute = Mute;
+    let start = Snapshot::of(&mute);
+    let mut told = Told::new(false);
+    let bell = Bell::silent();
+    work_as(
+        rt, alloc, problem, pool, &bell, gate, &start, seat, &mut told, &mut mute,
+    )?;
+    Ok(())
+}

@@ -43,3 +43,4 @@ pub mod TakesOver
 pub mod OneSharing
 pub mod OneTable
 pub mod OneFault2
+pub mod OneText2

@@ -89,7 +89,7 @@ steps_are names rows (x ∷ xs) (l ∷ ls) a =
 
 -- ---- two readings of the same lines
 
-rows_many : (names : List (List ℕ)) (rows : List Term) (ls : List (List ℕ)) → AreShares names rows ls → length rows ≡ length ls
+pub rows_many : (names : List (List ℕ)) (rows : List Term) (ls : List (List ℕ)) → AreShares names rows ls → length rows ≡ length ls
 rows_many names rows ls (no_shares a b) = ap length a ∙ sym (ap length b)
 rows_many names rows ls (next_share before above t line s i a b) =
     let k = rows_many names before above s in
@@ -176,7 +176,7 @@ offs_once lines few b c one two k j x y = by (trichotomy k j)
 
 -- ---- one fault
 
-lines_few : (text : List ℕ) → length (text_lines text) ≤ length text
+pub lines_few : (text : List ℕ) → length (text_lines text) ≤ length text
 lines_few [] = omega arith
 lines_few (b ∷ bs) = by (b == 10) (lines_few bs)
   where

@@ -100,7 +100,7 @@ cells_read o names rows ts text rest v i m a (next_cell {t = t} {ts = others} {t
     (subst (λ z. Reads o v (i + 1 + length w) z (behind ++ rest)) (let z : m ≡ m + 0 = omega arith in z) (cells_read o names rows others behind rest v (i + 1 + length w) m a cs (All-tail (IsSpelledTerm names) t others s) x h))
 
 -- the arguments of a term that is spelled
-abbrev ArgumentsSpelled : List (List ℕ) → Term → Type 0
+abbrev pub ArgumentsSpelled : List (List ℕ) → Term → Type 0
 ArgumentsSpelled names (Ap f a) = ArgumentsSpelled names f × IsSpelledTerm names a
 ArgumentsSpelled names (Var n) = Unit {0}
 ArgumentsSpelled names (Int z) = Unit {0}
@@ -112,7 +112,7 @@ spine_arguments names (Int z) s = tt
 spine_arguments names (Con h) s = tt
 spine_arguments names (Ap f a) s = (spine_arguments names f s.0, s.1)
 
-term_arguments : (names : List (List ℕ)) (t : Term) → IsSpelledTerm names t → ArgumentsSpelled names t
+pub term_arguments : (names : List (List ℕ)) (t : Term) → IsSpelledTerm names t → ArgumentsSpelled names t
 term_arguments names (Var n) s = tt
 term_arguments names (Int z) s = tt
 term_arguments names (Con h) s = tt

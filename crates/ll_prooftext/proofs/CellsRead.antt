@@ -41,7 +41,7 @@ use Rattle.ll_prooftext.proofs.Steps.{word_good, word_text, word_shape, part_ter
 -- ---- words of cells
 
 -- `@` begins no word
-row_word : (w rest : List ℕ) → w ≡ 64 ∷ rest → (p : Shape) → IsWord w p → ⊥
+pub row_word : (w rest : List ℕ) → w ≡ 64 ∷ rest → (p : Shape) → IsWord w p → ⊥
 unfolding is_lower
 row_word w rest e Wanted a = a
 row_word w rest e Applied a = a

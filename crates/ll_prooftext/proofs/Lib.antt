@@ -40,3 +40,7 @@ pub mod RowsInPlace
 pub mod SoFarOver
 pub mod FaultsOver
 pub mod TakesOver
+pub mod OneSharing
+pub mod OneTable
+pub mod OneFault2
+pub mod OneText2

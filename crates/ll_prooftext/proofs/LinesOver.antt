@@ -67,7 +67,7 @@ cell_first n field behind bs b (inl i) e h l k = let w = its_word field i in by_
     by_list (c ∷ cs) p i e = word_first (c ∷ cs) cs b p i (let q : c ≡ b = cc in ap (λ z. z ∷ cs) q) h l
 cell_first n field behind bs b (inr r) e h l k = let q : 64 ∷ (decimal r.number ++ behind) ≡ b ∷ bs = ap (λ z. z ++ behind) (sym r.is) ∙ e in k cc
 
-no_cell_begins : (n : ℕ) (field behind rest : List ℕ) → HasNoTerm (32 ∷ rest) → IsField (Cell n) field → rest ≡ field ++ behind → ⊥
+pub no_cell_begins : (n : ℕ) (field behind rest : List ℕ) → HasNoTerm (32 ∷ rest) → IsField (Cell n) field → rest ≡ field ++ behind → ⊥
 unfolding is_lower
 no_cell_begins n field behind rest (inl e) i f = cc
 no_cell_begins n field behind rest (inr (brace r e)) i f = let q : rest ≡ 123 ∷ r = cc in cell_first n field behind r 123 i (sym f ∙ q) refl refl (λ x. omega arith)
@@ -355,7 +355,7 @@ other_word word.Forall h = record { free = refl; exists = refl; clause = refl }
 other_word word.Use h = record { free = refl; exists = refl; clause = refl }
 other_word word.Num h = record { free = refl; exists = refl; clause = refl }
 
-one_first : (w v rest others : List ℕ) → list_all (is_not 32) w ≡ true → list_all (is_not 32) v ≡ true → IsAtEnd rest → IsAtEnd others → w ++ rest ≡ v ++ others → w ≡ v
+pub one_first : (w v rest others : List ℕ) → list_all (is_not 32) w ≡ true → list_all (is_not 32) v ≡ true → IsAtEnd rest → IsAtEnd others → w ++ rest ≡ v ++ others → w ≡ v
 one_first w v rest others f g s t e = sym (first_alone w rest f s) ∙ (ap first_word e ∙ first_alone v others g t)
 
 -- the line of a node of which no field is a term

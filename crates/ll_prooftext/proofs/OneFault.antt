@@ -16,16 +16,16 @@ use Rattle.ll_prooftext.proofs.WholeText.{text_begins}
 
 -- ---- lines
 
-abbrev fault_in : ℕ → ℕ → ℕ → Fault
+abbrev pub fault_in : ℕ → ℕ → ℕ → Fault
 fault_in line column kind = record { at = record { line = line; column = column }; kind = kind }
 
 -- the fault at the end of a text whose nodes lack so many
-abbrev end_fault : Place → ℕ → Option Fault
+abbrev pub end_fault : Place → ℕ → Option Fault
 end_fault end zero = None
 end_fault end (suc k) = Some (record { at = end; kind = 15 })
 
 -- what a line's verdict comes to, and what is behind a good one
-abbrev Follows : Option Fault → ℕ → (ℕ → Type 0) → Verdict → Type 0
+abbrev pub Follows : Option Fault → ℕ → (ℕ → Type 0) → Verdict → Type 0
 Follows o n Rest Unknown = o ≡ Some (fault_in n 1 13)
 Follows o n Rest (Bad c) = o ≡ Some (fault_in n c 14)
 Follows o n Rest (Good premises) = Rest premises
@@ -36,7 +36,7 @@ Ran end o lets n k [] = o ≡ end_fault end k
 Ran end o lets n zero (bytes ∷ more) = o ≡ Some (fault_in n 1 16)
 Ran end o lets n (suc k) (bytes ∷ more) = (v : Verdict) × (Judges v lets bytes × Follows o n (λ c. Ran end o (is_let bytes) (n + 1) (under bytes c + k) more) v)
 
-follows_once : (o p : Option Fault) (n : ℕ) (X Y : ℕ → Type 0) (v w : Verdict) → v ≡ w → Follows o n X v → Follows p n Y w → ((c : ℕ) → X c → Y c → o ≡ p) → o ≡ p
+pub follows_once : (o p : Option Fault) (n : ℕ) (X Y : ℕ → Type 0) (v w : Verdict) → v ≡ w → Follows o n X v → Follows p n Y w → ((c : ℕ) → X c → Y c → o ≡ p) → o ≡ p
 follows_once o p n X Y Unknown Unknown e f g h = f ∙ sym g
 follows_once o p n X Y (Bad c) (Bad d) e f g h = f ∙ (ap (λ z. Some (fault_in n z 14)) (let q : c ≡ d = cc in q) ∙ sym g)
 follows_once o p n X Y (Good c) (Good d) e f g h = h d (subst X (let q : c ≡ d = cc in q) f) g

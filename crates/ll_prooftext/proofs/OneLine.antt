@@ -197,7 +197,7 @@ word_free NumLine = (refl, refl)
 word_free (ClauseLine n k ts ps) = (refl, refl)
 
 -- the kinds of lines, numbered in the order of their words
-abbrev line_kind : Line → ℕ
+abbrev pub line_kind : Line → ℕ
 line_kind OneLine = 0
 line_kind EraseLine = 1
 line_kind (TensorLine s t) = 2
@@ -233,7 +233,7 @@ kind_is UseLine = refl
 kind_is NumLine = refl
 kind_is (ClauseLine n k ts ps) = refl
 
-one_kind : (l m : Line) → line_word l ≡ line_word m → line_kind l ≡ line_kind m
+pub one_kind : (l m : Line) → line_word l ≡ line_word m → line_kind l ≡ line_kind m
 one_kind l m e = sym (kind_is l) ∙ (ap (index_in node_words) e ∙ kind_is m)
 
 -- no node has the word of a variable

@@ -171,7 +171,7 @@ module _ (names : List (List ℕ)) (distinct : IsDistinct bytes_eq names) where
   unfolding is_lower
   no_sharp m rest p e = let x : false ≡ true = first_is is_lower (name_text names m) 35 rest e (shaped_starts (name_text names m) (name_shaped (name_text names m) p.spelled)) in let y : ⊥ = cc in y
 
-  same_plain : (h k : Head) → IsPlainHead names h → IsPlainHead names k → head_text names h ≡ head_text names k → h ≡ k
+  pub same_plain : (h k : Head) → IsPlainHead names h → IsPlainHead names k → head_text names h ≡ head_text names k → h ≡ k
   same_plain (Name m) (Name n) p q e = ap Name (same_name m n (name_full (name_text names m) p) e)
   same_plain (Name m) (Eigen n) p q e = absurd (no_sharp m (decimal n) p e)
   same_plain (Eigen m) (Name n) p q e = absurd (no_sharp n (decimal m) q (sym e))
@@ -179,7 +179,7 @@ module _ (names : List (List ℕ)) (distinct : IsDistinct bytes_eq names) where
   same_plain (Bound m) k p q e = absurd p
   same_plain h (Bound n) p q e = absurd q
 
-  same_sign : (h k : Head) → is_cons_head names h ≡ true → is_cons_head names k ≡ true → h ≡ k
+  pub same_sign : (h k : Head) → is_cons_head names h ≡ true → is_cons_head names k ≡ true → h ≡ k
   same_sign (Name m) (Name n) p q = ap Name (same_name m n (let x = ap length (is m p) in omega arith) (is m p ∙ sym (is n q)))
     where
       is : (n : ℕ) → is_cons_head names (Name n) ≡ true → name_text names n ≡ 58 ∷ 58 ∷ []
@@ -189,7 +189,7 @@ module _ (names : List (List ℕ)) (distinct : IsDistinct bytes_eq names) where
   same_sign h (Eigen n) p q = absurd cc
   same_sign h (Bound n) p q = absurd cc
 
-  no_question : (n : ℕ) (z : ℤ) → FitsSigned w64 z → 63 ∷ decimal n ≡ signed_decimal z → ⊥
+  pub no_question : (n : ℕ) (z : ℤ) → FitsSigned w64 z → 63 ∷ decimal n ≡ signed_decimal z → ⊥
   no_question n z f e = let x : false ≡ true = first_is begins_number (signed_decimal z) 63 (decimal n) (sym e) (signed_starts z f) in let y : ⊥ = cc in y
 
   one_shaped : (t u : Term) → has_arguments t ≡ false → has_arguments u ≡ false → IsSpelledTerm names t → IsSpelledTerm names u → term_text names t ≡ term_text names u → bare_shape t ≡ bare_shape u

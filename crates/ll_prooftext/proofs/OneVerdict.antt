@@ -75,11 +75,11 @@ reads_once o p v w n i m j us vs few (more l fd s nx e g q y t) (more k field re
     (ap (λ z. z + premise l) c ∙ ap (λ z. j + premise z) same.kind)
     same.rest
 
-fields_end : (v u : Want) (good rest : List ℕ) → Fields v good u → IsAtEnd rest → IsAtEnd (good ++ rest)
+pub fields_end : (v u : Want) (good rest : List ℕ) → Fields v good u → IsAtEnd rest → IsAtEnd (good ++ rest)
 fields_end v u good rest none x = x
 fields_end v u good rest (one k field next a i fs) x = space
 
-stop_end : (v : Want) (n c : ℕ) (rest : List ℕ) → IsStop v n rest c → IsAtEnd rest
+pub stop_end : (v : Want) (n c : ℕ) (rest : List ℕ) → IsStop v n rest c → IsAtEnd rest
 stop_end v n c rest (lacks e) = line_end
 stop_end v n c rest (no_field h) = space
 
@@ -87,7 +87,7 @@ stop_read : (v : Want) (i n m c : ℕ) (rest : List ℕ) → i ≡ n → IsStop 
 stop_read v i n m c rest e (lacks f) = lacking refl f (ap (λ z. Bad (z + 1)) e)
 stop_read v i n m c rest e (no_field {bytes = bytes} h) = wrong bytes refl h (ap (λ z. Bad (z + 2)) e)
 
-fields_read : (v u : Want) (good rest : List ℕ) (n m c : ℕ) → Fields v good u → IsStop u (n + length good) rest c → Reads (Bad c) v n m (good ++ rest)
+pub fields_read : (v u : Want) (good rest : List ℕ) (n m c : ℕ) → Fields v good u → IsStop u (n + length good) rest c → Reads (Bad c) v n m (good ++ rest)
 fields_read v u good rest n m c none s = stop_read v (n + 0) n m c rest (omega arith) s
 fields_read v u good rest n m c (one {rest = others} k field next a i fs) s =
     let e : n + length (32 ∷ (field ++ others)) ≡ n + 1 + length field + length others = omega (arith, length-append field others) in
@@ -97,7 +97,7 @@ fields_read v u good rest n m c (one {rest = others} k field next a i fs) s =
 -- ---- first words
 
 -- a known word has no space
-listed_free : (entries : List (List ℕ × Want)) → list_all (λ (e : List ℕ × Want). list_all (is_not 32) e.0) entries ≡ true → (w : List ℕ) (v : Want) → listed entries w ≡ Some v → list_all (is_not 32) w ≡ true
+pub listed_free : (entries : List (List ℕ × Want)) → list_all (λ (e : List ℕ × Want). list_all (is_not 32) e.0) entries ≡ true → (w : List ℕ) (v : Want) → listed entries w ≡ Some v → list_all (is_not 32) w ≡ true
 listed_free [] f w v e = absurd cc
 listed_free (x ∷ xs) f w v e = by_test (bytes_eq x.0 w) refl e (λ h. listed_free xs (and_right (list_all (is_not 32) x.0) (list_all (λ (e : List ℕ × Want). list_all (is_not 32) e.0) xs) f) w v h)
   where
@@ -110,11 +110,11 @@ word_free true w v e = listed_free ((codes "let", Then Argument Nothing) ∷ nod
 word_free false w v e = listed_free node_words refl w v e
 
 -- and what follows it has no rows
-abbrev AreSmall : List (List ℕ × Want) → Type 0
+abbrev pub AreSmall : List (List ℕ × Want) → Type 0
 AreSmall [] = Unit {0}
 AreSmall (e ∷ es) = IsSmall e.1 × AreSmall es
 
-listed_small : (entries : List (List ℕ × Want)) → AreSmall entries → (w : List ℕ) (v : Want) → listed entries w ≡ Some v → IsSmall v
+pub listed_small : (entries : List (List ℕ × Want)) → AreSmall entries → (w : List ℕ) (v : Want) → listed entries w ≡ Some v → IsSmall v
 listed_small [] a w v e = absurd cc
 listed_small (x ∷ xs) a w v e = by_test (bytes_eq x.0 w) e (λ h. listed_small xs a.1 w v h)
   where
@@ -182,22 +182,22 @@ pub record IsGoodLine (lets : Bool) (bytes : List ℕ) (nodes : ℕ) (as_let : B
 argument_is : (names : List (List ℕ)) (t : Term) → IsSpelledTerm names t → is_closed t ≡ true → IsArgument (argument_text t (term_text names t))
 argument_is names t s c = record { names = names; term = t; spelled = s; closed = c; is = refl }
 
-number_is : (n : ℕ) → n < 2 ^ 32 → IsNumber (decimal n)
+pub number_is : (n : ℕ) → n < 2 ^ 32 → IsNumber (decimal n)
 number_is n s = record { number = n; small = s; is = refl }
 
-set_is : (s : List ℕ) → AreLabels s → rises s ≡ true → IsSet (set_text s)
+pub set_is : (s : List ℕ) → AreLabels s → rises s ≡ true → IsSet (set_text s)
 set_is s a r = record { labels = s; small = a; rising = r; is = refl }
 
-last : (text : List ℕ) → 32 ∷ text ≡ 32 ∷ (text ++ [])
+pub last : (text : List ℕ) → 32 ∷ text ≡ 32 ∷ (text ++ [])
 last text = ap (λ z. 32 ∷ z) (sym (append-nil text))
 
-number_last : (i n : ℕ) → n < 2 ^ 32 → Reads (Good 0) (Then Number Nothing) i 0 (32 ∷ decimal n)
+pub number_last : (i n : ℕ) → n < 2 ^ 32 → Reads (Good 0) (Then Number Nothing) i 0 (32 ∷ decimal n)
 number_last i n s = more Number (decimal n) [] Nothing (last (decimal n)) refl (number_is n s) line_end (ends refl refl refl)
 
 argument_last : (names : List (List ℕ)) (i : ℕ) (t : Term) → IsSpelledTerm names t → is_closed t ≡ true → Reads (Good 0) (Then Argument Nothing) i 0 (term_field names t)
 argument_last names i t s c = let text = argument_text t (term_text names t) in more Argument text [] Nothing (last text) refl (argument_is names t s c) line_end (ends refl refl refl)
 
-parts_end : (ps : List PartLine) → IsAtEnd (flat_map part_field ps)
+pub parts_end : (ps : List PartLine) → IsAtEnd (flat_map part_field ps)
 parts_end [] = line_end
 parts_end (Labels s ∷ ps) = space
 parts_end (Free ∷ ps) = space
@@ -206,7 +206,7 @@ terms_end : (names : List (List ℕ)) (ts : List Term) (rest : List ℕ) → IsA
 terms_end names [] rest x = x
 terms_end names (t ∷ ts) rest x = space
 
-parts_read : (v : Want) (ps : List PartLine) (n m : ℕ) → may_end v ≡ true → after_field v Set ≡ Some Premises → after_field v Mark ≡ Some Premises → All IsSpelledPart ps → list_all part_rises ps ≡ true → Reads (Good (m + length ps)) v n m (flat_map part_field ps)
+pub parts_read : (v : Want) (ps : List PartLine) (n m : ℕ) → may_end v ≡ true → after_field v Set ≡ Some Premises → after_field v Mark ≡ Some Premises → All IsSpelledPart ps → list_all part_rises ps ≡ true → Reads (Good (m + length ps)) v n m (flat_map part_field ps)
 parts_read v [] n m e f g a r = ends refl e (ap Good (let z : m + 0 ≡ m = omega arith in z))
 parts_read v (Labels s ∷ ps) n m e f g a r =
     let b = and_right (rises s) (list_all part_rises ps) r in
@@ -239,7 +239,7 @@ clause_read names n k ts ps i s l =
     (more Number (decimal k) behind Arguments refl refl (number_is k s.1.0) (terms_end names ts rest (parts_end ps))
     (terms_read (Good (length ps)) names ts rest (i + 1 + length (decimal n) + 1 + length (decimal k)) 0 (parts_end ps) parts s.1.1.0 closed))
 
-tensor_read : (s t : List ℕ) (i : ℕ) → AreLabels s × AreLabels t → is_line (TensorLine s t) ≡ true → Reads (Good 2) (Then Set (Then Set Nothing)) i 0 (32 ∷ (set_text s ++ 32 ∷ set_text t))
+pub tensor_read : (s t : List ℕ) (i : ℕ) → AreLabels s × AreLabels t → is_line (TensorLine s t) ≡ true → Reads (Good 2) (Then Set (Then Set Nothing)) i 0 (32 ∷ (set_text s ++ 32 ∷ set_text t))
 tensor_read s t i a l =
     more Set (set_text s) (32 ∷ set_text t) (Then Set Nothing) refl refl (set_is s a.0 (and_left (rises s) (rises t) l)) space
     (more Set (set_text t) [] Nothing (last (set_text t)) refl (set_is t a.1 (and_right (rises s) (rises t) l)) line_end (ends refl refl refl))

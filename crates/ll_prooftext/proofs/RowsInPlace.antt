@@ -78,14 +78,14 @@ cells_among : (names : List (List ℕ)) (rows ts : List Term) (text : List ℕ) 
 cells_among names rows ts text h no_cells = All-nil (λ u. is_among rows u ≡ true)
 cells_among names rows ts text h (next_cell {t = t} {ts = others} {text = w} {rest = rest} s f) = All-append (λ u. is_among rows u ≡ true) (completed t) (flat_map completed others) (stands_among names rows t w h s) (cells_among names rows others rest h f)
 
-among_pushed : (rows : List Term) (t : Term) → is_among (rows ++ t ∷ []) t ≡ true
+pub among_pushed : (rows : List Term) (t : Term) → is_among (rows ++ t ∷ []) t ≡ true
 among_pushed rows t = among-append rows (t ∷ []) t ∙ ap (λ b. is_among rows t || (b || false)) (term_itself t) ∙ or_true (is_among rows t)
   where
     or_true : (b : Bool) → (b || true) ≡ true
     or_true true = refl
     or_true false = refl
 
-pushed_cases : (rows : List Term) (t u : Term) → is_among (rows ++ t ∷ []) u ≡ true → (P : Type 0) → (is_among rows u ≡ true → P) → (u ≡ t → P) → P
+pub pushed_cases : (rows : List Term) (t u : Term) → is_among (rows ++ t ∷ []) u ≡ true → (P : Type 0) → (is_among rows u ≡ true → P) → (u ≡ t → P) → P
 pushed_cases rows t u h P f g = by (is_among rows u) refl (term_eq u t) refl (sym (among-append rows (t ∷ []) u) ∙ h)
   where
     by : (a : Bool) → is_among rows u ≡ a → (b : Bool) → term_eq u t ≡ b → (a || (b || false)) ≡ true → P

@@ -125,7 +125,7 @@ behind-append : (before xs ys : List Term) → AreBehind before xs → AreBehind
 behind-append before [] ys h k = subst (λ bs. AreBehind bs ys) (append-nil before) k
 behind-append before (x ∷ xs) ys h k = (h.0, behind-append (before ++ x ∷ []) xs ys h.1 (subst (λ bs. AreBehind bs ys) (sym (append_assoc before (x ∷ []) xs)) k))
 
-are_themselves : (before xs : List Term) → AreAmong (before ++ xs) xs
+pub are_themselves : (before xs : List Term) → AreAmong (before ++ xs) xs
 are_themselves before [] = All-nil (λ t. is_among (before ++ []) t ≡ true)
 are_themselves before (x ∷ xs) =
     All-cons (λ t. is_among (before ++ x ∷ xs) t ≡ true) x xs (among_right before (x ∷ xs) x (ap (λ b. b || is_among xs x) (term_itself x)))

@@ -86,7 +86,7 @@ put_back (ClauseLine n k ws ps) ts us e = by_cut (cut_parts ps ts) refl e
     by_cut (Cuts parts others) f g = put_one (length ps) (ClauseNode n k ws parts) others ts us g (cut_back ps ts parts others f)
 
 -- nodes that make so many trees lack no node, where so many are wanted
-trees_missing : (ns : List Line) (ts : List Tree) → trees_of ns ≡ Some ts → missing (length ts) ns ≡ Some 0
+pub trees_missing : (ns : List Line) (ts : List Tree) → trees_of ns ≡ Some ts → missing (length ts) ns ≡ Some 0
 trees_missing [] ts e = ap (λ z. Some z) (let q : ts ≡ [] = cc in ap length q)
 trees_missing (n ∷ ns) us e = by_trees (trees_of ns) refl e (λ ts f. trees_missing ns ts f)
   where
@@ -98,10 +98,10 @@ trees_missing (n ∷ ns) us e = by_trees (trees_of ns) refl e (λ ts f. trees_mi
 
 -- ---- no LF
 
-abbrev HasNoEnd : List ℕ → Type 0
+abbrev pub HasNoEnd : List ℕ → Type 0
 HasNoEnd w = list_all (is_not 10) w ≡ true
 
-joined : (a b : List ℕ) → HasNoEnd a → HasNoEnd b → HasNoEnd (a ++ b)
+pub joined : (a b : List ℕ) → HasNoEnd a → HasNoEnd b → HasNoEnd (a ++ b)
 joined a b h l = list_all-append (is_not 10) a b ∙ (rw (h, l) refl)
 
 higher : (b : ℕ) → 10 < b → is_not 10 b ≡ true
@@ -123,17 +123,17 @@ name_free : (w : List ℕ) → is_name w ≡ true → HasNoEnd w
 name_free [] h = refl
 name_free (b ∷ w) h = let k = both (is_lower b) (list_all is_word_byte w) h in let a = higher b (lower_high b k.0) in let t = words_free w k.1 in rw (a, t) refl
 
-number_free : (n : ℕ) → n < 2 ^ 64 → HasNoEnd (decimal n)
+pub number_free : (n : ℕ) → n < 2 ^ 64 → HasNoEnd (decimal n)
 number_free n h = decimal_not 10 n h (inl (omega arith))
 
-small_free : (n : ℕ) → n < 2 ^ 32 → HasNoEnd (decimal n)
+pub small_free : (n : ℕ) → n < 2 ^ 32 → HasNoEnd (decimal n)
 small_free n h = number_free n (omega arith)
 
 signed_free : (z : ℤ) → FitsSigned w64 z → HasNoEnd (signed_decimal z)
 signed_free (pos n) f = let l : n < 2 ^ 63 = mag_small (pos n) f in number_free n (omega arith)
 signed_free (negsuc n) f = let l : n < 2 ^ 63 = mag_small (negsuc n) f in number_free (suc n) (omega arith)
 
-word_free : (w : List ℕ) (p : Shape) → IsWord w p → HasNoEnd w
+pub word_free : (w : List ℕ) (p : Shape) → IsWord w p → HasNoEnd w
 word_free w Wanted i = absurd i
 word_free w Applied i = absurd i
 word_free w Bare (name p) = name_free w (name_shaped w p.spelled)
@@ -178,7 +178,7 @@ terms_free : (names : List (List ℕ)) (ts : List Term) → All (IsSpelledTerm n
 terms_free names [] a = refl
 terms_free names (t ∷ ts) a = joined (term_field names t) (flat_map (term_field names) ts) (term_free names t (All-head (IsSpelledTerm names) t ts a)) (terms_free names ts (All-tail (IsSpelledTerm names) t ts a))
 
-parts_free : (ps : List PartLine) → All IsSpelledPart ps → HasNoEnd (flat_map part_field ps)
+pub parts_free : (ps : List PartLine) → All IsSpelledPart ps → HasNoEnd (flat_map part_field ps)
 parts_free [] a = refl
 parts_free (Labels s ∷ ps) a = joined (field (set_text s)) (flat_map part_field ps) (set_free s (All-head IsSpelledPart (Labels s) ps a)) (parts_free ps (All-tail IsSpelledPart (Labels s) ps a))
 parts_free (Free ∷ ps) a = parts_free ps (All-tail IsSpelledPart Free ps a)
@@ -186,13 +186,13 @@ parts_free (Free ∷ ps) a = parts_free ps (All-tail IsSpelledPart Free ps a)
 -- ---- lines
 
 -- a line that a text can hold, and some bytes
-abbrev IsFull : List ℕ → Type 0
+abbrev pub IsFull : List ℕ → Type 0
 IsFull w = HasNoEnd w × (w ≡ [] → ⊥)
 
-full : (b : ℕ) (w : List ℕ) → b ∷ w ≡ [] → ⊥
+pub full : (b : ℕ) (w : List ℕ) → b ∷ w ≡ [] → ⊥
 full b w e = cc
 
-node_full : (names : List (List ℕ)) (x : Line) → IsSpelledLine names x → IsFull (node_text names x)
+pub node_full : (names : List (List ℕ)) (x : Line) → IsSpelledLine names x → IsFull (node_text names x)
 node_full names OneLine s = (refl, full _ _)
 node_full names EraseLine s = (refl, full _ _)
 node_full names WithLine s = (refl, full _ _)
@@ -212,7 +212,7 @@ node_full names (ClauseLine n k ts ps) s =
     let g = joined (decimal n) (field (decimal k) ++ behind) (small_free n s.0) (joined (decimal k) behind (small_free k s.1.0) f) in
     (ap (list_all (is_not 10)) (clause_text names n k ts ps) ∙ g, full _ _)
 
-abbrev AreFull : List (List ℕ) → Type 0
+abbrev pub AreFull : List (List ℕ) → Type 0
 AreFull [] = Unit {0}
 AreFull (l ∷ ls) = IsFull l × AreFull ls
 
@@ -225,7 +225,7 @@ lets_full names [] rest a f = f
 lets_full names (t ∷ ts) rest a f = ((term_free names t (All-head (IsSpelledTerm names) t ts a), full _ _), lets_full names ts rest (All-tail (IsSpelledTerm names) t ts a) f)
 
 -- lines with their ends are taken apart again
-lines_of_ended : (ls : List (List ℕ)) → AreFull ls → text_lines (flat_map with_end ls) ≡ ls
+pub lines_of_ended : (ls : List (List ℕ)) → AreFull ls → text_lines (flat_map with_end ls) ≡ ls
 lines_of_ended [] f = refl
 lines_of_ended (l ∷ ls) f =
     ap text_lines (append_assoc l (10 ∷ []) (flat_map with_end ls)) ∙ (lines_more l (flat_map with_end ls) f.0.0 ∙ ap (λ z. l ∷ z) (lines_of_ended ls f.1))
@@ -258,7 +258,7 @@ nothing_ends : (text : List ℕ) → text ++ 10 ∷ [] ≡ [] → ⊥
 nothing_ends [] e = cc
 nothing_ends (b ∷ bs) e = cc
 
-lines_of_open : (ls : List (List ℕ)) (text : List ℕ) → AreFull ls → text ++ 10 ∷ [] ≡ flat_map with_end ls → text_lines text ≡ ls
+pub lines_of_open : (ls : List (List ℕ)) (text : List ℕ) → AreFull ls → text ++ 10 ∷ [] ≡ flat_map with_end ls → text_lines text ≡ ls
 lines_of_open [] text f e = absurd (nothing_ends text e)
 lines_of_open (l ∷ []) text f e =
     let q : text ≡ l = append_cancel_right text l (10 ∷ []) (e ∙ append-nil (with_end l)) in

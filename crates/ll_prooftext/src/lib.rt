@@ -26,7 +26,7 @@ mod terms;
 mod versions;
 mod words;
 
-pub use crate::laws::one_derivation;
+pub use crate::laws::{one_derivation, one_fault_over_a_table};
 use crate::lines::{write_asked, write_nodes, write_version};
 pub use crate::reader::read;
 pub use crate::shared_reader::read2;

@@ -1,0 +1,9 @@
+use Rattle.ll_prooftext.proofs.OneFault2.{one_fault2}
+use Rattle.ll_prooftext.proofs.OneText2.{no_fault2}
+use Rattle.ll_prooftext.proofs.laws.one_fault_over_a_table.Goals as goal
+
+pub returns-clause-fault : goal.returns-clause-fault
+returns-clause-fault c = one_fault2
+
+pub returns-clause-not_both : goal.returns-clause-not_both
+returns-clause-not_both c = λ names text d f distinct short t h. no_fault2 names text d t short distinct f h

@@ -7,3 +7,4 @@ pub mod Endings
 pub mod Running
 pub mod Finishing
 pub mod Claiming
+mod AloneLemmas

@@ -13,6 +13,7 @@ ghost use Rattle.ll_crew.specs.Crews.{worker_of, without_all, IsBack, GivesPrefi
 ghost use Rattle.ll_crew.specs.Leading.{Kept, Leads};
 ghost use Rattle.ll_crew.specs.Turns.{CanWork};
 
+use crate::alone::search_alone;
 use crate::bell::Bell;
 use crate::crowd::work_together;
 use crate::lead::Told;
@@ -77,7 +78,7 @@ pub enum CrewFault {
     OutOfMemory,
 }
 
-fn fault_of(fault: OutFault) -> CrewFault
+pub(crate) fn fault_of(fault: OutFault) -> CrewFault
     ensures { result ≡ CrewFault.Write → fault ≡ OutFault.Write }
 {
     match fault {
@@ -166,7 +167,8 @@ fn search<'p, R: Threads + Wait + Sync, G: Gate, O: Outlet>(
 }
 
 /// Searches a valid problem with 1 to 64 workers, of which the caller is the first, and gives the outlet the events of the search in
-/// order, each as soon as it is known that it is the next. With one worker no thread is started.
+/// order, each as soon as it is known that it is the next. One worker alone starts no thread and shares nothing: it gives each event when
+/// it finds it.
 ///
 /// `Ok` has the counts of the events and the cost of the search. On a refusal a prefix of the events was given. `Write` only where the
 /// outlet's count of faults rose. A worker for which no thread can be started has its share done by the others.
@@ -188,6 +190,10 @@ pub fn crew<'p, R: Threads + Wait + Sync, G: Gate, O: Outlet>(
     ensures faults_kept { O.faults out.old ≤ O.faults out.new }
     ensures welcome_kept { (e : Event) → O.welcome out.old e ↔ O.welcome out.new e }
 {
+    if workers == 1 {
+        gate.pause(0, 0);
+        return search_alone(alloc, problem, out);
+    }
     let Ok(root) = Frozen::start(alloc, problem) else {
         return Err(CrewFault::OutOfMemory);
     };

@@ -1,0 +1,84 @@
+//! A search by the caller alone.
+ghost use Rattle.std.specs.Prelude.{◌≡◌, ◌+◌, ◌≤◌, [], ◌∷◌, Err, IfOk, OnOk, OnErr, count_by};
+ghost use Rattle.ll_laws.specs.Problem.{problem_events, problem_cost};
+ghost use Rattle.ll_laws.specs.Search.{cut_count, is_answer, is_reached};
+ghost use Rattle.ll_laws.specs.Sound.{Every};
+ghost use Rattle.ll_laws.specs.Valid.{IsValid};
+ghost use Rattle.ll_order.specs.Outlets.{Rose, Gives, CountsOf};
+ghost use Rattle.ll_crew.specs.declared.whole.CrewFault.{CrewFault};
+ghost use Rattle.ll_crew.specs.Crews.{GivesPrefix};
+ghost use Rattle.ll_crew.specs.Leading.{Kept};
+
+use crate::whole::{CrewFault, fault_of};
+use ll_engine::{Engine, Step2};
+use ll_laws::{Counts, Event, Problem};
+use ll_order::{Outlet, give};
+use std::alloc::Global;
+
+// Gives the outlet an event, which is welcome, and counts it.
+fn give_one<O: Outlet>(
+    alloc: Global,
+    event: Event,
+    counts: Counts,
+    out: &mut O,
+) -> Result<Counts, CrewFault>
+    requires welcome { Every (O.welcome out.old) (event ∷ []) }
+    requires few { (counts.answers ≤ 18446744073709551615) × (counts.reached ≤ 18446744073709551615) }
+    ensures given { OnOk result (Gives O.takes out.old (event ∷ []) out.new) }
+    ensures answers { IfOk result (λ new. new.answers ≡ cut_count (counts.answers + count_by is_answer (event ∷ []))) }
+    ensures reached { IfOk result (λ new. new.reached ≡ cut_count (counts.reached + count_by is_reached (event ∷ []))) }
+    ensures refused { OnErr result (GivesPrefix O.takes O.breaks out.old (event ∷ []) out.new) }
+    ensures write { result ≡ Err CrewFault.Write → Rose (O.faults out.old) (O.faults out.new) }
+    ensures kept { Kept O.takes O.breaks O.welcome O.faults out.old out.new }
+{
+    let mut events = Vec::new(alloc);
+    let Ok(()) = events.push(event) else {
+        return Err(CrewFault::OutOfMemory);
+    };
+    match give(events, out, counts) {
+        Ok(counts) => Ok(counts),
+        Err(fault) => Err(fault_of(fault)),
+    }
+}
+
+/// Searches a valid problem by one engine, and gives the outlet each event as soon as it is found. Its clauses are those of
+/// [`crew`](crate::crew).
+pub(crate) fn search_alone<'p, O: Outlet>(
+    alloc: Global,
+    problem: &'p Problem,
+    out: &mut O,
+) -> Result<Counts, CrewFault>
+    requires valid { IsValid problem.now }
+    requires welcome { Every (O.welcome out.old) (problem_events problem.now) }
+    ensures given { OnOk result (Gives O.takes out.old (problem_events problem.entry.now) out.new) }
+    ensures counts { IfOk result (λ counts. CountsOf counts (problem_events problem.entry.now) (problem_cost problem.entry.now)) }
+    ensures refused { OnErr result (GivesPrefix O.takes O.breaks out.old (problem_events problem.entry.now) out.new) }
+    ensures write { result ≡ Err CrewFault.Write → Rose (O.faults out.old) (O.faults out.new) }
+    ensures kept { Kept O.takes O.breaks O.welcome O.faults out.old out.new }
+{
+    let Ok(mut engine) = Engine::start(alloc, problem) else {
+        return Err(CrewFault::OutOfMemory);
+    };
+    let mut counts = Counts {
+        answers: 0,
+        reached: 0,
+        inferences: 0,
+    };
+    'events: loop {
+        let Ok(step) = engine.step() else {
+            return Err(CrewFault::OutOfMemory);
+        };
+        match step {
+            Step2::Moved => {}
+            Step2::Event(event) => match give_one(alloc, event, counts, out) {
+                Ok(more) => counts = more,
+                Err(fault) => return Err(fault),
+            },
+            Step2::Done => break,
+        }
+    }
+    Ok(Counts {
+        inferences: engine.cost(),
+        ..counts
+    })
+}

@@ -27,6 +27,7 @@ impl<'f, O: Sink> Sink for Flagged<'f, O> {
 }
 
 /// Holds worker 1 at its first pause until a sink was called.
+#[derive(Drop)]
 struct Late<'f> {
     called: &'f AtomicU64,
     came: &'f AtomicU64,
@@ -85,6 +86,6 @@ fn a_failed_write_stops_all_workers(rt: HostRuntime) -> Result<(), Fail> {
     let mut sink = MemSink::new(alloc, 16_777_216, failing)?;
     let status = run_choices(&rt, alloc, program, "4", &mut sink, &OpenGate)?;
     assert_eq!(rt; status, 6);
-    assert_eq!(rt; sink.bytes(), b"");
+    assert_eq!(rt; sink.bytes(), b"".as_slice());
     Ok(())
 }

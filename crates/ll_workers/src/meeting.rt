@@ -126,18 +126,13 @@ fn workers_claim_side_by_side(rt: HostRuntime) -> Result<(), Fail> {
     let gate = Meeting::new();
     let mut shelf = no_texts(alloc);
     let mut sink = sink(alloc)?;
-    let words = [
-        "make",
-        "choice",
-        "12",
-        "--bound",
-        "100",
-        "--workers",
-        "3",
-    ];
+    let words = ["make", "choice", "12", "--bound", "100", "--workers", "3"];
     let status = lolli(&rt, alloc, &words, &mut shelf, &mut sink, &gate);
     assert_eq!(rt; status, 0);
-    assert_eq!(rt; sink.bytes(), b"answers 4096, bound reached 0, inferences 6143\n");
+    assert_eq!(rt;
+        sink.bytes(),
+        b"answers 4096, bound reached 0, inferences 6143\n".as_slice()
+    );
     assert_eq!(rt; gate.missed.load(Ordering::SeqCst), 0);
     assert!(rt; gate.second.has_come());
     assert!(rt; gate.third.has_come());

@@ -38,7 +38,15 @@ pub fn run_choices<R: Threads + Wait + Sync, O: Sink, G: Gate>(
         Vec::from_slice(alloc, b"go X")?,
     ))?;
     let mut shelf = MemShelf::new(texts, Vec::new(alloc));
-    let words = ["run", "prog", "ques", "--bound", "100", "--workers", workers];
+    let words = [
+        "run",
+        "prog",
+        "ques",
+        "--bound",
+        "100",
+        "--workers",
+        workers,
+    ];
     let status = lolli(rt, alloc, &words, &mut shelf, sink, gate);
     Ok(status)
 }

@@ -1,13 +1,7 @@
-//! Tests of the front end: rows of texts, what each is read as, and how it is written.
+//! Tests of the outside, and of the texts of answers.
 #![tactic(auto)]
 
 #[cfg(test)]
 mod answers;
 #[cfg(test)]
 mod edge;
-#[cfg(test)]
-mod lexer;
-#[cfg(test)]
-mod prooftext;
-#[cfg(test)]
-mod prooftext2;

@@ -21,7 +21,10 @@ const READ: [(&str, &str); 5] = [
         "proof 2\nshare #3 a\nshare f @0 @0\nclause 0 0 @1 {1} !\ntrue\ntrue\n",
         "proof 1\nclause 0 0 (f (#3 a) (#3 a)) {1} !\ntrue\ntrue\n",
     ),
-    ("proof 2\nlet a\ntensor {0} {}\nerase\ntrue\n", "proof 1\nlet a\ntensor {0} {}\nerase\ntrue\n"),
+    (
+        "proof 2\nlet a\ntensor {0} {}\nerase\ntrue\n",
+        "proof 1\nlet a\ntensor {0} {}\nerase\ntrue\n",
+    ),
 ];
 
 // A text of at most 2,000 bytes, read over no names.
@@ -91,10 +94,30 @@ const FAULTS: [(&str, u32, u32, u8); 30] = [
     ("proof 2\nclause 0 0 a {} b\n", 2, 17, 14),
     ("proof 2\nshare f 1\ntrue\n", 2, 1, 18),
     ("proof 2\nshare f a\nshare f a\nlet @1\ntrue\n", 3, 1, 18),
-    ("proof 2\nshare f b\nshare f a\nlet @1\nlet @0\ntrue\n", 2, 1, 18),
-    ("proof 2\nshare f a\nshare g @0\nshare h a\nlet @1\ntrue\n", 4, 1, 18),
-    ("proof 2\nshare f a\nshare f a\nshare g @1\nlet @2\ntrue\n", 3, 1, 18),
-    ("proof 2\nshare g a\nshare f a\nshare h @1 @0\nlet @2\ntrue\n", 2, 1, 18),
+    (
+        "proof 2\nshare f b\nshare f a\nlet @1\nlet @0\ntrue\n",
+        2,
+        1,
+        18,
+    ),
+    (
+        "proof 2\nshare f a\nshare g @0\nshare h a\nlet @1\ntrue\n",
+        4,
+        1,
+        18,
+    ),
+    (
+        "proof 2\nshare f a\nshare f a\nshare g @1\nlet @2\ntrue\n",
+        3,
+        1,
+        18,
+    ),
+    (
+        "proof 2\nshare g a\nshare f a\nshare h @1 @0\nlet @2\ntrue\n",
+        2,
+        1,
+        18,
+    ),
     ("proof 2\nshare f 1\ntrue\ntrue\n", 4, 1, 16),
 ];
 
@@ -110,7 +133,8 @@ fn first_faults_over_a_table(rt: HostRuntime) {
 }
 
 // A term of forty doublings, which has 2^40 leaves.
-const DOUBLINGS: &str = "proof 2\nshare f a a\nshare f @0 @0\nshare f @1 @1\nshare f @2 @2\nshare f @3 @3\nshare f @4 @4\nshare f @5 @5\nshare f @6 @6\nshare f @7 @7\nshare f @8 @8\nshare f @9 @9\nshare f @10 @10\nshare f @11 @11\nshare f @12 @12\nshare f @13 @13\nshare f @14 @14\nshare f @15 @15\nshare f @16 @16\nshare f @17 @17\nshare f @18 @18\nshare f @19 @19\nshare f @20 @20\nshare f @21 @21\nshare f @22 @22\nshare f @23 @23\nshare f @24 @24\nshare f @25 @25\nshare f @26 @26\nshare f @27 @27\nshare f @28 @28\nshare f @29 @29\nshare f @30 @30\nshare f @31 @31\nshare f @32 @32\nshare f @33 @33\nshare f @34 @34\nshare f @35 @35\nshare f @36 @36\nshare f @37 @37\nshare f @38 @38\nlet @39\ntrue\n";
+const DOUBLINGS: &str =
+    "proof 2\nshare f a a\nshare f @0 @0\nshare f @1 @1\nshare f @2 @2\nshare f @3 @3\nshare f @4 @4\nshare f @5 @5\nshare f @6 @6\nshare f @7 @7\nshare f @8 @8\nshare f @9 @9\nshare f @10 @10\nshare f @11 @11\nshare f @12 @12\nshare f @13 @13\nshare f @14 @14\nshare f @15 @15\nshare f @16 @16\nshare f @17 @17\nshare f @18 @18\nshare f @19 @19\nshare f @20 @20\nshare f @21 @21\nshare f @22 @22\nshare f @23 @23\nshare f @24 @24\nshare f @25 @25\nshare f @26 @26\nshare f @27 @27\nshare f @28 @28\nshare f @29 @29\nshare f @30 @30\nshare f @31 @31\nshare f @32 @32\nshare f @33 @33\nshare f @34 @34\nshare f @35 @35\nshare f @36 @36\nshare f @37 @37\nshare f @38 @38\nlet @39\ntrue\n";
 
 #[test]
 fn doublings_are_read_at_once(rt: HostRuntime) -> Result<(), Fail> {

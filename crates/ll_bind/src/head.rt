@@ -15,6 +15,7 @@ use ll_bank::{At, Bank, Head, OutOfMemory, TermView};
 use ll_bindings::{Fresh, unify_next, walk};
 use ll_close::close_term;
 use ll_store::Store;
+use smallvec::SmallVec;
 use std::alloc::Global;
 
 /// The term at a place, and a pattern that it has to match.
@@ -23,6 +24,18 @@ pub struct Equation {
     pub place: At,
     pub pattern: At,
 }
+
+impl Default for Equation {
+    fn default() -> Self {
+        Equation {
+            place: At(0),
+            pattern: At(0),
+        }
+    }
+}
+
+// Equations that are still to be looked at. Few of them take no memory.
+type Equations = SmallVec<Equation, 8>;
 
 /// What becomes of a term and a pattern.
 #[derive(Clone, Copy)]
@@ -57,7 +70,7 @@ fn is_place(head: Head) -> bool
 fn push_arguments(
     places: &[At],
     patterns: &[At],
-    equations: &mut Vec<Equation>,
+    equations: &mut Equations,
 ) -> Result<(), OutOfMemory>
     requires { length places.now ≡ length patterns.now }
     ensures { OnOk result (reverse equations.new.items ≡ equate places.now patterns.now ++ reverse equations.old.items) }
@@ -78,7 +91,7 @@ fn open(
     bank: &Bank,
     place: At,
     pattern: At,
-    equations: &mut Vec<Equation>,
+    equations: &mut Equations,
 ) -> Result<Opened, OutOfMemory>
     requires place { HasTerm bank.now place.0 }
     requires pattern { HasTerm bank.now pattern.0 }
@@ -217,7 +230,7 @@ pub fn unify_head(
     ensures marks { KeepsMarks (stored store.old) (stored store.new) }
 {
     let mut fresh = Fresh::from(first);
-    let mut equations = Vec::new(alloc);
+    let mut equations = Equations::new(alloc);
     equations.push(Equation {
         place: atom,
         pattern: head,

@@ -71,12 +71,12 @@ same-places ats bts n h = ext_get_or (record { 0 = 0 }) ats bts n (λ k l. one (
 
 -- ---- building
 
-sub-apply : (s : ℕ → Term) (f : Term) (ts : List Term) → sub s (apply f ts) ≡ apply (sub s f) (map (sub s) ts)
+pub sub-apply : (s : ℕ → Term) (f : Term) (ts : List Term) → sub s (apply f ts) ≡ apply (sub s f) (map (sub s) ts)
 sub-apply s f [] = refl
 sub-apply s f (u ∷ ts) = sub-apply s (Ap f u) ts
 
 -- a term is its head with its arguments
-spine-is : (u : Term) (h : Head) → head_of u ≡ Some h → u ≡ app h (args_in u)
+pub spine-is : (u : Term) (h : Head) → head_of u ≡ Some h → u ≡ app h (args_in u)
 spine-is (Var x) h e = cc
 spine-is (Int z) h e = cc
 spine-is (Con k) h e = cc
@@ -333,9 +333,9 @@ module _ (first : Nodes) (t : Table) (whole : Term) (tb : IsTable first t) where
           lowest-frame (x ∷ gs) g = refl
 
   -- what the frame on top has is what its copy is built of
-  pub copy-own : (nodes : Nodes) (made : List At) (last : At) (items fs : List Frame) (f : Frame) → Extends first nodes → IsCopied first nodes t whole made last items → items ≡ fs ++ f ∷ [] → length (args_in (frame_tree first f)) ≤ f.next
+  pub copy-own : (nodes : Nodes) (made : List At) (last : At) (items fs : List Frame) (f : Frame) → IsCopied first nodes t whole made last items → items ≡ fs ++ f ∷ [] → length (args_in (frame_tree first f)) ≤ f.next
       → (f.next ≤ length made) × AllInTerms nodes (drop (length made - f.next) made) × (term_trees nodes (drop (length made - f.next) made) ≡ map (sub (found first t)) (args_in (frame_tree first f)))
-  copy-own nodes made last items fs f x h i l =
+  copy-own nodes made last items fs f h i l =
       let p = copy-top nodes made last items fs f h i in
       let n = args-count nodes (found first t) (frame_tree first f) f.next p.own p.copies in
       let b = behind made p.below p.own f.next p.is n in
@@ -392,7 +392,7 @@ module _ (first : Nodes) (t : Table) (whole : Term) (tb : IsTable first t) where
       let p = copy-top old made last items fs f h i in
       let q = term_tree-extends e f.at.0 p.end.place.inside in
       let l2 : length (args_in (frame_tree first f)) ≤ f.next = subst (λ u. length (args_in u) ≤ f.next) q l in
-      let o = copy-own old made last items fs f e h i l2 in
+      let o = copy-own old made last items fs f h i l2 in
       subst (λ u. ShowsTerm new copy.0 (sub (found first t) u)) q
       (b (found first t) (o.2 ∙ ap (λ u. map (sub (found first t)) (args_in u)) (sym q)) (λ x v. end-var first t f.at.0 x tb p.end (sym q ∙ v)))
 
@@ -406,23 +406,29 @@ pub rest-is : (xs ys : List At) (n m : ℕ) → n ≡ m → xs ≡ ys → take (
 rest-is xs ys n m e q = take_all (length xs - n) (drop n xs) (let l = length-drop n xs in omega arith) ∙ (λ i. drop (e i) (q i))
 
 -- no place is read yet
-pub read-none : (first : Nodes) (t : Table) → AreRead first first t [] []
-read-none first t = record { inside = λ k d l. absurd (omega arith); shows = refl }
+pub read-none : (first nodes : Nodes) (t : Table) → AreRead first nodes t [] []
+read-none first nodes t = record { inside = λ k d l. absurd (omega arith); shows = refl }
 
 -- one more place is read
-pub read-more : (first base new : Nodes) (t : Table) (n m : ℕ) (places made : List At) (d at copy : At) → IsTable first t → Extends first base → Extends base new → n < length places → m ≡ n + 1 → get_or places n d ≡ at → HasTerm first at.0
-    → AreRead first base t (term_trees first (take n places)) made → ShowsTerm new copy.0 (sub (found base t) (term_tree base at.0)) → AreRead first new t (term_trees first (take m places)) (made ++ copy ∷ [])
-read-more first base new t n m places made d at copy h e g l k q i r c = record {
+pub carried-more : (first old new : Nodes) (t : Table) (n m : ℕ) (places made : List At) (d at copy : At) → Extends old new → n < length places → m ≡ n + 1 → get_or places n d ≡ at
+    → AreRead first old t (term_trees first (take n places)) made → ShowsTerm new copy.0 (sub (found first t) (term_tree first at.0)) → AreRead first new t (term_trees first (take m places)) (made ++ copy ∷ [])
+carried-more first old new t n m places made d at copy g l k q r c = record {
   inside = All-push (λ (a : At). HasTerm new a.0) made copy (AllInTerms-extends g made r.inside) c.inside;
   shows =
       map-append (λ (a : At). term_tree new a.0) made (copy ∷ [])
-      ∙ ((λ j. (term_trees-extends g made r.inside ∙ r.shows) j ++ (c.tree ∙ sub-extends first base t at.0 h e i) j ∷ [])
+      ∙ ((λ j. (term_trees-extends g made r.inside ∙ r.shows) j ++ c.tree j ∷ [])
       ∙ (sym (map-append (sub (found first t)) (term_trees first (take n places)) (term_tree first at.0 ∷ []))
       ∙ ap (map (sub (found first t))) (sym (map-append (λ (a : At). term_tree first a.0) (take n places) (at ∷ [])) ∙ ap (term_trees first) (sym last))));
 }
   where
     last : take m places ≡ take n places ++ at ∷ []
     last = ap (λ j. take j places) (let e : m ≡ suc n = omega arith in e) ∙ (take-suc places n d l ∙ ap (λ a. take n places ++ a ∷ []) q)
+
+-- one more place is read in the same bank, which grows
+pub read-more : (first base new : Nodes) (t : Table) (n m : ℕ) (places made : List At) (d at copy : At) → IsTable first t → Extends first base → Extends base new → n < length places → m ≡ n + 1 → get_or places n d ≡ at → HasTerm first at.0
+    → AreRead first base t (term_trees first (take n places)) made → ShowsTerm new copy.0 (sub (found base t) (term_tree base at.0)) → AreRead first new t (term_trees first (take m places)) (made ++ copy ∷ [])
+read-more first base new t n m places made d at copy h e g l k q i r c =
+    carried-more first base new t n m places made d at copy g l k q r (record { inside = c.inside; tree = c.tree ∙ sub-extends first base t at.0 h e i })
 
 -- ---- the copies of all cells
 

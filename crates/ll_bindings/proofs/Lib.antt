@@ -11,3 +11,4 @@ pub mod FreshLemmas
 pub mod Settling
 pub mod CallerLemmas
 pub mod Copies
+pub mod Carrying

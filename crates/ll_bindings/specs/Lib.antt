@@ -6,3 +6,4 @@ pub mod Fresh
 pub mod Pairs
 pub mod Solving
 pub mod Copied
+pub mod Carried

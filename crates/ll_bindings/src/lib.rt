@@ -3,6 +3,7 @@
 #![tactic(auto)]
 
 mod bind;
+mod carry;
 mod classes;
 mod equate;
 mod fresh;
@@ -11,6 +12,7 @@ mod read;
 mod scan;
 mod table;
 
+pub use carry::{Carrier, read_into};
 pub use equate::{unify, unify_next};
 pub use fresh::Fresh;
 pub use read::{read_all, read_cells};

@@ -8,6 +8,7 @@ ghost use Rattle.ll_bindings.specs.Scanned.{IsScan, IsKnown, IsLook};
 use crate::classes::{grow, is_worth};
 use crate::table::{Bindings, argument, walk};
 use ll_bank::{At, Bank, Head, OutOfMemory, TermView};
+use smallvec::SmallVec;
 use std::alloc::Global;
 
 /// A term whose arguments before `next` are done.
@@ -17,13 +18,19 @@ pub struct Frame {
     pub next: usize,
 }
 
+impl Default for Frame {
+    fn default() -> Self {
+        Frame { at: At(0), next: 0 }
+    }
+}
+
 /// Places that were looked through, and the variables of all that was.
 #[derive(Drop)]
 pub struct Seen {
     places: Vec<At>,
     slots: Vec<usize>,
     steps: usize,
-    pub vars: Vec<usize>,
+    pub vars: SmallVec<usize, 8>,
 }
 
 impl Seen {
@@ -33,7 +40,7 @@ impl Seen {
             places: Vec::new(alloc),
             slots: Vec::new(alloc),
             steps: 0,
-            vars: Vec::new(alloc),
+            vars: SmallVec::new(alloc),
         }
     }
 
@@ -113,7 +120,7 @@ pub fn scan<T: Bindings>(
     requires vars { seen.old.vars.items ≡ [] }
     ensures { IfOk result (λ good. IsScan (T.table table.now) var level seen.new.vars.items (sub (found bank.now (T.table table.now)) (term_tree bank.now start.0)) good) }
 {
-    let mut frames = Vec::new(alloc);
+    let mut frames: SmallVec<Frame, 8> = SmallVec::new(alloc);
     frames.push(Frame { at: start, next: 0 })?;
     while let Some(frame) = frames.pop() {
         match argument(bank, frame.at, frame.next) {

@@ -10,7 +10,7 @@ ghost use Rattle.ll_close.specs.Stacks.{visit, ready, AreImagesOf, EndsWith};
 
 use crate::images::Images;
 use crate::stack::{Task, push_part};
-use crate::term::closed_term;
+use crate::term::{close_term, closed_term};
 use ll_bank::{At, Bank, FormAt, FormNode, OutOfMemory};
 use std::alloc::Global;
 
@@ -34,6 +34,28 @@ pub fn close_form(
     if values.is_empty() {
         return Ok(form);
     }
+    match bank.form_at(form) {
+        FormNode::Atom(atom) => {
+            let atom = close_term(alloc, bank, atom, values)?;
+            share_form(bank, form, FormNode::Atom(atom))
+        }
+        _ => close_deep(alloc, bank, form, values),
+    }
+}
+
+/// The formula at a place with values for its free bound places, by a stack of its parts.
+fn close_deep(
+    alloc: Global,
+    bank: &mut Bank,
+    form: FormAt,
+    values: &[At],
+) -> Result<FormAt, OutOfMemory>
+    requires inside { HasForm bank.old form.0 }
+    requires values { AllInTerms bank.old values.now }
+    requires heads { form_applies_heads (close_form (env_of bank.old values.now) (form_tree bank.old form.0)) ≡ true }
+    ensures shows { IfOk result (λ made. ShowsForm bank.new made.0 (close_form (env_of bank.old values.now) (form_tree bank.old form.0))) }
+    ensures keeps { Extends bank.old bank.new }
+{
     let mut terms = Images::new(alloc);
     let mut forms = Images::new(alloc);
     let mut made = Vec::new(alloc);

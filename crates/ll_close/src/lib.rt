@@ -1,6 +1,7 @@
 //! Terms and formulas with values in place of all their free bound places at once.
 #![tactic(auto)]
 
+mod flat;
 mod form;
 mod images;
 mod stack;

@@ -7,6 +7,7 @@ ghost use Rattle.ll_bank.specs.Opened.{AreImages, ArePartsOf, term_parts_at, ter
 ghost use Rattle.ll_close.specs.Closing.{env_of, under, same_spot, IsTermImage, IsGoodTerm};
 ghost use Rattle.ll_close.specs.Stacks.{visit, ready, EndsWith};
 
+use crate::flat::{FEW, all_at_hand};
 use crate::images::Images;
 use crate::stack::{Task, push_arguments, push_part};
 use ll_bank::{At, Bank, Head, OutOfMemory, TermView};
@@ -33,6 +34,38 @@ pub fn close_term(alloc: Global, bank: &mut Bank, at: At, values: &[At]) -> Resu
 
 /// The image of a term at a level. Images that are known are shared.
 pub(crate) fn closed_term(
+    alloc: Global,
+    bank: &mut Bank,
+    at: At,
+    level: usize,
+    values: &[At],
+    images: &mut Images,
+) -> Result<At, OutOfMemory>
+    requires inside { HasTerm bank.old at.0 }
+    requires values { AllInTerms bank.old values.now }
+    requires heads { applies_heads (close (under (env_of bank.old values.now) level) (term_tree bank.old at.0)) ≡ true }
+    requires images { AreImages (IsTermImage bank.old (env_of bank.old values.now)) (get same_spot images.old.places) }
+    ensures shows { IfOk result (λ made. ShowsTerm bank.new made.0 (close (under (env_of bank.old values.now) level) (term_tree bank.old at.0))) }
+    ensures images { OnOk result (AreImages (IsTermImage bank.new (env_of bank.old values.now)) (get same_spot images.new.places)) }
+    ensures keeps { Extends bank.old bank.new }
+{
+    match bank.term_at(at) {
+        TermView::Var(_) => Ok(at),
+        TermView::Int(_) => Ok(at),
+        TermView::App(head, args) => {
+            let count = args.len();
+            let mut own = [At(0); FEW];
+            if all_at_hand(bank, args, level, values, &mut own) {
+                closed_head(alloc, bank, at, level, values, head, &own[..count])
+            } else {
+                closed_deep(alloc, bank, at, level, values, images)
+            }
+        }
+    }
+}
+
+/// The image of a term at a level, by a stack of its parts. Images that are known are shared.
+fn closed_deep(
     alloc: Global,
     bank: &mut Bank,
     at: At,

@@ -6,8 +6,8 @@ ghost use Rattle.ll_freeze.specs.Shown.{state_of};
 ghost use Rattle.ll_freeze.specs.Fits.{Fits};
 ghost use Rattle.ll_engine.specs.Turned.{is_empty, answers};
 
-use ll_bank::{FormAt, OutOfMemory};
-use ll_bindings::read_all;
+use ll_bank::{Bank, FormAt, OutOfMemory};
+use ll_bindings::{Carrier, read_into};
 use ll_freeze::Machine;
 use ll_laws::Branch;
 use ll_resources::Context;
@@ -29,14 +29,49 @@ pub fn answers(machine: &Machine<'_>) -> bool
     machine.context.flag() || !has_live(&machine.context)
 }
 
-/// The state as a branch.
-pub fn branch(machine: &Machine<'_>, alloc: Global) -> Result<Branch, OutOfMemory>
+/// What branches are made with. It is kept, so that many branches take memory for it once.
+#[derive(Drop)]
+pub struct Workshop {
+    carrier: Carrier,
+    // Terms of a branch, before they are copied into a bank of their size.
+    grown: Bank,
+}
+
+impl Workshop {
+    /// It takes no memory until it is used.
+    pub fn new(alloc: Global) -> Self {
+        Workshop {
+            carrier: Carrier::new(alloc),
+            grown: Bank::new(alloc),
+        }
+    }
+}
+
+/// The state as a branch, with a bank of its own that holds what its terms are made of and nothing else.
+pub fn branch(
+    machine: &Machine<'_>,
+    alloc: Global,
+    workshop: &mut Workshop,
+) -> Result<Branch, OutOfMemory>
     requires fits { Fits (parts_of machine.now) }
     ensures { IfOk result (λ b. b ≡ record { terms = (state_of (parts_of machine.now)).terms; steps = (state_of (parts_of machine.now)).steps }) }
 {
-    let size = machine.store.bank.size();
-    let mut bank = machine.store.bank.image(size)?;
-    let terms = read_all(alloc, &mut bank, &machine.store.cells, &machine.terms)?;
+    let carrier = &mut workshop.carrier;
+    let grown = &mut workshop.grown;
+    let store = &machine.store;
+    let nothing = Bank::new(alloc);
+    let none = nothing.size();
+    grown.cut(none);
+    let terms = read_into(
+        alloc,
+        carrier,
+        &store.bank,
+        &store.cells,
+        &machine.terms,
+        grown,
+    )?;
+    let size = grown.size();
+    let bank = grown.image(size)?;
     let steps = Vec::from_slice(alloc, machine.steps.as_slice())?;
     Ok(Branch { bank, terms, steps })
 }

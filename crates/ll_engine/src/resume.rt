@@ -7,6 +7,7 @@ ghost use Rattle.ll_freeze.specs.Frozen.{alternatives_in, Thaws};
 ghost use Rattle.ll_engine.specs.Pointed.{spine_of, IsSound};
 ghost use Rattle.ll_engine.specs.Begun.{BeginsIn, Begins};
 
+use crate::answer::Workshop;
 use crate::attempt::attempt;
 use crate::spine::Spine;
 use ll_bank::OutOfMemory;
@@ -43,6 +44,7 @@ impl<'p> Spine<'p> {
             points: VecDeque::new(alloc),
             origin,
             began,
+            workshop: Workshop::new(alloc),
         })
     }
 }

@@ -10,7 +10,7 @@ ghost use Rattle.ll_freeze.specs.Indexed.{IsIndexOf};
 ghost use Rattle.ll_engine.specs.Pointed.{spine_of, helds, IsSound, IsOpen, AreKept, AreMarks, AreTries, Puts, KeepsKept, ChoseOf};
 ghost use Rattle.ll_engine.specs.Turned.{has_none, is_empty, answers, starting, Settles, Expands, Retries};
 
-use crate::answer::{answers, branch, is_empty};
+use crate::answer::{Workshop, answers, branch, is_empty};
 use crate::attempt::attempt;
 use crate::candidates::candidates;
 use crate::settle::settle;
@@ -45,6 +45,8 @@ pub struct Spine<'p> {
     pub origin: Snapshot<Machine<'p>>,
     /// There was a state in which it began.
     pub began: bool,
+    /// What branches are made with.
+    pub workshop: Workshop,
 }
 
 impl<'p> Spine<'p> {
@@ -65,6 +67,7 @@ impl<'p> Spine<'p> {
             points: VecDeque::new(alloc),
             origin,
             began: true,
+            workshop: Workshop::new(alloc),
         })
     }
 
@@ -101,12 +104,14 @@ impl<'p> Spine<'p> {
         self.machine.left()
     }
 
-    /// The state as a branch.
-    pub fn branch(&self) -> Result<Branch, OutOfMemory>
-        requires sound { IsSound true self.now }
-        ensures { IfOk result (λ b. b ≡ record { terms = (state_of (parts_of self.now.machine)).terms; steps = (state_of (parts_of self.now.machine)).steps }) }
+    /// The state as a branch. Nothing changes but what branches are made with.
+    pub fn branch(&mut self) -> Result<Branch, OutOfMemory>
+        requires sound { IsSound true self.old }
+        ensures branch { IfOk result (λ b. b ≡ record { terms = (state_of (parts_of self.old.machine)).terms; steps = (state_of (parts_of self.old.machine)).steps }) }
+        ensures sound { IsSound false self.new }
+        ensures same { spine_of self.new ≡ spine_of self.old }
     {
-        branch(&self.machine, self.alloc)
+        branch(&self.machine, self.alloc, &mut self.workshop)
     }
 
     /// Takes the first goal apart by its first candidate that can match, and keeps the others in a choice point; false where it gives

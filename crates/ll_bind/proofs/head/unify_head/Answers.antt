@@ -1,10 +1,11 @@
-use Rattle.std.proofs.Common.{List, ◌≡◌, ◌<◌, rules, [], ◌∷◌, ap, refl, sym, subst}
+use Rattle.std.proofs.Common.{arith, List, ◌≡◌, ◌<◌, rules, [], ◌∷◌, ap, refl, sym, subst}
 use Rattle.std.specs.Prelude.{reverse}
 use Rattle.ll_bank.specs.Term.{close}
 use Rattle.ll_bank.specs.Nodes.{term_tree}
 use Rattle.ll_bank.proofs.Trees.{Extends-refl, Extends-trans}
 use Rattle.ll_close.specs.Closing.{env_of}
 use Rattle.ll_bindings.specs.Solving.{wanted, Settles}
+use Rattle.ll_bindings.proofs.Stacks.{no_items}
 use Rattle.ll_store.specs.Stored.{stored}
 use Rattle.ll_store.specs.Tables.{table_of}
 use Rattle.ll_bind.specs.declared.head.Equation.{Equation}
@@ -19,7 +20,7 @@ pub loop-equation-init : goal.loop-equation-init
 loop-equation-init c =
     let q : Equation = record { place = c.args.atom; pattern = c.args.head } in
     record {
-      matching = subst (IsMatching c.args.store.now.bank c.args.store.now.bank (table_of c.args.store.now.cells.cells) (table_of c.args.store.now.cells.cells) (wanted c.args.store.now.bank (table_of c.args.store.now.cells.cells) (term_tree c.args.store.now.bank c.args.atom.0 ∷ []) (close (env_of c.args.store.now.bank c.args.values.now) (term_tree c.args.store.now.bank c.args.head.0) ∷ [])) c.from-fresh.result c.args.values.now) (sym (one_item c.new-equations.result.items c.push.new.self.items q c.new-equations.ensures.items c.in_ok-push.ensures.items))
+      matching = subst (IsMatching c.args.store.now.bank c.args.store.now.bank (table_of c.args.store.now.cells.cells) (table_of c.args.store.now.cells.cells) (wanted c.args.store.now.bank (table_of c.args.store.now.cells.cells) (term_tree c.args.store.now.bank c.args.atom.0 ∷ []) (close (env_of c.args.store.now.bank c.args.values.now) (term_tree c.args.store.now.bank c.args.head.0) ∷ [])) c.from-fresh.result c.args.values.now) (sym (one_item c.new-equations.result.items c.push.new.self.items q c.new-equations.ensures.items c.in_ok-push.ensures.ok))
           (matching_begins c.args.store.now.bank (table_of c.args.store.now.cells.cells) c.from-fresh.result c.args.values.now q c.requires.store c.requires.values
           (record { place = c.requires.atom; inside = c.requires.head; heads = c.requires.heads; vars = c.requires.vars })
           (λ x f b. c.requires.new x (c.from-fresh.ensures x f) b));
@@ -110,7 +111,7 @@ loop-equation-preserved c = record {
 
 pub returns-clause-solved : goal.returns-clause-solved
 returns-clause-solved c =
-    matching_ends c.args.store.now.bank c.loop-equation.store.bank (table_of c.args.store.now.cells.cells) (table_of c.loop-equation.store.cells.cells) (wanted c.args.store.now.bank (table_of c.args.store.now.cells.cells) (term_tree c.args.store.now.bank c.args.atom.0 ∷ []) (close (env_of c.args.store.now.bank c.args.values.now) (term_tree c.args.store.now.bank c.args.head.0) ∷ [])) c.loop-equation.fresh c.args.values.now (subst (IsMatching c.args.store.now.bank c.loop-equation.store.bank (table_of c.args.store.now.cells.cells) (table_of c.loop-equation.store.cells.cells) (wanted c.args.store.now.bank (table_of c.args.store.now.cells.cells) (term_tree c.args.store.now.bank c.args.atom.0 ∷ []) (close (env_of c.args.store.now.bank c.args.values.now) (term_tree c.args.store.now.bank c.args.head.0) ∷ [])) c.loop-equation.fresh c.args.values.now) (ap reverse (let none : c.loop-equation.equations.items ≡ [] = (let h = c.in_default.ensures.cases.0 in search rules) in none)) c.loop-equation.invariant.matching)
+    matching_ends c.args.store.now.bank c.loop-equation.store.bank (table_of c.args.store.now.cells.cells) (table_of c.loop-equation.store.cells.cells) (wanted c.args.store.now.bank (table_of c.args.store.now.cells.cells) (term_tree c.args.store.now.bank c.args.atom.0 ∷ []) (close (env_of c.args.store.now.bank c.args.values.now) (term_tree c.args.store.now.bank c.args.head.0) ∷ [])) c.loop-equation.fresh c.args.values.now (subst (IsMatching c.args.store.now.bank c.loop-equation.store.bank (table_of c.args.store.now.cells.cells) (table_of c.loop-equation.store.cells.cells) (wanted c.args.store.now.bank (table_of c.args.store.now.cells.cells) (term_tree c.args.store.now.bank c.args.atom.0 ∷ []) (close (env_of c.args.store.now.bank c.args.values.now) (term_tree c.args.store.now.bank c.args.head.0) ∷ [])) c.loop-equation.fresh c.args.values.now) (ap reverse (let none : c.loop-equation.equations.items ≡ [] = no_items c.loop-equation.equations.items (let h = c.in_default.ensures.variant.1 in grind arith) in none)) c.loop-equation.invariant.matching)
 
 pub returns-clause-keeps : goal.returns-clause-keeps
 returns-clause-keeps c = c.loop-equation.invariant.matching.extends

@@ -27,7 +27,7 @@ returns-clause-binds g c =
     level c.if-not-branch.false c.in_ok-scan.ensures)
     (subst (λ (ls : List ℕ). IsLowered old.levels vars (slice_index old.levels x) ls) (sym s.levels)
     (subst (λ (l : ℕ). IsLowered old.levels vars l (g.T.Bindings.table c.lower.new.table).levels) level
-    (subst (λ (vs : List ℕ). IsLowered old.levels vs c.level-level.result (g.T.Bindings.table c.lower.new.table).levels) c.deref.ensures.value f.levels)))
+    (subst (λ (vs : List ℕ). IsLowered old.levels vs c.level-level.result (g.T.Bindings.table c.lower.new.table).levels) c.deref.ensures f.levels)))
     (s.bound ∙ ap (λ (os : List (Option At)). slice_set os x (Some c.args.to)) f.bound)
 
 pub returns-clause-grows : goal.returns-clause-grows

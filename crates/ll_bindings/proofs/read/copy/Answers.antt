@@ -91,7 +91,7 @@ build-requires-clause-enough g c =
     let t = g.T.Bindings.table c.args.table.now in
     let whole = sub (found first t) (term_tree first c.args.start.0) in
     let done = done-first first t whole c.requires.table c.loop-frame.bank c.loop-frame.made.items c.loop-frame.last c.loop-frame.frames.items c.pop.new.self.items c.in-Some.frame c.loop-frame.invariant.keeps c.loop-frame.invariant.copied c.in-Some.ensures.items c.in-None.ensures.argument in
-    (copy-own first t whole c.requires.table c.loop-frame.bank c.loop-frame.made.items c.loop-frame.last c.loop-frame.frames.items c.pop.new.self.items c.in-Some.frame c.loop-frame.invariant.keeps c.loop-frame.invariant.copied c.in-Some.ensures.items done).0
+    (copy-own first t whole c.requires.table c.loop-frame.bank c.loop-frame.made.items c.loop-frame.last c.loop-frame.frames.items c.pop.new.self.items c.in-Some.frame c.loop-frame.invariant.copied c.in-Some.ensures.items done).0
 
 pub build-requires-clause-places : goal.build-requires-clause-places
 build-requires-clause-places g c =
@@ -99,7 +99,7 @@ build-requires-clause-places g c =
     let t = g.T.Bindings.table c.args.table.now in
     let whole = sub (found first t) (term_tree first c.args.start.0) in
     let done = done-first first t whole c.requires.table c.loop-frame.bank c.loop-frame.made.items c.loop-frame.last c.loop-frame.frames.items c.pop.new.self.items c.in-Some.frame c.loop-frame.invariant.keeps c.loop-frame.invariant.copied c.in-Some.ensures.items c.in-None.ensures.argument in
-    (copy-own first t whole c.requires.table c.loop-frame.bank c.loop-frame.made.items c.loop-frame.last c.loop-frame.frames.items c.pop.new.self.items c.in-Some.frame c.loop-frame.invariant.keeps c.loop-frame.invariant.copied c.in-Some.ensures.items done).1
+    (copy-own first t whole c.requires.table c.loop-frame.bank c.loop-frame.made.items c.loop-frame.last c.loop-frame.frames.items c.pop.new.self.items c.in-Some.frame c.loop-frame.invariant.copied c.in-Some.ensures.items done).1
 
 pub loop-frame-preserved : goal.loop-frame-preserved
 loop-frame-preserved g c =

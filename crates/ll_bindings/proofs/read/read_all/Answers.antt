@@ -9,7 +9,7 @@ pub loop-place-init : goal.loop-place-init
 loop-place-init g c = record {
   keeps = Extends-refl c.args.bank.now;
   known = λ at copy k. let q = rw c.new-known.ensures.empty at k in cc;
-  read = rw c.new-made.ensures.items (read-none c.args.bank.now (g.T.Bindings.table c.args.table.now));
+  read = rw c.new-made.ensures.items (read-none c.args.bank.now c.args.bank.now (g.T.Bindings.table c.args.table.now));
 }
 
 pub copy_of-requires-clause-table : goal.copy_of-requires-clause-table

@@ -11,7 +11,7 @@ use Rattle.ll_bindings.proofs.scan.scan.Goals as goal
 
 pub loop-frame-init : goal.loop-frame-init
 loop-frame-init g c =
-    rw (c.in_ok-push.ensures.items, c.new-frames.ensures.items, c.requires.places, c.requires.vars)
+    rw (c.in_ok-push.ensures.ok, c.new-frames.ensures.items, c.requires.places, c.requires.vars)
     (scan-starts c.args.bank.now (g.T.Bindings.table c.args.table.now) c.args.var c.args.level c.args.start c.requires.start)
 
 pub argument-requires : goal.argument-requires
@@ -29,26 +29,26 @@ walk-end-requires-clause-place g c =
 
 pub loop-frame-smaller-in_ok-push-in-Some-argument-2 : goal.loop-frame-smaller-in_ok-push-in-Some-argument-2
 loop-frame-smaller-in_ok-push-in-Some-argument-2 g c =
-    rw (c.in_ok-push-in-Some-argument-2.ensures.items, c.in_ok-push-in-Some-argument.ensures.items, c.in-Some.ensures.items)
+    rw (c.in_ok-push-in-Some-argument-2.ensures.ok, c.in_ok-push-in-Some-argument.ensures.ok, c.in-Some.ensures.items)
     (weight-opens c.args.bank.now (found c.args.bank.now (g.T.Bindings.table c.args.table.now)) c.pop.new.self.items c.in-Some.frame (record { at = c.in-Some.frame.at; next = c.in-Some.frame.next + 1 }) c.walk-end.result
     c.in-Some-argument.ensures.argument.among refl refl
     (c.walk-end.ensures.same (found c.args.bank.now (g.T.Bindings.table c.args.table.now)) (Obeys-found c.args.bank.now (g.T.Bindings.table c.args.table.now) c.requires.table.ordered) ∙ ap (sub (found c.args.bank.now (g.T.Bindings.table c.args.table.now))) (sym c.in-Some-argument.ensures.argument.is)))
 
 pub loop-frame-preserved-in_ok-push-in-Some-argument-2 : goal.loop-frame-preserved-in_ok-push-in-Some-argument-2
 loop-frame-preserved-in_ok-push-in-Some-argument-2 g c =
-    rw (c.in_ok-push-in-Some-argument-2.ensures.items, c.in_ok-push-in-Some-argument.ensures.items)
+    rw (c.in_ok-push-in-Some-argument-2.ensures.ok, c.in_ok-push-in-Some-argument.ensures.ok)
     (scan-opens c.args.bank.now (g.T.Bindings.table c.args.table.now) c.args.var c.args.level c.loop-frame.seen.places.items c.loop-frame.seen.vars.items (sub (found c.args.bank.now (g.T.Bindings.table c.args.table.now)) (term_tree c.args.bank.now c.args.start.0)) c.loop-frame.frames.items c.pop.new.self.items c.in-Some.frame
     (record { at = c.in-Some.frame.at; next = c.in-Some.frame.next + 1 }) c.in-Some-argument.arg c.walk-end.result c.requires.table c.loop-frame.invariant c.in-Some.ensures.items c.in-Some-argument.ensures.argument c.walk-end.ensures.end c.walk-end.ensures.same refl refl)
 
 pub loop-frame-smaller-else-not-has : goal.loop-frame-smaller-else-not-has
 loop-frame-smaller-else-not-has g c =
-    rw (c.in_ok-push-in-Some-argument.ensures.items, c.in-Some.ensures.items)
+    rw (c.in_ok-push-in-Some-argument.ensures.ok, c.in-Some.ensures.items)
     (weight-known c.args.bank.now (found c.args.bank.now (g.T.Bindings.table c.args.table.now)) c.pop.new.self.items c.in-Some.frame (record { at = c.in-Some.frame.at; next = c.in-Some.frame.next + 1 })
     c.in-Some-argument.ensures.argument.among refl refl)
 
 pub loop-frame-preserved-else-not-has : goal.loop-frame-preserved-else-not-has
 loop-frame-preserved-else-not-has g c =
-    rw c.in_ok-push-in-Some-argument.ensures.items
+    rw c.in_ok-push-in-Some-argument.ensures.ok
     (scan-known c.args.bank.now (g.T.Bindings.table c.args.table.now) c.args.var c.args.level c.loop-frame.seen.places.items c.loop-frame.seen.vars.items (sub (found c.args.bank.now (g.T.Bindings.table c.args.table.now)) (term_tree c.args.bank.now c.args.start.0)) c.loop-frame.frames.items c.pop.new.self.items c.in-Some.frame
     (record { at = c.in-Some.frame.at; next = c.in-Some.frame.next + 1 }) c.in-Some-argument.arg c.walk-end.result c.requires.table c.loop-frame.invariant c.in-Some.ensures.items c.in-Some-argument.ensures.argument c.walk-end.ensures.same c.if-not-has.ensures refl refl)
 
@@ -76,4 +76,4 @@ loop-frame-preserved g c =
 
 pub returns : goal.returns
 returns g c =
-    scan-ends c.args.bank.now (g.T.Bindings.table c.args.table.now) c.args.var c.args.level c.loop-frame.seen.places.items c.loop-frame.seen.vars.items (sub (found c.args.bank.now (g.T.Bindings.table c.args.table.now)) (term_tree c.args.bank.now c.args.start.0)) c.loop-frame.frames.items c.loop-frame.invariant (no_items c.loop-frame.frames.items (let h = c.in_default.ensures.cases.0 in search rules))
+    scan-ends c.args.bank.now (g.T.Bindings.table c.args.table.now) c.args.var c.args.level c.loop-frame.seen.places.items c.loop-frame.seen.vars.items (sub (found c.args.bank.now (g.T.Bindings.table c.args.table.now)) (term_tree c.args.bank.now c.args.start.0)) c.loop-frame.frames.items c.loop-frame.invariant (no_items c.loop-frame.frames.items (let h = c.in_default.ensures.variant.1 in grind arith))

@@ -2,8 +2,11 @@ use Rattle.std.proofs.Common.{◌≡◌, suc, sym, subst, arith, refl}
 use Rattle.ll_laws.specs.Search.{cut_count}
 use Rattle.ll_laws.specs.Completeness.{NamesCover}
 use Rattle.ll_cover.specs.Covering.{IsPassing, NamesFirst}
-use Rattle.ll_cover.proofs.Covers.{passing_moved, passing_reached, passing_answer, passing_names, passing_first, passing_never_ends}
+use Rattle.ll_cover.proofs.Covers.{passing_begins, passing_moved, passing_reached, passing_answer, passing_names, passing_first, passing_never_ends}
 use Rattle.ll_cover.proofs.covering.cover.Goals as goal
+
+pub loop-engine-init : goal.loop-engine-init
+loop-engine-init c = passing_begins c.args.problem.now c.args.derivation.now c.in_ok-engine.engine c.in_ok-engine.ensures
 
 pub loop-engine-preserved-in-Event-Reached : goal.loop-engine-preserved-in-Event-Reached
 loop-engine-preserved-in-Event-Reached c =

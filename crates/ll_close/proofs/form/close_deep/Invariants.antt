@@ -5,7 +5,7 @@ use Rattle.ll_bank.specs.Nodes.{Extends}
 use Rattle.ll_bank.specs.Opened.{AreImages, form_parts_at, form_size_at}
 use Rattle.ll_close.specs.Closing.{env_of, same_spot, IsTermImage, IsFormImage, IsGoodForm}
 use Rattle.ll_close.specs.Stacks.{IsClosing, work_left}
-use Rattle.ll_close.proofs.form.close_form.Given as goal
+use Rattle.ll_close.proofs.form.close_deep.Given as goal
 
 abbrev pub invariant-loop-task : goal.invariant-loop-task
 invariant-loop-task l = record {

@@ -5,7 +5,7 @@ use Rattle.ll_bank.specs.Nodes.{Extends}
 use Rattle.ll_bank.specs.Opened.{AreImages, term_parts_at, term_size_at}
 use Rattle.ll_close.specs.Closing.{env_of, same_spot, IsTermImage, IsGoodTerm}
 use Rattle.ll_close.specs.Stacks.{IsClosing, work_left}
-use Rattle.ll_close.proofs.term.closed_term.Given as goal
+use Rattle.ll_close.proofs.term.closed_deep.Given as goal
 
 abbrev pub invariant-loop-task : goal.invariant-loop-task
 invariant-loop-task l = record {

@@ -6,7 +6,7 @@ use Rattle.ll_bank.specs.Nodes.{form_tree}
 use Rattle.ll_laws.specs.Leaf.{ways}
 use Rattle.ll_engine.proofs.CandidateLemmas.{All-front, All-end}
 use Rattle.ll_engine.proofs.OpeningLemmas.{count_in, count_both, ways_quantified}
-use Rattle.ll_engine.proofs.candidates.count_leaves.Goals as goal
+use Rattle.ll_engine.proofs.candidates.count_all.Goals as goal
 
 pub loop-form-preserved-in-Continue-branch-5 : goal.loop-form-preserved-in-Continue-branch-5
 loop-form-preserved-in-Continue-branch-5 c = let h = All-end (λ (f : FormAt). f.0 < length c.args.bank.now.forms) c.pop.new.self.items c.in-Some.form (subst (All (λ (f : FormAt). f.0 < length c.args.bank.now.forms)) c.in-Some.ensures.items c.loop-form.invariant.inside) in record {

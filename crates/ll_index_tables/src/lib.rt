@@ -1,0 +1,5 @@
+//! Tests of the index: a table of many clauses.
+#![tactic(auto)]
+
+#[cfg(test)]
+mod table;

@@ -42,5 +42,8 @@ pub mod FaultsOver
 pub mod TakesOver
 pub mod OneSharing
 pub mod OneTable
+pub mod OneStep
+pub mod SameText
 pub mod OneFault2
 pub mod OneText2
+pub mod OneVersion

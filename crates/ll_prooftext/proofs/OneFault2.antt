@@ -120,7 +120,10 @@ module _ (lines : List (List ℕ)) (few : length lines < 2 ^ 64) (b c : BeginsOv
       cut_lines is_let b.lets c.lets (b.steps ++ []) (c.steps ++ []) (lets_are b.names b.rows b.asked b.lets b.are_asked).0 (lets_are c.names c.rows c.asked c.lets c.are_asked).0
       (joined (λ l. not (is_let l)) b.steps [] (steps_are b.names b.rows b.nodes b.steps b.are_nodes).0 refl) (joined (λ l. not (is_let l)) c.steps [] (steps_are c.names c.rows c.nodes c.steps c.are_nodes).0 refl) first_cut.1
 
-  rows_few : length b.rows < 2 ^ 64
+  pub same_steps : b.steps ≡ c.steps
+  same_steps = sym (append-nil b.steps) ∙ (second_cut.1 ∙ append-nil c.steps)
+
+  pub rows_few : length b.rows < 2 ^ 64
   rows_few =
       let m = rows_many b.names b.rows b.shares b.are_rows in
       let l = ap length b.is in
@@ -128,15 +131,14 @@ module _ (lines : List (List ℕ)) (few : length lines < 2 ^ 64) (b c : BeginsOv
       omega arith
 
   module _ (one : IsDistinct bytes_eq b.names) (two : IsDistinct bytes_eq c.names) where
-    rows_like : AlikeAll b.names c.names b.rows c.rows
+    pub rows_like : AlikeAll b.names c.names b.rows c.rows
     rows_like = shares_alike b.names c.names one two b.rows c.rows b.shares c.shares first_cut.0 rows_few b.spelled_rows c.spelled_rows b.are_rows c.are_rows
 
-    asked_like : AlikeAll b.names c.names b.asked c.asked
+    pub asked_like : AlikeAll b.names c.names b.asked c.asked
     asked_like = lets_alike b.names c.names one two b.rows c.rows b.asked c.asked c.lets rows_like rows_few b.spelled_terms c.spelled_terms (subst (AreEach (IsLet b.names b.rows) b.asked) second_cut.0 b.are_asked) c.are_asked
 
     nodes_like : AlikeAll b.names c.names (flat_map line_terms b.nodes) (flat_map line_terms c.nodes)
-    nodes_like = steps_alike b.names c.names one two b.rows c.rows b.nodes c.nodes c.steps rows_like rows_few b.spelled_nodes c.spelled_nodes
-        (subst (AreEach (IsStep b.names b.rows) b.nodes) (sym (append-nil b.steps) ∙ (second_cut.1 ∙ append-nil c.steps)) b.are_nodes) c.are_nodes
+    nodes_like = steps_alike b.names c.names one two b.rows c.rows b.nodes c.nodes c.steps rows_like rows_few b.spelled_nodes c.spelled_nodes (subst (AreEach (IsStep b.names b.rows) b.nodes) same_steps b.are_nodes) c.are_nodes
 
     tables_like : AlikeAll b.names c.names (table (derivation b)) (table (derivation c))
     tables_like = table_alike b.names c.names one two (derivation b) (derivation c) (push_alike b.names c.names one two b.asked c.asked (flat_map line_terms b.nodes) (flat_map line_terms c.nodes) asked_like nodes_like)

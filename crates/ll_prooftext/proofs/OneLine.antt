@@ -21,7 +21,7 @@ use Rattle.ll_prooftext.proofs.OneTerm.{bare_word, bare_shape, Behind, one_argum
 
 -- ---- numbers and sets
 
-number_same : (m n : ℕ) (x y : List ℕ) → m < 2 ^ 32 → n < 2 ^ 32 → Stops (is_not 32) x → Stops (is_not 32) y → decimal m ++ x ≡ decimal n ++ y → (m ≡ n) × (x ≡ y)
+pub number_same : (m n : ℕ) (x y : List ℕ) → m < 2 ^ 32 → n < 2 ^ 32 → Stops (is_not 32) x → Stops (is_not 32) y → decimal m ++ x ≡ decimal n ++ y → (m ≡ n) × (x ≡ y)
 number_same m n x y p q s t e =
     let k = one_cut (is_not 32) (decimal m) (decimal n) x y (decimal_not 32 m (omega arith) (inl (omega arith))) (decimal_not 32 n (omega arith) (inl (omega arith))) s t e in
     (decimal_injective m n (omega arith) (omega arith) k.0, k.1)
@@ -70,7 +70,7 @@ last_set s t a b e = (set_same s t [] [] a b (append-nil (set_text s) ∙ (e ∙
 mark_brace : (x y : List ℕ) → 33 ∷ x ≡ 123 ∷ y → ⊥
 mark_brace x y e = cc
 
-parts_same : (ps qs : List PartLine) → All IsSpelledPart ps → All IsSpelledPart qs → flat_map part_field ps ≡ flat_map part_field qs → ps ≡ qs
+pub parts_same : (ps qs : List PartLine) → All IsSpelledPart ps → All IsSpelledPart qs → flat_map part_field ps ≡ flat_map part_field qs → ps ≡ qs
 parts_same [] [] a b e = refl
 parts_same [] (Labels t ∷ qs) a b e = absurd cc
 parts_same [] (Free ∷ qs) a b e = absurd cc

@@ -20,15 +20,14 @@ use Rattle.ll_prooftext.specs.Fields.{HasNoTerm, brace, mark}
 use Rattle.ll_prooftext.specs.Terms.{Bare, IsWord}
 use Rattle.ll_prooftext.specs.Words.{at_byte, is_not}
 use Rattle.ll_prooftext.specs.Table.{completed, completed_arguments, is_among, with_row, table, line_terms, field_terms}
-use Rattle.ll_prooftext.specs.Sharing.{Stands, itself, by_row, AreCells, no_cells, next_cell, IsShare, AreShares, no_shares, next_share, IsLet, IsStep, AreEach}
+use Rattle.ll_prooftext.specs.Sharing.{Stands, itself, by_row, AreCells, no_cells, next_cell, IsShare, AreShares, no_shares, next_share, IsLet, IsClauseStep, IsStep, AreEach}
 use Rattle.ll_prooftext.proofs.CellsRead.{row_word, word_free, cell_free}
 use Rattle.ll_prooftext.proofs.Cuts.{one_cut}
 use Rattle.ll_prooftext.proofs.Extended.{plain_apart}
-use Rattle.ll_prooftext.proofs.Labels.{decimal_not}
 use Rattle.ll_prooftext.proofs.LinesOver.{no_cell_begins, one_first}
 use Rattle.ll_prooftext.proofs.Numerals.{mag_small}
 use Rattle.ll_prooftext.proofs.OneField.{end_stops}
-use Rattle.ll_prooftext.proofs.OneLine.{line_word, line_kind, one_kind}
+use Rattle.ll_prooftext.proofs.OneLine.{number_same, line_word, line_kind, one_kind}
 use Rattle.ll_prooftext.proofs.OneLine.{word_free as line_free}
 use Rattle.ll_prooftext.proofs.OneSharing.{app_arguments, cons_text, cell_good, cells_end}
 use Rattle.ll_prooftext.proofs.Reach.{head_word}
@@ -90,6 +89,17 @@ module _ (ms : List (List ℕ)) (distinct : IsDistinct bytes_eq ms) where
       let i = alike_once names f g h p r in
       let j = alike_once names a b c q s in
       ap (λ z. Ap z b) i ∙ ap (λ z. Ap h z) j
+
+  -- and over the same names it is that one
+  alike_is : (t u : Term) → Alike ms ms t u → t ≡ u
+  alike_is t u same_var = refl
+  alike_is t u same_int = refl
+  alike_is t u (same_con {h = h} {k = k} a) = ap Con (held_once h k a.left a.right a.text)
+  alike_is t u (same_ap {f = f} {g = g} {a = a} {b = b} p q) = ap (λ z. Ap z a) (alike_is f g p) ∙ ap (λ z. Ap g z) (alike_is a b q)
+
+  pub all_alike_are : (ts us : List Term) → AlikeAll ms ms ts us → ts ≡ us
+  all_alike_are ts us no_terms = refl
+  all_alike_are ts us (next_term {t = t} {u = u} {ts = rs} {us = ss} a b) = ap (λ z. z ∷ rs) (alike_is t u a) ∙ ap (λ z. u ∷ z) (all_alike_are rs ss b)
 
 all_parts : (ns : List (List ℕ)) (xs : List Term) (x : Term) → All (IsSpelledTerm ns) (xs ++ x ∷ []) → All (IsSpelledTerm ns) xs × IsSpelledTerm ns x
 all_parts ns [] x h = (All-nil (IsSpelledTerm ns), All-head (IsSpelledTerm ns) x [] h)
@@ -243,8 +253,10 @@ module _ (names ms : List (List ℕ)) (one : IsDistinct bytes_eq names) (two : I
   tail_not : (n : ℕ) (a w rest : List ℕ) → HasNoTerm a → IsField (Cell n) w → a ≡ 32 ∷ w ++ rest → ⊥
   tail_not n a w rest h i e = no_cell_begins n w rest (w ++ rest) (subst HasNoTerm e h) i refl
 
-  cells_alike : (rows others ts us : List Term) (x y a b : List ℕ) → AlikeAll names ms rows others → length rows < 2 ^ 64 → All (IsSpelledTerm names) ts → All (IsSpelledTerm ms) us → AreCells names rows ts x → AreCells ms others us y → HasNoTerm a → HasNoTerm b → x ++ a ≡ y ++ b → AlikeAll names ms ts us
-  cells_alike rows others ts us x y a b r l s v no_cells no_cells h g e = no_terms
+  -- cells in front of a tail that has none: their terms, and the tail
+  cells_alike : (rows others ts us : List Term) (x y a b : List ℕ) → AlikeAll names ms rows others → length rows < 2 ^ 64 → All (IsSpelledTerm names) ts → All (IsSpelledTerm ms) us → AreCells names rows ts x → AreCells ms others us y → HasNoTerm a → HasNoTerm b → x ++ a ≡ y ++ b
+      → AlikeAll names ms ts us × (a ≡ b)
+  cells_alike rows others ts us x y a b r l s v no_cells no_cells h g e = (no_terms, e)
   cells_alike rows others ts us x y a b r l s v no_cells (next_cell {t = u} {ts = vs} {text = w} {rest = rest} c cs) h g e =
       absurd (tail_not (length others) a w (rest ++ b) h (cell_good ms others u w (All-head (IsSpelledTerm ms) u vs v) c) (e ∙ ap (λ z. 32 ∷ z) (append_assoc w rest b)))
   cells_alike rows others ts us x y a b r l s v (next_cell {t = t} {ts = rs} {text = w} {rest = rest} c cs) no_cells h g e =
@@ -256,8 +268,8 @@ module _ (names ms : List (List ℕ)) (one : IsDistinct bytes_eq names) (two : I
       let f : 32 ∷ (w ++ (rest ++ a)) ≡ 32 ∷ (z ++ (behind ++ b)) = ap (λ k. 32 ∷ k) (sym (append_assoc w rest a)) ∙ (e ∙ ap (λ k. 32 ∷ k) (append_assoc z behind b)) in
       let k = one_cut (is_not 32) w z (rest ++ a) (behind ++ b) (cell_free (length rows) w l (cell_good names rows t w st c)) (cell_free (length others) z (omega arith) (cell_good ms others u z su d))
       (end_stops (is_not 32) (rest ++ a) refl (cells_end names rows rs rest a cs (tail_end a h))) (end_stops (is_not 32) (behind ++ b) refl (cells_end ms others vs behind b ds (tail_end b g))) (let q : w ++ (rest ++ a) ≡ z ++ (behind ++ b) = cc in q) in
-      next_term (stands_alike rows others t u z r l st su (subst (Stands names rows t) k.0 c) d)
-      (cells_alike rows others rs vs rest behind a b r l (All-tail (IsSpelledTerm names) t rs s) (All-tail (IsSpelledTerm ms) u vs v) cs ds h g k.1)
+      let i = cells_alike rows others rs vs rest behind a b r l (All-tail (IsSpelledTerm names) t rs s) (All-tail (IsSpelledTerm ms) u vs v) cs ds h g k.1 in
+      (next_term (stands_alike rows others t u z r l st su (subst (Stands names rows t) k.0 c) d) i.0, i.1)
 
   apply_alike : (f g : Term) (ts us : List Term) → Alike names ms f g → AlikeAll names ms ts us → Alike names ms (apply f ts) (apply g us)
   apply_alike f g ts us a no_terms = a
@@ -280,7 +292,7 @@ module _ (names ms : List (List ℕ)) (one : IsDistinct bytes_eq names) (two : I
       let k = one_cut (is_not 32) (head_text names i.head) (head_text ms j.head) i.cells j.cells (held_free names i.head h) (held_free ms j.head g)
       (end_stops (is_not 32) i.cells refl (subst IsAtEnd (append-nil i.cells) (cells_end names before (i.first ∷ i.others) i.cells [] i.shown line_end))) (end_stops (is_not 32) j.cells refl (subst IsAtEnd (append-nil j.cells) (cells_end ms tops (j.first ∷ j.others) j.cells [] j.shown line_end))) f in
       let args = cells_alike before tops (i.first ∷ i.others) (j.first ∷ j.others) i.cells j.cells [] [] r l (app_arguments names i.head (i.first ∷ i.others) (subst (IsSpelledTerm names) i.is s)) (app_arguments ms j.head (j.first ∷ j.others) (subst (IsSpelledTerm ms) j.is v)) i.shown j.shown (inl refl) (inl refl) (ap (λ z. z ++ []) k.1) in
-      subst (λ z. Alike names ms z u) (sym i.is) (subst (Alike names ms (app i.head (i.first ∷ i.others))) (sym j.is) (apply_alike (Con i.head) (Con j.head) (i.first ∷ i.others) (j.first ∷ j.others) (same_con (record { text = k.0; left = h; right = g })) args))
+      subst (λ z. Alike names ms z u) (sym i.is) (subst (Alike names ms (app i.head (i.first ∷ i.others))) (sym j.is) (apply_alike (Con i.head) (Con j.head) (i.first ∷ i.others) (j.first ∷ j.others) (same_con (record { text = k.0; left = h; right = g })) args.0))
 
   push_same : (xs ys : List (List ℕ)) (x y : List ℕ) → xs ++ x ∷ [] ≡ ys ++ y ∷ [] → (xs ≡ ys) × (x ≡ y)
   push_same [] [] x y e = (refl, cc)
@@ -329,23 +341,27 @@ module _ (names ms : List (List ℕ)) (one : IsDistinct bytes_eq names) (two : I
   parts_no_term (Labels s ∷ ps) = inr (brace _ refl)
   parts_no_term (Free ∷ ps) = inr (mark _ refl)
 
-  by_kind : (rows others : List Term) (x y : Line) (k : List ℕ) → line_kind x ≡ line_kind y → AlikeAll names ms rows others → length rows < 2 ^ 64 → IsSpelledLine names x → IsSpelledLine ms y → IsStep names rows x k → IsStep ms others y k → AlikeAll names ms (line_terms x) (line_terms y)
+  -- the numbers of a clause step, its terms, and the text of its premises
+  pub clause_alike : (rows others : List Term) (n m i j : ℕ) (ts us : List Term) (ps qs : List PartLine) (k : List ℕ) → AlikeAll names ms rows others → length rows < 2 ^ 64 → IsSpelledLine names (ClauseLine n m ts ps) → IsSpelledLine ms (ClauseLine i j us qs)
+      → IsClauseStep names rows n m ts (flat_map part_field ps) k → IsClauseStep ms others i j us (flat_map part_field qs) k → (n ≡ i) × (m ≡ j) × AlikeAll names ms ts us × (flat_map part_field ps ≡ flat_map part_field qs)
+  clause_alike rows others n m i j ts us ps qs k r l s v a b =
+      let x = flat_map part_field ps in
+      let y = flat_map part_field qs in
+      let e : codes "clause" ++ (32 ∷ decimal n ++ (32 ∷ decimal m ++ (a.cells ++ x))) ≡ codes "clause" ++ (32 ∷ decimal i ++ (32 ∷ decimal j ++ (b.cells ++ y))) = sym a.is ∙ b.is in
+      let f : decimal n ++ (32 ∷ decimal m ++ (a.cells ++ x)) ≡ decimal i ++ (32 ∷ decimal j ++ (b.cells ++ y)) = cc in
+      let g = number_same n i (32 ∷ decimal m ++ (a.cells ++ x)) (32 ∷ decimal j ++ (b.cells ++ y)) s.0 v.0 (at_byte 32 _ refl refl) (at_byte 32 _ refl refl) f in
+      let h : 32 ∷ (decimal m ++ (a.cells ++ x)) ≡ 32 ∷ (decimal j ++ (b.cells ++ y)) = g.1 in
+      let c = number_same m j (a.cells ++ x) (b.cells ++ y) s.1.0 v.1.0 (end_stops (is_not 32) (a.cells ++ x) refl (cells_end names rows ts a.cells x a.shown (tail_end x (parts_no_term ps))))
+      (end_stops (is_not 32) (b.cells ++ y) refl (cells_end ms others us b.cells y b.shown (tail_end y (parts_no_term qs)))) (let z : decimal m ++ (a.cells ++ x) ≡ decimal j ++ (b.cells ++ y) = cc in z) in
+      let d = cells_alike rows others ts us a.cells b.cells x y r l s.1.1.0 v.1.1.0 a.shown b.shown (parts_no_term ps) (parts_no_term qs) c.1 in
+      (g.0, c.0, d.0, d.1)
+
+  pub by_kind : (rows others : List Term) (x y : Line) (k : List ℕ) → line_kind x ≡ line_kind y → AlikeAll names ms rows others → length rows < 2 ^ 64 → IsSpelledLine names x → IsSpelledLine ms y → IsStep names rows x k → IsStep ms others y k → AlikeAll names ms (line_terms x) (line_terms y)
   by_kind rows others (ExistsLine t) (ExistsLine u) k q r l s v a b =
       let e : codes "exists" ++ field a.text ≡ codes "exists" ++ field b.text = sym a.is ∙ b.is in
       let f : a.text ≡ b.text = cc in
       next_term (stands_alike rows others t u b.text r l s v (subst (Stands names rows t) f a.stands) b.stands) no_terms
-  by_kind rows others (ClauseLine n m ts ps) (ClauseLine i j us qs) k q r l s v a b =
-      let e : codes "clause" ++ (32 ∷ decimal n ++ (32 ∷ decimal m ++ (a.cells ++ flat_map part_field ps))) ≡ codes "clause" ++ (32 ∷ decimal i ++ (32 ∷ decimal j ++ (b.cells ++ flat_map part_field qs))) = sym a.is ∙ b.is in
-      let f : decimal n ++ (32 ∷ decimal m ++ (a.cells ++ flat_map part_field ps)) ≡ decimal i ++ (32 ∷ decimal j ++ (b.cells ++ flat_map part_field qs)) = cc in
-      let g = one_cut (is_not 32) (decimal n) (decimal i) (32 ∷ decimal m ++ (a.cells ++ flat_map part_field ps)) (32 ∷ decimal j ++ (b.cells ++ flat_map part_field qs)) (free n s.0) (free i v.0) (at_byte 32 _ refl refl) (at_byte 32 _ refl refl) f in
-      let h : 32 ∷ (decimal m ++ (a.cells ++ flat_map part_field ps)) ≡ 32 ∷ (decimal j ++ (b.cells ++ flat_map part_field qs)) = g.1 in
-      let c = one_cut (is_not 32) (decimal m) (decimal j) (a.cells ++ flat_map part_field ps) (b.cells ++ flat_map part_field qs) (free m s.1.0) (free j v.1.0)
-      (end_stops (is_not 32) (a.cells ++ flat_map part_field ps) refl (cells_end names rows ts a.cells (flat_map part_field ps) a.shown (tail_end (flat_map part_field ps) (parts_no_term ps))))
-      (end_stops (is_not 32) (b.cells ++ flat_map part_field qs) refl (cells_end ms others us b.cells (flat_map part_field qs) b.shown (tail_end (flat_map part_field qs) (parts_no_term qs)))) (let z : decimal m ++ (a.cells ++ flat_map part_field ps) ≡ decimal j ++ (b.cells ++ flat_map part_field qs) = cc in z) in
-      cells_alike rows others ts us a.cells b.cells (flat_map part_field ps) (flat_map part_field qs) r l s.1.1.0 v.1.1.0 a.shown b.shown (parts_no_term ps) (parts_no_term qs) c.1
-    where
-      free : (n : ℕ) → n < 2 ^ 32 → list_all (is_not 32) (decimal n) ≡ true
-      free n l = decimal_not 32 n (omega arith) (inl (omega arith))
+  by_kind rows others (ClauseLine n m ts ps) (ClauseLine i j us qs) k q r l s v a b = (clause_alike rows others n m i j ts us ps qs k r l s v a b).2
   by_kind rows others OneLine OneLine k q r l s v a b = no_terms
   by_kind rows others EraseLine EraseLine k q r l s v a b = no_terms
   by_kind rows others (TensorLine c d) (TensorLine e f) k q r l s v a b = no_terms
@@ -360,6 +376,13 @@ module _ (names ms : List (List ℕ)) (one : IsDistinct bytes_eq names) (two : I
   by_kind rows others NumLine NumLine k q r l s v a b = no_terms
   by_kind rows others x y k q r l s v a b = absurd cc
 
+  -- the lines of nodes that are the same are of one kind
+  pub step_kind : (rows others : List Term) (x y : Line) (k : List ℕ) → IsStep names rows x k → IsStep ms others y k → line_kind x ≡ line_kind y
+  step_kind rows others x y k a b =
+      let f = step_front names rows x k a in
+      let g = step_front ms others y k b in
+      one_kind x y (one_first (line_word x) (line_word y) f.0 g.0 (line_free x).0 (line_free y).0 f.1.1 g.1.1 (sym f.1.0 ∙ g.1.0))
+
   pub steps_alike : (rows others : List Term) (xs ys : List Line) (ls : List (List ℕ)) → AlikeAll names ms rows others → length rows < 2 ^ 64 → All (IsSpelledLine names) xs → All (IsSpelledLine ms) ys → AreEach (IsStep names rows) xs ls → AreEach (IsStep ms others) ys ls → AlikeAll names ms (flat_map line_terms xs) (flat_map line_terms ys)
   steps_alike rows others [] [] ls r l s v a b = no_terms
   steps_alike rows others [] (y ∷ ys) [] r l s v a b = absurd b
@@ -368,8 +391,5 @@ module _ (names ms : List (List ℕ)) (one : IsDistinct bytes_eq names) (two : I
   steps_alike rows others (x ∷ xs) [] (k ∷ ls) r l s v a b = absurd b
   steps_alike rows others (x ∷ xs) (y ∷ ys) [] r l s v a b = absurd a
   steps_alike rows others (x ∷ xs) (y ∷ ys) (k ∷ ls) r l s v a b =
-      let f = step_front names rows x k a.0 in
-      let g = step_front ms others y k b.0 in
-      let w : line_word x ≡ line_word y = one_first (line_word x) (line_word y) f.0 g.0 (line_free x).0 (line_free y).0 f.1.1 g.1.1 (sym f.1.0 ∙ g.1.0) in
-      push_alike (line_terms x) (line_terms y) (flat_map line_terms xs) (flat_map line_terms ys) (by_kind rows others x y k (one_kind x y w) r l (All-head (IsSpelledLine names) x xs s) (All-head (IsSpelledLine ms) y ys v) a.0 b.0)
+      push_alike (line_terms x) (line_terms y) (flat_map line_terms xs) (flat_map line_terms ys) (by_kind rows others x y k (step_kind rows others x y k a.0 b.0) r l (All-head (IsSpelledLine names) x xs s) (All-head (IsSpelledLine ms) y ys v) a.0 b.0)
       (steps_alike rows others xs ys ls r l (All-tail (IsSpelledLine names) x xs s) (All-tail (IsSpelledLine ms) y ys v) a.1 b.1)

@@ -11,21 +11,24 @@ use Rattle.ll_bank.specs.Term.{Term, Var, Int, Con, Ap, apply, app}
 use Rattle.ll_lexer.specs.declared.Fault.{Fault}
 use Rattle.ll_lexer.specs.Reading.{place_at}
 use Rattle.ll_laws.specs.Output.{line as with_end, head_text, has_arguments, is_cons_head, term_text}
-use Rattle.ll_laws.specs.ProofText.{field, part_field}
+use Rattle.ll_laws.specs.ProofText.{field, part_field, term_field, node_text, proof_text}
 use Rattle.ll_laws.specs.Line.{Line, OneLine, EraseLine, TensorLine, WithLine, LeftLine, RightLine, BangLine, UseLine, LolliLine, ImpLine, ForallLine, ExistsLine, ClauseLine, NumLine, DerivationLines}
 use Rattle.ll_prooftext.specs.Admitted.{IsPlainHead, IsSpelledTerm, IsSpelledSpine, IsSpelledLine}
 use Rattle.ll_prooftext.specs.Table.{completed, completed_arguments, is_among, with_row, row_of, table, line_terms, field_terms}
 use Rattle.ll_prooftext.specs.ProofText2.{short_text, short_field, spine_text, let_text_by, node_text_by, proof_text2}
 use Rattle.ll_prooftext.specs.Sharing.{Stands, itself, by_row, AreCells, no_cells, next_cell, IsShare, AreShares, no_shares, next_share, IsLet, IsStep, AreEach}
-use Rattle.ll_prooftext.specs.Reading.{text_lines}
+use Rattle.ll_prooftext.specs.Reading.{text_lines, IsTextOf}
 use Rattle.ll_prooftext.specs.Reading2.{IsText2Of, BeginsOver, HasFault2}
 use Rattle.ll_prooftext.specs.Terms.{Bare}
 use Rattle.ll_prooftext.specs.Words.{is_not}
-use Rattle.ll_prooftext.proofs.OneFault2.{rows_many, row_common}
+use Rattle.ll_prooftext.proofs.OneFault2.{rows_many, same_steps, rows_few, rows_like, asked_like, row_common}
 use Rattle.ll_prooftext.proofs.OneFault2.{lines_few as text_lines_few}
 use Rattle.ll_prooftext.proofs.OneSharing.{ArgumentsSpelled, term_arguments, app_arguments, cons_text, comes2_once, whole_comes, IsFaultOf, of_line, of_row, fault_of}
+use Rattle.ll_prooftext.proofs.OneStep.{steps_once}
+use Rattle.ll_prooftext.proofs.OneTable.{AlikeAll, all_alike_are}
 use Rattle.ll_prooftext.proofs.OneTerm.{bare_word, bare_shape}
 use Rattle.ll_prooftext.proofs.Reach.{head_word}
+use Rattle.ll_prooftext.proofs.SameText.{same_lets, same_nodes}
 use Rattle.ll_prooftext.proofs.RowsInPlace.{AreOnce, table_once, get_front, row_there, pushed_cases, among_pushed, lines_text}
 use Rattle.ll_prooftext.proofs.WholeText.{HasNoEnd, IsFull, AreFull, full, joined, word_free, number_free, small_free, parts_free, node_full, lines_of_ended, lines_of_open, trees_missing}
 use Rattle.std.proofs.lemmas.Option.{slice_get_within}
@@ -408,3 +411,39 @@ module _ (names : List (List ℕ)) (text : List ℕ) (d : DerivationLines) (t : 
       by : IsFaultOf text f → ⊥
       by (of_line x) = let q : Some f ≡ None = comes2_once (text_lines text) (place_at text (length text)) (Some f) None lines_short x (whole_comes text text2_begins) in cc
       by (of_row k c e h q) = h.off (row_common (text_lines text) lines_short text2_begins c distinct e k refl)
+
+-- the text is that of one derivation
+pub one_text2 : (names : List (List ℕ)) → IsDistinct bytes_eq names → (text : List ℕ) → length text < 2 ^ 64 → (d e : DerivationLines) → IsText2Of names text d → IsText2Of names text e → d ≡ e
+unfolding text2_begins
+one_text2 names distinct text short d e x y =
+    let lines_short : length (text_lines text) < 2 ^ 64 = let h = text_lines_few text in omega arith in
+    let b = text2_begins names text d x short in
+    let c = text2_begins names text e y short in
+    let like = rows_like (text_lines text) lines_short b c distinct distinct in
+    let rows : table d ≡ table e = all_alike_are names distinct (table d) (table e) like in
+    let asked : d.asked ≡ e.asked = all_alike_are names distinct d.asked e.asked (asked_like (text_lines text) lines_short b c distinct distinct) in
+    let steps = subst (AreEach (IsStep names (table d)) d.nodes) (same_steps (text_lines text) lines_short b c) b.are_nodes in
+    let nodes : d.nodes ≡ e.nodes =
+    steps_once names distinct (table e) (subst (λ z. AlikeAll names names z (table e)) rows like) (few names text e y short) d.nodes e.nodes c.steps x.spelled.nodes y.spelled.nodes (subst (λ z. AreEach (IsStep names z) d.nodes c.steps) rows steps) c.are_nodes
+    in
+    λ i. record { asked = asked i; nodes = nodes i }
+
+-- over any names what the text is read as has one text of version 1
+pub same_text : (names ms : List (List ℕ)) → IsDistinct bytes_eq names → IsDistinct bytes_eq ms → (text : List ℕ) → length text < 2 ^ 64 → (d e : DerivationLines) → IsText2Of names text d → IsText2Of ms text e → proof_text names d ≡ proof_text ms e
+unfolding text2_begins
+same_text names ms one two text short d e x y =
+    let lines_short : length (text_lines text) < 2 ^ 64 = let h = text_lines_few text in omega arith in
+    let b = text2_begins names text d x short in
+    let c = text2_begins ms text e y short in
+    let like = rows_like (text_lines text) lines_short b c one two in
+    let lets = same_lets names ms d.asked e.asked (asked_like (text_lines text) lines_short b c one two) in
+    let steps = subst (AreEach (IsStep names b.rows) d.nodes) (same_steps (text_lines text) lines_short b c) b.are_nodes in
+    let nodes = same_nodes names ms one two b.rows c.rows like (rows_few (text_lines text) lines_short b c) d.nodes e.nodes c.steps x.spelled.nodes y.spelled.nodes steps c.are_nodes in
+    ap (λ z. with_end (codes "proof 1") ++ z ++ flat_map (λ n. with_end (node_text names n)) d.nodes) lets
+    ∙ ap (λ z. with_end (codes "proof 1") ++ flat_map (λ t. with_end (codes "let" ++ term_field ms t)) e.asked ++ z) nodes
+
+-- a text of version 1, written as version 2 and read over any names, is a text of what was read
+pub there_and_back : (names ms : List (List ℕ)) (text : List ℕ) (d e : DerivationLines) → IsDistinct bytes_eq names → IsDistinct bytes_eq ms → length (proof_text2 names d) < 2 ^ 64 → IsTextOf names text d → IsText2Of ms (proof_text2 names d) e → IsTextOf ms text e
+there_and_back names ms text d e one two short x y =
+    let same = same_text names ms one two (proof_text2 names d) short d e (record { spelled = x.spelled; is = inl refl }) y in
+    record { spelled = y.spelled; is = subst (λ z. (text ≡ z) ⊎ (text ++ 10 ∷ [] ≡ z)) same x.is }

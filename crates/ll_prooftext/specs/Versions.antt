@@ -1,9 +1,11 @@
 -- Texts of derivations of either version.
 use Rattle.std.specs.Prelude.{◌≡◌, ℕ, List, ◌∷◌, codes}
+use Rattle.ll_lexer.specs.declared.Fault.{Fault}
 use Rattle.ll_lexer.specs.declared.TextFault.{TextFault}
+use Rattle.ll_lexer.specs.declared.TextFault.TheVariants as fault
 use Rattle.ll_laws.specs.Line.{DerivationLines}
-use Rattle.ll_prooftext.specs.Reading.{text_lines, HasNoVersion, IsTextOf, IsCause}
-use Rattle.ll_prooftext.specs.Reading2.{IsText2Of, IsCause2}
+use Rattle.ll_prooftext.specs.Reading.{text_lines, HasNoVersion, IsTextOf, HasFault}
+use Rattle.ll_prooftext.specs.Reading2.{IsText2Of, HasFault2}
 
 -- the first line is this one
 pub record HasVersion (first : List ℕ) (lines : List (List ℕ)) : Type 0 where
@@ -15,7 +17,17 @@ pub data IsTextIn (version : ℕ) (names : List (List ℕ)) (text : List ℕ) (d
   first_version : version ≡ 1 → HasNoVersion (codes "proof 2") (text_lines text) → IsTextOf names text d → IsTextIn version names text d
   second_version : version ≡ 2 → HasVersion (codes "proof 2") (text_lines text) → IsText2Of names text d → IsTextIn version names text d
 
--- why the text was not read: its first fault in that version, or want of memory
-pub data IsCauseIn (text : List ℕ) (x : TextFault) : Type 0 where
-  first_cause : HasNoVersion (codes "proof 2") (text_lines text) → IsCause text x → IsCauseIn text x
-  second_cause : HasVersion (codes "proof 2") (text_lines text) → IsCause2 text x → IsCauseIn text x
+-- the text is one of the derivation, in the version which its first line tells
+pub record IsProofText (names : List (List ℕ)) (text : List ℕ) (d : DerivationLines) : Type 0 where
+  pub version : ℕ
+  pub is_text : IsTextIn version names text d
+
+-- the first fault of the text in the version which the first line tells
+pub data HasFaultIn (text : List ℕ) (f : Fault) : Type 0 where
+  first_fault : HasNoVersion (codes "proof 2") (text_lines text) → HasFault text f → HasFaultIn text f
+  second_fault : HasVersion (codes "proof 2") (text_lines text) → HasFault2 text f → HasFaultIn text f
+
+-- why the text was not read: its first fault, or want of memory
+abbrev pub IsCauseIn : List ℕ → TextFault → Type 0
+IsCauseIn text (fault.Text f) = HasFaultIn text f
+IsCauseIn text fault.OutOfMemory = Unit {0}

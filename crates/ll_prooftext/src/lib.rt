@@ -26,7 +26,9 @@ mod terms;
 mod versions;
 mod words;
 
-pub use crate::laws::{one_derivation, one_fault_over_a_table};
+pub use crate::laws::{
+    one_derivation, one_derivation_in_any, one_derivation_over_a_table, there_and_back,
+};
 use crate::lines::{write_asked, write_nodes, write_version};
 pub use crate::reader::read;
 pub use crate::shared_reader::read2;

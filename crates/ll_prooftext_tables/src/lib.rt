@@ -2,6 +2,8 @@
 #![tactic(auto)]
 
 #[cfg(test)]
+mod made;
+#[cfg(test)]
 mod prooftext;
 #[cfg(test)]
 mod prooftext2;

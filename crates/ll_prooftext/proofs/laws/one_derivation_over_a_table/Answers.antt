@@ -1,6 +1,9 @@
 use Rattle.ll_prooftext.proofs.OneFault2.{one_fault2}
-use Rattle.ll_prooftext.proofs.OneText2.{no_fault2}
-use Rattle.ll_prooftext.proofs.laws.one_fault_over_a_table.Goals as goal
+use Rattle.ll_prooftext.proofs.OneText2.{no_fault2, one_text2}
+use Rattle.ll_prooftext.proofs.laws.one_derivation_over_a_table.Goals as goal
+
+pub returns-clause-reading : goal.returns-clause-reading
+returns-clause-reading c = λ names text d e distinct short. one_text2 names distinct text short d e
 
 pub returns-clause-fault : goal.returns-clause-fault
 returns-clause-fault c = one_fault2

@@ -1,5 +1,5 @@
 -- Turns that take no report and neither starve nor stop the pool.
-use Rattle.std.proofs.Common.{◌≡◌, ℕ, List, Bool, true, false, not, ◌&&◌, ◌||◌, refl, sym, ap, ◌∙◌, subst, Option, Some, None}
+use Rattle.std.proofs.Common.{◌≡◌, Bool, true, false, not, ◌&&◌, ◌||◌, refl, sym, ap, ◌∙◌, subst, Option, Some}
 use Rattle.ll_laws.specs.declared.Event.{Event}
 use Rattle.ll_laws.specs.Pool.{Owed, PoolData}
 use Rattle.ll_laws.specs.Sound.{Sound}
@@ -7,7 +7,7 @@ use Rattle.ll_laws.specs.Later.{Later}
 use Rattle.ll_laws.specs.CoreEvents.{CoreEvent, Claim, Publish, Report, Look, Work, Idle, Finished, Starved, Stopped, Does}
 use Rattle.ll_laws.specs.CoreEvents as core
 use Rattle.ll_core.specs.Laws.{IsTakenAt}
-use Rattle.ll_core.specs.Given.{SameTaken, TakesNone, MarksNone}
+use Rattle.ll_core.specs.Given.{TakesNone, MarksNone}
 use Rattle.ll_core.specs.Calls.{ClaimsAs}
 use Rattle.ll_core.specs.declared.answers.Claimed.{Claimed}
 use Rattle.ll_core.specs.declared.answers.Claimed.TheVariants as claims
@@ -17,7 +17,7 @@ use Rattle.ll_core.proofs.LawfulEvents.{leaves_taken, leaves_marks}
 use Rattle.ll_pool.specs.Turns.{PoolSight, OneTurn}
 use Rattle.ll_pool.specs.declared.data.PoolProblem.{PoolProblem}
 use Rattle.ll_laws.specs.Problem.{ProblemTree}
-use Rattle.ll_freeze.specs.Frozen.{FrozenSight, problem_owes, alternatives_in}
+use Rattle.ll_freeze.specs.Frozen.{FrozenSight, alternatives_in}
 use Rattle.ll_crew.specs.Seats.{Sat, asked, of_batch, IsSound, IsSeat, Same, Calm}
 
 -- a mark that was not set anew

@@ -1,7 +1,6 @@
 -- How a claim goes, and a piece.
-use Rattle.std.proofs.Common.{◌≡◌, ◌⊎◌, ℕ, List, Bool, true, false, refl, sym, ap, ◌∙◌, subst, inl, inr, Option, Some, None, Result, Ok, Err, IfOk}
+use Rattle.std.proofs.Common.{◌≡◌, ℕ, List, Bool, ap, ◌∙◌, subst, inl, inr, Option, Some, None, Result, Ok, Err, IfOk}
 use Rattle.std.specs.Prelude.{IfSome, IfNone}
-use Rattle.std.specs.Arc.{arc_value}
 use Rattle.std.specs.declared.sync.Arc.{Arc}
 use Rattle.std.specs.declared.alloc.Global.{Global}
 use Rattle.ll_laws.specs.declared.Event.{Event}
@@ -9,11 +8,11 @@ use Rattle.ll_laws.specs.Pool.{PoolData}
 use Rattle.ll_laws.specs.CoreEvents.{Starve, Does}
 use Rattle.ll_core.specs.Calls.{ClaimsAs}
 use Rattle.ll_core.specs.declared.answers.Claimed.{Claimed}
-use Rattle.ll_core.specs.declared.answers.Claimed.TheVariants.{Work, Idle, Finished, Starved, Stopped}
+use Rattle.ll_core.specs.declared.answers.Claimed.TheVariants.{Finished, Starved, Stopped}
 use Rattle.ll_pool.specs.Turns.{OneTurn}
 use Rattle.ll_laws.specs.Problem.{ProblemTree}
 use Rattle.ll_freeze.specs.Frozen.{FrozenSight, alternatives_in}
-use Rattle.ll_crew.specs.Seats.{Sat, asked, of_batch, IsSound, IsSeat, Same, HasLeft}
+use Rattle.ll_crew.specs.Seats.{Sat, asked, of_batch, HasLeft}
 use Rattle.ll_crew.specs.Leading.{Stands}
 use Rattle.ll_crew.specs.Leading as leading
 use Rattle.ll_crew.specs.Turns.{Stays, Leaves, Ended, Fails}

@@ -1,21 +1,19 @@
 -- How a search begins and ends.
-use Rattle.std.proofs.Common.{◌≡◌, ◌⊎◌, ℕ, ◌+◌, ◌≤◌, List, [], ◌∷◌, ◌++◌, Bool, true, refl, sym, ap, ◌∙◌, subst, inl, inr, arith, append_assoc, append-nil, false, Option, Some, None, Result, Ok, Err, IfOk, OnErr}
-use Rattle.std.specs.Prelude.{count_by, flat_map, sum_by}
+use Rattle.std.proofs.Common.{◌≡◌, ℕ, ◌+◌, List, [], ◌∷◌, ◌++◌, Bool, true, refl, sym, ap, ◌∙◌, subst, append-nil, false, Some, Result, Ok, Err, IfOk, OnErr}
+use Rattle.std.specs.Prelude.{count_by}
 use Rattle.std.proofs.lemmas.List.Concat.{flat_map-append}
 use Rattle.std.proofs.lemmas.List.Sums.{sum_by-append}
 use Rattle.ll_laws.specs.declared.Event.{Event}
 use Rattle.ll_laws.specs.declared.Counts.{Counts}
 use Rattle.ll_laws.specs.Pool.{Owed, PoolData}
-use Rattle.ll_laws.specs.Spread.{walk}
 use Rattle.ll_laws.specs.Search.{cut_count, is_answer, is_reached}
 use Rattle.ll_laws.specs.Sound.{Every, Sound}
 use Rattle.ll_laws.specs.CoreEvents.{opening, reports_left}
 use Rattle.ll_core.proofs.Openings.{opening_sound}
 use Rattle.ll_core.proofs.Cuts.{cut_sum, cut_twice}
-use Rattle.ll_core.specs.Given.{Given}
 use Rattle.ll_core.proofs.Given.{every_back}
 use Rattle.ll_core.proofs.Owing.{opening_given, all_events, all_costs, nothing_comes}
-use Rattle.ll_order.specs.Outlets.{Rose, Gives, Refuses, CountsOf, events_left, cost_left}
+use Rattle.ll_order.specs.Outlets.{Gives, Refuses, CountsOf, events_left, cost_left}
 use Rattle.ll_order.proofs.Givings.{gives_more, refuses_more}
 use Rattle.ll_pool.specs.Fits.{Fits}
 use Rattle.ll_pool.specs.declared.data.PoolProblem.{PoolProblem}

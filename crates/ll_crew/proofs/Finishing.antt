@@ -1,24 +1,20 @@
 -- Alternatives that a worker runs itself, one after the other.
-use Rattle.std.proofs.Common.{◌≡◌, ℕ, zero, suc, ◌+◌, ◌<◌, ◌≤◌, List, [], ◌∷◌, ◌++◌, take, length, get_or, refl, sym, ap, ◌∙◌, subst, arith, append_assoc, append-nil, Option, Some, None, IsSomeAnd}
-use Rattle.std.specs.Prelude.{slice_get, flat_map, sum_by}
-use Rattle.std.proofs.Math.Nat.{min-le_right, min-eq_left}
-use Rattle.std.proofs.lemmas.List.{take_more, take_all}
+use Rattle.std.proofs.Common.{◌≡◌, ℕ, zero, suc, ◌+◌, ◌<◌, List, [], ◌∷◌, ◌++◌, take, length, refl, sym, ap, ◌∙◌, arith, append_assoc, append-nil, Some}
+use Rattle.std.specs.Prelude.{slice_get}
+use Rattle.std.proofs.lemmas.List.{take_more}
 use Rattle.std.proofs.lemmas.List.Concat.{flat_map-append}
 use Rattle.std.proofs.lemmas.List.Sums.{sum_by-append}
-use Rattle.std.proofs.lemmas.Option.{get_or_from_slice_get, slice_get_within, slice_get-get_or}
+use Rattle.std.proofs.lemmas.Option.{get_or_from_slice_get, slice_get_within}
 use Rattle.ll_laws.specs.declared.Event.{Event}
 use Rattle.ll_laws.specs.Pool.{Owed}
 use Rattle.ll_laws.specs.Search.{cut_count}
-use Rattle.ll_laws.specs.Sound.{report_of}
 use Rattle.ll_core.proofs.Cuts.{cut_sum, cut_twice}
-use Rattle.ll_pool.specs.declared.data.OpenPiece.{OpenPiece}
 use Rattle.ll_laws.specs.Problem.{ProblemTree}
 use Rattle.ll_engine.specs.Seen.{Owing}
 use Rattle.ll_engine.specs.Resumes.{Resumes}
 use Rattle.ll_crew.specs.Seats.{Sat}
-use Rattle.ll_crew.specs.Pieces.{Owes, OwesAll, events_in, cost_in}
-use Rattle.ll_crew.specs.Turns.{Goes, Stays}
-use Rattle.ll_crew.specs.Runs.{RunsAlone, RunsAll, RunsFirst, Reports}
+use Rattle.ll_crew.specs.Pieces.{events_in, cost_in}
+use Rattle.ll_crew.specs.Runs.{RunsAlone, RunsFirst}
 
 one_more : (os : List (Owed Event)) (k : ℕ) (o : Owed Event) → slice_get os k ≡ Some o → take (k + 1) os ≡ take k os ++ o ∷ []
 one_more os k o e = take_more os k o (slice_get_within os k o e) ∙ ap (λ x. take k os ++ x ∷ []) (get_or_from_slice_get os k o o e)

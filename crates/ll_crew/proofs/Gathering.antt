@@ -1,11 +1,11 @@
 -- The seats of a crew, and the numbers that the first seat gave, less those of the seats that come back.
-use Rattle.std.proofs.Common.{◌≡◌, ◌⊎◌, ℕ, suc, ◌<◌, List, [], ◌∷◌, ◌++◌, map, true, false, inl, inr, ⊎_elim, sym, subst, ap, ◌∙◌, refl, eqb, if◌then◌else◌, eq-eqb, length, arith, None}
+use Rattle.std.proofs.Common.{◌≡◌, ◌⊎◌, ℕ, List, [], ◌∷◌, ◌++◌, map, true, false, inl, inr, ⊎_elim, ap, ◌∙◌, refl, eqb, if◌then◌else◌, eq-eqb}
 use Rattle.ll_turn.specs.Views.{without}
 use Rattle.ll_laws.specs.Sound.{Every}
 use Rattle.ll_pool.specs.Turns.{PoolSight}
 use Rattle.ll_laws.specs.Problem.{ProblemTree}
-use Rattle.ll_crew.specs.Seats.{Sat, HasLeft}
-use Rattle.ll_crew.specs.Turns.{CanWork, Worked, Leaves, Ended, Fails, Stays}
+use Rattle.ll_crew.specs.Seats.{Sat}
+use Rattle.ll_crew.specs.Turns.{CanWork}
 use Rattle.ll_crew.specs.Crews.{worker_of, without_all, EachWorked, IsBack}
 
 in_parts : (qs bs xs : List ℕ) → without_all (qs ++ bs) xs ≡ without_all bs (without_all qs xs)

@@ -1,5 +1,5 @@
 -- How what stands goes on from turn to turn.
-use Rattle.std.proofs.Common.{◌≡◌, ◌⊎◌, ℕ, ◌+◌, ◌≤◌, List, [], ◌∷◌, ◌++◌, Bool, true, false, refl, sym, ap, ◌∙◌, subst, ⊎_elim, inl, inr, arith, Option, Some, None}
+use Rattle.std.proofs.Common.{◌≡◌, ◌⊎◌, ℕ, ◌+◌, ◌≤◌, List, Bool, true, sym, ap, ◌∙◌, subst, ⊎_elim, inl, inr, Option, Some, None}
 use Rattle.std.specs.Prelude.{◌↔◌, count_by, MatchOption}
 use Rattle.std.proofs.lemmas.Bool.{true≢false}
 use Rattle.ll_laws.specs.declared.Event.{Event}
@@ -9,16 +9,13 @@ use Rattle.ll_laws.specs.Search.{cut_count, is_answer, is_reached}
 use Rattle.ll_laws.specs.Sound.{Every}
 use Rattle.ll_laws.specs.CoreEvents.{Ready, Events, Does}
 use Rattle.ll_laws.specs.CoreEvents as core
-use Rattle.ll_core.specs.Calls.{ready_answer}
-use Rattle.ll_core.specs.declared.answers.Ready.{Ready as ReadyCall}
-use Rattle.ll_core.specs.declared.answers.Ready.TheVariants as ready
-use Rattle.ll_order.specs.Outlets.{Rose, Gives, Refuses, CountsOf}
+use Rattle.ll_order.specs.Outlets.{Rose, Gives, Refuses}
 use Rattle.ll_order.specs.declared.outlet.OutFault.{OutFault}
 use Rattle.ll_order.specs.declared.outlet.OutFault.TheVariants.{Write}
 use Rattle.ll_pool.specs.Turns.{OneTurn}
 use Rattle.ll_laws.specs.Problem.{ProblemTree}
-use Rattle.ll_freeze.specs.Frozen.{FrozenSight, problem_owes, alternatives_in}
-use Rattle.ll_crew.specs.Seats.{Sat, asked, of_batch, IsSound, Same, Calm, HasLeft}
+use Rattle.ll_freeze.specs.Frozen.{FrozenSight, alternatives_in}
+use Rattle.ll_crew.specs.Seats.{Sat, asked, of_batch, Same, Calm, HasLeft}
 use Rattle.ll_crew.specs.Leading.{Leads, Broke, Stands, Stopped, PrefixGiven}
 use Rattle.ll_crew.specs.Turns.{Goes, Stays, Leaves}
 use Rattle.ll_crew.specs.declared.lead.Told.{Told}

@@ -1,15 +1,14 @@
 -- What worker 0 has told stays told, and one report more.
-use Rattle.std.proofs.Common.{◌≡◌, ◌⊎◌, ℕ, ◌+◌, ◌<◌, ◌≤◌, List, [], ◌∷◌, ◌++◌, true, refl, sym, ap, ◌∙◌, subst, ⊎_elim, inl, inr, arith, append_assoc, append-nil, le_trans, Option, Some, None}
-use Rattle.std.specs.Prelude.{◌↔◌, count_by, flat_map, sum_by}
+use Rattle.std.proofs.Common.{◌≡◌, ℕ, ◌+◌, ◌<◌, ◌≤◌, List, [], ◌∷◌, ◌++◌, refl, sym, ap, ◌∙◌, subst, ⊎_elim, inl, inr, arith, append_assoc, append-nil, le_trans, Some, None}
+use Rattle.std.specs.Prelude.{◌↔◌, count_by, sum_by}
 use Rattle.std.proofs.lemmas.List.Concat.{flat_map-append}
 use Rattle.std.proofs.lemmas.List.Sums.{sum_by-append}
 use Rattle.ll_laws.specs.declared.Event.{Event}
 use Rattle.ll_laws.specs.declared.Counts.{Counts}
-use Rattle.ll_laws.specs.Pool.{Owed, PoolData, Alternative}
+use Rattle.ll_laws.specs.Pool.{Owed, PoolData}
 use Rattle.ll_laws.specs.Search.{cut_count, is_answer, is_reached}
-use Rattle.ll_laws.specs.Sound.{Every, Sound}
-use Rattle.ll_laws.specs.Later.{Later}
-use Rattle.ll_laws.specs.CoreEvents.{Ready, Events, Starve, Stop, Does, took}
+use Rattle.ll_laws.specs.Sound.{Every}
+use Rattle.ll_laws.specs.CoreEvents.{Ready, Events, Starve, Stop, Does}
 use Rattle.ll_core.specs.Calls.{ready_answer}
 use Rattle.ll_core.specs.declared.answers.Ready.{Ready as ReadyCall}
 use Rattle.ll_core.specs.declared.answers.Ready.TheVariants as ready
@@ -22,14 +21,14 @@ use Rattle.ll_order.specs.Outlets.{Rose, Gives, Refuses, CountsOf}
 use Rattle.ll_order.specs.declared.outlet.OutFault.{OutFault}
 use Rattle.ll_order.specs.declared.outlet.OutFault.TheVariants.{Write}
 use Rattle.ll_order.proofs.Givings.{gives_more, refuses_more, counts_more, every_front}
-use Rattle.ll_pool.specs.Turns.{OneTurn, HasQuit}
+use Rattle.ll_pool.specs.Turns.{OneTurn}
 use Rattle.ll_core.proofs.FrontStays.{given_later}
 use Rattle.ll_laws.specs.Problem.{ProblemTree}
 use Rattle.ll_freeze.specs.Frozen.{FrozenSight, problem_owes, alternatives_in}
 use Rattle.ll_crew.specs.Pieces.{events_in, cost_in}
-use Rattle.ll_crew.specs.Seats.{Sat, asked, of_batch, IsSound, Same, Calm, HasLeft}
+use Rattle.ll_crew.specs.Seats.{Sat, asked, of_batch, IsSound, Calm, HasLeft}
 use Rattle.ll_crew.specs.Leading.{Kept, Leads, Broke}
-use Rattle.ll_crew.proofs.Calms.{calm_turn, found_sound, left_sound, seen_sound, turn_seen, turn_same}
+use Rattle.ll_crew.proofs.Calms.{calm_turn, found_sound, seen_sound, turn_seen}
 
 -- the events of what was taken are the first ones of the problem
 pub prefix_given : (p : PoolData FrozenSight Event) (problem : ProblemTree) (reports : List (Owed Event)) → IsSound p problem → Given of_batch alternatives_in p reports → (rest : List Event) × ((problem_owes problem).events ≡ events_in reports ++ rest)

@@ -8,3 +8,4 @@ pub mod Running
 pub mod Finishing
 pub mod Claiming
 mod AloneLemmas
+mod FirstLemmas

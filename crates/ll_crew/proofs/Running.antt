@@ -1,5 +1,5 @@
 -- Engines that go on, one stretch after the other.
-use Rattle.std.proofs.Common.{◌≡◌, ℕ, ◌+◌, ◌-◌, ◌<◌, ◌≤◌, List, [], ◌∷◌, ◌++◌, Bool, true, false, refl, sym, ap, ◌∙◌, subst, arith, append_assoc, append-nil, Option, Some, None, IsSomeAnd, Result, Ok, Err, OnErr}
+use Rattle.std.proofs.Common.{◌≡◌, ℕ, ◌+◌, ◌-◌, ◌≤◌, List, [], ◌++◌, Bool, true, refl, sym, ap, ◌∙◌, subst, arith, append-nil, Option, Some, None, Result, Ok, Err, OnErr}
 use Rattle.std.specs.declared.sync.Arc.{Arc}
 use Rattle.std.specs.declared.alloc.Global.{Global}
 use Rattle.ll_laws.specs.declared.Event.{Event}
@@ -8,7 +8,7 @@ use Rattle.ll_core.proofs.Cuts.{cut_sum}
 use Rattle.ll_pool.specs.declared.data.OpenPiece.{OpenPiece}
 use Rattle.ll_freeze.specs.Frozen.{FrozenSight}
 use Rattle.ll_engine.specs.Seen.{Owing}
-use Rattle.ll_crew.specs.Pieces.{Stretched, Stretching, Owes, OwesAll, OwesAfter, events_in, cost_in}
+use Rattle.ll_crew.specs.Pieces.{Stretched, Stretching, Owes, OwesAll, OwesAfter, cost_in}
 
 -- the counts of two stretches
 made_on : (m a b c n k : ℕ) → b ≤ a → c ≤ b → cut_count n ≡ cut_count (m + (a - b)) → cut_count k ≡ cut_count (n + (b - c)) → cut_count k ≡ cut_count (m + (a - c))

@@ -1,12 +1,10 @@
 -- What a piece owes once a batch was split off its engine.
-use Rattle.std.proofs.Common.{◌≡◌, ℕ, suc, ◌+◌, ◌≤◌, List, [], ◌∷◌, ◌++◌, length, refl, sym, ap, ◌∙◌, subst, arith, append_assoc, append-nil, Option, Some, None, IsSomeAnd, Err}
-use Rattle.std.specs.Prelude.{flat_map, sum_by}
+use Rattle.std.proofs.Common.{◌≡◌, ℕ, ◌<◌, List, [], ◌∷◌, ◌++◌, length, refl, sym, ap, ◌∙◌, subst, arith, append_assoc, append-nil, Option, Some, None, IsSomeAnd, Err}
 use Rattle.std.specs.Arc.{arc_value}
 use Rattle.std.specs.declared.sync.Arc.{Arc}
 use Rattle.std.specs.declared.alloc.Global.{Global}
 use Rattle.std.proofs.Math.ListN.{length-append}
 use Rattle.ll_laws.specs.declared.Event.{Event}
-use Rattle.ll_laws.specs.Pool.{Owed}
 use Rattle.ll_laws.specs.Search.{cut_count}
 use Rattle.ll_core.specs.Calls.{HandsBack}
 use Rattle.ll_core.specs.declared.answers.PublishFault.{PublishFault}
@@ -16,6 +14,9 @@ use Rattle.ll_pool.specs.declared.data.OpenPiece.{OpenPiece}
 use Rattle.ll_freeze.specs.Frozen.{FrozenSight, alternatives_in}
 use Rattle.ll_engine.specs.Seen.{Owing}
 use Rattle.ll_engine.specs.Splits.{Splits, SplitsTo}
+use Rattle.ll_crew.specs.Runs.{SharesTo}
+use Rattle.ll_crew.specs.declared.piece.Shared.{Shared}
+use Rattle.ll_crew.specs.declared.piece.Shared.TheVariants.{Published}
 use Rattle.ll_crew.specs.Pieces.{Owes, OwesAll, OwesAfter, events_in, cost_in}
 
 cancel_right : {X : Type 0} (xs ys zs : List X) → xs ++ zs ≡ ys ++ zs → xs ≡ ys
@@ -80,3 +81,7 @@ module _ (events : List Event) (old new : Owing) (b : FrozenSight) (s : SplitsTo
     work = s.work;
     of = λ other f. let same : batch ≡ other = some_of batch other f in ap (λ (n : Arc FrozenSight Global). (arc_value n).problem) (sym same) ∙ (ap (λ (n : FrozenSight). n.problem) is ∙ s.of);
   })
+
+-- the oldest choice point was published
+pub published : (piece : Option OpenPiece) (events : List Event) (old new : Owing) (shared : Shared) → shared ≡ Published → SharesTo piece events old new shared → OwesAfter piece events old new None × (new.points < old.points)
+published piece events old new shared e h = subst (SharesTo piece events old new) e h

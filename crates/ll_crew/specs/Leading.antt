@@ -1,5 +1,5 @@
 -- What worker 0 has told the outlet.
-use Rattle.std.specs.Prelude.{◌≡◌, ◌↔◌, ℕ, ◌≤◌, List, ◌++◌, true, Option, Some, None, MatchOption}
+use Rattle.std.specs.Prelude.{◌≡◌, ◌↔◌, ℕ, ◌≤◌, List, ◌++◌, true, None, MatchOption}
 use Rattle.ll_laws.specs.declared.Event.{Event}
 use Rattle.ll_laws.specs.declared.Counts.{Counts}
 use Rattle.ll_laws.specs.Pool.{Owed, PoolData}

@@ -1,5 +1,5 @@
 -- How the run of an engine ends, and the turns of a worker.
-use Rattle.std.specs.Prelude.{◌≡◌, ℕ, ◌+◌, List, [], ◌++◌, Bool, take, None, IsSomeAnd}
+use Rattle.std.specs.Prelude.{◌≡◌, ℕ, ◌+◌, ◌<◌, List, [], ◌++◌, Bool, take, Option, Some, None, IsSomeAnd}
 use Rattle.std.specs.Arc.{arc_value}
 use Rattle.ll_laws.specs.declared.Event.{Event}
 use Rattle.ll_laws.specs.Pool.{Owed}
@@ -10,12 +10,21 @@ use Rattle.ll_laws.specs.Problem.{ProblemTree}
 use Rattle.ll_freeze.specs.Frozen.{alternatives_in}
 use Rattle.ll_engine.specs.Seen.{Owing}
 use Rattle.ll_crew.specs.Seats.{Sat}
-use Rattle.ll_crew.specs.Pieces.{OwesAll, events_in, cost_in}
+use Rattle.ll_crew.specs.Pieces.{OwesAll, OwesAfter, events_in, cost_in}
 use Rattle.ll_crew.specs.Turns.{Stays, Goes, Leaves, Ended}
+use Rattle.ll_crew.specs.declared.piece.Shared.{Shared}
+use Rattle.ll_crew.specs.declared.piece.Shared.TheVariants.{Nothing, Published}
+use Rattle.ll_crew.specs.declared.piece.Shared.TheVariants as share
 use Rattle.ll_crew.specs.declared.piece.Ran.{Ran}
 use Rattle.ll_crew.specs.declared.piece.Ran.TheVariants.{Done, Back, Left}
 use Rattle.ll_crew.specs.declared.worker.Went.{Went}
 use Rattle.ll_crew.specs.declared.worker.Went.TheVariants as went
+
+-- nothing was left to share, or the oldest choice point was published and there is one less, or the batch came back
+abbrev pub SharesTo : Option OpenPiece → List Event → Owing → Owing → Shared → Type 0
+SharesTo piece events old new Nothing = OwesAfter piece events old new None
+SharesTo piece events old new Published = OwesAfter piece events old new None × (new.points < old.points)
+SharesTo piece events old new (share.Back batch) = OwesAfter piece events old new (Some batch)
 
 -- the engine has nothing left, or the piece owes a batch that came back, too, or the worker leaves
 abbrev pub RunsTo : Type 0 → Type 0 → Bool → ProblemTree → Ran → Sat → Sat → List Event → Owing → Type 0

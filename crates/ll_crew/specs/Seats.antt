@@ -1,7 +1,7 @@
 -- What workers know of their seats.
-use Rattle.std.specs.Prelude.{◌≡◌, ◌⊎◌, ℕ, List, true, false, Option, Some, None}
+use Rattle.std.specs.Prelude.{◌≡◌, Some, None}
 use Rattle.ll_laws.specs.declared.Event.{Event}
-use Rattle.ll_laws.specs.Pool.{Owed, PoolData}
+use Rattle.ll_laws.specs.Pool.{PoolData}
 use Rattle.ll_laws.specs.Sound.{Sound}
 use Rattle.ll_laws.specs.Later.{Later}
 use Rattle.ll_pool.specs.Turns.{PoolSight, SeatSight, HasQuit}

@@ -31,6 +31,7 @@ struct Hand<'a, 'p, R, G> {
     pool: &'a SharedPool<Frozen<'p>>,
     bell: &'a Bell,
     gate: &'a G,
+    at_once: bool,
     seat: Seat<Frozen<'p>>,
 }
 
@@ -43,6 +44,7 @@ struct Crowd<'a, 'p, R, G> {
     pool: &'a SharedPool<Frozen<'p>>,
     bell: &'a Bell,
     gate: &'a G,
+    at_once: bool,
     seats: Vec<Seat<Frozen<'p>>>,
 }
 
@@ -58,11 +60,12 @@ fn help<'a, 'p, R: Wait, G: Gate>(hand: Hand<'a, 'p, R, G>) -> Seat<Frozen<'p>>
         pool,
         bell,
         gate,
+        at_once,
         mut seat,
     } = hand;
     let mut mute = Mute;
     let start = Snapshot::of(&mute);
-    let mut told = Told::new(false);
+    let mut told = Told::new(false, at_once);
     let _done = work_as(
         rt, alloc, problem, pool, bell, gate, &start, &mut seat, &mut told, &mut mute,
     );
@@ -85,6 +88,7 @@ fn work_all<'a, 'p, R: Threads + Wait + Sync, G: Gate>(
         pool,
         bell,
         gate,
+        at_once,
         mut seats,
     } = crowd;
     let Some(seat) = seats.pop() else {
@@ -97,6 +101,7 @@ fn work_all<'a, 'p, R: Threads + Wait + Sync, G: Gate>(
         pool,
         bell,
         gate,
+        at_once,
         seat,
     };
     let rest = Crowd {
@@ -106,6 +111,7 @@ fn work_all<'a, 'p, R: Threads + Wait + Sync, G: Gate>(
         pool,
         bell,
         gate,
+        at_once,
         seats,
     };
     let (mut back, seat) = join(
@@ -159,6 +165,7 @@ pub(crate) fn work_together<'p, R: Threads + Wait + Sync, G: Gate, O: Outlet>(
         pool,
         bell,
         gate,
+        at_once: told.at_once,
         seats,
     };
     join_beside(

@@ -16,16 +16,19 @@ use std::sync::Wait;
 #[derive(Drop)]
 pub(crate) struct Told {
     pub(crate) leads: bool,
+    /// Whether it reports an answer as soon as it can: it then leaves the choice points of its piece to others.
+    pub(crate) at_once: bool,
     pub(crate) counts: Counts,
     pub(crate) fault: Option<OutFault>,
 }
 
 impl Told {
-    pub(crate) fn new(leads: bool) -> Told
-        ensures { result ≡ record { leads = leads; counts = record { answers = 0; reached = 0; inferences = 0 }; fault = None } }
+    pub(crate) fn new(leads: bool, at_once: bool) -> Told
+        ensures { result ≡ record { leads = leads; at_once = at_once; counts = record { answers = 0; reached = 0; inferences = 0 }; fault = None } }
     {
         Told {
             leads,
+            at_once,
             counts: Counts {
                 answers: 0,
                 reached: 0,

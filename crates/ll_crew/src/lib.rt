@@ -5,10 +5,12 @@ mod alone;
 mod bell;
 mod beside;
 mod crowd;
+mod first;
 mod lead;
 mod piece;
 mod whole;
 mod worker;
 
+pub use first::crew_first;
 pub use whole::{CrewFault, crew};
 pub use worker::work;

@@ -4,14 +4,14 @@ ghost use Rattle.ll_laws.specs.Sound.{report_of};
 ghost use Rattle.ll_freeze.specs.Frozen.{alternatives_in};
 ghost use Rattle.ll_crew.specs.Leading.{Stands, Stopped};
 ghost use Rattle.ll_crew.specs.Turns.{Stays, Leaves};
-ghost use Rattle.ll_crew.specs.Runs.{RunsTo, RunsAlone, RunsAll, Reports};
+ghost use Rattle.ll_crew.specs.Runs.{SharesTo, RunsTo, RunsAlone, RunsAll, Reports};
 ghost use Rattle.ll_crew.specs.Pieces.{Stretched, OwesAll, OwesAfter, events_in, cost_in};
 ghost use Rattle.ll_crew.specs.Seats.{IsSeat, Calm};
 
 use crate::bell::Bell;
 use crate::lead::{Told, look, tell};
 use ll_bank::OutOfMemory;
-use ll_core::PublishFault;
+use ll_core::{Look, PublishFault};
 use ll_engine::{Engine, Step2};
 use ll_freeze::Frozen;
 use ll_laws::{Batch, Event, Problem, Report};
@@ -24,22 +24,81 @@ use std::sync::{Arc, Wait};
 /// So many steps an engine goes between two looks.
 const STEPS: u32 = 256;
 
-/// At most `STEPS` steps of an engine, whose events are put behind those that there are. True where the engine is done.
-fn stretch(engine: &mut Engine<'_>, events: &mut Vec<Event>) -> Result<bool, OutOfMemory>
+/// At most `STEPS` steps of an engine, whose events are put behind those that there are, and no step behind an answer that is to be
+/// reported at once. True where the engine is done.
+fn stretch(
+    engine: &mut Engine<'_>,
+    events: &mut Vec<Event>,
+    at_once: bool,
+) -> Result<bool, OutOfMemory>
     ensures { IfOk result (λ done. Stretched done events.old.items engine.old events.new.items engine.new) }
 {
     for _step in 0..STEPS {
         match engine.step()? {
             Step2::Moved => {}
-            Step2::Event(event) => events.push(event)?,
+            Step2::Event(event) => {
+                events.push(event)?;
+                if at_once && ends_with_answer(events) {
+                    return Ok(false);
+                }
+            }
             Step2::Done => return Ok(true),
         }
     }
     Ok(false)
 }
 
-/// Publishes the oldest choice point of the engine, if it has one that is untried. A batch for which the pool has no place comes
-/// back, and the piece owes it still.
+// Whether the last of the events is an answer.
+fn ends_with_answer(events: &Vec<Event>) -> bool {
+    match events.last() {
+        Some(Event::Answer(_)) => true,
+        _ => false,
+    }
+}
+
+/// What came of sharing a choice point.
+#[derive(Drop)]
+enum Shared<'p> {
+    /// The engine has none that is untried.
+    Nothing,
+    /// The oldest was published.
+    Published,
+    /// The pool has no place for this batch, which the piece owes still.
+    Back(Arc<Frozen<'p>>),
+}
+
+// Publishes the oldest choice point of the engine, if it has one that is untried. A batch for which the pool has no place comes back.
+fn share_oldest<'p, R: Wait>(
+    rt: &R,
+    alloc: Global,
+    pool: &SharedPool<Frozen<'p>>,
+    bell: &Bell,
+    seat: &mut Seat<Frozen<'p>>,
+    engine: &mut Engine<'p>,
+    events: &Vec<Event>,
+) -> Result<Shared<'p>, OutOfMemory>
+    requires seat { IsSeat pool.now engine.old.problem seat.old }
+    requires owes { OwesAll seat.old.mine.piece events.now.items engine.old [] }
+    ensures calm { Calm seat.old seat.new }
+    ensures owes { IfOk result (λ shared. SharesTo seat.new.mine.piece events.now.items engine.old engine.new shared) }
+{
+    let Some(batch) = engine.split_oldest()? else {
+        return Ok(Shared::Nothing);
+    };
+    let alternatives = batch.len();
+    let batch = Arc::new(alloc, batch)?;
+    match pool.publish(rt, seat, batch) {
+        Ok(()) => {
+            bell.ring(rt, alternatives);
+            Ok(Shared::Published)
+        }
+        Err(PublishFault::Full { total: _, batch }) => Ok(Shared::Back(batch)),
+        Err(PublishFault::OutOfMemory { batch: _ }) => Err(AllocError),
+    }
+}
+
+/// Publishes the oldest choice point of the engine, if it has one that is untried, or all of them, the oldest first. A batch for which the
+/// pool has no place comes back, and the piece owes it still.
 fn share<'p, R: Wait>(
     rt: &R,
     alloc: Global,
@@ -48,25 +107,29 @@ fn share<'p, R: Wait>(
     seat: &mut Seat<Frozen<'p>>,
     engine: &mut Engine<'p>,
     events: &Vec<Event>,
+    all: bool,
 ) -> Result<Option<Arc<Frozen<'p>>>, OutOfMemory>
     requires seat { IsSeat pool.now engine.old.problem seat.old }
     requires owes { OwesAll seat.old.mine.piece events.now.items engine.old [] }
     ensures calm { Calm seat.old seat.new }
     ensures owes { IfOk result (λ back. OwesAfter seat.new.mine.piece events.now.items engine.old engine.new back) }
 {
-    let Some(batch) = engine.split_oldest()? else {
-        return Ok(None);
-    };
-    let alternatives = batch.len();
-    let batch = Arc::new(alloc, batch)?;
-    match pool.publish(rt, seat, batch) {
-        Ok(()) => {
-            bell.ring(rt, alternatives);
-            Ok(None)
+    'points: loop {
+        match share_oldest(rt, alloc, pool, bell, seat, engine, events)? {
+            Shared::Nothing => return Ok(None),
+            Shared::Published => {
+                if !all {
+                    return Ok(None);
+                }
+            }
+            Shared::Back(batch) => return Ok(Some(batch)),
         }
-        Err(PublishFault::Full { total: _, batch }) => Ok(Some(batch)),
-        Err(PublishFault::OutOfMemory { batch: _ }) => Err(AllocError),
     }
+}
+
+// Whether choice points are to be published: after an answer that is to be reported at once, and where workers have nothing to do.
+fn is_to_share(answered: bool, seen: Look, workers: u32) -> bool {
+    answered || (seen.untried == 0 && seen.busy < workers)
 }
 
 /// How the run of an engine ended.
@@ -80,7 +143,8 @@ enum Ran<'p> {
     Left,
 }
 
-// Runs an engine, and publishes its oldest choice point where workers have nothing to do.
+// Runs an engine, and publishes its oldest choice point where workers have nothing to do, or all of them after an answer that is to be
+// reported at once.
 fn run<'p, R: Wait, O: Outlet>(
     rt: &R,
     alloc: Global,
@@ -102,14 +166,15 @@ fn run<'p, R: Wait, O: Outlet>(
     ensures failed { OnErr result (Stays (Stands O.takes O.breaks O.welcome O.faults start.now.value problem.now seat.new out.new told.new) seat.old seat.new) }
 {
     'stretches: loop {
-        if stretch(engine, events)? {
+        if stretch(engine, events, told.at_once)? {
             return Ok(Ran::Done);
         }
         let Some(seen) = look(rt, problem, pool, start, seat, told, out) else {
             return Ok(Ran::Left);
         };
-        if seen.untried == 0 && seen.busy < pool.workers() {
-            if let Some(batch) = share(rt, alloc, pool, bell, seat, engine, events)? {
+        let answered = told.at_once && ends_with_answer(events);
+        if is_to_share(answered, seen, pool.workers()) {
+            if let Some(batch) = share(rt, alloc, pool, bell, seat, engine, events, answered)? {
                 return Ok(Ran::Back(batch));
             }
         }
@@ -136,7 +201,7 @@ fn run_alone<'p, R: Wait, O: Outlet>(
     ensures failed { OnErr result (Stays (Stands O.takes O.breaks O.welcome O.faults start.now.value problem.now seat.new out.new told.new) seat.old seat.new) }
 {
     'stretches: loop {
-        if stretch(engine, events)? {
+        if stretch(engine, events, false)? {
             return Ok(true);
         }
         if look(rt, problem, pool, start, seat, told, out).is_none() {

@@ -130,6 +130,7 @@ fn search<'p, R: Threads + Wait + Sync, G: Gate, O: Outlet>(
     problem: &'p Problem,
     pool: SharedPool<Frozen<'p>>,
     gate: &G,
+    at_once: bool,
     mut first: Seat<Frozen<'p>>,
     others: Vec<Seat<Frozen<'p>>>,
     out: &mut O,
@@ -144,7 +145,7 @@ fn search<'p, R: Threads + Wait + Sync, G: Gate, O: Outlet>(
     ensures kept { Kept O.takes O.breaks O.welcome O.faults out.old out.new }
 {
     let start = Snapshot::of(&*out);
-    let mut told = Told::new(true);
+    let mut told = Told::new(true, at_once);
     let bell = if others.is_empty() {
         Bell::silent()
     } else {
@@ -190,6 +191,29 @@ pub fn crew<'p, R: Threads + Wait + Sync, G: Gate, O: Outlet>(
     ensures faults_kept { O.faults out.old ≤ O.faults out.new }
     ensures welcome_kept { (e : Event) → O.welcome out.old e ↔ O.welcome out.new e }
 {
+    crew_by(rt, alloc, problem, workers, gate, false, out)
+}
+
+// The same. Where an answer is to be given at once, a worker that has found one leaves the rest of its piece to others, and reports.
+pub(crate) fn crew_by<'p, R: Threads + Wait + Sync, G: Gate, O: Outlet>(
+    rt: &R,
+    alloc: Global,
+    problem: &'p Problem,
+    workers: u32,
+    gate: &G,
+    at_once: bool,
+    out: &mut O,
+) -> Result<Counts, CrewFault>
+    requires workers { (0 < workers) × (workers ≤ 64) }
+    requires valid { IsValid problem.now }
+    requires welcome { Every (O.welcome out.old) (problem_events problem.now) }
+    ensures given { OnOk result (Gives O.takes out.old (problem_events problem.entry.now) out.new) }
+    ensures counts { IfOk result (λ counts. CountsOf counts (problem_events problem.entry.now) (problem_cost problem.entry.now)) }
+    ensures refused { OnErr result (GivesPrefix O.takes O.breaks out.old (problem_events problem.entry.now) out.new) }
+    ensures write { result ≡ Err CrewFault.Write → Rose (O.faults out.old) (O.faults out.new) }
+    ensures faults_kept { O.faults out.old ≤ O.faults out.new }
+    ensures welcome_kept { (e : Event) → O.welcome out.old e ↔ O.welcome out.new e }
+{
     if workers == 1 {
         gate.pause(0, 0);
         return search_alone(alloc, problem, out);
@@ -206,5 +230,5 @@ pub fn crew<'p, R: Threads + Wait + Sync, G: Gate, O: Outlet>(
     let Ok(others) = seats(alloc, problem, &pool, &mut first) else {
         return Err(CrewFault::OutOfMemory);
     };
-    search(rt, alloc, problem, pool, gate, first, others, out)
+    search(rt, alloc, problem, pool, gate, at_once, first, others, out)
 }

@@ -175,7 +175,7 @@ pub fn work<'p, R: Wait, G: Gate>(
 {
     let mut mute = Mute;
     let start = Snapshot::of(&mute);
-    let mut told = Told::new(false);
+    let mut told = Told::new(false, false);
     let bell = Bell::silent();
     work_as(
         rt, alloc, problem, pool, &bell, gate, &start, seat, &mut told, &mut mute,

@@ -1,11 +1,6 @@
-use Rattle.std.proofs.Common.{◌≡◌, ap, sym, subst, ◌∙◌, Some, Err}
+use Rattle.std.proofs.Common.{ap, Err}
 use Rattle.ll_laws.specs.declared.Event.{Event}
 use Rattle.ll_laws.specs.Pool.{Owed}
-use Rattle.ll_laws.specs.Sound.{Every}
-use Rattle.ll_core.specs.Calls.{ready_answer}
-use Rattle.ll_freeze.specs.Frozen.{alternatives_in}
-use Rattle.ll_crew.specs.Seats.{asked}
-use Rattle.ll_crew.proofs.Calms.{same_on, turn_same}
 use Rattle.ll_crew.proofs.Leadings.{calm_ready}
 use Rattle.ll_crew.proofs.Goings.{goes_calm, told_welcome, told_more, told_refused}
 use Rattle.ll_crew.proofs.lead.tell_all.Goals as goal

@@ -1,4 +1,4 @@
-use Rattle.std.proofs.Common.{◌≡◌, ℕ, ◌+◌, ◌<◌, length, ap, sym, ◌∙◌, arith}
+use Rattle.std.proofs.Common.{◌≡◌, ◌+◌, ◌<◌, length, ap, ◌∙◌, arith}
 use Rattle.ll_laws.specs.Search.{cut_count}
 use Rattle.ll_freeze.specs.Frozen.{alternatives_in}
 use Rattle.ll_crew.specs.Leading.{Stands}

@@ -1,4 +1,4 @@
-use Rattle.std.proofs.Common.{◌≡◌, ◌∙◌}
+use Rattle.std.proofs.Common.{◌∙◌}
 use Rattle.ll_crew.specs.Leading.{Stands, Stopped}
 use Rattle.ll_crew.proofs.Goings.{stays_goes}
 use Rattle.ll_crew.proofs.Claiming.{stays_out, back_stays, none_on}

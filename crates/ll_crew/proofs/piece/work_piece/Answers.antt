@@ -1,4 +1,4 @@
-use Rattle.std.proofs.Common.{◌≡◌, ◌∙◌}
+use Rattle.std.proofs.Common.{◌∙◌}
 use Rattle.ll_crew.specs.Turns.{Stays}
 use Rattle.ll_crew.specs.Leading.{Stands, Stopped}
 use Rattle.ll_crew.specs.Runs.{Reports}

@@ -1,4 +1,4 @@
-use Rattle.std.proofs.Common.{◌≡◌, ◌∙◌, refl}
+use Rattle.std.proofs.Common.{◌∙◌}
 use Rattle.ll_core.specs.declared.answers.Claimed.TheVariants as claims
 use Rattle.ll_crew.specs.Leading.{Stands}
 use Rattle.ll_crew.proofs.Goings.{stays_goes}

@@ -5,7 +5,7 @@ use Rattle.ll_freeze.specs.Frozen.{FrozenSight, opening}
 use Rattle.ll_crew.specs.Seats.{Sat}
 use Rattle.ll_crew.specs.Leading.{Leads}
 use Rattle.ll_crew.proofs.Endings.{leads_first}
-use Rattle.ll_crew.proofs.whole.crew.Goals as goal
+use Rattle.ll_crew.proofs.whole.crew_by.Goals as goal
 
 pub search-requires-clause-leads : goal.search-requires-clause-leads
 search-requires-clause-leads g c κs within =

@@ -1,0 +1,2 @@
+pub mod Uptos
+pub mod Enoughs

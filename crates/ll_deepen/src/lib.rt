@@ -3,4 +3,4 @@
 
 mod series;
 
-pub use series::{Series, Trial, deciding_bound, deepen};
+pub use series::{Series, Trial, deciding_bound, deepen, is_decided};

@@ -65,8 +65,8 @@ pub fn deepen<T: Trial>(series: &Series, trial: &mut T) -> Result<u32, OutOfMemo
     }
 }
 
-// Whether a search with these counts decides: it has an answer, or no branch reached the bound.
-fn is_decided(counts: &Counts) -> bool
+/// Whether a search with these counts decides: it has an answer, or no branch reached the bound.
+pub fn is_decided(counts: &Counts) -> bool
     ensures { (events : List Event) (cost : ℕ) → CountsOf counts.now events cost → result ≡ is_decisive events }
 {
     if counts.answers > 0 {

@@ -13,10 +13,7 @@ pub struct Written {
 pub fn derivations_in(alloc: Global, output: &str) -> Result<Vec<Written>, AllocError> {
     let mut found = Vec::new(alloc);
     for behind in output.split("proof 1\n").skip(1) {
-        let lines = match behind.split_once("\nanswer") {
-            Some((lines, _)) => lines,
-            None => behind,
-        };
+        let lines = lines_before(lines_before(behind, "\nanswer"), "\nstopped");
         let nodes = nodes_in(lines);
         let counts_numbers = has_number_line(lines);
         let text = format!(in alloc; "proof 1\n{lines}\n")?;
@@ -27,6 +24,14 @@ pub fn derivations_in(alloc: Global, output: &str) -> Result<Vec<Written>, Alloc
         })?;
     }
     Ok(found)
+}
+
+// What stands in front of a line that begins so, or everything where there is none.
+fn lines_before<'a>(text: &'a str, line: &str) -> &'a str {
+    match text.split_once(line) {
+        Some((lines, _)) => lines,
+        None => text,
+    }
 }
 
 fn nodes_in(lines: &str) -> usize {

@@ -107,12 +107,12 @@ fn room_failure<R: Threads + Wait + Sync>(
     Ok(None)
 }
 
-// Each derivation that the row wrote is checked, and covered with the row's bound, unless it counts numbers.
+// Each derivation that a row with `--proofs` wrote is checked, and covered with the row's bound, unless it counts numbers.
 fn derivation_failure(alloc: Global, row: &Row) -> Result<Option<Failure>, AllocError> {
     let Ok(output) = str::from_utf8(&row.output) else {
         return Ok(None);
     };
-    if row.status != 0 {
+    if row.status != 0 || !asks_for_derivations(row) {
         return Ok(None);
     }
     let mut number = 0usize;
@@ -126,6 +126,11 @@ fn derivation_failure(alloc: Global, row: &Row) -> Result<Option<Failure>, Alloc
         }
     }
     Ok(None)
+}
+
+// Whether the row has the word `--proofs`. What a conversion writes is of no search.
+fn asks_for_derivations(row: &Row) -> bool {
+    row.words.iter().any(|word| word.as_str() == "--proofs")
 }
 
 // The derivation with this number is checked.
@@ -161,14 +166,14 @@ fn cover_failure(
     unless_wanted(alloc, Trial::Covered(number), came, 0, line.as_bytes())
 }
 
-// The word behind `--bound`.
+// The word behind `--bound`, or behind `--to` in a deepening.
 fn bound_of(row: &Row) -> &str {
     let mut behind = false;
     for word in &row.words {
         if behind {
             return word.as_str();
         }
-        behind = word.as_str() == "--bound";
+        behind = word.as_str() == "--bound" || word.as_str() == "--to";
     }
     ""
 }

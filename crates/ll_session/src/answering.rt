@@ -115,8 +115,8 @@ fn answer_line<R: Replies>(
     }
 }
 
-// The fault of a line's own text, as one of the whole text.
-fn on_line(line: u32, fault: Fault) -> Fault
+/// The fault of a line's own text, as one of the whole text: it has the number of the line.
+pub fn on_line(line: u32, fault: Fault) -> Fault
     ensures { result ≡ on_line line fault }
 {
     Fault {

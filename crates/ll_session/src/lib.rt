@@ -7,7 +7,8 @@ mod laws;
 mod lines;
 mod replies;
 
-pub use answering::{answer_lines, session};
+pub use answering::{answer_lines, on_line, session};
 pub use asking::ask_text;
 pub use laws::one_session;
+pub use lines::{is_query_line, split_line};
 pub use replies::{Asked, Replies};

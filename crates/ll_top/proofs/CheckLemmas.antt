@@ -18,8 +18,8 @@ use Rattle.ll_laws.specs.Verdict.{DerivationShows, root_free, root_bounded, inst
 use Rattle.ll_lexer.specs.declared.TextFault.{TextFault}
 use Rattle.ll_lexer.specs.declared.TextFault.TheVariants as text_fault
 use Rattle.ll_prooftext.specs.Mentions.{text_names}
-use Rattle.ll_prooftext.specs.Reading.{IsTextOf, IsCause}
 use Rattle.ll_prooftext.specs.Terms.{Grows}
+use Rattle.ll_prooftext.specs.Versions.{IsProofText, IsCauseIn}
 use Rattle.ll_sequent.specs.Told.{IsVerdict}
 use Rattle.ll_sequent.specs.declared.Verdict.TheVariants.{Yes, No}
 use Rattle.ll_top.specs.declared.judge.Role.{Role}
@@ -74,7 +74,7 @@ module _ (told : Option Texts) (absence read_failed : Type 0) (check : CheckWord
 
 -- ---- the derivation
 
-pub derivation-refused : (proof : List ℕ) (fault : TextFault) (e : Refusal) → e ≡ refusal_of Proof fault → IsCause proof fault → IsNoDerivation proof e
+pub derivation-refused : (proof : List ℕ) (fault : TextFault) (e : Refusal) → e ≡ refusal_of Proof fault → IsCauseIn proof fault → IsNoDerivation proof e
 derivation-refused proof (text_fault.Text f) e r h = subst (IsNoDerivation proof) (sym r) (refl, h)
 derivation-refused proof text_fault.OutOfMemory e r h = subst (IsNoDerivation proof) (sym r) tt
 
@@ -165,11 +165,11 @@ module _ (program query proof : List ℕ) (bound : Option ℕ) where
     proof-refused OutOfMemory h = tt
 
     -- it was judged over the problem, with the names that came to its own
-    pub found-of : (names : List (List ℕ)) → names ≡ with_names p.names (text_names proof) → (d : DerivationLines) → IsTextOf names proof d → (finding : Finding) → IsFinding (is_some bound) (record p { names = names }) d finding
+    pub found-of : (names : List (List ℕ)) → names ≡ with_names p.names (text_names proof) → (d : DerivationLines) → IsProofText names proof d → (finding : Finding) → IsFinding (is_some bound) (record p { names = names }) d finding
         → Finds program query proof bound (Ok finding)
     found-of names e d is_text finding h =
         let same = ap operators_of e ∙ same-operators p.names proof in
-        (p, d, record { asks = asks; is_text = subst (λ ns. IsTextOf ns proof d) e is_text }, finding-without p names same (is_some bound) d finding h)
+        (p, d, record { asks = asks; is_text = subst (λ ns. IsProofText ns proof d) e is_text }, finding-without p names same (is_some bound) d finding h)
 
 -- ---- covers
 

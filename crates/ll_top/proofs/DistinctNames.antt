@@ -98,7 +98,7 @@ module _ (ms : List (List ℕ)) where
   differ-modules names (m ∷ rest) d =
       differ-modules (read_module ms names m).names rest (differ-clauses (module_scope m) (with_name names m.name.text) m.clauses (differ-name names m.name.text d))
 
-none-differ : Differ []
+pub none-differ : Differ []
 unfolding IsDistinct
 none-differ = tt
 

@@ -5,7 +5,7 @@ use Rattle.std.specs.List.{list_any, list_all}
 use Rattle.std.proofs.lemmas.Slice.Eq.{bytes_eq-Decides}
 use Rattle.ll_top.specs.Begins.{Begins, IsFirstBad, Leads}
 use Rattle.ll_top.specs.Words.{Part, is_part, is_word, OptionForm, Takes, here, behind, Fits, part, option, done}
-use Rattle.ll_top.specs.RunForm.{HasPart, LacksPart}
+use Rattle.ll_top.specs.FormWords.{HasPart, LacksPart}
 use Rattle.ll_top.proofs.FirstBad.{leads-next, leads-bad, IsStuck}
 
 pub same-word : (w : List ℕ) → is_word w w ≡ true
@@ -37,11 +37,14 @@ pub record Chosen (os : List OptionForm) (w : List ℕ) (ws : List (List ℕ)) :
   pub is : w ≡ o.word
   pub rest : Fits o.values others ws
 
-option-first : {os : List OptionForm} {w : List ℕ} {ws : List (List ℕ)} → Fits [] os (w ∷ ws) → Chosen os w ws
+pub option-first : {os : List OptionForm} {w : List ℕ} {ws : List (List ℕ)} → Fits [] os (w ∷ ws) → Chosen os w ws
 option-first (option {o} {os} {others} t e f) = record { o = o; others = others; takes = t; is = e; rest = f }
 
 pub options-end : {os : List OptionForm} → Fits [] os [] → list_all (λ o. o.may_lack) os ≡ true
 options-end (done h) = h
+
+pub no-option : {w : List ℕ} {ws : List (List ℕ)} → Fits [] [] (w ∷ ws) → ⊥
+no-option (option t e f) = elim t [ ]
 
 -- ---- options with different words
 
@@ -49,7 +52,7 @@ abbrev pub DifferentWords : List OptionForm → Type 0
 DifferentWords [] = Unit {0}
 DifferentWords (o ∷ os) = (list_any (λ p. is_word o.word p.word) os ≡ false) × DifferentWords os
 
-taken-any : {o : OptionForm} {os others : List OptionForm} (w : List ℕ) → w ≡ o.word → Takes o os others → list_any (λ p. is_word w p.word) os ≡ true
+pub taken-any : {o : OptionForm} {os others : List OptionForm} (w : List ℕ) → w ≡ o.word → Takes o os others → list_any (λ p. is_word w p.word) os ≡ true
 taken-any w e (here {first} {os} f) = or-left (is_word w first.word) (list_any (λ p. is_word w p.word) os) (ap (λ v. is_word w v) (ap (λ x. x.word) f ∙ sym e) ∙ same-word w)
 taken-any w e (behind {first} {os} {others} t) = or-right (is_word w first.word) (list_any (λ p. is_word w p.word) os) (taken-any w e t)
 
@@ -62,6 +65,13 @@ one-option d (here f) (here g) e = record { options = sym f ∙ g; others = refl
 one-option d (here {first} {os} f) (behind t) e = absurd (let a = taken-any first.word (ap (λ x. x.word) f ∙ e) t in let b = d.0 in cc)
 one-option d (behind t) (here {first} {os} g) e = absurd (let a = taken-any first.word (ap (λ x. x.word) g ∙ sym e) t in let b = d.0 in cc)
 one-option d (behind {first} t) (behind u) e = let r = one-option d.1 t u e in record { options = r.options; others = ap (λ l. first ∷ l) r.others }
+
+-- what follows the word of an option
+pub option-next : {o : OptionForm} {os others : List OptionForm} → DifferentWords os → Takes o os others → (ys : List (List ℕ)) → Fits [] os (o.word ∷ ys) → Fits o.values others ys
+option-next {o} {os} {others} d t ys f =
+    let c = option-first f in
+    let s = one-option d c.takes t (sym c.is) in
+    subst (λ q. Fits q.values others ys) s.options (subst (λ l. Fits c.o.values l ys) s.others c.rest)
 
 -- ---- from one word to the next
 
@@ -81,12 +91,6 @@ module _ (L : List (List ℕ) → Type 0) (words : List (List ℕ)) (n : ℕ) wh
   -- no word for a part
   pub bad-part : (p : Part) (ps : List Part) (os : List OptionForm) → LacksPart words n p → Begins (Fits (p ∷ ps) os) [] → Leads L (Fits (p ∷ ps) os) words n → IsFirstBad L words n
   bad-part p ps os h b l = leads-bad L (Fits (p ∷ ps) os) words n l b (stuck-part p ps os (slice_get words n) h)
-
-  option-next : {o : OptionForm} {os others : List OptionForm} → DifferentWords os → Takes o os others → (ys : List (List ℕ)) → Fits [] os (o.word ∷ ys) → Fits o.values others ys
-  option-next {o} {os} {others} d t ys f =
-      let c = option-first f in
-      let s = one-option d c.takes t (sym c.is) in
-      subst (λ q. Fits q.values others ys) s.options (subst (λ l. Fits c.o.values l ys) s.others c.rest)
 
   -- the word of an option
   pub leads-option : {o : OptionForm} {os others : List OptionForm} → DifferentWords os → Takes o os others → slice_get words n ≡ Some o.word → Leads L (Fits [] os) words n → Leads L (Fits o.values others) words (n + 1)

@@ -1,7 +1,6 @@
--- Words and texts determine what is written.
-use Rattle.std.proofs.Common.{◌≡◌, ◌<◌, ◌≤◌, ◌+◌, ℕ, List, [], ◌∷◌, length, Option, Some, None, refl, ap, sym, subst, ◌∙◌, inl, inr, arith}
-use Rattle.std.specs.Prelude.{IsSomeAnd, slice_get, codes, map, false, option_map}
-use Rattle.std.specs.Str.Parse.{digits_value}
+-- Texts determine what a run, a print, a check and a cover come to.
+use Rattle.std.proofs.Common.{◌≡◌, ◌<◌, ◌≤◌, ◌^◌, ℕ, List, [], ◌∷◌, length, Option, Some, None, refl, ap, sym, subst, ◌∙◌, arith}
+use Rattle.std.specs.Prelude.{IsSomeAnd, map, false}
 use Rattle.std.specs.List.{list_any, position_from}
 use Rattle.ll_edge.specs.Texts.{Texts, text_of}
 use Rattle.ll_laws.specs.Problem.{ProblemTree}
@@ -17,7 +16,6 @@ use Rattle.ll_top.proofs.CountingLemmas.{none-counts}
 use Rattle.std.specs.Str.{bytes_eq}
 use Rattle.ll_bank.specs.Names.{with_names}
 use Rattle.ll_prooftext.specs.Mentions.{text_names}
-use Rattle.ll_prooftext.specs.Reading.{IsTextOf, HasFault as HasProofFault}
 use Rattle.ll_lexer.specs.declared.Fault.{Fault}
 use Rattle.ll_lexer.specs.Reading.{LexedText, IsLexed, HasFault}
 use Rattle.ll_parser.specs.Tokens.{Tok, toks_of}
@@ -29,104 +27,73 @@ use Rattle.ll_polarity.specs.Faults.{heading, program_faults, query_faults}
 use Rattle.ll_polarity.specs.Asks.{part_of, problem_with, IsFirst, HasProgramFault, HasQueryFault}
 use Rattle.ll_top.specs.declared.judge.Role.{Role}
 use Rattle.ll_top.specs.declared.judge.Role.TheVariants.{Program, Query}
-use Rattle.ll_top.specs.Words.{RunWords, CheckWords, IsInForm, IsRun, IsCheckForm, IsCheck, IsMake, IsMadeRun, made_options, IsBadWord, number_behind}
+use Rattle.ll_top.specs.Words.{RunWords, SessionWords, DeepenWords, CheckWords, ConvertWords}
 use Rattle.ll_make.specs.Kinds.{query_text}
-use Rattle.ll_top.specs.Making.{MakeWords, MadeRunWords, make_text, kind_word}
+use Rattle.ll_top.specs.Making.{MadeRunWords, make_text, kind_word}
 use Rattle.ll_top.specs.MadeRuns.{MadeRunComesTo, made_ran, made_faulty, last_line}
-use Rattle.ll_top.specs.Faults.{Cause, Usage, Absent, Oversized, Faulty, fault_text, cause_status}
+use Rattle.ll_top.specs.Faults.{Cause, Absent, Oversized, Faulty, fault_text, cause_status}
 use Rattle.ll_top.specs.Judging.{HasGrammarFault, IsProgramText, IsQueryText, IsReadingFault, lexical, grammatical, IsFaultless, IsProgramFault, of_program_reading, of_program_scope, IsQueryFault, of_query_reading, of_query_scope, IsTextFault, of_program, of_query, TextsAsk, most_open, IsCheckFault, of_run_texts, of_proof, TextsGive}
 use Rattle.ll_top.specs.Verdicts.{yes_text, no_text, covered_text, too_long_text, counts_text}
-use Rattle.ll_top.specs.Outcome.{name_of, IsRead, Reaches, first, later, run_texts, ReadFails, absent, unreadable, oversized, RunFails, not_read, faulty, RunAsks, whole_text, RunComesTo, ran, failed, IsPrintedAs, PrintFails, source_not_read, faulty_source, PrintComesTo, printed, print_failed, name_in_check, check_texts, CheckFails, texts_not_read, faulty_text, CheckGives, bound_in, IsRefuted, IsCovered, CountsAt, CheckComesTo, shown, refuted, covered, too_long, counting, check_failed, ComesTo, misused, runs, prints, checks, makes, runs_made, longest_text}
-use Rattle.ll_top.proofs.FirstBad.{one-bad}
-use Rattle.ll_top.proofs.OutcomeLemmas.{bad-not-in-form, run-in-form, print-in-form, check-in-form, made-in-form, made-run-in-form}
-use Rattle.ll_top.proofs.CommandWords.{run-or-print, run-not-checked, print-not-checked, check-or-cover, run-or-make, print-or-make, make-not-checked, make-or-run}
-use Rattle.ll_top.proofs.MakeLemmas.{same-kind}
+use Rattle.ll_top.specs.Outcome.{name_of, IsRead, Reaches, first, later, run_texts, ReadFails, absent, unreadable, oversized, RunFails, not_read, faulty, RunAsks, status_of_run, text_of_run, RunComesTo, ran, failed, IsPrintedAs, PrintFails, source_not_read, faulty_source, PrintComesTo, printed, print_failed, name_in_check, check_texts, CheckFails, texts_not_read, faulty_text, CheckGives, bound_in, IsRefuted, IsCovered, CountsAt, CheckComesTo, shown, refuted, covered, too_long, counting, check_failed, longest_text}
+use Rattle.ll_top.specs.Calls.{runs, prints, checks}
 use Rattle.ll_top.proofs.GrammarLemmas.{IsOfGrammar}
-use Rattle.ll_top.proofs.DistinctNames.{differ-names, differ-problem}
-
--- ---- words
+use Rattle.ll_top.proofs.DistinctNames.{none-differ, differ-names, differ-problem}
+use Rattle.ll_prooftext.specs.Versions.{IsTextIn, IsProofText, HasFaultIn}
+use Rattle.ll_prooftext.specs.Sizes.{text_in}
+use Rattle.ll_session.specs.Queries.{QueryLine, HaveQueries}
+use Rattle.ll_top.specs.Sessions.{SessionComesTo}
+use Rattle.ll_top.specs.Deepening.{DeepenComesTo}
+use Rattle.ll_top.specs.Converting.{own_names, IsConverted, ConvertFails, proof_not_read, faulty_proof, too_long_as, ConvertComesTo, converted, convert_failed}
+use Rattle.ll_top.proofs.SessionLaws.{sessions-one}
+use Rattle.ll_top.proofs.DeepenLaws.{deepens-one}
 
 some-same : {A : Type 0} (x y : A) (o : Option A) → o ≡ Some x → o ≡ Some y → x ≡ y
 some-same x y o e f = cc
 
-pub one-number : (words : List (List ℕ)) (n m : ℕ) → IsBadWord words n → IsBadWord words m → n ≡ m
-one-number words n m b c = b.is ∙ (ap (λ p. p + 1) (one-bad IsInForm words b.place c.place b.bad c.bad) ∙ sym c.is)
-
-pub one-run : (words : List (List ℕ)) (r s : RunWords) → IsRun words r → IsRun words s → r ≡ s
-one-run words r s h k =
-    let p = some-same r.program s.program (slice_get words 1) h.program k.program in
-    let q = some-same r.query s.query (slice_get words 2) h.query k.query in
-    let b = some-same r.bound s.bound (number_behind (codes "--bound") words) h.bound k.bound in
-    let w = some-same r.workers s.workers (number_behind (codes "--workers") words) h.workers k.workers in
-    let o = sym h.proofs ∙ k.proofs in
-    λ i. record { program = p i; query = q i; bound = b i; workers = w i; proofs = o i }
-
-one-bound : (words : List (List ℕ)) (b c : Option ℕ) → IsCheckForm words b → IsCheckForm words c → b ≡ c
-one-bound words None None f g = refl
-one-bound words None (Some c) f g = absurd (check-or-cover words f g.0)
-one-bound words (Some b) None f g = absurd (check-or-cover words g f.0)
-one-bound words (Some b) (Some c) f g = sym f.1 ∙ g.1
-
-pub one-check : (words : List (List ℕ)) (c d : CheckWords) → IsCheck words c → IsCheck words d → c ≡ d
-one-check words c d h k =
-    let p = some-same c.program d.program (slice_get words 1) h.program k.program in
-    let q = some-same c.query d.query (slice_get words 2) h.query k.query in
-    let r = some-same c.proof d.proof (slice_get words 3) h.proof k.proof in
-    let b = one-bound words c.bound d.bound h.form k.form in
-    λ i. record { program = p i; query = q i; proof = r i; bound = b i }
-
-pub one-make : (words : List (List ℕ)) (m n : MakeWords) → IsMake words m → IsMake words n → m ≡ n
-one-make words m n h k =
-    let e = same-kind words m.kind n.kind (inl h.form) (inl k.form) in
-    let v = some-same m.number n.number (option_map (digits_value 10) (slice_get words 2)) h.number k.number in
-    λ i. record { kind = e i; number = v i }
-
-pub one-made-run : (words : List (List ℕ)) (m n : MadeRunWords) → IsMadeRun words m → IsMadeRun words n → m ≡ n
-one-made-run words m n h k =
-    let e = same-kind words m.make.kind n.make.kind (inr h.form) (inr k.form) in
-    let v = some-same m.make.number n.make.number (option_map (digits_value 10) (slice_get words 2)) h.number k.number in
-    let b = some-same m.bound n.bound (number_behind (codes "--bound") words) h.bound k.bound in
-    let w = some-same m.workers n.workers (number_behind (codes "--workers") words) h.workers k.workers in
-    λ i. record { make = record { kind = e i; number = v i }; bound = b i; workers = w i }
-
 -- ---- texts
 
-module _ (same : (a b : LexedText) → a.text ≡ b.text → IsLexed a → IsLexed b → a ≡ b) (one : (text : List ℕ) (f g : Fault) → HasFault text f → HasFault text g → f ≡ g)
-    (not_both : (a : LexedText) (f : Fault) → IsLexed a → HasFault a.text f → ⊥)
-    (one_grammar : (role : Role) (l : LexedText) (f g : Fault) → HasGrammarFault role l f → HasGrammarFault role l g → f ≡ g)
-    (no_grammar : (role : Role) (l : LexedText) (f : Fault) → IsOfGrammar role l → HasGrammarFault role l f → ⊥)
-    (one_tree : (limit : ℕ) (ts : List Tok) (p q : ProgramTree) → Reads programs limit ts p → Reads programs limit ts q → p ≡ q)
-    (one_goal : (limit : ℕ) (ts : List Tok) (p q : Raw) → Reads queries limit ts p → Reads queries limit ts q → p ≡ q)
-    (one_derivation : (names : List (List ℕ)) (text : List ℕ) (d e : DerivationLines) → IsDistinct bytes_eq names → IsTextOf names text d → IsTextOf names text e → d ≡ e)
-    (one_proof : (text : List ℕ) (f g : Fault) → HasProofFault text f → HasProofFault text g → f ≡ g)
-    (no_proof_fault : (names : List (List ℕ)) (text : List ℕ) (d : DerivationLines) (f : Fault) → IsTextOf names text d → HasProofFault text f → ⊥) where
+-- what is known of the reading of texts: each has one list of tokens or one fault; these have one tree or one fault by the grammar; and the
+-- text of a derivation is of one derivation or has one fault
+pub record Laws : Type 0 where
+  pub same : (a b : LexedText) → a.text ≡ b.text → IsLexed a → IsLexed b → a ≡ b
+  pub one : (text : List ℕ) (f g : Fault) → HasFault text f → HasFault text g → f ≡ g
+  pub not_both : (a : LexedText) (f : Fault) → IsLexed a → HasFault a.text f → ⊥
+  pub one_grammar : (role : Role) (l : LexedText) (f g : Fault) → HasGrammarFault role l f → HasGrammarFault role l g → f ≡ g
+  pub no_grammar : (role : Role) (l : LexedText) (f : Fault) → IsOfGrammar role l → HasGrammarFault role l f → ⊥
+  pub one_tree : (limit : ℕ) (ts : List Tok) (p q : ProgramTree) → Reads programs limit ts p → Reads programs limit ts q → p ≡ q
+  pub one_goal : (limit : ℕ) (ts : List Tok) (p q : Raw) → Reads queries limit ts p → Reads queries limit ts q → p ≡ q
+  pub one_derivation : (names : List (List ℕ)) (text : List ℕ) (v w : ℕ) (d e : DerivationLines) → IsDistinct bytes_eq names → length text < 2 ^ 64 → IsTextIn v names text d → IsTextIn w names text e → (v ≡ w) × (d ≡ e)
+  pub one_proof : (text : List ℕ) (f g : Fault) → length text < 2 ^ 64 → HasFaultIn text f → HasFaultIn text g → f ≡ g
+  pub no_proof_fault : (names : List (List ℕ)) (text : List ℕ) (v : ℕ) (d : DerivationLines) (f : Fault) → IsDistinct bytes_eq names → length text < 2 ^ 64 → IsTextIn v names text d → HasFaultIn text f → ⊥
+
+module _ (laws : Laws) where
   apart : (text : List ℕ) (l : LexedText) (f : Fault) → l.text ≡ text → IsLexed l → HasFault text f → ⊥
-  apart text l f e h g = not_both l f h (subst (λ t. HasFault t f) (sym e) g)
+  apart text l f e h g = laws.not_both l f h (subst (λ t. HasFault t f) (sym e) g)
 
   -- a fault by the grammar, of the same text
   moved : (role : Role) (l m : LexedText) (f : Fault) → l ≡ m → HasGrammarFault role l f → HasGrammarFault role m f
   moved role l m f e h = subst (λ x. HasGrammarFault role x f) e h
 
   one-reading-fault : (role : Role) (text : List ℕ) (f g : Fault) → IsReadingFault role text f → IsReadingFault role text g → f ≡ g
-  one-reading-fault role text f g (lexical h) (lexical k) = one text f g h k
+  one-reading-fault role text f g (lexical h) (lexical k) = laws.one text f g h k
   one-reading-fault role text f g (lexical h) (grammatical l e k b) = absurd (apart text l f e k h)
   one-reading-fault role text f g (grammatical l e h b) (lexical k) = absurd (apart text l g e h k)
-  one-reading-fault role text f g (grammatical l e h b) (grammatical m d j c) = one_grammar role m f g (moved role l m f (same l m (e ∙ sym d) h j) b) c
+  one-reading-fault role text f g (grammatical l e h b) (grammatical m d j c) = laws.one_grammar role m f g (moved role l m f (laws.same l m (e ∙ sym d) h j) b) c
 
   -- a text whose tokens are read by the grammar
   read-no-fault : (role : Role) (text : List ℕ) (l : LexedText) (f : Fault) → l.text ≡ text → IsLexed l → IsOfGrammar role l → IsReadingFault role text f → ⊥
   read-no-fault role text l f e h r (lexical k) = apart text l f e h k
-  read-no-fault role text l f e h r (grammatical m d j c) = no_grammar role l f r (moved role m l f (same m l (d ∙ sym e) j h) c)
+  read-no-fault role text l f e h r (grammatical m d j c) = laws.no_grammar role l f r (moved role m l f (laws.same m l (d ∙ sym e) j h) c)
 
   -- ---- programs
 
   program-no-fault : (text : List ℕ) (tree : ProgramTree) (f : Fault) → IsProgramText text tree → IsReadingFault Program text f → ⊥
   program-no-fault text tree f p h = read-no-fault Program text p.lexed f p.of_text p.is_lexed (tree, p.reads) h
 
-  one-program : (text : List ℕ) (p q : ProgramTree) → IsProgramText text p → IsProgramText text q → p ≡ q
+  pub one-program : (text : List ℕ) (p q : ProgramTree) → IsProgramText text p → IsProgramText text q → p ≡ q
   one-program text p q h k =
-      let s = same h.lexed k.lexed (h.of_text ∙ sym k.of_text) h.is_lexed k.is_lexed in
-      one_tree most_open (toks_of k.lexed) p q (subst (λ l. Reads programs most_open (toks_of l) p) s h.reads) k.reads
+      let s = laws.same h.lexed k.lexed (h.of_text ∙ sym k.of_text) h.is_lexed k.is_lexed in
+      laws.one_tree most_open (toks_of k.lexed) p q (subst (λ l. Reads programs most_open (toks_of l) p) s h.reads) k.reads
 
   -- ---- queries
 
@@ -135,8 +102,8 @@ module _ (same : (a b : LexedText) → a.text ≡ b.text → IsLexed a → IsLex
 
   one-query : (text : List ℕ) (p q : Raw) → IsQueryText text p → IsQueryText text q → p ≡ q
   one-query text p q h k =
-      let s = same h.lexed k.lexed (h.of_text ∙ sym k.of_text) h.is_lexed k.is_lexed in
-      one_goal most_open (toks_of k.lexed) p q (subst (λ l. Reads queries most_open (toks_of l) p) s h.reads) k.reads
+      let s = laws.same h.lexed k.lexed (h.of_text ∙ sym k.of_text) h.is_lexed k.is_lexed in
+      laws.one_goal most_open (toks_of k.lexed) p q (subst (λ l. Reads queries most_open (toks_of l) p) s h.reads) k.reads
 
   -- ---- scope and sorting
 
@@ -146,14 +113,14 @@ module _ (same : (a b : LexedText) → a.text ≡ b.text → IsLexed a → IsLex
   none-first : (f : Fault) (fs : List Fault) → fs ≡ [] → IsFirst f fs → ⊥
   none-first f fs e h = let a = h.1 in cc
 
-  one-program-fault : (text : List ℕ) (f g : Fault) → IsProgramFault text f → IsProgramFault text g → f ≡ g
+  pub one-program-fault : (text : List ℕ) (f g : Fault) → IsProgramFault text f → IsProgramFault text g → f ≡ g
   one-program-fault text f g (of_program_reading h) (of_program_reading k) = one-reading-fault Program text f g h k
   one-program-fault text f g (of_program_reading h) (of_program_scope t r k) = absurd (program-no-fault text t f r h)
   one-program-fault text f g (of_program_scope t r h) (of_program_reading k) = absurd (program-no-fault text t g r k)
   one-program-fault text f g (of_program_scope t r h) (of_program_scope u s k) =
       one-first f g (program_faults u) (subst (λ x. HasProgramFault x f) (one-program text t u r s) h) k
 
-  faultless-no-fault : (text : List ℕ) (t : ProgramTree) (f : Fault) → IsFaultless text t → IsProgramFault text f → ⊥
+  pub faultless-no-fault : (text : List ℕ) (t : ProgramTree) (f : Fault) → IsFaultless text t → IsProgramFault text f → ⊥
   faultless-no-fault text t f p (of_program_reading h) = program-no-fault text t f p.is_program h
   faultless-no-fault text t f p (of_program_scope u s h) = none-first f (program_faults u) (subst (λ x. program_faults x ≡ []) (one-program text t u p.is_program s) p.faultless) h
 
@@ -191,34 +158,44 @@ module _ (same : (a b : LexedText) → a.text ≡ b.text → IsLexed a → IsLex
 
   -- ---- derivations
 
-  -- three texts have one fault
-  one-check-fault : (program query proof : List ℕ) (r s : Role) (f g : Fault) → IsCheckFault program query proof r f → IsCheckFault program query proof s g → (r ≡ s) × (f ≡ g)
-  one-check-fault program query proof r s f g (of_run_texts h) (of_run_texts k) = one-fault program query r s f g h k
-  one-check-fault program query proof r _ f g (of_run_texts h) (of_proof b p a k) = absurd (asks-no-fault program query b p r f a h)
-  one-check-fault program query proof _ s f g (of_proof b p a h) (of_run_texts k) = absurd (asks-no-fault program query b p s g a k)
-  one-check-fault program query proof _ _ f g (of_proof b p a h) (of_proof c q d k) = (refl, one_proof proof f g h k)
+  short : (text : List ℕ) → length text ≤ longest_text → length text < 2 ^ 64
+  short text l = omega arith
 
-  -- texts that give a problem and a derivation have none
-  gives-no-fault : (program query proof : List ℕ) (bound : ℕ) (p : ProblemTree) (d : DerivationLines) (role : Role) (f : Fault) → TextsGive program query proof bound p d → IsCheckFault program query proof role f → ⊥
-  gives-no-fault program query proof bound p d role f a (of_run_texts h) = asks-no-fault program query bound p role f a.asks h
-  gives-no-fault program query proof bound p d _ f a (of_proof c q b h) = no_proof_fault (with_names p.names (text_names proof)) proof d f a.is_text h
+  -- three texts have one fault
+  one-check-fault : (program query proof : List ℕ) (r s : Role) (f g : Fault) → length proof ≤ longest_text → IsCheckFault program query proof r f → IsCheckFault program query proof s g → (r ≡ s) × (f ≡ g)
+  one-check-fault program query proof r s f g l (of_run_texts h) (of_run_texts k) = one-fault program query r s f g h k
+  one-check-fault program query proof r _ f g l (of_run_texts h) (of_proof b p a k) = absurd (asks-no-fault program query b p r f a h)
+  one-check-fault program query proof _ s f g l (of_proof b p a h) (of_run_texts k) = absurd (asks-no-fault program query b p s g a k)
+  one-check-fault program query proof _ _ f g l (of_proof b p a h) (of_proof c q d k) = (refl, laws.one_proof proof f g (short proof l) h k)
 
   -- the names of a problem that texts ask differ, and so do they with those that a derivation's text mentions
   given-differ : (program query proof : List ℕ) (bound : ℕ) (p : ProblemTree) → TextsAsk program query bound p → IsDistinct bytes_eq (with_names p.names (text_names proof))
   given-differ program query proof bound p a =
       differ-names p.names (text_names proof) (subst (λ x. IsDistinct bytes_eq x.names) (sym a.asks.is) (differ-problem a.program_tree a.query_tree bound))
 
+  -- a text of a derivation is of one
+  one-proof-text : (names : List (List ℕ)) (text : List ℕ) (d e : DerivationLines) → IsDistinct bytes_eq names → length text ≤ longest_text → IsProofText names text d → IsProofText names text e → d ≡ e
+  one-proof-text names text d e n l a b = (laws.one_derivation names text a.version b.version d e n (short text l) a.is_text b.is_text).1
+
+  proof-no-fault : (names : List (List ℕ)) (text : List ℕ) (d : DerivationLines) (f : Fault) → IsDistinct bytes_eq names → length text ≤ longest_text → IsProofText names text d → HasFaultIn text f → ⊥
+  proof-no-fault names text d f n l a h = laws.no_proof_fault names text a.version d f n (short text l) a.is_text h
+
+  -- texts that give a problem and a derivation have no fault
+  gives-no-fault : (program query proof : List ℕ) (bound : ℕ) (p : ProblemTree) (d : DerivationLines) (role : Role) (f : Fault) → length proof ≤ longest_text → TextsGive program query proof bound p d → IsCheckFault program query proof role f → ⊥
+  gives-no-fault program query proof bound p d role f l a (of_run_texts h) = asks-no-fault program query bound p role f a.asks h
+  gives-no-fault program query proof bound p d _ f l a (of_proof c q b h) = proof-no-fault (with_names p.names (text_names proof)) proof d f (given-differ program query proof bound p a.asks) l a.is_text h
+
   -- and they give one problem and one derivation
-  one-given : (program query proof : List ℕ) (bound : ℕ) (p q : ProblemTree) (d e : DerivationLines) → TextsGive program query proof bound p d → TextsGive program query proof bound q e → (p ≡ q) × (d ≡ e)
-  one-given program query proof bound p q d e a b =
+  one-given : (program query proof : List ℕ) (bound : ℕ) (p q : ProblemTree) (d e : DerivationLines) → length proof ≤ longest_text → TextsGive program query proof bound p d → TextsGive program query proof bound q e → (p ≡ q) × (d ≡ e)
+  one-given program query proof bound p q d e l a b =
       let o = one-asked program query bound p q a.asks b.asks in
-      let moved = subst (λ x. IsTextOf (with_names x.names (text_names proof)) proof d) o a.is_text in
-      (o, one_derivation (with_names q.names (text_names proof)) proof d e (given-differ program query proof bound q b.asks) moved b.is_text)
+      let moved = subst (λ x. IsProofText (with_names x.names (text_names proof)) proof d) o a.is_text in
+      (o, one-proof-text (with_names q.names (text_names proof)) proof d e (given-differ program query proof bound q b.asks) l moved b.is_text)
 
   -- ---- reading
 
   module _ (texts : Texts) where
-    one-read : (name a b : List ℕ) → IsRead (Some texts) name a → IsRead (Some texts) name b → a ≡ b
+    pub one-read : (name a b : List ℕ) → IsRead (Some texts) name a → IsRead (Some texts) name b → a ≡ b
     one-read name a b h k = some-same a b (text_of texts name) h.found k.found
 
     abbrev IsNotRead : List ℕ → Type 0
@@ -263,7 +240,7 @@ module _ (same : (a b : LexedText) → a.text ≡ b.text → IsLexed a → IsLex
           let same_name = one-turn names a b r s (absent-not-read a e) (long-not-read b (text_of texts b) refl l) in
           none-long b (text_of texts b) refl (subst (λ n. text_of texts n ≡ None) same_name e) l
 
-      unread-once : (c d : Cause) → ReadFails (Some texts) (Unit {0}) ⊥ names c → ReadFails (Some texts) (Unit {0}) ⊥ names d → c ≡ d
+      pub unread-once : (c d : Cause) → ReadFails (Some texts) (Unit {0}) ⊥ names c → ReadFails (Some texts) (Unit {0}) ⊥ names d → c ≡ d
       unread-once _ _ (absent a r w e) (absent b s x f) = ap Absent (one-turn names a b r s (absent-not-read a e) (absent-not-read b f))
       unread-once _ _ (absent a r w e) (oversized b s l) = absurd (clash a b r s e l)
       unread-once _ _ (oversized a r l) (absent b s x f) = absurd (clash b a s r f l)
@@ -271,7 +248,7 @@ module _ (same : (a b : LexedText) → a.text ≡ b.text → IsLexed a → IsLex
       unread-once _ _ (unreadable a r w) _ = absurd w
       unread-once _ _ _ (unreadable b s w) = absurd w
 
-      read-or-not : (c : Cause) → AreRead names → ReadFails (Some texts) (Unit {0}) ⊥ names c → ⊥
+      pub read-or-not : (c : Cause) → AreRead names → ReadFails (Some texts) (Unit {0}) ⊥ names c → ⊥
       read-or-not _ r (absent b s x f) = turn-read names b r s (absent-not-read b f)
       read-or-not _ r (unreadable b s w) = w
       read-or-not _ r (oversized b s m) = turn-read names b r s (long-not-read b (text_of texts b) refl m)
@@ -282,7 +259,7 @@ module _ (same : (a b : LexedText) → a.text ≡ b.text → IsLexed a → IsLex
       both-read : (p q : List ℕ) → IsRead (Some texts) run.program p → IsRead (Some texts) run.query q → AreRead (run_texts run)
       both-read p q h k = ((p, h), ((q, k), tt))
 
-      fails-once : (c d : Cause) → RunFails (Some texts) (Unit {0}) ⊥ run c → RunFails (Some texts) (Unit {0}) ⊥ run d → c ≡ d
+      pub fails-once : (c d : Cause) → RunFails (Some texts) (Unit {0}) ⊥ run c → RunFails (Some texts) (Unit {0}) ⊥ run d → c ≡ d
       fails-once _ _ (not_read c r) (not_read d s) = unread-once (run_texts run) c d r s
       fails-once _ _ (not_read c r) (faulty p q role f h k t) = absurd (read-or-not (run_texts run) c (both-read p q h k) r)
       fails-once _ _ (faulty p q role f h k t) (not_read d s) = absurd (read-or-not (run_texts run) d (both-read p q h k) s)
@@ -295,18 +272,30 @@ module _ (same : (a b : LexedText) → a.text ≡ b.text → IsLexed a → IsLex
       asks-moved p q problem h k a =
           subst (λ x. TextsAsk x q run.bound problem) (one-read run.program a.program p a.program_read h) (subst (λ x. TextsAsk a.program x run.bound problem) (one-read run.query a.query q a.query_read k) a.asks)
 
-      asks-not-fails : (p : ProblemTree) (c : Cause) → RunAsks (Some texts) run p → RunFails (Some texts) (Unit {0}) ⊥ run c → ⊥
+      pub asks-not-fails : (p : ProblemTree) (c : Cause) → RunAsks (Some texts) run p → RunFails (Some texts) (Unit {0}) ⊥ run c → ⊥
       asks-not-fails p _ a (not_read c r) = read-or-not (run_texts run) c (both-read a.program a.query a.program_read a.query_read) r
       asks-not-fails p _ a (faulty u v role f m n w) = asks-no-fault u v run.bound p role f (asks-moved u v p m n a) w
 
-      one-problem : (p q : ProblemTree) → RunAsks (Some texts) run p → RunAsks (Some texts) run q → p ≡ q
+      pub one-problem : (p q : ProblemTree) → RunAsks (Some texts) run p → RunAsks (Some texts) run q → p ≡ q
       one-problem p q a b = one-asked b.program b.query run.bound p q (asks-moved b.program b.query p b.program_read b.query_read a) b.asks
 
-      run-once : (s t : ℕ) (u v : List ℕ) → RunComesTo (Some texts) (Unit {0}) ⊥ run s u → RunComesTo (Some texts) (Unit {0}) ⊥ run t v → (s ≡ t) × (u ≡ v)
-      run-once s t u v (ran p a e f) (ran q b g h) = let o = one-problem p q a b in (e ∙ (ap run_status o ∙ sym g), f ∙ (ap (whole_text run.proofs) o ∙ sym h))
+      pub run-once : (s t : ℕ) (u v : List ℕ) → RunComesTo (Some texts) (Unit {0}) ⊥ run s u → RunComesTo (Some texts) (Unit {0}) ⊥ run t v → (s ≡ t) × (u ≡ v)
+      run-once s t u v (ran p a e f) (ran q b g h) = let o = one-problem p q a b in (e ∙ (ap (status_of_run run.first) o ∙ sym g), f ∙ (ap (text_of_run run.first run.proofs) o ∙ sym h))
       run-once s t u v (ran p a e f) (failed c b g h) = absurd (asks-not-fails p c a b)
       run-once s t u v (failed c b g h) (ran p a e f) = absurd (asks-not-fails p c a b)
       run-once s t u v (failed c a e f) (failed d b g h) = let o = fails-once c d a b in (e ∙ (ap cause_status o ∙ sym g), f ∙ (ap fault_text o ∙ sym h))
+
+    -- ---- deepenings
+
+    pub deepen-once : (deepen : DeepenWords) (s t : ℕ) (u v : List ℕ) → DeepenComesTo (Some texts) (Unit {0}) ⊥ deepen s u → DeepenComesTo (Some texts) (Unit {0}) ⊥ deepen t v → (s ≡ t) × (u ≡ v)
+    deepen-once deepen s t u v c d = deepens-one texts one-problem asks-not-fails fails-once deepen s t u v c d
+
+    -- ---- sessions
+
+    module _ (one_list : (program : ProgramTree) (bound line : ℕ) (lines : List (List ℕ)) (queries others : List QueryLine) → HaveQueries program bound line lines queries → HaveQueries program bound line lines others → queries ≡ others) where
+      pub session-once : (session : SessionWords) (s t : ℕ) (u v : List ℕ) → SessionComesTo (Some texts) (Unit {0}) ⊥ session s u → SessionComesTo (Some texts) (Unit {0}) ⊥ session t v → (s ≡ t) × (u ≡ v)
+      session-once session s t u v c d =
+          sessions-one texts one-read unread-once (λ first second p q h k cause r. read-or-not (first ∷ second ∷ []) cause ((p, h), ((q, k), tt)) r) one-program one-program-fault faultless-no-fault one_list session s t u v c d
 
     -- ---- prints
 
@@ -326,7 +315,7 @@ module _ (same : (a b : LexedText) → a.text ≡ b.text → IsLexed a → IsLex
       printed-once u v a b =
           a.is ∙ (ap program_text (one-program b.text a.tree b.tree (subst (λ x. IsProgramText x a.tree) (one-read name a.text b.text a.text_read b.text_read) a.is_program) b.is_program) ∙ sym b.is)
 
-      print-once : (s t : ℕ) (u v : List ℕ) → PrintComesTo (Some texts) (Unit {0}) ⊥ name s u → PrintComesTo (Some texts) (Unit {0}) ⊥ name t v → (s ≡ t) × (u ≡ v)
+      pub print-once : (s t : ℕ) (u v : List ℕ) → PrintComesTo (Some texts) (Unit {0}) ⊥ name s u → PrintComesTo (Some texts) (Unit {0}) ⊥ name t v → (s ≡ t) × (u ≡ v)
       print-once s t u v (printed a e) (printed b g) = (e ∙ sym g, printed-once u v a b)
       print-once s t u v (printed a e) (print_failed c b g h) = absurd (printed-not-fails u c a b)
       print-once s t u v (print_failed c b g h) (printed a e) = absurd (printed-not-fails v c a b)
@@ -344,7 +333,7 @@ module _ (same : (a b : LexedText) → a.text ≡ b.text → IsLexed a → IsLex
       check-fails-once _ _ (faulty_text p q r role f h k l t) (texts_not_read d x) = absurd (read-or-not (check_texts check) d (all-read p q r h k l) x)
       check-fails-once _ _ (faulty_text p q r role g h k l t) (faulty_text u v w s f m n o z) =
           let moved = subst (λ x. IsCheckFault x v w role g) (one-read check.program p u h m) (subst (λ x. IsCheckFault p x w role g) (one-read check.query q v k n) (subst (λ x. IsCheckFault p q x role g) (one-read check.proof r w l o) t)) in
-          let e = one-check-fault u v w role s g f moved z in
+          let e = one-check-fault u v w role s g f o.within moved z in
           ap (λ x. Faulty (name_in_check check x) g) e.0 ∙ ap (Faulty (name_in_check check s)) e.1
 
       gives-moved : (p q r : List ℕ) (problem : ProblemTree) (d : DerivationLines) → IsRead (Some texts) check.program p → IsRead (Some texts) check.query q → IsRead (Some texts) check.proof r → CheckGives (Some texts) check problem d
@@ -355,10 +344,10 @@ module _ (same : (a b : LexedText) → a.text ≡ b.text → IsLexed a → IsLex
 
       gives-not-fails : (p : ProblemTree) (d : DerivationLines) (c : Cause) → CheckGives (Some texts) check p d → CheckFails (Some texts) (Unit {0}) ⊥ check c → ⊥
       gives-not-fails p d _ a (texts_not_read c x) = read-or-not (check_texts check) c (all-read a.program a.query a.proof a.program_read a.query_read a.proof_read) x
-      gives-not-fails p d _ a (faulty_text u v w role f h k l t) = gives-no-fault u v w (bound_in check) p d role f (gives-moved u v w p d h k l a) t
+      gives-not-fails p d _ a (faulty_text u v w role f h k l t) = gives-no-fault u v w (bound_in check) p d role f l.within (gives-moved u v w p d h k l a) t
 
       given-once : (p q : ProblemTree) (d e : DerivationLines) → CheckGives (Some texts) check p d → CheckGives (Some texts) check q e → (p ≡ q) × (d ≡ e)
-      given-once p q d e a b = one-given b.program b.query b.proof (bound_in check) p q d e (gives-moved b.program b.query b.proof p d b.program_read b.query_read b.proof_read a) b.give
+      given-once p q d e a b = one-given b.program b.query b.proof (bound_in check) p q d e b.proof_read.within (gives-moved b.program b.query b.proof p d b.program_read b.query_read b.proof_read a) b.give
 
       shown-or-refuted : (p q : ProblemTree) (d e : DerivationLines) (n r : ℕ) → CheckGives (Some texts) check p d → DerivationShows p d → CheckGives (Some texts) check q e → IsRefuted q e n r → ⊥
       shown-or-refuted p q d e n r a h b k = let o = given-once p q d e a b in k.not_shown (subst (DerivationShows q) o.1 (subst (λ x. DerivationShows x d) o.0 h))
@@ -405,7 +394,7 @@ module _ (same : (a b : LexedText) → a.text ≡ b.text → IsLexed a → IsLex
           let o = given-once p q d e a b in
           ap (λ (x : DerivationLines). too_long_text (length x.nodes) p.bound) o.1 ∙ ap (λ (x : ProblemTree). too_long_text (length e.nodes) x.bound) o.0
 
-      check-once : (s t : ℕ) (u v : List ℕ) → CheckComesTo (Some texts) (Unit {0}) ⊥ check s u → CheckComesTo (Some texts) (Unit {0}) ⊥ check t v → (s ≡ t) × (u ≡ v)
+      pub check-once : (s t : ℕ) (u v : List ℕ) → CheckComesTo (Some texts) (Unit {0}) ⊥ check s u → CheckComesTo (Some texts) (Unit {0}) ⊥ check t v → (s ≡ t) × (u ≡ v)
       check-once s t u v (shown p d w a x e f) (shown q c z b y g h) = let o = given-once p q d c a b in (e ∙ sym g, f ∙ (ap (λ x. yes_text (length x.nodes)) o.1 ∙ sym h))
       check-once s t u v (shown p d w a x e f) (refuted q c n r b y g h) = absurd (shown-or-refuted p q d c n r a x b y)
       check-once s t u v (shown p d w a x e f) (covered q c n z b y g h) = absurd (let k = sym w ∙ z in cc)
@@ -443,53 +432,51 @@ module _ (same : (a b : LexedText) → a.text ≡ b.text → IsLexed a → IsLex
       check-once s t u v (check_failed c b g h) (counting p d n w a x e f) = absurd (gives-not-fails p d c a b)
       check-once s t u v (check_failed c a e f) (check_failed d b g h) = let o = check-fails-once c d a b in (e ∙ (ap cause_status o ∙ sym g), f ∙ (ap fault_text o ∙ sym h))
 
+    -- ---- conversions
+
+    module _ (convert : ConvertWords) where
+      converted-once : (version : ℕ) (p q u v : List ℕ) → IsRead (Some texts) convert.proof p → IsRead (Some texts) convert.proof q → IsConverted p version u → IsConverted q version v → u ≡ v
+      converted-once version p q u v r s a b =
+          let a = subst (λ x. IsConverted x version u) (one-read convert.proof p q r s) a in
+          let o = one-proof-text (own_names q) q a.derivation b.derivation (differ-names [] (text_names q) none-differ) s.within a.is_text b.is_text in
+          a.is ∙ (ap (text_in version (own_names q)) o ∙ sym b.is)
+
+      converted-no-fault : (version : ℕ) (p q u : List ℕ) (f : Fault) → IsRead (Some texts) convert.proof p → IsRead (Some texts) convert.proof q → IsConverted p version u → HasFaultIn q f → ⊥
+      converted-no-fault version p q u f r s a h =
+          let a = subst (λ x. IsConverted x version u) (one-read convert.proof p q r s) a in
+          proof-no-fault (own_names q) q a.derivation f (differ-names [] (text_names q) none-differ) s.within a.is_text h
+
+      short-or-too-long : (p q u v : List ℕ) → IsRead (Some texts) convert.proof p → IsRead (Some texts) convert.proof q → IsConverted p convert.version u → IsConverted q convert.version v → length u ≤ longest_text → longest_text < length v → ⊥
+      short-or-too-long p q u v r s a b l m = let e = ap length (converted-once convert.version p q u v r s a b) in omega arith
+
+      convert-fails-once : (c d : Cause) → ConvertFails (Some texts) (Unit {0}) ⊥ convert c → ConvertFails (Some texts) (Unit {0}) ⊥ convert d → c ≡ d
+      convert-fails-once _ _ (proof_not_read c r) (proof_not_read d s) = unread-once (convert.proof ∷ []) c d r s
+      convert-fails-once _ _ (proof_not_read c r) (faulty_proof p f h k) = absurd (read-or-not (convert.proof ∷ []) c ((p, h), tt) r)
+      convert-fails-once _ _ (proof_not_read c r) (too_long_as p u h k l) = absurd (read-or-not (convert.proof ∷ []) c ((p, h), tt) r)
+      convert-fails-once _ _ (faulty_proof p f h k) (proof_not_read c r) = absurd (read-or-not (convert.proof ∷ []) c ((p, h), tt) r)
+      convert-fails-once _ _ (faulty_proof p f h k) (faulty_proof q g m n) = ap (Faulty convert.proof) (laws.one_proof q f g (short q m.within) (subst (λ x. HasFaultIn x f) (one-read convert.proof p q h m) k) n)
+      convert-fails-once _ _ (faulty_proof p f h k) (too_long_as q u m n l) = absurd (converted-no-fault convert.version q p u f m h n k)
+      convert-fails-once _ _ (too_long_as p u h k l) (proof_not_read c r) = absurd (read-or-not (convert.proof ∷ []) c ((p, h), tt) r)
+      convert-fails-once _ _ (too_long_as q u m n l) (faulty_proof p f h k) = absurd (converted-no-fault convert.version q p u f m h n k)
+      convert-fails-once _ _ (too_long_as p u h k l) (too_long_as q v m n o) = refl
+
+      converted-not-fails : (p u : List ℕ) (c : Cause) → IsRead (Some texts) convert.proof p → IsConverted p convert.version u → length u ≤ longest_text → ConvertFails (Some texts) (Unit {0}) ⊥ convert c → ⊥
+      converted-not-fails p u _ h a l (proof_not_read c r) = read-or-not (convert.proof ∷ []) c ((p, h), tt) r
+      converted-not-fails p u _ h a l (faulty_proof q f m n) = converted-no-fault convert.version p q u f h m a n
+      converted-not-fails p u _ h a l (too_long_as q v m n o) = short-or-too-long p q u v h m a n l o
+
+      pub converts-one : (s t : ℕ) (u v : List ℕ) → ConvertComesTo (Some texts) (Unit {0}) ⊥ convert s u → ConvertComesTo (Some texts) (Unit {0}) ⊥ convert t v → (s ≡ t) × (u ≡ v)
+      converts-one s t u v (converted p r a l e) (converted q h b m g) = (e ∙ sym g, converted-once convert.version p q u v r h a b)
+      converts-one s t u v (converted p r a l e) (convert_failed c b g h) = absurd (converted-not-fails p u c r a l b)
+      converts-one s t u v (convert_failed c b g h) (converted p r a l e) = absurd (converted-not-fails p v c r a l b)
+      converts-one s t u v (convert_failed c a e f) (convert_failed d b g h) = let o = convert-fails-once c d a b in (e ∙ (ap cause_status o ∙ sym g), f ∙ (ap fault_text o ∙ sym h))
+
     -- ---- runs of programs that are made
 
-    made-once : (run : MadeRunWords) (s t : ℕ) (u v : List ℕ) → MadeRunComesTo run s u → MadeRunComesTo run t v → (s ≡ t) × (u ≡ v)
+    pub made-once : (run : MadeRunWords) (s t : ℕ) (u v : List ℕ) → MadeRunComesTo run s u → MadeRunComesTo run t v → (s ≡ t) × (u ≡ v)
     made-once run s t u v (made_ran p a e f) (made_ran q b g h) =
         let o = one-asked (make_text run.make) (query_text run.make.kind) run.bound p q a b in (e ∙ (ap run_status o ∙ sym g), f ∙ (ap last_line o ∙ sym h))
     made-once run s t u v (made_ran p a e f) (made_faulty role x b g h) = absurd (asks-no-fault (make_text run.make) (query_text run.make.kind) run.bound p role x a b)
     made-once run s t u v (made_faulty role x b g h) (made_ran p a e f) = absurd (asks-no-fault (make_text run.make) (query_text run.make.kind) run.bound p role x a b)
     made-once run s t u v (made_faulty r x a e f) (made_faulty q y b g h) =
         let o = one-fault (make_text run.make) (query_text run.make.kind) r q x y a b in (e ∙ sym g, f ∙ (ap (λ z. fault_text (Faulty (kind_word run.make.kind) z)) o.1 ∙ sym h))
-
-    -- ---- calls
-
-    pub one-text : (words : List (List ℕ)) (s t : ℕ) (u v : List ℕ) → ComesTo words (Some texts) (Unit {0}) ⊥ s u → ComesTo words (Some texts) (Unit {0}) ⊥ t v → (s ≡ t) × (u ≡ v)
-    one-text words s t u v (misused n b e f) (misused m c g h) = (e ∙ sym g, f ∙ (ap (λ k. fault_text (Usage k)) (one-number words n m b c) ∙ sym h))
-    one-text words s t u v (misused n b e f) (runs r h c) = absurd (bad-not-in-form words n b (run-in-form words r h))
-    one-text words s t u v (runs r h c) (misused n b e f) = absurd (bad-not-in-form words n b (run-in-form words r h))
-    one-text words s t u v (runs r h c) (runs q k d) = run-once q s t u v (subst (λ x. RunComesTo (Some texts) (Unit {0}) ⊥ x s u) (one-run words r q h k) c) d
-    one-text words s t u v (misused n b e f) (prints r h c) = absurd (bad-not-in-form words n b (print-in-form words r h))
-    one-text words s t u v (prints r h c) (misused n b e f) = absurd (bad-not-in-form words n b (print-in-form words r h))
-    one-text words s t u v (runs r h c) (prints q k d) = absurd (run-or-print words h.form k.form)
-    one-text words s t u v (prints q k d) (runs r h c) = absurd (run-or-print words h.form k.form)
-    one-text words s t u v (prints q h c) (prints r k d) = print-once r s t u v (subst (λ x. PrintComesTo (Some texts) (Unit {0}) ⊥ x s u) (some-same q r (slice_get words 1) h.program k.program) c) d
-    one-text words s t u v (misused n b e f) (checks r h c) = absurd (bad-not-in-form words n b (check-in-form words r h))
-    one-text words s t u v (checks r h c) (misused n b e f) = absurd (bad-not-in-form words n b (check-in-form words r h))
-    one-text words s t u v (runs r h c) (checks q k d) = absurd (run-not-checked words q h.form k)
-    one-text words s t u v (checks q k d) (runs r h c) = absurd (run-not-checked words q h.form k)
-    one-text words s t u v (prints r h c) (checks q k d) = absurd (print-not-checked words q h.form k)
-    one-text words s t u v (checks q k d) (prints r h c) = absurd (print-not-checked words q h.form k)
-    one-text words s t u v (checks q h c) (checks r k d) = check-once r s t u v (subst (λ x. CheckComesTo (Some texts) (Unit {0}) ⊥ x s u) (one-check words q r h k) c) d
-    one-text words s t u v (misused n b e f) (makes r h c) = absurd (bad-not-in-form words n b (made-in-form words r h))
-    one-text words s t u v (makes r h c) (misused n b e f) = absurd (bad-not-in-form words n b (made-in-form words r h))
-    one-text words s t u v (runs r h c) (makes q k d) = absurd (run-or-make words q.kind [] h.form k.form)
-    one-text words s t u v (makes q k d) (runs r h c) = absurd (run-or-make words q.kind [] h.form k.form)
-    one-text words s t u v (prints r h c) (makes q k d) = absurd (print-or-make words q.kind [] h.form k.form)
-    one-text words s t u v (makes q k d) (prints r h c) = absurd (print-or-make words q.kind [] h.form k.form)
-    one-text words s t u v (checks r h c) (makes q k d) = absurd (make-not-checked words q.kind [] r k.form h)
-    one-text words s t u v (makes q k d) (checks r h c) = absurd (make-not-checked words q.kind [] r k.form h)
-    one-text words s t u v (makes q h c) (makes r k d) =
-        let o = one-make words q r h k in (c.succeeds ∙ sym d.succeeds, c.is ∙ (ap make_text o ∙ sym d.is))
-    one-text words s t u v (misused n b e f) (runs_made r h c) = absurd (bad-not-in-form words n b (made-run-in-form words r h))
-    one-text words s t u v (runs_made r h c) (misused n b e f) = absurd (bad-not-in-form words n b (made-run-in-form words r h))
-    one-text words s t u v (runs r h c) (runs_made q k d) = absurd (run-or-make words q.make.kind made_options h.form k.form)
-    one-text words s t u v (runs_made q k d) (runs r h c) = absurd (run-or-make words q.make.kind made_options h.form k.form)
-    one-text words s t u v (prints r h c) (runs_made q k d) = absurd (print-or-make words q.make.kind made_options h.form k.form)
-    one-text words s t u v (runs_made q k d) (prints r h c) = absurd (print-or-make words q.make.kind made_options h.form k.form)
-    one-text words s t u v (checks r h c) (runs_made q k d) = absurd (make-not-checked words q.make.kind made_options r k.form h)
-    one-text words s t u v (runs_made q k d) (checks r h c) = absurd (make-not-checked words q.make.kind made_options r k.form h)
-    one-text words s t u v (makes r h c) (runs_made q k d) = absurd (make-or-run words r.kind q.make.kind h.form k.form)
-    one-text words s t u v (runs_made q k d) (makes r h c) = absurd (make-or-run words r.kind q.make.kind h.form k.form)
-    one-text words s t u v (runs_made q h c) (runs_made r k d) = made-once r s t u v (subst (λ x. MadeRunComesTo x s u) (one-made-run words q r h k) c) d

@@ -19,7 +19,7 @@ use Rattle.ll_top.specs.Faults.{Faulty}
 use Rattle.ll_top.specs.Making.{kind_word, MadeRunWords, make_text}
 use Rattle.ll_top.specs.MadeRuns.{MadeAsks, last_line, MadeRunComesTo, made_ran, made_faulty}
 use Rattle.ll_top.specs.MadeEnds.{MadeRunEnds}
-use Rattle.ll_top.specs.Outcome.{nothing, front, Ends, whole, unwritable, no_memory}
+use Rattle.ll_top.specs.Calls.{nothing, front, Ends, whole, unwritable, no_memory}
 use Rattle.ll_top.specs.Endings.{cause_of, IsFaultOf, Judges, status_of_found, Refuses}
 use Rattle.ll_top.specs.Running.{IsRunRefusal}
 use Rattle.ll_top.proofs.OutcomeLemmas.{refused-ends}

@@ -11,11 +11,11 @@ use Rattle.ll_top.specs.Outcome.{word_texts}
 use Rattle.ll_top.specs.Begins.{Begins, IsFirstBad, Leads}
 use Rattle.ll_top.specs.Making.{kind_word}
 use Rattle.ll_top.specs.Words.{Part, ThisWord, NumberFrom, is_part, is_word, is_number_word, OptionForm, Takes, here, behind, Fits, part, option, done, number_from, number_behind, greatest_bound, greatest_workers, bound_option, workers_option, make_parts, made_options, IsMake, IsMadeRun}
-use Rattle.ll_top.specs.RunForm.{HasPart, LacksPart}
+use Rattle.ll_top.specs.FormWords.{HasPart, LacksPart}
 use Rattle.ll_top.specs.MakeForm.{FitsEither, IsMakeForm, IsBadMakeWord, IsNoKind, LacksKind, IsAtOptions, HasOptions}
 use Rattle.ll_top.proofs.FirstBad.{drop-none, drop-next, drop-end, leads-start, leads-next, leads-bad, IsStuck}
-use Rattle.ll_top.proofs.Forms.{same-word, words-same, part-first, part-lacks, leads-part, bad-part, leads-option, bad-option, bad-end}
-use Rattle.ll_top.proofs.RunWords.{word-inside, value-of, number-word, other-word, found-behind, none-more}
+use Rattle.ll_top.proofs.Forms.{same-word, words-same, part-first, part-lacks, no-option, leads-part, bad-part, leads-option, bad-option, bad-end}
+use Rattle.ll_top.proofs.WordValues.{word-inside, value-of, number-word, other-word, found-behind, none-more, HasNumber, number-there, number-value, number-word-at, this-word}
 use Rattle.ll_top.proofs.CommandWords.{can-end}
 
 -- what stands behind the word of a kind
@@ -47,9 +47,6 @@ either-first (inr f) = let h = part-first f in (h.0, inr h.1)
 either-lacks : {p : Part} {ps : List Part} → FitsEither (p ∷ ps) [] → ⊥
 either-lacks (inl f) = part-lacks f
 either-lacks (inr f) = part-lacks f
-
-no-option : {w : List ℕ} {ws : List (List ℕ)} → Fits [] [] (w ∷ ws) → ⊥
-no-option (option t e f) = elim t [ ]
 
 -- where a word stands, the options do
 only-options : (w : List ℕ) (ws : List (List ℕ)) → FitsEither [] (w ∷ ws) → Fits [] made_options (w ∷ ws)
@@ -98,36 +95,6 @@ same-kind (w ∷ v ∷ ws) kind other f g =
     let k = (either-first (either-first g).1).0 in
     sym (one-kind kind other (ap (λ x. is_word x (kind_word other)) (sym (words-same v (kind_word kind) h)) ∙ k))
 
--- ---- numbers
-
--- the number at a word
-number-there : (words : List (List ℕ)) (at least greatest value : ℕ) → IsSomeAnd (slice_get words at) (λ w. number_from least greatest w ≡ Some value) → HasPart words at (NumberFrom least greatest)
-number-there words at least greatest value h = by (slice_get words at) h
-  where
-    by : (o : Option (List ℕ)) → IsSomeAnd o (λ w. number_from least greatest w ≡ Some value) → IsSomeAnd o (λ w. is_some (number_from least greatest w) ≡ true)
-    by None h = absurd h
-    by (Some w) h = ap is_some h
-
-number-value : (words : List (List ℕ)) (at least greatest value : ℕ) → IsSomeAnd (slice_get words at) (λ w. number_from least greatest w ≡ Some value) → option_map (digits_value 10) (slice_get words at) ≡ Some value
-number-value words at least greatest value h = by (slice_get words at) h
-  where
-    by : (o : Option (List ℕ)) → IsSomeAnd o (λ w. number_from least greatest w ≡ Some value) → option_map (digits_value 10) o ≡ Some value
-    by None h = absurd h
-    by (Some w) h = let e = value-of least greatest w value h in cc
-
--- the word of a number
-record HasNumber (words : List (List ℕ)) (at least greatest value : ℕ) : Type 0 where
-  word : List ℕ
-  is : slice_get words at ≡ Some word
-  number : number_from least greatest word ≡ Some value
-
-number-word-at : (words : List (List ℕ)) (at least greatest value : ℕ) → IsSomeAnd (slice_get words at) (λ w. number_from least greatest w ≡ Some value) → HasNumber words at least greatest value
-number-word-at words at least greatest value h = by (slice_get words at) refl h
-  where
-    by : (o : Option (List ℕ)) → slice_get words at ≡ o → IsSomeAnd o (λ w. number_from least greatest w ≡ Some value) → HasNumber words at least greatest value
-    by None e h = absurd h
-    by (Some w) e h = record { word = w; is = e; number = h }
-
 -- words of a make, put together
 built : (words : List (List ℕ)) (kind : MakeKind) (os : List OptionForm) → HasPart words 0 (ThisWord (codes "make")) → slice_get words 1 ≡ Some (kind_word kind) → HasPart words 2 (number_part kind)
     → Fits [] os (drop 3 words) → Fits (make_parts kind) os words
@@ -139,13 +106,6 @@ built (w ∷ v ∷ u ∷ ws) kind os m e n f =
     part m (part (ap (λ x. is_word x (kind_word kind)) same ∙ same-word (kind_word kind)) (part n (subst (Fits [] os) (drop-none ws) f)))
 
 -- ---- from word to word
-
-pub this-word : (words : List (List ℕ)) (at : ℕ) (text : List ℕ) → HasPart words at (ThisWord text) → slice_get words at ≡ Some text
-this-word words at text h = by (slice_get words at) h
-  where
-    by : (next : Option (List ℕ)) → IsSomeAnd next (λ w. is_word w text ≡ true) → next ≡ Some text
-    by None h = absurd h
-    by (Some w) h = let e = words-same w text h in cc
 
 module _ (words : List (List ℕ)) (make : HasPart words 0 (ThisWord (codes "make"))) where
   to-kind : Leads IsMakeForm IsKinded words 1

@@ -1,6 +1,6 @@
 -- A run from its start to its end.
 use Rattle.std.proofs.Common.{◌≡◌, ◌≤◌, ℕ, zero, suc, ◌+◌, refl, subst, ap, sym, ◌∙◌, Bool, true, false, List, [], ◌∷◌, ◌++◌, length, take, arith, append_assoc, inl, inr}
-use Rattle.std.specs.Prelude.{Option, Result, Ok, Err, OnErr, count_by, cond, nat_lt, ◌||◌, codes, decimal}
+use Rattle.std.specs.Prelude.{Option, Result, Ok, Err, OnOk, OnErr, count_by, cond, nat_lt, ◌||◌, codes, decimal}
 use Rattle.std.specs.List.{list_any}
 use Rattle.std.specs.Io.KnownBytes.{append_known}
 use Rattle.std.proofs.lemmas.List.Sums.{sum_by-cons}
@@ -161,19 +161,20 @@ module _ {W : Type 0} (takes breaks : W → Event → W → Type 0) (state : W �
       refused-written takes breaks (λ z. (state z).written) lines_of lines_from (λ z. no-lines (state z).proofs (state z).problem (state z).answers) (λ a e b h. (writes a e b h).written) lines-then lines-begin
       (λ a e b h. (breaks_off a e b h).written) x y es last r
 
-  -- the whole text of a problem of which no answer was taken yet: a prefix of it was written
-  pub text-begun : (x y : W) (p : ProblemTree) → (state x).problem ≡ p → (state x).answers ≡ 0 → GivesPrefix takes breaks x (problem_events p) y → AppendsFront (state x).written (whole_text (state x).proofs p) (state y).written
-  text-begun x y p e k g =
-      let f = prefix-written x y (problem_events p) (last_text p) g in
-      let same : lines_from x (problem_events p) ++ last_text p ≡ whole_text (state x).proofs p =
-      ap (λ q. all_lines (state x).proofs q (state x).answers (problem_events p) ++ last_text p) e ∙ (ap (λ n. all_lines (state x).proofs p n (problem_events p) ++ last_text p) k ∙ whole-lines (state x).proofs p) in
-      subst (λ t. AppendsFront (state x).written t (state y).written) same f
+  -- what was written of a text with the lines of these events, of which no answer was taken yet, and something behind them
+  pub lines-begun : (x y : W) (p : ProblemTree) (es : List Event) (last text : List ℕ) → (state x).problem ≡ p → (state x).answers ≡ 0 → all_lines (state x).proofs p 0 es ++ last ≡ text → GivesPrefix takes breaks x es y → AppendsFront (state x).written text (state y).written
+  lines-begun x y p es last text e k t g =
+      let f = prefix-written x y es last g in
+      let same : lines_from x es ++ last ≡ text = ap (λ q. all_lines (state x).proofs q (state x).answers es ++ last) e ∙ (ap (λ n. all_lines (state x).proofs p n es ++ last) k ∙ t) in
+      subst (λ xs. AppendsFront (state x).written xs (state y).written) same f
 
-  -- all of its lines were written
-  pub lines-written : (x y : W) (p : ProblemTree) → (state x).problem ≡ p → (state x).answers ≡ 0 → Gives takes x (problem_events p) y → (state y).written ≡ append_known (state x).written (all_lines (state x).proofs p 0 (problem_events p))
-  lines-written x y p e k g =
-      events-written x y (problem_events p) g
-      ∙ ap (append_known (state x).written) (ap (λ q. all_lines (state x).proofs q (state x).answers (problem_events p)) e ∙ ap (λ n. all_lines (state x).proofs p n (problem_events p)) k)
+  -- of the whole text of a problem
+  pub text-begun : (x y : W) (p : ProblemTree) → (state x).problem ≡ p → (state x).answers ≡ 0 → GivesPrefix takes breaks x (problem_events p) y → AppendsFront (state x).written (whole_text (state x).proofs p) (state y).written
+  text-begun x y p e k g = lines-begun x y p (problem_events p) (last_text p) (whole_text (state x).proofs p) e k (whole-lines (state x).proofs p) g
+
+  -- all of the lines were written
+  pub lines-written : (x y : W) (p : ProblemTree) (es : List Event) → (state x).problem ≡ p → (state x).answers ≡ 0 → Gives takes x es y → (state y).written ≡ append_known (state x).written (all_lines (state x).proofs p 0 es)
+  lines-written x y p es e k g = events-written x y es g ∙ ap (append_known (state x).written) (ap (λ q. all_lines (state x).proofs q (state x).answers es) e ∙ ap (λ n. all_lines (state x).proofs p n es) k)
 
 any-count : (test : Event → Bool) (es : List Event) → list_any test es ≡ nat_lt 0 (count_by test es)
 any-count test [] = refl
@@ -238,3 +239,12 @@ run-status p c h =
 pub on_err : {T E P : Type 0} (r : Result T E) → P → OnErr r P
 on_err (Ok x) p = tt
 on_err (Err e) p = p
+
+-- what follows of a fact for an answer, or for a refusal
+pub on_ok_map : {T E : Type 0} (r : Result T E) (A B : Type 0) → OnOk r A → (A → B) → OnOk r B
+on_ok_map (Ok x) A B h f = f h
+on_ok_map (Err e) A B h f = tt
+
+pub on_err_map : {T E : Type 0} (r : Result T E) (A B : Type 0) → OnErr r A → (A → B) → OnErr r B
+on_err_map (Ok x) A B h f = tt
+on_err_map (Err e) A B h f = f h

@@ -7,7 +7,7 @@ use Rattle.ll_laws.specs.Problem.{ProblemTree}
 use Rattle.ll_laws.specs.Output.{run_status}
 use Rattle.ll_laws.specs.Line.{DerivationLines}
 use Rattle.ll_laws.specs.Verdict.{DerivationShows}
-use Rattle.ll_prooftext.specs.Reading.{HasFault as HasProofFault}
+use Rattle.ll_prooftext.specs.Versions.{HasFaultIn}
 use Rattle.ll_laws.specs.Valid.{IsValid}
 use Rattle.ll_lexer.specs.declared.TextFault.{TextFault}
 use Rattle.ll_lexer.specs.declared.TextFault.TheVariants as text_fault
@@ -24,12 +24,13 @@ use Rattle.ll_top.specs.declared.refusal.TextRefusal.TheVariants as text
 use Rattle.ll_top.specs.declared.refusal.Refusal.{Refusal}
 use Rattle.ll_top.specs.declared.refusal.Refusal.TheVariants.{Text, Unwritable, OutOfMemory}
 use Rattle.ll_top.specs.Words.{RunWords, CheckWords}
-use Rattle.ll_top.specs.Faults.{Cause, Usage, Absent, Unreadable, Oversized, Faulty, fault_text, cause_status}
+use Rattle.ll_top.specs.Faults.{Cause, Usage, Absent, Unreadable, Oversized, OversizedAs, Faulty, fault_text, cause_status}
 use Rattle.ll_parser.specs.Raw.{ProgramTree}
 use Rattle.ll_parser.specs.Printed.{program_text}
 use Rattle.ll_top.specs.Verdicts.{yes_text, no_text, covered_text, too_long_text, counts_text}
 use Rattle.ll_top.specs.Judging.{IsProgramText, IsReadingFault, IsTextFault, TextsAsk, IsCheckFault, TextsGive}
-use Rattle.ll_top.specs.Outcome.{longest_text, name_of, RunFails, RunAsks, whole_text, RunComesTo, PrintFails, IsPrintedAs, name_in_check, CheckFails, IsRefuted, IsCovered, IsTooLong, CountsAt, CheckComesTo, AppendsOwn}
+use Rattle.ll_top.specs.Outcome.{longest_text, name_of, RunFails, RunAsks, status_of_run, text_of_run, RunComesTo, PrintFails, IsPrintedAs, name_in_check, CheckFails, IsRefuted, IsCovered, IsTooLong, CountsAt, CheckComesTo}
+use Rattle.ll_top.specs.Calls.{AppendsOwn}
 
 -- ---- causes
 
@@ -39,6 +40,7 @@ shown_cause (own.Usage number) = Usage number
 shown_cause (own.Absent name) = Absent name.now
 shown_cause (own.Unreadable name) = Unreadable name.now
 shown_cause (own.Oversized name) = Oversized name.now
+shown_cause (own.OversizedAs name version) = OversizedAs name.now version
 shown_cause (own.Faulty name fault) = Faulty name.now fault
 
 -- the cause that a refusal of the text of this name is
@@ -101,9 +103,9 @@ status_of_found Bound = 2
 
 -- how the search of a run ended, before any fault line is written
 abbrev pub RunEnds : Option Texts → Type 0 → Type 0 → Type 0 → RunWords → Option (List ℕ) → Option (List ℕ) → Result Found Refusal → Type 0
-RunEnds told absence read_failed write_failed run before after (Ok found) = (p : ProblemTree) × RunAsks told run p × IsValid p × (status_of_found found ≡ run_status p) × (after ≡ append_known before (whole_text run.proofs p))
+RunEnds told absence read_failed write_failed run before after (Ok found) = (p : ProblemTree) × RunAsks told run p × IsValid p × (status_of_found found ≡ status_of_run run.first p) × (after ≡ append_known before (text_of_run run.first run.proofs p))
 RunEnds told absence read_failed write_failed run before after (Err (Text role refusal)) = RunFails told absence read_failed run (cause_of (name_of run role) refusal) × (after ≡ before)
-RunEnds told absence read_failed write_failed run before after (Err Unwritable) = (p : ProblemTree) × RunAsks told run p × write_failed × AppendsFront before (whole_text run.proofs p) after
+RunEnds told absence read_failed write_failed run before after (Err Unwritable) = (p : ProblemTree) × RunAsks told run p × write_failed × AppendsFront before (text_of_run run.first run.proofs p) after
 RunEnds told absence read_failed write_failed run before after (Err OutOfMemory) = AppendsOwn (RunComesTo told absence read_failed run) before after
 
 -- ---- the print
@@ -161,7 +163,7 @@ IsFinding covers p d (CountsNumbers node) = (covers ≡ true) × CountsAt p d no
 
 -- why the text of a derivation is not read
 abbrev pub IsNoDerivation : List ℕ → Refusal → Type 0
-IsNoDerivation proof (Text role (text.Faulty f)) = (role ≡ Proof) × HasProofFault proof f
+IsNoDerivation proof (Text role (text.Faulty f)) = (role ≡ Proof) × HasFaultIn proof f
 IsNoDerivation proof (Text role refusal) = ⊥
 IsNoDerivation proof Unwritable = ⊥
 IsNoDerivation proof OutOfMemory = Unit {0}

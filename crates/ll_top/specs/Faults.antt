@@ -13,10 +13,12 @@ pub data Cause : Type 0 where
   Unreadable : List ℕ → Cause
   -- the text of this name has too many bytes
   Oversized : List ℕ → Cause
+  -- the derivation in the text of this name has too many bytes as a text of this version
+  OversizedAs : List ℕ → ℕ → Cause
   -- the text of this name has this fault
   Faulty : List ℕ → Fault → Cause
 
--- the text of each kind of fault, from kind 0, which there is not, to kind 16
+-- the text of each kind of fault, from kind 0 to kind 18; no text has kind 0 or 17
 abbrev pub kind_texts : List (List ℕ)
 kind_texts =
     []
@@ -37,6 +39,8 @@ kind_texts =
     ∷ codes "nodes missing"
     ∷ codes "nodes left over"
     ∷ []
+    ∷ codes "not the table of shared terms"
+    ∷ []
 
 abbrev pub kind_text : ℕ → List ℕ
 kind_text kind = slice_index_or kind_texts kind []
@@ -52,6 +56,7 @@ fault_text (Usage number) = concat (codes "fault: usage, word " ∷ decimal numb
 fault_text (Absent name) = concat (codes "fault: absent " ∷ name ∷ codes "\n" ∷ [])
 fault_text (Unreadable name) = concat (codes "fault: read " ∷ name ∷ codes "\n" ∷ [])
 fault_text (Oversized name) = concat (codes "fault: " ∷ name ∷ codes " has more than 16777216 bytes\n" ∷ [])
+fault_text (OversizedAs name version) = concat (codes "fault: " ∷ name ∷ codes " as version " ∷ decimal version ∷ codes " has more than 16777216 bytes\n" ∷ [])
 fault_text (Faulty name fault) = fields_text name (decimal fault.at.line) (decimal fault.at.column) (decimal fault.kind) (kind_text fault.kind)
 
 -- the status of a cause
@@ -60,4 +65,5 @@ cause_status (Usage number) = 3
 cause_status (Absent name) = 4
 cause_status (Unreadable name) = 5
 cause_status (Oversized name) = 8
+cause_status (OversizedAs name version) = 8
 cause_status (Faulty name fault) = 7

@@ -14,7 +14,7 @@ use Rattle.ll_polarity.specs.Asks.{ProgramPart, part_of, Asks, HasProgramFault, 
 use Rattle.ll_top.specs.declared.judge.Role.{Role}
 use Rattle.ll_laws.specs.Line.{DerivationLines}
 use Rattle.ll_bank.specs.Names.{with_names}
-use Rattle.ll_prooftext.specs.Reading.{IsTextOf, HasFault as HasProofFault}
+use Rattle.ll_prooftext.specs.Versions.{IsProofText, HasFaultIn}
 use Rattle.ll_prooftext.specs.Mentions.{text_names}
 use Rattle.ll_top.specs.declared.judge.Role.TheVariants.{Program, Query, Proof}
 
@@ -90,16 +90,16 @@ pub record TextsAsk (program query : List ℕ) (bound : ℕ) (p : ProblemTree) :
 -- ---- the texts of a check or a cover
 
 -- The fault of three texts that are judged in turn: that of the program or of the query; or else, where these ask a problem, the
--- derivation's, of kinds 13 to 16.
+-- derivation's, of kinds 13 to 16 or 18 by the version which its first line tells.
 pub data IsCheckFault (program query proof : List ℕ) : Role → Fault → Type 0 where
   of_run_texts : {role : Role} {f : Fault} → IsTextFault program query role f → IsCheckFault program query proof role f
-  of_proof : {f : Fault} (bound : ℕ) (p : ProblemTree) → TextsAsk program query bound p → HasProofFault proof f → IsCheckFault program query proof Proof f
+  of_proof : {f : Fault} (bound : ℕ) (p : ProblemTree) → TextsAsk program query bound p → HasFaultIn proof f → IsCheckFault program query proof Proof f
 
--- Three texts give a problem and a derivation: the first two ask the problem with this bound, and the third is the derivation's, over the
--- problem's names and behind them the others that it mentions.
+-- Three texts give a problem and a derivation: the first two ask the problem with this bound, and the third is the derivation's, of either
+-- version, over the problem's names and behind them the others that it mentions.
 pub record TextsGive (program query proof : List ℕ) (bound : ℕ) (p : ProblemTree) (d : DerivationLines) : Type 0 where
   pub asks : TextsAsk program query bound p
-  pub is_text : IsTextOf (with_names p.names (text_names proof)) proof d
+  pub is_text : IsProofText (with_names p.names (text_names proof)) proof d
 
 -- ---- a program that was loaded
 

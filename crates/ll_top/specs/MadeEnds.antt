@@ -10,7 +10,7 @@ use Rattle.ll_top.specs.declared.refusal.Refusal.{Refusal}
 use Rattle.ll_top.specs.declared.refusal.Refusal.TheVariants.{Text, Unwritable, OutOfMemory}
 use Rattle.ll_top.specs.Making.{MadeRunWords, make_text}
 use Rattle.ll_top.specs.MadeRuns.{MadeAsks, last_line, MadeRunComesTo}
-use Rattle.ll_top.specs.Outcome.{AppendsOwn}
+use Rattle.ll_top.specs.Calls.{AppendsOwn}
 use Rattle.ll_top.specs.Endings.{IsFaultOf, status_of_found}
 
 abbrev pub MadeRunEnds : Type 0 → MadeRunWords → Option (List ℕ) → Option (List ℕ) → Result Found Refusal → Type 0

@@ -1,11 +1,11 @@
--- What a call of the program does, by its words and the texts on its shelf.
-use Rattle.std.specs.Prelude.{◌≡◌, ◌≤◌, ◌<◌, ◌⊎◌, ℕ, Bool, true, false, List, [], ◌∷◌, length, map, Option, Some, None, IsSomeAnd, IfSome, is_some, unwrap_or}
+-- What a run, a print, a check and a cover come to, by their words and the texts on the shelf.
+use Rattle.std.specs.Prelude.{◌≡◌, ◌≤◌, ◌<◌, ◌⊎◌, ℕ, Bool, true, false, List, [], ◌∷◌, ◌++◌, length, map, Option, Some, None, IsSomeAnd, IfSome, is_some, unwrap_or, if◌then◌else◌}
 use Rattle.std.specs.List.{position_from}
 use Rattle.std.specs.Borrow.{Bor}
-use Rattle.std.specs.Io.KnownBytes.{append_known}
 use Rattle.ll_edge.specs.Texts.{Texts, text_of}
-use Rattle.ll_edge.specs.Pieces.{AppendsFront}
-use Rattle.ll_laws.specs.Problem.{ProblemTree}
+use Rattle.ll_first.specs.Upto.{upto}
+use Rattle.ll_laws.specs.declared.Event.{Event}
+use Rattle.ll_laws.specs.Problem.{ProblemTree, problem_events}
 use Rattle.ll_laws.specs.Shows.{Tree}
 use Rattle.ll_laws.specs.Fault.{Fault as FaultAt}
 use Rattle.ll_laws.specs.Line.{DerivationLines, trees_of, counts_numbers}
@@ -19,11 +19,10 @@ use Rattle.ll_parser.specs.Raw.{ProgramTree}
 use Rattle.ll_parser.specs.Printed.{program_text}
 use Rattle.ll_top.specs.declared.judge.Role.{Role}
 use Rattle.ll_top.specs.declared.judge.Role.TheVariants.{Program, Query, Proof}
-use Rattle.ll_top.specs.Making.{MakeWords, MakeComesTo, MadeRunWords}
-use Rattle.ll_top.specs.MadeRuns.{MadeRunComesTo}
-use Rattle.ll_top.specs.Words.{RunWords, CheckWords, IsBadWord, IsRun, IsPrint, IsCheck, IsMake, IsMadeRun}
-use Rattle.ll_top.specs.Faults.{Cause, Usage, Absent, Unreadable, Oversized, Faulty, fault_text, cause_status}
-use Rattle.ll_top.specs.Verdicts.{yes_text, no_text, covered_text, too_long_text, counts_text}
+use Rattle.ll_top.specs.Words.{RunWords, CheckWords, IsCheck}
+use Rattle.ll_top.specs.Faults.{Cause, Absent, Unreadable, Oversized, Faulty, fault_text, cause_status}
+use Rattle.ll_top.specs.Verdicts.{yes_text, no_text, covered_text, too_long_text, counts_text, stopped_text}
+use Rattle.ll_top.specs.Running.{all_lines}
 use Rattle.ll_top.specs.Judging.{IsProgramText, IsReadingFault, IsTextFault, TextsAsk, IsCheckFault, TextsGive}
 
 -- the words as bytes
@@ -76,14 +75,34 @@ pub record RunAsks (told : Option Texts) (run : RunWords) (p : ProblemTree) : Ty
   pub query_read : IsRead told run.query query
   pub asks : TextsAsk program query run.bound p
 
--- the text that a run of a problem writes, with proofs or without
+-- the text of a whole search of a problem, with proofs or without
 abbrev pub whole_text : Bool → ProblemTree → List ℕ
 whole_text false p = run_text p
 whole_text true p = proved_run_text p
 
--- what a run comes to: the text of its search, or a fault line, each with its status
+-- the events up to so many answers, where only these are wanted and there are as many
+abbrev pub front_events : Option ℕ → ProblemTree → Option (List Event)
+front_events None p = None
+front_events (Some k) p = upto (problem_events p) k
+
+-- the answers that are wanted and the line that says so, or the whole text where there are not so many
+abbrev pub stopped_or_whole : Bool → ProblemTree → ℕ → Option (List Event) → List ℕ
+stopped_or_whole proofs p k None = whole_text proofs p
+stopped_or_whole proofs p k (Some front) = all_lines proofs p 0 front ++ stopped_text k
+
+-- The text of a run of a problem: the whole text of its search. Where only so many answers are wanted and the search has as many, it is
+-- these, with proofs or without, and behind them the line that says that the run stopped.
+abbrev pub text_of_run : Option ℕ → Bool → ProblemTree → List ℕ
+text_of_run None proofs p = whole_text proofs p
+text_of_run (Some k) proofs p = stopped_or_whole proofs p k (upto (problem_events p) k)
+
+-- the status of a run: that of its search; or 0 where it stops after the answers that are wanted
+abbrev pub status_of_run : Option ℕ → ProblemTree → ℕ
+status_of_run wanted p = if is_some (front_events wanted p) then 0 else run_status p
+
+-- what a run comes to: its text, or a fault line, each with its status
 pub data RunComesTo (told : Option Texts) (absence read_failed : Type 0) (run : RunWords) (status : ℕ) (text : List ℕ) : Type 0 where
-  ran : (p : ProblemTree) → RunAsks told run p → status ≡ run_status p → text ≡ whole_text run.proofs p → RunComesTo told absence read_failed run status text
+  ran : (p : ProblemTree) → RunAsks told run p → status ≡ status_of_run run.first p → text ≡ text_of_run run.first run.proofs p → RunComesTo told absence read_failed run status text
   failed : (cause : Cause) → RunFails told absence read_failed run cause → status ≡ cause_status cause → text ≡ fault_text cause → RunComesTo told absence read_failed run status text
 
 -- ---- prints
@@ -204,33 +223,3 @@ pub record IsUncoveredCall (words : List (List ℕ)) (told : Option Texts) : Typ
   pub derivation : DerivationLines
   pub gives : CheckGives told check problem derivation
   pub why : IsTooLong problem derivation ⊎ ((node : ℕ) × CountsAt problem derivation node)
-
--- ---- calls
-
--- what a call with these words comes to: the status and the whole text, where memory does not run out and no write fails
-pub data ComesTo (words : List (List ℕ)) (told : Option Texts) (absence read_failed : Type 0) (status : ℕ) (text : List ℕ) : Type 0 where
-  misused : (number : ℕ) → IsBadWord words number → status ≡ 3 → text ≡ fault_text (Usage number) → ComesTo words told absence read_failed status text
-  runs : (run : RunWords) → IsRun words run → RunComesTo told absence read_failed run status text → ComesTo words told absence read_failed status text
-  prints : (name : List ℕ) → IsPrint words name → PrintComesTo told absence read_failed name status text → ComesTo words told absence read_failed status text
-  checks : (check : CheckWords) → IsCheck words check → CheckComesTo told absence read_failed check status text → ComesTo words told absence read_failed status text
-  runs_made : (run : MadeRunWords) → IsMadeRun words run → MadeRunComesTo run status text → ComesTo words told absence read_failed status text
-  makes : (make : MakeWords) → IsMake words make → MakeComesTo make status text → ComesTo words told absence read_failed status text
-
--- what was appended where memory ran out: nothing, or a prefix of what would have been written
-pub data AppendsOwn (Comes : ℕ → List ℕ → Type 0) (before after : Option (List ℕ)) : Type 0 where
-  nothing : after ≡ before → AppendsOwn Comes before after
-  front : (status : ℕ) (text : List ℕ) → Comes status text → AppendsFront before text after → AppendsOwn Comes before after
-
--- How a call ends that comes to this: its whole text was written; or a write failed, with a prefix of it written; or memory ran out.
--- `write_failed` says that the sink's count of faults rose.
-pub data Ends (Comes : ℕ → List ℕ → Type 0) (write_failed : Type 0) (before after : Option (List ℕ)) (status : ℕ) : Type 0 where
-  whole : (text : List ℕ) → Comes status text → after ≡ append_known before text → Ends Comes write_failed before after status
-  unwritable : (meant : ℕ) (text : List ℕ) → Comes meant text → write_failed → status ≡ 6 → AppendsFront before text after → Ends Comes write_failed before after status
-  no_memory : status ≡ 10 → AppendsOwn Comes before after → Ends Comes write_failed before after status
-
--- A call with these words is complete: where the texts are told, and neither a read nor a write failed, it ends with the one status and
--- the one whole text that its words and texts come to, or memory ran out.
-abbrev pub Completes : List (List ℕ) → Option Texts → Type 0 → Type 0 → Option (List ℕ) → Option (List ℕ) → ℕ → Type 0
-Completes words told read_failed write_failed before after status =
-    (texts : Texts) (meant : ℕ) (text : List ℕ) → told ≡ Some texts → (read_failed → ⊥) → (write_failed → ⊥) → ComesTo words (Some texts) (Unit {0}) ⊥ meant text
-    → ((status ≡ meant) × (after ≡ append_known before text)) ⊎ (status ≡ 10)

@@ -1,7 +1,8 @@
 -- What a run writes, in the words of derivations.
-use Rattle.std.specs.Prelude.{◌≡◌, ℕ, suc, Bool, true, false, List, [], ◌∷◌, ◌++◌, length, count_by, Option}
+use Rattle.std.specs.Prelude.{◌≡◌, ℕ, suc, Bool, true, false, List, [], ◌∷◌, ◌++◌, length, count_by, Option, Some, None, unwrap_or}
 use Rattle.std.specs.Io.KnownBytes.{append_known}
 use Rattle.ll_edge.specs.Texts.{Texts}
+use Rattle.ll_first.specs.Upto.{upto}
 use Rattle.ll_laws.specs.declared.Event.{Event}
 use Rattle.ll_laws.specs.declared.Event.TheVariants.{Answer, Reached}
 use Rattle.ll_laws.specs.Answered.{Answered}
@@ -13,7 +14,8 @@ use Rattle.ll_laws.specs.Dealt.{asked_terms}
 use Rattle.ll_laws.specs.Output.{answer_text, summary_text}
 use Rattle.ll_laws.specs.ProofText.{proof_text}
 use Rattle.ll_top.specs.Words.{RunWords}
-use Rattle.ll_top.specs.Outcome.{RunAsks}
+use Rattle.ll_top.specs.Outcome.{RunAsks, front_events}
+use Rattle.ll_top.specs.Verdicts.{stopped_text}
 
 -- The derivation shows the answer: it is a whole derivation of the query with the answer's terms for its variables, in which every
 -- linear clause is used exactly once, and it has as many nodes as the answer's branch has steps.
@@ -36,10 +38,24 @@ pub data AreShown (proofs : Bool) (p : ProblemTree) : ℕ → List Event → Lis
       → AreShown proofs p k (Answer a ∷ es) (answer_text p (suc k) a ++ behind_answer proofs p d ++ text)
   reached_shown : {k : ℕ} {es : List Event} {text : List ℕ} → AreShown proofs p k es text → AreShown proofs p k (Reached ∷ es) text
 
--- the texts of a run ask a problem, each of whose answers is shown, and their text and the last line were appended
+-- the events that a run tells
+abbrev pub events_told : Option ℕ → ProblemTree → List Event
+events_told first p = unwrap_or (front_events first p) (problem_events p)
+
+-- the last line of a run that stops after so many answers, or that of a whole search where there are not so many
+abbrev pub stop_or_summary : ℕ → ProblemTree → Option (List Event) → List ℕ
+stop_or_summary k p None = summary_text (count_by is_answer (problem_events p)) (count_by is_reached (problem_events p)) (problem_cost p)
+stop_or_summary k p (Some front) = stopped_text k
+
+-- the last line of a run
+abbrev pub end_of_run : Option ℕ → ProblemTree → List ℕ
+end_of_run None p = summary_text (count_by is_answer (problem_events p)) (count_by is_reached (problem_events p)) (problem_cost p)
+end_of_run (Some k) p = stop_or_summary k p (upto (problem_events p) k)
+
+-- the texts of a run ask a problem, each of whose answers that it tells is shown, and their text and the last line were appended
 pub record WritesShown (told : Option Texts) (run : RunWords) (before after : Option (List ℕ)) : Type 0 where
   pub problem : ProblemTree
   pub asks : RunAsks told run problem
   pub answers : List ℕ
-  pub are_shown : AreShown run.proofs problem 0 (problem_events problem) answers
-  pub written : after ≡ append_known before (answers ++ summary_text (count_by is_answer (problem_events problem)) (count_by is_reached (problem_events problem)) (problem_cost problem))
+  pub are_shown : AreShown run.proofs problem 0 (events_told run.first problem) answers
+  pub written : after ≡ append_known before (answers ++ end_of_run run.first problem)

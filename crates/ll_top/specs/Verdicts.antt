@@ -48,3 +48,7 @@ too_long_text nodes bound = too_long_fields (decimal nodes) (decimal bound)
 -- the line of one with a node of a whole-number goal: `not covered: node I counts numbers`
 abbrev pub counts_text : ℕ → List ℕ
 counts_text node = concat (codes "not covered: node " ∷ decimal node ∷ codes " counts numbers\n" ∷ [])
+
+-- the line behind the answers of a run that stops after so many: `stopped after K`
+abbrev pub stopped_text : ℕ → List ℕ
+stopped_text number = concat (codes "stopped after " ∷ decimal number ∷ codes "\n" ∷ [])

@@ -1,15 +1,20 @@
 -- The forms of a command's words.
 use Rattle.std.specs.Prelude.{◌≡◌, ◌⊎◌, ℕ, ◌+◌, ◌<◌, ◌≤◌, Bool, true, false, ◌&&◌, not, List, [], ◌∷◌, length, filter, nat_eq, nat_le, slice_get, Option, Some, None, is_some, if◌then◌else◌, codes, option_map, IfSome}
 use Rattle.ll_top.specs.declared.words.RunCommand.{RunCommand}
+use Rattle.ll_top.specs.declared.words.SessionCommand.{SessionCommand}
+use Rattle.ll_top.specs.declared.words.DeepenCommand.{DeepenCommand}
+use Rattle.ll_top.specs.declared.words.ConvertCommand.{ConvertCommand}
 use Rattle.ll_top.specs.declared.words.CheckCommand.{CheckCommand}
 use Rattle.ll_top.specs.declared.making.MakeCommand.{MakeCommand}
 use Rattle.ll_top.specs.declared.making.MadeRunCommand.{MadeRunCommand}
 use Rattle.ll_top.specs.declared.words.Command.{Command}
-use Rattle.ll_top.specs.declared.words.Command.TheVariants.{Run, Print, Check, Make, MadeRun}
+use Rattle.ll_top.specs.declared.words.Command.TheVariants.{Run, Session, Deepen, Print, Check, Convert, Make, MadeRun}
 use Rattle.std.specs.Str.{bytes_eq}
 use Rattle.std.specs.Char.{is_ascii_digit}
 use Rattle.std.specs.Str.Parse.{digits_value}
 use Rattle.std.specs.List.{list_all, list_any, starts_with}
+use Rattle.ll_deepen.specs.declared.series.Series.{Series}
+use Rattle.ll_deepen.specs.Deciding.{IsSeries}
 use Rattle.ll_make.specs.declared.kind.MakeKind.{MakeKind}
 use Rattle.ll_make.specs.declared.kind.MakeKind.TheVariants.{Perm, Choice, Chain}
 use Rattle.ll_make.specs.Kinds.{least_number, greatest_number, Fits as FitsKind}
@@ -102,9 +107,50 @@ workers_option = record { word = codes "--workers"; values = NumberFrom 1 greate
 abbrev pub proofs_option : OptionForm
 proofs_option = record { word = codes "--proofs"; values = []; may_lack = true }
 
--- `run PROGRAM QUERY --bound N --workers W [--proofs]`
+-- the greatest number of answers that words ask for
+abbrev pub greatest_first : ℕ
+greatest_first = 999999999
+
+-- `--first K`
+abbrev pub first_option : OptionForm
+first_option = record { word = codes "--first"; values = NumberFrom 1 greatest_first ∷ []; may_lack = true }
+
+-- `run PROGRAM QUERY --bound N --workers W [--proofs] [--first K]`
 abbrev pub run_form : Form
-run_form = record { parts = ThisWord (codes "run") ∷ AnyName ∷ AnyName ∷ []; options = bound_option ∷ workers_option ∷ proofs_option ∷ [] }
+run_form = record { parts = ThisWord (codes "run") ∷ AnyName ∷ AnyName ∷ []; options = bound_option ∷ workers_option ∷ proofs_option ∷ first_option ∷ [] }
+
+-- `session PROGRAM QUERIES --bound N --workers W [--proofs]`
+abbrev pub session_form : Form
+session_form = record { parts = ThisWord (codes "session") ∷ AnyName ∷ AnyName ∷ []; options = bound_option ∷ workers_option ∷ proofs_option ∷ [] }
+
+-- `--from A`, where A is at most m
+abbrev pub from_option : ℕ → OptionForm
+from_option m = record { word = codes "--from"; values = NumberFrom 0 m ∷ []; may_lack = false }
+
+-- `--by B`
+abbrev pub by_option : OptionForm
+by_option = record { word = codes "--by"; values = NumberFrom 1 greatest_bound ∷ []; may_lack = false }
+
+-- `--to C`, where C is at least m
+abbrev pub to_option : ℕ → OptionForm
+to_option m = record { word = codes "--to"; values = NumberFrom m greatest_bound ∷ []; may_lack = false }
+
+-- `deepen PROGRAM QUERY --from A --by B --to C --workers W [--proofs]`, where A is at most m, and C is at least m
+abbrev pub deepen_form : ℕ → Form
+deepen_form m =
+    record { parts = ThisWord (codes "deepen") ∷ AnyName ∷ AnyName ∷ []; options = from_option m ∷ by_option ∷ to_option m ∷ workers_option ∷ proofs_option ∷ [] }
+
+-- words are in the form of a deepening, whose first bound is at most its last one
+abbrev pub IsDeepenForm : List (List ℕ) → Type 0
+IsDeepenForm words = (m : ℕ) × (m ≤ greatest_bound) × FitsForm (deepen_form m) words
+
+-- `--to V`
+abbrev pub version_option : OptionForm
+version_option = record { word = codes "--to"; values = NumberFrom 1 2 ∷ []; may_lack = false }
+
+-- `convert PROOF --to V`
+abbrev pub convert_form : Form
+convert_form = record { parts = ThisWord (codes "convert") ∷ AnyName ∷ []; options = version_option ∷ [] }
 
 -- `print PROGRAM`
 abbrev pub print_form : Form
@@ -132,19 +178,21 @@ made_options = bound_option ∷ workers_option ∷ []
 abbrev pub made_run_form : MakeKind → Form
 made_run_form kind = record { parts = make_parts kind; options = made_options }
 
+-- the forms but that of a deepening
 abbrev pub forms : List Form
-forms = run_form ∷ print_form ∷ check_form ∷ cover_form ∷ make_form Perm ∷ make_form Choice ∷ make_form Chain ∷ made_run_form Perm ∷ made_run_form Choice ∷ made_run_form Chain ∷ []
+forms =
+    run_form ∷ session_form ∷ print_form ∷ check_form ∷ cover_form ∷ convert_form ∷ make_form Perm ∷ make_form Choice ∷ make_form Chain ∷ made_run_form Perm ∷ made_run_form Choice ∷ made_run_form Chain ∷ []
 
 -- words are in a form
 abbrev pub IsInForm : List (List ℕ) → Type 0
-IsInForm words = FitsSome forms words
+IsInForm words = FitsSome forms words ⊎ IsDeepenForm words
 
--- words are in a form that has the option `--workers`
+-- words are in a form that has the option `--workers`, as that of a deepening has
 abbrev pub has_workers : Form → Bool
 has_workers form = list_any (λ o. is_word o.word (codes "--workers")) form.options
 
 abbrev pub IsInWorkersForm : List (List ℕ) → Type 0
-IsInWorkersForm words = FitsSome (filter has_workers forms) words
+IsInWorkersForm words = FitsSome (filter has_workers forms) words ⊎ IsDeepenForm words
 
 -- the word of this number, counted from 1, is the first one through which no form's words begin; it is one past the last where they end early
 pub record IsBadWord (words : List (List ℕ)) (number : ℕ) : Type 0 where
@@ -154,13 +202,35 @@ pub record IsBadWord (words : List (List ℕ)) (number : ℕ) : Type 0 where
 
 -- ---- what words ask for
 
--- what the words `run PROGRAM QUERY --bound N --workers W [--proofs]` ask for
+-- what the words `run PROGRAM QUERY --bound N --workers W [--proofs] [--first K]` ask for: all answers, or the first K
 pub record RunWords : Type 0 where
   pub program : List ℕ
   pub query : List ℕ
   pub bound : ℕ
   pub workers : ℕ
   pub proofs : Bool
+  pub first : Option ℕ
+
+-- what the words `session PROGRAM QUERIES --bound N --workers W [--proofs]` ask for
+pub record SessionWords : Type 0 where
+  pub program : List ℕ
+  pub queries : List ℕ
+  pub bound : ℕ
+  pub workers : ℕ
+  pub proofs : Bool
+
+-- what the words `deepen PROGRAM QUERY --from A --by B --to C --workers W [--proofs]` ask for
+pub record DeepenWords : Type 0 where
+  pub program : List ℕ
+  pub query : List ℕ
+  pub series : Series
+  pub workers : ℕ
+  pub proofs : Bool
+
+-- what the words `convert PROOF --to V` ask for
+pub record ConvertWords : Type 0 where
+  pub proof : List ℕ
+  pub version : ℕ
 
 -- the number in the word behind the first one that is this text
 abbrev pub number_behind : List ℕ → List (List ℕ) → Option ℕ
@@ -172,6 +242,11 @@ number_behind text (w ∷ v ∷ ws) = if is_word w text then Some (digits_value 
 abbrev pub has_word : List ℕ → List (List ℕ) → Bool
 has_word text words = list_any (λ w. is_word w text) words
 
+-- the number of answers that `--first` asks for, or nothing where it lacks
+abbrev pub HasFirst : List (List ℕ) → Option ℕ → Type 0
+HasFirst words None = has_word (codes "--first") words ≡ false
+HasFirst words (Some k) = number_behind (codes "--first") words ≡ Some k
+
 -- Words are in the form of a run, and ask for this. The word of an option stands behind the names: no name begins with `--`, and no value does.
 pub record IsRun (words : List (List ℕ)) (run : RunWords) : Type 0 where
   pub form : FitsForm run_form words
@@ -180,6 +255,33 @@ pub record IsRun (words : List (List ℕ)) (run : RunWords) : Type 0 where
   pub bound : number_behind (codes "--bound") words ≡ Some run.bound
   pub workers : number_behind (codes "--workers") words ≡ Some run.workers
   pub proofs : has_word (codes "--proofs") words ≡ run.proofs
+  pub first : HasFirst words run.first
+
+-- words are in the form of a session, and ask for this
+pub record IsSession (words : List (List ℕ)) (session : SessionWords) : Type 0 where
+  pub form : FitsForm session_form words
+  pub program : slice_get words 1 ≡ Some session.program
+  pub queries : slice_get words 2 ≡ Some session.queries
+  pub bound : number_behind (codes "--bound") words ≡ Some session.bound
+  pub workers : number_behind (codes "--workers") words ≡ Some session.workers
+  pub proofs : has_word (codes "--proofs") words ≡ session.proofs
+
+-- words are in the form of a deepening, and ask for this
+pub record IsDeepen (words : List (List ℕ)) (deepen : DeepenWords) : Type 0 where
+  pub form : IsDeepenForm words
+  pub program : slice_get words 1 ≡ Some deepen.program
+  pub query : slice_get words 2 ≡ Some deepen.query
+  pub from_is : number_behind (codes "--from") words ≡ Some deepen.series.from
+  pub by_is : number_behind (codes "--by") words ≡ Some deepen.series.by
+  pub to_is : number_behind (codes "--to") words ≡ Some deepen.series.to
+  pub workers : number_behind (codes "--workers") words ≡ Some deepen.workers
+  pub proofs : has_word (codes "--proofs") words ≡ deepen.proofs
+
+-- words are in the form of a conversion, and ask for this
+pub record IsConvert (words : List (List ℕ)) (convert : ConvertWords) : Type 0 where
+  pub form : FitsForm convert_form words
+  pub proof : slice_get words 1 ≡ Some convert.proof
+  pub version : number_behind (codes "--to") words ≡ Some convert.version
 
 -- words are in the form of a print, and this is the name of its program
 pub record IsPrint (words : List (List ℕ)) (name : List ℕ) : Type 0 where
@@ -220,7 +322,19 @@ pub record IsMadeRun (words : List (List ℕ)) (run : MadeRunWords) : Type 0 whe
 
 -- what the program's record of a run shows
 abbrev pub shown_words : RunCommand → RunWords
-shown_words c = record { program = c.program.now; query = c.query.now; bound = c.bound; workers = c.workers; proofs = c.proofs }
+shown_words c = record { program = c.program.now; query = c.query.now; bound = c.bound; workers = c.workers; proofs = c.proofs; first = c.first }
+
+-- what the program's record of a session shows
+abbrev pub shown_session : SessionCommand → SessionWords
+shown_session c = record { program = c.program.now; queries = c.queries.now; bound = c.bound; workers = c.workers; proofs = c.proofs }
+
+-- what the program's record of a deepening shows
+abbrev pub shown_deepen : DeepenCommand → DeepenWords
+shown_deepen c = record { program = c.program.now; query = c.query.now; series = c.series; workers = c.workers; proofs = c.proofs }
+
+-- what the program's record of a conversion shows
+abbrev pub shown_convert : ConvertCommand → ConvertWords
+shown_convert c = record { proof = c.proof.now; version = c.version }
 
 -- what the program's record of a check or a cover shows
 abbrev pub shown_check : CheckCommand → CheckWords
@@ -237,8 +351,11 @@ shown_made_run c = record { make = shown_make c.make; bound = c.bound; workers =
 -- words ask for this command
 abbrev pub IsCommand : List (List ℕ) → Command → Type 0
 IsCommand words (Run run) = IsRun words (shown_words run)
+IsCommand words (Session session) = IsSession words (shown_session session)
+IsCommand words (Deepen deepen) = IsDeepen words (shown_deepen deepen)
 IsCommand words (Print name) = IsPrint words name.now
 IsCommand words (Check check) = IsCheck words (shown_check check)
+IsCommand words (Convert convert) = IsConvert words (shown_convert convert)
 IsCommand words (Make make) = IsMake words (shown_make make)
 IsCommand words (MadeRun run) = IsMadeRun words (shown_made_run run)
 
@@ -246,10 +363,18 @@ IsCommand words (MadeRun run) = IsMadeRun words (shown_made_run run)
 abbrev pub IsWorkerCount : ℕ → Type 0
 IsWorkerCount n = (0 < n) × (n ≤ greatest_workers)
 
--- a command's bound, where it has one, is not past the greatest, nor is the number of its workers, and the number of a make fits its kind
+-- a version of the text of a derivation
+abbrev pub IsVersion : ℕ → Type 0
+IsVersion version = (version ≡ 1) ⊎ (version ≡ 2)
+
+-- A command's bound, where it has one, is not past the greatest, nor is the number of its workers, and the number of a make fits its kind.
+-- The first answers that a run asks for are one at least. The bounds of a deepening are a series, and a conversion is to a version that there is.
 abbrev pub IsBounded : Command → Type 0
-IsBounded (Run run) = (run.bound ≤ greatest_bound) × IsWorkerCount run.workers
+IsBounded (Run run) = (run.bound ≤ greatest_bound) × IsWorkerCount run.workers × IfSome run.first (λ first. 0 < first)
+IsBounded (Session session) = (session.bound ≤ greatest_bound) × IsWorkerCount session.workers
+IsBounded (Deepen deepen) = IsSeries deepen.series × IsWorkerCount deepen.workers
 IsBounded (Print name) = Unit {0}
 IsBounded (Check check) = IfSome check.bound (λ bound. bound ≤ greatest_bound)
+IsBounded (Convert convert) = IsVersion convert.version
 IsBounded (Make make) = FitsKind make.kind make.number
 IsBounded (MadeRun run) = FitsKind run.make.kind run.make.number × (run.bound ≤ greatest_bound) × IsWorkerCount run.workers

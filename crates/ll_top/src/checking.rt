@@ -7,8 +7,8 @@ ghost use Rattle.ll_laws.specs.Line.{IsWhole};
 ghost use Rattle.ll_laws.specs.Valid.{IsValid};
 ghost use Rattle.ll_laws.specs.Verdict.{DerivationShows};
 ghost use Rattle.ll_prooftext.specs.Mentions.{text_names};
-ghost use Rattle.ll_prooftext.specs.Reading.{IsTextOf};
 ghost use Rattle.ll_prooftext.specs.Terms.{Grows};
+ghost use Rattle.ll_prooftext.specs.Versions.{IsProofText};
 ghost use Rattle.ll_top.specs.Counting.{is_counting};
 ghost use Rattle.ll_top.specs.Words.{shown_check};
 ghost use Rattle.ll_top.specs.Endings.{IsFinding, IsNoDerivation, Finds, CheckFinds, CheckEnds};
@@ -156,10 +156,11 @@ fn first_counting(nodes: &[Rule]) -> Option<usize>
     None
 }
 
-// The derivation of a text. Names may come to the others, also where it is refused.
-fn derivation_of(alloc: Global, text: &[u8], names: &mut Names) -> Result<Derivation, Refusal>
+/// The derivation of a text of either version, or the text's fault. The names that it mentions come to the others; where it is refused some may
+/// have come.
+pub fn derivation_of(alloc: Global, text: &[u8], names: &mut Names) -> Result<Derivation, Refusal>
     requires { length text.now ≤ 16777216 }
-    ensures read { IfOk result (λ d. IsTextOf names.new text.now d) }
+    ensures read { IfOk result (λ d. IsProofText names.new text.now d) }
     ensures names { OnOk result (names.new ≡ with_names names.old (text_names text.now)) }
     ensures grows { IfOk result (λ d. Grows names.old names.new) }
     ensures refused { IfErr result (IsNoDerivation text.now) }
@@ -168,8 +169,8 @@ fn derivation_of(alloc: Global, text: &[u8], names: &mut Names) -> Result<Deriva
     if names.len() >= MOST_NAMES - text.len() {
         return Err(Refusal::OutOfMemory);
     }
-    match ll_prooftext::read(alloc, text, names) {
-        Ok(derivation) => Ok(derivation),
+    match ll_prooftext::read_any(alloc, text, names) {
+        Ok((derivation, _)) => Ok(derivation),
         Err(fault) => Err(refusal(Role::Proof, fault)),
     }
 }

@@ -22,6 +22,8 @@ pub enum Cause<'a> {
     Unreadable(&'a str),
     /// The text of this name has too many bytes.
     Oversized(&'a str),
+    /// The derivation in the text of this name has too many bytes as a text of this version.
+    OversizedAs(&'a str, u8),
     /// The text of this name has this fault.
     Faulty(&'a str, Fault),
 }
@@ -47,12 +49,13 @@ fn status(cause: Cause<'_>) -> u8
         Cause::Absent(_) => 4,
         Cause::Unreadable(_) => 5,
         Cause::Oversized(_) => 8,
+        Cause::OversizedAs(_, _) => 8,
         Cause::Faulty(_, _) => 7,
     }
 }
 
-// Writes the line of a cause.
-fn write_line<O: Sink>(cause: Cause<'_>, sink: &mut O) -> Result<(), WriteFailed>
+/// Writes the line of a cause. After a refusal a prefix of it was written.
+pub fn write_line<O: Sink>(cause: Cause<'_>, sink: &mut O) -> Result<(), WriteFailed>
     ensures faults_kept { O.faults sink.old ≤ O.faults sink.new }
     ensures line { OnOk result (O.written sink.new ≡ append_known (O.written sink.old) (fault_text (shown_cause cause.entry))) }
     ensures failed { OnErr result (Rose (O.faults sink.old) (O.faults sink.new)) }
@@ -68,6 +71,12 @@ fn write_line<O: Sink>(cause: Cause<'_>, sink: &mut O) -> Result<(), WriteFailed
         Cause::Unreadable(name) => write_parts(sink, &["fault: read ", name, "\n"]),
         Cause::Oversized(name) => {
             write_parts(sink, &["fault: ", name, " has more than 16777216 bytes\n"])
+        }
+        Cause::OversizedAs(name, version) => {
+            let mut digits = Buffer::new();
+            let version = digits.format(version);
+            let long = " has more than 16777216 bytes\n";
+            write_parts(sink, &["fault: ", name, " as version ", version, long])
         }
         Cause::Faulty(name, fault) => write_text_fault(sink, name, fault),
     }
@@ -149,6 +158,7 @@ fn kind_text(kind: u8) -> &'static str
         14 => "malformed field",
         15 => "nodes missing",
         16 => "nodes left over",
+        18 => "not the table of shared terms",
         _ => "",
     }
 }

@@ -2,8 +2,12 @@
 #![tactic(auto)]
 
 mod checking;
+mod converting;
+mod deepening;
 mod fault;
 mod finding;
+mod first_run;
+mod heading;
 mod judge;
 mod made_runs;
 mod making;
@@ -12,47 +16,56 @@ mod prepare;
 mod printing;
 mod refusal;
 mod run;
+mod searches;
+mod session;
 mod silent;
 mod team;
 mod words;
 
-ghost use Rattle.std.specs.Prelude.{◌≡◌, ◌≤◌, ◌↔◌, ◌⊎◌, ℕ, List, Option, None, Some, IfSome};
+ghost use Rattle.std.specs.Prelude.{◌≡◌, ◌≤◌, ◌<◌, ◌↔◌, ◌⊎◌, ℕ, List, Option, None, Some, IfSome};
 ghost use Rattle.ll_edge.specs.Counts.{Rose};
 ghost use Rattle.ll_edge.specs.Texts.{Texts};
 ghost use Rattle.ll_top.specs.Words.{FitsForm, cover_form, IsInForm, IsInWorkersForm, RunWords, IsRun, shown_words, shown_check};
-ghost use Rattle.ll_top.specs.Outcome.{word_texts, name_of, name_in_check, ComesTo, RunComesTo, PrintComesTo, CheckComesTo, IsDenied, IsCoveredCall, IsUncoveredCall, Ends, Completes};
+ghost use Rattle.ll_top.specs.Outcome.{word_texts, name_of, name_in_check, RunComesTo, PrintComesTo, CheckComesTo, IsDenied, IsCoveredCall, IsUncoveredCall};
+ghost use Rattle.ll_top.specs.Calls.{ComesTo, Ends, Completes};
 ghost use Rattle.ll_top.specs.Endings.{status_of_found, status_of_finding, RunEnds};
 ghost use Rattle.ll_top.specs.Proved.{WritesShown};
 ghost use Rattle.ll_top.specs.Nothing.{AsksInVain};
 
 use checking::check_derivation;
+use converting::serve_convert;
+use deepening::serve_deepen;
 use fault::{Cause, refuse};
 use finding::Finding;
+use first_run::run_first;
 use judge::Role;
 use ll_edge::{Gate, Shelf, Sink};
 use ll_laws::{answers_are_shown, search_is_complete};
 use ll_lexer::one_reading;
 use ll_parser::{one_program, one_query};
-use ll_prooftext::one_derivation;
+use ll_prooftext::one_derivation_in_any;
+use ll_session::one_session;
 use made_runs::serve_made_run;
 use making::serve_make;
 use prepare::prepare;
 use printing::print_program;
 use refusal::Refusal;
 use run::{Found, run};
+use session::serve_session;
 use std::alloc::Global;
 use std::sync::Wait;
 use std::thread::Threads;
 use team::Team;
-use words::{CheckCommand, Command, RunCommand, read_command};
+use words::{CheckCommand, Command, RunCommand, read_command, workers_of};
 
 /// Does what the words say, over the texts of the shelf, and writes to the sink. The answer is the program's exit status:
 ///
-/// - 0: there is an answer, the program was printed or made, or the derivation shows the query, or is covered by an answer; 1: there is no answer; 2: there is none, but some
-///   branch reached the bound; 9: the derivation does not show the query; 11: it shows it, but is too long or counts numbers, so no answer
-///   that covers it is looked for. The whole text was written.
+/// - 0: there is an answer, each query of a session has its reply, the program was printed or made, the derivation was converted, or it shows
+///   the query, or is covered by an answer; 1: there is no answer; 2: there is none, but some branch reached the bound; 9: the derivation does
+///   not show the query; 11: it shows it, but is too long or counts numbers, so no answer that covers it is looked for. The whole text was
+///   written.
 /// - 3: the words are in no form; 4: there is no text of a name; 5: the shelf failed; 7: a text has a fault; 8: a text has more
-///   than 16,777,216 bytes. The line of this cause was written.
+///   than 16,777,216 bytes, or a converted one would have. The line of this cause was written.
 /// - 6: the sink failed; 10: memory ran out. A prefix of the text was written.
 pub fn lolli<R: Threads + Wait + Sync, F: Shelf, O: Sink, G: Gate>(
     rt: &R,
@@ -96,30 +109,7 @@ pub fn lolli<R: Threads + Wait + Sync, F: Shelf, O: Sink, G: Gate>(
     one_text();
     match lolli_plain(alloc, words, shelf, sink) {
         Some(status) => status,
-        None => match read_command(words) {
-            Ok(Command::Run(run)) => {
-                let team = Team {
-                    rt,
-                    alloc,
-                    workers: run.workers,
-                    gate,
-                };
-                serve_run(&team, &run, shelf, sink)
-            }
-            Ok(Command::MadeRun(made)) => {
-                let team = Team {
-                    rt,
-                    alloc,
-                    workers: made.workers,
-                    gate,
-                };
-                serve_made_run(&team, made, sink)
-            }
-            Ok(Command::Print(_)) => unreachable!(),
-            Ok(Command::Check(_)) => unreachable!(),
-            Ok(Command::Make(_)) => unreachable!(),
-            Err(_) => unreachable!(),
-        },
+        None => serve_search(rt, alloc, words, shelf, sink, gate),
     }
 }
 
@@ -155,14 +145,7 @@ pub fn lolli_plain<F: Shelf, O: Sink>(
         × (O.faults sink.old ≤ O.faults sink.new) }
 {
     one_text();
-    match read_command(words) {
-        Ok(Command::Run(_)) => None,
-        Ok(Command::MadeRun(_)) => None,
-        Ok(Command::Print(name)) => Some(serve_print(alloc, name, shelf, sink)),
-        Ok(Command::Check(check)) => Some(serve_check(alloc, &check, shelf, sink)),
-        Ok(Command::Make(make)) => Some(serve_make(alloc, make, sink)),
-        Err(number) => Some(refuse(Cause::Usage(number), sink)),
-    }
+    serve_plain(alloc, words, shelf, sink)
 }
 
 /// Words and texts determine the status and what is written, where no read fails.
@@ -174,7 +157,88 @@ pub fn one_text()
     one_reading();
     one_program();
     one_query();
-    one_derivation();
+    one_derivation_in_any();
+    one_session();
+}
+
+// Serves words of a form with `--workers`.
+fn serve_search<R: Threads + Wait + Sync, F: Shelf, O: Sink, G: Gate>(
+    rt: &R,
+    alloc: Global,
+    words: &[&str],
+    shelf: &mut F,
+    sink: &mut O,
+    gate: &G,
+) -> u8
+    requires workers { IsInWorkersForm (word_texts words.now) }
+
+    ensures same_texts { F.texts shelf.new ≡ F.texts shelf.old }
+    ensures shelf_faults_kept { F.faults shelf.old ≤ F.faults shelf.new }
+    ensures absences_kept { F.absences shelf.old ≤ F.absences shelf.new }
+    ensures sink_faults_kept { O.faults sink.old ≤ O.faults sink.new }
+
+    ensures outcome { Ends (ComesTo (word_texts words.now) (F.texts shelf.old) (Rose (F.absences shelf.old) (F.absences shelf.new))
+        (Rose (F.faults shelf.old) (F.faults shelf.new))) (Rose (O.faults sink.old) (O.faults sink.new))
+        (O.written sink.old) (O.written sink.new) result }
+    ensures proved { (run : RunWords) → IsRun (word_texts words.now) run → result ≤ 2
+        → WritesShown (F.texts shelf.old) run (O.written sink.old) (O.written sink.new) }
+    ensures nothing { (run : RunWords) → IsRun (word_texts words.now) run → result ≡ 1 → AsksInVain (F.texts shelf.old) run }
+{
+    let Ok(command) = read_command(words) else {
+        unreachable!()
+    };
+    let Some(workers) = workers_of(command) else {
+        unreachable!()
+    };
+    let team = Team {
+        rt,
+        alloc,
+        workers,
+        gate,
+    };
+    match command {
+        Command::Run(run) => serve_run(&team, &run, shelf, sink),
+        Command::Session(session) => serve_session(&team, &session, shelf, sink),
+        Command::Deepen(deepen) => serve_deepen(&team, &deepen, shelf, sink),
+        Command::MadeRun(made) => serve_made_run(&team, made, sink),
+        Command::Print(_) => unreachable!(),
+        Command::Check(_) => unreachable!(),
+        Command::Convert(_) => unreachable!(),
+        Command::Make(_) => unreachable!(),
+    }
+}
+
+// Serves words of any other form, or of none.
+fn serve_plain<F: Shelf, O: Sink>(
+    alloc: Global,
+    words: &[&str],
+    shelf: &mut F,
+    sink: &mut O,
+) -> Option<u8>
+    ensures workers { (result ≡ None) ↔ IsInWorkersForm (word_texts words.now) }
+    ensures untouched { result ≡ None → (shelf.new ≡ shelf.old) × (sink.new ≡ sink.old) }
+
+    ensures same_texts { F.texts shelf.new ≡ F.texts shelf.old }
+    ensures shelf_faults_kept { F.faults shelf.old ≤ F.faults shelf.new }
+    ensures absences_kept { F.absences shelf.old ≤ F.absences shelf.new }
+    ensures sink_faults_kept { O.faults sink.old ≤ O.faults sink.new }
+
+    ensures outcome { IfSome result (Ends (ComesTo (word_texts words.now) (F.texts shelf.old) (Rose (F.absences shelf.old) (F.absences shelf.new))
+        (Rose (F.faults shelf.old) (F.faults shelf.new))) (Rose (O.faults sink.old) (O.faults sink.new))
+        (O.written sink.old) (O.written sink.new)) }
+    ensures misused { (IsInForm (word_texts words.now) → ⊥) → (result ≡ Some 3) ⊎ (result ≡ Some 6) }
+{
+    match read_command(words) {
+        Ok(Command::Run(_)) => None,
+        Ok(Command::Session(_)) => None,
+        Ok(Command::Deepen(_)) => None,
+        Ok(Command::MadeRun(_)) => None,
+        Ok(Command::Print(name)) => Some(serve_print(alloc, name, shelf, sink)),
+        Ok(Command::Check(check)) => Some(serve_check(alloc, &check, shelf, sink)),
+        Ok(Command::Convert(convert)) => Some(serve_convert(alloc, &convert, shelf, sink)),
+        Ok(Command::Make(make)) => Some(serve_make(alloc, make, sink)),
+        Err(number) => Some(refuse(Cause::Usage(number), sink)),
+    }
 }
 
 // Runs a command, and says why not where it is not run.
@@ -185,6 +249,7 @@ fn serve_run<R: Threads + Wait + Sync, F: Shelf, O: Sink, G: Gate>(
     sink: &mut O,
 ) -> u8
     requires bound { run.now.bound ≤ 1000000 }
+    requires first { IfSome run.now.first (λ wanted. 0 < wanted) }
 
     ensures same_texts { F.texts shelf.new ≡ F.texts shelf.old }
     ensures shelf_faults_kept { F.faults shelf.old ≤ F.faults shelf.new }
@@ -215,6 +280,7 @@ fn run_texts<R: Threads + Wait + Sync, F: Shelf, O: Sink, G: Gate>(
     sink: &mut O,
 ) -> Result<Found, Refusal>
     requires bound { command.now.bound ≤ 1000000 }
+    requires first { IfSome command.now.first (λ wanted. 0 < wanted) }
 
     ensures same_texts { F.texts shelf.new ≡ F.texts shelf.old }
     ensures shelf_faults_kept { F.faults shelf.old ≤ F.faults shelf.new }
@@ -225,7 +291,10 @@ fn run_texts<R: Threads + Wait + Sync, F: Shelf, O: Sink, G: Gate>(
         (Rose (O.faults sink.old) (O.faults sink.new)) (shown_words command.now) (O.written sink.old) (O.written sink.new) result }
 {
     let problem = prepare(team.alloc, command, shelf)?;
-    run(team, &problem, command.proofs, sink)
+    match command.first {
+        None => run(team, &problem, command.proofs, sink),
+        Some(wanted) => run_first(team, &problem, command.proofs, wanted, sink),
+    }
 }
 
 // Prints a program, and says why not where it is not printed.

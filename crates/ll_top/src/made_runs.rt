@@ -12,7 +12,7 @@ ghost use Rattle.ll_top.specs.declared.refusal.Refusal.TheVariants.{OutOfMemory}
 ghost use Rattle.ll_top.specs.Words.{shown_made_run};
 ghost use Rattle.ll_top.specs.MadeRuns.{last_line, MadeRunComesTo};
 ghost use Rattle.ll_top.specs.MadeEnds.{MadeRunEnds};
-ghost use Rattle.ll_top.specs.Outcome.{Ends};
+ghost use Rattle.ll_top.specs.Calls.{Ends};
 ghost use Rattle.ll_top.specs.Endings.{status_of_found};
 ghost use Rattle.ll_top.specs.Running.{IsRunRefusal};
 
@@ -91,8 +91,8 @@ fn write_counts<R: Threads + Wait + Sync, O: Sink, G: Gate>(
     Ok(what_was_found(&counts))
 }
 
-// Counts the events of the problem and its inferences.
-fn count_events<R: Threads + Wait + Sync, G: Gate>(
+/// Counts the events of the problem and its inferences, each cut at the greatest `u64`, and writes nothing.
+pub fn count_events<R: Threads + Wait + Sync, G: Gate>(
     team: &Team<'_, R, G>,
     problem: &Problem,
 ) -> Result<Counts, Refusal>

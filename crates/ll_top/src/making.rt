@@ -4,9 +4,10 @@ ghost use Rattle.ll_edge.specs.Counts.{Rose};
 ghost use Rattle.ll_make.specs.Kinds.{Fits};
 ghost use Rattle.ll_top.specs.Making.{kind_word, MakeComesTo};
 ghost use Rattle.ll_top.specs.Words.{ThisWord, IsCommand, IsBounded, IsWorkerCount, greatest_bound, shown_make};
-ghost use Rattle.ll_top.specs.RunForm.{HasPart, LacksPart};
+ghost use Rattle.ll_top.specs.FormWords.{HasPart, LacksPart};
 ghost use Rattle.ll_top.specs.MakeForm.{IsBadMakeWord, IsNoKind, LacksKind, IsAtOptions, HasOptions};
-ghost use Rattle.ll_top.specs.Outcome.{word_texts, Ends};
+ghost use Rattle.ll_top.specs.Outcome.{word_texts};
+ghost use Rattle.ll_top.specs.Calls.{Ends};
 
 use crate::words::{Command, GREATEST_BOUND, GREATEST_WORKERS, number_at, this_at};
 use ll_edge::{Sink, WriteFailed, write_all};

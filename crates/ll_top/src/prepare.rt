@@ -87,8 +87,8 @@ pub fn problem_of(
     }
 }
 
-// The part of a problem that a program's text fixes, or the text's fault.
-fn load_text(alloc: Global, text: &[u8]) -> Result<Loaded, TextFault>
+/// The part of a problem that a program's text fixes, or the text's fault.
+pub fn load_text(alloc: Global, text: &[u8]) -> Result<Loaded, TextFault>
     requires { length text.now ≤ 16777216 }
     ensures part { IfOk result (λ loaded. IsPartOf text.now loaded) }
     ensures cause { IfErr result (IsProgramCause text.now) }

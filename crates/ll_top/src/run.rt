@@ -2,7 +2,7 @@
 ghost use Rattle.std.specs.Prelude.{◌≡◌, ◌≤◌, IfOk, IfErr, OnOk, OnErr};
 ghost use Rattle.std.specs.Io.KnownBytes.{append_known};
 ghost use Rattle.ll_edge.specs.Pieces.{AppendsFront};
-ghost use Rattle.ll_laws.specs.Output.{run_status};
+ghost use Rattle.ll_laws.specs.Output.{run_status, counts_text};
 ghost use Rattle.ll_laws.specs.Problem.{problem_events, problem_cost};
 ghost use Rattle.ll_laws.specs.Valid.{IsValid};
 ghost use Rattle.ll_order.specs.Outlets.{CountsOf};
@@ -49,10 +49,26 @@ pub fn run<R: Threads + Wait + Sync, O: Sink, G: Gate>(
 {
     let mut lines = Vec::new(team.alloc);
     let counts = write_events(team, problem, proofs, &mut lines, sink)?;
+    write_summary(&counts, &mut lines, sink)
+}
+
+/// Writes the last line of a whole search with these counts, and answers what was found. After a refusal a prefix of the line was written.
+/// It leaves anything in the room for lines.
+pub fn write_summary<O: Sink>(
+    counts: &Counts,
+    lines: &mut Vec<u8>,
+    sink: &mut O,
+) -> Result<Found, Refusal>
+    ensures faults_kept { O.faults sink.old ≤ O.faults sink.new }
+    ensures found { IfOk result (λ found. status_of_found found ≡ status_of_counts counts.now.answers counts.now.reached) }
+    ensures text { OnOk result (O.written sink.new ≡ append_known (O.written sink.old) (counts_text counts.now.answers counts.now.reached counts.now.inferences)) }
+    ensures refused { IfErr result (IsRunRefusal (O.faults sink.old) (O.faults sink.new)) }
+    ensures prefix { OnErr result (AppendsFront (O.written sink.old) (counts_text counts.now.answers counts.now.reached counts.now.inferences) (O.written sink.new)) }
+{
     lines.clear();
-    summary(&counts, &mut lines)?;
-    write_all(sink, &lines)?;
-    Ok(what_was_found(&counts))
+    summary(counts, lines)?;
+    write_all(sink, lines)?;
+    Ok(what_was_found(counts))
 }
 
 // Writes the lines of all events of the problem, each as it comes, and tells how many they are. After a refusal a prefix of the lines was

@@ -1,14 +1,16 @@
-// The words of a command, read by hand.
-ghost use Rattle.std.specs.Prelude.{◌≡◌, ◌+◌, ◌≤◌, ◌<◌, length, map, true, codes, slice_get, Some, IsSomeAnd, IfOk, IfSome, MatchOption, MatchResult, false};
+//! The words of a command, read by hand.
+ghost use Rattle.std.specs.Prelude.{◌≡◌, ◌+◌, ◌≤◌, length, true, codes, slice_get, Some, IsSomeAnd, IfOk, IfSome, MatchOption, MatchResult};
 ghost use Rattle.std.specs.Char.{is_ascii_digit};
-ghost use Rattle.std.specs.List.{list_all, list_any};
-ghost use Rattle.ll_top.specs.Words.{is_word, is_name_word, is_number_word, number_from, value_within, ThisWord, AnyName, NumberFrom, IsRun, IsPrint, IsCheck, IsCommand, IsBounded, IsWorkerCount, shown_words, shown_check, IsBadWord, greatest_bound, print_form, check_form, cover_form};
-ghost use Rattle.ll_top.specs.RunForm.{HasPart, LacksPart, options_left, IsOptionLeft, IsBadFormWord, IsBadRunWord, IsReadTo};
+ghost use Rattle.std.specs.List.{list_all};
+ghost use Rattle.ll_top.specs.Words.{is_name_word, is_number_word, number_from, value_within, ThisWord, AnyName, NumberFrom, IsPrint, IsCheck, IsConvert, IsCommand, IsBounded, IsVersion, shown_check, shown_convert, IsBadWord, greatest_bound, print_form, check_form, cover_form, convert_form};
+ghost use Rattle.ll_top.specs.FormWords.{HasPart, LacksPart, IsBadFormWord, form_word, IsNoFormWord, workers_of};
 ghost use Rattle.ll_top.specs.Outcome.{word_texts};
 
 use crate::making::{MadeRunCommand, MakeCommand, read_make};
+use crate::searches::{read_deepen, read_run, read_session};
+use ll_deepen::Series;
 
-/// What the words `run PROGRAM QUERY --bound N --workers W [--proofs]` ask for.
+/// What the words `run PROGRAM QUERY --bound N --workers W [--proofs] [--first K]` ask for.
 #[derive(Clone, Copy)]
 pub struct RunCommand<'a> {
     pub program: &'a str,
@@ -18,6 +20,42 @@ pub struct RunCommand<'a> {
     pub workers: u32,
     /// Whether each answer is written with its derivation.
     pub proofs: bool,
+    /// How many answers are asked for, at least 1; `None` stands for all.
+    pub first: Option<u32>,
+}
+
+/// What the words `session PROGRAM QUERIES --bound N --workers W [--proofs]` ask for.
+#[derive(Clone, Copy)]
+pub struct SessionCommand<'a> {
+    pub program: &'a str,
+    /// The name of the text whose lines are queries.
+    pub queries: &'a str,
+    pub bound: u32,
+    /// How many search, from 1 to 64.
+    pub workers: u32,
+    /// Whether each answer is written with its derivation.
+    pub proofs: bool,
+}
+
+/// What the words `deepen PROGRAM QUERY --from A --by B --to C --workers W [--proofs]` ask for.
+#[derive(Clone, Copy)]
+pub struct DeepenCommand<'a> {
+    pub program: &'a str,
+    pub query: &'a str,
+    /// The bounds that are tried.
+    pub series: Series,
+    /// How many search, from 1 to 64.
+    pub workers: u32,
+    /// Whether each answer is written with its derivation.
+    pub proofs: bool,
+}
+
+/// What the words `convert PROOF --to V` ask for.
+#[derive(Clone, Copy)]
+pub struct ConvertCommand<'a> {
+    pub proof: &'a str,
+    /// The version of the text that is written, 1 or 2.
+    pub version: u8,
 }
 
 /// What the words `check PROGRAM QUERY PROOF` ask for, or the words `cover PROGRAM QUERY PROOF --bound N`.
@@ -35,42 +73,40 @@ pub struct CheckCommand<'a> {
 pub enum Command<'a> {
     /// A run.
     Run(RunCommand<'a>),
+    /// A session.
+    Session(SessionCommand<'a>),
+    /// Searches with one bound after the other.
+    Deepen(DeepenCommand<'a>),
     /// The words `print PROGRAM`, with the name.
     Print(&'a str),
     /// A check, or a cover.
     Check(CheckCommand<'a>),
+    /// A conversion.
+    Convert(ConvertCommand<'a>),
     /// A program that is made.
     Make(MakeCommand),
     /// A run of a program that is made.
     MadeRun(MadeRunCommand),
 }
 
-// An option of a run.
+// What the words of a form begin with.
 #[derive(Clone, Copy)]
-enum RunOption {
-    Bound,
-    Workers,
-    Proofs,
-}
-
-// The values of a run's options, as far as they were read.
-#[derive(Clone, Copy)]
-struct RunOptions {
-    bound: Option<u32>,
-    workers: Option<u32>,
-    proofs: bool,
-}
-
-// The options up to some word, and the number of words before that one.
-#[derive(Clone, Copy)]
-struct OptionsRead {
-    options: RunOptions,
-    next: usize,
+enum FormWord {
+    Run,
+    Session,
+    Deepen,
+    Print,
+    Check,
+    Cover,
+    Convert,
+    Make,
 }
 
 pub const GREATEST_BOUND: u32 = 1_000_000;
 
 pub const GREATEST_WORKERS: u32 = 64;
+
+pub const GREATEST_FIRST: u32 = 999_999_999;
 
 /// What the words ask for. `Err` is the number, counted from 1, of the first word through which no form's words begin, or one
 /// past the last where the words end early.
@@ -78,16 +114,54 @@ pub fn read_command<'a>(words: &[&'a str]) -> Result<Command<'a>, usize>
     ensures command { MatchResult result (IsCommand (word_texts words.now)) (IsBadWord (word_texts words.now)) }
     ensures bound { IfOk result IsBounded }
 {
-    let Some(form) = words.first() else {
+    let Some(first) = words.first() else {
         return Err(1);
     };
-    match *form {
-        "run" => Ok(Command::Run(read_run(words)?)),
-        "print" => Ok(Command::Print(read_print(words)?)),
-        "check" => Ok(Command::Check(read_check(words)?)),
-        "cover" => Ok(Command::Check(read_cover(words)?)),
-        "make" => read_make(words),
-        _ => Err(1),
+    let Some(form) = form_of(first) else {
+        return Err(1);
+    };
+    match form {
+        FormWord::Run => Ok(Command::Run(read_run(words)?)),
+        FormWord::Session => Ok(Command::Session(read_session(words)?)),
+        FormWord::Deepen => Ok(Command::Deepen(read_deepen(words)?)),
+        FormWord::Print => Ok(Command::Print(read_print(words)?)),
+        FormWord::Check => Ok(Command::Check(read_check(words)?)),
+        FormWord::Cover => Ok(Command::Check(read_cover(words)?)),
+        FormWord::Convert => Ok(Command::Convert(read_convert(words)?)),
+        FormWord::Make => read_make(words),
+    }
+}
+
+// The forms that begin with this word, if there are any.
+fn form_of(word: &str) -> Option<FormWord>
+    ensures { MatchOption result (IsNoFormWord word.now) (λ form. word.now ≡ form_word form) }
+{
+    match word {
+        "run" => Some(FormWord::Run),
+        "session" => Some(FormWord::Session),
+        "deepen" => Some(FormWord::Deepen),
+        "print" => Some(FormWord::Print),
+        "check" => Some(FormWord::Check),
+        "cover" => Some(FormWord::Cover),
+        "convert" => Some(FormWord::Convert),
+        "make" => Some(FormWord::Make),
+        _ => None,
+    }
+}
+
+/// How many search for a command, where it says so.
+pub fn workers_of(command: Command<'_>) -> Option<u32>
+    ensures { result ≡ workers_of command.entry }
+{
+    match command {
+        Command::Run(run) => Some(run.workers),
+        Command::Session(session) => Some(session.workers),
+        Command::Deepen(deepen) => Some(deepen.workers),
+        Command::MadeRun(run) => Some(run.workers),
+        Command::Print(_) => None,
+        Command::Check(_) => None,
+        Command::Convert(_) => None,
+        Command::Make(_) => None,
     }
 }
 
@@ -144,97 +218,26 @@ fn read_cover<'a>(words: &[&'a str]) -> Result<CheckCommand<'a>, usize>
     })
 }
 
-// What the words of a run ask for, or the number of the first word through which no run begins.
-fn read_run<'a>(words: &[&'a str]) -> Result<RunCommand<'a>, usize>
-    requires { HasPart (word_texts words.now) 0 (ThisWord (codes "run")) }
-    ensures run { MatchResult result (λ run. IsRun (word_texts words.now) (shown_words run)) (IsBadRunWord (word_texts words.now)) }
-    ensures bound { IfOk result (λ run. run.bound ≤ greatest_bound) }
-    ensures workers { IfOk result (λ run. IsWorkerCount run.workers) }
+// The name and the version of a conversion, or the number of the first word through which no conversion begins.
+fn read_convert<'a>(words: &[&'a str]) -> Result<ConvertCommand<'a>, usize>
+    requires { HasPart (word_texts words.now) 0 (ThisWord (codes "convert")) }
+    ensures convert { MatchResult result (λ convert. IsConvert (word_texts words.now) (shown_convert convert)) (IsBadFormWord convert_form (word_texts words.now)) }
+    ensures version { IfOk result (λ convert. IsVersion convert.version) }
 {
-    let program = name_at(words, 1)?;
-    let query = name_at(words, 2)?;
-    let options = read_options(words)?;
-    let Some(bound) = options.bound else {
-        return Err(words.len() + 1);
-    };
-    let Some(workers) = options.workers else {
-        return Err(words.len() + 1);
-    };
-    Ok(RunCommand {
-        program,
-        query,
-        bound,
-        workers,
-        proofs: options.proofs,
+    let proof = name_at(words, 1)?;
+    this_at(words, 2, "--to")?;
+    let version = number_at(words, 3, 1, 2)?;
+    if words.len() > 4 {
+        return Err(5);
+    }
+    Ok(ConvertCommand {
+        proof,
+        version: version as u8,
     })
 }
 
-// The options of a run, whose first three words stand.
-fn read_options(words: &[&str]) -> Result<RunOptions, usize>
-    requires form { HasPart (word_texts words.now) 0 (ThisWord (codes "run")) }
-    requires program { HasPart (word_texts words.now) 1 AnyName }
-    requires query { HasPart (word_texts words.now) 2 AnyName }
-    ensures { MatchResult result (λ options. IsReadTo (word_texts words.now) options (length words.now)) (IsBadRunWord (word_texts words.now)) }
-{
-    let mut options = RunOptions {
-        bound: None,
-        workers: None,
-        proofs: false,
-    };
-    let mut at = 3;
-    while at < words.len() {
-        let read = read_option(words, at, options)?;
-        options = read.options;
-        at = read.next;
-    }
-    Ok(options)
-}
-
-// The options with the one that stands at this word, and with its value where it has one.
-fn read_option(words: &[&str], at: usize, options: RunOptions) -> Result<OptionsRead, usize>
-    requires within { at < length words.now }
-    requires read { IsReadTo (word_texts words.now) options at }
-    ensures read { MatchResult result (λ read. IsReadTo (word_texts words.now) read.options read.next) (IsBadRunWord (word_texts words.now)) }
-    ensures further { IfOk result (λ read. at < read.next) }
-{
-    let mut read = OptionsRead {
-        options,
-        next: at + 2,
-    };
-    match option_at(words[at], options) {
-        Some(RunOption::Bound) => {
-            let bound = number_at(words, at + 1, 0, GREATEST_BOUND)?;
-            read.options.bound = Some(bound);
-            Ok(read)
-        }
-        Some(RunOption::Workers) => {
-            let workers = number_at(words, at + 1, 1, GREATEST_WORKERS)?;
-            read.options.workers = Some(workers);
-            Ok(read)
-        }
-        Some(RunOption::Proofs) => {
-            read.options.proofs = true;
-            read.next = at + 1;
-            Ok(read)
-        }
-        None => Err(at + 1),
-    }
-}
-
-// The option that a word is, if it is one that was not come to yet.
-fn option_at(word: &str, options: RunOptions) -> Option<RunOption>
-    ensures { MatchOption result (list_any (λ o. is_word word.now o.word) (options_left options) ≡ false) (IsOptionLeft word.now options) }
-{
-    match word {
-        "--bound" if options.bound.is_none() => Some(RunOption::Bound),
-        "--workers" if options.workers.is_none() => Some(RunOption::Workers),
-        "--proofs" if !options.proofs => Some(RunOption::Proofs),
-        _ => None,
-    }
-}
-
-// The name at a word.
-fn name_at<'a>(words: &[&'a str], at: usize) -> Result<&'a str, usize>
+/// The name at a word, or the word's number, counted from 1, where there is none.
+pub fn name_at<'a>(words: &[&'a str], at: usize) -> Result<&'a str, usize>
     requires { at ≤ length words.now }
     ensures { MatchResult result (λ name. (slice_get (word_texts words.now) at ≡ Some name.now) × (is_name_word name.now ≡ true))
         (λ number. (number ≡ at + 1) × LacksPart (word_texts words.now) at AnyName) }

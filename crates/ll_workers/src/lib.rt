@@ -1,9 +1,12 @@
-//! Tests of workers: that they claim side by side, that answers are written while others work, and that a failed write stops all of them.
+//! Tests of workers: that they claim side by side, that answers are written while others work, that a failed write stops all of them, and
+//! that a run stops after the answers that are wanted.
 #![tactic(auto)]
 
 #[cfg(test)]
 mod early;
 #[cfg(test)]
 mod meeting;
+#[cfg(test)]
+mod stopping;
 #[cfg(test)]
 mod texts;

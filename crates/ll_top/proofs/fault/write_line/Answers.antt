@@ -17,3 +17,9 @@ returns-in-Usage-clause-line g c = rw c.in-Usage.is (rw c.format-digits.ensures.
 
 pub returns-in-Usage-clause-prefix : goal.returns-in-Usage-clause-prefix
 returns-in-Usage-clause-prefix g c = rw c.in-Usage.is (rw c.format-digits.ensures.text at c.write_parts.ensures.prefix)
+
+pub returns-in-OversizedAs-clause-line : goal.returns-in-OversizedAs-clause-line
+returns-in-OversizedAs-clause-line g c = rw c.in-OversizedAs.is (rw c.format-version.ensures.text at c.write_parts-in-OversizedAs.ensures.line)
+
+pub returns-in-OversizedAs-clause-prefix : goal.returns-in-OversizedAs-clause-prefix
+returns-in-OversizedAs-clause-prefix g c = rw c.in-OversizedAs.is (rw c.format-version.ensures.text at c.write_parts-in-OversizedAs.ensures.prefix)

@@ -19,7 +19,7 @@ pub returns-in-Ok-clause-lines : goal.returns-in-Ok-clause-lines
 returns-in-Ok-clause-lines g c =
     lines-written _ _
     (λ w. record { problem = w.problem.now; proofs = w.proofs; answers = w.answers; written = g.O.Sink.written w.sink.now; faults = g.O.Sink.faults w.sink.now; lent = w.sink.ghost_name })
-    (λ x e y h. h) (λ x e y h. h) _ _ _ c.requires.problem c.requires.answers c.in-Ok.ensures.given
+    (λ x e y h. h) (λ x e y h. h) _ _ _ _ c.requires.problem c.requires.answers c.in-Ok.ensures.given
 
 pub returns-in-Err-Write-clause-same_reference : goal.returns-in-Err-Write-clause-same_reference
 returns-in-Err-Write-clause-same_reference g c =

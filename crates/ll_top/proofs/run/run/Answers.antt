@@ -1,19 +1,15 @@
-use Rattle.std.proofs.Common.{◌∙◌}
-use Rattle.ll_top.proofs.RunLemmas.{on_err, lines-front, whole-written, last-broken, run-status}
+use Rattle.std.proofs.Common.{◌≡◌, subst, IfOk}
+use Rattle.ll_top.specs.Endings.{status_of_found}
+use Rattle.ll_top.proofs.RunLemmas.{on_ok_map, on_err_map, whole-written, last-broken, run-status}
 use Rattle.ll_top.proofs.run.run.Goals as goal
 
-pub returns-in_err-summary-clause-prefix : goal.returns-in_err-summary-clause-prefix
-returns-in_err-summary-clause-prefix g c = on_err _ (lines-front _ _ _ _ c.in_ok-counts.ensures.lines)
-
-pub returns-in_err-write_all-clause-prefix : goal.returns-in_err-write_all-clause-prefix
-returns-in_err-write_all-clause-prefix g c =
-    let f = rw (c.deref.ensures.value, c.in_ok-summary.ensures.text, c.clear.ensures.items) at c.in_err-write_all.ensures.prefix in
-    on_err _ (last-broken _ _ c.in_ok-counts.counts _ _ _ c.in_ok-counts.ensures.counts c.in_ok-counts.ensures.lines f)
-
 pub returns-clause-found : goal.returns-clause-found
-returns-clause-found g c = c.what_was_found.ensures ∙ run-status _ _ c.in_ok-counts.ensures.counts
+returns-clause-found g c = subst (λ n. IfOk c.write_summary.result (λ found. status_of_found found ≡ n)) (run-status _ c.in_ok-counts.counts c.in_ok-counts.ensures.counts) c.write_summary.ensures.found
 
 pub returns-clause-text : goal.returns-clause-text
 returns-clause-text g c =
-    let w = rw (c.deref.ensures.value, c.in_ok-summary.ensures.text, c.clear.ensures.items) at c.in_ok-write_all.ensures.appends in
-    whole-written _ _ c.in_ok-counts.counts _ _ _ c.in_ok-counts.ensures.counts c.in_ok-counts.ensures.lines w
+    on_ok_map c.write_summary.result _ _ c.write_summary.ensures.text (λ w. whole-written _ _ c.in_ok-counts.counts _ _ _ c.in_ok-counts.ensures.counts c.in_ok-counts.ensures.lines w)
+
+pub returns-clause-prefix : goal.returns-clause-prefix
+returns-clause-prefix g c =
+    on_err_map c.write_summary.result _ _ c.write_summary.ensures.prefix (λ f. last-broken _ _ c.in_ok-counts.counts _ _ _ c.in_ok-counts.ensures.counts c.in_ok-counts.ensures.lines f)

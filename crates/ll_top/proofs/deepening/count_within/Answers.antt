@@ -1,0 +1,11 @@
+use Rattle.std.proofs.Common.{sym, subst}
+use Rattle.ll_laws.specs.Valid.{IsValid}
+use Rattle.ll_top.specs.DeepenEnds.{with_bound}
+use Rattle.ll_top.proofs.DeepenLemmas.{valid-within}
+use Rattle.ll_top.proofs.deepening.count_within.Goals as goal
+
+pub count_events-requires : goal.count_events-requires
+count_events-requires g c = (
+  c.type_bounds.sync-R,
+  (c.type_bounds.sync-G, subst (λ p. IsValid (with_bound p c.args.bound)) (sym c.problem.view_is) (valid-within c.args.problem.now c.args.bound c.requires.valid c.requires.bound)),
+)

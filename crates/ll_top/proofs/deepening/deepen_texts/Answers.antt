@@ -1,0 +1,13 @@
+use Rattle.std.proofs.lemmas.Result.{err_from_is_err_and}
+use Rattle.ll_top.specs.Words.{shown_deepen}
+use Rattle.ll_top.proofs.DeepenLemmas.{not-deepened, texts-deepened}
+use Rattle.ll_top.proofs.deepening.deepen_texts.Goals as goal
+
+pub returns-in_err-problem-clause-ends : goal.returns-in_err-problem-clause-ends
+returns-in_err-problem-clause-ends g c =
+    let p = err_from_is_err_and c.from_residual.result c.from_residual.ensures.1 in
+    rw (p.1, p.2) (not-deepened _ _ _ (shown_deepen c.args.deepen.now) _ _ _ c.in_err-problem.ensures.prepares)
+
+pub returns-clause-ends : goal.returns-clause-ends
+returns-clause-ends g c =
+    texts-deepened _ _ _ (shown_deepen c.args.deepen.now) _ c.in_ok-problem.problem _ _ _ c.in_ok-problem.ensures.prepares c.run_deepened.ensures.ends

@@ -1,0 +1,12 @@
+use Rattle.ll_top.proofs.GivenLemmas.{no_front}
+use Rattle.ll_top.proofs.RunLemmas.{on_err}
+use Rattle.ll_top.proofs.run.write_summary.Goals as goal
+
+pub returns-in_err-summary-clause-prefix : goal.returns-in_err-summary-clause-prefix
+returns-in_err-summary-clause-prefix g c = on_err _ (no_front _ _)
+
+pub returns-in_err-write_all-clause-prefix : goal.returns-in_err-write_all-clause-prefix
+returns-in_err-write_all-clause-prefix g c = on_err _ (rw (c.deref.ensures.value, c.in_ok-summary.ensures.text, c.clear.ensures.items) at c.in_err-write_all.ensures.prefix)
+
+pub returns-clause-text : goal.returns-clause-text
+returns-clause-text g c = rw (c.deref.ensures.value, c.in_ok-summary.ensures.text, c.clear.ensures.items) at c.in_ok-write_all.ensures.appends

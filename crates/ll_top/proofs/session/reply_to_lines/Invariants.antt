@@ -1,0 +1,17 @@
+use Rattle.std.proofs.Common.{ℕ, ◌≤◌, ◌+◌, length}
+use Rattle.ll_parser.specs.Raw.{ProgramTree}
+use Rattle.ll_session.specs.Queries.{IsProgramOf}
+use Rattle.ll_session.specs.Replied.{IsAnsweredTo}
+use Rattle.ll_top.specs.SessionEnds.{WritesReply, CutsReply}
+use Rattle.ll_top.proofs.session.reply_to_lines.Given as goal
+
+abbrev pub invariant-loop-rest : goal.invariant-loop-rest
+invariant-loop-rest g l = record {
+  answered : (program : ProgramTree) → IsProgramOf program l.loaded
+      → (count : ℕ) × IsAnsweredTo (WritesReply l.session.proofs l.session.queries.now) (CutsReply l.session.proofs l.session.queries.now) program l.text l.session.bound (g.O.Sink.written l.initial.sink) l.number count l.rest (g.O.Sink.written l.sink);
+  faults_kept : g.O.Sink.faults l.initial.sink ≤ g.O.Sink.faults l.sink;
+  few : l.number + length l.rest ≤ 16777216;
+}
+
+abbrev pub decreases-loop-rest : goal.decreases-loop-rest
+decreases-loop-rest g l = length l.rest

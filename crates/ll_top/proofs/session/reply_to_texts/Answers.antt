@@ -1,0 +1,22 @@
+use denote.Builtin.{unit}
+use Rattle.std.proofs.lemmas.Result.{err_from_is_err_and}
+use Rattle.ll_top.specs.Words.{shown_session}
+use Rattle.ll_top.proofs.PrepareLemmas.{rose-later, not-read-later}
+use Rattle.ll_top.proofs.SessionLemmas.{program-not-read, queries-not-read, texts-ended}
+use Rattle.ll_top.proofs.session.reply_to_texts.Goals as goal
+
+pub returns-in_err-program-clause-ends : goal.returns-in_err-program-clause-ends
+returns-in_err-program-clause-ends g c =
+    let p = err_from_is_err_and c.from_residual.result c.from_residual.ensures.1 in
+    rw (p.1, p.2) (program-not-read {A = unit.Denot} _ _ _ (shown_session c.args.session.now) (λ x. 0) _ _ _ c.in_err-program.ensures.refused)
+
+pub returns-in_err-text-clause-ends : goal.returns-in_err-text-clause-ends
+returns-in_err-text-clause-ends g c =
+    let p = err_from_is_err_and c.from_residual-in_err-text.result c.from_residual-in_err-text.ensures.1 in
+    rw (p.1, p.2) (queries-not-read {A = unit.Denot} _ _ _ (shown_session c.args.session.now) (λ x. 0) _ _ _ _ c.in_ok-program.ensures.read
+    (not-read-later _ _ _ _ _ _ _ _ (rose-later _ _ _ c.in_ok-program.ensures.absences_kept) (rose-later _ _ _ c.in_ok-program.ensures.faults_kept) (rw c.in_ok-program.ensures.same_texts at c.in_err-text.ensures.refused)))
+
+pub returns-clause-ends : goal.returns-clause-ends
+returns-clause-ends g c =
+    texts-ended {A = unit.Denot} _ _ _ (shown_session c.args.session.now) (λ x. 0) _ c.in_ok-program.program.items c.in_ok-text.text.items c.in_ok-program.ensures.read
+    (rw c.in_ok-program.ensures.same_texts at c.in_ok-text.ensures.read) _ _ _ (rw (c.deref.ensures.value, c.deref-2.ensures.value) at c.reply_to_text.ensures.ends)

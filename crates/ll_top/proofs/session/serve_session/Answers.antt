@@ -1,0 +1,25 @@
+use Rattle.std.proofs.Common.{refl, ap, ◌∙◌}
+use Rattle.ll_top.specs.Endings.{cause_of, status_of_found}
+use Rattle.ll_top.specs.OwnEnds.{NoneFails}
+use Rattle.ll_top.specs.Words.{shown_session}
+use Rattle.ll_top.proofs.OutcomeLemmas.{refuses-later}
+use Rattle.ll_top.proofs.OwnLemmas.{done-ends, cut-ends, memory-ends}
+use Rattle.ll_top.proofs.PrepareLemmas.{rose-later}
+use Rattle.ll_top.proofs.SessionLemmas.{session-refused}
+use Rattle.ll_top.proofs.session.serve_session.Goals as goal
+
+pub returns-in-Ok-clause-ends : goal.returns-in-Ok-clause-ends
+returns-in-Ok-clause-ends g c = done-ends _ (λ x. 0) NoneFails _ _ _ c.in-Ok.field-0 0 refl c.in-Ok.ensures.ends
+
+pub returns-in-Err-Unwritable-clause-ends : goal.returns-in-Err-Unwritable-clause-ends
+returns-in-Err-Unwritable-clause-ends g c = cut-ends _ status_of_found NoneFails _ _ _ (rw c.in-Err-Unwritable.field-0-is at c.in-Err-Unwritable.ensures.ends)
+
+pub returns-in-Err-OutOfMemory-clause-ends : goal.returns-in-Err-OutOfMemory-clause-ends
+returns-in-Err-OutOfMemory-clause-ends g c = memory-ends _ status_of_found NoneFails _ _ _ (rw c.in-Err-OutOfMemory.field-0-is at c.in-Err-OutOfMemory.ensures.ends)
+
+pub returns-in-Err-Text-clause-ends : goal.returns-in-Err-Text-clause-ends
+returns-in-Err-Text-clause-ends g c =
+    let h = rw c.in-Err-Text.field-0-is at c.in-Err-Text.ensures.ends in
+    let same = c.cause.ensures ∙ ap (λ n. cause_of n c.in-Err-Text.refusal) c.session_name.ensures in
+    session-refused _ _ _ _ (shown_session c.args.session.now) _ _ _ c.in-Err-Text.role c.in-Err-Text.refusal _ h.0 h.1
+    (refuses-later _ _ _ _ _ _ (rose-later _ _ _ c.in-Err-Text.ensures.sink_faults_kept) (rw same at c.refuse.ensures.refuses))

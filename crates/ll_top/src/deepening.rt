@@ -1,0 +1,165 @@
+//! Iterative deepening (Korf 1985): a run with the first bound of a series that decides.
+ghost use Rattle.std.specs.Prelude.{◌≡◌, ◌≤◌, IfOk, IfErr};
+ghost use Rattle.ll_deepen.specs.Deciding.{events_within, cost_within, IsDeciding, IsSeries};
+ghost use Rattle.ll_edge.specs.Counts.{Rose};
+ghost use Rattle.ll_laws.specs.Valid.{IsValid};
+ghost use Rattle.ll_order.specs.Outlets.{CountsOf};
+ghost use Rattle.ll_top.specs.declared.refusal.Refusal.TheVariants.{OutOfMemory};
+ghost use Rattle.ll_top.specs.Calls.{Ends};
+ghost use Rattle.ll_top.specs.Deepening.{DeepenComesTo};
+ghost use Rattle.ll_top.specs.DeepenEnds.{with_bound, first_run, DeepenRefuses, DeepensTo};
+ghost use Rattle.ll_top.specs.Endings.{status_of_found};
+ghost use Rattle.ll_top.specs.Outcome.{name_of};
+ghost use Rattle.ll_top.specs.OwnEnds.{EndsOwn, NoneFails};
+ghost use Rattle.ll_top.specs.Words.{shown_deepen};
+
+use crate::fault::refuse;
+use crate::found_status;
+use crate::heading::write_heading;
+use crate::judge::Role;
+use crate::made_runs::count_events;
+use crate::prepare::prepare;
+use crate::refusal::Refusal;
+use crate::run::{Found, run};
+use crate::team::Team;
+use crate::words::{DeepenCommand, RunCommand};
+use ll_deepen::{Series, is_decided};
+use ll_edge::{Gate, Shelf, Sink};
+use ll_laws::{Counts, Problem};
+use std::sync::Wait;
+use std::thread::Threads;
+
+/// Writes the bound that decides and the text of the run with it, and answers the status: that of the run, or that of the line that says
+/// why there is none. Where the sink failed it is 6, and 10 where memory ran out; then a prefix was written.
+pub fn serve_deepen<R: Threads + Wait + Sync, F: Shelf, O: Sink, G: Gate>(
+    team: &Team<'_, R, G>,
+    deepen: &DeepenCommand<'_>,
+    shelf: &mut F,
+    sink: &mut O,
+) -> u8
+    requires series { IsSeries deepen.now.series }
+
+    ensures same_texts { F.texts shelf.new ≡ F.texts shelf.old }
+    ensures shelf_faults_kept { F.faults shelf.old ≤ F.faults shelf.new }
+    ensures absences_kept { F.absences shelf.old ≤ F.absences shelf.new }
+    ensures sink_faults_kept { O.faults sink.old ≤ O.faults sink.new }
+
+    ensures ends { Ends (DeepenComesTo (F.texts shelf.old) (Rose (F.absences shelf.old) (F.absences shelf.new))
+        (Rose (F.faults shelf.old) (F.faults shelf.new)) (shown_deepen deepen.now)) (Rose (O.faults sink.old) (O.faults sink.new))
+        (O.written sink.old) (O.written sink.new) result }
+{
+    match deepen_texts(team, deepen, shelf, sink) {
+        Ok(found) => found_status(found),
+        Err(Refusal::Text(role, refusal)) => {
+            refuse(refusal.cause(deepened_name(deepen, role)), sink)
+        }
+        Err(Refusal::Unwritable) => 6,
+        Err(Refusal::OutOfMemory) => 10,
+    }
+}
+
+// The name of a deepening's text.
+fn deepened_name<'a>(deepen: &DeepenCommand<'a>, role: Role) -> &'a str
+    ensures { result.now ≡ name_of (first_run (shown_deepen deepen.now)) role }
+{
+    match role {
+        Role::Program => deepen.program,
+        Role::Query => deepen.query,
+        // A deepening has no derivation.
+        Role::Proof => "",
+    }
+}
+
+// Reads the texts of a deepening and judges them, once, and runs their problem with the bound that decides.
+fn deepen_texts<R: Threads + Wait + Sync, F: Shelf, O: Sink, G: Gate>(
+    team: &Team<'_, R, G>,
+    deepen: &DeepenCommand<'_>,
+    shelf: &mut F,
+    sink: &mut O,
+) -> Result<Found, Refusal>
+    requires series { IsSeries deepen.now.series }
+
+    ensures same_texts { F.texts shelf.new ≡ F.texts shelf.old }
+    ensures shelf_faults_kept { F.faults shelf.old ≤ F.faults shelf.new }
+    ensures absences_kept { F.absences shelf.old ≤ F.absences shelf.new }
+    ensures sink_faults_kept { O.faults sink.old ≤ O.faults sink.new }
+
+    ensures ends { EndsOwn (DeepenComesTo (F.texts shelf.old) (Rose (F.absences shelf.old) (F.absences shelf.new))
+        (Rose (F.faults shelf.old) (F.faults shelf.new)) (shown_deepen deepen.now)) status_of_found
+        (DeepenRefuses (F.texts shelf.old) (Rose (F.absences shelf.old) (F.absences shelf.new)) (Rose (F.faults shelf.old) (F.faults shelf.new)) (shown_deepen deepen.now))
+        (Rose (O.faults sink.old) (O.faults sink.new)) (O.written sink.old) (O.written sink.new) result }
+{
+    let first = RunCommand {
+        program: deepen.program,
+        query: deepen.query,
+        bound: deepen.series.from,
+        workers: deepen.workers,
+        proofs: deepen.proofs,
+        first: None,
+    };
+    let mut problem = prepare(team.alloc, &first, shelf)?;
+    run_deepened(team, &deepen.series, deepen.proofs, &mut problem, sink)
+}
+
+// Runs a problem with the bound that decides. Its own bound is not looked at, and left as another one.
+fn run_deepened<R: Threads + Wait + Sync, O: Sink, G: Gate>(
+    team: &Team<'_, R, G>,
+    series: &Series,
+    proofs: bool,
+    problem: &mut Problem,
+    sink: &mut O,
+) -> Result<Found, Refusal>
+    requires valid { IsValid problem.old }
+    requires series { IsSeries «series».now }
+    ensures faults_kept { O.faults sink.old ≤ O.faults sink.new }
+    ensures ends { EndsOwn (DeepensTo proofs «series».now problem.old) status_of_found NoneFails
+        (Rose (O.faults sink.old) (O.faults sink.new)) (O.written sink.old) (O.written sink.new) result }
+{
+    let bound = decide(team, series, problem)?;
+    write_heading(sink, "bound ", bound)?;
+    run(team, problem, proofs, sink)
+}
+
+// Gives a problem the bound that decides: the first of the series at which the search has an answer or reaches no bound, and the last one
+// where there is none. After a refusal, which is want of memory, it has some bound.
+//
+// This is the loop of `ll_deepen::deepen` again, which tries the bounds by an `impl Trial`. A search starts threads, and no method of a
+// trait of our own can be proved to do that: its contract would rest on a bound that is assumed of this thread alone.
+fn decide<R: Threads + Wait + Sync, G: Gate>(
+    team: &Team<'_, R, G>,
+    series: &Series,
+    problem: &mut Problem,
+) -> Result<u32, Refusal>
+    requires valid { IsValid problem.old }
+    requires series { IsSeries «series».now }
+    ensures decides { IfOk result (λ bound. IsDeciding problem.old «series».now bound) }
+    ensures problem { IfOk result (λ bound. problem.new ≡ with_bound problem.old bound) }
+    ensures valid { IfOk result (λ bound. IsValid problem.new) }
+    ensures refused { IfErr result (λ refusal. refusal ≡ OutOfMemory) }
+{
+    let mut bound = series.from;
+    loop {
+        let counts = count_within(team, problem, bound)?;
+        if is_decided(&counts) || series.to - bound < series.by {
+            return Ok(bound);
+        }
+        bound += series.by;
+    }
+}
+
+// Gives a problem this bound, and counts the events of its search and the inferences. After a refusal it has the bound too.
+fn count_within<R: Threads + Wait + Sync, G: Gate>(
+    team: &Team<'_, R, G>,
+    problem: &mut Problem,
+    bound: u32,
+) -> Result<Counts, Refusal>
+    requires valid { IsValid problem.old }
+    requires bound { bound ≤ 1000000 }
+    ensures problem { problem.new ≡ with_bound problem.old bound }
+    ensures valid { IsValid problem.new }
+    ensures counts { IfOk result (λ counts. CountsOf counts (events_within problem.old bound) (cost_within problem.old bound)) }
+    ensures refused { IfErr result (λ refusal. refusal ≡ OutOfMemory) }
+{
+    problem.bound = bound;
+    count_events(team, problem)
+}

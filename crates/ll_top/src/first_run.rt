@@ -1,0 +1,128 @@
+// A run of which only the first answers are wanted.
+ghost use Rattle.std.specs.Prelude.{◌≡◌, ◌≤◌, ◌<◌, ◌↔◌, Some, None, IfOk, IfErr, IfSome, OnOk, OnErr, count_by};
+ghost use Rattle.std.specs.Io.KnownBytes.{append_known};
+ghost use Rattle.ll_edge.specs.Counts.{Rose};
+ghost use Rattle.ll_edge.specs.Pieces.{AppendsFront};
+ghost use Rattle.ll_first.specs.Upto.{first_of};
+ghost use Rattle.ll_laws.specs.Problem.{problem_events, problem_cost};
+ghost use Rattle.ll_laws.specs.Search.{is_answer};
+ghost use Rattle.ll_laws.specs.Valid.{IsValid};
+ghost use Rattle.ll_order.specs.Outlets.{CountsOf};
+ghost use Rattle.ll_top.specs.Endings.{status_of_found};
+ghost use Rattle.ll_top.specs.Outcome.{text_of_run, status_of_run};
+ghost use Rattle.ll_top.specs.Running.{all_lines, IsRunRefusal};
+ghost use Rattle.ll_top.specs.Verdicts.{stopped_text};
+
+use crate::fault::write_parts;
+use crate::outlet::Writing;
+use crate::refusal::Refusal;
+use crate::run::{Found, write_summary};
+use crate::team::Team;
+use itoa::Buffer;
+use ll_crew::{CrewFault, crew_first};
+use ll_edge::{Gate, Sink, WriteFailed};
+use ll_first::First;
+use ll_laws::{Counts, Problem, answers_are_shown};
+use std::sync::Wait;
+use std::thread::Threads;
+
+/// Runs the problem until it has as many answers as are wanted, at least 1, writes these, with proofs or without, and behind them the line
+/// that says that it stopped. Where the problem has fewer answers its whole text is written, and the answer is what was found. After a
+/// refusal a prefix of the text was written.
+pub fn run_first<R: Threads + Wait + Sync, O: Sink, G: Gate>(
+    team: &Team<'_, R, G>,
+    problem: &Problem,
+    proofs: bool,
+    wanted: u32,
+    sink: &mut O,
+) -> Result<Found, Refusal>
+    requires valid { IsValid problem.now }
+    requires wanted { 0 < wanted }
+
+    ensures faults_kept { O.faults sink.old ≤ O.faults sink.new }
+    ensures found { IfOk result (λ found. status_of_found found ≡ status_of_run (Some wanted) problem.now) }
+    ensures text { OnOk result (O.written sink.new ≡ append_known (O.written sink.old) (text_of_run (Some wanted) proofs problem.now)) }
+    ensures refused { IfErr result (IsRunRefusal (O.faults sink.old) (O.faults sink.new)) }
+    ensures prefix { OnErr result (AppendsFront (O.written sink.old) (text_of_run (Some wanted) proofs problem.now) (O.written sink.new)) }
+{
+    let mut lines = Vec::new(team.alloc);
+    match write_front(team, problem, proofs, wanted, &mut lines, sink)? {
+        Some(counts) => write_summary(&counts, &mut lines, sink),
+        None => {
+            write_stop(wanted, sink)?;
+            Ok(Found::Answer)
+        }
+    }
+}
+
+// Writes the lines of the events up to the answers that are wanted, each as it comes. `None` where there are as many, and otherwise the
+// counts of all events. After a refusal a prefix of the lines was written. It leaves anything in the room for lines.
+fn write_front<R: Threads + Wait + Sync, O: Sink, G: Gate>(
+    team: &Team<'_, R, G>,
+    problem: &Problem,
+    proofs: bool,
+    wanted: u32,
+    lines: &mut Vec<u8>,
+    sink: &mut O,
+) -> Result<Option<Counts>, Refusal>
+    requires valid { IsValid problem.now }
+    requires wanted { 0 < wanted }
+
+    ensures faults_kept { O.faults sink.old ≤ O.faults sink.new }
+    ensures stops { IfOk result (λ o. (o ≡ None) ↔ (wanted ≤ count_by is_answer (problem_events problem.now))) }
+    ensures counts { IfOk result (λ o. IfSome o (λ counts. CountsOf counts (problem_events problem.now) (problem_cost problem.now))) }
+    ensures lines { OnOk result (O.written sink.new ≡ append_known (O.written sink.old) (all_lines proofs problem.now 0 (first_of (problem_events problem.now) wanted))) }
+    ensures refused { IfErr result (IsRunRefusal (O.faults sink.old) (O.faults sink.new)) }
+    ensures prefix { OnErr result (AppendsFront (O.written sink.old) (text_of_run (Some wanted) proofs problem.now) (O.written sink.new)) }
+{
+    let mut out = First::new(
+        Writing {
+            alloc: team.alloc,
+            problem,
+            proofs,
+            sink,
+            lines,
+            answers: 0,
+        },
+        u64::from(wanted),
+    );
+    give_front(team, problem, &mut out)
+}
+
+// Gives the events up to the answers that are wanted to an outlet that took none yet.
+fn give_front<'p, 's, R: Threads + Wait + Sync, O: Sink, G: Gate>(
+    team: &Team<'_, R, G>,
+    problem: &'p Problem,
+    out: &mut First<Writing<'p, 's, O>>,
+) -> Result<Option<Counts>, Refusal>
+    requires valid { IsValid problem.now }
+    requires problem { out.old.out.problem.now ≡ problem.now }
+    requires answers { (out.old.answers ≡ 0) × (out.old.out.answers ≡ 0) }
+
+    ensures same_reference { out.new.out.sink.ghost_name ≡ out.old.out.sink.ghost_name }
+    ensures faults_kept { O.faults out.old.out.sink.now ≤ O.faults out.new.out.sink.now }
+    ensures stops { IfOk result (λ o. (o ≡ None) ↔ (out.old.limit ≤ count_by is_answer (problem_events problem.entry.now))) }
+    ensures counts { IfOk result (λ o. IfSome o (λ counts. CountsOf counts (problem_events problem.entry.now) (problem_cost problem.entry.now))) }
+    ensures lines { OnOk result (O.written out.new.out.sink.now ≡ append_known (O.written out.old.out.sink.now) (all_lines out.old.out.proofs problem.entry.now 0 (first_of (problem_events problem.entry.now) out.old.limit))) }
+    ensures refused { IfErr result (IsRunRefusal (O.faults out.old.out.sink.now) (O.faults out.new.out.sink.now)) }
+    ensures prefix { OnErr result (AppendsFront (O.written out.old.out.sink.now) (text_of_run (Some out.old.limit) out.old.out.proofs problem.entry.now) (O.written out.new.out.sink.now)) }
+{
+    answers_are_shown();
+    match crew_first(team.rt, team.alloc, problem, team.workers, team.gate, out) {
+        Ok(counts) => Ok(counts),
+        Err(CrewFault::Write) => Err(Refusal::Unwritable),
+        Err(CrewFault::OutOfMemory) => Err(Refusal::OutOfMemory),
+    }
+}
+
+// Writes the line of a run that stops after so many answers. After a refusal a prefix of it was written.
+fn write_stop<O: Sink>(answers: u32, sink: &mut O) -> Result<(), WriteFailed>
+    ensures faults_kept { O.faults sink.old ≤ O.faults sink.new }
+    ensures line { OnOk result (O.written sink.new ≡ append_known (O.written sink.old) (stopped_text answers)) }
+    ensures failed { OnErr result (Rose (O.faults sink.old) (O.faults sink.new)) }
+    ensures prefix { OnErr result (AppendsFront (O.written sink.old) (stopped_text answers) (O.written sink.new)) }
+{
+    let mut digits = Buffer::new();
+    let digits = digits.format(answers);
+    write_parts(sink, &["stopped after ", digits, "\n"])
+}

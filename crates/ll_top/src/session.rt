@@ -1,0 +1,217 @@
+//! A session: a reply to each line of a text that is a query, over one program.
+ghost use Rattle.std.specs.Prelude.{◌≡◌, ◌≤◌, length, Ok, Err, IfErr, OnOk, OnErr};
+ghost use Rattle.std.specs.Io.KnownBytes.{append_known};
+ghost use Rattle.ll_edge.specs.Counts.{Rose};
+ghost use Rattle.ll_edge.specs.Pieces.{AppendsFront};
+ghost use Rattle.ll_laws.specs.Valid.{IsValid};
+ghost use Rattle.ll_parser.specs.Raw.{ProgramTree};
+ghost use Rattle.ll_session.specs.Queries.{IsProgramOf, IsLoaded};
+ghost use Rattle.ll_session.specs.Replied.{Replies, RefusesLine};
+ghost use Rattle.ll_top.specs.Calls.{Ends};
+ghost use Rattle.ll_top.specs.OwnEnds.{EndsOwn, NoneFails};
+ghost use Rattle.ll_top.specs.Running.{IsRunRefusal};
+ghost use Rattle.ll_top.specs.Sessions.{reply_text, SessionComesTo};
+ghost use Rattle.ll_top.specs.SessionEnds.{name_in_session, RefusesText, WritesReply, CutsReply, RepliesTo, TextsComeTo, RefusesProgram};
+ghost use Rattle.ll_top.specs.Words.{shown_session};
+
+use crate::fault::{Cause, refuse, write_line};
+use crate::heading::write_heading;
+use crate::judge::Role;
+use crate::prepare::{load_text, read, refusal};
+use crate::refusal::Refusal;
+use crate::run::run;
+use crate::team::Team;
+use crate::words::SessionCommand;
+use ll_edge::{Gate, Shelf, Sink};
+use ll_laws::Problem;
+use ll_lexer::{Fault, TextFault};
+use ll_polarity::Loaded;
+use ll_session::{ask_text, is_query_line, on_line, one_session, split_line};
+use std::sync::Wait;
+use std::thread::Threads;
+
+/// Replies to each query of a session, and answers the status: 0 where all replies were written, whatever they say, or that of the line
+/// that says why the session was not begun: a text was not read, or the program has a fault. Where the sink failed it is 6, and 10 where
+/// memory ran out; then a prefix was written.
+pub fn serve_session<R: Threads + Wait + Sync, F: Shelf, O: Sink, G: Gate>(
+    team: &Team<'_, R, G>,
+    session: &SessionCommand<'_>,
+    shelf: &mut F,
+    sink: &mut O,
+) -> u8
+    requires bound { session.now.bound ≤ 1000000 }
+
+    ensures same_texts { F.texts shelf.new ≡ F.texts shelf.old }
+    ensures shelf_faults_kept { F.faults shelf.old ≤ F.faults shelf.new }
+    ensures absences_kept { F.absences shelf.old ≤ F.absences shelf.new }
+    ensures sink_faults_kept { O.faults sink.old ≤ O.faults sink.new }
+
+    ensures ends { Ends (SessionComesTo (F.texts shelf.old) (Rose (F.absences shelf.old) (F.absences shelf.new))
+        (Rose (F.faults shelf.old) (F.faults shelf.new)) (shown_session session.now)) (Rose (O.faults sink.old) (O.faults sink.new))
+        (O.written sink.old) (O.written sink.new) result }
+{
+    match reply_to_texts(team, session, shelf, sink) {
+        Ok(()) => 0,
+        Err(Refusal::Text(role, refusal)) => {
+            refuse(refusal.cause(session_name(session, role)), sink)
+        }
+        Err(Refusal::Unwritable) => 6,
+        Err(Refusal::OutOfMemory) => 10,
+    }
+}
+
+// The name of a session's text: the queries stand in place of the query.
+fn session_name<'a>(session: &SessionCommand<'a>, role: Role) -> &'a str
+    ensures { result.now ≡ name_in_session (shown_session session.now) role }
+{
+    match role {
+        Role::Program => session.program,
+        Role::Query => session.queries,
+        // A session has no derivation.
+        Role::Proof => "",
+    }
+}
+
+// Reads both texts of a session, and replies to the queries.
+fn reply_to_texts<R: Threads + Wait + Sync, F: Shelf, O: Sink, G: Gate>(
+    team: &Team<'_, R, G>,
+    session: &SessionCommand<'_>,
+    shelf: &mut F,
+    sink: &mut O,
+) -> Result<(), Refusal>
+    requires bound { session.now.bound ≤ 1000000 }
+
+    ensures same_texts { F.texts shelf.new ≡ F.texts shelf.old }
+    ensures shelf_faults_kept { F.faults shelf.old ≤ F.faults shelf.new }
+    ensures absences_kept { F.absences shelf.old ≤ F.absences shelf.new }
+    ensures sink_faults_kept { O.faults sink.old ≤ O.faults sink.new }
+
+    ensures ends { EndsOwn (SessionComesTo (F.texts shelf.old) (Rose (F.absences shelf.old) (F.absences shelf.new))
+        (Rose (F.faults shelf.old) (F.faults shelf.new)) (shown_session session.now)) (λ done. 0)
+        (RefusesText (F.texts shelf.old) (Rose (F.absences shelf.old) (F.absences shelf.new)) (Rose (F.faults shelf.old) (F.faults shelf.new)) (shown_session session.now))
+        (Rose (O.faults sink.old) (O.faults sink.new)) (O.written sink.old) (O.written sink.new) result }
+{
+    let program = read(team.alloc, shelf, session.program, Role::Program)?;
+    let text = read(team.alloc, shelf, session.queries, Role::Query)?;
+    reply_to_text(team, session, &program, &text, sink)
+}
+
+// Replies to the queries of a text over the program of another one, which is judged before and once.
+fn reply_to_text<R: Threads + Wait + Sync, O: Sink, G: Gate>(
+    team: &Team<'_, R, G>,
+    session: &SessionCommand<'_>,
+    program: &[u8],
+    text: &[u8],
+    sink: &mut O,
+) -> Result<(), Refusal>
+    requires program { length program.now ≤ 16777216 }
+    requires text { length text.now ≤ 16777216 }
+    requires bound { session.now.bound ≤ 1000000 }
+    ensures faults_kept { O.faults sink.old ≤ O.faults sink.new }
+    ensures ends { EndsOwn (TextsComeTo session.now.proofs session.now.queries.now program.now text.now session.now.bound) (λ done. 0)
+        (RefusesProgram program.now) (Rose (O.faults sink.old) (O.faults sink.new)) (O.written sink.old) (O.written sink.new) result }
+{
+    match load_text(team.alloc, program) {
+        Ok(loaded) => reply_to_lines(team, session, &loaded, text, sink),
+        Err(fault) => Err(refusal(Role::Program, fault)),
+    }
+}
+
+// Replies to each line of a text that is a query, over a program that was loaded. Each reply is written before the next line is looked at.
+//
+// This is the loop of `ll_session::session` again, which gives its replies to an `impl Replies`. A reply of a run starts threads, and no
+// method of a trait of our own can be proved to do that: its contract would rest on a bound that is assumed of this thread alone.
+fn reply_to_lines<R: Threads + Wait + Sync, O: Sink, G: Gate>(
+    team: &Team<'_, R, G>,
+    session: &SessionCommand<'_>,
+    loaded: &Loaded,
+    text: &[u8],
+    sink: &mut O,
+) -> Result<(), Refusal>
+    requires loaded { IsLoaded loaded.now }
+    requires text { length text.now ≤ 16777216 }
+    requires bound { session.now.bound ≤ 1000000 }
+    ensures faults_kept { O.faults sink.old ≤ O.faults sink.new }
+    ensures ends { (program : ProgramTree) → IsProgramOf program loaded.now
+        → EndsOwn (RepliesTo session.now.proofs session.now.queries.now program text.now session.now.bound) (λ done. 0) NoneFails
+        (Rose (O.faults sink.old) (O.faults sink.new)) (O.written sink.old) (O.written sink.new) result }
+{
+    one_session();
+    let mut rest = text;
+    let mut number: u32 = 0;
+    while !rest.is_empty() {
+        let (line, behind) = split_line(rest);
+        rest = behind;
+        number += 1;
+        if is_query_line(line) {
+            reply_to_line(team, session, loaded, line, number, sink)?;
+        }
+    }
+    Ok(())
+}
+
+// Replies to the line of this number, which is a query. What was loaded is copied for it.
+fn reply_to_line<R: Threads + Wait + Sync, O: Sink, G: Gate>(
+    team: &Team<'_, R, G>,
+    session: &SessionCommand<'_>,
+    loaded: &Loaded,
+    line: &[u8],
+    number: u32,
+    sink: &mut O,
+) -> Result<(), Refusal>
+    requires loaded { IsLoaded loaded.now }
+    requires line { length line.now ≤ 16777216 }
+    requires bound { session.now.bound ≤ 1000000 }
+    ensures faults_kept { O.faults sink.old ≤ O.faults sink.new }
+    ensures replies { OnOk result ((program : ProgramTree) → IsProgramOf program loaded.now
+        → Replies (WritesReply session.now.proofs session.now.queries.now) (CutsReply session.now.proofs session.now.queries.now) program session.now.bound number line.now (O.written sink.old) (O.written sink.new)) }
+    ensures cut { OnErr result ((program : ProgramTree) → IsProgramOf program loaded.now
+        → RefusesLine (WritesReply session.now.proofs session.now.queries.now) (CutsReply session.now.proofs session.now.queries.now) program session.now.bound number line.now (O.written sink.old) (O.written sink.new)) }
+    ensures refused { IfErr result (IsRunRefusal (O.faults sink.old) (O.faults sink.new)) }
+{
+    let part = loaded.copy(team.alloc)?;
+    match ask_text(team.alloc, part, line, session.bound) {
+        Ok(problem) => reply_with_run(team, session, number, &problem, sink),
+        Err(TextFault::Text(fault)) => { reply_with_fault(session, on_line(number, fault), sink) }
+        Err(TextFault::OutOfMemory) => Err(Refusal::OutOfMemory),
+    }
+}
+
+// Writes the reply to a query with this problem.
+fn reply_with_run<R: Threads + Wait + Sync, O: Sink, G: Gate>(
+    team: &Team<'_, R, G>,
+    session: &SessionCommand<'_>,
+    number: u32,
+    problem: &Problem,
+    sink: &mut O,
+) -> Result<(), Refusal>
+    requires valid { IsValid problem.now }
+    ensures faults_kept { O.faults sink.old ≤ O.faults sink.new }
+    ensures text { OnOk result (O.written sink.new ≡ append_known (O.written sink.old)
+        (reply_text session.now.proofs session.now.queries.now (record { line = number; asked = Ok problem.now }))) }
+    ensures refused { IfErr result (IsRunRefusal (O.faults sink.old) (O.faults sink.new)) }
+    ensures prefix { OnErr result (AppendsFront (O.written sink.old)
+        (reply_text session.now.proofs session.now.queries.now (record { line = number; asked = Ok problem.now })) (O.written sink.new)) }
+{
+    write_heading(sink, "query ", number)?;
+    run(team, problem, session.proofs, sink)?;
+    Ok(())
+}
+
+// Writes the reply to a query whose line has this fault.
+fn reply_with_fault<O: Sink>(
+    session: &SessionCommand<'_>,
+    fault: Fault,
+    sink: &mut O,
+) -> Result<(), Refusal>
+    ensures faults_kept { O.faults sink.old ≤ O.faults sink.new }
+    ensures text { OnOk result (O.written sink.new ≡ append_known (O.written sink.old)
+        (reply_text session.now.proofs session.now.queries.now (record { line = fault.at.line; asked = Err fault }))) }
+    ensures refused { IfErr result (IsRunRefusal (O.faults sink.old) (O.faults sink.new)) }
+    ensures prefix { OnErr result (AppendsFront (O.written sink.old)
+        (reply_text session.now.proofs session.now.queries.now (record { line = fault.at.line; asked = Err fault })) (O.written sink.new)) }
+{
+    write_heading(sink, "query ", fault.at.line)?;
+    write_line(Cause::Faulty(session.queries, fault), sink)?;
+    Ok(())
+}

@@ -6,19 +6,25 @@ use std::process::ExitCode;
 use std::rt::Env;
 use std::{env, io};
 
+// The status of a call for which memory was wanting before there were words.
+const OUT_OF_MEMORY: u8 = 10;
+
 fn main(rt: HostRuntime) -> ExitCode {
     let alloc = rt.alloc();
-    // Where the words can't be had, the top call is told of none.
-    let words = words(&rt).unwrap_or(Vec::new(alloc));
+    let words = match words(&rt) {
+        Ok(words) => words,
+        Err(fault) if fault.kind() == io::ErrorKind::OutOfMemory => {
+            return ExitCode::from(OUT_OF_MEMORY);
+        }
+        // A word that is no text is in no form.
+        Err(_) => Vec::new(alloc),
+    };
     let mut shelf = FileShelf::new(&rt);
     let mut sink = StdSink::new(&rt);
-    let status = match words
-        .iter()
-        .map(|word| word.as_str())
-        .collect::<Vec<&str>>(alloc)
-    {
+    let words = words.iter().map(|word| word.as_str());
+    let status = match words.collect::<Vec<&str>>(alloc) {
         Ok(words) => ll_top::lolli(&rt, alloc, &words, &mut shelf, &mut sink, &OpenGate),
-        Err(_) => ll_top::lolli(&rt, alloc, &[], &mut shelf, &mut sink, &OpenGate),
+        Err(_) => OUT_OF_MEMORY,
     };
     ExitCode::from(status)
 }

@@ -1,10 +1,10 @@
 -- Numbers of texts: what callers know of them, and how a set of texts has them.
-use Rattle.std.proofs.Common.{◌≡◌, ℕ, zero, suc, ◌+◌, ◌<◌, ◌≤◌, Bool, true, false, not, cond, eqb, ltb, ◌||◌, List, [], ◌∷◌, ◌++◌, length, map, slice_get, position, Option, Some, None, get_or, refl, ap, sym, subst, ◌∙◌, arith, true≢false, if◌then◌else◌, length-append}
-use Rattle.std.specs.List.{list_any, position_or_len, IsDistinct, AllByRecursion}
+use Rattle.std.proofs.Common.{◌≡◌, ℕ, zero, suc, ◌+◌, ◌<◌, ◌≤◌, Bool, true, false, not, cond, eqb, ltb, ◌||◌, List, [], ◌∷◌, ◌++◌, length, map, slice_get, position, Option, Some, None, get_or, refl, ap, sym, subst, ◌∙◌, arith, true≢false, if◌then◌else◌, length-append, append_assoc}
+use Rattle.std.specs.List.{list_any, position_or_len, IsDistinct, AllByRecursion, AllZip}
 use Rattle.std.specs.Str.{bytes_eq}
-use Rattle.std.proofs.lemmas.Bool.{false_from_ne_true}
+use Rattle.std.proofs.lemmas.Bool.{false_from_ne_true, ltb-false, le-ltb}
 use Rattle.std.proofs.lemmas.Bool.Decides.{Decides-ltb, Decides-eqb}
-use Rattle.std.proofs.lemmas.List.{append-nil, length-map, map-append}
+use Rattle.std.proofs.lemmas.List.{append-nil, length-map, map-append, get_or-append-add}
 use Rattle.std.proofs.lemmas.List.Quantifiers.{position-Some}
 use Rattle.std.proofs.lemmas.List.Folds.{list_any_at, position_or_len_push}
 use Rattle.std.proofs.lemmas.List.Sums.{prefix_len-le-length, position_or_len_is}
@@ -40,6 +40,24 @@ position_or_len-push p xs y h =
     same : (b : Bool) → (b ≡ true → position_or_len p xs ≡ length xs) → cond b (length xs + 0) (position_or_len p xs) ≡ position_or_len p xs
     same true e = let k = e refl in omega arith
     same false e = refl
+
+-- where there is none, it is the end
+position_none : {X : Type 0} (p : X → Bool) (xs : List X) → position p xs ≡ None → position_or_len p xs ≡ length xs
+position_none p xs h = by (ltb (position_or_len p xs) (length xs)) refl h
+  where
+    by : (b : Bool) → ltb (position_or_len p xs) (length xs) ≡ b → cond b (Some (position_or_len p xs)) None ≡ None → position_or_len p xs ≡ length xs
+    by true e k = cc
+    by false e k = let low = prefix_len-le-length (λ x. not (p x)) xs in let out = ltb-false (position_or_len p xs) (length xs) e in omega arith
+
+-- and in two lists, one behind the other, it is in the second one where the first one has none
+position_or_len-behind : {X : Type 0} (p : X → Bool) (xs ys : List X) → position_or_len p xs ≡ length xs → position_or_len p (xs ++ ys) ≡ length xs + position_or_len p ys
+position_or_len-behind p [] ys h = omega arith
+position_or_len-behind p (x ∷ xs) ys h = by (p x) h (position_or_len-behind p xs ys)
+  where
+    by : (b : Bool) → cond (not b) (1 + position_or_len p xs) 0 ≡ length (x ∷ xs) → (position_or_len p xs ≡ length xs → position_or_len p (xs ++ ys) ≡ length xs + position_or_len p ys)
+        → cond (not b) (1 + position_or_len p (xs ++ ys)) 0 ≡ length (x ∷ xs) + position_or_len p ys
+    by true e rest = absurd (omega arith)
+    by false e rest = let k = rest (omega arith) in omega arith
 
 -- ---- what callers know
 
@@ -77,6 +95,95 @@ number_of-slice_get texts text n distinct e =
     (λ l. (bytes_eq-Decides text (get_or texts n [])).1 (sym here)) in
     position_at (bytes_eq text) texts (rw is inside) ∙ ap (λ k. let o : Option ℕ = Some k in o) is
 
+-- what has no number is not there
+absent : (texts : List (List ℕ)) (text : List ℕ) → number_of texts text ≡ None → list_any (bytes_eq text) texts ≡ false
+absent texts text none =
+    false_from_ne_true (list_any (bytes_eq text) texts) (λ e. let k = position_within (bytes_eq text) texts e in let l = position_none (bytes_eq text) texts none in absurd (omega arith))
+
+-- ---- texts in two parts
+
+-- a text that is not there goes last
+pub with_name-absent : (texts : List (List ℕ)) (text : List ℕ) → number_of texts text ≡ None → with_name texts text ≡ texts ++ text ∷ []
+with_name-absent texts text none = ap (λ b. if b then texts else texts ++ text ∷ []) (absent texts text none)
+
+-- and its number is the next one
+pub number_of-pushed : (texts : List (List ℕ)) (text : List ℕ) → number_of texts text ≡ None → number_of (texts ++ text ∷ []) text ≡ Some (length texts)
+number_of-pushed texts text none =
+    ap (λ ts. number_of ts text) (sym (with_name-absent texts text none))
+    ∙ (number_of-with_name texts text ∙ ap (λ n. let o : Option ℕ = Some n in o) (position_none (bytes_eq text) texts none))
+
+-- so texts that differ still do
+pub IsDistinct-pushed : (texts : List (List ℕ)) (text : List ℕ) → IsDistinct bytes_eq texts → number_of texts text ≡ None → IsDistinct bytes_eq (texts ++ text ∷ [])
+unfolding IsDistinct
+IsDistinct-pushed texts text distinct none = behind_all texts distinct (absent texts text none)
+  where
+    behind_others : (t : List ℕ) (ts : List (List ℕ)) → bytes_eq t text ≡ false → AllByRecursion (λ y. bytes_eq t y ≡ false) ts → AllByRecursion (λ y. bytes_eq t y ≡ false) (ts ++ text ∷ [])
+    behind_others t [] e h = (e, tt)
+    behind_others t (x ∷ ts) e h = (h.0, behind_others t ts e h.1)
+
+    flipped : (t : List ℕ) → bytes_eq text t ≡ false → bytes_eq t text ≡ false
+    flipped t e =
+        false_from_ne_true (bytes_eq t text) (λ same. true≢false (sym ((bytes_eq-Decides text t).1 (sym ((bytes_eq-Decides t text).0 same))) ∙ e))
+
+    neither : (a b : Bool) → a || b ≡ false → (a ≡ false) × (b ≡ false)
+    neither true b e = absurd (true≢false e)
+    neither false b e = (refl, e)
+
+    behind_all : (ts : List (List ℕ)) → IsDistinct bytes_eq ts → list_any (bytes_eq text) ts ≡ false → IsDistinct bytes_eq (ts ++ text ∷ [])
+    behind_all [] d e = (tt, tt)
+    behind_all (t ∷ ts) d e =
+        let n = neither (bytes_eq text t) (list_any (bytes_eq text) ts) e in (behind_others t ts (flipped t n.0) d.0, behind_all ts d.1 n.1)
+
+-- a text put behind the second part goes behind both
+pub pushed_behind : (front rest new texts : List (List ℕ)) (text : List ℕ) → front ++ rest ≡ texts → new ≡ rest ++ text ∷ [] → front ++ new ≡ texts ++ text ∷ []
+pushed_behind front rest new texts text view e = ap (λ r. front ++ r) e ∙ (sym (append_assoc front rest (text ∷ [])) ∙ ap (λ ts. ts ++ text ∷ []) view)
+
+module _ (front rest : List (List ℕ)) where
+  -- a number of the front
+  pub number_of-front : (text : List ℕ) (n : ℕ) → number_of front text ≡ Some n → number_of (front ++ rest) text ≡ Some n
+  number_of-front text n e =
+      let p = position-Some (bytes_eq text) front n [] e in
+      let l = length-append front rest in
+      let is = position_or_len_is (bytes_eq text) (front ++ rest) n [] (omega arith)
+      (λ k below. ap (bytes_eq text) (get_or-append front rest [] k (omega arith)) ∙ p.2 k below)
+      (λ m. ap (bytes_eq text) (get_or-append front rest [] n p.0) ∙ p.1) in
+      position_at (bytes_eq text) (front ++ rest) (rw is (omega arith)) ∙ ap (λ k. let o : Option ℕ = Some k in o) is
+
+  -- a number behind it
+  pub number_of-behind : (text : List ℕ) (n : ℕ) → number_of front text ≡ None → number_of rest text ≡ Some n → number_of (front ++ rest) text ≡ Some (length front + n)
+  number_of-behind text n none e =
+      let p = position-Some (bytes_eq text) rest n [] e in
+      let at = position_or_len_is (bytes_eq text) rest n [] (omega arith) p.2 (λ m. p.1) in
+      let is : position_or_len (bytes_eq text) (front ++ rest) ≡ length front + n =
+      position_or_len-behind (bytes_eq text) front rest (position_none (bytes_eq text) front none) ∙ ap (λ k. length front + k) at in
+      position_at (bytes_eq text) (front ++ rest) (let l = length-append front rest in rw is (omega arith)) ∙ ap (λ k. let o : Option ℕ = Some k in o) is
+
+  -- no number
+  pub number_of-neither : (text : List ℕ) → number_of front text ≡ None → number_of rest text ≡ None → number_of (front ++ rest) text ≡ None
+  number_of-neither text none nor =
+      let is = position_or_len-behind (bytes_eq text) front rest (position_none (bytes_eq text) front none) in
+      let end = position_none (bytes_eq text) rest nor in
+      let l = length-append front rest in
+      ap (λ b. cond b (Some (position_or_len (bytes_eq text) (front ++ rest))) None) (le-ltb (position_or_len (bytes_eq text) (front ++ rest)) (length (front ++ rest)) (omega arith))
+
+  -- a text of the front
+  pub slice_get-front : (text : List ℕ) (n : ℕ) → slice_get front n ≡ Some text → slice_get (front ++ rest) n ≡ Some text
+  slice_get-front text n e =
+      let inside = slice_get_within front n text e in
+      let l = length-append front rest in
+      slice_get-get_or (front ++ rest) n [] (omega arith)
+      ∙ ap (λ t. let o : Option (List ℕ) = Some t in o) (get_or-append front rest [] n inside ∙ get_or_from_slice_get front n text [] e)
+
+  -- a text behind it
+  pub slice_get-behind : (text : List ℕ) (k n : ℕ) → length front + k ≡ n → slice_get rest k ≡ Some text → slice_get (front ++ rest) n ≡ Some text
+  slice_get-behind text k n is e =
+      let inside = slice_get_within rest k text e in
+      let l = length-append front rest in
+      subst (λ m. slice_get (front ++ rest) m ≡ Some text) is (slice_get-get_or (front ++ rest) (length front + k) [] (omega arith)
+      ∙ ap (λ t. let o : Option (List ℕ) = Some t in o) (get_or-append-add front rest k [] ∙ get_or_from_slice_get rest k text [] e))
+
+-- ---- one text more
+
 -- at most one text is put behind the others
 behind : (texts : List (List ℕ)) (text : List ℕ) (b : Bool) → (more : List (List ℕ)) × (((if b then texts else texts ++ text ∷ []) ≡ texts ++ more) × (length more ≤ 1))
 behind texts text true = ([], (sym (append-nil texts), omega arith))
@@ -89,25 +196,11 @@ length-with_name texts text =
 
 -- a number keeps its text
 pub slice_get-with_name : (texts : List (List ℕ)) (text old : List ℕ) (n : ℕ) → slice_get texts n ≡ Some old → slice_get (with_name texts text) n ≡ Some old
-slice_get-with_name texts text old n e = let b = behind texts text (list_any (bytes_eq text) texts) in rw b.1.0 (slice_get-append texts b.0 n e)
-  where
-    slice_get-append : (xs ys : List (List ℕ)) (k : ℕ) → slice_get xs k ≡ Some old → slice_get (xs ++ ys) k ≡ Some old
-    slice_get-append [] ys k h = cc
-    slice_get-append (x ∷ xs) ys zero h = h
-    slice_get-append (x ∷ xs) ys (suc k) h = slice_get-append xs ys k h
+slice_get-with_name texts text old n e = let b = behind texts text (list_any (bytes_eq text) texts) in rw b.1.0 (slice_get-front texts b.0 old n e)
 
 -- and a text its number
 pub number_of-with_name_old : (texts : List (List ℕ)) (text old : List ℕ) (n : ℕ) → number_of texts old ≡ Some n → number_of (with_name texts text) old ≡ Some n
-number_of-with_name_old texts text old n e = let b = behind texts text (list_any (bytes_eq text) texts) in rw b.1.0 (number_of-append b.0)
-  where
-    number_of-append : (more : List (List ℕ)) → number_of (texts ++ more) old ≡ Some n
-    number_of-append more =
-        let p = position-Some (bytes_eq old) texts n [] e in
-        let l = length-append texts more in
-        let is = position_or_len_is (bytes_eq old) (texts ++ more) n [] (omega arith)
-        (λ k below. ap (bytes_eq old) (get_or-append texts more [] k (omega arith)) ∙ p.2 k below)
-        (λ m. ap (bytes_eq old) (get_or-append texts more [] n p.0) ∙ p.1) in
-        position_at (bytes_eq old) (texts ++ more) (rw is (omega arith)) ∙ ap (λ k. let o : Option ℕ = Some k in o) is
+number_of-with_name_old texts text old n e = let b = behind texts text (list_any (bytes_eq text) texts) in rw b.1.0 (number_of-front texts b.0 old n e)
 
 -- the same of several texts added in turn
 pub length-with_names : (texts more : List (List ℕ)) → length (with_names texts more) ≤ length texts + length more
@@ -138,11 +231,6 @@ module _ {K : Type 0} (bytes : K → List ℕ) where
   position-map p keys =
       λ i. cond (ltb (position_or_len-map p keys i) (length-map keys bytes i)) (Some (position_or_len-map p keys i)) None
 
-  -- the number of a text that was looked up
-  pub looked_up : (keys : List K) (texts : List (List ℕ)) (text : List ℕ) (n : ℕ) → map bytes keys ≡ texts → Some n ≡ position (λ k. bytes_eq text (bytes k)) keys
-      → number_of texts text ≡ Some n
-  looked_up keys texts text n view e = subst (λ ts. number_of ts text ≡ Some n) view (position-map (bytes_eq text) keys ∙ sym e)
-
   -- a key that is inserted adds its text
   module _ (keys new : List K) (key : K) (texts : List (List ℕ)) (text : List ℕ) (view : map bytes keys ≡ texts) (is : bytes key ≡ text)
       (inserted : new ≡ insert_key (λ x y. bytes_eq (bytes x) (bytes y)) keys key) where
@@ -153,11 +241,12 @@ module _ {K : Type 0} (bytes : K → List ℕ) where
         by true e = rw e refl
         by false e = rw e (map-append bytes keys (key ∷ []))
 
-    -- which then has its place as its number
-    pub added_number : (n : ℕ) → n ≡ position_or_len (λ k. bytes_eq (bytes key) (bytes k)) keys → number_of (map bytes new) text ≡ Some n
-    added_number n e =
-        ap (λ ts. number_of ts text) added ∙ (number_of-with_name texts text
-        ∙ ap (λ k. let o : Option ℕ = Some k in o) (rw (← view, ← is) (position_or_len-map (bytes_eq (bytes key)) keys ∙ sym e)))
+  -- keys that are copies have the same texts
+  pub same_texts : (keys copies : List K) → AllZip (λ k c. bytes c ≡ bytes k) keys copies → map bytes copies ≡ map bytes keys
+  same_texts [] [] h = refl
+  same_texts [] (c ∷ copies) h = elim h [ ]
+  same_texts (k ∷ keys) [] h = elim h [ ]
+  same_texts (k ∷ keys) (c ∷ copies) h = λ i. h.0 i ∷ same_texts keys copies h.1 i
 
   -- keys with different bytes have different texts
   pub IsDistinct-map : (keys : List K) → IsDistinct (λ x y. bytes_eq (bytes x) (bytes y)) keys → IsDistinct bytes_eq (map bytes keys)

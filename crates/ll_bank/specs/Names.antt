@@ -1,5 +1,8 @@
 -- Names, seen as the list of their texts' bytes, each at its number.
-use Rattle.std.specs.Prelude.{ℕ, List, [], ◌∷◌, ◌++◌, Option, position, fold, if◌then◌else◌}
+use Rattle.std.specs.Prelude.{ℕ, List, [], ◌∷◌, ◌++◌, Option, Some, None, position, fold, if◌then◌else◌}
+use Rattle.std.specs.Arc.{arc_value}
+use Rattle.std.specs.declared.sync.Arc.{Arc}
+use Rattle.std.specs.declared.alloc.Global.{Global}
 use Rattle.std.specs.List.{list_any}
 use Rattle.std.specs.Str.{bytes_eq}
 
@@ -14,3 +17,8 @@ with_name texts text = if list_any (bytes_eq text) texts then texts else texts +
 -- the texts after several are added in turn
 abbrev pub with_names : List (List ℕ) → List (List ℕ) → List (List ℕ)
 with_names texts more = fold with_name texts more
+
+-- the texts of a front, where there is one
+abbrev pub front_texts : Option (Arc (List (List ℕ)) Global) → List (List ℕ)
+front_texts None = []
+front_texts (Some texts) = arc_value texts

@@ -1,31 +1,36 @@
 //! The texts of names, numbered in the order in which they came.
-ghost use Rattle.std.specs.Prelude.{◌≡◌, ◌^◌, ◌<◌, ◌↔◌, [], Some, length, IsTrue, IfOk, OnOk, OnErr, slice_get};
+ghost use Rattle.std.specs.Prelude.{◌≡◌, ◌++◌, ◌^◌, ◌<◌, ◌↔◌, [], None, Some, length, IsTrue, IfNone, IfOk, OnOk, OnErr, slice_get};
 ghost use Rattle.std.specs.List.{IsDistinct};
 ghost use Rattle.std.specs.Str.{bytes_eq};
-ghost use Rattle.ll_bank.specs.Names.{number_of, with_name};
+ghost use Rattle.ll_bank.specs.Names.{number_of, with_name, front_texts};
 
 use crate::OutOfMemory;
-use indexmap::IndexSet;
+use crate::texts::Texts;
 use std::alloc::Global;
 use std::marker::Model;
+use std::sync::Arc;
 
 /// The texts of names. Contracts see the list of the texts' bytes, in the order of their numbers.
+///
+/// The first of them may stand in a front that copies share.
 #[derive(Drop)]
 pub struct Names {
-    texts: IndexSet<String>,
+    front: Option<Arc<Texts>>,
+    // The texts behind the front.
+    rest: Texts,
 }
 
 impl Model for Names {
-    ghost use Rattle.std.specs.Prelude.{ℕ, List, map};
+    ghost use Rattle.std.specs.Prelude.{ℕ, List, ◌++◌};
     ghost use Rattle.std.specs.List.{IsDistinct};
     ghost use Rattle.std.specs.Str.{bytes_eq};
-    ghost use Rattle.std.specs.String.{string_bytes};
+    ghost use Rattle.ll_bank.specs.Names.{front_texts};
 
     ghost Value = { List (List ℕ) };
 
-    ghost view = { λ names. map string_bytes names.texts.keys };
+    ghost view = { λ names. front_texts names.front ++ names.rest };
 
-    ghost invariant = { λ names. IsDistinct bytes_eq (map string_bytes names.texts.keys) };
+    ghost invariant = { λ names. IsDistinct bytes_eq (front_texts names.front ++ names.rest) };
 }
 
 impl Names {
@@ -34,7 +39,8 @@ impl Names {
         ensures { result ≡ [] }
     {
         Names {
-            texts: IndexSet::new(alloc),
+            front: None,
+            rest: Texts::new(alloc),
         }
     }
 
@@ -43,14 +49,14 @@ impl Names {
         ensures len { result ≡ length self.now }
         ensures distinct { IsDistinct bytes_eq self.now }
     {
-        self.texts.len()
+        front_len(&self.front) + self.rest.len()
     }
 
     /// Whether there are no texts.
     pub fn is_empty(&self) -> bool
         ensures { IsTrue result ↔ (self.now ≡ []) }
     {
-        self.texts.is_empty()
+        self.len() == 0
     }
 
     /// The number of the text: the one that it has, or the next one. After a refusal the texts are as before.
@@ -62,11 +68,11 @@ impl Names {
         ensures refused { OnErr result (self.new ≡ self.old) }
         ensures distinct { IsDistinct bytes_eq self.new }
     {
-        if let Some(number) = self.texts.get_index_of(text) {
+        if let Some(number) = find(&self.front, &self.rest, text) {
             return Ok(number as u32);
         }
-        let owned = String::from_str(*self.texts.allocator(), text)?;
-        let (next, _) = self.texts.insert_full(owned)?;
+        let next = self.len();
+        self.rest.push(text)?;
         Ok(next as u32)
     }
 
@@ -75,6 +81,77 @@ impl Names {
         requires { number < length self.now }
         ensures { slice_get self.now number ≡ Some result.now }
     {
-        self.texts[number as usize].as_str()
+        let Some(front) = &self.front else {
+            return self.rest.text(number as usize);
+        };
+        let before = front.len();
+        if (number as usize) < before {
+            return front.text(number as usize);
+        }
+        self.rest.text(number as usize - before)
+    }
+
+    /// The same names, held so that copies share them: those behind no front become it.
+    pub fn share(self) -> Result<Names, OutOfMemory>
+        ensures { IfOk result (λ names. names ≡ self) }
+    {
+        if self.front.is_some() {
+            return Ok(self);
+        }
+        let Names { front: _, rest } = self;
+        let alloc = rest.allocator();
+        let front = Arc::new(alloc, rest)?;
+        Ok(Names {
+            front: Some(front),
+            rest: Texts::new(alloc),
+        })
+    }
+
+    /// The same names: a front is shared, and the texts behind it are copied.
+    pub fn copy(&self) -> Result<Names, OutOfMemory>
+        ensures { IfOk result (λ names. names ≡ self.now) }
+    {
+        let front = same_front(&self.front)?;
+        let rest = self.rest.copy()?;
+        Ok(Names { front, rest })
+    }
+}
+
+// The number of texts in front.
+fn front_len(front: &Option<Arc<Texts>>) -> usize
+    ensures len { result ≡ length (front_texts front.now) }
+    ensures small { result < 2 ^ 63 }
+{
+    match front {
+        None => 0,
+        Some(texts) => texts.len(),
+    }
+}
+
+// The number of the text among those in front and those behind.
+fn find(front: &Option<Arc<Texts>>, rest: &Texts, text: &str) -> Option<usize>
+    requires { length (front_texts front.now ++ rest.now) < 2 ^ 32 }
+    ensures number { result ≡ number_of (front_texts front.now ++ rest.now) text.now }
+    ensures neither { IfNone result (number_of rest.now text.now ≡ None) }
+{
+    let Some(texts) = front else {
+        return rest.find(text);
+    };
+    if let Some(place) = texts.find(text) {
+        return Some(place);
+    }
+    match rest.find(text) {
+        None => None,
+        Some(place) => Some(texts.len() + place),
+    }
+}
+
+// The same front.
+fn same_front(front: &Option<Arc<Texts>>) -> Result<Option<Arc<Texts>>, OutOfMemory>
+    ensures { IfOk result (λ same. front_texts same ≡ front_texts front.now) }
+{
+    match front {
+        None => Ok(None),
+        Some(texts) => Ok(Some(Arc::try_clone(texts)?)),
     }
 }

@@ -1,0 +1,13 @@
+use Rattle.std.proofs.Common.{◌∙◌, sym, subst}
+use Rattle.std.specs.List.{IsDistinct}
+use Rattle.std.specs.Str.{bytes_eq}
+use Rattle.std.specs.String.{string_bytes}
+use Rattle.ll_bank.proofs.NameLaws.{same_texts}
+use Rattle.ll_bank.proofs.texts.Texts.copy.Goals as goal
+
+pub invariant_of-result : goal.invariant_of-result
+invariant_of-result c =
+    subst (IsDistinct bytes_eq) (sym (same_texts string_bytes c.self.inside.texts.keys c.in_ok-texts.texts.keys c.in_ok-texts.ensures.cases)) c.self.invariant
+
+pub returns : goal.returns
+returns c = same_texts string_bytes c.self.inside.texts.keys c.in_ok-texts.texts.keys c.in_ok-texts.ensures.cases ∙ c.self.view_is

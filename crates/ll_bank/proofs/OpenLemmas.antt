@@ -206,7 +206,7 @@ same_places (x ∷ xs) [] e = absurd (true≢false (sym e))
 same_places (x ∷ xs) (y ∷ ys) e =
     let p = and_parts (eqb x.0 y.0) (pointwise (λ (a b : At). eqb a.0 b.0) xs ys) e in let q = same_places xs ys p.1 in λ i. eqb-true x.0 y.0 p.0 i ∷ q i
 
-same_heads : (x y : Head) → (head_eq_value).it x y ≡ true → x ≡ y
+pub same_heads : (x y : Head) → (head_eq_value).it x y ≡ true → x ≡ y
 same_heads (Name m) (Name n) e = ap Name (eqb-true m n e)
 same_heads (Eigen m) (Eigen n) e = ap Eigen (eqb-true m n e)
 same_heads (Bound m) (Bound n) e = ap Bound (eqb-true m n e)

@@ -7,6 +7,7 @@ ghost use Rattle.ll_bank.specs.Nodes.{term_tree, HasTerm};
 ghost use Rattle.ll_bank.specs.Signs.{build_sign, sign_terms, IsSignBelow, IsTable, Grows, HasNumber};
 ghost use Rattle.ll_bank.specs.Walk.{arguments_of, term_node_at, HasImage};
 
+use crate::pairs::equal_by_pairs;
 use crate::walk::terms_under;
 use crate::{At, Bank, Head, OutOfMemory, TermView};
 use indexmap::IndexSet;
@@ -22,17 +23,29 @@ enum Sign {
 }
 
 impl Bank {
-    /// Whether the two terms are equal. A term that is shared is looked at once.
+    /// Whether the two terms are equal. Small ones are compared pair by pair; in greater ones a term that is shared is looked at once.
     pub fn equal(&self, at: At, other: &Bank, there: At) -> Result<bool, OutOfMemory>
         requires here { HasTerm self.now at.0 }
         requires there { HasTerm other.now there.0 }
         ensures { IfOk result (λ equal. IsTrue equal ↔ (term_tree self.now at.0 ≡ term_tree other.now there.0)) }
     {
-        let mut signs = IndexSet::new(self.alloc());
-        let mine = number_of(self, at, &mut signs)?;
-        let theirs = number_of(other, there, &mut signs)?;
-        Ok(mine == theirs)
+        match equal_by_pairs(self, at, other, there)? {
+            Some(equal) => Ok(equal),
+            None => equal_by_numbers(self, at, other, there),
+        }
     }
+}
+
+/// Whether the two terms are equal. A term that is shared is looked at once.
+fn equal_by_numbers(bank: &Bank, at: At, other: &Bank, there: At) -> Result<bool, OutOfMemory>
+    requires here { HasTerm bank.now at.0 }
+    requires there { HasTerm other.now there.0 }
+    ensures { IfOk result (λ equal. IsTrue equal ↔ (term_tree bank.now at.0 ≡ term_tree other.now there.0)) }
+{
+    let mut signs = IndexSet::new(bank.alloc());
+    let mine = number_of(bank, at, &mut signs)?;
+    let theirs = number_of(other, there, &mut signs)?;
+    Ok(mine == theirs)
 }
 
 /// The number of a term. Signs that have none get one.

@@ -174,11 +174,6 @@ shows_form old n at tree last e = subst (λ k. ShowsForm (with_form old n) k tre
   tree = grow_last (build_form (term_tree old)) old.forms n Top ∙ e;
 })
 
--- a term's tree, as its node builds it
-term_tree-build : (old : Nodes) (low : IsWellFounded old) (at : ℕ) (d : TermNode) → HasTerm old at → term_in (all_terms old) at ≡ build_term (all_terms old) (get_or old.terms at d)
-unfolding term_tree
-term_tree-build old low at d h = term_tree-node old low at d h
-
 -- ---- a node put behind the others stands on lower ones
 
 -- what holds of each element at its place, and of one more behind them, holds of all
@@ -306,42 +301,11 @@ depth-apply depths trees e f d h (a ∷ args) =
     let g : slice_index depths a.0 ≡ term_depth (term_in trees a.0) = ap (λ ds. slice_index ds a.0) e ∙ get_or-map term_depth trees a.0 (Var 0) in
     depth-apply depths trees e (Ap f (term_in trees a.0)) (max d (suc (slice_index depths a.0))) (rw (h, g) refl) args
 
--- arguments of small depths make a term of small depth
-depth-apply-le : (k : ℕ) (g : ℕ → Term) (f : Term) → term_depth f ≤ k → (args : List ℕ) → All (λ a. suc (term_depth (g a)) ≤ k) args → term_depth (apply f (map g args)) ≤ k
-depth-apply-le k g f h [] each = h
-depth-apply-le k g f h (a ∷ args) each =
-    let p = All-head (λ a. suc (term_depth (g a)) ≤ k) a args each in
-    depth-apply-le k g (Ap f (g a)) (omega arith) args (All-tail (λ a. suc (term_depth (g a)) ≤ k) a args each)
-
--- the depth of a node over trees of small depth
-depth-build-le : (trees : List Term) (at : ℕ) → ((a : ℕ) → a < at → term_depth (term_in trees a) ≤ a) → (n : TermNode) → IsTermBelow at n → term_depth (build_term trees n) ≤ at
-depth-build-le trees at small (VarNode x) below = omega arith
-depth-build-le trees at small (IntNode z) below = omega arith
-depth-build-le trees at small (AppNode h args) below =
-    depth-apply-le at (term_in trees) (Con h) (omega arith) args (λ k d l. let p = below k d l in let q = small (get_or args k d) p in omega arith)
-
-module _ (old : Nodes) (low : IsWellFounded old) where
-  depth-le-within : (n at : ℕ) → at < n → HasTerm old at → term_depth (term_in (all_terms old) at) ≤ at
-  depth-le-within zero at l h = absurd (omega arith)
-  depth-le-within (suc n) at l h =
-      subst (λ t. term_depth t ≤ at) (sym (term_tree-build old low at (VarNode 0) h))
-      (depth-build-le (all_terms old) at (λ a b. depth-le-within n a (omega arith) (omega arith)) (get_or old.terms at (VarNode 0)) (low.terms at (VarNode 0) h))
-
-  -- a term is no deeper than its place is high
-  pub depth-le : (at : ℕ) → HasTerm old at → term_depth (term_in (all_terms old) at) ≤ at
-  depth-le at h = depth-le-within (suc at) at (omega arith) h
-
 -- ---- what the calls leave
 
 module _ (old : Nodes) (depths : List ℕ) (kept : IsKept old depths) where
   pub depths_count : length depths ≡ length old.terms
   depths_count = ap length kept.beside ∙ (length-map (all_terms old) term_depth ∙ length-grow build_term [] old.terms ∙ (let e : zero + length old.terms ≡ length old.terms = omega arith in e))
-
-  pub depth_small : (k : ℕ) → k < length depths → slice_index depths k ≤ k
-  depth_small k l =
-      let e = depths_count in let d = depth-le old kept.lower k (omega arith) in
-      let g : slice_index depths k ≡ term_depth (term_in (all_terms old) k) = ap (λ ds. slice_index ds k) kept.beside ∙ get_or-map term_depth (all_terms old) k (Var 0) in
-      omega arith
 
   -- the depth of each place
   pub depth_at : (at d : ℕ) → at < length depths → get_or depths at d ≡ term_depth (term_tree old at)
@@ -412,15 +376,15 @@ module _ (inner old : Nodes) (view : inner ≡ old) (depths : List ℕ) (kept : 
     pub term_extends : Extends old new
     term_extends = subst (λ o. Extends o new) view (subst (Extends inner) (sym is) (keeps_term inner kept.lower n))
 
-    pub term_shown : (at : ℕ) (tree : Term) → at ≡ length depths → build_term (all_terms old) n ≡ tree → ShowsTerm new at tree
+    pub term_shown : (at : ℕ) (tree : Term) → at ≡ length inner.terms → build_term (all_terms old) n ≡ tree → ShowsTerm new at tree
     term_shown at tree last e =
         subst (λ m. ShowsTerm m at tree) (sym is)
-        (shows_term inner n at tree (last ∙ depths_count inner depths kept) (ap (λ o. build_term (all_terms o) n) view ∙ e))
+        (shows_term inner n at tree last (ap (λ o. build_term (all_terms o) n) view ∙ e))
 
   -- a formula was put behind the others
   module _ (n : FormulaNode) (is : new ≡ with_form inner n) where
-    pub kept_more_forms : IsFormBelow (length old.terms) (length old.forms) n → IsKept new depths
-    kept_more_forms below = rw is (kept_form inner depths kept n (subst (λ o. IsFormBelow (length o.terms) (length o.forms) n) (sym view) below))
+    pub kept_more_forms : (same : List ℕ) → same ≡ depths → IsFormBelow (length old.terms) (length old.forms) n → IsKept new same
+    kept_more_forms same e below = rw (is, e) (kept_form inner depths kept n (subst (λ o. IsFormBelow (length o.terms) (length o.forms) n) (sym view) below))
 
     pub form_extends : Extends old new
     form_extends = subst (λ o. Extends o new) view (subst (Extends inner) (sym is) (keeps_form inner kept.lower n))
@@ -441,15 +405,11 @@ module _ (inner old : Nodes) (view : inner ≡ old) (depths : List ℕ) (kept : 
     pub is_cut : IsCutTo size old new
     is_cut = subst (λ m. IsCutTo size old m) (sym (is ∙ ap (λ o. front o size) view)) (front_is_cut old size had)
 
-    pub terms_fit : size.terms ≤ length depths
-    terms_fit = let a = HasSize-terms inner size inner_had in let b = depths_count inner depths kept in omega arith
-
 -- the depth over the depths of the arguments is that of the application
-pub depth_of_app : (inner old : Nodes) → inner ≡ old → (depths : List ℕ) → IsKept inner depths → (h : Head) (args : List At) (read : List ℕ) → read ≡ depths → (d : ℕ)
-    → d ≡ depth_over read args → d ≡ term_depth (build_term (all_terms old) (AppNode h (places args)))
-depth_of_app inner old view depths kept h args read is d e =
-    e ∙ (ap (λ ds. depth_over ds args) is ∙ (depth-apply depths (all_terms inner) kept.beside (Con h) 0 refl args
-    ∙ ap (λ o. term_depth (build_term (all_terms o) (AppNode h (places args)))) view))
+pub depth_of_app : (inner old : Nodes) → inner ≡ old → (depths : List ℕ) → IsKept inner depths → (h : Head) (args : List At) (d : ℕ)
+    → d ≡ depth_over depths args → d ≡ term_depth (build_term (all_terms old) (AppNode h (places args)))
+depth_of_app inner old view depths kept h args d e =
+    e ∙ (depth-apply depths (all_terms inner) kept.beside (Con h) 0 refl args ∙ ap (λ o. term_depth (build_term (all_terms o) (AppNode h (places args)))) view)
 
 -- a whole number of 64 bits goes in as it is
 pub exact_int : (inner new : Nodes) (z : ℤ) → FitsSigned w64 z → new ≡ with_term inner (IntNode (to_z w64 (of_z w64 z))) → new ≡ with_term inner (IntNode z)

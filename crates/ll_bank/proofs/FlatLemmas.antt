@@ -19,8 +19,9 @@ use Rattle.ll_bank.specs.declared.flat.StoredTerm.{StoredTerm}
 use Rattle.ll_bank.specs.declared.flat.StoredTerm.TheVariants.{Var as StoredVar, Int as StoredInt, App as StoredApp}
 use Rattle.ll_bank.specs.declared.flat.StoredForm.{StoredForm}
 use Rattle.ll_bank.specs.declared.flat.StoredForm.TheVariants.{Top as StoredTop, One as StoredOne, Atom as StoredAtom, With as StoredWith, Tensor as StoredTensor, Plus as StoredPlus, Bang as StoredBang, Lolli as StoredLolli, Imp as StoredImp, Forall as StoredForall, Exists as StoredExists, Use as StoredUse, Is as StoredIs, Less as StoredLess, Most as StoredMost}
-use Rattle.ll_bank.specs.Nodes.{Nodes, AppNode, UseNode, places, node_of, argument_count, load_argument_count, size_of, front, with_term, with_form}
-use Rattle.ll_bank.specs.Storage.{children_of, term_node, form_node, nodes_of, span_from, stored_as, load_arguments_of, IsWithin, IsTermStored, IsFormStored, term_span, form_span, AreInTurn, IsStored}
+use Rattle.ll_bank.specs.Nodes.{AppNode, UseNode, places, node_of, argument_count, load_argument_count, size_of, front}
+use Rattle.ll_bank.specs.Kept.{DeepNodes, deep_term, deep_form, deep_front}
+use Rattle.ll_bank.specs.Storage.{children_of, term_node, form_node, nodes_of, stored_term_depth, deep_of, span_from, stored_as, load_arguments_of, IsWithin, IsTermStored, IsFormStored, term_span, form_span, AreInTurn, IsStored}
 
 -- ---- spans in turn
 
@@ -158,22 +159,22 @@ within_more cs more span h = (h.0, simp length-append (omega (arith, h.1)))
 term_same : (cs more : List At) (t : StoredTerm) → IsTermStored cs t → term_node (cs ++ more) t ≡ term_node cs t
 term_same cs more (StoredVar n) h = refl
 term_same cs more (StoredInt z) h = refl
-term_same cs more (StoredApp k span) h = ap (λ xs. AppNode k (places xs)) (children_more cs more span h)
+term_same cs more (StoredApp k span d) h = ap (λ xs. AppNode k (places xs)) (children_more cs more span h)
 
 term_more : (cs more : List At) (t : StoredTerm) → IsTermStored cs t → IsTermStored (cs ++ more) t
 term_more cs more (StoredVar n) h = tt
 term_more cs more (StoredInt z) h = h
-term_more cs more (StoredApp k span) h = within_more cs more span h
+term_more cs more (StoredApp k span d) h = within_more cs more span h
 
 term_less : (cs more : List At) (t : StoredTerm) → IsTermStored (cs ++ more) t → EndsBy (length cs) (term_span t) → IsTermStored cs t
 term_less cs more (StoredVar n) h e = tt
 term_less cs more (StoredInt z) h e = h
-term_less cs more (StoredApp k span) h e = e
+term_less cs more (StoredApp k span d) h e = e
 
 term_counts : (cs : List At) (t : StoredTerm) → IsTermStored cs t → argument_count (term_node cs t) ≡ span_size (term_span t)
 term_counts cs (StoredVar n) h = refl
 term_counts cs (StoredInt z) h = refl
-term_counts cs (StoredApp k span) h = length-children cs span h
+term_counts cs (StoredApp k span d) h = length-children cs span h
 
 -- ---- formulas
 
@@ -301,8 +302,8 @@ module _ (cs ls : List At) (ts : List StoredTerm) (fs : List StoredForm) (stored
   })
 
   -- a head with arguments was pushed
-  module _ (h : Head) (args ds : List At) (us : List StoredTerm) (pushed : us ≡ ts ++ StoredApp h (span_from (length cs) (length args)) ∷ []) (behind : ds ≡ cs ++ args) where
-    app_ok : IsTermStored (cs ++ args) (StoredApp h (span_from (length cs) (length args)))
+  module _ (h : Head) (args : List At) (depth : ℕ) (ds : List At) (us : List StoredTerm) (pushed : us ≡ ts ++ StoredApp h (span_from (length cs) (length args)) depth ∷ []) (behind : ds ≡ cs ++ args) where
+    app_ok : IsTermStored (cs ++ args) (StoredApp h (span_from (length cs) (length args)) depth)
     app_ok = (omega arith, simp length-append (omega arith))
 
     app_turn : AreInTurn (length cs) (Some (span_from (length cs) (length args)) ∷ []) (length (cs ++ args))
@@ -310,17 +311,20 @@ module _ (cs ls : List At) (ts : List StoredTerm) (fs : List StoredForm) (stored
 
     pub stored_app : IsStored ds ls us fs
     stored_app = rw (pushed, behind) (record {
-      each_term = push_ok term_span term_node argument_count IsTermStored term_same term_more term_less term_counts cs ts stored.each_term stored.term_spans args (StoredApp h (span_from (length cs) (length args))) app_ok app_turn;
+      each_term = push_ok term_span term_node argument_count IsTermStored term_same term_more term_less term_counts cs ts stored.each_term stored.term_spans args (StoredApp h (span_from (length cs) (length args)) depth) app_ok app_turn;
       each_form = stored.each_form;
-      term_spans = push_turn term_span term_node argument_count IsTermStored term_same term_more term_less term_counts cs ts stored.each_term stored.term_spans args (StoredApp h (span_from (length cs) (length args))) app_ok app_turn;
+      term_spans = push_turn term_span term_node argument_count IsTermStored term_same term_more term_less term_counts cs ts stored.each_term stored.term_spans args (StoredApp h (span_from (length cs) (length args)) depth) app_ok app_turn;
       form_spans = stored.form_spans;
     })
 
-    pub app_view : (old : Nodes) → nodes_of cs ls ts fs ≡ old → nodes_of ds ls us fs ≡ with_term old (AppNode h (places args))
-    app_view old view = subst (λ n. nodes_of ds ls us fs ≡ with_term n (AppNode h (places args))) view (rw (pushed, behind) (λ i. record {
-      terms = (push_view term_span term_node argument_count IsTermStored term_same term_more term_less term_counts cs ts stored.each_term stored.term_spans args (StoredApp h (span_from (length cs) (length args))) app_ok app_turn
-          ∙ ap (λ xs. map (term_node cs) ts ++ AppNode h (places xs) ∷ []) (children_behind cs args)) i;
-      forms = map (form_node ls) fs;
+    pub app_view : (old : DeepNodes) → deep_of cs ls ts fs ≡ old → deep_of ds ls us fs ≡ deep_term old (AppNode h (places args)) depth
+    app_view old view = subst (λ n. deep_of ds ls us fs ≡ deep_term n (AppNode h (places args)) depth) view (rw (pushed, behind) (λ i. record {
+      nodes = record {
+        terms = (push_view term_span term_node argument_count IsTermStored term_same term_more term_less term_counts cs ts stored.each_term stored.term_spans args (StoredApp h (span_from (length cs) (length args)) depth) app_ok app_turn
+            ∙ ap (λ xs. map (term_node cs) ts ++ AppNode h (places xs) ∷ []) (children_behind cs args)) i;
+        forms = map (form_node ls) fs;
+      };
+      depths = map-append stored_term_depth ts (StoredApp h (span_from (length cs) (length args)) depth ∷ []) i;
     }))
 
   -- a formula was pushed
@@ -333,17 +337,20 @@ module _ (cs ls : List At) (ts : List StoredTerm) (fs : List StoredForm) (stored
       form_spans = push_turn form_span form_node load_argument_count IsFormStored form_same form_more form_less form_counts ls fs stored.each_form stored.form_spans (load_arguments_of view) (stored_as (length ls) view) (stored_as-ok ls view) (stored_as-turn ls view);
     })
 
-    pub form_view : (old : Nodes) → nodes_of cs ls ts fs ≡ old → nodes_of cs ds ts gs ≡ with_form old (node_of view)
-    form_view old is = subst (λ n. nodes_of cs ds ts gs ≡ with_form n (node_of view)) is (rw (pushed, behind) (λ i. record {
-      terms = map (term_node cs) ts;
-      forms = (push_view form_span form_node load_argument_count IsFormStored form_same form_more form_less form_counts ls fs stored.each_form stored.form_spans (load_arguments_of view) (stored_as (length ls) view) (stored_as-ok ls view) (stored_as-turn ls view)
-          ∙ ap (λ n. map (form_node ls) fs ++ n ∷ []) (stored_as-node ls view)) i;
+    pub form_view : (old : DeepNodes) → deep_of cs ls ts fs ≡ old → deep_of cs ds ts gs ≡ deep_form old (node_of view)
+    form_view old is = subst (λ n. deep_of cs ds ts gs ≡ deep_form n (node_of view)) is (rw (pushed, behind) (λ i. record {
+      nodes = record {
+        terms = map (term_node cs) ts;
+        forms = (push_view form_span form_node load_argument_count IsFormStored form_same form_more form_less form_counts ls fs stored.each_form stored.form_spans (load_arguments_of view) (stored_as (length ls) view) (stored_as-ok ls view) (stored_as-turn ls view)
+            ∙ ap (λ n. map (form_node ls) fs ++ n ∷ []) (stored_as-node ls view)) i;
+      };
+      depths = map stored_term_depth ts;
     }))
 
   -- the numbers of nodes and of children
-  pub stored_size : (old : Nodes) → nodes_of cs ls ts fs ≡ old → (size : BankSize) → size.terms ≡ length ts → size.forms ≡ length fs → size.arguments ≡ length cs
-      → size.load_arguments ≡ length ls → size ≡ size_of old
-  stored_size old view size a b c d = subst (λ n. size ≡ size_of n) view (λ i. record {
+  pub stored_size : (old : DeepNodes) → deep_of cs ls ts fs ≡ old → (size : BankSize) → size.terms ≡ length ts → size.forms ≡ length fs → size.arguments ≡ length cs
+      → size.load_arguments ≡ length ls → size ≡ size_of old.nodes
+  stored_size old view size a b c d = subst (λ n. size ≡ size_of n.nodes) view (λ i. record {
     terms = (a ∙ sym (length-map ts (term_node cs))) i;
     forms = (b ∙ sym (length-map fs (form_node ls))) i;
     arguments = (c ∙ sym (all_counts term_span term_node argument_count IsTermStored term_same term_more term_less term_counts cs ts stored.each_term stored.term_spans)) i;
@@ -384,12 +391,12 @@ module _ (cs ls : List At) (ts : List StoredTerm) (fs : List StoredForm) (stored
       pub stored_cut : IsStored cs' ls' ts' fs'
       stored_cut = rw (a, b, d, e) stored_front
 
-      pub cut_nodes : nodes_of cs' ls' ts' fs' ≡ front (nodes_of cs ls ts fs) size
-      cut_nodes = rw (a, b, d, e) front_view
+      pub cut_nodes : deep_of cs' ls' ts' fs' ≡ deep_front (deep_of cs ls ts fs) size
+      cut_nodes = rw (a, b, d, e) (λ i. record { nodes = front_view i; depths = sym (take-map stored_term_depth size.terms ts) i })
 
 -- the size of what stands first, by the nodes that callers see
-pub front_of : (nodes old : Nodes) → nodes ≡ old → (size : BankSize) → size_of (front old size) ≡ size → size_of (front nodes size) ≡ size
-front_of nodes old view size is = subst (λ n. size_of (front n size) ≡ size) (sym view) is
+pub front_of : (nodes old : DeepNodes) → nodes ≡ old → (size : BankSize) → size_of (front old.nodes size) ≡ size → size_of (front nodes.nodes size) ≡ size
+front_of nodes old view size is = subst (λ n. size_of (front n.nodes size) ≡ size) (sym view) is
 
 -- ---- after a call that may refuse
 

@@ -11,6 +11,7 @@ use Rattle.ll_bank.specs.declared.flat.StoredForm.{StoredForm}
 use Rattle.ll_bank.specs.declared.flat.StoredForm.TheVariants.{Top as StoredTop, One as StoredOne, Atom as StoredAtom, With as StoredWith, Tensor as StoredTensor, Plus as StoredPlus, Bang as StoredBang, Lolli as StoredLolli, Imp as StoredImp, Forall as StoredForall, Exists as StoredExists, Use as StoredUse, Is as StoredIs, Less as StoredLess, Most as StoredMost}
 use Rattle.ll_bank.specs.Nodes.{Nodes, TermNode, VarNode, IntNode, AppNode, FormulaNode, TopNode, OneNode, AtomNode, WithNode, TensorNode, PlusNode, BangNode, LolliNode, ImpNode, ForallNode, ExistsNode, UseNode, NumNode, places}
 use Rattle.ll_bank.specs.Form.{Is, Less, Most}
+use Rattle.ll_bank.specs.Kept.{DeepNodes}
 
 -- the children of a span
 abbrev pub children_of : List At → Span → List At
@@ -20,7 +21,7 @@ children_of children span = slice_range children span.from span.to
 abbrev pub term_node : List At → StoredTerm → TermNode
 term_node children (StoredVar n) = VarNode n
 term_node children (StoredInt z) = IntNode z
-term_node children (StoredApp h args) = AppNode h (places (children_of children args))
+term_node children (StoredApp h args d) = AppNode h (places (children_of children args))
 
 -- the node of a stored formula
 abbrev pub form_node : List At → StoredForm → FormulaNode
@@ -43,6 +44,15 @@ form_node children (StoredMost t u) = NumNode Most t.0 u.0
 -- all nodes that are stored
 abbrev pub nodes_of : List At → List At → List StoredTerm → List StoredForm → Nodes
 nodes_of arguments load_arguments terms forms = record { terms = map (term_node arguments) terms; forms = map (form_node load_arguments) forms }
+
+-- the depth of a stored term
+abbrev pub stored_term_depth : StoredTerm → ℕ
+stored_term_depth (StoredApp h args d) = d
+stored_term_depth _ = 0
+
+-- and with the depth of each term
+abbrev pub deep_of : List At → List At → List StoredTerm → List StoredForm → DeepNodes
+deep_of arguments load_arguments terms forms = record { nodes = nodes_of arguments load_arguments terms forms; depths = map stored_term_depth terms }
 
 -- the span of so many children from a place on
 abbrev pub span_from : ℕ → ℕ → Span
@@ -79,7 +89,7 @@ IsWithin children span = (span.from ≤ span.to) × (span.to ≤ length children
 abbrev pub IsTermStored : List At → StoredTerm → Type 0
 IsTermStored children (StoredVar n) = Unit {0}
 IsTermStored children (StoredInt z) = FitsSigned w64 z
-IsTermStored children (StoredApp h args) = IsWithin children args
+IsTermStored children (StoredApp h args d) = IsWithin children args
 
 -- the arguments of a stored load lie within the children
 abbrev pub IsFormStored : List At → StoredForm → Type 0
@@ -88,7 +98,7 @@ IsFormStored children _ = Unit {0}
 
 -- where a stored term has its arguments
 abbrev pub term_span : StoredTerm → Option Span
-term_span (StoredApp h args) = Some args
+term_span (StoredApp h args d) = Some args
 term_span _ = None
 
 -- where a stored load has its arguments

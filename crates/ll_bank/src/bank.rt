@@ -1,10 +1,10 @@
 //! Terms and formulas, each at a place.
-ghost use Rattle.std.specs.Prelude.{◌≡◌, ℕ, ◌<◌, ◌≤◌, length, Some, IfOk, OnOk, OnErr, All, slice_get, slice_index};
+ghost use Rattle.std.specs.Prelude.{◌≡◌, ◌<◌, length, Some, IfOk, OnOk, OnErr, All, slice_get};
 ghost use Rattle.ll_bank.specs.Term.{Var as VarTerm, Int as IntTerm, app as app_term, term_depth};
 ghost use Rattle.ll_bank.specs.Nodes.{no_nodes, VarNode, IntNode, AppNode, places, node_of_term, node_of, with_term, with_form, term_tree, term_trees, form_of, HasTerm, HasForm, AllInTerms, HasParts, ShowsTerm, ShowsForm, Extends, IsTermView, IsFormView, IsTermBelow, size_of, HasSize, IsCutTo};
 ghost use Rattle.ll_bank.specs.Kept.{depth_over};
 
-use crate::flat::Flat;
+use crate::flat::{Flat, in_32_bits};
 use crate::{At, BankSize, FormAt, FormNode, Head, OutOfMemory, TermView};
 use std::alloc::Global;
 use std::marker::Model;
@@ -12,12 +12,10 @@ use std::marker::Model;
 /// Terms and formulas, each at a place, whose parts lie at lower places.
 ///
 /// Contracts see the list of its nodes, and a place as the tree that it shows. No call that adds places changes the tree of a place that
-/// it has.
+/// it has. Where a bank would come to more than 4,294,967,295 arguments of terms, or of loads, a call answers that memory ran out.
 #[derive(Drop)]
 pub struct Bank {
-    nodes: Flat,
-    // The depth of each term.
-    depths: Vec<usize>,
+    flat: Flat,
 }
 
 impl Model for Bank {
@@ -27,9 +25,9 @@ impl Model for Bank {
 
     ghost use Rattle.ll_bank.specs.Kept.{IsKept};
 
-    ghost view = { λ bank. bank.nodes };
+    ghost view = { λ bank. bank.flat.nodes };
 
-    ghost invariant = { λ bank. IsKept bank.nodes bank.depths.items };
+    ghost invariant = { λ bank. IsKept bank.flat.nodes bank.flat.depths };
 }
 
 impl Bank {
@@ -38,8 +36,7 @@ impl Bank {
         ensures { result ≡ no_nodes }
     {
         Bank {
-            nodes: Flat::new(alloc),
-            depths: Vec::new(alloc),
+            flat: Flat::new(alloc),
         }
     }
 
@@ -50,15 +47,9 @@ impl Bank {
         ensures keeps { Extends self.old self.new }
         ensures refused { OnErr result (self.new ≡ self.old) }
     {
-        let at = At(self.depths.len());
-        self.depths.push(0)?;
-        match self.nodes.push_var(number) {
-            Ok(()) => Ok(at),
-            Err(refused) => {
-                self.depths.truncate(at.0);
-                Err(refused)
-            }
-        }
+        let at = At(self.flat.count());
+        self.flat.push_var(number)?;
+        Ok(at)
     }
 
     /// A whole number. After a refusal the bank is as before.
@@ -68,15 +59,9 @@ impl Bank {
         ensures keeps { Extends self.old self.new }
         ensures refused { OnErr result (self.new ≡ self.old) }
     {
-        let at = At(self.depths.len());
-        self.depths.push(0)?;
-        match self.nodes.push_int(value) {
-            Ok(()) => Ok(at),
-            Err(refused) => {
-                self.depths.truncate(at.0);
-                Err(refused)
-            }
-        }
+        let at = At(self.flat.count());
+        self.flat.push_int(value)?;
+        Ok(at)
     }
 
     /// A head with arguments. After a refusal the bank is as before.
@@ -87,16 +72,10 @@ impl Bank {
         ensures keeps { Extends self.old self.new }
         ensures refused { OnErr result (self.new ≡ self.old) }
     {
-        let at = At(self.depths.len());
-        let depth = deepest(&self.depths, args);
-        self.depths.push(depth)?;
-        match self.nodes.push_app(head, args) {
-            Ok(()) => Ok(at),
-            Err(refused) => {
-                self.depths.truncate(at.0);
-                Err(refused)
-            }
-        }
+        let at = At(self.flat.count());
+        let depth = in_32_bits(deepest(&self.flat, args))?;
+        self.flat.push_app(head, args, depth)?;
+        Ok(at)
     }
 
     /// The formula that the node builds. After a refusal the bank is as before.
@@ -107,8 +86,8 @@ impl Bank {
         ensures keeps { Extends self.old self.new }
         ensures refused { OnErr result (self.new ≡ self.old) }
     {
-        let at = FormAt(self.nodes.size().forms);
-        self.nodes.push_form(node)?;
+        let at = FormAt(self.flat.size().forms);
+        self.flat.push_form(node)?;
         Ok(at)
     }
 
@@ -118,7 +97,7 @@ impl Bank {
         ensures shown { IsTermView self.now at.0 result }
         ensures node { slice_get self.now.terms at.0 ≡ Some (node_of_term result) }
     {
-        self.nodes.term(at.0)
+        self.flat.term(at.0)
     }
 
     /// What stands at the place of a formula.
@@ -127,7 +106,7 @@ impl Bank {
         ensures shown { IsFormView self.now at.0 result }
         ensures node { slice_get self.now.forms at.0 ≡ Some (node_of result) }
     {
-        self.nodes.form(at.0)
+        self.flat.form(at.0)
     }
 
     /// The depth of a term: 0 without arguments, else one more than that of its deepest argument. It takes constant time.
@@ -135,7 +114,7 @@ impl Bank {
         requires { HasTerm self.now at.0 }
         ensures { result ≡ term_depth (term_tree self.now at.0) }
     {
-        self.depths[at.0]
+        self.flat.depth(at.0) as usize
     }
 
     /// The numbers of terms, of formulas, and of the children of each.
@@ -143,7 +122,7 @@ impl Bank {
         ensures is { result ≡ size_of self.now }
         ensures had { HasSize self.now result }
     {
-        self.nodes.size()
+        self.flat.size()
     }
 
     /// Leaves the places of a size, with their trees. The others go.
@@ -151,8 +130,7 @@ impl Bank {
         requires { HasSize self.old size }
         ensures { IsCutTo size self.old self.new }
     {
-        self.nodes.cut(size);
-        self.depths.truncate(size.terms);
+        self.flat.cut(size);
     }
 
     /// A bank with exactly the places of a size, each with its tree.
@@ -160,9 +138,8 @@ impl Bank {
         requires { HasSize self.now size }
         ensures { IfOk result (IsCutTo size self.now) }
     {
-        let nodes = self.nodes.image(size)?;
-        let depths = Vec::from_slice(self.alloc(), &self.depths[..size.terms])?;
-        Ok(Bank { nodes, depths })
+        let flat = self.flat.image(size)?;
+        Ok(Bank { flat })
     }
 
     /// The term that the node builds. After a refusal the bank is as before.
@@ -182,19 +159,18 @@ impl Bank {
 
     /// What the bank takes memory from.
     pub(crate) fn alloc(&self) -> Global {
-        self.nodes.alloc()
+        self.flat.alloc()
     }
 }
 
 /// One more than the depth of the deepest argument, or 0 without arguments.
-fn deepest(depths: &[usize], args: &[At]) -> usize
-    requires inside { All (λ a. a.0 < length depths.now) args.now }
-    requires small { (k : ℕ) → k < length depths.now → slice_index depths.now k ≤ k }
-    ensures { result ≡ depth_over depths.now args.now }
+fn deepest(flat: &Flat, args: &[At]) -> usize
+    requires { All (λ a. a.0 < length flat.now.depths) args.now }
+    ensures { result ≡ depth_over flat.now.depths args.now }
 {
     let mut deepest = 0;
     for arg in args {
-        deepest = deepest.max(depths[arg.0] + 1);
+        deepest = deepest.max(flat.depth(arg.0) as usize + 1);
     }
     deepest
 }

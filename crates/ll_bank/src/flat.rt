@@ -1,26 +1,27 @@
 //! Nodes of terms and formulas in flat vectors.
-ghost use Rattle.std.specs.Prelude.{◌≡◌, ◌<◌, [], ◌∷◌, ◌++◌, length, Some, IfOk, OnOk, OnErr, slice_get};
-ghost use Rattle.ll_bank.specs.Nodes.{no_nodes, VarNode, IntNode, AppNode, places, node_of_term, node_of, with_term, with_form, size_of, front};
-ghost use Rattle.ll_bank.specs.Storage.{IsTermStored, IsFormStored, term_node, form_node, span_from, stored_as, load_arguments_of};
+ghost use Rattle.std.specs.Prelude.{◌≡◌, ◌<◌, [], ◌∷◌, ◌++◌, length, Some, IfOk, OnOk, OnErr, slice_get, slice_index};
+ghost use Rattle.ll_bank.specs.Nodes.{VarNode, IntNode, AppNode, places, node_of_term, node_of, with_term, size_of, front};
+ghost use Rattle.ll_bank.specs.Kept.{no_deep, deep_term, deep_form, deep_front};
+ghost use Rattle.ll_bank.specs.Storage.{IsTermStored, IsFormStored, term_node, form_node, stored_term_depth, span_from, stored_as, load_arguments_of};
 ghost use Rattle.ll_bank.specs.declared.flat.StoredTerm.TheVariants.{App as StoredApp};
 
 use crate::{At, BankSize, FormAt, FormNode, Head, OutOfMemory, TermView};
-use std::alloc::Global;
+use std::alloc::{AllocError, Global};
 use std::marker::Model;
 
 /// A range of the children that all nodes of a kind share.
 #[derive(Clone, Copy)]
 struct Span {
-    from: usize,
-    to: usize,
+    from: u32,
+    to: u32,
 }
 
-/// A term's node.
+/// A term's node. With arguments it has the term's depth beside them.
 #[derive(Clone, Copy)]
 enum StoredTerm {
     Var(u64),
     Int(i64),
-    App(Head, Span),
+    App(Head, Span, u32),
 }
 
 /// A formula's node.
@@ -43,7 +44,9 @@ enum StoredForm {
     Most(At, At),
 }
 
-/// Nodes of terms and formulas, each at its place. Contracts see their lists.
+/// Nodes of terms and formulas, each at its place, and the depth of each term. Contracts see their lists.
+///
+/// Children and depths are counted in 32 bits. What would come past 4,294,967,295 of them is refused.
 #[derive(Drop)]
 pub(crate) struct Flat {
     terms: Vec<StoredTerm>,
@@ -55,13 +58,13 @@ pub(crate) struct Flat {
 }
 
 impl Model for Flat {
-    ghost use Rattle.ll_bank.specs.Nodes.{Nodes};
+    ghost use Rattle.ll_bank.specs.Kept.{DeepNodes};
 
-    ghost Value = { Nodes };
+    ghost Value = { DeepNodes };
 
-    ghost use Rattle.ll_bank.specs.Storage.{nodes_of, IsStored};
+    ghost use Rattle.ll_bank.specs.Storage.{deep_of, IsStored};
 
-    ghost view = { λ flat. nodes_of flat.arguments.items flat.load_arguments.items flat.terms.items flat.forms.items };
+    ghost view = { λ flat. deep_of flat.arguments.items flat.load_arguments.items flat.terms.items flat.forms.items };
 
     ghost invariant = { λ flat. IsStored flat.arguments.items flat.load_arguments.items flat.terms.items flat.forms.items };
 }
@@ -69,7 +72,7 @@ impl Model for Flat {
 impl Flat {
     /// No nodes.
     pub(crate) fn new(alloc: Global) -> Self
-        ensures { result ≡ no_nodes }
+        ensures { result ≡ no_deep }
     {
         Flat {
             terms: Vec::new(alloc),
@@ -86,7 +89,7 @@ impl Flat {
 
     /// Puts a variable behind the terms. After a refusal the nodes are as before.
     pub(crate) fn push_var(&mut self, number: u64) -> Result<(), OutOfMemory>
-        ensures added { OnOk result (self.new ≡ with_term self.old (VarNode number)) }
+        ensures added { OnOk result (self.new ≡ deep_term self.old (VarNode number) 0) }
         ensures refused { OnErr result (self.new ≡ self.old) }
     {
         self.terms.push(StoredTerm::Var(number))?;
@@ -95,36 +98,41 @@ impl Flat {
 
     /// Puts a whole number behind the terms. After a refusal the nodes are as before.
     pub(crate) fn push_int(&mut self, value: i64) -> Result<(), OutOfMemory>
-        ensures added { OnOk result (self.new ≡ with_term self.old (IntNode value)) }
+        ensures added { OnOk result (self.new ≡ deep_term self.old (IntNode value) 0) }
         ensures refused { OnErr result (self.new ≡ self.old) }
     {
         self.terms.push(StoredTerm::Int(value))?;
         Ok(())
     }
 
-    /// Puts a head with arguments behind the terms. After a refusal the nodes are as before.
-    pub(crate) fn push_app(&mut self, head: Head, args: &[At]) -> Result<(), OutOfMemory>
-        ensures added { OnOk result (self.new ≡ with_term self.old (AppNode head (places args.now))) }
+    /// Puts a head with arguments, of this depth, behind the terms. After a refusal the nodes are as before.
+    pub(crate) fn push_app(
+        &mut self,
+        head: Head,
+        args: &[At],
+        depth: u32,
+    ) -> Result<(), OutOfMemory>
+        ensures added { OnOk result (self.new ≡ deep_term self.old (AppNode head (places args.now)) depth) }
         ensures refused { OnErr result (self.new ≡ self.old) }
     {
-        store_app(&mut self.terms, &mut self.arguments, head, args)
+        store_app(&mut self.terms, &mut self.arguments, head, args, depth)
     }
 
-    /// Puts a term behind the terms. After a refusal the nodes are as before.
+    /// Puts a term without its depth behind the terms. After a refusal the nodes are as before.
     pub(crate) fn push_term(&mut self, node: TermView<'_>) -> Result<(), OutOfMemory>
-        ensures added { OnOk result (self.new ≡ with_term self.old (node_of_term node.entry)) }
+        ensures added { OnOk result (self.new.nodes ≡ with_term self.old.nodes (node_of_term node.entry)) }
         ensures refused { OnErr result (self.new ≡ self.old) }
     {
         match node {
             TermView::Var(number) => self.push_var(number),
             TermView::Int(value) => self.push_int(value),
-            TermView::App(head, args) => self.push_app(head, args),
+            TermView::App(head, args) => self.push_app(head, args, 0),
         }
     }
 
     /// Puts a formula behind the formulas. After a refusal the nodes are as before.
     pub(crate) fn push_form(&mut self, node: FormNode<'_>) -> Result<(), OutOfMemory>
-        ensures added { OnOk result (self.new ≡ with_form self.old (node_of node.entry)) }
+        ensures added { OnOk result (self.new ≡ deep_form self.old (node_of node.entry)) }
         ensures refused { OnErr result (self.new ≡ self.old) }
     {
         store_form(&mut self.forms, &mut self.load_arguments, node)
@@ -132,23 +140,38 @@ impl Flat {
 
     /// The node at the place of a term.
     pub(crate) fn term(&self, at: usize) -> TermView<'_>
-        requires { at < length self.now.terms }
-        ensures { slice_get self.now.terms at ≡ Some (node_of_term result) }
+        requires { at < length self.now.nodes.terms }
+        ensures { slice_get self.now.nodes.terms at ≡ Some (node_of_term result) }
     {
         shown_term(&self.arguments, self.terms[at])
     }
 
     /// The node at the place of a formula.
     pub(crate) fn form(&self, at: usize) -> FormNode<'_>
-        requires { at < length self.now.forms }
-        ensures { slice_get self.now.forms at ≡ Some (node_of result) }
+        requires { at < length self.now.nodes.forms }
+        ensures { slice_get self.now.nodes.forms at ≡ Some (node_of result) }
     {
         shown_form(&self.load_arguments, self.forms[at])
     }
 
+    /// The depth of the term at a place.
+    pub(crate) fn depth(&self, at: usize) -> u32
+        requires { at < length self.now.depths }
+        ensures { result ≡ slice_index self.now.depths at }
+    {
+        stored_depth(self.terms[at])
+    }
+
+    /// How many terms there are.
+    pub(crate) fn count(&self) -> usize
+        ensures { result ≡ length self.now.nodes.terms }
+    {
+        self.terms.len()
+    }
+
     /// The numbers of terms, of formulas, and of the arguments of each.
     pub(crate) fn size(&self) -> BankSize
-        ensures { result ≡ size_of self.now }
+        ensures { result ≡ size_of self.now.nodes }
     {
         BankSize {
             terms: self.terms.len(),
@@ -160,8 +183,8 @@ impl Flat {
 
     /// Leaves the first nodes, as many as the size counts.
     pub(crate) fn cut(&mut self, size: BankSize)
-        requires { size_of (front self.old size) ≡ size }
-        ensures { self.new ≡ front self.old size }
+        requires { size_of (front self.old.nodes size) ≡ size }
+        ensures { self.new ≡ deep_front self.old size }
     {
         self.terms.truncate(size.terms);
         self.forms.truncate(size.forms);
@@ -171,8 +194,8 @@ impl Flat {
 
     /// A copy of the first nodes, as many as the size counts.
     pub(crate) fn image(&self, size: BankSize) -> Result<Flat, OutOfMemory>
-        requires { size_of (front self.now size) ≡ size }
-        ensures { IfOk result (λ image. image ≡ front self.now size) }
+        requires { size_of (front self.now.nodes size) ≡ size }
+        ensures { IfOk result (λ image. image ≡ deep_front self.now size) }
     {
         let alloc = self.alloc();
         let terms = Vec::from_slice(alloc, &self.terms[..size.terms])?;
@@ -188,22 +211,45 @@ impl Flat {
     }
 }
 
+/// A number as 32 bits hold it. What they do not hold is want of memory.
+pub(crate) fn in_32_bits(number: usize) -> Result<u32, OutOfMemory>
+    ensures { IfOk result (λ same. same ≡ number) }
+{
+    match u32::try_from(number) {
+        Ok(number) => Ok(number),
+        Err(_) => Err(AllocError),
+    }
+}
+
+/// The span of so many children from a place on.
+fn span_behind(from: usize, count: usize) -> Result<Span, OutOfMemory>
+    ensures { IfOk result (λ span. span ≡ span_from from count) }
+{
+    let Some(to) = from.checked_add(count) else {
+        return Err(AllocError);
+    };
+    let from = in_32_bits(from)?;
+    let to = in_32_bits(to)?;
+    Ok(Span { from, to })
+}
+
 /// Puts a head behind the terms and its arguments behind the children. After a refusal both are as before.
 fn store_app(
     terms: &mut Vec<StoredTerm>,
     arguments: &mut Vec<At>,
     head: Head,
     args: &[At],
+    depth: u32,
 ) -> Result<(), OutOfMemory>
-    ensures stored { OnOk result (terms.new.items ≡ terms.old.items ++ StoredApp head (span_from (length arguments.old.items) (length args.now)) ∷ []) }
+    ensures stored { OnOk result (terms.new.items ≡ terms.old.items ++ StoredApp head (span_from (length arguments.old.items) (length args.now)) depth ∷ []) }
     ensures behind { OnOk result (arguments.new.items ≡ arguments.old.items ++ args.now) }
     ensures refused_terms { OnErr result (terms.new.items ≡ terms.old.items) }
     ensures refused_arguments { OnErr result (arguments.new.items ≡ arguments.old.items) }
 {
     let from = arguments.len();
+    let span = span_behind(from, args.len())?;
     arguments.extend_from_slice(args)?;
-    let to = arguments.len();
-    if let Err(refused) = terms.push(StoredTerm::App(head, Span { from, to })) {
+    if let Err(refused) = terms.push(StoredTerm::App(head, span, depth)) {
         arguments.truncate(from);
         return Err(OutOfMemory::from(refused));
     }
@@ -249,10 +295,9 @@ fn stored_form(arguments: &mut Vec<At>, node: FormNode<'_>) -> Result<StoredForm
         FormNode::Forall(body) => Ok(StoredForm::Forall(body)),
         FormNode::Exists(body) => Ok(StoredForm::Exists(body)),
         FormNode::Use(module, args, goal) => {
-            let from = arguments.len();
+            let span = span_behind(arguments.len(), args.len())?;
             arguments.extend_from_slice(args)?;
-            let to = arguments.len();
-            Ok(StoredForm::Use(module, Span { from, to }, goal))
+            Ok(StoredForm::Use(module, span, goal))
         }
         FormNode::Is(left, right) => Ok(StoredForm::Is(left, right)),
         FormNode::Less(left, right) => Ok(StoredForm::Less(left, right)),
@@ -268,7 +313,19 @@ fn shown_term(children: &[At], term: StoredTerm) -> TermView<'_>
     match term {
         StoredTerm::Var(number) => TermView::Var(number),
         StoredTerm::Int(value) => TermView::Int(value),
-        StoredTerm::App(head, args) => TermView::App(head, &children[args.from..args.to]),
+        StoredTerm::App(head, args, _) => {
+            TermView::App(head, &children[args.from as usize..args.to as usize])
+        }
+    }
+}
+
+/// The depth that a stored term has.
+fn stored_depth(term: StoredTerm) -> u32
+    ensures { result ≡ stored_term_depth term }
+{
+    match term {
+        StoredTerm::App(_, _, depth) => depth,
+        StoredTerm::Var(_) | StoredTerm::Int(_) => 0,
     }
 }
 
@@ -290,7 +347,8 @@ fn shown_form(children: &[At], form: StoredForm) -> FormNode<'_>
         StoredForm::Forall(body) => FormNode::Forall(body),
         StoredForm::Exists(body) => FormNode::Exists(body),
         StoredForm::Use(module, args, goal) => {
-            FormNode::Use(module, &children[args.from..args.to], goal)
+            let args = &children[args.from as usize..args.to as usize];
+            FormNode::Use(module, args, goal)
         }
         StoredForm::Is(left, right) => FormNode::Is(left, right),
         StoredForm::Less(left, right) => FormNode::Less(left, right),

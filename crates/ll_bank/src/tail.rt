@@ -12,7 +12,7 @@ use std::marker::Model;
 pub struct BankTail {
     from: BankSize,
     to: BankSize,
-    nodes: Flat,
+    flat: Flat,
 }
 
 impl Model for BankTail {
@@ -20,9 +20,9 @@ impl Model for BankTail {
 
     ghost Value = { Tail };
 
-    ghost view = { λ tail. record { from = tail.from; to = tail.to; nodes = tail.nodes } };
+    ghost view = { λ tail. record { from = tail.from; to = tail.to; nodes = tail.flat.nodes } };
 
-    ghost invariant = { λ tail. IsBehind (record { from = tail.from; to = tail.to; nodes = tail.nodes }) };
+    ghost invariant = { λ tail. IsBehind (record { from = tail.from; to = tail.to; nodes = tail.flat.nodes }) };
 }
 
 impl Bank {
@@ -34,10 +34,10 @@ impl Bank {
         ensures nodes { IfOk result (IsTailOf self.now) }
         ensures sizes { IfOk result (λ tail. (tail.from ≡ from) × (tail.to ≡ to)) }
     {
-        let mut nodes = Flat::new(self.alloc());
-        copy_terms(self, from.terms, to.terms, &mut nodes)?;
-        copy_forms(self, from.forms, to.forms, &mut nodes)?;
-        Ok(BankTail { from, to, nodes })
+        let mut flat = Flat::new(self.alloc());
+        copy_terms(self, from.terms, to.terms, &mut flat)?;
+        copy_forms(self, from.forms, to.forms, &mut flat)?;
+        Ok(BankTail { from, to, flat })
     }
 
     /// Puts the nodes of the tail behind the bank's, over equal places. The bank has the size at which the tail begins.
@@ -52,58 +52,58 @@ impl Bank {
         // Where the old places show the trees of the tail's bank, the new ones do too.
         ensures same { OnOk result ((bank : Nodes) → IsTailOf bank tail.now → SameTrees tail.now.from bank self.old → SameTrees tail.now.to bank self.new) }
     {
-        let nodes = &tail.nodes;
-        add_terms(self, nodes)?;
-        add_forms(self, nodes)?;
+        let flat = &tail.flat;
+        add_terms(self, flat)?;
+        add_forms(self, flat)?;
         let _size = self.size();
         Ok(())
     }
 }
 
 /// Copies the terms of a bank from one place up to another.
-fn copy_terms(bank: &Bank, from: usize, to: usize, nodes: &mut Flat) -> Result<(), OutOfMemory>
+fn copy_terms(bank: &Bank, from: usize, to: usize, flat: &mut Flat) -> Result<(), OutOfMemory>
     requires order { from ≤ to }
     requires inside { to ≤ length bank.now.terms }
-    ensures { OnOk result (nodes.new ≡ with_terms nodes.old (drop from (take to bank.now.terms))) }
+    ensures { OnOk result (flat.new.nodes ≡ with_terms flat.old.nodes (drop from (take to bank.now.terms))) }
 {
     for at in from..to {
-        nodes.push_term(bank.term_at(At(at)))?;
+        flat.push_term(bank.term_at(At(at)))?;
     }
     Ok(())
 }
 
 /// Copies the formulas of a bank from one place up to another.
-fn copy_forms(bank: &Bank, from: usize, to: usize, nodes: &mut Flat) -> Result<(), OutOfMemory>
+fn copy_forms(bank: &Bank, from: usize, to: usize, flat: &mut Flat) -> Result<(), OutOfMemory>
     requires order { from ≤ to }
     requires inside { to ≤ length bank.now.forms }
-    ensures { OnOk result (nodes.new ≡ with_forms nodes.old (drop from (take to bank.now.forms))) }
+    ensures { OnOk result (flat.new.nodes ≡ with_forms flat.old.nodes (drop from (take to bank.now.forms))) }
 {
     for at in from..to {
-        nodes.push_form(bank.form_at(FormAt(at)))?;
+        flat.push_form(bank.form_at(FormAt(at)))?;
     }
     Ok(())
 }
 
 /// Puts the terms behind those of the bank. After a refusal the bank may have some of them.
-fn add_terms(bank: &mut Bank, nodes: &Flat) -> Result<(), OutOfMemory>
-    requires { (i : ℕ) (d : TermNode) → i < length nodes.now.terms → IsTermBelow (length bank.old.terms + i) (slice_index_or nodes.now.terms i d) }
+fn add_terms(bank: &mut Bank, flat: &Flat) -> Result<(), OutOfMemory>
+    requires { (i : ℕ) (d : TermNode) → i < length flat.now.nodes.terms → IsTermBelow (length bank.old.terms + i) (slice_index_or flat.now.nodes.terms i d) }
     ensures keeps { Extends bank.old bank.new }
-    ensures added { OnOk result (bank.new ≡ with_terms bank.old nodes.now.terms) }
+    ensures added { OnOk result (bank.new ≡ with_terms bank.old flat.now.nodes.terms) }
 {
-    for i in 0..nodes.size().terms {
-        bank.add_term(nodes.term(i))?;
+    for i in 0..flat.size().terms {
+        bank.add_term(flat.term(i))?;
     }
     Ok(())
 }
 
 /// Puts the formulas behind those of the bank. After a refusal the bank may have some of them.
-fn add_forms(bank: &mut Bank, nodes: &Flat) -> Result<(), OutOfMemory>
-    requires { (i : ℕ) (d : FormulaNode) → i < length nodes.now.forms → IsFormBelow (length bank.old.terms) (length bank.old.forms + i) (slice_index_or nodes.now.forms i d) }
+fn add_forms(bank: &mut Bank, flat: &Flat) -> Result<(), OutOfMemory>
+    requires { (i : ℕ) (d : FormulaNode) → i < length flat.now.nodes.forms → IsFormBelow (length bank.old.terms) (length bank.old.forms + i) (slice_index_or flat.now.nodes.forms i d) }
     ensures keeps { Extends bank.old bank.new }
-    ensures added { OnOk result (bank.new ≡ with_forms bank.old nodes.now.forms) }
+    ensures added { OnOk result (bank.new ≡ with_forms bank.old flat.now.nodes.forms) }
 {
-    for i in 0..nodes.size().forms {
-        bank.form(nodes.form(i))?;
+    for i in 0..flat.size().forms {
+        bank.form(flat.form(i))?;
     }
     Ok(())
 }

@@ -10,17 +10,17 @@ loop-i-init c = none_added_forms c.args.bank.now
 
 pub form-requires-in-loop-i : goal.form-requires-in-loop-i
 form-requires-in-loop-i c =
-    let s = ap (λ s. s.forms) c.size-i-end.ensures in let l : c.loop-i.i < length c.args.nodes.now.forms = omega arith in
-    form_fits c.args.bank.now c.loop-i.bank c.args.nodes.now c.loop-i.i c.form.result c.loop-i.invariant.is l c.form.ensures
+    let s = ap (λ s. s.forms) c.size-i-end.ensures in let l : c.loop-i.i < length c.args.flat.now.nodes.forms = omega arith in
+    form_fits c.args.bank.now c.loop-i.bank c.args.flat.now.nodes c.loop-i.i c.form.result c.loop-i.invariant.is l c.form.ensures
     (c.requires c.loop-i.i (node_of c.form.result) l)
 
 pub loop-i-preserved : goal.loop-i-preserved
 loop-i-preserved c =
     let s = ap (λ s. s.forms) c.size-i-end.ensures in
-    form_added c.args.bank.now c.loop-i.bank c.form-in-loop-i.new.self c.args.nodes.now c.loop-i.i (node_of c.form.result) c.loop-i.invariant c.in_ok-form.ensures.added
+    form_added c.args.bank.now c.loop-i.bank c.form-in-loop-i.new.self c.args.flat.now.nodes c.loop-i.i (node_of c.form.result) c.loop-i.invariant c.in_ok-form.ensures.added
     c.in_ok-form.ensures.keeps (omega arith) c.form.ensures
 
 pub returns-clause-added : goal.returns-clause-added
 returns-clause-added c =
     let s = ap (λ s. s.forms) c.size-i-end.ensures in
-    c.loop-i.invariant.is ∙ ap (with_forms c.args.bank.now) (take_all c.loop-i.i c.args.nodes.now.forms (omega arith))
+    c.loop-i.invariant.is ∙ ap (with_forms c.args.bank.now) (take_all c.loop-i.i c.args.flat.now.nodes.forms (omega arith))

@@ -1,25 +1,23 @@
-use Rattle.std.proofs.Common.{rules, refl, ◌∙◌}
+use Rattle.std.proofs.Common.{refl, ap, ◌∙◌}
 use Rattle.ll_bank.specs.Nodes.{VarNode}
 use Rattle.ll_bank.proofs.Trees.{Extends-same}
 use Rattle.ll_bank.proofs.BankLemmas.{kept_more, term_extends, term_shown}
 use Rattle.ll_bank.proofs.bank.Bank.var.Goals as goal
 
-pub returns-in_err-push-clause-keeps : goal.returns-in_err-push-clause-keeps
-returns-in_err-push-clause-keeps c = Extends-same _ _ c.self.view_is
+pub returns-in_err-push_var-clause-keeps : goal.returns-in_err-push_var-clause-keeps
+returns-in_err-push_var-clause-keeps c = Extends-same _ _ (ap (λ f. f.nodes) c.in_err-push_var.ensures.refused ∙ c.self.view_is)
 
-pub invariant_of-self-in-Ok : goal.invariant_of-self-in-Ok
-invariant_of-self-in-Ok c =
-    kept_more c.self.inside.nodes c.args.self.now c.self.view_is c.self.inside.depths.items c.self.invariant c.push_var.new.self (VarNode c.args.number) c.in-Ok.ensures.added
-    0 c.push.new.self.items c.in_ok-push.ensures.items tt refl
+pub invariant_of-self-2 : goal.invariant_of-self-2
+invariant_of-self-2 c =
+    kept_more c.self.inside.flat.nodes c.args.self.now c.self.view_is c.self.inside.flat.depths c.self.invariant c.push_var.new.self.nodes (VarNode c.args.number)
+    (ap (λ f. f.nodes) c.in_ok-push_var.ensures.added) 0 c.push_var.new.self.depths (ap (λ f. f.depths) c.in_ok-push_var.ensures.added) tt refl
 
-pub returns-in-Ok-clause-shows : goal.returns-in-Ok-clause-shows
-returns-in-Ok-clause-shows c =
-    term_shown c.self.inside.nodes c.args.self.now c.self.view_is c.self.inside.depths.items c.self.invariant c.push_var.new.self (VarNode c.args.number) c.in-Ok.ensures.added
-    c.len.result _ (search rules) refl
+pub returns-clause-shows : goal.returns-clause-shows
+returns-clause-shows c =
+    term_shown c.self.inside.flat.nodes c.args.self.now c.self.view_is c.self.inside.flat.depths c.self.invariant c.push_var.new.self.nodes (VarNode c.args.number)
+    (ap (λ f. f.nodes) c.in_ok-push_var.ensures.added) c.count.result _ c.count.ensures refl
 
-pub returns-in-Ok-clause-keeps : goal.returns-in-Ok-clause-keeps
-returns-in-Ok-clause-keeps c =
-    term_extends c.self.inside.nodes c.args.self.now c.self.view_is c.self.inside.depths.items c.self.invariant c.push_var.new.self (VarNode c.args.number) c.in-Ok.ensures.added
-
-pub returns-in-Err-clause-keeps : goal.returns-in-Err-clause-keeps
-returns-in-Err-clause-keeps c = Extends-same _ _ (c.in-Err.ensures.refused ∙ c.self.view_is)
+pub returns-clause-keeps : goal.returns-clause-keeps
+returns-clause-keeps c =
+    term_extends c.self.inside.flat.nodes c.args.self.now c.self.view_is c.self.inside.flat.depths c.self.invariant c.push_var.new.self.nodes (VarNode c.args.number)
+    (ap (λ f. f.nodes) c.in_ok-push_var.ensures.added)

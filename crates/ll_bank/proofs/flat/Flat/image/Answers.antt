@@ -1,6 +1,6 @@
 use Rattle.std.proofs.Common.{ap, sym, ◌∙◌, take, length}
 use Rattle.std.proofs.lemmas.List.{length-take-le}
-use Rattle.ll_bank.specs.Nodes.{front}
+use Rattle.ll_bank.specs.Kept.{deep_front}
 use Rattle.ll_bank.proofs.FlatLemmas.{stored_cut, cut_nodes, front_of, arguments_le, load_arguments_le}
 use Rattle.ll_bank.proofs.flat.Flat.image.Goals as goal
 
@@ -37,4 +37,4 @@ returns c =
     (c.in_ok-load_arguments.ensures.items ∙ ap (take c.args.size.load_arguments) c.deref-4.ensures.value)
     (c.in_ok-terms.ensures.items ∙ ap (take c.args.size.terms) c.deref.ensures.value)
     (c.in_ok-forms.ensures.items ∙ ap (take c.args.size.forms) c.deref-2.ensures.value)
-    ∙ ap (λ n. front n c.args.size) c.self.view_is
+    ∙ ap (λ n. deep_front n c.args.size) c.self.view_is

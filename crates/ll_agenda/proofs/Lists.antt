@@ -3,7 +3,7 @@ use Rattle.std.proofs.Common.{◌≡◌, ℕ, suc, ◌+◌, ◌<◌, ◌≤◌, 
 use Rattle.std.proofs.Math.Seq.{get_or-append_seam, take-suc}
 use Rattle.std.proofs.lemmas.List.{append-nil, take-append-drop, length-take-le}
 use Rattle.ll_bank.specs.Nodes.{grow}
-use Rattle.ll_bank.proofs.Growing.{grow-append, length-grow, get_or-grow}
+use Rattle.ll_bank.proofs.CallerLemmas.{grow-append, length-grow, get_or-grow}
 use Rattle.ll_agenda.specs.declared.agenda.Top.{Top}
 use Rattle.ll_agenda.specs.Frames.{Frames, list_of, items_at, HasTop, ShowsItems, BeginsWith, Extends, IsWellFounded}
 

@@ -10,12 +10,11 @@ use Rattle.ll_bank.specs.declared.Head.{Head}
 use Rattle.ll_bank.specs.declared.Head.TheVariants.{Name, Eigen, Bound}
 use Rattle.ll_bank.specs.Term.{Term, Var, Int, Con, Ap, Env, sub, app, apply, close, close_head, place, applies_heads, not_bound, occurs, same_predicate, head_eq}
 use Rattle.ll_bank.specs.Nodes.{Nodes, HasTerm, AllInTerms, ShowsTerm, Extends, term_tree, term_trees}
-use Rattle.ll_bank.proofs.Trees.{Extends-refl, Extends-trans, HasTerm-extends, term_tree-extends, AllInTerms-extends}
-use Rattle.ll_bank.proofs.OpenLemmas.{close-apply, heads_args}
+use Rattle.ll_bank.proofs.CallerLemmas.{Extends-refl, Extends-trans, HasTerm-extends, term_tree-extends, AllInTerms-extends, close-apply, heads_args}
 use Rattle.ll_laws.specs.Unify.{and_then, diff, diff_lists, Solved, solve}
-use Rattle.ll_laws.proofs.UnifyLaws.{head_eq-refl}
+use Rattle.ll_laws.proofs.CallerLemmas.{head_eq-refl}
 use Rattle.ll_close.specs.Closing.{env_of}
-use Rattle.ll_close.proofs.Values.{env_extends, head_value}
+use Rattle.ll_close.proofs.CallerLemmas.{env_extends, head_value}
 use Rattle.ll_bindings.specs.declared.fresh.Fresh.{Fresh}
 use Rattle.ll_bindings.specs.Bindings.{Table, count, found, unbound, Reaches, stands, through, HasCells, KeepsCells, IsPlaceOf, IsTable, IsEnd, AreSame}
 use Rattle.ll_bindings.specs.Spines.{args_in, weight}

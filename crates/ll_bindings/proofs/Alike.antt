@@ -9,8 +9,7 @@ use Rattle.ll_bank.specs.declared.Head.{Head}
 use Rattle.ll_bank.specs.Term.{Term, Var, Int, Con, Ap, sub, is_spine, head_of, arity, head_eq, same_head, same_predicate}
 use Rattle.ll_bank.specs.Nodes.{Nodes, term_tree}
 use Rattle.ll_laws.specs.Unify.{Diff, Same, Clash, Meet, and_then, when, diff, diff_lists, bound_to, Binding, resolve, solve}
-use Rattle.ll_laws.proofs.SubLaws.{sub_comp, map_map, map_same, and_left, and_right}
-use Rattle.ll_laws.proofs.UnifyLaws.{head_eq-refl}
+use Rattle.ll_laws.proofs.CallerLemmas.{sub_comp, map_map, map_same, and_left, and_right, head_eq-refl}
 use Rattle.ll_bindings.specs.Bindings.{Table}
 use Rattle.ll_bindings.specs.Spines.{args_in}
 use Rattle.ll_bindings.specs.Bindings.{Obeys}

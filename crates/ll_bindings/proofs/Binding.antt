@@ -10,8 +10,7 @@ use Rattle.ll_bank.specs.declared.Head.{Head}
 use Rattle.ll_bank.specs.Term.{Term, Var, Int, Con, Ap, sub, occurs, eigens_below, app}
 use Rattle.ll_bank.specs.Nodes.{Nodes, HasTerm, term_tree}
 use Rattle.ll_laws.specs.Unify.{bound_to, Binding, bind, bind_term, lower, is_older, diff, Meet, Same}
-use Rattle.ll_laws.proofs.SubLaws.{sub_comp}
-use Rattle.ll_laws.proofs.UnifyLaws.{level-lower, or_cases}
+use Rattle.ll_laws.proofs.CallerLemmas.{sub_comp, level-lower, or_cases}
 use Rattle.ll_bindings.specs.Bindings.{Table, then_bound, found, cell, count, Reaches, stands, through, HasCells, KeepsCells, IsPlaceOf, IsOrdered, IsTable, Obeys, IsEnd, IsSet, IsLowered, unbound, HasBound, Binds, IsMeeting, Meets, is_var}
 use Rattle.ll_bindings.specs.Scanned.{is_among, IsScan, is_bad}
 use Rattle.ll_bindings.proofs.Spines.{app-var}

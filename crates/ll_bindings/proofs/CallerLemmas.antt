@@ -6,20 +6,82 @@ use Rattle.std.proofs.lemmas.List.{length-replicate}
 use Rattle.ll_bank.specs.declared.At.{At}
 use Rattle.ll_bank.specs.Term.{Term, Var, Int, Con, Ap, sub, occurs}
 use Rattle.ll_bank.specs.Nodes.{Nodes, HasTerm, term_tree, Extends}
-use Rattle.ll_bank.proofs.Trees.{HasTerm-extends, term_tree-extends}
+use Rattle.ll_bank.proofs.CallerLemmas.{HasTerm-extends, term_tree-extends}
 use Rattle.ll_laws.specs.Unify.{vars_below, Solved, mgu}
-use Rattle.ll_laws.proofs.SubLaws.{and_left, and_right, sub_id}
-use Rattle.ll_laws.proofs.UnifyLaws.{or_cases}
+use Rattle.ll_laws.proofs.CallerLemmas.{and_left, and_right, sub_id, or_cases}
 use Rattle.ll_bindings.specs.Bindings.{Table, cell, count, shown, followed, found, Reaches, stands, through, IsPlaceOf, IsTable}
 use Rattle.ll_bindings.specs.Solving.{along, wanted}
+use Rattle.ll_bindings.proofs.Readings.{sub-agree, Obeys-found, found-only}
+-- ---- what is found for a variable
+
+-- for an unbound variable the variable itself is found
 pub use Rattle.ll_bindings.proofs.Readings.{found-free}
-pub use Rattle.ll_bindings.proofs.FreshLemmas.{clear-of, clear-var, fresh-keeps, fresh-first, clear-args, clear-join, clear-before, clear-behind, clear-same, none-false}
-pub use Rattle.ll_bindings.proofs.Spines.{args_in-app, weight-two, is_spine-app}
-pub use Rattle.ll_bindings.proofs.Alike.{diff-spine, diff-clash, diff-append, shape-length}
-pub use Rattle.ll_bindings.proofs.Pairs.{shape-app, spine-place, clash-int-app, clash-app-int}
-pub use Rattle.ll_bindings.proofs.Solving.{solves-alike, solves-none, solves-clash, solves-start}
-pub use Rattle.ll_bindings.proofs.Settling.{keeps-same, keeps-then}
-use Rattle.ll_bindings.proofs.Readings.{sub-agree, bound-inside, Obeys-found, found-only}
+-- ---- variables that no term mentions
+
+-- a term without the variable, and with eigenconstants below the level alone, is clear of it
+pub use Rattle.ll_bindings.proofs.FreshLemmas.{clear-of}
+-- another variable is clear
+pub use Rattle.ll_bindings.proofs.FreshLemmas.{clear-var}
+-- terms that are clear, and more of them, are clear together
+pub use Rattle.ll_bindings.proofs.FreshLemmas.{clear-join}
+-- of terms that are clear, those in front are
+pub use Rattle.ll_bindings.proofs.FreshLemmas.{clear-before}
+-- of terms that are clear, those behind are
+pub use Rattle.ll_bindings.proofs.FreshLemmas.{clear-behind}
+-- the arguments of a clear term are clear
+pub use Rattle.ll_bindings.proofs.FreshLemmas.{clear-args}
+-- a term that comes to the same under a substitution is as clear
+pub use Rattle.ll_bindings.proofs.FreshLemmas.{clear-same}
+-- of marks that all hold none fails
+pub use Rattle.ll_bindings.proofs.FreshLemmas.{none-false}
+-- terms in which no more stands leave new variables new
+pub use Rattle.ll_bindings.proofs.FreshLemmas.{fresh-keeps}
+-- variables that are new to terms are new to the first
+pub use Rattle.ll_bindings.proofs.FreshLemmas.{fresh-first}
+-- ---- heads and arguments
+
+-- the arguments of a head with arguments
+pub use Rattle.ll_bindings.proofs.Spines.{args_in-app}
+-- a term weighs two or more
+pub use Rattle.ll_bindings.proofs.Spines.{weight-two}
+-- a head with arguments begins with a head
+pub use Rattle.ll_bindings.proofs.Spines.{is_spine-app}
+-- a place that shows a head with arguments begins with a head
+pub use Rattle.ll_bindings.proofs.Pairs.{spine-place}
+-- two applications have one shape where their heads are equal and their arguments as many
+pub use Rattle.ll_bindings.proofs.Pairs.{shape-app}
+-- terms of one shape have as many arguments
+pub use Rattle.ll_bindings.proofs.Alike.{shape-length}
+-- terms of one head and as many arguments differ where their arguments do
+pub use Rattle.ll_bindings.proofs.Alike.{diff-spine}
+-- lists differ where their fronts do, and then where their backs do
+pub use Rattle.ll_bindings.proofs.Alike.{diff-append}
+-- terms of different heads, or with more arguments, clash
+pub use Rattle.ll_bindings.proofs.Alike.{diff-clash}
+-- a number clashes with an application
+pub use Rattle.ll_bindings.proofs.Pairs.{clash-int-app}
+-- an application clashes with a number
+pub use Rattle.ll_bindings.proofs.Pairs.{clash-app-int}
+-- ---- unification, step by step
+
+-- at first all of both lists is left to unify
+pub use Rattle.ll_bindings.proofs.Solving.{solves-start}
+-- the same lists in another form
+pub use Rattle.ll_bindings.proofs.Solving.{solves-alike}
+-- nothing is left to unify, and the unifier is what the table says
+pub use Rattle.ll_bindings.proofs.Solving.{solves-none}
+-- what is left clashes, and there is no unifier
+pub use Rattle.ll_bindings.proofs.Solving.{solves-clash}
+-- a table keeps its own cells
+pub use Rattle.ll_bindings.proofs.Settling.{keeps-same}
+-- cells that are kept twice are kept
+pub use Rattle.ll_bindings.proofs.Settling.{keeps-then}
+-- ---- cells
+
+-- a cell that is bound lies among the cells
+pub use Rattle.ll_bindings.proofs.Readings.{bound-inside}
+-- a stack of length 0 is empty
+pub use Rattle.ll_bindings.proofs.Stacks.{no_items}
 
 -- ---- what is found for a variable
 

@@ -10,9 +10,8 @@ use Rattle.ll_bank.specs.declared.Head.{Head}
 use Rattle.ll_bank.specs.declared.At.{At}
 use Rattle.ll_bank.specs.Term.{Term, Var, Int, Con, Ap, apply, app, sub, head_of, is_spine, applies_heads}
 use Rattle.ll_bank.specs.Nodes.{Nodes, HasTerm, term_tree, term_trees, AllInTerms, ShowsTerm, Extends}
-use Rattle.ll_bank.proofs.Trees.{HasTerm-extends, term_tree-extends, AllInTerms-extends, term_trees-extends, ShowsTerm-extends, applies_heads-term_tree}
-use Rattle.ll_bank.proofs.OpenLemmas.{apply-append}
-use Rattle.ll_laws.proofs.SubLaws.{and_left}
+use Rattle.ll_bank.proofs.CallerLemmas.{HasTerm-extends, term_tree-extends, AllInTerms-extends, term_trees-extends, ShowsTerm-extends, applies_heads-term_tree, apply-append}
+use Rattle.ll_laws.proofs.CallerLemmas.{and_left}
 use Rattle.ll_bindings.specs.declared.scan.Frame.{Frame}
 use Rattle.ll_bindings.specs.Spines.{args_in, arg, ShowsArgument}
 use Rattle.ll_bindings.specs.Stacks.{lowest, is_empty, is_full}

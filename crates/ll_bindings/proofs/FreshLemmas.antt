@@ -8,8 +8,7 @@ use Rattle.ll_bank.specs.declared.At.{At}
 use Rattle.ll_bank.specs.Term.{Term, Var, Int, Con, Ap, sub, occurs, eigens_below, head_eq}
 use Rattle.ll_bank.specs.Nodes.{Nodes, term_tree}
 use Rattle.ll_laws.specs.Unify.{bound_to, Binding, bind, bind_term, lower, is_older, diff, Diff, Meet, Same, Clash, and_then, when}
-use Rattle.ll_laws.proofs.SubLaws.{sub_comp}
-use Rattle.ll_laws.proofs.UnifyLaws.{level-lower, lower-le, eigens-mono}
+use Rattle.ll_laws.proofs.CallerLemmas.{sub_comp, level-lower, lower-le, eigens-mono}
 use Rattle.ll_bindings.specs.declared.fresh.Fresh.{Fresh}
 use Rattle.ll_bindings.specs.declared.meet.Pair.{Pair}
 use Rattle.ll_bindings.specs.Bindings.{Table, found, count, cell, IsTable, IsEnd, IsSet, Binds, HasBound, Meets, AreSame}

@@ -14,8 +14,7 @@ use Rattle.ll_bank.specs.declared.At.{At}
 use Rattle.ll_bank.specs.Term.{Term, Var, Int, Con, Ap, sub, is_spine, head_of, arity, head_eq, same_head, same_predicate, apply, app}
 use Rattle.ll_bank.specs.Nodes.{Nodes, term_tree, term_trees}
 use Rattle.ll_laws.specs.Unify.{Same, Clash, and_then, when, diff, diff_lists}
-use Rattle.ll_laws.proofs.SubLaws.{and_left}
-use Rattle.ll_laws.proofs.UnifyLaws.{diff-same as diff-is-same}
+use Rattle.ll_laws.proofs.CallerLemmas.{and_left, diff-same as diff-is-same}
 use Rattle.ll_bindings.specs.Bindings.{Table}
 use Rattle.ll_bindings.specs.declared.meet.Pair.{Pair}
 use Rattle.ll_bindings.specs.declared.meet.Compared.{Compared}

@@ -9,10 +9,9 @@ use Rattle.ll_bank.specs.declared.Head.{Head}
 use Rattle.ll_bank.specs.declared.At.{At}
 use Rattle.ll_bank.specs.Term.{Term, Var, Int, Con, Ap, sub, occurs, eigens_below, eigen_below, is_spine, head_of, applies_heads, apply, app}
 use Rattle.ll_bank.specs.Nodes.{Nodes, term_tree}
-use Rattle.ll_bank.proofs.Trees.{applies_heads-term_tree}
+use Rattle.ll_bank.proofs.CallerLemmas.{applies_heads-term_tree}
 use Rattle.std.proofs.lemmas.List.{append-nil, get_or_default}
-use Rattle.ll_laws.proofs.SubLaws.{and_left, and_right}
-use Rattle.ll_laws.proofs.UnifyLaws.{or_cases}
+use Rattle.ll_laws.proofs.CallerLemmas.{and_left, and_right, or_cases}
 use Rattle.ll_bindings.specs.declared.scan.Frame.{Frame}
 use Rattle.ll_bindings.specs.Spines.{args_in, arg, weight, rest_weight, ShowsArgument}
 use Rattle.ll_bindings.specs.Stacks.{lowest, Waits, is_empty, is_full}

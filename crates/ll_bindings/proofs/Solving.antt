@@ -5,7 +5,7 @@ use Rattle.ll_bank.specs.declared.At.{At}
 use Rattle.ll_bank.specs.Term.{Term, Var, sub}
 use Rattle.ll_bank.specs.Nodes.{Nodes, term_tree}
 use Rattle.ll_laws.specs.Unify.{Clash, Meet, and_then, diff, diff_lists, bound_to, Solved, Binding, bind, after, resolve, solve, mgu}
-use Rattle.ll_laws.proofs.SubLaws.{sub_comp, sub_id, map_map, map_same}
+use Rattle.ll_laws.proofs.CallerLemmas.{sub_comp, sub_id, map_map, map_same}
 use Rattle.ll_bindings.specs.Bindings.{Table}
 use Rattle.ll_bindings.specs.declared.meet.Pair.{Pair}
 use Rattle.ll_bindings.specs.Bindings.{found, count, IsPlaceOf, IsTable, Obeys, AreSame, HasBound, Binds, Meets, unbound}

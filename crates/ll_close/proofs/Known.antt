@@ -6,7 +6,7 @@ use Rattle.ll_bank.specs.Term.{Env, close}
 use Rattle.ll_bank.specs.Form.{close_form}
 use Rattle.ll_bank.specs.Nodes.{Nodes, ShowsTerm, ShowsForm, Extends}
 use Rattle.ll_bank.specs.Opened.{Spot, AreImages}
-use Rattle.ll_bank.proofs.Trees.{HasTerm-extends, HasForm-extends, term_tree-extends, form_tree-extends, ShowsTerm-extends, ShowsForm-extends}
+use Rattle.ll_bank.proofs.CallerLemmas.{HasTerm-extends, HasForm-extends, term_tree-extends, form_tree-extends, ShowsTerm-extends, ShowsForm-extends}
 use Rattle.ll_close.specs.Closing.{under, same_spot, AddsImage, IsTermImage, IsFormImage}
 
 pub adds_put : (old new : Spot → Option ℕ) (k : Spot) (image : ℕ) → ((q : Spot) → new q ≡ cond (same_spot k q) (Some image) (old q)) → AddsImage old new k image

@@ -3,3 +3,4 @@ pub mod Stacks
 pub mod Values
 pub mod Parts
 pub mod Steps
+pub mod CallerLemmas

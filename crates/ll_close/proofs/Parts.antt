@@ -16,10 +16,7 @@ use Rattle.ll_bank.specs.Term.{Term, Con, Ap, Env, apply, close, close_head, app
 use Rattle.ll_bank.specs.Form.{close_form, form_applies_heads}
 use Rattle.ll_bank.specs.Nodes.{Nodes, FormulaNode, ShowsForm, AppNode, AllInTerms, places, node_of_term, node_of, term_tree, form_tree, term_trees, form_of, HasTerm, HasForm, HasPartsBelow, IsTermView, IsFormView, Extends}
 use Rattle.ll_bank.specs.Opened.{Spot, term_parts, form_parts, ArePartsOf, term_size, form_size, term_size_at, form_size_at, term_parts_at, form_parts_at}
-use Rattle.ll_bank.proofs.Trees.{HasTerm-extends, HasForm-extends, term_tree-extends, form_tree-extends}
-use Rattle.ll_bank.proofs.WalkLemmas.{node_seen}
-use Rattle.ll_bank.proofs.BankLemmas.{below_places}
-use Rattle.ll_bank.proofs.OpenLemmas.{close-apply, heads_args, form_node_seen, term_parts_same, form_parts_same}
+use Rattle.ll_bank.proofs.CallerLemmas.{HasTerm-extends, HasForm-extends, term_tree-extends, form_tree-extends, node_seen, below_places, close-apply, heads_args, form_node_seen, term_parts_same, form_parts_same}
 use Rattle.ll_close.specs.Closing.{under, IsGoodTerm, IsGoodForm, IsTermImage, IsFormImage}
 use Rattle.ll_close.specs.Stacks.{AreImagesOf}
 use Rattle.ll_close.proofs.Stacks.{images_one, images_two}

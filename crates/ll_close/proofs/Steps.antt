@@ -8,8 +8,7 @@ use Rattle.ll_bank.specs.Term.{Env, close, applies_heads}
 use Rattle.ll_bank.specs.Form.{close_form, form_applies_heads}
 use Rattle.ll_bank.specs.Nodes.{Nodes, HasTerm, HasForm, AllInTerms, ShowsTerm, ShowsForm, Extends, term_tree, form_tree, term_trees}
 use Rattle.ll_bank.specs.Opened.{Spot, AreImages, term_parts_at, form_parts_at}
-use Rattle.ll_bank.proofs.Trees.{HasTerm-extends, HasForm-extends, term_tree-extends, form_tree-extends, AllInTerms-extends, term_trees-extends}
-use Rattle.ll_bank.proofs.OpenLemmas.{term_parts_same, form_parts_same}
+use Rattle.ll_bank.proofs.CallerLemmas.{HasTerm-extends, HasForm-extends, term_tree-extends, form_tree-extends, AllInTerms-extends, term_trees-extends, term_parts_same, form_parts_same}
 use Rattle.ll_close.specs.Closing.{env_of, under, IsTermImage, IsFormImage, IsGoodTerm, IsGoodForm}
 use Rattle.ll_close.specs.Stacks.{EndsWith}
 use Rattle.ll_close.proofs.Values.{env_extends}

@@ -8,7 +8,7 @@ use Rattle.ll_bank.specs.declared.Head.TheVariants.{Name, Eigen, Bound}
 use Rattle.ll_bank.specs.Term.{Term, Var, Int, Con, Ap, Env, place, close}
 use Rattle.ll_bank.specs.Form.{Form, Top, One, Atom, With, Tensor, Plus, Bang, Lolli, Imp, Forall, Exists, Use, Num, close_form}
 use Rattle.ll_bank.specs.Nodes.{Nodes, term_tree, AllInTerms, Extends}
-use Rattle.ll_bank.proofs.Trees.{term_tree-extends}
+use Rattle.ll_bank.proofs.CallerLemmas.{term_tree-extends}
 use Rattle.ll_close.specs.Closing.{env_of, under}
 
 -- a place that a quantifier passed on the way binds

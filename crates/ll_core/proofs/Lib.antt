@@ -24,3 +24,4 @@ pub mod Runs
 pub mod Given
 pub mod Owing
 pub mod FrontStays
+pub mod CallerLemmas

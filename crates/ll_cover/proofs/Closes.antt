@@ -8,7 +8,7 @@ use Rattle.std.proofs.lemmas.List.Elements.{All-head, All-tail, All-cons}
 use Rattle.ll_bank.specs.declared.At.{At}
 use Rattle.ll_bank.specs.Term.{is_closed}
 use Rattle.ll_bank.specs.Nodes.{Nodes, term_tree, term_trees, places}
-use Rattle.ll_bank.proofs.WalkLemmas.{removed_other, removed_less}
+use Rattle.ll_bank.proofs.CallerLemmas.{removed_other, removed_less}
 use Rattle.ll_cover.specs.Closing.{ArePartsOf, IsClosedBy}
 
 -- ---- places among others

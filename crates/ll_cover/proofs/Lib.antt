@@ -4,3 +4,4 @@ pub mod Matches
 pub mod Looking
 pub mod Instances
 pub mod Covers
+pub mod CallerLemmas

@@ -6,9 +6,9 @@ use Rattle.ll_laws.specs.declared.Counts.{Counts}
 use Rattle.ll_laws.specs.Search.{cut_count, is_answer, is_reached}
 use Rattle.ll_laws.specs.Sound.{Every}
 use Rattle.ll_laws.specs.Problem.{ProblemTree, problem_events, problem_cost}
-use Rattle.ll_core.proofs.Walks.{every_more}
+use Rattle.ll_core.proofs.CallerLemmas.{every_more}
 use Rattle.ll_order.specs.Outlets.{Gives, Refuses}
-use Rattle.ll_order.proofs.Givings.{gives_more, refuses_more, no_count, counts_more}
+use Rattle.ll_order.proofs.CallerLemmas.{gives_more, refuses_more, no_count, counts_more}
 use Rattle.ll_engine.specs.Seen.{Owing}
 use Rattle.ll_engine.specs.Steps.{Steps, fresh}
 use Rattle.ll_engine.specs.declared.engine.Step2.TheVariants.{Event as Found}

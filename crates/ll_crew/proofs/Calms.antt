@@ -11,9 +11,7 @@ use Rattle.ll_core.specs.Given.{TakesNone, MarksNone}
 use Rattle.ll_core.specs.Calls.{ClaimsAs}
 use Rattle.ll_core.specs.declared.answers.Claimed.{Claimed}
 use Rattle.ll_core.specs.declared.answers.Claimed.TheVariants as claims
-use Rattle.ll_core.proofs.Pieces.{some_is}
-use Rattle.ll_core.proofs.Laters.{later_itself, later_on, later_event}
-use Rattle.ll_core.proofs.LawfulEvents.{leaves_taken, leaves_marks}
+use Rattle.ll_core.proofs.CallerLemmas.{some_is, later_itself, later_on, later_event, leaves_taken, leaves_marks}
 use Rattle.ll_pool.specs.Turns.{PoolSight, OneTurn}
 use Rattle.ll_pool.specs.declared.data.PoolProblem.{PoolProblem}
 use Rattle.ll_laws.specs.Problem.{ProblemTree}

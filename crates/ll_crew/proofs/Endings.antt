@@ -9,15 +9,11 @@ use Rattle.ll_laws.specs.Pool.{Owed, PoolData}
 use Rattle.ll_laws.specs.Search.{cut_count, is_answer, is_reached}
 use Rattle.ll_laws.specs.Sound.{Every, Sound}
 use Rattle.ll_laws.specs.CoreEvents.{opening, reports_left}
-use Rattle.ll_core.proofs.Openings.{opening_sound}
-use Rattle.ll_core.proofs.Cuts.{cut_sum, cut_twice}
-use Rattle.ll_core.proofs.Given.{every_back}
-use Rattle.ll_core.proofs.Owing.{opening_given, all_events, all_costs, nothing_comes}
+use Rattle.ll_core.proofs.CallerLemmas.{opening_sound, cut_sum, cut_twice, every_back, opening_given, all_events, all_costs, nothing_comes, given_later}
 use Rattle.ll_order.specs.Outlets.{Gives, Refuses, CountsOf, events_left, cost_left}
-use Rattle.ll_order.proofs.Givings.{gives_more, refuses_more}
+use Rattle.ll_order.proofs.CallerLemmas.{gives_more, refuses_more}
 use Rattle.ll_pool.specs.Fits.{Fits}
 use Rattle.ll_pool.specs.declared.data.PoolProblem.{PoolProblem}
-use Rattle.ll_core.proofs.FrontStays.{given_later}
 use Rattle.ll_laws.specs.Problem.{ProblemTree}
 use Rattle.ll_freeze.specs.Frozen.{FrozenSight, problem_owes, alternatives_in}
 use Rattle.ll_crew.specs.Pieces.{events_in, cost_in}

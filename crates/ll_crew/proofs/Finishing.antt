@@ -8,7 +8,7 @@ use Rattle.std.proofs.lemmas.Option.{get_or_from_slice_get, slice_get_within}
 use Rattle.ll_laws.specs.declared.Event.{Event}
 use Rattle.ll_laws.specs.Pool.{Owed}
 use Rattle.ll_laws.specs.Search.{cut_count}
-use Rattle.ll_core.proofs.Cuts.{cut_sum, cut_twice}
+use Rattle.ll_core.proofs.CallerLemmas.{cut_sum, cut_twice}
 use Rattle.ll_laws.specs.Problem.{ProblemTree}
 use Rattle.ll_engine.specs.Seen.{Owing}
 use Rattle.ll_engine.specs.Resumes.{Resumes}

@@ -5,10 +5,9 @@ use Rattle.std.proofs.lemmas.Bool.{true≢false}
 use Rattle.ll_laws.specs.declared.Event.{Event}
 use Rattle.ll_laws.specs.Search.{is_answer, cut_count}
 use Rattle.ll_order.specs.Outlets.{Gives, Refuses}
-use Rattle.ll_order.proofs.Givings.{gives_more}
+use Rattle.ll_order.proofs.CallerLemmas.{gives_more}
 use Rattle.ll_first.specs.Upto.{upto, first_of, IsLimit, counted}
-use Rattle.ll_first.proofs.Uptos.{upto_none, upto_enough, upto_here, upto_past, upto_next}
-use Rattle.ll_first.proofs.Enoughs.{given_counts}
+use Rattle.ll_first.proofs.CallerLemmas.{upto_none, upto_enough, upto_here, upto_past, upto_next, given_counts}
 use Rattle.ll_crew.specs.Crews.{GivesPrefix}
 use Rattle.ll_crew.specs.Firsts.{Held, GoesOn, HadEnough, Declines, Ends}
 

@@ -12,17 +12,13 @@ use Rattle.ll_laws.specs.CoreEvents.{Ready, Events, Starve, Stop, Does}
 use Rattle.ll_core.specs.Calls.{ready_answer}
 use Rattle.ll_core.specs.declared.answers.Ready.{Ready as ReadyCall}
 use Rattle.ll_core.specs.declared.answers.Ready.TheVariants as ready
-use Rattle.ll_core.proofs.Walks.{every_more}
-use Rattle.ll_core.proofs.Cuts.{cut_sum, cut_twice}
+use Rattle.ll_core.proofs.CallerLemmas.{every_more, cut_sum, cut_twice, every_back, step_given, given_in_front, given_later}
 use Rattle.ll_core.specs.Given.{Given}
-use Rattle.ll_core.proofs.Given.{every_back}
-use Rattle.ll_core.proofs.Owing.{step_given, given_in_front}
 use Rattle.ll_order.specs.Outlets.{Rose, Gives, Refuses, CountsOf}
 use Rattle.ll_order.specs.declared.outlet.OutFault.{OutFault}
 use Rattle.ll_order.specs.declared.outlet.OutFault.TheVariants.{Write}
-use Rattle.ll_order.proofs.Givings.{gives_more, refuses_more, counts_more, every_front}
+use Rattle.ll_order.proofs.CallerLemmas.{gives_more, refuses_more, counts_more, every_front}
 use Rattle.ll_pool.specs.Turns.{OneTurn}
-use Rattle.ll_core.proofs.FrontStays.{given_later}
 use Rattle.ll_laws.specs.Problem.{ProblemTree}
 use Rattle.ll_freeze.specs.Frozen.{FrozenSight, problem_owes, alternatives_in}
 use Rattle.ll_crew.specs.Pieces.{events_in, cost_in}

@@ -4,7 +4,7 @@ use Rattle.std.specs.declared.sync.Arc.{Arc}
 use Rattle.std.specs.declared.alloc.Global.{Global}
 use Rattle.ll_laws.specs.declared.Event.{Event}
 use Rattle.ll_laws.specs.Search.{cut_count}
-use Rattle.ll_core.proofs.Cuts.{cut_sum}
+use Rattle.ll_core.proofs.CallerLemmas.{cut_sum}
 use Rattle.ll_pool.specs.declared.data.OpenPiece.{OpenPiece}
 use Rattle.ll_freeze.specs.Frozen.{FrozenSight}
 use Rattle.ll_engine.specs.Seen.{Owing}

@@ -19,7 +19,7 @@ use Rattle.ll_laws.specs.Attempt.{only_try}
 use Rattle.ll_laws.specs.Unify.{vars_below}
 use Rattle.ll_laws.specs.Valid.{Allowed, ClauseSide, GoalSide, IsFormula, each_term, places_below, may_head, is_headed}
 use Rattle.ll_laws.specs.Consistent.{AreResources, allowed_in}
-use Rattle.ll_laws.proofs.SubLaws.{and_left, and_right}
+use Rattle.ll_laws.proofs.CallerLemmas.{and_left, and_right}
 use Rattle.ll_index.specs.Context.{AreOfProgram}
 use Rattle.ll_index.specs.First.{first_of, entry_matches}
 use Rattle.ll_freeze.specs.declared.machine.Machine.{Machine}
@@ -29,7 +29,7 @@ use Rattle.ll_freeze.specs.Parts.{Parts, parts_of}
 use Rattle.ll_freeze.specs.Fits.{Fits, allowed, setting}
 use Rattle.ll_freeze.specs.Reading.{reading, read_term, read_form}
 use Rattle.ll_freeze.specs.Shown.{shown_item, shown_entry, items_of, state_of}
-use Rattle.ll_freeze.proofs.Resting.{has_program}
+use Rattle.ll_freeze.proofs.CallerLemmas.{has_program}
 use Rattle.ll_engine.specs.Front.{HasAtom}
 use Rattle.ll_engine.specs.declared.heads.Asked.{Asked}
 use Rattle.ll_engine.specs.Leaves.{heads, open_tries, standing_entry}

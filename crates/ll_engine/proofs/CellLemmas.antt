@@ -7,11 +7,9 @@ use Rattle.ll_bank.specs.declared.At.{At}
 use Rattle.ll_bank.specs.Term.{Term, Var, Int, Con, Ap, sub, occurs}
 use Rattle.ll_bank.specs.Nodes.{Nodes, term_tree}
 use Rattle.ll_laws.specs.Unify.{vars_below}
-use Rattle.ll_laws.proofs.SubLaws.{and_left, and_right}
-use Rattle.ll_laws.proofs.UnifyLaws.{or_cases}
+use Rattle.ll_laws.proofs.CallerLemmas.{and_left, and_right, or_cases}
 use Rattle.ll_bindings.specs.Bindings.{Table, cell, count, found, Reaches, stands, through, HasCells, IsTable}
-use Rattle.ll_bindings.proofs.Readings.{bound-inside}
-use Rattle.ll_bindings.proofs.CallerLemmas.{found-free, found-bound}
+use Rattle.ll_bindings.proofs.CallerLemmas.{bound-inside, found-free, found-bound}
 
 pub all_drop : {X : Type 0} (P : X → Type 0) (n : ℕ) (xs : List X) → All P xs → All P (drop n xs)
 all_drop P zero xs h = h

@@ -7,13 +7,13 @@ use Rattle.ll_laws.specs.declared.Step.{Step}
 use Rattle.ll_bank.specs.Nodes.{Extends}
 use Rattle.ll_store.specs.declared.store.Store.{Store}
 use Rattle.ll_store.specs.Stored.{Stored, stored, KeepsMarks as KeepsStoreMarks}
-use Rattle.ll_store.proofs.MarkLemmas.{marks-extend}
+use Rattle.ll_store.proofs.CallerLemmas.{marks-extend}
 use Rattle.ll_resources.specs.History.{History, KeepsMarks as KeepsContextMarks}
 use Rattle.ll_agenda.specs.Frames.{Frames}
 use Rattle.ll_freeze.specs.declared.machine.Machine.{Machine}
 use Rattle.ll_freeze.specs.declared.machine.Item.{Item}
 use Rattle.ll_freeze.specs.Parts.{Later}
-use Rattle.ll_freeze.proofs.Marks.{store_same, context_same}
+use Rattle.ll_freeze.proofs.CallerLemmas.{store_same, context_same}
 
 -- marks of a store
 pub store_extends : (s t : Store) → Extends s.bank t.bank → t.cells ≡ s.cells → KeepsStoreMarks (stored s) (stored t)

@@ -6,10 +6,10 @@ use Rattle.ll_bank.specs.declared.FormAt.{FormAt}
 use Rattle.ll_bank.specs.Term.{Term, sub}
 use Rattle.ll_bank.specs.Form.{sub_form}
 use Rattle.ll_bank.specs.Nodes.{Nodes, HasTerm, HasForm, AllInTerms, Extends, term_tree, form_tree}
-use Rattle.ll_bank.proofs.Trees.{term_tree-extends, form_tree-extends}
+use Rattle.ll_bank.proofs.CallerLemmas.{term_tree-extends, form_tree-extends}
 use Rattle.ll_laws.specs.Settle.{Saved, Entry}
 use Rattle.ll_laws.specs.State.{sub_item, sub_entry}
-use Rattle.ll_laws.proofs.SubLaws.{sub_comp, sub_same, sub_form_comp}
+use Rattle.ll_laws.proofs.CallerLemmas.{sub_comp, sub_same, sub_form_comp}
 use Rattle.ll_freeze.specs.declared.machine.Item.{Item}
 use Rattle.ll_freeze.specs.declared.machine.Item.TheVariants.{Goal, LolliEnd, ImpEnd, Mid, WithEnd, BangEnd}
 use Rattle.ll_freeze.specs.Reading.{reading, read_term, read_form}

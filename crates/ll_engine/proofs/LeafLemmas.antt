@@ -13,9 +13,7 @@ use Rattle.ll_laws.specs.Leaf.{Leaf, Premise, Needs, NeedsFree, add_premise, way
 use Rattle.ll_laws.specs.Settle.{Entry}
 use Rattle.ll_laws.specs.Attempt.{vars_from, leaf_head, fits_head, leaf_tries, entry_tries, is_open}
 use Rattle.ll_laws.specs.Valid.{places_below}
-use Rattle.ll_laws.proofs.SubLaws.{and_left}
-use Rattle.ll_laws.proofs.ConsistentStates.{length-vars}
-use Rattle.ll_laws.proofs.ConsistentTerms.{none_below}
+use Rattle.ll_laws.proofs.CallerLemmas.{and_left, length-vars, none_below}
 use Rattle.ll_engine.specs.declared.heads.Predicate.{Predicate}
 use Rattle.ll_engine.specs.Leaves.{has_predicate, heads, head_tries, open_tries}
 

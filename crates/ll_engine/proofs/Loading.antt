@@ -19,14 +19,7 @@ use Rattle.ll_laws.specs.Problem.{ProblemTree}
 use Rattle.ll_laws.specs.Shown.{clause_tree, module_tree, HasClauses, HasModules}
 use Rattle.ll_laws.specs.Attempt.{load_module}
 use Rattle.ll_laws.specs.Valid.{Allowed, GoalSide, fits_module, given, module_scope, places_below}
-use Rattle.ll_laws.proofs.SubLaws.{and_left, and_right}
-use Rattle.ll_laws.proofs.ConsistentTerms.{Grows, grows-refl, AllFit, fit-places}
-use Rattle.ll_laws.proofs.ConsistentForms.{Fits as FormFits, formula_of_fits}
-use Rattle.ll_laws.proofs.ConsistentContexts.{formula-more}
-use Rattle.ll_laws.proofs.ConsistentLeaves.{unfold_load-fits}
-use Rattle.ll_laws.proofs.ConsistentStates.{grows_given}
-use Rattle.ll_laws.proofs.ConsistentSteps.{module-fits}
-use Rattle.ll_laws.proofs.Grounding.{unfold_sub}
+use Rattle.ll_laws.proofs.CallerLemmas.{and_left, and_right, Grows, grows-refl, AllFit, fit-places, Fits as FormFits, formula_of_fits, formula-more, unfold_load-fits, grows_given, module-fits, unfold_sub}
 use Rattle.ll_modules.specs.Loads.{arguments_env, AreClosed, MayLoad}
 use Rattle.ll_freeze.specs.Parts.{Parts}
 use Rattle.ll_freeze.specs.declared.machine.Item.{Item}

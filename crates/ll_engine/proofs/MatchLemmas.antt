@@ -17,15 +17,12 @@ use Rattle.ll_laws.specs.State.{State}
 use Rattle.ll_laws.specs.Attempt.{entry_at, is_open, vars_from, leaf_head, fits_head, leaf_tries, entry_tries, goal_tries, agenda_tries, tries, attempt}
 use Rattle.ll_laws.specs.Consistent.{labels_differ}
 use Rattle.ll_laws.specs.Valid.{Scope, ClauseSide, AreClauses, given}
-use Rattle.ll_laws.proofs.SubLaws.{and_left, and_right}
-use Rattle.ll_laws.proofs.ConsistentTerms.{IsHead, Fit, none_below}
-use Rattle.ll_laws.proofs.ConsistentForms.{Fits, fits_of_formula}
+use Rattle.ll_laws.proofs.CallerLemmas.{and_left, and_right, IsHead, Fit, none_below, Fits, fits_of_formula}
 use Rattle.ll_index.specs.declared.laws.First.{First}
 use Rattle.ll_index.specs.Standing.{StandingPremise, StandingLeaf, leaves_under, standing_leaves, env_under}
 use Rattle.ll_index.specs.First.{first_of, signs_clash, leaf_first, entry_matches}
 use Rattle.ll_index.specs.Context.{AreOfProgram}
-use Rattle.ll_index.proofs.StandingLaws.{stands_as}
-use Rattle.ll_index.proofs.FirstLaws.{clashes_give_nothing}
+use Rattle.ll_index.proofs.CallerLemmas.{stands_as, clashes_give_nothing}
 use Rattle.ll_engine.specs.Owed.{Thins, thin_end, thin_keep, thin_skip}
 use Rattle.ll_engine.specs.Matches.{goal_matches, agenda_matches, matches}
 

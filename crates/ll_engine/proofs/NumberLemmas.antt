@@ -10,7 +10,7 @@ use Rattle.ll_bank.specs.declared.FormNode.TheVariants.{Is as IsView, Less as Le
 use Rattle.ll_bank.specs.Term.{Term, Int, sub}
 use Rattle.ll_bank.specs.Form.{Form, Num, Relation, Is, Less, Most, sub_form}
 use Rattle.ll_bank.specs.Nodes.{Nodes, HasTerm, HasForm, AllInTerms, ShowsTerm, Extends, form_of, term_tree, term_trees, form_tree}
-use Rattle.ll_bank.proofs.Trees.{HasForm-extends, AllInTerms-extends, term_trees-extends}
+use Rattle.ll_bank.proofs.CallerLemmas.{HasForm-extends, AllInTerms-extends, term_trees-extends}
 use Rattle.ll_laws.specs.declared.Candidate.{Candidate}
 use Rattle.ll_laws.specs.declared.Step.{Step}
 use Rattle.ll_laws.specs.declared.Step.TheVariants.{Plain}
@@ -22,11 +22,9 @@ use Rattle.ll_laws.specs.Attempt.{vars_from, attempt, instantiated, stepped, tak
 use Rattle.ll_laws.specs.Problem.{ProblemTree, setting_of}
 use Rattle.ll_laws.specs.Valid.{IsFormula, IsValid, GoalSide, ClauseSide}
 use Rattle.ll_laws.specs.Consistent.{IsConsistent, allowed_in}
-use Rattle.ll_laws.proofs.ConsistentTerms.{grows-refl, fit-vars}
-use Rattle.ll_laws.proofs.ConsistentForms.{fits_of_formula}
-use Rattle.ll_laws.proofs.ConsistentSteps.{steps_consistent}
+use Rattle.ll_laws.proofs.CallerLemmas.{grows-refl, fit-vars, fits_of_formula, steps_consistent}
 use Rattle.ll_freeze.specs.Resting.{RestsOn}
-use Rattle.ll_freeze.proofs.Resting.{step_rests}
+use Rattle.ll_freeze.proofs.CallerLemmas.{step_rests, modules_later, modules_has}
 use Rattle.ll_agenda.specs.declared.agenda.Top.{Top as AgendaTop}
 use Rattle.ll_agenda.specs.Frames.{HasTop, items_at}
 use Rattle.ll_resources.specs.Resources.{Resources}
@@ -47,7 +45,6 @@ use Rattle.ll_bindings.proofs.CallerLemmas.{table-extends, place-extends, place-
 use Rattle.ll_engine.proofs.ReadLemmas.{reading_same, read_same, length_variables, values_extend, table_values, fits_table, ordered_extends}
 use Rattle.ll_engine.proofs.LaterLemmas.{items_later, entries_later, terms_later}
 use Rattle.ll_engine.proofs.MachineLemmas.{goal_in_front}
-use Rattle.ll_freeze.proofs.CallerLemmas.{modules_later, modules_has}
 use Rattle.ll_engine.proofs.Rowing.{at_goal, attempt_by, rest_items, rest_goals}
 use Rattle.ll_engine.proofs.Quantifying.{items_stay, entries_stay, terms_stay, clauses_stay, goals_stay, item_has}
 use Rattle.ll_engine.proofs.TakingLemmas.{allowed_shown, term_count}

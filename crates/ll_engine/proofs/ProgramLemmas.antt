@@ -20,7 +20,7 @@ use Rattle.ll_index.proofs.CallerLemmas.{matches-open}
 use Rattle.ll_freeze.specs.Indexed.{IsIndexOf}
 use Rattle.ll_freeze.specs.Parts.{Parts}
 use Rattle.ll_freeze.specs.Shown.{shown_entry}
-use Rattle.ll_freeze.proofs.Resting.{program-length}
+use Rattle.ll_freeze.proofs.CallerLemmas.{program-length}
 use Rattle.ll_engine.specs.Matches.{shown_context}
 use Rattle.ll_engine.proofs.MatchLemmas.{program_entry}
 

@@ -11,7 +11,7 @@ use Rattle.ll_bank.specs.declared.Head.TheVariants.{Eigen}
 use Rattle.ll_bank.specs.Term.{Term, Var, Int, Con, Ap, sub, is_spine, is_closed, applies_heads}
 use Rattle.ll_bank.specs.Form.{Form, Top, One, Atom, With, Tensor, Plus, Bang, Lolli, Imp, Forall, Exists, Use, Num, sub_form, instantiate, form_applies_heads}
 use Rattle.ll_bank.specs.Nodes.{Nodes, HasTerm, HasForm, AllInTerms, Extends, ShowsTerm, ShowsForm, term_tree, term_trees, form_tree}
-use Rattle.ll_bank.proofs.Trees.{HasTerm-extends, HasForm-extends, term_tree-extends, form_tree-extends, AllInTerms-extends, term_trees-extends}
+use Rattle.ll_bank.proofs.CallerLemmas.{HasTerm-extends, HasForm-extends, term_tree-extends, form_tree-extends, AllInTerms-extends, term_trees-extends}
 use Rattle.ll_laws.specs.declared.Candidate.{Candidate}
 use Rattle.ll_laws.specs.declared.Step.{Step}
 use Rattle.ll_laws.specs.declared.Step.TheVariants.{Plain}
@@ -21,13 +21,9 @@ use Rattle.ll_laws.specs.State.{State}
 use Rattle.ll_laws.specs.Attempt.{attempt, tries, vars_from}
 use Rattle.ll_laws.specs.Valid.{Allowed, Scope, Side, GoalSide, ClauseSide, IsFormula}
 use Rattle.ll_laws.specs.Consistent.{IsConsistent, is_made}
-use Rattle.ll_laws.proofs.SubLaws.{IsClosing, sub_same, sub_instantiate, and_left, and_right}
-use Rattle.ll_laws.proofs.ConsistentTerms.{and_intro, Grows, Fit, AllFit}
-use Rattle.ll_laws.proofs.ConsistentForms.{Fits as FormFits, formula_of_fits, fits-more, fits-close}
-use Rattle.ll_laws.proofs.ConsistentContexts.{formula-more}
-use Rattle.ll_laws.proofs.ConsistentSteps.{steps_consistent}
+use Rattle.ll_laws.proofs.CallerLemmas.{IsClosing, sub_same, sub_instantiate, and_left, and_right, and_intro, Grows, Fit, AllFit, Fits as FormFits, formula_of_fits, fits-more, fits-close, formula-more, steps_consistent}
 use Rattle.ll_freeze.specs.Resting.{RestsOn}
-use Rattle.ll_freeze.proofs.Resting.{step_rests}
+use Rattle.ll_freeze.proofs.CallerLemmas.{step_rests, trees_read, vars_more, form_same, state_by, state_is, modules_later, modules_has}
 use Rattle.ll_resources.specs.Resources.{Resources}
 use Rattle.ll_freeze.specs.Parts.{Parts, table}
 use Rattle.ll_freeze.specs.declared.machine.Item.{Item}
@@ -41,7 +37,6 @@ use Rattle.ll_engine.proofs.ReadLemmas.{reading_same, reading_past, values_exten
 use Rattle.ll_bindings.specs.Bindings.{IsTable, IsOrdered}
 use Rattle.ll_bindings.proofs.CallerLemmas.{table-extends, table-fresh, found-fresh}
 use Rattle.ll_engine.specs.Turned.{is_empty}
-use Rattle.ll_freeze.proofs.CallerLemmas.{trees_read, vars_more, form_same, state_by, state_is, modules_later, modules_has}
 use Rattle.ll_engine.proofs.MachineLemmas.{agenda_shown, tries_end}
 use Rattle.ll_engine.proofs.Rowing.{attempt_by, rest_items, rest_goals, goal_fits}
 

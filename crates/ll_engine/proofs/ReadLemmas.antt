@@ -7,10 +7,9 @@ use Rattle.ll_bank.specs.declared.At.{At}
 use Rattle.ll_bank.specs.declared.Head.{Head}
 use Rattle.ll_bank.specs.Term.{Term, Var, Con, Ap, sub, app, apply}
 use Rattle.ll_bank.specs.Nodes.{Nodes, HasTerm, term_tree, term_trees, Extends}
-use Rattle.ll_bank.proofs.Trees.{term_tree-extends, HasTerm-extends}
+use Rattle.ll_bank.proofs.CallerLemmas.{term_tree-extends, HasTerm-extends}
 use Rattle.ll_laws.specs.Attempt.{vars_from}
-use Rattle.ll_laws.proofs.ConsistentStates.{length-vars}
-use Rattle.ll_laws.proofs.SubLaws.{sub_same}
+use Rattle.ll_laws.proofs.CallerLemmas.{length-vars, sub_same}
 use Rattle.ll_bindings.specs.Bindings.{Table, shown, followed, IsTable, IsOrdered}
 use Rattle.ll_bindings.proofs.CallerLemmas.{with_cell, table-extends, table-fresh, found-fresh}
 use Rattle.ll_store.specs.declared.cells.Cell.{Cell}

@@ -15,9 +15,8 @@ use Rattle.ll_laws.specs.Settle.{Item as ItemOf}
 use Rattle.ll_laws.specs.State.{State}
 use Rattle.ll_laws.specs.Attempt.{attempt, attempt_agenda, attempt_goal, take_side, stepped, saved_of}
 use Rattle.ll_laws.specs.Valid.{IsFormula, GoalSide, ClauseSide}
-use Rattle.ll_laws.proofs.ConsistentForms.{Fits as FormFits, fits_of_formula, formula_of_fits}
-use Rattle.ll_laws.proofs.ConsistentSteps.{steps_consistent}
-use Rattle.ll_freeze.proofs.Resting.{step_rests}
+use Rattle.ll_laws.proofs.CallerLemmas.{Fits as FormFits, fits_of_formula, formula_of_fits, steps_consistent}
+use Rattle.ll_freeze.proofs.CallerLemmas.{step_rests, state_by, state_is, fits_kept, more_kept, one_more}
 use Rattle.ll_resources.specs.Resources.{Resources, saved_at, saved_now, saved_as, KeepsSaved, after_load, after_erase, after_save, after_bang}
 use Rattle.ll_resources.specs.declared.context.Saved.{Saved as Handle}
 use Rattle.ll_freeze.specs.Parts.{Parts}
@@ -30,7 +29,6 @@ use Rattle.ll_engine.specs.Attempts.{Infers}
 use Rattle.ll_engine.specs.Rows.{GoesOn}
 use Rattle.ll_freeze.specs.Calls.{SameTerms}
 use Rattle.ll_engine.proofs.MachineLemmas.{goal_inside}
-use Rattle.ll_freeze.proofs.CallerLemmas.{state_by, state_is, fits_kept, more_kept, one_more}
 
 -- a machine with this goal in front
 abbrev pub at_goal : Parts → FormAt → List Item → State

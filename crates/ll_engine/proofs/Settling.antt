@@ -2,7 +2,7 @@
 use Rattle.std.proofs.Common.{◌≡◌, ℕ, suc, ◌<◌, refl, ap, sym, ◌∙◌, subst, Bool, true, false, ◌&&◌, List, [], ◌∷◌, map, length, arith, All}
 use Rattle.std.proofs.lemmas.List.Elements.{All-cons, All-head, All-tail, All-weaker}
 use Rattle.std.proofs.lemmas.List.{length-map}
-use Rattle.ll_laws.proofs.SubLaws.{and_left, and_right}
+use Rattle.ll_laws.proofs.CallerLemmas.{and_left, and_right, front-map, settles_consistent, alike-remark, alike-ends}
 use Rattle.std.specs.Prelude.{Option, Some, None, option_map, not, ◌||◌, if◌then◌else◌}
 use Rattle.ll_bank.specs.declared.At.{At}
 use Rattle.ll_bank.specs.declared.FormAt.{FormAt}
@@ -13,15 +13,12 @@ use Rattle.ll_laws.specs.State.{State, settle, front_of, with_front}
 use Rattle.ll_laws.specs.Attempt.{is_linear}
 use Rattle.ll_laws.specs.Valid.{IsFormula, ClauseSide}
 use Rattle.ll_laws.specs.Consistent.{ends_fit, marks_fit, may_live, is_of_kind, newest_is, begins_second_side}
-use Rattle.ll_laws.proofs.SettleLaws.{front-map}
-use Rattle.ll_laws.proofs.ConsistentStates.{settles_consistent}
-use Rattle.ll_freeze.proofs.Resting.{settle_rests}
-use Rattle.ll_laws.proofs.ConsistentContexts.{alike-remark, alike-ends}
+use Rattle.ll_freeze.proofs.CallerLemmas.{settle_rests, state_by, state_is, fits_kept, same_allowed, clauses_moved, goals_moved, one_more, more_kept}
 use Rattle.ll_resources.specs.History.{History, Settles}
 use Rattle.ll_resources.specs.Resources.{Resources, saved_at, saved_as, saved_now, End, settled, load_end, with_end, bang_end, after_with_mid, SettlesMiddle, KeepsSaved, Fits as SavedFits, with_front as front_put}
 use Rattle.ll_resources.specs.declared.context.Saved.{Saved as Handle}
 use Rattle.ll_resources.specs.Ends.{is_end, as_end, settled_after}
-use Rattle.ll_resources.proofs.EndLemmas.{ends_settle, middles_settle}
+use Rattle.ll_resources.proofs.CallerLemmas.{ends_settle, middles_settle}
 use Rattle.ll_agenda.specs.Frames.{Frames, HasTop, items_at}
 use Rattle.ll_agenda.specs.declared.agenda.Top.{Top}
 use Rattle.ll_freeze.specs.Parts.{Parts}
@@ -34,7 +31,6 @@ use Rattle.ll_engine.specs.Calls.{IsSettled, SameSearch}
 use Rattle.ll_engine.specs.declared.settle.Worked.{Worked}
 use Rattle.ll_engine.specs.declared.settle.Worked.TheVariants.{Settled, Failed}
 use Rattle.ll_engine.specs.Going.{raw_item, front_raw, EndsFit, Reaches, Going, IsDone, Works}
-use Rattle.ll_freeze.proofs.CallerLemmas.{state_by, state_is, fits_kept, same_allowed, clauses_moved, goals_moved, one_more, more_kept}
 
 shown_raw : (bank : Nodes) (bound : List (Option At)) (kept : List Saved) (i : Item) → shown_item bank bound kept i ≡ map_item (read_form bank bound) (raw_item kept i)
 shown_raw bank bound kept (Goal g) = refl

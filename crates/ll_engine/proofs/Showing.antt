@@ -12,7 +12,7 @@ use Rattle.ll_bank.specs.Nodes.{Nodes, HasTerm, AllInTerms, term_tree}
 use Rattle.ll_laws.specs.Answered.{Answered}
 use Rattle.ll_laws.specs.Consistent.{is_made}
 use Rattle.ll_laws.specs.Unify.{vars_below}
-use Rattle.ll_laws.proofs.SubLaws.{and_left, and_right}
+use Rattle.ll_laws.proofs.CallerLemmas.{and_left, and_right}
 use Rattle.ll_bindings.specs.Bindings.{IsPlaceOf}
 use Rattle.ll_bindings.proofs.CallerLemmas.{place-below}
 use Rattle.ll_laws.specs.declared.Step.{Step}

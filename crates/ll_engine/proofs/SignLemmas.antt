@@ -9,10 +9,10 @@ use Rattle.ll_bank.specs.Nodes.{Nodes, HasTerm, term_tree, term_trees}
 use Rattle.ll_bindings.specs.Bindings.{Table, IsTable, IsPlaceOf, IsFree, AreSame, found, count}
 use Rattle.ll_bindings.proofs.CallerLemmas.{found-free, found-bound, place-below}
 use Rattle.ll_laws.specs.Unify.{vars_below}
-use Rattle.ll_laws.proofs.SubLaws.{and_left, and_right}
+use Rattle.ll_laws.proofs.CallerLemmas.{and_left, and_right}
 use Rattle.ll_index.specs.declared.laws.First.TheVariants.{Open, Int as IntSign}
 use Rattle.ll_index.specs.First.{name_sign, sign_of, sign_if_some, first_argument, first_of}
-use Rattle.ll_index.proofs.KeyLemmas.{sign_of-read}
+use Rattle.ll_index.proofs.CallerLemmas.{sign_of-read}
 use Rattle.ll_engine.specs.declared.heads.Predicate.{Predicate}
 use Rattle.ll_engine.specs.Leaves.{has_predicate}
 use Rattle.ll_engine.proofs.Standing.{spine-head, spine-arity}

@@ -14,8 +14,7 @@ use Rattle.ll_laws.specs.declared.Candidate.{Candidate}
 use Rattle.ll_laws.specs.Settle.{Entry}
 use Rattle.ll_laws.specs.Attempt.{goal_tries, entry_tries, is_open}
 use Rattle.ll_laws.specs.Valid.{Allowed, Scope, IsFormula, GoalSide, ClauseSide, has_heads, is_headed, may_head, free_below, places_below}
-use Rattle.ll_laws.proofs.SubLaws.{and_left, and_right}
-use Rattle.ll_laws.proofs.ConsistentTerms.{and_intro}
+use Rattle.ll_laws.proofs.CallerLemmas.{and_left, and_right, and_intro}
 use Rattle.ll_freeze.specs.Reading.{reading}
 use Rattle.ll_freeze.specs.Shown.{shown_entry}
 use Rattle.ll_engine.specs.declared.heads.Predicate.{Predicate}

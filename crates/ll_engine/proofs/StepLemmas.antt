@@ -9,7 +9,7 @@ use Rattle.ll_laws.specs.Settle.{Entry, Item, Goal}
 use Rattle.ll_laws.specs.State.{State}
 use Rattle.ll_laws.specs.Unify.{mgu}
 use Rattle.ll_laws.specs.Attempt.{vars_from, entry_at, instantiated, with_leaf, take_leaf, take_way, take_entry, attempt_agenda, attempt}
-use Rattle.ll_laws.proofs.SubLaws.{IsClosing, leaf-sub, sub_leaf, ways-sub}
+use Rattle.ll_laws.proofs.CallerLemmas.{IsClosing, leaf-sub, sub_leaf, ways-sub}
 
 -- the leaf with this candidate's number of its entry, opened with the next variables, is taken if head and atom unify
 pub atom_step : (m : Setting) (s : State) (a : Term) (rest : List (Item Form)) (label k count : ℕ) (e : Entry Form) (l : Leaf) → s.agenda ≡ Goal (Atom a) ∷ rest → entry_at s.context label ≡ Some e

@@ -12,7 +12,7 @@ use Rattle.ll_bank.specs.Nodes.{Nodes}
 use Rattle.ll_laws.specs.Settle.{Entry}
 use Rattle.ll_laws.specs.Attempt.{entry_at}
 use Rattle.ll_laws.specs.Consistent.{labels_differ}
-use Rattle.ll_laws.proofs.SubLaws.{and_left, and_right}
+use Rattle.ll_laws.proofs.CallerLemmas.{and_left, and_right}
 use Rattle.ll_freeze.specs.Parts.{Parts}
 use Rattle.ll_freeze.specs.Fits.{Fits}
 use Rattle.ll_freeze.specs.Shown.{shown_entry, state_of}

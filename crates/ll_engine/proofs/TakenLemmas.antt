@@ -10,16 +10,14 @@ use Rattle.ll_bank.specs.declared.FormAt.{FormAt}
 use Rattle.ll_bank.specs.Term.{Term, Var, sub}
 use Rattle.ll_bank.specs.Form.{Form, sub_form}
 use Rattle.ll_bank.specs.Nodes.{Nodes, HasForm, AllInTerms, Extends, term_trees, form_tree}
-use Rattle.ll_bank.proofs.Trees.{Extends-trans}
+use Rattle.ll_bank.proofs.CallerLemmas.{Extends-trans}
 use Rattle.ll_laws.specs.Leaf.{Premise, Needs, NeedsFree, premise_goal}
 use Rattle.ll_laws.specs.Settle.{Saved, Entry, map_entry, unlive}
 use Rattle.ll_laws.specs.State.{sub_item, sub_entry}
 use Rattle.ll_laws.specs.Attempt.{is_linear, is_open, vars_from, entry_at, picked}
 use Rattle.ll_laws.specs.Valid.{Allowed, IsFormula, GoalSide}
 use Rattle.ll_laws.specs.Consistent.{is_made}
-use Rattle.ll_laws.proofs.SubLaws.{sub_premise, sub_same, map_same, and_left, and_right}
-use Rattle.ll_laws.proofs.ConsistentForms.{formula_of_fits}
-use Rattle.ll_laws.proofs.ConsistentLeaves.{PremisesFit}
+use Rattle.ll_laws.proofs.CallerLemmas.{sub_premise, sub_same, map_same, and_left, and_right, formula_of_fits, PremisesFit}
 use Rattle.ll_freeze.specs.declared.machine.Item.TheVariants.{Goal}
 use Rattle.ll_freeze.specs.Reading.{reading, read_term, read_form, HasValue}
 use Rattle.ll_freeze.specs.Shown.{shown_item, shown_entry}

@@ -12,7 +12,7 @@ use Rattle.ll_bank.specs.declared.FormNode.TheVariants.{Atom as AtomView}
 use Rattle.ll_bank.specs.Term.{Term, sub, close, applies_heads, is_closed, eigens_below, occurs}
 use Rattle.ll_bank.specs.Form.{Form, Atom, sub_form}
 use Rattle.ll_bank.specs.Nodes.{Nodes, HasTerm, HasForm, AllInTerms, Extends, term_tree, term_trees, form_tree}
-use Rattle.ll_bank.proofs.Trees.{Extends-trans, HasForm-extends, HasTerm-extends, form_tree-extends, AllInTerms-extends, term_trees-extends}
+use Rattle.ll_bank.proofs.CallerLemmas.{Extends-trans, HasForm-extends, HasTerm-extends, form_tree-extends, AllInTerms-extends, term_trees-extends}
 use Rattle.ll_laws.specs.declared.Candidate.{Candidate}
 use Rattle.ll_laws.specs.declared.Step.TheVariants.{Clause as ClauseStep}
 use Rattle.ll_laws.specs.Leaf.{Leaf, premise_goal, ways, leaf}
@@ -23,16 +23,9 @@ use Rattle.ll_laws.specs.Attempt.{vars_from, entry_at, picked, instantiated, wit
 use Rattle.ll_laws.specs.Problem.{ProblemTree, setting_of}
 use Rattle.ll_laws.specs.Valid.{Allowed, IsFormula, IsValid, GoalSide, ClauseSide}
 use Rattle.ll_laws.specs.Consistent.{IsConsistent, allowed_in, is_made}
-use Rattle.ll_laws.proofs.SubLaws.{IsClosing, ways-sub, sub_leaf, sub_premise, sub_same, and_left}
-use Rattle.ll_laws.proofs.ConsistentTerms.{grows-refl, Fit, AllFit, Goes, Grows, fit_of_made, fit-more, fit-sub, fit-vars, fit-eigens, and_intro}
-use Rattle.ll_laws.proofs.ConsistentStates.{levels-replicate}
-use Rattle.ll_laws.proofs.AnswerSteps.{level_up_to, new_level, occurs_below}
-use Rattle.ll_laws.proofs.ConsistentForms.{fits_of_formula, fits-more}
-use Rattle.ll_laws.proofs.ConsistentContexts.{formula-more}
-use Rattle.ll_laws.proofs.ConsistentLeaves.{LeafFits, leaf-fits}
-use Rattle.ll_laws.proofs.ConsistentSteps.{steps_consistent}
+use Rattle.ll_laws.proofs.CallerLemmas.{IsClosing, ways-sub, sub_leaf, sub_premise, sub_same, and_left, grows-refl, Fit, AllFit, Goes, Grows, fit_of_made, fit-more, fit-sub, fit-vars, fit-eigens, and_intro, levels-replicate, level_up_to, new_level, occurs_below, fits_of_formula, fits-more, formula-more, LeafFits, leaf-fits, steps_consistent}
 use Rattle.ll_freeze.specs.Resting.{RestsOn}
-use Rattle.ll_freeze.proofs.Resting.{step_rests}
+use Rattle.ll_freeze.proofs.CallerLemmas.{step_rests, modules_has, modules_later}
 use Rattle.ll_agenda.specs.declared.agenda.Top.{Top as AgendaTop}
 use Rattle.ll_resources.specs.Resources.{Resources, after_pick}
 use Rattle.ll_agenda.specs.Frames.{Frames, HasTop, items_at}
@@ -41,7 +34,6 @@ use Rattle.ll_freeze.specs.declared.machine.Item.{Item}
 use Rattle.ll_freeze.specs.declared.machine.Item.TheVariants.{Goal, LolliEnd, ImpEnd, Mid, WithEnd, BangEnd}
 use Rattle.ll_freeze.specs.Reading.{reading, read_term, read_form, HasValue}
 use Rattle.ll_freeze.specs.Shown.{shown_item, shown_entry, items_of, state_of}
-use Rattle.ll_freeze.proofs.CallerLemmas.{modules_has, modules_later}
 use Rattle.ll_freeze.specs.Fits.{setting, Fits, allowed, HasItem, IsGoalIn}
 use Rattle.ll_close.specs.Closing.{env_of}
 use Rattle.ll_engine.specs.Attempts.{Infers}

@@ -12,7 +12,7 @@ use Rattle.ll_laws.specs.State.{State, settle}
 use Rattle.ll_laws.specs.Attempt.{tries, attempt, successors}
 use Rattle.ll_laws.specs.Search.{answer_of, events, cost, forks, same_candidate, gives_some, count_fork}
 use Rattle.ll_laws.specs.Problem.{ProblemTree, setting_of}
-use Rattle.ll_laws.proofs.SearchLaws.{events_none, events_answer, events_reached, events_step, cost_none, cost_answer, cost_zero, cost_step}
+use Rattle.ll_laws.proofs.CallerLemmas.{events_none, events_answer, events_reached, events_step, cost_none, cost_answer, cost_zero, cost_step}
 use Rattle.ll_engine.specs.Seen.{Point, Spine}
 use Rattle.ll_laws.specs.Tried.{events_from, number_from, tried_events, tried_cost}
 use Rattle.ll_engine.specs.Owed.{owed, cost_left, one_if_some, open_points, work_by, work, work_left, Thins, put_point, if_running}

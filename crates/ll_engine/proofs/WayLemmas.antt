@@ -10,14 +10,11 @@ use Rattle.ll_bank.specs.declared.FormAt.{FormAt}
 use Rattle.ll_bank.specs.Term.{Term, Var, Int, Con, Ap, Env, close, applies_heads, is_spine, head_of}
 use Rattle.ll_bank.specs.Form.{Form, Top, One, Atom, With, Tensor, Plus, Bang, Lolli, Imp, Forall, Exists, Use, Num, close_form, form_applies_heads}
 use Rattle.ll_bank.specs.Nodes.{Nodes, HasTerm, HasForm, AllInTerms, Extends, term_tree, term_trees, form_tree}
-use Rattle.ll_bank.proofs.Trees.{HasForm-extends, form_tree-extends, AllInTerms-extends, term_trees-extends, Extends-refl, Extends-trans}
+use Rattle.ll_bank.proofs.CallerLemmas.{HasForm-extends, form_tree-extends, AllInTerms-extends, term_trees-extends, Extends-refl, Extends-trans}
 use Rattle.ll_laws.specs.Leaf.{Leaf, Premise, add_premise, premise_goal, ways, leaf, leaf_from}
 use Rattle.ll_laws.specs.Attempt.{vars_from}
 use Rattle.ll_laws.specs.Valid.{Allowed, Side, GoalSide, ClauseSide, Scope, has_heads, is_headed, may_head}
-use Rattle.ll_laws.proofs.SubLaws.{and_left, and_right}
-use Rattle.ll_laws.proofs.ConsistentTerms.{Grows, Closes, Widens, and_intro}
-use Rattle.ll_laws.proofs.ConsistentForms.{Fits as FormFits, fits_of_formula, formula_of_fits, fits-more, fits-close}
-use Rattle.ll_laws.proofs.ConsistentStates.{length-vars}
+use Rattle.ll_laws.proofs.CallerLemmas.{and_left, and_right, Grows, Closes, Widens, and_intro, Fits as FormFits, fits_of_formula, formula_of_fits, fits-more, fits-close, length-vars}
 use Rattle.ll_agenda.specs.declared.agenda.Top.{Top as AgendaTop}
 use Rattle.ll_agenda.specs.Frames.{Frames, ShowsItems, items_at}
 use Rattle.ll_freeze.specs.declared.machine.Item.{Item}

@@ -1,2 +1,3 @@
 pub mod Uptos
 pub mod Enoughs
+pub mod CallerLemmas

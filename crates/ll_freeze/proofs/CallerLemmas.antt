@@ -9,7 +9,7 @@ use Rattle.ll_bank.specs.Term.{Term, Var, sub}
 use Rattle.ll_bank.specs.Form.{Form, Top, One, Atom, With, Tensor, Plus, Bang, Lolli, Imp, Forall, Exists, Use, Num, sub_form}
 use Rattle.ll_bank.specs.Nodes.{Nodes, HasForm, term_tree, term_trees, form_tree, size_of, IsCutTo, Extends}
 use Rattle.std.proofs.lemmas.List.Elements.{All-head, All-tail, All-weaker}
-use Rattle.ll_bank.proofs.Trees.{HasForm-extends, form_tree-extends}
+use Rattle.ll_bank.proofs.CallerLemmas.{HasForm-extends, form_tree-extends}
 use Rattle.ll_laws.specs.declared.Clause.{Clause}
 use Rattle.ll_laws.specs.declared.Module.{Module}
 use Rattle.ll_laws.specs.Shown.{clause_tree, module_tree, HasClauses, HasModules}
@@ -20,7 +20,7 @@ use Rattle.ll_laws.specs.Valid.{Allowed, IsFormula, ClauseSide}
 use Rattle.ll_laws.specs.Consistent.{IsConsistent}
 use Rattle.ll_laws.specs.Problem.{ProblemTree, setting_of}
 use Rattle.ll_laws.specs.Attempt.{vars_from}
-use Rattle.ll_laws.proofs.SubLaws.{sub_same, map_same}
+use Rattle.ll_laws.proofs.CallerLemmas.{sub_same, map_same}
 use Rattle.ll_agenda.specs.Frames.{HasTop}
 use Rattle.ll_resources.specs.Resources.{Resources}
 use Rattle.ll_freeze.specs.Parts.{Parts}
@@ -31,6 +31,30 @@ use Rattle.ll_freeze.specs.Shown.{shown_item, shown_entry, items_of, state_of}
 use Rattle.ll_freeze.specs.Fits.{Fits, HasItem, IsGoalIn, allowed, setting}
 use Rattle.ll_freeze.specs.Calls.{SameTerms}
 use Rattle.ll_freeze.specs.Resting.{RestsOn}
+-- ---- the program's entries, which a search leaves where they are
+
+-- a state that rests on a program has it
+pub use Rattle.ll_freeze.proofs.Resting.{has_program}
+-- there are as many entries of the program as clauses
+pub use Rattle.ll_freeze.proofs.Resting.{program-length}
+-- an inference leaves the program's entries where they are
+pub use Rattle.ll_freeze.proofs.Resting.{step_rests}
+-- settling leaves the program's entries where they are
+pub use Rattle.ll_freeze.proofs.Resting.{settle_rests}
+-- ---- marks, and what keeps them
+
+-- a store keeps its own marks
+pub use Rattle.ll_freeze.proofs.Marks.{store_same}
+-- marks that are kept twice are kept
+pub use Rattle.ll_freeze.proofs.Marks.{store_then}
+-- a context keeps its own marks
+pub use Rattle.ll_freeze.proofs.Marks.{context_same}
+-- a machine is later than itself
+pub use Rattle.ll_freeze.proofs.Marks.{later_same}
+-- what is later than a later machine is later than the first
+pub use Rattle.ll_freeze.proofs.Marks.{later_then}
+-- what only has more keeps each good mark
+pub use Rattle.ll_freeze.proofs.Marks.{keeps}
 
 -- the state that parts show
 abbrev pub state_by : Nodes → List (Option At) → Resources FormAt → List Item → List ℕ → ℕ → List At → List Step → State

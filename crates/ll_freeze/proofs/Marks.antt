@@ -11,7 +11,7 @@ use Rattle.ll_bank.specs.declared.At.{At}
 use Rattle.ll_bank.specs.Nodes.{HasTerm}
 use Rattle.ll_agenda.specs.declared.agenda.Top.{Top}
 use Rattle.ll_agenda.specs.Frames.{HasTop, items_at}
-use Rattle.ll_agenda.proofs.Lists.{Extends-cut}
+use Rattle.ll_agenda.proofs.CallerLemmas.{Extends-cut}
 use Rattle.ll_store.specs.declared.cells.Cell.{Cell}
 use Rattle.ll_freeze.specs.Reading.{HasValue}
 use Rattle.ll_store.specs.Stored.{State, Stored, stored, state_of, IsBefore as IsStoreBefore, state_at, IsGood as IsGoodMark, KeepsMarks as KeepsStoreMarks, StandsFor as StoreStandsFor}

@@ -15,8 +15,7 @@ use Rattle.ll_laws.specs.Attempt.{entry_at, vars_from, picked, instantiated, wit
 use Rattle.ll_laws.specs.Search.{program_entries}
 use Rattle.ll_laws.specs.Problem.{ProblemTree, start_of}
 use Rattle.ll_laws.specs.Valid.{ClauseSide, AreClauses, given}
-use Rattle.ll_laws.proofs.ConsistentForms.{fits_of_formula}
-use Rattle.ll_laws.proofs.Grounding.{sub_none_form}
+use Rattle.ll_laws.proofs.CallerLemmas.{fits_of_formula, sub_none_form}
 use Rattle.ll_index.specs.Context.{AreOfProgram}
 use Rattle.ll_freeze.specs.Resting.{under_loads, RestsOn}
 

@@ -8,7 +8,7 @@ use Rattle.ll_bank.specs.declared.FormAt.{FormAt}
 use Rattle.ll_bank.specs.Term.{Term, Var, sub}
 use Rattle.ll_bank.specs.Form.{Form, Top, One, Atom, With, Tensor, Plus, Bang, Lolli, Imp, Forall, Exists, Use, Num, sub_form}
 use Rattle.ll_bank.specs.Nodes.{Nodes, HasTerm, HasForm, AllInTerms, Extends, ShowsTerm, term_tree, term_trees, form_tree}
-use Rattle.ll_bank.proofs.Trees.{HasForm-extends, form_tree-extends, AllInTerms-extends, term_trees-extends}
+use Rattle.ll_bank.proofs.CallerLemmas.{HasForm-extends, form_tree-extends, AllInTerms-extends, term_trees-extends}
 use Rattle.ll_laws.specs.declared.Clause.{Clause}
 use Rattle.ll_laws.specs.declared.Kind.{Kind}
 use Rattle.ll_laws.specs.Module.{ClauseTree, ModuleTree}
@@ -21,10 +21,7 @@ use Rattle.ll_laws.specs.declared.Module.{Module}
 use Rattle.ll_laws.specs.Attempt.{is_linear, vars_from}
 use Rattle.ll_laws.specs.Valid.{IsValid, IsFormula, AreClauses, Allowed, GoalSide, ClauseSide, given}
 use Rattle.ll_laws.specs.Consistent.{IsConsistent}
-use Rattle.ll_laws.proofs.SubLaws.{sub_id}
-use Rattle.ll_laws.proofs.ConsistentTerms.{Grows}
-use Rattle.ll_laws.proofs.ConsistentContexts.{formula-more}
-use Rattle.ll_laws.proofs.ConsistentStates.{starts_consistent, grows_given}
+use Rattle.ll_laws.proofs.CallerLemmas.{sub_id, Grows, formula-more, starts_consistent, grows_given}
 use Rattle.ll_resources.specs.Resources.{Resources, started, entries_from}
 use Rattle.ll_agenda.specs.Frames.{ShowsItems}
 use Rattle.ll_freeze.specs.Parts.{Parts, table}

@@ -6,7 +6,7 @@ use Rattle.std.proofs.lemmas.List.Elements.{All-head, All-tail, All-cons, All-ap
 use Rattle.ll_bank.specs.Form.{Form}
 use Rattle.ll_bank.specs.Nodes.{Nodes, Extends, HasForm}
 use Rattle.ll_bank.specs.Term.{Term}
-use Rattle.ll_bank.proofs.Trees.{HasTerm-extends, HasForm-extends, term_tree-extends, form_tree-extends}
+use Rattle.ll_bank.proofs.CallerLemmas.{HasTerm-extends, HasForm-extends, term_tree-extends, form_tree-extends}
 use Rattle.ll_agenda.specs.Frames.{Frames, items_at}
 use Rattle.ll_laws.specs.declared.Candidate.{Candidate}
 use Rattle.ll_laws.specs.declared.Kind.{Kind}
@@ -25,6 +25,14 @@ use Rattle.ll_index.specs.Listed.{shown_premises, listed, IsStored}
 use Rattle.ll_index.specs.Keys.{key_of, leaf_keys, IsChained}
 use Rattle.ll_index.specs.Index.{IsIndex}
 use Rattle.ll_index.specs.Context.{AreOfProgram, is_open_entry, is_open_at}
+-- ---- which leaves may stand for an atom
+
+-- a leaf that opens stands in the clause
+pub use Rattle.ll_index.proofs.StandingLaws.{stands_as}
+-- atoms whose first arguments have outermost signs that clash have no unifier
+pub use Rattle.ll_index.proofs.FirstLaws.{clashes_give_nothing}
+-- the sign of an application that is read from a bank
+pub use Rattle.ll_index.proofs.KeyLemmas.{sign_of-read}
 
 -- ---- an index stays one as the bank grows
 

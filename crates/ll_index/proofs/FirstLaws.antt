@@ -15,7 +15,7 @@ use Rattle.ll_laws.specs.Settle.{Entry, Item, Goal}
 use Rattle.ll_laws.specs.State.{State}
 use Rattle.ll_laws.specs.Leaf.{Leaf, leaf, ways}
 use Rattle.ll_laws.specs.Attempt.{entry_at, entry_tries, leaf_tries, is_open, leaf_head, fits_head, vars_from, instantiated, with_leaf, take_leaf, take_way, take_entry, attempt, attempt_agenda}
-use Rattle.ll_laws.proofs.SubLaws.{and_left}
+use Rattle.ll_laws.proofs.CallerLemmas.{and_left}
 use Rattle.ll_index.specs.declared.laws.First.{First}
 use Rattle.ll_index.specs.declared.laws.First.TheVariants.{Open, Int as IntSign, Head as NameSign}
 use Rattle.ll_index.specs.Standing.{env_under}

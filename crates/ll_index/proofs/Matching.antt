@@ -20,8 +20,7 @@ use Rattle.ll_laws.specs.Leaf.{ways, leaf}
 use Rattle.ll_laws.specs.Settle.{Entry}
 use Rattle.ll_laws.specs.Attempt.{is_linear, is_open, fits_head, leaf_head, leaf_tries, vars_from}
 use Rattle.ll_laws.specs.Search.{program_entries}
-use Rattle.ll_laws.proofs.UnifyLaws.{or_cases}
-use Rattle.ll_laws.proofs.ConsistentStates.{length-vars}
+use Rattle.ll_laws.proofs.CallerLemmas.{or_cases, length-vars}
 use Rattle.ll_index.specs.declared.laws.First.{First}
 use Rattle.ll_index.specs.declared.laws.First.TheVariants.{Open, Int as IntSign, Head as NameSign}
 use Rattle.ll_index.specs.contracts.laws.FirstPartialEq.TheImpl.{eq-value as first_eq}

@@ -7,8 +7,7 @@ use Rattle.ll_bank.specs.Term.{Term, Env, close}
 use Rattle.ll_bank.specs.Form.{Form, Atom, With, Lolli, Imp, Forall, close_form}
 use Rattle.ll_laws.specs.declared.Kind.TheVariants.{Linear, Unbounded}
 use Rattle.ll_laws.specs.Leaf.{Premise, Needs, NeedsFree, Leaf, add_premise, leaf_from, leaf, ways}
-use Rattle.ll_laws.proofs.SubLaws.{map_same, map_map}
-use Rattle.ll_laws.proofs.LeafWays.{leaf_ways}
+use Rattle.ll_laws.proofs.CallerLemmas.{map_same, map_map, leaf_ways}
 use Rattle.ll_index.specs.Standing.{StandingPremise, StandingLeaf, leaves_under, standing_leaves, env_under, opened_premise, opened_leaf, LeavesStand, LeavesOpen}
 
 -- ---- lists one behind the other

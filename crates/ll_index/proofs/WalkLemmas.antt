@@ -10,7 +10,7 @@ use Rattle.ll_bank.specs.declared.FormAt.{FormAt}
 use Rattle.ll_bank.specs.Form.{Form, With, Lolli, Imp, Forall}
 use Rattle.ll_bank.specs.Nodes.{Nodes, form_tree, term_tree, HasForm}
 use Rattle.ll_agenda.specs.Frames.{Frames, items_at, HasTop, ShowsItems, Extends}
-use Rattle.ll_agenda.proofs.Lists.{HasTop-extends, items_at-extends, Extends-refl, Extends-trans}
+use Rattle.ll_agenda.proofs.CallerLemmas.{HasTop-extends, items_at-extends, Extends-refl, Extends-trans}
 use Rattle.ll_laws.specs.declared.Clause.{Clause}
 use Rattle.ll_laws.specs.Module.{ClauseTree}
 use Rattle.ll_laws.specs.Shown.{clause_tree}

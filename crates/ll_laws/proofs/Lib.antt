@@ -47,3 +47,4 @@ pub mod Hiding
 pub mod ShownFound
 pub mod CompletenessRows
 pub mod Numberless
+pub mod CallerLemmas

@@ -9,3 +9,4 @@ pub mod Listed
 pub mod Ascii
 pub mod Few
 pub mod ReadBack
+pub mod CallerLemmas

@@ -1,3 +1,4 @@
 pub mod Closing
 pub mod Loading
 pub mod Evaluating
+pub mod CallerLemmas

@@ -5,7 +5,7 @@ use Rattle.ll_bank.specs.declared.At.{At}
 use Rattle.ll_bank.specs.Term.{Term}
 use Rattle.ll_bank.specs.Form.{Form, close_form, instantiate, form_applies_heads}
 use Rattle.ll_bank.specs.Nodes.{Nodes, term_tree, term_trees, form_tree, AllInTerms, Extends}
-use Rattle.ll_bank.proofs.Trees.{term_tree-extends, term_trees-extends}
+use Rattle.ll_bank.proofs.CallerLemmas.{term_tree-extends, term_trees-extends}
 use Rattle.ll_laws.specs.declared.Clause.{Clause}
 use Rattle.ll_laws.specs.Module.{load, load_all}
 use Rattle.ll_laws.specs.Shown.{clause_tree, HasClauses}

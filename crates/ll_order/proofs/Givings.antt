@@ -15,8 +15,7 @@ use Rattle.ll_laws.specs.CoreEvents as core
 use Rattle.ll_core.specs.Calls.{ready_answer}
 use Rattle.ll_core.specs.declared.answers.Ready.{Ready}
 use Rattle.ll_core.specs.declared.answers.Ready.TheVariants as ready
-use Rattle.ll_core.proofs.Cuts.{cut_sum, cut_twice}
-use Rattle.ll_core.proofs.Laters.{later_on, later_event}
+use Rattle.ll_core.proofs.CallerLemmas.{cut_sum, cut_twice, later_on, later_event}
 use Rattle.ll_order.specs.Outlets.{Gives, Refuses, CountsOf, events_left, cost_left}
 use Rattle.ll_order.specs.Drained.{Drained, count_untaken}
 use Rattle.ll_order.proofs.Lefts.{took_left, took_less, always_ready}

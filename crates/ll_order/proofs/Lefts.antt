@@ -9,13 +9,7 @@ use Rattle.ll_laws.specs.Spread.{piece_of, kids_of, published_by, length_of, wal
 use Rattle.ll_laws.specs.Sound.{Every, Shaped, is_open, is_taken, is_taken_status}
 use Rattle.ll_laws.specs.CoreEvents.{change, with_status, took, MayTake, Readies, NotYet, report_in, report_left, reports_left}
 use Rattle.ll_core.specs.Given.{total}
-use Rattle.ll_core.proofs.Walks.{walk_same}
-use Rattle.ll_core.proofs.Once.{total-append, one_if, is_at}
-use Rattle.ll_core.proofs.Pieces.{found, lookup, none_not_some, some_is, is_of_from}
-use Rattle.ll_core.proofs.Unique.{unique}
-use Rattle.ll_core.proofs.Statuses.{read_same, piece_here, piece_elsewhere}
-use Rattle.ll_core.proofs.AllClaimed.{all_claimed, closed_all}
-use Rattle.ll_core.proofs.Given.{taken_piece, walk_inside, every_back}
+use Rattle.ll_core.proofs.CallerLemmas.{walk_same, total-append, one_if, is_at, found, lookup, none_not_some, some_is, is_of_from, unique, read_same, piece_here, piece_elsewhere, all_claimed, closed_all, taken_piece, walk_inside, every_back}
 use Rattle.ll_order.specs.Drained.{count_untaken}
 
 module _ {N E : Type 0} (alternatives : N → List (Owed E)) (p : PoolData N E) (s : Shaped alternatives p) where

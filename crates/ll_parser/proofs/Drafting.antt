@@ -1,7 +1,7 @@
 -- What the clauses and modules so far show stays while nodes are added, and what a token outside of a formula does.
 use Rattle.std.proofs.Common.{◌≡◌, ℕ, ◌<◌, ◌≤◌, Bool, true, false, List, [], ◌++◌, length, map, All, get_or, Option, Some, None, option_map, refl, sym, subst, ◌∙◌, ap, append-nil, arith, length-append}
 use Rattle.ll_lexer.specs.declared.Place.{Place}
-use Rattle.ll_bank.proofs.Growing.{grow_kept}
+use Rattle.ll_bank.proofs.CallerLemmas.{grow_kept}
 use Rattle.ll_parser.specs.declared.RawAt.{RawAt}
 use Rattle.ll_parser.specs.declared.RawClause.{RawClause}
 use Rattle.ll_parser.specs.declared.RawModule.{RawModule}

@@ -11,7 +11,7 @@ use Rattle.ll_lexer.specs.declared.TokenKind.{TokenKind}
 use Rattle.ll_lexer.specs.declared.TokenKind.TheVariants as kind
 use Rattle.ll_lexer.specs.Spelling.{is_digit, is_word_byte, fixed_spellings, kind_of, Spells, IsLongest}
 use Rattle.ll_lexer.specs.Reading.{is_blank, place_at, IsGap, blank, past_64_bits, long_name, long_variable, IsSound, number_value, End, Lexes, gap, token, token_at}
-use Rattle.ll_lexer.proofs.ReadBack.{goes_on, Ends, spelled-read}
+use Rattle.ll_lexer.proofs.CallerLemmas.{goes_on, Ends, spelled-read}
 use Rattle.ll_parser.specs.Tokens.{Identifier, Tok, name, variable, number, tok_by, tok_of}
 use Rattle.ll_parser.specs.Bare.{nowhere, bare_tok}
 use Rattle.ll_parser.proofs.NumberText.{spelled-number, value-number}

@@ -45,3 +45,4 @@ pub mod ProgramTexts
 pub mod Drafting
 pub mod Naming
 pub mod Running
+pub mod CallerLemmas

@@ -11,8 +11,7 @@ use Rattle.std.proofs.lemmas.Str.Parse.{IsDigitsTest, IsNumeralModel, numerals_b
 use Rattle.ll_lexer.specs.declared.TokenKind.TheVariants as kind
 use Rattle.ll_lexer.specs.Spelling.{is_digit, Spells}
 use Rattle.ll_lexer.specs.Reading.{number_value}
-use Rattle.ll_lexer.proofs.Longest.{number-longest, negative-longest}
-use Rattle.ll_lexer.proofs.Spelled.{both}
+use Rattle.ll_lexer.proofs.CallerLemmas.{number-longest, negative-longest, both}
 
 tests-digits : IsDigitsTest (λ ds. list_all is_digit ds ≡ true)
 unfolding is_digit

@@ -3,7 +3,7 @@ use Rattle.std.proofs.Common.{◌≡◌, ℕ, ◌+◌, ◌-◌, ◌<◌, ◌≤�
 use Rattle.std.proofs.Math.Seq.{take-append_seam, take-length}
 use Rattle.std.proofs.lemmas.List.{take-append-le, drop-append-le, length-take-le, reverse-append}
 use Rattle.std.proofs.lemmas.List.Elements.{All-take, All-drop, All-push}
-use Rattle.ll_bank.proofs.Growing.{grow_kept, grow_last}
+use Rattle.ll_bank.proofs.CallerLemmas.{grow_kept, grow_last}
 use Rattle.ll_lexer.specs.declared.Place.{Place}
 use Rattle.ll_parser.specs.declared.Named.{Named}
 use Rattle.ll_parser.specs.declared.RawAt.{RawAt}

@@ -6,29 +6,9 @@ use Rattle.ll_parser.specs.Raw.{Raw, truth, erasure, braces, universal, existent
 use Rattle.ll_parser.specs.Grammar.{Term, of_app, cons, App, applied, app_any, app_number, app_bracket, Simple, simple_word, simple_any, simple_number, simple_bracket, Simples, no_more, and_then, Formula, of_arrow, clause, Arrow, of_sum, implies, loads, Sum, of_with, plus, With, of_tensor, with, Tensor, of_primary, times, Primary, truly, erased, bracket, brace, quantified, atom, clause_token, arrow_token, term_tokens, app_tokens, simple_tokens, simples_tokens, formula_tokens, arrow_tokens, sum_tokens, with_tokens, tensor_tokens, primary_tokens, term_raw, app_raw, simple_raw, simples_raws, formula_raw, arrow_raw, sum_raw, with_raw, tensor_raw, primary_raw, Plain, plain_word, plain_any, plain_number, Expr, of_product, adds, Product, of_item, multiplies, Item, item_plain, item_bracket, First, first_plain, first_times, Lead, of_first, lead_adds, valued, tested, by_less, by_most, add_token, expr_tokens, product_tokens, item_tokens, first_tokens, lead_tokens, plain_raw, expr_raw, product_raw, item_raw, first_raw, lead_raw}
 use Rattle.ll_parser.specs.Text.{Clause, plain, linear, Module, Query, bare, dotted, clause_tokens, locals_tokens, heading_tokens, clauses_tokens, module_tokens, modules_tokens, program_tokens, clause_tree, module_tree, query_tokens, query_tree, programs, queries}
 use Rattle.ll_parser.specs.Reads.{IsWhole}
+use Rattle.ll_parser.specs.Weights.{weight, weights, clauses_weight, modules_weight}
 
 -- ---- raw trees
-
--- the number of nodes
-abbrev mutual
-  pub weight : Raw → ℕ
-  weight (truth at) = 1
-  weight (erasure at) = 1
-  weight (braces at r) = suc (weight r)
-  weight (universal at n r) = suc (weight r)
-  weight (existential at n r) = suc (weight r)
-  weight (load at m args r) = suc (weights args + weight r)
-  weight (binary o at l r) = suc (weight l + weight r)
-  weight (is_goal at l r) = suc (weight l + weight r)
-  weight (less_goal at l r) = suc (weight l + weight r)
-  weight (most_goal at l r) = suc (weight l + weight r)
-  weight (head n args) = suc (weights args)
-  weight (anything at) = 1
-  weight (int at z) = 1
-
-  pub weights : RawList → ℕ
-  weights none = 0
-  weights (more r rs) = weight r + weights rs
 
 -- every other raw tree is that of a term alone
 abbrev pub IsForm : Raw → Type 0
@@ -235,16 +215,6 @@ small_query tree (ts, few, spelled, ((q, e, f), within)) = subst (IsSmall 167772
     by (dotted g end) le = small_of 16777216 (formula_raw g) (formula_tokens g) (light_formula g) (let a = length-append (formula_tokens g) (dot end ∷ []) in omega arith)
 
 -- ---- all nodes of a program
-
--- the nodes of the clauses
-abbrev pub clauses_weight : List ClauseTree → ℕ
-clauses_weight [] = 0
-clauses_weight (c ∷ cs) = weight c.form + clauses_weight cs
-
--- the nodes of the modules, and one for the name of each
-abbrev pub modules_weight : List ModuleTree → ℕ
-modules_weight [] = 0
-modules_weight (m ∷ ms) = suc (clauses_weight m.clauses + modules_weight ms)
 
 light_clause : (c : Clause) → weight (clause_tree c).form ≤ length (clause_tokens c)
 light_clause (plain f end) = omega (arith, (light_formula f).light, length-append (formula_tokens f) (dot end ∷ []))

@@ -14,7 +14,7 @@ use Rattle.ll_lexer.specs.declared.TokenKind.{TokenKind}
 use Rattle.ll_lexer.specs.declared.TokenKind.TheVariants as kind
 use Rattle.ll_lexer.specs.Spelling.{Spells}
 use Rattle.ll_lexer.specs.Reading.{past_64_bits, long_name, long_variable, IsSound, number_value, LexedText, IsLexed, done, IsTokenOf, bytes_of}
-use Rattle.ll_lexer.proofs.OneReading.{token-found}
+use Rattle.ll_lexer.proofs.CallerLemmas.{token-found}
 use Rattle.ll_parser.specs.Tokens.{Tok, any, tok_by, tok_of, toks_of, IsSpelled}
 use Rattle.ll_parser.specs.Text.{Language}
 use Rattle.ll_parser.specs.Reads.{Reads, IsWhole}

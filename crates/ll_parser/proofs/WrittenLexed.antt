@@ -6,7 +6,7 @@ use Rattle.ll_lexer.specs.declared.TokenKind.{TokenKind}
 use Rattle.ll_lexer.specs.declared.TokenKind.TheVariants as kind
 use Rattle.ll_lexer.specs.Spelling.{is_word_byte, is_digit}
 use Rattle.ll_lexer.specs.Reading.{place_at, done, Lexes, at_end, LexedText, IsLexed}
-use Rattle.ll_lexer.proofs.ReadBack.{goes_on}
+use Rattle.ll_lexer.proofs.CallerLemmas.{goes_on}
 use Rattle.ll_parser.specs.declared.Quantifier.TheVariants as quantifier
 use Rattle.ll_parser.specs.Tokens.{Identifier, Tok, tok_by, toks_of, any, true_word, erase_word, forall_word, exists_word, module_word, local_word, linear_word, dot, comma, ampersand, semicolon, paren_left, paren_right, brace_left, brace_right, backslash, cons_sign, colon_dash, left_arrow, right_arrow, lolli, load_arrow, is_sign, less_sign, most_sign, plus_sign, minus_sign, star_sign}
 use Rattle.ll_parser.specs.Grammar.{Word, lower, upper, Term, of_app, cons, App, applied, app_any, app_number, app_bracket, Simple, simple_word, simple_any, simple_number, simple_bracket, Simples, no_more, and_then, by_colon, by_left, by_lolli, by_right, Formula, of_arrow, clause, Arrow, of_sum, implies, loads, Sum, of_with, plus, With, of_tensor, with, Tensor, of_primary, times, Primary, truly, erased, bracket, brace, quantified, atom, word_token, word_identifier, clause_token, arrow_token, term_tokens, app_tokens, simple_tokens, simples_tokens, formula_tokens, arrow_tokens, sum_tokens, with_tokens, tensor_tokens, primary_tokens, Plain, plain_word, plain_any, plain_number, Expr, of_product, adds, Product, of_item, multiplies, Item, item_plain, item_bracket, First, first_plain, first_times, Lead, of_first, lead_adds, valued, tested, by_plus, by_minus, by_less, by_most, plain_token, expr_tokens, product_tokens, item_tokens, first_tokens, lead_tokens}

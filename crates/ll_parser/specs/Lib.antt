@@ -13,3 +13,4 @@ pub mod Symbols
 pub mod Printed
 pub mod Bare
 pub mod Drafts
+pub mod Weights

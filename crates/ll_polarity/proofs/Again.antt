@@ -7,7 +7,7 @@ use Rattle.ll_bank.specs.declared.Head.TheVariants as head
 use Rattle.ll_bank.specs.Names.{with_name}
 use Rattle.ll_bank.specs.Term.{Term, Con, apply}
 use Rattle.ll_bank.specs.Form.{Form, Atom, Bang, Forall, Exists, Use, Num, Relation, Is, Less, Most}
-use Rattle.ll_bank.proofs.NameLaws.{number_of-slice_get, with_name-present}
+use Rattle.ll_bank.proofs.CallerLemmas.{number_of-slice_get, with_name-present}
 use Rattle.ll_laws.specs.Valid.{Side}
 use Rattle.ll_parser.specs.Raw.{Raw, truth, erasure, braces, universal, existential, load, binary, is_goal, less_goal, most_goal, anything, int, RawList, none, more}
 use Rattle.ll_parser.specs.Raw as raw

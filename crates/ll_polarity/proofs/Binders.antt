@@ -9,7 +9,7 @@ use Rattle.std.proofs.lemmas.List.{get_or-set_same, get_or-set_other, get_or_pas
 use Rattle.std.proofs.lemmas.Option.{slice_get-get_or, get_or_from_slice_get}
 use Rattle.std.proofs.lemmas.Slice.Eq.{bytes_eq-Decides}
 use Rattle.ll_bank.specs.Names.{number_of}
-use Rattle.ll_bank.proofs.NameLaws.{number_of-slice_get}
+use Rattle.ll_bank.proofs.CallerLemmas.{number_of-slice_get}
 use Rattle.ll_polarity.specs.declared.scope.Innermost.{Innermost}
 use Rattle.ll_polarity.specs.declared.scope.Row.{Row}
 use Rattle.ll_polarity.specs.Scope.{Binder, Meaning, bound_by, unbound, is_variable, meaning, meaning_from, Scoped}

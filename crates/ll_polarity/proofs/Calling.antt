@@ -7,14 +7,15 @@ use Rattle.std.proofs.lemmas.Option.{slice_get_within, get_or_from_slice_get}
 use Rattle.ll_bank.specs.declared.At.{At}
 use Rattle.ll_bank.specs.Term.{Term}
 use Rattle.ll_bank.specs.Nodes.{Nodes, term_tree, term_trees, HasTerm, AllInTerms, ShowsTerm, Extends}
-use Rattle.ll_bank.proofs.Trees.{Extends-trans, AllInTerms-extends, term_trees-extends}
+use Rattle.ll_bank.proofs.CallerLemmas.{Extends-trans, AllInTerms-extends, term_trees-extends}
 use Rattle.ll_parser.specs.declared.RawAt.{RawAt}
 use Rattle.ll_parser.specs.Tokens.{Identifier}
 use Rattle.ll_parser.specs.Nodes.{Node, raw_in, raws_in, raw_at, raw_trees}
 use Rattle.ll_parser.specs.Seen.{places}
 use Rattle.ll_parser.specs.Raw.{Raw, truth, erasure, braces, universal, existential, load, binary, is_goal, less_goal, most_goal, anything, int, RawList, none, more}
 use Rattle.ll_parser.specs.Raw as raw
-use Rattle.ll_parser.proofs.Sizes.{weight, weights, weight_some}
+use Rattle.ll_parser.specs.Weights.{weight, weights}
+use Rattle.ll_parser.proofs.CallerLemmas.{weight_some}
 use Rattle.ll_polarity.specs.declared.put_terms.Call.{Call}
 use Rattle.ll_polarity.specs.declared.put_terms.Turn.{Turn}
 use Rattle.ll_polarity.specs.declared.put_terms.Turn.TheVariants as turn

@@ -6,7 +6,7 @@ use Rattle.std.specs.Str.{bytes_eq}
 use Rattle.std.proofs.lemmas.List.{length-map, map-append}
 use Rattle.std.proofs.lemmas.List.Elements.{All-head, All-tail, All-push}
 use Rattle.ll_bank.specs.Nodes.{Nodes, HasForm, Extends}
-use Rattle.ll_bank.proofs.Trees.{Extends-trans, HasForm-extends, form_tree-extends}
+use Rattle.ll_bank.proofs.CallerLemmas.{Extends-trans, HasForm-extends, form_tree-extends}
 use Rattle.ll_lexer.specs.declared.Fault.{Fault}
 use Rattle.ll_laws.specs.declared.Clause.{Clause}
 use Rattle.ll_laws.specs.Shown.{clause_tree, HasClauses}
@@ -18,7 +18,7 @@ use Rattle.ll_polarity.specs.Asks.{read_clause, read_clauses}
 use Rattle.ll_polarity.specs.Faults.{Heading, form_faults, clauses_faults}
 use Rattle.ll_polarity.proofs.Terms.{none_left, none_right}
 use Rattle.ll_parser.specs.Raw.{Raw}
-use Rattle.ll_parser.proofs.Sizes.{weight, clauses_weight}
+use Rattle.ll_parser.specs.Weights.{weight, clauses_weight}
 use Rattle.ll_polarity.specs.Scope.{Scope}
 use Rattle.ll_polarity.specs.Reading.{Met, read_form, module_in}
 use Rattle.ll_polarity.specs.Numbered.{text_of, variables_of}

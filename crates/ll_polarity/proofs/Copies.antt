@@ -9,7 +9,7 @@ use Rattle.std.proofs.lemmas.List.Quantifiers.{position-Some}
 use Rattle.std.proofs.lemmas.Option.{slice_get_within, get_or_from_slice_get}
 use Rattle.ll_bank.specs.Names.{with_name}
 use Rattle.ll_bank.specs.Nodes.{Nodes, size_of, IsCutTo}
-use Rattle.ll_bank.proofs.NameLaws.{number_of-slice_get}
+use Rattle.ll_bank.proofs.CallerLemmas.{number_of-slice_get}
 use Rattle.ll_laws.specs.declared.Clause.{Clause}
 use Rattle.ll_laws.specs.declared.Module.{Module}
 use Rattle.ll_laws.specs.Shown.{clause_tree, module_tree, HasClauses, HasModules}

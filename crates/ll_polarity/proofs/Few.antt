@@ -3,12 +3,13 @@ use Rattle.std.proofs.Common.{ℕ, suc, ◌+◌, ◌≤◌, Bool, true, false, L
 use Rattle.std.specs.List.{list_any}
 use Rattle.ll_bank.specs.Names.{with_name}
 use Rattle.ll_bank.specs.Form.{Relation, Is, Less, Most}
-use Rattle.ll_bank.proofs.NameLaws.{length-with_name}
+use Rattle.ll_bank.proofs.CallerLemmas.{length-with_name}
 use Rattle.ll_parser.specs.Raw.{Raw, truth, erasure, braces, universal, existential, load, binary, is_goal, less_goal, most_goal, head, anything, int, RawList, none, more, ProgramTree}
 use Rattle.ll_parser.specs.Raw as raw
 use Rattle.ll_parser.specs.Text.{programs, queries}
 use Rattle.ll_parser.specs.Reads.{IsWhole}
-use Rattle.ll_parser.proofs.Sizes.{weight, weights, clauses_weight, modules_weight, few_nodes, small_query}
+use Rattle.ll_parser.specs.Weights.{weight, weights, clauses_weight, modules_weight}
+use Rattle.ll_parser.proofs.CallerLemmas.{few_nodes, small_query}
 use Rattle.ll_polarity.specs.Scope.{Scope, binds, Meaning, Bound, Local, Free, Constant, meaning, module_scope}
 use Rattle.ll_polarity.specs.Reading.{Met, has_text, read_name, read_term, read_terms, read_number, read_form}
 use Rattle.ll_polarity.specs.Asks.{module_names, read_clause, read_clauses, read_module, read_modules, part_of, read_asked, modules_of, problem_with}

@@ -10,8 +10,7 @@ use Rattle.ll_laws.specs.Module.{ModuleTree}
 use Rattle.ll_laws.specs.Leaf.{ways}
 use Rattle.ll_laws.specs.Valid.{Side, GoalSide, ClauseSide, given, each_term, names_below, arity_up_to, fits_module, leaves_up_to}
 use Rattle.ll_laws.specs.Valid as valid
-use Rattle.ll_laws.proofs.ConsistentTerms.{and_intro}
-use Rattle.ll_laws.proofs.ConsistentForms.{Fits}
+use Rattle.ll_laws.proofs.CallerLemmas.{and_intro, Fits}
 use Rattle.ll_parser.specs.declared.Op.{Op}
 use Rattle.ll_parser.specs.declared.Op.TheVariants as op
 use Rattle.ll_parser.specs.Tokens.{Identifier}
@@ -20,7 +19,8 @@ use Rattle.ll_polarity.specs.Scope.{Scope, binds, meaning}
 use Rattle.ll_polarity.specs.Reading.{Met, read_name, read_term, read_terms, joined, module_in, read_number, read_form}
 use Rattle.ll_polarity.specs.Faults.{unless, count, may_be_head, term_faults, terms_faults, on_goal_side, left_side, right_side, may_join, Heading, is_named, load_fault, number_faults, form_faults}
 use Rattle.ll_polarity.proofs.Grows.{longer_term, longer_form}
-use Rattle.ll_parser.proofs.Sizes.{weight, IsForm}
+use Rattle.ll_parser.specs.Weights.{weight}
+use Rattle.ll_parser.proofs.CallerLemmas.{IsForm}
 use Rattle.ll_polarity.proofs.Weight.{length-read_terms}
 use Rattle.ll_polarity.proofs.Meant.{places}
 use Rattle.ll_polarity.proofs.Terms.{none_left, none_right, none_unless, Room, IsIn, in_before, IsTerm, AreTerms, IsApplied, applied_term, read_is_term, read_are_terms}

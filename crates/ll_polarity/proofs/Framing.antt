@@ -9,11 +9,11 @@ use Rattle.std.proofs.lemmas.List.{append-nil}
 use Rattle.ll_bank.specs.declared.FormAt.{FormAt}
 use Rattle.ll_bank.specs.Form.{Form, Use}
 use Rattle.ll_bank.specs.Nodes.{Nodes, form_tree, ShowsForm, Extends}
-use Rattle.ll_bank.proofs.Trees.{Extends-trans, HasForm-extends, form_tree-extends, AllInTerms-extends, term_trees-extends}
+use Rattle.ll_bank.proofs.CallerLemmas.{Extends-trans, HasForm-extends, form_tree-extends, AllInTerms-extends, term_trees-extends}
 use Rattle.ll_parser.specs.declared.RawAt.{RawAt}
 use Rattle.ll_parser.specs.Nodes.{raw_at}
 use Rattle.ll_parser.specs.Raw.{Raw, load}
-use Rattle.ll_parser.proofs.Sizes.{weight}
+use Rattle.ll_parser.specs.Weights.{weight}
 use Rattle.ll_polarity.specs.declared.front.Place.{Place}
 use Rattle.ll_polarity.specs.declared.put_forms.Frame.{Frame}
 use Rattle.ll_polarity.specs.declared.put_forms.Frame.TheVariants as frame

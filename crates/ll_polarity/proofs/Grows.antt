@@ -9,7 +9,7 @@ use Rattle.std.proofs.lemmas.Option.{slice_get_within}
 use Rattle.std.proofs.lemmas.Slice.Eq.{bytes_eq-Decides}
 use Rattle.ll_bank.specs.Names.{with_name}
 use Rattle.ll_bank.specs.Form.{Relation, Is, Less, Most}
-use Rattle.ll_bank.proofs.NameLaws.{slice_get-number_of, number_of-with_name, slice_get-with_name}
+use Rattle.ll_bank.proofs.CallerLemmas.{slice_get-number_of, number_of-with_name, slice_get-with_name}
 use Rattle.ll_parser.specs.Raw.{Raw, truth, erasure, braces, universal, existential, load, binary, is_goal, less_goal, most_goal, head, anything, int, RawList, none, more}
 use Rattle.ll_polarity.specs.Scope.{Scope, binds, Meaning, Bound, Local, Free, Constant, meaning}
 use Rattle.ll_polarity.specs.Reading.{Met, has_text, number_in, variable_in, with_variable, read_name, read_term, read_terms, read_number, read_form}

@@ -6,7 +6,7 @@ use Rattle.std.specs.Str.{bytes_eq}
 use Rattle.std.proofs.lemmas.List.{length-map, map-append}
 use Rattle.std.proofs.lemmas.List.Elements.{All-head, All-tail, All-push, All-from_recursion}
 use Rattle.ll_bank.specs.Nodes.{Nodes, Extends}
-use Rattle.ll_bank.proofs.Trees.{Extends-trans, HasForm-extends}
+use Rattle.ll_bank.proofs.CallerLemmas.{Extends-trans, HasForm-extends}
 use Rattle.ll_lexer.specs.declared.Fault.{Fault}
 use Rattle.ll_laws.specs.declared.Module.{Module}
 use Rattle.ll_laws.specs.Shown.{module_tree, HasClauses, HasModules}
@@ -18,7 +18,7 @@ use Rattle.ll_parser.specs.Raw as raw
 use Rattle.ll_parser.specs.Text.{programs}
 use Rattle.ll_parser.specs.Text as text
 use Rattle.ll_parser.specs.Reads.{IsWhole}
-use Rattle.ll_parser.proofs.Sizes.{clauses_weight, modules_weight}
+use Rattle.ll_parser.specs.Weights.{clauses_weight, modules_weight}
 use Rattle.ll_polarity.specs.Asks.{read_module, read_modules}
 use Rattle.ll_polarity.specs.Faults.{Heading, clauses_faults, modules_faults}
 use Rattle.ll_polarity.specs.Reading.{module_in}

@@ -15,7 +15,7 @@ use Rattle.ll_parser.specs.Grammar.{lower, upper, Plain, plain_word, plain_any, 
 use Rattle.ll_parser.specs.Text.{Clause, plain, linear, Local, Module, Query, bare, dotted, names, variables, clause_tokens, local_tokens, locals_tokens, heading_tokens, clauses_tokens, module_tokens, modules_tokens, program_tokens, query_tokens, clause_tree, locals_of, module_tree, query_tree, programs, queries}
 use Rattle.ll_parser.specs.Reads.{IsWhole}
 use Rattle.ll_parser.specs.Nodes.{identifier}
-use Rattle.ll_parser.proofs.Printable.{IsLower, IsUpper, IsWord, IsTerm, AreTerms, IsPlainTerm, IsExpr, IsLead, IsFormula, Spelled, spelled-split, formula-printable}
+use Rattle.ll_parser.proofs.CallerLemmas.{IsLower, IsUpper, IsWord, IsTerm, AreTerms, IsPlainTerm, IsExpr, IsLead, IsFormula, Spelled, spelled-split, formula-printable}
 use Rattle.ll_polarity.proofs.Binders.{not_below}
 use Rattle.ll_polarity.specs.Named.{HasText, IsNamed, AreNamed, IsModuleNamed, IsProgramNamed}
 

@@ -12,8 +12,7 @@ use Rattle.ll_parser.specs.declared.TestOp.TheVariants.{Less as by_less, Most as
 use Rattle.ll_parser.specs.Tokens.{Identifier, Tok, name, tok_place, true_word, cons_sign, paren_left, paren_right, brace_left, brace_right, semicolon, ampersand, comma, load_arrow, backslash, is_sign, less_sign, most_sign, plus_sign, minus_sign, star_sign}
 use Rattle.ll_parser.specs.Raw.{Raw, RawList, none, more, raws_then, sign_raw, binary}
 use Rattle.ll_parser.specs.Grammar.{Word, lower, upper, Term, of_app, cons, App, applied, app_any, app_number, app_bracket, Simple, simple_word, simple_any, simple_number, simple_bracket, Simples, no_more, and_then, ClauseOp, by_colon, by_left, ArrowOp, by_lolli, by_right, Formula, of_arrow, clause, Arrow, of_sum, implies, loads, Sum, of_with, plus, With, of_tensor, with, Tensor, of_primary, times, Primary, truly, erased, bracket, brace, quantified, atom, valued, tested, Plain, plain_word, plain_any, plain_number, Expr, of_product, adds, Product, of_item, multiplies, Item, item_plain, item_bracket, First, first_plain, first_times, Lead, of_first, lead_adds, plain_token, expr_tokens, product_tokens, item_tokens, first_tokens, lead_tokens, plain_raw, expr_raw, product_raw, item_raw, first_raw, lead_raw, word_token, clause_token, arrow_token, quantifier_token, term_tokens, app_tokens, simple_tokens, simples_tokens, formula_tokens, arrow_tokens, sum_tokens, with_tokens, tensor_tokens, primary_tokens, word_identifier, term_raw, app_raw, simple_raw, simples_raws, clause_op, arrow_op, formula_raw, arrow_raw, sum_raw, with_raw, tensor_raw, primary_raw}
-use Rattle.ll_parser.proofs.Printable.{Spelled, spelled-split}
-use Rattle.ll_parser.proofs.QuantifierWords.{either_quantifier, quantifier_place}
+use Rattle.ll_parser.proofs.CallerLemmas.{Spelled, spelled-split, either_quantifier, quantifier_place}
 use Rattle.ll_polarity.specs.Scope.{Scope, binds, Constant, bound_by, unbound, meaning, meaning_from}
 use Rattle.ll_polarity.specs.Faults.{unless, may_be_head, count, applied_fault, term_faults, terms_faults, on_goal_side, left_side, right_side, may_join, Heading, is_named, load_fault, number_faults, form_faults, AreInOrder}
 use Rattle.ll_polarity.proofs.Signs.{Sign, cell, plus_head, minus_head, star_head, sign_text, sign_no_variable, IsNoSign, word_no_sign}

@@ -16,7 +16,8 @@ use Rattle.ll_parser.specs.Raw.{ProgramTree}
 use Rattle.ll_parser.specs.Raw as raw
 use Rattle.ll_parser.specs.Text.{programs}
 use Rattle.ll_parser.specs.Reads.{IsWhole}
-use Rattle.ll_parser.proofs.Sizes.{clauses_weight, modules_weight, few_nodes}
+use Rattle.ll_parser.specs.Weights.{clauses_weight, modules_weight}
+use Rattle.ll_parser.proofs.CallerLemmas.{few_nodes}
 use Rattle.ll_polarity.specs.Asks.{module_names, part_of, read_clauses, read_module, read_modules}
 use Rattle.ll_polarity.specs.Loading.{IsNumbered}
 use Rattle.ll_polarity.specs.Scope.{Scope, module_scope}

@@ -8,11 +8,11 @@ use Rattle.ll_bank.specs.Names.{with_name}
 use Rattle.ll_lexer.specs.declared.Fault.{Fault}
 use Rattle.ll_laws.specs.Module.{ModuleTree}
 use Rattle.ll_laws.specs.Valid.{ClauseSide, IsFormula, IsWithinLimits, AreClauses, AreModules, given, largest_count}
-use Rattle.ll_laws.proofs.ConsistentForms.{formula_of_fits}
+use Rattle.ll_laws.proofs.CallerLemmas.{formula_of_fits}
 use Rattle.ll_parser.specs.Tokens.{Identifier}
 use Rattle.ll_parser.specs.Raw.{ProgramTree}
 use Rattle.ll_parser.specs.Raw as raw
-use Rattle.ll_parser.proofs.Sizes.{IsSmall, AreSmall, HaveSmall}
+use Rattle.ll_parser.proofs.CallerLemmas.{IsSmall, AreSmall, HaveSmall}
 use Rattle.ll_polarity.specs.Scope.{Scope, binds, declares, module_scope}
 use Rattle.ll_polarity.specs.Reading.{read_form, quantified}
 use Rattle.ll_polarity.specs.Faults.{Heading, form_faults, clauses_faults, repeated, modules_faults}

@@ -9,14 +9,12 @@ use Rattle.ll_bank.specs.Names.{with_name}
 use Rattle.ll_laws.specs.Module.{ModuleTree}
 use Rattle.ll_laws.specs.Problem.{ProblemTree}
 use Rattle.ll_laws.specs.Valid.{GoalSide, AreClauses, AreModules, IsValid, is_asked, given, largest_count}
-use Rattle.ll_laws.proofs.ConsistentTerms.{and_intro}
-use Rattle.ll_laws.proofs.ConsistentForms.{formula_of_fits}
+use Rattle.ll_laws.proofs.CallerLemmas.{and_intro, formula_of_fits}
 use Rattle.ll_parser.specs.Raw.{Raw, ProgramTree}
 use Rattle.ll_parser.specs.Raw as raw
 use Rattle.ll_parser.specs.Text.{programs, queries}
 use Rattle.ll_parser.specs.Reads.{IsWhole}
-use Rattle.ll_parser.proofs.Counts.{few-clauses}
-use Rattle.ll_parser.proofs.Sizes.{small_program, small_query}
+use Rattle.ll_parser.proofs.CallerLemmas.{few-clauses, small_program, small_query}
 use Rattle.ll_polarity.specs.Scope.{Scope, module_scope}
 use Rattle.ll_polarity.specs.Reading.{Met, number_in, read_form}
 use Rattle.ll_polarity.specs.Faults.{Heading, is_named, heading, clauses_faults, modules_faults, program_faults, query_faults}

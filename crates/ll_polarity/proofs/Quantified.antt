@@ -10,8 +10,7 @@ use Rattle.ll_bank.specs.Form.{Form, Top, One, Atom, With, Tensor, Plus, Bang, L
 use Rattle.ll_laws.specs.Module.{ModuleTree, forall_all}
 use Rattle.ll_laws.specs.Leaf.{ways}
 use Rattle.ll_laws.specs.Valid.{Side, GoalSide, ClauseSide, Scope, given, each_term, names_below, arity_up_to, fits_module, leaves_up_to}
-use Rattle.ll_laws.proofs.ConsistentTerms.{IsHead, Fit, AllFit}
-use Rattle.ll_laws.proofs.ConsistentForms.{Fits, other, opens_on}
+use Rattle.ll_laws.proofs.CallerLemmas.{IsHead, Fit, AllFit, Fits, other, opens_on}
 use Rattle.ll_polarity.specs.Reading.{moved_out, bind_term, bind_form, quantified}
 use Rattle.ll_polarity.proofs.Terms.{Room}
 use Rattle.ll_polarity.proofs.Forms.{IsGood, forall_good}

@@ -5,7 +5,7 @@ use Rattle.std.proofs.lemmas.List.{length-map}
 use Rattle.std.proofs.lemmas.Simd.{map-map}
 use Rattle.ll_bank.specs.Form.{Form}
 use Rattle.ll_bank.specs.Nodes.{Nodes, Extends}
-use Rattle.ll_bank.proofs.Trees.{HasForm-extends}
+use Rattle.ll_bank.proofs.CallerLemmas.{HasForm-extends}
 use Rattle.ll_laws.specs.declared.Clause.{Clause}
 use Rattle.ll_laws.specs.declared.Module.{Module}
 use Rattle.ll_laws.specs.Module.{ModuleTree}
@@ -14,7 +14,7 @@ use Rattle.ll_laws.specs.Shown.{clause_tree, module_tree, HasClauses, HasModules
 use Rattle.ll_parser.specs.Raw.{Raw}
 use Rattle.ll_parser.specs.Text.{queries}
 use Rattle.ll_parser.specs.Reads.{IsWhole}
-use Rattle.ll_parser.proofs.Sizes.{small_query}
+use Rattle.ll_parser.proofs.CallerLemmas.{small_query}
 use Rattle.ll_polarity.specs.Numbered.{text_of, variables_of}
 use Rattle.ll_polarity.specs.Reading.{Met, read_form}
 use Rattle.ll_polarity.specs.Faults.{Heading}

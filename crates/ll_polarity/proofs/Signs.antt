@@ -5,7 +5,7 @@ use Rattle.std.proofs.lemmas.Slice.Eq.{bytes_eq-Decides}
 use Rattle.ll_lexer.specs.declared.TokenKind.TheVariants as kind
 use Rattle.ll_lexer.specs.Spelling.{Spells, kind_of, fixed_spellings}
 use Rattle.ll_parser.specs.Tokens.{Identifier}
-use Rattle.ll_parser.proofs.Printable.{IsWord}
+use Rattle.ll_parser.proofs.CallerLemmas.{IsWord}
 use Rattle.ll_polarity.specs.Scope.{is_variable}
 
 -- `::`, `+`, `-` and `*`

@@ -8,15 +8,14 @@ use Rattle.ll_lexer.specs.declared.Fault.{Fault}
 use Rattle.ll_laws.specs.Module.{ModuleTree}
 use Rattle.ll_laws.specs.Valid.{given, names_below, arity_up_to}
 use Rattle.ll_laws.specs.Valid as valid
-use Rattle.ll_laws.proofs.SubLaws.{and_left, and_right}
-use Rattle.ll_laws.proofs.ConsistentTerms.{and_intro, IsHead, Fit, AllFit}
+use Rattle.ll_laws.proofs.CallerLemmas.{and_left, and_right, and_intro, IsHead, Fit, AllFit}
 use Rattle.ll_parser.specs.Tokens.{Identifier}
 use Rattle.ll_parser.specs.Raw.{Raw, head, anything, int, RawList, none, more}
 use Rattle.ll_polarity.specs.Scope.{Scope, Meaning, Bound, Local, Free, Constant, meaning}
 use Rattle.ll_polarity.specs.Reading.{Met, read_name, read_term, read_terms}
 use Rattle.ll_polarity.specs.Faults.{unless, may_be_head, applied_fault, term_faults, terms_faults}
 use Rattle.ll_polarity.proofs.Grows.{Longer, variable_below, number_below, longer_terms}
-use Rattle.ll_parser.proofs.Sizes.{weight, weights}
+use Rattle.ll_parser.specs.Weights.{weight, weights}
 use Rattle.ll_polarity.proofs.Weight.{count-le-weights, length-read_terms}
 use Rattle.ll_polarity.proofs.Meant.{places, Means, means}
 

@@ -12,7 +12,7 @@ use Rattle.ll_parser.specs.Raw.{Raw, ProgramTree}
 use Rattle.ll_parser.specs.Grammar.{formula_tokens, formula_raw}
 use Rattle.ll_parser.specs.Text.{Clause, plain, linear, Local, Module, Query, bare, dotted, clause_tokens, names, variables, local_tokens, heading_tokens, clauses_tokens, locals_tokens, module_tokens, modules_tokens, program_tokens, query_tokens, clause_tree, locals_of, module_tree, program_tree, query_tree, programs, queries}
 use Rattle.ll_parser.specs.Reads.{Reads}
-use Rattle.ll_parser.proofs.Printable.{Spelled, spelled-split}
+use Rattle.ll_parser.proofs.CallerLemmas.{Spelled, spelled-split}
 use Rattle.ll_polarity.specs.Scope.{Scope, binds, declares, module_scope}
 use Rattle.ll_polarity.specs.Faults.{form_faults, clauses_faults, repeated, modules_faults, Heading, heading, program_faults, query_faults, AreInOrder}
 use Rattle.ll_polarity.proofs.Signs.{IsNoSign, word_no_sign}

@@ -1,7 +1,8 @@
 -- Terms are as many as their raw trees, and these no more than their nodes.
 use Rattle.std.proofs.Common.{◌≡◌, ◌≤◌, length, arith}
 use Rattle.ll_parser.specs.Raw.{RawList, none, more}
-use Rattle.ll_parser.proofs.Sizes.{weights, weight_some}
+use Rattle.ll_parser.specs.Weights.{weights}
+use Rattle.ll_parser.proofs.CallerLemmas.{weight_some}
 use Rattle.ll_polarity.specs.Scope.{Scope}
 use Rattle.ll_polarity.specs.Reading.{Met, read_term, read_terms}
 use Rattle.ll_polarity.specs.Faults.{count}

@@ -5,7 +5,7 @@ use Rattle.ll_bank.specs.Form.{Form, Bang, Forall, Exists, Use}
 use Rattle.ll_bank.specs.Nodes.{Nodes, term_trees, form_tree, HasForm, AllInTerms}
 use Rattle.ll_parser.specs.declared.RawAt.{RawAt}
 use Rattle.ll_parser.specs.Nodes.{Node, raw_at}
-use Rattle.ll_parser.proofs.Sizes.{weight}
+use Rattle.ll_parser.specs.Weights.{weight}
 use Rattle.ll_polarity.specs.declared.put_forms.Frame.{Frame}
 use Rattle.ll_polarity.specs.declared.put_forms.Frame.TheVariants as frame
 use Rattle.ll_polarity.specs.declared.put_forms.Step.{Step}

@@ -6,7 +6,7 @@ ghost use Rattle.ll_laws.specs.Module.{forall_all};
 ghost use Rattle.ll_laws.specs.Shown.{clause_tree, HasClauses};
 ghost use Rattle.ll_laws.specs.Valid.{ClauseSide};
 ghost use Rattle.ll_parser.specs.Nodes.{raw_at, shown_clause};
-ghost use Rattle.ll_parser.proofs.Sizes.{weight, clauses_weight};
+ghost use Rattle.ll_parser.specs.Weights.{weight, clauses_weight};
 ghost use Rattle.ll_polarity.specs.Asks.{kind_of as kind_by, read_clause, read_clauses};
 ghost use Rattle.ll_polarity.specs.Faults.{Heading, form_faults, clauses_faults};
 ghost use Rattle.ll_polarity.specs.Reading.{module_in};

@@ -3,7 +3,7 @@
 ghost use Rattle.std.specs.Prelude.{◌≡◌, ◌*◌, ◌+◌, ◌-◌, ◌^◌, ◌<◌, ◌≤◌, false, List, [], ◌∷◌, length, unwrap_or, slice_index_or, IfOk};
 ghost use Rattle.ll_bank.specs.Nodes.{HasForm, ShowsForm, ShowsTerm, form_tree, Extends};
 ghost use Rattle.ll_parser.specs.Nodes.{raw_at};
-ghost use Rattle.ll_parser.proofs.Sizes.{weight};
+ghost use Rattle.ll_parser.specs.Weights.{weight};
 ghost use Rattle.ll_bank.specs.Form.{Atom};
 ghost use Rattle.ll_polarity.specs.Scope.{Binder, Scope};
 ghost use Rattle.ll_polarity.specs.Reading.{Met as MetView, Read, joined};

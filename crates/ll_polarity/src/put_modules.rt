@@ -4,7 +4,7 @@ ghost use Rattle.std.specs.Prelude.{◌≡◌, ◌*◌, ◌+◌, ◌^◌, ◌<�
 ghost use Rattle.ll_bank.specs.Nodes.{Extends};
 ghost use Rattle.ll_laws.specs.Shown.{module_tree, HasClauses, HasModules};
 ghost use Rattle.ll_parser.specs.Nodes.{shown_clause, shown_module};
-ghost use Rattle.ll_parser.proofs.Sizes.{clauses_weight, modules_weight};
+ghost use Rattle.ll_parser.specs.Weights.{clauses_weight, modules_weight};
 ghost use Rattle.ll_polarity.specs.Asks.{read_module, read_modules};
 ghost use Rattle.ll_polarity.specs.Faults.{Heading, clauses_faults, modules_faults};
 ghost use Rattle.ll_polarity.specs.Reading.{module_in};

@@ -16,11 +16,7 @@ use Rattle.ll_core.specs.declared.answers.Claimed.{Claimed}
 use Rattle.ll_core.specs.declared.answers.Claimed.TheVariants.{Work, Idle, Finished, Starved, Stopped}
 use Rattle.ll_core.specs.declared.answers.PublishFault.{PublishFault}
 use Rattle.ll_core.specs.declared.answers.PublishFault.TheVariants.{Full, OutOfMemory}
-use Rattle.ll_core.proofs.Pieces.{some_is, none_not_some}
-use Rattle.ll_core.proofs.Facts.{get_map_at}
-use Rattle.ll_core.proofs.LawfulEvents.{claim_gives, publish_splits, report_closes}
-use Rattle.ll_core.proofs.Laters.{later_itself}
-use Rattle.ll_core.proofs.Openings.{opening_sound}
+use Rattle.ll_core.proofs.CallerLemmas.{some_is, none_not_some, get_map_at, claim_gives, publish_splits, report_closes, later_itself, opening_sound}
 use Rattle.ll_pool.specs.Fits.{Fits, ChangesLawfully, first_seat, problem_of, open_piece, HasPiece, number_of}
 use Rattle.ll_pool.specs.Turns.{EndsWith, IsRest, OwesWork, OwesRest, number_made}
 use Rattle.ll_pool.specs.OpenPieces.{has_open_piece, one_piece}

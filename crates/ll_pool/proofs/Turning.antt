@@ -5,7 +5,7 @@ use Rattle.ll_laws.specs.declared.Event.{Event}
 use Rattle.ll_laws.specs.Pool.{Owed, PoolData}
 use Rattle.ll_laws.specs.Sound.{Sound, Shaped}
 use Rattle.ll_core.specs.Laws.{IsQuiet}
-use Rattle.ll_core.proofs.LawfulEvents.{keeps_sound}
+use Rattle.ll_core.proofs.CallerLemmas.{keeps_sound}
 use Rattle.ll_pool.specs.Fits.{Fits, ChangesLawfully, after_change, open_piece, number_of}
 use Rattle.ll_pool.specs.Turns.{SeatSight, OneTurn}
 use Rattle.ll_pool.specs.OpenPieces.{has_open_piece, one_piece, piece_kept}

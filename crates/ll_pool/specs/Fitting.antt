@@ -3,8 +3,7 @@ use Rattle.std.proofs.Common.{◌≡◌, ◌<◌, ◌≤◌, List, refl, sym, �
 use Rattle.ll_turn.specs.Numbers.{HasToGive, AllDifferent, IsFirst, IsParted}
 use Rattle.ll_laws.specs.declared.Event.{Event}
 use Rattle.ll_laws.specs.Pool.{Owed, PoolData}
-use Rattle.ll_core.proofs.LawfulEvents.{keeps_sound, none_kept, takes_alone, workers_kept}
-use Rattle.ll_core.proofs.Laters.{later_itself, later_on, later_event}
+use Rattle.ll_core.proofs.CallerLemmas.{keeps_sound, none_kept, takes_alone, workers_kept, later_itself, later_on, later_event}
 use Rattle.ll_pool.specs.Fits.{numbers_of, first_seat, Fits, ChangesLawfully, after_change, parts}
 use Rattle.ll_pool.specs.declared.data.PoolProblem.{PoolProblem}
 use Rattle.ll_pool.specs.declared.data.SeatData.{SeatData}

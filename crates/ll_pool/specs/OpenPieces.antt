@@ -8,8 +8,7 @@ use Rattle.ll_laws.specs.Spread.{share, owes_of}
 use Rattle.ll_laws.specs.Sound.{Shaped, is_open}
 use Rattle.ll_laws.specs.CoreEvents.{CoreEvent, Does, By}
 use Rattle.ll_core.specs.Laws.{IsQuiet}
-use Rattle.ll_core.proofs.Pieces.{some_is, none_not_some}
-use Rattle.ll_core.proofs.LawfulEvents.{same_held, holds_kept, none_kept, share_later}
+use Rattle.ll_core.proofs.CallerLemmas.{some_is, none_not_some, same_held, holds_kept, none_kept, share_later}
 use Rattle.ll_pool.specs.Fits.{open_from, open_piece, HasPiece}
 use Rattle.ll_pool.specs.declared.data.OpenPiece.{OpenPiece}
 

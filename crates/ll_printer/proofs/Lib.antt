@@ -2,3 +2,4 @@ pub mod Printing
 pub mod Parts
 pub mod Lines
 pub mod AnswerLines
+pub mod CallerLemmas

@@ -12,7 +12,7 @@ use Rattle.ll_bank.specs.declared.Head.TheVariants.{Name}
 use Rattle.ll_bank.specs.Term.{Term}
 use Rattle.ll_bank.specs.Names.{with_name}
 use Rattle.ll_bank.specs.Nodes.{Nodes, term_tree, term_trees, HasTerm, Extends}
-use Rattle.ll_bank.proofs.Trees.{Extends-refl, term_trees-extends}
+use Rattle.ll_bank.proofs.CallerLemmas.{Extends-refl, term_trees-extends}
 use Rattle.ll_lexer.specs.Spelling.{is_lower}
 use Rattle.ll_laws.specs.Output.{name_text, has_arguments, term_text}
 use Rattle.ll_prooftext.specs.declared.words.Word.{Word}

@@ -5,7 +5,7 @@ use Rattle.std.proofs.Math.ListN.{drop_of_length-le}
 use Rattle.ll_bank.specs.declared.Head.TheVariants.{Name}
 use Rattle.ll_bank.specs.Term.{Con, Ap}
 use Rattle.ll_bank.specs.Nodes.{Nodes, term_tree, HasTerm, ShowsTerm, Extends}
-use Rattle.ll_bank.proofs.Trees.{Extends-trans, term_tree-extends}
+use Rattle.ll_bank.proofs.CallerLemmas.{Extends-trans, term_tree-extends}
 use Rattle.ll_prooftext.specs.declared.terms.Item.{Item}
 use Rattle.ll_prooftext.specs.Brackets.{chain_term}
 

@@ -9,7 +9,7 @@ use Rattle.ll_bank.specs.declared.Head.{Head}
 use Rattle.ll_bank.specs.declared.Head.TheVariants.{Name}
 use Rattle.ll_bank.specs.Term.{Term, is_closed}
 use Rattle.ll_bank.specs.Nodes.{Nodes, term_tree, ShowsTerm, Extends}
-use Rattle.ll_bank.proofs.Trees.{Extends-trans, Extends-refl}
+use Rattle.ll_bank.proofs.CallerLemmas.{Extends-trans, Extends-refl}
 use Rattle.ll_laws.specs.Output.{is_cons_head, is_cons, bracket_if, has_arguments, term_text}
 use Rattle.ll_prooftext.specs.declared.words.Word.{Word}
 use Rattle.ll_prooftext.specs.declared.words.Word.TheVariants.{Head as HeadWord, Term as LeafWord}

@@ -7,7 +7,7 @@ use Rattle.ll_bank.specs.declared.Head.{Head}
 use Rattle.ll_bank.specs.declared.Head.TheVariants.{Name, Eigen, Bound}
 use Rattle.ll_bank.specs.Term.{Term, Var, Int, Con, Ap, apply, app, is_spine, is_closed}
 use Rattle.ll_bank.specs.Nodes.{Nodes, term_tree, Extends}
-use Rattle.ll_bank.proofs.Trees.{HasTerm-extends, term_tree-extends}
+use Rattle.ll_bank.proofs.CallerLemmas.{HasTerm-extends, term_tree-extends}
 use Rattle.ll_laws.specs.Output.{name_text, head_text, is_cons_head, is_cons, has_arguments, term_text, applied_text, argument_text}
 use Rattle.ll_laws.specs.ProofText.{field}
 use Rattle.ll_lexer.specs.Spelling.{is_name, is_lower}

@@ -6,7 +6,7 @@ use Rattle.ll_bank.specs.declared.Head.TheVariants.{Name, Eigen}
 use Rattle.ll_bank.specs.Names.{with_name, with_names}
 use Rattle.ll_bank.specs.Term.{Var, is_closed}
 use Rattle.ll_bank.specs.Nodes.{Nodes, ShowsTerm, Extends}
-use Rattle.ll_bank.proofs.Trees.{Extends-refl, Extends-trans}
+use Rattle.ll_bank.proofs.CallerLemmas.{Extends-refl, Extends-trans}
 use Rattle.ll_laws.specs.Output.{term_text, name_text, has_arguments}
 use Rattle.ll_prooftext.specs.Admitted.{IsPlainName, IsSpelledTerm}
 use Rattle.ll_prooftext.specs.Words.{Stops}

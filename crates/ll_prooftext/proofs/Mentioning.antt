@@ -11,7 +11,7 @@ use Rattle.std.proofs.lemmas.Bool.Decides.{nat_tests}
 use Rattle.std.proofs.Math.Seq.{drop-append_seam}
 use Rattle.ll_bank.specs.Names.{with_name, with_names}
 use Rattle.ll_lexer.specs.Spelling.{is_name, is_lower, is_word_byte}
-use Rattle.ll_lexer.proofs.Spelled.{both}
+use Rattle.ll_lexer.proofs.CallerLemmas.{both}
 use Rattle.ll_laws.specs.Line.{PartLine, Labels, Free}
 use Rattle.ll_laws.specs.ProofText.{field, labels_text, set_text, part_field}
 use Rattle.ll_prooftext.specs.Admitted.{AreLabels, IsSpelledPart}

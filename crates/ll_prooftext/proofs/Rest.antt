@@ -25,7 +25,7 @@ use Rattle.std.proofs.lemmas.List.Elements.{All-nil, All-push, All-weaker}
 use Rattle.std.proofs.Common.{length-append}
 use Rattle.ll_bank.specs.declared.At.{At}
 use Rattle.ll_prooftext.specs.Brackets.{IsArgumentAt, args_text}
-use Rattle.ll_bank.proofs.Trees.{Extends-refl}
+use Rattle.ll_bank.proofs.CallerLemmas.{Extends-refl}
 use Rattle.ll_prooftext.proofs.Found.{moves_none, moves_still, moves_behind, moves_on}
 use Rattle.ll_prooftext.proofs.Kept.{flat_same, arg_same, arg_good}
 use Rattle.ll_prooftext.proofs.Arguments.{end_stops as end_stops_word, argument_first}

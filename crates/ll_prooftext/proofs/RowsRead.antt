@@ -26,7 +26,7 @@ use Rattle.ll_prooftext.specs.Mentions.{Outside, mentions}
 use Rattle.ll_prooftext.proofs.Found.{moves_none, moves_line}
 use Rattle.ll_prooftext.proofs.Kept.{args_fields}
 use Rattle.ll_prooftext.proofs.Mentioning.{first_alone, nothing_mentions, quiet_none, quiet_join, decimal_quiet, set_quiet, field_quiet}
-use Rattle.ll_bank.proofs.Trees.{Extends-refl}
+use Rattle.ll_bank.proofs.CallerLemmas.{Extends-refl}
 use Rattle.ll_prooftext.proofs.Close.{if_ok}
 use Rattle.ll_prooftext.proofs.Rest.{stops_end}
 use Rattle.ll_prooftext.proofs.Spellings.{apart}

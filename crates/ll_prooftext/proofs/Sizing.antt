@@ -16,7 +16,7 @@ use Rattle.ll_laws.specs.Output.{line, head_text, term_text, argument_text, brac
 use Rattle.ll_laws.specs.ProofText.{field, term_field, part_field, node_text, proof_text}
 use Rattle.ll_laws.specs.Search.{cut_count}
 use Rattle.ll_printer.specs.Stack.{arguments_text}
-use Rattle.ll_printer.proofs.Printing.{app_text, cons_text, is_cons-app}
+use Rattle.ll_printer.proofs.CallerLemmas.{app_text, cons_text, is_cons-app}
 use Rattle.ll_prooftext.specs.declared.sizes.Length.{Length}
 use Rattle.ll_prooftext.specs.Table.{line_terms, field_terms}
 use Rattle.ll_prooftext.specs.ProofText2.{let_text_by, node_text_by, lines_by}

@@ -7,7 +7,7 @@ use Rattle.std.proofs.lemmas.List.Elements.{All-nil, All-push, All-weaker, All-h
 use Rattle.ll_bank.specs.declared.At.{At}
 use Rattle.ll_bank.specs.Names.{with_name, with_names}
 use Rattle.ll_bank.specs.Nodes.{Nodes, term_tree, term_trees, HasTerm, AllInTerms, Extends}
-use Rattle.ll_bank.proofs.Trees.{term_trees-extends}
+use Rattle.ll_bank.proofs.CallerLemmas.{term_trees-extends}
 use Rattle.ll_laws.specs.Line.{Line, OneLine, EraseLine, TensorLine, WithLine, LeftLine, RightLine, BangLine, UseLine, LolliLine, ImpLine, ForallLine, ExistsLine, ClauseLine, NumLine, PartLine, Labels, Free}
 use Rattle.ll_laws.specs.ProofText.{field, term_field, part_field, node_text}
 use Rattle.ll_laws.specs.ShownLines.{line_of, part_line}

@@ -12,8 +12,7 @@ use Rattle.std.proofs.lemmas.Bool.Decides.{nat_tests}
 use Rattle.ll_lexer.specs.declared.TokenKind.{TokenKind}
 use Rattle.ll_lexer.specs.declared.TokenKind.TheVariants.{Name}
 use Rattle.ll_lexer.specs.Spelling.{is_name, is_word_start, is_lower, is_word_byte, kind_of, fixed_spellings, Spells}
-use Rattle.ll_lexer.proofs.Spelled.{both, kind-passes}
-use Rattle.ll_lexer.proofs.Longest.{lower-start, NoKeyword, name-spelled}
+use Rattle.ll_lexer.proofs.CallerLemmas.{both, kind-passes, lower-start, NoKeyword, name-spelled}
 use Rattle.ll_prooftext.specs.Admitted.{IsPlainName}
 use Rattle.ll_prooftext.specs.Reading.{IsNumber, IsDecimal, IsInteger}
 use Rattle.ll_prooftext.specs.Words.{is_not, Stops}

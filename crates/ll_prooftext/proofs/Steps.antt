@@ -9,7 +9,7 @@ use Rattle.ll_bank.specs.declared.At.{At}
 use Rattle.ll_bank.specs.declared.Head.{Head}
 use Rattle.ll_bank.specs.Term.{Term, Var, Int, Con, Ap, app, is_closed}
 use Rattle.ll_bank.specs.Nodes.{Nodes, term_tree, term_trees, Extends}
-use Rattle.ll_bank.proofs.Trees.{Extends-trans}
+use Rattle.ll_bank.proofs.CallerLemmas.{Extends-trans}
 use Rattle.ll_laws.specs.Output.{head_text, is_cons, has_arguments, term_text, argument_text}
 use Rattle.ll_laws.specs.ProofText.{field}
 use Rattle.ll_prooftext.specs.declared.words.Word.{Word}

@@ -6,3 +6,4 @@ pub mod ChangeLemmas
 pub mod EntryLemmas
 pub mod EndLemmas
 pub mod HistoryLemmas
+pub mod CallerLemmas

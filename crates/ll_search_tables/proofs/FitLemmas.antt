@@ -6,7 +6,7 @@ use Rattle.ll_laws.specs.Settle.{Entry, unlive}
 use Rattle.ll_laws.specs.Attempt.{is_linear, is_open, entry_at, picked}
 use Rattle.ll_resources.specs.declared.context.Saved.{Saved as Handle}
 use Rattle.ll_resources.specs.Resources.{Resources, saved_as, saved_at, saved_now, CanPick, Fits, after_save, after_with_mid}
-use Rattle.ll_resources.proofs.EntryLemmas.{length-remark}
+use Rattle.ll_resources.proofs.CallerLemmas.{length-remark}
 
 -- either way it is so
 or-true : (b : Bool) → b || true ≡ true

@@ -12,7 +12,7 @@ use Rattle.ll_bank.specs.declared.FormNode.TheVariants.{Top as TopView, One as O
 use Rattle.ll_bank.specs.Term.{Term, Env, is_closed}
 use Rattle.ll_bank.specs.Form.{Form, Atom, With, Lolli, Imp, Forall, close_form}
 use Rattle.ll_bank.specs.Nodes.{Nodes, form_tree, form_of, term_tree, HasForm, IsFormView, Extends}
-use Rattle.ll_bank.proofs.Trees.{Extends-refl}
+use Rattle.ll_bank.proofs.CallerLemmas.{Extends-refl}
 use Rattle.ll_laws.specs.Number.{Operators}
 use Rattle.ll_laws.specs.Fault.{term_eq, parts_fit, parts_deal, Wrong, Right, judge_leaf, judge_clause}
 use Rattle.ll_laws.specs.Leaf.{Premise, Needs, NeedsFree, Leaf, add_premise, premise_goal, ways, leaf, leaf_from}

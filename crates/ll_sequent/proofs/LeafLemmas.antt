@@ -15,7 +15,7 @@ use Rattle.ll_bank.specs.Form.{Form, Top, One, Atom, With, Tensor, Plus, Bang, L
 use Rattle.ll_bank.specs.Nodes.{Nodes, form_tree, form_of}
 use Rattle.ll_bank.specs.Opened.{form_size}
 use Rattle.ll_laws.specs.Leaf.{Leaf, Premise, Needs, NeedsFree, add_premise, ways, leaf, leaf_from}
-use Rattle.ll_laws.proofs.SubLaws.{close_closed, map_map, map_same}
+use Rattle.ll_laws.proofs.CallerLemmas.{close_closed, map_map, map_same}
 use Rattle.ll_sequent.specs.Opened.{waiting_ways}
 
 -- quantifiers that stay

@@ -9,8 +9,8 @@ use Rattle.ll_bank.specs.declared.FormAt.{FormAt}
 use Rattle.ll_bank.specs.Term.{Term, Var, Int, Con, Ap}
 use Rattle.ll_bank.specs.Nodes.{Nodes, form_tree, term_tree, HasForm, IsFormView, Extends}
 use Rattle.ll_bank.specs.declared.FormNode.TheVariants.{Atom as AtomView}
-use Rattle.ll_bank.proofs.Trees.{form_tree-extends, term_tree-extends}
-use Rattle.ll_laws.proofs.UnifyLaws.{head_eq-true, head_eq-refl}
+use Rattle.ll_bank.proofs.CallerLemmas.{form_tree-extends, term_tree-extends}
+use Rattle.ll_laws.proofs.CallerLemmas.{head_eq-true, head_eq-refl}
 use Rattle.ll_laws.specs.Fault.{term_eq, parts_fit}
 use Rattle.ll_laws.specs.Leaf.{Premise, Needs, NeedsFree, premise_goal, Leaf, leaf}
 use Rattle.ll_laws.specs.Line.{PartLine, Labels, Free}

@@ -5,7 +5,7 @@ use Rattle.std.proofs.lemmas.Bool.{and_parts}
 use Rattle.std.proofs.lemmas.List.{take-take, length-take-le, length-append}
 use Rattle.std.proofs.lemmas.List.Elements.{All-nil, All-cons, All-take}
 use Rattle.ll_bank.specs.Nodes.{Nodes, Extends}
-use Rattle.ll_bank.proofs.Trees.{Extends-refl}
+use Rattle.ll_bank.proofs.CallerLemmas.{Extends-refl}
 use Rattle.ll_laws.specs.Number.{Operators}
 use Rattle.ll_laws.specs.declared.Rule.{Rule}
 use Rattle.ll_laws.specs.Module.{Setting, ModuleTree}

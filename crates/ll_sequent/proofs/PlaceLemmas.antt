@@ -5,7 +5,7 @@ use Rattle.std.proofs.lemmas.List.Elements.{All-push}
 use Rattle.ll_bank.specs.declared.At.{At}
 use Rattle.ll_bank.specs.declared.FormAt.{FormAt}
 use Rattle.ll_bank.specs.Nodes.{Nodes, term_tree, term_trees, form_tree, HasTerm, HasForm, AllInTerms, ShowsTerm, Extends}
-use Rattle.ll_bank.proofs.Trees.{AllInTerms-extends, term_trees-extends, HasForm-extends, form_tree-extends}
+use Rattle.ll_bank.proofs.CallerLemmas.{AllInTerms-extends, term_trees-extends, HasForm-extends, form_tree-extends}
 use Rattle.ll_sequent.specs.Constants.{AllInForms}
 use Rattle.ll_sequent.specs.Opened.{form_trees}
 

@@ -8,7 +8,7 @@ use Rattle.ll_bank.specs.declared.BankSize.{BankSize}
 use Rattle.ll_bank.specs.Term.{Term, is_closed}
 use Rattle.ll_bank.specs.Form.{Form, sub_form}
 use Rattle.ll_bank.specs.Nodes.{Nodes, form_tree, HasForm, ShowsForm, Extends, size_of, IsCutTo}
-use Rattle.ll_bank.proofs.Trees.{HasForm-extends, form_tree-extends, Extends-same}
+use Rattle.ll_bank.proofs.CallerLemmas.{HasForm-extends, form_tree-extends, Extends-same}
 use Rattle.ll_laws.specs.declared.Clause.{Clause}
 use Rattle.ll_laws.specs.declared.Kind.{Kind}
 use Rattle.ll_laws.specs.declared.Kind.TheVariants.{Linear, Unbounded}

@@ -12,7 +12,7 @@ use Rattle.ll_bank.specs.declared.Head.{Head}
 use Rattle.ll_bank.specs.Term.{Term, Con, Ap, apply, app, sub}
 use Rattle.ll_bank.specs.Form.{Form, sub_form}
 use Rattle.ll_bank.specs.Nodes.{Nodes, term_tree, term_trees, form_tree, HasTerm, HasForm, AllInTerms, ShowsTerm, ShowsForm, Extends}
-use Rattle.ll_bank.proofs.Trees.{HasTerm-extends, HasForm-extends, term_tree-extends, form_tree-extends, ShowsTerm-extends, ShowsForm-extends, term_trees-extends}
+use Rattle.ll_bank.proofs.CallerLemmas.{HasTerm-extends, HasForm-extends, term_tree-extends, form_tree-extends, ShowsTerm-extends, ShowsForm-extends, term_trees-extends}
 use Rattle.ll_sequent.specs.Starting.{values}
 use Rattle.ll_sequent.specs.Substituted.{IsTermImage, IsFormImage, AreTermImages, AreFormImages}
 use Rattle.ll_sequent.proofs.PlaceLemmas.{trees_grow, map_more}

@@ -24,7 +24,7 @@ use Rattle.ll_laws.specs.Shows.{Labelled}
 use Rattle.ll_laws.specs.Line.{UseLine}
 use Rattle.ll_laws.specs.Valid.{Side, GoalSide, ClauseSide, Scope, places_below, free_below, may_head, is_headed, has_heads, fits_module, loads_fit, module_scope}
 use Rattle.ll_modules.specs.Loads.{arguments_env, MayLoad}
-use Rattle.ll_modules.proofs.Closing.{closes_nothing}
+use Rattle.ll_modules.proofs.CallerLemmas.{closes_nothing}
 use Rattle.ll_sequent.specs.declared.sequents.Resource.{Resource}
 use Rattle.ll_sequent.specs.declared.sequents.Sequent.{Sequent}
 use Rattle.ll_sequent.specs.declared.sequents.Step.{Step}

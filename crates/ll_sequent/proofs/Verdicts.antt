@@ -11,9 +11,7 @@ use Rattle.ll_laws.specs.Line.{DerivationLines, IsWhole, trees_of}
 use Rattle.ll_laws.specs.Shows.{Tree}
 use Rattle.ll_laws.specs.Fault.{Checked, Fits, Fault, fault}
 use Rattle.ll_laws.specs.Verdict.{first_fault, root_free, root_bounded, instantiated_goal}
-use Rattle.ll_laws.proofs.ConsistentTerms.{Grows, widens-refl}
-use Rattle.ll_laws.proofs.ConsistentForms.{fits_of_formula, formula_of_fits, fits-more}
-use Rattle.ll_laws.proofs.Lines.{no-fault-shows, shown-no-fault}
+use Rattle.ll_laws.proofs.CallerLemmas.{Grows, widens-refl, fits_of_formula, formula_of_fits, fits-more, no-fault-shows, shown-no-fault}
 use Rattle.ll_sequent.specs.declared.Verdict.{Verdict}
 use Rattle.ll_sequent.specs.declared.Verdict.TheVariants.{Yes, No}
 use Rattle.ll_sequent.specs.Sequents.{IsSound}

@@ -5,7 +5,7 @@ use Rattle.std.proofs.lemmas.List.{map-append, reverse-append, take-append-le, t
 use Rattle.std.proofs.lemmas.List.Elements.{All-cons, All-head, All-tail, All-append, All-take, All-push}
 use Rattle.ll_bank.specs.Form.{Form}
 use Rattle.ll_bank.specs.Nodes.{Nodes, HasForm, Extends}
-use Rattle.ll_bank.proofs.Trees.{HasForm-extends, form_tree-extends}
+use Rattle.ll_bank.proofs.CallerLemmas.{HasForm-extends, form_tree-extends}
 use Rattle.ll_laws.specs.declared.Module.{Module}
 use Rattle.ll_laws.specs.declared.Clause.{Clause}
 use Rattle.ll_laws.specs.Module.{ModuleTree}

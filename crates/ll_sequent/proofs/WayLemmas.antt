@@ -12,7 +12,7 @@ use Rattle.ll_bank.specs.declared.FormNode.TheVariants.{Atom as AtomView, With a
 use Rattle.ll_bank.specs.Term.{Term, is_closed}
 use Rattle.ll_bank.specs.Form.{Form, Atom, Forall, instantiate}
 use Rattle.ll_bank.specs.Nodes.{Nodes, form_tree, form_of, term_tree, term_trees, HasForm, HasTerm, AllInTerms, ShowsForm, IsFormView, Extends}
-use Rattle.ll_bank.proofs.Trees.{HasForm-extends, form_tree-extends, term_tree-extends, Extends-refl, Extends-trans}
+use Rattle.ll_bank.proofs.CallerLemmas.{HasForm-extends, form_tree-extends, term_tree-extends, Extends-refl, Extends-trans}
 use Rattle.ll_laws.specs.Leaf.{Leaf, Needs, NeedsFree, add_premise, ways, leaf}
 use Rattle.ll_laws.specs.Valid.{GoalSide, ClauseSide, has_heads}
 use Rattle.ll_sequent.specs.declared.leaves.Needed.{Needed}

@@ -15,7 +15,7 @@ use Rattle.ll_lexer.specs.declared.TokenKind.{TokenKind}
 use Rattle.ll_lexer.specs.declared.TokenKind.TheVariants.{Name, Variable, Number}
 use Rattle.ll_lexer.specs.Spelling.{kind_of, Spells, IsLongest, HasNone}
 use Rattle.ll_lexer.specs.Reading.{is_blank, is_no_lf, IsGap, blank, comment, HasFlaw, past_64_bits, long_name, long_variable, number_value, IsSound, End, done, stopped, Lexes, at_end, gap, token, flawed, no_token, token_at, place_at, HasNoGap, LexedText, IsLexed, HasFault}
-use Rattle.ll_lexer.proofs.Longest.{nonempty}
+use Rattle.ll_lexer.proofs.CallerLemmas.{nonempty}
 
 -- ---- one token
 

@@ -6,7 +6,10 @@ use Rattle.ll_store.specs.declared.cells.Cell.{Cell}
 use Rattle.ll_store.specs.Tables.{table_of}
 use Rattle.ll_bindings.specs.Bindings.{count}
 use Rattle.ll_bindings.proofs.CallerLemmas.{with_cell}
-pub use Rattle.ll_store.proofs.MarkLemmas.{marks-grow, marks-extend}
+-- marks of a store are kept as its bank grows
+pub use Rattle.ll_store.proofs.MarkLemmas.{marks-extend}
+-- marks of a store are kept as cells are added
+pub use Rattle.ll_store.proofs.MarkLemmas.{marks-grow}
 
 -- there is a variable for each cell
 pub count-table_of : (cells : List Cell) → count (table_of cells) ≡ length cells

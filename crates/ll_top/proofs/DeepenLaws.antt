@@ -2,7 +2,7 @@
 use Rattle.std.proofs.Common.{◌≡◌, ℕ, ap, sym, subst, ◌∙◌, List, ◌++◌}
 use Rattle.std.specs.Prelude.{Some}
 use Rattle.ll_deepen.specs.Deciding.{IsDeciding}
-use Rattle.ll_deepen.proofs.Bounds.{one_bound}
+use Rattle.ll_deepen.proofs.CallerLemmas.{one_bound}
 use Rattle.ll_edge.specs.Texts.{Texts}
 use Rattle.ll_laws.specs.Problem.{ProblemTree}
 use Rattle.ll_laws.specs.Output.{run_status}

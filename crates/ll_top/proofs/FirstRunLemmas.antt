@@ -5,7 +5,7 @@ use Rattle.std.specs.Io.KnownBytes.{append_known}
 use Rattle.std.proofs.lemmas.List.{append-nil}
 use Rattle.ll_edge.specs.Pieces.{AppendsFront}
 use Rattle.ll_first.specs.Upto.{upto, first_of, counted}
-use Rattle.ll_first.proofs.Uptos.{upto_none, upto_some}
+use Rattle.ll_first.proofs.CallerLemmas.{upto_none, upto_some}
 use Rattle.ll_laws.specs.declared.Event.{Event}
 use Rattle.ll_laws.specs.declared.Counts.{Counts}
 use Rattle.ll_laws.specs.Search.{is_answer}

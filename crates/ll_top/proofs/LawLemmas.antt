@@ -7,7 +7,7 @@ use Rattle.ll_laws.specs.Problem.{ProblemTree}
 use Rattle.ll_laws.specs.Output.{run_status}
 use Rattle.ll_laws.specs.Fault.{Fault as FaultAt}
 use Rattle.ll_cover.specs.Covering.{NamesFirst}
-use Rattle.ll_cover.proofs.Covers.{first_once}
+use Rattle.ll_cover.proofs.CallerLemmas.{first_once}
 use Rattle.ll_laws.specs.Line.{DerivationLines, trees_of, counts_numbers}
 use Rattle.ll_laws.specs.Shows.{Tree}
 use Rattle.ll_laws.specs.Verdict.{DerivationShows, first_fault}

@@ -9,8 +9,7 @@ use Rattle.ll_bank.specs.Form.{Form, Top, One, Atom, With, Tensor, Plus, Bang, L
 use Rattle.ll_laws.specs.Module.{ModuleTree, ClauseTree}
 use Rattle.ll_laws.specs.Problem.{ProblemTree}
 use Rattle.ll_laws.specs.Valid.{Side, GoalSide, ClauseSide, Scope, module_scope, each_term, names_below, IsWithinLimits, AreClauses, AreModules, is_asked, IsValid}
-use Rattle.ll_laws.proofs.SubLaws.{and_left, and_right}
-use Rattle.ll_laws.proofs.ConsistentTerms.{and_intro}
+use Rattle.ll_laws.proofs.CallerLemmas.{and_left, and_right, and_intro}
 
 -- a number below one number is below a greater one
 below : (k n m : ℕ) → n ≤ m → nat_lt k n ≡ true → nat_lt k m ≡ true

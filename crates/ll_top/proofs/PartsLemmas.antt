@@ -7,7 +7,7 @@ use Rattle.std.specs.Io.KnownBytes.{append_known}
 use Rattle.std.proofs.lemmas.List.{take_all, take_more, take-append-drop, append-nil, length-map}
 use Rattle.std.proofs.lemmas.List.Folds.{concat-append}
 use Rattle.ll_edge.specs.Pieces.{AppendsFront}
-use Rattle.ll_edge.proofs.Writing.{append_known-nil, append_known-append}
+use Rattle.ll_edge.proofs.CallerLemmas.{append_known-nil, append_known-append}
 use Rattle.ll_top.proofs.GivenLemmas.{front_in}
 
 -- the texts as bytes

@@ -6,7 +6,7 @@ use Rattle.std.proofs.lemmas.List.{append-nil}
 use Rattle.std.proofs.lemmas.List.Elements.{Contains-append_right}
 use Rattle.ll_edge.specs.Texts.{Texts}
 use Rattle.ll_first.specs.Upto.{upto}
-use Rattle.ll_first.proofs.Uptos.{upto_front}
+use Rattle.ll_first.proofs.CallerLemmas.{upto_front}
 use Rattle.ll_laws.specs.declared.Event.{Event}
 use Rattle.ll_laws.specs.declared.Event.TheVariants.{Answer, Reached}
 use Rattle.ll_laws.specs.Answered.{Answered}

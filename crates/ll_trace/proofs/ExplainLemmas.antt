@@ -9,7 +9,7 @@ use Rattle.ll_bank.specs.declared.BankSize.{BankSize}
 use Rattle.ll_bank.specs.Term.{Term}
 use Rattle.ll_bank.specs.Form.{Form, Top, One, Atom, With, Tensor, Plus, Bang, Lolli, Imp, Forall, Exists, Use, Num}
 use Rattle.ll_bank.specs.Nodes.{Nodes, no_nodes, HasForm, HasTerm, AllInTerms, form_tree, term_tree, term_trees, size_of, IsCutTo}
-use Rattle.ll_bank.proofs.Trees.{term_trees-extends}
+use Rattle.ll_bank.proofs.CallerLemmas.{term_trees-extends}
 use Rattle.ll_laws.specs.declared.Clause.{Clause}
 use Rattle.ll_laws.specs.declared.Kind.{Kind}
 use Rattle.ll_laws.specs.declared.Kind.TheVariants.{Linear, Unbounded}

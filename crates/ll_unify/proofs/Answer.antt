@@ -8,8 +8,7 @@ use Rattle.ll_bank.specs.declared.At.{At}
 use Rattle.ll_bank.specs.Term.{Term, Var, sub, occurs}
 use Rattle.ll_bank.specs.Nodes.{Nodes, term_tree, term_trees, AllInTerms}
 use Rattle.ll_laws.specs.Unify.{Solved, mgu, vars_below}
-use Rattle.ll_laws.proofs.SubLaws.{and_left, and_right, sub_id, sub_same}
-use Rattle.ll_laws.proofs.UnifyBest.{found-unifier, found-falls, found-best, none-unifier}
+use Rattle.ll_laws.proofs.CallerLemmas.{and_left, and_right, sub_id, sub_same, found-unifier, found-falls, found-best, none-unifier}
 use Rattle.ll_bindings.specs.Bindings.{Table, cell, count, found, IsTable, IsPlaceOf, BindsPlaces}
 use Rattle.ll_bindings.specs.Solving.{IsAnswer, wanted}
 use Rattle.ll_bindings.specs.Copied.{IsFinal, AreFinal}

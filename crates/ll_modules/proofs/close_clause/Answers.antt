@@ -3,7 +3,7 @@ use Rattle.std.proofs.lemmas.List.{take_all, length-map}
 use Rattle.ll_bank.specs.Form.{close_form}
 use Rattle.ll_bank.specs.declared.At.{At}
 use Rattle.ll_bank.specs.Nodes.{term_tree, term_trees, form_tree}
-use Rattle.ll_bank.proofs.Trees.{Extends-refl, Extends-trans, HasTerm-extends}
+use Rattle.ll_bank.proofs.CallerLemmas.{Extends-refl, Extends-trans, HasTerm-extends}
 use Rattle.ll_modules.specs.Loads.{arguments_env}
 use Rattle.ll_modules.proofs.Closing.{closes_nothing}
 use Rattle.ll_modules.proofs.Loading.{one_less, heads_now}

@@ -1,7 +1,7 @@
 use Rattle.std.proofs.Common.{◌≡◌, drop, length, ap, sym, ◌∙◌, arith, map}
 use Rattle.std.proofs.lemmas.List.{drop_all}
 use Rattle.ll_bank.specs.Nodes.{term_trees, form_tree}
-use Rattle.ll_bank.proofs.Trees.{Extends-refl, Extends-trans, HasForm-extends, AllInTerms-extends}
+use Rattle.ll_bank.proofs.CallerLemmas.{Extends-refl, Extends-trans, HasForm-extends, AllInTerms-extends}
 use Rattle.ll_laws.specs.Module.{load_all}
 use Rattle.ll_laws.specs.Shown.{clause_tree}
 use Rattle.ll_modules.specs.Loads.{arguments_env}

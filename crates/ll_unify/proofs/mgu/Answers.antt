@@ -1,7 +1,7 @@
 use Rattle.std.proofs.Common.{length, refl, subst, sym, ap, ◌∙◌}
 use Rattle.std.specs.Prelude.{Some, None}
 use Rattle.ll_bank.specs.Nodes.{term_trees}
-use Rattle.ll_bank.proofs.Trees.{Extends-refl}
+use Rattle.ll_bank.proofs.CallerLemmas.{Extends-refl}
 use Rattle.ll_bindings.specs.Solving.{IsSolved, wanted}
 use Rattle.ll_bindings.specs.Copied.{AreFinal}
 use Rattle.ll_unify.specs.declared.Subst.{Subst}

@@ -2,7 +2,7 @@ use Rattle.std.proofs.Common.{[], ◌∷◌, sym, subst}
 use Rattle.std.proofs.lemmas.Result.{IfOk-weaker}
 use Rattle.ll_bank.specs.Term.{Term, close}
 use Rattle.ll_bank.specs.Nodes.{term_tree}
-use Rattle.ll_bank.proofs.Trees.{term_tree-extends}
+use Rattle.ll_bank.proofs.CallerLemmas.{term_tree-extends}
 use Rattle.ll_close.specs.Closing.{env_of}
 use Rattle.ll_bindings.specs.Fresh.{AreFresh, LeavesFresh}
 use Rattle.ll_bindings.specs.Solving.{Settles}

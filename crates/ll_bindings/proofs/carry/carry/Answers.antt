@@ -1,7 +1,7 @@
 use Rattle.std.proofs.Common.{◌+◌, refl, sym, ap, ◌∙◌}
 use Rattle.ll_bank.specs.Term.{sub}
 use Rattle.ll_bank.specs.Nodes.{term_tree}
-use Rattle.ll_bank.proofs.Trees.{Extends-refl, Extends-trans}
+use Rattle.ll_bank.proofs.CallerLemmas.{Extends-refl, Extends-trans}
 use Rattle.ll_bindings.specs.Bindings.{found}
 use Rattle.ll_bindings.specs.Carried.{listed}
 use Rattle.ll_bindings.proofs.Scans.{weight-known, weight-opens}

@@ -1,7 +1,7 @@
 use Rattle.std.proofs.Common.{sym, subst, ap, ◌∙◌}
 use Rattle.std.proofs.lemmas.Result.{IfOk-weaker}
 use Rattle.ll_bank.specs.Nodes.{ShowsTerm}
-use Rattle.ll_bank.proofs.Trees.{Extends-refl}
+use Rattle.ll_bank.proofs.CallerLemmas.{Extends-refl}
 use Rattle.ll_bindings.specs.Bindings.{found}
 use Rattle.ll_bindings.specs.Carried.{listed}
 use Rattle.ll_bindings.proofs.Readings.{Obeys-found}

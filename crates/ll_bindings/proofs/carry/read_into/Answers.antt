@@ -1,6 +1,6 @@
 use Rattle.std.proofs.Common.{get_or, refl, ◌+◌}
 use Rattle.ll_bank.specs.declared.At.{At}
-use Rattle.ll_bank.proofs.Trees.{Extends-refl, Extends-trans}
+use Rattle.ll_bank.proofs.CallerLemmas.{Extends-refl, Extends-trans}
 use Rattle.ll_bindings.proofs.Copies.{read-none, carried-more}
 use Rattle.ll_bindings.proofs.carry.read_into.Goals as goal
 

@@ -1,4 +1,4 @@
-use Rattle.ll_bank.proofs.Trees.{Extends-refl}
+use Rattle.ll_bank.proofs.CallerLemmas.{Extends-refl}
 use Rattle.std.proofs.lemmas.Result.{IfOk-weaker}
 use Rattle.ll_bindings.proofs.Copies.{built-new, built-same}
 use Rattle.ll_bindings.proofs.read.built.Goals as goal

@@ -1,4 +1,4 @@
-use Rattle.ll_bank.proofs.Trees.{Extends-refl}
+use Rattle.ll_bank.proofs.CallerLemmas.{Extends-refl}
 use Rattle.ll_bindings.proofs.read.cell_copy.Goals as goal
 
 pub returns-in-None-clause-keeps : goal.returns-in-None-clause-keeps

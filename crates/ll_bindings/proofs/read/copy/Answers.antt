@@ -3,7 +3,7 @@ use Rattle.std.specs.HashMap.{get}
 use Rattle.std.specs.Option.{option_copied}
 use Rattle.ll_bank.specs.Term.{sub}
 use Rattle.ll_bank.specs.Nodes.{term_tree}
-use Rattle.ll_bank.proofs.Trees.{Extends-refl, Extends-trans}
+use Rattle.ll_bank.proofs.CallerLemmas.{Extends-refl, Extends-trans}
 use Rattle.ll_bindings.specs.Bindings.{found}
 use Rattle.ll_bindings.proofs.Scans.{weight-known, weight-opens}
 use Rattle.ll_bindings.proofs.CallerLemmas.{table-extends, place-extends}

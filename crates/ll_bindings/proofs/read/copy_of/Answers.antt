@@ -2,7 +2,7 @@ use Rattle.std.proofs.Common.{sym, ap, subst, ◌∙◌}
 use Rattle.std.specs.Option.{option_copied}
 use Rattle.std.proofs.lemmas.Result.{IfOk-weaker}
 use Rattle.ll_bank.specs.Nodes.{ShowsTerm}
-use Rattle.ll_bank.proofs.Trees.{Extends-refl}
+use Rattle.ll_bank.proofs.CallerLemmas.{Extends-refl}
 use Rattle.ll_bindings.specs.Bindings.{found}
 use Rattle.ll_bindings.proofs.Readings.{Obeys-found}
 use Rattle.ll_bindings.proofs.read.copy_of.Goals as goal

@@ -1,6 +1,6 @@
 use Rattle.std.proofs.Common.{get_or, refl, ◌+◌}
 use Rattle.ll_bank.specs.declared.At.{At}
-use Rattle.ll_bank.proofs.Trees.{Extends-refl, Extends-trans}
+use Rattle.ll_bank.proofs.CallerLemmas.{Extends-refl, Extends-trans}
 use Rattle.ll_bindings.proofs.CallerLemmas.{table-extends, place-extends}
 use Rattle.ll_bindings.proofs.Copies.{copies-rebase, read-none, read-more}
 use Rattle.ll_bindings.proofs.read.read_all.Goals as goal

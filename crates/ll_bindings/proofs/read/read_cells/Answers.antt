@@ -1,5 +1,5 @@
 use Rattle.std.proofs.Common.{refl, ◌∙◌, ◌+◌, arith}
-use Rattle.ll_bank.proofs.Trees.{Extends-refl, Extends-trans}
+use Rattle.ll_bank.proofs.CallerLemmas.{Extends-refl, Extends-trans}
 use Rattle.ll_bindings.proofs.CallerLemmas.{table-extends, place-extends}
 use Rattle.ll_bindings.proofs.Copies.{copies-rebase, final-none, final-more}
 use Rattle.ll_bindings.proofs.read.read_cells.Goals as goal

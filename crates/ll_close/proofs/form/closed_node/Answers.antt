@@ -10,8 +10,7 @@ use Rattle.ll_bank.specs.Term.{close, applies_heads}
 use Rattle.ll_bank.specs.Form.{With, Tensor, Plus, Bang, Lolli, Imp, Forall, Exists, Use, close_form, form_applies_heads}
 use Rattle.ll_bank.specs.Nodes.{term_tree, term_trees, form_tree, node_of, ShowsForm}
 use Rattle.ll_bank.specs.Opened.{AreImages}
-use Rattle.ll_bank.proofs.Trees.{Extends-refl, form_tree-extends}
-use Rattle.ll_bank.proofs.OpenLemmas.{load_heads}
+use Rattle.ll_bank.proofs.CallerLemmas.{Extends-refl, form_tree-extends, load_heads}
 use Rattle.ll_close.specs.Closing.{env_of, under, same_spot, IsTermImage}
 use Rattle.ll_close.proofs.Known.{term_images_extend}
 use Rattle.ll_close.proofs.Parts.{one_image, two_images}

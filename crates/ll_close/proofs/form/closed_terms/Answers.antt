@@ -1,7 +1,7 @@
 use Rattle.std.proofs.Common.{refl, arith, get_or}
 use Rattle.std.specs.HashMap.{get}
 use Rattle.ll_bank.specs.declared.At.{At}
-use Rattle.ll_bank.proofs.Trees.{Extends-refl, Extends-trans, HasTerm-extends, AllInTerms-extends}
+use Rattle.ll_bank.proofs.CallerLemmas.{Extends-refl, Extends-trans, HasTerm-extends, AllInTerms-extends}
 use Rattle.ll_close.specs.Closing.{env_of, same_spot}
 use Rattle.ll_close.proofs.Steps.{images_now, images_then, term_heads_now, term_shown, terms_more}
 use Rattle.ll_close.proofs.form.closed_terms.Goals as goal

@@ -1,5 +1,5 @@
 use Rattle.std.specs.HashMap.{get}
-use Rattle.ll_bank.proofs.Trees.{ShowsTerm-extends}
+use Rattle.ll_bank.proofs.CallerLemmas.{ShowsTerm-extends}
 use Rattle.ll_close.specs.Closing.{same_spot}
 use Rattle.ll_close.proofs.Steps.{images_now, images_then, term_heads_now, term_shown}
 use Rattle.ll_close.proofs.form.closed_two.Goals as goal

@@ -4,7 +4,7 @@ use Rattle.ll_bank.specs.declared.FormNode.TheVariants.{Top as TopView, One as O
 use Rattle.ll_bank.specs.Nodes.{node_of}
 use Rattle.ll_bank.specs.Opened.{form_parts, form_parts_at, ArePartsOf, form_size_at}
 use Rattle.ll_close.specs.Closing.{IsGoodForm}
-use Rattle.ll_bank.proofs.OpenLemmas.{form_node_seen}
+use Rattle.ll_bank.proofs.CallerLemmas.{form_node_seen}
 use Rattle.ll_close.proofs.Stacks.{pushed}
 use Rattle.ll_close.proofs.Parts.{form_parts_small}
 use Rattle.ll_close.proofs.form.push_form.Goals as goal

@@ -1,6 +1,5 @@
 use Rattle.std.proofs.Common.{sym, ◌∙◌}
-use Rattle.ll_bank.proofs.Trees.{Extends-refl}
-use Rattle.ll_bank.proofs.OpenLemmas.{same_node, same_form_of}
+use Rattle.ll_bank.proofs.CallerLemmas.{Extends-refl, same_node, same_form_of}
 use Rattle.ll_close.proofs.form.share_form.Goals as goal
 
 pub returns-then-eq-clause-shows : goal.returns-then-eq-clause-shows

@@ -3,9 +3,7 @@ use Rattle.ll_bank.specs.declared.TermView.TheVariants.{Var as VarView, Int as I
 use Rattle.ll_bank.specs.Term.{applies_heads}
 use Rattle.ll_bank.specs.Nodes.{term_tree, term_trees, AllInTerms, ShowsTerm, node_of_term}
 use Rattle.ll_bank.specs.Opened.{term_parts, term_parts_at}
-use Rattle.ll_bank.proofs.Trees.{Extends-refl}
-use Rattle.ll_bank.proofs.WalkLemmas.{node_seen}
-use Rattle.ll_bank.proofs.OpenLemmas.{opened_app}
+use Rattle.ll_bank.proofs.CallerLemmas.{Extends-refl, node_seen, opened_app}
 use Rattle.ll_close.specs.Closing.{env_of, under, IsTermImage}
 use Rattle.ll_close.proofs.Stacks.{images_length, slice_own, take_none}
 use Rattle.ll_close.proofs.Parts.{args_closed, args_count}

@@ -4,8 +4,7 @@ use Rattle.std.specs.HashMap.{get}
 use Rattle.ll_bank.specs.declared.At.{At}
 use Rattle.ll_bank.specs.Nodes.{term_tree}
 use Rattle.ll_bank.specs.Opened.{Spot, term_parts_at, term_size_at}
-use Rattle.ll_bank.proofs.Trees.{Extends-refl, Extends-trans}
-use Rattle.ll_bank.proofs.OpenLemmas.{term_parts_same, term_size-some}
+use Rattle.ll_bank.proofs.CallerLemmas.{Extends-refl, Extends-trans, term_parts_same, term_size-some}
 use Rattle.ll_close.specs.Closing.{env_of, same_spot, IsTermImage, IsGoodTerm}
 use Rattle.ll_close.specs.Stacks.{visit, ready}
 use Rattle.ll_close.proofs.Known.{images_add, term_image_extends, term_images_extend}

@@ -3,8 +3,7 @@ use Rattle.std.specs.HashMap.{get}
 use Rattle.std.proofs.lemmas.Result.{IfOk-weaker}
 use Rattle.ll_bank.specs.Term.{applies_heads}
 use Rattle.ll_bank.specs.Nodes.{term_tree, term_trees, ShowsTerm}
-use Rattle.ll_bank.proofs.Trees.{Extends-refl}
-use Rattle.ll_bank.proofs.OpenLemmas.{opened_app}
+use Rattle.ll_bank.proofs.CallerLemmas.{Extends-refl, opened_app}
 use Rattle.ll_close.specs.Closing.{env_of, under, same_spot}
 use Rattle.ll_close.proofs.Known.{term_images_extend}
 use Rattle.ll_close.proofs.term.closed_term.Goals as goal

@@ -5,7 +5,7 @@ use Rattle.ll_bank.specs.declared.TermView.TheVariants.{Var as VarView, Int as I
 use Rattle.ll_bank.specs.Nodes.{node_of_term}
 use Rattle.ll_bank.specs.Opened.{term_parts, term_parts_at, ArePartsOf, term_size_at}
 use Rattle.ll_close.specs.Closing.{IsGoodTerm}
-use Rattle.ll_bank.proofs.WalkLemmas.{node_seen}
+use Rattle.ll_bank.proofs.CallerLemmas.{node_seen}
 use Rattle.ll_close.proofs.Stacks.{pushed, visits_args}
 use Rattle.ll_close.proofs.Parts.{term_parts_small}
 use Rattle.ll_close.proofs.term.push_term.Goals as goal

@@ -2,8 +2,7 @@ use Rattle.std.proofs.Common.{ap, sym, subst, ◌∙◌, ◌++◌, true≢false}
 use Rattle.std.specs.Prelude.{IfOk}
 use Rattle.ll_bank.specs.Term.{is_spine}
 use Rattle.ll_bank.specs.Nodes.{term_tree, ShowsTerm}
-use Rattle.ll_bank.proofs.Trees.{Extends-refl}
-use Rattle.ll_bank.proofs.OpenLemmas.{spine_of_value, more_args}
+use Rattle.ll_bank.proofs.CallerLemmas.{Extends-refl, spine_of_value, more_args}
 use Rattle.ll_close.proofs.term.put_value.Goals as goal
 
 pub returns-then-is_empty-clause-keeps : goal.returns-then-is_empty-clause-keeps

@@ -1,7 +1,6 @@
 use Rattle.std.proofs.Common.{sym, ◌∙◌}
 use Rattle.ll_bank.specs.declared.TermView.TheVariants.{App as AppView}
-use Rattle.ll_bank.proofs.Trees.{Extends-refl}
-use Rattle.ll_bank.proofs.OpenLemmas.{same_view, same_term_of}
+use Rattle.ll_bank.proofs.CallerLemmas.{Extends-refl, same_view, same_term_of}
 use Rattle.ll_close.proofs.term.share_term.Goals as goal
 
 pub returns-then-eq-clause-shows : goal.returns-then-eq-clause-shows

@@ -2,7 +2,7 @@ use Rattle.std.proofs.Common.{rules, w64, FitsSigned, refl, ap, sym, subst, â—Œâ
 use Rattle.std.proofs.lemmas.Int.{to_z-of_z}
 use Rattle.std.specs.Prelude.{All}
 use Rattle.ll_bank.specs.Nodes.{Nodes, Extends}
-use Rattle.ll_bank.proofs.Trees.{Extends-trans}
+use Rattle.ll_bank.proofs.CallerLemmas.{Extends-trans}
 use Rattle.ll_laws.specs.Problem.{ProblemTree}
 use Rattle.ll_agenda.specs.Frames.{items_at}
 use Rattle.ll_bindings.specs.Bindings.{IsOrdered}
@@ -10,7 +10,7 @@ use Rattle.ll_store.specs.Tables.{table_of}
 use Rattle.ll_freeze.specs.declared.machine.Machine.{Machine}
 use Rattle.ll_freeze.specs.Parts.{Parts, parts_of}
 use Rattle.ll_freeze.specs.Reading.{HasValue}
-use Rattle.ll_freeze.proofs.Marks.{later_then, store_then}
+use Rattle.ll_freeze.proofs.CallerLemmas.{later_then, store_then}
 use Rattle.ll_engine.proofs.ReadLemmas.{fits_table}
 use Rattle.ll_engine.proofs.Keeping.{store_extends, later_store}
 use Rattle.ll_engine.proofs.NumberLemmas.{goes, value_is, no_value, Finds, expression_place, start_table, target_is_place, value_is_place, clash, equal}

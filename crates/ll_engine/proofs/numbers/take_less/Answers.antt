@@ -5,7 +5,7 @@ use Rattle.ll_agenda.specs.Frames.{items_at}
 use Rattle.ll_store.specs.Tables.{table_of}
 use Rattle.ll_freeze.specs.declared.machine.Machine.{Machine}
 use Rattle.ll_freeze.specs.Parts.{Parts, parts_of}
-use Rattle.ll_freeze.proofs.Marks.{later_then}
+use Rattle.ll_freeze.proofs.CallerLemmas.{later_then}
 use Rattle.ll_engine.specs.Numbers.{tested}
 use Rattle.ll_engine.proofs.ReadLemmas.{fits_table}
 use Rattle.ll_engine.proofs.Keeping.{store_extends, later_store}

@@ -5,13 +5,13 @@ use Rattle.ll_bank.specs.declared.FormAt.{FormAt}
 use Rattle.ll_bank.specs.Form.{Form, Atom, Lolli, Imp, Bang, close_form, form_applies_heads}
 use Rattle.ll_bank.specs.Term.{Env, Var, close, applies_heads}
 use Rattle.ll_bank.specs.Nodes.{form_tree, term_tree}
-use Rattle.ll_bank.proofs.Trees.{Extends-trans}
+use Rattle.ll_bank.proofs.CallerLemmas.{Extends-trans}
 use Rattle.ll_close.specs.Closing.{env_of}
 use Rattle.ll_laws.specs.Leaf.{Needs, NeedsFree, ways, leaf_from}
 use Rattle.ll_laws.specs.Valid.{GoalSide, ClauseSide}
-use Rattle.ll_laws.proofs.ConsistentForms.{Fits as FormFits}
+use Rattle.ll_laws.proofs.CallerLemmas.{Fits as FormFits}
 use Rattle.ll_agenda.specs.Frames.{items_at}
-use Rattle.ll_agenda.proofs.Lists.{Extends-refl as frames-refl, Extends-trans as frames-trans}
+use Rattle.ll_agenda.proofs.CallerLemmas.{Extends-refl as frames-refl, Extends-trans as frames-trans}
 use Rattle.ll_engine.proofs.WayLemmas.{IsOnWay, env_vars, scope_of, way_start, way_left, way_right, way_past, way_in, way_end, same_part, part_inside, closed_applies, slice_env}
 use Rattle.ll_engine.proofs.open.open_leaf.Goals as goal
 

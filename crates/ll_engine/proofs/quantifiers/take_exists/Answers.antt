@@ -3,13 +3,13 @@ use Rattle.std.proofs.lemmas.List.{length-map, map-append}
 use Rattle.ll_bank.specs.Term.{Var}
 use Rattle.ll_bank.specs.Form.{instantiate}
 use Rattle.ll_bank.specs.Nodes.{Nodes, ShowsTerm, form_tree}
-use Rattle.ll_bank.proofs.Trees.{Extends-trans}
+use Rattle.ll_bank.proofs.CallerLemmas.{Extends-trans}
 use Rattle.ll_agenda.specs.Frames.{items_at}
 use Rattle.ll_store.specs.declared.cells.Cell.{Cell}
 use Rattle.ll_store.specs.declared.store.Store.{Store}
 use Rattle.ll_freeze.specs.declared.machine.Machine.{Machine}
 use Rattle.ll_freeze.specs.Parts.{Parts, parts_of}
-use Rattle.ll_freeze.proofs.Marks.{later_then, store_then, context_same}
+use Rattle.ll_freeze.proofs.CallerLemmas.{later_then, store_then, context_same}
 use Rattle.ll_engine.proofs.Keeping.{store_extends, later_terms}
 use Rattle.ll_engine.proofs.Quantifying.{opens_shown, body_shown, value_shown}
 use Rattle.ll_engine.proofs.quantifiers.take_exists.Goals as goal

@@ -3,12 +3,12 @@ use Rattle.ll_bank.specs.declared.Head.TheVariants.{Eigen}
 use Rattle.ll_bank.specs.Term.{Con}
 use Rattle.ll_bank.specs.Form.{instantiate}
 use Rattle.ll_bank.specs.Nodes.{form_tree}
-use Rattle.ll_bank.proofs.Trees.{Extends-trans}
+use Rattle.ll_bank.proofs.CallerLemmas.{Extends-trans}
 use Rattle.ll_agenda.specs.Frames.{items_at}
 use Rattle.ll_store.specs.declared.store.Store.{Store}
 use Rattle.ll_freeze.specs.declared.machine.Machine.{Machine}
 use Rattle.ll_freeze.specs.Parts.{Parts, parts_of}
-use Rattle.ll_freeze.proofs.Marks.{later_then}
+use Rattle.ll_freeze.proofs.CallerLemmas.{later_then}
 use Rattle.ll_engine.proofs.Keeping.{store_extends, later_store}
 use Rattle.ll_engine.proofs.Quantifying.{opens_shown, body_shown}
 use Rattle.ll_engine.proofs.quantifiers.take_forall.Goals as goal

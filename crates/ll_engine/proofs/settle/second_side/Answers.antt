@@ -1,6 +1,6 @@
 use Rattle.std.proofs.Common.{refl, ap, ◌∙◌, ◌∷◌}
 use Rattle.ll_agenda.specs.Frames.{items_at}
-use Rattle.ll_agenda.proofs.Lists.{Extends-trans}
+use Rattle.ll_agenda.proofs.CallerLemmas.{Extends-trans}
 use Rattle.ll_freeze.specs.declared.machine.Item.TheVariants.{Goal, Mid}
 use Rattle.ll_freeze.specs.Parts.{parts_of}
 use Rattle.ll_engine.proofs.Keeping.{later_frames}

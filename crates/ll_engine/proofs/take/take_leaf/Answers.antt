@@ -1,7 +1,7 @@
 use Rattle.std.proofs.Common.{sym, arith}
 use Rattle.ll_resources.specs.Seen.{resource}
 use Rattle.ll_freeze.specs.Parts.{parts_of}
-use Rattle.ll_freeze.proofs.Marks.{later_same}
+use Rattle.ll_freeze.proofs.CallerLemmas.{later_same}
 use Rattle.ll_engine.proofs.TakeLemmas.{found_by_label}
 use Rattle.ll_engine.proofs.TakingLemmas.{no_entry, no_leaf, clause_inside}
 use Rattle.ll_engine.proofs.take.take_leaf.Goals as goal

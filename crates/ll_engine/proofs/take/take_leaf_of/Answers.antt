@@ -6,7 +6,7 @@ use Rattle.ll_store.specs.Tables.{table_of}
 use Rattle.ll_resources.specs.Seen.{resource}
 use Rattle.ll_freeze.specs.Fits.{allowed}
 use Rattle.ll_freeze.specs.Parts.{parts_of}
-use Rattle.ll_freeze.proofs.Marks.{store_then, context_same}
+use Rattle.ll_freeze.proofs.CallerLemmas.{store_then, context_same}
 use Rattle.ll_engine.proofs.ReadLemmas.{cells_bound, cells_levels}
 use Rattle.ll_engine.proofs.CellLemmas.{slice_is}
 use Rattle.ll_engine.proofs.Keeping.{store_extends, later_of}

@@ -1,5 +1,5 @@
 use Rattle.std.proofs.Common.{refl, arith}
-use Rattle.ll_bank.proofs.Trees.{Extends-refl, Extends-trans}
+use Rattle.ll_bank.proofs.CallerLemmas.{Extends-refl, Extends-trans}
 use Rattle.ll_freeze.proofs.Starting.{variable_more}
 use Rattle.ll_freeze.proofs.start.first_variables.Goals as goal
 

@@ -1,7 +1,7 @@
 use Rattle.std.proofs.Common.{◌++◌, ◌∷◌, [], ◌∙◌, sym, ap, subst, refl, append_assoc, le_refl, le_trans}
 use Rattle.ll_laws.specs.Search.{is_answer, is_reached}
 use Rattle.ll_laws.specs.Sound.{Every}
-use Rattle.ll_core.proofs.Walks.{every_more}
+use Rattle.ll_core.proofs.CallerLemmas.{every_more}
 use Rattle.ll_order.proofs.Givings.{gives_more, no_count, counts_more}
 use Rattle.ll_order.proofs.order.give.Goals as goal
 

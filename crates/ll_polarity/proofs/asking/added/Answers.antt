@@ -1,6 +1,6 @@
 use Rattle.std.proofs.Common.{[], map, ap, subst, ◌∙◌}
 use Rattle.std.specs.String.{string_bytes}
-use Rattle.ll_bank.proofs.Trees.{Extends-refl}
+use Rattle.ll_bank.proofs.CallerLemmas.{Extends-refl}
 use Rattle.ll_parser.specs.Nodes.{raw_at}
 use Rattle.ll_polarity.specs.Numbered.{text_of}
 use Rattle.ll_polarity.specs.Places.{FindsFirst}

@@ -1,9 +1,9 @@
 use Rattle.std.proofs.Common.{[], length, None, ap, ◌∙◌, arith}
 use Rattle.std.specs.Prelude.{unwrap_or}
-use Rattle.ll_bank.proofs.Trees.{Extends-refl}
+use Rattle.ll_bank.proofs.CallerLemmas.{Extends-refl}
 use Rattle.ll_laws.specs.Valid.{GoalSide}
 use Rattle.ll_parser.specs.Nodes.{raw_at}
-use Rattle.ll_parser.proofs.Sizes.{small_query}
+use Rattle.ll_parser.proofs.CallerLemmas.{small_query}
 use Rattle.ll_polarity.specs.Numbered.{variables_of}
 use Rattle.ll_polarity.specs.Reading.{Met}
 use Rattle.ll_polarity.specs.Built.{built_form}

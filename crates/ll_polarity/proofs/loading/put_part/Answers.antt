@@ -1,6 +1,6 @@
 use Rattle.std.proofs.Common.{◌+◌, ◌<◌, All, get_or, length, sym, subst, ap, ◌∙◌}
 use Rattle.std.specs.Prelude.{◌^◌, unwrap_or}
-use Rattle.ll_bank.proofs.Trees.{HasForm-extends}
+use Rattle.ll_bank.proofs.CallerLemmas.{HasForm-extends}
 use Rattle.ll_parser.specs.declared.RawClause.{RawClause}
 use Rattle.ll_parser.specs.declared.RawModule.{RawModule}
 use Rattle.ll_parser.specs.Nodes.{shown_program}

@@ -1,6 +1,6 @@
 use Rattle.std.proofs.Common.{◌≡◌, ℕ, List, [], false, length, get_or, take, refl, sym, subst, ap, ◌∙◌, arith}
 use Rattle.std.proofs.lemmas.List.{take_more}
-use Rattle.ll_bank.proofs.Trees.{Extends-refl}
+use Rattle.ll_bank.proofs.CallerLemmas.{Extends-refl}
 use Rattle.ll_laws.specs.Shown.{clause_tree}
 use Rattle.ll_laws.specs.Valid.{ClauseSide}
 use Rattle.ll_parser.specs.declared.RawClause.{RawClause}

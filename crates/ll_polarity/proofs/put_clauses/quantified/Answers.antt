@@ -1,5 +1,5 @@
 use Rattle.std.proofs.Common.{◌≡◌, [], length, Some, None, ap, ◌∙◌, arith}
-use Rattle.ll_bank.proofs.Trees.{Extends-refl, Extends-trans}
+use Rattle.ll_bank.proofs.CallerLemmas.{Extends-refl, Extends-trans}
 use Rattle.ll_laws.specs.Module.{forall_all}
 use Rattle.ll_laws.specs.Valid.{ClauseSide}
 use Rattle.ll_parser.specs.Nodes.{raw_at}

@@ -1,7 +1,7 @@
 use Rattle.std.proofs.Common.{◌≡◌, suc, ◌+◌, refl, ap, ◌∙◌, arith}
 use Rattle.ll_bank.specs.Form.{Forall}
 use Rattle.ll_bank.specs.Nodes.{form_tree}
-use Rattle.ll_bank.proofs.Trees.{Extends-refl, Extends-trans}
+use Rattle.ll_bank.proofs.CallerLemmas.{Extends-refl, Extends-trans}
 use Rattle.ll_laws.specs.Module.{forall_all}
 use Rattle.ll_polarity.proofs.put_clauses.under.Goals as goal
 

@@ -4,11 +4,11 @@ use Rattle.std.specs.Prelude.{[]}
 use Rattle.ll_bank.specs.Form.{Form, Forall, Exists}
 use Rattle.ll_polarity.specs.Reading.{Read}
 use Rattle.ll_bank.specs.Nodes.{term_trees}
-use Rattle.ll_bank.proofs.Trees.{Extends-refl, Extends-trans}
+use Rattle.ll_bank.proofs.CallerLemmas.{Extends-refl, Extends-trans}
 use Rattle.ll_parser.specs.Nodes.{raw_at, identifier, raws_in, raw_trees}
 use Rattle.ll_parser.specs.Seen.{places}
 use Rattle.ll_parser.specs.Raw.{Raw, raw_place}
-use Rattle.ll_parser.proofs.Sizes.{weight}
+use Rattle.ll_parser.specs.Weights.{weight}
 use Rattle.ll_polarity.specs.declared.put_forms.Frame.TheVariants as frame
 use Rattle.ll_polarity.specs.declared.put_forms.Step.TheVariants as step
 use Rattle.ll_polarity.specs.Named.{IsNamed}

@@ -1,4 +1,4 @@
-use Rattle.ll_bank.proofs.Trees.{ShowsTerm-extends}
+use Rattle.ll_bank.proofs.CallerLemmas.{ShowsTerm-extends}
 use Rattle.ll_parser.specs.Nodes.{raw_at}
 use Rattle.ll_polarity.specs.Standing.{met_of, around}
 use Rattle.ll_polarity.specs.Frames.{left_built}

@@ -1,7 +1,7 @@
 use Rattle.std.proofs.Common.{◌+◌, ◌*◌, ◌<◌, ◌≤◌, refl, sym, subst, arith, ◌∙◌}
-use Rattle.ll_bank.proofs.Trees.{Extends-refl}
+use Rattle.ll_bank.proofs.CallerLemmas.{Extends-refl}
 use Rattle.ll_parser.specs.Nodes.{raw_at}
-use Rattle.ll_parser.proofs.Sizes.{weight}
+use Rattle.ll_parser.specs.Weights.{weight}
 use Rattle.ll_polarity.specs.declared.put_forms.Step.{Step}
 use Rattle.ll_polarity.specs.declared.put_forms.Step.TheVariants as step
 use Rattle.ll_polarity.specs.Built.{built_form}

@@ -1,6 +1,6 @@
 use Rattle.std.proofs.Common.{◌≡◌, ◌+◌, ◌*◌, ◌≤◌}
 use Rattle.ll_parser.specs.Nodes.{raw_at}
-use Rattle.ll_parser.proofs.Sizes.{weight}
+use Rattle.ll_parser.specs.Weights.{weight}
 use Rattle.ll_polarity.specs.Built.{built_form}
 use Rattle.ll_polarity.specs.Standing.{met_of, around, outermost}
 use Rattle.ll_polarity.specs.Frames.{frames_left, step_left}

@@ -1,7 +1,7 @@
 use Rattle.std.proofs.Common.{◌≡◌, ◌+◌, refl, sym, subst, arith, ap}
 use Rattle.ll_bank.specs.Form.{Form, Use}
 use Rattle.ll_bank.specs.Nodes.{form_tree, term_trees}
-use Rattle.ll_bank.proofs.Trees.{Extends-refl}
+use Rattle.ll_bank.proofs.CallerLemmas.{Extends-refl}
 use Rattle.ll_polarity.specs.declared.put_forms.Frame.{Frame}
 use Rattle.ll_polarity.specs.declared.put_forms.Frame.TheVariants as frame
 use Rattle.ll_polarity.specs.declared.put_forms.Step.TheVariants as step

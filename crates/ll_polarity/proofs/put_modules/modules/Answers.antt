@@ -1,6 +1,6 @@
 use Rattle.std.proofs.Common.{◌≡◌, ◌+◌, ◌∷◌, ◌++◌, [], List, ◌∙◌, ap, refl, sym, subst, take, arith}
 use Rattle.std.proofs.lemmas.List.{take_more}
-use Rattle.ll_bank.proofs.Trees.{Extends-refl}
+use Rattle.ll_bank.proofs.CallerLemmas.{Extends-refl}
 use Rattle.ll_parser.specs.declared.RawModule.{RawModule}
 use Rattle.ll_polarity.specs.Places.{place_in}
 use Rattle.ll_polarity.proofs.ModuleRows.{AreModulesRead, modules_more, room_at_module}

@@ -1,10 +1,10 @@
 use Rattle.std.proofs.Common.{◌≡◌, ◌<◌, ℕ, suc, [], length, refl, sym, subst, ap, ◌∙◌, arith, ◌∷◌, length-append}
-use Rattle.ll_bank.proofs.Trees.{Extends-refl}
+use Rattle.ll_bank.proofs.CallerLemmas.{Extends-refl}
 use Rattle.ll_bank.specs.Term.{Term}
 use Rattle.std.specs.Prelude.{List}
 use Rattle.ll_parser.specs.Nodes.{raw_at}
 use Rattle.ll_parser.specs.Raw.{more}
-use Rattle.ll_parser.proofs.Sizes.{weights}
+use Rattle.ll_parser.specs.Weights.{weights}
 use Rattle.ll_polarity.specs.Reading.{Read}
 use Rattle.ll_polarity.specs.Built.{built_terms, arguments, raws_past}
 use Rattle.ll_polarity.specs.Standing.{met_of, around}

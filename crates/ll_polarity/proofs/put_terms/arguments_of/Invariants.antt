@@ -1,6 +1,6 @@
 use Rattle.std.proofs.Common.{length}
 use Rattle.ll_parser.specs.Nodes.{raw_at}
-use Rattle.ll_parser.proofs.Sizes.{weights}
+use Rattle.ll_parser.specs.Weights.{weights}
 use Rattle.ll_polarity.specs.Built.{built_terms, arguments, raws_past}
 use Rattle.ll_polarity.specs.Standing.{met_of, around}
 use Rattle.ll_polarity.proofs.Calling.{AreOnTheWay}

@@ -1,5 +1,5 @@
 use Rattle.std.proofs.Common.{subst}
-use Rattle.ll_bank.proofs.Trees.{Extends-refl}
+use Rattle.ll_bank.proofs.CallerLemmas.{Extends-refl}
 use Rattle.ll_parser.specs.Nodes.{identifier, raws_in, raw_trees}
 use Rattle.ll_parser.specs.Seen.{places}
 use Rattle.ll_polarity.specs.Built.{built_term}

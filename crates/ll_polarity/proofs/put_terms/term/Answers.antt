@@ -1,5 +1,5 @@
 use Rattle.std.proofs.Common.{◌+◌, ◌<◌, refl, sym, subst, arith}
-use Rattle.ll_bank.proofs.Trees.{Extends-refl}
+use Rattle.ll_bank.proofs.CallerLemmas.{Extends-refl}
 use Rattle.ll_parser.specs.Nodes.{raw_at}
 use Rattle.ll_polarity.specs.declared.put_terms.Turn.{Turn}
 use Rattle.ll_polarity.specs.declared.put_terms.Turn.TheVariants as turn

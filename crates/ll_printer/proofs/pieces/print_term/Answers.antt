@@ -1,6 +1,6 @@
 use Rattle.std.proofs.Common.{sym, ◌∙◌}
 use Rattle.ll_bank.specs.Nodes.{term_tree}
-use Rattle.ll_bank.proofs.Trees.{AllInTerms-below}
+use Rattle.ll_bank.proofs.CallerLemmas.{AllInTerms-below}
 use Rattle.ll_printer.proofs.Printing.{cons_moves, head_moves, head_begins, begins_none, on_err}
 use Rattle.ll_printer.proofs.pieces.print_term.Goals as goal
 

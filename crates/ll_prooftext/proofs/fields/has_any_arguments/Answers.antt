@@ -3,7 +3,7 @@ use Rattle.std.proofs.lemmas.List.{length-map}
 use Rattle.ll_bank.specs.declared.At.{At}
 use Rattle.ll_bank.specs.Nodes.{term_tree, term_trees}
 use Rattle.ll_laws.specs.Output.{has_arguments}
-use Rattle.ll_printer.proofs.Printing.{has_arguments-app}
+use Rattle.ll_printer.proofs.CallerLemmas.{has_arguments-app}
 use Rattle.ll_prooftext.proofs.fields.has_any_arguments.Goals as goal
 
 pub returns-in-App : goal.returns-in-App

@@ -1,5 +1,5 @@
 use Rattle.std.proofs.Common.{arith, rules}
-use Rattle.ll_bank.proofs.Trees.{Extends-refl}
+use Rattle.ll_bank.proofs.CallerLemmas.{Extends-refl}
 use Rattle.ll_prooftext.proofs.Spellings.{no_variable, no_eigen}
 use Rattle.ll_prooftext.proofs.Mentioning.{variable_mentions, eigen_mentions, number_mentions}
 use Rattle.ll_prooftext.proofs.Found.{grows_name, moves_none, moves_name, name_is, eigen_is, variable_is}

@@ -1,6 +1,6 @@
 use Rattle.std.proofs.Common.{subst, sym, ◌∙◌}
 use Rattle.ll_bank.specs.Nodes.{IsNotPast, size_of}
-use Rattle.ll_bank.proofs.Trees.{IsNotPast-extends}
+use Rattle.ll_bank.proofs.CallerLemmas.{IsNotPast-extends}
 use Rattle.ll_search_tables.proofs.bank.longer.Goals as goal
 
 pub tail-requires-clause-order : goal.tail-requires-clause-order

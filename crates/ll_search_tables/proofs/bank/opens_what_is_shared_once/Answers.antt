@@ -1,7 +1,7 @@
 use Rattle.std.proofs.Common.{ap}
 use Rattle.ll_bank.specs.Term.{is_spine, applies_heads}
 use Rattle.ll_bank.specs.Nodes.{form_tree, term_tree}
-use Rattle.ll_bank.proofs.Trees.{form_applies_heads-form_tree}
+use Rattle.ll_bank.proofs.CallerLemmas.{form_applies_heads-form_tree}
 use Rattle.ll_search_tables.proofs.OpenHeads.{opens_with_head}
 use Rattle.ll_search_tables.proofs.bank.opens_what_is_shared_once.Goals as goal
 

@@ -1,4 +1,4 @@
-use Rattle.ll_bank.proofs.Trees.{Extends-refl}
+use Rattle.ll_bank.proofs.CallerLemmas.{Extends-refl}
 use Rattle.ll_search_tables.proofs.unify.add_term.Goals as goal
 
 pub returns-else-number-count-clause-keeps : goal.returns-else-number-count-clause-keeps

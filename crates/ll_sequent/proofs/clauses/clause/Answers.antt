@@ -1,7 +1,7 @@
 use Rattle.std.proofs.Common.{◌∙◌, refl, ap, sym, subst, true, List, [], map, Some}
 use Rattle.ll_bank.specs.declared.FormAt.{FormAt}
 use Rattle.ll_bank.specs.Nodes.{form_tree, term_tree, term_trees}
-use Rattle.ll_bank.proofs.Trees.{Extends-refl, Extends-trans, HasForm-extends, form_tree-extends}
+use Rattle.ll_bank.proofs.CallerLemmas.{Extends-refl, Extends-trans, HasForm-extends, form_tree-extends}
 use Rattle.ll_laws.specs.Fault.{parts_fit}
 use Rattle.ll_laws.specs.Leaf.{leaf, premise_goal}
 use Rattle.ll_laws.specs.Shown.{module_tree}

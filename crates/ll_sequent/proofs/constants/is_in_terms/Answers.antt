@@ -1,7 +1,7 @@
 use Rattle.std.specs.Ordering.{nat_cmp}
 use Rattle.std.specs.BTreeSet.{contains}
 use Rattle.ll_bank.specs.Nodes.{places}
-use Rattle.ll_bank.proofs.WalkLemmas.{ceiling_falls, removed_other, removed_less}
+use Rattle.ll_bank.proofs.CallerLemmas.{ceiling_falls, removed_other, removed_less}
 use Rattle.ll_sequent.proofs.ConstantLemmas.{lower_places, looking_on}
 use Rattle.ll_sequent.proofs.constants.is_in_terms.Goals as goal
 

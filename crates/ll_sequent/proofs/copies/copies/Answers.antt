@@ -1,5 +1,5 @@
 use Rattle.std.proofs.Common.{refl, arith}
-use Rattle.ll_bank.proofs.Trees.{Extends-refl, Extends-trans}
+use Rattle.ll_bank.proofs.CallerLemmas.{Extends-refl, Extends-trans}
 use Rattle.ll_sequent.proofs.PlaceLemmas.{terms_grow, copied_more}
 use Rattle.ll_sequent.proofs.copies.copies.Goals as goal
 

@@ -1,5 +1,5 @@
 use Rattle.std.proofs.Common.{◌≡◌, ℕ, suc, ◌+◌, ◌++◌, ◌∷◌, [], map, drop, List, subst, sym, refl, ap, ◌∙◌, arith}
-use Rattle.ll_bank.proofs.Trees.{Extends-refl, Extends-trans}
+use Rattle.ll_bank.proofs.CallerLemmas.{Extends-refl, Extends-trans}
 use Rattle.ll_laws.specs.Module.{ModuleTree}
 use Rattle.ll_laws.specs.Number.{operators_of}
 use Rattle.ll_laws.specs.Shown.{module_tree}

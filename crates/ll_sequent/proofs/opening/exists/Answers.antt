@@ -1,7 +1,7 @@
 use Rattle.std.proofs.Common.{refl, ◌∙◌, arith}
 use Rattle.ll_bank.specs.Form.{instantiate, form_applies_heads}
 use Rattle.ll_bank.specs.Nodes.{form_tree, term_tree, HasForm, ShowsForm}
-use Rattle.ll_bank.proofs.Trees.{Extends-refl, Extends-trans, form_tree-extends}
+use Rattle.ll_bank.proofs.CallerLemmas.{Extends-refl, Extends-trans, form_tree-extends}
 use Rattle.ll_sequent.specs.declared.sequents.Step.TheVariants.{Refused}
 use Rattle.ll_sequent.proofs.OpeningLemmas.{exists_heads, exists_steps, exists_refused}
 use Rattle.ll_sequent.proofs.opening.exists.Goals as goal

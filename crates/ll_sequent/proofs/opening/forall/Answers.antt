@@ -3,7 +3,7 @@ use Rattle.ll_bank.specs.declared.Head.TheVariants.{Eigen}
 use Rattle.ll_bank.specs.Term.{Con}
 use Rattle.ll_bank.specs.Form.{instantiate, form_applies_heads}
 use Rattle.ll_bank.specs.Nodes.{form_tree, HasForm, ShowsForm}
-use Rattle.ll_bank.proofs.Trees.{Extends-refl, Extends-trans, form_tree-extends}
+use Rattle.ll_bank.proofs.CallerLemmas.{Extends-refl, Extends-trans, form_tree-extends}
 use Rattle.ll_sequent.specs.Constants.{stands_in}
 use Rattle.ll_sequent.proofs.ForallLemmas.{forall_refused, forall_known, forall_heads, forall_steps}
 use Rattle.ll_sequent.proofs.opening.forall.Goals as goal

@@ -2,7 +2,7 @@ use Rattle.std.proofs.Common.{◌<◌, length, map, refl, ap, sym, ◌∙◌}
 use Rattle.std.proofs.lemmas.Bool.{ltb-true}
 use Rattle.ll_bank.specs.Form.{Use}
 use Rattle.ll_bank.specs.Nodes.{form_tree, term_trees}
-use Rattle.ll_bank.proofs.Trees.{Extends-refl}
+use Rattle.ll_bank.proofs.CallerLemmas.{Extends-refl}
 use Rattle.ll_laws.specs.Shown.{module_tree}
 use Rattle.ll_sequent.proofs.UnfoldLemmas.{load_count, load_heads, load_steps, use_refused}
 use Rattle.ll_sequent.proofs.opening.load.Goals as goal

@@ -1,4 +1,4 @@
-use Rattle.ll_bank.proofs.Trees.{Extends-refl}
+use Rattle.ll_bank.proofs.CallerLemmas.{Extends-refl}
 use Rattle.ll_sequent.proofs.premises.goal_of.Goals as goal
 
 pub returns-in-Bounded-clause-keeps : goal.returns-in-Bounded-clause-keeps

@@ -1,5 +1,5 @@
 use Rattle.std.proofs.Common.{refl, arith, get_or}
-use Rattle.ll_bank.proofs.Trees.{Extends-refl, Extends-trans, HasForm-extends}
+use Rattle.ll_bank.proofs.CallerLemmas.{Extends-refl, Extends-trans, HasForm-extends}
 use Rattle.ll_sequent.specs.Opened.{needed_at}
 use Rattle.ll_sequent.specs.declared.leaves.Needed.TheVariants.{Bounded}
 use Rattle.ll_sequent.proofs.PlaceLemmas.{forms_grow}

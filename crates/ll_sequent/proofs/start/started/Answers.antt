@@ -1,7 +1,7 @@
 use Rattle.std.proofs.Common.{ap, ◌∙◌, reverse, rules}
 use Rattle.ll_bank.specs.Form.{sub_form}
 use Rattle.ll_bank.specs.Nodes.{form_tree, term_trees, ShowsForm, Extends}
-use Rattle.ll_bank.proofs.Trees.{Extends-trans, form_tree-extends}
+use Rattle.ll_bank.proofs.CallerLemmas.{Extends-trans, form_tree-extends}
 use Rattle.ll_sequent.specs.Starting.{values}
 use Rattle.ll_sequent.proofs.StartLemmas.{image_keeps, is_root}
 use Rattle.ll_sequent.proofs.start.started.Goals as goal

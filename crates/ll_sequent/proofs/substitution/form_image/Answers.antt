@@ -1,5 +1,5 @@
 use Rattle.ll_bank.specs.Nodes.{term_trees}
-use Rattle.ll_bank.proofs.Trees.{Extends-refl}
+use Rattle.ll_bank.proofs.CallerLemmas.{Extends-refl}
 use Rattle.ll_sequent.proofs.Substitutions.{on_ok, terms_extend}
 use Rattle.ll_sequent.proofs.substitution.form_image.Goals as goal
 

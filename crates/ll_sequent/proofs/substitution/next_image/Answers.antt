@@ -3,7 +3,7 @@ use Rattle.std.specs.Prelude.{IfOk}
 use Rattle.ll_bank.specs.declared.At.{At}
 use Rattle.ll_bank.specs.Term.{Term}
 use Rattle.ll_bank.specs.Nodes.{term_trees, ShowsTerm}
-use Rattle.ll_bank.proofs.Trees.{Extends-refl}
+use Rattle.ll_bank.proofs.CallerLemmas.{Extends-refl}
 use Rattle.ll_sequent.proofs.Substitutions.{all_of, args_low, images_inside, app_shows}
 use Rattle.ll_sequent.proofs.substitution.next_image.Goals as goal
 

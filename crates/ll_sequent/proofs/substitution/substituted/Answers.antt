@@ -1,7 +1,7 @@
 use Rattle.std.proofs.Common.{List, sym, subst, arith, rules}
 use Rattle.ll_bank.specs.declared.FormAt.{FormAt}
 use Rattle.ll_bank.specs.Nodes.{term_trees}
-use Rattle.ll_bank.proofs.Trees.{Extends-refl, Extends-trans, HasForm-extends, AllInTerms-extends}
+use Rattle.ll_bank.proofs.CallerLemmas.{Extends-refl, Extends-trans, HasForm-extends, AllInTerms-extends}
 use Rattle.ll_sequent.specs.Substituted.{AreFormImages}
 use Rattle.ll_sequent.proofs.Substitutions.{terms_now, forms_now, terms_then, next_form_more, form_image_at}
 use Rattle.ll_sequent.proofs.substitution.substituted.Goals as goal

@@ -1,7 +1,7 @@
 use Rattle.std.proofs.Common.{List, sym, subst, arith, rules}
 use Rattle.ll_bank.specs.declared.At.{At}
 use Rattle.ll_bank.specs.Nodes.{term_trees}
-use Rattle.ll_bank.proofs.Trees.{Extends-refl, Extends-trans, HasTerm-extends}
+use Rattle.ll_bank.proofs.CallerLemmas.{Extends-refl, Extends-trans, HasTerm-extends}
 use Rattle.ll_sequent.specs.Substituted.{AreTermImages}
 use Rattle.ll_sequent.proofs.Substitutions.{terms_now, next_more, term_image_at}
 use Rattle.ll_sequent.proofs.substitution.term_image.Goals as goal

@@ -1,5 +1,5 @@
 use Rattle.std.proofs.Common.{refl, arith}
-use Rattle.ll_bank.proofs.Trees.{Extends-refl, Extends-trans}
+use Rattle.ll_bank.proofs.CallerLemmas.{Extends-refl, Extends-trans}
 use Rattle.ll_sequent.proofs.PlaceLemmas.{terms_grow}
 use Rattle.ll_sequent.proofs.Substitutions.{terms_now, terms_then, next_images}
 use Rattle.ll_sequent.proofs.substitution.term_images.Goals as goal

@@ -1,7 +1,7 @@
 use Rattle.std.proofs.Common.{subst, List}
 use Rattle.ll_bank.specs.Term.{Term, sub}
 use Rattle.ll_bank.specs.Nodes.{term_tree, term_trees, ShowsTerm}
-use Rattle.ll_bank.proofs.Trees.{Extends-refl, ShowsTerm-extends, term_tree-extends, term_trees-extends}
+use Rattle.ll_bank.proofs.CallerLemmas.{Extends-refl, ShowsTerm-extends, term_tree-extends, term_trees-extends}
 use Rattle.ll_sequent.specs.Starting.{values}
 use Rattle.ll_sequent.proofs.Substitutions.{terms_now, terms_then}
 use Rattle.ll_sequent.proofs.substitution.two_images.Goals as goal

@@ -1,5 +1,5 @@
 use Rattle.ll_laws.specs.declared.Event.{Event}
-use Rattle.ll_core.proofs.Cursors.{every_all}
+use Rattle.ll_core.proofs.CallerLemmas.{every_all}
 use Rattle.ll_shared.proofs.order.drains_in_the_order_of_one_engine.Goals as goal
 
 pub drain-drained-requires-clause-welcome : goal.drain-drained-requires-clause-welcome

@@ -1,6 +1,6 @@
 use Rattle.std.proofs.Common.{sym, subst, length}
 use Rattle.ll_laws.specs.CoreEvents.{IsOpenAt, with_batch}
-use Rattle.ll_core.proofs.Pieces.{change_at}
+use Rattle.ll_core.proofs.CallerLemmas.{change_at}
 use Rattle.ll_shared.proofs.players.publish.Goals as goal
 
 pub returns-clause-open : goal.returns-clause-open

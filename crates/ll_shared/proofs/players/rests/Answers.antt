@@ -2,7 +2,7 @@ use Rattle.std.proofs.Common.{◌≡◌, sym, ap, ◌∙◌}
 use Rattle.std.proofs.lemmas.Bool.{false≢true, eqb-true}
 use Rattle.ll_laws.specs.CoreEvents.{Overview}
 use Rattle.ll_laws.specs.Sound.{is_open}
-use Rattle.ll_core.proofs.AllClaimed.{closed_all}
+use Rattle.ll_core.proofs.CallerLemmas.{closed_all}
 use Rattle.ll_shared.proofs.players.rests.Goals as goal
 
 pub returns : goal.returns

@@ -1,7 +1,7 @@
 use Rattle.std.proofs.Common.{refl, sym, ap, ◌∙◌, arith}
 use Rattle.std.specs.Prelude.{◌≡◌, false}
 use Rattle.ll_deepen.specs.Deciding.{decides, events_within, cost_within}
-use Rattle.ll_deepen.proofs.Bounds.{first_bound, next_bound}
+use Rattle.ll_deepen.proofs.CallerLemmas.{first_bound, next_bound}
 use Rattle.ll_top.specs.DeepenEnds.{with_bound}
 use Rattle.ll_top.proofs.deepening.decide.Goals as goal
 

@@ -2,7 +2,7 @@ use denote.Builtin.{unit}
 use Rattle.std.proofs.Common.{sym, arith, le_refl, le_trans, length}
 use Rattle.std.proofs.lemmas.Bool.Decides.{Decides-eqb}
 use Rattle.std.proofs.lemmas.Result.{err_from_is_err_and}
-use Rattle.ll_session.proofs.Replying.{none-answered, line-passed, line-answered, line-refused, all-answered}
+use Rattle.ll_session.proofs.CallerLemmas.{none-answered, line-passed, line-answered, line-refused, all-answered}
 use Rattle.ll_top.specs.SessionEnds.{WritesReply, CutsReply}
 use Rattle.ll_top.proofs.OwnLemmas.{refusal-later}
 use Rattle.ll_top.proofs.SessionLemmas.{replies-written, lines-stopped}

@@ -4,7 +4,7 @@ use Rattle.ll_laws.specs.Attempt.{tries}
 use Rattle.ll_laws.specs.declared.Candidate.{Candidate}
 use Rattle.ll_freeze.specs.Shown.{state_of}
 use Rattle.ll_freeze.specs.Parts.{parts_of}
-use Rattle.ll_freeze.proofs.Marks.{keeps}
+use Rattle.ll_freeze.proofs.CallerLemmas.{keeps}
 use Rattle.ll_engine.specs.Pointed.{Held, IsSoundAt, helds, points_of, spine_at, spine_of, first_of}
 use Rattle.ll_engine.specs.Turned.{Chose}
 use Rattle.ll_engine.proofs.CandidateLemmas.{All-front, All-end}

@@ -1,6 +1,6 @@
 use Rattle.std.proofs.Common.{sym, subst, List}
 use Rattle.ll_freeze.specs.Parts.{parts_of}
-use Rattle.ll_freeze.proofs.Marks.{keeps}
+use Rattle.ll_freeze.proofs.CallerLemmas.{keeps}
 use Rattle.ll_engine.specs.Turned.{Settles}
 use Rattle.ll_engine.specs.Pointed.{Held, IsSoundAt, spine_at, spine_of, first_of, helds}
 use Rattle.ll_engine.proofs.Pointing.{settles, settled_sound, helds_kept, marks_kept}

@@ -1,0 +1,136 @@
+-- What the crates above may cite of the bank: they know it by its public contracts and by the laws named here.
+
+-- ---- a bank that grows
+
+-- a bank extends itself
+pub use Rattle.ll_bank.proofs.Trees.{Extends-refl}
+-- what extends an extension extends the first bank
+pub use Rattle.ll_bank.proofs.Trees.{Extends-trans}
+-- a bank extends a bank that is equal to it
+pub use Rattle.ll_bank.proofs.Trees.{Extends-same}
+-- a bank that grew has no smaller size
+pub use Rattle.ll_bank.proofs.Trees.{IsNotPast-extends}
+-- a bank has each size that is had by a bank with the same first nodes
+pub use Rattle.ll_bank.proofs.BankLemmas.{HasSize-front}
+-- ---- what its places show as it grows
+
+-- a place of a term stays one
+pub use Rattle.ll_bank.proofs.Trees.{HasTerm-extends}
+-- a place of a formula stays one
+pub use Rattle.ll_bank.proofs.Trees.{HasForm-extends}
+-- places of terms stay ones
+pub use Rattle.ll_bank.proofs.Trees.{AllInTerms-extends}
+-- an old place shows the same term
+pub use Rattle.ll_bank.proofs.Trees.{term_tree-extends}
+-- old places show the same terms
+pub use Rattle.ll_bank.proofs.Trees.{term_trees-extends}
+-- an old place shows the same formula
+pub use Rattle.ll_bank.proofs.Trees.{form_tree-extends}
+-- a term that a place shows, it goes on showing
+pub use Rattle.ll_bank.proofs.Trees.{ShowsTerm-extends}
+-- a formula that a place shows, it goes on showing
+pub use Rattle.ll_bank.proofs.Trees.{ShowsForm-extends}
+-- arguments below a place of the bank are places of the bank
+pub use Rattle.ll_bank.proofs.Trees.{AllInTerms-below}
+-- places below a number, as numbers below it
+pub use Rattle.ll_bank.proofs.BankLemmas.{below_places}
+-- ---- heads and arguments
+
+-- in a term of a bank nothing but a head has arguments
+pub use Rattle.ll_bank.proofs.Trees.{applies_heads-term_tree}
+-- in a formula of a bank nothing but a head has arguments
+pub use Rattle.ll_bank.proofs.Trees.{form_applies_heads-form_tree}
+-- where nothing but heads has arguments in an application, the same is so of each of its arguments
+pub use Rattle.ll_bank.proofs.OpenLemmas.{heads_args}
+-- a term that gets arguments begins with a head
+pub use Rattle.ll_bank.proofs.OpenLemmas.{spine_of_value}
+-- arguments behind arguments are given one list after the other
+pub use Rattle.ll_bank.proofs.OpenLemmas.{apply-append}
+-- an application that gets more arguments has them behind its own
+pub use Rattle.ll_bank.proofs.OpenLemmas.{more_args}
+-- closing an application closes what is applied and each argument
+pub use Rattle.ll_bank.proofs.OpenLemmas.{close-apply}
+-- a closed application is its closed head at its closed arguments
+pub use Rattle.ll_bank.proofs.OpenLemmas.{opened_app}
+-- where closed terms give arguments to heads alone, so does each of the closed terms
+pub use Rattle.ll_bank.proofs.OpenLemmas.{load_heads}
+-- ---- nodes and views
+
+-- the term node that is read at a place is the one that stands there
+pub use Rattle.ll_bank.proofs.WalkLemmas.{node_seen}
+-- the formula node that is read at a place is the one that stands there
+pub use Rattle.ll_bank.proofs.OpenLemmas.{form_node_seen}
+-- formula nodes that compare as equal are the same node
+pub use Rattle.ll_bank.proofs.OpenLemmas.{same_node}
+-- equal formula nodes build one formula
+pub use Rattle.ll_bank.proofs.OpenLemmas.{same_form_of}
+-- views of terms that compare as equal are of the same node
+pub use Rattle.ll_bank.proofs.OpenLemmas.{same_view}
+-- a view of an application shows its head at the terms of its arguments
+pub use Rattle.ll_bank.proofs.OpenLemmas.{same_term_of}
+-- a term has at least one node
+pub use Rattle.ll_bank.proofs.OpenLemmas.{term_size-some}
+-- a formula has at least one node
+pub use Rattle.ll_bank.proofs.OpenLemmas.{form_size-some}
+-- as a bank grows, the parts of a term at an old place stay
+pub use Rattle.ll_bank.proofs.OpenLemmas.{term_parts_same}
+-- as a bank grows, the parts of a formula at an old place stay
+pub use Rattle.ll_bank.proofs.OpenLemmas.{form_parts_same}
+-- ---- lists of trees that grow node by node
+
+-- nodes behind others grow over the trees of those
+pub use Rattle.ll_bank.proofs.Growing.{grow-append}
+-- there is one tree a node
+pub use Rattle.ll_bank.proofs.Growing.{length-grow}
+-- the trees that were there stay as more nodes come
+pub use Rattle.ll_bank.proofs.Growing.{get_or-grow}
+-- the trees of the first nodes stay as more nodes come
+pub use Rattle.ll_bank.proofs.Growing.{grow_kept}
+-- the last node builds its tree over those of the nodes before it
+pub use Rattle.ll_bank.proofs.Growing.{grow_last}
+-- the node at a place builds its tree over those of the nodes before it
+pub use Rattle.ll_bank.proofs.Growing.{get_or-grow_at}
+-- ---- walks over the terms under some terms
+
+-- one more than the greatest number of a list, or 0
+pub use Rattle.ll_bank.proofs.Ceiling.{ceiling}
+-- the ceiling is at most a number that is above all
+pub use Rattle.ll_bank.proofs.Ceiling.{ceiling-le}
+-- a number that stands last is below the ceiling
+pub use Rattle.ll_bank.proofs.Ceiling.{last_below}
+-- a step that takes the last place, and puts in places below it, lowers the ceiling
+pub use Rattle.ll_bank.proofs.WalkLemmas.{ceiling_falls}
+-- two numbers compare as equal where they are
+pub use Rattle.ll_bank.proofs.Ceiling.{is_at-nat}
+-- a test of keys after a key was put in
+pub use Rattle.ll_bank.proofs.WalkLemmas.{inserted}
+-- a key that was taken out changes nothing at other places
+pub use Rattle.ll_bank.proofs.WalkLemmas.{removed_other}
+-- after a key was taken out, what is a key was one before
+pub use Rattle.ll_bank.proofs.WalkLemmas.{removed_less}
+-- nothing is in a set without keys
+pub use Rattle.ll_bank.proofs.WalkLemmas.{none_in}
+-- a place that was put in is one more of the places of a list
+pub use Rattle.ll_bank.proofs.WalkLemmas.{more_any}
+-- one more place of a list
+pub use Rattle.ll_bank.proofs.WalkLemmas.{places_more}
+-- a number that is not above 0 is 0
+pub use Rattle.ll_bank.proofs.WalkLemmas.{zero_unless}
+-- a place that was entered into a map has its image
+pub use Rattle.ll_bank.proofs.ImageLemmas.{image_here}
+-- an entry into a map leaves the images of other places
+pub use Rattle.ll_bank.proofs.ImageLemmas.{image_there}
+-- ---- texts and their numbers
+
+-- a text of a list without doubles has its place as its number
+pub use Rattle.ll_bank.proofs.NameLaws.{number_of-slice_get}
+-- a text stands at its number
+pub use Rattle.ll_bank.proofs.NameLaws.{slice_get-number_of}
+-- a text that is there is not added again
+pub use Rattle.ll_bank.proofs.NameLaws.{with_name-present}
+-- adding a text makes a list longer by one text at most
+pub use Rattle.ll_bank.proofs.NameLaws.{length-with_name}
+-- an added text has a number: its old place, or the next one
+pub use Rattle.ll_bank.proofs.NameLaws.{number_of-with_name}
+-- a number keeps its text as another text is added
+pub use Rattle.ll_bank.proofs.NameLaws.{slice_get-with_name}

@@ -1,0 +1,4 @@
+-- What the crates above may cite of covers, beside the public contracts.
+
+-- one answer of a search is the first that covers a derivation
+pub use Rattle.ll_cover.proofs.Covers.{first_once}

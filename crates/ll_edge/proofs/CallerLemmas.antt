@@ -1,0 +1,6 @@
+-- What the crates above may cite of the outside, beside the public contracts.
+
+-- to append nothing leaves all as it was
+pub use Rattle.ll_edge.proofs.Writing.{append_known-nil}
+-- to append two pieces, one after the other, is to append both
+pub use Rattle.ll_edge.proofs.Writing.{append_known-append}

@@ -1,0 +1,184 @@
+-- What the crates above may cite of the laws of the language and its search, beside the public contracts.
+
+-- ---- tests that hold together
+
+-- where both hold, the first does
+pub use Rattle.ll_laws.proofs.SubLaws.{and_left}
+-- where both hold, the second does
+pub use Rattle.ll_laws.proofs.SubLaws.{and_right}
+-- where the first and the second hold, both do
+pub use Rattle.ll_laws.proofs.ConsistentTerms.{and_intro}
+-- where one of two holds, what follows from each follows
+pub use Rattle.ll_laws.proofs.UnifyLaws.{or_cases}
+-- nothing is below 0
+pub use Rattle.ll_laws.proofs.ConsistentTerms.{none_below}
+-- ---- lists, element by element
+
+-- a function over a function, element by element
+pub use Rattle.ll_laws.proofs.SubLaws.{map_map}
+-- functions that agree on each element give the same list
+pub use Rattle.ll_laws.proofs.SubLaws.{map_same}
+-- ---- substitutions
+
+-- putting each variable for itself changes nothing
+pub use Rattle.ll_laws.proofs.SubLaws.{sub_id}
+-- substitutions that agree on each variable agree on a term
+pub use Rattle.ll_laws.proofs.SubLaws.{sub_same}
+-- one substitution after another, in a term
+pub use Rattle.ll_laws.proofs.SubLaws.{sub_comp}
+-- one substitution after another, in a formula
+pub use Rattle.ll_laws.proofs.SubLaws.{sub_form_comp}
+-- a substitution by closed terms
+pub use Rattle.ll_laws.proofs.SubLaws.{IsClosing}
+-- a closed term has no place to fill
+pub use Rattle.ll_laws.proofs.SubLaws.{close_closed}
+-- a substitution by closed terms goes through the opening of a quantifier
+pub use Rattle.ll_laws.proofs.SubLaws.{sub_instantiate}
+-- a substitution changes no way to a leaf
+pub use Rattle.ll_laws.proofs.SubLaws.{ways-sub}
+-- a leaf has as many terms as quantifiers stand on its way
+pub use Rattle.ll_laws.proofs.LeafWays.{leaf_ways}
+-- a premise under a substitution
+pub use Rattle.ll_laws.proofs.SubLaws.{sub_premise}
+-- a leaf under a substitution
+pub use Rattle.ll_laws.proofs.SubLaws.{sub_leaf}
+-- a leaf of a clause under a substitution by closed terms is that leaf under it
+pub use Rattle.ll_laws.proofs.SubLaws.{leaf-sub}
+-- ---- unification
+
+-- a head is equal to itself
+pub use Rattle.ll_laws.proofs.UnifyLaws.{head_eq-refl}
+-- heads that compare as equal are the same
+pub use Rattle.ll_laws.proofs.UnifyLaws.{head_eq-true}
+-- terms between which no difference is found are the same
+pub use Rattle.ll_laws.proofs.UnifyLaws.{diff-same}
+-- no level rises where a term is bound
+pub use Rattle.ll_laws.proofs.UnifyLaws.{lower-le}
+-- where a term is bound at a level, the levels of its variables fall to it, and no others change
+pub use Rattle.ll_laws.proofs.UnifyLaws.{level-lower}
+-- a variable's level is at most the bound of all levels
+pub use Rattle.ll_laws.proofs.AnswerSteps.{level_up_to}
+-- a variable behind those that are there has the level of the new ones
+pub use Rattle.ll_laws.proofs.AnswerSteps.{new_level}
+-- levels that are all the same are in bounds where this one is
+pub use Rattle.ll_laws.proofs.ConsistentStates.{levels-replicate}
+-- a variable that occurs in a term is one of those that the term may mention
+pub use Rattle.ll_laws.proofs.AnswerSteps.{occurs_below}
+-- eigenconstants below a level are below a higher one
+pub use Rattle.ll_laws.proofs.UnifyLaws.{eigens-mono}
+-- what unification answers is a unifier
+pub use Rattle.ll_laws.proofs.UnifyBest.{found-unifier}
+-- unification raises no level
+pub use Rattle.ll_laws.proofs.UnifyBest.{found-falls}
+-- what unification answers is most general
+pub use Rattle.ll_laws.proofs.UnifyBest.{found-best}
+-- where unification answers nothing, there is no unifier
+pub use Rattle.ll_laws.proofs.UnifyBest.{none-unifier}
+-- ---- what terms of a consistent state may mention
+
+-- of two allowances, the second allows at least what the first does
+pub use Rattle.ll_laws.proofs.ConsistentTerms.{Grows}
+-- each allowance allows what itself does
+pub use Rattle.ll_laws.proofs.ConsistentTerms.{grows-refl}
+-- a state may mention what a problem may with k variables, if it has as many
+pub use Rattle.ll_laws.proofs.ConsistentStates.{grows_given}
+-- the scope has the places of the other and perhaps more, and each that may be a predicate still may
+pub use Rattle.ll_laws.proofs.ConsistentTerms.{Widens}
+-- a scope widens itself
+pub use Rattle.ll_laws.proofs.ConsistentTerms.{widens-refl}
+-- the term has a head, and one that may be a predicate or have arguments
+pub use Rattle.ll_laws.proofs.ConsistentTerms.{IsHead}
+-- the term mentions what it may, and what stands in front of arguments is a head
+pub use Rattle.ll_laws.proofs.ConsistentTerms.{Fit}
+-- each term of a list fits
+pub use Rattle.ll_laws.proofs.ConsistentTerms.{AllFit}
+-- a closed term without bound places, with variables and eigenconstants that are there, fits
+pub use Rattle.ll_laws.proofs.ConsistentTerms.{fit_of_made}
+-- a term that fits has no variable beyond those that are there
+pub use Rattle.ll_laws.proofs.ConsistentTerms.{fit-vars}
+-- a term that fits has no eigenconstant beyond those that are there
+pub use Rattle.ll_laws.proofs.ConsistentTerms.{fit-eigens}
+-- a term that fits has no bound place beyond those of its scope
+pub use Rattle.ll_laws.proofs.ConsistentTerms.{fit-places}
+-- a term that fits still fits where more is allowed and the scope is wider
+pub use Rattle.ll_laws.proofs.ConsistentTerms.{fit-more}
+-- each variable that there is goes to a closed term
+pub use Rattle.ll_laws.proofs.ConsistentTerms.{Goes}
+-- a term that fits still fits under a substitution by terms that fit
+pub use Rattle.ll_laws.proofs.ConsistentTerms.{fit-sub}
+-- an environment takes terms of the inner scope to the outer one, and what it puts for places are closed terms that fit them
+pub use Rattle.ll_laws.proofs.ConsistentTerms.{Closes}
+-- ---- formulas of consistent states
+
+-- the formula may stand on this side, and its terms fit
+pub use Rattle.ll_laws.proofs.ConsistentForms.{Fits}
+-- a formula that fits is one in the words of the definitions
+pub use Rattle.ll_laws.proofs.ConsistentForms.{formula_of_fits}
+-- a formula in the words of the definitions fits
+pub use Rattle.ll_laws.proofs.ConsistentForms.{fits_of_formula}
+-- a formula that fits still fits where more is allowed and the scope is wider
+pub use Rattle.ll_laws.proofs.ConsistentForms.{fits-more}
+-- a closed formula stays one where more is allowed
+pub use Rattle.ll_laws.proofs.ConsistentContexts.{formula-more}
+-- a formula that fits, closed by an environment, fits the outer scope
+pub use Rattle.ll_laws.proofs.ConsistentForms.{fits-close}
+-- the other side
+pub use Rattle.ll_laws.proofs.ConsistentForms.{other}
+-- whether the bound place of a `forall` on this side may be a predicate
+pub use Rattle.ll_laws.proofs.ConsistentForms.{opens_on}
+-- a substitution leaves a formula without variables as it is
+pub use Rattle.ll_laws.proofs.Grounding.{sub_none_form}
+-- ---- clauses, leaves and modules that fit
+
+-- the goal of each premise fits
+pub use Rattle.ll_laws.proofs.ConsistentLeaves.{PremisesFit}
+-- the atom and the premises of a leaf fit
+pub use Rattle.ll_laws.proofs.ConsistentLeaves.{LeafFits}
+-- a leaf of a clause that fits, at terms that fit, fits
+pub use Rattle.ll_laws.proofs.ConsistentLeaves.{leaf-fits}
+-- the clauses of a module of the problem fit wherever as much is allowed
+pub use Rattle.ll_laws.proofs.ConsistentSteps.{module-fits}
+-- the goal that a load of a fitting module stands for fits
+pub use Rattle.ll_laws.proofs.ConsistentLeaves.{unfold_load-fits}
+-- a substitution by closed terms goes through the goal that a load stands for
+pub use Rattle.ll_laws.proofs.Grounding.{unfold_sub}
+-- ---- states and their inferences
+
+-- as many new variables are made as are asked for
+pub use Rattle.ll_laws.proofs.ConsistentStates.{length-vars}
+-- a search starts in a consistent state
+pub use Rattle.ll_laws.proofs.ConsistentStates.{starts_consistent}
+-- settling a consistent state gives a consistent one
+pub use Rattle.ll_laws.proofs.ConsistentStates.{settles_consistent}
+-- an inference of a consistent state gives a consistent one
+pub use Rattle.ll_laws.proofs.ConsistentSteps.{steps_consistent}
+-- other live marks leave labels and kinds as they are
+pub use Rattle.ll_laws.proofs.ConsistentContexts.{alike-remark}
+-- ends look at labels and kinds alone
+pub use Rattle.ll_laws.proofs.ConsistentContexts.{alike-ends}
+-- settling looks at no goal and no clause
+pub use Rattle.ll_laws.proofs.SettleLaws.{front-map}
+-- ---- the search and its cost, inference by inference
+
+-- where settling fails, a search has no event
+pub use Rattle.ll_laws.proofs.SearchLaws.{events_none}
+-- where nothing is left to do, a search has one answer
+pub use Rattle.ll_laws.proofs.SearchLaws.{events_answer}
+-- where something is left to do and no inference is, a search has reached its bound
+pub use Rattle.ll_laws.proofs.SearchLaws.{events_reached}
+-- else the events are those of the candidates, one after the other
+pub use Rattle.ll_laws.proofs.SearchLaws.{events_step}
+-- where settling fails, a search costs nothing
+pub use Rattle.ll_laws.proofs.SearchLaws.{cost_none}
+-- an answer costs nothing more
+pub use Rattle.ll_laws.proofs.SearchLaws.{cost_answer}
+-- a search without inferences costs nothing
+pub use Rattle.ll_laws.proofs.SearchLaws.{cost_zero}
+-- else the cost is that of the candidates
+pub use Rattle.ll_laws.proofs.SearchLaws.{cost_step}
+-- ---- derivations
+
+-- lines of one tree without a fault show the problem
+pub use Rattle.ll_laws.proofs.Lines.{no-fault-shows}
+-- lines that show the problem have no fault, and fit by their number
+pub use Rattle.ll_laws.proofs.Lines.{shown-no-fault}

@@ -1,0 +1,12 @@
+-- What the crates above may cite of the printed texts, beside the public contracts.
+
+-- the text of a head with arguments that are not the two of a `::`
+pub use Rattle.ll_printer.proofs.Printing.{app_text}
+-- the text of the form `X::L`
+pub use Rattle.ll_printer.proofs.Printing.{cons_text}
+-- an application is a list cell where it has two arguments and the head `::`
+pub use Rattle.ll_printer.proofs.Printing.{is_cons-app}
+-- an application has arguments where their list is not empty
+pub use Rattle.ll_printer.proofs.Printing.{has_arguments-app}
+-- what follows from a fact on success
+pub use Rattle.ll_printer.proofs.Parts.{on_ok}

@@ -1,0 +1,16 @@
+-- What the crates above may cite of replies, beside the public contracts.
+
+-- before the first line nothing was replied
+pub use Rattle.ll_session.proofs.Replying.{none-answered}
+-- a line that is no query is passed over
+pub use Rattle.ll_session.proofs.Replying.{line-passed}
+-- a line that is a query is replied to
+pub use Rattle.ll_session.proofs.Replying.{line-answered}
+-- a reply that was refused ends the session
+pub use Rattle.ll_session.proofs.Replying.{line-refused}
+-- when no line is left, all is replied to
+pub use Rattle.ll_session.proofs.Replying.{all-answered}
+-- what follows from a fact on success
+pub use Rattle.ll_session.proofs.Replying.{on-ok}
+-- what follows from a fact on failure
+pub use Rattle.ll_session.proofs.Replying.{on-err}

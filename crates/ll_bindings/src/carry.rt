@@ -1,39 +1,59 @@
 //! Terms with all bindings applied, carried into another bank.
-ghost use Rattle.std.specs.Prelude.{◌≡◌, ◌≤◌, ◌-◌, length, take, drop, map, All, IfOk, OnOk};
+ghost use Rattle.std.specs.Prelude.{◌≡◌, ◌≤◌, ◌-◌, length, take, drop, map, All, IfOk, OnOk, Some};
 ghost use Rattle.ll_bank.specs.declared.At.{At as AtView};
 ghost use Rattle.ll_bank.specs.Term.{sub};
 ghost use Rattle.ll_bank.specs.Nodes.{term_tree, term_trees, HasTerm, ShowsTerm, AllInTerms, Extends};
 ghost use Rattle.ll_bindings.specs.Bindings.{IsTable, IsPlaceOf, IsEnd, found};
 ghost use Rattle.ll_bindings.specs.Copied.{AreCopies, AddsCopy};
-ghost use Rattle.ll_bindings.specs.Carried.{listed, IsCarried};
+ghost use Rattle.ll_bindings.specs.Carried.{unpacked, listed, IsCarried};
 
 use crate::scan::Frame;
 use crate::table::{Bindings, argument, walk};
 use ll_bank::{At, Bank, OutOfMemory, TermView};
 use std::alloc::{AllocError, Global};
 
+// The copy that is kept as this number.
+fn unpacked(kept: u32) -> Option<At>
+    ensures { result ≡ unpacked kept }
+{
+    let place = kept.checked_sub(1)?;
+    Some(At(place as usize))
+}
+
+// A copy as it is kept. There is no memory for places from 4,294,967,295 on.
+fn packed(copy: At) -> Result<u32, OutOfMemory>
+    ensures { IfOk result (λ kept. unpacked kept ≡ Some copy) }
+{
+    if copy.0 < u32::MAX as usize {
+        Ok(copy.0 as u32 + 1)
+    } else {
+        Err(AllocError)
+    }
+}
+
 // The copy of a place, if it is known.
-fn copy_at(known: &[Option<At>], at: At) -> Option<At>
+fn copy_at(known: &[u32], at: At) -> Option<At>
     ensures { result ≡ listed known.now at.0 }
 {
     if at.0 < known.len() {
-        known[at.0]
+        unpacked(known[at.0])
     } else {
         None
     }
 }
 
 // Remembers the copy of a place.
-fn remember(known: &mut Vec<Option<At>>, at: At, copy: At) -> Result<(), OutOfMemory>
+fn remember(known: &mut Vec<u32>, at: At, copy: At) -> Result<(), OutOfMemory>
     ensures { OnOk result (AddsCopy (listed known.old.items) (listed known.new.items) at.0 copy) }
 {
     let Some(size) = at.0.checked_add(1) else {
         return Err(AllocError);
     };
+    let kept = packed(copy)?;
     if known.len() < size {
-        known.resize(size, None)?;
+        known.resize(size, 0)?;
     }
-    known[at.0] = Some(copy);
+    known[at.0] = kept;
     Ok(())
 }
 
@@ -70,7 +90,7 @@ fn close(bank: &Bank, frame: Frame, made: &mut Vec<At>, other: &mut Bank) -> Res
 fn carry<T: Bindings>(
     bank: &Bank,
     table: &T,
-    known: &mut Vec<Option<At>>,
+    known: &mut Vec<u32>,
     frames: &mut Vec<Frame>,
     made: &mut Vec<At>,
     start: At,
@@ -114,7 +134,7 @@ fn carry<T: Bindings>(
 fn carry_one<T: Bindings>(
     bank: &Bank,
     table: &T,
-    known: &mut Vec<Option<At>>,
+    known: &mut Vec<u32>,
     frames: &mut Vec<Frame>,
     made: &mut Vec<At>,
     at: At,
@@ -137,8 +157,8 @@ fn carry_one<T: Bindings>(
 /// What terms are carried into another bank with. It is kept, so that many calls take memory once.
 #[derive(Drop)]
 pub struct Carrier {
-    // Copies by the places of the first bank.
-    known: Vec<Option<At>>,
+    // Copies by the places of the first bank, each in four bytes.
+    known: Vec<u32>,
     // Terms whose copies are not done, and copies that wait for them.
     frames: Vec<Frame>,
     made: Vec<At>,

@@ -108,6 +108,35 @@ fn make_equal<T: Bindings>(
     }
 }
 
+// Makes two applications of one head to as many arguments equal by bindings, the next of several equations, or finds that this can't be.
+fn open_next<T: Bindings>(
+    alloc: Global,
+    bank: &Bank,
+    table: &mut T,
+    classes: Classes,
+    fresh: &mut Fresh,
+    left: At,
+    right: At,
+) -> Result<bool, OutOfMemory>
+    requires table { IsTable bank.now (T.table table.old) }
+    requires classes { AreClasses bank.now (T.table table.old) classes.up.items }
+    requires pair { IsPair bank.now (T.table table.old) (record { left = left; right = right; next = 0 }) }
+    requires fresh { AreFresh bank.now (T.table table.old) fresh.old (lefts bank.now ((record { left = left; right = right; next = 0 }) ∷ [])) }
+    ensures grows { T.grows table.old table.new }
+    ensures settles { IfOk result (Settles bank.now (T.table table.old) (T.table table.new) (lefts bank.now ((record { left = left; right = right; next = 0 }) ∷ [])) (rights bank.now ((record { left = left; right = right; next = 0 }) ∷ []))) }
+    ensures fresh { IfOk result (λ good. good ≡ true → LeavesFresh bank.now (T.table table.old) (T.table table.new) fresh.old fresh.new (lefts bank.now ((record { left = left; right = right; next = 0 }) ∷ [])) []) }
+{
+    let mut work = Work {
+        pairs: Vec::new(alloc),
+        classes,
+        seen: Seen::new(alloc),
+        fresh: *fresh,
+    };
+    let equal = open(alloc, bank, table, &mut work, left, right)?;
+    *fresh = work.fresh;
+    Ok(equal)
+}
+
 /// Makes one term equal to another by bindings, the next of several equations, or finds that this can't be. The new variables that were
 /// not met in the equations before do not stand on the left.
 ///
@@ -129,15 +158,16 @@ pub fn unify_next<T: Bindings>(
     ensures settles { IfOk result (Settles bank.now (T.table table.old) (T.table table.new) (term_tree bank.now left.0 ∷ []) (term_tree bank.now right.0 ∷ [])) }
     ensures fresh { IfOk result (λ good. good ≡ true → LeavesFresh bank.now (T.table table.old) (T.table table.new) fresh.old fresh.new (term_tree bank.now left.0 ∷ []) []) }
 {
-    let mut work = Work {
-        pairs: Vec::new(alloc),
-        classes: Classes::new(alloc),
-        seen: Seen::new(alloc),
-        fresh: *fresh,
-    };
-    let equal = make_equal(alloc, bank, table, &mut work, left, right)?;
-    *fresh = work.fresh;
-    Ok(equal)
+    let mut classes = Classes::new(alloc);
+    match compare(bank, table, &mut classes, left, right) {
+        Compared::Same => Ok(true),
+        Compared::Clash => Ok(false),
+        Compared::Meet(a, b) => {
+            let mut seen = Seen::new(alloc);
+            bind(alloc, bank, table, &mut seen, fresh, a, b)
+        }
+        Compared::Open(a, b) => open_next(alloc, bank, table, classes, fresh, a, b),
+    }
 }
 
 // Makes two lists of terms equal by bindings, or finds that this can't be. New variables that were not met do not stand on the left.

@@ -10,6 +10,7 @@ use Rattle.std.proofs.lemmas.Bool.{cases_lt}
 use Rattle.std.proofs.lemmas.List.{append-nil, length-map, map-append, take-append-le, take-append-drop, length-take, length-take-le, take-map, take-take, take_at, get_or_default}
 use Rattle.std.proofs.lemmas.List.Elements.{All-head, All-tail, All-cons}
 use Rattle.std.proofs.lemmas.Option.{get_or_from_slice_get}
+use Rattle.ll_lists.proofs.CallerLemmas.{each-push as push_all, map_map}
 use Rattle.ll_bank.specs.declared.At.{At}
 use Rattle.ll_bank.specs.declared.Head.{Head}
 use Rattle.ll_bank.specs.declared.BankSize.{BankSize}
@@ -22,7 +23,6 @@ use Rattle.ll_bank.specs.Form.{Form, Top, Atom, With, Tensor, Plus, Bang, Lolli,
 use Rattle.ll_bank.specs.Nodes.{Nodes, TermNode, VarNode, IntNode, AppNode, FormulaNode, TopNode, OneNode, AtomNode, WithNode, TensorNode, PlusNode, BangNode, LolliNode, ImpNode, ForallNode, ExistsNode, UseNode, NumNode, grow, term_in, build_term, form_in, build_form, term_tree, form_tree, term_trees, HasTerm, HasForm, ShowsTerm, ShowsForm, Extends, form_of, HasPartsBelow, IsTermView, IsFormView, IsTermBelow, IsFormBelow, IsWellFounded, places, node_of_term, node_of, with_term, with_form, size_of, front, HasSize, IsCutTo}
 use Rattle.ll_bank.specs.Kept.{all_terms, IsKept, depth_over}
 use Rattle.ll_bank.proofs.Growing.{grow-append, grow_kept, grow_last, get_or-grow_at, length-grow, grow-take}
-use Rattle.ll_bank.proofs.FlatLemmas.{map_map}
 
 -- ---- sizes
 
@@ -175,17 +175,6 @@ shows_form old n at tree last e = subst (λ k. ShowsForm (with_form old n) k tre
 })
 
 -- ---- a node put behind the others stands on lower ones
-
--- what holds of each element at its place, and of one more behind them, holds of all
-push_all : {A : Type 0} (P : ℕ → A → Type 0) (xs : List A) (x : A) → ((k : ℕ) (d : A) → k < length xs → P k (get_or xs k d)) → P (length xs) x
-    → (k : ℕ) (d : A) → k < length (xs ++ x ∷ []) → P k (get_or (xs ++ x ∷ []) k d)
-push_all P xs x h p k d lt =
-    elim (cases_lt k (length xs)) [
-      | inl l ↦ subst (P k) (sym (get_or-append xs (x ∷ []) d k l)) (h k d l)
-      | inr l ↦
-          let e : length xs ≡ k = omega (arith, length-append xs (x ∷ [])) in
-          subst (λ z. P z (get_or (xs ++ x ∷ []) z d)) e (subst (P (length xs)) (sym (get_or-append_seam xs x [] d)) p)
-    ]
 
 -- parts below some terms are below more terms
 more_terms : (terms more at : ℕ) → terms ≤ more → (n : FormulaNode) → IsFormBelow terms at n → IsFormBelow more at n

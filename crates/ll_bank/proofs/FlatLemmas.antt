@@ -9,6 +9,7 @@ use Rattle.std.proofs.Math.Nat.{le_trans}
 use Rattle.std.proofs.lemmas.List.{append-nil, length-map, map-append, drop-append-le, take-append-le, take-append-drop, length-take-le, take-map, take_all, drop_at}
 use Rattle.std.proofs.lemmas.List.Elements.{All-head, All-tail, All-push, All-take, All-cons}
 use Rattle.std.proofs.lemmas.List.Sums.{sum_by-cons}
+use Rattle.ll_lists.proofs.CallerLemmas.{map_same_on as same_nodes, map_map}
 use Rattle.ll_bank.specs.declared.At.{At}
 use Rattle.ll_bank.specs.declared.Head.{Head}
 use Rattle.ll_bank.specs.declared.BankSize.{BankSize}
@@ -62,16 +63,6 @@ turn_ends (Some span ∷ spans) from to h =
     All-cons (EndsBy to) (Some span) spans (h.1, (let e = turn_end spans span.to to h.2 in omega arith)) (turn_ends spans span.to to h.2)
 
 -- ---- nodes over children, of terms and of formulas alike
-
--- functions that agree where P holds map alike
-same_nodes : {A B : Type 0} (f g : A → B) (P : A → Type 0) (xs : List A) → ((x : A) → P x → f x ≡ g x) → All P xs → map f xs ≡ map g xs
-same_nodes f g P [] h a = refl
-same_nodes f g P (x ∷ xs) h a = let e1 = h x (All-head P x xs a) in let e2 = same_nodes f g P xs h (All-tail P x xs a) in cc
-
--- one map after another is one map
-pub map_map : {A B C : Type 0} (f : B → C) (g : A → B) (xs : List A) → map f (map g xs) ≡ map (λ x. f (g x)) xs
-map_map f g [] = refl
-map_map f g (x ∷ xs) = ap (λ ys. f (g x) ∷ ys) (map_map f g xs)
 
 module _ {S N : Type 0} (span : S → Option Span) (node : List At → S → N) (count : N → ℕ) (IsOk : List At → S → Type 0)
     (same : (cs more : List At) (s : S) → IsOk cs s → node (cs ++ more) s ≡ node cs s)

@@ -12,6 +12,7 @@ use Rattle.std.proofs.lemmas.Map.Made.{AllPairs-from_IsDistinct}
 use Rattle.std.proofs.lemmas.Option.{slice_get-get_or, get_or_from_slice_get, slice_get_within}
 use Rattle.std.proofs.lemmas.Slice.Eq.{bytes_eq-Decides}
 use Rattle.std.proofs.Math.ListN.{get_or-append}
+use Rattle.ll_lists.proofs.CallerLemmas.{position_within}
 use Rattle.indexmap.specs.IndexSet.{insert_key}
 use Rattle.ll_bank.specs.Names.{number_of, with_name, with_names}
 
@@ -20,15 +21,6 @@ use Rattle.ll_bank.specs.Names.{number_of, with_name, with_names}
 -- where there is one
 position_at : {X : Type 0} (p : X → Bool) (xs : List X) → position_or_len p xs < length xs → position p xs ≡ Some (position_or_len p xs)
 position_at {X} p xs h = ap (λ b. cond b (Some (position_or_len p xs)) None) ((Decides-ltb (position_or_len p xs) (length xs)).1 h)
-
--- there is one where some element passes
-position_within : {X : Type 0} (p : X → Bool) (xs : List X) → list_any p xs ≡ true → position_or_len p xs < length xs
-position_within p [] h = absurd (true≢false (sym h))
-position_within p (x ∷ xs) h = by (p x) refl (position_within p xs)
-  where
-    by : (b : Bool) → p x ≡ b → (list_any p xs ≡ true → position_or_len p xs < length xs) → position_or_len p (x ∷ xs) < length (x ∷ xs)
-    by true e rest = rw e (omega arith)
-    by false e rest = let k = rest (sym (ap (λ b. b || list_any p xs) e) ∙ h) in rw e (omega arith)
 
 -- it stays where an element that passes is put behind
 position_or_len-push : {X : Type 0} (p : X → Bool) (xs : List X) (y : X) → p y ≡ true → position_or_len p (xs ++ y ∷ []) ≡ position_or_len p xs

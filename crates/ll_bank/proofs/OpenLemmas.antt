@@ -11,6 +11,7 @@ use Rattle.std.proofs.lemmas.List.{map-append, map_more}
 use Rattle.std.proofs.lemmas.List.Elements.{All-cons, All-head, All-tail, All-map, All-weaker, All-push}
 use Rattle.std.proofs.lemmas.List.Sums.{sum_by-cons}
 use Rattle.std.proofs.lemmas.Option.{get_or_from_slice_get}
+use Rattle.ll_lists.proofs.CallerLemmas.{map_map}
 use Rattle.ll_bank.specs.declared.At.{At}
 use Rattle.ll_bank.specs.declared.FormAt.{FormAt}
 use Rattle.ll_bank.specs.declared.Head.{Head}
@@ -28,7 +29,6 @@ use Rattle.ll_bank.specs.declared.open.Task.{Task}
 use Rattle.ll_bank.specs.Opened.{opened, Spot, visit, term_parts, form_parts, form_node_at, IsIn, IsKnown, AreImages, IsTermImage, IsFormImage, ShowsImage, ShowsFormImage, IsTermGood, IsFormGood, ArePartsOf, term_size, form_size, term_size_at, form_size_at, term_parts_at, form_parts_at}
 use Rattle.ll_bank.proofs.Trees.{HasTerm-extends, HasForm-extends, term_tree-extends, form_tree-extends, AllInTerms-extends, term_trees-extends, ShowsTerm-extends, ShowsForm-extends}
 use Rattle.ll_bank.proofs.WalkLemmas.{node_seen}
-use Rattle.ll_bank.proofs.FlatLemmas.{map_map}
 use Rattle.ll_bank.proofs.ImageLemmas.{shown_images}
 use Rattle.ll_bank.proofs.BankLemmas.{below_places, build_parts, build_app}
 use Rattle.ll_bank.specs.contracts.HeadPartialEq.TheImpl.{eq-value as head_eq_value}

@@ -12,6 +12,7 @@ use Rattle.std.proofs.Math.Seq.{get_or-append_seam}
 use Rattle.std.proofs.lemmas.Bool.{eqb-true, eq-eqb, and_parts, and_from, cond-true}
 use Rattle.std.proofs.lemmas.List.Elements.{All-cons, All-append, All-map}
 use Rattle.std.proofs.lemmas.List.Sums.{sum_by-cons, sum_by-append, sum_by_push}
+use Rattle.ll_lists.proofs.CallerLemmas.{All-front as All-before, All-last}
 use Rattle.ll_bank.specs.declared.open.Task.{Task}
 use Rattle.ll_bank.specs.Opened.{Spot, by_spot, IsIn, AreImages, IsKnown, spot_of, visit, AreWaiting, IsOpening, work_left}
 use Rattle.ll_bank.proofs.Ceiling.{is_at-nat}
@@ -76,12 +77,6 @@ in_visits : (ps : List Spot) (k : Spot) → IsIn k ps → IsIn k (map spot_of (m
 in_visits [] k h = h
 in_visits (p ∷ ps) k (inl e) = inl e
 in_visits (p ∷ ps) k (inr h) = inr (in_visits ps k h)
-
-All-before : {F : Type 0} → (P : F → Type 0) (fs : List F) (f : F) → All P (fs ++ f ∷ []) → All P fs
-All-before P fs f h k d b = subst P (get_or-append fs (f ∷ []) d k b) (h k d (let e = length-append fs (f ∷ []) in omega arith))
-
-All-last : {F : Type 0} → (P : F → Type 0) (fs : List F) (f : F) → All P (fs ++ f ∷ []) → P f
-All-last P fs f h = subst P (get_or-append_seam fs f [] f) (h (length fs) f (let e = length-append fs (f ∷ []) in omega arith))
 
 module _ (parts : Spot → List Spot) (good : Spot → Type 0) (root : Spot) where
   module _ (known known' : Spot → Type 0) (keep : (k : Spot) → known k → known' k) where

@@ -5,11 +5,12 @@ use Rattle.std.proofs.lemmas.Bool.{eqb-true, eq-eqb, ne_eqb}
 use Rattle.std.proofs.Math.Dec.{eqb-suc-suc}
 use Rattle.std.proofs.lemmas.Bool.Decides.{Decides-int_eq}
 use Rattle.std.proofs.lemmas.List.{map-append, length-map}
+use Rattle.ll_lists.proofs.CallerLemmas.{map_map, map_same, and_true_left as and_left, and_true_right as and_right}
 use Rattle.ll_bank.specs.declared.Head.{Head}
 use Rattle.ll_bank.specs.Term.{Term, Var, Int, Con, Ap, sub, is_spine, head_of, arity, head_eq, same_head, same_predicate}
 use Rattle.ll_bank.specs.Nodes.{Nodes, term_tree}
 use Rattle.ll_laws.specs.Unify.{Diff, Same, Clash, Meet, and_then, when, diff, diff_lists, bound_to, Binding, resolve, solve}
-use Rattle.ll_laws.proofs.CallerLemmas.{sub_comp, map_map, map_same, and_left, and_right, head_eq-refl}
+use Rattle.ll_laws.proofs.CallerLemmas.{sub_comp, head_eq-refl}
 use Rattle.ll_bindings.specs.Bindings.{Table}
 use Rattle.ll_bindings.specs.Spines.{args_in}
 use Rattle.ll_bindings.specs.Bindings.{Obeys}

@@ -5,12 +5,13 @@ use Rattle.std.specs.List.{list_any}
 use Rattle.std.proofs.Math.Bool.{or-true}
 use Rattle.std.proofs.lemmas.Bool.{or_left, or_right, eqb-true, eqb-false, eq-eqb, ne_eqb}
 use Rattle.std.proofs.lemmas.List.{length-set, get_or-set_same, get_or-set_other, ext_get_or, get_or_default}
+use Rattle.ll_lists.proofs.CallerLemmas.{same_from_both_ways as bool-same, or_elim as or_cases}
 use Rattle.ll_bank.specs.declared.At.{At}
 use Rattle.ll_bank.specs.declared.Head.{Head}
 use Rattle.ll_bank.specs.Term.{Term, Var, Int, Con, Ap, sub, occurs, eigens_below, app}
 use Rattle.ll_bank.specs.Nodes.{Nodes, HasTerm, term_tree}
 use Rattle.ll_laws.specs.Unify.{bound_to, Binding, bind, bind_term, lower, is_older, diff, Meet, Same}
-use Rattle.ll_laws.proofs.CallerLemmas.{sub_comp, level-lower, or_cases}
+use Rattle.ll_laws.proofs.CallerLemmas.{sub_comp, level-lower}
 use Rattle.ll_bindings.specs.Bindings.{Table, then_bound, found, cell, count, Reaches, stands, through, HasCells, KeepsCells, IsPlaceOf, IsOrdered, IsTable, Obeys, IsEnd, IsSet, IsLowered, unbound, HasBound, Binds, IsMeeting, Meets, is_var}
 use Rattle.ll_bindings.specs.Scanned.{is_among, IsScan, is_bad}
 use Rattle.ll_bindings.proofs.Spines.{app-var}
@@ -240,11 +241,6 @@ length-lower l (Var x) levels = length-set levels x (min (slice_index levels x) 
 length-lower l (Int z) levels = refl
 length-lower l (Con h) levels = refl
 length-lower l (Ap f a) levels = length-lower l a (lower l f levels) ∙ length-lower l f levels
-
-bool-same : (a b : Bool) → (a ≡ true → b ≡ true) → (b ≡ true → a ≡ true) → a ≡ b
-bool-same true b f g = sym (f refl)
-bool-same false true f g = g refl
-bool-same false false f g = refl
 
 -- levels that fell for these variables are those that the definition asks for
 lowered-is : (old : List ℕ) (vars : List ℕ) (l : ℕ) (new : List ℕ) (t : Term) → IsLowered old vars l new → ((y : ℕ) → is_among vars y ≡ occurs y t) → new ≡ lower l t old

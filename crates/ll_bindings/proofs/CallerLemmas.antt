@@ -3,12 +3,13 @@ use Rattle.std.proofs.Common.{◌≡◌, ℕ, zero, suc, ◌<◌, true, List, []
 use Rattle.std.specs.Prelude.{Option, Some, None, replicate, option_map}
 use Rattle.std.proofs.lemmas.Bool.{or_left, or_right, eqb-true, eq-eqb, ltb-true}
 use Rattle.std.proofs.lemmas.List.{length-replicate}
+use Rattle.ll_lists.proofs.CallerLemmas.{and_true_left as and_left, and_true_right as and_right, or_elim as or_cases}
 use Rattle.ll_bank.specs.declared.At.{At}
 use Rattle.ll_bank.specs.Term.{Term, Var, Int, Con, Ap, sub, occurs}
 use Rattle.ll_bank.specs.Nodes.{Nodes, HasTerm, term_tree, Extends}
 use Rattle.ll_bank.proofs.CallerLemmas.{HasTerm-extends, term_tree-extends}
 use Rattle.ll_laws.specs.Unify.{vars_below, Solved, mgu}
-use Rattle.ll_laws.proofs.CallerLemmas.{and_left, and_right, sub_id, or_cases}
+use Rattle.ll_laws.proofs.CallerLemmas.{sub_id}
 use Rattle.ll_bindings.specs.Bindings.{Table, cell, count, shown, followed, found, Reaches, stands, through, IsPlaceOf, IsTable}
 use Rattle.ll_bindings.specs.Solving.{along, wanted}
 use Rattle.ll_bindings.proofs.Readings.{sub-agree, Obeys-found, found-only}
@@ -80,8 +81,6 @@ pub use Rattle.ll_bindings.proofs.Settling.{keeps-then}
 
 -- a cell that is bound lies among the cells
 pub use Rattle.ll_bindings.proofs.Readings.{bound-inside}
--- a stack of length 0 is empty
-pub use Rattle.ll_bindings.proofs.Stacks.{no_items}
 
 -- ---- what is found for a variable
 

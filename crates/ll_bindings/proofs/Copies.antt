@@ -6,12 +6,12 @@ use Rattle.std.proofs.lemmas.List.{append-nil, length-map, map-append, length-ta
 use Rattle.std.proofs.lemmas.List.Elements.{All-push}
 use Rattle.std.proofs.Math.Seq.{take-suc, get_or-append_seam}
 use Rattle.std.proofs.Math.ListN.{get_or-append}
+use Rattle.ll_lists.proofs.CallerLemmas.{and_true_left as and_left, All-front as All-before, All-last}
 use Rattle.ll_bank.specs.declared.Head.{Head}
 use Rattle.ll_bank.specs.declared.At.{At}
 use Rattle.ll_bank.specs.Term.{Term, Var, Int, Con, Ap, apply, app, sub, head_of, is_spine, applies_heads}
 use Rattle.ll_bank.specs.Nodes.{Nodes, HasTerm, term_tree, term_trees, AllInTerms, ShowsTerm, Extends}
 use Rattle.ll_bank.proofs.CallerLemmas.{HasTerm-extends, term_tree-extends, AllInTerms-extends, term_trees-extends, ShowsTerm-extends, applies_heads-term_tree, apply-append}
-use Rattle.ll_laws.proofs.CallerLemmas.{and_left}
 use Rattle.ll_bindings.specs.declared.scan.Frame.{Frame}
 use Rattle.ll_bindings.specs.Spines.{args_in, arg, ShowsArgument}
 use Rattle.ll_bindings.specs.Stacks.{lowest, is_empty, is_full}
@@ -19,7 +19,7 @@ use Rattle.ll_bindings.specs.Bindings.{Table, found, cell, Reaches, IsPlaceOf, I
 use Rattle.ll_bindings.specs.Scanned.{frame_tree}
 use Rattle.ll_bindings.specs.Copied.{HasCopy, AreCopies, AddsCopy, CopyArgs, Lacks, Held, IsCopying, IsCopied, IsChanged, IsBuilt, AreRead, IsCellCopy, IsFinal, AreFinal}
 use Rattle.ll_bindings.proofs.Spines.{args_in-app, build_up}
-use Rattle.ll_bindings.proofs.Stacks.{opened, closed, no_item, an_item, split_last, All-before, All-last}
+use Rattle.ll_bindings.proofs.Stacks.{opened, closed, no_item, an_item, split_last}
 use Rattle.ll_bindings.proofs.Readings.{Obeys-found}
 use Rattle.ll_bindings.proofs.Tables.{end-var, step-inside}
 use Rattle.ll_bindings.proofs.CallerLemmas.{found-bound, table-extends, sub-extends, reaches-after}

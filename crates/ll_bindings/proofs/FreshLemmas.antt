@@ -2,7 +2,7 @@
 use Rattle.std.proofs.Common.{◌≡◌, ◌≢◌, ℕ, ◌+◌, ◌<◌, ◌≤◌, inl, inr, Bool, true, false, List, [], ◌∷◌, ◌++◌, length, get_or, refl, ap, sym, subst, ◌∙◌, arith, nat_eq, take, replicate}
 use Rattle.std.specs.Prelude.{Result, Ok, Err, IfOk, ◌||◌, ◌&&◌, not, cond, min, Some, None, slice_index, slice_index_or, if◌then◌else◌}
 use Rattle.std.specs.Ordering.{int_eq}
-use Rattle.std.proofs.lemmas.Bool.{eq-eqb, ne_eqb, cases_lt}
+use Rattle.std.proofs.lemmas.Bool.{eq-eqb, ne_eqb, cases_lt, or_from as or-both}
 use Rattle.std.proofs.lemmas.List.{get_or-replicate, get_or_past, length-replicate, take_more, ext_get_or}
 use Rattle.ll_bank.specs.declared.At.{At}
 use Rattle.ll_bank.specs.Term.{Term, Var, Int, Con, Ap, sub, occurs, eigens_below, head_eq}
@@ -29,10 +29,6 @@ none-false n x h = elim (cases_lt x n) [
   | inl l ↦ let e = get_or-replicate n x true true l in cc
   | inr l ↦ let e = get_or_past (replicate n true) x true (let k = length-replicate n true in omega arith) in cc
 ]
-
-or-both : (a b : Bool) → a ≡ false → b ≡ false → (a || b) ≡ false
-or-both true b p q = cc
-or-both false b p q = q
 
 -- one variable more was met
 pub among-more : (vars : List ℕ) (i x : ℕ) → i < length vars → is_among (take i vars) x ≡ false → x ≢ get_or vars i 0 → is_among (take (i + 1) vars) x ≡ false

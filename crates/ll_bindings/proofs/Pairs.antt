@@ -9,12 +9,13 @@ use Rattle.std.proofs.lemmas.List.Elements.{All-push, All-tail}
 use Rattle.std.proofs.lemmas.List.Sums.{sum_by_push}
 use Rattle.std.proofs.Math.Seq.{drop-cons, get_or-append_seam}
 use Rattle.std.proofs.Math.ListN.{get_or-append}
+use Rattle.ll_lists.proofs.CallerLemmas.{and_true_left as and_left, All-front as All-before, All-last}
 use Rattle.ll_bank.specs.declared.Head.{Head}
 use Rattle.ll_bank.specs.declared.At.{At}
 use Rattle.ll_bank.specs.Term.{Term, Var, Int, Con, Ap, sub, is_spine, head_of, arity, head_eq, same_head, same_predicate, apply, app}
 use Rattle.ll_bank.specs.Nodes.{Nodes, term_tree, term_trees}
 use Rattle.ll_laws.specs.Unify.{Same, Clash, and_then, when, diff, diff_lists}
-use Rattle.ll_laws.proofs.CallerLemmas.{and_left, diff-same as diff-is-same}
+use Rattle.ll_laws.proofs.CallerLemmas.{diff-same as diff-is-same}
 use Rattle.ll_bindings.specs.Bindings.{Table}
 use Rattle.ll_bindings.specs.declared.meet.Pair.{Pair}
 use Rattle.ll_bindings.specs.declared.meet.Compared.{Compared}
@@ -24,7 +25,7 @@ use Rattle.ll_bindings.specs.Stacks.{Waits, is_empty, is_full}
 use Rattle.ll_bindings.specs.Bindings.{Obeys, IsEnd, AreSame, is_var}
 use Rattle.ll_bindings.specs.Pairs.{pair_trees, lefts, rights, AwaitsEqual, IsPair, IsComparing, ArePairs, Awaits, IsClass, AreClasses, AreBelow, Alike, Opens, MeetsAt, AreJoined, ComparesApplied, IsCompared, pairs_weight}
 use Rattle.ll_bindings.proofs.Spines.{weight-two, rest_weight-more, weight-place, is_spine-app, args_in-app}
-use Rattle.ll_bindings.proofs.Stacks.{opened, Waits-push, Waits-last, no_item, an_item, split_last, All-before, All-last}
+use Rattle.ll_bindings.proofs.Stacks.{opened, Waits-push, Waits-last, no_item, an_item, split_last}
 use Rattle.ll_bindings.proofs.Alike.{diff-refl, diff-same, diff-append, diff-spine, diff-clash, shape-length, arity-length}
 
 -- ---- classes of places

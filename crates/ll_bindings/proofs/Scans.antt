@@ -11,22 +11,18 @@ use Rattle.ll_bank.specs.Term.{Term, Var, Int, Con, Ap, sub, occurs, eigens_belo
 use Rattle.ll_bank.specs.Nodes.{Nodes, term_tree}
 use Rattle.ll_bank.proofs.CallerLemmas.{applies_heads-term_tree}
 use Rattle.std.proofs.lemmas.List.{append-nil, get_or_default}
-use Rattle.ll_laws.proofs.CallerLemmas.{and_left, and_right, or_cases}
+use Rattle.ll_lists.proofs.CallerLemmas.{false_from_not as not_true, and_true_left as and_left, and_true_right as and_right, or_elim as or_cases, All-front as All-before, All-last}
 use Rattle.ll_bindings.specs.declared.scan.Frame.{Frame}
 use Rattle.ll_bindings.specs.Spines.{args_in, arg, weight, rest_weight, ShowsArgument}
 use Rattle.ll_bindings.specs.Stacks.{lowest, Waits, is_empty, is_full}
 use Rattle.ll_bindings.specs.Bindings.{Table, HasCells, found, cell, count, IsTable, IsEnd, IsFree, AreSame}
 use Rattle.ll_bindings.specs.Scanned.{is_among, IsGood, IsPart, is_bad, AreNoted, IsScan, AreGood, frame_tree, IsFrame, IsScanning, AreFrames, IsScanned, IsKnown, is_good_sign, own_vars, IsLook, frames_weight}
 use Rattle.ll_bindings.proofs.Spines.{build_up, take_down, weight-two, rest_weight-more, weight-place, is_spine-app}
-use Rattle.ll_bindings.proofs.Stacks.{opened, closed, lowest-push, Waits-push, Waits-last, Waits-map, no_item, an_item, split_last, All-before, All-last}
+use Rattle.ll_bindings.proofs.Stacks.{opened, closed, lowest-push, Waits-push, Waits-last, Waits-map, no_item, an_item, split_last}
 use Rattle.ll_bindings.proofs.Tables.{end-var, var-below}
 use Rattle.ll_bindings.proofs.Readings.{Obeys-found}
 
 -- ---- tests
-
-not_true : (b : Bool) → not b ≡ true → b ≡ false
-not_true true h = cc
-not_true false h = refl
 
 among-append : (xs ys : List ℕ) (y : ℕ) → is_among (xs ++ ys) y ≡ (is_among xs y || is_among ys y)
 among-append [] ys y = refl

@@ -1,11 +1,12 @@
 -- How bindings lead to what solves a list of equations.
 use Rattle.std.proofs.Common.{◌≡◌, ℕ, zero, suc, ◌+◌, ◌≤◌, true, false, List, [], ◌∷◌, ◌++◌, length, map, get_or, refl, ap, sym, ◌∙◌, arith}
 use Rattle.std.specs.Prelude.{Option, Some, None, option_map, option_and_then, slice_index}
+use Rattle.ll_lists.proofs.CallerLemmas.{map_map, map_same}
 use Rattle.ll_bank.specs.declared.At.{At}
 use Rattle.ll_bank.specs.Term.{Term, Var, sub}
 use Rattle.ll_bank.specs.Nodes.{Nodes, term_tree}
 use Rattle.ll_laws.specs.Unify.{Clash, Meet, and_then, diff, diff_lists, bound_to, Solved, Binding, bind, after, resolve, solve, mgu}
-use Rattle.ll_laws.proofs.CallerLemmas.{sub_comp, sub_id, map_map, map_same}
+use Rattle.ll_laws.proofs.CallerLemmas.{sub_comp, sub_id}
 use Rattle.ll_bindings.specs.Bindings.{Table}
 use Rattle.ll_bindings.specs.declared.meet.Pair.{Pair}
 use Rattle.ll_bindings.specs.Bindings.{found, count, IsPlaceOf, IsTable, Obeys, AreSame, HasBound, Binds, Meets, unbound}

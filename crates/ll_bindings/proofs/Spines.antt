@@ -6,12 +6,12 @@ use Rattle.std.proofs.Math.Seq.{get_or-append_seam}
 use Rattle.std.proofs.lemmas.List.{append-nil, length-map, get_or-map}
 use Rattle.std.proofs.lemmas.Bool.{cases_lt}
 use Rattle.std.proofs.lemmas.List.Sums.{sum_by-drop_more, sum_by_push}
+use Rattle.ll_lists.proofs.CallerLemmas.{and_true_left as and_left}
 use Rattle.ll_bank.specs.declared.Head.{Head}
 use Rattle.ll_bank.specs.declared.At.{At}
 use Rattle.ll_bank.specs.Term.{Term, Var, Int, Con, Ap, apply, app, sub, is_spine, applies_heads, head_of}
 use Rattle.ll_bank.specs.Nodes.{Nodes, term_tree, term_trees}
 use Rattle.ll_bank.proofs.CallerLemmas.{applies_heads-term_tree}
-use Rattle.ll_laws.proofs.CallerLemmas.{and_left}
 use Rattle.ll_bindings.specs.Spines.{args_in, arg, weight, rest_weight, ShowsArgument}
 
 args_in-apply : (f : Term) (ts : List Term) → args_in (apply f ts) ≡ args_in f ++ ts

@@ -2,6 +2,7 @@
 use Rattle.std.proofs.Common.{◌≡◌, length, All, arith, length-append, List, [], ◌∷◌, ◌++◌, refl, ap, sym, subst, ◌∙◌}
 use Rattle.std.proofs.Math.ListN.{get_or-append}
 use Rattle.std.proofs.Math.Seq.{get_or-append_seam}
+use Rattle.ll_lists.proofs.CallerLemmas.{All-front as All-before, All-last, empty_from_length as no_items}
 use Rattle.ll_bindings.specs.Stacks.{lowest, Waits, Stack, is_empty, is_full}
 
 -- the last of a list and what is before it
@@ -63,14 +64,3 @@ split_last (x ∷ items) = elim (split_last items) [
   | no_item e ↦ an_item [] x (ap (λ ys. x ∷ ys) e)
   | an_item fs f e ↦ an_item (x ∷ fs) f (ap (λ ys. x ∷ ys) e)
 ]
-
--- what holds of each holds of those before the last, and of it
-pub All-before : {F : Type 0} → (P : F → Type 0) (fs : List F) (f : F) → All P (fs ++ f ∷ []) → All P fs
-All-before P fs f h k d b = subst P (get_or-append fs (f ∷ []) d k b) (h k d (let e = length-append fs (f ∷ []) in omega arith))
-
-pub All-last : {F : Type 0} → (P : F → Type 0) (fs : List F) (f : F) → All P (fs ++ f ∷ []) → P f
-All-last P fs f h = subst P (get_or-append_seam fs f [] f) (h (length fs) f (let e = length-append fs (f ∷ []) in omega arith))
-
-pub no_items : {F : Type 0} → (items : List F) → length items ≡ 0 → items ≡ []
-no_items [] e = refl
-no_items (x ∷ items) e = absurd (omega arith)

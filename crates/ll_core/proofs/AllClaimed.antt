@@ -4,6 +4,7 @@ use Rattle.std.specs.Prelude.{flat_map, slice_get, sum_by}
 use Rattle.std.proofs.lemmas.Bool.{cases_Bool, cases_eq, cases_lt, and_parts, eqb-true}
 use Rattle.std.proofs.lemmas.List.{length-append, length-map, map-append}
 use Rattle.std.proofs.lemmas.List.Sums.{sum_by-cons}
+use Rattle.ll_lists.proofs.CallerLemmas.{some_is, none_not_some}
 use Rattle.ll_laws.specs.Pool.{Owed, Piece, PoolData, Alternative}
 use Rattle.ll_laws.specs.Spread.{list_or_empty, numbers, alternatives_of, owed_by, owes_of, length_of, is_of}
 use Rattle.ll_laws.specs.Sound.{Each, Shaped, HasPiece, is_open, count_open, count_of, all_published}
@@ -13,7 +14,7 @@ use Rattle.ll_core.proofs.Unique.{one_holder, count_in}
 use Rattle.ll_core.proofs.Forming.{length_numbers}
 use Rattle.ll_core.proofs.Walks.{is_alternative}
 use Rattle.ll_core.proofs.Once.{count_is_total, total_flat, one_if, hit, hit_other, hit_self, is_at, is_at_here, is_at_other, one_number, total_numbers, total_zero, total_sum}
-use Rattle.ll_core.proofs.Pieces.{Apart, some_is, none_not_some, is_of_parts, get_below}
+use Rattle.ll_core.proofs.Pieces.{Apart, is_of_parts, get_below}
 use Rattle.ll_laws.specs.Pool.{place}
 use Rattle.ll_core.proofs.Facts.{owed_before}
 

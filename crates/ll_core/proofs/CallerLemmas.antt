@@ -106,7 +106,3 @@ pub use Rattle.ll_core.proofs.Walks.{every_more}
 pub use Rattle.ll_core.proofs.Walks.{every_snoc}
 -- what holds of each of a list holds of each of its back
 pub use Rattle.ll_core.proofs.Given.{every_back}
--- what one option has, an equal one has
-pub use Rattle.ll_core.proofs.Pieces.{some_is}
--- nothing is not something
-pub use Rattle.ll_core.proofs.Pieces.{none_not_some}

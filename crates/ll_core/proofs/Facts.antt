@@ -6,8 +6,9 @@ use Rattle.ll_laws.specs.Pool.{Owed, Status, Open, Closed, Taken, Piece, PoolDat
 use Rattle.ll_laws.specs.Spread.{numbers, last_first, piece_of, kids_of, published_by, owed_by, owed_at, list_or_empty, owed_or_nothing, batch_events, given_events, share, piece_events, gives, owes_of, length_of, spread}
 use Rattle.ll_laws.specs.Sound.{Every, Each, Reported, Sound}
 use Rattle.std.proofs.lemmas.Bool.{cases_lt}
+use Rattle.ll_lists.proofs.CallerLemmas.{none_not_some, some_is}
 use Rattle.ll_core.proofs.Walks.{every_more, walk_gives}
-use Rattle.ll_core.proofs.Pieces.{lookup, none_not_some, some_is}
+use Rattle.ll_core.proofs.Pieces.{lookup}
 
 module _ {X Y : Type 0} where
   pub get_map : (f : X → Y) (xs : List X) (i : ℕ) (y : Y) → slice_get (map f xs) i ≡ Some y → (x : X) × (slice_get xs i ≡ Some x) × (f x ≡ y)

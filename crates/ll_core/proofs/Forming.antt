@@ -8,6 +8,7 @@ use Rattle.std.proofs.Math.ListN.{set}
 use Rattle.ll_core.proofs.Publishes.{get_other}
 use Rattle.std.proofs.lemmas.List.{map_push, length-append, length-map, map-append, length_push}
 use Rattle.std.proofs.lemmas.Bool.{cases_eq}
+use Rattle.ll_lists.proofs.CallerLemmas.{some_is, none_not_some}
 use Rattle.ll_laws.specs.Pool.{Owed, Open, Closed, Piece, PoolData, Alternative}
 use Rattle.ll_laws.specs.Spread.{owed_by, list_or_empty, alternatives_of, numbers}
 use Rattle.ll_laws.specs.Sound.{Every, is_open, count_open}
@@ -20,7 +21,7 @@ use Rattle.ll_core.specs.declared.room.Waiting.{Waiting}
 use Rattle.ll_core.specs.declared.room.Slot.{Slot}
 use Rattle.ll_core.specs.Slots.{piece_in, status_in}
 use Rattle.ll_core.proofs.Once.{one_if}
-use Rattle.ll_core.proofs.Pieces.{length-change, get_front, get_seam, get_below, some_is, none_not_some}
+use Rattle.ll_core.proofs.Pieces.{length-change, get_front, get_seam, get_below}
 use Rattle.ll_core.proofs.Facts.{get_map, get_map_at, owed_past}
 use Rattle.ll_core.proofs.Statuses.{open_changed}
 

@@ -5,6 +5,7 @@ use Rattle.std.specs.Prelude.{flat_map, slice_get}
 use Rattle.std.specs.List.{list_all}
 use Rattle.std.proofs.lemmas.Bool.{cases_Bool, and_parts, and_from, false≢true, cases_lt, eqb-true}
 use Rattle.std.proofs.lemmas.List.Concat.{flat_map-append}
+use Rattle.ll_lists.proofs.CallerLemmas.{some_is}
 use Rattle.ll_laws.specs.Pool.{Owed, Taken, Piece, PoolData, Alternative}
 use Rattle.ll_laws.specs.Spread.{numbers, last_first, walk_alternative, walk_deep, piece_of, piece_events, gives, share, owes_of, length_of, walk, kids_of, published_by}
 use Rattle.ll_laws.specs.Search.{cut_count}
@@ -14,7 +15,7 @@ use Rattle.ll_core.specs.Cursor.{rest, begin}
 use Rattle.ll_core.proofs.Walks.{every_more, last_first_same, flat_last_first, is_alternative}
 use Rattle.ll_core.specs.Given.{Given, SameTaken, price, share_cost, total, value}
 use Rattle.ll_core.proofs.Once.{total-append, one_if, is_at}
-use Rattle.ll_core.proofs.Pieces.{found, lookup, is_of_from, get_below, some_is}
+use Rattle.ll_core.proofs.Pieces.{found, lookup, is_of_from, get_below}
 use Rattle.ll_core.proofs.Unique.{stands_once}
 use Rattle.ll_core.proofs.Facts.{ends, kids_within, owed_before, get_map}
 use Rattle.ll_core.proofs.Cursors.{every_all, rest_begin}

@@ -4,13 +4,14 @@ use Rattle.std.specs.Prelude.{flat_map, slice_get, sum_by}
 use Rattle.std.proofs.lemmas.Bool.{cases_eq, false≢true}
 use Rattle.std.proofs.lemmas.List.{map-append, length-map}
 use Rattle.std.proofs.lemmas.List.Sums.{sum_by-cons}
+use Rattle.ll_lists.proofs.CallerLemmas.{slice_get-append_left as get_left, some_is}
 use Rattle.ll_laws.specs.Pool.{Owed, Status, Open, Closed, Taken, Piece, PoolData}
 use Rattle.ll_laws.specs.Spread.{list_or_empty, owed_or_nothing, owed_by, owed_at, batch_events, batch_cost, given_events, given_cost, share, owes_of}
 use Rattle.ll_laws.specs.Sound.{Every, is_open}
 use Rattle.ll_laws.specs.Later.{NotBack, Further, Later}
 use Rattle.ll_laws.specs.CoreEvents.{CoreEvent, Claim, Publish, Report, Starve, Stop, Look, Ready, Work, Idle, Finished, Starved, Stopped, Done, Full, NoMemory, Events, NotYet, All, change, with_batch, with_status, Does}
 use Rattle.ll_core.proofs.Walks.{every_more, last_first_same}
-use Rattle.ll_core.proofs.Pieces.{get_front, change_at, change_other, some_is}
+use Rattle.ll_core.proofs.Pieces.{get_front, change_at, change_other}
 
 module _ {E : Type 0} where
   not_back : (s : Status E) → NotBack s s
@@ -128,11 +129,6 @@ module _ {N E : Type 0} where
   later_event alternatives p q (Ready All) d = later_same p q d.2
 
 -- ---- shares in a later pool
-
-get_left : {X : Type 0} (xs ys : List X) (i : ℕ) → i < length xs → slice_get (xs ++ ys) i ≡ slice_get xs i
-get_left [] ys i low = absurd (omega arith)
-get_left (x ∷ xs) ys zero low = refl
-get_left (x ∷ xs) ys (suc i) low = get_left xs ys i (omega arith)
 
 sum_same_on : (f g : ℕ → ℕ) (xs : List ℕ) → Every (λ x. f x ≡ g x) xs → sum_by f xs ≡ sum_by g xs
 sum_same_on f g [] h = refl

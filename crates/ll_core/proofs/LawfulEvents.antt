@@ -3,6 +3,7 @@ use Rattle.std.proofs.Common.{◌≡◌, ◌⊎◌, ℕ, ◌+◌, ◌-◌, ◌<�
 use Rattle.std.specs.Prelude.{flat_map, slice_get, sum_by}
 use Rattle.std.proofs.lemmas.Bool.{false≢true}
 use Rattle.std.proofs.lemmas.List.{take_all}
+use Rattle.ll_lists.proofs.CallerLemmas.{some_is}
 use Rattle.ll_laws.specs.Pool.{Owed, Open, Closed, Taken, Piece, PoolData}
 use Rattle.ll_laws.specs.Spread.{share, owed_at, owes_of}
 use Rattle.ll_laws.specs.Sound.{Shaped, Sound, is_open, is_taken_status, report_of}
@@ -10,7 +11,7 @@ use Rattle.ll_laws.specs.CoreEvents.{CoreEvent, Claim, Publish, Report, Starve, 
 use Rattle.ll_core.specs.Laws.{IsQuiet, IsTakenAt}
 use Rattle.ll_core.specs.Given.{TakesNone, MarksNone, SameTaken, SameMarks}
 use Rattle.ll_core.proofs.Walks.{every_more}
-use Rattle.ll_core.proofs.Pieces.{get_front, get_seam, get_snoc, change_get, change_at, change_other, some_is}
+use Rattle.ll_core.proofs.Pieces.{get_front, get_seam, get_snoc, change_get, change_at, change_other}
 use Rattle.ll_core.proofs.Facts.{owed_before}
 use Rattle.ll_core.proofs.Statuses.{sound_reported, sound_took}
 use Rattle.ll_core.proofs.Claims.{sound_claimed}

@@ -2,12 +2,12 @@
 use Rattle.std.proofs.Common.{◌≡◌, ℕ, zero, suc, List, [], ◌∷◌, true, not, length, refl, sym, ap, arith, Some}
 use Rattle.std.specs.Prelude.{slice_get}
 use Rattle.std.specs.List.{list_all}
+use Rattle.ll_lists.proofs.CallerLemmas.{none_not_some, some_is}
 use Rattle.ll_laws.specs.Pool.{Owed, Alternative}
 use Rattle.ll_laws.specs.Spread.{walk}
 use Rattle.ll_laws.specs.Sound.{Shaped, Sound, is_taken}
 use Rattle.ll_laws.specs.CoreEvents.{opening}
 use Rattle.ll_core.proofs.AllClaimed.{sum_total}
-use Rattle.ll_core.proofs.Pieces.{none_not_some, some_is}
 
 pub all_untaken : (E : Type 0) (walk : List Alternative) → list_all (λ a. not (is_taken {E = E} [] a)) walk ≡ true
 all_untaken E [] = refl

@@ -5,6 +5,7 @@ use Rattle.std.specs.List.{list_all}
 use Rattle.std.proofs.lemmas.Bool.{and_parts}
 use Rattle.std.proofs.lemmas.List.{length-append}
 use Rattle.std.proofs.lemmas.List.Concat.{flat_map-append}
+use Rattle.ll_lists.proofs.CallerLemmas.{some_is}
 use Rattle.ll_laws.specs.Pool.{Owed, Closed, Piece, PoolData, Alternative}
 use Rattle.ll_laws.specs.Spread.{piece_of, piece_events, gives, share, owes_of, length_of, walk, kids_of}
 use Rattle.ll_laws.specs.Search.{cut_count}
@@ -13,7 +14,7 @@ use Rattle.ll_laws.specs.Later.{Later}
 use Rattle.ll_laws.specs.CoreEvents.{CoreEvent, Claim, Publish, Report, Starve, Stop, Look, Ready, Work, Idle, Finished, Starved, Stopped, Done, Full, NoMemory, Events, NotYet, All, opening, claimed, published, reported, Does, Lawful, RunsTo, report_taken, report_in, report_left, reports_left}
 use Rattle.ll_core.specs.Given.{Given, cost_in, events_in, price, share_cost, total, value}
 use Rattle.ll_core.proofs.Once.{total-append, one_if}
-use Rattle.ll_core.proofs.Pieces.{found, some_is, get_below}
+use Rattle.ll_core.proofs.Pieces.{found, get_below}
 use Rattle.ll_core.proofs.Facts.{spread_is, get_map}
 use Rattle.ll_core.proofs.Costs.{cost_is}
 use Rattle.ll_core.proofs.AllClaimed.{all_claimed, closed_all, nothing_new, sum_total}

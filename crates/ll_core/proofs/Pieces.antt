@@ -2,15 +2,10 @@
 use Rattle.std.proofs.Common.{◌≡◌, ◌⊎◌, ℕ, zero, suc, ◌<◌, List, [], ◌∷◌, ◌++◌, Bool, true, false, length, refl, sym, ap, ◌∙◌, ⊎_elim, inl, inr, arith, eqb, Some, None}
 use Rattle.std.specs.Prelude.{flat_map, slice_get, find, cond}
 use Rattle.std.proofs.lemmas.Bool.{eqb-true, eq-eqb, cases_Bool, and_parts, and_from, cond-true, cond-false}
+use Rattle.ll_lists.proofs.CallerLemmas.{some_is, none_not_some}
 use Rattle.ll_laws.specs.Pool.{Piece, Alternative}
 use Rattle.ll_laws.specs.Spread.{is_of, piece_of}
 use Rattle.ll_laws.specs.CoreEvents.{change}
-
-pub some_is : {X : Type 0} (x y : X) → Some x ≡ Some y → x ≡ y
-some_is x y e = cc
-
-pub none_not_some : {X : Type 0} (x : X) → None ≡ Some x → ⊥
-none_not_some x e = cc
 
 module _ {X : Type 0} where
   pub get_front : (xs ys : List X) (i : ℕ) (x : X) → slice_get xs i ≡ Some x → slice_get (xs ++ ys) i ≡ Some x

@@ -6,6 +6,7 @@ use Rattle.std.proofs.lemmas.Bool.{cases_Bool, cases_lt, lt-ltb, le-ltb, and_par
 use Rattle.std.proofs.lemmas.List.{length-append, length-map}
 use Rattle.std.proofs.lemmas.List.Folds.{list_all-append}
 use Rattle.std.proofs.lemmas.List.Concat.{flat_map-append}
+use Rattle.ll_lists.proofs.CallerLemmas.{some_is, none_not_some}
 use Rattle.ll_laws.specs.Pool.{Owed, Open, Closed, Taken, Piece, PoolData, Alternative}
 use Rattle.ll_laws.specs.Spread.{last_first, is_of, kids_of, published_by, alternatives_of, length_of, walk}
 use Rattle.ll_laws.specs.Sound.{Every, Shaped, is_taken, is_taken_piece, is_taken_status}
@@ -16,7 +17,7 @@ use Rattle.ll_core.specs.Cursor.{rest, begin, next_of, untaken, Points, PointsIn
 use Rattle.ll_core.proofs.Walks.{every_more, insert_after, flat_last_first, last_first_same}
 use Rattle.ll_core.proofs.Once.{one_if, is_at, total-append}
 use Rattle.ll_laws.specs.Pool.{place}
-use Rattle.ll_core.proofs.Pieces.{found, some_is, none_not_some, is_of_from}
+use Rattle.ll_core.proofs.Pieces.{found, is_of_from}
 use Rattle.ll_core.proofs.Facts.{ends, kids_within, owed_before}
 use Rattle.ll_core.proofs.Unique.{unique}
 use Rattle.ll_core.proofs.Statuses.{piece_here, piece_elsewhere, read_same, all_more, untaken_elsewhere}

@@ -7,6 +7,7 @@ use Rattle.std.proofs.lemmas.List.{take_at, length-append, length_push, map_push
 use Rattle.std.proofs.lemmas.List.Concat.{flat_map-append}
 use Rattle.std.proofs.lemmas.List.Sums.{sum_by_push, sum_by-cons}
 use Rattle.std.proofs.lemmas.List.Folds.{list_all-append}
+use Rattle.ll_lists.proofs.CallerLemmas.{some_is, none_not_some}
 use Rattle.ll_laws.specs.Pool.{Owed, Status, Piece, PoolData, Alternative}
 use Rattle.ll_laws.specs.Spread.{alternatives_of, numbers, last_first, walk_deep, is_of, piece_of, kids_of, published_by, share, owed_at, owed_by, list_or_empty, owed_or_nothing, owes_of, length_of, walk, given_events, given_cost, batch_events, batch_cost}
 use Rattle.ll_laws.specs.Sound.{Every, Each, Reported, Shaped, Sound, is_open, is_taken, is_taken_piece, is_taken_status, count_open, all_published, count_of, TakenFirst}
@@ -16,7 +17,7 @@ use Rattle.ll_core.proofs.Conditions.{MayGrow, MayPublish}
 use Rattle.ll_core.proofs.Walks.{every_more, every_snoc, last_first_same, last_first_snoc, walk_inserted, rest_inserted, is_alternative, insert_after}
 use Rattle.ll_core.proofs.Once.{one_if, hit, hit_other}
 use Rattle.ll_laws.specs.Pool.{place}
-use Rattle.ll_core.proofs.Pieces.{Changed, get_front, get_seam, change_get, length-change, found, find_none, is_of_parts, some_is, none_not_some}
+use Rattle.ll_core.proofs.Pieces.{Changed, get_front, get_seam, change_get, length-change, found, find_none, is_of_parts}
 use Rattle.ll_core.proofs.Facts.{ends, kids_within, owed_before, get_map}
 use Rattle.ll_core.proofs.Statuses.{each_changed, apart_changed, piece_here, piece_elsewhere, read_same, has_piece_changed, open_changed}
 use Rattle.ll_core.proofs.Claims.{each_snoc}

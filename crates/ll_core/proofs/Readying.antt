@@ -3,6 +3,7 @@ use Rattle.std.proofs.Common.{◌≡◌, ℕ, zero, suc, ◌+◌, ◌-◌, ◌<�
 use Rattle.std.specs.Prelude.{slice_get, slice_index}
 use Rattle.std.proofs.lemmas.Bool.{cases_Bool, true≢false}
 use Rattle.std.proofs.lemmas.List.{get_or_default, map_push, length-append, length-map}
+use Rattle.ll_lists.proofs.CallerLemmas.{some_is, none_not_some}
 use Rattle.ll_laws.specs.Pool.{Owed, Status, Open, Closed, Taken, Piece, PoolData, Alternative}
 use Rattle.ll_laws.specs.Spread.{last_first, length_of, is_of, piece_of, kids_of}
 use Rattle.ll_laws.specs.Sound.{is_taken_piece, is_taken_status}
@@ -14,7 +15,7 @@ use Rattle.ll_laws.specs.CoreEvents.{Next}
 use Rattle.ll_laws.specs.declared.Event.{Event}
 use Rattle.ll_core.specs.declared.room.Waiting.{Waiting}
 use Rattle.ll_core.specs.declared.cursor.Stop.{Stop}
-use Rattle.ll_core.proofs.Pieces.{found, find_none, is_of_parts, get_below, get_front, some_is, none_not_some}
+use Rattle.ll_core.proofs.Pieces.{found, find_none, is_of_parts, get_below, get_front}
 use Rattle.ll_core.proofs.Facts.{owed_before, get_map, get_map_at}
 use Rattle.ll_core.proofs.Forming.{get_short}
 use Rattle.ll_core.proofs.Pointing.{top_inside, top_untaken, step, after_top, weight, weight_untaken}

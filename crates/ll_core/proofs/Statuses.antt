@@ -4,6 +4,7 @@ use Rattle.std.specs.Prelude.{slice_get}
 use Rattle.std.specs.List.{list_all}
 use Rattle.std.proofs.lemmas.Bool.{cases_Bool, cases_eq, false≢true, true≢false, and_parts, and_from, not_from_true}
 use Rattle.std.proofs.lemmas.List.Folds.{list_all-append}
+use Rattle.ll_lists.proofs.CallerLemmas.{some_is, none_not_some}
 use Rattle.ll_laws.specs.Pool.{Owed, Status, Open, Closed, Taken, Piece, PoolData, Alternative}
 use Rattle.ll_laws.specs.Spread.{is_of, piece_of, kids_of, published_by, share, owes_of, length_of, walk}
 use Rattle.ll_laws.specs.Sound.{Each, Reported, report_of, Shaped, Sound, HasPiece, is_open, is_taken, is_taken_piece, is_taken_status, count_open, count_of, TakenFirst}
@@ -14,7 +15,7 @@ use Rattle.ll_core.proofs.Walks.{walk_same, is_alternative}
 use Rattle.ll_core.proofs.Once.{one_if, is_at, total-append}
 use Rattle.ll_core.proofs.Unique.{unique}
 use Rattle.ll_laws.specs.Pool.{place}
-use Rattle.ll_core.proofs.Pieces.{Apart, Changed, change_get, change_at, change_other, length-change, flat_change_same, found, find_change_other, is_of_parts, is_of_from, some_is, none_not_some}
+use Rattle.ll_core.proofs.Pieces.{Apart, Changed, change_get, change_at, change_other, length-change, flat_change_same, found, find_change_other, is_of_parts, is_of_from}
 
 pub each_changed : {X : Type 0} (P Q : X → Type 0) (i : ℕ) (f : X → X) (xs : List X) → Each xs P → ((x : X) → slice_get xs i ≡ Some x → P x → Q (f x)) → ((x : X) → P x → Q x) → Each (change i f xs) Q
 each_changed P Q i f xs each at others j y e =

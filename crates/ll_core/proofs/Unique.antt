@@ -2,6 +2,7 @@
 use Rattle.std.proofs.Common.{◌≡◌, ℕ, zero, suc, ◌<◌, List, [], ◌∷◌, true, false, length, refl, sym, ap, ◌∙◌, subst, ⊎_elim, arith, Option, Some, None}
 use Rattle.std.specs.Prelude.{slice_get}
 use Rattle.std.proofs.lemmas.Bool.{cases_Bool, cases_eq, false≢true}
+use Rattle.ll_lists.proofs.CallerLemmas.{some_is, none_not_some}
 use Rattle.ll_laws.specs.Pool.{Owed, Piece, PoolData, Alternative}
 use Rattle.ll_laws.specs.Spread.{is_of, piece_of, kids_of, published_by, length_of, walk}
 use Rattle.ll_laws.specs.Sound.{Every, Shaped, count_of, all_published}
@@ -9,7 +10,7 @@ use Rattle.ll_core.specs.Given.{total}
 use Rattle.ll_core.proofs.Walks.{every_more}
 use Rattle.ll_core.proofs.Once.{total_flat, one_if, hit, is_at, count_is_total, hit_other, met_once}
 use Rattle.ll_laws.specs.Pool.{place}
-use Rattle.ll_core.proofs.Pieces.{found, lookup, some_is, none_not_some, is_of_from, is_of_parts}
+use Rattle.ll_core.proofs.Pieces.{found, lookup, is_of_from, is_of_parts}
 use Rattle.ll_core.proofs.Facts.{kids_within, owed_before}
 
 module _ {X : Type 0} (f : X → ℕ) where

@@ -1,5 +1,6 @@
 -- Turns that take no report and neither starve nor stop the pool.
 use Rattle.std.proofs.Common.{◌≡◌, Bool, true, false, not, ◌&&◌, ◌||◌, refl, sym, ap, ◌∙◌, subst, Option, Some}
+use Rattle.ll_lists.proofs.CallerLemmas.{some_is}
 use Rattle.ll_laws.specs.declared.Event.{Event}
 use Rattle.ll_laws.specs.Pool.{Owed, PoolData}
 use Rattle.ll_laws.specs.Sound.{Sound}
@@ -11,7 +12,7 @@ use Rattle.ll_core.specs.Given.{TakesNone, MarksNone}
 use Rattle.ll_core.specs.Calls.{ClaimsAs}
 use Rattle.ll_core.specs.declared.answers.Claimed.{Claimed}
 use Rattle.ll_core.specs.declared.answers.Claimed.TheVariants as claims
-use Rattle.ll_core.proofs.CallerLemmas.{some_is, later_itself, later_on, later_event, leaves_taken, leaves_marks}
+use Rattle.ll_core.proofs.CallerLemmas.{later_itself, later_on, later_event, leaves_taken, leaves_marks}
 use Rattle.ll_pool.specs.Turns.{PoolSight, OneTurn}
 use Rattle.ll_pool.specs.declared.data.PoolProblem.{PoolProblem}
 use Rattle.ll_laws.specs.Problem.{ProblemTree}

@@ -3,6 +3,7 @@ use Rattle.std.proofs.Common.{◌≡◌, ℕ, ◌+◌, List, [], ◌∷◌, ◌+
 use Rattle.std.specs.Prelude.{count_by}
 use Rattle.std.proofs.lemmas.List.Concat.{flat_map-append}
 use Rattle.std.proofs.lemmas.List.Sums.{sum_by-append}
+use Rattle.ll_lists.proofs.CallerLemmas.{some_is as some_same}
 use Rattle.ll_laws.specs.declared.Event.{Event}
 use Rattle.ll_laws.specs.declared.Counts.{Counts}
 use Rattle.ll_laws.specs.Pool.{Owed, PoolData}
@@ -22,9 +23,6 @@ use Rattle.ll_crew.specs.Leading.{Leads, Stands}
 use Rattle.ll_crew.specs.Turns.{Ended}
 use Rattle.ll_crew.specs.declared.lead.Told.{Told}
 use Rattle.ll_crew.proofs.Leadings.{kept_itself}
-
-some_same : {X : Type 0} (x y : X) → Some x ≡ Some y → x ≡ y
-some_same x y e = cc
 
 module _ {O : Type 0} (takes breaks : O → Event → O → Type 0) (welcome : O → Event → Type 0) (faults : O → ℕ) (start : O) (problem : ProblemTree) where
   -- a new pool, from which nothing was taken

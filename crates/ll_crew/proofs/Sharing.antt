@@ -4,6 +4,7 @@ use Rattle.std.specs.Arc.{arc_value}
 use Rattle.std.specs.declared.sync.Arc.{Arc}
 use Rattle.std.specs.declared.alloc.Global.{Global}
 use Rattle.std.proofs.Math.ListN.{length-append}
+use Rattle.ll_lists.proofs.CallerLemmas.{some_is as some_of}
 use Rattle.ll_laws.specs.declared.Event.{Event}
 use Rattle.ll_laws.specs.Search.{cut_count}
 use Rattle.ll_core.specs.Calls.{HandsBack}
@@ -26,9 +27,6 @@ cancel_right (x ∷ xs) [] zs e = absurd (let l = ap length e in let a = length-
 cancel_right (x ∷ xs) (y ∷ ys) zs e =
     let h : x ≡ y = cc in let t : xs ++ zs ≡ ys ++ zs = cc in
     λ i. h i ∷ cancel_right xs ys zs t i
-
-some_of : {X : Type 0} (x y : X) → Some x ≡ Some y → x ≡ y
-some_of x y e = cc
 
 pub split_some : (old new : Owing) (o : Option FrozenSight) (b : FrozenSight) → o ≡ Some b → Splits old o new → SplitsTo old b new
 split_some old new o b e s = subst (λ x. Splits old x new) e s

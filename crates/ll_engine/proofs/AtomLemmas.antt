@@ -5,6 +5,7 @@ use Rattle.std.proofs.Math.Seq.{drop-append_seam}
 use Rattle.std.proofs.lemmas.List.{take-append-drop, take-map, length-map, append-nil}
 use Rattle.std.proofs.lemmas.List.Elements.{All-head, All-tail, All-cons, All-append}
 use Rattle.std.proofs.lemmas.Grind.{flat_map-append}
+use Rattle.ll_lists.proofs.CallerLemmas.{and_true_left as and_left, and_true_right as and_right}
 use Rattle.ll_bank.specs.declared.At.{At}
 use Rattle.ll_bank.specs.declared.FormAt.{FormAt}
 use Rattle.ll_bank.specs.declared.FormNode.{FormNode}
@@ -19,7 +20,6 @@ use Rattle.ll_laws.specs.Attempt.{only_try}
 use Rattle.ll_laws.specs.Unify.{vars_below}
 use Rattle.ll_laws.specs.Valid.{Allowed, ClauseSide, GoalSide, IsFormula, each_term, places_below, may_head, is_headed}
 use Rattle.ll_laws.specs.Consistent.{AreResources, allowed_in}
-use Rattle.ll_laws.proofs.CallerLemmas.{and_left, and_right}
 use Rattle.ll_index.specs.Context.{AreOfProgram}
 use Rattle.ll_index.specs.First.{first_of, entry_matches}
 use Rattle.ll_freeze.specs.declared.machine.Machine.{Machine}

@@ -4,6 +4,7 @@ use Rattle.std.specs.Prelude.{if◌then◌else◌}
 use Rattle.std.proofs.lemmas.List.{append-nil, length_push, get_or_push}
 use Rattle.std.proofs.Math.ListN.{get_or-append}
 use Rattle.std.proofs.lemmas.List.Elements.{All-head, All-tail}
+use Rattle.ll_lists.proofs.CallerLemmas.{All-front, All-last as All-end}
 use Rattle.ll_bank.specs.declared.At.{At}
 use Rattle.ll_bank.specs.declared.FormAt.{FormAt}
 use Rattle.ll_bank.specs.declared.Head.{Head}
@@ -144,10 +145,3 @@ no_heads bank (UseView m ts x) a w l i f = refl
 no_heads bank (IsView x y) a w l i f = refl
 no_heads bank (LessView x y) a w l i f = refl
 no_heads bank (MostView x y) a w l i f = refl
-
--- without its last one, each of a list is as before
-pub All-front : {A : Type 0} (P : A → Type 0) (xs : List A) (x : A) → All P (xs ++ x ∷ []) → All P xs
-All-front P xs x h k d l = subst P (get_or-append xs (x ∷ []) d k l) (h k d (let e = length_push xs x in omega arith))
-
-pub All-end : {A : Type 0} (P : A → Type 0) (xs : List A) (x : A) → All P (xs ++ x ∷ []) → P x
-All-end P xs x h = subst P (get_or_push xs x x (length xs) refl) (h (length xs) x (let e = length_push xs x in omega arith))

@@ -3,11 +3,11 @@ use Rattle.std.proofs.Common.{◌≡◌, ◌∙◌, ◌-◌, ℕ, zero, suc, ◌
 use Rattle.std.proofs.lemmas.Bool.{eqb-true, ltb-true}
 use Rattle.std.proofs.lemmas.List.{take_all, length-drop}
 use Rattle.std.proofs.lemmas.List.Elements.{All-tail}
+use Rattle.ll_lists.proofs.CallerLemmas.{and_true_left as and_left, and_true_right as and_right, or_elim as or_cases}
 use Rattle.ll_bank.specs.declared.At.{At}
 use Rattle.ll_bank.specs.Term.{Term, Var, Int, Con, Ap, sub, occurs}
 use Rattle.ll_bank.specs.Nodes.{Nodes, term_tree}
 use Rattle.ll_laws.specs.Unify.{vars_below}
-use Rattle.ll_laws.proofs.CallerLemmas.{and_left, and_right, or_cases}
 use Rattle.ll_bindings.specs.Bindings.{Table, cell, count, found, Reaches, stands, through, HasCells, IsTable}
 use Rattle.ll_bindings.proofs.CallerLemmas.{bound-inside, found-free, found-bound}
 

@@ -4,7 +4,9 @@ use Rattle.std.proofs.lemmas.List.Folds.{list_any-append}
 use Rattle.std.specs.Prelude.{Option, Some, None, option_map, option_and_then, slice_get, ◌||◌, ◌&&◌, nat_eq, ℤ, if◌then◌else◌}
 use Rattle.std.specs.List.{list_any}
 use Rattle.std.proofs.Math.Seq.{drop-append_seam}
-use Rattle.std.proofs.lemmas.Bool.{eq-eqb, eqb-true}
+use Rattle.std.proofs.lemmas.Bool.{eq-eqb, eqb-true, or_from as or_both}
+use Rattle.std.proofs.lemmas.List.{append-nil as append_nil}
+use Rattle.ll_lists.proofs.CallerLemmas.{eq-refl as eq_refl, or_false_left as or_left, or_false_right as or_right}
 use Rattle.ll_laws.specs.declared.Candidate.{Candidate}
 use Rattle.ll_laws.specs.declared.Step.{Step}
 use Rattle.ll_laws.specs.declared.Step.TheVariants.{Plain, Left, Right, Clause as ClauseStep}
@@ -19,12 +21,8 @@ use Rattle.ll_laws.specs.Number.{value_of, holds}
 use Rattle.ll_laws.specs.Search.{forks, forks_settled, forks_after, count_fork, gives_some, later, same_candidate, candidate_of}
 use Rattle.ll_engine.specs.Owed.{Thins, thin_keep, thin_skip}
 use Rattle.ll_engine.specs.Healthy.{Distinct, Path, here, next}
-use Rattle.ll_engine.proofs.Owing.{append_nil}
 
 -- candidates
-
-eq_refl : (n : ℕ) → nat_eq n n ≡ true
-eq_refl n = eq-eqb n n refl
 
 eq_sym : (m n : ℕ) → nat_eq m n ≡ false → nat_eq n m ≡ false
 eq_sym m n h = go (nat_eq n m) (λ e. eqb-true n m e)
@@ -46,18 +44,6 @@ and_sym true b a' b' ha hb e = go a' (hb e)
 
 same_sym : (c d : Candidate) → same_candidate c d ≡ false → same_candidate d c ≡ false
 same_sym c d e = and_sym (nat_eq c.label d.label) (nat_eq c.leaf d.leaf) _ _ (eq_sym c.label d.label) (eq_sym c.leaf d.leaf) e
-
-or_left : (a b : Bool) → (a || b) ≡ false → a ≡ false
-or_left false b h = refl
-or_left true b h = cc
-
-or_right : (a b : Bool) → (a || b) ≡ false → b ≡ false
-or_right false b h = h
-or_right true b h = cc
-
-or_both : (a b : Bool) → a ≡ false → b ≡ false → (a || b) ≡ false
-or_both false b h k = k
-or_both true b h k = cc
 
 -- the candidate at a cut stands nowhere before it
 pub not_before : (pre post : List Candidate) (c : Candidate) → Distinct (pre ++ c ∷ post) → list_any (same_candidate c) pre ≡ false

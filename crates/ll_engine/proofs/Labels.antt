@@ -1,9 +1,10 @@
 -- Where the labels of a context are distinct, no candidate stands twice among the tries.
 use Rattle.std.proofs.Common.{◌≡◌, ℕ, suc, ◌<◌, refl, sym, ◌∙◌, subst, Bool, true, false, List, [], ◌∷◌, ◌++◌, arith}
-use Rattle.std.proofs.lemmas.Bool.{eqb-true}
+use Rattle.std.proofs.lemmas.Bool.{eqb-true, or_from as or_both}
 use Rattle.std.proofs.lemmas.List.Folds.{list_any-append}
 use Rattle.std.specs.Prelude.{nat_eq, ◌||◌, ◌&&◌, flat_map, cond, not}
 use Rattle.std.specs.List.{list_any}
+use Rattle.ll_lists.proofs.CallerLemmas.{false_from_not as not_true, or_false_left as or_left, or_false_right as or_right, and_true_left as and_left, and_true_right as and_right}
 use Rattle.ll_laws.specs.declared.Candidate.{Candidate}
 use Rattle.ll_bank.specs.Term.{Term}
 use Rattle.ll_bank.specs.Form.{Form, Atom, Plus}
@@ -14,30 +15,6 @@ use Rattle.ll_laws.specs.Attempt.{tries, agenda_tries, goal_tries, entry_tries, 
 use Rattle.ll_laws.specs.Search.{same_candidate}
 use Rattle.ll_laws.specs.Consistent.{labels_differ}
 use Rattle.ll_engine.specs.Healthy.{Distinct}
-
-and_left : (a b : Bool) → (a && b) ≡ true → a ≡ true
-and_left true b h = refl
-and_left false b h = cc
-
-and_right : (a b : Bool) → (a && b) ≡ true → b ≡ true
-and_right true b h = h
-and_right false b h = cc
-
-not_true : (b : Bool) → not b ≡ true → b ≡ false
-not_true true h = cc
-not_true false h = refl
-
-or_left : (a b : Bool) → (a || b) ≡ false → a ≡ false
-or_left false b h = refl
-or_left true b h = cc
-
-or_right : (a b : Bool) → (a || b) ≡ false → b ≡ false
-or_right false b h = h
-or_right true b h = cc
-
-or_both : (a b : Bool) → a ≡ false → b ≡ false → (a || b) ≡ false
-or_both false b h k = k
-or_both true b h k = cc
 
 and_first : (a b : Bool) → a ≡ false → (a && b) ≡ false
 and_first false b h = refl

@@ -4,6 +4,7 @@ use Rattle.std.specs.Prelude.{if◌then◌else◌, nat_lt, nat_eq, slice_get, op
 use Rattle.std.proofs.lemmas.Bool.{ltb-true, ltb-false}
 use Rattle.std.proofs.lemmas.List.{append-nil}
 use Rattle.std.proofs.Math.ListN.{get_or-append}
+use Rattle.ll_lists.proofs.CallerLemmas.{slice_get-append_left as get_left, slice_get-append_right as get_right, slice_get-inside as get_inside, length-map_suc as length-suc, and_true_left as and_left, lt_zero as none_below}
 use Rattle.ll_bank.specs.declared.Head.{Head}
 use Rattle.ll_bank.specs.declared.Head.TheVariants.{Name, Eigen, Bound}
 use Rattle.ll_bank.specs.Term.{Term, Var, Int, Con, Ap, Env, place, close, head_of, arity, head_eq, same_head, not_bound}
@@ -13,21 +14,11 @@ use Rattle.ll_laws.specs.Leaf.{Leaf, Premise, Needs, NeedsFree, add_premise, way
 use Rattle.ll_laws.specs.Settle.{Entry}
 use Rattle.ll_laws.specs.Attempt.{vars_from, leaf_head, fits_head, leaf_tries, entry_tries, is_open}
 use Rattle.ll_laws.specs.Valid.{places_below}
-use Rattle.ll_laws.proofs.CallerLemmas.{and_left, length-vars, none_below}
+use Rattle.ll_laws.proofs.CallerLemmas.{length-vars}
 use Rattle.ll_engine.specs.declared.heads.Predicate.{Predicate}
 use Rattle.ll_engine.specs.Leaves.{has_predicate, heads, head_tries, open_tries}
 
 -- ---- lists
-
-get_left : {A : Type 0} (xs ys : List A) (k : ℕ) → k < length xs → slice_get (xs ++ ys) k ≡ slice_get xs k
-get_left [] ys k h = absurd (omega arith)
-get_left (x ∷ xs) ys zero h = refl
-get_left (x ∷ xs) ys (suc k) h = get_left xs ys k (omega arith)
-
-get_right : {A : Type 0} (xs ys : List A) (k j : ℕ) → length xs + j ≡ k → slice_get (xs ++ ys) k ≡ slice_get ys j
-get_right [] ys k j h = ap (slice_get ys) (let e : k ≡ j = omega arith in e)
-get_right (x ∷ xs) ys zero j h = absurd (omega arith)
-get_right (x ∷ xs) ys (suc k) j h = get_right xs ys k j (omega arith)
 
 or_right : {A : Type 0} (xs ys : List A) (k j : ℕ) (d : A) → length xs + j ≡ k → get_or (xs ++ ys) k d ≡ get_or ys j d
 or_right [] ys k j d h = ap (λ i. get_or ys i d) (let e : k ≡ j = omega arith in e)
@@ -39,11 +30,6 @@ get_some [] k h = absurd (omega arith)
 get_some (x ∷ xs) zero h = refl
 get_some (x ∷ xs) (suc k) h = get_some xs k (omega arith)
 
-get_inside : (xs : List ℕ) (k n : ℕ) → slice_get xs k ≡ Some n → k < length xs
-get_inside [] k n h = cc
-get_inside (x ∷ xs) zero n h = omega arith
-get_inside (x ∷ xs) (suc k) n h = let e = get_inside xs k n h in omega arith
-
 suc_back : (xs : List ℕ) (k n : ℕ) → slice_get (map (λ n. suc n) xs) k ≡ Some (suc n) → slice_get xs k ≡ Some n
 suc_back [] k n h = cc
 suc_back (x ∷ xs) zero n h = let e : suc x ≡ suc n = cc in let f : x ≡ n = omega arith in ap Some f
@@ -53,10 +39,6 @@ no_zero : {P : Type 0} (xs : List ℕ) (k : ℕ) → slice_get (map (λ n. suc n
 no_zero [] k h = cc
 no_zero (x ∷ xs) zero h = let e : suc x ≡ 0 = cc in absurd (omega arith)
 no_zero (x ∷ xs) (suc k) h = no_zero xs k h
-
-length-suc : (xs : List ℕ) → length (map (λ n. suc n) xs) ≡ length xs
-length-suc [] = refl
-length-suc (x ∷ xs) = ap suc (length-suc xs)
 
 length-both : {A : Type 0} (xs ys : List A) → length (xs ++ ys) ≡ length xs + length ys
 length-both [] ys = omega arith

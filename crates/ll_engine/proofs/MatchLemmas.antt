@@ -5,6 +5,7 @@ use Rattle.std.specs.List.{Contains, list_any}
 use Rattle.std.proofs.lemmas.Bool.{eqb-true, eq-eqb, ne_eqb}
 use Rattle.std.proofs.lemmas.List.Elements.{All-head, All-tail, All-cons, All-append}
 use Rattle.std.proofs.lemmas.Option.{slice_get_within, slice_get-get_or}
+use Rattle.ll_lists.proofs.CallerLemmas.{false_from_not as not_true, true_from_not as not_false, and_true_left as and_left, and_true_right as and_right, lt_zero as none_below}
 use Rattle.ll_bank.specs.declared.Head.{Head}
 use Rattle.ll_bank.specs.declared.Head.TheVariants.{Name, Eigen, Bound}
 use Rattle.ll_bank.specs.Term.{Term, Var, Int, Con, Ap, Env, close, head_of, arity, same_head}
@@ -17,7 +18,7 @@ use Rattle.ll_laws.specs.State.{State}
 use Rattle.ll_laws.specs.Attempt.{entry_at, is_open, vars_from, leaf_head, fits_head, leaf_tries, entry_tries, goal_tries, agenda_tries, tries, attempt}
 use Rattle.ll_laws.specs.Consistent.{labels_differ}
 use Rattle.ll_laws.specs.Valid.{Scope, ClauseSide, AreClauses, given}
-use Rattle.ll_laws.proofs.CallerLemmas.{and_left, and_right, IsHead, Fit, none_below, Fits, fits_of_formula}
+use Rattle.ll_laws.proofs.CallerLemmas.{IsHead, Fit, Fits, fits_of_formula}
 use Rattle.ll_index.specs.declared.laws.First.{First}
 use Rattle.ll_index.specs.Standing.{StandingPremise, StandingLeaf, leaves_under, standing_leaves, env_under}
 use Rattle.ll_index.specs.First.{first_of, signs_clash, leaf_first, entry_matches}
@@ -72,14 +73,6 @@ other_labels e (d ∷ es) h = All-cons (λ (x : Entry Form). nat_eq e.label x.la
     right : (b : Bool) → b || list_any (λ x. nat_eq e.label x.label) es ≡ false → list_any (λ x. nat_eq e.label x.label) es ≡ false
     right true h = cc
     right false h = h
-
-not_true : (b : Bool) → not b ≡ true → b ≡ false
-not_true true h = cc
-not_true false h = refl
-
-not_false : (b : Bool) → not b ≡ false → b ≡ true
-not_false true h = refl
-not_false false h = cc
 
 own_labels : (es : List (Entry Form)) → labels_differ es ≡ true → All (λ (d : Entry Form). entry_at es d.label ≡ Some d) es
 own_labels [] h = λ i d l. absurd (omega arith)

@@ -3,6 +3,7 @@ use Rattle.std.proofs.Common.{◌≡◌, ℕ, suc, ◌+◌, List, [], ◌∷◌,
 use Rattle.ll_bank.specs.Form.{Form, Forall}
 use Rattle.ll_laws.specs.Leaf.{ways}
 use Rattle.std.proofs.lemmas.List.Sums.{sum_by-append}
+use Rattle.ll_lists.proofs.CallerLemmas.{length-map_suc as length-suc}
 use Rattle.ll_bank.specs.declared.FormAt.{FormAt}
 use Rattle.ll_bank.specs.Nodes.{Nodes, form_tree}
 use Rattle.ll_engine.specs.Leaves.{waiting_ways}
@@ -23,10 +24,6 @@ count_both bank old rest mid new f g r n goal o m w both h =
     let b = ap (waiting_ways bank) m ∙ ways-push bank rest r in
     let c = ap (waiting_ways bank) w ∙ ways-push bank mid g in
     let d = ap (λ (ws : List ℕ). length ws) both ∙ length-append (ways (form_tree bank g.0)) (ways (form_tree bank r.0)) in omega arith
-
-length-suc : (xs : List ℕ) → length (map (λ n. suc n) xs) ≡ length xs
-length-suc [] = refl
-length-suc (x ∷ xs) = ap suc (length-suc xs)
 
 pub ways_quantified : (r : Form) → length (ways (Forall r)) ≡ length (ways r)
 ways_quantified r = length-suc (ways r)

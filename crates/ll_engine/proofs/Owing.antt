@@ -3,6 +3,7 @@ use Rattle.std.proofs.Common.{◌≡◌, ℕ, ◌+◌, ◌≤◌, refl, ap, sym,
 use Rattle.std.specs.List.{list_any}
 use Rattle.std.proofs.lemmas.List.Sums.{sum_by-cons}
 use Rattle.std.specs.Prelude.{Option, Some, None, flat_map, sum_by, is_some, ◌||◌}
+use Rattle.std.proofs.lemmas.List.{append-nil as append_nil}
 use Rattle.ll_laws.specs.declared.Candidate.{Candidate}
 use Rattle.ll_laws.specs.declared.Event.{Event}
 use Rattle.ll_laws.specs.Module.{Setting}
@@ -12,10 +13,6 @@ use Rattle.ll_laws.specs.Search.{events, cost, gives_some}
 use Rattle.ll_engine.specs.Seen.{Point}
 use Rattle.ll_laws.specs.Tried.{events_from, number_from, tried_events, tried_cost}
 use Rattle.ll_engine.specs.Owed.{owed, cost_left, one_if_some, open_points, work_by, work, work_left, Thins, thin_end, thin_keep, thin_skip, put_point}
-
-pub append_nil : {A : Type 0} (xs : List A) → xs ++ [] ≡ xs
-append_nil [] = refl
-append_nil (x ∷ xs) = ap (λ ys. x ∷ ys) (append_nil xs)
 
 -- what the successors owe is what the tries owe
 

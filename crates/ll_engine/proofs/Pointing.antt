@@ -5,6 +5,7 @@ use Rattle.std.proofs.lemmas.List.Elements.{All-push, All-cons, All-tail, All-he
 use Rattle.std.proofs.Math.Dec.{eqb, eqb-suc-zero}
 use Rattle.std.specs.Prelude.{Option, Some, None, All}
 use Rattle.std.specs.List.{Contains}
+use Rattle.ll_lists.proofs.CallerLemmas.{reverse-push as newest, All-reverse as all_reverse}
 use Rattle.ll_laws.specs.declared.Candidate.{Candidate}
 use Rattle.ll_laws.specs.State.{State}
 use Rattle.ll_laws.specs.Attempt.{tries, attempt}
@@ -25,17 +26,9 @@ use Rattle.ll_engine.specs.Pointed.{Held, held_of, helds, Rises, AreMarks, point
 use Rattle.ll_engine.proofs.Labels.{tries_distinct}
 use Rattle.ll_engine.proofs.MatchLemmas.{matches_thin, thins_contains}
 
-newest : {A : Type 0} (xs : List A) (x : A) → reverse (xs ++ x ∷ []) ≡ x ∷ reverse xs
-newest xs x = reverse-append xs (x ∷ [])
-
 twice : {A : Type 0} (xs : List A) → reverse (reverse xs) ≡ xs
 twice [] = refl
 twice (x ∷ xs) = ap (λ ys. reverse ys) (reverse-append (x ∷ []) xs) ∙ (newest (reverse xs) x ∙ ap (λ ys. x ∷ ys) (twice xs))
-
-pub all_reverse : {A : Type 0} (P : A → Type 0) (xs : List A) → All P xs → All P (reverse xs)
-all_reverse P [] h = h
-all_reverse P (x ∷ xs) h =
-    subst (λ ys. All P ys) (sym (reverse-append (x ∷ []) xs)) (All-push P (reverse xs) x (all_reverse P xs (All-tail P x xs h)) (All-head P x xs h))
 
 -- the candidates of a first goal that can match, the first one last
 pub are_tries : (m : Parts) (ds : List Candidate) → Fits m → reverse ds ≡ matches (state_of m) → AreTries m ds

@@ -2,9 +2,10 @@
 use Rattle.std.proofs.Common.{◌≡◌, ℕ, zero, suc, ◌+◌, ◌≤◌, ◌<◌, ◌^◌, refl, ap, sym, ◌∙◌, subst, true, Bool, List, [], ◌∷◌, ◌++◌, map, length, arith, All, length-append, inl, inr, false}
 use Rattle.std.proofs.lemmas.List.{map-append}
 use Rattle.std.proofs.lemmas.List.Elements.{All-nil, All-cons, All-head, All-tail, All-weaker, All-push}
-use Rattle.std.proofs.lemmas.Bool.{lt-ltb, cases_lt}
+use Rattle.std.proofs.lemmas.Bool.{lt-ltb, cases_lt, and_from as and_intro}
 use Rattle.std.specs.Prelude.{Option, Some, None, ◌&&◌}
 use Rattle.std.specs.List.{Contains, list_all}
+use Rattle.ll_lists.proofs.CallerLemmas.{and_true_left as and_left, and_true_right as and_right}
 use Rattle.ll_bank.specs.declared.At.{At}
 use Rattle.ll_bank.specs.declared.FormAt.{FormAt}
 use Rattle.ll_bank.specs.declared.Head.TheVariants.{Eigen}
@@ -21,7 +22,7 @@ use Rattle.ll_laws.specs.State.{State}
 use Rattle.ll_laws.specs.Attempt.{attempt, tries, vars_from}
 use Rattle.ll_laws.specs.Valid.{Allowed, Scope, Side, GoalSide, ClauseSide, IsFormula}
 use Rattle.ll_laws.specs.Consistent.{IsConsistent, is_made}
-use Rattle.ll_laws.proofs.CallerLemmas.{IsClosing, sub_same, sub_instantiate, and_left, and_right, and_intro, Grows, Fit, AllFit, Fits as FormFits, formula_of_fits, fits-more, fits-close, formula-more, steps_consistent}
+use Rattle.ll_laws.proofs.CallerLemmas.{IsClosing, sub_same, sub_instantiate, Grows, Fit, AllFit, Fits as FormFits, formula_of_fits, fits-more, fits-close, formula-more, steps_consistent}
 use Rattle.ll_freeze.specs.Resting.{RestsOn}
 use Rattle.ll_freeze.proofs.CallerLemmas.{step_rests, trees_read, vars_more, form_same, state_by, state_is, modules_later, modules_has}
 use Rattle.ll_resources.specs.Resources.{Resources}

@@ -3,6 +3,7 @@ use Rattle.std.proofs.Common.{◌≡◌, ℕ, zero, suc, ◌+◌, ◌-◌, ◌<�
 use Rattle.std.proofs.lemmas.List.Elements.{All-head, All-tail}
 use Rattle.std.specs.Prelude.{Option, Some, None, All, slice_get, option_and_then}
 use Rattle.std.specs.List.{Contains}
+use Rattle.std.proofs.lemmas.List.{append-nil as append_nil}
 use Rattle.ll_bank.specs.Form.{Form}
 use Rattle.ll_laws.specs.declared.Candidate.{Candidate}
 use Rattle.ll_laws.specs.declared.Event.{Event}
@@ -23,7 +24,6 @@ use Rattle.ll_engine.specs.Healthy.{Healthy, HealthyFrom, here}
 use Rattle.ll_engine.specs.Turned.{is_empty, Gave}
 use Rattle.ll_engine.specs.Resumes.{beginning, resumed_by, resumed, Resumes}
 use Rattle.ll_engine.specs.Begun.{left_by, Begins}
-use Rattle.ll_engine.proofs.Owing.{append_nil}
 
 -- an element of a list
 

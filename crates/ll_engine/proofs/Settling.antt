@@ -2,8 +2,9 @@
 use Rattle.std.proofs.Common.{◌≡◌, ℕ, suc, ◌<◌, refl, ap, sym, ◌∙◌, subst, Bool, true, false, ◌&&◌, List, [], ◌∷◌, map, length, arith, All}
 use Rattle.std.proofs.lemmas.List.Elements.{All-cons, All-head, All-tail, All-weaker}
 use Rattle.std.proofs.lemmas.List.{length-map}
-use Rattle.ll_laws.proofs.CallerLemmas.{and_left, and_right, front-map, settles_consistent, alike-remark, alike-ends}
+use Rattle.ll_laws.proofs.CallerLemmas.{front-map, settles_consistent, alike-remark, alike-ends}
 use Rattle.std.specs.Prelude.{Option, Some, None, option_map, not, ◌||◌, if◌then◌else◌}
+use Rattle.ll_lists.proofs.CallerLemmas.{false_from_not as not_true, and_true_left as and_left, and_true_right as and_right}
 use Rattle.ll_bank.specs.declared.At.{At}
 use Rattle.ll_bank.specs.declared.FormAt.{FormAt}
 use Rattle.ll_bank.specs.Nodes.{Nodes, HasForm, form_tree}
@@ -239,10 +240,6 @@ imp_entries r h e es k q =
 
 load_is : (saved : Bool) (e : Entry FormAt) (es : List (Entry FormAt)) → is_of_kind true e.kind ≡ true → load_end saved (e ∷ es) ≡ EndOfLolli saved
 load_is saved e es h = rw h refl
-
-not_true : (b : Bool) → not b ≡ true → b ≡ false
-not_true true h = cc
-not_true false h = refl
 
 free_is : (saved : Bool) (e : Entry FormAt) (es : List (Entry FormAt)) → is_of_kind false e.kind ≡ true → load_end saved (e ∷ es) ≡ EndOfImp
 free_is saved e es h = rw (not_true (is_linear e.kind) h) refl

@@ -5,6 +5,8 @@ use Rattle.std.proofs.lemmas.Option.{get_or_from_slice_get, slice_get_within}
 use Rattle.std.specs.Prelude.{Option, Some, None, All, length, is_some, IsNone, ◌↔◌, not, ◌||◌, ◌&&◌, slice_get}
 use Rattle.std.specs.List.{list_all}
 use Rattle.std.proofs.lemmas.List.Elements.{All-nil, All-cons, All-head, All-tail}
+use Rattle.std.proofs.lemmas.Bool.{or_right as or_true}
+use Rattle.ll_lists.proofs.CallerLemmas.{and_true_left as and_left, and_true_right as and_right}
 use Rattle.ll_bank.specs.declared.At.{At}
 use Rattle.ll_bank.specs.declared.FormAt.{FormAt}
 use Rattle.ll_bank.specs.Term.{Term, is_closed, eigens_below}
@@ -12,7 +14,6 @@ use Rattle.ll_bank.specs.Nodes.{Nodes, HasTerm, AllInTerms, term_tree}
 use Rattle.ll_laws.specs.Answered.{Answered}
 use Rattle.ll_laws.specs.Consistent.{is_made}
 use Rattle.ll_laws.specs.Unify.{vars_below}
-use Rattle.ll_laws.proofs.CallerLemmas.{and_left, and_right}
 use Rattle.ll_bindings.specs.Bindings.{IsPlaceOf}
 use Rattle.ll_bindings.proofs.CallerLemmas.{place-below}
 use Rattle.ll_laws.specs.declared.Step.{Step}
@@ -49,10 +50,6 @@ empty_of m (Some x) b e h =
 live_map : (bank : Nodes) (bound : List (Option At)) (es : List (Entry FormAt)) → has_live (map (shown_entry bank bound) es) ≡ has_live es
 live_map bank bound [] = refl
 live_map bank bound (e ∷ es) = ap (λ b. e.live || b) (live_map bank bound es)
-
-or_true : (a b : Bool) → b ≡ true → (a || b) ≡ true
-or_true true b e = refl
-or_true false b e = e
 
 or_false : (a b : Bool) → b ≡ false → (a || b) ≡ a
 or_false true b e = refl

@@ -1,10 +1,11 @@
 -- What is left of what is owed where the oldest choice point is split off.
 use Rattle.std.proofs.Common.{◌≡◌, ◌≢◌, ℕ, suc, ◌+◌, ◌-◌, ◌<◌, ◌≤◌, refl, ap, sym, ◌∙◌, subst, Bool, true, false, List, [], ◌∷◌, ◌++◌, append_assoc, arith, map, reverse, length}
-use Rattle.std.proofs.lemmas.List.{reverse-append, map-append}
+use Rattle.std.proofs.lemmas.List.{reverse-append, map-append, append-nil as append_nil}
 use Rattle.std.proofs.lemmas.List.Sums.{sum_by-cons}
 use Rattle.std.proofs.lemmas.List.Elements.{All-head, All-tail}
 use Rattle.std.specs.List.{Contains}
 use Rattle.std.specs.Prelude.{Option, Some, None, All, flat_map, sum_by}
+use Rattle.ll_lists.proofs.CallerLemmas.{All-reverse as all_reverse}
 use Rattle.ll_laws.specs.declared.Candidate.{Candidate}
 use Rattle.ll_laws.specs.declared.Event.{Event}
 use Rattle.ll_laws.specs.Module.{Setting}
@@ -23,8 +24,6 @@ use Rattle.ll_freeze.specs.declared.machine.Machine.{Machine}
 use Rattle.ll_freeze.specs.Parts.{Parts, IsGood}
 use Rattle.ll_engine.specs.declared.spine.Kept.{Kept}
 use Rattle.ll_engine.specs.Pointed.{Held, held_of, helds, Rises, AreMarks, AreTries, point_of, points_of, spine_at, IsKept}
-use Rattle.ll_engine.proofs.Pointing.{all_reverse}
-use Rattle.ll_engine.proofs.Owing.{append_nil}
 use Rattle.ll_engine.specs.Splits.{TakesOldest, SplitsTo, frozen_point}
 
 -- older choice points stand behind

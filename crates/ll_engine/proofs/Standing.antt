@@ -5,6 +5,8 @@ use Rattle.std.specs.Prelude.{if◌then◌else◌, flat_map, ◌&&◌}
 use Rattle.std.specs.List.{list_all}
 use Rattle.std.proofs.lemmas.List.{map-append}
 use Rattle.std.proofs.lemmas.List.Elements.{All-head, All-tail}
+use Rattle.std.proofs.lemmas.Bool.{and_from as and_intro}
+use Rattle.ll_lists.proofs.CallerLemmas.{and_true_left as and_left, and_true_right as and_right}
 use Rattle.ll_bank.specs.declared.FormAt.{FormAt}
 use Rattle.ll_bank.specs.declared.Head.{Head}
 use Rattle.ll_bank.specs.Term.{Term, Var, Int, Con, Ap, sub, head_of, arity, is_spine}
@@ -14,7 +16,6 @@ use Rattle.ll_laws.specs.declared.Candidate.{Candidate}
 use Rattle.ll_laws.specs.Settle.{Entry}
 use Rattle.ll_laws.specs.Attempt.{goal_tries, entry_tries, is_open}
 use Rattle.ll_laws.specs.Valid.{Allowed, Scope, IsFormula, GoalSide, ClauseSide, has_heads, is_headed, may_head, free_below, places_below}
-use Rattle.ll_laws.proofs.CallerLemmas.{and_left, and_right, and_intro}
 use Rattle.ll_freeze.specs.Reading.{reading}
 use Rattle.ll_freeze.specs.Shown.{shown_entry}
 use Rattle.ll_engine.specs.declared.heads.Predicate.{Predicate}

@@ -5,6 +5,7 @@ use Rattle.std.specs.List.{list_any}
 use Rattle.std.proofs.lemmas.Bool.{eq-eqb}
 use Rattle.std.proofs.lemmas.List.Elements.{All-cons}
 use Rattle.std.proofs.lemmas.Option.{slice_get_within, slice_get-get_or}
+use Rattle.ll_lists.proofs.CallerLemmas.{and_true_left as and_left, and_true_right as and_right}
 use Rattle.ll_bank.specs.declared.At.{At}
 use Rattle.ll_bank.specs.declared.FormAt.{FormAt}
 use Rattle.ll_bank.specs.Form.{Form}
@@ -12,7 +13,6 @@ use Rattle.ll_bank.specs.Nodes.{Nodes}
 use Rattle.ll_laws.specs.Settle.{Entry}
 use Rattle.ll_laws.specs.Attempt.{entry_at}
 use Rattle.ll_laws.specs.Consistent.{labels_differ}
-use Rattle.ll_laws.proofs.CallerLemmas.{and_left, and_right}
 use Rattle.ll_freeze.specs.Parts.{Parts}
 use Rattle.ll_freeze.specs.Fits.{Fits}
 use Rattle.ll_freeze.specs.Shown.{shown_entry, state_of}

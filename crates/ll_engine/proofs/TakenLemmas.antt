@@ -5,6 +5,7 @@ use Rattle.std.proofs.lemmas.Bool.{cases_lt}
 use Rattle.std.proofs.lemmas.List.Elements.{All-head, All-tail, All-cons}
 use Rattle.std.specs.List.{list_all}
 use Rattle.std.proofs.lemmas.List.{map-append}
+use Rattle.ll_lists.proofs.CallerLemmas.{map_same, and_true_left as and_left, and_true_right as and_right}
 use Rattle.ll_bank.specs.declared.At.{At}
 use Rattle.ll_bank.specs.declared.FormAt.{FormAt}
 use Rattle.ll_bank.specs.Term.{Term, Var, sub}
@@ -17,7 +18,7 @@ use Rattle.ll_laws.specs.State.{sub_item, sub_entry}
 use Rattle.ll_laws.specs.Attempt.{is_linear, is_open, vars_from, entry_at, picked}
 use Rattle.ll_laws.specs.Valid.{Allowed, IsFormula, GoalSide}
 use Rattle.ll_laws.specs.Consistent.{is_made}
-use Rattle.ll_laws.proofs.CallerLemmas.{sub_premise, sub_same, map_same, and_left, and_right, formula_of_fits, PremisesFit}
+use Rattle.ll_laws.proofs.CallerLemmas.{sub_premise, sub_same, formula_of_fits, PremisesFit}
 use Rattle.ll_freeze.specs.declared.machine.Item.TheVariants.{Goal}
 use Rattle.ll_freeze.specs.Reading.{reading, read_term, read_form, HasValue}
 use Rattle.ll_freeze.specs.Shown.{shown_item, shown_entry}

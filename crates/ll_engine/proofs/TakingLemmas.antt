@@ -2,10 +2,11 @@
 use Rattle.std.proofs.Common.{drop, ◌≡◌, ◌≢◌, ℕ, zero, suc, inl, inr, ◌+◌, ◌<◌, ◌≤◌, List, [], ◌∷◌, ◌++◌, length, map, All, get_or, refl, ap, sym, subst, ◌∙◌, arith, Option, Some, None, Bool, true, false}
 use Rattle.std.specs.Prelude.{slice_get, option_map, option_and_then, replicate, ◌&&◌, nat_le, slice_index}
 use Rattle.std.specs.List.{list_all}
-use Rattle.std.proofs.lemmas.Bool.{lt-ltb, ltb-true, cases_lt}
+use Rattle.std.proofs.lemmas.Bool.{lt-ltb, ltb-true, cases_lt, and_from as and_intro}
 use Rattle.std.proofs.lemmas.List.{map-append, length-append, length-replicate, length-map}
 use Rattle.std.proofs.lemmas.List.Elements.{All-append, All-tail}
 use Rattle.std.proofs.lemmas.List.Folds.{list_all-append}
+use Rattle.ll_lists.proofs.CallerLemmas.{and_true_left as and_left}
 use Rattle.ll_bank.specs.declared.At.{At}
 use Rattle.ll_bank.specs.declared.FormAt.{FormAt}
 use Rattle.ll_bank.specs.declared.FormNode.TheVariants.{Atom as AtomView}
@@ -23,7 +24,7 @@ use Rattle.ll_laws.specs.Attempt.{vars_from, entry_at, picked, instantiated, wit
 use Rattle.ll_laws.specs.Problem.{ProblemTree, setting_of}
 use Rattle.ll_laws.specs.Valid.{Allowed, IsFormula, IsValid, GoalSide, ClauseSide}
 use Rattle.ll_laws.specs.Consistent.{IsConsistent, allowed_in, is_made}
-use Rattle.ll_laws.proofs.CallerLemmas.{IsClosing, ways-sub, sub_leaf, sub_premise, sub_same, and_left, grows-refl, Fit, AllFit, Goes, Grows, fit_of_made, fit-more, fit-sub, fit-vars, fit-eigens, and_intro, levels-replicate, level_up_to, new_level, occurs_below, fits_of_formula, fits-more, formula-more, LeafFits, leaf-fits, steps_consistent}
+use Rattle.ll_laws.proofs.CallerLemmas.{IsClosing, ways-sub, sub_leaf, sub_premise, sub_same, grows-refl, Fit, AllFit, Goes, Grows, fit_of_made, fit-more, fit-sub, fit-vars, fit-eigens, levels-replicate, level_up_to, new_level, occurs_below, fits_of_formula, fits-more, formula-more, LeafFits, leaf-fits, steps_consistent}
 use Rattle.ll_freeze.specs.Resting.{RestsOn}
 use Rattle.ll_freeze.proofs.CallerLemmas.{step_rests, modules_has, modules_later}
 use Rattle.ll_agenda.specs.declared.agenda.Top.{Top as AgendaTop}

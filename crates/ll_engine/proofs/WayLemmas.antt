@@ -2,9 +2,10 @@
 use Rattle.std.proofs.Common.{◌≡◌, ℕ, zero, suc, ◌+◌, ◌-◌, ◌<◌, ◌≤◌, List, [], ◌∷◌, ◌++◌, length, map, take, drop, reverse, All, refl, ap, sym, subst, ◌∙◌, arith, Option, Some, Bool, true, false, append_assoc, get_or}
 use Rattle.std.specs.Prelude.{if◌then◌else◌, nat_lt, slice_get, option_map, ◌&&◌}
 use Rattle.std.specs.List.{list_all}
-use Rattle.std.proofs.lemmas.Bool.{ltb-true, lt-ltb}
+use Rattle.std.proofs.lemmas.Bool.{ltb-true, lt-ltb, and_from as and_intro}
 use Rattle.std.proofs.lemmas.List.{append-nil, map-append, reverse-append, take_all, length-drop}
 use Rattle.std.proofs.lemmas.List.Elements.{All-cons, All-push}
+use Rattle.ll_lists.proofs.CallerLemmas.{length-map_suc as length-suc, slice_get-append_left as get_left, slice_get-append_right as get_right, slice_get-map_suc as get_suc, lt_false as not_below, and_true_left as and_left, and_true_right as and_right}
 use Rattle.ll_bank.specs.declared.At.{At}
 use Rattle.ll_bank.specs.declared.FormAt.{FormAt}
 use Rattle.ll_bank.specs.Term.{Term, Var, Int, Con, Ap, Env, close, applies_heads, is_spine, head_of}
@@ -14,7 +15,7 @@ use Rattle.ll_bank.proofs.CallerLemmas.{HasForm-extends, form_tree-extends, AllI
 use Rattle.ll_laws.specs.Leaf.{Leaf, Premise, add_premise, premise_goal, ways, leaf, leaf_from}
 use Rattle.ll_laws.specs.Attempt.{vars_from}
 use Rattle.ll_laws.specs.Valid.{Allowed, Side, GoalSide, ClauseSide, Scope, has_heads, is_headed, may_head}
-use Rattle.ll_laws.proofs.CallerLemmas.{and_left, and_right, Grows, Closes, Widens, and_intro, Fits as FormFits, fits_of_formula, formula_of_fits, fits-more, fits-close, length-vars}
+use Rattle.ll_laws.proofs.CallerLemmas.{Grows, Closes, Widens, Fits as FormFits, fits_of_formula, formula_of_fits, fits-more, fits-close, length-vars}
 use Rattle.ll_agenda.specs.declared.agenda.Top.{Top as AgendaTop}
 use Rattle.ll_agenda.specs.Frames.{Frames, ShowsItems, items_at}
 use Rattle.ll_freeze.specs.declared.machine.Item.{Item}
@@ -130,35 +131,9 @@ closed_applies may before count side f h =
 
 -- ---- lists
 
-get_left : (xs ys : List ℕ) (k : ℕ) → k < length xs → slice_get (xs ++ ys) k ≡ slice_get xs k
-get_left [] ys k h = absurd (omega arith)
-get_left (x ∷ xs) ys zero h = refl
-get_left (x ∷ xs) ys (suc k) h = get_left xs ys k (omega arith)
-
-get_right : (xs ys : List ℕ) (k j : ℕ) → length xs + j ≡ k → slice_get (xs ++ ys) k ≡ slice_get ys j
-get_right [] ys k j h = ap (slice_get ys) (let e : k ≡ j = omega arith in e)
-get_right (x ∷ xs) ys zero j h = absurd (omega arith)
-get_right (x ∷ xs) ys (suc k) j h = get_right xs ys k j (omega arith)
-
-get_suc : (xs : List ℕ) (k n : ℕ) → slice_get xs k ≡ Some n → slice_get (map (λ n. suc n) xs) k ≡ Some (suc n)
-get_suc [] k n h = cc
-get_suc (x ∷ xs) zero n h = let e : x ≡ n = cc in ap (λ z. Some (suc z)) e
-get_suc (x ∷ xs) (suc k) n h = get_suc xs k n h
-
-length-suc : (xs : List ℕ) → length (map (λ n. suc n) xs) ≡ length xs
-length-suc [] = refl
-length-suc (x ∷ xs) = ap suc (length-suc xs)
-
 length-both : (xs ys : List ℕ) → length (xs ++ ys) ≡ length xs + length ys
 length-both [] ys = omega arith
 length-both (x ∷ xs) ys = let e = length-both xs ys in omega arith
-
-not_below : (a b : ℕ) → b ≤ a → nat_lt a b ≡ false
-not_below a b h = go (nat_lt a b) refl
-  where
-    go : (c : Bool) → nat_lt a b ≡ c → c ≡ false
-    go true e = let l = ltb-true a b e in absurd (omega arith)
-    go false e = refl
 
 vars_push : (a n m : ℕ) → m ≡ suc n → vars_from a m ≡ vars_from a n ++ Var (a + n) ∷ []
 vars_push a zero zero e = absurd (omega arith)

@@ -9,6 +9,7 @@ use Rattle.ll_bank.specs.Term.{Term, Var, sub}
 use Rattle.ll_bank.specs.Form.{Form, Top, One, Atom, With, Tensor, Plus, Bang, Lolli, Imp, Forall, Exists, Use, Num, sub_form}
 use Rattle.ll_bank.specs.Nodes.{Nodes, HasForm, term_tree, term_trees, form_tree, size_of, IsCutTo, Extends}
 use Rattle.std.proofs.lemmas.List.Elements.{All-head, All-tail, All-weaker}
+use Rattle.ll_lists.proofs.CallerLemmas.{same_front, map_same}
 use Rattle.ll_bank.proofs.CallerLemmas.{HasForm-extends, form_tree-extends}
 use Rattle.ll_laws.specs.declared.Clause.{Clause}
 use Rattle.ll_laws.specs.declared.Module.{Module}
@@ -20,7 +21,7 @@ use Rattle.ll_laws.specs.Valid.{Allowed, IsFormula, ClauseSide}
 use Rattle.ll_laws.specs.Consistent.{IsConsistent}
 use Rattle.ll_laws.specs.Problem.{ProblemTree, setting_of}
 use Rattle.ll_laws.specs.Attempt.{vars_from}
-use Rattle.ll_laws.proofs.CallerLemmas.{sub_same, map_same}
+use Rattle.ll_laws.proofs.CallerLemmas.{sub_same}
 use Rattle.ll_agenda.specs.Frames.{HasTop}
 use Rattle.ll_resources.specs.Resources.{Resources}
 use Rattle.ll_freeze.specs.Parts.{Parts}
@@ -115,12 +116,6 @@ fits_kept m n s f h y x c d t i g l e =
       labels = l;
       eigens = e;
     }
-
--- a bank cut to its own size is itself
-same_front : {A : Type 0} (xs ys zs : List A) → xs ≡ ys ++ zs → length ys ≡ length xs → ys ≡ xs
-same_front xs ys [] e l = sym (e ∙ append-nil ys)
-same_front xs ys (z ∷ zs) e l =
-    let a : length xs ≡ length ys + suc (length zs) = ap (λ us. length us) e ∙ length-append ys (z ∷ zs) in absurd (omega (arith, a, l))
 
 pub cut_same : (old new : Nodes) (size : BankSize) → size ≡ size_of old → IsCutTo size old new → new ≡ old
 cut_same old new size e c =

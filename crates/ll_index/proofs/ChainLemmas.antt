@@ -4,12 +4,10 @@ use Rattle.std.specs.Prelude.{◌||◌, if◌then◌else◌, slice_index, slice_
 use Rattle.std.proofs.lemmas.Bool.{eq-eqb, ne_eqb, cases_lt, or_left, or_right}
 use Rattle.std.proofs.lemmas.List.{drop-set}
 use Rattle.std.proofs.Math.Seq.{drop-cons}
+use Rattle.ll_lists.proofs.CallerLemmas.{eq-refl as here}
 use Rattle.ll_index.specs.Chained.{first_from, links_from, behind, linked_from}
 
 -- ---- tests of places
-
-here : (i : ℕ) → nat_eq i i ≡ true
-here i = eq-eqb i i refl
 
 elsewhere : (p i : ℕ) → i < p → nat_eq p i ≡ false
 elsewhere p i h = ne_eqb p i (λ e. let q : ⊥ = absurd (omega arith) in q)

@@ -4,6 +4,7 @@ use Rattle.std.specs.Prelude.{◌&&◌, not, if◌then◌else◌, Option, Some, 
 use Rattle.std.specs.Ordering.{int_eq}
 use Rattle.std.proofs.Math.Dec.{eqb-suc-suc}
 use Rattle.std.proofs.lemmas.List.Elements.{All-cons}
+use Rattle.ll_lists.proofs.CallerLemmas.{false_from_not as not-true, and_true_left as and_left}
 use Rattle.ll_bank.specs.declared.Head.{Head}
 use Rattle.ll_bank.specs.declared.Head.TheVariants.{Name, Eigen, Bound}
 use Rattle.ll_bank.specs.Term.{Term, Var, Int, Con, Ap, Env, sub, place, close, head_of, arity, head_eq, same_head, same_predicate}
@@ -15,7 +16,6 @@ use Rattle.ll_laws.specs.Settle.{Entry, Item, Goal}
 use Rattle.ll_laws.specs.State.{State}
 use Rattle.ll_laws.specs.Leaf.{Leaf, leaf, ways}
 use Rattle.ll_laws.specs.Attempt.{entry_at, entry_tries, leaf_tries, is_open, leaf_head, fits_head, vars_from, instantiated, with_leaf, take_leaf, take_way, take_entry, attempt, attempt_agenda}
-use Rattle.ll_laws.proofs.CallerLemmas.{and_left}
 use Rattle.ll_index.specs.declared.laws.First.{First}
 use Rattle.ll_index.specs.declared.laws.First.TheVariants.{Open, Int as IntSign, Head as NameSign}
 use Rattle.ll_index.specs.Standing.{env_under}
@@ -31,10 +31,6 @@ record AreApart (o p : Option Head) (k j : ℕ) : Type 0 where
   left_is : o ≡ Some (Name left)
   right_is : p ≡ Some (Name right)
   differ : (nat_eq left right && nat_eq k j) ≡ false
-
-not-true : (b : Bool) → not b ≡ true → b ≡ false
-not-true true h = cc
-not-true false h = refl
 
 names_apart : (o p : Option Head) (k j : ℕ) → signs_clash (name_sign o k) (name_sign p j) ≡ true → AreApart o p k j
 names_apart (Some (Name m)) (Some (Name n)) k j h = record { left = m; right = n; left_is = refl; right_is = refl; differ = not-true (nat_eq m n && nat_eq k j) h }

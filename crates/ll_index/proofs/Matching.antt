@@ -8,6 +8,7 @@ use Rattle.std.proofs.lemmas.List.{map-append}
 use Rattle.std.proofs.lemmas.List.Concat.{flat_map-cons}
 use Rattle.std.proofs.lemmas.List.Elements.{filter-append}
 use Rattle.std.proofs.lemmas.Option.{slice_get-map}
+use Rattle.ll_lists.proofs.CallerLemmas.{same_from_both_ways as same-bools, false_from_not as not-false, or_elim as or_cases, slice_get-append_left as get_left, slice_get-append_right as get_right}
 use Rattle.ll_bank.specs.declared.Head.{Head}
 use Rattle.ll_bank.specs.declared.Head.TheVariants.{Name, Eigen, Bound}
 use Rattle.ll_bank.specs.Term.{Term, close, head_of, arity, same_head, same_predicate}
@@ -20,7 +21,7 @@ use Rattle.ll_laws.specs.Leaf.{ways, leaf}
 use Rattle.ll_laws.specs.Settle.{Entry}
 use Rattle.ll_laws.specs.Attempt.{is_linear, is_open, fits_head, leaf_head, leaf_tries, vars_from}
 use Rattle.ll_laws.specs.Search.{program_entries}
-use Rattle.ll_laws.proofs.CallerLemmas.{or_cases, length-vars}
+use Rattle.ll_laws.proofs.CallerLemmas.{length-vars}
 use Rattle.ll_index.specs.declared.laws.First.{First}
 use Rattle.ll_index.specs.declared.laws.First.TheVariants.{Open, Int as IntSign, Head as NameSign}
 use Rattle.ll_index.specs.contracts.laws.FirstPartialEq.TheImpl.{eq-value as first_eq}
@@ -31,7 +32,7 @@ use Rattle.ll_index.specs.Standing.{StandingLeaf, standing_leaves, env_under, op
 use Rattle.ll_index.specs.First.{name_sign, first_of, signs_clash, first_if_leaf, leaf_first, entry_matches, program_matches}
 use Rattle.ll_index.specs.Listed.{Listed, numbered, program_leaves}
 use Rattle.ll_index.specs.Keys.{named_key, key_of, key_eq}
-use Rattle.ll_index.proofs.StandingLaws.{get_left, get_right, leaves_stand, leaves_open}
+use Rattle.ll_index.proofs.StandingLaws.{leaves_stand, leaves_open}
 use Rattle.ll_index.proofs.FirstLaws.{alike_under, no_env, close-name, close-arity}
 use Rattle.ll_index.proofs.ChainLemmas.{kept}
 
@@ -59,11 +60,6 @@ same_key _ _ e = cc
 key_refl : (x : Key) → key_eq x x ≡ true
 key_refl Unnamed = refl
 key_refl (Named n k f) = and_from (nat_eq n n) (nat_eq k k && (first_eq).it f f) (eq-eqb n n refl) (and_from (nat_eq k k) ((first_eq).it f f) (eq-eqb k k refl) (first_refl f))
-
-same-bools : (b d : Bool) → (b ≡ true → d ≡ true) → (d ≡ true → b ≡ true) → b ≡ d
-same-bools true d f g = sym (f refl)
-same-bools false true f g = g refl
-same-bools false false f g = refl
 
 -- ---- one leaf: its key is asked for where its head matches
 
@@ -93,11 +89,6 @@ found_key h by_sign name arguments first w =
     let s : First = if by_sign then first_of h else Open in
     ap (λ o. key_eq (named_key o (arity h) s) (Named name arguments first)) w.head
     ∙ (ap (λ k. key_eq (Named name k s) (Named name arguments first)) w.count ∙ (ap (λ f. key_eq (Named name arguments f) (Named name arguments first)) w.sign ∙ key_refl (Named name arguments first)))
-
--- signs that do not clash
-not-false : (b : Bool) → not b ≡ true → b ≡ false
-not-false true h = cc
-not-false false h = refl
 
 no-clash : (first s : First) → signs_clash first s ≡ false → (first ≢ Open) → (s ≡ first) ⊎ (s ≡ Open)
 no-clash Open s h n = absurd (n refl)

@@ -3,24 +3,15 @@ use Rattle.std.proofs.Common.{◌≡◌, ◌<◌, ℕ, zero, suc, ◌+◌, ◌-�
 use Rattle.std.specs.Prelude.{if◌then◌else◌, nat_lt, Option, Some, None, option_map, slice_get}
 use Rattle.std.proofs.lemmas.Bool.{ltb-true, ltb-false}
 use Rattle.std.proofs.lemmas.List.{append-nil, map-append, length-map}
+use Rattle.ll_lists.proofs.CallerLemmas.{slice_get-append_left as get_left, slice_get-append_right as get_right, map_same, map_map}
 use Rattle.ll_bank.specs.Term.{Term, Env, close}
 use Rattle.ll_bank.specs.Form.{Form, Atom, With, Lolli, Imp, Forall, close_form}
 use Rattle.ll_laws.specs.declared.Kind.TheVariants.{Linear, Unbounded}
 use Rattle.ll_laws.specs.Leaf.{Premise, Needs, NeedsFree, Leaf, add_premise, leaf_from, leaf, ways}
-use Rattle.ll_laws.proofs.CallerLemmas.{map_same, map_map, leaf_ways}
+use Rattle.ll_laws.proofs.CallerLemmas.{leaf_ways}
 use Rattle.ll_index.specs.Standing.{StandingPremise, StandingLeaf, leaves_under, standing_leaves, env_under, opened_premise, opened_leaf, LeavesStand, LeavesOpen}
 
 -- ---- lists one behind the other
-
-pub get_left : {A : Type 0} (xs ys : List A) (k : ℕ) → k < length xs → slice_get (xs ++ ys) k ≡ slice_get xs k
-get_left [] ys k h = absurd (omega arith)
-get_left (x ∷ xs) ys zero h = refl
-get_left (x ∷ xs) ys (suc k) h = get_left xs ys k (omega arith)
-
-pub get_right : {A : Type 0} (xs ys : List A) (k j : ℕ) → length xs + j ≡ k → slice_get (xs ++ ys) k ≡ slice_get ys j
-get_right [] ys k j h = ap (slice_get ys) (let e : k ≡ j = omega arith in e)
-get_right (x ∷ xs) ys zero j h = absurd (omega arith)
-get_right (x ∷ xs) ys (suc k) j h = get_right xs ys k j (omega arith)
 
 -- ---- there is one for each leaf
 

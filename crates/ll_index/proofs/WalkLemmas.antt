@@ -6,6 +6,7 @@ use Rattle.std.proofs.Math.Seq.{take-suc}
 use Rattle.std.proofs.Math.ListN.{get_or-append}
 use Rattle.std.proofs.lemmas.List.Sums.{sum_by-append}
 use Rattle.std.proofs.lemmas.List.Elements.{All-head, All-tail, All-push, All-cons, All-append}
+use Rattle.ll_lists.proofs.CallerLemmas.{All-front as All-before, All-last as All-last-of}
 use Rattle.ll_bank.specs.declared.FormAt.{FormAt}
 use Rattle.ll_bank.specs.Form.{Form, With, Lolli, Imp, Forall}
 use Rattle.ll_bank.specs.Nodes.{Nodes, form_tree, term_tree, HasForm}
@@ -23,12 +24,6 @@ use Rattle.ll_index.specs.Listed.{Listed, numbered, program_leaves, shown_premis
 use Rattle.ll_index.specs.Walks.{IsPart, part_leaves, waiting_leaves, walk_size, waiting_size, AddsLeaves, TakesPart, PutsUnder}
 
 -- ---- lists
-
-All-last-of : {A : Type 0} (P : A → Type 0) (xs : List A) (x : A) → All P (xs ++ x ∷ []) → P x
-All-last-of P xs x h = subst P (get_or_push xs x x (length xs) refl) (h (length xs) x (let e = length_push xs x in omega arith))
-
-All-before : {A : Type 0} (P : A → Type 0) (xs : List A) (x : A) → All P (xs ++ x ∷ []) → All P xs
-All-before P xs x h k d l = subst P (get_or-append xs (x ∷ []) d k l) (h k d (let e = length_push xs x in omega arith))
 
 All-become : {A : Type 0} (P Q : A → Type 0) → ((x : A) → P x → Q x) → (xs : List A) → All P xs → All Q xs
 All-become P Q f xs h k d l = f _ (h k d l)

@@ -6,6 +6,7 @@ use Rattle.std.proofs.lemmas.Bool.{eqb-true, eq-eqb}
 use Rattle.std.proofs.lemmas.List.{append-nil}
 use Rattle.std.proofs.Math.Bool.{or-true}
 use Rattle.std.proofs.lemmas.List.Concat.{flat_map-cons}
+use Rattle.ll_lists.proofs.CallerLemmas.{and_true_left as and_left, and_true_right as and_right}
 use Rattle.ll_bank.specs.Term.{Term, Var, sub, eigens_below}
 use Rattle.ll_bank.specs.Form.{Form, sub_form}
 use Rattle.ll_laws.specs.declared.Candidate.{Candidate}
@@ -22,7 +23,7 @@ use Rattle.ll_laws.specs.Unify.{Solved, mgu}
 use Rattle.ll_laws.specs.Consistent.{labels_differ}
 use Rattle.ll_laws.specs.Run.{Trace, trace_end, trace_step}
 use Rattle.ll_laws.specs.Dealt.{settled_line, front_line, after_line, replay}
-use Rattle.ll_laws.proofs.SubLaws.{and_left, and_right, sub_id, IsClosing}
+use Rattle.ll_laws.proofs.SubLaws.{sub_id, IsClosing}
 use Rattle.ll_laws.proofs.Leftovers.{same_trace}
 use Rattle.ll_laws.proofs.Grounding.{grounded, settle_grounded}
 use Rattle.ll_laws.proofs.Projected.{step_of, goes_steps, goes_line, Projects}

@@ -2,8 +2,9 @@
 use Rattle.std.proofs.Common.{◌≡◌, ◌≤◌, ◌<◌, ℕ, zero, suc, ◌+◌, refl, ap, subst, ◌∙◌, Bool, true, false, List, [], ◌∷◌, ◌++◌, map, length, replicate, arith}
 use Rattle.std.specs.Prelude.{◌||◌, nat_lt, nat_le, Option, Some, None, slice_get, slice_index, if◌then◌else◌}
 use Rattle.std.specs.List.{list_any, list_all}
-use Rattle.std.proofs.lemmas.Bool.{eqb-true, eq-eqb, ltb-true, ne_eqb, leb-true}
+use Rattle.std.proofs.lemmas.Bool.{eqb-true, eq-eqb, ltb-true, ne_eqb, leb-true, and_from as and_intro}
 use Rattle.std.proofs.Math.ListN.{get_or-append}
+use Rattle.ll_lists.proofs.CallerLemmas.{slice_index-append as old_level, and_true_left as and_left, and_true_right as and_right, or_elim as or_split}
 use Rattle.ll_bank.specs.declared.Head.TheVariants.{Name, Eigen, Bound}
 use Rattle.ll_bank.specs.Term.{Term, Var, Int, Con, Ap, sub, is_closed, eigens_below, has_eigen, occurs}
 use Rattle.ll_bank.specs.Form.{Form, Top, One, Atom, With, Tensor, Plus, Bang, Lolli, Imp, Forall, Exists, Use, form_has_eigen, Num, Is, Less, Most}
@@ -16,21 +17,17 @@ use Rattle.ll_laws.specs.Unify.{FitsLevel, vars_below}
 use Rattle.ll_laws.specs.Valid.{Allowed, given, AreModules, GoalSide, ClauseSide}
 use Rattle.ll_laws.specs.Consistent.{IsConsistent, AreGoals, AreResources, allowed_in}
 use Rattle.ll_laws.specs.Run.{IsFresh, MayChoose}
-use Rattle.ll_laws.proofs.SubLaws.{and_left, and_right, IsClosing}
+use Rattle.ll_laws.proofs.SubLaws.{IsClosing}
 use Rattle.ll_laws.proofs.UnifyLaws.{eigens-mono, fits-left, fits-right}
-use Rattle.ll_laws.proofs.ConsistentTerms.{and_intro, grows-refl}
+use Rattle.ll_laws.proofs.ConsistentTerms.{grows-refl}
 use Rattle.ll_laws.proofs.ConsistentForms.{Fits, fits_of_formula}
 use Rattle.ll_laws.proofs.ConsistentSteps.{module-fits}
-use Rattle.ll_laws.proofs.Leftovers.{or_split}
 use Rattle.ll_laws.proofs.Grounding.{or_none, Avoids, form_avoids, unfold_sub}
 use Rattle.ll_laws.proofs.Projected.{Ready, IsPlain}
 use Rattle.ll_laws.specs.Number.{holds}
 use Rattle.ll_laws.specs.declared.Step.TheVariants.{Plain}
 
 -- ---- levels
-
-pub old_level : (xs ys : List ℕ) (x : ℕ) → x < length xs → slice_index (xs ++ ys) x ≡ slice_index xs x
-old_level xs ys x l = get_or-append xs ys 0 x l
 
 pub new_level : (xs : List ℕ) (k e x : ℕ) → length xs ≤ x → x < length xs + k → slice_index (xs ++ replicate k e) x ≡ e
 new_level [] zero e x l h = absurd (omega (arith, h))

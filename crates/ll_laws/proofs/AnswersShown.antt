@@ -4,6 +4,7 @@ use Rattle.std.specs.Prelude.{◌&&◌, nat_lt, Option, Some, None, slice_get, s
 use Rattle.std.proofs.lemmas.Bool.{lt-ltb, cases_lt}
 use Rattle.std.proofs.lemmas.List.{map-append, length-map}
 use Rattle.std.proofs.Math.Seq.{drop-append_seam, take-append_seam, get_or-append_seam}
+use Rattle.ll_lists.proofs.CallerLemmas.{and_true_left as and_left, map_same, map_map, slice_index-append as old_level}
 use Rattle.ll_bank.specs.Term.{Term, Var, sub, is_closed, eigens_below, Int}
 use Rattle.ll_bank.specs.Form.{Form, Top, One, Atom, With, Tensor, Plus, Bang, Lolli, Imp, Forall, Exists, Use, sub_form, instantiate, Num, Is, Less, Most}
 use Rattle.ll_laws.specs.declared.Candidate.{Candidate}
@@ -23,7 +24,7 @@ use Rattle.ll_laws.specs.Dealt.{value, values}
 use Rattle.ll_laws.specs.Line.{ExistsLine}
 use Rattle.ll_laws.specs.Run.{goes_exists, MayChoose}
 use Rattle.ll_laws.specs.Run as Run
-use Rattle.ll_laws.proofs.SubLaws.{and_left, map_same, map_map, sub_comp, sub_instantiate, IsClosing}
+use Rattle.ll_laws.proofs.SubLaws.{sub_comp, sub_instantiate, IsClosing}
 use Rattle.ll_laws.proofs.SettleLaws.{settle_twice}
 use Rattle.ll_laws.proofs.UnifyBest.{found-unifier}
 use Rattle.ll_laws.proofs.ConsistentTerms.{Fit, fit-more, fit-vars, fit-made, Goes as GoesTo}
@@ -35,7 +36,7 @@ use Rattle.ll_laws.proofs.ConsistentSteps.{steps_consistent, entry-formula, leve
 use Rattle.ll_laws.proofs.Grounding.{grounded, closed_sub}
 use Rattle.ll_laws.proofs.Projected.{IsPlain, Projects, project, project_atom, project_value}
 use Rattle.ll_laws.proofs.AnswerRuns.{Among, from, Comes, settled_comes, answer_comes, step_comes, open_entry, found_entry, taken_from}
-use Rattle.ll_laws.proofs.AnswerSteps.{old_level, new_level, sub_below, ready, same_variables, may_choose}
+use Rattle.ll_laws.proofs.AnswerSteps.{new_level, sub_below, ready, same_variables, may_choose}
 use Rattle.ll_laws.specs.Number.{value_of}
 
 -- ---- inferences that make no variable

@@ -1,23 +1,5 @@
 -- What the crates above may cite of the laws of the language and its search, beside the public contracts.
 
--- ---- tests that hold together
-
--- where both hold, the first does
-pub use Rattle.ll_laws.proofs.SubLaws.{and_left}
--- where both hold, the second does
-pub use Rattle.ll_laws.proofs.SubLaws.{and_right}
--- where the first and the second hold, both do
-pub use Rattle.ll_laws.proofs.ConsistentTerms.{and_intro}
--- where one of two holds, what follows from each follows
-pub use Rattle.ll_laws.proofs.UnifyLaws.{or_cases}
--- nothing is below 0
-pub use Rattle.ll_laws.proofs.ConsistentTerms.{none_below}
--- ---- lists, element by element
-
--- a function over a function, element by element
-pub use Rattle.ll_laws.proofs.SubLaws.{map_map}
--- functions that agree on each element give the same list
-pub use Rattle.ll_laws.proofs.SubLaws.{map_same}
 -- ---- substitutions
 
 -- putting each variable for itself changes nothing

@@ -3,6 +3,7 @@ use Rattle.std.proofs.Common.{◌≡◌, ◌≤◌, ◌<◌, ℕ, zero, suc, ◌
 use Rattle.std.specs.Prelude.{◌&&◌, slice_index, slice_index_or}
 use Rattle.std.specs.List.{list_all}
 use Rattle.std.proofs.lemmas.Bool.{ltb-true}
+use Rattle.ll_lists.proofs.CallerLemmas.{and_true_left as and_left, and_true_right as and_right}
 use Rattle.ll_bank.specs.Term.{Term, Var, Int, Con, Ap, sub, is_closed, eigens_below}
 use Rattle.ll_bank.specs.Form.{Form, Top, One, Atom, With, Tensor, Plus, Bang, Lolli, Imp, Forall, Exists, Use, sub_form, Num}
 use Rattle.ll_laws.specs.Settle.{Entry, Item, Goal, LolliEnd, ImpEnd, WithMiddle, WithEnd, BangEnd}
@@ -13,7 +14,7 @@ use Rattle.ll_laws.specs.Valid.{Allowed, Side, GoalSide, ClauseSide, Scope}
 use Rattle.ll_laws.specs.Consistent.{AreGoals, AreResources, is_made}
 use Rattle.ll_laws.specs.Run.{MayChoose}
 use Rattle.ll_laws.specs.Dealt.{value}
-use Rattle.ll_laws.proofs.SubLaws.{and_left, and_right, IsClosing}
+use Rattle.ll_laws.proofs.SubLaws.{IsClosing}
 use Rattle.ll_laws.proofs.ConsistentTerms.{Fit, AllFit}
 use Rattle.ll_laws.proofs.ConsistentForms.{Fits, fits_of_formula, other, opens_on}
 

@@ -2,6 +2,8 @@
 use Rattle.std.proofs.Common.{◌≡◌, ℕ, refl, ap, subst, ◌∙◌, Bool, true, false, List, [], ◌∷◌, map, nat_eq}
 use Rattle.std.specs.Prelude.{◌&&◌, ◌||◌, not, if◌then◌else◌, nat_lt}
 use Rattle.std.specs.List.{list_all, list_any}
+use Rattle.std.proofs.lemmas.Bool.{and_from as and_intro}
+use Rattle.ll_lists.proofs.CallerLemmas.{and_true_left as and_left, and_true_right as and_right}
 use Rattle.ll_bank.specs.Term.{Term}
 use Rattle.ll_bank.specs.Form.{Form, sub_form}
 use Rattle.ll_laws.specs.declared.Kind.{Kind}
@@ -11,8 +13,7 @@ use Rattle.ll_laws.specs.State.{sub_item, sub_entry}
 use Rattle.ll_laws.specs.Attempt.{picked}
 use Rattle.ll_laws.specs.Valid.{Side, GoalSide, ClauseSide, Allowed, IsFormula}
 use Rattle.ll_laws.specs.Consistent.{may_live, marks_fit, is_of_kind, newest_is, begins_second_side, ends_fit, AreGoals, AreResources, labels_differ}
-use Rattle.ll_laws.proofs.SubLaws.{and_left, and_right}
-use Rattle.ll_laws.proofs.ConsistentTerms.{and_intro, Grows, Goes}
+use Rattle.ll_laws.proofs.ConsistentTerms.{Grows, Goes}
 use Rattle.ll_laws.proofs.ConsistentForms.{fits-more, fits-sub, fits_of_formula, formula_of_fits}
 
 -- ---- labels and kinds

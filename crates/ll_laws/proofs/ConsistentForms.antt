@@ -3,13 +3,14 @@ use Rattle.std.proofs.Common.{◌≡◌, ℕ, suc, refl, sym, subst, Bool, true,
 use Rattle.std.proofs.lemmas.List.{length-map}
 use Rattle.std.specs.Prelude.{◌&&◌, Option, Some, None, nat_eq, slice_get}
 use Rattle.std.specs.List.{list_all}
+use Rattle.std.proofs.lemmas.Bool.{and_from as and_intro}
+use Rattle.ll_lists.proofs.CallerLemmas.{and_true_left as and_left, and_true_right as and_right}
 use Rattle.ll_bank.specs.Term.{Term, Env, sub, close, head_of, is_spine, eigens_below}
 use Rattle.ll_bank.specs.Form.{Form, Top, One, Atom, With, Tensor, Plus, Bang, Lolli, Imp, Forall, Exists, Use, sub_form, close_form, Num}
 use Rattle.ll_laws.specs.Module.{ModuleTree}
 use Rattle.ll_laws.specs.Unify.{vars_below}
 use Rattle.ll_laws.specs.Valid.{Side, GoalSide, ClauseSide, Allowed, Scope, IsFormula, is_on, each_term, places_below, may_head, is_headed, is_atom, has_heads, fits_module, loads_fit}
-use Rattle.ll_laws.proofs.SubLaws.{and_left, and_right}
-use Rattle.ll_laws.proofs.ConsistentTerms.{and_intro, IsHead, Fit, AllFit, fit, fit-places, fit-headed, fit-vars, fit-eigens, Widens, Grows, is_head-more, fit-more, all_fit-more, Goes, is_head-sub, fit-sub, all_fit-sub, Closes, is_head-close, fit-close, all_fit-close}
+use Rattle.ll_laws.proofs.ConsistentTerms.{IsHead, Fit, AllFit, fit, fit-places, fit-headed, fit-vars, fit-eigens, Widens, Grows, is_head-more, fit-more, all_fit-more, Goes, is_head-sub, fit-sub, all_fit-sub, Closes, is_head-close, fit-close, all_fit-close}
 
 -- the other side
 abbrev pub other : Side → Side

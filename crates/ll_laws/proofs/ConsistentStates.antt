@@ -1,9 +1,10 @@
 -- The state in which a search starts is consistent, and settling keeps a state so.
 use Rattle.std.proofs.Common.{◌≡◌, ◌≤◌, ◌<◌, ℕ, zero, suc, ◌+◌, refl, ap, sym, subst, ◌∙◌, Bool, true, false, List, [], ◌∷◌, length, replicate, nat_eq, arith}
 use Rattle.std.proofs.lemmas.List.{length-replicate}
-use Rattle.std.proofs.lemmas.Bool.{lt-ltb, le-leb, ne_eqb}
+use Rattle.std.proofs.lemmas.Bool.{lt-ltb, le-leb, ne_eqb, and_from as and_intro}
 use Rattle.std.specs.Prelude.{◌&&◌, ◌||◌, not, if◌then◌else◌, nat_lt, nat_le, Option, Some, None}
 use Rattle.std.specs.List.{list_all, list_any}
+use Rattle.ll_lists.proofs.CallerLemmas.{and_true_left as and_left, and_true_right as and_right}
 use Rattle.ll_bank.specs.Form.{Form}
 use Rattle.ll_laws.specs.declared.Kind.{Kind}
 use Rattle.ll_laws.specs.declared.Kind.TheVariants.{Linear, Unbounded}
@@ -16,8 +17,7 @@ use Rattle.ll_laws.specs.Search.{program_entries}
 use Rattle.ll_laws.specs.Valid.{GoalSide, ClauseSide, Allowed, given, AreClauses}
 use Rattle.ll_laws.specs.Consistent.{may_live, marks_fit, is_of_kind, ends_fit, allowed_in, AreGoals, AreResources, is_made, labels_differ, IsConsistent}
 use Rattle.ll_laws.specs.Laws.{StartsConsistent, SettlesConsistent}
-use Rattle.ll_laws.proofs.SubLaws.{and_left, and_right}
-use Rattle.ll_laws.proofs.ConsistentTerms.{and_intro, Grows}
+use Rattle.ll_laws.proofs.ConsistentTerms.{Grows}
 use Rattle.ll_laws.proofs.ConsistentContexts.{alike-remark, alike-ends, alike-below, alike-differ, all_may, marks-fit, may-remark, marks-both, resources-remark, formula-more}
 
 -- ---- the start

@@ -2,9 +2,10 @@
 use Rattle.std.proofs.Common.{◌≡◌, ◌≤◌, ℕ, zero, suc, ◌+◌, refl, ap, sym, subst, ◌∙◌, Bool, true, false, List, [], ◌∷◌, ◌++◌, map, length, replicate, nat_eq, arith, ℤ}
 use Rattle.std.proofs.lemmas.List.{length-replicate, length-append, length-map}
 use Rattle.std.proofs.lemmas.List.Folds.{list_all-append}
-use Rattle.std.proofs.lemmas.Bool.{ltb-true, lt-ltb, leb-true, le-leb, eqb-true, ne_eqb}
+use Rattle.std.proofs.lemmas.Bool.{ltb-true, lt-ltb, leb-true, le-leb, eqb-true, ne_eqb, and_from as and_intro}
 use Rattle.std.specs.Prelude.{◌||◌, not, if◌then◌else◌, nat_lt, nat_le, Option, Some, None, slice_get, slice_index, option_map, option_and_then}
 use Rattle.std.specs.List.{list_all, list_any}
+use Rattle.ll_lists.proofs.CallerLemmas.{and_true_left as and_left, and_true_right as and_right, lt_more}
 use Rattle.ll_bank.specs.declared.Head.TheVariants.{Eigen}
 use Rattle.ll_bank.specs.Term.{Term, Var, Con, sub, Int}
 use Rattle.ll_bank.specs.Form.{Form, Top, One, Atom, With, Tensor, Plus, Bang, Lolli, Imp, Forall, Exists, Use, instantiate, Num, Is, Less, Most}
@@ -21,9 +22,8 @@ use Rattle.ll_laws.specs.Attempt.{is_linear, vars_from, entry_at, saved_of, pick
 use Rattle.ll_laws.specs.Valid.{GoalSide, ClauseSide, Allowed, Scope, IsFormula, given, AreClauses, AreModules, module_scope, fits_module}
 use Rattle.ll_laws.specs.Consistent.{ends_fit, allowed_in, AreGoals, AreResources, is_made, IsConsistent}
 use Rattle.ll_laws.specs.Laws.{StepsConsistent}
-use Rattle.ll_laws.proofs.SubLaws.{and_left, and_right}
 use Rattle.ll_laws.proofs.UnifyOver.{Falls, solve-falls}
-use Rattle.ll_laws.proofs.ConsistentTerms.{and_intro, lt_more, Fit, AllFit, widens-refl, Grows, fit-more, fit_of_made, fit-made, Goes, fit-sub}
+use Rattle.ll_laws.proofs.ConsistentTerms.{Fit, AllFit, widens-refl, Grows, fit-more, fit_of_made, fit-made, Goes, fit-sub}
 use Rattle.ll_laws.proofs.ConsistentForms.{Fits, fits_of_formula, formula_of_fits, fits-more, fits-close}
 use Rattle.ll_laws.proofs.ConsistentUnifier.{mgu-goes}
 use Rattle.ll_laws.proofs.ConsistentLeaves.{PremisesFit, LeafFits, leaf-fits, ClausesFit, unfold_load-fits}

@@ -1,24 +1,14 @@
 -- Terms of consistent states, by a type that goes down the term, and how weakening, substitution and closing keep it.
 use Rattle.std.proofs.Common.{◌≡◌, ℕ, zero, suc, ◌+◌, ◌≤◌, refl, subst, Bool, true, false, List, [], ◌∷◌, map, length, arith}
-use Rattle.std.proofs.lemmas.Bool.{ltb-true, lt-ltb}
+use Rattle.std.proofs.lemmas.Bool.{ltb-true, lt-ltb, and_from as and_intro}
 use Rattle.std.specs.Prelude.{◌&&◌, Option, Some, None, nat_lt, slice_index_or}
+use Rattle.ll_lists.proofs.CallerLemmas.{lt_more, lt_zero as none_below, and_true_left as and_left, and_true_right as and_right}
 use Rattle.ll_bank.specs.declared.Head.{Head}
 use Rattle.ll_bank.specs.declared.Head.TheVariants.{Name, Eigen, Bound}
 use Rattle.ll_bank.specs.Term.{Term, Var, Int, Con, Ap, sub, Env, place, close, head_of, is_closed, is_spine, eigens_below}
 use Rattle.ll_laws.specs.Unify.{vars_below}
 use Rattle.ll_laws.specs.Valid.{Allowed, Scope, places_below, may_head, is_headed}
 use Rattle.ll_laws.specs.Consistent.{is_made}
-use Rattle.ll_laws.proofs.SubLaws.{and_left, and_right}
-
-pub and_intro : (a b : Bool) → a ≡ true → b ≡ true → a && b ≡ true
-and_intro true b h i = i
-and_intro false b h i = h
-
-pub lt_more : (k m n : ℕ) → m ≤ n → nat_lt k m ≡ true → nat_lt k n ≡ true
-lt_more k m n le h = let l = ltb-true k m h in lt-ltb k n (omega arith)
-
-pub none_below : {P : Type 0} → (k : ℕ) → nat_lt k 0 ≡ true → P
-none_below k h = let l = ltb-true k 0 h in absurd (omega arith)
 
 -- the term has a head, and one that may be a predicate or have arguments
 abbrev pub IsHead : Scope → Term → Type 0

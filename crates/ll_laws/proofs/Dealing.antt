@@ -2,10 +2,11 @@
 use Rattle.std.proofs.Common.{◌≡◌, ℕ, refl, ap, sym, subst, ◌∙◌, Bool, true, false, List, [], ◌∷◌, ◌++◌, map, nat_eq, cond}
 use Rattle.std.specs.Prelude.{filter, ◌&&◌, ◌||◌, not, if◌then◌else◌}
 use Rattle.std.specs.List.{list_all, list_any}
-use Rattle.std.proofs.lemmas.Bool.{eqb-true, eq-eqb, ne_eqb, both_ways}
+use Rattle.std.proofs.lemmas.Bool.{eqb-true, eq-eqb, ne_eqb, both_ways, or_right as or_two, and_from as both, or_left as or_one}
 use Rattle.std.proofs.lemmas.List.{map-append}
 use Rattle.std.proofs.lemmas.List.Folds.{list_any-append}
 use Rattle.std.proofs.Math.Bool.{or-false}
+use Rattle.ll_lists.proofs.CallerLemmas.{false_from_not as not_of_true, or_false_left as or_off_left, or_false_right as or_off_right, and_true_left, and_true_left as and_one, and_true_right as and_two, or_elim as or_split}
 use Rattle.ll_bank.specs.Term.{Term, Con}
 use Rattle.ll_bank.specs.Form.{Form, Top, One, Atom, With, Tensor, Plus, Bang, Lolli, Imp, Forall, Exists, Use, instantiate, form_has_eigen, Num}
 use Rattle.ll_laws.specs.Leaf.{Premise, Needs, NeedsFree}
@@ -91,10 +92,6 @@ rest_selected q d = filter_by (λ l. not (has (labels (sel q d)) l.label)) (λ l
 all_in_labels : (d e : List Labelled) → ((l : Labelled) → has_label e l.label ≡ true → has_label d l.label ≡ true) → all_in (labels e) d ≡ true
 all_in_labels d [] h = refl
 all_in_labels d (l ∷ ls) h = rw (h l (has_here l ls)) (all_in_labels d ls (λ m k. h m (has_there l ls m.label k)))
-
-pub and_true_left : (a b : Bool) → (a && b) ≡ true → a ≡ true
-and_true_left true b h = refl
-and_true_left false b h = h
 
 all_in_selected : (q : ℕ → Bool) (d : List Labelled) → all_in (labels (sel q d)) d ≡ true
 all_in_selected q d = all_in_labels d (sel q d) (λ l h. and_true_left (has_label d l.label) (q l.label) (sym (has_sel q d l.label) ∙ h))
@@ -192,33 +189,9 @@ stays_later true l e h k = cc
 stays_later false true e h k = refl
 stays_later false false e h k = cc
 
-both : (a b : Bool) → a ≡ true → b ≡ true → (a && b) ≡ true
-both true b h k = k
-both false b h k = h
-
-and_one : (a b : Bool) → (a && b) ≡ true → a ≡ true
-and_one true b h = refl
-and_one false b h = h
-
-and_two : (a b : Bool) → (a && b) ≡ true → b ≡ true
-and_two true b h = h
-and_two false b h = cc
-
-or_one : (a b : Bool) → a ≡ true → (a || b) ≡ true
-or_one true b h = refl
-or_one false b h = cc
-
-or_two : (a b : Bool) → b ≡ true → (a || b) ≡ true
-or_two true b h = refl
-or_two false b h = h
-
 or_none : (a b : Bool) → a ≡ false → (a || b) ≡ true → b ≡ true
 or_none true b h k = cc
 or_none false b h k = k
-
-not_of_true : (b : Bool) → not b ≡ true → b ≡ false
-not_of_true true h = cc
-not_of_true false h = refl
 
 -- one tree and what comes after it: q tells which labels go to the tree
 module _ (p : ℕ → Bool) (x : Tree) (i : List Labelled) (later : ℕ → Bool) (wipes : Bool) (need : (n : ℕ) → has_label i n ≡ true → (uses n x || later n) ≡ true → p n ≡ true)
@@ -283,14 +256,6 @@ distinct_add (l ∷ ls) n r h k = step (nat_eq n l.label) refl (distinct_add ls 
 
 apart_sel : (c d : List Labelled) (q : ℕ → Bool) → Apart c d → Apart c (sel q d)
 apart_sel c d q h n k = no_sel q d n (h n k)
-
-pub or_off_left : (a b : Bool) → (a || b) ≡ false → a ≡ false
-or_off_left true b h = h
-or_off_left false b h = refl
-
-pub or_off_right : (a b : Bool) → (a || b) ≡ false → b ≡ false
-or_off_right true b h = cc
-or_off_right false b h = h
 
 apart_add : (c d : List Labelled) (n : ℕ) (r : Form) → Apart c d → has_label c n ≡ false → Apart c (d ++ record { label = n; clause = r } ∷ [])
 apart_add c d n r h k m e =
@@ -437,10 +402,6 @@ new_sel k g c i p h =
     rw h1 (list_any-append f (clauses c) (clauses (sel p i))
     ∙ (ap (λ b. b || list_any f (clauses (sel p i))) (or_off_left (list_any f (clauses c)) (list_any f (clauses i)) h2)
     ∙ list_any_sel f p i (or_off_right (list_any f (clauses c)) (list_any f (clauses i)) h2)))
-
-or_split : {P : Type 0} → (a b : Bool) → (a || b) ≡ true → (a ≡ true → P) → (b ≡ true → P) → P
-or_split true b h f g = f refl
-or_split false b h f g = g h
 
 drop_first : (a u e : Bool) → a ≡ false → ((a || u) || e) ≡ true → (u || e) ≡ true
 drop_first true u e h k = cc

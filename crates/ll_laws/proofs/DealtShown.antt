@@ -4,6 +4,7 @@ use Rattle.std.specs.Prelude.{not, filter, Some, slice_index_or, Contains}
 use Rattle.std.proofs.lemmas.List.{length-map}
 use Rattle.std.proofs.Math.Seq.{take-append_seam}
 use Rattle.std.specs.List.{list_all}
+use Rattle.std.proofs.lemmas.Bool.{and_from as and_intro}
 use Rattle.ll_laws.specs.declared.Kind.TheVariants.{Linear}
 use Rattle.ll_bank.specs.Term.{Term, Var, sub, is_closed}
 use Rattle.ll_bank.specs.Form.{sub_form}
@@ -26,7 +27,6 @@ use Rattle.ll_laws.proofs.Lines.{trees-count}
 use Rattle.ll_laws.proofs.Dealing.{labels}
 use Rattle.ll_laws.proofs.SubLaws.{IsClosing}
 use Rattle.ll_laws.proofs.DealtWhole.{AreRising, AreFormed, trace_rises, trace_formed, deal_formed, labels_rising}
-use Rattle.ll_laws.proofs.ConsistentTerms.{and_intro}
 use Rattle.ll_laws.proofs.ConsistentForms.{fits_of_formula}
 use Rattle.ll_laws.proofs.ConsistentStates.{starts_consistent, length-vars}
 use Rattle.ll_laws.proofs.Grounding.{grounded, sub_none_form}

@@ -2,8 +2,9 @@
 use Rattle.std.proofs.Common.{◌≡◌, ◌≤◌, ◌<◌, ℕ, suc, ◌+◌, refl, ap, sym, subst, ◌∙◌, Bool, true, false, List, [], ◌∷◌, ◌++◌, map, length, arith}
 use Rattle.std.specs.Prelude.{◌&&◌, not, filter, nat_lt, nat_eq, Option, Some, None, if◌then◌else◌, cond}
 use Rattle.std.specs.List.{list_all}
-use Rattle.std.proofs.lemmas.Bool.{ltb-true, lt-ltb}
+use Rattle.std.proofs.lemmas.Bool.{ltb-true, lt-ltb, and_from as and_intro}
 use Rattle.std.proofs.lemmas.List.Folds.{list_all-append}
+use Rattle.ll_lists.proofs.CallerLemmas.{and_true_left as and_left, and_true_right as and_right}
 use Rattle.ll_bank.specs.Term.{Term, is_closed}
 use Rattle.ll_bank.specs.Form.{Form}
 use Rattle.ll_laws.specs.Leaf.{Premise, Needs, NeedsFree}
@@ -16,8 +17,6 @@ use Rattle.ll_laws.specs.Line.{Line, OneLine, EraseLine, TensorLine, WithLine, L
 use Rattle.ll_laws.specs.Verdict.{labelled, same_kind}
 use Rattle.ll_laws.specs.Run.{Goes, goes_one, goes_top, goes_tensor, goes_left, goes_right, goes_with, goes_bang, goes_lolli, goes_imp, goes_forall, goes_exists, goes_use, goes_atom, Trace, trace_end, trace_step, MayChoose, goes_num}
 use Rattle.ll_laws.specs.Dealing.{deal, deal_parts, goes_to, uses, uses_part, erases, without}
-use Rattle.ll_laws.proofs.SubLaws.{and_left, and_right}
-use Rattle.ll_laws.proofs.ConsistentTerms.{and_intro}
 
 -- ---- the labels of what a run loads rise
 

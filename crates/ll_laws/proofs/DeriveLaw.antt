@@ -3,20 +3,13 @@ use Rattle.std.proofs.Common.{◌≡◌, ℕ, refl, ap, sym, subst, ◌∙◌, B
 use Rattle.std.proofs.lemmas.List.{map-append}
 use Rattle.std.specs.Prelude.{cond, ◌&&◌, not, Some, suc, if◌then◌else◌}
 use Rattle.std.specs.List.{list_all}
+use Rattle.ll_lists.proofs.CallerLemmas.{and_true_left as and_left, and_true_right as and_right}
 use Rattle.ll_bank.specs.Term.{Term, Con}
 use Rattle.ll_bank.specs.Form.{Form, Top, One, Atom, With, Tensor, Plus, Bang, Lolli, Imp, Forall, Exists, Use, instantiate, Num}
 use Rattle.ll_laws.specs.Leaf.{Premise, Needs, NeedsFree, leaf}
 use Rattle.ll_laws.specs.Module.{Setting, unfold_load}
 use Rattle.ll_laws.specs.Derive.{AreClosed, Dealt, dealt_none, dealt_left, dealt_right, Derivable, by_one, by_top, by_tensor, by_with, by_left, by_right, by_bang, by_lolli, by_imp, by_forall, by_exists, by_use, by_free, by_linear, Premises, no_premise, a_premise, a_free_premise, by_num}
 use Rattle.ll_laws.specs.Shows.{Tree, OneNode, EraseNode, TensorNode, WithNode, LeftNode, RightNode, BangNode, LolliNode, ImpNode, ForallNode, ExistsNode, UseNode, ClauseNode, Parts, NoParts, BoundedPart, UnboundedPart, nodes, part_nodes, Labelled, clauses, has, part, rest, one_of, Found, Missing, Took, behind, take_label, pick, pick_of, Shows, ShowsParts, NumNode}
-
-and_left : (a b : Bool) → a && b ≡ true → a ≡ true
-and_left true b h = refl
-and_left false b h = h
-
-and_right : (a b : Bool) → a && b ≡ true → b ≡ true
-and_right true b h = h
-and_right false b h = cc
 
 -- lists that take each element exactly once
 pub deal_two : (s t : List ℕ) (d : List Labelled) → list_all (λ l. one_of (has s l.label) (has t l.label)) d ≡ true → Dealt (clauses (part s d)) (clauses (part t d)) (clauses d)

@@ -4,6 +4,7 @@ use Rattle.std.specs.Prelude.{◌&&◌, ◌||◌, not, if◌then◌else◌, nat_
 use Rattle.std.specs.List.{list_any}
 use Rattle.std.proofs.lemmas.Bool.{eqb-true, eq-eqb, lt-ltb}
 use Rattle.std.proofs.lemmas.Bool.Decides.{Decides-int_eq}
+use Rattle.ll_lists.proofs.CallerLemmas.{false_from_not as not-true, and_true_left as and_one, and_true_right as and_two, slice_get-inside as slice_at}
 use Rattle.ll_bank.specs.declared.Head.TheVariants.{Eigen}
 use Rattle.ll_bank.specs.Term.{Term, Var, Int, Con, Ap}
 use Rattle.ll_bank.specs.Form.{Form, Top, One, Atom, With, Tensor, Plus, Bang, Lolli, Imp, Forall, Exists, Use, instantiate, form_has_eigen, Num}
@@ -14,14 +15,6 @@ use Rattle.ll_laws.specs.Fault.{Checked, Fits, Fault, then_check, unless, is_emp
 use Rattle.ll_laws.proofs.UnifyLaws.{head_eq-true, head_eq-refl}
 use Rattle.ll_laws.proofs.LeafWays.{leaf_ways}
 use Rattle.ll_laws.specs.Number.{holds}
-
-and_one : (a b : Bool) → (a && b) ≡ true → a ≡ true
-and_one true b h = refl
-and_one false b h = h
-
-and_two : (a b : Bool) → (a && b) ≡ true → b ≡ true
-and_two true b h = h
-and_two false b h = cc
 
 term_eq-true : (t u : Term) → term_eq t u ≡ true → t ≡ u
 term_eq-true (Var x) (Var y) h = ap Var (eqb-true x y h)
@@ -57,10 +50,6 @@ went (Fault k r) go m h = cc
 empty : (d : List Labelled) → is_empty d ≡ true → d ≡ []
 empty [] h = refl
 empty (l ∷ ls) h = cc
-
-not-true : (b : Bool) → not b ≡ true → b ≡ false
-not-true true h = cc
-not-true false h = refl
 
 -- what a clause node that is right has
 record Judge (a : Term) (k : ℕ) (ts : List Term) (ps : Parts) (f : Found) (go : List Premise → List Labelled → Checked) (m : ℕ) : Type 0 where
@@ -172,11 +161,6 @@ fits_parts beside NoParts c d [] h = (refl, no_more d h)
 fits_parts beside (BoundedPart s x ps) c d (Needs g ∷ gs) h = let r = fits_parts beside ps c (rest s d) gs h.2 in (r.0, rw h.0 r.1)
 fits_parts beside (UnboundedPart x ps) c d (NeedsFree g ∷ gs) h = fits_parts beside ps c d gs h.1
 fits_parts beside _ c d _ h = absurd h
-
-slice_at : (xs : List ℕ) (k n : ℕ) → slice_get xs k ≡ Some n → k < length xs
-slice_at [] k n h = cc
-slice_at (x ∷ xs) zero n h = omega arith
-slice_at (x ∷ xs) (suc k) n h = let r = slice_at xs k n h in omega arith
 
 judges : (a : Term) (k : ℕ) (ts : List Term) (ps : Parts) (r : Form) (e : List Labelled) (gs : List Premise) → leaf r k ts ≡ Some (record { premises = gs; head = a })
     → parts_fit ps gs ≡ true → parts_deal ps e ≡ true → judge_clause a k ts ps (Took r e) ≡ Right gs e

@@ -2,7 +2,8 @@
 use Rattle.std.proofs.Common.{◌≡◌, ℕ, zero, suc, refl, ap, sym, ◌∙◌, Bool, true, false, List, [], ◌∷◌, map, reverse, arith}
 use Rattle.std.specs.Prelude.{◌&&◌, ◌||◌, nat_lt, Option, Some, None, option_map}
 use Rattle.std.specs.List.{list_any}
-use Rattle.std.proofs.lemmas.Bool.{ltb-true, ne_eqb}
+use Rattle.std.proofs.lemmas.Bool.{ltb-true, ne_eqb, and_from as and_intro}
+use Rattle.ll_lists.proofs.CallerLemmas.{and_true_left as and_left, and_true_right as and_right, map_map, lt_zero as none_below}
 use mathlib.Core.List.{reverse_aux}
 use Rattle.ll_bank.specs.declared.Head.TheVariants.{Name, Eigen, Bound}
 use Rattle.ll_bank.specs.Term.{Term, Var, Int, Con, Ap, sub, has_eigen, is_closed, is_spine, Env}
@@ -13,9 +14,9 @@ use Rattle.ll_laws.specs.Module.{ModuleTree, ClauseTree, load, load_all, forall_
 use Rattle.ll_laws.specs.Settle.{Front}
 use Rattle.ll_laws.specs.State.{State, settle, front_of, with_front, sub_item, sub_entry, sub_state}
 use Rattle.ll_laws.specs.Valid.{Allowed, given, Side, Scope}
-use Rattle.ll_laws.proofs.SubLaws.{and_left, and_right, map_map, IsClosing, sub_env, sub_close_form}
+use Rattle.ll_laws.proofs.SubLaws.{IsClosing, sub_env, sub_close_form}
 use Rattle.ll_laws.proofs.SettleLaws.{settle-sub}
-use Rattle.ll_laws.proofs.ConsistentTerms.{and_intro, none_below, Fit, AllFit}
+use Rattle.ll_laws.proofs.ConsistentTerms.{Fit, AllFit}
 use Rattle.ll_laws.proofs.ConsistentForms.{Fits}
 use Rattle.ll_laws.proofs.ConsistentLeaves.{ClausesFit}
 

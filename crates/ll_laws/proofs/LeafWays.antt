@@ -2,24 +2,10 @@
 use Rattle.std.proofs.Common.{◌≡◌, ◌<◌, ℕ, zero, suc, ◌+◌, ◌-◌, refl, ap, ◌∙◌, Bool, true, false, List, [], ◌∷◌, ◌++◌, map, length, arith}
 use Rattle.std.specs.Prelude.{if◌then◌else◌, nat_lt, Option, Some, None, option_map, slice_get}
 use Rattle.std.proofs.lemmas.Bool.{ltb-true, ltb-false}
+use Rattle.ll_lists.proofs.CallerLemmas.{slice_get-append_left as get_left, slice_get-append_right as get_right, slice_get-map_suc as get_suc}
 use Rattle.ll_bank.specs.Term.{Term, Env}
 use Rattle.ll_bank.specs.Form.{Form, Atom, With, Lolli, Imp, Forall}
 use Rattle.ll_laws.specs.Leaf.{Premise, Leaf, add_premise, leaf_from, ways}
-
-get_left : (xs ys : List ℕ) (k : ℕ) → k < length xs → slice_get (xs ++ ys) k ≡ slice_get xs k
-get_left [] ys k h = absurd (omega arith)
-get_left (x ∷ xs) ys zero h = refl
-get_left (x ∷ xs) ys (suc k) h = get_left xs ys k (omega arith)
-
-get_right : (xs ys : List ℕ) (k j : ℕ) → length xs + j ≡ k → slice_get (xs ++ ys) k ≡ slice_get ys j
-get_right [] ys k j h = ap (slice_get ys) (let e : k ≡ j = omega arith in e)
-get_right (x ∷ xs) ys zero j h = absurd (omega arith)
-get_right (x ∷ xs) ys (suc k) j h = get_right xs ys k j (omega arith)
-
-get_suc : (xs : List ℕ) (k n : ℕ) → slice_get xs k ≡ Some n → slice_get (map (λ n. suc n) xs) k ≡ Some (suc n)
-get_suc [] k n h = cc
-get_suc (x ∷ xs) zero n h = let e : x ≡ n = cc in ap (λ z. Some (suc z)) e
-get_suc (x ∷ xs) (suc k) n h = get_suc xs k n h
 
 pub record Under (p : Premise) (o : Option Leaf) (l : Leaf) : Type 0 where
   pub inner : Leaf

@@ -2,10 +2,11 @@
 use Rattle.std.proofs.Common.{◌≡◌, ◌≤◌, ℕ, refl, ap, sym, subst, ◌∙◌, Bool, true, false, List, [], ◌∷◌, ◌++◌, map, nat_eq, length, arith, length-append}
 use Rattle.std.specs.Prelude.{◌&&◌, ◌||◌, not, cond, filter, if◌then◌else◌, Option, Some, None}
 use Rattle.std.specs.List.{list_any}
-use Rattle.std.proofs.lemmas.Bool.{eqb-true, eq-eqb, eqb-false, ne_eqb}
+use Rattle.std.proofs.lemmas.Bool.{eqb-true, eq-eqb, eqb-false, ne_eqb, or_right as or_two, or_left as or_one}
 use Rattle.std.proofs.lemmas.List.{append-nil, map-append}
 use Rattle.std.proofs.lemmas.List.Folds.{list_any-append}
 use Rattle.std.proofs.Math.Bool.{and-true, or-false, or-true}
+use Rattle.ll_lists.proofs.CallerLemmas.{or_false_left as or_off_left, or_false_right as or_off_right, and_true_left as and_one, and_true_right as and_two, or_elim as or_split, or_assoc}
 use Rattle.ll_bank.specs.Term.{Term}
 use Rattle.ll_bank.specs.Form.{Form, Bang, form_has_eigen}
 use Rattle.ll_laws.specs.Leaf.{Premise}
@@ -46,10 +47,6 @@ live_of (e ∷ es) = live_of es ++ when e.live (entry e)
 abbrev pub free_of : List (Entry Form) → List Labelled
 free_of [] = []
 free_of (e ∷ es) = when (not (is_linear e.kind)) (entry e) ++ free_of es
-
-pub or_assoc : (a b c : Bool) → ((a || b) || c) ≡ (a || (b || c))
-or_assoc true b c = refl
-or_assoc false b c = refl
 
 -- a run depends on the settled state alone
 pub same_trace : (beside : Setting) (ns : List Line) (s t : State) → settle s ≡ settle t → Trace beside ns s → Trace beside ns t
@@ -206,34 +203,6 @@ lolli_trace beside ns s saved rest e es v run = step (e.live && not v) refl
 
 pub shorter : (k : ℕ) (ns : List Line) (x : Tree) (more : List Line) → ns ≡ lines x ++ more → length ns ≤ k → length more ≤ k
 shorter k ns x more e le = let q = ap length e in let r = length-append (lines x) more in omega arith
-
-pub and_one : (a b : Bool) → (a && b) ≡ true → a ≡ true
-and_one true b h = refl
-and_one false b h = h
-
-pub and_two : (a b : Bool) → (a && b) ≡ true → b ≡ true
-and_two true b h = h
-and_two false b h = cc
-
-pub or_one : (a b : Bool) → a ≡ true → (a || b) ≡ true
-or_one true b h = refl
-or_one false b h = cc
-
-pub or_two : (a b : Bool) → b ≡ true → (a || b) ≡ true
-or_two true b h = refl
-or_two false b h = h
-
-pub or_split : {P : Type 0} → (a b : Bool) → (a || b) ≡ true → (a ≡ true → P) → (b ≡ true → P) → P
-or_split true b h f g = f refl
-or_split false b h f g = g h
-
-pub or_off_left : (a b : Bool) → (a || b) ≡ false → a ≡ false
-or_off_left true b h = h
-or_off_left false b h = refl
-
-pub or_off_right : (a b : Bool) → (a || b) ≡ false → b ≡ false
-or_off_right true b h = cc
-or_off_right false b h = h
 
 -- ---- the end of `&`
 module _ (x y : Tree) where

@@ -3,6 +3,7 @@ use Rattle.std.proofs.Common.{◌≡◌, ℕ, suc, ◌+◌, refl, ap, sym, subst
 use Rattle.std.specs.Prelude.{◌&&◌, nat_eq, if◌then◌else◌, Option, Some, None, option_and_then}
 use Rattle.std.specs.List.{list_all}
 use Rattle.std.proofs.lemmas.Bool.{eqb-true, eq-eqb}
+use Rattle.ll_lists.proofs.CallerLemmas.{and_true_left as and_one, and_true_right as and_two}
 use Rattle.ll_bank.specs.Term.{Term, is_closed}
 use Rattle.ll_laws.specs.Problem.{ProblemTree, setting_of}
 use Rattle.ll_laws.specs.Derive.{AreClosed, Derivable}
@@ -22,14 +23,6 @@ total (x ∷ xs) = nodes x + total xs
 abbrev AllClosed : List Tree → Type 0
 AllClosed [] = Unit {0}
 AllClosed (x ∷ xs) = HasClosedTerms x × AllClosed xs
-
-and_one : (a b : Bool) → (a && b) ≡ true → a ≡ true
-and_one true b h = refl
-and_one false b h = cc
-
-and_two : (a b : Bool) → (a && b) ≡ true → b ≡ true
-and_two true b h = h
-and_two false b h = cc
 
 -- the parts that were cut off and the trees left have the nodes of all
 cut-count : (ps : List PartLine) (ts : List Tree) (qs : Parts) (us : List Tree) → cut_parts ps ts ≡ Cuts qs us → part_nodes qs + total us ≡ total ts

@@ -2,9 +2,10 @@
 -- of the run stands for.
 use Rattle.std.proofs.Common.{◌≡◌, ◌≤◌, ℕ, zero, suc, ◌+◌, refl, ap, sym, subst, ◌∙◌, Bool, true, false, List, [], ◌∷◌, ◌++◌, map, length, replicate, reverse, arith}
 use Rattle.std.specs.Prelude.{◌&&◌, ◌||◌, if◌then◌else◌, ◌-◌, nat_lt, Option, Some, None, option_map, is_some, slice_get, slice_index_or}
-use Rattle.std.proofs.lemmas.Bool.{ltb-true, lt-ltb}
+use Rattle.std.proofs.lemmas.Bool.{ltb-true, lt-ltb, and_from as and_intro}
 use Rattle.std.proofs.Math.Bool.{or-true}
 use Rattle.std.proofs.lemmas.List.{append-nil, map-append, length-map, length-reverse}
+use Rattle.ll_lists.proofs.CallerLemmas.{and_true_left as and_left, and_true_right as and_right, map_map, lt_more, lt_zero as none_below}
 use mathlib.Core.List.{reverse_aux}
 use Rattle.ll_bank.specs.declared.Head.{Head}
 use Rattle.ll_bank.specs.declared.Head.TheVariants.{Name, Eigen, Bound}
@@ -17,8 +18,8 @@ use Rattle.ll_laws.specs.Module.{ClauseTree, ModuleTree, load, load_all, forall_
 use Rattle.ll_laws.specs.Valid.{Allowed, Side, GoalSide, ClauseSide, Scope, module_scope, fits_module}
 use Rattle.ll_laws.specs.Derive.{AreClosed}
 use Rattle.ll_laws.specs.Instance.{hide, is_eigen_head}
-use Rattle.ll_laws.proofs.SubLaws.{and_left, and_right, map_map, close_closed, IsClosing}
-use Rattle.ll_laws.proofs.ConsistentTerms.{and_intro, lt_more, none_below, IsHead, Fit, AllFit, Widens, widens-refl, is_head-sub, is_head-more, head_of_closed, widens-length, widens-may, Deep, deep-none}
+use Rattle.ll_laws.proofs.SubLaws.{close_closed, IsClosing}
+use Rattle.ll_laws.proofs.ConsistentTerms.{IsHead, Fit, AllFit, Widens, widens-refl, is_head-sub, is_head-more, head_of_closed, widens-length, widens-may, Deep, deep-none}
 use Rattle.ll_laws.proofs.ConsistentForms.{Fits, other, opens_on, fits_module-length}
 use Rattle.ll_laws.proofs.ConsistentLeaves.{ClausesFit, replicate-front}
 use Rattle.ll_laws.proofs.Grounding.{map_onto}

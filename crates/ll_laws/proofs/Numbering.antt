@@ -3,15 +3,13 @@
 use Rattle.std.proofs.Common.{◌≡◌, ◌<◌, ℕ, suc, refl, ap, sym, ◌∙◌, Bool, true, false, List, [], ◌∷◌, map, nat_eq, arith}
 use Rattle.std.specs.Prelude.{◌&&◌, if◌then◌else◌, Option, Some, None, is_some}
 use Rattle.std.specs.List.{list_any}
-use Rattle.std.proofs.lemmas.Bool.{lt-ltb, ne_eqb, eq-eqb, eqb-false}
+use Rattle.std.proofs.lemmas.Bool.{lt-ltb, ne_eqb, eq-eqb, eqb-false, and_from as and_intro}
+use Rattle.ll_lists.proofs.CallerLemmas.{and_true_left as and_left, and_true_right as and_right, or_false_left as or_off_left, or_false_right as or_off_right}
 use Rattle.ll_bank.specs.declared.Head.TheVariants.{Name, Eigen, Bound}
 use Rattle.ll_bank.specs.Term.{Term, Var, Int, Con, Ap, head_of, is_closed, is_spine, has_eigen, eigens_below}
 use Rattle.ll_bank.specs.Form.{Form, Top, One, Atom, With, Tensor, Plus, Bang, Lolli, Imp, Forall, Exists, Use, form_has_eigen, Num}
 use Rattle.ll_laws.specs.Derive.{AreClosed}
 use Rattle.ll_laws.specs.Run.{MayChoose}
-use Rattle.ll_laws.proofs.SubLaws.{and_left, and_right}
-use Rattle.ll_laws.proofs.ConsistentTerms.{and_intro}
-use Rattle.ll_laws.proofs.Leftovers.{or_off_left, or_off_right}
 use Rattle.ll_laws.proofs.AnswerSteps.{eigens_none}
 use Rattle.ll_laws.proofs.Moving.{Numbers, known, numbered, move, move_form, More}
 use Rattle.ll_laws.proofs.Grounding.{or_none}

@@ -3,6 +3,7 @@ use Rattle.std.proofs.Common.{◌≡◌, ℕ, zero, suc, refl, ap, sym, subst, �
 use Rattle.std.specs.Prelude.{if◌then◌else◌, Option, Some, None, option_map, slice_get, slice_index}
 use Rattle.std.specs.List.{list_any}
 use Rattle.std.proofs.lemmas.List.{map-append, length-map}
+use Rattle.ll_lists.proofs.CallerLemmas.{map_map, map_same, or_false_left as or_off_left, or_false_right as or_off_right}
 use Rattle.ll_bank.specs.declared.Head.TheVariants.{Eigen}
 use Rattle.ll_bank.specs.Term.{Term, Con, sub, Int}
 use Rattle.ll_bank.specs.Form.{Form, Top, One, Atom, With, Tensor, Plus, Bang, Lolli, Imp, Forall, Exists, Use, sub_form, instantiate, Num, Relation, Is, Less, Most}
@@ -19,8 +20,7 @@ use Rattle.ll_laws.specs.Derive.{IsNew}
 use Rattle.ll_laws.specs.Line.{Line, WithLine, LeftLine, RightLine, BangLine, UseLine, ForallLine, ExistsLine, ClauseLine, part_line, NumLine}
 use Rattle.ll_laws.specs.Run.{Goes, goes_one, goes_top, goes_tensor, goes_left, goes_right, goes_with, goes_bang, goes_lolli, goes_imp, goes_forall, goes_exists, goes_use, goes_atom, taken_by, IsFresh, MayChoose, goes_num}
 use Rattle.ll_laws.specs.Dealt.{value, values, On, replayed, atom_leaf, atom_line, line_of}
-use Rattle.ll_laws.proofs.SubLaws.{sub_comp, sub_form_comp, map_map, map_same, IsClosing, sub_instantiate, leaf-sub, ways-sub, sub_premise, sub_leaf}
-use Rattle.ll_laws.proofs.Leftovers.{or_off_left, or_off_right}
+use Rattle.ll_laws.proofs.SubLaws.{sub_comp, sub_form_comp, IsClosing, sub_instantiate, leaf-sub, ways-sub, sub_premise, sub_leaf}
 use Rattle.ll_laws.proofs.Grounding.{grounded}
 use Rattle.ll_laws.specs.Number.{value_of, holds}
 use Rattle.ll_laws.proofs.Numbers.{value_sub, holds_sub, is_holds}

@@ -4,6 +4,7 @@ use Rattle.std.specs.Prelude.{filter, ◌||◌, not, if◌then◌else◌}
 use Rattle.std.specs.List.{list_any}
 use Rattle.std.proofs.lemmas.Bool.{eqb-true, eq-eqb, both_ways}
 use Rattle.std.proofs.lemmas.List.Folds.{list_any-append}
+use Rattle.ll_lists.proofs.CallerLemmas.{or_false_right as or_off_right}
 use Rattle.ll_bank.specs.Form.{Form, Top, One, Atom, With, Tensor, Plus, Bang, Lolli, Imp, Forall, Exists, Use, instantiate, form_has_eigen, Num}
 use Rattle.ll_laws.specs.Leaf.{Premise, Needs, NeedsFree}
 use Rattle.ll_laws.specs.Module.{Setting, unfold_load}
@@ -11,7 +12,7 @@ use Rattle.ll_laws.specs.Derive.{IsNew}
 use Rattle.ll_laws.specs.Shows.{Tree, OneNode, EraseNode, TensorNode, WithNode, LeftNode, RightNode, BangNode, LolliNode, ImpNode, ForallNode, ExistsNode, UseNode, ClauseNode, Parts, NoParts, BoundedPart, UnboundedPart, Labelled, clauses, has_label, Found, Missing, Took, behind, take_label, pick, pick_of, NumNode}
 use Rattle.ll_laws.specs.Dealing.{uses}
 use Rattle.ll_laws.specs.Lazy.{Lazy, LazyParts, Agree}
-use Rattle.ll_laws.proofs.Dealing.{Distinct, distinct_sel, distinct_add, taken_distinct, or_off_right}
+use Rattle.ll_laws.proofs.Dealing.{Distinct, distinct_sel, distinct_add, taken_distinct}
 
 -- the second list has the clauses of the first, in any order
 pub data Reordered : List Labelled → List Labelled → Type 0 where

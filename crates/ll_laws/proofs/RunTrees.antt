@@ -3,6 +3,7 @@ use Rattle.std.proofs.Common.{◌≡◌, ◌≤◌, ℕ, zero, suc, refl, ap, sy
 use Rattle.std.specs.Prelude.{◌&&◌, ◌||◌}
 use Rattle.std.proofs.lemmas.List.{append-nil}
 use Rattle.std.proofs.Math.Bool.{or-false, or-true}
+use Rattle.ll_lists.proofs.CallerLemmas.{or_assoc}
 use Rattle.ll_bank.specs.declared.Head.TheVariants.{Eigen}
 use Rattle.ll_bank.specs.Term.{Con}
 use Rattle.ll_bank.specs.Form.{Form, Bang, instantiate}
@@ -18,7 +19,7 @@ use Rattle.ll_laws.specs.Line.{Labels, Free, Line, TensorLine, WithLine, LeftLin
 use Rattle.ll_laws.specs.Run.{Goes, goes_one, goes_top, goes_tensor, goes_left, goes_right, goes_with, goes_bang, goes_lolli, goes_imp, goes_forall, goes_exists, goes_use, goes_atom, Trace, taken_by, goes_num}
 use Rattle.ll_laws.specs.Dealing.{uses, erases, erases_part}
 use Rattle.ll_laws.specs.Lazy.{Lazy, LazyParts}
-use Rattle.ll_laws.proofs.Leftovers.{used_clause, used_then, used_parts_then, used_parts_none, used_none, on, use_entry, used_up, entry, live_of, free_of, or_assoc, first_step, settled_goal, Sound, live_used, free_used, remark_used, mid_trace, with_none, with_some, bang_trace, imp_trace, lolli_trace, shorter, with_joined, remark_to, remark_unlive, live_unlive, free_unlive, live_fresh, free_fresh, spent_or, sound_used, sound_unlive, sound_picked, free_picked, new_parts, closed_terms, take_entry, used_parts, bang_tree, Stepped, After, AfterParts}
+use Rattle.ll_laws.proofs.Leftovers.{used_clause, used_then, used_parts_then, used_parts_none, used_none, on, use_entry, used_up, entry, live_of, free_of, first_step, settled_goal, Sound, live_used, free_used, remark_used, mid_trace, with_none, with_some, bang_trace, imp_trace, lolli_trace, shorter, with_joined, remark_to, remark_unlive, live_unlive, free_unlive, live_fresh, free_fresh, spent_or, sound_used, sound_unlive, sound_picked, free_picked, new_parts, closed_terms, take_entry, used_parts, bang_tree, Stepped, After, AfterParts}
 
 IH : Setting → ℕ → Type 0
 IH beside k = (ns : List Line) → length ns ≤ k → (s : State) (g : Form) (rest : List (Item Form)) (es : List (Entry Form)) (v : Bool) → Sound es → Trace beside ns (on s (Goal g ∷ rest) es v) → After beside ns rest es v g

@@ -5,6 +5,7 @@ use Rattle.std.specs.List.{list_any}
 use Rattle.std.proofs.lemmas.Bool.{eqb-true, ne_eqb, both_ways}
 use Rattle.std.proofs.lemmas.List.{append-nil}
 use Rattle.std.proofs.Math.Bool.{or-false, or-true}
+use Rattle.ll_lists.proofs.CallerLemmas.{or_elim as or_split, or_false_left as or_off_left, or_false_right as or_off_right}
 use Rattle.ll_bank.specs.Term.{Term}
 use Rattle.ll_bank.specs.Form.{Form}
 use Rattle.ll_laws.specs.declared.Kind.{Kind}
@@ -23,7 +24,7 @@ use Rattle.ll_laws.specs.Dealing.{uses, erases, deal}
 use Rattle.ll_laws.specs.Lazy.{Lazy}
 use Rattle.ll_laws.proofs.Dealing.{has_append, labels, sel, Distinct, Apart, dealt_shows}
 use Rattle.ll_laws.proofs.Reordered.{Reordered, no_clause, same_first, both_orders, to_front, orders_back, has_same, distinct_same, lazy_same}
-use Rattle.ll_laws.proofs.Leftovers.{on, used_up, entry, when, live_of, free_of, Sound, or_split, or_off_left, or_off_right}
+use Rattle.ll_laws.proofs.Leftovers.{on, used_up, entry, when, live_of, free_of, Sound}
 use Rattle.ll_laws.proofs.RunTrees.{tree_of_run}
 
 -- ---- the nodes of a tree make this tree

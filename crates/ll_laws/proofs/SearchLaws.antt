@@ -3,6 +3,7 @@ use Rattle.std.proofs.Common.{◌≡◌, ℕ, zero, suc, ◌≤◌, refl, ap, sy
 use Rattle.std.proofs.lemmas.List.Folds.{list_any-append}
 use Rattle.std.proofs.lemmas.List.Sums.{sum_by-cons}
 use Rattle.std.specs.Prelude.{Option, Some, None, flat_map, sum_by, ◌||◌}
+use Rattle.ll_lists.proofs.CallerLemmas.{or_false_left as or_left, or_false_right as or_right}
 use Rattle.ll_laws.specs.Module.{Setting}
 use Rattle.ll_laws.specs.declared.Event.{Event}
 use Rattle.ll_laws.specs.declared.Event.TheVariants.{Reached}
@@ -57,14 +58,6 @@ pub cost_step : (ms : Setting) (n : ℕ) (s t : State) (i : Item Form) (rest : L
     → cost ms (suc n) s ≡ suc (sum_by (cost ms n) (successors ms t))
 unfolding cost
 cost_step ms n s t i rest h e = rw (h, cost_settled) (cost_with_goal (λ x. suc (sum_by (cost ms n) (successors ms x))) t t.agenda i rest e)
-
-or_left : (a b : Bool) → (a || b) ≡ false → a ≡ false
-or_left false b h = refl
-or_left true b h = cc
-
-or_right : (a b : Bool) → (a || b) ≡ false → b ≡ false
-or_right false b h = h
-or_right true b h = cc
 
 -- two searches of each element agree where the first reaches no bound
 same_flat : (f g : State → List Event) (us : List State) → ((u : State) → any_reached (f u) ≡ false → g u ≡ f u)

@@ -4,6 +4,7 @@ use Rattle.std.specs.Prelude.{◌||◌, Some, slice_get, slice_index, slice_inde
 use Rattle.std.specs.List.{list_any, list_all}
 use Rattle.std.proofs.lemmas.List.{length-map}
 use Rattle.std.proofs.Math.Bool.{or-true}
+use Rattle.ll_lists.proofs.CallerLemmas.{and_true_left as and_left, and_true_right as and_right, map_map, map_same}
 use Rattle.ll_bank.specs.Term.{Term, Var, sub, is_closed, eigens_below}
 use Rattle.ll_laws.specs.declared.Event.{Event}
 use Rattle.ll_laws.specs.declared.Event.TheVariants.{Reached, Answer}
@@ -17,7 +18,7 @@ use Rattle.ll_laws.specs.Run.{Trace, Run, run_start}
 use Rattle.ll_laws.specs.Dealt.{value}
 use Rattle.ll_laws.specs.Instance.{IsInstance, hide}
 use Rattle.ll_laws.specs.Completeness.{FitLevels, answers_in, ShownIsFound, ShownIsAnswered, ShownIsNumbered, NothingIsShown}
-use Rattle.ll_laws.proofs.SubLaws.{and_left, and_right, map_map, map_same, sub_comp}
+use Rattle.ll_laws.proofs.SubLaws.{sub_comp}
 use Rattle.ll_laws.proofs.SearchLaws.{events_steady}
 use Rattle.ll_laws.proofs.ConsistentStates.{starts_consistent}
 use Rattle.ll_laws.proofs.Grounding.{grounded, closed_sub}

@@ -3,6 +3,7 @@ use Rattle.std.proofs.Common.{◌≡◌, ◌⊎◌, inl, inr, ℕ, suc, refl, ap
 use Rattle.std.specs.Prelude.{◌||◌, not, Some, option_map, is_some, slice_get}
 use Rattle.std.specs.List.{list_any}
 use Rattle.std.proofs.lemmas.Bool.{eqb-true}
+use Rattle.ll_lists.proofs.CallerLemmas.{and_true_right as and_right, or_false_left as or_off_left, or_false_right as or_off_right}
 use Rattle.ll_bank.specs.declared.Head.TheVariants.{Eigen}
 use Rattle.ll_bank.specs.Term.{Term, Con, is_closed}
 use Rattle.ll_bank.specs.Form.{Form, Top, One, Atom, With, Tensor, Plus, Bang, Lolli, Imp, Forall, Exists, Use, instantiate, form_has_eigen, Num}
@@ -16,13 +17,12 @@ use Rattle.ll_laws.specs.Derive.{AreClosed}
 use Rattle.ll_laws.specs.Valid.{AreModules, GoalSide, ClauseSide, module_scope, fits_module}
 use Rattle.ll_laws.specs.Shows.{Tree, OneNode, EraseNode, TensorNode, WithNode, LeftNode, RightNode, BangNode, LolliNode, ImpNode, ForallNode, ExistsNode, UseNode, ClauseNode, Parts, NoParts, BoundedPart, UnboundedPart, Labelled, clauses, has, has_label, part, rest, one_of, splits, Found, Missing, Took, take_label, pick, pick_of, nodes, part_nodes, Shows, ShowsParts, NumNode}
 use Rattle.ll_laws.specs.Dealing.{uses, erases}
-use Rattle.ll_laws.proofs.SubLaws.{and_right}
 use Rattle.ll_laws.proofs.ConsistentLeaves.{ClausesFit}
 use Rattle.ll_laws.proofs.ConsistentSteps.{module-fits}
 use Rattle.ll_laws.proofs.ConsistentStates.{grows_given}
 use Rattle.ll_laws.proofs.AnswerRuns.{Among}
 use Rattle.ll_laws.proofs.Dealing.{distinct_sel}
-use Rattle.ll_laws.proofs.Leftovers.{used_up, or_off_left, or_off_right}
+use Rattle.ll_laws.proofs.Leftovers.{used_up}
 use Rattle.ll_laws.proofs.Moving.{Numbers, clear, Fills, move, move_form, move_premise, move_leaf, TameForm, TamePremises, leaf_move, leaf_tame, move_close_form, form-close, form-more, unfold_tame, unfold_move, numbered}
 use Rattle.ll_laws.proofs.Numbering.{add_number, own-number, more-numbers, form-fresh, form-new, moved-choice}
 use Rattle.ll_laws.proofs.RunEnds.{picked_dead, unbounded_dead}

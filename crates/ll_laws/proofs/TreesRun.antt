@@ -2,8 +2,9 @@
 use Rattle.std.proofs.Common.{◌≡◌, ◌≤◌, ◌⊎◌, inl, inr, ℕ, suc, ◌+◌, refl, ap, sym, subst, ◌∙◌, Bool, true, false, List, [], ◌∷◌, ◌++◌, map, nat_eq, arith, append_assoc}
 use Rattle.std.specs.Prelude.{◌&&◌, ◌||◌, not, Some, slice_get}
 use Rattle.std.specs.List.{list_any}
-use Rattle.std.proofs.lemmas.Bool.{eqb-true, eq-eqb, ne_eqb, eqb-false}
+use Rattle.std.proofs.lemmas.Bool.{eqb-true, eq-eqb, ne_eqb, eqb-false, or_left as or_one, or_right as or_two}
 use Rattle.std.proofs.Math.Bool.{or-false, or-true}
+use Rattle.ll_lists.proofs.CallerLemmas.{and_true_right as and_right, or_assoc, or_elim as or_split, or_false_left as or_off_left, or_false_right as or_off_right}
 use Rattle.ll_bank.specs.declared.Head.TheVariants.{Eigen}
 use Rattle.ll_bank.specs.Term.{Term, Con}
 use Rattle.ll_bank.specs.Form.{Form, Top, One, Atom, With, Tensor, Plus, Bang, Lolli, Imp, Forall, Exists, Use, instantiate}
@@ -19,10 +20,9 @@ use Rattle.ll_laws.specs.Shows.{Tree, OneNode, EraseNode, TensorNode, WithNode, 
 use Rattle.ll_laws.specs.Line.{Line, TensorLine, WithLine, BangLine, ClauseLine, Labels, Free, lines, lines_of_parts, part_lines, part_line}
 use Rattle.ll_laws.specs.Run.{goes_one, goes_top, goes_tensor, goes_left, goes_right, goes_with, goes_bang, goes_lolli, goes_imp, goes_forall, goes_exists, goes_use, goes_atom, Trace, MayChoose}
 use Rattle.ll_laws.specs.Dealing.{uses, uses_part, erases, erases_part}
-use Rattle.ll_laws.proofs.SubLaws.{and_right}
 use Rattle.ll_laws.proofs.AnswerRuns.{Among, among_either}
 use Rattle.ll_laws.proofs.LeafTries.{among_left, among_right}
-use Rattle.ll_laws.proofs.Leftovers.{on, use_entry, used_up, used_parts, used_none, used_then, used_parts_none, used_parts_then, used_clause, remark_used, remark_to, remark_unlive, or_assoc, or_one, or_two, or_split, or_off_left, or_off_right, Sound}
+use Rattle.ll_laws.proofs.Leftovers.{on, use_entry, used_up, used_parts, used_none, used_then, used_parts_none, used_parts_then, used_clause, remark_used, remark_to, remark_unlive, Sound}
 use Rattle.ll_laws.proofs.Moving.{Numbers}
 use Rattle.ll_laws.proofs.RunEnds.{begin, mid_back, with_back, bang_back, imp_back, lolli_back, Joined, joined, entry_map, entry_behind, not_new, picked_other, live_linear, found_by_label}
 use Rattle.ll_laws.proofs.Sitting.{in_filter, filter_in, all_pass, other_label, Sits, add_label, own_label, kept_label, new_entry}

@@ -2,40 +2,17 @@
 use Rattle.std.proofs.Common.{◌≡◌, ◌≢◌, ◌<◌, ◌≤◌, ℕ, zero, suc, ◌+◌, refl, ap, sym, subst, ◌∙◌, Bool, true, false, List, [], ◌∷◌, map, length, arith, nat_eq, inl, inr}
 use Rattle.std.specs.Prelude.{◌&&◌, ◌||◌, not, Option, Some, None, option_map, option_and_then, if◌then◌else◌, nat_lt, cond, slice_index, slice_set, min}
 use Rattle.std.specs.Ordering.{int_eq}
-use Rattle.std.proofs.lemmas.Bool.{eqb-true, eqb-false, ne_eqb, eq-eqb, ltb-true, ltb-false, lt-ltb}
+use Rattle.std.proofs.lemmas.Bool.{eqb-true, eqb-false, ne_eqb, eq-eqb, ltb-true, ltb-false, lt-ltb, or_right as or_true_right, and_from as and_both, or_left as or_true_left, false_from_ne_true as not_occurs}
 use Rattle.std.proofs.Math.Dec.{eqb-suc-zero, eqb-zero-suc, eqb-suc-suc}
 use Rattle.std.proofs.lemmas.Bool.Decides.{Decides-int_eq}
 use Rattle.std.proofs.lemmas.Bool.{cases_lt, both_ways}
 use Rattle.std.specs.List.{list_any}
+use Rattle.ll_lists.proofs.CallerLemmas.{or_false_left, or_false_right, or_elim as or_cases, and_true_left as and_left, and_true_right as and_right, map_same, map_map}
 use Rattle.ll_bank.specs.declared.Head.{Head}
 use Rattle.ll_bank.specs.declared.Head.TheVariants.{Name, Eigen, Bound}
 use Rattle.ll_bank.specs.Term.{Term, Var, Int, Con, Ap, sub, occurs, eigens_below, eigen_below, head_eq}
 use Rattle.ll_laws.specs.Unify.{Diff, Same, Clash, Meet, and_then, when, diff_var, diff, diff_lists, bound_to, lower, Solved, Binding, is_older, bind, bind_term, after, resolve, solve, FitsLevel, Respects, Unifies}
-use Rattle.ll_laws.proofs.SubLaws.{and_left, and_right, map_same, map_map, sub_comp, sub_same}
-
-and_both : (a b : Bool) → a ≡ true → b ≡ true → a && b ≡ true
-and_both true b h i = i
-and_both false b h i = h
-
-or_true_left : (a b : Bool) → a ≡ true → (a || b) ≡ true
-or_true_left true b h = refl
-or_true_left false b h = cc
-
-or_true_right : (a b : Bool) → b ≡ true → (a || b) ≡ true
-or_true_right true b h = refl
-or_true_right false b h = h
-
-pub or_cases : {P : Type 0} → (a b : Bool) → (a || b) ≡ true → (a ≡ true → P) → (b ≡ true → P) → P
-or_cases true b h p q = p refl
-or_cases false b h p q = q h
-
-or_false_left : (a b : Bool) → (a || b) ≡ false → a ≡ false
-or_false_left true b h = h
-or_false_left false b h = refl
-
-or_false_right : (a b : Bool) → (a || b) ≡ false → b ≡ false
-or_false_right true b h = cc
-or_false_right false b h = h
+use Rattle.ll_laws.proofs.SubLaws.{sub_comp, sub_same}
 
 pub head_eq-true : (h k : Head) → head_eq h k ≡ true → h ≡ k
 head_eq-true (Name m) (Name n) e = ap Name (eqb-true m n e)
@@ -529,10 +506,6 @@ agreed_var levels x y s new vs e r h a ne = step (is_older levels x y) refl
           value = a;
           free = ne_eqb x y (λ q. ne (ap Var (sym q)));
         }
-
-not_occurs : (b : Bool) → (b ≡ true → ⊥) → b ≡ false
-not_occurs true f = absurd (f refl)
-not_occurs false f = refl
 
 pub agreed : (levels : List ℕ) (x : ℕ) (t : Term) (s : ℕ → Term) (new vs : List ℕ) → s x ≡ sub s t → Respects levels s new → MeetIn vs (Meet x t) → Agreed levels x t s new vs
 agreed levels x (Var y) s new vs e r m = agreed_var levels x y s new vs e r m.0 m.1 m.2

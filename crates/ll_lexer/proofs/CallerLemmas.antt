@@ -26,5 +26,3 @@ pub use Rattle.ll_lexer.proofs.ReadBack.{spelled-read}
 pub use Rattle.ll_lexer.proofs.Longest.{number-longest}
 -- a minus and the digits behind it are read as one number
 pub use Rattle.ll_lexer.proofs.Longest.{negative-longest}
--- where both hold, each does
-pub use Rattle.ll_lexer.proofs.Spelled.{both}

@@ -7,10 +7,12 @@ use Rattle.std.proofs.lemmas.List.{take-append-drop}
 use Rattle.std.proofs.lemmas.List.Sums.{prefix_len-le-length}
 use Rattle.std.proofs.lemmas.Bool.Decides.{nat_tests, Decides-eqb}
 use Rattle.std.proofs.lemmas.Slice.Eq.{bytes_eq-Decides, starts_is}
+use Rattle.std.proofs.lemmas.Bool.{or_parts as neither}
+use Rattle.ll_lists.proofs.CallerLemmas.{run_passes as run-passes, and_true_both as both}
 use Rattle.ll_lexer.specs.declared.TokenKind.{TokenKind}
 use Rattle.ll_lexer.specs.declared.TokenKind.TheVariants.{Name, Variable, Number, Minus}
 use Rattle.ll_lexer.specs.Spelling.{is_lower, is_upper, is_digit, is_word_start, is_word_byte, is_word, is_name, is_variable, is_numeral, is_number, fixed_spellings, listed_kind, shaped_kind, kind_of, Spells, IsLongest, HasNone}
-use Rattle.ll_lexer.proofs.Spelled.{kind-passes, ShapesPass, both}
+use Rattle.ll_lexer.proofs.Spelled.{kind-passes, ShapesPass}
 
 -- ---- bytes
 
@@ -141,14 +143,6 @@ first-begins x u k n s =
     } x u k (rw n refl) s in absurd cc
 
 -- ---- runs
-
-pub run-passes : (p : ℕ → Bool) (bs : List ℕ) → list_all p (take (prefix_len p bs) bs) ≡ true
-run-passes p [] = refl
-run-passes p (b ∷ bs) = by-test (p b) refl (run-passes p bs)
-  where
-    by-test : (v : Bool) → p b ≡ v → list_all p (take (prefix_len p bs) bs) ≡ true → list_all p (take (cond v (1 + prefix_len p bs) 0) (b ∷ bs)) ≡ true
-    by-test true e ih = let s : 1 + prefix_len p bs ≡ suc (prefix_len p bs) = omega arith in rw s (rw e ih)
-    by-test false e ih = refl
 
 run-longest : (p : ℕ → Bool) (bs : List ℕ) (m : ℕ) → prefix_len p bs < m → m ≤ length bs → list_all p (take m bs) ≡ true → ⊥
 run-longest p [] m h le t = absurd (omega arith)
@@ -297,11 +291,6 @@ sign-longest b t rest k h s n =
 pub nonempty : (j : TokenKind) → kind_of [] ≡ Some j → ⊥
 unfolding kind_of fixed_spellings
 nonempty j s = let f : None ≡ Some j = s in absurd cc
-
-pub neither : (a b : Bool) → (a || b) ≡ false → (a ≡ false) × (b ≡ false)
-neither false false h = (refl, refl)
-neither false true h = absurd cc
-neither true b h = absurd cc
 
 -- what begins with none of the tails is none of them, however much of it is taken
 one_of-take : (ts : List (List ℕ)) (rest : List ℕ) (m : ℕ) → list_any (λ t. starts_with nat_eq rest t) ts ≡ false → one_of ts (take m rest) ≡ true → ⊥

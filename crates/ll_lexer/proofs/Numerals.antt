@@ -8,13 +8,14 @@ use Rattle.std.specs.Str.Parse.{AllDigits, IsNumeral, without_leading_sign, Pars
 use Rattle.std.proofs.lemmas.Bool.Decides.{nat_tests, Decides-eqb}
 use Rattle.std.proofs.lemmas.Str.{IsUtf8-from_ascii}
 use Rattle.std.proofs.lemmas.Str.Parse.{IsDigitsTest, numerals_by_value}
+use Rattle.ll_lists.proofs.CallerLemmas.{and_true_both as both}
 use Rattle.ll_lexer.specs.declared.TokenKind.{TokenKind}
 use Rattle.ll_lexer.specs.Spelling.{is_digit, is_numeral, is_number}
 use Rattle.ll_lexer.specs.Reading.{number_value}
 use Rattle.ll_lexer.specs.declared.TokenKind.TheVariants.{Name, Variable, Number}
 use Rattle.ll_lexer.specs.Reading.{HasFlaw, long_name, long_variable}
 use Rattle.ll_lexer.specs.Spelling.{fixed_spellings, kind_of}
-use Rattle.ll_lexer.proofs.Spelled.{kind-passes, both}
+use Rattle.ll_lexer.proofs.Spelled.{kind-passes}
 
 tests-digits : IsDigitsTest (λ ds. list_all is_digit ds ≡ true)
 unfolding is_digit

@@ -5,11 +5,12 @@ use Rattle.std.proofs.lemmas.Bool.Decides.{nat_tests}
 use Rattle.std.proofs.lemmas.List.{length-take}
 use Rattle.std.proofs.lemmas.List.Sums.{fold-append, fold_more}
 use Rattle.std.proofs.Math.Seq.{take-add}
+use Rattle.ll_lists.proofs.CallerLemmas.{and_true_both as both}
 use Rattle.ll_lexer.specs.declared.Place.{Place}
 use Rattle.ll_lexer.specs.declared.TokenKind.{TokenKind}
 use Rattle.ll_lexer.specs.Spelling.{is_lower, is_upper, is_digit, is_word_byte, is_name, is_variable, is_numeral, is_number, fixed_spellings, kind_of}
 use Rattle.ll_lexer.specs.Reading.{is_no_lf, after, place_at}
-use Rattle.ll_lexer.proofs.Spelled.{kind-passes, both}
+use Rattle.ll_lexer.proofs.Spelled.{kind-passes}
 
 -- a place is no further than its byte
 pub record Below (at : Place) (i : ℕ) : Type 0 where

@@ -6,11 +6,13 @@ use Rattle.std.specs.Str.{bytes_eq}
 use Rattle.std.proofs.Math.Seq.{take-append_seam}
 use Rattle.std.proofs.lemmas.Bool.Decides.{Decides-eqb}
 use Rattle.std.proofs.lemmas.Slice.Eq.{bytes_eq-Decides, starts_is}
+use Rattle.std.proofs.lemmas.Bool.{or_parts as neither}
+use Rattle.ll_lists.proofs.CallerLemmas.{and_true_both as both}
 use Rattle.ll_lexer.specs.declared.TokenKind.{TokenKind}
 use Rattle.ll_lexer.specs.declared.TokenKind.TheVariants.{Name, Variable, Any, Number, True, Erase, Forall, Exists, Is, Module, Local, Linear, Dot, Comma, Ampersand, Semicolon, ParenLeft, ParenRight, BraceLeft, BraceRight, Backslash, Cons, ColonDash, LeftArrow, RightArrow, Most, Less, Plus, Minus, Star, Lolli, LoadArrow}
 use Rattle.ll_lexer.specs.Spelling.{is_lower, is_upper, is_digit, is_word_start, is_word_byte, is_name, is_variable, is_numeral, is_number, fixed_spellings, Spells, IsLongest}
-use Rattle.ll_lexer.proofs.Spelled.{kind-passes, both}
-use Rattle.ll_lexer.proofs.Longest.{lower-start, upper-start, bar-start, begins_with, word-tail, word-longest, number-longest, negative-longest, neither, minus-longest}
+use Rattle.ll_lexer.proofs.Spelled.{kind-passes}
+use Rattle.ll_lexer.proofs.Longest.{lower-start, upper-start, bar-start, begins_with, word-tail, word-longest, number-longest, negative-longest, minus-longest}
 use Rattle.ll_lexer.proofs.Numerals.{number-spelled}
 use Rattle.ll_lexer.proofs.Signs.{signs}
 

@@ -3,14 +3,10 @@ use Rattle.std.proofs.Common.{◌≡◌, ℕ, Bool, true, false, ◌&&◌, List,
 use Rattle.std.specs.List.{list_all}
 use Rattle.std.specs.Str.{bytes_eq}
 use Rattle.std.proofs.lemmas.Slice.Eq.{bytes_eq-Decides}
+use Rattle.ll_lists.proofs.CallerLemmas.{and_true_both as both}
 use Rattle.ll_lexer.specs.declared.TokenKind.{TokenKind}
 use Rattle.ll_lexer.specs.declared.TokenKind.TheVariants.{Name, Variable, Number}
 use Rattle.ll_lexer.specs.Spelling.{is_name, is_variable, is_number, fixed_spellings, listed_kind, shaped_kind, kind_of}
-
-pub both : (a b : Bool) → (a && b) ≡ true → (a ≡ true) × (b ≡ true)
-both true true h = (refl, refl)
-both true false h = absurd cc
-both false b h = absurd cc
 
 -- what a list gives passes, if each entry does
 listed-passes : (p : List ℕ → TokenKind → Bool) (es : List (List ℕ × TokenKind)) (w : List ℕ) (k : TokenKind) → list_all (λ e. p e.0 e.1) es ≡ true → listed_kind es w ≡ Some k → p w k ≡ true

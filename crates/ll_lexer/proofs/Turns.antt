@@ -5,6 +5,7 @@ use Rattle.std.proofs.Math.Seq.{drop-cons, take-length}
 use Rattle.std.proofs.Math.ListN.{drop_of_length-le}
 use Rattle.std.proofs.lemmas.List.{map-append}
 use Rattle.std.proofs.lemmas.List.Sums.{prefix_len-le-length}
+use Rattle.ll_lists.proofs.CallerLemmas.{run_passes as run-passes}
 use Rattle.ll_lexer.specs.declared.Place.{Place}
 use Rattle.ll_lexer.specs.declared.Row.{Row}
 use Rattle.ll_lexer.specs.declared.Token.{Token}
@@ -12,7 +13,7 @@ use Rattle.ll_lexer.specs.declared.TokenKind.{TokenKind}
 use Rattle.ll_lexer.specs.Kept.{token_of}
 use Rattle.ll_lexer.specs.Spelling.{IsLongest, HasNone}
 use Rattle.ll_lexer.specs.Reading.{is_blank, is_no_lf, after, place_at, IsGap, blank, comment, HasFlaw, IsSound, HasNoGap, End, done, Lexes, at_end, gap, token, flawed, no_token, token_at, IsLexed, HasFault}
-use Rattle.ll_lexer.proofs.Longest.{run-passes, nonempty}
+use Rattle.ll_lexer.proofs.Longest.{nonempty}
 use Rattle.ll_lexer.proofs.Places.{Below, columns, begin, place-below, place-step, place-columns, token-no_lf}
 
 -- the rows are the tokens of the text before byte i, which has this place

@@ -4,12 +4,13 @@ use Rattle.std.specs.Prelude.{flat_map, slice_get}
 use Rattle.std.specs.List.{list_all}
 use Rattle.std.proofs.lemmas.Bool.{cases_Bool, and_parts, false≢true}
 use Rattle.std.proofs.lemmas.List.Concat.{flat_map-append}
+use Rattle.ll_lists.proofs.CallerLemmas.{none_not_some, some_is}
 use Rattle.ll_laws.specs.Pool.{Owed, Closed, Taken, Piece, PoolData, Alternative, place}
 use Rattle.ll_laws.specs.Spread.{piece_of, kids_of, published_by, length_of, walk, is_of}
 use Rattle.ll_laws.specs.Sound.{Every, Shaped, is_open, is_taken, is_taken_status}
 use Rattle.ll_laws.specs.CoreEvents.{change, with_status, took, MayTake, Readies, NotYet, report_in, report_left, reports_left}
 use Rattle.ll_core.specs.Given.{total}
-use Rattle.ll_core.proofs.CallerLemmas.{walk_same, total-append, one_if, is_at, found, lookup, none_not_some, some_is, is_of_from, unique, read_same, piece_here, piece_elsewhere, all_claimed, closed_all, taken_piece, walk_inside, every_back}
+use Rattle.ll_core.proofs.CallerLemmas.{walk_same, total-append, one_if, is_at, found, lookup, is_of_from, unique, read_same, piece_here, piece_elsewhere, all_claimed, closed_all, taken_piece, walk_inside, every_back}
 use Rattle.ll_order.specs.Drained.{count_untaken}
 
 module _ {N E : Type 0} (alternatives : N → List (Owed E)) (p : PoolData N E) (s : Shaped alternatives p) where

@@ -1,5 +1,6 @@
 -- What the clauses and modules so far show stays while nodes are added, and what a token outside of a formula does.
 use Rattle.std.proofs.Common.{◌≡◌, ℕ, ◌<◌, ◌≤◌, Bool, true, false, List, [], ◌++◌, length, map, All, get_or, Option, Some, None, option_map, refl, sym, subst, ◌∙◌, ap, append-nil, arith, length-append}
+use Rattle.ll_lists.proofs.CallerLemmas.{map_same_on as same_map}
 use Rattle.ll_lexer.specs.declared.Place.{Place}
 use Rattle.ll_bank.proofs.CallerLemmas.{grow_kept}
 use Rattle.ll_parser.specs.declared.RawAt.{RawAt}
@@ -22,7 +23,6 @@ use Rattle.ll_parser.specs.Nodes.{Node, identifier, build_raw, raw_trees, raw_at
 use Rattle.ll_parser.specs.Symbols.{symbol_tok}
 use Rattle.ll_parser.specs.Waiting.{known, waiting, tree, mode_view, Extends, Grows, Fits, Gives, GivesTree}
 use Rattle.ll_parser.specs.Drafts.{whole_view, current_view, draft_view, IsIdle, PhaseFits, ClausesFit, ModuleFits, CurrentFits, DraftFits, GivesPhase, AddsClause, ClosesModule, stage_view, GivesStage}
-use Rattle.ll_parser.proofs.StoredLemmas.{same_map}
 use Rattle.ll_parser.proofs.Newest.{pending-none}
 
 -- ---- more nodes

@@ -8,10 +8,11 @@ use Rattle.std.proofs.lemmas.Bool.Decides.{nat_tests}
 use Rattle.std.proofs.lemmas.Fmt.{digits_decimal, digits_value-decimal, decimal_nonempty}
 use Rattle.std.proofs.lemmas.List.{take_all}
 use Rattle.std.proofs.lemmas.Str.Parse.{IsDigitsTest, IsNumeralModel, numerals_by_value}
+use Rattle.ll_lists.proofs.CallerLemmas.{and_true_both as both}
 use Rattle.ll_lexer.specs.declared.TokenKind.TheVariants as kind
 use Rattle.ll_lexer.specs.Spelling.{is_digit, Spells}
 use Rattle.ll_lexer.specs.Reading.{number_value}
-use Rattle.ll_lexer.proofs.CallerLemmas.{number-longest, negative-longest, both}
+use Rattle.ll_lexer.proofs.CallerLemmas.{number-longest, negative-longest}
 
 tests-digits : IsDigitsTest (λ ds. list_all is_digit ds ≡ true)
 unfolding is_digit

@@ -7,6 +7,7 @@ use Rattle.std.proofs.Math.Seq.{get_or-append_seam}
 use Rattle.std.proofs.lemmas.Bool.{cases_lt}
 use Rattle.std.proofs.lemmas.List.{length-map, map-append, drop-append-le, take-append-le, take-append-drop, length-take-le}
 use Rattle.std.proofs.lemmas.List.Elements.{All-head, All-tail, All-push, All-cons}
+use Rattle.ll_lists.proofs.CallerLemmas.{each-push as push_all, map_same_on as same_map, OnErr-always}
 use Rattle.ll_bank.specs.Nodes.{grow}
 use Rattle.ll_bank.proofs.CallerLemmas.{grow_kept, get_or-grow_at}
 use Rattle.ll_lexer.specs.declared.Place.{Place}
@@ -60,17 +61,6 @@ module _ (texts : List (List ℕ)) (nodes : List Node) (low : IsWellFounded node
 
 -- ---- a node put behind the others stands on lower ones
 
--- what holds of each element at its place, and of one more behind them, holds of all
-push_all : {A : Type 0} (P : ℕ → A → Type 0) (xs : List A) (x : A) → ((k : ℕ) (d : A) → k < length xs → P k (get_or xs k d)) → P (length xs) x
-    → (k : ℕ) (d : A) → k < length (xs ++ x ∷ []) → P k (get_or (xs ++ x ∷ []) k d)
-push_all P xs x h p k d lt =
-    elim (cases_lt k (length xs)) [
-      | inl l ↦ subst (P k) (sym (get_or-append xs (x ∷ []) d k l)) (h k d l)
-      | inr l ↦
-          let e : length xs ≡ k = omega (arith, length-append xs (x ∷ [])) in
-          subst (λ z. P z (get_or (xs ++ x ∷ []) z d)) e (subst (P (length xs)) (sym (get_or-append_seam xs x [] d)) p)
-    ]
-
 -- ---- more arguments leave the nodes
 
 span_more : (cs more : List RawAt) (span : Span) → IsWithin cs span → args_of (cs ++ more) span ≡ args_of cs span
@@ -101,11 +91,6 @@ kept_more cs more (row.Is at f g) h = tt
 kept_more cs more (row.Less at f g) h = tt
 kept_more cs more (row.Most at f g) h = tt
 
--- functions that agree where P holds map alike
-pub same_map : {A B : Type 0} (f g : A → B) (P : A → Type 0) (xs : List A) → ((x : A) → P x → f x ≡ g x) → All P xs → map f xs ≡ map g xs
-same_map f g P [] h a = refl
-same_map f g P (x ∷ xs) h a = let e1 = h x (All-head P x xs a) in let e2 = same_map f g P xs h (All-tail P x xs a) in cc
-
 -- the vectors after arguments were added behind the others
 module _ (cs ds : List RawAt) (adds : AddsTo cs ds) (rs ss : List Row) (kept : IsKept cs rs) (same : ss ≡ rs) where
   pub same_nodes : map (row_node ds) ss ≡ map (row_node cs) rs
@@ -119,11 +104,6 @@ module _ (cs ds : List RawAt) (adds : AddsTo cs ds) (rs ss : List Row) (kept : I
 
   pub same_view : (old : List Node) → map (row_node cs) rs ≡ old → map (row_node ds) ss ≡ old
   same_view old view = same_nodes ∙ view
-
--- a fact holds after a refusal if it holds after every call
-pub OnErr-always : {T E P : Type 0} (r : Result T E) → P → OnErr r P
-OnErr-always (Err e) p = p
-OnErr-always (Ok x) p = tt
 
 -- parts that lie below a place do so in their node
 pub places_below : (k : ℕ) (args : List RawAt) → All (λ a. a.0 < k) args → All (λ a. a < k) (places args)

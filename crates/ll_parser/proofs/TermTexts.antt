@@ -1,5 +1,6 @@
 -- The text by levels is the text of the parse tree that is printed: terms.
 use Rattle.std.proofs.Common.{◌≡◌, Bool, true, false, List, [], ◌∷◌, ◌++◌, codes, inl, inr, refl, sym, ◌∙◌, ap, subst, append_assoc, append-nil, ℕ, ◌||◌}
+use Rattle.ll_lists.proofs.CallerLemmas.{or_false as or-false}
 use Rattle.ll_parser.specs.Tokens.{Identifier}
 use Rattle.ll_parser.specs.Raw.{Raw, truth, erasure, braces, universal, existential, load, binary, head, anything, int, RawList, none, more, is_goal, less_goal, most_goal}
 use Rattle.ll_parser.specs.Grammar.{Term, Simple, Simples, no_more, and_then, word_identifier, Plain, plain_word, plain_any, plain_number, Expr, of_product, adds, Product, of_item, multiplies, Item, item_plain, item_bracket, First, first_plain, first_times, Lead, of_first, lead_adds, by_plus, by_minus, plain_raw, expr_raw, product_raw, item_raw, first_raw, lead_raw}
@@ -195,10 +196,6 @@ item-brackets : (e : Expr) → item_bytes (to_item e) ≡ bracketed (is_adds e |
 item-brackets (of_product (of_item x)) = refl
 item-brackets (of_product (multiplies p at x)) = refl
 item-brackets (adds e o at p) = refl
-
-or-false : (v : Bool) → v ≡ (v || false)
-or-false true = refl
-or-false false = refl
 
 plain-shown : (x : Plain) → expr_bytes (expr_of (plain_raw x)) ≡ expr_text (plain_raw x)
 plain-shown (plain_word w) = ap (λ z. z.text) (word-kept (word_identifier w))

@@ -1,7 +1,7 @@
 -- What is read of a formula without a fault is a formula of a problem, on its side.
 use Rattle.std.proofs.Common.{◌≡◌, ℕ, suc, ◌+◌, ◌≤◌, true, false, List, [], ◌∷◌, ◌++◌, length, slice_get, Option, Some, None, refl, sym, subst, arith, length-append}
 use Rattle.std.specs.Prelude.{nat_eq, find}
-use Rattle.std.proofs.lemmas.Bool.{le-leb}
+use Rattle.std.proofs.lemmas.Bool.{le-leb, and_from as and_intro}
 use Rattle.std.proofs.lemmas.List.{length-map}
 use Rattle.ll_bank.specs.Term.{Term}
 use Rattle.ll_bank.specs.Form.{Form, Top, One, Atom, With, Tensor, Plus, Bang, Lolli, Imp, Forall, Exists, Use, Num, Relation, Is, Less, Most}
@@ -10,7 +10,7 @@ use Rattle.ll_laws.specs.Module.{ModuleTree}
 use Rattle.ll_laws.specs.Leaf.{ways}
 use Rattle.ll_laws.specs.Valid.{Side, GoalSide, ClauseSide, given, each_term, names_below, arity_up_to, fits_module, leaves_up_to}
 use Rattle.ll_laws.specs.Valid as valid
-use Rattle.ll_laws.proofs.CallerLemmas.{and_intro, Fits}
+use Rattle.ll_laws.proofs.CallerLemmas.{Fits}
 use Rattle.ll_parser.specs.declared.Op.{Op}
 use Rattle.ll_parser.specs.declared.Op.TheVariants as op
 use Rattle.ll_parser.specs.Tokens.{Identifier}

@@ -7,6 +7,7 @@ use Rattle.std.proofs.lemmas.Bool.Decides.{Decides-ltb}
 use Rattle.std.proofs.lemmas.List.Folds.{list_any-append}
 use Rattle.std.proofs.lemmas.Option.{slice_get_within}
 use Rattle.std.proofs.lemmas.Slice.Eq.{bytes_eq-Decides}
+use Rattle.ll_lists.proofs.CallerLemmas.{position_within as place_within}
 use Rattle.ll_bank.specs.Names.{with_name}
 use Rattle.ll_bank.specs.Form.{Relation, Is, Less, Most}
 use Rattle.ll_bank.proofs.CallerLemmas.{slice_get-number_of, number_of-with_name, slice_get-with_name}
@@ -15,14 +16,6 @@ use Rattle.ll_polarity.specs.Scope.{Scope, binds, Meaning, Bound, Local, Free, C
 use Rattle.ll_polarity.specs.Reading.{Met, has_text, number_in, variable_in, with_variable, read_name, read_term, read_terms, read_number, read_form}
 
 -- ---- the first place at which a test passes
-
-pub place_within : {X : Type 0} (p : X → Bool) (xs : List X) → list_any p xs ≡ true → position_or_len p xs < length xs
-place_within p [] h = absurd (true≢false (sym h))
-place_within p (x ∷ xs) h = by (p x) refl (place_within p xs)
-  where
-    by : (b : Bool) → p x ≡ b → (list_any p xs ≡ true → position_or_len p xs < length xs) → position_or_len p (x ∷ xs) < length (x ∷ xs)
-    by true e rest = rw e (omega arith)
-    by false e rest = let k = rest (sym (ap (λ b. b || list_any p xs) e) ∙ h) in rw e (omega arith)
 
 pub place_is : {X : Type 0} (p : X → Bool) (xs : List X) → list_any p xs ≡ true → position p xs ≡ Some (position_or_len p xs)
 place_is {X} p xs h = ap (λ b. cond b (Some (position_or_len p xs)) None) ((Decides-ltb (position_or_len p xs) (length xs)).1 (place_within p xs h))

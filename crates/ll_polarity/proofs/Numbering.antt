@@ -8,7 +8,8 @@ use Rattle.std.proofs.lemmas.Bool.{le-ltb, ne_eqb, eq-eqb, eqb-true, eqb-false}
 use Rattle.std.proofs.lemmas.List.Folds.{list_any-append, position_or_len_push}
 use Rattle.ll_polarity.specs.Numbered.{has_number, numbered, with_number, AreNumbered}
 use Rattle.std.proofs.lemmas.Bool.Decides.{nat_tests}
-use Rattle.ll_polarity.proofs.Grows.{place_within, place_is}
+use Rattle.ll_lists.proofs.CallerLemmas.{position_within as place_within}
+use Rattle.ll_polarity.proofs.Grows.{place_is}
 
 -- ---- the first place at which a test passes, with one more element
 

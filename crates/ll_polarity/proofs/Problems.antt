@@ -3,13 +3,13 @@ use Rattle.std.proofs.Common.{◌≡◌, ℕ, suc, ◌+◌, ◌≤◌, Bool, tru
 use Rattle.std.specs.Prelude.{find, unwrap_or, slice_index_or, ◌||◌}
 use Rattle.std.specs.List.{list_any, list_all, position_or_len}
 use Rattle.std.specs.Str.{bytes_eq}
-use Rattle.std.proofs.lemmas.Bool.{lt-ltb}
+use Rattle.std.proofs.lemmas.Bool.{lt-ltb, and_from as and_intro}
 use Rattle.std.proofs.lemmas.Option.{get_or_from_slice_get}
 use Rattle.ll_bank.specs.Names.{with_name}
 use Rattle.ll_laws.specs.Module.{ModuleTree}
 use Rattle.ll_laws.specs.Problem.{ProblemTree}
 use Rattle.ll_laws.specs.Valid.{GoalSide, AreClauses, AreModules, IsValid, is_asked, given, largest_count}
-use Rattle.ll_laws.proofs.CallerLemmas.{and_intro, formula_of_fits}
+use Rattle.ll_laws.proofs.CallerLemmas.{formula_of_fits}
 use Rattle.ll_parser.specs.Raw.{Raw, ProgramTree}
 use Rattle.ll_parser.specs.Raw as raw
 use Rattle.ll_parser.specs.Text.{programs, queries}

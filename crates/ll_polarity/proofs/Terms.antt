@@ -1,14 +1,15 @@
 -- What is read of a term without a fault: it mentions what there is, what has arguments may have them, and its numbers are small.
 use Rattle.std.proofs.Common.{◌≡◌, ℕ, suc, ◌+◌, ◌≤◌, Bool, true, false, List, [], ◌∷◌, ◌++◌, length, None, refl, arith, length-append}
 use Rattle.std.specs.List.{list_all}
-use Rattle.std.proofs.lemmas.Bool.{lt-ltb, le-leb}
+use Rattle.std.proofs.lemmas.Bool.{lt-ltb, le-leb, and_from as and_intro}
+use Rattle.ll_lists.proofs.CallerLemmas.{and_true_left as and_left, and_true_right as and_right}
 use Rattle.ll_bank.specs.Term.{Term, Ap, apply, arity}
 use Rattle.ll_lexer.specs.declared.Place.{Place}
 use Rattle.ll_lexer.specs.declared.Fault.{Fault}
 use Rattle.ll_laws.specs.Module.{ModuleTree}
 use Rattle.ll_laws.specs.Valid.{given, names_below, arity_up_to}
 use Rattle.ll_laws.specs.Valid as valid
-use Rattle.ll_laws.proofs.CallerLemmas.{and_left, and_right, and_intro, IsHead, Fit, AllFit}
+use Rattle.ll_laws.proofs.CallerLemmas.{IsHead, Fit, AllFit}
 use Rattle.ll_parser.specs.Tokens.{Identifier}
 use Rattle.ll_parser.specs.Raw.{Raw, head, anything, int, RawList, none, more}
 use Rattle.ll_polarity.specs.Scope.{Scope, Meaning, Bound, Local, Free, Constant, meaning}

@@ -4,6 +4,7 @@ use Rattle.std.specs.Prelude.{option_map, slice_get, sum_by}
 use Rattle.std.specs.Arc.{arc_value}
 use Rattle.std.specs.declared.result.Result.{Result}
 use Rattle.std.specs.declared.result.Result.TheVariants.{Ok, Err}
+use Rattle.ll_lists.proofs.CallerLemmas.{some_is, none_not_some}
 use Rattle.ll_laws.specs.declared.Event.{Event}
 use Rattle.ll_laws.specs.Pool.{Owed, Piece, PoolData}
 use Rattle.ll_laws.specs.Spread.{share, owes_of, owed_at, owed_or_nothing, list_or_empty}
@@ -16,7 +17,7 @@ use Rattle.ll_core.specs.declared.answers.Claimed.{Claimed}
 use Rattle.ll_core.specs.declared.answers.Claimed.TheVariants.{Work, Idle, Finished, Starved, Stopped}
 use Rattle.ll_core.specs.declared.answers.PublishFault.{PublishFault}
 use Rattle.ll_core.specs.declared.answers.PublishFault.TheVariants.{Full, OutOfMemory}
-use Rattle.ll_core.proofs.CallerLemmas.{some_is, none_not_some, get_map_at, claim_gives, publish_splits, report_closes, later_itself, opening_sound}
+use Rattle.ll_core.proofs.CallerLemmas.{get_map_at, claim_gives, publish_splits, report_closes, later_itself, opening_sound}
 use Rattle.ll_pool.specs.Fits.{Fits, ChangesLawfully, first_seat, problem_of, open_piece, HasPiece, number_of}
 use Rattle.ll_pool.specs.Turns.{EndsWith, IsRest, OwesWork, OwesRest, number_made}
 use Rattle.ll_pool.specs.OpenPieces.{has_open_piece, one_piece}

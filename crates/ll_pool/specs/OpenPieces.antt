@@ -2,13 +2,14 @@
 use Rattle.std.proofs.Common.{◌≡◌, ◌⊎◌, ℕ, zero, suc, ◌+◌, List, [], ◌∷◌, true, false, refl, sym, ap, ◌∙◌, subst, ⊎_elim, arith, Option, Some, None, ◌&&◌, ◌==◌}
 use Rattle.std.specs.Prelude.{slice_get}
 use Rattle.std.proofs.lemmas.Bool.{cases_Bool, and_parts, and_from, eqb-true, eq-eqb, false≢true, cond-true, cond-false}
+use Rattle.ll_lists.proofs.CallerLemmas.{some_is, none_not_some}
 use Rattle.ll_laws.specs.declared.Event.{Event}
 use Rattle.ll_laws.specs.Pool.{Owed, Status, Open, Closed, Taken, Piece, PoolData}
 use Rattle.ll_laws.specs.Spread.{share, owes_of}
 use Rattle.ll_laws.specs.Sound.{Shaped, is_open}
 use Rattle.ll_laws.specs.CoreEvents.{CoreEvent, Does, By}
 use Rattle.ll_core.specs.Laws.{IsQuiet}
-use Rattle.ll_core.proofs.CallerLemmas.{some_is, none_not_some, same_held, holds_kept, none_kept, share_later}
+use Rattle.ll_core.proofs.CallerLemmas.{same_held, holds_kept, none_kept, share_later}
 use Rattle.ll_pool.specs.Fits.{open_from, open_piece, HasPiece}
 use Rattle.ll_pool.specs.declared.data.OpenPiece.{OpenPiece}
 

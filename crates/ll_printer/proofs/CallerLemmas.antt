@@ -8,5 +8,3 @@ pub use Rattle.ll_printer.proofs.Printing.{cons_text}
 pub use Rattle.ll_printer.proofs.Printing.{is_cons-app}
 -- an application has arguments where their list is not empty
 pub use Rattle.ll_printer.proofs.Printing.{has_arguments-app}
--- what follows from a fact on success
-pub use Rattle.ll_printer.proofs.Parts.{on_ok}

@@ -6,6 +6,7 @@ use Rattle.std.proofs.lemmas.Int.{to_z-of_z}
 use Rattle.std.proofs.lemmas.Bool.{ne_eqb, eqb-true, and_parts}
 use Rattle.std.proofs.lemmas.List.{append-nil}
 use Rattle.std.proofs.lemmas.List.Elements.{All-head, All-tail}
+use Rattle.ll_lists.proofs.CallerLemmas.{OnErr-always as on_err, OnOk-weaker as on_ok, OnErr-weaker as on_refused}
 use Rattle.ll_lexer.specs.declared.Place.{Place}
 use Rattle.ll_parser.specs.declared.Named.{Named}
 use Rattle.ll_parser.specs.declared.Op.{Op}
@@ -24,20 +25,6 @@ use Rattle.ll_printer.specs.declared.formulas.Part.{Part}
 use Rattle.ll_printer.specs.declared.formulas.Part.TheVariants as part
 use Rattle.ll_printer.specs.Pieces.{BeginsText}
 use Rattle.ll_printer.specs.Parts.{rank_of, word_text, needs_brackets, inner_text, part_text, parts_text, raw_size, raws_size, part_weight, parts_weight, HasPart, AreParts, argument_parts, head_parts, operator_text, operand_parts, sides_parts, expression_parts, Leaves, PartMoves, IsWriting}
-
--- what follows from a fact on success
-pub on_ok : {T E P Q : Type 0} (r : Result T E) → (P → Q) → OnOk r P → OnOk r Q
-on_ok (Ok x) f p = f p
-on_ok (Err e) f p = tt
-
-pub on_err : {T E P : Type 0} (r : Result T E) → P → OnErr r P
-on_err (Err e) p = p
-on_err (Ok x) p = tt
-
--- what follows from a fact on a refusal
-pub on_refused : {T E P Q : Type 0} (r : Result T E) → (P → Q) → OnErr r P → OnErr r Q
-on_refused (Err e) f p = f p
-on_refused (Ok x) f p = tt
 
 -- ---- texts on their way
 

@@ -5,6 +5,7 @@ use Rattle.std.proofs.lemmas.List.{append-nil, drop_more, length-map, length_pus
 use Rattle.std.proofs.Math.ListN.{get_or-append}
 use Rattle.std.proofs.lemmas.List.Elements.{All-head, All-tail, All-cons, All-append, All-push}
 use Rattle.std.proofs.lemmas.Bool.{cond-true, cond-false, ne_eqb, eqb-true, and_parts}
+use Rattle.ll_lists.proofs.CallerLemmas.{OnErr-always as on_err}
 use Rattle.ll_bank.specs.declared.At.{At}
 use Rattle.ll_bank.specs.declared.Head.{Head}
 use Rattle.ll_bank.specs.Term.{Term, Con, Ap, app, apply}
@@ -231,11 +232,6 @@ printing_inside names bank text start now pieces popped p c e =
       (λ k d l. subst (HasPiece bank) (get_or-append popped (p ∷ []) d k l) (all k d (let q = length_push popped p in omega arith))),
       subst (HasPiece bank) (get_or_push popped p p (length popped) refl) (all (length popped) p (let q = length_push popped p in omega arith)),
     )
-
--- a fact holds after a refusal if it holds after every call
-pub on_err : {T E P : Type 0} (r : Result T E) → P → OnErr r P
-on_err (Err e) p = p
-on_err (Ok x) p = tt
 
 pub weight_falls : (names : List (List ℕ)) (bank : Nodes) (now next : List ℕ) (pieces popped left : List Piece) (p : Piece) → pieces ≡ popped ++ p ∷ []
     → Moves names bank (piece_text names bank p) (piece_weight bank p) popped now left next → stack_weight bank left < stack_weight bank pieces

@@ -8,6 +8,7 @@ use Rattle.std.proofs.lemmas.Fmt.{decimal_injective}
 use Rattle.std.proofs.lemmas.Option.{slice_get_within}
 use Rattle.ll_bank.specs.declared.At.{At}
 use Rattle.std.specs.Str.{bytes_eq}
+use Rattle.ll_lists.proofs.CallerLemmas.{and_true_left as and_left}
 use Rattle.ll_bank.specs.declared.Head.TheVariants.{Name}
 use Rattle.ll_bank.specs.Term.{Term}
 use Rattle.ll_bank.specs.Names.{with_name}
@@ -27,7 +28,7 @@ use Rattle.ll_prooftext.specs.Fields.{ended as all_read}
 use Rattle.ll_prooftext.specs.Sharing.{Stands, itself, by_row, AreCells, no_cells, next_cell}
 use Rattle.ll_prooftext.specs.Cells.{Stays, MovesBy, IsCellOf, IsCellField, AreCellFields, StopsAtCell, IsSignHead, IsFrontOf, IsFrontField, LacksFront}
 use Rattle.ll_prooftext.proofs.Arguments.{bare_word, end_stops as end_stops_word}
-use Rattle.ll_prooftext.proofs.Cuts.{one_cut, and_left}
+use Rattle.ll_prooftext.proofs.Cuts.{one_cut}
 use Rattle.ll_prooftext.proofs.Extended.{term_kept}
 use Rattle.ll_prooftext.proofs.Found.{text_is, moves_still, moves_behind, moves_on, moves_over, moves_word, moves_sign}
 use Rattle.ll_prooftext.proofs.Kept.{grows_none, grows_on, arg_good}

@@ -4,6 +4,8 @@ use Rattle.std.specs.Prelude.{◌||◌, not}
 use Rattle.std.specs.List.{flat_map}
 use Rattle.std.proofs.lemmas.List.Concat.{flat_map-append}
 use Rattle.std.proofs.lemmas.List.Elements.{All-head, All-tail, All-nil, All-cons}
+use Rattle.std.proofs.lemmas.Bool.{or_parts as parts_false}
+use Rattle.ll_lists.proofs.CallerLemmas.{IfOk-each as if_ok}
 use Rattle.ll_bank.specs.declared.At.{At}
 use Rattle.ll_bank.specs.declared.Head.{Head}
 use Rattle.ll_bank.specs.declared.Head.TheVariants.{Name}
@@ -25,7 +27,6 @@ use Rattle.ll_prooftext.specs.Brackets.{shape_of, frame_of, frames, item_text, p
 use Rattle.ll_prooftext.proofs.Kept.{grows_none, flat_same, arg_same}
 use Rattle.ll_prooftext.proofs.Found.{moves_still, moves_over, moves_behind, moves_sign}
 use Rattle.ll_prooftext.proofs.Mentioning.{close_mentions}
-use Rattle.ll_prooftext.proofs.Spellings.{parts_false}
 use Rattle.ll_prooftext.proofs.Extended.{at_kept}
 use Rattle.ll_prooftext.proofs.Steps.{part_same, open_good, open_same, bracket_good, bracket_same, frames_push, known_part, takes_head, part_term, IsArgued, argued_good, argued_text, argued_frames, item_put_good, item_put_text, item_put_frames}
 use Rattle.ll_prooftext.proofs.Ways.{sign_on, close_none, close_whole, close_argument, close_refused, close_item_on, close_item_none}
@@ -249,10 +250,6 @@ pub item_step : (names : List (List ℕ)) (bank over : Nodes) (o : Open) (x : Wo
 item_step names bank over o x at left good n k q out w chain e new p Stuck i = λ end a. closes_no_item names bank over o x at.0 left good n k q out w (λ h rest f. i (e ∙ h) rest f) end a
 item_step names bank over o x at left good n k q out w chain e new p (More rest) i = closes_item names bank over o x at.0 left good n k q out p (record { at = at; sign = i.1.1.0 }) new rest.now refl w (sym e ∙ i.0) i.1.0 i.1.1.1.0 i.1.1.1.1.0 i.1.1.1.1.1
 item_step names bank over o x at left good n k q out w chain e new p (Whole b rest) i = absurd i
-
-pub if_ok : {T E : Type 0} (r : Result T E) (P Q : T → Type 0) → ((t : T) → P t → Q t) → IfOk r P → IfOk r Q
-if_ok (Ok t) P Q f h = f t h
-if_ok (Err e) P Q f h = tt
 
 -- nothing was taken off
 pub none_popped : {X : Type 0} (xs ys : List X) (n : ℕ) → xs ≡ ys ++ [] → ys ≡ take (n - 1) xs → n ≡ 0 → xs ≡ []

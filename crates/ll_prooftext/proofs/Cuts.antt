@@ -2,16 +2,8 @@
 use Rattle.std.proofs.Common.{◌≡◌, ℕ, suc, ◌+◌, Bool, true, false, cond, List, [], ◌∷◌, ◌++◌, take, drop, refl, arith}
 use Rattle.std.specs.List.{list_all, prefix_len}
 use Rattle.std.specs.Prelude.{◌&&◌}
+use Rattle.ll_lists.proofs.CallerLemmas.{and_true_left as and_left, and_true_right as and_right, run_passes}
 use Rattle.ll_prooftext.specs.Words.{Stops, ended, at_byte}
-
--- the front that passes
-pub run_passes : (p : ℕ → Bool) (bs : List ℕ) → list_all p (take (prefix_len p bs) bs) ≡ true
-run_passes p [] = refl
-run_passes p (b ∷ bs) = by_test (p b) refl (run_passes p bs)
-  where
-    by_test : (v : Bool) → p b ≡ v → list_all p (take (prefix_len p bs) bs) ≡ true → list_all p (take (cond v (1 + prefix_len p bs) 0) (b ∷ bs)) ≡ true
-    by_test true e ih = let s : 1 + prefix_len p bs ≡ suc (prefix_len p bs) = omega arith in rw s (rw e ih)
-    by_test false e ih = refl
 
 -- what is behind it
 pub run_stops : (p : ℕ → Bool) (bs : List ℕ) → Stops p (drop (prefix_len p bs) bs)
@@ -21,15 +13,6 @@ run_stops p (b ∷ bs) = by_test (p b) refl (run_stops p bs)
     by_test : (v : Bool) → p b ≡ v → Stops p (drop (prefix_len p bs) bs) → Stops p (drop (cond v (1 + prefix_len p bs) 0) (b ∷ bs))
     by_test true e ih = let s : 1 + prefix_len p bs ≡ suc (prefix_len p bs) = omega arith in rw s ih
     by_test false e ih = at_byte b bs refl e
-
--- a list that passes, its first item and the others
-pub and_right : (a b : Bool) → (a && b) ≡ true → b ≡ true
-and_right true b e = e
-and_right false b e = absurd cc
-
-pub and_left : (a b : Bool) → (a && b) ≡ true → a ≡ true
-and_left true b e = refl
-and_left false b e = e
 
 pub tail : (p : ℕ → Bool) (c : ℕ) (w : List ℕ) → list_all p (c ∷ w) ≡ true → list_all p w ≡ true
 tail p c w h = and_right (p c) (list_all p w) h

@@ -6,6 +6,7 @@ use Rattle.std.specs.Str.{bytes_eq}
 use Rattle.std.proofs.lemmas.List.{length-map, take_all}
 use Rattle.std.proofs.lemmas.List.Elements.{All-head, All-tail}
 use Rattle.std.proofs.lemmas.Option.{slice_get_within}
+use Rattle.ll_lists.proofs.CallerLemmas.{All-slice_get as there}
 use Rattle.ll_bank.specs.declared.At.{At}
 use Rattle.ll_bank.specs.Names.{with_names}
 use Rattle.ll_bank.specs.Term.{Term}
@@ -144,11 +145,6 @@ unfolding text_names
 names2_read text old names o p s r = sym (s.names_on ∙ ap (λ z. with_names names (flat_map line_names (text_lines z))) r)
 
 -- ---- rows in place
-
-there : {X : Type 0} (P : X → Type 0) (xs : List X) (k : ℕ) (x : X) → All P xs → slice_get xs k ≡ Some x → P x
-there P [] k x h e = absurd cc
-there P (y ∷ xs) zero x h e = let q : y ≡ x = cc in subst P q (All-head P y xs h)
-there P (y ∷ xs) (suc k) x h e = there P xs k x (All-tail P y xs h) e
 
 in_place : (bank : Nodes) (t : Table) (rows : List Term) (at k : ℕ) → IsTableOf bank t rows → HasNumberAt t at → row_at t at ≡ Some k → slice_get rows k ≡ Some (term_tree bank at)
 in_place bank t rows at k h n e =

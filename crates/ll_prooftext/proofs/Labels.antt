@@ -7,12 +7,13 @@ use Rattle.std.specs.List.{list_all}
 use Rattle.std.proofs.lemmas.List.Folds.{list_all-append}
 use Rattle.std.proofs.lemmas.List.Elements.{All-nil, All-head, All-tail, All-push}
 use Rattle.std.proofs.lemmas.Fmt.{decimal_by_steps, decimal_injective}
+use Rattle.ll_lists.proofs.CallerLemmas.{and_true_left as and_left, and_true_right as and_right}
 use Rattle.ll_laws.specs.Line.{rises}
 use Rattle.ll_laws.specs.ProofText.{labels_text, field}
 use Rattle.ll_prooftext.specs.Admitted.{AreLabels}
 use Rattle.ll_prooftext.specs.Reading.{IsNumber, IsAtEnd, Set, IsSet, line_end, space}
 use Rattle.ll_prooftext.specs.Words.{Stops, ended, at_byte, is_not, BeginsNot, HasNone, IsLabelsText, IsSetAt}
-use Rattle.ll_prooftext.proofs.Cuts.{one_cut, first, tail, and_left, and_right}
+use Rattle.ll_prooftext.proofs.Cuts.{one_cut, first, tail}
 
 -- ---- digits
 

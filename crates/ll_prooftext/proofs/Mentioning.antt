@@ -9,9 +9,9 @@ use Rattle.std.proofs.lemmas.List.Folds.{list_all-append}
 use Rattle.std.proofs.lemmas.List.Elements.{All-head, All-tail}
 use Rattle.std.proofs.lemmas.Bool.Decides.{nat_tests}
 use Rattle.std.proofs.Math.Seq.{drop-append_seam}
+use Rattle.ll_lists.proofs.CallerLemmas.{false_from_not as turned, and_true_both as both, and_true_left as and_left, and_true_right as and_right}
 use Rattle.ll_bank.specs.Names.{with_name, with_names}
 use Rattle.ll_lexer.specs.Spelling.{is_name, is_lower, is_word_byte}
-use Rattle.ll_lexer.proofs.CallerLemmas.{both}
 use Rattle.ll_laws.specs.Line.{PartLine, Labels, Free}
 use Rattle.ll_laws.specs.ProofText.{field, labels_text, set_text, part_field}
 use Rattle.ll_prooftext.specs.Admitted.{AreLabels, IsSpelledPart}
@@ -19,7 +19,7 @@ use Rattle.ll_prooftext.specs.Reading.{IsAtEnd, line_end, space, first_word}
 use Rattle.ll_prooftext.specs.Words.{is_not, Stops, ended, at_byte}
 use Rattle.ll_prooftext.specs.Terms.{is_part}
 use Rattle.ll_prooftext.specs.Mentions.{Scan, Outside, Inside, Halfway, scanned, word_run, name_here, mentions, line_names}
-use Rattle.ll_prooftext.proofs.Cuts.{first, tail, and_left, and_right}
+use Rattle.ll_prooftext.proofs.Cuts.{first, tail}
 use Rattle.ll_prooftext.proofs.Labels.{is_figure, decimal_figures, figures_pass, behind_text, labels_split}
 use Rattle.ll_prooftext.proofs.Numerals.{mag_small}
 
@@ -43,10 +43,6 @@ no_part_no_word b h = grind (arith, nat_tests)
 -- no small letter, and no `:`
 abbrev pub is_quiet : ℕ → Bool
 is_quiet b = not (is_lower b) && is_not 58 b
-
-turned : (v : Bool) → not v ≡ true → v ≡ false
-turned true h = sym h
-turned false h = refl
 
 figure_quiet : (b : ℕ) → is_figure b ≡ true → is_quiet b ≡ true
 unfolding is_lower

@@ -2,6 +2,7 @@
 use Rattle.std.proofs.Common.{◌≡◌, ℕ, zero, suc, ◌+◌, Bool, true, false, List, [], ◌∷◌, ◌++◌, length, map, All, refl, ap, sym, subst, ◌∙◌, arith, codes, Option, Some, None}
 use Rattle.std.specs.List.{list_all}
 use Rattle.std.proofs.lemmas.List.Elements.{All-head, All-tail}
+use Rattle.ll_lists.proofs.CallerLemmas.{and_true_left as and_left, and_true_right as and_right}
 use Rattle.ll_bank.specs.Term.{Term, is_closed}
 use Rattle.ll_lexer.specs.declared.Fault.{Fault}
 use Rattle.ll_lexer.specs.declared.Place.{Place}
@@ -10,7 +11,6 @@ use Rattle.ll_laws.specs.Line.{Line, is_line, DerivationLines}
 use Rattle.ll_laws.specs.ProofText.{term_field, node_text}
 use Rattle.ll_prooftext.specs.Admitted.{IsSpelledTerm, IsSpelledLine}
 use Rattle.ll_prooftext.specs.Reading.{text_lines, children, missing, is_none, Begins, next_line, HasNoVersion, HasFault, version, unknown_word, bad_field, nodes_missing, left_over, IsTextOf}
-use Rattle.ll_prooftext.proofs.Cuts.{and_left, and_right}
 use Rattle.ll_prooftext.proofs.OneVerdict.{Verdict, Unknown, Bad, Good, Judges, unknown, judges_once, bad_judged, is_let, under, node_good, let_good}
 use Rattle.ll_prooftext.proofs.WholeText.{text_begins}
 

@@ -4,6 +4,8 @@ use Rattle.std.specs.Prelude.{◌⊎◌, ◌&&◌, not, if◌then◌else◌, ◌
 use Rattle.std.specs.List.{IsDistinct, list_all, flat_map, slice_get}
 use Rattle.std.specs.Str.{bytes_eq}
 use Rattle.std.proofs.lemmas.List.Folds.{list_all-append}
+use Rattle.std.proofs.lemmas.Bool.{and_from as both}
+use Rattle.ll_lists.proofs.CallerLemmas.{and_true_both as parts}
 use Rattle.ll_bank.specs.Term.{Term}
 use Rattle.ll_lexer.specs.declared.Fault.{Fault}
 use Rattle.ll_lexer.specs.Reading.{place_at}
@@ -23,11 +25,6 @@ use Rattle.ll_prooftext.proofs.OneVerdict.{is_let}
 abbrev AreNot : (List ℕ → Bool) → List (List ℕ) → Type 0
 AreNot p ls = list_all (λ l. not (p l)) ls ≡ true
 
-parts : (a b : Bool) → (a && b) ≡ true → (a ≡ true) × (b ≡ true)
-parts true true e = (refl, refl)
-parts true false e = absurd cc
-parts false b e = absurd cc
-
 cut_lines : (p : List ℕ → Bool) (xs ys rs ss : List (List ℕ)) → list_all p xs ≡ true → list_all p ys ≡ true → AreNot p rs → AreNot p ss → xs ++ rs ≡ ys ++ ss → (xs ≡ ys) × (rs ≡ ss)
 cut_lines p [] [] rs ss a b c d e = (refl, e)
 cut_lines p [] (y ∷ ys) rs ss a b c d e =
@@ -46,9 +43,6 @@ cut_lines p (x ∷ xs) (y ∷ ys) rs ss a b c d e =
 
 joined : (q : List ℕ → Bool) (xs ys : List (List ℕ)) → list_all q xs ≡ true → list_all q ys ≡ true → list_all q (xs ++ ys) ≡ true
 joined q xs ys a b = list_all-append q xs ys ∙ (rw (a, b) refl)
-
-both : (a b : Bool) → a ≡ true → b ≡ true → (a && b) ≡ true
-both a b e f = rw (e, f) refl
 
 shares_are : (names : List (List ℕ)) (rows : List Term) (ls : List (List ℕ)) → AreShares names rows ls → list_all is_share ls ≡ true
 shares_are names rows ls (no_shares a b) = ap (list_all is_share) b

@@ -2,7 +2,7 @@
 use Rattle.std.proofs.Common.{◌≡◌, ℕ, ◌<◌, ◌^◌, Bool, true, false, List, [], ◌∷◌, ◌++◌, refl, ap, sym, subst, ◌∙◌, arith, decimal, append_assoc, inl, inr, Some, None}
 use Rattle.std.specs.Prelude.{◌||◌, ◌==◌, ◌⊎◌, if◌then◌else◌}
 use Rattle.std.specs.List.{list_all}
-use Rattle.std.proofs.lemmas.Bool.{eqb-true}
+use Rattle.std.proofs.lemmas.Bool.{eqb-true, or_left, or_right}
 use Rattle.std.proofs.lemmas.List.{append_cancel_left, append_cancel_right}
 use Rattle.ll_bank.specs.Term.{Term, Var, Int, Con, Ap}
 use Rattle.ll_lexer.specs.Spelling.{is_lower}
@@ -17,7 +17,7 @@ use Rattle.ll_prooftext.proofs.Cuts.{one_cut}
 use Rattle.ll_prooftext.proofs.LinesOver.{cell_first}
 use Rattle.ll_prooftext.proofs.Rest.{same_row}
 use Rattle.ll_prooftext.proofs.Labels.{decimal_not, labels_avoid, set_found}
-use Rattle.ll_prooftext.proofs.Spellings.{Starts, weaker, or_left, or_right, head_start, leaf_start, head_first, leaf_first, word_parts, one_word}
+use Rattle.ll_prooftext.proofs.Spellings.{Starts, weaker, head_start, leaf_start, head_first, leaf_first, word_parts, one_word}
 use Rattle.ll_prooftext.proofs.Reach.{is_wanted, head_word, accepts_whole}
 use Rattle.ll_prooftext.proofs.Ways.{no_bracket, behind_byte, first_bracket_on, first_word_on, argument_bracket_on, argument_word_on, sign_on, close_whole, close_argument, close_item_on}
 

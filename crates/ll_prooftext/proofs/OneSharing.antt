@@ -20,13 +20,15 @@ use Rattle.ll_prooftext.specs.Words.{is_not}
 use Rattle.ll_prooftext.specs.Sharing.{Stands, itself, by_row, AreCells, no_cells, next_cell, IsShare, AreShares, no_shares, next_share, IsLet, IsStep, AreEach}
 use Rattle.ll_prooftext.specs.SharedLines.{node_words_over, let_words_over, want_over}
 use Rattle.ll_prooftext.specs.Reading2.{IsOff, BeginsOver, derivation, line_behind, HasFault2, version2, unknown_word2, bad_field2, nodes_missing2, left_over2, off_table}
-use Rattle.ll_prooftext.proofs.Cuts.{one_cut, and_left, and_right}
+use Rattle.ll_prooftext.proofs.Cuts.{one_cut}
 use Rattle.ll_prooftext.proofs.CellsRead.{cells_after, more_after, cell_then}
 use Rattle.ll_prooftext.proofs.Mentioning.{first_alone}
 use Rattle.ll_prooftext.proofs.OneField.{IsSmall, end_stops}
 use Rattle.ll_prooftext.proofs.OneVerdict.{Verdict, Unknown, Bad, Good, Reads, ends, more, reads_once, fields_end, stop_end, fields_read, listed_free, AreSmall, listed_small, is_let, under, number_is, last, number_last, parts_end, parts_read, tensor_read}
 use Rattle.ll_prooftext.proofs.OneFault.{fault_in, end_fault, Follows, follows_once}
 use Rattle.std.proofs.lemmas.Option.{slice_get_within}
+use Rattle.std.proofs.lemmas.Bool.{or_from as both_false}
+use Rattle.ll_lists.proofs.CallerLemmas.{and_true_left as and_left, and_true_right as and_right}
 
 -- ---- first words
 
@@ -307,9 +309,6 @@ still_both : {X Y : Type 0} (xs : List X) (ys : List Y) → still (still true xs
 still_both [] [] = refl
 still_both [] (y ∷ ys) = refl
 still_both (x ∷ xs) ys = still_none ys
-
-both_false : (a b : Bool) → a ≡ false → b ≡ false → (a || b) ≡ false
-both_false a b e f = rw (e, f) refl
 
 lets_ran : (end : Place) (o : Option Fault) (names : List (List ℕ)) (rows asked : List Term) (lines rest : List (List ℕ)) (shares : Bool) (i : ℕ) → AreEach (IsLet names rows) asked lines → All (IsSpelledTerm names) asked
     → RanOver end o (still shares asked) true (i + length asked) (length rows) 1 rest → RanOver end o shares true i (length rows) 1 (lines ++ rest)

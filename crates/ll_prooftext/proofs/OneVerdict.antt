@@ -5,6 +5,7 @@ use Rattle.std.specs.List.{list_all, list_any, flat_map}
 use Rattle.std.specs.Str.{bytes_eq}
 use Rattle.std.proofs.lemmas.Slice.Eq.{bytes_eq-Decides}
 use Rattle.std.proofs.lemmas.List.Elements.{All-head, All-tail}
+use Rattle.ll_lists.proofs.CallerLemmas.{and_true_left as and_left, and_true_right as and_right}
 use Rattle.ll_bank.specs.Term.{Term, is_closed}
 use Rattle.ll_laws.specs.Output.{term_text, argument_text}
 use Rattle.ll_laws.specs.Line.{PartLine, Labels, Free, Line, OneLine, EraseLine, TensorLine, WithLine, LeftLine, RightLine, BangLine, UseLine, LolliLine, ImpLine, ForallLine, ExistsLine, ClauseLine, NumLine, rises, part_rises, is_line}
@@ -12,7 +13,7 @@ use Rattle.ll_laws.specs.ProofText.{field, term_field, part_field, set_text, nod
 use Rattle.ll_prooftext.specs.Admitted.{AreLabels, IsSpelledTerm, IsSpelledPart, IsSpelledLine}
 use Rattle.ll_prooftext.specs.Reading.{Kind, Number, Set, Argument, Mark, Plain, Sign, Cell, Want, Nothing, Arguments, Premises, Then, after_field, may_end, IsNumber, IsSet, IsArgument, IsField, Fields, none, one, IsAtEnd, line_end, space, HasNoField, IsStop, lacks, no_field, listed, node_words, want, first_word, HasBadField, children}
 use Rattle.ll_prooftext.specs.Words.{is_not}
-use Rattle.ll_prooftext.proofs.Cuts.{one_cut, and_left, and_right}
+use Rattle.ll_prooftext.proofs.Cuts.{one_cut}
 use Rattle.ll_prooftext.proofs.Mentioning.{first_alone}
 use Rattle.ll_prooftext.proofs.OneField.{IsSmall, small_after, end_stops, one_field}
 

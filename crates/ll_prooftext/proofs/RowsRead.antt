@@ -5,6 +5,7 @@ use Rattle.std.specs.List.{list_all, flat_map}
 use Rattle.std.specs.Str.{bytes_eq}
 use Rattle.std.proofs.lemmas.Slice.Eq.{bytes_eq-Decides}
 use Rattle.std.proofs.lemmas.Bool.{ne_eqb}
+use Rattle.ll_lists.proofs.CallerLemmas.{IfOk-each as if_ok}
 use Rattle.ll_bank.specs.declared.At.{At}
 use Rattle.ll_bank.specs.Nodes.{Nodes, term_trees}
 use Rattle.ll_laws.specs.ProofText.{field, term_field, part_field, node_text, set_text}
@@ -27,7 +28,6 @@ use Rattle.ll_prooftext.proofs.Found.{moves_none, moves_line}
 use Rattle.ll_prooftext.proofs.Kept.{args_fields}
 use Rattle.ll_prooftext.proofs.Mentioning.{first_alone, nothing_mentions, quiet_none, quiet_join, decimal_quiet, set_quiet, field_quiet}
 use Rattle.ll_bank.proofs.CallerLemmas.{Extends-refl}
-use Rattle.ll_prooftext.proofs.Close.{if_ok}
 use Rattle.ll_prooftext.proofs.Rest.{stops_end}
 use Rattle.ll_prooftext.proofs.Spellings.{apart}
 

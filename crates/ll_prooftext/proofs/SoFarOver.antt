@@ -4,6 +4,7 @@ use Rattle.std.specs.Prelude.{◌&&◌}
 use Rattle.std.specs.List.{flat_map}
 use Rattle.std.proofs.lemmas.List.{map-append}
 use Rattle.std.proofs.lemmas.List.Elements.{All-nil, All-push}
+use Rattle.ll_lists.proofs.CallerLemmas.{and_true_left as and_left, and_true_right as and_right}
 use Rattle.ll_bank.specs.declared.At.{At}
 use Rattle.ll_bank.specs.Names.{with_names}
 use Rattle.ll_bank.specs.Term.{Term}
@@ -28,7 +29,6 @@ use Rattle.ll_prooftext.specs.Sharing.{AreShares, no_shares, next_share, IsLet, 
 use Rattle.ll_prooftext.specs.SharedLines.{IsShareRow, IsLetOver, IsStepOver}
 use Rattle.ll_prooftext.specs.SharedReader.{rows_of, TakesOver, share, variable, node}
 use Rattle.ll_prooftext.proofs.CellsRead.{rows_same, rows_stay}
-use Rattle.ll_prooftext.proofs.Cuts.{and_left, and_right}
 use Rattle.ll_prooftext.proofs.Kept.{grows_none, grows_on}
 use Rattle.ll_prooftext.proofs.SoFar.{rules_good, rules_same, missing_push, parts_few, children_few, names_more, empty}
 

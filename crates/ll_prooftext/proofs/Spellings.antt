@@ -7,18 +7,19 @@ use Rattle.std.specs.List.{list_all, list_any}
 use Rattle.std.specs.Str.{bytes_eq, IsAscii, IsUtf8}
 use Rattle.std.proofs.lemmas.Str.{IsUtf8-from_ascii}
 use Rattle.std.proofs.lemmas.Slice.Eq.{bytes_eq-Decides}
-use Rattle.std.proofs.lemmas.Bool.{ne_eqb}
+use Rattle.std.proofs.lemmas.Bool.{ne_eqb, or_right, or_left, or_parts as parts_false}
 use Rattle.std.proofs.lemmas.Bool.Decides.{nat_tests}
 use Rattle.ll_lexer.specs.declared.TokenKind.{TokenKind}
 use Rattle.ll_lexer.specs.declared.TokenKind.TheVariants.{Name}
 use Rattle.ll_lexer.specs.Spelling.{is_name, is_word_start, is_lower, is_word_byte, kind_of, fixed_spellings, Spells}
-use Rattle.ll_lexer.proofs.CallerLemmas.{both, kind-passes, lower-start, NoKeyword, name-spelled}
+use Rattle.ll_lexer.proofs.CallerLemmas.{kind-passes, lower-start, NoKeyword, name-spelled}
 use Rattle.ll_prooftext.specs.Admitted.{IsPlainName}
 use Rattle.ll_prooftext.specs.Reading.{IsNumber, IsDecimal, IsInteger}
 use Rattle.ll_prooftext.specs.Words.{is_not, Stops}
 use Rattle.ll_prooftext.specs.Terms.{is_part, IsHeadWord, name, eigen, IsLeafWord, variable, number, Shape, Wanted, Bare, Applied, Closed, IsWord, HasNoWord, small_keywords}
 use Rattle.ll_prooftext.proofs.Cuts.{one_cut}
 use Rattle.std.proofs.lemmas.Fmt.{decimal_nonempty}
+use Rattle.ll_lists.proofs.CallerLemmas.{and_true_both as both}
 use Rattle.ll_prooftext.proofs.Numerals.{mag_small}
 use Rattle.ll_prooftext.proofs.Labels.{is_figure, decimal_figures}
 
@@ -46,10 +47,6 @@ same s w e = (bytes_eq-Decides s w).1 e
 -- a word that begins with no small letter is no name
 not_named : (s w : List ℕ) → is_name s ≡ false → is_name w ≡ true → bytes_eq s w ≡ false
 not_named s w f t = apart s w (λ e. let x : is_name s ≡ true = ap is_name e ∙ t in let y : ⊥ = cc in y)
-
-pub parts_false : (a b : Bool) → (a || b) ≡ false → (a ≡ false) × (b ≡ false)
-parts_false true b h = absurd cc
-parts_false false b h = (refl, h)
 
 turned : (s w : List ℕ) → bytes_eq w s ≡ false → bytes_eq s w ≡ false
 turned s w f = apart s w (λ e. let x : bytes_eq w s ≡ true = same w s (sym e) in let y : ⊥ = cc in y)
@@ -157,13 +154,6 @@ head_start b = is_lower b || b == 35
 
 abbrev pub leaf_start : ℕ → Bool
 leaf_start b = b == 63 || begins_number b
-
-pub or_left : (a b : Bool) → a ≡ true → (a || b) ≡ true
-or_left a b h = rw h refl
-
-pub or_right : (a b : Bool) → b ≡ true → (a || b) ≡ true
-or_right true b h = refl
-or_right false b h = h
 
 pub head_first : (w : List ℕ) → IsHeadWord w → Starts head_start w
 head_first w (name p) = weaker is_lower head_start w (λ b h. or_left (is_lower b) (b == 35) h) (shaped_starts w (name_shaped w p.spelled))

@@ -4,13 +4,13 @@ use Rattle.std.specs.Prelude.{◌&&◌, ℤ}
 use Rattle.std.specs.List.{list_all}
 use Rattle.std.proofs.lemmas.Bool.{and_from, lt-ltb}
 use Rattle.std.proofs.lemmas.List.Elements.{All-head, All-tail}
+use Rattle.ll_lists.proofs.CallerLemmas.{and_true_left as and_left, and_true_right as and_right}
 use Rattle.ll_bank.specs.declared.Head.{Head}
 use Rattle.ll_bank.specs.declared.At.{At}
 use Rattle.ll_bank.specs.Term.{Term, Var, Int, Con, Ap, apply, app}
 use Rattle.ll_bank.specs.Nodes.{Nodes, term_tree, term_trees, AllInTerms, ShowsTerm, Extends}
 use Rattle.ll_bank.proofs.CallerLemmas.{HasTerm-extends, term_tree-extends}
 use Rattle.ll_laws.specs.Unify.{vars_below}
-use Rattle.ll_laws.proofs.CallerLemmas.{and_left, and_right}
 use Rattle.ll_search_tables.specs.Levelled.{IsLevelled, AreLevelled}
 
 pub levelled-var : (nodes : Nodes) (n x at : ℕ) → x < n → ShowsTerm nodes at (Var x) → IsLevelled nodes n at

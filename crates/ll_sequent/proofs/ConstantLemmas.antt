@@ -4,19 +4,12 @@ use Rattle.std.proofs.lemmas.Bool.{or_left, or_right, or_cases, or_parts, eqb-tr
 use Rattle.std.proofs.lemmas.List.Elements.{All-head, All-tail, All-cons}
 use Rattle.std.specs.Prelude.{◌||◌, All}
 use Rattle.std.specs.List.{list_any}
+use Rattle.ll_lists.proofs.CallerLemmas.{or_assoc, or_false}
 use Rattle.ll_bank.specs.declared.At.{At}
 use Rattle.ll_bank.specs.declared.Head.{Head}
 use Rattle.ll_bank.specs.Term.{Term, Con, Ap, apply, app, has_eigen, is_eigen}
 use Rattle.ll_bank.specs.Nodes.{Nodes, term_tree, term_trees, places, AllInTerms}
 use Rattle.ll_sequent.specs.Constants.{is_in, AreWithin, Gathers, IsFoundAmong, ArePartsOf, IsFreeBy}
-
-or_false : (b : Bool) → b ≡ (b || false)
-or_false true = refl
-or_false false = refl
-
-or_assoc : (a b c : Bool) → ((a || b) || c) ≡ (a || (b || c))
-or_assoc true b c = refl
-or_assoc false b c = refl
 
 eigen_apply : (c : ℕ) (f : Term) (ts : List Term) → has_eigen c (apply f ts) ≡ (has_eigen c f || list_any (has_eigen c) ts)
 eigen_apply c f [] = or_false (has_eigen c f)

@@ -5,6 +5,7 @@ use Rattle.std.specs.List.{list_all}
 use Rattle.std.proofs.lemmas.List.{append-nil, map-append, length-map, drop_all}
 use Rattle.std.proofs.Math.ListN.{get_or-map}
 use Rattle.std.proofs.lemmas.List.Elements.{All-push, All-cons}
+use Rattle.ll_lists.proofs.CallerLemmas.{empty_from_length as empty_list}
 use Rattle.ll_bank.specs.declared.FormAt.{FormAt}
 use Rattle.ll_bank.specs.Form.{Bang}
 use Rattle.ll_bank.specs.Nodes.{Nodes, form_tree, ShowsForm, Extends}
@@ -280,7 +281,3 @@ goals_more first old new from keeps ps i d goals more g l h e inside shows same 
     ∙ ((λ j. same j ++ (shows.tree ∙ ap premise_goal (needed_one from (get_or ps i d) (h i d l))) j ∷ [])
     ∙ (sym (map-append premise_goal (map (needed_in first) (take i ps)) (needed_in first (get_or ps i d) ∷ []))
     ∙ ap (map premise_goal) (sym (map_more (needed_in first) ps i d l))))
-
-pub empty_list : {X : Type 0} (xs : List X) → length xs ≡ 0 → xs ≡ []
-empty_list [] e = refl
-empty_list (x ∷ xs) e = absurd (omega arith)

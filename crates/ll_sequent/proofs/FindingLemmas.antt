@@ -6,6 +6,7 @@ use Rattle.std.proofs.lemmas.Bool.{ltb-true}
 use Rattle.std.proofs.lemmas.List.{reverse-append, map-append}
 use Rattle.std.proofs.lemmas.List.Elements.{All-head, All-tail, All-append, All-take, All-drop, All-push}
 use Rattle.std.proofs.lemmas.Iterator.Adapters.{position_from-zero}
+use Rattle.ll_lists.proofs.CallerLemmas.{All-reverse as all_reversed}
 use Rattle.ll_bank.specs.Nodes.{Nodes, form_tree}
 use Rattle.ll_laws.specs.Module.{ModuleTree}
 use Rattle.ll_laws.specs.Valid.{ClauseSide}
@@ -13,10 +14,6 @@ use Rattle.ll_laws.specs.Shows.{Labelled, Missing, Took, behind, take_label, pic
 use Rattle.ll_sequent.specs.declared.sequents.Resource.{Resource}
 use Rattle.ll_sequent.specs.Sequents.{labelled_in, bounded_in, free_in, IsHeld, AreHeld}
 use Rattle.ll_sequent.specs.Opened.{found_in}
-
-pub all_reversed : {X : Type 0} (P : X → Type 0) (xs : List X) → All P xs → All P (reverse xs)
-all_reversed P [] h = h
-all_reversed P (x ∷ xs) h = subst (All P) (sym (reverse-append (x ∷ []) xs)) (All-push P (reverse xs) x (all_reversed P xs (All-tail P x xs h)) (All-head P x xs h))
 
 pub not_some : {X : Type 0} (o : Option X) → ((x : X) → o ≡ Some x → ⊥) → o ≡ None
 not_some None n = refl

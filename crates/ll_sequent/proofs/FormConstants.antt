@@ -4,6 +4,7 @@ use Rattle.std.proofs.lemmas.List.{length-map, map_more}
 use Rattle.std.proofs.Math.ListN.{get_or-map}
 use Rattle.std.proofs.lemmas.List.Elements.{All-append, All-cons, All-head, All-tail, All-nil}
 use Rattle.std.specs.Prelude.{◌||◌, Result, Ok, Err, OnOk}
+use Rattle.ll_lists.proofs.CallerLemmas.{or_assoc, or_false}
 use Rattle.ll_bank.specs.declared.FormAt.{FormAt}
 use Rattle.ll_bank.specs.Form.{form_has_eigen}
 use Rattle.ll_bank.specs.Nodes.{Nodes, form_tree, HasForm}
@@ -11,14 +12,6 @@ use Rattle.ll_bank.specs.Opened.{form_size}
 use Rattle.ll_sequent.specs.declared.sequents.Resource.{Resource}
 use Rattle.ll_sequent.specs.Constants.{is_in_each, forms_of, form_sizes, AllInForms, Gathers, IsOpenedUp}
 use Rattle.ll_sequent.proofs.ConstantLemmas.{gathers_both, gathers_as, gathers_nothing}
-
-pub or_false : (b : Bool) → b ≡ (b || false)
-or_false true = refl
-or_false false = refl
-
-or_assoc : (a b c : Bool) → ((a || b) || c) ≡ (a || (b || c))
-or_assoc true b c = refl
-or_assoc false b c = refl
 
 pub each_onto : (c : ℕ) (bank : Nodes) (xs ys : List FormAt) → is_in_each c bank (xs ++ ys) ≡ (is_in_each c bank xs || is_in_each c bank ys)
 each_onto c bank [] ys = refl

@@ -5,6 +5,7 @@ use Rattle.std.proofs.lemmas.Bool.{ltb-true, lt-ltb}
 use Rattle.std.proofs.lemmas.List.{append-nil, reverse-append}
 use Rattle.std.proofs.lemmas.List.Elements.{All-cons, All-head, All-tail, All-push}
 use Rattle.std.proofs.lemmas.List.Sums.{sum_by-append}
+use Rattle.ll_lists.proofs.CallerLemmas.{length-map_suc as length-suc, lt_false as not_below, map_map, map_same}
 use Rattle.ll_bank.specs.declared.At.{At}
 use Rattle.ll_bank.specs.declared.FormAt.{FormAt}
 use Rattle.ll_bank.specs.declared.FormNode.{FormNode}
@@ -15,7 +16,7 @@ use Rattle.ll_bank.specs.Form.{Form, Top, One, Atom, With, Tensor, Plus, Bang, L
 use Rattle.ll_bank.specs.Nodes.{Nodes, form_tree, form_of}
 use Rattle.ll_bank.specs.Opened.{form_size}
 use Rattle.ll_laws.specs.Leaf.{Leaf, Premise, Needs, NeedsFree, add_premise, ways, leaf, leaf_from}
-use Rattle.ll_laws.proofs.CallerLemmas.{close_closed, map_map, map_same}
+use Rattle.ll_laws.proofs.CallerLemmas.{close_closed}
 use Rattle.ll_sequent.specs.Opened.{waiting_ways}
 
 -- quantifiers that stay
@@ -219,13 +220,6 @@ leaf_more_terms a (suc k) (t ∷ ts) l = refl
 
 -- ---- the sides of `&`
 
-not_below : (a b : ℕ) → b ≤ a → nat_lt a b ≡ false
-not_below a b h = go (nat_lt a b) refl
-  where
-    go : (c : Bool) → nat_lt a b ≡ c → c ≡ false
-    go true e = let l = ltb-true a b e in absurd (omega arith)
-    go false e = refl
-
 pub leaf_left : (q r : Form) (k : ℕ) (ts : List Term) → k < length (ways q) → leaf (With q r) k ts ≡ leaf q k ts
 leaf_left q r k ts l = ap (λ b. if b then leaf q k ts else leaf r (k - length (ways q)) ts) (lt-ltb k (length (ways q)) l)
 
@@ -250,10 +244,6 @@ count_both bank old rest mid new f g r n goal o m w both h =
     let b = ap (waiting_ways bank) m ∙ ways-push bank rest r in
     let c = ap (waiting_ways bank) w ∙ ways-push bank mid g in
     let d = ap (λ (ws : List ℕ). length ws) both ∙ length-append (ways (form_tree bank g.0)) (ways (form_tree bank r.0)) in omega arith
-
-length-suc : (xs : List ℕ) → length (map (λ n. suc n) xs) ≡ length xs
-length-suc [] = refl
-length-suc (x ∷ xs) = ap suc (length-suc xs)
 
 pub ways_quantified : (r : Form) → length (ways (Forall r)) ≡ length (ways r)
 ways_quantified r = length-suc (ways r)

@@ -1,7 +1,7 @@
 -- What the calls of a clause node say, in the words of its judging.
 use Rattle.std.proofs.Common.{◌≡◌, ℕ, suc, ◌<◌, refl, ap, sym, subst, ◌∙◌, Bool, true, false, List, [], ◌∷◌, map, length, Option, Some, None}
 use Rattle.std.specs.Prelude.{◌↔◌, IsTrue, is_some}
-use Rattle.std.proofs.lemmas.Bool.{and_from, and_parts, eqb-true, eq-eqb}
+use Rattle.std.proofs.lemmas.Bool.{and_from, and_parts, eqb-true, eq-eqb, false_from_ne_true as false_of}
 use Rattle.std.proofs.lemmas.Bool.Decides.{Decides-int_eq}
 use Rattle.std.proofs.lemmas.List.{length-map}
 use Rattle.ll_bank.specs.declared.At.{At}
@@ -34,10 +34,6 @@ term_eq-refl (Var x) = eq-eqb x x refl
 term_eq-refl (Int x) = (Decides-int_eq x x).1 refl
 term_eq-refl (Con x) = head_eq-refl x
 term_eq-refl (Ap f a) = and_from _ _ (term_eq-refl f) (term_eq-refl a)
-
-false_of : (b : Bool) → (b ≡ true → ⊥) → b ≡ false
-false_of true n = absurd (n refl)
-false_of false n = refl
 
 pub equal_is : (b : Bool) (t u v : Term) → IsTrue b ↔ (t ≡ u) → u ≡ v → b ≡ true → term_eq t v ≡ true
 equal_is b t u v d e h = let P : Term → Type 0 = λ w. term_eq t w ≡ true in subst P (d.0 h ∙ e) (term_eq-refl t)

@@ -4,6 +4,7 @@ use Rattle.std.specs.Prelude.{if◌then◌else◌}
 use Rattle.std.specs.List.{list_all}
 use Rattle.std.proofs.lemmas.List.{reverse-reverse, take_all, append-nil}
 use Rattle.std.proofs.lemmas.List.Elements.{All-cons, All-head, All-tail}
+use Rattle.ll_lists.proofs.CallerLemmas.{same_front, All-reverse as all_reversed}
 use Rattle.ll_bank.specs.declared.BankSize.{BankSize}
 use Rattle.ll_bank.specs.Term.{Term, is_closed}
 use Rattle.ll_bank.specs.Form.{Form, sub_form}
@@ -20,14 +21,8 @@ use Rattle.ll_sequent.specs.declared.sequents.Resource.{Resource}
 use Rattle.ll_sequent.specs.declared.sequents.Start.{Start}
 use Rattle.ll_sequent.specs.Sequents.{bounded_in, free_in, IsSound, IsHeld, AreHeld}
 use Rattle.ll_sequent.specs.Starting.{values, of_kind, AreSound, IsRoot}
-use Rattle.ll_sequent.proofs.FindingLemmas.{all_reversed, map_reverse}
+use Rattle.ll_sequent.proofs.FindingLemmas.{map_reverse}
 use Rattle.ll_sequent.proofs.ValueLemmas.{sound-values}
-
--- a bank cut to its own size is itself
-same_front : {A : Type 0} (xs ys zs : List A) → xs ≡ ys ++ zs → length ys ≡ length xs → ys ≡ xs
-same_front xs ys [] e l = sym (e ∙ append-nil ys)
-same_front xs ys (z ∷ zs) e l =
-    let a : length xs ≡ length ys + suc (length zs) = ap (λ us. length us) e ∙ length-append ys (z ∷ zs) in absurd (omega (arith, a, l))
 
 cut_same : (old new : Nodes) (size : BankSize) → size ≡ size_of old → IsCutTo size old new → new ≡ old
 cut_same old new size e c =

@@ -6,6 +6,7 @@ use Rattle.std.proofs.lemmas.List.{map-append}
 use Rattle.std.proofs.lemmas.List.Elements.{All-cons}
 use Rattle.std.proofs.Math.ListN.{get_or-append}
 use Rattle.std.proofs.Math.Seq.{get_or-append_seam}
+use Rattle.ll_lists.proofs.CallerLemmas.{each-push as push_all}
 use Rattle.ll_bank.specs.declared.At.{At}
 use Rattle.ll_bank.specs.declared.FormAt.{FormAt}
 use Rattle.ll_bank.specs.declared.Head.{Head}
@@ -26,16 +27,6 @@ on_ok (Ok x) p = p
 on_ok (Err e) p = tt
 
 -- ---- one more
-
-push_all : {A : Type 0} (P : ℕ → A → Type 0) (xs : List A) (x : A) → ((k : ℕ) (d : A) → k < length xs → P k (get_or xs k d)) → P (length xs) x
-    → (k : ℕ) (d : A) → k < length (xs ++ x ∷ []) → P k (get_or (xs ++ x ∷ []) k d)
-push_all P xs x h p k d lt =
-    elim (cases_lt k (length xs)) [
-      | inl l ↦ subst (P k) (sym (get_or-append xs (x ∷ []) d k l)) (h k d l)
-      | inr l ↦
-          let e : length xs ≡ k = omega (arith, length-append xs (x ∷ [])) in
-          subst (λ z. P z (get_or (xs ++ x ∷ []) z d)) e (subst (P (length xs)) (sym (get_or-append_seam xs x [] d)) p)
-    ]
 
 -- ---- a bank that grows
 

@@ -5,6 +5,7 @@ use Rattle.std.specs.List.{list_all}
 use Rattle.std.proofs.lemmas.Bool.{and_from, and_parts, eqb-true, ltb-true, lt-ltb}
 use Rattle.std.proofs.lemmas.List.{append-nil, length-map, length-reverse, reverse-append, get_or-map}
 use Rattle.std.proofs.lemmas.List.Elements.{All-head, All-tail}
+use Rattle.ll_lists.proofs.CallerLemmas.{All-slice_get as all_got}
 use Rattle.ll_bank.specs.declared.Head.TheVariants.{Name, Eigen, Bound}
 use Rattle.ll_bank.specs.Term.{Term, Var, Int, Con, Ap, Env, place, head_of, is_spine}
 use Rattle.ll_bank.specs.Form.{Form, Use, close_form}
@@ -177,11 +178,6 @@ got_at : {X Y : Type 0} (f : X → Y) (xs : List X) (i : ℕ) (x : X) → i < le
 got_at f [] i x low e = absurd (omega arith)
 got_at f (y ∷ xs) zero x low e = ap (λ z. Some (f z)) (sym e)
 got_at f (y ∷ xs) (suc i) x low e = got_at f xs i x (omega arith) e
-
-all_got : {X : Type 0} (P : X → Type 0) (xs : List X) (i : ℕ) (x : X) → All P xs → slice_get xs i ≡ Some x → P x
-all_got P [] i x h e = absurd (let n : ⊥ = cc in n)
-all_got P (y ∷ xs) zero x h e = let d : y ≡ x = cc in subst P d (All-head P y xs h)
-all_got P (y ∷ xs) (suc i) x h e = all_got P xs i x (All-tail P y xs h) e
 
 -- what holds of a load's parts
 record Parts (modules : List ModuleTree) (number : ℕ) (ts : List Term) (g : Form) : Type 0 where

@@ -5,6 +5,7 @@ use Rattle.std.specs.List.{list_all}
 use Rattle.std.proofs.lemmas.Bool.{and_parts, cases_lt}
 use Rattle.std.proofs.lemmas.List.{map-append, length-map, drop_all, reverse-append}
 use Rattle.std.proofs.lemmas.List.Elements.{All-push, All-head, All-tail}
+use Rattle.ll_lists.proofs.CallerLemmas.{All-reverse as all_reversed}
 use Rattle.ll_bank.specs.declared.At.{At}
 use Rattle.ll_bank.specs.declared.FormAt.{FormAt}
 use Rattle.ll_bank.specs.declared.FormNode.{FormNode}
@@ -20,7 +21,6 @@ use Rattle.ll_sequent.specs.declared.leaves.Needed.TheVariants.{Bounded, Unbound
 use Rattle.ll_sequent.specs.declared.leaves.Opened.{Opened}
 use Rattle.ll_sequent.specs.declared.leaves.Side.{Side}
 use Rattle.ll_sequent.specs.Opened.{needed_in, needed_at, AreNeeded, ShowsLeaf, IsSide}
-use Rattle.ll_sequent.proofs.FindingLemmas.{all_reversed}
 use Rattle.ll_sequent.proofs.Closings.{form_heads, puts_term}
 use Rattle.ll_sequent.proofs.LeafLemmas.{put_behind, behind_none, behind_one, leaf_open, leaf_atom, leaf_lolli, leaf_imp, leaf_left, leaf_right, leaf_no, leaf_past_atom, leaf_more_terms}
 

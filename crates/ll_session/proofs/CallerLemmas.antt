@@ -10,7 +10,3 @@ pub use Rattle.ll_session.proofs.Replying.{line-answered}
 pub use Rattle.ll_session.proofs.Replying.{line-refused}
 -- when no line is left, all is replied to
 pub use Rattle.ll_session.proofs.Replying.{all-answered}
--- what follows from a fact on success
-pub use Rattle.ll_session.proofs.Replying.{on-ok}
--- what follows from a fact on failure
-pub use Rattle.ll_session.proofs.Replying.{on-err}

@@ -4,6 +4,7 @@ use Rattle.std.specs.Prelude.{Result, Ok, Err, ◌==◌}
 use Rattle.std.specs.List.{prefix_len}
 use Rattle.std.proofs.lemmas.List.Sums.{prefix_len_passes, prefix_len_stops}
 use Rattle.std.proofs.lemmas.Bool.{false≢true}
+use Rattle.ll_lists.proofs.CallerLemmas.{false_from_not as not-true, true_from_not as not-false}
 use Rattle.ll_lexer.specs.declared.Fault.{Fault}
 use Rattle.ll_laws.specs.Problem.{ProblemTree}
 use Rattle.ll_parser.specs.Raw.{ProgramTree}
@@ -33,14 +34,6 @@ one-line (b ∷ []) l h = ap (λ v. if v then [] ∷ lines [] else with_front b 
 one-line (b ∷ c ∷ cs) l h =
     ap (λ v. if v then [] ∷ lines (c ∷ cs) else with_front b (lines (c ∷ cs))) (h 0 (omega arith))
     ∙ ap (with_front b) (one-line (c ∷ cs) (omega arith) (λ k m. h (suc k) (omega arith)))
-
-not-true : (b : Bool) → not b ≡ true → b ≡ false
-not-true true h = cc
-not-true false h = refl
-
-not-false : (b : Bool) → not b ≡ false → b ≡ true
-not-false true h = refl
-not-false false h = cc
 
 pub line-split : (text : List ℕ) (n : ℕ) → n ≡ prefix_len (λ b. not (b == 10)) text → n < length text → lines text ≡ take n text ∷ lines (drop (n + 1) text)
 line-split text n e l =

@@ -1,6 +1,7 @@
 -- Lines that are replied to, one after the other.
 use Rattle.std.proofs.Common.{◌≡◌, ℕ, ◌+◌, true, false, List, [], ◌∷◌, ◌++◌, length, refl, sym, subst, arith, append_assoc, append-nil, length-append}
 use Rattle.std.specs.Prelude.{Result, Ok, Err, IfOk, OnOk, OnErr}
+use Rattle.ll_lists.proofs.CallerLemmas.{OnOk-weaker as on-ok, OnErr-weaker as on-err}
 use Rattle.ll_lexer.specs.declared.Fault.{Fault}
 use Rattle.ll_laws.specs.Problem.{ProblemTree}
 use Rattle.ll_order.specs.Outlets.{Gives}
@@ -10,14 +11,6 @@ use Rattle.ll_session.specs.Queries.{QueryLine, LineAsks, HaveQueries, no_line, 
 use Rattle.ll_session.specs.Replied.{Answers, StopsShort, refused, not_begun, Replies, RefusesLine, line_refused, line_not_begun, IsAnsweredTo}
 
 -- ---- answers that may be refused
-
-pub on-ok : {T E A B : Type 0} (r : Result T E) → (A → B) → OnOk r A → OnOk r B
-on-ok (Ok x) f h = f h
-on-ok (Err e) f h = tt
-
-pub on-err : {T E A B : Type 0} (r : Result T E) → (A → B) → OnErr r A → OnErr r B
-on-err (Ok x) f h = tt
-on-err (Err e) f h = f h
 
 pub err-at : {T E A : Type 0} (Q P : A → Type 0) (r : Result T E) (a : A) → Q a → OnErr r ((b : A) → Q b → P b) → OnErr r (P a)
 err-at Q P (Ok x) a q h = tt

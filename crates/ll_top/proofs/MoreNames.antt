@@ -2,18 +2,14 @@
 use Rattle.std.proofs.Common.{◌≡◌, ◌≤◌, ℕ, suc, Bool, true, List, [], ◌∷◌, Option, Some, None, refl, arith}
 use Rattle.std.specs.Prelude.{length, nat_lt}
 use Rattle.std.specs.List.{list_all}
-use Rattle.std.proofs.lemmas.Bool.{lt-ltb, ltb-true}
+use Rattle.std.proofs.lemmas.Bool.{lt-ltb, ltb-true, and_from as and_intro}
+use Rattle.ll_lists.proofs.CallerLemmas.{lt_more as below, and_true_left as and_left, and_true_right as and_right}
 use Rattle.ll_bank.specs.declared.Head.TheVariants.{Name, Eigen, Bound}
 use Rattle.ll_bank.specs.Term.{Term, Var, Int, Con, Ap}
 use Rattle.ll_bank.specs.Form.{Form, Top, One, Atom, With, Tensor, Plus, Bang, Lolli, Imp, Forall, Exists, Use, Num}
 use Rattle.ll_laws.specs.Module.{ModuleTree, ClauseTree}
 use Rattle.ll_laws.specs.Problem.{ProblemTree}
 use Rattle.ll_laws.specs.Valid.{Side, GoalSide, ClauseSide, Scope, module_scope, each_term, names_below, IsWithinLimits, AreClauses, AreModules, is_asked, IsValid}
-use Rattle.ll_laws.proofs.CallerLemmas.{and_left, and_right, and_intro}
-
--- a number below one number is below a greater one
-below : (k n m : ℕ) → n ≤ m → nat_lt k n ≡ true → nat_lt k m ≡ true
-below k n m le h = lt-ltb k m (omega (arith, ltb-true k n h, le))
 
 names_in_term : (n m : ℕ) → n ≤ m → (t : Term) → names_below n t ≡ true → names_below m t ≡ true
 names_in_term n m le (Var x) h = refl

@@ -8,6 +8,7 @@ use Rattle.std.proofs.lemmas.Bool.{lt-ltb}
 use Rattle.std.proofs.lemmas.List.{append-nil, length-take}
 use Rattle.std.proofs.lemmas.List.Elements.{Contains-append_right}
 use Rattle.std.specs.List.{Contains}
+use Rattle.ll_lists.proofs.CallerLemmas.{OnErr-always as on_err}
 use Rattle.ll_bank.specs.Term.{Term}
 use Rattle.ll_edge.specs.Pieces.{AppendsFront}
 use Rattle.ll_laws.specs.declared.Event.{Event}
@@ -234,11 +235,6 @@ run-status p c h =
     let f = any-count is_answer es in
     let g = any-count is_reached es in
     let i = status-by c.answers c.reached (count_by is_answer es) (count_by is_reached es) h.0 h.1 in cc
-
--- a fact for a refusal, where it holds anyhow
-pub on_err : {T E P : Type 0} (r : Result T E) → P → OnErr r P
-on_err (Ok x) p = tt
-on_err (Err e) p = p
 
 -- what follows of a fact for an answer, or for a refusal
 pub on_ok_map : {T E : Type 0} (r : Result T E) (A B : Type 0) → OnOk r A → (A → B) → OnOk r B

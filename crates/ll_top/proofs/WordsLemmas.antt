@@ -7,6 +7,7 @@ use Rattle.std.specs.List.{list_all}
 use Rattle.std.specs.Str.Parse.{digits_value, ParsesUnsigned}
 use Rattle.std.proofs.lemmas.Str.Parse.{IsNumeralModel, numerals_by_value, parse_gives, digits_value_short}
 use Rattle.std.proofs.lemmas.Bool.{leb-true, eqb-false}
+use Rattle.ll_lists.proofs.CallerLemmas.{false_from_not as not_true, and_true_left as and_left, and_true_right as and_right}
 use Rattle.ll_top.specs.Words.{is_number_word}
 
 digits-all : (w : List ℕ) → list_all is_ascii_digit w ≡ all_ascii_digits w
@@ -15,18 +16,6 @@ digits-all (b ∷ w) = ap (λ x. is_ascii_digit b && x) (digits-all w)
 
 own : IsNumeralModel (λ ds. all_ascii_digits ds ≡ true) (digits_value 10)
 own = numerals_by_value _ (search rules)
-
-and_left : (a b : Bool) → a && b ≡ true → a ≡ true
-and_left true b h = refl
-and_left false b h = h
-
-and_right : (a b : Bool) → a && b ≡ true → b ≡ true
-and_right true b h = h
-and_right false b h = cc
-
-not_true : (a : Bool) → not a ≡ true → a ≡ false
-not_true true h = cc
-not_true false h = refl
 
 -- a number is read as its value
 pub read_number : {E : Type 0} (w : List ℕ) (r : Result ℕ E) → is_number_word w ≡ true → ParsesUnsigned 32 10 w r → r ≡ Ok (digits_value 10 w)

@@ -5,6 +5,7 @@ use Rattle.std.proofs.lemmas.Bool.{lt-ltb, ltb-true}
 use Rattle.std.proofs.lemmas.List.{reverse-append, append-nil}
 use Rattle.std.proofs.lemmas.List.Elements.{All-nil, All-append, All-pop, All-push}
 use Rattle.std.proofs.lemmas.List.Sums.{sum_by-append}
+use Rattle.ll_lists.proofs.CallerLemmas.{length-map_suc as length-suc, lt_false as not_below, slice_index-append as index_left}
 use Rattle.ll_bank.specs.declared.FormAt.{FormAt}
 use Rattle.ll_bank.specs.Term.{Term, Var}
 use Rattle.ll_bank.specs.Form.{Form, Top, One, Atom, With, Tensor, Plus, Bang, Lolli, Imp, Forall, Exists, Use, Num}
@@ -22,10 +23,6 @@ use Rattle.ll_trace.specs.Opening.{IsOnWay, Opens, waiting_ways}
 use Rattle.ll_trace.proofs.BareLemmas.{ways-bare}
 
 -- ---- counting
-
-length-suc : (xs : List ℕ) → length (map (λ n. suc n) xs) ≡ length xs
-length-suc [] = refl
-length-suc (x ∷ xs) = ap suc (length-suc xs)
 
 pub ways-quantified : (r : Form) → length (ways (Forall r)) ≡ length (ways r)
 ways-quantified r = length-suc (ways r)
@@ -52,11 +49,6 @@ count_step forms old rest pushed new f n goal o w all more same h =
 
 -- ---- lists
 
-index_left : (xs ys : List ℕ) (k : ℕ) → k < length xs → slice_index (xs ++ ys) k ≡ slice_index xs k
-index_left [] ys k h = absurd (omega (arith, h))
-index_left (x ∷ xs) ys zero h = refl
-index_left (x ∷ xs) ys (suc k) h = index_left xs ys k (omega (arith, h))
-
 index_right : (xs ys : List ℕ) (k : ℕ) → length xs ≤ k → slice_index (xs ++ ys) k ≡ slice_index ys (k - length xs)
 index_right [] ys k h = ap (slice_index ys) (let e : k ≡ k - 0 = omega arith in e)
 index_right (x ∷ xs) ys zero h = absurd (omega (arith, h))
@@ -66,13 +58,6 @@ index_suc : (xs : List ℕ) (k : ℕ) → k < length xs → slice_index (map (λ
 index_suc [] k h = absurd (omega (arith, h))
 index_suc (x ∷ xs) zero h = refl
 index_suc (x ∷ xs) (suc k) h = index_suc xs k (omega (arith, h))
-
-not_below : (a b : ℕ) → b ≤ a → nat_lt a b ≡ false
-not_below a b h = go (nat_lt a b) refl
-  where
-    go : (c : Bool) → nat_lt a b ≡ c → c ≡ false
-    go true e = let l = ltb-true a b e in absurd (omega (arith, l, h))
-    go false e = refl
 
 stacked-push : (forms : Nodes) (ms : List ModuleTree) (gs : List Goal) (g : Goal) (below : List Form) → stacked forms ms (gs ++ g ∷ []) below ≡ shown_goal forms ms g ∷ stacked forms ms gs below
 stacked-push forms ms [] g below = refl

@@ -2,6 +2,7 @@
 use Rattle.std.proofs.Common.{◌≡◌, ℕ, ◌+◌, ◌<◌, refl, ap, sym, ◌∙◌, List, [], ◌∷◌, ◌++◌, length, get_or, drop, reverse, suc, drop-cons, arith}
 use Rattle.std.specs.Prelude.{Option, Some, None, option_and_then}
 use Rattle.std.proofs.lemmas.List.{reverse-append}
+use Rattle.ll_lists.proofs.CallerLemmas.{reverse-push as newest}
 use Rattle.ll_bank.specs.Term.{Term}
 use Rattle.ll_laws.specs.Dealing.{erases, deal}
 use Rattle.ll_laws.specs.Line.{PartLine, Labels, Free, Line, OneLine, EraseLine, WithLine, LeftLine, RightLine, BangLine, UseLine, TensorLine, LolliLine, ImpLine, ForallLine, ExistsLine, ClauseLine, Cut, Short, Cuts, add_part, cut_parts, put_clause, put, trees_of, lines, NumLine}
@@ -142,10 +143,6 @@ some-made _ ts h = cc
 -- the list from a place on begins with the item there
 pub drop_item : {A : Type 0} (xs : List A) (k : ℕ) (x : A) → k < length xs → x ≡ get_or xs k x → drop k xs ≡ x ∷ drop (k + 1) xs
 drop_item {A = A} xs k x h e = let q : suc k ≡ k + 1 = omega arith in drop-cons xs k x h ∙ (ap (λ (y : A). y ∷ drop (suc k) xs) (sym e) ∙ ap (λ (i : ℕ). x ∷ drop i xs) q)
-
--- what was pushed last comes first
-pub newest : {A : Type 0} (xs : List A) (x : A) → reverse (xs ++ x ∷ []) ≡ x ∷ reverse xs
-newest xs x = reverse-append xs (x ∷ [])
 
 pub nodes-some : (x : Tree) → 0 < nodes x
 nodes-some OneNode = omega arith

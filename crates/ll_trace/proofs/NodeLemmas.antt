@@ -1,6 +1,6 @@
 -- The nodes that a walker has told so far.
 use Rattle.std.proofs.Common.{◌≡◌, ℕ, zero, suc, ◌+◌, ◌<◌, ◌≤◌, refl, ap, sym, subst, ◌∙◌, arith, List, [], ◌∷◌, ◌++◌, map, length, drop, append_assoc, slice_index_or}
-use Rattle.std.proofs.lemmas.List.{map-append}
+use Rattle.std.proofs.lemmas.List.{map-append, append-nil as append-none}
 use Rattle.std.proofs.lemmas.List.Elements.{All-nil, All-push}
 use Rattle.ll_bank.specs.declared.At.{At}
 use Rattle.ll_bank.specs.Nodes.{Nodes, no_nodes, term_trees}
@@ -25,10 +25,6 @@ drop-all (c ∷ cs) = drop-all cs
 tells-now : (t : Told) (go : Walk → List Line) (n : ℕ) → length (after_node t go) ≡ suc n → IsTold t
 tells-now Lost go n h = absurd (omega (arith, h))
 tells-now (Tells m w) go n h = tt
-
-append-none : {A : Type 0} (xs : List A) → xs ++ [] ≡ xs
-append-none [] = refl
-append-none (x ∷ xs) = ap (λ ys. x ∷ ys) (append-none xs)
 
 module _ (forms : Nodes) (modules : List Module) (terms : List At) (steps : List Step) (first : Walker) where
   -- the nodes of these steps from where the walker stands

@@ -7,6 +7,7 @@ use Rattle.std.proofs.lemmas.List.{drop-drop}
 use Rattle.std.proofs.lemmas.Bool.{ne_eqb, eq-eqb}
 use Rattle.std.proofs.lemmas.List.{append-nil, drop_all, reverse-append, length-reverse, length-map}
 use Rattle.std.proofs.lemmas.List.Folds.{list_any-append}
+use Rattle.ll_lists.proofs.CallerLemmas.{and_false as off, reverse-push as newest}
 use Rattle.ll_bank.specs.Term.{Term}
 use Rattle.ll_laws.specs.declared.Part.{Part}
 use Rattle.ll_laws.specs.declared.Part.TheVariants.{Bounded, Unbounded}
@@ -16,14 +17,10 @@ use Rattle.ll_laws.specs.Shows.{Tree, OneNode, EraseNode, TensorNode, WithNode, 
 use Rattle.ll_laws.specs.ShownLines.{part_line}
 use Rattle.ll_trace.specs.declared.picks.Pick.{Pick}
 use Rattle.ll_trace.specs.Picks.{picks_of, picks_of_parts, all_picks, is_pick, is_used_between, level_of_part, IsPickStep}
-use Rattle.ll_trace.proofs.Making.{IsUnary, IsBinary, cut-step, cut-end, clause-made, first-made, some-made, newest, IsCutStep, drop_item}
+use Rattle.ll_trace.proofs.Making.{IsUnary, IsBinary, cut-step, cut-end, clause-made, first-made, some-made, IsCutStep, drop_item}
 
 both : (n a : ℕ) (xs ys : List (Option Pick)) → list_any (is_pick n a) xs ≡ false → list_any (is_pick n a) ys ≡ false → list_any (is_pick n a) (xs ++ ys) ≡ false
 both n a xs ys h k = list_any-append (is_pick n a) xs ys ∙ (ap (λ c. c || list_any (is_pick n a) ys) h ∙ k)
-
-off : (c : Bool) → (c && false) ≡ false
-off true = refl
-off false = refl
 
 either : (n b : ℕ) (xs ys : List (Option Pick)) (p q : Bool) → list_any (is_pick n b) xs ≡ p → list_any (is_pick n b) ys ≡ q → list_any (is_pick n b) (xs ++ ys) ≡ (p || q)
 either n b xs ys p q h k = list_any-append (is_pick n b) xs ys ∙ (ap (λ c. c || list_any (is_pick n b) ys) h ∙ ap (λ c. p || c) k)

@@ -26,9 +26,10 @@ use Rattle.ll_laws.specs.Shows.{LeftNode, RightNode, ImpNode, ForallNode, Exists
 use Rattle.std.proofs.Common.{Vec, Global, get_or, drop-cons, ◌≤◌}
 use Rattle.std.specs.Prelude.{true, false, Result, Ok, Err, IfOk}
 use Rattle.std.proofs.lemmas.List.{drop_all, drop-map}
+use Rattle.ll_lists.proofs.CallerLemmas.{empty_from_length as no_items, IfOk-each as if_ok-more, reverse-push as newest}
 use Rattle.ll_trace.specs.Shares.{GivesRule, GivesTensor}
 use Rattle.ll_trace.specs.Spans.{AreSpans}
-use Rattle.ll_trace.proofs.Making.{IsPassing, left-passing, right-passing, use-passing, imp-passing, forall-passing, exists-passing, IsCutStep, cut-step, IsCutEnd, cut-end, IsClauseMade, clause-made, first-made, some-made, newest}
+use Rattle.ll_trace.proofs.Making.{IsPassing, left-passing, right-passing, use-passing, imp-passing, forall-passing, exists-passing, IsCutStep, cut-step, IsCutEnd, cut-end, IsClauseMade, clause-made, first-made, some-made}
 use Rattle.ll_trace.proofs.Picking.{picks-count, parts-count, picks-uses, parts-uses, used-here, drop-on}
 
 filter-same : (f g : ℕ → Bool) → ((n : ℕ) → f n ≡ g n) → (d : List ℕ) → filter f d ≡ filter g d
@@ -448,13 +449,5 @@ deal-more bank old outline at node dealt left x labels done more pending rest ne
     (λ ts k. spans bank (at + 1) ts (ap trees_of (drop-map (line_of bank) (at + 1) old ∙ ap (map (line_of bank)) nx) ∙ k))
     (λ ts vs p f1 f2 d. gives bank ts vs p f1 f2 d) w
 
-pub no_items : {F : Type 0} → (items : List F) → length items ≡ 0 → items ≡ []
-no_items [] e = refl
-no_items (x ∷ items) e = absurd (omega arith)
-
 pub given-tensor : (outline : Outline) (at : ℕ) (rule : Rule) (share : Share) (old new : List Share) (dealt : Rule) (s t : Vec ℕ Global) → rule ≡ Tensor s t → GivesTensor outline at share old new dealt → GivesRule outline at rule share old new dealt
 given-tensor outline at rule share old new dealt s t e g = λ bank ts vs h f1 f2 d. g s.items t.items bank ts vs (subst (λ (r : Rule). put (line_of bank r) ts ≡ Some vs) e h) f1 f2 d
-
-pub if_ok-more : {T E : Type 0} (r : Result T E) (P Q : T → Type 0) → ((a : T) → P a → Q a) → IfOk r P → IfOk r Q
-if_ok-more (Ok a) P Q f h = f a h
-if_ok-more (Err e) P Q f h = tt

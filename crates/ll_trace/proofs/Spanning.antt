@@ -12,6 +12,7 @@ use Rattle.std.proofs.Common.{get_or-set_other, get_or-set_same}
 use Rattle.std.specs.Prelude.{nat_lt}
 use Rattle.std.proofs.lemmas.Bool.{ltb-true, ltb-false}
 use Rattle.std.proofs.lemmas.List.{drop_all}
+use Rattle.ll_lists.proofs.CallerLemmas.{or_assoc as or_more}
 
 pub span-one : (S : List Span) (first : ℕ) (ts vs : List Tree) → put OneLine ts ≡ Some vs → Fits S first ts → HasSpan S first (record { end = first; erases = false }) vs
 span-one S first ts vs h f = let e : OneNode ∷ ts ≡ vs = cc in subst (HasSpan S first (record { end = first; erases = false })) e (record { end = refl; erases = refl; rest = f })
@@ -93,10 +94,6 @@ erases_more Free a b = a
 
 pub parts-start : (S : List Span) (first : ℕ) (ls : List PartLine) (ts us : List Tree) (ps : Parts) → cut_parts ls ts ≡ Cuts ps us → Fits S first ts → PartsLeft S first (record { end = first; erases = false }) ls ps us
 parts-start S first ls ts us ps h f = record { trees = ts; parts = ps; cut = h; fits = f; end = refl; erases = refl }
-
-or_more : (a b c : Bool) → ((a || b) || c) ≡ (a || (b || c))
-or_more true b c = refl
-or_more false b c = refl
 
 pub parts-step : (p : PartLine) (ls : List PartLine) (S : List Span) (first : ℕ) (span next new : Span) (ps : Parts) (us : List Tree) → next ≡ span_or_none S span.end → new.end ≡ next.end → new.erases ≡ erases_more p span.erases next.erases
     → PartsLeft S first span (p ∷ ls) ps us → PartsLeft S first new ls ps us

@@ -1,7 +1,7 @@
 -- What the steps of a walker do.
 use Rattle.std.proofs.Common.{◌≡◌, ℕ, zero, suc, ◌+◌, ◌-◌, ◌<◌, ◌≤◌, refl, ap, sym, subst, ◌∙◌, arith, List, [], ◌∷◌, ◌++◌, map, length, take, drop, All, slice_index_or}
 use Rattle.std.specs.Prelude.{Option, Some, None, Result, Ok, Err, IfOk, slice_get, slice_index}
-use Rattle.std.proofs.lemmas.List.{map-append, length-map}
+use Rattle.std.proofs.lemmas.List.{map-append, length-map, append-nil as append_none}
 use Rattle.std.proofs.lemmas.List.Elements.{All-nil, All-cons, All-append, All-take, All-drop}
 use Rattle.ll_bank.specs.declared.At.{At}
 use Rattle.ll_bank.specs.declared.FormAt.{FormAt}
@@ -40,10 +40,6 @@ if_ok P Q f (Err e) h = tt
 pub stacked-append : (forms : Nodes) (ms : List ModuleTree) (gs hs : List Goal) (below : List Form) → stacked forms ms (gs ++ hs) below ≡ stacked forms ms hs (stacked forms ms gs below)
 stacked-append forms ms [] hs below = refl
 stacked-append forms ms (g ∷ gs) hs below = stacked-append forms ms gs hs (shown_goal forms ms g ∷ below)
-
-append_none : {A : Type 0} (xs : List A) → xs ++ [] ≡ xs
-append_none [] = refl
-append_none (x ∷ xs) = ap (λ ys. x ∷ ys) (append_none xs)
 
 -- ---- terms
 

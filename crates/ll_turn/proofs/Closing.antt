@@ -1,5 +1,6 @@
 -- What the first pass finds when it closes the turn.
 use Rattle.std.proofs.Common.{◌≡◌, ℕ, List, [], Option, Some, None, ap, sym, ◌∙◌, subst}
+use Rattle.ll_lists.proofs.CallerLemmas.{some_is as value_of_some}
 use mathlib.Core.Option.{some, some-injective}
 use lib.ListN.{get_elem?}
 use Rattle.atomic_table.specs.Table.{Final, Seen}
@@ -8,7 +9,6 @@ use Rattle.ll_turn.specs.Numbers.{Numbers}
 use Rattle.ll_turn.specs.Steps.{Hand}
 use Rattle.ll_turn.specs.Rule.{IsKept}
 use Rattle.ll_turn.specs.Sight.{Sight}
-use Rattle.ll_turn.proofs.Moves.{value_of_some}
 use Rattle.ll_turn.proofs.Parts.{closes}
 use Rattle.ll_turn.proofs.Passes.{IsSeen, at_rest, same_data, same_given}
 

@@ -8,6 +8,7 @@ use lib.ListN.{get_elem?}
 use lib.Seq.{set-get_or, map-set}
 use prog.Atomic.{either}
 use Rattle.std.proofs.Common.{eqb}
+use Rattle.ll_lists.proofs.CallerLemmas.{some_is as value_of_some}
 use Rattle.atomic_table.specs.Table.{State, Act, step, keeps, takes, gives, Valid, stepped, carried_after, Allows}
 use Rattle.atomic_table.proofs.Lists.{at_set, set_again, at_map, exchanged}
 use Rattle.ll_turn.specs.Numbers.{Numbers, IsProper}
@@ -57,14 +58,6 @@ module _ {S : Type 0} where
   one_value st y z a b =
       let of : (x : S) → (st ≡ Holds x) ⊎ (st ≡ Notes x) → value_or y st ≡ x = λ x c. ⊎_elim (λ (e : st ≡ Holds x). ap (value_or y) e) (λ (e : st ≡ Notes x). ap (value_or y) e) c in
       sym (of y a) ∙ of z b
-
-some_or : {S : Type 0} → S → Option S → S
-some_or d None = d
-some_or d (Some x) = x
-
-pub value_of_some : {S : Type 0} (x y : S) → Some x ≡ Some y → x ≡ y
-unfolding some_or
-value_of_some x y e = ap (some_or x) e
 
 module _ {S P M : Type 0} where
   live_of : Known S P M → View S P M → Known S P M

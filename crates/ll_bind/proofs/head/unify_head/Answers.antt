@@ -1,11 +1,11 @@
 use Rattle.std.proofs.Common.{arith, List, ◌≡◌, ◌<◌, rules, [], ◌∷◌, ap, refl, sym, subst}
 use Rattle.std.specs.Prelude.{reverse}
+use Rattle.ll_lists.proofs.CallerLemmas.{empty_from_length as no_items}
 use Rattle.ll_bank.specs.Term.{close}
 use Rattle.ll_bank.specs.Nodes.{term_tree}
 use Rattle.ll_bank.proofs.CallerLemmas.{Extends-refl, Extends-trans}
 use Rattle.ll_close.specs.Closing.{env_of}
 use Rattle.ll_bindings.specs.Solving.{wanted, Settles}
-use Rattle.ll_bindings.proofs.CallerLemmas.{no_items}
 use Rattle.ll_store.specs.Stored.{stored}
 use Rattle.ll_store.specs.Tables.{table_of}
 use Rattle.ll_bind.specs.declared.head.Equation.{Equation}

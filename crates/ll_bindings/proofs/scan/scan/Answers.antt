@@ -1,9 +1,9 @@
 use Rattle.std.proofs.Common.{◌+◌, rules, arith, sym, ap, ◌∙◌, refl, subst}
+use Rattle.ll_lists.proofs.CallerLemmas.{empty_from_length as no_items}
 use Rattle.ll_bank.specs.Term.{sub}
 use Rattle.ll_bank.specs.Nodes.{term_tree}
 use Rattle.ll_bindings.specs.Bindings.{found}
 use Rattle.ll_bindings.specs.Scanned.{IsLook, frame_tree}
-use Rattle.ll_bindings.proofs.Stacks.{no_items}
 use Rattle.ll_bindings.proofs.Tables.{step-inside}
 use Rattle.ll_bindings.proofs.Readings.{Obeys-found}
 use Rattle.ll_bindings.proofs.Scans.{scan-starts, scan-top, scan-known, scan-opens, scan-closes, scan-fails, scan-ends, scan-noted, weight-known, weight-opens}

@@ -1,10 +1,10 @@
 use Rattle.std.proofs.Common.{◌<◌, ap, sym, subst, ◌∙◌, arith, length, All}
 use Rattle.std.proofs.lemmas.List.Elements.{All-push}
+use Rattle.ll_lists.proofs.CallerLemmas.{All-front, All-last as All-end}
 use Rattle.ll_bank.specs.declared.FormAt.{FormAt}
 use Rattle.ll_bank.specs.Form.{Form}
 use Rattle.ll_bank.specs.Nodes.{form_tree}
 use Rattle.ll_laws.specs.Leaf.{ways}
-use Rattle.ll_engine.proofs.CandidateLemmas.{All-front, All-end}
 use Rattle.ll_engine.proofs.OpeningLemmas.{count_in, count_both, ways_quantified}
 use Rattle.ll_engine.proofs.candidates.count_all.Goals as goal
 

@@ -1,6 +1,7 @@
 use Rattle.std.proofs.Common.{arith, rules, w64}
 use Rattle.std.specs.Prelude.{FitsSigned}
-use Rattle.ll_printer.proofs.Parts.{on_ok, moves-left, moves-written, moves-number}
+use Rattle.ll_lists.proofs.CallerLemmas.{OnOk-weaker as on_ok}
+use Rattle.ll_printer.proofs.Parts.{moves-left, moves-written, moves-number}
 use Rattle.ll_printer.proofs.formulas.print_part.Goals as goal
 
 pub returns-in-Formula-clause-moves : goal.returns-in-Formula-clause-moves

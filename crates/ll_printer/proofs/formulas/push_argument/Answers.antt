@@ -1,5 +1,6 @@
 use Rattle.std.proofs.Common.{sym, ◌∙◌}
-use Rattle.ll_printer.proofs.Parts.{on_ok, argument-bracketed, argument-plain}
+use Rattle.ll_lists.proofs.CallerLemmas.{OnOk-weaker as on_ok}
+use Rattle.ll_printer.proofs.Parts.{argument-bracketed, argument-plain}
 use Rattle.ll_printer.proofs.formulas.push_argument.Goals as goal
 
 pub returns-then-has_any_arguments : goal.returns-then-has_any_arguments

@@ -1,5 +1,6 @@
 use Rattle.std.proofs.Common.{sym, ◌∙◌}
-use Rattle.ll_printer.proofs.Parts.{on_ok, leaves-bracketed, leaves-plain}
+use Rattle.ll_lists.proofs.CallerLemmas.{OnOk-weaker as on_ok}
+use Rattle.ll_printer.proofs.Parts.{leaves-bracketed, leaves-plain}
 use Rattle.ll_printer.proofs.formulas.push_formula.Goals as goal
 
 pub returns-then-has_brackets : goal.returns-then-has_brackets

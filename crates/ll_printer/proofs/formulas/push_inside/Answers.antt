@@ -1,6 +1,7 @@
 use Rattle.std.proofs.Common.{refl}
+use Rattle.ll_lists.proofs.CallerLemmas.{OnOk-weaker as on_ok}
 use Rattle.ll_printer.specs.declared.formulas.Word.TheVariants as word
-use Rattle.ll_printer.proofs.Parts.{on_ok, word-inside, inside-load, inside-head}
+use Rattle.ll_printer.proofs.Parts.{word-inside, inside-load, inside-head}
 use Rattle.ll_printer.proofs.formulas.push_inside.Goals as goal
 
 pub returns-in-True : goal.returns-in-True

@@ -1,8 +1,9 @@
 use Rattle.std.proofs.Common.{[], false}
+use Rattle.ll_lists.proofs.CallerLemmas.{OnErr-always as on_err}
 use Rattle.ll_parser.specs.Nodes.{raw_at}
 use Rattle.ll_parser.specs.Printed.{clauses, formula_text}
 use Rattle.ll_printer.specs.Parts.{parts_text}
-use Rattle.ll_printer.proofs.Parts.{on_err, printing-on, printing-part, printing-lighter, writing-stops}
+use Rattle.ll_printer.proofs.Parts.{printing-on, printing-part, printing-lighter, writing-stops}
 use Rattle.ll_printer.proofs.formulas.write_formula.Goals as goal
 
 pub loop-part-smaller : goal.loop-part-smaller

@@ -1,7 +1,8 @@
 use Rattle.std.proofs.Common.{sym, ◌∙◌}
+use Rattle.ll_lists.proofs.CallerLemmas.{OnErr-always as on_err}
 use Rattle.ll_bank.specs.Nodes.{term_tree}
 use Rattle.ll_bank.proofs.CallerLemmas.{AllInTerms-below}
-use Rattle.ll_printer.proofs.Printing.{cons_moves, head_moves, head_begins, begins_none, on_err}
+use Rattle.ll_printer.proofs.Printing.{cons_moves, head_moves, head_begins, begins_none}
 use Rattle.ll_printer.proofs.pieces.print_term.Goals as goal
 
 pub returns-in_err-push_cons-in-App-clause-begun : goal.returns-in_err-push_cons-in-App-clause-begun

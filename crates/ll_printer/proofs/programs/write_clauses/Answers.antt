@@ -1,5 +1,5 @@
 use Rattle.std.proofs.Common.{arith}
-use Rattle.ll_printer.proofs.Parts.{on_err}
+use Rattle.ll_lists.proofs.CallerLemmas.{OnErr-always as on_err}
 use Rattle.ll_printer.proofs.Lines.{clauses-on, clauses-refused}
 use Rattle.ll_printer.proofs.programs.write_clauses.Goals as goal
 

@@ -1,6 +1,6 @@
-use Rattle.ll_printer.proofs.Parts.{on_err, on_refused}
 use Rattle.ll_printer.proofs.Lines.{module-word, module-name, module-params, module-locals, name-refused, params-refused, locals-refused, last-refused}
 use Rattle.ll_printer.proofs.programs.write_module.Goals as goal
+use Rattle.ll_lists.proofs.CallerLemmas.{OnErr-always as on_err, OnErr-weaker as on_refused}
 
 pub returns-in_err-write_name-clause-begun : goal.returns-in_err-write_name-clause-begun
 returns-in_err-write_name-clause-begun c =

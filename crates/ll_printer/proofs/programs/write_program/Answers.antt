@@ -1,7 +1,7 @@
 use Rattle.std.proofs.Common.{arith}
+use Rattle.ll_lists.proofs.CallerLemmas.{OnErr-always as on_err}
 use Rattle.ll_parser.specs.Nodes.{shown_program}
 use Rattle.ll_parser.specs.Printed.{program_text}
-use Rattle.ll_printer.proofs.Parts.{on_err}
 use Rattle.ll_printer.proofs.Lines.{program-clauses, modules-on, modules-refused, modules-end}
 use Rattle.ll_printer.proofs.programs.write_program.Goals as goal
 

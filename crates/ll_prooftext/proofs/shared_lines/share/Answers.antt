@@ -1,5 +1,6 @@
 use Rattle.std.proofs.Common.{length, subst}
 use Rattle.std.proofs.lemmas.Result.{err_from_is_err_and}
+use Rattle.ll_lists.proofs.CallerLemmas.{IfOk-each as if_ok}
 use Rattle.ll_bank.specs.Nodes.{term_trees}
 use Rattle.ll_bank.specs.declared.At.{At}
 use Rattle.ll_prooftext.specs.Reading.{Cell, Nothing, More, Row, Then}
@@ -7,7 +8,6 @@ use Rattle.ll_prooftext.specs.Fields.{Refuses, StopsAt}
 use Rattle.ll_prooftext.specs.Cells.{LacksFront}
 use Rattle.ll_prooftext.specs.SharedLines.{IsSpineOver, IsPairOver, IsShareOver}
 use Rattle.ll_prooftext.proofs.CellsRead.{rows_same, rows_stay}
-use Rattle.ll_prooftext.proofs.Close.{if_ok}
 use Rattle.ll_prooftext.proofs.LinesOver.{share_plain, share_sign, front_bad, plain_bad, sign_bad, if_err}
 use Rattle.ll_prooftext.proofs.Rest.{refuses_weaker}
 use Rattle.ll_prooftext.proofs.shared_lines.share.Goals as goal

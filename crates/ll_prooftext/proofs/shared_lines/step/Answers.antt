@@ -1,10 +1,10 @@
 use Rattle.std.proofs.Common.{length, ◌++◌}
 use Rattle.std.proofs.lemmas.Result.{err_from_is_err_and}
+use Rattle.ll_lists.proofs.CallerLemmas.{IfOk-each as if_ok}
 use Rattle.ll_bank.specs.Nodes.{term_trees}
 use Rattle.ll_laws.specs.declared.Rule.{Rule}
 use Rattle.ll_prooftext.specs.RowWords.{spelling, IsNodeRow}
 use Rattle.ll_prooftext.specs.SharedLines.{IsStepOver}
-use Rattle.ll_prooftext.proofs.Close.{if_ok}
 use Rattle.ll_prooftext.proofs.LinesOver.{exists_made, step_plain, asks_same, plain_kind}
 use Rattle.ll_prooftext.proofs.shared_lines.step.Goals as goal
 

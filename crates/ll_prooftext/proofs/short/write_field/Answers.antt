@@ -1,10 +1,10 @@
 use Rattle.std.proofs.Common.{◌++◌, ap, sym, subst, ◌∙◌, append_assoc, codes, decimal}
 use Rattle.std.specs.Prelude.{unwrap_or}
 use Rattle.std.proofs.lemmas.List.{length-map}
+use Rattle.ll_lists.proofs.CallerLemmas.{OnOk-weaker as on_ok}
 use Rattle.ll_bank.specs.declared.At.{At}
 use Rattle.ll_bank.specs.Nodes.{term_tree, term_trees}
 use Rattle.ll_laws.specs.Output.{term_text}
-use Rattle.ll_printer.proofs.CallerLemmas.{on_ok}
 use Rattle.ll_prooftext.specs.declared.short.Fields.{Fields}
 use Rattle.ll_prooftext.specs.Short.{HasRows, HasField, shown}
 use Rattle.ll_prooftext.proofs.ShortLines.{row_is, field_by_row, field_itself}

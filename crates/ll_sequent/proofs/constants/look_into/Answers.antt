@@ -3,6 +3,7 @@ use Rattle.std.specs.Prelude.{◌||◌}
 use Rattle.std.specs.Ordering.{nat_cmp}
 use Rattle.std.specs.BTreeSet.{contains}
 use Rattle.std.proofs.lemmas.List.Elements.{All-cons, All-nil}
+use Rattle.ll_lists.proofs.CallerLemmas.{or_false}
 use Rattle.ll_bank.specs.declared.At.{At}
 use Rattle.ll_bank.specs.Nodes.{term_tree, form_tree}
 use Rattle.ll_bank.specs.Term.{has_eigen}
@@ -10,7 +11,7 @@ use Rattle.ll_bank.specs.Form.{form_has_eigen}
 use Rattle.ll_bank.specs.Opened.{form_size}
 use Rattle.ll_sequent.specs.Constants.{is_in}
 use Rattle.ll_sequent.proofs.ConstantLemmas.{eigen_trees, gathers_terms, gathers_nothing}
-use Rattle.ll_sequent.proofs.FormConstants.{none_inside, one_inside, two_inside, on_ok, or_false}
+use Rattle.ll_sequent.proofs.FormConstants.{none_inside, one_inside, two_inside, on_ok}
 use Rattle.ll_sequent.proofs.constants.look_into.Goals as goal
 
 pub returns-in-Top : goal.returns-in-Top

@@ -3,12 +3,13 @@ use Rattle.std.proofs.lemmas.List.{length-map}
 use Rattle.std.proofs.lemmas.Bool.{eqb-true, eqb-false}
 use Rattle.std.specs.Prelude.{filter, not}
 use Rattle.std.specs.List.{list_all}
+use Rattle.ll_lists.proofs.CallerLemmas.{empty_from_length as empty_list}
 use Rattle.ll_laws.specs.Shows.{has}
 use Rattle.ll_sequent.specs.declared.sequents.Sequent.{Sequent}
 use Rattle.ll_laws.specs.ShownLines.{part_line}
 use Rattle.ll_sequent.specs.declared.sequents.Resource.{Resource}
 use Rattle.ll_sequent.specs.Named.{has_resource}
-use Rattle.ll_sequent.proofs.DealLemmas.{IsInDeal, line_now, deal_bounded, deal_free, deal_unnamed, deal_left, deal_end, empty_list}
+use Rattle.ll_sequent.proofs.DealLemmas.{IsInDeal, line_now, deal_bounded, deal_free, deal_unnamed, deal_left, deal_end}
 use Rattle.ll_sequent.proofs.premises.dealt.Goals.{in-Bounded+else-not-are_labels_of+in_ok-part-in-Bounded+in_ok-left-in-Bounded, in-Unbounded}
 use Rattle.ll_sequent.proofs.premises.dealt.Goals as goal
 

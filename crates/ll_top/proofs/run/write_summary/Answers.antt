@@ -1,6 +1,6 @@
 use Rattle.ll_top.proofs.GivenLemmas.{no_front}
-use Rattle.ll_top.proofs.RunLemmas.{on_err}
 use Rattle.ll_top.proofs.run.write_summary.Goals as goal
+use Rattle.ll_lists.proofs.CallerLemmas.{OnErr-always as on_err}
 
 pub returns-in_err-summary-clause-prefix : goal.returns-in_err-summary-clause-prefix
 returns-in_err-summary-clause-prefix g c = on_err _ (no_front _ _)

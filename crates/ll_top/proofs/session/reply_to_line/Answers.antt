@@ -1,9 +1,9 @@
 use Rattle.std.proofs.Common.{refl, sym, subst, ◌∙◌}
 use Rattle.std.specs.Prelude.{Ok, Err}
+use Rattle.ll_lists.proofs.CallerLemmas.{OnOk-weaker as on-ok, OnErr-weaker as on-err}
 use Rattle.ll_parser.specs.Raw.{ProgramTree}
 use Rattle.ll_session.specs.Queries.{IsProgramOf, on_line}
 use Rattle.ll_session.specs.Replied.{Replies, RefusesLine, line_refused}
-use Rattle.ll_session.proofs.CallerLemmas.{on-ok, on-err}
 use Rattle.ll_top.specs.SessionEnds.{WritesReply, CutsReply}
 use Rattle.ll_top.proofs.session.reply_to_line.Goals as goal
 

@@ -1,11 +1,12 @@
 use Rattle.std.proofs.Common.{◌≡◌, List, sym, subst, refl, ◌∙◌, map}
 use Rattle.std.specs.Prelude.{Some}
+use Rattle.ll_lists.proofs.CallerLemmas.{IfOk-each as if_ok-more}
 use Rattle.ll_bank.specs.Nodes.{term_trees}
 use Rattle.ll_laws.specs.declared.Part.{Part}
 use Rattle.ll_laws.specs.declared.Rule.{Rule}
 use Rattle.ll_laws.specs.Line.{put, ClauseLine}
 use Rattle.ll_laws.specs.ShownLines.{line_of, part_line}
-use Rattle.ll_trace.proofs.Sharing.{one-step, num-step, erase-step, with-step, bang-step, lolli-step, passing-step, passing-rule, given-tensor, if_ok-more}
+use Rattle.ll_trace.proofs.Sharing.{one-step, num-step, erase-step, with-step, bang-step, lolli-step, passing-step, passing-rule, given-tensor}
 use Rattle.ll_trace.specs.Shares.{GivesTensor, GivesRule}
 use Rattle.ll_trace.proofs.deal.deal_node.Goals as goal
 

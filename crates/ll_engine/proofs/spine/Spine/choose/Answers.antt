@@ -1,5 +1,6 @@
 use Rattle.std.specs.List.{Contains}
 use Rattle.std.proofs.Common.{refl, sym, subst, List, [], ◌∷◌, ◌++◌, reverse, ◌-◌}
+use Rattle.ll_lists.proofs.CallerLemmas.{All-front, All-last as All-end}
 use Rattle.ll_laws.specs.Attempt.{tries}
 use Rattle.ll_laws.specs.declared.Candidate.{Candidate}
 use Rattle.ll_freeze.specs.Shown.{state_of}
@@ -7,7 +8,6 @@ use Rattle.ll_freeze.specs.Parts.{parts_of}
 use Rattle.ll_freeze.proofs.CallerLemmas.{keeps}
 use Rattle.ll_engine.specs.Pointed.{Held, IsSoundAt, helds, points_of, spine_at, spine_of, first_of}
 use Rattle.ll_engine.specs.Turned.{Chose}
-use Rattle.ll_engine.proofs.CandidateLemmas.{All-front, All-end}
 use Rattle.ll_engine.proofs.Pointing.{sound_after, chose_some, helds_kept, marks_kept}
 use Rattle.ll_engine.proofs.spine.Spine.choose.Goals as goal
 

@@ -1,9 +1,10 @@
 use Rattle.std.proofs.Common.{◌++◌, ap, sym, ◌∙◌, eqb, not, refl}
 use Rattle.std.proofs.lemmas.List.{length-map}
+use Rattle.ll_lists.proofs.CallerLemmas.{OnOk-weaker as on_ok}
 use Rattle.ll_bank.specs.declared.At.{At}
 use Rattle.ll_bank.specs.Nodes.{term_tree, term_trees}
 use Rattle.ll_laws.specs.Output.{has_arguments}
-use Rattle.ll_printer.proofs.CallerLemmas.{on_ok, has_arguments-app}
+use Rattle.ll_printer.proofs.CallerLemmas.{has_arguments-app}
 use Rattle.ll_prooftext.specs.Tables.{row_at, bare, known, inside, entries}
 use Rattle.ll_prooftext.proofs.TableSteps.{is_there}
 use Rattle.ll_prooftext.proofs.table.Table.enter.Goals as goal

@@ -86,7 +86,7 @@ pub use Rattle.ll_core.proofs.Owing.{step_given}
 pub use Rattle.ll_core.proofs.FrontStays.{given_later}
 -- what was given is what the taken front of the walk owes
 pub use Rattle.ll_core.proofs.Owing.{given_in_front}
--- once all is tried and nobody is busy, a pool does not go on
+-- once all is tried and nobody is busy, no batch and no piece comes any more
 pub use Rattle.ll_core.proofs.Owing.{nothing_comes}
 -- then all reports together have the events that the root owes
 pub use Rattle.ll_core.proofs.Owing.{all_events}

@@ -74,7 +74,7 @@ pub use Rattle.ll_laws.proofs.ConsistentTerms.{IsHead}
 pub use Rattle.ll_laws.proofs.ConsistentTerms.{Fit}
 -- each term of a list fits
 pub use Rattle.ll_laws.proofs.ConsistentTerms.{AllFit}
--- a closed term without bound places, with variables and eigenconstants that are there, fits
+-- a term without bound places, whose variables and eigenconstants are there, fits
 pub use Rattle.ll_laws.proofs.ConsistentTerms.{fit_of_made}
 -- a term that fits has no variable beyond those that are there
 pub use Rattle.ll_laws.proofs.ConsistentTerms.{fit-vars}
@@ -144,7 +144,7 @@ pub use Rattle.ll_laws.proofs.SettleLaws.{front-map}
 
 -- where settling fails, a search has no event
 pub use Rattle.ll_laws.proofs.SearchLaws.{events_none}
--- where nothing is left to do, a search has one answer
+-- where nothing is left to do, a search has an answer where the context allows one, and else no event
 pub use Rattle.ll_laws.proofs.SearchLaws.{events_answer}
 -- where something is left to do and no inference is, a search has reached its bound
 pub use Rattle.ll_laws.proofs.SearchLaws.{events_reached}
@@ -152,7 +152,7 @@ pub use Rattle.ll_laws.proofs.SearchLaws.{events_reached}
 pub use Rattle.ll_laws.proofs.SearchLaws.{events_step}
 -- where settling fails, a search costs nothing
 pub use Rattle.ll_laws.proofs.SearchLaws.{cost_none}
--- an answer costs nothing more
+-- where nothing is left to do, a search costs nothing more
 pub use Rattle.ll_laws.proofs.SearchLaws.{cost_answer}
 -- a search without inferences costs nothing
 pub use Rattle.ll_laws.proofs.SearchLaws.{cost_zero}
@@ -162,5 +162,5 @@ pub use Rattle.ll_laws.proofs.SearchLaws.{cost_step}
 
 -- lines of one tree without a fault show the problem
 pub use Rattle.ll_laws.proofs.Lines.{no-fault-shows}
--- lines that show the problem have no fault, and fit by their number
+-- lines that show the problem have no fault, and as many nodes as their tree
 pub use Rattle.ll_laws.proofs.Lines.{shown-no-fault}

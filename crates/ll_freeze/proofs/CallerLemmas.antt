@@ -117,6 +117,7 @@ fits_kept m n s f h y x c d t i g l e =
       eigens = e;
     }
 
+-- a bank cut to its own size is itself
 pub cut_same : (old new : Nodes) (size : BankSize) → size ≡ size_of old → IsCutTo size old new → new ≡ old
 cut_same old new size e c =
     let p : size_of new ≡ size_of old = c.places ∙ e in

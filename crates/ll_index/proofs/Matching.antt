@@ -90,6 +90,7 @@ found_key h by_sign name arguments first w =
     ap (λ o. key_eq (named_key o (arity h) s) (Named name arguments first)) w.head
     ∙ (ap (λ k. key_eq (Named name k s) (Named name arguments first)) w.count ∙ (ap (λ f. key_eq (Named name arguments f) (Named name arguments first)) w.sign ∙ key_refl (Named name arguments first)))
 
+-- signs that do not clash
 no-clash : (first s : First) → signs_clash first s ≡ false → (first ≢ Open) → (s ≡ first) ⊎ (s ≡ Open)
 no-clash Open s h n = absurd (n refl)
 no-clash (IntSign y) (IntSign z) h n = inl (ap IntSign (sym ((Decides-int_eq y z).0 (is_true (int_eq y z) h))))

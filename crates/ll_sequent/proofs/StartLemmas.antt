@@ -24,6 +24,7 @@ use Rattle.ll_sequent.specs.Starting.{values, of_kind, AreSound, IsRoot}
 use Rattle.ll_sequent.proofs.FindingLemmas.{map_reverse}
 use Rattle.ll_sequent.proofs.ValueLemmas.{sound-values}
 
+-- a bank cut to its own size is itself
 cut_same : (old new : Nodes) (size : BankSize) → size ≡ size_of old → IsCutTo size old new → new ≡ old
 cut_same old new size e c =
     let p : size_of new ≡ size_of old = c.places ∙ e in

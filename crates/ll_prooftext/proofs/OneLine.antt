@@ -3,6 +3,7 @@ use Rattle.std.proofs.Common.{◌≡◌, ℕ, suc, ◌<◌, ◌^◌, Bool, true,
 use Rattle.std.specs.Prelude.{if◌then◌else◌}
 use Rattle.std.specs.List.{list_all, flat_map, IsDistinct}
 use Rattle.std.specs.Str.{bytes_eq}
+use Rattle.std.proofs.lemmas.Bool.{eqb-false}
 use Rattle.std.proofs.lemmas.Fmt.{decimal_injective, decimal_nonempty}
 use Rattle.std.proofs.lemmas.List.Elements.{All-head, All-tail}
 use Rattle.ll_bank.specs.Term.{Term}
@@ -238,20 +239,20 @@ one_kind l m e = sym (kind_is l) ∙ (ap (index_in node_words) e ∙ kind_is m)
 
 -- no node has the word of a variable
 not_let : (l : Line) → line_kind l ≡ 14 → ⊥
-not_let OneLine e = cc
-not_let EraseLine e = cc
-not_let (TensorLine s t) e = cc
-not_let WithLine e = cc
-not_let LeftLine e = cc
-not_let RightLine e = cc
-not_let BangLine e = cc
-not_let (LolliLine n) e = cc
-not_let (ImpLine n) e = cc
-not_let (ForallLine n) e = cc
-not_let (ExistsLine t) e = cc
-not_let UseLine e = cc
-not_let NumLine e = cc
-not_let (ClauseLine n k ts ps) e = cc
+not_let OneLine e = eqb-false 0 14 refl e
+not_let EraseLine e = eqb-false 1 14 refl e
+not_let (TensorLine s t) e = eqb-false 2 14 refl e
+not_let WithLine e = eqb-false 3 14 refl e
+not_let LeftLine e = eqb-false 4 14 refl e
+not_let RightLine e = eqb-false 5 14 refl e
+not_let BangLine e = eqb-false 6 14 refl e
+not_let (LolliLine n) e = eqb-false 7 14 refl e
+not_let (ImpLine n) e = eqb-false 8 14 refl e
+not_let (ForallLine n) e = eqb-false 9 14 refl e
+not_let (ExistsLine t) e = eqb-false 10 14 refl e
+not_let UseLine e = eqb-false 11 14 refl e
+not_let NumLine e = eqb-false 12 14 refl e
+not_let (ClauseLine n k ts ps) e = eqb-false 13 14 refl e
 
 rest_stops : (names : List (List ℕ)) (l : Line) → Stops (is_not 32) (line_rest names l)
 rest_stops names (TensorLine s t) = at_byte 32 (set_text s ++ field (set_text t)) refl refl
@@ -329,7 +330,7 @@ module _ (names : List (List ℕ)) (distinct : IsDistinct bytes_eq names) where
   by_parts UseLine UseLine p q w e = refl
   by_parts NumLine NumLine p q w e = refl
   by_parts (ClauseLine n k ts ps) (ClauseLine m j us qs) p q w e = clause_same n k m j ts us ps qs p q e
-  by_parts l m p q w e = absurd cc
+  by_parts l m p q w e = absurd (eqb-false (line_kind l) (line_kind m) refl w)
 
   -- a line is told by its text
   pub one_line : (l m : Line) → IsSpelledLine names l → IsSpelledLine names m → node_text names l ≡ node_text names m → l ≡ m

@@ -2,6 +2,7 @@
 use Rattle.std.proofs.Common.{◌≡◌, ℕ, ◌<◌, ◌^◌, List, [], ◌∷◌, length, All, refl, ap, sym, ◌∙◌}
 use Rattle.std.specs.List.{IsDistinct, flat_map}
 use Rattle.std.specs.Str.{bytes_eq}
+use Rattle.std.proofs.lemmas.Bool.{eqb-false}
 use Rattle.std.proofs.lemmas.List.Elements.{All-head, All-tail}
 use Rattle.ll_bank.specs.Term.{Term}
 use Rattle.ll_laws.specs.Line.{Line, OneLine, EraseLine, TensorLine, WithLine, LeftLine, RightLine, BangLine, UseLine, LolliLine, ImpLine, ForallLine, ExistsLine, ClauseLine, NumLine, PartLine}
@@ -40,7 +41,7 @@ module _ (names : List (List ℕ)) (distinct : IsDistinct bytes_eq names) (rows 
   once_by_kind BangLine BangLine l q s v a b = refl
   once_by_kind UseLine UseLine l q s v a b = refl
   once_by_kind NumLine NumLine l q s v a b = refl
-  once_by_kind x y l q s v a b = absurd cc
+  once_by_kind x y l q s v a b = absurd (eqb-false (line_kind x) (line_kind y) refl q)
 
   -- lines are those of one list of nodes
   pub steps_once : (xs ys : List Line) (ls : List (List ℕ)) → All (IsSpelledLine names) xs → All (IsSpelledLine names) ys → AreEach (IsStep names rows) xs ls → AreEach (IsStep names rows) ys ls → xs ≡ ys

@@ -3,6 +3,7 @@ use Rattle.std.proofs.Common.{◌≡◌, ℕ, zero, suc, ◌<◌, ◌^◌, Bool,
 use Rattle.std.specs.Prelude.{◌⊎◌, if◌then◌else◌}
 use Rattle.std.specs.List.{IsDistinct, list_all, flat_map, slice_get}
 use Rattle.std.specs.Str.{bytes_eq}
+use Rattle.std.proofs.lemmas.Bool.{eqb-false}
 use Rattle.std.proofs.lemmas.Slice.Eq.{bytes_eq-Decides}
 use Rattle.std.proofs.lemmas.Fmt.{decimal_injective, signed_decimal_injective}
 use Rattle.std.proofs.lemmas.List.Elements.{All-nil, All-cons, All-head, All-tail}
@@ -374,7 +375,7 @@ module _ (names ms : List (List ℕ)) (one : IsDistinct bytes_eq names) (two : I
   by_kind rows others (ForallLine n) (ForallLine m) k q r l s v a b = no_terms
   by_kind rows others UseLine UseLine k q r l s v a b = no_terms
   by_kind rows others NumLine NumLine k q r l s v a b = no_terms
-  by_kind rows others x y k q r l s v a b = absurd cc
+  by_kind rows others x y k q r l s v a b = absurd (eqb-false (line_kind x) (line_kind y) refl q)
 
   -- the lines of nodes that are the same are of one kind
   pub step_kind : (rows others : List Term) (x y : Line) (k : List ℕ) → IsStep names rows x k → IsStep ms others y k → line_kind x ≡ line_kind y

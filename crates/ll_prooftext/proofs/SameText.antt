@@ -3,6 +3,7 @@ use Rattle.std.proofs.Common.{◌≡◌, ℕ, ◌<◌, ◌^◌, Bool, true, fals
 use Rattle.std.specs.Prelude.{if◌then◌else◌}
 use Rattle.std.specs.List.{IsDistinct, flat_map}
 use Rattle.std.specs.Str.{bytes_eq}
+use Rattle.std.proofs.lemmas.Bool.{eqb-false}
 use Rattle.std.proofs.lemmas.List.Elements.{All-head, All-tail}
 use Rattle.ll_bank.specs.declared.Head.{Head}
 use Rattle.ll_bank.specs.declared.Head.TheVariants.{Name, Eigen, Bound}
@@ -117,7 +118,7 @@ module _ (names ms : List (List ℕ)) (one : IsDistinct bytes_eq names) (two : I
   same_by_kind BangLine BangLine l q s v a b = refl
   same_by_kind UseLine UseLine l q s v a b = refl
   same_by_kind NumLine NumLine l q s v a b = refl
-  same_by_kind x y l q s v a b = absurd cc
+  same_by_kind x y l q s v a b = absurd (eqb-false (line_kind x) (line_kind y) refl q)
 
   pub same_nodes : (xs ys : List Line) (ls : List (List ℕ)) → All (IsSpelledLine names) xs → All (IsSpelledLine ms) ys → AreEach (IsStep names rows) xs ls → AreEach (IsStep ms others) ys ls → flat_map (λ n. line (node_text names n)) xs ≡ flat_map (λ n. line (node_text ms n)) ys
   same_nodes [] [] ls s v a b = refl

@@ -1,5 +1,5 @@
 -- Numbers of texts: what callers know of them, and how a set of texts has them.
-use Rattle.std.proofs.Common.{◌≡◌, ℕ, zero, suc, ◌+◌, ◌<◌, ◌≤◌, Bool, true, false, not, cond, eqb, ltb, ◌||◌, List, [], ◌∷◌, ◌++◌, length, map, slice_get, position, Option, Some, None, get_or, refl, ap, sym, subst, ◌∙◌, arith, true≢false, if◌then◌else◌, length-append, append_assoc}
+use Rattle.std.proofs.Common.{◌≡◌, ℕ, ◌+◌, ◌<◌, ◌≤◌, Bool, true, false, not, cond, eqb, ltb, ◌||◌, List, [], ◌∷◌, ◌++◌, length, map, slice_get, position, Option, Some, None, get_or, refl, ap, sym, subst, ◌∙◌, arith, true≢false, if◌then◌else◌, length-append, append_assoc}
 use Rattle.std.specs.List.{list_any, position_or_len, IsDistinct, AllByRecursion, AllZip}
 use Rattle.std.specs.Str.{bytes_eq}
 use Rattle.std.proofs.lemmas.Bool.{false_from_ne_true, ltb-false, le-ltb}

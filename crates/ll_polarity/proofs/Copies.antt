@@ -1,4 +1,4 @@
--- Copies of names, of modules and of banks.
+-- Copies of modules and of banks.
 use Rattle.std.proofs.Common.{◌≡◌, ℕ, zero, suc, ◌+◌, ◌<◌, ◌≤◌, ◌^◌, Bool, true, false, ◌||◌, List, [], ◌∷◌, ◌++◌, length, map, take, slice_get, get_or, Some, refl, ap, sym, subst, ◌∙◌, arith, if◌then◌else◌, append-nil, length-append}
 use Rattle.std.specs.Prelude.{All}
 use Rattle.std.specs.List.{list_any, IsDistinct}
@@ -16,30 +16,6 @@ use Rattle.ll_laws.specs.Shown.{clause_tree, module_tree, HasClauses, HasModules
 use Rattle.ll_polarity.specs.Copied.{module_row}
 use Rattle.ll_polarity.specs.Asks.{ProgramPart}
 use Rattle.ll_polarity.specs.Loading.{IsNumbered}
-
--- ---- names
-
--- nothing passes a test in front of a place where nothing passes it
-none_in_front : {X : Type 0} (p : X → Bool) (xs : List X) (i : ℕ) (d : X) → ((k : ℕ) → k < i → p (get_or xs k d) ≡ false) → i ≤ length xs → list_any p (take i xs) ≡ false
-none_in_front p xs zero d h l = refl
-none_in_front p [] (suc i) d h l = refl
-none_in_front p (x ∷ xs) (suc i) d h l = by (p x) (h 0 (omega arith)) (none_in_front p xs i d (λ k m. h (suc k) (omega arith)) (omega arith))
-  where
-    by : (b : Bool) → b ≡ false → list_any p (take i xs) ≡ false → b || list_any p (take i xs) ≡ false
-    by true e r = cc
-    by false e r = r
-
--- the next of some names that differ goes last
-pub next_name : (texts : List (List ℕ)) (i : ℕ) (text : List ℕ) → IsDistinct bytes_eq texts → slice_get texts i ≡ Some text → with_name (take i texts) text ≡ take (i + 1) texts
-next_name texts i text distinct here =
-    let inside = slice_get_within texts i text here in
-    let found = position-Some (bytes_eq text) texts i [] (number_of-slice_get texts text i distinct here) in
-    let none = none_in_front (bytes_eq text) texts i [] found.2 (omega arith) in
-    ap (λ b. if b then take i texts else take i texts ++ text ∷ []) none
-    ∙ (ap (λ t. take i texts ++ t ∷ []) (sym (get_or_from_slice_get texts i text [] here)) ∙ sym (take_more texts i [] inside))
-
-pub few_names : (texts copy : List (List ℕ)) (n : ℕ) → copy ≡ take n texts → length texts < 2 ^ 32 → length copy < 2 ^ 32
-few_names texts copy n e l = let f = ap length e in let g = length-take n texts in omega arith
 
 -- ---- modules
 

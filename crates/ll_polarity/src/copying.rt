@@ -1,21 +1,40 @@
 //! Copies of the part of a problem that a program fixes.
 
-ghost use Rattle.std.specs.Prelude.{◌≡◌, ◌^◌, ◌<◌, length, map, IfOk};
+ghost use Rattle.std.specs.Prelude.{◌≡◌, map, IfOk};
 ghost use Rattle.ll_polarity.specs.Copied.{module_row};
 
 use crate::part::Loaded;
-use ll_bank::{Names, OutOfMemory};
+use ll_bank::OutOfMemory;
 use ll_laws::Module;
 use std::alloc::Global;
 
 impl Loaded {
-    /// An equal part of its own: its terms, its formulas and its clauses are copied in blocks, its names one after the other.
+    /// The same part, held so that copies share its names.
+    pub(crate) fn shared(self) -> Result<Loaded, OutOfMemory>
+        ensures { IfOk result (λ part. part ≡ self) }
+    {
+        let Loaded {
+            bank,
+            names,
+            modules,
+            clauses,
+        } = self;
+        let names = names.share()?;
+        Ok(Loaded {
+            bank,
+            names,
+            modules,
+            clauses,
+        })
+    }
+
+    /// An equal part of its own: its terms, its formulas and its clauses are copied in blocks, and names that are shared stay so.
     pub fn copy(&self, alloc: Global) -> Result<Loaded, OutOfMemory>
         ensures { IfOk result (λ copy. copy ≡ self.now) }
     {
         let size = self.bank.size();
         let bank = self.bank.image(size)?;
-        let names = copied_names(alloc, &self.names)?;
+        let names = self.names.copy()?;
         let modules = copied_modules(alloc, &self.modules)?;
         let clauses = Vec::from_slice(alloc, &self.clauses)?;
         Ok(Loaded {
@@ -25,18 +44,6 @@ impl Loaded {
             clauses,
         })
     }
-}
-
-/// The same names.
-fn copied_names(alloc: Global, names: &Names) -> Result<Names, OutOfMemory>
-    requires { length names.now < 2 ^ 32 }
-    ensures { IfOk result (λ copy. copy ≡ names.now) }
-{
-    let mut copy = Names::new(alloc);
-    for number in 0..names.len() as u32 {
-        copy.add(names.text(number))?;
-    }
-    Ok(copy)
 }
 
 /// The same modules.

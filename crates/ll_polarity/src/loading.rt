@@ -73,7 +73,7 @@ fn put_part(
     })
 }
 
-/// The part that a program without a fault fixes.
+/// The part that a program without a fault fixes, held so that copies share its names.
 fn fixed_part(alloc: Global, program: &RawProgram) -> Result<Loaded, OutOfMemory>
     requires whole { IsWhole programs (shown_program program.now.names program.now.forms program.now.clauses.items program.now.modules.items) }
     requires clauses { ClausesFit program.now.forms program.now.clauses.items }
@@ -83,7 +83,7 @@ fn fixed_part(alloc: Global, program: &RawProgram) -> Result<Loaded, OutOfMemory
 {
     let places = places_of(alloc, &program.names, &program.modules)?;
     let part = put_part(alloc, &places, program)?;
-    Ok(part)
+    part.shared()
 }
 
 /// The part of a problem that a program fixes. `Text` is the program's first fault of scope or sorting, kinds 7 to 12.

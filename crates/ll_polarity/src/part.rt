@@ -1,5 +1,8 @@
 //! The part of a problem that a program fixes.
 
+ghost use Rattle.std.specs.Prelude.{◌≡◌, map};
+ghost use Rattle.ll_laws.specs.Shown.{clause_tree, HasClauses};
+
 use ll_bank::{Bank, Names};
 use ll_laws::{Clause, Module};
 use std::marker::Model;
@@ -32,4 +35,14 @@ impl Model for Loaded {
     ghost invariant = { λ l. HasModules l.bank l.modules.items
         × HasClauses l.bank l.clauses.items
         × IsNumbered l.names l.modules.items };
+}
+
+impl Loaded {
+    /// The program's clauses, and the bank that has them.
+    pub fn clauses(&self) -> (&Bank, &[Clause])
+        ensures inside { HasClauses result.0.now result.1.now }
+        ensures clauses { map (clause_tree result.0.now) result.1.now ≡ self.now.clauses }
+    {
+        (&self.bank, &self.clauses)
+    }
 }

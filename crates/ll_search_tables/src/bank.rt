@@ -19,6 +19,28 @@ fn numbers_texts(rt: HostRuntime) -> Result<(), Fail> {
     Ok(())
 }
 
+// Texts in a front that copies share, and texts that a copy has behind it.
+#[test]
+fn shares_names(rt: HostRuntime) -> Result<(), Fail> {
+    let mut names = Names::new(rt.alloc());
+    for (text, want) in [("append", 0), ("nil", 1)] {
+        assert!(rt; names.len() < 4);
+        assert_eq!(rt; names.add(text)?, want, "number of {text}");
+    }
+    let names = names.share()?;
+    let mut copy = names.copy()?;
+    for (text, want) in [("nil", 1), ("cons", 2), ("append", 0), ("cons", 2)] {
+        assert!(rt; copy.len() < 4);
+        assert_eq!(rt; copy.add(text)?, want, "number of {text}");
+    }
+    let other = copy.share()?.copy()?;
+    assert_eq!(rt; names.len(), 2);
+    assert_eq!(rt; other.len(), 3);
+    assert_eq!(rt; other.text(1), "nil");
+    assert_eq!(rt; other.text(2), "cons");
+    Ok(())
+}
+
 #[test]
 fn reads_terms_back(rt: HostRuntime) -> Result<(), Fail> {
     let mut bank = Bank::new(rt.alloc());

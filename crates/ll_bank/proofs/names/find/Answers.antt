@@ -1,4 +1,4 @@
-use Rattle.std.proofs.Common.{◌≡◌, ℕ, ◌+◌, List, Option, Some, None, length, ap, sym, subst, ◌∙◌}
+use Rattle.std.proofs.Common.{◌≡◌, ℕ, ◌+◌, Option, Some, None, length, ap, sym, subst, ◌∙◌}
 use Rattle.ll_bank.specs.Names.{number_of}
 use Rattle.ll_bank.proofs.NameLaws.{number_of-front, number_of-behind, number_of-neither}
 use Rattle.ll_bank.proofs.names.find.Goals as goal

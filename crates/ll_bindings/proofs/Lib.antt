@@ -12,3 +12,4 @@ pub mod Settling
 pub mod CallerLemmas
 pub mod Copies
 pub mod Carrying
+pub mod NovelLemmas

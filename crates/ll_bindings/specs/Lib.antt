@@ -7,3 +7,4 @@ pub mod Pairs
 pub mod Solving
 pub mod Copied
 pub mod Carried
+pub mod Novel

@@ -1,9 +1,10 @@
 //! How a variable is bound.
-ghost use Rattle.std.specs.Prelude.{◌≡◌, ◌<◌, ℕ, true, None, length, All, IfOk, OnOk, [], ◌∷◌};
+ghost use Rattle.std.specs.Prelude.{◌≡◌, ◌<◌, ℕ, true, false, None, length, All, IfOk, IfSome, OnOk, [], ◌∷◌};
 ghost use Rattle.ll_bank.specs.Term.{Var, sub};
-ghost use Rattle.ll_bank.specs.Nodes.{term_tree};
+ghost use Rattle.ll_bank.specs.Nodes.{term_tree, HasTerm};
 ghost use Rattle.ll_laws.specs.Unify.{bind};
-ghost use Rattle.ll_bindings.specs.Bindings.{IsTable, IsEnd, found, count, cell, FallsOne, Falls, Binds, IsMeeting, Meets};
+ghost use Rattle.ll_bindings.specs.Bindings.{IsTable, IsPlaceOf, IsEnd, found, count, cell, FallsOne, Falls, Binds, IsMeeting, Meets};
+ghost use Rattle.ll_bindings.specs.Novel.{IsNewAt};
 ghost use Rattle.ll_bindings.specs.Fresh.{IsFresh, AreFresh, LeavesFresh, IsLeft, IsOther};
 
 use crate::fresh::Fresh;
@@ -95,6 +96,81 @@ fn bind_right<T: Bindings>(
     table.set(var, to)?;
     fresh.meet(var);
     Ok(true)
+}
+
+// Whether a variable stands at a place.
+fn is_variable(bank: &Bank, at: At) -> bool
+    requires { HasTerm bank.now at.0 }
+    ensures { result ≡ false → (x : ℕ) → term_tree bank.now at.0 ≡ Var x → ⊥ }
+{
+    match bank.term_at(at) {
+        TermView::Var(_) => true,
+        TermView::Int(_) => false,
+        TermView::App(_, _) => false,
+    }
+}
+
+// The unbound variable at a place that is a new one and was not met.
+fn fresh_at<T: Bindings>(bank: &Bank, table: &T, fresh: &Fresh, at: At) -> Option<usize>
+    requires table { IsTable bank.now (T.table table.now) }
+    requires place { IsPlaceOf bank.now (T.table table.now) at.0 }
+    ensures { IfSome result (IsNewAt bank.now (T.table table.now) fresh.now at.0) }
+{
+    match bank.term_at(at) {
+        TermView::Var(var) => {
+            let var = var as usize;
+            if !fresh.has(var) || table.value(var).is_some() {
+                return None;
+            }
+            Some(var)
+        }
+        TermView::Int(_) => None,
+        TermView::App(_, _) => None,
+    }
+}
+
+/// The variable at the right one of two places, where it is a new one that was not met, and no variable stands at the left one.
+pub fn new_at<T: Bindings>(
+    bank: &Bank,
+    table: &T,
+    fresh: &Fresh,
+    left: At,
+    right: At,
+) -> Option<usize>
+    requires table { IsTable bank.now (T.table table.now) }
+    requires left { IsEnd bank.now (T.table table.now) left.0 }
+    requires right { IsPlaceOf bank.now (T.table table.now) right.0 }
+    ensures new { IfSome result (IsNewAt bank.now (T.table table.now) fresh.now right.0) }
+    ensures meeting { IfSome result (λ _. IsMeeting bank.now (T.table table.now) left.0 right.0) }
+    ensures no_var { IfSome result (λ _. (x : ℕ) → term_tree bank.now left.0 ≡ Var x → ⊥) }
+{
+    if is_variable(bank, left) {
+        return None;
+    }
+    fresh_at(bank, table, fresh, right)
+}
+
+/// Binds a new variable that was not met, at the right one of two places, to what the left one shows. No level falls.
+pub fn bind_new<T: Bindings>(
+    table: &mut T,
+    bank: &Bank,
+    fresh: &mut Fresh,
+    var: usize,
+    left: At,
+    right: At,
+) -> Result<(), OutOfMemory>
+    requires table { IsTable bank.now (T.table table.old) }
+    requires new { IsNewAt bank.now (T.table table.old) fresh.old right.0 var }
+    requires meet { IsMeeting bank.now (T.table table.old) left.0 right.0 }
+    requires no_var { (x : ℕ) → term_tree bank.now left.0 ≡ Var x → ⊥ }
+    requires fresh { AreFresh bank.now (T.table table.old) fresh.old (term_tree bank.now left.0 ∷ []) }
+    ensures grows { T.grows table.old table.new }
+    ensures meets { OnOk result (Meets bank.now (T.table table.old) (T.table table.new) (term_tree bank.now left.0) (term_tree bank.now right.0) true) }
+    ensures fresh { OnOk result (LeavesFresh bank.now (T.table table.old) (T.table table.new) fresh.old fresh.new (term_tree bank.now left.0 ∷ []) []) }
+{
+    table.set(var, left)?;
+    fresh.meet(var);
+    Ok(())
 }
 
 /// Binds a variable at one of two places to what the other shows, or finds that it may not be. New variables that were not met do not

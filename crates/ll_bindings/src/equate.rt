@@ -7,12 +7,12 @@ ghost use Rattle.ll_bindings.specs.Fresh.{AreFresh, LeavesFresh};
 ghost use Rattle.ll_bindings.specs.Pairs.{AreClasses, ArePairs, IsPair, lefts, rights};
 ghost use Rattle.ll_bindings.specs.Solving.{IsSolved, Settles, wanted};
 
-use crate::bind::bind;
+use crate::bind::{bind, bind_new, new_at};
 use crate::classes::Classes;
 use crate::fresh::Fresh;
 use crate::meet::{Compared, Difference, Pair, compare, next_difference};
 use crate::scan::Seen;
-use crate::table::Bindings;
+use crate::table::{Bindings, walk};
 use ll_bank::{At, Bank, OutOfMemory};
 use std::alloc::Global;
 
@@ -137,12 +137,8 @@ fn open_next<T: Bindings>(
     Ok(equal)
 }
 
-/// Makes one term equal to another by bindings, the next of several equations, or finds that this can't be. The new variables that were
-/// not met in the equations before do not stand on the left.
-///
-/// Where the answer is `true`, that is so for the equations to come. Where it is `false`, and after a refusal, some bindings and levels
-/// may have been changed.
-pub fn unify_next<T: Bindings>(
+// Makes one term equal to another by bindings, as `unify_next` does, by where they first differ.
+fn equal_next<T: Bindings>(
     alloc: Global,
     bank: &Bank,
     table: &mut T,
@@ -168,6 +164,35 @@ pub fn unify_next<T: Bindings>(
         }
         Compared::Open(a, b) => open_next(alloc, bank, table, classes, fresh, a, b),
     }
+}
+
+/// Makes one term equal to another by bindings, the next of several equations, or finds that this can't be. The new variables that were
+/// not met in the equations before do not stand on the left.
+///
+/// Where the answer is `true`, that is so for the equations to come. Where it is `false`, and after a refusal, some bindings and levels
+/// may have been changed.
+pub fn unify_next<T: Bindings>(
+    alloc: Global,
+    bank: &Bank,
+    table: &mut T,
+    fresh: &mut Fresh,
+    left: At,
+    right: At,
+) -> Result<bool, OutOfMemory>
+    requires table { IsTable bank.now (T.table table.old) }
+    requires left { IsPlaceOf bank.now (T.table table.old) left.0 }
+    requires right { IsPlaceOf bank.now (T.table table.old) right.0 }
+    requires fresh { AreFresh bank.now (T.table table.old) fresh.old (term_tree bank.now left.0 ∷ []) }
+    ensures grows { T.grows table.old table.new }
+    ensures settles { IfOk result (Settles bank.now (T.table table.old) (T.table table.new) (term_tree bank.now left.0 ∷ []) (term_tree bank.now right.0 ∷ [])) }
+    ensures fresh { IfOk result (λ good. good ≡ true → LeavesFresh bank.now (T.table table.old) (T.table table.new) fresh.old fresh.new (term_tree bank.now left.0 ∷ []) []) }
+{
+    let end = walk(bank, table, left);
+    if let Some(var) = new_at(bank, table, fresh, end, right) {
+        bind_new(table, bank, fresh, var, end, right)?;
+        return Ok(true);
+    }
+    equal_next(alloc, bank, table, fresh, left, right)
 }
 
 // Makes two lists of terms equal by bindings, or finds that this can't be. New variables that were not met do not stand on the left.

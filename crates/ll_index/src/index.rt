@@ -1,5 +1,8 @@
 //! The index of a program's clauses.
 ghost use Rattle.std.specs.Prelude.{◌≡◌, ◌<◌, ◌^◌, length};
+ghost use Rattle.ll_index.specs.declared.laws.First.TheVariants.{Open};
+ghost use Rattle.ll_index.specs.declared.key.Key.TheVariants.{Named};
+ghost use Rattle.ll_index.specs.Keys.{first_place};
 
 use crate::chains::Chains;
 use crate::key::{Key, in_32_bits};
@@ -77,16 +80,11 @@ impl Index {
         let end = self.leaves.len() as u32;
         let by_sign = first != First::Open;
         let chains = self.chains(by_sign);
-        let own = Key::Named { name, arity, first };
-        let open = Key::Named {
-            name,
-            arity,
-            first: First::Open,
-        };
+        let own = chains.first(Key::Named { name, arity, first }, end);
         Cursor {
             by_sign,
-            first: chains.first(own, end),
-            second: chains.first(open, end),
+            first: own,
+            second: first_open(chains, name, arity, first, own, end),
         }
     }
 
@@ -129,5 +127,22 @@ impl Index {
         } else {
             &self.predicates
         }
+    }
+}
+
+// The first leaf of a predicate whose sign clashes with none. Where no sign is asked for it is the one that was found.
+fn first_open(chains: &Chains, name: u32, arity: u32, first: First, found: u32, end: u32) -> u32
+    requires { found ≡ first_place chains.now (Named name arity first) end }
+    ensures { result ≡ first_place chains.now (Named name arity Open) end }
+{
+    let open = Key::Named {
+        name,
+        arity,
+        first: First::Open,
+    };
+    match first {
+        First::Open => found,
+        First::Int(_) => chains.first(open, end),
+        First::Head(_, _) => chains.first(open, end),
     }
 }

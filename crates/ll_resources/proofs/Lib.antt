@@ -7,3 +7,4 @@ pub mod EntryLemmas
 pub mod EndLemmas
 pub mod HistoryLemmas
 pub mod CallerLemmas
+pub mod PlaceLemmas

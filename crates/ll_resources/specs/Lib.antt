@@ -5,3 +5,4 @@ pub mod Raw
 pub mod Changes
 pub mod Seen
 pub mod Ends
+pub mod Places

@@ -2,6 +2,7 @@
 ghost use Rattle.std.specs.Prelude.{◌≡◌, ◌<◌, ◌≤◌, ◌^◌, Some, length, slice_get, IfOk, OnOk, OnErr};
 ghost use Rattle.ll_resources.specs.Resources.{saved_as, saved_at, saved_now, KeepsSaved, SettlesMiddle, started, after_load, CanPick, after_pick, after_erase, load_end, after_save, after_bang, Fits, settled, bang_end, after_with_mid, with_end};
 ghost use Rattle.ll_resources.specs.History.{begun, HasMark, state_at, KeepsMarks, KeepsMarksTo, IsLastMark, Settles};
+ghost use Rattle.ll_resources.specs.Places.{label_place};
 ghost use Rattle.ll_resources.specs.Seen.{resource};
 
 use crate::Entry;
@@ -109,6 +110,21 @@ impl<C: Copy> Context<C> {
     {
         self.changes.reserve(1)?;
         let from_front = place_of(self.state.entries.as_slice(), label);
+        let change = self.state.pick(from_front);
+        self.changes.push_reserved(change);
+        Ok(())
+    }
+
+    /// Uses the entry with this label, as `pick` does, at its place, the newest being 0. It takes constant time.
+    pub fn pick_at(&mut self, label: u32, from_front: usize) -> Result<(), OutOfMemory>
+        requires can { CanPick label self.old.present }
+        requires place { from_front ≡ label_place label self.old.present.entries }
+        ensures picked { OnOk result (self.new.present ≡ after_pick label self.old.present) }
+        ensures marks { KeepsMarks self.old self.new }
+        ensures refused { OnErr result (self.new ≡ self.old) }
+    {
+        let _label = label;
+        self.changes.reserve(1)?;
         let change = self.state.pick(from_front);
         self.changes.push_reserved(change);
         Ok(())

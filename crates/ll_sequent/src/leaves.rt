@@ -8,6 +8,7 @@ ghost use Rattle.ll_laws.specs.Valid.{ClauseSide, has_heads};
 ghost use Rattle.ll_sequent.specs.Opened.{IsOpened, IsPast, IsSide};
 
 use ll_bank::{At, Bank, FormAt, FormNode, OutOfMemory};
+use ll_close::{close_form, close_term};
 use std::alloc::Global;
 
 /// The goal of a premise, which `-o` or `=>` brought.
@@ -60,6 +61,7 @@ pub(crate) fn open_leaf(
                 if passed != values.len() {
                     return Ok(None);
                 }
+                let head = close_term(alloc, bank, head, values)?;
                 premises.reverse();
                 return Ok(Some(Opened { premises, head }));
             }
@@ -69,10 +71,12 @@ pub(crate) fn open_leaf(
                 leaf = side.leaf;
             }
             FormNode::Lolli(goal, next) => {
+                let goal = close_form(alloc, bank, goal, &values[..passed])?;
                 premises.push(Needed::Bounded(goal))?;
                 form = next;
             }
             FormNode::Imp(goal, next) => {
+                let goal = close_form(alloc, bank, goal, &values[..passed])?;
                 premises.push(Needed::Unbounded(goal))?;
                 form = next;
             }
@@ -80,7 +84,7 @@ pub(crate) fn open_leaf(
                 if passed == values.len() {
                     return Ok(None);
                 }
-                form = bank.instantiate(body, values[passed])?;
+                form = body;
                 passed += 1;
             }
             _ => return Ok(None),

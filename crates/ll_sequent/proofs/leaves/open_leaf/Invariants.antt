@@ -1,5 +1,4 @@
-use Rattle.ll_bank.specs.Nodes.{form_tree, term_trees}
-use Rattle.ll_bank.specs.Opened.{form_size}
+use Rattle.ll_bank.specs.Nodes.{term_trees}
 use Rattle.ll_sequent.proofs.WayLemmas.{IsOnWay}
 use Rattle.ll_sequent.proofs.leaves.open_leaf.Given as goal
 
@@ -7,4 +6,4 @@ abbrev pub invariant-way : goal.invariant-way
 invariant-way l = IsOnWay l.fn.bank l.fn.clause.0 l.fn.leaf (term_trees l.fn.bank l.values) l.bank l.form.0 l.leaf l.passed l.premises.items
 
 abbrev pub decreases-way : goal.decreases-way
-decreases-way l = form_size (form_tree l.bank l.form.0)
+decreases-way l = l.form.0

@@ -1,5 +1,5 @@
 //! Formulas with values in place of their free bound places.
-ghost use Rattle.std.specs.Prelude.{◌≡◌, ◌-◌, ◌+◌, ◌≤◌, ◌++◌, ◌∷◌, ℕ, true, length, map, take, reverse, All, IfOk, OnOk};
+ghost use Rattle.std.specs.Prelude.{◌≡◌, ◌-◌, ◌+◌, ◌≤◌, ◌++◌, ◌∷◌, [], ℕ, true, length, map, take, reverse, All, IfOk, OnOk};
 ghost use Rattle.std.specs.HashMap.{get};
 ghost use Rattle.ll_bank.specs.Term.{close, applies_heads};
 ghost use Rattle.ll_bank.specs.Form.{close_form, form_applies_heads};
@@ -68,6 +68,9 @@ fn close_deep(
             made.push(image)?;
         } else if let Some(image) = forms.find(task) {
             made.push(FormAt(image))?;
+        } else if is_single(bank, task) {
+            let image = build_form(alloc, bank, task, values, &mut terms, &mut made)?;
+            made.push(image)?;
         } else {
             push_form(bank, task, &mut tasks)?;
         }
@@ -149,6 +152,14 @@ fn part_count(bank: &Bank, form: FormAt) -> usize
         FormNode::Less(_, _) => 0,
         FormNode::Most(_, _) => 0,
     }
+}
+
+/// Whether a formula has none right under it.
+fn is_single(bank: &Bank, task: Task) -> bool
+    requires { HasForm bank.now task.place }
+    ensures { result ≡ true → form_parts_at bank.now (task.place, task.level) ≡ [] }
+{
+    part_count(bank, FormAt(task.place)) == 0
 }
 
 /// The image of a formula, over the images of the formulas under it, which are taken from the stack.

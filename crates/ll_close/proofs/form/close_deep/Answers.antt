@@ -1,4 +1,4 @@
-use Rattle.std.proofs.Common.{◌-◌, ◌++◌, ◌∷◌, length, take, map, ap, ◌∙◌, arith, rules}
+use Rattle.std.proofs.Common.{◌-◌, ◌++◌, ◌∷◌, [], sym, length, take, map, ap, ◌∙◌, arith, rules}
 use Rattle.std.specs.Prelude.{reverse}
 use Rattle.std.specs.HashMap.{get}
 use Rattle.ll_bank.specs.declared.FormAt.{FormAt}
@@ -8,7 +8,7 @@ use Rattle.ll_bank.proofs.CallerLemmas.{Extends-refl, Extends-trans, HasForm-ext
 use Rattle.ll_close.specs.Closing.{env_of, same_spot, IsTermImage, IsFormImage, IsGoodForm}
 use Rattle.ll_close.specs.Stacks.{visit, ready}
 use Rattle.ll_close.proofs.Known.{images_add, images_none, form_image_extends, form_images_extend}
-use Rattle.ll_close.proofs.Stacks.{closing_begins, closing_good, closing_ready, closing_builds, closing_found, closing_expands, closing_ends, work_pops, work_expands}
+use Rattle.ll_close.proofs.Stacks.{closing_begins, closing_good, closing_ready, closing_builds, closing_found, closing_expands, closing_ends, take_none, work_pops, work_expands}
 use Rattle.ll_close.proofs.Parts.{form_parts_first}
 use Rattle.ll_close.proofs.Steps.{form_heads_now, forms_end_now, form_image_made, form_left, images_now, images_then}
 use Rattle.ll_close.proofs.form.close_deep.Goals as goal
@@ -234,3 +234,77 @@ push_form-requires-clause-level c =
 pub returns-in_err-image-clause-keeps : goal.returns-in_err-image-clause-keeps
 returns-in_err-image-clause-keeps c =
     Extends-trans c.loop-task.invariant.keeps c.build_form.ensures.keeps
+
+pub build_form-requires-then-is_single-clause-heads : goal.build_form-requires-then-is_single-clause-heads
+build_form-requires-then-is_single-clause-heads c =
+    let first = c.args.bank.now in
+    let now = c.loop-task.bank in
+    let vs = c.args.values.now in
+    let env = env_of first vs in
+    let good = IsGoodForm first (env, c.args.form.0) in
+    let root : Spot = (c.args.form.0, 0) in
+    let inv = c.loop-task.invariant in
+    let items = c.loop-task.tasks.items in
+    let rest = c.pop.new.self.items in
+    let task = c.in-Some.task in
+    let k : Spot = (task.place, task.level) in
+    let e = c.in-Some.ensures.items in
+    let g = closing_good (form_parts_at first) good root (λ q (x : FormAt). IsFormImage now env q x.0) c.loop-task.made.items items rest task e inv.closing in
+    form_heads_now first now inv.keeps vs c.requires.values k c.args.form.0 g
+
+pub build_form-requires-then-is_single-clause-terms : goal.build_form-requires-then-is_single-clause-terms
+build_form-requires-then-is_single-clause-terms c =
+    let first = c.args.bank.now in
+    let now = c.loop-task.bank in
+    let vs = c.args.values.now in
+    let env = env_of first vs in
+    let good = IsGoodForm first (env, c.args.form.0) in
+    let root : Spot = (c.args.form.0, 0) in
+    let inv = c.loop-task.invariant in
+    let items = c.loop-task.tasks.items in
+    let rest = c.pop.new.self.items in
+    let task = c.in-Some.task in
+    let k : Spot = (task.place, task.level) in
+    let e = c.in-Some.ensures.items in
+    let g = closing_good (form_parts_at first) good root (λ q (x : FormAt). IsFormImage now env q x.0) c.loop-task.made.items items rest task e inv.closing in
+    images_now first now inv.keeps vs c.requires.values (get same_spot c.loop-task.terms.places) inv.terms
+
+pub returns-in_err-image-2-clause-keeps : goal.returns-in_err-image-2-clause-keeps
+returns-in_err-image-2-clause-keeps c =
+    Extends-trans c.loop-task.invariant.keeps c.build_form-then-is_single.ensures.keeps
+
+pub returns-in_err-push-3-clause-keeps : goal.returns-in_err-push-3-clause-keeps
+returns-in_err-push-3-clause-keeps c =
+    Extends-trans c.loop-task.invariant.keeps c.build_form-then-is_single.ensures.keeps
+
+pub loop-task-smaller-in-Continue-branch-7 : goal.loop-task-smaller-in-Continue-branch-7
+loop-task-smaller-in-Continue-branch-7 c =
+    work_pops (form_size_at c.args.bank.now) c.loop-task.tasks.items c.pop.new.self.items c.in-Some.task c.in-Some.ensures.items (form_size-some (form_tree c.args.bank.now c.in-Some.task.place))
+
+pub loop-task-preserved-in-Continue-branch-7 : goal.loop-task-preserved-in-Continue-branch-7
+loop-task-preserved-in-Continue-branch-7 c =
+    let first = c.args.bank.now in
+    let now = c.loop-task.bank in
+    let vs = c.args.values.now in
+    let env = env_of first vs in
+    let good = IsGoodForm first (env, c.args.form.0) in
+    let root : Spot = (c.args.form.0, 0) in
+    let inv = c.loop-task.invariant in
+    let items = c.loop-task.tasks.items in
+    let rest = c.pop.new.self.items in
+    let task = c.in-Some.task in
+    let k : Spot = (task.place, task.level) in
+    let e = c.in-Some.ensures.items in
+    let g = closing_good (form_parts_at first) good root (λ q (x : FormAt). IsFormImage now env q x.0) c.loop-task.made.items items rest task e inv.closing in
+    let next = c.build_form-then-is_single.new.bank in
+    let more = c.build_form-then-is_single.ensures.keeps in
+    let here = form_image_made first now inv.keeps vs c.requires.values k next more c.in_ok-image-2.image.0 g.inside c.in_ok-image-2.ensures.shows in
+    let same = c.in_ok-image-2.ensures.made ∙ sym (take_none c.loop-task.made.items (form_parts_at now k) (c.is_single.ensures c.if-is_single.true)) in
+    record {
+      keeps = Extends-trans inv.keeps more;
+      terms = images_then first now inv.keeps vs c.requires.values next (get same_spot c.build_form-then-is_single.new.terms.places) c.in_ok-image-2.ensures.terms;
+      forms = form_images_extend now next more env (get same_spot c.loop-task.forms.places) inv.forms;
+      closing = closing_found (form_parts_at first) good root (λ q (x : FormAt). IsFormImage now env q x.0) c.loop-task.made.items items rest task e inv.closing
+          (λ q (x : FormAt). IsFormImage next env q x.0) (λ q x. form_image_extends now next more env q x.0) c.in_ok-image-2.image here c.push-then-is_single.new.self.items c.if-task.false
+          (c.in_ok-push-3.ensures.items ∙ ap (λ z. z ++ c.in_ok-image-2.image ∷ []) same);
+    }

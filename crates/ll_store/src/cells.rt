@@ -31,8 +31,8 @@ pub enum Change {
 /// 4,294,967,295.
 #[derive(Drop)]
 pub struct Cells {
-    slots: Vec<Slot>,
-    trail: Vec<Entry>,
+    pub(crate) slots: Vec<Slot>,
+    pub(crate) trail: Vec<Entry>,
 }
 
 impl Model for Cells {
@@ -180,8 +180,8 @@ fn take_one_back(cells: &mut Vec<Slot>, change: Change)
     }
 }
 
-// Takes back all but the first `from` of changes that were made one after another.
-fn take_back(cells: &mut Vec<Slot>, changes: &[Entry], from: usize)
+/// Takes back all but the first `from` of changes that were made one after another.
+pub(crate) fn take_back(cells: &mut Vec<Slot>, changes: &[Entry], from: usize)
     requires { from ≤ length changes.now }
     ensures { map cell_of cells.new.items ≡ before (drop from (map change_of changes.now)) (map cell_of cells.old.items) }
 {

@@ -1,6 +1,7 @@
 //! Cells and changes as they are kept, in eight bytes each.
 ghost use Rattle.std.specs.Prelude.{◌≡◌, Some, None, IfOk};
 ghost use Rattle.ll_store.specs.Packed.{cell_of, place_of, change_of};
+ghost use Rattle.ll_store.specs.Segments.{changed_in};
 ghost use Rattle.ll_store.specs.declared.cells.Change.TheVariants.{Bound, Lowered};
 
 use crate::cells::{Cell, Change};
@@ -89,6 +90,13 @@ impl Entry {
         } else {
             Err(AllocError)
         }
+    }
+
+    /// The variable.
+    pub fn var(&self) -> usize
+        ensures { result ≡ changed_in (change_of self.now) }
+    {
+        self.var as usize
     }
 
     /// The change.

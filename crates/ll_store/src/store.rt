@@ -27,9 +27,9 @@ pub struct Store {
 /// A state of a store, for [`Store::undo`] and [`Store::image`].
 #[derive(Clone, Copy, Debug, PartialEq, Eq)]
 pub struct Mark {
-    cells: usize,
-    trail: usize,
-    bank: BankSize,
+    pub(crate) cells: usize,
+    pub(crate) trail: usize,
+    pub(crate) bank: BankSize,
 }
 
 impl Store {

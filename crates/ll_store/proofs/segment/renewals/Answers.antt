@@ -1,0 +1,10 @@
+use Rattle.std.proofs.Common.{arith, map}
+use Rattle.ll_store.specs.Packed.{cell_of}
+use Rattle.ll_store.specs.Segments.{renewed_of}
+use Rattle.ll_store.proofs.SegmentLemmas.{renewals-step}
+use Rattle.ll_store.proofs.segment.renewals.Goals as goal
+
+pub loop-at-preserved : goal.loop-at-preserved
+loop-at-preserved c =
+    renewals-step c.args.changes.now c.args.range.0 c.loop-at.at _ c.args.count (map cell_of c.args.cells.now) (map renewed_of c.loop-at.made.items) (map renewed_of c.note.new.made.items) (omega arith) (omega arith) c.loop-at.invariant
+    c.in_ok-note.ensures

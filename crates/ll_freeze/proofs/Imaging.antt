@@ -1,7 +1,7 @@
 -- The image of a machine.
 use Rattle.std.proofs.Common.{◌≡◌, refl, sym, ◌∙◌}
 use Rattle.ll_agenda.specs.Frames.{ShowsItems}
-use Rattle.ll_freeze.specs.Parts.{Parts}
+use Rattle.ll_freeze.specs.Parts.{Parts, Base}
 use Rattle.ll_freeze.specs.Shown.{items_of, state_of}
 use Rattle.ll_freeze.specs.Fits.{Fits}
 use Rattle.ll_freeze.specs.Calls.{IsImage, SameTerms}
@@ -15,6 +15,7 @@ image_of m n s r i e l st f =
     record {
       problem = s.problem;
       state = a;
+      base = λ i. let b : Base = record { bank = s.bank i; bound = s.bound i; levels = s.levels i } in b;
       left = l;
       fits = fits_kept m n s f (rw a f.consistent) (rw a f.rests) e (rw r f.clauses) (rw r f.sorted_clauses) i.inside (rw (r, i.list) f.items) (rw i.list f.sorted_goals) (rw (r, l) f.labels)
           (rw (e, l) f.eigens);

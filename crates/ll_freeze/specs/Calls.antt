@@ -1,7 +1,7 @@
 -- What the calls that make a machine answer, and what two machines have in common.
 use Rattle.std.specs.Prelude.{◌≡◌}
 use Rattle.ll_laws.specs.Problem.{ProblemTree, start_of}
-use Rattle.ll_freeze.specs.Parts.{Parts}
+use Rattle.ll_freeze.specs.Parts.{Parts, base_of}
 use Rattle.ll_freeze.specs.Shown.{state_of}
 use Rattle.ll_freeze.specs.Fits.{Fits}
 
@@ -12,10 +12,11 @@ pub record IsStart (p : ProblemTree) (m : Parts) : Type 0 where
   pub left : m.left ≡ p.bound
   pub fits : Fits m
 
--- the later machine shows what the earlier one shows
+-- the later machine shows what the earlier one shows, and its terms are read in the same
 pub record IsImage (old new : Parts) : Type 0 where
   pub problem : new.problem ≡ old.problem
   pub state : state_of new ≡ state_of old
+  pub base : base_of new ≡ base_of old
   pub left : new.left ≡ old.left
   pub fits : Fits new
 

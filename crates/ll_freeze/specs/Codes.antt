@@ -1,10 +1,14 @@
 -- Codes of states and of what contracts see of frozen choice points, by which proofs tell their values apart.
-use Rattle.std.specs.Prelude.{◌≡◌, ◌⊎◌, ℕ, List, Bool, refl}
-use Rattle.std.specs.Coded.{Coded, code_by, coded×, coded⊎, coded_list, coded_ℕ, coded_bool}
+use Rattle.std.specs.Prelude.{◌≡◌, ◌⊎◌, ℕ, List, Option, Bool, refl}
+use Rattle.std.specs.Coded.{Coded, code_by, coded×, coded⊎, coded_list, coded_option, coded_ℕ, coded_bool}
 use mathlib.Core.Logic.{inl, inr}
 use base.Stored.{coded_unit}
 use Rattle.ll_bank.specs.Term.{Term}
 use Rattle.ll_bank.specs.Form.{Form}
+use Rattle.ll_bank.specs.declared.At.{At}
+use Rattle.ll_bank.specs.Nodes.{Nodes}
+use Rattle.ll_bank.specs.contracts.At as at
+use Rattle.ll_bank.specs.contracts.bank.Bank as bank
 use Rattle.ll_bank.specs.Codes.{coded_term, coded_form}
 use Rattle.ll_laws.specs.declared.Step.{Step}
 use Rattle.ll_laws.specs.declared.Kind.{Kind}
@@ -16,6 +20,7 @@ use Rattle.ll_laws.specs.Settle.{Entry, Saved, Item, Goal, LolliEnd, ImpEnd, Wit
 use Rattle.ll_laws.specs.State.{State}
 use Rattle.ll_laws.specs.Problem.{ProblemTree}
 use Rattle.ll_laws.specs.Shown.{problem_code}
+use Rattle.ll_freeze.specs.Parts.{Base}
 use Rattle.ll_freeze.specs.Frozen.{FrozenSight}
 
 abbrev pub saved_code : Coded Saved
@@ -67,7 +72,14 @@ state_code =
     (λ p. record { agenda = p.0; context = p.1.0; flag = p.1.1.0; levels = p.1.1.1.0; eigens = p.1.1.1.1.0; terms = p.1.1.1.1.1.0; label = p.1.1.1.1.1.1.0; steps = p.1.1.1.1.1.1.1 })
     (λ _. refl)
 
+abbrev pub base_code : Coded Base
+base_code =
+    code_by (Nodes × (List (Option At) × List ℕ)) (coded× bank.the_row.coded (coded× (coded_list (coded_option at.the_row.coded)) (coded_list coded_ℕ)))
+    (λ b. (b.bank, (b.bound, b.levels))) (λ p. record { bank = p.0; bound = p.1.0; levels = p.1.1 }) (λ _. refl)
+
 abbrev pub frozen_code : Coded FrozenSight
 frozen_code =
-    code_by (ProblemTree × (State × (ℕ × (List Candidate × Bool)))) (coded× problem_code (coded× state_code (coded× coded_ℕ (coded× (coded_list candidate.the_row.coded) coded_bool))))
-    (λ f. (f.problem, (f.state, (f.left, (f.untried, f.starts))))) (λ p. record { problem = p.0; state = p.1.0; left = p.1.1.0; untried = p.1.1.1.0; starts = p.1.1.1.1 }) (λ _. refl)
+    code_by (ProblemTree × (State × (ℕ × (List Candidate × (Bool × (Base × ℕ))))))
+    (coded× problem_code (coded× state_code (coded× coded_ℕ (coded× (coded_list candidate.the_row.coded) (coded× coded_bool (coded× base_code coded_ℕ))))))
+    (λ f. (f.problem, (f.state, (f.left, (f.untried, (f.starts, (f.base, f.depth)))))))
+    (λ p. record { problem = p.0; state = p.1.0; left = p.1.1.0; untried = p.1.1.1.0; starts = p.1.1.1.1.0; base = p.1.1.1.1.1.0; depth = p.1.1.1.1.1.1 }) (λ _. refl)

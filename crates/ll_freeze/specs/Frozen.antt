@@ -8,7 +8,7 @@ use Rattle.ll_laws.specs.Attempt.{tries, attempt}
 use Rattle.ll_laws.specs.Pool.{Owed}
 use Rattle.ll_laws.specs.Problem.{ProblemTree, setting_of, start_of, problem_events, problem_cost}
 use Rattle.ll_laws.specs.Tried.{candidate_owes}
-use Rattle.ll_freeze.specs.Parts.{Parts}
+use Rattle.ll_freeze.specs.Parts.{Parts, Base, base_of}
 use Rattle.ll_freeze.specs.Shown.{state_of}
 use Rattle.ll_freeze.specs.Fits.{Fits}
 
@@ -20,6 +20,10 @@ pub record FrozenSight : Type 0 where
   pub left : ℕ
   pub untried : List Candidate
   pub starts : Bool
+  -- what the terms of its machines are read in when they are made
+  pub base : Base
+  -- how many of the batches that it goes on from share with it
+  pub depth : ℕ
 
 -- what the whole search of a problem owes
 abbrev pub problem_owes : ProblemTree → Owed Event
@@ -58,18 +62,18 @@ StandsBy false f = (0 < f.left) × AreTries f.state f.untried
 abbrev pub Stands : FrozenSight → Type 0
 Stands f = StandsBy f.starts f
 
--- the start of a problem's search
-abbrev pub opening : ProblemTree → FrozenSight
-opening p = record { problem = p; state = start_of p; left = p.bound; untried = no_choice ∷ []; starts = true }
+-- the start of a problem's search, which shares with no other
+abbrev pub opening : ProblemTree → Base → FrozenSight
+opening p base = record { problem = p; state = start_of p; left = p.bound; untried = no_choice ∷ []; starts = true; base = base; depth = 0 }
 
--- the parts of a machine with these candidates as a frozen choice point
-abbrev pub sight_of : Parts → List Candidate → Bool → FrozenSight
-sight_of m cs starts = record { problem = m.problem; state = state_of m; left = m.left; untried = cs; starts = starts }
+-- the parts of a machine with these candidates as a frozen choice point, which shares with so many
+abbrev pub sight_of : Parts → List Candidate → Bool → ℕ → FrozenSight
+sight_of m cs starts depth = record { problem = m.problem; state = state_of m; left = m.left; untried = cs; starts = starts; base = base_of m; depth = depth }
 
 -- what a frozen choice point keeps
-pub record IsFrozen (m : Parts) (cs : List Candidate) (starts : Bool) : Type 0 where
+pub record IsFrozen (m : Parts) (cs : List Candidate) (starts : Bool) (depth : ℕ) : Type 0 where
   pub fits : Fits m
-  pub stands : Stands (sight_of m cs starts)
+  pub stands : Stands (sight_of m cs starts depth)
   pub count : length cs < 2 ^ 32
 
 -- the machine is in the state as it was frozen
@@ -77,4 +81,5 @@ pub record Thaws (f : FrozenSight) (m : Parts) : Type 0 where
   pub problem : m.problem ≡ f.problem
   pub state : state_of m ≡ f.state
   pub left : m.left ≡ f.left
+  pub base : base_of m ≡ f.base
   pub fits : Fits m

@@ -1,4 +1,5 @@
 pub mod Parts
+pub mod Rested
 pub mod Reading
 pub mod Shown
 pub mod Fits

@@ -37,6 +37,15 @@ pub record Parts : Type 0 where
 abbrev pub table : Parts → Table
 table m = record { bound = m.bound; levels = m.levels }
 
+-- what terms and formulas are read in: the places of a bank, and what each variable is bound to, with its level
+pub record Base : Type 0 where
+  pub bank : Nodes
+  pub bound : List (Option At)
+  pub levels : List ℕ
+
+abbrev pub base_of : Parts → Base
+base_of m = record { bank = m.bank; bound = m.bound; levels = m.levels }
+
 abbrev pub parts_of : Machine → Parts
 parts_of m =
     record {

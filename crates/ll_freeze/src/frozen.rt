@@ -1,8 +1,9 @@
 //! Frozen choice points.
-ghost use Rattle.std.specs.Prelude.{◌≡◌, ◌<◌, ◌^◌, false, length, Some, slice_get, IfOk, IfSome};
+ghost use Rattle.std.specs.Prelude.{◌≡◌, ◌<◌, ◌+◌, ◌^◌, false, length, Some, slice_get, IfOk, IfSome};
 ghost use Rattle.std.specs.Arc.{arc_value};
 ghost use Rattle.ll_laws.specs.Valid.{IsValid};
-ghost use Rattle.ll_freeze.specs.Parts.{parts_of, parts_at, IsGood};
+ghost use Rattle.ll_store.specs.Stored.{IsBefore};
+ghost use Rattle.ll_freeze.specs.Parts.{parts_of, parts_at, base_of, IsGood};
 ghost use Rattle.ll_freeze.specs.Shown.{state_of};
 ghost use Rattle.ll_freeze.specs.Fits.{Fits};
 ghost use Rattle.ll_freeze.specs.Frozen.{alternatives_in, sight_of, opening, AreTries, Stands, Thaws};
@@ -10,9 +11,11 @@ ghost use Rattle.ll_freeze.specs.Indexed.{IsIndexOf};
 
 use crate::machine::Machine;
 use crate::mark::ChoiceMark;
+use crate::rest::Rest;
 use ll_bank::OutOfMemory;
 use ll_index::Index;
 use ll_laws::{Batch, Candidate, Problem};
+use ll_store::Layers;
 use std::alloc::Global;
 use std::marker::Model;
 use std::sync::Arc;
@@ -25,7 +28,9 @@ use std::sync::Arc;
 /// Beside it may go an index of the problem's clauses, of which contracts see nothing but that.
 #[derive(Drop)]
 pub struct Frozen<'p> {
-    machine: Machine<'p>,
+    rest: Rest<'p>,
+    // The store, some of which others may share.
+    layers: Layers,
     // In the order in which they are tried.
     untried: Vec<Candidate>,
     starts: bool,
@@ -36,15 +41,16 @@ impl<'p> Model for Frozen<'p> {
     ghost use Rattle.ll_freeze.specs.Frozen.{FrozenSight, IsFrozen, sight_of};
     ghost use Rattle.ll_freeze.specs.Codes.{frozen_code};
     ghost use Rattle.ll_freeze.specs.Indexed.{IsIndexed};
-    ghost use Rattle.ll_freeze.specs.Parts.{parts_of};
+    ghost use Rattle.std.specs.Prelude.{◌≤◌};
+    ghost use Rattle.ll_freeze.specs.Rested.{parts_with};
 
     ghost Value = { FrozenSight };
 
     ghost coded = { frozen_code };
 
-    ghost view = { λ f. sight_of (parts_of f.machine) f.untried.items f.starts };
+    ghost view = { λ f. sight_of (parts_with f.rest f.layers.state) f.untried.items f.starts f.layers.depth };
 
-    ghost invariant = { λ f. IsFrozen (parts_of f.machine) f.untried.items f.starts × IsIndexed f.machine.problem.now f.index };
+    ghost invariant = { λ f. IsFrozen (parts_with f.rest f.layers.state) f.untried.items f.starts f.layers.depth × IsIndexed f.rest.problem.now f.index × (f.layers.depth ≤ 64) };
 }
 
 impl<'p> Batch for Frozen<'p> {
@@ -66,14 +72,17 @@ impl<'p> Frozen<'p> {
     /// The start of a valid problem's search, as one alternative, with an index of the problem's clauses.
     pub fn start(alloc: Global, problem: &'p Problem) -> Result<Frozen<'p>, OutOfMemory>
         requires valid { IsValid problem.now }
-        ensures { IfOk result (λ f. f ≡ opening problem.entry.now) }
+        ensures { IfOk result (λ f. f ≡ opening problem.entry.now f.base) }
     {
         let machine = Machine::start(alloc, problem)?;
+        let (rest, store) = machine.parted();
+        let layers = Layers::whole(alloc, store)?;
         let index = Index::build(alloc, problem)?;
         let index = Arc::new(alloc, index)?;
         let untried = vec![in alloc; Candidate { label: 0, leaf: 0 }]?;
         Ok(Frozen {
-            machine,
+            rest,
+            layers,
             untried,
             starts: true,
             index: Some(index),
@@ -93,16 +102,63 @@ impl<'p> Frozen<'p> {
         requires left { 0 < (parts_at at machine.now).left }
         requires tries { AreTries (state_of (parts_at at machine.now)) untried.now }
         requires count { length untried.now < 2 ^ 32 }
-        ensures { IfOk result (λ f. f ≡ sight_of (parts_at at machine.entry.now) untried.now false) }
+        ensures { IfOk result (λ f. f ≡ sight_of (parts_at at machine.entry.now) untried.now false 0) }
     {
-        let untried = Vec::from_slice(*machine.terms.allocator(), untried)?;
-        let machine = machine.image(at)?;
+        let alloc = *machine.terms.allocator();
+        let untried = Vec::from_slice(alloc, untried)?;
+        let store = machine.store.image(at.store)?;
+        let layers = Layers::whole(alloc, store)?;
+        let rest = machine.rest(at)?;
         Ok(Frozen {
-            machine,
+            rest,
+            layers,
             untried,
             starts: false,
             index: None,
         })
+    }
+
+    /// The same, for a machine that was in the state of another batch at a good mark, its base, which is not past this one. The batch
+    /// shares the store of the other one, and adds what came since the base. No batch shares with more than 64 others.
+    pub fn onto(
+        ancestor: &Frozen<'p>,
+        machine: &Machine<'p>,
+        base: ChoiceMark,
+        at: ChoiceMark,
+        untried: &[Candidate],
+    ) -> Result<Frozen<'p>, OutOfMemory>
+        requires good { IsGood at machine.now }
+        requires fits { Fits (parts_at at machine.now) }
+        requires left { 0 < (parts_at at machine.now).left }
+        requires tries { AreTries (state_of (parts_at at machine.now)) untried.now }
+        requires count { length untried.now < 2 ^ 32 }
+        requires good_base { IsGood base machine.now }
+        requires base { base_of (parts_at base machine.now) ≡ ancestor.now.base }
+        requires order { IsBefore base.store at.store }
+        requires depth { ancestor.now.depth < 64 }
+        ensures { IfOk result (λ f. f ≡ sight_of (parts_at at machine.entry.now) untried.now false (ancestor.entry.now.depth + 1)) }
+    {
+        let alloc = *machine.terms.allocator();
+        let untried = Vec::from_slice(alloc, untried)?;
+        let layers = ancestor
+            .layers
+            .onto(alloc, &machine.store, base.store, at.store)?;
+        let rest = machine.rest(at)?;
+        Ok(Frozen {
+            rest,
+            layers,
+            untried,
+            starts: false,
+            index: None,
+        })
+    }
+
+    /// How many batches it shares with: none where it was made by `start` or `whole`, and one more than its ancestor where it was made by
+    /// `onto`.
+    pub fn depth(&self) -> u32
+        ensures { result ≡ self.now.depth }
+    {
+        self.layers.depth() as u32
     }
 
     /// A machine of its own in the state as it was frozen, for an alternative. It is the same for each of them.
@@ -111,7 +167,17 @@ impl<'p> Frozen<'p> {
         ensures { IfOk result (λ m. Thaws self.entry.now (parts_of m)) }
     {
         let _k = k;
-        self.machine.image(self.machine.mark())
+        let machine = self.machine()?;
+        Ok(machine)
+    }
+
+    /// A machine of its own in the state as it was frozen.
+    pub(crate) fn machine(&self) -> Result<Machine<'p>, OutOfMemory>
+        ensures { IfOk result (λ m. Thaws self.entry.now (parts_of m)) }
+    {
+        let store = self.layers.store()?;
+        let machine = self.rest.machine(store)?;
+        Ok(machine)
     }
 
     /// The candidate of an alternative. That of the start has label 0 and leaf 0, and is not used.

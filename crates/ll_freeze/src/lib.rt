@@ -2,11 +2,14 @@
 #![tactic(auto)]
 
 mod frozen;
-mod image;
 mod machine;
 mod mark;
+mod onward;
+mod rest;
 mod start;
 
 pub use frozen::Frozen;
 pub use machine::{Item, Machine};
 pub use mark::ChoiceMark;
+pub use onward::advance;
+pub use rest::Rest;

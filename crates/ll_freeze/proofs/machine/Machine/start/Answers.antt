@@ -15,7 +15,7 @@ use Rattle.ll_freeze.proofs.machine.Machine.start.Goals as goal
 
 pub returns : goal.returns
 returns c =
-    let i = c.problem.inside in let n = c.len-count.result in let bank = c.bank.inside.nodes in
+    let i = c.problem.inside in let n = c.len-count.result in
     let m : Machine =
     record {
       problem = c.args.problem;

@@ -1,14 +1,11 @@
 -- A walk over a term that finds out whether it is closed, step by step.
-use Rattle.std.proofs.Common.{◌≡◌, ◌≢◌, ℕ, zero, suc, ◌<◌, Bool, true, false, eqb, ◌||◌, ◌&&◌, cond, List, [], ◌∷◌, length, All, refl, ap, sym, subst, ◌∙◌, inl, inr, arith, true≢false}
-use Rattle.std.specs.Ordering.{nat_cmp}
+use Rattle.std.proofs.Common.{◌≡◌, ◌≢◌, ℕ, ◌<◌, Bool, true, false, eqb, ◌||◌, ◌&&◌, List, [], ◌∷◌, length, All, refl, ap, sym, subst, ◌∙◌, inl, inr, arith, true≢false}
 use Rattle.std.specs.List.{list_any, list_all}
-use Rattle.std.specs.BTreeMap.{is_at}
 use Rattle.std.proofs.lemmas.Bool.{or_left, or_right, or_cases, eqb-true, eq-eqb, cases_eq, and_parts}
 use Rattle.std.proofs.lemmas.List.Elements.{All-head, All-tail, All-cons}
 use Rattle.ll_bank.specs.declared.At.{At}
 use Rattle.ll_bank.specs.Term.{is_closed}
 use Rattle.ll_bank.specs.Nodes.{Nodes, term_tree, term_trees, places}
-use Rattle.ll_bank.proofs.CallerLemmas.{removed_other, removed_less}
 use Rattle.ll_cover.specs.Closing.{ArePartsOf, IsClosedBy}
 
 -- ---- places among others

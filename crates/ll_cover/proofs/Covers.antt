@@ -1,5 +1,5 @@
 -- The answers of a search on its way, up to the first that covers a derivation.
-use Rattle.std.proofs.Common.{◌≡◌, ℕ, zero, suc, ◌+◌, ◌<◌, ◌≤◌, min, refl, ap, sym, subst, ◌∙◌, List, [], ◌∷◌, ◌++◌, length, take, map, All, Some, None, inl, inr, arith, append_assoc, length-append}
+use Rattle.std.proofs.Common.{◌≡◌, ℕ, zero, suc, ◌<◌, min, refl, ap, sym, subst, ◌∙◌, List, [], ◌∷◌, ◌++◌, length, take, All, Some, None, inl, inr, arith, append_assoc, length-append}
 use Rattle.std.specs.Prelude.{slice_get, Bool, Result, Ok, Err, IfOk, IsTrue, ◌↔◌}
 use Rattle.std.proofs.lemmas.Bool.{cases_lt}
 use Rattle.std.proofs.lemmas.List.{append-nil, take-map, take_all}
@@ -16,8 +16,7 @@ use Rattle.ll_laws.specs.Dealt.{asked_terms}
 use Rattle.ll_laws.specs.Instance.{IsInstance}
 use Rattle.ll_laws.specs.Completeness.{answers_in, NamesCover}
 use Rattle.ll_engine.specs.Seen.{Owing}
-use Rattle.ll_engine.specs.Steps.{Steps, fresh, found_in}
-use Rattle.ll_engine.specs.declared.engine.Step2.{Step2}
+use Rattle.ll_engine.specs.Steps.{Steps, fresh}
 use Rattle.ll_engine.specs.declared.engine.Step2.TheVariants.{Event as Found, Done, Moved}
 use Rattle.ll_cover.specs.Covering.{IsCoveredBy, IsPassing, NamesFirst}
 

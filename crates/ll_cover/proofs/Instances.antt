@@ -1,19 +1,18 @@
 -- A match of two lists of terms, from its beginning to its end.
-use Rattle.std.proofs.Common.{◌≡◌, ℕ, zero, suc, ◌+◌, ◌<◌, ◌≤◌, refl, ap, sym, subst, ◌∙◌, Bool, true, false, cond, List, [], ◌∷◌, ◌++◌, map, length, get_or, Option, Some, None, All, inl, inr, arith, true≢false, eqb, ltb}
-use Rattle.std.specs.Prelude.{is_some, IsSome}
+use Rattle.std.proofs.Common.{◌≡◌, ℕ, zero, suc, ◌<◌, ◌≤◌, refl, ap, sym, subst, ◌∙◌, Bool, true, false, cond, List, [], ◌∷◌, ◌++◌, map, length, get_or, Option, Some, None, All, inl, inr, arith, true≢false, eqb}
+use Rattle.std.specs.Prelude.{IsSome}
 use Rattle.std.specs.declared.cmp.Ordering.TheVariants.{Less, Equal, Greater}
 use Rattle.std.specs.Ordering.{nat_cmp, is_lt}
 use Rattle.std.specs.Map.{lookup, keys_of}
 use Rattle.std.specs.BTreeMap.{BTreeMap, get, keys, is_at, IsUpperBound}
 use Rattle.std.proofs.lemmas.Bool.{cases_eq, cases_lt, eq-eqb, ne_eqb, cond-true, cond-false, lt-ltb}
-use Rattle.std.proofs.lemmas.List.{map-append, length-map}
 use Rattle.ll_bank.specs.declared.At.{At}
 use Rattle.ll_bank.specs.Term.{Term, Var, sub, is_closed}
 use Rattle.ll_bank.specs.Nodes.{Nodes, term_tree, term_trees}
 use Rattle.ll_bank.proofs.CallerLemmas.{ceiling, ceiling-le, last_below, is_at-nat}
 use Rattle.ll_laws.specs.Instance.{IsInstance}
 use Rattle.ll_cover.specs.declared.matching.Found.{Found}
-use Rattle.ll_cover.specs.Matching.{HasPlaces, AreBelow, AllBelow, AllClosed, Meets, Makes, Looks, IsMatching}
+use Rattle.ll_cover.specs.Matching.{HasPlaces, AreBelow, AllBelow, Meets, Makes, Looks, IsMatching}
 use Rattle.ll_cover.proofs.Looking.{made}
 
 -- ---- maps

@@ -1,6 +1,6 @@
 -- What is found at one place, by its sign and by that of its image.
-use Rattle.std.proofs.Common.{◌≡◌, ℕ, ◌<◌, refl, ap, sym, ◌∙◌, Bool, true, false, List, [], ◌∷◌, map, length, Some, None}
-use Rattle.std.specs.Prelude.{Result, Ok, Err, IfOk, OnOk, ℤ, All}
+use Rattle.std.proofs.Common.{◌≡◌, ℕ, refl, ap, sym, ◌∙◌, Bool, true, false, List, [], ◌∷◌, map, length, Some, None}
+use Rattle.std.specs.Prelude.{Result, Ok, Err, IfOk, OnOk, ℤ}
 use Rattle.std.specs.Ordering.{nat_cmp}
 use Rattle.std.specs.BTreeMap.{BTreeMap, get}
 use Rattle.std.proofs.lemmas.List.{length-map}
@@ -9,7 +9,7 @@ use Rattle.ll_bank.specs.declared.Head.{Head}
 use Rattle.ll_bank.specs.Term.{Term, Var, Int, app, sub, head_of}
 use Rattle.ll_bank.specs.Nodes.{Nodes, term_tree, term_trees}
 use Rattle.ll_cover.specs.declared.matching.Found.{Found}
-use Rattle.ll_cover.specs.Matching.{HasPlaces, AllClosed, AreBelow, AllBelow, IsClosing, Makes, Meets, MeetsClosed, Looks}
+use Rattle.ll_cover.specs.Matching.{HasPlaces, AllClosed, AreBelow, AllBelow, Meets, MeetsClosed, Looks}
 use Rattle.ll_cover.proofs.Applied.{sub-app, head-app, app-args, app-head, app-count}
 
 -- what a substitution makes of the terms at places, one by one

@@ -4,7 +4,7 @@ use Rattle.std.specs.Ordering.{nat_cmp}
 use Rattle.std.specs.BTreeMap.{get}
 use Rattle.ll_bank.specs.declared.At.{At}
 use Rattle.ll_bank.specs.Term.{Term, sub, is_closed}
-use Rattle.ll_bank.specs.Nodes.{Nodes, term_tree, term_trees}
+use Rattle.ll_bank.specs.Nodes.{Nodes, term_tree}
 use Rattle.ll_cover.specs.declared.matching.Found.{Found}
 
 -- the images are places of the bank

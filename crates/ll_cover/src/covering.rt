@@ -2,7 +2,7 @@
 ghost use Rattle.std.specs.Prelude.{◌≡◌, ◌↔◌, ◌≤◌, length, IfOk, IsTrue};
 ghost use Rattle.ll_laws.specs.Completeness.{ShowsClosed, NamesCover};
 ghost use Rattle.ll_laws.specs.Valid.{IsValid};
-ghost use Rattle.ll_cover.specs.Covering.{IsCoveredBy, NamesFirst};
+ghost use Rattle.ll_cover.specs.Covering.{IsCoveredBy, IsPassing, NamesFirst};
 
 use crate::matching::instance;
 use ll_bank::OutOfMemory;
@@ -23,8 +23,25 @@ pub fn cover(alloc: Global, problem: &Problem, derivation: &Derivation) -> Resul
     ensures named { IfOk result (NamesCover problem.now derivation.now) }
     ensures first { IfOk result (NamesFirst problem.now derivation.now) }
 {
-    search_is_complete();
     let mut engine = Engine::start(alloc, problem)?;
+    first_cover(alloc, problem, derivation, &mut engine)
+}
+
+// The number of the first answer that covers a derivation, by an engine that begins.
+fn first_cover(
+    alloc: Global,
+    problem: &Problem,
+    derivation: &Derivation,
+    engine: &mut Engine,
+) -> Result<u64, OutOfMemory>
+    requires valid { IsValid problem.now }
+    requires shows { ShowsClosed problem.now derivation.now }
+    requires within { length derivation.now.nodes ≤ problem.now.bound }
+    requires begins { IsPassing problem.now derivation.now engine.old.events 0 }
+    ensures named { IfOk result (NamesCover problem.now derivation.now) }
+    ensures first { IfOk result (NamesFirst problem.now derivation.now) }
+{
+    search_is_complete();
     let mut number: u64 = 0;
     loop {
         match engine.step()? {

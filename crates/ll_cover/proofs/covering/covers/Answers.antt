@@ -1,4 +1,4 @@
-use Rattle.std.proofs.Common.{◌≡◌, sym, ap, length, ◌∙◌, vec_len, min, arith}
+use Rattle.std.proofs.Common.{◌≡◌, ap, length, vec_len, min, arith}
 use Rattle.std.proofs.lemmas.List.{length-map}
 use Rattle.ll_laws.specs.ShownLines.{line_of}
 use Rattle.ll_laws.specs.Line.{DerivationLines}

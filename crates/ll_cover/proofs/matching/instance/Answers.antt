@@ -1,6 +1,5 @@
-use Rattle.std.proofs.Common.{rules, ap, ◌∙◌, arith, [], ◌∷◌, true, false}
+use Rattle.std.proofs.Common.{rules, ap, ◌∙◌}
 use Rattle.std.specs.Map.{keys_of}
-use Rattle.std.specs.Prelude.{is_some, length}
 use Rattle.std.proofs.lemmas.List.{map-append}
 use Rattle.ll_bank.specs.Nodes.{term_trees}
 use Rattle.ll_cover.proofs.Instances.{no_entries, matching_begins, begins_no, matching_on, matching_no, waiting_falls, matching_ends}

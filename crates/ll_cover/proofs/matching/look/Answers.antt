@@ -1,4 +1,4 @@
-use Rattle.std.proofs.Common.{rules, ap, ◌∙◌}
+use Rattle.std.proofs.Common.{rules, ap}
 use Rattle.ll_bank.specs.Term.{head_of}
 use Rattle.ll_bank.specs.Nodes.{term_trees}
 use Rattle.ll_cover.proofs.Looking.{look_variable, number_not_head, head_not_leaf, other_head, other_count, look_applied}

@@ -16,7 +16,8 @@ use Rattle.ll_laws.specs.Consistent.{labels_differ}
 use Rattle.ll_freeze.specs.Parts.{Parts}
 use Rattle.ll_freeze.specs.Fits.{Fits}
 use Rattle.ll_freeze.specs.Shown.{shown_entry, state_of}
-use Rattle.ll_engine.specs.Taking.{AreFoundByLabel}
+use Rattle.ll_resources.specs.Places.{label_place}
+use Rattle.ll_engine.specs.Placed.{AreAtTheirLabels}
 
 -- the first entry with another label is passed
 pub passed : (es : List (Entry FormAt)) (i j : ℕ) (e : Entry FormAt) (label : ℕ) → j ≡ i + 1 → slice_get es i ≡ Some e → nat_eq e.label label ≡ false → entry_at (drop j es) label ≡ entry_at (drop i es) label
@@ -44,13 +45,21 @@ replicate_push x (suc n) (suc m) e = ap (λ xs. x ∷ xs) (replicate_push x n m 
 
 -- ---- the entry with a label, by its place
 
--- an entry with the label is the one
-pub found_at_place : (es : List (Entry FormAt)) (i : ℕ) (e : Entry FormAt) (label : ℕ) → AreFoundByLabel es → slice_get es i ≡ Some e → e.label ≡ label → entry_at es label ≡ Some e
-found_at_place es i e label own h q =
-    let inside = slice_get_within es i e h in
-    let read : Some (slice_index_or es i e) ≡ Some e = sym (slice_get-get_or es i e inside) ∙ h in
-    let same : slice_index_or es i e ≡ e = cc in
-    subst (λ (l : ℕ). entry_at es l ≡ Some e) q (subst (λ (d : Entry FormAt). entry_at es d.label ≡ Some d) same (own i e inside))
+-- what is at the place of a label is the entry with that label
+pub entry_there : (es : List (Entry FormAt)) (label i : ℕ) (e : Entry FormAt) → i ≡ label_place label es → slice_get es i ≡ Some e → entry_at es label ≡ Some e
+entry_there [] label i e q h = cc
+entry_there (d ∷ es) label i e q h = go (nat_eq d.label label) i (λ j w g. entry_there es label j e w g) q h
+  where
+    go : (b : Bool) (j : ℕ) → ((k : ℕ) → k ≡ label_place label es → slice_get es k ≡ Some e → entry_at es label ≡ Some e)
+        → j ≡ (if b then 0 else suc (label_place label es)) → slice_get (d ∷ es) j ≡ Some e → (if b then Some d else entry_at es label) ≡ Some e
+    go true zero next q h = let same : d ≡ e = cc in ap Some same
+    go true (suc j) next q h = absurd (omega arith)
+    go false zero next q h = absurd (omega arith)
+    go false (suc j) next q h = next j (omega arith) h
+
+-- an entry with the label is at its place
+pub place_there : (es : List (Entry FormAt)) (label i : ℕ) (e : Entry FormAt) → AreAtTheirLabels es → slice_get es i ≡ Some e → e.label ≡ label → i ≡ label_place label es
+place_there es label i e own h q = sym (ap (λ l. label_place l es) (sym q) ∙ own i e h)
 
 module _ (bank : Nodes) (bound : List (Option At)) where
   abbrev shown : List (Entry FormAt) → List (Entry Form)
@@ -73,16 +82,20 @@ module _ (bank : Nodes) (bound : List (Option At)) where
   not_true true h = cc
   not_true false h = refl
 
-  found_by : (es : List (Entry FormAt)) → labels_differ (shown es) ≡ true → AreFoundByLabel es
-  found_by [] h = λ i d l. absurd (omega arith)
-  found_by (e ∷ es) h =
-      let any = list_any (λ d. nat_eq e.label d.label) (shown es) in
-      let others = others_differ e.label es (not_true any (and_left (not any) (labels_differ (shown es)) h)) in
-      let rest = found_by es (and_right (not any) (labels_differ (shown es)) h) in
-      All-cons (λ (d : Entry FormAt). entry_at (e ∷ es) d.label ≡ Some d) e es (ap (λ b. if b then Some e else entry_at es e.label) (eq-eqb e.label e.label refl))
-      (λ i d l. ap (λ b. if b then Some e else entry_at es (slice_index_or es i d).label) (others i d l) ∙ rest i d l)
+  at_labels : (es : List (Entry FormAt)) → labels_differ (shown es) ≡ true → AreAtTheirLabels es
+  at_labels [] h i e g = cc
+  at_labels (d ∷ es) h zero e g =
+      let same : d ≡ e = cc in ap (λ b. if b then 0 else suc (label_place e.label es)) (eq-eqb d.label e.label (ap (λ (x : Entry FormAt). x.label) same))
+  at_labels (d ∷ es) h (suc i) e g =
+      let any = list_any (λ x. nat_eq d.label x.label) (shown es) in
+      let others = others_differ d.label es (not_true any (and_left (not any) (labels_differ (shown es)) h)) in
+      let inside = slice_get_within es i e g in
+      let read : Some (slice_index_or es i e) ≡ Some e = sym (slice_get-get_or es i e inside) ∙ g in
+      let same : slice_index_or es i e ≡ e = cc in
+      ap (λ b. if b then 0 else suc (label_place e.label es)) (subst (λ (x : Entry FormAt). nat_eq d.label x.label ≡ false) same (others i e inside))
+      ∙ ap (λ n. suc n) (at_labels es (and_right (not any) (labels_differ (shown es)) h) i e g)
 
--- the labels of a machine's entries differ
-pub found_by_label : (m : Parts) → Fits m → AreFoundByLabel m.resources.entries
+-- each of a machine's entries is at the first place with its label
+pub at_their_labels : (m : Parts) → Fits m → AreAtTheirLabels m.resources.entries
 unfolding state_of
-found_by_label m f = found_by m.bank m.bound m.resources.entries f.consistent.labels_differ
+at_their_labels m f = at_labels m.bank m.bound m.resources.entries f.consistent.labels_differ

@@ -19,3 +19,4 @@ pub mod Opening
 pub mod Front
 pub mod Taking
 pub mod Numbers
+pub mod Placed

@@ -1,5 +1,5 @@
 //! Parts of an inference on an atom.
-ghost use Rattle.std.specs.Prelude.{◌≡◌, ◌<◌, ◌≤◌, ℕ, true, ◌++◌, ◌∷◌, [], length, Some, None, IfOk, IfSome, OnOk, option_map, replicate};
+ghost use Rattle.std.specs.Prelude.{◌≡◌, ◌<◌, ◌≤◌, ℕ, true, ◌++◌, ◌∷◌, [], length, Some, None, IfOk, IfSome, IfNone, OnOk, replicate};
 ghost use Rattle.ll_bank.specs.Term.{close, applies_heads};
 ghost use Rattle.ll_bank.specs.Nodes.{form_tree, term_tree, HasTerm, AllInTerms, Extends};
 ghost use Rattle.ll_close.specs.Closing.{env_of};
@@ -14,8 +14,10 @@ ghost use Rattle.ll_freeze.specs.Parts.{parts_of, Later};
 ghost use Rattle.ll_freeze.specs.Fits.{Fits};
 ghost use Rattle.ll_engine.specs.Attempts.{Attempts};
 ghost use Rattle.ll_engine.specs.Front.{IsFront};
-ghost use Rattle.ll_engine.specs.Taking.{read_in, read_closed, Unifies, AreFoundByLabel};
+ghost use Rattle.ll_engine.specs.Taking.{read_in, read_closed, Unifies};
+ghost use Rattle.ll_engine.specs.Placed.{AreAtTheirLabels};
 ghost use Rattle.ll_resources.specs.Resources.{after_pick};
+ghost use Rattle.ll_resources.specs.Places.{label_place};
 ghost use Rattle.ll_resources.specs.History.{KeepsMarks as KeepsContextMarks};
 ghost use Rattle.ll_resources.specs.Seen.{resource};
 
@@ -30,28 +32,31 @@ use ll_resources::{Context, Entry};
 use ll_store::Store;
 use std::alloc::Global;
 
-/// The entry with a label. Those of so many program clauses come last: one of them is found at its place, in constant time, and another
-/// entry by a walk from the front.
-pub fn entry_with(context: &Context<FormAt>, clauses: usize, label: u32) -> Option<Entry<FormAt>>
-    requires { AreFoundByLabel context.now.present.entries }
-    ensures { option_map resource result ≡ entry_at context.now.present.entries label }
+/// The place of the entry with a label, the newest being 0. Those of so many program clauses come last: one of them is found at once, and
+/// another entry by a walk from the front.
+pub fn place_with(context: &Context<FormAt>, clauses: usize, label: u32) -> Option<usize>
+    requires { AreAtTheirLabels context.now.present.entries }
+    ensures inside { IfSome result (λ place. place < length context.now.present.entries) }
+    ensures some { IfSome result (λ place. place ≡ label_place label context.now.present.entries) }
+    ensures none { IfNone result (entry_at context.now.present.entries label ≡ None) }
 {
-    if let Some(entry) = clause_entry(context, clauses, label) {
-        return Some(entry);
+    if let Some(place) = clause_place(context, clauses, label) {
+        return Some(place);
     }
     for from_front in 0..context.len() {
         let entry = context.entry(from_front);
         if entry.label == label {
-            return Some(entry);
+            return Some(from_front);
         }
     }
     None
 }
 
-/// The entry with a label, if it is at the place of a program clause with this label, of which there are so many.
-fn clause_entry(context: &Context<FormAt>, clauses: usize, label: u32) -> Option<Entry<FormAt>>
-    requires { AreFoundByLabel context.now.present.entries }
-    ensures { IfSome result (λ entry. entry_at context.now.present.entries label ≡ Some (resource entry)) }
+/// The place of the entry with a label, if it is that of a program clause with this label, of which there are so many.
+fn clause_place(context: &Context<FormAt>, clauses: usize, label: u32) -> Option<usize>
+    requires { AreAtTheirLabels context.now.present.entries }
+    ensures inside { IfSome result (λ place. place < length context.now.present.entries) }
+    ensures some { IfSome result (λ place. place ≡ label_place label context.now.present.entries) }
 {
     let loaded = context.len().checked_sub(clauses)?;
     let place = loaded.checked_add(label as usize)?;
@@ -60,7 +65,7 @@ fn clause_entry(context: &Context<FormAt>, clauses: usize, label: u32) -> Option
     }
     let entry = context.entry(place);
     if entry.label == label {
-        return Some(entry);
+        return Some(place);
     }
     None
 }
@@ -77,18 +82,20 @@ pub fn add_cells(store: &mut Store, level: u32, count: usize) -> Result<(), OutO
     Ok(())
 }
 
-/// Uses the entry with a label: a live one loses its live mark. After a refusal the context is as before.
+/// Uses the entry with a label, which is at this place: a live one loses its live mark. After a refusal the context is as before.
 fn use_entry(
     context: &mut Context<FormAt>,
     label: u32,
+    place: usize,
     entry: Entry<FormAt>,
 ) -> Result<(), OutOfMemory>
-    requires { entry_at context.old.present.entries label ≡ Some (resource entry) }
+    requires found { entry_at context.old.present.entries label ≡ Some (resource entry) }
+    requires place { place ≡ label_place label context.old.present.entries }
     ensures used { OnOk result (context.new.present ≡ after_pick label context.old.present) }
     ensures marks { KeepsContextMarks context.old context.new }
 {
     if entry.live {
-        context.pick(label)?;
+        context.pick_at(label, place)?;
     }
     Ok(())
 }
@@ -157,30 +164,33 @@ pub fn take_leaf(
 {
     let problem = machine.problem;
     let clauses = problem.clauses.len();
-    let Some(entry) = entry_with(&machine.context, clauses, candidate.label) else {
+    let Some(place) = place_with(&machine.context, clauses, candidate.label) else {
         return Ok(false);
     };
+    let entry = machine.context.entry(place);
     let leaves = count_leaves(alloc, &machine.store.bank, entry.clause)?;
     if candidate.leaf >= leaves {
         return Ok(false);
     }
-    let done = take_leaf_of(machine, alloc, atom, rest, candidate, entry)?;
+    let done = take_leaf_of(machine, alloc, atom, rest, candidate, place, entry)?;
     Ok(done)
 }
 
-/// Takes a leaf of an entry for the atom in front, as `take_leaf` does.
+/// Takes a leaf of the entry at a place for the atom in front, as `take_leaf` does.
 fn take_leaf_of(
     machine: &mut Machine<'_>,
     alloc: Global,
     atom: At,
     rest: Top,
     candidate: Candidate,
+    place: usize,
     entry: Entry<FormAt>,
 ) -> Result<bool, OutOfMemory>
     requires fits { Fits (parts_of machine.old) }
     requires left { 0 < machine.old.left }
     requires front { IsFront (parts_of machine.old) (FormNode.Atom atom) rest }
     requires found { entry_at machine.old.context.present.entries candidate.label ≡ Some (resource entry) }
+    requires place { place ≡ label_place candidate.label machine.old.context.present.entries }
     requires among { candidate.leaf < length (ways (form_tree machine.old.store.bank entry.clause.0)) }
     ensures attempts { IfOk result (Attempts (parts_of machine.old) candidate (parts_of machine.new)) }
     ensures later { IfOk result (λ _. Later machine.old machine.new) }
@@ -210,7 +220,7 @@ fn take_leaf_of(
     )? {
         return Ok(false);
     }
-    use_entry(&mut machine.context, label, entry)?;
+    use_entry(&mut machine.context, label, place, entry)?;
     machine.steps.push(Step::Clause { label, leaf })?;
     machine.top = opened.top;
     machine.left -= 1;

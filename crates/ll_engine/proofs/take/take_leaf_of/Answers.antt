@@ -52,8 +52,11 @@ unify_leaf-requires-clause-vars c = (ready_in (parts_of c.args.machine.now) c.re
 pub unify_leaf-requires-clause-new : goal.unify_leaf-requires-clause-new
 unify_leaf-requires-clause-new c = λ x l. (ready_in (parts_of c.args.machine.now) c.requires.fits c.args.candidate.label (resource c.args.entry) c.requires.found c.args.rest c.args.candidate.leaf c.open_leaf.new.bank c.open_leaf.new.agenda c.open_leaf.new.terms.items c.in_ok-opened.opened.head c.in_ok-opened.opened.top c.in_ok-opened.ensures.keeps c.in_ok-opened.ensures.opened c.args.atom c.requires.front (table_of c.add_cells.new.store.cells.cells) (cells_bound c.args.machine.now.store.cells.cells c.add_cells.new.store.cells.cells (c.len.result - c.len-before.result) c.in_ok-opened.ensures.opened.count c.args.machine.now.eigens c.in_ok-add_cells.ensures.cells (let n = count_is (parts_of c.args.machine.now) c.requires.fits c.args.candidate.label (resource c.args.entry) c.requires.found c.args.rest c.args.candidate.leaf c.open_leaf.new.bank c.open_leaf.new.agenda c.open_leaf.new.terms.items c.in_ok-opened.opened.head c.in_ok-opened.opened.top c.in_ok-opened.ensures.keeps c.in_ok-opened.ensures.opened in let a = c.len.ensures in let b = c.len-before.ensures in omega arith)) (cells_levels c.args.machine.now.store.cells.cells c.add_cells.new.store.cells.cells (c.len.result - c.len-before.result) c.in_ok-opened.ensures.opened.count c.args.machine.now.eigens c.in_ok-add_cells.ensures.cells (let n = count_is (parts_of c.args.machine.now) c.requires.fits c.args.candidate.label (resource c.args.entry) c.requires.found c.args.rest c.args.candidate.leaf c.open_leaf.new.bank c.open_leaf.new.agenda c.open_leaf.new.terms.items c.in_ok-opened.opened.head c.in_ok-opened.opened.top c.in_ok-opened.ensures.keeps c.in_ok-opened.ensures.opened in let a = c.len.ensures in let b = c.len-before.ensures in omega arith)) c.add_cells.new.store.bank (take (length c.deref.result.now - c.len-before.result) (drop c.len-before.result c.deref.result.now)) c.add_cells.ensures.bank (slice_is c.deref.result.now c.open_leaf.new.terms.items c.len-before.result (length c.args.machine.now.terms.items) c.deref.ensures.value (let e = c.len-before.ensures in omega arith))).apart x (let e = c.len-before.ensures in omega arith)
 
-pub use_entry-requires : goal.use_entry-requires
-use_entry-requires c = c.requires.found
+pub use_entry-requires-clause-found : goal.use_entry-requires-clause-found
+use_entry-requires-clause-found c = c.requires.found
+
+pub use_entry-requires-clause-place : goal.use_entry-requires-clause-place
+use_entry-requires-clause-place c = c.requires.place
 
 pub overflow_sub-machine : goal.overflow_sub-machine
 overflow_sub-machine c = let l = c.requires.left in omega arith

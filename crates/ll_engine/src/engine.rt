@@ -1,8 +1,10 @@
 //! Engines, and one turn of an engine.
 ghost use Rattle.std.specs.Prelude.{◌≡◌, ◌<◌, true, false, length, slice_get, Some, IfOk, OnErr, IsErr};
+ghost use Rattle.std.specs.Arc.{arc_value};
 ghost use Rattle.ll_laws.specs.Pool.{Owed};
 ghost use Rattle.ll_laws.specs.declared.Event.{Event as TheEvent};
 ghost use Rattle.ll_freeze.specs.Frozen.{alternatives_in};
+ghost use Rattle.ll_freeze.specs.Indexed.{IsIndexOf};
 ghost use Rattle.ll_laws.specs.Valid.{IsValid};
 ghost use Rattle.ll_engine.specs.Pointed.{spine_of, IsSound};
 ghost use Rattle.ll_engine.specs.Turned.{Turned, has_none};
@@ -14,9 +16,11 @@ ghost use Rattle.ll_engine.specs.Splits.{Splits};
 use crate::spine::Spine;
 use ll_bank::OutOfMemory;
 use ll_freeze::Frozen;
+use ll_index::Index;
 use ll_laws::{Event, Problem};
 use std::alloc::{AllocError, Global};
 use std::marker::Model;
+use std::sync::Arc;
 
 /// What one step of an engine did.
 #[derive(Drop)]
@@ -125,7 +129,21 @@ impl<'p> Engine<'p> {
         requires valid { IsValid problem.now }
         ensures { IfOk result (λ e. e ≡ fresh problem.entry.now) }
     {
-        let spine = Spine::start(alloc, problem)?;
+        let index = Index::build(alloc, problem)?;
+        Engine::start_with(alloc, problem, Arc::new(alloc, index)?)
+    }
+
+    /// The same engine, with an index of the problem's clauses that was made before.
+    pub fn start_with(
+        alloc: Global,
+        problem: &'p Problem,
+        index: Arc<Index>,
+    ) -> Result<Engine<'p>, OutOfMemory>
+        requires valid { IsValid problem.now }
+        requires index { IsIndexOf problem.now (arc_value index) }
+        ensures { IfOk result (λ e. e ≡ fresh problem.entry.now) }
+    {
+        let spine = Spine::start(alloc, problem, index)?;
         Ok(Engine {
             spine,
             running: true,

@@ -50,19 +50,23 @@ pub struct Spine<'p> {
 }
 
 impl<'p> Spine<'p> {
-    /// The start of a valid problem's search.
-    pub fn start(alloc: Global, problem: &'p Problem) -> Result<Spine<'p>, OutOfMemory>
+    /// The start of a valid problem's search, with an index of the problem's clauses.
+    pub fn start(
+        alloc: Global,
+        problem: &'p Problem,
+        index: Arc<Index>,
+    ) -> Result<Spine<'p>, OutOfMemory>
         requires valid { IsValid problem.now }
+        requires index { IsIndexOf problem.now (arc_value index) }
         ensures sound { IfOk result (λ z. IsSound true z) }
         ensures start { IfOk result (λ z. spine_of z ≡ starting problem.entry.now (start_of problem.entry.now)) }
     {
         let machine = Machine::start(alloc, problem)?;
-        let index = Index::build(alloc, problem)?;
         let origin = Snapshot::of(&machine);
         Ok(Spine {
             alloc,
             problem,
-            index: Arc::new(alloc, index)?,
+            index,
             machine,
             points: VecDeque::new(alloc),
             origin,

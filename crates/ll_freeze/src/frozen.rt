@@ -74,11 +74,23 @@ impl<'p> Frozen<'p> {
         requires valid { IsValid problem.now }
         ensures { IfOk result (λ f. f ≡ opening problem.entry.now f.base) }
     {
+        let index = Index::build(alloc, problem)?;
+        Frozen::start_with(alloc, problem, Arc::new(alloc, index)?)
+    }
+
+    /// The same start, with an index of the problem's clauses that was made before.
+    pub fn start_with(
+        alloc: Global,
+        problem: &'p Problem,
+        index: Arc<Index>,
+    ) -> Result<Frozen<'p>, OutOfMemory>
+        requires valid { IsValid problem.now }
+        requires index { IsIndexOf problem.now (arc_value index) }
+        ensures { IfOk result (λ f. f ≡ opening problem.entry.now f.base) }
+    {
         let machine = Machine::start(alloc, problem)?;
         let (rest, store) = machine.parted();
         let layers = Layers::whole(alloc, store)?;
-        let index = Index::build(alloc, problem)?;
-        let index = Arc::new(alloc, index)?;
         let untried = vec![in alloc; Candidate { label: 0, leaf: 0 }]?;
         Ok(Frozen {
             rest,

@@ -34,6 +34,10 @@ pub record IsIndex (nodes : Nodes) (program : List ClauseTree) (x : Index) : Typ
   pub predicates : IsChained (leaf_keys nodes false x.leaves.items) x.predicates
   pub signs : IsChained (leaf_keys nodes true x.leaves.items) x.signs
 
+-- the index is of the clauses of this program
+abbrev pub HasIndex : List ClauseTree → Index → Type 0
+HasIndex program x = (nodes : Nodes) × IsIndex nodes program x
+
 -- the leaves that a cursor has left, in order
 abbrev pub left : Index → Cursor → List Leaf
 left x c = linked_from 0 x.leaves.items (chains_of x c.by_sign).next.items c.first c.second

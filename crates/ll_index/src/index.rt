@@ -41,14 +41,13 @@ pub struct Cursor {
 
 impl Index {
     ghost use Rattle.std.specs.Prelude.{◌≡◌, ◌∷◌, ◌↔◌, [], map, IfOk, IfSome, IsNone};
-    ghost use Rattle.ll_bank.specs.Nodes.{Nodes};
     ghost use Rattle.ll_agenda.specs.Frames.{items_at, HasTop, BeginsWith};
     ghost use Rattle.ll_laws.specs.Shown.{clause_tree, HasClauses};
-    ghost use Rattle.ll_index.specs.Index.{IsIndex, IsLeafOf, ListsMatches, chains_of, premises_of, left};
+    ghost use Rattle.ll_index.specs.Index.{HasIndex, IsIndex, IsLeafOf, ListsMatches, chains_of, premises_of, left};
 
     /// The index of a problem's program clauses.
     pub fn build(alloc: Global, problem: &Problem) -> Result<Index, OutOfMemory>
-        ensures { IfOk result (λ index. (nodes : Nodes) × IsIndex nodes problem.now.clauses index) }
+        ensures { IfOk result (HasIndex problem.now.clauses) }
     {
         Index::over(alloc, &problem.bank, &problem.clauses)
     }

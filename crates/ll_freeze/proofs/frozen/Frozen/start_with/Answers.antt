@@ -1,6 +1,5 @@
 use Rattle.std.proofs.Common.{sym, subst, ◌≤◌, arith}
 use Rattle.std.specs.Arc.{arc_value}
-use Rattle.ll_index.specs.declared.index.Index.{Index}
 use Rattle.ll_laws.specs.Problem.{ProblemTree}
 use Rattle.ll_store.specs.Stored.{stored, state_of as store_of}
 use Rattle.ll_store.specs.Layered.{LayersSight}
@@ -9,7 +8,7 @@ use Rattle.ll_freeze.specs.Indexed.{IsIndexOf}
 use Rattle.ll_freeze.specs.Fits.{Fits}
 use Rattle.ll_freeze.proofs.Marks.{cells_within}
 use Rattle.ll_freeze.proofs.Freezing.{starts}
-use Rattle.ll_freeze.proofs.frozen.Frozen.start.Goals as goal
+use Rattle.ll_freeze.proofs.frozen.Frozen.start_with.Goals as goal
 
 pub whole-requires : goal.whole-requires
 whole-requires c =
@@ -21,8 +20,7 @@ invariant_of-result c =
     let made = starts c.args.problem.now (parts_of c.in_ok-machine.machine) c.parted-rest.result.0 (store_of (stored c.parted-rest.result.1)) c.in_ok-layers.layers c.in_ok-untried.untried.items c.in_ok-machine.ensures c.parted-rest.ensures c.in_ok-layers.ensures
     c.in_ok-untried.ensures.items in (
       made.frozen,
-      subst (λ (p : ProblemTree). IsIndexOf p (arc_value c.in_ok-index-2.index)) (sym made.problem)
-          (subst (λ (x : Index). IsIndexOf c.args.problem.now x) (sym c.in_ok-index-2.ensures.ok) c.in_ok-index.ensures),
+      subst (λ (p : ProblemTree). IsIndexOf p (arc_value c.args.index)) (sym made.problem) c.requires.index,
       subst (λ (l : LayersSight). l.depth ≤ 64) (sym c.in_ok-layers.ensures) (omega arith),
     )
 

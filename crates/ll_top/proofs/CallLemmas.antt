@@ -9,7 +9,7 @@ use Rattle.ll_laws.specs.Search.{is_answer, is_reached}
 use Rattle.ll_laws.specs.Output.{run_status, status_by}
 use Rattle.ll_top.specs.Words.{RunWords, SessionWords, DeepenWords, CheckWords, ConvertWords, FitsForm, cover_form, IsCheckForm, IsInForm, IsRun, IsSession, IsDeepen, IsPrint, IsCheck, IsConvert, IsMake, IsMadeRun, IsBadWord}
 use Rattle.ll_top.specs.Making.{MakeWords, MakeComesTo, MadeRunWords}
-use Rattle.ll_top.specs.MadeRuns.{MadeRunComesTo, made_ran, made_faulty}
+use Rattle.ll_top.specs.MadeRuns.{MadeRunComesTo}
 use Rattle.ll_top.specs.Faults.{Cause, Usage, Absent, Unreadable, Oversized, OversizedAs, Faulty, fault_text, cause_status}
 use Rattle.ll_top.specs.Outcome.{name_of, ReadFails, absent as is_absent, unreadable as is_unreadable, oversized as is_oversized, run_texts, RunFails, not_read, faulty, RunComesTo, ran, failed, PrintFails, source_not_read, faulty_source, PrintComesTo, printed, print_failed, name_in_check, check_texts, CheckFails, texts_not_read, faulty_text, CheckComesTo, shown, refuted, covered, too_long, counting, check_failed, IsDenied, IsCoveredCall, IsUncoveredCall, front_events, status_of_run}
 use Rattle.ll_top.specs.Sessions.{SessionFails, session_not_read, faulty_program, SessionComesTo, replied, session_failed}
@@ -211,8 +211,7 @@ module _ (told : Option Texts) (absence read_failed : Type 0) where
   convert-comes-says convert status text (convert_failed cause f s t) = at-status status (cause_status cause) s (convert-cause-says convert cause f)
 
   made-comes-says : (run : MadeRunWords) (status : ℕ) (text : List ℕ) → MadeRunComesTo run status text → Unjudged absence read_failed status
-  made-comes-says run status text (made_ran p a s t) = at-status status (run_status p) s (small-says (run_status p) (run-small p))
-  made-comes-says run status text (made_faulty role f h s t) = at-status status 7 s (fault-says 7 (omega arith) (omega arith))
+  made-comes-says run status text h = at-status status (run_status h.problem) h.status_is (small-says (run_status h.problem) (run-small h.problem))
 
   judged-says : (status : ℕ) → (status ≡ 9) ⊎ (status ≡ 11) → Says absence read_failed status
   judged-says status (inl s) = record { used = λ e. omega arith; absent = λ e. absurd (omega arith); unreadable = λ e. absurd (omega arith); cut_off = λ e. omega arith }

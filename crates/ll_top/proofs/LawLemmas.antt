@@ -29,8 +29,8 @@ use Rattle.ll_top.specs.declared.judge.Role.{Role}
 use Rattle.ll_top.specs.declared.judge.Role.TheVariants.{Program, Query}
 use Rattle.ll_top.specs.Words.{RunWords, SessionWords, DeepenWords, CheckWords, ConvertWords}
 use Rattle.ll_make.specs.Kinds.{query_text}
-use Rattle.ll_top.specs.Making.{MadeRunWords, make_text, kind_word}
-use Rattle.ll_top.specs.MadeRuns.{MadeRunComesTo, made_ran, made_faulty, last_line}
+use Rattle.ll_top.specs.Making.{MadeRunWords, make_text}
+use Rattle.ll_top.specs.MadeRuns.{MadeRunComesTo, last_line}
 use Rattle.ll_top.specs.Faults.{Cause, Absent, Oversized, Faulty, fault_text, cause_status}
 use Rattle.ll_top.specs.Judging.{HasGrammarFault, IsProgramText, IsQueryText, IsReadingFault, lexical, grammatical, IsFaultless, IsProgramFault, of_program_reading, of_program_scope, IsQueryFault, of_query_reading, of_query_scope, IsTextFault, of_program, of_query, TextsAsk, most_open, IsCheckFault, of_run_texts, of_proof, TextsGive}
 use Rattle.ll_top.specs.Verdicts.{yes_text, no_text, covered_text, too_long_text, counts_text}
@@ -140,7 +140,7 @@ module _ (laws : Laws) where
       (refl, one-query-fault u query f g (subst (λ x. IsQueryFault x query f) (one-program program t u l.is_program m.is_program) h) k)
 
   -- texts that ask a problem have no fault
-  asks-no-fault : (program query : List ℕ) (bound : ℕ) (p : ProblemTree) (role : Role) (f : Fault) → TextsAsk program query bound p → IsTextFault program query role f → ⊥
+  pub asks-no-fault : (program query : List ℕ) (bound : ℕ) (p : ProblemTree) (role : Role) (f : Fault) → TextsAsk program query bound p → IsTextFault program query role f → ⊥
   asks-no-fault program query bound p _ f a (of_program h) =
       faultless-no-fault program a.program_tree f (record { is_program = a.is_program; faultless = a.asks.program_faultless }) h
   asks-no-fault program query bound p _ f a (of_query t l (of_query_reading h)) = query-no-fault query a.query_tree f a.is_query h
@@ -474,9 +474,6 @@ module _ (laws : Laws) where
     -- ---- runs of programs that are made
 
     pub made-once : (run : MadeRunWords) (s t : ℕ) (u v : List ℕ) → MadeRunComesTo run s u → MadeRunComesTo run t v → (s ≡ t) × (u ≡ v)
-    made-once run s t u v (made_ran p a e f) (made_ran q b g h) =
-        let o = one-asked (make_text run.make) (query_text run.make.kind) run.bound p q a b in (e ∙ (ap run_status o ∙ sym g), f ∙ (ap last_line o ∙ sym h))
-    made-once run s t u v (made_ran p a e f) (made_faulty role x b g h) = absurd (asks-no-fault (make_text run.make) (query_text run.make.kind) run.bound p role x a b)
-    made-once run s t u v (made_faulty role x b g h) (made_ran p a e f) = absurd (asks-no-fault (make_text run.make) (query_text run.make.kind) run.bound p role x a b)
-    made-once run s t u v (made_faulty r x a e f) (made_faulty q y b g h) =
-        let o = one-fault (make_text run.make) (query_text run.make.kind) r q x y a b in (e ∙ sym g, f ∙ (ap (λ z. fault_text (Faulty (kind_word run.make.kind) z)) o.1 ∙ sym h))
+    made-once run s t u v a b =
+        let o = one-asked (make_text run.make) (query_text run.make.kind) run.bound a.problem b.problem a.asks b.asks in
+        (a.status_is ∙ (ap run_status o ∙ sym b.status_is), a.is ∙ (ap last_line o ∙ sym b.is))

@@ -45,6 +45,7 @@ use ll_lexer::one_reading;
 use ll_parser::{one_program, one_query};
 use ll_prooftext::one_derivation_in_any;
 use ll_session::one_session;
+pub use made_runs::made_asks;
 use made_runs::serve_made_run;
 use making::serve_make;
 use prepare::prepare;

@@ -1,14 +1,19 @@
 //! A run of a program that is made from a kind and a number: the counts of its search.
-ghost use Rattle.std.specs.Prelude.{◌≡◌, ◌≤◌, IfOk, IfErr, OnOk, OnErr};
+ghost use Rattle.std.specs.Prelude.{◌≡◌, ◌≤◌, ℕ, IfOk, IfErr, OnOk, OnErr};
 ghost use Rattle.std.specs.Io.KnownBytes.{append_known};
 ghost use Rattle.ll_edge.specs.Counts.{Rose};
 ghost use Rattle.ll_edge.specs.Pieces.{AppendsFront};
 ghost use Rattle.ll_laws.specs.Output.{run_status};
-ghost use Rattle.ll_laws.specs.Problem.{problem_events, problem_cost};
+ghost use Rattle.ll_laws.specs.Problem.{ProblemTree, problem_events, problem_cost};
 ghost use Rattle.ll_laws.specs.Valid.{IsValid};
-ghost use Rattle.ll_make.specs.Kinds.{Fits};
+ghost use Rattle.ll_lexer.specs.declared.Fault.{Fault};
+ghost use Rattle.ll_make.specs.declared.kind.MakeKind.{MakeKind};
+ghost use Rattle.ll_make.specs.Kinds.{Fits, query_text};
+ghost use Rattle.ll_make.specs.Programs.{program_text};
 ghost use Rattle.ll_order.specs.Outlets.{CountsOf};
+ghost use Rattle.ll_top.specs.declared.judge.Role.{Role};
 ghost use Rattle.ll_top.specs.declared.refusal.Refusal.TheVariants.{OutOfMemory};
+ghost use Rattle.ll_top.specs.Judging.{IsTextFault, TextsAsk};
 ghost use Rattle.ll_top.specs.Words.{shown_made_run};
 ghost use Rattle.ll_top.specs.MadeRuns.{last_line, MadeRunComesTo};
 ghost use Rattle.ll_top.specs.MadeEnds.{MadeRunEnds};
@@ -16,9 +21,8 @@ ghost use Rattle.ll_top.specs.Calls.{Ends};
 ghost use Rattle.ll_top.specs.Endings.{status_of_found};
 ghost use Rattle.ll_top.specs.Running.{IsRunRefusal};
 
-use crate::fault::refuse;
 use crate::found_status;
-use crate::making::{MadeRunCommand, kind_word};
+use crate::making::MadeRunCommand;
 use crate::prepare::problem_of;
 use crate::refusal::Refusal;
 use crate::run::{Found, what_was_found};
@@ -27,14 +31,17 @@ use crate::team::Team;
 use ll_crew::{CrewFault, crew};
 use ll_edge::{Gate, Sink, write_all};
 use ll_laws::{Counts, Problem};
+use ll_lexer::one_reading;
+use ll_made::made_texts;
 use ll_make::{program, query};
+use ll_parser::{one_program, one_query};
 use ll_printer::summary;
+use ll_prooftext::one_derivation_in_any;
 use std::sync::Wait;
 use std::thread::Threads;
 
 /// Runs the program that is made with the query of its kind, writes the last line alone, and answers the status: 0, 1 or 2 as that of a run,
-/// 6 where the sink failed, with a prefix of the line written, or 10 where memory ran out. A fault of the program or the query would be
-/// written with status 7, under the word of the kind.
+/// 6 where the sink failed, with a prefix of the line written, or 10 where memory ran out.
 pub fn serve_made_run<R: Threads + Wait + Sync, O: Sink, G: Gate>(
     team: &Team<'_, R, G>,
     run: MadeRunCommand,
@@ -48,10 +55,22 @@ pub fn serve_made_run<R: Threads + Wait + Sync, O: Sink, G: Gate>(
 {
     match run_made(team, run, sink) {
         Ok(found) => found_status(found),
-        Err(Refusal::Text(_, refusal)) => { refuse(refusal.cause(kind_word(run.make.kind)), sink) }
+        Err(Refusal::Text(_, _)) => unreachable!(),
         Err(Refusal::Unwritable) => 6,
         Err(Refusal::OutOfMemory) => 10,
     }
+}
+
+/// A program that is made and the query of its kind ask a problem, and neither has a fault.
+pub fn made_asks()
+    ensures asks { (kind : MakeKind) (n bound : ℕ) → Fits kind n → (p : ProblemTree) × TextsAsk (program_text kind n) (query_text kind) bound p }
+    ensures no_fault { (kind : MakeKind) (n : ℕ) (role : Role) (f : Fault) → Fits kind n → IsTextFault (program_text kind n) (query_text kind) role f → ⊥ }
+{
+    made_texts();
+    one_reading();
+    one_program();
+    one_query();
+    one_derivation_in_any();
 }
 
 // Runs the program that is made.
@@ -65,6 +84,7 @@ fn run_made<R: Threads + Wait + Sync, O: Sink, G: Gate>(
     ensures faults_kept { O.faults sink.old ≤ O.faults sink.new }
     ensures ends { MadeRunEnds (Rose (O.faults sink.old) (O.faults sink.new)) (shown_made_run run) (O.written sink.old) (O.written sink.new) result }
 {
+    made_asks();
     let text = program(team.alloc, run.make.kind, run.make.number)?;
     let asked = query(run.make.kind).as_bytes();
     let problem = problem_of(team.alloc, &text, asked, run.bound)?;

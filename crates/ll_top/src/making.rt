@@ -131,17 +131,6 @@ fn kind_of(word: &str) -> Option<MakeKind>
     }
 }
 
-/// The word of a kind.
-pub fn kind_word(kind: MakeKind) -> &'static str
-    ensures { result.now ≡ kind_word kind }
-{
-    match kind {
-        MakeKind::Perm => "perm",
-        MakeKind::Choice => "choice",
-        MakeKind::Chain => "chain",
-    }
-}
-
 /// Writes the program that is asked for, and answers the status: 0, or 6 where the sink failed, with a prefix written, or 10 where memory
 /// ran out, with nothing written.
 pub fn serve_make<O: Sink>(alloc: Global, make: MakeCommand, sink: &mut O) -> u8

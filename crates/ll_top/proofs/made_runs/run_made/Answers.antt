@@ -13,7 +13,7 @@ problem_of-requires-clause-query g c = rw (c.as_bytes-asked.ensures.value, c.que
 pub returns-in_err-problem-clause-ends : goal.returns-in_err-problem-clause-ends
 returns-in_err-problem-clause-ends g c =
     unjudged _ (shown_made_run c.args.run) _ _ _ _ _ c.from_residual-in_err-problem.ensures.1 (c.deref.ensures.value ∙ c.in_ok-text.ensures) (c.as_bytes-asked.ensures.value ∙ c.query.ensures)
-    c.in_err-problem.ensures.judges
+    (λ role f. c.made_asks.ensures.no_fault c.args.run.make.kind c.args.run.make.number role f c.requires.fits) c.in_err-problem.ensures.judges
 
 pub returns-clause-ends : goal.returns-clause-ends
 returns-clause-ends g c =

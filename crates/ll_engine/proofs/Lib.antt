@@ -21,6 +21,7 @@ mod Forks
 mod Turns
 mod Stepping
 mod Labels
+mod Basing
 mod Pointing
 mod Splitting
 mod Resuming

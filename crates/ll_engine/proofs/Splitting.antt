@@ -21,7 +21,7 @@ use Rattle.ll_engine.specs.Seen.{Point, Spine}
 use Rattle.ll_engine.specs.Owed.{owed, cost_left, one_if_some, open_points, work_left, if_running, owing}
 use Rattle.ll_engine.specs.Healthy.{IsPoint, ArePoints, RunsFrom, HealthyFrom, Healthy}
 use Rattle.ll_freeze.specs.declared.machine.Machine.{Machine}
-use Rattle.ll_freeze.specs.Parts.{Parts, IsGood}
+use Rattle.ll_freeze.specs.Parts.{Parts, Base, base_of, IsGood}
 use Rattle.ll_engine.specs.declared.spine.Kept.{Kept}
 use Rattle.ll_engine.specs.Pointed.{Held, held_of, helds, Rises, AreMarks, AreTries, point_of, points_of, spine_at, IsKept}
 use Rattle.ll_engine.specs.Splits.{TakesOldest, SplitsTo, frozen_point}
@@ -125,11 +125,11 @@ splits_to z0 z b r m k n t e =
     let ps = z.points in
     let P : Spine → Type 0 = λ y. SplitsTo (owing z0 r m k false) b (owing y r m n false) in
     let B : FrozenSight → Type 0 = λ c. SplitsTo (owing z0 r m k false) c (owing (record z0 { points = ps }) r m n false) in
-    subst P (sym t.same) (subst B (sym t.batch) (of_parts ps t.oldest t.points t.some))
+    subst P (sym t.same) (subst B (sym t.batch) (of_parts ps t.oldest t.base t.depth t.points t.some))
   where
-    of_parts : (ps : List Point) (o : Point) → z0.points ≡ ps ++ o ∷ [] → (o.untried ≡ [] → ⊥)
-        → SplitsTo (owing z0 r m k false) (frozen_point z0 o) (owing (record z0 { points = ps }) r m n false)
-    of_parts ps o e1 h =
+    of_parts : (ps : List Point) (o : Point) (base : Base) (depth : ℕ) → z0.points ≡ ps ++ o ∷ [] → (o.untried ≡ [] → ⊥)
+        → SplitsTo (owing z0 r m k false) (frozen_point z0 o base depth) (owing (record z0 { points = ps }) r m n false)
+    of_parts ps o base depth e1 h =
         let beside = setting_of z0.problem in
         let front = if_running r (events beside z0.left z0.now) [] in
         let l : suc o.left - 1 ≡ o.left = omega arith in
@@ -145,7 +145,7 @@ splits_to z0 z b r m k n t e =
           events =
               ap (λ (xs : List Point). front ++ owed beside xs) e1
               ∙ (ap (λ (x : List Event). front ++ x) (owed_behind beside ps (o ∷ []) ∙ ap (λ (x : List Event). owed beside ps ++ x) (append_nil (tried_events beside o.left o.state o.untried) ∙ sym es))
-              ∙ sym (append_assoc front (owed beside ps) (flat_map (λ (w : Owed Event). w.events) (alternatives_in (frozen_point z0 o)))));
+              ∙ sym (append_assoc front (owed beside ps) (flat_map (λ (w : Owed Event). w.events) (alternatives_in (frozen_point z0 o base depth)))));
           cost = let a = ap (λ (xs : List Point). cost_left beside xs) e1 in let c = cost_behind beside ps (o ∷ []) in omega (arith, a, c, cs);
           some = batch_some beside (suc o.left - 1) o.state o.untried h;
           work = let a = ap (λ (xs : List Point). work_left beside xs) e1 in let c = work_behind beside ps (o ∷ []) in omega (arith, a, c);
@@ -164,9 +164,9 @@ still_some cs h e = h (sym (twice cs) ∙ ap (λ xs. reverse xs) e)
 oldest_last : (h : Held) (hs : List Held) → points_of (h ∷ hs) ≡ points_of hs ++ point_of h ∷ []
 oldest_last h hs = ap (λ xs. map point_of xs) (reverse-append (h ∷ []) hs) ∙ map-append point_of (reverse hs) (h ∷ [])
 
-pub takes_oldest : (first : Option State) (p : ProblemTree) (m : Parts) (h : Held) (ps hs : List Held) (b : FrozenSight) → ps ≡ h ∷ hs → IsKept p h
-    → b ≡ sight_of h.parts (reverse h.untried) false → TakesOldest (spine_at first p m ps) b (spine_at first p m hs)
-takes_oldest first p m h ps hs b e k v =
+pub takes_oldest : (first : Option State) (p : ProblemTree) (m : Parts) (h : Held) (ps hs : List Held) (b : FrozenSight) (depth : ℕ) → ps ≡ h ∷ hs → IsKept p h
+    → b ≡ sight_of h.parts (reverse h.untried) false depth → TakesOldest (spine_at first p m ps) b (spine_at first p m hs)
+takes_oldest first p m h ps hs b depth e k v =
     let l = k.opened.left in
     let n : h.parts.left ≡ suc (h.parts.left - 1) = omega (arith, l) in
     record {
@@ -174,7 +174,9 @@ takes_oldest first p m h ps hs b e k v =
       some = still_some h.untried k.some;
       points = ap (λ xs. points_of xs) e ∙ oldest_last h hs;
       same = refl;
-      batch = v ∙ (λ i. record { problem = k.opened.problem i; state = state_of h.parts; left = n i; untried = reverse h.untried; starts = false });
+      base = base_of h.parts;
+      depth = depth;
+      batch = v ∙ (λ i. record { problem = k.opened.problem i; state = state_of h.parts; left = n i; untried = reverse h.untried; starts = false; base = base_of h.parts; depth = depth });
     }
 
 -- what is known of the oldest choice point and those after it

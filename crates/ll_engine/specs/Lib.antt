@@ -8,6 +8,7 @@ pub mod Turned
 pub mod Calls
 pub mod Rows
 pub mod Going
+pub mod Based
 pub mod Pointed
 pub mod Moves
 pub mod Steps

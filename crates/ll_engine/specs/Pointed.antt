@@ -13,6 +13,7 @@ use Rattle.ll_engine.specs.declared.spine.Spine.{Spine as Stored}
 use Rattle.ll_freeze.specs.Shown.{state_of}
 use Rattle.ll_freeze.specs.Fits.{Fits}
 use Rattle.ll_freeze.specs.Indexed.{IsIndexOf}
+use Rattle.ll_engine.specs.Based.{IsBased}
 use Rattle.ll_engine.specs.Seen.{Point, Spine}
 use Rattle.ll_engine.specs.Owed.{put_point}
 use Rattle.ll_engine.specs.Turned.{is_empty, Chose}
@@ -97,6 +98,7 @@ pub record IsSound (running : Bool) (z : Stored) : Type 0 where
   pub index : IsIndexOf z.problem.now (arc_value z.index)
   pub sound : IsSoundAt running z.problem.now (parts_of z.machine) (helds z.machine z.points.items)
   pub marks : AreMarks z.machine z.points.items
+  pub based : IsBased z.machine z.points.items z.ancestor
 
 -- one point more, where it has an untried candidate; they are kept with the first one last
 abbrev pub Puts : Parts → List Candidate → List Held → List Held → Type 0

@@ -1,7 +1,8 @@
 -- Choice points that are split off, the oldest first.
-use Rattle.std.specs.Prelude.{◌≡◌, ◌≤◌, ◌<◌, suc, ◌+◌, ◌++◌, false, [], ◌∷◌, length, flat_map, sum_by, Option, Some, None}
+use Rattle.std.specs.Prelude.{◌≡◌, ℕ, ◌≤◌, ◌<◌, suc, ◌+◌, ◌++◌, false, [], ◌∷◌, length, flat_map, sum_by, Option, Some, None}
 use Rattle.ll_laws.specs.declared.Event.{Event}
 use Rattle.ll_laws.specs.Pool.{Owed}
+use Rattle.ll_freeze.specs.Parts.{Base}
 use Rattle.ll_freeze.specs.Frozen.{FrozenSight, alternatives_in}
 use Rattle.ll_engine.specs.Seen.{Point, Spine, Owing}
 
@@ -24,9 +25,9 @@ abbrev pub Splits : Owing → Option FrozenSight → Owing → Type 0
 Splits old None new = (new ≡ old) × (old.points ≡ 0)
 Splits old (Some b) new = SplitsTo old b new
 
--- the batch is this choice point
-abbrev pub frozen_point : Spine → Point → FrozenSight
-frozen_point z p = record { problem = z.problem; state = p.state; left = suc p.left; untried = p.untried; starts = false }
+-- the batch is this choice point, with this base, and shares with so many
+abbrev pub frozen_point : Spine → Point → Base → ℕ → FrozenSight
+frozen_point z p base depth = record { problem = z.problem; state = p.state; left = suc p.left; untried = p.untried; starts = false; base = base; depth = depth }
 
 -- the oldest choice point was taken away, and is the batch
 pub record TakesOldest (old : Spine) (b : FrozenSight) (new : Spine) : Type 0 where
@@ -34,4 +35,6 @@ pub record TakesOldest (old : Spine) (b : FrozenSight) (new : Spine) : Type 0 wh
   pub some : oldest.untried ≡ [] → ⊥
   pub points : old.points ≡ new.points ++ oldest ∷ []
   pub same : new ≡ record old { points = new.points }
-  pub batch : b ≡ frozen_point old oldest
+  pub base : Base
+  pub depth : ℕ
+  pub batch : b ≡ frozen_point old oldest base depth

@@ -176,6 +176,56 @@ impl<'p> Engine<'p> {
         })
     }
 
+    /// The same for a batch that the engine keeps: what is split off shares the store of the batch, as long as it would not share with more
+    /// than 64.
+    pub fn resume_shared(
+        alloc: Global,
+        problem: &'p Problem,
+        frozen: Arc<Frozen<'p>>,
+        k: u32,
+    ) -> Result<Engine<'p>, OutOfMemory>
+        requires inside { k < length (alternatives_in (arc_value frozen)) }
+        requires of { (arc_value frozen).problem ≡ problem.now }
+        ensures resumed { IfOk result (λ e. e ≡ resumed (arc_value frozen.entry) k) }
+        ensures owes { IfOk result (λ e. (owes : Owed TheEvent) → slice_get (alternatives_in (arc_value frozen.entry)) k ≡ Some owes → Resumes problem.entry.now owes e) }
+    {
+        let spine = Spine::resume_shared(alloc, problem, frozen, k)?;
+        let running = spine.began;
+        Ok(Engine {
+            spine,
+            running,
+            splits: 0,
+            made: 0,
+            spent: false,
+        })
+    }
+
+    /// An engine for an alternative of another batch of the same problem, as `resume_shared` gives it. What the store of this engine's batch
+    /// shares with the other one is not copied.
+    ///
+    /// This engine is spent in every case.
+    pub fn advance(self, to: Arc<Frozen<'p>>, k: u32) -> Result<Engine<'p>, OutOfMemory>
+        requires inside { k < length (alternatives_in (arc_value to)) }
+        requires of { (arc_value to).problem ≡ self.problem }
+        ensures resumed { IfOk result (λ e. e ≡ resumed (arc_value to.entry) k) }
+        ensures owes { IfOk result (λ e. (owes : Owed TheEvent) → slice_get (alternatives_in (arc_value to.entry)) k ≡ Some owes → Resumes self.entry.problem owes e) }
+    {
+        let Engine { spine, spent, .. } = self;
+        if spent {
+            let other = Engine::resume_shared(spine.alloc, spine.problem, to, k)?;
+            return Ok(other);
+        }
+        let spine = spine.advance(to, k)?;
+        let running = spine.began;
+        Ok(Engine {
+            spine,
+            running,
+            splits: 0,
+            made: 0,
+            spent: false,
+        })
+    }
+
     /// Goes on by one step. After a refusal the engine is spent: every later step is refused too.
     ///
     /// Each step but `Done` lessens the work that is left. After an answer at least as many choice points have an untried

@@ -1,6 +1,7 @@
 //! The backtracking engine: depth-first search, step by step, which owes exactly the events and the inferences of the search.
 #![tactic(auto)]
 
+mod ancestor;
 mod answer;
 mod attempt;
 mod candidates;
@@ -13,6 +14,7 @@ mod open;
 mod quantifiers;
 mod resume;
 mod settle;
+mod shared;
 mod spine;
 mod split;
 mod take;

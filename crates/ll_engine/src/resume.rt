@@ -1,7 +1,7 @@
 //! Machines that begin with an alternative of a frozen choice point.
 ghost use Rattle.std.specs.Prelude.{◌≡◌, ◌<◌, length, IfOk};
 ghost use Rattle.std.specs.Arc.{arc_value};
-ghost use Rattle.ll_freeze.specs.Parts.{parts_of};
+ghost use Rattle.ll_freeze.specs.Parts.{parts_of, Later};
 ghost use Rattle.ll_freeze.specs.Indexed.{IsIndexOf};
 ghost use Rattle.ll_freeze.specs.Frozen.{alternatives_in, Thaws};
 ghost use Rattle.ll_engine.specs.Pointed.{spine_of, IsSound};
@@ -42,6 +42,7 @@ impl<'p> Spine<'p> {
             index,
             machine,
             points: VecDeque::new(alloc),
+            ancestor: None,
             origin,
             began,
             workshop: Workshop::new(alloc),
@@ -49,8 +50,8 @@ impl<'p> Spine<'p> {
     }
 }
 
-// The index that goes with a frozen choice point of a problem, or one that is made.
-fn index_of(
+/// The index that goes with a frozen choice point of a problem, or one that is made.
+pub fn index_of(
     alloc: Global,
     problem: &Problem,
     frozen: &Frozen<'_>,
@@ -65,8 +66,8 @@ fn index_of(
     Ok(Arc::new(alloc, index)?)
 }
 
-// Makes the inference of an alternative in its state, if it is not the start; false where it gives nothing.
-fn begin(
+/// Makes the inference of an alternative in its state, if it is not the start; false where it gives nothing.
+pub fn begin(
     machine: &mut Machine<'_>,
     alloc: Global,
     frozen: &Frozen<'_>,
@@ -74,7 +75,8 @@ fn begin(
 ) -> Result<bool, OutOfMemory>
     requires inside { k < length (alternatives_in frozen.now) }
     requires thaws { Thaws frozen.now (parts_of machine.old) }
-    ensures { IfOk result (λ began. BeginsIn frozen.now k began (parts_of machine.new)) }
+    ensures begins { IfOk result (λ began. BeginsIn frozen.now k began (parts_of machine.new)) }
+    ensures later { IfOk result (λ _. Later machine.old machine.new) }
 {
     if frozen.is_start() {
         return Ok(true);

@@ -7,9 +7,11 @@ ghost use Rattle.ll_freeze.specs.Parts.{parts_of};
 ghost use Rattle.ll_freeze.specs.Shown.{state_of};
 ghost use Rattle.ll_freeze.specs.Fits.{Fits};
 ghost use Rattle.ll_freeze.specs.Indexed.{IsIndexOf};
+ghost use Rattle.ll_engine.specs.Based.{IsBased, KeepsFloors};
 ghost use Rattle.ll_engine.specs.Pointed.{spine_of, helds, IsSound, IsOpen, AreKept, AreMarks, AreTries, Puts, KeepsKept, ChoseOf};
 ghost use Rattle.ll_engine.specs.Turned.{has_none, is_empty, answers, starting, Settles, Expands, Retries};
 
+use crate::ancestor::Ancestor;
 use crate::answer::{Workshop, answers, branch, is_empty};
 use crate::attempt::attempt;
 use crate::candidates::candidates;
@@ -41,6 +43,8 @@ pub struct Spine<'p> {
     pub machine: Machine<'p>,
     /// The newest one last. Each has an untried candidate.
     pub points: VecDeque<Kept>,
+    /// The batch that the machine was made of, if what is split off may share its store.
+    pub ancestor: Option<Ancestor<'p>>,
     /// The machine with which the search began, for contracts alone.
     pub origin: Snapshot<Machine<'p>>,
     /// There was a state in which it began.
@@ -69,6 +73,7 @@ impl<'p> Spine<'p> {
             index,
             machine,
             points: VecDeque::new(alloc),
+            ancestor: None,
             origin,
             began: true,
             workshop: Workshop::new(alloc),
@@ -169,6 +174,7 @@ impl<'p> Spine<'p> {
         requires tries { AreTries (parts_of self.old.machine) (untried.items ++ candidate ∷ []) }
         requires points { AreKept self.old.problem.now (helds self.old.machine self.old.points.items) }
         requires marks { AreMarks self.old.machine self.old.points.items }
+        requires based { IsBased self.old.machine self.old.points.items self.old.ancestor }
         ensures sound { IfOk result (λ running. IsSound running self.new) }
         ensures chose { IfOk result (λ running. ChoseOf self.old (untried.items ++ candidate ∷ []) running self.new) }
     {
@@ -189,6 +195,7 @@ fn keep(
     ensures puts { IfOk result (λ _. Puts (parts_of machine.now) untried.items (helds machine.now points.old.items) (helds machine.now points.new.items)) }
     ensures kept { IfOk result (λ _. KeepsKept (parts_of machine.now) untried.items (helds machine.now points.old.items) (helds machine.now points.new.items)) }
     ensures marks { IfOk result (λ _. AreMarks machine.now points.new.items) }
+    ensures floors { IfOk result (λ _. KeepsFloors machine.now points.old.items points.new.items) }
 {
     if untried.is_empty() {
         return Ok(());

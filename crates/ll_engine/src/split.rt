@@ -1,18 +1,23 @@
 //! Choice points that are split off a machine, for others to work on.
-ghost use Rattle.std.specs.Prelude.{◌≡◌, false, reverse, IfOk};
+ghost use Rattle.std.specs.Prelude.{◌≡◌, ◌∷◌, [], false, reverse, IfOk};
 ghost use Rattle.std.specs.Arc.{arc_value};
 ghost use Rattle.ll_freeze.specs.Indexed.{IsIndexOf};
 ghost use Rattle.ll_freeze.specs.Parts.{parts_of, parts_at, IsGood};
 ghost use Rattle.ll_freeze.specs.Frozen.{sight_of};
+ghost use Rattle.ll_engine.specs.Based.{IsBased};
 ghost use Rattle.ll_engine.specs.Pointed.{spine_of, helds, held_of, IsSound, IsKept, AreKept, AreMarks};
 ghost use Rattle.ll_engine.specs.Turned.{has_none};
 ghost use Rattle.ll_engine.specs.Splits.{TakesOldest};
 
+use crate::ancestor::Ancestor;
 use crate::spine::{Kept, Spine};
 use ll_bank::OutOfMemory;
 use ll_freeze::{Frozen, Machine};
 use std::alloc::AllocError;
 use std::sync::Arc;
+
+// With how many batches one may share.
+const MOST_SHARED: u32 = 64;
 
 impl<'p> Spine<'p> {
     /// Takes the oldest choice point away, as a batch of its own. Where it has more candidates than a `u32` counts, memory is wanting.
@@ -20,6 +25,7 @@ impl<'p> Spine<'p> {
         requires index { IsIndexOf self.old.problem.now (arc_value self.old.index) }
         requires kept { AreKept self.old.problem.now (helds self.old.machine self.old.points.items) }
         requires marks { AreMarks self.old.machine self.old.points.items }
+        requires based { IsBased self.old.machine self.old.points.items self.old.ancestor }
         requires points { has_none (spine_of self.old).points ≡ false }
         ensures sound { IfOk result (λ _. (running : _) → IsSound running self.old → IsSound running self.new) }
         ensures takes { IfOk result (λ b. TakesOldest (spine_of self.old) b (spine_of self.new)) }
@@ -27,7 +33,7 @@ impl<'p> Spine<'p> {
         match self.points.pop_front() {
             None => unreachable!(),
             Some(kept) => {
-                let batch = frozen(&self.machine, kept)?;
+                let batch = frozen(&self.machine, &self.ancestor, kept)?;
                 let index = Arc::try_clone(&self.index)?;
                 Ok(batch.with_index(index))
             }
@@ -35,16 +41,29 @@ impl<'p> Spine<'p> {
     }
 }
 
-// A choice point of a machine, as a batch of its own.
-fn frozen<'p>(machine: &Machine<'p>, kept: Kept) -> Result<Frozen<'p>, OutOfMemory>
+// A choice point of a machine, as a batch. It shares the store of the batch that the machine was made of, if there is one that does not share
+// with too many.
+fn frozen<'p>(
+    machine: &Machine<'p>,
+    ancestor: &Option<Ancestor<'p>>,
+    kept: Kept,
+) -> Result<Frozen<'p>, OutOfMemory>
     requires good { IsGood kept.mark machine.now }
     requires kept { IsKept machine.now.problem.now (held_of machine.now kept) }
-    ensures { IfOk result (λ f. f ≡ sight_of (parts_at kept.mark machine.entry.now) (reverse kept.untried.items) false) }
+    requires based { IsBased machine.now (kept ∷ []) ancestor.now }
+    ensures { IfOk result (λ f. f ≡ sight_of (parts_at kept.mark machine.entry.now) (reverse kept.untried.items) false f.depth) }
 {
     let mut untried = kept.untried;
     if u32::try_from(untried.len()).is_err() {
         return Err(AllocError);
     }
     untried.reverse();
-    Frozen::whole(machine, kept.mark, &untried)
+    if let Some(ancestor) = ancestor {
+        if ancestor.batch.depth() < MOST_SHARED {
+            let batch = Frozen::onto(&ancestor.batch, machine, ancestor.base, kept.mark, &untried)?;
+            return Ok(batch);
+        }
+    }
+    let batch = Frozen::whole(machine, kept.mark, &untried)?;
+    Ok(batch)
 }

@@ -9,7 +9,7 @@ use Rattle.ll_crew.proofs.whole.crew_by.Goals as goal
 
 pub search-requires-clause-leads : goal.search-requires-clause-leads
 search-requires-clause-leads g c κs within =
-    let root : FrozenSight = opening c.args.problem.now in
+    let root : FrozenSight = opening c.args.problem.now c.in-Ok.root.base in
     let f = c.seats.ensures.first in
     let is : arc_value c.in-Ok-new.root ≡ root = c.in-Ok-new.ensures.ok ∙ c.in-Ok.ensures in
     let seen : c.seats.new.first.mine.seen ≡ opens root c.args.workers = f.3 ∙ (ap (λ (s : Sat). s.mine.seen) c.in-Ok-new-2.ensures.seat ∙ ap (λ n. opens n c.args.workers) is) in

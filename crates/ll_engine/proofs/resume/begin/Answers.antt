@@ -1,5 +1,6 @@
 use Rattle.std.proofs.Common.{rules}
 use Rattle.ll_freeze.specs.Parts.{parts_of}
+use Rattle.ll_freeze.proofs.CallerLemmas.{later_same}
 use Rattle.ll_engine.proofs.Resuming.{tried}
 use Rattle.ll_engine.proofs.resume.begin.Goals as goal
 
@@ -10,3 +11,6 @@ attempt-requires-clause-goal c =
 pub attempt-requires-clause-candidate : goal.attempt-requires-clause-candidate
 attempt-requires-clause-candidate c =
     let t = tried c.args.frozen.now (parts_of c.args.machine.now) c.args.k c.candidate.result c.requires.thaws c.is_start.ensures.stands (search rules) c.candidate.ensures in t.candidate
+
+pub returns-then-is_start-clause-later : goal.returns-then-is_start-clause-later
+returns-then-is_start-clause-later c = later_same c.args.machine.now

@@ -3,6 +3,8 @@ use Rattle.std.proofs.lemmas.List.Elements.{All-push, All-weaker}
 use Rattle.ll_freeze.specs.Parts.{parts_of, IsGood, IsBefore}
 use Rattle.ll_engine.specs.declared.spine.Kept.{Kept}
 use Rattle.ll_engine.specs.Pointed.{Held, Puts, KeepsKept, AreMarks, helds, held_of}
+use Rattle.ll_engine.specs.Based.{KeepsFloors}
+use Rattle.ll_engine.proofs.Basing.{floor_push}
 use Rattle.ll_engine.proofs.Pointing.{puts_some, keeps_some, some_left, helds_push, rises_push}
 use Rattle.ll_engine.proofs.spine.keep.Goals as goal
 
@@ -31,3 +33,8 @@ returns-clause-marks c =
       good = All-push (λ (j : Kept). IsGood j.mark m) ps k a.good c.mark.ensures.good;
       rise = rises_push ps k a.rise (All-weaker (λ (j : Kept). IsGood j.mark m) (λ (j : Kept). IsBefore j.mark k.mark) (λ j g. c.mark.ensures.last j.mark g) ps a.good);
     })
+
+pub returns-clause-floors : goal.returns-clause-floors
+returns-clause-floors c =
+    let m = c.args.machine.now in let k : Kept = record { mark = c.mark.result; untried = c.args.untried } in
+    subst (λ (qs : List Kept). KeepsFloors m c.args.points.now.items qs) (sym c.in_ok-push_back.ensures.items) (floor_push m c.args.points.now.items k c.mark.ensures.last)

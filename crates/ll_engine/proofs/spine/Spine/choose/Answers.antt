@@ -8,6 +8,7 @@ use Rattle.ll_freeze.specs.Parts.{parts_of}
 use Rattle.ll_freeze.proofs.CallerLemmas.{keeps}
 use Rattle.ll_engine.specs.Pointed.{Held, IsSoundAt, helds, points_of, spine_at, spine_of, first_of}
 use Rattle.ll_engine.specs.Turned.{Chose}
+use Rattle.ll_engine.proofs.Basing.{based_kept, based_more}
 use Rattle.ll_engine.proofs.Pointing.{sound_after, chose_some, helds_kept, marks_kept}
 use Rattle.ll_engine.proofs.spine.Spine.choose.Goals as goal
 
@@ -27,6 +28,7 @@ returns-clause-sound c =
           c.requires.open (All-front (λ (d : Candidate). Contains (tries (state_of (parts_of z.machine))) d) c.args.untried.items c.args.candidate c.requires.tries)
           c.requires.points c.in_ok-keep.ensures.kept c.in_ok-running.ensures.attempts);
       marks = marks_kept z.machine m ps (keeps z.machine m c.in_ok-running.ensures.later) c.in_ok-keep.ensures.marks;
+      based = based_kept z.machine m ps z.ancestor (keeps z.machine m c.in_ok-running.ensures.later) (based_more z.machine z.points.items ps z.ancestor c.in_ok-keep.ensures.floors c.requires.based);
     }
 
 pub returns-clause-chose : goal.returns-clause-chose

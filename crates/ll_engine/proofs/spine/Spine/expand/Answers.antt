@@ -23,4 +23,4 @@ returns-in_default-clause-expands c =
 
 pub returns-in_default-clause-sound : goal.returns-in_default-clause-sound
 returns-in_default-clause-sound c =
-    record { index = c.requires.sound.index; sound = record { points = c.requires.sound.sound.points; machine = tt }; marks = c.requires.sound.marks }
+    record { index = c.requires.sound.index; sound = record { points = c.requires.sound.sound.points; machine = tt }; marks = c.requires.sound.marks; based = c.requires.sound.based }

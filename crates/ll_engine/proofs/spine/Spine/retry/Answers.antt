@@ -4,6 +4,7 @@ use Rattle.ll_engine.specs.Pointed.{Held, held_of, helds, spine_at, spine_of, fi
 use Rattle.ll_laws.specs.declared.Candidate.{Candidate}
 use Rattle.ll_freeze.specs.Shown.{state_of}
 use Rattle.ll_engine.specs.Turned.{Chose}
+use Rattle.ll_engine.proofs.Basing.{based_undone}
 use Rattle.ll_engine.proofs.Pointing.{popped, popped_kept, popped_tries, popped_open, popped_some, none_left, helds_undone, marks_undone, retries_by}
 use Rattle.ll_engine.proofs.spine.Spine.retry.Goals as goal
 
@@ -42,6 +43,11 @@ choose-requires-clause-marks c =
       good = marks_undone z.machine c.undo.new.self c.in-Some.kept.mark c.pop_back.new.self.items c.undo.ensures.marks w.goods w.before;
       rise = w.rises;
     }
+
+pub choose-requires-clause-based : goal.choose-requires-clause-based
+choose-requires-clause-based c =
+    let z = c.args.self.now in
+    based_undone z.machine c.undo.new.self z.points.items c.pop_back.new.self.items c.in-Some.kept z.ancestor c.undo.ensures.marks c.in-Some.ensures.items c.requires.sound.based
 
 pub returns-clause-retries : goal.returns-clause-retries
 returns-clause-retries c =

@@ -3,6 +3,7 @@ use Rattle.ll_freeze.specs.Parts.{parts_of}
 use Rattle.ll_freeze.proofs.CallerLemmas.{keeps}
 use Rattle.ll_engine.specs.Turned.{Settles}
 use Rattle.ll_engine.specs.Pointed.{Held, IsSoundAt, spine_at, spine_of, first_of, helds}
+use Rattle.ll_engine.proofs.Basing.{based_kept}
 use Rattle.ll_engine.proofs.Pointing.{settles, settled_sound, helds_kept, marks_kept}
 use Rattle.ll_engine.proofs.spine.Spine.settle.Goals as goal
 
@@ -15,6 +16,7 @@ returns-clause-sound c =
           subst (λ (hs : List Held). IsSoundAt c.in_ok-ok.ok z.problem.now (parts_of m) hs) (sym (helds_kept z.machine m ps (keeps z.machine m c.in_ok-ok.ensures.later) c.requires.sound.marks.good))
           (settled_sound z.problem.now (parts_of z.machine) (parts_of m) (helds z.machine ps) c.in_ok-ok.ok c.in_ok-ok.ensures.settles c.in_ok-ok.ensures.same c.requires.sound.sound);
       marks = marks_kept z.machine m ps (keeps z.machine m c.in_ok-ok.ensures.later) c.requires.sound.marks;
+      based = based_kept z.machine m ps z.ancestor (keeps z.machine m c.in_ok-ok.ensures.later) c.requires.sound.based;
     }
 
 pub returns-clause-settles : goal.returns-clause-settles

@@ -6,6 +6,7 @@ use Rattle.ll_index.specs.declared.index.Index.{Index}
 use Rattle.ll_freeze.specs.Indexed.{IsIndexOf}
 use Rattle.ll_freeze.specs.Parts.{parts_of}
 use Rattle.ll_engine.specs.Pointed.{Held, held_of, helds, first_of, IsKept, AreKept}
+use Rattle.ll_engine.proofs.Basing.{based_first, based_rest}
 use Rattle.ll_engine.proofs.Splitting.{shifted, kept_own, takes_oldest}
 use Rattle.ll_engine.proofs.spine.Spine.split.Goals as goal
 
@@ -15,6 +16,11 @@ frozen-requires-clause-kept c =
     let w = shifted z.machine z.points.items qs k c.in-Some.ensures.items c.requires.marks in
     kept_own z.problem.now (held_of z.machine k)
     (All-head (IsKept z.problem.now) (held_of z.machine k) (helds z.machine qs) (subst (λ (hs : List Held). AreKept z.problem.now hs) w.list c.requires.kept))
+
+pub frozen-requires-clause-based : goal.frozen-requires-clause-based
+frozen-requires-clause-based c =
+    let z = c.args.self.now in
+    based_first z.machine z.points.items c.pop_front.new.self.items c.in-Some.kept z.ancestor c.in-Some.ensures.items c.requires.based
 
 pub returns-clause-sound : goal.returns-clause-sound
 returns-clause-sound c =
@@ -27,13 +33,14 @@ returns-clause-sound c =
         machine = s.sound.machine;
       };
       marks = w.marks;
+      based = based_rest z.machine z.points.items qs k z.ancestor c.in-Some.ensures.items s.based;
     }
 
 pub returns-clause-takes : goal.returns-clause-takes
 returns-clause-takes c =
     let z = c.args.self.now in let qs = c.pop_front.new.self.items in let k = c.in-Some.kept in
     let w = shifted z.machine z.points.items qs k c.in-Some.ensures.items c.requires.marks in
-    takes_oldest (first_of z) z.problem.now (parts_of z.machine) (held_of z.machine k) (helds z.machine z.points.items) (helds z.machine qs) c.with_index.result w.list
+    takes_oldest (first_of z) z.problem.now (parts_of z.machine) (held_of z.machine k) (helds z.machine z.points.items) (helds z.machine qs) c.with_index.result c.in_ok-batch-in-Some.batch.depth w.list
     (All-head (IsKept z.problem.now) (held_of z.machine k) (helds z.machine qs) (subst (λ (hs : List Held). AreKept z.problem.now hs) w.list c.requires.kept)) (c.with_index.ensures ∙ c.in_ok-batch-in-Some.ensures)
 
 pub with_index-requires : goal.with_index-requires

@@ -1,9 +1,11 @@
 //! A search by the caller alone.
 ghost use Rattle.std.specs.Prelude.{◌≡◌, ◌+◌, ◌≤◌, [], ◌∷◌, Err, IfOk, OnOk, OnErr, count_by};
+ghost use Rattle.std.specs.Arc.{arc_value};
 ghost use Rattle.ll_laws.specs.Problem.{problem_events, problem_cost};
 ghost use Rattle.ll_laws.specs.Search.{cut_count, is_answer, is_reached};
 ghost use Rattle.ll_laws.specs.Sound.{Every};
 ghost use Rattle.ll_laws.specs.Valid.{IsValid};
+ghost use Rattle.ll_freeze.specs.Indexed.{IsIndexOf};
 ghost use Rattle.ll_order.specs.Outlets.{Rose, Gives, CountsOf};
 ghost use Rattle.ll_crew.specs.declared.whole.CrewFault.{CrewFault};
 ghost use Rattle.ll_crew.specs.Crews.{GivesPrefix};
@@ -11,9 +13,11 @@ ghost use Rattle.ll_crew.specs.Leading.{Kept};
 
 use crate::whole::{CrewFault, fault_of};
 use ll_engine::{Engine, Step2};
+use ll_index::Index;
 use ll_laws::{Counts, Event, Problem};
 use ll_order::{Outlet, give};
 use std::alloc::Global;
+use std::sync::Arc;
 
 // Gives the outlet an event, which is welcome, and counts it.
 fn give_one<O: Outlet>(
@@ -41,14 +45,16 @@ fn give_one<O: Outlet>(
     }
 }
 
-/// Searches a valid problem by one engine, and gives the outlet each event as soon as it is found. Its clauses are those of
+/// Searches a valid problem by one engine with an index of its clauses, and gives the outlet each event as soon as it is found. Its clauses are those of
 /// [`crew`](crate::crew).
 pub(crate) fn search_alone<'p, O: Outlet>(
     alloc: Global,
     problem: &'p Problem,
+    index: Arc<Index>,
     out: &mut O,
 ) -> Result<Counts, CrewFault>
     requires valid { IsValid problem.now }
+    requires index { IsIndexOf problem.now (arc_value index) }
     requires welcome { Every (O.welcome out.old) (problem_events problem.now) }
     ensures given { OnOk result (Gives O.takes out.old (problem_events problem.entry.now) out.new) }
     ensures counts { IfOk result (λ counts. CountsOf counts (problem_events problem.entry.now) (problem_cost problem.entry.now)) }
@@ -56,7 +62,7 @@ pub(crate) fn search_alone<'p, O: Outlet>(
     ensures write { result ≡ Err CrewFault.Write → Rose (O.faults out.old) (O.faults out.new) }
     ensures kept { Kept O.takes O.breaks O.welcome O.faults out.old out.new }
 {
-    let Ok(mut engine) = Engine::start(alloc, problem) else {
+    let Ok(mut engine) = Engine::start_with(alloc, problem, index) else {
         return Err(CrewFault::OutOfMemory);
     };
     let mut counts = Counts {

@@ -1,22 +1,25 @@
 //! The crew of a problem of which only the first answers are wanted.
 ghost use Rattle.std.specs.Prelude.{◌≡◌, ◌↔◌, ◌<◌, ◌≤◌, ◌+◌, None, Err, IfOk, IfSome, OnOk, OnErr, false, if◌then◌else◌, count_by};
+ghost use Rattle.std.specs.Arc.{arc_value};
 ghost use Rattle.ll_laws.specs.declared.Event.{Event};
 ghost use Rattle.ll_laws.specs.Problem.{problem_events, problem_cost};
 ghost use Rattle.ll_laws.specs.Search.{is_answer};
 ghost use Rattle.ll_laws.specs.Sound.{Every};
 ghost use Rattle.ll_laws.specs.Valid.{IsValid};
+ghost use Rattle.ll_freeze.specs.Indexed.{IsIndexOf};
 ghost use Rattle.ll_order.specs.Outlets.{Rose, Gives, CountsOf};
 ghost use Rattle.ll_first.specs.Upto.{first_of};
 ghost use Rattle.ll_crew.specs.declared.whole.CrewFault.{CrewFault};
 ghost use Rattle.ll_crew.specs.Crews.{GivesPrefix};
 
-use crate::whole::{CrewFault, crew_by};
+use crate::whole::{CrewFault, crew_by, index_of};
 use ll_edge::Gate;
 use ll_first::Enough;
+use ll_index::Index;
 use ll_laws::{Counts, Event, Problem};
 use ll_order::{OutFault, Outlet};
 use std::alloc::Global;
-use std::sync::Wait;
+use std::sync::{Arc, Wait};
 use std::thread::Threads;
 
 // An outlet that hands events on until the one within has had enough. A crew stops its pool where a write failed, so this outlet says that
@@ -87,8 +90,11 @@ pub fn crew_first<'p, R: Threads + Wait + Sync, G: Gate, E: Enough>(
     ensures faults_kept { E.faults out.old ≤ E.faults out.new }
     ensures welcome_kept { (e : Event) → E.welcome out.old e ↔ E.welcome out.new e }
 {
+    let Ok(index) = index_of(alloc, problem) else {
+        return Err(CrewFault::OutOfMemory);
+    };
     let mut until = Until { out, ended: false };
-    give_until(rt, alloc, problem, workers, gate, &mut until)
+    give_until(rt, alloc, problem, index, workers, gate, &mut until)
 }
 
 // The same, with an outlet that hands on what it is given.
@@ -96,12 +102,14 @@ fn give_until<'p, 's, R: Threads + Wait + Sync, G: Gate, E: Enough>(
     rt: &R,
     alloc: Global,
     problem: &'p Problem,
+    index: Arc<Index>,
     workers: u32,
     gate: &G,
     until: &mut Until<'s, E>,
 ) -> Result<Option<Counts>, CrewFault>
     requires workers { (0 < workers) × (workers ≤ 64) }
     requires valid { IsValid problem.now }
+    requires index { IsIndexOf problem.now (arc_value index) }
     requires starts { until.old.ended ≡ false }
     requires none_yet { E.answers until.old.out.now ≡ 0 }
     requires welcome { Every (E.welcome until.old.out.now) (problem_events problem.now) }
@@ -114,7 +122,7 @@ fn give_until<'p, 's, R: Threads + Wait + Sync, G: Gate, E: Enough>(
     ensures faults_kept { E.faults until.old.out.now ≤ E.faults until.new.out.now }
     ensures welcome_kept { (e : Event) → E.welcome until.old.out.now e ↔ E.welcome until.new.out.now e }
 {
-    match crew_by(rt, alloc, problem, workers, gate, true, until) {
+    match crew_by(rt, alloc, problem, index, workers, gate, true, until) {
         Ok(counts) => Ok(Some(counts)),
         Err(_) if until.ended => Ok(None),
         Err(fault) => Err(fault),

@@ -12,5 +12,5 @@ mod whole;
 mod worker;
 
 pub use first::crew_first;
-pub use whole::{CrewFault, crew};
+pub use whole::{CrewFault, crew, crew_with};
 pub use worker::work;

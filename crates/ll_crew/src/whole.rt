@@ -1,10 +1,12 @@
 //! The crew of a problem.
 ghost use Rattle.std.specs.Prelude.{◌≡◌, ◌<◌, ◌≤◌, ◌↔◌, ◌+◌, [], None, Err, IfOk, OnOk, OnErr, map};
+ghost use Rattle.std.specs.Arc.{arc_value};
 ghost use Rattle.ll_laws.specs.declared.Event.{Event};
 ghost use Rattle.ll_laws.specs.Problem.{problem_events, problem_cost};
 ghost use Rattle.ll_laws.specs.Search.{cut_count};
 ghost use Rattle.ll_laws.specs.Sound.{Every};
 ghost use Rattle.ll_laws.specs.Valid.{IsValid};
+ghost use Rattle.ll_freeze.specs.Indexed.{IsIndexOf};
 ghost use Rattle.ll_order.specs.Outlets.{Rose, Gives, Refuses, CountsOf};
 ghost use Rattle.ll_order.specs.declared.outlet.OutFault.{OutFault};
 ghost use Rattle.ll_crew.specs.declared.whole.CrewFault.{CrewFault};
@@ -21,6 +23,7 @@ use ll_bank::OutOfMemory;
 use ll_core::Pool;
 use ll_edge::Gate;
 use ll_freeze::Frozen;
+use ll_index::Index;
 use ll_laws::{Counts, Problem};
 use ll_order::{OutFault, Outlet, drain};
 use ll_pool::{Seat, SharedPool};
@@ -191,14 +194,53 @@ pub fn crew<'p, R: Threads + Wait + Sync, G: Gate, O: Outlet>(
     ensures faults_kept { O.faults out.old ≤ O.faults out.new }
     ensures welcome_kept { (e : Event) → O.welcome out.old e ↔ O.welcome out.new e }
 {
-    crew_by(rt, alloc, problem, workers, gate, false, out)
+    let Ok(index) = index_of(alloc, problem) else {
+        return Err(CrewFault::OutOfMemory);
+    };
+    crew_by(rt, alloc, problem, index, workers, gate, false, out)
 }
 
-// The same. Where an answer is to be given at once, a worker that has found one leaves the rest of its piece to others, and reports.
+/// The same crew, with an index of the problem's clauses that was made before: problems of the same clauses may share it.
+pub fn crew_with<'p, R: Threads + Wait + Sync, G: Gate, O: Outlet>(
+    rt: &R,
+    alloc: Global,
+    problem: &'p Problem,
+    index: &Arc<Index>,
+    workers: u32,
+    gate: &G,
+    out: &mut O,
+) -> Result<Counts, CrewFault>
+    requires workers { (0 < workers) × (workers ≤ 64) }
+    requires valid { IsValid problem.now }
+    requires index { IsIndexOf problem.now (arc_value index.now) }
+    requires welcome { Every (O.welcome out.old) (problem_events problem.now) }
+    ensures given { OnOk result (Gives O.takes out.old (problem_events problem.entry.now) out.new) }
+    ensures counts { IfOk result (λ counts. CountsOf counts (problem_events problem.entry.now) (problem_cost problem.entry.now)) }
+    ensures refused { OnErr result (GivesPrefix O.takes O.breaks out.old (problem_events problem.entry.now) out.new) }
+    ensures write { result ≡ Err CrewFault.Write → Rose (O.faults out.old) (O.faults out.new) }
+    ensures faults_kept { O.faults out.old ≤ O.faults out.new }
+    ensures welcome_kept { (e : Event) → O.welcome out.old e ↔ O.welcome out.new e }
+{
+    let Ok(index) = Arc::try_clone(index) else {
+        return Err(CrewFault::OutOfMemory);
+    };
+    crew_by(rt, alloc, problem, index, workers, gate, false, out)
+}
+
+// An index of the problem's clauses, to be shared.
+pub(crate) fn index_of(alloc: Global, problem: &Problem) -> Result<Arc<Index>, OutOfMemory>
+    ensures { IfOk result (λ index. IsIndexOf problem.now (arc_value index)) }
+{
+    let index = Index::build(alloc, problem)?;
+    Ok(Arc::new(alloc, index)?)
+}
+
+// The same, with an index of the problem's clauses. Where an answer is to be given at once, a worker that has found one leaves the rest of its piece to others, and reports.
 pub(crate) fn crew_by<'p, R: Threads + Wait + Sync, G: Gate, O: Outlet>(
     rt: &R,
     alloc: Global,
     problem: &'p Problem,
+    index: Arc<Index>,
     workers: u32,
     gate: &G,
     at_once: bool,
@@ -206,6 +248,7 @@ pub(crate) fn crew_by<'p, R: Threads + Wait + Sync, G: Gate, O: Outlet>(
 ) -> Result<Counts, CrewFault>
     requires workers { (0 < workers) × (workers ≤ 64) }
     requires valid { IsValid problem.now }
+    requires index { IsIndexOf problem.now (arc_value index) }
     requires welcome { Every (O.welcome out.old) (problem_events problem.now) }
     ensures given { OnOk result (Gives O.takes out.old (problem_events problem.entry.now) out.new) }
     ensures counts { IfOk result (λ counts. CountsOf counts (problem_events problem.entry.now) (problem_cost problem.entry.now)) }
@@ -216,9 +259,9 @@ pub(crate) fn crew_by<'p, R: Threads + Wait + Sync, G: Gate, O: Outlet>(
 {
     if workers == 1 {
         gate.pause(0, 0);
-        return search_alone(alloc, problem, out);
+        return search_alone(alloc, problem, index, out);
     }
-    let Ok(root) = Frozen::start(alloc, problem) else {
+    let Ok(root) = Frozen::start_with(alloc, problem, index) else {
         return Err(CrewFault::OutOfMemory);
     };
     let Ok(root) = Arc::new(alloc, root) else {

@@ -1,16 +1,20 @@
 -- The replies of a session, from line to line and up to the whole call.
-use Rattle.std.proofs.Common.{◌≡◌, ℕ, ◌+◌, refl, sym, subst, Bool, List, [], ◌∷◌, ◌++◌}
+use Rattle.std.proofs.Common.{◌≡◌, ℕ, ◌+◌, refl, ap, sym, subst, ◌∙◌, Bool, List, [], ◌∷◌, ◌++◌}
 use Rattle.std.specs.Prelude.{Option, Result, Err}
 use Rattle.std.specs.Io.KnownBytes.{append_known}
 use Rattle.std.proofs.lemmas.List.{append-nil}
 use Rattle.ll_edge.specs.Counts.{Rose}
 use Rattle.ll_edge.specs.Pieces.{AppendsFront}
 use Rattle.ll_edge.specs.Texts.{Texts}
+use Rattle.ll_index.specs.declared.index.Index.{Index}
+use Rattle.ll_index.specs.Index.{HasIndex}
+use Rattle.ll_laws.specs.Problem.{ProblemTree}
 use Rattle.ll_lexer.specs.declared.TextFault.{TextFault}
 use Rattle.ll_lexer.specs.declared.TextFault.TheVariants as text_fault
 use Rattle.ll_parser.specs.Raw.{ProgramTree}
 use Rattle.ll_polarity.specs.Asks.{ProgramPart}
 use Rattle.ll_session.specs.Queries.{QueryLine, IsProgramOf}
+use Rattle.ll_session.specs.Reading.{TextAsks}
 use Rattle.ll_session.specs.Replied.{Answers, StopsShort, refused, not_begun}
 use Rattle.ll_top.specs.declared.judge.Role.{Role}
 use Rattle.ll_top.specs.declared.judge.Role.TheVariants.{Program, Query}
@@ -80,6 +84,14 @@ module _ (proofs : Bool) (name : List ℕ) where
         → EndsOwn (RepliesTo proofs name program text bound) status_of NoneFails (Rose faults more) before after (Err e)
     lines-stopped status_of faults more e h s =
         let r = replies-cut s in stopped (RepliesTo proofs name program text bound) status_of NoneFails before after faults more 0 r.0 e h r.1.0 r.1.1
+
+-- ---- the index of a program
+
+-- the problems that queries ask of a program have its clauses
+pub query-indexed : (program : ProgramTree) (part : ProgramPart) (text : List ℕ) (bound : ℕ) (problem : ProblemTree) (index : Index) → IsProgramOf program part → TextAsks program text bound problem → HasIndex part.clauses index
+    → HasIndex problem.clauses index
+query-indexed program part text bound problem index is asked h =
+    subst (λ clauses. HasIndex clauses index) (ap (λ (p : ProgramPart). p.clauses) is.is ∙ sym (ap (λ (p : ProblemTree). p.clauses) asked.asks.is)) h
 
 -- ---- two texts
 

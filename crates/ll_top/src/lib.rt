@@ -8,6 +8,7 @@ mod fault;
 mod finding;
 mod first_run;
 mod heading;
+mod indexes;
 mod judge;
 mod made_runs;
 mod making;

@@ -1,7 +1,9 @@
 // A run of a problem: its answers, written as they come, and the last line.
 ghost use Rattle.std.specs.Prelude.{◌≡◌, ◌≤◌, IfOk, IfErr, OnOk, OnErr};
 ghost use Rattle.std.specs.Io.KnownBytes.{append_known};
+ghost use Rattle.std.specs.Arc.{arc_value};
 ghost use Rattle.ll_edge.specs.Pieces.{AppendsFront};
+ghost use Rattle.ll_index.specs.Index.{HasIndex};
 ghost use Rattle.ll_laws.specs.Output.{run_status, counts_text};
 ghost use Rattle.ll_laws.specs.Problem.{problem_events, problem_cost};
 ghost use Rattle.ll_laws.specs.Valid.{IsValid};
@@ -10,14 +12,16 @@ ghost use Rattle.ll_top.specs.Running.{all_lines, status_of_counts, IsRunRefusal
 ghost use Rattle.ll_top.specs.Endings.{status_of_found};
 ghost use Rattle.ll_top.specs.Outcome.{whole_text};
 
+use crate::indexes::problem_index;
 use crate::outlet::Writing;
 use crate::refusal::Refusal;
 use crate::team::Team;
-use ll_crew::{CrewFault, crew};
+use ll_crew::{CrewFault, crew_with};
 use ll_edge::{Gate, Sink, write_all};
+use ll_index::Index;
 use ll_laws::{Counts, Problem, answers_are_shown};
 use ll_printer::summary;
-use std::sync::Wait;
+use std::sync::{Arc, Wait};
 use std::thread::Threads;
 
 /// What a run found.
@@ -47,8 +51,29 @@ pub fn run<R: Threads + Wait + Sync, O: Sink, G: Gate>(
     ensures refused { IfErr result (IsRunRefusal (O.faults sink.old) (O.faults sink.new)) }
     ensures prefix { OnErr result (AppendsFront (O.written sink.old) (whole_text proofs problem.now) (O.written sink.new)) }
 {
+    let index = problem_index(team.alloc, problem)?;
+    run_with(team, problem, &index, proofs, sink)
+}
+
+/// Does what [`run`] does, with an index of the problem's clauses that was made before.
+pub fn run_with<R: Threads + Wait + Sync, O: Sink, G: Gate>(
+    team: &Team<'_, R, G>,
+    problem: &Problem,
+    index: &Arc<Index>,
+    proofs: bool,
+    sink: &mut O,
+) -> Result<Found, Refusal>
+    requires valid { IsValid problem.now }
+    requires index { HasIndex problem.now.clauses (arc_value index.now) }
+
+    ensures faults_kept { O.faults sink.old ≤ O.faults sink.new }
+    ensures found { IfOk result (λ found. status_of_found found ≡ run_status problem.now) }
+    ensures text { OnOk result (O.written sink.new ≡ append_known (O.written sink.old) (whole_text proofs problem.now)) }
+    ensures refused { IfErr result (IsRunRefusal (O.faults sink.old) (O.faults sink.new)) }
+    ensures prefix { OnErr result (AppendsFront (O.written sink.old) (whole_text proofs problem.now) (O.written sink.new)) }
+{
     let mut lines = Vec::new(team.alloc);
-    let counts = write_events(team, problem, proofs, &mut lines, sink)?;
+    let counts = write_events(team, problem, index, proofs, &mut lines, sink)?;
     write_summary(&counts, &mut lines, sink)
 }
 
@@ -76,11 +101,13 @@ pub fn write_summary<O: Sink>(
 fn write_events<R: Threads + Wait + Sync, O: Sink, G: Gate>(
     team: &Team<'_, R, G>,
     problem: &Problem,
+    index: &Arc<Index>,
     proofs: bool,
     lines: &mut Vec<u8>,
     sink: &mut O,
 ) -> Result<Counts, Refusal>
     requires valid { IsValid problem.now }
+    requires index { HasIndex problem.now.clauses (arc_value index.now) }
 
     ensures faults_kept { O.faults sink.old ≤ O.faults sink.new }
     ensures counts { IfOk result (λ counts. CountsOf counts (problem_events problem.now) (problem_cost problem.now)) }
@@ -96,16 +123,18 @@ fn write_events<R: Threads + Wait + Sync, O: Sink, G: Gate>(
         lines,
         answers: 0,
     };
-    give_events(team, problem, &mut out)
+    give_events(team, problem, index, &mut out)
 }
 
 // Gives all events of the problem to an outlet that took none yet.
 fn give_events<'p, 's, R: Threads + Wait + Sync, O: Sink, G: Gate>(
     team: &Team<'_, R, G>,
     problem: &'p Problem,
+    index: &Arc<Index>,
     out: &mut Writing<'p, 's, O>,
 ) -> Result<Counts, Refusal>
     requires valid { IsValid problem.now }
+    requires index { HasIndex problem.now.clauses (arc_value index.now) }
     requires problem { out.old.problem.now ≡ problem.now }
     requires answers { out.old.answers ≡ 0 }
 
@@ -117,7 +146,15 @@ fn give_events<'p, 's, R: Threads + Wait + Sync, O: Sink, G: Gate>(
     ensures prefix { OnErr result (AppendsFront (O.written out.old.sink.now) (whole_text out.old.proofs problem.entry.now) (O.written out.new.sink.now)) }
 {
     answers_are_shown();
-    match crew(team.rt, team.alloc, problem, team.workers, team.gate, out) {
+    match crew_with(
+        team.rt,
+        team.alloc,
+        problem,
+        index,
+        team.workers,
+        team.gate,
+        out,
+    ) {
         Ok(counts) => Ok(counts),
         Err(CrewFault::Write) => Err(Refusal::Unwritable),
         Err(CrewFault::OutOfMemory) => Err(Refusal::OutOfMemory),

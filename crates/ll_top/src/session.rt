@@ -1,8 +1,10 @@
 //! A session: a reply to each line of a text that is a query, over one program.
 ghost use Rattle.std.specs.Prelude.{◌≡◌, ◌≤◌, length, Ok, Err, IfErr, OnOk, OnErr};
 ghost use Rattle.std.specs.Io.KnownBytes.{append_known};
+ghost use Rattle.std.specs.Arc.{arc_value};
 ghost use Rattle.ll_edge.specs.Counts.{Rose};
 ghost use Rattle.ll_edge.specs.Pieces.{AppendsFront};
+ghost use Rattle.ll_index.specs.Index.{HasIndex};
 ghost use Rattle.ll_laws.specs.Valid.{IsValid};
 ghost use Rattle.ll_parser.specs.Raw.{ProgramTree};
 ghost use Rattle.ll_session.specs.Queries.{IsProgramOf, IsLoaded};
@@ -16,18 +18,20 @@ ghost use Rattle.ll_top.specs.Words.{shown_session};
 
 use crate::fault::{Cause, refuse, write_line};
 use crate::heading::write_heading;
+use crate::indexes::program_index;
 use crate::judge::Role;
 use crate::prepare::{load_text, read, refusal};
 use crate::refusal::Refusal;
-use crate::run::run;
+use crate::run::run_with;
 use crate::team::Team;
 use crate::words::SessionCommand;
 use ll_edge::{Gate, Shelf, Sink};
+use ll_index::Index;
 use ll_laws::Problem;
 use ll_lexer::{Fault, TextFault};
 use ll_polarity::Loaded;
 use ll_session::{ask_text, is_query_line, on_line, one_session, split_line};
-use std::sync::Wait;
+use std::sync::{Arc, Wait};
 use std::thread::Threads;
 
 /// Replies to each query of a session, and answers the status: 0 where all replies were written, whatever they say, or that of the line
@@ -112,9 +116,29 @@ fn reply_to_text<R: Threads + Wait + Sync, O: Sink, G: Gate>(
         (RefusesProgram program.now) (Rose (O.faults sink.old) (O.faults sink.new)) (O.written sink.old) (O.written sink.new) result }
 {
     match load_text(team.alloc, program) {
-        Ok(loaded) => reply_to_lines(team, session, &loaded, text, sink),
+        Ok(loaded) => reply_over(team, session, &loaded, text, sink),
         Err(fault) => Err(refusal(Role::Program, fault)),
     }
+}
+
+// Replies to the queries of a text over a program that was loaded. One index of its clauses serves all of them.
+fn reply_over<R: Threads + Wait + Sync, O: Sink, G: Gate>(
+    team: &Team<'_, R, G>,
+    session: &SessionCommand<'_>,
+    loaded: &Loaded,
+    text: &[u8],
+    sink: &mut O,
+) -> Result<(), Refusal>
+    requires loaded { IsLoaded loaded.now }
+    requires text { length text.now ≤ 16777216 }
+    requires bound { session.now.bound ≤ 1000000 }
+    ensures faults_kept { O.faults sink.old ≤ O.faults sink.new }
+    ensures ends { (program : ProgramTree) → IsProgramOf program loaded.now
+        → EndsOwn (RepliesTo session.now.proofs session.now.queries.now program text.now session.now.bound) (λ done. 0) NoneFails
+        (Rose (O.faults sink.old) (O.faults sink.new)) (O.written sink.old) (O.written sink.new) result }
+{
+    let index = program_index(team.alloc, loaded)?;
+    reply_to_lines(team, session, loaded, &index, text, sink)
 }
 
 // Replies to each line of a text that is a query, over a program that was loaded. Each reply is written before the next line is looked at.
@@ -125,10 +149,12 @@ fn reply_to_lines<R: Threads + Wait + Sync, O: Sink, G: Gate>(
     team: &Team<'_, R, G>,
     session: &SessionCommand<'_>,
     loaded: &Loaded,
+    index: &Arc<Index>,
     text: &[u8],
     sink: &mut O,
 ) -> Result<(), Refusal>
     requires loaded { IsLoaded loaded.now }
+    requires index { HasIndex loaded.now.clauses (arc_value index.now) }
     requires text { length text.now ≤ 16777216 }
     requires bound { session.now.bound ≤ 1000000 }
     ensures faults_kept { O.faults sink.old ≤ O.faults sink.new }
@@ -144,7 +170,7 @@ fn reply_to_lines<R: Threads + Wait + Sync, O: Sink, G: Gate>(
         rest = behind;
         number += 1;
         if is_query_line(line) {
-            reply_to_line(team, session, loaded, line, number, sink)?;
+            reply_to_line(team, session, loaded, index, line, number, sink)?;
         }
     }
     Ok(())
@@ -155,11 +181,13 @@ fn reply_to_line<R: Threads + Wait + Sync, O: Sink, G: Gate>(
     team: &Team<'_, R, G>,
     session: &SessionCommand<'_>,
     loaded: &Loaded,
+    index: &Arc<Index>,
     line: &[u8],
     number: u32,
     sink: &mut O,
 ) -> Result<(), Refusal>
     requires loaded { IsLoaded loaded.now }
+    requires index { HasIndex loaded.now.clauses (arc_value index.now) }
     requires line { length line.now ≤ 16777216 }
     requires bound { session.now.bound ≤ 1000000 }
     ensures faults_kept { O.faults sink.old ≤ O.faults sink.new }
@@ -171,7 +199,7 @@ fn reply_to_line<R: Threads + Wait + Sync, O: Sink, G: Gate>(
 {
     let part = loaded.copy(team.alloc)?;
     match ask_text(team.alloc, part, line, session.bound) {
-        Ok(problem) => reply_with_run(team, session, number, &problem, sink),
+        Ok(problem) => reply_with_run(team, session, number, &problem, index, sink),
         Err(TextFault::Text(fault)) => { reply_with_fault(session, on_line(number, fault), sink) }
         Err(TextFault::OutOfMemory) => Err(Refusal::OutOfMemory),
     }
@@ -183,9 +211,11 @@ fn reply_with_run<R: Threads + Wait + Sync, O: Sink, G: Gate>(
     session: &SessionCommand<'_>,
     number: u32,
     problem: &Problem,
+    index: &Arc<Index>,
     sink: &mut O,
 ) -> Result<(), Refusal>
     requires valid { IsValid problem.now }
+    requires index { HasIndex problem.now.clauses (arc_value index.now) }
     ensures faults_kept { O.faults sink.old ≤ O.faults sink.new }
     ensures text { OnOk result (O.written sink.new ≡ append_known (O.written sink.old)
         (reply_text session.now.proofs session.now.queries.now (record { line = number; asked = Ok problem.now }))) }
@@ -194,7 +224,7 @@ fn reply_with_run<R: Threads + Wait + Sync, O: Sink, G: Gate>(
         (reply_text session.now.proofs session.now.queries.now (record { line = number; asked = Ok problem.now })) (O.written sink.new)) }
 {
     write_heading(sink, "query ", number)?;
-    run(team, problem, session.proofs, sink)?;
+    run_with(team, problem, index, session.proofs, sink)?;
     Ok(())
 }
 

@@ -17,6 +17,11 @@ returns-in_err-derivation c =
     let p = err_from_is_err_and c.from_residual-in_err-derivation.result c.from_residual-in_err-derivation.ensures.1 in
     rw (p.1, p.2) (proof-refused c.args.program.now c.args.query.now c.args.proof.now c.args.bound _ (rw c.unwrap_or.ensures at c.in_ok-problem.ensures.judges) _ c.in_err-derivation.ensures.refused)
 
+pub returns-in_err-finding : goal.returns-in_err-finding
+returns-in_err-finding c =
+    let p = err_from_is_err_and c.from_residual-in_err-finding.result c.from_residual-in_err-finding.ensures.1 in
+    rw (p.1, p.2) tt
+
 pub judged-requires-clause-valid : goal.judged-requires-clause-valid
 judged-requires-clause-valid c = valid-grown (the_view c.problem.inside) _ c.in_ok-derivation.ensures.grows (subst IsValid (sym c.problem.view_is) c.in_ok-problem.ensures.valid)
 

@@ -5,8 +5,8 @@ use Rattle.ll_top.specs.Running.{IsWelcome}
 use Rattle.ll_top.proofs.RunLemmas.{welcome-all, events-same, prefix-same, lines-written, text-begun}
 use Rattle.ll_top.proofs.run.give_events.Goals as goal
 
-pub crew-requires-clause-welcome : goal.crew-requires-clause-welcome
-crew-requires-clause-welcome g c κs within =
+pub crew_with-requires-clause-welcome : goal.crew_with-requires-clause-welcome
+crew_with-requires-clause-welcome g c κs within =
     subst (λ p. Every (IsWelcome p) (problem_events c.args.problem.now)) (sym c.requires.problem) (welcome-all c.answers_are_shown.ensures _ c.requires.valid)
 
 pub returns-in-Ok-clause-same_reference : goal.returns-in-Ok-clause-same_reference

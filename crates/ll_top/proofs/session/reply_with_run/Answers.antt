@@ -10,15 +10,15 @@ pub returns-in_err-write_heading-clause-prefix : goal.returns-in_err-write_headi
 returns-in_err-write_heading-clause-prefix g c =
     on_err _ (first-cut _ _ (line (codes "query " ++ decimal c.args.number)) (whole_text c.args.session.now.proofs c.args.problem.now) c.in_err-write_heading.ensures.prefix)
 
-pub returns-in_err-run-clause-refused : goal.returns-in_err-run-clause-refused
-returns-in_err-run-clause-refused g c =
-    let p = err_from_is_err_and c.from_residual-in_err-run.result c.from_residual-in_err-run.ensures.1 in
-    rw (p.1, p.2) (refusal-later _ _ _ _ c.in_ok-write_heading.ensures.faults_kept c.in_err-run.ensures.refused)
+pub returns-in_err-run_with-clause-refused : goal.returns-in_err-run_with-clause-refused
+returns-in_err-run_with-clause-refused g c =
+    let p = err_from_is_err_and c.from_residual-in_err-run_with.result c.from_residual-in_err-run_with.ensures.1 in
+    rw (p.1, p.2) (refusal-later _ _ _ _ c.in_ok-write_heading.ensures.faults_kept c.in_err-run_with.ensures.refused)
 
-pub returns-in_err-run-clause-prefix : goal.returns-in_err-run-clause-prefix
-returns-in_err-run-clause-prefix g c =
-    on_err _ (second-cut _ _ _ (line (codes "query " ++ decimal c.args.number)) (whole_text c.args.session.now.proofs c.args.problem.now) c.in_ok-write_heading.ensures.line c.in_err-run.ensures.prefix)
+pub returns-in_err-run_with-clause-prefix : goal.returns-in_err-run_with-clause-prefix
+returns-in_err-run_with-clause-prefix g c =
+    on_err _ (second-cut _ _ _ (line (codes "query " ++ decimal c.args.number)) (whole_text c.args.session.now.proofs c.args.problem.now) c.in_ok-write_heading.ensures.line c.in_err-run_with.ensures.prefix)
 
 pub returns-clause-text : goal.returns-clause-text
 returns-clause-text g c =
-    both-written _ _ _ (line (codes "query " ++ decimal c.args.number)) (whole_text c.args.session.now.proofs c.args.problem.now) c.in_ok-write_heading.ensures.line c.in_ok-run.ensures.text
+    both-written _ _ _ (line (codes "query " ++ decimal c.args.number)) (whole_text c.args.session.now.proofs c.args.problem.now) c.in_ok-write_heading.ensures.line c.in_ok-run_with.ensures.text

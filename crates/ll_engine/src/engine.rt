@@ -200,10 +200,10 @@ impl<'p> Engine<'p> {
         })
     }
 
-    /// An engine for an alternative of another batch of the same problem, as `resume_shared` gives it. What the store of this engine's batch
-    /// shares with the other one is not copied.
+    /// An engine for an alternative of another batch of the same problem, as `resume_shared` gives it. The index and the room for branches
+    /// are those of this engine.
     ///
-    /// This engine is spent in every case.
+    /// This engine is spent in every case, whatever it still owes.
     pub fn advance(self, to: Arc<Frozen<'p>>, k: u32) -> Result<Engine<'p>, OutOfMemory>
         requires inside { k < length (alternatives_in (arc_value to)) }
         requires of { (arc_value to).problem ≡ self.problem }

@@ -41,7 +41,7 @@ impl<'p> Spine<'p> {
         Ok(spine)
     }
 
-    /// The same for an alternative of another batch. What the two batches share is not made anew.
+    /// The same for an alternative of another batch.
     pub fn advance(self, to: Arc<Frozen<'p>>, k: u32) -> Result<Spine<'p>, OutOfMemory>
         requires index { IsIndexOf self.problem.now (arc_value self.index) }
         requires based { IsBased self.machine self.points.items self.ancestor }

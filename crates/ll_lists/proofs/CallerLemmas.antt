@@ -1,10 +1,10 @@
 -- Laws of tests, numbers, options, results and lists that the standard library lacks, for every type of elements. All crates may cite them.
-use Rattle.std.proofs.Common.{◌≡◌, refl, Bool, true, false, ◌&&◌, sym, ℕ, ◌≤◌, arith, Some, None, ap, List, [], ◌∷◌, map, All, suc, length, zero, subst, reverse, ◌++◌, ◌<◌, get_or, inl, inr, length-append, ◌+◌, ◌||◌, ◌∙◌, true≢false, cond, take}
+use Rattle.std.proofs.Common.{◌≡◌, refl, Bool, true, false, ◌&&◌, sym, ℕ, ◌≤◌, arith, Some, None, ap, List, [], ◌∷◌, map, All, suc, length, zero, subst, reverse, ◌++◌, ◌<◌, get_or, inl, inr, length-append, ◌+◌, ◌||◌, ◌∙◌, true≢false, cond, take, drop, ◌-◌}
 use Rattle.std.proofs.Math.ListN.{get_or-append}
 use Rattle.std.proofs.Math.Seq.{get_or-append_seam}
-use Rattle.std.proofs.lemmas.Bool.{eq-eqb, ltb-true, lt-ltb, cases_lt}
+use Rattle.std.proofs.lemmas.Bool.{eq-eqb, ne_eqb, eqb-false, ltb-true, lt-ltb, cases_lt}
 use Rattle.std.proofs.lemmas.Bool.Decides.{nat_tests}
-use Rattle.std.proofs.lemmas.List.{reverse-append, length_push, get_or_push, append-nil}
+use Rattle.std.proofs.lemmas.List.{reverse-append, length_push, get_or_push, append-nil, length-drop}
 use Rattle.std.proofs.lemmas.List.Elements.{All-head, All-tail, All-push}
 use Rattle.std.specs.List.{list_any, position_or_len, list_all, prefix_len}
 use Rattle.std.specs.Prelude.{not, nat_eq, nat_lt, Result, Ok, Err, OnOk, OnErr, IfOk, slice_get, slice_index}
@@ -37,11 +37,6 @@ and_true_both true true h = (refl, refl)
 and_true_both true false h = absurd cc
 and_true_both false b h = absurd cc
 
--- nothing holds together with what is false
-pub and_false : (c : Bool) → (c && false) ≡ false
-and_false true = refl
-and_false false = refl
-
 -- where neither holds, the first does not
 pub or_false_left : (a b : Bool) → (a || b) ≡ false → a ≡ false
 or_false_left false b h = refl
@@ -62,6 +57,12 @@ pub or_assoc : (a b c : Bool) → ((a || b) || c) ≡ (a || (b || c))
 or_assoc true b c = refl
 or_assoc false b c = refl
 
+-- the first two of three alternatives may change places
+pub or_exchange : (a b c : Bool) → (a || (b || c)) ≡ (b || (a || c))
+or_exchange true true c = refl
+or_exchange true false c = refl
+or_exchange false b c = refl
+
 -- where one of two holds, what follows from each follows
 pub or_elim : {P : Type 0} → (a b : Bool) → (a || b) ≡ true → (a ≡ true → P) → (b ≡ true → P) → P
 or_elim true b h p q = p refl
@@ -78,6 +79,10 @@ same_from_both_ways false false f g = refl
 -- a number is equal to itself
 pub eq-refl : (n : ℕ) → nat_eq n n ≡ true
 eq-refl n = eq-eqb n n refl
+
+-- numbers that differ differ the other way round
+pub not_eq_sym : (m n : ℕ) → nat_eq m n ≡ false → nat_eq n m ≡ false
+not_eq_sym m n h = ne_eqb n m (λ e. eqb-false m n h (sym e))
 
 -- a number is not below one that is at most as great
 pub lt_false : (a b : ℕ) → b ≤ a → nat_lt a b ≡ false
@@ -223,6 +228,16 @@ run_passes p (b ∷ bs) = by-test (p b) refl (run_passes p bs)
     by-test false e ih = refl
 
 -- ---- whole lists
+
+-- a front of a list is at most as long
+pub length-take_most : {A : Type 0} (k : ℕ) (xs : List A) → length (take k xs) ≤ length xs
+length-take_most zero xs = omega arith
+length-take_most (suc k) [] = omega arith
+length-take_most (suc k) (x ∷ xs) = let h = length-take_most k xs in omega (arith, h)
+
+-- lists of one length are of one length where as many are dropped in front
+pub length-drop_same : {A : Type 0} (k : ℕ) (xs ys : List A) → length xs ≡ length ys → length (drop k xs) ≡ length (drop k ys)
+length-drop_same k xs ys e = length-drop k xs ∙ (ap (λ n. n - k) e ∙ sym (length-drop k ys))
 
 -- the last of a list is the first in reverse
 pub reverse-push : {A : Type 0} (xs : List A) (x : A) → reverse (xs ++ x ∷ []) ≡ x ∷ reverse xs

@@ -1,16 +1,17 @@
 -- A bank's nodes and the trees that they show: what each call reads and leaves.
-use Rattle.std.proofs.Common.{◌≡◌, ℕ, zero, suc, ◌+◌, ◌<◌, ◌≤◌, List, [], ◌∷◌, ◌++◌, length, map, All, get_or, take, drop, refl, ap, sym, subst, ◌∙◌, inl, inr, arith, length-append, max, Some}
+use Rattle.std.proofs.Common.{◌≡◌, ℕ, zero, suc, ◌+◌, ◌<◌, ◌≤◌, List, [], ◌∷◌, ◌++◌, length, map, All, get_or, take, drop, refl, ap, sym, subst, ◌∙◌, inl, inr, arith, length-append, max, Some, true, true≢false, eqb}
 use Rattle.std.specs.Prelude.{ℤ, FitsSigned, slice_get, slice_index, fold}
 use Rattle.std.specs.Int.{w64}
 use Rattle.std.proofs.Common.{to_z, of_z}
 use Rattle.std.proofs.lemmas.Int.{to_z-of_z}
 use Rattle.std.proofs.Math.ListN.{get_or-append, get_or-map}
 use Rattle.std.proofs.Math.Seq.{get_or-append_seam}
-use Rattle.std.proofs.lemmas.Bool.{cases_lt}
+use Rattle.std.specs.List.{list_any}
+use Rattle.std.proofs.lemmas.Bool.{cases_lt, or_cases, eqb-true}
 use Rattle.std.proofs.lemmas.List.{append-nil, length-map, map-append, take-append-le, take-append-drop, length-take, length-take-le, take-map, take-take, take_at, get_or_default}
 use Rattle.std.proofs.lemmas.List.Elements.{All-head, All-tail, All-cons}
 use Rattle.std.proofs.lemmas.Option.{get_or_from_slice_get}
-use Rattle.ll_lists.proofs.CallerLemmas.{each-push as push_all, map_map}
+use Rattle.ll_lists.proofs.CallerLemmas.{each-push as push_all, map_map, same_front}
 use Rattle.ll_bank.specs.declared.At.{At}
 use Rattle.ll_bank.specs.declared.Head.{Head}
 use Rattle.ll_bank.specs.declared.BankSize.{BankSize}
@@ -18,13 +19,40 @@ use Rattle.ll_bank.specs.declared.TermView.{TermView}
 use Rattle.ll_bank.specs.declared.TermView.TheVariants.{Var as VarView, Int as IntView, App as AppView}
 use Rattle.ll_bank.specs.declared.FormNode.{FormNode}
 use Rattle.ll_bank.specs.declared.FormNode.TheVariants.{Top as TopView, One as OneView, Atom as AtomView, With as WithView, Tensor as TensorView, Plus as PlusView, Bang as BangView, Lolli as LolliView, Imp as ImpView, Forall as ForallView, Exists as ExistsView, Use as UseView, Is as IsView, Less as LessView, Most as MostView}
-use Rattle.ll_bank.specs.Term.{Term, Var, Con, Ap, app, apply, term_depth}
+use Rattle.ll_bank.specs.Term.{Term, Var, Con, Ap, app, apply, sub, term_depth}
 use Rattle.ll_bank.specs.Form.{Form, Top, Atom, With, Tensor, Plus, Bang, Lolli, Imp, Forall, Exists, Use, Num}
 use Rattle.ll_bank.specs.Nodes.{Nodes, TermNode, VarNode, IntNode, AppNode, FormulaNode, TopNode, OneNode, AtomNode, WithNode, TensorNode, PlusNode, BangNode, LolliNode, ImpNode, ForallNode, ExistsNode, UseNode, NumNode, grow, term_in, build_term, form_in, build_form, term_tree, form_tree, term_trees, HasTerm, HasForm, ShowsTerm, ShowsForm, Extends, form_of, HasPartsBelow, IsTermView, IsFormView, IsTermBelow, IsFormBelow, IsWellFounded, places, node_of_term, node_of, with_term, with_form, size_of, front, HasSize, IsCutTo}
 use Rattle.ll_bank.specs.Kept.{all_terms, IsKept, depth_over}
 use Rattle.ll_bank.proofs.Growing.{grow-append, grow_kept, grow_last, get_or-grow_at, length-grow, grow-take}
 
+-- ---- places as numbers
+
+-- a place among places that lie below a number lies below it
+pub place_below : (args : List At) (k n : ℕ) → All (λ a. a.0 < n) args → list_any (eqb k) (places args) ≡ true → k < n
+place_below [] k n h e = absurd (true≢false (sym e))
+place_below (a ∷ args) k n h e = elim (or_cases (eqb k a.0) (list_any (eqb k) (places args)) e) [
+  | inl q ↦ let x = eqb-true k a.0 q in let y = All-head (λ (b : At). b.0 < n) a args h in omega arith
+  | inr q ↦ place_below args k n (All-tail (λ (b : At). b.0 < n) a args h) q
+]
+
+-- each place shows one term
+pub length-term_trees : (nodes : Nodes) (ats : List At) → length (term_trees nodes ats) ≡ length ats
+length-term_trees nodes ats = length-map ats (λ (a : At). term_tree nodes a.0)
+
+-- a substitution in the terms of places, one by one
+pub sub-term_trees : (s : ℕ → Term) (nodes : Nodes) (ats : List At) → map (sub s) (term_trees nodes ats) ≡ map (λ a. sub s (term_tree nodes a.0)) ats
+sub-term_trees s nodes ats = map_map (sub s) (λ (a : At). term_tree nodes a.0) ats
+
 -- ---- sizes
+
+-- a bank cut to its own size is itself
+pub cut_same : (old new : Nodes) (size : BankSize) → size ≡ size_of old → IsCutTo size old new → new ≡ old
+cut_same old new size e c =
+    let p : size_of new ≡ size_of old = c.places ∙ e in
+    let a = same_front old.terms new.terms c.trees.more_terms c.trees.terms (ap (λ s. s.terms) p) in
+    let b = same_front old.forms new.forms c.trees.more_forms c.trees.forms (ap (λ s. s.forms) p) in
+    let make : List _ → List _ → Nodes = λ xs ys. record { terms = xs; forms = ys } in
+    ap (λ xs. make xs new.forms) a ∙ ap (λ ys. make old.terms ys) b
 
 -- a size is had by the first nodes that it counts
 pub HasSize-front : (a b : Nodes) (size : BankSize) → front a size ≡ front b size → HasSize a size → HasSize b size

@@ -12,6 +12,12 @@ pub use Rattle.ll_bank.proofs.Trees.{Extends-same}
 pub use Rattle.ll_bank.proofs.Trees.{IsNotPast-extends}
 -- a bank has each size that is had by a bank with the same first nodes
 pub use Rattle.ll_bank.proofs.BankLemmas.{HasSize-front}
+-- a bank cut to its own size is itself
+pub use Rattle.ll_bank.proofs.BankLemmas.{cut_same}
+-- below a place of a term there are places of terms
+pub use Rattle.ll_bank.proofs.OpenLemmas.{HasTerm-below}
+-- below a place of a formula there are places of formulas
+pub use Rattle.ll_bank.proofs.OpenLemmas.{HasForm-below}
 -- ---- what its places show as it grows
 
 -- a place of a term stays one
@@ -34,8 +40,32 @@ pub use Rattle.ll_bank.proofs.Trees.{ShowsForm-extends}
 pub use Rattle.ll_bank.proofs.Trees.{AllInTerms-below}
 -- places below a number, as numbers below it
 pub use Rattle.ll_bank.proofs.BankLemmas.{below_places}
+-- a place among places that lie below a number lies below it
+pub use Rattle.ll_bank.proofs.BankLemmas.{place_below}
 -- ---- heads and arguments
 
+-- arguments leave the head of a term
+pub use Rattle.ll_bank.proofs.Heads.{head_of-apply}
+-- a head with arguments has this head
+pub use Rattle.ll_bank.proofs.Heads.{head_of-app}
+-- each argument adds one to the number of arguments
+pub use Rattle.ll_bank.proofs.Heads.{arity-apply}
+-- a head has as many arguments as it is given
+pub use Rattle.ll_bank.proofs.Heads.{arity-app}
+-- a term that begins with a head begins with it when it gets arguments
+pub use Rattle.ll_bank.proofs.Heads.{is_spine-apply}
+-- a term that has a head begins with it
+pub use Rattle.ll_bank.proofs.Heads.{spine_of_head}
+-- a substitution goes to what is applied and to each argument
+pub use Rattle.ll_bank.proofs.Heads.{sub-apply}
+-- a substitution goes to the arguments of a head
+pub use Rattle.ll_bank.proofs.Heads.{sub-app}
+-- one argument more behind others is given last
+pub use Rattle.ll_bank.proofs.Heads.{apply-push}
+-- there is one term a place
+pub use Rattle.ll_bank.proofs.BankLemmas.{length-term_trees}
+-- a substitution goes to the term of each place
+pub use Rattle.ll_bank.proofs.BankLemmas.{sub-term_trees}
 -- in a term of a bank nothing but a head has arguments
 pub use Rattle.ll_bank.proofs.Trees.{applies_heads-term_tree}
 -- in a formula of a bank nothing but a head has arguments
@@ -72,10 +102,28 @@ pub use Rattle.ll_bank.proofs.OpenLemmas.{same_term_of}
 pub use Rattle.ll_bank.proofs.OpenLemmas.{term_size-some}
 -- a formula has at least one node
 pub use Rattle.ll_bank.proofs.OpenLemmas.{form_size-some}
+-- an application has the nodes of what is applied and of its arguments
+pub use Rattle.ll_bank.proofs.OpenLemmas.{term_size-apply}
+-- the sizes of arguments as parts are those of their terms
+pub use Rattle.ll_bank.proofs.OpenLemmas.{sizes_of_args}
+-- what is done with arguments as parts is done with their places
+pub use Rattle.ll_bank.proofs.OpenLemmas.{spots_of_args}
+-- no parts lie below a place
+pub use Rattle.ll_bank.proofs.OpenLemmas.{no_parts}
+-- one part lies below a place where it does
+pub use Rattle.ll_bank.proofs.OpenLemmas.{one_part}
+-- two parts lie below a place where each does
+pub use Rattle.ll_bank.proofs.OpenLemmas.{two_parts}
+-- parts of the same sizes have the same size together
+pub use Rattle.ll_bank.proofs.OpenLemmas.{sum_same}
 -- as a bank grows, the parts of a term at an old place stay
 pub use Rattle.ll_bank.proofs.OpenLemmas.{term_parts_same}
 -- as a bank grows, the parts of a formula at an old place stay
 pub use Rattle.ll_bank.proofs.OpenLemmas.{form_parts_same}
+-- signs that compare as equal are the same
+pub use Rattle.ll_bank.proofs.SignLemmas.{same_sign}
+-- a sign compares as equal to itself
+pub use Rattle.ll_bank.proofs.SignLemmas.{sign_refl}
 -- ---- lists of trees that grow node by node
 
 -- nodes behind others grow over the trees of those

@@ -2,7 +2,7 @@
 use Rattle.std.proofs.Common.{◌≡◌, ℕ, ◌+◌, ◌<◌, ◌≤◌, Bool, true, false, not, cond, eqb, ltb, ◌||◌, List, [], ◌∷◌, ◌++◌, length, map, slice_get, position, Option, Some, None, get_or, refl, ap, sym, subst, ◌∙◌, arith, true≢false, if◌then◌else◌, length-append, append_assoc}
 use Rattle.std.specs.List.{list_any, position_or_len, IsDistinct, AllByRecursion, AllZip}
 use Rattle.std.specs.Str.{bytes_eq}
-use Rattle.std.proofs.lemmas.Bool.{false_from_ne_true, ltb-false, le-ltb}
+use Rattle.std.proofs.lemmas.Bool.{false_from_ne_true, ltb-false, le-ltb, or_parts}
 use Rattle.std.proofs.lemmas.Bool.Decides.{Decides-ltb, Decides-eqb}
 use Rattle.std.proofs.lemmas.List.{append-nil, length-map, map-append, get_or-append-add}
 use Rattle.std.proofs.lemmas.List.Quantifiers.{position-Some}
@@ -117,14 +117,10 @@ IsDistinct-pushed texts text distinct none = behind_all texts distinct (absent t
     flipped t e =
         false_from_ne_true (bytes_eq t text) (λ same. true≢false (sym ((bytes_eq-Decides text t).1 (sym ((bytes_eq-Decides t text).0 same))) ∙ e))
 
-    neither : (a b : Bool) → a || b ≡ false → (a ≡ false) × (b ≡ false)
-    neither true b e = absurd (true≢false e)
-    neither false b e = (refl, e)
-
     behind_all : (ts : List (List ℕ)) → IsDistinct bytes_eq ts → list_any (bytes_eq text) ts ≡ false → IsDistinct bytes_eq (ts ++ text ∷ [])
     behind_all [] d e = (tt, tt)
     behind_all (t ∷ ts) d e =
-        let n = neither (bytes_eq text t) (list_any (bytes_eq text) ts) e in (behind_others t ts (flipped t n.0) d.0, behind_all ts d.1 n.1)
+        let n = or_parts (bytes_eq text t) (list_any (bytes_eq text) ts) e in (behind_others t ts (flipped t n.0) d.0, behind_all ts d.1 n.1)
 
 -- a text put behind the second part goes behind both
 pub pushed_behind : (front rest new texts : List (List ℕ)) (text : List ℕ) → front ++ rest ≡ texts → new ≡ rest ++ text ∷ [] → front ++ new ≡ texts ++ text ∷ []

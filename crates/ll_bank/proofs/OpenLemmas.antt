@@ -80,7 +80,7 @@ heads_args f (t ∷ ts) h =
 
 -- ---- sizes of terms
 
-term_size-apply : (f : Term) (ts : List Term) → term_size (apply f ts) ≡ term_size f + sum_by term_size ts
+pub term_size-apply : (f : Term) (ts : List Term) → term_size (apply f ts) ≡ term_size f + sum_by term_size ts
 term_size-apply f [] = omega arith
 term_size-apply f (t ∷ ts) = let e = term_size-apply (Ap f t) ts in let g = sum_by-cons term_size t ts in omega arith
 
@@ -106,7 +106,7 @@ form_size-some (Use m ts f) = omega arith
 form_size-some (Num r t u) = omega arith
 
 -- the arguments of a term as parts
-sizes_of_args : (bank : Nodes) (n : ℕ) (args : List At) → sum_by (term_size_at bank) (map (λ (a : ℕ). let k : Spot = (a, n) in k) (places args)) ≡ sum_by term_size (term_trees bank args)
+pub sizes_of_args : (bank : Nodes) (n : ℕ) (args : List At) → sum_by (term_size_at bank) (map (λ (a : ℕ). let k : Spot = (a, n) in k) (places args)) ≡ sum_by term_size (term_trees bank args)
 sizes_of_args bank n [] = refl
 sizes_of_args bank n (a ∷ args) =
     sum_by-cons (term_size_at bank) (a.0, n) (map (λ (b : ℕ). let k : Spot = (b, n) in k) (places args))
@@ -141,13 +141,13 @@ term_parts_small bank at n view e v = subst (λ node. ArePartsOf (term_size_at b
 pub form_node_seen : (nodes : Nodes) (at : ℕ) (n : FormulaNode) → slice_get nodes.forms at ≡ Some n → form_node_at nodes at ≡ n
 form_node_seen nodes at n e = get_or_from_slice_get nodes.forms at n TopNode e
 
-one_part : (at n f m : ℕ) → f < at → All (λ (p : Spot). p.0 < at) ((f, m) ∷ [])
+pub one_part : (at n f m : ℕ) → f < at → All (λ (p : Spot). p.0 < at) ((f, m) ∷ [])
 one_part at n f m l = All-cons (λ (p : Spot). p.0 < at) (f, m) [] l (λ j d k. absurd (omega arith))
 
-two_parts : (at n f g m : ℕ) → f < at → g < at → All (λ (p : Spot). p.0 < at) ((f, m) ∷ (g, m) ∷ [])
+pub two_parts : (at n f g m : ℕ) → f < at → g < at → All (λ (p : Spot). p.0 < at) ((f, m) ∷ (g, m) ∷ [])
 two_parts at n f g m l k = All-cons (λ (p : Spot). p.0 < at) (f, m) ((g, m) ∷ []) l (one_part at n g m k)
 
-no_parts : (at : ℕ) → All (λ (p : Spot). p.0 < at) []
+pub no_parts : (at : ℕ) → All (λ (p : Spot). p.0 < at) []
 no_parts at = λ j d k. absurd (omega arith)
 
 one_good : (bank : Nodes) (w : Term × ℕ) (at n f : ℕ) → f < at → IsFormGood bank w (at, n) → form_applies_heads (close_form (opened w.0 n) (form_tree bank f)) ≡ true
@@ -297,16 +297,23 @@ pub opened_app : (e : Env) (t : Term) (h : Head) (ts us : List Term) → t ≡ a
 opened_app e t h ts us p q = ap (close e) p ∙ (close-apply e (Con h) ts ∙ ap (apply (close_head e h)) (sym q))
 
 -- arguments as parts, and as places
-pub visits_args : (n : ℕ) (args : List At) → map (λ (a : At). visit (a.0, n)) args ≡ map visit (map (λ (a : ℕ). let k : Spot = (a, n) in k) (places args))
-visits_args n [] = refl
-visits_args n (a ∷ args) = ap (λ xs. visit (a.0, n) ∷ xs) (visits_args n args)
+pub spots_of_args : {X : Type 0} (f : Spot → X) (n : ℕ) (args : List At) → map (λ (a : At). f (a.0, n)) args ≡ map f (map (λ (a : ℕ). let k : Spot = (a, n) in k) (places args))
+spots_of_args f n [] = refl
+spots_of_args f n (a ∷ args) = ap (λ xs. f (a.0, n) ∷ xs) (spots_of_args f n args)
 
 -- ---- a bank that grows
 
-sum_same : (f g : Spot → ℕ) (ps : List Spot) → All (λ p. f p ≡ g p) ps → sum_by f ps ≡ sum_by g ps
+pub sum_same : (f g : Spot → ℕ) (ps : List Spot) → All (λ p. f p ≡ g p) ps → sum_by f ps ≡ sum_by g ps
 sum_same f g [] h = refl
 sum_same f g (p ∷ ps) h =
     let e = sum_by-cons f p ps in let e' = sum_by-cons g p ps in let a = All-head (λ q. f q ≡ g q) p ps h in let b = sum_same f g ps (All-tail (λ q. f q ≡ g q) p ps h) in omega arith
+
+-- below a place there are places
+pub HasTerm-below : (nodes : Nodes) (at below : ℕ) → HasTerm nodes at → below < at → HasTerm nodes below
+HasTerm-below nodes at below h l = omega arith
+
+pub HasForm-below : (nodes : Nodes) (at below : ℕ) → HasForm nodes at → below < at → HasForm nodes below
+HasForm-below nodes at below h l = omega arith
 
 module _ (first now : Nodes) (e : Extends first now) where
   pub term_parts_same : (k : Spot) → HasTerm first k.0 → term_parts_at now k ≡ term_parts_at first k
@@ -329,17 +336,14 @@ module _ (first now : Nodes) (e : Extends first now) where
   pub term_parts_first : (k : Spot) → HasTerm first k.0 → ArePartsOf (term_size_at now) (IsTermGood now) k (term_parts_at now k) → ArePartsOf (term_size_at first) (IsTermGood first) k (term_parts_at first k)
   term_parts_first k h p = back (subst (ArePartsOf (term_size_at now) (IsTermGood now) k) (term_parts_same k h) p)
     where
-      inside : (q : Spot) → q.0 < k.0 → HasTerm first q.0
-      inside q l = omega arith
-
       back : ArePartsOf (term_size_at now) (IsTermGood now) k (term_parts_at first k) → ArePartsOf (term_size_at first) (IsTermGood first) k (term_parts_at first k)
       back p = record {
         lower = p.lower;
         smaller =
-            let s = sum_same (term_size_at now) (term_size_at first) (term_parts_at first k) (λ j d l. ap term_size (term_tree-extends e (get_or (term_parts_at first k) j d).0 (inside (get_or (term_parts_at first k) j d) (p.lower j d l)))) in
+            let s = sum_same (term_size_at now) (term_size_at first) (term_parts_at first k) (λ j d l. ap term_size (term_tree-extends e (get_or (term_parts_at first k) j d).0 (HasTerm-below first k.0 (get_or (term_parts_at first k) j d).0 h (p.lower j d l)))) in
             let z = ap term_size (term_tree-extends e k.0 h) in let m = p.smaller in omega arith;
         still_good = λ t g j d l.
-            let i = inside (get_or (term_parts_at first k) j d) (p.lower j d l) in
+            let i = HasTerm-below first k.0 (get_or (term_parts_at first k) j d).0 h (p.lower j d l) in
             (i, sym (ap (λ u. applies_heads (close (opened t (get_or (term_parts_at first k) j d).1) u)) (term_tree-extends e (get_or (term_parts_at first k) j d).0 i)) ∙ (p.still_good t (term_good_now t k g) j d l).1);
       }
 
@@ -347,17 +351,14 @@ module _ (first now : Nodes) (e : Extends first now) where
   pub form_parts_first : (k : Spot) → HasForm first k.0 → ArePartsOf (form_size_at now) (IsFormGood now) k (form_parts_at now k) → ArePartsOf (form_size_at first) (IsFormGood first) k (form_parts_at first k)
   form_parts_first k h p = back (subst (ArePartsOf (form_size_at now) (IsFormGood now) k) (form_parts_same k h) p)
     where
-      inside : (q : Spot) → q.0 < k.0 → HasForm first q.0
-      inside q l = omega arith
-
       back : ArePartsOf (form_size_at now) (IsFormGood now) k (form_parts_at first k) → ArePartsOf (form_size_at first) (IsFormGood first) k (form_parts_at first k)
       back p = record {
         lower = p.lower;
         smaller =
-            let s = sum_same (form_size_at now) (form_size_at first) (form_parts_at first k) (λ j d l. ap form_size (form_tree-extends e (get_or (form_parts_at first k) j d).0 (inside (get_or (form_parts_at first k) j d) (p.lower j d l)))) in
+            let s = sum_same (form_size_at now) (form_size_at first) (form_parts_at first k) (λ j d l. ap form_size (form_tree-extends e (get_or (form_parts_at first k) j d).0 (HasForm-below first k.0 (get_or (form_parts_at first k) j d).0 h (p.lower j d l)))) in
             let z = ap form_size (form_tree-extends e k.0 h) in let m = p.smaller in omega arith;
         still_good = λ w g j d l.
-            let i = inside (get_or (form_parts_at first k) j d) (p.lower j d l) in let q = p.still_good w (form_good_now w k g) j d l in
+            let i = HasForm-below first k.0 (get_or (form_parts_at first k) j d).0 h (p.lower j d l) in let q = p.still_good w (form_good_now w k g) j d l in
             record {
               inside = i;
               heads = sym (ap (λ u. form_applies_heads (close_form (opened w.0 (get_or (form_parts_at first k) j d).1) u)) (form_tree-extends e (get_or (form_parts_at first k) j d).0 i)) ∙ q.heads;

@@ -9,6 +9,7 @@ use Rattle.ll_bank.specs.declared.pairs.Pair.{Pair}
 use Rattle.ll_bank.specs.Term.{Term, Con, Ap, apply, app, head_of, arity}
 use Rattle.ll_bank.specs.Nodes.{Nodes, term_tree, term_trees, AllInTerms, HasTerm}
 use Rattle.ll_bank.specs.Pairs.{lefts, rights, AreInBanks, AreEqual}
+use Rattle.ll_bank.proofs.Heads.{head_of-apply, arity-apply}
 
 -- ---- arguments behind the pairs that wait
 
@@ -51,14 +52,6 @@ apply-parts f g [] (u ∷ us) n e = absurd (omega arith)
 apply-parts f g (t ∷ ts) [] n e = absurd (omega arith)
 apply-parts f g (t ∷ ts) (u ∷ us) n e =
     let r = apply-parts (Ap f t) (Ap g u) ts us (omega arith) e in let p = r.0 in let h : f ≡ g = cc in let a : t ≡ u = cc in (h, λ i. a i ∷ r.1 i)
-
-head_of-apply : (f : Term) (ts : List Term) → head_of (apply f ts) ≡ head_of f
-head_of-apply f [] = refl
-head_of-apply f (t ∷ ts) = head_of-apply (Ap f t) ts
-
-arity-apply : (f : Term) (ts : List Term) → arity (apply f ts) ≡ arity f + length ts
-arity-apply f [] = omega arith
-arity-apply f (t ∷ ts) = let e = arity-apply (Ap f t) ts in omega arith
 
 -- two signs
 pub two-signs : (A : Type 0) (t u : Term) → (t ≡ u → ⊥) → (IsTrue false × A) ↔ (A × (t ≡ u))

@@ -16,6 +16,7 @@ use Rattle.ll_bank.specs.declared.At.{At}
 use Rattle.ll_bank.specs.Nodes.{Nodes, term_in, term_tree, term_trees}
 use Rattle.ll_bank.specs.Signs.{build_sign, sign_terms, IsSignBelow, IsTable, Grows, HasNumber, IsNumbering}
 use Rattle.ll_bank.proofs.Growing.{get_or-grow_at, grow_kept}
+use Rattle.ll_bank.proofs.Heads.{apply-push}
 
 -- ---- signs that are equal by their test
 
@@ -150,10 +151,6 @@ module _ (old new : List Sign) (s : Sign) (table : IsTable old) (below : IsSignB
   }
 
 -- ---- applications
-
-pub apply-push : (f : Term) (ts : List Term) (t : Term) → apply f (ts ++ t ∷ []) ≡ Ap (apply f ts) t
-apply-push f [] t = refl
-apply-push f (u ∷ ts) t = apply-push (Ap f u) ts t
 
 -- one number has one term
 pub same_number : (signs : List Sign) (i j : ℕ) (t u : Term) → HasNumber signs i t → HasNumber signs j u → i ≡ j → t ≡ u

@@ -3,9 +3,9 @@ use Rattle.std.proofs.lemmas.List.{append-nil}
 use Rattle.std.proofs.lemmas.Result.{on_ok_weaker, IfOk-from_err}
 use Rattle.ll_bank.specs.declared.TermView.TheVariants.{Var as VarView, Int as IntView, App as AppView}
 use Rattle.ll_bank.specs.Nodes.{node_of_term}
-use Rattle.ll_bank.specs.Opened.{term_parts, term_parts_at, IsTermGood, ArePartsOf, term_size_at}
+use Rattle.ll_bank.specs.Opened.{visit, term_parts, term_parts_at, IsTermGood, ArePartsOf, term_size_at}
 use Rattle.ll_bank.proofs.WalkLemmas.{node_seen}
-use Rattle.ll_bank.proofs.OpenLemmas.{pushed, term_parts_small, visits_args}
+use Rattle.ll_bank.proofs.OpenLemmas.{pushed, term_parts_small, spots_of_args}
 use Rattle.ll_bank.proofs.open.push_term.Goals as goal
 
 pub returns-in_err-push-clause-parts : goal.returns-in_err-push-clause-parts
@@ -30,7 +30,7 @@ returns-in-Int-clause-parts c =
 
 pub returns-in-App-clause-pushed : goal.returns-in-App-clause-pushed
 returns-in-App-clause-pushed c =
-    on_ok_weaker c.push_arguments.result (λ e. pushed (term_parts_at c.args.bank.now (c.args.task.place, c.args.task.level)) (term_parts (node_of_term (AppView c.in-App.field-0 c.in-App.args)) c.args.task.level) c.args.tasks.now.items c.push.new.self.items c.push_arguments.new.tasks.items (record { place = c.args.task.place; level = c.args.task.level; ready = true }) (ap (λ node. term_parts node c.args.task.level) (node_seen c.args.bank.now c.args.task.place (node_of_term (AppView c.in-App.field-0 c.in-App.args)) c.in-App.ensures.node)) c.in_ok-push.ensures.items (e ∙ ap (λ xs. c.push.new.self.items ++ xs) (visits_args c.args.task.level c.in-App.args.now))) c.push_arguments.ensures
+    on_ok_weaker c.push_arguments.result (λ e. pushed (term_parts_at c.args.bank.now (c.args.task.place, c.args.task.level)) (term_parts (node_of_term (AppView c.in-App.field-0 c.in-App.args)) c.args.task.level) c.args.tasks.now.items c.push.new.self.items c.push_arguments.new.tasks.items (record { place = c.args.task.place; level = c.args.task.level; ready = true }) (ap (λ node. term_parts node c.args.task.level) (node_seen c.args.bank.now c.args.task.place (node_of_term (AppView c.in-App.field-0 c.in-App.args)) c.in-App.ensures.node)) c.in_ok-push.ensures.items (e ∙ ap (λ xs. c.push.new.self.items ++ xs) (spots_of_args visit c.args.task.level c.in-App.args.now))) c.push_arguments.ensures
 
 pub returns-in-App-clause-parts : goal.returns-in-App-clause-parts
 returns-in-App-clause-parts c =

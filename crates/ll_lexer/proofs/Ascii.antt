@@ -14,7 +14,7 @@ use Rattle.ll_lexer.proofs.Spelled.{kind-passes}
 in_range : (low high b : ℕ) → high < 128 → is_in_range low high b ≡ true → b < 128
 in_range low high b l h = let k = leb-true b high (and_parts (nat_le low b) (nat_le b high) h).1 in omega arith
 
-lower-ascii : (b : ℕ) → is_lower b ≡ true → b < 128
+pub lower-ascii : (b : ℕ) → is_lower b ≡ true → b < 128
 unfolding is_lower
 lower-ascii b h = in_range 97 122 b (omega arith) h
 
@@ -22,14 +22,14 @@ upper-ascii : (b : ℕ) → is_upper b ≡ true → b < 128
 unfolding is_upper
 upper-ascii b h = in_range 65 90 b (omega arith) h
 
-digit-ascii : (b : ℕ) → is_digit b ≡ true → b < 128
+pub digit-ascii : (b : ℕ) → is_digit b ≡ true → b < 128
 unfolding is_digit
 digit-ascii b h = in_range 48 57 b (omega arith) h
 
 bar-ascii : (b : ℕ) → b == 95 ≡ true → b < 128
 bar-ascii b h = let e = eqb-true b 95 h in omega arith
 
-word-ascii : (b : ℕ) → is_word_byte b ≡ true → b < 128
+pub word-ascii : (b : ℕ) → is_word_byte b ≡ true → b < 128
 unfolding is_word_byte
 word-ascii b h =
     elim (or_cases ((is_in_range 48 57 b || is_in_range 65 90 b) || is_in_range 97 122 b) (b == 95) h) [

@@ -14,6 +14,20 @@ pub use Rattle.ll_lexer.proofs.Longest.{NoKeyword}
 pub use Rattle.ll_lexer.proofs.Longest.{name-spelled}
 -- each token of a text stands in the text as it is spelled
 pub use Rattle.ll_lexer.proofs.OneReading.{token-found}
+-- a name of at most 255 bytes has no flaw
+pub use Rattle.ll_lexer.proofs.ReadBack.{sound-name}
+-- a variable of at most 255 bytes has no flaw
+pub use Rattle.ll_lexer.proofs.ReadBack.{sound-variable}
+-- ---- the bytes of a token
+
+-- a lower-case letter is ASCII
+pub use Rattle.ll_lexer.proofs.Ascii.{lower-ascii}
+-- a byte that goes on with a word is ASCII
+pub use Rattle.ll_lexer.proofs.Ascii.{word-ascii}
+-- digits, as the lexer tests them, are those of a decimal number
+pub use Rattle.ll_lexer.proofs.Numerals.{digits-model}
+-- a digit is no plus
+pub use Rattle.ll_lexer.proofs.Numerals.{digit-no_plus}
 -- ---- the longest token
 
 -- the bytes that would go on with a token of this kind

@@ -4,10 +4,10 @@ use Rattle.std.specs.Int.{w64}
 use Rattle.std.specs.List.{list_all}
 use Rattle.std.specs.Result.{result_ok}
 use Rattle.std.specs.Str.{IsUtf8, IsAscii}
-use Rattle.std.specs.Str.Parse.{AllDigits, IsNumeral, without_leading_sign, ParsesSigned}
+use Rattle.std.specs.Str.Parse.{AllDigits, IsNumeral, digits_value, without_leading_sign, ParsesSigned}
 use Rattle.std.proofs.lemmas.Bool.Decides.{nat_tests, Decides-eqb}
 use Rattle.std.proofs.lemmas.Str.{IsUtf8-from_ascii}
-use Rattle.std.proofs.lemmas.Str.Parse.{IsDigitsTest, numerals_by_value}
+use Rattle.std.proofs.lemmas.Str.Parse.{IsDigitsTest, IsNumeralModel, numerals_by_value}
 use Rattle.ll_lists.proofs.CallerLemmas.{and_true_both as both}
 use Rattle.ll_lexer.specs.declared.TokenKind.{TokenKind}
 use Rattle.ll_lexer.specs.Spelling.{is_digit, is_numeral, is_number}
@@ -16,19 +16,24 @@ use Rattle.ll_lexer.specs.declared.TokenKind.TheVariants.{Name, Variable, Number
 use Rattle.ll_lexer.specs.Reading.{HasFlaw, long_name, long_variable}
 use Rattle.ll_lexer.specs.Spelling.{fixed_spellings, kind_of}
 use Rattle.ll_lexer.proofs.Spelled.{kind-passes}
+use Rattle.ll_lexer.proofs.Ascii.{digit-ascii}
 
 tests-digits : IsDigitsTest (λ ds. list_all is_digit ds ≡ true)
 unfolding is_digit
 tests-digits = search rules
 
+-- digits, as the lexer tests them, are those of a decimal number
+pub digits-model : IsNumeralModel (λ ds. list_all is_digit ds ≡ true) (digits_value 10)
+digits-model = numerals_by_value (λ ds. list_all is_digit ds ≡ true) tests-digits
+
 all-digits : (ds : List ℕ) → list_all is_digit ds ≡ true → AllDigits 10 ds
-all-digits = (numerals_by_value (λ ds. list_all is_digit ds ≡ true) tests-digits).to
+all-digits = digits-model.to
 
 numeral : (ds : List ℕ) → is_numeral ds ≡ true → IsNumeral 10 ds
 numeral [] h = absurd cc
 numeral (d ∷ ds) h = (omega arith, all-digits (d ∷ ds) h)
 
-digit-no_plus : (b : ℕ) → is_digit b ≡ true → (b == 43) ≡ false
+pub digit-no_plus : (b : ℕ) → is_digit b ≡ true → (b == 43) ≡ false
 unfolding is_digit
 digit-no_plus b h = grind (arith, nat_tests)
 
@@ -39,10 +44,6 @@ number-numeral (b ∷ bs) h = by-dash (b == 45) refl h
     by-dash : (v : Bool) → (b == 45) ≡ v → cond v (is_numeral bs) (is_numeral (b ∷ bs)) ≡ true → IsNumeral 10 (without_leading_sign (b ∷ bs))
     by-dash true e h = rw e (numeral bs h)
     by-dash false e h = rw (e, digit-no_plus b (both (is_digit b) (list_all is_digit bs) h).0) (numeral (b ∷ bs) h)
-
-digit-ascii : (b : ℕ) → is_digit b ≡ true → b < 128
-unfolding is_digit
-digit-ascii b h = grind (arith, nat_tests)
 
 digits-ascii : (ds : List ℕ) → list_all is_digit ds ≡ true → IsAscii ds
 digits-ascii [] h i = omega arith

@@ -1,5 +1,5 @@
 -- What is spelled as a token, and then followed by a byte that does not go on with it, is read as this token.
-use Rattle.std.proofs.Common.{◌≡◌, ℕ, suc, ◌+◌, Bool, true, false, cond, ◌||◌, ◌==◌, List, [], ◌∷◌, ◌++◌, length, take, drop, codes, refl, ap, subst, arith}
+use Rattle.std.proofs.Common.{◌≡◌, ℕ, suc, ◌+◌, ◌≤◌, Bool, true, false, cond, ◌||◌, ◌==◌, List, [], ◌∷◌, ◌++◌, length, take, drop, codes, refl, ap, subst, arith}
 use Rattle.std.specs.List.{list_all, prefix_len, starts_with}
 use Rattle.std.specs.Prelude.{nat_eq}
 use Rattle.std.specs.Str.{bytes_eq}
@@ -11,10 +11,21 @@ use Rattle.ll_lists.proofs.CallerLemmas.{and_true_both as both}
 use Rattle.ll_lexer.specs.declared.TokenKind.{TokenKind}
 use Rattle.ll_lexer.specs.declared.TokenKind.TheVariants.{Name, Variable, Any, Number, True, Erase, Forall, Exists, Is, Module, Local, Linear, Dot, Comma, Ampersand, Semicolon, ParenLeft, ParenRight, BraceLeft, BraceRight, Backslash, Cons, ColonDash, LeftArrow, RightArrow, Most, Less, Plus, Minus, Star, Lolli, LoadArrow}
 use Rattle.ll_lexer.specs.Spelling.{is_lower, is_upper, is_digit, is_word_start, is_word_byte, is_name, is_variable, is_numeral, is_number, fixed_spellings, Spells, IsLongest}
+use Rattle.ll_lexer.specs.Reading.{IsSound, long_name, long_variable}
 use Rattle.ll_lexer.proofs.Spelled.{kind-passes}
 use Rattle.ll_lexer.proofs.Longest.{lower-start, upper-start, bar-start, begins_with, word-tail, word-longest, number-longest, negative-longest, minus-longest}
 use Rattle.ll_lexer.proofs.Numerals.{number-spelled}
 use Rattle.ll_lexer.proofs.Signs.{signs}
+
+-- ---- words
+
+-- a name of at most 255 bytes has no flaw
+pub sound-name : (w : List ℕ) → length w ≤ 255 → IsSound Name w
+sound-name w short kind (long_name h) = omega arith
+
+-- and a variable
+pub sound-variable : (w : List ℕ) → length w ≤ 255 → IsSound Variable w
+sound-variable w short kind (long_variable h) = omega arith
 
 -- the bytes that would go on with a token of this kind
 abbrev pub goes_on : TokenKind → ℕ → Bool

@@ -23,7 +23,7 @@ use Rattle.ll_laws.specs.Unify.{Solved, mgu}
 use Rattle.ll_laws.specs.Consistent.{labels_differ}
 use Rattle.ll_laws.specs.Run.{Trace, trace_end, trace_step}
 use Rattle.ll_laws.specs.Dealt.{settled_line, front_line, after_line, replay}
-use Rattle.ll_laws.proofs.SubLaws.{sub_id, IsClosing}
+use Rattle.ll_laws.proofs.SubLaws.{subs_id, IsClosing}
 use Rattle.ll_laws.proofs.Leftovers.{same_trace}
 use Rattle.ll_laws.proofs.Grounding.{grounded, settle_grounded}
 use Rattle.ll_laws.proofs.Projected.{step_of, goes_steps, goes_line, Projects}
@@ -129,16 +129,12 @@ answer_comes beside t a k e h = step (not (has_live t.context) || t.flag) refl h
           closing = λ x. refl;
           below = λ x l. refl;
           later = [];
-          terms = ap (λ z. z.terms) (sym i) ∙ (sym (map_same_id t.terms) ∙ sym (append-nil (map (sub Var) t.terms)));
+          terms = ap (λ z. z.terms) (sym i) ∙ (sym (subs_id t.terms) ∙ sym (append-nil (map (sub Var) t.terms)));
           more = [];
           steps = ap (λ z. z.steps) (sym i) ∙ sym (append-nil t.steps);
           run = trace_end (grounded Var t) (settle_grounded Var t t k) (ap (map (sub_item Var)) e) (ap (λ b. not b || t.flag) (live_grounded Var t.context) ∙ q);
           count = refl;
         }
-      where
-        map_same_id : (ts : List Term) → map (sub Var) ts ≡ ts
-        map_same_id [] = refl
-        map_same_id (x ∷ ts) = let p = sub_id x in let r = map_same_id ts in cc
 
 -- ---- an inference
 

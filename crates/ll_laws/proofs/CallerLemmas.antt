@@ -4,6 +4,8 @@
 
 -- putting each variable for itself changes nothing
 pub use Rattle.ll_laws.proofs.SubLaws.{sub_id}
+-- putting each variable for itself changes no term of a list
+pub use Rattle.ll_laws.proofs.SubLaws.{subs_id}
 -- substitutions that agree on each variable agree on a term
 pub use Rattle.ll_laws.proofs.SubLaws.{sub_same}
 -- one substitution after another, in a term
@@ -20,6 +22,18 @@ pub use Rattle.ll_laws.proofs.SubLaws.{sub_instantiate}
 pub use Rattle.ll_laws.proofs.SubLaws.{ways-sub}
 -- a leaf has as many terms as quantifiers stand on its way
 pub use Rattle.ll_laws.proofs.LeafWays.{leaf_ways}
+-- below a premise that was added there is a leaf
+pub use Rattle.ll_laws.proofs.LeafWays.{Under}
+-- a leaf with a premise added has one below it
+pub use Rattle.ll_laws.proofs.LeafWays.{under}
+-- the leaves of all clauses that wait
+pub use Rattle.ll_laws.proofs.LeafWays.{waiting_ways}
+-- the count stays where a clause takes the place of one with as many leaves
+pub use Rattle.ll_laws.proofs.LeafWays.{count_in}
+-- the count stays where two clauses take the place of one with the leaves of both
+pub use Rattle.ll_laws.proofs.LeafWays.{count_both}
+-- a quantifier changes no number of leaves
+pub use Rattle.ll_laws.proofs.LeafWays.{ways_quantified}
 -- a premise under a substitution
 pub use Rattle.ll_laws.proofs.SubLaws.{sub_premise}
 -- a leaf under a substitution
@@ -32,12 +46,22 @@ pub use Rattle.ll_laws.proofs.SubLaws.{leaf-sub}
 pub use Rattle.ll_laws.proofs.UnifyLaws.{head_eq-refl}
 -- heads that compare as equal are the same
 pub use Rattle.ll_laws.proofs.UnifyLaws.{head_eq-true}
+-- terms that compare as equal are the same
+pub use Rattle.ll_laws.proofs.FaultLaw.{term_eq-true}
+-- a term compares as equal to itself
+pub use Rattle.ll_laws.proofs.FaultLaw.{term_eq-refl}
+-- a test of equality finds no variable to bind
+pub use Rattle.ll_laws.proofs.UnifyLaws.{when-meet}
 -- terms between which no difference is found are the same
 pub use Rattle.ll_laws.proofs.UnifyLaws.{diff-same}
 -- no level rises where a term is bound
 pub use Rattle.ll_laws.proofs.UnifyLaws.{lower-le}
 -- where a term is bound at a level, the levels of its variables fall to it, and no others change
 pub use Rattle.ll_laws.proofs.UnifyLaws.{level-lower}
+-- there are as many levels where a term is bound as before
+pub use Rattle.ll_laws.proofs.UnifyOver.{length-lower}
+-- what stands for a variable of a term has variables below a number where the whole has
+pub use Rattle.ll_laws.proofs.UnifyLaws.{vars_below-part}
 -- a variable's level is at most the bound of all levels
 pub use Rattle.ll_laws.proofs.AnswerSteps.{level_up_to}
 -- a variable behind those that are there has the level of the new ones
@@ -82,6 +106,12 @@ pub use Rattle.ll_laws.proofs.ConsistentTerms.{fit-vars}
 pub use Rattle.ll_laws.proofs.ConsistentTerms.{fit-eigens}
 -- a term that fits has no bound place beyond those of its scope
 pub use Rattle.ll_laws.proofs.ConsistentTerms.{fit-places}
+-- the head of a closed term may stand in front of arguments
+pub use Rattle.ll_laws.proofs.ConsistentTerms.{head_of_closed}
+-- where what stands in front of arguments is a head that may have them, it is a head
+pub use Rattle.ll_laws.proofs.ConsistentTerms.{headed_applies}
+-- the same of each term of a list
+pub use Rattle.ll_laws.proofs.ConsistentTerms.{all_headed}
 -- a term that fits still fits where more is allowed and the scope is wider
 pub use Rattle.ll_laws.proofs.ConsistentTerms.{fit-more}
 -- each variable that there is goes to a closed term
@@ -108,6 +138,8 @@ pub use Rattle.ll_laws.proofs.ConsistentForms.{fits-close}
 pub use Rattle.ll_laws.proofs.ConsistentForms.{other}
 -- whether the bound place of a `forall` on this side may be a predicate
 pub use Rattle.ll_laws.proofs.ConsistentForms.{opens_on}
+-- only the number of arguments decides whether they fit a module
+pub use Rattle.ll_laws.proofs.ConsistentForms.{fits_module-length}
 -- a substitution leaves a formula without variables as it is
 pub use Rattle.ll_laws.proofs.Grounding.{sub_none_form}
 -- ---- clauses, leaves and modules that fit
@@ -158,8 +190,16 @@ pub use Rattle.ll_laws.proofs.SearchLaws.{cost_answer}
 pub use Rattle.ll_laws.proofs.SearchLaws.{cost_zero}
 -- else the cost is that of the candidates
 pub use Rattle.ll_laws.proofs.SearchLaws.{cost_step}
+-- a count that is cut before it goes one higher is cut to the same
+pub use Rattle.ll_laws.proofs.SearchLaws.{cut_count-suc}
 -- ---- derivations
 
+-- the nodes of all trees
+pub use Rattle.ll_laws.proofs.Lines.{total}
+-- a derivation has as many nodes as its trees
+pub use Rattle.ll_laws.proofs.Lines.{trees-count}
+-- dealing out the labels keeps the nodes of a tree
+pub use Rattle.ll_laws.proofs.DealtShown.{deal_nodes}
 -- lines of one tree without a fault show the problem
 pub use Rattle.ll_laws.proofs.Lines.{no-fault-shows}
 -- lines that show the problem have no fault, and as many nodes as their tree

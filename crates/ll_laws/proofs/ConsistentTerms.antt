@@ -2,10 +2,11 @@
 use Rattle.std.proofs.Common.{◌≡◌, ℕ, zero, suc, ◌+◌, ◌≤◌, refl, subst, Bool, true, false, List, [], ◌∷◌, map, length, arith}
 use Rattle.std.proofs.lemmas.Bool.{ltb-true, lt-ltb, and_from as and_intro}
 use Rattle.std.specs.Prelude.{◌&&◌, Option, Some, None, nat_lt, slice_index_or}
+use Rattle.std.specs.List.{list_all}
 use Rattle.ll_lists.proofs.CallerLemmas.{lt_more, lt_zero as none_below, and_true_left as and_left, and_true_right as and_right}
 use Rattle.ll_bank.specs.declared.Head.{Head}
 use Rattle.ll_bank.specs.declared.Head.TheVariants.{Name, Eigen, Bound}
-use Rattle.ll_bank.specs.Term.{Term, Var, Int, Con, Ap, sub, Env, place, close, head_of, is_closed, is_spine, eigens_below}
+use Rattle.ll_bank.specs.Term.{Term, Var, Int, Con, Ap, sub, Env, place, close, head_of, is_closed, is_spine, applies_heads, eigens_below}
 use Rattle.ll_laws.specs.Unify.{vars_below}
 use Rattle.ll_laws.specs.Valid.{Allowed, Scope, places_below, may_head, is_headed}
 use Rattle.ll_laws.specs.Consistent.{is_made}
@@ -86,6 +87,22 @@ head_of_closed scope (Con (Name n)) c = refl
 head_of_closed scope (Con (Eigen k)) c = refl
 head_of_closed scope (Con (Bound k)) c = cc
 head_of_closed scope (Ap f a) c = head_of_closed scope f (and_right (is_spine f) (is_closed f) (and_left (is_spine f && is_closed f) (is_closed a) c))
+
+-- where what stands in front of arguments is a head that may have them, it is a head
+pub headed_applies : (scope : Scope) (t : Term) → is_headed scope t ≡ true → applies_heads t ≡ true
+headed_applies scope (Var x) h = refl
+headed_applies scope (Int z) h = refl
+headed_applies scope (Con k) h = refl
+headed_applies scope (Ap f a) h =
+    let s : Bool = is_spine f in let m : Bool = may_head scope (head_of f) in
+    let p = and_left (s && m && is_headed scope f) (is_headed scope a) h in
+    and_intro _ _ (and_intro _ _ (and_left s m (and_left (s && m) (is_headed scope f) p)) (headed_applies scope f (and_right (s && m) (is_headed scope f) p)))
+    (headed_applies scope a (and_right (s && m && is_headed scope f) (is_headed scope a) h))
+
+pub all_headed : (scope : Scope) (ts : List Term) → list_all (is_headed scope) ts ≡ true → list_all applies_heads ts ≡ true
+all_headed scope [] h = refl
+all_headed scope (t ∷ ts) h =
+    and_intro _ _ (headed_applies scope t (and_left (is_headed scope t) (list_all (is_headed scope) ts) h)) (all_headed scope ts (and_right (is_headed scope t) (list_all (is_headed scope) ts) h))
 
 -- a closed term fits the empty scope
 fit_of_closed : (may : Allowed) (t : Term) → is_closed t ≡ true → vars_below may.variables t ≡ true → eigens_below may.eigens t ≡ true → Fit may [] t

@@ -6,7 +6,7 @@ use Rattle.std.proofs.lemmas.Bool.{eqb-true, eq-eqb, ne_eqb, both_ways, or_right
 use Rattle.std.proofs.lemmas.List.{map-append}
 use Rattle.std.proofs.lemmas.List.Folds.{list_any-append}
 use Rattle.std.proofs.Math.Bool.{or-false}
-use Rattle.ll_lists.proofs.CallerLemmas.{false_from_not as not_of_true, or_false_left as or_off_left, or_false_right as or_off_right, and_true_left, and_true_left as and_one, and_true_right as and_two, or_elim as or_split}
+use Rattle.ll_lists.proofs.CallerLemmas.{false_from_not as not_of_true, or_false_left as or_off_left, or_false_right as or_off_right, and_true_left, and_true_left as and_one, and_true_right as and_two, or_elim as or_split, or_exchange}
 use Rattle.ll_bank.specs.Term.{Term, Con}
 use Rattle.ll_bank.specs.Form.{Form, Top, One, Atom, With, Tensor, Plus, Bang, Lolli, Imp, Forall, Exists, Use, instantiate, form_has_eigen, Num}
 use Rattle.ll_laws.specs.Leaf.{Premise, Needs, NeedsFree}
@@ -291,11 +291,6 @@ pub taken_has : (n : ℕ) (i : List Labelled) (r : Form) (e : List Labelled) →
 taken_has n [] r e k m = cc
 taken_has n (l ∷ ls) r e k m = step (nat_eq n l.label) refl (take_label n ls) refl (taken_has n ls) k
   where
-    swap : (a b x : Bool) → (a || (b || x)) ≡ (b || (a || x))
-    swap true true x = refl
-    swap true false x = refl
-    swap false b x = refl
-
     step : (b : Bool) → nat_eq n l.label ≡ b → (o : Found) → take_label n ls ≡ o
         → ((r : Form) (e : List Labelled) → take_label n ls ≡ Took r e → (m : ℕ) → has_label ls m ≡ (nat_eq m n || has_label e m))
         → (if b then Took l.clause ls else behind l o) ≡ Took r e → has_label (l ∷ ls) m ≡ (nat_eq m n || has_label e m)
@@ -303,7 +298,7 @@ taken_has n (l ∷ ls) r e k m = step (nat_eq n l.label) refl (take_label n ls) 
     step false f Missing q ih k = cc
     step false f (Took s t) q ih k =
         let j : l ∷ t ≡ e = cc in
-        ap (λ b. nat_eq m l.label || b) (ih s t q m) ∙ (swap (nat_eq m l.label) (nat_eq m n) (has_label t m) ∙ ap (λ x. nat_eq m n || has_label x m) j)
+        ap (λ b. nat_eq m l.label || b) (ih s t q m) ∙ (or_exchange (nat_eq m l.label) (nat_eq m n) (has_label t m) ∙ ap (λ x. nat_eq m n || has_label x m) j)
 
 missing_has : (n : ℕ) (i : List Labelled) → take_label n i ≡ Missing → has_label i n ≡ false
 missing_has n [] k = refl

@@ -38,7 +38,7 @@ use Rattle.ll_laws.proofs.Chosen.{form-agree, listed}
 -- ---- dealing keeps the nodes
 
 mutual
-  deal_nodes : (d : List ℕ) (x : Tree) → nodes (deal d x) ≡ nodes x
+  pub deal_nodes : (d : List ℕ) (x : Tree) → nodes (deal d x) ≡ nodes x
   deal_nodes d OneNode = refl
   deal_nodes d EraseNode = refl
   deal_nodes d NumNode = refl

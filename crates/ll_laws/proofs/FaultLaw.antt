@@ -2,7 +2,7 @@
 use Rattle.std.proofs.Common.{◌≡◌, ◌<◌, ℕ, zero, suc, ◌+◌, refl, ap, ◌∙◌, Bool, true, false, List, [], ◌∷◌, ◌++◌, length, arith}
 use Rattle.std.specs.Prelude.{◌&&◌, ◌||◌, not, if◌then◌else◌, nat_lt, Option, Some, None, slice_get}
 use Rattle.std.specs.List.{list_any}
-use Rattle.std.proofs.lemmas.Bool.{eqb-true, eq-eqb, lt-ltb}
+use Rattle.std.proofs.lemmas.Bool.{eqb-true, eq-eqb, lt-ltb, not_from_false}
 use Rattle.std.proofs.lemmas.Bool.Decides.{Decides-int_eq}
 use Rattle.ll_lists.proofs.CallerLemmas.{false_from_not as not-true, and_true_left as and_one, and_true_right as and_two, slice_get-inside as slice_at}
 use Rattle.ll_bank.specs.declared.Head.TheVariants.{Eigen}
@@ -16,7 +16,7 @@ use Rattle.ll_laws.proofs.UnifyLaws.{head_eq-true, head_eq-refl}
 use Rattle.ll_laws.proofs.LeafWays.{leaf_ways}
 use Rattle.ll_laws.specs.Number.{holds}
 
-term_eq-true : (t u : Term) → term_eq t u ≡ true → t ≡ u
+pub term_eq-true : (t u : Term) → term_eq t u ≡ true → t ≡ u
 term_eq-true (Var x) (Var y) h = ap Var (eqb-true x y h)
 term_eq-true (Int x) (Int y) h = ap Int ((Decides-int_eq x y).0 h)
 term_eq-true (Con x) (Con y) h = ap Con (head_eq-true x y h)
@@ -24,7 +24,7 @@ term_eq-true (Ap f a) (Ap g b) h =
     let i = term_eq-true f g (and_one (term_eq f g) (term_eq a b) h) in let j = term_eq-true a b (and_two (term_eq f g) (term_eq a b) h) in cc
 term_eq-true _ _ h = cc
 
-term_eq-refl : (t : Term) → term_eq t t ≡ true
+pub term_eq-refl : (t : Term) → term_eq t t ≡ true
 term_eq-refl (Var x) = eq-eqb x x refl
 term_eq-refl (Int x) = (Decides-int_eq x x).1 refl
 term_eq-refl (Con x) = head_eq-refl x
@@ -145,10 +145,6 @@ no_more : (d : List Labelled) → d ≡ [] → is_empty d ≡ true
 no_more [] h = refl
 no_more (l ∷ ls) h = cc
 
-not-false : (b : Bool) → b ≡ false → not b ≡ true
-not-false true h = cc
-not-false false h = refl
-
 -- one check after another
 chain : (a : Checked) (go : ℕ → Checked) (j m : ℕ) → a ≡ Fits j → go j ≡ Fits m → then_check a go ≡ Fits m
 chain a go j m h k = ap (λ z. then_check z go) h ∙ k
@@ -181,11 +177,11 @@ mutual
   shows_yes beside k (RightNode x) c d (Plus g f) h = shows_yes beside (suc k) x c d f h ∙ to _ _ (omega arith)
   shows_yes beside k (BangNode x) c d (Bang g) h = passes (is_empty d) k 2 _ (no_more d h.0) ∙ (shows_yes beside (suc k) x c d g h.1 ∙ to _ _ (omega arith))
   shows_yes beside k (LolliNode n x) c d (Lolli r g) h =
-      passes (not (has_label c n || has_label d n)) k 9 _ (not-false (has_label c n || has_label d n) h.0) ∙ (shows_yes beside (suc k) x c (d ++ record { label = n; clause = r } ∷ []) g h.1 ∙ to _ _ (omega arith))
+      passes (not (has_label c n || has_label d n)) k 9 _ (not_from_false (has_label c n || has_label d n) h.0) ∙ (shows_yes beside (suc k) x c (d ++ record { label = n; clause = r } ∷ []) g h.1 ∙ to _ _ (omega arith))
   shows_yes beside k (ImpNode n x) c d (Imp r g) h =
-      passes (not (has_label c n || has_label d n)) k 9 _ (not-false (has_label c n || has_label d n) h.0) ∙ (shows_yes beside (suc k) x (record { label = n; clause = r } ∷ c) d g h.1 ∙ to _ _ (omega arith))
+      passes (not (has_label c n || has_label d n)) k 9 _ (not_from_false (has_label c n || has_label d n) h.0) ∙ (shows_yes beside (suc k) x (record { label = n; clause = r } ∷ c) d g h.1 ∙ to _ _ (omega arith))
   shows_yes beside k (ForallNode e x) c d (Forall g) h =
-      passes (not (list_any (form_has_eigen e) (g ∷ (clauses c ++ clauses d)))) k 10 _ (not-false (list_any (form_has_eigen e) (g ∷ (clauses c ++ clauses d))) h.0)
+      passes (not (list_any (form_has_eigen e) (g ∷ (clauses c ++ clauses d)))) k 10 _ (not_from_false (list_any (form_has_eigen e) (g ∷ (clauses c ++ clauses d))) h.0)
       ∙ (shows_yes beside (suc k) x c d (instantiate g (Con (Eigen e))) h.1 ∙ to _ _ (omega arith))
   shows_yes beside k (ExistsNode t x) c d (Exists g) h = shows_yes beside (suc k) x c d (instantiate g t) h.1 ∙ to _ _ (omega arith)
   shows_yes beside k (UseNode x) c d (Use n ts g) h =

@@ -6,7 +6,7 @@ use Rattle.std.proofs.lemmas.Bool.{eqb-true, eq-eqb, eqb-false, ne_eqb, or_right
 use Rattle.std.proofs.lemmas.List.{append-nil, map-append}
 use Rattle.std.proofs.lemmas.List.Folds.{list_any-append}
 use Rattle.std.proofs.Math.Bool.{and-true, or-false, or-true}
-use Rattle.ll_lists.proofs.CallerLemmas.{or_false_left as or_off_left, or_false_right as or_off_right, and_true_left as and_one, and_true_right as and_two, or_elim as or_split, or_assoc}
+use Rattle.ll_lists.proofs.CallerLemmas.{or_false_left as or_off_left, or_false_right as or_off_right, and_true_left as and_one, and_true_right as and_two, or_elim as or_split, or_assoc, not_eq_sym}
 use Rattle.ll_bank.specs.Term.{Term}
 use Rattle.ll_bank.specs.Form.{Form, Bang, form_has_eigen}
 use Rattle.ll_laws.specs.Leaf.{Premise}
@@ -480,10 +480,7 @@ take_free n [] e sd q l = cc
 take_free n (d ∷ es) e sd q l = step (nat_eq d.label n) refl (take_free n es e sd.2) q
   where
     inside : (b : Bool) (f : TakesFree n es e) → nat_eq d.label n ≡ false → record { others : List Labelled; takes : take_label n (when b (entry d) ++ free_of es) ≡ Took e.clause others }
-    inside true f k = record { others = entry d ∷ f.others; takes = rw (not_sym d.label n k) (ap (behind (entry d)) f.takes) }
-      where
-        not_sym : (a b : ℕ) → nat_eq a b ≡ false → nat_eq b a ≡ false
-        not_sym a b h = ne_eqb b a (λ q. eqb-false a b h (sym q))
+    inside true f k = record { others = entry d ∷ f.others; takes = rw (not_eq_sym d.label n k) (ap (behind (entry d)) f.takes) }
     inside false f k = record { others = f.others; takes = f.takes }
 
     step : (b : Bool) → nat_eq d.label n ≡ b → (entry_at es n ≡ Some e → is_linear e.kind ≡ false → TakesFree n es e) → (if b then Some d else entry_at es n) ≡ Some e → TakesFree n (d ∷ es) e

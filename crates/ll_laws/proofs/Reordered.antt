@@ -4,7 +4,7 @@ use Rattle.std.specs.Prelude.{filter, ◌||◌, not, if◌then◌else◌}
 use Rattle.std.specs.List.{list_any}
 use Rattle.std.proofs.lemmas.Bool.{eqb-true, eq-eqb, both_ways}
 use Rattle.std.proofs.lemmas.List.Folds.{list_any-append}
-use Rattle.ll_lists.proofs.CallerLemmas.{or_false_right as or_off_right}
+use Rattle.ll_lists.proofs.CallerLemmas.{or_false_right as or_off_right, or_exchange}
 use Rattle.ll_bank.specs.Form.{Form, Top, One, Atom, With, Tensor, Plus, Bang, Lolli, Imp, Forall, Exists, Use, instantiate, form_has_eigen, Num}
 use Rattle.ll_laws.specs.Leaf.{Premise, Needs, NeedsFree}
 use Rattle.ll_laws.specs.Module.{Setting, unfold_load}
@@ -30,11 +30,6 @@ orders_back no_clause = no_clause
 orders_back (same_first r) = same_first (orders_back r)
 orders_back exchanged = exchanged
 orders_back (both_orders r s) = both_orders (orders_back s) (orders_back r)
-
-or_exchange : (a b c : Bool) → (a || (b || c)) ≡ (b || (a || c))
-or_exchange true true c = refl
-or_exchange true false c = refl
-or_exchange false b c = refl
 
 -- a test that some clause passes
 any_same : (f : Labelled → Bool) {i j : List Labelled} → Reordered i j → list_any f i ≡ list_any f j

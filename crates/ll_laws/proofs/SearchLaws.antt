@@ -11,7 +11,11 @@ use Rattle.ll_bank.specs.Form.{Form}
 use Rattle.ll_laws.specs.Settle.{Item}
 use Rattle.ll_laws.specs.State.{State, settle}
 use Rattle.ll_laws.specs.Attempt.{successors}
-use Rattle.ll_laws.specs.Search.{answer_of, events, events_settled, events_of, cost, cost_settled, cost_of, is_reached, any_reached}
+use Rattle.ll_laws.specs.Search.{answer_of, events, events_settled, events_of, cost, cost_settled, cost_of, is_reached, any_reached, cut_count}
+
+-- a count that is cut before it goes one higher is cut to the same
+pub cut_count-suc : (n : ℕ) → cut_count (suc (cut_count n)) ≡ cut_count (suc n)
+cut_count-suc n = omega arith
 
 with_goal : (more : State → List Event) (t : State) (a : List (Item Form)) (i : Item Form) (rest : List (Item Form)) → a ≡ i ∷ rest → events_of more t a ≡ more t
 with_goal more t [] i rest e = cc

@@ -2,7 +2,7 @@
 use Rattle.std.proofs.Common.{◌≡◌, ◌⊎◌, inl, inr, ℕ, suc, refl, ap, sym, subst, ◌∙◌, Bool, true, false, List, [], ◌∷◌, ◌++◌, map, length, arith}
 use Rattle.std.specs.Prelude.{◌||◌, not, Some, option_map, is_some, slice_get}
 use Rattle.std.specs.List.{list_any}
-use Rattle.std.proofs.lemmas.Bool.{eqb-true}
+use Rattle.std.proofs.lemmas.Bool.{eqb-true, or_right}
 use Rattle.ll_lists.proofs.CallerLemmas.{and_true_right as and_right, or_false_left as or_off_left, or_false_right as or_off_right}
 use Rattle.ll_bank.specs.declared.Head.TheVariants.{Eigen}
 use Rattle.ll_bank.specs.Term.{Term, Con, is_closed}
@@ -68,11 +68,7 @@ module _ (names : ℕ) (beside : Setting) (valid : AreModules names beside.modul
     open_free x h = ap (λ b. not b || x.live) h
 
     open_live : (x : Entry Form) → x.live ≡ true → is_open x ≡ true
-    open_live x h = step (not (is_linear x.kind)) x.live h
-      where
-        step : (a b : Bool) → b ≡ true → a || b ≡ true
-        step true b h = refl
-        step false b h = h
+    open_live x h = or_right (not (is_linear x.kind)) x.live h
 
     by_free : (q : Form) (f : List Labelled) → take_label n c ≡ Took q f → q ≡ r → d ≡ e → Going → Ran beside at (suc m) d s (Atom (move to name head)) others es v
     by_free q f w y z go =

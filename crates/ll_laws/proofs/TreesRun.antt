@@ -2,9 +2,10 @@
 use Rattle.std.proofs.Common.{◌≡◌, ◌≤◌, ◌⊎◌, inl, inr, ℕ, suc, ◌+◌, refl, ap, sym, subst, ◌∙◌, Bool, true, false, List, [], ◌∷◌, ◌++◌, map, nat_eq, arith, append_assoc}
 use Rattle.std.specs.Prelude.{◌&&◌, ◌||◌, not, Some, slice_get}
 use Rattle.std.specs.List.{list_any}
-use Rattle.std.proofs.lemmas.Bool.{eqb-true, eq-eqb, ne_eqb, eqb-false, or_left as or_one, or_right as or_two}
+use Rattle.std.proofs.lemmas.Bool.{eqb-true, eq-eqb, ne_eqb, eqb-false, or_left as or_one, or_right as or_two, or_parts}
+use Rattle.std.proofs.Math.Bool.{and-false}
 use Rattle.std.proofs.Math.Bool.{or-false, or-true}
-use Rattle.ll_lists.proofs.CallerLemmas.{and_true_right as and_right, or_assoc, or_elim as or_split, or_false_left as or_off_left, or_false_right as or_off_right}
+use Rattle.ll_lists.proofs.CallerLemmas.{and_true_right as and_right, or_assoc, or_elim as or_split}
 use Rattle.ll_bank.specs.declared.Head.TheVariants.{Eigen}
 use Rattle.ll_bank.specs.Term.{Term, Con}
 use Rattle.ll_bank.specs.Form.{Form, Top, One, Atom, With, Tensor, Plus, Bang, Lolli, Imp, Forall, Exists, Use, instantiate}
@@ -109,9 +110,6 @@ apart_idle {at = at} i x e takes f g differ w l m = step (takes (at l.label)) re
 still_within : (at : ℕ → ℕ) (d : List Labelled) (es : List (Entry Form)) (x : Tree) (takes : ℕ → Bool) → Within at d (used_up x es) takes → Within at d es takes
 still_within at d es x takes w k e u f l = w k (use_entry x e) u (entry_map (use_entry x) (λ e. refl) es k e f) l
 
-or_both : (a b : Bool) → a || b ≡ false → (a ≡ false) × (b ≡ false)
-or_both a b h = (or_off_left a b h, or_off_right a b h)
-
 -- a state after a step of this kind
 abbrev pub after_step : State → Step → State
 after_step s step = record s { steps = s.steps ++ step ∷ [] }
@@ -160,7 +158,7 @@ module _ (beside : Setting) (at : ℕ → ℕ) (d : List Labelled) (s : State) (
       within = λ k e u h l. or_split (uses k a.tree) (uses k b.tree) u
           (λ w. used_more at (part p d) d k (in_part p d) (a.within k e w h l))
           (λ w. used_more at (part q d) d k (in_part q d) (still_within at (part q d) es a.tree (λ k. uses k b.tree) b.within k e w h l));
-      all = λ w l h. let z = or_both (erases a.tree) (erases b.tree) w in side l h (has p l.label) refl (has q l.label) refl (all_pass (λ l. one_of (has p l.label) (has q l.label)) d l (and_right _ _ sp) h) (z.0) (z.1);
+      all = λ w l h. let z = or_parts (erases a.tree) (erases b.tree) w in side l h (has p l.label) refl (has q l.label) refl (all_pass (λ l. one_of (has p l.label) (has q l.label)) d l (and_right _ _ sp) h) (z.0) (z.1);
       count = ap (λ z. suc (z + nodes b.tree)) a.count ∙ ap (λ z. suc (m + z)) b.count;
       numberless = or_none (numbers a.tree) (numbers b.tree) a.numberless b.numberless;
       trace = λ more run.
@@ -304,11 +302,7 @@ module _ (beside : Setting) (at : ℕ → ℕ) (d : List Labelled) (s : State) (
           old k e h u = split k e h u (among_either u.label d (added ∷ []) u.among)
 
           spent : (b : Bool) → erases a.tree ≡ b → not (uses s.label a.tree) && not (erases a.tree) ≡ false
-          spent true w = ap (λ z. not (uses s.label a.tree) && not z) w ∙ none (not (uses s.label a.tree))
-            where
-              none : (b : Bool) → b && false ≡ false
-              none true = refl
-              none false = refl
+          spent true w = ap (λ z. not (uses s.label a.tree) && not z) w ∙ and-false (not (uses s.label a.tree))
           spent false w = ap (λ z. not z && not (erases a.tree)) (ap (λ z. uses z a.tree) (sym (own_label at n s.label)) ∙ a.all w added (among_right added d (added ∷ []) (inl refl)))
 
     module _ (a : Ran beside (add_label at n s.label) m d loading g (ImpEnd ∷ others) (new_entry s false r ∷ es) v) where
@@ -431,7 +425,7 @@ module _ (beside : Setting) (at : ℕ → ℕ) (d : List Labelled) (s : State) (
       within = λ k e u h l. or_split (uses k a.tree) (uses_part k b.parts) u
           (λ w. used_more at (part p d) d k (in_part p d) (a.within k e w h l))
           (λ w. used_more at (rest p d) d k (in_rest p d) (still_within at (rest p d) es a.tree (λ k. uses_part k b.parts) b.within k e w h l));
-      all = λ w l h. let z = or_both (erases a.tree) (erases_part b.parts) w in side l h (has p l.label) refl (z.0) (z.1);
+      all = λ w l h. let z = or_parts (erases a.tree) (erases_part b.parts) w in side l h (has p l.label) refl (z.0) (z.1);
       count = ap (λ z. z + part_nodes b.parts) a.count ∙ ap (λ z. m + z) b.count;
       numberless = or_none (numbers a.tree) (numbers_part b.parts) a.numberless b.numberless;
       kinds = ap (λ z. Labels [] ∷ z) b.kinds;

@@ -11,7 +11,7 @@ use Rattle.ll_lists.proofs.CallerLemmas.{or_false_left, or_false_right, or_elim 
 use Rattle.ll_bank.specs.declared.Head.{Head}
 use Rattle.ll_bank.specs.declared.Head.TheVariants.{Name, Eigen, Bound}
 use Rattle.ll_bank.specs.Term.{Term, Var, Int, Con, Ap, sub, occurs, eigens_below, eigen_below, head_eq}
-use Rattle.ll_laws.specs.Unify.{Diff, Same, Clash, Meet, and_then, when, diff_var, diff, diff_lists, bound_to, lower, Solved, Binding, is_older, bind, bind_term, after, resolve, solve, FitsLevel, Respects, Unifies}
+use Rattle.ll_laws.specs.Unify.{vars_below, Diff, Same, Clash, Meet, and_then, when, diff_var, diff, diff_lists, bound_to, lower, Solved, Binding, is_older, bind, bind_term, after, resolve, solve, FitsLevel, Respects, Unifies}
 use Rattle.ll_laws.proofs.SubLaws.{sub_comp, sub_same}
 
 pub head_eq-true : (h k : Head) → head_eq h k ≡ true → h ≡ k
@@ -33,9 +33,19 @@ when-clash : (b : Bool) → when b ≡ Clash → b ≡ false
 when-clash true e = cc
 when-clash false e = refl
 
-when-meet : (b : Bool) (x : ℕ) (t : Term) → when b ≡ Meet x t → ⊥
+pub when-meet : (b : Bool) (x : ℕ) (t : Term) → when b ≡ Meet x t → ⊥
 when-meet true x t e = cc
 when-meet false x t e = cc
+
+-- what stands for a variable of a term has variables below a number where the whole has
+pub vars_below-part : (n x : ℕ) (s : ℕ → Term) (t : Term) → vars_below n (sub s t) ≡ true → occurs x t ≡ true → vars_below n (s x) ≡ true
+vars_below-part n x s (Var y) b o = subst (λ z. vars_below n (s z) ≡ true) (sym (eqb-true x y o)) b
+vars_below-part n x s (Int z) b o = cc
+vars_below-part n x s (Con h) b o = cc
+vars_below-part n x s (Ap f a) b o =
+    or_cases (occurs x f) (occurs x a) o
+    (vars_below-part n x s f (and_left (vars_below n (sub s f)) (vars_below n (sub s a)) b))
+    (vars_below-part n x s a (and_right (vars_below n (sub s f)) (vars_below n (sub s a)) b))
 
 -- two that agree where they first differ nowhere
 and-same-left : (d e : Diff) → and_then d e ≡ Same → d ≡ Same

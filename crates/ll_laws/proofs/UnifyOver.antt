@@ -8,7 +8,7 @@ use Rattle.ll_bank.specs.Term.{Term, Var, Int, Con, Ap, sub, occurs, eigens_belo
 use Rattle.ll_laws.specs.Unify.{Diff, Same, Clash, Meet, diff_lists, bound_to, lower, Solved, Binding, is_older, bind, bind_term, after, resolve, solve, IsOver}
 use Rattle.ll_laws.proofs.UnifyLaws.{begins, bound_list, lower-le, solve-unifies, solve-respects, AllAmongLists, agreed, MeetIn, meet-lists, without, bound-among-lists, forced-lists, Forced}
 
-length-lower : (l : ℕ) (t : Term) (levels : List ℕ) → length (lower l t levels) ≡ length levels
+pub length-lower : (l : ℕ) (t : Term) (levels : List ℕ) → length (lower l t levels) ≡ length levels
 length-lower l (Var x) levels = length-set levels x (min (slice_index levels x) l)
 length-lower l (Int z) levels = refl
 length-lower l (Con h) levels = refl

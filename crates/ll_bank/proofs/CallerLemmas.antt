@@ -168,6 +168,10 @@ pub use Rattle.ll_bank.proofs.WalkLemmas.{zero_unless}
 pub use Rattle.ll_bank.proofs.ImageLemmas.{image_here}
 -- an entry into a map leaves the images of other places
 pub use Rattle.ll_bank.proofs.ImageLemmas.{image_there}
+-- ---- lists that pass a test
+
+-- lists whose items pass a test that tells that they are the same
+pub use Rattle.ll_bank.proofs.SameLemmas.{same_list}
 -- ---- texts and their numbers
 
 -- a text of a list without doubles has its place as its number

@@ -1,5 +1,5 @@
 //! Terms and formulas, each at a place.
-ghost use Rattle.std.specs.Prelude.{◌≡◌, ◌<◌, length, Some, IfOk, OnOk, OnErr, All, slice_get};
+ghost use Rattle.std.specs.Prelude.{◌≡◌, ◌<◌, length, Some, IfOk, OnOk, OnErr, IsTrue, All, slice_get};
 ghost use Rattle.ll_bank.specs.Term.{Var as VarTerm, Int as IntTerm, app as app_term, term_depth};
 ghost use Rattle.ll_bank.specs.Nodes.{no_nodes, VarNode, IntNode, AppNode, places, node_of_term, node_of, with_term, with_form, term_tree, term_trees, form_of, HasTerm, HasForm, AllInTerms, HasParts, ShowsTerm, ShowsForm, Extends, IsTermView, IsFormView, IsTermBelow, size_of, HasSize, IsCutTo};
 ghost use Rattle.ll_bank.specs.Kept.{depth_over};
@@ -140,6 +140,13 @@ impl Bank {
     {
         let flat = self.flat.image(size)?;
         Ok(Bank { flat })
+    }
+
+    /// Whether the other bank has the same nodes at the same places. Numbers of nodes are compared first, and it takes no memory.
+    pub fn is_same(&self, other: &Bank) -> bool
+        ensures { IsTrue result → self.now ≡ other.now }
+    {
+        self.flat.is_same(&other.flat)
     }
 
     /// The term that the node builds. After a refusal the bank is as before.

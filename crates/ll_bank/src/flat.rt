@@ -1,5 +1,5 @@
 //! Nodes of terms and formulas in flat vectors.
-ghost use Rattle.std.specs.Prelude.{◌≡◌, ◌<◌, [], ◌∷◌, ◌++◌, length, Some, IfOk, OnOk, OnErr, slice_get, slice_index};
+ghost use Rattle.std.specs.Prelude.{◌≡◌, ◌<◌, [], ◌∷◌, ◌++◌, length, Some, IfOk, OnOk, OnErr, IsTrue, slice_get, slice_index};
 ghost use Rattle.ll_bank.specs.Nodes.{VarNode, IntNode, AppNode, places, node_of_term, node_of, with_term, size_of, front};
 ghost use Rattle.ll_bank.specs.Kept.{no_deep, deep_term, deep_form, deep_front};
 ghost use Rattle.ll_bank.specs.Storage.{IsTermStored, IsFormStored, term_node, form_node, stored_term_depth, span_from, stored_as, load_arguments_of};
@@ -10,14 +10,14 @@ use std::alloc::{AllocError, Global};
 use std::marker::Model;
 
 /// A range of the children that all nodes of a kind share.
-#[derive(Clone, Copy)]
+#[derive(Clone, Copy, PartialEq, Eq)]
 struct Span {
     from: u32,
     to: u32,
 }
 
 /// A term's node. With arguments it has the term's depth beside them.
-#[derive(Clone, Copy)]
+#[derive(Clone, Copy, PartialEq, Eq)]
 enum StoredTerm {
     Var(u64),
     Int(i64),
@@ -25,7 +25,7 @@ enum StoredTerm {
 }
 
 /// A formula's node.
-#[derive(Clone, Copy)]
+#[derive(Clone, Copy, PartialEq, Eq)]
 enum StoredForm {
     Top,
     One,
@@ -209,6 +209,38 @@ impl Flat {
             load_arguments,
         })
     }
+
+    /// Whether other nodes are the same: as many, and each the same at its place, with the same depth.
+    pub(crate) fn is_same(&self, other: &Flat) -> bool
+        ensures { IsTrue result → self.now ≡ other.now }
+    {
+        self.size() == other.size()
+            && are_same_terms(&self.terms, &other.terms)
+            && are_same_forms(&self.forms, &other.forms)
+            && are_same_children(&self.arguments, &other.arguments)
+            && are_same_children(&self.load_arguments, &other.load_arguments)
+    }
+}
+
+/// Whether stored terms are the same.
+fn are_same_terms(terms: &[StoredTerm], others: &[StoredTerm]) -> bool
+    ensures { IsTrue result → terms.now ≡ others.now }
+{
+    terms == others
+}
+
+/// Whether stored formulas are the same.
+fn are_same_forms(forms: &[StoredForm], others: &[StoredForm]) -> bool
+    ensures { IsTrue result → forms.now ≡ others.now }
+{
+    forms == others
+}
+
+/// Whether children are the same places.
+fn are_same_children(children: &[At], others: &[At]) -> bool
+    ensures { IsTrue result → children.now ≡ others.now }
+{
+    children == others
 }
 
 /// A number as 32 bits hold it. What they do not hold is want of memory.

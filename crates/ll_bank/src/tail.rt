@@ -1,5 +1,5 @@
 //! The nodes between two sizes of a bank, which another bank can take over.
-ghost use Rattle.std.specs.Prelude.{◌≡◌, ℕ, ◌+◌, ◌<◌, ◌≤◌, length, take, drop, IfOk, OnOk, slice_index_or};
+ghost use Rattle.std.specs.Prelude.{◌≡◌, ℕ, ◌+◌, ◌<◌, ◌≤◌, length, take, drop, IfOk, OnOk, IsTrue, slice_index_or};
 ghost use Rattle.ll_bank.specs.Nodes.{Nodes, TermNode, FormulaNode, IsTermBelow, IsFormBelow, Extends, size_of, HasSize, IsNotPast};
 ghost use Rattle.ll_bank.specs.Tail.{IsTailOf, with_nodes, with_terms, with_forms, IsBuilt, SameTrees};
 
@@ -23,6 +23,24 @@ impl Model for BankTail {
     ghost view = { λ tail. record { from = tail.from; to = tail.to; nodes = tail.flat.nodes } };
 
     ghost invariant = { λ tail. IsBehind (record { from = tail.from; to = tail.to; nodes = tail.flat.nodes }) };
+}
+
+impl BankTail {
+    /// Whether the other tail has the same nodes between the same sizes. The sizes are compared first, and it takes no memory.
+    pub fn is_same(&self, other: &BankTail) -> bool
+        ensures { IsTrue result → self.now ≡ other.now }
+    {
+        is_same_size(self.from, other.from)
+            && is_same_size(self.to, other.to)
+            && self.flat.is_same(&other.flat)
+    }
+}
+
+/// Whether two sizes are the same.
+fn is_same_size(size: BankSize, other: BankSize) -> bool
+    ensures { IsTrue result → size ≡ other }
+{
+    size == other
 }
 
 impl Bank {

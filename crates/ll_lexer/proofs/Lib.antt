@@ -7,6 +7,6 @@ pub mod Turns
 pub mod OneReading
 pub mod Listed
 pub mod Ascii
-pub mod Few
+pub mod FewTokens
 pub mod ReadBack
 pub mod CallerLemmas

@@ -1,5 +1,5 @@
-use Rattle.ll_laws.proofs.ConsistentStates.{starts_consistent, settles_consistent}
-use Rattle.ll_laws.proofs.ConsistentSteps.{steps_consistent}
+use Rattle.ll_laws.proofs.consistency.ConsistentStates.{starts_consistent, settles_consistent}
+use Rattle.ll_laws.proofs.consistency.ConsistentSteps.{steps_consistent}
 use Rattle.ll_laws.proofs.consistent_states.Goals as goal
 
 pub returns-clause-start : goal.returns-clause-start

@@ -1,4 +1,4 @@
-use Rattle.ll_laws.proofs.Lines.{no-fault-shows, shown-no-fault}
+use Rattle.ll_laws.proofs.derivations.Lines.{no-fault-shows, shown-no-fault}
 use Rattle.ll_laws.proofs.faults_are_exact.Goals as goal
 
 pub returns-clause-faultless : goal.returns-clause-faultless

@@ -1,4 +1,4 @@
-use Rattle.ll_laws.proofs.DealtShown.{runs-shown}
+use Rattle.ll_laws.proofs.derivations.DealtShown.{runs-shown}
 use Rattle.ll_laws.proofs.runs_are_shown.Goals as goal
 
 pub returns : goal.returns

@@ -1,4 +1,4 @@
-use Rattle.ll_laws.proofs.SearchLaws.{events_none, cost_none, events_answer, cost_answer, events_reached, cost_zero, events_step, cost_step}
+use Rattle.ll_laws.proofs.search.SearchLaws.{events_none, cost_none, events_answer, cost_answer, events_reached, cost_zero, events_step, cost_step}
 use Rattle.ll_laws.proofs.search_unfolds.Goals as goal
 
 pub returns-clause-stuck : goal.returns-clause-stuck

@@ -1,4 +1,4 @@
-use Rattle.ll_laws.proofs.SettleLaws.{settle_twice, settle-sub}
+use Rattle.ll_laws.proofs.search.SettleLaws.{settle_twice, settle-sub}
 use Rattle.ll_laws.proofs.settling.Goals as goal
 
 pub returns-clause-once : goal.returns-clause-once

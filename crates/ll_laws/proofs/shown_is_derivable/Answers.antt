@@ -1,5 +1,5 @@
-use Rattle.ll_laws.proofs.DeriveLaw.{derive}
-use Rattle.ll_laws.proofs.Lines.{shown-derivable}
+use Rattle.ll_laws.proofs.derivations.DeriveLaw.{derive}
+use Rattle.ll_laws.proofs.derivations.Lines.{shown-derivable}
 use Rattle.ll_laws.proofs.shown_is_derivable.Goals as goal
 
 pub returns-clause-tree : goal.returns-clause-tree

@@ -1,4 +1,4 @@
-use Rattle.ll_laws.proofs.SearchLaws.{events_steady, cost_steady}
+use Rattle.ll_laws.proofs.search.SearchLaws.{events_steady, cost_steady}
 use Rattle.ll_laws.proofs.steady_search.Goals as goal
 
 pub returns : goal.returns

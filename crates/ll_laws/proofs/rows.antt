@@ -1,0 +1,6 @@
+-- Worked examples, computed.
+pub mod CheckerRows
+pub mod CompletenessRows
+pub mod DealtRows
+pub mod NumberRows
+pub mod Rows

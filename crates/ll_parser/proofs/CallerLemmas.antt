@@ -28,6 +28,8 @@ pub use Rattle.ll_parser.proofs.Printable.{IsLower}
 pub use Rattle.ll_parser.proofs.Printable.{IsUpper}
 -- a name or a variable that can stand in a text
 pub use Rattle.ll_parser.proofs.Printable.{IsWord}
+-- a word is spelled as a name or as a variable
+pub use Rattle.ll_parser.proofs.Printable.{word_spells}
 -- a term that can stand in a text
 pub use Rattle.ll_parser.proofs.Printable.{IsTerm}
 -- terms that can stand in a text

@@ -11,7 +11,7 @@ use Rattle.ll_lexer.specs.declared.TokenKind.{TokenKind}
 use Rattle.ll_lexer.specs.declared.TokenKind.TheVariants as kind
 use Rattle.ll_lexer.specs.Spelling.{is_digit, is_word_byte, fixed_spellings, kind_of, Spells, IsLongest}
 use Rattle.ll_lexer.specs.Reading.{is_blank, place_at, IsGap, blank, past_64_bits, long_name, long_variable, IsSound, number_value, End, Lexes, gap, token, token_at}
-use Rattle.ll_lexer.proofs.CallerLemmas.{goes_on, Ends, spelled-read}
+use Rattle.ll_lexer.proofs.CallerLemmas.{goes_on, Ends, spelled-read, sound-name, sound-variable}
 use Rattle.ll_parser.specs.Tokens.{Identifier, Tok, name, variable, number, tok_by, tok_of}
 use Rattle.ll_parser.specs.Bare.{nowhere, bare_tok}
 use Rattle.ll_parser.proofs.NumberText.{spelled-number, value-number}
@@ -98,16 +98,10 @@ token-piece P k w t s f b ends = record { read = λ text i rest h p ts e x. read
 -- ---- names and numbers
 
 pub name-piece : (n : Identifier) → Spells kind.Name n.text × (length n.text ≤ 255) → Piece Safe n.text (name n ∷ [])
-name-piece n h = token-piece Safe kind.Name n.text (name n) h.0 (sound n.text h.1) (λ at. refl) (λ rest p. p)
-  where
-    sound : (w : List ℕ) → length w ≤ 255 → IsSound kind.Name w
-    sound w le flaw (long_name gt) = omega arith
+name-piece n h = token-piece Safe kind.Name n.text (name n) h.0 (sound-name n.text h.1) (λ at. refl) (λ rest p. p)
 
 pub variable-piece : (n : Identifier) → Spells kind.Variable n.text × (length n.text ≤ 255) → Piece Safe n.text (variable n ∷ [])
-variable-piece n h = token-piece Safe kind.Variable n.text (variable n) h.0 (sound n.text h.1) (λ at. refl) (λ rest p. p)
-  where
-    sound : (w : List ℕ) → length w ≤ 255 → IsSound kind.Variable w
-    sound w le flaw (long_variable gt) = omega arith
+variable-piece n h = token-piece Safe kind.Variable n.text (variable n) h.0 (sound-variable n.text h.1) (λ at. refl) (λ rest p. p)
 
 digit-of-word : (b : ℕ) → is_word_byte b ≡ false → is_digit b ≡ false
 unfolding is_word_byte is_digit

@@ -1,5 +1,5 @@
 -- The text of a whole number of 64 bits is spelled as a number, and this number is its value.
-use Rattle.std.proofs.Common.{◌≡◌, ℕ, suc, ◌+◌, ◌<◌, ◌≤◌, ◌^◌, ℤ, pos, negsuc, neg_ℤ, true, false, ◌==◌, List, [], ◌∷◌, length, decimal, FitsSigned, refl, ◌∙◌, ap, subst, arith, rules}
+use Rattle.std.proofs.Common.{◌≡◌, ℕ, suc, ◌+◌, ◌<◌, ◌≤◌, ◌^◌, ℤ, pos, negsuc, neg_ℤ, true, false, ◌==◌, List, [], ◌∷◌, length, decimal, FitsSigned, refl, ◌∙◌, ap, subst, arith}
 use Rattle.std.specs.Int.{w64}
 use Rattle.std.specs.List.{list_all, prefix_len}
 use Rattle.std.specs.Fmt.{signed_decimal}
@@ -7,19 +7,11 @@ use Rattle.std.specs.Str.Parse.{digits_value}
 use Rattle.std.proofs.lemmas.Bool.Decides.{nat_tests}
 use Rattle.std.proofs.lemmas.Fmt.{digits_decimal, digits_value-decimal, decimal_nonempty}
 use Rattle.std.proofs.lemmas.List.{take_all}
-use Rattle.std.proofs.lemmas.Str.Parse.{IsDigitsTest, IsNumeralModel, numerals_by_value}
 use Rattle.ll_lists.proofs.CallerLemmas.{and_true_both as both}
 use Rattle.ll_lexer.specs.declared.TokenKind.TheVariants as kind
 use Rattle.ll_lexer.specs.Spelling.{is_digit, Spells}
 use Rattle.ll_lexer.specs.Reading.{number_value}
-use Rattle.ll_lexer.proofs.CallerLemmas.{number-longest, negative-longest}
-
-tests-digits : IsDigitsTest (λ ds. list_all is_digit ds ≡ true)
-unfolding is_digit
-tests-digits = search rules
-
-own : IsNumeralModel (λ ds. list_all is_digit ds ≡ true) (digits_value 10)
-own = numerals_by_value (λ ds. list_all is_digit ds ≡ true) tests-digits
+use Rattle.ll_lexer.proofs.CallerLemmas.{number-longest, negative-longest, digits-model, digit-no_plus}
 
 fits-pos : (n : ℕ) → FitsSigned w64 (pos n) → n < 2 ^ 64
 fits-pos n h = let k = h.sfits in omega arith
@@ -52,10 +44,6 @@ digit-no_minus : (b : ℕ) → is_digit b ≡ true → (b == 45) ≡ false
 unfolding is_digit
 digit-no_minus b h = grind (arith, nat_tests)
 
-digit-no_plus : (b : ℕ) → is_digit b ≡ true → (b == 43) ≡ false
-unfolding is_digit
-digit-no_plus b h = grind (arith, nat_tests)
-
 digits-number : (ds : List ℕ) → 0 < length ds → list_all is_digit ds ≡ true → number_value ds ≡ pos (digits_value 10 ds)
 digits-number [] n h = absurd (omega arith)
 digits-number (d ∷ ds) n h =
@@ -63,9 +51,9 @@ digits-number (d ∷ ds) n h =
     rw (digit-no_minus d g.0, digit-no_plus d g.0) refl
 
 pub spelled-number : (z : ℤ) → FitsSigned w64 z → Spells kind.Number (signed_decimal z)
-spelled-number (pos n) h = digits-spelled (decimal n) (decimal_nonempty n (fits-pos n h)) (digits_decimal own n (fits-pos n h))
-spelled-number (negsuc n) h = negative-spelled (decimal (suc n)) (decimal_nonempty (suc n) (fits-neg n h)) (digits_decimal own (suc n) (fits-neg n h))
+spelled-number (pos n) h = digits-spelled (decimal n) (decimal_nonempty n (fits-pos n h)) (digits_decimal digits-model n (fits-pos n h))
+spelled-number (negsuc n) h = negative-spelled (decimal (suc n)) (decimal_nonempty (suc n) (fits-neg n h)) (digits_decimal digits-model (suc n) (fits-neg n h))
 
 pub value-number : (z : ℤ) → FitsSigned w64 z → number_value (signed_decimal z) ≡ z
-value-number (pos n) h = digits-number (decimal n) (decimal_nonempty n (fits-pos n h)) (digits_decimal own n (fits-pos n h)) ∙ ap pos (digits_value-decimal own n (fits-pos n h))
-value-number (negsuc n) h = ap (λ m. let z : ℤ = neg_ℤ (pos m) in z) (digits_value-decimal own (suc n) (fits-neg n h))
+value-number (pos n) h = digits-number (decimal n) (decimal_nonempty n (fits-pos n h)) (digits_decimal digits-model n (fits-pos n h)) ∙ ap pos (digits_value-decimal digits-model n (fits-pos n h))
+value-number (negsuc n) h = ap (λ m. let z : ℤ = neg_ℤ (pos m) in z) (digits_value-decimal digits-model (suc n) (fits-neg n h))

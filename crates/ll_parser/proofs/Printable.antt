@@ -84,16 +84,17 @@ unfolding kind_of fixed_spellings
 cons-no-word (inl h) = cc
 cons-no-word (inr h) = cc
 
+-- a word is spelled as a name or as a variable
+pub word_spells : (n : Identifier) → IsWord n → Spells kind.Name n.text ⊎ Spells kind.Variable n.text
+word_spells n (inl s) = inl s.0
+word_spells n (inr s) = inr s.0
+
 -- a word is not the sign `::`
 pub word-no-cons : (n : Identifier) → IsWord n → is_cons n.text ≡ false
 word-no-cons n h = by_test (is_cons n.text) refl
   where
-    spelled : IsWord n → Spells kind.Name n.text ⊎ Spells kind.Variable n.text
-    spelled (inl s) = inl s.0
-    spelled (inr s) = inr s.0
-
     by_test : (v : Bool) → is_cons n.text ≡ v → v ≡ false
-    by_test true e = absurd (cons-no-word (subst (λ w. Spells kind.Name w ⊎ Spells kind.Variable w) (sym ((bytes_eq-Decides (codes "::") n.text).0 e)) (spelled h)))
+    by_test true e = absurd (cons-no-word (subst (λ w. Spells kind.Name w ⊎ Spells kind.Variable w) (sym ((bytes_eq-Decides (codes "::") n.text).0 e)) (word_spells n h)))
     by_test false e = refl
 
 -- ---- what is read of tokens that can stand in a text

@@ -2,7 +2,7 @@
 use Rattle.std.proofs.Common.{◌≡◌, ℕ, Bool, true, false, not, ◌||◌, ◌==◌, List, [], ◌∷◌, codes, inl, inr, refl, sym, subst, arith, ◌++◌}
 use Rattle.std.specs.List.{list_all}
 use Rattle.std.proofs.lemmas.Bool.Decides.{nat_tests}
-use Rattle.ll_lists.proofs.CallerLemmas.{and_true_both as both}
+use Rattle.ll_lists.proofs.CallerLemmas.{and_true_both as both, false_from_not}
 use Rattle.ll_lexer.specs.declared.TokenKind.{TokenKind}
 use Rattle.ll_lexer.specs.declared.TokenKind.TheVariants as kind
 use Rattle.ll_lexer.specs.Spelling.{is_lower, is_upper, is_word_byte, is_name, is_variable, fixed_spellings, Spells}
@@ -46,11 +46,7 @@ variable-no-name (b ∷ c ∷ bs) e = rw (bar-no-lower b (both (is_upper b || b 
 
 variable-shape : (w : List ℕ) → Spells kind.Variable w → is_name w ≡ false
 unfolding fixed_spellings
-variable-shape w s = turned (is_name w) (kind-passes variable_test w kind.Variable refl record { names = λ v e. refl; variables = variable-no-name; numbers = λ v e. refl } s)
-  where
-    turned : (b : Bool) → not b ≡ true → b ≡ false
-    turned true e = absurd cc
-    turned false e = refl
+variable-shape w s = false_from_not (is_name w) (kind-passes variable_test w kind.Variable refl record { names = λ v e. refl; variables = variable-no-name; numbers = λ v e. refl } s)
 
 -- a Name is printed as a Name
 pub lower-printed : (n : Identifier) → IsLower n → word_of n ≡ lower n

@@ -1,10 +1,9 @@
 -- The parts of terms and formulas that are closed: they lie lower, are smaller together, and are good where the whole is.
 use Rattle.std.proofs.Common.{◌≡◌, ℕ, suc, ◌+◌, ◌<◌, true, List, [], ◌∷◌, length, map, All, get_or, refl, ap, sym, subst, ◌∙◌, arith, Some}
-use Rattle.std.specs.Prelude.{◌&&◌, sum_by, slice_get}
+use Rattle.std.specs.Prelude.{◌&&◌, slice_get}
 use Rattle.std.specs.List.{list_all}
 use Rattle.std.proofs.lemmas.Bool.{and_parts}
 use Rattle.std.proofs.lemmas.List.Elements.{All-cons, All-head, All-tail, All-map}
-use Rattle.std.proofs.lemmas.List.Sums.{sum_by-cons}
 use Rattle.ll_bank.specs.declared.At.{At}
 use Rattle.ll_bank.specs.declared.FormAt.{FormAt}
 use Rattle.ll_bank.specs.declared.Head.{Head}
@@ -12,25 +11,16 @@ use Rattle.ll_bank.specs.declared.TermView.{TermView}
 use Rattle.ll_bank.specs.declared.TermView.TheVariants.{Var as VarView, Int as IntView, App as AppView}
 use Rattle.ll_bank.specs.declared.FormNode.{FormNode}
 use Rattle.ll_bank.specs.declared.FormNode.TheVariants.{Top as TopView, One as OneView, Atom as AtomView, With as WithView, Tensor as TensorView, Plus as PlusView, Bang as BangView, Lolli as LolliView, Imp as ImpView, Forall as ForallView, Exists as ExistsView, Use as UseView, Is as IsView, Less as LessView, Most as MostView}
-use Rattle.ll_bank.specs.Term.{Term, Con, Ap, Env, apply, close, close_head, applies_heads}
+use Rattle.ll_bank.specs.Term.{Con, Env, close, close_head, applies_heads}
 use Rattle.ll_bank.specs.Form.{close_form, form_applies_heads}
 use Rattle.ll_bank.specs.Nodes.{Nodes, FormulaNode, ShowsForm, AppNode, AllInTerms, places, node_of_term, node_of, term_tree, form_tree, term_trees, form_of, HasTerm, HasForm, HasPartsBelow, IsTermView, IsFormView, Extends}
 use Rattle.ll_bank.specs.Opened.{Spot, term_parts, form_parts, ArePartsOf, term_size, form_size, term_size_at, form_size_at, term_parts_at, form_parts_at}
-use Rattle.ll_bank.proofs.CallerLemmas.{HasTerm-extends, HasForm-extends, term_tree-extends, form_tree-extends, node_seen, below_places, close-apply, heads_args, form_node_seen, term_parts_same, form_parts_same}
+use Rattle.ll_bank.proofs.CallerLemmas.{HasTerm-extends, HasForm-extends, term_tree-extends, form_tree-extends, node_seen, below_places, close-apply, heads_args, form_node_seen, term_parts_same, form_parts_same, term_size-apply, sizes_of_args, no_parts, one_part, two_parts, sum_same, HasTerm-below, HasForm-below}
 use Rattle.ll_close.specs.Closing.{under, IsGoodTerm, IsGoodForm, IsTermImage, IsFormImage}
 use Rattle.ll_close.specs.Stacks.{AreImagesOf}
 use Rattle.ll_close.proofs.Stacks.{images_one, images_two}
 
-term_size-apply : (f : Term) (ts : List Term) → term_size (apply f ts) ≡ term_size f + sum_by term_size ts
-term_size-apply f [] = omega arith
-term_size-apply f (t ∷ ts) = let e = term_size-apply (Ap f t) ts in let g = sum_by-cons term_size t ts in omega arith
-
--- the arguments of a term as parts
-sizes_of_args : (bank : Nodes) (n : ℕ) (args : List At) → sum_by (term_size_at bank) (map (λ (a : ℕ). let k : Spot = (a, n) in k) (places args)) ≡ sum_by term_size (term_trees bank args)
-sizes_of_args bank n [] = refl
-sizes_of_args bank n (a ∷ args) =
-    sum_by-cons (term_size_at bank) (a.0, n) (map (λ (b : ℕ). let k : Spot = (b, n) in k) (places args))
-    ∙ (ap (λ m. term_size (term_tree bank a.0) + m) (sizes_of_args bank n args) ∙ sym (sum_by-cons term_size (term_tree bank a.0) (term_trees bank args)))
+-- ---- terms and their parts
 
 args_good : (bank : Nodes) (t : Env) (n at : ℕ) (args : List At) → HasTerm bank at → All (λ (a : At). a.0 < at) args → All (λ u. applies_heads u ≡ true) (map (close (under t n)) (term_trees bank args))
     → All (IsGoodTerm bank t) (map (λ (a : ℕ). let k : Spot = (a, n) in k) (places args))
@@ -57,15 +47,6 @@ term_parts_small bank at n view e v = subst (λ node. ArePartsOf (term_size_at b
     }
 
 -- ---- formulas and their parts
-
-one_part : (at n f m : ℕ) → f < at → All (λ (p : Spot). p.0 < at) ((f, m) ∷ [])
-one_part at n f m l = All-cons (λ (p : Spot). p.0 < at) (f, m) [] l (λ j d k. absurd (omega arith))
-
-two_parts : (at n f g m : ℕ) → f < at → g < at → All (λ (p : Spot). p.0 < at) ((f, m) ∷ (g, m) ∷ [])
-two_parts at n f g m l k = All-cons (λ (p : Spot). p.0 < at) (f, m) ((g, m) ∷ []) l (one_part at n g m k)
-
-no_parts : (at : ℕ) → All (λ (p : Spot). p.0 < at) []
-no_parts at = λ j d k. absurd (omega arith)
 
 one_good : (bank : Nodes) (w : Env × ℕ) (at n f : ℕ) → f < at → IsGoodForm bank w (at, n) → form_applies_heads (close_form (under w.0 n) (form_tree bank f)) ≡ true
     → All (IsGoodForm bank w) ((f, n) ∷ [])
@@ -111,11 +92,6 @@ form_parts_small bank at n view e v = subst (λ node. ArePartsOf (form_size_at b
 
 -- ---- a bank that grows
 
-sum_same : (f g : Spot → ℕ) (ps : List Spot) → All (λ p. f p ≡ g p) ps → sum_by f ps ≡ sum_by g ps
-sum_same f g [] h = refl
-sum_same f g (p ∷ ps) h =
-    let e = sum_by-cons f p ps in let e' = sum_by-cons g p ps in let a = All-head (λ q. f q ≡ g q) p ps h in let b = sum_same f g ps (All-tail (λ q. f q ≡ g q) p ps h) in omega arith
-
 module _ (first now : Nodes) (e : Extends first now) where
   pub term_good_now : (t : Env) (k : Spot) → IsGoodTerm first t k → IsGoodTerm now t k
   term_good_now t k g = (HasTerm-extends e k.0 g.0, ap (λ u. applies_heads (close (under t k.1) u)) (term_tree-extends e k.0 g.0) ∙ g.1)
@@ -131,17 +107,14 @@ module _ (first now : Nodes) (e : Extends first now) where
   pub term_parts_first : (k : Spot) → HasTerm first k.0 → ArePartsOf (term_size_at now) (IsGoodTerm now) k (term_parts_at now k) → ArePartsOf (term_size_at first) (IsGoodTerm first) k (term_parts_at first k)
   term_parts_first k h p = back (subst (ArePartsOf (term_size_at now) (IsGoodTerm now) k) (term_parts_same first now e k h) p)
     where
-      inside : (q : Spot) → q.0 < k.0 → HasTerm first q.0
-      inside q l = omega arith
-
       back : ArePartsOf (term_size_at now) (IsGoodTerm now) k (term_parts_at first k) → ArePartsOf (term_size_at first) (IsGoodTerm first) k (term_parts_at first k)
       back p = record {
         lower = p.lower;
         smaller =
-            let s = sum_same (term_size_at now) (term_size_at first) (term_parts_at first k) (λ j d l. ap term_size (term_tree-extends e (get_or (term_parts_at first k) j d).0 (inside (get_or (term_parts_at first k) j d) (p.lower j d l)))) in
+            let s = sum_same (term_size_at now) (term_size_at first) (term_parts_at first k) (λ j d l. ap term_size (term_tree-extends e (get_or (term_parts_at first k) j d).0 (HasTerm-below first k.0 (get_or (term_parts_at first k) j d).0 h (p.lower j d l)))) in
             let z = ap term_size (term_tree-extends e k.0 h) in let m = p.smaller in omega arith;
         still_good = λ t g j d l.
-            let i = inside (get_or (term_parts_at first k) j d) (p.lower j d l) in
+            let i = HasTerm-below first k.0 (get_or (term_parts_at first k) j d).0 h (p.lower j d l) in
             (i, sym (ap (λ u. applies_heads (close (under t (get_or (term_parts_at first k) j d).1) u)) (term_tree-extends e (get_or (term_parts_at first k) j d).0 i)) ∙ (p.still_good t (term_good_now t k g) j d l).1);
       }
 
@@ -149,17 +122,14 @@ module _ (first now : Nodes) (e : Extends first now) where
   pub form_parts_first : (k : Spot) → HasForm first k.0 → ArePartsOf (form_size_at now) (IsGoodForm now) k (form_parts_at now k) → ArePartsOf (form_size_at first) (IsGoodForm first) k (form_parts_at first k)
   form_parts_first k h p = back (subst (ArePartsOf (form_size_at now) (IsGoodForm now) k) (form_parts_same first now e k h) p)
     where
-      inside : (q : Spot) → q.0 < k.0 → HasForm first q.0
-      inside q l = omega arith
-
       back : ArePartsOf (form_size_at now) (IsGoodForm now) k (form_parts_at first k) → ArePartsOf (form_size_at first) (IsGoodForm first) k (form_parts_at first k)
       back p = record {
         lower = p.lower;
         smaller =
-            let s = sum_same (form_size_at now) (form_size_at first) (form_parts_at first k) (λ j d l. ap form_size (form_tree-extends e (get_or (form_parts_at first k) j d).0 (inside (get_or (form_parts_at first k) j d) (p.lower j d l)))) in
+            let s = sum_same (form_size_at now) (form_size_at first) (form_parts_at first k) (λ j d l. ap form_size (form_tree-extends e (get_or (form_parts_at first k) j d).0 (HasForm-below first k.0 (get_or (form_parts_at first k) j d).0 h (p.lower j d l)))) in
             let z = ap form_size (form_tree-extends e k.0 h) in let m = p.smaller in omega arith;
         still_good = λ w g j d l.
-            let i = inside (get_or (form_parts_at first k) j d) (p.lower j d l) in let q = p.still_good w (form_good_now w k g) j d l in
+            let i = HasForm-below first k.0 (get_or (form_parts_at first k) j d).0 h (p.lower j d l) in let q = p.still_good w (form_good_now w k g) j d l in
             record {
               inside = i;
               heads = sym (ap (λ u. form_applies_heads (close_form (under w.0 (get_or (form_parts_at first k) j d).1) u)) (form_tree-extends e (get_or (form_parts_at first k) j d).0 i)) ∙ q.heads;

@@ -1,11 +1,10 @@
 -- How the root gets its image: the stack of tasks, and the stack of images that were made.
 use Rattle.std.proofs.Common.{◌≡◌, ℕ, zero, suc, get_or, drop, ◌+◌, ◌-◌, ◌<◌, Bool, true, false, List, [], ◌∷◌, ◌++◌, length, map, All, take, refl, ap, sym, subst, ◌∙◌, arith, true≢false, append_assoc, length-append}
 use Rattle.std.specs.Prelude.{reverse, sum_by, if◌then◌else◌}
-use Rattle.std.proofs.lemmas.List.{append-nil, reverse-append, take_all}
+use Rattle.std.proofs.lemmas.List.{append-nil, reverse-append, take_all, drop_all}
 use Rattle.std.proofs.lemmas.List.Elements.{All-head, All-tail}
 use Rattle.std.proofs.lemmas.List.Sums.{sum_by-cons}
 use Rattle.ll_bank.specs.declared.At.{At}
-use Rattle.ll_bank.specs.Nodes.{places}
 use Rattle.ll_bank.specs.Opened.{Spot}
 use Rattle.ll_close.specs.declared.stack.Task.{Task}
 use Rattle.ll_close.specs.Stacks.{spot_of, visit, ready, AreImagesOf, EndsWith, LeadsTo, IsClosing, work_left}
@@ -64,23 +63,14 @@ reversed items tasks task e = ap reverse e ∙ reverse-append tasks (task ∷ []
 pub pushed : (parts parts' : List Spot) (old now next : List Task) (r : Task) → parts ≡ parts' → now ≡ old ++ r ∷ [] → reverse next ≡ map visit parts' ++ reverse now → reverse next ≡ map visit parts ++ r ∷ reverse old
 pushed parts parts' old now next r p e f = f ∙ (ap (λ z. map visit parts' ++ z) (reversed now old r e) ∙ ap (λ z. map visit z ++ r ∷ reverse old) (sym p))
 
--- arguments as parts, and as places
-pub visits_args : (n : ℕ) (args : List At) → map (λ (a : At). visit (a.0, n)) args ≡ map visit (map (λ (a : ℕ). let k : Spot = (a, n) in k) (places args))
-visits_args n [] = refl
-visits_args n (a ∷ args) = ap (λ xs. visit (a.0, n) ∷ xs) (visits_args n args)
-
 -- the arguments from one on
 drop_at : (xs : List At) (k : ℕ) (d : At) → k < length xs → drop k xs ≡ get_or xs k d ∷ drop (suc k) xs
 drop_at [] k d l = absurd (omega arith)
 drop_at (x ∷ xs) zero d l = refl
 drop_at (x ∷ xs) (suc k) d l = drop_at xs k d (omega arith)
 
-drop_all : (xs : List At) → drop (length xs) xs ≡ []
-drop_all [] = refl
-drop_all (x ∷ xs) = drop_all xs
-
 pub args_begin : (n : ℕ) (args : List At) (base : List Task) → reverse base ≡ map (λ (a : At). visit (a.0, n)) (drop (length args) args) ++ reverse base
-args_begin n args base = ap (λ z. map (λ (a : At). visit (a.0, n)) z ++ reverse base) (sym (drop_all args))
+args_begin n args base = ap (λ z. map (λ (a : At). visit (a.0, n)) z ++ reverse base) (sym (drop_all (length args) args (omega arith)))
 
 pub args_more : (n i j : ℕ) (args : List At) (d : At) (base now next : List Task) → i ≡ j + 1 → j < length args → reverse now ≡ map (λ (a : At). visit (a.0, n)) (drop i args) ++ reverse base
     → reverse next ≡ visit ((get_or args j d).0, n) ∷ reverse now → reverse next ≡ map (λ (a : At). visit (a.0, n)) (drop j args) ++ reverse base

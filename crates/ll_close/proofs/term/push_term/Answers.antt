@@ -5,8 +5,9 @@ use Rattle.ll_bank.specs.declared.TermView.TheVariants.{Var as VarView, Int as I
 use Rattle.ll_bank.specs.Nodes.{node_of_term}
 use Rattle.ll_bank.specs.Opened.{term_parts, term_parts_at, ArePartsOf, term_size_at}
 use Rattle.ll_close.specs.Closing.{IsGoodTerm}
-use Rattle.ll_bank.proofs.CallerLemmas.{node_seen}
-use Rattle.ll_close.proofs.Stacks.{pushed, visits_args}
+use Rattle.ll_close.specs.Stacks.{visit}
+use Rattle.ll_bank.proofs.CallerLemmas.{node_seen, spots_of_args}
+use Rattle.ll_close.proofs.Stacks.{pushed}
 use Rattle.ll_close.proofs.Parts.{term_parts_small}
 use Rattle.ll_close.proofs.term.push_term.Goals as goal
 
@@ -32,7 +33,7 @@ returns-in-Int-clause-parts c =
 
 pub returns-in-App-clause-pushed : goal.returns-in-App-clause-pushed
 returns-in-App-clause-pushed c =
-    on_ok_weaker c.push_arguments.result (λ e. pushed (term_parts_at c.args.bank.now (c.args.task.place, c.args.task.level)) (term_parts (node_of_term (AppView c.in-App.field-0 c.in-App.args)) c.args.task.level) c.args.tasks.now.items c.push.new.self.items c.push_arguments.new.tasks.items (record { place = c.args.task.place; level = c.args.task.level; ready = true }) (ap (λ node. term_parts node c.args.task.level) (node_seen c.args.bank.now c.args.task.place (node_of_term (AppView c.in-App.field-0 c.in-App.args)) c.in-App.ensures.node)) c.in_ok-push.ensures.items (e ∙ ap (λ xs. xs ++ reverse c.push.new.self.items) (visits_args c.args.task.level c.in-App.args.now))) c.push_arguments.ensures
+    on_ok_weaker c.push_arguments.result (λ e. pushed (term_parts_at c.args.bank.now (c.args.task.place, c.args.task.level)) (term_parts (node_of_term (AppView c.in-App.field-0 c.in-App.args)) c.args.task.level) c.args.tasks.now.items c.push.new.self.items c.push_arguments.new.tasks.items (record { place = c.args.task.place; level = c.args.task.level; ready = true }) (ap (λ node. term_parts node c.args.task.level) (node_seen c.args.bank.now c.args.task.place (node_of_term (AppView c.in-App.field-0 c.in-App.args)) c.in-App.ensures.node)) c.in_ok-push.ensures.items (e ∙ ap (λ xs. xs ++ reverse c.push.new.self.items) (spots_of_args visit c.args.task.level c.in-App.args.now))) c.push_arguments.ensures
 
 pub returns-in-App-clause-parts : goal.returns-in-App-clause-parts
 returns-in-App-clause-parts c =

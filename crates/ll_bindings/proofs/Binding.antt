@@ -5,13 +5,13 @@ use Rattle.std.specs.List.{list_any}
 use Rattle.std.proofs.Math.Bool.{or-true}
 use Rattle.std.proofs.lemmas.Bool.{or_left, or_right, eqb-true, eqb-false, eq-eqb, ne_eqb}
 use Rattle.std.proofs.lemmas.List.{length-set, get_or-set_same, get_or-set_other, ext_get_or, get_or_default}
-use Rattle.ll_lists.proofs.CallerLemmas.{same_from_both_ways as bool-same, or_elim as or_cases}
+use Rattle.ll_lists.proofs.CallerLemmas.{same_from_both_ways as bool-same, or_elim as or_cases, or_false_left, or_false_right}
 use Rattle.ll_bank.specs.declared.At.{At}
 use Rattle.ll_bank.specs.declared.Head.{Head}
 use Rattle.ll_bank.specs.Term.{Term, Var, Int, Con, Ap, sub, occurs, eigens_below, app}
 use Rattle.ll_bank.specs.Nodes.{Nodes, HasTerm, term_tree}
 use Rattle.ll_laws.specs.Unify.{bound_to, Binding, bind, bind_term, lower, is_older, diff, Meet, Same}
-use Rattle.ll_laws.proofs.CallerLemmas.{sub_comp, level-lower}
+use Rattle.ll_laws.proofs.CallerLemmas.{sub_comp, length-lower, level-lower}
 use Rattle.ll_bindings.specs.Bindings.{Table, then_bound, found, cell, count, Reaches, stands, through, HasCells, KeepsCells, IsPlaceOf, IsOrdered, IsTable, Obeys, IsEnd, IsSet, IsLowered, unbound, HasBound, Binds, IsMeeting, Meets, is_var}
 use Rattle.ll_bindings.specs.Scanned.{is_among, IsScan, is_bad}
 use Rattle.ll_bindings.proofs.Spines.{app-var}
@@ -28,15 +28,7 @@ sub-absent x t (Var y) o = step (nat_eq y x) refl
 sub-absent x t (Int z) o = refl
 sub-absent x t (Con h) o = refl
 sub-absent x t (Ap f a) o =
-    let p = sub-absent x t f (left (occurs x f) (occurs x a) o) in let q = sub-absent x t a (right (occurs x f) (occurs x a) o) in cc
-  where
-    left : (b c : Bool) → (b || c) ≡ false → b ≡ false
-    left true c h = h
-    left false c h = refl
-
-    right : (b c : Bool) → (b || c) ≡ false → c ≡ false
-    right true c h = cc
-    right false c h = h
+    let p = sub-absent x t f (or_false_left (occurs x f) (occurs x a) o) in let q = sub-absent x t a (or_false_right (occurs x f) (occurs x a) o) in cc
 
 bound-here : (x : ℕ) (t : Term) → bound_to x t x ≡ t
 bound-here x t = ap (λ b. if b then t else Var x) (eq-eqb x x refl)
@@ -235,12 +227,6 @@ module _ (nodes : Nodes) (old new : Table) (x : ℕ) (to : At) (c : Change nodes
   }
 
 -- ---- a variable and a term that is no variable
-
-pub length-lower : (l : ℕ) (t : Term) (levels : List ℕ) → length (lower l t levels) ≡ length levels
-length-lower l (Var x) levels = length-set levels x (min (slice_index levels x) l)
-length-lower l (Int z) levels = refl
-length-lower l (Con h) levels = refl
-length-lower l (Ap f a) levels = length-lower l a (lower l f levels) ∙ length-lower l f levels
 
 -- levels that fell for these variables are those that the definition asks for
 lowered-is : (old : List ℕ) (vars : List ℕ) (l : ℕ) (new : List ℕ) (t : Term) → IsLowered old vars l new → ((y : ℕ) → is_among vars y ≡ occurs y t) → new ≡ lower l t old

@@ -3,20 +3,22 @@ use Rattle.std.proofs.Common.{◌≡◌, ℕ, zero, suc, ◌<◌, true, List, []
 use Rattle.std.specs.Prelude.{Option, Some, None, replicate, option_map}
 use Rattle.std.proofs.lemmas.Bool.{or_left, or_right, eqb-true, eq-eqb, ltb-true}
 use Rattle.std.proofs.lemmas.List.{length-replicate}
-use Rattle.ll_lists.proofs.CallerLemmas.{and_true_left as and_left, and_true_right as and_right, or_elim as or_cases}
+use Rattle.ll_lists.proofs.CallerLemmas.{or_elim as or_cases}
 use Rattle.ll_bank.specs.declared.At.{At}
 use Rattle.ll_bank.specs.Term.{Term, Var, Int, Con, Ap, sub, occurs}
 use Rattle.ll_bank.specs.Nodes.{Nodes, HasTerm, term_tree, Extends}
 use Rattle.ll_bank.proofs.CallerLemmas.{HasTerm-extends, term_tree-extends}
 use Rattle.ll_laws.specs.Unify.{vars_below, Solved, mgu}
-use Rattle.ll_laws.proofs.CallerLemmas.{sub_id}
-use Rattle.ll_bindings.specs.Bindings.{Table, cell, count, shown, followed, found, Reaches, stands, through, IsPlaceOf, IsTable}
+use Rattle.ll_laws.proofs.CallerLemmas.{subs_id, vars_below-part}
+use Rattle.ll_bindings.specs.Bindings.{Table, cell, count, shown, followed, found, Reaches, stands, through, HasCells, IsPlaceOf, IsTable}
 use Rattle.ll_bindings.specs.Solving.{along, wanted}
 use Rattle.ll_bindings.proofs.Readings.{sub-agree, Obeys-found, found-only}
 -- ---- what is found for a variable
 
 -- for an unbound variable the variable itself is found
 pub use Rattle.ll_bindings.proofs.Readings.{found-free}
+-- an unbound variable stands for itself, however often bindings are followed
+pub use Rattle.ll_bindings.proofs.Readings.{followed-free}
 -- ---- variables that no term mentions
 
 -- a term without the variable, and with eigenconstants below the level alone, is clear of it
@@ -222,28 +224,22 @@ found-start nodes levels x = found-free nodes (unbound_cells levels) x (cell-sta
 
 -- ---- places
 
--- what stands for a variable of a term has variables below a number where the whole has
-below-part : (n x : ℕ) (s : ℕ → Term) (u : Term) → vars_below n (sub s u) ≡ true → occurs x u ≡ true → vars_below n (s x) ≡ true
-below-part n x s (Var y) b o = subst (λ z. vars_below n (s z) ≡ true) (sym (eqb-true x y o)) b
-below-part n x s (Int z) b o = cc
-below-part n x s (Con h) b o = cc
-below-part n x s (Ap f a) b o =
-    or_cases (occurs x f) (occurs x a) o
-    (below-part n x s f (and_left (vars_below n (sub s f)) (vars_below n (sub s a)) b))
-    (below-part n x s a (and_right (vars_below n (sub s f)) (vars_below n (sub s a)) b))
-
--- a place whose term, with all bindings applied, has only variables with cells is one of the table
-pub place-below : (nodes : Nodes) (t : Table) (at : ℕ) → IsTable nodes t → HasTerm nodes at → vars_below (count t) (sub (found nodes t) (term_tree nodes at)) ≡ true → IsPlaceOf nodes t at
-place-below nodes t at h l b = record { inside = l; vars = λ y r. go y (term_tree nodes at) b r }
+-- a term that, with all bindings applied, has only variables with cells has only such
+pub cells-below : (nodes : Nodes) (t : Table) (u : Term) → IsTable nodes t → vars_below (count t) (sub (found nodes t) u) ≡ true → HasCells nodes t u
+cells-below nodes t u h b y r = go y u b r
   where
     free : (y : ℕ) (u : Term) → vars_below (count t) (found nodes t y) ≡ true → (o : Option At) → cell t y ≡ o → y < count t
     free y u b None e = ltb-true y (count t) (subst (λ w. vars_below (count t) w ≡ true) (found-free nodes t y e) b)
     free y u b (Some to) e = let i = bound-inside t.bound y to e in let c = h.bound in omega arith
 
     go : (y : ℕ) (u : Term) → vars_below (count t) (sub (found nodes t) u) ≡ true → Reaches nodes t y u → y < count t
-    go y u b (stands w o) = free y w (below-part (count t) y (found nodes t) w b o) (cell t y) refl
+    go y u b (stands w o) = free y w (vars_below-part (count t) y (found nodes t) w b o) (cell t y) refl
     go y u b (through w x to o c r) =
-        go y (term_tree nodes to.0) (subst (λ v. vars_below (count t) v ≡ true) (found-bound nodes t x to h c) (below-part (count t) x (found nodes t) w b o)) r
+        go y (term_tree nodes to.0) (subst (λ v. vars_below (count t) v ≡ true) (found-bound nodes t x to h c) (vars_below-part (count t) x (found nodes t) w b o)) r
+
+-- a place whose term, with all bindings applied, has only variables with cells is one of the table
+pub place-below : (nodes : Nodes) (t : Table) (at : ℕ) → IsTable nodes t → HasTerm nodes at → vars_below (count t) (sub (found nodes t) (term_tree nodes at)) ≡ true → IsPlaceOf nodes t at
+place-below nodes t at h l b = record { inside = l; vars = cells-below nodes t (term_tree nodes at) h b }
 
 -- ---- what is found holds unbound variables alone
 
@@ -274,15 +270,11 @@ found-unbound nodes t y z h = go (suc (h.ordered.rank y)) y (omega arith)
 
 -- ---- what unification asks for
 
-sub-ids : (ts : List Term) → map (sub Var) ts ≡ ts
-sub-ids [] = refl
-sub-ids (t ∷ ts) = λ i. sub_id t i ∷ sub-ids ts i
-
 -- where nothing is bound, what unifies the lists as they stand
 pub wanted-start : (nodes : Nodes) (t : Table) (ls rs : List Term) → ((x : ℕ) → cell t x ≡ None) → wanted nodes t ls rs ≡ mgu ls rs t.levels
 wanted-start nodes t ls rs h =
     (λ i. option_map (along (free i)) (mgu (map (sub (free i)) ls) (map (sub (free i)) rs) t.levels))
-    ∙ ((λ i. option_map (along Var) (mgu (sub-ids ls i) (sub-ids rs i) t.levels)) ∙ same (mgu ls rs t.levels))
+    ∙ ((λ i. option_map (along Var) (mgu (subs_id ls i) (subs_id rs i) t.levels)) ∙ same (mgu ls rs t.levels))
   where
     free : found nodes t ≡ Var
     free = λ i x. found-free nodes t x (h x) i

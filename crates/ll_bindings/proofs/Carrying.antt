@@ -5,6 +5,7 @@ use Rattle.ll_bank.specs.declared.Head.{Head}
 use Rattle.ll_bank.specs.declared.At.{At}
 use Rattle.ll_bank.specs.Term.{Term, Var, Con, app, sub, head_of}
 use Rattle.ll_bank.specs.Nodes.{Nodes, HasTerm, term_tree, term_trees, ShowsTerm}
+use Rattle.ll_bank.proofs.CallerLemmas.{sub-apply}
 use Rattle.ll_bindings.specs.declared.scan.Frame.{Frame}
 use Rattle.ll_bindings.specs.Spines.{args_in, ShowsArgument}
 use Rattle.ll_bindings.specs.Bindings.{Table, found, IsPlaceOf, IsTable, IsEnd, AreSame}
@@ -13,7 +14,7 @@ use Rattle.ll_bindings.specs.Copied.{IsCopied}
 use Rattle.ll_bindings.specs.Carried.{IsCarried}
 use Rattle.ll_bindings.proofs.Readings.{Obeys-found}
 use Rattle.ll_bindings.proofs.Tables.{end-var, step-inside}
-use Rattle.ll_bindings.proofs.Copies.{spine-is, sub-apply, copy-top, copy-own, IsReached}
+use Rattle.ll_bindings.proofs.Copies.{spine-is, copy-top, copy-own, IsReached}
 
 -- a variable and a number are their own copies
 pub carried-var : (first old new : Nodes) (at x : ℕ) (own : List At) (copy : At) → term_tree first at ≡ Var x → ShowsTerm new copy.0 (Var x) → IsCarried first old new at own copy.0

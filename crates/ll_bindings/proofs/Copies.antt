@@ -9,9 +9,9 @@ use Rattle.std.proofs.Math.ListN.{get_or-append}
 use Rattle.ll_lists.proofs.CallerLemmas.{and_true_left as and_left, All-front as All-before, All-last}
 use Rattle.ll_bank.specs.declared.Head.{Head}
 use Rattle.ll_bank.specs.declared.At.{At}
-use Rattle.ll_bank.specs.Term.{Term, Var, Int, Con, Ap, apply, app, sub, head_of, is_spine, applies_heads}
+use Rattle.ll_bank.specs.Term.{Term, Var, Int, Con, Ap, app, sub, head_of, is_spine, applies_heads}
 use Rattle.ll_bank.specs.Nodes.{Nodes, HasTerm, term_tree, term_trees, AllInTerms, ShowsTerm, Extends}
-use Rattle.ll_bank.proofs.CallerLemmas.{HasTerm-extends, term_tree-extends, AllInTerms-extends, term_trees-extends, ShowsTerm-extends, applies_heads-term_tree, apply-append}
+use Rattle.ll_bank.proofs.CallerLemmas.{HasTerm-extends, term_tree-extends, AllInTerms-extends, term_trees-extends, ShowsTerm-extends, applies_heads-term_tree, head_of-app, sub-apply, apply-append}
 use Rattle.ll_bindings.specs.declared.scan.Frame.{Frame}
 use Rattle.ll_bindings.specs.Spines.{args_in, arg, ShowsArgument}
 use Rattle.ll_bindings.specs.Stacks.{lowest, is_empty, is_full}
@@ -70,10 +70,6 @@ same-places ats bts n h = ext_get_or (record { 0 = 0 }) ats bts n (λ k l. one (
 
 -- ---- building
 
-pub sub-apply : (s : ℕ → Term) (f : Term) (ts : List Term) → sub s (apply f ts) ≡ apply (sub s f) (map (sub s) ts)
-sub-apply s f [] = refl
-sub-apply s f (u ∷ ts) = sub-apply s (Ap f u) ts
-
 -- a term is its head with its arguments
 pub spine-is : (u : Term) (h : Head) → head_of u ≡ Some h → u ≡ app h (args_in u)
 spine-is (Var x) h e = cc
@@ -119,11 +115,7 @@ pub changed-same : (nodes : Nodes) (at : ℕ) (h : Head) (args own : List At) �
 changed-same nodes at h args own e q = inr (ap args_in e ∙ (args_in-app h (term_trees nodes args) ∙ ap (term_trees nodes) q))
 
 pub changed-head : (nodes : Nodes) (at : ℕ) (h : Head) (ts : List Term) → term_tree nodes at ≡ app h ts → head_of (term_tree nodes at) ≡ Some h
-changed-head nodes at h ts e = ap head_of e ∙ go (Con h) ts
-  where
-    go : (f : Term) (us : List Term) → head_of (apply f us) ≡ head_of f
-    go f [] = refl
-    go f (u ∷ us) = go (Ap f u) us
+changed-head nodes at h ts e = ap head_of e ∙ head_of-app h ts
 
 -- ---- the copies of arguments
 

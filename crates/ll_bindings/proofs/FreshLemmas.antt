@@ -7,8 +7,8 @@ use Rattle.std.proofs.lemmas.List.{get_or-replicate, get_or_past, length-replica
 use Rattle.ll_bank.specs.declared.At.{At}
 use Rattle.ll_bank.specs.Term.{Term, Var, Int, Con, Ap, sub, occurs, eigens_below, head_eq}
 use Rattle.ll_bank.specs.Nodes.{Nodes, term_tree}
-use Rattle.ll_laws.specs.Unify.{bound_to, Binding, bind, bind_term, lower, is_older, diff, Diff, Meet, Same, Clash, and_then, when}
-use Rattle.ll_laws.proofs.CallerLemmas.{sub_comp, level-lower, lower-le, eigens-mono}
+use Rattle.ll_laws.specs.Unify.{bound_to, Binding, bind, bind_term, lower, is_older, diff, Diff, Meet, Same, Clash, and_then}
+use Rattle.ll_laws.proofs.CallerLemmas.{sub_comp, when-meet, length-lower, level-lower, lower-le, eigens-mono}
 use Rattle.ll_bindings.specs.declared.fresh.Fresh.{Fresh}
 use Rattle.ll_bindings.specs.declared.meet.Pair.{Pair}
 use Rattle.ll_bindings.specs.Bindings.{Table, found, count, cell, IsTable, IsEnd, IsSet, Binds, HasBound, Meets, AreSame}
@@ -16,7 +16,7 @@ use Rattle.ll_bindings.specs.Scanned.{is_among, is_bad}
 use Rattle.ll_bindings.specs.Spines.{args_in, ShowsArgument}
 use Rattle.ll_bindings.specs.Pairs.{lefts}
 use Rattle.ll_bindings.specs.Fresh.{IsFresh, AreClear, StandsNowhere, AreFresh, LeavesFresh, StaysClear, IsLeft, IsOther}
-use Rattle.ll_bindings.proofs.Binding.{any-push, bound-other, length-lower, binds-plain}
+use Rattle.ll_bindings.proofs.Binding.{any-push, bound-other, binds-plain}
 use Rattle.ll_bindings.proofs.Pairs.{lefts-next, lefts-done, lefts-push}
 use Rattle.ll_bindings.proofs.Solving.{met}
 use Rattle.ll_bindings.proofs.Tables.{end-var}
@@ -142,10 +142,6 @@ meet-is : (x l v w : ℕ) (t u : Term) → Meet w u ≡ Meet v t → w ≢ x →
 meet-is x l v w t u e n h =
     let p : w ≡ v = cc in let q : u ≡ t = cc in
     record { other = λ i. n (p ∙ i); clear = ap (is_bad x l) (sym q) ∙ h }
-
-when-meet : (b : Bool) (v : ℕ) (t : Term) → when b ≡ Meet v t → ⊥
-when-meet true v t e = cc
-when-meet false v t e = cc
 
 diff-clear : (x l : ℕ) (p q : Term) (v : ℕ) (t : Term) → diff p q ≡ Meet v t → is_bad x l p ≡ false → is_bad x l q ≡ false → IsClearMeet x l v t
 diff-clear x l (Var a) (Var b) v t e h k = step (nat_eq a b) e

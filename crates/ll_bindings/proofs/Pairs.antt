@@ -3,6 +3,7 @@ use Rattle.std.proofs.Common.{◌≡◌, ℕ, zero, suc, ◌+◌, ◌<◌, ◌�
 use Rattle.std.specs.Prelude.{ℤ, ◌||◌, ◌&&◌, Option, Some, None, slice_index, slice_set}
 use Rattle.std.specs.Ordering.{int_eq}
 use Rattle.std.proofs.lemmas.Bool.{eqb-true, eqb-false, eq-eqb, ne_eqb, cases_lt}
+use Rattle.std.proofs.Math.Bool.{and-false}
 use Rattle.std.proofs.lemmas.Bool.Decides.{Decides-int_eq}
 use Rattle.std.proofs.lemmas.List.{length-set, get_or-set_same, get_or-set_other, map-append, length-map, append-nil, get_or_default}
 use Rattle.std.proofs.lemmas.List.Elements.{All-push, All-tail}
@@ -12,8 +13,9 @@ use Rattle.std.proofs.Math.ListN.{get_or-append}
 use Rattle.ll_lists.proofs.CallerLemmas.{and_true_left as and_left, All-front as All-before, All-last}
 use Rattle.ll_bank.specs.declared.Head.{Head}
 use Rattle.ll_bank.specs.declared.At.{At}
-use Rattle.ll_bank.specs.Term.{Term, Var, Int, Con, Ap, sub, is_spine, head_of, arity, head_eq, same_head, same_predicate, apply, app}
+use Rattle.ll_bank.specs.Term.{Term, Var, Int, Con, Ap, sub, is_spine, head_of, arity, head_eq, same_head, same_predicate, app}
 use Rattle.ll_bank.specs.Nodes.{Nodes, term_tree, term_trees}
+use Rattle.ll_bank.proofs.CallerLemmas.{head_of-app, arity-app, spine_of_head}
 use Rattle.ll_laws.specs.Unify.{Same, Clash, and_then, when, diff, diff_lists}
 use Rattle.ll_laws.proofs.CallerLemmas.{diff-same as diff-is-same}
 use Rattle.ll_bindings.specs.Bindings.{Table}
@@ -24,9 +26,9 @@ use Rattle.ll_bindings.specs.Spines.{args_in, arg, weight, rest_weight, ShowsArg
 use Rattle.ll_bindings.specs.Stacks.{Waits, is_empty, is_full}
 use Rattle.ll_bindings.specs.Bindings.{Obeys, IsEnd, AreSame, is_var}
 use Rattle.ll_bindings.specs.Pairs.{pair_trees, lefts, rights, AwaitsEqual, IsPair, IsComparing, ArePairs, Awaits, IsClass, AreClasses, AreBelow, Alike, Opens, MeetsAt, AreJoined, ComparesApplied, IsCompared, pairs_weight}
-use Rattle.ll_bindings.proofs.Spines.{weight-two, rest_weight-more, weight-place, is_spine-app, args_in-app}
+use Rattle.ll_bindings.proofs.Spines.{below-suc, weight-two, rest_weight-more, weight-place, is_spine-app}
 use Rattle.ll_bindings.proofs.Stacks.{opened, Waits-push, Waits-last, no_item, an_item, split_last}
-use Rattle.ll_bindings.proofs.Alike.{diff-refl, diff-same, diff-append, diff-spine, diff-clash, shape-length, arity-length}
+use Rattle.ll_bindings.proofs.Alike.{diff-refl, diff-same, diff-append, diff-spine, diff-clash, shape-length}
 
 -- ---- classes of places
 
@@ -158,16 +160,6 @@ pub clash-app-int : (u v : Term) (m : ℤ) (h : Head) (ts : List Term) (s : ℕ 
 clash-app-int u v m h ts s p q = ap (λ w. diff (sub s u) (sub s w)) q ∙ spine-int m s u (spine-place u h ts p)
 
 -- heads with arguments
-head_of-app : (h : Head) (ts : List Term) → head_of (app h ts) ≡ Some h
-head_of-app h ts = go (Con h) ts
-  where
-    go : (f : Term) (us : List Term) → head_of (apply f us) ≡ head_of f
-    go f [] = refl
-    go f (u ∷ us) = go (Ap f u) us
-
-arity-app : (h : Head) (ts : List Term) → arity (app h ts) ≡ length ts
-arity-app h ts = arity-length (app h ts) ∙ ap length (args_in-app h ts)
-
 pub shape-app : (u v : Term) (h k : Head) (ts us : List Term) → u ≡ app h ts → v ≡ app k us → same_predicate u v ≡ head_eq h k && nat_eq (length ts) (length us)
 shape-app u v h k ts us p q =
     (λ i. same_predicate (p i) (q i)) ∙ (λ i. same_head (head_of-app h ts i) (head_of-app k us i) && nat_eq (arity-app h ts i) (arity-app k us i))
@@ -279,9 +271,6 @@ alike-open nodes t u v a b ps h s o =
 
 -- ---- the stack of pairs
 
-below-suc : (k n : ℕ) → k < n + 1 → (k < n) ⊎ (k ≡ n)
-below-suc k n b = elim (cases_lt k n) [ inl c ↦ inl c | inr c ↦ inr (omega arith) ]
-
 -- the pair on top goes on, and waits for its next arguments
 pub awaits-next : (nodes : Nodes) (t : Table) (items ps : List Pair) (p q : Pair) (a b : At) → ArePairs nodes t items → items ≡ ps ++ p ∷ [] → ShowsArgument nodes p.left.0 p.next a.0 → ShowsArgument nodes p.right.0 p.next b.0
     → q.left ≡ p.left → q.right ≡ p.right → q.next ≡ p.next + 1 → Awaits nodes t (ps ++ q ∷ []) (record { left = term_tree nodes a.0; right = term_tree nodes b.0 })
@@ -379,20 +368,14 @@ shape-spine u v h = (
   right (head_of u) (head_of v) refl (and_left (same_head (head_of u) (head_of v)) (nat_eq (arity u) (arity v)) h),
 )
   where
-    spine : (w : Term) (k : Head) → head_of w ≡ Some k → is_spine w ≡ true
-    spine (Var x) k e = cc
-    spine (Int z) k e = cc
-    spine (Con j) k e = refl
-    spine (Ap f a) k e = spine f k e
-
     left : (o q : Option Head) → head_of u ≡ o → same_head o q ≡ true → is_spine u ≡ true
     left None q e h = cc
-    left (Some k) q e h = spine u k e
+    left (Some k) q e h = spine_of_head u k e
 
     right : (o q : Option Head) → head_of v ≡ q → same_head o q ≡ true → is_spine v ≡ true
     right None q e h = cc
     right (Some k) None e h = cc
-    right (Some k) (Some j) e h = spine v j e
+    right (Some k) (Some j) e h = spine_of_head v j e
 
 pub top-joined : (nodes : Nodes) (t : Table) (ps : List Pair) (p : Pair) → IsComparing nodes t ps p → length (args_in (term_tree nodes p.left.0)) ≤ p.next → AreJoined nodes t p.left.0 p.right.0
 top-joined nodes t ps p c l =
@@ -454,8 +437,4 @@ module _ (nodes : Nodes) (u v : Term) (h k : Head) (ats bts : List At) (p : u �
   shape-other_head e = lengths ∙ ap (λ b. b && nat_eq (length ats) (length bts)) e
 
   pub shape-other_length : (length ats ≡ length bts → ⊥) → same_predicate u v ≡ false
-  shape-other_length n = lengths ∙ (ap (λ b. head_eq h k && b) (ne_eqb (length ats) (length bts) n) ∙ never (head_eq h k))
-    where
-      never : (b : Bool) → b && false ≡ false
-      never true = refl
-      never false = refl
+  shape-other_length n = lengths ∙ (ap (λ b. head_eq h k && b) (ne_eqb (length ats) (length bts) n) ∙ and-false (head_eq h k))

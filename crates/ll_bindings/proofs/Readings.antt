@@ -96,12 +96,12 @@ module _ (r : ℕ → ℕ) where
 -- ---- following bindings
 
 -- an unbound variable stands for itself
-followed-free : (nodes : Nodes) (t : Table) (n x : ℕ) → cell t x ≡ None → followed nodes t.bound n x ≡ Var x
-followed-free nodes t zero x e = refl
-followed-free nodes t (suc n) x e = ap (λ o. sub (followed nodes t.bound n) (shown nodes x o)) e ∙ followed-free nodes t n x e
+pub followed-free : (nodes : Nodes) (bound : List (Option At)) (n x : ℕ) → slice_index_or bound x None ≡ None → followed nodes bound n x ≡ Var x
+followed-free nodes bound zero x e = refl
+followed-free nodes bound (suc n) x e = ap (λ o. sub (followed nodes bound n) (shown nodes x o)) e ∙ followed-free nodes bound n x e
 
 pub found-free : (nodes : Nodes) (t : Table) (x : ℕ) → cell t x ≡ None → found nodes t x ≡ Var x
-found-free nodes t x e = followed-free nodes t (length t.bound) x e
+found-free nodes t x e = followed-free nodes t.bound (length t.bound) x e
 
 module _ (nodes : Nodes) (t : Table) (h : IsOrdered nodes t) where
   -- how many cells have a rank up to that of a variable
@@ -120,13 +120,13 @@ module _ (nodes : Nodes) (t : Table) (h : IsOrdered nodes t) where
   settled zero x l = step (cell t x) refl
     where
       step : (o : Option At) → cell t x ≡ o → followed nodes t.bound 1 x ≡ followed nodes t.bound 0 x
-      step None e = followed-free nodes t 1 x e ∙ sym (followed-free nodes t 0 x e)
+      step None e = followed-free nodes t.bound 1 x e ∙ sym (followed-free nodes t.bound 0 x e)
       step (Some at) e = let p = up_to-some h.rank (length t.bound) x (bound-inside t.bound x at e) in absurd (omega arith)
   settled (suc n) x l = step (λ y. settled n y) (cell t x) refl
     where
       step : ((y : ℕ) → rank_of y ≤ n → followed nodes t.bound (suc n) y ≡ followed nodes t.bound n y)
           → (o : Option At) → cell t x ≡ o → followed nodes t.bound (suc (suc n)) x ≡ followed nodes t.bound (suc n) x
-      step ih None e = followed-free nodes t (suc (suc n)) x e ∙ sym (followed-free nodes t (suc n) x e)
+      step ih None e = followed-free nodes t.bound (suc (suc n)) x e ∙ sym (followed-free nodes t.bound (suc n) x e)
       step ih (Some at) e =
           settled-bound n x at e
           (λ y o. ih y (let p = up_to-more h.rank (length t.bound) x (h.rank y) (bound-inside t.bound x at e) (h.falls x at e y o) in omega arith))

@@ -2,22 +2,22 @@
 use Rattle.std.proofs.Common.{◌≡◌, ℕ, ◌+◌, ◌<◌, ◌≤◌, ◌⊎◌, inl, inr, Bool, true, false, List, [], ◌∷◌, ◌++◌, length, get_or, All, refl, ap, sym, subst, ◌∙◌, arith, nat_eq}
 use Rattle.std.specs.Prelude.{◌||◌, ◌&&◌, not, Option, Some, None}
 use Rattle.std.proofs.Math.Bool.{or_assoc}
-use Rattle.std.proofs.lemmas.Bool.{and_from, or_from, not_from_false, or_left, or_right, eqb-true, eq-eqb, cases_lt}
+use Rattle.std.proofs.lemmas.Bool.{and_from, or_from, not_from_false, or_left, or_right, eqb-true, eq-eqb}
 use Rattle.std.proofs.lemmas.List.Elements.{All-push}
 use Rattle.std.proofs.lemmas.List.Sums.{sum_by_push}
 use Rattle.ll_bank.specs.declared.Head.{Head}
 use Rattle.ll_bank.specs.declared.At.{At}
-use Rattle.ll_bank.specs.Term.{Term, Var, Int, Con, Ap, sub, occurs, eigens_below, eigen_below, is_spine, head_of, applies_heads, apply, app}
+use Rattle.ll_bank.specs.Term.{Term, Var, Int, Con, Ap, sub, occurs, eigens_below, eigen_below, is_spine, head_of, applies_heads, app}
 use Rattle.ll_bank.specs.Nodes.{Nodes, term_tree}
-use Rattle.ll_bank.proofs.CallerLemmas.{applies_heads-term_tree}
+use Rattle.ll_bank.proofs.CallerLemmas.{applies_heads-term_tree, head_of-app}
 use Rattle.std.proofs.lemmas.List.{append-nil, get_or_default}
-use Rattle.ll_lists.proofs.CallerLemmas.{false_from_not as not_true, and_true_left as and_left, and_true_right as and_right, or_elim as or_cases, All-front as All-before, All-last}
+use Rattle.ll_lists.proofs.CallerLemmas.{false_from_not as not_true, true_from_not, and_true_left as and_left, and_true_right as and_right, or_elim as or_cases, All-front as All-before, All-last}
 use Rattle.ll_bindings.specs.declared.scan.Frame.{Frame}
 use Rattle.ll_bindings.specs.Spines.{args_in, arg, weight, rest_weight, ShowsArgument}
 use Rattle.ll_bindings.specs.Stacks.{lowest, Waits, is_empty, is_full}
 use Rattle.ll_bindings.specs.Bindings.{Table, HasCells, found, cell, count, IsTable, IsEnd, IsFree, AreSame}
 use Rattle.ll_bindings.specs.Scanned.{is_among, IsGood, IsPart, is_bad, AreNoted, IsScan, AreGood, frame_tree, IsFrame, IsScanning, AreFrames, IsScanned, IsKnown, is_good_sign, own_vars, IsLook, frames_weight}
-use Rattle.ll_bindings.proofs.Spines.{build_up, take_down, weight-two, rest_weight-more, weight-place, is_spine-app}
+use Rattle.ll_bindings.proofs.Spines.{below-suc, build_up, take_down, weight-two, rest_weight-more, weight-place, is_spine-app}
 use Rattle.ll_bindings.proofs.Stacks.{opened, closed, lowest-push, Waits-push, Waits-last, Waits-map, no_item, an_item, split_last}
 use Rattle.ll_bindings.proofs.Tables.{end-var, var-below}
 use Rattle.ll_bindings.proofs.Readings.{Obeys-found}
@@ -102,11 +102,7 @@ bad-head l s (Ap f a) h e b = ap (λ c. c && eigens_below l (sub s a)) (bad-head
 
 -- a bad sign makes a term bad
 bad-term : (x l : ℕ) (s : ℕ → Term) (u : Term) → applies_heads u ≡ true → ((y : ℕ) → u ≡ Var y → s y ≡ Var y) → is_good_sign x l u ≡ false → is_bad x l (sub s u) ≡ true
-bad-term x l s (Var y) h e b = subst (λ t. is_bad x l t ≡ true) (sym (e y refl)) (or_left (nat_eq x y) false (step (nat_eq x y) b))
-  where
-    step : (c : Bool) → not c ≡ false → c ≡ true
-    step true q = refl
-    step false q = cc
+bad-term x l s (Var y) h e b = subst (λ t. is_bad x l t ≡ true) (sym (e y refl)) (or_left (nat_eq x y) false (true_from_not (nat_eq x y) b))
 bad-term x l s (Int z) h e b = cc
 bad-term x l s (Con k) h e b = not_from_false (eigen_below l k) b
 bad-term x l s (Ap f a) h e b = go (head_of f) refl
@@ -146,9 +142,6 @@ scan-starts nodes t x l at e = record {
 pub scan-top : (nodes : Nodes) (t : Table) (x l : ℕ) (places : List At) (vars : List ℕ) (whole : Term) (items fs : List Frame) (f : Frame)
     → IsScanned nodes t x l places vars whole items → items ≡ fs ++ f ∷ [] → IsScanning nodes t x l vars whole fs f
 scan-top nodes t x l places vars whole items fs f h e = opened (IsGood x l vars whole) (IsScanning nodes t x l vars whole) items fs f h.frames e
-
-below-suc : (k n : ℕ) → k < n + 1 → (k < n) ⊎ (k ≡ n)
-below-suc k n b = elim (cases_lt k n) [ inl c ↦ inl c | inr c ↦ inr (omega arith) ]
 
 -- an argument that was looked through before
 pub scan-known : (nodes : Nodes) (t : Table) (x l : ℕ) (places : List At) (vars : List ℕ) (whole : Term) (items fs : List Frame) (f g : Frame) (to end : At)
@@ -342,10 +335,6 @@ pub weight-closes : (nodes : Nodes) (s : ℕ → Term) (fs : List Frame) (f : Fr
 weight-closes nodes s fs f =
     let w : Frame → ℕ = λ h. 1 + rest_weight s (term_tree nodes h.at.0) h.next in let q = sum_by_push w fs f in omega arith
 
-head_of-apply : (f : Term) (ts : List Term) → head_of (apply f ts) ≡ head_of f
-head_of-apply f [] = refl
-head_of-apply f (u ∷ ts) = head_of-apply (Ap f u) ts
-
 spine-own : (u : Term) → is_spine u ≡ true → own_vars u ≡ []
 spine-own (Var y) h = cc
 spine-own (Int z) h = cc
@@ -356,7 +345,7 @@ spine-own (Ap f a) h = refl
 pub look-app : (u : Term) (h : Head) (ts : List Term) (x l : ℕ) (vars : List ℕ) → u ≡ app h ts → IsLook u x l vars vars (eigen_below l h)
 look-app u h ts x l vars e = subst (λ v. IsLook v x l vars vars (eigen_below l h)) (sym e) (record {
   vars = sym (ap (λ ys. vars ++ ys) (spine-own (app h ts) (is_spine-app h ts)) ∙ append-nil vars);
-  good = sym (sign-head x l (app h ts) h (head_of-apply (Con h) ts));
+  good = sym (sign-head x l (app h ts) h (head_of-app h ts));
 })
 
 -- the place may be left out of those that are remembered

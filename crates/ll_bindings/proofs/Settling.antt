@@ -3,6 +3,7 @@ use Rattle.std.proofs.Common.{◌≡◌, ℕ, zero, suc, ◌+◌, ◌<◌, ◌�
 use Rattle.std.specs.Prelude.{Option, None}
 use Rattle.std.proofs.lemmas.List.{length-map, map-append}
 use Rattle.std.proofs.lemmas.List.Elements.{All-head, All-tail, All-push}
+use Rattle.ll_lists.proofs.CallerLemmas.{length-drop_same}
 use Rattle.ll_bank.specs.declared.At.{At}
 use Rattle.ll_bank.specs.Term.{Term, sub}
 use Rattle.ll_bank.specs.Nodes.{Nodes, term_tree, term_trees}
@@ -38,16 +39,9 @@ even : (nodes : Nodes) (t : Table) (ps : List Pair) → All (IsPair nodes t) ps 
 even nodes t [] h = refl
 even nodes t (p ∷ ps) h =
     let q = even nodes t ps (All-tail (IsPair nodes t) p ps h) in
-    let r = dropped p.next (args_in (term_tree nodes p.left.0)) (args_in (term_tree nodes p.right.0)) (shape-length (term_tree nodes p.left.0) (term_tree nodes p.right.0) (All-head (IsPair nodes t) p ps h).shape) in
+    let r = length-drop_same p.next (args_in (term_tree nodes p.left.0)) (args_in (term_tree nodes p.right.0)) (shape-length (term_tree nodes p.left.0) (term_tree nodes p.right.0) (All-head (IsPair nodes t) p ps h).shape) in
     length-append (lefts nodes ps) (drop p.next (args_in (term_tree nodes p.left.0))) ∙ ((let e : length (lefts nodes ps) + length (drop p.next (args_in (term_tree nodes p.left.0))) ≡ length (rights nodes ps) + length (drop p.next (args_in (term_tree nodes p.right.0))) = omega arith in e)
     ∙ sym (length-append (rights nodes ps) (drop p.next (args_in (term_tree nodes p.right.0)))))
-  where
-    dropped : (k : ℕ) (ts us : List Term) → length ts ≡ length us → length (drop k ts) ≡ length (drop k us)
-    dropped zero ts us e = e
-    dropped (suc k) [] [] e = refl
-    dropped (suc k) [] (u ∷ us) e = absurd (omega arith)
-    dropped (suc k) (t ∷ ts) [] e = absurd (omega arith)
-    dropped (suc k) (t ∷ ts) (u ∷ us) e = dropped k ts us (omega arith)
 
 all-pairs : (nodes : Nodes) (t : Table) (ps : List Pair) → ArePairs nodes t ps → All (IsPair nodes t) ps
 all-pairs nodes t ps (is_empty e h) = subst (All (IsPair nodes t)) (sym e) (λ k d l. absurd (omega arith))

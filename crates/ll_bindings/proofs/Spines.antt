@@ -11,7 +11,7 @@ use Rattle.ll_bank.specs.declared.Head.{Head}
 use Rattle.ll_bank.specs.declared.At.{At}
 use Rattle.ll_bank.specs.Term.{Term, Var, Int, Con, Ap, apply, app, sub, is_spine, applies_heads, head_of}
 use Rattle.ll_bank.specs.Nodes.{Nodes, term_tree, term_trees}
-use Rattle.ll_bank.proofs.CallerLemmas.{applies_heads-term_tree}
+use Rattle.ll_bank.proofs.CallerLemmas.{applies_heads-term_tree, is_spine-apply}
 use Rattle.ll_bindings.specs.Spines.{args_in, arg, weight, rest_weight, ShowsArgument}
 
 args_in-apply : (f : Term) (ts : List Term) → args_in (apply f ts) ≡ args_in f ++ ts
@@ -35,6 +35,10 @@ build_up P c (Ap f a) s hs each =
 
 cases_at : (k n : ℕ) → k < suc n → (k < n) ⊎ (k ≡ n)
 cases_at k n l = elim (cases_lt k n) [ inl b ↦ inl b | inr b ↦ inr (omega arith) ]
+
+-- what is below one more is below, or it is the number itself
+pub below-suc : (k n : ℕ) → k < n + 1 → (k < n) ⊎ (k ≡ n)
+below-suc k n b = elim (cases_lt k n) [ inl c ↦ inl c | inr c ↦ inr (omega arith) ]
 
 -- what holds of a term and goes down to its parts holds of its arguments
 pub take_down : (P : Term → Type 0) → ((f a : Term) → P (Ap f a) → P f × P a) → (u : Term) → P u → (k : ℕ) → k < length (args_in u) → P (arg u k)
@@ -91,10 +95,6 @@ pub no_argument : (nodes : Nodes) (at : ℕ) (h : Head) (args : List At) (k : �
 no_argument nodes at h args k e l =
     let q = ap length (ap args_in e ∙ args_in-app h (term_trees nodes args)) in
     let n : length (term_trees nodes args) ≡ length args = length-map args (λ (b : At). term_tree nodes b.0) in omega arith
-
-is_spine-apply : (f : Term) (ts : List Term) → is_spine f ≡ true → is_spine (apply f ts) ≡ true
-is_spine-apply f [] h = h
-is_spine-apply f (t ∷ ts) h = is_spine-apply (Ap f t) ts h
 
 pub is_spine-app : (h : Head) (ts : List Term) → is_spine (app h ts) ≡ true
 is_spine-app h ts = is_spine-apply (Con h) ts refl

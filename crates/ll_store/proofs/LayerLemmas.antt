@@ -7,7 +7,7 @@ use Rattle.std.specs.declared.alloc.Global.{Global}
 use Rattle.std.proofs.lemmas.List.{length-map, map-append, take-append-drop, take_more}
 use Rattle.ll_store.specs.declared.store.Store.{Store}
 use Rattle.ll_store.specs.Stored.{State, AreWithin, stored, state_of}
-use Rattle.ll_store.specs.Segments.{SegmentSight, state_after, state_after_all, BeginAll, Begins, Leads}
+use Rattle.ll_store.specs.Segments.{SegmentSight, state_after, state_after_all, BeginAll, Begins, Leads, LeadAll}
 use Rattle.ll_store.specs.Layered.{LayersSight, whole_of, segments_of, layered}
 
 -- one segment more
@@ -86,3 +86,29 @@ one-more whole own xs made last a s first second l v leads f w m e o within begi
     depth =
         let p = length-map last (λ (x : Arc SegmentSight Global). arc_value x) in let q = ap length all in let r = length-append (segments_of xs) (s ∷ []) in
         let t = length-map xs (λ (x : Arc SegmentSight Global). arc_value x) in let u = ap (λ (x : LayersSight). x.depth) w in omega (arith, p, q, r, t, u)
+
+-- ---- layers whose first parts are those of others
+
+-- as many segments at the front, one more than before
+pub same-more : (xs ys : List (Arc SegmentSight Global)) (n : ℕ) (a b : Arc SegmentSight Global) → n < length xs → n < length ys → segments_of (take n xs) ≡ segments_of (take n ys)
+    → arc_value (slice_index_or xs n a) ≡ arc_value (slice_index_or ys n b) → segments_of (take (n + 1) xs) ≡ segments_of (take (n + 1) ys)
+same-more xs ys n a b k l e f = front xs a k ∙ ((λ i. e i ++ f i ∷ []) ∙ sym (front ys b l))
+  where
+    front : (zs : List (Arc SegmentSight Global)) (d : Arc SegmentSight Global) → n < length zs → segments_of (take (n + 1) zs) ≡ segments_of (take n zs) ++ arc_value (slice_index_or zs n d) ∷ []
+    front zs d m = ap segments_of (take_more zs n d m) ∙ map-append (λ (x : Arc SegmentSight Global). arc_value x) (take n zs) (slice_index_or zs n d ∷ [])
+
+-- the segments that the others have besides lead on to their state
+pub leads-on : (whole other : Arc Store Global) (xs ys : List (Arc SegmentSight Global)) (n : ℕ) (l m : LayersSight) → layered whole xs ≡ l → layered other ys ≡ m → whole_of whole ≡ whole_of other
+    → segments_of xs ≡ segments_of (take n ys) → BeginAll (segments_of ys) (whole_of other) → LeadAll (segments_of (drop n ys)) l.state m.state
+leads-on whole other xs ys n l m v u w e begins = record {
+  begins = subst (λ (x : State). BeginAll (segments_of (drop n ys)) x) (sym here)
+      (begin-rest (segments_of (take n ys)) (segments_of (drop n ys)) (whole_of other) (subst (λ (ss : List SegmentSight). BeginAll ss (whole_of other)) all begins));
+  ends = ap (state_after_all (segments_of (drop n ys))) here
+      ∙ (sym (after-append (segments_of (take n ys)) (segments_of (drop n ys)) (whole_of other)) ∙ (ap (λ ss. state_after_all ss (whole_of other)) (sym all) ∙ ap (λ (x : LayersSight). x.state) u));
+}
+  where
+    all : segments_of ys ≡ segments_of (take n ys) ++ segments_of (drop n ys)
+    all = ap segments_of (sym (take-append-drop n ys)) ∙ map-append (λ (x : Arc SegmentSight Global). arc_value x) (take n ys) (drop n ys)
+
+    here : l.state ≡ state_after_all (segments_of (take n ys)) (whole_of other)
+    here = ap (λ (x : LayersSight). x.state) (sym v) ∙ (λ i. state_after_all (e i) (w i))

@@ -101,3 +101,8 @@ state_after_all (s ∷ ss) st = state_after_all ss (state_after s st)
 abbrev pub BeginAll : List SegmentSight → State → Type 0
 BeginAll [] st = Unit {0}
 BeginAll (s ∷ ss) st = Begins s st × BeginAll ss (state_after s st)
+
+-- segments lead from the first of two states to the second, one after another
+pub record LeadAll (ss : List SegmentSight) (first second : State) : Type 0 where
+  pub begins : BeginAll ss first
+  pub ends : state_after_all ss first ≡ second

@@ -1,10 +1,10 @@
 //! Cells with their trail.
-ghost use Rattle.std.specs.Prelude.{◌≡◌, ◌<◌, ◌≤◌, ◌++◌, ◌∷◌, [], length, map, take, drop, Some, None, IfOk, OnOk, OnErr};
+ghost use Rattle.std.specs.Prelude.{◌≡◌, ◌<◌, ◌≤◌, ◌++◌, ◌∷◌, [], length, map, take, drop, Some, None, IfOk, OnOk, OnErr, IsTrue};
 ghost use Rattle.ll_store.specs.Cells.{update, with_to, with_level, taken_back, before};
 ghost use Rattle.ll_store.specs.Packed.{place_of, cell_of, change_of};
 ghost use Rattle.ll_store.specs.Trails.{Trailed, Grows, IsUnbound, IsAtMost, cell_to, cell_level};
 
-use crate::packed::{Entry, NOTHING, Slot, packed};
+use crate::packed::{Entry, NOTHING, Slot, are_same_slots, packed};
 use ll_bank::{At, OutOfMemory};
 use std::alloc::Global;
 use std::marker::Model;
@@ -149,6 +149,13 @@ impl Cells {
         take_back(&mut slots, self.trail.as_slice(), changes);
         let trail = Vec::from_slice(alloc, &self.trail[..changes])?;
         Ok(Cells { slots, trail })
+    }
+
+    /// Whether other cells are the same, whatever changes led to them. Their numbers are compared first, and it takes no memory.
+    pub fn has_same_cells(&self, other: &Cells) -> bool
+        ensures { IsTrue result → self.now.cells ≡ other.now.cells }
+    {
+        are_same_slots(&self.slots, &other.slots)
     }
 }
 

@@ -1,7 +1,7 @@
 //! States of stores that are kept in layers, which others share.
-ghost use Rattle.std.specs.Prelude.{◌≡◌, suc, IfOk, OnOk};
+ghost use Rattle.std.specs.Prelude.{◌≡◌, suc, length, IfOk, IfSome, IsTrue, OnOk};
 ghost use Rattle.ll_store.specs.Stored.{stored, state_of, state_at, IsGood, IsBefore, AreWithin};
-ghost use Rattle.ll_store.specs.Segments.{state_after_all, BeginAll};
+ghost use Rattle.ll_store.specs.Segments.{state_after_all, BeginAll, LeadAll};
 ghost use Rattle.ll_store.specs.Layered.{segments_of};
 
 use crate::segment::Segment;
@@ -80,20 +80,56 @@ impl Layers {
     {
         let whole: &Store = &self.whole;
         let mut store = whole.image(whole.mark())?;
-        apply_all(&mut store, &self.segments)?;
+        store.apply_segments(&self.segments)?;
         Ok(store)
+    }
+
+    /// The segments that lead from this state on to another one, where its whole store and its first segments are these: those that it has
+    /// besides.
+    ///
+    /// Parts are these where they hold the same, as data, and lengths are compared first. Of the whole stores this is asked of their cells and
+    /// banks, and not of the changes that led there: the state is the same without them. It takes no memory.
+    pub fn leading_to<'a>(&self, other: &'a Layers) -> Option<&'a [Arc<Segment>]>
+        ensures { IfSome result (λ more. LeadAll (segments_of more.now) self.now.state other.now.state) }
+    {
+        let count = self.segments.len();
+        if count > other.segments.len() {
+            return None;
+        }
+        let first = &other.segments[..count];
+        if self.whole.is_alike(&other.whole) && are_same(&self.segments, first) {
+            Some(&other.segments[count..])
+        } else {
+            None
+        }
     }
 }
 
-// Brings a store to the state to which segments lead, one after another.
-fn apply_all(store: &mut Store, segments: &[Arc<Segment>]) -> Result<(), OutOfMemory>
-    requires { BeginAll (segments_of segments.now) (state_of (stored store.old)) }
-    ensures { OnOk result (state_of (stored store.new) ≡ state_after_all (segments_of segments.now) (state_of (stored store.old))) }
-{
-    for segment in segments {
-        store.apply_segment(segment)?;
+impl Store {
+    /// Goes on to the state to which segments lead, one after another. After a refusal nothing is said of the store.
+    pub fn apply_segments(&mut self, segments: &[Arc<Segment>]) -> Result<(), OutOfMemory>
+        requires { BeginAll (segments_of segments.now) (state_of (stored self.old)) }
+        ensures { OnOk result (state_of (stored self.new) ≡ state_after_all (segments_of segments.now) (state_of (stored self.old))) }
+    {
+        for segment in segments {
+            self.apply_segment(segment)?;
+        }
+        Ok(())
     }
-    Ok(())
+}
+
+// Whether so many segments are the same, each as the other one at its place.
+fn are_same(segments: &[Arc<Segment>], others: &[Arc<Segment>]) -> bool
+    requires { length segments.now ≡ length others.now }
+    ensures { IsTrue result → segments_of segments.now ≡ segments_of others.now }
+{
+    for at in 0..segments.len() {
+        let segment: &Segment = &segments[at];
+        if !segment.is_same(&others[at]) {
+            return false;
+        }
+    }
+    true
 }
 
 // The same segments once more.

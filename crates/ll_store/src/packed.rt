@@ -1,5 +1,5 @@
 //! Cells and changes as they are kept, in eight bytes each.
-ghost use Rattle.std.specs.Prelude.{◌≡◌, Some, None, IfOk};
+ghost use Rattle.std.specs.Prelude.{◌≡◌, Some, None, IfOk, IsTrue};
 ghost use Rattle.ll_store.specs.Packed.{cell_of, place_of, change_of};
 ghost use Rattle.ll_store.specs.Segments.{changed_in};
 ghost use Rattle.ll_store.specs.declared.cells.Change.TheVariants.{Bound, Lowered};
@@ -12,7 +12,7 @@ use std::alloc::AllocError;
 pub const NOTHING: u32 = u32::MAX;
 
 /// A cell as it is kept.
-#[derive(Clone, Copy)]
+#[derive(Clone, Copy, PartialEq, Eq)]
 pub struct Slot {
     /// The place that the variable is bound to, or nothing.
     pub to: u32,
@@ -30,6 +30,13 @@ impl Slot {
             level: self.level,
         }
     }
+}
+
+/// Whether kept cells are the same: as many, and each the same.
+pub fn are_same_slots(slots: &[Slot], others: &[Slot]) -> bool
+    ensures { IsTrue result → slots.now ≡ others.now }
+{
+    slots == others
 }
 
 // The place that is kept, if there is one.
@@ -55,7 +62,7 @@ pub fn packed(to: At) -> Result<u32, OutOfMemory>
 }
 
 /// A change as it is kept.
-#[derive(Clone, Copy)]
+#[derive(Clone, Copy, PartialEq, Eq)]
 pub struct Entry {
     /// The variable.
     var: u32,

@@ -1,19 +1,19 @@
 //! What leads from one state of a store to a later one, for stores that stand in the first.
-ghost use Rattle.std.specs.Prelude.{◌≡◌, ◌≤◌, nat_lt, [], ◌++◌, length, map, take, drop, IfOk, OnOk};
+ghost use Rattle.std.specs.Prelude.{◌≡◌, ◌≤◌, nat_lt, [], ◌++◌, length, map, take, drop, IfOk, OnOk, IsTrue};
 ghost use Rattle.ll_store.specs.Cells.{update, before};
 ghost use Rattle.ll_store.specs.Packed.{cell_of, change_of};
 ghost use Rattle.ll_store.specs.Stored.{stored, state_of, state_at, IsGood, IsBefore, KeepsMarks};
 ghost use Rattle.ll_store.specs.Segments.{changed_in, renewed_of, renew, renewal, kept_if, renewals, BeginsCells, LeadsCells, Begins, Leads, Continues};
 
 use crate::cells::{Cells, take_back};
-use crate::packed::{Entry, Slot};
+use crate::packed::{Entry, Slot, are_same_slots};
 use crate::store::{Mark, Store};
 use ll_bank::{BankTail, OutOfMemory};
 use std::alloc::Global;
 use std::marker::Model;
 
 /// A change of a cell, and what the cell is in the end.
-#[derive(Clone, Copy)]
+#[derive(Clone, Copy, PartialEq, Eq)]
 pub struct Renewal {
     entry: Entry,
     slot: Slot,
@@ -35,6 +35,24 @@ impl Model for CellSegment {
     ghost Value = { CellSight };
 
     ghost view = { λ s. record { count = s.count; renewed = map renewed_of s.renewed.items; more = map cell_of s.more.items } };
+}
+
+impl CellSegment {
+    /// Whether another one has the same changes and cells. Their numbers are compared first, and it takes no memory.
+    pub fn is_same(&self, other: &CellSegment) -> bool
+        ensures { IsTrue result → self.now ≡ other.now }
+    {
+        self.count == other.count
+            && are_same_renewals(&self.renewed, &other.renewed)
+            && are_same_slots(&self.more, &other.more)
+    }
+}
+
+// Whether changes with what their cells are in the end are the same.
+fn are_same_renewals(renewed: &[Renewal], others: &[Renewal]) -> bool
+    ensures { IsTrue result → renewed.now ≡ others.now }
+{
+    renewed == others
 }
 
 impl Cells {
@@ -158,6 +176,16 @@ impl Model for Segment {
     ghost Value = { SegmentSight };
 
     ghost view = { λ s. record { cells = s.cells; tail = s.nodes } };
+}
+
+impl Segment {
+    /// Whether another one holds the same, and so leads from each state where this one does. Its parts are compared as data, their lengths
+    /// first, and it takes no memory.
+    pub fn is_same(&self, other: &Segment) -> bool
+        ensures { IsTrue result → self.now ≡ other.now }
+    {
+        self.cells.is_same(&other.cells) && self.nodes.is_same(&other.nodes)
+    }
 }
 
 impl Store {

@@ -1,5 +1,5 @@
 //! Stores.
-ghost use Rattle.std.specs.Prelude.{◌≡◌, ◌<◌, ◌≤◌, ◌++◌, ◌∷◌, [], length, take, Some, None, IfOk, OnOk, OnErr};
+ghost use Rattle.std.specs.Prelude.{◌≡◌, ◌<◌, ◌≤◌, ◌++◌, ◌∷◌, [], length, take, Some, None, IfOk, OnOk, OnErr, IsTrue};
 ghost use Rattle.std.specs.Borrow.{sem};
 ghost use Rattle.ll_bank.specs.Nodes.{Nodes, HasTerm, Extends, size_of};
 ghost use Rattle.ll_store.specs.Lending.{LendsBank};
@@ -144,5 +144,13 @@ impl Store {
         let cells = self.cells.image(mark.cells, mark.trail)?;
         let bank = self.bank.image(mark.bank)?;
         Ok(Store { bank, cells })
+    }
+
+    /// Whether another store has the same cells, and the same nodes at the same places. So it is in the same state, whatever changes led
+    /// each of them there. Both are compared as data, their lengths first, and it takes no memory.
+    pub fn is_alike(&self, other: &Store) -> bool
+        ensures { IsTrue result → state_of (stored self.now) ≡ state_of (stored other.now) }
+    {
+        self.cells.has_same_cells(&other.cells) && self.bank.is_same(&other.bank)
     }
 }

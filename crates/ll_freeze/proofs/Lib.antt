@@ -4,3 +4,4 @@ pub mod Resting
 mod Imaging
 mod Starting
 pub mod Freezing
+pub mod Going

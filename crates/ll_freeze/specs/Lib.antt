@@ -6,5 +6,6 @@ pub mod Fits
 pub mod Calls
 pub mod Resting
 pub mod Frozen
+pub mod Onward
 pub mod Indexed
 pub mod Codes

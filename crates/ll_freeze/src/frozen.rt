@@ -2,11 +2,13 @@
 ghost use Rattle.std.specs.Prelude.{◌≡◌, ◌<◌, ◌+◌, ◌^◌, false, length, Some, slice_get, IfOk, IfSome};
 ghost use Rattle.std.specs.Arc.{arc_value};
 ghost use Rattle.ll_laws.specs.Valid.{IsValid};
-ghost use Rattle.ll_store.specs.Stored.{IsBefore};
+ghost use Rattle.ll_store.specs.Stored.{stored, state_of as store_of, IsBefore};
+ghost use Rattle.ll_store.specs.Layered.{segments_of};
 ghost use Rattle.ll_freeze.specs.Parts.{parts_of, parts_at, base_of, IsGood};
 ghost use Rattle.ll_freeze.specs.Shown.{state_of};
 ghost use Rattle.ll_freeze.specs.Fits.{Fits};
 ghost use Rattle.ll_freeze.specs.Frozen.{alternatives_in, sight_of, opening, AreTries, Stands, Thaws};
+ghost use Rattle.ll_freeze.specs.Onward.{base_in, LeadOn};
 ghost use Rattle.ll_freeze.specs.Indexed.{IsIndexOf};
 
 use crate::machine::Machine;
@@ -15,7 +17,7 @@ use crate::rest::Rest;
 use ll_bank::OutOfMemory;
 use ll_index::Index;
 use ll_laws::{Batch, Candidate, Problem};
-use ll_store::Layers;
+use ll_store::{Layers, Segment, Store};
 use std::alloc::Global;
 use std::marker::Model;
 use std::sync::Arc;
@@ -188,8 +190,23 @@ impl<'p> Frozen<'p> {
         ensures { IfOk result (λ m. Thaws self.entry.now (parts_of m)) }
     {
         let store = self.layers.store()?;
+        self.machine_over(store)
+    }
+
+    /// The same over a store that is in its state: all else is an image.
+    pub(crate) fn machine_over(&self, store: Store) -> Result<Machine<'p>, OutOfMemory>
+        requires { base_in (store_of (stored store)) ≡ self.now.base }
+        ensures { IfOk result (λ m. Thaws self.entry.now (parts_of m)) }
+    {
         let machine = self.rest.machine(store)?;
         Ok(machine)
+    }
+
+    /// The segments that another batch has besides, where the layers of this one's store are the first of the other's.
+    pub(crate) fn leading_to<'a>(&self, other: &'a Frozen<'p>) -> Option<&'a [Arc<Segment>]>
+        ensures { IfSome result (λ more. LeadOn (segments_of more.now) self.entry.now.base other.entry.now.base) }
+    {
+        self.layers.leading_to(&other.layers)
     }
 
     /// The candidate of an alternative. That of the start has label 0 and leaf 0, and is not used.

@@ -14,3 +14,4 @@ pub mod Printed
 pub mod Bare
 pub mod Drafts
 pub mod Weights
+pub mod Codes

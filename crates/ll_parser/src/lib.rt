@@ -21,6 +21,7 @@ use ll_bank::Names;
 use ll_lexer::Place;
 pub use raws::Raws;
 pub use reading::{program, query};
+use std::marker::Model;
 
 /// The most brackets `(` and `{` that may be open at once.
 pub const MOST_OPEN: usize = 1000;
@@ -103,7 +104,8 @@ pub struct RawModule {
     pub clauses: Vec<RawClause>,
 }
 
-/// A program: its names, the nodes of its formulas, the clauses before its first module, and its modules.
+/// A program: its names, the nodes of its formulas, the clauses before its first module, and its modules. Contracts see the tree that
+/// these show.
 #[derive(Drop)]
 pub struct RawProgram {
     pub names: Names,
@@ -112,12 +114,43 @@ pub struct RawProgram {
     pub modules: Vec<RawModule>,
 }
 
-/// A query: its names, the nodes of its formula, and where the formula stands.
+impl Model for RawProgram {
+    ghost use Rattle.std.specs.Prelude.{All};
+    ghost use Rattle.ll_parser.specs.Raw.{ProgramTree};
+    ghost use Rattle.ll_parser.specs.Codes.{program_code};
+    ghost use Rattle.ll_parser.specs.Nodes.{shown_program};
+    ghost use Rattle.ll_parser.specs.Drafts.{ClausesFit, ModuleFits};
+
+    ghost Value = { ProgramTree };
+
+    ghost coded = { program_code };
+
+    ghost view = { λ p. shown_program p.names p.forms p.clauses.items p.modules.items };
+
+    ghost invariant = { λ p. ClausesFit p.forms p.clauses.items × All (ModuleFits p.forms) p.modules.items };
+}
+
+/// A query: its names, the nodes of its formula, and where the formula stands. Contracts see the tree that these show.
 #[derive(Drop)]
 pub struct RawQuery {
     pub names: Names,
     pub forms: Raws,
     pub goal: RawAt,
+}
+
+impl Model for RawQuery {
+    ghost use Rattle.std.specs.Prelude.{◌<◌, length};
+    ghost use Rattle.ll_parser.specs.Raw.{Raw};
+    ghost use Rattle.ll_parser.specs.Codes.{raw_code};
+    ghost use Rattle.ll_parser.specs.Nodes.{raw_at};
+
+    ghost Value = { Raw };
+
+    ghost coded = { raw_code };
+
+    ghost view = { λ q. raw_at q.names q.forms q.goal.0 };
+
+    ghost invariant = { λ q. q.goal.0 < length q.forms };
 }
 
 // What a sign takes together before it: all that is tighter.

@@ -1,13 +1,12 @@
 //! The loops over the tokens of a program and of a query.
 
-ghost use Rattle.std.specs.Prelude.{◌≡◌, ℕ, ◌<◌, ◌≤◌, ◌∷◌, List, [], true, length, All, IfOk, MatchOption, MatchResult};
+ghost use Rattle.std.specs.Prelude.{◌≡◌, ℕ, ◌≤◌, ◌∷◌, List, [], true, length, IfOk, MatchOption, MatchResult};
 ghost use Rattle.ll_parser.specs.Tokens.{toks_of};
 ghost use Rattle.ll_parser.specs.Text.{programs, queries};
 ghost use Rattle.ll_parser.specs.Reads.{open_after, opens, Reads, IsWhole, IsCause};
-ghost use Rattle.ll_parser.specs.Nodes.{raw_at, shown_program};
 ghost use Rattle.ll_parser.specs.Symbols.{symbol_tok};
 ghost use Rattle.ll_parser.specs.Waiting.{known, tree, IsNode, IsNew};
-ghost use Rattle.ll_parser.specs.Drafts.{whole_view, ClausesFit, ModuleFits, DraftFits, IsNewDraft};
+ghost use Rattle.ll_parser.specs.Drafts.{whole_view, DraftFits, IsNewDraft};
 
 use crate::formulas::Mode;
 use crate::symbols::{Symbol, symbol_at};
@@ -129,9 +128,8 @@ fn read_query(
 /// that the grammar admits while 1,000 are open.
 pub fn program(alloc: Global, tokens: &TokenList<'_>) -> Result<RawProgram, TextFault>
     requires { length tokens.now.text ≤ 16777216 }
-    ensures read { MatchResult result (λ p. Reads programs MOST_OPEN (toks_of tokens.now) (shown_program p.names p.forms p.clauses.items p.modules.items)) (λ e. IsCause programs MOST_OPEN (toks_of tokens.now) tokens.now.end e) }
-    ensures whole { IfOk result (λ p. IsWhole programs (shown_program p.names p.forms p.clauses.items p.modules.items)) }
-    ensures clauses { IfOk result (λ p. ClausesFit p.forms p.clauses.items × All (ModuleFits p.forms) p.modules.items) }
+    ensures read { MatchResult result (λ p. Reads programs MOST_OPEN (toks_of tokens.now) p) (λ e. IsCause programs MOST_OPEN (toks_of tokens.now) tokens.now.end e) }
+    ensures whole { IfOk result (λ p. IsWhole programs p) }
 {
     let mut names = first_names(alloc)?;
     let mut draft = Draft::new(alloc);
@@ -150,9 +148,8 @@ pub fn program(alloc: Global, tokens: &TokenList<'_>) -> Result<RawProgram, Text
 /// grammar admits while 1,000 are open.
 pub fn query(alloc: Global, tokens: &TokenList<'_>) -> Result<RawQuery, TextFault>
     requires { length tokens.now.text ≤ 16777216 }
-    ensures read { MatchResult result (λ q. Reads queries MOST_OPEN (toks_of tokens.now) (raw_at q.names q.forms q.goal.0)) (λ e. IsCause queries MOST_OPEN (toks_of tokens.now) tokens.now.end e) }
-    ensures whole { IfOk result (λ q. IsWhole queries (raw_at q.names q.forms q.goal.0)) }
-    ensures goal { IfOk result (λ q. q.goal.0 < length q.forms) }
+    ensures read { MatchResult result (λ q. Reads queries MOST_OPEN (toks_of tokens.now) q) (λ e. IsCause queries MOST_OPEN (toks_of tokens.now) tokens.now.end e) }
+    ensures whole { IfOk result (λ q. IsWhole queries q) }
 {
     let mut names = first_names(alloc)?;
     let mut waiting = Waiting::new(alloc);

@@ -29,7 +29,7 @@ use crate::variables::Variables;
 use ll_bank::{Bank, FormAt, Names, OutOfMemory};
 use ll_laws::{Module, Problem};
 use ll_lexer::{Fault, TextFault};
-use ll_parser::RawQuery;
+use ll_parser::{RawAt, RawQuery, Raws};
 use std::alloc::Global;
 
 /// What a query adds to a part.
@@ -120,31 +120,33 @@ fn places_by<'a>(alloc: Global, texts: &'a [String]) -> Result<Modules<'a>, OutO
     Ok(found)
 }
 
-/// The goal of a query, where the modules have these places.
+/// The goal of a query, which stands at this place of the forms, where the modules have these places.
 fn goal_of(
     alloc: Global,
     places: &Modules<'_>,
-    query: &RawQuery,
+    texts: &Names,
+    forms: &Raws,
+    at: RawAt,
     met: &mut Met,
     bank: &mut Bank,
 ) -> Result<FormAt, OutOfMemory>
-    requires whole { IsWhole queries (raw_at query.now.names query.now.forms query.now.goal.0) }
-    requires goal { query.now.goal.0 < length query.now.forms }
+    requires whole { IsWhole queries (raw_at texts.now forms.now at.0) }
+    requires goal { at.0 < length forms.now }
     requires few { length met.old.names ≤ 16777216 }
     requires first { met.old.variables ≡ [] }
-    ensures shows { IfOk result (λ form. (ms : List (List ℕ)) (heads : List Heading) → FindsFirst places.now.places ms → query_faults heads (raw_at query.now.names query.now.forms query.now.goal.0) ≡ [] → form_tree bank.new form.0 ≡ (read_form ms [] (record { names = met.old.names; variables = [] }) (raw_at query.now.names query.now.forms query.now.goal.0)).it) }
-    ensures met { IfOk result (λ _. (ms : List (List ℕ)) → met_of query.now.names met.new ≡ (read_form ms [] (record { names = met.old.names; variables = [] }) (raw_at query.now.names query.now.forms query.now.goal.0)).met) }
+    ensures shows { IfOk result (λ form. (ms : List (List ℕ)) (heads : List Heading) → FindsFirst places.now.places ms → query_faults heads (raw_at texts.now forms.now at.0) ≡ [] → form_tree bank.new form.0 ≡ (read_form ms [] (record { names = met.old.names; variables = [] }) (raw_at texts.now forms.now at.0)).it) }
+    ensures met { IfOk result (λ _. (ms : List (List ℕ)) → met_of texts.now met.new ≡ (read_form ms [] (record { names = met.old.names; variables = [] }) (raw_at texts.now forms.now at.0)).met) }
     ensures inside { IfOk result (λ form. HasForm bank.new form.0) }
     ensures keeps { Extends bank.old bank.new }
 {
     let text = Text {
-        names: &query.names,
-        forms: &query.forms,
+        names: texts,
+        forms,
         modules: places,
     };
-    let _texts = query.names.len();
-    let mut binders = Binders::new(alloc, &query.names)?;
-    let goal = form(alloc, &text, &mut binders, None, met, bank, query.goal)?;
+    let _texts = texts.len();
+    let mut binders = Binders::new(alloc, texts)?;
+    let goal = form(alloc, &text, &mut binders, None, met, bank, at)?;
     Ok(goal)
 }
 
@@ -156,12 +158,11 @@ fn added(
     query: &RawQuery,
     bank: &mut Bank,
 ) -> Result<Addition, OutOfMemory>
-    requires whole { IsWhole queries (raw_at query.now.names query.now.forms query.now.goal.0) }
-    requires goal { query.now.goal.0 < length query.now.forms }
+    requires whole { IsWhole queries query.now }
     requires numbered { IsNumbered names modules.now }
-    ensures shows { IfOk result (λ p. (heads : List Heading) → query_faults heads (raw_at query.now.names query.now.forms query.now.goal.0) ≡ [] → form_tree bank.new p.goal.0 ≡ (read_form (map (λ m. text_of names m.name) modules.now) [] (record { names = names; variables = [] }) (raw_at query.now.names query.now.forms query.now.goal.0)).it) }
-    ensures asked { IfOk result (λ p. (ms : List (List ℕ)) → let met = (read_form ms [] (record { names = names; variables = [] }) (raw_at query.now.names query.now.forms query.now.goal.0)).met in p.asked.items ≡ (read_asked met.names met.variables).it) }
-    ensures names { IfOk result (λ p. (ms : List (List ℕ)) → let met = (read_form ms [] (record { names = names; variables = [] }) (raw_at query.now.names query.now.forms query.now.goal.0)).met in p.names ≡ (read_asked met.names met.variables).names) }
+    ensures shows { IfOk result (λ p. (heads : List Heading) → query_faults heads query.now ≡ [] → form_tree bank.new p.goal.0 ≡ (read_form (map (λ m. text_of names m.name) modules.now) [] (record { names = names; variables = [] }) query.now).it) }
+    ensures asked { IfOk result (λ p. (ms : List (List ℕ)) → let met = (read_form ms [] (record { names = names; variables = [] }) query.now).met in p.asked.items ≡ (read_asked met.names met.variables).it) }
+    ensures names { IfOk result (λ p. (ms : List (List ℕ)) → let met = (read_form ms [] (record { names = names; variables = [] }) query.now).met in p.names ≡ (read_asked met.names met.variables).names) }
     ensures inside { IfOk result (λ p. HasForm bank.new p.goal.0) }
     ensures keeps { Extends bank.old bank.new }
 {
@@ -171,7 +172,15 @@ fn added(
         names,
         variables: Variables::new(alloc),
     };
-    let goal = goal_of(alloc, &places, query, &mut met, bank)?;
+    let goal = goal_of(
+        alloc,
+        &places,
+        &query.names,
+        &query.forms,
+        query.goal,
+        &mut met,
+        bank,
+    )?;
     let asked = asked(alloc, &query.names, &mut met.names, met.variables.order())?;
     Ok(Addition {
         names: met.names,
@@ -187,10 +196,9 @@ fn query_fault(
     modules: &[Module],
     query: &RawQuery,
 ) -> Result<Option<Fault>, OutOfMemory>
-    requires whole { IsWhole queries (raw_at query.now.names query.now.forms query.now.goal.0) }
-    requires goal { query.now.goal.0 < length query.now.forms }
+    requires whole { IsWhole queries query.now }
     requires named { All (λ m. m.name < length names.now) modules.now }
-    ensures { IfOk result (λ fault. IsHead fault (query_faults (map (known_heading names.now) modules.now) (raw_at query.now.names query.now.forms query.now.goal.0))) }
+    ensures { IfOk result (λ fault. IsHead fault (query_faults (map (known_heading names.now) modules.now) query.now)) }
 {
     let headings = known_headings(alloc, names, modules)?;
     let fault = judge_query(alloc, &headings, query)?;
@@ -205,15 +213,14 @@ pub fn ask(
     query: &RawQuery,
     bound: u32,
 ) -> Result<Problem, TextFault>
-    requires whole { IsWhole queries (raw_at query.now.names query.now.forms query.now.goal.0) }
-    requires goal { query.now.goal.0 < length query.now.forms }
+    requires whole { IsWhole queries query.now }
     requires bound { bound ≤ 1000000 }
-    ensures problem { IfOk result (λ problem. problem ≡ problem_with loaded (raw_at query.now.names query.now.forms query.now.goal.0) bound) }
-    ensures faultless { IfOk result (λ _. query_faults (headings_of loaded) (raw_at query.now.names query.now.forms query.now.goal.0) ≡ []) }
-    ensures asks { IfOk result (λ problem. (program : ProgramTree) → program_faults program ≡ [] → loaded ≡ part_of program → Asks program (raw_at query.now.names query.now.forms query.now.goal.0) bound problem) }
+    ensures problem { IfOk result (λ problem. problem ≡ problem_with loaded query.now bound) }
+    ensures faultless { IfOk result (λ _. query_faults (headings_of loaded) query.now ≡ []) }
+    ensures asks { IfOk result (λ problem. (program : ProgramTree) → program_faults program ≡ [] → loaded ≡ part_of program → Asks program query.now bound problem) }
     ensures valid { IfOk result (λ problem. (program : ProgramTree) → IsWhole programs program → program_faults program ≡ [] → loaded ≡ part_of program → IsValid problem) }
-    ensures cause { IfErr result (IsCauseOf (λ fault. IsFirst fault (query_faults (headings_of loaded) (raw_at query.now.names query.now.forms query.now.goal.0)))) }
-    ensures fault { IfErr result (IsCauseOf (λ fault. (program : ProgramTree) → loaded ≡ part_of program → HasQueryFault program (raw_at query.now.names query.now.forms query.now.goal.0) fault)) }
+    ensures cause { IfErr result (IsCauseOf (λ fault. IsFirst fault (query_faults (headings_of loaded) query.now))) }
+    ensures fault { IfErr result (IsCauseOf (λ fault. (program : ProgramTree) → loaded ≡ part_of program → HasQueryFault program query.now fault)) }
 {
     let Loaded {
         mut bank,

@@ -6,8 +6,7 @@ ghost use Rattle.ll_laws.specs.Valid.{GoalSide};
 ghost use Rattle.ll_parser.specs.Tokens.{Identifier};
 ghost use Rattle.ll_parser.specs.Text.{programs, queries};
 ghost use Rattle.ll_parser.specs.Reads.{IsWhole};
-ghost use Rattle.ll_parser.specs.Nodes.{raw_at, identifier, shown_clause, shown_module, shown_program};
-ghost use Rattle.ll_parser.specs.Drafts.{ClausesFit, ModuleFits};
+ghost use Rattle.ll_parser.specs.Nodes.{identifier, shown_clause, shown_module};
 ghost use Rattle.ll_polarity.specs.Scope.{Binder, module_scope};
 ghost use Rattle.ll_polarity.specs.Faults.{Heading, heading, repeated, clauses_faults, modules_faults, program_faults, query_faults};
 ghost use Rattle.ll_polarity.specs.Headings.{AreFound};
@@ -179,10 +178,8 @@ pub fn known_headings<'a>(
 
 /// The first fault of scope or sorting in a program, kinds 7 to 12.
 pub fn judge_program(alloc: Global, program: &RawProgram) -> Result<Option<Fault>, OutOfMemory>
-    requires whole { IsWhole programs (shown_program program.now.names program.now.forms program.now.clauses.items program.now.modules.items) }
-    requires clauses { ClausesFit program.now.forms program.now.clauses.items }
-    requires modules { All (ModuleFits program.now.forms) program.now.modules.items }
-    ensures { IfOk result (λ fault. IsHead fault (program_faults (shown_program program.now.names program.now.forms program.now.clauses.items program.now.modules.items))) }
+    requires whole { IsWhole programs program.now }
+    ensures { IfOk result (λ fault. IsHead fault (program_faults program.now)) }
 {
     let headings = own_headings(alloc, &program.names, &program.modules)?;
     let source = Source {
@@ -205,9 +202,8 @@ pub fn judge_query(
     headings: &Headings<'_>,
     query: &RawQuery,
 ) -> Result<Option<Fault>, OutOfMemory>
-    requires whole { IsWhole queries (raw_at query.now.names query.now.forms query.now.goal.0) }
-    requires goal { query.now.goal.0 < length query.now.forms }
-    ensures { IfOk result (λ fault. (ms : List Heading) → AreFound headings.now.params ms → IsHead fault (query_faults ms (raw_at query.now.names query.now.forms query.now.goal.0))) }
+    requires whole { IsWhole queries query.now }
+    ensures { IfOk result (λ fault. (ms : List Heading) → AreFound headings.now.params ms → IsHead fault (query_faults ms query.now)) }
 {
     let source = Source {
         names: &query.names,

@@ -1,10 +1,8 @@
 //! The part of a problem that a program fixes, from its text.
 
-ghost use Rattle.std.specs.Prelude.{◌≡◌, [], All, IfOk, IfErr};
+ghost use Rattle.std.specs.Prelude.{◌≡◌, [], IfOk, IfErr};
 ghost use Rattle.ll_parser.specs.Text.{programs};
 ghost use Rattle.ll_parser.specs.Reads.{IsWhole};
-ghost use Rattle.ll_parser.specs.Nodes.{shown_program};
-ghost use Rattle.ll_parser.specs.Drafts.{ClausesFit, ModuleFits};
 ghost use Rattle.ll_polarity.specs.Asks.{module_names, part_of, HasProgramFault};
 ghost use Rattle.ll_polarity.specs.Causes.{IsCauseOf};
 ghost use Rattle.ll_polarity.specs.Faults.{program_faults};
@@ -30,12 +28,10 @@ fn put_part(
     places: &Modules<'_>,
     program: &RawProgram,
 ) -> Result<Loaded, OutOfMemory>
-    requires whole { IsWhole programs (shown_program program.now.names program.now.forms program.now.clauses.items program.now.modules.items) }
-    requires clauses { ClausesFit program.now.forms program.now.clauses.items }
-    requires modules { All (ModuleFits program.now.forms) program.now.modules.items }
-    requires faultless { program_faults (shown_program program.now.names program.now.forms program.now.clauses.items program.now.modules.items) ≡ [] }
-    requires found { FindsFirst places.now.places (module_names (shown_program program.now.names program.now.forms program.now.clauses.items program.now.modules.items)) }
-    ensures { IfOk result (λ loaded. loaded ≡ part_of (shown_program program.now.names program.now.forms program.now.clauses.items program.now.modules.items)) }
+    requires whole { IsWhole programs program.now }
+    requires faultless { program_faults program.now ≡ [] }
+    requires found { FindsFirst places.now.places (module_names program.now) }
+    ensures { IfOk result (λ loaded. loaded ≡ part_of program.now) }
 {
     let text = Text {
         names: &program.names,
@@ -75,11 +71,9 @@ fn put_part(
 
 /// The part that a program without a fault fixes, held so that copies share its names.
 fn fixed_part(alloc: Global, program: &RawProgram) -> Result<Loaded, OutOfMemory>
-    requires whole { IsWhole programs (shown_program program.now.names program.now.forms program.now.clauses.items program.now.modules.items) }
-    requires clauses { ClausesFit program.now.forms program.now.clauses.items }
-    requires modules { All (ModuleFits program.now.forms) program.now.modules.items }
-    requires faultless { program_faults (shown_program program.now.names program.now.forms program.now.clauses.items program.now.modules.items) ≡ [] }
-    ensures { IfOk result (λ loaded. loaded ≡ part_of (shown_program program.now.names program.now.forms program.now.clauses.items program.now.modules.items)) }
+    requires whole { IsWhole programs program.now }
+    requires faultless { program_faults program.now ≡ [] }
+    ensures { IfOk result (λ loaded. loaded ≡ part_of program.now) }
 {
     let places = places_of(alloc, &program.names, &program.modules)?;
     let part = put_part(alloc, &places, program)?;
@@ -88,12 +82,10 @@ fn fixed_part(alloc: Global, program: &RawProgram) -> Result<Loaded, OutOfMemory
 
 /// The part of a problem that a program fixes. `Text` is the program's first fault of scope or sorting, kinds 7 to 12.
 pub fn load(alloc: Global, program: &RawProgram) -> Result<Loaded, TextFault>
-    requires whole { IsWhole programs (shown_program program.now.names program.now.forms program.now.clauses.items program.now.modules.items) }
-    requires clauses { ClausesFit program.now.forms program.now.clauses.items }
-    requires modules { All (ModuleFits program.now.forms) program.now.modules.items }
-    ensures part { IfOk result (λ loaded. loaded ≡ part_of (shown_program program.now.names program.now.forms program.now.clauses.items program.now.modules.items)) }
-    ensures faultless { IfOk result (λ _. program_faults (shown_program program.now.names program.now.forms program.now.clauses.items program.now.modules.items) ≡ []) }
-    ensures cause { IfErr result (IsCauseOf (HasProgramFault (shown_program program.now.names program.now.forms program.now.clauses.items program.now.modules.items))) }
+    requires whole { IsWhole programs program.now }
+    ensures part { IfOk result (λ loaded. loaded ≡ part_of program.now) }
+    ensures faultless { IfOk result (λ _. program_faults program.now ≡ []) }
+    ensures cause { IfErr result (IsCauseOf (HasProgramFault program.now)) }
 {
     if let Some(fault) = judge_program(alloc, program)? {
         return Err(TextFault::Text(fault));

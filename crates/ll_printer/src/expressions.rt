@@ -4,22 +4,22 @@ ghost use Rattle.ll_parser.specs.Nodes.{raw_at, identifier};
 ghost use Rattle.ll_parser.specs.Printed.{is_add as is_add_sign, is_star as is_star_sign};
 ghost use Rattle.ll_printer.specs.Parts.{operator_text, operand_parts, sides_parts, expression_parts, Leaves};
 
-use crate::formulas::{Part, Word, push_all, push_part};
+use crate::formulas::{Part, Source, Word, push_all, push_part};
 use crate::words::name_of;
 use ll_bank::OutOfMemory;
-use ll_parser::{Named, RawAt, RawNode, RawProgram};
+use ll_parser::{Named, RawAt, RawNode};
 
 /// Leaves the parts of an expression.
 pub(crate) fn push_expression(
-    program: &RawProgram,
+    source: &Source<'_>,
     at: RawAt,
     parts: &mut Vec<Part>,
 ) -> Result<(), OutOfMemory>
-    requires { at.0 < length program.now.forms }
-    ensures { OnOk result (Leaves program.now.names program.now.forms (Part.Expression at) parts.old.items parts.new.items) }
+    requires { at.0 < length source.now.forms.now }
+    ensures { OnOk result (Leaves source.now.names.now source.now.forms.now (Part.Expression at) parts.old.items parts.new.items) }
 {
-    match program.forms.node(at) {
-        RawNode::Head(name, args) => push_head(program, name, args, parts),
+    match source.forms.node(at) {
+        RawNode::Head(name, args) => push_head(source, name, args, parts),
         RawNode::Int(value) => push_part(Part::Number(value), parts),
         RawNode::True => push_part(Part::Word(Word::Any), parts),
         RawNode::Erase => push_part(Part::Word(Word::Any), parts),
@@ -37,16 +37,16 @@ pub(crate) fn push_expression(
 
 /// Leaves a sign between its two operands, or a name alone.
 fn push_head(
-    program: &RawProgram,
+    source: &Source<'_>,
     name: Named,
     args: &[RawAt],
     parts: &mut Vec<Part>,
 ) -> Result<(), OutOfMemory>
-    requires { All (λ a. a.0 < length program.now.forms) args.now }
-    ensures { OnOk result (parts.new.items ≡ parts.old.items ++ expression_parts program.now.names program.now.forms (nat_eq (length args.now) 2) name args.now) }
+    requires { All (λ a. a.0 < length source.now.forms.now) args.now }
+    ensures { OnOk result (parts.new.items ≡ parts.old.items ++ expression_parts source.now.names.now source.now.forms.now (nat_eq (length args.now) 2) name args.now) }
 {
     if args.len() == 2 {
-        push_sides(program, name, args[0], args[1], parts)
+        push_sides(source, name, args[0], args[1], parts)
     } else {
         push_part(Part::Name(name), parts)
     }
@@ -54,20 +54,20 @@ fn push_head(
 
 /// Leaves a sign between its two operands.
 fn push_sides(
-    program: &RawProgram,
+    source: &Source<'_>,
     name: Named,
     left: RawAt,
     right: RawAt,
     parts: &mut Vec<Part>,
 ) -> Result<(), OutOfMemory>
-    requires left { left.0 < length program.now.forms }
-    requires right { right.0 < length program.now.forms }
-    ensures { OnOk result (parts.new.items ≡ parts.old.items ++ sides_parts program.now.names program.now.forms name left right) }
+    requires left { left.0 < length source.now.forms.now }
+    requires right { right.0 < length source.now.forms.now }
+    ensures { OnOk result (parts.new.items ≡ parts.old.items ++ sides_parts source.now.names.now source.now.forms.now name left right) }
 {
-    let sign = name_of(&program.names, name.name);
+    let sign = name_of(source.names, name.name);
     push_operand(
         right,
-        encloses_right(sign, operator_of(program, right)),
+        encloses_right(sign, operator_of(source, right)),
         parts,
     )?;
     push_all(
@@ -78,7 +78,7 @@ fn push_sides(
         ],
         parts,
     )?;
-    push_operand(left, encloses_left(sign, operator_of(program, left)), parts)
+    push_operand(left, encloses_left(sign, operator_of(source, left)), parts)
 }
 
 /// Leaves an operand, with its brackets if it has any.
@@ -100,14 +100,14 @@ fn push_operand(at: RawAt, enclosed: bool, parts: &mut Vec<Part>) -> Result<(), 
 }
 
 /// The sign of an expression with two operands, and of any other an empty text.
-fn operator_of(program: &RawProgram, at: RawAt) -> &str
-    requires { at.0 < length program.now.forms }
-    ensures { result.now ≡ operator_text (raw_at program.now.names program.now.forms at.0) }
+fn operator_of<'a>(source: &Source<'a>, at: RawAt) -> &'a str
+    requires { at.0 < length source.now.forms.now }
+    ensures { result.now ≡ operator_text (raw_at source.now.names.now source.now.forms.now at.0) }
 {
-    match program.forms.node(at) {
+    match source.forms.node(at) {
         RawNode::Head(name, args) => {
             if args.len() == 2 {
-                name_of(&program.names, name.name)
+                name_of(source.names, name.name)
             } else {
                 ""
             }

@@ -8,8 +8,15 @@ ghost use Rattle.ll_printer.specs.Parts.{rank_of, word_text, needs_brackets, inn
 use crate::expressions::push_expression;
 use crate::words::{name_of, write_integer};
 use ll_bank::{Names, OutOfMemory};
-use ll_parser::{Named, Op, RawAt, RawNode, RawProgram};
+use ll_parser::{Named, Op, RawAt, RawNode, Raws};
 use std::alloc::Global;
+
+/// The names and the nodes of a program.
+#[derive(Clone, Copy)]
+pub(crate) struct Source<'a> {
+    pub names: &'a Names,
+    pub forms: &'a Raws,
+}
 
 /// How loose an operator is, from the loosest.
 #[derive(Clone, Copy)]
@@ -95,41 +102,41 @@ pub(crate) enum Part {
 /// needs no deep stack.
 pub(crate) fn write_formula(
     alloc: Global,
-    program: &RawProgram,
+    source: &Source<'_>,
     at: RawAt,
     out: &mut Vec<u8>,
 ) -> Result<(), OutOfMemory>
-    requires { at.0 < length program.now.forms }
-    ensures text { OnOk result (out.new.items ≡ out.old.items ++ formula_text clauses false (raw_at program.now.names program.now.forms at.0)) }
-    ensures begun { OnErr result (BeginsText (formula_text clauses false (raw_at program.now.names program.now.forms at.0)) out.old.items out.new.items) }
+    requires { at.0 < length source.now.forms.now }
+    ensures text { OnOk result (out.new.items ≡ out.old.items ++ formula_text clauses false (raw_at source.now.names.now source.now.forms.now at.0)) }
+    ensures begun { OnErr result (BeginsText (formula_text clauses false (raw_at source.now.names.now source.now.forms.now at.0)) out.old.items out.new.items) }
 {
     let mut parts = Vec::new(alloc);
     parts.push(Part::Formula(at, Level::Clauses, false))?;
     while let Some(part) = parts.pop() {
-        print_part(program, part, &mut parts, out)?;
+        print_part(source, part, &mut parts, out)?;
     }
     Ok(())
 }
 
 /// Prints a part, or leaves the parts that it is made of. After a refusal the bytes are as before.
 fn print_part(
-    program: &RawProgram,
+    source: &Source<'_>,
     part: Part,
     parts: &mut Vec<Part>,
     out: &mut Vec<u8>,
 ) -> Result<(), OutOfMemory>
-    requires { HasPart program.now.forms part }
-    ensures moves { OnOk result (PartMoves program.now.names program.now.forms part parts.old.items out.old.items parts.new.items out.new.items) }
+    requires { HasPart source.now.forms.now part }
+    ensures moves { OnOk result (PartMoves source.now.names.now source.now.forms.now part parts.old.items out.old.items parts.new.items out.new.items) }
     ensures refused { OnErr result (out.new.items ≡ out.old.items) }
 {
     match part {
-        Part::Formula(at, level, followed) => push_formula(program, at, level, followed, parts),
-        Part::Inside(at, followed) => push_inside(program, at, followed, parts),
-        Part::Term(at) => push_term(program, at, parts),
-        Part::Argument(at) => push_argument(program, at, parts),
-        Part::Item(at) => push_item(program, at, parts),
-        Part::Expression(at) => push_expression(program, at, parts),
-        Part::Name(name) => write_identifier(&program.names, name, out),
+        Part::Formula(at, level, followed) => push_formula(source, at, level, followed, parts),
+        Part::Inside(at, followed) => push_inside(source, at, followed, parts),
+        Part::Term(at) => push_term(source, at, parts),
+        Part::Argument(at) => push_argument(source, at, parts),
+        Part::Item(at) => push_item(source, at, parts),
+        Part::Expression(at) => push_expression(source, at, parts),
+        Part::Name(name) => write_identifier(source.names, name, out),
         Part::Number(value) => write_integer(value, out),
         Part::Word(word) => write_word(word, out),
     }
@@ -249,11 +256,11 @@ fn is_looser(first: Level, second: Level) -> bool
 }
 
 /// Whether brackets stand round a formula.
-fn has_brackets(program: &RawProgram, at: RawAt, level: Level, followed: bool) -> bool
-    requires { at.0 < length program.now.forms }
-    ensures { result ≡ needs_brackets (rank_of level) followed (raw_at program.now.names program.now.forms at.0) }
+fn has_brackets(source: &Source<'_>, at: RawAt, level: Level, followed: bool) -> bool
+    requires { at.0 < length source.now.forms.now }
+    ensures { result ≡ needs_brackets (rank_of level) followed (raw_at source.now.names.now source.now.forms.now at.0) }
 {
-    match program.forms.node(at) {
+    match source.forms.node(at) {
         RawNode::True => false,
         RawNode::Erase => false,
         RawNode::Braces(_) => false,
@@ -270,16 +277,16 @@ fn has_brackets(program: &RawProgram, at: RawAt, level: Level, followed: bool) -
 
 /// Leaves a formula, with its brackets if it has any.
 fn push_formula(
-    program: &RawProgram,
+    source: &Source<'_>,
     at: RawAt,
     level: Level,
     followed: bool,
     parts: &mut Vec<Part>,
 ) -> Result<(), OutOfMemory>
-    requires { at.0 < length program.now.forms }
-    ensures { OnOk result (Leaves program.now.names program.now.forms (Part.Formula at level followed) parts.old.items parts.new.items) }
+    requires { at.0 < length source.now.forms.now }
+    ensures { OnOk result (Leaves source.now.names.now source.now.forms.now (Part.Formula at level followed) parts.old.items parts.new.items) }
 {
-    if has_brackets(program, at, level, followed) {
+    if has_brackets(source, at, level, followed) {
         push_all(
             &[
                 Part::Word(Word::Close),
@@ -295,15 +302,15 @@ fn push_formula(
 
 /// Leaves the parts of a formula without brackets round it.
 fn push_inside(
-    program: &RawProgram,
+    source: &Source<'_>,
     at: RawAt,
     followed: bool,
     parts: &mut Vec<Part>,
 ) -> Result<(), OutOfMemory>
-    requires { at.0 < length program.now.forms }
-    ensures { OnOk result (Leaves program.now.names program.now.forms (Part.Inside at followed) parts.old.items parts.new.items) }
+    requires { at.0 < length source.now.forms.now }
+    ensures { OnOk result (Leaves source.now.names.now source.now.forms.now (Part.Inside at followed) parts.old.items parts.new.items) }
 {
-    match program.forms.node(at) {
+    match source.forms.node(at) {
         RawNode::True => push_part(Part::Word(Word::True), parts),
         RawNode::Erase => push_part(Part::Word(Word::Erase), parts),
         RawNode::Braces(goal) => push_all(
@@ -424,12 +431,12 @@ fn push_arguments(args: &[RawAt], parts: &mut Vec<Part>) -> Result<(), OutOfMemo
 }
 
 /// Leaves the parts of a term.
-fn push_term(program: &RawProgram, at: RawAt, parts: &mut Vec<Part>) -> Result<(), OutOfMemory>
-    requires { at.0 < length program.now.forms }
-    ensures { OnOk result (Leaves program.now.names program.now.forms (Part.Term at) parts.old.items parts.new.items) }
+fn push_term(source: &Source<'_>, at: RawAt, parts: &mut Vec<Part>) -> Result<(), OutOfMemory>
+    requires { at.0 < length source.now.forms.now }
+    ensures { OnOk result (Leaves source.now.names.now source.now.forms.now (Part.Term at) parts.old.items parts.new.items) }
 {
-    match program.forms.node(at) {
-        RawNode::Head(name, args) => push_applied(&program.names, name, args, parts),
+    match source.forms.node(at) {
+        RawNode::Head(name, args) => push_applied(source.names, name, args, parts),
         RawNode::Int(value) => push_part(Part::Number(value), parts),
         RawNode::True => push_part(Part::Word(Word::Any), parts),
         RawNode::Erase => push_part(Part::Word(Word::Any), parts),
@@ -477,11 +484,11 @@ fn push_pair(args: &[RawAt], parts: &mut Vec<Part>) -> Result<(), OutOfMemory>
 }
 
 /// Leaves a space and a term, in brackets where it has arguments.
-fn push_argument(program: &RawProgram, at: RawAt, parts: &mut Vec<Part>) -> Result<(), OutOfMemory>
-    requires { at.0 < length program.now.forms }
-    ensures { OnOk result (Leaves program.now.names program.now.forms (Part.Argument at) parts.old.items parts.new.items) }
+fn push_argument(source: &Source<'_>, at: RawAt, parts: &mut Vec<Part>) -> Result<(), OutOfMemory>
+    requires { at.0 < length source.now.forms.now }
+    ensures { OnOk result (Leaves source.now.names.now source.now.forms.now (Part.Argument at) parts.old.items parts.new.items) }
 {
-    if has_any_arguments(program, at) {
+    if has_any_arguments(source, at) {
         push_all(
             &[
                 Part::Word(Word::Close),
@@ -497,11 +504,11 @@ fn push_argument(program: &RawProgram, at: RawAt, parts: &mut Vec<Part>) -> Resu
 }
 
 /// Leaves the term in front of a `::`, in brackets where it is itself of the form `X::L`.
-fn push_item(program: &RawProgram, at: RawAt, parts: &mut Vec<Part>) -> Result<(), OutOfMemory>
-    requires { at.0 < length program.now.forms }
-    ensures { OnOk result (Leaves program.now.names program.now.forms (Part.Item at) parts.old.items parts.new.items) }
+fn push_item(source: &Source<'_>, at: RawAt, parts: &mut Vec<Part>) -> Result<(), OutOfMemory>
+    requires { at.0 < length source.now.forms.now }
+    ensures { OnOk result (Leaves source.now.names.now source.now.forms.now (Part.Item at) parts.old.items parts.new.items) }
 {
-    if is_pair_at(program, at) {
+    if is_pair_at(source, at) {
         push_all(
             &[
                 Part::Word(Word::Close),
@@ -516,11 +523,11 @@ fn push_item(program: &RawProgram, at: RawAt, parts: &mut Vec<Part>) -> Result<(
 }
 
 /// Whether a term has arguments.
-fn has_any_arguments(program: &RawProgram, at: RawAt) -> bool
-    requires { at.0 < length program.now.forms }
-    ensures { result ≡ has_arguments (raw_at program.now.names program.now.forms at.0) }
+fn has_any_arguments(source: &Source<'_>, at: RawAt) -> bool
+    requires { at.0 < length source.now.forms.now }
+    ensures { result ≡ has_arguments (raw_at source.now.names.now source.now.forms.now at.0) }
 {
-    match program.forms.node(at) {
+    match source.forms.node(at) {
         RawNode::Head(_, args) => !args.is_empty(),
         RawNode::True => false,
         RawNode::Erase => false,
@@ -536,12 +543,12 @@ fn has_any_arguments(program: &RawProgram, at: RawAt) -> bool
 }
 
 /// Whether a term is of the form `X::L`.
-fn is_pair_at(program: &RawProgram, at: RawAt) -> bool
-    requires { at.0 < length program.now.forms }
-    ensures { result ≡ is_pair (raw_at program.now.names program.now.forms at.0) }
+fn is_pair_at(source: &Source<'_>, at: RawAt) -> bool
+    requires { at.0 < length source.now.forms.now }
+    ensures { result ≡ is_pair (raw_at source.now.names.now source.now.forms.now at.0) }
 {
-    match program.forms.node(at) {
-        RawNode::Head(name, args) => is_pair_of(&program.names, name, args),
+    match source.forms.node(at) {
+        RawNode::Head(name, args) => is_pair_of(source.names, name, args),
         RawNode::True => false,
         RawNode::Erase => false,
         RawNode::Braces(_) => false,

@@ -1,6 +1,6 @@
 //! The lines of a program.
-ghost use Rattle.std.specs.Prelude.{◌≡◌, ◌<◌, ◌++◌, OnOk, OnErr, All, length, map, codes};
-ghost use Rattle.ll_parser.specs.Nodes.{identifier, shown_clause, shown_module, shown_program};
+ghost use Rattle.std.specs.Prelude.{◌≡◌, ◌<◌, ◌++◌, OnOk, OnErr, length, map, codes};
+ghost use Rattle.ll_parser.specs.Nodes.{identifier, shown_clause, shown_module};
 ghost use Rattle.ll_parser.specs.Text.{programs};
 ghost use Rattle.ll_parser.specs.Reads.{IsWhole};
 ghost use Rattle.ll_parser.specs.Drafts.{ClausesFit, ModuleFits};
@@ -8,7 +8,7 @@ ghost use Rattle.ll_parser.specs.Printed.{names_text, clause_text, clauses_text,
 ghost use Rattle.ll_printer.specs.Pieces.{BeginsText};
 ghost use Rattle.ll_printer.specs.Again.{IsReadAgain};
 
-use crate::formulas::{write_formula, write_identifier};
+use crate::formulas::{Source, write_formula, write_identifier};
 use ll_bank::{Names, OutOfMemory};
 use ll_parser::{Named, RawClause, RawModule, RawProgram, printed_is_read};
 use std::alloc::Global;
@@ -19,12 +19,9 @@ use std::alloc::Global;
 ///
 /// After a refusal some first bytes of the text may have been appended. It needs no deep stack, and time in proportion to the text.
 pub fn program(alloc: Global, program: &RawProgram, out: &mut Vec<u8>) -> Result<(), OutOfMemory>
-    requires clauses { ClausesFit program.now.forms program.now.clauses.items }
-    requires modules { All (ModuleFits program.now.forms) program.now.modules.items }
-    ensures text { OnOk result (out.new.items ≡ out.old.items ++ program_text (shown_program program.now.names program.now.forms program.now.clauses.items program.now.modules.items)) }
-    ensures again { OnOk result (IsWhole programs (shown_program program.now.names program.now.forms program.now.clauses.items program.now.modules.items)
-        → IsReadAgain (shown_program program.now.names program.now.forms program.now.clauses.items program.now.modules.items) out.old.items out.new.items) }
-    ensures begun { OnErr result (BeginsText (program_text (shown_program program.now.names program.now.forms program.now.clauses.items program.now.modules.items)) out.old.items out.new.items) }
+    ensures text { OnOk result (out.new.items ≡ out.old.items ++ program_text program.now) }
+    ensures again { OnOk result (IsWhole programs program.now → IsReadAgain program.now out.old.items out.new.items) }
+    ensures begun { OnErr result (BeginsText (program_text program.now) out.old.items out.new.items) }
 {
     write_program(alloc, program, out)?;
     printed_is_read();
@@ -33,14 +30,16 @@ pub fn program(alloc: Global, program: &RawProgram, out: &mut Vec<u8>) -> Result
 
 /// Appends the clauses and the modules of a program. After a refusal some first bytes of them may have been appended.
 fn write_program(alloc: Global, program: &RawProgram, out: &mut Vec<u8>) -> Result<(), OutOfMemory>
-    requires clauses { ClausesFit program.now.forms program.now.clauses.items }
-    requires modules { All (ModuleFits program.now.forms) program.now.modules.items }
-    ensures text { OnOk result (out.new.items ≡ out.old.items ++ program_text (shown_program program.now.names program.now.forms program.now.clauses.items program.now.modules.items)) }
-    ensures begun { OnErr result (BeginsText (program_text (shown_program program.now.names program.now.forms program.now.clauses.items program.now.modules.items)) out.old.items out.new.items) }
+    ensures text { OnOk result (out.new.items ≡ out.old.items ++ program_text program.now) }
+    ensures begun { OnErr result (BeginsText (program_text program.now) out.old.items out.new.items) }
 {
-    write_clauses(alloc, program, program.clauses.as_slice(), out)?;
+    let source = Source {
+        names: &program.names,
+        forms: &program.forms,
+    };
+    write_clauses(alloc, &source, program.clauses.as_slice(), out)?;
     for i in 0..program.modules.len() {
-        write_module(alloc, program, &program.modules[i], out)?;
+        write_module(alloc, &source, &program.modules[i], out)?;
     }
     Ok(())
 }
@@ -48,19 +47,19 @@ fn write_program(alloc: Global, program: &RawProgram, out: &mut Vec<u8>) -> Resu
 /// Appends a module. After a refusal some first bytes of it may have been appended.
 fn write_module(
     alloc: Global,
-    program: &RawProgram,
+    source: &Source<'_>,
     module: &RawModule,
     out: &mut Vec<u8>,
 ) -> Result<(), OutOfMemory>
-    requires { ModuleFits program.now.forms «module».now }
-    ensures text { OnOk result (out.new.items ≡ out.old.items ++ module_text (shown_module program.now.names program.now.forms «module».now)) }
-    ensures begun { OnErr result (BeginsText (module_text (shown_module program.now.names program.now.forms «module».now)) out.old.items out.new.items) }
+    requires { ModuleFits source.now.forms.now «module».now }
+    ensures text { OnOk result (out.new.items ≡ out.old.items ++ module_text (shown_module source.now.names.now source.now.forms.now «module».now)) }
+    ensures begun { OnErr result (BeginsText (module_text (shown_module source.now.names.now source.now.forms.now «module».now)) out.old.items out.new.items) }
 {
     out.extend_from_slice(b"MODULE")?;
-    write_name(&program.names, module.name, out)?;
-    write_names(&program.names, module.params.as_slice(), out)?;
-    write_locals(&program.names, module.locals.as_slice(), out)?;
-    write_clauses(alloc, program, module.clauses.as_slice(), out)
+    write_name(source.names, module.name, out)?;
+    write_names(source.names, module.params.as_slice(), out)?;
+    write_locals(source.names, module.locals.as_slice(), out)?;
+    write_clauses(alloc, source, module.clauses.as_slice(), out)
 }
 
 /// Appends the line `LOCAL` of these constants, if there are any. After a refusal some first bytes of it may have been appended.
@@ -98,16 +97,16 @@ fn write_name(names: &Names, name: Named, out: &mut Vec<u8>) -> Result<(), OutOf
 /// Appends clauses. After a refusal some first bytes of them may have been appended.
 fn write_clauses(
     alloc: Global,
-    program: &RawProgram,
+    source: &Source<'_>,
     list: &[RawClause],
     out: &mut Vec<u8>,
 ) -> Result<(), OutOfMemory>
-    requires { ClausesFit program.now.forms list.now }
-    ensures text { OnOk result (out.new.items ≡ out.old.items ++ clauses_text (map (shown_clause program.now.names program.now.forms) list.now)) }
-    ensures begun { OnErr result (BeginsText (clauses_text (map (shown_clause program.now.names program.now.forms) list.now)) out.old.items out.new.items) }
+    requires { ClausesFit source.now.forms.now list.now }
+    ensures text { OnOk result (out.new.items ≡ out.old.items ++ clauses_text (map (shown_clause source.now.names.now source.now.forms.now) list.now)) }
+    ensures begun { OnErr result (BeginsText (clauses_text (map (shown_clause source.now.names.now source.now.forms.now) list.now)) out.old.items out.new.items) }
 {
     for i in 0..list.len() {
-        write_clause(alloc, program, list[i], out)?;
+        write_clause(alloc, source, list[i], out)?;
     }
     Ok(())
 }
@@ -115,17 +114,17 @@ fn write_clauses(
 /// Appends the line of a clause. After a refusal some first bytes of it may have been appended.
 fn write_clause(
     alloc: Global,
-    program: &RawProgram,
+    source: &Source<'_>,
     clause: RawClause,
     out: &mut Vec<u8>,
 ) -> Result<(), OutOfMemory>
-    requires { clause.form.0 < length program.now.forms }
-    ensures text { OnOk result (out.new.items ≡ out.old.items ++ clause_text (shown_clause program.now.names program.now.forms clause)) }
-    ensures begun { OnErr result (BeginsText (clause_text (shown_clause program.now.names program.now.forms clause)) out.old.items out.new.items) }
+    requires { clause.form.0 < length source.now.forms.now }
+    ensures text { OnOk result (out.new.items ≡ out.old.items ++ clause_text (shown_clause source.now.names.now source.now.forms.now clause)) }
+    ensures begun { OnErr result (BeginsText (clause_text (shown_clause source.now.names.now source.now.forms.now clause)) out.old.items out.new.items) }
 {
     if clause.linear {
         out.extend_from_slice(b"LINEAR ")?;
     }
-    write_formula(alloc, program, clause.form, out)?;
+    write_formula(alloc, source, clause.form, out)?;
     out.extend_from_slice(b".\n")
 }

@@ -1,7 +1,5 @@
 //! The queries of a text, replied to line by line.
-ghost use Rattle.std.specs.Prelude.{◌≡◌, ◌≤◌, [], length, All, Err, IfOk, OnOk, OnErr};
-ghost use Rattle.ll_parser.specs.Drafts.{ClausesFit, ModuleFits};
-ghost use Rattle.ll_parser.specs.Nodes.{shown_program};
+ghost use Rattle.std.specs.Prelude.{◌≡◌, ◌≤◌, [], length, Err, IfOk, OnOk, OnErr};
 ghost use Rattle.ll_parser.specs.Raw.{ProgramTree};
 ghost use Rattle.ll_parser.specs.Reads.{IsWhole};
 ghost use Rattle.ll_parser.specs.Text.{programs};
@@ -33,14 +31,12 @@ pub fn session<R: Replies>(
     bound: u32,
     replies: &mut R,
 ) -> Result<u32, OutFault>
-    requires whole { IsWhole programs (shown_program program.now.names program.now.forms program.now.clauses.items program.now.modules.items) }
-    requires clauses { ClausesFit program.now.forms program.now.clauses.items }
-    requires modules { All (ModuleFits program.now.forms) program.now.modules.items }
-    requires faultless { program_faults (shown_program program.now.names program.now.forms program.now.clauses.items program.now.modules.items) ≡ [] }
+    requires whole { IsWhole programs program.now }
+    requires faultless { program_faults program.now ≡ [] }
     requires text { length text.now ≤ 16777216 }
     requires bound { bound ≤ 1000000 }
-    ensures answers { IfOk result (λ count. Answers R.takes R.breaks (shown_program program.now.names program.now.forms program.now.clauses.items program.now.modules.items) text.now bound replies.old count replies.new) }
-    ensures refused { OnErr result (StopsShort R.takes R.breaks (shown_program program.now.names program.now.forms program.now.clauses.items program.now.modules.items) text.now bound replies.old replies.new) }
+    ensures answers { IfOk result (λ count. Answers R.takes R.breaks program.now text.now bound replies.old count replies.new) }
+    ensures refused { OnErr result (StopsShort R.takes R.breaks program.now text.now bound replies.old replies.new) }
     ensures write { result ≡ Err Write → Rose (R.faults replies.old) (R.faults replies.new) }
     ensures faults_kept { R.faults replies.old ≤ R.faults replies.new }
 {

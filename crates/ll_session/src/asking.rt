@@ -1,7 +1,6 @@
 //! What the text of a query asks of a program that was loaded.
-ghost use Rattle.std.specs.Prelude.{◌≡◌, ◌<◌, ◌≤◌, length, IfOk, IfErr};
+ghost use Rattle.std.specs.Prelude.{◌≡◌, ◌≤◌, length, IfOk, IfErr};
 ghost use Rattle.ll_laws.specs.Valid.{IsValid};
-ghost use Rattle.ll_parser.specs.Nodes.{raw_at};
 ghost use Rattle.ll_parser.specs.Raw.{ProgramTree};
 ghost use Rattle.ll_parser.specs.Reads.{IsWhole};
 ghost use Rattle.ll_parser.specs.Text.{queries};
@@ -37,9 +36,8 @@ pub fn ask_text(
 // The query that a text is by the grammar, or its fault of kinds 1 to 6.
 fn read_query(alloc: Global, text: &[u8]) -> Result<RawQuery, TextFault>
     requires { length text.now ≤ 16777216 }
-    ensures read { IfOk result (λ q. IsQueryText text.now (raw_at q.names q.forms q.goal.0)) }
-    ensures whole { IfOk result (λ q. IsWhole queries (raw_at q.names q.forms q.goal.0)) }
-    ensures inside { IfOk result (λ q. q.goal.0 < length q.forms) }
+    ensures read { IfOk result (λ q. IsQueryText text.now q) }
+    ensures whole { IfOk result (λ q. IsWhole queries q) }
     ensures cause { IfErr result (IsUnreadCause text.now) }
 {
     let list = match tokens(alloc, text) {

@@ -1,5 +1,10 @@
+use Rattle.std.proofs.Common.{sym, subst}
+use Rattle.ll_parser.specs.Reads.{IsWhole}
+use Rattle.ll_parser.specs.Text.{queries}
+use Rattle.ll_polarity.specs.Faults.{query_faults}
+use Rattle.ll_polarity.specs.Pending.{IsHead}
 use Rattle.ll_polarity.proofs.Named.{whole_query_named}
 use Rattle.ll_polarity.proofs.judge.judge_query.Goals as goal
 
 pub first_fault-requires-clause-ready : goal.first_fault-requires-clause-ready
-first_fault-requires-clause-ready c = (c.requires.goal, whole_query_named _ c.requires.whole)
+first_fault-requires-clause-ready c = (c.query.invariant, whole_query_named _ (subst (IsWhole queries) (sym c.query.view_is) c.requires.whole))

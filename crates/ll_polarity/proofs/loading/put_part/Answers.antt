@@ -1,11 +1,15 @@
-use Rattle.std.proofs.Common.{◌+◌, ◌<◌, All, get_or, length, sym, subst, ap, ◌∙◌}
+use Rattle.std.proofs.Common.{◌≡◌, ◌+◌, ◌<◌, [], All, get_or, length, sym, subst, ap, ◌∙◌}
 use Rattle.std.specs.Prelude.{◌^◌, unwrap_or}
 use Rattle.ll_bank.proofs.CallerLemmas.{HasForm-extends}
 use Rattle.ll_parser.specs.declared.RawClause.{RawClause}
 use Rattle.ll_parser.specs.declared.RawModule.{RawModule}
 use Rattle.ll_parser.specs.Nodes.{shown_program}
+use Rattle.ll_parser.specs.Reads.{IsWhole}
+use Rattle.ll_parser.specs.Text.{programs}
+use Rattle.ll_polarity.specs.Asks.{module_names}
 use Rattle.ll_polarity.specs.Calls.{IsReady}
-use Rattle.ll_polarity.specs.Places.{place_in}
+use Rattle.ll_polarity.specs.Faults.{program_faults}
+use Rattle.ll_polarity.specs.Places.{FindsFirst, place_in}
 use Rattle.ll_polarity.specs.Ready.{IsModuleReady}
 use Rattle.ll_polarity.proofs.Judging.{program-clauses-ready, program-modules-ready}
 use Rattle.ll_polarity.proofs.ModuleRows.{few_own_shown, ready_clauses, stands_first, whole_few_own}
@@ -15,22 +19,22 @@ use Rattle.ll_polarity.proofs.PartShown.{part_shown}
 use Rattle.ll_polarity.proofs.loading.put_part.Goals as goal
 
 pub clauses-requires-clause-stands : goal.clauses-requires-clause-stands
-clauses-requires-clause-stands c = stands_first c.args.program.now.names c.in_ok-binders.binders c.len-texts.ensures.distinct c.in_ok-binders.ensures
+clauses-requires-clause-stands c = stands_first c.program.inside.names c.in_ok-binders.binders c.len-texts.ensures.distinct c.in_ok-binders.ensures
 
 pub clauses-requires-clause-ready : goal.clauses-requires-clause-ready
 clauses-requires-clause-ready c =
-    let texts = c.args.program.now.names in let nodes = c.args.program.now.forms in let cs = c.args.program.now.clauses.items in
-    subst (All (λ (r : RawClause). IsReady texts nodes r.form.0)) (sym c.deref.ensures.value)
-    (ready_clauses texts nodes cs (program-clauses-ready texts nodes cs c.args.program.now.modules.items (whole_program_named _ c.requires.whole) c.requires.clauses))
+    let p = c.program.inside in let whole = subst (IsWhole programs) (sym c.program.view_is) c.requires.whole in
+    subst (All (λ (r : RawClause). IsReady p.names p.forms r.form.0)) (sym c.deref.ensures.value)
+    (ready_clauses p.names p.forms p.clauses.items (program-clauses-ready p.names p.forms p.clauses.items p.modules.items (whole_program_named _ whole) c.program.invariant.0))
 
 pub clauses-requires-clause-room : goal.clauses-requires-clause-room
 clauses-requires-clause-room c =
-    room_at_clauses c.args.program.now.names c.args.program.now.forms c.args.program.now.clauses.items c.args.program.now.modules.items c.requires.whole c.deref.result.now c.in_ok-binders.binders.scope c.new-2.result
-    c.deref.ensures.value (ap (λ b. b.scope) c.in_ok-binders.ensures) c.new-2.ensures
+    let p = c.program.inside in let whole = subst (IsWhole programs) (sym c.program.view_is) c.requires.whole in
+    room_at_clauses p.names p.forms p.clauses.items p.modules.items whole c.deref.result.now c.in_ok-binders.binders.scope c.new-2.result c.deref.ensures.value (ap (λ b. b.scope) c.in_ok-binders.ensures) c.new-2.ensures
 
 pub modules-requires-clause-stands : goal.modules-requires-clause-stands
 modules-requires-clause-stands c =
-    stands_first c.args.program.now.names c.clauses.new.binders c.len-texts.ensures.distinct
+    stands_first c.program.inside.names c.clauses.new.binders c.len-texts.ensures.distinct
     (λ i. record { texts = c.in_ok-clauses.ensures.texts i; scope = (c.in_ok-clauses.ensures.scope ∙ ap (λ b. b.scope) c.in_ok-binders.ensures) i })
 
 pub modules-requires-clause-outermost : goal.modules-requires-clause-outermost
@@ -38,35 +42,40 @@ modules-requires-clause-outermost c = c.in_ok-clauses.ensures.scope ∙ ap (λ b
 
 pub modules-requires-clause-ready : goal.modules-requires-clause-ready
 modules-requires-clause-ready c =
-    let texts = c.args.program.now.names in let nodes = c.args.program.now.forms in
-    subst (All (IsModuleReady texts nodes)) (sym c.deref-2.ensures.value)
-    (program-modules-ready texts nodes c.args.program.now.clauses.items c.args.program.now.modules.items (whole_program_named _ c.requires.whole) c.requires.modules)
+    let p = c.program.inside in let whole = subst (IsWhole programs) (sym c.program.view_is) c.requires.whole in
+    subst (All (IsModuleReady p.names p.forms)) (sym c.deref-2.ensures.value) (program-modules-ready p.names p.forms p.clauses.items p.modules.items (whole_program_named _ whole) c.program.invariant.1)
 
 pub modules-requires-clause-few : goal.modules-requires-clause-few
 modules-requires-clause-few c =
-    let texts = c.args.program.now.names in let nodes = c.args.program.now.forms in let bodies = c.args.program.now.modules.items in
+    let p = c.program.inside in let whole = subst (IsWhole programs) (sym c.program.view_is) c.requires.whole in
     subst (All (λ (m : RawModule). length m.locals.items + length m.params.items < 2 ^ 31)) (sym c.deref-2.ensures.value)
-    (few_own_shown texts nodes bodies (whole_few_own (shown_program texts nodes c.args.program.now.clauses.items bodies) c.requires.whole))
+    (few_own_shown p.names p.forms p.modules.items (whole_few_own (shown_program p.names p.forms p.clauses.items p.modules.items) whole))
 
 pub modules-requires-clause-room : goal.modules-requires-clause-room
 modules-requires-clause-room c =
-    room_at_modules c.args.program.now.names c.args.program.now.forms c.args.program.now.clauses.items c.args.program.now.modules.items c.requires.whole c.deref.result.now c.in_ok-binders.binders.scope c.new-2.result
-    c.deref.ensures.value (ap (λ b. b.scope) c.in_ok-binders.ensures) c.new-2.ensures c.deref-2.result.now c.clauses.new.met.names c.deref-2.ensures.value c.in_ok-clauses.ensures.names
+    let p = c.program.inside in let whole = subst (IsWhole programs) (sym c.program.view_is) c.requires.whole in
+    room_at_modules p.names p.forms p.clauses.items p.modules.items whole c.deref.result.now c.in_ok-binders.binders.scope c.new-2.result c.deref.ensures.value (ap (λ b. b.scope) c.in_ok-binders.ensures) c.new-2.ensures
+    c.deref-2.result.now c.clauses.new.met.names c.deref-2.ensures.value c.in_ok-clauses.ensures.names
 
 pub invariant_of-result : goal.invariant_of-result
 invariant_of-result c =
-    let texts = c.args.program.now.names in let nodes = c.args.program.now.forms in let cs = c.args.program.now.clauses.items in let bodies = c.args.program.now.modules.items in
-    let is = part_shown texts nodes (place_in c.args.places.now.places) cs c.deref.result.now bodies c.deref-2.result.now c.in_ok-binders.binders.scope c.new-2.result c.clauses.new.met.names c.modules.new.met.names c.clauses.new.bank c.modules.new.bank
-    c.in_ok-clauses.clauses.items c.in_ok-modules.modules.items c.deref.ensures.value c.deref-2.ensures.value (ap (λ b. b.scope) c.in_ok-binders.ensures) c.new-2.ensures (λ w. ap (λ o. unwrap_or o 0) (c.requires.found w)) c.in_ok-clauses.ensures.shows c.in_ok-clauses.ensures.names
-    c.in_ok-modules.ensures.shows c.in_ok-modules.ensures.names c.in_ok-clauses.ensures.inside c.in_ok-modules.ensures.keeps c.requires.faultless in (
+    let p = c.program.inside in let whole = subst (IsWhole programs) (sym c.program.view_is) c.requires.whole in
+    let found = subst (λ tree. FindsFirst c.args.places.now.places (module_names tree)) (sym c.program.view_is) c.requires.found in
+    let faultless = subst (λ tree. program_faults tree ≡ []) (sym c.program.view_is) c.requires.faultless in
+    let is = part_shown p.names p.forms (place_in c.args.places.now.places) p.clauses.items c.deref.result.now p.modules.items c.deref-2.result.now c.in_ok-binders.binders.scope c.new-2.result c.clauses.new.met.names c.modules.new.met.names c.clauses.new.bank c.modules.new.bank
+    c.in_ok-clauses.clauses.items c.in_ok-modules.modules.items c.deref.ensures.value c.deref-2.ensures.value (ap (λ b. b.scope) c.in_ok-binders.ensures) c.new-2.ensures (λ w. ap (λ o. unwrap_or o 0) (found w)) c.in_ok-clauses.ensures.shows c.in_ok-clauses.ensures.names
+    c.in_ok-modules.ensures.shows c.in_ok-modules.ensures.names c.in_ok-clauses.ensures.inside c.in_ok-modules.ensures.keeps faultless in (
       c.in_ok-modules.ensures.inside,
       λ k d l. HasForm-extends c.in_ok-modules.ensures.keeps (get_or c.in_ok-clauses.clauses.items k d).form.0 (c.in_ok-clauses.ensures.inside k d l),
-      part_numbered (shown_program texts nodes cs bodies) c.requires.whole c.modules.new.met.names c.modules.new.bank c.in_ok-modules.modules.items (ap (λ x. x.names) is) (ap (λ x. x.modules) is),
+      part_numbered (shown_program p.names p.forms p.clauses.items p.modules.items) whole c.modules.new.met.names c.modules.new.bank c.in_ok-modules.modules.items (ap (λ x. x.names) is) (ap (λ x. x.modules) is),
     )
 
 pub returns : goal.returns
 returns c =
-    let texts = c.args.program.now.names in let nodes = c.args.program.now.forms in let cs = c.args.program.now.clauses.items in let bodies = c.args.program.now.modules.items in
-    part_shown texts nodes (place_in c.args.places.now.places) cs c.deref.result.now bodies c.deref-2.result.now c.in_ok-binders.binders.scope c.new-2.result c.clauses.new.met.names c.modules.new.met.names c.clauses.new.bank c.modules.new.bank
-    c.in_ok-clauses.clauses.items c.in_ok-modules.modules.items c.deref.ensures.value c.deref-2.ensures.value (ap (λ b. b.scope) c.in_ok-binders.ensures) c.new-2.ensures (λ w. ap (λ o. unwrap_or o 0) (c.requires.found w)) c.in_ok-clauses.ensures.shows c.in_ok-clauses.ensures.names
-    c.in_ok-modules.ensures.shows c.in_ok-modules.ensures.names c.in_ok-clauses.ensures.inside c.in_ok-modules.ensures.keeps c.requires.faultless
+    let p = c.program.inside in
+    let found = subst (λ tree. FindsFirst c.args.places.now.places (module_names tree)) (sym c.program.view_is) c.requires.found in
+    let faultless = subst (λ tree. program_faults tree ≡ []) (sym c.program.view_is) c.requires.faultless in
+    rw (← c.program.view_is)
+    (part_shown p.names p.forms (place_in c.args.places.now.places) p.clauses.items c.deref.result.now p.modules.items c.deref-2.result.now c.in_ok-binders.binders.scope c.new-2.result c.clauses.new.met.names c.modules.new.met.names c.clauses.new.bank c.modules.new.bank
+    c.in_ok-clauses.clauses.items c.in_ok-modules.modules.items c.deref.ensures.value c.deref-2.ensures.value (ap (λ b. b.scope) c.in_ok-binders.ensures) c.new-2.ensures (λ w. ap (λ o. unwrap_or o 0) (found w)) c.in_ok-clauses.ensures.shows c.in_ok-clauses.ensures.names
+    c.in_ok-modules.ensures.shows c.in_ok-modules.ensures.names c.in_ok-clauses.ensures.inside c.in_ok-modules.ensures.keeps faultless)

@@ -5,7 +5,7 @@ use Rattle.ll_lists.proofs.CallerLemmas.{OnOk-weaker as on_ok}
 
 pub returns : goal.returns
 returns c =
-    let names = c.args.program.now.names in let nodes = c.args.program.now.forms in
+    let names = c.args.source.now.names.now in let nodes = c.args.source.now.forms.now in
     let w = (identifier names c.args.name).text in let s = c.name_of-sign.result.now in
     on_ok c.push_operand-2.result
     (sides-pushed names nodes c.args.name c.args.left c.args.right c.encloses_left.result c.encloses_right.result c.args.parts.now.items c.push_operand.new.parts.items c.push_all.new.parts.items

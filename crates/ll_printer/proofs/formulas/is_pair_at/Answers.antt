@@ -7,5 +7,5 @@ use Rattle.ll_printer.proofs.formulas.is_pair_at.Goals as goal
 pub returns-in-Head : goal.returns-in-Head
 returns-in-Head c =
     c.is_pair_of.ensures
-    ∙ (sym (pair-is c.args.program.now.names c.args.program.now.forms (identifier c.args.program.now.names c.in-Head.name) c.in-Head.args.now)
-    ∙ ap is_pair (sym (c.in-Head.ensures.tree c.args.program.now.names)))
+    ∙ (sym (pair-is c.args.source.now.names.now c.args.source.now.forms.now (identifier c.args.source.now.names.now c.in-Head.name) c.in-Head.args.now)
+    ∙ ap is_pair (sym (c.in-Head.ensures.tree c.args.source.now.names.now)))

@@ -1,10 +1,9 @@
 use Rattle.std.proofs.Common.{◌++◌, ap, sym, ◌∙◌}
-use Rattle.ll_parser.specs.Nodes.{shown_program}
 use Rattle.ll_printer.proofs.programs.program.Goals as goal
 
 pub returns-clause-again : goal.returns-clause-again
 returns-clause-again c = λ whole.
-    let read = c.printed_is_read.ensures (shown_program c.args.program.now.names c.args.program.now.forms c.args.program.now.clauses.items c.args.program.now.modules.items) whole in
+    let read = c.printed_is_read.ensures c.args.program.now whole in
     record {
       lexed = read.0;
       appended = c.in_ok-write_program.ensures.text ∙ ap (λ u. c.args.out.now.items ++ u) (sym read.1);

@@ -4,7 +4,6 @@ use Rattle.std.specs.Io.KnownBytes.{append_known}
 use Rattle.ll_edge.specs.Pieces.{AppendsFront}
 use Rattle.ll_edge.specs.Texts.{Texts, text_of}
 use Rattle.ll_laws.specs.Problem.{ProblemTree}
-use Rattle.ll_laws.specs.Output.{run_status}
 use Rattle.ll_laws.specs.Line.{DerivationLines}
 use Rattle.ll_laws.specs.Verdict.{DerivationShows}
 use Rattle.ll_prooftext.specs.Versions.{HasFaultIn}

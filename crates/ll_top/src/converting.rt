@@ -10,7 +10,7 @@ ghost use Rattle.ll_top.specs.Words.{shown_convert};
 use crate::checking::derivation_of;
 use crate::fault::{Cause, refuse};
 use crate::judge::Role;
-use crate::prepare::read;
+use crate::prepare::{LONGEST_TEXT, read};
 use crate::refusal::Refusal;
 use crate::words::ConvertCommand;
 use ll_bank::{Names, OutOfMemory};
@@ -18,9 +18,6 @@ use ll_edge::{Shelf, Sink, WriteFailed, write_all};
 use ll_laws::Derivation;
 use ll_prooftext::{size, write, write2};
 use std::alloc::Global;
-
-// The greatest number of bytes of a text that is written.
-const LONGEST_TEXT: u64 = 16_777_216;
 
 /// What a derivation comes to in a version.
 #[derive(Drop)]
@@ -90,7 +87,7 @@ fn converted(alloc: Global, proof: &[u8], version: u8) -> Result<NewText, Refusa
 {
     let mut names = Names::new(alloc);
     let derivation = derivation_of(alloc, proof, &mut names)?;
-    if size(alloc, &names, &derivation, version)? > LONGEST_TEXT {
+    if size(alloc, &names, &derivation, version)? > LONGEST_TEXT as u64 {
         return Ok(NewText::TooLong);
     }
     let text = text_as(alloc, &names, &derivation, version)?;

@@ -31,7 +31,7 @@ pub struct Writing<'p, 's, O> {
 }
 
 impl<'p, 's, O: Sink> Outlet for Writing<'p, 's, O> {
-    ghost use Rattle.ll_top.specs.Running.{OutletState, Writes, BreaksOff, IsWelcome};
+    ghost use Rattle.ll_top.specs.Running.{Writes, BreaksOff, IsWelcome};
 
     ghost takes = { λ before event after. Writes
         (record { problem = before.problem.now; proofs = before.proofs; answers = before.answers; written = O.written before.sink.now; faults = O.faults before.sink.now; lent = before.sink.ghost_name })

@@ -16,8 +16,8 @@ use ll_lexer::TextFault;
 use ll_polarity::{Loaded, ask, load};
 use std::alloc::Global;
 
-// The greatest number of bytes of a text.
-const LONGEST_TEXT: usize = 16_777_216;
+/// The greatest number of bytes of a text.
+pub const LONGEST_TEXT: usize = 16_777_216;
 
 /// The problem of a run: reads the program and then the query from the shelf, each to its end, and then judges them in turn.
 pub fn prepare<F: Shelf>(

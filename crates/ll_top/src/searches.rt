@@ -1,5 +1,5 @@
 //! The words of a run, of a session and of a deepening: two names, and options in any order.
-ghost use Rattle.std.specs.Prelude.{◌≡◌, ◌<◌, ℕ, length, true, false, is_some, IfOk, MatchOption, MatchResult, codes};
+ghost use Rattle.std.specs.Prelude.{◌≡◌, ◌<◌, length, true, false, is_some, IfOk, MatchOption, MatchResult, codes};
 ghost use Rattle.std.specs.List.{list_any};
 ghost use Rattle.ll_top.specs.Words.{is_word, ThisWord, IsRun, IsSession, IsDeepen, IsBounded, shown_words, shown_session, shown_deepen};
 ghost use Rattle.ll_top.specs.FormWords.{HasPart};

@@ -1,6 +1,4 @@
 // An outlet for a search whose counts alone are wanted.
-ghost use Rattle.std.specs.Prelude.{◌≡◌};
-
 use ll_laws::Event;
 use ll_order::{OutFault, Outlet};
 

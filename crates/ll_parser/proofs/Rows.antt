@@ -6,9 +6,9 @@ use Rattle.ll_parser.specs.Tokens.{Identifier, Tok, name, variable, any, number,
 use Rattle.ll_parser.specs.Raw.{Raw, truth, braces, universal, existential, load, binary, head, anything, int, none, more, cons_raw, ProgramTree}
 use Rattle.ll_parser.specs.Text.{programs, queries}
 use Rattle.ll_parser.specs.FlatText.{FlatProgram, program_start, program_step, program_final, FlatQuery, query_start, query_step, query_final}
-use Rattle.ll_parser.proofs.Programs.{decides-programs}
-use Rattle.ll_parser.proofs.Queries.{decides-queries}
-use Rattle.ll_parser.proofs.Answer.{Answer, tree, fault, answer_to, IsAnswer, answer-right}
+use Rattle.ll_parser.proofs.machines.Programs.{decides-programs}
+use Rattle.ll_parser.proofs.machines.Queries.{decides-queries}
+use Rattle.ll_parser.proofs.verdicts.Answer.{Answer, tree, fault, answer_to, IsAnswer, answer-right}
 
 -- the place of a column
 abbrev at : ℕ → Place

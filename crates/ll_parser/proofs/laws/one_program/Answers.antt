@@ -1,9 +1,9 @@
 use Rattle.ll_parser.specs.Text.{programs}
 use Rattle.ll_parser.specs.FlatText.{FlatProgram, program_start, program_step, program_final}
-use Rattle.ll_parser.proofs.Decides.{one-parse}
-use Rattle.ll_parser.proofs.Programs.{decides-programs}
-use Rattle.ll_parser.proofs.Answer.{has-answer}
-use Rattle.ll_parser.proofs.Exclusive.{one-tree, one-fault, no-fault}
+use Rattle.ll_parser.proofs.machines.Decides.{one-parse}
+use Rattle.ll_parser.proofs.machines.Programs.{decides-programs}
+use Rattle.ll_parser.proofs.verdicts.Answer.{has-answer}
+use Rattle.ll_parser.proofs.verdicts.Exclusive.{one-tree, one-fault, no-fault}
 use Rattle.ll_parser.proofs.laws.one_program.Goals as goal
 
 pub returns-clause-either : goal.returns-clause-either

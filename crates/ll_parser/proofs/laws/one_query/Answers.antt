@@ -1,9 +1,9 @@
 use Rattle.ll_parser.specs.Text.{queries}
 use Rattle.ll_parser.specs.FlatText.{FlatQuery, query_start, query_step, query_final}
-use Rattle.ll_parser.proofs.Decides.{one-parse}
-use Rattle.ll_parser.proofs.Queries.{decides-queries}
-use Rattle.ll_parser.proofs.Answer.{has-answer}
-use Rattle.ll_parser.proofs.Exclusive.{one-tree, one-fault, no-fault}
+use Rattle.ll_parser.proofs.machines.Decides.{one-parse}
+use Rattle.ll_parser.proofs.machines.Queries.{decides-queries}
+use Rattle.ll_parser.proofs.verdicts.Answer.{has-answer}
+use Rattle.ll_parser.proofs.verdicts.Exclusive.{one-tree, one-fault, no-fault}
 use Rattle.ll_parser.proofs.laws.one_query.Goals as goal
 
 pub returns-clause-either : goal.returns-clause-either

@@ -1,4 +1,4 @@
-use Rattle.ll_parser.proofs.BareTexts.{program-same, query-same}
+use Rattle.ll_parser.proofs.machines.BareTexts.{program-same, query-same}
 use Rattle.ll_parser.proofs.laws.places_aside.Goals as goal
 
 pub returns-clause-program : goal.returns-clause-program

@@ -5,10 +5,10 @@ use Rattle.ll_parser.specs.Text.{programs}
 use Rattle.ll_parser.specs.Reads.{HasFault}
 use Rattle.ll_parser.specs.FlatText.{FlatProgram, program_start, program_step, program_final}
 use Rattle.ll_parser.specs.Drafts.{whole_view, draft_view}
-use Rattle.ll_parser.proofs.Programs.{decides-programs}
-use Rattle.ll_parser.proofs.Spelled.{whole-read}
-use Rattle.ll_parser.proofs.Drafting.{idle-none, draft-none, program-none, closed-program, no-boundary}
-use Rattle.ll_parser.proofs.Running.{running-none, bad-token-at, too-many-at, turn, reads, ends-early-at}
+use Rattle.ll_parser.proofs.machines.Programs.{decides-programs}
+use Rattle.ll_parser.proofs.spelling.Spelled.{whole-read}
+use Rattle.ll_parser.proofs.stored.Drafting.{idle-none, draft-none, program-none, closed-program, no-boundary}
+use Rattle.ll_parser.proofs.machines.Running.{running-none, bad-token-at, too-many-at, turn, reads, ends-early-at}
 use Rattle.ll_parser.proofs.reading.read_program.Goals as goal
 
 pub loop-i-init : goal.loop-i-init

@@ -1,6 +1,6 @@
 use Rattle.ll_parser.specs.FlatText.{program_start, program_step}
 use Rattle.ll_parser.specs.Drafts.{draft_view, DraftFits, PhaseFits}
-use Rattle.ll_parser.proofs.Running.{Running}
+use Rattle.ll_parser.proofs.machines.Running.{Running}
 use Rattle.ll_parser.proofs.reading.read_program.Given as goal
 
 abbrev pub invariant-loop-i : goal.invariant-loop-i

@@ -7,10 +7,10 @@ use Rattle.ll_parser.specs.Reads.{HasFault}
 use Rattle.ll_parser.specs.FlatText.{FlatQuery, query_start, query_step, query_final}
 use Rattle.ll_parser.specs.Waiting.{tree}
 use Rattle.ll_parser.specs.Drafts.{stage_view}
-use Rattle.ll_parser.proofs.Queries.{decides-queries}
-use Rattle.ll_parser.proofs.Spelled.{whole-read}
-use Rattle.ll_parser.proofs.Drafting.{fits-none, query-none}
-use Rattle.ll_parser.proofs.Running.{running-none, bad-token-at, too-many-at, turn, reads, ends-early-at}
+use Rattle.ll_parser.proofs.machines.Queries.{decides-queries}
+use Rattle.ll_parser.proofs.spelling.Spelled.{whole-read}
+use Rattle.ll_parser.proofs.stored.Drafting.{fits-none, query-none}
+use Rattle.ll_parser.proofs.machines.Running.{running-none, bad-token-at, too-many-at, turn, reads, ends-early-at}
 use Rattle.ll_parser.proofs.reading.read_query.Goals as goal
 
 pub loop-i-init : goal.loop-i-init

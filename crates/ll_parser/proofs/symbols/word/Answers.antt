@@ -1,5 +1,5 @@
 use Rattle.std.proofs.lemmas.Str.{IsUtf8-from_ascii}
-use Rattle.ll_parser.proofs.Naming.{is-ok, ok-value, named-text}
+use Rattle.ll_parser.proofs.stored.Naming.{is-ok, ok-value, named-text}
 use Rattle.ll_parser.proofs.symbols.word.Goals as goal
 
 pub unwrap-text-requires : goal.unwrap-text-requires

@@ -1,6 +1,6 @@
 use Rattle.std.proofs.Common.{refl}
 use Rattle.ll_lists.proofs.CallerLemmas.{OnErr-always}
-use Rattle.ll_parser.proofs.StoredLemmas.{still_kept, same_view, added, added_kept, parts_below}
+use Rattle.ll_parser.proofs.stored.StoredLemmas.{still_kept, same_view, added, added_kept, parts_below}
 use Rattle.ll_parser.proofs.raws.Raws.add.Goals as goal
 
 -- the arguments grew, and no node was pushed

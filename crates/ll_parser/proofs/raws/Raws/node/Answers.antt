@@ -1,7 +1,7 @@
 use Rattle.std.proofs.Common.{◌≡◌, subst}
 use Rattle.ll_parser.specs.Seen.{node_of}
 use Rattle.ll_parser.specs.Stored.{row_node, node_place}
-use Rattle.ll_parser.proofs.StoredLemmas.{read}
+use Rattle.ll_parser.proofs.stored.StoredLemmas.{read}
 use Rattle.ll_parser.proofs.raws.Raws.node.Goals as goal
 
 pub returns : goal.returns

@@ -1,5 +1,5 @@
 use Rattle.std.proofs.Common.{sym, ◌∙◌}
-use Rattle.ll_parser.proofs.StoredLemmas.{place_read}
+use Rattle.ll_parser.proofs.stored.StoredLemmas.{place_read}
 use Rattle.ll_parser.proofs.raws.Raws.place.Goals as goal
 
 pub returns : goal.returns

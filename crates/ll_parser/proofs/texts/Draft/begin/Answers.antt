@@ -4,7 +4,7 @@ use Rattle.ll_parser.specs.FlatText.{enter, phase_step, boundary}
 use Rattle.ll_parser.specs.Symbols.{symbol_tok}
 use Rattle.ll_parser.specs.Waiting.{known, waiting}
 use Rattle.ll_parser.specs.Drafts.{whole_view, current_view}
-use Rattle.ll_parser.proofs.Drafting.{same-phase, begins-idle, begins-clause}
+use Rattle.ll_parser.proofs.stored.Drafting.{same-phase, begins-idle, begins-clause}
 use Rattle.ll_parser.proofs.texts.Draft.begin.Goals as goal
 
 pub returns-in_ok-next-in_default : goal.returns-in_ok-next-in_default

@@ -1,6 +1,6 @@
 use Rattle.ll_parser.specs.Flat.{flat_final}
 use Rattle.ll_parser.specs.Waiting.{mode_view}
-use Rattle.ll_parser.proofs.Drafting.{after-fits, ended-clause}
+use Rattle.ll_parser.proofs.stored.Drafting.{after-fits, ended-clause}
 use Rattle.ll_parser.proofs.texts.Draft.end_clause.Goals as goal
 
 pub add_clause-requires-clause-clauses : goal.add_clause-requires-clause-clauses

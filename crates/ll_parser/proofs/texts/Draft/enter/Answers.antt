@@ -1,7 +1,7 @@
 use Rattle.ll_parser.specs.Flat.{flat_step}
 use Rattle.ll_parser.specs.Symbols.{symbol_tok}
 use Rattle.ll_parser.specs.Waiting.{mode_view}
-use Rattle.ll_parser.proofs.Drafting.{entered}
+use Rattle.ll_parser.proofs.stored.Drafting.{entered}
 use Rattle.ll_parser.proofs.texts.Draft.enter.Goals as goal
 
 pub returns-in-Some : goal.returns-in-Some

@@ -1,4 +1,4 @@
-use Rattle.ll_parser.proofs.Drafting.{marked-next}
+use Rattle.ll_parser.proofs.stored.Drafting.{marked-next}
 use Rattle.ll_parser.proofs.texts.Draft.step.Goals as goal
 
 pub returns-in_ok-next-in-Marked : goal.returns-in_ok-next-in-Marked

@@ -1,5 +1,5 @@
 use Rattle.std.proofs.Common.{refl}
-use Rattle.ll_parser.proofs.Shown.{added}
+use Rattle.ll_parser.proofs.stored.Shown.{added}
 use Rattle.ll_parser.proofs.waiting.Waiting.add.Goals as goal
 
 pub returns-clause-gives : goal.returns-clause-gives

@@ -1,4 +1,4 @@
-use Rattle.ll_parser.proofs.Shown.{more-after}
+use Rattle.ll_parser.proofs.stored.Shown.{more-after}
 use Rattle.ll_parser.proofs.waiting.Waiting.add_argument.Goals as goal
 
 pub returns-clause-gives : goal.returns-clause-gives

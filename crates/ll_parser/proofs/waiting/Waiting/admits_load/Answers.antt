@@ -1,4 +1,4 @@
-use Rattle.ll_parser.proofs.Newest.{admits-none, admits-newest}
+use Rattle.ll_parser.proofs.machines.Newest.{admits-none, admits-newest}
 use Rattle.ll_parser.proofs.waiting.Waiting.admits_load.Goals as goal
 
 pub returns-in-None : goal.returns-in-None

@@ -1,7 +1,7 @@
 use Rattle.std.proofs.Common.{◌≡◌, length, rules, ◌∙◌}
 use Rattle.ll_parser.specs.Symbols.{symbol_tok}
 use Rattle.ll_parser.specs.Waiting.{known, word_view, waiting_below}
-use Rattle.ll_parser.proofs.NumberFrames.{has-arguments}
+use Rattle.ll_parser.proofs.machines.NumberFrames.{has-arguments}
 use Rattle.ll_parser.proofs.waiting.Waiting.after_word.Goals as goal
 
 pub returns-else-len-from-clause-gives : goal.returns-else-len-from-clause-gives

@@ -1,7 +1,7 @@
 use Rattle.std.proofs.Common.{refl}
 use Rattle.ll_parser.specs.Flat.{close_brace}
 use Rattle.ll_parser.specs.Waiting.{tree}
-use Rattle.ll_parser.proofs.Closing.{closes-none, closes-not, no-brace}
+use Rattle.ll_parser.proofs.machines.Closing.{closes-none, closes-not, no-brace}
 use Rattle.ll_parser.proofs.waiting.Waiting.close_brace.Goals as goal
 
 pub returns-in-None-clause-gives : goal.returns-in-None-clause-gives

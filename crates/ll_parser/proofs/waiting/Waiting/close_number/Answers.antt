@@ -2,8 +2,8 @@ use Rattle.std.proofs.Common.{refl}
 use Rattle.ll_parser.specs.Flat.{close_number}
 use Rattle.ll_parser.specs.Symbols.{symbol_tok}
 use Rattle.ll_parser.specs.Waiting.{known, tree}
-use Rattle.ll_parser.proofs.Closing.{closes-none, closes-not}
-use Rattle.ll_parser.proofs.NumberFrames.{no-number}
+use Rattle.ll_parser.proofs.machines.Closing.{closes-none, closes-not}
+use Rattle.ll_parser.proofs.machines.NumberFrames.{no-number}
 use Rattle.ll_parser.proofs.waiting.Waiting.close_number.Goals as goal
 
 pub returns-in-None-clause-gives : goal.returns-in-None-clause-gives

@@ -1,5 +1,5 @@
 use Rattle.std.proofs.Common.{◌≡◌, length, refl, rules}
-use Rattle.ll_parser.proofs.Shown.{cut}
+use Rattle.ll_parser.proofs.stored.Shown.{cut}
 use Rattle.ll_parser.proofs.waiting.Waiting.drop_newest.Goals as goal
 
 pub returns-clause-gives : goal.returns-clause-gives

@@ -1,5 +1,5 @@
 use Rattle.std.proofs.Common.{refl}
-use Rattle.ll_parser.proofs.Shown.{finished-head, rest-of}
+use Rattle.ll_parser.proofs.stored.Shown.{finished-head, rest-of}
 use Rattle.ll_parser.proofs.waiting.Waiting.finish_head.Goals as goal
 
 pub returns-clause-gives : goal.returns-clause-gives

@@ -1,5 +1,5 @@
 use Rattle.std.proofs.Common.{refl}
-use Rattle.ll_parser.proofs.Shown.{finished-load, rest-of}
+use Rattle.ll_parser.proofs.stored.Shown.{finished-load, rest-of}
 use Rattle.ll_parser.proofs.waiting.Waiting.finish_load.Goals as goal
 
 pub returns-clause-gives : goal.returns-clause-gives

@@ -1,4 +1,4 @@
-use Rattle.ll_parser.proofs.Closing.{ends, ends-not}
+use Rattle.ll_parser.proofs.machines.Closing.{ends, ends-not}
 use Rattle.ll_parser.proofs.waiting.Waiting.finish_operand.Goals as goal
 
 pub returns-in-None-clause-gives : goal.returns-in-None-clause-gives

@@ -1,5 +1,5 @@
 use Rattle.std.proofs.Common.{length}
-use Rattle.ll_parser.proofs.Newest.{Gathering}
+use Rattle.ll_parser.proofs.machines.Newest.{Gathering}
 use Rattle.ll_parser.proofs.waiting.Waiting.gather.Given as goal
 
 abbrev pub invariant-loop-sign : goal.invariant-loop-sign

@@ -1,4 +1,4 @@
-use Rattle.ll_parser.proofs.NumberFrames.{no-goal-none, no-goal-other}
+use Rattle.ll_parser.proofs.machines.NumberFrames.{no-goal-none, no-goal-other}
 use Rattle.ll_parser.proofs.waiting.Waiting.goal.Goals as goal
 
 pub returns-in-None-clause-gives : goal.returns-in-None-clause-gives

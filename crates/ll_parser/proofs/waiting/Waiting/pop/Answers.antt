@@ -1,4 +1,4 @@
-use Rattle.ll_parser.proofs.Newest.{takes-none, takes-not, takes-other}
+use Rattle.ll_parser.proofs.machines.Newest.{takes-none, takes-not, takes-other}
 use Rattle.ll_parser.proofs.waiting.Waiting.pop.Goals as goal
 
 pub returns-in-None-clause-none : goal.returns-in-None-clause-none

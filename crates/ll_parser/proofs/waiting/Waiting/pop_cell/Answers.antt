@@ -1,4 +1,4 @@
-use Rattle.ll_parser.proofs.Newest.{no-cell-none, no-cell-other}
+use Rattle.ll_parser.proofs.machines.Newest.{no-cell-none, no-cell-other}
 use Rattle.ll_parser.proofs.waiting.Waiting.pop_cell.Goals as goal
 
 pub returns-in-None-clause-none : goal.returns-in-None-clause-none

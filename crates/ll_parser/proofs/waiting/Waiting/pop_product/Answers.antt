@@ -1,6 +1,6 @@
 use Rattle.std.proofs.Common.{refl}
 use Rattle.ll_parser.specs.Flat.{take_product}
-use Rattle.ll_parser.proofs.NumberFrames.{takes-none, takes-not, no-product}
+use Rattle.ll_parser.proofs.machines.NumberFrames.{takes-none, takes-not, no-product}
 use Rattle.ll_parser.proofs.waiting.Waiting.pop_product.Goals as goal
 
 pub returns-in-None-clause-none : goal.returns-in-None-clause-none

@@ -1,6 +1,6 @@
 use Rattle.std.proofs.Common.{refl}
 use Rattle.ll_parser.specs.Flat.{take_sum}
-use Rattle.ll_parser.proofs.NumberFrames.{takes-none, takes-not, no-sum}
+use Rattle.ll_parser.proofs.machines.NumberFrames.{takes-none, takes-not, no-sum}
 use Rattle.ll_parser.proofs.waiting.Waiting.pop_sum.Goals as goal
 
 pub returns-in-None-clause-none : goal.returns-in-None-clause-none

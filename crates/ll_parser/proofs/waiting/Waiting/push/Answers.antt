@@ -1,5 +1,5 @@
 use Rattle.std.proofs.Common.{refl}
-use Rattle.ll_parser.proofs.Shown.{put}
+use Rattle.ll_parser.proofs.stored.Shown.{put}
 use Rattle.ll_parser.proofs.waiting.Waiting.push.Goals as goal
 
 pub returns-clause-gives : goal.returns-clause-gives

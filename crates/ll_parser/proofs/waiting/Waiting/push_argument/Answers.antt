@@ -1,5 +1,5 @@
 use Rattle.std.proofs.Common.{refl}
-use Rattle.ll_parser.proofs.Shown.{one-more}
+use Rattle.ll_parser.proofs.stored.Shown.{one-more}
 use Rattle.ll_parser.proofs.waiting.Waiting.push_argument.Goals as goal
 
 pub returns-clause-gives : goal.returns-clause-gives

@@ -1,4 +1,4 @@
-use Rattle.ll_parser.proofs.Drafting.{asks-next}
+use Rattle.ll_parser.proofs.stored.Drafting.{asks-next}
 use Rattle.ll_parser.proofs.waiting.Waiting.query_step.Goals as goal
 
 pub returns-in-Some-2 : goal.returns-in-Some-2

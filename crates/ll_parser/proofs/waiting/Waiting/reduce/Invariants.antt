@@ -1,5 +1,5 @@
 use Rattle.std.proofs.Common.{length}
-use Rattle.ll_parser.proofs.Newest.{Reducing}
+use Rattle.ll_parser.proofs.machines.Newest.{Reducing}
 use Rattle.ll_parser.proofs.waiting.Waiting.reduce.Given as goal
 
 abbrev pub invariant-loop-front : goal.invariant-loop-front

@@ -1,6 +1,6 @@
 use Rattle.ll_parser.specs.Flat.{take_sum}
 use Rattle.ll_parser.specs.Grammar.{add_sign}
-use Rattle.ll_parser.proofs.NumberFrames.{sign-taken}
+use Rattle.ll_parser.proofs.machines.NumberFrames.{sign-taken}
 use Rattle.ll_parser.proofs.waiting.Waiting.take_sum.Goals as goal
 
 pub returns-in_ok-sum-in-Some-clause-gives : goal.returns-in_ok-sum-in-Some-clause-gives

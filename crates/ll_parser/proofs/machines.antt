@@ -1,0 +1,19 @@
+-- The machines that read tokens.
+pub mod Machine
+pub mod ProgramMachine
+pub mod ProgramAdds
+pub mod ProgramFound
+pub mod Programs
+pub mod Queries
+pub mod Agrees
+pub mod Bare
+pub mod BareTexts
+pub mod Decides
+pub mod Running
+pub mod Closing
+pub mod Newest
+pub mod NumberFrames
+pub mod Complete
+pub mod Sound
+pub mod Viable
+pub mod Room

@@ -1,0 +1,4 @@
+-- Tokens and the bytes that spell them.
+pub mod Lexing
+pub mod NumberText
+pub mod Spelled

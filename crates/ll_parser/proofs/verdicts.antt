@@ -1,0 +1,4 @@
+-- What reading answers.
+pub mod Answer
+pub mod Verdict
+pub mod Exclusive

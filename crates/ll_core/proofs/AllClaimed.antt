@@ -4,7 +4,7 @@ use Rattle.std.specs.Prelude.{flat_map, slice_get, sum_by}
 use Rattle.std.proofs.lemmas.Bool.{cases_Bool, cases_eq, cases_lt, and_parts, eqb-true}
 use Rattle.std.proofs.lemmas.List.{length-append, length-map, map-append}
 use Rattle.std.proofs.lemmas.List.Sums.{sum_by-cons}
-use Rattle.ll_lists.proofs.CallerLemmas.{some_is, none_not_some}
+use Rattle.ll_lists.proofs.CallerLemmas.{some_is, none_not_some, slice_get-append_left}
 use Rattle.ll_laws.specs.Pool.{Owed, Piece, PoolData, Alternative}
 use Rattle.ll_laws.specs.Spread.{list_or_empty, numbers, alternatives_of, owed_by, owes_of, length_of, is_of}
 use Rattle.ll_laws.specs.Sound.{Each, Shaped, HasPiece, is_open, count_open, count_of, all_published}
@@ -140,18 +140,13 @@ module _ {N E : Type 0} (alternatives : N → List (Owed E)) (p q : PoolData N E
   old_piece : (j : ℕ) (y : Piece E) → slice_get q.pieces j ≡ Some y → y.batch < length p.batches → (x : Piece E) × (slice_get p.pieces j ≡ Some x) × (y.published ≡ x.published)
   old_piece j y e low =
       let inside : y.k < length_of alternatives q y.batch = t.named j y e in
-      let same : length_of alternatives q y.batch ≡ length_of alternatives p y.batch = ap (λ bs. length (owed_by (map alternatives bs) y.batch)) later.batches ∙ ap (λ l. length (list_or_empty (slice_get l y.batch))) (map-append alternatives p.batches later.more) ∙ ap (λ o. length (list_or_empty o)) (get_left (map alternatives p.batches) (map alternatives later.more) y.batch (let l = length-map p.batches alternatives in omega arith)) in
+      let same : length_of alternatives q y.batch ≡ length_of alternatives p y.batch = ap (λ bs. length (owed_by (map alternatives bs) y.batch)) later.batches ∙ ap (λ l. length (list_or_empty (slice_get l y.batch))) (map-append alternatives p.batches later.more) ∙ ap (λ o. length (list_or_empty o)) (slice_get-append_left (map alternatives p.batches) (map alternatives later.more) y.batch (let l = length-map p.batches alternatives in omega arith)) in
       let h = all_claimed alternatives p s untried y.batch y.k (omega arith) in
       let z = later.pieces h.0 h.1 h.2 in
       let f = z.2 in
       let at : h.0 ≡ j = t.apart h.0 j z.0 y z.1 e (f.batch ∙ h.3) (f.k ∙ h.4) in
       let is : z.0 ≡ y = some_is z.0 y (sym z.1 ∙ (ap (slice_get q.pieces) at ∙ e)) in
       (h.1, ap (slice_get p.pieces) (sym at) ∙ h.2, ap (λ (u : Piece E). u.published) (sym is) ∙ (f.published ∙ (ap (λ l. h.1.published ++ l) (f.no_more (closed_all alternatives p s busy h.0 h.1 h.2)) ∙ append-nil h.1.published)))
-    where
-      get_left : {X : Type 0} (xs ys : List X) (i : ℕ) → i < length xs → slice_get (xs ++ ys) i ≡ slice_get xs i
-      get_left [] ys i low = absurd (omega arith)
-      get_left (x ∷ xs) ys zero low = refl
-      get_left (x ∷ xs) ys (suc i) low = get_left xs ys i (omega arith)
 
   no_batch : (bound c : ℕ) → c < bound → c < length q.batches → c < length p.batches
   no_batch zero c below low = absurd (omega arith)

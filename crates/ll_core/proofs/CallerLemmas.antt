@@ -76,6 +76,8 @@ pub use Rattle.ll_core.proofs.Once.{is_at}
 pub use Rattle.ll_core.proofs.Once.{total-append}
 -- each claimed alternative stands in the walk of a sound pool once
 pub use Rattle.ll_core.proofs.Unique.{unique}
+-- where the walk leads through a claimed alternative, this does not stand behind itself
+pub use Rattle.ll_core.proofs.Unique.{unique_behind}
 -- ---- the reports of a run
 
 -- of a new pool nothing was given
@@ -106,3 +108,5 @@ pub use Rattle.ll_core.proofs.Walks.{every_more}
 pub use Rattle.ll_core.proofs.Walks.{every_snoc}
 -- what holds of each of a list holds of each of its back
 pub use Rattle.ll_core.proofs.Given.{every_back}
+-- what holds of each of a list holds of each of its front
+pub use Rattle.ll_core.proofs.Pointing.{every_front}

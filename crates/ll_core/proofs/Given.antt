@@ -13,9 +13,9 @@ use Rattle.ll_laws.specs.CoreEvents.{CoreEvent, Claim, Publish, Report, Ready, W
 use Rattle.ll_core.specs.Given.{Given, cost_in, price, share_cost, total, value}
 use Rattle.ll_core.proofs.Conditions.{MayGrow}
 use Rattle.ll_core.proofs.Walks.{walk_same, insert_after, is_alternative}
-use Rattle.ll_core.proofs.Once.{total-append, one_if, is_at}
+use Rattle.ll_core.proofs.Once.{total-append}
 use Rattle.ll_core.proofs.Pieces.{found, lookup, is_of_from}
-use Rattle.ll_core.proofs.Unique.{unique}
+use Rattle.ll_core.proofs.Unique.{unique_behind}
 use Rattle.ll_core.proofs.Statuses.{read_same, piece_here, piece_elsewhere, took_share, split_same, all_more, untaken_elsewhere}
 use Rattle.ll_core.proofs.Claims.{read_snoc}
 use Rattle.ll_core.proofs.Publishes.{walk_published, taken_same, not_taken_here, none_new, front_same, back_same, all_new}
@@ -180,13 +180,6 @@ module _ {N Of E : Type 0} (of : N → Of) (alternatives : N → List (Owed E)) 
       elsewhere : (a : Alternative) → is_alternative a at ≡ false → is_taken q.pieces a ≡ is_taken p.pieces a
       elsewhere a h = ap is_taken_piece (piece_elsewhere f (λ x. refl) (λ x. refl) i p.pieces x may.piece a h)
 
-      none_behind : total (is_at at) may.next.back ≡ 0
-      none_behind =
-          let one : total (is_at at) (g.front ++ at ∷ may.next.back) ≡ 1 = ap (total (is_at at)) (sym order_now) ∙ unique alternatives p s.shape i x may.piece in
-          let two = total-append (is_at at) g.front (at ∷ may.next.back) in
-          let self : is_at at at ≡ 1 = ap one_if (is_of_from at x refl refl) in
-          omega arith
-
       its_share : report ≡ report_of (share (owes_of alternatives p) x)
       its_share = took_share of alternatives p problem pair s i x report may
 
@@ -206,7 +199,7 @@ module _ {N Of E : Type 0} (of : N → Of) (alternatives : N → List (Owed E)) 
             before = list_all-append (is_taken q.pieces) g.front (at ∷ []) ∙ and_from (list_all (is_taken q.pieces) g.front) (list_all (is_taken q.pieces) (at ∷ []))
                 (all_more (is_taken p.pieces) (is_taken q.pieces) g.front (still_taken p q (Ready (Events report)) s.shape t d) g.before)
                 (and_from (is_taken q.pieces at) true (ap is_taken_piece piece_now) refl);
-            others = untaken_elsewhere (is_taken p.pieces) (is_taken q.pieces) at elsewhere may.next.back none_behind (and_parts (not (is_taken p.pieces at)) (list_all (λ a. not (is_taken p.pieces a)) may.next.back) untaken).1;
+            others = untaken_elsewhere (is_taken p.pieces) (is_taken q.pieces) at elsewhere may.next.back (unique_behind alternatives p s.shape i x g.front may.next.back may.piece order_now) (and_parts (not (is_taken p.pieces at)) (list_all (λ a. not (is_taken p.pieces a)) may.next.back) untaken).1;
             events = flat_map-append (λ (o : Owed E). o.events) reports (report ∷ []) ∙ ((λ j. (g.events ∙ sym front_values) j ++ (ap (λ l. l ++ []) (sym value_now)) j) ∙ sym (flat_map-append (value of alternatives q) g.front (at ∷ [])));
             costs = ap cut_count (total-append (λ (o : Owed E). o.cost) reports (report ∷ []))
                 ∙ (cut_sum (cost_in of alternatives reports) (cost_in of alternatives (report ∷ [])) (total (price of alternatives q) g.front) (total (price of alternatives q) (at ∷ [])) (g.costs ∙ sym (ap cut_count front_prices)) last_cost

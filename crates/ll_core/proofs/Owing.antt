@@ -1,11 +1,11 @@
 -- All reports of a run are what the root owes, and after it nothing comes.
-use Rattle.std.proofs.Common.{◌≡◌, ℕ, zero, suc, ◌<◌, List, [], ◌∷◌, ◌++◌, Bool, true, false, not, length, map, refl, sym, ap, ◌∙◌, subst, arith, append_assoc, append-nil, Option, Some, None}
+use Rattle.std.proofs.Common.{◌≡◌, ℕ, zero, suc, ◌<◌, List, [], ◌∷◌, ◌++◌, true, false, not, length, map, refl, sym, ap, ◌∙◌, subst, arith, append_assoc, append-nil, Option, Some, None}
 use Rattle.std.specs.Prelude.{flat_map, slice_get, sum_by}
 use Rattle.std.specs.List.{list_all}
 use Rattle.std.proofs.lemmas.Bool.{and_parts}
 use Rattle.std.proofs.lemmas.List.{length-append}
 use Rattle.std.proofs.lemmas.List.Concat.{flat_map-append}
-use Rattle.ll_lists.proofs.CallerLemmas.{some_is}
+use Rattle.ll_lists.proofs.CallerLemmas.{some_is, false_from_not}
 use Rattle.ll_laws.specs.Pool.{Owed, Closed, Piece, PoolData, Alternative}
 use Rattle.ll_laws.specs.Spread.{piece_of, piece_events, gives, share, owes_of, length_of, walk, kids_of}
 use Rattle.ll_laws.specs.Search.{cut_count}
@@ -111,23 +111,19 @@ module _ {N Of E : Type 0} (of : N → Of) (alternatives : N → List (Owed E)) 
     none_left_in [] h = refl
     none_left_in (a ∷ front) h = let t = and_parts (is_taken q.pieces a) (list_all (is_taken q.pieces) front) h in λ i. none_left a t.0 i ++ none_left_in front t.1 i
 
-    is_untaken : (t : Bool) → not t ≡ true → t ≡ false
-    is_untaken true h = sym h
-    is_untaken false h = refl
-
     left_values : (back : List Alternative) → Every (λ (a : Alternative). a.k < length_of alternatives q a.batch) back → list_all (λ a. not (is_taken q.pieces a)) back ≡ true → events_in of alternatives (flat_map left back) ≡ flat_map (value of alternatives q) back
     left_values [] inside h = refl
     left_values (a ∷ back) inside h =
         let t = and_parts (not (is_taken q.pieces a)) (list_all (λ a. not (is_taken q.pieces a)) back) h in
         flat_map-append (λ (o : Owed E). o.events) (left a) (flat_map left back)
-        ∙ (λ i. left_value a inside.0 (is_untaken (is_taken q.pieces a) t.0) i ++ left_values back inside.1 t.1 i)
+        ∙ (λ i. left_value a inside.0 (false_from_not (is_taken q.pieces a) t.0) i ++ left_values back inside.1 t.1 i)
 
     left_prices : (back : List Alternative) → Every (λ (a : Alternative). a.k < length_of alternatives q a.batch) back → list_all (λ a. not (is_taken q.pieces a)) back ≡ true → cut_count (cost_in of alternatives (flat_map left back)) ≡ cut_count (total (price of alternatives q) back)
     left_prices [] inside h = refl
     left_prices (a ∷ back) inside h =
         let t = and_parts (not (is_taken q.pieces a)) (list_all (λ a. not (is_taken q.pieces a)) back) h in
         ap cut_count (total-append (λ (o : Owed E). o.cost) (left a) (flat_map left back))
-        ∙ cut_sum (cost_in of alternatives (left a)) (cost_in of alternatives (flat_map left back)) (price of alternatives q a) (total (price of alternatives q) back) (left_price a inside.0 (is_untaken (is_taken q.pieces a) t.0)) (left_prices back inside.1 t.1)
+        ∙ cut_sum (cost_in of alternatives (left a)) (cost_in of alternatives (flat_map left back)) (price of alternatives q a) (total (price of alternatives q) back) (left_price a inside.0 (false_from_not (is_taken q.pieces a) t.0)) (left_prices back inside.1 t.1)
 
     module _ (reports : List (Owed E)) (g : Given of alternatives q reports) where
       behind : Every (λ (a : Alternative). a.k < length_of alternatives q a.batch) g.back

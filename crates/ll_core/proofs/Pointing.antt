@@ -6,7 +6,7 @@ use Rattle.std.proofs.lemmas.Bool.{cases_Bool, cases_lt, lt-ltb, le-ltb, and_par
 use Rattle.std.proofs.lemmas.List.{length-append, length-map}
 use Rattle.std.proofs.lemmas.List.Folds.{list_all-append}
 use Rattle.std.proofs.lemmas.List.Concat.{flat_map-append}
-use Rattle.ll_lists.proofs.CallerLemmas.{some_is, none_not_some}
+use Rattle.ll_lists.proofs.CallerLemmas.{some_is, none_not_some, false_from_not}
 use Rattle.ll_laws.specs.Pool.{Owed, Open, Closed, Taken, Piece, PoolData, Alternative}
 use Rattle.ll_laws.specs.Spread.{last_first, is_of, kids_of, published_by, alternatives_of, length_of, walk}
 use Rattle.ll_laws.specs.Sound.{Every, Shaped, is_taken, is_taken_piece, is_taken_status}
@@ -97,7 +97,7 @@ pub every_append : {X : Type 0} (P : X → Type 0) (xs ys : List X) → Every P 
 every_append P [] ys h g = g
 every_append P (x ∷ xs) ys h g = (h.0, every_append P xs ys h.1 g)
 
-every_front : {X : Type 0} (P : X → Type 0) (xs ys : List X) → Every P (xs ++ ys) → Every P xs
+pub every_front : {X : Type 0} (P : X → Type 0) (xs ys : List X) → Every P (xs ++ ys) → Every P xs
 every_front P [] ys h = tt
 every_front P (x ∷ xs) ys h = (h.0, every_front P xs ys h.1)
 
@@ -128,11 +128,7 @@ module _ {N E : Type 0} (alternatives : N → List (Owed E)) (p : PoolData N E) 
 
   -- and it is not taken
   pub top_untaken : is_taken p.pieces e ≡ false
-  top_untaken = not_true (is_taken p.pieces e) (and_parts (not (is_taken p.pieces e)) _ (subst (λ l. list_all (λ a. not (is_taken p.pieces a)) l ≡ true) step points.others)).0
-    where
-      not_true : (t : Bool) → not t ≡ true → t ≡ false
-      not_true true h = sym h
-      not_true false h = refl
+  top_untaken = false_from_not (is_taken p.pieces e) (and_parts (not (is_taken p.pieces e)) _ (subst (λ l. list_all (λ a. not (is_taken p.pieces a)) l ≡ true) step points.others)).0
 
   module _ (i : ℕ) (x : Piece E) (report : Owed E) (at : slice_get p.pieces i ≡ Some x) (b : x.batch ≡ e.batch) (k : x.k ≡ e.k) (closed : x.status ≡ Closed report) where
     its_kids : kids_of p.pieces e.batch e.k ≡ x.published

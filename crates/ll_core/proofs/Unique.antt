@@ -1,5 +1,5 @@
 -- Each claimed alternative stands in the walk of a sound pool exactly once.
-use Rattle.std.proofs.Common.{◌≡◌, ℕ, zero, suc, ◌<◌, List, [], ◌∷◌, true, false, length, refl, sym, ap, ◌∙◌, subst, ⊎_elim, arith, Option, Some, None}
+use Rattle.std.proofs.Common.{◌≡◌, ℕ, zero, suc, ◌<◌, List, [], ◌∷◌, ◌++◌, true, false, length, refl, sym, ap, ◌∙◌, subst, ⊎_elim, arith, Option, Some, None}
 use Rattle.std.specs.Prelude.{slice_get}
 use Rattle.std.proofs.lemmas.Bool.{cases_Bool, cases_eq, false≢true}
 use Rattle.ll_lists.proofs.CallerLemmas.{some_is, none_not_some}
@@ -8,7 +8,7 @@ use Rattle.ll_laws.specs.Spread.{is_of, piece_of, kids_of, published_by, length_
 use Rattle.ll_laws.specs.Sound.{Every, Shaped, count_of, all_published}
 use Rattle.ll_core.specs.Given.{total}
 use Rattle.ll_core.proofs.Walks.{every_more}
-use Rattle.ll_core.proofs.Once.{total_flat, one_if, hit, is_at, count_is_total, hit_other, met_once}
+use Rattle.ll_core.proofs.Once.{total_flat, total-append, one_if, hit, is_at, count_is_total, hit_other, met_once}
 use Rattle.ll_laws.specs.Pool.{place}
 use Rattle.ll_core.proofs.Pieces.{found, lookup, is_of_from, is_of_parts}
 use Rattle.ll_core.proofs.Facts.{kids_within, owed_before}
@@ -71,3 +71,11 @@ module _ {N E : Type 0} (alternatives : N → List (Owed E)) (p : PoolData N E) 
 
   pub unique : (i : ℕ) (x : Piece E) → slice_get p.pieces i ≡ Some x → total (is_at (place x)) (walk alternatives p) ≡ 1
   unique i x e = stands_once x.batch x.k (s.named i x e)
+
+  -- so it does not stand behind itself
+  pub unique_behind : (i : ℕ) (x : Piece E) (front back : List Alternative) → slice_get p.pieces i ≡ Some x → walk alternatives p ≡ front ++ place x ∷ back → total (is_at (place x)) back ≡ 0
+  unique_behind i x front back e order =
+      let one : total (is_at (place x)) (front ++ place x ∷ back) ≡ 1 = ap (total (is_at (place x))) (sym order) ∙ unique i x e in
+      let two = total-append (is_at (place x)) front (place x ∷ back) in
+      let self : is_at (place x) (place x) ≡ 1 = ap one_if (is_of_from (place x) x refl refl) in
+      omega arith

@@ -20,7 +20,8 @@ use Rattle.ll_trace.specs.Bare.{bare}
 use Rattle.ll_trace.specs.Walk.{told, walk_start}
 use Rattle.ll_trace.proofs.BareLemmas.{bare-sub}
 use Rattle.ll_trace.proofs.Replays.{Covers, Follows, told-replay}
-use Rattle.ll_trace.proofs.Counts.{trees-count, deal_nodes, lines_count}
+use Rattle.ll_laws.proofs.CallerLemmas.{trees-count, deal_nodes}
+use Rattle.ll_trace.proofs.Counts.{lines_count}
 
 -- the labels of the program's linear clauses
 abbrev pub root_labels : ProblemTree → List ℕ

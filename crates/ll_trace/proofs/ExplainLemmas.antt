@@ -3,6 +3,7 @@ use Rattle.std.proofs.Common.{◌≡◌, ℕ, zero, suc, ◌+◌, ◌<◌, ◌�
 use Rattle.std.specs.Prelude.{slice_get, slice_index, Contains}
 use Rattle.std.proofs.lemmas.List.{length-map}
 use Rattle.std.proofs.lemmas.List.Elements.{All-nil, All-cons, All-take, All-map}
+use Rattle.ll_lists.proofs.CallerLemmas.{length-drop_same}
 use Rattle.ll_bank.specs.declared.At.{At}
 use Rattle.ll_bank.specs.declared.FormAt.{FormAt}
 use Rattle.ll_bank.specs.declared.BankSize.{BankSize}
@@ -48,13 +49,6 @@ Alike Lost Lost = Unit {0}
 Alike (Tells m v) (Tells n w) = v ≡ w
 Alike _ _ = ⊥
 
-same-drop : (n : ℕ) (xs ys : List Term) → length xs ≡ length ys → length (drop n xs) ≡ length (drop n ys)
-same-drop zero xs ys h = h
-same-drop (suc n) [] [] h = refl
-same-drop (suc n) [] (y ∷ ys) h = absurd (omega (arith, h))
-same-drop (suc n) (x ∷ xs) [] h = absurd (omega (arith, h))
-same-drop (suc n) (x ∷ xs) (y ∷ ys) h = same-drop n xs ys (omega (arith, h))
-
 same-take : (n : ℕ) (xs ys : List Term) → length xs ≡ length ys → length (take n xs) ≡ length (take n ys)
 same-take zero xs ys h = refl
 same-take (suc n) [] [] h = refl
@@ -75,7 +69,7 @@ module _ (modules : List ModuleTree) (xs ys : List Term) (same : length xs ≡ l
   alike-clause w rest label k None = tt
   alike-clause w rest label k (Some r) =
       let n = slice_index (ways r) k in
-      alike-leaf w rest label k (values xs w.used n) (values ys w.used n) (premises_at r k) (same-take n (drop w.used xs) (drop w.used ys) (same-drop w.used xs ys same))
+      alike-leaf w rest label k (values xs w.used n) (values ys w.used n) (premises_at r k) (same-take n (drop w.used xs) (drop w.used ys) (length-drop_same w.used xs ys same))
 
   alike-goal : (w : Walk) (g : Form) (rest : List Form) (c : Step) → Alike (tell_goal modules xs w g rest c) (tell_goal modules ys w g rest c)
   alike-goal w One rest c = refl

@@ -19,13 +19,11 @@ use Rattle.ll_trace.specs.declared.leaf.Opened.{Opened}
 use Rattle.ll_trace.specs.declared.walk.Goal.{Goal}
 use Rattle.ll_trace.specs.Bare.{bare, and_premise, premises_at}
 use Rattle.ll_trace.specs.Goals.{stacked, shown_goal, HasGoal}
-use Rattle.ll_trace.specs.Opening.{IsOnWay, Opens, waiting_ways}
+use Rattle.ll_laws.proofs.CallerLemmas.{waiting_ways}
+use Rattle.ll_trace.specs.Opening.{IsOnWay, Opens}
 use Rattle.ll_trace.proofs.BareLemmas.{ways-bare}
 
 -- ---- counting
-
-pub ways-quantified : (r : Form) → length (ways (Forall r)) ≡ length (ways r)
-ways-quantified r = length-suc (ways r)
 
 pub ways-with : (q r : Form) → length (ways (With q r)) ≡ length (ways q) + length (ways r)
 ways-with q r = length-append (ways q) (ways r)

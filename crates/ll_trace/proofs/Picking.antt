@@ -7,7 +7,8 @@ use Rattle.std.proofs.lemmas.List.{drop-drop}
 use Rattle.std.proofs.lemmas.Bool.{ne_eqb, eq-eqb}
 use Rattle.std.proofs.lemmas.List.{append-nil, drop_all, reverse-append, length-reverse, length-map}
 use Rattle.std.proofs.lemmas.List.Folds.{list_any-append}
-use Rattle.ll_lists.proofs.CallerLemmas.{and_false as off, reverse-push as newest}
+use Rattle.std.proofs.Math.Bool.{and-false as off}
+use Rattle.ll_lists.proofs.CallerLemmas.{reverse-push as newest}
 use Rattle.ll_bank.specs.Term.{Term}
 use Rattle.ll_laws.specs.declared.Part.{Part}
 use Rattle.ll_laws.specs.declared.Part.TheVariants.{Bounded, Unbounded}

@@ -2,6 +2,7 @@
 use Rattle.std.proofs.Common.{◌≡◌, ℕ, suc, zero, ◌+◌, ◌-◌, ◌≤◌, ◌<◌, refl, ap, sym, subst, ◌∙◌, List, [], ◌∷◌, ◌++◌, length, get_or, take, drop, arith, Vec, Global}
 use Rattle.std.specs.Prelude.{Bool, true, false, ◌||◌, ◌&&◌, cond, nat_eq, nat_lt, nat_le, Option, Some, None, unwrap_or}
 use Rattle.std.proofs.Common.{length-take, drop-cons}
+use Rattle.std.proofs.Math.Bool.{and-false}
 use Rattle.std.proofs.lemmas.Bool.Decides.{nat_tests}
 use Rattle.std.specs.Ordering.{nat_cmp}
 use Rattle.std.specs.BTreeMap.{is_at}
@@ -61,11 +62,7 @@ no_hit_below : (b from to : ℕ) (p : Place) → p.at < from → is_hit b from t
 no_hit_below b from to p h = ap (λ c. c && (nat_lt p.at to && nat_eq b p.level)) (le_false from p.at h)
 
 no_hit_above : (b from to : ℕ) (p : Place) → to ≤ p.at → is_hit b from to p ≡ false
-no_hit_above b from to p h = ap (λ c. nat_le from p.at && (c && nat_eq b p.level)) (lt_false p.at to h) ∙ off (nat_le from p.at)
-  where
-    off : (c : Bool) → (c && false) ≡ false
-    off true = refl
-    off false = refl
+no_hit_above b from to p h = ap (λ c. nat_le from p.at && (c && nat_eq b p.level)) (lt_false p.at to h) ∙ and-false (nat_le from p.at)
 
 hit_level : (b from to : ℕ) (p : Place) → from ≤ p.at → p.at < to → is_hit b from to p ≡ nat_eq b p.level
 hit_level b from to p h k = ap (λ c. c && (nat_lt p.at to && nat_eq b p.level)) (le_true from p.at h) ∙ ap (λ c. c && nat_eq b p.level) (lt-ltb p.at to k)

@@ -3,6 +3,7 @@ use Rattle.std.proofs.Common.{◌≡◌, ℕ, zero, suc, ◌+◌, ◌-◌, ◌<�
 use Rattle.std.specs.Prelude.{Option, Some, None, Result, Ok, Err, IfOk, slice_get, slice_index}
 use Rattle.std.proofs.lemmas.List.{map-append, length-map, append-nil as append_none}
 use Rattle.std.proofs.lemmas.List.Elements.{All-nil, All-cons, All-append, All-take, All-drop}
+use Rattle.ll_lists.proofs.CallerLemmas.{length-take_most}
 use Rattle.ll_bank.specs.declared.At.{At}
 use Rattle.ll_bank.specs.declared.FormAt.{FormAt}
 use Rattle.ll_bank.specs.Term.{Term, Var}
@@ -110,11 +111,6 @@ take_whole zero [] h = refl
 take_whole zero (x ∷ xs) h = absurd (omega (arith, h))
 take_whole (suc n) [] h = refl
 take_whole (suc n) (x ∷ xs) h = ap (λ ys. x ∷ ys) (take_whole n xs (omega (arith, h)))
-
-take_few : {A : Type 0} (n : ℕ) (xs : List A) → length (take n xs) ≤ length xs
-take_few zero xs = omega arith
-take_few (suc n) [] = omega arith
-take_few (suc n) (x ∷ xs) = let l = take_few n xs in omega (arith, l)
 
 drop_few : {A : Type 0} (n : ℕ) (xs : List A) → n ≤ length xs → length (drop n xs) + n ≡ length xs
 drop_few zero xs h = omega arith
@@ -284,7 +280,7 @@ module _ (forms : Nodes) (modules : List Module) (terms : List At) (old : Walker
         used = (ap (λ m. old.used + m) (many bank) ∙ sym e4) j;
       }) in
       let line : (bank : Nodes) → ClauseLine label k (term_trees bank taken) (map part_line o.premises) ≡ line_of bank rule = λ bank. ap (ClauseLine label k (term_trees bank taken)) (sym o.parts) ∙ sym (l bank) in
-      let few = take_few opened.quantifiers (drop old.used terms) in
+      let few = length-take_most opened.quantifiers (drop old.used terms) in
       let more = drop_few old.used terms u in
       let count = ap (λ (ats : List At). length ats) t in
       record {

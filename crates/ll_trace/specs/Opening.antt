@@ -57,7 +57,3 @@ way_size _ = 1
 -- and of clauses that wait
 abbrev pub waiting_size : Nodes → List FormAt → ℕ
 waiting_size forms fs = sum_by (λ f. way_size (form_tree forms f.0)) fs
-
--- how many leaves clauses that wait have
-abbrev pub waiting_ways : Nodes → List FormAt → ℕ
-waiting_ways forms fs = sum_by (λ f. length (ways (form_tree forms f.0))) fs

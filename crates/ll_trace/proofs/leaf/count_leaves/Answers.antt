@@ -5,7 +5,8 @@ use Rattle.ll_bank.specs.declared.FormAt.{FormAt}
 use Rattle.ll_bank.specs.Form.{Form}
 use Rattle.ll_bank.specs.Nodes.{HasForm, form_tree}
 use Rattle.ll_laws.specs.Leaf.{ways}
-use Rattle.ll_trace.proofs.LeafLemmas.{count_step, ways-with, ways-quantified}
+use Rattle.ll_laws.proofs.CallerLemmas.{ways_quantified}
+use Rattle.ll_trace.proofs.LeafLemmas.{count_step, ways-with}
 use Rattle.ll_trace.proofs.leaf.count_leaves.Goals as goal
 
 pub loop-form-preserved-in-Continue-branch-3 : goal.loop-form-preserved-in-Continue-branch-3
@@ -59,5 +60,5 @@ loop-form-preserved-in-Continue-branch-6 c =
     let r = c.in-Forall.rest in
     let s = count_step forms c.loop-form.waiting.items c.pop.new.self.items (r ∷ []) c.push-in-Forall.new.self.items c.in-Some.form c.loop-form.count _ c.in-Some.ensures.items
     c.in_ok-push-in-Forall.ensures.items i.inside (All-cons P r [] (omega (arith, h, q)) (All-nil P))
-    (let a = ap (λ (t : Form). length (ways t)) c.in-Forall.ensures.shown.tree ∙ ways-quantified (form_tree forms r.0) in omega (arith, a)) i.so_far in
+    (let a = ap (λ (t : Form). length (ways t)) c.in-Forall.ensures.shown.tree ∙ ways_quantified (form_tree forms r.0) in omega (arith, a)) i.so_far in
     record { inside = s.inside; so_far = s.so_far }

@@ -1,7 +1,8 @@
 use Rattle.std.proofs.Common.{◌≡◌, ◌<◌, ◌+◌, All, length}
 use Rattle.ll_bank.specs.Nodes.{form_tree}
 use Rattle.ll_laws.specs.Leaf.{ways}
-use Rattle.ll_trace.specs.Opening.{waiting_size, waiting_ways}
+use Rattle.ll_laws.proofs.CallerLemmas.{waiting_ways}
+use Rattle.ll_trace.specs.Opening.{waiting_size}
 use Rattle.ll_trace.proofs.leaf.count_leaves.Given as goal
 
 abbrev pub invariant-loop-form : goal.invariant-loop-form

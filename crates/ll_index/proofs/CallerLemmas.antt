@@ -1,6 +1,6 @@
 -- What callers of an index may cite.
 use Rattle.std.proofs.Common.{◌≡◌, ◌≤◌, ◌<◌, ℕ, suc, Bool, true, false, List, [], ◌∷◌, ◌++◌, map, filter, refl, ap, sym, subst, ◌∙◌, arith, All}
-use Rattle.std.specs.Prelude.{◌||◌, not, if◌then◌else◌, Some, flat_map}
+use Rattle.std.specs.Prelude.{not, if◌then◌else◌, Some, flat_map}
 use Rattle.std.proofs.lemmas.Bool.{eq-eqb, ne_eqb}
 use Rattle.std.proofs.lemmas.List.Elements.{All-head, All-tail, All-cons, All-append, filter-append}
 use Rattle.ll_bank.specs.Form.{Form}
@@ -9,13 +9,12 @@ use Rattle.ll_bank.specs.Term.{Term}
 use Rattle.ll_bank.proofs.CallerLemmas.{HasTerm-extends, HasForm-extends, term_tree-extends, form_tree-extends}
 use Rattle.ll_agenda.specs.Frames.{Frames, items_at}
 use Rattle.ll_laws.specs.declared.Candidate.{Candidate}
-use Rattle.ll_laws.specs.declared.Kind.{Kind}
-use Rattle.ll_laws.specs.declared.Kind.TheVariants.{Linear, Unbounded}
 use Rattle.ll_laws.specs.Module.{ClauseTree}
 use Rattle.ll_laws.specs.Settle.{Entry}
 use Rattle.ll_laws.specs.Attempt.{is_linear, is_open, entry_at, entry_tries, leaf_tries, fits_head, leaf_head}
 use Rattle.ll_laws.specs.Leaf.{ways}
 use Rattle.ll_laws.specs.Search.{program_entries}
+use Rattle.ll_index.proofs.Matching.{open_first}
 use Rattle.ll_index.specs.declared.laws.First.{First}
 use Rattle.ll_index.specs.declared.leaves.Leaf.{Leaf}
 use Rattle.ll_index.specs.declared.leaves.Premise.{Premise}
@@ -131,10 +130,6 @@ tries-same a e p k (n ∷ ns) l c =
     ap (λ r. if fits_head a (leaf_head r k n) then record { label = e.label; leaf = k } ∷ leaf_tries a e (suc k) ns else leaf_tries a e (suc k) ns) c
     ∙ (ap (λ m. if fits_head a (leaf_head p.clause k n) then record { label = m; leaf = k } ∷ leaf_tries a e (suc k) ns else leaf_tries a e (suc k) ns) l
     ∙ ap (λ xs. if fits_head a (leaf_head p.clause k n) then record { label = p.label; leaf = k } ∷ xs else xs) (tries-same a e p (suc k) ns l c))
-
-open_first : (k : Kind) → not (is_linear k) || is_linear k ≡ true
-open_first Linear = refl
-open_first Unbounded = refl
 
 -- what an entry of the program has left
 entry-open : (first : First) (a : Term) (n : ℕ) (c : ClauseTree) (e : Entry Form) → e.label ≡ n → e.clause ≡ c.form

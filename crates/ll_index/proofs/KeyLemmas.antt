@@ -6,20 +6,10 @@ use Rattle.ll_bank.specs.declared.At.{At}
 use Rattle.ll_bank.specs.declared.Head.{Head}
 use Rattle.ll_bank.specs.Term.{Term, Con, Ap, apply, app, head_of, arity}
 use Rattle.ll_bank.specs.Nodes.{Nodes, term_tree, term_trees}
+use Rattle.ll_bank.proofs.CallerLemmas.{head_of-app, arity-app}
 use Rattle.ll_index.specs.declared.laws.First.TheVariants.{Open}
 use Rattle.ll_index.specs.First.{name_sign, sign_of, first_of}
 use Rattle.ll_index.specs.Keys.{named_key, key_of, sign_of_first}
-
-head_of-apply : (f : Term) (ts : List Term) → head_of (apply f ts) ≡ head_of f
-head_of-apply f [] = refl
-head_of-apply f (t ∷ ts) = head_of-apply (Ap f t) ts
-
-arity-apply : (f : Term) (ts : List Term) → arity (apply f ts) ≡ arity f + length ts
-arity-apply f [] = omega arith
-arity-apply f (t ∷ ts) = let e = arity-apply (Ap f t) ts in omega arith
-
-arity-app : (h : Head) (ts : List Term) → arity (app h ts) ≡ length ts
-arity-app h ts = let e = arity-apply (Con h) ts in omega arith
 
 -- more arguments leave the first one
 first_of-apply : (f a : Term) (ts : List Term) → first_of (apply (Ap f a) ts) ≡ first_of (Ap f a)
@@ -41,7 +31,7 @@ pub key_of-app : (nodes : Nodes) (t : Term) (h : Head) (args : List At) (by_sign
 key_of-app nodes t h args by_sign e =
     let ts = term_trees nodes args in
     ap (key_of by_sign) e
-    ∙ (ap (λ o. named_key o (arity (app h ts)) (if by_sign then first_of (app h ts) else Open)) (head_of-apply (Con h) ts)
+    ∙ (ap (λ o. named_key o (arity (app h ts)) (if by_sign then first_of (app h ts) else Open)) (head_of-app h ts)
     ∙ (ap (λ k. named_key (Some h) k (if by_sign then first_of (app h ts) else Open)) (arity-app h ts ∙ length-map args (λ (a : At). term_tree nodes a.0))
     ∙ ap (named_key (Some h) (length args)) (first_by by_sign ts h)))
 

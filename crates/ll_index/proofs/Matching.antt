@@ -8,7 +8,7 @@ use Rattle.std.proofs.lemmas.List.{map-append}
 use Rattle.std.proofs.lemmas.List.Concat.{flat_map-cons}
 use Rattle.std.proofs.lemmas.List.Elements.{filter-append}
 use Rattle.std.proofs.lemmas.Option.{slice_get-map}
-use Rattle.ll_lists.proofs.CallerLemmas.{same_from_both_ways as same-bools, false_from_not as not-false, or_elim as or_cases, slice_get-append_left as get_left, slice_get-append_right as get_right}
+use Rattle.ll_lists.proofs.CallerLemmas.{same_from_both_ways as same-bools, false_from_not as not-false, true_from_not, or_elim as or_cases, slice_get-append_left as get_left, slice_get-append_right as get_right}
 use Rattle.ll_bank.specs.declared.Head.{Head}
 use Rattle.ll_bank.specs.declared.Head.TheVariants.{Name, Eigen, Bound}
 use Rattle.ll_bank.specs.Term.{Term, close, head_of, arity, same_head, same_predicate}
@@ -93,22 +93,14 @@ found_key h by_sign name arguments first w =
 -- signs that do not clash
 no-clash : (first s : First) → signs_clash first s ≡ false → (first ≢ Open) → (s ≡ first) ⊎ (s ≡ Open)
 no-clash Open s h n = absurd (n refl)
-no-clash (IntSign y) (IntSign z) h n = inl (ap IntSign (sym ((Decides-int_eq y z).0 (is_true (int_eq y z) h))))
-  where
-    is_true : (b : Bool) → not b ≡ false → b ≡ true
-    is_true true h = refl
-    is_true false h = cc
+no-clash (IntSign y) (IntSign z) h n = inl (ap IntSign (sym ((Decides-int_eq y z).0 (true_from_not (int_eq y z) h))))
 no-clash (IntSign y) Open h n = inr refl
 no-clash (IntSign y) (NameSign m j) h n = cc
 no-clash (NameSign m k) Open h n = inr refl
 no-clash (NameSign m k) (IntSign z) h n = cc
 no-clash (NameSign m k) (NameSign i j) h n =
-    let p = and_parts (nat_eq m i) (nat_eq k j) (is_true (nat_eq m i && nat_eq k j) h) in
+    let p = and_parts (nat_eq m i) (nat_eq k j) (true_from_not (nat_eq m i && nat_eq k j) h) in
     inl (λ z. NameSign (sym (eqb-true m i p.0) z) (sym (eqb-true k j p.1) z))
-  where
-    is_true : (b : Bool) → not b ≡ false → b ≡ true
-    is_true true h = refl
-    is_true false h = cc
 
 clash-self : (first : First) → signs_clash first first ≡ false
 clash-self Open = refl
@@ -166,9 +158,9 @@ leaf-step p f q x xs y ys true e t h = ap (λ (b : Bool). if b then x ∷ filter
     by false = h
 leaf-step p f q x xs y ys false e t h = h ∙ ap (λ (b : Bool). map f (if b then y ∷ filter q ys else filter q ys)) (sym t)
 
-live_first : (k : Kind) → not (is_linear k) || is_linear k ≡ true
-live_first Linear = refl
-live_first Unbounded = refl
+pub open_first : (k : Kind) → not (is_linear k) || is_linear k ≡ true
+open_first Linear = refl
+open_first Unbounded = refl
 
 -- an atom's predicate and sign, against the head of a leaf with n quantifiers on its way
 module _ (a : Term) (name arguments : ℕ) (first : First) (by_sign : Bool) (head : head_of a ≡ Some (Name name)) (count : arity a ≡ arguments) (found : FoundBySign by_sign first) where
@@ -251,7 +243,7 @@ module _ (a : Term) (name arguments : ℕ) (first : First) (by_sign : Bool) (hea
   clauses_kept n (c ∷ cs) =
       let e : Entry Form = record { label = n; kind = c.kind; live = is_linear c.kind; clause = c.form } in
       flat_map-cons (entry_matches first a) e (program_entries (suc n) cs)
-      ∙ (ap (λ xs. xs ++ flat_map (entry_matches first a) (program_entries (suc n) cs)) (entry_kept n e refl (live_first c.kind))
+      ∙ (ap (λ xs. xs ++ flat_map (entry_matches first a) (program_entries (suc n) cs)) (entry_kept n e refl (open_first c.kind))
       ∙ (ap (λ xs. map (λ x. x.candidate) (filter finds_leaf (numbered n 0 (standing_leaves c.form))) ++ xs) (clauses_kept (suc n) cs)
       ∙ (sym (map-append (λ x. x.candidate) (filter finds_leaf (numbered n 0 (standing_leaves c.form))) (filter finds_leaf (program_leaves (suc n) cs)))
       ∙ ap (map (λ x. x.candidate)) (sym (filter-append finds_leaf (numbered n 0 (standing_leaves c.form)) (program_leaves (suc n) cs))))))

@@ -1,6 +1,6 @@
-use Rattle.ll_core.proofs.Facts.{spread_is}
-use Rattle.ll_core.proofs.Runs.{runs_sound, claims_once}
-use Rattle.ll_core.proofs.Owing.{reports_owed}
+use Rattle.ll_core.proofs.sound.Facts.{spread_is}
+use Rattle.ll_core.proofs.runs.Runs.{runs_sound, claims_once}
+use Rattle.ll_core.proofs.runs.Owing.{reports_owed}
 use Rattle.ll_core.proofs.laws.every_run.Goals as goal
 
 pub returns-clause-spreads : goal.returns-clause-spreads

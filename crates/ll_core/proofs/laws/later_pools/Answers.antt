@@ -1,5 +1,5 @@
-use Rattle.ll_core.proofs.Laters.{later_itself, later_on}
-use Rattle.ll_core.proofs.Owing.{nothing_comes}
+use Rattle.ll_core.proofs.runs.LaterPools.{later_itself, later_on}
+use Rattle.ll_core.proofs.runs.Owing.{nothing_comes}
 use Rattle.ll_core.proofs.laws.later_pools.Goals as goal
 
 pub returns-clause-itself : goal.returns-clause-itself

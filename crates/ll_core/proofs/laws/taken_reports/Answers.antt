@@ -1,6 +1,6 @@
-use Rattle.ll_core.proofs.FrontStays.{given_later}
-use Rattle.ll_core.proofs.LawfulEvents.{leaves_taken, leaves_marks}
-use Rattle.ll_core.proofs.Owing.{opening_given, step_given, given_in_front, all_events, all_costs}
+use Rattle.ll_core.proofs.walks.FrontStays.{given_later}
+use Rattle.ll_core.proofs.events.LawfulEvents.{leaves_taken, leaves_marks}
+use Rattle.ll_core.proofs.runs.Owing.{opening_given, step_given, given_in_front, all_events, all_costs}
 use Rattle.ll_core.proofs.laws.taken_reports.Goals as goal
 
 pub returns-clause-none : goal.returns-clause-none

@@ -1,6 +1,6 @@
 use Rattle.std.proofs.Common.{map, ap, ◌∙◌, subst, sym, length, ◌<◌}
 use Rattle.ll_core.specs.Slots.{piece_in, status_in}
-use Rattle.ll_core.proofs.Forming.{slot_kept}
+use Rattle.ll_core.proofs.sound.Forming.{slot_kept}
 use Rattle.ll_core.proofs.room.take_room.Goals as goal
 
 pub returns-in_err-reserve-3-clause-pieces : goal.returns-in_err-reserve-3-clause-pieces

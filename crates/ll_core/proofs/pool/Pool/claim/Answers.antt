@@ -7,8 +7,8 @@ use Rattle.ll_core.specs.Calls.{ClaimsAs}
 use Rattle.ll_core.specs.declared.answers.Claimed.TheVariants.{Work}
 use Rattle.ll_core.specs.Slots.{stop_in}
 use Rattle.ll_laws.specs.CoreEvents.{NoOpen}
-use Rattle.ll_core.proofs.Wholes.{whole_claimed, whole_popped}
-use Rattle.ll_core.proofs.Forming.{busy_fits, claim_forms, claim_is}
+use Rattle.ll_core.proofs.sound.Wholes.{whole_claimed, whole_popped}
+use Rattle.ll_core.proofs.sound.Forming.{busy_fits, claim_forms, claim_is}
 use Rattle.ll_core.proofs.pool.Pool.claim.Goals as goal
 
 pub overflow_add-self : goal.overflow_add-self

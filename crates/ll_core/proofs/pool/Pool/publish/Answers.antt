@@ -1,12 +1,12 @@
 use Rattle.ll_core.specs.Slots.{stop_in}
-use Rattle.ll_core.proofs.Wholes.{whole_grown, whole_stack}
+use Rattle.ll_core.proofs.sound.Wholes.{whole_grown, whole_stack}
 use Rattle.std.proofs.Common.{◌≡◌, ◌∙◌, ◌≤◌, ◌+◌, ◌++◌, ◌∷◌, [], map, ap, subst, sym, length, arith}
 use Rattle.std.specs.Arc.{arc_value}
 use Rattle.std.proofs.lemmas.List.{length-map, length-set, map_push}
 use Rattle.ll_laws.specs.CoreEvents.{with_batch, change}
 use Rattle.ll_laws.specs.CoreEvents.{IsOpenAt}
 use Rattle.ll_core.specs.Slots.{piece_in, status_in}
-use Rattle.ll_core.proofs.Forming.{slot_changed, below_kept, publish_forms, publish_is, publish_total}
+use Rattle.ll_core.proofs.sound.Forming.{slot_changed, below_kept, publish_forms, publish_is, publish_total}
 use Rattle.ll_core.proofs.pool.Pool.publish.Goals as goal
 
 pub invariant_of-self-2 : goal.invariant_of-self-2

@@ -7,8 +7,8 @@ use Rattle.ll_laws.specs.Spread.{length_of}
 use Rattle.ll_laws.specs.Pool.{Taken}
 use Rattle.ll_laws.specs.CoreEvents.{Readies, NotYet, Events, All, with_status}
 use Rattle.ll_core.specs.Slots.{piece_in, stop_in}
-use Rattle.ll_core.proofs.Readying.{start_below, batch_below, number_below, start_is, is_next, not_there, inside}
-use Rattle.ll_core.proofs.Taking.{readies_all, none_last, set_read, length_there, slots_kept, whole_kept, next_open, room_there, took_is, takes_next, whole_taken, with_slots}
+use Rattle.ll_core.proofs.ready.Readying.{start_below, batch_below, number_below, start_is, is_next, not_there, inside}
+use Rattle.ll_core.proofs.ready.Taking.{readies_all, none_last, set_read, length_there, slots_kept, whole_kept, next_open, room_there, took_is, takes_next, whole_taken, with_slots}
 use Rattle.std.proofs.Math.ListN.{set}
 use Rattle.ll_core.specs.Whole.{Whole}
 use Rattle.ll_core.specs.declared.room.Slot.{Slot}

@@ -5,8 +5,8 @@ use Rattle.ll_laws.specs.CoreEvents.{with_status, reported}
 use Rattle.ll_laws.specs.CoreEvents.{IsOpenAt}
 use Rattle.ll_core.specs.Slots.{stop_in}
 use Rattle.ll_core.specs.declared.room.State.TheVariants as state
-use Rattle.ll_core.proofs.Wholes.{whole_reported}
-use Rattle.ll_core.proofs.Forming.{slot_changed, busy_some, report_forms, report_is, slot_below}
+use Rattle.ll_core.proofs.sound.Wholes.{whole_reported}
+use Rattle.ll_core.proofs.sound.Forming.{slot_changed, busy_some, report_forms, report_is, slot_below}
 use Rattle.ll_core.proofs.pool.Pool.report.Goals as goal
 
 pub overflow_sub-self : goal.overflow_sub-self

@@ -23,16 +23,16 @@ use Rattle.ll_core.specs.declared.cursor.Stop.{Stop}
 use Rattle.ll_core.specs.declared.room.Slot.{Slot}
 use Rattle.ll_core.specs.declared.room.Waiting.{Waiting}
 use Rattle.ll_core.specs.Given.{total}
-use Rattle.ll_core.proofs.Walks.{is_alternative}
-use Rattle.ll_core.proofs.Once.{one_if, is_at}
-use Rattle.ll_core.proofs.Pieces.{found, lookup, length-change}
-use Rattle.ll_core.proofs.Facts.{get_map_at}
-use Rattle.ll_core.proofs.Unique.{stands_once}
-use Rattle.ll_core.proofs.Statuses.{open_changed}
-use Rattle.ll_core.proofs.Pointing.{after_top, may_take}
-use Rattle.ll_core.proofs.Forming.{next_untried, places_kept, slot_changed}
-use Rattle.ll_core.proofs.Wholes.{whole_took}
-use Rattle.ll_core.proofs.Readying.{base_of, pointed, is_next, there, top_open, room_for_kids}
+use Rattle.ll_core.proofs.walks.Walks.{is_alternative}
+use Rattle.ll_core.proofs.walks.Once.{one_if, is_at}
+use Rattle.ll_core.proofs.events.Pieces.{found, lookup, length-change}
+use Rattle.ll_core.proofs.sound.Facts.{get_map_at}
+use Rattle.ll_core.proofs.walks.Unique.{stands_once}
+use Rattle.ll_core.proofs.events.Statuses.{open_changed}
+use Rattle.ll_core.proofs.ready.Pointing.{after_top, may_take}
+use Rattle.ll_core.proofs.sound.Forming.{next_untried, places_kept, slot_changed}
+use Rattle.ll_core.proofs.sound.Wholes.{whole_took}
+use Rattle.ll_core.proofs.ready.Readying.{base_of, pointed, is_next, there, top_open, room_for_kids}
 
 in_list : (t : Alternative → Bool) (at : Alternative) (xs : List Alternative) → list_all t xs ≡ true → 0 < total (is_at at) xs → t at ≡ true
 in_list t at [] h some = absurd (omega arith)

@@ -11,19 +11,19 @@ use Rattle.ll_laws.specs.Search.{cut_count}
 use Rattle.ll_laws.specs.Sound.{Every, Shaped, Sound, report_of, is_open, is_taken, is_taken_piece, is_taken_status}
 use Rattle.ll_laws.specs.CoreEvents.{CoreEvent, Claim, Publish, Report, Ready, Work, Done, Events, change, new_piece, with_batch, with_status, claimed, published, reported, took, Does, MayTake}
 use Rattle.ll_core.specs.Given.{Given, cost_in, price, share_cost, total, value}
-use Rattle.ll_core.proofs.Conditions.{MayGrow}
-use Rattle.ll_core.proofs.Walks.{walk_same, insert_after, is_alternative}
-use Rattle.ll_core.proofs.Once.{total-append}
-use Rattle.ll_core.proofs.Pieces.{found, lookup, is_of_from}
-use Rattle.ll_core.proofs.Unique.{unique_behind}
-use Rattle.ll_core.proofs.Statuses.{read_same, piece_here, piece_elsewhere, took_share, split_same, all_more, untaken_elsewhere}
-use Rattle.ll_core.proofs.Claims.{read_snoc}
-use Rattle.ll_core.proofs.Publishes.{walk_published, taken_same, not_taken_here, none_new, front_same, back_same, all_new}
-use Rattle.ll_core.proofs.Cursors.{every_all}
-use Rattle.ll_core.proofs.Pointing.{every_append}
-use Rattle.ll_core.proofs.Cuts.{cut_sum, cut_twice}
-use Rattle.ll_core.proofs.Laters.{later_event, taken_same_piece}
-use Rattle.ll_core.proofs.LawfulEvents.{share_later}
+use Rattle.ll_core.proofs.events.Conditions.{MayGrow}
+use Rattle.ll_core.proofs.walks.Walks.{walk_same, insert_after, is_alternative}
+use Rattle.ll_core.proofs.walks.Once.{total-append}
+use Rattle.ll_core.proofs.events.Pieces.{found, lookup, is_of_from}
+use Rattle.ll_core.proofs.walks.Unique.{unique_behind}
+use Rattle.ll_core.proofs.events.Statuses.{read_same, piece_here, piece_elsewhere, took_share, split_same, all_more, untaken_elsewhere}
+use Rattle.ll_core.proofs.events.Claims.{read_snoc}
+use Rattle.ll_core.proofs.events.Publishes.{walk_published, taken_same, not_taken_here, none_new, front_same, back_same, all_new}
+use Rattle.ll_core.proofs.ready.Cursors.{every_all}
+use Rattle.ll_core.proofs.ready.Pointing.{every_append}
+use Rattle.ll_core.proofs.events.Cuts.{cut_sum, cut_twice}
+use Rattle.ll_core.proofs.runs.LaterPools.{later_event, taken_same_piece}
+use Rattle.ll_core.proofs.events.LawfulEvents.{share_later}
 
 module _ {E : Type 0} where
   was_taken : (s : Status E) → is_taken_status s ≡ true → s ≡ Taken

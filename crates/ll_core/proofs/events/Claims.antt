@@ -8,9 +8,9 @@ use Rattle.ll_laws.specs.Pool.{Owed, Piece, PoolData, Alternative}
 use Rattle.ll_laws.specs.Spread.{is_of, piece_of, kids_of, published_by, share, owed_at, owes_of, length_of, walk}
 use Rattle.ll_laws.specs.Sound.{Each, Reported, Shaped, Sound, HasPiece, is_taken, is_taken_piece, count_open, all_published, count_of, TakenFirst}
 use Rattle.ll_laws.specs.CoreEvents.{new_piece, claimed}
-use Rattle.ll_core.proofs.Conditions.{MayClaim}
-use Rattle.ll_core.proofs.Walks.{walk_same}
-use Rattle.ll_core.proofs.Pieces.{Apart, get_front, get_seam, get_snoc, found, find_none, find_snoc_other, is_of_parts}
+use Rattle.ll_core.proofs.events.Conditions.{MayClaim}
+use Rattle.ll_core.proofs.walks.Walks.{walk_same}
+use Rattle.ll_core.proofs.events.Pieces.{Apart, get_front, get_seam, get_snoc, found, find_none, find_snoc_other, is_of_parts}
 
 pub each_snoc : {X : Type 0} (P Q : X → Type 0) (xs : List X) (y : X) → Each xs P → ((x : X) → P x → Q x) → Q y → Each (xs ++ y ∷ []) Q
 each_snoc P Q xs y each more here i x e = ⊎_elim (λ (h : slice_get xs i ≡ Some x). more x (each i x h)) (λ (h : (i ≡ length xs) × (x ≡ y)). subst Q (sym h.1) here) (get_snoc xs y i x e)

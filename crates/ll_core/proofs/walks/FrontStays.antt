@@ -12,17 +12,17 @@ use Rattle.ll_laws.specs.Search.{cut_count}
 use Rattle.ll_laws.specs.Sound.{Every, Shaped, Sound, is_taken, is_taken_piece, is_taken_status}
 use Rattle.ll_laws.specs.Later.{Later}
 use Rattle.ll_core.specs.Cursor.{rest, begin}
-use Rattle.ll_core.proofs.Walks.{every_more, last_first_same, flat_last_first, is_alternative}
+use Rattle.ll_core.proofs.walks.Walks.{every_more, last_first_same, flat_last_first, is_alternative}
 use Rattle.ll_core.specs.Given.{Given, SameTaken, price, share_cost, total, value}
-use Rattle.ll_core.proofs.Once.{total-append, one_if, is_at}
-use Rattle.ll_core.proofs.Pieces.{found, lookup, is_of_from, get_below}
-use Rattle.ll_core.proofs.Unique.{stands_once}
-use Rattle.ll_core.proofs.Facts.{ends, kids_within, owed_before, get_map}
-use Rattle.ll_core.proofs.Cursors.{every_all, rest_begin}
-use Rattle.ll_core.proofs.Pointing.{every_append}
-use Rattle.ll_core.proofs.Statuses.{all_more}
-use Rattle.ll_core.proofs.Given.{taken_piece, values_same, prices_same}
-use Rattle.ll_core.proofs.Laters.{taken_same_piece, share_kept, owed_kept}
+use Rattle.ll_core.proofs.walks.Once.{total-append, one_if, is_at}
+use Rattle.ll_core.proofs.events.Pieces.{found, lookup, is_of_from, get_below}
+use Rattle.ll_core.proofs.walks.Unique.{stands_once}
+use Rattle.ll_core.proofs.sound.Facts.{ends, kids_within, owed_before, get_map}
+use Rattle.ll_core.proofs.ready.Cursors.{every_all, rest_begin}
+use Rattle.ll_core.proofs.ready.Pointing.{every_append}
+use Rattle.ll_core.proofs.events.Statuses.{all_more}
+use Rattle.ll_core.proofs.runs.Given.{taken_piece, values_same, prices_same}
+use Rattle.ll_core.proofs.runs.LaterPools.{taken_same_piece, share_kept, owed_kept}
 
 -- ---- one step of a stack whose top is its head
 

@@ -7,8 +7,8 @@ use Rattle.ll_laws.specs.Spread.{numbers, last_first, piece_of, kids_of, publish
 use Rattle.ll_laws.specs.Sound.{Every, Each, Reported, Sound}
 use Rattle.std.proofs.lemmas.Bool.{cases_lt}
 use Rattle.ll_lists.proofs.CallerLemmas.{none_not_some, some_is}
-use Rattle.ll_core.proofs.Walks.{every_more, walk_gives}
-use Rattle.ll_core.proofs.Pieces.{lookup}
+use Rattle.ll_core.proofs.walks.Walks.{every_more, walk_gives}
+use Rattle.ll_core.proofs.events.Pieces.{lookup}
 
 module _ {X Y : Type 0} where
   pub get_map : (f : X → Y) (xs : List X) (i : ℕ) (y : Y) → slice_get (map f xs) i ≡ Some y → (x : X) × (slice_get xs i ≡ Some x) × (f x ≡ y)

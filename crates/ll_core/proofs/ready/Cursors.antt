@@ -6,7 +6,7 @@ use Rattle.ll_laws.specs.Pool.{Alternative}
 use Rattle.ll_laws.specs.Spread.{numbers, last_first, walk_alternative, walk_deep}
 use Rattle.ll_laws.specs.Sound.{Every}
 use Rattle.ll_core.specs.Cursor.{rest, begin, next_of}
-use Rattle.ll_core.proofs.Walks.{every_more, last_first_same, last_first_snoc, flat_numbers}
+use Rattle.ll_core.proofs.walks.Walks.{every_more, last_first_same, last_first_snoc, flat_numbers}
 
 last_first-append : {X A : Type 0} (f : X → List A) (xs ys : List X) → last_first f (xs ++ ys) ≡ last_first f ys ++ last_first f xs
 last_first-append f [] ys = sym (append-nil (last_first f ys))

@@ -7,7 +7,7 @@ use Rattle.ll_laws.specs.Pool.{Owed, Alternative}
 use Rattle.ll_laws.specs.Spread.{walk}
 use Rattle.ll_laws.specs.Sound.{Shaped, Sound, is_taken}
 use Rattle.ll_laws.specs.CoreEvents.{opening}
-use Rattle.ll_core.proofs.AllClaimed.{sum_total}
+use Rattle.ll_core.proofs.runs.AllClaimed.{sum_total}
 
 pub all_untaken : (E : Type 0) (walk : List Alternative) → list_all (λ a. not (is_taken {E = E} [] a)) walk ≡ true
 all_untaken E [] = refl

@@ -15,10 +15,10 @@ use Rattle.ll_laws.specs.CoreEvents.{Next}
 use Rattle.ll_laws.specs.declared.Event.{Event}
 use Rattle.ll_core.specs.declared.room.Waiting.{Waiting}
 use Rattle.ll_core.specs.declared.cursor.Stop.{Stop}
-use Rattle.ll_core.proofs.Pieces.{found, find_none, is_of_parts, get_below, get_front}
-use Rattle.ll_core.proofs.Facts.{owed_before, get_map, get_map_at}
-use Rattle.ll_core.proofs.Forming.{get_short}
-use Rattle.ll_core.proofs.Pointing.{top_inside, top_untaken, step, after_top, weight, weight_untaken}
+use Rattle.ll_core.proofs.events.Pieces.{found, find_none, is_of_parts, get_below, get_front}
+use Rattle.ll_core.proofs.sound.Facts.{owed_before, get_map, get_map_at}
+use Rattle.ll_core.proofs.sound.Forming.{get_short}
+use Rattle.ll_core.proofs.ready.Pointing.{top_inside, top_untaken, step, after_top, weight, weight_untaken}
 
 last_split : {X : Type 0} (xs : List X) (x : X) → slice_get xs (length xs - 1) ≡ Some x → (base : List X) × (xs ≡ base ++ x ∷ [])
 last_split [] x e = absurd (none_not_some x e)

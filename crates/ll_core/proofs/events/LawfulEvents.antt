@@ -10,14 +10,14 @@ use Rattle.ll_laws.specs.Sound.{Shaped, Sound, is_open, is_taken_status, report_
 use Rattle.ll_laws.specs.CoreEvents.{CoreEvent, Claim, Publish, Report, Starve, Stop, Look, Ready, Work, Idle, Finished, Starved, Stopped, Done, Full, NoMemory, Events, NotYet, All, change, new_piece, with_batch, with_status, claimed, published, Holds, NoOpen, Does, By, Splits, Lawful}
 use Rattle.ll_core.specs.Laws.{IsQuiet, IsTakenAt}
 use Rattle.ll_core.specs.Given.{TakesNone, MarksNone, SameTaken, SameMarks}
-use Rattle.ll_core.proofs.Walks.{every_more}
-use Rattle.ll_core.proofs.Pieces.{get_front, get_seam, get_snoc, change_get, change_at, change_other}
-use Rattle.ll_core.proofs.Facts.{owed_before}
-use Rattle.ll_core.proofs.Statuses.{sound_reported, sound_took}
-use Rattle.ll_core.proofs.Claims.{sound_claimed}
-use Rattle.ll_core.proofs.Publishes.{sound_published, events_split, cost_split}
-use Rattle.ll_core.proofs.Conditions.{MayPublish}
-use Rattle.ll_core.proofs.Laters.{later_event, taken_same_piece, share_kept, owed_kept}
+use Rattle.ll_core.proofs.walks.Walks.{every_more}
+use Rattle.ll_core.proofs.events.Pieces.{get_front, get_seam, get_snoc, change_get, change_at, change_other}
+use Rattle.ll_core.proofs.sound.Facts.{owed_before}
+use Rattle.ll_core.proofs.events.Statuses.{sound_reported, sound_took}
+use Rattle.ll_core.proofs.events.Claims.{sound_claimed}
+use Rattle.ll_core.proofs.events.Publishes.{sound_published, events_split, cost_split}
+use Rattle.ll_core.proofs.events.Conditions.{MayPublish}
+use Rattle.ll_core.proofs.runs.LaterPools.{later_event, taken_same_piece, share_kept, owed_kept}
 
 module _ {N Of E : Type 0} (of : N → Of) (alternatives : N → List (Owed E)) where
   -- a worker has one open piece at most

@@ -13,17 +13,17 @@ use Rattle.ll_laws.specs.Sound.{Every, Sound, Reported, report_of, is_open, is_t
 use Rattle.ll_laws.specs.Later.{Later}
 use Rattle.ll_laws.specs.CoreEvents.{CoreEvent, Claim, Publish, Report, Starve, Stop, Look, Ready, Work, Idle, Finished, Starved, Stopped, Done, Full, NoMemory, Events, NotYet, All, opening, claimed, published, reported, Does, Lawful, RunsTo, report_taken, report_in, report_left, reports_left}
 use Rattle.ll_core.specs.Given.{Given, cost_in, events_in, price, share_cost, total, value}
-use Rattle.ll_core.proofs.Once.{total-append, one_if}
-use Rattle.ll_core.proofs.Pieces.{found, get_below}
-use Rattle.ll_core.proofs.Facts.{spread_is, get_map}
-use Rattle.ll_core.proofs.Costs.{cost_is}
-use Rattle.ll_core.proofs.AllClaimed.{all_claimed, closed_all, nothing_new, sum_total}
-use Rattle.ll_core.proofs.Cuts.{cut_sum, cut_twice}
-use Rattle.ll_core.proofs.Laters.{still_closed}
-use Rattle.ll_core.proofs.LawfulEvents.{keeps_sound, may_publish}
-use Rattle.ll_core.proofs.Runs.{run_sound}
-use Rattle.ll_core.proofs.Openings.{all_untaken, opening_sound}
-use Rattle.ll_core.proofs.Given.{same_given, marked_given, given_claimed, given_published, given_reported, given_took, every_back, walk_inside, was_closed, taken_piece}
+use Rattle.ll_core.proofs.walks.Once.{total-append, one_if}
+use Rattle.ll_core.proofs.events.Pieces.{found, get_below}
+use Rattle.ll_core.proofs.sound.Facts.{spread_is, get_map}
+use Rattle.ll_core.proofs.runs.Costs.{cost_is}
+use Rattle.ll_core.proofs.runs.AllClaimed.{all_claimed, closed_all, nothing_new, sum_total}
+use Rattle.ll_core.proofs.events.Cuts.{cut_sum, cut_twice}
+use Rattle.ll_core.proofs.runs.LaterPools.{still_closed}
+use Rattle.ll_core.proofs.events.LawfulEvents.{keeps_sound, may_publish}
+use Rattle.ll_core.proofs.runs.Runs.{run_sound}
+use Rattle.ll_core.proofs.events.Openings.{all_untaken, opening_sound}
+use Rattle.ll_core.proofs.runs.Given.{same_given, marked_given, given_claimed, given_published, given_reported, given_took, every_back, walk_inside, was_closed, taken_piece}
 
 module _ {N Of E : Type 0} (of : N → Of) (alternatives : N → List (Owed E)) where
   pub step_given : (p q : PoolData N E) (problem : Of) (pair : Owed E) (reports : List (Owed E)) → Sound of alternatives p problem pair → Given of alternatives p reports → (e : CoreEvent N E) → Lawful of alternatives p e → Does alternatives p e q → Given of alternatives q (reports ++ report_taken e)

@@ -10,8 +10,8 @@ use Rattle.ll_laws.specs.Spread.{list_or_empty, owed_or_nothing, owed_by, owed_a
 use Rattle.ll_laws.specs.Sound.{Every, is_open}
 use Rattle.ll_laws.specs.Later.{NotBack, Further, Later}
 use Rattle.ll_laws.specs.CoreEvents.{CoreEvent, Claim, Publish, Report, Starve, Stop, Look, Ready, Work, Idle, Finished, Starved, Stopped, Done, Full, NoMemory, Events, NotYet, All, change, with_batch, with_status, Does}
-use Rattle.ll_core.proofs.Walks.{every_more, last_first_same}
-use Rattle.ll_core.proofs.Pieces.{get_front, change_at, change_other}
+use Rattle.ll_core.proofs.walks.Walks.{every_more, last_first_same}
+use Rattle.ll_core.proofs.events.Pieces.{get_front, change_at, change_other}
 
 module _ {E : Type 0} where
   not_back : (s : Status E) → NotBack s s

@@ -5,7 +5,7 @@ use Rattle.std.specs.Arc.{arc_value}
 use Rattle.std.specs.declared.sync.Arc.{Arc}
 use Rattle.std.proofs.Common.{Global, get_or}
 use Rattle.std.proofs.Math.ListN.{set}
-use Rattle.ll_core.proofs.Publishes.{get_other}
+use Rattle.ll_core.proofs.events.Publishes.{get_other}
 use Rattle.std.proofs.lemmas.List.{map_push, length-append, length-map, map-append, length_push}
 use Rattle.std.proofs.lemmas.Bool.{cases_eq}
 use Rattle.ll_lists.proofs.CallerLemmas.{some_is, none_not_some}
@@ -20,10 +20,10 @@ use Rattle.ll_laws.specs.declared.Event.{Event}
 use Rattle.ll_core.specs.declared.room.Waiting.{Waiting}
 use Rattle.ll_core.specs.declared.room.Slot.{Slot}
 use Rattle.ll_core.specs.Slots.{piece_in, status_in}
-use Rattle.ll_core.proofs.Once.{one_if}
-use Rattle.ll_core.proofs.Pieces.{length-change, get_front, get_seam, get_below}
-use Rattle.ll_core.proofs.Facts.{get_map, get_map_at, owed_past}
-use Rattle.ll_core.proofs.Statuses.{open_changed}
+use Rattle.ll_core.proofs.walks.Once.{one_if}
+use Rattle.ll_core.proofs.events.Pieces.{length-change, get_front, get_seam, get_below}
+use Rattle.ll_core.proofs.sound.Facts.{get_map, get_map_at, owed_past}
+use Rattle.ll_core.proofs.events.Statuses.{open_changed}
 
 open_push : (pieces : List (Piece Event)) (y : Piece Event) → y.status ≡ Open → count_open (pieces ++ y ∷ []) ≡ count_open pieces + 1
 open_push [] y o = let h : one_if (is_open y.status) ≡ 1 = ap (λ s. one_if (is_open s)) o in omega arith

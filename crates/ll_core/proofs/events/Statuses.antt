@@ -10,12 +10,12 @@ use Rattle.ll_laws.specs.Spread.{is_of, piece_of, kids_of, published_by, share, 
 use Rattle.ll_laws.specs.Sound.{Each, Reported, report_of, Shaped, Sound, HasPiece, is_open, is_taken, is_taken_piece, is_taken_status, count_open, count_of, TakenFirst}
 use Rattle.ll_laws.specs.CoreEvents.{change, with_status, reported, took, MayTake}
 use Rattle.ll_core.specs.Given.{total}
-use Rattle.ll_core.proofs.Conditions.{MayReport}
-use Rattle.ll_core.proofs.Walks.{walk_same, is_alternative}
-use Rattle.ll_core.proofs.Once.{one_if, is_at, total-append}
-use Rattle.ll_core.proofs.Unique.{unique}
+use Rattle.ll_core.proofs.events.Conditions.{MayReport}
+use Rattle.ll_core.proofs.walks.Walks.{walk_same, is_alternative}
+use Rattle.ll_core.proofs.walks.Once.{one_if, is_at, total-append}
+use Rattle.ll_core.proofs.walks.Unique.{unique}
 use Rattle.ll_laws.specs.Pool.{place}
-use Rattle.ll_core.proofs.Pieces.{Apart, Changed, change_get, change_at, change_other, length-change, flat_change_same, found, find_change_other, is_of_parts, is_of_from}
+use Rattle.ll_core.proofs.events.Pieces.{Apart, Changed, change_get, change_at, change_other, length-change, flat_change_same, found, find_change_other, is_of_parts, is_of_from}
 
 pub each_changed : {X : Type 0} (P Q : X → Type 0) (i : ℕ) (f : X → X) (xs : List X) → Each xs P → ((x : X) → slice_get xs i ≡ Some x → P x → Q (f x)) → ((x : X) → P x → Q x) → Each (change i f xs) Q
 each_changed P Q i f xs each at others j y e =

@@ -6,7 +6,7 @@ use Rattle.ll_laws.specs.Spread.{numbers, alternatives_of}
 use Rattle.ll_core.specs.Formed.{place_in}
 use Rattle.ll_core.specs.Copies.{AreCopies}
 use Rattle.ll_core.specs.declared.room.Waiting.{Waiting}
-use Rattle.ll_core.proofs.Walks.{every_snoc}
+use Rattle.ll_core.proofs.walks.Walks.{every_snoc}
 
 numbers_snoc : (from n : ℕ) → numbers from (n + 1) ≡ numbers from n ++ (from + n) ∷ []
 numbers_snoc from zero = let e : from ≡ from + 0 = omega arith in ap (λ m. m ∷ []) e

@@ -7,10 +7,10 @@ use Rattle.ll_laws.specs.Spread.{spread}
 use Rattle.ll_laws.specs.Sound.{Sound}
 use Rattle.ll_laws.specs.CoreEvents.{CoreEvent, Claim, Publish, Report, Starve, Stop, Look, Ready, Work, Idle, Finished, Starved, Stopped, Done, Full, NoMemory, Events, NotYet, All, change, new_piece, with_batch, with_status, opening, Does, RunsTo, claim_of}
 use Rattle.ll_core.specs.Laws.{AllDifferent}
-use Rattle.ll_core.proofs.Pieces.{Apart}
-use Rattle.ll_core.proofs.Facts.{get_map, spread_is}
-use Rattle.ll_core.proofs.LawfulEvents.{keeps_sound}
-use Rattle.ll_core.proofs.Openings.{opening_sound}
+use Rattle.ll_core.proofs.events.Pieces.{Apart}
+use Rattle.ll_core.proofs.sound.Facts.{get_map, spread_is}
+use Rattle.ll_core.proofs.events.LawfulEvents.{keeps_sound}
+use Rattle.ll_core.proofs.events.Openings.{opening_sound}
 
 module _ {N Of E : Type 0} (of : N → Of) (alternatives : N → List (Owed E)) where
   pub run_sound : (es : List (CoreEvent N E)) (p q : PoolData N E) (problem : Of) (pair : Owed E) → Sound of alternatives p problem pair → RunsTo of alternatives p es q → Sound of alternatives q problem pair

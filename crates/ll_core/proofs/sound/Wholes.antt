@@ -8,7 +8,7 @@ use Rattle.ll_laws.specs.Pool.{Owed, Open, Closed, Taken, Piece, PoolData, Alter
 use Rattle.ll_laws.specs.Spread.{alternatives_of, length_of}
 use Rattle.ll_laws.specs.Sound.{Shaped}
 use Rattle.ll_laws.specs.CoreEvents.{claimed, published, reported, took, change, with_batch, with_status, new_piece, MayTake}
-use Rattle.ll_core.proofs.Conditions.{MayClaim, MayGrow}
+use Rattle.ll_core.proofs.events.Conditions.{MayClaim, MayGrow}
 use Rattle.ll_core.specs.Cursor.{PointsIn, begin}
 use Rattle.ll_core.specs.Formed.{Formed, place_of, place_in}
 use Rattle.ll_core.specs.Copies.{AreCopies}
@@ -26,15 +26,15 @@ use Rattle.ll_laws.specs.CoreEvents.{opening}
 use Rattle.ll_laws.specs.Spread.{walk, kids_of, last_first}
 use Rattle.ll_laws.specs.Sound.{is_taken}
 use Rattle.ll_core.specs.Cursor.{rest}
-use Rattle.ll_core.proofs.Openings.{opening_shape}
-use Rattle.ll_core.proofs.Cursors.{rest_begin}
-use Rattle.ll_core.proofs.Pieces.{get_front}
-use Rattle.ll_core.proofs.Facts.{owed_before, ends}
-use Rattle.ll_core.proofs.Statuses.{shaped_reported, shaped_took}
-use Rattle.ll_core.proofs.Claims.{shaped_claimed}
-use Rattle.ll_core.proofs.Publishes.{shaped_published, same, here, length_more}
-use Rattle.ll_core.proofs.Pointing.{points_claimed, points_reported, points_published, points_took, after_top}
-use Rattle.ll_core.proofs.Forming.{copies_are, opening_forms, order_is, places_kept, get_right, new_there}
+use Rattle.ll_core.proofs.events.Openings.{opening_shape}
+use Rattle.ll_core.proofs.ready.Cursors.{rest_begin}
+use Rattle.ll_core.proofs.events.Pieces.{get_front}
+use Rattle.ll_core.proofs.sound.Facts.{owed_before, ends}
+use Rattle.ll_core.proofs.events.Statuses.{shaped_reported, shaped_took}
+use Rattle.ll_core.proofs.events.Claims.{shaped_claimed}
+use Rattle.ll_core.proofs.events.Publishes.{shaped_published, same, here, length_more}
+use Rattle.ll_core.proofs.ready.Pointing.{points_claimed, points_reported, points_published, points_took, after_top}
+use Rattle.ll_core.proofs.sound.Forming.{copies_are, opening_forms, order_is, places_kept, get_right, new_there}
 
 module _ {N : Type 0} (alternatives : N → List (Owed Event)) (v : PoolData N Event) (starts : List ℕ) (stack : List Alternative) (capacity capacity' stack_capacity : ℕ) where
   pub whole_claimed : (w : Waiting N) (rest : List (Waiting N)) (worker : ℕ) → Whole alternatives v (w ∷ rest) starts stack capacity stack_capacity → MayClaim alternatives v worker w.batch w.k

@@ -13,14 +13,14 @@ use Rattle.ll_laws.specs.Spread.{alternatives_of, numbers, last_first, walk_deep
 use Rattle.ll_laws.specs.Sound.{Every, Each, Reported, Shaped, Sound, is_open, is_taken, is_taken_piece, is_taken_status, count_open, all_published, count_of, TakenFirst}
 use Rattle.ll_core.specs.Cursor.{rest}
 use Rattle.ll_laws.specs.CoreEvents.{change, with_batch, published}
-use Rattle.ll_core.proofs.Conditions.{MayGrow, MayPublish}
-use Rattle.ll_core.proofs.Walks.{every_more, every_snoc, last_first_same, last_first_snoc, walk_inserted, rest_inserted, is_alternative, insert_after}
-use Rattle.ll_core.proofs.Once.{one_if, hit, hit_other}
+use Rattle.ll_core.proofs.events.Conditions.{MayGrow, MayPublish}
+use Rattle.ll_core.proofs.walks.Walks.{every_more, every_snoc, last_first_same, last_first_snoc, walk_inserted, rest_inserted, is_alternative, insert_after}
+use Rattle.ll_core.proofs.walks.Once.{one_if, hit, hit_other}
 use Rattle.ll_laws.specs.Pool.{place}
-use Rattle.ll_core.proofs.Pieces.{Changed, get_front, get_seam, change_get, length-change, found, find_none, is_of_parts}
-use Rattle.ll_core.proofs.Facts.{ends, kids_within, owed_before, get_map}
-use Rattle.ll_core.proofs.Statuses.{each_changed, apart_changed, piece_here, piece_elsewhere, read_same, has_piece_changed, open_changed}
-use Rattle.ll_core.proofs.Claims.{each_snoc}
+use Rattle.ll_core.proofs.events.Pieces.{Changed, get_front, get_seam, change_get, length-change, found, find_none, is_of_parts}
+use Rattle.ll_core.proofs.sound.Facts.{ends, kids_within, owed_before, get_map}
+use Rattle.ll_core.proofs.events.Statuses.{each_changed, apart_changed, piece_here, piece_elsewhere, read_same, has_piece_changed, open_changed}
+use Rattle.ll_core.proofs.events.Claims.{each_snoc}
 
 pub get_other : {X : Type 0} (xs : List X) (y : X) (i : ℕ) → (i ≡ length xs → ⊥) → slice_get (xs ++ y ∷ []) i ≡ slice_get xs i
 get_other [] y zero h = absurd (h refl)

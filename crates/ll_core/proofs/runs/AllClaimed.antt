@@ -10,13 +10,13 @@ use Rattle.ll_laws.specs.Spread.{list_or_empty, numbers, alternatives_of, owed_b
 use Rattle.ll_laws.specs.Sound.{Each, Shaped, HasPiece, is_open, count_open, count_of, all_published}
 use Rattle.ll_laws.specs.Later.{Later}
 use Rattle.ll_core.specs.Given.{total}
-use Rattle.ll_core.proofs.Unique.{one_holder, count_in}
-use Rattle.ll_core.proofs.Forming.{length_numbers}
-use Rattle.ll_core.proofs.Walks.{is_alternative}
-use Rattle.ll_core.proofs.Once.{count_is_total, total_flat, one_if, hit, hit_other, hit_self, is_at, is_at_here, is_at_other, one_number, total_numbers, total_zero, total_sum}
-use Rattle.ll_core.proofs.Pieces.{Apart, is_of_parts, get_below}
+use Rattle.ll_core.proofs.walks.Unique.{one_holder, count_in}
+use Rattle.ll_core.proofs.sound.Forming.{length_numbers}
+use Rattle.ll_core.proofs.walks.Walks.{is_alternative}
+use Rattle.ll_core.proofs.walks.Once.{count_is_total, total_flat, one_if, hit, hit_other, hit_self, is_at, is_at_here, is_at_other, one_number, total_numbers, total_zero, total_sum}
+use Rattle.ll_core.proofs.events.Pieces.{Apart, is_of_parts, get_below}
 use Rattle.ll_laws.specs.Pool.{place}
-use Rattle.ll_core.proofs.Facts.{owed_before}
+use Rattle.ll_core.proofs.sound.Facts.{owed_before}
 
 total_swap : {X Y : Type 0} (f : X → Y → ℕ) (xs : List X) (ys : List Y) → total (λ x. total (f x) ys) xs ≡ total (λ y. total (λ x. f x y) xs) ys
 total_swap f [] [] = refl

@@ -6,7 +6,7 @@ use Rattle.ll_laws.specs.Pool.{Alternative}
 use Rattle.ll_laws.specs.Spread.{numbers, last_first, walk_alternative, walk_deep}
 use Rattle.ll_laws.specs.Sound.{Every, count_of}
 use Rattle.ll_core.specs.Given.{total}
-use Rattle.ll_core.proofs.Walks.{every_more, is_alternative}
+use Rattle.ll_core.proofs.walks.Walks.{every_more, is_alternative}
 
 pub total-append : {X : Type 0} (f : X → ℕ) (xs ys : List X) → total f (xs ++ ys) ≡ total f xs + total f ys
 total-append f [] ys = omega arith

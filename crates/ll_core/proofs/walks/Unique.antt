@@ -7,11 +7,11 @@ use Rattle.ll_laws.specs.Pool.{Owed, Piece, PoolData, Alternative}
 use Rattle.ll_laws.specs.Spread.{is_of, piece_of, kids_of, published_by, length_of, walk}
 use Rattle.ll_laws.specs.Sound.{Every, Shaped, count_of, all_published}
 use Rattle.ll_core.specs.Given.{total}
-use Rattle.ll_core.proofs.Walks.{every_more}
-use Rattle.ll_core.proofs.Once.{total_flat, total-append, one_if, hit, is_at, count_is_total, hit_other, met_once}
+use Rattle.ll_core.proofs.walks.Walks.{every_more}
+use Rattle.ll_core.proofs.walks.Once.{total_flat, total-append, one_if, hit, is_at, count_is_total, hit_other, met_once}
 use Rattle.ll_laws.specs.Pool.{place}
-use Rattle.ll_core.proofs.Pieces.{found, lookup, is_of_from, is_of_parts}
-use Rattle.ll_core.proofs.Facts.{kids_within, owed_before}
+use Rattle.ll_core.proofs.events.Pieces.{found, lookup, is_of_from, is_of_parts}
+use Rattle.ll_core.proofs.sound.Facts.{kids_within, owed_before}
 
 module _ {X : Type 0} (f : X → ℕ) where
   zero_all : (xs : List X) → total f xs ≡ 0 → (j : ℕ) (y : X) → slice_get xs j ≡ Some y → f y ≡ 0

@@ -5,11 +5,11 @@ use Rattle.ll_laws.specs.Pool.{Owed, Piece, PoolData, Alternative}
 use Rattle.ll_laws.specs.Spread.{numbers, walk_alternative, walk_deep, piece_of, kids_of, published_by, owed_by, owed_at, list_or_empty, owed_or_nothing, batch_cost, given_cost, owes_of, length_of, walk}
 use Rattle.ll_laws.specs.Sound.{Every, Each, Sound}
 use Rattle.ll_core.specs.Given.{share_cost, total}
-use Rattle.ll_core.proofs.Walks.{every_more}
-use Rattle.ll_core.proofs.Once.{total_same, total_flat, total_last_first, total_numbers}
-use Rattle.ll_core.proofs.Pieces.{lookup}
-use Rattle.ll_core.proofs.Facts.{ends, kids_within}
-use Rattle.ll_core.proofs.AllClaimed.{total_by_index, sum_total}
+use Rattle.ll_core.proofs.walks.Walks.{every_more}
+use Rattle.ll_core.proofs.walks.Once.{total_same, total_flat, total_last_first, total_numbers}
+use Rattle.ll_core.proofs.events.Pieces.{lookup}
+use Rattle.ll_core.proofs.sound.Facts.{ends, kids_within}
+use Rattle.ll_core.proofs.runs.AllClaimed.{total_by_index, sum_total}
 
 module _ (kids : ℕ → ℕ → List ℕ) (len : ℕ → ℕ) (n : ℕ) (ends : (b : ℕ) → n ≤ b → len b ≡ 0) (up : (b k : ℕ) → k < len b → Every (λ c. b < c) (kids b k)) where
   walk_costs : (value : Alternative → ℕ) (one : ℕ → ℕ → ℕ) (whole : ℕ → ℕ) → ((b : ℕ) → whole b ≡ total (one b) (numbers 0 (len b)))

@@ -12,18 +12,18 @@ use Rattle.ll_laws.specs.Spread.{last_first, is_of, kids_of, published_by, alter
 use Rattle.ll_laws.specs.Sound.{Every, Shaped, is_taken, is_taken_piece, is_taken_status}
 use Rattle.ll_laws.specs.CoreEvents.{change, with_status, with_batch, new_piece, claimed, reported, published, took, MayTake}
 use Rattle.ll_core.specs.Given.{total}
-use Rattle.ll_core.proofs.Conditions.{MayClaim, MayGrow}
+use Rattle.ll_core.proofs.events.Conditions.{MayClaim, MayGrow}
 use Rattle.ll_core.specs.Cursor.{rest, begin, next_of, untaken, Points, PointsIn}
-use Rattle.ll_core.proofs.Walks.{every_more, insert_after, flat_last_first, last_first_same}
-use Rattle.ll_core.proofs.Once.{one_if, is_at, total-append}
+use Rattle.ll_core.proofs.walks.Walks.{every_more, insert_after, flat_last_first, last_first_same}
+use Rattle.ll_core.proofs.walks.Once.{one_if, is_at, total-append}
 use Rattle.ll_laws.specs.Pool.{place}
-use Rattle.ll_core.proofs.Pieces.{found, is_of_from}
-use Rattle.ll_core.proofs.Facts.{ends, kids_within, owed_before}
-use Rattle.ll_core.proofs.Unique.{unique}
-use Rattle.ll_core.proofs.Statuses.{piece_here, piece_elsewhere, read_same, all_more, untaken_elsewhere}
-use Rattle.ll_core.proofs.Claims.{read_snoc, apart_snoc}
-use Rattle.ll_core.proofs.Publishes.{same, length_more, walk_published, taken_same, not_taken_here, none_new, front_same, back_same, all_new, rest_published}
-use Rattle.ll_core.proofs.Cursors.{stack_step}
+use Rattle.ll_core.proofs.events.Pieces.{found, is_of_from}
+use Rattle.ll_core.proofs.sound.Facts.{ends, kids_within, owed_before}
+use Rattle.ll_core.proofs.walks.Unique.{unique}
+use Rattle.ll_core.proofs.events.Statuses.{piece_here, piece_elsewhere, read_same, all_more, untaken_elsewhere}
+use Rattle.ll_core.proofs.events.Claims.{read_snoc, apart_snoc}
+use Rattle.ll_core.proofs.events.Publishes.{same, length_more, walk_published, taken_same, not_taken_here, none_new, front_same, back_same, all_new, rest_published}
+use Rattle.ll_core.proofs.ready.Cursors.{stack_step}
 
 points_same : (kids kids' : ℕ → ℕ → List ℕ) (len : ℕ → ℕ) (n : ℕ) (taken taken' : Alternative → Bool) (more more' : ℕ) (stack : List Alternative) → ((b k : ℕ) → kids' b k ≡ kids b k) → ((a : Alternative) → taken' a ≡ taken a) → more' ≡ more → Points kids len n taken more stack → Points kids' len n taken' more' stack
 points_same kids kids' len n taken taken' more more' stack k t m h =

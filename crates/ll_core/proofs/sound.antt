@@ -1,0 +1,4 @@
+-- What holds of each pool.
+pub mod Facts
+pub mod Forming
+pub mod Wholes

@@ -1,5 +1,5 @@
 -- A clause node, judged in its order.
-use Rattle.std.proofs.Common.{◌≡◌, ℕ, zero, suc, ◌+◌, ◌-◌, ◌<◌, ◌≤◌, refl, ap, sym, subst, ◌∙◌, arith, Bool, true, false, List, [], ◌∷◌, ◌++◌, map, take, reverse, length, All, Option, Some, None}
+use Rattle.std.proofs.Common.{◌≡◌, ℕ, zero, suc, ◌+◌, ◌-◌, ◌<◌, ◌≤◌, refl, ap, sym, subst, ◌∙◌, arith, Bool, true, false, List, [], ◌∷◌, map, take, reverse, length, All, Option, Some, None}
 use Rattle.std.specs.Prelude.{◌&&◌, if◌then◌else◌, nat_lt, option_map}
 use Rattle.std.specs.List.{list_all}
 use Rattle.std.proofs.lemmas.Bool.{and_parts, ltb-true, lt-ltb}
@@ -13,6 +13,7 @@ use Rattle.ll_bank.specs.Term.{Term, Env, is_closed}
 use Rattle.ll_bank.specs.Form.{Form, Atom, With, Lolli, Imp, Forall, close_form}
 use Rattle.ll_bank.specs.Nodes.{Nodes, form_tree, form_of, term_tree, HasForm, IsFormView, Extends}
 use Rattle.ll_bank.proofs.CallerLemmas.{Extends-refl}
+use Rattle.ll_laws.proofs.CallerLemmas.{under}
 use Rattle.ll_laws.specs.Number.{Operators}
 use Rattle.ll_laws.specs.Fault.{term_eq, parts_fit, parts_deal, Wrong, Right, judge_leaf, judge_clause}
 use Rattle.ll_laws.specs.Leaf.{Premise, Needs, NeedsFree, Leaf, add_premise, premise_goal, ways, leaf, leaf_from}
@@ -35,15 +36,6 @@ use Rattle.ll_sequent.proofs.RuleLemmas.{none_added}
 use Rattle.ll_sequent.proofs.Waiting.{same_labelled, are_held-extends}
 
 -- ---- the premises of a sound clause are sound
-
-record Under (p : Premise) (o : Option Leaf) (l : Leaf) : Type 0 where
-  inner : Leaf
-  is : o ≡ Some inner
-  premises : l.premises ≡ inner.premises ++ p ∷ []
-
-under : (p : Premise) (o : Option Leaf) (l : Leaf) → option_map (add_premise p) o ≡ Some l → Under p o l
-under p None l h = cc
-under p (Some i) l h = record { inner = i; is = refl; premises = let e : l ≡ add_premise p i = cc in ap (λ x. x.premises) e }
 
 module _ (modules : List ModuleTree) where
   abbrev AreSoundGoals : List Premise → Type 0

@@ -1,14 +1,15 @@
 -- A sound formula stays sound where a closed term, or an eigenconstant that may be a predicate, takes the place that a quantifier binds.
-use Rattle.std.proofs.Common.{◌≡◌, ℕ, zero, suc, ◌+◌, ◌<◌, refl, ap, sym, ◌∙◌, subst, Bool, true, false, List, [], ◌∷◌, ◌++◌, map, length, arith}
-use Rattle.std.specs.Prelude.{◌&&◌, Option, Some, None, nat_eq, slice_get, slice_index_or}
+use Rattle.std.proofs.Common.{◌≡◌, ℕ, zero, suc, ◌+◌, ◌<◌, refl, ap, ◌∙◌, subst, Bool, true, false, List, [], ◌∷◌, ◌++◌, map, length, arith}
+use Rattle.std.specs.Prelude.{◌&&◌, Some, None, slice_get, slice_index_or}
 use Rattle.std.specs.List.{list_all}
 use Rattle.std.proofs.lemmas.Bool.{and_from, and_parts, ltb-true, lt-ltb}
 use Rattle.std.proofs.lemmas.List.{length-map}
 use Rattle.ll_bank.specs.declared.Head.TheVariants.{Name, Eigen, Bound}
-use Rattle.ll_bank.specs.Term.{Term, Var, Int, Con, Ap, Env, place, close, head_of, is_spine, is_closed, applies_heads}
+use Rattle.ll_bank.specs.Term.{Term, Var, Int, Con, Ap, Env, place, close, head_of, is_spine, is_closed}
 use Rattle.ll_bank.specs.Form.{Form, Top, One, Atom, With, Tensor, Plus, Bang, Lolli, Imp, Forall, Exists, Use, Num, close_form, instantiate, form_applies_heads}
 use Rattle.ll_laws.specs.Module.{ModuleTree}
 use Rattle.ll_laws.specs.Valid.{Side, GoalSide, ClauseSide, Scope, places_below, each_term, may_head, is_headed, is_atom, has_heads, fits_module, loads_fit}
+use Rattle.ll_laws.proofs.CallerLemmas.{fits_module-length, head_of_closed, headed_applies, all_headed}
 use Rattle.ll_sequent.specs.Sequents.{IsSound}
 
 -- ---- one environment
@@ -162,10 +163,6 @@ form_heads h side (Exists f) p = form_heads (under false h) side f p
 form_heads {e} {inner} h side (Use m ts f) p = both_free (list_all (is_headed inner) ts) (has_heads true side inner f) (terms_headed h ts) (form_heads h side f) p
 form_heads {e} {inner} h side (Num r t u) p = both_free (is_headed inner t) (is_headed inner u) (term_headed h t) (term_headed h u) p
 
-pub module_after : (o : Option ModuleTree) (ts us : List Term) → length us ≡ length ts → fits_module o ts ≡ true → fits_module o us ≡ true
-module_after None ts us e p = p
-module_after (Some m) ts us e p = let P : ℕ → Type 0 = λ n. nat_eq n m.params ≡ true in subst P (sym e) p
-
 form_loads : (modules : List ModuleTree) (e : Env) (f : Form) → loads_fit modules f ≡ true → loads_fit modules (close_form e f) ≡ true
 form_loads modules e Top p = refl
 form_loads modules e One p = refl
@@ -179,7 +176,7 @@ form_loads modules e (Imp f g) p = both_free (loads_fit modules f) (loads_fit mo
 form_loads modules e (Forall f) p = form_loads modules (None ∷ e) f p
 form_loads modules e (Exists f) p = form_loads modules (None ∷ e) f p
 form_loads modules e (Use m ts f) p =
-    both_free (fits_module (slice_get modules m) ts) (loads_fit modules f) (module_after (slice_get modules m) ts (map (close e) ts) (length-map ts (close e))) (form_loads modules e f) p
+    both_free (fits_module (slice_get modules m) ts) (loads_fit modules f) (fits_module-length (slice_get modules m) ts (map (close e) ts) (length-map ts (close e))) (form_loads modules e f) p
 form_loads modules e (Num r t u) p = refl
 
 pub sound-close : {e : Env} {inner outer : Scope} → Puts e inner outer → (modules : List ModuleTree) (side : Side) (f : Form) → IsSound modules side inner f → IsSound modules side outer (close_form e f)
@@ -196,15 +193,6 @@ closed_free n (Con (Bound k)) c = cc
 closed_free n (Ap f a) c =
     let p = and_parts (is_spine f && is_closed f) (is_closed a) c in let q = and_parts (is_spine f) (is_closed f) p.0 in and_from _ _ (closed_free n f q.1) (closed_free n a p.1)
 
-closed_head : (scope : Scope) (t : Term) → is_closed t ≡ true → may_head scope (head_of t) ≡ true
-closed_head scope (Var x) c = refl
-closed_head scope (Int z) c = refl
-closed_head scope (Con (Name k)) c = refl
-closed_head scope (Con (Eigen k)) c = refl
-closed_head scope (Con (Bound k)) c = cc
-closed_head scope (Ap f a) c =
-    let p = and_parts (is_spine f && is_closed f) (is_closed a) c in let q = and_parts (is_spine f) (is_closed f) p.0 in closed_head scope f q.1
-
 pub closed_headed : (scope : Scope) (t : Term) → is_closed t ≡ true → is_headed scope t ≡ true
 closed_headed scope (Var x) c = refl
 closed_headed scope (Int z) c = refl
@@ -214,7 +202,7 @@ closed_headed scope (Con (Bound k)) c = refl
 closed_headed scope (Ap f a) c =
     let p = and_parts (is_spine f && is_closed f) (is_closed a) c in
     let q = and_parts (is_spine f) (is_closed f) p.0 in
-    and_from _ _ (and_from _ _ (and_from _ _ q.0 (closed_head scope f q.1)) (closed_headed scope f q.1)) (closed_headed scope a p.1)
+    and_from _ _ (and_from _ _ (and_from _ _ q.0 (head_of_closed scope f q.1)) (closed_headed scope f q.1)) (closed_headed scope a p.1)
 
 -- a closed term, which is a head where the place may be one
 pub puts_term : (t : Term) (b : Bool) → is_closed t ≡ true → (b ≡ true → is_spine t ≡ true) → Puts (Some t ∷ []) (b ∷ []) []
@@ -229,7 +217,7 @@ puts_term t b c s = record { free = free; spines = spines; may = may; headed = h
     spines (suc k) round m = refl
 
     may : (k : ℕ) (round : Scope) → may_head (b ∷ []) (Some (Bound k)) ≡ true → may_head (round ++ []) (head_of (place (Some t ∷ []) k (length round))) ≡ true
-    may zero round m = closed_head (round ++ []) t c
+    may zero round m = head_of_closed (round ++ []) t c
     may (suc k) round m = cc
 
     headed : (k : ℕ) (round : Scope) → is_headed (round ++ []) (place (Some t ∷ []) k (length round)) ≡ true
@@ -237,20 +225,6 @@ puts_term t b c s = record { free = free; spines = spines; may = may; headed = h
     headed (suc k) round = refl
 
 -- ---- heads alone have arguments
-
-headed_applies : (scope : Scope) (u : Term) → is_headed scope u ≡ true → applies_heads u ≡ true
-headed_applies scope (Var x) p = refl
-headed_applies scope (Int z) p = refl
-headed_applies scope (Con k) p = refl
-headed_applies scope (Ap f a) p =
-    let q = and_parts (is_spine f && may_head scope (head_of f) && is_headed scope f) (is_headed scope a) p in
-    let r = and_parts (is_spine f && may_head scope (head_of f)) (is_headed scope f) q.0 in
-    let s = and_parts (is_spine f) (may_head scope (head_of f)) r.0 in
-    and_from _ _ (and_from _ _ s.0 (headed_applies scope f r.1)) (headed_applies scope a q.1)
-
-all_apply : (scope : Scope) (us : List Term) → list_all (is_headed scope) us ≡ true → list_all applies_heads us ≡ true
-all_apply scope [] p = refl
-all_apply scope (u ∷ us) p = let q = and_parts (is_headed scope u) (list_all (is_headed scope) us) p in and_from _ _ (headed_applies scope u q.0) (all_apply scope us q.1)
 
 pub heads_apply : (side : Side) (scope : Scope) (f : Form) → has_heads true side scope f ≡ true → form_applies_heads f ≡ true
 heads_apply side scope Top p = refl
@@ -267,7 +241,7 @@ heads_apply ClauseSide scope (Imp f g) p = both_free (has_heads true GoalSide sc
 heads_apply GoalSide scope (Forall f) p = heads_apply GoalSide (true ∷ scope) f p
 heads_apply ClauseSide scope (Forall f) p = heads_apply ClauseSide (false ∷ scope) f p
 heads_apply side scope (Exists f) p = heads_apply side (false ∷ scope) f p
-heads_apply side scope (Use m ts f) p = both_free (list_all (is_headed scope) ts) (has_heads true side scope f) (all_apply scope ts) (heads_apply side scope f) p
+heads_apply side scope (Use m ts f) p = both_free (list_all (is_headed scope) ts) (has_heads true side scope f) (all_headed scope ts) (heads_apply side scope f) p
 heads_apply side scope (Num r t u) p = both_free (is_headed scope t) (is_headed scope u) (headed_applies scope t) (headed_applies scope u) p
 
 -- the body of a quantifier with a closed term in place of what it binds

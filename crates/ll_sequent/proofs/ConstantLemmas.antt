@@ -1,14 +1,14 @@
 -- Eigenconstants in a head with arguments, and in the terms at the places of a set.
-use Rattle.std.proofs.Common.{◌≡◌, ◌≢◌, ℕ, ◌<◌, refl, ap, sym, subst, ◌∙◌, Bool, true, false, eqb, List, [], ◌∷◌, length, inl, inr, arith, true≢false}
+use Rattle.std.proofs.Common.{◌≡◌, ◌≢◌, ℕ, refl, ap, sym, subst, ◌∙◌, Bool, true, false, eqb, List, [], ◌∷◌, length, inl, inr, arith, true≢false}
 use Rattle.std.proofs.lemmas.Bool.{or_left, or_right, or_cases, or_parts, eqb-true, eq-eqb, cases_eq}
-use Rattle.std.proofs.lemmas.List.Elements.{All-head, All-tail, All-cons}
-use Rattle.std.specs.Prelude.{◌||◌, All}
+use Rattle.std.specs.Prelude.{◌||◌}
 use Rattle.std.specs.List.{list_any}
 use Rattle.ll_lists.proofs.CallerLemmas.{or_assoc, or_false}
 use Rattle.ll_bank.specs.declared.At.{At}
 use Rattle.ll_bank.specs.declared.Head.{Head}
 use Rattle.ll_bank.specs.Term.{Term, Con, Ap, apply, app, has_eigen, is_eigen}
 use Rattle.ll_bank.specs.Nodes.{Nodes, term_tree, term_trees, places, AllInTerms}
+use Rattle.ll_bank.proofs.CallerLemmas.{place_below}
 use Rattle.ll_sequent.specs.Constants.{is_in, AreWithin, Gathers, IsFoundAmong, ArePartsOf, IsFreeBy}
 
 eigen_apply : (c : ℕ) (f : Term) (ts : List Term) → has_eigen c (apply f ts) ≡ (has_eigen c f || list_any (has_eigen c) ts)
@@ -46,17 +46,6 @@ free_each c bank (a ∷ args) h =
     let q = free_each c bank args (λ k e. h k (or_right (eqb k a.0) (list_any (eqb k) (places args)) e)) in
     ap (λ b. b || is_in c bank args) p ∙ q
 
-below_each : (args : List At) (k n : ℕ) → All (λ a. a.0 < n) args → list_any (eqb k) (places args) ≡ true → k < n
-below_each [] k n h e = absurd (true≢false (sym e))
-below_each (a ∷ args) k n h e = elim (or_cases (eqb k a.0) (list_any (eqb k) (places args)) e) [
-  | inl q ↦ let x = eqb-true k a.0 q in let y = All-head (λ (b : At). b.0 < n) a args h in omega arith
-  | inr q ↦ below_each args k n (All-tail (λ (b : At). b.0 < n) a args h) q
-]
-
-pub lower_places : (args : List At) (n : ℕ) → All (λ a. a.0 < n) args → All (λ a. a < n) (places args)
-lower_places [] n h = λ k d l. absurd (omega arith)
-lower_places (a ∷ args) n h = All-cons (λ b. b < n) a.0 (places args) (All-head (λ (b : At). b.0 < n) a args h) (lower_places args n (All-tail (λ (b : At). b.0 < n) a args h))
-
 -- ---- sets that grow
 
 -- the places of terms came to a set
@@ -64,7 +53,7 @@ pub gathers_terms : (bank : Nodes) (old new : ℕ → Bool) (args : List At) →
 gathers_terms bank old new args all ins = record {
   inside = λ within k h. elim (or_cases (old k) (list_any (eqb k) (places args)) (sym (ins k) ∙ h)) [
     | inl q ↦ within k q
-    | inr q ↦ below_each args k (length bank.terms) all q
+    | inr q ↦ place_below args k (length bank.terms) all q
   ];
   free = λ c f h k e. elim (or_cases (old k) (list_any (eqb k) (places args)) (sym (ins k) ∙ e)) [
     | inl q ↦ f k q
@@ -103,7 +92,7 @@ module _ (c : ℕ) (bank : Nodes) (set waits popped next : ℕ → Bool) (p : �
   looking_on = record {
     inside = λ k h. elim (or_cases (popped k) (list_any (eqb k) (places args)) (sym (ins k) ∙ h)) [
       | inl q ↦ w.inside k (less k q)
-      | inr q ↦ let a = below_each args k p parts.lower q in let b = w.inside p member in omega arith
+      | inr q ↦ let a = place_below args k p parts.lower q in let b = w.inside p member in omega arith
     ];
     enough = λ all. w.enough (λ k h. elim (cases_eq k p) [
       | inl e ↦ subst (λ n. has_eigen c (term_tree bank n) ≡ false) (sym e)

@@ -1,7 +1,8 @@
 -- A constant that is new in a sequent, and the rule for `forall`.
-use Rattle.std.proofs.Common.{◌≡◌, ℕ, refl, ap, sym, ◌∙◌, subst, Bool, true, false, List, [], ◌∷◌, ◌++◌, map, take, length, ◌<◌, ◌≤◌, arith}
+use Rattle.std.proofs.Common.{◌≡◌, ℕ, refl, ap, sym, ◌∙◌, subst, true, false, List, [], ◌∷◌, ◌++◌, map, take, length, ◌<◌, ◌≤◌, arith}
 use Rattle.std.specs.Prelude.{◌||◌, not}
 use Rattle.std.specs.List.{list_any}
+use Rattle.std.proofs.lemmas.List.Folds.{list_any-append}
 use Rattle.std.proofs.lemmas.List.{take_all}
 use Rattle.std.proofs.lemmas.List.Elements.{All-nil, All-cons, All-head, All-tail}
 use Rattle.ll_bank.specs.declared.FormAt.{FormAt}
@@ -28,14 +29,6 @@ use Rattle.ll_sequent.proofs.RuleLemmas.{goal_sound, none_added, any_reverse}
 use Rattle.ll_sequent.proofs.OpeningLemmas.{opened_steps}
 use Rattle.ll_sequent.proofs.Closings.{sound-instantiate, heads-instantiate}
 
-any_onto : {X : Type 0} (p : X → Bool) (xs ys : List X) → list_any p (xs ++ ys) ≡ (list_any p xs || list_any p ys)
-any_onto p [] ys = refl
-any_onto p (x ∷ xs) ys = by_case (any_onto p xs ys) (p x)
-  where
-    by_case : list_any p (xs ++ ys) ≡ (list_any p xs || list_any p ys) → (b : Bool) → (b || list_any p (xs ++ ys)) ≡ ((b || list_any p xs) || list_any p ys)
-    by_case h true = refl
-    by_case h false = h
-
 any_clauses : (e : ℕ) (ls : List Labelled) → list_any (form_has_eigen e) (clauses ls) ≡ list_any (λ (l : Labelled). form_has_eigen e l.clause) ls
 any_clauses e [] = refl
 any_clauses e (l ∷ ls) = ap (λ b. form_has_eigen e l.clause || b) (any_clauses e ls)
@@ -53,7 +46,7 @@ stands_shown e bank k free bounded f n =
     ap (λ xs. list_any (form_has_eigen e) (clauses (free_in bank xs))) (take_all k free low)
     ∙ (any_clauses e (free_in bank free) ∙ (any_reverse (λ (l : Labelled). form_has_eigen e l.clause) (map (labelled_in bank) free) ∙ any_shown e bank free)) in
     let b : list_any (form_has_eigen e) (clauses (bounded_in bank bounded)) ≡ is_in_each e bank (forms_of bounded) = any_clauses e (bounded_in bank bounded) ∙ any_shown e bank bounded in
-    ap (λ v. form_has_eigen e (form_tree bank f.0) || v) (any_onto (form_has_eigen e) (clauses (free_in bank (take k free))) (clauses (bounded_in bank bounded)) ∙ (λ i. a i || b i))
+    ap (λ v. form_has_eigen e (form_tree bank f.0) || v) (list_any-append (form_has_eigen e) (clauses (free_in bank (take k free))) (clauses (bounded_in bank bounded)) ∙ (λ i. a i || b i))
 
 not_forall : (b : Setting) (bank : Nodes) (c d : List Labelled) (e : ℕ) (v : FormNode) → ((f : FormAt) → v ≡ ForallView f → ⊥) → made b (ForallLine e) c d (form_of bank v) ≡ Refuses 1
 not_forall b bank c d e (ForallView f) n = absurd (n f refl)

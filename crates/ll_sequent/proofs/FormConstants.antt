@@ -1,10 +1,10 @@
 -- Eigenconstants in the formulas that wait.
-use Rattle.std.proofs.Common.{◌≡◌, ℕ, ◌+◌, ◌<◌, refl, ap, sym, subst, ◌∙◌, Bool, true, false, List, [], ◌∷◌, ◌++◌, length, arith, take, get_or}
+use Rattle.std.proofs.Common.{◌≡◌, ℕ, ◌+◌, ◌<◌, refl, ap, sym, subst, ◌∙◌, Bool, false, List, [], ◌∷◌, ◌++◌, length, arith, take, get_or}
 use Rattle.std.proofs.lemmas.List.{length-map, map_more}
 use Rattle.std.proofs.Math.ListN.{get_or-map}
 use Rattle.std.proofs.lemmas.List.Elements.{All-append, All-cons, All-head, All-tail, All-nil}
 use Rattle.std.specs.Prelude.{◌||◌, Result, Ok, Err, OnOk}
-use Rattle.ll_lists.proofs.CallerLemmas.{or_assoc, or_false}
+use Rattle.ll_lists.proofs.CallerLemmas.{or_assoc, or_exchange, or_false}
 use Rattle.ll_bank.specs.declared.FormAt.{FormAt}
 use Rattle.ll_bank.specs.Form.{form_has_eigen}
 use Rattle.ll_bank.specs.Nodes.{Nodes, form_tree, HasForm}
@@ -53,14 +53,9 @@ module _ (bank : Nodes) (form : ℕ) (old now next : ℕ → Bool) (all rest new
     gathers = gathers_both bank old now next g.seen o.own g.gathers o.gathers;
     same = λ c. g.same c ∙ (ap (λ b. g.seen c || b)
         (ap (is_in_each c bank) split ∙ (each_onto c bank rest (at ∷ []) ∙ (ap (λ b. is_in_each c bank rest || b) (sym (or_false (form_has_eigen c (form_tree bank at.0))) ∙ o.same c)
-        ∙ (or_swapped (is_in_each c bank rest) (o.own c) (is_in_each c bank o.inner) ∙ ap (λ b. o.own c || b) (sym (each_onto c bank rest o.inner) ∙ ap (is_in_each c bank) (sym o.behind))))))
+        ∙ (or_exchange (is_in_each c bank rest) (o.own c) (is_in_each c bank o.inner) ∙ ap (λ b. o.own c || b) (sym (each_onto c bank rest o.inner) ∙ ap (is_in_each c bank) (sym o.behind))))))
         ∙ sym (or_assoc (g.seen c) (o.own c) (is_in_each c bank new)));
   }
-    where
-      or_swapped : (a b d : Bool) → (a || (b || d)) ≡ (b || (a || d))
-      or_swapped true true d = refl
-      or_swapped true false d = refl
-      or_swapped false b d = refl
 
   pub form_sizes_less : form_sizes bank new < form_sizes bank all
   form_sizes_less =

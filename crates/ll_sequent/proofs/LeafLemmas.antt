@@ -1,20 +1,18 @@
 -- Leaves of clauses, on the way to them.
-use Rattle.std.proofs.Common.{◌≡◌, ℕ, zero, suc, ◌+◌, ◌-◌, ◌<◌, ◌≤◌, List, [], ◌∷◌, ◌++◌, length, map, reverse, refl, ap, sym, subst, ◌∙◌, arith, Bool, Option, Some, None, All, true, false, length-append, append_assoc}
+use Rattle.std.proofs.Common.{◌≡◌, ℕ, zero, suc, ◌+◌, ◌-◌, ◌<◌, ◌≤◌, List, [], ◌∷◌, ◌++◌, length, map, reverse, refl, ap, sym, subst, ◌∙◌, arith, Bool, Option, Some, None, All, true, false, append_assoc}
 use Rattle.std.specs.Prelude.{if◌then◌else◌, nat_lt, option_map}
 use Rattle.std.proofs.lemmas.Bool.{ltb-true, lt-ltb}
 use Rattle.std.proofs.lemmas.List.{append-nil, reverse-append}
 use Rattle.std.proofs.lemmas.List.Elements.{All-cons, All-head, All-tail, All-push}
-use Rattle.std.proofs.lemmas.List.Sums.{sum_by-append}
-use Rattle.ll_lists.proofs.CallerLemmas.{length-map_suc as length-suc, lt_false as not_below, map_map, map_same}
+use Rattle.ll_lists.proofs.CallerLemmas.{lt_false as not_below, map_map, map_same}
 use Rattle.ll_bank.specs.declared.At.{At}
 use Rattle.ll_bank.specs.declared.FormAt.{FormAt}
 use Rattle.ll_bank.specs.declared.FormNode.{FormNode}
 use Rattle.ll_bank.specs.declared.FormNode.TheVariants.{Top as TopView, One as OneView, Atom as AtomView, With as WithView, Tensor as TensorView, Plus as PlusView, Bang as BangView, Lolli as LolliView, Imp as ImpView, Forall as ForallView, Exists as ExistsView, Use as UseView, Is as IsView, Less as LessView, Most as MostView}
 use Rattle.ll_bank.specs.Term.{Term, Env}
-use Rattle.ll_bank.specs.Form.{Form, Atom, With, Forall}
-use Rattle.ll_bank.specs.Nodes.{Nodes, form_tree, form_of}
+use Rattle.ll_bank.specs.Form.{Form, Atom, With}
+use Rattle.ll_bank.specs.Nodes.{Nodes, form_of}
 use Rattle.ll_laws.specs.Leaf.{Leaf, Premise, add_premise, ways, leaf_from}
-use Rattle.ll_sequent.specs.Opened.{waiting_ways}
 
 -- ---- premises that were met
 
@@ -72,28 +70,6 @@ leaf_left e q r k ts l = ap (λ b. if b then leaf_from e q k ts else leaf_from e
 
 pub leaf_right : (e : Env) (q r : Form) (k j : ℕ) (ts : List Term) → length (ways q) ≤ k → j ≡ k - length (ways q) → leaf_from e (With q r) k ts ≡ leaf_from e r j ts
 leaf_right e q r k j ts l is = ap (λ b. if b then leaf_from e q k ts else leaf_from e r (k - length (ways q)) ts) (not_below k (length (ways q)) l) ∙ ap (λ n. leaf_from e r n ts) (sym is)
-
--- ---- counting
-
-ways-push : (bank : Nodes) (fs : List FormAt) (f : FormAt) → waiting_ways bank (fs ++ f ∷ []) ≡ waiting_ways bank fs + length (ways (form_tree bank f.0))
-ways-push bank fs f = let e = sum_by-append (λ (g : FormAt). length (ways (form_tree bank g.0))) fs (f ∷ []) in omega (arith, e)
-
--- a clause in place of another with as many leaves
-pub count_in : (bank : Nodes) (old rest new : List FormAt) (f g : FormAt) (n goal : ℕ) → old ≡ rest ++ f ∷ [] → new ≡ rest ++ g ∷ [] → length (ways (form_tree bank f.0)) ≡ length (ways (form_tree bank g.0))
-    → n + waiting_ways bank old ≡ goal → n + waiting_ways bank new ≡ goal
-count_in bank old rest new f g n goal o w same h = let a = ap (waiting_ways bank) o ∙ ways-push bank rest f in let b = ap (waiting_ways bank) w ∙ ways-push bank rest g in omega arith
-
--- or two
-pub count_both : (bank : Nodes) (old rest mid new : List FormAt) (f g r : FormAt) (n goal : ℕ) → old ≡ rest ++ f ∷ [] → mid ≡ rest ++ r ∷ [] → new ≡ mid ++ g ∷ []
-    → ways (form_tree bank f.0) ≡ ways (form_tree bank g.0) ++ ways (form_tree bank r.0) → n + waiting_ways bank old ≡ goal → n + waiting_ways bank new ≡ goal
-count_both bank old rest mid new f g r n goal o m w both h =
-    let a = ap (waiting_ways bank) o ∙ ways-push bank rest f in
-    let b = ap (waiting_ways bank) m ∙ ways-push bank rest r in
-    let c = ap (waiting_ways bank) w ∙ ways-push bank mid g in
-    let d = ap (λ (ws : List ℕ). length ws) both ∙ length-append (ways (form_tree bank g.0)) (ways (form_tree bank r.0)) in omega arith
-
-pub ways_quantified : (r : Form) → length (ways (Forall r)) ≡ length (ways r)
-ways_quantified r = length-suc (ways r)
 
 -- ---- the clauses that wait
 

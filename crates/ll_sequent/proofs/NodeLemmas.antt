@@ -1,16 +1,15 @@
 -- What the calls of a clause node say, in the words of its judging.
 use Rattle.std.proofs.Common.{◌≡◌, ℕ, suc, ◌<◌, refl, ap, sym, subst, ◌∙◌, Bool, true, false, List, [], ◌∷◌, map, length, Option, Some, None}
 use Rattle.std.specs.Prelude.{◌↔◌, IsTrue, is_some}
-use Rattle.std.proofs.lemmas.Bool.{and_from, and_parts, eqb-true, eq-eqb, false_from_ne_true as false_of}
-use Rattle.std.proofs.lemmas.Bool.Decides.{Decides-int_eq}
+use Rattle.std.proofs.lemmas.Bool.{false_from_ne_true as false_of}
 use Rattle.std.proofs.lemmas.List.{length-map}
 use Rattle.ll_bank.specs.declared.At.{At}
 use Rattle.ll_bank.specs.declared.FormAt.{FormAt}
-use Rattle.ll_bank.specs.Term.{Term, Var, Int, Con, Ap}
+use Rattle.ll_bank.specs.Term.{Term}
 use Rattle.ll_bank.specs.Nodes.{Nodes, form_tree, term_tree, HasForm, IsFormView, Extends}
 use Rattle.ll_bank.specs.declared.FormNode.TheVariants.{Atom as AtomView}
 use Rattle.ll_bank.proofs.CallerLemmas.{form_tree-extends, term_tree-extends}
-use Rattle.ll_laws.proofs.CallerLemmas.{head_eq-true, head_eq-refl}
+use Rattle.ll_laws.proofs.CallerLemmas.{term_eq-true, term_eq-refl}
 use Rattle.ll_laws.specs.Fault.{term_eq, parts_fit}
 use Rattle.ll_laws.specs.Leaf.{Premise, Needs, NeedsFree, premise_goal, Leaf, leaf}
 use Rattle.ll_laws.specs.Line.{PartLine, Labels, Free}
@@ -21,19 +20,6 @@ use Rattle.ll_sequent.specs.declared.leaves.Opened.{Opened}
 use Rattle.ll_sequent.specs.Steps.{blank}
 
 -- ---- equal terms
-
-term_eq-true : (t u : Term) → term_eq t u ≡ true → t ≡ u
-term_eq-true (Var x) (Var y) h = ap Var (eqb-true x y h)
-term_eq-true (Int x) (Int y) h = ap Int ((Decides-int_eq x y).0 h)
-term_eq-true (Con x) (Con y) h = ap Con (head_eq-true x y h)
-term_eq-true (Ap f a) (Ap g b) h = let p = and_parts (term_eq f g) (term_eq a b) h in let i = term_eq-true f g p.0 in let j = term_eq-true a b p.1 in cc
-term_eq-true _ _ h = cc
-
-term_eq-refl : (t : Term) → term_eq t t ≡ true
-term_eq-refl (Var x) = eq-eqb x x refl
-term_eq-refl (Int x) = (Decides-int_eq x x).1 refl
-term_eq-refl (Con x) = head_eq-refl x
-term_eq-refl (Ap f a) = and_from _ _ (term_eq-refl f) (term_eq-refl a)
 
 pub equal_is : (b : Bool) (t u v : Term) → IsTrue b ↔ (t ≡ u) → u ≡ v → b ≡ true → term_eq t v ≡ true
 equal_is b t u v d e h = let P : Term → Type 0 = λ w. term_eq t w ≡ true in subst P (d.0 h ∙ e) (term_eq-refl t)

@@ -2,6 +2,7 @@
 use Rattle.std.proofs.Common.{◌≡◌, ℕ, suc, refl, ap, sym, ◌∙◌, subst, Bool, true, false, cond, List, [], ◌∷◌, ◌++◌, map, take, reverse, length, ◌<◌, ◌≤◌, arith}
 use Rattle.std.specs.Prelude.{◌&&◌, ◌||◌, not, filter, nat_eq}
 use Rattle.std.specs.List.{list_any, list_all}
+use Rattle.std.proofs.lemmas.List.Folds.{list_any-append}
 use Rattle.std.proofs.lemmas.Bool.{and_parts}
 use Rattle.std.proofs.lemmas.List.{append-nil, map-append, reverse-append, take_all}
 use Rattle.std.proofs.lemmas.List.Elements.{All-nil, All-cons, All-push}
@@ -179,19 +180,11 @@ one_steps ops modules line q bank before after p (Leaves v) l m n h held adds =
 
 -- ---- labels of unbounded clauses
 
-any_append : (p : Labelled → Bool) (xs ys : List Labelled) → list_any p (xs ++ ys) ≡ list_any p xs || list_any p ys
-any_append p [] ys = refl
-any_append p (x ∷ xs) ys = by_case (any_append p xs ys) (p x)
-  where
-    by_case : list_any p (xs ++ ys) ≡ (list_any p xs || list_any p ys) → (b : Bool) → (b || list_any p (xs ++ ys)) ≡ ((b || list_any p xs) || list_any p ys)
-    by_case h true = refl
-    by_case h false = h
-
 pub any_reverse : (p : Labelled → Bool) (xs : List Labelled) → list_any p (reverse xs) ≡ list_any p xs
 any_reverse p [] = refl
 any_reverse p (x ∷ xs) =
     ap (list_any p) (reverse-append (x ∷ []) xs)
-    ∙ (any_append p (reverse xs) (x ∷ [])
+    ∙ (list_any-append p (reverse xs) (x ∷ [])
     ∙ (ap (λ b. b || (p x || false)) (any_reverse p xs) ∙ swapped (list_any p xs) (p x)))
   where
     swapped : (a b : Bool) → (a || (b || false)) ≡ (b || a)

@@ -4,12 +4,12 @@ use Rattle.std.specs.Prelude.{if◌then◌else◌}
 use Rattle.std.specs.List.{list_all}
 use Rattle.std.proofs.lemmas.List.{reverse-reverse, take_all, append-nil}
 use Rattle.std.proofs.lemmas.List.Elements.{All-cons, All-head, All-tail}
-use Rattle.ll_lists.proofs.CallerLemmas.{same_front, All-reverse as all_reversed}
+use Rattle.ll_lists.proofs.CallerLemmas.{All-reverse as all_reversed}
 use Rattle.ll_bank.specs.declared.BankSize.{BankSize}
 use Rattle.ll_bank.specs.Term.{Term, is_closed}
 use Rattle.ll_bank.specs.Form.{Form, sub_form}
 use Rattle.ll_bank.specs.Nodes.{Nodes, form_tree, HasForm, ShowsForm, Extends, size_of, IsCutTo}
-use Rattle.ll_bank.proofs.CallerLemmas.{HasForm-extends, form_tree-extends, Extends-same}
+use Rattle.ll_bank.proofs.CallerLemmas.{HasForm-extends, form_tree-extends, Extends-same, cut_same}
 use Rattle.ll_laws.specs.declared.Clause.{Clause}
 use Rattle.ll_laws.specs.declared.Kind.{Kind}
 use Rattle.ll_laws.specs.declared.Kind.TheVariants.{Linear, Unbounded}
@@ -23,15 +23,6 @@ use Rattle.ll_sequent.specs.Sequents.{bounded_in, free_in, IsSound, IsHeld, AreH
 use Rattle.ll_sequent.specs.Starting.{values, of_kind, AreSound, IsRoot}
 use Rattle.ll_sequent.proofs.FindingLemmas.{map_reverse}
 use Rattle.ll_sequent.proofs.ValueLemmas.{sound-values}
-
--- a bank cut to its own size is itself
-cut_same : (old new : Nodes) (size : BankSize) → size ≡ size_of old → IsCutTo size old new → new ≡ old
-cut_same old new size e c =
-    let p : size_of new ≡ size_of old = c.places ∙ e in
-    let a = same_front old.terms new.terms c.trees.more_terms c.trees.terms (ap (λ s. s.terms) p) in
-    let b = same_front old.forms new.forms c.trees.more_forms c.trees.forms (ap (λ s. s.forms) p) in
-    let make : List _ → List _ → Nodes = λ xs ys. record { terms = xs; forms = ys } in
-    ap (λ xs. make xs new.forms) a ∙ ap (λ ys. make old.terms ys) b
 
 pub image_keeps : (old new : Nodes) (size : BankSize) → size ≡ size_of old → IsCutTo size old new → Extends old new
 image_keeps old new size e c = Extends-same old new (cut_same old new size e c)

@@ -10,17 +10,13 @@ use Rattle.ll_lists.proofs.CallerLemmas.{each-push as push_all}
 use Rattle.ll_bank.specs.declared.At.{At}
 use Rattle.ll_bank.specs.declared.FormAt.{FormAt}
 use Rattle.ll_bank.specs.declared.Head.{Head}
-use Rattle.ll_bank.specs.Term.{Term, Con, Ap, apply, app, sub}
+use Rattle.ll_bank.specs.Term.{Term, app, sub}
 use Rattle.ll_bank.specs.Form.{Form, sub_form}
 use Rattle.ll_bank.specs.Nodes.{Nodes, term_tree, term_trees, form_tree, HasTerm, HasForm, AllInTerms, ShowsTerm, ShowsForm, Extends}
-use Rattle.ll_bank.proofs.CallerLemmas.{HasTerm-extends, HasForm-extends, term_tree-extends, form_tree-extends, ShowsTerm-extends, ShowsForm-extends, term_trees-extends}
+use Rattle.ll_bank.proofs.CallerLemmas.{HasTerm-extends, HasForm-extends, term_tree-extends, form_tree-extends, ShowsTerm-extends, ShowsForm-extends, term_trees-extends, sub-app}
 use Rattle.ll_sequent.specs.Starting.{values}
 use Rattle.ll_sequent.specs.Substituted.{IsTermImage, IsFormImage, AreTermImages, AreFormImages}
 use Rattle.ll_sequent.proofs.PlaceLemmas.{trees_grow, map_more}
-
-sub_apply : (s : ℕ → Term) (f : Term) (us : List Term) → sub s (apply f us) ≡ apply (sub s f) (map (sub s) us)
-sub_apply s f [] = refl
-sub_apply s f (u ∷ us) = sub_apply s (Ap f u) us
 
 pub on_ok : {T E : Type 0} {P : Type 0} (r : Result T E) → P → OnOk r P
 on_ok (Ok x) p = p
@@ -87,7 +83,7 @@ module _ (bank : Nodes) (ts : List Term) (terms : List At) (h : AreTermImages ba
   pub app_shows : (head : Head) (args images : List At) (term : Term) → images ≡ map (λ (a : At). get_or terms a.0 a) args → All (λ (a : At). a.0 < length terms) args → term ≡ app head (term_trees bank args)
       → app head (term_trees bank images) ≡ sub (values ts) term
   app_shows head args images term e l t =
-      ap (λ xs. app head (term_trees bank xs)) e ∙ (ap (app head) (images_show args l) ∙ (sym (sub_apply (values ts) (Con head) (term_trees bank args)) ∙ ap (sub (values ts)) (sym t)))
+      ap (λ xs. app head (term_trees bank xs)) e ∙ (ap (app head) (images_show args l) ∙ (sym (sub-app (values ts) head (term_trees bank args)) ∙ ap (sub (values ts)) (sym t)))
 
 -- arguments lie below images that reach as far as their term
 pub args_low : (at n : ℕ) (args : List At) → at ≤ n → All (λ (a : At). a.0 < at) args → All (λ (a : At). a.0 < n) args

@@ -8,9 +8,10 @@ use Rattle.ll_bank.specs.Term.{Term, Var, Int, Con, Ap, sub, head_of, is_spine, 
 use Rattle.ll_bank.specs.Form.{Form, Top, One, Atom, With, Tensor, Plus, Bang, Lolli, Imp, Forall, Exists, Use, Num, sub_form}
 use Rattle.ll_laws.specs.Module.{ModuleTree}
 use Rattle.ll_laws.specs.Valid.{Side, GoalSide, ClauseSide, Scope, places_below, each_term, may_head, is_headed, is_atom, has_heads, fits_module, loads_fit}
+use Rattle.ll_laws.proofs.CallerLemmas.{fits_module-length}
 use Rattle.ll_sequent.specs.Sequents.{IsSound}
 use Rattle.ll_sequent.specs.Starting.{values}
-use Rattle.ll_sequent.proofs.Closings.{both_free, closed_free, closed_headed, module_after}
+use Rattle.ll_sequent.proofs.Closings.{both_free, closed_free, closed_headed}
 
 -- what holds of closed terms and of variables holds of a value
 each_value : (P : Term → Type 0) → ((t : Term) → is_closed t ≡ true → P t) → (ts : List Term) (x : ℕ) (d : Term) → list_all is_closed ts ≡ true → P d → P (slice_index_or ts x d)
@@ -111,7 +112,7 @@ module _ (ts : List Term) (closed : list_all is_closed ts ≡ true) where
   form_loads modules (Forall f) p = form_loads modules f p
   form_loads modules (Exists f) p = form_loads modules f p
   form_loads modules (Use m us f) p =
-      both_free (fits_module (slice_get modules m) us) (loads_fit modules f) (module_after (slice_get modules m) us (map (sub (values ts)) us) (length-map us (sub (values ts)))) (form_loads modules f) p
+      both_free (fits_module (slice_get modules m) us) (loads_fit modules f) (fits_module-length (slice_get modules m) us (map (sub (values ts)) us) (length-map us (sub (values ts)))) (form_loads modules f) p
   form_loads modules (Num r t u) p = refl
 
   pub sound-values : (modules : List ModuleTree) (side : Side) (f : Form) → IsSound modules side [] f → IsSound modules side [] (sub_form (values ts) f)

@@ -1,10 +1,10 @@
 -- A clause that a label names, its leaf that is open, and what becomes of the leaf's premises.
-use Rattle.std.specs.Prelude.{◌≡◌, ℕ, ◌+◌, ◌-◌, ◌<◌, ◌≤◌, true, false, List, map, take, length, sum_by, All, Option, Some, None}
+use Rattle.std.specs.Prelude.{◌≡◌, ℕ, ◌+◌, ◌-◌, ◌<◌, ◌≤◌, true, false, List, map, take, sum_by, All, Option, Some, None}
 use Rattle.ll_bank.specs.declared.FormAt.{FormAt}
 use Rattle.ll_bank.specs.Form.{Form}
 use Rattle.ll_bank.specs.Nodes.{Nodes, form_tree, term_tree, HasForm, HasTerm}
 use Rattle.ll_bank.specs.Opened.{form_size}
-use Rattle.ll_laws.specs.Leaf.{Premise, Needs, NeedsFree, Leaf, premise_goal, ways}
+use Rattle.ll_laws.specs.Leaf.{Premise, Needs, NeedsFree, Leaf, premise_goal}
 use Rattle.ll_laws.specs.Shows.{Found, Missing, Took}
 use Rattle.ll_laws.specs.Fault.{parts_fit, parts_deal}
 use Rattle.ll_laws.specs.Line.{PartLine}
@@ -41,10 +41,7 @@ abbrev pub IsPast : ℕ → ℕ → Option ℕ → Type 0
 IsPast count k None = k < count
 IsPast count k (Some left) = count + left ≡ k
 
--- how many leaves clauses that wait have, and how large they are
-abbrev pub waiting_ways : Nodes → List FormAt → ℕ
-waiting_ways bank fs = sum_by (λ (f : FormAt). length (ways (form_tree bank f.0))) fs
-
+-- how large clauses that wait are
 abbrev pub waiting_size : Nodes → List FormAt → ℕ
 waiting_size bank fs = sum_by (λ (f : FormAt). form_size (form_tree bank f.0)) fs
 

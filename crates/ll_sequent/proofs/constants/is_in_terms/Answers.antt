@@ -1,14 +1,14 @@
 use Rattle.std.specs.Ordering.{nat_cmp}
 use Rattle.std.specs.BTreeSet.{contains}
 use Rattle.ll_bank.specs.Nodes.{places}
-use Rattle.ll_bank.proofs.CallerLemmas.{ceiling_falls, removed_other, removed_less}
-use Rattle.ll_sequent.proofs.ConstantLemmas.{lower_places, looking_on}
+use Rattle.ll_bank.proofs.CallerLemmas.{below_places, ceiling_falls, removed_other, removed_less}
+use Rattle.ll_sequent.proofs.ConstantLemmas.{looking_on}
 use Rattle.ll_sequent.proofs.constants.is_in_terms.Goals as goal
 
 pub loop-place-smaller : goal.loop-place-smaller
 loop-place-smaller c =
     ceiling_falls c.loop-place.terms.keys c.pop_last.new.self.keys c.insert_all.new.terms.keys c.in-Some.place (places c.in-Some-parts.args.now)
-    c.in-Some.ensures.removal c.in-Some.ensures.all_below (λ at. c.in_ok-insert_all.ensures at) (lower_places c.in-Some-parts.args.now c.in-Some.place c.in-Some-parts.ensures.lower)
+    c.in-Some.ensures.removal c.in-Some.ensures.all_below (λ at. c.in_ok-insert_all.ensures at) (below_places c.in-Some.place c.in-Some-parts.args.now c.in-Some-parts.ensures.lower)
 
 pub loop-place-preserved : goal.loop-place-preserved
 loop-place-preserved c =

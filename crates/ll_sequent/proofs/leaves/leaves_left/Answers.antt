@@ -2,7 +2,8 @@ use Rattle.std.proofs.Common.{ap, ◌∙◌, length}
 use Rattle.ll_bank.specs.Form.{Form}
 use Rattle.ll_bank.specs.Nodes.{form_tree}
 use Rattle.ll_laws.specs.Leaf.{ways}
-use Rattle.ll_sequent.proofs.LeafLemmas.{count_in, count_both, ways_quantified, waiting_inside, waiting_both}
+use Rattle.ll_laws.proofs.CallerLemmas.{count_in, count_both, ways_quantified}
+use Rattle.ll_sequent.proofs.LeafLemmas.{waiting_inside, waiting_both}
 use Rattle.ll_sequent.proofs.leaves.leaves_left.Goals as goal
 
 pub walk-preserved-in-Continue-branch-3 : goal.walk-preserved-in-Continue-branch-3

@@ -2,7 +2,8 @@ use Rattle.std.proofs.Common.{◌≡◌, ◌+◌, length}
 use Rattle.ll_bank.specs.Nodes.{form_tree}
 use Rattle.ll_laws.specs.Leaf.{ways}
 use Rattle.ll_sequent.specs.Constants.{AllInForms}
-use Rattle.ll_sequent.specs.Opened.{waiting_size, waiting_ways}
+use Rattle.ll_laws.proofs.CallerLemmas.{waiting_ways}
+use Rattle.ll_sequent.specs.Opened.{waiting_size}
 use Rattle.ll_sequent.proofs.leaves.leaves_left.Given as goal
 
 abbrev pub invariant-walk : goal.invariant-walk

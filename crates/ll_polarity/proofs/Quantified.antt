@@ -1,6 +1,6 @@
 -- A clause with its variables quantified over it holds no variable, and is as good as before.
-use Rattle.std.proofs.Common.{◌≡◌, ℕ, zero, suc, ◌+◌, ◌-◌, ◌<◌, ◌≤◌, Bool, true, false, List, [], ◌∷◌, ◌++◌, map, length, slice_get, Option, Some, None, if◌then◌else◌, refl, sym, subst, ap, ◌∙◌, arith, length-append, inl, inr}
-use Rattle.std.specs.Prelude.{nat_eq, nat_lt, replicate, slice_index_or}
+use Rattle.std.proofs.Common.{◌≡◌, ℕ, zero, suc, ◌+◌, ◌-◌, ◌<◌, ◌≤◌, Bool, true, false, List, [], ◌∷◌, ◌++◌, map, length, slice_get, if◌then◌else◌, refl, subst, ap, ◌∙◌, arith, length-append, inl, inr}
+use Rattle.std.specs.Prelude.{nat_lt, replicate, slice_index_or}
 use Rattle.std.specs.List.{list_all}
 use Rattle.std.proofs.lemmas.Bool.{ltb-true, lt-ltb, le-ltb, cases_lt}
 use Rattle.std.proofs.lemmas.List.{length-map, length-replicate}
@@ -9,8 +9,8 @@ use Rattle.ll_bank.specs.Term.{Term, Var, Int, Con, Ap, arity}
 use Rattle.ll_bank.specs.Form.{Form, Top, One, Atom, With, Tensor, Plus, Bang, Lolli, Imp, Forall, Exists, Use, Num}
 use Rattle.ll_laws.specs.Module.{ModuleTree, forall_all}
 use Rattle.ll_laws.specs.Leaf.{ways}
-use Rattle.ll_laws.specs.Valid.{Side, GoalSide, ClauseSide, Scope, given, each_term, names_below, arity_up_to, fits_module, leaves_up_to}
-use Rattle.ll_laws.proofs.CallerLemmas.{IsHead, Fit, AllFit, Fits, other, opens_on}
+use Rattle.ll_laws.specs.Valid.{Side, GoalSide, ClauseSide, Scope, given, each_term, names_below, arity_up_to, leaves_up_to}
+use Rattle.ll_laws.proofs.CallerLemmas.{IsHead, Fit, AllFit, Fits, other, opens_on, fits_module-length}
 use Rattle.ll_polarity.specs.Reading.{moved_out, bind_term, bind_form, quantified}
 use Rattle.ll_polarity.proofs.Terms.{Room}
 use Rattle.ll_polarity.proofs.Forms.{IsGood, forall_good}
@@ -95,10 +95,6 @@ module _ (modules : List ModuleTree) (n : ℕ) where
   bound_fits d inner outer [] m h = tt
   bound_fits d inner outer (t ∷ ts) m h = (bound_fit d inner outer t m h.0, bound_fits d inner outer ts m h.1)
 
-  as_many : (o : Option ModuleTree) (ts us : List Term) → length us ≡ length ts → fits_module o ts ≡ true → fits_module o us ≡ true
-  as_many None ts us e h = cc
-  as_many (Some m) ts us e h = subst (λ z. nat_eq z m.params ≡ true) (sym e) h
-
   bound_form : (d : ℕ) (side : Side) (inner outer : Scope) (f : Form) → Moves n d inner outer → Fits (given modules n) side inner f → Fits (given modules 0) side outer (bind_form n d f)
   bound_form d side inner outer Top m h = tt
   bound_form d side inner outer One m h = h
@@ -113,7 +109,7 @@ module _ (modules : List ModuleTree) (n : ℕ) where
       bound_form (suc d) side (opens_on false side ∷ inner) (opens_on false side ∷ outer) f (moves_under n d (opens_on false side) inner outer m) h
   bound_form d side inner outer (Exists f) m h = (h.0, bound_form (suc d) side (false ∷ inner) (false ∷ outer) f (moves_under n d false inner outer m) h.1)
   bound_form d side inner outer (Use k ts f) m h =
-      (h.0, as_many (slice_get modules k) ts (map (bind_term n d) ts) (length-map ts (bind_term n d)) h.1, bound_fits d inner outer ts m h.2, bound_form d side inner outer f m h.3)
+      (h.0, fits_module-length (slice_get modules k) ts (map (bind_term n d) ts) (length-map ts (bind_term n d)) h.1, bound_fits d inner outer ts m h.2, bound_form d side inner outer f m h.3)
   bound_form d side inner outer (Num r t u) m h = (h.0, bound_fit d inner outer t m h.1, bound_fit d inner outer u m h.2)
 
 -- ---- tests that binding does not change

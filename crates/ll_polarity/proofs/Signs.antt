@@ -5,7 +5,7 @@ use Rattle.std.proofs.lemmas.Slice.Eq.{bytes_eq-Decides}
 use Rattle.ll_lexer.specs.declared.TokenKind.TheVariants as kind
 use Rattle.ll_lexer.specs.Spelling.{Spells, kind_of, fixed_spellings}
 use Rattle.ll_parser.specs.Tokens.{Identifier}
-use Rattle.ll_parser.proofs.CallerLemmas.{IsWord}
+use Rattle.ll_parser.proofs.CallerLemmas.{IsWord, word_spells}
 use Rattle.ll_polarity.specs.Scope.{is_variable}
 
 -- `::`, `+`, `-` and `*`
@@ -43,10 +43,6 @@ sign_no_word star_head (inr h) = cc
 pub word_no_sign : (n : Identifier) → IsWord n → IsNoSign n.text
 word_no_sign n h s = by_test (bytes_eq (sign_text s) n.text) refl
   where
-    spelled : IsWord n → Spells kind.Name n.text ⊎ Spells kind.Variable n.text
-    spelled (inl w) = inl w.0
-    spelled (inr w) = inr w.0
-
     by_test : (v : Bool) → bytes_eq (sign_text s) n.text ≡ v → v ≡ false
-    by_test true e = absurd (sign_no_word s (subst (λ w. Spells kind.Name w ⊎ Spells kind.Variable w) (sym ((bytes_eq-Decides (sign_text s) n.text).0 e)) (spelled h)))
+    by_test true e = absurd (sign_no_word s (subst (λ w. Spells kind.Name w ⊎ Spells kind.Variable w) (sym ((bytes_eq-Decides (sign_text s) n.text).0 e)) (word_spells n h)))
     by_test false e = refl

@@ -172,11 +172,6 @@ renew-by true k now c cs zs e l h =
     ∙ (ap (update x (λ d. t)) h ∙ update-own x k (record { to = None; level = 0 }) now (below x k e))))
 renew-by false k now c cs zs e l h = ap (renew (renewals k now cs)) (back-past c zs (let q = not_below (changed_in c) k e in omega (arith, q, l))) ∙ h
 
-fewer : {A : Type 0} (k : ℕ) (xs : List A) → length (take k xs) ≤ length xs
-fewer zero xs = omega arith
-fewer (suc k) [] = omega arith
-fewer (suc k) (x ∷ xs) = let h = fewer k xs in omega (arith, h)
-
 short : {A : Type 0} (k : ℕ) (xs : List A) → length (take k xs) ≤ k
 short zero xs = omega arith
 short (suc k) [] = omega arith
@@ -254,7 +249,7 @@ marks-back old new more n e b m g =
     (same_state _ _ _ _ (ap (λ ns. front ns m.bank) n) past) g
   where
     longer : length old.cells ≤ length new.cells
-    longer = let c = before-length more new.cells in let h = fewer (length old.cells) (before more new.cells) in let q = ap length b in omega (arith, c, h, q)
+    longer = let c = before-length more new.cells in let h = length-take (length old.cells) (before more new.cells) in let q = ap length b in omega (arith, c, h, q)
 
     E : List Change
     E = drop m.trail old.changes

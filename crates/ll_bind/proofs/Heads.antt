@@ -2,7 +2,8 @@
 use Rattle.std.proofs.Common.{◌≡◌, ℕ, suc, ◌+◌, ◌-◌, ◌<◌, Bool, true, false, List, [], ◌∷◌, ◌++◌, length, map, drop, get_or, All, refl, ap, sym, subst, ◌∙◌, arith, nat_eq}
 use Rattle.std.specs.Prelude.{ℤ, not, ◌&&◌, reverse, slice_index, Option, None, option_map}
 use Rattle.std.proofs.lemmas.Bool.{eq-eqb, ne_eqb, or_left, or_right}
-use Rattle.std.proofs.lemmas.List.{reverse-append, length-map, map-append}
+use Rattle.std.proofs.Math.Bool.{and-false}
+use Rattle.std.proofs.lemmas.List.{reverse-append, length-map, map-append, drop_all}
 use Rattle.std.proofs.lemmas.List.Elements.{All-head, All-tail}
 use Rattle.std.proofs.Math.Seq.{drop-cons}
 use Rattle.ll_bank.specs.declared.At.{At}
@@ -10,7 +11,7 @@ use Rattle.ll_bank.specs.declared.Head.{Head}
 use Rattle.ll_bank.specs.declared.Head.TheVariants.{Name, Eigen, Bound}
 use Rattle.ll_bank.specs.Term.{Term, Var, Int, Con, Ap, Env, sub, app, apply, close, close_head, place, applies_heads, not_bound, occurs, same_predicate, head_eq}
 use Rattle.ll_bank.specs.Nodes.{Nodes, HasTerm, AllInTerms, ShowsTerm, Extends, term_tree, term_trees}
-use Rattle.ll_bank.proofs.CallerLemmas.{Extends-refl, Extends-trans, HasTerm-extends, term_tree-extends, AllInTerms-extends, close-apply, heads_args}
+use Rattle.ll_bank.proofs.CallerLemmas.{Extends-refl, Extends-trans, HasTerm-extends, term_tree-extends, AllInTerms-extends, close-apply, heads_args, length-term_trees}
 use Rattle.ll_laws.specs.Unify.{and_then, diff, diff_lists, Solved, solve}
 use Rattle.ll_laws.proofs.CallerLemmas.{head_eq-refl}
 use Rattle.ll_close.specs.Closing.{env_of}
@@ -39,12 +40,8 @@ reversed items before e h = ap reverse h ∙ reverse-append before (e ∷ [])
 pub one_item : (before items : List Equation) (e : Equation) → before ≡ [] → items ≡ before ++ e ∷ [] → reverse items ≡ e ∷ []
 one_item before items e n h = reversed items before e h ∙ ap (λ z. e ∷ reverse z) n
 
-none_left : (ats : List At) → drop (length ats) ats ≡ []
-none_left [] = refl
-none_left (a ∷ ats) = none_left ats
-
 equate_none : (ats cts : List At) (n : ℕ) → length ats ≡ n → equate (drop n ats) cts ≡ []
-equate_none ats cts n e = ap (λ z. equate z cts) (ap (λ m. drop m ats) (sym e) ∙ none_left ats)
+equate_none ats cts n e = ap (λ z. equate z cts) (drop_all n ats (omega arith))
 
 pub equate_begin : (ats cts : List At) (base : List Equation) → length ats ≡ length cts → reverse base ≡ equate (drop (length cts) ats) (drop (length cts) cts) ++ reverse base
 equate_begin ats cts base e = ap (λ z. z ++ reverse base) (sym (equate_none ats (drop (length cts) cts) (length cts) e))
@@ -138,15 +135,8 @@ apart_heads nodes place pattern h k ats cts f p q e env s =
     (shape-app (term_tree nodes place) (close env (term_tree nodes pattern)) h k (term_trees nodes ats) (map (close env) (term_trees nodes cts)) p r
     ∙ ap (λ b. b && nat_eq (length (term_trees nodes ats)) (length (map (close env) (term_trees nodes cts)))) e)
 
-length_trees : (nodes : Nodes) (ats : List At) → length (term_trees nodes ats) ≡ length ats
-length_trees nodes ats = length-map ats (λ (a : At). term_tree nodes a.0)
-
 length_closed : (nodes : Nodes) (env : Env) (cts : List At) → length (map (close env) (term_trees nodes cts)) ≡ length cts
-length_closed nodes env cts = length-map (term_trees nodes cts) (close env) ∙ length_trees nodes cts
-
-never : (b : Bool) → b && false ≡ false
-never true = refl
-never false = refl
+length_closed nodes env cts = length-map (term_trees nodes cts) (close env) ∙ length-term_trees nodes cts
 
 pub apart_lengths : (nodes : Nodes) (place pattern : ℕ) (h k : Head) (ats cts : List At) → not_bound k ≡ true → term_tree nodes place ≡ app h (term_trees nodes ats) → term_tree nodes pattern ≡ app k (term_trees nodes cts)
     → (length ats ≡ length cts → ⊥) → AreApart nodes place pattern
@@ -154,7 +144,7 @@ apart_lengths nodes place pattern h k ats cts f p q n env s =
     let r = ap (close env) q ∙ close_fixed env k (term_trees nodes cts) f in
     diff-clash s (term_tree nodes place) (close env (term_tree nodes pattern)) (spine-place (term_tree nodes place) h (term_trees nodes ats) p) (spine-place (close env (term_tree nodes pattern)) k (map (close env) (term_trees nodes cts)) r)
     (shape-app (term_tree nodes place) (close env (term_tree nodes pattern)) h k (term_trees nodes ats) (map (close env) (term_trees nodes cts)) p r
-    ∙ (ap (λ b. head_eq h k && b) (ne_eqb (length (term_trees nodes ats)) (length (map (close env) (term_trees nodes cts))) (λ e. n (sym (length_trees nodes ats) ∙ (e ∙ length_closed nodes env cts)))) ∙ never (head_eq h k)))
+    ∙ (ap (λ b. head_eq h k && b) (ne_eqb (length (term_trees nodes ats)) (length (map (close env) (term_trees nodes cts))) (λ e. n (sym (length-term_trees nodes ats) ∙ (e ∙ length_closed nodes env cts)))) ∙ and-false (head_eq h k)))
 
 pub apart_int : (nodes : Nodes) (place pattern : ℕ) (z : ℤ) (k : Head) (cts : List At) → not_bound k ≡ true → term_tree nodes place ≡ Int z → term_tree nodes pattern ≡ app k (term_trees nodes cts) → AreApart nodes place pattern
 apart_int nodes place pattern z k cts f p q env s =
@@ -282,7 +272,7 @@ module _ (first nodes : Nodes) (start now : Table) (goal : Option Solved) (f : F
     shut = ap (close env) o.shape ∙ close_fixed env o.head (term_trees nodes o.patterns) o.fixed
 
     even_trees : length (term_trees nodes o.places) ≡ length (map (close env) (term_trees nodes o.patterns))
-    even_trees = length_trees nodes o.places ∙ (o.even ∙ sym (length_closed nodes env o.patterns))
+    even_trees = length-term_trees nodes o.places ∙ (o.even ∙ sym (length_closed nodes env o.patterns))
 
     predicate : same_predicate (term_tree nodes end.0) pattern_tree ≡ true
     predicate =

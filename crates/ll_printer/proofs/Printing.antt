@@ -56,7 +56,7 @@ long_text : (names : List (List ℕ)) (f x y z : Term) (ts : List Term) → term
 long_text names f x y z [] = refl
 long_text names f x y z (t ∷ ts) = long_text names (Ap f x) y z t ts
 
-applied_text-apply : (names : List (List ℕ)) (f : Term) (ts : List Term) → applied_text names (apply f ts) ≡ applied_text names f ++ arguments_text names ts
+pub applied_text-apply : (names : List (List ℕ)) (f : Term) (ts : List Term) → applied_text names (apply f ts) ≡ applied_text names f ++ arguments_text names ts
 applied_text-apply names f [] = sym (append-nil (applied_text names f))
 applied_text-apply names f (t ∷ ts) =
     applied_text-apply names (Ap f t) ts

@@ -12,6 +12,7 @@ use Rattle.ll_bank.specs.declared.Head.{Head}
 use Rattle.ll_bank.specs.declared.Head.TheVariants.{Name, Eigen, Bound}
 use Rattle.ll_bank.specs.Nodes.{Nodes, AppNode, places, term_tree, term_trees}
 use Rattle.ll_bank.specs.Term.{Term, Var, Int, Con, Ap, apply, app}
+use Rattle.ll_bank.proofs.CallerLemmas.{apply-push}
 use Rattle.ll_prooftext.specs.declared.classes.Sign.{Sign}
 use Rattle.ll_prooftext.specs.declared.classes.Sign.TheVariants as sign
 use Rattle.ll_prooftext.specs.contracts.classes.SignPartialEq.TheImpl.{eq-value}
@@ -149,10 +150,6 @@ module _ (bank : Nodes) (signs : List Sign) (numbers : List ℕ) (a : AreNumbers
   equal_term e = one_term signs (term_tree bank i) (term_tree bank j) (get_or numbers i 0) (a.each i li) (subst (λ n. HasNumber signs n (term_tree bank j)) (sym e) (a.each j lj))
 
 -- a head with one argument more
-apply-push : (f : Term) (ts : List Term) (t : Term) → apply f (ts ++ t ∷ []) ≡ Ap (apply f ts) t
-apply-push f [] t = refl
-apply-push f (u ∷ ts) t = apply-push (Ap f u) ts t
-
 pub number_more : (bank : Nodes) (at : ℕ) (args : List At) (i : ℕ) (old now next : List Sign) (n m a : ℕ) → (c : IsNumbering bank at args i old now n) → Gain now next → (d : At) → i < length args
     → HasNumber now a (term_tree bank (get_or args i d).0) → slice_get next m ≡ Some (sign.Apply n a) → IsNumbering bank at args (i + 1) old next m
 number_more bank at args i old now next n m a c g d l arg e =

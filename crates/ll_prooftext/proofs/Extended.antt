@@ -1,5 +1,5 @@
 -- Texts of terms stay when names and terms are added.
-use Rattle.std.proofs.Common.{◌≡◌, ℕ, zero, suc, ◌<◌, true, false, List, [], ◌∷◌, ◌++◌, length, All, refl, ap, sym, subst, ◌∙◌, arith, codes, append_assoc, append-nil, inl, inr, IsTrue}
+use Rattle.std.proofs.Common.{◌≡◌, ℕ, zero, suc, ◌<◌, true, false, List, [], ◌∷◌, ◌++◌, length, All, refl, ap, sym, subst, ◌∙◌, arith, codes, append_assoc, inl, inr, IsTrue}
 use Rattle.std.specs.List.{flat_map}
 use Rattle.std.proofs.lemmas.List.Elements.{All-head, All-tail}
 use Rattle.std.specs.Str.{bytes_eq}
@@ -9,7 +9,9 @@ use Rattle.ll_bank.specs.Term.{Term, Var, Int, Con, Ap, apply, app, is_spine, is
 use Rattle.ll_bank.specs.Nodes.{Nodes, term_tree, Extends}
 use Rattle.ll_bank.proofs.CallerLemmas.{HasTerm-extends, term_tree-extends}
 use Rattle.ll_laws.specs.Output.{name_text, head_text, is_cons_head, is_cons, has_arguments, term_text, applied_text, argument_text}
-use Rattle.ll_laws.specs.ProofText.{field}
+use Rattle.ll_laws.specs.ProofText.{term_field}
+use Rattle.ll_printer.specs.Stack.{arguments_text}
+use Rattle.ll_printer.proofs.CallerLemmas.{applied_text-apply}
 use Rattle.ll_lexer.specs.Spelling.{is_name, is_lower}
 use Rattle.ll_prooftext.specs.Admitted.{IsPlainName, IsPlainHead, IsPairHead, IsSpelledTerm, IsSpelledSpine}
 use Rattle.ll_prooftext.specs.Terms.{Grows, IsSpelledAt, text_at, argument_at}
@@ -128,22 +130,16 @@ term_applied names (Con h) p = refl
 term_applied names (Ap (Ap (Con h) x) l) p = rw p refl
 term_applied names (Ap f a) p = refl
 
-abbrev pub arguments_text : List (List ℕ) → List Term → List ℕ
-arguments_text names ts = flat_map (λ t. field (argument_text t (term_text names t))) ts
-
-applied_apply : (names : List (List ℕ)) (f : Term) (ts : List Term) → applied_text names (apply f ts) ≡ applied_text names f ++ arguments_text names ts
-applied_apply names f [] = sym (append-nil (applied_text names f))
-applied_apply names f (t ∷ ts) = applied_apply names (Ap f t) ts ∙ together (applied_text names f) (argument_text t (term_text names t)) (arguments_text names ts)
-  where
-    together : (f x bs : List ℕ) → (f ++ codes " " ++ x) ++ bs ≡ f ++ (32 ∷ x ++ bs)
-    together f x bs = simp append_assoc
+pub arguments_fields : (names : List (List ℕ)) (ts : List Term) → arguments_text names ts ≡ flat_map (term_field names) ts
+arguments_fields names [] = refl
+arguments_fields names (t ∷ ts) = append_assoc (codes " ") (argument_text t (term_text names t)) (arguments_text names ts) ∙ ap (λ us. term_field names t ++ us) (arguments_fields names ts)
 
 no_cons_apply : (names : List (List ℕ)) (f : Term) (ts : List Term) → no_cons names f → no_cons names (apply f ts)
 no_cons_apply names f [] p = p
 no_cons_apply names f (t ∷ ts) p = no_cons_apply names (Ap f t) ts p
 
-pub app_text : (names : List (List ℕ)) (h : Head) (ts : List Term) → IsPlainHead names h → term_text names (app h ts) ≡ head_text names h ++ arguments_text names ts
-app_text names h ts p = term_applied names (app h ts) (no_cons_apply names (Con h) ts (plain_apart names h p)) ∙ applied_apply names (Con h) ts
+pub app_text : (names : List (List ℕ)) (h : Head) (ts : List Term) → IsPlainHead names h → term_text names (app h ts) ≡ head_text names h ++ flat_map (term_field names) ts
+app_text names h ts p = term_applied names (app h ts) (no_cons_apply names (Con h) ts (plain_apart names h p)) ∙ (applied_text-apply names (Con h) ts ∙ ap (λ us. head_text names h ++ us) (arguments_fields names ts))
 
 spine_term : (names : List (List ℕ)) (t : Term) → IsSpelledSpine names t → IsSpelledTerm names t
 spine_term names (Var n) s = absurd s

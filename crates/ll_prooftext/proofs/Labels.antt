@@ -2,12 +2,12 @@
 use Rattle.std.proofs.Common.{◌≡◌, ℕ, suc, ◌+◌, ◌<◌, ◌≤◌, ◌^◌, Bool, true, false, List, [], ◌∷◌, ◌++◌, length, refl, ap, sym, subst, ◌∙◌, arith, decimal, append_assoc, append-nil, add-one, inl, inr, ◌⊎◌, ◌%◌}
 use Rattle.std.proofs.lemmas.List.{append_cancel_left}
 use Rattle.std.proofs.lemmas.Bool.{leb-true, le-leb, ne_eqb, eqb-true, eq-eqb}
-use Rattle.std.specs.Prelude.{IsTrue, nat_lt, nat_le, ◌&&◌, not, ◌==◌}
+use Rattle.std.specs.Prelude.{IsTrue, nat_lt, nat_le, ◌&&◌, ◌==◌}
 use Rattle.std.specs.List.{list_all}
 use Rattle.std.proofs.lemmas.List.Folds.{list_all-append}
 use Rattle.std.proofs.lemmas.List.Elements.{All-nil, All-head, All-tail, All-push}
 use Rattle.std.proofs.lemmas.Fmt.{decimal_by_steps, decimal_injective}
-use Rattle.ll_lists.proofs.CallerLemmas.{and_true_left as and_left, and_true_right as and_right}
+use Rattle.ll_lists.proofs.CallerLemmas.{and_true_left as and_left, and_true_right as and_right, true_from_not}
 use Rattle.ll_laws.specs.Line.{rises}
 use Rattle.ll_laws.specs.ProofText.{labels_text, field}
 use Rattle.ll_prooftext.specs.Admitted.{AreLabels}
@@ -192,11 +192,7 @@ all_read body items rest least word tail n r e st bare small w a = record {
 }
   where
     not_equal : (b : ℕ) → is_not 32 b ≡ false → b ≡ 32
-    not_equal b h = eqb-true b 32 (turned (b == 32) h)
-      where
-        turned : (v : Bool) → not v ≡ false → v ≡ true
-        turned true h = refl
-        turned false h = absurd cc
+    not_equal b h = eqb-true b 32 (true_from_not (b == 32) h)
 
     empty : Stops (is_not 32) tail → tail ≡ []
     empty (ended z) = z

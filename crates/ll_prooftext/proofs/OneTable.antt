@@ -15,6 +15,7 @@ use Rattle.ll_laws.specs.Fault.{term_eq}
 use Rattle.ll_laws.specs.Output.{head_text, has_arguments, is_cons_head, term_text}
 use Rattle.ll_laws.specs.ProofText.{field, set_text, part_field}
 use Rattle.ll_laws.specs.Line.{Line, OneLine, EraseLine, TensorLine, WithLine, LeftLine, RightLine, BangLine, UseLine, LolliLine, ImpLine, ForallLine, ExistsLine, ClauseLine, NumLine, DerivationLines, PartLine, Labels, Free}
+use Rattle.ll_laws.proofs.CallerLemmas.{term_eq-true, term_eq-refl}
 use Rattle.ll_prooftext.specs.Admitted.{IsPlainHead, IsSpelledTerm, IsSpelledLine}
 use Rattle.ll_prooftext.specs.Reading.{IsField, Cell, IsAtEnd, line_end, space}
 use Rattle.ll_prooftext.specs.Fields.{HasNoTerm, brace, mark}
@@ -34,7 +35,6 @@ use Rattle.ll_prooftext.proofs.OneSharing.{app_arguments, cons_text, cell_good, 
 use Rattle.ll_prooftext.proofs.Reach.{head_word}
 use Rattle.ll_prooftext.proofs.Spellings.{one_shape}
 use Rattle.ll_prooftext.proofs.OneTerm.{same_plain, same_sign, no_question, bare_word, bare_shape}
-use Rattle.ll_prooftext.proofs.TableTerms.{term_same, term_itself}
 
 -- ---- terms that are the same but for the numbers of their names
 
@@ -131,13 +131,13 @@ module _ (names ms : List (List ℕ)) (one : IsDistinct bytes_eq names) (two : I
       by true e true f = refl
       by false e false f = refl
       by true e false f =
-          let q : t ≡ u = term_same t u e in
+          let q : t ≡ u = term_eq-true t u e in
           let r : x ≡ y = alike_once ms two names t x y a (subst (λ z. Alike names ms z y) (sym q) b) in
-          absurd (true≢false (sym (ap (term_eq x) (sym r) ∙ term_itself x) ∙ f))
+          absurd (true≢false (sym (ap (term_eq x) (sym r) ∙ term_eq-refl x) ∙ f))
       by false e true f =
-          let q : x ≡ y = term_same x y f in
+          let q : x ≡ y = term_eq-true x y f in
           let r : t ≡ u = alike_once names one ms x t u (flip names ms t x a) (subst (λ z. Alike ms names z u) (sym q) (flip names ms u y b)) in
-          absurd (true≢false (sym (ap (term_eq t) (sym r) ∙ term_itself t) ∙ e))
+          absurd (true≢false (sym (ap (term_eq t) (sym r) ∙ term_eq-refl t) ∙ e))
 
   among_alike : (rows others : List Term) (t x : Term) → AlikeAll names ms rows others → Alike names ms t x → is_among rows t ≡ is_among others x
   among_alike rows others t x no_terms a = refl

@@ -15,6 +15,7 @@ use Rattle.std.proofs.lemmas.Slice.Eq.{bytes_eq-Decides}
 use Rattle.ll_bank.specs.declared.Head.{Head}
 use Rattle.ll_bank.specs.declared.Head.TheVariants.{Name, Eigen, Bound}
 use Rattle.ll_bank.specs.Term.{Term, Var, Int, Con, Ap, apply, term_depth}
+use Rattle.ll_bank.proofs.CallerLemmas.{apply-push}
 use Rattle.ll_laws.specs.Output.{name_text, head_text, is_cons_head, is_cons, bracket_if, has_arguments, term_text, applied_text, argument_text}
 use Rattle.ll_laws.specs.ProofText.{term_field}
 use Rattle.ll_lexer.specs.Spelling.{is_lower}
@@ -69,10 +70,6 @@ record IsChain (names : List (List ℕ)) (t : Term) : Type 0 where
   pub right_less : term_depth right < term_depth t
   pub text_is : term_text names t ≡ bracket_if (is_cons names left) (term_text names left) ++ 58 ∷ 58 ∷ term_text names right
 
-apply_more : (f : Term) (ts : List Term) (a : Term) → apply f (ts ++ a ∷ []) ≡ Ap (apply f ts) a
-apply_more f [] a = refl
-apply_more f (t ∷ ts) a = apply_more (Ap f t) ts a
-
 bare_flat : (names : List (List ℕ)) (t : Term) → has_arguments t ≡ false → IsSpelledTerm names t → IsFlat names t (term_text names t)
 bare_flat names t e s = record { base = t; args = []; is = refl; bare = e; spelled = s; each = All-nil (Deeper names t); text_is = sym (append-nil (term_text names t)) }
 
@@ -86,7 +83,7 @@ flat_more : (names : List (List ℕ)) (f a : Term) (text : List ℕ) → IsFlat 
 flat_more names f a text v s = record {
   base = v.base;
   args = v.args ++ a ∷ [];
-  is = ap (λ g. Ap g a) v.is ∙ sym (apply_more v.base v.args a);
+  is = ap (λ g. Ap g a) v.is ∙ sym (apply-push v.base v.args a);
   bare = v.bare;
   spelled = v.spelled;
   each = All-push (Deeper names (Ap f a)) v.args a (All-weaker (Deeper names f) (Deeper names (Ap f a)) (λ x p. (p.0, below_left (term_depth x) (term_depth f) (suc (term_depth a)) p.1)) v.args v.each) (s, below_right (term_depth a) (term_depth f));

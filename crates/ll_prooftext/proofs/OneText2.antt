@@ -1,5 +1,5 @@
 -- The lines of a derivation's text of version 2 are rows, and those of the derivation over them.
-use Rattle.std.proofs.Common.{◌≡◌, ℕ, ◌+◌, ◌<◌, ◌≤◌, ◌^◌, Bool, true, false, ◌||◌, if◌then◌else◌, List, [], ◌∷◌, ◌++◌, length, map, All, fold, refl, ap, sym, subst, ◌∙◌, arith, codes, append_assoc, append-nil, length-append, decimal, Some, None, inl, inr, IsTrue}
+use Rattle.std.proofs.Common.{◌≡◌, ℕ, ◌+◌, ◌<◌, ◌≤◌, ◌^◌, Bool, true, false, if◌then◌else◌, List, [], ◌∷◌, ◌++◌, length, map, All, fold, refl, ap, sym, subst, ◌∙◌, arith, codes, append_assoc, append-nil, length-append, decimal, Some, None, inl, inr, IsTrue}
 use Rattle.std.specs.Prelude.{◌⊎◌}
 use Rattle.std.specs.List.{IsDistinct, list_all, flat_map, slice_get}
 use Rattle.std.specs.Str.{bytes_eq}
@@ -7,7 +7,8 @@ use Rattle.std.proofs.lemmas.List.{map-append}
 use Rattle.std.proofs.lemmas.List.Concat.{flat_map-append}
 use Rattle.std.proofs.lemmas.List.Elements.{All-nil, All-cons, All-push, All-head, All-tail, All-append, All-weaker}
 use Rattle.ll_bank.specs.declared.Head.{Head}
-use Rattle.ll_bank.specs.Term.{Term, Var, Int, Con, Ap, apply, app}
+use Rattle.ll_bank.specs.Term.{Term, Var, Int, Con, Ap, app}
+use Rattle.ll_bank.proofs.CallerLemmas.{apply-push}
 use Rattle.ll_lexer.specs.declared.Fault.{Fault}
 use Rattle.ll_lexer.specs.Reading.{place_at}
 use Rattle.ll_laws.specs.Output.{line as with_end, head_text, has_arguments, is_cons_head, term_text}
@@ -33,7 +34,7 @@ use Rattle.ll_prooftext.proofs.RowsInPlace.{AreOnce, table_once, get_front, row_
 use Rattle.ll_prooftext.proofs.WholeText.{HasNoEnd, IsFull, AreFull, full, joined, word_free, number_free, small_free, parts_free, node_full, lines_of_ended, lines_of_open, trees_missing}
 use Rattle.std.proofs.lemmas.Option.{slice_get_within}
 use Rattle.ll_prooftext.proofs.ShortLines.{spine_app}
-use Rattle.ll_prooftext.proofs.TableTerms.{AreAmong, AreBehind, all_behind, rows_in-among, are_themselves, among-append, completed_is, arguments_app}
+use Rattle.ll_prooftext.proofs.TableTerms.{AreAmong, AreBehind, all_behind, rows_in-among, are_themselves, among_left, completed_is, arguments_app}
 
 -- ---- fields over rows that have their terms
 
@@ -113,22 +114,18 @@ record IsCompound (names : List (List ℕ)) (t : Term) : Type 0 where
   pub is : t ≡ app head (first ∷ others)
   pub fits : IsPlainHead names head ⊎ (IsTrue (is_cons_head names head) × (length others ≡ 1))
 
-apply_more : (f : Term) (ts : List Term) (a : Term) → apply f (ts ++ a ∷ []) ≡ Ap (apply f ts) a
-apply_more f [] a = refl
-apply_more f (t ∷ ts) a = apply_more (Ap f t) ts a
-
 spine_of : (names : List (List ℕ)) (f : Term) → IsSpelledSpine names f → (h : Head) × ((ts : List Term) × ((f ≡ app h ts) × IsPlainHead names h))
 spine_of names (Var n) s = absurd s
 spine_of names (Int z) s = absurd s
 spine_of names (Con h) s = (h, ([], (refl, s)))
-spine_of names (Ap f a) s = let k = spine_of names f s.0 in (k.0, (k.1.0 ++ a ∷ [], (ap (λ z. Ap z a) k.1.1.0 ∙ sym (apply_more (Con k.0) k.1.0 a), k.1.1.1)))
+spine_of names (Ap f a) s = let k = spine_of names f s.0 in (k.0, (k.1.0 ++ a ∷ [], (ap (λ z. Ap z a) k.1.1.0 ∙ sym (apply-push (Con k.0) k.1.0 a), k.1.1.1)))
 
 plain_compound : (names : List (List ℕ)) (f a : Term) → IsSpelledSpine names f → IsCompound names (Ap f a)
 plain_compound names f a s = let k = spine_of names f s in by k.0 k.1.0 k.1.1.0 k.1.1.1
   where
     by : (h : Head) (ts : List Term) → f ≡ app h ts → IsPlainHead names h → IsCompound names (Ap f a)
     by h [] e p = record { head = h; first = a; others = []; is = ap (λ z. Ap z a) e; fits = inl p }
-    by h (t ∷ ts) e p = record { head = h; first = t; others = ts ++ a ∷ []; is = ap (λ z. Ap z a) e ∙ sym (apply_more (Con h) (t ∷ ts) a); fits = inl p }
+    by h (t ∷ ts) e p = record { head = h; first = t; others = ts ++ a ∷ []; is = ap (λ z. Ap z a) e ∙ sym (apply-push (Con h) (t ∷ ts) a); fits = inl p }
 
 compound : (names : List (List ℕ)) (t : Term) → IsSpelledTerm names t → has_arguments t ≡ true → IsCompound names t
 compound names (Var n) s h = absurd cc
@@ -167,9 +164,6 @@ fold_front (t ∷ ts) rows = by (λ rs. fold_front ts rs) (is_among rows t) refl
     by on true e = let k = on rows in (k.0, ap (λ b. fold with_row (if b then rows else rows ++ t ∷ []) ts) e ∙ k.1)
     by on false e = let k = on (rows ++ t ∷ []) in (t ∷ k.0, ap (λ b. fold with_row (if b then rows else rows ++ t ∷ []) ts) e ∙ (k.1 ∙ append_assoc rows (t ∷ []) k.0))
 
-among_more : (rows ys : List Term) (u : Term) → is_among rows u ≡ true → is_among (rows ++ ys) u ≡ true
-among_more rows ys u h = among-append rows ys u ∙ ap (λ b. b || is_among ys u) h
-
 module _ (names : List (List ℕ)) (top : List Term) (once : AreOnce top) where
   abbrev Good : Term → Type 0
   Good u = IsSpelledTerm names u × (has_arguments u ≡ true)
@@ -187,7 +181,7 @@ module _ (names : List (List ℕ)) (top : List Term) (once : AreOnce top) where
           let k = fold_front ts (rows ++ t ∷ []) in
           let front : IsFront rows top = record { once = once; more = t ∷ k.0; is = sym f ∙ (k.1 ∙ append_assoc rows (t ∷ []) k.0) } in
           let x = All-head Good t ts g in
-          on (rows ++ t ∷ []) f (λ u m. pushed_cases done t u m (is_among (rows ++ t ∷ []) u ≡ true) (λ n. among_more rows (t ∷ []) u (h u n)) (λ r. subst (λ z. is_among (rows ++ t ∷ []) z ≡ true) (sym r) (among_pushed rows t)))
+          on (rows ++ t ∷ []) f (λ u m. pushed_cases done t u m (is_among (rows ++ t ∷ []) u ≡ true) (λ n. among_left rows (t ∷ []) u (h u n)) (λ r. subst (λ z. is_among (rows ++ t ∷ []) z ≡ true) (sym r) (among_pushed rows t)))
           (next_share rows (map (share_text names top) rows) t (share_text names top t) a (share_there names rows top t front x.0 x.1 (All-weaker (λ u. is_among done u ≡ true) (λ u. is_among rows u ≡ true) h (completed_arguments t) b.0)) refl (map-append (share_text names top) rows (t ∷ [])))
 
 module _ (names : List (List ℕ)) where

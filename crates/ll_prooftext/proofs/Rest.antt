@@ -1,8 +1,9 @@
 -- The fields of a line, one by one.
 use Rattle.std.proofs.Common.{◌≡◌, ℕ, ◌<◌, ◌≤◌, ◌^◌, Bool, true, false, List, [], ◌∷◌, ◌++◌, length, refl, ap, sym, subst, ◌∙◌, arith, codes, append_assoc, append-nil, IsTrue, Option, Some, None, decimal, inl, inr}
-use Rattle.std.specs.Prelude.{◌==◌, not, if◌then◌else◌}
+use Rattle.std.specs.Prelude.{◌==◌, if◌then◌else◌}
 use Rattle.std.specs.List.{list_all}
 use Rattle.std.proofs.lemmas.Bool.{eqb-true}
+use Rattle.ll_lists.proofs.CallerLemmas.{true_from_not}
 use Rattle.ll_bank.specs.Nodes.{Nodes, term_tree}
 use Rattle.ll_laws.specs.ProofText.{field, set_text, part_field}
 use Rattle.ll_laws.specs.Line.{part_rises}
@@ -48,12 +49,8 @@ pub stops_end : (rest : List ℕ) → Stops (is_not 32) rest → IsAtEnd rest
 stops_end rest (ended e) = subst IsAtEnd (sym e) line_end
 stops_end rest (at_byte b bs e f) = subst IsAtEnd (sym (e ∙ ap (λ x. x ∷ bs) (equal b f))) space
   where
-    turned : (v : Bool) → not v ≡ false → v ≡ true
-    turned true h = refl
-    turned false h = absurd cc
-
     equal : (b : ℕ) → is_not 32 b ≡ false → b ≡ 32
-    equal b f = eqb-true b 32 (turned (b == 32) f)
+    equal b f = eqb-true b 32 (true_from_not (b == 32) f)
 
 pub end_stops : (rest : List ℕ) → IsAtEnd rest → Stops (is_not 32) rest
 end_stops rest line_end = ended refl

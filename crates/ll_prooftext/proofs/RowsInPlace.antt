@@ -2,6 +2,7 @@
 use Rattle.std.proofs.Common.{◌≡◌, ℕ, zero, suc, ◌+◌, ◌<◌, ◌≤◌, Bool, true, false, ◌||◌, if◌then◌else◌, List, [], ◌∷◌, ◌++◌, length, take, fold, refl, ap, sym, subst, ◌∙◌, arith, append_assoc, append-nil, codes, decimal, Some, true≢false, cond, not, inl, inr}
 use Rattle.std.specs.Prelude.{◌⊎◌}
 use Rattle.std.specs.List.{flat_map, slice_get}
+use Rattle.std.proofs.Math.Bool.{or-true}
 use Rattle.std.proofs.lemmas.List.{take_all}
 use Rattle.std.proofs.lemmas.List.Concat.{flat_map-append}
 use Rattle.std.proofs.lemmas.List.Elements.{All-nil, All-cons, All-head, All-tail, All-append}
@@ -10,12 +11,13 @@ use Rattle.ll_laws.specs.Fault.{term_eq}
 use Rattle.ll_laws.specs.Line.{Line, OneLine, EraseLine, TensorLine, WithLine, LeftLine, RightLine, BangLine, UseLine, LolliLine, ImpLine, ForallLine, ExistsLine, ClauseLine, NumLine, DerivationLines}
 use Rattle.ll_laws.specs.Output.{line as with_end, head_text, has_arguments}
 use Rattle.ll_laws.specs.ProofText.{field, part_field}
+use Rattle.ll_laws.proofs.CallerLemmas.{term_eq-true, term_eq-refl}
 use Rattle.ll_prooftext.specs.Table.{completed, completed_arguments, is_among, with_row, row_of, table, line_terms, field_terms}
 use Rattle.ll_prooftext.specs.ProofText2.{short_field, share_line, spine_text, let_text_by, node_text_by, proof_text2}
 use Rattle.ll_prooftext.specs.Sharing.{Stands, itself, by_row, AreCells, no_cells, next_cell, IsShare, AreShares, no_shares, next_share, IsLet, IsStep, AreEach}
 use Rattle.ll_prooftext.proofs.Extended.{app_has}
 use Rattle.ll_prooftext.proofs.ShortLines.{spine_app, field_by_row, field_itself, text2_is}
-use Rattle.ll_prooftext.proofs.TableTerms.{AreAmong, term_same, term_itself, among-append, rows_in-among, wider, completed_is, completed_bare, arguments_app, row_kept, row_new, found_below}
+use Rattle.ll_prooftext.proofs.TableTerms.{AreAmong, among-append, rows_in-among, wider, completed_is, completed_bare, arguments_app, row_kept, row_new, found_below}
 
 -- ---- rows that differ
 
@@ -30,7 +32,7 @@ get_front (x ∷ xs) ys (suc k) t e = get_front xs ys k t e
 
 pub there_among : (rows : List Term) (k : ℕ) (t : Term) → slice_get rows k ≡ Some t → is_among rows t ≡ true
 there_among [] k t e = absurd cc
-there_among (r ∷ rows) zero t e = let q : r ≡ t = cc in ap (λ b. b || is_among rows t) (ap (term_eq t) q ∙ term_itself t)
+there_among (r ∷ rows) zero t e = let q : r ≡ t = cc in ap (λ b. b || is_among rows t) (ap (term_eq t) q ∙ term_eq-refl t)
 there_among (r ∷ rows) (suc k) t e = or_right (term_eq t r) (there_among rows k t e)
   where
     or_right : (a : Bool) {b : Bool} → b ≡ true → (a || b) ≡ true
@@ -42,7 +44,7 @@ row_there [] t h = absurd (true≢false (sym h))
 row_there (r ∷ rows) t h = by (λ g. row_there rows t g) (term_eq t r) refl h
   where
     by : (is_among rows t ≡ true → slice_get rows (row_of rows t) ≡ Some t) → (b : Bool) → term_eq t r ≡ b → (b || is_among rows t) ≡ true → slice_get (r ∷ rows) (cond (not b) (1 + row_of rows t) 0) ≡ Some t
-    by more true e g = ap (λ x. Some x) (sym (term_same t r e))
+    by more true e g = ap (λ x. Some x) (sym (term_eq-true t r e))
     by more false e g = ap (slice_get (r ∷ rows)) (let q : 1 + row_of rows t ≡ suc (row_of rows t) = omega arith in q) ∙ more g
 
 -- what stands in a list behind one more
@@ -79,18 +81,14 @@ cells_among names rows ts text h no_cells = All-nil (λ u. is_among rows u ≡ t
 cells_among names rows ts text h (next_cell {t = t} {ts = others} {text = w} {rest = rest} s f) = All-append (λ u. is_among rows u ≡ true) (completed t) (flat_map completed others) (stands_among names rows t w h s) (cells_among names rows others rest h f)
 
 pub among_pushed : (rows : List Term) (t : Term) → is_among (rows ++ t ∷ []) t ≡ true
-among_pushed rows t = among-append rows (t ∷ []) t ∙ ap (λ b. is_among rows t || (b || false)) (term_itself t) ∙ or_true (is_among rows t)
-  where
-    or_true : (b : Bool) → (b || true) ≡ true
-    or_true true = refl
-    or_true false = refl
+among_pushed rows t = among-append rows (t ∷ []) t ∙ ap (λ b. is_among rows t || (b || false)) (term_eq-refl t) ∙ or-true (is_among rows t)
 
 pub pushed_cases : (rows : List Term) (t u : Term) → is_among (rows ++ t ∷ []) u ≡ true → (P : Type 0) → (is_among rows u ≡ true → P) → (u ≡ t → P) → P
 pushed_cases rows t u h P f g = by (is_among rows u) refl (term_eq u t) refl (sym (among-append rows (t ∷ []) u) ∙ h)
   where
     by : (a : Bool) → is_among rows u ≡ a → (b : Bool) → term_eq u t ≡ b → (a || (b || false)) ≡ true → P
     by true e b k m = f e
-    by false e true k m = g (term_same u t k)
+    by false e true k m = g (term_eq-true u t k)
     by false e false k m = absurd (true≢false (sym m))
 
 -- a row's arguments are in rows before it
@@ -149,7 +147,7 @@ among_all rows [] u h m = absurd (true≢false (sym m))
 among_all rows (t ∷ ts) u h m = by (term_eq u t) refl m (among_all rows ts u (All-tail (λ v. is_among rows v ≡ true) t ts h))
   where
     by : (b : Bool) → term_eq u t ≡ b → (b || is_among ts u) ≡ true → (is_among ts u ≡ true → is_among rows u ≡ true) → is_among rows u ≡ true
-    by true e g more = subst (λ v. is_among rows v ≡ true) (sym (term_same u t e)) (All-head (λ v. is_among rows v ≡ true) t ts h)
+    by true e g more = subst (λ v. is_among rows v ≡ true) (sym (term_eq-true u t e)) (All-head (λ v. is_among rows v ≡ true) t ts h)
     by false e g more = more g
 
 -- each term of the table is in a row

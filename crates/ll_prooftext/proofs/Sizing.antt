@@ -12,16 +12,16 @@ use Rattle.ll_bank.specs.declared.Head.TheVariants.{Name, Eigen, Bound}
 use Rattle.ll_bank.specs.Term.{Term, Var, Int, Con, Ap, app}
 use Rattle.ll_bank.specs.Nodes.{Nodes, term_tree}
 use Rattle.ll_laws.specs.Line.{Line, OneLine, EraseLine, TensorLine, WithLine, LeftLine, RightLine, BangLine, LolliLine, ImpLine, ForallLine, ExistsLine, UseLine, NumLine, ClauseLine, DerivationLines}
-use Rattle.ll_laws.specs.Output.{line, head_text, term_text, argument_text, bracket_if, has_arguments, is_cons, is_cons_head}
+use Rattle.ll_laws.specs.Output.{line, head_text, term_text, bracket_if, has_arguments, is_cons, is_cons_head}
 use Rattle.ll_laws.specs.ProofText.{field, term_field, part_field, node_text, proof_text}
 use Rattle.ll_laws.specs.Search.{cut_count}
-use Rattle.ll_printer.specs.Stack.{arguments_text}
 use Rattle.ll_printer.proofs.CallerLemmas.{app_text, cons_text, is_cons-app}
 use Rattle.ll_prooftext.specs.declared.sizes.Length.{Length}
 use Rattle.ll_prooftext.specs.Table.{line_terms, field_terms}
 use Rattle.ll_prooftext.specs.ProofText2.{let_text_by, node_text_by, lines_by}
 use Rattle.ll_prooftext.specs.Lengths.{IsLength, AreLengths}
 use Rattle.ll_prooftext.proofs.Writing.{parts_more}
+use Rattle.ll_prooftext.proofs.Extended.{arguments_fields}
 
 -- ---- a text and what is left of it without its terms
 
@@ -115,10 +115,6 @@ pub cons_head : (names : List (List ℕ)) (h : Head) → is_cons_head names h �
 cons_head names (Name n) = refl
 cons_head names (Eigen n) = refl
 cons_head names (Bound n) = refl
-
-arguments_fields : (names : List (List ℕ)) (ts : List Term) → arguments_text names ts ≡ flat_map (term_field names) ts
-arguments_fields names [] = refl
-arguments_fields names (t ∷ ts) = append_assoc (codes " ") (argument_text t (term_text names t)) (arguments_text names ts) ∙ ap (λ us. term_field names t ++ us) (arguments_fields names ts)
 
 -- a head and its arguments
 pub app_length : (names : List (List ℕ)) (h : Head) (ts : List Term) → (eqb (length ts) 2 && is_cons_head names h) ≡ false

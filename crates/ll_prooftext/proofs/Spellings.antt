@@ -7,12 +7,12 @@ use Rattle.std.specs.List.{list_all, list_any}
 use Rattle.std.specs.Str.{bytes_eq, IsAscii, IsUtf8}
 use Rattle.std.proofs.lemmas.Str.{IsUtf8-from_ascii}
 use Rattle.std.proofs.lemmas.Slice.Eq.{bytes_eq-Decides}
-use Rattle.std.proofs.lemmas.Bool.{ne_eqb, or_right, or_left, or_parts as parts_false}
+use Rattle.std.proofs.lemmas.Bool.{ne_eqb, or_right, or_left, or_parts as parts_false, false_from_ne_true}
 use Rattle.std.proofs.lemmas.Bool.Decides.{nat_tests}
 use Rattle.ll_lexer.specs.declared.TokenKind.{TokenKind}
 use Rattle.ll_lexer.specs.declared.TokenKind.TheVariants.{Name}
 use Rattle.ll_lexer.specs.Spelling.{is_name, is_word_start, is_lower, is_word_byte, kind_of, fixed_spellings, Spells}
-use Rattle.ll_lexer.proofs.CallerLemmas.{kind-passes, lower-start, NoKeyword, name-spelled}
+use Rattle.ll_lexer.proofs.CallerLemmas.{kind-passes, lower-start, NoKeyword, name-spelled, lower-ascii, word-ascii}
 use Rattle.ll_prooftext.specs.Admitted.{IsPlainName}
 use Rattle.ll_prooftext.specs.Reading.{IsNumber, IsDecimal, IsInteger}
 use Rattle.ll_prooftext.specs.Words.{is_not, Stops}
@@ -35,11 +35,7 @@ unfolding fixed_spellings
 name_shaped w h = kind-passes name_test w Name refl (record { names = λ v e. e; variables = λ v e. refl; numbers = λ v e. refl }) h
 
 pub apart : (s w : List ℕ) → (s ≡ w → ⊥) → bytes_eq s w ≡ false
-apart s w h = by_test (bytes_eq s w) refl
-  where
-    by_test : (v : Bool) → bytes_eq s w ≡ v → v ≡ false
-    by_test false e = refl
-    by_test true e = absurd (h ((bytes_eq-Decides s w).0 e))
+apart s w h = false_from_ne_true (bytes_eq s w) (λ e. h ((bytes_eq-Decides s w).0 e))
 
 same : (s w : List ℕ) → s ≡ w → bytes_eq s w ≡ true
 same s w e = (bytes_eq-Decides s w).1 e
@@ -272,22 +268,14 @@ no_word_at bytes w rest e h s none v others p a f t =
 
 -- ---- names are text
 
-byte_low : (b : ℕ) → is_word_byte b ≡ true → b < 128
-unfolding is_word_byte
-byte_low b h = grind (arith, nat_tests)
-
-lower_low : (b : ℕ) → is_lower b ≡ true → b < 128
-unfolding is_lower
-lower_low b h = grind (arith, nat_tests)
-
 bytes_low : (w : List ℕ) → list_all is_word_byte w ≡ true → IsAscii w
 bytes_low [] h i = omega arith
-bytes_low (b ∷ w) h zero = byte_low b (both (is_word_byte b) (list_all is_word_byte w) h).0
+bytes_low (b ∷ w) h zero = word-ascii b (both (is_word_byte b) (list_all is_word_byte w) h).0
 bytes_low (b ∷ w) h (suc i) = bytes_low w (both (is_word_byte b) (list_all is_word_byte w) h).1 i
 
 shaped_low : (w : List ℕ) → is_name w ≡ true → IsAscii w
 shaped_low [] h i = absurd cc
-shaped_low (b ∷ w) h zero = lower_low b (both (is_lower b) (list_all is_word_byte w) h).0
+shaped_low (b ∷ w) h zero = lower-ascii b (both (is_lower b) (list_all is_word_byte w) h).0
 shaped_low (b ∷ w) h (suc i) = bytes_low w (both (is_lower b) (list_all is_word_byte w) h).1 i
 
 pub name_utf8 : (w : List ℕ) → Spells Name w → IsUtf8 w

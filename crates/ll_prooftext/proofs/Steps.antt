@@ -11,7 +11,7 @@ use Rattle.ll_bank.specs.Term.{Term, Var, Int, Con, Ap, app, is_closed}
 use Rattle.ll_bank.specs.Nodes.{Nodes, term_tree, term_trees, Extends}
 use Rattle.ll_bank.proofs.CallerLemmas.{Extends-trans}
 use Rattle.ll_laws.specs.Output.{head_text, is_cons, has_arguments, term_text, argument_text}
-use Rattle.ll_laws.specs.ProofText.{field}
+use Rattle.ll_laws.specs.ProofText.{field, term_field}
 use Rattle.ll_prooftext.specs.declared.words.Word.{Word}
 use Rattle.ll_prooftext.specs.declared.words.Word.TheVariants.{Head as HeadWord, Term as LeafWord}
 use Rattle.ll_prooftext.specs.declared.terms.Item.{Item}
@@ -25,7 +25,7 @@ use Rattle.ll_prooftext.specs.Brackets.{shape_of, frame_of, frames, item_text, p
 use Rattle.ll_prooftext.proofs.Kept.{grows_none, flat_same, arg_good, arg_same}
 use Rattle.ll_prooftext.proofs.Found.{moves_still, moves_over, moves_behind}
 use Rattle.ll_prooftext.proofs.Mentioning.{space_mentions, open_mentions}
-use Rattle.ll_prooftext.proofs.Extended.{at_kept, head_on, cons_on, app_text, app_spelled, app_closed, app_has, app_no_cons, arguments_text}
+use Rattle.ll_prooftext.proofs.Extended.{at_kept, head_on, cons_on, app_text, app_spelled, app_closed, app_has, app_no_cons}
 use Rattle.ll_prooftext.proofs.Reach.{is_wanted}
 use Rattle.ll_prooftext.proofs.Spellings.{word_full}
 use Rattle.ll_prooftext.proofs.Ways.{first_bracket_on, first_word_on, first_none, argument_none, argument_refused, sign_none, argument_bracket_on, argument_word_on}
@@ -201,7 +201,7 @@ first_put names bank o p x bytes new over left good n m w put = record {
 
 -- ---- terms of parts
 
-args_trees : (names : List (List ℕ)) (bank : Nodes) (args : List At) → args_text names bank args ≡ arguments_text names (term_trees bank args)
+args_trees : (names : List (List ℕ)) (bank : Nodes) (args : List At) → args_text names bank args ≡ flat_map (term_field names) (term_trees bank args)
 args_trees names bank [] = refl
 args_trees names bank (a ∷ args) = ap (λ z. field (argument_at names bank a.0) ++ z) (args_trees names bank args)
 

@@ -10,6 +10,7 @@ use Rattle.ll_bank.specs.Term.{Term, Ap, Con, apply, app}
 use Rattle.ll_bank.specs.Nodes.{Nodes, term_tree, term_trees}
 use Rattle.ll_laws.specs.Fault.{term_eq}
 use Rattle.ll_printer.specs.Stack.{term_size}
+use Rattle.ll_laws.proofs.CallerLemmas.{term_eq-true, term_eq-refl}
 use Rattle.ll_prooftext.specs.declared.table.Table.{Table}
 use Rattle.ll_prooftext.specs.declared.table.Task.{Task}
 use Rattle.ll_prooftext.specs.declared.table.Task.TheVariants as task
@@ -18,7 +19,7 @@ use Rattle.ll_prooftext.specs.Classes.{AreClasses}
 use Rattle.ll_prooftext.specs.Table.{completed, completed_arguments, is_among, rows_in, row_of}
 use Rattle.ll_prooftext.specs.Tables.{HasNumberAt, row_at, IsRowOf, IsTableOf, task_at, task_terms, todo, task_weight, tasks_weight, entries, Entered, bare, known, inside, Left, left_known, added, Taken, IsBuilding}
 use Rattle.ll_prooftext.proofs.Classing.{equal_number, equal_term, number_below}
-use Rattle.ll_prooftext.proofs.TableTerms.{term_same, term_itself, among-append, rows_in-among, rows_stay, rows_in-append, AreAmong, completed_is, completed_bare, arguments_app, known_done, row_kept, row_new}
+use Rattle.ll_prooftext.proofs.TableTerms.{among-append, rows_in-among, rows_stay, rows_in-append, AreAmong, completed_is, completed_bare, arguments_app, known_done, row_kept, row_new}
 
 -- ---- tasks
 
@@ -107,7 +108,7 @@ module _ (bank : Nodes) (old now : Table) (rows : List Term) (h : IsTableOf bank
         subst (IsRowOf (rows ++ t ∷ []) (term_tree bank i))
         (sym (ap (λ k. get_or (set old.numbered.items m (Some (length old.rows.items))) k None) e
         ∙ get_or-set_same old.numbered.items m (Some (length old.rows.items)) None (argument_numbered bank old rows h at.0 l).below)) (
-          subst (λ u. is_among (rows ++ t ∷ []) u ≡ true) tree (among-append rows (t ∷ []) t ∙ (ap (λ b. b || (term_eq t t || false)) new_row ∙ ap (λ b. b || false) (term_itself t))),
+          subst (λ u. is_among (rows ++ t ∷ []) u ≡ true) tree (among-append rows (t ∷ []) t ∙ (ap (λ b. b || (term_eq t t || false)) new_row ∙ ap (λ b. b || false) (term_eq-refl t))),
           subst (λ u. row_of (rows ++ t ∷ []) u ≡ length old.rows.items) tree (row_new rows t new_row ∙ (ap length (sym h.terms) ∙ length-map old.rows.items (λ (a : At). term_tree bank a.0))),
         )
     | inr ne ↦
@@ -116,7 +117,7 @@ module _ (bank : Nodes) (old now : Table) (rows : List Term) (h : IsTableOf bank
   ]
     where
       other : (u : Term) → (u ≡ t → ⊥) → (b : Bool) → term_eq u t ≡ b → (b || false) ≡ false
-      other u ne true e = absurd (ne (term_same u t e))
+      other u ne true e = absurd (ne (term_eq-true u t e))
       other u ne false e = refl
 
       by : (i : ℕ) → (term_tree bank i ≡ t → ⊥) → (o : Option ℕ) → IsRowOf rows (term_tree bank i) o → IsRowOf (rows ++ t ∷ []) (term_tree bank i) o

@@ -1,59 +1,29 @@
 -- Terms one after the other, each once.
 use Rattle.std.proofs.Common.{◌≡◌, suc, ◌+◌, ◌<◌, Bool, true, false, cond, ◌||◌, not, if◌then◌else◌, List, [], ◌∷◌, ◌++◌, length, All, fold, refl, ap, sym, subst, ◌∙◌, arith, append_assoc, true≢false, add-zero, ◌≢◌}
 use Rattle.std.specs.List.{flat_map}
+use Rattle.std.proofs.Math.Bool.{or-true}
 use Rattle.std.proofs.lemmas.List.{append-nil}
 use Rattle.std.proofs.lemmas.List.Folds.{list_any-append, position_or_len_push}
 use Rattle.std.proofs.lemmas.List.Sums.{fold-append}
 use Rattle.std.proofs.lemmas.List.Elements.{All-head, All-tail, All-cons, All-append, All-nil, All-weaker}
-use Rattle.std.proofs.lemmas.Bool.{eqb-true, eq-eqb, ne_eqb, and_parts, and_from}
-use Rattle.std.proofs.lemmas.Bool.Decides.{Decides-int_eq}
+use Rattle.std.proofs.lemmas.Bool.{eq-eqb, ne_eqb}
 use Rattle.ll_bank.specs.declared.Head.{Head}
-use Rattle.ll_bank.specs.declared.Head.TheVariants.{Name, Eigen, Bound}
-use Rattle.ll_bank.specs.Term.{Term, Var, Int, Con, Ap, apply, app, head_eq}
+use Rattle.ll_bank.specs.Term.{Term, Var, Int, Con, Ap, apply, app}
 use Rattle.ll_laws.specs.Fault.{term_eq}
 use Rattle.ll_laws.specs.Output.{has_arguments}
+use Rattle.ll_laws.proofs.CallerLemmas.{term_eq-true, term_eq-refl}
 use Rattle.ll_prooftext.specs.Table.{completed, completed_arguments, is_among, with_row, rows_in, row_of}
-
--- ---- terms that are equal by their test
-
-head_same : (h k : Head) → head_eq h k ≡ true → h ≡ k
-head_same (Name m) (Name n) e = ap Name (eqb-true m n e)
-head_same (Eigen m) (Eigen n) e = ap Eigen (eqb-true m n e)
-head_same (Bound m) (Bound n) e = ap Bound (eqb-true m n e)
-head_same _ _ e = absurd (true≢false (sym e))
-
-head_itself : (h : Head) → head_eq h h ≡ true
-head_itself (Name n) = eq-eqb n n refl
-head_itself (Eigen n) = eq-eqb n n refl
-head_itself (Bound n) = eq-eqb n n refl
-
-pub term_same : (t u : Term) → term_eq t u ≡ true → t ≡ u
-term_same (Var x) (Var y) e = ap Var (eqb-true x y e)
-term_same (Int x) (Int y) e = ap Int ((Decides-int_eq x y).0 e)
-term_same (Con h) (Con k) e = ap Con (head_same h k e)
-term_same (Ap f a) (Ap g b) e = let p = and_parts (term_eq f g) (term_eq a b) e in let i = term_same f g p.0 in let j = term_same a b p.1 in cc
-term_same _ _ e = absurd (true≢false (sym e))
-
-pub term_itself : (t : Term) → term_eq t t ≡ true
-term_itself (Var x) = eq-eqb x x refl
-term_itself (Int x) = (Decides-int_eq x x).1 refl
-term_itself (Con h) = head_itself h
-term_itself (Ap f a) = and_from (term_eq f f) (term_eq a a) (term_itself f) (term_itself a)
 
 -- ---- terms among others
 
 pub among-append : (xs ys : List Term) (t : Term) → is_among (xs ++ ys) t ≡ (is_among xs t || is_among ys t)
 among-append xs ys t = list_any-append (term_eq t) xs ys
 
-among_left : (xs ys : List Term) (t : Term) → is_among xs t ≡ true → is_among (xs ++ ys) t ≡ true
+pub among_left : (xs ys : List Term) (t : Term) → is_among xs t ≡ true → is_among (xs ++ ys) t ≡ true
 among_left xs ys t h = among-append xs ys t ∙ ap (λ b. b || is_among ys t) h
 
 among_right : (xs ys : List Term) (t : Term) → is_among ys t ≡ true → is_among (xs ++ ys) t ≡ true
-among_right xs ys t h = among-append xs ys t ∙ (ap (λ b. is_among xs t || b) h ∙ or_true (is_among xs t))
-  where
-    or_true : (b : Bool) → (b || true) ≡ true
-    or_true true = refl
-    or_true false = refl
+among_right xs ys t h = among-append xs ys t ∙ (ap (λ b. is_among xs t || b) h ∙ or-true (is_among xs t))
 
 -- where a term is among others
 pub record IsSplitAt (xs : List Term) (t : Term) : Type 0 where
@@ -66,7 +36,7 @@ among_split [] t h = absurd (true≢false (sym h))
 among_split (x ∷ xs) t h = by (λ g. among_split xs t g) (term_eq t x) refl h
   where
     by : (is_among xs t ≡ true → IsSplitAt xs t) → (b : Bool) → term_eq t x ≡ b → (b || is_among xs t) ≡ true → IsSplitAt (x ∷ xs) t
-    by split true e g = record { front = []; back = xs; is = ap (λ y. y ∷ xs) (sym (term_same t x e)) }
+    by split true e g = record { front = []; back = xs; is = ap (λ y. y ∷ xs) (sym (term_eq-true t x e)) }
     by split false e g = let s = split g in record { front = x ∷ s.front; back = s.back; is = ap (λ ys. x ∷ ys) s.is }
 
 -- all of these are among those
@@ -84,7 +54,7 @@ with_row-among rows t u = by (is_among rows t) refl
     or_same false false h = refl
 
     by : (b : Bool) → is_among rows t ≡ b → is_among (if b then rows else rows ++ t ∷ []) u ≡ (is_among rows u || (term_eq u t || false))
-    by true e = or_same (is_among rows u) (term_eq u t) (λ h. subst (λ v. is_among rows v ≡ true) (sym (term_same u t h)) e)
+    by true e = or_same (is_among rows u) (term_eq u t) (λ h. subst (λ v. is_among rows v ≡ true) (sym (term_eq-true u t h)) e)
     by false e = among-append rows (t ∷ []) u
 
 pub rows-among : (rows ts : List Term) (u : Term) → is_among (fold with_row rows ts) u ≡ (is_among rows u || is_among ts u)
@@ -128,7 +98,7 @@ behind-append before (x ∷ xs) ys h k = (h.0, behind-append (before ++ x ∷ []
 pub are_themselves : (before xs : List Term) → AreAmong (before ++ xs) xs
 are_themselves before [] = All-nil (λ t. is_among (before ++ []) t ≡ true)
 are_themselves before (x ∷ xs) =
-    All-cons (λ t. is_among (before ++ x ∷ xs) t ≡ true) x xs (among_right before (x ∷ xs) x (ap (λ b. b || is_among xs x) (term_itself x)))
+    All-cons (λ t. is_among (before ++ x ∷ xs) t ≡ true) x xs (among_right before (x ∷ xs) x (ap (λ b. b || is_among xs x) (term_eq-refl x)))
     (subst (λ zs. AreAmong zs xs) (append_assoc before (x ∷ []) xs) (are_themselves (before ++ x ∷ []) xs))
 
 -- the terms in the arguments of a term, and those that it completes
@@ -217,4 +187,4 @@ pub row_new : (rows : List Term) (t : Term) → is_among rows t ≡ false → ro
 row_new rows t h =
     position_or_len_push (term_eq t) rows t
     ∙ (ap (λ b. cond b (length rows + cond (term_eq t t) 0 1) (row_of rows t)) (eq-eqb (row_of rows t) (length rows) (none_below rows t h))
-    ∙ (ap (λ b. length rows + cond b 0 1) (term_itself t) ∙ add-zero (length rows)))
+    ∙ (ap (λ b. length rows + cond b 0 1) (term_eq-refl t) ∙ add-zero (length rows)))

@@ -9,6 +9,7 @@ use Rattle.ll_laws.specs.Output.{line}
 use Rattle.ll_laws.specs.ProofText.{field, labels_text, node_text, term_field, part_field}
 use Rattle.ll_laws.specs.ShownLines.{line_of, part_line}
 use Rattle.ll_printer.specs.Pieces.{BeginsText}
+use Rattle.ll_printer.proofs.CallerLemmas.{begins_before}
 use Rattle.ll_prooftext.specs.Rows.{word_text, fields_text, row_text}
 
 -- a text of two parts
@@ -26,15 +27,6 @@ module _ (a b text o p q : List ℕ) (is : text ≡ a ++ b) (first : p ≡ o ++ 
     is = w.is ∙ (ap (λ t. t ++ w.written) first ∙ append_assoc o a w.written);
     begun = is ∙ (ap (λ t. a ++ t) w.begun ∙ sym (append_assoc a w.written w.rest));
   }
-
--- a refusal in the first part
-pub first_stopped : (a b text o q : List ℕ) → text ≡ a ++ b → BeginsText a o q → BeginsText text o q
-first_stopped a b text o q is w = record {
-  written = w.written;
-  rest = w.rest ++ b;
-  is = w.is;
-  begun = is ∙ (ap (λ t. t ++ b) w.begun ∙ append_assoc w.written w.rest b);
-}
 
 -- the texts of items, one after the other
 module _ {X : Type 0} (f : X → List ℕ) where
@@ -59,7 +51,7 @@ module _ {X : Type 0} (f : X → List ℕ) where
     pub parts_refused : i < length xs → BeginsText (f (get_or xs i d)) now next → BeginsText (flat_map f xs) start next
     parts_refused l b =
         both_stopped (flat_map f (take i xs)) (f (get_or xs i d) ++ flat_map f (drop (suc i) xs)) (flat_map f xs) start now next (parts_split xs i d l) before
-        (first_stopped (f (get_or xs i d)) (flat_map f (drop (suc i) xs)) (f (get_or xs i d) ++ flat_map f (drop (suc i) xs)) now next refl b)
+        (begins_before (f (get_or xs i d)) (flat_map f (drop (suc i) xs)) (f (get_or xs i d) ++ flat_map f (drop (suc i) xs)) now next refl b)
 
     -- all of them
     pub parts_whole : length xs ≤ i → now ≡ start ++ flat_map f xs

@@ -8,13 +8,14 @@ use Rattle.ll_laws.specs.ProofText.{node_text, proof_text}
 use Rattle.ll_laws.specs.ShownLines.{line_of}
 use Rattle.ll_printer.specs.Pieces.{BeginsText}
 use Rattle.ll_prooftext.specs.Rows.{let_text}
-use Rattle.ll_prooftext.proofs.Writing.{first_stopped, both_stopped, both_whole}
+use Rattle.ll_printer.proofs.CallerLemmas.{begins_before}
+use Rattle.ll_prooftext.proofs.Writing.{both_stopped, both_whole}
 use Rattle.ll_prooftext.proofs.write.Goals as goal
 
 pub returns-in_err-write_version-clause-begun : goal.returns-in_err-write_version-clause-begun
 returns-in_err-write_version-clause-begun c =
     let d = c.args.derivation.now in
-    first_stopped (line (codes "proof 1")) (flat_map (let_text c.args.names.now) d.asked ++ flat_map (λ n. line (node_text c.args.names.now n)) d.nodes) (proof_text c.args.names.now d) c.args.out.now.items c.write_version.new.out.items refl
+    begins_before (line (codes "proof 1")) (flat_map (let_text c.args.names.now) d.asked ++ flat_map (λ n. line (node_text c.args.names.now n)) d.nodes) (proof_text c.args.names.now d) c.args.out.now.items c.write_version.new.out.items refl
     c.write_version.ensures.begun
 
 pub returns-in_err-write_asked-clause-begun : goal.returns-in_err-write_asked-clause-begun
@@ -23,7 +24,7 @@ returns-in_err-write_asked-clause-begun c =
     let asked = flat_map (let_text c.args.names.now) d.asked in
     let nodes = flat_map (λ n. line (node_text c.args.names.now n)) d.nodes in
     both_stopped (line (codes "proof 1")) (asked ++ nodes) (proof_text c.args.names.now d) c.args.out.now.items c.write_version.new.out.items c.write_asked.new.out.items refl c.in_ok-write_version.ensures.text
-    (first_stopped asked nodes (asked ++ nodes) c.write_version.new.out.items c.write_asked.new.out.items refl
+    (begins_before asked nodes (asked ++ nodes) c.write_version.new.out.items c.write_asked.new.out.items refl
     (subst (λ (ts : List Term). BeginsText (flat_map (let_text c.args.names.now) ts) c.write_version.new.out.items c.write_asked.new.out.items)
     (ap (term_trees c.derivation.inside.bank) c.deref.ensures.value ∙ ap (λ (l : DerivationLines). l.asked) c.derivation.view_is) c.write_asked.ensures.begun))
 

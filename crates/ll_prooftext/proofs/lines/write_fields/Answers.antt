@@ -7,13 +7,14 @@ use Rattle.ll_laws.specs.declared.Rule.{Rule}
 use Rattle.ll_laws.specs.ProofText.{field, set_text, term_field, part_field}
 use Rattle.ll_laws.specs.ShownLines.{line_of, part_line}
 use Rattle.ll_prooftext.specs.Rows.{fields_text}
-use Rattle.ll_prooftext.proofs.Writing.{first_stopped, both_text, both_stopped, both_whole}
+use Rattle.ll_printer.proofs.CallerLemmas.{begins_before}
+use Rattle.ll_prooftext.proofs.Writing.{both_text, both_stopped, both_whole}
 use Rattle.ll_prooftext.proofs.lines.write_fields.Goals as goal
 
 pub returns-in_err-write_set_field-in-Tensor-clause-begun : goal.returns-in_err-write_set_field-in-Tensor-clause-begun
 returns-in_err-write_set_field-in-Tensor-clause-begun c =
     let text = fields_text c.args.names.now (line_of c.args.bank.now c.args.node.now) in
-    first_stopped (field (set_text c.deref.result.now)) (field (set_text c.in-Tensor.second.items)) text c.args.out.now.items c.write_set_field.new.out.items
+    begins_before (field (set_text c.deref.result.now)) (field (set_text c.in-Tensor.second.items)) text c.args.out.now.items c.write_set_field.new.out.items
     (ap (λ (r : Rule). fields_text c.args.names.now (line_of c.args.bank.now r)) c.in-Tensor.is ∙ ap (λ (s : List ℕ). field (set_text s) ++ field (set_text c.in-Tensor.second.items)) (sym c.deref.ensures.value))
     c.write_set_field.ensures.begun
 
@@ -38,7 +39,7 @@ returns-in_err-write_number_field-in-Clause-clause-begun c =
     let text = fields_text c.args.names.now (line_of c.args.bank.now c.args.node.now) in
     let ts = flat_map (term_field c.args.names.now) (term_trees c.args.bank.now c.in-Clause.terms.items) in
     let ps = flat_map part_field (map part_line c.in-Clause.parts.items) in
-    first_stopped (field (decimal c.in-Clause.label)) (field (decimal c.in-Clause.leaf) ++ (ts ++ ps)) text c.args.out.now.items c.write_number_field.new.out.items
+    begins_before (field (decimal c.in-Clause.label)) (field (decimal c.in-Clause.leaf) ++ (ts ++ ps)) text c.args.out.now.items c.write_number_field.new.out.items
     (ap (λ (r : Rule). fields_text c.args.names.now (line_of c.args.bank.now r)) c.in-Clause.is) c.write_number_field.ensures.begun
 
 pub returns-in_err-write_number_field-in-Clause-2-clause-begun : goal.returns-in_err-write_number_field-in-Clause-2-clause-begun
@@ -49,7 +50,7 @@ returns-in_err-write_number_field-in-Clause-2-clause-begun c =
     let ps = flat_map part_field (map part_line c.in-Clause.parts.items) in
     both_stopped (field (decimal c.in-Clause.label)) (leaf ++ (ts ++ ps)) text c.args.out.now.items c.write_number_field.new.out.items c.write_number_field-in-Clause.new.out.items
     (ap (λ (r : Rule). fields_text c.args.names.now (line_of c.args.bank.now r)) c.in-Clause.is) c.in_ok-write_number_field-in-Clause.ensures.text
-    (first_stopped leaf (ts ++ ps) (leaf ++ (ts ++ ps)) c.write_number_field.new.out.items c.write_number_field-in-Clause.new.out.items refl c.write_number_field-in-Clause.ensures.begun)
+    (begins_before leaf (ts ++ ps) (leaf ++ (ts ++ ps)) c.write_number_field.new.out.items c.write_number_field-in-Clause.new.out.items refl c.write_number_field-in-Clause.ensures.begun)
 
 pub returns-in_err-write_term_fields-in-Clause-clause-begun : goal.returns-in_err-write_term_fields-in-Clause-clause-begun
 returns-in_err-write_term_fields-in-Clause-clause-begun c =
@@ -63,7 +64,7 @@ returns-in_err-write_term_fields-in-Clause-clause-begun c =
     ∙ ap (λ (xs : List At). label ++ (leaf ++ (flat_map (term_field c.args.names.now) (term_trees c.args.bank.now xs) ++ ps))) (sym c.deref-in-Clause.ensures.value))
     c.in_ok-write_number_field-in-Clause.ensures.text
     (both_stopped leaf (ts ++ ps) (leaf ++ (ts ++ ps)) c.write_number_field.new.out.items c.write_number_field-in-Clause.new.out.items c.write_term_fields.new.out.items refl c.in_ok-write_number_field-in-Clause-2.ensures.text
-    (first_stopped ts ps (ts ++ ps) c.write_number_field-in-Clause.new.out.items c.write_term_fields.new.out.items refl c.write_term_fields.ensures.begun))
+    (begins_before ts ps (ts ++ ps) c.write_number_field-in-Clause.new.out.items c.write_term_fields.new.out.items refl c.write_term_fields.ensures.begun))
 
 pub returns-in_err-write_part_fields-in-Clause-clause-begun : goal.returns-in_err-write_part_fields-in-Clause-clause-begun
 returns-in_err-write_part_fields-in-Clause-clause-begun c =

@@ -1,8 +1,9 @@
 -- What worker 0 has told stays told, and one report more.
-use Rattle.std.proofs.Common.{◌≡◌, ℕ, ◌+◌, ◌<◌, ◌≤◌, List, [], ◌∷◌, ◌++◌, refl, sym, ap, ◌∙◌, subst, ⊎_elim, inl, inr, arith, append_assoc, append-nil, le_trans, Some, None}
+use Rattle.std.proofs.Common.{◌≡◌, ℕ, ◌+◌, ◌≤◌, List, [], ◌∷◌, ◌++◌, refl, sym, ap, ◌∙◌, subst, inl, inr, arith, append_assoc, append-nil, le_trans, Some, None}
 use Rattle.std.specs.Prelude.{◌↔◌, count_by, sum_by}
 use Rattle.std.proofs.lemmas.List.Concat.{flat_map-append}
 use Rattle.std.proofs.lemmas.List.Sums.{sum_by-append}
+use Rattle.ll_edge.proofs.CallerLemmas.{Rose-later}
 use Rattle.ll_laws.specs.declared.Event.{Event}
 use Rattle.ll_laws.specs.declared.Counts.{Counts}
 use Rattle.ll_laws.specs.Pool.{Owed, PoolData}
@@ -12,12 +13,12 @@ use Rattle.ll_laws.specs.CoreEvents.{Ready, Events, Starve, Stop, Does}
 use Rattle.ll_core.specs.Calls.{ready_answer}
 use Rattle.ll_core.specs.declared.answers.Ready.{Ready as ReadyCall}
 use Rattle.ll_core.specs.declared.answers.Ready.TheVariants as ready
-use Rattle.ll_core.proofs.CallerLemmas.{every_more, cut_sum, cut_twice, every_back, step_given, given_in_front, given_later}
+use Rattle.ll_core.proofs.CallerLemmas.{every_more, cut_sum, cut_twice, every_back, every_front, step_given, given_in_front, given_later}
 use Rattle.ll_core.specs.Given.{Given}
 use Rattle.ll_order.specs.Outlets.{Rose, Gives, Refuses, CountsOf}
 use Rattle.ll_order.specs.declared.outlet.OutFault.{OutFault}
 use Rattle.ll_order.specs.declared.outlet.OutFault.TheVariants.{Write}
-use Rattle.ll_order.proofs.CallerLemmas.{gives_more, refuses_more, counts_more, every_front}
+use Rattle.ll_order.proofs.CallerLemmas.{gives_more, refuses_more, counts_more}
 use Rattle.ll_pool.specs.Turns.{OneTurn}
 use Rattle.ll_laws.specs.Problem.{ProblemTree}
 use Rattle.ll_freeze.specs.Frozen.{FrozenSight, problem_owes, alternatives_in}
@@ -115,11 +116,8 @@ module _ {O : Type 0} (takes breaks : O → Event → O → Type 0) (welcome : O
     pub broke_now : (out' : O) (fault : OutFault) → Refuses takes breaks out report.events out' → (fault ≡ Write → Rose (faults out) (faults out')) → Broke takes breaks welcome faults start problem out' fault
     broke_now out' fault refuses rose = record {
       refused = subst (λ es. Refuses takes breaks start es out') (sym parts.1) (refuses_more takes breaks start out out' (events_in l.reports) report.events parts.0 l.given refuses);
-      write = λ e. (let k = l.kept in rose_on (faults start) (faults out) (faults out') k.no_fewer (rose e));
+      write = λ e. (let k = l.kept in Rose-later (faults start) (faults out) (faults out') k.no_fewer (rose e));
     }
-      where
-        rose_on : (a b c : ℕ) → a ≤ b → Rose b c → Rose a c
-        rose_on a b c low r = ⊎_elim (λ (h : b < c). inl (omega arith)) (λ (h : c ≡ 18446744073709551615). inr h) r
 
 -- ---- turns that take no report, and those that end the work
 

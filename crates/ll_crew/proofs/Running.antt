@@ -1,5 +1,5 @@
 -- Engines that go on, one stretch after the other.
-use Rattle.std.proofs.Common.{◌≡◌, ℕ, ◌+◌, ◌-◌, ◌≤◌, List, [], ◌++◌, Bool, true, refl, sym, ap, ◌∙◌, subst, arith, append-nil, Option, Some, None, Result, Ok, Err, OnErr}
+use Rattle.std.proofs.Common.{◌≡◌, ℕ, ◌+◌, ◌-◌, ◌≤◌, List, [], ◌++◌, Bool, true, refl, sym, ap, ◌∙◌, subst, arith, append-nil, Option, Some, None}
 use Rattle.std.specs.declared.sync.Arc.{Arc}
 use Rattle.std.specs.declared.alloc.Global.{Global}
 use Rattle.ll_laws.specs.declared.Event.{Event}
@@ -47,10 +47,6 @@ owes_stretch done x found after old new h g =
 pub all_stretch : (done : Bool) (piece : Option OpenPiece) (found after : List Event) (old new : Owing) → OwesAll piece found old [] → Stretched done found old after new → OwesAll piece after new []
 all_stretch done None found after old new h g = absurd h
 all_stretch done (Some x) found after old new h g = owes_stretch done x found after old new h g
-
-pub on_err : {T E : Type 0} (r : Result T E) (P : Type 0) → P → OnErr r P
-on_err (Ok x) P p = tt
-on_err (Err e) P p = p
 
 pub owes_same : (piece piece' : Option OpenPiece) (found : List Event) (engine : Owing) → piece' ≡ piece → OwesAll piece found engine [] → OwesAll piece' found engine []
 owes_same piece piece' found engine e h = subst (λ p. OwesAll p found engine []) (sym e) h

@@ -8,5 +8,3 @@ pub use Rattle.ll_order.proofs.Givings.{refuses_more}
 pub use Rattle.ll_order.proofs.Givings.{no_count}
 -- counts of two lists of events, one after the other, are the count of both
 pub use Rattle.ll_order.proofs.Givings.{counts_more}
--- what holds of each of a list holds of each of its front
-pub use Rattle.ll_order.proofs.Givings.{every_front}

@@ -8,7 +8,7 @@ use Rattle.ll_laws.specs.declared.Event.{Event}
 use Rattle.ll_laws.specs.declared.Counts.{Counts}
 use Rattle.ll_laws.specs.Pool.{Owed, Taken, Piece, PoolData}
 use Rattle.ll_laws.specs.Search.{cut_count, is_answer, is_reached}
-use Rattle.ll_laws.specs.Sound.{Every, Shaped}
+use Rattle.ll_laws.specs.Sound.{Shaped}
 use Rattle.ll_laws.specs.Later.{Later}
 use Rattle.ll_laws.specs.CoreEvents.{MayTake, Readies, Events, took, reports_left}
 use Rattle.ll_laws.specs.CoreEvents as core
@@ -108,10 +108,6 @@ module _ {N O : Type 0} (alternatives : N → List (Owed Event)) (takes breaks :
 
 pub few_count : (n m : ℕ) → n ≡ cut_count m → n ≤ 18446744073709551615
 few_count n m e = subst (λ k. k ≤ 18446744073709551615) (sym e) (min-le_right m 18446744073709551615)
-
-pub every_front : {X : Type 0} (P : X → Type 0) (xs ys : List X) → Every P (xs ++ ys) → Every P xs
-every_front P [] ys h = tt
-every_front P (x ∷ xs) ys h = (h.0, every_front P xs ys h.1)
 
 pub ok_not_err : {T E : Type 0} (x : T) (y : E) → Ok x ≡ Err y → ⊥
 ok_not_err x y e = cc

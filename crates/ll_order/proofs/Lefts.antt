@@ -10,7 +10,7 @@ use Rattle.ll_laws.specs.Spread.{piece_of, kids_of, published_by, length_of, wal
 use Rattle.ll_laws.specs.Sound.{Every, Shaped, is_open, is_taken, is_taken_status}
 use Rattle.ll_laws.specs.CoreEvents.{change, with_status, took, MayTake, Readies, NotYet, report_in, report_left, reports_left}
 use Rattle.ll_core.specs.Given.{total}
-use Rattle.ll_core.proofs.CallerLemmas.{walk_same, total-append, one_if, is_at, found, lookup, is_of_from, unique, read_same, piece_here, piece_elsewhere, all_claimed, closed_all, taken_piece, walk_inside, every_back}
+use Rattle.ll_core.proofs.CallerLemmas.{walk_same, one_if, is_at, found, lookup, is_of_from, unique_behind, read_same, piece_here, piece_elsewhere, all_claimed, closed_all, taken_piece, walk_inside, every_back}
 use Rattle.ll_order.specs.Drained.{count_untaken}
 
 module _ {N E : Type 0} (alternatives : N → List (Owed E)) (p : PoolData N E) (s : Shaped alternatives p) where
@@ -52,13 +52,6 @@ module _ {N E : Type 0} (alternatives : N → List (Owed E)) (p : PoolData N E) 
     walk_now : walk alternatives (took p i) ≡ walk alternatives p
     walk_now = walk_same (kids_of p.pieces) (kids_of pieces') (length_of alternatives p) (λ c j. read_same f (λ x. refl) (λ x. refl) published_by i p.pieces x refl s.apart may.piece (record { batch = c; k = j })) (length p.batches) 0
 
-    none_behind : total (is_at at) may.next.back ≡ 0
-    none_behind =
-        let one : total (is_at at) (may.next.front ++ at ∷ may.next.back) ≡ 1 = ap (total (is_at at)) (sym may.next.order) ∙ unique alternatives p s i x may.piece in
-        let two = total-append (is_at at) may.next.front (at ∷ may.next.back) in
-        let self : is_at at at ≡ 1 = ap one_if (is_of_from at x refl refl) in
-        omega arith
-
     -- a taking takes the first report off those that are left
     pub took_left : reports_left alternatives p ≡ report ∷ reports_left alternatives (took p i)
     took_left =
@@ -68,7 +61,7 @@ module _ {N E : Type 0} (alternatives : N → List (Owed E)) (p : PoolData N E) 
         ap (flat_map (left p.pieces)) may.next.order ∙ (flat_map-append (left p.pieces) front (at ∷ back) ∙ (λ j. none_in_front (left p.pieces) none_left front may.next.before j ++ (its j ++ flat_map (left p.pieces) back))) in
         let after : reports_left alternatives (took p i) ≡ flat_map (left p.pieces) back =
         ap (flat_map (left pieces')) (walk_now ∙ may.next.order) ∙ (flat_map-append (left pieces') front (at ∷ back)
-        ∙ (λ j. none_in_front (left pieces') none_left_now front may.next.before j ++ (left_here at (is_of_from at x refl refl) j ++ same_behind back none_behind j))) in
+        ∙ (λ j. none_in_front (left pieces') none_left_now front may.next.before j ++ (left_here at (is_of_from at x refl refl) j ++ same_behind back (unique_behind alternatives p s i x front back may.piece may.next.order) j))) in
         before ∙ ap (λ l. report ∷ l) (sym after)
 
   -- where nothing is untried or open, the next report is there

@@ -1,8 +1,7 @@
 use Rattle.std.proofs.Common.{◌≡◌, ◌∙◌, ◌∷◌, ◌++◌, [], ap, sym, subst, rules}
 use Rattle.std.specs.Prelude.{option_to_list}
 use Rattle.ll_laws.specs.Sound.{Every}
-use Rattle.ll_core.proofs.CallerLemmas.{every_back}
-use Rattle.ll_order.proofs.CallerLemmas.{every_front}
+use Rattle.ll_core.proofs.CallerLemmas.{every_back, every_front}
 use Rattle.ll_crew.specs.Turns.{CanWork, Worked}
 use Rattle.ll_crew.specs.Crews.{EachWorked}
 use Rattle.ll_crew.proofs.Gathering.{each_append}

@@ -6,10 +6,10 @@ use Rattle.ll_laws.specs.Search.{cut_count, is_answer, is_reached}
 use Rattle.ll_laws.specs.Sound.{Every}
 use Rattle.ll_laws.specs.Later.{Later}
 use Rattle.ll_laws.specs.CoreEvents.{Ready, Events}
-use Rattle.ll_core.proofs.CallerLemmas.{every_more, every_back, later_itself, later_on, later_event}
+use Rattle.ll_core.proofs.CallerLemmas.{every_more, every_back, every_front, later_itself, later_on, later_event}
 use Rattle.ll_order.specs.Outlets.{Gives, Refuses, events_left}
 use Rattle.ll_order.proofs.Lefts.{none_left_all}
-use Rattle.ll_order.proofs.Givings.{drained_first, drained_more, drained_less, drained_refused, drained_all, drained_end, events_now, every_front, ok_not_err}
+use Rattle.ll_order.proofs.Givings.{drained_first, drained_more, drained_less, drained_refused, drained_all, drained_end, events_now, ok_not_err}
 use Rattle.ll_order.proofs.order.drain.Goals as goal
 
 pub loop-report-init : goal.loop-report-init

@@ -1,5 +1,5 @@
 -- The walk over the leaves of a clause, and what it finds.
-use Rattle.std.proofs.Common.{◌≡◌, ℕ, suc, ◌+◌, Bool, List, [], ◌∷◌, ◌++◌, length, map, refl, ap, sym, subst, ◌∙◌, arith, Some, true, false, append_assoc, All}
+use Rattle.std.proofs.Common.{◌≡◌, ℕ, suc, ◌+◌, Bool, List, [], ◌∷◌, ◌++◌, length, refl, ap, sym, subst, ◌∙◌, arith, Some, true, false, append_assoc, All}
 use Rattle.std.specs.Prelude.{if◌then◌else◌}
 use Rattle.std.proofs.lemmas.List.{append-nil, length_push, get_or_push}
 use Rattle.std.proofs.Math.ListN.{get_or-append}
@@ -10,32 +10,19 @@ use Rattle.ll_bank.specs.declared.FormAt.{FormAt}
 use Rattle.ll_bank.specs.declared.Head.{Head}
 use Rattle.ll_bank.specs.declared.FormNode.{FormNode}
 use Rattle.ll_bank.specs.declared.FormNode.TheVariants.{Top as TopView, One as OneView, Atom as AtomView, With as WithView, Tensor as TensorView, Plus as PlusView, Bang as BangView, Lolli as LolliView, Imp as ImpView, Forall as ForallView, Exists as ExistsView, Use as UseView, Is as IsView, Less as LessView, Most as MostView}
-use Rattle.ll_bank.specs.Term.{Term, Con, Ap, app, apply, head_of, arity}
-use Rattle.ll_bank.specs.Nodes.{Nodes, term_tree, term_trees, form_tree, form_of}
+use Rattle.ll_bank.specs.Term.{Term, app, head_of, arity}
+use Rattle.ll_bank.specs.Nodes.{Nodes, term_trees, form_tree, form_of}
+use Rattle.ll_bank.proofs.CallerLemmas.{head_of-app, arity-app, length-term_trees}
 use Rattle.ll_laws.specs.declared.Candidate.{Candidate}
 use Rattle.ll_engine.specs.Leaves.{heads, head_tries, waiting_heads}
 
 -- ---- predicates
 
-head-apply : (f : Term) (ts : List Term) → head_of (apply f ts) ≡ head_of f
-head-apply f [] = refl
-head-apply f (t ∷ ts) = head-apply (Ap f t) ts
-
-arity-apply : (f : Term) (ts : List Term) → arity (apply f ts) ≡ arity f + length ts
-arity-apply f [] = omega arith
-arity-apply f (t ∷ ts) = let e = arity-apply (Ap f t) ts in omega arith
-
-length-map : {A B : Type 0} (f : A → B) (xs : List A) → length (map f xs) ≡ length xs
-length-map f [] = refl
-length-map f (x ∷ xs) = ap suc (length-map f xs)
-
 -- an application has its head, and as many arguments as places
 pub predicate_app : (nodes : Nodes) (t : Term) (h : Head) (args : List At) → t ≡ app h (term_trees nodes args) → (head_of t ≡ Some h) × (arity t ≡ length args)
 predicate_app nodes t h args e =
-    let q = arity-apply (Con h) (term_trees nodes args) in
-    let n = length-map (λ (a : At). term_tree nodes a.0) args in
-    let r = ap arity e in
-    (ap head_of e ∙ head-apply (Con h) (term_trees nodes args), omega arith)
+    let ts = term_trees nodes args in
+    (ap head_of e ∙ head_of-app h ts, ap arity e ∙ (arity-app h ts ∙ length-term_trees nodes args))
 
 -- ---- the walk
 

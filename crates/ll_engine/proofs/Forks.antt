@@ -4,9 +4,9 @@ use Rattle.std.proofs.lemmas.List.Folds.{list_any-append}
 use Rattle.std.specs.Prelude.{Option, Some, None, option_map, option_and_then, slice_get, ◌||◌, ◌&&◌, nat_eq, ℤ, if◌then◌else◌}
 use Rattle.std.specs.List.{list_any}
 use Rattle.std.proofs.Math.Seq.{drop-append_seam}
-use Rattle.std.proofs.lemmas.Bool.{eq-eqb, eqb-true, or_from as or_both}
+use Rattle.std.proofs.lemmas.Bool.{or_from as or_both}
 use Rattle.std.proofs.lemmas.List.{append-nil as append_nil}
-use Rattle.ll_lists.proofs.CallerLemmas.{eq-refl as eq_refl, or_false_left as or_left, or_false_right as or_right}
+use Rattle.ll_lists.proofs.CallerLemmas.{eq-refl as eq_refl, not_eq_sym, or_false_left as or_left, or_false_right as or_right}
 use Rattle.ll_laws.specs.declared.Candidate.{Candidate}
 use Rattle.ll_laws.specs.declared.Step.{Step}
 use Rattle.ll_laws.specs.declared.Step.TheVariants.{Plain, Left, Right, Clause as ClauseStep}
@@ -24,13 +24,6 @@ use Rattle.ll_engine.specs.Healthy.{Distinct, Path, here, next}
 
 -- candidates
 
-eq_sym : (m n : ℕ) → nat_eq m n ≡ false → nat_eq n m ≡ false
-eq_sym m n h = go (nat_eq n m) (λ e. eqb-true n m e)
-  where
-    go : (b : Bool) → (b ≡ true → n ≡ m) → b ≡ false
-    go false k = refl
-    go true k = let e1 = eq-eqb m n (sym (k refl)) in let e2 : true ≡ false = sym e1 ∙ h in cc
-
 same_refl : (c : Candidate) → same_candidate c c ≡ true
 same_refl c = let e1 = eq_refl c.label in let e2 = eq_refl c.leaf in rw (e1, e2)
 
@@ -43,7 +36,7 @@ and_sym true b a' b' ha hb e = go a' (hb e)
     go false h = refl
 
 same_sym : (c d : Candidate) → same_candidate c d ≡ false → same_candidate d c ≡ false
-same_sym c d e = and_sym (nat_eq c.label d.label) (nat_eq c.leaf d.leaf) _ _ (eq_sym c.label d.label) (eq_sym c.leaf d.leaf) e
+same_sym c d e = and_sym (nat_eq c.label d.label) (nat_eq c.leaf d.leaf) _ _ (not_eq_sym c.label d.label) (not_eq_sym c.leaf d.leaf) e
 
 -- the candidate at a cut stands nowhere before it
 pub not_before : (pre post : List Candidate) (c : Candidate) → Distinct (pre ++ c ∷ post) → list_any (same_candidate c) pre ≡ false

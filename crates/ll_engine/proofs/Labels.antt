@@ -1,8 +1,8 @@
 -- Where the labels of a context are distinct, no candidate stands twice among the tries.
 use Rattle.std.proofs.Common.{◌≡◌, ℕ, suc, ◌<◌, refl, sym, ◌∙◌, subst, Bool, true, false, List, [], ◌∷◌, ◌++◌, arith}
-use Rattle.std.proofs.lemmas.Bool.{eqb-true, or_from as or_both}
+use Rattle.std.proofs.lemmas.Bool.{eqb-true, or_from as or_both, and_left as no_first, and_right as no_second}
 use Rattle.std.proofs.lemmas.List.Folds.{list_any-append}
-use Rattle.std.specs.Prelude.{nat_eq, ◌||◌, ◌&&◌, flat_map, cond, not}
+use Rattle.std.specs.Prelude.{nat_eq, ◌||◌, flat_map, cond, not}
 use Rattle.std.specs.List.{list_any}
 use Rattle.ll_lists.proofs.CallerLemmas.{false_from_not as not_true, or_false_left as or_left, or_false_right as or_right, and_true_left as and_left, and_true_right as and_right}
 use Rattle.ll_laws.specs.declared.Candidate.{Candidate}
@@ -15,14 +15,6 @@ use Rattle.ll_laws.specs.Attempt.{tries, agenda_tries, goal_tries, entry_tries, 
 use Rattle.ll_laws.specs.Search.{same_candidate}
 use Rattle.ll_laws.specs.Consistent.{labels_differ}
 use Rattle.ll_engine.specs.Healthy.{Distinct}
-
-and_first : (a b : Bool) → a ≡ false → (a && b) ≡ false
-and_first false b h = refl
-and_first true b h = cc
-
-and_second : (a b : Bool) → b ≡ false → (a && b) ≡ false
-and_second false b h = refl
-and_second true b h = h
 
 less_differs : (j k : ℕ) → j < k → nat_eq j k ≡ false
 less_differs j k l = go (nat_eq j k) (λ e. eqb-true j k e)
@@ -37,7 +29,7 @@ other_label a e c k (n ∷ ns) h = go (fits_head a (leaf_head e.clause k n)) (ot
   where
     go : (b : Bool) → list_any (same_candidate c) (leaf_tries a e (suc k) ns) ≡ false
         → list_any (same_candidate c) (cond b (record { label = e.label; leaf = k } ∷ leaf_tries a e (suc k) ns) (leaf_tries a e (suc k) ns)) ≡ false
-    go true ih = or_both _ _ (and_first (nat_eq c.label e.label) (nat_eq c.leaf k) h) ih
+    go true ih = or_both _ _ (no_first (nat_eq c.label e.label) (nat_eq c.leaf k) h) ih
     go false ih = ih
 
 other_leaf : (a : Term) (e : Entry Form) (c : Candidate) (k : ℕ) (ns : List ℕ) → c.leaf < k → list_any (same_candidate c) (leaf_tries a e k ns) ≡ false
@@ -46,7 +38,7 @@ other_leaf a e c k (n ∷ ns) h = go (fits_head a (leaf_head e.clause k n)) (oth
   where
     go : (b : Bool) → list_any (same_candidate c) (leaf_tries a e (suc k) ns) ≡ false
         → list_any (same_candidate c) (cond b (record { label = e.label; leaf = k } ∷ leaf_tries a e (suc k) ns) (leaf_tries a e (suc k) ns)) ≡ false
-    go true ih = or_both _ _ (and_second (nat_eq c.label e.label) (nat_eq c.leaf k) (less_differs c.leaf k h)) ih
+    go true ih = or_both _ _ (no_second (nat_eq c.label e.label) (nat_eq c.leaf k) (less_differs c.leaf k h)) ih
     go false ih = ih
 
 other_entry : (a : Term) (c : Candidate) (e : Entry Form) → nat_eq c.label e.label ≡ false → list_any (same_candidate c) (entry_tries a e) ≡ false

@@ -9,7 +9,6 @@ mod SignLemmas
 mod Finding
 mod AtomLemmas
 mod ProgramLemmas
-pub mod OpeningLemmas
 pub mod LaterLemmas
 pub mod TakeLemmas
 pub mod StepLemmas

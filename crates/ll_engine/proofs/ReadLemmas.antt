@@ -1,34 +1,21 @@
 -- Terms read under bindings, as a bank and its cells grow.
-use Rattle.std.proofs.Common.{◌≡◌, ℕ, zero, suc, ◌≤◌, List, [], ◌∷◌, ◌++◌, length, map, replicate, All, get_or, refl, ap, sym, subst, ◌∙◌, arith, Option, Some, None, append_assoc}
+use Rattle.std.proofs.Common.{◌≡◌, ℕ, zero, suc, ◌≤◌, List, [], ◌∷◌, ◌++◌, length, replicate, All, get_or, refl, ap, sym, subst, ◌∙◌, arith, Option, Some, None, append_assoc}
 use Rattle.std.specs.Prelude.{slice_index_or}
 use Rattle.std.proofs.lemmas.List.{append-nil}
 use Rattle.std.proofs.lemmas.List.Elements.{All-nil, All-cons, All-head, All-tail}
 use Rattle.ll_bank.specs.declared.At.{At}
-use Rattle.ll_bank.specs.declared.Head.{Head}
-use Rattle.ll_bank.specs.Term.{Term, Var, Con, Ap, sub, app, apply}
+use Rattle.ll_bank.specs.Term.{Term, Var, sub}
 use Rattle.ll_bank.specs.Nodes.{Nodes, HasTerm, term_tree, term_trees, Extends}
-use Rattle.ll_bank.proofs.CallerLemmas.{term_tree-extends, HasTerm-extends}
+use Rattle.ll_bank.proofs.CallerLemmas.{term_tree-extends, HasTerm-extends, length-term_trees}
 use Rattle.ll_laws.specs.Attempt.{vars_from}
 use Rattle.ll_laws.proofs.CallerLemmas.{length-vars, sub_same}
 use Rattle.ll_bindings.specs.Bindings.{Table, shown, followed, IsTable, IsOrdered}
-use Rattle.ll_bindings.proofs.CallerLemmas.{with_cell, table-extends, table-fresh, found-fresh}
+use Rattle.ll_bindings.proofs.CallerLemmas.{followed-free, with_cell, table-extends, table-fresh, found-fresh}
 use Rattle.ll_store.specs.declared.cells.Cell.{Cell}
 use Rattle.ll_store.specs.Tables.{table_of}
 use Rattle.ll_freeze.specs.Parts.{Parts, table}
 use Rattle.ll_freeze.specs.Reading.{reading, HasValue}
 use Rattle.ll_freeze.specs.Fits.{Fits}
-
-sub-apply : (s : ℕ → Term) (f : Term) (ts : List Term) → sub s (apply f ts) ≡ apply (sub s f) (map (sub s) ts)
-sub-apply s f [] = refl
-sub-apply s f (u ∷ ts) = sub-apply s (Ap f u) ts
-
--- a substitution goes to the arguments
-pub sub_app : (s : ℕ → Term) (h : Head) (ts : List Term) → sub s (app h ts) ≡ app h (map (sub s) ts)
-sub_app s h ts = sub-apply s (Con h) ts
-
-pub map_trees : (s : ℕ → Term) (nodes : Nodes) (ats : List At) → map (sub s) (term_trees nodes ats) ≡ map (λ a. sub s (term_tree nodes a.0)) ats
-map_trees s nodes [] = refl
-map_trees s nodes (a ∷ ats) = λ i. sub s (term_tree nodes a.0) ∷ map_trees s nodes ats i
 
 -- what an entry shows stays
 shown_same : (old new : Nodes) → Extends old new → (x : ℕ) (o : Option At) → HasValue old o → shown new x o ≡ shown old x o
@@ -70,12 +57,8 @@ entry_past [] x l = refl
 entry_past (o ∷ bound) zero l = absurd (omega arith)
 entry_past (o ∷ bound) (suc x) l = entry_past bound x (omega arith)
 
-followed_free : (nodes : Nodes) (bound : List (Option At)) (n x : ℕ) → slice_index_or bound x None ≡ None → followed nodes bound n x ≡ Var x
-followed_free nodes bound zero x e = refl
-followed_free nodes bound (suc n) x e = ap (λ o. sub (followed nodes bound n) (shown nodes x o)) e ∙ followed_free nodes bound n x e
-
 pub reading_past : (nodes : Nodes) (bound : List (Option At)) (x : ℕ) → length bound ≤ x → reading nodes bound x ≡ Var x
-reading_past nodes bound x l = followed_free nodes bound (length bound) x (entry_past bound x l)
+reading_past nodes bound x l = followed-free nodes bound (length bound) x (entry_past bound x l)
 
 -- ---- tables
 
@@ -143,10 +126,6 @@ cells_levels old new n count l e s = ap (λ cs. (table_of cs).levels) e ∙ (lev
 
 -- ---- lists of terms
 
-pub length_trees : (nodes : Nodes) (ats : List At) → length (term_trees nodes ats) ≡ length ats
-length_trees nodes [] = refl
-length_trees nodes (a ∷ ats) = ap suc (length_trees nodes ats)
-
 -- as many terms as variables
 pub length_variables : (nodes : Nodes) (ats : List At) (n : ℕ) → term_trees nodes ats ≡ vars_from 0 n → length ats ≡ n
-length_variables nodes ats n e = sym (length_trees nodes ats) ∙ (ap (λ (ts : List Term). length ts) e ∙ length-vars 0 n)
+length_variables nodes ats n e = sym (length-term_trees nodes ats) ∙ (ap (λ (ts : List Term). length ts) e ∙ length-vars 0 n)

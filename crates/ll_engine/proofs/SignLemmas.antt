@@ -7,6 +7,7 @@ use Rattle.ll_bank.specs.declared.At.{At}
 use Rattle.ll_bank.specs.declared.Head.{Head}
 use Rattle.ll_bank.specs.Term.{Term, Var, Int, Con, Ap, sub, app, apply, head_of, is_spine, same_head}
 use Rattle.ll_bank.specs.Nodes.{Nodes, HasTerm, term_tree, term_trees}
+use Rattle.ll_bank.proofs.CallerLemmas.{is_spine-apply, spine_of_head, sub-app}
 use Rattle.ll_bindings.specs.Bindings.{Table, IsTable, IsPlaceOf, IsFree, AreSame, found, count}
 use Rattle.ll_bindings.proofs.CallerLemmas.{found-free, found-bound, place-below}
 use Rattle.ll_laws.specs.Unify.{vars_below}
@@ -16,7 +17,6 @@ use Rattle.ll_index.proofs.CallerLemmas.{sign_of-read}
 use Rattle.ll_engine.specs.declared.heads.Predicate.{Predicate}
 use Rattle.ll_engine.specs.Leaves.{has_predicate}
 use Rattle.ll_engine.proofs.Standing.{spine-head, spine-arity}
-use Rattle.ll_engine.proofs.ReadLemmas.{sub_app}
 
 -- ---- what is read
 
@@ -30,10 +30,6 @@ module _ (nodes : Nodes) (t : Table) (tb : IsTable nodes t) (at end : At) (same 
   spine_sign (Int z) e = refl
   spine_sign (Con h) e = refl
   spine_sign (Ap f a) e = (λ i. name_sign (spine-head (found nodes t) f e i) (suc (spine-arity (found nodes t) f e i)))
-
-  is_spine-apply : (u : Term) (ts : List Term) → is_spine u ≡ true → is_spine (apply u ts) ≡ true
-  is_spine-apply u [] e = e
-  is_spine-apply u (w ∷ ts) e = is_spine-apply (Ap u w) ts e
 
   pub sign_app : (h : Head) (args : List At) → term_tree nodes end.0 ≡ app h (term_trees nodes args)
       → sign_of (sub (found nodes t) (term_tree nodes at.0)) ≡ name_sign (Some h) (length args)
@@ -64,10 +60,6 @@ module _ (s : ℕ → Term) where
   first-apply f a [] = refl
   first-apply f a (t ∷ ts) = first-apply (Ap f a) t ts
 
-  spine-apply : (u : Term) (ts : List Term) → is_spine u ≡ true → is_spine (apply u ts) ≡ true
-  spine-apply u [] e = e
-  spine-apply u (w ∷ ts) e = spine-apply (Ap u w) ts e
-
   -- no argument
   pub first_none : (nodes : Nodes) (t : Term) (h : Head) (args : List At) → t ≡ app h (term_trees nodes args) → args ≡ [] → first_of (sub s t) ≡ Open
   first_none nodes t h args e n = ap (λ u. first_of (sub s u)) (e ∙ ap (λ as'. app h (term_trees nodes as')) n)
@@ -77,7 +69,7 @@ module _ (s : ℕ → Term) where
   first_some nodes t h a args e =
       ap (λ u. first_of (sub s u)) e
       ∙ ap sign_if_some
-      (first-sub (app h (term_trees nodes (a ∷ args))) (spine-apply (Con h) (term_trees nodes (a ∷ args)) refl)
+      (first-sub (app h (term_trees nodes (a ∷ args))) (is_spine-apply (Con h) (term_trees nodes (a ∷ args)) refl)
       ∙ ap (option_map (sub s)) (first-apply (Con h) (term_tree nodes a.0) (term_trees nodes args)))
 
 -- an argument has no variables but those of the term
@@ -90,17 +82,11 @@ pub first_place : (nodes : Nodes) (t : Table) (u : Term) (h : Head) (a : At) (ar
 first_place nodes t u h a args tb e inside below =
     place-below nodes t a.0 tb inside
     (let all : vars_below (count t) (apply (Con h) (map (sub (found nodes t)) (term_trees nodes (a ∷ args)))) ≡ true =
-    ap (vars_below (count t)) (sym (sub_app (found nodes t) h (term_trees nodes (a ∷ args))) ∙ ap (sub (found nodes t)) (sym e)) ∙ below in
+    ap (vars_below (count t)) (sym (sub-app (found nodes t) h (term_trees nodes (a ∷ args))) ∙ ap (sub (found nodes t)) (sym e)) ∙ below in
     and_right (vars_below (count t) (Con h)) (vars_below (count t) (sub (found nodes t) (term_tree nodes a.0)))
     (below-apply (count t) (Ap (Con h) (sub (found nodes t) (term_tree nodes a.0))) (map (sub (found nodes t)) (term_trees nodes args)) all))
 
 -- ---- heads
-
-pub spine_of_head : (t : Term) (h : Head) → head_of t ≡ Some h → is_spine t ≡ true
-spine_of_head (Var x) h e = cc
-spine_of_head (Int z) h e = cc
-spine_of_head (Con k) h e = refl
-spine_of_head (Ap f a) h e = spine_of_head f h e
 
 -- what has a predicate has a head
 pub spine_of_predicate : (p : Predicate) (t : Term) → has_predicate p t ≡ true → is_spine t ≡ true

@@ -5,7 +5,7 @@ use Rattle.std.specs.List.{list_any}
 use Rattle.std.proofs.lemmas.Bool.{eq-eqb}
 use Rattle.std.proofs.lemmas.List.Elements.{All-cons}
 use Rattle.std.proofs.lemmas.Option.{slice_get_within, slice_get-get_or}
-use Rattle.ll_lists.proofs.CallerLemmas.{and_true_left as and_left, and_true_right as and_right}
+use Rattle.ll_lists.proofs.CallerLemmas.{false_from_not, and_true_left as and_left, and_true_right as and_right}
 use Rattle.ll_bank.specs.declared.At.{At}
 use Rattle.ll_bank.specs.declared.FormAt.{FormAt}
 use Rattle.ll_bank.specs.Form.{Form}
@@ -78,17 +78,13 @@ module _ (bank : Nodes) (bound : List (Option At)) where
       right true h = cc
       right false h = h
 
-  not_true : (b : Bool) → not b ≡ true → b ≡ false
-  not_true true h = cc
-  not_true false h = refl
-
   at_labels : (es : List (Entry FormAt)) → labels_differ (shown es) ≡ true → AreAtTheirLabels es
   at_labels [] h i e g = cc
   at_labels (d ∷ es) h zero e g =
       let same : d ≡ e = cc in ap (λ b. if b then 0 else suc (label_place e.label es)) (eq-eqb d.label e.label (ap (λ (x : Entry FormAt). x.label) same))
   at_labels (d ∷ es) h (suc i) e g =
       let any = list_any (λ x. nat_eq d.label x.label) (shown es) in
-      let others = others_differ d.label es (not_true any (and_left (not any) (labels_differ (shown es)) h)) in
+      let others = others_differ d.label es (false_from_not any (and_left (not any) (labels_differ (shown es)) h)) in
       let inside = slice_get_within es i e g in
       let read : Some (slice_index_or es i e) ≡ Some e = sym (slice_get-get_or es i e inside) ∙ g in
       let same : slice_index_or es i e ≡ e = cc in

@@ -1,6 +1,7 @@
 -- What a machine shows after a leaf was taken, part by part.
 use Rattle.std.proofs.Common.{◌≡◌, ℕ, zero, suc, ◌+◌, ◌<◌, ◌≤◌, List, [], ◌∷◌, ◌++◌, length, map, All, refl, ap, sym, subst, ◌∙◌, arith, inl, inr, Option, Some, Bool, true, false}
 use Rattle.std.specs.Prelude.{if◌then◌else◌, nat_eq, option_map, ◌||◌, not}
+use Rattle.std.proofs.Math.Bool.{or-true}
 use Rattle.std.proofs.lemmas.Bool.{cases_lt}
 use Rattle.std.proofs.lemmas.List.Elements.{All-head, All-tail, All-cons}
 use Rattle.std.specs.List.{list_all}
@@ -11,7 +12,7 @@ use Rattle.ll_bank.specs.declared.FormAt.{FormAt}
 use Rattle.ll_bank.specs.Term.{Term, Var, sub}
 use Rattle.ll_bank.specs.Form.{Form, sub_form}
 use Rattle.ll_bank.specs.Nodes.{Nodes, HasForm, AllInTerms, Extends, term_trees, form_tree}
-use Rattle.ll_bank.proofs.CallerLemmas.{Extends-trans}
+use Rattle.ll_bank.proofs.CallerLemmas.{Extends-trans, sub-term_trees}
 use Rattle.ll_laws.specs.Leaf.{Premise, Needs, NeedsFree, premise_goal}
 use Rattle.ll_laws.specs.Settle.{Saved, Entry, map_entry, unlive}
 use Rattle.ll_laws.specs.State.{sub_item, sub_entry}
@@ -23,7 +24,7 @@ use Rattle.ll_freeze.specs.declared.machine.Item.TheVariants.{Goal}
 use Rattle.ll_freeze.specs.Reading.{reading, read_term, read_form, HasValue}
 use Rattle.ll_freeze.specs.Shown.{shown_item, shown_entry}
 use Rattle.ll_freeze.specs.Fits.{HasItem, IsGoalIn}
-use Rattle.ll_engine.proofs.ReadLemmas.{reading_same, map_trees}
+use Rattle.ll_engine.proofs.ReadLemmas.{reading_same}
 use Rattle.ll_engine.proofs.ReadLemmas.{reading_past}
 use Rattle.ll_freeze.proofs.CallerLemmas.{form_same}
 use Rattle.ll_engine.proofs.LaterLemmas.{form_later, terms_later, entries_later}
@@ -97,11 +98,7 @@ picked_dead (d ∷ es) label e q dead = go (nat_eq d.label label) (λ w. picked_
 
 -- an entry that is live may be picked
 pub can_pick : (es : List (Entry FormAt)) (label : ℕ) (e : Entry FormAt) → entry_at es label ≡ Some e → e.live ≡ true → option_map is_open (entry_at es label) ≡ Some true
-can_pick es label e q alive = ap (option_map is_open) q ∙ ap (λ b. Some b) (ap (λ b. not (is_linear e.kind) || b) alive ∙ go (not (is_linear e.kind)))
-  where
-    go : (b : Bool) → (b || true) ≡ true
-    go true = refl
-    go false = refl
+can_pick es label e q alive = ap (option_map is_open) q ∙ ap (λ b. Some b) (ap (λ b. not (is_linear e.kind) || b) alive ∙ or-true (not (is_linear e.kind)))
 
 -- ---- what is read later
 
@@ -141,14 +138,14 @@ module _ (first mid new : Nodes) (bound after : List (Option At)) (v : ℕ → T
       → map (sub v) (map (read_term first bound) ats ++ vars_from n count) ≡ map (read_term new after) more
   terms_taken ats more n count small old_vars inside new_vars =
       let r = reading first bound in
-      let olds : map (sub r) (vars_from 0 n) ≡ map (read_term first bound) ats = ap (map (sub r)) (sym old_vars) ∙ map_trees r first ats in
+      let olds : map (sub r) (vars_from 0 n) ≡ map (read_term first bound) ats = ap (map (sub r)) (sym old_vars) ∙ sub-term_trees r first ats in
       let news : map (sub r) (vars_from n count) ≡ vars_from n count = vars_fixed r n count (λ x l. reading_past first bound x (omega arith)) in
       let split : map (sub r) (vars_from 0 (n + count)) ≡ map (read_term first bound) ats ++ vars_from n count =
       ap (map (sub r)) (vars_split 0 n count ∙ ap (λ b. vars_from 0 n ++ vars_from b count) (let e : 0 + n ≡ n = omega arith in e))
       ∙ (map-append (sub r) (vars_from 0 n) (vars_from n count) ∙ (λ i. olds i ++ news i))
       in
       let all : map (read_term mid bound) more ≡ map (sub r) (vars_from 0 (n + count)) =
-      sym (map_trees (reading mid bound) mid more) ∙ (map_same (sub (reading mid bound)) (sub r) (sub_same (reading mid bound) r (reading_same first mid e1 bound has)) (term_trees mid more) ∙ ap (map (sub r)) new_vars)
+      sym (sub-term_trees (reading mid bound) mid more) ∙ (map_same (sub (reading mid bound)) (sub r) (sub_same (reading mid bound) r (reading_same first mid e1 bound has)) (term_trees mid more) ∙ ap (map (sub r)) new_vars)
       in
       sym (terms_later mid new bound after v e2 reads more inside ∙ ap (map (sub v)) (all ∙ split))
 

@@ -13,7 +13,7 @@ use Rattle.ll_bank.specs.declared.FormNode.TheVariants.{Atom as AtomView}
 use Rattle.ll_bank.specs.Term.{Term, sub, close, applies_heads, is_closed, eigens_below, occurs}
 use Rattle.ll_bank.specs.Form.{Form, Atom, sub_form}
 use Rattle.ll_bank.specs.Nodes.{Nodes, HasTerm, HasForm, AllInTerms, Extends, term_tree, term_trees, form_tree}
-use Rattle.ll_bank.proofs.CallerLemmas.{Extends-trans, HasForm-extends, HasTerm-extends, form_tree-extends, AllInTerms-extends, term_trees-extends}
+use Rattle.ll_bank.proofs.CallerLemmas.{Extends-trans, HasForm-extends, HasTerm-extends, form_tree-extends, AllInTerms-extends, term_trees-extends, sub-term_trees}
 use Rattle.ll_laws.specs.declared.Candidate.{Candidate}
 use Rattle.ll_laws.specs.declared.Step.TheVariants.{Clause as ClauseStep}
 use Rattle.ll_laws.specs.Leaf.{Leaf, premise_goal, ways, leaf}
@@ -44,9 +44,9 @@ use Rattle.ll_engine.specs.Taking.{IsUnified, Unifies}
 use Rattle.ll_bindings.specs.Bindings.{Table, IsTable, IsOrdered, IsPlaceOf, HasCells}
 use Rattle.ll_bindings.specs.Scanned.{is_bad}
 use Rattle.ll_bindings.specs.Fresh.{StandsNowhere}
-use Rattle.ll_bindings.proofs.CallerLemmas.{table-extends, place-below, clear-of, clear-var}
-use Rattle.ll_engine.proofs.ReadLemmas.{map_trees, reading_same, reading_past, read_same, length_variables, fits_table, with_cells, same_table, table_more, table_values, reads_more}
-use Rattle.ll_engine.proofs.CellLemmas.{cells_below, all_drop}
+use Rattle.ll_bindings.proofs.CallerLemmas.{table-extends, cells-below, place-below, clear-of, clear-var}
+use Rattle.ll_engine.proofs.ReadLemmas.{reading_same, reading_past, read_same, length_variables, fits_table, with_cells, same_table, table_more, table_values, reads_more}
+use Rattle.ll_engine.proofs.CellLemmas.{all_drop}
 use Rattle.ll_engine.proofs.MachineLemmas.{agenda_shown, goal_in_front}
 use Rattle.ll_engine.proofs.LaterLemmas.{items_later}
 use Rattle.ll_engine.proofs.StepLemmas.{atom_step, leaf_read, way_read}
@@ -136,7 +136,7 @@ module _ (m : Parts) (f : Fits m) where
   made : (x : ℕ) → x < length m.levels → is_made (length m.levels) m.eigens (reading m.bank m.bound x) ≡ true
   made x l =
       made_at (length m.levels) m.eigens (reading m.bank m.bound) 0 (length m.levels) x
-      (ap (list_all (is_made (length m.levels) m.eigens)) (ap (map (sub (reading m.bank m.bound))) (sym f.variables) ∙ map_trees (reading m.bank m.bound) m.bank m.terms) ∙ terms_made m f) (omega arith) (omega arith)
+      (ap (list_all (is_made (length m.levels) m.eigens)) (ap (map (sub (reading m.bank m.bound))) (sym f.variables) ∙ sub-term_trees (reading m.bank m.bound) m.bank m.terms) ∙ terms_made m f) (omega arith) (omega arith)
 
   goes : Goes (allowed m) (reading m.bank m.bound)
   goes x l = fit_of_made (allowed m) (reading m.bank m.bound x) (made x (ltb-true x (length m.levels) l))
@@ -476,7 +476,7 @@ module _ (m : Parts) (f : Fits m) where
           head_inside = o.inside;
           values_inside = all_drop (λ (a : At). HasTerm mid a.0) (length m.terms) terms o.terms_inside;
           heads = o.heads;
-          vars = cells_below mid start shut start_table ((λ i. vars_below (sized i) (term_is shut i)) ∙ head_below);
+          vars = cells-below mid start shut start_table ((λ i. vars_below (sized i) (term_is shut i)) ∙ head_below);
           apart = atom_apart;
         }
 

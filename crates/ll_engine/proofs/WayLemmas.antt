@@ -8,14 +8,14 @@ use Rattle.std.proofs.lemmas.List.Elements.{All-cons, All-push}
 use Rattle.ll_lists.proofs.CallerLemmas.{length-map_suc as length-suc, slice_get-append_left as get_left, slice_get-append_right as get_right, slice_get-map_suc as get_suc, lt_false as not_below, and_true_left as and_left, and_true_right as and_right}
 use Rattle.ll_bank.specs.declared.At.{At}
 use Rattle.ll_bank.specs.declared.FormAt.{FormAt}
-use Rattle.ll_bank.specs.Term.{Term, Var, Int, Con, Ap, Env, close, applies_heads, is_spine, head_of}
+use Rattle.ll_bank.specs.Term.{Term, Var, Env, close, applies_heads, is_spine, head_of}
 use Rattle.ll_bank.specs.Form.{Form, Top, One, Atom, With, Tensor, Plus, Bang, Lolli, Imp, Forall, Exists, Use, Num, close_form, form_applies_heads}
 use Rattle.ll_bank.specs.Nodes.{Nodes, HasTerm, HasForm, AllInTerms, Extends, term_tree, term_trees, form_tree}
-use Rattle.ll_bank.proofs.CallerLemmas.{HasForm-extends, form_tree-extends, AllInTerms-extends, term_trees-extends, Extends-refl, Extends-trans}
+use Rattle.ll_bank.proofs.CallerLemmas.{HasForm-extends, form_tree-extends, AllInTerms-extends, term_trees-extends, Extends-refl, Extends-trans, length-term_trees}
 use Rattle.ll_laws.specs.Leaf.{Leaf, Premise, add_premise, premise_goal, ways, leaf, leaf_from}
 use Rattle.ll_laws.specs.Attempt.{vars_from}
 use Rattle.ll_laws.specs.Valid.{Allowed, Side, GoalSide, ClauseSide, Scope, has_heads, is_headed, may_head}
-use Rattle.ll_laws.proofs.CallerLemmas.{Grows, Closes, Widens, Fits as FormFits, fits_of_formula, formula_of_fits, fits-more, fits-close, length-vars}
+use Rattle.ll_laws.proofs.CallerLemmas.{Grows, Closes, Widens, Fits as FormFits, fits_of_formula, formula_of_fits, fits-more, fits-close, length-vars, headed_applies, all_headed}
 use Rattle.ll_agenda.specs.declared.agenda.Top.{Top as AgendaTop}
 use Rattle.ll_agenda.specs.Frames.{Frames, ShowsItems, items_at}
 use Rattle.ll_freeze.specs.declared.machine.Item.{Item}
@@ -55,23 +55,6 @@ pub record IsOnWay (first : Nodes) (items : List Item) (before clause k : ℕ) (
       → leaf (form_tree first clause) k (vars_from before (count + n)) ≡ Some (record { premises = l.premises ++ premises; head = l.head })
 
 -- nothing but a head has arguments in a clause
-headed_applies : (scope : Scope) (t : Term) → is_headed scope t ≡ true → applies_heads t ≡ true
-headed_applies scope (Var x) h = refl
-headed_applies scope (Int z) h = refl
-headed_applies scope (Con c) h = refl
-headed_applies scope (Ap f a) h =
-    let p = and_left (is_spine f && may_head scope (head_of f) && is_headed scope f) (is_headed scope a) h in
-    let q = and_right (is_spine f && may_head scope (head_of f) && is_headed scope f) (is_headed scope a) h in
-    let r = and_left (is_spine f && may_head scope (head_of f)) (is_headed scope f) p in
-    let s = and_right (is_spine f && may_head scope (head_of f)) (is_headed scope f) p in
-    and_intro (is_spine f && applies_heads f) (applies_heads a) (and_intro (is_spine f) (applies_heads f) (and_left (is_spine f) (may_head scope (head_of f)) r) (headed_applies scope f s)) (headed_applies scope a q)
-
-all_headed : (scope : Scope) (ts : List Term) → list_all (is_headed scope) ts ≡ true → list_all applies_heads ts ≡ true
-all_headed scope [] h = refl
-all_headed scope (t ∷ ts) h =
-    and_intro (applies_heads t) (list_all applies_heads ts) (headed_applies scope t (and_left (is_headed scope t) (list_all (is_headed scope) ts) h))
-    (all_headed scope ts (and_right (is_headed scope t) (list_all (is_headed scope) ts) h))
-
 heads_apply : (opens : Bool) (side : Side) (scope : Scope) (f : Form) → has_heads opens side scope f ≡ true → form_applies_heads f ≡ true
 heads_apply o side scope Top h = refl
 heads_apply o side scope One h = refl
@@ -320,11 +303,7 @@ module _ (first : Nodes) (items : List Item) (before clause k : ℕ) where
         }
 
     pub count_terms : length terms ≡ before + w.count
-    count_terms = sym (length_trees terms) ∙ (ap (λ (ts : List Term). length ts) w.variables ∙ length-vars 0 (before + w.count))
-      where
-        length_trees : (ats : List At) → length (term_trees bank ats) ≡ length ats
-        length_trees [] = refl
-        length_trees (a ∷ ats) = ap suc (length_trees ats)
+    count_terms = sym (length-term_trees bank terms) ∙ (ap (λ (ts : List Term). length ts) w.variables ∙ length-vars 0 (before + w.count))
 
     -- into a quantifier, with a new variable
     pub way_in : (body : FormAt) (v : At) (new : Nodes) (more : List At) → form_tree bank form.0 ≡ Forall (form_tree bank body.0) → body.0 < form.0 → Extends bank new → HasTerm new v.0

@@ -1,11 +1,10 @@
 -- The candidates for an atom, by the predicates of the heads of clauses.
-use Rattle.std.specs.Prelude.{◌≡◌, ℕ, suc, ◌+◌, sum_by, length, Bool, ◌&&◌, nat_eq, List, [], ◌∷◌, ◌++◌, Option, Some, None, if◌then◌else◌}
+use Rattle.std.specs.Prelude.{◌≡◌, ℕ, suc, ◌+◌, sum_by, Bool, ◌&&◌, nat_eq, List, [], ◌∷◌, ◌++◌, Option, Some, None, if◌then◌else◌}
 use Rattle.ll_bank.specs.declared.FormAt.{FormAt}
 use Rattle.ll_bank.specs.Term.{Term, head_of, arity, same_head}
 use Rattle.ll_bank.specs.Form.{Form, Top, One, Atom, With, Tensor, Plus, Bang, Lolli, Imp, Forall, Exists, Use, Num}
 use Rattle.ll_bank.specs.Nodes.{Nodes, form_tree}
 use Rattle.ll_laws.specs.declared.Candidate.{Candidate}
-use Rattle.ll_laws.specs.Leaf.{ways}
 use Rattle.ll_laws.specs.Settle.{Entry, map_entry}
 use Rattle.ll_laws.specs.Attempt.{is_open}
 use Rattle.ll_engine.specs.declared.heads.Predicate.{Predicate}
@@ -64,7 +63,3 @@ walk_size _ = 1
 -- and of clauses that wait
 abbrev pub waiting_size : Nodes → List FormAt → ℕ
 waiting_size bank fs = sum_by (λ f. walk_size (form_tree bank f.0)) fs
-
--- how many leaves clauses that wait have
-abbrev pub waiting_ways : Nodes → List FormAt → ℕ
-waiting_ways bank fs = sum_by (λ f. length (ways (form_tree bank f.0))) fs

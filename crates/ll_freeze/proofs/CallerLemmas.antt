@@ -3,13 +3,12 @@ use Rattle.std.proofs.Common.{◌≡◌, ℕ, zero, suc, ◌+◌, ◌≤◌, ◌
 use Rattle.std.proofs.lemmas.List.{append-nil}
 use Rattle.std.specs.Prelude.{Option}
 use Rattle.ll_bank.specs.declared.At.{At}
-use Rattle.ll_bank.specs.declared.BankSize.{BankSize}
 use Rattle.ll_bank.specs.declared.FormAt.{FormAt}
 use Rattle.ll_bank.specs.Term.{Term, Var, sub}
 use Rattle.ll_bank.specs.Form.{Form, Top, One, Atom, With, Tensor, Plus, Bang, Lolli, Imp, Forall, Exists, Use, Num, sub_form}
-use Rattle.ll_bank.specs.Nodes.{Nodes, HasForm, term_tree, term_trees, form_tree, size_of, IsCutTo, Extends}
+use Rattle.ll_bank.specs.Nodes.{Nodes, HasForm, term_tree, term_trees, form_tree, Extends}
 use Rattle.std.proofs.lemmas.List.Elements.{All-head, All-tail, All-weaker}
-use Rattle.ll_lists.proofs.CallerLemmas.{same_front, map_same}
+use Rattle.ll_lists.proofs.CallerLemmas.{map_same}
 use Rattle.ll_bank.proofs.CallerLemmas.{HasForm-extends, form_tree-extends}
 use Rattle.ll_laws.specs.declared.Clause.{Clause}
 use Rattle.ll_laws.specs.declared.Module.{Module}
@@ -116,15 +115,6 @@ fits_kept m n s f h y x c d t i g l e =
       labels = l;
       eigens = e;
     }
-
--- a bank cut to its own size is itself
-pub cut_same : (old new : Nodes) (size : BankSize) → size ≡ size_of old → IsCutTo size old new → new ≡ old
-cut_same old new size e c =
-    let p : size_of new ≡ size_of old = c.places ∙ e in
-    let a = same_front old.terms new.terms c.trees.more_terms c.trees.terms (ap (λ s. s.terms) p) in
-    let b = same_front old.forms new.forms c.trees.more_forms c.trees.forms (ap (λ s. s.forms) p) in
-    let make : List _ → List _ → Nodes = λ xs ys. record { terms = xs; forms = ys } in
-    ap (λ xs. make xs new.forms) a ∙ ap (λ ys. make old.terms ys) b
 
 -- more was kept
 pub more_kept : (bank : Nodes) (n k : ℕ) (i : Item) → n ≤ k → HasItem bank n i → HasItem bank k i

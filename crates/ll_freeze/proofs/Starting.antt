@@ -5,7 +5,7 @@ use Rattle.std.proofs.lemmas.List.Elements.{All-nil, All-cons, All-head, All-tai
 use Rattle.std.specs.Prelude.{Option, Some, None}
 use Rattle.ll_bank.specs.declared.At.{At}
 use Rattle.ll_bank.specs.declared.FormAt.{FormAt}
-use Rattle.ll_bank.specs.Term.{Term, Var, sub}
+use Rattle.ll_bank.specs.Term.{Var, sub}
 use Rattle.ll_bank.specs.Form.{Form, Top, One, Atom, With, Tensor, Plus, Bang, Lolli, Imp, Forall, Exists, Use, Num, sub_form}
 use Rattle.ll_bank.specs.Nodes.{Nodes, HasTerm, HasForm, AllInTerms, Extends, ShowsTerm, term_tree, term_trees, form_tree}
 use Rattle.ll_bank.proofs.CallerLemmas.{HasForm-extends, form_tree-extends, AllInTerms-extends, term_trees-extends}
@@ -21,12 +21,13 @@ use Rattle.ll_laws.specs.declared.Module.{Module}
 use Rattle.ll_laws.specs.Attempt.{is_linear, vars_from}
 use Rattle.ll_laws.specs.Valid.{IsValid, IsFormula, AreClauses, Allowed, GoalSide, ClauseSide, given}
 use Rattle.ll_laws.specs.Consistent.{IsConsistent}
-use Rattle.ll_laws.proofs.CallerLemmas.{sub_id, Grows, formula-more, starts_consistent, grows_given}
+use Rattle.ll_laws.proofs.CallerLemmas.{sub_id, subs_id, Grows, formula-more, starts_consistent, grows_given}
 use Rattle.ll_resources.specs.Resources.{Resources, started, entries_from}
 use Rattle.ll_agenda.specs.Frames.{ShowsItems}
 use Rattle.ll_freeze.specs.Parts.{Parts, table}
 use Rattle.ll_freeze.specs.declared.machine.Item.TheVariants.{Goal}
-use Rattle.ll_bindings.specs.Bindings.{Table, shown, followed, IsOrdered}
+use Rattle.ll_bindings.specs.Bindings.{Table, IsOrdered}
+use Rattle.ll_bindings.proofs.CallerLemmas.{followed-free}
 use Rattle.ll_store.specs.declared.cells.Cell.{Cell}
 use Rattle.ll_freeze.specs.Reading.{reading, read_term, read_form, HasValue}
 use Rattle.ll_freeze.specs.Shown.{shown_item, shown_entry, items_of, state_of}
@@ -66,11 +67,6 @@ look_none zero (suc x) = refl
 look_none (suc n) zero = refl
 look_none (suc n) (suc x) = look_none n x
 
--- an unbound variable stands for itself
-followed_none : (bank : Nodes) (bound : List (Option At)) (k x : ℕ) → slice_index_or bound x None ≡ None → followed bank bound k x ≡ Var x
-followed_none bank bound zero x e = refl
-followed_none bank bound (suc k) x e = ap (λ o. sub (followed bank bound k) (shown bank x o)) e ∙ followed_none bank bound k x e
-
 form_id : (f : Form) → sub_form Var f ≡ f
 form_id Top = refl
 form_id One = refl
@@ -84,11 +80,7 @@ form_id (Imp f g) = λ i. Imp (form_id f i) (form_id g i)
 form_id (Forall f) = ap Forall (form_id f)
 form_id (Exists f) = ap Exists (form_id f)
 form_id (Num r t u) = λ i. Num r (sub_id t i) (sub_id u i)
-form_id (Use m ts f) = λ i. Use m (terms_id ts i) (form_id f i)
-  where
-    terms_id : (us : List Term) → map (sub Var) us ≡ us
-    terms_id [] = refl
-    terms_id (u ∷ us) = λ i. sub_id u i ∷ terms_id us i
+form_id (Use m ts f) = λ i. Use m (subs_id ts i) (form_id f i)
 
 module _ (bank : Nodes) (bound : List (Option At)) (reads : (x : ℕ) → reading bank bound x ≡ Var x) where
   form_as_is : (at : FormAt) → read_form bank bound at ≡ form_tree bank at.0
@@ -151,7 +143,7 @@ pub starts : (p : ProblemTree) (m : Parts) (goal : FormAt) (cs : List Clause) (n
 starts p m goal cs n v ep eg hg ec hc en eb el ex it left eigens inside vars es hm em =
     let bank = m.bank in let bound = m.bound in let xs : List (Kind × FormAt) = pairs cs in
     let r : m.resources ≡ started xs = ex in
-    let reads : (x : ℕ) → reading bank bound x ≡ Var x = λ x. ap (λ bs. reading bank bs x) eb ∙ followed_none bank (nones n) (length (nones n)) x (look_none n x) in
+    let reads : (x : ℕ) → reading bank bound x ≡ Var x = λ x. ap (λ bs. reading bank bs x) eb ∙ followed-free bank (nones n) (length (nones n)) x (look_none n x) in
     let count : length m.levels ≡ n = ap (λ (ls : List ℕ). length ls) el ∙ length-replicate n 0 in
     let many : length xs ≡ length p.clauses =
     length-map cs pair_of ∙ (sym (length-map cs (clause_tree bank)) ∙ ap (λ (ks : List ClauseTree). length ks) ec) in

@@ -3,10 +3,10 @@ use Rattle.std.specs.Prelude.{All}
 use Rattle.ll_bank.specs.declared.At.{At}
 use Rattle.ll_bank.specs.Term.{sub}
 use Rattle.ll_bank.specs.Nodes.{Nodes, AllInTerms, HasSize, term_trees, no_nodes, front, size_of}
-use Rattle.ll_bank.proofs.CallerLemmas.{HasSize-front}
+use Rattle.ll_bank.proofs.CallerLemmas.{HasSize-front, cut_same}
 use Rattle.ll_bindings.specs.Bindings.{IsPlaceOf}
 use Rattle.ll_freeze.specs.Parts.{parts_of, table}
-use Rattle.ll_freeze.proofs.CallerLemmas.{cut_same, trees_read}
+use Rattle.ll_freeze.proofs.CallerLemmas.{trees_read}
 use Rattle.ll_freeze.specs.Reading.{reading}
 use Rattle.ll_engine.proofs.ReadLemmas.{fits_table}
 use Rattle.ll_engine.proofs.Showing.{branch_of, term_places}

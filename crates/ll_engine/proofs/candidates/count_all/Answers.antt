@@ -5,7 +5,7 @@ use Rattle.ll_bank.specs.declared.FormAt.{FormAt}
 use Rattle.ll_bank.specs.Form.{Form}
 use Rattle.ll_bank.specs.Nodes.{form_tree}
 use Rattle.ll_laws.specs.Leaf.{ways}
-use Rattle.ll_engine.proofs.OpeningLemmas.{count_in, count_both, ways_quantified}
+use Rattle.ll_laws.proofs.CallerLemmas.{count_in, count_both, ways_quantified}
 use Rattle.ll_engine.proofs.candidates.count_all.Goals as goal
 
 pub loop-form-preserved-in-Continue-branch-5 : goal.loop-form-preserved-in-Continue-branch-5

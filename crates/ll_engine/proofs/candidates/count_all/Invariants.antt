@@ -1,7 +1,8 @@
 use Rattle.std.proofs.Common.{◌≡◌, ◌<◌, ◌+◌, All, length}
 use Rattle.ll_bank.specs.Nodes.{form_tree}
 use Rattle.ll_laws.specs.Leaf.{ways}
-use Rattle.ll_engine.specs.Leaves.{waiting_size, waiting_ways}
+use Rattle.ll_laws.proofs.CallerLemmas.{waiting_ways}
+use Rattle.ll_engine.specs.Leaves.{waiting_size}
 use Rattle.ll_engine.proofs.candidates.count_all.Given as goal
 
 abbrev pub invariant-loop-form : goal.invariant-loop-form

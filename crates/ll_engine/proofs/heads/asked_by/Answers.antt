@@ -1,5 +1,5 @@
 use Rattle.ll_bank.specs.Nodes.{term_tree}
-use Rattle.ll_engine.proofs.SignLemmas.{spine_of_head}
+use Rattle.ll_bank.proofs.CallerLemmas.{spine_of_head}
 use Rattle.ll_engine.proofs.heads.asked_by.Goals as goal
 
 pub first_under-requires-clause-spine : goal.first_under-requires-clause-spine

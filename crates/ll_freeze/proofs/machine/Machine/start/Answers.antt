@@ -9,7 +9,7 @@ use Rattle.ll_resources.specs.Resources.{started}
 use Rattle.ll_freeze.specs.declared.machine.Machine.{Machine}
 use Rattle.ll_freeze.specs.declared.machine.Item.TheVariants.{Goal}
 use Rattle.ll_freeze.specs.Parts.{parts_of}
-use Rattle.ll_freeze.proofs.CallerLemmas.{cut_same}
+use Rattle.ll_bank.proofs.CallerLemmas.{cut_same}
 use Rattle.ll_freeze.proofs.Starting.{starts_in, cells_bound, cells_levels}
 use Rattle.ll_freeze.proofs.machine.Machine.start.Goals as goal
 

@@ -1,9 +1,10 @@
--- Heads with arguments: when they are closed, what a substitution makes of them, and when two are one.
-use Rattle.std.proofs.Common.{◌≡◌, ℕ, ◌+◌, refl, ap, sym, ◌∙◌, Bool, true, false, ◌&&◌, List, [], ◌∷◌, map, length, arith}
+-- Heads with arguments: when they are closed, and when two are one.
+use Rattle.std.proofs.Common.{◌≡◌, refl, ap, sym, ◌∙◌, Bool, true, false, ◌&&◌, List, [], ◌∷◌, length, arith}
 use Rattle.std.specs.Prelude.{Some}
 use Rattle.std.specs.List.{list_all}
 use Rattle.ll_bank.specs.declared.Head.{Head}
-use Rattle.ll_bank.specs.Term.{Term, Con, Ap, apply, app, sub, head_of, arity, is_spine, is_closed, not_bound}
+use Rattle.ll_bank.specs.Term.{Term, Con, Ap, apply, app, head_of, arity, is_spine, is_closed, not_bound}
+use Rattle.ll_bank.proofs.CallerLemmas.{head_of-app, arity-app}
 
 -- ---- when they are closed
 
@@ -29,15 +30,6 @@ closed-apply f (t ∷ ts) s = closed-apply (Ap f t) ts s ∙ step (is_spine f) s
 pub closed-app : (h : Head) (ts : List Term) → is_closed (app h ts) ≡ (not_bound h && list_all is_closed ts)
 closed-app h ts = closed-apply (Con h) ts refl
 
--- ---- what a substitution makes of them
-
-sub-apply : (g : ℕ → Term) (f : Term) (ts : List Term) → sub g (apply f ts) ≡ apply (sub g f) (map (sub g) ts)
-sub-apply g f [] = refl
-sub-apply g f (t ∷ ts) = sub-apply g (Ap f t) ts
-
-pub sub-app : (g : ℕ → Term) (h : Head) (ts : List Term) → sub g (app h ts) ≡ app h (map (sub g) ts)
-sub-app g h ts = sub-apply g (Con h) ts
-
 -- ---- when two are one
 
 record Applied (f k : Term) (ts us : List Term) : Type 0 where
@@ -53,19 +45,8 @@ apply-inj f k (t ∷ ts) [] n h = absurd (omega arith)
 pub app-args : (h k : Head) (ts us : List Term) → length ts ≡ length us → app h ts ≡ app k us → ts ≡ us
 app-args h k ts us n e = (apply-inj (Con h) (Con k) ts us n e).args
 
-arity-apply : (f : Term) (ts : List Term) → arity (apply f ts) ≡ arity f + length ts
-arity-apply f [] = omega arith
-arity-apply f (t ∷ ts) = arity-apply (Ap f t) ts ∙ (omega arith)
-
-head-apply : (f : Term) (ts : List Term) → head_of (apply f ts) ≡ head_of f
-head-apply f [] = refl
-head-apply f (t ∷ ts) = head-apply (Ap f t) ts
-
-pub head-app : (h : Head) (ts : List Term) → head_of (app h ts) ≡ Some h
-head-app h ts = head-apply (Con h) ts
-
 pub app-head : (h k : Head) (ts us : List Term) → app h ts ≡ app k us → h ≡ k
-app-head h k ts us e = let q : Some h ≡ Some k = sym (head-app h ts) ∙ (ap head_of e ∙ head-app k us) in cc
+app-head h k ts us e = let q : Some h ≡ Some k = sym (head_of-app h ts) ∙ (ap head_of e ∙ head_of-app k us) in cc
 
 pub app-count : (h k : Head) (ts us : List Term) → app h ts ≡ app k us → length ts ≡ length us
-app-count h k ts us e = let a = arity-apply (Con h) ts in let b = arity-apply (Con k) us in let c = ap arity e in omega arith
+app-count h k ts us e = let a = arity-app h ts in let b = arity-app k us in let c = ap arity e in omega arith

@@ -1,11 +1,11 @@
 -- A walk over a term that finds out whether it is closed, step by step.
-use Rattle.std.proofs.Common.{◌≡◌, ◌≢◌, ℕ, ◌<◌, Bool, true, false, eqb, ◌||◌, ◌&&◌, List, [], ◌∷◌, length, All, refl, ap, sym, subst, ◌∙◌, inl, inr, arith, true≢false}
+use Rattle.std.proofs.Common.{◌≡◌, ◌≢◌, ℕ, ◌<◌, Bool, true, false, eqb, ◌||◌, ◌&&◌, List, [], ◌∷◌, length, refl, ap, sym, subst, ◌∙◌, inl, inr, arith, true≢false}
 use Rattle.std.specs.List.{list_any, list_all}
 use Rattle.std.proofs.lemmas.Bool.{or_left, or_right, or_cases, eqb-true, eq-eqb, cases_eq, and_parts}
-use Rattle.std.proofs.lemmas.List.Elements.{All-head, All-tail, All-cons}
 use Rattle.ll_bank.specs.declared.At.{At}
 use Rattle.ll_bank.specs.Term.{is_closed}
 use Rattle.ll_bank.specs.Nodes.{Nodes, term_tree, term_trees, places}
+use Rattle.ll_bank.proofs.CallerLemmas.{place_below}
 use Rattle.ll_cover.specs.Closing.{ArePartsOf, IsClosedBy}
 
 -- ---- places among others
@@ -26,17 +26,6 @@ closed-each bank (a ∷ as') h =
     let q = closed-each bank as' (λ k e. h k (or_right (eqb k a.0) (list_any (eqb k) (places as')) e)) in
     ap (λ b. b && list_all is_closed (term_trees bank as')) p ∙ q
 
-below-each : (args : List At) (k n : ℕ) → All (λ a. a.0 < n) args → list_any (eqb k) (places args) ≡ true → k < n
-below-each [] k n h e = absurd (true≢false (sym e))
-below-each (a ∷ as') k n h e = elim (or_cases (eqb k a.0) (list_any (eqb k) (places as')) e) [
-  | inl q ↦ let x = eqb-true k a.0 q in let y = All-head (λ (b : At). b.0 < n) a as' h in omega arith
-  | inr q ↦ below-each as' k n (All-tail (λ (b : At). b.0 < n) a as' h) q
-]
-
-pub lower-places : (args : List At) (n : ℕ) → All (λ a. a.0 < n) args → All (λ a. a < n) (places args)
-lower-places [] n h = λ k d l. absurd (omega arith)
-lower-places (a ∷ as') n h = All-cons (λ b. b < n) a.0 (places as') (All-head (λ (b : At). b.0 < n) a as' h) (lower-places as' n (All-tail (λ (b : At). b.0 < n) a as' h))
-
 -- ---- the walk
 
 -- it begins with the term itself
@@ -55,7 +44,7 @@ module _ (bank : Nodes) (at : ℕ) (waits popped next : ℕ → Bool) (p : ℕ) 
   closing-on = record {
     inside = λ k h. elim (or_cases (popped k) (list_any (eqb k) (places args)) (sym (ins k) ∙ h)) [
       | inl q ↦ w.inside k (less k q)
-      | inr q ↦ let a = below-each args k p parts.lower q in let b = w.inside p member in omega arith
+      | inr q ↦ let a = place_below args k p parts.lower q in let b = w.inside p member in omega arith
     ];
     enough = λ all. w.enough (λ k h. elim (cases_eq k p) [
       | inl e ↦ subst (λ n. is_closed (term_tree bank n) ≡ true) (sym e)

@@ -15,6 +15,7 @@ use Rattle.ll_laws.specs.Line.{DerivationLines}
 use Rattle.ll_laws.specs.Dealt.{asked_terms}
 use Rattle.ll_laws.specs.Instance.{IsInstance}
 use Rattle.ll_laws.specs.Completeness.{answers_in, NamesCover}
+use Rattle.ll_laws.proofs.CallerLemmas.{cut_count-suc}
 use Rattle.ll_engine.specs.Seen.{Owing}
 use Rattle.ll_engine.specs.Steps.{Steps, fresh}
 use Rattle.ll_engine.specs.declared.engine.Step2.TheVariants.{Event as Found, Done, Moved}
@@ -40,9 +41,6 @@ at_place : (P : Answered → Type 0) (as' : List Answered) (k : ℕ) (a : Answer
 at_place P [] k a h e = let q : None ≡ Some a = e in cc
 at_place P (b ∷ as') zero a h e = let q : b ≡ a = cc in subst P q (All-head P b as' h)
 at_place P (b ∷ as') (suc k) a h e = at_place P as' k a (All-tail P b as' h) e
-
-cut_more : (n : ℕ) → cut_count (suc (cut_count n)) ≡ cut_count (suc n)
-cut_more n = omega arith
 
 -- ---- the way of the search
 
@@ -81,7 +79,7 @@ module _ (p : ProblemTree) (d : DerivationLines) where
       record {
         passed = w.passed ++ Answer a ∷ [];
         events = append_assoc w.passed (Answer a ∷ []) new.events ∙ (ap (λ fs. w.passed ++ fs) (sym s.events) ∙ w.events);
-        counted = ap (λ n. cut_count (suc n)) w.counted ∙ (cut_more (length (answers_in w.passed)) ∙ ap cut_count (sym count));
+        counted = ap (λ n. cut_count (suc n)) w.counted ∙ (cut_count-suc (length (answers_in w.passed)) ∙ ap cut_count (sym count));
         none = subst (All (λ b. IsCoveredBy p d b → ⊥)) (sym more) (All-push (λ b. IsCoveredBy p d b → ⊥) (answers_in w.passed) a w.none not);
       }
 
@@ -92,7 +90,7 @@ module _ (p : ProblemTree) (d : DerivationLines) where
       ap answers_in (sym w.events) ∙ (answers-append w.passed old.events ∙ ap (λ es. answers_in w.passed ++ answers_in es) s.events) in
       record {
         place = length (answers_in w.passed);
-        counted = ap (λ n. cut_count (suc n)) w.counted ∙ cut_more (length (answers_in w.passed));
+        counted = ap (λ n. cut_count (suc n)) w.counted ∙ cut_count-suc (length (answers_in w.passed));
         answer = a;
         is = ap (λ as'. slice_get as' (length (answers_in w.passed))) all ∙ at_seam (answers_in w.passed) (answers_in new.events) a;
         instance = is.instance;
@@ -105,7 +103,7 @@ module _ (p : ProblemTree) (d : DerivationLines) where
       ap answers_in (sym w.events) ∙ (answers-append w.passed old.events ∙ ap (λ es. answers_in w.passed ++ answers_in es) s.events) in
       record {
         place = length (answers_in w.passed);
-        counted = ap (λ n. cut_count (suc n)) w.counted ∙ cut_more (length (answers_in w.passed));
+        counted = ap (λ n. cut_count (suc n)) w.counted ∙ cut_count-suc (length (answers_in w.passed));
         answer = a;
         is = ap (λ as'. slice_get as' (length (answers_in w.passed))) all ∙ at_seam (answers_in w.passed) (answers_in new.events) a;
         covers = is;

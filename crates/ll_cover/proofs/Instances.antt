@@ -13,7 +13,7 @@ use Rattle.ll_bank.proofs.CallerLemmas.{ceiling, ceiling-le, last_below, is_at-n
 use Rattle.ll_laws.specs.Instance.{IsInstance}
 use Rattle.ll_cover.specs.declared.matching.Found.{Found}
 use Rattle.ll_cover.specs.Matching.{HasPlaces, AreBelow, AllBelow, Meets, Makes, Looks, IsMatching}
-use Rattle.ll_cover.proofs.Looking.{made}
+use Rattle.ll_bank.proofs.CallerLemmas.{sub-term_trees}
 
 -- ---- maps
 
@@ -88,9 +88,9 @@ module _ (bank : Nodes) (of : List At) (other : Nodes) (terms : List At) where
       → ((limit : ℕ) → AllBelow limit of → AreBelow limit (get nat_cmp waiting) → AreBelow limit (get nat_cmp found.waiting))
       → IsMatching bank (term_trees bank of) other (term_trees other terms) found
   matching_begins found waiting v w inside m p b = record {
-    right = λ g h. made g bank of ∙ m.asks (λ x. sub g (term_tree bank x)) h.waiting;
+    right = λ g h. sub-term_trees g bank of ∙ m.asks (λ x. sub g (term_tree bank x)) h.waiting;
     enough = λ g e. record {
-      waiting = m.enough (λ x. sub g (term_tree bank x)) (λ k a s. absurd (no_some (nothing_at waiting w k) s)) (sym (made g bank of) ∙ e);
+      waiting = m.enough (λ x. sub g (term_tree bank x)) (λ k a s. absurd (no_some (nothing_at waiting w k) s)) (sym (sub-term_trees g bank of) ∙ e);
       values = λ k a s. absurd (no_some (nothing_at found.values v k) s);
     };
     waiting = p;
@@ -102,7 +102,7 @@ module _ (bank : Nodes) (of : List At) (other : Nodes) (terms : List At) where
   pub begins_no : (waiting now : BTreeMap ℕ At) → waiting.entries ≡ [] → Meets other (λ want. map (λ a. want a.0) of ≡ term_trees other terms) (get nat_cmp waiting) (get nat_cmp now) false
       → IsInstance (term_trees bank of) (term_trees other terms) → ⊥
   begins_no waiting now w m i =
-      m (λ x. sub i.values (term_tree bank x)) (λ k a s. absurd (no_some (nothing_at waiting w k) s)) (sym (made i.values bank of) ∙ sym i.is)
+      m (λ x. sub i.values (term_tree bank x)) (λ k a s. absurd (no_some (nothing_at waiting w k) s)) (sym (sub-term_trees i.values bank of) ∙ sym i.is)
 
 -- it goes on with the greatest place that waits
 module _ (bank : Nodes) (of : List Term) (other : Nodes) (terms : List Term) (old new : Found) (popped : BTreeMap ℕ At) (p : ℕ) (a : At) (m : IsMatching bank of other terms old)

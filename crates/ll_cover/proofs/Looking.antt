@@ -1,5 +1,5 @@
 -- What is found at one place, by its sign and by that of its image.
-use Rattle.std.proofs.Common.{◌≡◌, ℕ, refl, ap, sym, ◌∙◌, Bool, true, false, List, [], ◌∷◌, map, length, Some, None}
+use Rattle.std.proofs.Common.{◌≡◌, ℕ, ap, sym, ◌∙◌, Bool, true, false, List, map, length, Some, None}
 use Rattle.std.specs.Prelude.{Result, Ok, Err, IfOk, OnOk, ℤ}
 use Rattle.std.specs.Ordering.{nat_cmp}
 use Rattle.std.specs.BTreeMap.{BTreeMap, get}
@@ -10,12 +10,8 @@ use Rattle.ll_bank.specs.Term.{Term, Var, Int, app, sub, head_of}
 use Rattle.ll_bank.specs.Nodes.{Nodes, term_tree, term_trees}
 use Rattle.ll_cover.specs.declared.matching.Found.{Found}
 use Rattle.ll_cover.specs.Matching.{HasPlaces, AllClosed, AreBelow, AllBelow, Meets, MeetsClosed, Looks}
-use Rattle.ll_cover.proofs.Applied.{sub-app, head-app, app-args, app-head, app-count}
-
--- what a substitution makes of the terms at places, one by one
-pub made : (g : ℕ → Term) (bank : Nodes) (args : List At) → map (sub g) (term_trees bank args) ≡ map (λ a. sub g (term_tree bank a.0)) args
-made g bank [] = refl
-made g bank (a ∷ as') = ap (λ ts. sub g (term_tree bank a.0) ∷ ts) (made g bank as')
+use Rattle.ll_bank.proofs.CallerLemmas.{head_of-app, sub-app, sub-term_trees}
+use Rattle.ll_cover.proofs.Applied.{app-args, app-head, app-count}
 
 module _ (bank : Nodes) (place : ℕ) (other : Nodes) (image : ℕ) (old : Found) where
   -- ---- a variable
@@ -39,13 +35,13 @@ module _ (bank : Nodes) (place : ℕ) (other : Nodes) (image : ℕ) (old : Found
 
   pub number_not_head : (z : ℤ) (h : Head) (ts : List Term) → term_tree bank place ≡ Int z → term_tree other image ≡ app h ts → (g : ℕ → Term) → sub g (term_tree bank place) ≡ term_tree other image → ⊥
   number_not_head z h ts tree seen g q =
-      let e : None ≡ Some h = ap (λ t. head_of (sub g t)) (sym tree) ∙ (ap head_of q ∙ (ap head_of seen ∙ head-app h ts)) in cc
+      let e : None ≡ Some h = ap (λ t. head_of (sub g t)) (sym tree) ∙ (ap head_of q ∙ (ap head_of seen ∙ head_of-app h ts)) in cc
 
   -- ---- a head with arguments
 
   pub head_not_leaf : (h : Head) (ts : List Term) → term_tree bank place ≡ app h ts → head_of (term_tree other image) ≡ None → (g : ℕ → Term) → sub g (term_tree bank place) ≡ term_tree other image → ⊥
   head_not_leaf h ts tree leaf g q =
-      let e : Some h ≡ None = sym (head-app h (map (sub g) ts)) ∙ (ap head_of (sym (sub-app g h ts)) ∙ (ap (λ t. head_of (sub g t)) (sym tree) ∙ (ap head_of q ∙ leaf))) in cc
+      let e : Some h ≡ None = sym (head_of-app h (map (sub g) ts)) ∙ (ap head_of (sym (sub-app g h ts)) ∙ (ap (λ t. head_of (sub g t)) (sym tree) ∙ (ap head_of q ∙ leaf))) in cc
 
   applied : (h k : Head) (ts us : List Term) → term_tree bank place ≡ app h ts → term_tree other image ≡ app k us → (g : ℕ → Term) → sub g (term_tree bank place) ≡ term_tree other image
       → app h (map (sub g) ts) ≡ app k us
@@ -64,10 +60,10 @@ module _ (bank : Nodes) (place : ℕ) (other : Nodes) (image : ℕ) (old : Found
       (seen : term_tree other image ≡ app k (term_trees other others)) (same : h ≡ k) (n : length args ≡ length others) where
     -- the arguments become their images where the whole becomes its image
     forth : (g : ℕ → Term) → map (λ a. sub g (term_tree bank a.0)) args ≡ term_trees other others → sub g (term_tree bank place) ≡ term_tree other image
-    forth g e = ap (sub g) tree ∙ (sub-app g h (term_trees bank args) ∙ (ap (app h) (made g bank args ∙ e) ∙ (ap (λ x. app x (term_trees other others)) same ∙ sym seen)))
+    forth g e = ap (sub g) tree ∙ (sub-app g h (term_trees bank args) ∙ (ap (app h) (sub-term_trees g bank args ∙ e) ∙ (ap (λ x. app x (term_trees other others)) same ∙ sym seen)))
 
     back : (g : ℕ → Term) → sub g (term_tree bank place) ≡ term_tree other image → map (λ a. sub g (term_tree bank a.0)) args ≡ term_trees other others
-    back g q = sym (made g bank args) ∙ app-args h k (map (sub g) (term_trees bank args)) (term_trees other others)
+    back g q = sym (sub-term_trees g bank args) ∙ app-args h k (map (sub g) (term_trees bank args)) (term_trees other others)
         (length-map (term_trees bank args) (sub g) ∙ (length-map args (λ a. term_tree bank a.0) ∙ (n ∙ sym (length-map others (λ a. term_tree other a.0)))))
         (applied h k (term_trees bank args) (term_trees other others) tree seen g q)
 

@@ -4,8 +4,8 @@ use Rattle.std.specs.Ordering.{nat_cmp}
 use Rattle.std.specs.BTreeMap.{is_at}
 use Rattle.std.specs.BTreeSet.{contains}
 use Rattle.ll_bank.specs.Nodes.{places}
-use Rattle.ll_bank.proofs.CallerLemmas.{inserted, ceiling_falls, removed_other, removed_less}
-use Rattle.ll_cover.proofs.Closes.{lower-places, closing-begins, closing-on}
+use Rattle.ll_bank.proofs.CallerLemmas.{below_places, inserted, ceiling_falls, removed_other, removed_less}
+use Rattle.ll_cover.proofs.Closes.{closing-begins, closing-on}
 use Rattle.ll_cover.proofs.closing.is_closed.Goals as goal
 
 pub loop-place-init : goal.loop-place-init
@@ -17,7 +17,7 @@ loop-place-init c =
 pub loop-place-smaller : goal.loop-place-smaller
 loop-place-smaller c =
     ceiling_falls c.loop-place.waiting.keys c.pop_last.new.self.keys c.insert_all.new.waiting.keys c.in-Some.place (places c.in-Some-parts.args.now)
-    c.in-Some.ensures.removal c.in-Some.ensures.all_below (λ at. c.in_ok-insert_all.ensures at) (lower-places c.in-Some-parts.args.now c.in-Some.place c.in-Some-parts.ensures.lower)
+    c.in-Some.ensures.removal c.in-Some.ensures.all_below (λ at. c.in_ok-insert_all.ensures at) (below_places c.in-Some.place c.in-Some-parts.args.now c.in-Some-parts.ensures.lower)
 
 pub loop-place-preserved : goal.loop-place-preserved
 loop-place-preserved c =

@@ -4,7 +4,8 @@ use Rattle.std.proofs.lemmas.List.{take_all}
 use Rattle.ll_lexer.specs.declared.TokenKind.{TokenKind}
 use Rattle.ll_lexer.specs.declared.TokenKind.TheVariants as kind
 use Rattle.ll_lexer.specs.Spelling.{kind_of, fixed_spellings, is_lower, is_upper, is_digit, is_word_byte, Spells, IsLongest}
-use Rattle.ll_lexer.specs.Reading.{is_blank, place_at, token_at, long_name, long_variable, IsSound, at_end, gap, token, blank}
+use Rattle.ll_lexer.specs.Reading.{is_blank, place_at, token_at, at_end, gap, token, blank}
+use Rattle.ll_lexer.proofs.CallerLemmas.{sound-name, sound-variable}
 use Rattle.ll_parser.specs.Grammar.{lower, upper, simple_word, no_more, and_then, of_arrow, of_sum, of_with, of_tensor, of_primary, atom}
 use Rattle.ll_parser.specs.Text.{Query, bare, query_tokens, query_tree}
 use Rattle.ll_make.specs.declared.kind.MakeKind.{MakeKind}
@@ -14,12 +15,6 @@ use Rattle.ll_made.specs.Faultless.{IsFaultlessQuery}
 use Rattle.ll_made.proofs.Opened.{few-within}
 
 -- a text of `go` and perhaps one variable of one letter
-sound-name : (w : List ℕ) → length w ≤ 255 → IsSound kind.Name w
-sound-name w short k (long_name h) = omega arith
-
-sound-variable : (w : List ℕ) → length w ≤ 255 → IsSound kind.Variable w
-sound-variable w short k (long_variable h) = omega arith
-
 no-kind : (j : TokenKind) → None ≡ Some j → ⊥
 no-kind j e = cc
 

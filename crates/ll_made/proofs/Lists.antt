@@ -5,6 +5,7 @@ use Rattle.std.proofs.lemmas.Int.{ints}
 use Rattle.std.specs.Prelude.{nat_le}
 use Rattle.std.specs.List.{list_all, AllByRecursion}
 use Rattle.std.specs.Str.{bytes_eq}
+use Rattle.std.proofs.lemmas.Bool.{and_parts as both}
 use Rattle.std.proofs.lemmas.Bool.Decides.{nat_tests}
 use Rattle.std.proofs.lemmas.Slice.Eq.{bytes_eq-Decides}
 use Rattle.ll_lexer.specs.declared.Fault.{Fault}
@@ -17,7 +18,6 @@ use Rattle.ll_parser.specs.Printed.{program_text as printed_text}
 use Rattle.ll_polarity.specs.Faults.{clauses_faults}
 use Rattle.ll_make.specs.declared.kind.MakeKind.TheVariants.{Perm, Choice}
 use Rattle.ll_make.specs.Programs.{program_text}
-use Rattle.ll_made.proofs.Names.{both}
 use Rattle.ll_made.proofs.Opened.{opened}
 use Rattle.ll_made.proofs.Shapes.{perm_clauses, choice_clauses}
 use Rattle.ll_made.proofs.Whole.{AreClausesOf}

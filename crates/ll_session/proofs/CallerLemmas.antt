@@ -10,3 +10,9 @@ pub use Rattle.ll_session.proofs.Replying.{line-answered}
 pub use Rattle.ll_session.proofs.Replying.{line-refused}
 -- when no line is left, all is replied to
 pub use Rattle.ll_session.proofs.Replying.{all-answered}
+-- of faults one is the first
+pub use Rattle.ll_session.proofs.Questions.{one-first}
+-- where there are no faults none is the first
+pub use Rattle.ll_session.proofs.Questions.{none-first}
+-- where texts have one list of tokens, and tokens one tree, the text of a query is one query's
+pub use Rattle.ll_session.proofs.Questions.{query-once}

@@ -15,7 +15,7 @@ use Rattle.ll_lexer.specs.declared.TokenKind.{TokenKind}
 use Rattle.ll_lexer.specs.declared.TokenKind.TheVariants.{Name, Variable, Number}
 use Rattle.ll_lexer.specs.Spelling.{kind_of, Spells, IsLongest, HasNone}
 use Rattle.ll_lexer.specs.Reading.{is_blank, is_no_lf, IsGap, blank, comment, HasFlaw, past_64_bits, long_name, long_variable, number_value, IsSound, End, done, stopped, Lexes, at_end, gap, token, flawed, no_token, token_at, place_at, HasNoGap, LexedText, IsLexed, HasFault}
-use Rattle.ll_lexer.proofs.CallerLemmas.{nonempty}
+use Rattle.ll_lexer.proofs.CallerLemmas.{nonempty, sound-name, sound-variable}
 
 -- ---- one token
 
@@ -60,12 +60,6 @@ fits-or-not z = elim (cases_lt (mag z) (2 ^ hbits w64)) [ inl l ↦ inl (record 
 
 sound-number : (w : List ℕ) → FitsSigned w64 (number_value w) → IsSound Number w
 sound-number w f kind (past_64_bits not) = not f
-
-sound-name : (w : List ℕ) → length w ≤ 255 → IsSound Name w
-sound-name w l kind (long_name more) = omega arith
-
-sound-variable : (w : List ℕ) → length w ≤ 255 → IsSound Variable w
-sound-variable w l kind (long_variable more) = omega arith
 
 pub sound-or-flawed : (k : TokenKind) (w : List ℕ) → IsSound k w ⊎ ((kind : ℕ) × HasFlaw k w kind)
 sound-or-flawed Number w = elim (fits-or-not (number_value w)) [ inl f ↦ inl (sound-number w f) | inr not ↦ inr (2, past_64_bits not) ]

@@ -3,6 +3,8 @@ use Rattle.std.proofs.Common.{◌≡◌, ◌<◌, ◌≤◌, ℕ, refl, ap, sym,
 use Rattle.std.specs.Prelude.{◌↔◌, count_by, unwrap_or, is_some, IfSome, if◌then◌else◌}
 use Rattle.std.specs.Io.KnownBytes.{append_known}
 use Rattle.std.proofs.lemmas.List.{append-nil}
+use Rattle.ll_lists.proofs.CallerLemmas.{none_not_some}
+use Rattle.ll_edge.proofs.CallerLemmas.{append_known-append}
 use Rattle.ll_edge.specs.Pieces.{AppendsFront}
 use Rattle.ll_first.specs.Upto.{upto, first_of, counted}
 use Rattle.ll_first.proofs.CallerLemmas.{upto_none, upto_some}
@@ -16,7 +18,7 @@ use Rattle.ll_top.specs.Outcome.{front_events, status_of_run, text_of_run}
 use Rattle.ll_top.specs.Proved.{events_told, stop_or_summary, end_of_run}
 use Rattle.ll_top.specs.Running.{all_lines, OutletState, SameOutlet, Writes, BreaksOff}
 use Rattle.ll_top.specs.Verdicts.{stopped_text}
-use Rattle.ll_top.proofs.GivenLemmas.{append_known-append, no_front, front_in}
+use Rattle.ll_top.proofs.GivenLemmas.{no_front, front_in}
 use Rattle.ll_top.proofs.RunLemmas.{last-line, events-same, lines-written}
 use Rattle.ll_top.proofs.ProvedLemmas.{told-text}
 
@@ -49,10 +51,7 @@ module _ (p : ProblemTree) (k : ℕ) where
 
 -- there are fewer answers where it did not stop
 pub not-stopped : {X : Type 0} (o : Option X) (x : X) (k n : ℕ) → o ≡ Some x → ((o ≡ None) ↔ (k ≤ n)) → n < k
-not-stopped o x k n e h = let fewer : k ≤ n → ⊥ = λ many. none-or-some x (sym (h.1 many) ∙ e) in omega arith
-  where
-    none-or-some : {X : Type 0} (x : X) → None ≡ Some x → ⊥
-    none-or-some x e = cc
+not-stopped o x k n e h = let fewer : k ≤ n → ⊥ = λ many. none_not_some x (sym (h.1 many) ∙ e) in omega arith
 
 -- ---- an outlet that writes, within one that counts
 

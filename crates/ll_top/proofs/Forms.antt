@@ -1,7 +1,8 @@
 -- Words that are in a form, read from part to part and from option to option.
-use Rattle.std.proofs.Common.{◌≡◌, ℕ, ◌+◌, Bool, true, false, ◌||◌, List, [], ◌∷◌, slice_get, Option, Some, None, refl, ap, sym, subst, ◌∙◌}
+use Rattle.std.proofs.Common.{◌≡◌, ℕ, ◌+◌, true, false, List, [], ◌∷◌, slice_get, Option, Some, None, refl, ap, sym, subst, ◌∙◌}
 use Rattle.std.specs.Prelude.{IfSome, IsSomeAnd}
 use Rattle.std.specs.List.{list_any, list_all}
+use Rattle.std.proofs.lemmas.Bool.{or_left, or_right}
 use Rattle.std.proofs.lemmas.Slice.Eq.{bytes_eq-Decides}
 use Rattle.ll_top.specs.Begins.{Begins, IsFirstBad, Leads}
 use Rattle.ll_top.specs.Words.{Part, is_part, is_word, OptionForm, Takes, here, behind, Fits, part, option, done}
@@ -13,14 +14,6 @@ same-word w = (bytes_eq-Decides w w).1 refl
 
 pub words-same : (w v : List ℕ) → is_word w v ≡ true → w ≡ v
 words-same w v h = (bytes_eq-Decides w v).0 h
-
-or-left : (a b : Bool) → a ≡ true → a || b ≡ true
-or-left true b h = refl
-or-left false b h = cc
-
-or-right : (a b : Bool) → b ≡ true → a || b ≡ true
-or-right true b h = refl
-or-right false b h = h
 
 -- ---- what words in a form begin with
 
@@ -53,8 +46,8 @@ DifferentWords [] = Unit {0}
 DifferentWords (o ∷ os) = (list_any (λ p. is_word o.word p.word) os ≡ false) × DifferentWords os
 
 pub taken-any : {o : OptionForm} {os others : List OptionForm} (w : List ℕ) → w ≡ o.word → Takes o os others → list_any (λ p. is_word w p.word) os ≡ true
-taken-any w e (here {first} {os} f) = or-left (is_word w first.word) (list_any (λ p. is_word w p.word) os) (ap (λ v. is_word w v) (ap (λ x. x.word) f ∙ sym e) ∙ same-word w)
-taken-any w e (behind {first} {os} {others} t) = or-right (is_word w first.word) (list_any (λ p. is_word w p.word) os) (taken-any w e t)
+taken-any w e (here {first} {os} f) = or_left (is_word w first.word) (list_any (λ p. is_word w p.word) os) (ap (λ v. is_word w v) (ap (λ x. x.word) f ∙ sym e) ∙ same-word w)
+taken-any w e (behind {first} {os} {others} t) = or_right (is_word w first.word) (list_any (λ p. is_word w p.word) os) (taken-any w e t)
 
 record Same (o q : OptionForm) (xs ys : List OptionForm) : Type 0 where
   pub options : o ≡ q

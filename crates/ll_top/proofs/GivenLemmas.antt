@@ -1,20 +1,13 @@
 -- What was written of a list whose elements were given one after the other, each with its own text.
 use Rattle.std.proofs.Common.{◌≡◌, ◌≤◌, ℕ, zero, suc, ◌+◌, refl, subst, ap, sym, ◌∙◌, List, [], ◌∷◌, ◌++◌, length, take, arith, append_assoc, length-append}
-use Rattle.std.specs.Prelude.{Option, Some, None}
+use Rattle.std.specs.Prelude.{Option}
 use Rattle.std.specs.Io.KnownBytes.{append_known}
 use Rattle.std.proofs.lemmas.List.{append-nil, take-append-le}
 use Rattle.ll_edge.specs.Pieces.{AppendsFront}
+use Rattle.ll_edge.proofs.CallerLemmas.{append_known-nil, append_known-append}
 use Rattle.ll_order.specs.Outlets.{Gives, Refuses}
 
 -- ---- what is appended
-
-pub append_known-append : (w : Option (List ℕ)) (a b : List ℕ) → append_known (append_known w a) b ≡ append_known w (a ++ b)
-append_known-append None a b = refl
-append_known-append (Some w) a b = ap Some (append_assoc w a b)
-
-pub append_known-nil : (w : Option (List ℕ)) → append_known w [] ≡ w
-append_known-nil None = refl
-append_known-nil (Some w) = ap Some (append-nil w)
 
 take-append_front : (done piece rest : List ℕ) (n k : ℕ) → k ≡ length done + n → n ≤ length piece → take k (done ++ (piece ++ rest)) ≡ done ++ take n piece
 take-append_front [] piece rest n k e h = let q : k ≡ n = omega arith in ap (λ i. take i (piece ++ rest)) q ∙ take-append-le n piece rest h

@@ -24,7 +24,7 @@ use Rattle.ll_parser.specs.Text.{programs, queries}
 use Rattle.ll_parser.specs.Reads.{Reads}
 use Rattle.ll_parser.specs.Printed.{program_text}
 use Rattle.ll_polarity.specs.Faults.{heading, program_faults, query_faults}
-use Rattle.ll_polarity.specs.Asks.{part_of, problem_with, IsFirst, HasProgramFault, HasQueryFault}
+use Rattle.ll_polarity.specs.Asks.{part_of, problem_with, HasProgramFault, HasQueryFault}
 use Rattle.ll_top.specs.declared.judge.Role.{Role}
 use Rattle.ll_top.specs.declared.judge.Role.TheVariants.{Program, Query}
 use Rattle.ll_top.specs.Words.{RunWords, SessionWords, DeepenWords, CheckWords, ConvertWords}
@@ -41,6 +41,7 @@ use Rattle.ll_top.proofs.DistinctNames.{none-differ, differ-names, differ-proble
 use Rattle.ll_prooftext.specs.Versions.{IsTextIn, IsProofText, HasFaultIn}
 use Rattle.ll_prooftext.specs.Sizes.{text_in}
 use Rattle.ll_session.specs.Queries.{QueryLine, HaveQueries}
+use Rattle.ll_session.proofs.CallerLemmas.{one-first, none-first, query-once}
 use Rattle.ll_top.specs.Sessions.{SessionComesTo}
 use Rattle.ll_top.specs.Deepening.{DeepenComesTo}
 use Rattle.ll_top.specs.Converting.{own_names, IsConverted, ConvertFails, proof_not_read, faulty_proof, too_long_as, ConvertComesTo, converted, convert_failed}
@@ -100,18 +101,7 @@ module _ (laws : Laws) where
   query-no-fault : (text : List ℕ) (tree : Raw) (f : Fault) → IsQueryText text tree → IsReadingFault Query text f → ⊥
   query-no-fault text tree f p h = read-no-fault Query text p.lexed f p.of_text p.is_lexed (tree, p.reads) h
 
-  one-query : (text : List ℕ) (p q : Raw) → IsQueryText text p → IsQueryText text q → p ≡ q
-  one-query text p q h k =
-      let s = laws.same h.lexed k.lexed (h.of_text ∙ sym k.of_text) h.is_lexed k.is_lexed in
-      laws.one_goal most_open (toks_of k.lexed) p q (subst (λ l. Reads queries most_open (toks_of l) p) s h.reads) k.reads
-
   -- ---- scope and sorting
-
-  one-first : (f g : Fault) (fs : List Fault) → IsFirst f fs → IsFirst g fs → f ≡ g
-  one-first f g fs h k = let a = h.1 in let b = k.1 in cc
-
-  none-first : (f : Fault) (fs : List Fault) → fs ≡ [] → IsFirst f fs → ⊥
-  none-first f fs e h = let a = h.1 in cc
 
   pub one-program-fault : (text : List ℕ) (f g : Fault) → IsProgramFault text f → IsProgramFault text g → f ≡ g
   one-program-fault text f g (of_program_reading h) (of_program_reading k) = one-reading-fault Program text f g h k
@@ -129,7 +119,7 @@ module _ (laws : Laws) where
   one-query-fault program text f g (of_query_reading h) (of_query_scope t r k) = absurd (query-no-fault text t f r h)
   one-query-fault program text f g (of_query_scope t r h) (of_query_reading k) = absurd (query-no-fault text t g r k)
   one-query-fault program text f g (of_query_scope t r h) (of_query_scope u s k) =
-      one-first f g (query_faults (map heading program.modules) u) (subst (λ x. HasQueryFault program x f) (one-query text t u r s) h) k
+      one-first f g (query_faults (map heading program.modules) u) (subst (λ x. HasQueryFault program x f) (query-once laws.same laws.one_goal text t u r s) h) k
 
   -- two texts have one fault
   one-fault : (program query : List ℕ) (r s : Role) (f g : Fault) → IsTextFault program query r f → IsTextFault program query s g → (r ≡ s) × (f ≡ g)
@@ -146,14 +136,14 @@ module _ (laws : Laws) where
   asks-no-fault program query bound p _ f a (of_query t l (of_query_reading h)) = query-no-fault query a.query_tree f a.is_query h
   asks-no-fault program query bound p _ f a (of_query t l (of_query_scope u s h)) =
       let e = one-program program a.program_tree t a.is_program l.is_program in
-      let g = one-query query a.query_tree u a.is_query s in
+      let g = query-once laws.same laws.one_goal query a.query_tree u a.is_query s in
       none-first f (query_faults (map heading t.modules) u) (subst (λ x. query_faults (map heading x.modules) u ≡ []) e (subst (λ x. query_faults (map heading a.program_tree.modules) x ≡ []) g a.asks.query_faultless)) h
 
   -- and they ask one
   one-asked : (program query : List ℕ) (bound : ℕ) (p q : ProblemTree) → TextsAsk program query bound p → TextsAsk program query bound q → p ≡ q
   one-asked program query bound p q a b =
       let e = one-program program a.program_tree b.program_tree a.is_program b.is_program in
-      let g = one-query query a.query_tree b.query_tree a.is_query b.is_query in
+      let g = query-once laws.same laws.one_goal query a.query_tree b.query_tree a.is_query b.is_query in
       a.asks.is ∙ (ap (λ x. problem_with (part_of x) a.query_tree bound) e ∙ (ap (λ x. problem_with (part_of b.program_tree) x bound) g ∙ sym b.asks.is))
 
   -- ---- derivations

@@ -3,6 +3,7 @@ use Rattle.std.proofs.Common.{◌≡◌, ◌≤◌, ℕ, refl, ap, sym, subst, �
 use Rattle.std.specs.Prelude.{Option, Result, Ok, Err, IfOk, IfErr, OnOk, OnErr}
 use Rattle.std.specs.Io.KnownBytes.{append_known}
 use Rattle.std.proofs.lemmas.List.{append-nil}
+use Rattle.ll_edge.proofs.CallerLemmas.{Rose-later, append_known-append, append_known-nil}
 use Rattle.ll_edge.specs.Counts.{Rose}
 use Rattle.ll_edge.specs.Pieces.{AppendsFront}
 use Rattle.ll_top.specs.declared.judge.Role.{Role}
@@ -12,8 +13,7 @@ use Rattle.ll_top.specs.declared.refusal.Refusal.TheVariants.{Text, Unwritable, 
 use Rattle.ll_top.specs.Calls.{AppendsOwn, nothing, front, Ends, whole, unwritable, no_memory}
 use Rattle.ll_top.specs.OwnEnds.{EndsOwn}
 use Rattle.ll_top.specs.Running.{IsRunRefusal}
-use Rattle.ll_top.proofs.GivenLemmas.{append_known-append, append_known-nil, front_in}
-use Rattle.ll_top.proofs.PrepareLemmas.{rose-later}
+use Rattle.ll_top.proofs.GivenLemmas.{front_in}
 
 -- ---- two pieces, one behind the other
 
@@ -29,7 +29,7 @@ second-cut before mid after a b e f = front_in before mid after a b [] (a ++ b) 
 -- a refusal that came later on
 pub refusal-later : (before middle after : ℕ) (e : Refusal) → before ≤ middle → IsRunRefusal middle after e → IsRunRefusal before after e
 refusal-later before middle after (Text role refusal) l h = h
-refusal-later before middle after Unwritable l h = rose-later before middle after l h
+refusal-later before middle after Unwritable l h = Rose-later before middle after l h
 refusal-later before middle after OutOfMemory l h = h
 
 -- the second piece was written, or a prefix of both was

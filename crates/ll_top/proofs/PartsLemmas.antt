@@ -1,6 +1,5 @@
 -- Texts that are written one behind the other.
 use Rattle.std.proofs.Common.{◌≡◌, ℕ, ◌+◌, ◌<◌, ◌≤◌, List, [], ◌∷◌, ◌++◌, length, take, drop, get_or, map, Option, zero, suc, refl, ap, sym, ◌∙◌, arith, append_assoc}
-use Rattle.std.specs.Prelude.{Result, Ok, Err, OnErr}
 use Rattle.std.specs.Borrow.{Bor}
 use Rattle.std.specs.List.{concat}
 use Rattle.std.specs.Io.KnownBytes.{append_known}
@@ -57,8 +56,3 @@ pub all-written : (before now : Option (List ℕ)) (parts : List (Bor (List ℕ)
 all-written before now parts n h w =
     let l = length-map parts (λ (p : Bor (List ℕ)). p.now) in
     w.written ∙ ap (λ ps. append_known before (concat ps)) (take_all n (parts_of parts) (omega arith))
-
--- a cut text is a front of all of them
-pub on-cut : {A E : Type 0} (r : Result A E) (P : Type 0) → P → OnErr r P
-on-cut (Ok x) P h = tt
-on-cut (Err e) P h = h

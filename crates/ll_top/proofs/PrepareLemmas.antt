@@ -1,8 +1,7 @@
 -- From the reading and judging of two texts to what a run comes to.
-use Rattle.std.proofs.Common.{◌≡◌, ◌≤◌, ℕ, List, [], ◌∷◌, Option, sym, subst, inl, inr, arith}
+use Rattle.std.proofs.Common.{◌≡◌, ℕ, List, [], ◌∷◌, Option, sym, subst}
 use Rattle.std.specs.Prelude.{Result, Ok, Err, IfErr}
 use Rattle.ll_edge.specs.Texts.{Texts}
-use Rattle.ll_edge.specs.Counts.{Rose}
 use Rattle.ll_laws.specs.Problem.{ProblemTree}
 use Rattle.ll_lexer.specs.declared.TextFault.{TextFault}
 use Rattle.ll_lexer.specs.declared.TextFault.TheVariants as text_fault
@@ -40,11 +39,6 @@ query-refused told absence read_failed run program (Text role refusal) p h =
     subst (λ r. RunFails told absence read_failed run (cause_of (name_of run r) refusal)) (sym h.0) (not_read (cause_of run.query refusal) (not-read told absence read_failed (run_texts run) run.query refusal (later program p first) h.1))
 query-refused told absence read_failed run program Unwritable p h = absurd h
 query-refused told absence read_failed run program OutOfMemory p h = tt
-
--- a count that rose later on rose
-pub rose-later : (before middle after : ℕ) → before ≤ middle → Rose middle after → Rose before after
-rose-later before middle after h (inl l) = inl (omega arith)
-rose-later before middle after h (inr e) = inr e
 
 -- with counts that rose later on
 pub not-read-later : (told : Option Texts) (absence absence' read_failed read_failed' : Type 0) (name : List ℕ) (role : Role) (e : Refusal) → (absence → absence') → (read_failed → read_failed')

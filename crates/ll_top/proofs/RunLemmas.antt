@@ -8,6 +8,8 @@ use Rattle.std.proofs.lemmas.Bool.{lt-ltb}
 use Rattle.std.proofs.lemmas.List.{append-nil, length-take}
 use Rattle.std.proofs.lemmas.List.Elements.{Contains-append_right}
 use Rattle.std.specs.List.{Contains}
+use Rattle.ll_laws.proofs.CallerLemmas.{cut_count-suc}
+use Rattle.ll_edge.proofs.CallerLemmas.{append_known-append}
 use Rattle.ll_lists.proofs.CallerLemmas.{OnErr-always as on_err}
 use Rattle.ll_bank.specs.Term.{Term}
 use Rattle.ll_edge.specs.Pieces.{AppendsFront}
@@ -26,19 +28,16 @@ use Rattle.ll_laws.specs.Sound.{Every}
 use Rattle.ll_order.specs.Outlets.{Gives, CountsOf}
 use Rattle.ll_crew.specs.Crews.{GivesPrefix}
 use Rattle.ll_top.specs.Outcome.{whole_text}
-use Rattle.ll_top.proofs.GivenLemmas.{append_known-append, no_front, front_in, given-kept, refused-kept, given-written, front-given, refused-written}
+use Rattle.ll_top.proofs.GivenLemmas.{no_front, front_in, given-kept, refused-kept, given-written, front-given, refused-written}
 use Rattle.ll_top.specs.Running.{event_lines, all_lines, counted, status_of_counts, AnswersAll, IsWelcome, OutletState, SameOutlet, Writes, BreaksOff}
 
 -- ---- counts that are cut
-
-cut-suc : (k : ℕ) → cut_count (suc (cut_count k)) ≡ cut_count (suc k)
-cut-suc k = omega arith
 
 -- the text of answers does not change where the count of those before is cut
 answers_text-cut : (p : ProblemTree) (k : ℕ) (es : List Event) → answers_text p (cut_count k) es ≡ answers_text p k es
 answers_text-cut p k [] = refl
 answers_text-cut p k (Answer a ∷ es) =
-    let e = cut-suc k in
+    let e = cut_count-suc k in
     let one : answer_text p (suc (cut_count k)) a ≡ answer_text p (suc k) a = ap (λ n. line (codes "answer " ++ decimal n) ++ bindings_text p a) e in
     let two = sym (answers_text-cut p (suc (cut_count k)) es) ∙ (ap (λ n. answers_text p n es) e ∙ answers_text-cut p (suc k) es) in cc
 answers_text-cut p k (Reached ∷ es) = answers_text-cut p k es
@@ -49,7 +48,7 @@ answers_text-cut p k (Reached ∷ es) = answers_text-cut p k es
 proved_answers_text-cut : (p : ProblemTree) (k : ℕ) (es : List Event) → proved_answers_text p (cut_count k) es ≡ proved_answers_text p k es
 proved_answers_text-cut p k [] = refl
 proved_answers_text-cut p k (Answer a ∷ es) =
-    let e = cut-suc k in
+    let e = cut_count-suc k in
     let one : answer_text p (suc (cut_count k)) a ≡ answer_text p (suc k) a = ap (λ n. line (codes "answer " ++ decimal n) ++ bindings_text p a) e in
     let two = sym (proved_answers_text-cut p (suc (cut_count k)) es) ∙ (ap (λ n. proved_answers_text p n es) e ∙ proved_answers_text-cut p (suc k) es) in cc
 proved_answers_text-cut p k (Reached ∷ es) = proved_answers_text-cut p k es

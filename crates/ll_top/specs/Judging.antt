@@ -17,6 +17,8 @@ use Rattle.ll_bank.specs.Names.{with_names}
 use Rattle.ll_prooftext.specs.Versions.{IsProofText, HasFaultIn}
 use Rattle.ll_prooftext.specs.Mentions.{text_names}
 use Rattle.ll_top.specs.declared.judge.Role.TheVariants.{Program, Query, Proof}
+-- a text is read by the grammar as this query
+pub use Rattle.ll_session.specs.Reading.{IsQueryText}
 
 -- the greatest number of brackets that may be open at once
 abbrev pub most_open : ℕ
@@ -30,13 +32,6 @@ pub record IsProgramText (text : List ℕ) (tree : ProgramTree) : Type 0 where
   pub of_text : lexed.text ≡ text
   pub is_lexed : IsLexed lexed
   pub reads : Reads programs most_open (toks_of lexed) tree
-
--- a text is read by the grammar as this query
-pub record IsQueryText (text : List ℕ) (tree : Raw) : Type 0 where
-  pub lexed : LexedText
-  pub of_text : lexed.text ≡ text
-  pub is_lexed : IsLexed lexed
-  pub reads : Reads queries most_open (toks_of lexed) tree
 
 -- the tokens of a text have this first fault by the grammar of programs, or by that of queries: it is of kind 4, 5 or 6. A derivation's text
 -- has no tokens.

@@ -1,9 +1,9 @@
 use Rattle.std.proofs.Common.{ap, ◌∙◌}
+use Rattle.ll_edge.proofs.CallerLemmas.{Rose-later}
 use Rattle.ll_top.specs.Words.{shown_check}
 use Rattle.ll_top.specs.Endings.{cause_of}
 use Rattle.ll_top.specs.Outcome.{name_in_check}
 use Rattle.ll_top.proofs.OutcomeLemmas.{finding-ends, check-cut-ends, refuses-later, check-refusal-ends}
-use Rattle.ll_top.proofs.PrepareLemmas.{rose-later}
 use Rattle.ll_top.proofs.serve_check.Goals as goal
 
 pub returns-in-Ok-clause-ends : goal.returns-in-Ok-clause-ends
@@ -18,4 +18,4 @@ returns-in-Err-Text-clause-ends g c =
     let check = shown_check c.args.check.now in
     let same = c.cause.ensures ∙ ap (λ n. cause_of n c.in-Err-Text.refusal) c.checked_name.ensures in
     check-refusal-ends _ _ _ check _ _ _ _ (cause_of (name_in_check check c.in-Err-Text.role) c.in-Err-Text.refusal) _ h.0 h.1
-    (refuses-later _ _ _ _ _ _ (rose-later _ _ _ c.in-Err-Text.ensures.sink_faults_kept) (rw same at c.refuse.ensures.refuses))
+    (refuses-later _ _ _ _ _ _ (Rose-later _ _ _ c.in-Err-Text.ensures.sink_faults_kept) (rw same at c.refuse.ensures.refuses))

@@ -1,6 +1,6 @@
+use Rattle.ll_edge.proofs.CallerLemmas.{Rose-later}
 use Rattle.ll_top.specs.Endings.{cause_of}
 use Rattle.ll_top.proofs.OutcomeLemmas.{printed-ends, print-cut-ends, refuses-later, print-refusal-ends}
-use Rattle.ll_top.proofs.PrepareLemmas.{rose-later}
 use Rattle.ll_top.proofs.serve_print.Goals as goal
 
 pub returns-in-Ok-clause-ends : goal.returns-in-Ok-clause-ends
@@ -13,4 +13,4 @@ pub returns-in-Err-Text-clause-ends : goal.returns-in-Err-Text-clause-ends
 returns-in-Err-Text-clause-ends g c =
     let h = rw c.in-Err-Text.field-0-is at c.in-Err-Text.ensures.ends in
     print-refusal-ends _ _ _ c.args.name.now _ _ _ _ (cause_of c.args.name.now c.in-Err-Text.refusal) _ h.0 h.1
-    (refuses-later _ _ _ _ _ _ (rose-later _ _ _ c.in-Err-Text.ensures.sink_faults_kept) (rw c.cause.ensures at c.refuse.ensures.refuses))
+    (refuses-later _ _ _ _ _ _ (Rose-later _ _ _ c.in-Err-Text.ensures.sink_faults_kept) (rw c.cause.ensures at c.refuse.ensures.refuses))

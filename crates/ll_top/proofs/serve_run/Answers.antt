@@ -1,9 +1,9 @@
 use Rattle.std.proofs.Common.{ap, ◌∙◌, arith}
+use Rattle.ll_edge.proofs.CallerLemmas.{Rose-later}
 use Rattle.ll_top.specs.Words.{shown_words}
 use Rattle.ll_top.specs.Endings.{cause_of}
 use Rattle.ll_top.specs.Outcome.{name_of}
 use Rattle.ll_top.proofs.OutcomeLemmas.{found-ends, cut-ends, memory-ends, refuses-later, refusal-ends}
-use Rattle.ll_top.proofs.PrepareLemmas.{rose-later}
 use Rattle.ll_top.proofs.ProvedLemmas.{run-shown, refused-past}
 use Rattle.ll_top.proofs.NothingLemmas.{asks-in-vain}
 use Rattle.ll_top.proofs.serve_run.Goals as goal
@@ -23,7 +23,7 @@ returns-in-Err-Text-clause-ends g c =
     let run = shown_words c.args.run.now in
     let same = c.cause.ensures ∙ ap (λ n. cause_of n c.in-Err-Text.refusal) c.text_name.ensures in
     refusal-ends _ _ _ _ run _ _ _ (cause_of (name_of run c.in-Err-Text.role) c.in-Err-Text.refusal) _ h.0 h.1
-    (refuses-later _ _ _ _ _ _ (rose-later _ _ _ c.in-Err-Text.ensures.sink_faults_kept) (rw same at c.refuse.ensures.refuses))
+    (refuses-later _ _ _ _ _ _ (Rose-later _ _ _ c.in-Err-Text.ensures.sink_faults_kept) (rw same at c.refuse.ensures.refuses))
 
 pub returns-in-Ok-clause-proved : goal.returns-in-Ok-clause-proved
 returns-in-Ok-clause-proved g c = λ _. let h = c.in-Ok.ensures.ends in run-shown c.answers_are_shown.ensures _ (shown_words c.args.run.now) _ _ h.0 h.1 h.2 h.4

@@ -1,10 +1,11 @@
 use Rattle.std.proofs.Common.{arith}
-use Rattle.ll_top.proofs.PartsLemmas.{one-written, part-cut, on-cut}
+use Rattle.ll_lists.proofs.CallerLemmas.{OnErr-always}
+use Rattle.ll_top.proofs.PartsLemmas.{one-written, part-cut}
 use Rattle.ll_top.proofs.fault.write_parts.Goals as goal
 
 pub returns-in_err-write_all-clause-prefix : goal.returns-in_err-write_all-clause-prefix
 returns-in_err-write_all-clause-prefix g c =
-    on-cut _ _ (part-cut c.args.parts.now c.loop-part.part-index _ c.loop-part-test.true _ _ _ c.loop-part.invariant.parts (rw c.as_bytes.ensures.value at c.in_err-write_all.ensures.prefix))
+    OnErr-always _ (part-cut c.args.parts.now c.loop-part.part-index _ c.loop-part-test.true _ _ _ c.loop-part.invariant.parts (rw c.as_bytes.ensures.value at c.in_err-write_all.ensures.prefix))
 
 pub loop-part-preserved : goal.loop-part-preserved
 loop-part-preserved g c = record {

@@ -1,6 +1,7 @@
 use Rattle.std.proofs.lemmas.Result.{err_from_is_err_and}
+use Rattle.ll_edge.proofs.CallerLemmas.{Rose-later}
 use Rattle.ll_top.specs.Words.{shown_words}
-use Rattle.ll_top.proofs.PrepareLemmas.{program-refused, query-refused, rose-later, not-read-later, prepared}
+use Rattle.ll_top.proofs.PrepareLemmas.{program-refused, query-refused, not-read-later, prepared}
 use Rattle.ll_top.proofs.prepare.prepare.Goals as goal
 
 pub returns-in_err-program-clause-prepares : goal.returns-in_err-program-clause-prepares
@@ -12,7 +13,7 @@ pub returns-in_err-query-clause-prepares : goal.returns-in_err-query-clause-prep
 returns-in_err-query-clause-prepares g c =
     let p = err_from_is_err_and c.from_residual-in_err-query.result c.from_residual-in_err-query.ensures.1 in
     rw (p.1, p.2) (query-refused _ _ _ (shown_words c.args.run.now) _ _ c.in_ok-program.ensures.read
-    (not-read-later _ _ _ _ _ _ _ _ (rose-later _ _ _ c.in_ok-program.ensures.absences_kept) (rose-later _ _ _ c.in_ok-program.ensures.faults_kept) (rw c.in_ok-program.ensures.same_texts at c.in_err-query.ensures.refused)))
+    (not-read-later _ _ _ _ _ _ _ _ (Rose-later _ _ _ c.in_ok-program.ensures.absences_kept) (Rose-later _ _ _ c.in_ok-program.ensures.faults_kept) (rw c.in_ok-program.ensures.same_texts at c.in_err-query.ensures.refused)))
 
 pub returns-clause-prepares : goal.returns-clause-prepares
 returns-clause-prepares g c =

@@ -1,7 +1,8 @@
 use denote.Builtin.{unit}
 use Rattle.std.proofs.lemmas.Result.{err_from_is_err_and}
+use Rattle.ll_edge.proofs.CallerLemmas.{Rose-later}
 use Rattle.ll_top.specs.Words.{shown_session}
-use Rattle.ll_top.proofs.PrepareLemmas.{rose-later, not-read-later}
+use Rattle.ll_top.proofs.PrepareLemmas.{not-read-later}
 use Rattle.ll_top.proofs.SessionLemmas.{program-not-read, queries-not-read, texts-ended}
 use Rattle.ll_top.proofs.session.reply_to_texts.Goals as goal
 
@@ -14,7 +15,7 @@ pub returns-in_err-text-clause-ends : goal.returns-in_err-text-clause-ends
 returns-in_err-text-clause-ends g c =
     let p = err_from_is_err_and c.from_residual-in_err-text.result c.from_residual-in_err-text.ensures.1 in
     rw (p.1, p.2) (queries-not-read {A = unit.Denot} _ _ _ (shown_session c.args.session.now) (λ x. 0) _ _ _ _ c.in_ok-program.ensures.read
-    (not-read-later _ _ _ _ _ _ _ _ (rose-later _ _ _ c.in_ok-program.ensures.absences_kept) (rose-later _ _ _ c.in_ok-program.ensures.faults_kept) (rw c.in_ok-program.ensures.same_texts at c.in_err-text.ensures.refused)))
+    (not-read-later _ _ _ _ _ _ _ _ (Rose-later _ _ _ c.in_ok-program.ensures.absences_kept) (Rose-later _ _ _ c.in_ok-program.ensures.faults_kept) (rw c.in_ok-program.ensures.same_texts at c.in_err-text.ensures.refused)))
 
 pub returns-clause-ends : goal.returns-clause-ends
 returns-clause-ends g c =

@@ -1,10 +1,10 @@
 use Rattle.std.proofs.Common.{refl, ap, ◌∙◌}
+use Rattle.ll_edge.proofs.CallerLemmas.{Rose-later}
 use Rattle.ll_top.specs.Endings.{cause_of, status_of_found}
 use Rattle.ll_top.specs.OwnEnds.{NoneFails}
 use Rattle.ll_top.specs.Words.{shown_session}
 use Rattle.ll_top.proofs.OutcomeLemmas.{refuses-later}
 use Rattle.ll_top.proofs.OwnLemmas.{done-ends, cut-ends, memory-ends}
-use Rattle.ll_top.proofs.PrepareLemmas.{rose-later}
 use Rattle.ll_top.proofs.SessionLemmas.{session-refused}
 use Rattle.ll_top.proofs.session.serve_session.Goals as goal
 
@@ -22,4 +22,4 @@ returns-in-Err-Text-clause-ends g c =
     let h = rw c.in-Err-Text.field-0-is at c.in-Err-Text.ensures.ends in
     let same = c.cause.ensures ∙ ap (λ n. cause_of n c.in-Err-Text.refusal) c.session_name.ensures in
     session-refused _ _ _ _ (shown_session c.args.session.now) _ _ _ c.in-Err-Text.role c.in-Err-Text.refusal _ h.0 h.1
-    (refuses-later _ _ _ _ _ _ (rose-later _ _ _ c.in-Err-Text.ensures.sink_faults_kept) (rw same at c.refuse.ensures.refuses))
+    (refuses-later _ _ _ _ _ _ (Rose-later _ _ _ c.in-Err-Text.ensures.sink_faults_kept) (rw same at c.refuse.ensures.refuses))

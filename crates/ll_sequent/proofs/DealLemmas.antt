@@ -5,7 +5,6 @@ use Rattle.std.specs.List.{list_all}
 use Rattle.std.proofs.lemmas.List.{append-nil, map-append, length-map, drop_all}
 use Rattle.std.proofs.Math.ListN.{get_or-map}
 use Rattle.std.proofs.lemmas.List.Elements.{All-push, All-cons}
-use Rattle.ll_lists.proofs.CallerLemmas.{empty_from_length as empty_list}
 use Rattle.ll_bank.specs.declared.FormAt.{FormAt}
 use Rattle.ll_bank.specs.Form.{Bang}
 use Rattle.ll_bank.specs.Nodes.{Nodes, form_tree, ShowsForm, Extends}

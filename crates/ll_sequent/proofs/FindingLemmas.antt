@@ -4,7 +4,7 @@ use Rattle.std.specs.Prelude.{nat_eq, nat_lt, slice_index_or, if◌then◌else�
 use Rattle.std.specs.List.{find, position, position_from, position_or_len, remove}
 use Rattle.std.proofs.lemmas.Bool.{ltb-true}
 use Rattle.std.proofs.lemmas.List.{reverse-append, map-append}
-use Rattle.std.proofs.lemmas.List.Elements.{All-head, All-tail, All-append, All-take, All-drop, All-push}
+use Rattle.std.proofs.lemmas.List.Elements.{All-head, All-tail, All-append, All-take, All-drop}
 use Rattle.std.proofs.lemmas.Iterator.Adapters.{position_from-zero}
 use Rattle.ll_lists.proofs.CallerLemmas.{All-reverse as all_reversed}
 use Rattle.ll_bank.specs.Nodes.{Nodes, form_tree}

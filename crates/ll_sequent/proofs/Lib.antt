@@ -20,3 +20,5 @@ pub mod DealLemmas
 pub mod ClauseLemmas
 pub mod NodeLemmas
 pub mod NumberLemmas
+pub mod CopyLemmas
+pub mod SameLemmas

@@ -10,7 +10,6 @@ use Rattle.ll_laws.specs.Number.{Operators}
 use Rattle.ll_laws.specs.declared.Rule.{Rule}
 use Rattle.ll_laws.specs.Module.{Setting, ModuleTree}
 use Rattle.ll_laws.specs.Shows.{Tree}
-use Rattle.ll_laws.specs.ShownLines.{line_of}
 use Rattle.ll_laws.specs.Line.{Line, is_line, trees_of}
 use Rattle.ll_laws.specs.Fault.{Checked, Fault}
 use Rattle.ll_laws.specs.Valid.{ClauseSide}
@@ -43,22 +42,22 @@ root_owes ops modules bank free root items e h lines x is =
 
 -- ---- the nodes
 
-pub line_at : (terms : Nodes) (rules : List Rule) (k : ℕ) (d : Rule) → k < length rules → list_all is_line (map (line_of terms) rules) ≡ true → is_line (line_of terms (get_or rules k d)) ≡ true
-line_at terms [] k d l h = absurd (omega arith)
-line_at terms (r ∷ rules) zero d l h = (and_parts (is_line (line_of terms r)) (list_all is_line (map (line_of terms) rules)) h).0
-line_at terms (r ∷ rules) (suc k) d l h = line_at terms rules k d (omega arith) (and_parts (is_line (line_of terms r)) (list_all is_line (map (line_of terms) rules)) h).1
+pub line_at : (line : Rule → Line) (rules : List Rule) (k : ℕ) (d : Rule) → k < length rules → list_all is_line (map line rules) ≡ true → is_line (line (get_or rules k d)) ≡ true
+line_at line [] k d l h = absurd (omega arith)
+line_at line (r ∷ rules) zero d l h = (and_parts (is_line (line r)) (list_all is_line (map line rules)) h).0
+line_at line (r ∷ rules) (suc k) d l h = line_at line rules k d (omega arith) (and_parts (is_line (line r)) (list_all is_line (map line rules)) h).1
 
-pub lines_from : (terms : Nodes) (rules : List Rule) (k : ℕ) (d : Rule) → k < length rules
-    → drop k (map (line_of terms) rules) ≡ line_of terms (get_or rules k d) ∷ drop (suc k) (map (line_of terms) rules)
-lines_from terms [] k d l = absurd (omega arith)
-lines_from terms (r ∷ rules) zero d l = refl
-lines_from terms (r ∷ rules) (suc k) d l = lines_from terms rules k d (omega arith)
+pub lines_from : (line : Rule → Line) (rules : List Rule) (k : ℕ) (d : Rule) → k < length rules
+    → drop k (map line rules) ≡ line (get_or rules k d) ∷ drop (suc k) (map line rules)
+lines_from line [] k d l = absurd (omega arith)
+lines_from line (r ∷ rules) zero d l = refl
+lines_from line (r ∷ rules) (suc k) d l = lines_from line rules k d (omega arith)
 
-pub lines_end : (terms : Nodes) (rules : List Rule) (k : ℕ) → length rules ≤ k → drop k (map (line_of terms) rules) ≡ []
-lines_end terms [] zero l = refl
-lines_end terms [] (suc k) l = refl
-lines_end terms (r ∷ rules) zero l = absurd (omega arith)
-lines_end terms (r ∷ rules) (suc k) l = lines_end terms rules k (omega arith)
+pub lines_end : (line : Rule → Line) (rules : List Rule) (k : ℕ) → length rules ≤ k → drop k (map line rules) ≡ []
+lines_end line [] zero l = refl
+lines_end line [] (suc k) l = refl
+lines_end line (r ∷ rules) zero l = absurd (omega arith)
+lines_end line (r ∷ rules) (suc k) l = lines_end line rules k (omega arith)
 
 -- ---- the next sequent
 

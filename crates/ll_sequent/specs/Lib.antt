@@ -8,3 +8,4 @@ pub mod Told
 pub mod Starting
 pub mod Opened
 pub mod Substituted
+pub mod Copied

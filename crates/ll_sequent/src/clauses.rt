@@ -10,11 +10,11 @@ ghost use Rattle.ll_laws.specs.Line.{ClauseLine, part_rises};
 ghost use Rattle.ll_sequent.specs.Judging.{Holds, IsStep};
 ghost use Rattle.ll_sequent.specs.Sequents.{sequent_in};
 
-use crate::copies::copies;
 use crate::finding::take_clause;
 use crate::leaves::{leaves_left, open_leaf};
 use crate::plain::OTHER_FORM;
 use crate::premises::{dealt, fit, goals_of};
+use crate::same::is_same;
 use crate::sequents::{Resource, Sequent, Step};
 use ll_bank::{At, Bank, FormNode, OutOfMemory};
 use ll_laws::{Module, Part};
@@ -40,7 +40,6 @@ pub(crate) fn clause(
     alloc: Global,
     bank: &mut Bank,
     modules: &[Module],
-    terms: &Bank,
     label: u32,
     leaf: u32,
     values: &[At],
@@ -50,10 +49,10 @@ pub(crate) fn clause(
 ) -> Result<Step, OutOfMemory>
     requires has { HasModules bank.old modules.now }
     requires holds { Holds (map (module_tree bank.old) modules.now) bank.old free.now sequent }
-    requires inside { AllInTerms terms.now values.now }
-    requires closed { list_all is_closed (term_trees terms.now values.now) ≡ true }
+    requires inside { AllInTerms bank.old values.now }
+    requires closed { list_all is_closed (term_trees bank.old values.now) ≡ true }
     requires rising { list_all part_rises (map part_line parts.now) ≡ true }
-    ensures is { IfOk result (λ step. (ops : Operators) → IsStep ops (map (module_tree bank.old) modules.now) (ClauseLine label leaf (term_trees terms.now values.now) (map part_line parts.now)) (sequent_in bank.old free.now sequent) bank.new free.now free.now step) }
+    ensures is { IfOk result (λ step. (ops : Operators) → IsStep ops (map (module_tree bank.old) modules.now) (ClauseLine label leaf (term_trees bank.old values.now) (map part_line parts.now)) (sequent_in bank.old free.now sequent) bank.new free.now free.now step) }
     ensures keeps { Extends bank.old bank.new }
 {
     let FormNode::Atom(atom) = bank.form_at(sequent.goal) else {
@@ -66,11 +65,10 @@ pub(crate) fn clause(
     if leaves_left(alloc, bank, form, leaf)?.is_some() {
         return Ok(Step::Refused(NO_LEAF));
     }
-    let values = copies(alloc, terms, values, bank)?;
-    let Some(opened) = open_leaf(alloc, bank, form, leaf, &values)? else {
+    let Some(opened) = open_leaf(alloc, bank, form, leaf, values)? else {
         return Ok(Step::Refused(OTHER_WAY));
     };
-    if !bank.equal(opened.head, bank, atom)? {
+    if !is_same(alloc, bank, opened.head, atom)? {
         return Ok(Step::Refused(OTHER_HEAD));
     }
     if !fit(parts, &opened.premises) {

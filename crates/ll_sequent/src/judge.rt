@@ -1,11 +1,12 @@
 //! The way through the nodes.
-ghost use Rattle.std.specs.Prelude.{◌≡◌, ◌++◌, ◌∷◌, [], true, map, reverse, Some, IfOk, OnOk};
+ghost use Rattle.std.specs.Prelude.{◌≡◌, ◌++◌, ◌∷◌, [], true, map, length, reverse, All, Some, IfOk, OnOk};
 ghost use Rattle.std.specs.List.{list_all};
 ghost use Rattle.ll_laws.specs.Number.{operators_of};
 ghost use Rattle.ll_laws.specs.Shown.{module_tree, HasModules};
-ghost use Rattle.ll_laws.specs.ShownLines.{line_of, HasLines};
 ghost use Rattle.ll_laws.specs.Line.{is_line, trees_of};
 ghost use Rattle.ll_laws.specs.Shows.{Tree};
+ghost use Rattle.ll_bank.specs.Nodes.{AllInTerms};
+ghost use Rattle.ll_sequent.specs.Copied.{IsLineBelow, copied_line};
 ghost use Rattle.ll_sequent.specs.Judging.{fault_at, AreModulesSound, Holds};
 ghost use Rattle.ll_sequent.specs.Sequents.{sequent_in};
 ghost use Rattle.ll_sequent.specs.Told.{Tells};
@@ -13,28 +14,29 @@ ghost use Rattle.ll_sequent.specs.Told.{Tells};
 use crate::Verdict;
 use crate::rules::step;
 use crate::sequents::{Sequent, Start, Step};
-use ll_bank::{Bank, Names, OutOfMemory};
+use ll_bank::{Names, OutOfMemory};
 use ll_laws::{Module, Rule};
 use std::alloc::Global;
 
-/// Judges the nodes from a root on.
+/// Judges the nodes from a root on, with copies of their terms.
 pub(crate) fn judge(
     alloc: Global,
     start: Start,
     names: &Names,
     modules: &[Module],
-    terms: &Bank,
     rules: &[Rule],
 ) -> Result<Verdict, OutOfMemory>
     requires has { HasModules start.bank modules.now }
     requires modules { AreModulesSound (map (module_tree start.bank) modules.now) }
     requires holds { Holds (map (module_tree start.bank) modules.now) start.bank start.free.items start.root }
-    requires lines { HasLines terms.now rules.now }
-    requires whole { list_all is_line (map (line_of terms.now) rules.now) ≡ true }
-    ensures { IfOk result (λ verdict. (x : Tree) → trees_of (map (line_of terms.now) rules.now) ≡ Some (x ∷ []) → Tells verdict (fault_at (operators_of names.now) (map (module_tree start.bank) modules.now) x (sequent_in start.bank start.free.items start.root))) }
+    requires inside { AllInTerms start.bank start.copies.items }
+    requires reach { All (IsLineBelow (length start.copies.items)) rules.now }
+    requires whole { list_all is_line (map (copied_line start.bank start.copies.items) rules.now) ≡ true }
+    ensures { IfOk result (λ verdict. (x : Tree) → trees_of (map (copied_line start.bank start.copies.items) rules.now) ≡ Some (x ∷ []) → Tells verdict (fault_at (operators_of names.now) (map (module_tree start.bank) modules.now) x (sequent_in start.bank start.free.items start.root))) }
 {
     let Start {
         mut bank,
+        copies,
         mut free,
         root,
     } = start;
@@ -50,7 +52,7 @@ pub(crate) fn judge(
             &mut bank,
             names,
             modules,
-            terms,
+            &copies,
             &rules[node],
             &mut free,
             sequent,

@@ -22,6 +22,7 @@ mod opening;
 mod plain;
 mod premises;
 mod rules;
+mod same;
 mod sequents;
 mod start;
 mod substitution;
@@ -74,13 +75,13 @@ pub fn check(
         problem.goal,
         &derivation.bank,
         &derivation.asked,
+        &derivation.nodes,
     )?;
     let verdict = judge(
         alloc,
         start,
         &problem.names,
         &problem.modules,
-        &derivation.bank,
         &derivation.nodes,
     )?;
     Ok(verdict)

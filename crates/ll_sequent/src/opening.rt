@@ -56,24 +56,22 @@ pub(crate) fn forall(
     }
 }
 
-/// `exists x\ G` with a term of another bank in place of x.
+/// `exists x\ G` with a term in place of x.
 pub(crate) fn exists(
     alloc: Global,
     bank: &mut Bank,
-    terms: &Bank,
-    term: At,
+    value: At,
     sequent: Sequent,
 ) -> Result<Step, OutOfMemory>
     requires goal { HasForm bank.old sequent.goal.0 }
     requires heads { has_heads true GoalSide [] (form_tree bank.old sequent.goal.0) ≡ true }
-    requires inside { HasTerm terms.now term.0 }
-    requires closed { is_closed (term_tree terms.now term.0) ≡ true }
-    ensures is { IfOk result (StepsOver (ExistsLine (term_tree terms.now term.0)) bank.old sequent bank.new) }
+    requires inside { HasTerm bank.old value.0 }
+    requires closed { is_closed (term_tree bank.old value.0) ≡ true }
+    ensures is { IfOk result (StepsOver (ExistsLine (term_tree bank.old value.0)) bank.old sequent bank.new) }
     ensures keeps { Extends bank.old bank.new }
 {
     match bank.form_at(sequent.goal) {
         FormNode::Exists(body) => {
-            let value = terms.copy_into(term, bank)?;
             let goal = bank.instantiate(body, value)?;
             let premise = Sequent {
                 free: sequent.free,

@@ -1,30 +1,31 @@
 //! The rules of nodes.
 ghost use Rattle.std.specs.Prelude.{◌≡◌, true, map, length, IfOk};
-ghost use Rattle.ll_bank.specs.Nodes.{Extends};
+ghost use Rattle.ll_bank.specs.Nodes.{AllInTerms, Extends};
 ghost use Rattle.ll_laws.specs.Number.{operators_of};
 ghost use Rattle.ll_laws.specs.Shown.{module_tree, HasModules};
-ghost use Rattle.ll_laws.specs.ShownLines.{line_of, HasLine};
 ghost use Rattle.ll_laws.specs.Line.{is_line};
+ghost use Rattle.ll_sequent.specs.Copied.{IsLineBelow, copied_line};
 ghost use Rattle.ll_sequent.specs.Judging.{AreModulesSound, Holds, IsStep};
 ghost use Rattle.ll_sequent.specs.Sequents.{sequent_in};
 
 use crate::clauses::clause;
+use crate::copies::{copies_at, copy_at};
 use crate::loads::{imp, lolli};
 use crate::numbers::num;
 use crate::opening::{exists, forall, load};
 use crate::plain::{bang, erase, left, one, right, tensor, with};
 use crate::sequents::{Resource, Sequent, Step};
-use ll_bank::{Bank, Names, OutOfMemory};
+use ll_bank::{At, Bank, Names, OutOfMemory};
 use ll_laws::{Module, Rule};
 use std::alloc::Global;
 
-/// What a node makes of its sequent.
+/// What a node makes of its sequent, with copies of its terms.
 pub(crate) fn step(
     alloc: Global,
     bank: &mut Bank,
     names: &Names,
     modules: &[Module],
-    terms: &Bank,
+    copies: &[At],
     rule: &Rule,
     free: &mut Vec<Resource>,
     sequent: Sequent,
@@ -32,9 +33,10 @@ pub(crate) fn step(
     requires has { HasModules bank.old modules.now }
     requires modules { AreModulesSound (map (module_tree bank.old) modules.now) }
     requires holds { Holds (map (module_tree bank.old) modules.now) bank.old free.old.items sequent }
-    requires inside { HasLine terms.now rule.now }
-    requires line { is_line (line_of terms.now rule.now) ≡ true }
-    ensures is { IfOk result (IsStep (operators_of names.now) (map (module_tree bank.old) modules.now) (line_of terms.now rule.now) (sequent_in bank.old free.old.items sequent) bank.new free.old.items free.new.items) }
+    requires inside { AllInTerms bank.old copies.now }
+    requires reach { IsLineBelow (length copies.now) rule.now }
+    requires line { is_line (copied_line bank.old copies.now rule.now) ≡ true }
+    ensures is { IfOk result (IsStep (operators_of names.now) (map (module_tree bank.old) modules.now) (copied_line bank.old copies.now rule.now) (sequent_in bank.old free.old.items sequent) bank.new free.old.items free.new.items) }
     ensures keeps { Extends bank.old bank.new }
 {
     match rule {
@@ -73,7 +75,8 @@ pub(crate) fn step(
             Ok(step)
         }
         Rule::Exists(term) => {
-            let step = exists(alloc, bank, terms, *term, sequent)?;
+            let value = copy_at(copies, *term);
+            let step = exists(alloc, bank, value, sequent)?;
             Ok(step)
         }
         Rule::Use => {
@@ -87,11 +90,12 @@ pub(crate) fn step(
         Rule::Clause {
             label,
             leaf,
-            terms: values,
+            terms,
             parts,
         } => {
+            let values = copies_at(alloc, copies, terms)?;
             let step = clause(
-                alloc, bank, modules, terms, *label, *leaf, values, parts, free, sequent,
+                alloc, bank, modules, *label, *leaf, &values, parts, free, sequent,
             )?;
             Ok(step)
         }

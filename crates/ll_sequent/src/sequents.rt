@@ -1,5 +1,5 @@
 //! Sequents that wait for their derivations.
-use ll_bank::{Bank, FormAt};
+use ll_bank::{At, Bank, FormAt};
 
 /// A clause with its label.
 #[derive(Clone, Copy)]
@@ -25,10 +25,11 @@ pub(crate) enum Step {
     Leaves(Vec<Sequent>),
 }
 
-/// The root, and the unbounded clauses, with the bank in which all formulas lie.
+/// The root, and the unbounded clauses, with the bank in which all formulas lie, and the copies there of the derivation's terms.
 #[derive(Drop)]
 pub(crate) struct Start {
     pub bank: Bank,
+    pub copies: Vec<At>,
     pub free: Vec<Resource>,
     pub root: Sequent,
 }

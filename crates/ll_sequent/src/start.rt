@@ -1,21 +1,24 @@
 //! The sequent of a query.
-ghost use Rattle.std.specs.Prelude.{◌≡◌, ◌<◌, ◌^◌, List, true, map, length, IfOk};
+ghost use Rattle.std.specs.Prelude.{◌≡◌, ◌<◌, ◌^◌, List, true, map, length, All, IfOk};
 ghost use Rattle.std.specs.List.{list_all};
 ghost use Rattle.ll_bank.specs.Term.{is_closed};
 ghost use Rattle.ll_bank.specs.Nodes.{form_tree, term_trees, HasForm, AllInTerms, Extends};
 ghost use Rattle.ll_laws.specs.Module.{ModuleTree};
 ghost use Rattle.ll_laws.specs.Shown.{clause_tree, HasClauses};
+ghost use Rattle.ll_laws.specs.ShownLines.{line_of, HasLines};
 ghost use Rattle.ll_laws.specs.Verdict.{same_kind};
+ghost use Rattle.ll_sequent.specs.Copied.{IsLineBelow, copied_line};
 ghost use Rattle.ll_sequent.specs.Starting.{AreSound, IsRoot, of_kind as of_kind_of};
 
-use crate::copies::copies;
+use crate::copies::{copies_at, copies_of};
 use crate::sequents::{Resource, Sequent, Start};
 use crate::substitution::substituted;
 use ll_bank::{At, Bank, FormAt, OutOfMemory};
-use ll_laws::{Clause, Kind};
+use ll_laws::{Clause, Kind, Rule};
 use std::alloc::Global;
 
-/// The root: the program's clauses, by their places in the text, and the query with terms in place of its variables.
+/// The root: the program's clauses, by their places in the text, and the query with terms in place of its variables. The terms of the nodes
+/// are copied too.
 pub(crate) fn started(
     alloc: Global,
     bank: &Bank,
@@ -23,17 +26,23 @@ pub(crate) fn started(
     goal: FormAt,
     terms: &Bank,
     asked: &[At],
+    rules: &[Rule],
 ) -> Result<Start, OutOfMemory>
     requires clauses { HasClauses bank.now clauses.now }
     requires count { length clauses.now < 2 ^ 32 }
     requires goal { HasForm bank.now goal.0 }
     requires asked { AllInTerms terms.now asked.now }
     requires closed { list_all is_closed (term_trees terms.now asked.now) ≡ true }
+    requires lines { HasLines terms.now rules.now }
     ensures root { IfOk result (λ start. (modules : List ModuleTree) → AreSound modules (map (clause_tree bank.now) clauses.now) (form_tree bank.now goal.0) → IsRoot modules (map (clause_tree bank.now) clauses.now) (form_tree bank.now goal.0) (term_trees terms.now asked.now) start) }
     ensures keeps { IfOk result (λ start. Extends bank.now start.bank) }
+    ensures inside { IfOk result (λ start. AllInTerms start.bank start.copies.items) }
+    ensures reach { IfOk result (λ start. All (IsLineBelow (length start.copies.items)) rules.now) }
+    ensures lines { IfOk result (λ start. map (copied_line start.bank start.copies.items) rules.now ≡ map (line_of terms.now) rules.now) }
 {
     let mut own = bank.image(bank.size())?;
-    let values = copies(alloc, terms, asked, &mut own)?;
+    let copies = copies_of(alloc, terms, asked, rules, &mut own)?;
+    let values = copies_at(alloc, &copies, asked)?;
     let goal = substituted(alloc, &mut own, goal, &values)?;
     let mut free = of_kind(alloc, clauses, Kind::Unbounded)?;
     free.reverse();
@@ -44,6 +53,7 @@ pub(crate) fn started(
     };
     Ok(Start {
         bank: own,
+        copies,
         free,
         root,
     })

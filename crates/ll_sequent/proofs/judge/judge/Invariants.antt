@@ -2,9 +2,9 @@ use Rattle.std.proofs.Common.{◌≡◌, suc, [], ◌∷◌, map, drop, length, 
 use Rattle.ll_bank.specs.Nodes.{Extends}
 use Rattle.ll_laws.specs.Number.{operators_of}
 use Rattle.ll_laws.specs.Shown.{module_tree}
-use Rattle.ll_laws.specs.ShownLines.{line_of}
 use Rattle.ll_laws.specs.Line.{trees_of}
 use Rattle.ll_laws.specs.Shows.{Tree}
+use Rattle.ll_sequent.specs.Copied.{copied_line}
 use Rattle.ll_sequent.specs.Judging.{beside, fault_at}
 use Rattle.ll_sequent.specs.Sequents.{sequent_in, waiting_in, AreHeld, AreWaiting}
 use Rattle.ll_sequent.specs.Steps.{Owes}
@@ -14,7 +14,7 @@ abbrev pub invariant-loop-node : goal.invariant-loop-node
 invariant-loop-node l =
     let ops = operators_of l.names in
     let modules = map (module_tree l.fn.start.bank) l.modules in
-    let lines = map (line_of l.terms) l.rules in
+    let lines = map (copied_line l.fn.start.bank l.fn.start.copies.items) l.rules in
     let root = sequent_in l.fn.start.bank l.fn.start.free.items l.fn.start.root in
     record {
       keeps : Extends l.fn.start.bank l.bank;

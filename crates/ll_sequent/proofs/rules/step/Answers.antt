@@ -1,9 +1,13 @@
-use Rattle.std.proofs.Common.{map, subst, List, sym}
+use Rattle.std.proofs.Common.{map, subst, List, sym, ap, ◌∙◌}
+use Rattle.ll_bank.specs.declared.At.{At}
+use Rattle.ll_bank.specs.Nodes.{term_tree, AllInTerms}
 use Rattle.ll_bank.proofs.CallerLemmas.{Extends-refl}
 use Rattle.ll_laws.specs.Number.{operators_of}
 use Rattle.ll_laws.specs.Shown.{module_tree}
-use Rattle.ll_laws.specs.Line.{Line, OneLine, EraseLine, TensorLine, WithLine, LeftLine, RightLine, BangLine, NumLine}
+use Rattle.ll_laws.specs.Line.{Line, OneLine, EraseLine, TensorLine, WithLine, LeftLine, RightLine, BangLine, ExistsLine, NumLine}
+use Rattle.ll_sequent.specs.Copied.{copied_places}
 use Rattle.ll_sequent.specs.Judging.{IsStep}
+use Rattle.ll_sequent.proofs.CopyLemmas.{copied_inside}
 use Rattle.ll_sequent.specs.Sequents.{sequent_in}
 use Rattle.ll_sequent.proofs.RuleLemmas.{makes_step, makes_step_by}
 use Rattle.ll_sequent.specs.declared.sequents.Resource.{Resource}
@@ -85,7 +89,9 @@ returns-in_ok-step-in-Tensor-clause-is c =
     (makes_step c.args.bank.now (TensorLine c.deref.result.now c.deref-in-Tensor.result.now) c.args.sequent c.in_ok-step-in-Tensor.step c.args.free.now.items c.in_ok-step-in-Tensor.ensures (operators_of c.args.names.now) (map (module_tree c.args.bank.now) c.args.modules.now) c.requires.holds))
 
 pub returns-in_ok-step-in-Exists-clause-is : goal.returns-in_ok-step-in-Exists-clause-is
-returns-in_ok-step-in-Exists-clause-is c = rw c.in-Exists.is (c.in_ok-step-in-Exists.ensures.is (operators_of c.args.names.now) (map (module_tree c.args.bank.now) c.args.modules.now) c.args.free.now.items c.requires.holds)
+returns-in_ok-step-in-Exists-clause-is c =
+    let P : At → Type 0 = λ v. IsStep (operators_of c.args.names.now) (map (module_tree c.args.bank.now) c.args.modules.now) (ExistsLine (term_tree c.args.bank.now v.0)) (sequent_in c.args.bank.now c.args.free.now.items c.args.sequent) c.exists.new.bank c.args.free.now.items c.args.free.now.items c.in_ok-step-in-Exists.step in
+    rw c.in-Exists.is (subst P c.copy_at-value.ensures (c.in_ok-step-in-Exists.ensures.is (operators_of c.args.names.now) (map (module_tree c.args.bank.now) c.args.modules.now) c.args.free.now.items c.requires.holds))
 
 pub forall-requires-clause-free : goal.forall-requires-clause-free
 forall-requires-clause-free c =
@@ -120,4 +126,15 @@ returns-in_ok-step-in-Use-clause-is c = rw c.in-Use.is (c.in_ok-step-in-Use.ensu
 
 pub returns-in_ok-step-in-Clause-clause-is : goal.returns-in_ok-step-in-Clause-clause-is
 returns-in_ok-step-in-Clause-clause-is c =
-    let e = rw (c.deref-in-Clause.ensures.value, c.deref-in-Clause-2.ensures.value, c.deref-in-Clause-3.ensures.value) at (c.in_ok-step-in-Clause.ensures.is (operators_of c.args.names.now)) in rw c.in-Clause.is e
+    let places = c.deref-in-Clause-2.ensures.value ∙ (c.in_ok-values-in-Clause.ensures ∙ ap (λ ts. copied_places c.args.copies.now ts) c.deref-in-Clause.ensures.value) in
+    let e = rw (places, c.deref-in-Clause-3.ensures.value, c.deref-in-Clause-4.ensures.value) at (c.in_ok-step-in-Clause.ensures.is (operators_of c.args.names.now)) in rw c.in-Clause.is e
+
+pub returns-in_err-values-in-Clause-clause-keeps : goal.returns-in_err-values-in-Clause-clause-keeps
+returns-in_err-values-in-Clause-clause-keeps c = Extends-refl c.args.bank.now
+
+pub clause-requires-clause-inside : goal.clause-requires-clause-inside
+clause-requires-clause-inside c =
+    let below = rw c.in-Clause.is at c.requires.reach in
+    let places = c.deref-in-Clause-2.ensures.value ∙ (c.in_ok-values-in-Clause.ensures ∙ ap (λ ts. copied_places c.args.copies.now ts) c.deref-in-Clause.ensures.value) in
+    let P : List At → Type 0 = AllInTerms c.args.bank.now in
+    subst P (sym places) (copied_inside c.args.bank.now c.args.copies.now c.in-Clause.terms.items c.requires.inside below)

@@ -1,0 +1,34 @@
+use Rattle.std.proofs.Common.{List, length, take, subst, All, arith}
+use Rattle.std.proofs.lemmas.List.{take_all}
+use Rattle.std.proofs.lemmas.List.Elements.{All-more}
+use Rattle.ll_bank.proofs.CallerLemmas.{Extends-trans}
+use Rattle.ll_laws.specs.declared.Rule.{Rule}
+use Rattle.ll_sequent.specs.Copied.{IsLineBelow}
+use Rattle.ll_sequent.proofs.CopyLemmas.{below_more, lines_below_more}
+use Rattle.ll_sequent.proofs.copies.copies_of.Goals as goal
+
+pub copy_all-requires-clause-copies : goal.copy_all-requires-clause-copies
+copy_all-requires-clause-copies c = rw c.new-copies.ensures.items (λ at d l. absurd (omega arith))
+
+pub loop-i-init : goal.loop-i-init
+loop-i-init c = record { copies = c.in_ok-copy_all.ensures.copies; asked = c.in_ok-copy_all.ensures.reach; lines = λ k d l. absurd (omega arith); keeps = c.in_ok-copy_all.ensures.keeps }
+
+pub returns-in_err-copy_line-clause-keeps : goal.returns-in_err-copy_line-clause-keeps
+returns-in_err-copy_line-clause-keeps c = Extends-trans c.loop-i.invariant.keeps c.copy_line.ensures.keeps
+
+pub loop-i-preserved : goal.loop-i-preserved
+loop-i-preserved c =
+    let n = length c.loop-i.copies.items in
+    let m = length c.copy_line.new.copies.items in
+    let P : Rule → Type 0 = IsLineBelow m in
+    record {
+      copies = c.in_ok-copy_line.ensures.copies;
+      asked = below_more n m c.in_ok-copy_line.ensures.more c.args.asked.now c.loop-i.invariant.asked;
+      lines = All-more P c.args.rules.now c.loop-i.i c.index-rules-i.result (omega arith)
+          (lines_below_more n m c.in_ok-copy_line.ensures.more (take c.loop-i.i c.args.rules.now) c.loop-i.invariant.lines)
+          (subst P c.index-rules-i.is c.in_ok-copy_line.ensures.reach);
+      keeps = Extends-trans c.loop-i.invariant.keeps c.in_ok-copy_line.ensures.keeps;
+    }
+
+pub returns-clause-lines : goal.returns-clause-lines
+returns-clause-lines c = let P : List Rule → Type 0 = All (IsLineBelow (length c.loop-i.copies.items)) in subst P (take_all c.loop-i.i c.args.rules.now (omega arith)) c.loop-i.invariant.lines

@@ -20,6 +20,7 @@ mod Forks
 mod Turns
 mod Stepping
 mod Labels
+mod OwnTries
 mod Basing
 mod Pointing
 mod Splitting

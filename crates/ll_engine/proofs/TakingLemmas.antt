@@ -1,10 +1,11 @@
 -- A leaf taken for the atom in front of a machine's agenda.
 use Rattle.std.proofs.Common.{drop, ◌≡◌, ◌≢◌, ℕ, zero, suc, inl, inr, ◌+◌, ◌<◌, ◌≤◌, List, [], ◌∷◌, ◌++◌, length, map, All, get_or, refl, ap, sym, subst, ◌∙◌, arith, Option, Some, None, Bool, true, false}
-use Rattle.std.specs.Prelude.{slice_get, option_map, option_and_then, replicate, ◌&&◌, nat_le, slice_index}
-use Rattle.std.specs.List.{list_all}
+use Rattle.std.specs.Prelude.{flat_map, slice_index_or, slice_get, option_map, option_and_then, replicate, ◌&&◌, nat_le, slice_index}
+use Rattle.std.specs.List.{list_all, Contains}
 use Rattle.std.proofs.lemmas.Bool.{lt-ltb, ltb-true, cases_lt, and_from as and_intro}
 use Rattle.std.proofs.lemmas.List.{map-append, length-append, length-replicate, length-map}
-use Rattle.std.proofs.lemmas.List.Elements.{All-append, All-tail}
+use Rattle.std.proofs.lemmas.List.Elements.{All-append, All-contains, All-map, All-tail}
+use Rattle.std.proofs.lemmas.Option.{slice_get-get_or}
 use Rattle.std.proofs.lemmas.List.Folds.{list_all-append}
 use Rattle.ll_lists.proofs.CallerLemmas.{and_true_left as and_left}
 use Rattle.ll_bank.specs.declared.At.{At}
@@ -20,7 +21,7 @@ use Rattle.ll_laws.specs.Leaf.{Leaf, premise_goal, ways, leaf}
 use Rattle.ll_laws.specs.Settle.{Saved, Entry, map_entry}
 use Rattle.ll_laws.specs.State.{sub_item, sub_entry}
 use Rattle.ll_laws.specs.Unify.{Solved, mgu, vars_below}
-use Rattle.ll_laws.specs.Attempt.{vars_from, entry_at, picked, instantiated, with_leaf, take_way, take_entry, attempt_agenda, attempt}
+use Rattle.ll_laws.specs.Attempt.{vars_from, entry_at, picked, instantiated, with_leaf, take_entry, attempt_agenda, attempt, entry_tries, agenda_tries, tries}
 use Rattle.ll_laws.specs.Problem.{ProblemTree, setting_of}
 use Rattle.ll_laws.specs.Valid.{Allowed, IsFormula, IsValid, GoalSide, ClauseSide}
 use Rattle.ll_laws.specs.Consistent.{IsConsistent, allowed_in, is_made}
@@ -49,6 +50,8 @@ use Rattle.ll_engine.proofs.ReadLemmas.{reading_same, reading_past, read_same, l
 use Rattle.ll_engine.proofs.CellLemmas.{all_drop}
 use Rattle.ll_engine.proofs.MachineLemmas.{agenda_shown, goal_in_front}
 use Rattle.ll_engine.proofs.LaterLemmas.{items_later}
+use Rattle.ll_engine.proofs.OwnTries.{all_own}
+use Rattle.ll_engine.proofs.TakeLemmas.{at_their_labels, entry_there}
 use Rattle.ll_engine.proofs.StepLemmas.{atom_step, leaf_read, way_read}
 use Rattle.ll_engine.proofs.TakenLemmas.{made_at, found_has, entry_read, picked_all, reads_first, goals_later, picked_later, terms_taken, goals_sorted, goals_inside}
 
@@ -83,11 +86,6 @@ unfolding state_of
 attempt_atom m atom rest label k count e l h entry way is =
     atom_step (setting m) (state_of m) (read_term m.bank m.bound atom) (map (shown_item m.bank m.bound m.resources.kept) (items_at m.agenda rest)) label k count e l (atom_shown m atom rest h) entry way is
 
-past : (xs : List ℕ) (k : ℕ) → length xs ≤ k → slice_get xs k ≡ None
-past [] k h = refl
-past (x ∷ xs) zero h = absurd (omega arith)
-past (x ∷ xs) (suc k) h = past xs k (omega arith)
-
 -- no entry has the label
 pub no_entry : (m : Parts) (atom : At) (rest : AgendaTop) (c : Candidate) → IsFront m (AtomView atom) rest → entry_at m.resources.entries c.label ≡ None → attempt (setting m) (state_of m) c ≡ None
 unfolding attempt state_of
@@ -97,17 +95,30 @@ no_entry m atom rest c h none =
     ap (λ items. attempt_agenda (setting m) (state_of m) items c) (atom_shown m atom rest h)
     ∙ ap (option_and_then (take_entry (state_of m) a behind c.label c.leaf)) (entry_read (read_form m.bank m.bound) m.resources.entries c.label ∙ ap (option_map (shown_entry m.bank m.bound)) none)
 
--- its clause has no such leaf
-pub no_leaf : (m : Parts) (atom : At) (rest : AgendaTop) (c : Candidate) (e : Entry FormAt) → IsFront m (AtomView atom) rest → entry_at m.resources.entries c.label ≡ Some e
-    → length (ways (form_tree m.bank e.clause.0)) ≤ c.leaf → attempt (setting m) (state_of m) c ≡ None
-unfolding attempt state_of
-no_leaf m atom rest c e h found few =
+-- the candidates of the atom in front are leaves of the entries with their labels
+pub leaf_among : (m : Parts) (atom : At) (rest : AgendaTop) (c : Candidate) (e : Entry FormAt) → Fits m → IsFront m (AtomView atom) rest → Contains (tries (state_of m)) c
+    → entry_at m.resources.entries c.label ≡ Some e → c.leaf < length (ways (form_tree m.bank e.clause.0))
+unfolding tries state_of
+leaf_among m atom rest c e f h k found =
     let a = read_term m.bank m.bound atom in
-    let r = reading m.bank m.bound in
-    let behind = map (shown_item m.bank m.bound m.resources.kept) (items_at m.agenda rest) in
-    ap (λ items. attempt_agenda (setting m) (state_of m) items c) (atom_shown m atom rest h)
-    ∙ (ap (option_and_then (take_entry (state_of m) a behind c.label c.leaf)) (entry_read (read_form m.bank m.bound) m.resources.entries c.label ∙ ap (option_map (shown_entry m.bank m.bound)) found)
-    ∙ ap (option_and_then (take_way (state_of m) a behind c.label c.leaf (shown_entry m.bank m.bound e))) (ap (λ (ws : List ℕ). slice_get ws c.leaf) (ways-sub r (form_tree m.bank e.clause.0)) ∙ past (ways (form_tree m.bank e.clause.0)) c.leaf few))
+    let es = m.resources.entries in
+    let show : Entry FormAt → Entry Form = λ d. shown_entry m.bank m.bound d in
+    let IsLeaf : Candidate → Type 0 = λ x. (d : Entry FormAt) → entry_at es x.label ≡ Some d → x.leaf < length (ways (form_tree m.bank d.clause.0)) in
+    let Own : Entry Form → Type 0 = λ d. (x : Candidate) → x.label ≡ d.label → x.leaf < length (ways d.clause) → IsLeaf x in
+    let own : All (λ (d : Entry FormAt). Own (show d)) es = λ i z l. own_leaf m f (slice_index_or es i z) i (slice_get-get_or es i z l) in
+    All-contains IsLeaf (flat_map (entry_tries a) (map show es)) c (all_own a IsLeaf (map show es) (All-map Own show es own))
+    (subst (λ items. Contains (agenda_tries items (map show es)) c) (atom_shown m atom rest h) k) e found
+  where
+    own_leaf : (m : Parts) → Fits m → (d : Entry FormAt) (i : ℕ) → slice_get m.resources.entries i ≡ Some d → (x : Candidate) → x.label ≡ d.label
+        → x.leaf < length (ways (sub_form (reading m.bank m.bound) (form_tree m.bank d.clause.0)))
+        → (y : Entry FormAt) → entry_at m.resources.entries x.label ≡ Some y → x.leaf < length (ways (form_tree m.bank y.clause.0))
+    own_leaf m f d i g x q b y w =
+        let es = m.resources.entries in
+        let there : entry_at es d.label ≡ Some d = entry_there es d.label i d (sym (at_their_labels m f i d g)) g in
+        let both : Some d ≡ Some y = sym there ∙ (ap (λ l. entry_at es l) (sym q) ∙ w) in
+        let same : d ≡ y = cc in
+        let count = ap (λ (ws : List ℕ). length ws) (ways-sub (reading m.bank m.bound) (form_tree m.bank d.clause.0)) in
+        subst (λ (z : Entry FormAt). x.leaf < length (ways (form_tree m.bank z.clause.0))) same (omega arith)
 
 -- ---- items as the bank grows
 

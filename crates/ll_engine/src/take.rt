@@ -1,5 +1,6 @@
 //! Parts of an inference on an atom.
 ghost use Rattle.std.specs.Prelude.{◌≡◌, ◌<◌, ◌≤◌, ℕ, true, ◌++◌, ◌∷◌, [], length, Some, None, IfOk, IfSome, IfNone, OnOk, replicate};
+ghost use Rattle.std.specs.List.{Contains};
 ghost use Rattle.ll_bank.specs.Term.{close, applies_heads};
 ghost use Rattle.ll_bank.specs.Nodes.{form_tree, term_tree, HasTerm, AllInTerms, Extends};
 ghost use Rattle.ll_close.specs.Closing.{env_of};
@@ -8,9 +9,10 @@ ghost use Rattle.ll_bindings.specs.Fresh.{StandsNowhere};
 ghost use Rattle.ll_store.specs.Stored.{stored, KeepsMarks};
 ghost use Rattle.ll_store.specs.Tables.{table_of};
 ghost use Rattle.ll_laws.specs.Leaf.{ways};
-ghost use Rattle.ll_laws.specs.Attempt.{entry_at};
+ghost use Rattle.ll_laws.specs.Attempt.{entry_at, tries};
 ghost use Rattle.ll_laws.specs.Unify.{mgu};
 ghost use Rattle.ll_freeze.specs.Parts.{parts_of, Later};
+ghost use Rattle.ll_freeze.specs.Shown.{state_of};
 ghost use Rattle.ll_freeze.specs.Fits.{Fits};
 ghost use Rattle.ll_engine.specs.Attempts.{Attempts};
 ghost use Rattle.ll_engine.specs.Front.{IsFront};
@@ -21,7 +23,6 @@ ghost use Rattle.ll_resources.specs.Places.{label_place};
 ghost use Rattle.ll_resources.specs.History.{KeepsMarks as KeepsContextMarks};
 ghost use Rattle.ll_resources.specs.Seen.{resource};
 
-use crate::candidates::count_leaves;
 use crate::open::open_leaf;
 use ll_agenda::Top;
 use ll_bank::{At, FormAt, FormNode, OutOfMemory};
@@ -32,8 +33,8 @@ use ll_resources::{Context, Entry};
 use ll_store::Store;
 use std::alloc::Global;
 
-/// The place of the entry with a label, the newest being 0. Those of so many program clauses come last: one of them is found at once, and
-/// another entry by a walk from the front.
+/// The place of the entry with a label, the newest being 0. Those of so many program clauses come last: one of them is found at once, and so is
+/// another entry where none has gone that came before it. Else it is found by a walk from the front.
 pub fn place_with(context: &Context<FormAt>, clauses: usize, label: u32) -> Option<usize>
     requires { AreAtTheirLabels context.now.present.entries }
     ensures inside { IfSome result (λ place. place < length context.now.present.entries) }
@@ -41,6 +42,9 @@ pub fn place_with(context: &Context<FormAt>, clauses: usize, label: u32) -> Opti
     ensures none { IfNone result (entry_at context.now.present.entries label ≡ None) }
 {
     if let Some(place) = clause_place(context, clauses, label) {
+        return Some(place);
+    }
+    if let Some(place) = loaded_place(context, label) {
         return Some(place);
     }
     for from_front in 0..context.len() {
@@ -63,6 +67,21 @@ fn clause_place(context: &Context<FormAt>, clauses: usize, label: u32) -> Option
     if place >= context.len() {
         return None;
     }
+    let entry = context.entry(place);
+    if entry.label == label {
+        return Some(place);
+    }
+    None
+}
+
+/// The place of the entry with a label, if as many entries stand behind it as there are labels before it.
+fn loaded_place(context: &Context<FormAt>, label: u32) -> Option<usize>
+    requires { AreAtTheirLabels context.now.present.entries }
+    ensures inside { IfSome result (λ place. place < length context.now.present.entries) }
+    ensures some { IfSome result (λ place. place ≡ label_place label context.now.present.entries) }
+{
+    let left = context.len().checked_sub(label as usize)?;
+    let place = left.checked_sub(1)?;
     let entry = context.entry(place);
     if entry.label == label {
         return Some(place);
@@ -147,8 +166,7 @@ fn unify_leaf(
 
 /// Takes the leaf that a candidate names for the atom in front of the agenda, which has `rest` behind it.
 ///
-/// False where there is no such leaf, or where its head and the atom don't unify. Then the machine can only go back to a mark. After a
-/// refusal it is spent.
+/// False where its head and the atom don't unify. Then the machine can only go back to a mark. After a refusal it is spent.
 pub fn take_leaf(
     machine: &mut Machine<'_>,
     alloc: Global,
@@ -159,6 +177,7 @@ pub fn take_leaf(
     requires fits { Fits (parts_of machine.old) }
     requires left { 0 < machine.old.left }
     requires front { IsFront (parts_of machine.old) (FormNode.Atom atom) rest }
+    requires candidate { Contains (tries (state_of (parts_of machine.old))) candidate }
     ensures attempts { IfOk result (Attempts (parts_of machine.old) candidate (parts_of machine.new)) }
     ensures later { IfOk result (λ _. Later machine.old machine.new) }
 {
@@ -168,10 +187,6 @@ pub fn take_leaf(
         return Ok(false);
     };
     let entry = machine.context.entry(place);
-    let leaves = count_leaves(alloc, &machine.store.bank, entry.clause)?;
-    if candidate.leaf >= leaves {
-        return Ok(false);
-    }
     let done = take_leaf_of(machine, alloc, atom, rest, candidate, place, entry)?;
     Ok(done)
 }

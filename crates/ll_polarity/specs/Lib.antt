@@ -1,5 +1,5 @@
 pub mod Scope
-pub mod Meant
+pub mod NameMeanings
 pub mod Binders
 pub mod Named
 pub mod Reading

@@ -4,7 +4,7 @@ ghost use Rattle.std.specs.Prelude.{◌≡◌, ◌<◌, ℕ, ◌∷◌, List, []
 ghost use Rattle.std.specs.List.{list_any};
 ghost use Rattle.std.specs.Str.{bytes_eq};
 ghost use Rattle.ll_polarity.specs.Scope.{outer, is_variable, meaning, bound_by as bound_meaning, unbound as unbound_meaning};
-ghost use Rattle.ll_polarity.specs.Meant.{meant};
+ghost use Rattle.ll_polarity.specs.NameMeanings.{meant};
 
 use ll_bank::{Names, OutOfMemory};
 use std::alloc::Global;

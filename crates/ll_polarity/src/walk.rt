@@ -4,7 +4,7 @@ ghost use Rattle.std.specs.Prelude.{◌≡◌, ◌<◌, ◌*◌, ◌∷◌, ◌+
 ghost use Rattle.ll_parser.specs.Nodes.{raw_at};
 ghost use Rattle.ll_polarity.specs.declared.pending.Part.TheVariants.{Form, Term, Found, Close};
 ghost use Rattle.ll_polarity.specs.Scope.{binds};
-ghost use Rattle.ll_polarity.specs.Meant.{meant};
+ghost use Rattle.ll_polarity.specs.NameMeanings.{meant};
 ghost use Rattle.ll_polarity.specs.Faults.{Heading, may_be_head as may_head, on_goal_side, may_join as may_stand, left_side as left_of, right_side as right_of, other as other_side, unless as unless_fault, term_faults, form_faults};
 ghost use Rattle.ll_polarity.specs.Headings.{AreFound};
 ghost use Rattle.ll_polarity.specs.Pending.{side_of, size, IsHead, IsReady, IsOpened};

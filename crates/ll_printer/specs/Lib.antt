@@ -1,5 +1,5 @@
 pub mod Pieces
 pub mod Stack
 pub mod Parts
-pub mod Again
+pub mod ReadAgain
 pub mod Answers

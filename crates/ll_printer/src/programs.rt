@@ -6,7 +6,7 @@ ghost use Rattle.ll_parser.specs.Reads.{IsWhole};
 ghost use Rattle.ll_parser.specs.Drafts.{ClausesFit, ModuleFits};
 ghost use Rattle.ll_parser.specs.Printed.{names_text, clause_text, clauses_text, locals_text, module_text, program_text};
 ghost use Rattle.ll_printer.specs.Pieces.{BeginsText};
-ghost use Rattle.ll_printer.specs.Again.{IsReadAgain};
+ghost use Rattle.ll_printer.specs.ReadAgain.{IsReadAgain};
 
 use crate::formulas::{Source, write_formula, write_identifier};
 use ll_bank::{Names, OutOfMemory};

@@ -1,6 +1,6 @@
 use Rattle.std.proofs.Common.{◌≡◌, ℕ, sym, subst, ◌∙◌, ap, arith, length, IfOk}
 use Rattle.ll_prooftext.specs.Sizes.{size_in}
-use Rattle.ll_prooftext.proofs.Sizing.{is_second}
+use Rattle.ll_prooftext.proofs.writing.Sizing.{is_second}
 use Rattle.ll_prooftext.proofs.size.Goals as goal
 
 pub returns-then-version-eq1 : goal.returns-then-version-eq1

@@ -11,7 +11,7 @@ use Rattle.ll_prooftext.specs.ProofText2.{share_line, short_field, let_text_by, 
 use Rattle.ll_prooftext.specs.Short.{rule_places}
 use Rattle.ll_prooftext.specs.Table.{completed, rows_in}
 use Rattle.ll_prooftext.specs.Tables.{HasNumberAt, IsTableOf}
-use Rattle.ll_prooftext.proofs.ShortLines.{All-left, All-right, each_node, inside_nodes, four_parts, fields_of, text2_is}
+use Rattle.ll_prooftext.proofs.writing.ShortLines.{All-left, All-right, each_node, inside_nodes, four_parts, fields_of, text2_is}
 use Rattle.ll_prooftext.proofs.text2.Goals as goal
 
 pub places_of-requires : goal.places_of-requires

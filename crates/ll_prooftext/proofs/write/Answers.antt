@@ -9,7 +9,7 @@ use Rattle.ll_laws.specs.ShownLines.{line_of}
 use Rattle.ll_printer.specs.Pieces.{BeginsText}
 use Rattle.ll_prooftext.specs.Rows.{let_text}
 use Rattle.ll_printer.proofs.CallerLemmas.{begins_before}
-use Rattle.ll_prooftext.proofs.Writing.{both_stopped, both_whole}
+use Rattle.ll_prooftext.proofs.writing.Writing.{both_stopped, both_whole}
 use Rattle.ll_prooftext.proofs.write.Goals as goal
 
 pub returns-in_err-write_version-clause-begun : goal.returns-in_err-write_version-clause-begun

@@ -1,6 +1,6 @@
 use Rattle.std.proofs.Common.{refl}
 use Rattle.ll_top.specs.Outcome.{word_texts}
-use Rattle.ll_top.proofs.CallLemmas.{call-usage, call-absent, call-unreadable, call-unwritable, call-denied, call-covered, call-uncovered, completes}
+use Rattle.ll_top.proofs.outcomes.CallLemmas.{call-usage, call-absent, call-unreadable, call-unwritable, call-denied, call-covered, call-uncovered, completes}
 use Rattle.ll_top.proofs.lolli.Goals as goal
 
 pub returns-in-None-clause-usage : goal.returns-in-None-clause-usage

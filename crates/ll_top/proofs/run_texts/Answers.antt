@@ -1,6 +1,6 @@
 use Rattle.std.proofs.Common.{Some, None}
 use Rattle.ll_top.specs.Words.{shown_words}
-use Rattle.ll_top.proofs.OutcomeLemmas.{run-ended-as}
+use Rattle.ll_top.proofs.outcomes.OutcomeLemmas.{run-ended-as}
 use Rattle.ll_top.proofs.run_texts.Goals as goal
 
 pub returns-in-None-clause-ends : goal.returns-in-None-clause-ends

@@ -3,7 +3,7 @@ use Rattle.ll_edge.proofs.CallerLemmas.{Rose-later}
 use Rattle.ll_top.specs.Words.{shown_check}
 use Rattle.ll_top.specs.Endings.{cause_of}
 use Rattle.ll_top.specs.Outcome.{name_in_check}
-use Rattle.ll_top.proofs.OutcomeLemmas.{finding-ends, check-cut-ends, refuses-later, check-refusal-ends}
+use Rattle.ll_top.proofs.outcomes.OutcomeLemmas.{finding-ends, check-cut-ends, refuses-later, check-refusal-ends}
 use Rattle.ll_top.proofs.serve_check.Goals as goal
 
 pub returns-in-Ok-clause-ends : goal.returns-in-Ok-clause-ends

@@ -1,6 +1,6 @@
 use Rattle.ll_edge.proofs.CallerLemmas.{Rose-later}
 use Rattle.ll_top.specs.Endings.{cause_of}
-use Rattle.ll_top.proofs.OutcomeLemmas.{printed-ends, print-cut-ends, refuses-later, print-refusal-ends}
+use Rattle.ll_top.proofs.outcomes.OutcomeLemmas.{printed-ends, print-cut-ends, refuses-later, print-refusal-ends}
 use Rattle.ll_top.proofs.serve_print.Goals as goal
 
 pub returns-in-Ok-clause-ends : goal.returns-in-Ok-clause-ends

@@ -3,9 +3,9 @@ use Rattle.ll_edge.proofs.CallerLemmas.{Rose-later}
 use Rattle.ll_top.specs.Words.{shown_words}
 use Rattle.ll_top.specs.Endings.{cause_of}
 use Rattle.ll_top.specs.Outcome.{name_of}
-use Rattle.ll_top.proofs.OutcomeLemmas.{found-ends, cut-ends, memory-ends, refuses-later, refusal-ends}
-use Rattle.ll_top.proofs.ProvedLemmas.{run-shown, refused-past}
-use Rattle.ll_top.proofs.NothingLemmas.{asks-in-vain}
+use Rattle.ll_top.proofs.outcomes.OutcomeLemmas.{found-ends, cut-ends, memory-ends, refuses-later, refusal-ends}
+use Rattle.ll_top.proofs.calls.ProvedLemmas.{run-shown, refused-past}
+use Rattle.ll_top.proofs.calls.NothingLemmas.{asks-in-vain}
 use Rattle.ll_top.proofs.serve_run.Goals as goal
 
 pub returns-in-Ok-clause-ends : goal.returns-in-Ok-clause-ends

@@ -1,10 +1,10 @@
 use Rattle.std.proofs.Common.{ap, sym, subst}
 use Rattle.ll_top.specs.Words.{IsCommand, shown_words, shown_session, shown_deepen, shown_made_run}
 use Rattle.ll_top.specs.Outcome.{word_texts}
-use Rattle.ll_top.proofs.FirstWords.{asked-alone, asked-run, no-team, workers-in-form, bad-not-in-form}
-use Rattle.ll_top.proofs.CallLemmas.{run-call, session-call, deepen-call, made-run-call}
-use Rattle.ll_top.proofs.ProvedLemmas.{shown-run}
-use Rattle.ll_top.proofs.NothingLemmas.{vain-run}
+use Rattle.ll_top.proofs.forms.FirstWords.{asked-alone, asked-run, no-team, workers-in-form, bad-not-in-form}
+use Rattle.ll_top.proofs.outcomes.CallLemmas.{run-call, session-call, deepen-call, made-run-call}
+use Rattle.ll_top.proofs.calls.ProvedLemmas.{shown-run}
+use Rattle.ll_top.proofs.calls.NothingLemmas.{vain-run}
 use Rattle.ll_top.proofs.serve_search.Goals as goal
 
 pub unreachable-requires : goal.unreachable-requires

@@ -7,7 +7,7 @@ use Rattle.ll_parser.specs.Text.{queries}
 use Rattle.ll_polarity.specs.Faults.{query_faults}
 use Rattle.ll_polarity.specs.Numbered.{text_of}
 use Rattle.ll_polarity.specs.Places.{FindsFirst}
-use Rattle.ll_polarity.proofs.Shown.{room_asked, few_texts_of, asked_shown}
+use Rattle.ll_polarity.proofs.putting.Shown.{room_asked, few_texts_of, asked_shown}
 use Rattle.ll_polarity.proofs.asking.added.Goals as goal
 
 pub module_texts-requires : goal.module_texts-requires

@@ -4,9 +4,9 @@ use Rattle.ll_laws.specs.declared.Module.{Module}
 use Rattle.ll_polarity.specs.Faults.{query_faults}
 use Rattle.ll_polarity.specs.Asks.{headings_of, IsFirst}
 use Rattle.ll_polarity.specs.Loading.{IsNumbered}
-use Rattle.ll_polarity.proofs.Problems.{asked_problem_valid}
-use Rattle.ll_polarity.proofs.Shown.{modules_stay, clauses_stay, headings_shown, problem_shown}
-use Rattle.ll_polarity.proofs.Asked.{asks_problem, fault_of_part}
+use Rattle.ll_polarity.proofs.problems.Problems.{asked_problem_valid}
+use Rattle.ll_polarity.proofs.putting.Shown.{modules_stay, clauses_stay, headings_shown, problem_shown}
+use Rattle.ll_polarity.proofs.problems.Asked.{asks_problem, fault_of_part}
 use Rattle.ll_polarity.proofs.asking.ask.Goals as goal
 
 pub query_fault-requires-clause-named : goal.query_fault-requires-clause-named

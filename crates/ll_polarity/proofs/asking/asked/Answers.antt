@@ -3,7 +3,7 @@ use Rattle.std.proofs.lemmas.List.{take_more, take_all}
 use Rattle.std.specs.Prelude.{◌^◌}
 use Rattle.ll_polarity.specs.Numbered.{variables_of}
 use Rattle.ll_polarity.specs.Asks.{read_asked}
-use Rattle.ll_polarity.proofs.Posing.{AreAsked, asked_more, room_more}
+use Rattle.ll_polarity.proofs.problems.QueryParts.{AreAsked, asked_more, room_more}
 use Rattle.ll_polarity.proofs.asking.asked.Goals as goal
 
 pub asked_name-requires : goal.asked_name-requires

@@ -1,5 +1,5 @@
 use Rattle.std.proofs.Common.{take}
-use Rattle.ll_polarity.proofs.Posing.{AreAsked}
+use Rattle.ll_polarity.proofs.problems.QueryParts.{AreAsked}
 use Rattle.ll_polarity.proofs.asking.asked.Given as goal
 
 abbrev pub invariant-loop-variable : goal.invariant-loop-variable

@@ -9,9 +9,9 @@ use Rattle.ll_polarity.specs.Reading.{Met}
 use Rattle.ll_polarity.specs.Built.{built_form}
 use Rattle.ll_polarity.specs.Standing.{outermost}
 use Rattle.ll_polarity.specs.Places.{place_in}
-use Rattle.ll_polarity.proofs.Building.{same_form, met_form}
-use Rattle.ll_polarity.proofs.Clauses.{room_whole}
-use Rattle.ll_polarity.proofs.Named.{whole_query_named}
+use Rattle.ll_polarity.proofs.reading.Building.{same_form, met_form}
+use Rattle.ll_polarity.proofs.putting.Clauses.{room_whole}
+use Rattle.ll_polarity.proofs.naming.Named.{whole_query_named}
 use Rattle.ll_polarity.proofs.asking.goal_of.Goals as goal
 
 pub returns-in_err-binders-clause-keeps : goal.returns-in_err-binders-clause-keeps

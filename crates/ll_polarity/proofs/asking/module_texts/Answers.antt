@@ -2,7 +2,7 @@ use Rattle.std.proofs.Common.{[]}
 use Rattle.std.specs.String.{string_bytes}
 use Rattle.std.proofs.lemmas.Option.{get_or_from_slice_get}
 use Rattle.ll_polarity.specs.Numbered.{text_of}
-use Rattle.ll_polarity.proofs.Posing.{texts_more}
+use Rattle.ll_polarity.proofs.problems.QueryParts.{texts_more}
 use Rattle.ll_polarity.proofs.asking.module_texts.Goals as goal
 
 pub loop-module-preserved : goal.loop-module-preserved

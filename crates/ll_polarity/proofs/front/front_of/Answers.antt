@@ -8,7 +8,7 @@ use Rattle.ll_polarity.specs.Reading.{Met, read_name, variable_in}
 use Rattle.ll_polarity.specs.Numbered.{text_of, variables_of}
 use Rattle.ll_polarity.specs.Built.{put_term}
 use Rattle.ll_polarity.specs.Standing.{met_of, front_term}
-use Rattle.ll_polarity.proofs.Fronts.{number_is, added_is, bound_inside, local_inside, constant_number, put_constant}
+use Rattle.ll_polarity.proofs.naming.Fronts.{number_is, added_is, bound_inside, local_inside, constant_number, put_constant}
 use Rattle.ll_polarity.proofs.front.front_of.Goals as goal
 
 pub binder-requires : goal.binder-requires

@@ -6,8 +6,8 @@ use Rattle.ll_parser.specs.Text.{programs}
 use Rattle.ll_polarity.specs.Faults.{heading, modules_faults, program_faults}
 use Rattle.ll_polarity.specs.Pending.{IsHead}
 use Rattle.ll_polarity.specs.Ready.{AreClausesReady, IsModuleReady}
-use Rattle.ll_polarity.proofs.Named.{whole_program_named}
-use Rattle.ll_polarity.proofs.Judging.{head-before, head-after, program-clauses-ready, program-modules-ready, headings-known, clauses-head}
+use Rattle.ll_polarity.proofs.naming.Named.{whole_program_named}
+use Rattle.ll_polarity.proofs.faults.Judging.{head-before, head-after, program-clauses-ready, program-modules-ready, headings-known, clauses-head}
 use Rattle.ll_polarity.proofs.judge.judge_program.Goals as goal
 
 pub own_headings-requires : goal.own_headings-requires

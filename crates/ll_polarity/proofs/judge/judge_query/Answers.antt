@@ -3,7 +3,7 @@ use Rattle.ll_parser.specs.Reads.{IsWhole}
 use Rattle.ll_parser.specs.Text.{queries}
 use Rattle.ll_polarity.specs.Faults.{query_faults}
 use Rattle.ll_polarity.specs.Pending.{IsHead}
-use Rattle.ll_polarity.proofs.Named.{whole_query_named}
+use Rattle.ll_polarity.proofs.naming.Named.{whole_query_named}
 use Rattle.ll_polarity.proofs.judge.judge_query.Goals as goal
 
 pub first_fault-requires-clause-ready : goal.first_fault-requires-clause-ready

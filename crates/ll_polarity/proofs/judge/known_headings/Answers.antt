@@ -2,7 +2,7 @@ use Rattle.std.proofs.Common.{◌≡◌, [], sym, ap}
 use Rattle.std.proofs.lemmas.Option.{get_or_from_slice_get}
 use Rattle.ll_polarity.specs.Faults.{Heading}
 use Rattle.ll_polarity.specs.Ready.{known_heading}
-use Rattle.ll_polarity.proofs.Judging.{headings-more}
+use Rattle.ll_polarity.proofs.faults.Judging.{headings-more}
 use Rattle.ll_polarity.proofs.judge.known_headings.Goals as goal
 
 pub loop-module-preserved : goal.loop-module-preserved

@@ -3,7 +3,7 @@ use Rattle.ll_parser.specs.Nodes.{identifier, shown_clause}
 use Rattle.ll_polarity.specs.Scope.{Scoped}
 use Rattle.ll_polarity.specs.Faults.{repeated, clauses_faults}
 use Rattle.ll_polarity.specs.Pending.{IsHead}
-use Rattle.ll_polarity.proofs.Judging.{head-after, scope-of-module, where-none}
+use Rattle.ll_polarity.proofs.faults.Judging.{head-after, scope-of-module, where-none}
 use Rattle.ll_polarity.proofs.judge.module_fault.Goals as goal
 
 pub returns-clause-first : goal.returns-clause-first

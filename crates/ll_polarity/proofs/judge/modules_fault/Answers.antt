@@ -5,7 +5,7 @@ use Rattle.std.proofs.lemmas.List.{drop_all}
 use Rattle.ll_parser.specs.Nodes.{shown_module}
 use Rattle.ll_polarity.specs.Scope.{Binder, Scoped}
 use Rattle.ll_polarity.specs.Faults.{modules_faults}
-use Rattle.ll_polarity.proofs.Judging.{first-along, head-along, name-repeated, fault-inside, module-done, where-none}
+use Rattle.ll_polarity.proofs.faults.Judging.{first-along, head-along, name-repeated, fault-inside, module-done, where-none}
 use Rattle.ll_polarity.proofs.judge.modules_fault.Goals as goal
 
 pub returns-then-has : goal.returns-then-has

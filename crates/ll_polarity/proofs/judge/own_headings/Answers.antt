@@ -2,7 +2,7 @@ use Rattle.std.proofs.Common.{◌≡◌, [], length, slice_index_or, rules, sym,
 use Rattle.std.proofs.lemmas.Option.{get_or_from_slice_get}
 use Rattle.ll_polarity.specs.Faults.{Heading}
 use Rattle.ll_polarity.specs.Ready.{raw_heading}
-use Rattle.ll_polarity.proofs.Judging.{headings-more}
+use Rattle.ll_polarity.proofs.faults.Judging.{headings-more}
 use Rattle.ll_polarity.proofs.judge.own_headings.Goals as goal
 
 pub loop-module-preserved : goal.loop-module-preserved

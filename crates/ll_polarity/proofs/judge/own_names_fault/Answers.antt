@@ -1,6 +1,6 @@
 use Rattle.std.proofs.Common.{map, sym, ap, ◌∙◌}
 use Rattle.ll_polarity.specs.Scope.{Binder}
-use Rattle.ll_polarity.proofs.Judging.{own-first}
+use Rattle.ll_polarity.proofs.faults.Judging.{own-first}
 use Rattle.ll_polarity.proofs.judge.own_names_fault.Goals as goal
 
 pub returns-clause-first : goal.returns-clause-first

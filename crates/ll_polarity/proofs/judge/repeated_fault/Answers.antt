@@ -2,7 +2,7 @@ use Rattle.std.proofs.Common.{[], map, sym, ap, ◌∙◌, slice_index_or}
 use Rattle.std.specs.List.{list_any}
 use Rattle.std.specs.Str.{bytes_eq}
 use Rattle.ll_polarity.specs.Scope.{Binder}
-use Rattle.ll_polarity.proofs.Judging.{repeated-head, first-along}
+use Rattle.ll_polarity.proofs.faults.Judging.{repeated-head, first-along}
 use Rattle.ll_polarity.proofs.judge.repeated_fault.Goals as goal
 
 pub returns-then-has-clause-first : goal.returns-then-has-clause-first

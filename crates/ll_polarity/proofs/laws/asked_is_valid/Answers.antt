@@ -1,6 +1,6 @@
 use Rattle.std.proofs.Common.{length, arith}
 use Rattle.ll_polarity.specs.Asks.{part_of}
-use Rattle.ll_polarity.proofs.Problems.{part_valid, asked_problem_valid}
+use Rattle.ll_polarity.proofs.problems.Problems.{part_valid, asked_problem_valid}
 use Rattle.ll_polarity.proofs.laws.asked_is_valid.Goals as goal
 
 pub returns-clause-part : goal.returns-clause-part

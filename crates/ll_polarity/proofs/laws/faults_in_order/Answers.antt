@@ -1,4 +1,4 @@
-use Rattle.ll_polarity.proofs.TextOrder.{order_program, order_query}
+use Rattle.ll_polarity.proofs.faults.TextOrder.{order_program, order_query}
 use Rattle.ll_polarity.proofs.laws.faults_in_order.Goals as goal
 
 pub returns-clause-program : goal.returns-clause-program

@@ -4,10 +4,10 @@ use Rattle.ll_parser.specs.Reads.{IsWhole}
 use Rattle.ll_parser.specs.Text.{programs}
 use Rattle.ll_polarity.specs.Asks.{module_names}
 use Rattle.ll_polarity.specs.Places.{FindsFirst}
-use Rattle.ll_polarity.proofs.Judging.{program-modules-ready}
-use Rattle.ll_polarity.proofs.Named.{whole_program_named}
-use Rattle.ll_polarity.proofs.PartNumbers.{few_bodies}
-use Rattle.ll_polarity.proofs.PartShown.{places_found}
+use Rattle.ll_polarity.proofs.faults.Judging.{program-modules-ready}
+use Rattle.ll_polarity.proofs.naming.Named.{whole_program_named}
+use Rattle.ll_polarity.proofs.naming.PartNumbers.{few_bodies}
+use Rattle.ll_polarity.proofs.problems.PartShown.{places_found}
 use Rattle.ll_polarity.proofs.loading.fixed_part.Goals as goal
 
 pub places_of-requires-clause-named : goal.places_of-requires-clause-named

@@ -11,11 +11,11 @@ use Rattle.ll_polarity.specs.Calls.{IsReady}
 use Rattle.ll_polarity.specs.Faults.{program_faults}
 use Rattle.ll_polarity.specs.Places.{FindsFirst, place_in}
 use Rattle.ll_polarity.specs.Ready.{IsModuleReady}
-use Rattle.ll_polarity.proofs.Judging.{program-clauses-ready, program-modules-ready}
-use Rattle.ll_polarity.proofs.ModuleRows.{few_own_shown, ready_clauses, stands_first, whole_few_own}
-use Rattle.ll_polarity.proofs.Named.{whole_program_named}
-use Rattle.ll_polarity.proofs.PartNumbers.{part_numbered, room_at_clauses, room_at_modules}
-use Rattle.ll_polarity.proofs.PartShown.{part_shown}
+use Rattle.ll_polarity.proofs.faults.Judging.{program-clauses-ready, program-modules-ready}
+use Rattle.ll_polarity.proofs.putting.ModuleRows.{few_own_shown, ready_clauses, stands_first, whole_few_own}
+use Rattle.ll_polarity.proofs.naming.Named.{whole_program_named}
+use Rattle.ll_polarity.proofs.naming.PartNumbers.{part_numbered, room_at_clauses, room_at_modules}
+use Rattle.ll_polarity.proofs.problems.PartShown.{part_shown}
 use Rattle.ll_polarity.proofs.loading.put_part.Goals as goal
 
 pub clauses-requires-clause-stands : goal.clauses-requires-clause-stands

@@ -3,7 +3,7 @@ use Rattle.std.proofs.lemmas.List.{length-map, take_all}
 use Rattle.std.proofs.lemmas.Option.{get_or_from_slice_get}
 use Rattle.ll_polarity.specs.Numbered.{text_of}
 use Rattle.ll_polarity.specs.Places.{FindsFirst}
-use Rattle.ll_polarity.proofs.Placing.{places_more}
+use Rattle.ll_polarity.proofs.putting.Placing.{places_more}
 use Rattle.ll_polarity.proofs.modules.places_of.Goals as goal
 
 pub loop-place-preserved : goal.loop-place-preserved

@@ -10,7 +10,7 @@ use Rattle.ll_polarity.specs.Faults.{Heading, form_faults}
 use Rattle.ll_polarity.specs.Places.{place_in}
 use Rattle.ll_polarity.specs.Reading.{module_in}
 use Rattle.ll_polarity.specs.Scope.{Scope}
-use Rattle.ll_polarity.proofs.Clauses.{AreRead, read_more, room_next}
+use Rattle.ll_polarity.proofs.putting.Clauses.{AreRead, read_more, room_next}
 use Rattle.ll_polarity.proofs.put_clauses.clauses.Goals as goal
 
 pub loop-raw-init : goal.loop-raw-init

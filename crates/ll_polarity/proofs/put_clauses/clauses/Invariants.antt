@@ -1,6 +1,6 @@
 use Rattle.std.proofs.Common.{◌≡◌, take}
 use Rattle.ll_polarity.specs.Places.{place_in}
-use Rattle.ll_polarity.proofs.Clauses.{AreRead}
+use Rattle.ll_polarity.proofs.putting.Clauses.{AreRead}
 use Rattle.ll_polarity.proofs.put_clauses.clauses.Given as goal
 
 abbrev pub invariant-loop-raw : goal.invariant-loop-raw

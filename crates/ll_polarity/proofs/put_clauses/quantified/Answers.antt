@@ -8,8 +8,8 @@ use Rattle.ll_polarity.specs.Numbered.{variables_of}
 use Rattle.ll_polarity.specs.Built.{built_form}
 use Rattle.ll_polarity.specs.Standing.{outermost}
 use Rattle.ll_polarity.specs.Places.{place_in}
-use Rattle.ll_polarity.proofs.Again.{clause_built}
-use Rattle.ll_polarity.proofs.Clauses.{room_whole, names_met, count_met, few_met, names_again}
+use Rattle.ll_polarity.proofs.reading.Reread.{clause_built}
+use Rattle.ll_polarity.proofs.putting.Clauses.{room_whole, names_met, count_met, few_met, names_again}
 use Rattle.ll_polarity.proofs.put_clauses.quantified.Goals as goal
 
 pub form-requires-clause-room : goal.form-requires-clause-room

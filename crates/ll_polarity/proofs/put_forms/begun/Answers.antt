@@ -17,7 +17,7 @@ use Rattle.ll_polarity.specs.Places.{place_in}
 use Rattle.ll_polarity.specs.Standing.{around, met_of, HasRoom}
 use Rattle.ll_polarity.specs.Frames.{Advances}
 use Rattle.ll_polarity.specs.Grounds.{ground}
-use Rattle.ll_polarity.proofs.Framing.{advance_read, entered_around, load_read, room_load}
+use Rattle.ll_polarity.proofs.putting.Framing.{advance_read, entered_around, load_read, room_load}
 use Rattle.ll_polarity.proofs.put_forms.begun.Goals as goal
 
 pub returns-in_err-push-in-Braces-clause-keeps : goal.returns-in_err-push-in-Braces-clause-keeps

@@ -3,7 +3,7 @@ use Rattle.ll_parser.specs.Nodes.{raw_at}
 use Rattle.ll_polarity.specs.Standing.{met_of, around}
 use Rattle.ll_polarity.specs.Frames.{left_built}
 use Rattle.ll_polarity.specs.Grounds.{ground}
-use Rattle.ll_polarity.proofs.Calling.{longer_built, room_before}
+use Rattle.ll_polarity.proofs.putting.Calling.{longer_built, room_before}
 use Rattle.ll_polarity.proofs.put_forms.both_sides.Goals as goal
 
 pub term-requires-clause-room : goal.term-requires-clause-room

@@ -8,7 +8,7 @@ use Rattle.ll_polarity.specs.Built.{built_form}
 use Rattle.ll_polarity.specs.Standing.{met_of, around, outermost}
 use Rattle.ll_polarity.specs.Frames.{frames_left, step_left, within_all}
 use Rattle.ll_polarity.specs.Grounds.{ground}
-use Rattle.ll_polarity.proofs.Framing.{IsComing, stands_now, coming_room, coming_begun, coming_given, less_coming, less_taken, taken_around, taken_fits, has_parts}
+use Rattle.ll_polarity.proofs.putting.Framing.{IsComing, stands_now, coming_room, coming_begun, coming_given, less_coming, less_taken, taken_around, taken_fits, has_parts}
 use Rattle.ll_polarity.proofs.put_forms.form.Goals as goal
 
 pub steps-init : goal.steps-init

@@ -5,7 +5,7 @@ use Rattle.ll_polarity.specs.Built.{built_form}
 use Rattle.ll_polarity.specs.Standing.{met_of, around, outermost}
 use Rattle.ll_polarity.specs.Frames.{frames_left, step_left}
 use Rattle.ll_polarity.specs.Grounds.{ground}
-use Rattle.ll_polarity.proofs.Framing.{IsComing}
+use Rattle.ll_polarity.proofs.putting.Framing.{IsComing}
 use Rattle.ll_polarity.proofs.put_forms.form.Given as goal
 
 abbrev pub invariant-steps : goal.invariant-steps

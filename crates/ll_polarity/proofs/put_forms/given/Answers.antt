@@ -11,7 +11,7 @@ use Rattle.ll_polarity.specs.Reading.{Read, joined}
 use Rattle.ll_polarity.specs.Standing.{around}
 use Rattle.ll_polarity.specs.Numbered.{text_of}
 use Rattle.ll_polarity.specs.Frames.{FrameFits, Advances, wraps, within, frame_left}
-use Rattle.ll_polarity.proofs.Framing.{advance_give, advance_read, back_out}
+use Rattle.ll_polarity.proofs.putting.Framing.{advance_give, advance_read, back_out}
 use Rattle.ll_polarity.proofs.put_forms.given.Goals as goal
 
 pub returns-in_err-push-in-Left-clause-keeps : goal.returns-in_err-push-in-Left-clause-keeps

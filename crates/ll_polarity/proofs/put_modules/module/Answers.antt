@@ -1,7 +1,7 @@
 use Rattle.std.proofs.Common.{◌≡◌, [], length, rules, refl}
 use Rattle.std.proofs.lemmas.Option.{get_or_from_slice_get}
-use Rattle.ll_polarity.proofs.Judging.{scope-of-module}
-use Rattle.ll_polarity.proofs.PartShown.{clauses_faultless, module_shown, module_names_met}
+use Rattle.ll_polarity.proofs.faults.Judging.{scope-of-module}
+use Rattle.ll_polarity.proofs.problems.PartShown.{clauses_faultless, module_shown, module_names_met}
 use Rattle.ll_polarity.proofs.put_modules.module.Goals as goal
 
 pub returns-clause-shows : goal.returns-clause-shows

@@ -3,7 +3,7 @@ use Rattle.std.proofs.lemmas.List.{take_more}
 use Rattle.ll_bank.proofs.CallerLemmas.{Extends-refl}
 use Rattle.ll_parser.specs.declared.RawModule.{RawModule}
 use Rattle.ll_polarity.specs.Places.{place_in}
-use Rattle.ll_polarity.proofs.ModuleRows.{AreModulesRead, modules_more, room_at_module}
+use Rattle.ll_polarity.proofs.putting.ModuleRows.{AreModulesRead, modules_more, room_at_module}
 use Rattle.ll_polarity.proofs.put_modules.modules.Goals as goal
 
 pub loop-body-init : goal.loop-body-init

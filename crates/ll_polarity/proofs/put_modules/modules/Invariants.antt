@@ -1,6 +1,6 @@
 use Rattle.std.proofs.Common.{◌≡◌, take, []}
 use Rattle.ll_polarity.specs.Places.{place_in}
-use Rattle.ll_polarity.proofs.ModuleRows.{AreModulesRead}
+use Rattle.ll_polarity.proofs.putting.ModuleRows.{AreModulesRead}
 use Rattle.ll_polarity.proofs.put_modules.modules.Given as goal
 
 abbrev pub invariant-loop-body : goal.invariant-loop-body

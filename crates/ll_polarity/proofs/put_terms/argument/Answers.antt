@@ -1,6 +1,6 @@
 use Rattle.std.proofs.Common.{ap}
 use Rattle.ll_polarity.specs.Built.{arguments}
-use Rattle.ll_polarity.proofs.Calling.{found_argument}
+use Rattle.ll_polarity.proofs.putting.Calling.{found_argument}
 use Rattle.ll_polarity.proofs.put_terms.argument.Goals as goal
 
 pub returns-in-Head : goal.returns-in-Head

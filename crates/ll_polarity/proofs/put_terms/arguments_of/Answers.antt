@@ -9,7 +9,7 @@ use Rattle.ll_polarity.specs.Reading.{Read}
 use Rattle.ll_polarity.specs.Built.{built_terms, arguments, raws_past}
 use Rattle.ll_polarity.specs.Standing.{met_of, around}
 use Rattle.ll_polarity.specs.Calls.{Site}
-use Rattle.ll_polarity.proofs.Calling.{named_argument, args_room, args_more, less_more}
+use Rattle.ll_polarity.proofs.putting.Calling.{named_argument, args_room, args_more, less_more}
 use Rattle.ll_polarity.proofs.put_terms.arguments_of.Goals as goal
 
 pub arguments-init : goal.arguments-init

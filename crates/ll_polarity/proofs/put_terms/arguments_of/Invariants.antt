@@ -3,7 +3,7 @@ use Rattle.ll_parser.specs.Nodes.{raw_at}
 use Rattle.ll_parser.specs.Weights.{weights}
 use Rattle.ll_polarity.specs.Built.{built_terms, arguments, raws_past}
 use Rattle.ll_polarity.specs.Standing.{met_of, around}
-use Rattle.ll_polarity.proofs.Calling.{AreOnTheWay}
+use Rattle.ll_polarity.proofs.putting.Calling.{AreOnTheWay}
 use Rattle.ll_polarity.proofs.put_terms.arguments_of.Given as goal
 
 abbrev pub invariant-arguments : goal.invariant-arguments

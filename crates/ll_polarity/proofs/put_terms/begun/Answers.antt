@@ -4,7 +4,7 @@ use Rattle.ll_parser.specs.Nodes.{identifier, raws_in, raw_trees}
 use Rattle.ll_parser.specs.Seen.{places}
 use Rattle.ll_polarity.specs.Built.{built_term}
 use Rattle.ll_polarity.specs.Standing.{met_of, around, HasRoom}
-use Rattle.ll_polarity.proofs.Calling.{room_head}
+use Rattle.ll_polarity.proofs.putting.Calling.{room_head}
 use Rattle.ll_polarity.proofs.put_terms.begun.Goals as goal
 
 pub front_of-requires-clause-room : goal.front_of-requires-clause-room

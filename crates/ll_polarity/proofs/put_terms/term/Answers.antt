@@ -8,7 +8,7 @@ use Rattle.ll_bank.specs.Term.{Term}
 use Rattle.ll_polarity.specs.Built.{built_term}
 use Rattle.ll_polarity.specs.Standing.{met_of, around}
 use Rattle.ll_polarity.specs.Calls.{Site}
-use Rattle.ll_polarity.proofs.Calling.{IsOnTheWay, calls_left, turn_left, room_on_the_way, way_begun, way_resumed, way_given, less_begun, less_resumed, less_given}
+use Rattle.ll_polarity.proofs.putting.Calling.{IsOnTheWay, calls_left, turn_left, room_on_the_way, way_begun, way_resumed, way_given, less_begun, less_resumed, less_given}
 use Rattle.ll_polarity.proofs.put_terms.term.Goals as goal
 
 pub turns-init : goal.turns-init

@@ -2,7 +2,7 @@ use Rattle.std.proofs.Common.{◌+◌}
 use Rattle.ll_parser.specs.Nodes.{raw_at}
 use Rattle.ll_polarity.specs.Built.{built_term}
 use Rattle.ll_polarity.specs.Standing.{met_of, around}
-use Rattle.ll_polarity.proofs.Calling.{IsOnTheWay, calls_left, turn_left}
+use Rattle.ll_polarity.proofs.putting.Calling.{IsOnTheWay, calls_left, turn_left}
 use Rattle.ll_polarity.proofs.put_terms.term.Given as goal
 
 abbrev pub invariant-turns : goal.invariant-turns

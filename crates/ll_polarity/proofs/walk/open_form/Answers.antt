@@ -2,7 +2,7 @@ use Rattle.std.proofs.Common.{ap, ◌∙◌, slice_index_or, [], map, ◌++◌}
 use Rattle.ll_polarity.specs.declared.pending.Part.TheVariants.{Found}
 use Rattle.ll_polarity.specs.Scope.{meaning}
 use Rattle.ll_polarity.specs.Faults.{may_be_head, unless}
-use Rattle.ll_polarity.proofs.Opening.{opened-head, opened-load}
+use Rattle.ll_polarity.proofs.putting.Opening.{opened-head, opened-load}
 use Rattle.ll_polarity.proofs.walk.open_form.Goals as goal
 
 pub returns-in_ok-open_load-in-Load-clause-opened : goal.returns-in_ok-open_load-in-Load-clause-opened

@@ -4,7 +4,7 @@ use Rattle.ll_parser.specs.Seen.{places}
 use Rattle.ll_polarity.specs.declared.pending.Part.TheVariants.{Found}
 use Rattle.ll_polarity.specs.Scope.{meaning}
 use Rattle.ll_polarity.specs.Faults.{may_be_head, unless, applied_fault}
-use Rattle.ll_polarity.proofs.Opening.{opened-term, applied-none, applied-some}
+use Rattle.ll_polarity.proofs.putting.Opening.{opened-term, applied-none, applied-some}
 use Rattle.ll_polarity.proofs.walk.open_term.Goals as goal
 use Rattle.ll_polarity.proofs.walk.open_term.Goals.{then-is_empty, else-is_empty}
 

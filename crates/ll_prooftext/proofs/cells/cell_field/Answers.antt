@@ -1,8 +1,8 @@
 use Rattle.std.proofs.Common.{arith, length}
 use Rattle.ll_bank.specs.Nodes.{term_trees}
 use Rattle.ll_prooftext.specs.Reading.{Cell}
-use Rattle.ll_prooftext.proofs.CellsRead.{cell_made, cell_none}
-use Rattle.ll_prooftext.proofs.Rest.{nothing_there}
+use Rattle.ll_prooftext.proofs.reading.CellsRead.{cell_made, cell_none}
+use Rattle.ll_prooftext.proofs.reading.Rest.{nothing_there}
 use Rattle.ll_prooftext.proofs.cells.cell_field.Goals as goal
 
 pub returns-in-Some-2-clause-ok : goal.returns-in-Some-2-clause-ok

@@ -6,8 +6,8 @@ use Rattle.ll_bank.specs.Nodes.{term_tree, term_trees}
 use Rattle.ll_prooftext.specs.Reading.{Cell}
 use Rattle.ll_prooftext.specs.Fields.{LacksField}
 use Rattle.ll_prooftext.specs.Cells.{IsCellField, StopsAtCell}
-use Rattle.ll_prooftext.proofs.Rest.{refuses_weaker}
-use Rattle.ll_prooftext.proofs.CellsRead.{cells_none, cells_more, cells_stop, rows_same, rows_stay}
+use Rattle.ll_prooftext.proofs.reading.Rest.{refuses_weaker}
+use Rattle.ll_prooftext.proofs.reading.CellsRead.{cells_none, cells_more, cells_stop, rows_same, rows_stay}
 use Rattle.ll_prooftext.proofs.cells.cell_fields.Goals as goal
 
 pub loop-names-init : goal.loop-names-init

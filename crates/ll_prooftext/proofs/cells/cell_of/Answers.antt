@@ -1,6 +1,6 @@
 use Rattle.std.proofs.Common.{length}
 use Rattle.ll_bank.specs.Nodes.{term_trees}
-use Rattle.ll_prooftext.proofs.CellsRead.{no_cell, row_found, row_found_moves, word_cell, word_moves}
+use Rattle.ll_prooftext.proofs.reading.CellsRead.{no_cell, row_found, row_found_moves, word_cell, word_moves}
 use Rattle.ll_prooftext.proofs.cells.cell_of.Goals as goal
 
 pub returns-in-Some-clause-found : goal.returns-in-Some-clause-found

@@ -1,4 +1,4 @@
-use Rattle.ll_prooftext.proofs.CellsRead.{front_made, front_none}
+use Rattle.ll_prooftext.proofs.reading.CellsRead.{front_made, front_none}
 use Rattle.ll_prooftext.proofs.cells.front_field.Goals as goal
 
 pub returns-in-Some-2-clause-ok : goal.returns-in-Some-2-clause-ok

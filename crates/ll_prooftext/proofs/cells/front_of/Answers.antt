@@ -1,8 +1,8 @@
 use Rattle.std.proofs.Common.{sym, ◌∙◌}
 use Rattle.std.proofs.lemmas.Slice.Eq.{bytes_eq-Decides}
 use Rattle.ll_bank.proofs.CallerLemmas.{Extends-refl}
-use Rattle.ll_prooftext.proofs.RowsRead.{other}
-use Rattle.ll_prooftext.proofs.CellsRead.{sign_stays, sign_moves, no_plain, leaf_no_plain, word_moves}
+use Rattle.ll_prooftext.proofs.reading.RowsRead.{other}
+use Rattle.ll_prooftext.proofs.reading.CellsRead.{sign_stays, sign_moves, no_plain, leaf_no_plain, word_moves}
 use Rattle.ll_prooftext.proofs.cells.front_of.Goals as goal
 
 pub returns-then-eq-clause-found : goal.returns-then-eq-clause-found

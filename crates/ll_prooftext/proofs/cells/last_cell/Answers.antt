@@ -5,8 +5,8 @@ use Rattle.ll_bank.specs.declared.At.{At}
 use Rattle.ll_bank.specs.Nodes.{term_tree, term_trees}
 use Rattle.ll_prooftext.specs.Reading.{Cell, Nothing, Then}
 use Rattle.ll_prooftext.specs.Fields.{LacksField, StopsAt}
-use Rattle.ll_prooftext.proofs.CellsRead.{stops_cell, cell_then}
-use Rattle.ll_prooftext.proofs.Rest.{stops_here, refuses_weaker}
+use Rattle.ll_prooftext.proofs.reading.CellsRead.{stops_cell, cell_then}
+use Rattle.ll_prooftext.proofs.reading.Rest.{stops_here, refuses_weaker}
 use Rattle.ll_prooftext.proofs.cells.last_cell.Goals as goal
 
 pub returns-in_err-at-clause-err : goal.returns-in_err-at-clause-err

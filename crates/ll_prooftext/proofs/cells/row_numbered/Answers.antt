@@ -1,6 +1,6 @@
 use Rattle.std.proofs.Common.{arith, length}
 use Rattle.std.proofs.lemmas.Bool.Decides.{nat_tests}
-use Rattle.ll_prooftext.proofs.CellsRead.{no_row_there}
+use Rattle.ll_prooftext.proofs.reading.CellsRead.{no_row_there}
 use Rattle.ll_prooftext.proofs.cells.row_numbered.Goals as goal
 
 pub returns-in-None : goal.returns-in-None

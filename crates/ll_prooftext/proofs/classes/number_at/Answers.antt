@@ -1,6 +1,6 @@
 use Rattle.std.proofs.Common.{arith, get_or}
 use Rattle.ll_bank.specs.Nodes.{term_tree}
-use Rattle.ll_prooftext.proofs.Classing.{number_more, number_stays}
+use Rattle.ll_prooftext.proofs.tabling.Classing.{number_more, number_stays}
 use Rattle.ll_prooftext.proofs.classes.number_at.Goals as goal
 
 pub loop-arg-preserved : goal.loop-arg-preserved

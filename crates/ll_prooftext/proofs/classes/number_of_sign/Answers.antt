@@ -1,5 +1,5 @@
 use Rattle.std.proofs.Common.{ap, sym, ◌∙◌, Some}
-use Rattle.ll_prooftext.proofs.Classing.{sign_gain, same_sign}
+use Rattle.ll_prooftext.proofs.tabling.Classing.{sign_gain, same_sign}
 use Rattle.ll_prooftext.proofs.classes.number_of_sign.Goals as goal
 
 pub returns-clause-gain : goal.returns-clause-gain

@@ -2,7 +2,7 @@ use Rattle.std.proofs.Common.{arith, sym, subst, length, ap}
 use Rattle.std.proofs.lemmas.List.{length_push}
 use Rattle.ll_bank.specs.Nodes.{term_tree}
 use Rattle.ll_prooftext.specs.Classes.{AreNumbers, HasNumber}
-use Rattle.ll_prooftext.proofs.Classing.{numbers_more}
+use Rattle.ll_prooftext.proofs.tabling.Classing.{numbers_more}
 use Rattle.ll_prooftext.proofs.classes.number_up_to.Goals as goal
 
 pub loop-last-preserved : goal.loop-last-preserved

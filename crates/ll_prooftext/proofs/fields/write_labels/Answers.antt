@@ -1,7 +1,7 @@
 use Rattle.std.proofs.Common.{ap, ◌∙◌, decimal}
 use Rattle.std.specs.List.{flat_map}
 use Rattle.ll_laws.specs.ProofText.{field, labels_text}
-use Rattle.ll_prooftext.proofs.Writing.{labels_all, both_text, both_whole, both_stopped}
+use Rattle.ll_prooftext.proofs.writing.Writing.{labels_all, both_text, both_whole, both_stopped}
 use Rattle.ll_prooftext.proofs.fields.write_labels.Goals as goal
 
 pub returns-in_err-write_number_fields-clause-begun : goal.returns-in_err-write_number_fields-clause-begun

@@ -1,6 +1,6 @@
 use Rattle.std.proofs.Common.{arith, decimal}
 use Rattle.ll_laws.specs.ProofText.{field}
-use Rattle.ll_prooftext.proofs.Writing.{parts_on, parts_refused, parts_ended}
+use Rattle.ll_prooftext.proofs.writing.Writing.{parts_on, parts_refused, parts_ended}
 use Rattle.ll_prooftext.proofs.fields.write_number_fields.Goals as goal
 
 pub loop-i-preserved : goal.loop-i-preserved

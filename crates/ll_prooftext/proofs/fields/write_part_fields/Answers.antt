@@ -4,7 +4,7 @@ use Rattle.ll_laws.specs.declared.Part.TheVariants.{Unbounded}
 use Rattle.ll_laws.specs.ProofText.{part_field}
 use Rattle.ll_laws.specs.ShownLines.{part_line}
 use Rattle.ll_printer.specs.Pieces.{BeginsText}
-use Rattle.ll_prooftext.proofs.Writing.{parts_on, parts_refused, parts_whole, parts_ended, flat_map-map}
+use Rattle.ll_prooftext.proofs.writing.Writing.{parts_on, parts_refused, parts_whole, parts_ended, flat_map-map}
 use Rattle.ll_prooftext.proofs.fields.write_part_fields.Goals as goal
 
 pub loop-i-preserved : goal.loop-i-preserved

@@ -3,7 +3,7 @@ use Rattle.ll_bank.specs.declared.At.{At}
 use Rattle.ll_bank.specs.Nodes.{term_tree}
 use Rattle.ll_laws.specs.ProofText.{term_field}
 use Rattle.ll_printer.specs.Pieces.{BeginsText}
-use Rattle.ll_prooftext.proofs.Writing.{parts_on, parts_refused, parts_whole, parts_ended, flat_map-map}
+use Rattle.ll_prooftext.proofs.writing.Writing.{parts_on, parts_refused, parts_whole, parts_ended, flat_map-map}
 use Rattle.ll_prooftext.proofs.fields.write_term_fields.Goals as goal
 
 pub loop-i-preserved : goal.loop-i-preserved

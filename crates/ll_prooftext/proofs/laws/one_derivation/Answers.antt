@@ -1,5 +1,5 @@
-use Rattle.ll_prooftext.proofs.OneFault.{one_fault, no_fault}
-use Rattle.ll_prooftext.proofs.OneText.{one_text}
+use Rattle.ll_prooftext.proofs.unambiguous.OneFault.{one_fault, no_fault}
+use Rattle.ll_prooftext.proofs.unambiguous.OneText.{one_text}
 use Rattle.ll_prooftext.proofs.laws.one_derivation.Goals as goal
 
 pub returns-clause-reading : goal.returns-clause-reading

@@ -1,4 +1,4 @@
-use Rattle.ll_prooftext.proofs.OneVersion.{one_fault_in, one_text_in, no_fault_in}
+use Rattle.ll_prooftext.proofs.unambiguous.OneVersion.{one_fault_in, one_text_in, no_fault_in}
 use Rattle.ll_prooftext.proofs.laws.one_derivation_in_any.Goals as goal
 
 pub returns-clause-reading : goal.returns-clause-reading

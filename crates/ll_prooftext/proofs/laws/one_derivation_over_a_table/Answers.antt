@@ -1,5 +1,5 @@
-use Rattle.ll_prooftext.proofs.OneFault2.{one_fault2}
-use Rattle.ll_prooftext.proofs.OneText2.{no_fault2, one_text2}
+use Rattle.ll_prooftext.proofs.unambiguous.OneFault2.{one_fault2}
+use Rattle.ll_prooftext.proofs.unambiguous.OneText2.{no_fault2, one_text2}
 use Rattle.ll_prooftext.proofs.laws.one_derivation_over_a_table.Goals as goal
 
 pub returns-clause-reading : goal.returns-clause-reading

@@ -3,7 +3,7 @@ use Rattle.ll_bank.specs.declared.At.{At}
 use Rattle.ll_bank.specs.Nodes.{term_tree}
 use Rattle.ll_prooftext.specs.Rows.{let_text}
 use Rattle.ll_printer.specs.Pieces.{BeginsText}
-use Rattle.ll_prooftext.proofs.Writing.{parts_on, parts_refused, parts_whole, parts_ended, flat_map-map}
+use Rattle.ll_prooftext.proofs.writing.Writing.{parts_on, parts_refused, parts_whole, parts_ended, flat_map-map}
 use Rattle.ll_prooftext.proofs.lines.write_asked.Goals as goal
 
 pub loop-i-preserved : goal.loop-i-preserved

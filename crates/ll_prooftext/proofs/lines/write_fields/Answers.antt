@@ -8,7 +8,7 @@ use Rattle.ll_laws.specs.ProofText.{field, set_text, term_field, part_field}
 use Rattle.ll_laws.specs.ShownLines.{line_of, part_line}
 use Rattle.ll_prooftext.specs.Rows.{fields_text}
 use Rattle.ll_printer.proofs.CallerLemmas.{begins_before}
-use Rattle.ll_prooftext.proofs.Writing.{both_text, both_stopped, both_whole}
+use Rattle.ll_prooftext.proofs.writing.Writing.{both_text, both_stopped, both_whole}
 use Rattle.ll_prooftext.proofs.lines.write_fields.Goals as goal
 
 pub returns-in_err-write_set_field-in-Tensor-clause-begun : goal.returns-in_err-write_set_field-in-Tensor-clause-begun

@@ -3,7 +3,7 @@ use Rattle.ll_bank.specs.Nodes.{term_tree}
 use Rattle.ll_laws.specs.ProofText.{term_field}
 use Rattle.ll_prooftext.specs.Rows.{let_text}
 use Rattle.ll_printer.proofs.CallerLemmas.{begins_before}
-use Rattle.ll_prooftext.proofs.Writing.{both_stopped}
+use Rattle.ll_prooftext.proofs.writing.Writing.{both_stopped}
 use Rattle.ll_prooftext.proofs.lines.write_let.Goals as goal
 
 pub returns-in_err-write_term_field-clause-begun : goal.returns-in_err-write_term_field-clause-begun

@@ -3,7 +3,7 @@ use Rattle.ll_laws.specs.declared.Rule.{Rule}
 use Rattle.ll_laws.specs.declared.Rule.TheVariants.{One}
 use Rattle.ll_printer.specs.Pieces.{BeginsText}
 use Rattle.ll_prooftext.specs.Rows.{row_text}
-use Rattle.ll_prooftext.proofs.Writing.{parts_on, parts_refused, parts_whole, parts_ended, nodes_text}
+use Rattle.ll_prooftext.proofs.writing.Writing.{parts_on, parts_refused, parts_whole, parts_ended, nodes_text}
 use Rattle.ll_prooftext.proofs.lines.write_nodes.Goals as goal
 
 pub loop-i-preserved : goal.loop-i-preserved

@@ -1,4 +1,4 @@
-use Rattle.ll_prooftext.proofs.Numerals.{no_integer, its_integer, not_failed}
+use Rattle.ll_prooftext.proofs.spelling.Numerals.{no_integer, its_integer, not_failed}
 use Rattle.ll_prooftext.proofs.numbers.integer_in.Goals as goal
 
 pub returns-else-spells_integer : goal.returns-else-spells_integer

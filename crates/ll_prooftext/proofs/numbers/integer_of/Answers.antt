@@ -1,4 +1,4 @@
-use Rattle.ll_prooftext.proofs.Numerals.{integer_utf8}
+use Rattle.ll_prooftext.proofs.spelling.Numerals.{integer_utf8}
 use Rattle.ll_prooftext.proofs.numbers.integer_of.Goals as goal
 
 pub returns-in-Err : goal.returns-in-Err

@@ -1,5 +1,5 @@
 use Rattle.std.proofs.Common.{ap, sym, ◌∙◌, decimal}
-use Rattle.ll_prooftext.proofs.Numerals.{no_number, its_number, not_failed}
+use Rattle.ll_prooftext.proofs.spelling.Numerals.{no_number, its_number, not_failed}
 use Rattle.ll_prooftext.proofs.numbers.number_in.Goals as goal
 
 pub returns-else-spells : goal.returns-else-spells

@@ -1,4 +1,4 @@
-use Rattle.ll_prooftext.proofs.Numerals.{number_utf8}
+use Rattle.ll_prooftext.proofs.spelling.Numerals.{number_utf8}
 use Rattle.ll_prooftext.proofs.numbers.number_of.Goals as goal
 
 pub returns-in-Err : goal.returns-in-Err

@@ -1,4 +1,4 @@
-use Rattle.ll_prooftext.proofs.Numerals.{no_wide, its_wide, not_failed}
+use Rattle.ll_prooftext.proofs.spelling.Numerals.{no_wide, its_wide, not_failed}
 use Rattle.ll_prooftext.proofs.numbers.wide_number_in.Goals as goal
 
 pub returns-else-spells : goal.returns-else-spells

@@ -1,4 +1,4 @@
-use Rattle.ll_prooftext.proofs.Numerals.{wide_utf8}
+use Rattle.ll_prooftext.proofs.spelling.Numerals.{wide_utf8}
 use Rattle.ll_prooftext.proofs.numbers.wide_number_of.Goals as goal
 
 pub returns-in-Err : goal.returns-in-Err

@@ -1,5 +1,5 @@
 use Rattle.std.proofs.Common.{refl}
-use Rattle.ll_prooftext.proofs.LinesRead.{version_is}
+use Rattle.ll_prooftext.proofs.reading.LinesRead.{version_is}
 use Rattle.ll_prooftext.proofs.reader.behind_version.Goals as goal
 
 pub returns-then-eq : goal.returns-then-eq

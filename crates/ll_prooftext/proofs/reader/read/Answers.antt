@@ -1,10 +1,10 @@
 use Rattle.std.proofs.Common.{arith}
 use Rattle.ll_prooftext.specs.Reading.{is_none, want}
-use Rattle.ll_prooftext.proofs.Kept.{grows_none, grows_on}
-use Rattle.ll_prooftext.proofs.SoFar.{so_far_none, so_far_more}
-use Rattle.ll_prooftext.proofs.Whole.{text_read, names_read, terms_inside, rules_inside}
-use Rattle.ll_prooftext.proofs.Faults.{no_version_cause, refused_within, refused_cause, left_cause, missing_cause}
-use Rattle.ll_prooftext.proofs.TakesRead.{next_begins}
+use Rattle.ll_prooftext.proofs.spelling.Kept.{grows_none, grows_on}
+use Rattle.ll_prooftext.proofs.reading.SoFar.{so_far_none, so_far_more}
+use Rattle.ll_prooftext.proofs.reading.Whole.{text_read, names_read, terms_inside, rules_inside}
+use Rattle.ll_prooftext.proofs.reading.Faults.{no_version_cause, refused_within, refused_cause, left_cause, missing_cause}
+use Rattle.ll_prooftext.proofs.reading.TakesRead.{next_begins}
 use Rattle.ll_prooftext.proofs.reader.read.Goals as goal
 
 pub behind_version-requires : goal.behind_version-requires

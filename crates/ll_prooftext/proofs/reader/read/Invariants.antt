@@ -1,5 +1,5 @@
 use Rattle.std.proofs.Common.{length}
-use Rattle.ll_prooftext.proofs.SoFar.{IsSoFar}
+use Rattle.ll_prooftext.proofs.reading.SoFar.{IsSoFar}
 use Rattle.ll_prooftext.proofs.reader.read.Given as goal
 
 abbrev pub invariant-loop-line : goal.invariant-loop-line

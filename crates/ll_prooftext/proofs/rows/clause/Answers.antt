@@ -2,7 +2,7 @@ use Rattle.std.proofs.Common.{arith}
 use Rattle.std.proofs.lemmas.Result.{err_from_is_err_and}
 use Rattle.ll_prooftext.specs.Reading.{Number, Arguments, Then}
 use Rattle.ll_prooftext.specs.Fields.{LacksField, StopsAt}
-use Rattle.ll_prooftext.proofs.Rest.{stops_here, number_then, clause_then, terms_then, clause_made, number_room, refuses_weaker}
+use Rattle.ll_prooftext.proofs.reading.Rest.{stops_here, number_then, clause_then, terms_then, clause_made, number_room, refuses_weaker}
 use Rattle.ll_prooftext.proofs.rows.clause.Goals as goal
 
 pub returns-in_err-label-clause-err : goal.returns-in_err-label-clause-err

@@ -1,4 +1,4 @@
-use Rattle.ll_prooftext.proofs.Rest.{no_term_brace, no_term_mark}
+use Rattle.ll_prooftext.proofs.reading.Rest.{no_term_brace, no_term_mark}
 use Rattle.ll_prooftext.proofs.rows.has_term.Goals as goal
 
 pub returns-in-Some-behind : goal.returns-in-Some-behind

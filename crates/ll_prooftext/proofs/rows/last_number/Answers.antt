@@ -1,7 +1,7 @@
 use Rattle.ll_prooftext.specs.Reading.{Number, Nothing, Then}
 use Rattle.ll_prooftext.specs.Fields.{LacksField, StopsAt}
 use Rattle.std.proofs.lemmas.Result.{err_from_is_err_and}
-use Rattle.ll_prooftext.proofs.Rest.{stops_here, number_then, refuses_weaker}
+use Rattle.ll_prooftext.proofs.reading.Rest.{stops_here, number_then, refuses_weaker}
 use Rattle.ll_prooftext.proofs.rows.last_number.Goals as goal
 
 pub returns-in_err-number-clause-err : goal.returns-in_err-number-clause-err

@@ -1,5 +1,5 @@
 use Rattle.std.proofs.Common.{length, refl}
-use Rattle.ll_prooftext.proofs.Rest.{stops_more, not_empty}
+use Rattle.ll_prooftext.proofs.reading.Rest.{stops_more, not_empty}
 use Rattle.ll_prooftext.proofs.rows.no_more.Goals as goal
 
 pub returns-else-is_empty-clause-err : goal.returns-else-is_empty-clause-err

@@ -1,8 +1,8 @@
 use Rattle.std.proofs.Common.{refl, codes}
 use Rattle.std.proofs.lemmas.Result.{err_from_is_err_and}
 use Rattle.ll_laws.specs.declared.Rule.TheVariants as rule
-use Rattle.ll_prooftext.proofs.Kept.{grows_none}
-use Rattle.ll_prooftext.proofs.RowsRead.{alone_rows, number_row, term_row, tensor_rows, clause_rows}
+use Rattle.ll_prooftext.proofs.spelling.Kept.{grows_none}
+use Rattle.ll_prooftext.proofs.reading.RowsRead.{alone_rows, number_row, term_row, tensor_rows, clause_rows}
 use Rattle.ll_prooftext.proofs.rows.node.Goals as goal
 
 pub alone-requires : goal.alone-requires

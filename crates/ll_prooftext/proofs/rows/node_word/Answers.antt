@@ -1,7 +1,7 @@
 use Rattle.std.proofs.Common.{codes}
 use Rattle.ll_prooftext.specs.declared.rows.NodeWord.TheVariants as word
 use Rattle.ll_prooftext.specs.Reading.{node_words}
-use Rattle.ll_prooftext.proofs.RowsRead.{found, unlike, not_listed}
+use Rattle.ll_prooftext.proofs.reading.RowsRead.{found, unlike, not_listed}
 use Rattle.ll_prooftext.proofs.rows.node_word.Goals as goal
 
 pub returns-then-eq : goal.returns-then-eq

@@ -1,6 +1,6 @@
 use Rattle.std.proofs.Common.{arith}
 use Rattle.ll_prooftext.specs.Reading.{Number}
-use Rattle.ll_prooftext.proofs.Rest.{number_made, number_none, nothing_there}
+use Rattle.ll_prooftext.proofs.reading.Rest.{number_made, number_none, nothing_there}
 use Rattle.ll_prooftext.proofs.rows.number_field.Goals as goal
 
 pub returns-in-Some-number_of-clause-ok : goal.returns-in-Some-number_of-clause-ok

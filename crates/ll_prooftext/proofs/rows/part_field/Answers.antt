@@ -1,5 +1,5 @@
-use Rattle.ll_prooftext.proofs.Arguments.{not_ended}
-use Rattle.ll_prooftext.proofs.Rest.{part_marked, part_other}
+use Rattle.ll_prooftext.proofs.spelling.Arguments.{not_ended}
+use Rattle.ll_prooftext.proofs.reading.Rest.{part_marked, part_other}
 use Rattle.ll_prooftext.proofs.rows.part_field.Goals as goal
 
 pub returns-in-Some-behind-clause-err : goal.returns-in-Some-behind-clause-err

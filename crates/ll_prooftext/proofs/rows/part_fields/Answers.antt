@@ -1,7 +1,7 @@
 use Rattle.std.proofs.lemmas.Result.{err_from_is_err_and}
 use Rattle.ll_prooftext.specs.Reading.{Arguments}
 use Rattle.ll_prooftext.specs.Fields.{LacksPart, StopsAt}
-use Rattle.ll_prooftext.proofs.Rest.{parts_none, parts_more, parts_stop, refuses_weaker, not_empty}
+use Rattle.ll_prooftext.proofs.reading.Rest.{parts_none, parts_more, parts_stop, refuses_weaker, not_empty}
 use Rattle.ll_prooftext.proofs.rows.part_fields.Goals as goal
 
 pub loop-rest-init : goal.loop-rest-init

@@ -1,5 +1,5 @@
 use Rattle.std.proofs.Common.{length}
-use Rattle.ll_prooftext.proofs.Rest.{ArePartsTo}
+use Rattle.ll_prooftext.proofs.reading.Rest.{ArePartsTo}
 use Rattle.ll_prooftext.proofs.rows.part_fields.Given as goal
 
 abbrev pub invariant-loop-rest : goal.invariant-loop-rest

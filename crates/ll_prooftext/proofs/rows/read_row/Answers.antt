@@ -1,8 +1,8 @@
 use Rattle.std.proofs.lemmas.Result.{err_from_is_err_and}
 use Rattle.ll_prooftext.specs.declared.rows.RowWord.TheVariants as first
-use Rattle.ll_prooftext.proofs.Kept.{grows_none}
-use Rattle.ll_prooftext.proofs.Rest.{stops_end}
-use Rattle.ll_prooftext.proofs.RowsRead.{rest_room, let_row, node_row, word_none, refused_row}
+use Rattle.ll_prooftext.proofs.spelling.Kept.{grows_none}
+use Rattle.ll_prooftext.proofs.reading.Rest.{stops_end}
+use Rattle.ll_prooftext.proofs.reading.RowsRead.{rest_room, let_row, node_row, word_none, refused_row}
 use Rattle.ll_prooftext.proofs.rows.read_row.Goals as goal
 
 pub last_term-requires-clause-end : goal.last_term-requires-clause-end

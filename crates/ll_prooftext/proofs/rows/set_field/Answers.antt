@@ -1,5 +1,5 @@
 use Rattle.ll_prooftext.specs.Reading.{Set}
-use Rattle.ll_prooftext.proofs.Rest.{nothing_there}
+use Rattle.ll_prooftext.proofs.reading.Rest.{nothing_there}
 use Rattle.ll_prooftext.proofs.rows.set_field.Goals as goal
 
 pub returns-in-None-clause-err : goal.returns-in-None-clause-err

@@ -2,7 +2,7 @@ use Rattle.std.proofs.Common.{refl}
 use Rattle.ll_prooftext.specs.Reading.{Set, Nothing, Then}
 use Rattle.ll_prooftext.specs.Fields.{LacksField, StopsAt}
 use Rattle.std.proofs.lemmas.Result.{err_from_is_err_and}
-use Rattle.ll_prooftext.proofs.Rest.{stops_here, set_then, refuses_weaker}
+use Rattle.ll_prooftext.proofs.reading.Rest.{stops_here, set_then, refuses_weaker}
 use Rattle.ll_prooftext.proofs.rows.tensor.Goals as goal
 
 pub returns-in_err-first-clause-err : goal.returns-in_err-first-clause-err

@@ -1,5 +1,5 @@
 use Rattle.ll_prooftext.specs.Reading.{Argument}
-use Rattle.ll_prooftext.proofs.Rest.{term_made_field, nothing_there}
+use Rattle.ll_prooftext.proofs.reading.Rest.{term_made_field, nothing_there}
 use Rattle.ll_prooftext.proofs.rows.term_field.Goals as goal
 
 pub returns-in-None-clause-err : goal.returns-in-None-clause-err

@@ -1,7 +1,7 @@
 use Rattle.std.proofs.lemmas.Result.{err_from_is_err_and}
 use Rattle.ll_prooftext.specs.Reading.{Argument, Arguments}
 use Rattle.ll_prooftext.specs.Fields.{LacksField, StopsAt}
-use Rattle.ll_prooftext.proofs.Rest.{terms_none, terms_more, terms_stop, refuses_weaker}
+use Rattle.ll_prooftext.proofs.reading.Rest.{terms_none, terms_more, terms_stop, refuses_weaker}
 use Rattle.ll_prooftext.proofs.rows.term_fields.Goals as goal
 
 pub loop-alloc-init : goal.loop-alloc-init

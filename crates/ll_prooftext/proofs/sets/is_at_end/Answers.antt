@@ -1,4 +1,4 @@
-use Rattle.ll_prooftext.proofs.Labels.{end_of_line, end_at_byte}
+use Rattle.ll_prooftext.proofs.reading.Labels.{end_of_line, end_at_byte}
 use Rattle.ll_prooftext.proofs.sets.is_at_end.Goals as goal
 
 pub returns : goal.returns

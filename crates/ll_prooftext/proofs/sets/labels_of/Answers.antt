@@ -1,6 +1,6 @@
 use Rattle.std.proofs.Common.{◌≡◌, length, arith, [], ◌∷◌, ℕ, List, Bool, false}
 use Rattle.std.specs.Prelude.{◌==◌}
-use Rattle.ll_prooftext.proofs.Labels.{none_read, one_more, no_label, no_rise, all_read}
+use Rattle.ll_prooftext.proofs.reading.Labels.{none_read, one_more, no_label, no_rise, all_read}
 use Rattle.ll_prooftext.proofs.sets.labels_of.Goals as goal
 
 not_empty : (body : List ℕ) {b : Bool} → b ≡ (length body == 0) → b ≡ false → body ≡ [] → ⊥

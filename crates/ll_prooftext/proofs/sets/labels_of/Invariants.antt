@@ -1,5 +1,5 @@
 use Rattle.std.proofs.Common.{length}
-use Rattle.ll_prooftext.proofs.Labels.{IsReadTo}
+use Rattle.ll_prooftext.proofs.reading.Labels.{IsReadTo}
 use Rattle.ll_prooftext.proofs.sets.labels_of.Given as goal
 
 abbrev pub invariant-loop-label : goal.invariant-loop-label

@@ -1,7 +1,7 @@
 use Rattle.std.proofs.Common.{◌≡◌, sym, subst, ◌∙◌, ◌∷◌, ℕ, List, Bool, true, false}
 use Rattle.std.specs.Prelude.{IsTrue}
 use Rattle.ll_prooftext.specs.Reading.{IsAtEnd}
-use Rattle.ll_prooftext.proofs.Labels.{set_found}
+use Rattle.ll_prooftext.proofs.reading.Labels.{set_found}
 use Rattle.ll_prooftext.proofs.sets.set_at.Goals as goal
 
 rest_same : (xs ys tail : List ℕ) → tail ≡ 125 ∷ xs → tail ≡ 125 ∷ ys → xs ≡ ys

@@ -7,9 +7,9 @@ use Rattle.ll_laws.specs.declared.Rule.TheVariants as rule
 use Rattle.ll_prooftext.specs.Reading.{Number, Cells, Arguments, Then}
 use Rattle.ll_prooftext.specs.Fields.{LacksField, StopsAt}
 use Rattle.ll_prooftext.specs.Cells.{StopsAtCell}
-use Rattle.ll_prooftext.proofs.CellsRead.{cells_fields}
-use Rattle.ll_prooftext.proofs.LinesOver.{clause_over, cells_bad, parts_bad}
-use Rattle.ll_prooftext.proofs.Rest.{stops_here, stops_after, number_then, number_room, refuses_weaker}
+use Rattle.ll_prooftext.proofs.reading.CellsRead.{cells_fields}
+use Rattle.ll_prooftext.proofs.reading.LinesOver.{clause_over, cells_bad, parts_bad}
+use Rattle.ll_prooftext.proofs.reading.Rest.{stops_here, stops_after, number_then, number_room, refuses_weaker}
 use Rattle.ll_prooftext.proofs.shared_lines.clause.Goals as goal
 
 pub returns-in_err-label-clause-err : goal.returns-in_err-label-clause-err

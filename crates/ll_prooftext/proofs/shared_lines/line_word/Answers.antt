@@ -1,4 +1,4 @@
-use Rattle.ll_prooftext.proofs.LinesOver.{line_none}
+use Rattle.ll_prooftext.proofs.reading.LinesOver.{line_none}
 use Rattle.ll_prooftext.proofs.shared_lines.line_word.Goals as goal
 
 pub returns-in_err-node_word : goal.returns-in_err-node_word

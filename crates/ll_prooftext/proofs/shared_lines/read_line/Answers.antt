@@ -3,10 +3,10 @@ use Rattle.std.proofs.lemmas.Result.{err_from_is_err_and}
 use Rattle.ll_bank.specs.Nodes.{term_trees}
 use Rattle.ll_prooftext.specs.SharedLines.{want_over, asks_over}
 use Rattle.ll_prooftext.specs.Reading.{Row, Cell, Nothing, Then}
-use Rattle.ll_prooftext.proofs.Kept.{grows_none}
-use Rattle.ll_prooftext.proofs.Rest.{stops_end}
-use Rattle.ll_prooftext.proofs.RowsRead.{rest_room, refused_at}
-use Rattle.ll_prooftext.proofs.LinesOver.{share_line_made, let_made, step_made, word_unknown}
+use Rattle.ll_prooftext.proofs.spelling.Kept.{grows_none}
+use Rattle.ll_prooftext.proofs.reading.Rest.{stops_end}
+use Rattle.ll_prooftext.proofs.reading.RowsRead.{rest_room, refused_at}
+use Rattle.ll_prooftext.proofs.reading.LinesOver.{share_line_made, let_made, step_made, word_unknown}
 use Rattle.ll_prooftext.proofs.shared_lines.read_line.Goals as goal
 
 pub share-requires-clause-end : goal.share-requires-clause-end

@@ -7,9 +7,9 @@ use Rattle.ll_prooftext.specs.Reading.{Cell, Nothing, More, Row, Then}
 use Rattle.ll_prooftext.specs.Fields.{Refuses, StopsAt}
 use Rattle.ll_prooftext.specs.Cells.{LacksFront}
 use Rattle.ll_prooftext.specs.SharedLines.{IsSpineOver, IsPairOver, IsShareOver}
-use Rattle.ll_prooftext.proofs.CellsRead.{rows_same, rows_stay}
-use Rattle.ll_prooftext.proofs.LinesOver.{share_plain, share_sign, front_bad, plain_bad, sign_bad, if_err}
-use Rattle.ll_prooftext.proofs.Rest.{refuses_weaker}
+use Rattle.ll_prooftext.proofs.reading.CellsRead.{rows_same, rows_stay}
+use Rattle.ll_prooftext.proofs.reading.LinesOver.{share_plain, share_sign, front_bad, plain_bad, sign_bad, if_err}
+use Rattle.ll_prooftext.proofs.reading.Rest.{refuses_weaker}
 use Rattle.ll_prooftext.proofs.shared_lines.share.Goals as goal
 
 pub returns-in_err-front-clause-err : goal.returns-in_err-front-clause-err

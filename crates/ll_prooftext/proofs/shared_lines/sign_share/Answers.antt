@@ -6,9 +6,9 @@ use Rattle.ll_bank.specs.Nodes.{term_tree, term_trees}
 use Rattle.ll_prooftext.specs.Reading.{Cell, Nothing, Then}
 use Rattle.ll_prooftext.specs.Fields.{LacksField, StopsAt}
 use Rattle.ll_prooftext.specs.Cells.{IsCellField}
-use Rattle.ll_prooftext.proofs.CellsRead.{stops_cell, cell_then, rows_same, rows_stay}
-use Rattle.ll_prooftext.proofs.LinesOver.{pair_made}
-use Rattle.ll_prooftext.proofs.Rest.{stops_here, refuses_weaker}
+use Rattle.ll_prooftext.proofs.reading.CellsRead.{stops_cell, cell_then, rows_same, rows_stay}
+use Rattle.ll_prooftext.proofs.reading.LinesOver.{pair_made}
+use Rattle.ll_prooftext.proofs.reading.Rest.{stops_here, refuses_weaker}
 use Rattle.ll_prooftext.proofs.shared_lines.sign_share.Goals as goal
 
 pub returns-in_err-first-clause-err : goal.returns-in_err-first-clause-err

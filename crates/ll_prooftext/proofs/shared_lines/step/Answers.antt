@@ -5,7 +5,7 @@ use Rattle.ll_bank.specs.Nodes.{term_trees}
 use Rattle.ll_laws.specs.declared.Rule.{Rule}
 use Rattle.ll_prooftext.specs.RowWords.{spelling, IsNodeRow}
 use Rattle.ll_prooftext.specs.SharedLines.{IsStepOver}
-use Rattle.ll_prooftext.proofs.LinesOver.{exists_made, step_plain, asks_same, plain_kind}
+use Rattle.ll_prooftext.proofs.reading.LinesOver.{exists_made, step_plain, asks_same, plain_kind}
 use Rattle.ll_prooftext.proofs.shared_lines.step.Goals as goal
 
 pub last_cell-requires-clause-end : goal.last_cell-requires-clause-end

@@ -2,11 +2,11 @@ use Rattle.std.proofs.Common.{arith, length}
 use Rattle.std.specs.Prelude.{◌&&◌}
 use Rattle.ll_prooftext.specs.Reading.{is_none}
 use Rattle.ll_prooftext.specs.SharedLines.{want_over}
-use Rattle.ll_prooftext.proofs.Faults.{refused_within}
-use Rattle.ll_prooftext.proofs.FaultsOver.{no_version2_cause, left_over_cause, refused_over_cause, missing_over_cause, off_cause, off_few, text2_read, names2_read}
-use Rattle.ll_prooftext.proofs.Kept.{grows_none, grows_on}
-use Rattle.ll_prooftext.proofs.SoFarOver.{over_none, over_more, rows_few}
-use Rattle.ll_prooftext.proofs.TakesRead.{next_begins}
+use Rattle.ll_prooftext.proofs.reading.Faults.{refused_within}
+use Rattle.ll_prooftext.proofs.reading.FaultsOver.{no_version2_cause, left_over_cause, refused_over_cause, missing_over_cause, off_cause, off_few, text2_read, names2_read}
+use Rattle.ll_prooftext.proofs.spelling.Kept.{grows_none, grows_on}
+use Rattle.ll_prooftext.proofs.reading.SoFarOver.{over_none, over_more, rows_few}
+use Rattle.ll_prooftext.proofs.reading.TakesRead.{next_begins}
 use Rattle.ll_prooftext.proofs.shared_reader.read2.Goals as goal
 
 pub behind_version-requires : goal.behind_version-requires

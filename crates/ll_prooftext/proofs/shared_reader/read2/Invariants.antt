@@ -1,5 +1,5 @@
 use Rattle.std.proofs.Common.{length}
-use Rattle.ll_prooftext.proofs.SoFarOver.{IsSoFarOver}
+use Rattle.ll_prooftext.proofs.reading.SoFarOver.{IsSoFarOver}
 use Rattle.ll_prooftext.proofs.shared_reader.read2.Given as goal
 
 abbrev pub invariant-loop-line : goal.invariant-loop-line

@@ -1,7 +1,7 @@
 use Rattle.std.proofs.Common.{arith, ap, ◌∙◌, ◌++◌}
 use Rattle.ll_laws.specs.declared.Rule.{Rule}
 use Rattle.ll_prooftext.specs.Short.{rule_places}
-use Rattle.ll_prooftext.proofs.Places.{places_on, places_whole}
+use Rattle.ll_prooftext.proofs.writing.Places.{places_on, places_whole}
 use Rattle.ll_prooftext.proofs.short.places_of.Goals as goal
 
 pub loop-i-preserved : goal.loop-i-preserved

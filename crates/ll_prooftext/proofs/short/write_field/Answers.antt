@@ -7,7 +7,7 @@ use Rattle.ll_bank.specs.Nodes.{term_tree, term_trees}
 use Rattle.ll_laws.specs.Output.{term_text}
 use Rattle.ll_prooftext.specs.declared.short.Fields.{Fields}
 use Rattle.ll_prooftext.specs.Short.{HasRows, HasField, shown}
-use Rattle.ll_prooftext.proofs.ShortLines.{row_is, field_by_row, field_itself}
+use Rattle.ll_prooftext.proofs.writing.ShortLines.{row_is, field_by_row, field_itself}
 use Rattle.ll_prooftext.proofs.short.write_field.Goals as goal
 
 pub returns-then-has_any_arguments : goal.returns-then-has_any_arguments

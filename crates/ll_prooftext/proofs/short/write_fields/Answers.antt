@@ -2,7 +2,7 @@ use Rattle.std.proofs.Common.{◌++◌, arith, ap, ◌∙◌}
 use Rattle.ll_bank.specs.declared.At.{At}
 use Rattle.ll_bank.specs.Nodes.{term_tree}
 use Rattle.ll_prooftext.specs.Short.{shown}
-use Rattle.ll_prooftext.proofs.Writing.{parts_on, parts_whole, flat_map-map}
+use Rattle.ll_prooftext.proofs.writing.Writing.{parts_on, parts_whole, flat_map-map}
 use Rattle.ll_prooftext.proofs.short.write_fields.Goals as goal
 
 pub loop-i-preserved : goal.loop-i-preserved

@@ -4,7 +4,7 @@ use Rattle.ll_bank.specs.Nodes.{term_tree}
 use Rattle.ll_laws.specs.Output.{line}
 use Rattle.ll_prooftext.specs.ProofText2.{let_text_by}
 use Rattle.ll_prooftext.specs.Short.{shown}
-use Rattle.ll_prooftext.proofs.Writing.{parts_on, parts_whole, flat_map-map}
+use Rattle.ll_prooftext.proofs.writing.Writing.{parts_on, parts_whole, flat_map-map}
 use Rattle.ll_prooftext.proofs.short.write_lets.Goals as goal
 
 pub loop-i-preserved : goal.loop-i-preserved

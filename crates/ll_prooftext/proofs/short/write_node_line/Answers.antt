@@ -9,7 +9,7 @@ use Rattle.ll_laws.specs.ProofText.{part_field}
 use Rattle.ll_laws.specs.ShownLines.{line_of, part_line}
 use Rattle.ll_prooftext.specs.ProofText2.{node_text_by}
 use Rattle.ll_prooftext.specs.Short.{shown}
-use Rattle.ll_prooftext.proofs.ShortLines.{exists_written, clause_written}
+use Rattle.ll_prooftext.proofs.writing.ShortLines.{exists_written, clause_written}
 use Rattle.ll_prooftext.proofs.short.write_node_line.Goals as goal
 use Rattle.ll_prooftext.proofs.short.write_node_line.Goals.{in-Exists+in_ok-extend_from_slice-in-Exists+in_ok-write_field-in-Exists, in-Clause+in_ok-extend_from_slice-in-Clause+in_ok-write_number_field-in-Clause+in_ok-write_number_field-in-Clause-2+in_ok-write_fields-in-Clause+in_ok-write_part_fields-in-Clause}
 

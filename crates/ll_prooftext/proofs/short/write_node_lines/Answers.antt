@@ -5,7 +5,7 @@ use Rattle.ll_laws.specs.Output.{line}
 use Rattle.ll_laws.specs.ShownLines.{line_of, HasLine}
 use Rattle.ll_prooftext.specs.ProofText2.{node_text_by}
 use Rattle.ll_prooftext.specs.Short.{shown, HasField, rule_places}
-use Rattle.ll_prooftext.proofs.Writing.{parts_on, parts_whole, flat_map-map}
+use Rattle.ll_prooftext.proofs.writing.Writing.{parts_on, parts_whole, flat_map-map}
 use Rattle.ll_prooftext.proofs.short.write_node_lines.Goals as goal
 
 pub loop-i-preserved : goal.loop-i-preserved

@@ -1,8 +1,8 @@
 use Rattle.std.proofs.Common.{get_or, ap, ◌∙◌, arith}
 use Rattle.ll_bank.specs.Nodes.{term_tree, term_trees}
 use Rattle.ll_prooftext.specs.ProofText2.{spine_text}
-use Rattle.ll_prooftext.proofs.ShortLines.{share_bare, share_full}
-use Rattle.ll_prooftext.proofs.TableSteps.{argument_numbered}
+use Rattle.ll_prooftext.proofs.writing.ShortLines.{share_bare, share_full}
+use Rattle.ll_prooftext.proofs.tabling.TableSteps.{argument_numbered}
 use Rattle.ll_prooftext.proofs.short.write_share.Goals as goal
 use Rattle.ll_prooftext.proofs.short.write_share.Goals.{in-Var, in-Int, in-App+in_ok-write_head-in-App+in_ok-write_fields-in-App}
 

@@ -3,8 +3,8 @@ use Rattle.std.specs.List.{flat_map}
 use Rattle.ll_bank.specs.declared.At.{At}
 use Rattle.ll_bank.specs.Nodes.{term_tree, term_trees}
 use Rattle.ll_prooftext.specs.ProofText2.{share_line}
-use Rattle.ll_prooftext.proofs.Writing.{parts_on, parts_whole, flat_map-map}
-use Rattle.ll_prooftext.proofs.TableSteps.{argument_numbered}
+use Rattle.ll_prooftext.proofs.writing.Writing.{parts_on, parts_whole, flat_map-map}
+use Rattle.ll_prooftext.proofs.tabling.TableSteps.{argument_numbered}
 use Rattle.ll_prooftext.proofs.short.write_shares.Goals as goal
 
 pub loop-i-preserved : goal.loop-i-preserved

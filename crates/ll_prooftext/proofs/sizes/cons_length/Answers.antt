@@ -1,5 +1,5 @@
 use Rattle.std.proofs.Common.{◌≡◌, ap, sym, ◌∙◌, if◌then◌else◌}
-use Rattle.ll_prooftext.proofs.Sizing.{cons_sum}
+use Rattle.ll_prooftext.proofs.writing.Sizing.{cons_sum}
 use Rattle.ll_prooftext.proofs.sizes.cons_length.Goals as goal
 use Rattle.ll_prooftext.proofs.sizes.cons_length.Goals.{then-first, else-first}
 

@@ -1,7 +1,7 @@
 use Rattle.std.proofs.Common.{◌≡◌, false, ap, sym, ◌∙◌, if◌then◌else◌}
 use Rattle.ll_bank.specs.Nodes.{term_tree}
 use Rattle.ll_laws.specs.Output.{has_arguments}
-use Rattle.ll_prooftext.proofs.Sizing.{field_sum}
+use Rattle.ll_prooftext.proofs.writing.Sizing.{field_sum}
 use Rattle.ll_prooftext.proofs.sizes.field_length.Goals as goal
 use Rattle.ll_prooftext.proofs.sizes.field_length.Goals.{then-has_any_arguments, else-has_any_arguments}
 

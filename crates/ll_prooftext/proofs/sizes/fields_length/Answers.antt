@@ -5,8 +5,8 @@ use Rattle.ll_bank.specs.declared.At.{At}
 use Rattle.ll_bank.specs.Nodes.{term_tree}
 use Rattle.ll_laws.specs.ProofText.{term_field}
 use Rattle.ll_laws.specs.Search.{cut_count}
-use Rattle.ll_prooftext.proofs.Sizing.{total_more}
-use Rattle.ll_prooftext.proofs.Writing.{flat_map-map}
+use Rattle.ll_prooftext.proofs.writing.Sizing.{total_more}
+use Rattle.ll_prooftext.proofs.writing.Writing.{flat_map-map}
 use Rattle.ll_prooftext.proofs.sizes.fields_length.Goals as goal
 
 pub loop-i-init : goal.loop-i-init

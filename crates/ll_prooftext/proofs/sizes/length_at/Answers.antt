@@ -5,7 +5,7 @@ use Rattle.ll_bank.specs.declared.At.{At}
 use Rattle.ll_bank.specs.Term.{app}
 use Rattle.ll_bank.specs.Nodes.{term_tree, term_trees}
 use Rattle.ll_laws.specs.Output.{head_text, term_text}
-use Rattle.ll_prooftext.proofs.Sizing.{leaf_is, pair_is, spine_is, cons_head}
+use Rattle.ll_prooftext.proofs.writing.Sizing.{leaf_is, pair_is, spine_is, cons_head}
 use Rattle.ll_prooftext.proofs.sizes.length_at.Goals as goal
 
 pub returns-then-not-has_any_arguments : goal.returns-then-not-has_any_arguments

@@ -2,7 +2,7 @@ use Rattle.std.proofs.Common.{arith, sym, subst, length, ap}
 use Rattle.std.proofs.lemmas.List.{length_push}
 use Rattle.ll_bank.specs.Nodes.{term_tree}
 use Rattle.ll_prooftext.specs.Lengths.{AreLengths, IsLength}
-use Rattle.ll_prooftext.proofs.Sizing.{lengths_more}
+use Rattle.ll_prooftext.proofs.writing.Sizing.{lengths_more}
 use Rattle.ll_prooftext.proofs.sizes.lengths_up_to.Goals as goal
 
 pub growth-preserved : goal.growth-preserved

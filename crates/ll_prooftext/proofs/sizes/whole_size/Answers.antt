@@ -13,8 +13,8 @@ use Rattle.ll_prooftext.specs.declared.sizes.Length.{Length}
 use Rattle.ll_prooftext.specs.ProofText2.{let_text_by, node_text_by}
 use Rattle.ll_prooftext.specs.Short.{rule_places}
 use Rattle.ll_prooftext.specs.Lengths.{AreLengths}
-use Rattle.ll_prooftext.proofs.ShortLines.{inside_nodes, fields_of}
-use Rattle.ll_prooftext.proofs.Sizing.{nothing, whole_length}
+use Rattle.ll_prooftext.proofs.writing.ShortLines.{inside_nodes, fields_of}
+use Rattle.ll_prooftext.proofs.writing.Sizing.{nothing, whole_length}
 use Rattle.ll_prooftext.proofs.sizes.whole_size.Goals as goal
 
 pub term_lengths-requires : goal.term_lengths-requires

@@ -5,7 +5,7 @@ use Rattle.ll_prooftext.specs.declared.classes.Classes.{Classes}
 use Rattle.ll_prooftext.specs.declared.table.Table.{Table}
 use Rattle.ll_prooftext.specs.Table.{completed, rows_in}
 use Rattle.ll_prooftext.specs.Tables.{IsBuilding, tasks_weight, entries}
-use Rattle.ll_prooftext.proofs.TableSteps.{taken_on, table_done, table_starts, building_starts, argument_numbered}
+use Rattle.ll_prooftext.proofs.tabling.TableSteps.{taken_on, table_done, table_starts, building_starts, argument_numbered}
 use Rattle.ll_prooftext.proofs.table.table_with.Goals as goal
 
 pub loop-task-init : goal.loop-task-init

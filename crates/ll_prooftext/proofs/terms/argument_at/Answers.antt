@@ -1,4 +1,4 @@
-use Rattle.ll_prooftext.proofs.Arguments.{no_argument, other_end, word_argument, not_ended}
+use Rattle.ll_prooftext.proofs.spelling.Arguments.{no_argument, other_end, word_argument, not_ended}
 use Rattle.ll_prooftext.proofs.terms.argument_at.Goals as goal
 
 pub returns-in_ok-term_of-in-Some-2-clause-found : goal.returns-in_ok-term_of-in-Some-2-clause-found

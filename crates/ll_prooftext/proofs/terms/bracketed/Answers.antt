@@ -1,5 +1,5 @@
 use Rattle.ll_prooftext.specs.Brackets.{Turns}
-use Rattle.ll_prooftext.proofs.Arguments.{reading_begins, reading_stuck, reading_ends, reading_other, not_ended}
+use Rattle.ll_prooftext.proofs.spelling.Arguments.{reading_begins, reading_stuck, reading_ends, reading_other, not_ended}
 use Rattle.ll_prooftext.proofs.terms.bracketed.Goals as goal
 
 pub loop-open-init : goal.loop-open-init

@@ -1,5 +1,5 @@
 use Rattle.std.proofs.Common.{length}
-use Rattle.ll_prooftext.proofs.Arguments.{IsReading}
+use Rattle.ll_prooftext.proofs.spelling.Arguments.{IsReading}
 use Rattle.ll_prooftext.proofs.terms.bracketed.Given as goal
 
 abbrev pub invariant-loop-open : goal.invariant-loop-open

@@ -1,6 +1,6 @@
 use Rattle.std.proofs.Common.{ap, codes}
 use Rattle.std.specs.Str.{bytes_eq}
-use Rattle.ll_prooftext.proofs.Found.{grows_name, text_is}
+use Rattle.ll_prooftext.proofs.spelling.Found.{grows_name, text_is}
 use Rattle.ll_prooftext.proofs.terms.sign_at.Goals as goal
 
 pub returns-in_ok-add-in-Some-behind-clause-sign : goal.returns-in_ok-add-in-Some-behind-clause-sign

@@ -1,5 +1,5 @@
 use Rattle.std.proofs.Common.{sym}
-use Rattle.ll_prooftext.proofs.Spellings.{name_iff, no_name}
+use Rattle.ll_prooftext.proofs.spelling.Spellings.{name_iff, no_name}
 use Rattle.ll_prooftext.proofs.words.is_name.Goals as goal
 
 pub returns-then-is_shaped : goal.returns-then-is_shaped

@@ -1,4 +1,4 @@
-use Rattle.ll_prooftext.proofs.Spellings.{name_utf8}
+use Rattle.ll_prooftext.proofs.spelling.Spellings.{name_utf8}
 use Rattle.ll_prooftext.proofs.words.name_of.Goals as goal
 
 pub returns-in-Err-clause-is : goal.returns-in-Err-clause-is

@@ -1,5 +1,5 @@
 use Rattle.ll_prooftext.specs.Terms.{is_part}
-use Rattle.ll_prooftext.proofs.Cuts.{run_stops}
+use Rattle.ll_prooftext.proofs.spelling.Cuts.{run_stops}
 use Rattle.ll_prooftext.proofs.words.split_word.Goals as goal
 use Rattle.ll_lists.proofs.CallerLemmas.{run_passes}
 

@@ -1,5 +1,5 @@
-use Rattle.ll_prooftext.proofs.Spellings.{no_word_at}
-use Rattle.ll_prooftext.proofs.Found.{moves_word}
+use Rattle.ll_prooftext.proofs.spelling.Spellings.{no_word_at}
+use Rattle.ll_prooftext.proofs.spelling.Found.{moves_word}
 use Rattle.ll_prooftext.proofs.words.word_at.Goals as goal
 
 pub returns-in-Some-clause-found : goal.returns-in-Some-clause-found

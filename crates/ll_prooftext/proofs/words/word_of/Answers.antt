@@ -1,8 +1,8 @@
 use Rattle.std.proofs.Common.{arith, rules}
 use Rattle.ll_bank.proofs.CallerLemmas.{Extends-refl}
-use Rattle.ll_prooftext.proofs.Spellings.{no_variable, no_eigen}
-use Rattle.ll_prooftext.proofs.Mentioning.{variable_mentions, eigen_mentions, number_mentions}
-use Rattle.ll_prooftext.proofs.Found.{grows_name, moves_none, moves_name, name_is, eigen_is, variable_is}
+use Rattle.ll_prooftext.proofs.spelling.Spellings.{no_variable, no_eigen}
+use Rattle.ll_prooftext.proofs.spelling.Mentioning.{variable_mentions, eigen_mentions, number_mentions}
+use Rattle.ll_prooftext.proofs.spelling.Found.{grows_name, moves_none, moves_name, name_is, eigen_is, variable_is}
 use Rattle.ll_prooftext.proofs.words.word_of.Goals as goal
 
 pub returns-in_ok-var-in-Some-wide_number_of-clause-found : goal.returns-in_ok-var-in-Some-wide_number_of-clause-found

@@ -2,8 +2,8 @@ use Rattle.std.proofs.Common.{◌≡◌, ◌≤◌, ◌∙◌, sym, ap, length, 
 use Rattle.std.specs.List.{position_from}
 use Rattle.ll_laws.specs.Line.{DerivationLines, counts_numbers}
 use Rattle.ll_laws.specs.Problem.{ProblemTree}
-use Rattle.ll_top.proofs.CheckLemmas.{shows-closed, is-covered, is-counting}
-use Rattle.ll_top.proofs.CountingLemmas.{lines-count}
+use Rattle.ll_top.proofs.calls.CheckLemmas.{shows-closed, is-covered, is-counting}
+use Rattle.ll_top.proofs.calls.CountingLemmas.{lines-count}
 use Rattle.ll_top.proofs.checking.covered.Goals as goal
 
 pub returns-in-Some : goal.returns-in-Some

@@ -1,4 +1,4 @@
-use Rattle.ll_top.proofs.CheckLemmas.{derivation-refused}
+use Rattle.ll_top.proofs.calls.CheckLemmas.{derivation-refused}
 use Rattle.ll_top.proofs.checking.derivation_of.Goals as goal
 
 pub returns-in-Err-clause-refused : goal.returns-in-Err-clause-refused

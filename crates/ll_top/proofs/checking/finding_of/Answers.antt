@@ -4,7 +4,7 @@ use Rattle.std.proofs.lemmas.Result.{err_from_is_err_and}
 use Rattle.ll_laws.specs.Valid.{IsValid}
 use Rattle.ll_laws.specs.contracts.Problem.{the_view}
 use Rattle.ll_top.specs.Judging.{TextsAsk}
-use Rattle.ll_top.proofs.CheckLemmas.{small-bound, run-texts-refused, proof-refused, found-of, valid-grown}
+use Rattle.ll_top.proofs.calls.CheckLemmas.{small-bound, run-texts-refused, proof-refused, found-of, valid-grown}
 use Rattle.ll_top.proofs.checking.finding_of.Goals as goal
 
 pub returns-in_err-problem : goal.returns-in_err-problem

@@ -3,8 +3,8 @@ use Rattle.ll_edge.proofs.CallerLemmas.{Rose-later}
 use Rattle.ll_top.specs.declared.judge.Role.TheVariants.{Program, Query, Proof}
 use Rattle.ll_top.specs.Words.{shown_check}
 use Rattle.ll_top.specs.Outcome.{first, later}
-use Rattle.ll_top.proofs.PrepareLemmas.{not-read-later}
-use Rattle.ll_top.proofs.CheckLemmas.{text-refused, texts-judged}
+use Rattle.ll_top.proofs.calls.PrepareLemmas.{not-read-later}
+use Rattle.ll_top.proofs.calls.CheckLemmas.{text-refused, texts-judged}
 use Rattle.ll_top.proofs.checking.found.Goals as goal
 
 pub returns-in_err-program-clause-finds : goal.returns-in_err-program-clause-finds

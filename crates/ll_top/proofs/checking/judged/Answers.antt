@@ -1,4 +1,4 @@
-use Rattle.ll_top.proofs.CheckLemmas.{told-no}
+use Rattle.ll_top.proofs.calls.CheckLemmas.{told-no}
 use Rattle.ll_top.proofs.checking.judged.Goals as goal
 
 pub returns-in-No : goal.returns-in-No

@@ -1,7 +1,7 @@
 use Rattle.ll_top.specs.Words.{shown_convert}
 use Rattle.ll_top.specs.Faults.{OversizedAs}
 use Rattle.ll_top.specs.Endings.{cause_of}
-use Rattle.ll_top.proofs.ConvertLemmas.{converted-ends, convert-cut-ends, convert-refusal-ends}
+use Rattle.ll_top.proofs.calls.ConvertLemmas.{converted-ends, convert-cut-ends, convert-refusal-ends}
 use Rattle.ll_top.proofs.converting.serve_convert.Goals as goal
 
 pub returns-in-Ok-clause-ends : goal.returns-in-Ok-clause-ends

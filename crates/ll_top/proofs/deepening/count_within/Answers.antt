@@ -1,7 +1,7 @@
 use Rattle.std.proofs.Common.{sym, subst}
 use Rattle.ll_laws.specs.Valid.{IsValid}
 use Rattle.ll_top.specs.DeepenEnds.{with_bound}
-use Rattle.ll_top.proofs.DeepenLemmas.{valid-within}
+use Rattle.ll_top.proofs.calls.DeepenLemmas.{valid-within}
 use Rattle.ll_top.proofs.deepening.count_within.Goals as goal
 
 pub count_events-requires : goal.count_events-requires

@@ -1,5 +1,5 @@
 use Rattle.std.proofs.lemmas.Result.{err_from_is_err_and}
-use Rattle.ll_top.proofs.DeepenLemmas.{line-cut, run-deepened}
+use Rattle.ll_top.proofs.calls.DeepenLemmas.{line-cut, run-deepened}
 use Rattle.ll_top.proofs.deepening.run_deepened.Goals as goal
 
 pub returns-in_err-write_heading-clause-ends : goal.returns-in_err-write_heading-clause-ends

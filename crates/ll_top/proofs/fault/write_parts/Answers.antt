@@ -1,6 +1,6 @@
 use Rattle.std.proofs.Common.{arith}
 use Rattle.ll_lists.proofs.CallerLemmas.{OnErr-always}
-use Rattle.ll_top.proofs.PartsLemmas.{one-written, part-cut}
+use Rattle.ll_top.proofs.outcomes.PartsLemmas.{one-written, part-cut}
 use Rattle.ll_top.proofs.fault.write_parts.Goals as goal
 
 pub returns-in_err-write_all-clause-prefix : goal.returns-in_err-write_all-clause-prefix

@@ -1,5 +1,5 @@
 use Rattle.std.proofs.Common.{◌≤◌}
-use Rattle.ll_top.proofs.PartsLemmas.{AreWritten}
+use Rattle.ll_top.proofs.outcomes.PartsLemmas.{AreWritten}
 use Rattle.ll_top.proofs.fault.write_parts.Given as goal
 
 abbrev pub invariant-loop-part : goal.invariant-loop-part

@@ -5,9 +5,9 @@ use Rattle.ll_first.specs.Upto.{first_of}
 use Rattle.ll_top.specs.Outcome.{text_of_run}
 use Rattle.ll_top.specs.Proved.{end_of_run}
 use Rattle.ll_top.specs.Running.{IsWelcome}
-use Rattle.ll_top.proofs.RunLemmas.{welcome-all, prefix-same, lines-begun}
-use Rattle.ll_top.proofs.FirstRunLemmas.{first-same, first-written}
-use Rattle.ll_top.proofs.ProvedLemmas.{told-text}
+use Rattle.ll_top.proofs.calls.RunLemmas.{welcome-all, prefix-same, lines-begun}
+use Rattle.ll_top.proofs.calls.FirstRunLemmas.{first-same, first-written}
+use Rattle.ll_top.proofs.calls.ProvedLemmas.{told-text}
 use Rattle.ll_top.proofs.first_run.give_front.Goals as goal
 
 pub crew_first-requires-clause-welcome : goal.crew_first-requires-clause-welcome

@@ -1,5 +1,5 @@
 use Rattle.ll_top.specs.declared.judge.Role.TheVariants.{Program}
-use Rattle.ll_top.proofs.GrammarLemmas.{not-lexed, program-unread}
+use Rattle.ll_top.proofs.calls.GrammarLemmas.{not-lexed, program-unread}
 use Rattle.ll_top.proofs.judge.judge_program.Goals as goal
 
 pub returns-in-Err-clause-err : goal.returns-in-Err-clause-err

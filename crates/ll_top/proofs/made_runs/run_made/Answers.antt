@@ -1,7 +1,7 @@
 use Rattle.std.proofs.Common.{◌∙◌}
 use Rattle.ll_make.proofs.CallerLemmas.{program_short, query_short}
 use Rattle.ll_top.specs.Words.{shown_made_run}
-use Rattle.ll_top.proofs.MadeRunLemmas.{unjudged, counted-ends}
+use Rattle.ll_top.proofs.calls.MadeRunLemmas.{unjudged, counted-ends}
 use Rattle.ll_top.proofs.made_runs.run_made.Goals as goal
 
 pub problem_of-requires-clause-program : goal.problem_of-requires-clause-program

@@ -1,9 +1,9 @@
 use Rattle.std.proofs.Common.{◌∙◌}
 use Rattle.ll_lists.proofs.CallerLemmas.{OnErr-always as on_err}
 use Rattle.ll_top.specs.MadeRuns.{last_line}
-use Rattle.ll_top.proofs.GivenLemmas.{no_front}
-use Rattle.ll_top.proofs.RunLemmas.{run-status}
-use Rattle.ll_top.proofs.MadeRunLemmas.{line-written, line-cut}
+use Rattle.ll_top.proofs.calls.GivenLemmas.{no_front}
+use Rattle.ll_top.proofs.calls.RunLemmas.{run-status}
+use Rattle.ll_top.proofs.calls.MadeRunLemmas.{line-written, line-cut}
 use Rattle.ll_top.proofs.made_runs.write_counts.Goals as goal
 
 pub returns-in_err-counts-clause-prefix : goal.returns-in_err-counts-clause-prefix

@@ -6,8 +6,8 @@ use Rattle.ll_top.specs.declared.making.MadeOptions.{MadeOptions}
 use Rattle.ll_top.specs.Outcome.{word_texts}
 use Rattle.ll_top.specs.Words.{greatest_bound}
 use Rattle.ll_top.specs.MakeForm.{IsBadMakeWord, HasOptions}
-use Rattle.ll_top.proofs.WordValues.{bad-answer, this-word}
-use Rattle.ll_top.proofs.MakeLemmas.{no-options, no-value, no-second, no-last, one-more, whole-bound_first, bound_first, number-inside, text-inside}
+use Rattle.ll_top.proofs.forms.WordValues.{bad-answer, this-word}
+use Rattle.ll_top.proofs.forms.MakeLemmas.{no-options, no-value, no-second, no-last, one-more, whole-bound_first, bound_first, number-inside, text-inside}
 use Rattle.ll_top.proofs.making.read_bound_first.Goals as goal
 
 pub returns-in_err-this_at-clause-options : goal.returns-in_err-this_at-clause-options

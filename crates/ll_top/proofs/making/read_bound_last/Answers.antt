@@ -6,8 +6,8 @@ use Rattle.ll_top.specs.declared.making.MadeOptions.{MadeOptions}
 use Rattle.ll_top.specs.Outcome.{word_texts}
 use Rattle.ll_top.specs.Words.{greatest_workers}
 use Rattle.ll_top.specs.MakeForm.{IsBadMakeWord, HasOptions}
-use Rattle.ll_top.proofs.WordValues.{bad-answer, this-word}
-use Rattle.ll_top.proofs.MakeLemmas.{no-value, no-second, no-last, one-more, whole-bound_last, bound_last, number-inside, text-inside}
+use Rattle.ll_top.proofs.forms.WordValues.{bad-answer, this-word}
+use Rattle.ll_top.proofs.forms.MakeLemmas.{no-value, no-second, no-last, one-more, whole-bound_last, bound_last, number-inside, text-inside}
 use Rattle.ll_top.proofs.making.read_bound_last.Goals as goal
 
 pub returns-in_err-workers-clause-options : goal.returns-in_err-workers-clause-options

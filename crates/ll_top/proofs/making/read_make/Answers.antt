@@ -4,8 +4,8 @@ use Rattle.std.proofs.lemmas.List.{length-map}
 use Rattle.ll_top.specs.Outcome.{word_texts}
 use Rattle.ll_top.specs.Words.{IsCommand}
 use Rattle.ll_top.specs.MakeForm.{IsBadMakeWord}
-use Rattle.ll_top.proofs.WordValues.{bad-answer}
-use Rattle.ll_top.proofs.MakeLemmas.{no-kind, no-number, at-options, whole-make, whole-run, number-inside}
+use Rattle.ll_top.proofs.forms.WordValues.{bad-answer}
+use Rattle.ll_top.proofs.forms.MakeLemmas.{no-kind, no-number, at-options, whole-make, whole-run, number-inside}
 use Rattle.ll_top.proofs.making.read_make.Goals as goal
 
 pub returns-in_err-kind-clause-command : goal.returns-in_err-kind-clause-command

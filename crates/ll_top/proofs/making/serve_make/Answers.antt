@@ -1,5 +1,5 @@
 use Rattle.ll_top.specs.Words.{shown_make}
-use Rattle.ll_top.proofs.OutcomeLemmas.{made-ends, made-cut}
+use Rattle.ll_top.proofs.outcomes.OutcomeLemmas.{made-ends, made-cut}
 use Rattle.ll_top.proofs.making.serve_make.Goals as goal
 
 pub returns-in-Ok-write_all-clause-ends : goal.returns-in-Ok-write_all-clause-ends

@@ -1,5 +1,5 @@
 use Rattle.std.proofs.lemmas.Result.{err_from_is_err_and}
-use Rattle.ll_top.proofs.PrepareLemmas.{query-unread, query-unasked}
+use Rattle.ll_top.proofs.calls.PrepareLemmas.{query-unread, query-unasked}
 use Rattle.ll_top.proofs.prepare.ask_text.Goals as goal
 
 pub returns-in_err-query-clause-cause : goal.returns-in_err-query-clause-cause

@@ -1,5 +1,5 @@
 use Rattle.std.proofs.lemmas.Result.{err_from_is_err_and}
-use Rattle.ll_top.proofs.PrepareLemmas.{program-unread, program-unloaded}
+use Rattle.ll_top.proofs.calls.PrepareLemmas.{program-unread, program-unloaded}
 use Rattle.ll_top.proofs.prepare.load_text.Goals as goal
 
 pub returns-in_err-program-clause-cause : goal.returns-in_err-program-clause-cause

@@ -1,4 +1,4 @@
-use Rattle.ll_top.proofs.PrepareLemmas.{program-judged, query-judged}
+use Rattle.ll_top.proofs.calls.PrepareLemmas.{program-judged, query-judged}
 use Rattle.ll_top.proofs.prepare.problem_of.Goals as goal
 
 pub returns-in-Err-clause-judges : goal.returns-in-Err-clause-judges

@@ -1,5 +1,5 @@
 use Rattle.std.proofs.lemmas.Result.{err_from_is_err_and}
-use Rattle.ll_top.proofs.PrepareLemmas.{source-refused, source-unprinted}
+use Rattle.ll_top.proofs.calls.PrepareLemmas.{source-refused, source-unprinted}
 use Rattle.ll_top.proofs.printing.printed.Goals as goal
 
 pub returns-in_err-text-clause-refused : goal.returns-in_err-text-clause-refused

@@ -1,4 +1,4 @@
-use Rattle.ll_top.proofs.PrepareLemmas.{source-faulty}
+use Rattle.ll_top.proofs.calls.PrepareLemmas.{source-faulty}
 use Rattle.ll_top.proofs.printing.printed_text.Goals as goal
 
 pub returns-in-Err-clause-refused : goal.returns-in-Err-clause-refused

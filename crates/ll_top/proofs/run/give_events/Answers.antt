@@ -2,7 +2,7 @@ use Rattle.std.proofs.Common.{subst, sym}
 use Rattle.ll_laws.specs.Sound.{Every}
 use Rattle.ll_laws.specs.Problem.{problem_events}
 use Rattle.ll_top.specs.Running.{IsWelcome}
-use Rattle.ll_top.proofs.RunLemmas.{welcome-all, events-same, prefix-same, lines-written, text-begun}
+use Rattle.ll_top.proofs.calls.RunLemmas.{welcome-all, events-same, prefix-same, lines-written, text-begun}
 use Rattle.ll_top.proofs.run.give_events.Goals as goal
 
 pub crew_with-requires-clause-welcome : goal.crew_with-requires-clause-welcome

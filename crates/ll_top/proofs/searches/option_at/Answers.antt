@@ -1,5 +1,5 @@
 use Rattle.std.proofs.Common.{sym}
-use Rattle.ll_top.proofs.SearchWords.{none-left-of, not-offered, read-not-left}
+use Rattle.ll_top.proofs.forms.SearchWords.{none-left-of, not-offered, read-not-left}
 use Rattle.ll_top.proofs.searches.option_at.Goals as goal
 
 pub returns-in_default : goal.returns-in_default

@@ -4,8 +4,8 @@ use Rattle.ll_top.specs.declared.searches.SearchOption.TheVariants.{Workers, Fro
 use Rattle.ll_top.specs.Outcome.{word_texts}
 use Rattle.ll_top.specs.Words.{IsDeepen, shown_deepen}
 use Rattle.ll_top.specs.SearchOptions.{IsBadSearchWord}
-use Rattle.ll_top.proofs.WordValues.{bad-answer}
-use Rattle.ll_top.proofs.SearchWords.{option-lacks, whole-deepen, whole-series, number-within, text-length}
+use Rattle.ll_top.proofs.forms.WordValues.{bad-answer}
+use Rattle.ll_top.proofs.forms.SearchWords.{option-lacks, whole-deepen, whole-series, number-within, text-length}
 use Rattle.ll_top.proofs.searches.read_deepen.Goals as goal
 
 pub returns-in_err-search-clause-deepen : goal.returns-in_err-search-clause-deepen

@@ -2,8 +2,8 @@ use Rattle.std.proofs.Common.{◌+◌, sym, subst}
 use Rattle.ll_top.specs.declared.searches.SearchOptions.{SearchOptions}
 use Rattle.ll_top.specs.Outcome.{word_texts}
 use Rattle.ll_top.specs.SearchOptions.{IsReadTo, IsBadSearchWord}
-use Rattle.ll_top.proofs.WordValues.{word-at, text-at, bad-answer}
-use Rattle.ll_top.proofs.SearchWords.{no-option, flag-read, bad-number, value-read}
+use Rattle.ll_top.proofs.forms.WordValues.{word-at, text-at, bad-answer}
+use Rattle.ll_top.proofs.forms.SearchWords.{no-option, flag-read, bad-number, value-read}
 use Rattle.ll_top.proofs.searches.read_option.Goals as goal
 
 pub returns-in_default-clause-read : goal.returns-in_default-clause-read

@@ -1,4 +1,4 @@
-use Rattle.ll_top.proofs.SearchWords.{all-read}
+use Rattle.ll_top.proofs.forms.SearchWords.{all-read}
 use Rattle.ll_top.proofs.searches.read_options.Goals as goal
 
 pub returns : goal.returns

@@ -4,8 +4,8 @@ use Rattle.ll_top.specs.declared.searches.SearchOption.TheVariants.{Bound, Worke
 use Rattle.ll_top.specs.Outcome.{word_texts}
 use Rattle.ll_top.specs.Words.{IsRun, shown_words}
 use Rattle.ll_top.specs.SearchOptions.{IsBadSearchWord}
-use Rattle.ll_top.proofs.WordValues.{bad-answer}
-use Rattle.ll_top.proofs.SearchWords.{option-lacks, whole-run, number-within, first-positive, text-length}
+use Rattle.ll_top.proofs.forms.WordValues.{bad-answer}
+use Rattle.ll_top.proofs.forms.SearchWords.{option-lacks, whole-run, number-within, first-positive, text-length}
 use Rattle.ll_top.proofs.searches.read_run.Goals as goal
 
 pub returns-in_err-search-clause-run : goal.returns-in_err-search-clause-run

@@ -1,7 +1,7 @@
 use Rattle.ll_top.specs.Outcome.{word_texts}
 use Rattle.ll_top.specs.SearchOptions.{IsSearch, IsBadSearchWord}
-use Rattle.ll_top.proofs.WordValues.{bad-answer, has-name}
-use Rattle.ll_top.proofs.SearchWords.{no-first, no-second, names-read}
+use Rattle.ll_top.proofs.forms.WordValues.{bad-answer, has-name}
+use Rattle.ll_top.proofs.forms.SearchWords.{no-first, no-second, names-read}
 use Rattle.ll_top.proofs.searches.read_search.Goals as goal
 
 pub returns-in_err-first : goal.returns-in_err-first

@@ -4,8 +4,8 @@ use Rattle.ll_top.specs.declared.searches.SearchOption.TheVariants.{Bound, Worke
 use Rattle.ll_top.specs.Outcome.{word_texts}
 use Rattle.ll_top.specs.Words.{IsSession, shown_session}
 use Rattle.ll_top.specs.SearchOptions.{IsBadSearchWord}
-use Rattle.ll_top.proofs.WordValues.{bad-answer}
-use Rattle.ll_top.proofs.SearchWords.{option-lacks, whole-session, number-within, text-length}
+use Rattle.ll_top.proofs.forms.WordValues.{bad-answer}
+use Rattle.ll_top.proofs.forms.SearchWords.{option-lacks, whole-session, number-within, text-length}
 use Rattle.ll_top.proofs.searches.read_session.Goals as goal
 
 pub returns-in_err-search-clause-session : goal.returns-in_err-search-clause-session

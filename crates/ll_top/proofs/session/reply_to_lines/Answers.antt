@@ -4,8 +4,8 @@ use Rattle.std.proofs.lemmas.Bool.Decides.{Decides-eqb}
 use Rattle.std.proofs.lemmas.Result.{err_from_is_err_and}
 use Rattle.ll_session.proofs.CallerLemmas.{none-answered, line-passed, line-answered, line-refused, all-answered}
 use Rattle.ll_top.specs.SessionEnds.{WritesReply, CutsReply}
-use Rattle.ll_top.proofs.OwnLemmas.{refusal-later}
-use Rattle.ll_top.proofs.SessionLemmas.{replies-written, lines-stopped}
+use Rattle.ll_top.proofs.outcomes.OwnLemmas.{refusal-later}
+use Rattle.ll_top.proofs.calls.SessionLemmas.{replies-written, lines-stopped}
 use Rattle.ll_top.proofs.session.reply_to_lines.Goals as goal
 
 pub loop-rest-init : goal.loop-rest-init

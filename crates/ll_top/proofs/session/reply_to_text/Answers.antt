@@ -1,5 +1,5 @@
 use denote.Builtin.{unit}
-use Rattle.ll_top.proofs.SessionLemmas.{loaded-program, lines-ended, not-loaded}
+use Rattle.ll_top.proofs.calls.SessionLemmas.{loaded-program, lines-ended, not-loaded}
 use Rattle.ll_top.proofs.session.reply_to_text.Goals as goal
 
 pub reply_over-requires-clause-loaded : goal.reply_over-requires-clause-loaded

@@ -2,8 +2,8 @@ use denote.Builtin.{unit}
 use Rattle.std.proofs.lemmas.Result.{err_from_is_err_and}
 use Rattle.ll_edge.proofs.CallerLemmas.{Rose-later}
 use Rattle.ll_top.specs.Words.{shown_session}
-use Rattle.ll_top.proofs.PrepareLemmas.{not-read-later}
-use Rattle.ll_top.proofs.SessionLemmas.{program-not-read, queries-not-read, texts-ended}
+use Rattle.ll_top.proofs.calls.PrepareLemmas.{not-read-later}
+use Rattle.ll_top.proofs.calls.SessionLemmas.{program-not-read, queries-not-read, texts-ended}
 use Rattle.ll_top.proofs.session.reply_to_texts.Goals as goal
 
 pub returns-in_err-program-clause-ends : goal.returns-in_err-program-clause-ends

@@ -3,9 +3,9 @@ use Rattle.ll_edge.proofs.CallerLemmas.{Rose-later}
 use Rattle.ll_top.specs.Endings.{cause_of, status_of_found}
 use Rattle.ll_top.specs.OwnEnds.{NoneFails}
 use Rattle.ll_top.specs.Words.{shown_session}
-use Rattle.ll_top.proofs.OutcomeLemmas.{refuses-later}
-use Rattle.ll_top.proofs.OwnLemmas.{done-ends, cut-ends, memory-ends}
-use Rattle.ll_top.proofs.SessionLemmas.{session-refused}
+use Rattle.ll_top.proofs.outcomes.OutcomeLemmas.{refuses-later}
+use Rattle.ll_top.proofs.outcomes.OwnLemmas.{done-ends, cut-ends, memory-ends}
+use Rattle.ll_top.proofs.calls.SessionLemmas.{session-refused}
 use Rattle.ll_top.proofs.session.serve_session.Goals as goal
 
 pub returns-in-Ok-clause-ends : goal.returns-in-Ok-clause-ends

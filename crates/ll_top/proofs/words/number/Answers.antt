@@ -1,5 +1,5 @@
 use Rattle.std.proofs.Common.{sym}
-use Rattle.ll_top.proofs.WordsLemmas.{read_number}
+use Rattle.ll_top.proofs.forms.WordsLemmas.{read_number}
 use Rattle.ll_top.proofs.words.number.Goals as goal
 
 pub returns-in-Err : goal.returns-in-Err

@@ -4,8 +4,8 @@ use Rattle.std.proofs.lemmas.List.{length-map}
 use Rattle.ll_top.specs.Outcome.{word_texts}
 use Rattle.ll_top.specs.Words.{IsCheck, check_form, shown_check}
 use Rattle.ll_top.specs.FormWords.{IsBadFormWord}
-use Rattle.ll_top.proofs.WordValues.{bad-answer, has-name}
-use Rattle.ll_top.proofs.CommandWords.{no-checked_program, no-checked_query, no-checked_proof, one-more_checked, whole-check}
+use Rattle.ll_top.proofs.forms.WordValues.{bad-answer, has-name}
+use Rattle.ll_top.proofs.forms.CommandWords.{no-checked_program, no-checked_query, no-checked_proof, one-more_checked, whole-check}
 use Rattle.ll_top.proofs.words.read_check.Goals as goal
 
 pub returns-in_err-program : goal.returns-in_err-program

@@ -3,8 +3,8 @@ use Rattle.ll_top.specs.declared.words.FormWord.TheVariants as form
 use Rattle.ll_top.specs.Outcome.{word_texts}
 use Rattle.ll_top.specs.Words.{IsCommand, IsBadWord}
 use Rattle.ll_top.specs.FormWords.{form_word}
-use Rattle.ll_top.proofs.WordValues.{bad-answer}
-use Rattle.ll_top.proofs.FirstWords.{bad-among, bad-first, make-answer, first-lacks, first-other, first-same}
+use Rattle.ll_top.proofs.forms.WordValues.{bad-answer}
+use Rattle.ll_top.proofs.forms.FirstWords.{bad-among, bad-first, make-answer, first-lacks, first-other, first-same}
 use Rattle.ll_top.proofs.words.read_command.Goals as goal
 
 pub returns-in_default-clause-command : goal.returns-in_default-clause-command

@@ -4,8 +4,8 @@ use Rattle.std.proofs.lemmas.List.{length-map}
 use Rattle.ll_top.specs.Outcome.{word_texts}
 use Rattle.ll_top.specs.Words.{IsConvert, convert_form, shown_convert}
 use Rattle.ll_top.specs.FormWords.{IsBadFormWord}
-use Rattle.ll_top.proofs.WordValues.{bad-answer, has-name}
-use Rattle.ll_top.proofs.CommandWords.{no-converted, no-version_word, no-version, version-small, version-is, one-more_converted, whole-convert}
+use Rattle.ll_top.proofs.forms.WordValues.{bad-answer, has-name}
+use Rattle.ll_top.proofs.forms.CommandWords.{no-converted, no-version_word, no-version, version-small, version-is, one-more_converted, whole-convert}
 use Rattle.ll_top.proofs.words.read_convert.Goals as goal
 
 pub returns-in_err-proof-clause-convert : goal.returns-in_err-proof-clause-convert

@@ -4,8 +4,8 @@ use Rattle.std.proofs.lemmas.List.{length-map}
 use Rattle.ll_top.specs.Outcome.{word_texts}
 use Rattle.ll_top.specs.Words.{IsCheck, cover_form, shown_check}
 use Rattle.ll_top.specs.FormWords.{IsBadFormWord}
-use Rattle.ll_top.proofs.WordValues.{bad-answer, has-name}
-use Rattle.ll_top.proofs.CommandWords.{no-covered_program, no-covered_query, no-covered_proof, no-bound_word, no-number, one-more_covered, whole-cover}
+use Rattle.ll_top.proofs.forms.WordValues.{bad-answer, has-name}
+use Rattle.ll_top.proofs.forms.CommandWords.{no-covered_program, no-covered_query, no-covered_proof, no-bound_word, no-number, one-more_covered, whole-cover}
 use Rattle.ll_top.proofs.words.read_cover.Goals as goal
 
 pub returns-in_err-program-clause-cover : goal.returns-in_err-program-clause-cover

@@ -4,8 +4,8 @@ use Rattle.std.proofs.lemmas.List.{length-map}
 use Rattle.ll_top.specs.Outcome.{word_texts}
 use Rattle.ll_top.specs.Words.{IsPrint, print_form}
 use Rattle.ll_top.specs.FormWords.{IsBadFormWord}
-use Rattle.ll_top.proofs.WordValues.{bad-answer, has-name}
-use Rattle.ll_top.proofs.CommandWords.{no-name, one-more, whole-print}
+use Rattle.ll_top.proofs.forms.WordValues.{bad-answer, has-name}
+use Rattle.ll_top.proofs.forms.CommandWords.{no-name, one-more, whole-print}
 use Rattle.ll_top.proofs.words.read_print.Goals as goal
 
 pub returns-in_err-name : goal.returns-in_err-name

@@ -2,7 +2,7 @@ use Rattle.std.proofs.Common.{sym, ◌∙◌}
 use Rattle.std.specs.HashMap.{get_by}
 use Rattle.std.specs.Str.{bytes_eq}
 use Rattle.std.proofs.lemmas.Map.Text.{hash_map_updates_str}
-use Rattle.ll_polarity.proofs.FirstModules.{put_in, stays}
+use Rattle.ll_polarity.proofs.putting.FirstModules.{put_in, stays}
 use Rattle.ll_polarity.proofs.headings.Headings.add.Goals as goal
 
 pub returns-in_ok-insert : goal.returns-in_ok-insert

@@ -1,6 +1,6 @@
 use Rattle.std.proofs.Common.{◌∙◌, ap, map}
 use Rattle.ll_polarity.specs.Copied.{module_row}
-use Rattle.ll_polarity.proofs.Copies.{whole_image, copied_fits, copied_part}
+use Rattle.ll_polarity.proofs.putting.Copies.{whole_image, copied_fits, copied_part}
 use Rattle.ll_polarity.proofs.part.Loaded.copy.Goals as goal
 
 pub invariant_of-result : goal.invariant_of-result

@@ -1,5 +1,5 @@
 use Rattle.std.proofs.Common.{reverse, ◌∙◌}
-use Rattle.ll_polarity.proofs.Binders.{has-shown}
+use Rattle.ll_polarity.proofs.naming.Binders.{has-shown}
 use Rattle.ll_polarity.proofs.scope.Binders.has.Goals as goal
 
 pub returns : goal.returns

@@ -1,6 +1,6 @@
 use Rattle.std.proofs.Common.{◌≡◌, length, reverse, sym, ◌∙◌, arith, rules}
 use Rattle.std.proofs.lemmas.List.{length-reverse}
-use Rattle.ll_polarity.proofs.Binders.{depth-shown, found-means, none-means}
+use Rattle.ll_polarity.proofs.naming.Binders.{depth-shown, found-means, none-means}
 use Rattle.ll_polarity.proofs.scope.Binders.meaning.Goals as goal
 
 pub overflow_sub-len : goal.overflow_sub-len

@@ -1,5 +1,5 @@
 use Rattle.std.proofs.Common.{◌≡◌, length, rules}
-use Rattle.ll_polarity.proofs.Binders.{opened-kept}
+use Rattle.ll_polarity.proofs.naming.Binders.{opened-kept}
 use Rattle.ll_polarity.proofs.scope.Binders.open.Goals as goal
 
 pub invariant_of-self-2 : goal.invariant_of-self-2

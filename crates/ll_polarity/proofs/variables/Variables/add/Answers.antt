@@ -3,7 +3,7 @@ use Rattle.std.specs.Prelude.{vec_len}
 use Rattle.std.specs.Ordering.{nat_cmp}
 use Rattle.std.specs.BTreeMap.{get}
 use Rattle.ll_polarity.specs.Numbered.{numbered, with_number, AreNumbered}
-use Rattle.ll_polarity.proofs.Numbering.{known_variable, new_variable, new_number, numbered_more, at_nat}
+use Rattle.ll_polarity.proofs.naming.Numbering.{known_variable, new_variable, new_number, numbered_more, at_nat}
 use Rattle.ll_polarity.proofs.variables.Variables.add.Goals as goal
 
 pub returns-in-Some-clause-added : goal.returns-in-Some-clause-added

@@ -1,5 +1,5 @@
 use Rattle.std.proofs.Common.{refl, ap, length, length-append, arith}
-use Rattle.ll_prooftext.proofs.LinesRead.{took, took_last, no_line}
+use Rattle.ll_prooftext.proofs.reading.LinesRead.{took, took_last, no_line}
 use Rattle.ll_prooftext.proofs.reader.Lines.next.Goals as goal
 
 pub returns-then-is_empty : goal.returns-then-is_empty

@@ -1,5 +1,5 @@
 use Rattle.std.proofs.Common.{refl, arith}
-use Rattle.ll_prooftext.proofs.TakesRead.{takes_let, takes_node}
+use Rattle.ll_prooftext.proofs.reading.TakesRead.{takes_let, takes_node}
 use Rattle.ll_prooftext.proofs.reader.Reading.take.Goals as goal
 
 pub returns-in_ok-push-in-Let-clause-ok : goal.returns-in_ok-push-in-Let-clause-ok

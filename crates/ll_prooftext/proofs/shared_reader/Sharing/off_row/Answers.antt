@@ -8,9 +8,9 @@ use Rattle.ll_prooftext.specs.SharedReader.{AreInPlace, IsFirstOff}
 use Rattle.ll_prooftext.specs.Short.{rule_places}
 use Rattle.ll_prooftext.specs.Table.{completed, rows_in}
 use Rattle.ll_prooftext.specs.Tables.{HasNumberAt}
-use Rattle.ll_prooftext.proofs.FaultsOver.{off_found}
-use Rattle.ll_prooftext.proofs.ShortLines.{All-right, inside_nodes}
-use Rattle.ll_prooftext.proofs.TableSteps.{argument_numbered}
+use Rattle.ll_prooftext.proofs.reading.FaultsOver.{off_found}
+use Rattle.ll_prooftext.proofs.writing.ShortLines.{All-right, inside_nodes}
+use Rattle.ll_prooftext.proofs.tabling.TableSteps.{argument_numbered}
 use Rattle.ll_prooftext.proofs.shared_reader.Sharing.off_row.Goals as goal
 
 pub number_terms-requires : goal.number_terms-requires

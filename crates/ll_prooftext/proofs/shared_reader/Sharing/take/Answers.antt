@@ -1,5 +1,5 @@
 use Rattle.std.proofs.Common.{refl}
-use Rattle.ll_prooftext.proofs.TakesOver.{takes_share, takes_variable, takes_step}
+use Rattle.ll_prooftext.proofs.reading.TakesOver.{takes_share, takes_variable, takes_step}
 use Rattle.ll_prooftext.proofs.shared_reader.Sharing.take.Goals as goal
 
 pub returns-in_ok-push-in-Share-clause-ok : goal.returns-in_ok-push-in-Share-clause-ok

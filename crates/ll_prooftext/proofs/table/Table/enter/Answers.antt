@@ -6,7 +6,7 @@ use Rattle.ll_bank.specs.Nodes.{term_tree, term_trees}
 use Rattle.ll_laws.specs.Output.{has_arguments}
 use Rattle.ll_printer.proofs.CallerLemmas.{has_arguments-app}
 use Rattle.ll_prooftext.specs.Tables.{row_at, bare, known, inside, entries}
-use Rattle.ll_prooftext.proofs.TableSteps.{is_there}
+use Rattle.ll_prooftext.proofs.tabling.TableSteps.{is_there}
 use Rattle.ll_prooftext.proofs.table.Table.enter.Goals as goal
 use Rattle.ll_prooftext.proofs.table.Table.enter.Goals.{then-is_empty-via-then-is_empty, then-is_empty-via-else-is_empty+then-is_some}
 

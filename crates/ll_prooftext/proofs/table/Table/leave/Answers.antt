@@ -1,6 +1,6 @@
 use Rattle.std.proofs.Common.{refl}
 use Rattle.ll_prooftext.specs.Tables.{row_at, left_known}
-use Rattle.ll_prooftext.proofs.TableSteps.{is_there}
+use Rattle.ll_prooftext.proofs.tabling.TableSteps.{is_there}
 use Rattle.ll_prooftext.proofs.table.Table.leave.Goals as goal
 
 pub returns-then-is_some : goal.returns-then-is_some

@@ -1,6 +1,6 @@
 use Rattle.std.proofs.Common.{◌≡◌, length, arith, rules}
 use Rattle.ll_bank.proofs.CallerLemmas.{Extends-refl}
-use Rattle.ll_prooftext.proofs.Chains.{chain_none, chain_more, chain_keeps}
+use Rattle.ll_prooftext.proofs.spelling.Chains.{chain_none, chain_more, chain_keeps}
 use Rattle.ll_prooftext.proofs.terms.Bracket.chain.Goals as goal
 
 pub loop-left-init : goal.loop-left-init

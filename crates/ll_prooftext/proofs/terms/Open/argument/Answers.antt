@@ -1,6 +1,6 @@
 use Rattle.std.proofs.Common.{sym, subst, refl, ap, ◌∙◌, ◌∷◌, Some}
 use Rattle.ll_prooftext.specs.Brackets.{Turns}
-use Rattle.ll_prooftext.proofs.Steps.{argument_opened, argument_put, argument_stuck}
+use Rattle.ll_prooftext.proofs.spelling.Steps.{argument_opened, argument_put, argument_stuck}
 use Rattle.ll_prooftext.proofs.terms.Open.argument.Goals as goal
 
 pub returns-in-Some-clause-step : goal.returns-in-Some-clause-step

@@ -1,6 +1,6 @@
 use Rattle.std.proofs.Common.{sym, ap, ◌∙◌, refl, Some}
 use Rattle.ll_lists.proofs.CallerLemmas.{IfOk-each as if_ok}
-use Rattle.ll_prooftext.proofs.Close.{closed_term, ends_whole, closes_argument, closes_leaf, item_step, none_popped}
+use Rattle.ll_prooftext.proofs.spelling.Close.{closed_term, ends_whole, closes_argument, closes_leaf, item_step, none_popped}
 use Rattle.ll_prooftext.proofs.terms.Open.close.Goals as goal
 
 pub returns-in_default-clause-step : goal.returns-in_default-clause-step

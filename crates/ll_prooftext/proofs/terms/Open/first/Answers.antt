@@ -1,6 +1,6 @@
 use Rattle.std.proofs.Common.{sym, subst, refl}
 use Rattle.ll_prooftext.specs.Brackets.{Turns}
-use Rattle.ll_prooftext.proofs.Steps.{first_opened, first_put, first_stuck}
+use Rattle.ll_prooftext.proofs.spelling.Steps.{first_opened, first_put, first_stuck}
 use Rattle.ll_prooftext.proofs.terms.Open.first.Goals as goal
 
 pub returns-in-Some-clause-step : goal.returns-in-Some-clause-step

@@ -1,6 +1,6 @@
 use Rattle.std.proofs.Common.{sym, subst, refl}
 use Rattle.ll_prooftext.specs.Brackets.{Turns}
-use Rattle.ll_prooftext.proofs.Close.{sign_put}
+use Rattle.ll_prooftext.proofs.spelling.Close.{sign_put}
 use Rattle.ll_prooftext.proofs.terms.Open.sign.Goals as goal
 
 pub returns-clause-step : goal.returns-clause-step

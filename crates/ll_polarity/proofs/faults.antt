@@ -1,0 +1,4 @@
+-- The faults of a text.
+pub mod Judging
+pub mod Order
+pub mod TextOrder

@@ -1,0 +1,5 @@
+-- Tables of shared terms.
+pub mod Classing
+pub mod RowsInPlace
+pub mod TableSteps
+pub mod TableTerms

@@ -1,0 +1,30 @@
+-- From a run that ends with status 1 to the derivations that there are not.
+use Rattle.std.proofs.Common.{◌≡◌, ◌≤◌, ℕ, Bool, true, false, List, Option, subst, sym, ◌∙◌, arith}
+use Rattle.std.specs.Prelude.{is_some, if◌then◌else◌}
+use Rattle.ll_edge.specs.Texts.{Texts}
+use Rattle.ll_laws.specs.Problem.{ProblemTree}
+use Rattle.ll_laws.specs.Output.{run_status}
+use Rattle.ll_laws.specs.Valid.{IsValid}
+use Rattle.ll_laws.specs.Completeness.{NothingIsShown}
+use Rattle.ll_top.specs.Words.{RunWords, IsRun}
+use Rattle.ll_top.specs.Outcome.{RunAsks, front_events, status_of_run}
+use Rattle.ll_top.specs.Nothing.{AsksInVain}
+use Rattle.ll_top.proofs.outcomes.OneText.{one-run}
+
+-- the status of a run that is 1 is that of its whole search
+whole-status : (first : Option ℕ) (p : ProblemTree) → status_of_run first p ≡ 1 → run_status p ≡ 1
+whole-status first p e = by_end (is_some (front_events first p)) e
+  where
+    by_end : (b : Bool) → (if b then 0 else run_status p) ≡ 1 → run_status p ≡ 1
+    by_end true h = absurd (omega arith)
+    by_end false h = h
+
+-- a run that ended without an answer, and without having reached the bound
+pub asks-in-vain : NothingIsShown → (told : Option Texts) (run : RunWords) (p : ProblemTree) (status : ℕ) → RunAsks told run p → IsValid p
+    → status ≡ status_of_run run.first p → status ≡ 1 → AsksInVain told run
+asks-in-vain nothing told run p status asks valid is one = record { problem = p; asks = asks; not_shown = λ d s. nothing p d valid (whole-status run.first p (sym is ∙ one)) s }
+
+-- what the words of a run ask for
+pub vain-run : (words : List (List ℕ)) (told : Option Texts) (run other : RunWords) → IsRun words run → IsRun words other
+    → AsksInVain told run → AsksInVain told other
+vain-run words told run other h k v = subst (AsksInVain told) (one-run words run other h k) v

@@ -1,5 +1,5 @@
 -- What unification makes of a store's bindings.
-use Rattle.std.specs.Prelude.{◌≡◌, ℕ, Bool, true, false, List, All, Option, Some, None}
+use Rattle.std.specs.Prelude.{◌≡◌, ℕ, Bool, true, false, List, Option, Some, None}
 use Rattle.ll_bank.specs.declared.At.{At}
 use Rattle.ll_bank.specs.Term.{Term, sub, close}
 use Rattle.ll_bank.specs.Nodes.{Nodes, term_tree}
@@ -7,8 +7,6 @@ use Rattle.ll_close.specs.Closing.{env_of}
 use Rattle.ll_bindings.specs.Bindings.{Table, IsTable, count}
 use Rattle.ll_store.specs.declared.store.Store.{Store}
 use Rattle.ll_store.specs.Tables.{table_of}
-use Rattle.ll_laws.specs.Settle.{Entry}
-use Rattle.ll_laws.specs.Attempt.{entry_at}
 use Rattle.ll_laws.specs.Unify.{Solved}
 use Rattle.ll_freeze.specs.Reading.{reading, read_term}
 
@@ -32,7 +30,3 @@ abbrev pub Unifies : Nodes → Nodes → Table → Table → Option Solved → B
 Unifies first bank old new (Some v) true = IsUnified first bank old new v
 Unifies first bank old new None false = Unit {0}
 Unifies first bank old new _ _ = ⊥
-
--- each entry is the one with its label
-abbrev pub AreFoundByLabel : {C : Type 0} → List (Entry C) → Type 0
-AreFoundByLabel es = All (λ e. entry_at es e.label ≡ Some e) es

@@ -1,6 +1,6 @@
 use Rattle.std.proofs.Common.{rules}
 use Rattle.ll_freeze.specs.Parts.{parts_of}
-use Rattle.ll_engine.proofs.Showing.{flagged, unflagged}
+use Rattle.ll_engine.proofs.machine.Showing.{flagged, unflagged}
 use Rattle.ll_engine.proofs.answer.answers.Goals as goal
 
 pub returns-then-flag : goal.returns-then-flag

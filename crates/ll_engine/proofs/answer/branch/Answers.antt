@@ -8,8 +8,8 @@ use Rattle.ll_bindings.specs.Bindings.{IsPlaceOf}
 use Rattle.ll_freeze.specs.Parts.{parts_of, table}
 use Rattle.ll_freeze.proofs.CallerLemmas.{trees_read}
 use Rattle.ll_freeze.specs.Reading.{reading}
-use Rattle.ll_engine.proofs.ReadLemmas.{fits_table}
-use Rattle.ll_engine.proofs.Showing.{branch_of, term_places}
+use Rattle.ll_engine.proofs.machine.ReadLemmas.{fits_table}
+use Rattle.ll_engine.proofs.machine.Showing.{branch_of, term_places}
 use Rattle.ll_engine.proofs.answer.branch.Goals as goal
 
 pub cut-requires : goal.cut-requires

@@ -1,5 +1,5 @@
 use Rattle.std.proofs.Common.{rules, refl}
-use Rattle.ll_engine.proofs.Showing.{live_here, not_live_more}
+use Rattle.ll_engine.proofs.machine.Showing.{live_here, not_live_more}
 use Rattle.ll_engine.proofs.answer.has_live.Goals as goal
 
 pub returns-then-entry : goal.returns-then-entry

@@ -1,5 +1,5 @@
 use Rattle.ll_freeze.specs.Parts.{parts_of}
-use Rattle.ll_engine.proofs.Showing.{empty_of}
+use Rattle.ll_engine.proofs.machine.Showing.{empty_of}
 use Rattle.ll_engine.proofs.answer.is_empty.Goals as goal
 
 pub returns : goal.returns

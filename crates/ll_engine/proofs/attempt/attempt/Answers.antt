@@ -1,11 +1,11 @@
 use Rattle.std.proofs.Common.{refl, ap, sym, ◌≡◌, ◌∙◌, ◌∷◌}
 use Rattle.ll_agenda.specs.Frames.{items_at}
 use Rattle.ll_freeze.specs.Parts.{parts_of}
-use Rattle.ll_engine.proofs.MachineLemmas.{in_front}
-use Rattle.ll_engine.proofs.Quantifying.{forall_heads, exists_heads, forall_row, exists_row, not_empty, no_candidate}
+use Rattle.ll_engine.proofs.machine.MachineLemmas.{in_front}
+use Rattle.ll_engine.proofs.inferences.Quantifying.{forall_heads, exists_heads, forall_row, exists_row, not_empty, no_candidate}
 use Rattle.ll_bank.specs.Form.{Use}
 use Rattle.ll_bank.specs.Nodes.{term_trees, form_tree}
-use Rattle.ll_engine.proofs.Loading.{use_count, use_closed, use_clauses, use_heads, use_row}
+use Rattle.ll_engine.proofs.inferences.Loading.{use_count, use_closed, use_clauses, use_heads, use_row}
 use Rattle.ll_engine.proofs.attempt.attempt.Goals as goal
 
 pub unreachable-requires : goal.unreachable-requires

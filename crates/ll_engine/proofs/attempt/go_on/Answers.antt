@@ -2,7 +2,7 @@ use Rattle.std.proofs.Common.{refl, sym, ◌∷◌, []}
 use Rattle.std.proofs.lemmas.List.{append-nil}
 use Rattle.ll_store.specs.Stored.{stored}
 use Rattle.ll_freeze.proofs.CallerLemmas.{store_same, context_same}
-use Rattle.ll_engine.proofs.Keeping.{later_of}
+use Rattle.ll_engine.proofs.machine.Keeping.{later_of}
 use Rattle.ll_engine.proofs.attempt.go_on.Goals as goal
 
 pub returns-clause-later : goal.returns-clause-later

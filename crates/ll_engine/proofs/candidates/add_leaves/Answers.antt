@@ -5,7 +5,7 @@ use Rattle.ll_bank.specs.declared.FormAt.{FormAt}
 use Rattle.ll_bank.specs.Nodes.{term_tree}
 use Rattle.ll_engine.specs.Leaves.{heads, head_tries, waiting_heads}
 use Rattle.ll_engine.specs.Matches.{HasCellsIn, head_fits, all_found}
-use Rattle.ll_engine.proofs.CandidateLemmas.{each_past, each_in, each_both, each_leaf, each_behind, heads_seen, no_heads, walk_past, walk_in, walk_both, leaf_found, leaf_passed}
+use Rattle.ll_engine.proofs.matching.CandidateLemmas.{each_past, each_in, each_both, each_leaf, each_behind, heads_seen, no_heads, walk_past, walk_in, walk_both, leaf_found, leaf_passed}
 use Rattle.ll_engine.proofs.candidates.add_leaves.Goals as goal
 use Rattle.ll_engine.proofs.candidates.add_leaves.Goals.{then-branch+in_ok-push-in-Atom, else-branch}
 

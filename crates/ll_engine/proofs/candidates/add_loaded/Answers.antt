@@ -2,7 +2,7 @@ use Rattle.std.proofs.Common.{◌≡◌, ap, sym, ◌∙◌, arith, map, flat_ma
 use Rattle.ll_resources.specs.Seen.{resource}
 use Rattle.ll_engine.specs.Leaves.{open_tries, standing_entry}
 use Rattle.ll_engine.specs.Matches.{head_fits, all_found}
-use Rattle.ll_engine.proofs.LeafLemmas.{flat_more}
+use Rattle.ll_engine.proofs.matching.LeafLemmas.{flat_more}
 use Rattle.ll_engine.proofs.candidates.add_loaded.Goals as goal
 
 pub loop-from_front-preserved : goal.loop-from_front-preserved

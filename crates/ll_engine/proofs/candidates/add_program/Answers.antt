@@ -3,7 +3,7 @@ use Rattle.ll_resources.specs.Seen.{resource}
 use Rattle.ll_index.specs.Index.{left}
 use Rattle.ll_freeze.specs.Parts.{parts_of}
 use Rattle.ll_engine.specs.Matches.{all_found, shown_context}
-use Rattle.ll_engine.proofs.ProgramLemmas.{program_begins, program_found, program_passed, leaf_entry, leaf_open}
+use Rattle.ll_engine.proofs.matching.ProgramLemmas.{program_begins, program_found, program_passed, leaf_entry, leaf_open}
 use Rattle.ll_engine.proofs.candidates.add_program.Goals as goal
 
 pub loop-leaf-init : goal.loop-leaf-init

@@ -5,7 +5,7 @@ use Rattle.ll_freeze.specs.Parts.{parts_of}
 use Rattle.ll_freeze.specs.Reading.{read_term}
 use Rattle.ll_bank.specs.Nodes.{term_tree}
 use Rattle.ll_engine.specs.Matches.{Asks, AsksFor, all_found}
-use Rattle.ll_engine.proofs.AtomLemmas.{atom_front, splits, heads_below, has_head, name_read, arity_read, all_matches, loaded_match}
+use Rattle.ll_engine.proofs.inferences.AtomLemmas.{atom_front, splits, heads_below, has_head, name_read, arity_read, all_matches, loaded_match}
 use Rattle.ll_engine.proofs.candidates.atom_candidates.Goals as goal
 use Rattle.ll_engine.proofs.candidates.atom_candidates.Goals.{in-Name+in_ok-add_program, in_default-head}
 

@@ -1,7 +1,7 @@
 use Rattle.std.proofs.Common.{refl, ap, sym, ◌∙◌, ◌∷◌, [], ◌++◌}
 use Rattle.ll_agenda.specs.Frames.{items_at}
 use Rattle.ll_freeze.specs.Parts.{parts_of}
-use Rattle.ll_engine.proofs.AtomLemmas.{matches_empty, matches_end, matches_one, matches_two}
+use Rattle.ll_engine.proofs.inferences.AtomLemmas.{matches_empty, matches_end, matches_one, matches_two}
 use Rattle.ll_engine.proofs.candidates.candidates.Goals as goal
 
 pub returns-in_default : goal.returns-in_default

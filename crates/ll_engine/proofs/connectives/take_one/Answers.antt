@@ -1,6 +1,6 @@
 use Rattle.ll_agenda.specs.Frames.{items_at}
 use Rattle.ll_freeze.specs.Parts.{parts_of}
-use Rattle.ll_engine.proofs.Rowing.{one}
+use Rattle.ll_engine.proofs.inferences.Connecting.{one}
 use Rattle.ll_engine.proofs.connectives.take_one.Goals as goal
 
 pub returns-clause-attempts : goal.returns-clause-attempts

@@ -1,7 +1,7 @@
 use Rattle.std.proofs.Common.{rules}
 use Rattle.ll_agenda.specs.Frames.{items_at}
 use Rattle.ll_freeze.specs.Parts.{parts_of}
-use Rattle.ll_engine.proofs.Rowing.{left, right}
+use Rattle.ll_engine.proofs.inferences.Connecting.{left, right}
 use Rattle.ll_engine.proofs.connectives.take_plus.Goals as goal
 
 pub returns-then-candidate-eq0-clause-attempts : goal.returns-then-candidate-eq0-clause-attempts

@@ -1,6 +1,6 @@
 use Rattle.ll_agenda.specs.Frames.{items_at}
 use Rattle.ll_freeze.specs.Parts.{parts_of}
-use Rattle.ll_engine.proofs.Rowing.{tensor}
+use Rattle.ll_engine.proofs.inferences.Connecting.{tensor}
 use Rattle.ll_engine.proofs.connectives.take_tensor.Goals as goal
 
 pub returns-clause-attempts : goal.returns-clause-attempts

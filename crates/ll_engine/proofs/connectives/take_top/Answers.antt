@@ -1,8 +1,8 @@
 use Rattle.ll_agenda.specs.Frames.{items_at}
 use Rattle.ll_freeze.specs.Parts.{parts_of}
 use Rattle.ll_freeze.proofs.CallerLemmas.{later_then}
-use Rattle.ll_engine.proofs.Keeping.{later_context}
-use Rattle.ll_engine.proofs.Rowing.{top}
+use Rattle.ll_engine.proofs.machine.Keeping.{later_context}
+use Rattle.ll_engine.proofs.inferences.Connecting.{top}
 use Rattle.ll_engine.proofs.connectives.take_top.Goals as goal
 
 pub returns-clause-attempts : goal.returns-clause-attempts

@@ -1,5 +1,5 @@
 use Rattle.ll_engine.specs.Pointed.{spine_of}
-use Rattle.ll_engine.proofs.Turns.{turned_retry}
+use Rattle.ll_engine.proofs.turns.Turns.{turned_retry}
 use Rattle.ll_engine.proofs.engine.go_back.Goals as goal
 
 pub returns-clause-turned : goal.returns-clause-turned

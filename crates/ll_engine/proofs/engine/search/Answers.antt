@@ -6,7 +6,7 @@ use Rattle.ll_freeze.specs.Shown.{state_of}
 use Rattle.ll_engine.specs.Pointed.{spine_of}
 use Rattle.ll_engine.specs.Seen.{Spine}
 use Rattle.ll_engine.specs.Turned.{Turned}
-use Rattle.ll_engine.proofs.Turns.{turned_fails, turned_over, turned_answer, turned_reached, turned_expand}
+use Rattle.ll_engine.proofs.turns.Turns.{turned_fails, turned_over, turned_answer, turned_reached, turned_expand}
 use Rattle.ll_engine.proofs.engine.search.Goals as goal
 
 pub returns-then-not-branch-clause-turned : goal.returns-then-not-branch-clause-turned

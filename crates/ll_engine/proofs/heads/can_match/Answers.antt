@@ -1,6 +1,6 @@
 use Rattle.std.proofs.Common.{sym, ◌∙◌}
 use Rattle.ll_bank.specs.Nodes.{term_tree}
-use Rattle.ll_engine.proofs.SignLemmas.{spine_of_predicate}
+use Rattle.ll_engine.proofs.matching.SignLemmas.{spine_of_predicate}
 use Rattle.ll_engine.proofs.heads.can_match.Goals as goal
 
 pub first_under-requires-clause-spine : goal.first_under-requires-clause-spine

@@ -4,7 +4,7 @@ use Rattle.ll_store.specs.Tables.{table_of}
 use Rattle.ll_bank.specs.Nodes.{term_tree}
 use Rattle.ll_bindings.specs.Bindings.{found}
 use Rattle.ll_index.specs.declared.laws.First.{First}
-use Rattle.ll_engine.proofs.SignLemmas.{first_at_place, first_at}
+use Rattle.ll_engine.proofs.matching.SignLemmas.{first_at_place, first_at}
 use Rattle.ll_engine.proofs.heads.first_under.Goals as goal
 
 pub sign_under-requires-clause-place : goal.sign_under-requires-clause-place

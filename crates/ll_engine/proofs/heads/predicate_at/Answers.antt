@@ -1,5 +1,5 @@
 use Rattle.ll_bank.specs.Nodes.{term_tree}
-use Rattle.ll_engine.proofs.CandidateLemmas.{predicate_app}
+use Rattle.ll_engine.proofs.matching.CandidateLemmas.{predicate_app}
 use Rattle.ll_engine.proofs.heads.predicate_at.Goals as goal
 
 pub returns-in-App : goal.returns-in-App

@@ -4,7 +4,7 @@ use Rattle.std.proofs.lemmas.Int.{to_z-of_z}
 use Rattle.ll_store.specs.Tables.{table_of}
 use Rattle.ll_index.specs.declared.laws.First.TheVariants.{Int as IntSign, Head as NameSign}
 use Rattle.ll_index.specs.First.{name_sign}
-use Rattle.ll_engine.proofs.SignLemmas.{sign_app, sign_var, sign_int}
+use Rattle.ll_engine.proofs.matching.SignLemmas.{sign_app, sign_var, sign_int}
 use Rattle.ll_engine.proofs.heads.sign_under.Goals as goal
 
 pub returns-in_ok-arity-in-App-Name-default : goal.returns-in_ok-arity-in-App-Name-default

@@ -11,9 +11,9 @@ use Rattle.ll_freeze.specs.declared.machine.Machine.{Machine}
 use Rattle.ll_freeze.specs.Parts.{Parts, parts_of}
 use Rattle.ll_freeze.specs.Reading.{HasValue}
 use Rattle.ll_freeze.proofs.CallerLemmas.{later_then, store_then}
-use Rattle.ll_engine.proofs.ReadLemmas.{fits_table}
-use Rattle.ll_engine.proofs.Keeping.{store_extends, later_store}
-use Rattle.ll_engine.proofs.NumberLemmas.{goes, value_is, no_value, Finds, expression_place, start_table, target_is_place, value_is_place, clash, equal}
+use Rattle.ll_engine.proofs.machine.ReadLemmas.{fits_table}
+use Rattle.ll_engine.proofs.machine.Keeping.{store_extends, later_store}
+use Rattle.ll_engine.proofs.inferences.NumberLemmas.{goes, value_is, no_value, Finds, expression_place, start_table, target_is_place, value_is_place, clash, equal}
 use Rattle.ll_engine.proofs.numbers.take_is.Goals as goal
 
 pub value_under-requires-clause-table : goal.value_under-requires-clause-table

@@ -7,9 +7,9 @@ use Rattle.ll_freeze.specs.declared.machine.Machine.{Machine}
 use Rattle.ll_freeze.specs.Parts.{Parts, parts_of}
 use Rattle.ll_freeze.proofs.CallerLemmas.{later_then}
 use Rattle.ll_engine.specs.Numbers.{tested}
-use Rattle.ll_engine.proofs.ReadLemmas.{fits_table}
-use Rattle.ll_engine.proofs.Keeping.{store_extends, later_store}
-use Rattle.ll_engine.proofs.NumberLemmas.{goes_same, test_is, most_fails, most_holds, most_left, most_right}
+use Rattle.ll_engine.proofs.machine.ReadLemmas.{fits_table}
+use Rattle.ll_engine.proofs.machine.Keeping.{store_extends, later_store}
+use Rattle.ll_engine.proofs.inferences.NumberLemmas.{goes_same, test_is, most_fails, most_holds, most_left, most_right}
 use Rattle.ll_engine.proofs.numbers.take_most.Goals as goal
 
 pub values_under-requires-clause-table : goal.values_under-requires-clause-table

@@ -4,7 +4,7 @@ use Rattle.ll_bindings.proofs.CallerLemmas.{table-extends, place-extends}
 use Rattle.ll_store.specs.Tables.{table_of}
 use Rattle.ll_laws.specs.Number.{operators_of, value_of}
 use Rattle.ll_freeze.specs.Reading.{read_term}
-use Rattle.ll_engine.proofs.NumberLemmas.{value_kept, second_lacks, both_values}
+use Rattle.ll_engine.proofs.inferences.NumberLemmas.{value_kept, second_lacks, both_values}
 use Rattle.ll_engine.proofs.numbers.values_under.Goals as goal
 
 pub value_under-requires-2-clause-table : goal.value_under-requires-2-clause-table

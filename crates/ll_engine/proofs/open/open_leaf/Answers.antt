@@ -12,7 +12,7 @@ use Rattle.ll_laws.specs.Valid.{GoalSide, ClauseSide}
 use Rattle.ll_laws.proofs.CallerLemmas.{Fits as FormFits}
 use Rattle.ll_agenda.specs.Frames.{items_at}
 use Rattle.ll_agenda.proofs.CallerLemmas.{Extends-refl as frames-refl, Extends-trans as frames-trans}
-use Rattle.ll_engine.proofs.WayLemmas.{IsOnWay, env_vars, scope_of, way_start, way_left, way_right, way_past, way_in, way_end, same_part, part_inside, closed_applies, slice_env}
+use Rattle.ll_engine.proofs.inferences.WayLemmas.{IsOnWay, env_vars, scope_of, way_start, way_left, way_right, way_past, way_in, way_end, same_part, part_inside, closed_applies, slice_env}
 use Rattle.ll_engine.proofs.open.open_leaf.Goals as goal
 
 pub loop-atom-init : goal.loop-atom-init

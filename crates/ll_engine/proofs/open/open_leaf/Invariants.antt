@@ -1,7 +1,7 @@
 use Rattle.ll_agenda.specs.Frames.{items_at, Extends}
 use Rattle.std.proofs.Common.{length}
 use Rattle.ll_engine.specs.Opening.{Appends}
-use Rattle.ll_engine.proofs.WayLemmas.{IsOnWay}
+use Rattle.ll_engine.proofs.inferences.WayLemmas.{IsOnWay}
 use Rattle.ll_engine.proofs.open.open_leaf.Given as goal
 
 abbrev pub invariant-loop-atom : goal.invariant-loop-atom

@@ -10,8 +10,8 @@ use Rattle.ll_store.specs.declared.store.Store.{Store}
 use Rattle.ll_freeze.specs.declared.machine.Machine.{Machine}
 use Rattle.ll_freeze.specs.Parts.{Parts, parts_of}
 use Rattle.ll_freeze.proofs.CallerLemmas.{later_then, store_then, context_same}
-use Rattle.ll_engine.proofs.Keeping.{store_extends, later_terms}
-use Rattle.ll_engine.proofs.Quantifying.{opens_shown, body_shown, value_shown}
+use Rattle.ll_engine.proofs.machine.Keeping.{store_extends, later_terms}
+use Rattle.ll_engine.proofs.inferences.Quantifying.{opens_shown, body_shown, value_shown}
 use Rattle.ll_engine.proofs.quantifiers.take_exists.Goals as goal
 
 pub returns : goal.returns

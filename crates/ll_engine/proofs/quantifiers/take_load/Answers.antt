@@ -7,8 +7,8 @@ use Rattle.ll_store.specs.declared.store.Store.{Store}
 use Rattle.ll_freeze.specs.declared.machine.Machine.{Machine}
 use Rattle.ll_freeze.specs.Parts.{Parts, parts_of}
 use Rattle.ll_freeze.proofs.CallerLemmas.{later_then}
-use Rattle.ll_engine.proofs.Keeping.{store_extends, later_store}
-use Rattle.ll_engine.proofs.Quantifying.{opens_shown}
+use Rattle.ll_engine.proofs.machine.Keeping.{store_extends, later_store}
+use Rattle.ll_engine.proofs.inferences.Quantifying.{opens_shown}
 use Rattle.ll_engine.proofs.quantifiers.take_load.Goals as goal
 
 pub returns : goal.returns

@@ -1,7 +1,7 @@
 use Rattle.std.proofs.Common.{rules}
 use Rattle.ll_freeze.specs.Parts.{parts_of}
 use Rattle.ll_freeze.proofs.CallerLemmas.{later_same}
-use Rattle.ll_engine.proofs.Resuming.{tried}
+use Rattle.ll_engine.proofs.turns.Resuming.{tried}
 use Rattle.ll_engine.proofs.resume.begin.Goals as goal
 
 pub attempt-requires-clause-goal : goal.attempt-requires-clause-goal

@@ -3,8 +3,8 @@ use Rattle.ll_agenda.specs.Frames.{items_at}
 use Rattle.ll_agenda.proofs.CallerLemmas.{Extends-trans}
 use Rattle.ll_freeze.specs.declared.machine.Item.TheVariants.{Goal, Mid}
 use Rattle.ll_freeze.specs.Parts.{parts_of}
-use Rattle.ll_engine.proofs.Keeping.{later_frames}
-use Rattle.ll_engine.proofs.Settling.{middle, middle_fits}
+use Rattle.ll_engine.proofs.machine.Keeping.{later_frames}
+use Rattle.ll_engine.proofs.inferences.Settling.{middle, middle_fits}
 use Rattle.ll_engine.proofs.settle.second_side.Goals as goal
 
 pub with_mid-requires : goal.with_mid-requires

@@ -2,7 +2,7 @@ use Rattle.std.proofs.Common.{rules, subst}
 use Rattle.ll_freeze.specs.Parts.{parts_of}
 use Rattle.ll_engine.specs.Going.{Works}
 use Rattle.ll_freeze.proofs.CallerLemmas.{later_same, later_then}
-use Rattle.ll_engine.proofs.Settling.{further, begins, here, settled_done, settled_fails, failed_same, settled_empty}
+use Rattle.ll_engine.proofs.inferences.Settling.{further, begins, here, settled_done, settled_fails, failed_same, settled_empty}
 use Rattle.ll_engine.proofs.settle.settle.Goals as goal
 
 pub loop-item-init : goal.loop-item-init

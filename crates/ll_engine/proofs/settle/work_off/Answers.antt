@@ -3,8 +3,8 @@ use Rattle.ll_agenda.specs.Frames.{items_at}
 use Rattle.ll_resources.specs.Resources.{load_end, with_end}
 use Rattle.ll_freeze.specs.Parts.{parts_of}
 use Rattle.ll_freeze.proofs.CallerLemmas.{later_same}
-use Rattle.ll_engine.proofs.Keeping.{later_top}
-use Rattle.ll_engine.proofs.Settling.{off_lolli, off_imp, off_with, off_bang, with_fits, bang_fits, worked}
+use Rattle.ll_engine.proofs.machine.Keeping.{later_top}
+use Rattle.ll_engine.proofs.inferences.Settling.{off_lolli, off_imp, off_with, off_bang, with_fits, bang_fits, worked}
 use Rattle.ll_engine.proofs.settle.work_off.Goals as goal
 
 pub returns-else-not-branch-clause-works : goal.returns-else-not-branch-clause-works

@@ -3,7 +3,7 @@ use Rattle.ll_laws.specs.Problem.{ProblemTree}
 use Rattle.ll_freeze.specs.Parts.{parts_of, base_of}
 use Rattle.ll_freeze.proofs.CallerLemmas.{keeps}
 use Rattle.ll_engine.specs.Pointed.{IsRunning}
-use Rattle.ll_engine.proofs.Basing.{begun_sound}
+use Rattle.ll_engine.proofs.machine.Basing.{begun_sound}
 use Rattle.ll_engine.proofs.shared.begin_in.Goals as goal
 
 pub returns-clause-sound : goal.returns-clause-sound

@@ -4,8 +4,8 @@ use Rattle.ll_freeze.specs.Parts.{parts_of, IsGood, IsBefore}
 use Rattle.ll_engine.specs.declared.spine.Kept.{Kept}
 use Rattle.ll_engine.specs.Pointed.{Held, Puts, KeepsKept, AreMarks, helds, held_of}
 use Rattle.ll_engine.specs.Based.{KeepsFloors}
-use Rattle.ll_engine.proofs.Basing.{floor_push}
-use Rattle.ll_engine.proofs.Pointing.{puts_some, keeps_some, some_left, helds_push, rises_push}
+use Rattle.ll_engine.proofs.machine.Basing.{floor_push}
+use Rattle.ll_engine.proofs.turns.Pointing.{puts_some, keeps_some, some_left, helds_push, rises_push}
 use Rattle.ll_engine.proofs.spine.keep.Goals as goal
 
 pub returns-clause-puts : goal.returns-clause-puts

@@ -2,8 +2,8 @@ use Rattle.std.proofs.Common.{ap, sym, ◌∙◌, [], ◌∷◌}
 use Rattle.std.proofs.lemmas.List.Elements.{All-head}
 use Rattle.ll_freeze.specs.Parts.{parts_at, IsBefore}
 use Rattle.ll_engine.specs.declared.spine.Kept.{Kept}
-use Rattle.ll_engine.proofs.Basing.{based_some}
-use Rattle.ll_engine.proofs.Splitting.{reversed_tries}
+use Rattle.ll_engine.proofs.machine.Basing.{based_some}
+use Rattle.ll_engine.proofs.turns.Splitting.{reversed_tries}
 use Rattle.ll_engine.proofs.split.frozen.Goals as goal
 
 pub whole-requires-clause-tries : goal.whole-requires-clause-tries

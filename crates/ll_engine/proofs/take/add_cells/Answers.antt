@@ -3,7 +3,7 @@ use Rattle.std.proofs.lemmas.List.{append-nil}
 use Rattle.ll_store.specs.declared.cells.Cell.{Cell}
 use Rattle.ll_store.specs.Stored.{stored}
 use Rattle.ll_freeze.proofs.CallerLemmas.{store_same, store_then}
-use Rattle.ll_engine.proofs.TakeLemmas.{replicate_push}
+use Rattle.ll_engine.proofs.inferences.TakeLemmas.{replicate_push}
 use Rattle.ll_engine.proofs.take.add_cells.Goals as goal
 
 pub loop-init : goal.loop-init

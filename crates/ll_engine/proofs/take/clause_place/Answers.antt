@@ -1,5 +1,5 @@
 use Rattle.ll_resources.specs.Seen.{resource}
-use Rattle.ll_engine.proofs.TakeLemmas.{place_there}
+use Rattle.ll_engine.proofs.inferences.TakeLemmas.{place_there}
 use Rattle.ll_engine.proofs.take.clause_place.Goals as goal
 
 pub returns-then-entry-label-clause-some : goal.returns-then-entry-label-clause-some

@@ -1,8 +1,8 @@
 use Rattle.ll_resources.specs.Seen.{resource}
 use Rattle.ll_freeze.specs.Parts.{parts_of}
 use Rattle.ll_freeze.proofs.CallerLemmas.{later_same}
-use Rattle.ll_engine.proofs.TakeLemmas.{at_their_labels, entry_there}
-use Rattle.ll_engine.proofs.TakingLemmas.{no_entry, leaf_among}
+use Rattle.ll_engine.proofs.inferences.TakeLemmas.{at_their_labels, entry_there}
+use Rattle.ll_engine.proofs.inferences.TakingLemmas.{no_entry, leaf_among}
 use Rattle.ll_engine.proofs.take.take_leaf.Goals as goal
 
 pub returns-in_default-clause-attempts : goal.returns-in_default-clause-attempts

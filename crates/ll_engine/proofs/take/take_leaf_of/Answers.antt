@@ -7,10 +7,10 @@ use Rattle.ll_resources.specs.Seen.{resource}
 use Rattle.ll_freeze.specs.Fits.{allowed}
 use Rattle.ll_freeze.specs.Parts.{parts_of}
 use Rattle.ll_freeze.proofs.CallerLemmas.{store_then, context_same}
-use Rattle.ll_engine.proofs.ReadLemmas.{cells_bound, cells_levels}
-use Rattle.ll_engine.proofs.CellLemmas.{slice_is}
-use Rattle.ll_engine.proofs.Keeping.{store_extends, later_of}
-use Rattle.ll_engine.proofs.TakingLemmas.{variable_count, clause_inside, clause_sorted, count_is, finds_in, ready_in, none_taken, some_taken}
+use Rattle.ll_engine.proofs.machine.ReadLemmas.{cells_bound, cells_levels}
+use Rattle.ll_engine.proofs.machine.CellLemmas.{slice_is}
+use Rattle.ll_engine.proofs.machine.Keeping.{store_extends, later_of}
+use Rattle.ll_engine.proofs.inferences.TakingLemmas.{variable_count, clause_inside, clause_sorted, count_is, finds_in, ready_in, none_taken, some_taken}
 use Rattle.ll_engine.proofs.take.take_leaf_of.Goals as goal
 
 pub open_leaf-requires-clause-inside : goal.open_leaf-requires-clause-inside

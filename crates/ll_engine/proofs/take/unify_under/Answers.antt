@@ -1,6 +1,6 @@
 use Rattle.ll_bank.specs.Nodes.{term_tree}
 use Rattle.ll_store.specs.Tables.{table_of}
-use Rattle.ll_engine.proofs.UnifyLemmas.{unifies}
+use Rattle.ll_engine.proofs.inferences.UnifyLemmas.{unifies}
 use Rattle.ll_engine.proofs.take.unify_under.Goals as goal
 
 pub returns-clause-found : goal.returns-clause-found

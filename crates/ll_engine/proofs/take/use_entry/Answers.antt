@@ -1,7 +1,7 @@
 use Rattle.std.proofs.Common.{sym}
 use Rattle.ll_resources.specs.Seen.{resource}
 use Rattle.ll_freeze.proofs.CallerLemmas.{context_same}
-use Rattle.ll_engine.proofs.TakenLemmas.{can_pick, picked_dead}
+use Rattle.ll_engine.proofs.inferences.TakenLemmas.{can_pick, picked_dead}
 use Rattle.ll_engine.proofs.take.use_entry.Goals as goal
 
 pub pick_at-requires-clause-can : goal.pick_at-requires-clause-can

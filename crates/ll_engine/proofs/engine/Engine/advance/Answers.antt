@@ -1,6 +1,6 @@
 use Rattle.std.specs.Arc.{arc_value}
 use Rattle.ll_engine.specs.Pointed.{spine_of}
-use Rattle.ll_engine.proofs.Resuming.{healthy_begins, resumes_with, resumes_owing}
+use Rattle.ll_engine.proofs.turns.Resuming.{healthy_begins, resumes_with, resumes_owing}
 use Rattle.ll_engine.proofs.engine.Engine.advance.Goals as goal
 
 pub invariant_of-result : goal.invariant_of-result

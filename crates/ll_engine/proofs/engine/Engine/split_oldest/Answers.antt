@@ -3,8 +3,8 @@ use Rattle.ll_engine.specs.Seen.{Owing}
 use Rattle.ll_engine.specs.Owed.{owing}
 use Rattle.ll_engine.specs.Pointed.{spine_of}
 use Rattle.ll_engine.specs.Splits.{SplitsTo}
-use Rattle.ll_engine.proofs.Splitting.{healthy_split, splits_to}
-use Rattle.ll_engine.proofs.Stepping.{seen}
+use Rattle.ll_engine.proofs.turns.Splitting.{healthy_split, splits_to}
+use Rattle.ll_engine.proofs.turns.Stepping.{seen}
 use Rattle.ll_engine.proofs.engine.Engine.split_oldest.Goals as goal
 
 pub invariant_of-self-2 : goal.invariant_of-self-2

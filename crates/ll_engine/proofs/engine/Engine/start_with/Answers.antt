@@ -1,6 +1,6 @@
 use Rattle.ll_laws.specs.Problem.{start_of}
 use Rattle.ll_engine.specs.Pointed.{spine_of}
-use Rattle.ll_engine.proofs.Stepping.{healthy_start}
+use Rattle.ll_engine.proofs.turns.Stepping.{healthy_start}
 use Rattle.ll_engine.proofs.engine.Engine.start_with.Goals as goal
 
 pub invariant_of-result : goal.invariant_of-result

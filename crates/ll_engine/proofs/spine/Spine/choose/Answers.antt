@@ -8,8 +8,8 @@ use Rattle.ll_freeze.specs.Parts.{parts_of}
 use Rattle.ll_freeze.proofs.CallerLemmas.{keeps}
 use Rattle.ll_engine.specs.Pointed.{Held, IsSoundAt, helds, points_of, spine_at, spine_of, first_of}
 use Rattle.ll_engine.specs.Turned.{Chose}
-use Rattle.ll_engine.proofs.Basing.{based_kept, based_more}
-use Rattle.ll_engine.proofs.Pointing.{sound_after, chose_some, helds_kept, marks_kept}
+use Rattle.ll_engine.proofs.machine.Basing.{based_kept, based_more}
+use Rattle.ll_engine.proofs.turns.Pointing.{sound_after, chose_some, helds_kept, marks_kept}
 use Rattle.ll_engine.proofs.spine.Spine.choose.Goals as goal
 
 pub attempt-requires-clause-candidate : goal.attempt-requires-clause-candidate

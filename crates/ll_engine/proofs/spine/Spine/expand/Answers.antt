@@ -2,7 +2,7 @@ use Rattle.std.proofs.Common.{◌∙◌, ◌++◌, ◌∷◌, []}
 use Rattle.ll_freeze.specs.Parts.{parts_of}
 use Rattle.ll_engine.specs.Matches.{all_found}
 use Rattle.ll_engine.specs.Pointed.{spine_of, first_of, helds}
-use Rattle.ll_engine.proofs.Pointing.{are_tries, expands, expands_none, first_last}
+use Rattle.ll_engine.proofs.turns.Pointing.{are_tries, expands, expands_none, first_last}
 use Rattle.ll_engine.proofs.spine.Spine.expand.Goals as goal
 
 pub choose-requires-clause-tries : goal.choose-requires-clause-tries

@@ -4,8 +4,8 @@ use Rattle.ll_engine.specs.Pointed.{Held, held_of, helds, spine_at, spine_of, fi
 use Rattle.ll_laws.specs.declared.Candidate.{Candidate}
 use Rattle.ll_freeze.specs.Shown.{state_of}
 use Rattle.ll_engine.specs.Turned.{Chose}
-use Rattle.ll_engine.proofs.Basing.{based_undone}
-use Rattle.ll_engine.proofs.Pointing.{popped, popped_kept, popped_tries, popped_open, popped_some, none_left, helds_undone, marks_undone, retries_by}
+use Rattle.ll_engine.proofs.machine.Basing.{based_undone}
+use Rattle.ll_engine.proofs.turns.Pointing.{popped, popped_kept, popped_tries, popped_open, popped_some, none_left, helds_undone, marks_undone, retries_by}
 use Rattle.ll_engine.proofs.spine.Spine.retry.Goals as goal
 
 pub undo-requires : goal.undo-requires

@@ -3,8 +3,8 @@ use Rattle.ll_freeze.specs.Parts.{parts_of}
 use Rattle.ll_freeze.proofs.CallerLemmas.{keeps}
 use Rattle.ll_engine.specs.Turned.{Settles}
 use Rattle.ll_engine.specs.Pointed.{Held, IsSoundAt, spine_at, spine_of, first_of, helds}
-use Rattle.ll_engine.proofs.Basing.{based_kept}
-use Rattle.ll_engine.proofs.Pointing.{settles, settled_sound, helds_kept, marks_kept}
+use Rattle.ll_engine.proofs.machine.Basing.{based_kept}
+use Rattle.ll_engine.proofs.turns.Pointing.{settles, settled_sound, helds_kept, marks_kept}
 use Rattle.ll_engine.proofs.spine.Spine.settle.Goals as goal
 
 pub returns-clause-sound : goal.returns-clause-sound

@@ -6,8 +6,8 @@ use Rattle.ll_index.specs.declared.index.Index.{Index}
 use Rattle.ll_freeze.specs.Indexed.{IsIndexOf}
 use Rattle.ll_freeze.specs.Parts.{parts_of}
 use Rattle.ll_engine.specs.Pointed.{Held, held_of, helds, first_of, IsKept, AreKept}
-use Rattle.ll_engine.proofs.Basing.{based_first, based_rest}
-use Rattle.ll_engine.proofs.Splitting.{shifted, kept_own, takes_oldest}
+use Rattle.ll_engine.proofs.machine.Basing.{based_first, based_rest}
+use Rattle.ll_engine.proofs.turns.Splitting.{shifted, kept_own, takes_oldest}
 use Rattle.ll_engine.proofs.spine.Spine.split.Goals as goal
 
 pub frozen-requires-clause-kept : goal.frozen-requires-clause-kept

@@ -22,7 +22,7 @@ use Rattle.ll_freeze.specs.declared.machine.Item.{Item}
 use Rattle.ll_freeze.specs.declared.machine.Item.TheVariants.{Goal}
 use Rattle.ll_engine.specs.Opening.{IsClause, AreGoalsOf, Opens}
 use Rattle.ll_close.specs.Closing.{env_of}
-use Rattle.ll_engine.proofs.TakenLemmas.{vars_split}
+use Rattle.ll_engine.proofs.inferences.TakenLemmas.{vars_split}
 
 -- the values of the first variables from one on, as an environment: the last made stands in front
 abbrev pub env_vars : ℕ → ℕ → Env

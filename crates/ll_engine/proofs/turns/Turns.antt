@@ -18,8 +18,8 @@ use Rattle.ll_laws.specs.Tried.{events_from, number_from, tried_events, tried_co
 use Rattle.ll_engine.specs.Owed.{owed, cost_left, one_if_some, open_points, work_by, work, work_left, Thins, put_point, if_running}
 use Rattle.ll_engine.specs.Healthy.{Distinct, Path, next, IsPoint, ArePoints, IsNow, RunsFrom, HealthyFrom, Healthy}
 use Rattle.ll_engine.specs.Turned.{is_empty, answers, Settles, Gave, Chose, Expands, RetriesAt, Retries, ForksKept, Turned}
-use Rattle.ll_engine.proofs.Owing.{tried_events_flat, tried_cost_flat, tried_events_thins, tried_cost_thins, work_by_thins, gives_thins, owed_put, cost_put, work_put, open_put}
-use Rattle.ll_engine.proofs.Forks.{not_before, cut, forks_of, settle_steps}
+use Rattle.ll_engine.proofs.turns.Owing.{tried_events_flat, tried_cost_flat, tried_events_thins, tried_cost_thins, work_by_thins, gives_thins, owed_put, cost_put, work_put, open_put}
+use Rattle.ll_engine.proofs.turns.Forks.{not_before, cut, forks_of, settle_steps}
 
 -- what a state owes whose goal is taken apart
 

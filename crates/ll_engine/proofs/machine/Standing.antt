@@ -20,7 +20,7 @@ use Rattle.ll_freeze.specs.Reading.{reading}
 use Rattle.ll_freeze.specs.Shown.{shown_entry}
 use Rattle.ll_engine.specs.declared.heads.Predicate.{Predicate}
 use Rattle.ll_engine.specs.Leaves.{has_predicate, heads, head_tries, open_tries, standing_entry}
-use Rattle.ll_engine.proofs.LeafLemmas.{HasPredicate, head_free, tries_by_predicate}
+use Rattle.ll_engine.proofs.matching.LeafLemmas.{HasPredicate, head_free, tries_by_predicate}
 
 module _ (s : ℕ → Term) where
   pub spine-head : (t : Term) → is_spine t ≡ true → head_of (sub s t) ≡ head_of t
@@ -111,8 +111,8 @@ module _ (may : Allowed) (bank : Nodes) (bound : List (Option Rattle.ll_bank.spe
     where
       go : (o : Option Head) → head_of a ≡ o → flat_map (entry_tries (sub s a)) (map (shown_entry bank bound) es) ≡ flat_map (entry_tries a) (map (standing_entry bank) es)
       go None e =
-          Rattle.ll_engine.proofs.LeafLemmas.no_tries (sub s a) (spine-head s a sp ∙ e) (map (shown_entry bank bound) es)
-          ∙ sym (Rattle.ll_engine.proofs.LeafLemmas.no_tries a e (map (standing_entry bank) es))
+          Rattle.ll_engine.proofs.matching.LeafLemmas.no_tries (sub s a) (spine-head s a sp ∙ e) (map (shown_entry bank bound) es)
+          ∙ sym (Rattle.ll_engine.proofs.matching.LeafLemmas.no_tries a e (map (standing_entry bank) es))
       go (Some f) e =
           let p : Predicate = record { head = f; arity = arity a } in
           tries_by_predicate p (sub s a) (record { head = spine-head s a sp ∙ e; arity = spine-arity s a sp; free = head_free (sub s a) f read (spine-head s a sp ∙ e) }) (map (shown_entry bank bound) es)

@@ -34,12 +34,12 @@ use Rattle.ll_freeze.specs.Shown.{shown_item, shown_entry, items_of, state_of}
 use Rattle.ll_freeze.specs.Fits.{Fits, HasItem, IsGoalIn, allowed, setting}
 use Rattle.ll_engine.specs.Attempts.{Infers}
 use Rattle.ll_engine.specs.Rows.{GoesOn, PutsInFront, OpensForall, OpensExists}
-use Rattle.ll_engine.proofs.ReadLemmas.{reading_same, reading_past, values_extend, fits_table, ordered_extends}
+use Rattle.ll_engine.proofs.machine.ReadLemmas.{reading_same, reading_past, values_extend, fits_table, ordered_extends}
 use Rattle.ll_bindings.specs.Bindings.{IsTable, IsOrdered}
 use Rattle.ll_bindings.proofs.CallerLemmas.{table-extends, table-fresh, found-fresh}
 use Rattle.ll_engine.specs.Turned.{is_empty}
-use Rattle.ll_engine.proofs.MachineLemmas.{agenda_shown, tries_end}
-use Rattle.ll_engine.proofs.Rowing.{attempt_by, rest_items, rest_goals, goal_fits}
+use Rattle.ll_engine.proofs.machine.MachineLemmas.{agenda_shown, tries_end}
+use Rattle.ll_engine.proofs.inferences.Connecting.{attempt_by, rest_items, rest_goals, goal_fits}
 
 -- ---- nothing but a head has arguments in a formula that fits
 

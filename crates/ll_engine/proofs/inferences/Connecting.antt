@@ -28,7 +28,7 @@ use Rattle.ll_freeze.specs.Fits.{Fits, HasItem, IsGoalIn, allowed, setting}
 use Rattle.ll_engine.specs.Attempts.{Infers}
 use Rattle.ll_engine.specs.Rows.{GoesOn}
 use Rattle.ll_freeze.specs.Calls.{SameTerms}
-use Rattle.ll_engine.proofs.MachineLemmas.{goal_inside}
+use Rattle.ll_engine.proofs.machine.MachineLemmas.{goal_inside}
 
 -- a machine with this goal in front
 abbrev pub at_goal : Parts → FormAt → List Item → State

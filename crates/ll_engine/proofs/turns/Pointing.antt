@@ -23,8 +23,8 @@ use Rattle.ll_engine.specs.Owed.{Thins, one_if_some, open_points, put_point}
 use Rattle.ll_engine.specs.Matches.{matches}
 use Rattle.ll_engine.specs.Turned.{has_none, Settles, Gave, Chose, Expands, Retries, RetriesAt}
 use Rattle.ll_engine.specs.Pointed.{Held, held_of, helds, Rises, AreMarks, point_of, points_of, spine_at, AreTries, IsOpen, IsKept, AreKept, IsSoundAt, KeepsKept, Puts}
-use Rattle.ll_engine.proofs.Labels.{tries_distinct}
-use Rattle.ll_engine.proofs.MatchLemmas.{matches_thin, thins_contains}
+use Rattle.ll_engine.proofs.machine.Labels.{tries_distinct}
+use Rattle.ll_engine.proofs.matching.MatchLemmas.{matches_thin, thins_contains}
 
 twice : {A : Type 0} (xs : List A) → reverse (reverse xs) ≡ xs
 twice [] = refl

@@ -22,7 +22,7 @@ use Rattle.ll_freeze.specs.Parts.{Parts}
 use Rattle.ll_freeze.specs.Shown.{shown_entry}
 use Rattle.ll_freeze.proofs.CallerLemmas.{program-length}
 use Rattle.ll_engine.specs.Matches.{shown_context}
-use Rattle.ll_engine.proofs.MatchLemmas.{program_entry}
+use Rattle.ll_engine.proofs.matching.MatchLemmas.{program_entry}
 
 -- those that the index lists for an atom, less those of entries that can't be picked, are those that can match
 pub program_begins : (first : First) (a : Term) (cs : List ClauseTree) (es : List (Entry Form)) (found ls : List Candidate) → AreOfProgram 0 cs es → ls ≡ program_matches first a cs

@@ -16,7 +16,7 @@ use Rattle.ll_index.specs.First.{name_sign, sign_of, sign_if_some, first_argumen
 use Rattle.ll_index.proofs.CallerLemmas.{sign_of-read}
 use Rattle.ll_engine.specs.declared.heads.Predicate.{Predicate}
 use Rattle.ll_engine.specs.Leaves.{has_predicate}
-use Rattle.ll_engine.proofs.Standing.{spine-head, spine-arity}
+use Rattle.ll_engine.proofs.machine.Standing.{spine-head, spine-arity}
 
 -- ---- what is read
 

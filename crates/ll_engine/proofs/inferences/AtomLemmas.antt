@@ -34,11 +34,11 @@ use Rattle.ll_engine.specs.Front.{HasAtom}
 use Rattle.ll_engine.specs.declared.heads.Asked.{Asked}
 use Rattle.ll_engine.specs.Leaves.{heads, open_tries, standing_entry}
 use Rattle.ll_engine.specs.Matches.{goal_matches, agenda_matches, matches, shown_context, AsksFor, head_fits}
-use Rattle.ll_engine.proofs.MachineLemmas.{goal_in_front, goal_sorted}
-use Rattle.ll_engine.proofs.Standing.{heads-sub, spine-head, spine-arity}
-use Rattle.ll_engine.proofs.LeafLemmas.{HasPredicate, head_free}
-use Rattle.ll_engine.proofs.MatchLemmas.{no_program}
-use Rattle.ll_engine.proofs.Finding.{entries_walked}
+use Rattle.ll_engine.proofs.machine.MachineLemmas.{goal_in_front, goal_sorted}
+use Rattle.ll_engine.proofs.machine.Standing.{heads-sub, spine-head, spine-arity}
+use Rattle.ll_engine.proofs.matching.LeafLemmas.{HasPredicate, head_free}
+use Rattle.ll_engine.proofs.matching.MatchLemmas.{no_program}
+use Rattle.ll_engine.proofs.matching.Finding.{entries_walked}
 
 -- ---- the candidates of the goal in front
 

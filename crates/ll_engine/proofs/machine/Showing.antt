@@ -22,7 +22,7 @@ use Rattle.ll_laws.specs.Settle.{Entry, Saved, has_live}
 use Rattle.ll_agenda.specs.declared.agenda.Top.{Top}
 use Rattle.ll_freeze.specs.Parts.{Parts, table}
 use Rattle.ll_freeze.specs.Fits.{Fits}
-use Rattle.ll_engine.proofs.ReadLemmas.{fits_table}
+use Rattle.ll_engine.proofs.machine.ReadLemmas.{fits_table}
 use Rattle.ll_freeze.specs.declared.machine.Item.{Item}
 use Rattle.ll_freeze.specs.Reading.{read_term}
 use Rattle.ll_freeze.specs.Shown.{shown_item, shown_entry, items_of, state_of}

@@ -24,11 +24,11 @@ use Rattle.ll_freeze.specs.declared.machine.Item.TheVariants.{Goal}
 use Rattle.ll_freeze.specs.Reading.{reading, read_term, read_form, HasValue}
 use Rattle.ll_freeze.specs.Shown.{shown_item, shown_entry}
 use Rattle.ll_freeze.specs.Fits.{HasItem, IsGoalIn}
-use Rattle.ll_engine.proofs.ReadLemmas.{reading_same}
-use Rattle.ll_engine.proofs.ReadLemmas.{reading_past}
+use Rattle.ll_engine.proofs.machine.ReadLemmas.{reading_same}
+use Rattle.ll_engine.proofs.machine.ReadLemmas.{reading_past}
 use Rattle.ll_freeze.proofs.CallerLemmas.{form_same}
-use Rattle.ll_engine.proofs.LaterLemmas.{form_later, terms_later, entries_later}
-use Rattle.ll_engine.proofs.StepLemmas.{vars_fixed}
+use Rattle.ll_engine.proofs.machine.LaterLemmas.{form_later, terms_later, entries_later}
+use Rattle.ll_engine.proofs.inferences.StepLemmas.{vars_fixed}
 
 -- ---- variables
 

@@ -30,8 +30,8 @@ use Rattle.ll_freeze.specs.Shown.{shown_item, items_of}
 use Rattle.ll_freeze.specs.Fits.{Fits, allowed}
 use Rattle.ll_engine.specs.Attempts.{Infers}
 use Rattle.ll_engine.specs.Rows.{Loads}
-use Rattle.ll_engine.proofs.Rowing.{at_goal, attempt_by, goal_fits}
-use Rattle.ll_engine.proofs.Quantifying.{fits_apply, closing, still, still_state}
+use Rattle.ll_engine.proofs.inferences.Connecting.{at_goal, attempt_by, goal_fits}
+use Rattle.ll_engine.proofs.inferences.Quantifying.{fits_apply, closing, still, still_state}
 
 -- ---- modules by their places
 

@@ -46,14 +46,14 @@ use Rattle.ll_bindings.specs.Bindings.{Table, IsTable, IsOrdered, IsPlaceOf, Has
 use Rattle.ll_bindings.specs.Scanned.{is_bad}
 use Rattle.ll_bindings.specs.Fresh.{StandsNowhere}
 use Rattle.ll_bindings.proofs.CallerLemmas.{table-extends, cells-below, place-below, clear-of, clear-var}
-use Rattle.ll_engine.proofs.ReadLemmas.{reading_same, reading_past, read_same, length_variables, fits_table, with_cells, same_table, table_more, table_values, reads_more}
-use Rattle.ll_engine.proofs.CellLemmas.{all_drop}
-use Rattle.ll_engine.proofs.MachineLemmas.{agenda_shown, goal_in_front}
-use Rattle.ll_engine.proofs.LaterLemmas.{items_later}
-use Rattle.ll_engine.proofs.OwnTries.{all_own}
-use Rattle.ll_engine.proofs.TakeLemmas.{at_their_labels, entry_there}
-use Rattle.ll_engine.proofs.StepLemmas.{atom_step, leaf_read, way_read}
-use Rattle.ll_engine.proofs.TakenLemmas.{made_at, found_has, entry_read, picked_all, reads_first, goals_later, picked_later, terms_taken, goals_sorted, goals_inside}
+use Rattle.ll_engine.proofs.machine.ReadLemmas.{reading_same, reading_past, read_same, length_variables, fits_table, with_cells, same_table, table_more, table_values, reads_more}
+use Rattle.ll_engine.proofs.machine.CellLemmas.{all_drop}
+use Rattle.ll_engine.proofs.machine.MachineLemmas.{agenda_shown, goal_in_front}
+use Rattle.ll_engine.proofs.machine.LaterLemmas.{items_later}
+use Rattle.ll_engine.proofs.inferences.OwnTries.{all_own}
+use Rattle.ll_engine.proofs.inferences.TakeLemmas.{at_their_labels, entry_there}
+use Rattle.ll_engine.proofs.inferences.StepLemmas.{atom_step, leaf_read, way_read}
+use Rattle.ll_engine.proofs.inferences.TakenLemmas.{made_at, found_has, entry_read, picked_all, reads_first, goals_later, picked_later, terms_taken, goals_sorted, goals_inside}
 
 -- ---- what the state of a machine says
 

@@ -22,8 +22,8 @@ use Rattle.ll_freeze.specs.Shown.{shown_entry}
 use Rattle.ll_engine.specs.declared.heads.Asked.{Asked}
 use Rattle.ll_engine.specs.Leaves.{has_predicate, heads, head_tries, open_tries, standing_entry}
 use Rattle.ll_engine.specs.Matches.{read_by, head_fits}
-use Rattle.ll_engine.proofs.LeafLemmas.{HasPredicate, entry_tries_by}
-use Rattle.ll_engine.proofs.Standing.{heads-sub, entry_stands}
+use Rattle.ll_engine.proofs.matching.LeafLemmas.{HasPredicate, entry_tries_by}
+use Rattle.ll_engine.proofs.machine.Standing.{heads-sub, entry_stands}
 
 -- ---- the signs of heads
 

@@ -42,12 +42,12 @@ use Rattle.ll_engine.specs.Front.{IsFront}
 use Rattle.ll_engine.specs.Rows.{GoesOn}
 use Rattle.ll_bindings.specs.Bindings.{Table, IsTable, IsOrdered, IsPlaceOf}
 use Rattle.ll_bindings.proofs.CallerLemmas.{table-extends, place-extends, place-below}
-use Rattle.ll_engine.proofs.ReadLemmas.{reading_same, read_same, length_variables, values_extend, table_values, fits_table, ordered_extends}
-use Rattle.ll_engine.proofs.LaterLemmas.{items_later, entries_later, terms_later}
-use Rattle.ll_engine.proofs.MachineLemmas.{goal_in_front}
-use Rattle.ll_engine.proofs.Rowing.{at_goal, attempt_by, rest_items, rest_goals}
-use Rattle.ll_engine.proofs.Quantifying.{items_stay, entries_stay, terms_stay, clauses_stay, goals_stay, item_has}
-use Rattle.ll_engine.proofs.TakingLemmas.{allowed_shown, term_count}
+use Rattle.ll_engine.proofs.machine.ReadLemmas.{reading_same, read_same, length_variables, values_extend, table_values, fits_table, ordered_extends}
+use Rattle.ll_engine.proofs.machine.LaterLemmas.{items_later, entries_later, terms_later}
+use Rattle.ll_engine.proofs.machine.MachineLemmas.{goal_in_front}
+use Rattle.ll_engine.proofs.inferences.Connecting.{at_goal, attempt_by, rest_items, rest_goals}
+use Rattle.ll_engine.proofs.inferences.Quantifying.{items_stay, entries_stay, terms_stay, clauses_stay, goals_stay, item_has}
+use Rattle.ll_engine.proofs.inferences.TakingLemmas.{allowed_shown, term_count}
 
 -- a goal went: the later machine has the rest of the agenda, after one step more, and may have other bindings
 pub record Went (old : Parts) (rest : List Item) (new : Parts) : Type 0 where

@@ -96,6 +96,8 @@ pub use Rattle.ll_bank.proofs.OpenLemmas.{same_node}
 pub use Rattle.ll_bank.proofs.OpenLemmas.{same_form_of}
 -- views of terms that compare as equal are of the same node
 pub use Rattle.ll_bank.proofs.OpenLemmas.{same_view}
+-- heads that compare as equal are one
+pub use Rattle.ll_bank.proofs.OpenLemmas.{same_heads}
 -- a view of an application shows its head at the terms of its arguments
 pub use Rattle.ll_bank.proofs.OpenLemmas.{same_term_of}
 -- a term has at least one node

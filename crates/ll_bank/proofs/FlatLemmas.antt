@@ -150,22 +150,22 @@ within_more cs more span h = (h.0, simp length-append (omega (arith, h.1)))
 term_same : (cs more : List At) (t : StoredTerm) → IsTermStored cs t → term_node (cs ++ more) t ≡ term_node cs t
 term_same cs more (StoredVar n) h = refl
 term_same cs more (StoredInt z) h = refl
-term_same cs more (StoredApp k span d) h = ap (λ xs. AppNode k (places xs)) (children_more cs more span h)
+term_same cs more (StoredApp d k span) h = ap (λ xs. AppNode k (places xs)) (children_more cs more span h)
 
 term_more : (cs more : List At) (t : StoredTerm) → IsTermStored cs t → IsTermStored (cs ++ more) t
 term_more cs more (StoredVar n) h = tt
 term_more cs more (StoredInt z) h = h
-term_more cs more (StoredApp k span d) h = within_more cs more span h
+term_more cs more (StoredApp d k span) h = within_more cs more span h
 
 term_less : (cs more : List At) (t : StoredTerm) → IsTermStored (cs ++ more) t → EndsBy (length cs) (term_span t) → IsTermStored cs t
 term_less cs more (StoredVar n) h e = tt
 term_less cs more (StoredInt z) h e = h
-term_less cs more (StoredApp k span d) h e = e
+term_less cs more (StoredApp d k span) h e = e
 
 term_counts : (cs : List At) (t : StoredTerm) → IsTermStored cs t → argument_count (term_node cs t) ≡ span_size (term_span t)
 term_counts cs (StoredVar n) h = refl
 term_counts cs (StoredInt z) h = refl
-term_counts cs (StoredApp k span d) h = length-children cs span h
+term_counts cs (StoredApp d k span) h = length-children cs span h
 
 -- ---- formulas
 
@@ -293,8 +293,8 @@ module _ (cs ls : List At) (ts : List StoredTerm) (fs : List StoredForm) (stored
   })
 
   -- a head with arguments was pushed
-  module _ (h : Head) (args : List At) (depth : ℕ) (ds : List At) (us : List StoredTerm) (pushed : us ≡ ts ++ StoredApp h (span_from (length cs) (length args)) depth ∷ []) (behind : ds ≡ cs ++ args) where
-    app_ok : IsTermStored (cs ++ args) (StoredApp h (span_from (length cs) (length args)) depth)
+  module _ (h : Head) (args : List At) (depth : ℕ) (ds : List At) (us : List StoredTerm) (pushed : us ≡ ts ++ StoredApp depth h (span_from (length cs) (length args)) ∷ []) (behind : ds ≡ cs ++ args) where
+    app_ok : IsTermStored (cs ++ args) (StoredApp depth h (span_from (length cs) (length args)))
     app_ok = (omega arith, simp length-append (omega arith))
 
     app_turn : AreInTurn (length cs) (Some (span_from (length cs) (length args)) ∷ []) (length (cs ++ args))
@@ -302,20 +302,20 @@ module _ (cs ls : List At) (ts : List StoredTerm) (fs : List StoredForm) (stored
 
     pub stored_app : IsStored ds ls us fs
     stored_app = rw (pushed, behind) (record {
-      each_term = push_ok term_span term_node argument_count IsTermStored term_same term_more term_less term_counts cs ts stored.each_term stored.term_spans args (StoredApp h (span_from (length cs) (length args)) depth) app_ok app_turn;
+      each_term = push_ok term_span term_node argument_count IsTermStored term_same term_more term_less term_counts cs ts stored.each_term stored.term_spans args (StoredApp depth h (span_from (length cs) (length args))) app_ok app_turn;
       each_form = stored.each_form;
-      term_spans = push_turn term_span term_node argument_count IsTermStored term_same term_more term_less term_counts cs ts stored.each_term stored.term_spans args (StoredApp h (span_from (length cs) (length args)) depth) app_ok app_turn;
+      term_spans = push_turn term_span term_node argument_count IsTermStored term_same term_more term_less term_counts cs ts stored.each_term stored.term_spans args (StoredApp depth h (span_from (length cs) (length args))) app_ok app_turn;
       form_spans = stored.form_spans;
     })
 
     pub app_view : (old : DeepNodes) → deep_of cs ls ts fs ≡ old → deep_of ds ls us fs ≡ deep_term old (AppNode h (places args)) depth
     app_view old view = subst (λ n. deep_of ds ls us fs ≡ deep_term n (AppNode h (places args)) depth) view (rw (pushed, behind) (λ i. record {
       nodes = record {
-        terms = (push_view term_span term_node argument_count IsTermStored term_same term_more term_less term_counts cs ts stored.each_term stored.term_spans args (StoredApp h (span_from (length cs) (length args)) depth) app_ok app_turn
+        terms = (push_view term_span term_node argument_count IsTermStored term_same term_more term_less term_counts cs ts stored.each_term stored.term_spans args (StoredApp depth h (span_from (length cs) (length args))) app_ok app_turn
             ∙ ap (λ xs. map (term_node cs) ts ++ AppNode h (places xs) ∷ []) (children_behind cs args)) i;
         forms = map (form_node ls) fs;
       };
-      depths = map-append stored_term_depth ts (StoredApp h (span_from (length cs) (length args)) depth ∷ []) i;
+      depths = map-append stored_term_depth ts (StoredApp depth h (span_from (length cs) (length args)) ∷ []) i;
     }))
 
   -- a formula was pushed

@@ -58,9 +58,9 @@ same_size x y e =
 pub same_stored_term : (x y : StoredTerm) → (term_eq_value).it x y ≡ true → x ≡ y
 same_stored_term (StoredVar m) (StoredVar n) e = ap StoredVar (eqb-true m n e)
 same_stored_term (StoredInt m) (StoredInt n) e = ap StoredInt ((Decides-int_eq m n).0 e)
-same_stored_term (StoredApp h s d) (StoredApp k t b) e =
-    let p = and_parts ((head_eq_value).it h k) ((span_eq_value).it s t && eqb d b) e in let q = and_parts ((span_eq_value).it s t) (eqb d b) p.1 in
-    λ i. StoredApp (same_heads h k p.0 i) (same_span s t q.0 i) (eqb-true d b q.1 i)
+same_stored_term (StoredApp d h s) (StoredApp b k t) e =
+    let p = and_parts (eqb d b) ((head_eq_value).it h k && (span_eq_value).it s t) e in let q = and_parts ((head_eq_value).it h k) ((span_eq_value).it s t) p.1 in
+    λ i. StoredApp (eqb-true d b p.0 i) (same_heads h k q.0 i) (same_span s t q.1 i)
 same_stored_term x y e = absurd (true≢false (sym e))
 
 pub same_stored_form : (x y : StoredForm) → (form_eq_value).it x y ≡ true → x ≡ y

@@ -21,7 +21,7 @@ children_of children span = slice_range children span.from span.to
 abbrev pub term_node : List At → StoredTerm → TermNode
 term_node children (StoredVar n) = VarNode n
 term_node children (StoredInt z) = IntNode z
-term_node children (StoredApp h args d) = AppNode h (places (children_of children args))
+term_node children (StoredApp d h args) = AppNode h (places (children_of children args))
 
 -- the node of a stored formula
 abbrev pub form_node : List At → StoredForm → FormulaNode
@@ -47,7 +47,7 @@ nodes_of arguments load_arguments terms forms = record { terms = map (term_node 
 
 -- the depth of a stored term
 abbrev pub stored_term_depth : StoredTerm → ℕ
-stored_term_depth (StoredApp h args d) = d
+stored_term_depth (StoredApp d h args) = d
 stored_term_depth _ = 0
 
 -- and with the depth of each term
@@ -89,7 +89,7 @@ IsWithin children span = (span.from ≤ span.to) × (span.to ≤ length children
 abbrev pub IsTermStored : List At → StoredTerm → Type 0
 IsTermStored children (StoredVar n) = Unit {0}
 IsTermStored children (StoredInt z) = FitsSigned w64 z
-IsTermStored children (StoredApp h args d) = IsWithin children args
+IsTermStored children (StoredApp d h args) = IsWithin children args
 
 -- the arguments of a stored load lie within the children
 abbrev pub IsFormStored : List At → StoredForm → Type 0
@@ -98,7 +98,7 @@ IsFormStored children _ = Unit {0}
 
 -- where a stored term has its arguments
 abbrev pub term_span : StoredTerm → Option Span
-term_span (StoredApp h args d) = Some args
+term_span (StoredApp d h args) = Some args
 term_span _ = None
 
 -- where a stored load has its arguments

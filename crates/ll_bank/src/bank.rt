@@ -92,6 +92,7 @@ impl Bank {
     }
 
     /// What stands at the place of a term.
+    #[inline]
     pub fn term_at(&self, at: At) -> TermView<'_>
         requires { HasTerm self.now at.0 }
         ensures shown { IsTermView self.now at.0 result }
@@ -101,6 +102,7 @@ impl Bank {
     }
 
     /// What stands at the place of a formula.
+    #[inline]
     pub fn form_at(&self, at: FormAt) -> FormNode<'_>
         requires { HasForm self.now at.0 }
         ensures shown { IsFormView self.now at.0 result }

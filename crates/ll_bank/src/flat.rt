@@ -21,7 +21,7 @@ struct Span {
 enum StoredTerm {
     Var(u64),
     Int(i64),
-    App(Head, Span, u32),
+    App(u32, Head, Span),
 }
 
 /// A formula's node.
@@ -139,19 +139,21 @@ impl Flat {
     }
 
     /// The node at the place of a term.
+    #[inline]
     pub(crate) fn term(&self, at: usize) -> TermView<'_>
         requires { at < length self.now.nodes.terms }
         ensures { slice_get self.now.nodes.terms at ≡ Some (node_of_term result) }
     {
-        shown_term(&self.arguments, self.terms[at])
+        shown_term(&self.arguments, &self.terms[at])
     }
 
     /// The node at the place of a formula.
+    #[inline]
     pub(crate) fn form(&self, at: usize) -> FormNode<'_>
         requires { at < length self.now.nodes.forms }
         ensures { slice_get self.now.nodes.forms at ≡ Some (node_of result) }
     {
-        shown_form(&self.load_arguments, self.forms[at])
+        shown_form(&self.load_arguments, &self.forms[at])
     }
 
     /// The depth of the term at a place.
@@ -273,7 +275,7 @@ fn store_app(
     args: &[At],
     depth: u32,
 ) -> Result<(), OutOfMemory>
-    ensures stored { OnOk result (terms.new.items ≡ terms.old.items ++ StoredApp head (span_from (length arguments.old.items) (length args.now)) depth ∷ []) }
+    ensures stored { OnOk result (terms.new.items ≡ terms.old.items ++ StoredApp depth head (span_from (length arguments.old.items) (length args.now)) ∷ []) }
     ensures behind { OnOk result (arguments.new.items ≡ arguments.old.items ++ args.now) }
     ensures refused_terms { OnErr result (terms.new.items ≡ terms.old.items) }
     ensures refused_arguments { OnErr result (arguments.new.items ≡ arguments.old.items) }
@@ -281,7 +283,7 @@ fn store_app(
     let from = arguments.len();
     let span = span_behind(from, args.len())?;
     arguments.extend_from_slice(args)?;
-    if let Err(refused) = terms.push(StoredTerm::App(head, span, depth)) {
+    if let Err(refused) = terms.push(StoredTerm::App(depth, head, span)) {
         arguments.truncate(from);
         return Err(OutOfMemory::from(refused));
     }
@@ -338,14 +340,15 @@ fn stored_form(arguments: &mut Vec<At>, node: FormNode<'_>) -> Result<StoredForm
 }
 
 /// A stored term as callers see it.
-fn shown_term(children: &[At], term: StoredTerm) -> TermView<'_>
-    requires { IsTermStored children.now term }
-    ensures { node_of_term result ≡ term_node children.now term }
+#[inline]
+fn shown_term<'a>(children: &'a [At], term: &StoredTerm) -> TermView<'a>
+    requires { IsTermStored children.now term.now }
+    ensures { node_of_term result ≡ term_node children.now term.now }
 {
-    match term {
+    match *term {
         StoredTerm::Var(number) => TermView::Var(number),
         StoredTerm::Int(value) => TermView::Int(value),
-        StoredTerm::App(head, args, _) => {
+        StoredTerm::App(_, head, args) => {
             TermView::App(head, &children[args.from as usize..args.to as usize])
         }
     }
@@ -356,17 +359,18 @@ fn stored_depth(term: StoredTerm) -> u32
     ensures { result ≡ stored_term_depth term }
 {
     match term {
-        StoredTerm::App(_, _, depth) => depth,
+        StoredTerm::App(depth, _, _) => depth,
         StoredTerm::Var(_) | StoredTerm::Int(_) => 0,
     }
 }
 
 /// A stored formula as callers see it.
-fn shown_form(children: &[At], form: StoredForm) -> FormNode<'_>
-    requires { IsFormStored children.now form }
-    ensures { node_of result ≡ form_node children.now form }
+#[inline]
+fn shown_form<'a>(children: &'a [At], form: &StoredForm) -> FormNode<'a>
+    requires { IsFormStored children.now form.now }
+    ensures { node_of result ≡ form_node children.now form.now }
 {
-    match form {
+    match *form {
         StoredForm::Top => FormNode::Top,
         StoredForm::One => FormNode::One,
         StoredForm::Atom(atom) => FormNode::Atom(atom),

@@ -48,6 +48,7 @@ pub trait Bindings {
 }
 
 // What the variable at a place is bound to.
+#[inline]
 fn value<T: Bindings>(bank: &Bank, table: &T, at: At) -> Option<At>
     requires table { IsTable bank.now (T.table table.now) }
     requires place { IsPlaceOf bank.now (T.table table.now) at.0 }
@@ -61,6 +62,7 @@ fn value<T: Bindings>(bank: &Bank, table: &T, at: At) -> Option<At>
 }
 
 /// The place that is reached from a place through bound variables.
+#[inline]
 pub fn walk<T: Bindings>(bank: &Bank, table: &T, at: At) -> At
     requires table { IsTable bank.now (T.table table.now) }
     requires place { IsPlaceOf bank.now (T.table table.now) at.0 }
@@ -85,6 +87,7 @@ pub fn is_older<T: Bindings>(table: &T, x: usize, y: usize) -> bool
 }
 
 /// An argument of the term at a place.
+#[inline]
 pub fn argument(bank: &Bank, at: At, number: usize) -> Option<At>
     requires { HasTerm bank.now at.0 }
     ensures argument { IsArgument bank.now at.0 number result }

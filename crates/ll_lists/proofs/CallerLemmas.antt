@@ -37,11 +37,6 @@ and_true_both true true h = (refl, refl)
 and_true_both true false h = absurd cc
 and_true_both false b h = absurd cc
 
--- nothing holds together with what is false
-pub and_false : (c : Bool) → (c && false) ≡ false
-and_false true = refl
-and_false false = refl
-
 -- where neither holds, the first does not
 pub or_false_left : (a b : Bool) → (a || b) ≡ false → a ≡ false
 or_false_left false b h = refl

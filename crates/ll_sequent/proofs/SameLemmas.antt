@@ -18,13 +18,6 @@ use Rattle.ll_bank.proofs.CallerLemmas.{same_view, same_term_of}
 use Rattle.ll_sequent.specs.declared.same.Pair.{Pair}
 use Rattle.ll_sequent.specs.Copied.{ArePairs, AreSame}
 
--- heads that compare as equal are one
-pub same_heads : (x y : Head) → (head_eq_value).it x y ≡ true → x ≡ y
-same_heads (Name m) (Name n) e = ap Name (eqb-true m n e)
-same_heads (Eigen m) (Eigen n) e = ap Eigen (eqb-true m n e)
-same_heads (Bound m) (Bound n) e = ap Bound (eqb-true m n e)
-same_heads x y e = absurd (true≢false (sym e))
-
 -- places whose views compare as equal show one term
 pub same_seen : (bank : Nodes) (a b : ℕ) (x y : TermView) → IsTermView bank a x → IsTermView bank b y → (view_eq_value).it x y ≡ true → term_tree bank a ≡ term_tree bank b
 same_seen bank a b x (AppView h args) v w e = same_term_of bank a x h args.now v (same_view x (AppView h args) e) ∙ sym w.0

@@ -1,5 +1,5 @@
 use Rattle.std.proofs.Common.{sym, ◌∙◌}
-use Rattle.ll_sequent.proofs.SameLemmas.{same_heads}
+use Rattle.ll_bank.proofs.CallerLemmas.{same_heads}
 use Rattle.ll_sequent.proofs.same.is_one_head.Goals as goal
 
 pub returns : goal.returns

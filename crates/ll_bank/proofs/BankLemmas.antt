@@ -1,5 +1,6 @@
 -- A bank's nodes and the trees that they show: what each call reads and leaves.
-use Rattle.std.proofs.Common.{◌≡◌, ℕ, zero, suc, ◌+◌, ◌<◌, ◌≤◌, List, [], ◌∷◌, ◌++◌, length, map, All, get_or, take, drop, refl, ap, sym, subst, ◌∙◌, inl, inr, arith, length-append, max, Some, true, true≢false, eqb}
+use Rattle.std.proofs.Common.{◌≡◌, ℕ, zero, suc, ◌+◌, ◌<◌, ◌≤◌, List, [], ◌∷◌, ◌++◌, length, map, All, get_or, take, drop, refl, ap, sym, subst, ◌∙◌, inl, inr}
+use Rattle.std.proofs.Common.{arith, length-append, max, Some, true, true≢false, eqb}
 use Rattle.std.specs.Prelude.{ℤ, FitsSigned, slice_get, slice_index, fold}
 use Rattle.std.specs.Int.{w64}
 use Rattle.std.proofs.Common.{to_z, of_z}
@@ -8,7 +9,8 @@ use Rattle.std.proofs.Math.ListN.{get_or-append, get_or-map}
 use Rattle.std.proofs.Math.Seq.{get_or-append_seam}
 use Rattle.std.specs.List.{list_any}
 use Rattle.std.proofs.lemmas.Bool.{cases_lt, or_cases, eqb-true}
-use Rattle.std.proofs.lemmas.List.{append-nil, length-map, map-append, take-append-le, take-append-drop, length-take, length-take-le, take-map, take-take, take_at, get_or_default}
+use Rattle.std.proofs.lemmas.List.{append-nil, length-map, map-append, take-append-le, take-append-drop, length-take, length-take-le, take-map, take-take}
+use Rattle.std.proofs.lemmas.List.{take_at, get_or_default}
 use Rattle.std.proofs.lemmas.List.Elements.{All-head, All-tail, All-cons}
 use Rattle.std.proofs.lemmas.Option.{get_or_from_slice_get}
 use Rattle.ll_lists.proofs.CallerLemmas.{each-push as push_all, map_map, same_front}
@@ -18,10 +20,15 @@ use Rattle.ll_bank.specs.declared.BankSize.{BankSize}
 use Rattle.ll_bank.specs.declared.TermView.{TermView}
 use Rattle.ll_bank.specs.declared.TermView.TheVariants.{Var as VarView, Int as IntView, App as AppView}
 use Rattle.ll_bank.specs.declared.FormNode.{FormNode}
-use Rattle.ll_bank.specs.declared.FormNode.TheVariants.{Top as TopView, One as OneView, Atom as AtomView, With as WithView, Tensor as TensorView, Plus as PlusView, Bang as BangView, Lolli as LolliView, Imp as ImpView, Forall as ForallView, Exists as ExistsView, Use as UseView, Is as IsView, Less as LessView, Most as MostView}
+use Rattle.ll_bank.specs.declared.FormNode.TheVariants.{Top as TopView, One as OneView, Atom as AtomView, With as WithView, Tensor as TensorView}
+use Rattle.ll_bank.specs.declared.FormNode.TheVariants.{Plus as PlusView, Bang as BangView, Lolli as LolliView, Imp as ImpView, Forall as ForallView}
+use Rattle.ll_bank.specs.declared.FormNode.TheVariants.{Exists as ExistsView, Use as UseView, Is as IsView, Less as LessView, Most as MostView}
 use Rattle.ll_bank.specs.Term.{Term, Var, Con, Ap, app, apply, sub, term_depth}
 use Rattle.ll_bank.specs.Form.{Form, Top, Atom, With, Tensor, Plus, Bang, Lolli, Imp, Forall, Exists, Use, Num}
-use Rattle.ll_bank.specs.Nodes.{Nodes, TermNode, VarNode, IntNode, AppNode, FormulaNode, TopNode, OneNode, AtomNode, WithNode, TensorNode, PlusNode, BangNode, LolliNode, ImpNode, ForallNode, ExistsNode, UseNode, NumNode, grow, term_in, build_term, form_in, build_form, term_tree, form_tree, term_trees, HasTerm, HasForm, ShowsTerm, ShowsForm, Extends, form_of, HasPartsBelow, IsTermView, IsFormView, IsTermBelow, IsFormBelow, IsWellFounded, places, node_of_term, node_of, with_term, with_form, size_of, front, HasSize, IsCutTo}
+use Rattle.ll_bank.specs.Nodes.{Nodes, TermNode, VarNode, IntNode, AppNode, FormulaNode, TopNode, OneNode, AtomNode, WithNode, TensorNode, PlusNode, BangNode}
+use Rattle.ll_bank.specs.Nodes.{LolliNode, ImpNode, ForallNode, ExistsNode, UseNode, NumNode, grow, term_in, build_term, form_in, build_form, term_tree}
+use Rattle.ll_bank.specs.Nodes.{form_tree, term_trees, HasTerm, HasForm, ShowsTerm, ShowsForm, Extends, form_of, HasPartsBelow, IsTermView, IsFormView}
+use Rattle.ll_bank.specs.Nodes.{IsTermBelow, IsFormBelow, IsWellFounded, places, node_of_term, node_of, with_term, with_form, size_of, front, HasSize, IsCutTo}
 use Rattle.ll_bank.specs.Kept.{all_terms, IsKept, depth_over}
 use Rattle.ll_bank.proofs.Growing.{grow-append, grow_kept, grow_last, get_or-grow_at, length-grow, grow-take}
 
@@ -105,7 +112,8 @@ same_build_term trees trees' at h (AppNode k args) w = ap (app k) (same_map (ter
 
 module _ (term term' : ℕ → Term) (terms : ℕ) (same : (a : ℕ) → a < terms → term a ≡ term' a) where
   -- and a formula's node one formula
-  pub same_build_form : (trees trees' : List Form) (at : ℕ) → ((f : ℕ) → f < at → form_in trees f ≡ form_in trees' f) → (n : FormulaNode) → IsFormBelow terms at n
+  pub same_build_form : (trees trees' : List Form) (at : ℕ) → ((f : ℕ) → f < at → form_in trees f ≡ form_in trees' f) → (n : FormulaNode)
+      → IsFormBelow terms at n
       → build_form term trees n ≡ build_form term' trees' n
   same_build_form trees trees' at h TopNode w = refl
   same_build_form trees trees' at h OneNode w = refl
@@ -122,7 +130,8 @@ module _ (term term' : ℕ → Term) (terms : ℕ) (same : (a : ℕ) → a < ter
   same_build_form trees trees' at h (NumNode r t u) w = λ i. Num r (same t w.0 i) (same u w.1 i)
 
   -- formulas grow alike over terms that are alike
-  same_grow : (trees : List Form) (ns : List FormulaNode) → All (λ n. (at : ℕ) × IsFormBelow terms at n) ns → grow (build_form term) trees ns ≡ grow (build_form term') trees ns
+  same_grow : (trees : List Form) (ns : List FormulaNode) → All (λ n. (at : ℕ) × IsFormBelow terms at n) ns
+      → grow (build_form term) trees ns ≡ grow (build_form term') trees ns
   same_grow trees [] h = refl
   same_grow trees (n ∷ ns) h =
       let w = All-head (λ n. (at : ℕ) × IsFormBelow terms at n) n ns h in
@@ -155,10 +164,12 @@ module _ (old : Nodes) (low : IsWellFounded old) where
       ∙ same_build_form (term_tree old) (term_tree old) (length old.terms) (λ a l. refl) (grow (build_form (term_tree old)) [] (take at old.forms))
       (grow (build_form (term_tree old)) [] old.forms) at earlier (get_or old.forms at d) (low.forms at d h)
     where
-      earlier : (a : ℕ) → a < at → form_in (grow (build_form (term_tree old)) [] (take at old.forms)) a ≡ form_in (grow (build_form (term_tree old)) [] old.forms) a
+      earlier : (a : ℕ) → a < at → form_in (grow (build_form (term_tree old)) [] (take at old.forms)) a
+          ≡ form_in (grow (build_form (term_tree old)) [] old.forms) a
       earlier a l =
           let s : length (take at old.forms) ≡ at = length-take-le at old.forms (omega arith) in
-          sym (subst (λ ns. form_in (grow (build_form (term_tree old)) [] ns) a ≡ form_in (grow (build_form (term_tree old)) [] (take at old.forms)) a) (take-append-drop at old.forms)
+          sym (subst (λ ns. form_in (grow (build_form (term_tree old)) [] ns) a ≡ form_in (grow (build_form (term_tree old)) [] (take at old.forms)) a)
+          (take-append-drop at old.forms)
           (grow_kept (build_form (term_tree old)) (take at old.forms) (drop at old.forms) a Top (omega arith)))
 
   -- more nodes leave the trees
@@ -187,14 +198,16 @@ keeps_form old low n =
     subst (λ same. Extends old (record { terms = same; forms = old.forms ++ n ∷ [] })) (append-nil old.terms) (extends old low [] (n ∷ []))
 
 -- and shows the tree that it builds
-pub shows_term : (old : Nodes) (n : TermNode) (at : ℕ) (tree : Term) → at ≡ length old.terms → build_term (all_terms old) n ≡ tree → ShowsTerm (with_term old n) at tree
+pub shows_term : (old : Nodes) (n : TermNode) (at : ℕ) (tree : Term) → at ≡ length old.terms → build_term (all_terms old) n ≡ tree
+    → ShowsTerm (with_term old n) at tree
 unfolding term_tree
 shows_term old n at tree last e = subst (λ k. ShowsTerm (with_term old n) k tree) (sym last) (record {
   inside = simp length-append (omega arith);
   tree = grow_last build_term old.terms n (Var 0) ∙ e;
 })
 
-pub shows_form : (old : Nodes) (n : FormulaNode) (at : ℕ) (tree : Form) → at ≡ length old.forms → build_form (term_tree old) (grow (build_form (term_tree old)) [] old.forms) n ≡ tree
+pub shows_form : (old : Nodes) (n : FormulaNode) (at : ℕ) (tree : Form) → at ≡ length old.forms
+    → build_form (term_tree old) (grow (build_form (term_tree old)) [] old.forms) n ≡ tree
     → ShowsForm (with_form old n) at tree
 unfolding form_tree term_tree
 shows_form old n at tree last e = subst (λ k. ShowsForm (with_form old n) k tree) (sym last) (record {
@@ -226,7 +239,8 @@ module _ (old : Nodes) (low : IsWellFounded old) where
   low_term n below = record {
     terms = push_all IsTermBelow old.terms n low.terms below;
     forms = λ at d h.
-        more_terms (length old.terms) (length (old.terms ++ n ∷ [])) at (let e = length-append old.terms (n ∷ []) in omega arith) (get_or old.forms at d) (low.forms at d h);
+        more_terms (length old.terms) (length (old.terms ++ n ∷ [])) at (let e = length-append old.terms (n ∷ []) in
+        omega arith) (get_or old.forms at d) (low.forms at d h);
   }
 
   -- and so does a formula on lower ones
@@ -290,7 +304,8 @@ unfolding term_tree
 build_app old h args = ap (app h) (map_map (term_in (all_terms old)) (λ a. a.0) args)
 
 -- a sign with the places of its parts builds its formula
-pub build_parts : (old : Nodes) (view : FormNode) → build_form (term_tree old) (grow (build_form (term_tree old)) [] old.forms) (node_of view) ≡ form_of old view
+pub build_parts : (old : Nodes) (view : FormNode) → build_form (term_tree old) (grow (build_form (term_tree old)) [] old.forms) (node_of view)
+    ≡ form_of old view
 unfolding form_tree
 build_parts old TopView = refl
 build_parts old OneView = refl
@@ -322,17 +337,20 @@ depth-apply depths trees e f d h (a ∷ args) =
 
 module _ (old : Nodes) (depths : List ℕ) (kept : IsKept old depths) where
   pub depths_count : length depths ≡ length old.terms
-  depths_count = ap length kept.beside ∙ (length-map (all_terms old) term_depth ∙ length-grow build_term [] old.terms ∙ (let e : zero + length old.terms ≡ length old.terms = omega arith in e))
+  depths_count = ap length kept.beside ∙ (length-map (all_terms old) term_depth ∙ length-grow build_term [] old.terms
+      ∙ (let e : zero + length old.terms ≡ length old.terms = omega arith in e))
 
   -- the depth of each place
   pub depth_at : (at d : ℕ) → at < length depths → get_or depths at d ≡ term_depth (term_tree old at)
   unfolding term_tree
   depth_at at d l =
       ap (λ ds. get_or ds at d) kept.beside
-      ∙ (get_or_default (map term_depth (all_terms old)) at d 0 (let e = ap length kept.beside in omega arith) ∙ get_or-map term_depth (all_terms old) at (Var 0))
+      ∙ (get_or_default (map term_depth (all_terms old)) at d 0 (let e = ap length kept.beside in omega arith)
+      ∙ get_or-map term_depth (all_terms old) at (Var 0))
 
   -- a term was put behind the others
-  pub kept_term : (n : TermNode) (d : ℕ) → IsTermBelow (length old.terms) n → d ≡ term_depth (build_term (all_terms old) n) → IsKept (with_term old n) (depths ++ d ∷ [])
+  pub kept_term : (n : TermNode) (d : ℕ) → IsTermBelow (length old.terms) n → d ≡ term_depth (build_term (all_terms old) n)
+      → IsKept (with_term old n) (depths ++ d ∷ [])
   kept_term n d below e = record {
     lower = low_term old kept.lower n below;
     beside = rw (grow-append build_term [] old.terms (n ∷ []), map-append term_depth (all_terms old) (build_term (all_terms old) n ∷ []))
@@ -347,7 +365,8 @@ module _ (old : Nodes) (depths : List ℕ) (kept : IsKept old depths) where
   pub kept_front : (size : BankSize) → HasSize old size → IsKept (front old size) (take size.terms depths)
   kept_front size h = record {
     lower = h.whole;
-    beside = ap (take size.terms) kept.beside ∙ (take-map term_depth size.terms (all_terms old) ∙ ap (map term_depth) (grow-take build_term size.terms old.terms (HasSize-terms old size h)));
+    beside = ap (take size.terms) kept.beside ∙ (take-map term_depth size.terms (all_terms old)
+        ∙ ap (map term_depth) (grow-take build_term size.terms old.terms (HasSize-terms old size h)));
   }
 
 -- the first nodes are what a cut leaves
@@ -357,7 +376,11 @@ front_is_cut old size h = record {
   trees = subst (Extends (front old size)) (λ i. record { terms = take-append-drop size.terms old.terms i; forms = take-append-drop size.forms old.forms i })
       (extends (front old size) h.whole (drop size.terms old.terms) (drop size.forms old.forms));
   sizes = λ other had past. HasSize-front old (front old size) other
-      (λ i. record { terms = sym (take-take other.terms size.terms old.terms past.terms) i; forms = sym (take-take other.forms size.forms old.forms past.forms) i }) had;
+      (λ i. record {
+        terms = sym (take-take other.terms size.terms old.terms past.terms) i;
+        forms =
+            sym (take-take other.forms size.forms old.forms past.forms) i;
+      }) had;
 }
 
 -- ---- a node was read
@@ -366,7 +389,8 @@ module _ (old : Nodes) (low : IsWellFounded old) (at : ℕ) where
   pub views_term : (seen : TermView) → HasTerm old at → slice_get old.terms at ≡ Some (node_of_term seen) → IsTermView old at seen
   views_term seen inside e =
       let is = get_or_from_slice_get old.terms at (node_of_term seen) (node_of_term seen) e in
-      by seen (term_tree-node old low at (node_of_term seen) inside ∙ ap (build_term (all_terms old)) is) (subst (IsTermBelow at) is (low.terms at (node_of_term seen) inside))
+      by seen (term_tree-node old low at (node_of_term seen) inside ∙ ap (build_term (all_terms old)) is)
+      (subst (IsTermBelow at) is (low.terms at (node_of_term seen) inside))
     where
       by : (v : TermView) → term_tree old at ≡ build_term (all_terms old) (node_of_term v) → IsTermBelow at (node_of_term v) → IsTermView old at v
       by (VarView n) p low = p
@@ -377,7 +401,8 @@ module _ (old : Nodes) (low : IsWellFounded old) (at : ℕ) where
   views_form seen inside e =
       let is = get_or_from_slice_get old.forms at (node_of seen) (node_of seen) e in
       record {
-        tree = form_tree-node old low at (node_of seen) inside ∙ (ap (build_form (term_tree old) (grow (build_form (term_tree old)) [] old.forms)) is ∙ build_parts old seen);
+        tree = form_tree-node old low at (node_of seen) inside
+            ∙ (ap (build_form (term_tree old) (grow (build_form (term_tree old)) [] old.forms)) is ∙ build_parts old seen);
         parts = parts_below (length old.terms) at seen (subst (IsFormBelow (length old.terms) at) is (low.forms at (node_of seen) inside));
       }
 
@@ -386,9 +411,11 @@ module _ (old : Nodes) (low : IsWellFounded old) (at : ℕ) where
 module _ (inner old : Nodes) (view : inner ≡ old) (depths : List ℕ) (kept : IsKept inner depths) (new : Nodes) where
   -- a term was put behind the others
   module _ (n : TermNode) (is : new ≡ with_term inner n) where
-    pub kept_more : (d : ℕ) (more : List ℕ) → more ≡ depths ++ d ∷ [] → IsTermBelow (length old.terms) n → d ≡ term_depth (build_term (all_terms old) n) → IsKept new more
+    pub kept_more : (d : ℕ) (more : List ℕ) → more ≡ depths ++ d ∷ [] → IsTermBelow (length old.terms) n → d ≡ term_depth (build_term (all_terms old) n)
+        → IsKept new more
     kept_more d more e below deep =
-        rw (is, e) (kept_term inner depths kept n d (subst (λ o. IsTermBelow (length o.terms) n) (sym view) below) (deep ∙ ap (λ o. term_depth (build_term (all_terms o) n)) (sym view)))
+        rw (is, e) (kept_term inner depths kept n d (subst (λ o. IsTermBelow (length o.terms) n) (sym view) below)
+        (deep ∙ ap (λ o. term_depth (build_term (all_terms o) n)) (sym view)))
 
     pub term_extends : Extends old new
     term_extends = subst (λ o. Extends o new) view (subst (Extends inner) (sym is) (keeps_term inner kept.lower n))
@@ -406,7 +433,8 @@ module _ (inner old : Nodes) (view : inner ≡ old) (depths : List ℕ) (kept : 
     pub form_extends : Extends old new
     form_extends = subst (λ o. Extends o new) view (subst (Extends inner) (sym is) (keeps_form inner kept.lower n))
 
-    pub form_shown : (at : ℕ) (tree : Form) → at ≡ length inner.forms → build_form (term_tree old) (grow (build_form (term_tree old)) [] old.forms) n ≡ tree → ShowsForm new at tree
+    pub form_shown : (at : ℕ) (tree : Form) → at ≡ length inner.forms → build_form (term_tree old) (grow (build_form (term_tree old)) [] old.forms) n ≡ tree
+        → ShowsForm new at tree
     form_shown at tree last e =
         subst (λ m. ShowsForm m at tree) (sym is)
         (shows_form inner n at tree last (ap (λ o. build_form (term_tree o) (grow (build_form (term_tree o)) [] o.forms) n) view ∙ e))

@@ -1,12 +1,14 @@
 -- Flat vectors and the nodes that they hold: what each call reads and leaves.
-use Rattle.std.proofs.Common.{◌≡◌, ℕ, ◌+◌, ◌-◌, ◌≤◌, List, [], ◌∷◌, ◌++◌, length, map, All, get_or, take, drop, refl, ap, sym, subst, ◌∙◌, arith, length-append, length-drop, Option, Some, None}
+use Rattle.std.proofs.Common.{◌≡◌, ℕ, ◌+◌, ◌-◌, ◌≤◌, List, [], ◌∷◌, ◌++◌, length, map, All, get_or, take, drop, refl, ap, sym, subst, ◌∙◌, arith}
+use Rattle.std.proofs.Common.{length-append, length-drop, Option, Some, None}
 use Rattle.std.specs.Prelude.{ℤ, FitsSigned, sum_by, Result, Ok, Err, OnOk, OnErr}
 use Rattle.std.specs.Int.{w64}
 use Rattle.std.proofs.Common.{to_z, of_z}
 use Rattle.std.proofs.lemmas.Int.{to_z-of_z}
 use Rattle.std.proofs.Math.ListN.{get_or-map}
 use Rattle.std.proofs.Math.Nat.{le_trans}
-use Rattle.std.proofs.lemmas.List.{append-nil, length-map, map-append, drop-append-le, take-append-le, take-append-drop, length-take-le, take-map, take_all, drop_at}
+use Rattle.std.proofs.lemmas.List.{append-nil, length-map, map-append, drop-append-le, take-append-le, take-append-drop, length-take-le, take-map, take_all}
+use Rattle.std.proofs.lemmas.List.{drop_at}
 use Rattle.std.proofs.lemmas.List.Elements.{All-head, All-tail, All-push, All-take, All-cons}
 use Rattle.std.proofs.lemmas.List.Sums.{sum_by-cons}
 use Rattle.ll_lists.proofs.CallerLemmas.{map_same_on as same_nodes, map_map}
@@ -14,15 +16,21 @@ use Rattle.ll_bank.specs.declared.At.{At}
 use Rattle.ll_bank.specs.declared.Head.{Head}
 use Rattle.ll_bank.specs.declared.BankSize.{BankSize}
 use Rattle.ll_bank.specs.declared.FormNode.{FormNode}
-use Rattle.ll_bank.specs.declared.FormNode.TheVariants.{Top as TopView, One as OneView, Atom as AtomView, With as WithView, Tensor as TensorView, Plus as PlusView, Bang as BangView, Lolli as LolliView, Imp as ImpView, Forall as ForallView, Exists as ExistsView, Use as UseView, Is as IsView, Less as LessView, Most as MostView}
+use Rattle.ll_bank.specs.declared.FormNode.TheVariants.{Top as TopView, One as OneView, Atom as AtomView, With as WithView, Tensor as TensorView}
+use Rattle.ll_bank.specs.declared.FormNode.TheVariants.{Plus as PlusView, Bang as BangView, Lolli as LolliView, Imp as ImpView, Forall as ForallView}
+use Rattle.ll_bank.specs.declared.FormNode.TheVariants.{Exists as ExistsView, Use as UseView, Is as IsView, Less as LessView, Most as MostView}
 use Rattle.ll_bank.specs.declared.flat.Span.{Span}
 use Rattle.ll_bank.specs.declared.flat.StoredTerm.{StoredTerm}
 use Rattle.ll_bank.specs.declared.flat.StoredTerm.TheVariants.{Var as StoredVar, Int as StoredInt, App as StoredApp}
 use Rattle.ll_bank.specs.declared.flat.StoredForm.{StoredForm}
-use Rattle.ll_bank.specs.declared.flat.StoredForm.TheVariants.{Top as StoredTop, One as StoredOne, Atom as StoredAtom, With as StoredWith, Tensor as StoredTensor, Plus as StoredPlus, Bang as StoredBang, Lolli as StoredLolli, Imp as StoredImp, Forall as StoredForall, Exists as StoredExists, Use as StoredUse, Is as StoredIs, Less as StoredLess, Most as StoredMost}
+use Rattle.ll_bank.specs.declared.flat.StoredForm.TheVariants.{Top as StoredTop, One as StoredOne, Atom as StoredAtom, With as StoredWith}
+use Rattle.ll_bank.specs.declared.flat.StoredForm.TheVariants.{Tensor as StoredTensor, Plus as StoredPlus, Bang as StoredBang, Lolli as StoredLolli}
+use Rattle.ll_bank.specs.declared.flat.StoredForm.TheVariants.{Imp as StoredImp, Forall as StoredForall, Exists as StoredExists, Use as StoredUse}
+use Rattle.ll_bank.specs.declared.flat.StoredForm.TheVariants.{Is as StoredIs, Less as StoredLess, Most as StoredMost}
 use Rattle.ll_bank.specs.Nodes.{AppNode, UseNode, places, node_of, argument_count, load_argument_count, size_of, front}
 use Rattle.ll_bank.specs.Kept.{DeepNodes, deep_term, deep_form, deep_front}
-use Rattle.ll_bank.specs.Storage.{children_of, term_node, form_node, nodes_of, stored_term_depth, deep_of, span_from, stored_as, load_arguments_of, IsWithin, IsTermStored, IsFormStored, term_span, form_span, AreInTurn, IsStored}
+use Rattle.ll_bank.specs.Storage.{children_of, term_node, form_node, nodes_of, stored_term_depth, deep_of, span_from, stored_as, load_arguments_of, IsWithin}
+use Rattle.ll_bank.specs.Storage.{IsTermStored, IsFormStored, term_span, form_span, AreInTurn, IsStored}
 
 -- ---- spans in turn
 
@@ -89,7 +97,8 @@ module _ {S N : Type 0} (span : S → Option Span) (node : List At → S → N) 
       push_turn = rw (map-append span ss (s ∷ [])) (turn_append (map span ss) (span s ∷ []) 0 (length cs) (length (cs ++ more)) turn next)
 
       push_view : map (node (cs ++ more)) (ss ++ s ∷ []) ≡ map (node cs) ss ++ node (cs ++ more) s ∷ []
-      push_view = map-append (node (cs ++ more)) ss (s ∷ []) ∙ ap (λ ns. ns ++ node (cs ++ more) s ∷ []) (same_nodes (node (cs ++ more)) (node cs) (IsOk cs) ss (same cs more) ok)
+      push_view = map-append (node (cs ++ more)) ss (s ∷ [])
+          ∙ ap (λ ns. ns ++ node (cs ++ more) s ∷ []) (same_nodes (node (cs ++ more)) (node cs) (IsOk cs) ss (same cs more) ok)
 
     module _ (n c : ℕ) (is : sum_by count (take n (map (node cs) ss)) ≡ c) where
       -- the spans of the first nodes
@@ -288,12 +297,14 @@ module _ (cs ls : List At) (ts : List StoredTerm) (fs : List StoredForm) (stored
   stored_leaf t us e ok none = rw e (record {
     each_term = All-push (IsTermStored cs) ts t stored.each_term ok;
     each_form = stored.each_form;
-    term_spans = rw (map-append term_span ts (t ∷ [])) (turn_append (map term_span ts) (term_span t ∷ []) 0 (length cs) (length cs) stored.term_spans (rw none refl));
+    term_spans = rw (map-append term_span ts (t ∷ [])) (turn_append (map term_span ts) (term_span t ∷ []) 0 (length cs) (length cs) stored.term_spans
+        (rw none refl));
     form_spans = stored.form_spans;
   })
 
   -- a head with arguments was pushed
-  module _ (h : Head) (args : List At) (depth : ℕ) (ds : List At) (us : List StoredTerm) (pushed : us ≡ ts ++ StoredApp depth h (span_from (length cs) (length args)) ∷ []) (behind : ds ≡ cs ++ args) where
+  module _ (h : Head) (args : List At) (depth : ℕ) (ds : List At) (us : List StoredTerm)
+      (pushed : us ≡ ts ++ StoredApp depth h (span_from (length cs) (length args)) ∷ []) (behind : ds ≡ cs ++ args) where
     app_ok : IsTermStored (cs ++ args) (StoredApp depth h (span_from (length cs) (length args)))
     app_ok = (omega arith, simp length-append (omega arith))
 
@@ -302,16 +313,19 @@ module _ (cs ls : List At) (ts : List StoredTerm) (fs : List StoredForm) (stored
 
     pub stored_app : IsStored ds ls us fs
     stored_app = rw (pushed, behind) (record {
-      each_term = push_ok term_span term_node argument_count IsTermStored term_same term_more term_less term_counts cs ts stored.each_term stored.term_spans args (StoredApp depth h (span_from (length cs) (length args))) app_ok app_turn;
+      each_term = push_ok term_span term_node argument_count IsTermStored term_same term_more term_less term_counts cs ts stored.each_term stored.term_spans
+          args (StoredApp depth h (span_from (length cs) (length args))) app_ok app_turn;
       each_form = stored.each_form;
-      term_spans = push_turn term_span term_node argument_count IsTermStored term_same term_more term_less term_counts cs ts stored.each_term stored.term_spans args (StoredApp depth h (span_from (length cs) (length args))) app_ok app_turn;
+      term_spans = push_turn term_span term_node argument_count IsTermStored term_same term_more term_less term_counts cs ts stored.each_term stored.term_spans
+          args (StoredApp depth h (span_from (length cs) (length args))) app_ok app_turn;
       form_spans = stored.form_spans;
     })
 
     pub app_view : (old : DeepNodes) → deep_of cs ls ts fs ≡ old → deep_of ds ls us fs ≡ deep_term old (AppNode h (places args)) depth
     app_view old view = subst (λ n. deep_of ds ls us fs ≡ deep_term n (AppNode h (places args)) depth) view (rw (pushed, behind) (λ i. record {
       nodes = record {
-        terms = (push_view term_span term_node argument_count IsTermStored term_same term_more term_less term_counts cs ts stored.each_term stored.term_spans args (StoredApp depth h (span_from (length cs) (length args))) app_ok app_turn
+        terms = (push_view term_span term_node argument_count IsTermStored term_same term_more term_less term_counts cs ts stored.each_term stored.term_spans
+            args (StoredApp depth h (span_from (length cs) (length args))) app_ok app_turn
             ∙ ap (λ xs. map (term_node cs) ts ++ AppNode h (places xs) ∷ []) (children_behind cs args)) i;
         forms = map (form_node ls) fs;
       };
@@ -319,33 +333,42 @@ module _ (cs ls : List At) (ts : List StoredTerm) (fs : List StoredForm) (stored
     }))
 
   -- a formula was pushed
-  module _ (view : FormNode) (ds : List At) (gs : List StoredForm) (pushed : gs ≡ fs ++ stored_as (length ls) view ∷ []) (behind : ds ≡ ls ++ load_arguments_of view) where
+  module _ (view : FormNode) (ds : List At) (gs : List StoredForm) (pushed : gs ≡ fs ++ stored_as (length ls) view ∷ [])
+      (behind : ds ≡ ls ++ load_arguments_of view) where
     pub stored_formula : IsStored cs ds ts gs
     stored_formula = rw (pushed, behind) (record {
       each_term = stored.each_term;
-      each_form = push_ok form_span form_node load_argument_count IsFormStored form_same form_more form_less form_counts ls fs stored.each_form stored.form_spans (load_arguments_of view) (stored_as (length ls) view) (stored_as-ok ls view) (stored_as-turn ls view);
+      each_form = push_ok form_span form_node load_argument_count IsFormStored form_same form_more form_less form_counts ls fs stored.each_form
+          stored.form_spans (load_arguments_of view) (stored_as (length ls) view) (stored_as-ok ls view) (stored_as-turn ls view);
       term_spans = stored.term_spans;
-      form_spans = push_turn form_span form_node load_argument_count IsFormStored form_same form_more form_less form_counts ls fs stored.each_form stored.form_spans (load_arguments_of view) (stored_as (length ls) view) (stored_as-ok ls view) (stored_as-turn ls view);
+      form_spans = push_turn form_span form_node load_argument_count IsFormStored form_same form_more form_less form_counts ls fs stored.each_form
+          stored.form_spans (load_arguments_of view) (stored_as (length ls) view) (stored_as-ok ls view) (stored_as-turn ls view);
     })
 
     pub form_view : (old : DeepNodes) → deep_of cs ls ts fs ≡ old → deep_of cs ds ts gs ≡ deep_form old (node_of view)
     form_view old is = subst (λ n. deep_of cs ds ts gs ≡ deep_form n (node_of view)) is (rw (pushed, behind) (λ i. record {
       nodes = record {
         terms = map (term_node cs) ts;
-        forms = (push_view form_span form_node load_argument_count IsFormStored form_same form_more form_less form_counts ls fs stored.each_form stored.form_spans (load_arguments_of view) (stored_as (length ls) view) (stored_as-ok ls view) (stored_as-turn ls view)
+        forms = (push_view form_span form_node load_argument_count IsFormStored form_same form_more form_less form_counts ls fs stored.each_form
+            stored.form_spans (load_arguments_of view) (stored_as (length ls) view) (stored_as-ok ls view) (stored_as-turn ls view)
             ∙ ap (λ n. map (form_node ls) fs ++ n ∷ []) (stored_as-node ls view)) i;
       };
       depths = map stored_term_depth ts;
     }))
 
   -- the numbers of nodes and of children
-  pub stored_size : (old : DeepNodes) → deep_of cs ls ts fs ≡ old → (size : BankSize) → size.terms ≡ length ts → size.forms ≡ length fs → size.arguments ≡ length cs
+  pub stored_size : (old : DeepNodes) → deep_of cs ls ts fs ≡ old → (size : BankSize) → size.terms ≡ length ts → size.forms ≡ length fs
+      → size.arguments ≡ length cs
       → size.load_arguments ≡ length ls → size ≡ size_of old.nodes
   stored_size old view size a b c d = subst (λ n. size ≡ size_of n.nodes) view (λ i. record {
     terms = (a ∙ sym (length-map ts (term_node cs))) i;
     forms = (b ∙ sym (length-map fs (form_node ls))) i;
-    arguments = (c ∙ sym (all_counts term_span term_node argument_count IsTermStored term_same term_more term_less term_counts cs ts stored.each_term stored.term_spans)) i;
-    load_arguments = (d ∙ sym (all_counts form_span form_node load_argument_count IsFormStored form_same form_more form_less form_counts ls fs stored.each_form stored.form_spans)) i;
+    arguments =
+        (c ∙ sym (all_counts term_span term_node argument_count IsTermStored term_same term_more term_less term_counts cs ts stored.each_term
+        stored.term_spans)) i;
+    load_arguments =
+        (d ∙ sym (all_counts form_span form_node load_argument_count IsFormStored form_same form_more form_less form_counts ls fs stored.each_form
+        stored.form_spans)) i;
   })
 
   -- the first nodes are kept
@@ -357,23 +380,32 @@ module _ (cs ls : List At) (ts : List StoredTerm) (fs : List StoredForm) (stored
     form_sum = ap (λ s. s.load_arguments) is
 
     pub arguments_le : size.arguments ≤ length cs
-    arguments_le = cut_le term_span term_node argument_count IsTermStored term_same term_more term_less term_counts cs ts stored.each_term stored.term_spans size.terms size.arguments term_sum
+    arguments_le = cut_le term_span term_node argument_count IsTermStored term_same term_more term_less term_counts cs ts stored.each_term stored.term_spans
+        size.terms size.arguments term_sum
 
     pub load_arguments_le : size.load_arguments ≤ length ls
-    load_arguments_le = cut_le form_span form_node load_argument_count IsFormStored form_same form_more form_less form_counts ls fs stored.each_form stored.form_spans size.forms size.load_arguments form_sum
+    load_arguments_le = cut_le form_span form_node load_argument_count IsFormStored form_same form_more form_less form_counts ls fs stored.each_form
+        stored.form_spans size.forms size.load_arguments form_sum
 
     pub stored_front : IsStored (take size.arguments cs) (take size.load_arguments ls) (take size.terms ts) (take size.forms fs)
     stored_front = record {
-      each_term = cut_ok term_span term_node argument_count IsTermStored term_same term_more term_less term_counts cs ts stored.each_term stored.term_spans size.terms size.arguments term_sum;
-      each_form = cut_ok form_span form_node load_argument_count IsFormStored form_same form_more form_less form_counts ls fs stored.each_form stored.form_spans size.forms size.load_arguments form_sum;
-      term_spans = cut_turn term_span term_node argument_count IsTermStored term_same term_more term_less term_counts cs ts stored.each_term stored.term_spans size.terms size.arguments term_sum;
-      form_spans = cut_turn form_span form_node load_argument_count IsFormStored form_same form_more form_less form_counts ls fs stored.each_form stored.form_spans size.forms size.load_arguments form_sum;
+      each_term = cut_ok term_span term_node argument_count IsTermStored term_same term_more term_less term_counts cs ts stored.each_term stored.term_spans
+          size.terms size.arguments term_sum;
+      each_form = cut_ok form_span form_node load_argument_count IsFormStored form_same form_more form_less form_counts ls fs stored.each_form stored.form_spans
+          size.forms size.load_arguments form_sum;
+      term_spans = cut_turn term_span term_node argument_count IsTermStored term_same term_more term_less term_counts cs ts stored.each_term stored.term_spans
+          size.terms size.arguments term_sum;
+      form_spans = cut_turn form_span form_node load_argument_count IsFormStored form_same form_more form_less form_counts ls fs stored.each_form
+          stored.form_spans size.forms size.load_arguments form_sum;
     }
 
-    pub front_view : nodes_of (take size.arguments cs) (take size.load_arguments ls) (take size.terms ts) (take size.forms fs) ≡ front (nodes_of cs ls ts fs) size
+    pub front_view : nodes_of (take size.arguments cs) (take size.load_arguments ls) (take size.terms ts) (take size.forms fs)
+        ≡ front (nodes_of cs ls ts fs) size
     front_view = λ i. record {
-      terms = cut_view term_span term_node argument_count IsTermStored term_same term_more term_less term_counts cs ts stored.each_term stored.term_spans size.terms size.arguments term_sum i;
-      forms = cut_view form_span form_node load_argument_count IsFormStored form_same form_more form_less form_counts ls fs stored.each_form stored.form_spans size.forms size.load_arguments form_sum i;
+      terms = cut_view term_span term_node argument_count IsTermStored term_same term_more term_less term_counts cs ts stored.each_term stored.term_spans
+          size.terms size.arguments term_sum i;
+      forms = cut_view form_span form_node load_argument_count IsFormStored form_same form_more form_less form_counts ls fs stored.each_form stored.form_spans
+          size.forms size.load_arguments form_sum i;
     }
 
     -- and so they are held by vectors that have what stood first
@@ -402,5 +434,6 @@ on_ok (Ok x) p q f = f p q
 on_ok (Err e) p q f = tt
 
 -- vectors that are as before hold what they held
-pub stored_same : (cs ls cs' ls' : List At) (ts ts' : List StoredTerm) (fs fs' : List StoredForm) → IsStored cs ls ts fs → cs' ≡ cs → ls' ≡ ls → ts' ≡ ts → fs' ≡ fs → IsStored cs' ls' ts' fs'
+pub stored_same : (cs ls cs' ls' : List At) (ts ts' : List StoredTerm) (fs fs' : List StoredForm) → IsStored cs ls ts fs → cs' ≡ cs → ls' ≡ ls → ts' ≡ ts
+    → fs' ≡ fs → IsStored cs' ls' ts' fs'
 stored_same cs ls cs' ls' ts ts' fs fs' stored a b d e = rw (a, b, d, e) stored

@@ -1,5 +1,6 @@
 -- Images of places: what stands in a map from places to places, as it grows.
-use Rattle.std.proofs.Common.{◌≡◌, ℕ, ◌+◌, ◌<◌, ◌≤◌, cond, List, [], ◌∷◌, ◌++◌, length, map, All, get_or, take, refl, ap, sym, subst, ◌∙◌, inl, inr, arith, Option, Some}
+use Rattle.std.proofs.Common.{◌≡◌, ℕ, ◌+◌, ◌<◌, ◌≤◌, cond, List, [], ◌∷◌, ◌++◌, length, map, All, get_or, take, refl, ap, sym, subst, ◌∙◌, inl, inr, arith}
+use Rattle.std.proofs.Common.{Option, Some}
 use Rattle.std.specs.Prelude.{IsSome, slice_get}
 use Rattle.std.specs.Ordering.{nat_cmp}
 use Rattle.std.specs.List.{Contains, slice_index}
@@ -22,16 +23,25 @@ module _ {X : Type 0} where
   pub image_here : (old new : ℕ → Option X) (p : ℕ) (image : X) → ((q : ℕ) → new q ≡ cond (is_at (nat_cmp p) q) (Some image) (old q)) → new p ≡ Some image
   image_here old new p image h = h p ∙ cond-true (is_at (nat_cmp p) p) (Some image) (old p) (is_at-nat p p ∙ eq-eqb p p refl)
 
-  pub image_there : (old new : ℕ → Option X) (p : ℕ) (image : X) → ((q : ℕ) → new q ≡ cond (is_at (nat_cmp p) q) (Some image) (old q)) → (q : ℕ) → (p ≡ q → ⊥) → new q ≡ old q
+  pub image_there : (old new : ℕ → Option X) (p : ℕ) (image : X) → ((q : ℕ) → new q ≡ cond (is_at (nat_cmp p) q) (Some image) (old q)) → (q : ℕ) → (p ≡ q → ⊥)
+      → new q ≡ old q
   image_there old new p image h q ne = h q ∙ cond-false (is_at (nat_cmp p) q) (Some image) (old q) (is_at-nat p q ∙ ne_eqb p q ne)
 
 module _ {X T : Type 0} (lookup : ℕ → Option X) (made : ℕ → T) (places : List ℕ) (i : ℕ) where
   -- one more place has its image
-  module _ (shows shows' : X → T → Type 0) (keep : (x : X) (t : T) → shows x t → shows' x t) (lookup' : ℕ → Option X) (inside : i < length places) (images : HasImages shows lookup made (take i places))
-      (image : X) (here : shows' image (made (slice_index places i))) (puts : (q : ℕ) → lookup' q ≡ cond (is_at (nat_cmp (slice_index places i)) q) (Some image) (lookup q)) where
+  module _ (shows shows' : X → T → Type 0) (keep : (x : X) (t : T) → shows x t → shows' x t) (lookup' : ℕ
+      → Option X) (inside : i < length places) (images : HasImages shows lookup made (take i places))
+      (image : X) (here : shows' image (made (slice_index places i))) (puts : (q : ℕ)
+      → lookup' q ≡ cond (is_at (nat_cmp (slice_index places i)) q) (Some image) (lookup q)) where
     here_too : (q : ℕ) → HasImage shows lookup q (made q) → HasImage shows' lookup' q (made q)
     here_too q h = elim (cases_eq (slice_index places i) q) [
-      | inl e ↦ (image, (subst (λ z. lookup' z ≡ Some image) e (image_here lookup lookup' (slice_index places i) image puts), subst (λ z. shows' image (made z)) e here))
+      | inl e ↦ (
+        image,
+        (
+          subst (λ z. lookup' z ≡ Some image) e (image_here lookup lookup' (slice_index places i) image puts),
+          subst (λ z. shows' image (made z)) e here,
+        ),
+      )
       | inr ne ↦ (h.0, (image_there lookup lookup' (slice_index places i) image puts q ne ∙ h.1.0, keep h.0 (made q) h.1.1))
     ]
 
@@ -50,14 +60,17 @@ module _ {X T : Type 0} (lookup : ℕ → Option X) (made : ℕ → T) (places :
         ])
 
   -- a root has its image at the end
-  pub root_image : (shows : X → T → Type 0) (at : ℕ) → length places ≤ i → HasImages shows lookup made (take i places) → Contains places at → HasImage shows lookup at (made at)
+  pub root_image : (shows : X → T → Type 0) (at : ℕ) → length places ≤ i → HasImages shows lookup made (take i places) → Contains places at
+      → HasImage shows lookup at (made at)
   root_image shows at all images has =
       let e = take_all i places all in
       subst (λ z. HasImage shows lookup z (made z)) (get_or_default places has.0 0 at has.1 ∙ has.2) (subst (HasImages shows lookup made) e images has.0 has.1)
 
 -- the arguments of the next place have their images
-pub argument_images : {X T : Type 0} (bank : Nodes) (shows : X → T → Type 0) (lookup : ℕ → Option X) (made : ℕ → T) (places : List ℕ) (i : ℕ) → IsInOrder bank places → i < length places
-    → HasImages shows lookup made (take i places) → (a : ℕ) → Contains (arguments_of (term_node_at bank (slice_index places i))) a → HasImage shows lookup a (made a)
+pub argument_images : {X T : Type 0} (bank : Nodes) (shows : X → T → Type 0) (lookup : ℕ → Option X) (made : ℕ → T) (places : List ℕ) (i : ℕ)
+    → IsInOrder bank places → i < length places
+    → HasImages shows lookup made (take i places) → (a : ℕ) → Contains (arguments_of (term_node_at bank (slice_index places i))) a
+    → HasImage shows lookup a (made a)
 argument_images bank shows lookup made places i order inside images a has =
     let b = order.before i a inside has in let m : length (take i places) ≡ i = length-take-le i places (omega arith) in let l = b.1.0 in
     subst (λ z. HasImage shows lookup z (made z)) (get_or-take i places b.0 0 l ∙ b.1.1) (images b.0 (omega arith))
@@ -67,7 +80,8 @@ argument_images bank shows lookup made places i order inside images a has =
 pub copying_begins : (bank : Nodes) (lookup : ℕ → Option At) (made : ℕ → Term) → IsCopying bank bank lookup made []
 copying_begins bank lookup made = record { keeps = Extends-refl bank; images = λ i l. absurd (omega arith) }
 
-pub copying_more : (old now next : Nodes) (lookup lookup' : ℕ → Option At) (made : ℕ → Term) (places : List ℕ) (i : ℕ) → i < length places → IsCopying old now lookup made (take i places)
+pub copying_more : (old now next : Nodes) (lookup lookup' : ℕ → Option At) (made : ℕ → Term) (places : List ℕ) (i : ℕ) → i < length places
+    → IsCopying old now lookup made (take i places)
     → Extends now next → (image : At) → ShowsTerm next image.0 (made (slice_index places i))
     → ((q : ℕ) → lookup' q ≡ cond (is_at (nat_cmp (slice_index places i)) q) (Some image) (lookup q)) → IsCopying old next lookup' made (take (i + 1) places)
 copying_more old now next lookup lookup' made places i inside c keeps image here puts = record {
@@ -77,7 +91,8 @@ copying_more old now next lookup lookup' made places i inside c keeps image here
 
 -- ---- arguments and their images
 
-module _ {X T : Type 0} (bank : Nodes) (shows : X → T → Type 0) (lookup : ℕ → Option X) (made : ℕ → T) (at : ℕ) (h : Head) (args : List At) (node : slice_get bank.terms at ≡ Some (AppNode h (places args)))
+module _ {X T : Type 0} (bank : Nodes) (shows : X → T → Type 0) (lookup : ℕ → Option X) (made : ℕ
+    → T) (at : ℕ) (h : Head) (args : List At) (node : slice_get bank.terms at ≡ Some (AppNode h (places args)))
     (has : (a : ℕ) → Contains (arguments_of (term_node_at bank at)) a → HasImage shows lookup a (made a)) where
   pub each_image : All (λ a. HasImage shows lookup a.0 (made a.0)) args
   each_image k d l =
@@ -88,7 +103,8 @@ module _ {X T : Type 0} (bank : Nodes) (shows : X → T → Type 0) (lookup : �
   some_images k d l = let e = each_image k d l in rw (e.1.0) refl
 
 -- places found as the images of others
-pub shown_images : (now : Nodes) (lookup : ℕ → Option At) (made : ℕ → Term) (args found : List At) → map (λ (v : At). let o : Option At = Some v in o) found ≡ map (λ a. lookup a.0) args
+pub shown_images : (now : Nodes) (lookup : ℕ → Option At) (made : ℕ → Term) (args found : List At)
+    → map (λ (v : At). let o : Option At = Some v in o) found ≡ map (λ a. lookup a.0) args
     → All (λ a. HasImage (ShowsAt now) lookup a.0 (made a.0)) args → AllInTerms now found × (term_trees now found ≡ map (λ a. made a.0) args)
 shown_images now lookup made [] [] e h = ((λ k d l. absurd (omega arith)), refl)
 shown_images now lookup made [] (v ∷ found) e h = absurd (let x : ⊥ = cc in x)
@@ -115,6 +131,7 @@ found_more lookup places found more i d image l is so_far e =
 pub image_found : {X T : Type 0} (shows : X → T → Type 0) (lookup : ℕ → Option X) (at : ℕ) (tree : T) → HasImage shows lookup at tree → IsSome (lookup at)
 image_found shows lookup at tree h = rw (h.1.0) refl
 
-pub image_shows : {X T : Type 0} (shows : X → T → Type 0) (lookup : ℕ → Option X) (at : ℕ) (tree : T) (image : X) → HasImage shows lookup at tree → lookup at ≡ Some image → shows image tree
+pub image_shows : {X T : Type 0} (shows : X → T → Type 0) (lookup : ℕ → Option X) (at : ℕ) (tree : T) (image : X) → HasImage shows lookup at tree
+    → lookup at ≡ Some image → shows image tree
 image_shows {X} shows lookup at tree image h e =
     let same : h.0 ≡ image = (let s : Some h.0 ≡ Some image = sym h.1.0 ∙ e in cc) in subst (λ (w : X). shows w tree) same h.1.1

@@ -1,5 +1,6 @@
 -- Numbers of texts: what callers know of them, and how a set of texts has them.
-use Rattle.std.proofs.Common.{◌≡◌, ℕ, ◌+◌, ◌<◌, ◌≤◌, Bool, true, false, not, cond, eqb, ltb, ◌||◌, List, [], ◌∷◌, ◌++◌, length, map, slice_get, position, Option, Some, None, get_or, refl, ap, sym, subst, ◌∙◌, arith, true≢false, if◌then◌else◌, length-append, append_assoc}
+use Rattle.std.proofs.Common.{◌≡◌, ℕ, ◌+◌, ◌<◌, ◌≤◌, Bool, true, false, not, cond, eqb, ltb, ◌||◌, List, [], ◌∷◌, ◌++◌, length, map, slice_get, position}
+use Rattle.std.proofs.Common.{Option, Some, None, get_or, refl, ap, sym, subst, ◌∙◌, arith, true≢false, if◌then◌else◌, length-append, append_assoc}
 use Rattle.std.specs.List.{list_any, position_or_len, IsDistinct, AllByRecursion, AllZip}
 use Rattle.std.specs.Str.{bytes_eq}
 use Rattle.std.proofs.lemmas.Bool.{false_from_ne_true, ltb-false, le-ltb, or_parts}
@@ -42,11 +43,13 @@ position_none p xs h = by (ltb (position_or_len p xs) (length xs)) refl h
     by false e k = let low = prefix_len-le-length (λ x. not (p x)) xs in let out = ltb-false (position_or_len p xs) (length xs) e in omega arith
 
 -- and in two lists, one behind the other, it is in the second one where the first one has none
-position_or_len-behind : {X : Type 0} (p : X → Bool) (xs ys : List X) → position_or_len p xs ≡ length xs → position_or_len p (xs ++ ys) ≡ length xs + position_or_len p ys
+position_or_len-behind : {X : Type 0} (p : X → Bool) (xs ys : List X) → position_or_len p xs ≡ length xs
+    → position_or_len p (xs ++ ys) ≡ length xs + position_or_len p ys
 position_or_len-behind p [] ys h = omega arith
 position_or_len-behind p (x ∷ xs) ys h = by (p x) h (position_or_len-behind p xs ys)
   where
-    by : (b : Bool) → cond (not b) (1 + position_or_len p xs) 0 ≡ length (x ∷ xs) → (position_or_len p xs ≡ length xs → position_or_len p (xs ++ ys) ≡ length xs + position_or_len p ys)
+    by : (b : Bool) → cond (not b) (1 + position_or_len p xs) 0 ≡ length (x ∷ xs)
+        → (position_or_len p xs ≡ length xs → position_or_len p (xs ++ ys) ≡ length xs + position_or_len p ys)
         → cond (not b) (1 + position_or_len p (xs ++ ys)) 0 ≡ length (x ∷ xs) + position_or_len p ys
     by true e rest = absurd (omega arith)
     by false e rest = let k = rest (omega arith) in omega arith
@@ -69,7 +72,8 @@ with_name-present texts text n e =
 pub number_of-with_name : (texts : List (List ℕ)) (text : List ℕ) → number_of (with_name texts text) text ≡ Some (position_or_len (bytes_eq text) texts)
 number_of-with_name texts text = by (list_any (bytes_eq text) texts) refl
   where
-    by : (b : Bool) → list_any (bytes_eq text) texts ≡ b → number_of (if b then texts else texts ++ text ∷ []) text ≡ Some (position_or_len (bytes_eq text) texts)
+    by : (b : Bool) → list_any (bytes_eq text) texts ≡ b → number_of (if b then texts else texts ++ text ∷ []) text
+        ≡ Some (position_or_len (bytes_eq text) texts)
     by true e = position_at (bytes_eq text) texts (position_within (bytes_eq text) texts e)
     by false e =
         let same = position_or_len-push (bytes_eq text) texts text ((bytes_eq-Decides text text).1 refl) in
@@ -77,20 +81,23 @@ number_of-with_name texts text = by (list_any (bytes_eq text) texts) refl
         position_at (bytes_eq text) (texts ++ text ∷ []) (rw (same, length-append) (omega arith)) ∙ ap (λ n. let o : Option ℕ = Some n in o) same
 
 -- a text of the list has its place as its number, since no two are equal
-pub number_of-slice_get : (texts : List (List ℕ)) (text : List ℕ) (n : ℕ) → IsDistinct bytes_eq texts → slice_get texts n ≡ Some text → number_of texts text ≡ Some n
+pub number_of-slice_get : (texts : List (List ℕ)) (text : List ℕ) (n : ℕ) → IsDistinct bytes_eq texts → slice_get texts n ≡ Some text
+    → number_of texts text ≡ Some n
 number_of-slice_get texts text n distinct e =
     let here = get_or_from_slice_get texts n text [] e in
     let inside = slice_get_within texts n text e in
     let apart = AllPairs-from_IsDistinct bytes_eq-Decides texts distinct in
     let is = position_or_len_is (bytes_eq text) texts n [] (omega arith)
-    (λ k l. false_from_ne_true (bytes_eq text (get_or texts k [])) (λ same. apart k n [] l inside (sym ((bytes_eq-Decides text (get_or texts k [])).0 same) ∙ sym here)))
+    (λ k l. false_from_ne_true (bytes_eq text (get_or texts k []))
+    (λ same. apart k n [] l inside (sym ((bytes_eq-Decides text (get_or texts k [])).0 same) ∙ sym here)))
     (λ l. (bytes_eq-Decides text (get_or texts n [])).1 (sym here)) in
     position_at (bytes_eq text) texts (rw is inside) ∙ ap (λ k. let o : Option ℕ = Some k in o) is
 
 -- what has no number is not there
 absent : (texts : List (List ℕ)) (text : List ℕ) → number_of texts text ≡ None → list_any (bytes_eq text) texts ≡ false
 absent texts text none =
-    false_from_ne_true (list_any (bytes_eq text) texts) (λ e. let k = position_within (bytes_eq text) texts e in let l = position_none (bytes_eq text) texts none in absurd (omega arith))
+    false_from_ne_true (list_any (bytes_eq text) texts) (λ e. let k = position_within (bytes_eq text) texts e in
+    let l = position_none (bytes_eq text) texts none in absurd (omega arith))
 
 -- ---- texts in two parts
 
@@ -105,11 +112,13 @@ number_of-pushed texts text none =
     ∙ (number_of-with_name texts text ∙ ap (λ n. let o : Option ℕ = Some n in o) (position_none (bytes_eq text) texts none))
 
 -- so texts that differ still do
-pub IsDistinct-pushed : (texts : List (List ℕ)) (text : List ℕ) → IsDistinct bytes_eq texts → number_of texts text ≡ None → IsDistinct bytes_eq (texts ++ text ∷ [])
+pub IsDistinct-pushed : (texts : List (List ℕ)) (text : List ℕ) → IsDistinct bytes_eq texts → number_of texts text ≡ None
+    → IsDistinct bytes_eq (texts ++ text ∷ [])
 unfolding IsDistinct
 IsDistinct-pushed texts text distinct none = behind_all texts distinct (absent texts text none)
   where
-    behind_others : (t : List ℕ) (ts : List (List ℕ)) → bytes_eq t text ≡ false → AllByRecursion (λ y. bytes_eq t y ≡ false) ts → AllByRecursion (λ y. bytes_eq t y ≡ false) (ts ++ text ∷ [])
+    behind_others : (t : List ℕ) (ts : List (List ℕ)) → bytes_eq t text ≡ false → AllByRecursion (λ y. bytes_eq t y ≡ false) ts
+        → AllByRecursion (λ y. bytes_eq t y ≡ false) (ts ++ text ∷ [])
     behind_others t [] e h = (e, tt)
     behind_others t (x ∷ ts) e h = (h.0, behind_others t ts e h.1)
 
@@ -138,7 +147,8 @@ module _ (front rest : List (List ℕ)) where
       position_at (bytes_eq text) (front ++ rest) (rw is (omega arith)) ∙ ap (λ k. let o : Option ℕ = Some k in o) is
 
   -- a number behind it
-  pub number_of-behind : (text : List ℕ) (n : ℕ) → number_of front text ≡ None → number_of rest text ≡ Some n → number_of (front ++ rest) text ≡ Some (length front + n)
+  pub number_of-behind : (text : List ℕ) (n : ℕ) → number_of front text ≡ None → number_of rest text ≡ Some n
+      → number_of (front ++ rest) text ≡ Some (length front + n)
   number_of-behind text n none e =
       let p = position-Some (bytes_eq text) rest n [] e in
       let at = position_or_len_is (bytes_eq text) rest n [] (omega arith) p.2 (λ m. p.1) in
@@ -152,7 +162,8 @@ module _ (front rest : List (List ℕ)) where
       let is = position_or_len-behind (bytes_eq text) front rest (position_none (bytes_eq text) front none) in
       let end = position_none (bytes_eq text) rest nor in
       let l = length-append front rest in
-      ap (λ b. cond b (Some (position_or_len (bytes_eq text) (front ++ rest))) None) (le-ltb (position_or_len (bytes_eq text) (front ++ rest)) (length (front ++ rest)) (omega arith))
+      ap (λ b. cond b (Some (position_or_len (bytes_eq text) (front ++ rest))) None)
+      (le-ltb (position_or_len (bytes_eq text) (front ++ rest)) (length (front ++ rest)) (omega arith))
 
   -- a text of the front
   pub slice_get-front : (text : List ℕ) (n : ℕ) → slice_get front n ≡ Some text → slice_get (front ++ rest) n ≡ Some text
@@ -173,7 +184,8 @@ module _ (front rest : List (List ℕ)) where
 -- ---- one text more
 
 -- at most one text is put behind the others
-behind : (texts : List (List ℕ)) (text : List ℕ) (b : Bool) → (more : List (List ℕ)) × (((if b then texts else texts ++ text ∷ []) ≡ texts ++ more) × (length more ≤ 1))
+behind : (texts : List (List ℕ)) (text : List ℕ) (b : Bool) → (more : List (List ℕ))
+    × (((if b then texts else texts ++ text ∷ []) ≡ texts ++ more) × (length more ≤ 1))
 behind texts text true = ([], (sym (append-nil texts), omega arith))
 behind texts text false = (text ∷ [], (refl, omega arith))
 
@@ -225,7 +237,8 @@ module _ {K : Type 0} (bytes : K → List ℕ) where
     pub added : map bytes new ≡ with_name texts text
     added = rw (inserted, ← view, ← is) (by (list_any (λ k. bytes_eq (bytes key) (bytes k)) keys) (list_any-map (bytes_eq (bytes key)) keys))
       where
-        by : (b : Bool) → list_any (bytes_eq (bytes key)) (map bytes keys) ≡ b → map bytes (if b then keys else keys ++ key ∷ []) ≡ with_name (map bytes keys) (bytes key)
+        by : (b : Bool) → list_any (bytes_eq (bytes key)) (map bytes keys) ≡ b
+            → map bytes (if b then keys else keys ++ key ∷ []) ≡ with_name (map bytes keys) (bytes key)
         by true e = rw e refl
         by false e = rw e (map-append bytes keys (key ∷ []))
 

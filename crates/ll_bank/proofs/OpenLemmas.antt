@@ -1,5 +1,6 @@
 -- What the parts of a body are opened to: the trees of heads, terms and formulas, and that they stay as the bank grows.
-use Rattle.std.proofs.Common.{◌≡◌, ℕ, zero, suc, ◌+◌, ◌-◌, ◌<◌, true, false, List, [], ◌∷◌, ◌++◌, length, map, All, get_or, take, refl, ap, sym, subst, ◌∙◌, inl, inr, arith, eqb, true≢false, append_assoc, Option, Some, None}
+use Rattle.std.proofs.Common.{◌≡◌, ℕ, zero, suc, ◌+◌, ◌-◌, ◌<◌, true, false, List, [], ◌∷◌, ◌++◌, length, map, All, get_or, take, refl, ap, sym, subst, ◌∙◌}
+use Rattle.std.proofs.Common.{inl, inr, arith, eqb, true≢false, append_assoc, Option, Some, None}
 use Rattle.std.specs.Prelude.{◌&&◌, IsSome, sum_by, slice_get}
 use Rattle.std.specs.List.{list_all}
 use Rattle.std.proofs.Math.ListN.{get_or-append}
@@ -19,15 +20,23 @@ use Rattle.ll_bank.specs.declared.Head.TheVariants.{Name, Eigen, Bound}
 use Rattle.ll_bank.specs.declared.TermView.{TermView}
 use Rattle.ll_bank.specs.declared.TermView.TheVariants.{Var as VarView, Int as IntView, App as AppView}
 use Rattle.ll_bank.specs.declared.FormNode.{FormNode}
-use Rattle.ll_bank.specs.declared.FormNode.TheVariants.{Top as TopView, One as OneView, Atom as AtomView, With as WithView, Tensor as TensorView, Plus as PlusView, Bang as BangView, Lolli as LolliView, Imp as ImpView, Forall as ForallView, Exists as ExistsView, Use as UseView, Is as IsView, Less as LessView, Most as MostView}
+use Rattle.ll_bank.specs.declared.FormNode.TheVariants.{Top as TopView, One as OneView, Atom as AtomView, With as WithView, Tensor as TensorView}
+use Rattle.ll_bank.specs.declared.FormNode.TheVariants.{Plus as PlusView, Bang as BangView, Lolli as LolliView, Imp as ImpView, Forall as ForallView}
+use Rattle.ll_bank.specs.declared.FormNode.TheVariants.{Exists as ExistsView, Use as UseView, Is as IsView, Less as LessView, Most as MostView}
 use Rattle.ll_bank.specs.Term.{Term, Var, Int, Con, Ap, Env, apply, app, place, close, close_head, is_spine, applies_heads}
-use Rattle.ll_bank.specs.Form.{Form, Top, One, Atom, With, Tensor, Plus, Bang, Lolli, Imp, Forall, Exists, Use, Num, Is, Less, Most, close_form, form_applies_heads}
-use Rattle.ll_bank.specs.Nodes.{Nodes, VarNode, IntNode, AppNode, FormulaNode, TopNode, AtomNode, WithNode, TensorNode, PlusNode, BangNode, LolliNode, ImpNode, ForallNode, ExistsNode, UseNode, NumNode, grow, build_term, build_form, term_tree, form_tree, term_trees, HasTerm, HasForm, AllInTerms, ShowsTerm, ShowsForm, Extends, HasPartsBelow, IsTermView, IsFormView, places, node_of_term, node_of, form_of}
+use Rattle.ll_bank.specs.Form.{Form, Top, One, Atom, With, Tensor, Plus, Bang, Lolli, Imp, Forall, Exists, Use, Num, Is, Less, Most, close_form}
+use Rattle.ll_bank.specs.Form.{form_applies_heads}
+use Rattle.ll_bank.specs.Nodes.{Nodes, VarNode, IntNode, AppNode, FormulaNode, TopNode, AtomNode, WithNode, TensorNode, PlusNode, BangNode, LolliNode, ImpNode}
+use Rattle.ll_bank.specs.Nodes.{ForallNode, ExistsNode, UseNode, NumNode, grow, build_term, build_form, term_tree, form_tree, term_trees, HasTerm, HasForm}
+use Rattle.ll_bank.specs.Nodes.{AllInTerms, ShowsTerm, ShowsForm, Extends, HasPartsBelow, IsTermView, IsFormView, places, node_of_term, node_of, form_of}
 use Rattle.ll_bank.specs.Walk.{HasImage, ShowsAt}
 use Rattle.ll_bank.specs.Kept.{all_terms}
 use Rattle.ll_bank.specs.declared.open.Task.{Task}
-use Rattle.ll_bank.specs.Opened.{opened, Spot, visit, term_parts, form_parts, form_node_at, IsIn, IsKnown, AreImages, IsTermImage, IsFormImage, ShowsImage, ShowsFormImage, IsTermGood, IsFormGood, ArePartsOf, term_size, form_size, term_size_at, form_size_at, term_parts_at, form_parts_at}
-use Rattle.ll_bank.proofs.Trees.{HasTerm-extends, HasForm-extends, term_tree-extends, form_tree-extends, AllInTerms-extends, term_trees-extends, ShowsTerm-extends, ShowsForm-extends}
+use Rattle.ll_bank.specs.Opened.{opened, Spot, visit, term_parts, form_parts, form_node_at, IsIn, IsKnown, AreImages, IsTermImage, IsFormImage, ShowsImage}
+use Rattle.ll_bank.specs.Opened.{ShowsFormImage, IsTermGood, IsFormGood, ArePartsOf, term_size, form_size, term_size_at, form_size_at, term_parts_at}
+use Rattle.ll_bank.specs.Opened.{form_parts_at}
+use Rattle.ll_bank.proofs.Trees.{HasTerm-extends, HasForm-extends, term_tree-extends, form_tree-extends, AllInTerms-extends, term_trees-extends}
+use Rattle.ll_bank.proofs.Trees.{ShowsTerm-extends, ShowsForm-extends}
 use Rattle.ll_bank.proofs.WalkLemmas.{node_seen}
 use Rattle.ll_bank.proofs.ImageLemmas.{shown_images}
 use Rattle.ll_bank.proofs.BankLemmas.{below_places, build_parts, build_app}
@@ -50,7 +59,8 @@ pub place_outside : (t : Term) (n k m : ℕ) → n < k → place (opened t n) k 
 place_outside t zero zero m l = absurd (omega arith)
 place_outside t zero (suc k) m l = ap (λ j. Con (Bound j)) (let e : m + k ≡ m + (suc k - 1) = omega arith in e)
 place_outside t (suc n) zero m l = absurd (omega arith)
-place_outside t (suc n) (suc k) m l = place_outside t n k (suc m) (omega arith) ∙ ap (λ j. Con (Bound j)) (let e : suc m + (k - 1) ≡ m + (suc k - 1) = omega arith in e)
+place_outside t (suc n) (suc k) m l = place_outside t n k (suc m) (omega arith)
+    ∙ ap (λ j. Con (Bound j)) (let e : suc m + (k - 1) ≡ m + (suc k - 1) = omega arith in e)
 
 -- ---- applications
 
@@ -69,7 +79,8 @@ spine_below f (t ∷ ts) h =
     let p = spine_below (Ap f t) ts h in (and_parts (is_spine f) (applies_heads f) (and_parts (is_spine f && applies_heads f) (applies_heads t) p).0).1
 
 pub spine_applied : (f t : Term) (ts : List Term) → applies_heads (apply f (t ∷ ts)) ≡ true → is_spine f ≡ true
-spine_applied f t ts h = let p = spine_below (Ap f t) ts h in (and_parts (is_spine f) (applies_heads f) (and_parts (is_spine f && applies_heads f) (applies_heads t) p).0).0
+spine_applied f t ts h = let p = spine_below (Ap f t) ts h in
+    (and_parts (is_spine f) (applies_heads f) (and_parts (is_spine f && applies_heads f) (applies_heads t) p).0).0
 
 -- and so have its arguments
 pub heads_args : (f : Term) (ts : List Term) → applies_heads (apply f ts) ≡ true → All (λ t. applies_heads t ≡ true) ts
@@ -106,23 +117,28 @@ form_size-some (Use m ts f) = omega arith
 form_size-some (Num r t u) = omega arith
 
 -- the arguments of a term as parts
-pub sizes_of_args : (bank : Nodes) (n : ℕ) (args : List At) → sum_by (term_size_at bank) (map (λ (a : ℕ). let k : Spot = (a, n) in k) (places args)) ≡ sum_by term_size (term_trees bank args)
+pub sizes_of_args : (bank : Nodes) (n : ℕ) (args : List At) → sum_by (term_size_at bank) (map (λ (a : ℕ). let k : Spot = (a, n) in k) (places args))
+    ≡ sum_by term_size (term_trees bank args)
 sizes_of_args bank n [] = refl
 sizes_of_args bank n (a ∷ args) =
     sum_by-cons (term_size_at bank) (a.0, n) (map (λ (b : ℕ). let k : Spot = (b, n) in k) (places args))
     ∙ (ap (λ m. term_size (term_tree bank a.0) + m) (sizes_of_args bank n args) ∙ sym (sum_by-cons term_size (term_tree bank a.0) (term_trees bank args)))
 
-args_good : (bank : Nodes) (t : Term) (n at : ℕ) (args : List At) → HasTerm bank at → All (λ (a : At). a.0 < at) args → All (λ u. applies_heads u ≡ true) (map (close (opened t n)) (term_trees bank args))
+args_good : (bank : Nodes) (t : Term) (n at : ℕ) (args : List At) → HasTerm bank at → All (λ (a : At). a.0 < at) args
+    → All (λ u. applies_heads u ≡ true) (map (close (opened t n)) (term_trees bank args))
     → All (IsTermGood bank t) (map (λ (a : ℕ). let k : Spot = (a, n) in k) (places args))
 args_good bank t n at [] h low g = λ j d l. absurd (omega arith)
 args_good bank t n at (a ∷ args) h low g =
     let b = All-head (λ (x : At). x.0 < at) a args low in
     All-cons (IsTermGood bank t) (a.0, n) (map (λ (x : ℕ). let k : Spot = (x, n) in k) (places args))
     ((omega arith), All-head (λ u. applies_heads u ≡ true) (close (opened t n) (term_tree bank a.0)) (map (close (opened t n)) (term_trees bank args)) g)
-    (args_good bank t n at args h (All-tail (λ (x : At). x.0 < at) a args low) (All-tail (λ u. applies_heads u ≡ true) (close (opened t n) (term_tree bank a.0)) (map (close (opened t n)) (term_trees bank args)) g))
+    (args_good bank t n at args h (All-tail (λ (x : At). x.0 < at) a args low)
+    (All-tail (λ u. applies_heads u ≡ true) (close (opened t n) (term_tree bank a.0)) (map (close (opened t n)) (term_trees bank args)) g))
 
-pub term_parts_small : (bank : Nodes) (at n : ℕ) (view : TermView) → slice_get bank.terms at ≡ Some (node_of_term view) → IsTermView bank at view → ArePartsOf (term_size_at bank) (IsTermGood bank) (at, n) (term_parts_at bank (at, n))
-term_parts_small bank at n view e v = subst (λ node. ArePartsOf (term_size_at bank) (IsTermGood bank) (at, n) (term_parts node n)) (sym (node_seen bank at (node_of_term view) e)) (by view v)
+pub term_parts_small : (bank : Nodes) (at n : ℕ) (view : TermView) → slice_get bank.terms at ≡ Some (node_of_term view) → IsTermView bank at view
+    → ArePartsOf (term_size_at bank) (IsTermGood bank) (at, n) (term_parts_at bank (at, n))
+term_parts_small bank at n view e v = subst (λ node. ArePartsOf (term_size_at bank) (IsTermGood bank) (at, n) (term_parts node n))
+    (sym (node_seen bank at (node_of_term view) e)) (by view v)
   where
     by : (w : TermView) → IsTermView bank at w → ArePartsOf (term_size_at bank) (IsTermGood bank) (at, n) (term_parts (node_of_term w) n)
     by (VarView x) h = record { lower = λ j d l. absurd (omega arith); smaller = rw h (omega arith); still_good = λ t g j d l. absurd (omega arith) }
@@ -150,50 +166,106 @@ two_parts at n f g m l k = All-cons (λ (p : Spot). p.0 < at) (f, m) ((g, m) ∷
 pub no_parts : (at : ℕ) → All (λ (p : Spot). p.0 < at) []
 no_parts at = λ j d k. absurd (omega arith)
 
-one_good : (bank : Nodes) (w : Term × ℕ) (at n f : ℕ) → f < at → IsFormGood bank w (at, n) → form_applies_heads (close_form (opened w.0 n) (form_tree bank f)) ≡ true
+one_good : (bank : Nodes) (w : Term × ℕ) (at n f : ℕ) → f < at → IsFormGood bank w (at, n)
+    → form_applies_heads (close_form (opened w.0 n) (form_tree bank f)) ≡ true
     → All (IsFormGood bank w) ((f, n) ∷ [])
 one_good bank w at n f l q e =
-    let i = q.inside in let v = q.level in All-cons (IsFormGood bank w) (f, n) [] (record { inside = omega arith; heads = e; level = omega arith }) (λ j d k. absurd (omega arith))
+    let i = q.inside in let v = q.level in All-cons (IsFormGood bank w) (f, n) [] (record { inside = omega arith; heads = e; level = omega arith })
+    (λ j d k. absurd (omega arith))
 
-inner_good : (bank : Nodes) (w : Term × ℕ) (at n f : ℕ) → f < at → IsFormGood bank w (at, n) → form_applies_heads (close_form (opened w.0 (suc n)) (form_tree bank f)) ≡ true
+inner_good : (bank : Nodes) (w : Term × ℕ) (at n f : ℕ) → f < at → IsFormGood bank w (at, n)
+    → form_applies_heads (close_form (opened w.0 (suc n)) (form_tree bank f)) ≡ true
     → All (IsFormGood bank w) ((f, n + 1) ∷ [])
 inner_good bank w at n f l q e =
     let i = q.inside in let v = q.level in let s : suc n ≡ n + 1 = omega arith in
-    All-cons (IsFormGood bank w) (f, n + 1) [] (record { inside = omega arith; heads = subst (λ m. form_applies_heads (close_form (opened w.0 m) (form_tree bank f)) ≡ true) s e; level = omega arith })
+    All-cons (IsFormGood bank w) (f, n + 1) [] (record {
+      inside = omega arith;
+      heads =
+          subst (λ m. form_applies_heads (close_form (opened w.0 m) (form_tree bank f)) ≡ true) s e;
+      level = omega arith;
+    })
     (λ j d k. absurd (omega arith))
 
 two_good : (bank : Nodes) (w : Term × ℕ) (at n f g : ℕ) → f < at → g < at → IsFormGood bank w (at, n)
-    → (form_applies_heads (close_form (opened w.0 n) (form_tree bank f)) && form_applies_heads (close_form (opened w.0 n) (form_tree bank g))) ≡ true → All (IsFormGood bank w) ((f, n) ∷ (g, n) ∷ [])
+    → (form_applies_heads (close_form (opened w.0 n) (form_tree bank f)) && form_applies_heads (close_form (opened w.0 n) (form_tree bank g))) ≡ true
+    → All (IsFormGood bank w) ((f, n) ∷ (g, n) ∷ [])
 two_good bank w at n f g l k q e =
-    let p = and_parts (form_applies_heads (close_form (opened w.0 n) (form_tree bank f))) (form_applies_heads (close_form (opened w.0 n) (form_tree bank g))) e in let i = q.inside in let v = q.level in
+    let p = and_parts (form_applies_heads (close_form (opened w.0 n) (form_tree bank f))) (form_applies_heads (close_form (opened w.0 n) (form_tree bank g))) e
+    in let i = q.inside in let v = q.level in
     All-cons (IsFormGood bank w) (f, n) ((g, n) ∷ []) (record { inside = omega arith; heads = p.0; level = omega arith }) (one_good bank w at n g k q p.1)
 
-pub form_parts_small : (bank : Nodes) (at n : ℕ) (view : FormNode) → slice_get bank.forms at ≡ Some (node_of view) → IsFormView bank at view → ArePartsOf (form_size_at bank) (IsFormGood bank) (at, n) (form_parts_at bank (at, n))
-form_parts_small bank at n view e v = subst (λ node. ArePartsOf (form_size_at bank) (IsFormGood bank) (at, n) (form_parts node n)) (sym (form_node_seen bank at (node_of view) e)) (by view v.tree v.parts)
+pub form_parts_small : (bank : Nodes) (at n : ℕ) (view : FormNode) → slice_get bank.forms at ≡ Some (node_of view) → IsFormView bank at view
+    → ArePartsOf (form_size_at bank) (IsFormGood bank) (at, n) (form_parts_at bank (at, n))
+form_parts_small bank at n view e v = subst (λ node. ArePartsOf (form_size_at bank) (IsFormGood bank) (at, n) (form_parts node n))
+    (sym (form_node_seen bank at (node_of view) e)) (by view v.tree v.parts)
   where
-    by : (w : FormNode) → form_tree bank at ≡ form_of bank w → HasPartsBelow (length bank.terms) at w → ArePartsOf (form_size_at bank) (IsFormGood bank) (at, n) (form_parts (node_of w) n)
+    by : (w : FormNode) → form_tree bank at ≡ form_of bank w → HasPartsBelow (length bank.terms) at w
+        → ArePartsOf (form_size_at bank) (IsFormGood bank) (at, n) (form_parts (node_of w) n)
     by TopView t h = record { lower = no_parts at; smaller = rw t (omega arith); still_good = λ w q j d l. absurd (omega arith) }
     by OneView t h = record { lower = no_parts at; smaller = rw t (omega arith); still_good = λ w q j d l. absurd (omega arith) }
     by (AtomView a) t h = record { lower = no_parts at; smaller = rw t (omega arith); still_good = λ w q j d l. absurd (omega arith) }
     by (IsView a b) t h = record { lower = no_parts at; smaller = rw t (omega arith); still_good = λ w q j d l. absurd (omega arith) }
     by (LessView a b) t h = record { lower = no_parts at; smaller = rw t (omega arith); still_good = λ w q j d l. absurd (omega arith) }
     by (MostView a b) t h = record { lower = no_parts at; smaller = rw t (omega arith); still_good = λ w q j d l. absurd (omega arith) }
-    by (WithView f g) t h = record { lower = two_parts at n f.0 g.0 n h.0 h.1; smaller = let s = ap form_size t in omega arith; still_good = λ w q. two_good bank w at n f.0 g.0 h.0 h.1 q (sym (ap (λ x. form_applies_heads (close_form (opened w.0 n) x)) t) ∙ q.heads) }
-    by (TensorView f g) t h = record { lower = two_parts at n f.0 g.0 n h.0 h.1; smaller = let s = ap form_size t in omega arith; still_good = λ w q. two_good bank w at n f.0 g.0 h.0 h.1 q (sym (ap (λ x. form_applies_heads (close_form (opened w.0 n) x)) t) ∙ q.heads) }
-    by (PlusView f g) t h = record { lower = two_parts at n f.0 g.0 n h.0 h.1; smaller = let s = ap form_size t in omega arith; still_good = λ w q. two_good bank w at n f.0 g.0 h.0 h.1 q (sym (ap (λ x. form_applies_heads (close_form (opened w.0 n) x)) t) ∙ q.heads) }
-    by (BangView f) t h = record { lower = one_part at n f.0 n h; smaller = let s = ap form_size t in omega arith; still_good = λ w q. one_good bank w at n f.0 h q (sym (ap (λ x. form_applies_heads (close_form (opened w.0 n) x)) t) ∙ q.heads) }
-    by (LolliView f g) t h = record { lower = two_parts at n f.0 g.0 n h.0 h.1; smaller = let s = ap form_size t in omega arith; still_good = λ w q. two_good bank w at n f.0 g.0 h.0 h.1 q (sym (ap (λ x. form_applies_heads (close_form (opened w.0 n) x)) t) ∙ q.heads) }
-    by (ImpView f g) t h = record { lower = two_parts at n f.0 g.0 n h.0 h.1; smaller = let s = ap form_size t in omega arith; still_good = λ w q. two_good bank w at n f.0 g.0 h.0 h.1 q (sym (ap (λ x. form_applies_heads (close_form (opened w.0 n) x)) t) ∙ q.heads) }
-    by (ForallView f) t h = record { lower = one_part at n f.0 (n + 1) h; smaller = let s = ap form_size t in omega arith; still_good = λ w q. inner_good bank w at n f.0 h q (sym (ap (λ x. form_applies_heads (close_form (opened w.0 n) x)) t) ∙ q.heads) }
-    by (ExistsView f) t h = record { lower = one_part at n f.0 (n + 1) h; smaller = let s = ap form_size t in omega arith; still_good = λ w q. inner_good bank w at n f.0 h q (sym (ap (λ x. form_applies_heads (close_form (opened w.0 n) x)) t) ∙ q.heads) }
+    by (WithView f g) t h = record {
+      lower = two_parts at n f.0 g.0 n h.0 h.1;
+      smaller = let s = ap form_size t in
+          omega arith;
+      still_good = λ w q. two_good bank w at n f.0 g.0 h.0 h.1 q (sym (ap (λ x. form_applies_heads (close_form (opened w.0 n) x)) t) ∙ q.heads);
+    }
+    by (TensorView f g) t h = record {
+      lower = two_parts at n f.0 g.0 n h.0 h.1;
+      smaller = let s = ap form_size t in
+          omega arith;
+      still_good = λ w q. two_good bank w at n f.0 g.0 h.0 h.1 q (sym (ap (λ x. form_applies_heads (close_form (opened w.0 n) x)) t) ∙ q.heads);
+    }
+    by (PlusView f g) t h = record {
+      lower = two_parts at n f.0 g.0 n h.0 h.1;
+      smaller = let s = ap form_size t in
+          omega arith;
+      still_good = λ w q. two_good bank w at n f.0 g.0 h.0 h.1 q (sym (ap (λ x. form_applies_heads (close_form (opened w.0 n) x)) t) ∙ q.heads);
+    }
+    by (BangView f) t h = record {
+      lower = one_part at n f.0 n h;
+      smaller = let s = ap form_size t in
+          omega arith;
+      still_good = λ w q. one_good bank w at n f.0 h q (sym (ap (λ x. form_applies_heads (close_form (opened w.0 n) x)) t) ∙ q.heads);
+    }
+    by (LolliView f g) t h = record {
+      lower = two_parts at n f.0 g.0 n h.0 h.1;
+      smaller = let s = ap form_size t in
+          omega arith;
+      still_good = λ w q. two_good bank w at n f.0 g.0 h.0 h.1 q (sym (ap (λ x. form_applies_heads (close_form (opened w.0 n) x)) t) ∙ q.heads);
+    }
+    by (ImpView f g) t h = record {
+      lower = two_parts at n f.0 g.0 n h.0 h.1;
+      smaller = let s = ap form_size t in
+          omega arith;
+      still_good = λ w q. two_good bank w at n f.0 g.0 h.0 h.1 q (sym (ap (λ x. form_applies_heads (close_form (opened w.0 n) x)) t) ∙ q.heads);
+    }
+    by (ForallView f) t h = record {
+      lower = one_part at n f.0 (n + 1) h;
+      smaller = let s = ap form_size t in
+          omega arith;
+      still_good = λ w q. inner_good bank w at n f.0 h q (sym (ap (λ x. form_applies_heads (close_form (opened w.0 n) x)) t) ∙ q.heads);
+    }
+    by (ExistsView f) t h = record {
+      lower = one_part at n f.0 (n + 1) h;
+      smaller = let s = ap form_size t in
+          omega arith;
+      still_good = λ w q. inner_good bank w at n f.0 h q (sym (ap (λ x. form_applies_heads (close_form (opened w.0 n) x)) t) ∙ q.heads);
+    }
     by (UseView m args f) t h = record {
       lower = one_part at n f.0 n h.1;
       smaller = let s = ap form_size t in omega arith;
-      still_good = λ w q. one_good bank w at n f.0 h.1 q (and_parts (list_all applies_heads (map (close (opened w.0 n)) (term_trees bank args.now))) (form_applies_heads (close_form (opened w.0 n) (form_tree bank f.0))) (sym (ap (λ x. form_applies_heads (close_form (opened w.0 n) x)) t) ∙ q.heads)).1;
+      still_good = λ w q. one_good bank w at n f.0 h.1 q (and_parts (list_all applies_heads (map (close (opened w.0 n)) (term_trees bank args.now)))
+          (form_applies_heads (close_form (opened w.0 n) (form_tree bank f.0)))
+          (sym (ap (λ x. form_applies_heads (close_form (opened w.0 n) x)) t) ∙ q.heads)).1;
     }
 
 -- a part that is ready, and its own parts above it
-pub pushed : (parts parts' : List Spot) (old now next : List Task) (r : Task) → parts ≡ parts' → now ≡ old ++ r ∷ [] → next ≡ now ++ map visit parts' → next ≡ old ++ r ∷ map visit parts
+pub pushed : (parts parts' : List Spot) (old now next : List Task) (r : Task) → parts ≡ parts' → now ≡ old ++ r ∷ [] → next ≡ now ++ map visit parts'
+    → next ≡ old ++ r ∷ map visit parts
 pushed parts parts' old now next r p e f =
     f ∙ (ap (λ xs. xs ++ map visit parts') e ∙ (append_assoc old (r ∷ []) (map visit parts') ∙ (λ i. old ++ r ∷ map visit (sym p i))))
 
@@ -216,7 +288,8 @@ pub same_view : (x y : TermView) → (view_eq_value).it x y ≡ true → node_of
 same_view (VarView m) (VarView n) e = ap VarNode (eqb-true m n e)
 same_view (IntView m) (IntView n) e = ap IntNode ((Decides-int_eq m n).0 e)
 same_view (AppView h xs) (AppView k ys) e =
-    let p = and_parts ((head_eq_value).it h k) (pointwise (λ (a b : At). eqb a.0 b.0) xs.now ys.now) e in λ i. AppNode (same_heads h k p.0 i) (same_places xs.now ys.now p.1 i)
+    let p = and_parts ((head_eq_value).it h k) (pointwise (λ (a b : At). eqb a.0 b.0) xs.now ys.now) e in
+    λ i. AppNode (same_heads h k p.0 i) (same_places xs.now ys.now p.1 i)
 same_view x y e = absurd (true≢false (sym e))
 
 pub same_node : (x y : FormNode) → (node_eq_value).it x y ≡ true → node_of x ≡ node_of y
@@ -224,31 +297,38 @@ same_node TopView TopView e = refl
 same_node OneView OneView e = refl
 same_node (AtomView a) (AtomView b) e = ap AtomNode (eqb-true a.0 b.0 e)
 same_node (WithView f g) (WithView h k) e = let p = and_parts (eqb f.0 h.0) (eqb g.0 k.0) e in λ i. WithNode (eqb-true f.0 h.0 p.0 i) (eqb-true g.0 k.0 p.1 i)
-same_node (TensorView f g) (TensorView h k) e = let p = and_parts (eqb f.0 h.0) (eqb g.0 k.0) e in λ i. TensorNode (eqb-true f.0 h.0 p.0 i) (eqb-true g.0 k.0 p.1 i)
+same_node (TensorView f g) (TensorView h k) e = let p = and_parts (eqb f.0 h.0) (eqb g.0 k.0) e in
+    λ i. TensorNode (eqb-true f.0 h.0 p.0 i) (eqb-true g.0 k.0 p.1 i)
 same_node (PlusView f g) (PlusView h k) e = let p = and_parts (eqb f.0 h.0) (eqb g.0 k.0) e in λ i. PlusNode (eqb-true f.0 h.0 p.0 i) (eqb-true g.0 k.0 p.1 i)
 same_node (BangView f) (BangView h) e = ap BangNode (eqb-true f.0 h.0 e)
-same_node (LolliView f g) (LolliView h k) e = let p = and_parts (eqb f.0 h.0) (eqb g.0 k.0) e in λ i. LolliNode (eqb-true f.0 h.0 p.0 i) (eqb-true g.0 k.0 p.1 i)
+same_node (LolliView f g) (LolliView h k) e = let p = and_parts (eqb f.0 h.0) (eqb g.0 k.0) e in
+    λ i. LolliNode (eqb-true f.0 h.0 p.0 i) (eqb-true g.0 k.0 p.1 i)
 same_node (ImpView f g) (ImpView h k) e = let p = and_parts (eqb f.0 h.0) (eqb g.0 k.0) e in λ i. ImpNode (eqb-true f.0 h.0 p.0 i) (eqb-true g.0 k.0 p.1 i)
 same_node (ForallView f) (ForallView h) e = ap ForallNode (eqb-true f.0 h.0 e)
 same_node (ExistsView f) (ExistsView h) e = ap ExistsNode (eqb-true f.0 h.0 e)
 same_node (UseView m xs f) (UseView n ys h) e =
-    let p = and_parts (eqb m n) (pointwise (λ (a b : At). eqb a.0 b.0) xs.now ys.now && eqb f.0 h.0) e in let q = and_parts (pointwise (λ (a b : At). eqb a.0 b.0) xs.now ys.now) (eqb f.0 h.0) p.1 in
+    let p = and_parts (eqb m n) (pointwise (λ (a b : At). eqb a.0 b.0) xs.now ys.now && eqb f.0 h.0) e in
+    let q = and_parts (pointwise (λ (a b : At). eqb a.0 b.0) xs.now ys.now) (eqb f.0 h.0) p.1 in
     λ i. UseNode (eqb-true m n p.0 i) (same_places xs.now ys.now q.0 i) (eqb-true f.0 h.0 q.1 i)
 same_node (IsView f g) (IsView h k) e = let p = and_parts (eqb f.0 h.0) (eqb g.0 k.0) e in λ i. NumNode Is (eqb-true f.0 h.0 p.0 i) (eqb-true g.0 k.0 p.1 i)
-same_node (LessView f g) (LessView h k) e = let p = and_parts (eqb f.0 h.0) (eqb g.0 k.0) e in λ i. NumNode Less (eqb-true f.0 h.0 p.0 i) (eqb-true g.0 k.0 p.1 i)
-same_node (MostView f g) (MostView h k) e = let p = and_parts (eqb f.0 h.0) (eqb g.0 k.0) e in λ i. NumNode Most (eqb-true f.0 h.0 p.0 i) (eqb-true g.0 k.0 p.1 i)
+same_node (LessView f g) (LessView h k) e = let p = and_parts (eqb f.0 h.0) (eqb g.0 k.0) e in
+    λ i. NumNode Less (eqb-true f.0 h.0 p.0 i) (eqb-true g.0 k.0 p.1 i)
+same_node (MostView f g) (MostView h k) e = let p = and_parts (eqb f.0 h.0) (eqb g.0 k.0) e in
+    λ i. NumNode Most (eqb-true f.0 h.0 p.0 i) (eqb-true g.0 k.0 p.1 i)
 same_node x y e = absurd (true≢false (sym e))
 
 -- so they build one tree
 pub same_form_of : (bank : Nodes) (x y : FormNode) → node_of x ≡ node_of y → form_of bank x ≡ form_of bank y
-same_form_of bank x y e = sym (build_parts bank x) ∙ (ap (build_form (term_tree bank) (grow (build_form (term_tree bank)) [] bank.forms)) e ∙ build_parts bank y)
+same_form_of bank x y e = sym (build_parts bank x) ∙ (ap (build_form (term_tree bank) (grow (build_form (term_tree bank)) [] bank.forms)) e
+    ∙ build_parts bank y)
 
 view_builds : (bank : Nodes) (at : ℕ) (x : TermView) → IsTermView bank at x → term_tree bank at ≡ build_term (all_terms bank) (node_of_term x)
 view_builds bank at (VarView n) h = h
 view_builds bank at (IntView z) h = h
 view_builds bank at (AppView k args) h = h.0 ∙ sym (build_app bank k args.now)
 
-pub same_term_of : (bank : Nodes) (at : ℕ) (x : TermView) (h : Head) (args : List At) → IsTermView bank at x → node_of_term x ≡ AppNode h (places args) → term_tree bank at ≡ app h (term_trees bank args)
+pub same_term_of : (bank : Nodes) (at : ℕ) (x : TermView) (h : Head) (args : List At) → IsTermView bank at x → node_of_term x ≡ AppNode h (places args)
+    → term_tree bank at ≡ app h (term_trees bank args)
 same_term_of bank at x h args v e = view_builds bank at x v ∙ (ap (build_term (all_terms bank)) e ∙ build_app bank h args)
 
 -- ---- heads
@@ -263,12 +343,14 @@ pub head_outside : (t : Term) (n k : ℕ) → n < k → place (opened t n) k 0 �
 head_outside t n k l = place_outside t n k 0 l ∙ ap (λ j. Con (Bound j)) (let e : 0 + (k - 1) ≡ k - 1 = omega arith in e)
 
 -- a term that gets arguments begins with a head
-pub spine_of_value : (bank : Nodes) (t : Term) (args : List At) → (length args == 0) ≡ false → applies_heads (apply t (term_trees bank args)) ≡ true → is_spine t ≡ true
+pub spine_of_value : (bank : Nodes) (t : Term) (args : List At) → (length args == 0) ≡ false → applies_heads (apply t (term_trees bank args)) ≡ true
+    → is_spine t ≡ true
 spine_of_value bank t [] e h = absurd (true≢false e)
 spine_of_value bank t (a ∷ args) e h = spine_applied t (term_tree bank a.0) (term_trees bank args) h
 
 -- more arguments behind those of an application
-pub more_args : (bank : Nodes) (t : Term) (h : Head) (own args all : List At) → t ≡ app h (term_trees bank own) → all ≡ own ++ args → app h (term_trees bank all) ≡ apply t (term_trees bank args)
+pub more_args : (bank : Nodes) (t : Term) (h : Head) (own args all : List At) → t ≡ app h (term_trees bank own) → all ≡ own ++ args
+    → app h (term_trees bank all) ≡ apply t (term_trees bank args)
 more_args bank t h own args all e f =
     ap (λ xs. app h (term_trees bank xs)) f
     ∙ (ap (app h) (map-append (λ (a : At). term_tree bank a.0) own args)
@@ -276,15 +358,18 @@ more_args bank t h own args all e f =
 
 -- ---- arguments and their images
 
-pub known_args : (lookup : Spot → Option At) (n : ℕ) (args : List At) → ((k : Spot) → IsIn k (map (λ (a : ℕ). let s : Spot = (a, n) in s) (places args)) → IsKnown lookup k) → All (λ (a : At). IsSome (lookup (a.0, n))) args
+pub known_args : (lookup : Spot → Option At) (n : ℕ) (args : List At)
+    → ((k : Spot) → IsIn k (map (λ (a : ℕ). let s : Spot = (a, n) in s) (places args)) → IsKnown lookup k) → All (λ (a : At). IsSome (lookup (a.0, n))) args
 known_args lookup n [] h = λ j d l. absurd (omega arith)
-known_args lookup n (a ∷ args) h = All-cons (λ (b : At). IsSome (lookup (b.0, n))) a args (h (a.0, n) (inl refl)) (known_args lookup n args (λ k i. h k (inr i)))
+known_args lookup n (a ∷ args) h = All-cons (λ (b : At). IsSome (lookup (b.0, n))) a args (h (a.0, n) (inl refl))
+    (known_args lookup n args (λ k i. h k (inr i)))
 
 some_image : {X : Type 0} (o : Option X) → IsSome o → (x : X) × (o ≡ Some x)
 some_image None h = absurd (true≢false (sym h))
 some_image (Some x) h = (x, refl)
 
-pub args_shown : (bank : Nodes) (t : Term) (lookup : Spot → Option At) (n : ℕ) (args found : List At) → AreImages (IsTermImage bank t) lookup → All (λ (a : At). IsSome (lookup (a.0, n))) args
+pub args_shown : (bank : Nodes) (t : Term) (lookup : Spot → Option At) (n : ℕ) (args found : List At) → AreImages (IsTermImage bank t) lookup
+    → All (λ (a : At). IsSome (lookup (a.0, n))) args
     → map (λ (v : At). let o : Option At = Some v in o) found ≡ map (λ (a : At). lookup (a.0, n)) args
     → AllInTerms bank found × (term_trees bank found ≡ map (close (opened t n)) (term_trees bank args))
 args_shown bank t lookup n args found images known is =
@@ -297,7 +382,8 @@ pub opened_app : (e : Env) (t : Term) (h : Head) (ts us : List Term) → t ≡ a
 opened_app e t h ts us p q = ap (close e) p ∙ (close-apply e (Con h) ts ∙ ap (apply (close_head e h)) (sym q))
 
 -- arguments as parts, and as places
-pub spots_of_args : {X : Type 0} (f : Spot → X) (n : ℕ) (args : List At) → map (λ (a : At). f (a.0, n)) args ≡ map f (map (λ (a : ℕ). let k : Spot = (a, n) in k) (places args))
+pub spots_of_args : {X : Type 0} (f : Spot → X) (n : ℕ) (args : List At)
+    → map (λ (a : At). f (a.0, n)) args ≡ map f (map (λ (a : ℕ). let k : Spot = (a, n) in k) (places args))
 spots_of_args f n [] = refl
 spots_of_args f n (a ∷ args) = ap (λ xs. f (a.0, n) ∷ xs) (spots_of_args f n args)
 
@@ -306,7 +392,8 @@ spots_of_args f n (a ∷ args) = ap (λ xs. f (a.0, n) ∷ xs) (spots_of_args f 
 pub sum_same : (f g : Spot → ℕ) (ps : List Spot) → All (λ p. f p ≡ g p) ps → sum_by f ps ≡ sum_by g ps
 sum_same f g [] h = refl
 sum_same f g (p ∷ ps) h =
-    let e = sum_by-cons f p ps in let e' = sum_by-cons g p ps in let a = All-head (λ q. f q ≡ g q) p ps h in let b = sum_same f g ps (All-tail (λ q. f q ≡ g q) p ps h) in omega arith
+    let e = sum_by-cons f p ps in let e' = sum_by-cons g p ps in let a = All-head (λ q. f q ≡ g q) p ps h in
+    let b = sum_same f g ps (All-tail (λ q. f q ≡ g q) p ps h) in omega arith
 
 -- below a place there are places
 pub HasTerm-below : (nodes : Nodes) (at below : ℕ) → HasTerm nodes at → below < at → HasTerm nodes below
@@ -317,7 +404,8 @@ HasForm-below nodes at below h l = omega arith
 
 module _ (first now : Nodes) (e : Extends first now) where
   pub term_parts_same : (k : Spot) → HasTerm first k.0 → term_parts_at now k ≡ term_parts_at first k
-  term_parts_same k h = ap (λ node. term_parts node k.1) (ap (λ ns. get_or ns k.0 (VarNode 0)) e.terms ∙ get_or-append first.terms e.more_terms (VarNode 0) k.0 h)
+  term_parts_same k h = ap (λ node. term_parts node k.1) (ap (λ ns. get_or ns k.0 (VarNode 0)) e.terms
+      ∙ get_or-append first.terms e.more_terms (VarNode 0) k.0 h)
 
   pub form_parts_same : (k : Spot) → HasForm first k.0 → form_parts_at now k ≡ form_parts_at first k
   form_parts_same k h = ap (λ node. form_parts node k.1) (ap (λ ns. get_or ns k.0 TopNode) e.forms ∙ get_or-append first.forms e.more_forms TopNode k.0 h)
@@ -333,35 +421,47 @@ module _ (first now : Nodes) (e : Extends first now) where
   }
 
   -- the parts of a term are its parts in the first bank
-  pub term_parts_first : (k : Spot) → HasTerm first k.0 → ArePartsOf (term_size_at now) (IsTermGood now) k (term_parts_at now k) → ArePartsOf (term_size_at first) (IsTermGood first) k (term_parts_at first k)
+  pub term_parts_first : (k : Spot) → HasTerm first k.0 → ArePartsOf (term_size_at now) (IsTermGood now) k (term_parts_at now k)
+      → ArePartsOf (term_size_at first) (IsTermGood first) k (term_parts_at first k)
   term_parts_first k h p = back (subst (ArePartsOf (term_size_at now) (IsTermGood now) k) (term_parts_same k h) p)
     where
-      back : ArePartsOf (term_size_at now) (IsTermGood now) k (term_parts_at first k) → ArePartsOf (term_size_at first) (IsTermGood first) k (term_parts_at first k)
+      back : ArePartsOf (term_size_at now) (IsTermGood now) k (term_parts_at first k)
+          → ArePartsOf (term_size_at first) (IsTermGood first) k (term_parts_at first k)
       back p = record {
         lower = p.lower;
         smaller =
-            let s = sum_same (term_size_at now) (term_size_at first) (term_parts_at first k) (λ j d l. ap term_size (term_tree-extends e (get_or (term_parts_at first k) j d).0 (HasTerm-below first k.0 (get_or (term_parts_at first k) j d).0 h (p.lower j d l)))) in
+            let s = sum_same (term_size_at now) (term_size_at first) (term_parts_at first k)
+            (λ j d l. ap term_size (term_tree-extends e (get_or (term_parts_at first k) j d).0
+            (HasTerm-below first k.0 (get_or (term_parts_at first k) j d).0 h (p.lower j d l)))) in
             let z = ap term_size (term_tree-extends e k.0 h) in let m = p.smaller in omega arith;
         still_good = λ t g j d l.
-            let i = HasTerm-below first k.0 (get_or (term_parts_at first k) j d).0 h (p.lower j d l) in
-            (i, sym (ap (λ u. applies_heads (close (opened t (get_or (term_parts_at first k) j d).1) u)) (term_tree-extends e (get_or (term_parts_at first k) j d).0 i)) ∙ (p.still_good t (term_good_now t k g) j d l).1);
+            let i = HasTerm-below first k.0 (get_or (term_parts_at first k) j d).0 h (p.lower j d l) in (
+              i,
+              sym (ap (λ u. applies_heads (close (opened t (get_or (term_parts_at first k) j d).1) u))
+                  (term_tree-extends e (get_or (term_parts_at first k) j d).0 i)) ∙ (p.still_good t (term_good_now t k g) j d l).1,
+            );
       }
 
   -- and those of a formula
-  pub form_parts_first : (k : Spot) → HasForm first k.0 → ArePartsOf (form_size_at now) (IsFormGood now) k (form_parts_at now k) → ArePartsOf (form_size_at first) (IsFormGood first) k (form_parts_at first k)
+  pub form_parts_first : (k : Spot) → HasForm first k.0 → ArePartsOf (form_size_at now) (IsFormGood now) k (form_parts_at now k)
+      → ArePartsOf (form_size_at first) (IsFormGood first) k (form_parts_at first k)
   form_parts_first k h p = back (subst (ArePartsOf (form_size_at now) (IsFormGood now) k) (form_parts_same k h) p)
     where
-      back : ArePartsOf (form_size_at now) (IsFormGood now) k (form_parts_at first k) → ArePartsOf (form_size_at first) (IsFormGood first) k (form_parts_at first k)
+      back : ArePartsOf (form_size_at now) (IsFormGood now) k (form_parts_at first k)
+          → ArePartsOf (form_size_at first) (IsFormGood first) k (form_parts_at first k)
       back p = record {
         lower = p.lower;
         smaller =
-            let s = sum_same (form_size_at now) (form_size_at first) (form_parts_at first k) (λ j d l. ap form_size (form_tree-extends e (get_or (form_parts_at first k) j d).0 (HasForm-below first k.0 (get_or (form_parts_at first k) j d).0 h (p.lower j d l)))) in
+            let s = sum_same (form_size_at now) (form_size_at first) (form_parts_at first k)
+            (λ j d l. ap form_size (form_tree-extends e (get_or (form_parts_at first k) j d).0
+            (HasForm-below first k.0 (get_or (form_parts_at first k) j d).0 h (p.lower j d l)))) in
             let z = ap form_size (form_tree-extends e k.0 h) in let m = p.smaller in omega arith;
         still_good = λ w g j d l.
             let i = HasForm-below first k.0 (get_or (form_parts_at first k) j d).0 h (p.lower j d l) in let q = p.still_good w (form_good_now w k g) j d l in
             record {
               inside = i;
-              heads = sym (ap (λ u. form_applies_heads (close_form (opened w.0 (get_or (form_parts_at first k) j d).1) u)) (form_tree-extends e (get_or (form_parts_at first k) j d).0 i)) ∙ q.heads;
+              heads = sym (ap (λ u. form_applies_heads (close_form (opened w.0 (get_or (form_parts_at first k) j d).1) u))
+                  (form_tree-extends e (get_or (form_parts_at first k) j d).0 i)) ∙ q.heads;
               level = q.level;
             };
       }
@@ -387,8 +487,10 @@ module _ (first now : Nodes) (e : Extends first now) where
   form_image_first t k image h s = subst (λ u. ShowsForm now image.0 (close_form (opened t k.1) u)) (form_tree-extends e k.0 h) s.1
 
 -- one more term has its image
-pub terms_more : (first now new : Nodes) (e : Extends now new) (t : Term) (n : ℕ) (terms made made' : List At) (i : ℕ) (d image : At) → i < length terms → AllInTerms now made
-    → term_trees now made ≡ map (close (opened t n)) (term_trees first (take i terms)) → ShowsTerm new image.0 (close (opened t n) (term_tree first (get_or terms i d).0)) → made' ≡ made ++ image ∷ []
+pub terms_more : (first now new : Nodes) (e : Extends now new) (t : Term) (n : ℕ) (terms made made' : List At) (i : ℕ) (d image : At) → i < length terms
+    → AllInTerms now made
+    → term_trees now made ≡ map (close (opened t n)) (term_trees first (take i terms))
+    → ShowsTerm new image.0 (close (opened t n) (term_tree first (get_or terms i d).0)) → made' ≡ made ++ image ∷ []
     → AllInTerms new made' × (term_trees new made' ≡ map (close (opened t n)) (term_trees first (take (i + 1) terms)))
 terms_more first now new e t n terms made made' i d image l all is s f = (
   subst (AllInTerms new) (sym f) (All-push (λ (a : At). a.0 < length new.terms) made image (AllInTerms-extends e made all) s.inside),
@@ -406,10 +508,12 @@ pub form_part_known : (bank : Nodes) (at n : ℕ) (view : FormNode) (lookup : Sp
 form_part_known bank at n view lookup e h k i = h k (subst (λ node. IsIn k (form_parts node n)) (sym (form_node_seen bank at (node_of view) e)) i)
 
 -- under a quantifier
-pub shows_inner : (bank : Nodes) (t : Term) (n f : ℕ) (image : FormAt) → ShowsForm bank image.0 (close_form (opened t (n + 1)) (form_tree bank f)) → ShowsForm bank image.0 (close_form (opened t (suc n)) (form_tree bank f))
+pub shows_inner : (bank : Nodes) (t : Term) (n f : ℕ) (image : FormAt) → ShowsForm bank image.0 (close_form (opened t (n + 1)) (form_tree bank f))
+    → ShowsForm bank image.0 (close_form (opened t (suc n)) (form_tree bank f))
 shows_inner bank t n f image s = subst (λ m. ShowsForm bank image.0 (close_form (opened t m) (form_tree bank f))) (let e : n + 1 ≡ suc n = omega arith in e) s
 
-pub load_heads : (e : Env) (bank : Nodes) (args : List At) → list_all applies_heads (map (close e) (term_trees bank args)) ≡ true → All (λ (a : At). applies_heads (close e (term_tree bank a.0)) ≡ true) args
+pub load_heads : (e : Env) (bank : Nodes) (args : List At) → list_all applies_heads (map (close e) (term_trees bank args)) ≡ true
+    → All (λ (a : At). applies_heads (close e (term_tree bank a.0)) ≡ true) args
 load_heads e bank [] h = λ j d l. absurd (omega arith)
 load_heads e bank (a ∷ args) h =
     let p = and_parts (applies_heads (close e (term_tree bank a.0))) (list_all applies_heads (map (close e) (term_trees bank args))) h in

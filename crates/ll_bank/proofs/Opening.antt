@@ -1,5 +1,6 @@
 -- How the parts of a body get their images: the parts as keys of maps, and the stack of those that wait.
-use Rattle.std.proofs.Common.{◌≡◌, ℕ, ◌+◌, ◌<◌, Bool, true, false, cond, eqb, List, [], ◌∷◌, ◌++◌, length, map, All, refl, ap, sym, subst, ◌∙◌, inl, inr, arith, true≢false, Option, Some, None, length-append}
+use Rattle.std.proofs.Common.{◌≡◌, ℕ, ◌+◌, ◌<◌, Bool, true, false, cond, eqb, List, [], ◌∷◌, ◌++◌, length, map, All, refl, ap, sym, subst, ◌∙◌, inl, inr}
+use Rattle.std.proofs.Common.{arith, true≢false, Option, Some, None, length-append}
 use Rattle.std.specs.Prelude.{◌⊎◌, ◌&&◌, IsSome, sum_by, if◌then◌else◌}
 use Rattle.std.specs.Ordering.{nat_cmp, ordering_then, is_eq}
 use Rattle.std.specs.declared.cmp.Ordering.{Ordering}
@@ -34,7 +35,8 @@ spot_itself : (k : Spot) → is_at (by_spot k) k ≡ true
 spot_itself k = at_spot k k ∙ and_from (eqb k.0 k.0) (eqb k.1 k.1) (eq-eqb k.0 k.0 refl) (eq-eqb k.1 k.1 refl)
 
 -- one more image is known
-module _ {X : Type 0} (lookup lookup' : Spot → Option X) (k : Spot) (image : X) (puts : (q : Spot) → lookup' q ≡ cond (is_at (by_spot k) q) (Some image) (lookup q)) where
+module _ {X : Type 0} (lookup lookup' : Spot → Option X) (k : Spot) (image : X) (puts : (q : Spot)
+    → lookup' q ≡ cond (is_at (by_spot k) q) (Some image) (lookup q)) where
   pub known_here : IsKnown lookup' k
   known_here = subst IsSome (sym (puts k ∙ cond-true (is_at (by_spot k) k) (Some image) (lookup k) (spot_itself k))) refl
 
@@ -67,7 +69,8 @@ in_push (x ∷ tasks) task k (inr h) = elim (in_push tasks task k h) [
   | inr e ↦ inr e
 ]
 
-in_expand : (tasks more : List Task) (task opened : Task) (k : Spot) → spot_of opened ≡ spot_of task → IsIn k (map spot_of (tasks ++ task ∷ [])) → IsIn k (map spot_of (tasks ++ opened ∷ more))
+in_expand : (tasks more : List Task) (task opened : Task) (k : Spot) → spot_of opened ≡ spot_of task → IsIn k (map spot_of (tasks ++ task ∷ []))
+    → IsIn k (map spot_of (tasks ++ opened ∷ more))
 in_expand [] more task opened k e (inl h) = inl (e ∙ h)
 in_expand [] more task opened k e (inr x) = absurd x
 in_expand (x ∷ tasks) more task opened k e (inl h) = inl h
@@ -92,7 +95,8 @@ module _ (parts : Spot → List Spot) (good : Spot → Type 0) (root : Spot) whe
         ]
 
     -- the last task has its image now
-    pub opening_pops : (items tasks : List Task) (task : Task) → items ≡ tasks ++ task ∷ [] → known' (spot_of task) → IsOpening known parts good root items → IsOpening known' parts good root tasks
+    pub opening_pops : (items tasks : List Task) (task : Task) → items ≡ tasks ++ task ∷ [] → known' (spot_of task) → IsOpening known parts good root items
+        → IsOpening known' parts good root tasks
     opening_pops items tasks task e here o = record {
       waiting = waits_pop tasks task here (subst (AreWaiting known parts) e o.waiting);
       each = All-before (λ (x : Task). good (spot_of x)) tasks task (subst (All (λ (x : Task). good (spot_of x))) e o.each);
@@ -115,19 +119,22 @@ module _ (parts : Spot → List Spot) (good : Spot → Type 0) (root : Spot) whe
     waits_expand [] task opened e w = ((λ r k i. inr (in_visits (parts (spot_of opened)) k i)), waits_visits (parts (spot_of opened)))
     waits_expand (x ∷ tasks) task opened e w = ((λ r k i. one k (w.0 r k i)), waits_expand tasks task opened e w.1)
       where
-        one : (k : Spot) → known k ⊎ IsIn k (map spot_of (tasks ++ task ∷ [])) → known k ⊎ IsIn k (map spot_of (tasks ++ opened ∷ map visit (parts (spot_of opened))))
+        one : (k : Spot) → known k ⊎ IsIn k (map spot_of (tasks ++ task ∷ []))
+            → known k ⊎ IsIn k (map spot_of (tasks ++ opened ∷ map visit (parts (spot_of opened))))
         one k (inl h) = inl h
         one k (inr h) = inr (in_expand tasks (map visit (parts (spot_of opened))) task opened k e h)
 
     -- the last task is ready, and its parts wait above it
-    pub opening_expands : (items tasks next : List Task) (task opened : Task) → items ≡ tasks ++ task ∷ [] → next ≡ tasks ++ opened ∷ map visit (parts (spot_of opened)) → spot_of opened ≡ spot_of task
+    pub opening_expands : (items tasks next : List Task) (task opened : Task) → items ≡ tasks ++ task ∷ []
+        → next ≡ tasks ++ opened ∷ map visit (parts (spot_of opened)) → spot_of opened ≡ spot_of task
         → (good (spot_of task) → All good (parts (spot_of task))) → IsOpening known parts good root items → IsOpening known parts good root next
     opening_expands items tasks next task opened e f same kept o =
         let each = subst (All (λ (x : Task). good (spot_of x))) e o.each in
         let here = All-last (λ (x : Task). good (spot_of x)) tasks task each in
         subst (IsOpening known parts good root) (sym f) (record {
           waiting = waits_expand tasks task opened same (subst (AreWaiting known parts) e o.waiting);
-          each = All-append (λ (x : Task). good (spot_of x)) tasks (opened ∷ map visit (parts (spot_of opened))) (All-before (λ (x : Task). good (spot_of x)) tasks task each)
+          each = All-append (λ (x : Task). good (spot_of x)) tasks (opened ∷ map visit (parts (spot_of opened)))
+              (All-before (λ (x : Task). good (spot_of x)) tasks task each)
               (All-cons (λ (x : Task). good (spot_of x)) opened (map visit (parts (spot_of opened))) (subst good (sym same) here)
               (All-map (λ (x : Task). good (spot_of x)) visit (parts (spot_of opened)) (subst (λ k. All good (parts k)) (sym same) (kept here))));
           root_known = elim o.root_known [
@@ -136,7 +143,8 @@ module _ (parts : Spot → List Spot) (good : Spot → Type 0) (root : Spot) whe
           ];
         })
 
-    waits_last : (tasks : List Task) (task : Task) → AreWaiting known parts (tasks ++ task ∷ []) → task.ready ≡ true → (k : Spot) → IsIn k (parts (spot_of task)) → known k
+    waits_last : (tasks : List Task) (task : Task) → AreWaiting known parts (tasks ++ task ∷ []) → task.ready ≡ true → (k : Spot)
+        → IsIn k (parts (spot_of task)) → known k
     waits_last [] task w r k i = elim (w.0 r k i) [
       | inl h ↦ h
       | inr x ↦ absurd x
@@ -144,7 +152,8 @@ module _ (parts : Spot → List Spot) (good : Spot → Type 0) (root : Spot) whe
     waits_last (x ∷ tasks) task w r k i = waits_last tasks task w.1 r k i
 
     -- the parts of a task that is ready, and last, are known
-    pub opening_ready : (items tasks : List Task) (task : Task) → items ≡ tasks ++ task ∷ [] → IsOpening known parts good root items → task.ready ≡ true → (k : Spot) → IsIn k (parts (spot_of task)) → known k
+    pub opening_ready : (items tasks : List Task) (task : Task) → items ≡ tasks ++ task ∷ [] → IsOpening known parts good root items → task.ready ≡ true
+        → (k : Spot) → IsIn k (parts (spot_of task)) → known k
     opening_ready items tasks task e o = waits_last tasks task (subst (AreWaiting known parts) e o.waiting)
 
     -- the last task is good
@@ -176,23 +185,27 @@ module _ (size : Spot → ℕ) where
   work_visits : (ps : List Spot) → work_left size (map visit ps) ≡ sum_by size ps
   work_visits [] = refl
   work_visits (p ∷ ps) =
-      let e = sum_by-cons (λ (task : Task). if task.ready then 1 else size (spot_of task)) (visit p) (map visit ps) in let f = sum_by-cons size p ps in let g = work_visits ps in
+      let e = sum_by-cons (λ (task : Task). if task.ready then 1 else size (spot_of task)) (visit p) (map visit ps) in let f = sum_by-cons size p ps in
+      let g = work_visits ps in
       e ∙ (ap (λ n. size p + n) g ∙ sym f)
 
   -- a task less
   pub work_pops : (items tasks : List Task) (task : Task) → items ≡ tasks ++ task ∷ [] → 0 < size (spot_of task) → work_left size tasks < work_left size items
   work_pops items tasks task e s = rw e (by task.ready (sum_by_push (λ (x : Task). if x.ready then 1 else size (spot_of x)) tasks task))
     where
-      by : (b : Bool) → work_left size (tasks ++ task ∷ []) ≡ work_left size tasks + (if b then 1 else size (spot_of task)) → work_left size tasks < work_left size (tasks ++ task ∷ [])
+      by : (b : Bool) → work_left size (tasks ++ task ∷ []) ≡ work_left size tasks + (if b then 1 else size (spot_of task))
+          → work_left size tasks < work_left size (tasks ++ task ∷ [])
       by true h = omega arith
       by false h = omega arith
 
   -- its parts in its place
-  pub work_expands : (items tasks next : List Task) (task opened : Task) (ps : List Spot) → items ≡ tasks ++ task ∷ [] → next ≡ tasks ++ opened ∷ map visit ps → task.ready ≡ false → opened.ready ≡ true
+  pub work_expands : (items tasks next : List Task) (task opened : Task) (ps : List Spot) → items ≡ tasks ++ task ∷ [] → next ≡ tasks ++ opened ∷ map visit ps
+      → task.ready ≡ false → opened.ready ≡ true
       → 1 + sum_by size ps < size (spot_of task) → work_left size next < work_left size items
   work_expands items tasks next task opened ps e f r s small =
       let here : work_left size (tasks ++ task ∷ []) ≡ work_left size tasks + size (spot_of task) =
-      sum_by_push (λ (x : Task). if x.ready then 1 else size (spot_of x)) tasks task ∙ ap (λ b. work_left size tasks + (if b then 1 else size (spot_of task))) r in
+      sum_by_push (λ (x : Task). if x.ready then 1 else size (spot_of x)) tasks task
+      ∙ ap (λ b. work_left size tasks + (if b then 1 else size (spot_of task))) r in
       let more : work_left size (tasks ++ opened ∷ map visit ps) ≡ work_left size tasks + (1 + sum_by size ps) =
       sum_by-append (λ (x : Task). if x.ready then 1 else size (spot_of x)) tasks (opened ∷ map visit ps)
       ∙ ap (λ n. work_left size tasks + n) (sum_by-cons (λ (x : Task). if x.ready then 1 else size (spot_of x)) opened (map visit ps)

@@ -1,5 +1,6 @@
 -- Pairs of places whose terms are to be equal, as they are opened.
-use Rattle.std.proofs.Common.{◌≡◌, ℕ, ◌+◌, ◌-◌, ◌<◌, true, false, ◌↔◌, List, [], ◌∷◌, ◌++◌, length, map, reverse, get_or, take, refl, ap, sym, subst, ◌∙◌, arith, true≢false, append_assoc}
+use Rattle.std.proofs.Common.{◌≡◌, ℕ, ◌+◌, ◌-◌, ◌<◌, true, false, ◌↔◌, List, [], ◌∷◌, ◌++◌, length, map, reverse, get_or, take, refl, ap, sym, subst, ◌∙◌}
+use Rattle.std.proofs.Common.{arith, true≢false, append_assoc}
 use Rattle.std.specs.Prelude.{IsTrue, Some, None}
 use Rattle.std.proofs.lemmas.List.{map-append, map_push, reverse-append, reverse-reverse, length-reverse, length-map, get_or-reverse, take_more}
 use Rattle.std.proofs.lemmas.List.Elements.{All-append, All-pop}
@@ -14,7 +15,8 @@ use Rattle.ll_bank.proofs.Heads.{head_of-apply, arity-apply}
 -- ---- arguments behind the pairs that wait
 
 -- one more of the places on one side
-pub places-more : (side : Pair → At) (now next : List Pair) (old args : List At) (done at : ℕ) (p : Pair) (x : At) → done < length args → at ≡ length args - done - 1 → side p ≡ get_or args at x
+pub places-more : (side : Pair → At) (now next : List Pair) (old args : List At) (done at : ℕ) (p : Pair) (x : At) → done < length args
+    → at ≡ length args - done - 1 → side p ≡ get_or args at x
     → map side now ≡ old ++ take done (reverse args) → next ≡ now ++ p ∷ [] → map side next ≡ old ++ take (done + 1) (reverse args)
 places-more side now next old args done at p x l a e so_far is =
     let m : done < length (reverse args) = let q = length-reverse args in omega arith in
@@ -25,9 +27,14 @@ places-more side now next old args done at p x l a e so_far is =
     ∙ (append_assoc old (take done (reverse args)) (get_or (reverse args) done x ∷ []) ∙ ap (λ xs. old ++ xs) (sym (take_more (reverse args) done x m)))))
 
 -- the pairs of arguments, behind those that wait, are places of the banks
-pub inside-more : (mine theirs : Nodes) (old new : List Pair) (args others : List At) → AreInBanks mine theirs old → AllInTerms mine args → AllInTerms theirs others
+pub inside-more : (mine theirs : Nodes) (old new : List Pair) (args others : List At) → AreInBanks mine theirs old → AllInTerms mine args
+    → AllInTerms theirs others
     → lefts new ≡ lefts old ++ reverse args → rights new ≡ rights old ++ reverse others → AreInBanks mine theirs new
-inside-more mine theirs old new args others h a b l r = record { left = all mine (lefts old) (lefts new) args h.left a l; right = all theirs (rights old) (rights new) others h.right b r }
+inside-more mine theirs old new args others h a b l r = record {
+  left = all mine (lefts old) (lefts new) args h.left a l;
+  right =
+      all theirs (rights old) (rights new) others h.right b r;
+}
   where
     all : (nodes : Nodes) (old new args : List At) → AllInTerms nodes old → AllInTerms nodes args → new ≡ old ++ reverse args → AllInTerms nodes new
     all nodes old new args h a e = subst (AllInTerms nodes) (sym e) (All-append (λ (x : At). HasTerm nodes x.0) old (reverse args) h (λ k d l.
@@ -69,28 +76,35 @@ other-count h k ts us t u p q n e =
 
 map-reverse : (f : At → Term) (xs : List At) → map f (reverse xs) ≡ reverse (map f xs)
 map-reverse f [] = refl
-map-reverse f (x ∷ xs) = ap (map f) (reverse-append (x ∷ []) xs) ∙ (map-append f (reverse xs) (x ∷ []) ∙ (ap (λ ys. ys ++ f x ∷ []) (map-reverse f xs) ∙ sym (reverse-append (f x ∷ []) (map f xs))))
+map-reverse f (x ∷ xs) = ap (map f) (reverse-append (x ∷ []) xs)
+    ∙ (map-append f (reverse xs) (x ∷ []) ∙ (ap (λ ys. ys ++ f x ∷ []) (map-reverse f xs) ∙ sym (reverse-append (f x ∷ []) (map f xs))))
 
 -- one head with as many arguments
-module _ (mine theirs : Nodes) (old new : List Pair) (args others : List At) (n : length args ≡ length others) (l : lefts new ≡ lefts old ++ reverse args) (r : rights new ≡ rights old ++ reverse others) where
+module _ (mine theirs : Nodes) (old new : List Pair) (args others : List At) (n : length args ≡ length others) (l : lefts new ≡ lefts old ++ reverse args)
+    (r : rights new ≡ rights old ++ reverse others) where
   opened : (nodes : Nodes) (old new args : List At) → new ≡ old ++ reverse args → term_trees nodes new ≡ term_trees nodes old ++ reverse (term_trees nodes args)
   opened nodes old new args e =
-      ap (term_trees nodes) e ∙ (map-append (λ (a : At). term_tree nodes a.0) old (reverse args) ∙ ap (λ ts. term_trees nodes old ++ ts) (map-reverse (λ (a : At). term_tree nodes a.0) args))
+      ap (term_trees nodes) e ∙ (map-append (λ (a : At). term_tree nodes a.0) old (reverse args)
+      ∙ ap (λ ts. term_trees nodes old ++ ts) (map-reverse (λ (a : At). term_tree nodes a.0) args))
 
   count : length (term_trees mine (lefts old)) ≡ length (term_trees theirs (rights old))
   count =
       length-map (lefts old) (λ (a : At). term_tree mine a.0)
-      ∙ (length-map old (λ (p : Pair). p.left) ∙ (sym (length-map old (λ (p : Pair). p.right)) ∙ sym (length-map (rights old) (λ (a : At). term_tree theirs a.0))))
+      ∙ (length-map old (λ (p : Pair). p.left) ∙ (sym (length-map old (λ (p : Pair). p.right))
+      ∙ sym (length-map (rights old) (λ (a : At). term_tree theirs a.0))))
 
   arguments : length (term_trees mine args) ≡ length (term_trees theirs others)
   arguments = length-map args (λ (a : At). term_tree mine a.0) ∙ (n ∙ sym (length-map others (λ (a : At). term_tree theirs a.0)))
 
-  pub one-head : (h k : Head) (t u : Term) → t ≡ app h (term_trees mine args) → u ≡ app k (term_trees theirs others) → h ≡ k → (IsTrue true × AreEqual mine theirs new) ↔ (AreEqual mine theirs old × (t ≡ u))
+  pub one-head : (h k : Head) (t u : Term) → t ≡ app h (term_trees mine args) → u ≡ app k (term_trees theirs others) → h ≡ k
+      → (IsTrue true × AreEqual mine theirs new) ↔ (AreEqual mine theirs old × (t ≡ u))
   one-head h k t u p q same = (
     (λ e.
-        let s = split-two (term_trees mine (lefts old)) (term_trees theirs (rights old)) (reverse (term_trees mine args)) (reverse (term_trees theirs others)) count
+        let s = split-two (term_trees mine (lefts old)) (term_trees theirs (rights old)) (reverse (term_trees mine args)) (reverse (term_trees theirs others))
+        count
         (sym (opened mine (lefts old) (lefts new) args l) ∙ (e.1 ∙ opened theirs (rights old) (rights new) others r)) in
-        let a : term_trees mine args ≡ term_trees theirs others = sym (reverse-reverse (term_trees mine args)) ∙ (ap reverse s.1 ∙ reverse-reverse (term_trees theirs others)) in
+        let a : term_trees mine args ≡ term_trees theirs others =
+        sym (reverse-reverse (term_trees mine args)) ∙ (ap reverse s.1 ∙ reverse-reverse (term_trees theirs others)) in
         (s.0, p ∙ ((λ i. app (same i) (a i)) ∙ sym q))),
     λ e.
         let s = apply-parts (Con h) (Con k) (term_trees mine args) (term_trees theirs others) arguments (sym p ∙ (e.1 ∙ q)) in
@@ -107,5 +121,6 @@ module _ (mine theirs : Nodes) (now rest : List Pair) (p : Pair) (is : now ≡ r
   pub last-inside : AreInBanks mine theirs now → AreInBanks mine theirs rest × (HasTerm mine p.left.0 × HasTerm theirs p.right.0)
   last-inside h =
       let l = All-pop (λ (a : At). HasTerm mine a.0) (lefts now) (lefts rest) (Some p.left) (ap lefts is ∙ map_push (λ (q : Pair). q.left) rest p) h.left in
-      let r = All-pop (λ (a : At). HasTerm theirs a.0) (rights now) (rights rest) (Some p.right) (ap rights is ∙ map_push (λ (q : Pair). q.right) rest p) h.right in
+      let r = All-pop (λ (a : At). HasTerm theirs a.0) (rights now) (rights rest) (Some p.right) (ap rights is ∙ map_push (λ (q : Pair). q.right) rest p)
+      h.right in
       (record { left = l.0; right = r.0 }, (l.1, r.1))

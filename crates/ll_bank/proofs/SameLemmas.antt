@@ -11,7 +11,10 @@ use Rattle.ll_bank.specs.declared.flat.Span.{Span}
 use Rattle.ll_bank.specs.declared.flat.StoredTerm.{StoredTerm}
 use Rattle.ll_bank.specs.declared.flat.StoredTerm.TheVariants.{Var as StoredVar, Int as StoredInt, App as StoredApp}
 use Rattle.ll_bank.specs.declared.flat.StoredForm.{StoredForm}
-use Rattle.ll_bank.specs.declared.flat.StoredForm.TheVariants.{Top as StoredTop, One as StoredOne, Atom as StoredAtom, With as StoredWith, Tensor as StoredTensor, Plus as StoredPlus, Bang as StoredBang, Lolli as StoredLolli, Imp as StoredImp, Forall as StoredForall, Exists as StoredExists, Use as StoredUse, Is as StoredIs, Less as StoredLess, Most as StoredMost}
+use Rattle.ll_bank.specs.declared.flat.StoredForm.TheVariants.{Top as StoredTop, One as StoredOne, Atom as StoredAtom, With as StoredWith}
+use Rattle.ll_bank.specs.declared.flat.StoredForm.TheVariants.{Tensor as StoredTensor, Plus as StoredPlus, Bang as StoredBang, Lolli as StoredLolli}
+use Rattle.ll_bank.specs.declared.flat.StoredForm.TheVariants.{Imp as StoredImp, Forall as StoredForall, Exists as StoredExists, Use as StoredUse}
+use Rattle.ll_bank.specs.declared.flat.StoredForm.TheVariants.{Is as StoredIs, Less as StoredLess, Most as StoredMost}
 use Rattle.ll_bank.proofs.OpenLemmas.{same_heads}
 use Rattle.ll_bank.specs.contracts.HeadPartialEq.TheImpl.{eq-value as head_eq_value}
 use Rattle.ll_bank.specs.contracts.BankSizePartialEq.TheImpl.{eq-value as size_eq_value}
@@ -59,7 +62,8 @@ pub same_stored_term : (x y : StoredTerm) → (term_eq_value).it x y ≡ true �
 same_stored_term (StoredVar m) (StoredVar n) e = ap StoredVar (eqb-true m n e)
 same_stored_term (StoredInt m) (StoredInt n) e = ap StoredInt ((Decides-int_eq m n).0 e)
 same_stored_term (StoredApp d h s) (StoredApp b k t) e =
-    let p = and_parts (eqb d b) ((head_eq_value).it h k && (span_eq_value).it s t) e in let q = and_parts ((head_eq_value).it h k) ((span_eq_value).it s t) p.1 in
+    let p = and_parts (eqb d b) ((head_eq_value).it h k && (span_eq_value).it s t) e in
+    let q = and_parts ((head_eq_value).it h k) ((span_eq_value).it s t) p.1 in
     λ i. StoredApp (eqb-true d b p.0 i) (same_heads h k q.0 i) (same_span s t q.1 i)
 same_stored_term x y e = absurd (true≢false (sym e))
 

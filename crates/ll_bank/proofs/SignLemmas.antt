@@ -1,5 +1,6 @@
 -- Terms by numbers: a table of signs has one number for equal terms.
-use Rattle.std.proofs.Common.{◌≡◌, ◌≢◌, ℕ, zero, suc, ◌+◌, ◌<◌, Bool, true, false, eqb, if◌then◌else◌, List, [], ◌∷◌, ◌++◌, length, take, drop, get_or, refl, ap, sym, subst, ◌∙◌, inl, inr, arith, true≢false, Some, length-append, append_assoc}
+use Rattle.std.proofs.Common.{◌≡◌, ◌≢◌, ℕ, zero, suc, ◌+◌, ◌<◌, Bool, true, false, eqb, if◌then◌else◌, List, [], ◌∷◌, ◌++◌, length, take, drop, get_or, refl}
+use Rattle.std.proofs.Common.{ap, sym, subst, ◌∙◌, inl, inr, arith, true≢false, Some, length-append, append_assoc}
 use Rattle.std.specs.Prelude.{slice_get}
 use Rattle.std.specs.List.{list_any}
 use Rattle.std.proofs.Math.ListN.{get_or-append}
@@ -40,13 +41,15 @@ sign_refl (ApplySign f a) = and_from (eqb f f) (eqb a a) (eq-eqb f f refl) (eq-e
 -- a sign that is listed is found
 found_sign : (signs : List Sign) (sign d : Sign) (i : ℕ) → i < length signs → get_or signs i d ≡ sign → list_any ((eq-value).it sign) signs ≡ true
 found_sign [] sign d i l e = absurd (omega arith)
-found_sign (x ∷ signs) sign d zero l e = or_left ((eq-value).it sign x) (list_any ((eq-value).it sign) signs) (subst (λ y. (eq-value).it sign y ≡ true) (sym e) (sign_refl sign))
+found_sign (x ∷ signs) sign d zero l e = or_left ((eq-value).it sign x) (list_any ((eq-value).it sign) signs)
+    (subst (λ y. (eq-value).it sign y ≡ true) (sym e) (sign_refl sign))
 found_sign (x ∷ signs) sign d (suc i) l e = or_right ((eq-value).it sign x) (list_any ((eq-value).it sign) signs) (found_sign signs sign d i (omega arith) e)
 
 -- ---- tables
 
 -- parts below a number are below a greater one
-build_same : (trees trees' : List Term) (n : ℕ) → ((a : ℕ) → a < n → term_in trees a ≡ term_in trees' a) → (s : Sign) → IsSignBelow n s → build_sign trees s ≡ build_sign trees' s
+build_same : (trees trees' : List Term) (n : ℕ) → ((a : ℕ) → a < n → term_in trees a ≡ term_in trees' a) → (s : Sign) → IsSignBelow n s
+    → build_sign trees s ≡ build_sign trees' s
 build_same trees trees' n same (VarSign x) below = refl
 build_same trees trees' n same (IntSign z) below = refl
 build_same trees trees' n same (HeadSign h) below = refl
@@ -66,7 +69,8 @@ module _ (signs : List Sign) (table : IsTable signs) where
           (grow_kept build_sign (take i signs) (drop i signs) a (Var 0) (omega arith)))
 
   -- signs that build one term are one, where their parts with one term are one
-  same_built : (i j : ℕ) → ((a b : ℕ) → a < i → b < j → term_in (sign_terms signs) a ≡ term_in (sign_terms signs) b → a ≡ b) → (x y : Sign) → IsSignBelow i x → IsSignBelow j y
+  same_built : (i j : ℕ) → ((a b : ℕ) → a < i → b < j → term_in (sign_terms signs) a ≡ term_in (sign_terms signs) b → a ≡ b) → (x y : Sign) → IsSignBelow i x
+      → IsSignBelow j y
       → build_sign (sign_terms signs) x ≡ build_sign (sign_terms signs) y → x ≡ y
   same_built i j parts (VarSign m) (VarSign n) p q e = let k : m ≡ n = cc in ap VarSign k
   same_built i j parts (IntSign m) (IntSign n) p q e = let k : m ≡ n = cc in ap IntSign k
@@ -130,7 +134,8 @@ HasNumber-grows {a} {b} g n t h = record {
 }
 
 -- a sign was looked up, or put in
-module _ (old new : List Sign) (s : Sign) (table : IsTable old) (below : IsSignBelow (length old) s) (is : new ≡ (if list_any ((eq-value).it s) old then old else old ++ s ∷ [])) where
+module _ (old new : List Sign) (s : Sign) (table : IsTable old) (below : IsSignBelow (length old) s)
+    (is : new ≡ (if list_any ((eq-value).it s) old then old else old ++ s ∷ [])) where
   pub sign_grows : Grows old new
   sign_grows = by (list_any ((eq-value).it s) old) refl is
     where
@@ -157,8 +162,10 @@ pub same_number : (signs : List Sign) (i j : ℕ) (t u : Term) → HasNumber sig
 same_number signs i j t u h k e = sym h.is ∙ (ap (term_in (sign_terms signs)) e ∙ k.is)
 
 -- a head with one argument more
-pub number_more : (bank : Nodes) (at : ℕ) (args : List At) (i : ℕ) (old now next : List Sign) (n m a : ℕ) → (c : IsNumbering bank at args i old now n) → Grows now next → (d : At) → i < length args
-    → HasNumber now a (term_tree bank (get_or args i d).0) → HasNumber next m (build_sign (sign_terms now) (ApplySign n a)) → IsNumbering bank at args (i + 1) old next m
+pub number_more : (bank : Nodes) (at : ℕ) (args : List At) (i : ℕ) (old now next : List Sign) (n m a : ℕ) → (c : IsNumbering bank at args i old now n)
+    → Grows now next → (d : At) → i < length args
+    → HasNumber now a (term_tree bank (get_or args i d).0) → HasNumber next m (build_sign (sign_terms now) (ApplySign n a))
+    → IsNumbering bank at args (i + 1) old next m
 number_more bank at args i old now next n m a c grows d l arg h = record {
   head = c.head;
   node = c.node;

@@ -1,5 +1,6 @@
 -- A walk over the terms under some terms, step by step.
-use Rattle.std.proofs.Common.{◌≡◌, ◌≢◌, ℕ, zero, suc, ◌+◌, ◌-◌, ◌<◌, Bool, true, false, cond, eqb, ◌||◌, List, [], ◌∷◌, ◌++◌, length, reverse, All, get_or, take, refl, ap, sym, subst, ◌∙◌, inl, inr, arith, true≢false}
+use Rattle.std.proofs.Common.{◌≡◌, ◌≢◌, ℕ, zero, suc, ◌+◌, ◌-◌, ◌<◌, Bool, true, false, cond, eqb, ◌||◌, List, [], ◌∷◌, ◌++◌, length, reverse, All, get_or}
+use Rattle.std.proofs.Common.{take, refl, ap, sym, subst, ◌∙◌, inl, inr, arith, true≢false}
 use Rattle.std.specs.Ordering.{nat_cmp}
 use Rattle.std.specs.List.{list_any, Contains, slice_index, slice_get}
 use Rattle.std.specs.Prelude.{Some}
@@ -41,7 +42,8 @@ removed_less old new k h at e = by (is_at (nat_cmp k) at) (sym (h at) ∙ e)
     by false p = p
 
 -- one more of those put in
-pub more_any : (old now next : Bool) (at k : ℕ) (xs : List ℕ) → now ≡ (old || list_any (eqb at) xs) → next ≡ (now || eqb at k) → next ≡ (old || list_any (eqb at) (xs ++ k ∷ []))
+pub more_any : (old now next : Bool) (at k : ℕ) (xs : List ℕ) → now ≡ (old || list_any (eqb at) xs) → next ≡ (now || eqb at k)
+    → next ≡ (old || list_any (eqb at) (xs ++ k ∷ []))
 more_any old now next at k xs e f = f ∙ (ap (λ b. b || eqb at k) e ∙ by old (list_any (eqb at) xs) ∙ ap (λ b. old || b) (sym (any_push xs)))
   where
     any_push : (ys : List ℕ) → list_any (eqb at) (ys ++ k ∷ []) ≡ (list_any (eqb at) ys || eqb at k)
@@ -52,7 +54,8 @@ more_any old now next at k xs e f = f ∙ (ap (λ b. b || eqb at k) e ∙ by old
         last false = refl
     any_push (y ∷ ys) = rest (eqb at y) (any_push ys)
       where
-        rest : (b : Bool) → list_any (eqb at) (ys ++ k ∷ []) ≡ (list_any (eqb at) ys || eqb at k) → (b || list_any (eqb at) (ys ++ k ∷ [])) ≡ ((b || list_any (eqb at) ys) || eqb at k)
+        rest : (b : Bool) → list_any (eqb at) (ys ++ k ∷ []) ≡ (list_any (eqb at) ys || eqb at k)
+            → (b || list_any (eqb at) (ys ++ k ∷ [])) ≡ ((b || list_any (eqb at) ys) || eqb at k)
         rest true h = refl
         rest false h = h
 
@@ -63,18 +66,23 @@ more_any old now next at k xs e f = f ∙ (ap (λ b. b || eqb at k) e ∙ by old
 -- ---- the walk
 
 -- it begins with the roots
-pub walk_begins : (nodes : Nodes) (roots : List At) (waits : ℕ → Bool) → AllInTerms nodes roots → ((at : ℕ) → waits at ≡ (false || list_any (eqb at) (places roots))) → IsWalking nodes roots waits []
+pub walk_begins : (nodes : Nodes) (roots : List At) (waits : ℕ → Bool) → AllInTerms nodes roots
+    → ((at : ℕ) → waits at ≡ (false || list_any (eqb at) (places roots))) → IsWalking nodes roots waits []
 walk_begins nodes roots waits all is = record {
   inside = λ k d l. absurd (omega arith);
   waiting = λ at h. any_below (places roots) at (length nodes.terms) (below_places (length nodes.terms) roots all) (sym (is at) ∙ h);
   behind = λ i a l. absurd (omega arith);
-  rooted = λ k d l unseen. absurd (unseen (is (get_or roots k d).0 ∙ any_from_Contains (places roots) (get_or roots k d).0 k d.0 (simp length-map l) (get_or-map (λ (a : At). a.0) roots k d)));
+  rooted =
+      λ k d l unseen. absurd (unseen (is (get_or roots k d).0
+      ∙ any_from_Contains (places roots) (get_or roots k d).0 k d.0 (simp length-map l) (get_or-map (λ (a : At). a.0) roots k d)));
 }
 
 -- it goes on with the greatest place that waits, whose arguments then wait
-module _ (nodes : Nodes) (roots : List At) (waits popped next : ℕ → Bool) (places : List ℕ) (p : ℕ) (w : IsWalking nodes roots waits places) (member : waits p ≡ true)
+module _ (nodes : Nodes) (roots : List At) (waits popped next : ℕ
+    → Bool) (places : List ℕ) (p : ℕ) (w : IsWalking nodes roots waits places) (member : waits p ≡ true)
     (other : (at : ℕ) → at ≢ p → popped at ≡ waits at) (less : (at : ℕ) → popped at ≡ true → waits at ≡ true)
-    (ins : (at : ℕ) → next at ≡ (popped at || list_any (eqb at) (arguments_of (term_node_at nodes p)))) (lower : All (λ a. a < p) (arguments_of (term_node_at nodes p))) where
+    (ins : (at : ℕ) → next at ≡ (popped at || list_any (eqb at) (arguments_of (term_node_at nodes p))))
+    (lower : All (λ a. a < p) (arguments_of (term_node_at nodes p))) where
   -- what does not wait now did not wait before, unless it is this place
   not_before : (a : ℕ) → a ≢ p → next a ≢ true → waits a ≢ true
   not_before a ne unseen h = unseen (ins a ∙ or_left (popped a) (list_any (eqb a) (arguments_of (term_node_at nodes p))) (other a ne ∙ h))
@@ -94,7 +102,8 @@ module _ (nodes : Nodes) (roots : List At) (waits popped next : ℕ → Bool) (p
     | inr h ↦
         let e : length places ≡ i = (let q = length_push places p in omega arith) in
         let here = subst (λ k. Contains (arguments_of (term_node_at nodes k)) a) (get_or_push places p 0 i e) has in
-        absurd (unseen (ins a ∙ or_right (popped a) (list_any (eqb a) (arguments_of (term_node_at nodes p))) (any_from_Contains (arguments_of (term_node_at nodes p)) a here.0 a here.1 here.2)))
+        absurd (unseen (ins a ∙ or_right (popped a) (list_any (eqb a) (arguments_of (term_node_at nodes p)))
+        (any_from_Contains (arguments_of (term_node_at nodes p)) a here.0 a here.1 here.2)))
   ]
 
   pub walk_on : IsWalking nodes roots next (places ++ p ∷ [])
@@ -108,24 +117,36 @@ module _ (nodes : Nodes) (roots : List At) (waits popped next : ℕ → Bool) (p
     rooted = λ k d l unseen. elim (cases_eq (get_or roots k d).0 p) [
       | inl e ↦ (length places, (let q = length_push places p in omega arith), get_or_push places p (get_or roots k d).0 (length places) refl ∙ sym e)
       | inr ne ↦
-          let found = w.rooted k d l (not_before (get_or roots k d).0 ne unseen) in
-          (found.0, (let q = length_push places p in let m = found.1 in omega arith), get_or-append places (p ∷ []) (get_or roots k d).0 found.0 found.1 ∙ found.2)
+          let found = w.rooted k d l (not_before (get_or roots k d).0 ne unseen) in (
+            found.0,
+            (let q = length_push places p in let m = found.1 in omega arith),
+            get_or-append places (p ∷ []) (get_or roots k d).0 found.0 found.1 ∙ found.2,
+          )
     ];
   }
 
 -- at its end nothing waits, and the places stand the other way round
-module _ (nodes : Nodes) (roots : List At) (waits : ℕ → Bool) (places : List ℕ) (w : IsWalking nodes roots waits places) (none : (at : ℕ) → waits at ≢ true) where
+module _ (nodes : Nodes) (roots : List At) (waits : ℕ → Bool) (places : List ℕ) (w : IsWalking nodes roots waits places) (none : (at : ℕ)
+    → waits at ≢ true) where
   turned : (i d : ℕ) → i < length places → get_or (reverse places) i d ≡ get_or places (length places - 1 - i) d
   turned i d l = get_or-reverse places i d l
 
   pub walk_ends : IsInOrder nodes (reverse places)
   walk_ends = record {
-    inside = λ k d l. let n = length-reverse places in subst (λ z. z < length nodes.terms) (sym (turned k d (omega arith))) (w.inside (length places - 1 - k) d (omega arith));
+    inside = λ k d l. let n = length-reverse places in subst (λ z. z < length nodes.terms) (sym (turned k d (omega arith)))
+        (w.inside (length places - 1 - k) d (omega arith));
     before = λ i a l has.
         let n = length-reverse places in
-        let found = w.behind (length places - 1 - i) a (omega arith) (subst (λ k. Contains (arguments_of (term_node_at nodes k)) a) (turned i 0 (omega arith)) has) (none a) in
-        let m = found.1.0 in let o = found.1.1.0 in
-        (length places - 1 - found.0, ((omega arith), turned (length places - 1 - found.0) 0 (omega arith) ∙ (ap (slice_index places) (let q : length places - 1 - (length places - 1 - found.0) ≡ found.0 = omega arith in q) ∙ found.1.1.1)));
+        let found = w.behind (length places - 1 - i) a (omega arith)
+        (subst (λ k. Contains (arguments_of (term_node_at nodes k)) a) (turned i 0 (omega arith)) has) (none a) in
+        let m = found.1.0 in let o = found.1.1.0 in (
+          length places - 1 - found.0,
+          (
+            (omega arith),
+            turned (length places - 1 - found.0) 0 (omega arith)
+                ∙ (ap (slice_index places) (let q : length places - 1 - (length places - 1 - found.0) ≡ found.0 = omega arith in q) ∙ found.1.1.1),
+          ),
+        );
   }
 
   pub walk_roots : All (λ root. Contains (reverse places) root.0) roots
@@ -134,12 +155,14 @@ module _ (nodes : Nodes) (roots : List At) (waits : ℕ → Bool) (places : List
         length places - 1 - found.0,
         (omega arith),
         turned (length places - 1 - found.0) (get_or roots k d).0 (omega arith)
-            ∙ (ap (λ z. get_or places z (get_or roots k d).0) (let q : length places - 1 - (length places - 1 - found.0) ≡ found.0 = omega arith in q) ∙ found.2),
+            ∙ (ap (λ z. get_or places z (get_or roots k d).0) (let q : length places - 1 - (length places - 1 - found.0) ≡ found.0 = omega arith in q)
+            ∙ found.2),
       )
 
 -- each step lowers what waits
 pub ceiling_falls : (old popped next : List ℕ) (p : ℕ) (args : List ℕ) → old ≡ popped ++ p ∷ [] → All (λ q. IsLtBy nat_cmp q p) popped
-    → ((at : ℕ) → list_any (is_at (nat_cmp at)) next ≡ (list_any (is_at (nat_cmp at)) popped || list_any (eqb at) args)) → All (λ a. a < p) args → ceiling next < ceiling old
+    → ((at : ℕ) → list_any (is_at (nat_cmp at)) next ≡ (list_any (is_at (nat_cmp at)) popped || list_any (eqb at) args)) → All (λ a. a < p) args
+    → ceiling next < ceiling old
 ceiling_falls old popped next p args is below ins lower =
     let a = ceiling-le next p (λ k d l. elim (or_cases (list_any (is_at (nat_cmp (get_or next k d))) popped) (list_any (eqb (get_or next k d)) args)
     (sym (ins (get_or next k d)) ∙ has_at next (get_or next k d) k d l refl)) [
@@ -150,7 +173,8 @@ ceiling_falls old popped next p args is below ins lower =
 
 -- one more place of a list
 pub places_more : (ats : List At) (i : ℕ) (d : At) → i < length ats → take (i + 1) (places ats) ≡ take i (places ats) ++ (get_or ats i d).0 ∷ []
-places_more ats i d l = take-map (λ (a : At). a.0) (i + 1) ats ∙ (map_more (λ (a : At). a.0) ats i d l ∙ ap (λ xs. xs ++ (get_or ats i d).0 ∷ []) (sym (take-map (λ (a : At). a.0) i ats)))
+places_more ats i d l = take-map (λ (a : At). a.0) (i + 1) ats
+    ∙ (map_more (λ (a : At). a.0) ats i d l ∙ ap (λ xs. xs ++ (get_or ats i d).0 ∷ []) (sym (take-map (λ (a : At). a.0) i ats)))
 
 -- the node that is seen at a place is the one that stands there
 pub node_seen : (nodes : Nodes) (at : ℕ) (n : TermNode) → slice_get nodes.terms at ≡ Some n → term_node_at nodes at ≡ n

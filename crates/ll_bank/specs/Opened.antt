@@ -1,5 +1,6 @@
 -- A quantifier's body with a term in place of its bound place: the images of its parts, and the stack of those that get theirs.
-use Rattle.std.specs.Prelude.{◌≡◌, ◌⊎◌, ◌<◌, ◌≤◌, ℕ, zero, suc, ◌+◌, true, false, List, [], ◌∷◌, map, All, Option, Some, None, IsSome, sum_by, slice_index_or, if◌then◌else◌}
+use Rattle.std.specs.Prelude.{◌≡◌, ◌⊎◌, ◌<◌, ◌≤◌, ℕ, zero, suc, ◌+◌, true, false, List, [], ◌∷◌, map, All, Option, Some, None, IsSome, sum_by, slice_index_or}
+use Rattle.std.specs.Prelude.{if◌then◌else◌}
 use Rattle.std.specs.Ordering.{nat_cmp, ordering_then}
 use Rattle.std.specs.declared.cmp.Ordering.{Ordering}
 use Rattle.ll_bank.specs.declared.At.{At}
@@ -7,7 +8,8 @@ use Rattle.ll_bank.specs.declared.FormAt.{FormAt}
 use Rattle.ll_bank.specs.declared.open.Task.{Task}
 use Rattle.ll_bank.specs.Term.{Term, Ap, Env, close, applies_heads}
 use Rattle.ll_bank.specs.Form.{Form, With, Tensor, Plus, Bang, Lolli, Imp, Forall, Exists, Use, close_form, form_applies_heads}
-use Rattle.ll_bank.specs.Nodes.{Nodes, TermNode, FormulaNode, TopNode, WithNode, TensorNode, PlusNode, BangNode, LolliNode, ImpNode, ForallNode, ExistsNode, UseNode, term_tree, form_tree, HasTerm, HasForm, ShowsTerm, ShowsForm}
+use Rattle.ll_bank.specs.Nodes.{Nodes, TermNode, FormulaNode, TopNode, WithNode, TensorNode, PlusNode, BangNode, LolliNode, ImpNode, ForallNode, ExistsNode}
+use Rattle.ll_bank.specs.Nodes.{UseNode, term_tree, form_tree, HasTerm, HasForm, ShowsTerm, ShowsForm}
 use Rattle.ll_bank.specs.Walk.{arguments_of, term_node_at}
 
 -- what stands for the bound places so many quantifiers inside a body that is opened with a term

@@ -3,13 +3,19 @@ use Rattle.std.specs.Prelude.{◌≡◌, ℕ, ◌+◌, ◌≤◌, List, [], ◌�
 use Rattle.std.specs.Int.{w64}
 use Rattle.ll_bank.specs.declared.At.{At}
 use Rattle.ll_bank.specs.declared.FormNode.{FormNode}
-use Rattle.ll_bank.specs.declared.FormNode.TheVariants.{Top as TopView, One as OneView, Atom as AtomView, With as WithView, Tensor as TensorView, Plus as PlusView, Bang as BangView, Lolli as LolliView, Imp as ImpView, Forall as ForallView, Exists as ExistsView, Use as UseView, Is as IsView, Less as LessView, Most as MostView}
+use Rattle.ll_bank.specs.declared.FormNode.TheVariants.{Top as TopView, One as OneView, Atom as AtomView, With as WithView, Tensor as TensorView}
+use Rattle.ll_bank.specs.declared.FormNode.TheVariants.{Plus as PlusView, Bang as BangView, Lolli as LolliView, Imp as ImpView, Forall as ForallView}
+use Rattle.ll_bank.specs.declared.FormNode.TheVariants.{Exists as ExistsView, Use as UseView, Is as IsView, Less as LessView, Most as MostView}
 use Rattle.ll_bank.specs.declared.flat.Span.{Span}
 use Rattle.ll_bank.specs.declared.flat.StoredTerm.{StoredTerm}
 use Rattle.ll_bank.specs.declared.flat.StoredTerm.TheVariants.{Var as StoredVar, Int as StoredInt, App as StoredApp}
 use Rattle.ll_bank.specs.declared.flat.StoredForm.{StoredForm}
-use Rattle.ll_bank.specs.declared.flat.StoredForm.TheVariants.{Top as StoredTop, One as StoredOne, Atom as StoredAtom, With as StoredWith, Tensor as StoredTensor, Plus as StoredPlus, Bang as StoredBang, Lolli as StoredLolli, Imp as StoredImp, Forall as StoredForall, Exists as StoredExists, Use as StoredUse, Is as StoredIs, Less as StoredLess, Most as StoredMost}
-use Rattle.ll_bank.specs.Nodes.{Nodes, TermNode, VarNode, IntNode, AppNode, FormulaNode, TopNode, OneNode, AtomNode, WithNode, TensorNode, PlusNode, BangNode, LolliNode, ImpNode, ForallNode, ExistsNode, UseNode, NumNode, places}
+use Rattle.ll_bank.specs.declared.flat.StoredForm.TheVariants.{Top as StoredTop, One as StoredOne, Atom as StoredAtom, With as StoredWith}
+use Rattle.ll_bank.specs.declared.flat.StoredForm.TheVariants.{Tensor as StoredTensor, Plus as StoredPlus, Bang as StoredBang, Lolli as StoredLolli}
+use Rattle.ll_bank.specs.declared.flat.StoredForm.TheVariants.{Imp as StoredImp, Forall as StoredForall, Exists as StoredExists, Use as StoredUse}
+use Rattle.ll_bank.specs.declared.flat.StoredForm.TheVariants.{Is as StoredIs, Less as StoredLess, Most as StoredMost}
+use Rattle.ll_bank.specs.Nodes.{Nodes, TermNode, VarNode, IntNode, AppNode, FormulaNode, TopNode, OneNode, AtomNode, WithNode, TensorNode, PlusNode, BangNode}
+use Rattle.ll_bank.specs.Nodes.{LolliNode, ImpNode, ForallNode, ExistsNode, UseNode, NumNode, places}
 use Rattle.ll_bank.specs.Form.{Is, Less, Most}
 use Rattle.ll_bank.specs.Kept.{DeepNodes}
 

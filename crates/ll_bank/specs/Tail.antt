@@ -1,7 +1,8 @@
 -- The nodes of a bank between two of its sizes, and a bank that takes them over.
 use Rattle.std.specs.Prelude.{◌≡◌, ℕ, ◌+◌, ◌<◌, ◌++◌, List, length, take, drop, slice_index_or}
 use Rattle.ll_bank.specs.declared.BankSize.{BankSize}
-use Rattle.ll_bank.specs.Nodes.{Nodes, TermNode, FormulaNode, build_term, build_form, term_tree, form_tree, HasTerm, HasForm, IsTermBelow, IsFormBelow, Extends, size_of, HasSize}
+use Rattle.ll_bank.specs.Nodes.{Nodes, TermNode, FormulaNode, build_term, build_form, term_tree, form_tree, HasTerm, HasForm, IsTermBelow, IsFormBelow}
+use Rattle.ll_bank.specs.Nodes.{Extends, size_of, HasSize}
 use Rattle.ll_bank.specs.Kept.{all_terms, all_forms}
 
 -- two sizes, and nodes whose parts are places of a bank
@@ -39,7 +40,8 @@ with_nodes nodes more = record { terms = nodes.terms ++ more.terms; forms = node
 -- each place shows the tree that its node builds over the trees of the bank
 pub record IsBuilt (nodes : Nodes) : Type 0 where
   pub terms : (at : ℕ) (d : TermNode) → HasTerm nodes at → term_tree nodes at ≡ build_term (all_terms nodes) (slice_index_or nodes.terms at d)
-  pub forms : (at : ℕ) (d : FormulaNode) → HasForm nodes at → form_tree nodes at ≡ build_form (term_tree nodes) (all_forms nodes) (slice_index_or nodes.forms at d)
+  pub forms : (at : ℕ) (d : FormulaNode) → HasForm nodes at → form_tree nodes at
+      ≡ build_form (term_tree nodes) (all_forms nodes) (slice_index_or nodes.forms at d)
 
 -- two banks show the same trees at the places of a size
 pub record SameTrees (size : BankSize) (bank other : Nodes) : Type 0 where

@@ -1,7 +1,9 @@
 //! Terms and formulas, each at a place.
 ghost use Rattle.std.specs.Prelude.{◌≡◌, ◌<◌, length, Some, IfOk, OnOk, OnErr, IsTrue, All, slice_get};
 ghost use Rattle.ll_bank.specs.Term.{Var as VarTerm, Int as IntTerm, app as app_term, term_depth};
-ghost use Rattle.ll_bank.specs.Nodes.{no_nodes, VarNode, IntNode, AppNode, places, node_of_term, node_of, with_term, with_form, term_tree, term_trees, form_of, HasTerm, HasForm, AllInTerms, HasParts, ShowsTerm, ShowsForm, Extends, IsTermView, IsFormView, IsTermBelow, size_of, HasSize, IsCutTo};
+ghost use Rattle.ll_bank.specs.Nodes.{no_nodes, VarNode, IntNode, AppNode, places, node_of_term, node_of, with_term, with_form, term_tree, term_trees};
+ghost use Rattle.ll_bank.specs.Nodes.{form_of, HasTerm, HasForm, AllInTerms, HasParts, ShowsTerm, ShowsForm, Extends, IsTermView, IsFormView, IsTermBelow};
+ghost use Rattle.ll_bank.specs.Nodes.{size_of, HasSize, IsCutTo};
 ghost use Rattle.ll_bank.specs.Kept.{depth_over};
 
 use crate::flat::{Flat, in_32_bits};

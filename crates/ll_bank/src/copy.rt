@@ -38,7 +38,8 @@ fn copied(
     other: &mut Bank,
 ) -> Result<At, OutOfMemory>
     requires inside { HasTerm bank.now at.0 }
-    requires images { (a : ℕ) → Contains (arguments_of (term_node_at bank.now at.0)) a → HasImage (ShowsAt other.old) (get nat_cmp images.now) a (term_tree bank.now a) }
+    requires images { (a : ℕ) → Contains (arguments_of (term_node_at bank.now at.0)) a
+        → HasImage (ShowsAt other.old) (get nat_cmp images.now) a (term_tree bank.now a) }
     ensures shows { IfOk result (λ copy. ShowsTerm other.new copy.0 (term_tree bank.now at.0)) }
     ensures keeps { Extends other.old other.new }
 {

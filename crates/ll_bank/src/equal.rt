@@ -73,7 +73,8 @@ fn number_at(
 ) -> Result<usize, OutOfMemory>
     requires inside { HasTerm bank.now at.0 }
     requires table { IsTable signs.old.keys }
-    requires numbers { (a : ℕ) → Contains (arguments_of (term_node_at bank.now at.0)) a → HasImage (HasNumber signs.old.keys) (get nat_cmp numbers.now) a (term_tree bank.now a) }
+    requires numbers { (a : ℕ) → Contains (arguments_of (term_node_at bank.now at.0)) a
+        → HasImage (HasNumber signs.old.keys) (get nat_cmp numbers.now) a (term_tree bank.now a) }
     ensures grows { OnOk result (Grows signs.old.keys signs.new.keys) }
     ensures number { IfOk result (λ n. HasNumber signs.new.keys n (term_tree bank.now at.0)) }
 {

@@ -4,7 +4,8 @@ ghost use Rattle.std.specs.BTreeMap.{get};
 ghost use Rattle.ll_bank.specs.Term.{close, close_head, place, app as app_term, apply, applies_heads};
 ghost use Rattle.ll_bank.specs.Form.{close_form, instantiate, form_applies_heads};
 ghost use Rattle.ll_bank.specs.Nodes.{term_tree, form_tree, term_trees, form_of, HasTerm, HasForm, AllInTerms, HasParts, ShowsTerm, ShowsForm, Extends};
-ghost use Rattle.ll_bank.specs.Opened.{Spot, by_spot, opened, visit, IsIn, IsKnown, AreImages, IsTermImage, IsFormImage, ShowsImage, ShowsFormImage, IsTermGood, IsFormGood, ArePartsOf, term_parts_at, form_parts_at, term_size_at, form_size_at};
+ghost use Rattle.ll_bank.specs.Opened.{Spot, by_spot, opened, visit, IsIn, IsKnown, AreImages, IsTermImage, IsFormImage, ShowsImage, ShowsFormImage};
+ghost use Rattle.ll_bank.specs.Opened.{IsTermGood, IsFormGood, ArePartsOf, term_parts_at, form_parts_at, term_size_at, form_size_at};
 
 use crate::{At, Bank, FormAt, FormNode, Head, OutOfMemory, TermView};
 use std::alloc::Global;
@@ -68,8 +69,10 @@ fn root_task(place: usize) -> Task
 fn push_form(bank: &Bank, task: Task, tasks: &mut Vec<Task>) -> Result<(), OutOfMemory>
     requires inside { HasForm bank.now task.place }
     requires level { task.place + task.level ≤ 18446744073709551615 }
-    ensures pushed { OnOk result (tasks.new.items ≡ tasks.old.items ++ record { place = task.place; level = task.level; ready = true } ∷ map visit (form_parts_at bank.now (task.place, task.level))) }
-    ensures parts { OnOk result (ArePartsOf (form_size_at bank.now) (IsFormGood bank.now) (task.place, task.level) (form_parts_at bank.now (task.place, task.level))) }
+    ensures pushed { OnOk result (tasks.new.items ≡ tasks.old.items ++ record { place = task.place; level = task.level; ready = true }
+        ∷ map visit (form_parts_at bank.now (task.place, task.level))) }
+    ensures parts { OnOk result (ArePartsOf (form_size_at bank.now) (IsFormGood bank.now) (task.place, task.level)
+        (form_parts_at bank.now (task.place, task.level))) }
 {
     tasks.push(Task {
         ready: true,
@@ -259,7 +262,8 @@ fn open_terms(
     requires heads { All (λ a. applies_heads (close (opened (term_tree bank.old value.0) level) (term_tree bank.old a.0)) ≡ true) terms.now }
     requires images { AreImages (IsTermImage bank.old (term_tree bank.old value.0)) (get by_spot images.old) }
     ensures places { IfOk result (λ made. AllInTerms bank.new made.items) }
-    ensures shows { IfOk result (λ made. term_trees bank.new made.items ≡ map (close (opened (term_tree bank.old value.0) level)) (term_trees bank.old terms.now)) }
+    ensures shows { IfOk result (λ made. term_trees bank.new made.items
+        ≡ map (close (opened (term_tree bank.old value.0) level)) (term_trees bank.old terms.now)) }
     ensures images { OnOk result (AreImages (IsTermImage bank.new (term_tree bank.old value.0)) (get by_spot images.new)) }
     ensures keeps { Extends bank.old bank.new }
 {
@@ -307,8 +311,10 @@ fn open_term(
 /// Puts the arguments of a term on the stack, above the term itself, which is then ready.
 fn push_term(bank: &Bank, task: Task, tasks: &mut Vec<Task>) -> Result<(), OutOfMemory>
     requires { HasTerm bank.now task.place }
-    ensures pushed { OnOk result (tasks.new.items ≡ tasks.old.items ++ record { place = task.place; level = task.level; ready = true } ∷ map visit (term_parts_at bank.now (task.place, task.level))) }
-    ensures parts { OnOk result (ArePartsOf (term_size_at bank.now) (IsTermGood bank.now) (task.place, task.level) (term_parts_at bank.now (task.place, task.level))) }
+    ensures pushed { OnOk result (tasks.new.items ≡ tasks.old.items ++ record { place = task.place; level = task.level; ready = true }
+        ∷ map visit (term_parts_at bank.now (task.place, task.level))) }
+    ensures parts { OnOk result (ArePartsOf (term_size_at bank.now) (IsTermGood bank.now) (task.place, task.level)
+        (term_parts_at bank.now (task.place, task.level))) }
 {
     tasks.push(Task {
         ready: true,
@@ -399,7 +405,8 @@ fn open_head(
     requires value { HasTerm bank.old value.0 }
     requires places { AllInTerms bank.old args.now }
     requires heads { applies_heads (apply (close_head (opened (term_tree bank.old value.0) level) head) (term_trees bank.old args.now)) ≡ true }
-    ensures shows { IfOk result (λ image. ShowsTerm bank.new image.0 (apply (close_head (opened (term_tree bank.old value.0) level) head) (term_trees bank.old args.now))) }
+    ensures shows { IfOk result (λ image. ShowsTerm bank.new image.0
+        (apply (close_head (opened (term_tree bank.old value.0) level) head) (term_trees bank.old args.now))) }
     ensures keeps { Extends bank.old bank.new }
 {
     match head {
@@ -422,7 +429,8 @@ fn open_bound(
     requires value { HasTerm bank.old value.0 }
     requires places { AllInTerms bank.old args.now }
     requires heads { applies_heads (apply (place (opened (term_tree bank.old value.0) level) bound 0) (term_trees bank.old args.now)) ≡ true }
-    ensures shows { IfOk result (λ image. ShowsTerm bank.new image.0 (apply (place (opened (term_tree bank.old value.0) level) bound 0) (term_trees bank.old args.now))) }
+    ensures shows { IfOk result (λ image. ShowsTerm bank.new image.0
+        (apply (place (opened (term_tree bank.old value.0) level) bound 0) (term_trees bank.old args.now))) }
     ensures keeps { Extends bank.old bank.new }
 {
     if bound as usize == level {

@@ -66,7 +66,8 @@ fn open(
     requires right { HasTerm other.now pair.right.0 }
     requires inside { AreInBanks bank.now other.now pairs.old.items }
     ensures inside { OnOk result (AreInBanks bank.now other.now pairs.new.items) }
-    ensures equal { IfOk result (λ same. (IsTrue same × AreEqual bank.now other.now pairs.new.items) ↔ (AreEqual bank.now other.now pairs.old.items × (term_tree bank.now pair.left.0 ≡ term_tree other.now pair.right.0))) }
+    ensures equal { IfOk result (λ same. (IsTrue same × AreEqual bank.now other.now pairs.new.items)
+        ↔ (AreEqual bank.now other.now pairs.old.items × (term_tree bank.now pair.left.0 ≡ term_tree other.now pair.right.0))) }
 {
     match bank.term_at(pair.left) {
         TermView::Var(number) => match other.term_at(pair.right) {

@@ -116,7 +116,8 @@ fn add_terms(bank: &mut Bank, flat: &Flat) -> Result<(), OutOfMemory>
 
 /// Puts the formulas behind those of the bank. After a refusal the bank may have some of them.
 fn add_forms(bank: &mut Bank, flat: &Flat) -> Result<(), OutOfMemory>
-    requires { (i : ℕ) (d : FormulaNode) → i < length flat.now.nodes.forms → IsFormBelow (length bank.old.terms) (length bank.old.forms + i) (slice_index_or flat.now.nodes.forms i d) }
+    requires { (i : ℕ) (d : FormulaNode) → i < length flat.now.nodes.forms
+        → IsFormBelow (length bank.old.terms) (length bank.old.forms + i) (slice_index_or flat.now.nodes.forms i d) }
     ensures keeps { Extends bank.old bank.new }
     ensures added { OnOk result (bank.new ≡ with_forms bank.old flat.now.nodes.forms) }
 {

@@ -1,5 +1,6 @@
 -- How an atom is matched with the head of a clause.
-use Rattle.std.proofs.Common.{◌≡◌, ℕ, suc, ◌+◌, ◌-◌, ◌<◌, Bool, true, false, List, [], ◌∷◌, ◌++◌, length, map, drop, get_or, All, refl, ap, sym, subst, ◌∙◌, arith, nat_eq}
+use Rattle.std.proofs.Common.{◌≡◌, ℕ, suc, ◌+◌, ◌-◌, ◌<◌, Bool, true, false, List, [], ◌∷◌, ◌++◌, length, map, drop, get_or, All, refl, ap, sym, subst, ◌∙◌}
+use Rattle.std.proofs.Common.{arith, nat_eq}
 use Rattle.std.specs.Prelude.{ℤ, not, ◌&&◌, reverse, slice_index, Option, None, option_map}
 use Rattle.std.proofs.lemmas.Bool.{eq-eqb, ne_eqb, or_left, or_right}
 use Rattle.std.proofs.Math.Bool.{and-false}
@@ -9,9 +10,11 @@ use Rattle.std.proofs.Math.Seq.{drop-cons}
 use Rattle.ll_bank.specs.declared.At.{At}
 use Rattle.ll_bank.specs.declared.Head.{Head}
 use Rattle.ll_bank.specs.declared.Head.TheVariants.{Name, Eigen, Bound}
-use Rattle.ll_bank.specs.Term.{Term, Var, Int, Con, Ap, Env, sub, app, apply, close, close_head, place, applies_heads, not_bound, occurs, same_predicate, head_eq}
+use Rattle.ll_bank.specs.Term.{Term, Var, Int, Con, Ap, Env, sub, app, apply, close, close_head, place, applies_heads, not_bound, occurs, same_predicate}
+use Rattle.ll_bank.specs.Term.{head_eq}
 use Rattle.ll_bank.specs.Nodes.{Nodes, HasTerm, AllInTerms, ShowsTerm, Extends, term_tree, term_trees}
-use Rattle.ll_bank.proofs.CallerLemmas.{Extends-refl, Extends-trans, HasTerm-extends, term_tree-extends, AllInTerms-extends, close-apply, heads_args, length-term_trees}
+use Rattle.ll_bank.proofs.CallerLemmas.{Extends-refl, Extends-trans, HasTerm-extends, term_tree-extends, AllInTerms-extends, close-apply, heads_args}
+use Rattle.ll_bank.proofs.CallerLemmas.{length-term_trees}
 use Rattle.ll_laws.specs.Unify.{and_then, diff, diff_lists, Solved, solve}
 use Rattle.ll_laws.proofs.CallerLemmas.{head_eq-refl}
 use Rattle.ll_close.specs.Closing.{env_of}
@@ -23,7 +26,9 @@ use Rattle.ll_bindings.specs.Pairs.{Alike}
 use Rattle.ll_bindings.specs.Scanned.{is_bad}
 use Rattle.ll_bindings.specs.Fresh.{AreClear, AreFresh, LeavesFresh}
 use Rattle.ll_bindings.specs.Solving.{along, Solves, Settled, Settles, IsAnswer, wanted, spare}
-use Rattle.ll_bindings.proofs.CallerLemmas.{found-bound, found-extends, place-extends, args_in-app, weight-two, diff-spine, diff-clash, diff-append, shape-app, spine-place, clash-int-app, solves-alike, solves-none, solves-clash, solves-start, fresh-keeps, clear-args, clear-join, clear-same}
+use Rattle.ll_bindings.proofs.CallerLemmas.{found-bound, found-extends, place-extends, args_in-app, weight-two, diff-spine, diff-clash, diff-append, shape-app}
+use Rattle.ll_bindings.proofs.CallerLemmas.{spine-place, clash-int-app, solves-alike, solves-none, solves-clash, solves-start, fresh-keeps, clear-args}
+use Rattle.ll_bindings.proofs.CallerLemmas.{clear-join, clear-same}
 use Rattle.ll_store.specs.declared.store.Store.{Store}
 use Rattle.ll_store.specs.Stored.{Stored, stored, KeepsMarks}
 use Rattle.ll_store.specs.Trails.{Grows}
@@ -43,10 +48,12 @@ one_item before items e n h = reversed items before e h ∙ ap (λ z. e ∷ reve
 equate_none : (ats cts : List At) (n : ℕ) → length ats ≡ n → equate (drop n ats) cts ≡ []
 equate_none ats cts n e = ap (λ z. equate z cts) (drop_all n ats (omega arith))
 
-pub equate_begin : (ats cts : List At) (base : List Equation) → length ats ≡ length cts → reverse base ≡ equate (drop (length cts) ats) (drop (length cts) cts) ++ reverse base
+pub equate_begin : (ats cts : List At) (base : List Equation) → length ats ≡ length cts
+    → reverse base ≡ equate (drop (length cts) ats) (drop (length cts) cts) ++ reverse base
 equate_begin ats cts base e = ap (λ z. z ++ reverse base) (sym (equate_none ats (drop (length cts) cts) (length cts) e))
 
-pub equate_more : (ats cts : List At) (i j : ℕ) (d : At) (base now next : List Equation) → i ≡ j + 1 → j < length cts → length ats ≡ length cts → reverse now ≡ equate (drop i ats) (drop i cts) ++ reverse base
+pub equate_more : (ats cts : List At) (i j : ℕ) (d : At) (base now next : List Equation) → i ≡ j + 1 → j < length cts → length ats ≡ length cts
+    → reverse now ≡ equate (drop i ats) (drop i cts) ++ reverse base
     → next ≡ now ++ (record { place = get_or ats j d; pattern = get_or cts j d }) ∷ [] → reverse next ≡ equate (drop j ats) (drop j cts) ++ reverse base
 equate_more ats cts i j d base now next q l n h e =
     let x : Equation = record { place = get_or ats j d; pattern = get_or cts j d } in
@@ -57,13 +64,15 @@ equate_more ats cts i j d base now next q l n h e =
 -- ---- what equations show
 
 module _ (nodes : Nodes) (env : Env) where
-  terms_equate : (ats cts : List At) (es : List Equation) → length ats ≡ length cts → terms_of nodes (equate ats cts ++ es) ≡ term_trees nodes ats ++ terms_of nodes es
+  terms_equate : (ats cts : List At) (es : List Equation) → length ats ≡ length cts
+      → terms_of nodes (equate ats cts ++ es) ≡ term_trees nodes ats ++ terms_of nodes es
   terms_equate [] [] es n = refl
   terms_equate [] (b ∷ cts) es n = absurd (omega arith)
   terms_equate (a ∷ ats) [] es n = absurd (omega arith)
   terms_equate (a ∷ ats) (b ∷ cts) es n = ap (λ ts. term_tree nodes a.0 ∷ ts) (terms_equate ats cts es (omega arith))
 
-  closed_equate : (ats cts : List At) (es : List Equation) → length ats ≡ length cts → closed_of nodes env (equate ats cts ++ es) ≡ map (close env) (term_trees nodes cts) ++ closed_of nodes env es
+  closed_equate : (ats cts : List At) (es : List Equation) → length ats ≡ length cts
+      → closed_of nodes env (equate ats cts ++ es) ≡ map (close env) (term_trees nodes cts) ++ closed_of nodes env es
   closed_equate [] [] es n = refl
   closed_equate [] (b ∷ cts) es n = absurd (omega arith)
   closed_equate (a ∷ ats) [] es n = absurd (omega arith)
@@ -89,8 +98,10 @@ module _ (nodes : Nodes) (t : Table) where
   cells_apply f (u ∷ us) h =
       let r = cells_apply (Ap f u) us h in (λ y q. r.0 y (reaches_head y f u q), (λ y q. r.0 y (reaches_last y f u q), r.1))
 
-  args_equations : (env : Env) (ats cts : List At) (m n : ℕ) (es : List Equation) → HasTerm nodes m → HasTerm nodes n → All (λ (a : At). a.0 < m) ats → All (λ (b : At). b.0 < n) cts
-      → AllCells (term_trees nodes ats) → All (λ u. applies_heads u ≡ true) (map (close env) (term_trees nodes cts)) → AllCells (map (close env) (term_trees nodes cts)) → AreEquations nodes t env es
+  args_equations : (env : Env) (ats cts : List At) (m n : ℕ) (es : List Equation) → HasTerm nodes m → HasTerm nodes n → All (λ (a : At). a.0 < m) ats
+      → All (λ (b : At). b.0 < n) cts
+      → AllCells (term_trees nodes ats) → All (λ u. applies_heads u ≡ true) (map (close env) (term_trees nodes cts))
+      → AllCells (map (close env) (term_trees nodes cts)) → AreEquations nodes t env es
       → AreEquations nodes t env (equate ats cts ++ es)
   args_equations env [] cts m n es hm hn lm ln cm hb cb k = k
   args_equations env (a ∷ ats) [] m n es hm hn lm ln cm hb cb k = k
@@ -113,11 +124,17 @@ close_fixed env (Eigen n) ts e = close-apply env (Con (Eigen n)) ts
 close_fixed env (Bound n) ts e = cc
 
 -- a value of a bound place
-pub value_shows : (nodes : Nodes) (values : List At) (k i : ℕ) (d : At) → AllInTerms nodes values → k < length values → i ≡ length values - 1 - k → ShowsTerm nodes (get_or values i d).0 (place (env_of nodes values) k 0)
-value_shows nodes values k i d h l e = record { inside = h i d (omega arith); tree = sym (head_value nodes values 0 k i d (omega arith) (omega arith) (omega arith)) }
+pub value_shows : (nodes : Nodes) (values : List At) (k i : ℕ) (d : At) → AllInTerms nodes values → k < length values → i ≡ length values - 1 - k
+    → ShowsTerm nodes (get_or values i d).0 (place (env_of nodes values) k 0)
+value_shows nodes values k i d h l e = record {
+  inside = h i d (omega arith);
+  tree =
+      sym (head_value nodes values 0 k i d (omega arith) (omega arith) (omega arith));
+}
 
 -- a head without arguments
-pub shows_bare : (nodes : Nodes) (values : List At) (at : ℕ) (u : Term) (h : Head) (ats : List At) → u ≡ app h (term_trees nodes ats) → length ats ≡ 0 → ShowsTerm nodes at (close_head (env_of nodes values) h) → ShowsTerm nodes at (close (env_of nodes values) u)
+pub shows_bare : (nodes : Nodes) (values : List At) (at : ℕ) (u : Term) (h : Head) (ats : List At) → u ≡ app h (term_trees nodes ats) → length ats ≡ 0
+    → ShowsTerm nodes at (close_head (env_of nodes values) h) → ShowsTerm nodes at (close (env_of nodes values) u)
 shows_bare nodes values at u h [] e n s = subst (λ w. ShowsTerm nodes at (close (env_of nodes values) w)) (sym e) s
 shows_bare nodes values at u h (a ∷ ats) e n s = absurd (omega arith)
 
@@ -127,28 +144,35 @@ fixed (Eigen n) b e f = refl
 fixed (Bound n) b e f = cc
 
 -- two heads, or two numbers of arguments
-pub apart_heads : (nodes : Nodes) (place pattern : ℕ) (h k : Head) (ats cts : List At) → not_bound k ≡ true → term_tree nodes place ≡ app h (term_trees nodes ats) → term_tree nodes pattern ≡ app k (term_trees nodes cts)
+pub apart_heads : (nodes : Nodes) (place pattern : ℕ) (h k : Head) (ats cts : List At) → not_bound k ≡ true
+    → term_tree nodes place ≡ app h (term_trees nodes ats) → term_tree nodes pattern ≡ app k (term_trees nodes cts)
     → head_eq h k ≡ false → AreApart nodes place pattern
 apart_heads nodes place pattern h k ats cts f p q e env s =
     let r = ap (close env) q ∙ close_fixed env k (term_trees nodes cts) f in
-    diff-clash s (term_tree nodes place) (close env (term_tree nodes pattern)) (spine-place (term_tree nodes place) h (term_trees nodes ats) p) (spine-place (close env (term_tree nodes pattern)) k (map (close env) (term_trees nodes cts)) r)
+    diff-clash s (term_tree nodes place) (close env (term_tree nodes pattern)) (spine-place (term_tree nodes place) h (term_trees nodes ats) p)
+    (spine-place (close env (term_tree nodes pattern)) k (map (close env) (term_trees nodes cts)) r)
     (shape-app (term_tree nodes place) (close env (term_tree nodes pattern)) h k (term_trees nodes ats) (map (close env) (term_trees nodes cts)) p r
     ∙ ap (λ b. b && nat_eq (length (term_trees nodes ats)) (length (map (close env) (term_trees nodes cts)))) e)
 
 length_closed : (nodes : Nodes) (env : Env) (cts : List At) → length (map (close env) (term_trees nodes cts)) ≡ length cts
 length_closed nodes env cts = length-map (term_trees nodes cts) (close env) ∙ length-term_trees nodes cts
 
-pub apart_lengths : (nodes : Nodes) (place pattern : ℕ) (h k : Head) (ats cts : List At) → not_bound k ≡ true → term_tree nodes place ≡ app h (term_trees nodes ats) → term_tree nodes pattern ≡ app k (term_trees nodes cts)
+pub apart_lengths : (nodes : Nodes) (place pattern : ℕ) (h k : Head) (ats cts : List At) → not_bound k ≡ true
+    → term_tree nodes place ≡ app h (term_trees nodes ats) → term_tree nodes pattern ≡ app k (term_trees nodes cts)
     → (length ats ≡ length cts → ⊥) → AreApart nodes place pattern
 apart_lengths nodes place pattern h k ats cts f p q n env s =
     let r = ap (close env) q ∙ close_fixed env k (term_trees nodes cts) f in
-    diff-clash s (term_tree nodes place) (close env (term_tree nodes pattern)) (spine-place (term_tree nodes place) h (term_trees nodes ats) p) (spine-place (close env (term_tree nodes pattern)) k (map (close env) (term_trees nodes cts)) r)
+    diff-clash s (term_tree nodes place) (close env (term_tree nodes pattern)) (spine-place (term_tree nodes place) h (term_trees nodes ats) p)
+    (spine-place (close env (term_tree nodes pattern)) k (map (close env) (term_trees nodes cts)) r)
     (shape-app (term_tree nodes place) (close env (term_tree nodes pattern)) h k (term_trees nodes ats) (map (close env) (term_trees nodes cts)) p r
-    ∙ (ap (λ b. head_eq h k && b) (ne_eqb (length (term_trees nodes ats)) (length (map (close env) (term_trees nodes cts))) (λ e. n (sym (length-term_trees nodes ats) ∙ (e ∙ length_closed nodes env cts)))) ∙ and-false (head_eq h k)))
+    ∙ (ap (λ b. head_eq h k && b) (ne_eqb (length (term_trees nodes ats)) (length (map (close env) (term_trees nodes cts)))
+    (λ e. n (sym (length-term_trees nodes ats) ∙ (e ∙ length_closed nodes env cts)))) ∙ and-false (head_eq h k)))
 
-pub apart_int : (nodes : Nodes) (place pattern : ℕ) (z : ℤ) (k : Head) (cts : List At) → not_bound k ≡ true → term_tree nodes place ≡ Int z → term_tree nodes pattern ≡ app k (term_trees nodes cts) → AreApart nodes place pattern
+pub apart_int : (nodes : Nodes) (place pattern : ℕ) (z : ℤ) (k : Head) (cts : List At) → not_bound k ≡ true → term_tree nodes place ≡ Int z
+    → term_tree nodes pattern ≡ app k (term_trees nodes cts) → AreApart nodes place pattern
 apart_int nodes place pattern z k cts f p q env s =
-    clash-int-app (term_tree nodes place) (close env (term_tree nodes pattern)) z k (map (close env) (term_trees nodes cts)) s p (ap (close env) q ∙ close_fixed env k (term_trees nodes cts) f)
+    clash-int-app (term_tree nodes place) (close env (term_tree nodes pattern)) z k (map (close env) (term_trees nodes cts)) s p
+    (ap (close env) q ∙ close_fixed env k (term_trees nodes cts) f)
 
 -- ---- a bank that grew
 
@@ -182,7 +206,8 @@ module _ (old new : Nodes) (t : Table) (tb : IsTable old t) (e : Extends old new
     place = place-extends old new t q.place.0 tb e h.place;
     inside = HasTerm-extends e q.pattern.0 h.inside;
     heads = ap (λ u. applies_heads (close env u)) (term_tree-extends e q.pattern.0 h.inside) ∙ h.heads;
-    vars = subst (λ u. HasCells new t (close env u)) (sym (term_tree-extends e q.pattern.0 h.inside)) (cells_more (close env (term_tree old q.pattern.0)) h.vars);
+    vars = subst (λ u. HasCells new t (close env u)) (sym (term_tree-extends e q.pattern.0 h.inside))
+        (cells_more (close env (term_tree old q.pattern.0)) h.vars);
   }
 
   pub equations_more : (env : Env) (es : List Equation) → AreEquations old t env es → AreEquations new t env es
@@ -215,7 +240,8 @@ marks_more old new e g =
     marks_then (stored old) mid (stored new) (marks-extend (stored old) new.bank e) (marks-grow mid (stored new) g.more refl g.changes g.back)
 
 -- the equations are those of a later table
-keep_cells : (nodes : Nodes) (old new : Table) (env : Env) (es : List Equation) → KeepsCells nodes old new → AreEquations nodes old env es → AreEquations nodes new env es
+keep_cells : (nodes : Nodes) (old new : Table) (env : Env) (es : List Equation) → KeepsCells nodes old new → AreEquations nodes old env es
+    → AreEquations nodes new env es
 keep_cells nodes old new env [] k h = tt
 keep_cells nodes old new env (q ∷ es) k h = (
   record {
@@ -240,13 +266,16 @@ pub record IsMatching (first nodes : Nodes) (start now : Table) (goal : Option S
   pub fresh : AreFresh nodes now f (terms_of nodes es)
 
 -- the next equation
-pub matching_top : (first nodes : Nodes) (start now : Table) (goal : Option Solved) (f : Fresh) (values : List At) (items before : List Equation) (q : Equation) → items ≡ before ++ q ∷ []
+pub matching_top : (first nodes : Nodes) (start now : Table) (goal : Option Solved) (f : Fresh) (values : List At) (items before : List Equation) (q : Equation)
+    → items ≡ before ++ q ∷ []
     → IsMatching first nodes start now goal f values (reverse items) → IsMatching first nodes start now goal f values (q ∷ reverse before)
 matching_top first nodes start now goal f values items before q e h = subst (IsMatching first nodes start now goal f values) (reversed items before q e) h
 
-pub matching_begins : (nodes : Nodes) (start : Table) (f : Fresh) (values : List At) (q : Equation) → IsTable nodes start → AllInTerms nodes values → IsEquation nodes start (env_of nodes values) q
+pub matching_begins : (nodes : Nodes) (start : Table) (f : Fresh) (values : List At) (q : Equation) → IsTable nodes start → AllInTerms nodes values
+    → IsEquation nodes start (env_of nodes values) q
     → AreFresh nodes start f (term_tree nodes q.place.0 ∷ [])
-    → IsMatching nodes nodes start start (wanted nodes start (term_tree nodes q.place.0 ∷ []) (close (env_of nodes values) (term_tree nodes q.pattern.0) ∷ [])) f values (q ∷ [])
+    → IsMatching nodes nodes start start (wanted nodes start (term_tree nodes q.place.0 ∷ []) (close (env_of nodes values) (term_tree nodes q.pattern.0) ∷ []))
+    f values (q ∷ [])
 matching_begins nodes start f values q tb v h k = record {
   extends = Extends-refl nodes;
   table = tb;
@@ -258,7 +287,8 @@ matching_begins nodes start f values q tb v h k = record {
 }
 
 module _ (first nodes : Nodes) (start now : Table) (goal : Option Solved) (f : Fresh) (values : List At) (q : Equation) (es : List Equation)
-    (m : IsMatching first nodes start now goal f values (q ∷ es)) (end : At) (en : IsEnd nodes now end.0) (same : AreSame nodes now (term_tree nodes end.0) (term_tree nodes q.place.0)) where
+    (m : IsMatching first nodes start now goal f values (q ∷ es)) (end : At) (en : IsEnd nodes now end.0)
+    (same : AreSame nodes now (term_tree nodes end.0) (term_tree nodes q.place.0)) where
   abbrev env : Env
   env = env_of first values
 
@@ -284,10 +314,13 @@ module _ (first nodes : Nodes) (start now : Table) (goal : Option Solved) (f : F
     opens_alike s ob =
         ap (λ d. and_then d (diff_lists (map (sub s) (terms_of nodes es)) (map (sub s) (closed_of nodes env es))))
         ((λ i. diff (sym (same s ob) i) (sub s pattern_tree)) ∙ (diff-spine s (term_tree nodes end.0) pattern_tree predicate
-        ∙ (λ i. diff_lists (map (sub s) ((ap args_in o.term ∙ args_in-app o.head (term_trees nodes o.places)) i)) (map (sub s) ((ap args_in shut ∙ args_in-app o.head (map (close env) (term_trees nodes o.patterns))) i)))))
-        ∙ (sym (diff-append (map (sub s) (term_trees nodes o.places)) (map (sub s) (map (close env) (term_trees nodes o.patterns))) (map (sub s) (terms_of nodes es)) (map (sub s) (closed_of nodes env es))
+        ∙ (λ i. diff_lists (map (sub s) ((ap args_in o.term ∙ args_in-app o.head (term_trees nodes o.places)) i))
+        (map (sub s) ((ap args_in shut ∙ args_in-app o.head (map (close env) (term_trees nodes o.patterns))) i)))))
+        ∙ (sym (diff-append (map (sub s) (term_trees nodes o.places)) (map (sub s) (map (close env) (term_trees nodes o.patterns)))
+        (map (sub s) (terms_of nodes es)) (map (sub s) (closed_of nodes env es))
         (length-map (term_trees nodes o.places) (sub s) ∙ (even_trees ∙ sym (length-map (map (close env) (term_trees nodes o.patterns)) (sub s)))))
-        ∙ (λ i. diff_lists (sym (map-append (sub s) (term_trees nodes o.places) (terms_of nodes es)) i) (sym (map-append (sub s) (map (close env) (term_trees nodes o.patterns)) (closed_of nodes env es)) i)))
+        ∙ (λ i. diff_lists (sym (map-append (sub s) (term_trees nodes o.places) (terms_of nodes es)) i)
+        (sym (map-append (sub s) (map (close env) (term_trees nodes o.patterns)) (closed_of nodes env es)) i)))
 
     pub matching_opens : IsMatching first nodes start now goal f values (reverse new)
     matching_opens = subst (IsMatching first nodes start now goal f values) (sym (o.pushed ∙ ap (λ z. equate o.places o.patterns ++ z) below)) (record {
@@ -299,15 +332,21 @@ module _ (first nodes : Nodes) (start now : Table) (goal : Option Solved) (f : F
           args_equations nodes now env o.places o.patterns end.0 q.pattern.0 es en.place.inside m.equations.0.inside o.places_below o.patterns_below
           (cells_apply nodes now (Con o.head) (term_trees nodes o.places) (subst (HasCells nodes now) o.term en.place.vars)).1
           (heads_args (Con o.head) (map (close env) (term_trees nodes o.patterns)) (ap applies_heads (sym shut) ∙ m.equations.0.heads))
-          (cells_apply nodes now (Con o.head) (map (close env) (term_trees nodes o.patterns)) (subst (HasCells nodes now) shut m.equations.0.vars)).1 m.equations.1;
+          (cells_apply nodes now (Con o.head) (map (close env) (term_trees nodes o.patterns)) (subst (HasCells nodes now) shut m.equations.0.vars)).1
+          m.equations.1;
       solves = (let ts = term_trees nodes o.places ++ terms_of nodes es in
-          subst (λ ls. Solves nodes now (spare start) goal ls (closed_of nodes env (equate o.places o.patterns ++ es))) (sym (terms_equate nodes env o.places o.patterns es o.even))
+          subst (λ ls. Solves nodes now (spare start) goal ls (closed_of nodes env (equate o.places o.patterns ++ es)))
+          (sym (terms_equate nodes env o.places o.patterns es o.even))
           (subst (Solves nodes now (spare start) goal ts) (sym (closed_equate nodes env o.places o.patterns es o.even))
-          (solves-alike nodes now (spare start) goal (term_tree nodes q.place.0 ∷ terms_of nodes es) (pattern_tree ∷ closed_of nodes env es) ts (map (close env) (term_trees nodes o.patterns) ++ closed_of nodes env es) m.table opens_alike m.solves)));
+          (solves-alike nodes now (spare start) goal (term_tree nodes q.place.0 ∷ terms_of nodes es) (pattern_tree ∷ closed_of nodes env es) ts
+          (map (close env) (term_trees nodes o.patterns) ++ closed_of nodes env es) m.table opens_alike m.solves)));
       fresh = subst (AreFresh nodes now f) (sym (terms_equate nodes env o.places o.patterns es o.even))
-          (fresh-keeps nodes now f (term_tree nodes q.place.0 ∷ terms_of nodes es) (term_trees nodes o.places ++ terms_of nodes es) (λ x l c. clear-join (found nodes now) x l (term_trees nodes o.places) (terms_of nodes es)
+          (fresh-keeps nodes now f (term_tree nodes q.place.0 ∷ terms_of nodes es) (term_trees nodes o.places ++ terms_of nodes es)
+          (λ x l c. clear-join (found nodes now) x l (term_trees nodes o.places) (terms_of nodes es)
           (subst (AreClear (found nodes now) x l) (ap args_in o.term ∙ args_in-app o.head (term_trees nodes o.places))
-          (clear-args (found nodes now) x l (term_tree nodes end.0) (clear-same (found nodes now) x l (term_tree nodes q.place.0) (term_tree nodes end.0) [] (same (found nodes now) (λ x at e. found-bound nodes now x at m.table e)) (c.0, tt)).0)) c.1) m.fresh);
+          (clear-args (found nodes now) x l (term_tree nodes end.0)
+          (clear-same (found nodes now) x l (term_tree nodes q.place.0) (term_tree nodes end.0) []
+          (same (found nodes now) (λ x at e. found-bound nodes now x at m.table e)) (c.0, tt)).0)) c.1) m.fresh);
     })
 
   -- ---- two terms that clash
@@ -315,7 +354,8 @@ module _ (first nodes : Nodes) (start now : Table) (goal : Option Solved) (f : F
   pub matching_clashes : AreApart nodes end.0 q.pattern.0 → goal ≡ None
   matching_clashes a =
       solves-clash nodes now (spare start) goal (term_tree nodes q.place.0 ∷ terms_of nodes es) (pattern_tree ∷ closed_of nodes env es) m.table
-      (λ s ob. ap (λ d. and_then d (diff_lists (map (sub s) (terms_of nodes es)) (map (sub s) (closed_of nodes env es)))) ((λ i. diff (sym (same s ob) i) (sub s pattern_tree)) ∙ a env s)) m.solves
+      (λ s ob. ap (λ d. and_then d (diff_lists (map (sub s) (terms_of nodes es)) (map (sub s) (closed_of nodes env es))))
+      ((λ i. diff (sym (same s ob) i) (sub s pattern_tree)) ∙ a env s)) m.solves
 
   -- ---- a pattern that is closed
 
@@ -331,12 +371,15 @@ module _ (first nodes : Nodes) (start now : Table) (goal : Option Solved) (f : F
   pub meets_vars : HasCells nodes now (close (env_of nodes values) (term_tree nodes q.pattern.0))
   meets_vars = subst (λ z. HasCells nodes now (close z (term_tree nodes q.pattern.0))) (sym env_now) m.equations.0.vars
 
-  at_end : Alike nodes now (term_tree nodes q.place.0 ∷ terms_of nodes es) (pattern_tree ∷ closed_of nodes env es) (term_tree nodes end.0 ∷ terms_of nodes es) (pattern_tree ∷ closed_of nodes env es)
-  at_end s ob = λ i. and_then (diff (sym (same s ob) i) (sub s pattern_tree)) (diff_lists (map (sub s) (terms_of nodes es)) (map (sub s) (closed_of nodes env es)))
+  at_end : Alike nodes now (term_tree nodes q.place.0 ∷ terms_of nodes es) (pattern_tree ∷ closed_of nodes env es) (term_tree nodes end.0 ∷ terms_of nodes es)
+      (pattern_tree ∷ closed_of nodes env es)
+  at_end s ob = λ i. and_then (diff (sym (same s ob) i) (sub s pattern_tree))
+      (diff_lists (map (sub s) (terms_of nodes es)) (map (sub s) (closed_of nodes env es)))
 
   fresh_end : AreFresh nodes now f (term_tree nodes end.0 ∷ terms_of nodes es)
   fresh_end = fresh-keeps nodes now f (term_tree nodes q.place.0 ∷ terms_of nodes es) (term_tree nodes end.0 ∷ terms_of nodes es)
-      (λ x l c. clear-same (found nodes now) x l (term_tree nodes q.place.0) (term_tree nodes end.0) (terms_of nodes es) (same (found nodes now) (λ x at e. found-bound nodes now x at m.table e)) c) m.fresh
+      (λ x l c. clear-same (found nodes now) x l (term_tree nodes q.place.0) (term_tree nodes end.0) (terms_of nodes es)
+      (same (found nodes now) (λ x at e. found-bound nodes now x at m.table e)) c) m.fresh
 
   pub meets_fresh : AreFresh nodes now f (term_tree nodes end.0 ∷ [])
   meets_fresh = fresh-keeps nodes now f (term_tree nodes end.0 ∷ terms_of nodes es) (term_tree nodes end.0 ∷ []) (λ x l c. (c.0, tt)) fresh_end
@@ -345,16 +388,21 @@ module _ (first nodes : Nodes) (start now : Table) (goal : Option Solved) (f : F
     grown : Solves next now (spare start) goal (term_tree nodes end.0 ∷ terms_of nodes es) (pattern_tree ∷ closed_of nodes env es)
     grown =
         solves_more nodes next now m.table e (spare start) goal (term_tree nodes end.0 ∷ terms_of nodes es) (pattern_tree ∷ closed_of nodes env es)
-        (solves-alike nodes now (spare start) goal (term_tree nodes q.place.0 ∷ terms_of nodes es) (pattern_tree ∷ closed_of nodes env es) (term_tree nodes end.0 ∷ terms_of nodes es) (pattern_tree ∷ closed_of nodes env es) m.table at_end m.solves)
+        (solves-alike nodes now (spare start) goal (term_tree nodes q.place.0 ∷ terms_of nodes es) (pattern_tree ∷ closed_of nodes env es)
+        (term_tree nodes end.0 ∷ terms_of nodes es) (pattern_tree ∷ closed_of nodes env es) m.table at_end m.solves)
 
-    pub matching_refused : Settles next now new (term_tree nodes end.0 ∷ []) (close (env_of nodes values) (term_tree nodes q.pattern.0) ∷ []) false → goal ≡ None
+    pub matching_refused : Settles next now new (term_tree nodes end.0 ∷ []) (close (env_of nodes values) (term_tree nodes q.pattern.0) ∷ []) false
+        → goal ≡ None
     matching_refused h =
-        subst (λ z. Settles next now new (term_tree nodes end.0 ∷ []) (close z (term_tree nodes q.pattern.0) ∷ []) false) env_now h (spare start) goal (terms_of nodes es) (closed_of nodes env es) grown
+        subst (λ z. Settles next now new (term_tree nodes end.0 ∷ []) (close z (term_tree nodes q.pattern.0) ∷ []) false) env_now h (spare start) goal
+        (terms_of nodes es) (closed_of nodes env es) grown
 
-    pub matching_meets : (g : Fresh) → Settles next now new (term_tree nodes end.0 ∷ []) (close (env_of nodes values) (term_tree nodes q.pattern.0) ∷ []) true → LeavesFresh next now new f g (term_tree nodes end.0 ∷ []) []
+    pub matching_meets : (g : Fresh) → Settles next now new (term_tree nodes end.0 ∷ []) (close (env_of nodes values) (term_tree nodes q.pattern.0) ∷ []) true
+        → LeavesFresh next now new f g (term_tree nodes end.0 ∷ []) []
         → IsMatching first next start new goal g values es
     matching_meets g h l =
-        let s : Settled next now new (term_tree nodes end.0 ∷ []) (pattern_tree ∷ []) = subst (λ z. Settled next now new (term_tree nodes end.0 ∷ []) (close z (term_tree nodes q.pattern.0) ∷ [])) env_now h in
+        let s : Settled next now new (term_tree nodes end.0 ∷ []) (pattern_tree ∷ []) =
+        subst (λ z. Settled next now new (term_tree nodes end.0 ∷ []) (close z (term_tree nodes q.pattern.0) ∷ [])) env_now h in
         let ts = terms_more nodes next now m.table e env es m.equations.1 in
         let cs = closed_more nodes next now m.table e env es m.equations.1 in
         record {
@@ -367,12 +415,19 @@ module _ (first nodes : Nodes) (start now : Table) (goal : Option Solved) (f : F
               subst (λ ls. Solves next new (spare start) goal ls (closed_of next env es)) ts
               (subst (λ rs. Solves next new (spare start) goal (terms_of nodes es) rs) cs
               (s.solves (spare start) goal (terms_of nodes es) (closed_of nodes env es) grown)));
-          fresh = subst (AreFresh next new g) ts (l (terms_of nodes es) (fresh_more nodes next now m.table e f (term_tree nodes end.0 ∷ terms_of nodes es) fresh_end));
+          fresh = subst (AreFresh next new g) ts (l (terms_of nodes es)
+              (fresh_more nodes next now m.table e f (term_tree nodes end.0 ∷ terms_of nodes es) fresh_end));
         }
 
 -- nothing is pending
-pub matching_ends : (first nodes : Nodes) (start now : Table) (goal : Option Solved) (f : Fresh) (values : List At) → IsMatching first nodes start now goal f values [] → IsAnswer nodes start now goal
-matching_ends first nodes start now goal f values m = record { is = solves-none nodes now (spare start) goal m.solves; table = m.table; same_count = m.same_count }
+pub matching_ends : (first nodes : Nodes) (start now : Table) (goal : Option Solved) (f : Fresh) (values : List At)
+    → IsMatching first nodes start now goal f values [] → IsAnswer nodes start now goal
+matching_ends first nodes start now goal f values m = record {
+  is = solves-none nodes now (spare start) goal m.solves;
+  table = m.table;
+  same_count =
+      m.same_count;
+}
 
 -- ---- the weight of what is pending
 
@@ -388,13 +443,15 @@ weight_apply : (f : Term) (us : List Term) → weight (apply f us) ≡ weight f 
 weight_apply f [] = omega arith
 weight_apply f (u ∷ us) = let e = weight_apply (Ap f u) us in omega arith
 
-weight_equate : (nodes : Nodes) (ats cts : List At) (es : List Equation) → length ats ≡ length cts → patterns_weight nodes (equate ats cts ++ es) ≡ trees_weight (term_trees nodes cts) + patterns_weight nodes es
+weight_equate : (nodes : Nodes) (ats cts : List At) (es : List Equation) → length ats ≡ length cts
+    → patterns_weight nodes (equate ats cts ++ es) ≡ trees_weight (term_trees nodes cts) + patterns_weight nodes es
 weight_equate nodes [] [] es n = omega arith
 weight_equate nodes [] (b ∷ cts) es n = absurd (omega arith)
 weight_equate nodes (a ∷ ats) [] es n = absurd (omega arith)
 weight_equate nodes (a ∷ ats) (b ∷ cts) es n = let e = weight_equate nodes ats cts es (omega arith) in omega arith
 
-pub weight_opens : (nodes : Nodes) (place : ℕ) (q : Equation) (items old new : List Equation) → items ≡ old ++ q ∷ [] → AreOpened nodes place q.pattern.0 old new → patterns_weight nodes (reverse new) < patterns_weight nodes (reverse items)
+pub weight_opens : (nodes : Nodes) (place : ℕ) (q : Equation) (items old new : List Equation) → items ≡ old ++ q ∷ []
+    → AreOpened nodes place q.pattern.0 old new → patterns_weight nodes (reverse new) < patterns_weight nodes (reverse items)
 weight_opens nodes place q items old new h o =
     let a = ap (patterns_weight nodes) o.pushed in
     let b = weight_equate nodes o.places o.patterns (reverse old) o.even in
@@ -402,7 +459,8 @@ weight_opens nodes place q items old new h o =
     let d = ap weight o.shape ∙ weight_apply (Con o.head) (term_trees nodes o.patterns) in
     omega arith
 
-pub weight_meets : (nodes next : Nodes) (t : Table) (env : Env) (q : Equation) (items old : List Equation) → Extends nodes next → AreEquations nodes t env (reverse old) → items ≡ old ++ q ∷ []
+pub weight_meets : (nodes next : Nodes) (t : Table) (env : Env) (q : Equation) (items old : List Equation) → Extends nodes next
+    → AreEquations nodes t env (reverse old) → items ≡ old ++ q ∷ []
     → patterns_weight next (reverse old) < patterns_weight nodes (reverse items)
 weight_meets nodes next t env q items old e h i =
     let a = same (reverse old) h in

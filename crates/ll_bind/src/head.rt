@@ -190,8 +190,10 @@ fn meet(
     requires heads { applies_heads (close (env_of store.old.bank values.now) (term_tree store.old.bank pattern.0)) ≡ true }
     requires vars { HasCells store.old.bank (table_of store.old.cells.cells) (close (env_of store.old.bank values.now) (term_tree store.old.bank pattern.0)) }
     requires fresh { AreFresh store.old.bank (table_of store.old.cells.cells) fresh.old (term_tree store.old.bank place.0 ∷ []) }
-    ensures settles { IfOk result (Settles store.new.bank (table_of store.old.cells.cells) (table_of store.new.cells.cells) (term_tree store.old.bank place.0 ∷ []) (close (env_of store.old.bank values.now) (term_tree store.old.bank pattern.0) ∷ [])) }
-    ensures fresh { IfOk result (λ good. good ≡ true → LeavesFresh store.new.bank (table_of store.old.cells.cells) (table_of store.new.cells.cells) fresh.old fresh.new (term_tree store.old.bank place.0 ∷ []) []) }
+    ensures settles { IfOk result (Settles store.new.bank (table_of store.old.cells.cells) (table_of store.new.cells.cells)
+        (term_tree store.old.bank place.0 ∷ []) (close (env_of store.old.bank values.now) (term_tree store.old.bank pattern.0) ∷ [])) }
+    ensures fresh { IfOk result (λ good. good ≡ true → LeavesFresh store.new.bank (table_of store.old.cells.cells) (table_of store.new.cells.cells) fresh.old
+        fresh.new (term_tree store.old.bank place.0 ∷ []) []) }
     ensures keeps { Extends store.old.bank store.new.bank }
     ensures marks { KeepsMarks (stored store.old) (stored store.new) }
 {
@@ -224,8 +226,11 @@ pub fn unify_head(
     requires values { AllInTerms store.old.bank values.now }
     requires heads { applies_heads (close (env_of store.old.bank values.now) (term_tree store.old.bank head.0)) ≡ true }
     requires vars { HasCells store.old.bank (table_of store.old.cells.cells) (close (env_of store.old.bank values.now) (term_tree store.old.bank head.0)) }
-    requires new { (x : ℕ) → first ≤ x → x < count (table_of store.old.cells.cells) → StandsNowhere store.old.bank (table_of store.old.cells.cells) (term_tree store.old.bank atom.0 ∷ []) x }
-    ensures solved { IfOk result (IsSolved store.new.bank (table_of store.old.cells.cells) (table_of store.new.cells.cells) (wanted store.old.bank (table_of store.old.cells.cells) (term_tree store.old.bank atom.0 ∷ []) (close (env_of store.old.bank values.now) (term_tree store.old.bank head.0) ∷ []))) }
+    requires new { (x : ℕ) → first ≤ x → x < count (table_of store.old.cells.cells)
+        → StandsNowhere store.old.bank (table_of store.old.cells.cells) (term_tree store.old.bank atom.0 ∷ []) x }
+    ensures solved { IfOk result (IsSolved store.new.bank (table_of store.old.cells.cells) (table_of store.new.cells.cells)
+        (wanted store.old.bank (table_of store.old.cells.cells) (term_tree store.old.bank atom.0 ∷ [])
+        (close (env_of store.old.bank values.now) (term_tree store.old.bank head.0) ∷ []))) }
     ensures keeps { Extends store.old.bank store.new.bank }
     ensures marks { KeepsMarks (stored store.old) (stored store.new) }
 {

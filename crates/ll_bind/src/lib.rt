@@ -36,7 +36,8 @@ pub fn unify(
     requires left { All (λ (at : AtView). IsPlaceOf store.old.bank (table_of store.old.cells.cells) at.0) left.now }
     requires right { All (λ (at : AtView). IsPlaceOf store.old.bank (table_of store.old.cells.cells) at.0) right.now }
     ensures cells { IfOk result (λ good. good ≡ true → KeepsCells store.old.bank (table_of store.old.cells.cells) (table_of store.new.cells.cells)) }
-    ensures solved { IfOk result (IsSolved store.old.bank (table_of store.old.cells.cells) (table_of store.new.cells.cells) (wanted store.old.bank (table_of store.old.cells.cells) (term_trees store.old.bank left.now) (term_trees store.old.bank right.now))) }
+    ensures solved { IfOk result (IsSolved store.old.bank (table_of store.old.cells.cells) (table_of store.new.cells.cells)
+        (wanted store.old.bank (table_of store.old.cells.cells) (term_trees store.old.bank left.now) (term_trees store.old.bank right.now))) }
     ensures bank { store.new.bank ≡ store.old.bank }
     ensures marks { KeepsMarks (stored store.old) (stored store.new) }
 {

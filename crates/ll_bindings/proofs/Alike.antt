@@ -58,12 +58,14 @@ shape-length u v h =
     sym (arity-length u) ∙ (eqb-true (arity u) (arity v) (and_right (same_head (head_of u) (head_of v)) (nat_eq (arity u) (arity v)) h) ∙ arity-length v)
 
 -- terms of one head and as many arguments differ where their arguments do
-pub diff-spine : (s : ℕ → Term) (u v : Term) → same_predicate u v ≡ true → diff (sub s u) (sub s v) ≡ diff_lists (map (sub s) (args_in u)) (map (sub s) (args_in v))
+pub diff-spine : (s : ℕ → Term) (u v : Term) → same_predicate u v ≡ true
+    → diff (sub s u) (sub s v) ≡ diff_lists (map (sub s) (args_in u)) (map (sub s) (args_in v))
 diff-spine s (Con h) (Con k) e = ap when (and_left (head_eq h k) true e)
 diff-spine s (Ap f a) (Ap g b) e =
     let e2 : same_predicate f g ≡ true = sym (shape-part f g a b) ∙ e in
     let p = diff-spine s f g e2 in
-    let n : length (map (sub s) (args_in f)) ≡ length (map (sub s) (args_in g)) = length-map (args_in f) (sub s) ∙ (shape-length f g e2 ∙ sym (length-map (args_in g) (sub s))) in
+    let n : length (map (sub s) (args_in f)) ≡ length (map (sub s) (args_in g)) =
+    length-map (args_in f) (sub s) ∙ (shape-length f g e2 ∙ sym (length-map (args_in g) (sub s))) in
     ap (λ d. and_then d (diff (sub s a) (sub s b))) p
     ∙ (ap (and_then (diff_lists (map (sub s) (args_in f)) (map (sub s) (args_in g)))) (sym (one (diff (sub s a) (sub s b))))
     ∙ (sym (diff-append (map (sub s) (args_in f)) (map (sub s) (args_in g)) (sub s a ∷ []) (sub s b ∷ []) n)
@@ -73,8 +75,10 @@ diff-spine s (Ap f a) (Ap g b) e =
     one Same = refl
     one Clash = refl
     one (Meet x t) = refl
-diff-spine s (Con h) (Ap g b) e = let q = and_right (same_head (Some h) (head_of g)) (nat_eq 0 (suc (arity g))) e in let z : nat_eq 0 (suc (arity g)) ≡ false = ne_eqb 0 (suc (arity g)) (λ w. absurd (omega arith)) in cc
-diff-spine s (Ap f a) (Con k) e = let q = and_right (same_head (head_of f) (Some k)) (nat_eq (suc (arity f)) 0) e in let z : nat_eq (suc (arity f)) 0 ≡ false = ne_eqb (suc (arity f)) 0 (λ w. absurd (omega arith)) in cc
+diff-spine s (Con h) (Ap g b) e = let q = and_right (same_head (Some h) (head_of g)) (nat_eq 0 (suc (arity g))) e in
+    let z : nat_eq 0 (suc (arity g)) ≡ false = ne_eqb 0 (suc (arity g)) (λ w. absurd (omega arith)) in cc
+diff-spine s (Ap f a) (Con k) e = let q = and_right (same_head (head_of f) (Some k)) (nat_eq (suc (arity f)) 0) e in
+    let z : nat_eq (suc (arity f)) 0 ≡ false = ne_eqb (suc (arity f)) 0 (λ w. absurd (omega arith)) in cc
 diff-spine s (Var x) v e = let q = shape-head (Var x) v e in cc
 diff-spine s (Int z) v e = let q = shape-head (Int z) v e in cc
 diff-spine s (Con h) (Var x) e = let q = shape-head (Con h) (Var x) e in cc
@@ -115,13 +119,15 @@ pub map-after : (g s : ℕ → Term) (ts : List Term) → map (sub g) (map (sub 
 map-after g s ts = map_map (sub g) (sub s) ts ∙ map_same _ _ (sub_comp g s) ts
 
 -- lists that first differ in the same way are solved in the same way
-pub alike-solve : (nodes : Nodes) (t : Table) (ls rs ls2 rs2 : List Term) → Alike nodes t ls rs ls2 rs2 → (n : ℕ) (levels : List ℕ) (s : ℕ → Term) → Obeys nodes t s
+pub alike-solve : (nodes : Nodes) (t : Table) (ls rs ls2 rs2 : List Term) → Alike nodes t ls rs ls2 rs2 → (n : ℕ) (levels : List ℕ) (s : ℕ → Term)
+    → Obeys nodes t s
     → solve n (map (sub s) ls) (map (sub s) rs) levels ≡ solve n (map (sub s) ls2) (map (sub s) rs2) levels
 alike-solve nodes t ls rs ls2 rs2 a zero levels s o = ap (λ d. resolve d levels (λ b. None)) (a s o)
 alike-solve nodes t ls rs ls2 rs2 a (suc n) levels s o =
     go (λ levels2 s2 o2. alike-solve nodes t ls rs ls2 rs2 a n levels2 s2 o2)
   where
-    step : ((levels2 : List ℕ) (s2 : ℕ → Term) → Obeys nodes t s2 → solve n (map (sub s2) ls) (map (sub s2) rs) levels2 ≡ solve n (map (sub s2) ls2) (map (sub s2) rs2) levels2)
+    step : ((levels2 : List ℕ) (s2 : ℕ → Term) → Obeys nodes t s2
+        → solve n (map (sub s2) ls) (map (sub s2) rs) levels2 ≡ solve n (map (sub s2) ls2) (map (sub s2) rs2) levels2)
         → (b : Binding) → solve n (map (sub (bound_to b.var b.value)) (map (sub s) ls)) (map (sub (bound_to b.var b.value)) (map (sub s) rs)) b.levels
         ≡ solve n (map (sub (bound_to b.var b.value)) (map (sub s) ls2)) (map (sub (bound_to b.var b.value)) (map (sub s) rs2)) b.levels
     step ih b =
@@ -129,7 +135,8 @@ alike-solve nodes t ls rs ls2 rs2 a (suc n) levels s o =
         ∙ (ih b.levels (λ x. sub (bound_to b.var b.value) (s x)) (obeys-after nodes t (bound_to b.var b.value) s o)
         ∙ (λ i. solve n (sym (map-after (bound_to b.var b.value) s ls2) i) (sym (map-after (bound_to b.var b.value) s rs2) i) b.levels))
 
-    go : ((levels2 : List ℕ) (s2 : ℕ → Term) → Obeys nodes t s2 → solve n (map (sub s2) ls) (map (sub s2) rs) levels2 ≡ solve n (map (sub s2) ls2) (map (sub s2) rs2) levels2)
+    go : ((levels2 : List ℕ) (s2 : ℕ → Term) → Obeys nodes t s2
+        → solve n (map (sub s2) ls) (map (sub s2) rs) levels2 ≡ solve n (map (sub s2) ls2) (map (sub s2) rs2) levels2)
         → solve (suc n) (map (sub s) ls) (map (sub s) rs) levels ≡ solve (suc n) (map (sub s) ls2) (map (sub s) rs2) levels
     go ih = λ i. resolve (a s o i) levels (λ b. step ih b i)
 

@@ -1,5 +1,6 @@
 -- How a binding changes a table.
-use Rattle.std.proofs.Common.{◌≡◌, ◌≢◌, ℕ, zero, suc, ◌+◌, ◌<◌, ◌≤◌, Bool, true, false, List, [], ◌∷◌, ◌++◌, length, get_or, refl, ap, sym, subst, ◌∙◌, arith, nat_eq, ◌⊎◌, inl, inr}
+use Rattle.std.proofs.Common.{◌≡◌, ◌≢◌, ℕ, zero, suc, ◌+◌, ◌<◌, ◌≤◌, Bool, true, false, List, [], ◌∷◌, ◌++◌, length, get_or, refl, ap, sym, subst, ◌∙◌, arith}
+use Rattle.std.proofs.Common.{nat_eq, ◌⊎◌, inl, inr}
 use Rattle.std.specs.Prelude.{ℤ, ◌||◌, not, cond, min, Option, Some, None, slice_index, slice_set, if◌then◌else◌}
 use Rattle.std.specs.List.{list_any}
 use Rattle.std.proofs.Math.Bool.{or-true}
@@ -12,7 +13,8 @@ use Rattle.ll_bank.specs.Term.{Term, Var, Int, Con, Ap, sub, occurs, eigens_belo
 use Rattle.ll_bank.specs.Nodes.{Nodes, HasTerm, term_tree}
 use Rattle.ll_laws.specs.Unify.{bound_to, Binding, bind, bind_term, lower, is_older, diff, Meet, Same}
 use Rattle.ll_laws.proofs.CallerLemmas.{sub_comp, length-lower, level-lower}
-use Rattle.ll_bindings.specs.Bindings.{Table, then_bound, found, cell, count, Reaches, stands, through, HasCells, KeepsCells, IsPlaceOf, IsOrdered, IsTable, Obeys, IsEnd, IsSet, IsLowered, unbound, HasBound, Binds, IsMeeting, Meets, is_var}
+use Rattle.ll_bindings.specs.Bindings.{Table, then_bound, found, cell, count, Reaches, stands, through, HasCells, KeepsCells, IsPlaceOf, IsOrdered, IsTable}
+use Rattle.ll_bindings.specs.Bindings.{Obeys, IsEnd, IsSet, IsLowered, unbound, HasBound, Binds, IsMeeting, Meets, is_var}
 use Rattle.ll_bindings.specs.Scanned.{is_among, IsScan, is_bad}
 use Rattle.ll_bindings.proofs.Spines.{app-var}
 use Rattle.ll_bindings.proofs.Readings.{found-free, Obeys-found, found-only}
@@ -128,7 +130,8 @@ module _ (nodes : Nodes) (old new : Table) (x : ℕ) (to : At) (c : Change nodes
 
   falls-there : (y : ℕ) (at : At) → cell old y ≡ Some at → (z : ℕ) → occurs z (term_tree nodes at.0) ≡ true → rank-new z < rank-new y
   falls-there y at e z o =
-      raised-more (c.table.ordered.rank z) (c.table.ordered.rank y) (occurs x (found nodes old z)) (occurs x (found nodes old y)) (c.table.ordered.falls y at e z o)
+      raised-more (c.table.ordered.rank z) (c.table.ordered.rank y) (occurs x (found nodes old z)) (occurs x (found nodes old y))
+      (c.table.ordered.falls y at e z o)
       (λ p. ap (occurs x) (Obeys-found nodes old c.table.ordered y at e) ∙ occurs-sub (found nodes old) x z (term_tree nodes at.0) o p)
 
   new-ordered : IsOrdered nodes new
@@ -197,7 +200,8 @@ module _ (nodes : Nodes) (old new : Table) (x : ℕ) (to : At) (c : Change nodes
   keeps-cells = record {
     terms = new-cells;
     bound = λ k y at e. either y
-        (λ q. subst (λ (a : At). IsPlaceOf nodes new a.0) (sym (to-here y at q e)) (record { inside = c.place.inside; vars = new-cells (term_tree nodes to.0) c.place.vars }))
+        (λ q. subst (λ (a : At). IsPlaceOf nodes new a.0) (sym (to-here y at q e))
+        (record { inside = c.place.inside; vars = new-cells (term_tree nodes to.0) c.place.vars }))
         (λ q. let p = k y at (sym (cell-other y q) ∙ e) in record { inside = p.inside; vars = new-cells (term_tree nodes at.0) p.vars });
   }
 
@@ -213,7 +217,8 @@ module _ (nodes : Nodes) (old new : Table) (x : ℕ) (to : At) (c : Change nodes
   }
 
   -- the binding is had
-  pub has-bound : HasBound nodes old new (Var x) (term_tree nodes to.0) (record { var = x; value = sub (found nodes old) (term_tree nodes to.0); levels = new.levels })
+  pub has-bound : HasBound nodes old new (Var x) (term_tree nodes to.0)
+      (record { var = x; value = sub (found nodes old) (term_tree nodes to.0); levels = new.levels })
   has-bound = record {
     table = new-table;
     levels = refl;
@@ -229,7 +234,8 @@ module _ (nodes : Nodes) (old new : Table) (x : ℕ) (to : At) (c : Change nodes
 -- ---- a variable and a term that is no variable
 
 -- levels that fell for these variables are those that the definition asks for
-lowered-is : (old : List ℕ) (vars : List ℕ) (l : ℕ) (new : List ℕ) (t : Term) → IsLowered old vars l new → ((y : ℕ) → is_among vars y ≡ occurs y t) → new ≡ lower l t old
+lowered-is : (old : List ℕ) (vars : List ℕ) (l : ℕ) (new : List ℕ) (t : Term) → IsLowered old vars l new → ((y : ℕ) → is_among vars y ≡ occurs y t)
+    → new ≡ lower l t old
 lowered-is old vars l new t h e =
     ext_get_or 0 new (lower l t old) (h.same_length ∙ sym (length-lower l t old))
     (λ y k. h.each y ∙ (ap (λ b. cond b (min (slice_index old y) l) (slice_index old y)) (e y) ∙ sym (level-lower l t old y)))
@@ -247,10 +253,16 @@ pub binds-bad : (nodes : Nodes) (old new : Table) (u v : Term) (x : ℕ) (to : A
     → Binds nodes old new u v (bind old.levels x (sub (found nodes old) (term_tree nodes to.0))) false
 binds-bad nodes old new u v x to n b =
     subst (λ o. Binds nodes old new u v o false) (sym (bind-no_var old.levels x (found nodes old) (term_tree nodes to.0) n
-    ∙ ap (λ c. if c then None else Some (record { var = x; value = sub (found nodes old) (term_tree nodes to.0); levels = lower (slice_index old.levels x) (sub (found nodes old) (term_tree nodes to.0)) old.levels })) b)) tt
+    ∙ ap (λ c. if c then None else Some (record {
+      var = x;
+      value = sub (found nodes old) (term_tree nodes to.0);
+      levels =
+          lower (slice_index old.levels x) (sub (found nodes old) (term_tree nodes to.0)) old.levels;
+    })) b)) tt
 
 -- the binding to a good term
-pub binds-good : (nodes : Nodes) (old new : Table) (x : ℕ) (to : At) (vars : List ℕ) → IsTable nodes old → x < count old → cell old x ≡ None → IsEnd nodes old to.0 → ((y : ℕ) → term_tree nodes to.0 ≡ Var y → ⊥)
+pub binds-good : (nodes : Nodes) (old new : Table) (x : ℕ) (to : At) (vars : List ℕ) → IsTable nodes old → x < count old → cell old x ≡ None
+    → IsEnd nodes old to.0 → ((y : ℕ) → term_tree nodes to.0 ≡ Var y → ⊥)
     → IsScan old x (slice_index old.levels x) vars (sub (found nodes old) (term_tree nodes to.0)) true
     → IsLowered old.levels vars (slice_index old.levels x) new.levels
     → new.bound ≡ slice_set old.bound x (Some to)
@@ -287,8 +299,10 @@ binds-good nodes old new x to vars tb b fr en n scan low bound =
     }
 
 -- the binding to a term in which no level falls
-pub binds-plain : (nodes : Nodes) (old new : Table) (x : ℕ) (to : At) → IsTable nodes old → x < count old → cell old x ≡ None → IsEnd nodes old to.0 → ((y : ℕ) → term_tree nodes to.0 ≡ Var y → ⊥)
-    → occurs x (sub (found nodes old) (term_tree nodes to.0)) ≡ false → eigens_below (slice_index old.levels x) (sub (found nodes old) (term_tree nodes to.0)) ≡ true
+pub binds-plain : (nodes : Nodes) (old new : Table) (x : ℕ) (to : At) → IsTable nodes old → x < count old → cell old x ≡ None → IsEnd nodes old to.0
+    → ((y : ℕ) → term_tree nodes to.0 ≡ Var y → ⊥)
+    → occurs x (sub (found nodes old) (term_tree nodes to.0)) ≡ false
+    → eigens_below (slice_index old.levels x) (sub (found nodes old) (term_tree nodes to.0)) ≡ true
     → lower (slice_index old.levels x) (sub (found nodes old) (term_tree nodes to.0)) old.levels ≡ old.levels → IsSet old new x to
     → Binds nodes old new (Var x) (term_tree nodes to.0) (bind old.levels x (sub (found nodes old) (term_tree nodes to.0))) true
 binds-plain nodes old new x to tb b fr en n absent eigens low set =
@@ -316,11 +330,13 @@ binds-plain nodes old new x to tb b fr en n absent eigens low set =
 -- ---- two variables
 
 -- one variable is bound to another
-pub change-var : (nodes : Nodes) (old new : Table) (x y : ℕ) (to : At) → IsTable nodes old → x < count old → cell old x ≡ None → IsEnd nodes old to.0 → term_tree nodes to.0 ≡ Var y → x ≢ y
+pub change-var : (nodes : Nodes) (old new : Table) (x y : ℕ) (to : At) → IsTable nodes old → x < count old → cell old x ≡ None → IsEnd nodes old to.0
+    → term_tree nodes to.0 ≡ Var y → x ≢ y
     → IsSet old new x to
     → HasBound nodes old new (Var x) (term_tree nodes to.0) (record { var = x; value = Var y; levels = old.levels })
 change-var nodes old new x y to tb b fr en v n set =
-    subst (HasBound nodes old new (Var x) (term_tree nodes to.0)) (λ i. record { var = x; value = is i; levels = set.levels i }) (has-bound nodes old new x to change)
+    subst (HasBound nodes old new (Var x) (term_tree nodes to.0)) (λ i. record { var = x; value = is i; levels = set.levels i })
+    (has-bound nodes old new x to change)
   where
     is : sub (found nodes old) (term_tree nodes to.0) ≡ Var y
     is = ap (sub (found nodes old)) v ∙ end-var nodes old to.0 y tb en v
@@ -375,7 +391,8 @@ module _ (nodes : Nodes) (old new : Table) (left right : At) (x y : ℕ) (tb : I
 
   vars-meet : diff (sub (found nodes old) (term_tree nodes left.0)) (sub (found nodes old) (term_tree nodes right.0)) ≡ Meet x (Var y)
   vars-meet =
-      (λ i. diff ((ap (sub (found nodes old)) ex ∙ end-var nodes old left.0 x tb m.left_end ex) i) ((ap (sub (found nodes old)) ey ∙ end-var nodes old right.0 y tb m.right_end ey) i))
+      (λ i. diff ((ap (sub (found nodes old)) ex ∙ end-var nodes old left.0 x tb m.left_end ex) i)
+      ((ap (sub (found nodes old)) ey ∙ end-var nodes old right.0 y tb m.right_end ey) i))
       ∙ meet-vars x y apart
 
   -- the right one is bound
@@ -385,7 +402,8 @@ module _ (nodes : Nodes) (old new : Table) (left right : At) (x y : ℕ) (tb : I
     value = Var y;
     meet = vars-meet;
     binds = subst (λ b. Binds nodes old new (term_tree nodes left.0) (term_tree nodes right.0) b true)
-        (sym (ap (λ c. if c then Some (record { var = y; value = Var x; levels = old.levels }) else Some (record { var = x; value = Var y; levels = old.levels })) o))
+        (sym (ap (λ c. if c then Some (record { var = y; value = Var x; levels = old.levels }) else
+        Some (record { var = x; value = Var y; levels = old.levels })) o))
         (flip-bound nodes old new (term_tree nodes right.0) (term_tree nodes left.0) _
         (retree nodes old new (Var y) (term_tree nodes right.0) (term_tree nodes left.0) (term_tree nodes left.0) _ (sym ey) refl
         (change-var nodes old new y x left tb y-below (m.right_end.free y ey) m.left_end ex (λ e. apart (sym e)) set)));
@@ -398,7 +416,8 @@ module _ (nodes : Nodes) (old new : Table) (left right : At) (x y : ℕ) (tb : I
     value = Var y;
     meet = vars-meet;
     binds = subst (λ b. Binds nodes old new (term_tree nodes left.0) (term_tree nodes right.0) b true)
-        (sym (ap (λ c. if c then Some (record { var = y; value = Var x; levels = old.levels }) else Some (record { var = x; value = Var y; levels = old.levels })) o))
+        (sym (ap (λ c. if c then Some (record { var = y; value = Var x; levels = old.levels }) else
+        Some (record { var = x; value = Var y; levels = old.levels })) o))
         (retree nodes old new (Var x) (term_tree nodes left.0) (term_tree nodes right.0) (term_tree nodes right.0) _ (sym ex) refl
         (change-var nodes old new x y right tb x-below (m.left_end.free x ex) m.right_end ey apart set));
   }
@@ -417,7 +436,8 @@ term-meet x s (Int z) n = refl
 term-meet x s (Con h) n = refl
 term-meet x s (Ap f a) n = refl
 
-binds-tree : (nodes : Nodes) (old new : Table) (u u' v : Term) (o : Option Binding) (b : Bool) → u ≡ u' → Binds nodes old new u v o b → Binds nodes old new u' v o b
+binds-tree : (nodes : Nodes) (old new : Table) (u u' v : Term) (o : Option Binding) (b : Bool) → u ≡ u' → Binds nodes old new u v o b
+    → Binds nodes old new u' v o b
 binds-tree nodes old new u u' v o b e h = subst (λ w. Binds nodes old new w v o b) e h
 
 flip-binds : (nodes : Nodes) (old new : Table) (u v : Term) (o : Option Binding) (b : Bool) → Binds nodes old new u v o b → Binds nodes old new v u o b
@@ -426,23 +446,31 @@ flip-binds nodes old new u v (Some c) false h = h
 flip-binds nodes old new u v None true h = h
 flip-binds nodes old new u v None false h = h
 
-pub meets-left : (nodes : Nodes) (old new : Table) (left right : At) (x : ℕ) (b : Bool) → IsTable nodes old → IsMeeting nodes old left.0 right.0 → term_tree nodes left.0 ≡ Var x → ((y : ℕ) → term_tree nodes right.0 ≡ Var y → ⊥)
-    → Binds nodes old new (Var x) (term_tree nodes right.0) (bind old.levels x (sub (found nodes old) (term_tree nodes right.0))) b → Meets nodes old new (term_tree nodes left.0) (term_tree nodes right.0) b
+pub meets-left : (nodes : Nodes) (old new : Table) (left right : At) (x : ℕ) (b : Bool) → IsTable nodes old → IsMeeting nodes old left.0 right.0
+    → term_tree nodes left.0 ≡ Var x → ((y : ℕ) → term_tree nodes right.0 ≡ Var y → ⊥)
+    → Binds nodes old new (Var x) (term_tree nodes right.0) (bind old.levels x (sub (found nodes old) (term_tree nodes right.0))) b
+    → Meets nodes old new (term_tree nodes left.0) (term_tree nodes right.0) b
 meets-left nodes old new left right x b tb m ex n h = record {
   var = x;
   value = sub (found nodes old) (term_tree nodes right.0);
-  meet = ap (λ u. diff u (sub (found nodes old) (term_tree nodes right.0))) (ap (sub (found nodes old)) ex ∙ end-var nodes old left.0 x tb m.left_end ex) ∙ meet-term x (found nodes old) (term_tree nodes right.0) n;
-  binds = binds-tree nodes old new (Var x) (term_tree nodes left.0) (term_tree nodes right.0) (bind old.levels x (sub (found nodes old) (term_tree nodes right.0))) b (sym ex) h;
+  meet = ap (λ u. diff u (sub (found nodes old) (term_tree nodes right.0))) (ap (sub (found nodes old)) ex ∙ end-var nodes old left.0 x tb m.left_end ex)
+      ∙ meet-term x (found nodes old) (term_tree nodes right.0) n;
+  binds = binds-tree nodes old new (Var x) (term_tree nodes left.0) (term_tree nodes right.0)
+      (bind old.levels x (sub (found nodes old) (term_tree nodes right.0))) b (sym ex) h;
 }
 
-pub meets-right : (nodes : Nodes) (old new : Table) (left right : At) (y : ℕ) (b : Bool) → IsTable nodes old → IsMeeting nodes old left.0 right.0 → term_tree nodes right.0 ≡ Var y → ((x : ℕ) → term_tree nodes left.0 ≡ Var x → ⊥)
-    → Binds nodes old new (Var y) (term_tree nodes left.0) (bind old.levels y (sub (found nodes old) (term_tree nodes left.0))) b → Meets nodes old new (term_tree nodes left.0) (term_tree nodes right.0) b
+pub meets-right : (nodes : Nodes) (old new : Table) (left right : At) (y : ℕ) (b : Bool) → IsTable nodes old → IsMeeting nodes old left.0 right.0
+    → term_tree nodes right.0 ≡ Var y → ((x : ℕ) → term_tree nodes left.0 ≡ Var x → ⊥)
+    → Binds nodes old new (Var y) (term_tree nodes left.0) (bind old.levels y (sub (found nodes old) (term_tree nodes left.0))) b
+    → Meets nodes old new (term_tree nodes left.0) (term_tree nodes right.0) b
 meets-right nodes old new left right y b tb m ey n h = record {
   var = y;
   value = sub (found nodes old) (term_tree nodes left.0);
-  meet = ap (diff (sub (found nodes old) (term_tree nodes left.0))) (ap (sub (found nodes old)) ey ∙ end-var nodes old right.0 y tb m.right_end ey) ∙ term-meet y (found nodes old) (term_tree nodes left.0) n;
+  meet = ap (diff (sub (found nodes old) (term_tree nodes left.0))) (ap (sub (found nodes old)) ey ∙ end-var nodes old right.0 y tb m.right_end ey)
+      ∙ term-meet y (found nodes old) (term_tree nodes left.0) n;
   binds = flip-binds nodes old new (term_tree nodes right.0) (term_tree nodes left.0) (bind old.levels y (sub (found nodes old) (term_tree nodes left.0))) b
-      (binds-tree nodes old new (Var y) (term_tree nodes right.0) (term_tree nodes left.0) (bind old.levels y (sub (found nodes old) (term_tree nodes left.0))) b (sym ey) h);
+      (binds-tree nodes old new (Var y) (term_tree nodes right.0) (term_tree nodes left.0) (bind old.levels y (sub (found nodes old) (term_tree nodes left.0)))
+      b (sym ey) h);
 }
 
 -- a place with a head or a number is no variable
@@ -459,16 +487,19 @@ var-is (Con h) e n = cc
 var-is (Ap f a) e n = cc
 
 -- one of the two is a variable
-pub no-meeting : (nodes : Nodes) (t : Table) (left right : ℕ) → IsMeeting nodes t left right → ((y : ℕ) → term_tree nodes left ≡ Var y → ⊥) → ((y : ℕ) → term_tree nodes right ≡ Var y → ⊥) → ⊥
+pub no-meeting : (nodes : Nodes) (t : Table) (left right : ℕ) → IsMeeting nodes t left right → ((y : ℕ) → term_tree nodes left ≡ Var y → ⊥)
+    → ((y : ℕ) → term_tree nodes right ≡ Var y → ⊥) → ⊥
 no-meeting nodes t left right m p q =
-    or_cases (is_var (term_tree nodes left)) (is_var (term_tree nodes right)) m.var (λ e. var-is (term_tree nodes left) e p) (λ e. var-is (term_tree nodes right) e q)
+    or_cases (is_var (term_tree nodes left)) (is_var (term_tree nodes right)) m.var (λ e. var-is (term_tree nodes left) e p)
+    (λ e. var-is (term_tree nodes right) e q)
 
 -- a level that was read
 pub level-read : (xs : List ℕ) (x l : ℕ) → x < length xs → l ≡ get_or xs x l → l ≡ slice_index xs x
 level-read xs x l b e = e ∙ get_or_default xs x l 0 b
 
 -- what a scan with the level that was read says
-pub scan-level : (t : Table) (x l : ℕ) (vars : List ℕ) (u : Term) (b c : Bool) → l ≡ slice_index t.levels x → b ≡ c → IsScan t x l vars u b → IsScan t x (slice_index t.levels x) vars u c
+pub scan-level : (t : Table) (x l : ℕ) (vars : List ℕ) (u : Term) (b c : Bool) → l ≡ slice_index t.levels x → b ≡ c → IsScan t x l vars u b
+    → IsScan t x (slice_index t.levels x) vars u c
 scan-level t x l vars u b c e f h = subst (λ k. IsScan t x k vars u c) e (subst (IsScan t x l vars u) f h)
 
 -- what holds of an answer, another way
@@ -482,7 +513,8 @@ any-push x v [] = step (nat_eq x v)
     step false = refl
 any-push x v (w ∷ vs) = step (nat_eq x w) (any-push x v vs)
   where
-    step : (b : Bool) → list_any (nat_eq x) (vs ++ v ∷ []) ≡ (list_any (nat_eq x) vs || nat_eq x v) → (b || list_any (nat_eq x) (vs ++ v ∷ [])) ≡ ((b || list_any (nat_eq x) vs) || nat_eq x v)
+    step : (b : Bool) → list_any (nat_eq x) (vs ++ v ∷ []) ≡ (list_any (nat_eq x) vs || nat_eq x v)
+        → (b || list_any (nat_eq x) (vs ++ v ∷ [])) ≡ ((b || list_any (nat_eq x) vs) || nat_eq x v)
     step true h = refl
     step false h = h
 
@@ -495,7 +527,8 @@ or-false true = refl
 or-false false = refl
 
 -- one level more
-pub lowered-more : (old mid new vs : List ℕ) (v l : ℕ) → v < length mid → IsLowered old vs l mid → new ≡ slice_set mid v (min (slice_index mid v) l) → IsLowered old (vs ++ v ∷ []) l new
+pub lowered-more : (old mid new vs : List ℕ) (v l : ℕ) → v < length mid → IsLowered old vs l mid → new ≡ slice_set mid v (min (slice_index mid v) l)
+    → IsLowered old (vs ++ v ∷ []) l new
 lowered-more old mid new vs v l b h e = record {
   same_length = ap length e ∙ (length-set mid v (min (slice_index mid v) l) ∙ h.same_length);
   each = λ x. at x (nat_eq x v) refl;
@@ -507,8 +540,10 @@ lowered-more old mid new vs v l b h e = record {
         ap (λ ys. slice_index ys x) e
         ∙ (ap (λ z. slice_index (slice_set mid v (min (slice_index mid v) l)) z) p ∙ (get_or-set_same mid v (min (slice_index mid v) l) 0 b
         ∙ (ap (λ z. min (slice_index mid z) l) (sym p) ∙ (ap (λ z. min z l) (h.each x) ∙ (min-twice (slice_index old x) l (list_any (nat_eq x) vs)
-        ∙ sym (ap (λ k. cond k (min (slice_index old x) l) (slice_index old x)) (any-push x v vs ∙ (ap (λ k. list_any (nat_eq x) vs || k) q ∙ or-true (list_any (nat_eq x) vs)))))))))
+        ∙ sym (ap (λ k. cond k (min (slice_index old x) l) (slice_index old x))
+        (any-push x v vs ∙ (ap (λ k. list_any (nat_eq x) vs || k) q ∙ or-true (list_any (nat_eq x) vs)))))))))
     at x false q =
         ap (λ ys. slice_index ys x) e
         ∙ (get_or-set_other mid v x (min (slice_index mid v) l) 0 (eqb-false x v q)
-        ∙ (h.each x ∙ sym (ap (λ k. cond k (min (slice_index old x) l) (slice_index old x)) (any-push x v vs ∙ (ap (λ k. list_any (nat_eq x) vs || k) q ∙ or-false (list_any (nat_eq x) vs))))))
+        ∙ (h.each x ∙ sym (ap (λ k. cond k (min (slice_index old x) l) (slice_index old x))
+        (any-push x v vs ∙ (ap (λ k. list_any (nat_eq x) vs || k) q ∙ or-false (list_any (nat_eq x) vs))))))

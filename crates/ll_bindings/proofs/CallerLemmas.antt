@@ -87,7 +87,8 @@ pub use Rattle.ll_bindings.proofs.Readings.{bound-inside}
 -- ---- what is found for a variable
 
 -- for a bound one what is found for the term that it is bound to
-pub found-bound : (nodes : Nodes) (t : Table) (x : ℕ) (at : At) → IsTable nodes t → cell t x ≡ Some at → found nodes t x ≡ sub (found nodes t) (term_tree nodes at.0)
+pub found-bound : (nodes : Nodes) (t : Table) (x : ℕ) (at : At) → IsTable nodes t → cell t x ≡ Some at
+    → found nodes t x ≡ sub (found nodes t) (term_tree nodes at.0)
 found-bound nodes t x at h e = Obeys-found nodes t h.ordered x at e
 
 -- ---- other nodes
@@ -116,7 +117,8 @@ found-replaced old new t s = go (length t.bound)
     go zero x = refl
     go (suc n) x = step (λ y. go n y) (cell t x) refl
       where
-        step : ((y : ℕ) → followed new t.bound n y ≡ followed old t.bound n y) → (o : Option At) → cell t x ≡ o → followed new t.bound (suc n) x ≡ followed old t.bound (suc n) x
+        step : ((y : ℕ) → followed new t.bound n y ≡ followed old t.bound n y) → (o : Option At) → cell t x ≡ o
+            → followed new t.bound (suc n) x ≡ followed old t.bound (suc n) x
         step ih None e =
             ap (λ c. sub (followed new t.bound n) (shown new x c)) e
             ∙ (ih x ∙ ap (λ c. sub (followed old t.bound n) (shown old x c)) (sym e))
@@ -140,7 +142,8 @@ pub found-extends : (old new : Nodes) (t : Table) → IsTable old t → Extends 
 found-extends old new t h e = found-replaced old new t (SameBound-extends old new t h e)
 
 -- what a place shows with all bindings applied stays the same
-pub sub-extends : (old new : Nodes) (t : Table) (at : ℕ) → IsTable old t → Extends old new → HasTerm old at → sub (found new t) (term_tree new at) ≡ sub (found old t) (term_tree old at)
+pub sub-extends : (old new : Nodes) (t : Table) (at : ℕ) → IsTable old t → Extends old new → HasTerm old at
+    → sub (found new t) (term_tree new at) ≡ sub (found old t) (term_tree old at)
 sub-extends old new t at h e l =
     ap (sub (found new t)) (term_tree-extends e at l)
     ∙ sub-agree (found new t) (found old t) (term_tree old at) (λ y o. found-extends old new t h e y)
@@ -235,10 +238,12 @@ cells-below nodes t u h b y r = go y u b r
     go : (y : ℕ) (u : Term) → vars_below (count t) (sub (found nodes t) u) ≡ true → Reaches nodes t y u → y < count t
     go y u b (stands w o) = free y w (vars_below-part (count t) y (found nodes t) w b o) (cell t y) refl
     go y u b (through w x to o c r) =
-        go y (term_tree nodes to.0) (subst (λ v. vars_below (count t) v ≡ true) (found-bound nodes t x to h c) (vars_below-part (count t) x (found nodes t) w b o)) r
+        go y (term_tree nodes to.0) (subst (λ v. vars_below (count t) v ≡ true) (found-bound nodes t x to h c)
+        (vars_below-part (count t) x (found nodes t) w b o)) r
 
 -- a place whose term, with all bindings applied, has only variables with cells is one of the table
-pub place-below : (nodes : Nodes) (t : Table) (at : ℕ) → IsTable nodes t → HasTerm nodes at → vars_below (count t) (sub (found nodes t) (term_tree nodes at)) ≡ true → IsPlaceOf nodes t at
+pub place-below : (nodes : Nodes) (t : Table) (at : ℕ) → IsTable nodes t → HasTerm nodes at
+    → vars_below (count t) (sub (found nodes t) (term_tree nodes at)) ≡ true → IsPlaceOf nodes t at
 place-below nodes t at h l b = record { inside = l; vars = cells-below nodes t (term_tree nodes at) h b }
 
 -- ---- what is found holds unbound variables alone

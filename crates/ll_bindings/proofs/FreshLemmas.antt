@@ -1,5 +1,6 @@
 -- New variables that stand in no term yet.
-use Rattle.std.proofs.Common.{◌≡◌, ◌≢◌, ℕ, ◌+◌, ◌<◌, ◌≤◌, inl, inr, Bool, true, false, List, [], ◌∷◌, ◌++◌, length, get_or, refl, ap, sym, subst, ◌∙◌, arith, nat_eq, take, replicate}
+use Rattle.std.proofs.Common.{◌≡◌, ◌≢◌, ℕ, ◌+◌, ◌<◌, ◌≤◌, inl, inr, Bool, true, false, List, [], ◌∷◌, ◌++◌, length, get_or, refl, ap, sym, subst, ◌∙◌, arith}
+use Rattle.std.proofs.Common.{nat_eq, take, replicate}
 use Rattle.std.specs.Prelude.{Result, Ok, Err, IfOk, ◌||◌, ◌&&◌, not, cond, min, Some, None, slice_index, slice_index_or, if◌then◌else◌}
 use Rattle.std.specs.Ordering.{int_eq}
 use Rattle.std.proofs.lemmas.Bool.{eq-eqb, ne_eqb, cases_lt, or_from as or-both}
@@ -81,7 +82,8 @@ clear-sub x l s (Int z) h k = h
 clear-sub x l s (Con c) h k = h
 clear-sub x l s (Ap f a) h k =
     let p = bad-parts (occurs x f) (occurs x a) (eigens_below l f) (eigens_below l a) h in
-    bad-whole (occurs x (sub s f)) (occurs x (sub s a)) (eigens_below l (sub s f)) (eigens_below l (sub s a)) (clear-sub x l s f p.0 k) (clear-sub x l s a p.1 k)
+    bad-whole (occurs x (sub s f)) (occurs x (sub s a)) (eigens_below l (sub s f)) (eigens_below l (sub s a)) (clear-sub x l s f p.0 k)
+    (clear-sub x l s a p.1 k)
 
 clear-bound : (x l v : ℕ) (t : Term) → is_bad x l t ≡ false → (y : ℕ) → y ≢ x → is_bad x l (bound_to v t y) ≡ false
 clear-bound x l v t h y n = step (nat_eq y v)
@@ -115,7 +117,8 @@ module _ (s : ℕ → Term) (x l : ℕ) where
 
   -- ---- pending pairs
 
-  pub clear-next : (nodes : Nodes) (items ps : List Pair) (p q : Pair) (a : At) → items ≡ ps ++ p ∷ [] → ShowsArgument nodes p.left.0 p.next a.0 → q.left ≡ p.left → q.next ≡ p.next + 1
+  pub clear-next : (nodes : Nodes) (items ps : List Pair) (p q : Pair) (a : At) → items ≡ ps ++ p ∷ [] → ShowsArgument nodes p.left.0 p.next a.0
+      → q.left ≡ p.left → q.next ≡ p.next + 1
       → AreClear s x l (lefts nodes items) → AreClear s x l (term_tree nodes a.0 ∷ lefts nodes (ps ++ q ∷ []))
   clear-next nodes items ps p q a e sa ql qn h = subst (AreClear s x l) (lefts-next nodes items ps p q a e sa ql qn) h
 
@@ -171,7 +174,8 @@ diff-clear x l (Ap f a) (Ap g b) v t e h k = step (λ i. diff-clear x l a b v t 
     q : (is_bad x l g ≡ false) × (is_bad x l b ≡ false)
     q = bad-parts (occurs x g) (occurs x b) (eigens_below l g) (eigens_below l b) k
 
-    step : (diff a b ≡ Meet v t → IsClearMeet x l v t) → (diff f g ≡ Meet v t → IsClearMeet x l v t) → (d : Diff) → diff f g ≡ d → and_then d (diff a b) ≡ Meet v t → IsClearMeet x l v t
+    step : (diff a b ≡ Meet v t → IsClearMeet x l v t) → (diff f g ≡ Meet v t → IsClearMeet x l v t) → (d : Diff) → diff f g ≡ d
+        → and_then d (diff a b) ≡ Meet v t → IsClearMeet x l v t
     step args heads Same i j = args j
     step args heads Clash i j = cc
     step args heads (Meet w u) i j = heads (i ∙ j)
@@ -188,31 +192,38 @@ record LeavesAlone (x l : ℕ) (levels : List ℕ) (b : Binding) : Type 0 where
 alone : (x l : ℕ) (levels : List ℕ) (b c : Binding) → Some b ≡ Some c → LeavesAlone x l levels b → LeavesAlone x l levels c
 alone x l levels b c e h = let p : b ≡ c = cc in subst (LeavesAlone x l levels) p h
 
-bind_term-alone : (x l : ℕ) (levels : List ℕ) (v : ℕ) (t : Term) (b : Binding) → bind_term levels v t ≡ Some b → v ≢ x → is_bad x l t ≡ false → LeavesAlone x l levels b
+bind_term-alone : (x l : ℕ) (levels : List ℕ) (v : ℕ) (t : Term) (b : Binding) → bind_term levels v t ≡ Some b → v ≢ x → is_bad x l t ≡ false
+    → LeavesAlone x l levels b
 bind_term-alone x l levels v t b e n h = step (occurs v t || not (eigens_below (slice_index levels v) t)) e
   where
-    step : (c : Bool) → (if c then None else Some (record { var = v; value = t; levels = lower (slice_index levels v) t levels })) ≡ Some b → LeavesAlone x l levels b
+    step : (c : Bool) → (if c then None else Some (record { var = v; value = t; levels = lower (slice_index levels v) t levels })) ≡ Some b
+        → LeavesAlone x l levels b
     step true d = cc
     step false d = alone x l levels (record { var = v; value = t; levels = lower (slice_index levels v) t levels }) b d (record {
       other = n;
       clear = h;
-      own = level-lower (slice_index levels v) t levels x ∙ ap (λ o. cond o (min (slice_index levels x) (slice_index levels v)) (slice_index levels x)) (bad-absent (occurs x t) (eigens_below l t) h);
+      own = level-lower (slice_index levels v) t levels x ∙ ap (λ o. cond o (min (slice_index levels x) (slice_index levels v)) (slice_index levels x))
+          (bad-absent (occurs x t) (eigens_below l t) h);
       falls = λ y. lower-le (slice_index levels v) t levels y;
     })
 
 bind-alone : (x l : ℕ) (levels : List ℕ) (v : ℕ) (t : Term) (b : Binding) → bind levels v t ≡ Some b → v ≢ x → is_bad x l t ≡ false → LeavesAlone x l levels b
 bind-alone x l levels v (Var w) b e n h = step (is_older levels v w) e
   where
-    step : (c : Bool) → (if c then Some (record { var = w; value = Var v; levels = levels }) else Some (record { var = v; value = Var w; levels = levels })) ≡ Some b → LeavesAlone x l levels b
-    step true d = alone x l levels (record { var = w; value = Var v; levels = levels }) b d (record { other = var-other x l w h; clear = clear-var x l v n; own = refl; falls = λ y. omega arith })
-    step false d = alone x l levels (record { var = v; value = Var w; levels = levels }) b d (record { other = n; clear = h; own = refl; falls = λ y. omega arith })
+    step : (c : Bool) → (if c then Some (record { var = w; value = Var v; levels = levels }) else Some (record { var = v; value = Var w; levels = levels }))
+        ≡ Some b → LeavesAlone x l levels b
+    step true d = alone x l levels (record { var = w; value = Var v; levels = levels }) b d
+        (record { other = var-other x l w h; clear = clear-var x l v n; own = refl; falls = λ y. omega arith })
+    step false d = alone x l levels (record { var = v; value = Var w; levels = levels }) b d
+        (record { other = n; clear = h; own = refl; falls = λ y. omega arith })
 bind-alone x l levels v (Int z) b e n h = bind_term-alone x l levels v (Int z) b e n h
 bind-alone x l levels v (Con c) b e n h = bind_term-alone x l levels v (Con c) b e n h
 bind-alone x l levels v (Ap f a) b e n h = bind_term-alone x l levels v (Ap f a) b e n h
 
 module _ (nodes : Nodes) (old new : Table) (u v : Term) where
   -- a variable that stands nowhere, and not in the other of two terms that were made the same either, goes on to stand nowhere
-  stands-on : (us : List Term) (x : ℕ) → Meets nodes old new u v true → is_bad x (slice_index old.levels x) (sub (found nodes old) v) ≡ false → StandsNowhere nodes old (u ∷ us) x → StandsNowhere nodes new us x
+  stands-on : (us : List Term) (x : ℕ) → Meets nodes old new u v true → is_bad x (slice_index old.levels x) (sub (found nodes old) v) ≡ false
+      → StandsNowhere nodes old (u ∷ us) x → StandsNowhere nodes new us x
   stands-on us x m h n =
       let r = met nodes old new u v m in
       let d = diff-clear x (slice_index old.levels x) (sub (found nodes old) u) (sub (found nodes old) v) m.var m.value m.meet n.terms.0 h in
@@ -220,7 +231,8 @@ module _ (nodes : Nodes) (old new : Table) (u v : Term) where
     where
       step : (b : Binding) → HasBound nodes old new u v b → LeavesAlone x (slice_index old.levels x) old.levels b → StandsNowhere nodes new us x
       step b c a =
-          subst (λ (f : ℕ → Term). (f x ≡ Var x) × ((y : ℕ) → y ≢ x → is_bad x (slice_index old.levels x) (f y) ≡ false) × AreClear f x (slice_index old.levels x) us → StandsNowhere nodes new us x)
+          subst (λ (f : ℕ → Term). (f x ≡ Var x) × ((y : ℕ) → y ≢ x → is_bad x (slice_index old.levels x) (f y) ≡ false)
+          × AreClear f x (slice_index old.levels x) us → StandsNowhere nodes new us x)
           (λ i y. c.subst y i) finish (here, there, listed us n.terms.1)
         where
           g : ℕ → Term
@@ -229,7 +241,8 @@ module _ (nodes : Nodes) (old new : Table) (u v : Term) where
           level : slice_index old.levels x ≡ slice_index new.levels x
           level = sym (ap (λ ls. slice_index ls x) c.levels ∙ a.own)
 
-          finish : (found nodes new x ≡ Var x) × ((y : ℕ) → y ≢ x → is_bad x (slice_index old.levels x) (found nodes new y) ≡ false) × AreClear (found nodes new) x (slice_index old.levels x) us → StandsNowhere nodes new us x
+          finish : (found nodes new x ≡ Var x) × ((y : ℕ) → y ≢ x → is_bad x (slice_index old.levels x) (found nodes new y) ≡ false)
+              × AreClear (found nodes new) x (slice_index old.levels x) us → StandsNowhere nodes new us x
           finish h = record {
             own = h.0;
             others = subst (λ l. (y : ℕ) → y ≢ x → is_bad x l (found nodes new y) ≡ false) level h.1;
@@ -246,11 +259,16 @@ module _ (nodes : Nodes) (old new : Table) (u v : Term) where
           there : (y : ℕ) → y ≢ x → is_bad x (slice_index old.levels x) (sub g (found nodes old y)) ≡ false
           there y k = clear (found nodes old y) (n.others y k)
 
-          listed : (ws : List Term) → AreClear (found nodes old) x (slice_index old.levels x) ws → AreClear (λ y. sub g (found nodes old y)) x (slice_index old.levels x) ws
+          listed : (ws : List Term) → AreClear (found nodes old) x (slice_index old.levels x) ws
+              → AreClear (λ y. sub g (found nodes old y)) x (slice_index old.levels x) ws
           listed [] k = tt
-          listed (w ∷ ws) k = (ap (is_bad x (slice_index old.levels x)) (sym (sub_comp g (found nodes old) w)) ∙ clear (sub (found nodes old) w) k.0, listed ws k.1)
+          listed (w ∷ ws) k = (
+            ap (is_bad x (slice_index old.levels x)) (sym (sub_comp g (found nodes old) w)) ∙ clear (sub (found nodes old) w) k.0,
+            listed ws k.1,
+          )
 
-  pub leaves-meet : (before after : Fresh) → Meets nodes old new u v true → ((x : ℕ) → IsFresh after x → StaysClear nodes old before v x) → LeavesFresh nodes old new before after (u ∷ []) []
+  pub leaves-meet : (before after : Fresh) → Meets nodes old new u v true → ((x : ℕ) → IsFresh after x → StaysClear nodes old before v x)
+      → LeavesFresh nodes old new before after (u ∷ []) []
   leaves-meet before after m h more f x q b =
       let r = met nodes old new u v m in
       let same : count new ≡ count old = ap (λ ls. length ls) r.2.levels ∙ r.2.count in
@@ -258,14 +276,20 @@ module _ (nodes : Nodes) (old new : Table) (u v : Term) where
       stands-on more x m ((h x q).1 n.newest) n
 
   -- a variable on the left was bound to a term
-  pub leaves-term : (before after : Fresh) (x : ℕ) → Meets nodes old new u v true → ((z : ℕ) → IsFresh after z → IsLeft before old.levels x (sub (found nodes old) v) z) → LeavesFresh nodes old new before after (u ∷ []) []
+  pub leaves-term : (before after : Fresh) (x : ℕ) → Meets nodes old new u v true
+      → ((z : ℕ) → IsFresh after z → IsLeft before old.levels x (sub (found nodes old) v) z) → LeavesFresh nodes old new before after (u ∷ []) []
   leaves-term before after x m h =
-      leaves-meet before after m (λ z f. let k = h z f in
-      (k.was, λ n. clear-of z (slice_index old.levels z) (sub (found nodes old) v) k.absent (eigens-mono (slice_index old.levels x) (slice_index old.levels z) (sub (found nodes old) v) (n x) k.eigens)))
+      leaves-meet before after m (λ z f. let k = h z f in (
+        k.was,
+        λ n. clear-of z (slice_index old.levels z) (sub (found nodes old) v) k.absent
+            (eigens-mono (slice_index old.levels x) (slice_index old.levels z) (sub (found nodes old) v) (n x) k.eigens),
+      ))
 
 -- a variable on the right was met
-pub leaves-var : (nodes : Nodes) (old new : Table) (left right : At) (before after : Fresh) (y : ℕ) → IsTable nodes old → IsEnd nodes old right.0 → term_tree nodes right.0 ≡ Var y
-    → Meets nodes old new (term_tree nodes left.0) (term_tree nodes right.0) true → ((z : ℕ) → IsFresh after z → IsOther before y z) → LeavesFresh nodes old new before after (term_tree nodes left.0 ∷ []) []
+pub leaves-var : (nodes : Nodes) (old new : Table) (left right : At) (before after : Fresh) (y : ℕ) → IsTable nodes old → IsEnd nodes old right.0
+    → term_tree nodes right.0 ≡ Var y
+    → Meets nodes old new (term_tree nodes left.0) (term_tree nodes right.0) true → ((z : ℕ) → IsFresh after z → IsOther before y z)
+    → LeavesFresh nodes old new before after (term_tree nodes left.0 ∷ []) []
 leaves-var nodes old new left right before after y tb en e m h =
     let is : sub (found nodes old) (term_tree nodes right.0) ≡ Var y = ap (sub (found nodes old)) e ∙ end-var nodes old right.0 y tb en e in
     leaves-meet nodes old new (term_tree nodes left.0) (term_tree nodes right.0) before after m (λ z f. let k = h z f in
@@ -275,14 +299,16 @@ leaves-var nodes old new left right before after y tb en e m h =
 
 module _ (nodes : Nodes) (t : Table) (f : Fresh) where
   -- terms in which no more stands
-  pub fresh-keeps : (us vs : List Term) → ((x l : ℕ) → AreClear (found nodes t) x l us → AreClear (found nodes t) x l vs) → AreFresh nodes t f us → AreFresh nodes t f vs
+  pub fresh-keeps : (us vs : List Term) → ((x l : ℕ) → AreClear (found nodes t) x l us → AreClear (found nodes t) x l vs) → AreFresh nodes t f us
+      → AreFresh nodes t f vs
   fresh-keeps us vs k h x i b = let n = h x i b in record { own = n.own; others = n.others; terms = k x (slice_index t.levels x) n.terms; newest = n.newest }
 
   pub fresh-first : (u : Term) (us : List Term) → AreFresh nodes t f (u ∷ us) → AreFresh nodes t f (u ∷ [])
   fresh-first u us h = fresh-keeps (u ∷ us) (u ∷ []) (λ x l c. (c.0, tt)) h
 
   pub fresh-same : (u v : Term) (us : List Term) → AreSame nodes t v u → IsTable nodes t → AreFresh nodes t f (u ∷ us) → AreFresh nodes t f (v ∷ us)
-  fresh-same u v us e tb h = fresh-keeps (u ∷ us) (v ∷ us) (λ x l c. clear-same (found nodes t) x l u v us (e (found nodes t) (Obeys-found nodes t tb.ordered)) c) h
+  fresh-same u v us e tb h = fresh-keeps (u ∷ us) (v ∷ us) (λ x l c.
+      clear-same (found nodes t) x l u v us (e (found nodes t) (Obeys-found nodes t tb.ordered)) c) h
 
   pub fresh-open : (u : Term) (a b : At) (more : List Term) → AreSame nodes t (term_tree nodes a.0) u → IsTable nodes t → AreFresh nodes t f (u ∷ more)
       → AreFresh nodes t f (lefts nodes ([] ++ (record { left = a; right = b; next = 0 }) ∷ []) ++ more)
@@ -302,11 +328,13 @@ module _ (nodes : Nodes) (t : Table) (f : Fresh) where
   leaves-front u more h = fresh-keeps (u ∷ more) more (λ x l c. c.1) h
 
 module _ (nodes : Nodes) (old new : Table) (before after : Fresh) where
-  pub leaves-same : (u v : Term) → AreSame nodes old v u → IsTable nodes old → LeavesFresh nodes old new before after (v ∷ []) [] → LeavesFresh nodes old new before after (u ∷ []) []
+  pub leaves-same : (u v : Term) → AreSame nodes old v u → IsTable nodes old → LeavesFresh nodes old new before after (v ∷ []) []
+      → LeavesFresh nodes old new before after (u ∷ []) []
   leaves-same u v e tb l more h = l more (fresh-same nodes old before u v more e tb h)
 
   pub leaves-open : (u : Term) (a b : At) → AreSame nodes old (term_tree nodes a.0) u → IsTable nodes old
-      → LeavesFresh nodes old new before after (lefts nodes ([] ++ (record { left = a; right = b; next = 0 }) ∷ [])) [] → LeavesFresh nodes old new before after (u ∷ []) []
+      → LeavesFresh nodes old new before after (lefts nodes ([] ++ (record { left = a; right = b; next = 0 }) ∷ [])) []
+      → LeavesFresh nodes old new before after (u ∷ []) []
   leaves-open u a b e tb l more h = l more (fresh-open nodes old before u a b more e tb h)
 
   -- the terms that are left are passed over
@@ -314,17 +342,20 @@ module _ (nodes : Nodes) (old new : Table) (before after : Fresh) where
   leaves-all us vs l more h = fresh-keeps nodes new after (vs ++ more) more (λ x k c. clear-behind (found nodes new) x k vs more c) (l more h)
 
 -- what comes first of what is left
-pub front-fresh : (nodes : Nodes) (old now : Table) (before f : Fresh) (us vs rest : List Term) (u : Term) → LeavesFresh nodes old now before f us vs → AreFresh nodes old before us
+pub front-fresh : (nodes : Nodes) (old now : Table) (before f : Fresh) (us vs rest : List Term) (u : Term) → LeavesFresh nodes old now before f us vs
+    → AreFresh nodes old before us
     → ((x l : ℕ) → AreClear (found nodes now) x l vs → AreClear (found nodes now) x l (u ∷ rest)) → AreFresh nodes now f (u ∷ [])
 front-fresh nodes old now before f us vs rest u l h k =
     fresh-first nodes now f u rest (fresh-keeps nodes now f vs (u ∷ rest) k (fresh-without nodes now f vs (l [] (fresh-nil nodes old before us h))))
 
 -- it was bound
 pub leaves-next : (nodes : Nodes) (old now new : Table) (before f after : Fresh) (us vs rest : List Term) (u : Term) → LeavesFresh nodes old now before f us vs
-    → ((x l : ℕ) → AreClear (found nodes now) x l vs → AreClear (found nodes now) x l (u ∷ rest)) → LeavesFresh nodes now new f after (u ∷ []) [] → LeavesFresh nodes old new before after us rest
+    → ((x l : ℕ) → AreClear (found nodes now) x l vs → AreClear (found nodes now) x l (u ∷ rest)) → LeavesFresh nodes now new f after (u ∷ []) []
+    → LeavesFresh nodes old new before after us rest
 leaves-next nodes old now new before f after us vs rest u l k b more h =
     b (rest ++ more) (fresh-keeps nodes now f (vs ++ more) (u ∷ (rest ++ more))
-    (λ x j c. let d = k x j (clear-before (found nodes now) x j vs more c) in (d.0, clear-join (found nodes now) x j rest more d.1 (clear-behind (found nodes now) x j vs more c))) (l more h))
+    (λ x j c. let d = k x j (clear-before (found nodes now) x j vs more c) in
+    (d.0, clear-join (found nodes now) x j rest more d.1 (clear-behind (found nodes now) x j vs more c))) (l more h))
 
 -- two facts of an answer
 pub both : {A E : Type 0} (r : Result A E) (P Q R : A → Type 0) → ((a : A) → P a → Q a → R a) → IfOk r P → IfOk r Q → IfOk r R
@@ -341,7 +372,8 @@ lower-none l t levels h n = ext_get_or 0 (lower l t levels) levels n (λ y k. le
     step false m k = refl
 
 -- a variable that stands nowhere may be bound to a term at once
-pub binds-fresh : (nodes : Nodes) (old new : Table) (x : ℕ) (to : At) (us : List Term) → IsTable nodes old → x < count old → cell old x ≡ None → IsEnd nodes old to.0 → ((y : ℕ) → term_tree nodes to.0 ≡ Var y → ⊥)
+pub binds-fresh : (nodes : Nodes) (old new : Table) (x : ℕ) (to : At) (us : List Term) → IsTable nodes old → x < count old → cell old x ≡ None
+    → IsEnd nodes old to.0 → ((y : ℕ) → term_tree nodes to.0 ≡ Var y → ⊥)
     → StandsNowhere nodes old (term_tree nodes to.0 ∷ us) x → IsSet old new x to
     → Binds nodes old new (Var x) (term_tree nodes to.0) (bind old.levels x (sub (found nodes old) (term_tree nodes to.0))) true
 binds-fresh nodes old new x to us tb b fr en n h set =

@@ -9,7 +9,8 @@ use Rattle.ll_bindings.specs.Bindings.{Table, cell, is_var, IsPlaceOf, IsEnd, Is
 use Rattle.ll_bindings.specs.Novel.{IsNewAt}
 
 -- it meets what is no variable
-pub meeting-new : (nodes : Nodes) (t : Table) (f : Fresh) (left right x : ℕ) → IsEnd nodes t left → IsPlaceOf nodes t right → IsNewAt nodes t f right x → ((y : ℕ) → term_tree nodes left ≡ Var y → ⊥) → IsMeeting nodes t left right
+pub meeting-new : (nodes : Nodes) (t : Table) (f : Fresh) (left right x : ℕ) → IsEnd nodes t left → IsPlaceOf nodes t right → IsNewAt nodes t f right x
+    → ((y : ℕ) → term_tree nodes left ≡ Var y → ⊥) → IsMeeting nodes t left right
 meeting-new nodes t f left right x l r n h = record {
   left_end = l;
   right_end = record { place = r; free = λ y e. let same : Var x ≡ Var y = sym n.shown ∙ e in let k : x ≡ y = cc in subst (λ z. cell t z ≡ None) k n.free };

@@ -1,5 +1,6 @@
 -- How pairs of applications are compared.
-use Rattle.std.proofs.Common.{◌≡◌, ℕ, zero, suc, ◌+◌, ◌<◌, ◌≤◌, ◌⊎◌, inl, inr, Bool, true, false, List, [], ◌∷◌, ◌++◌, length, map, get_or, drop, All, refl, ap, sym, subst, ◌∙◌, arith, nat_eq, append_assoc, length-append}
+use Rattle.std.proofs.Common.{◌≡◌, ℕ, zero, suc, ◌+◌, ◌<◌, ◌≤◌, ◌⊎◌, inl, inr, Bool, true, false, List, [], ◌∷◌, ◌++◌, length, map, get_or, drop, All, refl}
+use Rattle.std.proofs.Common.{ap, sym, subst, ◌∙◌, arith, nat_eq, append_assoc, length-append}
 use Rattle.std.specs.Prelude.{ℤ, ◌||◌, ◌&&◌, Option, Some, None, slice_index, slice_set}
 use Rattle.std.specs.Ordering.{int_eq}
 use Rattle.std.proofs.lemmas.Bool.{eqb-true, eqb-false, eq-eqb, ne_eqb, cases_lt}
@@ -25,7 +26,8 @@ use Rattle.ll_bindings.specs.declared.meet.Compared.TheVariants.{Same as SameTer
 use Rattle.ll_bindings.specs.Spines.{args_in, arg, weight, rest_weight, ShowsArgument}
 use Rattle.ll_bindings.specs.Stacks.{Waits, is_empty, is_full}
 use Rattle.ll_bindings.specs.Bindings.{Obeys, IsEnd, AreSame, is_var}
-use Rattle.ll_bindings.specs.Pairs.{pair_trees, lefts, rights, AwaitsEqual, IsPair, IsComparing, ArePairs, Awaits, IsClass, AreClasses, AreBelow, Alike, Opens, MeetsAt, AreJoined, ComparesApplied, IsCompared, pairs_weight}
+use Rattle.ll_bindings.specs.Pairs.{pair_trees, lefts, rights, AwaitsEqual, IsPair, IsComparing, ArePairs, Awaits, IsClass, AreClasses, AreBelow, Alike, Opens}
+use Rattle.ll_bindings.specs.Pairs.{MeetsAt, AreJoined, ComparesApplied, IsCompared, pairs_weight}
 use Rattle.ll_bindings.proofs.Spines.{below-suc, weight-two, rest_weight-more, weight-place, is_spine-app}
 use Rattle.ll_bindings.proofs.Stacks.{opened, Waits-push, Waits-last, no_item, an_item, split_last}
 use Rattle.ll_bindings.proofs.Alike.{diff-refl, diff-same, diff-append, diff-spine, diff-clash, shape-length}
@@ -66,7 +68,8 @@ classes-more nodes t ups h at b = elim (cases_lt at (length ups)) [
       (subst (λ w. IsClass nodes t (length ups) w) (sym (get_or-append_seam ups (length ups) [] 0)) (class-refl nodes t (length ups)))
 ]
 
-index-set : (ups : List ℕ) (k v at : ℕ) → k < length ups → (slice_index (slice_set ups k v) at ≡ v) × (at ≡ k) ⊎ (slice_index (slice_set ups k v) at ≡ slice_index ups at)
+index-set : (ups : List ℕ) (k v at : ℕ) → k < length ups → (slice_index (slice_set ups k v) at ≡ v) × (at ≡ k)
+    ⊎ (slice_index (slice_set ups k v) at ≡ slice_index ups at)
 index-set ups k v at l = step (nat_eq at k) refl
   where
     step : (b : Bool) → nat_eq at k ≡ b → (slice_index (slice_set ups k v) at ≡ v) × (at ≡ k) ⊎ (slice_index (slice_set ups k v) at ≡ slice_index ups at)
@@ -74,7 +77,8 @@ index-set ups k v at l = step (nat_eq at k) refl
     step false e = inr (get_or-set_other ups k at v 0 (eqb-false at k e))
 
 -- a class is led to another
-pub classes-set : (nodes : Nodes) (t : Table) (ups : List ℕ) (k v : ℕ) → k < length ups → AreClasses nodes t ups → IsClass nodes t k v → AreClasses nodes t (slice_set ups k v)
+pub classes-set : (nodes : Nodes) (t : Table) (ups : List ℕ) (k v : ℕ) → k < length ups → AreClasses nodes t ups → IsClass nodes t k v
+    → AreClasses nodes t (slice_set ups k v)
 classes-set nodes t ups k v l h c = λ at b. elim (index-set ups k v at l) [
   | inl e ↦ subst (λ w. IsClass nodes t at w) (sym e.0) (subst (λ w. IsClass nodes t w v) (sym e.1) c)
   | inr e ↦ subst (λ w. IsClass nodes t at w) (sym e) (h at (let q = length-set ups k v in omega arith))
@@ -87,12 +91,14 @@ below-set ups k v l h c at b = elim (index-set ups k v at l) [
 ]
 
 -- two steps at once
-pub class-twice : (nodes : Nodes) (t : Table) (ups : List ℕ) (k : ℕ) → k < length ups → AreClasses nodes t ups → IsClass nodes t k (slice_index ups (slice_index ups k))
+pub class-twice : (nodes : Nodes) (t : Table) (ups : List ℕ) (k : ℕ) → k < length ups → AreClasses nodes t ups
+    → IsClass nodes t k (slice_index ups (slice_index ups k))
 class-twice nodes t ups k l h =
     let p = h k l in
     class-trans nodes t k (slice_index ups k) (slice_index ups (slice_index ups k)) p (h (slice_index ups k) (let i = p.below in omega arith))
 
-pub class-on : (nodes : Nodes) (t : Table) (ups : List ℕ) (a k : ℕ) → k < length ups → AreClasses nodes t ups → IsClass nodes t a k → IsClass nodes t a (slice_index ups (slice_index ups k))
+pub class-on : (nodes : Nodes) (t : Table) (ups : List ℕ) (a k : ℕ) → k < length ups → AreClasses nodes t ups → IsClass nodes t a k
+    → IsClass nodes t a (slice_index ups (slice_index ups k))
 class-on nodes t ups a k l h c = class-trans nodes t a k (slice_index ups (slice_index ups k)) c (class-twice nodes t ups k l h)
 
 -- ---- how two terms compare
@@ -104,15 +110,18 @@ pub record Ends (nodes : Nodes) (t : Table) (u v : Term) (a b : At) : Type 0 whe
   pub left : AreSame nodes t (term_tree nodes a.0) u
   pub right : AreSame nodes t (term_tree nodes b.0) v
 
-pub compare-var : (nodes : Nodes) (t : Table) (u v : Term) (a b : At) (x y : ℕ) → Ends nodes t u v a b → term_tree nodes a.0 ≡ Var x → term_tree nodes b.0 ≡ Var y → x ≡ y → AreSame nodes t u v
+pub compare-var : (nodes : Nodes) (t : Table) (u v : Term) (a b : At) (x y : ℕ) → Ends nodes t u v a b → term_tree nodes a.0 ≡ Var x
+    → term_tree nodes b.0 ≡ Var y → x ≡ y → AreSame nodes t u v
 compare-var nodes t u v a b x y e p q r s o =
     sym (e.left s o) ∙ (ap (sub s) (p ∙ (ap Var r ∙ sym q)) ∙ e.right s o)
 
-pub compare-int : (nodes : Nodes) (t : Table) (u v : Term) (a b : At) (m n : ℤ) → Ends nodes t u v a b → term_tree nodes a.0 ≡ Int m → term_tree nodes b.0 ≡ Int n → int_eq m n ≡ true → AreSame nodes t u v
+pub compare-int : (nodes : Nodes) (t : Table) (u v : Term) (a b : At) (m n : ℤ) → Ends nodes t u v a b → term_tree nodes a.0 ≡ Int m
+    → term_tree nodes b.0 ≡ Int n → int_eq m n ≡ true → AreSame nodes t u v
 compare-int nodes t u v a b m n e p q r s o =
     sym (e.left s o) ∙ (ap (sub s) (p ∙ (ap Int ((Decides-int_eq m n).0 r) ∙ sym q)) ∙ e.right s o)
 
-pub compare-meet : (nodes : Nodes) (t : Table) (u v : Term) (a b : At) → Ends nodes t u v a b → is_var (term_tree nodes a.0) || is_var (term_tree nodes b.0) ≡ true
+pub compare-meet : (nodes : Nodes) (t : Table) (u v : Term) (a b : At) → Ends nodes t u v a b
+    → is_var (term_tree nodes a.0) || is_var (term_tree nodes b.0) ≡ true
     → ((x : ℕ) → term_tree nodes a.0 ≡ Var x → term_tree nodes b.0 ≡ Var x → ⊥) → MeetsAt nodes t u v a b
 compare-meet nodes t u v a b e w d = record {
   meeting = record { left_end = e.left_end; right_end = e.right_end; var = w; differ = d };
@@ -131,7 +140,8 @@ meet-right nodes a b x e = ap (λ u. is_var (term_tree nodes a.0) || is_var u) e
     always false = refl
 
 -- two ends that clash
-pub compare-clash : (nodes : Nodes) (t : Table) (u v : Term) (a b : At) → Ends nodes t u v a b → ((s : ℕ → Term) → diff (sub s (term_tree nodes a.0)) (sub s (term_tree nodes b.0)) ≡ Clash)
+pub compare-clash : (nodes : Nodes) (t : Table) (u v : Term) (a b : At) → Ends nodes t u v a b
+    → ((s : ℕ → Term) → diff (sub s (term_tree nodes a.0)) (sub s (term_tree nodes b.0)) ≡ Clash)
     → (s : ℕ → Term) → Obeys nodes t s → diff (sub s u) (sub s v) ≡ Clash
 compare-clash nodes t u v a b e c s o = (λ i. diff (sym (e.left s o) i) (sym (e.right s o) i)) ∙ c s
 
@@ -165,12 +175,14 @@ shape-app u v h k ts us p q =
     (λ i. same_predicate (p i) (q i)) ∙ (λ i. same_head (head_of-app h ts i) (head_of-app k us i) && nat_eq (arity-app h ts i) (arity-app k us i))
 
 -- places of classes, compared by their places and signs
-pub compare-classes : (nodes : Nodes) (t : Table) (u v : Term) (a b : At) (c d : At) (ups : List ℕ) → Ends nodes t u v a b → is_spine (term_tree nodes a.0) ≡ true → is_spine (term_tree nodes b.0) ≡ true
+pub compare-classes : (nodes : Nodes) (t : Table) (u v : Term) (a b : At) (c d : At) (ups : List ℕ) → Ends nodes t u v a b
+    → is_spine (term_tree nodes a.0) ≡ true → is_spine (term_tree nodes b.0) ≡ true
     → IsClass nodes t a.0 c.0 → IsClass nodes t b.0 d.0 → (r : Compared) → ComparesApplied nodes c d r → IsCompared nodes t u v r
 compare-classes nodes t u v a b c d ups e sa sb ca cb SameTerms h =
     λ s o. sym (e.left s o) ∙ (sym (ca.same s o) ∙ (ap (λ k. sub s (term_tree nodes k)) h ∙ (cb.same s o ∙ e.right s o)))
 compare-classes nodes t u v a b c d ups e sa sb ca cb ClashTerms h =
-    λ s o. (λ i. diff ((sym (e.left s o) ∙ sym (ca.same s o)) i) ((sym (e.right s o) ∙ sym (cb.same s o)) i)) ∙ diff-clash s (term_tree nodes c.0) (term_tree nodes d.0) (ca.spine sa) (cb.spine sb) h
+    λ s o. (λ i. diff ((sym (e.left s o) ∙ sym (ca.same s o)) i) ((sym (e.right s o) ∙ sym (cb.same s o)) i))
+    ∙ diff-clash s (term_tree nodes c.0) (term_tree nodes d.0) (ca.spine sa) (cb.spine sb) h
 compare-classes nodes t u v a b c d ups e sa sb ca cb (MeetTerms x y) h = absurd h
 compare-classes nodes t u v a b c d ups e sa sb ca cb (OpenTerms x y) h =
     subst (λ z. Opens nodes t u v z y) (sym h.0) (subst (λ z. Opens nodes t u v c z) (sym h.1) (record {
@@ -218,31 +230,45 @@ drop-first : (ts : List Term) (k : ℕ) (u : Term) → k < length ts → get_or 
 drop-first ts k u l g = drop-cons ts k (Var 0) l ∙ ap (λ v. v ∷ drop (suc k) ts) g
 
 -- the next arguments of the pair on top
-pub lefts-next : (nodes : Nodes) (items ps : List Pair) (p q : Pair) (a : At) → items ≡ ps ++ p ∷ [] → ShowsArgument nodes p.left.0 p.next a.0 → q.left ≡ p.left → q.next ≡ p.next + 1
+pub lefts-next : (nodes : Nodes) (items ps : List Pair) (p q : Pair) (a : At) → items ≡ ps ++ p ∷ [] → ShowsArgument nodes p.left.0 p.next a.0 → q.left ≡ p.left
+    → q.next ≡ p.next + 1
     → lefts nodes items ≡ term_tree nodes a.0 ∷ lefts nodes (ps ++ q ∷ [])
 lefts-next nodes items ps p q a e sa ql qn =
-    ap (lefts nodes) e ∙ (lefts-push nodes ps p ∙ (ap (λ ts. ts ++ lefts nodes ps) (drop-first (args_in (term_tree nodes p.left.0)) p.next (term_tree nodes a.0) sa.among sa.is)
-    ∙ ap (λ ts. term_tree nodes a.0 ∷ ts) (sym (lefts-push nodes ps q ∙ (λ i. drop (suc-next q.next p.next qn i) (args_in (term_tree nodes (ql i).0)) ++ lefts nodes ps)))))
+    ap (lefts nodes) e
+    ∙ (lefts-push nodes ps p ∙ (ap (λ ts. ts ++ lefts nodes ps)
+    (drop-first (args_in (term_tree nodes p.left.0)) p.next (term_tree nodes a.0) sa.among sa.is)
+    ∙ ap (λ ts. term_tree nodes a.0 ∷ ts) (sym (lefts-push nodes ps q
+    ∙ (λ i. drop (suc-next q.next p.next qn i) (args_in (term_tree nodes (ql i).0)) ++ lefts nodes ps)))))
 
-rights-next : (nodes : Nodes) (items ps : List Pair) (p q : Pair) (b : At) → items ≡ ps ++ p ∷ [] → ShowsArgument nodes p.right.0 p.next b.0 → q.right ≡ p.right → q.next ≡ p.next + 1
+rights-next : (nodes : Nodes) (items ps : List Pair) (p q : Pair) (b : At) → items ≡ ps ++ p ∷ [] → ShowsArgument nodes p.right.0 p.next b.0 → q.right ≡ p.right
+    → q.next ≡ p.next + 1
     → rights nodes items ≡ term_tree nodes b.0 ∷ rights nodes (ps ++ q ∷ [])
 rights-next nodes items ps p q b e sb qr qn =
-    ap (rights nodes) e ∙ (rights-push nodes ps p ∙ (ap (λ ts. ts ++ rights nodes ps) (drop-first (args_in (term_tree nodes p.right.0)) p.next (term_tree nodes b.0) sb.among sb.is)
-    ∙ ap (λ ts. term_tree nodes b.0 ∷ ts) (sym (rights-push nodes ps q ∙ (λ i. drop (suc-next q.next p.next qn i) (args_in (term_tree nodes (qr i).0)) ++ rights nodes ps)))))
+    ap (rights nodes) e
+    ∙ (rights-push nodes ps p ∙ (ap (λ ts. ts ++ rights nodes ps)
+    (drop-first (args_in (term_tree nodes p.right.0)) p.next (term_tree nodes b.0) sb.among sb.is)
+    ∙ ap (λ ts. term_tree nodes b.0 ∷ ts) (sym (rights-push nodes ps q
+    ∙ (λ i. drop (suc-next q.next p.next qn i) (args_in (term_tree nodes (qr i).0)) ++ rights nodes ps)))))
 
-pub alike-next : (nodes : Nodes) (t : Table) (items ps : List Pair) (p q : Pair) (a b : At) → items ≡ ps ++ p ∷ [] → ShowsArgument nodes p.left.0 p.next a.0 → ShowsArgument nodes p.right.0 p.next b.0
+pub alike-next : (nodes : Nodes) (t : Table) (items ps : List Pair) (p q : Pair) (a b : At) → items ≡ ps ++ p ∷ [] → ShowsArgument nodes p.left.0 p.next a.0
+    → ShowsArgument nodes p.right.0 p.next b.0
     → q.left ≡ p.left → q.right ≡ p.right → q.next ≡ p.next + 1
-    → Alike nodes t (lefts nodes items) (rights nodes items) (term_tree nodes a.0 ∷ lefts nodes (ps ++ q ∷ [])) (term_tree nodes b.0 ∷ rights nodes (ps ++ q ∷ []))
+    → Alike nodes t (lefts nodes items) (rights nodes items) (term_tree nodes a.0 ∷ lefts nodes (ps ++ q ∷ []))
+    (term_tree nodes b.0 ∷ rights nodes (ps ++ q ∷ []))
 alike-next nodes t items ps p q a b e sa sb ql qr qn =
-    alike-same nodes t (lefts nodes items) (rights nodes items) (term_tree nodes a.0 ∷ lefts nodes (ps ++ q ∷ [])) (term_tree nodes b.0 ∷ rights nodes (ps ++ q ∷ []))
+    alike-same nodes t (lefts nodes items) (rights nodes items) (term_tree nodes a.0 ∷ lefts nodes (ps ++ q ∷ []))
+    (term_tree nodes b.0 ∷ rights nodes (ps ++ q ∷ []))
     (lefts-next nodes items ps p q a e sa ql qn) (rights-next nodes items ps p q b e sb qr qn)
 
 -- nothing is left of the pair on top
-pub lefts-done : (nodes : Nodes) (items ps : List Pair) (p : Pair) → items ≡ ps ++ p ∷ [] → length (args_in (term_tree nodes p.left.0)) ≤ p.next → lefts nodes items ≡ lefts nodes ps
-lefts-done nodes items ps p e l = ap (lefts nodes) e ∙ (lefts-push nodes ps p ∙ ap (λ ts. ts ++ lefts nodes ps) (drop_all p.next (args_in (term_tree nodes p.left.0)) l))
+pub lefts-done : (nodes : Nodes) (items ps : List Pair) (p : Pair) → items ≡ ps ++ p ∷ [] → length (args_in (term_tree nodes p.left.0)) ≤ p.next
+    → lefts nodes items ≡ lefts nodes ps
+lefts-done nodes items ps p e l = ap (lefts nodes) e ∙ (lefts-push nodes ps p
+    ∙ ap (λ ts. ts ++ lefts nodes ps) (drop_all p.next (args_in (term_tree nodes p.left.0)) l))
 
 pub alike-done : (nodes : Nodes) (t : Table) (items ps : List Pair) (p : Pair) → items ≡ ps ++ p ∷ [] → length (args_in (term_tree nodes p.left.0)) ≤ p.next
-    → length (args_in (term_tree nodes p.left.0)) ≡ length (args_in (term_tree nodes p.right.0)) → Alike nodes t (lefts nodes items) (rights nodes items) (lefts nodes ps) (rights nodes ps)
+    → length (args_in (term_tree nodes p.left.0)) ≡ length (args_in (term_tree nodes p.right.0))
+    → Alike nodes t (lefts nodes items) (rights nodes items) (lefts nodes ps) (rights nodes ps)
 alike-done nodes t items ps p e l n =
     alike-same nodes t (lefts nodes items) (rights nodes items) (lefts nodes ps) (rights nodes ps) (lefts-done nodes items ps p e l)
     (ap (rights nodes) e ∙ (rights-push nodes ps p ∙ ap (λ ts. ts ++ rights nodes ps) (drop_all p.next (args_in (term_tree nodes p.right.0)) (omega arith))))
@@ -253,11 +279,14 @@ alike-equal nodes t u v ls rs h s o = ap (λ d. and_then d (diff_lists (map (sub
 
 -- applications of one head in front
 pub alike-open : (nodes : Nodes) (t : Table) (u v : Term) (a b : At) (ps : List Pair) → Opens nodes t u v a b
-    → Alike nodes t (u ∷ lefts nodes ps) (v ∷ rights nodes ps) (lefts nodes (ps ++ (record { left = a; right = b; next = 0 }) ∷ [])) (rights nodes (ps ++ (record { left = a; right = b; next = 0 }) ∷ []))
+    → Alike nodes t (u ∷ lefts nodes ps) (v ∷ rights nodes ps) (lefts nodes (ps ++ (record { left = a; right = b; next = 0 }) ∷ []))
+    (rights nodes (ps ++ (record { left = a; right = b; next = 0 }) ∷ []))
 alike-open nodes t u v a b ps h s o =
-    ap (λ d. and_then d (diff_lists (map (sub s) (lefts nodes ps)) (map (sub s) (rights nodes ps)))) ((λ i. diff (sym (h.left s o) i) (sym (h.right s o) i)) ∙ diff-spine s (term_tree nodes a.0) (term_tree nodes b.0) h.shape)
+    ap (λ d. and_then d (diff_lists (map (sub s) (lefts nodes ps)) (map (sub s) (rights nodes ps))))
+    ((λ i. diff (sym (h.left s o) i) (sym (h.right s o) i)) ∙ diff-spine s (term_tree nodes a.0) (term_tree nodes b.0) h.shape)
     ∙ (sym (diff-append (map (sub s) us) (map (sub s) vs) (map (sub s) (lefts nodes ps)) (map (sub s) (rights nodes ps)) n)
-    ∙ (λ i. diff_lists ((sym (map-append (sub s) us (lefts nodes ps)) ∙ ap (map (sub s)) (sym (lefts-push nodes ps (record { left = a; right = b; next = 0 })))) i)
+    ∙ (λ i. diff_lists ((sym (map-append (sub s) us (lefts nodes ps)) ∙ ap (map (sub s)) (sym (lefts-push nodes ps (record { left = a; right = b; next = 0 }))))
+    i)
     ((sym (map-append (sub s) vs (rights nodes ps)) ∙ ap (map (sub s)) (sym (rights-push nodes ps (record { left = a; right = b; next = 0 })))) i)))
   where
     us : List Term
@@ -272,8 +301,10 @@ alike-open nodes t u v a b ps h s o =
 -- ---- the stack of pairs
 
 -- the pair on top goes on, and waits for its next arguments
-pub awaits-next : (nodes : Nodes) (t : Table) (items ps : List Pair) (p q : Pair) (a b : At) → ArePairs nodes t items → items ≡ ps ++ p ∷ [] → ShowsArgument nodes p.left.0 p.next a.0 → ShowsArgument nodes p.right.0 p.next b.0
-    → q.left ≡ p.left → q.right ≡ p.right → q.next ≡ p.next + 1 → Awaits nodes t (ps ++ q ∷ []) (record { left = term_tree nodes a.0; right = term_tree nodes b.0 })
+pub awaits-next : (nodes : Nodes) (t : Table) (items ps : List Pair) (p q : Pair) (a b : At) → ArePairs nodes t items → items ≡ ps ++ p ∷ []
+    → ShowsArgument nodes p.left.0 p.next a.0 → ShowsArgument nodes p.right.0 p.next b.0
+    → q.left ≡ p.left → q.right ≡ p.right → q.next ≡ p.next + 1
+    → Awaits nodes t (ps ++ q ∷ []) (record { left = term_tree nodes a.0; right = term_tree nodes b.0 })
 awaits-next nodes t items ps p q a b h e sa sb ql qr qn =
     subst (λ r. Awaits nodes t (ps ++ r ∷ []) (record { left = term_tree nodes a.0; right = term_tree nodes b.0 }))
     (λ i. record { left = sym ql i; right = sym qr i; next = sym qn i }) base
@@ -298,7 +329,8 @@ awaits-next nodes t items ps p q a b h e sa sb ql qr qn =
     }
 
 -- what was waited for is equal
-pub awaits-equal : (nodes : Nodes) (t : Table) (ps : List Pair) (u v : Term) → Awaits nodes t ps (record { left = u; right = v }) → AreSame nodes t u v → ArePairs nodes t ps
+pub awaits-equal : (nodes : Nodes) (t : Table) (ps : List Pair) (u v : Term) → Awaits nodes t ps (record { left = u; right = v }) → AreSame nodes t u v
+    → ArePairs nodes t ps
 awaits-equal nodes t ps u v w h = elim (split_last ps) [
   | no_item e ↦ is_empty e tt
   | an_item qs q e ↦
@@ -315,7 +347,8 @@ awaits-equal nodes t ps u v w h = elim (split_last ps) [
 ]
 
 -- what was waited for is opened
-pub awaits-open : (nodes : Nodes) (t : Table) (ps : List Pair) (u v : Term) (a b : At) → Awaits nodes t ps (record { left = u; right = v }) → Opens nodes t u v a b
+pub awaits-open : (nodes : Nodes) (t : Table) (ps : List Pair) (u v : Term) (a b : At) → Awaits nodes t ps (record { left = u; right = v })
+    → Opens nodes t u v a b
     → ArePairs nodes t (ps ++ (record { left = a; right = b; next = 0 }) ∷ [])
 awaits-open nodes t ps u v a b w h = is_full ps (record { left = a; right = b; next = 0 }) refl (record {
   top = λ s o k l. absurd (omega arith);
@@ -324,7 +357,8 @@ awaits-open nodes t ps u v a b w h = is_full ps (record { left = a; right = b; n
   pairs = w.pairs;
 })
   where
-    awaits-other : (nodes : Nodes) (t : Table) (ps : List Pair) (u v u2 v2 : Term) → Awaits nodes t ps (record { left = u; right = v }) → AreSame nodes t u2 u → AreSame nodes t v2 v
+    awaits-other : (nodes : Nodes) (t : Table) (ps : List Pair) (u v u2 v2 : Term) → Awaits nodes t ps (record { left = u; right = v }) → AreSame nodes t u2 u
+        → AreSame nodes t v2 v
         → Waits (pair_trees nodes) (AwaitsEqual nodes t) ps (record { left = u2; right = v2 })
     awaits-other nodes t [] u v u2 v2 w p q = tt
     awaits-other nodes t (f ∷ []) u v u2 v2 w p q = (λ s o e. w.waits.0 s o (sym (p s o) ∙ (e ∙ q s o)), tt)
@@ -332,7 +366,8 @@ awaits-open nodes t ps u v a b w h = is_full ps (record { left = a; right = b; n
         (w.waits.0, awaits-other nodes t (g ∷ fs) u v u2 v2 (record { waits = w.waits.1; pairs = All-tail (IsPair nodes t) f (g ∷ fs) w.pairs }) p q)
 
 -- what was waited for meets at other places
-pub awaits-meet : (nodes : Nodes) (t : Table) (ps : List Pair) (u v : Term) (a b : At) → Awaits nodes t ps (record { left = u; right = v }) → AreSame nodes t (term_tree nodes a.0) u → AreSame nodes t (term_tree nodes b.0) v
+pub awaits-meet : (nodes : Nodes) (t : Table) (ps : List Pair) (u v : Term) (a b : At) → Awaits nodes t ps (record { left = u; right = v })
+    → AreSame nodes t (term_tree nodes a.0) u → AreSame nodes t (term_tree nodes b.0) v
     → Awaits nodes t ps (record { left = term_tree nodes a.0; right = term_tree nodes b.0 })
 awaits-meet nodes t ps u v a b w p q = record { waits = go ps w.waits; pairs = w.pairs }
   where
@@ -342,11 +377,14 @@ awaits-meet nodes t ps u v a b w p q = record { waits = go ps w.waits; pairs = w
     go (f ∷ []) w = (λ s o e. w.0 s o (sym (p s o) ∙ (e ∙ q s o)), tt)
     go (f ∷ g ∷ fs) w = (w.0, go (g ∷ fs) w.1)
 
-equal-terms : (s : ℕ → Term) (u v : Term) → same_predicate u v ≡ true → ((k : ℕ) → k < length (args_in u) → sub s (arg u k) ≡ sub s (arg v k)) → diff (sub s u) (sub s v) ≡ Same
+equal-terms : (s : ℕ → Term) (u v : Term) → same_predicate u v ≡ true → ((k : ℕ) → k < length (args_in u) → sub s (arg u k) ≡ sub s (arg v k))
+    → diff (sub s u) (sub s v) ≡ Same
 equal-terms s u v h e =
-    diff-spine s u v h ∙ ap (diff_lists (map (sub s) (args_in u))) (sym (lists (args_in u) (args_in v) (shape-length u v h) e)) ∙ all-refl (map (sub s) (args_in u))
+    diff-spine s u v h ∙ ap (diff_lists (map (sub s) (args_in u))) (sym (lists (args_in u) (args_in v) (shape-length u v h) e))
+    ∙ all-refl (map (sub s) (args_in u))
   where
-    lists : (ts us : List Term) → length ts ≡ length us → ((k : ℕ) → k < length ts → sub s (get_or ts k (Var 0)) ≡ sub s (get_or us k (Var 0))) → map (sub s) ts ≡ map (sub s) us
+    lists : (ts us : List Term) → length ts ≡ length us → ((k : ℕ) → k < length ts → sub s (get_or ts k (Var 0)) ≡ sub s (get_or us k (Var 0)))
+        → map (sub s) ts ≡ map (sub s) us
     lists [] [] n e = refl
     lists [] (y ∷ us) n e = absurd (omega arith)
     lists (x ∷ ts) [] n e = absurd (omega arith)
@@ -358,9 +396,11 @@ equal-terms s u v h e =
     all-refl (x ∷ ts) = (λ i. and_then (diff-refl x i) (all-refl ts i))
 
 -- the pair on top is equal
-pub top-equal : (nodes : Nodes) (t : Table) (ps : List Pair) (p : Pair) → IsComparing nodes t ps p → length (args_in (term_tree nodes p.left.0)) ≤ p.next → AreSame nodes t (term_tree nodes p.left.0) (term_tree nodes p.right.0)
+pub top-equal : (nodes : Nodes) (t : Table) (ps : List Pair) (p : Pair) → IsComparing nodes t ps p → length (args_in (term_tree nodes p.left.0)) ≤ p.next
+    → AreSame nodes t (term_tree nodes p.left.0) (term_tree nodes p.right.0)
 top-equal nodes t ps p c l s o =
-    diff-is-same (sub s (term_tree nodes p.left.0)) (sub s (term_tree nodes p.right.0)) (equal-terms s (term_tree nodes p.left.0) (term_tree nodes p.right.0) c.pair.shape (λ k m. c.top s o k (omega arith)))
+    diff-is-same (sub s (term_tree nodes p.left.0)) (sub s (term_tree nodes p.right.0))
+    (equal-terms s (term_tree nodes p.left.0) (term_tree nodes p.right.0) c.pair.shape (λ k m. c.top s o k (omega arith)))
 
 pub shape-spine : (u v : Term) → same_predicate u v ≡ true → (is_spine u ≡ true) × (is_spine v ≡ true)
 shape-spine u v h = (
@@ -377,7 +417,8 @@ shape-spine u v h = (
     right (Some k) None e h = cc
     right (Some k) (Some j) e h = spine_of_head v j e
 
-pub top-joined : (nodes : Nodes) (t : Table) (ps : List Pair) (p : Pair) → IsComparing nodes t ps p → length (args_in (term_tree nodes p.left.0)) ≤ p.next → AreJoined nodes t p.left.0 p.right.0
+pub top-joined : (nodes : Nodes) (t : Table) (ps : List Pair) (p : Pair) → IsComparing nodes t ps p → length (args_in (term_tree nodes p.left.0)) ≤ p.next
+    → AreJoined nodes t p.left.0 p.right.0
 top-joined nodes t ps p c l =
     let h = shape-spine (term_tree nodes p.left.0) (term_tree nodes p.right.0) c.pair.shape in record {
       same = top-equal nodes t ps p c l;
@@ -388,22 +429,26 @@ top-joined nodes t ps p c l =
     }
 
 -- the pair on top is done
-pub pairs-done : (nodes : Nodes) (t : Table) (ps : List Pair) (p : Pair) → IsComparing nodes t ps p → length (args_in (term_tree nodes p.left.0)) ≤ p.next → ArePairs nodes t ps
+pub pairs-done : (nodes : Nodes) (t : Table) (ps : List Pair) (p : Pair) → IsComparing nodes t ps p → length (args_in (term_tree nodes p.left.0)) ≤ p.next
+    → ArePairs nodes t ps
 pairs-done nodes t ps p c l =
     awaits-equal nodes t ps (term_tree nodes p.left.0) (term_tree nodes p.right.0) (record { waits = c.waits; pairs = c.pairs }) (top-equal nodes t ps p c l)
 
 -- ---- the weight of what is left
 
-pub pairs_weight-next : (nodes : Nodes) (s : ℕ → Term) (ps : List Pair) (p q : Pair) → p.next < length (args_in (term_tree nodes p.left.0)) → q.left ≡ p.left → q.next ≡ p.next + 1
+pub pairs_weight-next : (nodes : Nodes) (s : ℕ → Term) (ps : List Pair) (p q : Pair) → p.next < length (args_in (term_tree nodes p.left.0)) → q.left ≡ p.left
+    → q.next ≡ p.next + 1
     → pairs_weight nodes s (ps ++ q ∷ []) < pairs_weight nodes s (ps ++ p ∷ [])
 pairs_weight-next nodes s ps p q b ql qn =
     let w : Pair → ℕ = λ r. 1 + rest_weight s (term_tree nodes r.left.0) r.next in
     let e = sum_by_push w ps q in let f = sum_by_push w ps p in
     let r = rest_weight-more s (term_tree nodes p.left.0) p.next b in let v = weight-two (sub s (arg (term_tree nodes p.left.0) p.next)) in
-    let g : rest_weight s (term_tree nodes q.left.0) q.next ≡ rest_weight s (term_tree nodes p.left.0) (p.next + 1) = λ i. rest_weight s (term_tree nodes (ql i).0) (qn i) in
+    let g : rest_weight s (term_tree nodes q.left.0) q.next ≡ rest_weight s (term_tree nodes p.left.0) (p.next + 1) =
+    λ i. rest_weight s (term_tree nodes (ql i).0) (qn i) in
     omega arith
 
-pub pairs_weight-open : (nodes : Nodes) (s : ℕ → Term) (ps : List Pair) (p q : Pair) (a b : At) → p.next < length (args_in (term_tree nodes p.left.0)) → q.left ≡ p.left → q.next ≡ p.next + 1
+pub pairs_weight-open : (nodes : Nodes) (s : ℕ → Term) (ps : List Pair) (p q : Pair) (a b : At) → p.next < length (args_in (term_tree nodes p.left.0))
+    → q.left ≡ p.left → q.next ≡ p.next + 1
     → sub s (term_tree nodes a.0) ≡ sub s (arg (term_tree nodes p.left.0) p.next)
     → pairs_weight nodes s ((ps ++ q ∷ []) ++ (record { left = a; right = b; next = 0 }) ∷ []) < pairs_weight nodes s (ps ++ p ∷ [])
 pairs_weight-open nodes s ps p q a b l ql qn same =
@@ -412,14 +457,16 @@ pairs_weight-open nodes s ps p q a b l ql qn same =
     let e = sum_by_push w ps q in let f = sum_by_push w ps p in
     let r = rest_weight-more s (term_tree nodes p.left.0) p.next l in let v = weight-place nodes s a.0 in
     let d : weight (sub s (term_tree nodes a.0)) ≡ weight (sub s (arg (term_tree nodes p.left.0) p.next)) = ap weight same in
-    let g : rest_weight s (term_tree nodes q.left.0) q.next ≡ rest_weight s (term_tree nodes p.left.0) (p.next + 1) = λ i. rest_weight s (term_tree nodes (ql i).0) (qn i) in
+    let g : rest_weight s (term_tree nodes q.left.0) q.next ≡ rest_weight s (term_tree nodes p.left.0) (p.next + 1) =
+    λ i. rest_weight s (term_tree nodes (ql i).0) (qn i) in
     omega arith
 
 pub pairs_weight-done : (nodes : Nodes) (s : ℕ → Term) (ps : List Pair) (p : Pair) → pairs_weight nodes s ps < pairs_weight nodes s (ps ++ p ∷ [])
 pairs_weight-done nodes s ps p = let w : Pair → ℕ = λ r. 1 + rest_weight s (term_tree nodes r.left.0) r.next in let f = sum_by_push w ps p in omega arith
 
 -- two reads in a row
-pub next-is : (ups : List ℕ) (k a b : ℕ) → k < length ups → slice_index ups k ≤ k → a ≡ get_or ups k a → b ≡ get_or ups a b → b ≡ slice_index ups (slice_index ups k)
+pub next-is : (ups : List ℕ) (k a b : ℕ) → k < length ups → slice_index ups k ≤ k → a ≡ get_or ups k a → b ≡ get_or ups a b
+    → b ≡ slice_index ups (slice_index ups k)
 next-is ups k a b l h p q =
     let e : a ≡ slice_index ups k = p ∙ get_or_default ups k a 0 l in
     q ∙ (get_or_default ups a b 0 (omega arith) ∙ ap (λ j. get_or ups j 0) e)

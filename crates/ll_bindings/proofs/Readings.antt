@@ -108,7 +108,8 @@ module _ (nodes : Nodes) (t : Table) (h : IsOrdered nodes t) where
   abbrev rank_of : ℕ → ℕ
   rank_of x = up_to h.rank (length t.bound) (h.rank x)
 
-  settled-bound : (n x : ℕ) (at : At) → cell t x ≡ Some at → ((y : ℕ) → occurs y (term_tree nodes at.0) ≡ true → followed nodes t.bound (suc n) y ≡ followed nodes t.bound n y)
+  settled-bound : (n x : ℕ) (at : At) → cell t x ≡ Some at → ((y : ℕ) → occurs y (term_tree nodes at.0) ≡ true
+      → followed nodes t.bound (suc n) y ≡ followed nodes t.bound n y)
       → followed nodes t.bound (suc (suc n)) x ≡ followed nodes t.bound (suc n) x
   settled-bound n x at e h =
       ap (λ o. sub (followed nodes t.bound (suc n)) (shown nodes x o)) e
@@ -160,7 +161,8 @@ module _ (nodes : Nodes) (t : Table) (h : IsOrdered nodes t) where
   chain-most zero x = omega arith
   chain-most (suc n) x = step (λ y. chain-most n y) (cell t x) refl
     where
-      step : ((y : ℕ) → chain nodes t.bound n (Var y) ≤ rank_of y) → (o : Option At) → cell t x ≡ o → one_more (λ at. chain nodes t.bound n (term_tree nodes at.0)) o ≤ rank_of x
+      step : ((y : ℕ) → chain nodes t.bound n (Var y) ≤ rank_of y) → (o : Option At) → cell t x ≡ o
+          → one_more (λ at. chain nodes t.bound n (term_tree nodes at.0)) o ≤ rank_of x
       step ih None e = omega arith
       step ih (Some at) e = on (term_tree nodes at.0) refl
         where
@@ -190,7 +192,8 @@ module _ (nodes : Nodes) (t : Table) (h : IsOrdered nodes t) where
       step ih (Some at) k = ap suc (ih (term_tree nodes at.0) (omega arith))
 
   -- a step along a bound variable makes the chain shorter
-  pub chain-step : (u : Term) (to : At) → Leads t u to → chain nodes t.bound (suc (length t.bound)) (term_tree nodes to.0) < chain nodes t.bound (suc (length t.bound)) u
+  pub chain-step : (u : Term) (to : At) → Leads t u to → chain nodes t.bound (suc (length t.bound)) (term_tree nodes to.0) < chain nodes t.bound
+      (suc (length t.bound)) u
   chain-step u to l =
       let w = whole in let k = here in
       let most = chain-most (suc (length t.bound)) l.var in let cells = up_to-most h.rank (length t.bound) (h.rank l.var) in

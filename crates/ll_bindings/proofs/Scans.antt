@@ -1,5 +1,6 @@
 -- How a term is looked through.
-use Rattle.std.proofs.Common.{◌≡◌, ℕ, ◌+◌, ◌<◌, ◌≤◌, ◌⊎◌, inl, inr, Bool, true, false, List, [], ◌∷◌, ◌++◌, length, get_or, All, refl, ap, sym, subst, ◌∙◌, arith, nat_eq}
+use Rattle.std.proofs.Common.{◌≡◌, ℕ, ◌+◌, ◌<◌, ◌≤◌, ◌⊎◌, inl, inr, Bool, true, false, List, [], ◌∷◌, ◌++◌, length, get_or, All, refl, ap, sym, subst, ◌∙◌}
+use Rattle.std.proofs.Common.{arith, nat_eq}
 use Rattle.std.specs.Prelude.{◌||◌, ◌&&◌, not, Option, Some, None}
 use Rattle.std.proofs.Math.Bool.{or_assoc}
 use Rattle.std.proofs.lemmas.Bool.{and_from, or_from, not_from_false, or_left, or_right, eqb-true, eq-eqb}
@@ -11,12 +12,14 @@ use Rattle.ll_bank.specs.Term.{Term, Var, Int, Con, Ap, sub, occurs, eigens_belo
 use Rattle.ll_bank.specs.Nodes.{Nodes, term_tree}
 use Rattle.ll_bank.proofs.CallerLemmas.{applies_heads-term_tree, head_of-app}
 use Rattle.std.proofs.lemmas.List.{append-nil, get_or_default}
-use Rattle.ll_lists.proofs.CallerLemmas.{false_from_not as not_true, true_from_not, and_true_left as and_left, and_true_right as and_right, or_elim as or_cases, All-front as All-before, All-last}
+use Rattle.ll_lists.proofs.CallerLemmas.{false_from_not as not_true, true_from_not, and_true_left as and_left, and_true_right as and_right}
+use Rattle.ll_lists.proofs.CallerLemmas.{or_elim as or_cases, All-front as All-before, All-last}
 use Rattle.ll_bindings.specs.declared.scan.Frame.{Frame}
 use Rattle.ll_bindings.specs.Spines.{args_in, arg, weight, rest_weight, ShowsArgument}
 use Rattle.ll_bindings.specs.Stacks.{lowest, Waits, is_empty, is_full}
 use Rattle.ll_bindings.specs.Bindings.{Table, HasCells, found, cell, count, IsTable, IsEnd, IsFree, AreSame}
-use Rattle.ll_bindings.specs.Scanned.{is_among, IsGood, IsPart, is_bad, AreNoted, IsScan, AreGood, frame_tree, IsFrame, IsScanning, AreFrames, IsScanned, IsKnown, is_good_sign, own_vars, IsLook, frames_weight}
+use Rattle.ll_bindings.specs.Scanned.{is_among, IsGood, IsPart, is_bad, AreNoted, IsScan, AreGood, frame_tree, IsFrame, IsScanning, AreFrames, IsScanned}
+use Rattle.ll_bindings.specs.Scanned.{IsKnown, is_good_sign, own_vars, IsLook, frames_weight}
 use Rattle.ll_bindings.proofs.Spines.{below-suc, build_up, take_down, weight-two, rest_weight-more, weight-place, is_spine-app}
 use Rattle.ll_bindings.proofs.Stacks.{opened, closed, lowest-push, Waits-push, Waits-last, Waits-map, no_item, an_item, split_last}
 use Rattle.ll_bindings.proofs.Tables.{end-var, var-below}
@@ -101,7 +104,8 @@ bad-head l s (Con k) h e b = let q : k ≡ h = cc in ap (eigen_below l) q ∙ b
 bad-head l s (Ap f a) h e b = ap (λ c. c && eigens_below l (sub s a)) (bad-head l s f h e b)
 
 -- a bad sign makes a term bad
-bad-term : (x l : ℕ) (s : ℕ → Term) (u : Term) → applies_heads u ≡ true → ((y : ℕ) → u ≡ Var y → s y ≡ Var y) → is_good_sign x l u ≡ false → is_bad x l (sub s u) ≡ true
+bad-term : (x l : ℕ) (s : ℕ → Term) (u : Term) → applies_heads u ≡ true → ((y : ℕ) → u ≡ Var y → s y ≡ Var y) → is_good_sign x l u ≡ false
+    → is_bad x l (sub s u) ≡ true
 bad-term x l s (Var y) h e b = subst (λ t. is_bad x l t ≡ true) (sym (e y refl)) (or_left (nat_eq x y) false (true_from_not (nat_eq x y) b))
 bad-term x l s (Int z) h e b = cc
 bad-term x l s (Con k) h e b = not_from_false (eigen_below l k) b
@@ -125,7 +129,8 @@ bad-term x l s (Ap f a) h e b = go (head_of f) refl
 -- ---- the stack of frames
 
 -- a term that is about to be looked through
-pub scan-starts : (nodes : Nodes) (t : Table) (x l : ℕ) (at : At) → IsEnd nodes t at.0 → IsScanned nodes t x l [] [] (sub (found nodes t) (term_tree nodes at.0)) ([] ++ (record { at = at; next = 0 }) ∷ [])
+pub scan-starts : (nodes : Nodes) (t : Table) (x l : ℕ) (at : At) → IsEnd nodes t at.0
+    → IsScanned nodes t x l [] [] (sub (found nodes t) (term_tree nodes at.0)) ([] ++ (record { at = at; next = 0 }) ∷ [])
 scan-starts nodes t x l at e = record {
   places = λ k d b. absurd (omega arith);
   noted = record { stand = λ y o. cc; below = λ k d b. absurd (omega arith); free = λ y o. cc };
@@ -206,7 +211,8 @@ scan-opens nodes t x l places vars whole items fs f g to end tb h e a en same ga
       frames = is_full (fs ++ g ∷ []) (record { at = end; next = 0 }) refl q;
     }
   where
-    same_frame : (a b : At) (m n : ℕ) → a ≡ b → IsFrame nodes t x l whole (record { at = a; next = m }) → IsFrame nodes t x l whole (record { at = b; next = n })
+    same_frame : (a b : At) (m n : ℕ) → a ≡ b → IsFrame nodes t x l whole (record { at = a; next = m })
+        → IsFrame nodes t x l whole (record { at = b; next = n })
     same_frame a b m n d h = subst (λ (c : At). IsFrame nodes t x l whole (record { at = c; next = n })) d (record { end = h.end; part = h.part })
 
 -- the term of the frame on top is done and good
@@ -265,10 +271,12 @@ scan-closes nodes t x l places vars new_vars whole items fs f tb h e b look =
     under gs w bottom a g = elim (split_last gs) [
       | no_item q ↦ is_empty q (subst (IsGood x l after) (subst (λ hs. sub (found nodes t) (lowest (frame_tree nodes) hs u) ≡ whole) q bottom) g)
       | an_item hs k q ↦
-          let w2 : Waits (frame_tree nodes) (AreGood nodes t x l vars) (hs ++ k ∷ []) u = subst (λ z. Waits (frame_tree nodes) (AreGood nodes t x l vars) z u) q w in
+          let w2 : Waits (frame_tree nodes) (AreGood nodes t x l vars) (hs ++ k ∷ []) u =
+          subst (λ z. Waits (frame_tree nodes) (AreGood nodes t x l vars) z u) q w in
           let v = Waits-last (frame_tree nodes) (AreGood nodes t x l vars) hs k u w2 in
           let a2 : All (IsFrame nodes t x l whole) (hs ++ k ∷ []) = subst (All (IsFrame nodes t x l whole)) q a in
-          let b2 : sub (found nodes t) (lowest (frame_tree nodes) (hs ++ k ∷ []) u) ≡ whole = subst (λ z. sub (found nodes t) (lowest (frame_tree nodes) z u) ≡ whole) q bottom in
+          let b2 : sub (found nodes t) (lowest (frame_tree nodes) (hs ++ k ∷ []) u) ≡ whole =
+          subst (λ z. sub (found nodes t) (lowest (frame_tree nodes) z u) ≡ whole) q bottom in
           is_full hs k q (record {
             top = λ j c. elim (v.1 j c) [
               | inl d ↦ good-more x l vars more (sub (found nodes t) (arg (frame_tree nodes k) j)) d
@@ -286,11 +294,13 @@ scan-closes nodes t x l places vars new_vars whole items fs f tb h e b look =
 
 -- a bad sign
 pub scan-fails : (nodes : Nodes) (t : Table) (x l : ℕ) (places : List At) (vars new_vars : List ℕ) (whole : Term) (items fs : List Frame) (f : Frame)
-    → IsTable nodes t → IsScanned nodes t x l places vars whole items → items ≡ fs ++ f ∷ [] → IsLook (frame_tree nodes f) x l vars new_vars false → is_bad x l whole ≡ true
+    → IsTable nodes t → IsScanned nodes t x l places vars whole items → items ≡ fs ++ f ∷ [] → IsLook (frame_tree nodes f) x l vars new_vars false
+    → is_bad x l whole ≡ true
 scan-fails nodes t x l places vars new_vars whole items fs f tb h e look =
     let p = scan-top nodes t x l places vars whole items fs f h e in
     bad-part x l (sub (found nodes t) (frame_tree nodes f)) whole p.frame.part
-    (bad-term x l (found nodes t) (frame_tree nodes f) (applies_heads-term_tree nodes f.at.0) (λ y q. end-var nodes t f.at.0 y tb p.frame.end q) (sym look.good))
+    (bad-term x l (found nodes t) (frame_tree nodes f) (applies_heads-term_tree nodes f.at.0) (λ y q. end-var nodes t f.at.0 y tb p.frame.end q)
+    (sym look.good))
 
 -- nothing is left to look through
 pub scan-ends : (nodes : Nodes) (t : Table) (x l : ℕ) (places : List At) (vars : List ℕ) (whole : Term) (items : List Frame)
@@ -310,16 +320,19 @@ known-at places p at k b q = step (nat_eq p.0 at.0) refl
 
 -- ---- the weight of what is left
 
-pub weight-known : (nodes : Nodes) (s : ℕ → Term) (fs : List Frame) (f g : Frame) → f.next < length (args_in (term_tree nodes f.at.0)) → g.at ≡ f.at → g.next ≡ f.next + 1
+pub weight-known : (nodes : Nodes) (s : ℕ → Term) (fs : List Frame) (f g : Frame) → f.next < length (args_in (term_tree nodes f.at.0)) → g.at ≡ f.at
+    → g.next ≡ f.next + 1
     → frames_weight nodes s (fs ++ g ∷ []) < frames_weight nodes s (fs ++ f ∷ [])
 weight-known nodes s fs f g b ga gn =
     let w : Frame → ℕ = λ h. 1 + rest_weight s (term_tree nodes h.at.0) h.next in
     let p = sum_by_push w fs g in let q = sum_by_push w fs f in
     let r = rest_weight-more s (term_tree nodes f.at.0) f.next b in let v = weight-two (sub s (arg (term_tree nodes f.at.0) f.next)) in
-    let e : rest_weight s (term_tree nodes g.at.0) g.next ≡ rest_weight s (term_tree nodes f.at.0) (f.next + 1) = λ i. rest_weight s (term_tree nodes (ga i).0) (gn i) in
+    let e : rest_weight s (term_tree nodes g.at.0) g.next ≡ rest_weight s (term_tree nodes f.at.0) (f.next + 1) =
+    λ i. rest_weight s (term_tree nodes (ga i).0) (gn i) in
     omega arith
 
-pub weight-opens : (nodes : Nodes) (s : ℕ → Term) (fs : List Frame) (f g : Frame) (end : At) → f.next < length (args_in (term_tree nodes f.at.0)) → g.at ≡ f.at → g.next ≡ f.next + 1
+pub weight-opens : (nodes : Nodes) (s : ℕ → Term) (fs : List Frame) (f g : Frame) (end : At) → f.next < length (args_in (term_tree nodes f.at.0)) → g.at ≡ f.at
+    → g.next ≡ f.next + 1
     → sub s (term_tree nodes end.0) ≡ sub s (arg (term_tree nodes f.at.0) f.next)
     → frames_weight nodes s ((fs ++ g ∷ []) ++ (record { at = end; next = 0 }) ∷ []) < frames_weight nodes s (fs ++ f ∷ [])
 weight-opens nodes s fs f g end b ga gn same =
@@ -328,7 +341,8 @@ weight-opens nodes s fs f g end b ga gn same =
     let p = sum_by_push w fs g in let q = sum_by_push w fs f in
     let r = rest_weight-more s (term_tree nodes f.at.0) f.next b in let v = weight-place nodes s end.0 in
     let d : weight (sub s (term_tree nodes end.0)) ≡ weight (sub s (arg (term_tree nodes f.at.0) f.next)) = ap weight same in
-    let e : rest_weight s (term_tree nodes g.at.0) g.next ≡ rest_weight s (term_tree nodes f.at.0) (f.next + 1) = λ i. rest_weight s (term_tree nodes (ga i).0) (gn i) in
+    let e : rest_weight s (term_tree nodes g.at.0) g.next ≡ rest_weight s (term_tree nodes f.at.0) (f.next + 1) =
+    λ i. rest_weight s (term_tree nodes (ga i).0) (gn i) in
     omega arith
 
 pub weight-closes : (nodes : Nodes) (s : ℕ → Term) (fs : List Frame) (f : Frame) → frames_weight nodes s fs < frames_weight nodes s (fs ++ f ∷ [])

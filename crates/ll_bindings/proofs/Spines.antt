@@ -1,5 +1,6 @@
 -- The arguments of a term, and its weight.
-use Rattle.std.proofs.Common.{◌≡◌, ℕ, suc, ◌+◌, ◌<◌, ◌≤◌, true, List, [], ◌∷◌, ◌++◌, length, get_or, refl, ap, sym, subst, ◌∙◌, arith, append_assoc, length-append, All, ◌⊎◌, inl, inr}
+use Rattle.std.proofs.Common.{◌≡◌, ℕ, suc, ◌+◌, ◌<◌, ◌≤◌, true, List, [], ◌∷◌, ◌++◌, length, get_or, refl, ap, sym, subst, ◌∙◌, arith, append_assoc}
+use Rattle.std.proofs.Common.{length-append, All, ◌⊎◌, inl, inr}
 use Rattle.std.specs.Prelude.{Some, ◌&&◌, sum_by}
 use Rattle.std.proofs.Math.ListN.{get_or-append}
 use Rattle.std.proofs.Math.Seq.{get_or-append_seam}
@@ -79,19 +80,22 @@ pub weight-place : (nodes : Nodes) (s : ℕ → Term) (at : ℕ) → 1 + rest_we
 weight-place nodes s at = weight-args s (term_tree nodes at) (applies_heads-term_tree nodes at)
 
 -- an argument that is seen at a place
-pub seen_argument : (nodes : Nodes) (at : ℕ) (h : Head) (args : List At) (k : ℕ) (to : At) → term_tree nodes at ≡ app h (term_trees nodes args) → All (λ (a : At). a.0 < at) args → k < length args → get_or args k (record { 0 = 0 }) ≡ to
+pub seen_argument : (nodes : Nodes) (at : ℕ) (h : Head) (args : List At) (k : ℕ) (to : At) → term_tree nodes at ≡ app h (term_trees nodes args)
+    → All (λ (a : At). a.0 < at) args → k < length args → get_or args k (record { 0 = 0 }) ≡ to
     → ShowsArgument nodes at k to.0
 seen_argument nodes at h args k to e below l g =
     let a : args_in (term_tree nodes at) ≡ term_trees nodes args = ap args_in e ∙ args_in-app h (term_trees nodes args) in
     let n : length (term_trees nodes args) ≡ length args = length-map args (λ (b : At). term_tree nodes b.0) in
     record {
       among = let q = ap length a in omega arith;
-      is = ap (λ ts. get_or ts k (Var 0)) a ∙ (get_or-map (λ (b : At). term_tree nodes b.0) args k (record { 0 = 0 }) (Var 0) l ∙ ap (λ (b : At). term_tree nodes b.0) g);
+      is = ap (λ ts. get_or ts k (Var 0)) a ∙ (get_or-map (λ (b : At). term_tree nodes b.0) args k (record { 0 = 0 }) (Var 0) l
+          ∙ ap (λ (b : At). term_tree nodes b.0) g);
       below = subst (λ (b : At). b.0 < at) g (below k (record { 0 = 0 }) l);
     }
 
 -- past the last argument
-pub no_argument : (nodes : Nodes) (at : ℕ) (h : Head) (args : List At) (k : ℕ) → term_tree nodes at ≡ app h (term_trees nodes args) → length args ≤ k → length (args_in (term_tree nodes at)) ≤ k
+pub no_argument : (nodes : Nodes) (at : ℕ) (h : Head) (args : List At) (k : ℕ) → term_tree nodes at ≡ app h (term_trees nodes args) → length args ≤ k
+    → length (args_in (term_tree nodes at)) ≤ k
 no_argument nodes at h args k e l =
     let q = ap length (ap args_in e ∙ args_in-app h (term_trees nodes args)) in
     let n : length (term_trees nodes args) ≡ length args = length-map args (λ (b : At). term_tree nodes b.0) in omega arith

@@ -49,7 +49,8 @@ module _ {F K : Type 0} (key : F → K) (R : F → K → Type 0) where
   Waits-last [] f c w = (tt, w.0)
   Waits-last (g ∷ fs) f c w = let r = Waits-last fs f c w.1 in ((subst (R g) (lowest-push fs f c) w.0, r.0), r.1)
 
-pub Waits-map : {F K : Type 0} → (key : F → K) (R S : F → K → Type 0) → ((f : F) (c : K) → R f c → S f c) → (fs : List F) (c : K) → Waits key R fs c → Waits key S fs c
+pub Waits-map : {F K : Type 0} → (key : F → K) (R S : F → K → Type 0) → ((f : F) (c : K) → R f c → S f c) → (fs : List F) (c : K) → Waits key R fs c
+    → Waits key S fs c
 Waits-map key R S h [] c w = tt
 Waits-map key R S h (f ∷ fs) c w = (h f (lowest key fs c) w.0, Waits-map key R S h fs c w.1)
 

@@ -17,4 +17,5 @@ listed copies at = unpacked (slice_index_or copies at 0)
 -- the place of the other bank shows the term at a place of the first one with these arguments applied
 abbrev pub IsCarried : Nodes → Nodes → Nodes → ℕ → List At → ℕ → Type 0
 IsCarried first old new at own copy =
-    (s : ℕ → Term) → term_trees old own ≡ map (sub s) (args_in (term_tree first at)) → ((x : ℕ) → term_tree first at ≡ Var x → s x ≡ Var x) → ShowsTerm new copy (sub s (term_tree first at))
+    (s : ℕ → Term) → term_trees old own ≡ map (sub s) (args_in (term_tree first at)) → ((x : ℕ) → term_tree first at ≡ Var x → s x ≡ Var x)
+    → ShowsTerm new copy (sub s (term_tree first at))

@@ -41,7 +41,8 @@ pub record Lacks (nodes : Nodes) (s : ℕ → Term) (u : Term) (f : Frame) (c : 
 abbrev pub Held : Nodes → Nodes → (ℕ → Term) → List Frame → Term → List At → Type 0
 Held first nodes s [] c made = made ≡ []
 Held first nodes s (f ∷ fs) c made =
-    (own : List At) × (rest : List At) × (made ≡ own ++ rest) × Lacks nodes s (frame_tree first f) f (lowest (frame_tree first) fs c) own × Held first nodes s fs c rest
+    (own : List At) × (rest : List At) × (made ≡ own ++ rest) × Lacks nodes s (frame_tree first f) f (lowest (frame_tree first) fs c) own
+    × Held first nodes s fs c rest
 
 -- the last frame has the copies of its arguments so far, and the frames below wait for it
 pub record IsCopying (first nodes : Nodes) (t : Table) (whole : Term) (made : List At) (fs : List Frame) (f : Frame) : Type 0 where
@@ -66,7 +67,8 @@ IsChanged nodes at own (Some h) = head_of (term_tree nodes at) ≡ Some h
 -- the place shows the term at another with these arguments applied
 abbrev pub IsBuilt : Nodes → Nodes → ℕ → List At → ℕ → Type 0
 IsBuilt old new at own copy =
-    (s : ℕ → Term) → term_trees old own ≡ map (sub s) (args_in (term_tree old at)) → ((x : ℕ) → term_tree old at ≡ Var x → s x ≡ Var x) → ShowsTerm new copy (sub s (term_tree old at))
+    (s : ℕ → Term) → term_trees old own ≡ map (sub s) (args_in (term_tree old at)) → ((x : ℕ) → term_tree old at ≡ Var x → s x ≡ Var x)
+    → ShowsTerm new copy (sub s (term_tree old at))
 
 -- the places show what these terms are with all bindings applied
 pub record AreRead (first nodes : Nodes) (t : Table) (terms : List Term) (made : List At) : Type 0 where

@@ -41,7 +41,8 @@ IsScan t x l vars u false = is_bad x l u ≡ true
 
 -- the arguments before the next one are good, or the last of them is what is waited for
 abbrev pub AreGood : Nodes → Table → ℕ → ℕ → List ℕ → Frame → Term → Type 0
-AreGood nodes t x l vars f c = (k : ℕ) → k < f.next → IsGood x l vars (sub (found nodes t) (arg (term_tree nodes f.at.0) k)) ⊎ (sub (found nodes t) (arg (term_tree nodes f.at.0) k) ≡ sub (found nodes t) c)
+AreGood nodes t x l vars f c = (k : ℕ) → k < f.next → IsGood x l vars (sub (found nodes t) (arg (term_tree nodes f.at.0) k))
+    ⊎ (sub (found nodes t) (arg (term_tree nodes f.at.0) k) ≡ sub (found nodes t) c)
 
 -- the term of a frame
 abbrev pub frame_tree : Nodes → Frame → Term

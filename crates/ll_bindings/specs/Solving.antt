@@ -38,7 +38,8 @@ pub record Settled (nodes : Nodes) (old new : Table) (ls rs : List Term) : Type 
   pub table : IsTable nodes new
   pub count : count new ≡ count old
   pub cells : KeepsCells nodes old new
-  pub solves : (k : ℕ) (goal : Option Solved) (more others : List Term) → Solves nodes old k goal (ls ++ more) (rs ++ others) → Solves nodes new k goal more others
+  pub solves : (k : ℕ) (goal : Option Solved) (more others : List Term) → Solves nodes old k goal (ls ++ more) (rs ++ others)
+      → Solves nodes new k goal more others
 
 -- these lists are solved, or nothing solves them
 abbrev pub Settles : Nodes → Table → Table → List Term → List Term → Bool → Type 0

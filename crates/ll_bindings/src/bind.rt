@@ -54,8 +54,10 @@ fn bind_term<T: Bindings>(
     requires to { IsEnd bank.now (T.table table.old) to.0 }
     requires no_var { (x : ℕ) → term_tree bank.now to.0 ≡ Var x → ⊥ }
     ensures grows { T.grows table.old table.new }
-    ensures binds { IfOk result (λ bound. Binds bank.now (T.table table.old) (T.table table.new) (Var var) (term_tree bank.now to.0) (bind (T.table table.old).levels var (sub (found bank.now (T.table table.old)) (term_tree bank.now to.0))) bound) }
-    ensures left { IfOk result (λ bound. bound ≡ true → (x : ℕ) → IsFresh fresh.new x → IsLeft fresh.old (T.table table.old).levels var (sub (found bank.now (T.table table.old)) (term_tree bank.now to.0)) x) }
+    ensures binds { IfOk result (λ bound. Binds bank.now (T.table table.old) (T.table table.new) (Var var) (term_tree bank.now to.0)
+        (bind (T.table table.old).levels var (sub (found bank.now (T.table table.old)) (term_tree bank.now to.0))) bound) }
+    ensures left { IfOk result (λ bound. bound ≡ true → (x : ℕ) → IsFresh fresh.new x
+        → IsLeft fresh.old (T.table table.old).levels var (sub (found bank.now (T.table table.old)) (term_tree bank.now to.0)) x) }
 {
     let level = table.level(var);
     seen.clear();
@@ -87,7 +89,8 @@ fn bind_right<T: Bindings>(
     requires no_var { (x : ℕ) → term_tree bank.now to.0 ≡ Var x → ⊥ }
     requires fresh { AreFresh bank.now (T.table table.old) fresh.old (term_tree bank.now to.0 ∷ []) }
     ensures grows { T.grows table.old table.new }
-    ensures binds { IfOk result (λ bound. Binds bank.now (T.table table.old) (T.table table.new) (Var var) (term_tree bank.now to.0) (bind (T.table table.old).levels var (sub (found bank.now (T.table table.old)) (term_tree bank.now to.0))) bound) }
+    ensures binds { IfOk result (λ bound. Binds bank.now (T.table table.old) (T.table table.new) (Var var) (term_tree bank.now to.0)
+        (bind (T.table table.old).levels var (sub (found bank.now (T.table table.old)) (term_tree bank.now to.0))) bound) }
     ensures other { IfOk result (λ bound. bound ≡ true → (x : ℕ) → IsFresh fresh.new x → IsOther fresh.old var x) }
 {
     if !fresh.has(var) {
@@ -188,8 +191,10 @@ pub fn bind<T: Bindings>(
     requires meet { IsMeeting bank.now (T.table table.old) left.0 right.0 }
     requires fresh { AreFresh bank.now (T.table table.old) fresh.old (term_tree bank.now left.0 ∷ []) }
     ensures grows { T.grows table.old table.new }
-    ensures meets { IfOk result (λ bound. Meets bank.now (T.table table.old) (T.table table.new) (term_tree bank.now left.0) (term_tree bank.now right.0) bound) }
-    ensures fresh { IfOk result (λ bound. bound ≡ true → LeavesFresh bank.now (T.table table.old) (T.table table.new) fresh.old fresh.new (term_tree bank.now left.0 ∷ []) []) }
+    ensures meets { IfOk result (λ bound. Meets bank.now (T.table table.old) (T.table table.new) (term_tree bank.now left.0) (term_tree bank.now right.0)
+        bound) }
+    ensures fresh { IfOk result (λ bound. bound ≡ true → LeavesFresh bank.now (T.table table.old) (T.table table.new) fresh.old fresh.new
+        (term_tree bank.now left.0 ∷ []) []) }
 {
     match bank.term_at(left) {
         TermView::Var(x) => match bank.term_at(right) {

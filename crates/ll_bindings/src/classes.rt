@@ -77,7 +77,8 @@ impl Classes {
     // The first place stands for the second from now on.
     fn lead(&mut self, low: usize, high: usize) -> Result<(), OutOfMemory>
         requires { low ≤ high }
-        ensures { OnOk result ((nodes : Nodes) (t : TableView) → AreClasses nodes t self.old.up.items → AreJoined nodes t low high → AreClasses nodes t self.new.up.items) }
+        ensures { OnOk result ((nodes : Nodes) (t : TableView) → AreClasses nodes t self.old.up.items → AreJoined nodes t low high
+            → AreClasses nodes t self.new.up.items) }
     {
         self.steps = self.steps.saturating_add(1);
         if !is_worth(self.steps, high) {
@@ -90,7 +91,8 @@ impl Classes {
 
     /// Notes that two places show the same, where that is worth its cost.
     pub fn join(&mut self, left: At, right: At) -> Result<(), OutOfMemory>
-        ensures { OnOk result ((nodes : Nodes) (t : TableView) → AreClasses nodes t self.old.up.items → AreJoined nodes t left.0 right.0 → AreClasses nodes t self.new.up.items) }
+        ensures { OnOk result ((nodes : Nodes) (t : TableView) → AreClasses nodes t self.old.up.items → AreJoined nodes t left.0 right.0
+            → AreClasses nodes t self.new.up.items) }
     {
         if left.0 < right.0 {
             self.lead(left.0, right.0)

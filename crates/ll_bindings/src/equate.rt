@@ -38,8 +38,10 @@ fn settle<T: Bindings>(
     requires fresh { AreFresh bank.now (T.table table.old) work.old.fresh (lefts bank.now work.old.pairs.items) }
     ensures grows { T.grows table.old table.new }
     ensures classes { IfOk result (λ good. good ≡ true → AreClasses bank.now (T.table table.new) work.new.classes.up.items) }
-    ensures settles { IfOk result (Settles bank.now (T.table table.old) (T.table table.new) (lefts bank.now work.old.pairs.items) (rights bank.now work.old.pairs.items)) }
-    ensures fresh { IfOk result (λ good. good ≡ true → LeavesFresh bank.now (T.table table.old) (T.table table.new) work.old.fresh work.new.fresh (lefts bank.now work.old.pairs.items) []) }
+    ensures settles { IfOk result (Settles bank.now (T.table table.old) (T.table table.new) (lefts bank.now work.old.pairs.items)
+        (rights bank.now work.old.pairs.items)) }
+    ensures fresh { IfOk result (λ good. good ≡ true → LeavesFresh bank.now (T.table table.old) (T.table table.new) work.old.fresh work.new.fresh
+        (lefts bank.now work.old.pairs.items) []) }
 {
     'pairs: loop {
         match next_difference(bank, table, &mut work.classes, &mut work.pairs)? {
@@ -69,8 +71,10 @@ fn open<T: Bindings>(
     requires fresh { AreFresh bank.now (T.table table.old) work.old.fresh (lefts bank.now ((record { left = left; right = right; next = 0 }) ∷ [])) }
     ensures grows { T.grows table.old table.new }
     ensures classes { IfOk result (λ good. good ≡ true → AreClasses bank.now (T.table table.new) work.new.classes.up.items) }
-    ensures settles { IfOk result (Settles bank.now (T.table table.old) (T.table table.new) (lefts bank.now ((record { left = left; right = right; next = 0 }) ∷ [])) (rights bank.now ((record { left = left; right = right; next = 0 }) ∷ []))) }
-    ensures fresh { IfOk result (λ good. good ≡ true → LeavesFresh bank.now (T.table table.old) (T.table table.new) work.old.fresh work.new.fresh (lefts bank.now ((record { left = left; right = right; next = 0 }) ∷ [])) []) }
+    ensures settles { IfOk result (Settles bank.now (T.table table.old) (T.table table.new)
+        (lefts bank.now ((record { left = left; right = right; next = 0 }) ∷ [])) (rights bank.now ((record { left = left; right = right; next = 0 }) ∷ []))) }
+    ensures fresh { IfOk result (λ good. good ≡ true → LeavesFresh bank.now (T.table table.old) (T.table table.new) work.old.fresh work.new.fresh
+        (lefts bank.now ((record { left = left; right = right; next = 0 }) ∷ [])) []) }
 {
     work.pairs.clear();
     work.pairs.push(Pair {
@@ -97,8 +101,10 @@ fn make_equal<T: Bindings>(
     requires fresh { AreFresh bank.now (T.table table.old) work.old.fresh (term_tree bank.now left.0 ∷ []) }
     ensures grows { T.grows table.old table.new }
     ensures classes { IfOk result (λ good. good ≡ true → AreClasses bank.now (T.table table.new) work.new.classes.up.items) }
-    ensures settles { IfOk result (Settles bank.now (T.table table.old) (T.table table.new) (term_tree bank.now left.0 ∷ []) (term_tree bank.now right.0 ∷ [])) }
-    ensures fresh { IfOk result (λ good. good ≡ true → LeavesFresh bank.now (T.table table.old) (T.table table.new) work.old.fresh work.new.fresh (term_tree bank.now left.0 ∷ []) []) }
+    ensures settles { IfOk result (Settles bank.now (T.table table.old) (T.table table.new) (term_tree bank.now left.0 ∷ [])
+        (term_tree bank.now right.0 ∷ [])) }
+    ensures fresh { IfOk result (λ good. good ≡ true → LeavesFresh bank.now (T.table table.old) (T.table table.new) work.old.fresh work.new.fresh
+        (term_tree bank.now left.0 ∷ []) []) }
 {
     match compare(bank, table, &mut work.classes, left, right) {
         Compared::Same => Ok(true),
@@ -123,8 +129,10 @@ fn open_next<T: Bindings>(
     requires pair { IsPair bank.now (T.table table.old) (record { left = left; right = right; next = 0 }) }
     requires fresh { AreFresh bank.now (T.table table.old) fresh.old (lefts bank.now ((record { left = left; right = right; next = 0 }) ∷ [])) }
     ensures grows { T.grows table.old table.new }
-    ensures settles { IfOk result (Settles bank.now (T.table table.old) (T.table table.new) (lefts bank.now ((record { left = left; right = right; next = 0 }) ∷ [])) (rights bank.now ((record { left = left; right = right; next = 0 }) ∷ []))) }
-    ensures fresh { IfOk result (λ good. good ≡ true → LeavesFresh bank.now (T.table table.old) (T.table table.new) fresh.old fresh.new (lefts bank.now ((record { left = left; right = right; next = 0 }) ∷ [])) []) }
+    ensures settles { IfOk result (Settles bank.now (T.table table.old) (T.table table.new)
+        (lefts bank.now ((record { left = left; right = right; next = 0 }) ∷ [])) (rights bank.now ((record { left = left; right = right; next = 0 }) ∷ []))) }
+    ensures fresh { IfOk result (λ good. good ≡ true → LeavesFresh bank.now (T.table table.old) (T.table table.new) fresh.old fresh.new
+        (lefts bank.now ((record { left = left; right = right; next = 0 }) ∷ [])) []) }
 {
     let mut work = Work {
         pairs: Vec::new(alloc),
@@ -151,8 +159,10 @@ fn equal_next<T: Bindings>(
     requires right { IsPlaceOf bank.now (T.table table.old) right.0 }
     requires fresh { AreFresh bank.now (T.table table.old) fresh.old (term_tree bank.now left.0 ∷ []) }
     ensures grows { T.grows table.old table.new }
-    ensures settles { IfOk result (Settles bank.now (T.table table.old) (T.table table.new) (term_tree bank.now left.0 ∷ []) (term_tree bank.now right.0 ∷ [])) }
-    ensures fresh { IfOk result (λ good. good ≡ true → LeavesFresh bank.now (T.table table.old) (T.table table.new) fresh.old fresh.new (term_tree bank.now left.0 ∷ []) []) }
+    ensures settles { IfOk result (Settles bank.now (T.table table.old) (T.table table.new) (term_tree bank.now left.0 ∷ [])
+        (term_tree bank.now right.0 ∷ [])) }
+    ensures fresh { IfOk result (λ good. good ≡ true → LeavesFresh bank.now (T.table table.old) (T.table table.new) fresh.old fresh.new
+        (term_tree bank.now left.0 ∷ []) []) }
 {
     let mut classes = Classes::new(alloc);
     match compare(bank, table, &mut classes, left, right) {
@@ -184,8 +194,10 @@ pub fn unify_next<T: Bindings>(
     requires right { IsPlaceOf bank.now (T.table table.old) right.0 }
     requires fresh { AreFresh bank.now (T.table table.old) fresh.old (term_tree bank.now left.0 ∷ []) }
     ensures grows { T.grows table.old table.new }
-    ensures settles { IfOk result (Settles bank.now (T.table table.old) (T.table table.new) (term_tree bank.now left.0 ∷ []) (term_tree bank.now right.0 ∷ [])) }
-    ensures fresh { IfOk result (λ good. good ≡ true → LeavesFresh bank.now (T.table table.old) (T.table table.new) fresh.old fresh.new (term_tree bank.now left.0 ∷ []) []) }
+    ensures settles { IfOk result (Settles bank.now (T.table table.old) (T.table table.new) (term_tree bank.now left.0 ∷ [])
+        (term_tree bank.now right.0 ∷ [])) }
+    ensures fresh { IfOk result (λ good. good ≡ true → LeavesFresh bank.now (T.table table.old) (T.table table.new) fresh.old fresh.new
+        (term_tree bank.now left.0 ∷ []) []) }
 {
     let end = walk(bank, table, left);
     if let Some(var) = new_at(bank, table, fresh, end, right) {
@@ -211,7 +223,8 @@ fn solve<T: Bindings>(
     requires fresh { AreFresh bank.now (T.table table.old) fresh (term_trees bank.now left.now) }
     ensures grows { T.grows table.old table.new }
     ensures cells { IfOk result (λ good. good ≡ true → KeepsCells bank.now (T.table table.old) (T.table table.new)) }
-    ensures solved { IfOk result (IsSolved bank.now (T.table table.old) (T.table table.new) (wanted bank.now (T.table table.old) (term_trees bank.now left.now) (term_trees bank.now right.now))) }
+    ensures solved { IfOk result (IsSolved bank.now (T.table table.old) (T.table table.new)
+        (wanted bank.now (T.table table.old) (term_trees bank.now left.now) (term_trees bank.now right.now))) }
 {
     let mut work = Work {
         pairs: Vec::new(alloc),
@@ -247,7 +260,8 @@ pub fn unify<T: Bindings>(
     requires right { All (λ (at : AtView). IsPlaceOf bank.now (T.table table.old) at.0) right.now }
     ensures grows { T.grows table.old table.new }
     ensures cells { IfOk result (λ good. good ≡ true → KeepsCells bank.now (T.table table.old) (T.table table.new)) }
-    ensures solved { IfOk result (IsSolved bank.now (T.table table.old) (T.table table.new) (wanted bank.now (T.table table.old) (term_trees bank.now left.now) (term_trees bank.now right.now))) }
+    ensures solved { IfOk result (IsSolved bank.now (T.table table.old) (T.table table.new)
+        (wanted bank.now (T.table table.old) (term_trees bank.now left.now) (term_trees bank.now right.now))) }
 {
     solve(alloc, bank, table, Fresh::none(), left, right)
 }

@@ -118,7 +118,8 @@ pub fn scan<T: Bindings>(
     requires start { IsEnd bank.now (T.table table.now) start.0 }
     requires places { seen.old.places.items ≡ [] }
     requires vars { seen.old.vars.items ≡ [] }
-    ensures { IfOk result (λ good. IsScan (T.table table.now) var level seen.new.vars.items (sub (found bank.now (T.table table.now)) (term_tree bank.now start.0)) good) }
+    ensures { IfOk result (λ good. IsScan (T.table table.now) var level seen.new.vars.items
+        (sub (found bank.now (T.table table.now)) (term_tree bank.now start.0)) good) }
 {
     let mut frames: SmallVec<Frame, 8> = SmallVec::new(alloc);
     frames.push(Frame { at: start, next: 0 })?;

@@ -19,7 +19,8 @@ adds_put old new k image h q other e = step (same_spot k q) refl
         inr ((λ i. (eqb-true k.0 q.0 p.0 i, eqb-true k.1 q.1 p.1 i)), cc)
     step false s = inl (sym (h q ∙ ap (λ c. cond c (Some image) (old q)) s) ∙ e)
 
-pub images_add : (is_image : Spot → ℕ → Type 0) (old new : Spot → Option ℕ) (k : Spot) (image : ℕ) → AreImages is_image old → is_image k image → AddsImage old new k image → AreImages is_image new
+pub images_add : (is_image : Spot → ℕ → Type 0) (old new : Spot → Option ℕ) (k : Spot) (image : ℕ) → AreImages is_image old → is_image k image
+    → AddsImage old new k image → AreImages is_image new
 images_add is_image old new k image h here a = λ q other e. elim (a q other e) [
   | inl f ↦ h q other f
   | inr f ↦ subst (λ z. is_image z other) f.0 (subst (is_image k) f.1 here)
@@ -30,10 +31,16 @@ images_none is_image lookup h = λ q other e. let p : None ≡ Some other = sym 
 
 module _ (old new : Nodes) (e : Extends old new) (env : Env) where
   pub term_image_extends : (k : Spot) (image : ℕ) → IsTermImage old env k image → IsTermImage new env k image
-  term_image_extends k image h = (HasTerm-extends e k.0 h.0, subst (λ u. ShowsTerm new image (close (under env k.1) u)) (sym (term_tree-extends e k.0 h.0)) (ShowsTerm-extends e h.1))
+  term_image_extends k image h = (
+    HasTerm-extends e k.0 h.0,
+    subst (λ u. ShowsTerm new image (close (under env k.1) u)) (sym (term_tree-extends e k.0 h.0)) (ShowsTerm-extends e h.1),
+  )
 
   pub form_image_extends : (k : Spot) (image : ℕ) → IsFormImage old env k image → IsFormImage new env k image
-  form_image_extends k image h = (HasForm-extends e k.0 h.0, subst (λ u. ShowsForm new image (close_form (under env k.1) u)) (sym (form_tree-extends e k.0 h.0)) (ShowsForm-extends e h.1))
+  form_image_extends k image h = (
+    HasForm-extends e k.0 h.0,
+    subst (λ u. ShowsForm new image (close_form (under env k.1) u)) (sym (form_tree-extends e k.0 h.0)) (ShowsForm-extends e h.1),
+  )
 
   pub term_images_extend : (lookup : Spot → Option ℕ) → AreImages (IsTermImage old env) lookup → AreImages (IsTermImage new env) lookup
   term_images_extend lookup h = λ k image s. term_image_extends k image (h k image s)

@@ -10,29 +10,38 @@ use Rattle.ll_bank.specs.declared.Head.{Head}
 use Rattle.ll_bank.specs.declared.TermView.{TermView}
 use Rattle.ll_bank.specs.declared.TermView.TheVariants.{Var as VarView, Int as IntView, App as AppView}
 use Rattle.ll_bank.specs.declared.FormNode.{FormNode}
-use Rattle.ll_bank.specs.declared.FormNode.TheVariants.{Top as TopView, One as OneView, Atom as AtomView, With as WithView, Tensor as TensorView, Plus as PlusView, Bang as BangView, Lolli as LolliView, Imp as ImpView, Forall as ForallView, Exists as ExistsView, Use as UseView, Is as IsView, Less as LessView, Most as MostView}
+use Rattle.ll_bank.specs.declared.FormNode.TheVariants.{Top as TopView, One as OneView, Atom as AtomView, With as WithView, Tensor as TensorView}
+use Rattle.ll_bank.specs.declared.FormNode.TheVariants.{Plus as PlusView, Bang as BangView, Lolli as LolliView, Imp as ImpView, Forall as ForallView}
+use Rattle.ll_bank.specs.declared.FormNode.TheVariants.{Exists as ExistsView, Use as UseView, Is as IsView, Less as LessView, Most as MostView}
 use Rattle.ll_bank.specs.Term.{Con, Env, close, close_head, applies_heads}
 use Rattle.ll_bank.specs.Form.{close_form, form_applies_heads}
-use Rattle.ll_bank.specs.Nodes.{Nodes, FormulaNode, ShowsForm, AppNode, AllInTerms, places, node_of_term, node_of, term_tree, form_tree, term_trees, form_of, HasTerm, HasForm, HasPartsBelow, IsTermView, IsFormView, Extends}
+use Rattle.ll_bank.specs.Nodes.{Nodes, FormulaNode, ShowsForm, AppNode, AllInTerms, places, node_of_term, node_of, term_tree, form_tree, term_trees, form_of}
+use Rattle.ll_bank.specs.Nodes.{HasTerm, HasForm, HasPartsBelow, IsTermView, IsFormView, Extends}
 use Rattle.ll_bank.specs.Opened.{Spot, term_parts, form_parts, ArePartsOf, term_size, form_size, term_size_at, form_size_at, term_parts_at, form_parts_at}
-use Rattle.ll_bank.proofs.CallerLemmas.{HasTerm-extends, HasForm-extends, term_tree-extends, form_tree-extends, node_seen, below_places, close-apply, heads_args, form_node_seen, term_parts_same, form_parts_same, term_size-apply, sizes_of_args, no_parts, one_part, two_parts, sum_same, HasTerm-below, HasForm-below}
+use Rattle.ll_bank.proofs.CallerLemmas.{HasTerm-extends, HasForm-extends, term_tree-extends, form_tree-extends, node_seen, below_places, close-apply}
+use Rattle.ll_bank.proofs.CallerLemmas.{heads_args, form_node_seen, term_parts_same, form_parts_same, term_size-apply, sizes_of_args, no_parts, one_part}
+use Rattle.ll_bank.proofs.CallerLemmas.{two_parts, sum_same, HasTerm-below, HasForm-below}
 use Rattle.ll_close.specs.Closing.{under, IsGoodTerm, IsGoodForm, IsTermImage, IsFormImage}
 use Rattle.ll_close.specs.Stacks.{AreImagesOf}
 use Rattle.ll_close.proofs.Stacks.{images_one, images_two}
 
 -- ---- terms and their parts
 
-args_good : (bank : Nodes) (t : Env) (n at : ℕ) (args : List At) → HasTerm bank at → All (λ (a : At). a.0 < at) args → All (λ u. applies_heads u ≡ true) (map (close (under t n)) (term_trees bank args))
+args_good : (bank : Nodes) (t : Env) (n at : ℕ) (args : List At) → HasTerm bank at → All (λ (a : At). a.0 < at) args
+    → All (λ u. applies_heads u ≡ true) (map (close (under t n)) (term_trees bank args))
     → All (IsGoodTerm bank t) (map (λ (a : ℕ). let k : Spot = (a, n) in k) (places args))
 args_good bank t n at [] h low g = λ j d l. absurd (omega arith)
 args_good bank t n at (a ∷ args) h low g =
     let b = All-head (λ (x : At). x.0 < at) a args low in
     All-cons (IsGoodTerm bank t) (a.0, n) (map (λ (x : ℕ). let k : Spot = (x, n) in k) (places args))
     ((omega arith), All-head (λ u. applies_heads u ≡ true) (close (under t n) (term_tree bank a.0)) (map (close (under t n)) (term_trees bank args)) g)
-    (args_good bank t n at args h (All-tail (λ (x : At). x.0 < at) a args low) (All-tail (λ u. applies_heads u ≡ true) (close (under t n) (term_tree bank a.0)) (map (close (under t n)) (term_trees bank args)) g))
+    (args_good bank t n at args h (All-tail (λ (x : At). x.0 < at) a args low)
+    (All-tail (λ u. applies_heads u ≡ true) (close (under t n) (term_tree bank a.0)) (map (close (under t n)) (term_trees bank args)) g))
 
-pub term_parts_small : (bank : Nodes) (at n : ℕ) (view : TermView) → slice_get bank.terms at ≡ Some (node_of_term view) → IsTermView bank at view → ArePartsOf (term_size_at bank) (IsGoodTerm bank) (at, n) (term_parts_at bank (at, n))
-term_parts_small bank at n view e v = subst (λ node. ArePartsOf (term_size_at bank) (IsGoodTerm bank) (at, n) (term_parts node n)) (sym (node_seen bank at (node_of_term view) e)) (by view v)
+pub term_parts_small : (bank : Nodes) (at n : ℕ) (view : TermView) → slice_get bank.terms at ≡ Some (node_of_term view) → IsTermView bank at view
+    → ArePartsOf (term_size_at bank) (IsGoodTerm bank) (at, n) (term_parts_at bank (at, n))
+term_parts_small bank at n view e v = subst (λ node. ArePartsOf (term_size_at bank) (IsGoodTerm bank) (at, n) (term_parts node n))
+    (sym (node_seen bank at (node_of_term view) e)) (by view v)
   where
     by : (w : TermView) → IsTermView bank at w → ArePartsOf (term_size_at bank) (IsGoodTerm bank) (at, n) (term_parts (node_of_term w) n)
     by (VarView x) h = record { lower = λ j d l. absurd (omega arith); smaller = rw h (omega arith); still_good = λ t g j d l. absurd (omega arith) }
@@ -48,46 +57,100 @@ term_parts_small bank at n view e v = subst (λ node. ArePartsOf (term_size_at b
 
 -- ---- formulas and their parts
 
-one_good : (bank : Nodes) (w : Env × ℕ) (at n f : ℕ) → f < at → IsGoodForm bank w (at, n) → form_applies_heads (close_form (under w.0 n) (form_tree bank f)) ≡ true
+one_good : (bank : Nodes) (w : Env × ℕ) (at n f : ℕ) → f < at → IsGoodForm bank w (at, n)
+    → form_applies_heads (close_form (under w.0 n) (form_tree bank f)) ≡ true
     → All (IsGoodForm bank w) ((f, n) ∷ [])
 one_good bank w at n f l q e =
-    let i = q.inside in let v = q.level in All-cons (IsGoodForm bank w) (f, n) [] (record { inside = omega arith; heads = e; level = omega arith }) (λ j d k. absurd (omega arith))
+    let i = q.inside in let v = q.level in All-cons (IsGoodForm bank w) (f, n) [] (record { inside = omega arith; heads = e; level = omega arith })
+    (λ j d k. absurd (omega arith))
 
-inner_good : (bank : Nodes) (w : Env × ℕ) (at n f : ℕ) → f < at → IsGoodForm bank w (at, n) → form_applies_heads (close_form (under w.0 (suc n)) (form_tree bank f)) ≡ true
+inner_good : (bank : Nodes) (w : Env × ℕ) (at n f : ℕ) → f < at → IsGoodForm bank w (at, n)
+    → form_applies_heads (close_form (under w.0 (suc n)) (form_tree bank f)) ≡ true
     → All (IsGoodForm bank w) ((f, n + 1) ∷ [])
 inner_good bank w at n f l q e =
     let i = q.inside in let v = q.level in let s : suc n ≡ n + 1 = omega arith in
-    All-cons (IsGoodForm bank w) (f, n + 1) [] (record { inside = omega arith; heads = subst (λ m. form_applies_heads (close_form (under w.0 m) (form_tree bank f)) ≡ true) s e; level = omega arith })
+    All-cons (IsGoodForm bank w) (f, n + 1) [] (record {
+      inside = omega arith;
+      heads =
+          subst (λ m. form_applies_heads (close_form (under w.0 m) (form_tree bank f)) ≡ true) s e;
+      level = omega arith;
+    })
     (λ j d k. absurd (omega arith))
 
 two_good : (bank : Nodes) (w : Env × ℕ) (at n f g : ℕ) → f < at → g < at → IsGoodForm bank w (at, n)
-    → (form_applies_heads (close_form (under w.0 n) (form_tree bank f)) && form_applies_heads (close_form (under w.0 n) (form_tree bank g))) ≡ true → All (IsGoodForm bank w) ((f, n) ∷ (g, n) ∷ [])
+    → (form_applies_heads (close_form (under w.0 n) (form_tree bank f)) && form_applies_heads (close_form (under w.0 n) (form_tree bank g))) ≡ true
+    → All (IsGoodForm bank w) ((f, n) ∷ (g, n) ∷ [])
 two_good bank w at n f g l k q e =
-    let p = and_parts (form_applies_heads (close_form (under w.0 n) (form_tree bank f))) (form_applies_heads (close_form (under w.0 n) (form_tree bank g))) e in let i = q.inside in let v = q.level in
+    let p = and_parts (form_applies_heads (close_form (under w.0 n) (form_tree bank f))) (form_applies_heads (close_form (under w.0 n) (form_tree bank g))) e in
+    let i = q.inside in let v = q.level in
     All-cons (IsGoodForm bank w) (f, n) ((g, n) ∷ []) (record { inside = omega arith; heads = p.0; level = omega arith }) (one_good bank w at n g k q p.1)
 
-pub form_parts_small : (bank : Nodes) (at n : ℕ) (view : FormNode) → slice_get bank.forms at ≡ Some (node_of view) → IsFormView bank at view → ArePartsOf (form_size_at bank) (IsGoodForm bank) (at, n) (form_parts_at bank (at, n))
-form_parts_small bank at n view e v = subst (λ node. ArePartsOf (form_size_at bank) (IsGoodForm bank) (at, n) (form_parts node n)) (sym (form_node_seen bank at (node_of view) e)) (by view v.tree v.parts)
+pub form_parts_small : (bank : Nodes) (at n : ℕ) (view : FormNode) → slice_get bank.forms at ≡ Some (node_of view) → IsFormView bank at view
+    → ArePartsOf (form_size_at bank) (IsGoodForm bank) (at, n) (form_parts_at bank (at, n))
+form_parts_small bank at n view e v = subst (λ node. ArePartsOf (form_size_at bank) (IsGoodForm bank) (at, n) (form_parts node n))
+    (sym (form_node_seen bank at (node_of view) e)) (by view v.tree v.parts)
   where
-    by : (w : FormNode) → form_tree bank at ≡ form_of bank w → HasPartsBelow (length bank.terms) at w → ArePartsOf (form_size_at bank) (IsGoodForm bank) (at, n) (form_parts (node_of w) n)
+    by : (w : FormNode) → form_tree bank at ≡ form_of bank w → HasPartsBelow (length bank.terms) at w
+        → ArePartsOf (form_size_at bank) (IsGoodForm bank) (at, n) (form_parts (node_of w) n)
     by TopView t h = record { lower = no_parts at; smaller = rw t (omega arith); still_good = λ w q j d l. absurd (omega arith) }
     by OneView t h = record { lower = no_parts at; smaller = rw t (omega arith); still_good = λ w q j d l. absurd (omega arith) }
     by (AtomView a) t h = record { lower = no_parts at; smaller = rw t (omega arith); still_good = λ w q j d l. absurd (omega arith) }
     by (IsView a b) t h = record { lower = no_parts at; smaller = rw t (omega arith); still_good = λ w q j d l. absurd (omega arith) }
     by (LessView a b) t h = record { lower = no_parts at; smaller = rw t (omega arith); still_good = λ w q j d l. absurd (omega arith) }
     by (MostView a b) t h = record { lower = no_parts at; smaller = rw t (omega arith); still_good = λ w q j d l. absurd (omega arith) }
-    by (WithView f g) t h = record { lower = two_parts at n f.0 g.0 n h.0 h.1; smaller = let s = ap form_size t in omega arith; still_good = λ w q. two_good bank w at n f.0 g.0 h.0 h.1 q (sym (ap (λ x. form_applies_heads (close_form (under w.0 n) x)) t) ∙ q.heads) }
-    by (TensorView f g) t h = record { lower = two_parts at n f.0 g.0 n h.0 h.1; smaller = let s = ap form_size t in omega arith; still_good = λ w q. two_good bank w at n f.0 g.0 h.0 h.1 q (sym (ap (λ x. form_applies_heads (close_form (under w.0 n) x)) t) ∙ q.heads) }
-    by (PlusView f g) t h = record { lower = two_parts at n f.0 g.0 n h.0 h.1; smaller = let s = ap form_size t in omega arith; still_good = λ w q. two_good bank w at n f.0 g.0 h.0 h.1 q (sym (ap (λ x. form_applies_heads (close_form (under w.0 n) x)) t) ∙ q.heads) }
-    by (BangView f) t h = record { lower = one_part at n f.0 n h; smaller = let s = ap form_size t in omega arith; still_good = λ w q. one_good bank w at n f.0 h q (sym (ap (λ x. form_applies_heads (close_form (under w.0 n) x)) t) ∙ q.heads) }
-    by (LolliView f g) t h = record { lower = two_parts at n f.0 g.0 n h.0 h.1; smaller = let s = ap form_size t in omega arith; still_good = λ w q. two_good bank w at n f.0 g.0 h.0 h.1 q (sym (ap (λ x. form_applies_heads (close_form (under w.0 n) x)) t) ∙ q.heads) }
-    by (ImpView f g) t h = record { lower = two_parts at n f.0 g.0 n h.0 h.1; smaller = let s = ap form_size t in omega arith; still_good = λ w q. two_good bank w at n f.0 g.0 h.0 h.1 q (sym (ap (λ x. form_applies_heads (close_form (under w.0 n) x)) t) ∙ q.heads) }
-    by (ForallView f) t h = record { lower = one_part at n f.0 (n + 1) h; smaller = let s = ap form_size t in omega arith; still_good = λ w q. inner_good bank w at n f.0 h q (sym (ap (λ x. form_applies_heads (close_form (under w.0 n) x)) t) ∙ q.heads) }
-    by (ExistsView f) t h = record { lower = one_part at n f.0 (n + 1) h; smaller = let s = ap form_size t in omega arith; still_good = λ w q. inner_good bank w at n f.0 h q (sym (ap (λ x. form_applies_heads (close_form (under w.0 n) x)) t) ∙ q.heads) }
+    by (WithView f g) t h = record {
+      lower = two_parts at n f.0 g.0 n h.0 h.1;
+      smaller = let s = ap form_size t in
+          omega arith;
+      still_good = λ w q. two_good bank w at n f.0 g.0 h.0 h.1 q (sym (ap (λ x. form_applies_heads (close_form (under w.0 n) x)) t) ∙ q.heads);
+    }
+    by (TensorView f g) t h = record {
+      lower = two_parts at n f.0 g.0 n h.0 h.1;
+      smaller = let s = ap form_size t in
+          omega arith;
+      still_good = λ w q. two_good bank w at n f.0 g.0 h.0 h.1 q (sym (ap (λ x. form_applies_heads (close_form (under w.0 n) x)) t) ∙ q.heads);
+    }
+    by (PlusView f g) t h = record {
+      lower = two_parts at n f.0 g.0 n h.0 h.1;
+      smaller = let s = ap form_size t in
+          omega arith;
+      still_good = λ w q. two_good bank w at n f.0 g.0 h.0 h.1 q (sym (ap (λ x. form_applies_heads (close_form (under w.0 n) x)) t) ∙ q.heads);
+    }
+    by (BangView f) t h = record {
+      lower = one_part at n f.0 n h;
+      smaller = let s = ap form_size t in
+          omega arith;
+      still_good = λ w q. one_good bank w at n f.0 h q (sym (ap (λ x. form_applies_heads (close_form (under w.0 n) x)) t) ∙ q.heads);
+    }
+    by (LolliView f g) t h = record {
+      lower = two_parts at n f.0 g.0 n h.0 h.1;
+      smaller = let s = ap form_size t in
+          omega arith;
+      still_good = λ w q. two_good bank w at n f.0 g.0 h.0 h.1 q (sym (ap (λ x. form_applies_heads (close_form (under w.0 n) x)) t) ∙ q.heads);
+    }
+    by (ImpView f g) t h = record {
+      lower = two_parts at n f.0 g.0 n h.0 h.1;
+      smaller = let s = ap form_size t in
+          omega arith;
+      still_good = λ w q. two_good bank w at n f.0 g.0 h.0 h.1 q (sym (ap (λ x. form_applies_heads (close_form (under w.0 n) x)) t) ∙ q.heads);
+    }
+    by (ForallView f) t h = record {
+      lower = one_part at n f.0 (n + 1) h;
+      smaller = let s = ap form_size t in
+          omega arith;
+      still_good = λ w q. inner_good bank w at n f.0 h q (sym (ap (λ x. form_applies_heads (close_form (under w.0 n) x)) t) ∙ q.heads);
+    }
+    by (ExistsView f) t h = record {
+      lower = one_part at n f.0 (n + 1) h;
+      smaller = let s = ap form_size t in
+          omega arith;
+      still_good = λ w q. inner_good bank w at n f.0 h q (sym (ap (λ x. form_applies_heads (close_form (under w.0 n) x)) t) ∙ q.heads);
+    }
     by (UseView m args f) t h = record {
       lower = one_part at n f.0 n h.1;
       smaller = let s = ap form_size t in omega arith;
-      still_good = λ w q. one_good bank w at n f.0 h.1 q (and_parts (list_all applies_heads (map (close (under w.0 n)) (term_trees bank args.now))) (form_applies_heads (close_form (under w.0 n) (form_tree bank f.0))) (sym (ap (λ x. form_applies_heads (close_form (under w.0 n) x)) t) ∙ q.heads)).1;
+      still_good = λ w q. one_good bank w at n f.0 h.1 q (and_parts (list_all applies_heads (map (close (under w.0 n)) (term_trees bank args.now)))
+          (form_applies_heads (close_form (under w.0 n) (form_tree bank f.0))) (sym (ap (λ x. form_applies_heads (close_form (under w.0 n) x)) t) ∙ q.heads)).1;
     }
 
 -- ---- a bank that grows
@@ -104,35 +167,47 @@ module _ (first now : Nodes) (e : Extends first now) where
   }
 
   -- the parts of a term are its parts in the first bank
-  pub term_parts_first : (k : Spot) → HasTerm first k.0 → ArePartsOf (term_size_at now) (IsGoodTerm now) k (term_parts_at now k) → ArePartsOf (term_size_at first) (IsGoodTerm first) k (term_parts_at first k)
+  pub term_parts_first : (k : Spot) → HasTerm first k.0 → ArePartsOf (term_size_at now) (IsGoodTerm now) k (term_parts_at now k)
+      → ArePartsOf (term_size_at first) (IsGoodTerm first) k (term_parts_at first k)
   term_parts_first k h p = back (subst (ArePartsOf (term_size_at now) (IsGoodTerm now) k) (term_parts_same first now e k h) p)
     where
-      back : ArePartsOf (term_size_at now) (IsGoodTerm now) k (term_parts_at first k) → ArePartsOf (term_size_at first) (IsGoodTerm first) k (term_parts_at first k)
+      back : ArePartsOf (term_size_at now) (IsGoodTerm now) k (term_parts_at first k)
+          → ArePartsOf (term_size_at first) (IsGoodTerm first) k (term_parts_at first k)
       back p = record {
         lower = p.lower;
         smaller =
-            let s = sum_same (term_size_at now) (term_size_at first) (term_parts_at first k) (λ j d l. ap term_size (term_tree-extends e (get_or (term_parts_at first k) j d).0 (HasTerm-below first k.0 (get_or (term_parts_at first k) j d).0 h (p.lower j d l)))) in
+            let s = sum_same (term_size_at now) (term_size_at first) (term_parts_at first k)
+            (λ j d l. ap term_size (term_tree-extends e (get_or (term_parts_at first k) j d).0
+            (HasTerm-below first k.0 (get_or (term_parts_at first k) j d).0 h (p.lower j d l)))) in
             let z = ap term_size (term_tree-extends e k.0 h) in let m = p.smaller in omega arith;
         still_good = λ t g j d l.
-            let i = HasTerm-below first k.0 (get_or (term_parts_at first k) j d).0 h (p.lower j d l) in
-            (i, sym (ap (λ u. applies_heads (close (under t (get_or (term_parts_at first k) j d).1) u)) (term_tree-extends e (get_or (term_parts_at first k) j d).0 i)) ∙ (p.still_good t (term_good_now t k g) j d l).1);
+            let i = HasTerm-below first k.0 (get_or (term_parts_at first k) j d).0 h (p.lower j d l) in (
+              i,
+              sym (ap (λ u. applies_heads (close (under t (get_or (term_parts_at first k) j d).1) u))
+                  (term_tree-extends e (get_or (term_parts_at first k) j d).0 i)) ∙ (p.still_good t (term_good_now t k g) j d l).1,
+            );
       }
 
   -- and those of a formula
-  pub form_parts_first : (k : Spot) → HasForm first k.0 → ArePartsOf (form_size_at now) (IsGoodForm now) k (form_parts_at now k) → ArePartsOf (form_size_at first) (IsGoodForm first) k (form_parts_at first k)
+  pub form_parts_first : (k : Spot) → HasForm first k.0 → ArePartsOf (form_size_at now) (IsGoodForm now) k (form_parts_at now k)
+      → ArePartsOf (form_size_at first) (IsGoodForm first) k (form_parts_at first k)
   form_parts_first k h p = back (subst (ArePartsOf (form_size_at now) (IsGoodForm now) k) (form_parts_same first now e k h) p)
     where
-      back : ArePartsOf (form_size_at now) (IsGoodForm now) k (form_parts_at first k) → ArePartsOf (form_size_at first) (IsGoodForm first) k (form_parts_at first k)
+      back : ArePartsOf (form_size_at now) (IsGoodForm now) k (form_parts_at first k)
+          → ArePartsOf (form_size_at first) (IsGoodForm first) k (form_parts_at first k)
       back p = record {
         lower = p.lower;
         smaller =
-            let s = sum_same (form_size_at now) (form_size_at first) (form_parts_at first k) (λ j d l. ap form_size (form_tree-extends e (get_or (form_parts_at first k) j d).0 (HasForm-below first k.0 (get_or (form_parts_at first k) j d).0 h (p.lower j d l)))) in
+            let s = sum_same (form_size_at now) (form_size_at first) (form_parts_at first k)
+            (λ j d l. ap form_size (form_tree-extends e (get_or (form_parts_at first k) j d).0
+            (HasForm-below first k.0 (get_or (form_parts_at first k) j d).0 h (p.lower j d l)))) in
             let z = ap form_size (form_tree-extends e k.0 h) in let m = p.smaller in omega arith;
         still_good = λ w g j d l.
             let i = HasForm-below first k.0 (get_or (form_parts_at first k) j d).0 h (p.lower j d l) in let q = p.still_good w (form_good_now w k g) j d l in
             record {
               inside = i;
-              heads = sym (ap (λ u. form_applies_heads (close_form (under w.0 (get_or (form_parts_at first k) j d).1) u)) (form_tree-extends e (get_or (form_parts_at first k) j d).0 i)) ∙ q.heads;
+              heads = sym (ap (λ u. form_applies_heads (close_form (under w.0 (get_or (form_parts_at first k) j d).1) u))
+                  (form_tree-extends e (get_or (form_parts_at first k) j d).0 i)) ∙ q.heads;
               level = q.level;
             };
       }
@@ -143,7 +218,8 @@ spots_count : (n : ℕ) (args : List At) → length (map (λ (a : ℕ). let k : 
 spots_count n [] = refl
 spots_count n (a ∷ args) = let e = spots_count n args in omega arith
 
-own_terms : (bank : Nodes) (env : Env) (n : ℕ) (args own : List At) → AreImagesOf (λ k (x : At). IsTermImage bank env k x.0) (map (λ (a : ℕ). let k : Spot = (a, n) in k) (places args)) own
+own_terms : (bank : Nodes) (env : Env) (n : ℕ) (args own : List At)
+    → AreImagesOf (λ k (x : At). IsTermImage bank env k x.0) (map (λ (a : ℕ). let k : Spot = (a, n) in k) (places args)) own
     → AllInTerms bank own × (term_trees bank own ≡ map (close (under env n)) (term_trees bank args))
 own_terms bank env n [] [] h = ((λ j d l. absurd (omega arith)), refl)
 own_terms bank env n [] (x ∷ own) h = absurd h
@@ -165,23 +241,32 @@ module _ (bank : Nodes) (env : Env) (at n : ℕ) (h : Head) (args : List At) (se
 
 -- ---- the images of formulas
 
-module _ (bank : Nodes) (env : Env) (at n : ℕ) (images : List FormAt) (are : AreImagesOf (λ k (x : FormAt). IsFormImage bank env k x.0) (form_parts_at bank (at, n)) images) (node : FormulaNode) (seen : slice_get bank.forms at ≡ Some node) where
+module _ (bank : Nodes) (env : Env) (at n : ℕ) (images : List FormAt)
+    (are : AreImagesOf (λ k (x : FormAt). IsFormImage bank env k x.0) (form_parts_at bank (at, n)) images) (node : FormulaNode)
+    (seen : slice_get bank.forms at ≡ Some node) where
   seen_images : AreImagesOf (λ k (x : FormAt). IsFormImage bank env k x.0) (form_parts node n) images
-  seen_images = subst (λ ps. AreImagesOf (λ k (x : FormAt). IsFormImage bank env k x.0) ps images) (ap (λ z. form_parts z n) (form_node_seen bank at node seen)) are
+  seen_images = subst (λ ps. AreImagesOf (λ k (x : FormAt). IsFormImage bank env k x.0) ps images) (ap (λ z. form_parts z n) (form_node_seen bank at node seen))
+      are
 
   pub one_image : (f m : ℕ) (d : FormAt) → form_parts node n ≡ (f, m) ∷ [] → ShowsForm bank (get_or images 0 d).0 (close_form (under env m) (form_tree bank f))
   one_image f m d e =
-      let r = images_one (λ k (x : FormAt). IsFormImage bank env k x.0) (f, m) images (subst (λ ps. AreImagesOf (λ k (x : FormAt). IsFormImage bank env k x.0) ps images) e seen_images) in
+      let r = images_one (λ k (x : FormAt). IsFormImage bank env k x.0) (f, m) images
+      (subst (λ ps. AreImagesOf (λ k (x : FormAt). IsFormImage bank env k x.0) ps images) e seen_images) in
       subst (λ xs. ShowsForm bank (get_or xs 0 d).0 (close_form (under env m) (form_tree bank f))) (sym r.1) r.2.1
 
   pub two_images : (f g m : ℕ) (d : FormAt) → form_parts node n ≡ (f, m) ∷ (g, m) ∷ []
-      → ShowsForm bank (get_or images 0 d).0 (close_form (under env m) (form_tree bank f)) × ShowsForm bank (get_or images 1 d).0 (close_form (under env m) (form_tree bank g))
+      → ShowsForm bank (get_or images 0 d).0 (close_form (under env m) (form_tree bank f))
+      × ShowsForm bank (get_or images 1 d).0 (close_form (under env m) (form_tree bank g))
   two_images f g m d e =
-      let r = images_two (λ k (x : FormAt). IsFormImage bank env k x.0) (f, m) (g, m) images (subst (λ ps. AreImagesOf (λ k (x : FormAt). IsFormImage bank env k x.0) ps images) e seen_images) in
-      (subst (λ xs. ShowsForm bank (get_or xs 0 d).0 (close_form (under env m) (form_tree bank f))) (sym r.2) r.3.1, subst (λ xs. ShowsForm bank (get_or xs 1 d).0 (close_form (under env m) (form_tree bank g))) (sym r.2) r.4.1)
+      let r = images_two (λ k (x : FormAt). IsFormImage bank env k x.0) (f, m) (g, m) images
+      (subst (λ ps. AreImagesOf (λ k (x : FormAt). IsFormImage bank env k x.0) ps images) e seen_images) in (
+        subst (λ xs. ShowsForm bank (get_or xs 0 d).0 (close_form (under env m) (form_tree bank f))) (sym r.2) r.3.1,
+        subst (λ xs. ShowsForm bank (get_or xs 1 d).0 (close_form (under env m) (form_tree bank g))) (sym r.2) r.4.1,
+      )
 
 -- a term without arguments has no parts
-pub no_arguments : (bank : Nodes) (at n : ℕ) (h : Head) (args : List At) → slice_get bank.terms at ≡ Some (AppNode h (places args)) → length args ≡ 0 → term_parts_at bank (at, n) ≡ []
+pub no_arguments : (bank : Nodes) (at n : ℕ) (h : Head) (args : List At) → slice_get bank.terms at ≡ Some (AppNode h (places args)) → length args ≡ 0
+    → term_parts_at bank (at, n) ≡ []
 no_arguments bank at n h args seen e = ap (λ node. term_parts node n) (node_seen bank at (AppNode h (places args)) seen) ∙ none args e
   where
     none : (xs : List At) → length xs ≡ 0 → map (λ (a : ℕ). let k : Spot = (a, n) in k) (places xs) ≡ []

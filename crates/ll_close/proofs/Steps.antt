@@ -8,7 +8,8 @@ use Rattle.ll_bank.specs.Term.{Env, close, applies_heads}
 use Rattle.ll_bank.specs.Form.{close_form, form_applies_heads}
 use Rattle.ll_bank.specs.Nodes.{Nodes, HasTerm, HasForm, AllInTerms, ShowsTerm, ShowsForm, Extends, term_tree, form_tree, term_trees}
 use Rattle.ll_bank.specs.Opened.{Spot, AreImages, term_parts_at, form_parts_at}
-use Rattle.ll_bank.proofs.CallerLemmas.{HasTerm-extends, HasForm-extends, term_tree-extends, form_tree-extends, AllInTerms-extends, term_trees-extends, term_parts_same, form_parts_same}
+use Rattle.ll_bank.proofs.CallerLemmas.{HasTerm-extends, HasForm-extends, term_tree-extends, form_tree-extends, AllInTerms-extends, term_trees-extends}
+use Rattle.ll_bank.proofs.CallerLemmas.{term_parts_same, form_parts_same}
 use Rattle.ll_close.specs.Closing.{env_of, under, IsTermImage, IsFormImage, IsGoodTerm, IsGoodForm}
 use Rattle.ll_close.specs.Stacks.{EndsWith}
 use Rattle.ll_close.proofs.Values.{env_extends}
@@ -18,18 +19,23 @@ module _ (first now : Nodes) (e : Extends first now) (values : List At) (all : A
   same_env : env_of now values ≡ env_of first values
   same_env = env_extends first now e values all
 
-  pub images_now : (lookup : Spot → Option ℕ) → AreImages (IsTermImage now (env_of first values)) lookup → AreImages (IsTermImage now (env_of now values)) lookup
+  pub images_now : (lookup : Spot → Option ℕ) → AreImages (IsTermImage now (env_of first values)) lookup
+      → AreImages (IsTermImage now (env_of now values)) lookup
   images_now lookup h = subst (λ v. AreImages (IsTermImage now v) lookup) (sym same_env) h
 
-  pub images_then : (new : Nodes) (lookup : Spot → Option ℕ) → AreImages (IsTermImage new (env_of now values)) lookup → AreImages (IsTermImage new (env_of first values)) lookup
+  pub images_then : (new : Nodes) (lookup : Spot → Option ℕ) → AreImages (IsTermImage new (env_of now values)) lookup
+      → AreImages (IsTermImage new (env_of first values)) lookup
   images_then new lookup h = subst (λ v. AreImages (IsTermImage new v) lookup) same_env h
 
   module _ (k : Spot) where
     pub term_heads_now : IsGoodTerm first (env_of first values) k → applies_heads (close (under (env_of now values) k.1) (term_tree now k.0)) ≡ true
-    term_heads_now g = subst (λ v. applies_heads (close (under v k.1) (term_tree now k.0)) ≡ true) (sym same_env) (term_good_now first now e (env_of first values) k g).1
+    term_heads_now g = subst (λ v. applies_heads (close (under v k.1) (term_tree now k.0)) ≡ true) (sym same_env)
+        (term_good_now first now e (env_of first values) k g).1
 
-    pub form_heads_now : (limit : ℕ) → IsGoodForm first (env_of first values, limit) k → form_applies_heads (close_form (under (env_of now values) k.1) (form_tree now k.0)) ≡ true
-    form_heads_now limit g = subst (λ v. form_applies_heads (close_form (under v k.1) (form_tree now k.0)) ≡ true) (sym same_env) (form_good_now first now e (env_of first values, limit) k g).heads
+    pub form_heads_now : (limit : ℕ) → IsGoodForm first (env_of first values, limit) k
+        → form_applies_heads (close_form (under (env_of now values) k.1) (form_tree now k.0)) ≡ true
+    form_heads_now limit g = subst (λ v. form_applies_heads (close_form (under v k.1) (form_tree now k.0)) ≡ true) (sym same_env)
+        (form_good_now first now e (env_of first values, limit) k g).heads
 
     pub terms_end_now : (made : List At) → HasTerm first k.0 → EndsWith (λ q (x : At). IsTermImage now (env_of first values) q x.0) (term_parts_at first k) made
         → EndsWith (λ q (x : At). IsTermImage now (env_of now values) q x.0) (term_parts_at now k) made
@@ -37,14 +43,16 @@ module _ (first now : Nodes) (e : Extends first now) (values : List At) (all : A
         subst (λ v. EndsWith (λ q (x : At). IsTermImage now v q x.0) (term_parts_at now k) made) (sym same_env)
         (subst (λ ps. EndsWith (λ q (x : At). IsTermImage now (env_of first values) q x.0) ps made) (sym (term_parts_same first now e k h)) w)
 
-    pub forms_end_now : (made : List FormAt) → HasForm first k.0 → EndsWith (λ q (x : FormAt). IsFormImage now (env_of first values) q x.0) (form_parts_at first k) made
+    pub forms_end_now : (made : List FormAt) → HasForm first k.0
+        → EndsWith (λ q (x : FormAt). IsFormImage now (env_of first values) q x.0) (form_parts_at first k) made
         → EndsWith (λ q (x : FormAt). IsFormImage now (env_of now values) q x.0) (form_parts_at now k) made
     forms_end_now made h w =
         subst (λ v. EndsWith (λ q (x : FormAt). IsFormImage now v q x.0) (form_parts_at now k) made) (sym same_env)
         (subst (λ ps. EndsWith (λ q (x : FormAt). IsFormImage now (env_of first values) q x.0) ps made) (sym (form_parts_same first now e k h)) w)
 
     -- an image that was made
-    pub term_image_made : (next : Nodes) (g : Extends now next) (image : ℕ) → HasTerm first k.0 → ShowsTerm next image (close (under (env_of now values) k.1) (term_tree now k.0)) → IsTermImage next (env_of first values) k image
+    pub term_image_made : (next : Nodes) (g : Extends now next) (image : ℕ) → HasTerm first k.0
+        → ShowsTerm next image (close (under (env_of now values) k.1) (term_tree now k.0)) → IsTermImage next (env_of first values) k image
     term_image_made next g image h s =
         let n = HasTerm-extends e k.0 h in (
           HasTerm-extends g k.0 n,
@@ -52,7 +60,8 @@ module _ (first now : Nodes) (e : Extends first now) (values : List At) (all : A
               (subst (λ u. ShowsTerm next image (close (under (env_of now values) k.1) u)) (sym (term_tree-extends g k.0 n)) s),
         )
 
-    pub form_image_made : (next : Nodes) (g : Extends now next) (image : ℕ) → HasForm first k.0 → ShowsForm next image (close_form (under (env_of now values) k.1) (form_tree now k.0)) → IsFormImage next (env_of first values) k image
+    pub form_image_made : (next : Nodes) (g : Extends now next) (image : ℕ) → HasForm first k.0
+        → ShowsForm next image (close_form (under (env_of now values) k.1) (form_tree now k.0)) → IsFormImage next (env_of first values) k image
     form_image_made next g image h s =
         let n = HasForm-extends e k.0 h in (
           HasForm-extends g k.0 n,
@@ -61,18 +70,22 @@ module _ (first now : Nodes) (e : Extends first now) (values : List At) (all : A
         )
 
     -- what shows a part of the grown bank shows it of the first
-    pub term_shown : (next : Nodes) (image : ℕ) → HasTerm first k.0 → ShowsTerm next image (close (under (env_of now values) k.1) (term_tree now k.0)) → ShowsTerm next image (close (under (env_of first values) k.1) (term_tree first k.0))
-    term_shown next image h s = subst (λ v. ShowsTerm next image (close (under v k.1) (term_tree first k.0))) same_env (subst (λ u. ShowsTerm next image (close (under (env_of now values) k.1) u)) (term_tree-extends e k.0 h) s)
+    pub term_shown : (next : Nodes) (image : ℕ) → HasTerm first k.0 → ShowsTerm next image (close (under (env_of now values) k.1) (term_tree now k.0))
+        → ShowsTerm next image (close (under (env_of first values) k.1) (term_tree first k.0))
+    term_shown next image h s = subst (λ v. ShowsTerm next image (close (under v k.1) (term_tree first k.0))) same_env
+        (subst (λ u. ShowsTerm next image (close (under (env_of now values) k.1) u)) (term_tree-extends e k.0 h) s)
 
     -- the only image that is left
-    pub term_left : (made : List At) (d : At) → d ≡ get_or made 0 d → HasTerm first k.0 → (x : At) × (made ≡ x ∷ []) × IsTermImage now (env_of first values) k x.0
+    pub term_left : (made : List At) (d : At) → d ≡ get_or made 0 d → HasTerm first k.0
+        → (x : At) × (made ≡ x ∷ []) × IsTermImage now (env_of first values) k x.0
         → ShowsTerm now d.0 (close (under (env_of first values) k.1) (term_tree first k.0))
     term_left made d q h r =
         let e0 : r.0 ≡ d = sym (q ∙ ap (λ ms. get_or ms 0 d) r.1) in
         subst (λ (z : At). ShowsTerm now z.0 (close (under (env_of first values) k.1) (term_tree first k.0))) e0
         (subst (λ u. ShowsTerm now r.0.0 (close (under (env_of first values) k.1) u)) (term_tree-extends e k.0 h) r.2.1)
 
-    pub form_left : (made : List FormAt) (d : FormAt) → d ≡ get_or made 0 d → HasForm first k.0 → (x : FormAt) × (made ≡ x ∷ []) × IsFormImage now (env_of first values) k x.0
+    pub form_left : (made : List FormAt) (d : FormAt) → d ≡ get_or made 0 d → HasForm first k.0
+        → (x : FormAt) × (made ≡ x ∷ []) × IsFormImage now (env_of first values) k x.0
         → ShowsForm now d.0 (close_form (under (env_of first values) k.1) (form_tree first k.0))
     form_left made d q h r =
         let e0 : r.0 ≡ d = sym (q ∙ ap (λ ms. get_or ms 0 d) r.1) in
@@ -80,8 +93,10 @@ module _ (first now : Nodes) (e : Extends first now) (values : List At) (all : A
         (subst (λ u. ShowsForm now r.0.0 (close_form (under (env_of first values) k.1) u)) (form_tree-extends e k.0 h) r.2.1)
 
 -- one more term has its image
-pub terms_more : (first now new : Nodes) (e : Extends now new) (t : Env) (n : ℕ) (terms made made' : List At) (i : ℕ) (d image : At) → i < length terms → AllInTerms now made
-    → term_trees now made ≡ map (close (under t n)) (term_trees first (take i terms)) → ShowsTerm new image.0 (close (under t n) (term_tree first (get_or terms i d).0)) → made' ≡ made ++ image ∷ []
+pub terms_more : (first now new : Nodes) (e : Extends now new) (t : Env) (n : ℕ) (terms made made' : List At) (i : ℕ) (d image : At) → i < length terms
+    → AllInTerms now made
+    → term_trees now made ≡ map (close (under t n)) (term_trees first (take i terms))
+    → ShowsTerm new image.0 (close (under t n) (term_tree first (get_or terms i d).0)) → made' ≡ made ++ image ∷ []
     → AllInTerms new made' × (term_trees new made' ≡ map (close (under t n)) (term_trees first (take (i + 1) terms)))
 terms_more first now new e t n terms made made' i d image l all is s f = (
   subst (AllInTerms new) (sym f) (All-push (λ (a : At). a.0 < length new.terms) made image (AllInTerms-extends e made all) s.inside),

@@ -21,7 +21,8 @@ place_low env (suc n) (suc k) m l = place_low env n k (suc m) (omega arith) ∙ 
 pub place_out : (env : Env) (n k m : ℕ) → place (under env n) (n + k) m ≡ place env k (n + m)
 place_out env zero k m = (λ i. place env ((let e : 0 + k ≡ k = omega arith in e) i) ((let e : m ≡ 0 + m = omega arith in e) i))
 place_out env (suc n) k m =
-    ap (λ j. place (None ∷ under env n) j m) (let e : suc n + k ≡ suc (n + k) = omega arith in e) ∙ (place_out env n k (suc m) ∙ ap (place env k) (let e : n + suc m ≡ suc n + m = omega arith in e))
+    ap (λ j. place (None ∷ under env n) j m) (let e : suc n + k ≡ suc (n + k) = omega arith in e)
+    ∙ (place_out env n k (suc m) ∙ ap (place env k) (let e : n + suc m ≡ suc n + m = omega arith in e))
 
 -- values in the order of the quantifiers, the innermost first
 module _ (bank : Nodes) where
@@ -36,7 +37,8 @@ module _ (bank : Nodes) where
   place_past : (vs : List At) (k m : ℕ) → length vs ≤ k → place (map standing vs) k m ≡ Con (Bound (m + (k - length vs)))
   place_past [] k m l = ap (λ j. Con (Bound (m + j))) (let e : k ≡ k - 0 = omega arith in e)
   place_past (v ∷ vs) zero m l = absurd (omega arith)
-  place_past (v ∷ vs) (suc k) m l = place_past vs k m (omega arith) ∙ ap (λ j. Con (Bound (m + j))) (let e : k - length vs ≡ suc k - suc (length vs) = omega arith in e)
+  place_past (v ∷ vs) (suc k) m l = place_past vs k m (omega arith)
+      ∙ ap (λ j. Con (Bound (m + j))) (let e : k - length vs ≡ suc k - suc (length vs) = omega arith in e)
 
   env_is : (vs : List At) → env_of bank vs ≡ map standing (reverse vs)
   env_is [] = refl
@@ -46,7 +48,8 @@ module _ (bank : Nodes) where
       ∙ (sym (map-append standing (reverse vs) (v ∷ [])) ∙ ap (map standing) (sym (reverse-append (v ∷ []) vs))))
 
   -- what the values close
-  pub head_value : (vs : List At) (n k i : ℕ) (d : At) → n ≤ k → k - n < length vs → i ≡ length vs - 1 - (k - n) → place (under (env_of bank vs) n) k 0 ≡ term_tree bank (get_or vs i d).0
+  pub head_value : (vs : List At) (n k i : ℕ) (d : At) → n ≤ k → k - n < length vs → i ≡ length vs - 1 - (k - n)
+      → place (under (env_of bank vs) n) k 0 ≡ term_tree bank (get_or vs i d).0
   head_value vs n k i d l h e =
       ap (λ j. place (under (env_of bank vs) n) j 0) (let q : k ≡ n + (k - n) = omega arith in q)
       ∙ (place_out (env_of bank vs) n (k - n) 0
@@ -68,7 +71,8 @@ head_low env n k l = place_low env n k 0 l ∙ ap (λ j. Con (Bound j)) (let e :
 
 -- ---- values in a bank that grows
 
-standing_extends : (old new : Nodes) (e : Extends old new) (vs : List At) → AllInTerms old vs → map (λ (v : At). let o : Option Term = Some (term_tree new v.0) in o) vs ≡ map (λ (v : At). let o : Option Term = Some (term_tree old v.0) in o) vs
+standing_extends : (old new : Nodes) (e : Extends old new) (vs : List At) → AllInTerms old vs
+    → map (λ (v : At). let o : Option Term = Some (term_tree new v.0) in o) vs ≡ map (λ (v : At). let o : Option Term = Some (term_tree old v.0) in o) vs
 standing_extends old new e [] h = refl
 standing_extends old new e (v ∷ vs) h =
     let p = term_tree-extends e v.0 (All-head (λ (b : At). b.0 < length old.terms) v vs h) in

@@ -37,7 +37,8 @@ LeadsTo parts good root spots (task ∷ tasks) =
     × (task.ready ≡ true → (below : List Spot) × (spots ≡ below ++ parts (spot_of task)) × LeadsTo parts good root (below ++ spot_of task ∷ []) tasks)
 
 -- what holds while the root gets its image; the next task stands last
-pub record IsClosing {X : Type 0} (is_image : Spot → X → Type 0) (parts : Spot → List Spot) (good : Spot → Type 0) (root : Spot) (made : List X) (tasks : List Task) : Type 0 where
+pub record IsClosing {X : Type 0} (is_image : Spot → X → Type 0) (parts : Spot → List Spot) (good : Spot
+    → Type 0) (root : Spot) (made : List X) (tasks : List Task) : Type 0 where
   pub spots : List Spot
   pub images : AreImagesOf is_image spots made
   pub leads : LeadsTo parts good root spots (reverse tasks)

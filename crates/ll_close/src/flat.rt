@@ -63,7 +63,8 @@ pub(crate) fn all_at_hand(
     requires values { AllInTerms bank.now values.now }
     ensures few { result ≡ true → length args.now ≤ length own.new }
     ensures places { result ≡ true → AllInTerms bank.now (take (length args.now) own.new) }
-    ensures shows { result ≡ true → term_trees bank.now (take (length args.now) own.new) ≡ map (close (under (env_of bank.now values.now) level)) (term_trees bank.now args.now) }
+    ensures shows { result ≡ true → term_trees bank.now (take (length args.now) own.new)
+        ≡ map (close (under (env_of bank.now values.now) level)) (term_trees bank.now args.now) }
 {
     if args.len() > FEW {
         return false;

@@ -90,8 +90,10 @@ fn place_of(form: FormAt) -> usize
 fn push_form(bank: &Bank, task: Task, tasks: &mut Vec<Task>) -> Result<(), OutOfMemory>
     requires inside { HasForm bank.now task.place }
     requires level { task.place + task.level ≤ 18446744073709551615 }
-    ensures pushed { OnOk result (reverse tasks.new.items ≡ map visit (form_parts_at bank.now (task.place, task.level)) ++ ready (task.place, task.level) ∷ reverse tasks.old.items) }
-    ensures parts { OnOk result (ArePartsOf (form_size_at bank.now) (IsGoodForm bank.now) (task.place, task.level) (form_parts_at bank.now (task.place, task.level))) }
+    ensures pushed { OnOk result (reverse tasks.new.items ≡ map visit (form_parts_at bank.now (task.place, task.level)) ++ ready (task.place, task.level)
+        ∷ reverse tasks.old.items) }
+    ensures parts { OnOk result (ArePartsOf (form_size_at bank.now) (IsGoodForm bank.now) (task.place, task.level)
+        (form_parts_at bank.now (task.place, task.level))) }
 {
     tasks.push(Task {
         ready: true,
@@ -175,8 +177,10 @@ fn build_form(
     requires values { AllInTerms bank.old values.now }
     requires heads { form_applies_heads (close_form (under (env_of bank.old values.now) task.level) (form_tree bank.old task.place)) ≡ true }
     requires terms { AreImages (IsTermImage bank.old (env_of bank.old values.now)) (get same_spot terms.old.places) }
-    requires parts { EndsWith (λ k x. IsFormImage bank.old (env_of bank.old values.now) k x.0) (form_parts_at bank.old (task.place, task.level)) made.old.items }
-    ensures shows { IfOk result (λ image. ShowsForm bank.new image.0 (close_form (under (env_of bank.old values.now) task.level) (form_tree bank.old task.place))) }
+    requires parts { EndsWith (λ k x. IsFormImage bank.old (env_of bank.old values.now) k x.0) (form_parts_at bank.old (task.place, task.level))
+        made.old.items }
+    ensures shows { IfOk result (λ image. ShowsForm bank.new image.0
+        (close_form (under (env_of bank.old values.now) task.level) (form_tree bank.old task.place))) }
     ensures terms { OnOk result (AreImages (IsTermImage bank.new (env_of bank.old values.now)) (get same_spot terms.new.places)) }
     ensures made { OnOk result (made.new.items ≡ take (length made.old.items - length (form_parts_at bank.old (task.place, task.level))) made.old.items) }
     ensures keeps { Extends bank.old bank.new }
@@ -201,7 +205,8 @@ fn closed_node(
     requires heads { form_applies_heads (close_form (under (env_of bank.old values.now) task.level) (form_tree bank.old task.place)) ≡ true }
     requires terms { AreImages (IsTermImage bank.old (env_of bank.old values.now)) (get same_spot terms.old.places) }
     requires parts { AreImagesOf (λ k x. IsFormImage bank.old (env_of bank.old values.now) k x.0) (form_parts_at bank.old (task.place, task.level)) parts.now }
-    ensures shows { IfOk result (λ image. ShowsForm bank.new image.0 (close_form (under (env_of bank.old values.now) task.level) (form_tree bank.old task.place))) }
+    ensures shows { IfOk result (λ image. ShowsForm bank.new image.0
+        (close_form (under (env_of bank.old values.now) task.level) (form_tree bank.old task.place))) }
     ensures terms { OnOk result (AreImages (IsTermImage bank.new (env_of bank.old values.now)) (get same_spot terms.new.places)) }
     ensures keeps { Extends bank.old bank.new }
 {
@@ -283,7 +288,8 @@ fn closed_terms(
     requires heads { All (λ a. applies_heads (close (under (env_of bank.old values.now) level) (term_tree bank.old a.0)) ≡ true) args.now }
     requires terms { AreImages (IsTermImage bank.old (env_of bank.old values.now)) (get same_spot terms.old.places) }
     ensures places { IfOk result (λ made. AllInTerms bank.new made.items) }
-    ensures shows { IfOk result (λ made. term_trees bank.new made.items ≡ map (close (under (env_of bank.old values.now) level)) (term_trees bank.old args.now)) }
+    ensures shows { IfOk result (λ made. term_trees bank.new made.items
+        ≡ map (close (under (env_of bank.old values.now) level)) (term_trees bank.old args.now)) }
     ensures terms { OnOk result (AreImages (IsTermImage bank.new (env_of bank.old values.now)) (get same_spot terms.new.places)) }
     ensures keeps { Extends bank.old bank.new }
 {

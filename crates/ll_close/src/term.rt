@@ -116,8 +116,10 @@ fn is_leaf(bank: &Bank, task: Task) -> bool
 /// Puts a term on the stack, which is ready, and its arguments above it.
 fn push_term(bank: &Bank, task: Task, tasks: &mut Vec<Task>) -> Result<(), OutOfMemory>
     requires { HasTerm bank.now task.place }
-    ensures pushed { OnOk result (reverse tasks.new.items ≡ map visit (term_parts_at bank.now (task.place, task.level)) ++ ready (task.place, task.level) ∷ reverse tasks.old.items) }
-    ensures parts { OnOk result (ArePartsOf (term_size_at bank.now) (IsGoodTerm bank.now) (task.place, task.level) (term_parts_at bank.now (task.place, task.level))) }
+    ensures pushed { OnOk result (reverse tasks.new.items ≡ map visit (term_parts_at bank.now (task.place, task.level)) ++ ready (task.place, task.level)
+        ∷ reverse tasks.old.items) }
+    ensures parts { OnOk result (ArePartsOf (term_size_at bank.now) (IsGoodTerm bank.now) (task.place, task.level)
+        (term_parts_at bank.now (task.place, task.level))) }
 {
     tasks.push(Task {
         ready: true,
@@ -141,7 +143,8 @@ fn build_term(
     requires inside { HasTerm bank.old task.place }
     requires values { AllInTerms bank.old values.now }
     requires heads { applies_heads (close (under (env_of bank.old values.now) task.level) (term_tree bank.old task.place)) ≡ true }
-    requires parts { EndsWith (λ k x. IsTermImage bank.old (env_of bank.old values.now) k x.0) (term_parts_at bank.old (task.place, task.level)) made.old.items }
+    requires parts { EndsWith (λ k x. IsTermImage bank.old (env_of bank.old values.now) k x.0) (term_parts_at bank.old (task.place, task.level))
+        made.old.items }
     ensures shows { IfOk result (λ image. ShowsTerm bank.new image.0 (close (under (env_of bank.old values.now) task.level) (term_tree bank.old task.place))) }
     ensures made { OnOk result (made.new.items ≡ take (length made.old.items - length (term_parts_at bank.old (task.place, task.level))) made.old.items) }
     ensures keeps { Extends bank.old bank.new }
@@ -173,7 +176,8 @@ fn closed_head(
     requires values { AllInTerms bank.old values.now }
     requires places { AllInTerms bank.old args.now }
     requires heads { applies_heads (apply (close_head (under (env_of bank.old values.now) level) head) (term_trees bank.old args.now)) ≡ true }
-    ensures shows { IfOk result (λ image. ShowsTerm bank.new image.0 (apply (close_head (under (env_of bank.old values.now) level) head) (term_trees bank.old args.now))) }
+    ensures shows { IfOk result (λ image. ShowsTerm bank.new image.0
+        (apply (close_head (under (env_of bank.old values.now) level) head) (term_trees bank.old args.now))) }
     ensures keeps { Extends bank.old bank.new }
 {
     match head {
@@ -197,7 +201,8 @@ fn closed_bound(
     requires values { AllInTerms bank.old values.now }
     requires places { AllInTerms bank.old args.now }
     requires heads { applies_heads (apply (place (under (env_of bank.old values.now) level) bound 0) (term_trees bank.old args.now)) ≡ true }
-    ensures shows { IfOk result (λ image. ShowsTerm bank.new image.0 (apply (place (under (env_of bank.old values.now) level) bound 0) (term_trees bank.old args.now))) }
+    ensures shows { IfOk result (λ image. ShowsTerm bank.new image.0
+        (apply (place (under (env_of bank.old values.now) level) bound 0) (term_trees bank.old args.now))) }
     ensures keeps { Extends bank.old bank.new }
 {
     let number = bound as usize;

@@ -22,7 +22,8 @@ overview look = record { untried = look.untried; busy = look.busy; starved = loo
 module _ {N : Type 0} where
   -- the claim of a worker with this answer: with work comes the batch itself
   abbrev pub ClaimsAs : (N → List (Owed Event)) → PoolData N Event → ℕ → Claimed N → PoolData N Event → Type 0
-  ClaimsAs alternatives p w (Work piece batch k) q = (b : ℕ) × (slice_get p.batches b ≡ Some (arc_value batch)) × Claims alternatives p w (event.Work piece b k) q
+  ClaimsAs alternatives p w (Work piece batch k) q = (b : ℕ) × (slice_get p.batches b ≡ Some (arc_value batch))
+      × Claims alternatives p w (event.Work piece b k) q
   ClaimsAs alternatives p w (Idle busy) q = Claims alternatives p w (event.Idle busy) q
   ClaimsAs alternatives p w Finished q = Claims alternatives p w event.Finished q
   ClaimsAs alternatives p w Starved q = Claims alternatives p w event.Starved q

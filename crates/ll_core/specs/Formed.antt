@@ -14,7 +14,8 @@ place_of x = record { batch = x.batch; k = x.k }
 abbrev pub place_in : {N : Type 0} → Waiting N → Alternative
 place_in w = record { batch = w.batch; k = w.k }
 
-pub record Formed {N : Type 0} (alternatives : N → List (Owed Event)) (batches : List N) (pieces : List (Piece Event)) (waiting : List (Waiting N)) (capacity open_now : ℕ) : Type 0 where
+pub record Formed {N : Type 0} (alternatives : N → List (Owed Event)) (batches : List N) (pieces : List (Piece Event)) (waiting : List (Waiting N))
+    (capacity open_now : ℕ) : Type 0 where
   pub order : Orderly (λ b. length (owed_by (map alternatives batches) b)) (map place_of pieces ++ map place_in waiting)
   pub copies : Each waiting (λ w. slice_get batches w.batch ≡ Some (arc_value w.copy))
   pub room : length pieces + length waiting ≤ capacity

@@ -80,7 +80,8 @@ module _ {N Of E : Type 0} (of : N → Of) (alternatives : N → List (Owed E)) 
   -- others published meanwhile stands behind it.
   abbrev pub TakenStays : Type 0
   TakenStays =
-      (p q : PoolData N E) (problem : Of) (pair : Owed E) (reports : List (Owed E)) → Sound of alternatives p problem pair → Sound of alternatives q problem pair
+      (p q : PoolData N E) (problem : Of) (pair : Owed E) (reports : List (Owed E)) → Sound of alternatives p problem pair
+      → Sound of alternatives q problem pair
       → Later p q → SameTaken p q → Given p reports → Given q reports
 
   -- what was taken is the front of what the root owes
@@ -92,7 +93,8 @@ module _ {N Of E : Type 0} (of : N → Of) (alternatives : N → List (Owed E)) 
   -- where nothing is untried or open, what was taken and then what is left, in walk order, is what the root owes
   abbrev pub GivenAndLeft : Type 0
   GivenAndLeft =
-      (p : PoolData N E) (problem : Of) (pair : Owed E) (reports : List (Owed E)) → Sound of alternatives p problem pair → p.untried ≡ 0 → p.busy ≡ 0 → Given p reports
+      (p : PoolData N E) (problem : Of) (pair : Owed E) (reports : List (Owed E)) → Sound of alternatives p problem pair → p.untried ≡ 0 → p.busy ≡ 0
+      → Given p reports
       → (events_in (reports ++ reports_left alternatives p) ≡ pair.events)
       × (cut_count (sum_by (λ (o : Owed E). o.cost) (reports ++ reports_left alternatives p)) ≡ cut_count pair.cost)
 

@@ -5,7 +5,8 @@ use Rattle.ll_laws.specs.Spread.{share, owed_at, owes_of, spread}
 use Rattle.ll_laws.specs.Search.{cut_count}
 use Rattle.ll_laws.specs.Sound.{Sound}
 use Rattle.ll_laws.specs.Later.{Later}
-use Rattle.ll_laws.specs.CoreEvents.{CoreEvent, Claim, Publish, Report, Work, Done, opening, new_piece, with_batch, Holds, NoOpen, Does, By, Lawful, RunsTo, claim_of, report_taken, reports_left}
+use Rattle.ll_laws.specs.CoreEvents.{CoreEvent, Claim, Publish, Report, Work, Done, opening, new_piece, with_batch, Holds, NoOpen, Does, By, Lawful, RunsTo}
+use Rattle.ll_laws.specs.CoreEvents.{claim_of, report_taken, reports_left}
 
 -- no alternative stands in the list twice
 abbrev pub AllDifferent : List Alternative → Type 0
@@ -28,7 +29,8 @@ module _ {N Of E : Type 0} (of : N → Of) (alternatives : N → List (Owed E)) 
   -- a lawful event keeps a pool sound, for the same problem and the same pair that the root owes
   abbrev pub KeepsSound : Type 0
   KeepsSound =
-      (p q : PoolData N E) (e : CoreEvent N E) (problem : Of) (pair : Owed E) → Sound of alternatives p problem pair → Lawful of alternatives p e → Does alternatives p e q
+      (p q : PoolData N E) (e : CoreEvent N E) (problem : Of) (pair : Owed E) → Sound of alternatives p problem pair → Lawful of alternatives p e
+      → Does alternatives p e q
       → Sound of alternatives q problem pair
 
   -- an event leads to a later pool
@@ -38,7 +40,8 @@ module _ {N Of E : Type 0} (of : N → Of) (alternatives : N → List (Owed E)) 
   -- an event of another worker, and a quiet one of any, leaves a worker's open piece open, with its share
   abbrev pub LeavesOpen : Type 0
   LeavesOpen =
-      (p q : PoolData N E) (e : CoreEvent N E) (problem : Of) (pair : Owed E) (v w i : ℕ) (x : Piece E) → Sound of alternatives p problem pair → Does alternatives p e q → By v e → (v ≡ w → ⊥) ⊎ IsQuiet e
+      (p q : PoolData N E) (e : CoreEvent N E) (problem : Of) (pair : Owed E) (v w i : ℕ) (x : Piece E) → Sound of alternatives p problem pair
+      → Does alternatives p e q → By v e → (v ≡ w → ⊥) ⊎ IsQuiet e
       → Holds p w i x → Holds q w i x × (share (owes_of alternatives q) x ≡ share (owes_of alternatives p) x)
 
   -- and a worker that has no open piece has none after it
@@ -55,18 +58,23 @@ module _ {N Of E : Type 0} (of : N → Of) (alternatives : N → List (Owed E)) 
   -- costs add up
   abbrev pub PublishSplits : Type 0
   PublishSplits =
-      (p q : PoolData N E) (problem : Of) (pair : Owed E) (w i : ℕ) (x : Piece E) (n : N) → Sound of alternatives p problem pair → Lawful of alternatives p (Publish w n Done) → Does alternatives p (Publish w n Done) q → Holds p w i x
+      (p q : PoolData N E) (problem : Of) (pair : Owed E) (w i : ℕ) (x : Piece E) (n : N) → Sound of alternatives p problem pair
+      → Lawful of alternatives p (Publish w n Done) → Does alternatives p (Publish w n Done) q → Holds p w i x
       → Holds q w i (with_batch (length p.batches) x)
-      × ((share (owes_of alternatives q) (with_batch (length p.batches) x)).events ++ flat_map (λ (o : Owed E). o.events) (alternatives n) ≡ (share (owes_of alternatives p) x).events)
-      × ((share (owes_of alternatives q) (with_batch (length p.batches) x)).cost + sum_by (λ (o : Owed E). o.cost) (alternatives n) ≡ (share (owes_of alternatives p) x).cost)
+      × ((share (owes_of alternatives q) (with_batch (length p.batches) x)).events ++ flat_map (λ (o : Owed E). o.events) (alternatives n)
+      ≡ (share (owes_of alternatives p) x).events)
+      × ((share (owes_of alternatives q) (with_batch (length p.batches) x)).cost + sum_by (λ (o : Owed E). o.cost) (alternatives n)
+      ≡ (share (owes_of alternatives p) x).cost)
 
   -- after its report a worker has no open piece
   abbrev pub ReportCloses : Type 0
-  ReportCloses = (p q : PoolData N E) (problem : Of) (pair : Owed E) (w : ℕ) (report : Owed E) → Sound of alternatives p problem pair → Does alternatives p (Report w report) q → NoOpen q w
+  ReportCloses = (p q : PoolData N E) (problem : Of) (pair : Owed E) (w : ℕ) (report : Owed E) → Sound of alternatives p problem pair
+      → Does alternatives p (Report w report) q → NoOpen q w
 
   -- only worker 0 changes which pieces are taken
   abbrev pub TakesAlone : Type 0
-  TakesAlone = (p q : PoolData N E) (e : CoreEvent N E) (v i : ℕ) → Does alternatives p e q → By v e → (v ≡ 0 → ⊥) → (IsTakenAt p i → IsTakenAt q i) × (IsTakenAt q i → IsTakenAt p i)
+  TakesAlone = (p q : PoolData N E) (e : CoreEvent N E) (v i : ℕ) → Does alternatives p e q → By v e → (v ≡ 0 → ⊥)
+      → (IsTakenAt p i → IsTakenAt q i) × (IsTakenAt q i → IsTakenAt p i)
 
   -- the number of workers never changes
   abbrev pub KeepsWorkers : Type 0
@@ -81,20 +89,23 @@ module _ {N Of E : Type 0} (of : N → Of) (alternatives : N → List (Owed E)) 
   -- every list of lawful events from a new pool leads to a sound pool, which spreads what the root owes
   abbrev pub RunsSound : Type 0
   RunsSound =
-      (root : N) (workers : ℕ) (pair : Owed E) (es : List (CoreEvent N E)) (q : PoolData N E) → alternatives root ≡ pair ∷ [] → RunsTo of alternatives (opening root workers) es q
+      (root : N) (workers : ℕ) (pair : Owed E) (es : List (CoreEvent N E)) (q : PoolData N E) → alternatives root ≡ pair ∷ []
+      → RunsTo of alternatives (opening root workers) es q
       → Sound of alternatives q (of root) pair × (spread alternatives q ≡ pair.events)
 
   -- no alternative is claimed twice
   abbrev pub ClaimsOnce : Type 0
   ClaimsOnce =
-      (root : N) (workers : ℕ) (pair : Owed E) (es : List (CoreEvent N E)) (q : PoolData N E) → alternatives root ≡ pair ∷ [] → RunsTo of alternatives (opening root workers) es q
+      (root : N) (workers : ℕ) (pair : Owed E) (es : List (CoreEvent N E)) (q : PoolData N E) → alternatives root ≡ pair ∷ []
+      → RunsTo of alternatives (opening root workers) es q
       → AllDifferent (flat_map claim_of es)
 
   -- Where nothing is untried or open, the reports that were taken and then those that are left, in walk order, are the events that the
   -- root owes, and their costs sum to its cost, cut at the greatest u64.
   abbrev pub ReportsOwed : Type 0
   ReportsOwed =
-      (root : N) (workers : ℕ) (pair : Owed E) (es : List (CoreEvent N E)) (q : PoolData N E) → alternatives root ≡ pair ∷ [] → RunsTo of alternatives (opening root workers) es q → q.untried ≡ 0 → q.busy ≡ 0
+      (root : N) (workers : ℕ) (pair : Owed E) (es : List (CoreEvent N E)) (q : PoolData N E) → alternatives root ≡ pair ∷ []
+      → RunsTo of alternatives (opening root workers) es q → q.untried ≡ 0 → q.busy ≡ 0
       → (flat_map (λ (o : Owed E). o.events) (flat_map report_taken es ++ reports_left alternatives q) ≡ pair.events)
       × (cut_count (sum_by (λ (o : Owed E). o.cost) (flat_map report_taken es ++ reports_left alternatives q)) ≡ cut_count pair.cost)
 
@@ -109,5 +120,6 @@ module _ {N Of E : Type 0} (of : N → Of) (alternatives : N → List (Owed E)) 
   -- after a sound pool in which nothing is untried or open nothing comes
   abbrev pub NothingComes : Type 0
   NothingComes =
-      (p q : PoolData N E) (problem : Of) (pair : Owed E) → Sound of alternatives p problem pair → Sound of alternatives q problem pair → Later p q → p.untried ≡ 0 → p.busy ≡ 0
+      (p q : PoolData N E) (problem : Of) (pair : Owed E) → Sound of alternatives p problem pair → Sound of alternatives q problem pair → Later p q
+      → p.untried ≡ 0 → p.busy ≡ 0
       → (q.batches ≡ p.batches) × (length q.pieces ≡ length p.pieces) × (q.untried ≡ 0) × (q.busy ≡ 0)

@@ -1,5 +1,6 @@
 //! The laws of core events. The program calls no function of this module.
-ghost use Rattle.ll_core.specs.Laws.{KeepsSound, LeadsOn, LeavesOpen, LeavesNone, ClaimGives, PublishSplits, ReportCloses, TakesAlone, KeepsWorkers, SpreadsRoot, RunsSound, ClaimsOnce, ReportsOwed, LaterItself, LaterOn, NothingComes};
+ghost use Rattle.ll_core.specs.Laws.{KeepsSound, LeadsOn, LeavesOpen, LeavesNone, ClaimGives, PublishSplits, ReportCloses, TakesAlone, KeepsWorkers};
+ghost use Rattle.ll_core.specs.Laws.{SpreadsRoot, RunsSound, ClaimsOnce, ReportsOwed, LaterItself, LaterOn, NothingComes};
 ghost use Rattle.ll_core.specs.Given.{NoneGiven, GivenOn, TakenStays, GivenInFront, GivenAndLeft, LeavesTaken, LeavesMarks};
 
 use ll_laws::Batch;

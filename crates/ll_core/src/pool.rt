@@ -56,7 +56,8 @@ impl<N: Batch> Model for Pool<N> {
 
     ghost view = { λ p. data_of p.batches.items p.pieces.items (length p.waiting.items) p.workers p.busy p.starved p.stopped };
 
-    ghost invariant = { λ p. Whole N.alternatives (data_of p.batches.items p.pieces.items (length p.waiting.items) p.workers p.busy p.starved p.stopped) p.waiting.items p.starts.items (map stop_in p.stack.items) (vec_capacity p.pieces) (vec_capacity p.stack) };
+    ghost invariant = { λ p. Whole N.alternatives (data_of p.batches.items p.pieces.items (length p.waiting.items) p.workers p.busy p.starved p.stopped)
+        p.waiting.items p.starts.items (map stop_in p.stack.items) (vec_capacity p.pieces) (vec_capacity p.stack) };
 }
 
 impl<N: Batch> Pool<N> {

@@ -38,7 +38,8 @@ record Applied (f k : Term) (ts us : List Term) : Type 0 where
 
 apply-inj : (f k : Term) (ts us : List Term) → length ts ≡ length us → apply f ts ≡ apply k us → Applied f k ts us
 apply-inj f k [] [] n h = record { head = h; args = refl }
-apply-inj f k (t ∷ ts) (u ∷ us) n h = let r = apply-inj (Ap f t) (Ap k u) ts us (omega arith) h in let a = r.head in let b = r.args in record { head = cc; args = cc }
+apply-inj f k (t ∷ ts) (u ∷ us) n h = let r = apply-inj (Ap f t) (Ap k u) ts us (omega arith) h in let a = r.head in let b = r.args in
+    record { head = cc; args = cc }
 apply-inj f k [] (u ∷ us) n h = absurd (omega arith)
 apply-inj f k (t ∷ ts) [] n h = absurd (omega arith)
 

@@ -1,5 +1,6 @@
 -- A walk over a term that finds out whether it is closed, step by step.
-use Rattle.std.proofs.Common.{◌≡◌, ◌≢◌, ℕ, ◌<◌, Bool, true, false, eqb, ◌||◌, ◌&&◌, List, [], ◌∷◌, length, refl, ap, sym, subst, ◌∙◌, inl, inr, arith, true≢false}
+use Rattle.std.proofs.Common.{◌≡◌, ◌≢◌, ℕ, ◌<◌, Bool, true, false, eqb, ◌||◌, ◌&&◌, List, [], ◌∷◌, length, refl, ap, sym, subst, ◌∙◌, inl, inr, arith}
+use Rattle.std.proofs.Common.{true≢false}
 use Rattle.std.specs.List.{list_any, list_all}
 use Rattle.std.proofs.lemmas.Bool.{or_left, or_right, or_cases, eqb-true, eq-eqb, cases_eq, and_parts}
 use Rattle.ll_bank.specs.declared.At.{At}
@@ -10,7 +11,8 @@ use Rattle.ll_cover.specs.Closing.{ArePartsOf, IsClosedBy}
 
 -- ---- places among others
 
-pub each-closed : (bank : Nodes) (args : List At) (k : ℕ) → list_all is_closed (term_trees bank args) ≡ true → list_any (eqb k) (places args) ≡ true → is_closed (term_tree bank k) ≡ true
+pub each-closed : (bank : Nodes) (args : List At) (k : ℕ) → list_all is_closed (term_trees bank args) ≡ true → list_any (eqb k) (places args) ≡ true
+    → is_closed (term_tree bank k) ≡ true
 each-closed bank [] k h e = absurd (true≢false (sym e))
 each-closed bank (a ∷ as') k h e =
     let p = and_parts (is_closed (term_tree bank a.0)) (list_all is_closed (term_trees bank as')) h in
@@ -19,7 +21,8 @@ each-closed bank (a ∷ as') k h e =
       | inr q ↦ each-closed bank as' k p.1 q
     ]
 
-pub closed-each : (bank : Nodes) (args : List At) → ((k : ℕ) → list_any (eqb k) (places args) ≡ true → is_closed (term_tree bank k) ≡ true) → list_all is_closed (term_trees bank args) ≡ true
+pub closed-each : (bank : Nodes) (args : List At) → ((k : ℕ) → list_any (eqb k) (places args) ≡ true → is_closed (term_tree bank k) ≡ true)
+    → list_all is_closed (term_trees bank args) ≡ true
 closed-each bank [] h = refl
 closed-each bank (a ∷ as') h =
     let p = h a.0 (or_left (eqb a.0 a.0) (list_any (eqb a.0) (places as')) (eq-eqb a.0 a.0 refl)) in
@@ -58,7 +61,8 @@ module _ (bank : Nodes) (at : ℕ) (waits popped next : ℕ → Bool) (p : ℕ) 
   }
 
 -- it stops at a place that is not closed
-pub closing-stops : (bank : Nodes) (at : ℕ) (waits : ℕ → Bool) (p : ℕ) → IsClosedBy bank at waits → waits p ≡ true → is_closed (term_tree bank p) ≡ false → false ≡ is_closed (term_tree bank at)
+pub closing-stops : (bank : Nodes) (at : ℕ) (waits : ℕ → Bool) (p : ℕ) → IsClosedBy bank at waits → waits p ≡ true → is_closed (term_tree bank p) ≡ false
+    → false ≡ is_closed (term_tree bank at)
 closing-stops bank at waits p w member e = by (is_closed (term_tree bank at)) refl
   where
     by : (b : Bool) → is_closed (term_tree bank at) ≡ b → false ≡ b

@@ -1,5 +1,6 @@
 -- The answers of a search on its way, up to the first that covers a derivation.
-use Rattle.std.proofs.Common.{◌≡◌, ℕ, zero, suc, ◌<◌, min, refl, ap, sym, subst, ◌∙◌, List, [], ◌∷◌, ◌++◌, length, take, All, Some, None, inl, inr, arith, append_assoc, length-append}
+use Rattle.std.proofs.Common.{◌≡◌, ℕ, zero, suc, ◌<◌, min, refl, ap, sym, subst, ◌∙◌, List, [], ◌∷◌, ◌++◌, length, take, All, Some, None, inl, inr, arith}
+use Rattle.std.proofs.Common.{append_assoc, length-append}
 use Rattle.std.specs.Prelude.{slice_get, Bool, Result, Ok, Err, IfOk, IsTrue, ◌↔◌}
 use Rattle.std.proofs.lemmas.Bool.{cases_lt}
 use Rattle.std.proofs.lemmas.List.{append-nil, take-map, take_all}
@@ -56,7 +57,8 @@ module _ (p : ProblemTree) (d : DerivationLines) where
   -- an event that is no answer
   on : (es : List Event) (old new : List Event) (number : ℕ) → IsPassing p d old number → old ≡ es ++ new → answers_in es ≡ [] → IsPassing p d new number
   on es old new number w e none =
-      let same : answers_in (w.passed ++ es) ≡ answers_in w.passed = answers-append w.passed es ∙ (ap (λ as'. answers_in w.passed ++ as') none ∙ append-nil (answers_in w.passed)) in
+      let same : answers_in (w.passed ++ es) ≡ answers_in w.passed =
+      answers-append w.passed es ∙ (ap (λ as'. answers_in w.passed ++ as') none ∙ append-nil (answers_in w.passed)) in
       record {
         passed = w.passed ++ es;
         events = append_assoc w.passed es new ∙ (ap (λ fs. w.passed ++ fs) (sym e) ∙ w.events);
@@ -71,11 +73,13 @@ module _ (p : ProblemTree) (d : DerivationLines) where
   passing_reached old new number w s = on (Reached ∷ []) old.events new.events number w s.events refl
 
   -- an answer that does not cover it
-  pub passing_answer : (old new : Owing) (number : ℕ) (a : Answered) → IsPassing p d old.events number → Steps old (Found (Answer a)) new → (IsCoveredBy p d a → ⊥)
+  pub passing_answer : (old new : Owing) (number : ℕ) (a : Answered) → IsPassing p d old.events number → Steps old (Found (Answer a)) new
+      → (IsCoveredBy p d a → ⊥)
       → IsPassing p d new.events (cut_count (suc number))
   passing_answer old new number a w s not =
       let more : answers_in (w.passed ++ Answer a ∷ []) ≡ answers_in w.passed ++ a ∷ [] = answers-append w.passed (Answer a ∷ []) in
-      let count : length (answers_in (w.passed ++ Answer a ∷ [])) ≡ suc (length (answers_in w.passed)) = ap length more ∙ (length-append (answers_in w.passed) (a ∷ []) ∙ (omega arith)) in
+      let count : length (answers_in (w.passed ++ Answer a ∷ [])) ≡ suc (length (answers_in w.passed)) =
+      ap length more ∙ (length-append (answers_in w.passed) (a ∷ []) ∙ (omega arith)) in
       record {
         passed = w.passed ++ Answer a ∷ [];
         events = append_assoc w.passed (Answer a ∷ []) new.events ∙ (ap (λ fs. w.passed ++ fs) (sym s.events) ∙ w.events);
@@ -84,7 +88,8 @@ module _ (p : ProblemTree) (d : DerivationLines) where
       }
 
   -- one that does
-  pub passing_names : (old new : Owing) (number : ℕ) (a : Answered) → IsPassing p d old.events number → Steps old (Found (Answer a)) new → IsCoveredBy p d a → NamesCover p d (cut_count (suc number))
+  pub passing_names : (old new : Owing) (number : ℕ) (a : Answered) → IsPassing p d old.events number → Steps old (Found (Answer a)) new → IsCoveredBy p d a
+      → NamesCover p d (cut_count (suc number))
   passing_names old new number a w s is =
       let all : answers_in (problem_events p) ≡ answers_in w.passed ++ a ∷ answers_in new.events =
       ap answers_in (sym w.events) ∙ (answers-append w.passed old.events ∙ ap (λ es. answers_in w.passed ++ answers_in es) s.events) in
@@ -97,7 +102,8 @@ module _ (p : ProblemTree) (d : DerivationLines) where
         steps = is.steps;
       }
 
-  pub passing_first : (old new : Owing) (number : ℕ) (a : Answered) → IsPassing p d old.events number → Steps old (Found (Answer a)) new → IsCoveredBy p d a → NamesFirst p d (cut_count (suc number))
+  pub passing_first : (old new : Owing) (number : ℕ) (a : Answered) → IsPassing p d old.events number → Steps old (Found (Answer a)) new → IsCoveredBy p d a
+      → NamesFirst p d (cut_count (suc number))
   passing_first old new number a w s is =
       let all : answers_in (problem_events p) ≡ answers_in w.passed ++ a ∷ answers_in new.events =
       ap answers_in (sym w.events) ∙ (answers-append w.passed old.events ∙ ap (λ es. answers_in w.passed ++ answers_in es) s.events) in
@@ -116,8 +122,10 @@ module _ (p : ProblemTree) (d : DerivationLines) where
   pub passing_never_ends : (old new : Owing) (number some : ℕ) → IsPassing p d old.events number → Steps old Done new → NamesCover p d some → ⊥
   passing_never_ends old new number some w s c =
       let all : answers_in (problem_events p) ≡ answers_in w.passed =
-      ap answers_in (sym w.events) ∙ (answers-append w.passed old.events ∙ (ap (λ es. answers_in w.passed ++ answers_in es) s.ends.1 ∙ append-nil (answers_in w.passed))) in
-      at_place (λ a. IsCoveredBy p d a → ⊥) (answers_in w.passed) c.place c.answer w.none (ap (λ as'. slice_get as' c.place) (sym all) ∙ c.is) (record { instance = c.instance; steps = c.steps })
+      ap answers_in (sym w.events) ∙ (answers-append w.passed old.events
+      ∙ (ap (λ es. answers_in w.passed ++ answers_in es) s.ends.1 ∙ append-nil (answers_in w.passed))) in
+      at_place (λ a. IsCoveredBy p d a → ⊥) (answers_in w.passed) c.place c.answer w.none (ap (λ as'. slice_get as' c.place) (sym all) ∙ c.is)
+      (record { instance = c.instance; steps = c.steps })
 
 -- ---- the terms asked for
 
@@ -142,12 +150,14 @@ first_once p d m n a b = a.counted ∙ (ap (λ k. cut_count (suc k)) same ∙ sy
     ]
 
 -- an answer covers the derivation exactly where its first terms, those asked for, have the derivation's as an instance
-module _ (p : ProblemTree) (d : DerivationLines) (a : Answered) (bank dbank : Nodes) (ts ds : List At) (n : ℕ) (terms : term_trees bank ts ≡ a.terms) (asked : term_trees dbank ds ≡ d.asked)
+module _ (p : ProblemTree) (d : DerivationLines) (a : Answered) (bank dbank : Nodes) (ts ds : List At) (n : ℕ) (terms : term_trees bank ts ≡ a.terms)
+    (asked : term_trees dbank ds ≡ d.asked)
     (count : n ≡ min (length p.asked) (length ts)) (steps : length a.steps ≡ length d.nodes) where
   first_terms : term_trees bank (take n ts) ≡ asked_terms p a
   first_terms = ap (λ k. term_trees bank (take k ts)) count ∙ (asked_first bank ts (length p.asked) ∙ ap (take (length p.asked)) terms)
 
-  pub covered_by : {E : Type 0} (r : Result Bool E) → IfOk r (λ is. IsTrue is ↔ IsInstance (term_trees bank (take n ts)) (term_trees dbank ds)) → IfOk r (λ is. IsTrue is ↔ IsCoveredBy p d a)
+  pub covered_by : {E : Type 0} (r : Result Bool E) → IfOk r (λ is. IsTrue is ↔ IsInstance (term_trees bank (take n ts)) (term_trees dbank ds))
+      → IfOk r (λ is. IsTrue is ↔ IsCoveredBy p d a)
   covered_by (Err e) h = tt
   covered_by (Ok is) h = (
     λ t. record { instance = subst (λ us. IsInstance us d.asked) first_terms (subst (IsInstance (term_trees bank (take n ts))) asked (h.0 t)); steps = steps },

@@ -1,5 +1,6 @@
 -- A match of two lists of terms, from its beginning to its end.
-use Rattle.std.proofs.Common.{◌≡◌, ℕ, zero, suc, ◌<◌, ◌≤◌, refl, ap, sym, subst, ◌∙◌, Bool, true, false, cond, List, [], ◌∷◌, ◌++◌, map, length, get_or, Option, Some, None, All, inl, inr, arith, true≢false, eqb}
+use Rattle.std.proofs.Common.{◌≡◌, ℕ, zero, suc, ◌<◌, ◌≤◌, refl, ap, sym, subst, ◌∙◌, Bool, true, false, cond, List, [], ◌∷◌, ◌++◌, map, length, get_or}
+use Rattle.std.proofs.Common.{Option, Some, None, All, inl, inr, arith, true≢false, eqb}
 use Rattle.std.specs.Prelude.{IsSome}
 use Rattle.std.specs.declared.cmp.Ordering.TheVariants.{Less, Equal, Greater}
 use Rattle.std.specs.Ordering.{nat_cmp, is_lt}
@@ -41,7 +42,8 @@ there (e ∷ es) zero d l = record {
 }
 there (e ∷ es) (suc j) d l = step (is_at (nat_cmp (get_or (keys_of es) j d)) e.0) (there es j d (omega arith))
   where
-    step : (b : Bool) → IsThere (lookup (is_at (nat_cmp (get_or (keys_of es) j d))) es) → IsThere (cond b (Some e.1) (lookup (is_at (nat_cmp (get_or (keys_of es) j d))) es))
+    step : (b : Bool) → IsThere (lookup (is_at (nat_cmp (get_or (keys_of es) j d))) es)
+        → IsThere (cond b (Some e.1) (lookup (is_at (nat_cmp (get_or (keys_of es) j d))) es))
     step true r = record { value = e.1; is = refl }
     step false r = r
 
@@ -50,7 +52,8 @@ keys_below m p b = λ j d l. let r = there m.entries j d l in b (get_or (keys m)
 
 -- ---- one entry leaves, with the greatest key
 
-module _ (old popped : BTreeMap ℕ At) (p : ℕ) (a : At) (value : get nat_cmp old p ≡ Some a) (updates : (q : ℕ) → get nat_cmp popped q ≡ cond (is_at (nat_cmp p) q) None (get nat_cmp old q))
+module _ (old popped : BTreeMap ℕ At) (p : ℕ) (a : At) (value : get nat_cmp old p ≡ Some a) (updates : (q : ℕ)
+    → get nat_cmp popped q ≡ cond (is_at (nat_cmp p) q) None (get nat_cmp old q))
     (greatest : IsUpperBound nat_cmp old p) where
   gone : get nat_cmp popped p ≡ None
   gone = updates p ∙ cond-true (is_at (nat_cmp p) p) None (get nat_cmp old p) (is_at-nat p p ∙ eq-eqb p p refl)
@@ -84,7 +87,8 @@ module _ (old popped : BTreeMap ℕ At) (p : ℕ) (a : At) (value : get nat_cmp 
 module _ (bank : Nodes) (of : List At) (other : Nodes) (terms : List At) where
   -- at its beginning the terms wait
   pub matching_begins : (found : Found) (waiting : BTreeMap ℕ At) → found.values.entries ≡ [] → waiting.entries ≡ [] → AllBelow (length bank.terms) of
-      → Meets other (λ want. map (λ a. want a.0) of ≡ term_trees other terms) (get nat_cmp waiting) (get nat_cmp found.waiting) true → HasPlaces other (get nat_cmp found.waiting)
+      → Meets other (λ want. map (λ a. want a.0) of ≡ term_trees other terms) (get nat_cmp waiting) (get nat_cmp found.waiting) true
+      → HasPlaces other (get nat_cmp found.waiting)
       → ((limit : ℕ) → AllBelow limit of → AreBelow limit (get nat_cmp waiting) → AreBelow limit (get nat_cmp found.waiting))
       → IsMatching bank (term_trees bank of) other (term_trees other terms) found
   matching_begins found waiting v w inside m p b = record {
@@ -99,15 +103,19 @@ module _ (bank : Nodes) (of : List At) (other : Nodes) (terms : List At) where
     below = b (length bank.terms) inside (λ k a s. absurd (no_some (nothing_at waiting w k) s));
   }
 
-  pub begins_no : (waiting now : BTreeMap ℕ At) → waiting.entries ≡ [] → Meets other (λ want. map (λ a. want a.0) of ≡ term_trees other terms) (get nat_cmp waiting) (get nat_cmp now) false
+  pub begins_no : (waiting now : BTreeMap ℕ At) → waiting.entries ≡ []
+      → Meets other (λ want. map (λ a. want a.0) of ≡ term_trees other terms) (get nat_cmp waiting) (get nat_cmp now) false
       → IsInstance (term_trees bank of) (term_trees other terms) → ⊥
   begins_no waiting now w m i =
       m (λ x. sub i.values (term_tree bank x)) (λ k a s. absurd (no_some (nothing_at waiting w k) s)) (sym (sub-term_trees i.values bank of) ∙ sym i.is)
 
 -- it goes on with the greatest place that waits
-module _ (bank : Nodes) (of : List Term) (other : Nodes) (terms : List Term) (old new : Found) (popped : BTreeMap ℕ At) (p : ℕ) (a : At) (m : IsMatching bank of other terms old)
-    (value : get nat_cmp old.waiting p ≡ Some a) (updates : (q : ℕ) → get nat_cmp popped q ≡ cond (is_at (nat_cmp p) q) None (get nat_cmp old.waiting q)) (greatest : IsUpperBound nat_cmp old.waiting p) where
-  whole : (g : ℕ → Term) → Makes bank other (record { waiting = popped; values = old.values }) g → sub g (term_tree bank p) ≡ term_tree other a.0 → Makes bank other old g
+module _ (bank : Nodes) (of : List Term) (other : Nodes) (terms : List Term) (old new : Found) (popped : BTreeMap ℕ At) (p : ℕ) (a : At)
+    (m : IsMatching bank of other terms old)
+    (value : get nat_cmp old.waiting p ≡ Some a) (updates : (q : ℕ)
+    → get nat_cmp popped q ≡ cond (is_at (nat_cmp p) q) None (get nat_cmp old.waiting q)) (greatest : IsUpperBound nat_cmp old.waiting p) where
+  whole : (g : ℕ → Term) → Makes bank other (record { waiting = popped; values = old.values }) g → sub g (term_tree bank p) ≡ term_tree other a.0
+      → Makes bank other old g
   whole g h e = record {
     waiting = λ k b s. elim (cases_eq p k) [
       | inl q ↦
@@ -145,7 +153,8 @@ module _ (bank : Nodes) (of : List Term) (other : Nodes) (terms : List Term) (ol
   matching_no l i = let h = m.enough i.values (sym i.is) in l i.values i.closed (part i.values h) (h.waiting p a value)
 
   -- less waits
-  pub waiting_falls : keys old.waiting ≡ keys popped ++ p ∷ [] → Looks bank p other a.0 (record { waiting = popped; values = old.values }) new true → ceiling (keys new.waiting) < ceiling (keys old.waiting)
+  pub waiting_falls : keys old.waiting ≡ keys popped ++ p ∷ [] → Looks bank p other a.0 (record { waiting = popped; values = old.values }) new true
+      → ceiling (keys new.waiting) < ceiling (keys old.waiting)
   waiting_falls e l =
       let x = ceiling-le (keys new.waiting) p (keys_below new.waiting p (l.below (popped_below old.waiting popped p a value updates greatest))) in
       let y = last_below (keys popped) p in let z = ap ceiling e in omega arith
@@ -155,7 +164,8 @@ term_or : Nodes → ℕ → Option At → Term
 term_or other x None = Var x
 term_or other x (Some a) = term_tree other a.0
 
-pub matching_ends : (bank : Nodes) (of : List Term) (other : Nodes) (terms : List Term) (found : Found) → IsMatching bank of other terms found → found.waiting.entries ≡ [] → IsInstance of terms
+pub matching_ends : (bank : Nodes) (of : List Term) (other : Nodes) (terms : List Term) (found : Found) → IsMatching bank of other terms found
+    → found.waiting.entries ≡ [] → IsInstance of terms
 unfolding term_or
 matching_ends bank of other terms found m none = record {
   values = λ x. term_or other x (get nat_cmp found.values x);

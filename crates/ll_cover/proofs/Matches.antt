@@ -42,7 +42,8 @@ module _ (bank : Nodes) (places others : List At) (n : length places ≡ length 
   tree : At → Term
   tree b = term_tree bank b.0
 
-  pub adds_more : Meets bank (λ want. want (get_or places i d).0 ≡ term_tree bank (get_or others i d).0) now next true → Adds bank (AsksFirst bank places others (i + 1)) old next
+  pub adds_more : Meets bank (λ want. want (get_or places i d).0 ≡ term_tree bank (get_or others i d).0) now next true
+      → Adds bank (AsksFirst bank places others (i + 1)) old next
   unfolding tree
   adds_more m = record {
     keeps = λ want h. a.keeps want (m.keeps want h);

@@ -108,7 +108,8 @@ fn meet_all(
     requires pairs { length places.now ≡ length others.now }
     requires inside { AllInTerms bank.now others.now }
     requires images { HasPlaces bank.now (get nat_cmp images.old) }
-    ensures met { IfOk result (Meets bank.now (λ want. map (λ a. want a.0) places.now ≡ term_trees bank.now others.now) (get nat_cmp images.old) (get nat_cmp images.new)) }
+    ensures met { IfOk result (Meets bank.now (λ want. map (λ a. want a.0) places.now ≡ term_trees bank.now others.now) (get nat_cmp images.old)
+        (get nat_cmp images.new)) }
     ensures images { OnOk result (HasPlaces bank.now (get nat_cmp images.new)) }
     ensures below { OnOk result ((limit : ℕ) → AllBelow limit places.now → AreBelow limit (get nat_cmp images.old) → AreBelow limit (get nat_cmp images.new)) }
 {

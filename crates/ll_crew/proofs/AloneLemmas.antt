@@ -20,7 +20,8 @@ cost_moves : (made cost more less k : ℕ) → less ≤ cost → more ≡ cut_co
 cost_moves made cost more less k h e f = omega arith
 
 module _ {O : Type 0} (takes breaks : O → Event → O → Type 0) (welcome : O → Event → Type 0) (faults : O → ℕ) (start : O) (p : ProblemTree) where
-  pub alone_starts : (e : Owing) → e ≡ fresh p → Every (welcome start) (problem_events p) → IsAlone takes welcome faults start p e start (record { answers = 0; reached = 0; inferences = 0 })
+  pub alone_starts : (e : Owing) → e ≡ fresh p → Every (welcome start) (problem_events p)
+      → IsAlone takes welcome faults start p e start (record { answers = 0; reached = 0; inferences = 0 })
   alone_starts e h w = record {
     done = [];
     giving = record {
@@ -40,8 +41,10 @@ module _ {O : Type 0} (takes breaks : O → Event → O → Type 0) (welcome : O
       in_order : problem_events p ≡ a.done ++ ((e ∷ []) ++ new.events)
       in_order = a.giving.order ∙ ap (λ l. a.done ++ l) s.events
 
-      pub alone_goes_on : (out' : O) (counts' : Counts) → Gives takes out (e ∷ []) out' → counts'.answers ≡ cut_count (counts.answers + count_by is_answer (e ∷ []))
-          → counts'.reached ≡ cut_count (counts.reached + count_by is_reached (e ∷ [])) → Kept takes breaks welcome faults out out' → IsAlone takes welcome faults start p new out' counts'
+      pub alone_goes_on : (out' : O) (counts' : Counts) → Gives takes out (e ∷ []) out'
+          → counts'.answers ≡ cut_count (counts.answers + count_by is_answer (e ∷ []))
+          → counts'.reached ≡ cut_count (counts.reached + count_by is_reached (e ∷ [])) → Kept takes breaks welcome faults out out'
+          → IsAlone takes welcome faults start p new out' counts'
       alone_goes_on out' counts' g answers reached k = record {
         done = a.done ++ e ∷ [];
         giving = record {
@@ -59,6 +62,8 @@ module _ {O : Type 0} (takes breaks : O → Event → O → Type 0) (welcome : O
       pub alone_breaks : (out' : O) → GivesPrefix takes breaks out (e ∷ []) out' → GivesPrefix takes breaks start (problem_events p) out'
       alone_breaks out' (inl (front, back, is, g)) =
           let order : problem_events p ≡ (a.done ++ front) ++ (back ++ new.events) =
-          in_order ∙ (ap (λ l. a.done ++ (l ++ new.events)) is ∙ (ap (λ l. a.done ++ l) (append_assoc front back new.events) ∙ sym (append_assoc a.done front (back ++ new.events)))) in
+          in_order ∙ (ap (λ l. a.done ++ (l ++ new.events)) is
+          ∙ (ap (λ l. a.done ++ l) (append_assoc front back new.events) ∙ sym (append_assoc a.done front (back ++ new.events)))) in
           inl (a.done ++ front, back ++ new.events, order, gives_more takes breaks start out out' a.done front a.giving.given g)
-      alone_breaks out' (inr r) = inr (subst (λ l. Refuses takes breaks start l out') (sym in_order) (refuses_more takes breaks start out out' a.done (e ∷ []) new.events a.giving.given r))
+      alone_breaks out' (inr r) = inr (subst (λ l. Refuses takes breaks start l out') (sym in_order)
+          (refuses_more takes breaks start out out' a.done (e ∷ []) new.events a.giving.given r))

@@ -55,7 +55,8 @@ calm_on a b c f g =
       sound = λ p e h. g.sound p (fs.problem ∙ e) (f.sound p e h);
     }
 
-module _ (change : PoolData FrozenSight Event → PoolData FrozenSight Event → Type 0) (before after : Sat) (t : OneTurn of_batch alternatives_in change before after) where
+module _ (change : PoolData FrozenSight Event → PoolData FrozenSight Event
+    → Type 0) (before after : Sat) (t : OneTurn of_batch alternatives_in change before after) where
   pub turn_same : Same before after
   turn_same = record {
     table = ap (λ (s : Sat). s.table) t.seat;
@@ -67,16 +68,19 @@ module _ (change : PoolData FrozenSight Event → PoolData FrozenSight Event →
   pub turn_seen : after.mine.seen ≡ t.left
   turn_seen = ap (λ (s : Sat). s.mine.seen) t.seat
 
-  asked_of : (problem : ProblemTree) → before.problem ≡ Some (asked problem) → (q : Option (PoolProblem ProblemTree)) → q ≡ before.problem → (a : PoolProblem ProblemTree) → q ≡ Some a → a ≡ asked problem
+  asked_of : (problem : ProblemTree) → before.problem ≡ Some (asked problem) → (q : Option (PoolProblem ProblemTree)) → q ≡ before.problem
+      → (a : PoolProblem ProblemTree) → q ≡ Some a → a ≡ asked problem
   asked_of problem is q same a e = some_is a (asked problem) (sym e ∙ (same ∙ is))
 
   pub found_sound : (problem : ProblemTree) → before.problem ≡ Some (asked problem) → IsSound t.found problem
-  found_sound problem is = let f = t.fits in subst (λ (a : PoolProblem ProblemTree). Sound of_batch alternatives_in t.found a.of a.owes) (asked_of problem is before.problem refl f.asked f.is_asked) f.sound
+  found_sound problem is = let f = t.fits in subst (λ (a : PoolProblem ProblemTree). Sound of_batch alternatives_in t.found a.of a.owes)
+      (asked_of problem is before.problem refl f.asked f.is_asked) f.sound
 
   pub left_sound : (problem : ProblemTree) → before.problem ≡ Some (asked problem) → IsSound t.left problem
   left_sound problem is =
       let f = t.fits_left in let s = turn_same in
-      subst (λ (a : PoolProblem ProblemTree). Sound of_batch alternatives_in t.left a.of a.owes) (asked_of problem is after.problem s.problem f.asked f.is_asked) f.sound
+      subst (λ (a : PoolProblem ProblemTree). Sound of_batch alternatives_in t.left a.of a.owes)
+      (asked_of problem is after.problem s.problem f.asked f.is_asked) f.sound
 
   pub seen_sound : (problem : ProblemTree) → before.problem ≡ Some (asked problem) → IsSound after.mine.seen problem
   seen_sound problem is = subst (λ p. IsSound p problem) (sym turn_seen) (left_sound problem is)
@@ -89,26 +93,32 @@ module _ (change : PoolData FrozenSight Event → PoolData FrozenSight Event →
         record {
           same = turn_same;
           quit = ap (λ (s : Sat). s.mine.quit) t.seat ∙ none_set before.mine.quit t.left.starved t.found.starved t.left.stopped t.found.stopped m.0 m.1;
-          later = subst (Later before.mine.seen) (sym turn_seen) (later_on before.mine.seen t.found t.left f.later (later_event alternatives_in t.found t.left e does));
+          later = subst (Later before.mine.seen) (sym turn_seen)
+              (later_on before.mine.seen t.found t.left f.later (later_event alternatives_in t.found t.left e does));
           taken = λ z i. subst (λ q. (IsTakenAt before.mine.seen i → IsTakenAt q i) × (IsTakenAt q i → IsTakenAt before.mine.seen i)) (sym turn_seen)
-              (let a = f.taken z i in let b = leaves_taken of_batch alternatives_in t.found t.left e does takes_none i in ((λ h. b.0 (a.0 h)), (λ h. a.1 (b.1 h))));
+              (let a = f.taken z i in let b = leaves_taken of_batch alternatives_in t.found t.left e does takes_none i in
+              ((λ h. b.0 (a.0 h)), (λ h. a.1 (b.1 h))));
           sound = λ p is h. seen_sound p is;
         }
 
 -- ---- calls
 
-pub calm_claim : (answer : Claimed FrozenSight) (before after : Sat) → OneTurn of_batch alternatives_in (λ found left. ClaimsAs alternatives_in found before.mine.worker answer left) before after → Calm before after
+pub calm_claim : (answer : Claimed FrozenSight) (before after : Sat)
+    → OneTurn of_batch alternatives_in (λ found left. ClaimsAs alternatives_in found before.mine.worker answer left) before after → Calm before after
 calm_claim (claims.Work piece batch k) before after t = let d = t.changed in calm_turn _ before after t (Claim before.mine.worker (Work piece d.0 k)) tt tt d.2
 calm_claim (claims.Idle busy) before after t = calm_turn _ before after t (Claim before.mine.worker (Idle busy)) tt tt t.changed
 calm_claim claims.Finished before after t = calm_turn _ before after t (Claim before.mine.worker Finished) tt tt t.changed
 calm_claim claims.Starved before after t = calm_turn _ before after t (Claim before.mine.worker Starved) tt tt t.changed
 calm_claim claims.Stopped before after t = calm_turn _ before after t (Claim before.mine.worker Stopped) tt tt t.changed
 
-pub calm_publish : (n : FrozenSight) (answer : core.PublishAnswer) (before after : Sat) → OneTurn of_batch alternatives_in (λ found left. Does alternatives_in found (Publish before.mine.worker n answer) left) before after → Calm before after
+pub calm_publish : (n : FrozenSight) (answer : core.PublishAnswer) (before after : Sat)
+    → OneTurn of_batch alternatives_in (λ found left. Does alternatives_in found (Publish before.mine.worker n answer) left) before after → Calm before after
 calm_publish n answer before after t = calm_turn _ before after t (Publish before.mine.worker n answer) tt tt t.changed
 
-pub calm_report : (report : Owed Event) (before after : Sat) → OneTurn of_batch alternatives_in (λ found left. Does alternatives_in found (Report before.mine.worker report) left) before after → Calm before after
+pub calm_report : (report : Owed Event) (before after : Sat)
+    → OneTurn of_batch alternatives_in (λ found left. Does alternatives_in found (Report before.mine.worker report) left) before after → Calm before after
 calm_report report before after t = calm_turn _ before after t (Report before.mine.worker report) tt tt t.changed
 
-pub calm_look : (seen : core.Overview) (before after : Sat) → OneTurn of_batch alternatives_in (λ found left. Does alternatives_in found (Look seen) left) before after → Calm before after
+pub calm_look : (seen : core.Overview) (before after : Sat) → OneTurn of_batch alternatives_in (λ found left. Does alternatives_in found (Look seen) left)
+    before after → Calm before after
 calm_look seen before after t = calm_turn _ before after t (Look seen) tt tt t.changed

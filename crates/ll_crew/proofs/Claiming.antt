@@ -34,7 +34,9 @@ module _ {O : Type 0} (takes breaks : O → Event → O → Type 0) (welcome : O
   abbrev Stopping : O → Told → Type 0
   Stopping = leading.Stopped takes breaks welcome faults start problem
 
-  module _ (answer : Claimed FrozenSight) (s a : Sat) (out : O) (told : Told) (t : OneTurn of_batch alternatives_in (λ found left. ClaimsAs alternatives_in found s.mine.worker answer left) s a) (is : s.problem ≡ Some (asked problem)) (st : Standing s out told) where
+  module _ (answer : Claimed FrozenSight) (s a : Sat) (out : O) (told : Told)
+      (t : OneTurn of_batch alternatives_in (λ found left. ClaimsAs alternatives_in found s.mine.worker answer left) s a)
+      (is : s.problem ≡ Some (asked problem)) (st : Standing s out told) where
     pub claim_stands : Standing a out told
     claim_stands = stands_calm takes breaks welcome faults start problem s a out told is (calm_claim answer s a t) st
 
@@ -42,16 +44,30 @@ module _ {O : Type 0} (takes breaks : O → Event → O → Type 0) (welcome : O
     claim_stays = let c = calm_claim answer s a t in record { same = c.same; quit = c.quit; stands = claim_stands }
 
     leaves_with : HasLeft a → Leaves (Stopping out told) told.leads s a
-    leaves_with left = let c = calm_claim answer s a t in record { same = c.same; left = left; quit = λ f. c.quit; stopped = prefix_stands takes breaks welcome faults start problem a out told claim_stands }
+    leaves_with left = let c = calm_claim answer s a t in record {
+      same = c.same;
+      left = left;
+      quit = λ f. c.quit;
+      stopped =
+          prefix_stands takes breaks welcome faults start problem a out told claim_stands;
+    }
 
-  pub claim_starved : (s a : Sat) (out : O) (told : Told) → OneTurn of_batch alternatives_in (λ found left. ClaimsAs alternatives_in found s.mine.worker Starved left) s a → s.problem ≡ Some (asked problem) → Standing s out told → Leaves (Stopping out told) told.leads s a
-  claim_starved s a out told t is st = let d = t.changed in leaves_with Starved s a out told t is st (inl (ap (λ (p : PoolData FrozenSight Event). p.starved) (turn_seen _ s a t ∙ d.2) ∙ d.1))
+  pub claim_starved : (s a : Sat) (out : O) (told : Told) → OneTurn of_batch alternatives_in
+      (λ found left. ClaimsAs alternatives_in found s.mine.worker Starved left) s a → s.problem ≡ Some (asked problem) → Standing s out told
+      → Leaves (Stopping out told) told.leads s a
+  claim_starved s a out told t is st = let d = t.changed in leaves_with Starved s a out told t is st
+      (inl (ap (λ (p : PoolData FrozenSight Event). p.starved) (turn_seen _ s a t ∙ d.2) ∙ d.1))
 
-  pub claim_stopped : (s a : Sat) (out : O) (told : Told) → OneTurn of_batch alternatives_in (λ found left. ClaimsAs alternatives_in found s.mine.worker Stopped left) s a → s.problem ≡ Some (asked problem) → Standing s out told → Leaves (Stopping out told) told.leads s a
-  claim_stopped s a out told t is st = let d = t.changed in leaves_with Stopped s a out told t is st (inr (ap (λ (p : PoolData FrozenSight Event). p.stopped) (turn_seen _ s a t ∙ d.1) ∙ d.0))
+  pub claim_stopped : (s a : Sat) (out : O) (told : Told) → OneTurn of_batch alternatives_in
+      (λ found left. ClaimsAs alternatives_in found s.mine.worker Stopped left) s a → s.problem ≡ Some (asked problem) → Standing s out told
+      → Leaves (Stopping out told) told.leads s a
+  claim_stopped s a out told t is st = let d = t.changed in leaves_with Stopped s a out told t is st
+      (inr (ap (λ (p : PoolData FrozenSight Event). p.stopped) (turn_seen _ s a t ∙ d.1) ∙ d.0))
 
   -- nothing is untried or open
-  pub claim_ended : (s a : Sat) (out : O) (told : Told) → OneTurn of_batch alternatives_in (λ found left. ClaimsAs alternatives_in found s.mine.worker Finished left) s a → s.problem ≡ Some (asked problem) → Standing s out told → a.mine.piece ≡ None
+  pub claim_ended : (s a : Sat) (out : O) (told : Told) → OneTurn of_batch alternatives_in
+      (λ found left. ClaimsAs alternatives_in found s.mine.worker Finished left) s a → s.problem ≡ Some (asked problem) → Standing s out told
+      → a.mine.piece ≡ None
       → Ended (Standing a out told) problem s a
   claim_ended s a out told t is st none =
       let d = t.changed in
@@ -64,14 +80,22 @@ module _ {O : Type 0} (takes breaks : O → Event → O → Type 0) (welcome : O
       }
 
 pub stays_out : (x e : Type 0) (leads leads' : Bool) (s a b : Sat) → leads ≡ leads' → Stays x s a → Leaves e leads a b → Leaves e leads' s b
-stays_out x e leads leads' s a b is f g = record { same = same_on s a b f.same g.same; left = g.left; quit = λ h. g.quit (is ∙ h) ∙ f.quit; stopped = g.stopped }
+stays_out x e leads leads' s a b is f g = record {
+  same = same_on s a b f.same g.same;
+  left = g.left;
+  quit = λ h. g.quit (is ∙ h) ∙ f.quit;
+  stopped =
+      g.stopped;
+}
 
 pub stays_on : (x y : Type 0) (s a b : Sat) → Stays x s a → Stays y a b → Stays y s b
 stays_on x y s a b f g = record { same = same_on s a b f.same g.same; quit = g.quit ∙ f.quit; stands = g.stands }
 
 -- want of memory: the pool is starved
-pub starve_fails : {O : Type 0} (takes breaks : O → Event → O → Type 0) (welcome : O → Event → Type 0) (faults : O → ℕ) (start : O) (problem : ProblemTree) (s a b : Sat) (out : O) (told : Told) → Stays (Stands takes breaks welcome faults start problem a out told) s a
-    → OneTurn of_batch alternatives_in (λ found left. Does alternatives_in found (Starve a.mine.worker) left) a b → Fails (leading.Stopped takes breaks welcome faults start problem out told) s b
+pub starve_fails : {O : Type 0} (takes breaks : O → Event → O → Type 0) (welcome : O → Event → Type 0) (faults : O
+    → ℕ) (start : O) (problem : ProblemTree) (s a b : Sat) (out : O) (told : Told) → Stays (Stands takes breaks welcome faults start problem a out told) s a
+    → OneTurn of_batch alternatives_in (λ found left. Does alternatives_in found (Starve a.mine.worker) left) a b
+    → Fails (leading.Stopped takes breaks welcome faults start problem out told) s b
 starve_fails takes breaks welcome faults start problem s a b out told f t = record {
   same = same_on s a b f.same (turn_same _ a b t);
   starved = ap (λ (p : PoolData FrozenSight Event). p.starved) (turn_seen _ a b t ∙ t.changed);
@@ -80,8 +104,10 @@ starve_fails takes breaks welcome faults start problem s a b out told f t = reco
 
 -- ---- a batch that came back
 
-pub back_stays : (standing end : Type 0) (leads : Bool) (problem : ProblemTree) (ran : Ran) (batch : Arc FrozenSight Global) (s a : Sat) (events : List Event) (engine : Owing) → ran ≡ Back batch → RunsTo standing end leads problem ran s a events engine → Stays standing s a
-back_stays standing end leads problem ran batch s a events engine is r = let back = subst (λ x. RunsTo standing end leads problem x s a events engine) is r in back.0
+pub back_stays : (standing end : Type 0) (leads : Bool) (problem : ProblemTree) (ran : Ran) (batch : Arc FrozenSight Global) (s a : Sat) (events : List Event)
+    (engine : Owing) → ran ≡ Back batch → RunsTo standing end leads problem ran s a events engine → Stays standing s a
+back_stays standing end leads problem ran batch s a events engine is r = let back = subst (λ x. RunsTo standing end leads problem x s a events engine) is r in
+    back.0
 
 pub none_on : {E : Type 0} (result : Result (Option ℕ) E) (P Q : Type 0) → IfOk result (λ o. IfNone o P) → (P → Q) → IfOk result (λ o. IfNone o Q)
 none_on (Ok None) P Q h f = f h

@@ -1,5 +1,6 @@
 -- Events that are given until the outlet has had enough answers.
-use Rattle.std.proofs.Common.{◌≡◌, ◌⊎◌, ℕ, ◌+◌, ◌<◌, ◌≤◌, List, [], ◌∷◌, ◌++◌, true, false, refl, sym, ap, ◌∙◌, subst, inl, inr, arith, le_refl, le_trans, Option, Some, None}
+use Rattle.std.proofs.Common.{◌≡◌, ◌⊎◌, ℕ, ◌+◌, ◌<◌, ◌≤◌, List, [], ◌∷◌, ◌++◌, true, false, refl, sym, ap, ◌∙◌, subst, inl, inr, arith, le_refl, le_trans}
+use Rattle.std.proofs.Common.{Option, Some, None}
 use Rattle.std.specs.Prelude.{◌↔◌, count_by, unwrap_or}
 use Rattle.std.proofs.lemmas.Bool.{true≢false}
 use Rattle.ll_laws.specs.declared.Event.{Event}
@@ -47,11 +48,14 @@ module _ {U E : Type 0} (state : U → Held E) (takes breaks : E → Event → E
   faults_prefix x y es (inl (front, back, order, g)) = faults_on x y front g
   faults_prefix x y es (inr r) = let b = r.broke in le_trans (faults_on x r.between r.front r.given) b.faults_kept
 
-  module _ (counts : (before : E) (e : Event) (after : E) → takes before e after → (limit after ≡ limit before) × (answers after ≡ counted (answers before) e)) (x : U) (limited : IsLimit (limit (state x).out)) (none_yet : answers (state x).out ≡ 0) (starts : (state x).ended ≡ false) where
+  module _ (counts : (before : E) (e : Event) (after : E) → takes before e after
+      → (limit after ≡ limit before) × (answers after ≡ counted (answers before) e)) (x : U) (limited : IsLimit (limit (state x).out))
+      (none_yet : answers (state x).out ≡ 0) (starts : (state x).ended ≡ false) where
     few_first : answers (state x).out < limit (state x).out
     few_first = let l = limited.0 in omega arith
 
-    counted_within : (a : E) (es : List Event) → Gives takes (state x).out es a → (limit a ≡ limit (state x).out) × (answers a ≡ cut_count (count_by is_answer es))
+    counted_within : (a : E) (es : List Event) → Gives takes (state x).out es a
+        → (limit a ≡ limit (state x).out) × (answers a ≡ cut_count (count_by is_answer es))
     counted_within a es g =
         let c = given_counts takes limit answers counts (state x).out a es 0 none_yet g in
         let z : 0 + count_by is_answer es ≡ count_by is_answer es = omega arith in
@@ -61,7 +65,8 @@ module _ {U E : Type 0} (state : U → Held E) (takes breaks : E → Event → E
     few_given a es g few = let c = counted_within a es g in let l = limited.1 in let m = c.1 in let n = c.0 in omega arith
 
     -- all events were given: they have fewer answers
-    pub all_given : (y : U) (es : List Event) → Gives Goes x es y → Gives takes (state x).out (first_of es (limit (state x).out)) (state y).out × (count_by is_answer es < limit (state x).out)
+    pub all_given : (y : U) (es : List Event) → Gives Goes x es y
+        → Gives takes (state x).out (first_of es (limit (state x).out)) (state y).out × (count_by is_answer es < limit (state x).out)
     all_given y es g =
         let w = given_within x y es g in
         let few = few_given (state y).out es w (fewer_on x y es g few_first) in
@@ -79,24 +84,31 @@ module _ {U E : Type 0} (state : U → Held E) (takes breaks : E → Event → E
         within : Gives takes (state x).out r.front (state r.between).out
         within = given_within x r.between r.front r.given
 
-        by_reason : HadEnough takes breaks faults limit answers (state r.between) r.refused (state y) ⊎ (Declines takes breaks faults limit answers (state r.between) r.refused (state y) ⊎ ((state r.between).ended ≡ true))
+        by_reason : HadEnough takes breaks faults limit answers (state r.between) r.refused (state y)
+            ⊎ (Declines takes breaks faults limit answers (state r.between) r.refused (state y) ⊎ ((state r.between).ended ≡ true))
             → Gives takes (state x).out (first_of es (limit (state x).out)) (state y).out × (limit (state x).out ≤ count_by is_answer es)
         by_reason (inr (inl d)) = absurd (true≢false (sym over ∙ d.going))
         by_reason (inr (inr t)) = absurd (true≢false (sym t ∙ before))
         by_reason (inl h) =
-            let all : Gives takes (state x).out (r.front ++ r.refused ∷ []) (state y).out = gives_more takes breaks (state x).out (state r.between).out (state y).out r.front (r.refused ∷ []) within ((state y).out, h.taken, refl) in
+            let all : Gives takes (state x).out (r.front ++ r.refused ∷ []) (state y).out =
+            gives_more takes breaks (state x).out (state r.between).out (state y).out r.front (r.refused ∷ []) within ((state y).out, h.taken, refl) in
             let c = counted_within (state y).out (r.front ++ r.refused ∷ []) all in
             let m = c.1 in let n = c.0 in let e = h.enough in
             let many : limit (state x).out ≤ count_by is_answer (r.front ++ r.refused ∷ []) = omega arith in
             let few = few_given (state r.between).out r.front within (fewer_on x r.between r.front r.given few_first) in
-            let is : upto es (limit (state x).out) ≡ Some (r.front ++ r.refused ∷ []) = ap (λ l. upto l (limit (state x).out)) r.order ∙ upto_here r.front r.refused r.back (limit (state x).out) few many in
-            (subst (λ (o : Option (List Event)). Gives takes (state x).out (unwrap_or o es) (state y).out) (sym is) all, upto_enough es (limit (state x).out) (r.front ++ r.refused ∷ []) is)
+            let is : upto es (limit (state x).out) ≡ Some (r.front ++ r.refused ∷ []) =
+            ap (λ l. upto l (limit (state x).out)) r.order ∙ upto_here r.front r.refused r.back (limit (state x).out) few many in (
+              subst (λ (o : Option (List Event)). Gives takes (state x).out (unwrap_or o es) (state y).out) (sym is) all,
+              upto_enough es (limit (state x).out) (r.front ++ r.refused ∷ []) is,
+            )
 
     -- it refused an event, or a prefix was given: what was given has fewer answers
-    pub prefix_within : (y : U) (es : List Event) → (state y).ended ≡ false → GivesPrefix Goes Stops x es y → GivesPrefix takes breaks (state x).out (first_of es (limit (state x).out)) (state y).out
+    pub prefix_within : (y : U) (es : List Event) → (state y).ended ≡ false → GivesPrefix Goes Stops x es y
+        → GivesPrefix takes breaks (state x).out (first_of es (limit (state x).out)) (state y).out
     prefix_within y es going g = by_upto (upto es (limit (state x).out)) refl g
       where
-        front_given : (front given back : List Event) → es ≡ given ++ back → Gives Goes x given y → upto es (limit (state x).out) ≡ Some front → GivesPrefix takes breaks (state x).out front (state y).out
+        front_given : (front given back : List Event) → es ≡ given ++ back → Gives Goes x given y → upto es (limit (state x).out) ≡ Some front
+            → GivesPrefix takes breaks (state x).out front (state y).out
         front_given front given back order g h =
             let w = given_within x y given g in
             let few = few_given (state y).out given w (fewer_on x y given g few_first) in
@@ -106,12 +118,15 @@ module _ {U E : Type 0} (state : U → Held E) (takes breaks : E → Event → E
         all_refused : (z : U) (e : Event) → Stops z e y → (state z).ended ≡ false → Declines takes breaks faults limit answers (state z) e (state y)
         all_refused z e stops before = by_reason stops.why
           where
-            by_reason : HadEnough takes breaks faults limit answers (state z) e (state y) ⊎ (Declines takes breaks faults limit answers (state z) e (state y) ⊎ ((state z).ended ≡ true)) → Declines takes breaks faults limit answers (state z) e (state y)
+            by_reason : HadEnough takes breaks faults limit answers (state z) e (state y)
+                ⊎ (Declines takes breaks faults limit answers (state z) e (state y) ⊎ ((state z).ended ≡ true))
+                → Declines takes breaks faults limit answers (state z) e (state y)
             by_reason (inl h) = absurd (true≢false (sym h.over ∙ going))
             by_reason (inr (inl d)) = d
             by_reason (inr (inr t)) = absurd (true≢false (sym t ∙ before))
 
-        declined : (r : Refuses Goes Stops x es y) (order' : List Event) (back' : List Event) → order' ≡ r.front ++ r.refused ∷ back' → Refuses takes breaks (state x).out order' (state y).out
+        declined : (r : Refuses Goes Stops x es y) (order' : List Event) (back' : List Event) → order' ≡ r.front ++ r.refused ∷ back'
+            → Refuses takes breaks (state x).out order' (state y).out
         declined r order' back' order =
             let d = all_refused r.between r.refused r.broke (going_on x r.between r.front r.given starts) in
             record {
@@ -124,13 +139,15 @@ module _ {U E : Type 0} (state : U → Held E) (takes breaks : E → Event → E
               broke = d.broke;
             }
 
-        front_refused : (front : List Event) → Refuses Goes Stops x es y → upto es (limit (state x).out) ≡ Some front → GivesPrefix takes breaks (state x).out front (state y).out
+        front_refused : (front : List Event) → Refuses Goes Stops x es y → upto es (limit (state x).out) ≡ Some front
+            → GivesPrefix takes breaks (state x).out front (state y).out
         front_refused front r h =
             let few = few_given (state r.between).out r.front (given_within x r.between r.front r.given) (fewer_on x r.between r.front r.given few_first) in
             let m = upto_next r.front r.refused r.back (limit (state x).out) front few (ap (λ l. upto l (limit (state x).out)) (sym r.order) ∙ h) in
             inr (declined r front m.0 m.1)
 
-        by_upto : (o : Option (List Event)) → upto es (limit (state x).out) ≡ o → GivesPrefix Goes Stops x es y → GivesPrefix takes breaks (state x).out (unwrap_or o es) (state y).out
+        by_upto : (o : Option (List Event)) → upto es (limit (state x).out) ≡ o → GivesPrefix Goes Stops x es y
+            → GivesPrefix takes breaks (state x).out (unwrap_or o es) (state y).out
         by_upto None h (inl (given, back, order, g)) = inl (given, back, order, given_within x y given g)
         by_upto None h (inr r) = inr (declined r es r.back r.order)
         by_upto (Some front) h (inl (given, back, order, g)) = front_given front given back order g h

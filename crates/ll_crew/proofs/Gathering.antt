@@ -14,7 +14,8 @@ in_parts (a ∷ qs) bs xs = in_parts qs bs (without a xs)
 
 one_more : (qs : List ℕ) (n : ℕ) (g : List ℕ) → (without_all qs (n ∷ g) ≡ without_all qs g) ⊎ (without_all qs (n ∷ g) ≡ n ∷ without_all qs g)
 one_more [] n g = inr refl
-one_more (a ∷ qs) n g = elim (eqb a n) as (λ b. (without_all qs (if b then without a g else n ∷ without a g) ≡ without_all qs (without a g)) ⊎ (without_all qs (if b then without a g else n ∷ without a g) ≡ n ∷ without_all qs (without a g)))
+one_more (a ∷ qs) n g = elim (eqb a n) as (λ b. (without_all qs (if b then without a g else n ∷ without a g) ≡ without_all qs (without a g))
+    ⊎ (without_all qs (if b then without a g else n ∷ without a g) ≡ n ∷ without_all qs (without a g)))
     [ true ↦ inl refl | false ↦ one_more qs n (without a g) ]
 
 gone : (n : ℕ) → without n (n ∷ []) ≡ []
@@ -33,7 +34,8 @@ each_append (x ∷ xs) ys [] ys' f g = absurd f
 each_append (x ∷ xs) ys (x' ∷ xs') ys' f g = (f.0, each_append xs ys xs' ys' f.1 g)
 
 -- seats that come back with the numbers with which they went, and may be taken back
-pub each_back : (pool : PoolSight) (problem : ProblemTree) (xs ys : List Sat) → Every (CanWork pool problem) xs → EachWorked xs ys → Every (IsBack pool) ys × (map worker_of ys ≡ map worker_of xs)
+pub each_back : (pool : PoolSight) (problem : ProblemTree) (xs ys : List Sat) → Every (CanWork pool problem) xs → EachWorked xs ys
+    → Every (IsBack pool) ys × (map worker_of ys ≡ map worker_of xs)
 each_back pool problem [] [] h f = (tt, refl)
 each_back pool problem [] (y ∷ ys) h f = absurd f
 each_back pool problem (x ∷ xs) [] h f = absurd f

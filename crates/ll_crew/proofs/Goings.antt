@@ -27,9 +27,11 @@ module _ {O : Type 0} (takes breaks : O → Event → O → Type 0) (welcome : O
   Standing = Stands takes breaks welcome faults start problem
 
   pub stands_calm : (a b : Sat) (out : O) (told : Told) → a.problem ≡ Some (asked problem) → Calm a b → Standing a out told → Standing b out told
-  stands_calm a b out told is c st = λ l. let s = st l in let same = c.same in (same.worker ∙ s.0, s.1, leads_calm takes breaks welcome faults start problem out told.counts a b is s.0 c s.2)
+  stands_calm a b out told is c st = λ l. let s = st l in let same = c.same in
+      (same.worker ∙ s.0, s.1, leads_calm takes breaks welcome faults start problem out told.counts a b is s.0 c s.2)
 
-  pub goes_calm : (s a b : Sat) (out : O) (told : Told) → s.problem ≡ Some (asked problem) → Goes (Standing a out told) s a → Calm a b → b.mine.piece ≡ a.mine.piece → Goes (Standing b out told) s b
+  pub goes_calm : (s a b : Sat) (out : O) (told : Told) → s.problem ≡ Some (asked problem) → Goes (Standing a out told) s a → Calm a b
+      → b.mine.piece ≡ a.mine.piece → Goes (Standing b out told) s b
   goes_calm s a b out told is g c piece =
       let f = g.same in
       record {
@@ -44,11 +46,15 @@ module _ {O : Type 0} (takes breaks : O → Event → O → Type 0) (welcome : O
   prefix_stands seat out told st = λ l. let s = st l in let leads = s.2 in let p = prefix_given seat.mine.seen problem leads.reports leads.sound leads.taken in
       (leads.kept, stopped_none told.fault s.1 (_, p.0, p.1, leads.given))
     where
-      stopped_none : (f : Option OutFault) → f ≡ None → PrefixGiven takes breaks welcome faults start problem out → MatchOption f (PrefixGiven takes breaks welcome faults start problem out) (λ fault. Broke takes breaks welcome faults start problem out fault)
-      stopped_none f e h = subst (λ o. MatchOption o (PrefixGiven takes breaks welcome faults start problem out) (λ fault. Broke takes breaks welcome faults start problem out fault)) (sym e) h
+      stopped_none : (f : Option OutFault) → f ≡ None → PrefixGiven takes breaks welcome faults start problem out
+          → MatchOption f (PrefixGiven takes breaks welcome faults start problem out) (λ fault. Broke takes breaks welcome faults start problem out fault)
+      stopped_none f e h = subst (λ o. MatchOption o (PrefixGiven takes breaks welcome faults start problem out)
+          (λ fault. Broke takes breaks welcome faults start problem out fault)) (sym e) h
 
-  module _ (s a b : Sat) (out out' : O) (told : Told) (report : Owed Event) (events : List Event) (cost : ℕ) (told_events : events ≡ report.events) (told_cost : cost ≡ report.cost)
-      (t : OneTurn of_batch alternatives_in (λ found left. Does alternatives_in found (Ready (Events report)) left) a b) (is : s.problem ≡ Some (asked problem)) (leads : told.leads ≡ true) (g : Goes (Standing a out told) s a) where
+  module _ (s a b : Sat) (out out' : O) (told : Told) (report : Owed Event) (events : List Event) (cost : ℕ) (told_events : events ≡ report.events)
+      (told_cost : cost ≡ report.cost)
+      (t : OneTurn of_batch alternatives_in (λ found left. Does alternatives_in found (Ready (Events report)) left) a b) (is : s.problem ≡ Some (asked problem))
+      (leads : told.leads ≡ true) (g : Goes (Standing a out told) s a) where
     its_problem : a.problem ≡ Some (asked problem)
     its_problem = let f = g.same in f.problem ∙ is
 
@@ -56,16 +62,21 @@ module _ {O : Type 0} (takes breaks : O → Event → O → Type 0) (welcome : O
     stood = g.stands leads
 
     pub told_welcome : Every (welcome out) events
-    told_welcome = subst (Every (welcome out)) (sym told_events) (welcome_now takes breaks welcome faults start problem out told.counts a b report t its_problem stood.0 stood.2)
+    told_welcome = subst (Every (welcome out)) (sym told_events)
+        (welcome_now takes breaks welcome faults start problem out told.counts a b report t its_problem stood.0 stood.2)
 
     ready_quit : b.mine.quit ≡ a.mine.quit
     ready_quit =
         let d = t.changed in
         ap (λ (s : Sat). s.mine.quit) t.seat
-        ∙ none_set a.mine.quit t.left.starved t.found.starved t.left.stopped t.found.stopped (ap (λ (p : PoolData FrozenSight Event). p.starved) d.3) (ap (λ (p : PoolData FrozenSight Event). p.stopped) d.3)
+        ∙ none_set a.mine.quit t.left.starved t.found.starved t.left.stopped t.found.stopped (ap (λ (p : PoolData FrozenSight Event). p.starved) d.3)
+        (ap (λ (p : PoolData FrozenSight Event). p.stopped) d.3)
 
-    pub told_more : (counts : Counts) → b.mine.piece ≡ a.mine.piece → Gives takes out events out' → counts.answers ≡ cut_count (told.counts.answers + count_by is_answer events) → counts.reached ≡ cut_count (told.counts.reached + count_by is_reached events)
-        → counts.inferences ≡ cut_count (told.counts.inferences + cost) → faults out ≤ faults out' → ((e : Event) → welcome out e ↔ welcome out' e) → Goes (Standing b out' (record told { counts = counts })) s b
+    pub told_more : (counts : Counts) → b.mine.piece ≡ a.mine.piece → Gives takes out events out'
+        → counts.answers ≡ cut_count (told.counts.answers + count_by is_answer events)
+        → counts.reached ≡ cut_count (told.counts.reached + count_by is_reached events)
+        → counts.inferences ≡ cut_count (told.counts.inferences + cost) → faults out ≤ faults out' → ((e : Event) → welcome out e ↔ welcome out' e)
+        → Goes (Standing b out' (record told { counts = counts })) s b
     told_more counts piece gives answers reached inferences kept same = record {
       same = same_on s a b g.same (turn_same _ a b t);
       piece = piece ∙ g.piece;
@@ -73,28 +84,38 @@ module _ {O : Type 0} (takes breaks : O → Event → O → Type 0) (welcome : O
       stands = λ l. let f = turn_same _ a b t in (
         f.worker ∙ stood.0,
         stood.1,
-        leads_more takes breaks welcome faults start problem out told.counts a b report t its_problem stood.0 stood.2 out' counts (subst (λ es. Gives takes out es out') told_events gives)
-            (answers ∙ ap (λ es. cut_count (told.counts.answers + count_by is_answer es)) told_events) (reached ∙ ap (λ es. cut_count (told.counts.reached + count_by is_reached es)) told_events)
+        leads_more takes breaks welcome faults start problem out told.counts a b report t its_problem stood.0 stood.2 out' counts
+            (subst (λ es. Gives takes out es out') told_events gives)
+            (answers ∙ ap (λ es. cut_count (told.counts.answers + count_by is_answer es)) told_events)
+            (reached ∙ ap (λ es. cut_count (told.counts.reached + count_by is_reached es)) told_events)
             (inferences ∙ ap (λ n. cut_count (told.counts.inferences + n)) told_cost) kept same,
       );
     }
 
-    pub told_refused : (fault : OutFault) (q : Sat) → Refuses takes breaks out events out' → (fault ≡ Write → Rose (faults out) (faults out')) → faults out ≤ faults out' → ((e : Event) → welcome out e ↔ welcome out' e) → Same b q → HasLeft q
+    pub told_refused : (fault : OutFault) (q : Sat) → Refuses takes breaks out events out' → (fault ≡ Write → Rose (faults out) (faults out'))
+        → faults out ≤ faults out' → ((e : Event) → welcome out e ↔ welcome out' e) → Same b q → HasLeft q
         → Leaves (Stopped takes breaks welcome faults start problem out' (record told { fault = Some fault })) true s q
     told_refused fault q refuses rose low alike same left = record {
       same = same_on s b q (same_on s a b g.same (turn_same _ a b t)) same;
       left = left;
       quit = λ f. absurd (true≢false f);
-      stopped = λ l. let leads = stood.2 in (kept_on takes breaks welcome faults start out out' leads.kept low alike, broke_now takes breaks welcome faults start problem out told.counts a b report t its_problem stood.0 stood.2 out' fault (subst (λ es. Refuses takes breaks out es out') told_events refuses) rose);
+      stopped = λ l. let leads = stood.2 in (
+        kept_on takes breaks welcome faults start out out' leads.kept low alike,
+        broke_now takes breaks welcome faults start problem out told.counts a b report t its_problem stood.0 stood.2 out' fault
+            (subst (λ es. Refuses takes breaks out es out') told_events refuses) rose,
+      );
     }
 
   -- it leaves from where it stands
-  pub leaves_calm : (s a b : Sat) (out : O) (told : Told) → s.problem ≡ Some (asked problem) → Standing b out told → Same s b → HasLeft b → b.mine.quit ≡ s.mine.quit → Leaves (Stopped takes breaks welcome faults start problem out told) told.leads s b
+  pub leaves_calm : (s a b : Sat) (out : O) (told : Told) → s.problem ≡ Some (asked problem) → Standing b out told → Same s b → HasLeft b
+      → b.mine.quit ≡ s.mine.quit → Leaves (Stopped takes breaks welcome faults start problem out told) told.leads s b
   leaves_calm s a b out told is st same left quit = record { same = same; left = left; quit = λ f. quit; stopped = prefix_stands b out told st }
 
   -- ---- a look
 
-  module _ (s a : Sat) (out : O) (told : Told) (seen : core.Overview) (t : OneTurn of_batch alternatives_in (λ found left. Does alternatives_in found (core.Look seen) left) s a) (is : s.problem ≡ Some (asked problem)) (st : Standing s out told) where
+  module _ (s a : Sat) (out : O) (told : Told) (seen : core.Overview)
+      (t : OneTurn of_batch alternatives_in (λ found left. Does alternatives_in found (core.Look seen) left) s a) (is : s.problem ≡ Some (asked problem))
+      (st : Standing s out told) where
     pub looked : Standing a out told
     looked = stands_calm s a out told is (calm_look seen s a t) st
 
@@ -106,8 +127,10 @@ module _ {O : Type 0} (takes breaks : O → Event → O → Type 0) (welcome : O
         let c = calm_look seen s a t in
         leaves_calm s a a out told is looked c.same
         (⊎_elim
-        (λ (h : seen.starved ≡ true). inl (ap (λ (p : PoolData FrozenSight Event). p.starved) (turn_seen _ s a t ∙ t.changed.1) ∙ (ap (λ (o : core.Overview). o.starved) (sym t.changed.0) ∙ h)))
-        (λ (h : seen.stopped ≡ true). inr (ap (λ (p : PoolData FrozenSight Event). p.stopped) (turn_seen _ s a t ∙ t.changed.1) ∙ (ap (λ (o : core.Overview). o.stopped) (sym t.changed.0) ∙ h)))
+        (λ (h : seen.starved ≡ true). inl (ap (λ (p : PoolData FrozenSight Event). p.starved) (turn_seen _ s a t ∙ t.changed.1)
+        ∙ (ap (λ (o : core.Overview). o.starved) (sym t.changed.0) ∙ h)))
+        (λ (h : seen.stopped ≡ true). inr (ap (λ (p : PoolData FrozenSight Event). p.stopped) (turn_seen _ s a t ∙ t.changed.1)
+        ∙ (ap (λ (o : core.Overview). o.stopped) (sym t.changed.0) ∙ h)))
         marked)
         c.quit
 
@@ -121,5 +144,11 @@ module _ {O : Type 0} (takes breaks : O → Event → O → Type 0) (welcome : O
   pub stays_goes : (s a b : Sat) (x y : Type 0) → Stays x s a → Goes y a b → Stays y s b
   stays_goes s a b x y f g = record { same = same_on s a b f.same g.same; quit = g.quit ∙ f.quit; stands = g.stands }
 
-  pub stays_calm : (s a b : Sat) (out : O) (told : Told) → s.problem ≡ Some (asked problem) → Stays (Standing a out told) s a → Calm a b → Stays (Standing b out told) s b
-  stays_calm s a b out told is f c = let same = f.same in record { same = same_on s a b f.same c.same; quit = c.quit ∙ f.quit; stands = stands_calm a b out told (same.problem ∙ is) c f.stands }
+  pub stays_calm : (s a b : Sat) (out : O) (told : Told) → s.problem ≡ Some (asked problem) → Stays (Standing a out told) s a → Calm a b
+      → Stays (Standing b out told) s b
+  stays_calm s a b out told is f c = let same = f.same in record {
+    same = same_on s a b f.same c.same;
+    quit = c.quit ∙ f.quit;
+    stands =
+        stands_calm a b out told (same.problem ∙ is) c f.stands;
+  }

@@ -1,5 +1,6 @@
 -- What a piece owes once a batch was split off its engine.
-use Rattle.std.proofs.Common.{◌≡◌, ℕ, ◌<◌, List, [], ◌∷◌, ◌++◌, length, refl, sym, ap, ◌∙◌, subst, arith, append_assoc, append-nil, Option, Some, None, IsSomeAnd, Err}
+use Rattle.std.proofs.Common.{◌≡◌, ℕ, ◌<◌, List, [], ◌∷◌, ◌++◌, length, refl, sym, ap, ◌∙◌, subst, arith, append_assoc, append-nil, Option, Some, None}
+use Rattle.std.proofs.Common.{IsSomeAnd, Err}
 use Rattle.std.specs.Arc.{arc_value}
 use Rattle.std.specs.declared.sync.Arc.{Arc}
 use Rattle.std.specs.declared.alloc.Global.{Global}
@@ -35,12 +36,14 @@ split_some old new o b e s = subst (λ x. Splits old x new) e s
 pub as_published : (a b : FrozenSight) (old new : Owing) → a ≡ b → SplitsTo old b new → SplitsTo old a new
 as_published a b old new e s = subst (λ x. SplitsTo old x new) (sym e) s
 
-pub handed : (n : FrozenSight) (fault : PublishFault FrozenSight) (total : ℕ) (batch : Arc FrozenSight Global) → fault ≡ Full total batch → HandsBack n (Err fault) → arc_value batch ≡ n
+pub handed : (n : FrozenSight) (fault : PublishFault FrozenSight) (total : ℕ) (batch : Arc FrozenSight Global) → fault ≡ Full total batch
+    → HandsBack n (Err fault) → arc_value batch ≡ n
 handed n fault total batch e h = subst (λ f. HandsBack n (Err f)) e h
 
 module _ (events : List Event) (old new : Owing) (b : FrozenSight) (s : SplitsTo old b new) where
   whole_events : (x : OpenPiece) → Owes x events old [] → x.owes.events ≡ (events ++ new.events) ++ events_in (alternatives_in b)
-  whole_events x h = h.events ∙ (ap (λ l. events ++ l) (append-nil old.events ∙ s.events) ∙ sym (append_assoc events new.events (events_in (alternatives_in b))))
+  whole_events x h = h.events ∙ (ap (λ l. events ++ l) (append-nil old.events ∙ s.events)
+      ∙ sym (append_assoc events new.events (events_in (alternatives_in b))))
 
   pub ends_for : (piece : Option OpenPiece) → OwesAll piece events old [] → IsSomeAnd piece (λ (x : OpenPiece). EndsWith x.owes (alternatives_in b))
   ends_for None h = absurd h
@@ -51,35 +54,44 @@ module _ (events : List Event) (old new : Owing) (b : FrozenSight) (s : SplitsTo
       let c = h.cost in let d = s.cost in let e = r.cost in
       record {
         done = h.done;
-        events = cancel_right rest.owes.events (events ++ new.events) (events_in (alternatives_in b)) (r.events ∙ whole_events whole h) ∙ ap (λ l. events ++ l) (sym (append-nil new.events));
+        events = cancel_right rest.owes.events (events ++ new.events) (events_in (alternatives_in b)) (r.events ∙ whole_events whole h)
+            ∙ ap (λ l. events ++ l) (sym (append-nil new.events));
         cost = omega arith;
         made = ap cut_count s.made ∙ h.made;
       }
 
-  pub shared_after : (before after : Option OpenPiece) → OwesAll before events old [] → IsSomeAnd before (λ (whole : OpenPiece). IsSomeAnd after (λ (rest : OpenPiece). IsRest (alternatives_in b) whole rest)) → OwesAfter after events old new None
+  pub shared_after : (before after : Option OpenPiece) → OwesAll before events old []
+      → IsSomeAnd before (λ (whole : OpenPiece). IsSomeAnd after (λ (rest : OpenPiece). IsRest (alternatives_in b) whole rest))
+      → OwesAfter after events old new None
   shared_after None after h g = absurd h
   shared_after (Some whole) None h g = absurd g
   shared_after (Some whole) (Some rest) h g = record { owes = rest_owes whole rest h g; problem = s.problem; work = s.work; of = λ batch e. absurd (cc) }
 
-  back_owes : (x : OpenPiece) (batch : Arc FrozenSight Global) → arc_value batch ≡ b → Owes x events old [] → Owes x events new (alternatives_in (arc_value batch))
+  back_owes : (x : OpenPiece) (batch : Arc FrozenSight Global) → arc_value batch ≡ b → Owes x events old []
+      → Owes x events new (alternatives_in (arc_value batch))
   back_owes x batch e h =
-      let c = h.cost in let d = s.cost in let same : cost_in (alternatives_in (arc_value batch)) ≡ cost_in (alternatives_in b) = ap (λ n. cost_in (alternatives_in n)) e in
+      let c = h.cost in let d = s.cost in let same : cost_in (alternatives_in (arc_value batch)) ≡ cost_in (alternatives_in b) =
+      ap (λ n. cost_in (alternatives_in n)) e in
       record {
         done = h.done;
-        events = whole_events x h ∙ (append_assoc events new.events (events_in (alternatives_in b)) ∙ ap (λ n. events ++ (new.events ++ events_in (alternatives_in n))) (sym e));
+        events = whole_events x h ∙ (append_assoc events new.events (events_in (alternatives_in b))
+            ∙ ap (λ n. events ++ (new.events ++ events_in (alternatives_in n))) (sym e));
         cost = omega arith;
         made = ap cut_count s.made ∙ h.made;
       }
 
-  pub back_after : (before after : Option OpenPiece) (batch : Arc FrozenSight Global) → OwesAll before events old [] → after ≡ before → arc_value batch ≡ b → OwesAfter after events old new (Some batch)
+  pub back_after : (before after : Option OpenPiece) (batch : Arc FrozenSight Global) → OwesAll before events old [] → after ≡ before → arc_value batch ≡ b
+      → OwesAfter after events old new (Some batch)
   back_after None after batch h e is = absurd h
   back_after (Some x) after batch h e is = subst (λ a. OwesAfter a events old new (Some batch)) (sym e) (record {
     owes = back_owes x batch is h;
     problem = s.problem;
     work = s.work;
-    of = λ other f. let same : batch ≡ other = some_of batch other f in ap (λ (n : Arc FrozenSight Global). (arc_value n).problem) (sym same) ∙ (ap (λ (n : FrozenSight). n.problem) is ∙ s.of);
+    of = λ other f. let same : batch ≡ other = some_of batch other f in
+        ap (λ (n : Arc FrozenSight Global). (arc_value n).problem) (sym same) ∙ (ap (λ (n : FrozenSight). n.problem) is ∙ s.of);
   })
 
 -- the oldest choice point was published
-pub published : (piece : Option OpenPiece) (events : List Event) (old new : Owing) (shared : Shared) → shared ≡ Published → SharesTo piece events old new shared → OwesAfter piece events old new None × (new.points < old.points)
+pub published : (piece : Option OpenPiece) (events : List Event) (old new : Owing) (shared : Shared) → shared ≡ Published → SharesTo piece events old new shared
+    → OwesAfter piece events old new None × (new.points < old.points)
 published piece events old new shared e h = subst (SharesTo piece events old new) e h

@@ -29,4 +29,5 @@ pub record IsBack (pool : PoolSight) (seat : Sat) : Type 0 where
 
 -- a prefix of the events was given, and the outlet may have refused the next one
 abbrev pub GivesPrefix : {O : Type 0} → (O → Event → O → Type 0) → (O → Event → O → Type 0) → O → List Event → O → Type 0
-GivesPrefix takes breaks before events after = ((front : List Event) × (back : List Event) × (events ≡ front ++ back) × Gives takes before front after) ⊎ Refuses takes breaks before events after
+GivesPrefix takes breaks before events after = ((front : List Event) × (back : List Event) × (events ≡ front ++ back) × Gives takes before front after)
+    ⊎ Refuses takes breaks before events after

@@ -28,8 +28,10 @@ SharesTo piece events old new (share.Back batch) = OwesAfter piece events old ne
 
 -- the engine has nothing left, or the piece owes a batch that came back, too, or the worker leaves
 abbrev pub RunsTo : Type 0 → Type 0 → Bool → ProblemTree → Ran → Sat → Sat → List Event → Owing → Type 0
-RunsTo standing end leads problem Done before after events engine = Stays standing before after × OwesAll after.mine.piece events engine [] × (engine.events ≡ []) × (engine.cost ≡ 0)
-RunsTo standing end leads problem (Back batch) before after events engine = Stays standing before after × OwesAll after.mine.piece events engine (alternatives_in (arc_value batch)) × ((arc_value batch).problem ≡ problem)
+RunsTo standing end leads problem Done before after events engine =
+    Stays standing before after × OwesAll after.mine.piece events engine [] × (engine.events ≡ []) × (engine.cost ≡ 0)
+RunsTo standing end leads problem (Back batch) before after events engine =
+    Stays standing before after × OwesAll after.mine.piece events engine (alternatives_in (arc_value batch)) × ((arc_value batch).problem ≡ problem)
 RunsTo standing end leads problem Left before after events engine = Leaves end leads before after
 
 -- the engine gave all that it owed, and nothing was published
@@ -46,7 +48,8 @@ pub record RunsAll (standing : Type 0) (before after : Sat) (found owed : List E
 
 -- the first k alternatives of a batch were run
 abbrev pub RunsFirst : Type 0 → Sat → Sat → List Event → ℕ → List (Owed Event) → ℕ → List Event → ℕ → Type 0
-RunsFirst standing before after found first owed k events inferences = RunsAll standing before after found (events_in (take k owed)) (first + cost_in (take k owed)) events inferences
+RunsFirst standing before after found first owed k events inferences =
+    RunsAll standing before after found (events_in (take k owed)) (first + cost_in (take k owed)) events inferences
 
 -- the piece is to be closed with these events and inferences
 pub record Reports (standing : Type 0) (before after : Sat) (events : List Event) (inferences : ℕ) : Type 0 where

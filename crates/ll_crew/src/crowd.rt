@@ -118,7 +118,8 @@ fn work_all<'a, 'p, R: Threads + Wait + Sync, G: Gate>(
         rt,
         move ||
             requires { IsSync R.row × IsSync G.row × Every (CanWork rest.pool.now rest.problem.now) rest.seats.items }
-            ensures { EachWorked rest.entry.seats.items result.items × (vec_len result ≡ vec_len rest.entry.seats) × (vec_capacity rest.entry.seats ≤ vec_capacity result) }
+            ensures { EachWorked rest.entry.seats.items result.items × (vec_len result ≡ vec_len rest.entry.seats)
+                × (vec_capacity rest.entry.seats ≤ vec_capacity result) }
         { work_all(rest) },
         move ||
             requires { IsSync G.row × CanWork hand.pool.now hand.problem.now hand.seat }
@@ -147,9 +148,12 @@ pub(crate) fn work_together<'p, R: Threads + Wait + Sync, G: Gate, O: Outlet>(
     requires stands { Stands O.takes O.breaks O.welcome O.faults start.now.value problem.now first.old out.old told.old }
     requires seats { Every (CanWork pool.now problem.now) seats.items }
     ensures leads { told.new.leads ≡ told.old.leads }
-    ensures done { IfOk result.1 (λ done. done ≡ true → Ended (Stands O.takes O.breaks O.welcome O.faults start.now.value problem.entry.now first.new out.new told.new) problem.entry.now first.old first.new) }
-    ensures left { IfOk result.1 (λ done. done ≡ false → Leaves (Stopped O.takes O.breaks O.welcome O.faults start.now.value problem.entry.now out.new told.new) told.old.leads first.old first.new) }
-    ensures failed { OnErr result.1 (Fails (Stopped O.takes O.breaks O.welcome O.faults start.now.value problem.entry.now out.new told.new) first.old first.new) }
+    ensures done { IfOk result.1 (λ done. done ≡ true → Ended
+        (Stands O.takes O.breaks O.welcome O.faults start.now.value problem.entry.now first.new out.new told.new) problem.entry.now first.old first.new) }
+    ensures left { IfOk result.1 (λ done. done ≡ false → Leaves (Stopped O.takes O.breaks O.welcome O.faults start.now.value problem.entry.now out.new told.new)
+        told.old.leads first.old first.new) }
+    ensures failed { OnErr result.1 (Fails (Stopped O.takes O.breaks O.welcome O.faults start.now.value problem.entry.now out.new told.new) first.old
+        first.new) }
     ensures seats { EachWorked seats.entry.items result.0.items }
 {
     if seats.is_empty() {
@@ -175,11 +179,17 @@ pub(crate) fn work_together<'p, R: Threads + Wait + Sync, G: Gate, O: Outlet>(
             ensures { EachWorked crowd.entry.seats.items result.items }
         { work_all(crowd) },
         &mut ||
-            requires { IsSync G.row × CanWork pool.now problem.now first.now × Stands O.takes O.breaks O.welcome O.faults start.now.value problem.now first.now out.now told.now }
+            requires { IsSync G.row × CanWork pool.now problem.now first.now
+                × Stands O.takes O.breaks O.welcome O.faults start.now.value problem.now first.now out.now told.now }
             ensures leads { told.exit.now.leads ≡ told.entry.now.leads }
-            ensures done { IfOk result (λ done. done ≡ true → Ended (Stands O.takes O.breaks O.welcome O.faults start.entry.now.value problem.entry.now first.exit.now out.exit.now told.exit.now) problem.entry.now first.entry.now first.exit.now) }
-            ensures left { IfOk result (λ done. done ≡ false → Leaves (Stopped O.takes O.breaks O.welcome O.faults start.entry.now.value problem.entry.now out.exit.now told.exit.now) told.entry.now.leads first.entry.now first.exit.now) }
-            ensures failed { OnErr result (Fails (Stopped O.takes O.breaks O.welcome O.faults start.entry.now.value problem.entry.now out.exit.now told.exit.now) first.entry.now first.exit.now) }
+            ensures done { IfOk result (λ done. done ≡ true → Ended
+                (Stands O.takes O.breaks O.welcome O.faults start.entry.now.value problem.entry.now first.exit.now out.exit.now told.exit.now) problem.entry.now
+                first.entry.now first.exit.now) }
+            ensures left { IfOk result (λ done. done ≡ false
+                → Leaves (Stopped O.takes O.breaks O.welcome O.faults start.entry.now.value problem.entry.now out.exit.now told.exit.now) told.entry.now.leads
+                first.entry.now first.exit.now) }
+            ensures failed { OnErr result (Fails (Stopped O.takes O.breaks O.welcome O.faults start.entry.now.value problem.entry.now out.exit.now
+                told.exit.now) first.entry.now first.exit.now) }
         {
             work_as(
                 rt, alloc, problem, pool, bell, gate, start, first, told, out,

@@ -117,7 +117,8 @@ fn give_until<'p, 's, R: Threads + Wait + Sync, G: Gate, E: Enough>(
     ensures enough { IfOk result (λ o. (o ≡ None) ↔ (E.limit until.old.out.now ≤ count_by is_answer (problem_events problem.entry.now))) }
     ensures given { OnOk result (Gives E.takes until.old.out.now (first_of (problem_events problem.entry.now) (E.limit until.old.out.now)) until.new.out.now) }
     ensures counts { IfOk result (λ o. IfSome o (λ counts. CountsOf counts (problem_events problem.entry.now) (problem_cost problem.entry.now))) }
-    ensures refused { OnErr result (GivesPrefix E.takes E.breaks until.old.out.now (first_of (problem_events problem.entry.now) (E.limit until.old.out.now)) until.new.out.now) }
+    ensures refused { OnErr result (GivesPrefix E.takes E.breaks until.old.out.now (first_of (problem_events problem.entry.now) (E.limit until.old.out.now))
+        until.new.out.now) }
     ensures write { result ≡ Err CrewFault.Write → Rose (E.faults until.old.out.now) (E.faults until.new.out.now) }
     ensures faults_kept { E.faults until.old.out.now ≤ E.faults until.new.out.now }
     ensures welcome_kept { (e : Event) → E.welcome until.old.out.now e ↔ E.welcome until.new.out.now e }

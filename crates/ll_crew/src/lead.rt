@@ -129,7 +129,8 @@ pub(crate) fn tell<'p, R: Wait, O: Outlet>(
     requires stands { Stands O.takes O.breaks O.welcome O.faults start.now.value problem.now seat.old out.old told.old }
     ensures leads { told.new.leads ≡ told.old.leads }
     ensures on { result ≡ true → Goes (Stands O.takes O.breaks O.welcome O.faults start.now.value problem.now seat.new out.new told.new) seat.old seat.new }
-    ensures left { result ≡ false → Leaves (Stopped O.takes O.breaks O.welcome O.faults start.now.value problem.now out.new told.new) told.old.leads seat.old seat.new }
+    ensures left { result ≡ false → Leaves (Stopped O.takes O.breaks O.welcome O.faults start.now.value problem.now out.new told.new) told.old.leads seat.old
+        seat.new }
 {
     if told.leads {
         return tell_all(rt, problem, pool, start, seat, told, out);
@@ -152,7 +153,8 @@ pub(crate) fn look<'p, R: Wait, O: Outlet>(
     requires stands { Stands O.takes O.breaks O.welcome O.faults start.now.value problem.now seat.old out.old told.old }
     ensures leads { told.new.leads ≡ told.old.leads }
     ensures on { IsSome result → Goes (Stands O.takes O.breaks O.welcome O.faults start.now.value problem.now seat.new out.new told.new) seat.old seat.new }
-    ensures left { IsNone result → Leaves (Stopped O.takes O.breaks O.welcome O.faults start.now.value problem.now out.new told.new) told.old.leads seat.old seat.new }
+    ensures left { IsNone result → Leaves (Stopped O.takes O.breaks O.welcome O.faults start.now.value problem.now out.new told.new) told.old.leads seat.old
+        seat.new }
 {
     let look = pool.look(rt, seat);
     if look.starved || look.stopped {

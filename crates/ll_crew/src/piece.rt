@@ -162,7 +162,9 @@ fn run<'p, R: Wait, O: Outlet>(
     requires stands { Stands O.takes O.breaks O.welcome O.faults start.now.value problem.now seat.old out.old told.old }
     requires owes { OwesAll seat.old.mine.piece events.old.items engine.old [] }
     ensures leads { told.new.leads ≡ told.old.leads }
-    ensures ran { IfOk result (λ ran. RunsTo (Stands O.takes O.breaks O.welcome O.faults start.now.value problem.now seat.new out.new told.new) (Stopped O.takes O.breaks O.welcome O.faults start.now.value problem.now out.new told.new) told.old.leads problem.entry.now ran seat.old seat.new events.new.items engine.new) }
+    ensures ran { IfOk result (λ ran. RunsTo (Stands O.takes O.breaks O.welcome O.faults start.now.value problem.now seat.new out.new told.new)
+        (Stopped O.takes O.breaks O.welcome O.faults start.now.value problem.now out.new told.new) told.old.leads problem.entry.now ran seat.old seat.new
+        events.new.items engine.new) }
     ensures failed { OnErr result (Stays (Stands O.takes O.breaks O.welcome O.faults start.now.value problem.now seat.new out.new told.new) seat.old seat.new) }
 {
     'stretches: loop {
@@ -196,8 +198,11 @@ fn run_alone<'p, R: Wait, O: Outlet>(
     requires seat { IsSeat pool.now problem.now seat.old }
     requires stands { Stands O.takes O.breaks O.welcome O.faults start.now.value problem.now seat.old out.old told.old }
     ensures leads { told.new.leads ≡ told.old.leads }
-    ensures done { IfOk result (λ done. done ≡ true → RunsAlone (Stands O.takes O.breaks O.welcome O.faults start.now.value problem.now seat.new out.new told.new) seat.old seat.new events.old.items engine.old events.new.items engine.new) }
-    ensures left { IfOk result (λ done. done ≡ false → Leaves (Stopped O.takes O.breaks O.welcome O.faults start.now.value problem.now out.new told.new) told.old.leads seat.old seat.new) }
+    ensures done { IfOk result (λ done. done ≡ true → RunsAlone
+        (Stands O.takes O.breaks O.welcome O.faults start.now.value problem.now seat.new out.new told.new) seat.old seat.new events.old.items engine.old
+        events.new.items engine.new) }
+    ensures left { IfOk result (λ done. done ≡ false → Leaves (Stopped O.takes O.breaks O.welcome O.faults start.now.value problem.now out.new told.new)
+        told.old.leads seat.old seat.new) }
     ensures failed { OnErr result (Stays (Stands O.takes O.breaks O.welcome O.faults start.now.value problem.now seat.new out.new told.new) seat.old seat.new) }
 {
     'stretches: loop {
@@ -229,8 +234,10 @@ fn run_batch<'p, R: Wait, O: Outlet>(
     requires stands { Stands O.takes O.breaks O.welcome O.faults start.now.value problem.now seat.old out.old told.old }
     requires of { batch.now.problem ≡ problem.now }
     ensures leads { told.new.leads ≡ told.old.leads }
-    ensures some { IfOk result (λ o. IfSome o (λ n. RunsAll (Stands O.takes O.breaks O.welcome O.faults start.now.value problem.now seat.new out.new told.new) seat.old seat.new events.old.items (events_in (alternatives_in batch.now)) (inferences + cost_in (alternatives_in batch.now)) events.new.items n)) }
-    ensures none { IfOk result (λ o. IfNone o (Leaves (Stopped O.takes O.breaks O.welcome O.faults start.now.value problem.now out.new told.new) told.old.leads seat.old seat.new)) }
+    ensures some { IfOk result (λ o. IfSome o (λ n. RunsAll (Stands O.takes O.breaks O.welcome O.faults start.now.value problem.now seat.new out.new told.new)
+        seat.old seat.new events.old.items (events_in (alternatives_in batch.now)) (inferences + cost_in (alternatives_in batch.now)) events.new.items n)) }
+    ensures none { IfOk result (λ o. IfNone o (Leaves (Stopped O.takes O.breaks O.welcome O.faults start.now.value problem.now out.new told.new) told.old.leads
+        seat.old seat.new)) }
     ensures failed { OnErr result (Stays (Stands O.takes O.breaks O.welcome O.faults start.now.value problem.now seat.new out.new told.new) seat.old seat.new) }
 {
     for k in 0..batch.len() {
@@ -272,8 +279,10 @@ fn run_whole<'p, R: Wait, O: Outlet>(
     requires stands { Stands O.takes O.breaks O.welcome O.faults start.now.value problem.now seat.old out.old told.old }
     requires owes { OwesAll seat.old.mine.piece events.old.items engine.old [] }
     ensures leads { told.new.leads ≡ told.old.leads }
-    ensures some { IfOk result (λ o. IfSome o (λ n. Reports (Stands O.takes O.breaks O.welcome O.faults start.now.value problem.now seat.new out.new told.new) seat.old seat.new events.new.items n)) }
-    ensures none { IfOk result (λ o. IfNone o (Leaves (Stopped O.takes O.breaks O.welcome O.faults start.now.value problem.now out.new told.new) told.old.leads seat.old seat.new)) }
+    ensures some { IfOk result (λ o. IfSome o (λ n. Reports (Stands O.takes O.breaks O.welcome O.faults start.now.value problem.now seat.new out.new told.new)
+        seat.old seat.new events.new.items n)) }
+    ensures none { IfOk result (λ o. IfNone o (Leaves (Stopped O.takes O.breaks O.welcome O.faults start.now.value problem.now out.new told.new) told.old.leads
+        seat.old seat.new)) }
     ensures failed { OnErr result (Stays (Stands O.takes O.breaks O.welcome O.faults start.now.value problem.now seat.new out.new told.new) seat.old seat.new) }
 {
     match run(
@@ -312,8 +321,10 @@ pub(crate) fn work_piece<'p, R: Wait, O: Outlet>(
     requires owes { IsSomeAnd seat.old.mine.piece (λ piece. slice_get (alternatives_in batch.now) k ≡ Some piece.owes) }
     requires of { batch.now.problem ≡ problem.now }
     ensures leads { told.new.leads ≡ told.old.leads }
-    ensures done { IfOk result (λ done. done ≡ true → Stays (Stands O.takes O.breaks O.welcome O.faults start.now.value problem.now seat.new out.new told.new) seat.old seat.new × (seat.new.mine.piece ≡ None)) }
-    ensures left { IfOk result (λ done. done ≡ false → Leaves (Stopped O.takes O.breaks O.welcome O.faults start.now.value problem.now out.new told.new) told.old.leads seat.old seat.new) }
+    ensures done { IfOk result (λ done. done ≡ true → Stays (Stands O.takes O.breaks O.welcome O.faults start.now.value problem.now seat.new out.new told.new)
+        seat.old seat.new × (seat.new.mine.piece ≡ None)) }
+    ensures left { IfOk result (λ done. done ≡ false → Leaves (Stopped O.takes O.breaks O.welcome O.faults start.now.value problem.now out.new told.new)
+        told.old.leads seat.old seat.new) }
     ensures failed { OnErr result (Stays (Stands O.takes O.breaks O.welcome O.faults start.now.value problem.now seat.new out.new told.new) seat.old seat.new) }
 {
     let mut engine = Engine::resume(alloc, problem, batch, k)?;

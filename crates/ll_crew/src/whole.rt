@@ -42,7 +42,8 @@ fn seats<'p>(
 ) -> Result<Vec<Seat<Frozen<'p>>>, OutOfMemory>
     requires own { IsSeat pool.now problem.now first.old × (first.old.mine.piece ≡ None) × (first.old.given ≡ []) × (first.old.mine.worker ≡ 0) }
     requires range { (first.old.mine.from ≡ 1) × (first.old.mine.end ≡ pool.now.workers) }
-    ensures first { IsSeat pool.now problem.now first.new × (first.new.mine.piece ≡ None) × (first.new.mine.worker ≡ 0) × (first.new.mine.seen ≡ first.old.mine.seen) }
+    ensures first { IsSeat pool.now problem.now first.new × (first.new.mine.piece ≡ None) × (first.new.mine.worker ≡ 0)
+        × (first.new.mine.seen ≡ first.old.mine.seen) }
     ensures ok { IfOk result (λ v. Every (CanWork pool.now problem.entry.now) v.items × (without_all (map worker_of v.items) first.new.given ≡ [])) }
 {
     let _problem = problem;
@@ -140,7 +141,8 @@ fn search<'p, R: Threads + Wait + Sync, G: Gate, O: Outlet>(
 ) -> Result<Counts, CrewFault>
     requires first { CanWork pool problem.now first × (first.mine.worker ≡ 0) × (without_all (map worker_of others.items) first.given ≡ []) }
     requires others { Every (CanWork pool problem.now) others.items }
-    requires leads { Leads O.takes O.breaks O.welcome O.faults out.old problem.now first.mine.seen out.old (record { answers = 0; reached = 0; inferences = 0 }) }
+    requires leads { Leads O.takes O.breaks O.welcome O.faults out.old problem.now first.mine.seen out.old
+        (record { answers = 0; reached = 0; inferences = 0 }) }
     ensures given { OnOk result (Gives O.takes out.old (problem_events problem.entry.now) out.new) }
     ensures counts { IfOk result (λ counts. CountsOf counts (problem_events problem.entry.now) (problem_cost problem.entry.now)) }
     ensures refused { OnErr result (GivesPrefix O.takes O.breaks out.old (problem_events problem.entry.now) out.new) }
@@ -235,7 +237,8 @@ pub(crate) fn index_of(alloc: Global, problem: &Problem) -> Result<Arc<Index>, O
     Ok(Arc::new(alloc, index)?)
 }
 
-// The same, with an index of the problem's clauses. Where an answer is to be given at once, a worker that has found one leaves the rest of its piece to others, and reports.
+// The same, with an index of the problem's clauses. Where an answer is to be given at once, a worker that has found one leaves the rest of its piece to
+// others, and reports.
 pub(crate) fn crew_by<'p, R: Threads + Wait + Sync, G: Gate, O: Outlet>(
     rt: &R,
     alloc: Global,

@@ -50,7 +50,8 @@ fn claim_one<'p, R: Wait, O: Outlet>(
     requires seat { CanWork pool.now problem.now seat.old }
     requires stands { Stands O.takes O.breaks O.welcome O.faults start.now.value problem.now seat.old out.old told.old }
     ensures leads { told.new.leads ≡ told.old.leads }
-    ensures went { IfOk result (λ went. WentTo (Stands O.takes O.breaks O.welcome O.faults start.now.value problem.now seat.new out.new told.new) (Stopped O.takes O.breaks O.welcome O.faults start.now.value problem.now out.new told.new) told.old.leads problem.entry.now went seat.old seat.new) }
+    ensures went { IfOk result (λ went. WentTo (Stands O.takes O.breaks O.welcome O.faults start.now.value problem.now seat.new out.new told.new)
+        (Stopped O.takes O.breaks O.welcome O.faults start.now.value problem.now out.new told.new) told.old.leads problem.entry.now went seat.old seat.new) }
     ensures failed { OnErr result (Stays (Stands O.takes O.breaks O.welcome O.faults start.now.value problem.now seat.new out.new told.new) seat.old seat.new) }
 {
     match pool.claim(rt, seat) {
@@ -90,8 +91,10 @@ fn work_on<'p, R: Wait, G: Gate, O: Outlet>(
     requires seat { CanWork pool.now problem.now seat.old }
     requires stands { Stands O.takes O.breaks O.welcome O.faults start.now.value problem.now seat.old out.old told.old }
     ensures leads { told.new.leads ≡ told.old.leads }
-    ensures done { IfOk result (λ done. done ≡ true → Ended (Stands O.takes O.breaks O.welcome O.faults start.now.value problem.now seat.new out.new told.new) problem.now seat.old seat.new) }
-    ensures left { IfOk result (λ done. done ≡ false → Leaves (Stopped O.takes O.breaks O.welcome O.faults start.now.value problem.now out.new told.new) told.old.leads seat.old seat.new) }
+    ensures done { IfOk result (λ done. done ≡ true → Ended (Stands O.takes O.breaks O.welcome O.faults start.now.value problem.now seat.new out.new told.new)
+        problem.now seat.old seat.new) }
+    ensures left { IfOk result (λ done. done ≡ false → Leaves (Stopped O.takes O.breaks O.welcome O.faults start.now.value problem.now out.new told.new)
+        told.old.leads seat.old seat.new) }
     ensures failed { OnErr result (Stays (Stands O.takes O.breaks O.welcome O.faults start.now.value problem.now seat.new out.new told.new) seat.old seat.new) }
 {
     let mut claims = 0u64;
@@ -136,8 +139,10 @@ pub(crate) fn work_as<'p, R: Wait, G: Gate, O: Outlet>(
     requires seat { CanWork pool.now problem.now seat.old }
     requires stands { Stands O.takes O.breaks O.welcome O.faults start.now.value problem.now seat.old out.old told.old }
     ensures leads { told.new.leads ≡ told.old.leads }
-    ensures done { IfOk result (λ done. done ≡ true → Ended (Stands O.takes O.breaks O.welcome O.faults start.now.value problem.now seat.new out.new told.new) problem.now seat.old seat.new) }
-    ensures left { IfOk result (λ done. done ≡ false → Leaves (Stopped O.takes O.breaks O.welcome O.faults start.now.value problem.now out.new told.new) told.old.leads seat.old seat.new) }
+    ensures done { IfOk result (λ done. done ≡ true → Ended (Stands O.takes O.breaks O.welcome O.faults start.now.value problem.now seat.new out.new told.new)
+        problem.now seat.old seat.new) }
+    ensures left { IfOk result (λ done. done ≡ false → Leaves (Stopped O.takes O.breaks O.welcome O.faults start.now.value problem.now out.new told.new)
+        told.old.leads seat.old seat.new) }
     ensures failed { OnErr result (Fails (Stopped O.takes O.breaks O.welcome O.faults start.now.value problem.now out.new told.new) seat.old seat.new) }
 {
     match work_on(rt, alloc, problem, pool, bell, gate, start, seat, told, out) {

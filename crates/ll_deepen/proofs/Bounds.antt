@@ -1,5 +1,6 @@
 -- A series has one deciding bound, and what counts say of it.
-use Rattle.std.proofs.Common.{◌≡◌, ◌⊎◌, ℕ, zero, suc, ◌+◌, ◌*◌, ◌<◌, ◌≤◌, Bool, true, false, not, ◌||◌, List, [], ◌∷◌, refl, sym, ap, ◌∙◌, subst, ⊎_elim, inl, inr, arith}
+use Rattle.std.proofs.Common.{◌≡◌, ◌⊎◌, ℕ, zero, suc, ◌+◌, ◌*◌, ◌<◌, ◌≤◌, Bool, true, false, not, ◌||◌, List, [], ◌∷◌, refl, sym, ap, ◌∙◌, subst, ⊎_elim, inl}
+use Rattle.std.proofs.Common.{inr, arith}
 use Rattle.std.specs.Prelude.{count_by, cond, nat_eq}
 use Rattle.std.specs.List.{list_any}
 use Rattle.std.proofs.Math.Nat.{mul-le-mul_right, suc-mul}
@@ -84,7 +85,8 @@ module _ (p : ProblemTree) (series : Series) where
       (λ (h : d.first.place < e.first.place). absurd (behind n m d e h))
       (λ (h : e.first.place ≤ d.first.place). ⊎_elim
       (λ (g : e.first.place < d.first.place). absurd (behind m n e d g))
-      (λ (g : d.first.place ≤ e.first.place). let same : d.first.place ≡ e.first.place = omega arith in d.first.is ∙ (ap (λ k. series.from + k * series.by) same ∙ sym e.first.is))
+      (λ (g : d.first.place ≤ e.first.place). let same : d.first.place ≡ e.first.place = omega arith in
+      d.first.is ∙ (ap (λ k. series.from + k * series.by) same ∙ sym e.first.is))
       (cases_lt e.first.place d.first.place))
       (cases_lt d.first.place e.first.place)
 

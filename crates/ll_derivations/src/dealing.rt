@@ -13,7 +13,8 @@ pub fn below_a_bang()
 pub fn shared_by_premises()
     ensures { deal (0 ∷ 2 ∷ 5 ∷ 9 ∷ [])
         (ClauseNode 9 0 [] (BoundedPart [] (fact 0) (UnboundedPart (BangNode (fact 2)) (BoundedPart [] (TensorNode [] [] (fact 2) EraseNode) NoParts))))
-        ≡ ClauseNode 9 0 [] (BoundedPart (0 ∷ []) (fact 0) (UnboundedPart (BangNode (fact 2)) (BoundedPart (2 ∷ 5 ∷ []) (TensorNode (2 ∷ []) (5 ∷ []) (fact 2) EraseNode) NoParts))) }
+        ≡ ClauseNode 9 0 [] (BoundedPart (0 ∷ []) (fact 0) (UnboundedPart (BangNode (fact 2))
+        (BoundedPart (2 ∷ 5 ∷ []) (TensorNode (2 ∷ []) (5 ∷ []) (fact 2) EraseNode) NoParts))) }
 {}
 
 /// What a step of an unbounded premise picks is no use of the step.

@@ -30,12 +30,14 @@ IfBytes-always P always (Bytes n) = always n
 IfBytes-always P always Absent = tt
 IfBytes-always P always Failed = tt
 
-pub faults_none_taken : (before after : ℕ) (piece : List ℕ) (answer : Result ℕ WriteFailed) → after ≡ faults_after before piece answer → IfOk answer (λ n. n ≡ 0 → 0 < length piece → Rose before after)
+pub faults_none_taken : (before after : ℕ) (piece : List ℕ) (answer : Result ℕ WriteFailed) → after ≡ faults_after before piece answer
+    → IfOk answer (λ n. n ≡ 0 → 0 < length piece → Rose before after)
 faults_none_taken before after piece (Err refusal) e = tt
 faults_none_taken before after piece (Ok n) e =
     λ none some. let counted : after ≡ counted_up before = grind (arith, nat_tests) in rw counted (Rose-counted_up before)
 
-pub faults_failed : (before after : ℕ) (piece : List ℕ) (answer : Result ℕ WriteFailed) → after ≡ faults_after before piece answer → OnErr answer (Rose before after)
+pub faults_failed : (before after : ℕ) (piece : List ℕ) (answer : Result ℕ WriteFailed) → after ≡ faults_after before piece answer
+    → OnErr answer (Rose before after)
 faults_failed before after piece (Ok n) e = tt
 faults_failed before after piece (Err refusal) e = rw e (Rose-counted_up before)
 

@@ -1,5 +1,6 @@
 -- A shelf and a sink in memory, whose calls fail at given numbers.
-use Rattle.std.specs.Prelude.{ℕ, ◌-◌, ◌==◌, ◌++◌, min, Bool, List, Option, Some, None, Result, Ok, Err, if◌then◌else◌, [], length, take, map, String, Vec, string_bytes}
+use Rattle.std.specs.Prelude.{ℕ, ◌-◌, ◌==◌, ◌++◌, min, Bool, List, Option, Some, None, Result, Ok, Err, if◌then◌else◌, [], length, take, map, String, Vec}
+use Rattle.std.specs.Prelude.{string_bytes}
 use Rattle.std.specs.List.{list_any}
 use Rattle.std.specs.Vec.{vec_items}
 use Rattle.ll_edge.specs.Counts.{Counts, counted_up, counts_after, faults_after}

@@ -12,7 +12,8 @@ use Rattle.ll_engine.specs.Seen.{Owing}
 abbrev pub owing_code : Coded Owing
 owing_code =
     code_by (ProblemTree × (List Event × (ℕ × (ℕ × (Option State × (ℕ × (ℕ × (ℕ × Bool))))))))
-    (coded× problem_code (coded× (coded_list event.the_row.coded) (coded× coded_ℕ (coded× coded_ℕ (coded× (coded_option state_code) (coded× coded_ℕ (coded× coded_ℕ (coded× coded_ℕ coded_bool))))))))
+    (coded× problem_code (coded× (coded_list event.the_row.coded)
+    (coded× coded_ℕ (coded× coded_ℕ (coded× (coded_option state_code) (coded× coded_ℕ (coded× coded_ℕ (coded× coded_ℕ coded_bool))))))))
     (λ e. (e.problem, (e.events, (e.cost, (e.points, (e.first, (e.splits, (e.work, (e.made, e.spent)))))))))
     (λ p. record {
       problem = p.0;

@@ -3,7 +3,8 @@ use Rattle.std.specs.Prelude.{◌≡◌, ◌<◌, true, List, [], map, length, A
 use Rattle.ll_bank.specs.declared.At.{At}
 use Rattle.ll_bank.specs.declared.FormAt.{FormAt}
 use Rattle.ll_bank.specs.Nodes.{Nodes, HasForm, form_tree}
-use Rattle.ll_laws.specs.Settle.{Saved, Item as ItemOf, Goal as GoalOf, LolliEnd as EndOfLolli, ImpEnd as EndOfImp, WithMiddle as Middle, WithEnd as EndOfWith, BangEnd as EndOfBang, Front, settle_front}
+use Rattle.ll_laws.specs.Settle.{Saved, Item as ItemOf, Goal as GoalOf, LolliEnd as EndOfLolli, ImpEnd as EndOfImp, WithMiddle as Middle, WithEnd as EndOfWith}
+use Rattle.ll_laws.specs.Settle.{BangEnd as EndOfBang, Front, settle_front}
 use Rattle.ll_laws.specs.Consistent.{ends_fit}
 use Rattle.ll_laws.specs.Valid.{IsFormula, ClauseSide}
 use Rattle.ll_agenda.specs.Frames.{HasTop}
@@ -56,7 +57,12 @@ pub record Going (o m : Parts) : Type 0 where
 
 -- no end is in front
 abbrev pub IsDone : Parts → Type 0
-IsDone m = front_raw m.resources (items_of m) ≡ Some (record { agenda = map (raw_item m.resources.kept) (items_of m); context = m.resources.entries; flag = m.resources.flag })
+IsDone m = front_raw m.resources (items_of m) ≡ Some (record {
+  agenda = map (raw_item m.resources.kept) (items_of m);
+  context = m.resources.entries;
+  flag =
+      m.resources.flag;
+})
 
 -- what working off the item in front came to
 abbrev pub Works : Parts → Worked → Parts → Type 0

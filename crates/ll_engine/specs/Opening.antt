@@ -26,18 +26,20 @@ pub record AreGoalsOf (bank : Nodes) (goals : List FormAt) (premises : List Prem
 
 -- the leaf is open: its premises are on the agenda, the nearest to the head in front, it has its variables, and its head is at a place
 -- where bound places stand for them
-pub record Opens (first : Nodes) (items : List Item) (before clause k : ℕ) (bank : Nodes) (now : Frames Item) (terms : List At) (head : At) (top : Top) : Type 0 where
-  pub premises : List Premise
-  pub goals : List FormAt
-  pub shows : ShowsItems now top (map Goal goals ++ items)
-  pub goals_are : AreGoalsOf bank goals premises
-  pub count : ℕ
-  pub terms_inside : AllInTerms bank terms
-  pub variables : term_trees bank terms ≡ vars_from 0 (before + count)
-  pub way : slice_get (ways (form_tree first clause)) k ≡ Some count
-  pub inside : HasTerm bank head.0
-  pub heads : applies_heads (close (env_of bank (drop before terms)) (term_tree bank head.0)) ≡ true
-  pub leaf_is : leaf (form_tree first clause) k (vars_from before count) ≡ Some (record { premises = premises; head = close (env_of bank (drop before terms)) (term_tree bank head.0) })
+pub record Opens (first : Nodes) (items : List Item) (before clause k : ℕ) (bank : Nodes) (now : Frames Item) (terms : List At) (head : At) (top : Top) : Type 0
+  where
+    pub premises : List Premise
+    pub goals : List FormAt
+    pub shows : ShowsItems now top (map Goal goals ++ items)
+    pub goals_are : AreGoalsOf bank goals premises
+    pub count : ℕ
+    pub terms_inside : AllInTerms bank terms
+    pub variables : term_trees bank terms ≡ vars_from 0 (before + count)
+    pub way : slice_get (ways (form_tree first clause)) k ≡ Some count
+    pub inside : HasTerm bank head.0
+    pub heads : applies_heads (close (env_of bank (drop before terms)) (term_tree bank head.0)) ≡ true
+    pub leaf_is : leaf (form_tree first clause) k (vars_from before count)
+        ≡ Some (record { premises = premises; head = close (env_of bank (drop before terms)) (term_tree bank head.0) })
 
 -- the side on which a leaf is, given the ways of the left one, and its number there
 abbrev pub IsSide : List ℕ → FormAt → FormAt → ℕ → Side → Type 0

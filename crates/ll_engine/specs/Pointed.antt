@@ -111,4 +111,5 @@ KeepsKept m cs ps qs = (p : ProblemTree) → IsOpen p m → AreTries m cs → Ar
 -- the last of these candidates was attempted, and a point keeps the others
 abbrev pub ChoseOf : Stored → List Candidate → Bool → Stored → Type 0
 ChoseOf old cs running new =
-    Chose (spine_of old) (state_of (parts_of old.machine)) (old.machine.left - 1) (reverse cs) (points_of (helds old.machine old.points.items)) running (spine_of new)
+    Chose (spine_of old) (state_of (parts_of old.machine)) (old.machine.left - 1) (reverse cs) (points_of (helds old.machine old.points.items)) running
+    (spine_of new)

@@ -27,7 +27,16 @@ Splits old (Some b) new = SplitsTo old b new
 
 -- the batch is this choice point, with this base, and shares with so many
 abbrev pub frozen_point : Spine → Point → Base → ℕ → FrozenSight
-frozen_point z p base depth = record { problem = z.problem; state = p.state; left = suc p.left; untried = p.untried; starts = false; base = base; depth = depth }
+frozen_point z p base depth = record {
+  problem = z.problem;
+  state = p.state;
+  left = suc p.left;
+  untried = p.untried;
+  starts = false;
+  base = base;
+  depth =
+      depth;
+}
 
 -- the oldest choice point was taken away, and is the batch
 pub record TakesOldest (old : Spine) (b : FrozenSight) (new : Spine) : Type 0 where

@@ -98,7 +98,8 @@ fn add_loaded(
     requires count { count ≤ length context.now.present.entries }
     requires inside { All (λ e. HasForm store.now.bank e.clause.0) context.now.present.entries }
     requires cells { All (λ e. HeadsHaveCells store.now e.clause) context.now.present.entries }
-    ensures { OnOk result (all_found found.new ≡ all_found found.old ++ flat_map (open_tries (head_fits store.now asked)) (map (standing_entry store.now.bank) (take count context.now.present.entries))) }
+    ensures { OnOk result (all_found found.new ≡ all_found found.old
+        ++ flat_map (open_tries (head_fits store.now asked)) (map (standing_entry store.now.bank) (take count context.now.present.entries))) }
 {
     let mut waiting = Vec::new(alloc);
     for from_front in 0..count {
@@ -120,7 +121,8 @@ fn add_entry(
     requires inside { HasForm store.now.bank entry.clause.0 }
     requires cells { HeadsHaveCells store.now entry.clause }
     requires none { waiting.old.items ≡ [] }
-    ensures found { OnOk result (all_found found.new ≡ all_found found.old ++ open_tries (head_fits store.now asked) (standing_entry store.now.bank (resource entry))) }
+    ensures found { OnOk result (all_found found.new ≡ all_found found.old
+        ++ open_tries (head_fits store.now asked) (standing_entry store.now.bank (resource entry))) }
     ensures none { OnOk result (waiting.new.items ≡ []) }
 {
     if !is_open(entry) {
@@ -160,7 +162,8 @@ fn add_leaves(
     requires inside { HasForm store.now.bank clause.0 }
     requires cells { HeadsHaveCells store.now clause }
     requires none { waiting.old.items ≡ [] }
-    ensures found { OnOk result (all_found found.new ≡ all_found found.old ++ head_tries (head_fits store.now asked) label 0 (heads (form_tree store.now.bank clause.0))) }
+    ensures found { OnOk result (all_found found.new ≡ all_found found.old
+        ++ head_tries (head_fits store.now asked) label 0 (heads (form_tree store.now.bank clause.0))) }
     ensures none { OnOk result (waiting.new.items ≡ []) }
 {
     waiting.push(clause)?;
@@ -200,7 +203,8 @@ fn add_program(
     requires room { length machine.now.context.present.entries < 2 ^ 64 }
     requires program { AreOfProgram 0 machine.now.problem.now.clauses (drop loaded (shown_context (parts_of machine.now))) }
     ensures { (atom : Term) → head_of atom ≡ Some (Name name) → arity atom ≡ asked.predicate.arity
-        → OnOk result (all_found found.new ≡ all_found found.old ++ flat_map (entry_matches asked.first atom) (drop loaded (shown_context (parts_of machine.now)))) }
+        → OnOk result (all_found found.new ≡ all_found found.old
+        ++ flat_map (entry_matches asked.first atom) (drop loaded (shown_context (parts_of machine.now)))) }
 {
     let arity = in_32_bits(asked.predicate.arity)?;
     let mut cursor = index.candidates(name, arity, asked.first);

@@ -187,7 +187,8 @@ impl<'p> Engine<'p> {
         requires inside { k < length (alternatives_in (arc_value frozen)) }
         requires of { (arc_value frozen).problem ≡ problem.now }
         ensures resumed { IfOk result (λ e. e ≡ resumed (arc_value frozen.entry) k) }
-        ensures owes { IfOk result (λ e. (owes : Owed TheEvent) → slice_get (alternatives_in (arc_value frozen.entry)) k ≡ Some owes → Resumes problem.entry.now owes e) }
+        ensures owes { IfOk result (λ e. (owes : Owed TheEvent) → slice_get (alternatives_in (arc_value frozen.entry)) k ≡ Some owes
+            → Resumes problem.entry.now owes e) }
     {
         let spine = Spine::resume_shared(alloc, problem, frozen, k)?;
         let running = spine.began;
@@ -208,7 +209,8 @@ impl<'p> Engine<'p> {
         requires inside { k < length (alternatives_in (arc_value to)) }
         requires of { (arc_value to).problem ≡ self.problem }
         ensures resumed { IfOk result (λ e. e ≡ resumed (arc_value to.entry) k) }
-        ensures owes { IfOk result (λ e. (owes : Owed TheEvent) → slice_get (alternatives_in (arc_value to.entry)) k ≡ Some owes → Resumes self.entry.problem owes e) }
+        ensures owes { IfOk result (λ e. (owes : Owed TheEvent) → slice_get (alternatives_in (arc_value to.entry)) k ≡ Some owes
+            → Resumes self.entry.problem owes e) }
     {
         let Engine { spine, spent, .. } = self;
         if spent {

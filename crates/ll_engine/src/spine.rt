@@ -116,7 +116,11 @@ impl<'p> Spine<'p> {
     /// The state as a branch. Nothing changes but what branches are made with.
     pub fn branch(&mut self) -> Result<Branch, OutOfMemory>
         requires sound { IsSound true self.old }
-        ensures branch { IfOk result (λ b. b ≡ record { terms = (state_of (parts_of self.old.machine)).terms; steps = (state_of (parts_of self.old.machine)).steps }) }
+        ensures branch { IfOk result (λ b. b ≡ record {
+          terms = (state_of (parts_of self.old.machine)).terms;
+          steps =
+              (state_of (parts_of self.old.machine)).steps;
+        }) }
         ensures sound { IsSound false self.new }
         ensures same { spine_of self.new ≡ spine_of self.old }
     {

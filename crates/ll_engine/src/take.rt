@@ -154,7 +154,8 @@ fn unify_leaf(
     requires variables { AllInTerms store.old.bank variables.now }
     requires heads { applies_heads (close (env_of store.old.bank variables.now) (term_tree store.old.bank head.0)) ≡ true }
     requires vars { HasCells store.old.bank (table_of store.old.cells.cells) (close (env_of store.old.bank variables.now) (term_tree store.old.bank head.0)) }
-    requires new { (x : ℕ) → first ≤ x → x < count (table_of store.old.cells.cells) → StandsNowhere store.old.bank (table_of store.old.cells.cells) (term_tree store.old.bank atom.0 ∷ []) x }
+    requires new { (x : ℕ) → first ≤ x → x < count (table_of store.old.cells.cells)
+        → StandsNowhere store.old.bank (table_of store.old.cells.cells) (term_tree store.old.bank atom.0 ∷ []) x }
     ensures found { IfOk result (Unifies store.old.bank store.new.bank (table_of store.old.cells.cells) (table_of store.new.cells.cells)
         (mgu (read_in store.old atom ∷ []) (read_closed store.old variables.now head ∷ []) (table_of store.old.cells.cells).levels)) }
     ensures keeps { Extends store.old.bank store.new.bank }

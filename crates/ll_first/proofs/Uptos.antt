@@ -14,12 +14,14 @@ count_reached : (es : List Event) → count_by is_answer (Reached ∷ es) ≡ co
 count_reached es = let s : count_by is_answer (Reached ∷ es) ≡ 0 + count_by is_answer es = sum_by-cons _ Reached es in omega arith
 
 -- an event in front of a prefix
-in_front : (e : Event) (o : Option (List Event)) (front : List Event) → option_map (λ f. e ∷ f) o ≡ Some front → (rest : List Event) × (o ≡ Some rest) × (front ≡ e ∷ rest)
+in_front : (e : Event) (o : Option (List Event)) (front : List Event) → option_map (λ f. e ∷ f) o ≡ Some front
+    → (rest : List Event) × (o ≡ Some rest) × (front ≡ e ∷ rest)
 in_front e None front h = absurd (cc)
 in_front e (Some rest) front h = let same : e ∷ rest ≡ front = cc in (rest, refl, sym same)
 
 -- it is a prefix, and has so many answers
-pub upto_front : (es : List Event) (k : ℕ) (front : List Event) → upto es k ≡ Some front → (back : List Event) × (es ≡ front ++ back) × (count_by is_answer front ≡ k)
+pub upto_front : (es : List Event) (k : ℕ) (front : List Event) → upto es k ≡ Some front
+    → (back : List Event) × (es ≡ front ++ back) × (count_by is_answer front ≡ k)
 upto_front es zero front h = let same : [] ≡ front = cc in (es, ap (λ l. l ++ es) same, ap (count_by is_answer) (sym same))
 upto_front [] (suc k) front h = absurd (cc)
 upto_front (Answer a ∷ es) (suc k) front h =
@@ -32,7 +34,8 @@ upto_front (Reached ∷ es) (suc k) front h =
     (i.0, ap (λ l. Reached ∷ l) i.1 ∙ ap (λ l. l ++ i.0) (sym m.2), ap (count_by is_answer) m.2 ∙ (count_reached m.0 ∙ i.2))
 
 -- no shorter prefix has as many
-pub upto_shortest : (es : List Event) (k : ℕ) (front : List Event) → upto es k ≡ Some front → (shorter back : List Event) → es ≡ shorter ++ back → k ≤ count_by is_answer shorter → length front ≤ length shorter
+pub upto_shortest : (es : List Event) (k : ℕ) (front : List Event) → upto es k ≡ Some front → (shorter back : List Event) → es ≡ shorter ++ back
+    → k ≤ count_by is_answer shorter → length front ≤ length shorter
 upto_shortest es zero front h shorter back order many = let same : [] ≡ front = cc in let l = ap length same in omega arith
 upto_shortest es (suc k) front h [] back order many = absurd (omega arith)
 upto_shortest [] (suc k) front h (s ∷ shorter) back order many = absurd (cc)
@@ -75,18 +78,22 @@ upto_enough es k front h =
     let same = ap (count_by is_answer) f.1 in let has = f.2 in omega arith
 
 -- it ends with the event that makes the answers as many
-pub upto_here : (front : List Event) (e : Event) (back : List Event) (k : ℕ) → count_by is_answer front < k → k ≤ count_by is_answer (front ++ e ∷ []) → upto (front ++ e ∷ back) k ≡ Some (front ++ e ∷ [])
+pub upto_here : (front : List Event) (e : Event) (back : List Event) (k : ℕ) → count_by is_answer front < k → k ≤ count_by is_answer (front ++ e ∷ [])
+    → upto (front ++ e ∷ back) k ≡ Some (front ++ e ∷ [])
 upto_here front e back zero few enough = absurd (omega arith)
 upto_here [] (Answer a) back (suc zero) few enough = refl
 upto_here [] (Answer a) back (suc (suc k)) few enough = absurd (let c = count_answer a [] in omega arith)
 upto_here [] Reached back (suc k) few enough = absurd (let c = count_reached [] in omega arith)
 upto_here (Answer a ∷ front) e back (suc k) few enough =
-    let c = count_answer a front in let d = count_answer a (front ++ e ∷ []) in ap (option_map (λ f. Answer a ∷ f)) (upto_here front e back k (omega arith) (omega arith))
+    let c = count_answer a front in let d = count_answer a (front ++ e ∷ []) in
+    ap (option_map (λ f. Answer a ∷ f)) (upto_here front e back k (omega arith) (omega arith))
 upto_here (Reached ∷ front) e back (suc k) few enough =
-    let c = count_reached front in let d = count_reached (front ++ e ∷ []) in ap (option_map (λ f. Reached ∷ f)) (upto_here front e back (suc k) (omega arith) (omega arith))
+    let c = count_reached front in let d = count_reached (front ++ e ∷ []) in
+    ap (option_map (λ f. Reached ∷ f)) (upto_here front e back (suc k) (omega arith) (omega arith))
 
 -- what has fewer answers stands in front of it
-pub upto_past : (some rest : List Event) (k : ℕ) (front : List Event) → count_by is_answer some < k → upto (some ++ rest) k ≡ Some front → (more : List Event) × (front ≡ some ++ more)
+pub upto_past : (some rest : List Event) (k : ℕ) (front : List Event) → count_by is_answer some < k → upto (some ++ rest) k ≡ Some front
+    → (more : List Event) × (front ≡ some ++ more)
 upto_past some rest zero front few h = absurd (omega arith)
 upto_past [] rest (suc k) front few h = (front, refl)
 upto_past (Answer a ∷ some) rest (suc k) front few h =
@@ -99,7 +106,8 @@ upto_past (Reached ∷ some) rest (suc k) front few h =
     let i = upto_past some rest (suc k) m.0 (omega arith) m.1 in (i.0, m.2 ∙ ap (λ l. Reached ∷ l) i.1)
 
 -- and so does the event behind that
-pub upto_next : (some : List Event) (e : Event) (rest : List Event) (k : ℕ) (front : List Event) → count_by is_answer some < k → upto (some ++ e ∷ rest) k ≡ Some front → (more : List Event) × (front ≡ some ++ e ∷ more)
+pub upto_next : (some : List Event) (e : Event) (rest : List Event) (k : ℕ) (front : List Event) → count_by is_answer some < k
+    → upto (some ++ e ∷ rest) k ≡ Some front → (more : List Event) × (front ≡ some ++ e ∷ more)
 upto_next some e rest zero front few h = absurd (omega arith)
 upto_next [] e rest (suc k) front few h = let m = in_front e (upto rest (if is_answer e then k else suc k)) front h in (m.0, m.2)
 upto_next (Answer a ∷ some) e rest (suc k) front few h =

@@ -86,12 +86,14 @@ clauses_moved may more bank other es p q h =
     subst (λ (b : Nodes). All (λ (e : Entry FormAt). IsFormula more ClauseSide [] (form_tree b e.clause.0)) es) q
     (subst (λ (k : Allowed). All (λ (e : Entry FormAt). IsFormula k ClauseSide [] (form_tree bank e.clause.0)) es) p h)
 
-pub goals_moved : (may more : Allowed) (bank other : Nodes) (xs : List Item) → may ≡ more → bank ≡ other → All (IsGoalIn may bank) xs → All (IsGoalIn more other) xs
+pub goals_moved : (may more : Allowed) (bank other : Nodes) (xs : List Item) → may ≡ more → bank ≡ other → All (IsGoalIn may bank) xs
+    → All (IsGoalIn more other) xs
 goals_moved may more bank other xs p q h =
     subst (λ (b : Nodes). All (IsGoalIn more b) xs) q (subst (λ (k : Allowed). All (IsGoalIn k bank) xs) p h)
 
 pub fits_kept : (m n : Parts) → SameTerms m n → Fits m → IsConsistent (setting m) (state_of n) → RestsOn m.problem.clauses (state_of n) → n.eigens ≡ m.eigens
-    → All (λ e. HasForm m.bank e.clause.0) n.resources.entries → All (λ e. IsFormula (allowed m) ClauseSide [] (form_tree m.bank e.clause.0)) n.resources.entries
+    → All (λ e. HasForm m.bank e.clause.0) n.resources.entries
+    → All (λ e. IsFormula (allowed m) ClauseSide [] (form_tree m.bank e.clause.0)) n.resources.entries
     → HasTop n.agenda n.top → All (HasItem m.bank (length n.resources.kept)) (items_of n) → All (IsGoalIn (allowed m) m.bank) (items_of n)
     → n.resources.next + n.left ≤ 2 ^ 25 → n.eigens + n.left ≤ 2 ^ 20 → Fits n
 fits_kept m n s f h y x c d t i g l e =
@@ -140,12 +142,14 @@ pub modules_later : (old new : Nodes) (ms : List Module) → Extends old new →
 modules_later old new [] k h = refl
 modules_later old new (m ∷ ms) k h =
     let e = clauses_later old new m.clauses.items k (All-head (λ (d : Module). HasClauses old d.clauses.items) m ms h) in
-    λ i. record { name = m.name; params = m.params; locals = m.locals; clauses = e i } ∷ modules_later old new ms k (All-tail (λ (d : Module). HasClauses old d.clauses.items) m ms h) i
+    λ i. record { name = m.name; params = m.params; locals = m.locals; clauses = e i }
+    ∷ modules_later old new ms k (All-tail (λ (d : Module). HasClauses old d.clauses.items) m ms h) i
 
 pub modules_has : (old new : Nodes) (ms : List Module) → Extends old new → HasModules old ms → HasModules new ms
 modules_has old new ms k h =
     All-weaker (λ (d : Module). HasClauses old d.clauses.items) (λ (d : Module). HasClauses new d.clauses.items)
-    (λ d g. All-weaker (λ (c : Clause). HasForm old c.form.0) (λ (c : Clause). HasForm new c.form.0) (λ c f. HasForm-extends k c.form.0 f) d.clauses.items g) ms h
+    (λ d g. All-weaker (λ (c : Clause). HasForm old c.form.0) (λ (c : Clause). HasForm new c.form.0) (λ c f. HasForm-extends k c.form.0 f) d.clauses.items g) ms
+    h
 
 -- ---- readings
 

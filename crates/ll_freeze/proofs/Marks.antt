@@ -14,7 +14,8 @@ use Rattle.ll_agenda.specs.Frames.{HasTop, items_at}
 use Rattle.ll_agenda.proofs.CallerLemmas.{Extends-cut}
 use Rattle.ll_store.specs.declared.cells.Cell.{Cell}
 use Rattle.ll_freeze.specs.Reading.{HasValue}
-use Rattle.ll_store.specs.Stored.{State, Stored, stored, state_of, IsBefore as IsStoreBefore, state_at, IsGood as IsGoodMark, KeepsMarks as KeepsStoreMarks, StandsFor as StoreStandsFor}
+use Rattle.ll_store.specs.Stored.{State, Stored, stored, state_of, IsBefore as IsStoreBefore, state_at, IsGood as IsGoodMark, KeepsMarks as KeepsStoreMarks}
+use Rattle.ll_store.specs.Stored.{StandsFor as StoreStandsFor}
 use Rattle.ll_store.specs.Tables.{table_of}
 use Rattle.ll_store.specs.declared.store.Mark.{Mark}
 use Rattle.ll_resources.specs.Resources.{Resources}
@@ -135,9 +136,12 @@ same_first : {A : Type 0} (k n : ℕ) (xs ys : List A) → ys ≡ take n xs → 
 same_first k n xs ys e l = ap (take k) e ∙ take-take k n xs l
 
 -- an earlier mark after the way back to a later one
-pub undone : (old new : Machine) (last k : ChoiceMark) → IsGood last old → IsBefore k last → IsGood k old → new.problem.now ≡ old.problem.now → new.modules.now ≡ old.modules.now
-    → StoreStandsFor k.store (state_at k.store (stored old.store)) (stored new.store) → ContextStandsFor k.context (context_at k.context old.context) new.context
-    → new.agenda ≡ take last.agenda old.agenda → new.terms.items ≡ take last.terms old.terms.items → new.steps.items ≡ take last.steps old.steps.items → StandsFor k (parts_at k old) new
+pub undone : (old new : Machine) (last k : ChoiceMark) → IsGood last old → IsBefore k last → IsGood k old → new.problem.now ≡ old.problem.now
+    → new.modules.now ≡ old.modules.now
+    → StoreStandsFor k.store (state_at k.store (stored old.store)) (stored new.store)
+    → ContextStandsFor k.context (context_at k.context old.context) new.context
+    → new.agenda ≡ take last.agenda old.agenda → new.terms.items ≡ take last.terms old.terms.items → new.steps.items ≡ take last.steps old.steps.items
+    → StandsFor k (parts_at k old) new
 undone old new last k l b g p ms s r a t st =
     record {
       good = record {
@@ -165,8 +169,10 @@ undone old new last k l b g p ms s r a t st =
     }
 
 -- the parts after the way back to a mark
-pub back_to : (old new : Machine) (k : ChoiceMark) → new.problem.now ≡ old.problem.now → new.modules.now ≡ old.modules.now → state_of (stored new.store) ≡ state_at k.store (stored old.store)
-    → new.context.present ≡ context_at k.context old.context → new.agenda ≡ take k.agenda old.agenda → new.top ≡ k.top → new.left ≡ k.left → new.eigens ≡ k.eigens
+pub back_to : (old new : Machine) (k : ChoiceMark) → new.problem.now ≡ old.problem.now → new.modules.now ≡ old.modules.now
+    → state_of (stored new.store) ≡ state_at k.store (stored old.store)
+    → new.context.present ≡ context_at k.context old.context → new.agenda ≡ take k.agenda old.agenda → new.top ≡ k.top → new.left ≡ k.left
+    → new.eigens ≡ k.eigens
     → new.terms.items ≡ take k.terms old.terms.items → new.steps.items ≡ take k.steps old.steps.items → parts_of new ≡ parts_at k old
 back_to old new k p ms s r a t l e ts st =
     λ i. record {
@@ -242,7 +248,8 @@ now_last k m h other g =
     }
 
 -- the cells of a machine name places of its bank
-pub cells_within : (nodes : Nodes) (cells : List Cell) → All (HasValue nodes) (map (λ (c : Cell). c.to) cells) → All (λ (c : Cell). IfSome c.to (λ at. HasTerm nodes at.0)) cells
+pub cells_within : (nodes : Nodes) (cells : List Cell) → All (HasValue nodes) (map (λ (c : Cell). c.to) cells)
+    → All (λ (c : Cell). IfSome c.to (λ at. HasTerm nodes at.0)) cells
 cells_within nodes [] h = All-nil (λ (c : Cell). IfSome c.to (λ at. HasTerm nodes at.0))
 cells_within nodes (c ∷ cells) h =
     All-cons (λ (d : Cell). IfSome d.to (λ at. HasTerm nodes at.0)) c cells (one c.to (All-head (HasValue nodes) c.to (map (λ (d : Cell). d.to) cells) h))

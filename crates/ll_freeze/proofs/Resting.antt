@@ -7,11 +7,13 @@ use Rattle.ll_laws.specs.declared.Candidate.{Candidate}
 use Rattle.ll_laws.specs.declared.Step.TheVariants.{Plain}
 use Rattle.ll_laws.specs.Leaf.{Leaf, Premise, ways, leaf, premise_goal}
 use Rattle.ll_laws.specs.Module.{ClauseTree, ModuleTree, Setting}
-use Rattle.ll_laws.specs.Settle.{Entry, Saved, Item, Goal, LolliEnd, ImpEnd, WithMiddle, WithEnd, BangEnd, Front, marks, remark, unlive, join, end_with, without_newest, settle_front}
+use Rattle.ll_laws.specs.Settle.{Entry, Saved, Item, Goal, LolliEnd, ImpEnd, WithMiddle, WithEnd, BangEnd, Front, marks, remark, unlive, join, end_with}
+use Rattle.ll_laws.specs.Settle.{without_newest, settle_front}
 use Rattle.ll_laws.specs.State.{State, front_of, settle, sub_item, sub_entry}
 use Rattle.ll_laws.specs.Unify.{Solved}
 use Rattle.ll_laws.specs.Number.{value_of, holds}
-use Rattle.ll_laws.specs.Attempt.{entry_at, vars_from, picked, instantiated, with_leaf, take_leaf, take_way, take_entry, stepped, take_side, load_module, take_value, attempt_goal, attempt_agenda, attempt}
+use Rattle.ll_laws.specs.Attempt.{entry_at, vars_from, picked, instantiated, with_leaf, take_leaf, take_way, take_entry, stepped, take_side, load_module}
+use Rattle.ll_laws.specs.Attempt.{take_value, attempt_goal, attempt_agenda, attempt}
 use Rattle.ll_laws.specs.Search.{program_entries}
 use Rattle.ll_laws.specs.Problem.{ProblemTree, start_of}
 use Rattle.ll_laws.specs.Valid.{ClauseSide, AreClauses, given}
@@ -79,18 +81,25 @@ module _ (cs : List ClauseTree) where
 
   -- ---- settling
 
-  settles : (a : List (Item Form)) (es : List (Entry Form)) (flag : Bool) (f : Front Form Form) → settle_front a es flag ≡ Some f → Rests a es → Rests f.agenda f.context
+  settles : (a : List (Item Form)) (es : List (Entry Form)) (flag : Bool) (f : Front Form Form) → settle_front a es flag ≡ Some f → Rests a es
+      → Rests f.agenda f.context
   settles [] es flag f e h = let q : record { agenda = []; context = es; flag = flag } ≡ f = cc in subst (λ (g : Front Form Form). Rests g.agenda g.context) q h
-  settles (Goal g ∷ rest) es flag f e h = let q : record { agenda = Goal g ∷ rest; context = es; flag = flag } ≡ f = cc in subst (λ (g : Front Form Form). Rests g.agenda g.context) q h
+  settles (Goal g ∷ rest) es flag f e h = let q : record { agenda = Goal g ∷ rest; context = es; flag = flag } ≡ f = cc in
+      subst (λ (g : Front Form Form). Rests g.agenda g.context) q h
   settles (LolliEnd saved ∷ rest) [] flag f e h = cc
   settles (LolliEnd saved ∷ rest) (d ∷ es) flag f e h = step (d.live && not flag) e (λ q. settles rest es (saved || flag) f q h)
     where
-      step : (b : Bool) → (if b then None else settle_front rest es (saved || flag)) ≡ Some f → (settle_front rest es (saved || flag) ≡ Some f → Rests f.agenda f.context) → Rests f.agenda f.context
+      step : (b : Bool) → (if b then None else settle_front rest es (saved || flag)) ≡ Some f
+          → (settle_front rest es (saved || flag) ≡ Some f → Rests f.agenda f.context) → Rests f.agenda f.context
       step true q go = cc
       step false q go = go q
   settles (ImpEnd ∷ rest) es flag f e h = settles rest (without_newest es) flag f e h
   settles (WithMiddle saved ∷ Goal g ∷ WithEnd kept half ∷ rest) es flag f e h =
-      let now : Front Form Form = record { agenda = Goal g ∷ WithEnd kept (record { live = marks es; flag = flag }) ∷ rest; context = remark es saved.live; flag = false } in
+      let now : Front Form Form = record {
+        agenda = Goal g ∷ WithEnd kept (record { live = marks es; flag = flag }) ∷ rest;
+        context = remark es saved.live;
+        flag = false;
+      } in
       let q : now ≡ f = cc in
       subst (λ (g : Front Form Form). Rests g.agenda g.context) q (remarked rest es (remark es saved.live) (by_remark es saved.live) h)
   settles (WithMiddle saved ∷ _) es flag f e h = cc
@@ -128,7 +137,8 @@ module _ (cs : List ClauseTree) where
   without-sub f [] = refl
   without-sub f (e ∷ es) = refl
 
-  under-sub : (f : ℕ → Term) (a : List (Item Form)) (es : List (Entry Form)) → under_loads (map (sub_item f) a) (map (sub_entry f) es) ≡ map (sub_entry f) (under_loads a es)
+  under-sub : (f : ℕ → Term) (a : List (Item Form)) (es : List (Entry Form))
+      → under_loads (map (sub_item f) a) (map (sub_entry f) es) ≡ map (sub_entry f) (under_loads a es)
   under-sub f [] es = refl
   under-sub f (Goal g ∷ rest) es = under-sub f rest es
   under-sub f (LolliEnd saved ∷ rest) es = ap (under_loads (map (sub_item f) rest)) (without-sub f es) ∙ under-sub f rest (without_newest es)
@@ -138,7 +148,8 @@ module _ (cs : List ClauseTree) where
   under-sub f (BangEnd saved ∷ rest) es = under-sub f rest es
 
 -- a program has no variables
-program-sub : (f : ℕ → Term) (names : ℕ) (ms : List ModuleTree) (n : ℕ) (cs : List ClauseTree) (es : List (Entry Form)) → AreClauses names ms [] cs → AreOfProgram n cs es
+program-sub : (f : ℕ → Term) (names : ℕ) (ms : List ModuleTree) (n : ℕ) (cs : List ClauseTree) (es : List (Entry Form)) → AreClauses names ms [] cs
+    → AreOfProgram n cs es
     → AreOfProgram n cs (map (sub_entry f) es)
 program-sub f names ms n [] [] v h = tt
 program-sub f names ms n [] (e ∷ es) v h = absurd h
@@ -179,23 +190,28 @@ module _ (names : ℕ) (ms : List ModuleTree) (cs : List ClauseTree) (v : AreCla
   atom-rests s t a rest label k None h e = cc
   atom-rests s t a rest label k (Some d) h e = way-rests s t a rest label k d (slice_get (ways d.clause) k) h e
 
-  value-rests : (s t : State) (u : Term) (rest : List (Item Form)) (o : Option ℤ) → AreOfProgram 0 cs (under_loads rest s.context) → take_value s u rest o ≡ Some t → On t
+  value-rests : (s t : State) (u : Term) (rest : List (Item Form)) (o : Option ℤ) → AreOfProgram 0 cs (under_loads rest s.context)
+      → take_value s u rest o ≡ Some t → On t
   value-rests s t u rest None h e = cc
   value-rests s t u rest (Some z) h e = solved (stepped s rest Plain) t _ h e
 
-  tested-rests : (s t : State) (rest : List (Item Form)) (b : Bool) → AreOfProgram 0 cs (under_loads rest s.context) → (if b then Some (stepped s rest Plain) else None) ≡ Some t → On t
+  tested-rests : (s t : State) (rest : List (Item Form)) (b : Bool) → AreOfProgram 0 cs (under_loads rest s.context)
+      → (if b then Some (stepped s rest Plain) else None) ≡ Some t → On t
   tested-rests s t rest true h e = done cs _ t e h
   tested-rests s t rest false h e = cc
 
-  module_rests : (s t : State) (rest : List (Item Form)) (ts : List Term) (g : Form) (o : Option ModuleTree) → AreOfProgram 0 cs (under_loads rest s.context) → load_module s rest ts g o ≡ Some t → On t
+  module_rests : (s t : State) (rest : List (Item Form)) (ts : List Term) (g : Form) (o : Option ModuleTree) → AreOfProgram 0 cs (under_loads rest s.context)
+      → load_module s rest ts g o ≡ Some t → On t
   module_rests s t rest ts g None h e = cc
   module_rests s t rest ts g (Some d) h e = done cs _ t e h
 
-  side-rests : (s t : State) (p q : Form) (rest : List (Item Form)) (k : ℕ) → AreOfProgram 0 cs (under_loads rest s.context) → Some (take_side k s p q rest) ≡ Some t → On t
+  side-rests : (s t : State) (p q : Form) (rest : List (Item Form)) (k : ℕ) → AreOfProgram 0 cs (under_loads rest s.context)
+      → Some (take_side k s p q rest) ≡ Some t → On t
   side-rests s t p q rest zero h e = done cs _ t e h
   side-rests s t p q rest (suc k) h e = done cs _ t e h
 
-  goal-rests : (m : Setting) (s t : State) (g : Form) (rest : List (Item Form)) (c : Candidate) → AreOfProgram 0 cs (under_loads rest s.context) → attempt_goal m s g rest c ≡ Some t → On t
+  goal-rests : (m : Setting) (s t : State) (g : Form) (rest : List (Item Form)) (c : Candidate) → AreOfProgram 0 cs (under_loads rest s.context)
+      → attempt_goal m s g rest c ≡ Some t → On t
   goal-rests m s t One rest c h e = done cs _ t e h
   goal-rests m s t Top rest c h e = done cs _ t e h
   goal-rests m s t (Tensor p q) rest c h e = done cs _ t e h
@@ -212,7 +228,8 @@ module _ (names : ℕ) (ms : List ModuleTree) (cs : List ClauseTree) (v : AreCla
   goal-rests m s t (Num Less a b) rest c h e = tested-rests s t rest (holds m.operators Less a b) h e
   goal-rests m s t (Num Most a b) rest c h e = tested-rests s t rest (holds m.operators Most a b) h e
 
-  agenda-rests : (m : Setting) (s t : State) (a : List (Item Form)) (c : Candidate) → AreOfProgram 0 cs (under_loads a s.context) → attempt_agenda m s a c ≡ Some t → On t
+  agenda-rests : (m : Setting) (s t : State) (a : List (Item Form)) (c : Candidate) → AreOfProgram 0 cs (under_loads a s.context)
+      → attempt_agenda m s a c ≡ Some t → On t
   agenda-rests m s t (Goal g ∷ rest) c h e = goal-rests m s t g rest c h e
   agenda-rests m s t _ c h e = cc
 

@@ -1,5 +1,6 @@
 -- The machine in which a search starts.
-use Rattle.std.proofs.Common.{◌≡◌, ℕ, zero, suc, ◌+◌, ◌≤◌, refl, ap, sym, ◌∙◌, subst, true, List, [], ◌∷◌, ◌++◌, map, length, replicate, arith, All, slice_index_or}
+use Rattle.std.proofs.Common.{◌≡◌, ℕ, zero, suc, ◌+◌, ◌≤◌, refl, ap, sym, ◌∙◌, subst, true, List, [], ◌∷◌, ◌++◌, map, length, replicate, arith, All}
+use Rattle.std.proofs.Common.{slice_index_or}
 use Rattle.std.proofs.lemmas.List.{map-append, length-map, length-replicate}
 use Rattle.std.proofs.lemmas.List.Elements.{All-nil, All-cons, All-head, All-tail, All-push, All-weaker}
 use Rattle.std.specs.Prelude.{Option, Some, None}
@@ -45,7 +46,8 @@ abbrev pub pairs : List Clause → List (Kind × FormAt)
 pairs cs = map pair_of cs
 
 -- one variable more
-pub variable_more : (old new : Nodes) (made more : List At) (at : At) (n : ℕ) → Extends old new → AllInTerms old made → term_trees old made ≡ vars_from 0 n → ShowsTerm new at.0 (Var n)
+pub variable_more : (old new : Nodes) (made more : List At) (at : At) (n : ℕ) → Extends old new → AllInTerms old made → term_trees old made ≡ vars_from 0 n
+    → ShowsTerm new at.0 (Var n)
     → more ≡ made ++ at ∷ [] → AllInTerms new more × (term_trees new more ≡ vars_from 0 (n + 1))
 variable_more old new made more at n k h v s e =
     let q : suc n ≡ n + 1 = omega arith in (
@@ -128,14 +130,17 @@ started_has P n (c ∷ cs) h =
     All-cons (λ (e : Entry FormAt). P e.clause) _ (entries_from (suc n) (pairs cs)) (All-head (λ (c : Clause). P c.form) c cs h)
     (started_has P (suc n) cs (All-tail (λ (c : Clause). P c.form) c cs h))
 
-clauses_sorted : (names : ℕ) (ms : List ModuleTree) (bank : Nodes) (more : Allowed) (cs : List Clause) → Grows (given ms 0) more → AreClauses names ms [] (map (clause_tree bank) cs)
+clauses_sorted : (names : ℕ) (ms : List ModuleTree) (bank : Nodes) (more : Allowed) (cs : List Clause) → Grows (given ms 0) more
+    → AreClauses names ms [] (map (clause_tree bank) cs)
     → All (λ (c : Clause). IsFormula more ClauseSide [] (form_tree bank c.form.0)) cs
 clauses_sorted names ms bank more [] g h = All-nil (λ (c : Clause). IsFormula more ClauseSide [] (form_tree bank c.form.0))
 clauses_sorted names ms bank more (c ∷ cs) g h =
-    All-cons (λ (c : Clause). IsFormula more ClauseSide [] (form_tree bank c.form.0)) c cs (formula-more (given ms 0) more ClauseSide (form_tree bank c.form.0) g h.0)
+    All-cons (λ (c : Clause). IsFormula more ClauseSide [] (form_tree bank c.form.0)) c cs
+    (formula-more (given ms 0) more ClauseSide (form_tree bank c.form.0) g h.0)
     (clauses_sorted names ms bank more cs g h.2)
 
-pub starts : (p : ProblemTree) (m : Parts) (goal : FormAt) (cs : List Clause) (n : ℕ) → IsValid p → m.problem ≡ p → form_tree m.bank goal.0 ≡ p.goal → HasForm m.bank goal.0
+pub starts : (p : ProblemTree) (m : Parts) (goal : FormAt) (cs : List Clause) (n : ℕ) → IsValid p → m.problem ≡ p → form_tree m.bank goal.0 ≡ p.goal
+    → HasForm m.bank goal.0
     → map (clause_tree m.bank) cs ≡ p.clauses → HasClauses m.bank cs → n ≡ length p.asked → m.bound ≡ replicate n None → m.levels ≡ replicate n 0
     → m.resources ≡ started (pairs cs) → ShowsItems m.agenda m.top (Goal goal ∷ []) → m.left ≡ p.bound → m.eigens ≡ 0
     → AllInTerms m.bank m.terms → term_trees m.bank m.terms ≡ vars_from 0 n → m.steps ≡ []
@@ -143,7 +148,8 @@ pub starts : (p : ProblemTree) (m : Parts) (goal : FormAt) (cs : List Clause) (n
 starts p m goal cs n v ep eg hg ec hc en eb el ex it left eigens inside vars es hm em =
     let bank = m.bank in let bound = m.bound in let xs : List (Kind × FormAt) = pairs cs in
     let r : m.resources ≡ started xs = ex in
-    let reads : (x : ℕ) → reading bank bound x ≡ Var x = λ x. ap (λ bs. reading bank bs x) eb ∙ followed-free bank (nones n) (length (nones n)) x (look_none n x) in
+    let reads : (x : ℕ) → reading bank bound x ≡ Var x = λ x. ap (λ bs. reading bank bs x) eb
+    ∙ followed-free bank (nones n) (length (nones n)) x (look_none n x) in
     let count : length m.levels ≡ n = ap (λ (ls : List ℕ). length ls) el ∙ length-replicate n 0 in
     let many : length xs ≡ length p.clauses =
     length-map cs pair_of ∙ (sym (length-map cs (clause_tree bank)) ∙ ap (λ (ks : List ClauseTree). length ks) ec) in
@@ -171,19 +177,23 @@ starts p m goal cs n v ep eg hg ec hc en eb el ex it left eigens inside vars es 
     }) in
     let may : Allowed = record { modules = p.modules; variables = length m.levels; eigens = m.eigens; opens = true } in
     let a : may ≡ allowed m = ap (λ (q : ProblemTree). record { modules = q.modules; variables = length m.levels; eigens = m.eigens; opens = true }) (sym ep) in
-    let cl : AreClauses (length p.names) p.modules [] (map (clause_tree bank) cs) = subst (λ (ks : List ClauseTree). AreClauses (length p.names) p.modules [] ks) (sym ec) v.clauses in
+    let cl : AreClauses (length p.names) p.modules [] (map (clause_tree bank) cs) =
+    subst (λ (ks : List ClauseTree). AreClauses (length p.names) p.modules [] ks) (sym ec) v.clauses in
     let low : 0 ≤ length m.levels = omega arith in let grows : Grows (given p.modules 0) may = grows_given p.modules 0 (length m.levels) m.eigens low in
     let gl : IsFormula may GoalSide [] (form_tree bank goal.0) =
     subst (λ (f : Form). IsFormula may GoalSide [] f) (sym eg)
-    (formula-more (given p.modules (length p.asked)) may GoalSide p.goal (grows_given p.modules (length p.asked) (length m.levels) m.eigens (omega (arith, count, en))) v.goal) in
+    (formula-more (given p.modules (length p.asked)) may GoalSide p.goal
+    (grows_given p.modules (length p.asked) (length m.levels) m.eigens (omega (arith, count, en))) v.goal) in
     record {
       problem = ep;
       state = state;
       left = left;
       fits = record {
         valid = rw ep v;
-        consistent = subst (λ (s : State). IsConsistent (setting m) s) (sym state) (subst (λ (q : ProblemTree). IsConsistent (setting_of q) (start_of p)) (sym ep) (starts_consistent p v));
-        rests = subst (λ (s : State). RestsOn m.problem.clauses s) (sym state) (subst (λ (q : ProblemTree). RestsOn q.clauses (start_of p)) (sym ep) (start_rests p));
+        consistent = subst (λ (s : State). IsConsistent (setting m) s) (sym state)
+            (subst (λ (q : ProblemTree). IsConsistent (setting_of q) (start_of p)) (sym ep) (starts_consistent p v));
+        rests = subst (λ (s : State). RestsOn m.problem.clauses s) (sym state)
+            (subst (λ (q : ProblemTree). RestsOn q.clauses (start_of p)) (sym ep) (start_rests p));
         count = ap (λ (bs : List (Option At)). length bs) eb ∙ (length-replicate n None ∙ sym count);
         bound = rw eb (none_bound bank n);
         ordered = nothing_ordered bank (table m) n eb;
@@ -197,7 +207,8 @@ starts p m goal cs n v ep eg hg ec hc en eb el ex it left eigens inside vars es 
             (clauses_sorted (length p.names) p.modules bank may cs grows cl)));
         sorted_goals =
             rw it.list
-            (All-cons (IsGoalIn (allowed m) bank) (Goal goal) [] (subst (λ (k : Allowed). IsFormula k GoalSide [] (form_tree bank goal.0)) a gl) (All-nil (IsGoalIn (allowed m) bank)));
+            (All-cons (IsGoalIn (allowed m) bank) (Goal goal) [] (subst (λ (k : Allowed). IsFormula k GoalSide [] (form_tree bank goal.0)) a gl)
+            (All-nil (IsGoalIn (allowed m) bank)));
         has_modules = hm;
         modules = em ∙ ap (λ (q : ProblemTree). q.modules) (sym ep);
         top = it.inside;
@@ -209,14 +220,16 @@ starts p m goal cs n v ep eg hg ec hc en eb el ex it left eigens inside vars es 
 
 -- ---- a bank with more places
 
-pub starts_in : (p : ProblemTree) (b : Nodes) (m : Parts) (goal : FormAt) (cs : List Clause) (n : ℕ) → IsValid p → m.problem ≡ p → Extends b m.bank → form_tree b goal.0 ≡ p.goal
+pub starts_in : (p : ProblemTree) (b : Nodes) (m : Parts) (goal : FormAt) (cs : List Clause) (n : ℕ) → IsValid p → m.problem ≡ p → Extends b m.bank
+    → form_tree b goal.0 ≡ p.goal
     → HasForm b goal.0 → map (clause_tree b) cs ≡ p.clauses → HasClauses b cs → n ≡ length p.asked → m.bound ≡ replicate n None → m.levels ≡ replicate n 0
     → m.resources ≡ started (pairs cs) → ShowsItems m.agenda m.top (Goal goal ∷ []) → m.left ≡ p.bound → m.eigens ≡ 0
     → AllInTerms m.bank m.terms → term_trees m.bank m.terms ≡ vars_from 0 n → m.steps ≡ []
     → (ms : List Module) → m.modules ≡ ms → HasModules b ms → map (module_tree b) ms ≡ p.modules → IsStart p m
 starts_in p b m goal cs n v ep k eg hg ec hc en eb el ex it left eigens inside vars es ms sm hm em =
     starts p m goal cs n v ep (form_tree-extends k goal.0 hg ∙ eg) (HasForm-extends k goal.0 hg) (clauses_later b m.bank cs k hc ∙ ec)
-    (All-weaker (λ (c : Clause). HasForm b c.form.0) (λ (c : Clause). HasForm m.bank c.form.0) (λ c h. HasForm-extends k c.form.0 h) cs hc) en eb el ex it left eigens inside vars es
+    (All-weaker (λ (c : Clause). HasForm b c.form.0) (λ (c : Clause). HasForm m.bank c.form.0) (λ c h. HasForm-extends k c.form.0 h) cs hc) en eb el ex it left
+    eigens inside vars es
     (rw sm (modules_has b m.bank ms k hm)) (ap (λ ds. map (module_tree m.bank) ds) sm ∙ (modules_later b m.bank ms k hm ∙ em))
 
 -- one cell more

@@ -67,9 +67,19 @@ item_code =
 abbrev pub state_code : Coded State
 state_code =
     code_by (List (Item Form) × (List (Entry Form) × (Bool × (List ℕ × (ℕ × (List Term × (ℕ × List Step)))))))
-    (coded× (coded_list item_code) (coded× (coded_list entry_code) (coded× coded_bool (coded× (coded_list coded_ℕ) (coded× coded_ℕ (coded× (coded_list coded_term) (coded× coded_ℕ (coded_list step.the_row.coded))))))))
+    (coded× (coded_list item_code) (coded× (coded_list entry_code)
+    (coded× coded_bool (coded× (coded_list coded_ℕ) (coded× coded_ℕ (coded× (coded_list coded_term) (coded× coded_ℕ (coded_list step.the_row.coded))))))))
     (λ s. (s.agenda, (s.context, (s.flag, (s.levels, (s.eigens, (s.terms, (s.label, s.steps))))))))
-    (λ p. record { agenda = p.0; context = p.1.0; flag = p.1.1.0; levels = p.1.1.1.0; eigens = p.1.1.1.1.0; terms = p.1.1.1.1.1.0; label = p.1.1.1.1.1.1.0; steps = p.1.1.1.1.1.1.1 })
+    (λ p. record {
+      agenda = p.0;
+      context = p.1.0;
+      flag = p.1.1.0;
+      levels = p.1.1.1.0;
+      eigens = p.1.1.1.1.0;
+      terms = p.1.1.1.1.1.0;
+      label = p.1.1.1.1.1.1.0;
+      steps = p.1.1.1.1.1.1.1;
+    })
     (λ _. refl)
 
 abbrev pub base_code : Coded Base
@@ -82,4 +92,5 @@ frozen_code =
     code_by (ProblemTree × (State × (ℕ × (List Candidate × (Bool × (Base × ℕ))))))
     (coded× problem_code (coded× state_code (coded× coded_ℕ (coded× (coded_list candidate.the_row.coded) (coded× coded_bool (coded× base_code coded_ℕ))))))
     (λ f. (f.problem, (f.state, (f.left, (f.untried, (f.starts, (f.base, f.depth)))))))
-    (λ p. record { problem = p.0; state = p.1.0; left = p.1.1.0; untried = p.1.1.1.0; starts = p.1.1.1.1.0; base = p.1.1.1.1.1.0; depth = p.1.1.1.1.1.1 }) (λ _. refl)
+    (λ p. record { problem = p.0; state = p.1.0; left = p.1.1.0; untried = p.1.1.1.0; starts = p.1.1.1.1.0; base = p.1.1.1.1.1.0; depth = p.1.1.1.1.1.1 })
+    (λ _. refl)

@@ -11,7 +11,8 @@ use Rattle.ll_resources.specs.Resources.{saved_at}
 use Rattle.ll_freeze.specs.Reading.{read_term, read_form}
 use Rattle.ll_freeze.specs.Parts.{Parts}
 use Rattle.ll_freeze.specs.declared.machine.Item.{Item as KeptItem}
-use Rattle.ll_freeze.specs.declared.machine.Item.TheVariants.{Goal as KeptGoal, LolliEnd as KeptLolliEnd, ImpEnd as KeptImpEnd, Mid as KeptMiddle, WithEnd as KeptWithEnd, BangEnd as KeptBangEnd}
+use Rattle.ll_freeze.specs.declared.machine.Item.TheVariants.{Goal as KeptGoal, LolliEnd as KeptLolliEnd, ImpEnd as KeptImpEnd, Mid as KeptMiddle}
+use Rattle.ll_freeze.specs.declared.machine.Item.TheVariants.{WithEnd as KeptWithEnd, BangEnd as KeptBangEnd}
 
 -- an item of an agenda, over what was kept of the context
 abbrev pub shown_item : Nodes → List (Option At) → List Saved → KeptItem → Item Form

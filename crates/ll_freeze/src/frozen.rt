@@ -52,7 +52,8 @@ impl<'p> Model for Frozen<'p> {
 
     ghost view = { λ f. sight_of (parts_with f.rest f.layers.state) f.untried.items f.starts f.layers.depth };
 
-    ghost invariant = { λ f. IsFrozen (parts_with f.rest f.layers.state) f.untried.items f.starts f.layers.depth × IsIndexed f.rest.problem.now f.index × (f.layers.depth ≤ 64) };
+    ghost invariant = { λ f. IsFrozen (parts_with f.rest f.layers.state) f.untried.items f.starts f.layers.depth × IsIndexed f.rest.problem.now f.index
+        × (f.layers.depth ≤ 64) };
 }
 
 impl<'p> Batch for Frozen<'p> {

@@ -96,7 +96,8 @@ filter-all P p (x ∷ xs) h = step (p x) (filter-all P p xs (All-tail P x xs h))
     step false k = k
 
 matches-label : (first : First) (a : Term) (e : Entry Form) → All (λ (c : Candidate). c.label ≡ e.label) (entry_matches first a e)
-matches-label first a e = filter-all (λ (c : Candidate). c.label ≡ e.label) (λ (c : Candidate). not (signs_clash first (leaf_first e.clause c.leaf))) (entry_tries a e) (by (is_open e))
+matches-label first a e = filter-all (λ (c : Candidate). c.label ≡ e.label) (λ (c : Candidate). not (signs_clash first (leaf_first e.clause c.leaf)))
+    (entry_tries a e) (by (is_open e))
   where
     by : (b : Bool) → All (λ (c : Candidate). c.label ≡ e.label) (if b then leaf_tries a e 0 (ways e.clause) else [])
     by true = tries-label a e 0 (ways e.clause)
@@ -114,13 +115,15 @@ filter-const true (x ∷ xs) = ap (λ ys. x ∷ ys) (filter-const true xs)
 filter-const false [] = refl
 filter-const false (x ∷ xs) = filter-const false xs
 
-labels-from : (first : First) (a : Term) (n : ℕ) (cs : List ClauseTree) → All (λ (c : Candidate). n ≤ c.label) (flat_map (entry_matches first a) (program_entries n cs))
+labels-from : (first : First) (a : Term) (n : ℕ) (cs : List ClauseTree)
+    → All (λ (c : Candidate). n ≤ c.label) (flat_map (entry_matches first a) (program_entries n cs))
 labels-from first a n [] = λ i d l. absurd (omega arith)
 labels-from first a n (c ∷ cs) =
     let e : Entry Form = record { label = n; kind = c.kind; live = is_linear c.kind; clause = c.form } in
     let h = matches-label first a e in
     let k = labels-from first a (suc n) cs in
-    All-append (λ (d : Candidate). n ≤ d.label) (entry_matches first a e) (flat_map (entry_matches first a) (program_entries (suc n) cs)) (λ i d l. let q = h i d l in omega arith)
+    All-append (λ (d : Candidate). n ≤ d.label) (entry_matches first a e) (flat_map (entry_matches first a) (program_entries (suc n) cs)) (λ i d l. let q =
+    h i d l in omega arith)
     (λ i d l. let q = k i d l in omega arith)
 
 -- entries with one label and one clause have one list of candidates
@@ -133,17 +136,20 @@ tries-same a e p k (n ∷ ns) l c =
 
 -- what an entry of the program has left
 entry-open : (first : First) (a : Term) (n : ℕ) (c : ClauseTree) (e : Entry Form) → e.label ≡ n → e.clause ≡ c.form
-    → entry_matches first a e ≡ (if is_open e then entry_matches first a (record { label = n; kind = c.kind; live = is_linear c.kind; clause = c.form }) else [])
+    → entry_matches first a e ≡ (if is_open e then entry_matches first a (record { label = n; kind = c.kind; live = is_linear c.kind; clause = c.form }) else
+    [])
 entry-open first a n c e l r = by (is_open e)
   where
     p : Entry Form
     p = record { label = n; kind = c.kind; live = is_linear c.kind; clause = c.form }
 
-    by : (b : Bool) → filter (λ d. not (signs_clash first (leaf_first e.clause d.leaf))) (if b then leaf_tries a e 0 (ways e.clause) else []) ≡ (if b then entry_matches first a p else [])
+    by : (b : Bool) → filter (λ d. not (signs_clash first (leaf_first e.clause d.leaf))) (if b then leaf_tries a e 0 (ways e.clause) else [])
+        ≡ (if b then entry_matches first a p else [])
     by true =
         ap (λ f. filter (λ d. not (signs_clash first (leaf_first f d.leaf))) (leaf_tries a e 0 (ways f))) r
         ∙ (ap (filter (λ d. not (signs_clash first (leaf_first c.form d.leaf)))) (tries-same a e p 0 (ways c.form) l r)
-        ∙ ap (λ (b : Bool). filter (λ d. not (signs_clash first (leaf_first c.form d.leaf))) (if b then leaf_tries a p 0 (ways c.form) else [])) (sym (open_first c.kind)))
+        ∙ ap (λ (b : Bool). filter (λ d. not (signs_clash first (leaf_first c.form d.leaf))) (if b then leaf_tries a p 0 (ways c.form) else []))
+        (sym (open_first c.kind)))
     by false = refl
 
 open_own : (e : Entry Form) (es : List (Entry Form)) (m : ℕ) → e.label ≡ m → is_open_at (e ∷ es) m ≡ is_open e

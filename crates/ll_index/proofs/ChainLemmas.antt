@@ -1,5 +1,6 @@
 -- Chains of the places of keys, and what is linked behind two places.
-use Rattle.std.proofs.Common.{inl, inr, ◌≡◌, ◌<◌, ◌≤◌, ℕ, zero, suc, ◌+◌, Bool, true, false, List, [], ◌∷◌, length, drop, refl, ap, sym, subst, ◌∙◌, arith, nat_eq, add-one}
+use Rattle.std.proofs.Common.{inl, inr, ◌≡◌, ◌<◌, ◌≤◌, ℕ, zero, suc, ◌+◌, Bool, true, false, List, [], ◌∷◌, length, drop, refl, ap, sym, subst, ◌∙◌, arith}
+use Rattle.std.proofs.Common.{nat_eq, add-one}
 use Rattle.std.specs.Prelude.{◌||◌, if◌then◌else◌, slice_index, slice_index_or, slice_set, slice_get, Option, Some, unwrap_or, min, cond}
 use Rattle.std.proofs.lemmas.Bool.{eq-eqb, ne_eqb, cases_lt, or_left, or_right}
 use Rattle.std.proofs.lemmas.List.{drop-set}
@@ -36,7 +37,8 @@ module _ {K : Type 0} (eq : K → K → Bool) where
   length-links i (k ∷ ks) = ap (λ n. suc n) (length-links (suc i) ks)
 
   -- each link leads on, and not past the end
-  links-rise : (i : ℕ) (ks : List K) (at : ℕ) → at < length ks → (i + at < slice_index (links_from eq i ks) at) × (slice_index (links_from eq i ks) at ≤ i + length ks)
+  links-rise : (i : ℕ) (ks : List K) (at : ℕ) → at < length ks
+      → (i + at < slice_index (links_from eq i ks) at) × (slice_index (links_from eq i ks) at ≤ i + length ks)
   links-rise i [] at h = absurd (omega arith)
   links-rise i (k ∷ ks) zero h = let a = first_from-from (suc i) ks k in let b = first_from-to (suc i) ks k in (omega arith, omega arith)
   links-rise i (k ∷ ks) (suc at) h = let w = links-rise (suc i) ks at (omega arith) in let a = w.0 in let b = w.1 in (omega arith, omega arith)
@@ -54,7 +56,8 @@ pointed i p q = nat_eq p i || nat_eq q i
 
 module _ {A : Type 0} where
   -- an item at neither place is passed
-  linked-pass : (i : ℕ) (x : A) (xs : List A) (n : ℕ) (ns : List ℕ) (p q : ℕ) → i < p → i < q → linked_from i (x ∷ xs) (n ∷ ns) p q ≡ linked_from (suc i) xs ns p q
+  linked-pass : (i : ℕ) (x : A) (xs : List A) (n : ℕ) (ns : List ℕ) (p q : ℕ) → i < p → i < q
+      → linked_from i (x ∷ xs) (n ∷ ns) p q ≡ linked_from (suc i) xs ns p q
   linked-pass i x xs n ns p q l m =
       ap (λ b. if b || nat_eq q i then x ∷ linked_from (suc i) xs ns (behind i n p) (behind i n q) else linked_from (suc i) xs ns p q) (elsewhere p i l)
       ∙ ap (λ b. if b then x ∷ linked_from (suc i) xs ns (behind i n p) (behind i n q) else linked_from (suc i) xs ns p q) (elsewhere q i m)
@@ -79,7 +82,8 @@ min-at i p q l m e = elim (cases_lt i p) [
 ]
 
 module _ {A : Type 0} where
-  linked-next-from : (i : ℕ) (xs : List A) (ns : List ℕ) (p q k : ℕ) (x : A) (n : ℕ) → i ≤ p → i ≤ q → min p q ≡ i + k → slice_get xs k ≡ Some x → slice_get ns k ≡ Some n → i + k < n
+  linked-next-from : (i : ℕ) (xs : List A) (ns : List ℕ) (p q k : ℕ) (x : A) (n : ℕ) → i ≤ p → i ≤ q → min p q ≡ i + k → slice_get xs k ≡ Some x
+      → slice_get ns k ≡ Some n → i + k < n
       → linked_from i xs ns p q ≡ x ∷ linked_from i xs ns (behind (i + k) n p) (behind (i + k) n q)
   linked-next-from i [] ns p q k x n l m e g h r = cc
   linked-next-from i (y ∷ xs) [] p q k x n l m e g h r = cc
@@ -124,7 +128,8 @@ module _ {A : Type 0} where
   linked-none-from : (i : ℕ) (xs : List A) (ns : List ℕ) (p q : ℕ) → i + length xs ≤ p → i + length xs ≤ q → linked_from i xs ns p q ≡ []
   linked-none-from i [] ns p q l m = refl
   linked-none-from i (x ∷ xs) [] p q l m = refl
-  linked-none-from i (x ∷ xs) (n ∷ ns) p q l m = linked-pass i x xs n ns p q (omega arith) (omega arith) ∙ linked-none-from (suc i) xs ns p q (omega arith) (omega arith)
+  linked-none-from i (x ∷ xs) (n ∷ ns) p q l m = linked-pass i x xs n ns p q (omega arith) (omega arith)
+      ∙ linked-none-from (suc i) xs ns p q (omega arith) (omega arith)
 
   -- past the end there is nothing
   pub linked-none : (xs : List A) (ns : List ℕ) (p q : ℕ) → length xs ≤ min p q → linked_from 0 xs ns p q ≡ []
@@ -151,7 +156,8 @@ module _ {K : Type 0} (eq : K → K → Bool) (same : (x y : K) → eq x y ≡ t
       let t : nat_eq (first_from eq i (k ∷ ks) key) i ≡ false = elsewhere (first_from eq i (k ∷ ks) key) i (omega arith) in
       (t, ap (λ (b : Bool). if b then first_from eq (suc i) ks k else first_from eq i (k ∷ ks) key) t ∙ at)
 
-  linked-kept-from : {A : Type 0} (i : ℕ) (ks : List K) (xs : List A) (key other : K) → length ks ≡ length xs → linked_from i xs (links_from eq i ks) (first_from eq i ks key) (first_from eq i ks other) ≡ kept eq key other ks xs
+  linked-kept-from : {A : Type 0} (i : ℕ) (ks : List K) (xs : List A) (key other : K) → length ks ≡ length xs
+      → linked_from i xs (links_from eq i ks) (first_from eq i ks key) (first_from eq i ks other) ≡ kept eq key other ks xs
   linked-kept-from i [] [] key other l = refl
   linked-kept-from i [] (x ∷ xs) key other l = absurd (omega arith)
   linked-kept-from i (k ∷ ks) [] key other l = absurd (omega arith)
@@ -181,28 +187,34 @@ module _ {K : Type 0} (eq : K → K → Bool) (same : (x y : K) → eq x y ≡ t
 
       by : (b d : Bool) → eq k key ≡ b → eq k other ≡ d → behind i n p ≡ first_from eq (suc i) ks key → behind i n q ≡ first_from eq (suc i) ks other
           → linked_from (suc i) xs ls (first_from eq (suc i) ks key) (first_from eq (suc i) ks other) ≡ kept eq key other ks xs
-          → (if b || d then x ∷ linked_from (suc i) xs ls (behind i n p) (behind i n q) else linked_from (suc i) xs ls p q) ≡ (if b || d then x ∷ kept eq key other ks xs else kept eq key other ks xs)
-      by true d e f g h r = ap (λ v. x ∷ linked_from (suc i) xs ls v (behind i n q)) g ∙ (ap (λ v. x ∷ linked_from (suc i) xs ls (first_from eq (suc i) ks key) v) h ∙ ap (λ v. x ∷ v) r)
-      by false true e f g h r = ap (λ v. x ∷ linked_from (suc i) xs ls v (behind i n q)) g ∙ (ap (λ v. x ∷ linked_from (suc i) xs ls (first_from eq (suc i) ks key) v) h ∙ ap (λ v. x ∷ v) r)
+          → (if b || d then x ∷ linked_from (suc i) xs ls (behind i n p) (behind i n q) else linked_from (suc i) xs ls p q)
+          ≡ (if b || d then x ∷ kept eq key other ks xs else kept eq key other ks xs)
+      by true d e f g h r = ap (λ v. x ∷ linked_from (suc i) xs ls v (behind i n q)) g
+          ∙ (ap (λ v. x ∷ linked_from (suc i) xs ls (first_from eq (suc i) ks key) v) h ∙ ap (λ v. x ∷ v) r)
+      by false true e f g h r = ap (λ v. x ∷ linked_from (suc i) xs ls v (behind i n q)) g
+          ∙ (ap (λ v. x ∷ linked_from (suc i) xs ls (first_from eq (suc i) ks key) v) h ∙ ap (λ v. x ∷ v) r)
       by false false e f g h r =
           let a : p ≡ first_from eq (suc i) ks key = ap (λ (b : Bool). if b then i else first_from eq (suc i) ks key) e in
           let b : q ≡ first_from eq (suc i) ks other = ap (λ (b : Bool). if b then i else first_from eq (suc i) ks other) f in
           ap (λ v. linked_from (suc i) xs ls v q) a ∙ (ap (λ v. linked_from (suc i) xs ls (first_from eq (suc i) ks key) v) b ∙ r)
 
   -- the items of two keys, in order
-  pub linked-kept : {A : Type 0} (ks : List K) (xs : List A) (key other : K) → length ks ≡ length xs → linked_from 0 xs (links_from eq 0 ks) (first_from eq 0 ks key) (first_from eq 0 ks other) ≡ kept eq key other ks xs
+  pub linked-kept : {A : Type 0} (ks : List K) (xs : List A) (key other : K) → length ks ≡ length xs
+      → linked_from 0 xs (links_from eq 0 ks) (first_from eq 0 ks key) (first_from eq 0 ks other) ≡ kept eq key other ks xs
   linked-kept ks xs key other l = linked-kept-from 0 ks xs key other l
 
 -- ---- chains that are built from their end
 
-module _ {K : Type 0} (eq : K → K → Bool) (keys : List K) (next : List ℕ) (at i n : ℕ) (key d : K) (one : at ≡ suc i) (inside : i < length keys) (read : slice_index_or keys i d ≡ key)
+module _ {K : Type 0} (eq : K → K → Bool) (keys : List K) (next : List ℕ) (at i n : ℕ) (key d : K) (one : at ≡ suc i) (inside : i < length keys)
+    (read : slice_index_or keys i d ≡ key)
     (old new : K → Option ℕ) (updates : (q : K) → new q ≡ cond (eq key q) (Some i) (old q))
     (first : (q : K) → unwrap_or (old q) n ≡ first_from eq at (drop at keys) q) where
   front : drop i keys ≡ key ∷ drop at keys
   front = drop-cons keys i d inside ∙ (ap (λ k. k ∷ drop (suc i) keys) read ∙ ap (λ k. key ∷ drop k keys) (sym one))
 
   -- one link more
-  pub links-step : length next ≡ length keys → drop at next ≡ links_from eq at (drop at keys) → drop i (slice_set next i (unwrap_or (old key) n)) ≡ links_from eq i (drop i keys)
+  pub links-step : length next ≡ length keys → drop at next ≡ links_from eq at (drop at keys)
+      → drop i (slice_set next i (unwrap_or (old key) n)) ≡ links_from eq i (drop i keys)
   links-step size links =
       drop-set next i (unwrap_or (old key) n) (omega arith)
       ∙ (ap (λ k. unwrap_or (old key) n ∷ drop k next) (add-one i)

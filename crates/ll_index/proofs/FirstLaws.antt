@@ -15,11 +15,13 @@ use Rattle.ll_laws.specs.Module.{Setting}
 use Rattle.ll_laws.specs.Settle.{Entry, Item, Goal}
 use Rattle.ll_laws.specs.State.{State}
 use Rattle.ll_laws.specs.Leaf.{Leaf, leaf, ways}
-use Rattle.ll_laws.specs.Attempt.{entry_at, entry_tries, leaf_tries, is_open, leaf_head, fits_head, vars_from, instantiated, with_leaf, take_leaf, take_way, take_entry, attempt, attempt_agenda}
+use Rattle.ll_laws.specs.Attempt.{entry_at, entry_tries, leaf_tries, is_open, leaf_head, fits_head, vars_from, instantiated, with_leaf, take_leaf, take_way}
+use Rattle.ll_laws.specs.Attempt.{take_entry, attempt, attempt_agenda}
 use Rattle.ll_index.specs.declared.laws.First.{First}
 use Rattle.ll_index.specs.declared.laws.First.TheVariants.{Open, Int as IntSign, Head as NameSign}
 use Rattle.ll_index.specs.Standing.{env_under}
-use Rattle.ll_index.specs.First.{name_sign, sign_of, sign_if_some, first_argument, first_of, signs_clash, first_if_leaf, leaf_first, ClashesDiffer, ClashesGiveNothing}
+use Rattle.ll_index.specs.First.{name_sign, sign_of, sign_if_some, first_argument, first_of, signs_clash, first_if_leaf, leaf_first, ClashesDiffer}
+use Rattle.ll_index.specs.First.{ClashesGiveNothing}
 use Rattle.ll_index.proofs.StandingLaws.{stands_as}
 
 -- ---- signs that clash
@@ -33,7 +35,14 @@ record AreApart (o p : Option Head) (k j : ℕ) : Type 0 where
   differ : (nat_eq left right && nat_eq k j) ≡ false
 
 names_apart : (o p : Option Head) (k j : ℕ) → signs_clash (name_sign o k) (name_sign p j) ≡ true → AreApart o p k j
-names_apart (Some (Name m)) (Some (Name n)) k j h = record { left = m; right = n; left_is = refl; right_is = refl; differ = not-true (nat_eq m n && nat_eq k j) h }
+names_apart (Some (Name m)) (Some (Name n)) k j h = record {
+  left = m;
+  right = n;
+  left_is = refl;
+  right_is = refl;
+  differ =
+      not-true (nat_eq m n && nat_eq k j) h;
+}
 names_apart (Some (Name m)) (Some (Eigen n)) k j h = cc
 names_apart (Some (Name m)) (Some (Bound n)) k j h = cc
 names_apart (Some (Name m)) None k j h = cc
@@ -46,7 +55,8 @@ and-true true = refl
 and-true false = refl
 
 -- terms that apply names that are apart differ at once
-apart-differ : (f g : Term) (m n : ℕ) → head_of f ≡ Some (Name m) → head_of g ≡ Some (Name n) → (nat_eq m n && nat_eq (arity f) (arity g)) ≡ false → diff f g ≡ Clash
+apart-differ : (f g : Term) (m n : ℕ) → head_of f ≡ Some (Name m) → head_of g ≡ Some (Name n) → (nat_eq m n && nat_eq (arity f) (arity g)) ≡ false
+    → diff f g ≡ Clash
 apart-differ (Con h) (Con k) m n p q d =
     let a : h ≡ Name m = cc in
     let b : k ≡ Name n = cc in
@@ -124,7 +134,8 @@ clash-solve zero a b levels h = ap (λ d. resolve d levels (λ v. None)) h
 clash-solve (suc n) a b levels h =
     ap (λ d. resolve d levels (λ v. solve n (map (sub (bound_to v.var v.value)) (a ∷ [])) (map (sub (bound_to v.var v.value)) (b ∷ [])) v.levels)) h
 
-clash-mgu : (a b : Term) (levels : List ℕ) → same_head (head_of a) (head_of b) ≡ true → signs_clash (first_of a) (first_of b) ≡ true → mgu (a ∷ []) (b ∷ []) levels ≡ None
+clash-mgu : (a b : Term) (levels : List ℕ) → same_head (head_of a) (head_of b) ≡ true → signs_clash (first_of a) (first_of b) ≡ true
+    → mgu (a ∷ []) (b ∷ []) levels ≡ None
 unfolding mgu
 clash-mgu a b levels s c = clash-solve (length levels) a b levels (ap (λ d. and_then d Same) (first-differ a b s c))
 
@@ -217,7 +228,8 @@ module _ (e d : Env) (alike : Alike e d) where
 -- ---- candidates
 
 -- a leaf whose head has the atom's predicate, opened as it is tested and as it is taken
-module _ (s : State) (a : Term) (rest : List (Item Form)) (e : Entry Form) (k n : ℕ) (way : slice_get (ways e.clause) k ≡ Some n) (fits : fits_head a (leaf_head e.clause k n) ≡ true)
+module _ (s : State) (a : Term) (rest : List (Item Form)) (e : Entry Form) (k n : ℕ) (way : slice_get (ways e.clause) k ≡ Some n)
+    (fits : fits_head a (leaf_head e.clause k n) ≡ true)
     (clash : signs_clash (first_of a) (leaf_first e.clause k) ≡ true) where
   tested : (o : Option Leaf) → leaf e.clause k (vars_from 0 n) ≡ o → (x : Leaf) × (leaf e.clause k (vars_from 0 n) ≡ Some x) × (same_predicate a x.head ≡ true)
   tested None h = let z : false ≡ true = ap (λ o. fits_head a (option_map (λ l. l.head) o)) (sym h) ∙ fits in cc
@@ -233,26 +245,32 @@ module _ (s : State) (a : Term) (rest : List (Item Form)) (e : Entry Form) (k n 
       let alike = alike_under [] [] 0 (length s.levels) n no_env in
       let alike_back = alike_under [] [] (length s.levels) 0 n no_env in
       let head : head_of t.0.head ≡ head_of l.head =
-      ap (λ z. head_of z.head) x.is ∙ (close-heads _ _ alike x.standing.head ∙ (ap (λ z. head_of (close (env_under [] (vars_from (length s.levels) n)) z.head)) one ∙ ap (λ z. head_of z.head) (sym y.is))) in
+      ap (λ z. head_of z.head) x.is ∙ (close-heads _ _ alike x.standing.head
+      ∙ (ap (λ z. head_of (close (env_under [] (vars_from (length s.levels) n)) z.head)) one ∙ ap (λ z. head_of z.head) (sym y.is))) in
       let same : same_head (head_of a) (head_of l.head) ≡ true =
       ap (same_head (head_of a)) (sym head) ∙ and_left (same_head (head_of a) (head_of t.0.head)) (nat_eq (arity a) (arity t.0.head)) t.2 in
-      let first : first_of l.head ≡ leaf_first e.clause k = ap (λ z. first_of z.head) y.is ∙ (close-first _ _ alike_back y.standing.head ∙ ap first_if_leaf (sym y.at)) in
+      let first : first_of l.head ≡ leaf_first e.clause k = ap (λ z. first_of z.head) y.is
+      ∙ (close-first _ _ alike_back y.standing.head ∙ ap first_if_leaf (sym y.at)) in
       ap (option_map (instantiated (with_leaf s rest e.label k n l)))
       (clash-mgu a l.head (s.levels ++ replicate n s.eigens) same (ap (signs_clash (first_of a)) first ∙ clash))
 
   no_entry_taken : take_entry s a rest e.label k e ≡ None
   no_entry_taken = ap (option_and_then (take_way s a rest e.label k e)) way ∙ no_leaf_taken (leaf e.clause k (vars_from (length s.levels) n)) refl
 
-module _ (m : Setting) (s : State) (a : Term) (rest : List (Item Form)) (e : Entry Form) (goal : s.agenda ≡ Goal (Atom a) ∷ rest) (here : entry_at s.context e.label ≡ Some e) where
+module _ (m : Setting) (s : State) (a : Term) (rest : List (Item Form)) (e : Entry Form) (goal : s.agenda ≡ Goal (Atom a) ∷ rest)
+    (here : entry_at s.context e.label ≡ Some e) where
   GivesNothing : Candidate → Type 0
   GivesNothing c = signs_clash (first_of a) (leaf_first e.clause c.leaf) ≡ true → attempt m s c ≡ None
 
-  gives_nothing : (k n : ℕ) → slice_get (ways e.clause) k ≡ Some n → fits_head a (leaf_head e.clause k n) ≡ true → GivesNothing (record { label = e.label; leaf = k })
+  gives_nothing : (k n : ℕ) → slice_get (ways e.clause) k ≡ Some n → fits_head a (leaf_head e.clause k n) ≡ true
+      → GivesNothing (record { label = e.label; leaf = k })
   unfolding attempt GivesNothing
   gives_nothing k n way fits clash =
-      ap (λ g. attempt_agenda m s g (record { label = e.label; leaf = k })) goal ∙ (ap (option_and_then (take_entry s a rest e.label k)) here ∙ no_entry_taken s a rest e k n way fits clash)
+      ap (λ g. attempt_agenda m s g (record { label = e.label; leaf = k })) goal
+      ∙ (ap (option_and_then (take_entry s a rest e.label k)) here ∙ no_entry_taken s a rest e k n way fits clash)
 
-  tries_give_nothing : (k : ℕ) (ns : List ℕ) → ((j n : ℕ) → slice_get ns j ≡ Some n → slice_get (ways e.clause) (k + j) ≡ Some n) → All GivesNothing (leaf_tries a e k ns)
+  tries_give_nothing : (k : ℕ) (ns : List ℕ) → ((j n : ℕ) → slice_get ns j ≡ Some n → slice_get (ways e.clause) (k + j) ≡ Some n)
+      → All GivesNothing (leaf_tries a e k ns)
   tries_give_nothing k [] at = λ i d l. absurd (omega arith)
   tries_give_nothing k (n ∷ ns) at =
       step (fits_head a (leaf_head e.clause k n)) refl
@@ -260,7 +278,8 @@ module _ (m : Setting) (s : State) (a : Term) (rest : List (Item Form)) (e : Ent
     where
       step : (b : Bool) → fits_head a (leaf_head e.clause k n) ≡ b → All GivesNothing (leaf_tries a e (suc k) ns)
           → All GivesNothing (if b then record { label = e.label; leaf = k } ∷ leaf_tries a e (suc k) ns else leaf_tries a e (suc k) ns)
-      step true f h = All-cons GivesNothing _ _ (gives_nothing k n (let q : k + 0 ≡ k = omega arith in ap (slice_get (ways e.clause)) (sym q) ∙ at 0 n refl) f) h
+      step true f h = All-cons GivesNothing _ _ (gives_nothing k n (let q : k + 0 ≡ k = omega arith in ap (slice_get (ways e.clause)) (sym q) ∙ at 0 n refl) f)
+          h
       step false f h = h
 
   entry_gives_nothing : All GivesNothing (entry_tries a e)

@@ -38,16 +38,20 @@ module _ (nodes : Nodes) (program : List ClauseTree) (x : Index) (is : IsIndex n
   chained false = is.predicates
 
   -- the leaves that can match an atom
-  pub candidates-left : (a : Term) (name arguments end : ℕ) (first : First) (c : Cursor) → head_of a ≡ Some (Name name) → arity a ≡ arguments → FoundBySign c.by_sign first → end ≡ length x.leaves.items
-      → c.first ≡ first_place (chains_of x c.by_sign) (Named name arguments first) end → c.second ≡ first_place (chains_of x c.by_sign) (Named name arguments Open) end
+  pub candidates-left : (a : Term) (name arguments end : ℕ) (first : First) (c : Cursor) → head_of a ≡ Some (Name name) → arity a ≡ arguments
+      → FoundBySign c.by_sign first → end ≡ length x.leaves.items
+      → c.first ≡ first_place (chains_of x c.by_sign) (Named name arguments first) end
+      → c.second ≡ first_place (chains_of x c.by_sign) (Named name arguments Open) end
       → map (λ l. l.candidate) (left x c) ≡ program_matches first a program
   candidates-left a name arguments end first c head count found last p q =
       let keys = leaf_keys nodes c.by_sign x.leaves.items in
       let ch = chained c.by_sign in
       let sizes : length keys ≡ length x.leaves.items = length-map x.leaves.items _ in
       let all : end ≡ length keys = last ∙ sym sizes in
-      let p' : c.first ≡ first_from key_eq 0 keys (Named name arguments first) = p ∙ (ap (first_place (chains_of x c.by_sign) (Named name arguments first)) all ∙ ch.first (Named name arguments first)) in
-      let q' : c.second ≡ first_from key_eq 0 keys (Named name arguments Open) = q ∙ (ap (first_place (chains_of x c.by_sign) (Named name arguments Open)) all ∙ ch.first (Named name arguments Open)) in
+      let p' : c.first ≡ first_from key_eq 0 keys (Named name arguments first) =
+      p ∙ (ap (first_place (chains_of x c.by_sign) (Named name arguments first)) all ∙ ch.first (Named name arguments first)) in
+      let q' : c.second ≡ first_from key_eq 0 keys (Named name arguments Open) =
+      q ∙ (ap (first_place (chains_of x c.by_sign) (Named name arguments Open)) all ∙ ch.first (Named name arguments Open)) in
       ap (λ ns. map (λ l. l.candidate) (linked_from 0 x.leaves.items ns c.first c.second)) ch.next
       ∙ (ap (λ i. map (λ l. l.candidate) (linked_from 0 x.leaves.items (links_from key_eq 0 keys) i c.second)) p'
       ∙ (ap (λ i. map (λ l. l.candidate) (linked_from 0 x.leaves.items (links_from key_eq 0 keys) (first_from key_eq 0 keys (Named name arguments first)) i)) q'
@@ -83,8 +87,10 @@ module _ (x : Index) (c : Cursor) (place : ℕ) (is : place ≡ min c.first c.se
   next-none h = linked-none x.leaves.items (chains_of x c.by_sign).next.items c.first c.second (omega arith)
 
   -- and otherwise the leaf at the lesser place
-  pub next-left : (l : Leaf) (n first second : ℕ) → place < length x.leaves.items → l ≡ slice_index_or x.leaves.items place l → n ≡ slice_index_or (chains_of x c.by_sign).next.items place n
-      → first ≡ behind place n c.first → second ≡ behind place n c.second → left x c ≡ l ∷ left x (record { by_sign = c.by_sign; first = first; second = second })
+  pub next-left : (l : Leaf) (n first second : ℕ) → place < length x.leaves.items → l ≡ slice_index_or x.leaves.items place l
+      → n ≡ slice_index_or (chains_of x c.by_sign).next.items place n
+      → first ≡ behind place n c.first → second ≡ behind place n c.second
+      → left x c ≡ l ∷ left x (record { by_sign = c.by_sign; first = first; second = second })
   next-left l n first second inside leaf link f s =
       let ns = (chains_of x c.by_sign).next.items in
       let same = even c.by_sign in
@@ -102,5 +108,6 @@ module _ (x : Index) (c : Cursor) (place : ℕ) (is : place ≡ min c.first c.se
       get_or-same (x ∷ xs) (suc i) d h = get_or-same xs i d (omega arith)
 
 -- there is a link for each leaf
-pub length-next : (nodes : Nodes) (by_sign : Bool) (ls items : List Leaf) (ch : Chains) → IsChained (leaf_keys nodes by_sign ls) ch → ls ≡ items → length ch.next.items ≡ length items
+pub length-next : (nodes : Nodes) (by_sign : Bool) (ls items : List Leaf) (ch : Chains) → IsChained (leaf_keys nodes by_sign ls) ch → ls ≡ items
+    → length ch.next.items ≡ length items
 length-next nodes by_sign ls items ch is e = ap length is.next ∙ (length-links key_eq 0 (leaf_keys nodes by_sign ls) ∙ (length-map ls _ ∙ ap length e))

@@ -37,7 +37,8 @@ key_of-app nodes t h args by_sign e =
 
 sign_of-apply : (f a : Term) (ts : List Term) → sign_of (apply (Ap f a) ts) ≡ name_sign (head_of f) (suc (arity f + length ts))
 sign_of-apply f a [] = let e : suc (arity f) ≡ suc (arity f + 0) = omega arith in ap (name_sign (head_of f)) e
-sign_of-apply f a (t ∷ ts) = sign_of-apply (Ap f a) t ts ∙ ap (name_sign (head_of f)) (let e : suc (suc (arity f) + length ts) ≡ suc (arity f + suc (length ts)) = omega arith in e)
+sign_of-apply f a (t ∷ ts) = sign_of-apply (Ap f a) t ts ∙ ap (name_sign (head_of f))
+    (let e : suc (suc (arity f) + length ts) ≡ suc (arity f + suc (length ts)) = omega arith in e)
 
 sign_of-app : (h : Head) (ts : List Term) → sign_of (app h ts) ≡ name_sign (Some h) (length ts)
 sign_of-app h [] = refl

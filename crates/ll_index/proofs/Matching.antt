@@ -1,5 +1,6 @@
 -- What a cursor lists, against the candidates of the search.
-use Rattle.std.proofs.Common.{◌≡◌, ◌≢◌, inl, inr, ℕ, zero, suc, ◌+◌, ◌-◌, Bool, true, false, List, [], ◌∷◌, ◌++◌, length, map, filter, refl, ap, sym, ◌∙◌, arith, nat_eq}
+use Rattle.std.proofs.Common.{◌≡◌, ◌≢◌, inl, inr, ℕ, zero, suc, ◌+◌, ◌-◌, Bool, true, false, List, [], ◌∷◌, ◌++◌, length, map, filter, refl, ap, sym, ◌∙◌}
+use Rattle.std.proofs.Common.{arith, nat_eq}
 use Rattle.std.specs.Prelude.{◌||◌, ◌&&◌, not, ◌⊎◌, if◌then◌else◌, slice_get, Option, Some, None, option_map, flat_map, nat_lt}
 use Rattle.std.specs.Ordering.{int_eq}
 use Rattle.std.proofs.lemmas.Bool.{eqb-true, eq-eqb, and_parts, and_from, or_left, or_right, not_from_false, ltb-true, ltb-false}
@@ -8,7 +9,8 @@ use Rattle.std.proofs.lemmas.List.{map-append}
 use Rattle.std.proofs.lemmas.List.Concat.{flat_map-cons}
 use Rattle.std.proofs.lemmas.List.Elements.{filter-append}
 use Rattle.std.proofs.lemmas.Option.{slice_get-map}
-use Rattle.ll_lists.proofs.CallerLemmas.{same_from_both_ways as same-bools, false_from_not as not-false, true_from_not, or_elim as or_cases, slice_get-append_left as get_left, slice_get-append_right as get_right}
+use Rattle.ll_lists.proofs.CallerLemmas.{same_from_both_ways as same-bools, false_from_not as not-false, true_from_not, or_elim as or_cases}
+use Rattle.ll_lists.proofs.CallerLemmas.{slice_get-append_left as get_left, slice_get-append_right as get_right}
 use Rattle.ll_bank.specs.declared.Head.{Head}
 use Rattle.ll_bank.specs.declared.Head.TheVariants.{Name, Eigen, Bound}
 use Rattle.ll_bank.specs.Term.{Term, close, head_of, arity, same_head, same_predicate}
@@ -59,7 +61,8 @@ same_key _ _ e = cc
 
 key_refl : (x : Key) → key_eq x x ≡ true
 key_refl Unnamed = refl
-key_refl (Named n k f) = and_from (nat_eq n n) (nat_eq k k && (first_eq).it f f) (eq-eqb n n refl) (and_from (nat_eq k k) ((first_eq).it f f) (eq-eqb k k refl) (first_refl f))
+key_refl (Named n k f) = and_from (nat_eq n n) (nat_eq k k && (first_eq).it f f) (eq-eqb n n refl)
+    (and_from (nat_eq k k) ((first_eq).it f f) (eq-eqb k k refl) (first_refl f))
 
 -- ---- one leaf: its key is asked for where its head matches
 
@@ -79,16 +82,20 @@ read_key (Some (Eigen j)) n m k f g e = cc
 read_key (Some (Bound j)) n m k f g e = cc
 read_key None n m k f g e = cc
 
-has_key : (h : Term) (by_sign : Bool) (name arguments : ℕ) (first : First) → key_eq (key_of by_sign h) (Named name arguments first) ≡ true → HasKey h by_sign name arguments first
+has_key : (h : Term) (by_sign : Bool) (name arguments : ℕ) (first : First) → key_eq (key_of by_sign h) (Named name arguments first) ≡ true
+    → HasKey h by_sign name arguments first
 has_key h by_sign name arguments first e =
-    let r = read_key (head_of h) (arity h) name arguments (if by_sign then first_of h else Open) first (same_key (key_of by_sign h) (Named name arguments first) e) in
+    let r = read_key (head_of h) (arity h) name arguments (if by_sign then first_of h else Open) first
+    (same_key (key_of by_sign h) (Named name arguments first) e) in
     record { head = r.0; count = r.1; sign = r.2 }
 
-found_key : (h : Term) (by_sign : Bool) (name arguments : ℕ) (first : First) → HasKey h by_sign name arguments first → key_eq (key_of by_sign h) (Named name arguments first) ≡ true
+found_key : (h : Term) (by_sign : Bool) (name arguments : ℕ) (first : First) → HasKey h by_sign name arguments first
+    → key_eq (key_of by_sign h) (Named name arguments first) ≡ true
 found_key h by_sign name arguments first w =
     let s : First = if by_sign then first_of h else Open in
     ap (λ o. key_eq (named_key o (arity h) s) (Named name arguments first)) w.head
-    ∙ (ap (λ k. key_eq (Named name k s) (Named name arguments first)) w.count ∙ (ap (λ f. key_eq (Named name arguments f) (Named name arguments first)) w.sign ∙ key_refl (Named name arguments first)))
+    ∙ (ap (λ k. key_eq (Named name k s) (Named name arguments first)) w.count
+    ∙ (ap (λ f. key_eq (Named name arguments f) (Named name arguments first)) w.sign ∙ key_refl (Named name arguments first)))
 
 -- signs that do not clash
 no-clash : (first s : First) → signs_clash first s ≡ false → (first ≢ Open) → (s ≡ first) ⊎ (s ≡ Open)
@@ -118,12 +125,14 @@ FoundBySign true first = first ≢ Open
 FoundBySign false first = first ≡ Open
 
 -- the sign of a leaf that is found
-sign_found : (by_sign : Bool) (first : First) (h : Term) → FoundBySign by_sign first → (sign_by by_sign h ≡ first) ⊎ (sign_by by_sign h ≡ Open) → signs_clash first (first_of h) ≡ false
+sign_found : (by_sign : Bool) (first : First) (h : Term) → FoundBySign by_sign first → (sign_by by_sign h ≡ first) ⊎ (sign_by by_sign h ≡ Open)
+    → signs_clash first (first_of h) ≡ false
 sign_found true first h f (inl e) = ap (signs_clash first) e ∙ clash-self first
 sign_found true first h f (inr e) = ap (signs_clash first) e ∙ clash-open first
 sign_found false first h f e = ap (λ (x : First). signs_clash x (first_of h)) f
 
-sign_kept : (by_sign : Bool) (first : First) (h : Term) → FoundBySign by_sign first → signs_clash first (first_of h) ≡ false → (sign_by by_sign h ≡ first) ⊎ (sign_by by_sign h ≡ Open)
+sign_kept : (by_sign : Bool) (first : First) (h : Term) → FoundBySign by_sign first → signs_clash first (first_of h) ≡ false
+    → (sign_by by_sign h ≡ first) ⊎ (sign_by by_sign h ≡ Open)
 sign_kept true first h f e = no-clash first (first_of h) e f
 sign_kept false first h f e = inr refl
 
@@ -149,7 +158,8 @@ heads-same m (Some (Bound n)) h = cc
 heads-same m None h = cc
 
 -- one leaf more, kept on both sides or on none
-leaf-step : {X Y : Type 0} (p : X → Bool) (f : Y → X) (q : Y → Bool) (x : X) (xs : List X) (y : Y) (ys : List Y) (fits : Bool) → x ≡ f y → q y ≡ fits && p x → filter p xs ≡ map f (filter q ys)
+leaf-step : {X Y : Type 0} (p : X → Bool) (f : Y → X) (q : Y → Bool) (x : X) (xs : List X) (y : Y) (ys : List Y) (fits : Bool) → x ≡ f y → q y ≡ fits && p x
+    → filter p xs ≡ map f (filter q ys)
     → filter p (if fits then x ∷ xs else xs) ≡ map f (filter q (y ∷ ys))
 leaf-step p f q x xs y ys true e t h = ap (λ (b : Bool). if b then x ∷ filter p xs else filter p xs) (sym t) ∙ by (q y)
   where
@@ -163,7 +173,8 @@ open_first Linear = refl
 open_first Unbounded = refl
 
 -- an atom's predicate and sign, against the head of a leaf with n quantifiers on its way
-module _ (a : Term) (name arguments : ℕ) (first : First) (by_sign : Bool) (head : head_of a ≡ Some (Name name)) (count : arity a ≡ arguments) (found : FoundBySign by_sign first) where
+module _ (a : Term) (name arguments : ℕ) (first : First) (by_sign : Bool) (head : head_of a ≡ Some (Name name)) (count : arity a ≡ arguments)
+    (found : FoundBySign by_sign first) where
   abbrev pub has_predicate : (h : Term) → Bool
   has_predicate h = same_head (Some (Name name)) (head_of h) && nat_eq arguments (arity h)
 
@@ -175,21 +186,25 @@ module _ (a : Term) (name arguments : ℕ) (first : First) (by_sign : Bool) (hea
       ap (λ o. same_head o (head_of (close e h)) && nat_eq (arity a) (arity (close e h))) head
       ∙ (ap (λ k. same_head (Some (Name name)) (head_of (close e h)) && nat_eq k (arity (close e h))) count
       ∙ (ap (λ k. same_head (Some (Name name)) (head_of (close e h)) && nat_eq arguments k) (close-arity e e alike h)
-      ∙ ap (λ b. b && nat_eq arguments (arity h)) (same_head-name name 0 (head_of (close e h)) ∙ (ap (name_is name) (close-name e e alike h 0) ∙ sym (same_head-name name 0 (head_of h))))))
+      ∙ ap (λ b. b && nat_eq arguments (arity h)) (same_head-name name 0 (head_of (close e h))
+      ∙ (ap (name_is name) (close-name e e alike h 0) ∙ sym (same_head-name name 0 (head_of h))))))
 
   finds-matches : (h : Term) → finds by_sign name arguments first h ≡ has_predicate h && not (signs_clash first (first_of h))
   finds-matches h = same-bools (finds by_sign name arguments first h) (has_predicate h && not (signs_clash first (first_of h))) forth back
     where
-      from : (f : First) → HasKey h by_sign name arguments f → (sign_by by_sign h ≡ first) ⊎ (sign_by by_sign h ≡ Open) → has_predicate h && not (signs_clash first (first_of h)) ≡ true
+      from : (f : First) → HasKey h by_sign name arguments f → (sign_by by_sign h ≡ first) ⊎ (sign_by by_sign h ≡ Open)
+          → has_predicate h && not (signs_clash first (first_of h)) ≡ true
       from f w s =
           and_from (has_predicate h) (not (signs_clash first (first_of h)))
-          (and_from (same_head (Some (Name name)) (head_of h)) (nat_eq arguments (arity h)) (ap (same_head (Some (Name name))) w.head ∙ eq-eqb name name refl) (eq-eqb arguments (arity h) (sym w.count)))
+          (and_from (same_head (Some (Name name)) (head_of h)) (nat_eq arguments (arity h)) (ap (same_head (Some (Name name))) w.head ∙ eq-eqb name name refl)
+          (eq-eqb arguments (arity h) (sym w.count)))
           (not_from_false (signs_clash first (first_of h)) (sign_found by_sign first h found s))
 
       forth : finds by_sign name arguments first h ≡ true → has_predicate h && not (signs_clash first (first_of h)) ≡ true
       forth e =
           or_cases (key_eq (key_of by_sign h) (Named name arguments first)) (key_eq (key_of by_sign h) (Named name arguments Open)) e
-          (λ p. let w = has_key h by_sign name arguments first p in from first w (inl w.sign)) (λ p. let w = has_key h by_sign name arguments Open p in from Open w (inr w.sign))
+          (λ p. let w = has_key h by_sign name arguments first p in from first w (inl w.sign)) (λ p. let w = has_key h by_sign name arguments Open p in
+          from Open w (inr w.sign))
 
       back : has_predicate h && not (signs_clash first (first_of h)) ≡ true → finds by_sign name arguments first h ≡ true
       back e =
@@ -198,8 +213,10 @@ module _ (a : Term) (name arguments : ℕ) (first : First) (by_sign : Bool) (hea
           let named = heads-same name (head_of h) q.0 in
           let counted : arity h ≡ arguments = sym (eqb-true arguments (arity h) q.1) in
           elim (sign_kept by_sign first h found (not-false (signs_clash first (first_of h)) p.1)) [
-            | inl s ↦ or_left (key_eq (key_of by_sign h) (Named name arguments first)) (key_eq (key_of by_sign h) (Named name arguments Open)) (found_key h by_sign name arguments first (record { head = named; count = counted; sign = s }))
-            | inr s ↦ or_right (key_eq (key_of by_sign h) (Named name arguments first)) (key_eq (key_of by_sign h) (Named name arguments Open)) (found_key h by_sign name arguments Open (record { head = named; count = counted; sign = s }))
+            | inl s ↦ or_left (key_eq (key_of by_sign h) (Named name arguments first)) (key_eq (key_of by_sign h) (Named name arguments Open))
+                (found_key h by_sign name arguments first (record { head = named; count = counted; sign = s }))
+            | inr s ↦ or_right (key_eq (key_of by_sign h) (Named name arguments first)) (key_eq (key_of by_sign h) (Named name arguments Open))
+                (found_key h by_sign name arguments Open (record { head = named; count = counted; sign = s }))
           ]
 
   -- ---- the leaves of a clause
@@ -218,16 +235,19 @@ module _ (a : Term) (name arguments : ℕ) (first : First) (by_sign : Bool) (hea
         let opened = leaves_open e.clause k (vars_from 0 l.quantifiers) l at (length-vars 0 l.quantifiers) in
         (ap (λ o. fits_head a (option_map (λ z. z.head) o)) opened ∙ opened-predicate l.quantifiers l.head, ap first_if_leaf at)
 
-    leaves_kept : (k : ℕ) (xs : List StandingLeaf) → ((j : ℕ) (l : StandingLeaf) → slice_get xs j ≡ Some l → slice_get (standing_leaves e.clause) (k + j) ≡ Some l)
+    leaves_kept : (k : ℕ) (xs : List StandingLeaf) → ((j : ℕ) (l : StandingLeaf) → slice_get xs j ≡ Some l
+        → slice_get (standing_leaves e.clause) (k + j) ≡ Some l)
         → filter keeps (leaf_tries a e k (map (λ l. l.quantifiers) xs)) ≡ map (λ x. x.candidate) (filter finds_leaf (numbered label k xs))
     leaves_kept k [] at = refl
     leaves_kept k (l ∷ xs) at =
         let z : k + 0 ≡ k = omega arith in
         let w = leaf_tried k l (ap (slice_get (standing_leaves e.clause)) (sym z) ∙ at 0 l refl) in
-        leaf-step keeps (λ x. x.candidate) finds_leaf (record { label = e.label; leaf = k }) (leaf_tries a e (suc k) (map (λ l. l.quantifiers) xs)) (record { candidate = record { label = label; leaf = k }; standing = l })
+        leaf-step keeps (λ x. x.candidate) finds_leaf (record { label = e.label; leaf = k }) (leaf_tries a e (suc k) (map (λ l. l.quantifiers) xs))
+        (record { candidate = record { label = label; leaf = k }; standing = l })
         (numbered label (suc k) xs) (fits_head a (leaf_head e.clause k l.quantifiers)) (ap (λ n. record { label = n; leaf = k }) same)
         (finds-matches l.head
-        ∙ (ap (λ b. b && not (signs_clash first (first_of l.head))) (sym w.0) ∙ ap (λ f. fits_head a (leaf_head e.clause k l.quantifiers) && not (signs_clash first f)) (sym w.1)))
+        ∙ (ap (λ b. b && not (signs_clash first (first_of l.head))) (sym w.0)
+        ∙ ap (λ f. fits_head a (leaf_head e.clause k l.quantifiers) && not (signs_clash first f)) (sym w.1)))
         (leaves_kept (suc k) xs (λ j m h. let q : suc k + j ≡ k + suc j = omega arith in ap (slice_get (standing_leaves e.clause)) q ∙ at (suc j) m h))
 
     -- the candidates of an open entry that are kept
@@ -238,7 +258,8 @@ module _ (a : Term) (name arguments : ℕ) (first : First) (by_sign : Bool) (hea
         ∙ leaves_kept 0 (standing_leaves e.clause) (λ j l h. let q : 0 + j ≡ j = omega arith in ap (slice_get (standing_leaves e.clause)) q ∙ h))
 
   -- the candidates of program clauses that are kept
-  clauses_kept : (n : ℕ) (cs : List ClauseTree) → flat_map (entry_matches first a) (program_entries n cs) ≡ map (λ x. x.candidate) (filter finds_leaf (program_leaves n cs))
+  clauses_kept : (n : ℕ) (cs : List ClauseTree) → flat_map (entry_matches first a) (program_entries n cs)
+      ≡ map (λ x. x.candidate) (filter finds_leaf (program_leaves n cs))
   clauses_kept n [] = refl
   clauses_kept n (c ∷ cs) =
       let e : Entry Form = record { label = n; kind = c.kind; live = is_linear c.kind; clause = c.form } in
@@ -249,20 +270,27 @@ module _ (a : Term) (name arguments : ℕ) (first : First) (by_sign : Bool) (hea
       ∙ ap (map (λ x. x.candidate)) (sym (filter-append finds_leaf (numbered n 0 (standing_leaves c.form)) (program_leaves (suc n) cs))))))
 
   -- what is kept of the leaves of an index that are found by these keys
-  pub program_kept : (show : Leaf → Listed) (candidate : (l : Leaf) → (show l).candidate ≡ l.candidate) (keys : List Key) (ls : List Leaf) (program : List ClauseTree) → keys ≡ map (λ l. key_of by_sign (show l).standing.head) ls
-      → map show ls ≡ program_leaves 0 program → map (λ l. l.candidate) (kept key_eq (Named name arguments first) (Named name arguments Open) keys ls) ≡ program_matches first a program
+  pub program_kept : (show : Leaf → Listed) (candidate : (l : Leaf)
+      → (show l).candidate ≡ l.candidate) (keys : List Key) (ls : List Leaf) (program : List ClauseTree)
+      → keys ≡ map (λ l. key_of by_sign (show l).standing.head) ls
+      → map show ls ≡ program_leaves 0 program → map (λ l. l.candidate) (kept key_eq (Named name arguments first) (Named name arguments Open) keys ls)
+      ≡ program_matches first a program
   program_kept show candidate keys ls program are shows =
       ap (λ ks. map (λ l. l.candidate) (kept key_eq (Named name arguments first) (Named name arguments Open) ks ls)) are
       ∙ (kept-shown ls ∙ (ap (λ xs. map (λ x. x.candidate) (filter finds_leaf xs)) shows ∙ sym (clauses_kept 0 program)))
     where
-      kept-shown : (ls : List Leaf) → map (λ l. l.candidate) (kept key_eq (Named name arguments first) (Named name arguments Open) (map (λ l. key_of by_sign (show l).standing.head) ls) ls)
+      kept-shown : (ls : List Leaf) → map (λ l. l.candidate)
+          (kept key_eq (Named name arguments first) (Named name arguments Open) (map (λ l. key_of by_sign (show l).standing.head) ls) ls)
           ≡ map (λ x. x.candidate) (filter finds_leaf (map show ls))
       kept-shown [] = refl
       kept-shown (l ∷ ls) = step (finds_leaf (show l)) (kept-shown ls)
         where
-          step : (b : Bool) → map (λ l. l.candidate) (kept key_eq (Named name arguments first) (Named name arguments Open) (map (λ l. key_of by_sign (show l).standing.head) ls) ls)
+          step : (b : Bool)
+              → map (λ l. l.candidate) (kept key_eq (Named name arguments first) (Named name arguments Open)
+              (map (λ l. key_of by_sign (show l).standing.head) ls) ls)
               ≡ map (λ x. x.candidate) (filter finds_leaf (map show ls))
-              → map (λ l. l.candidate) (if b then l ∷ kept key_eq (Named name arguments first) (Named name arguments Open) (map (λ l. key_of by_sign (show l).standing.head) ls) ls
+              → map (λ l. l.candidate) (if b then l ∷ kept key_eq (Named name arguments first) (Named name arguments Open)
+              (map (λ l. key_of by_sign (show l).standing.head) ls) ls
               else kept key_eq (Named name arguments first) (Named name arguments Open) (map (λ l. key_of by_sign (show l).standing.head) ls) ls)
               ≡ map (λ x. x.candidate) (if b then show l ∷ filter finds_leaf (map show ls) else filter finds_leaf (map show ls))
           step true h = λ i. sym (candidate l) i ∷ h i
@@ -301,7 +329,8 @@ placed n (c ∷ cs) p x h = step (nat_lt p (length here)) refl (placed (suc n) c
     here : List Listed
     here = numbered n 0 (standing_leaves c.form)
 
-    step : (b : Bool) → nat_lt p (length here) ≡ b → (slice_get (program_leaves (suc n) cs) (p - length here) ≡ Some x → Placed (suc n) cs x) → Placed n (c ∷ cs) x
+    step : (b : Bool) → nat_lt p (length here) ≡ b → (slice_get (program_leaves (suc n) cs) (p - length here) ≡ Some x → Placed (suc n) cs x)
+        → Placed n (c ∷ cs) x
     step true t go =
         let w = get-numbered n 0 (standing_leaves c.form) p x (sym (get_left here (program_leaves (suc n) cs) p (ltb-true p (length here) t)) ∙ h) in
         let z : n ≡ n + 0 = omega arith in
@@ -328,6 +357,8 @@ in_clause program p x h =
     record {
       clause = w.clause;
       at = ap (slice_get program) e ∙ w.at;
-      way = ap (λ ns. slice_get ns x.candidate.leaf) (sym (leaves_stand w.clause.form)) ∙ (slice_get-map (λ (l : StandingLeaf). l.quantifiers) (standing_leaves w.clause.form) x.candidate.leaf ∙ ap (option_map (λ (l : StandingLeaf). l.quantifiers)) w.standing);
+      way = ap (λ ns. slice_get ns x.candidate.leaf) (sym (leaves_stand w.clause.form))
+          ∙ (slice_get-map (λ (l : StandingLeaf). l.quantifiers) (standing_leaves w.clause.form) x.candidate.leaf
+          ∙ ap (option_map (λ (l : StandingLeaf). l.quantifiers)) w.standing);
       opened = λ ts q. leaves_open w.clause.form x.candidate.leaf ts x.standing w.standing q;
     }

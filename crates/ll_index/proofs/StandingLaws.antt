@@ -1,5 +1,6 @@
 -- A leaf of a clause, opened, is what stands in the clause with terms for its quantifiers.
-use Rattle.std.proofs.Common.{◌≡◌, ◌<◌, ℕ, zero, suc, ◌+◌, ◌-◌, refl, ap, sym, subst, ◌∙◌, Bool, true, false, List, [], ◌∷◌, ◌++◌, map, length, take, append_assoc, length-append, arith}
+use Rattle.std.proofs.Common.{◌≡◌, ◌<◌, ℕ, zero, suc, ◌+◌, ◌-◌, refl, ap, sym, subst, ◌∙◌, Bool, true, false, List, [], ◌∷◌, ◌++◌, map, length, take}
+use Rattle.std.proofs.Common.{append_assoc, length-append, arith}
 use Rattle.std.specs.Prelude.{if◌then◌else◌, nat_lt, Option, Some, None, option_map, slice_get}
 use Rattle.std.proofs.lemmas.Bool.{ltb-true, ltb-false}
 use Rattle.std.proofs.lemmas.List.{append-nil, map-append, length-map}
@@ -9,7 +10,8 @@ use Rattle.ll_bank.specs.Form.{Form, Atom, With, Lolli, Imp, Forall, close_form}
 use Rattle.ll_laws.specs.declared.Kind.TheVariants.{Linear, Unbounded}
 use Rattle.ll_laws.specs.Leaf.{Premise, Needs, NeedsFree, Leaf, add_premise, leaf_from, leaf, ways}
 use Rattle.ll_laws.proofs.CallerLemmas.{leaf_ways}
-use Rattle.ll_index.specs.Standing.{StandingPremise, StandingLeaf, leaves_under, standing_leaves, env_under, opened_premise, opened_leaf, LeavesStand, LeavesOpen}
+use Rattle.ll_index.specs.Standing.{StandingPremise, StandingLeaf, leaves_under, standing_leaves, env_under, opened_premise, opened_leaf, LeavesStand}
+use Rattle.ll_index.specs.Standing.{LeavesOpen}
 
 -- ---- lists one behind the other
 
@@ -24,7 +26,8 @@ ways_under n ps (With r s) =
 ways_under n ps (Lolli g r) = ways_under n _ r
 ways_under n ps (Imp g r) = ways_under n _ r
 ways_under n ps (Forall r) =
-    ways_under (suc n) ps r ∙ (map_same (λ m. suc n + m) (λ m. n + suc m) (λ m. let e : suc n + m ≡ n + suc m = omega arith in e) (ways r) ∙ sym (map_map (λ m. n + m) (λ m. suc m) (ways r)))
+    ways_under (suc n) ps r ∙ (map_same (λ m. suc n + m) (λ m. n + suc m) (λ m. let e : suc n + m ≡ n + suc m = omega arith in e) (ways r)
+    ∙ sym (map_map (λ m. n + m) (λ m. suc m) (ways r)))
 ways_under n ps _ = refl
 
 pub leaves_count : (n : ℕ) (ps : List StandingPremise) (r : Form) → length (leaves_under n ps r) ≡ length (ways r)
@@ -56,14 +59,16 @@ record Opens (us ts : List Term) (ps : List StandingPremise) (r : Form) (k : ℕ
 
 -- a premise more, further from the head
 further : (us ts : List Term) (ps : List StandingPremise) (r f : Form) (k : ℕ) (l : StandingLeaf) (p : StandingPremise) (q : Premise)
-    → leaf_from (env_under [] us) f k ts ≡ option_map (add_premise q) (leaf_from (env_under [] us) r k ts) → opened_premise (us ++ ts) p ≡ q → Opens us ts (p ∷ ps) r k l → Opens us ts ps f k l
+    → leaf_from (env_under [] us) f k ts ≡ option_map (add_premise q) (leaf_from (env_under [] us) r k ts) → opened_premise (us ++ ts) p ≡ q
+    → Opens us ts (p ∷ ps) r k l → Opens us ts ps f k l
 further us ts ps r f k l p q e o w = record {
   nearer = w.nearer ++ q ∷ [];
   is = e ∙ ap (option_map (add_premise q)) w.is;
   all = append_assoc w.nearer (q ∷ []) (map (opened_premise (us ++ ts)) ps) ∙ (ap (λ x. w.nearer ++ x ∷ map (opened_premise (us ++ ts)) ps) (sym o) ∙ w.all);
 }
 
-more_quantifiers : (n : ℕ) (ps : List StandingPremise) (r : Form) (k : ℕ) (l : StandingLeaf) → slice_get (leaves_under n ps r) k ≡ Some l → n < suc l.quantifiers
+more_quantifiers : (n : ℕ) (ps : List StandingPremise) (r : Form) (k : ℕ) (l : StandingLeaf) → slice_get (leaves_under n ps r) k ≡ Some l
+    → n < suc l.quantifiers
 more_quantifiers n ps (Atom a) zero l h = let e : n ≡ l.quantifiers = cc in omega arith
 more_quantifiers n ps (Atom a) (suc k) l h = cc
 more_quantifiers n ps (With r s) k l h =
@@ -81,7 +86,8 @@ more_quantifiers n ps (Imp g r) k l h = more_quantifiers n _ r k l h
 more_quantifiers n ps (Forall r) k l h = let i = more_quantifiers (suc n) ps r k l h in omega arith
 more_quantifiers n ps _ k l h = cc
 
-opens : (us ts : List Term) (n : ℕ) (ps : List StandingPremise) (r : Form) (k : ℕ) (l : StandingLeaf) → length us ≡ n → slice_get (leaves_under n ps r) k ≡ Some l → length (us ++ ts) ≡ l.quantifiers → Opens us ts ps r k l
+opens : (us ts : List Term) (n : ℕ) (ps : List StandingPremise) (r : Form) (k : ℕ) (l : StandingLeaf) → length us ≡ n
+    → slice_get (leaves_under n ps r) k ≡ Some l → length (us ++ ts) ≡ l.quantifiers → Opens us ts ps r k l
 opens us [] n ps (Atom a) zero l c h q =
     let x : StandingLeaf = record { premises = ps; quantifiers = n; head = a } in
     let e : x ≡ l = cc in
@@ -101,12 +107,14 @@ opens us ts n ps (With r s) k l c h q =
     count : length lefts ≡ length (ways r)
     count = leaves_count n ps r
 
-    on_left : (b : Bool) → b ≡ true → (if b then leaf_from (env_under [] us) r k ts else leaf_from (env_under [] us) s (k - length (ways r)) ts) ≡ leaf_from (env_under [] us) r k ts
+    on_left : (b : Bool) → b ≡ true → (if b then leaf_from (env_under [] us) r k ts else leaf_from (env_under [] us) s (k - length (ways r)) ts)
+        ≡ leaf_from (env_under [] us) r k ts
     on_left true e = refl
     on_left false e = cc
 
     on_right : (b : Bool) → b ≡ false
-        → (if b then leaf_from (env_under [] us) r k ts else leaf_from (env_under [] us) s (k - length (ways r)) ts) ≡ leaf_from (env_under [] us) s (k - length (ways r)) ts
+        → (if b then leaf_from (env_under [] us) r k ts else leaf_from (env_under [] us) s (k - length (ways r)) ts)
+        ≡ leaf_from (env_under [] us) s (k - length (ways r)) ts
     on_right true e = cc
     on_right false e = refl
 
@@ -136,7 +144,8 @@ opens us (t ∷ ts) n ps (Forall r) k l c h q =
     let w = opens (us ++ t ∷ []) ts (suc n) ps r k l (length-append us (t ∷ []) ∙ (omega arith)) h (ap length e ∙ q) in
     record {
       nearer = w.nearer;
-      is = ap (λ v. leaf_from v r k ts) (sym (env_under-more [] us t)) ∙ (w.is ∙ ap (λ vs. Some (record { premises = w.nearer; head = close (env_under [] vs) l.head })) e);
+      is = ap (λ v. leaf_from v r k ts) (sym (env_under-more [] us t))
+          ∙ (w.is ∙ ap (λ vs. Some (record { premises = w.nearer; head = close (env_under [] vs) l.head })) e);
       all = subst (λ vs. w.nearer ++ map (opened_premise vs) ps ≡ map (opened_premise vs) l.premises) e w.all;
     }
 opens us ts n ps _ k l c h q = cc
@@ -160,7 +169,8 @@ stands_as r k ts l h = found (slice_get (standing_leaves r) k) refl
     way : slice_get (map (λ (x : StandingLeaf). x.quantifiers) (standing_leaves r)) k ≡ Some (length ts)
     way = ap (λ ns. slice_get ns k) (leaves_stand r) ∙ leaf_ways [] r k ts l h
 
-    get-map : (xs : List StandingLeaf) (j : ℕ) → slice_get (map (λ (x : StandingLeaf). x.quantifiers) xs) j ≡ option_map (λ (x : StandingLeaf). x.quantifiers) (slice_get xs j)
+    get-map : (xs : List StandingLeaf) (j : ℕ) → slice_get (map (λ (x : StandingLeaf). x.quantifiers) xs) j
+        ≡ option_map (λ (x : StandingLeaf). x.quantifiers) (slice_get xs j)
     get-map [] j = refl
     get-map (x ∷ xs) zero = refl
     get-map (x ∷ xs) (suc j) = get-map xs j

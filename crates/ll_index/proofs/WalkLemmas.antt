@@ -37,13 +37,17 @@ walk_size-positive _ = omega arith
 
 -- ---- parts that wait
 
-waiting_leaves-last : (nodes : Nodes) (frames : Frames Premise) (ws : List Waiting) (w : Waiting) → waiting_leaves nodes frames (ws ++ w ∷ []) ≡ part_leaves nodes frames w ++ waiting_leaves nodes frames ws
+waiting_leaves-last : (nodes : Nodes) (frames : Frames Premise) (ws : List Waiting) (w : Waiting)
+    → waiting_leaves nodes frames (ws ++ w ∷ []) ≡ part_leaves nodes frames w ++ waiting_leaves nodes frames ws
 waiting_leaves-last nodes frames [] w = sym (append-nil (part_leaves nodes frames w))
 waiting_leaves-last nodes frames (v ∷ ws) w =
-    ap (λ ls. ls ++ part_leaves nodes frames v) (waiting_leaves-last nodes frames ws w) ∙ append_assoc (part_leaves nodes frames w) (waiting_leaves nodes frames ws) (part_leaves nodes frames v)
+    ap (λ ls. ls ++ part_leaves nodes frames v) (waiting_leaves-last nodes frames ws w)
+    ∙ append_assoc (part_leaves nodes frames w) (waiting_leaves nodes frames ws) (part_leaves nodes frames v)
 
-waiting_size-last : (nodes : Nodes) (ws : List Waiting) (w : Waiting) → waiting_size nodes (ws ++ w ∷ []) ≡ waiting_size nodes ws + walk_size (form_tree nodes w.form.0)
-waiting_size-last nodes ws w = let f : Waiting → ℕ = λ w. walk_size (form_tree nodes w.form.0) in let e = sum_by-append f ws (w ∷ []) in let z : sum_by f (w ∷ []) ≡ f w = one f w in omega arith
+waiting_size-last : (nodes : Nodes) (ws : List Waiting) (w : Waiting)
+    → waiting_size nodes (ws ++ w ∷ []) ≡ waiting_size nodes ws + walk_size (form_tree nodes w.form.0)
+waiting_size-last nodes ws w = let f : Waiting → ℕ = λ w. walk_size (form_tree nodes w.form.0) in let e = sum_by-append f ws (w ∷ []) in
+    let z : sum_by f (w ∷ []) ≡ f w = one f w in omega arith
   where
     one : (f : Waiting → ℕ) (w : Waiting) → sum_by f (w ∷ []) ≡ f w
     one f w = omega arith
@@ -78,16 +82,23 @@ module _ (nodes : Nodes) {old new : Frames Premise} (e : Extends old new) where
   listed-grows [] h = refl
   listed-grows (l ∷ ls) h =
       let s = All-head (IsStored nodes old) l ls h in
-      ap (λ ps. record { candidate = l.candidate; standing = record { premises = shown_premises nodes ps; quantifiers = l.quantifiers; head = term_tree nodes l.head.0 } } ∷ map (listed nodes new) ls)
+      ap (λ ps. record {
+        candidate = l.candidate;
+        standing =
+            record { premises = shown_premises nodes ps; quantifiers = l.quantifiers; head = term_tree nodes l.head.0 };
+      } ∷ map (listed nodes new) ls)
       (items_at-extends e l.premises s.top)
       ∙ ap (λ xs. listed nodes old l ∷ xs) (listed-grows ls (All-tail (IsStored nodes old) l ls h))
 
 -- ---- one part taken
 
-module _ (nodes : Nodes) (label leaf : ℕ) (part : Waiting) (old new : Walk) (is : IsPart nodes old.premises part) (waits : All (IsPart nodes old.premises) old.waiting.items) where
+module _ (nodes : Nodes) (label leaf : ℕ) (part : Waiting) (old new : Walk) (is : IsPart nodes old.premises part)
+    (waits : All (IsPart nodes old.premises) old.waiting.items) where
   -- a part with the same leaves in its place
-  pub takes-inner : (w : Waiting) → Extends old.premises new.premises → IsPart nodes new.premises w → part_leaves nodes new.premises w ≡ part_leaves nodes old.premises part
-      → walk_size (form_tree nodes w.form.0) < walk_size (form_tree nodes part.form.0) → new.leaves.items ≡ old.leaves.items → new.waiting.items ≡ old.waiting.items ++ w ∷ []
+  pub takes-inner : (w : Waiting) → Extends old.premises new.premises → IsPart nodes new.premises w
+      → part_leaves nodes new.premises w ≡ part_leaves nodes old.premises part
+      → walk_size (form_tree nodes w.form.0) < walk_size (form_tree nodes part.form.0) → new.leaves.items ≡ old.leaves.items
+      → new.waiting.items ≡ old.waiting.items ++ w ∷ []
       → TakesPart nodes label leaf part old new leaf
   takes-inner w grows isw leaves_are less leaves pushed =
       let size = waiting_size-last nodes old.waiting.items w in
@@ -97,7 +108,8 @@ module _ (nodes : Nodes) (label leaf : ℕ) (part : Waiting) (old new : Walk) (i
         more = [];
         added = leaves ∙ sym (append-nil old.leaves.items);
         stored = λ k d h. absurd (omega arith);
-        waiting = subst (All (IsPart nodes new.premises)) (sym pushed) (All-push (IsPart nodes new.premises) old.waiting.items w (All-become _ _ (IsPart-grows nodes grows) old.waiting.items waits) isw);
+        waiting = subst (All (IsPart nodes new.premises)) (sym pushed)
+            (All-push (IsPart nodes new.premises) old.waiting.items w (All-become _ _ (IsPart-grows nodes grows) old.waiting.items waits) isw);
         rest = ap (λ ws. numbered label leaf (waiting_leaves nodes new.premises ws)) pushed
             ∙ (ap (numbered label leaf) (waiting_leaves-last nodes new.premises old.waiting.items w)
             ∙ (ap (λ ls. numbered label leaf (ls ++ waiting_leaves nodes new.premises old.waiting.items)) leaves_are
@@ -106,16 +118,20 @@ module _ (nodes : Nodes) (label leaf : ℕ) (part : Waiting) (old new : Walk) (i
       }
 
   -- two parts in its place, the left one last
-  pub takes-both : (l r : FormAt) (v w : Waiting) (mid : List Waiting) → form_tree nodes part.form.0 ≡ With (form_tree nodes l.0) (form_tree nodes r.0) → HasForm nodes l.0 → HasForm nodes r.0
-      → v ≡ record { form = l; quantifiers = part.quantifiers; premises = part.premises } → w ≡ record { form = r; quantifiers = part.quantifiers; premises = part.premises }
-      → mid ≡ old.waiting.items ++ w ∷ [] → new.waiting.items ≡ mid ++ v ∷ [] → new.leaves.items ≡ old.leaves.items → new.premises ≡ old.premises → TakesPart nodes label leaf part old new leaf
+  pub takes-both : (l r : FormAt) (v w : Waiting) (mid : List Waiting) → form_tree nodes part.form.0 ≡ With (form_tree nodes l.0) (form_tree nodes r.0)
+      → HasForm nodes l.0 → HasForm nodes r.0
+      → v ≡ record { form = l; quantifiers = part.quantifiers; premises = part.premises }
+      → w ≡ record { form = r; quantifiers = part.quantifiers; premises = part.premises }
+      → mid ≡ old.waiting.items ++ w ∷ [] → new.waiting.items ≡ mid ++ v ∷ [] → new.leaves.items ≡ old.leaves.items → new.premises ≡ old.premises
+      → TakesPart nodes label leaf part old new leaf
   takes-both l r v w mid tree inl_ inr_ vis wis first second leaves frames =
       let grows : Extends old.premises new.premises = subst (Extends old.premises) (sym frames) (Extends-refl old.premises) in
       let a : Waiting = record { form = l; quantifiers = part.quantifiers; premises = part.premises } in
       let b : Waiting = record { form = r; quantifiers = part.quantifiers; premises = part.premises } in
       let pa : IsPart nodes new.premises a = IsPart-grows nodes grows a (record { form = inl_; top = is.top; premises = is.premises }) in
       let pb : IsPart nodes new.premises b = IsPart-grows nodes grows b (record { form = inr_; top = is.top; premises = is.premises }) in
-      let pushed : new.waiting.items ≡ (old.waiting.items ++ b ∷ []) ++ a ∷ [] = second ∙ (ap (λ ws. ws ++ v ∷ []) (first ∙ ap (λ x. old.waiting.items ++ x ∷ []) wis) ∙ ap (λ x. (old.waiting.items ++ b ∷ []) ++ x ∷ []) vis) in
+      let pushed : new.waiting.items ≡ (old.waiting.items ++ b ∷ []) ++ a ∷ [] =
+      second ∙ (ap (λ ws. ws ++ v ∷ []) (first ∙ ap (λ x. old.waiting.items ++ x ∷ []) wis) ∙ ap (λ x. (old.waiting.items ++ b ∷ []) ++ x ∷ []) vis) in
       let s1 = waiting_size-last nodes (old.waiting.items ++ b ∷ []) a in
       let s2 = waiting_size-last nodes old.waiting.items b in
       let s3 : waiting_size nodes new.waiting.items ≡ waiting_size nodes ((old.waiting.items ++ b ∷ []) ++ a ∷ []) = ap (waiting_size nodes) pushed in
@@ -139,8 +155,10 @@ module _ (nodes : Nodes) (label leaf : ℕ) (part : Waiting) (old new : Walk) (i
       }
 
   -- the body of a quantifier
-  pub takes-forall : (r : FormAt) (w : Waiting) → form_tree nodes part.form.0 ≡ Forall (form_tree nodes r.0) → HasForm nodes r.0 → w.form ≡ r → w.quantifiers ≡ part.quantifiers + 1 → w.premises ≡ part.premises
-      → new.leaves.items ≡ old.leaves.items → new.waiting.items ≡ old.waiting.items ++ w ∷ [] → new.premises ≡ old.premises → TakesPart nodes label leaf part old new leaf
+  pub takes-forall : (r : FormAt) (w : Waiting) → form_tree nodes part.form.0 ≡ Forall (form_tree nodes r.0) → HasForm nodes r.0 → w.form ≡ r
+      → w.quantifiers ≡ part.quantifiers + 1 → w.premises ≡ part.premises
+      → new.leaves.items ≡ old.leaves.items → new.waiting.items ≡ old.waiting.items ++ w ∷ [] → new.premises ≡ old.premises
+      → TakesPart nodes label leaf part old new leaf
   takes-forall r w tree inside form quantifiers premises leaves pushed frames =
       let grows : Extends old.premises new.premises = subst (Extends old.premises) (sym frames) (Extends-refl old.premises) in
       let count : w.quantifiers ≡ suc part.quantifiers = omega arith in
@@ -162,8 +180,10 @@ module _ (nodes : Nodes) (label leaf : ℕ) (part : Waiting) (old new : Walk) (i
 
   -- what is left behind a premise
   pub takes-under : (premise : Premise) (rest : FormAt) → ((n : ℕ) (ps : List StandingPremise)
-      → leaves_under n ps (form_tree nodes part.form.0) ≡ leaves_under n (record { goal = form_tree nodes premise.goal.0; kind = premise.kind; quantifiers = n } ∷ ps) (form_tree nodes rest.0))
-      → walk_size (form_tree nodes rest.0) < walk_size (form_tree nodes part.form.0) → HasForm nodes premise.goal.0 → HasForm nodes rest.0 → premise.quantifiers ≡ part.quantifiers
+      → leaves_under n ps (form_tree nodes part.form.0) ≡ leaves_under n
+      (record { goal = form_tree nodes premise.goal.0; kind = premise.kind; quantifiers = n } ∷ ps) (form_tree nodes rest.0))
+      → walk_size (form_tree nodes rest.0) < walk_size (form_tree nodes part.form.0) → HasForm nodes premise.goal.0 → HasForm nodes rest.0
+      → premise.quantifiers ≡ part.quantifiers
       → PutsUnder part premise rest old new → TakesPart nodes label leaf part old new leaf
   takes-under premise rest under less goal inside count put =
       let w = put.inner in
@@ -175,12 +195,14 @@ module _ (nodes : Nodes) (label leaf : ℕ) (part : Waiting) (old new : Walk) (i
       (record {
         form = subst (HasForm nodes) (sym at) inside;
         top = put.premises.inside;
-        premises = subst (All (λ q. HasForm nodes q.goal.0)) (sym items) (All-cons (λ (q : Premise). HasForm nodes q.goal.0) premise (items_at old.premises part.premises) goal is.premises);
+        premises = subst (All (λ q. HasForm nodes q.goal.0)) (sym items)
+            (All-cons (λ (q : Premise). HasForm nodes q.goal.0) premise (items_at old.premises part.premises) goal is.premises);
       })
       (ap (λ f. leaves_under w.quantifiers (shown_premises nodes (items_at new.premises w.premises)) (form_tree nodes f)) at
       ∙ (ap (λ qs. leaves_under w.quantifiers (shown_premises nodes qs) (form_tree nodes rest.0)) items
       ∙ (ap (λ n. leaves_under n (shown_premises nodes (premise ∷ items_at old.premises part.premises)) (form_tree nodes rest.0)) put.quantifiers
-      ∙ (ap (λ n. leaves_under part.quantifiers (record { goal = form_tree nodes premise.goal.0; kind = premise.kind; quantifiers = n } ∷ ps) (form_tree nodes rest.0)) count
+      ∙ (ap (λ n. leaves_under part.quantifiers (record { goal = form_tree nodes premise.goal.0; kind = premise.kind; quantifiers = n } ∷ ps)
+      (form_tree nodes rest.0)) count
       ∙ sym (under part.quantifiers ps)))))
       (omega arith) put.leaves put.waiting
 
@@ -196,8 +218,10 @@ pub record Walked (nodes : Nodes) (label : ℕ) (goal : List Listed) (old now : 
   pub rest : map (listed nodes now.premises) more ++ numbered label leaf (waiting_leaves nodes now.premises now.waiting.items) ≡ goal
 
 -- it begins with the whole clause
-pub walk-begins : (nodes : Nodes) (label : ℕ) (old now : Walk) (w : Waiting) → HasForm nodes w.form.0 → ShowsItems old.premises w.premises [] → w.quantifiers ≡ 0 → old.waiting.items ≡ [] → now.leaves.items ≡ old.leaves.items
-    → now.premises ≡ old.premises → now.waiting.items ≡ old.waiting.items ++ w ∷ [] → Walked nodes label (numbered label 0 (standing_leaves (form_tree nodes w.form.0))) old now 0
+pub walk-begins : (nodes : Nodes) (label : ℕ) (old now : Walk) (w : Waiting) → HasForm nodes w.form.0 → ShowsItems old.premises w.premises []
+    → w.quantifiers ≡ 0 → old.waiting.items ≡ [] → now.leaves.items ≡ old.leaves.items
+    → now.premises ≡ old.premises → now.waiting.items ≡ old.waiting.items ++ w ∷ []
+    → Walked nodes label (numbered label 0 (standing_leaves (form_tree nodes w.form.0))) old now 0
 walk-begins nodes label old now w inside none zero_ idle leaves frames pushed =
     let only : now.waiting.items ≡ w ∷ [] = pushed ∙ ap (λ ws. ws ++ w ∷ []) idle in
     let isw : IsPart nodes now.premises w = record {
@@ -218,8 +242,10 @@ walk-begins nodes label old now w inside none zero_ idle leaves frames pushed =
     }
 
 -- the last part that waits is taken apart
-pub walk-part : (nodes : Nodes) (label : ℕ) (goal : List Listed) (old now popped next : Walk) (leaf number : ℕ) (w : Waiting) → Walked nodes label goal old now leaf → now.waiting.items ≡ popped.waiting.items ++ w ∷ []
-    → popped.leaves.items ≡ now.leaves.items → popped.premises ≡ now.premises → TakesPart nodes label leaf w popped next number → Walked nodes label goal old next number
+pub walk-part : (nodes : Nodes) (label : ℕ) (goal : List Listed) (old now popped next : Walk) (leaf number : ℕ) (w : Waiting)
+    → Walked nodes label goal old now leaf → now.waiting.items ≡ popped.waiting.items ++ w ∷ []
+    → popped.leaves.items ≡ now.leaves.items → popped.premises ≡ now.premises → TakesPart nodes label leaf w popped next number
+    → Walked nodes label goal old next number
 walk-part nodes label goal old now popped next leaf number w k last leaves frames t =
     let e : Extends now.premises next.premises = subst (λ fs. Extends fs next.premises) frames t.frames in
     record {
@@ -228,50 +254,65 @@ walk-part nodes label goal old now popped next leaf number w k last leaves frame
       added = t.added ∙ (ap (λ ls. ls ++ t.more) (leaves ∙ k.added) ∙ append_assoc old.leaves.items k.more t.more);
       stored = All-append (IsStored nodes next.premises) k.more t.more (All-become _ _ (IsStored-grows nodes e) k.more k.stored) t.stored;
       waiting = t.waiting;
-      rest = ap (λ ls. ls ++ numbered label number (waiting_leaves nodes next.premises next.waiting.items)) (map-append (listed nodes next.premises) k.more t.more)
-          ∙ (append_assoc (map (listed nodes next.premises) k.more) (map (listed nodes next.premises) t.more) (numbered label number (waiting_leaves nodes next.premises next.waiting.items))
+      rest = ap (λ ls. ls ++ numbered label number (waiting_leaves nodes next.premises next.waiting.items))
+          (map-append (listed nodes next.premises) k.more t.more)
+          ∙ (append_assoc (map (listed nodes next.premises) k.more) (map (listed nodes next.premises) t.more)
+          (numbered label number (waiting_leaves nodes next.premises next.waiting.items))
           ∙ (ap (λ ls. map (listed nodes next.premises) k.more ++ ls) t.rest
-          ∙ (ap (λ ls. ls ++ numbered label leaf (part_leaves nodes popped.premises w ++ waiting_leaves nodes popped.premises popped.waiting.items)) (listed-grows nodes e k.more k.stored)
-          ∙ (ap (λ fs. map (listed nodes now.premises) k.more ++ numbered label leaf (part_leaves nodes fs w ++ waiting_leaves nodes fs popped.waiting.items)) frames
+          ∙ (ap (λ ls. ls ++ numbered label leaf (part_leaves nodes popped.premises w ++ waiting_leaves nodes popped.premises popped.waiting.items))
+          (listed-grows nodes e k.more k.stored)
+          ∙ (ap (λ fs. map (listed nodes now.premises) k.more ++ numbered label leaf (part_leaves nodes fs w ++ waiting_leaves nodes fs popped.waiting.items))
+          frames
           ∙ (ap (λ ls. map (listed nodes now.premises) k.more ++ numbered label leaf ls) (sym (waiting_leaves-last nodes now.premises popped.waiting.items w))
           ∙ (ap (λ ws. map (listed nodes now.premises) k.more ++ numbered label leaf (waiting_leaves nodes now.premises ws)) (sym last) ∙ k.rest))))));
     }
 
 -- the part that is taken is stored, and so are those that go on waiting
-pub part-taken : (nodes : Nodes) (frames : Frames Premise) (now ws : List Waiting) (w : Waiting) → now ≡ ws ++ w ∷ [] → All (IsPart nodes frames) now → IsPart nodes frames w × All (IsPart nodes frames) ws
-part-taken nodes frames now ws w e h = let g = subst (All (IsPart nodes frames)) e h in (All-last-of (IsPart nodes frames) ws w g, All-before (IsPart nodes frames) ws w g)
+pub part-taken : (nodes : Nodes) (frames : Frames Premise) (now ws : List Waiting) (w : Waiting) → now ≡ ws ++ w ∷ [] → All (IsPart nodes frames) now
+    → IsPart nodes frames w × All (IsPart nodes frames) ws
+part-taken nodes frames now ws w e h = let g = subst (All (IsPart nodes frames)) e h in
+    (All-last-of (IsPart nodes frames) ws w g, All-before (IsPart nodes frames) ws w g)
 
 -- there is less to walk through
-pub walk-smaller : (nodes : Nodes) (now ws : List Waiting) (w : Waiting) (m : ℕ) → now ≡ ws ++ w ∷ [] → m < walk_size (form_tree nodes w.form.0) + waiting_size nodes ws → m < waiting_size nodes now
-walk-smaller nodes now ws w m e h = let s = waiting_size-last nodes ws w in let z : waiting_size nodes now ≡ waiting_size nodes (ws ++ w ∷ []) = ap (waiting_size nodes) e in omega arith
+pub walk-smaller : (nodes : Nodes) (now ws : List Waiting) (w : Waiting) (m : ℕ) → now ≡ ws ++ w ∷ []
+    → m < walk_size (form_tree nodes w.form.0) + waiting_size nodes ws → m < waiting_size nodes now
+walk-smaller nodes now ws w m e h = let s = waiting_size-last nodes ws w in
+    let z : waiting_size nodes now ≡ waiting_size nodes (ws ++ w ∷ []) = ap (waiting_size nodes) e in omega arith
 
 -- ---- clause after clause
 
-program_leaves-last : (n : ℕ) (cs : List ClauseTree) (c : ClauseTree) → program_leaves n (cs ++ c ∷ []) ≡ program_leaves n cs ++ numbered (n + length cs) 0 (standing_leaves c.form)
-program_leaves-last n [] c = append-nil (numbered n 0 (standing_leaves c.form)) ∙ ap (λ m. numbered m 0 (standing_leaves c.form)) (let e : n ≡ n + 0 = omega arith in e)
+program_leaves-last : (n : ℕ) (cs : List ClauseTree) (c : ClauseTree)
+    → program_leaves n (cs ++ c ∷ []) ≡ program_leaves n cs ++ numbered (n + length cs) 0 (standing_leaves c.form)
+program_leaves-last n [] c = append-nil (numbered n 0 (standing_leaves c.form))
+    ∙ ap (λ m. numbered m 0 (standing_leaves c.form)) (let e : n ≡ n + 0 = omega arith in e)
 program_leaves-last n (d ∷ cs) c =
     ap (λ ls. numbered n 0 (standing_leaves d.form) ++ ls) (program_leaves-last (suc n) cs c)
     ∙ (sym (append_assoc (numbered n 0 (standing_leaves d.form)) (program_leaves (suc n) cs) (numbered (suc n + length cs) 0 (standing_leaves c.form)))
-    ∙ ap (λ m. (numbered n 0 (standing_leaves d.form) ++ program_leaves (suc n) cs) ++ numbered m 0 (standing_leaves c.form)) (let e : suc n + length cs ≡ n + suc (length cs) = omega arith in e))
+    ∙ ap (λ m. (numbered n 0 (standing_leaves d.form) ++ program_leaves (suc n) cs) ++ numbered m 0 (standing_leaves c.form))
+    (let e : suc n + length cs ≡ n + suc (length cs) = omega arith in e))
 
 -- the leaves of one clause more
 module _ (nodes : Nodes) (clauses : List Clause) (place label : ℕ) (d : Clause) (old new : Walk) (inside : place < length clauses) (same : label ≡ place)
-    (adds : AddsLeaves nodes old new (numbered label 0 (standing_leaves (form_tree nodes (slice_index_or clauses place d).form.0)))) (stored : All (IsStored nodes old.premises) old.leaves.items) where
+    (adds : AddsLeaves nodes old new (numbered label 0 (standing_leaves (form_tree nodes (slice_index_or clauses place d).form.0))))
+    (stored : All (IsStored nodes old.premises) old.leaves.items) where
   pub clause-stored : All (IsStored nodes new.premises) new.leaves.items
   clause-stored =
       subst (All (IsStored nodes new.premises)) (sym adds.added)
-      (All-append (IsStored nodes new.premises) old.leaves.items adds.more (All-become _ _ (IsStored-grows nodes adds.frames) old.leaves.items stored) adds.stored)
+      (All-append (IsStored nodes new.premises) old.leaves.items adds.more (All-become _ _ (IsStored-grows nodes adds.frames) old.leaves.items stored)
+      adds.stored)
 
   pub clause-leaves : map (listed nodes old.premises) old.leaves.items ≡ program_leaves 0 (map (clause_tree nodes) (take place clauses))
       → map (listed nodes new.premises) new.leaves.items ≡ program_leaves 0 (map (clause_tree nodes) (take (place + 1) clauses))
   clause-leaves so_far =
       let c : Clause = slice_index_or clauses place d in
-      let count : length (map (clause_tree nodes) (take place clauses)) ≡ place = length-map (take place clauses) (clause_tree nodes) ∙ length-take-le place clauses (omega arith) in
+      let count : length (map (clause_tree nodes) (take place clauses)) ≡ place =
+      length-map (take place clauses) (clause_tree nodes) ∙ length-take-le place clauses (omega arith) in
       ap (map (listed nodes new.premises)) adds.added
       ∙ (map-append (listed nodes new.premises) old.leaves.items adds.more
       ∙ (ap (λ ls. ls ++ map (listed nodes new.premises) adds.more) (listed-grows nodes adds.frames old.leaves.items stored ∙ so_far)
       ∙ (ap (λ ls. program_leaves 0 (map (clause_tree nodes) (take place clauses)) ++ ls) adds.is
-      ∙ (ap (λ n. program_leaves 0 (map (clause_tree nodes) (take place clauses)) ++ numbered n 0 (standing_leaves (form_tree nodes c.form.0))) (let e : label ≡ 0 + length (map (clause_tree nodes) (take place clauses)) = omega arith in e)
+      ∙ (ap (λ n. program_leaves 0 (map (clause_tree nodes) (take place clauses)) ++ numbered n 0 (standing_leaves (form_tree nodes c.form.0)))
+      (let e : label ≡ 0 + length (map (clause_tree nodes) (take place clauses)) = omega arith in e)
       ∙ (sym (program_leaves-last 0 (map (clause_tree nodes) (take place clauses)) (clause_tree nodes c))
       ∙ (ap (program_leaves 0) (sym (map-append (clause_tree nodes) (take place clauses) (c ∷ [])))
       ∙ ap (λ cs. program_leaves 0 (map (clause_tree nodes) cs)) (sym (ap (λ k. take k clauses) (add-one place) ∙ take-suc clauses place d inside))))))))

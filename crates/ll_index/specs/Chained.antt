@@ -17,5 +17,6 @@ behind i next p = if nat_eq p i then next else p
 
 -- the items at two places and at those that are linked behind them, in order, where the list begins at place i
 abbrev pub linked_from : {A : Type 0} → ℕ → List A → List ℕ → ℕ → ℕ → List A
-linked_from i (x ∷ xs) (n ∷ ns) p q = if nat_eq p i || nat_eq q i then x ∷ linked_from (suc i) xs ns (behind i n p) (behind i n q) else linked_from (suc i) xs ns p q
+linked_from i (x ∷ xs) (n ∷ ns) p q = if nat_eq p i || nat_eq q i then x ∷ linked_from (suc i) xs ns (behind i n p) (behind i n q) else
+    linked_from (suc i) xs ns p q
 linked_from i _ _ p q = []

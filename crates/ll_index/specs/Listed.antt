@@ -33,7 +33,12 @@ shown_premises nodes ps = map (shown_premise nodes) ps
 
 -- a leaf as it is shown in a bank
 abbrev pub shown_leaf : Nodes → Frames Premise → Leaf → StandingLeaf
-shown_leaf nodes frames l = record { premises = shown_premises nodes (items_at frames l.premises); quantifiers = l.quantifiers; head = term_tree nodes l.head.0 }
+shown_leaf nodes frames l = record {
+  premises = shown_premises nodes (items_at frames l.premises);
+  quantifiers = l.quantifiers;
+  head =
+      term_tree nodes l.head.0;
+}
 
 -- a leaf with its label and number, as it is shown in a bank
 abbrev pub listed : Nodes → Frames Premise → Leaf → Listed

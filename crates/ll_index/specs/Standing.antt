@@ -56,4 +56,5 @@ LeavesStand = (r : Form) → map (λ l. l.quantifiers) (standing_leaves r) ≡ w
 
 -- opened with one term for each quantifier on the way, it is the leaf
 abbrev pub LeavesOpen : Type 0
-LeavesOpen = (r : Form) (k : ℕ) (ts : List Term) (l : StandingLeaf) → slice_get (standing_leaves r) k ≡ Some l → length ts ≡ l.quantifiers → leaf r k ts ≡ Some (opened_leaf ts l)
+LeavesOpen = (r : Form) (k : ℕ) (ts : List Term) (l : StandingLeaf) → slice_get (standing_leaves r) k ≡ Some l → length ts ≡ l.quantifiers
+    → leaf r k ts ≡ Some (opened_leaf ts l)

@@ -137,7 +137,8 @@ impl Walk {
 
     /// A part of a clause waits, with what stands round it.
     fn put(&mut self, form: FormAt, quantifiers: u32, premises: Top) -> Result<(), OutOfMemory>
-        ensures waiting { OnOk result (self.new.waiting.items ≡ self.old.waiting.items ++ record { form = form; quantifiers = quantifiers; premises = premises } ∷ []) }
+        ensures waiting { OnOk result (self.new.waiting.items ≡ self.old.waiting.items ++ record { form = form; quantifiers = quantifiers; premises = premises }
+            ∷ []) }
         ensures leaves { self.new.leaves ≡ self.old.leaves }
         ensures premises { self.new.premises ≡ self.old.premises }
     {

@@ -14,4 +14,5 @@ pub record Answered : Type 0 where
 -- by which a proof tells two of them apart
 abbrev pub answered_code : Coded Answered
 answered_code =
-    code_by (List Term × List Step) (coded× (coded_list coded_term) (coded_list step.the_row.coded)) (λ a. (a.terms, a.steps)) (λ p. record { terms = p.0; steps = p.1 }) (λ _. refl)
+    code_by (List Term × List Step) (coded× (coded_list coded_term) (coded_list step.the_row.coded)) (λ a. (a.terms, a.steps))
+    (λ p. record { terms = p.0; steps = p.1 }) (λ _. refl)

@@ -1,6 +1,7 @@
 -- One inference: the candidates of the first goal, and the state that each gives.
 -- Right rules and backchaining are those of Hodas and Miller 1994; the flag and the lazy leftovers are this system's own.
-use Rattle.std.specs.Prelude.{ℕ, zero, suc, Bool, true, false, ◌||◌, not, List, [], ◌∷◌, ◌++◌, map, length, replicate, nat_eq, slice_get, Option, Some, None, if◌then◌else◌, option_map, option_and_then, flat_map, ℤ}
+use Rattle.std.specs.Prelude.{ℕ, zero, suc, Bool, true, false, ◌||◌, not, List, [], ◌∷◌, ◌++◌, map, length, replicate, nat_eq, slice_get, Option, Some, None}
+use Rattle.std.specs.Prelude.{if◌then◌else◌, option_map, option_and_then, flat_map, ℤ}
 use Rattle.ll_bank.specs.declared.Head.TheVariants.{Eigen}
 use Rattle.ll_bank.specs.Term.{Term, Var, Con, sub, same_predicate, Int}
 use Rattle.ll_bank.specs.Form.{Form, Top, One, Atom, With, Tensor, Plus, Bang, Lolli, Imp, Forall, Exists, Use, instantiate, Num, Relation, Is}

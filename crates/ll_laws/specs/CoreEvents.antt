@@ -1,5 +1,6 @@
 -- The core events: what each call does to a pool, with its answer, and when it is lawful.
-use Rattle.std.specs.Prelude.{◌≡◌, ℕ, zero, suc, ◌+◌, ◌-◌, ◌<◌, ◌≤◌, List, [], ◌∷◌, ◌++◌, Bool, true, false, Option, Some, None, length, slice_get, flat_map, sum_by}
+use Rattle.std.specs.Prelude.{◌≡◌, ℕ, zero, suc, ◌+◌, ◌-◌, ◌<◌, ◌≤◌, List, [], ◌∷◌, ◌++◌, Bool, true, false, Option, Some, None, length, slice_get, flat_map}
+use Rattle.std.specs.Prelude.{sum_by}
 use Rattle.std.specs.List.{list_all}
 use Rattle.ll_laws.specs.Pool.{Owed, Status, Open, Closed, Taken, Piece, PoolData, Alternative, place}
 use Rattle.ll_laws.specs.Spread.{share, owes_of, walk, length_of, piece_of}
@@ -75,7 +76,13 @@ module _ {N E : Type 0} where
 
   -- piece i has published the batch n, which has so many alternatives
   abbrev pub published : PoolData N E → ℕ → N → ℕ → PoolData N E
-  published p i n len = record p { batches = p.batches ++ n ∷ []; pieces = change i (with_batch (length p.batches)) p.pieces; total = p.total + len; untried = p.untried + len }
+  published p i n len = record p {
+    batches = p.batches ++ n ∷ [];
+    pieces = change i (with_batch (length p.batches)) p.pieces;
+    total = p.total + len;
+    untried =
+        p.untried + len;
+  }
 
   -- piece i is closed with the report
   abbrev pub reported : PoolData N E → ℕ → Owed E → PoolData N E

@@ -10,7 +10,8 @@ use Rattle.ll_laws.specs.Settle.{Entry, Item, Goal}
 use Rattle.ll_laws.specs.State.{State, settle}
 use Rattle.ll_laws.specs.Attempt.{stepped, entry_at, attempt_goal}
 use Rattle.ll_laws.specs.Shows.{Tree}
-use Rattle.ll_laws.specs.Line.{Line, OneLine, EraseLine, TensorLine, WithLine, LeftLine, RightLine, BangLine, UseLine, LolliLine, ImpLine, ForallLine, ExistsLine, ClauseLine, part_line, trees_of, lines, DerivationLines, NumLine}
+use Rattle.ll_laws.specs.Line.{Line, OneLine, EraseLine, TensorLine, WithLine, LeftLine, RightLine, BangLine, UseLine, LolliLine, ImpLine, ForallLine}
+use Rattle.ll_laws.specs.Line.{ExistsLine, ClauseLine, part_line, trees_of, lines, DerivationLines, NumLine}
 use Rattle.ll_laws.specs.Run.{taken_by, run_start}
 use Rattle.ll_laws.specs.Dealing.{deal}
 use Rattle.ll_laws.specs.Problem.{ProblemTree, setting_of}
@@ -46,7 +47,8 @@ atom_leaf s rest label k us (Some l) = On (ClauseLine label k us (map part_line 
 abbrev pub atom_line : List Term → State → List (Item Form) → ℕ → ℕ → Option (Entry Form) → Replayed
 atom_line all s rest label k None = Off
 atom_line all s rest label k (Some e) =
-    atom_leaf s rest label k (values all (length s.terms) (slice_index (ways e.clause) k)) (leaf e.clause k (values all (length s.terms) (slice_index (ways e.clause) k)))
+    atom_leaf s rest label k (values all (length s.terms) (slice_index (ways e.clause) k))
+    (leaf e.clause k (values all (length s.terms) (slice_index (ways e.clause) k)))
 
 -- what a step tells of a state with this goal in front
 abbrev pub line_of : Setting → List Term → State → Form → List (Item Form) → Step → Replayed

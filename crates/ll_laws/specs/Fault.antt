@@ -4,7 +4,8 @@
 -- number of terms; 7 the head is not the goal; 8 wrong parts; 9 the label is not new; 10 the constant is not new; 11 wrong number of
 -- terms for the query's variables, at node 0; 12 numbers do not fit. At a clause node they are judged in the order 1, 4, 5, 6, 7, 8, 3, and
 -- at a whole-number node in the order 1, 2, 12.
-use Rattle.std.specs.Prelude.{ℕ, suc, Bool, true, false, ◌&&◌, ◌||◌, not, if◌then◌else◌, List, [], ◌∷◌, ◌++◌, length, nat_eq, nat_lt, Option, Some, None, slice_get}
+use Rattle.std.specs.Prelude.{ℕ, suc, Bool, true, false, ◌&&◌, ◌||◌, not, if◌then◌else◌, List, [], ◌∷◌, ◌++◌, length, nat_eq, nat_lt, Option, Some, None}
+use Rattle.std.specs.Prelude.{slice_get}
 use Rattle.std.specs.List.{list_any}
 use Rattle.std.specs.Ordering.{int_eq}
 use Rattle.ll_bank.specs.declared.Head.TheVariants.{Eigen}
@@ -12,7 +13,9 @@ use Rattle.ll_bank.specs.Term.{Term, Var, Int, Con, Ap, head_eq}
 use Rattle.ll_bank.specs.Form.{Form, Top, One, Atom, With, Tensor, Plus, Bang, Lolli, Imp, Forall, Exists, Use, instantiate, form_has_eigen, Num}
 use Rattle.ll_laws.specs.Leaf.{Premise, Needs, NeedsFree, Leaf, ways, leaf}
 use Rattle.ll_laws.specs.Module.{Setting, ModuleTree, unfold_load}
-use Rattle.ll_laws.specs.Shows.{Tree, OneNode, EraseNode, TensorNode, WithNode, LeftNode, RightNode, BangNode, LolliNode, ImpNode, ForallNode, ExistsNode, UseNode, ClauseNode, Parts, NoParts, BoundedPart, UnboundedPart, Labelled, clauses, has_label, part, rest, splits, all_in, Found, Missing, Took, pick, NumNode}
+use Rattle.ll_laws.specs.Shows.{Tree, OneNode, EraseNode, TensorNode, WithNode, LeftNode, RightNode, BangNode, LolliNode, ImpNode, ForallNode, ExistsNode}
+use Rattle.ll_laws.specs.Shows.{UseNode, ClauseNode, Parts, NoParts, BoundedPart, UnboundedPart, Labelled, clauses, has_label, part, rest, splits, all_in}
+use Rattle.ll_laws.specs.Shows.{Found, Missing, Took, pick, NumNode}
 use Rattle.ll_laws.specs.Number.{holds}
 
 -- what checking a tree gives
@@ -92,14 +95,18 @@ abbrev mutual
   pub fault : Setting → ℕ → Tree → List Labelled → List Labelled → Form → Checked
   fault beside k OneNode c d One = unless (is_empty d) k 2 (Fits (suc k))
   fault beside k EraseNode c d Top = Fits (suc k)
-  fault beside k (TensorNode s t x y) c d (Tensor g h) = unless (splits s t d) k 3 (then_check (fault beside (suc k) x c (part s d) g) (λ m. fault beside m y c (part t d) h))
+  fault beside k (TensorNode s t x y) c d (Tensor g h) = unless (splits s t d) k 3
+      (then_check (fault beside (suc k) x c (part s d) g) (λ m. fault beside m y c (part t d) h))
   fault beside k (WithNode x y) c d (With g h) = then_check (fault beside (suc k) x c d g) (λ m. fault beside m y c d h)
   fault beside k (LeftNode x) c d (Plus g h) = fault beside (suc k) x c d g
   fault beside k (RightNode x) c d (Plus g h) = fault beside (suc k) x c d h
   fault beside k (BangNode x) c d (Bang g) = unless (is_empty d) k 2 (fault beside (suc k) x c d g)
-  fault beside k (LolliNode n x) c d (Lolli r g) = unless (not (has_label c n || has_label d n)) k 9 (fault beside (suc k) x c (d ++ record { label = n; clause = r } ∷ []) g)
-  fault beside k (ImpNode n x) c d (Imp r g) = unless (not (has_label c n || has_label d n)) k 9 (fault beside (suc k) x (record { label = n; clause = r } ∷ c) d g)
-  fault beside k (ForallNode e x) c d (Forall g) = unless (not (list_any (form_has_eigen e) (g ∷ (clauses c ++ clauses d)))) k 10 (fault beside (suc k) x c d (instantiate g (Con (Eigen e))))
+  fault beside k (LolliNode n x) c d (Lolli r g) = unless (not (has_label c n || has_label d n)) k 9
+      (fault beside (suc k) x c (d ++ record { label = n; clause = r } ∷ []) g)
+  fault beside k (ImpNode n x) c d (Imp r g) = unless (not (has_label c n || has_label d n)) k 9
+      (fault beside (suc k) x (record { label = n; clause = r } ∷ c) d g)
+  fault beside k (ForallNode e x) c d (Forall g) = unless (not (list_any (form_has_eigen e) (g ∷ (clauses c ++ clauses d)))) k 10
+      (fault beside (suc k) x c d (instantiate g (Con (Eigen e))))
   fault beside k (ExistsNode t x) c d (Exists g) = fault beside (suc k) x c d (instantiate g t)
   fault beside k (UseNode x) c d (Use m ts g) = on_module (module_of beside m) k (λ l. fault beside (suc k) x c d (unfold_load l ts g))
   fault beside k NumNode c d (Num r t u) = unless (is_empty d) k 2 (unless (holds beside.operators r t u) k 12 (Fits (suc k)))

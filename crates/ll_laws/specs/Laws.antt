@@ -36,7 +36,8 @@ EndedSearch = (m : Setting) (n : ℕ) (s t : State) → settle s ≡ Some t → 
 
 -- a settled state with a goal in front has reached the bound 0
 abbrev pub BoundSearch : Type 0
-BoundSearch = (m : Setting) (s t : State) (i : Item Form) (rest : List (Item Form)) → settle s ≡ Some t → t.agenda ≡ i ∷ rest → (events m 0 s ≡ Reached ∷ []) × (cost m 0 s ≡ 0)
+BoundSearch = (m : Setting) (s t : State) (i : Item Form) (rest : List (Item Form)) → settle s ≡ Some t → t.agenda ≡ i ∷ rest
+    → (events m 0 s ≡ Reached ∷ []) × (cost m 0 s ≡ 0)
 
 -- with a bound left, it has the events of its successors in order, and costs one more than they cost
 abbrev pub SteppedSearch : Type 0
@@ -47,7 +48,8 @@ SteppedSearch =
 -- a search that reaches no bound has the same events and the same cost at every greater bound
 abbrev pub SteadySearch : Type 0
 SteadySearch =
-    (m : Setting) (low high : ℕ) (s : State) → low ≤ high → any_reached (events m low s) ≡ false → (events m high s ≡ events m low s) × (cost m high s ≡ cost m low s)
+    (m : Setting) (low high : ℕ) (s : State) → low ≤ high → any_reached (events m low s) ≡ false
+    → (events m high s ≡ events m low s) × (cost m high s ≡ cost m low s)
 
 -- ---- settling
 
@@ -72,14 +74,16 @@ SettlesConsistent = (m : Setting) (s t : State) → IsConsistent m s → settle 
 -- each inference of a consistent state gives a consistent one, where the modules are well sorted and well scoped
 abbrev pub StepsConsistent : Type 0
 StepsConsistent =
-    (names : ℕ) (m : Setting) (s t : State) (c : Candidate) → AreModules names m.modules m.modules → IsConsistent m s → attempt m s c ≡ Some t → IsConsistent m t
+    (names : ℕ) (m : Setting) (s t : State) (c : Candidate) → AreModules names m.modules m.modules → IsConsistent m s → attempt m s c ≡ Some t
+    → IsConsistent m t
 
 -- ---- unification, for lists of terms whose variables all have levels
 
 -- what unification finds is a unifier that respects the levels
 abbrev pub FoundUnifies : Type 0
 FoundUnifies =
-    (ls rs : List Term) (levels : List ℕ) (v : Solved) → list_all (vars_below (length levels)) ls ≡ true → list_all (vars_below (length levels)) rs ≡ true → mgu ls rs levels ≡ Some v
+    (ls rs : List Term) (levels : List ℕ) (v : Solved) → list_all (vars_below (length levels)) ls ≡ true → list_all (vars_below (length levels)) rs ≡ true
+    → mgu ls rs levels ≡ Some v
     → IsUnifier ls rs levels v.subst v.levels
 
 -- no new level is above the old one
@@ -89,13 +93,15 @@ FoundLowers = (ls rs : List Term) (levels : List ℕ) (v : Solved) → mgu ls rs
 -- what unification finds is most general among the unifiers that respect the levels
 abbrev pub FoundIsMostGeneral : Type 0
 FoundIsMostGeneral =
-    (ls rs : List Term) (levels : List ℕ) (v : Solved) → list_all (vars_below (length levels)) ls ≡ true → list_all (vars_below (length levels)) rs ≡ true → mgu ls rs levels ≡ Some v
+    (ls rs : List Term) (levels : List ℕ) (v : Solved) → list_all (vars_below (length levels)) ls ≡ true → list_all (vars_below (length levels)) rs ≡ true
+    → mgu ls rs levels ≡ Some v
     → IsMostGeneral ls rs levels v
 
 -- where unification finds nothing, there is no unifier that respects the levels
 abbrev pub NoneUnifies : Type 0
 NoneUnifies =
-    (ls rs : List Term) (levels : List ℕ) (s : ℕ → Term) (new : List ℕ) → list_all (vars_below (length levels)) ls ≡ true → list_all (vars_below (length levels)) rs ≡ true
+    (ls rs : List Term) (levels : List ℕ) (s : ℕ → Term) (new : List ℕ) → list_all (vars_below (length levels)) ls ≡ true
+    → list_all (vars_below (length levels)) rs ≡ true
     → mgu ls rs levels ≡ None → IsUnifier ls rs levels s new → ⊥
 
 -- ---- derivations
@@ -103,7 +109,8 @@ NoneUnifies =
 -- what a tree shows of a goal, from clauses with labels, is derivable from the clauses, with as many nodes
 abbrev pub TreesDerive : Type 0
 TreesDerive =
-    (beside : Setting) (x : Tree) (free bounded : List Labelled) (g : Form) → Shows beside x free bounded g → Derivable beside (nodes x) (clauses free) (clauses bounded) g
+    (beside : Setting) (x : Tree) (free bounded : List Labelled) (g : Form) → Shows beside x free bounded g
+    → Derivable beside (nodes x) (clauses free) (clauses bounded) g
 
 -- a derivation that shows the query makes it derivable, from the program's unbounded and linear clauses, with as many nodes
 abbrev pub ShownIsDerivable : Type 0
@@ -113,11 +120,13 @@ ShownIsDerivable =
 
 -- a whole derivation without a fault shows the query
 abbrev pub FaultlessShows : Type 0
-FaultlessShows = (p : ProblemTree) (d : DerivationLines) (x : Tree) (n : ℕ) → IsWhole d → trees_of d.nodes ≡ Some (x ∷ []) → first_fault p d x ≡ Fits n → DerivationShows p d
+FaultlessShows = (p : ProblemTree) (d : DerivationLines) (x : Tree) (n : ℕ) → IsWhole d → trees_of d.nodes ≡ Some (x ∷ []) → first_fault p d x ≡ Fits n
+    → DerivationShows p d
 
 -- a derivation that shows the query has no fault, and its nodes are numbered from 1
 abbrev pub ShownIsFaultless : Type 0
-ShownIsFaultless = (p : ProblemTree) (d : DerivationLines) (x : Tree) → trees_of d.nodes ≡ Some (x ∷ []) → DerivationShows p d → first_fault p d x ≡ Fits (suc (nodes x))
+ShownIsFaultless = (p : ProblemTree) (d : DerivationLines) (x : Tree) → trees_of d.nodes ≡ Some (x ∷ []) → DerivationShows p d
+    → first_fault p d x ≡ Fits (suc (nodes x))
 
 -- ---- answers
 

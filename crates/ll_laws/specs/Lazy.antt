@@ -6,7 +6,8 @@ use Rattle.ll_bank.specs.Form.{Form, Top, One, Atom, With, Tensor, Plus, Bang, L
 use Rattle.ll_laws.specs.Leaf.{Needs, NeedsFree, Premise, leaf}
 use Rattle.ll_laws.specs.Module.{Setting, ModuleTree, unfold_load}
 use Rattle.ll_laws.specs.Derive.{AreClosed, IsNew}
-use Rattle.ll_laws.specs.Shows.{Tree, OneNode, EraseNode, TensorNode, WithNode, LeftNode, RightNode, BangNode, LolliNode, ImpNode, ForallNode, ExistsNode, UseNode, ClauseNode, Parts, NoParts, BoundedPart, UnboundedPart, Labelled, clauses, has_label, Took, pick, NumNode}
+use Rattle.ll_laws.specs.Shows.{Tree, OneNode, EraseNode, TensorNode, WithNode, LeftNode, RightNode, BangNode, LolliNode, ImpNode, ForallNode, ExistsNode}
+use Rattle.ll_laws.specs.Shows.{UseNode, ClauseNode, Parts, NoParts, BoundedPart, UnboundedPart, Labelled, clauses, has_label, Took, pick, NumNode}
 use Rattle.ll_laws.specs.Dealing.{uses, erases}
 use Rattle.ll_laws.specs.Number.{holds}
 

@@ -35,6 +35,17 @@ module _ {E : Type 0} (event : Coded E) where
   abbrev pub pool_code : {N : Type 0} → Coded N → Coded (PoolData N E)
   pool_code {N = N} batch =
       code_by (List N × (List (Piece E) × (ℕ × (ℕ × (ℕ × (ℕ × (Bool × Bool)))))))
-      (coded× (coded_list batch) (coded× (coded_list piece_code) (coded× coded_ℕ (coded× coded_ℕ (coded× coded_ℕ (coded× coded_ℕ (coded× coded_bool coded_bool)))))))
+      (coded× (coded_list batch) (coded× (coded_list piece_code)
+      (coded× coded_ℕ (coded× coded_ℕ (coded× coded_ℕ (coded× coded_ℕ (coded× coded_bool coded_bool)))))))
       (λ p. (p.batches, (p.pieces, (p.workers, (p.busy, (p.total, (p.untried, (p.starved, p.stopped))))))))
-      (λ t. record { batches = t.0; pieces = t.1.0; workers = t.1.1.0; busy = t.1.1.1.0; total = t.1.1.1.1.0; untried = t.1.1.1.1.1.0; starved = t.1.1.1.1.1.1.0; stopped = t.1.1.1.1.1.1.1 }) (λ _. refl)
+      (λ t. record {
+        batches = t.0;
+        pieces = t.1.0;
+        workers = t.1.1.0;
+        busy = t.1.1.1.0;
+        total = t.1.1.1.1.0;
+        untried = t.1.1.1.1.1.0;
+        starved =
+            t.1.1.1.1.1.1.0;
+        stopped = t.1.1.1.1.1.1.1;
+      }) (λ _. refl)

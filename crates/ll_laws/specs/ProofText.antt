@@ -6,7 +6,8 @@ use Rattle.ll_laws.specs.declared.Event.TheVariants.{Answer, Reached}
 use Rattle.ll_laws.specs.Search.{is_answer, is_reached}
 use Rattle.ll_laws.specs.Problem.{ProblemTree, problem_events, problem_cost}
 use Rattle.ll_laws.specs.Output.{line, argument_text, term_text, answer_text, summary_text}
-use Rattle.ll_laws.specs.Line.{PartLine, Labels, Free, Line, OneLine, EraseLine, TensorLine, WithLine, LeftLine, RightLine, BangLine, UseLine, LolliLine, ImpLine, ForallLine, ExistsLine, ClauseLine, DerivationLines, NumLine}
+use Rattle.ll_laws.specs.Line.{PartLine, Labels, Free, Line, OneLine, EraseLine, TensorLine, WithLine, LeftLine, RightLine, BangLine, UseLine, LolliLine}
+use Rattle.ll_laws.specs.Line.{ImpLine, ForallLine, ExistsLine, ClauseLine, DerivationLines, NumLine}
 use Rattle.ll_laws.specs.Dealt.{dealt}
 
 -- a field: a space and its text

@@ -1,5 +1,6 @@
 -- The search of one depth-first engine: its events in order, what it costs, and where it forks.
-use Rattle.std.specs.Prelude.{ℕ, zero, suc, Bool, true, false, ◌||◌, ◌&&◌, not, List, [], ◌∷◌, length, replicate, nat_eq, Option, Some, None, is_some, if◌then◌else◌, flat_map, sum_by, min}
+use Rattle.std.specs.Prelude.{ℕ, zero, suc, Bool, true, false, ◌||◌, ◌&&◌, not, List, [], ◌∷◌, length, replicate, nat_eq, Option, Some, None, is_some}
+use Rattle.std.specs.Prelude.{if◌then◌else◌, flat_map, sum_by, min}
 use Rattle.std.specs.List.{list_any}
 use Rattle.ll_bank.specs.Form.{Form}
 use Rattle.ll_laws.specs.declared.Step.{Step}

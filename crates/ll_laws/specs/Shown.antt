@@ -34,13 +34,15 @@ clause_code = code_by (Kind × Form) (coded× kind.the_row.coded coded_form) (λ
 -- by which a proof tells modules apart
 abbrev pub module_code : Coded ModuleTree
 module_code =
-    code_by (ℕ × (ℕ × (ℕ × List ClauseTree))) (coded× coded_ℕ (coded× coded_ℕ (coded× coded_ℕ (coded_list clause_code)))) (λ m. (m.name, (m.params, (m.locals, m.clauses))))
+    code_by (ℕ × (ℕ × (ℕ × List ClauseTree))) (coded× coded_ℕ (coded× coded_ℕ (coded× coded_ℕ (coded_list clause_code))))
+    (λ m. (m.name, (m.params, (m.locals, m.clauses))))
     (λ p. record { name = p.0; params = p.1.0; locals = p.1.1.0; clauses = p.1.1.1 }) (λ _. refl)
 
 -- by which a proof tells problems apart
 abbrev pub problem_code : Coded ProblemTree
 problem_code =
     code_by (List (List ℕ) × (List ModuleTree × (List ClauseTree × (Form × (List (Option ℕ) × ℕ)))))
-    (coded× (coded_list (coded_list coded_ℕ)) (coded× (coded_list module_code) (coded× (coded_list clause_code) (coded× coded_form (coded× (coded_list (coded_option coded_ℕ)) coded_ℕ)))))
+    (coded× (coded_list (coded_list coded_ℕ)) (coded× (coded_list module_code)
+    (coded× (coded_list clause_code) (coded× coded_form (coded× (coded_list (coded_option coded_ℕ)) coded_ℕ)))))
     (λ p. (p.names, (p.modules, (p.clauses, (p.goal, (p.asked, p.bound))))))
     (λ q. record { names = q.0; modules = q.1.0; clauses = q.1.1.0; goal = q.1.1.1.0; asked = q.1.1.1.1.0; bound = q.1.1.1.1.1 }) (λ _. refl)

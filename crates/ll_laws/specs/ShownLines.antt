@@ -8,7 +8,8 @@ use Rattle.ll_laws.specs.declared.Part.{Part}
 use Rattle.ll_laws.specs.declared.Part.TheVariants.{Bounded, Unbounded}
 use Rattle.ll_laws.specs.declared.Rule.{Rule}
 use Rattle.ll_laws.specs.declared.Rule.TheVariants.{One, Erase, Tensor, With, Left, Right, Bang, Lolli, Imp, Forall, Exists, Use, Clause, Num}
-use Rattle.ll_laws.specs.Line.{PartLine, Labels, Free, Line, OneLine, EraseLine, WithLine, LeftLine, RightLine, BangLine, UseLine, TensorLine, LolliLine, ImpLine, ForallLine, ExistsLine, ClauseLine, DerivationLines, NumLine}
+use Rattle.ll_laws.specs.Line.{PartLine, Labels, Free, Line, OneLine, EraseLine, WithLine, LeftLine, RightLine, BangLine, UseLine, TensorLine, LolliLine}
+use Rattle.ll_laws.specs.Line.{ImpLine, ForallLine, ExistsLine, ClauseLine, DerivationLines, NumLine}
 
 -- a part
 abbrev pub part_line : Part → PartLine
@@ -124,4 +125,5 @@ line_code =
 -- a derivation, told apart
 abbrev pub derivation_code : Coded DerivationLines
 derivation_code =
-    code_by (List Term × List Line) (coded× (coded_list coded_term) (coded_list line_code)) (λ d. (d.asked, d.nodes)) (λ p. record { asked = p.0; nodes = p.1 }) (λ _. refl)
+    code_by (List Term × List Line) (coded× (coded_list coded_term) (coded_list line_code)) (λ d. (d.asked, d.nodes)) (λ p. record { asked = p.0; nodes = p.1 })
+    (λ _. refl)

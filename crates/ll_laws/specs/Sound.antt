@@ -1,5 +1,6 @@
 -- Sound pools: the invariant of every run.
-use Rattle.std.specs.Prelude.{◌≡◌, ℕ, ◌+◌, ◌<◌, ◌≤◌, List, [], ◌∷◌, ◌++◌, Bool, true, false, not, Option, Some, None, if◌then◌else◌, ◌==◌, length, slice_get, flat_map, sum_by}
+use Rattle.std.specs.Prelude.{◌≡◌, ℕ, ◌+◌, ◌<◌, ◌≤◌, List, [], ◌∷◌, ◌++◌, Bool, true, false, not, Option, Some, None, if◌then◌else◌, ◌==◌, length, slice_get}
+use Rattle.std.specs.Prelude.{flat_map, sum_by}
 use Rattle.std.specs.List.{list_all}
 use Rattle.ll_laws.specs.Search.{cut_count}
 use Rattle.ll_laws.specs.Pool.{Owed, Status, Open, Closed, Taken, Piece, PoolData, Alternative}
@@ -21,7 +22,8 @@ count_of b (c ∷ cs) = (if c == b then 1 else 0) + count_of b cs
 
 -- the pieces of the walk that are taken are the first ones
 abbrev pub TakenFirst : (Alternative → Bool) → List Alternative → Type 0
-TakenFirst taken walk = (front : List Alternative) × (back : List Alternative) × (walk ≡ front ++ back) × (list_all taken front ≡ true) × (list_all (λ a. not (taken a)) back ≡ true)
+TakenFirst taken walk = (front : List Alternative) × (back : List Alternative) × (walk ≡ front ++ back) × (list_all taken front ≡ true)
+    × (list_all (λ a. not (taken a)) back ≡ true)
 
 module _ {E : Type 0} where
   -- alternative k of batch b is claimed
@@ -84,7 +86,8 @@ module _ {N E : Type 0} (alternatives : N → List (Owed E)) where
     pub taken : TakenFirst (λ a. is_taken_piece (piece_of p.pieces a)) (walk alternatives p)
     -- each worker has at most one open piece
     pub workers : Each p.pieces (λ (x : Piece E). x.worker < p.workers)
-    pub one_open : (i j : ℕ) (x y : Piece E) → slice_get p.pieces i ≡ Some x → slice_get p.pieces j ≡ Some y → x.status ≡ Open → y.status ≡ Open → x.worker ≡ y.worker → i ≡ j
+    pub one_open : (i j : ℕ) (x y : Piece E) → slice_get p.pieces i ≡ Some x → slice_get p.pieces j ≡ Some y → x.status ≡ Open → y.status ≡ Open
+        → x.worker ≡ y.worker → i ≡ j
 
 module _ {N Of E : Type 0} (of : N → Of) (alternatives : N → List (Owed E)) where
   -- Every batch is of the problem, and the root owes the pair.
@@ -93,7 +96,8 @@ module _ {N Of E : Type 0} (of : N → Of) (alternatives : N → List (Owed E)) 
     -- batch 0 has one alternative, which owes the pair
     pub root : slice_get (owes_of alternatives p) 0 ≡ Some (pair ∷ [])
     -- what an alternative owes ends with what its batches owe
-    pub events : Each p.pieces (λ (x : Piece E). (owed_at (owes_of alternatives p) x.batch x.k).events ≡ (share (owes_of alternatives p) x).events ++ given_events (owes_of alternatives p) x)
+    pub events : Each p.pieces (λ (x : Piece E). (owed_at (owes_of alternatives p) x.batch x.k).events ≡ (share (owes_of alternatives p) x).events
+        ++ given_events (owes_of alternatives p) x)
     pub costs : Each p.pieces (λ (x : Piece E). given_cost (owes_of alternatives p) x ≤ (owed_at (owes_of alternatives p) x.batch x.k).cost)
     -- the reports tell the shares
     pub reports : Each p.pieces (λ (x : Piece E). Reported (share (owes_of alternatives p) x) x.status)

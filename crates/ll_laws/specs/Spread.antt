@@ -1,5 +1,6 @@
 -- How a pool is read: the walk over its tree, what each piece owes, and what the whole pool owes.
-use Rattle.std.specs.Prelude.{ℕ, zero, suc, ◌-◌, List, [], ◌∷◌, ◌++◌, Bool, Option, Some, None, ◌==◌, ◌&&◌, length, map, take, slice_get, find, flat_map, sum_by}
+use Rattle.std.specs.Prelude.{ℕ, zero, suc, ◌-◌, List, [], ◌∷◌, ◌++◌, Bool, Option, Some, None, ◌==◌, ◌&&◌, length, map, take, slice_get, find, flat_map}
+use Rattle.std.specs.Prelude.{sum_by}
 use Rattle.ll_laws.specs.Pool.{Owed, Status, Open, Closed, Taken, Piece, PoolData, Alternative}
 
 -- from, from + 1, .., n numbers

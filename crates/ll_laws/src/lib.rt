@@ -5,7 +5,9 @@
 #![tactic(auto)]
 
 ghost use Rattle.std.specs.Prelude.{◌≡◌, length};
-ghost use Rattle.ll_laws.specs.Laws.{StuckSearch, EndedSearch, BoundSearch, SteppedSearch, SteadySearch, SettledOnce, SettledUnder, StartsConsistent, SettlesConsistent, StepsConsistent, FoundUnifies, FoundLowers, FoundIsMostGeneral, NoneUnifies, TreesDerive, ShownIsDerivable, FaultlessShows, ShownIsFaultless, RunsAreShown, AnswersAreShown};
+ghost use Rattle.ll_laws.specs.Laws.{StuckSearch, EndedSearch, BoundSearch, SteppedSearch, SteadySearch, SettledOnce, SettledUnder, StartsConsistent};
+ghost use Rattle.ll_laws.specs.Laws.{SettlesConsistent, StepsConsistent, FoundUnifies, FoundLowers, FoundIsMostGeneral, NoneUnifies, TreesDerive};
+ghost use Rattle.ll_laws.specs.Laws.{ShownIsDerivable, FaultlessShows, ShownIsFaultless, RunsAreShown, AnswersAreShown};
 ghost use Rattle.ll_laws.specs.Completeness.{ShownRuns, HiddenCover, RunsAreFound, ShownIsFound, ShownIsAnswered, ShownIsNumbered, NothingIsShown};
 
 use ll_bank::{At, Bank, FormAt, Names};

@@ -21,9 +21,11 @@ token-long bytes k (suc n) l = omega arith
 
 few-from : (text : List ℕ) (i : ℕ) (ts : List Token) (e : End) → Lexes text i ts e → i ≤ length text → length ts + i ≤ length text
 few-from text i _ _ (at_end h) le = omega arith
-few-from text i ts e (gap n g r) le = let w = gap-within (drop i text) n g in let d = length-drop i text in let k = few-from text (i + n) ts e r (omega arith) in omega arith
+few-from text i ts e (gap n g r) le = let w = gap-within (drop i text) n g in let d = length-drop i text in
+    let k = few-from text (i + n) ts e r (omega arith) in omega arith
 few-from text i _ e (token {ts = ts} k n l s r) le =
-    let w = l.within in let d = length-drop i text in let p = token-long (drop i text) k n l in let q = few-from text (i + n) ts e r (omega arith) in omega arith
+    let w = l.within in let d = length-drop i text in let p = token-long (drop i text) k n l in let q = few-from text (i + n) ts e r (omega arith) in
+    omega arith
 few-from text i _ _ (flawed k n kind l f) le = omega arith
 few-from text i _ _ (no_token h p q) le = omega arith
 

@@ -1,5 +1,6 @@
 -- What the first byte of a token tells of the others, and why a token is the longest.
-use Rattle.std.proofs.Common.{◌≡◌, ℕ, zero, suc, ◌+◌, ◌<◌, ◌≤◌, Bool, true, false, cond, ◌&&◌, ◌||◌, ◌==◌, not, List, [], ◌∷◌, ◌++◌, length, take, drop, get_or, Some, None, refl, sym, ◌∙◌, ap, subst, arith, codes, length-append}
+use Rattle.std.proofs.Common.{◌≡◌, ℕ, zero, suc, ◌+◌, ◌<◌, ◌≤◌, Bool, true, false, cond, ◌&&◌, ◌||◌, ◌==◌, not, List, [], ◌∷◌, ◌++◌, length, take, drop}
+use Rattle.std.proofs.Common.{get_or, Some, None, refl, sym, ◌∙◌, ap, subst, arith, codes, length-append}
 use Rattle.std.specs.List.{list_all, list_any, prefix_len, starts_with}
 use Rattle.std.specs.Prelude.{nat_eq}
 use Rattle.std.specs.Str.{bytes_eq}
@@ -11,7 +12,8 @@ use Rattle.std.proofs.lemmas.Bool.{or_parts as neither}
 use Rattle.ll_lists.proofs.CallerLemmas.{run_passes as run-passes, and_true_both as both}
 use Rattle.ll_lexer.specs.declared.TokenKind.{TokenKind}
 use Rattle.ll_lexer.specs.declared.TokenKind.TheVariants.{Name, Variable, Number, Minus}
-use Rattle.ll_lexer.specs.Spelling.{is_lower, is_upper, is_digit, is_word_start, is_word_byte, is_word, is_name, is_variable, is_numeral, is_number, fixed_spellings, listed_kind, shaped_kind, kind_of, Spells, IsLongest, HasNone}
+use Rattle.ll_lexer.specs.Spelling.{is_lower, is_upper, is_digit, is_word_start, is_word_byte, is_word, is_name, is_variable, is_numeral, is_number}
+use Rattle.ll_lexer.specs.Spelling.{fixed_spellings, listed_kind, shaped_kind, kind_of, Spells, IsLongest, HasNone}
 use Rattle.ll_lexer.proofs.Spelled.{kind-passes, ShapesPass}
 
 -- ---- bytes
@@ -81,7 +83,8 @@ heads-pass f q h = record { names = names; variables = variables; numbers = numb
     numbers [] e = refl
     numbers (x ∷ u) e = by-dash x u (x == 45) refl e
 
-tail-of : (f : ℕ → Bool) (q : List ℕ → Bool) → list_all (λ e. tail_test f q e.0) fixed_spellings ≡ true → Heads f q → (x : ℕ) (u : List ℕ) (k : TokenKind) → f x ≡ true → kind_of (x ∷ u) ≡ Some k → q u ≡ true
+tail-of : (f : ℕ → Bool) (q : List ℕ → Bool) → list_all (λ e. tail_test f q e.0) fixed_spellings ≡ true → Heads f q → (x : ℕ) (u : List ℕ) (k : TokenKind)
+    → f x ≡ true → kind_of (x ∷ u) ≡ Some k → q u ≡ true
 tail-of f q t h x u k e s = let g : cond (f x) (q u) true ≡ true = kind-passes (λ w j. tail_test f q w) (x ∷ u) k t (heads-pass f q h) s in rw e at g
 
 pub word-tail : (x : ℕ) (u : List ℕ) (k : TokenKind) → is_word_start x ≡ true → kind_of (x ∷ u) ≡ Some k → list_all is_word_byte u ≡ true
@@ -119,7 +122,9 @@ dash-tail u k s = tail-of (λ x. x == 45) dash_tail refl record {
   dashed = λ u a. rw a refl;
 } 45 u k refl s
 
-sign-tail : (b : ℕ) (ts : List (List ℕ)) → is_word_start b ≡ false → is_digit b ≡ false → (45 == b) ≡ false → list_all (λ e. tail_test (λ x. x == b) (one_of ts) e.0) fixed_spellings ≡ true → (u : List ℕ) (k : TokenKind) → kind_of (b ∷ u) ≡ Some k → one_of ts u ≡ true
+sign-tail : (b : ℕ) (ts : List (List ℕ)) → is_word_start b ≡ false → is_digit b ≡ false → (45 == b) ≡ false
+    → list_all (λ e. tail_test (λ x. x == b) (one_of ts) e.0) fixed_spellings ≡ true → (u : List ℕ) (k : TokenKind) → kind_of (b ∷ u) ≡ Some k
+    → one_of ts u ≡ true
 sign-tail b ts n d m t u k s = tail-of (λ x. x == b) (one_of ts) t record {
   words = λ x u a c. rw (apart is_word_start x b a n) refl;
   digits = λ x u a c. rw (apart is_digit x b a d) refl;
@@ -165,7 +170,8 @@ run-is p bs = omega arith
 pub word-shaped : (b : ℕ) (bs : List ℕ) → is_word_start b ≡ true → is_word (take (1 + prefix_len is_word_byte bs) (b ∷ bs)) ≡ true
 word-shaped b bs h = rw (run-is is_word_byte bs, h) (run-passes is_word_byte bs)
 
-pub word-longest : (b : ℕ) (bs : List ℕ) (k : TokenKind) → is_word_start b ≡ true → Spells k (take (1 + prefix_len is_word_byte bs) (b ∷ bs)) → IsLongest (b ∷ bs) k (1 + prefix_len is_word_byte bs)
+pub word-longest : (b : ℕ) (bs : List ℕ) (k : TokenKind) → is_word_start b ≡ true → Spells k (take (1 + prefix_len is_word_byte bs) (b ∷ bs))
+    → IsLongest (b ∷ bs) k (1 + prefix_len is_word_byte bs)
 word-longest b bs k h s = record {
   within = omega (arith, prefix_len-le-length is_word_byte bs);
   spells = s;
@@ -181,7 +187,9 @@ unlisted : (p : List ℕ → Bool) (es : List (List ℕ × TokenKind)) (w : List
 unlisted p [] w h t = refl
 unlisted p (entry ∷ more) w h t = by-test (bytes_eq entry.0 w) refl (both (not (p entry.0)) (list_all (λ e. not (p e.0)) more) h) (unlisted p more w)
   where
-    by-test : (v : Bool) → bytes_eq entry.0 w ≡ v → (not (p entry.0) ≡ true) × (list_all (λ e. not (p e.0)) more ≡ true) → (list_all (λ e. not (p e.0)) more ≡ true → p w ≡ true → listed_kind more w ≡ None) → cond (bytes_eq entry.0 w) (Some entry.1) (listed_kind more w) ≡ None
+    by-test : (v : Bool) → bytes_eq entry.0 w ≡ v → (not (p entry.0) ≡ true) × (list_all (λ e. not (p e.0)) more ≡ true)
+        → (list_all (λ e. not (p e.0)) more ≡ true → p w ≡ true → listed_kind more w ≡ None)
+        → cond (bytes_eq entry.0 w) (Some entry.1) (listed_kind more w) ≡ None
     by-test true q f ih =
         let e : entry.0 ≡ w = (bytes_eq-Decides entry.0 w).0 q in
         let g : not (p w) ≡ true = rw e at f.0 in
@@ -276,7 +284,8 @@ take-front [] bs = refl
 take-front (x ∷ p) bs = ap (λ z. x ∷ z) (take-front p bs)
 
 -- a sign that no token goes on with
-pub sign-longest : (b : ℕ) (t rest : List ℕ) (k : TokenKind) → starts_with nat_eq rest t ≡ true → kind_of (b ∷ t) ≡ Some k → ((d : ℕ) (w : List ℕ) → kind_of (b ∷ (t ++ d ∷ w)) ≡ None) → IsLongest (b ∷ rest) k (suc (length t))
+pub sign-longest : (b : ℕ) (t rest : List ℕ) (k : TokenKind) → starts_with nat_eq rest t ≡ true → kind_of (b ∷ t) ≡ Some k
+    → ((d : ℕ) (w : List ℕ) → kind_of (b ∷ (t ++ d ∷ w)) ≡ None) → IsLongest (b ∷ rest) k (suc (length t))
 sign-longest b t rest k h s n =
     let e : rest ≡ t ++ drop (length t) rest = (starts_is Decides-eqb rest t _ refl).0 h in
     subst (λ z. IsLongest (b ∷ z) k (suc (length t))) (sym e) (found (drop (length t) rest))
@@ -295,16 +304,19 @@ nonempty j s = let f : None ≡ Some j = s in absurd cc
 -- what begins with none of the tails is none of them, however much of it is taken
 one_of-take : (ts : List (List ℕ)) (rest : List ℕ) (m : ℕ) → list_any (λ t. starts_with nat_eq rest t) ts ≡ false → one_of ts (take m rest) ≡ true → ⊥
 one_of-take [] rest m h g = absurd cc
-one_of-take (t ∷ ts) rest m h g = by-test (bytes_eq t (take m rest)) refl (neither (starts_with nat_eq rest t) (list_any (λ t. starts_with nat_eq rest t) ts) h) (one_of-take ts rest m)
+one_of-take (t ∷ ts) rest m h g = by-test (bytes_eq t (take m rest)) refl (neither (starts_with nat_eq rest t) (list_any (λ t. starts_with nat_eq rest t) ts) h)
+    (one_of-take ts rest m)
   where
-    by-test : (v : Bool) → bytes_eq t (take m rest) ≡ v → (starts_with nat_eq rest t ≡ false) × (list_any (λ t. starts_with nat_eq rest t) ts ≡ false) → (list_any (λ t. starts_with nat_eq rest t) ts ≡ false → one_of ts (take m rest) ≡ true → ⊥) → ⊥
+    by-test : (v : Bool) → bytes_eq t (take m rest) ≡ v → (starts_with nat_eq rest t ≡ false) × (list_any (λ t. starts_with nat_eq rest t) ts ≡ false)
+        → (list_any (λ t. starts_with nat_eq rest t) ts ≡ false → one_of ts (take m rest) ≡ true → ⊥) → ⊥
     by-test true e n ih =
         let d : t ≡ take m rest = (bytes_eq-Decides t (take m rest)).0 e in
         let r : rest ≡ t ++ drop m rest = sym (take-append-drop m rest) ∙ ap (λ z. z ++ drop m rest) (sym d) in
         let s : starts_with nat_eq rest t ≡ true = (starts_is Decides-eqb rest t _ refl).1 (drop m rest) r in absurd cc
     by-test false e n ih = ih n.1 (rw e at g)
 
-pub sign-none : (b : ℕ) (ts : List (List ℕ)) (rest : List ℕ) → is_word_start b ≡ false → is_digit b ≡ false → (45 == b) ≡ false → list_all (λ e. tail_test (λ x. x == b) (one_of ts) e.0) fixed_spellings ≡ true → list_any (λ t. starts_with nat_eq rest t) ts ≡ false → HasNone (b ∷ rest)
+pub sign-none : (b : ℕ) (ts : List (List ℕ)) (rest : List ℕ) → is_word_start b ≡ false → is_digit b ≡ false → (45 == b) ≡ false
+    → list_all (λ e. tail_test (λ x. x == b) (one_of ts) e.0) fixed_spellings ≡ true → list_any (λ t. starts_with nat_eq rest t) ts ≡ false → HasNone (b ∷ rest)
 sign-none b ts rest n d m t h j zero le s = nonempty j s
 sign-none b ts rest n d m t h j (suc i) le s = one_of-take ts rest i h (sign-tail b ts n d m t (take i rest) j s)
 
@@ -395,7 +407,8 @@ word-kind : (w : List ℕ) → is_word w ≡ true → NoKeyword w → kind_of w 
 unfolding fixed_spellings kind_of is_word_start
 word-kind w h n =
     let t : begins_with is_word_start w ≡ true = word-begins w h in
-    rw (n.true_word, n.erase_word, n.forall_word, n.exists_word, n.is_word, n.module_word, n.local_word, n.linear_word, n.bar) (rw (unlisted (begins_with is_word_start) (drop 9 fixed_spellings) w refl t) refl)
+    rw (n.true_word, n.erase_word, n.forall_word, n.exists_word, n.is_word, n.module_word, n.local_word, n.linear_word, n.bar)
+    (rw (unlisted (begins_with is_word_start) (drop 9 fixed_spellings) w refl t) refl)
 
 no-upper : (b : ℕ) → is_lower b ≡ true → is_upper b ≡ false
 unfolding is_lower is_upper

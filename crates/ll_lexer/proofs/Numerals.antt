@@ -1,5 +1,6 @@
 -- The value of a number's spelling, as `parse` reads it.
-use Rattle.std.proofs.Common.{◌≡◌, ℕ, ◌<◌, Bool, true, false, cond, ◌==◌, List, [], ◌∷◌, length, refl, arith, rules, FitsSigned, Result, MatchResult, IsOk, Option, Some, ℤ, MatchOption, zero, suc, Ok, Err, ◌⊎◌, inl, inr}
+use Rattle.std.proofs.Common.{◌≡◌, ℕ, ◌<◌, Bool, true, false, cond, ◌==◌, List, [], ◌∷◌, length, refl, arith, rules, FitsSigned, Result, MatchResult, IsOk}
+use Rattle.std.proofs.Common.{Option, Some, ℤ, MatchOption, zero, suc, Ok, Err, ◌⊎◌, inl, inr}
 use Rattle.std.specs.Int.{w64}
 use Rattle.std.specs.List.{list_all}
 use Rattle.std.specs.Result.{result_ok}
@@ -70,7 +71,8 @@ pub utf8-read : {T E : Type 0} (A : T → Type 0) (B : E → Type 0) (w : List �
 utf8-read A B w (Ok t) u m = search rules
 utf8-read A B w (Err e) u m = absurd (m.0 u)
 
-pub number-parsed : {E : Type 0} (w : List ℕ) (r : Result ℤ E) (o : Option ℤ) → is_number w ≡ true → ParsesSigned w64 10 w r → o ≡ result_ok r → MatchOption o (FitsSigned w64 (number_value w) → ⊥) (λ v. v ≡ number_value w)
+pub number-parsed : {E : Type 0} (w : List ℕ) (r : Result ℤ E) (o : Option ℤ) → is_number w ≡ true → ParsesSigned w64 10 w r → o ≡ result_ok r
+    → MatchOption o (FitsSigned w64 (number_value w) → ⊥) (λ v. v ≡ number_value w)
 number-parsed w (Ok v) o h p e = rw e p.1
 number-parsed w (Err x) o h p e = rw e (λ f. p (number-numeral w h, f))
 

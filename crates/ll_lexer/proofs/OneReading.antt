@@ -1,5 +1,6 @@
 -- A text is read in one way.
-use Rattle.std.proofs.Common.{◌≡◌, ℕ, zero, suc, ◌+◌, ◌-◌, ◌<◌, ◌≤◌, true, false, List, [], ◌∷◌, length, take, drop, Some, refl, sym, ◌∙◌, ap, subst, arith, length-drop, inl, inr}
+use Rattle.std.proofs.Common.{◌≡◌, ℕ, zero, suc, ◌+◌, ◌-◌, ◌<◌, ◌≤◌, true, false, List, [], ◌∷◌, length, take, drop, Some, refl, sym, ◌∙◌, ap, subst, arith}
+use Rattle.std.proofs.Common.{length-drop, inl, inr}
 use Rattle.std.specs.List.{slice_get}
 use Rattle.std.proofs.lemmas.Bool.{cases_lt}
 use Rattle.std.proofs.lemmas.Bool.Decides.{nat_tests}
@@ -8,7 +9,8 @@ use Rattle.ll_lexer.specs.declared.Place.{Place}
 use Rattle.ll_lexer.specs.declared.Token.{Token}
 use Rattle.ll_lexer.specs.declared.TokenKind.{TokenKind}
 use Rattle.ll_lexer.specs.Spelling.{is_digit, is_word_start, IsLongest, HasNone}
-use Rattle.ll_lexer.specs.Reading.{is_blank, place_at, IsGap, blank, comment, HasFlaw, past_64_bits, long_name, long_variable, IsSound, End, done, stopped, Lexes, at_end, gap, token, flawed, no_token, token_at, LexedText, IsLexed, HasFault, IsTokenOf}
+use Rattle.ll_lexer.specs.Reading.{is_blank, place_at, IsGap, blank, comment, HasFlaw, past_64_bits, long_name, long_variable, IsSound, End, done, stopped}
+use Rattle.ll_lexer.specs.Reading.{Lexes, at_end, gap, token, flawed, no_token, token_at, LexedText, IsLexed, HasFault, IsTokenOf}
 use Rattle.ll_lexer.proofs.Longest.{begins, first-begins, nonempty}
 
 gap-unique : (bytes : List ℕ) (n m : ℕ) → IsGap bytes n → IsGap bytes m → n ≡ m
@@ -68,12 +70,14 @@ none-longest : (bytes : List ℕ) (k : TokenKind) (n : ℕ) → HasNone bytes �
 none-longest bytes k n h l = h k n l.within l.spells
 
 -- a flaw of the longest token, whichever way it was found
-moved-flaw : (bytes : List ℕ) (k j : TokenKind) (n m f : ℕ) → IsLongest bytes k n → IsLongest bytes j m → HasFlaw j (take m bytes) f → HasFlaw k (take n bytes) f
+moved-flaw : (bytes : List ℕ) (k j : TokenKind) (n m f : ℕ) → IsLongest bytes k n → IsLongest bytes j m → HasFlaw j (take m bytes) f
+    → HasFlaw k (take n bytes) f
 moved-flaw bytes k j n m f a b h =
     let u = longest-unique bytes j k m n b a in
     subst (λ z. HasFlaw z (take n bytes) f) u.0 (subst (λ z. HasFlaw j (take z bytes) f) u.1 h)
 
-sound-flawed : (bytes : List ℕ) (k j : TokenKind) (n m f : ℕ) → IsLongest bytes k n → IsSound k (take n bytes) → IsLongest bytes j m → HasFlaw j (take m bytes) f → ⊥
+sound-flawed : (bytes : List ℕ) (k j : TokenKind) (n m f : ℕ) → IsLongest bytes k n → IsSound k (take n bytes) → IsLongest bytes j m
+    → HasFlaw j (take m bytes) f → ⊥
 sound-flawed bytes k j n m f a s b h = s f (moved-flaw bytes k j n m f a b h)
 
 pub one-reading : (text : List ℕ) (i : ℕ) (ts us : List Token) (d e : End) → Lexes text i ts d → Lexes text i us e → (ts ≡ us) × (d ≡ e)
@@ -116,7 +120,8 @@ one-list a b e h g =
     let p : a.end ≡ b.end = cc in
     same-text a.text b.text a.tokens b.tokens a.end b.end e t p
   where
-    same-text : (t u : List ℕ) (xs ys : List Token) (p q : Place) → t ≡ u → xs ≡ ys → p ≡ q → (let x : LexedText = record { text = t; tokens = xs; end = p } in x) ≡ (let y : LexedText = record { text = u; tokens = ys; end = q } in y)
+    same-text : (t u : List ℕ) (xs ys : List Token) (p q : Place) → t ≡ u → xs ≡ ys → p ≡ q
+        → (let x : LexedText = record { text = t; tokens = xs; end = p } in x) ≡ (let y : LexedText = record { text = u; tokens = ys; end = q } in y)
     same-text t u xs ys p q e f g = rw (e, f, g) refl
 
 pub one-fault : (text : List ℕ) (f g : Fault) → HasFault text f → HasFault text g → f ≡ g
@@ -126,7 +131,8 @@ one-fault text f g a b =
     let p : f.at ≡ g.at = cc in
     same-fault f.at g.at f.kind g.kind p k
   where
-    same-fault : (p q : Place) (k j : ℕ) → p ≡ q → k ≡ j → (let x : Fault = record { at = p; kind = k } in x) ≡ (let y : Fault = record { at = q; kind = j } in y)
+    same-fault : (p q : Place) (k j : ℕ) → p ≡ q → k ≡ j → (let x : Fault = record { at = p; kind = k } in x)
+        ≡ (let y : Fault = record { at = q; kind = j } in y)
     same-fault p q k j e h = rw (e, h) refl
 
 pub not-both : (a : LexedText) (f : Fault) → IsLexed a → HasFault a.text f → ⊥
@@ -139,7 +145,8 @@ longest-within : (text : List ℕ) (i : ℕ) (k : TokenKind) (n : ℕ) → IsLon
 longest-within text i k zero l = absurd (nonempty k l.spells)
 longest-within text i k (suc n) l = let w = l.within in omega (arith, length-drop i text)
 
-token-stands : (text : List ℕ) (i : ℕ) (k : TokenKind) (n : ℕ) → IsLongest (drop i text) k n → IsSound k (take n (drop i text)) → IsTokenOf text (token_at text i k n)
+token-stands : (text : List ℕ) (i : ℕ) (k : TokenKind) (n : ℕ) → IsLongest (drop i text) k n → IsSound k (take n (drop i text))
+    → IsTokenOf text (token_at text i k n)
 token-stands text i k n l s =
     let e : i + n - i ≡ n = omega arith in
     record { order = omega arith; within = longest-within text i k n l; spells = rw e l.spells; sound = rw e s }

@@ -1,5 +1,6 @@
 -- The places of a text, byte by byte and over a run without LF.
-use Rattle.std.proofs.Common.{◌≡◌, ℕ, suc, ◌+◌, ◌<◌, ◌≤◌, Bool, true, false, cond, ◌==◌, List, [], ◌∷◌, length, take, drop, get_or, fold, Some, ◌||◌, refl, ◌∙◌, ap, arith, length-drop}
+use Rattle.std.proofs.Common.{◌≡◌, ℕ, suc, ◌+◌, ◌<◌, ◌≤◌, Bool, true, false, cond, ◌==◌, List, [], ◌∷◌, length, take, drop, get_or, fold, Some, ◌||◌, refl}
+use Rattle.std.proofs.Common.{◌∙◌, ap, arith, length-drop}
 use Rattle.std.specs.List.{list_all}
 use Rattle.std.proofs.lemmas.Bool.Decides.{nat_tests}
 use Rattle.std.proofs.lemmas.List.{length-take}
@@ -58,7 +59,8 @@ fold-columns at (b ∷ bs) h =
     let f : (at.column + 1) + length bs ≡ at.column + suc (length bs) = omega arith in
     ap (λ z. fold after z bs) e ∙ fold-columns (columns at 1) bs p.1 ∙ rw f refl
 
-pub place-columns : (text : List ℕ) (i n : ℕ) → i + n ≤ length text → list_all is_no_lf (take n (drop i text)) ≡ true → place_at text (i + n) ≡ columns (place_at text i) n
+pub place-columns : (text : List ℕ) (i n : ℕ) → i + n ≤ length text → list_all is_no_lf (take n (drop i text)) ≡ true
+    → place_at text (i + n) ≡ columns (place_at text i) n
 place-columns text i n h q =
     let e : length (take n (drop i text)) ≡ n = omega (arith, length-take n (drop i text), length-drop i text) in
     rw take-add (fold-append after begin (take i text) (take n (drop i text)) ∙ fold-columns (place_at text i) (take n (drop i text)) q ∙ rw e refl)

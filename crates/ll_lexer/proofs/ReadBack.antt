@@ -1,5 +1,6 @@
 -- What is spelled as a token, and then followed by a byte that does not go on with it, is read as this token.
-use Rattle.std.proofs.Common.{◌≡◌, ℕ, suc, ◌+◌, ◌≤◌, Bool, true, false, cond, ◌||◌, ◌==◌, List, [], ◌∷◌, ◌++◌, length, take, drop, codes, refl, ap, subst, arith}
+use Rattle.std.proofs.Common.{◌≡◌, ℕ, suc, ◌+◌, ◌≤◌, Bool, true, false, cond, ◌||◌, ◌==◌, List, [], ◌∷◌, ◌++◌, length, take, drop, codes, refl, ap, subst}
+use Rattle.std.proofs.Common.{arith}
 use Rattle.std.specs.List.{list_all, prefix_len, starts_with}
 use Rattle.std.specs.Prelude.{nat_eq}
 use Rattle.std.specs.Str.{bytes_eq}
@@ -9,8 +10,11 @@ use Rattle.std.proofs.lemmas.Slice.Eq.{bytes_eq-Decides, starts_is}
 use Rattle.std.proofs.lemmas.Bool.{or_parts as neither}
 use Rattle.ll_lists.proofs.CallerLemmas.{and_true_both as both}
 use Rattle.ll_lexer.specs.declared.TokenKind.{TokenKind}
-use Rattle.ll_lexer.specs.declared.TokenKind.TheVariants.{Name, Variable, Any, Number, True, Erase, Forall, Exists, Is, Module, Local, Linear, Dot, Comma, Ampersand, Semicolon, ParenLeft, ParenRight, BraceLeft, BraceRight, Backslash, Cons, ColonDash, LeftArrow, RightArrow, Most, Less, Plus, Minus, Star, Lolli, LoadArrow}
-use Rattle.ll_lexer.specs.Spelling.{is_lower, is_upper, is_digit, is_word_start, is_word_byte, is_name, is_variable, is_numeral, is_number, fixed_spellings, Spells, IsLongest}
+use Rattle.ll_lexer.specs.declared.TokenKind.TheVariants.{Name, Variable, Any, Number, True, Erase, Forall, Exists, Is, Module, Local, Linear, Dot, Comma}
+use Rattle.ll_lexer.specs.declared.TokenKind.TheVariants.{Ampersand, Semicolon, ParenLeft, ParenRight, BraceLeft, BraceRight, Backslash, Cons, ColonDash}
+use Rattle.ll_lexer.specs.declared.TokenKind.TheVariants.{LeftArrow, RightArrow, Most, Less, Plus, Minus, Star, Lolli, LoadArrow}
+use Rattle.ll_lexer.specs.Spelling.{is_lower, is_upper, is_digit, is_word_start, is_word_byte, is_name, is_variable, is_numeral, is_number, fixed_spellings}
+use Rattle.ll_lexer.specs.Spelling.{Spells, IsLongest}
 use Rattle.ll_lexer.specs.Reading.{IsSound, long_name, long_variable}
 use Rattle.ll_lexer.proofs.Spelled.{kind-passes}
 use Rattle.ll_lexer.proofs.Longest.{lower-start, upper-start, bar-start, begins_with, word-tail, word-longest, number-longest, negative-longest, minus-longest}
@@ -106,7 +110,8 @@ word-read k (b ∷ v) rest s h e =
     let t : take (suc (length v)) (b ∷ (v ++ rest)) ≡ b ∷ v = ap (λ z. b ∷ z) (take-append_seam v rest) in
     subst (IsLongest (b ∷ (v ++ rest)) k) n (word-longest b (v ++ rest) k h (rw (n, t) s))
 
-digits-read : (b : ℕ) (v rest : List ℕ) → is_digit b ≡ true → list_all is_digit v ≡ true → Ends is_digit rest → IsLongest (b ∷ (v ++ rest)) Number (suc (length v))
+digits-read : (b : ℕ) (v rest : List ℕ) → is_digit b ≡ true → list_all is_digit v ≡ true → Ends is_digit rest
+    → IsLongest (b ∷ (v ++ rest)) Number (suc (length v))
 digits-read b v rest d a e =
     let r : prefix_len is_digit (v ++ rest) ≡ length v = run-all is_digit v rest a e in
     let n : 1 + prefix_len is_digit (v ++ rest) ≡ suc (length v) = omega arith in
@@ -178,13 +183,17 @@ spelled-read BraceLeft w rest s e = sign-read (codes "{") BraceLeft w rest (sign
 spelled-read BraceRight w rest s e = sign-read (codes "}") BraceRight w rest (signs.brace_right rest) (kind-fits BraceRight w s)
 spelled-read Backslash w rest s e = sign-read (92 ∷ []) Backslash w rest (signs.backslash rest) (kind-fits Backslash w s)
 spelled-read Cons w rest s e = sign-read (codes "::") Cons w rest (signs.cons_sign (codes ":" ++ rest) (begins-so (codes ":") rest)) (kind-fits Cons w s)
-spelled-read ColonDash w rest s e = sign-read (codes ":-") ColonDash w rest (signs.colon_dash (codes "-" ++ rest) (begins-so (codes "-") rest)) (kind-fits ColonDash w s)
-spelled-read LeftArrow w rest s e = sign-read (codes "<=") LeftArrow w rest (signs.left_arrow (codes "=" ++ rest) (begins-so (codes "=") rest)) (kind-fits LeftArrow w s)
-spelled-read RightArrow w rest s e = sign-read (codes "=>") RightArrow w rest (signs.right_arrow (codes ">" ++ rest) (begins-so (codes ">") rest)) (kind-fits RightArrow w s)
+spelled-read ColonDash w rest s e = sign-read (codes ":-") ColonDash w rest (signs.colon_dash (codes "-" ++ rest) (begins-so (codes "-") rest))
+    (kind-fits ColonDash w s)
+spelled-read LeftArrow w rest s e = sign-read (codes "<=") LeftArrow w rest (signs.left_arrow (codes "=" ++ rest) (begins-so (codes "=") rest))
+    (kind-fits LeftArrow w s)
+spelled-read RightArrow w rest s e = sign-read (codes "=>") RightArrow w rest (signs.right_arrow (codes ">" ++ rest) (begins-so (codes ">") rest))
+    (kind-fits RightArrow w s)
 spelled-read Most w rest s e = sign-read (codes "=<") Most w rest (signs.most (codes "<" ++ rest) (begins-so (codes "<") rest)) (kind-fits Most w s)
 spelled-read Less w rest s e = sign-read (codes "<") Less w rest (signs.less rest (no-start 61 [] rest e)) (kind-fits Less w s)
 spelled-read Plus w rest s e = sign-read (codes "+") Plus w rest (signs.plus rest) (kind-fits Plus w s)
 spelled-read Minus w rest s e = sign-read (codes "-") Minus w rest (minus-alone rest e) (kind-fits Minus w s)
 spelled-read Star w rest s e = sign-read (codes "*") Star w rest (signs.star rest) (kind-fits Star w s)
 spelled-read Lolli w rest s e = sign-read (codes "-o") Lolli w rest (signs.lolli (codes "o" ++ rest) (begins-so (codes "o") rest)) (kind-fits Lolli w s)
-spelled-read LoadArrow w rest s e = sign-read (codes "-->") LoadArrow w rest (signs.load_arrow (codes "->" ++ rest) (begins-so (codes "->") rest)) (kind-fits LoadArrow w s)
+spelled-read LoadArrow w rest s e = sign-read (codes "-->") LoadArrow w rest (signs.load_arrow (codes "->" ++ rest) (begins-so (codes "->") rest))
+    (kind-fits LoadArrow w s)

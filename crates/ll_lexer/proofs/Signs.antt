@@ -2,7 +2,8 @@
 use Rattle.std.proofs.Common.{◌≡◌, ℕ, true, false, List, [], ◌∷◌, refl, codes}
 use Rattle.std.specs.List.{starts_with}
 use Rattle.std.specs.Prelude.{nat_eq}
-use Rattle.ll_lexer.specs.declared.TokenKind.TheVariants.{Dot, Comma, Ampersand, Semicolon, ParenLeft, ParenRight, BraceLeft, BraceRight, Backslash, Cons, ColonDash, LeftArrow, RightArrow, Most, Less, Plus, Star, Lolli, LoadArrow}
+use Rattle.ll_lexer.specs.declared.TokenKind.TheVariants.{Dot, Comma, Ampersand, Semicolon, ParenLeft, ParenRight, BraceLeft, BraceRight, Backslash, Cons}
+use Rattle.ll_lexer.specs.declared.TokenKind.TheVariants.{ColonDash, LeftArrow, RightArrow, Most, Less, Plus, Star, Lolli, LoadArrow}
 use Rattle.ll_lexer.specs.Spelling.{is_lower, is_upper, is_digit, is_word_start, fixed_spellings, kind_of, IsLongest, HasNone}
 use Rattle.ll_lexer.proofs.Longest.{sign-longest, short-longest, sign-none}
 

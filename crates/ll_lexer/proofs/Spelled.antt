@@ -9,11 +9,14 @@ use Rattle.ll_lexer.specs.declared.TokenKind.TheVariants.{Name, Variable, Number
 use Rattle.ll_lexer.specs.Spelling.{is_name, is_variable, is_number, fixed_spellings, listed_kind, shaped_kind, kind_of}
 
 -- what a list gives passes, if each entry does
-listed-passes : (p : List ℕ → TokenKind → Bool) (es : List (List ℕ × TokenKind)) (w : List ℕ) (k : TokenKind) → list_all (λ e. p e.0 e.1) es ≡ true → listed_kind es w ≡ Some k → p w k ≡ true
+listed-passes : (p : List ℕ → TokenKind → Bool) (es : List (List ℕ × TokenKind)) (w : List ℕ) (k : TokenKind) → list_all (λ e. p e.0 e.1) es ≡ true
+    → listed_kind es w ≡ Some k → p w k ≡ true
 listed-passes p [] w k h l = absurd cc
-listed-passes p (entry ∷ more) w k h l = by-test (bytes_eq entry.0 w) refl (both (p entry.0 entry.1) (list_all (λ e. p e.0 e.1) more) h) (listed-passes p more w k)
+listed-passes p (entry ∷ more) w k h l = by-test (bytes_eq entry.0 w) refl (both (p entry.0 entry.1) (list_all (λ e. p e.0 e.1) more) h)
+    (listed-passes p more w k)
   where
-    by-test : (v : Bool) → bytes_eq entry.0 w ≡ v → (p entry.0 entry.1 ≡ true) × (list_all (λ e. p e.0 e.1) more ≡ true) → (list_all (λ e. p e.0 e.1) more ≡ true → listed_kind more w ≡ Some k → p w k ≡ true) → p w k ≡ true
+    by-test : (v : Bool) → bytes_eq entry.0 w ≡ v → (p entry.0 entry.1 ≡ true) × (list_all (λ e. p e.0 e.1) more ≡ true)
+        → (list_all (λ e. p e.0 e.1) more ≡ true → listed_kind more w ≡ Some k → p w k ≡ true) → p w k ≡ true
     by-test true q f ih =
         let e : entry.0 ≡ w = (bytes_eq-Decides entry.0 w).0 q in
         let g : Some entry.1 ≡ Some k = rw q at l in
@@ -43,7 +46,8 @@ shaped-passes p w k s h = by-name (is_name w) refl
     by-name false a = by-variable (is_variable w) a refl
 
 -- a test that every fixed spelling, every name, every variable and every number passes is passed by every token
-pub kind-passes : (p : List ℕ → TokenKind → Bool) (w : List ℕ) (k : TokenKind) → list_all (λ e. p e.0 e.1) fixed_spellings ≡ true → ShapesPass p → kind_of w ≡ Some k → p w k ≡ true
+pub kind-passes : (p : List ℕ → TokenKind → Bool) (w : List ℕ) (k : TokenKind) → list_all (λ e. p e.0 e.1) fixed_spellings ≡ true → ShapesPass p
+    → kind_of w ≡ Some k → p w k ≡ true
 unfolding kind_of
 kind-passes p w k f s h = by-listed (listed_kind fixed_spellings w) refl
   where

@@ -63,8 +63,10 @@ HasNoGap bytes = (n : ℕ) → IsGap bytes n → ⊥
 pub data Lexes (text : List ℕ) : ℕ → List Token → End → Type 0 where
   at_end : {i : ℕ} → drop i text ≡ [] → Lexes text i [] (done (place_at text (length text)))
   gap : {i : ℕ} {ts : List Token} {e : End} → (n : ℕ) → IsGap (drop i text) n → Lexes text (i + n) ts e → Lexes text i ts e
-  token : {i : ℕ} {ts : List Token} {e : End} → (k : TokenKind) (n : ℕ) → IsLongest (drop i text) k n → IsSound k (take n (drop i text)) → Lexes text (i + n) ts e → Lexes text i (token_at text i k n ∷ ts) e
-  flawed : {i : ℕ} → (k : TokenKind) (n kind : ℕ) → IsLongest (drop i text) k n → HasFlaw k (take n (drop i text)) kind → Lexes text i [] (stopped kind (place_at text i))
+  token : {i : ℕ} {ts : List Token} {e : End} → (k : TokenKind) (n : ℕ) → IsLongest (drop i text) k n → IsSound k (take n (drop i text))
+      → Lexes text (i + n) ts e → Lexes text i (token_at text i k n ∷ ts) e
+  flawed : {i : ℕ} → (k : TokenKind) (n kind : ℕ) → IsLongest (drop i text) k n → HasFlaw k (take n (drop i text)) kind
+      → Lexes text i [] (stopped kind (place_at text i))
   no_token : {i : ℕ} → i < length text → HasNone (drop i text) → HasNoGap (drop i text) → Lexes text i [] (stopped 1 (place_at text i))
 
 -- a text with its tokens and the place of its end

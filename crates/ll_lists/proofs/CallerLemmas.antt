@@ -1,5 +1,6 @@
 -- Laws of tests, numbers, options, results and lists that the standard library lacks, for every type of elements. All crates may cite them.
-use Rattle.std.proofs.Common.{◌≡◌, refl, Bool, true, false, ◌&&◌, sym, ℕ, ◌≤◌, arith, Some, None, ap, List, [], ◌∷◌, map, All, suc, length, zero, subst, reverse, ◌++◌, ◌<◌, get_or, inl, inr, length-append, ◌+◌, ◌||◌, ◌∙◌, true≢false, cond, take, drop, ◌-◌}
+use Rattle.std.proofs.Common.{◌≡◌, refl, Bool, true, false, ◌&&◌, sym, ℕ, ◌≤◌, arith, Some, None, ap, List, [], ◌∷◌, map, All, suc, length, zero, subst}
+use Rattle.std.proofs.Common.{reverse, ◌++◌, ◌<◌, get_or, inl, inr, length-append, ◌+◌, ◌||◌, ◌∙◌, true≢false, cond, take, drop, ◌-◌}
 use Rattle.std.proofs.Math.ListN.{get_or-append}
 use Rattle.std.proofs.Math.Seq.{get_or-append_seam}
 use Rattle.std.proofs.lemmas.Bool.{eq-eqb, ne_eqb, eqb-false, ltb-true, lt-ltb, cases_lt}

@@ -33,7 +33,12 @@ go-longest letter = record { within = omega arith; spells = refl; longest = none
 
 -- the end of a text is the end of its last token
 to-end : (bytes : List ℕ) (k : TokenKind) → Spells k bytes → IsLongest bytes k (length bytes)
-to-end bytes k s = record { within = omega arith; spells = subst (Spells k) (sym (take_all (length bytes) bytes (omega arith))) s; longest = λ j m l g _. omega arith }
+to-end bytes k s = record {
+  within = omega arith;
+  spells = subst (Spells k) (sym (take_all (length bytes) bytes (omega arith))) s;
+  longest =
+      λ j m l g _. omega arith;
+}
 
 -- ---- `go` alone
 

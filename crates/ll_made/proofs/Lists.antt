@@ -55,7 +55,8 @@ small n m h = grind (arith, nat_tests)
 stands : (t : Tok) → may_stand t ≡ true → IsSpelled t
 unfolding may_stand
 stands (name n) h = let g = both (is_name (kind_of n.text)) (nat_le (length n.text) 255) h in (name-kind (kind_of n.text) g.0, small (length n.text) 255 g.1)
-stands (variable n) h = let g = both (is_variable (kind_of n.text)) (nat_le (length n.text) 255) h in (variable-kind (kind_of n.text) g.0, small (length n.text) 255 g.1)
+stands (variable n) h = let g = both (is_variable (kind_of n.text)) (nat_le (length n.text) 255) h in
+    (variable-kind (kind_of n.text) g.0, small (length n.text) 255 g.1)
 stands (number (pos z) at) h = let k = small z 1000 h in omega (arith, ints)
 stands (number (negsuc z) at) h = absurd cc
 stands t h = tt
@@ -77,7 +78,9 @@ none-left (f ∷ fs) h = absurd cc
 is_fine : List Clause → List ℕ → Bool
 is_fine clauses text =
     let p : Program = record { clauses = clauses; modules = [] } in
-    bytes_eq (printed_text (program_tree p)) text && (list_all may_stand (program_tokens p) && (nat_le (length (program_tokens p)) 16777216 && (nat_le (opened (program_tokens p)) 1000 && no_fault (clauses_faults [] [] (map clause_tree clauses)))))
+    bytes_eq (printed_text (program_tree p)) text && (list_all may_stand (program_tokens p)
+    && (nat_le (length (program_tokens p)) 16777216 && (nat_le (opened (program_tokens p)) 1000
+    && no_fault (clauses_faults [] [] (map clause_tree clauses)))))
 
 fine-clauses : (clauses : List Clause) (text : List ℕ) → is_fine clauses text ≡ true → AreClausesOf clauses text
 unfolding is_fine

@@ -3,7 +3,9 @@ use Rattle.std.specs.Prelude.{ℕ, zero, suc, ◌+◌, ◌-◌, pos, false, List
 use Rattle.std.specs.List.{range_with_len}
 use Rattle.ll_parser.specs.Bare.{nowhere}
 use Rattle.ll_parser.specs.Tokens.{Identifier}
-use Rattle.ll_parser.specs.Grammar.{lower, upper, Term, of_app, cons, App, applied, app_number, Simple, simple_word, simple_number, simple_bracket, no_more, and_then, by_colon, by_lolli, of_arrow, clause, Arrow, of_sum, implies, Sum, of_with, of_tensor, Tensor, of_primary, times, Primary, atom}
+use Rattle.ll_parser.specs.Grammar.{lower, upper, Term, of_app, cons, App, applied, app_number, Simple, simple_word, simple_number, simple_bracket, no_more}
+use Rattle.ll_parser.specs.Grammar.{and_then, by_colon, by_lolli, of_arrow, clause, Arrow, of_sum, implies, Sum, of_with, of_tensor, Tensor, of_primary, times}
+use Rattle.ll_parser.specs.Grammar.{Primary, atom}
 use Rattle.ll_parser.specs.Text.{Clause, plain}
 use Rattle.ll_make.specs.Numbered.{numbered}
 
@@ -67,11 +69,15 @@ rule h b = plain (clause (of_arrow (body h)) by_colon nowhere b) nowhere
 
 abbrev pub perm_clauses : ℕ → List Clause
 perm_clauses n =
-    rule (of_one (codes "go") (unknown (codes "K"))) (body (of_two (codes "load") (list_simple (map (λ k. app_number (pos k) nowhere) (range_with_len 1 n))) (unknown (codes "K"))))
+    rule (of_one (codes "go") (unknown (codes "K"))) (body (of_two (codes "load") (list_simple (map (λ k. app_number (pos k) nowhere) (range_with_len 1 n)))
+    (unknown (codes "K"))))
     ∷ rule (of_two (codes "load") (constant (codes "nil")) (unknown (codes "K"))) (body (of_one (codes "unload") (unknown (codes "K"))))
-    ∷ rule (of_two (codes "load") front_and_rest (unknown (codes "K"))) (implies (side (of_one (codes "item") (unknown (codes "X")))) by_lolli nowhere (body (of_two (codes "load") (unknown (codes "L")) (unknown (codes "K")))))
+    ∷ rule (of_two (codes "load") front_and_rest (unknown (codes "K")))
+    (implies (side (of_one (codes "item") (unknown (codes "X")))) by_lolli nowhere
+    (body (of_two (codes "load") (unknown (codes "L")) (unknown (codes "K")))))
     ∷ fact (of_one (codes "unload") (constant (codes "nil")))
-    ∷ rule (of_one (codes "unload") front_and_rest) (of_sum (of_with (of_tensor (times (of_one (codes "item") (unknown (codes "X"))) nowhere (of_primary (of_one (codes "unload") (unknown (codes "L"))))))))
+    ∷ rule (of_one (codes "unload") front_and_rest) (of_sum (of_with
+    (of_tensor (times (of_one (codes "item") (unknown (codes "X"))) nowhere (of_primary (of_one (codes "unload") (unknown (codes "L"))))))))
     ∷ []
 
 -- a goal for the first number and one for each behind it
@@ -84,7 +90,8 @@ abbrev pub choice_clauses : ℕ → List Clause
 choice_clauses n =
     fact (of_one (codes "bit") (simple_number (pos 0) nowhere))
     ∷ fact (of_one (codes "bit") (simple_number (pos 1) nowhere))
-    ∷ rule (of_one (codes "go") (list_simple (map (λ k. unknown_element (numbered (codes "X") k)) (range_with_len 1 (suc n))))) (of_sum (of_with (of_tensor (bits 1 (range_with_len 2 n)))))
+    ∷ rule (of_one (codes "go") (list_simple (map (λ k. unknown_element (numbered (codes "X") k)) (range_with_len 1 (suc n)))))
+    (of_sum (of_with (of_tensor (bits 1 (range_with_len 2 n)))))
     ∷ []
 
 -- `h :- b.`, without arguments

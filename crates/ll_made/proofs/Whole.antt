@@ -22,15 +22,25 @@ pub record AreClausesOf (clauses : List Clause) (text : List ℕ) : Type 0 where
   pub brackets : opened (program_tokens (record { clauses = clauses; modules = [] })) ≤ 1000
   pub faultless : clauses_faults [] [] (map clause_tree clauses) ≡ []
 
-whole : (p : Program) → AllByRecursion IsSpelled (program_tokens p) → length (program_tokens p) ≤ 16777216 → opened (program_tokens p) ≤ 1000 → IsWhole programs (program_tree p)
+whole : (p : Program) → AllByRecursion IsSpelled (program_tokens p) → length (program_tokens p) ≤ 16777216 → opened (program_tokens p) ≤ 1000
+    → IsWhole programs (program_tree p)
 whole p s f b = (program_tokens p, f, All-from_recursion IsSpelled (program_tokens p) s, ((p, refl, refl), few-within 1000 (program_tokens p) b))
 
 -- what is printed is read
 abbrev pub ReadsPrinted : Type 0
-ReadsPrinted = (p : ProgramTree) → IsWhole programs p → (lexed : LexedText) × (lexed.text ≡ program_text p) × IsLexed lexed × (q : ProgramTree) × Reads programs 1000 (toks_of lexed) q × (bare_program q ≡ bare_program p)
+ReadsPrinted = (p : ProgramTree) → IsWhole programs p → (lexed : LexedText) × (lexed.text ≡ program_text p) × IsLexed lexed × (q : ProgramTree)
+    × Reads programs 1000 (toks_of lexed) q × (bare_program q ≡ bare_program p)
 
 pub clauses-read : ReadsPrinted → (clauses : List Clause) (text : List ℕ) → AreClausesOf clauses text → IsFaultlessProgram text
 clauses-read law clauses text h =
     let p : Program = record { clauses = clauses; modules = [] } in
     let r = law (program_tree p) (whole p h.spelled h.few h.brackets) in
-    record { lexed = r.0; of_text = r.1 ∙ h.printed; is_lexed = r.2; tree = r.3; reads = r.4; faultless = aside-faultless (map clause_tree clauses) r.3 r.5 h.faultless }
+    record {
+      lexed = r.0;
+      of_text = r.1 ∙ h.printed;
+      is_lexed = r.2;
+      tree = r.3;
+      reads = r.4;
+      faultless =
+          aside-faultless (map clause_tree clauses) r.3 r.5 h.faultless;
+    }

@@ -41,7 +41,11 @@ goals-short zero h = omega arith
 goals-short (suc n) h =
     let first = numbered-short (codes "bit X") 1 (omega arith) in
     let later = each-short (λ argument. codes " , bit " ++ argument) (codes "X") 14 (λ k l. numbered-short (codes " , bit X") k l) 2 n (omega arith) in
-    omega (arith, length-append (numbered (codes "bit X") 1) (flat_map (λ argument. codes " , bit " ++ argument) (map (numbered (codes "X")) (range_with_len 2 n))))
+    omega (
+      arith,
+      length-append (numbered (codes "bit X") 1)
+          (flat_map (λ argument. codes " , bit " ++ argument) (map (numbered (codes "X")) (range_with_len 2 n))),
+    )
 
 link-short : (below : ℕ) → below + 1 ≤ 100000 → length (line (link below)) ≤ 20
 link-short below h =

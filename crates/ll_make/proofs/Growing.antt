@@ -34,7 +34,8 @@ join_more f sep x xs y before =
 
 -- one goal more, behind at least one
 pub goals_more : (before : List ℕ) (k : ℕ) → 1 ≤ k
-    → (before ++ goals (codes "bit ") (names_to (codes "X") k)) ++ numbered (codes " , bit X") (k + 1) ≡ before ++ goals (codes "bit ") (names_to (codes "X") (k + 1))
+    → (before ++ goals (codes "bit ") (names_to (codes "X") k)) ++ numbered (codes " , bit X") (k + 1) ≡ before
+    ++ goals (codes "bit ") (names_to (codes "X") (k + 1))
 goals_more before zero h = absurd (omega arith)
 goals_more before (suc j) h =
     let bit : List ℕ → List ℕ = λ argument. codes "bit " ++ argument in

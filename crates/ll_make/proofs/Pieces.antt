@@ -15,7 +15,8 @@ first_line before opening list closing rest = simp append_assoc
 
 -- a last line in five pieces
 last_line : (before opening list middle goals closing : List ℕ)
-    → ((((before ++ opening) ++ list) ++ middle) ++ goals) ++ (closing ++ 10 ∷ []) ≡ before ++ (line ((((opening ++ list) ++ middle) ++ goals) ++ closing) ++ [])
+    → ((((before ++ opening) ++ list) ++ middle) ++ goals) ++ (closing ++ 10 ∷ []) ≡ before
+    ++ (line ((((opening ++ list) ++ middle) ++ goals) ++ closing) ++ [])
 last_line before opening list middle goals closing = simp append_assoc
 
 -- the lines of a program of permutations, as they are written
@@ -23,11 +24,15 @@ pub perm_written : (before list opened listed text : List ℕ)
     → opened ≡ before ++ codes "go K :- load "
     → listed ≡ opened ++ list
     → text ≡ listed ++ codes " K.\nload nil K :- unload K.\nload (X::L) K :- item X -o load L K.\nunload nil.\nunload (X::L) :- item X , unload L.\n"
-    → text ≡ before ++ lines_text ((codes "go K :- load " ++ list ++ codes " K.") ∷ codes "load nil K :- unload K." ∷ codes "load (X::L) K :- item X -o load L K." ∷ codes "unload nil." ∷ codes "unload (X::L) :- item X , unload L." ∷ [])
+    → text ≡ before ++ lines_text ((codes "go K :- load " ++ list ++ codes " K.") ∷ codes "load nil K :- unload K."
+    ∷ codes "load (X::L) K :- item X -o load L K." ∷ codes "unload nil." ∷ codes "unload (X::L) :- item X , unload L." ∷ [])
 perm_written before list opened listed text e f g =
     g
-    ∙ ap (λ t. t ++ codes " K.\nload nil K :- unload K.\nload (X::L) K :- item X -o load L K.\nunload nil.\nunload (X::L) :- item X , unload L.\n") (f ∙ ap (λ t. t ++ list) e)
-    ∙ first_line before (codes "go K :- load ") list (codes " K.") (lines_text (codes "load nil K :- unload K." ∷ codes "load (X::L) K :- item X -o load L K." ∷ codes "unload nil." ∷ codes "unload (X::L) :- item X , unload L." ∷ []))
+    ∙ ap (λ t. t ++ codes " K.\nload nil K :- unload K.\nload (X::L) K :- item X -o load L K.\nunload nil.\nunload (X::L) :- item X , unload L.\n")
+    (f ∙ ap (λ t. t ++ list) e)
+    ∙ first_line before (codes "go K :- load ") list (codes " K.")
+    (lines_text (codes "load nil K :- unload K." ∷ codes "load (X::L) K :- item X -o load L K." ∷ codes "unload nil."
+    ∷ codes "unload (X::L) :- item X , unload L." ∷ []))
 
 -- the lines of a program of choices, as they are written
 pub choice_written : (before list goals opened listed headed full text : List ℕ)

@@ -4,7 +4,8 @@ use Rattle.std.specs.List.{list_all}
 use Rattle.std.proofs.lemmas.Bool.{and_from, and_parts, ltb-true}
 use Rattle.ll_bank.specs.declared.Head.TheVariants.{Name, Eigen, Bound}
 use Rattle.ll_bank.specs.Term.{Term, Var, Int, Con, Ap, Env, place, close, is_spine, applies_heads}
-use Rattle.ll_bank.specs.Form.{Form, Top, One, Atom, With, Tensor, Plus, Bang, Lolli, Imp, Forall, Exists, Use, Num, close_form, instantiate, form_applies_heads}
+use Rattle.ll_bank.specs.Form.{Form, Top, One, Atom, With, Tensor, Plus, Bang, Lolli, Imp, Forall, Exists, Use, Num, close_form, instantiate}
+use Rattle.ll_bank.specs.Form.{form_applies_heads}
 use Rattle.ll_laws.specs.Valid.{places_below}
 
 -- an environment under so many quantifiers that stay
@@ -35,7 +36,8 @@ place_under (suc n) k j e =
     ap (λ m. place (under (suc n) e) m j) p ∙ (place_under n k (suc j) e ∙ ap (place e k) q)
 
 -- at a bound place
-pub place_split : (t : Term) (e : Env) → places_below 0 t ≡ true → (n k m : ℕ) → place (under n (Some t ∷ e)) k m ≡ close (under m (under n e)) (place (under n (Some t ∷ [])) k m)
+pub place_split : (t : Term) (e : Env) → places_below 0 t ≡ true → (n k m : ℕ)
+    → place (under n (Some t ∷ e)) k m ≡ close (under m (under n e)) (place (under n (Some t ∷ [])) k m)
 place_split t e h zero zero m = sym (close_closed (under m e) t h)
 place_split t e h zero (suc k) m = let p : 0 + m ≡ m = omega arith in ap (place e k) (sym p) ∙ sym (place_under m k 0 e)
 place_split t e h (suc n) zero m =
@@ -129,7 +131,8 @@ heads_before e (Con k) h = refl
 heads_before e (Ap f a) h =
     let p = and_parts (is_spine (close e f) && applies_heads (close e f)) (applies_heads (close e a)) h in
     let q = and_parts (is_spine (close e f)) (applies_heads (close e f)) p.0 in
-    and_from (is_spine f && applies_heads f) (applies_heads a) (and_from (is_spine f) (applies_heads f) (spine_before e f q.0) (heads_before e f q.1)) (heads_before e a p.1)
+    and_from (is_spine f && applies_heads f) (applies_heads a) (and_from (is_spine f) (applies_heads f) (spine_before e f q.0) (heads_before e f q.1))
+    (heads_before e a p.1)
 
 each_before : (e : Env) (us : List Term) → list_all applies_heads (map (close e) us) ≡ true → list_all applies_heads us ≡ true
 each_before e [] h = refl

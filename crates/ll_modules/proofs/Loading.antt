@@ -25,7 +25,9 @@ module _ {old now : Nodes} (keeps : Extends old now) (args : List At) (places : 
       let m : i - 1 < length (term_trees old args) = let q = length-map args (λ (a : At). term_tree old a.0) in omega arith in
       let e : i - 1 + 1 ≡ i = omega arith in
       let t = get_or (term_trees old args) (i - 1) (term_tree old d.0) in
-      let same : term_tree now (get_or args (i - 1) d).0 ≡ t = term_tree-extends keeps (get_or args (i - 1) d).0 (places (i - 1) d l) ∙ sym (get_or-map (λ (a : At). term_tree old a.0) args (i - 1) d (term_tree old d.0) l) in
+      let same : term_tree now (get_or args (i - 1) d).0 ≡ t =
+      term_tree-extends keeps (get_or args (i - 1) d).0 (places (i - 1) d l)
+      ∙ sym (get_or-map (λ (a : At). term_tree old a.0) args (i - 1) d (term_tree old d.0) l) in
       let split : arguments_env (take i (term_trees old args)) ≡ Some t ∷ arguments_env (take (i - 1) (term_trees old args)) =
       ap (λ n. arguments_env (take n (term_trees old args))) (sym e)
       ∙ (ap arguments_env (take_more (term_trees old args) (i - 1) (term_tree old d.0) m) ∙ env_more (take (i - 1) (term_trees old args)) t) in
@@ -34,10 +36,12 @@ module _ {old now : Nodes} (keeps : Extends old now) (args : List At) (places : 
       ∙ (ap (λ env. close_form env f) (sym split) ∙ is))
 
   -- which leaves arguments with their heads
-  pub heads_now : (i : ℕ) (d : At) (f g : Form) → 0 < i → i ≤ length args → close_form (arguments_env (take i (term_trees old args))) f ≡ g → form_applies_heads g ≡ true
+  pub heads_now : (i : ℕ) (d : At) (f g : Form) → 0 < i → i ≤ length args → close_form (arguments_env (take i (term_trees old args))) f ≡ g
+      → form_applies_heads g ≡ true
       → form_applies_heads (instantiate f (term_tree now (get_or args (i - 1) d).0)) ≡ true
   heads_now i d f g low high is h =
-      form_before (arguments_env (take (i - 1) (term_trees old args))) (instantiate f (term_tree now (get_or args (i - 1) d).0)) (ap form_applies_heads (one_less i d f g low high is) ∙ h)
+      form_before (arguments_env (take (i - 1) (term_trees old args))) (instantiate f (term_tree now (get_or args (i - 1) d).0))
+      (ap form_applies_heads (one_less i d f g low high is) ∙ h)
 
   -- the arguments stay closed
   pub closed_now : AreClosed (term_trees now args)
@@ -47,7 +51,8 @@ module _ {old now : Nodes} (keeps : Extends old now) (args : List At) (places : 
   pub clause_heads : (cs : List Clause) (k : ℕ) (d : Clause) → k < length cs → HasClauses old cs → MayLoad old cs (term_trees old args)
       → form_applies_heads (close_form (arguments_env (term_trees now args)) (form_tree now (get_or cs k d).form.0)) ≡ true
   clause_heads cs k d l inside h =
-      (λ i. form_applies_heads (close_form (arguments_env (term_trees-extends keeps args places i)) (keeps.same_forms (get_or cs k d).form.0 (inside k d l) i))) ∙ h k d l
+      (λ i. form_applies_heads (close_form (arguments_env (term_trees-extends keeps args places i)) (keeps.same_forms (get_or cs k d).form.0 (inside k d l) i)))
+      ∙ h k d l
 
   -- and comes in front of those that are
   pub clause_loaded : (cs : List Clause) (i : ℕ) (d : Clause) (f g : Form) → 0 < i → i ≤ length cs → HasClauses old cs
@@ -57,6 +62,7 @@ module _ {old now : Nodes} (keeps : Extends old now) (args : List At) (places : 
   clause_loaded cs i d f g low high inside is =
       let l : i - 1 < length cs = omega arith in
       let e : i - 1 + 1 ≡ i = omega arith in
-      (λ j. load (get_or cs (i - 1) d).kind (close_form (arguments_env (term_trees-extends keeps args places j)) (keeps.same_forms (get_or cs (i - 1) d).form.0 (inside (i - 1) d l) j)) (is j))
+      (λ j. load (get_or cs (i - 1) d).kind (close_form (arguments_env (term_trees-extends keeps args places j))
+      (keeps.same_forms (get_or cs (i - 1) d).form.0 (inside (i - 1) d l) j)) (is j))
       ∙ (ap (λ n. load_all (arguments_env (term_trees old args)) (map (clause_tree old) (get_or cs (i - 1) d ∷ drop n cs)) g) (sym e)
       ∙ ap (λ rest. load_all (arguments_env (term_trees old args)) (map (clause_tree old) rest) g) (sym (drop_more cs (i - 1) d l)))

@@ -30,7 +30,8 @@ pub fn unfold(
     requires closed { AreClosed (term_trees bank.old args.now) }
     requires clauses { HasClauses bank.old «module».now.clauses.items }
     requires heads { MayLoad bank.old «module».now.clauses.items (term_trees bank.old args.now) }
-    ensures shows { IfOk result (λ at. ShowsForm bank.new at.0 (unfold_load (module_tree bank.old «module».now) (term_trees bank.old args.now) (form_tree bank.old goal.0))) }
+    ensures shows { IfOk result (λ at. ShowsForm bank.new at.0
+        (unfold_load (module_tree bank.old «module».now) (term_trees bank.old args.now) (form_tree bank.old goal.0))) }
     ensures keeps { Extends bank.old bank.new }
 {
     let loaded = load_clauses(bank, &module.clauses, args, goal)?;
@@ -62,7 +63,8 @@ fn load_clauses(
     requires closed { AreClosed (term_trees bank.old args.now) }
     requires clauses { HasClauses bank.old clauses.now }
     requires heads { MayLoad bank.old clauses.now (term_trees bank.old args.now) }
-    ensures shows { IfOk result (λ at. ShowsForm bank.new at.0 (load_all (arguments_env (term_trees bank.old args.now)) (map (clause_tree bank.old) clauses.now) (form_tree bank.old goal.0))) }
+    ensures shows { IfOk result (λ at. ShowsForm bank.new at.0
+        (load_all (arguments_env (term_trees bank.old args.now)) (map (clause_tree bank.old) clauses.now) (form_tree bank.old goal.0))) }
     ensures keeps { Extends bank.old bank.new }
 {
     let mut at = goal;
@@ -84,7 +86,8 @@ fn load_clause(
     requires places { AllInTerms bank.old args.now }
     requires closed { AreClosed (term_trees bank.old args.now) }
     requires heads { form_applies_heads (close_form (arguments_env (term_trees bank.old args.now)) (form_tree bank.old clause.form.0)) ≡ true }
-    ensures shows { IfOk result (λ at. ShowsForm bank.new at.0 (load clause.kind (close_form (arguments_env (term_trees bank.old args.now)) (form_tree bank.old clause.form.0)) (form_tree bank.old goal.0))) }
+    ensures shows { IfOk result (λ at. ShowsForm bank.new at.0
+        (load clause.kind (close_form (arguments_env (term_trees bank.old args.now)) (form_tree bank.old clause.form.0)) (form_tree bank.old goal.0))) }
     ensures keeps { Extends bank.old bank.new }
 {
     let form = close_clause(bank, clause.form, args)?;

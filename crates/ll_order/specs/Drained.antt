@@ -15,7 +15,8 @@ count_untaken [] = 0
 count_untaken (x ∷ pieces) = (if is_taken_status x.status then 0 else 1) + count_untaken pieces
 
 -- some reports were taken from the pool that was there first, given to the outlet, and counted
-pub record Drained {N O : Type 0} (alternatives : N → List (Owed Event)) (takes : O → Event → O → Type 0) (first : PoolData N Event) (before : O) (now : PoolData N Event) (after : O) (counts : Counts) : Type 0 where
+pub record Drained {N O : Type 0} (alternatives : N → List (Owed Event)) (takes : O → Event → O
+    → Type 0) (first : PoolData N Event) (before : O) (now : PoolData N Event) (after : O) (counts : Counts) : Type 0 where
   pub reports : List (Owed Event)
   pub order : reports_left alternatives first ≡ reports ++ reports_left alternatives now
   pub given : Gives takes before (flat_map (λ (o : Owed Event). o.events) reports) after
@@ -25,7 +26,8 @@ pub record Drained {N O : Type 0} (alternatives : N → List (Owed Event)) (take
   pub later : Later first now
 
 -- Some of the events were given to the outlet and counted. The rest are welcome to it still.
-pub record Giving {O : Type 0} (takes : O → Event → O → Type 0) (welcome : O → Event → Type 0) (faults : O → ℕ) (before : O) (first : Counts) (events : List Event) (after : O) (counts : Counts) (done rest : List Event) : Type 0 where
+pub record Giving {O : Type 0} (takes : O → Event → O → Type 0) (welcome : O → Event → Type 0) (faults : O
+    → ℕ) (before : O) (first : Counts) (events : List Event) (after : O) (counts : Counts) (done rest : List Event) : Type 0 where
   pub order : events ≡ done ++ rest
   pub given : Gives takes before done after
   pub answers : counts.answers ≡ cut_count (first.answers + count_by is_answer done)
@@ -35,7 +37,8 @@ pub record Giving {O : Type 0} (takes : O → Event → O → Type 0) (welcome :
   pub welcome_kept : (e : Event) → welcome before e ↔ welcome after e
 
 -- the events that are left are welcome, and the outlet is what it was where no call changes it
-pub record StillWelcome {N O : Type 0} (alternatives : N → List (Owed Event)) (welcome : O → Event → Type 0) (faults : O → ℕ) (before : O) (now : PoolData N Event) (after : O) : Type 0 where
+pub record StillWelcome {N O : Type 0} (alternatives : N → List (Owed Event)) (welcome : O → Event → Type 0) (faults : O
+    → ℕ) (before : O) (now : PoolData N Event) (after : O) : Type 0 where
   pub wanted : Every (welcome after) (events_left alternatives now)
   pub faults_kept : faults before ≤ faults after
   pub welcome_kept : (e : Event) → welcome before e ↔ welcome after e

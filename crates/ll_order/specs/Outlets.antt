@@ -27,7 +27,8 @@ pub record Refuses {O X : Type 0} (takes breaks : O → X → O → Type 0) (bef
 
 -- the numbers of answers, of branches that reached the bound and of inferences, each cut at the greatest u64
 abbrev pub CountsOf : Counts → List Event → ℕ → Type 0
-CountsOf counts events cost = (counts.answers ≡ cut_count (count_by is_answer events)) × (counts.reached ≡ cut_count (count_by is_reached events)) × (counts.inferences ≡ cut_count cost)
+CountsOf counts events cost = (counts.answers ≡ cut_count (count_by is_answer events)) × (counts.reached ≡ cut_count (count_by is_reached events))
+    × (counts.inferences ≡ cut_count cost)
 
 module _ {N : Type 0} (alternatives : N → List (Owed Event)) where
   -- the events of the reports that are still to be taken, in walk order

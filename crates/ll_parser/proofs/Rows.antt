@@ -2,7 +2,9 @@
 use Rattle.std.proofs.Common.{◌≡◌, ℕ, zero, suc, true, false, List, [], ◌∷◌, ◌++◌, codes, refl, pos}
 use Rattle.ll_lexer.specs.declared.Place.{Place}
 use Rattle.ll_parser.specs.declared.Op.TheVariants as op
-use Rattle.ll_parser.specs.Tokens.{Identifier, Tok, name, variable, any, number, forall_word, exists_word, module_word, local_word, linear_word, true_word, dot, comma, ampersand, semicolon, paren_left, paren_right, brace_left, brace_right, backslash, cons_sign, colon_dash, left_arrow, right_arrow, lolli, load_arrow}
+use Rattle.ll_parser.specs.Tokens.{Identifier, Tok, name, variable, any, number, forall_word, exists_word, module_word, local_word, linear_word, true_word}
+use Rattle.ll_parser.specs.Tokens.{dot, comma, ampersand, semicolon, paren_left, paren_right, brace_left, brace_right, backslash, cons_sign, colon_dash}
+use Rattle.ll_parser.specs.Tokens.{left_arrow, right_arrow, lolli, load_arrow}
 use Rattle.ll_parser.specs.Raw.{Raw, truth, braces, universal, existential, load, binary, head, anything, int, none, more, cons_raw, ProgramTree}
 use Rattle.ll_parser.specs.Text.{programs, queries}
 use Rattle.ll_parser.specs.FlatText.{FlatProgram, program_start, program_step, program_final, FlatQuery, query_start, query_step, query_final}
@@ -30,7 +32,8 @@ abbrev says : ℕ → List Tok → Answer ProgramTree
 says end ts = answer_to programs FlatProgram program_start program_step program_final decides-programs 1000 (at end) ts
 
 -- these answers are what the definitions give
-asks-right : (limit end : ℕ) (ts : List Tok) → IsAnswer queries FlatQuery query_start query_step query_final decides-queries limit (at end) ts (asks limit end ts)
+asks-right : (limit end : ℕ) (ts : List Tok) → IsAnswer queries FlatQuery query_start query_step query_final decides-queries limit (at end) ts
+    (asks limit end ts)
 asks-right limit end = answer-right queries FlatQuery query_start query_step query_final decides-queries limit (at end)
 
 says-right : (end : ℕ) (ts : List Tok) → IsAnswer programs FlatProgram program_start program_step program_final decides-programs 1000 (at end) ts (says end ts)
@@ -54,46 +57,60 @@ tensors-lean-right : asks 1000 10 (name (id (codes "a") 1) ∷ comma (at 3) ∷ 
 tensors-lean-right = refl
 
 -- `a , b & c ; d -o e` by the levels
-levels : asks 1000 19 (name (id (codes "a") 1) ∷ comma (at 3) ∷ name (id (codes "b") 5) ∷ ampersand (at 7) ∷ name (id (codes "c") 9) ∷ semicolon (at 11) ∷ name (id (codes "d") 13) ∷ lolli (at 15) ∷ name (id (codes "e") 18) ∷ [])
-    ≡ tree (binary op.Lolli (at 15) (binary op.Plus (at 11) (binary op.With (at 7) (binary op.Tensor (at 3) (atom (codes "a") 1) (atom (codes "b") 5)) (atom (codes "c") 9)) (atom (codes "d") 13)) (atom (codes "e") 18))
+levels : asks 1000 19 (name (id (codes "a") 1) ∷ comma (at 3) ∷ name (id (codes "b") 5) ∷ ampersand (at 7) ∷ name (id (codes "c") 9) ∷ semicolon (at 11)
+    ∷ name (id (codes "d") 13) ∷ lolli (at 15) ∷ name (id (codes "e") 18) ∷ [])
+    ≡ tree
+    (binary op.Lolli (at 15) (binary op.Plus (at 11) (binary op.With (at 7) (binary op.Tensor (at 3) (atom (codes "a") 1) (atom (codes "b") 5))
+    (atom (codes "c") 9)) (atom (codes "d") 13)) (atom (codes "e") 18))
 levels = refl
 
 -- `a -o b :- c <= d`
-loosest : asks 1000 17 (name (id (codes "a") 1) ∷ lolli (at 3) ∷ name (id (codes "b") 6) ∷ colon_dash (at 8) ∷ name (id (codes "c") 11) ∷ left_arrow (at 13) ∷ name (id (codes "d") 16) ∷ [])
-    ≡ tree (binary op.LeftArrow (at 13) (binary op.ColonDash (at 8) (binary op.Lolli (at 3) (atom (codes "a") 1) (atom (codes "b") 6)) (atom (codes "c") 11)) (atom (codes "d") 16))
+loosest : asks 1000 17 (name (id (codes "a") 1) ∷ lolli (at 3) ∷ name (id (codes "b") 6) ∷ colon_dash (at 8) ∷ name (id (codes "c") 11) ∷ left_arrow (at 13)
+    ∷ name (id (codes "d") 16) ∷ [])
+    ≡ tree (binary op.LeftArrow (at 13) (binary op.ColonDash (at 8) (binary op.Lolli (at 3) (atom (codes "a") 1) (atom (codes "b") 6)) (atom (codes "c") 11))
+    (atom (codes "d") 16))
 loosest = refl
 
 -- `{ a } , (b ; c)`: braces are kept, brackets are not
-brackets : asks 1000 16 (brace_left (at 1) ∷ name (id (codes "a") 3) ∷ brace_right (at 5) ∷ comma (at 7) ∷ paren_left (at 9) ∷ name (id (codes "b") 10) ∷ semicolon (at 12) ∷ name (id (codes "c") 14) ∷ paren_right (at 15) ∷ [])
+brackets : asks 1000 16 (brace_left (at 1) ∷ name (id (codes "a") 3) ∷ brace_right (at 5) ∷ comma (at 7) ∷ paren_left (at 9) ∷ name (id (codes "b") 10)
+    ∷ semicolon (at 12) ∷ name (id (codes "c") 14) ∷ paren_right (at 15) ∷ [])
     ≡ tree (binary op.Tensor (at 7) (braces (at 1) (atom (codes "a") 3)) (binary op.Plus (at 12) (atom (codes "b") 10) (atom (codes "c") 14)))
 brackets = refl
 
 -- ---- quantifiers
 
 -- `forall x\ a , b`: the scope reaches to the end
-scope-reaches-far : asks 1000 16 (forall_word (at 1) ∷ name (id (codes "x") 8) ∷ backslash (at 9) ∷ name (id (codes "a") 11) ∷ comma (at 13) ∷ name (id (codes "b") 15) ∷ [])
+scope-reaches-far : asks 1000 16 (forall_word (at 1) ∷ name (id (codes "x") 8) ∷ backslash (at 9) ∷ name (id (codes "a") 11) ∷ comma (at 13)
+    ∷ name (id (codes "b") 15) ∷ [])
     ≡ tree (universal (at 1) (id (codes "x") 8) (binary op.Tensor (at 13) (atom (codes "a") 11) (atom (codes "b") 15)))
 scope-reaches-far = refl
 
 -- `(forall x\ a) , b`: brackets end it
-scope-in-brackets : asks 1000 18 (paren_left (at 1) ∷ forall_word (at 2) ∷ name (id (codes "x") 9) ∷ backslash (at 10) ∷ name (id (codes "a") 12) ∷ paren_right (at 13) ∷ comma (at 15) ∷ name (id (codes "b") 17) ∷ [])
+scope-in-brackets : asks 1000 18 (paren_left (at 1) ∷ forall_word (at 2) ∷ name (id (codes "x") 9) ∷ backslash (at 10) ∷ name (id (codes "a") 12)
+    ∷ paren_right (at 13) ∷ comma (at 15) ∷ name (id (codes "b") 17) ∷ [])
     ≡ tree (binary op.Tensor (at 15) (universal (at 2) (id (codes "x") 9) (atom (codes "a") 12)) (atom (codes "b") 17))
 scope-in-brackets = refl
 
 -- `(a , exists X\ b) , c`: so do brackets round more
-scope-in-wider-brackets : asks 1000 22 (paren_left (at 1) ∷ name (id (codes "a") 2) ∷ comma (at 4) ∷ exists_word (at 6) ∷ variable (id (codes "X") 13) ∷ backslash (at 14) ∷ name (id (codes "b") 16) ∷ paren_right (at 17) ∷ comma (at 19) ∷ name (id (codes "c") 21) ∷ [])
-    ≡ tree (binary op.Tensor (at 19) (binary op.Tensor (at 4) (atom (codes "a") 2) (existential (at 6) (id (codes "X") 13) (atom (codes "b") 16))) (atom (codes "c") 21))
+scope-in-wider-brackets : asks 1000 22 (paren_left (at 1) ∷ name (id (codes "a") 2) ∷ comma (at 4) ∷ exists_word (at 6) ∷ variable (id (codes "X") 13)
+    ∷ backslash (at 14) ∷ name (id (codes "b") 16) ∷ paren_right (at 17) ∷ comma (at 19) ∷ name (id (codes "c") 21) ∷ [])
+    ≡ tree (binary op.Tensor (at 19) (binary op.Tensor (at 4) (atom (codes "a") 2) (existential (at 6) (id (codes "X") 13) (atom (codes "b") 16)))
+    (atom (codes "c") 21))
 scope-in-wider-brackets = refl
 
 -- ---- terms and loads
 
 -- `p (X::a::L) (f 1) _`
-terms : asks 1000 20 (name (id (codes "p") 1) ∷ paren_left (at 3) ∷ variable (id (codes "X") 4) ∷ cons_sign (at 5) ∷ name (id (codes "a") 7) ∷ cons_sign (at 8) ∷ variable (id (codes "L") 10) ∷ paren_right (at 11) ∷ paren_left (at 13) ∷ name (id (codes "f") 14) ∷ number (pos 1) (at 16) ∷ paren_right (at 17) ∷ any (at 19) ∷ [])
-    ≡ tree (head (id (codes "p") 1) (more (cons_raw (at 5) (atom (codes "X") 4) (cons_raw (at 8) (atom (codes "a") 7) (atom (codes "L") 10))) (more (head (id (codes "f") 14) (more (int (at 16) (pos 1)) none)) (more (anything (at 19)) none))))
+terms : asks 1000 20 (name (id (codes "p") 1) ∷ paren_left (at 3) ∷ variable (id (codes "X") 4) ∷ cons_sign (at 5) ∷ name (id (codes "a") 7) ∷ cons_sign (at 8)
+    ∷ variable (id (codes "L") 10) ∷ paren_right (at 11) ∷ paren_left (at 13) ∷ name (id (codes "f") 14) ∷ number (pos 1) (at 16) ∷ paren_right (at 17)
+    ∷ any (at 19) ∷ [])
+    ≡ tree (head (id (codes "p") 1) (more (cons_raw (at 5) (atom (codes "X") 4) (cons_raw (at 8) (atom (codes "a") 7) (atom (codes "L") 10)))
+    (more (head (id (codes "f") 14) (more (int (at 16) (pos 1)) none)) (more (anything (at 19)) none))))
 terms = refl
 
 -- `m X --> a , b`: the load reaches over the tighter operators on its right
-loads : asks 1000 14 (name (id (codes "m") 1) ∷ variable (id (codes "X") 3) ∷ load_arrow (at 5) ∷ name (id (codes "a") 9) ∷ comma (at 11) ∷ name (id (codes "b") 13) ∷ [])
+loads : asks 1000 14 (name (id (codes "m") 1) ∷ variable (id (codes "X") 3) ∷ load_arrow (at 5) ∷ name (id (codes "a") 9) ∷ comma (at 11)
+    ∷ name (id (codes "b") 13) ∷ [])
     ≡ tree (load (at 5) (id (codes "m") 1) (more (atom (codes "X") 3) none) (binary op.Tensor (at 11) (atom (codes "a") 9) (atom (codes "b") 13)))
 loads = refl
 
@@ -103,7 +120,8 @@ load-after-arrow : asks 1000 13 (name (id (codes "a") 1) ∷ lolli (at 3) ∷ na
 load-after-arrow = refl
 
 -- `a , m --> b`: none beside a tighter operator
-no-load-after-comma : asks 1000 12 (name (id (codes "a") 1) ∷ comma (at 3) ∷ name (id (codes "m") 5) ∷ load_arrow (at 7) ∷ name (id (codes "b") 11) ∷ []) ≡ fault (at 7) 4
+no-load-after-comma : asks 1000 12 (name (id (codes "a") 1) ∷ comma (at 3) ∷ name (id (codes "m") 5) ∷ load_arrow (at 7) ∷ name (id (codes "b") 11) ∷ [])
+    ≡ fault (at 7) 4
 no-load-after-comma = refl
 
 -- `X --> a`: a module has a Name
@@ -111,17 +129,20 @@ no-load-of-variable : asks 1000 8 (variable (id (codes "X") 1) ∷ load_arrow (a
 no-load-of-variable = refl
 
 -- `(m X) --> a`: and no brackets
-no-load-of-brackets : asks 1000 12 (paren_left (at 1) ∷ name (id (codes "m") 2) ∷ variable (id (codes "X") 4) ∷ paren_right (at 5) ∷ load_arrow (at 7) ∷ name (id (codes "a") 11) ∷ []) ≡ fault (at 7) 4
+no-load-of-brackets : asks 1000 12 (paren_left (at 1) ∷ name (id (codes "m") 2) ∷ variable (id (codes "X") 4) ∷ paren_right (at 5) ∷ load_arrow (at 7)
+    ∷ name (id (codes "a") 11) ∷ []) ≡ fault (at 7) 4
 no-load-of-brackets = refl
 
 -- `p (a --> b)`: no formula in a term
-no-load-in-term : asks 1000 12 (name (id (codes "p") 1) ∷ paren_left (at 3) ∷ name (id (codes "a") 4) ∷ load_arrow (at 6) ∷ name (id (codes "b") 10) ∷ paren_right (at 11) ∷ []) ≡ fault (at 6) 4
+no-load-in-term : asks 1000 12 (name (id (codes "p") 1) ∷ paren_left (at 3) ∷ name (id (codes "a") 4) ∷ load_arrow (at 6) ∷ name (id (codes "b") 10)
+    ∷ paren_right (at 11) ∷ []) ≡ fault (at 6) 4
 no-load-in-term = refl
 
 -- ---- faults
 
 -- `p :- forall x\`
-quantifier-ends-early : says 15 (name (id (codes "p") 1) ∷ colon_dash (at 3) ∷ forall_word (at 6) ∷ name (id (codes "x") 13) ∷ backslash (at 14) ∷ []) ≡ fault (at 15) 5
+quantifier-ends-early : says 15 (name (id (codes "p") 1) ∷ colon_dash (at 3) ∷ forall_word (at 6) ∷ name (id (codes "x") 13) ∷ backslash (at 14) ∷ [])
+    ≡ fault (at 15) 5
 quantifier-ends-early = refl
 
 -- `p q).`
@@ -133,8 +154,18 @@ brackets-of-two-kinds : asks 1000 4 (paren_left (at 1) ∷ name (id (codes "a") 
 brackets-of-two-kinds = refl
 
 -- `p :- q :- r :- s.` is allowed
-many-clauses : says 18 (name (id (codes "p") 1) ∷ colon_dash (at 3) ∷ name (id (codes "q") 6) ∷ colon_dash (at 8) ∷ name (id (codes "r") 11) ∷ colon_dash (at 13) ∷ name (id (codes "s") 16) ∷ dot (at 17) ∷ [])
-    ≡ tree (record { clauses = record { linear = false; form = binary op.ColonDash (at 13) (binary op.ColonDash (at 8) (binary op.ColonDash (at 3) (atom (codes "p") 1) (atom (codes "q") 6)) (atom (codes "r") 11)) (atom (codes "s") 16) } ∷ []; modules = [] })
+many-clauses : says 18 (name (id (codes "p") 1) ∷ colon_dash (at 3) ∷ name (id (codes "q") 6) ∷ colon_dash (at 8) ∷ name (id (codes "r") 11)
+    ∷ colon_dash (at 13) ∷ name (id (codes "s") 16) ∷ dot (at 17) ∷ [])
+    ≡ tree (record {
+      clauses = record {
+        linear = false;
+        form =
+            binary op.ColonDash (at 13) (binary op.ColonDash (at 8) (binary op.ColonDash (at 3) (atom (codes "p") 1) (atom (codes "q") 6))
+            (atom (codes "r") 11))
+            (atom (codes "s") 16);
+      } ∷ [];
+      modules = [];
+    })
 many-clauses = refl
 
 -- `p..` has a dot too many, `p. q` lacks one in a program, and in a query nothing follows the dot
@@ -155,7 +186,8 @@ empty-query : asks 1000 1 [] ≡ fault (at 1) 5
 empty-query = refl
 
 -- `((a) , {` where two brackets may be open: the third that is open
-one-bracket-more : asks 1 9 (paren_left (at 1) ∷ name (id (codes "a") 2) ∷ paren_right (at 3) ∷ comma (at 5) ∷ brace_left (at 7) ∷ paren_left (at 8) ∷ []) ≡ fault (at 8) 6
+one-bracket-more : asks 1 9 (paren_left (at 1) ∷ name (id (codes "a") 2) ∷ paren_right (at 3) ∷ comma (at 5) ∷ brace_left (at 7) ∷ paren_left (at 8) ∷ [])
+    ≡ fault (at 8) 6
 one-bracket-more = refl
 
 -- `p :- ((..(` with 1,001 brackets from column 6 on: the last one is at column 1006; with 1,000 the text ends early
@@ -189,10 +221,17 @@ bracket-not-admitted = refl
 -- ---- modules
 
 -- `a. MODULE m X. LOCAL c d. LOCAL e. LINEAR p. MODULE n.`
-modules : says 52 (name (id (codes "a") 1) ∷ dot (at 2) ∷ module_word (at 4) ∷ name (id (codes "m") 11) ∷ variable (id (codes "X") 13) ∷ dot (at 14) ∷ local_word (at 16) ∷ name (id (codes "c") 22) ∷ name (id (codes "d") 24) ∷ dot (at 25) ∷ local_word (at 27) ∷ name (id (codes "e") 33) ∷ dot (at 34) ∷ linear_word (at 36) ∷ name (id (codes "p") 43) ∷ dot (at 44) ∷ module_word (at 46) ∷ name (id (codes "n") 53) ∷ dot (at 54) ∷ [])
+modules : says 52 (name (id (codes "a") 1) ∷ dot (at 2) ∷ module_word (at 4) ∷ name (id (codes "m") 11) ∷ variable (id (codes "X") 13) ∷ dot (at 14)
+    ∷ local_word (at 16) ∷ name (id (codes "c") 22) ∷ name (id (codes "d") 24) ∷ dot (at 25) ∷ local_word (at 27) ∷ name (id (codes "e") 33) ∷ dot (at 34)
+    ∷ linear_word (at 36) ∷ name (id (codes "p") 43) ∷ dot (at 44) ∷ module_word (at 46) ∷ name (id (codes "n") 53) ∷ dot (at 54) ∷ [])
     ≡ tree (record {
       clauses = record { linear = false; form = atom (codes "a") 1 } ∷ [];
-      modules = record { name = id (codes "m") 11; params = id (codes "X") 13 ∷ []; locals = id (codes "c") 22 ∷ id (codes "d") 24 ∷ id (codes "e") 33 ∷ []; clauses = record { linear = true; form = atom (codes "p") 43 } ∷ [] }
+      modules = record {
+        name = id (codes "m") 11;
+        params = id (codes "X") 13 ∷ [];
+        locals = id (codes "c") 22 ∷ id (codes "d") 24 ∷ id (codes "e") 33 ∷ [];
+        clauses = record { linear = true; form = atom (codes "p") 43 } ∷ [];
+      }
           ∷ record { name = id (codes "n") 53; params = []; locals = []; clauses = [] } ∷ [];
     })
 modules = refl
@@ -202,7 +241,8 @@ local-outside : says 9 (local_word (at 1) ∷ name (id (codes "c") 7) ∷ dot (a
 local-outside = refl
 
 -- `MODULE m. p. LOCAL c.`: none after a clause
-local-after-clause : says 22 (module_word (at 1) ∷ name (id (codes "m") 8) ∷ dot (at 9) ∷ name (id (codes "p") 11) ∷ dot (at 12) ∷ local_word (at 14) ∷ name (id (codes "c") 20) ∷ dot (at 21) ∷ []) ≡ fault (at 14) 4
+local-after-clause : says 22 (module_word (at 1) ∷ name (id (codes "m") 8) ∷ dot (at 9) ∷ name (id (codes "p") 11) ∷ dot (at 12) ∷ local_word (at 14)
+    ∷ name (id (codes "c") 20) ∷ dot (at 21) ∷ []) ≡ fault (at 14) 4
 local-after-clause = refl
 
 -- `MODULE m. LOCAL.`: at least one name

@@ -1,8 +1,11 @@
 -- Tokens and trees without their places: two that are the same so are the same, places aside.
 use Rattle.std.specs.Prelude.{map}
 use Rattle.ll_lexer.specs.declared.Place.{Place}
-use Rattle.ll_parser.specs.Tokens.{Identifier, Tok, name, variable, any, number, true_word, erase_word, forall_word, exists_word, is_sign, module_word, local_word, linear_word, dot, comma, ampersand, semicolon, paren_left, paren_right, brace_left, brace_right, backslash, cons_sign, colon_dash, left_arrow, right_arrow, most_sign, less_sign, plus_sign, minus_sign, star_sign, lolli, load_arrow}
-use Rattle.ll_parser.specs.Raw.{Raw, truth, erasure, braces, universal, existential, load, binary, head, anything, int, is_goal, less_goal, most_goal, RawList, none, more, ClauseTree, ModuleTree, ProgramTree}
+use Rattle.ll_parser.specs.Tokens.{Identifier, Tok, name, variable, any, number, true_word, erase_word, forall_word, exists_word, is_sign, module_word}
+use Rattle.ll_parser.specs.Tokens.{local_word, linear_word, dot, comma, ampersand, semicolon, paren_left, paren_right, brace_left, brace_right, backslash}
+use Rattle.ll_parser.specs.Tokens.{cons_sign, colon_dash, left_arrow, right_arrow, most_sign, less_sign, plus_sign, minus_sign, star_sign, lolli, load_arrow}
+use Rattle.ll_parser.specs.Raw.{Raw, truth, erasure, braces, universal, existential, load, binary, head, anything, int, is_goal, less_goal, most_goal, RawList}
+use Rattle.ll_parser.specs.Raw.{none, more, ClauseTree, ModuleTree, ProgramTree}
 
 -- the place that stands for every place
 abbrev pub nowhere : Place
@@ -72,7 +75,13 @@ abbrev pub bare_clause : ClauseTree → ClauseTree
 bare_clause c = record { linear = c.linear; form = bare_raw c.form }
 
 abbrev pub bare_module : ModuleTree → ModuleTree
-bare_module m = record { name = bare_identifier m.name; params = map bare_identifier m.params; locals = map bare_identifier m.locals; clauses = map bare_clause m.clauses }
+bare_module m = record {
+  name = bare_identifier m.name;
+  params = map bare_identifier m.params;
+  locals = map bare_identifier m.locals;
+  clauses =
+      map bare_clause m.clauses;
+}
 
 abbrev pub bare_program : ProgramTree → ProgramTree
 bare_program p = record { clauses = map bare_clause p.clauses; modules = map bare_module p.modules }

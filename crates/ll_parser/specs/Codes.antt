@@ -8,7 +8,8 @@ use Rattle.ll_lexer.specs.contracts.Place as place
 use Rattle.ll_lexer.specs.declared.Place.{Place}
 use Rattle.ll_parser.specs.contracts.Op as op
 use Rattle.ll_parser.specs.Tokens.{Identifier}
-use Rattle.ll_parser.specs.Raw.{Raw, truth, erasure, braces, universal, existential, load, binary, is_goal, less_goal, most_goal, head, anything, int, RawList, none, more, ClauseTree, ModuleTree, ProgramTree}
+use Rattle.ll_parser.specs.Raw.{Raw, truth, erasure, braces, universal, existential, load, binary, is_goal, less_goal, most_goal, head, anything, int, RawList}
+use Rattle.ll_parser.specs.Raw.{none, more, ClauseTree, ModuleTree, ProgramTree}
 
 -- a place, told apart
 abbrev place_code : Coded Place
@@ -85,8 +86,10 @@ mutual
   raw-inj (is_goal a l r) (is_goal b k s) p = λ i. is_goal (place_code.inj a b (ap one p) i) (raw-inj l k (ap two p) i) (raw-inj r s (ap behind_two p) i)
   raw-inj (less_goal a l r) (less_goal b k s) p = λ i. less_goal (place_code.inj a b (ap one p) i) (raw-inj l k (ap two p) i) (raw-inj r s (ap behind_two p) i)
   raw-inj (most_goal a l r) (most_goal b k s) p = λ i. most_goal (place_code.inj a b (ap one p) i) (raw-inj l k (ap two p) i) (raw-inj r s (ap behind_two p) i)
-  raw-inj (universal a m r) (universal b n s) p = λ i. universal (place_code.inj a b (ap one p) i) (identifier_code.inj m n (ap two p) i) (raw-inj r s (ap behind_two p) i)
-  raw-inj (existential a m r) (existential b n s) p = λ i. existential (place_code.inj a b (ap one p) i) (identifier_code.inj m n (ap two p) i) (raw-inj r s (ap behind_two p) i)
+  raw-inj (universal a m r) (universal b n s) p = λ i. universal (place_code.inj a b (ap one p) i) (identifier_code.inj m n (ap two p) i)
+      (raw-inj r s (ap behind_two p) i)
+  raw-inj (existential a m r) (existential b n s) p = λ i. existential (place_code.inj a b (ap one p) i) (identifier_code.inj m n (ap two p) i)
+      (raw-inj r s (ap behind_two p) i)
   raw-inj (load a m rs r) (load b n ss s) p =
       λ i. load (place_code.inj a b (ap one p) i) (identifier_code.inj m n (ap two p) i) (raws-inj rs ss (ap three p) i) (raw-inj r s (ap behind_three p) i)
   raw-inj (binary o a l r) (binary q b k s) p =
@@ -110,7 +113,8 @@ clause_code = code_by (Bool × Raw) (coded× coded_bool raw_code) (λ c. (c.line
 abbrev module_code : Coded ModuleTree
 module_code =
     code_by (Identifier × (List Identifier × (List Identifier × List ClauseTree)))
-    (coded× identifier_code (coded× (coded_list identifier_code) (coded× (coded_list identifier_code) (coded_list clause_code)))) (λ m. (m.name, (m.params, (m.locals, m.clauses))))
+    (coded× identifier_code (coded× (coded_list identifier_code) (coded× (coded_list identifier_code) (coded_list clause_code))))
+    (λ m. (m.name, (m.params, (m.locals, m.clauses))))
     (λ p. record { name = p.0; params = p.1.0; locals = p.1.1.0; clauses = p.1.1.1 }) (λ _. refl)
 
 -- programs have a code

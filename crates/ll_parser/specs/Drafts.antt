@@ -10,7 +10,8 @@ use Rattle.ll_parser.specs.declared.texts.Stage.TheVariants as stage
 use Rattle.ll_parser.specs.declared.texts.Draft.{Draft}
 use Rattle.ll_parser.specs.declared.waiting.Waiting.{Waiting}
 use Rattle.ll_parser.specs.Raw.{Raw, ModuleTree, ProgramTree}
-use Rattle.ll_parser.specs.FlatText.{Phase as FlatPhase, boundary, wanting, inside, heading, params, localizing, locals, FlatProgram, add_clause, close_module, FlatQuery, asking, ended}
+use Rattle.ll_parser.specs.FlatText.{Phase as FlatPhase, boundary, wanting, inside, heading, params, localizing, locals, FlatProgram, add_clause, close_module}
+use Rattle.ll_parser.specs.FlatText.{FlatQuery, asking, ended}
 use Rattle.ll_parser.specs.Nodes.{Node, shown_clause, shown_module, shown_program}
 use Rattle.ll_parser.specs.Waiting.{known, tree, mode_view, Fits, IsNode, IsNew, ModeFits}
 
@@ -97,7 +98,8 @@ GivesPhase d (Some p) next = DraftFits d × PhaseFits d.waiting p × ((texts : L
 pub record AddsClause (old new : Draft) (c : RawClause) : Type 0 where
   pub fits : DraftFits new
   pub waiting : new.waiting ≡ old.waiting
-  pub is : (texts : List (List ℕ)) → draft_view (known texts) new phase.Boundary ≡ add_clause (whole_view (known texts) old) (current_view (known texts) old) (shown_clause (known texts) old.waiting.forms c)
+  pub is : (texts : List (List ℕ)) → draft_view (known texts) new phase.Boundary
+      ≡ add_clause (whole_view (known texts) old) (current_view (known texts) old) (shown_clause (known texts) old.waiting.forms c)
 
 -- the module at work was put to the others
 pub record ClosesModule (old new : Draft) : Type 0 where

@@ -7,9 +7,12 @@ use Rattle.ll_parser.specs.declared.Level.{Level}
 use Rattle.ll_parser.specs.declared.Level.TheVariants as level
 use Rattle.ll_parser.specs.declared.Quantifier.{Quantifier}
 use Rattle.ll_parser.specs.declared.Quantifier.TheVariants as quantifier
-use Rattle.ll_parser.specs.Tokens.{Identifier, Tok, name, variable, any, number, true_word, erase_word, forall_word, exists_word, comma, ampersand, semicolon, paren_left, paren_right, brace_left, brace_right, backslash, cons_sign, colon_dash, left_arrow, right_arrow, lolli, load_arrow, is_sign, most_sign, less_sign, plus_sign, minus_sign, star_sign}
+use Rattle.ll_parser.specs.Tokens.{Identifier, Tok, name, variable, any, number, true_word, erase_word, forall_word, exists_word, comma, ampersand, semicolon}
+use Rattle.ll_parser.specs.Tokens.{paren_left, paren_right, brace_left, brace_right, backslash, cons_sign, colon_dash, left_arrow, right_arrow, lolli}
+use Rattle.ll_parser.specs.Tokens.{load_arrow, is_sign, most_sign, less_sign, plus_sign, minus_sign, star_sign}
 use Rattle.ll_parser.specs.Raw.{Raw, truth, erasure, braces, load, binary, head, anything, int, RawList, none, raws_then, cons_raw, is_goal, sign_raw}
-use Rattle.ll_parser.specs.Grammar.{Word, lower, upper, word_identifier, quantifier_raw, SumOp, by_plus, by_minus, TestOp, by_less, by_most, add_sign, star, test_raw}
+use Rattle.ll_parser.specs.Grammar.{Word, lower, upper, word_identifier, quantifier_raw, SumOp, by_plus, by_minus, TestOp, by_less, by_most, add_sign, star}
+use Rattle.ll_parser.specs.Grammar.{test_raw}
 
 -- What waits for its end: the left operand of an operator; a load, for the formula behind its arrow; a bracket, a brace or a
 -- quantifier of a formula; an atom or a head inside a term, in the brackets of whose argument the reader is; a bracket that is a

@@ -54,17 +54,31 @@ close_module w m = record { clauses = w.clauses; modules = with_current w.module
 -- a clause is the program's own before the first module, and the module's at work after it
 abbrev pub add_clause : ProgramTree → Option ModuleTree → ClauseTree → FlatProgram
 add_clause w None c = record { whole = record { clauses = w.clauses ++ c ∷ []; modules = w.modules }; current = None; phase = boundary }
-add_clause w (Some m) c = record { whole = w; current = Some (record { name = m.name; params = m.params; locals = m.locals; clauses = m.clauses ++ c ∷ [] }); phase = boundary }
+add_clause w (Some m) c = record {
+  whole = w;
+  current = Some (record { name = m.name; params = m.params; locals = m.locals; clauses = m.clauses ++ c ∷ [] });
+  phase = boundary;
+}
 
 -- the next parameter of the module at work
 abbrev pub add_param : ProgramTree → Option ModuleTree → Identifier → Option FlatProgram
 add_param w None n = None
-add_param w (Some m) n = Some (record { whole = w; current = Some (record { name = m.name; params = m.params ++ n ∷ []; locals = m.locals; clauses = m.clauses }); phase = params })
+add_param w (Some m) n = Some (record {
+  whole = w;
+  current =
+      Some (record { name = m.name; params = m.params ++ n ∷ []; locals = m.locals; clauses = m.clauses });
+  phase = params;
+})
 
 -- the next local constant of the module at work
 abbrev pub add_local : ProgramTree → Option ModuleTree → Identifier → Option FlatProgram
 add_local w None n = None
-add_local w (Some m) n = Some (record { whole = w; current = Some (record { name = m.name; params = m.params; locals = m.locals ++ n ∷ []; clauses = m.clauses }); phase = locals })
+add_local w (Some m) n = Some (record {
+  whole = w;
+  current =
+      Some (record { name = m.name; params = m.params; locals = m.locals ++ n ∷ []; clauses = m.clauses });
+  phase = locals;
+})
 
 -- there are no clauses
 abbrev pub has_none : List ClauseTree → Bool

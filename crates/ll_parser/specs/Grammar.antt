@@ -9,8 +9,11 @@ pub use Rattle.ll_parser.specs.declared.SumOp.{SumOp}
 pub use Rattle.ll_parser.specs.declared.SumOp.TheVariants.{Plus as by_plus, Minus as by_minus}
 pub use Rattle.ll_parser.specs.declared.TestOp.{TestOp}
 pub use Rattle.ll_parser.specs.declared.TestOp.TheVariants.{Less as by_less, Most as by_most}
-use Rattle.ll_parser.specs.Tokens.{Identifier, Tok, name, variable, any, number, true_word, erase_word, forall_word, exists_word, comma, ampersand, semicolon, paren_left, paren_right, brace_left, brace_right, backslash, cons_sign, colon_dash, left_arrow, right_arrow, lolli, load_arrow, is_sign, most_sign, less_sign, plus_sign, minus_sign, star_sign}
-use Rattle.ll_parser.specs.Raw.{Raw, truth, erasure, braces, universal, existential, load, binary, head, anything, int, RawList, none, raws_then, cons_raw, is_goal, less_goal, most_goal, sign_raw}
+use Rattle.ll_parser.specs.Tokens.{Identifier, Tok, name, variable, any, number, true_word, erase_word, forall_word, exists_word, comma, ampersand, semicolon}
+use Rattle.ll_parser.specs.Tokens.{paren_left, paren_right, brace_left, brace_right, backslash, cons_sign, colon_dash, left_arrow, right_arrow, lolli}
+use Rattle.ll_parser.specs.Tokens.{load_arrow, is_sign, most_sign, less_sign, plus_sign, minus_sign, star_sign}
+use Rattle.ll_parser.specs.Raw.{Raw, truth, erasure, braces, universal, existential, load, binary, head, anything, int, RawList, none, raws_then, cons_raw}
+use Rattle.ll_parser.specs.Raw.{is_goal, less_goal, most_goal, sign_raw}
 
 -- ---- parse trees
 

@@ -7,7 +7,8 @@ use Rattle.ll_parser.specs.declared.Named.{Named}
 use Rattle.ll_parser.specs.declared.RawClause.{RawClause}
 use Rattle.ll_parser.specs.declared.RawModule.{RawModule}
 use Rattle.ll_parser.specs.Tokens.{Identifier}
-use Rattle.ll_parser.specs.Raw.{Raw, truth, erasure, braces, universal, existential, load, binary, head, anything, int, is_goal, less_goal, most_goal, RawList, none, more, ClauseTree, ModuleTree, ProgramTree}
+use Rattle.ll_parser.specs.Raw.{Raw, truth, erasure, braces, universal, existential, load, binary, head, anything, int, is_goal, less_goal, most_goal, RawList}
+use Rattle.ll_parser.specs.Raw.{none, more, ClauseTree, ModuleTree, ProgramTree}
 
 -- a node of a raw tree; its parts are the places of other nodes
 pub data Node : Type 0 where

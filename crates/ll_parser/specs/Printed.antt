@@ -5,7 +5,8 @@ use Rattle.std.specs.Str.{bytes_eq}
 use Rattle.ll_parser.specs.declared.Op.{Op}
 use Rattle.ll_parser.specs.declared.Op.TheVariants as op
 use Rattle.ll_parser.specs.Tokens.{Identifier}
-use Rattle.ll_parser.specs.Raw.{Raw, truth, erasure, braces, universal, existential, load, binary, head, anything, int, is_goal, less_goal, most_goal, RawList, none, more, ClauseTree, ModuleTree, ProgramTree}
+use Rattle.ll_parser.specs.Raw.{Raw, truth, erasure, braces, universal, existential, load, binary, head, anything, int, is_goal, less_goal, most_goal, RawList}
+use Rattle.ll_parser.specs.Raw.{none, more, ClauseTree, ModuleTree, ProgramTree}
 
 -- the levels, from the loosest: `:-` and `<=`; `-o`, `=>` and `-->`; `;`; `&`; `,`; primary formulas
 pub data Rank : Type 0 where
@@ -186,7 +187,8 @@ names_text (n ∷ ns) = codes " " ++ (n.text ++ names_text ns)
 
 -- a clause in its line, with its mark
 abbrev pub clause_text : ClauseTree → List ℕ
-clause_text c = if c.linear then codes "LINEAR" ++ (codes " " ++ (formula_text clauses false c.form ++ line_end)) else formula_text clauses false c.form ++ line_end
+clause_text c = if c.linear then codes "LINEAR" ++ (codes " " ++ (formula_text clauses false c.form ++ line_end)) else formula_text clauses false c.form
+    ++ line_end
 
 abbrev pub clauses_text : List ClauseTree → List ℕ
 clauses_text [] = []

@@ -55,7 +55,8 @@ opens _ = false
 pub data HasFault (l : Language) (limit : ℕ) (ts : List Tok) (end : Place) : Fault → Type 0 where
   bad_token : (i : ℕ) (t : Tok) → Stands l limit ts i t → (Begins l (take i ts ++ t ∷ []) → ⊥) → HasFault l limit ts end (record { at = tok_place t; kind = 4 })
   ends_early : Begins l ts → Within limit ts → ((tree : l.Tree) → Derives l ts tree → ⊥) → HasFault l limit ts end (record { at = end; kind = 5 })
-  too_many_open : (i : ℕ) (t : Tok) → Stands l limit ts i t → Begins l (take i ts ++ t ∷ []) → opens t ≡ true → open_after 0 (take i ts) ≡ limit → HasFault l limit ts end (record { at = tok_place t; kind = 6 })
+  too_many_open : (i : ℕ) (t : Tok) → Stands l limit ts i t → Begins l (take i ts ++ t ∷ []) → opens t ≡ true → open_after 0 (take i ts) ≡ limit
+      → HasFault l limit ts end (record { at = tok_place t; kind = 6 })
 
 -- why a token list was not read; want of memory is free
 abbrev pub IsCause : Language → ℕ → List Tok → Place → TextFault → Type 0

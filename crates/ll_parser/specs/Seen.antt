@@ -5,7 +5,8 @@ use Rattle.ll_parser.specs.declared.RawAt.{RawAt}
 use Rattle.ll_parser.specs.declared.RawNode.{RawNode}
 use Rattle.ll_parser.specs.declared.RawNode.TheVariants as seen
 use Rattle.ll_parser.specs.Raw.{raw_place}
-use Rattle.ll_parser.specs.Nodes.{Node, TrueNode, EraseNode, AnyNode, BracesNode, ForallNode, ExistsNode, LoadNode, BinaryNode, HeadNode, IntNode, IsGoalNode, LessGoalNode, MostGoalNode, build_raw, raw_trees, raw_at}
+use Rattle.ll_parser.specs.Nodes.{Node, TrueNode, EraseNode, AnyNode, BracesNode, ForallNode, ExistsNode, LoadNode, BinaryNode, HeadNode, IntNode, IsGoalNode}
+use Rattle.ll_parser.specs.Nodes.{LessGoalNode, MostGoalNode, build_raw, raw_trees, raw_at}
 
 -- places as numbers
 abbrev pub places : List RawAt → List ℕ

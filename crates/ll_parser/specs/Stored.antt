@@ -6,7 +6,8 @@ use Rattle.ll_parser.specs.declared.RawAt.{RawAt}
 use Rattle.ll_parser.specs.declared.raws.Span.{Span}
 use Rattle.ll_parser.specs.declared.raws.Row.{Row}
 use Rattle.ll_parser.specs.declared.raws.Row.TheVariants as row
-use Rattle.ll_parser.specs.Nodes.{Node, TrueNode, EraseNode, AnyNode, BracesNode, ForallNode, ExistsNode, LoadNode, BinaryNode, HeadNode, IntNode, IsGoalNode, LessGoalNode, MostGoalNode}
+use Rattle.ll_parser.specs.Nodes.{Node, TrueNode, EraseNode, AnyNode, BracesNode, ForallNode, ExistsNode, LoadNode, BinaryNode, HeadNode, IntNode, IsGoalNode}
+use Rattle.ll_parser.specs.Nodes.{LessGoalNode, MostGoalNode}
 use Rattle.ll_parser.specs.Seen.{places}
 
 -- the arguments of a span

@@ -2,7 +2,9 @@
 use Rattle.std.specs.Prelude.{◌≡◌, ℕ, ◌+◌, ◌≤◌, List, ◌++◌, length}
 use Rattle.ll_parser.specs.declared.symbols.Symbol.{Symbol}
 use Rattle.ll_parser.specs.declared.symbols.Symbol.TheVariants as symbol
-use Rattle.ll_parser.specs.Tokens.{Tok, name, variable, any, number, true_word, erase_word, forall_word, exists_word, is_sign, module_word, local_word, linear_word, dot, comma, ampersand, semicolon, paren_left, paren_right, brace_left, brace_right, backslash, cons_sign, colon_dash, left_arrow, right_arrow, most_sign, less_sign, plus_sign, minus_sign, star_sign, lolli, load_arrow}
+use Rattle.ll_parser.specs.Tokens.{Tok, name, variable, any, number, true_word, erase_word, forall_word, exists_word, is_sign, module_word, local_word}
+use Rattle.ll_parser.specs.Tokens.{linear_word, dot, comma, ampersand, semicolon, paren_left, paren_right, brace_left, brace_right, backslash, cons_sign}
+use Rattle.ll_parser.specs.Tokens.{colon_dash, left_arrow, right_arrow, most_sign, less_sign, plus_sign, minus_sign, star_sign, lolli, load_arrow}
 use Rattle.ll_parser.specs.Nodes.{identifier}
 
 -- the token, where the names have these texts

@@ -16,7 +16,10 @@ use Rattle.ll_parser.specs.declared.waiting.Waiting.{Waiting}
 use Rattle.ll_parser.specs.Tokens.{Tok}
 use Rattle.ll_parser.specs.Raw.{Raw, RawList, raws_then, cons_raw, sign_raw}
 use Rattle.ll_parser.specs.Grammar.{Word as GrammarWord, lower, upper}
-use Rattle.ll_parser.specs.Flat.{Pending, operand, loading, in_bracket, in_brace, in_quantifier, in_atom, in_argument, in_group, cell, added, multiplied, valuing, testing, in_expression, in_left_side, Flat, want, part, whole, binder, slash, term_want, term_part, term_whole, plain, led, lead_want, item_want, item, build, reduce, gather, end_with, operate, close_number, end_expression, final_expression}
+use Rattle.ll_parser.specs.Flat.{Pending, operand, loading, in_bracket, in_brace, in_quantifier, in_atom, in_argument, in_group, cell, added, multiplied}
+use Rattle.ll_parser.specs.Flat.{valuing, testing, in_expression, in_left_side, Flat, want, part, whole, binder, slash, term_want, term_part, term_whole}
+use Rattle.ll_parser.specs.Flat.{plain, led, lead_want, item_want, item, build, reduce, gather, end_with, operate, close_number, end_expression}
+use Rattle.ll_parser.specs.Flat.{final_expression}
 use Rattle.ll_parser.specs.Nodes.{Node, identifier, raw_in, raws_in, raw_trees, raw_at}
 use Rattle.ll_parser.specs.Seen.{places}
 
@@ -284,14 +287,16 @@ pub record Popped (level : Level) (old new : Waiting) (p : Prefix) : Type 0 wher
   pub can : CanWait new (frame.Front p)
   pub forms : new.forms ≡ old.forms
   pub reduces : (texts : List (List ℕ)) (r : Raw) → reduce level r (waiting (known texts) old)
-      ≡ reduce level (build (prefix_view (known texts) (raw_trees (known texts) new.forms) new.args.items p) r) (pending (known texts) new.forms (prefix_left new.args.items p) new.frames.items)
+      ≡ reduce level (build (prefix_view (known texts) (raw_trees (known texts) new.forms) new.args.items p) r)
+      (pending (known texts) new.forms (prefix_left new.args.items p) new.frames.items)
   pub smaller : length new.frames.items < length old.frames.items
 
 -- an operand with all that the level takes
 pub record Reduced (level : Level) (old new : Waiting) (i j : RawAt) : Type 0 where
   pub fits : Fits new
   pub inside : IsNode new j
-  pub reduces : (texts : List (List ℕ)) → reduce level (tree (known texts) old i) (waiting (known texts) old) ≡ (tree (known texts) new j, waiting (known texts) new)
+  pub reduces : (texts : List (List ℕ)) → reduce level (tree (known texts) old i) (waiting (known texts) old)
+      ≡ (tree (known texts) new j, waiting (known texts) new)
 
 -- a term with all cells
 pub record Gathered (old new : Waiting) (i j : RawAt) : Type 0 where
@@ -304,7 +309,8 @@ pub record PoppedCell (old new : Waiting) (at : Place) (first : RawAt) : Type 0 
   pub fits : Fits new
   pub inside : IsNode new first
   pub forms : new.forms ≡ old.forms
-  pub gathers : (texts : List (List ℕ)) (r : Raw) → gather r (waiting (known texts) old) ≡ gather (cons_raw at (tree (known texts) new first) r) (waiting (known texts) new)
+  pub gathers : (texts : List (List ℕ)) (r : Raw) → gather r (waiting (known texts) old)
+      ≡ gather (cons_raw at (tree (known texts) new first) r) (waiting (known texts) new)
   pub smaller : length new.frames.items < length old.frames.items
 
 -- no cell is the newest

@@ -1,6 +1,7 @@
 -- How many nodes raw trees have: what a problem made of them may have places for.
 use Rattle.std.specs.Prelude.{ℕ, suc, ◌+◌, List, [], ◌∷◌}
-use Rattle.ll_parser.specs.Raw.{Raw, truth, erasure, braces, universal, existential, load, binary, head, anything, int, RawList, none, more, ClauseTree, ModuleTree, is_goal, less_goal, most_goal}
+use Rattle.ll_parser.specs.Raw.{Raw, truth, erasure, braces, universal, existential, load, binary, head, anything, int, RawList, none, more, ClauseTree}
+use Rattle.ll_parser.specs.Raw.{ModuleTree, is_goal, less_goal, most_goal}
 
 -- the number of nodes of a raw tree, and of several
 abbrev mutual

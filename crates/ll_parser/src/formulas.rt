@@ -4,11 +4,13 @@ ghost use Rattle.ll_parser.specs.declared.RawAt.{RawAt};
 ghost use Rattle.ll_parser.specs.declared.waiting.Waiting.{Waiting};
 ghost use Rattle.ll_parser.specs.declared.Level.TheVariants.{Close};
 ghost use Rattle.ll_parser.specs.Raw.{Raw, raws_then};
-ghost use Rattle.ll_parser.specs.Flat.{Pending, want, part, whole, binder, slash, term_want, push as push_operator, reduce, admits_load, begin_load, close_bracket, close_brace, operate, end_with, take_both, final_expression, flat_step, flat_final};
+ghost use Rattle.ll_parser.specs.Flat.{Pending, want, part, whole, binder, slash, term_want, push as push_operator, reduce, admits_load, begin_load};
+ghost use Rattle.ll_parser.specs.Flat.{close_bracket, close_brace, operate, end_with, take_both, final_expression, flat_step, flat_final};
 ghost use Rattle.ll_parser.specs.Nodes.{identifier, build_raw, raw_trees};
 ghost use Rattle.ll_parser.specs.Seen.{node_of, HasPartsBelow};
 ghost use Rattle.ll_parser.specs.Symbols.{symbol_tok};
-ghost use Rattle.ll_parser.specs.Waiting.{word_view, frame_view, tree, waiting, args_from, waiting_below, pushed, mode_view, Fits, FitsBelow, IsNode, CanWait, Grows, ModeFits, Gives, GivesTree};
+ghost use Rattle.ll_parser.specs.Waiting.{word_view, frame_view, tree, waiting, args_from, waiting_below, pushed, mode_view, Fits, FitsBelow, IsNode, CanWait};
+ghost use Rattle.ll_parser.specs.Waiting.{Grows, ModeFits, Gives, GivesTree};
 
 use crate::symbols::Symbol;
 use crate::waiting::{Frame, Prefix, Waiting, Word, named, newest};
@@ -95,7 +97,8 @@ impl Waiting {
     fn primary(&mut self, at: Place, node: RawNode<'_>) -> Result<Option<Mode>, OutOfMemory>
         requires fits { Fits self.old }
         requires parts { HasPartsBelow (length self.old.forms) node }
-        ensures gives { IfOk result (λ o. Gives self.new o (λ texts. Some (whole (build_raw texts (raw_trees texts self.old.forms) (node_of at node.entry)) (waiting texts self.old)))) }
+        ensures gives { IfOk result (λ o. Gives self.new o (λ texts.
+            Some (whole (build_raw texts (raw_trees texts self.old.forms) (node_of at node.entry)) (waiting texts self.old)))) }
         ensures grows { IfOk result (λ _. Grows self.old.forms self.new.forms) }
     {
         let formula = self.add(at, node)?;
@@ -132,7 +135,8 @@ impl Waiting {
         symbol: Symbol,
     ) -> Result<Option<Mode>, OutOfMemory>
         requires { Fits self.old }
-        ensures gives { IfOk result (λ o. Gives self.new o (λ texts. flat_step (slash quantifier at (word_view texts word) (waiting texts self.old)) (symbol_tok texts symbol))) }
+        ensures gives { IfOk result (λ o. Gives self.new o (λ texts.
+            flat_step (slash quantifier at (word_view texts word) (waiting texts self.old)) (symbol_tok texts symbol))) }
         ensures grows { IfOk result (λ _. Grows self.old.forms self.new.forms) }
     {
         match symbol {
@@ -153,7 +157,9 @@ impl Waiting {
     ) -> Result<Option<Mode>, OutOfMemory>
         requires fits { FitsBelow self.old from }
         requires parts { HasPartsBelow (length self.old.forms) node }
-        ensures gives { IfOk result (λ o. Gives self.new o (λ texts. Some (part (word_view texts word) (raws_then (args_from texts self.old from) (build_raw texts (raw_trees texts self.old.forms) (node_of at node.entry))) (waiting_below texts self.old from)))) }
+        ensures gives { IfOk result (λ o. Gives self.new o (λ texts.
+            Some (part (word_view texts word) (raws_then (args_from texts self.old from)
+            (build_raw texts (raw_trees texts self.old.forms) (node_of at node.entry))) (waiting_below texts self.old from)))) }
         ensures grows { IfOk result (λ _. Grows self.old.forms self.new.forms) }
     {
         self.add_argument(at, node)?;
@@ -168,7 +174,8 @@ impl Waiting {
         symbol: Symbol,
     ) -> Result<Option<Mode>, OutOfMemory>
         requires { FitsBelow self.old from }
-        ensures gives { IfOk result (λ o. Gives self.new o (λ texts. flat_step (part (word_view texts word) (args_from texts self.old from) (waiting_below texts self.old from)) (symbol_tok texts symbol))) }
+        ensures gives { IfOk result (λ o. Gives self.new o (λ texts.
+            flat_step (part (word_view texts word) (args_from texts self.old from) (waiting_below texts self.old from)) (symbol_tok texts symbol))) }
         ensures grows { IfOk result (λ _. Grows self.old.forms self.new.forms) }
     {
         match symbol {
@@ -201,7 +208,8 @@ impl Waiting {
         at: Place,
     ) -> Result<Option<Mode>, OutOfMemory>
         requires { FitsBelow self.old from }
-        ensures gives { IfOk result (λ o. Gives self.new o (λ texts. begin_load (word_view texts word) (args_from texts self.old from) at (waiting_below texts self.old from))) }
+        ensures gives { IfOk result (λ o. Gives self.new o (λ texts.
+            begin_load (word_view texts word) (args_from texts self.old from) at (waiting_below texts self.old from))) }
         ensures grows { IfOk result (λ _. Grows self.old.forms self.new.forms) }
     {
         match word {
@@ -234,7 +242,8 @@ impl Waiting {
     ) -> Result<Option<Mode>, OutOfMemory>
         requires fits { Fits self.old }
         requires operand { IsNode self.old operand }
-        ensures gives { IfOk result (λ o. Gives self.new o (λ texts. operate (tree texts self.old operand) (waiting texts self.old) (symbol_tok texts symbol))) }
+        ensures gives { IfOk result (λ o. Gives self.new o (λ texts.
+            operate (tree texts self.old operand) (waiting texts self.old) (symbol_tok texts symbol))) }
         ensures grows { IfOk result (λ _. Grows self.old.forms self.new.forms) }
     {
         match symbol {
@@ -267,7 +276,8 @@ impl Waiting {
     ) -> Result<Option<Mode>, OutOfMemory>
         requires fits { Fits self.old }
         requires operand { IsNode self.old operand }
-        ensures gives { IfOk result (λ o. Gives self.new o (λ texts. push_operator op at (reduce level (tree texts self.old operand) (waiting texts self.old)))) }
+        ensures gives { IfOk result (λ o. Gives self.new o (λ texts.
+            push_operator op at (reduce level (tree texts self.old operand) (waiting texts self.old)))) }
         ensures grows { IfOk result (λ _. Grows self.old.forms self.new.forms) }
     {
         let left = self.reduce(level, operand)?;
@@ -348,7 +358,8 @@ impl Waiting {
     fn finish_operand(&mut self, operand: RawAt) -> Result<Option<RawAt>, OutOfMemory>
         requires fits { Fits self.old }
         requires operand { IsNode self.old operand }
-        ensures gives { IfOk result (λ o. GivesTree self.new o (λ texts. let q = reduce Close (tree texts self.old operand) (waiting texts self.old) in end_with q.0 q.1)) }
+        ensures gives { IfOk result (λ o. GivesTree self.new o (λ texts. let q = reduce Close (tree texts self.old operand) (waiting texts self.old) in
+            end_with q.0 q.1)) }
         ensures grows { IfOk result (λ _. Grows self.old.forms self.new.forms) }
     {
         let formula = self.reduce(Level::Close, operand)?;
@@ -372,7 +383,8 @@ fn bind(quantifier: Quantifier, at: Place, symbol: Symbol) -> Option<Mode>
 
 // Whether a load may stand behind a frame.
 fn loads_above(frame: Frame) -> bool
-    ensures { (texts : List (List ℕ)) (trees : List Raw) (args : List RawAt) (ps : List Pending) → result ≡ admits_load (frame_view texts trees args frame ∷ ps) }
+    ensures { (texts : List (List ℕ)) (trees : List Raw) (args : List RawAt) (ps : List Pending)
+        → result ≡ admits_load (frame_view texts trees args frame ∷ ps) }
 {
     match frame {
         Frame::Front(Prefix::Operator(op, _, _)) => match op {

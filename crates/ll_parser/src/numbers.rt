@@ -1,7 +1,8 @@
 //! What each token does while a whole-number goal is read.
 ghost use Rattle.std.specs.Prelude.{◌≡◌, ℕ, ◌<◌, ◌∷◌, List, length, IfOk, Some};
 ghost use Rattle.ll_parser.specs.Grammar.{by_plus, by_minus, by_less, by_most};
-ghost use Rattle.ll_parser.specs.Flat.{plain, led, lead_want, item_want, item, multiply, add as add_operand, test, take_product, take_both, after_plain, after_word, after_led, after_item, close_number, end_expression, flat_step};
+ghost use Rattle.ll_parser.specs.Flat.{plain, led, lead_want, item_want, item, multiply, add as add_operand, test, take_product, take_both, after_plain};
+ghost use Rattle.ll_parser.specs.Flat.{after_word, after_led, after_item, close_number, end_expression, flat_step};
 ghost use Rattle.ll_parser.specs.Nodes.{build_raw, raw_trees};
 ghost use Rattle.ll_parser.specs.Seen.{node_of, HasPartsBelow};
 ghost use Rattle.ll_parser.specs.Symbols.{symbol_tok};

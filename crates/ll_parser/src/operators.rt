@@ -5,7 +5,9 @@ ghost use Rattle.ll_parser.specs.Grammar.{add_sign, star, test_raw};
 ghost use Rattle.ll_parser.specs.Flat.{build, take_product, take_sum, take_both};
 ghost use Rattle.ll_parser.specs.Raw.{load, cons_raw, sign_raw};
 ghost use Rattle.ll_parser.specs.Nodes.{identifier, raw_trees};
-ghost use Rattle.ll_parser.specs.Waiting.{tree, waiting, args_from, waiting_below, pending, prefix_view, prefix_left, Fits, FitsBelow, IsNode, CanWait, Grows, Leaves, IsBuilt, Popped, Reduced, Gathered, PoppedCell, HasNoCell, TakesNone, Takes, PoppedSign, TakesNothing, IsGoal, HasNoGoal, known};
+ghost use Rattle.ll_parser.specs.Waiting.{tree, waiting, args_from, waiting_below, pending, prefix_view, prefix_left, Fits, FitsBelow, IsNode, CanWait, Grows};
+ghost use Rattle.ll_parser.specs.Waiting.{Leaves, IsBuilt, Popped, Reduced, Gathered, PoppedCell, HasNoCell, TakesNone, Takes, PoppedSign, TakesNothing};
+ghost use Rattle.ll_parser.specs.Waiting.{IsGoal, HasNoGoal, known};
 
 use crate::waiting::{CONS, Frame, MINUS, PLUS, Prefix, STAR, Waiting, newest, takes};
 use crate::{Level, Named, Quantifier, RawAt, RawNode, SumOp, TestOp};
@@ -33,7 +35,9 @@ impl Waiting {
     ) -> Result<RawAt, OutOfMemory>
         requires fits { FitsBelow self.old from }
         requires goal { IsNode self.old goal }
-        ensures gives { IfOk result (λ i. IsBuilt self.old self.new i (λ texts. load at (identifier texts name) (args_from texts self.old from) (tree texts self.old goal)) (λ texts. waiting_below texts self.old from)) }
+        ensures gives { IfOk result (λ i. IsBuilt self.old self.new i
+            (λ texts. load at (identifier texts name) (args_from texts self.old from) (tree texts self.old goal))
+            (λ texts. waiting_below texts self.old from)) }
         ensures grows { IfOk result (λ _. Grows self.old.forms self.new.forms) }
     {
         let args = self.args.as_slice();
@@ -46,7 +50,9 @@ impl Waiting {
     fn build(&mut self, front: Prefix, operand: RawAt) -> Result<RawAt, OutOfMemory>
         requires front { CanWait self.old (Front front) }
         requires operand { IsNode self.old operand }
-        ensures gives { IfOk result (λ i. IsBuilt self.old self.new i (λ texts. build (prefix_view texts (raw_trees texts self.old.forms) self.old.args.items front) (tree texts self.old operand)) (λ texts. pending texts self.old.forms (prefix_left self.old.args.items front) self.old.frames.items)) }
+        ensures gives { IfOk result (λ i. IsBuilt self.old self.new i
+            (λ texts. build (prefix_view texts (raw_trees texts self.old.forms) self.old.args.items front) (tree texts self.old operand))
+            (λ texts. pending texts self.old.forms (prefix_left self.old.args.items front) self.old.frames.items)) }
         ensures grows { IfOk result (λ _. Grows self.old.forms self.new.forms) }
     {
         match front {
@@ -122,7 +128,8 @@ impl Waiting {
         requires fits { Fits self.old }
         requires first { IsNode self.old first }
         requires rest { IsNode self.old rest }
-        ensures gives { IfOk result (λ i. IsBuilt self.old self.new i (λ texts. cons_raw at (tree texts self.old first) (tree texts self.old rest)) (λ texts. waiting texts self.old)) }
+        ensures gives { IfOk result (λ i. IsBuilt self.old self.new i (λ texts. cons_raw at (tree texts self.old first) (tree texts self.old rest))
+            (λ texts. waiting texts self.old)) }
         ensures grows { IfOk result (λ _. Grows self.old.forms self.new.forms) }
     {
         let name = Named { name: CONS, at };

@@ -19,7 +19,8 @@ impl Waiting {
     fn constant(&mut self, at: Place, node: RawNode<'_>) -> Result<Option<Mode>, OutOfMemory>
         requires fits { Fits self.old }
         requires parts { HasPartsBelow (length self.old.forms) node }
-        ensures gives { IfOk result (λ o. Gives self.new o (λ texts. Some (term_whole (build_raw texts (raw_trees texts self.old.forms) (node_of at node.entry)) (waiting texts self.old)))) }
+        ensures gives { IfOk result (λ o. Gives self.new o (λ texts.
+            Some (term_whole (build_raw texts (raw_trees texts self.old.forms) (node_of at node.entry)) (waiting texts self.old)))) }
         ensures grows { IfOk result (λ _. Grows self.old.forms self.new.forms) }
     {
         let term = self.add(at, node)?;
@@ -54,7 +55,9 @@ impl Waiting {
     ) -> Result<Option<Mode>, OutOfMemory>
         requires fits { FitsBelow self.old from }
         requires parts { HasPartsBelow (length self.old.forms) node }
-        ensures gives { IfOk result (λ o. Gives self.new o (λ texts. Some (term_part (word_view texts word) (raws_then (args_from texts self.old from) (build_raw texts (raw_trees texts self.old.forms) (node_of at node.entry))) (waiting_below texts self.old from)))) }
+        ensures gives { IfOk result (λ o. Gives self.new o (λ texts.
+            Some (term_part (word_view texts word) (raws_then (args_from texts self.old from)
+            (build_raw texts (raw_trees texts self.old.forms) (node_of at node.entry))) (waiting_below texts self.old from)))) }
         ensures grows { IfOk result (λ _. Grows self.old.forms self.new.forms) }
     {
         self.add_argument(at, node)?;
@@ -69,7 +72,8 @@ impl Waiting {
         symbol: Symbol,
     ) -> Result<Option<Mode>, OutOfMemory>
         requires { FitsBelow self.old from }
-        ensures gives { IfOk result (λ o. Gives self.new o (λ texts. flat_step (term_part (word_view texts word) (args_from texts self.old from) (waiting_below texts self.old from)) (symbol_tok texts symbol))) }
+        ensures gives { IfOk result (λ o. Gives self.new o (λ texts.
+            flat_step (term_part (word_view texts word) (args_from texts self.old from) (waiting_below texts self.old from)) (symbol_tok texts symbol))) }
         ensures grows { IfOk result (λ _. Grows self.old.forms self.new.forms) }
     {
         match symbol {
@@ -95,7 +99,8 @@ impl Waiting {
     pub fn after_term(&mut self, term: RawAt, symbol: Symbol) -> Result<Option<Mode>, OutOfMemory>
         requires fits { Fits self.old }
         requires term { IsNode self.old term }
-        ensures gives { IfOk result (λ o. Gives self.new o (λ texts. term_operate (tree texts self.old term) (waiting texts self.old) (symbol_tok texts symbol))) }
+        ensures gives { IfOk result (λ o. Gives self.new o (λ texts.
+            term_operate (tree texts self.old term) (waiting texts self.old) (symbol_tok texts symbol))) }
         ensures grows { IfOk result (λ _. Grows self.old.forms self.new.forms) }
     {
         match symbol {

@@ -2,7 +2,8 @@
 
 ghost use Rattle.std.specs.Prelude.{◌≡◌, ◌<◌, ℕ, List, [], length, IfOk};
 ghost use Rattle.ll_parser.specs.Flat.{flat_step, flat_final};
-ghost use Rattle.ll_parser.specs.FlatText.{boundary, inside, enter, end_clause, add_param, add_local, admits_local, phase_step, program_step, query_step, query_final};
+ghost use Rattle.ll_parser.specs.FlatText.{boundary, inside, enter, end_clause, add_param, add_local, admits_local, phase_step, program_step, query_step};
+ghost use Rattle.ll_parser.specs.FlatText.{query_final};
 ghost use Rattle.ll_parser.specs.Nodes.{identifier};
 ghost use Rattle.ll_parser.specs.Symbols.{symbol_tok};
 ghost use Rattle.ll_parser.specs.Waiting.{mode_view, ModeFits};
@@ -52,7 +53,8 @@ pub struct Draft {
 }
 
 impl Draft {
-    ghost use Rattle.ll_parser.specs.Drafts.{whole_view, current_view, draft_view, IsIdle, IsNewDraft, PhaseFits, DraftFits, GivesPhase, AddsClause, ClosesModule};
+    ghost use Rattle.ll_parser.specs.Drafts.{whole_view, current_view, draft_view, IsIdle, IsNewDraft, PhaseFits, DraftFits, GivesPhase, AddsClause};
+    ghost use Rattle.ll_parser.specs.Drafts.{ClosesModule};
 
     /// Nothing.
     pub fn new(alloc: Global) -> Self
@@ -112,7 +114,8 @@ impl Draft {
     fn begin(&mut self, symbol: Symbol) -> Result<Option<Phase>, OutOfMemory>
         requires clauses { DraftFits self.old }
         requires idle { IsIdle self.old.waiting }
-        ensures { IfOk result (λ o. GivesPhase self.new o (λ texts. phase_step (whole_view texts self.old) (current_view texts self.old) boundary (symbol_tok texts symbol))) }
+        ensures { IfOk result (λ o. GivesPhase self.new o (λ texts.
+            phase_step (whole_view texts self.old) (current_view texts self.old) boundary (symbol_tok texts symbol))) }
     {
         match symbol {
             Symbol::Linear(_) => Ok(Some(Phase::Marked)),
@@ -143,7 +146,9 @@ impl Draft {
     ) -> Result<Option<Phase>, OutOfMemory>
         requires clauses { DraftFits self.old }
         requires mode { ModeFits self.old.waiting mode }
-        ensures { IfOk result (λ o. GivesPhase self.new o (λ texts. enter (whole_view texts self.old) (current_view texts self.old) linear (flat_step (mode_view texts self.old.waiting mode) (symbol_tok texts symbol)))) }
+        ensures { IfOk result (λ o. GivesPhase self.new o (λ texts.
+            enter (whole_view texts self.old) (current_view texts self.old) linear
+            (flat_step (mode_view texts self.old.waiting mode) (symbol_tok texts symbol)))) }
     {
         match self.waiting.step(mode, symbol)? {
             Some(next) => Ok(Some(Phase::Clause(linear, next))),
@@ -160,7 +165,9 @@ impl Draft {
     ) -> Result<Option<Phase>, OutOfMemory>
         requires clauses { DraftFits self.old }
         requires mode { ModeFits self.old.waiting mode }
-        ensures { IfOk result (λ o. GivesPhase self.new o (λ texts. phase_step (whole_view texts self.old) (current_view texts self.old) (inside linear (mode_view texts self.old.waiting mode)) (symbol_tok texts symbol))) }
+        ensures { IfOk result (λ o. GivesPhase self.new o (λ texts.
+            phase_step (whole_view texts self.old) (current_view texts self.old) (inside linear (mode_view texts self.old.waiting mode))
+            (symbol_tok texts symbol))) }
     {
         match symbol {
             Symbol::Dot(_) => self.end_clause(linear, mode),
@@ -175,7 +182,8 @@ impl Draft {
     fn end_clause(&mut self, linear: bool, mode: Mode) -> Result<Option<Phase>, OutOfMemory>
         requires clauses { DraftFits self.old }
         requires mode { ModeFits self.old.waiting mode }
-        ensures { IfOk result (λ o. GivesPhase self.new o (λ texts. end_clause (whole_view texts self.old) (current_view texts self.old) linear (flat_final (mode_view texts self.old.waiting mode)))) }
+        ensures { IfOk result (λ o. GivesPhase self.new o (λ texts.
+            end_clause (whole_view texts self.old) (current_view texts self.old) linear (flat_final (mode_view texts self.old.waiting mode)))) }
     {
         match self.waiting.finish(mode)? {
             Some(form) => {
@@ -203,7 +211,8 @@ impl Draft {
     fn add_param(&mut self, name: Named) -> Result<Option<Phase>, OutOfMemory>
         requires clauses { DraftFits self.old }
         requires idle { IsIdle self.old.waiting }
-        ensures { IfOk result (λ o. GivesPhase self.new o (λ texts. add_param (whole_view texts self.old) (current_view texts self.old) (identifier texts name))) }
+        ensures { IfOk result (λ o. GivesPhase self.new o (λ texts.
+            add_param (whole_view texts self.old) (current_view texts self.old) (identifier texts name))) }
     {
         match &mut self.current {
             Some(module) => {
@@ -218,7 +227,8 @@ impl Draft {
     fn add_local(&mut self, name: Named) -> Result<Option<Phase>, OutOfMemory>
         requires clauses { DraftFits self.old }
         requires idle { IsIdle self.old.waiting }
-        ensures { IfOk result (λ o. GivesPhase self.new o (λ texts. add_local (whole_view texts self.old) (current_view texts self.old) (identifier texts name))) }
+        ensures { IfOk result (λ o. GivesPhase self.new o (λ texts.
+            add_local (whole_view texts self.old) (current_view texts self.old) (identifier texts name))) }
     {
         match &mut self.current {
             Some(module) => {

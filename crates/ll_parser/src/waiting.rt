@@ -140,7 +140,8 @@ pub fn newest(frames: &[Frame]) -> Option<Frame>
 }
 
 impl Waiting {
-    ghost use Rattle.ll_parser.specs.Waiting.{tree, args_from, waiting_below, FitsBelow, IsNode, IsNew, CanWait, Grows, Added, Pushed, Dropped, Leaves, HasMore};
+    ghost use Rattle.ll_parser.specs.Waiting.{tree, args_from, waiting_below, FitsBelow, IsNode, IsNew, CanWait, Grows, Added, Pushed, Dropped, Leaves};
+    ghost use Rattle.ll_parser.specs.Waiting.{HasMore};
 
     /// Nothing.
     pub fn new(alloc: Global) -> Self
@@ -196,7 +197,8 @@ impl Waiting {
     /// One more argument of the head at work, of one node.
     pub fn add_argument(&mut self, at: Place, node: RawNode<'_>) -> Result<(), OutOfMemory>
         requires { HasPartsBelow (length self.old.forms) node }
-        ensures gives { IfOk result (λ _. (from : ℕ) → FitsBelow self.old from → HasMore self.old self.new from (λ texts. build_raw texts (raw_trees texts self.old.forms) (node_of at node.entry))) }
+        ensures gives { IfOk result (λ _. (from : ℕ) → FitsBelow self.old from
+            → HasMore self.old self.new from (λ texts. build_raw texts (raw_trees texts self.old.forms) (node_of at node.entry))) }
         ensures grows { IfOk result (λ _. Grows self.old.forms self.new.forms) }
     {
         let arg = self.add(at, node)?;
@@ -207,7 +209,8 @@ impl Waiting {
     /// The head with the arguments that wait from a place on, which wait no more.
     pub fn finish_head(&mut self, name: Named, from: usize) -> Result<RawAt, OutOfMemory>
         requires { FitsBelow self.old from }
-        ensures gives { IfOk result (λ i. Leaves self.new i (λ texts. head (identifier texts name) (args_from texts self.old from)) (λ texts. waiting_below texts self.old from)) }
+        ensures gives { IfOk result (λ i. Leaves self.new i (λ texts. head (identifier texts name) (args_from texts self.old from))
+            (λ texts. waiting_below texts self.old from)) }
         ensures grows { IfOk result (λ _. Grows self.old.forms self.new.forms) }
     {
         let args = self.args.as_slice();

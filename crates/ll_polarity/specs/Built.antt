@@ -2,7 +2,8 @@
 use Rattle.std.specs.Prelude.{ℕ, zero, suc, pos, List, [], ◌∷◌, ◌++◌, length, Option, Some, None}
 use Rattle.ll_bank.specs.Term.{Term, Var, Int, Con, Ap, apply}
 use Rattle.ll_bank.specs.Form.{Form, Top, One, Atom, Bang, Forall, Exists, Use, Num, Relation, Is, Less, Most}
-use Rattle.ll_parser.specs.Raw.{Raw, truth, erasure, braces, universal, existential, load, binary, is_goal, less_goal, most_goal, head, anything, int, RawList, none, more}
+use Rattle.ll_parser.specs.Raw.{Raw, truth, erasure, braces, universal, existential, load, binary, is_goal, less_goal, most_goal, head, anything, int, RawList}
+use Rattle.ll_parser.specs.Raw.{none, more}
 use Rattle.ll_polarity.specs.Scope.{Scope, binds, meaning}
 use Rattle.ll_polarity.specs.Reading.{Met, Read, read_name, joined, bind_term, bind_form}
 
@@ -72,7 +73,8 @@ built_form places a met (universal at n r) = let g = built_form places (inside n
 built_form places a met (existential at n r) = let g = built_form places (inside n.text a) met r in record { it = Exists g.it; met = g.met }
 built_form places a met (load at m args r) =
     let ts = built_terms a met args in let g = built_form places a ts.met r in record { it = Use (places m.text) ts.it g.it; met = g.met }
-built_form places a met (binary o at l r) = let f = built_form places a met l in let g = built_form places a f.met r in record { it = joined o f.it g.it; met = g.met }
+built_form places a met (binary o at l r) = let f = built_form places a met l in let g = built_form places a f.met r in
+    record { it = joined o f.it g.it; met = g.met }
 built_form places a met (is_goal at l r) = built_number Is a met l r
 built_form places a met (less_goal at l r) = built_number Less a met l r
 built_form places a met (most_goal at l r) = built_number Most a met l r

@@ -76,7 +76,8 @@ pub record Waits (forms : List Node) (old new : Nodes) (calls later : List Call)
   pub waiting : later ≡ calls ++ c ∷ []
   pub bank : new ≡ old
   pub inside : arg.0 < length forms
-  pub next : (texts : List (List ℕ)) → arguments_from texts forms (length c.args.items) c ≡ more (raw_at texts forms arg.0) (arguments_from texts forms (suc (length c.args.items)) c)
+  pub next : (texts : List (List ℕ)) → arguments_from texts forms (length c.args.items) c
+      ≡ more (raw_at texts forms arg.0) (arguments_from texts forms (suc (length c.args.items)) c)
 
 -- a name has all its arguments
 pub record Ends (forms : List Node) (old new : Nodes) (calls later : List Call) (c : Call) (t : At) : Type 0 where

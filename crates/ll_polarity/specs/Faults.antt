@@ -8,7 +8,8 @@ use Rattle.ll_laws.specs.Valid.{Side, GoalSide, ClauseSide}
 use Rattle.ll_parser.specs.declared.Op.{Op}
 use Rattle.ll_parser.specs.declared.Op.TheVariants as op
 use Rattle.ll_parser.specs.Tokens.{Identifier, Tok, tok_place}
-use Rattle.ll_parser.specs.Raw.{Raw, truth, erasure, braces, universal, existential, load, binary, is_goal, less_goal, most_goal, head, anything, int, RawList, none, more, ClauseTree, ModuleTree, ProgramTree}
+use Rattle.ll_parser.specs.Raw.{Raw, truth, erasure, braces, universal, existential, load, binary, is_goal, less_goal, most_goal, head, anything, int, RawList}
+use Rattle.ll_parser.specs.Raw.{none, more, ClauseTree, ModuleTree, ProgramTree}
 use Rattle.ll_polarity.specs.Scope.{Scope, binds, Meaning, Bound, Local, Free, Constant, meaning, module_scope}
 
 -- one fault, unless the test holds
@@ -110,7 +111,8 @@ form_faults ms side scope (universal at n r) = form_faults ms side (binds n.text
 form_faults ms side scope (existential at n r) = unless (on_goal_side side) 7 at ++ form_faults ms side (binds n.text ∷ scope) r
 form_faults ms side scope (load at m args r) =
     load_fault (find (is_named m.text) ms) m (count args) ++ terms_faults scope args ++ unless (on_goal_side side) 8 at ++ form_faults ms side scope r
-form_faults ms side scope (binary o at l r) = form_faults ms (left_side o side) scope l ++ unless (may_join o side) 7 at ++ form_faults ms (right_side o side) scope r
+form_faults ms side scope (binary o at l r) = form_faults ms (left_side o side) scope l ++ unless (may_join o side) 7 at
+    ++ form_faults ms (right_side o side) scope r
 form_faults ms side scope (is_goal at l r) = number_faults side scope at l r
 form_faults ms side scope (less_goal at l r) = number_faults side scope at l r
 form_faults ms side scope (most_goal at l r) = number_faults side scope at l r

@@ -102,7 +102,8 @@ step_left g (step.Read at) = 5 * weight (raw_at g.texts g.forms at.0)
 step_left g (step.Give f) = 2
 
 -- some fronts were put on, and what comes next with these is what was to come
-pub record Advances (g : Ground) (new : Nodes) (a : Around) (was : Read Form) (left : ℕ) (old later : List Frame) (next : Step) (met : Met) (now : Around) : Type 0 where
+pub record Advances (g : Ground) (new : Nodes) (a : Around) (was : Read Form) (left : ℕ) (old later : List Frame) (next : Step) (met : Met) (now : Around) :
+    Type 0 where
   pub pushed : List Frame
   pub waiting : later ≡ old ++ pushed
   pub means : wrapped g new a pushed (comes g new now next met) ≡ was

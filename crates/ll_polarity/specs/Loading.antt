@@ -15,5 +15,6 @@ pub record IsNumbered (texts : List (List ℕ)) (rows : List Module) : Type 0 wh
 -- by which a proof tells parts apart
 abbrev pub part_code : Coded ProgramPart
 part_code =
-    code_by (List (List ℕ) × (List ModuleTree × List ClauseTree)) (coded× (coded_list (coded_list coded_ℕ)) (coded× (coded_list module_code) (coded_list clause_code)))
+    code_by (List (List ℕ) × (List ModuleTree × List ClauseTree))
+    (coded× (coded_list (coded_list coded_ℕ)) (coded× (coded_list module_code) (coded_list clause_code)))
     (λ p. (p.names, (p.modules, p.clauses))) (λ q. record { names = q.0; modules = q.1.0; clauses = q.1.1 }) (λ _. refl)

@@ -1,7 +1,8 @@
 -- Raw trees in which each name has a text.
 use Rattle.std.specs.Prelude.{◌<◌, length, All}
 use Rattle.ll_parser.specs.Tokens.{Identifier}
-use Rattle.ll_parser.specs.Raw.{Raw, truth, erasure, braces, universal, existential, load, binary, is_goal, less_goal, most_goal, head, anything, int, RawList, none, more, ModuleTree, ProgramTree}
+use Rattle.ll_parser.specs.Raw.{Raw, truth, erasure, braces, universal, existential, load, binary, is_goal, less_goal, most_goal, head, anything, int, RawList}
+use Rattle.ll_parser.specs.Raw.{none, more, ModuleTree, ProgramTree}
 
 -- the text of a name has a byte at least
 abbrev pub HasText : Identifier → Type 0

@@ -7,7 +7,8 @@ use denote.Ref.{Bor}
 use Rattle.ll_lexer.specs.declared.Fault.{Fault}
 use Rattle.ll_laws.specs.Valid.{Side, GoalSide, ClauseSide}
 use Rattle.ll_parser.specs.declared.RawAt.{RawAt}
-use Rattle.ll_parser.specs.Raw.{Raw, truth, erasure, braces, universal, existential, load, binary, is_goal, less_goal, most_goal, head, anything, int, RawList, none, more}
+use Rattle.ll_parser.specs.Raw.{Raw, truth, erasure, braces, universal, existential, load, binary, is_goal, less_goal, most_goal, head, anything, int, RawList}
+use Rattle.ll_parser.specs.Raw.{none, more}
 use Rattle.ll_parser.specs.Nodes.{Node, raw_at}
 use Rattle.ll_polarity.specs.declared.pending.Side as seen
 use Rattle.ll_polarity.specs.declared.pending.Side.TheVariants as side
@@ -89,7 +90,8 @@ module _ (texts : List (List ℕ)) (nodes : List Node) where
 
   -- The parts and the scope after the first part was opened, of which these are the faults: they are those of its own parts, and
   -- less is left to do.
-  pub record IsOpened (params : HashMap (Bor (List ℕ)) ℕ (BuildHasherDefault FoldHasher)) (faults : List Heading → List Fault) (room : ℕ) (before : Scope) (old : List Part) (after : Scope) (new : List Part) : Type 0 where
+  pub record IsOpened (params : HashMap (Bor (List ℕ)) ℕ (BuildHasherDefault FoldHasher)) (faults : List Heading
+      → List Fault) (room : ℕ) (before : Scope) (old : List Part) (after : Scope) (new : List Part) : Type 0 where
     pub faults_stay : (ms : List Heading) → AreFound params ms → pending_faults ms after new ≡ faults ms ++ pending_faults ms before old
     pub ready : AreReady old → AreReady new
     pub scope_stays : scope_after after new ≡ scope_after before old

@@ -134,8 +134,11 @@ fn goal_of(
     requires goal { at.0 < length forms.now }
     requires few { length met.old.names ≤ 16777216 }
     requires first { met.old.variables ≡ [] }
-    ensures shows { IfOk result (λ form. (ms : List (List ℕ)) (heads : List Heading) → FindsFirst places.now.places ms → query_faults heads (raw_at texts.now forms.now at.0) ≡ [] → form_tree bank.new form.0 ≡ (read_form ms [] (record { names = met.old.names; variables = [] }) (raw_at texts.now forms.now at.0)).it) }
-    ensures met { IfOk result (λ _. (ms : List (List ℕ)) → met_of texts.now met.new ≡ (read_form ms [] (record { names = met.old.names; variables = [] }) (raw_at texts.now forms.now at.0)).met) }
+    ensures shows { IfOk result (λ form. (ms : List (List ℕ)) (heads : List Heading) → FindsFirst places.now.places ms
+        → query_faults heads (raw_at texts.now forms.now at.0) ≡ []
+        → form_tree bank.new form.0 ≡ (read_form ms [] (record { names = met.old.names; variables = [] }) (raw_at texts.now forms.now at.0)).it) }
+    ensures met { IfOk result (λ _. (ms : List (List ℕ)) → met_of texts.now met.new
+        ≡ (read_form ms [] (record { names = met.old.names; variables = [] }) (raw_at texts.now forms.now at.0)).met) }
     ensures inside { IfOk result (λ form. HasForm bank.new form.0) }
     ensures keeps { Extends bank.old bank.new }
 {
@@ -160,9 +163,12 @@ fn added(
 ) -> Result<Addition, OutOfMemory>
     requires whole { IsWhole queries query.now }
     requires numbered { IsNumbered names modules.now }
-    ensures shows { IfOk result (λ p. (heads : List Heading) → query_faults heads query.now ≡ [] → form_tree bank.new p.goal.0 ≡ (read_form (map (λ m. text_of names m.name) modules.now) [] (record { names = names; variables = [] }) query.now).it) }
-    ensures asked { IfOk result (λ p. (ms : List (List ℕ)) → let met = (read_form ms [] (record { names = names; variables = [] }) query.now).met in p.asked.items ≡ (read_asked met.names met.variables).it) }
-    ensures names { IfOk result (λ p. (ms : List (List ℕ)) → let met = (read_form ms [] (record { names = names; variables = [] }) query.now).met in p.names ≡ (read_asked met.names met.variables).names) }
+    ensures shows { IfOk result (λ p. (heads : List Heading) → query_faults heads query.now ≡ []
+        → form_tree bank.new p.goal.0 ≡ (read_form (map (λ m. text_of names m.name) modules.now) [] (record { names = names; variables = [] }) query.now).it) }
+    ensures asked { IfOk result (λ p. (ms : List (List ℕ)) → let met = (read_form ms [] (record { names = names; variables = [] }) query.now).met in
+        p.asked.items ≡ (read_asked met.names met.variables).it) }
+    ensures names { IfOk result (λ p. (ms : List (List ℕ)) → let met = (read_form ms [] (record { names = names; variables = [] }) query.now).met in
+        p.names ≡ (read_asked met.names met.variables).names) }
     ensures inside { IfOk result (λ p. HasForm bank.new p.goal.0) }
     ensures keeps { Extends bank.old bank.new }
 {
@@ -217,8 +223,10 @@ pub fn ask(
     requires bound { bound ≤ 1000000 }
     ensures problem { IfOk result (λ problem. problem ≡ problem_with loaded query.now bound) }
     ensures faultless { IfOk result (λ _. query_faults (headings_of loaded) query.now ≡ []) }
-    ensures asks { IfOk result (λ problem. (program : ProgramTree) → program_faults program ≡ [] → loaded ≡ part_of program → Asks program query.now bound problem) }
-    ensures valid { IfOk result (λ problem. (program : ProgramTree) → IsWhole programs program → program_faults program ≡ [] → loaded ≡ part_of program → IsValid problem) }
+    ensures asks { IfOk result (λ problem. (program : ProgramTree) → program_faults program ≡ [] → loaded ≡ part_of program
+        → Asks program query.now bound problem) }
+    ensures valid { IfOk result (λ problem. (program : ProgramTree) → IsWhole programs program → program_faults program ≡ [] → loaded ≡ part_of program
+        → IsValid problem) }
     ensures cause { IfErr result (IsCauseOf (λ fault. IsFirst fault (query_faults (headings_of loaded) query.now))) }
     ensures fault { IfErr result (IsCauseOf (λ fault. (program : ProgramTree) → loaded ≡ part_of program → HasQueryFault program query.now fault)) }
 {

@@ -85,8 +85,10 @@ pub fn front_of(
     requires name { name < length names.now }
     requires text { 0 < length (text_of names.now name) }
     requires room { HasRoom (read_name (meaning binders.now.scope (text_of names.now name)) (met_of names.now met.old) (text_of names.now name)).met }
-    ensures front { IfOk result (λ f. front_term f ≡ put_term place.quantified place.depth (read_name (meaning binders.now.scope (text_of names.now name)) (met_of names.now met.old) (text_of names.now name)).it) }
-    ensures met { IfOk result (λ _. met_of names.now met.new ≡ (read_name (meaning binders.now.scope (text_of names.now name)) (met_of names.now met.old) (text_of names.now name)).met) }
+    ensures front { IfOk result (λ f. front_term f ≡ put_term place.quantified place.depth
+        (read_name (meaning binders.now.scope (text_of names.now name)) (met_of names.now met.old) (text_of names.now name)).it) }
+    ensures met { IfOk result (λ _. met_of names.now met.new
+        ≡ (read_name (meaning binders.now.scope (text_of names.now name)) (met_of names.now met.old) (text_of names.now name)).met) }
 {
     match binders.meaning(name) {
         Meaning::Bound(further) => Ok(place.binder(further)),

@@ -29,7 +29,8 @@ impl<'a> Headings<'a> {
 
     /// One more module behind the others. After a refusal all is as before.
     pub fn add(&mut self, name: &'a str, params: usize) -> Result<(), OutOfMemory>
-        ensures { OnOk result ((ms : List Heading) → AreFound self.old.params ms → AreFound self.new.params (ms ++ record { name = name.now; params = params } ∷ [])) }
+        ensures { OnOk result ((ms : List Heading) → AreFound self.old.params ms
+            → AreFound self.new.params (ms ++ record { name = name.now; params = params } ∷ [])) }
     {
         if !self.params.contains_key(&name) {
             self.params.insert(name, params)?;
@@ -39,7 +40,8 @@ impl<'a> Headings<'a> {
 
     /// The fault of a load with so many arguments, whose module's name has this text and place.
     pub fn load_fault(&self, name: &str, at: Place, count: usize) -> Option<Fault>
-        ensures { (ms : List Heading) → AreFound self.now.params ms → option_to_list result ≡ load_fault (find (is_named name.now) ms) (record { text = name.now; at = at }) count }
+        ensures { (ms : List Heading) → AreFound self.now.params ms
+            → option_to_list result ≡ load_fault (find (is_named name.now) ms) (record { text = name.now; at = at }) count }
     {
         match self.params.get(&name) {
             None => Some(Fault { at, kind: 10 }),

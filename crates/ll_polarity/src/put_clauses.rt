@@ -50,8 +50,11 @@ fn quantified(
     requires stands { StandsIn text.now.names.now binders.old (record { quantified = None; depth = 0 }) }
     requires ready { IsReady text.now.names.now text.now.forms.now clause.form.0 }
     requires room { length met.old.names + length binders.old.scope + 6 * weight (raw_at text.now.names.now text.now.forms.now clause.form.0) < 2 ^ 32 }
-    ensures shows { IfOk result (λ form. (ms : List (List ℕ)) (heads : List Heading) → ((w : List ℕ) → (ground text.now).modules w ≡ module_in ms w) → form_faults heads ClauseSide binders.old.scope (raw_at text.now.names.now text.now.forms.now clause.form.0) ≡ [] → ShowsForm bank.new form.0 (read_clause ms binders.old.scope met.old.names (shown_clause text.now.names.now text.now.forms.now clause)).it.form) }
-    ensures names { IfOk result (λ _. (ms : List (List ℕ)) → met.new.names ≡ (read_clause ms binders.old.scope met.old.names (shown_clause text.now.names.now text.now.forms.now clause)).names) }
+    ensures shows { IfOk result (λ form. (ms : List (List ℕ)) (heads : List Heading) → ((w : List ℕ) → (ground text.now).modules w ≡ module_in ms w)
+        → form_faults heads ClauseSide binders.old.scope (raw_at text.now.names.now text.now.forms.now clause.form.0) ≡ []
+        → ShowsForm bank.new form.0 (read_clause ms binders.old.scope met.old.names (shown_clause text.now.names.now text.now.forms.now clause)).it.form) }
+    ensures names { IfOk result (λ _. (ms : List (List ℕ)) → met.new.names
+        ≡ (read_clause ms binders.old.scope met.old.names (shown_clause text.now.names.now text.now.forms.now clause)).names) }
     ensures inside { IfOk result (λ form. HasForm bank.new form.0) }
     ensures scope { IfOk result (λ _. binders.new.scope ≡ binders.old.scope) }
     ensures texts { IfOk result (λ _. binders.new.texts ≡ text.now.names.now) }
@@ -80,8 +83,11 @@ fn clause(
     requires stands { StandsIn text.now.names.now binders.old (record { quantified = None; depth = 0 }) }
     requires ready { IsReady text.now.names.now text.now.forms.now clause.form.0 }
     requires room { length met.old.names + length binders.old.scope + 6 * weight (raw_at text.now.names.now text.now.forms.now clause.form.0) < 2 ^ 32 }
-    ensures shows { IfOk result (λ put. (ms : List (List ℕ)) (heads : List Heading) → ((w : List ℕ) → (ground text.now).modules w ≡ module_in ms w) → form_faults heads ClauseSide binders.old.scope (raw_at text.now.names.now text.now.forms.now clause.form.0) ≡ [] → clause_tree bank.new put ≡ (read_clause ms binders.old.scope met.old.names (shown_clause text.now.names.now text.now.forms.now clause)).it) }
-    ensures names { IfOk result (λ _. (ms : List (List ℕ)) → met.new.names ≡ (read_clause ms binders.old.scope met.old.names (shown_clause text.now.names.now text.now.forms.now clause)).names) }
+    ensures shows { IfOk result (λ put. (ms : List (List ℕ)) (heads : List Heading) → ((w : List ℕ) → (ground text.now).modules w ≡ module_in ms w)
+        → form_faults heads ClauseSide binders.old.scope (raw_at text.now.names.now text.now.forms.now clause.form.0) ≡ []
+        → clause_tree bank.new put ≡ (read_clause ms binders.old.scope met.old.names (shown_clause text.now.names.now text.now.forms.now clause)).it) }
+    ensures names { IfOk result (λ _. (ms : List (List ℕ)) → met.new.names
+        ≡ (read_clause ms binders.old.scope met.old.names (shown_clause text.now.names.now text.now.forms.now clause)).names) }
     ensures inside { IfOk result (λ put. HasForm bank.new put.form.0) }
     ensures scope { IfOk result (λ _. binders.new.scope ≡ binders.old.scope) }
     ensures texts { IfOk result (λ _. binders.new.texts ≡ text.now.names.now) }
@@ -114,9 +120,14 @@ pub fn clauses(
 ) -> Result<Vec<Clause>, OutOfMemory>
     requires stands { StandsIn text.now.names.now binders.old (record { quantified = None; depth = 0 }) }
     requires ready { All (λ c. IsReady text.now.names.now text.now.forms.now c.form.0) from.now }
-    requires room { length met.old.names + length binders.old.scope + 6 * clauses_weight (map (shown_clause text.now.names.now text.now.forms.now) from.now) < 2 ^ 32 }
-    ensures shows { IfOk result (λ put. (ms : List (List ℕ)) (heads : List Heading) → ((w : List ℕ) → (ground text.now).modules w ≡ module_in ms w) → clauses_faults heads binders.old.scope (map (shown_clause text.now.names.now text.now.forms.now) from.now) ≡ [] → map (clause_tree bank.new) put.items ≡ (read_clauses ms binders.old.scope met.old.names (map (shown_clause text.now.names.now text.now.forms.now) from.now)).it) }
-    ensures names { IfOk result (λ _. (ms : List (List ℕ)) → met.new.names ≡ (read_clauses ms binders.old.scope met.old.names (map (shown_clause text.now.names.now text.now.forms.now) from.now)).names) }
+    requires room { length met.old.names + length binders.old.scope
+        + 6 * clauses_weight (map (shown_clause text.now.names.now text.now.forms.now) from.now) < 2 ^ 32 }
+    ensures shows { IfOk result (λ put. (ms : List (List ℕ)) (heads : List Heading) → ((w : List ℕ) → (ground text.now).modules w ≡ module_in ms w)
+        → clauses_faults heads binders.old.scope (map (shown_clause text.now.names.now text.now.forms.now) from.now) ≡ []
+        → map (clause_tree bank.new) put.items ≡ (read_clauses ms binders.old.scope met.old.names
+        (map (shown_clause text.now.names.now text.now.forms.now) from.now)).it) }
+    ensures names { IfOk result (λ _. (ms : List (List ℕ)) → met.new.names
+        ≡ (read_clauses ms binders.old.scope met.old.names (map (shown_clause text.now.names.now text.now.forms.now) from.now)).names) }
     ensures inside { IfOk result (λ put. HasClauses bank.new put.items) }
     ensures scope { IfOk result (λ _. binders.new.scope ≡ binders.old.scope) }
     ensures texts { IfOk result (λ _. binders.new.texts ≡ text.now.names.now) }

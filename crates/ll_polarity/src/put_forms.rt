@@ -60,7 +60,10 @@ pub struct Text<'a> {
 fn entered(binders: &mut Binders<'_>, place: &mut Place, name: u32) -> Result<(), OutOfMemory>
     requires name { name < length binders.old.texts }
     requires depth { place.old.depth < 4294967295 }
-    ensures binders { IfOk result (λ _. binders.new ≡ record binders.old { scope = record { text = slice_index_or binders.old.texts name []; local = false } ∷ binders.old.scope }) }
+    ensures binders { IfOk result (λ _. binders.new ≡ record binders.old {
+      scope =
+          record { text = slice_index_or binders.old.texts name []; local = false } ∷ binders.old.scope;
+    }) }
     ensures place { place.new ≡ record place.old { depth = place.old.depth + 1 } }
 {
     place.depth += 1;
@@ -107,9 +110,12 @@ fn atom(
 ) -> Result<FormAt, OutOfMemory>
     requires stands { StandsIn text.now.names.now binders.now place }
     requires ready { IsReady text.now.names.now text.now.forms.now at.0 }
-    requires room { HasRoom (built_term (around place binders.now.scope) (met_of text.now.names.now met.old) (raw_at text.now.names.now text.now.forms.now at.0)).met }
-    ensures shows { IfOk result (λ form. ShowsForm bank.new form.0 (Atom (built_term (around place binders.now.scope) (met_of text.now.names.now met.old) (raw_at text.now.names.now text.now.forms.now at.0)).it)) }
-    ensures met { IfOk result (λ _. met_of text.now.names.now met.new ≡ (built_term (around place binders.now.scope) (met_of text.now.names.now met.old) (raw_at text.now.names.now text.now.forms.now at.0)).met) }
+    requires room { HasRoom (built_term (around place binders.now.scope) (met_of text.now.names.now met.old)
+        (raw_at text.now.names.now text.now.forms.now at.0)).met }
+    ensures shows { IfOk result (λ form. ShowsForm bank.new form.0
+        (Atom (built_term (around place binders.now.scope) (met_of text.now.names.now met.old) (raw_at text.now.names.now text.now.forms.now at.0)).it)) }
+    ensures met { IfOk result (λ _. met_of text.now.names.now met.new
+        ≡ (built_term (around place binders.now.scope) (met_of text.now.names.now met.old) (raw_at text.now.names.now text.now.forms.now at.0)).met) }
     ensures keeps { Extends bank.old bank.new }
 {
     let term = term(alloc, text.names, text.forms, binders, place, met, bank, at)?;
@@ -138,9 +144,12 @@ fn both_sides(
     requires left { IsReady text.now.names.now text.now.forms.now left.0 }
     requires right { IsReady text.now.names.now text.now.forms.now right.0 }
     requires room { HasRoom (right_built (ground text.now) (around place binders.now.scope) (met_of text.now.names.now met.old) left right).met }
-    ensures left { IfOk result (λ sides. ShowsTerm bank.new sides.left.0 (left_built (ground text.now) (around place binders.now.scope) (met_of text.now.names.now met.old) left).it) }
-    ensures right { IfOk result (λ sides. ShowsTerm bank.new sides.right.0 (right_built (ground text.now) (around place binders.now.scope) (met_of text.now.names.now met.old) left right).it) }
-    ensures met { IfOk result (λ _. met_of text.now.names.now met.new ≡ (right_built (ground text.now) (around place binders.now.scope) (met_of text.now.names.now met.old) left right).met) }
+    ensures left { IfOk result (λ sides. ShowsTerm bank.new sides.left.0
+        (left_built (ground text.now) (around place binders.now.scope) (met_of text.now.names.now met.old) left).it) }
+    ensures right { IfOk result (λ sides. ShowsTerm bank.new sides.right.0
+        (right_built (ground text.now) (around place binders.now.scope) (met_of text.now.names.now met.old) left right).it) }
+    ensures met { IfOk result (λ _. met_of text.now.names.now met.new
+        ≡ (right_built (ground text.now) (around place binders.now.scope) (met_of text.now.names.now met.old) left right).met) }
     ensures keeps { Extends bank.old bank.new }
 {
     let left = term(
@@ -166,8 +175,12 @@ fn begun(
     requires stands { StandsIn text.now.names.now binders.old place.old }
     requires ready { IsReady text.now.names.now text.now.forms.now at.0 }
     requires high { length binders.old.scope + unwrap_or place.old.quantified 0 + 5 * weight (raw_at text.now.names.now text.now.forms.now at.0) < 2 ^ 32 }
-    requires room { HasRoom (built_form (ground text.now).modules (around place.old binders.old.scope) (met_of text.now.names.now met.old) (raw_at text.now.names.now text.now.forms.now at.0)).met }
-    ensures step { IfOk result (λ step. Advances (ground text.now) bank.new (around place.old binders.old.scope) (built_form (ground text.now).modules (around place.old binders.old.scope) (met_of text.now.names.now met.old) (raw_at text.now.names.now text.now.forms.now at.0)) (5 * weight (raw_at text.now.names.now text.now.forms.now at.0)) frames.old.items frames.new.items step (met_of text.now.names.now met.new) (around place.new binders.new.scope)) }
+    requires room { HasRoom (built_form (ground text.now).modules (around place.old binders.old.scope) (met_of text.now.names.now met.old)
+        (raw_at text.now.names.now text.now.forms.now at.0)).met }
+    ensures step { IfOk result (λ step. Advances (ground text.now) bank.new (around place.old binders.old.scope)
+        (built_form (ground text.now).modules (around place.old binders.old.scope) (met_of text.now.names.now met.old)
+        (raw_at text.now.names.now text.now.forms.now at.0)) (5 * weight (raw_at text.now.names.now text.now.forms.now at.0)) frames.old.items frames.new.items
+        step (met_of text.now.names.now met.new) (around place.new binders.new.scope)) }
     ensures stands { IfOk result (λ _. StandsIn text.now.names.now binders.new place.new) }
     ensures scope { IfOk result (λ _. length binders.new.scope ≤ length binders.old.scope + 1) }
     ensures keeps { Extends bank.old bank.new }
@@ -231,7 +244,10 @@ fn given(
 ) -> Result<Step, OutOfMemory>
     requires fits { FrameHas bank.old frame }
     requires form { HasForm bank.old form.0 }
-    ensures step { IfOk result (λ step. (g : Ground) (a : Around) (met : MetView) → FrameFits g bank.old frame → around place.old binders.old.scope ≡ within g a frame → Advances g bank.new a (wraps g bank.old a frame (record { it = form_tree bank.old form.0; met = met })) (frame_left g frame + 2) frames.old.items frames.new.items step met (around place.new binders.new.scope)) }
+    ensures step { IfOk result (λ step. (g : Ground) (a : Around) (met : MetView) → FrameFits g bank.old frame
+        → around place.old binders.old.scope ≡ within g a frame
+        → Advances g bank.new a (wraps g bank.old a frame (record { it = form_tree bank.old form.0; met = met })) (frame_left g frame + 2) frames.old.items
+        frames.new.items step met (around place.new binders.new.scope)) }
     ensures texts { binders.new.texts ≡ binders.old.texts }
     ensures keeps { Extends bank.old bank.new }
 {
@@ -267,9 +283,14 @@ pub fn form(
     requires stands { StandsIn text.now.names.now binders.old (record { quantified = quantified; depth = 0 }) }
     requires ready { IsReady text.now.names.now text.now.forms.now at.0 }
     requires high { length binders.old.scope + unwrap_or quantified 0 + 5 * weight (raw_at text.now.names.now text.now.forms.now at.0) < 2 ^ 32 }
-    requires room { HasRoom (built_form (ground text.now).modules (outermost quantified binders.old.scope) (met_of text.now.names.now met.old) (raw_at text.now.names.now text.now.forms.now at.0)).met }
-    ensures shows { IfOk result (λ form. ShowsForm bank.new form.0 (built_form (ground text.now).modules (outermost quantified binders.old.scope) (met_of text.now.names.now met.old) (raw_at text.now.names.now text.now.forms.now at.0)).it) }
-    ensures met { IfOk result (λ _. met_of text.now.names.now met.new ≡ (built_form (ground text.now).modules (outermost quantified binders.old.scope) (met_of text.now.names.now met.old) (raw_at text.now.names.now text.now.forms.now at.0)).met) }
+    requires room { HasRoom (built_form (ground text.now).modules (outermost quantified binders.old.scope) (met_of text.now.names.now met.old)
+        (raw_at text.now.names.now text.now.forms.now at.0)).met }
+    ensures shows { IfOk result (λ form. ShowsForm bank.new form.0
+        (built_form (ground text.now).modules (outermost quantified binders.old.scope) (met_of text.now.names.now met.old)
+        (raw_at text.now.names.now text.now.forms.now at.0)).it) }
+    ensures met { IfOk result (λ _. met_of text.now.names.now met.new
+        ≡ (built_form (ground text.now).modules (outermost quantified binders.old.scope) (met_of text.now.names.now met.old)
+        (raw_at text.now.names.now text.now.forms.now at.0)).met) }
     ensures scope { IfOk result (λ _. binders.new.scope ≡ binders.old.scope) }
     ensures texts { IfOk result (λ _. binders.new.texts ≡ text.now.names.now) }
     ensures keeps { Extends bank.old bank.new }

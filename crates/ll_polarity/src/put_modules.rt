@@ -35,9 +35,13 @@ fn module(
     requires stands { StandsIn text.now.names.now binders.old (record { quantified = None; depth = 0 }) }
     requires outermost { binders.old.scope ≡ [] }
     requires ready { IsModuleReady text.now.names.now text.now.forms.now body.now }
-    requires room { length met.old.names + 1 + (length body.now.locals.items + length body.now.params.items) + 6 * clauses_weight (map (shown_clause text.now.names.now text.now.forms.now) body.now.clauses.items) < 2 ^ 32 }
-    ensures shows { IfOk result (λ put. (ms : List (List ℕ)) (heads : List Heading) → ((w : List ℕ) → (ground text.now).modules w ≡ module_in ms w) → (let m = shown_module text.now.names.now text.now.forms.now body.now in clauses_faults heads (module_scope m) m.clauses ≡ [] → module_tree bank.new put ≡ (read_module ms met.old.names m).it)) }
-    ensures names { IfOk result (λ _. (ms : List (List ℕ)) → met.new.names ≡ (read_module ms met.old.names (shown_module text.now.names.now text.now.forms.now body.now)).names) }
+    requires room { length met.old.names + 1 + (length body.now.locals.items + length body.now.params.items)
+        + 6 * clauses_weight (map (shown_clause text.now.names.now text.now.forms.now) body.now.clauses.items) < 2 ^ 32 }
+    ensures shows { IfOk result (λ put. (ms : List (List ℕ)) (heads : List Heading) → ((w : List ℕ) → (ground text.now).modules w ≡ module_in ms w)
+        → (let m = shown_module text.now.names.now text.now.forms.now body.now in clauses_faults heads (module_scope m) m.clauses ≡ []
+        → module_tree bank.new put ≡ (read_module ms met.old.names m).it)) }
+    ensures names { IfOk result (λ _. (ms : List (List ℕ)) → met.new.names
+        ≡ (read_module ms met.old.names (shown_module text.now.names.now text.now.forms.now body.now)).names) }
     ensures inside { IfOk result (λ put. HasClauses bank.new put.clauses.items) }
     ensures binders { IfOk result (λ _. binders.new ≡ record { texts = text.now.names.now; scope = [] }) }
     ensures keeps { IfOk result (λ _. Extends bank.old bank.new) }
@@ -69,8 +73,11 @@ pub fn modules(
     requires ready { All (IsModuleReady text.now.names.now text.now.forms.now) from.now }
     requires few { All (λ m. length m.locals.items + length m.params.items < 2 ^ 31) from.now }
     requires room { length met.old.names + 6 * modules_weight (map (shown_module text.now.names.now text.now.forms.now) from.now) < 2 ^ 31 }
-    ensures shows { IfOk result (λ put. (ms : List (List ℕ)) (heads : List Heading) → ((w : List ℕ) → (ground text.now).modules w ≡ module_in ms w) → (earlier : List (List ℕ)) → modules_faults heads earlier (map (shown_module text.now.names.now text.now.forms.now) from.now) ≡ [] → map (module_tree bank.new) put.items ≡ (read_modules ms met.old.names (map (shown_module text.now.names.now text.now.forms.now) from.now)).it) }
-    ensures names { IfOk result (λ _. (ms : List (List ℕ)) → met.new.names ≡ (read_modules ms met.old.names (map (shown_module text.now.names.now text.now.forms.now) from.now)).names) }
+    ensures shows { IfOk result (λ put. (ms : List (List ℕ)) (heads : List Heading) → ((w : List ℕ) → (ground text.now).modules w ≡ module_in ms w)
+        → (earlier : List (List ℕ)) → modules_faults heads earlier (map (shown_module text.now.names.now text.now.forms.now) from.now) ≡ []
+        → map (module_tree bank.new) put.items ≡ (read_modules ms met.old.names (map (shown_module text.now.names.now text.now.forms.now) from.now)).it) }
+    ensures names { IfOk result (λ _. (ms : List (List ℕ)) → met.new.names
+        ≡ (read_modules ms met.old.names (map (shown_module text.now.names.now text.now.forms.now) from.now)).names) }
     ensures inside { IfOk result (λ put. HasModules bank.new put.items) }
     ensures keeps { IfOk result (λ _. Extends bank.old bank.new) }
 {

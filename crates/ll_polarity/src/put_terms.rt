@@ -36,7 +36,9 @@ pub enum Turn {
 /// The argument of a name or a load with this number, counted from 0.
 pub fn argument(forms: &Raws, at: RawAt, number: usize) -> Option<RawAt>
     requires { at.0 < length forms.now }
-    ensures { (texts : List (List ℕ)) → MatchOption result (raws_past number (arguments (raw_at texts forms.now at.0)) ≡ none) (λ arg. (arg.0 < length forms.now) × (raws_past number (arguments (raw_at texts forms.now at.0)) ≡ more (raw_at texts forms.now arg.0) (raws_past (suc number) (arguments (raw_at texts forms.now at.0))))) }
+    ensures { (texts : List (List ℕ)) → MatchOption result (raws_past number (arguments (raw_at texts forms.now at.0)) ≡ none)
+        (λ arg. (arg.0 < length forms.now) × (raws_past number (arguments (raw_at texts forms.now at.0))
+        ≡ more (raw_at texts forms.now arg.0) (raws_past (suc number) (arguments (raw_at texts forms.now at.0))))) }
 {
     match forms.node(at) {
         RawNode::Head(_, args) => nth(args, number),
@@ -75,7 +77,8 @@ fn begun(
     requires stands { StandsIn names.now binders.now place }
     requires ready { IsReady names.now forms.now at.0 }
     requires room { HasRoom (built_term (around place binders.now.scope) (met_of names.now met.old) (raw_at names.now forms.now at.0)).met }
-    ensures begun { IfOk result (λ turn. opens (record { texts = names.now; forms = forms.now; around = around place binders.now.scope }) bank.new turn (met_of names.now met.new) ≡ built_term (around place binders.now.scope) (met_of names.now met.old) (raw_at names.now forms.now at.0)) }
+    ensures begun { IfOk result (λ turn. opens (record { texts = names.now; forms = forms.now; around = around place binders.now.scope }) bank.new turn
+        (met_of names.now met.new) ≡ built_term (around place binders.now.scope) (met_of names.now met.old) (raw_at names.now forms.now at.0)) }
     ensures fits { IfOk result (TurnFits names.now forms.now bank.new) }
     ensures next { IfOk result (IsBegun at) }
     ensures keeps { Extends bank.old bank.new }
@@ -158,8 +161,10 @@ pub fn term(
     requires stands { StandsIn names.now binders.now place }
     requires ready { IsReady names.now forms.now at.0 }
     requires room { HasRoom (built_term (around place binders.now.scope) (met_of names.now met.old) (raw_at names.now forms.now at.0)).met }
-    ensures shows { IfOk result (λ term. ShowsTerm bank.new term.0 (built_term (around place binders.now.scope) (met_of names.now met.old) (raw_at names.now forms.now at.0)).it) }
-    ensures met { IfOk result (λ _. met_of names.now met.new ≡ (built_term (around place binders.now.scope) (met_of names.now met.old) (raw_at names.now forms.now at.0)).met) }
+    ensures shows { IfOk result (λ term. ShowsTerm bank.new term.0
+        (built_term (around place binders.now.scope) (met_of names.now met.old) (raw_at names.now forms.now at.0)).it) }
+    ensures met { IfOk result (λ _. met_of names.now met.new
+        ≡ (built_term (around place binders.now.scope) (met_of names.now met.old) (raw_at names.now forms.now at.0)).met) }
     ensures keeps { Extends bank.old bank.new }
 {
     let mut calls = Vec::new(alloc);
@@ -191,8 +196,10 @@ pub fn arguments_of(
     requires ready { IsReady names.now forms.now at.0 }
     requires room { HasRoom (built_terms (around place binders.now.scope) (met_of names.now met.old) (arguments (raw_at names.now forms.now at.0))).met }
     ensures inside { IfOk result (λ args. AllInTerms bank.new args.items) }
-    ensures show { IfOk result (λ args. term_trees bank.new args.items ≡ (built_terms (around place binders.now.scope) (met_of names.now met.old) (arguments (raw_at names.now forms.now at.0))).it) }
-    ensures met { IfOk result (λ _. met_of names.now met.new ≡ (built_terms (around place binders.now.scope) (met_of names.now met.old) (arguments (raw_at names.now forms.now at.0))).met) }
+    ensures show { IfOk result (λ args. term_trees bank.new args.items
+        ≡ (built_terms (around place binders.now.scope) (met_of names.now met.old) (arguments (raw_at names.now forms.now at.0))).it) }
+    ensures met { IfOk result (λ _. met_of names.now met.new
+        ≡ (built_terms (around place binders.now.scope) (met_of names.now met.old) (arguments (raw_at names.now forms.now at.0))).met) }
     ensures keeps { Extends bank.old bank.new }
 {
     let mut args = Vec::new(alloc);

@@ -77,7 +77,10 @@ impl<'a> Binders<'a> {
     /// One more binder, the innermost. After a refusal all is as before.
     pub fn open(&mut self, name: u32, local: bool) -> Result<(), OutOfMemory>
         requires { name < length self.old.texts }
-        ensures opened { OnOk result (self.new ≡ record self.old { scope = record { text = slice_index_or self.old.texts name []; local = local } ∷ self.old.scope }) }
+        ensures opened { OnOk result (self.new ≡ record self.old {
+          scope =
+              record { text = slice_index_or self.old.texts name []; local = local } ∷ self.old.scope;
+        }) }
         ensures refused { OnErr result (self.new ≡ self.old) }
     {
         self.rows.push(Row {

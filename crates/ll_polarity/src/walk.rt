@@ -5,7 +5,8 @@ ghost use Rattle.ll_parser.specs.Nodes.{raw_at};
 ghost use Rattle.ll_polarity.specs.declared.pending.Part.TheVariants.{Form, Term, Found, Close};
 ghost use Rattle.ll_polarity.specs.Scope.{binds};
 ghost use Rattle.ll_polarity.specs.NameMeanings.{meant};
-ghost use Rattle.ll_polarity.specs.Faults.{Heading, may_be_head as may_head, on_goal_side, may_join as may_stand, left_side as left_of, right_side as right_of, other as other_side, unless as unless_fault, term_faults, form_faults};
+ghost use Rattle.ll_polarity.specs.Faults.{Heading, may_be_head as may_head, on_goal_side, may_join as may_stand, left_side as left_of};
+ghost use Rattle.ll_polarity.specs.Faults.{right_side as right_of, other as other_side, unless as unless_fault, term_faults, form_faults};
 ghost use Rattle.ll_polarity.specs.Headings.{AreFound};
 ghost use Rattle.ll_polarity.specs.Pending.{side_of, size, IsHead, IsReady, IsOpened};
 
@@ -94,7 +95,9 @@ fn open_term(
 ) -> Result<(), OutOfMemory>
     requires ready { IsReady source.now.names.now source.now.forms.now at }
     requires texts { binders.now.texts ≡ source.now.names.now }
-    ensures { OnOk result (IsOpened source.now.names.now source.now.forms.now source.now.headings.now.params (λ ms. term_faults binders.now.scope (raw_at source.now.names.now source.now.forms.now at.0)) (3 * size (raw_at source.now.names.now source.now.forms.now at.0)) binders.now.scope parts.old binders.now.scope parts.new) }
+    ensures { OnOk result (IsOpened source.now.names.now source.now.forms.now source.now.headings.now.params
+        (λ ms. term_faults binders.now.scope (raw_at source.now.names.now source.now.forms.now at.0))
+        (3 * size (raw_at source.now.names.now source.now.forms.now at.0)) binders.now.scope parts.old binders.now.scope parts.new) }
 {
     if let RawNode::Head(name, args) = source.forms.node(at) {
         parts.push_terms(args)?;
@@ -130,7 +133,8 @@ fn open_load(
     at: Place,
     goal: RawAt,
 ) -> Result<(), OutOfMemory>
-    ensures { OnOk result (parts.new ≡ map Found (option_to_list fault) ++ (map Term args.now ++ (map Found (unless_fault (on_goal_side (side_of side)) 8 at) ++ Form side goal ∷ parts.old))) }
+    ensures { OnOk result (parts.new ≡ map Found (option_to_list fault)
+        ++ (map Term args.now ++ (map Found (unless_fault (on_goal_side (side_of side)) 8 at) ++ Form side goal ∷ parts.old))) }
 {
     parts.push(Part::Form(side, goal))?;
     parts.push_fault(unless(is_goal(side), at, 8))?;
@@ -162,7 +166,9 @@ fn open_form(
 ) -> Result<(), OutOfMemory>
     requires ready { IsReady source.now.names.now source.now.forms.now at }
     requires texts { binders.old.texts ≡ source.now.names.now }
-    ensures opened { OnOk result (IsOpened source.now.names.now source.now.forms.now source.now.headings.now.params (λ ms. form_faults ms (side_of side) binders.old.scope (raw_at source.now.names.now source.now.forms.now at.0)) (3 * size (raw_at source.now.names.now source.now.forms.now at.0)) binders.old.scope parts.old binders.new.scope parts.new) }
+    ensures opened { OnOk result (IsOpened source.now.names.now source.now.forms.now source.now.headings.now.params
+        (λ ms. form_faults ms (side_of side) binders.old.scope (raw_at source.now.names.now source.now.forms.now at.0))
+        (3 * size (raw_at source.now.names.now source.now.forms.now at.0)) binders.old.scope parts.old binders.new.scope parts.new) }
     ensures texts { OnOk result (binders.new.texts ≡ source.now.names.now) }
 {
     let place = source.forms.place(at);
@@ -211,7 +217,8 @@ pub fn first_fault(
 ) -> Result<Option<Fault>, OutOfMemory>
     requires ready { IsReady source.now.names.now source.now.forms.now at }
     requires texts { binders.old.texts ≡ source.now.names.now }
-    ensures first { IfOk result (λ fault. (ms : List Heading) → AreFound source.now.headings.now.params ms → IsHead fault (form_faults ms (side_of side) binders.old.scope (raw_at source.now.names.now source.now.forms.now at.0))) }
+    ensures first { IfOk result (λ fault. (ms : List Heading) → AreFound source.now.headings.now.params ms
+        → IsHead fault (form_faults ms (side_of side) binders.old.scope (raw_at source.now.names.now source.now.forms.now at.0))) }
     ensures binders { IfOk result (λ fault. IfNone fault (binders.new ≡ binders.old)) }
 {
     let mut parts = Parts::new(alloc);

@@ -9,7 +9,8 @@ use Rattle.ll_laws.specs.declared.Event.{Event}
 use Rattle.ll_laws.specs.Pool.{Owed, Piece, PoolData}
 use Rattle.ll_laws.specs.Spread.{share, owes_of, owed_at, owed_or_nothing, list_or_empty}
 use Rattle.ll_laws.specs.Sound.{report_of}
-use Rattle.ll_laws.specs.CoreEvents.{ClaimAnswer, Claim, Publish, Report, Done, PublishAnswer, Claims, Publishes, opening, new_piece, with_batch, reported, Holds, NoOpen, Does, Splits, Lawful}
+use Rattle.ll_laws.specs.CoreEvents.{ClaimAnswer, Claim, Publish, Report, Done, PublishAnswer, Claims, Publishes, opening, new_piece, with_batch, reported}
+use Rattle.ll_laws.specs.CoreEvents.{Holds, NoOpen, Does, Splits, Lawful}
 use Rattle.ll_laws.specs.CoreEvents as event
 use Rattle.ll_core.specs.Laws.{IsQuiet}
 use Rattle.ll_core.specs.Calls.{ClaimsAs, publish_answer}
@@ -59,7 +60,8 @@ module _ {N Of : Type 0} (of : N → Of) (alternatives : N → List (Owed Event)
   -- ---- the piece that a seat has
 
   -- a seat with this running number of its open piece has this piece
-  pub piece_there : (p : PoolData N Event) (w n : ℕ) (o : Option OpenPiece) → HasPiece alternatives p w o → option_map number_of o ≡ Some n → (owes : Owed Event) × (o ≡ Some (record { number = n; owes = owes })) × (x : Piece Event) × Holds p w n x × (owes ≡ share (owes_of alternatives p) x)
+  pub piece_there : (p : PoolData N Event) (w n : ℕ) (o : Option OpenPiece) → HasPiece alternatives p w o → option_map number_of o ≡ Some n
+      → (owes : Owed Event) × (o ≡ Some (record { number = n; owes = owes })) × (x : Piece Event) × Holds p w n x × (owes ≡ share (owes_of alternatives p) x)
   piece_there p w n None h e = absurd (none_not_some n e)
   piece_there p w n (Some piece) h e =
       let at : piece.number ≡ n = some_is piece.number n e in
@@ -88,17 +90,21 @@ module _ {N Of : Type 0} (of : N → Of) (alternatives : N → List (Owed Event)
     none_after : mine.piece ≡ None → (law : ChangesLawfully of alternatives p mine q) → IsQuiet law.0 → open_piece alternatives q mine.worker ≡ None
     none_after rests law quiet = quiet_piece of alternatives problem p q mine fits law quiet ∙ rests
 
-    pub owes_work : mine.piece ≡ None → (answer : Claimed N) → ClaimsAs alternatives p mine.worker answer q → OwesWork alternatives answer (open_piece alternatives q mine.worker)
+    pub owes_work : mine.piece ≡ None → (answer : Claimed N) → ClaimsAs alternatives p mine.worker answer q
+        → OwesWork alternatives answer (open_piece alternatives q mine.worker)
     owes_work rests (Work piece batch k) h =
         let b = h.0 in let untried = h.2.1 in
         let gives = claim_gives of alternatives p q mine.worker piece b k h.2 in
         let here : slice_get (owes_of alternatives p) b ≡ Some (alternatives (arc_value batch)) = get_map_at alternatives p.batches b (arc_value batch) h.1 in
-        let owed : owed_at (owes_of alternatives p) b k ≡ owed_or_nothing (slice_get (alternatives (arc_value batch)) k) = ap (λ o. owed_or_nothing (slice_get (list_or_empty o) k)) here in
+        let owed : owed_at (owes_of alternatives p) b k ≡ owed_or_nothing (slice_get (alternatives (arc_value batch)) k) =
+        ap (λ o. owed_or_nothing (slice_get (list_or_empty o) k)) here in
         let inside : k < length (alternatives (arc_value batch)) = subst (λ o. k < length (list_or_empty o)) here untried.inside in (
           owed_at (owes_of alternatives p) b k,
           there (alternatives (arc_value batch)) k inside ∙ ap Some (sym owed),
-          one_piece alternatives q (sound_left of alternatives problem p q mine fits (by_claim rests (event.Work piece b k) h.2)) mine.worker (open_piece alternatives q mine.worker)
-              (Some (record { number = piece; owes = owed_at (owes_of alternatives p) b k })) (has_open_piece alternatives q mine.worker) (new_piece mine.worker b k, gives.0, sym gives.1),
+          one_piece alternatives q (sound_left of alternatives problem p q mine fits (by_claim rests (event.Work piece b k) h.2)) mine.worker
+              (open_piece alternatives q mine.worker)
+              (Some (record { number = piece; owes = owed_at (owes_of alternatives p) b k })) (has_open_piece alternatives q mine.worker)
+              (new_piece mine.worker b k, gives.0, sym gives.1),
         )
     owes_work rests (Idle busy) h = none_after rests (by_claim rests (event.Idle busy) h) tt
     owes_work rests Finished h = none_after rests (by_claim rests event.Finished h) tt
@@ -108,7 +114,8 @@ module _ {N Of : Type 0} (of : N → Of) (alternatives : N → List (Owed Event)
     -- ---- publishing
 
     module _ (n : ℕ) (number : option_map number_of mine.piece ≡ Some n) where
-      pub splits : (batch : N) → 0 < length (alternatives batch) → IsSomeAnd problem (λ asked. of batch ≡ asked.of) → (owes : Owed Event) (x : Piece Event) → owes ≡ share (owes_of alternatives p) x → EndsWith owes (alternatives batch) → Splits of alternatives p x batch
+      pub splits : (batch : N) → 0 < length (alternatives batch) → IsSomeAnd problem (λ asked. of batch ≡ asked.of) → (owes : Owed Event) (x : Piece Event)
+          → owes ≡ share (owes_of alternatives p) x → EndsWith owes (alternatives batch) → Splits of alternatives p x batch
       splits batch some alike owes x is ends =
           let sound = fits.sound in
           let same : of batch ≡ fits.asked.of = subst (λ o. IsSomeAnd o (λ asked. of batch ≡ asked.of)) fits.is_asked alike in
@@ -120,17 +127,20 @@ module _ {N Of : Type 0} (of : N → Of) (alternatives : N → List (Owed Event)
             cost = subst (λ (o : Owed Event). sum_by (λ (o : Owed Event). o.cost) (alternatives batch) ≤ o.cost) is ends.cost;
           }
 
-      abbrev pub publish_does : (batch : N) (answer : PublishAnswer) → Publishes alternatives p n batch answer q → Does alternatives p (Publish mine.worker batch answer) q
+      abbrev pub publish_does : (batch : N) (answer : PublishAnswer) → Publishes alternatives p n batch answer q
+          → Does alternatives p (Publish mine.worker batch answer) q
       publish_does batch answer h = let t = piece_there p mine.worker n mine.piece fits.piece number in (n, t.2, t.3, h)
 
-      abbrev pub publish_lawful : (batch : N) (answer : PublishAnswer) → 0 < length (alternatives batch) → IsSomeAnd problem (λ asked. of batch ≡ asked.of) → IsSomeAnd mine.piece (λ piece. EndsWith piece.owes (alternatives batch)) → Publishes alternatives p n batch answer q
+      abbrev pub publish_lawful : (batch : N) (answer : PublishAnswer) → 0 < length (alternatives batch) → IsSomeAnd problem (λ asked. of batch ≡ asked.of)
+          → IsSomeAnd mine.piece (λ piece. EndsWith piece.owes (alternatives batch)) → Publishes alternatives p n batch answer q
           → ChangesLawfully of alternatives p mine q
       publish_lawful batch answer some alike ends h =
           let t = piece_there p mine.worker n mine.piece fits.piece number in
           let e : EndsWith t.0 (alternatives batch) = subst (λ o. IsSomeAnd o (λ (piece : OpenPiece). EndsWith piece.owes (alternatives batch))) t.1 ends in
           (Publish mine.worker batch answer, refl, (n, t.2, t.3, splits batch some alike t.0 t.2 t.4 e), publish_does batch answer h)
 
-      pub owes_rest : (batch : N) (answer : Result (Unit {0}) (PublishFault N)) → 0 < length (alternatives batch) → IsSomeAnd problem (λ asked. of batch ≡ asked.of) → IsSomeAnd mine.piece (λ piece. EndsWith piece.owes (alternatives batch))
+      pub owes_rest : (batch : N) (answer : Result (Unit {0}) (PublishFault N)) → 0 < length (alternatives batch)
+          → IsSomeAnd problem (λ asked. of batch ≡ asked.of) → IsSomeAnd mine.piece (λ piece. EndsWith piece.owes (alternatives batch))
           → Publishes alternatives p n batch (publish_answer answer) q → OwesRest (alternatives batch) answer mine.piece (open_piece alternatives q mine.worker)
       owes_rest batch (Ok done) some alike ends h =
           let t = piece_there p mine.worker n mine.piece fits.piece number in
@@ -139,28 +149,40 @@ module _ {N Of : Type 0} (of : N → Of) (alternatives : N → List (Owed Event)
           let split = publish_splits of alternatives p q asked.of asked.owes mine.worker n t.2 batch fits.sound law.2 law.3 t.3 in
           let y = with_batch (length p.batches) t.2 in
           let after : open_piece alternatives q mine.worker ≡ Some (record { number = n; owes = share (owes_of alternatives q) y }) =
-          one_piece alternatives q (sound_left of alternatives problem p q mine fits law) mine.worker (open_piece alternatives q mine.worker) (Some (record { number = n; owes = share (owes_of alternatives q) y })) (has_open_piece alternatives q mine.worker) (y, split.0, refl) in
-          subst (λ o. IsSomeAnd o (λ (whole : OpenPiece). IsSomeAnd (open_piece alternatives q mine.worker) (λ (rest : OpenPiece). IsRest (alternatives batch) whole rest))) (sym t.1)
+          one_piece alternatives q (sound_left of alternatives problem p q mine fits law) mine.worker (open_piece alternatives q mine.worker)
+          (Some (record { number = n; owes = share (owes_of alternatives q) y })) (has_open_piece alternatives q mine.worker) (y, split.0, refl) in
+          subst (λ o. IsSomeAnd o (λ (whole : OpenPiece). IsSomeAnd (open_piece alternatives q mine.worker)
+          (λ (rest : OpenPiece). IsRest (alternatives batch) whole rest))) (sym t.1)
           (subst (λ o. IsSomeAnd o (λ (rest : OpenPiece). IsRest (alternatives batch) (record { number = n; owes = t.0 }) rest)) (sym after)
-          (record { number = refl; events = split.1 ∙ ap (λ (o : Owed Event). o.events) (sym t.4); cost = split.2 ∙ ap (λ (o : Owed Event). o.cost) (sym t.4) }))
-      owes_rest batch (Err (Full total back)) some alike ends h = quiet_piece of alternatives problem p q mine fits (publish_lawful batch (event.Full total) some alike ends h) tt
-      owes_rest batch (Err (OutOfMemory back)) some alike ends h = quiet_piece of alternatives problem p q mine fits (publish_lawful batch event.NoMemory some alike ends h) tt
+          (record {
+            number = refl;
+            events = split.1 ∙ ap (λ (o : Owed Event). o.events) (sym t.4);
+            cost =
+                split.2 ∙ ap (λ (o : Owed Event). o.cost) (sym t.4);
+          }))
+      owes_rest batch (Err (Full total back)) some alike ends h =
+          quiet_piece of alternatives problem p q mine fits (publish_lawful batch (event.Full total) some alike ends h) tt
+      owes_rest batch (Err (OutOfMemory back)) some alike ends h =
+          quiet_piece of alternatives problem p q mine fits (publish_lawful batch event.NoMemory some alike ends h) tt
 
       -- ---- reporting
 
       abbrev pub report_does : (report : Owed Event) → q ≡ reported p n report → Does alternatives p (Report mine.worker report) q
       report_does report h = let t = piece_there p mine.worker n mine.piece fits.piece number in (n, t.2, t.3, h)
 
-      abbrev pub report_lawful : (report : Owed Event) → IsSomeAnd mine.piece (λ piece. report ≡ report_of piece.owes) → q ≡ reported p n report → ChangesLawfully of alternatives p mine q
+      abbrev pub report_lawful : (report : Owed Event) → IsSomeAnd mine.piece (λ piece. report ≡ report_of piece.owes) → q ≡ reported p n report
+          → ChangesLawfully of alternatives p mine q
       report_lawful report whole h =
           let t = piece_there p mine.worker n mine.piece fits.piece number in
           let e : report ≡ report_of t.0 = subst (λ o. IsSomeAnd o (λ (piece : OpenPiece). report ≡ report_of piece.owes)) t.1 whole in
           (Report mine.worker report, refl, (n, t.2, t.3, e ∙ ap report_of t.4), report_does report h)
 
-      pub owes_nothing : (report : Owed Event) → IsSomeAnd mine.piece (λ piece. report ≡ report_of piece.owes) → q ≡ reported p n report → open_piece alternatives q mine.worker ≡ None
+      pub owes_nothing : (report : Owed Event) → IsSomeAnd mine.piece (λ piece. report ≡ report_of piece.owes) → q ≡ reported p n report
+          → open_piece alternatives q mine.worker ≡ None
       owes_nothing report whole h =
           let sound = fits.sound in
-          one_piece alternatives q (sound_left of alternatives problem p q mine fits (report_lawful report whole h)) mine.worker (open_piece alternatives q mine.worker) None (has_open_piece alternatives q mine.worker)
+          one_piece alternatives q (sound_left of alternatives problem p q mine fits (report_lawful report whole h)) mine.worker
+          (open_piece alternatives q mine.worker) None (has_open_piece alternatives q mine.worker)
           (report_closes of alternatives p q mine.worker report sound.shape (report_does report h))
 
   -- the number of a seat's open piece after a claim
@@ -172,7 +194,8 @@ module _ {N Of : Type 0} (of : N → Of) (alternatives : N → List (Owed Event)
   made_number Stopped piece h = ap (option_map number_of) h
 
   -- and after a publishing
-  pub rest_number : (batch : List (Owed Event)) (answer : Result (Unit {0}) (PublishFault N)) (before after : Option OpenPiece) → OwesRest batch answer before after → option_map number_of after ≡ option_map number_of before
+  pub rest_number : (batch : List (Owed Event)) (answer : Result (Unit {0}) (PublishFault N)) (before after : Option OpenPiece)
+      → OwesRest batch answer before after → option_map number_of after ≡ option_map number_of before
   rest_number batch (Ok done) None after h = absurd h
   rest_number batch (Ok done) (Some whole) None h = absurd h
   rest_number batch (Ok done) (Some whole) (Some rest) h = ap Some h.number

@@ -27,7 +27,8 @@ module _ (event : Coded Event) where
         code_by (ℕ × (ℕ × (ℕ × (Option OpenPiece × (PoolData N Event × (ℕ × Bool))))))
         (coded× coded_ℕ (coded× coded_ℕ (coded× coded_ℕ (coded× (coded_option piece_code) (coded× (pool_code event batch) (coded× coded_ℕ coded_bool))))))
         (λ d. (d.worker, (d.from, (d.end, (d.piece, (d.seen, (d.turns, d.quit)))))))
-        (λ t. record { worker = t.0; from = t.1.0; end = t.1.1.0; piece = t.1.1.1.0; seen = t.1.1.1.1.0; turns = t.1.1.1.1.1.0; quit = t.1.1.1.1.1.1 }) (λ _. refl)
+        (λ t. record { worker = t.0; from = t.1.0; end = t.1.1.0; piece = t.1.1.1.0; seen = t.1.1.1.1.0; turns = t.1.1.1.1.1.0; quit = t.1.1.1.1.1.1 })
+        (λ _. refl)
 
     abbrev pub seat_code : Coded (SeatSight N Of)
     seat_code =

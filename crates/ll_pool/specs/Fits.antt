@@ -18,7 +18,8 @@ number_of piece = piece.number
 -- The first of the pieces that is open under the worker, with its share. The pieces have the numbers from i on
 abbrev pub open_from : List (List (Owed Event)) → ℕ → ℕ → List (Piece Event) → Option OpenPiece
 open_from owes worker i [] = None
-open_from owes worker i (x ∷ xs) = if is_open x.status && (x.worker == worker) then Some (record { number = i; owes = share owes x }) else open_from owes worker (suc i) xs
+open_from owes worker i (x ∷ xs) = if is_open x.status && (x.worker == worker) then Some (record { number = i; owes = share owes x }) else
+    open_from owes worker (suc i) xs
 
 module _ {N Of : Type 0} where
   -- the worker's number, and those that it has to give

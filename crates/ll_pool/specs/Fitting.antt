@@ -14,14 +14,17 @@ module _ {N Of : Type 0} where
   parts_numbers mine more = (refl, refl, refl, refl, le_refl 0)
 
 module _ {N Of : Type 0} (alternatives : N → List (Owed Event)) where
-  pub keeps_numbers : (problem : Option (PoolProblem Of)) (before : PoolData N Event) (mine : SeatData N Of) (after : PoolData N Event) → numbers_of (after_change alternatives before mine after) ≡ numbers_of mine
+  pub keeps_numbers : (problem : Option (PoolProblem Of)) (before : PoolData N Event) (mine : SeatData N Of) (after : PoolData N Event)
+      → numbers_of (after_change alternatives before mine after) ≡ numbers_of mine
   keeps_numbers problem before mine after = refl
 
 module _ {N Of : Type 0} (of : N → Of) (alternatives : N → List (Owed Event)) where
-  pub begins_first : (p : PoolData N Event) → Fits of alternatives p (first_seat of alternatives p).0 (first_seat of alternatives p).1 → IsFirst (numbers_of (first_seat of alternatives p).1)
+  pub begins_first : (p : PoolData N Event) → Fits of alternatives p (first_seat of alternatives p).0 (first_seat of alternatives p).1
+      → IsFirst (numbers_of (first_seat of alternatives p).1)
   begins_first p fits = let few = fits.few in (refl, λ more. (refl, omega arith))
 
-  own_fits : (problem : Option (PoolProblem Of)) (p : PoolData N Event) (mine : SeatData N Of) (q : PoolData N Event) → Fits of alternatives p problem mine → ChangesLawfully of alternatives p mine q → Fits of alternatives q problem (after_change alternatives p mine q)
+  own_fits : (problem : Option (PoolProblem Of)) (p : PoolData N Event) (mine : SeatData N Of) (q : PoolData N Event) → Fits of alternatives p problem mine
+      → ChangesLawfully of alternatives p mine q → Fits of alternatives q problem (after_change alternatives p mine q)
   own_fits problem p mine q fits law =
       let asked = fits.asked in let workers = workers_kept of alternatives p q law.0 law.3 in
       record {
@@ -33,11 +36,14 @@ module _ {N Of : Type 0} (of : N → Of) (alternatives : N → List (Owed Event)
         few = let few = fits.few in omega arith;
         own_below = let below = fits.own_below in omega arith;
         range = λ more. let range = fits.range more in (range.0, let end = range.1 in omega arith);
-        none_open = λ w low high. none_kept of alternatives p q mine.worker w law.0 law.3 law.1 (inl (λ same. let range = fits.range (omega arith) in let above = range.0 in omega arith)) (fits.none_open w low high);
+        none_open = λ w low high. none_kept of alternatives p q mine.worker w law.0 law.3 law.1
+            (inl (λ same. let range = fits.range (omega arith) in let above = range.0 in omega arith)) (fits.none_open w low high);
         taken = λ first i. ((λ t. t), (λ t. t));
       }
 
-  other_fits : (problem : Option (PoolProblem Of)) (p : PoolData N Event) (mine : SeatData N Of) (q : PoolData N Event) (other : SeatData N Of) → ChangesLawfully of alternatives p mine q → Fits of alternatives p problem other → AllDifferent (numbers_of mine) (numbers_of other) → Fits of alternatives q problem other
+  other_fits : (problem : Option (PoolProblem Of)) (p : PoolData N Event) (mine : SeatData N Of) (q : PoolData N Event) (other : SeatData N Of)
+      → ChangesLawfully of alternatives p mine q → Fits of alternatives p problem other → AllDifferent (numbers_of mine) (numbers_of other)
+      → Fits of alternatives q problem other
   other_fits problem p mine q other law fits differ =
       let asked = fits.asked in let workers = workers_kept of alternatives p q law.0 law.3 in let sound = fits.sound in
       let apart : mine.worker ≡ other.worker → ⊥ = λ same. differ.2 mine.worker (inl refl) (inl same) in
@@ -50,18 +56,24 @@ module _ {N Of : Type 0} (of : N → Of) (alternatives : N → List (Owed Event)
         few = let few = fits.few in omega arith;
         own_below = let below = fits.own_below in omega arith;
         range = λ more. let range = fits.range more in (range.0, let end = range.1 in omega arith);
-        none_open = λ w low high. none_kept of alternatives p q mine.worker w law.0 law.3 law.1 (inl (λ same. differ.2 mine.worker (inl refl) (inr (let low' : other.from ≤ mine.worker = omega arith in let high' : mine.worker < other.end = omega arith in (low', high'))))) (fits.none_open w low high);
+        none_open = λ w low high. none_kept of alternatives p q mine.worker w law.0 law.3 law.1
+            (inl (λ same. differ.2 mine.worker (inl refl) (inr (let low' : other.from ≤ mine.worker = omega arith in
+            let high' : mine.worker < other.end = omega arith in (low', high'))))) (fits.none_open w low high);
         taken = λ first i.
             let t = fits.taken first i in
             let u = takes_alone of alternatives p q law.0 mine.worker i law.3 law.1 (λ zero. apart (zero ∙ sym first)) in
             ((λ h. u.0 (t.0 h)), (λ h. t.1 (u.1 h)));
       }
 
-  pub change_fits : (problem : Option (PoolProblem Of)) (p : PoolData N Event) (mine : SeatData N Of) (q : PoolData N Event) → Fits of alternatives p problem mine → ChangesLawfully of alternatives p mine q
-      → Fits of alternatives q problem (after_change alternatives p mine q) × ((other : SeatData N Of) → Fits of alternatives p problem other → AllDifferent (numbers_of mine) (numbers_of other) → Fits of alternatives q problem other)
+  pub change_fits : (problem : Option (PoolProblem Of)) (p : PoolData N Event) (mine : SeatData N Of) (q : PoolData N Event)
+      → Fits of alternatives p problem mine → ChangesLawfully of alternatives p mine q
+      → Fits of alternatives q problem (after_change alternatives p mine q)
+      × ((other : SeatData N Of) → Fits of alternatives p problem other → AllDifferent (numbers_of mine) (numbers_of other)
+      → Fits of alternatives q problem other)
   change_fits problem p mine q fits law = (own_fits problem p mine q fits law, λ other fits' differ. other_fits problem p mine q other law fits' differ)
 
-  pub parts_fit : (problem : Option (PoolProblem Of)) (p : PoolData N Event) (mine : SeatData N Of) → HasToGive (numbers_of mine) → Fits of alternatives p problem mine → Fits of alternatives p problem (parts mine).0 × Fits of alternatives p problem (parts mine).1
+  pub parts_fit : (problem : Option (PoolProblem Of)) (p : PoolData N Event) (mine : SeatData N Of) → HasToGive (numbers_of mine)
+      → Fits of alternatives p problem mine → Fits of alternatives p problem (parts mine).0 × Fits of alternatives p problem (parts mine).1
   parts_fit problem p mine more fits =
       let range = fits.range more in let above = range.0 in let end = range.1 in (
         record {

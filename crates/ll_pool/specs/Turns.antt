@@ -50,7 +50,8 @@ module _ {N : Type 0} where
 
   -- with work the seat's open piece owes what its alternative owes, and with every other answer the seat has none
   abbrev pub OwesWork : (N → List (Owed Event)) → Claimed N → Option OpenPiece → Type 0
-  OwesWork alternatives (Work piece batch k) after = (owes : Owed Event) × (slice_get (alternatives (arc_value batch)) k ≡ Some owes) × (after ≡ Some (record { number = piece; owes = owes }))
+  OwesWork alternatives (Work piece batch k) after = (owes : Owed Event) × (slice_get (alternatives (arc_value batch)) k ≡ Some owes)
+      × (after ≡ Some (record { number = piece; owes = owes }))
   OwesWork alternatives _ after = after ≡ None
 
   -- after it has published the batch the seat owes the rest, and after a fault what it owed
@@ -61,7 +62,13 @@ module _ {N : Type 0} where
 module _ {N Of : Type 0} (of : N → Of) (alternatives : N → List (Owed Event)) where
   -- the seat of worker 0 at a new pool with this root
   abbrev pub IsFirstSeat : N → ℕ → TableId → SeatSight N Of → Type 0
-  IsFirstSeat root workers table seat = seat ≡ record { table = table; problem = Some (problem_of of alternatives root); mine = new_seat (opening root workers); before = None; given = [] }
+  IsFirstSeat root workers table seat = seat ≡ record {
+    table = table;
+    problem = Some (problem_of of alternatives root);
+    mine = new_seat (opening root workers);
+    before = None;
+    given = [];
+  }
 
   -- In one turn the seat found a pool that fits it and changed it so. It left a pool that fits what it then knows
   pub record OneTurn (change : PoolData N Event → PoolData N Event → Type 0) (before after : SeatSight N Of) : Type 0 where
@@ -75,5 +82,6 @@ module _ {N Of : Type 0} (of : N → Of) (alternatives : N → List (Owed Event)
   -- where one pool fits two seats with different numbers, no piece is the open piece of both
   abbrev pub NoPieceTwice : Type 0
   NoPieceTwice =
-      (p : PoolData N Event) (problem : Option (PoolProblem Of)) (one other : SeatData N Of) (a b : OpenPiece) → Fits of alternatives p problem one → Fits of alternatives p problem other → one.worker ≢ other.worker
+      (p : PoolData N Event) (problem : Option (PoolProblem Of)) (one other : SeatData N Of) (a b : OpenPiece) → Fits of alternatives p problem one
+      → Fits of alternatives p problem other → one.worker ≢ other.worker
       → one.piece ≡ Some a → other.piece ≡ Some b → a.number ≢ b.number

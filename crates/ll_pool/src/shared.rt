@@ -162,7 +162,8 @@ impl<N: Batch> SharedPool<N> {
         requires some { 0 < length (N.alternatives (arc_value batch)) }
         requires alike { IsSomeAnd seat.old.problem (λ problem. N.of (arc_value batch) ≡ problem.of) }
         requires ends { IsSomeAnd seat.old.mine.piece (λ piece. EndsWith piece.owes (N.alternatives (arc_value batch))) }
-        ensures turn { OneTurn N.of N.alternatives (λ found left. Does N.alternatives found (event.Publish seat.old.mine.worker (arc_value batch) (publish_answer result)) left) seat.old seat.new }
+        ensures turn { OneTurn N.of N.alternatives (λ found left.
+            Does N.alternatives found (event.Publish seat.old.mine.worker (arc_value batch) (publish_answer result)) left) seat.old seat.new }
         ensures owes { OwesRest (N.alternatives (arc_value batch)) result seat.old.mine.piece seat.new.mine.piece }
         ensures back { HandsBack (arc_value batch) result }
     {

@@ -12,39 +12,50 @@ use Rattle.ll_printer.specs.Parts.{IsWriting}
 use Rattle.ll_printer.proofs.Parts.{writing-begins, writing-on, writing-refused, writing-ends}
 
 module _ (names : List (List ℕ)) (list : List Named) (i : ℕ) (d : Named) (start now next : List ℕ) (l : i < length list) where
-  first-name : names_text (map (identifier names) (drop i list)) ≡ (codes " " ++ (identifier names (get_or list i d)).text) ++ names_text (map (identifier names) (drop (i + 1) list))
+  first-name : names_text (map (identifier names) (drop i list)) ≡ (codes " " ++ (identifier names (get_or list i d)).text)
+      ++ names_text (map (identifier names) (drop (i + 1) list))
   first-name = ap (λ ns. names_text (map (identifier names) ns)) (drop_more list i d l)
 
   pub names-on : IsWriting (names_text (map (identifier names) list)) start now (names_text (map (identifier names) (drop i list)))
-      → next ≡ now ++ (codes " " ++ (identifier names (get_or list i d)).text) → IsWriting (names_text (map (identifier names) list)) start next (names_text (map (identifier names) (drop (i + 1) list)))
+      → next ≡ now ++ (codes " " ++ (identifier names (get_or list i d)).text)
+      → IsWriting (names_text (map (identifier names) list)) start next (names_text (map (identifier names) (drop (i + 1) list)))
   names-on w e =
-      writing-on (names_text (map (identifier names) list)) start now next (names_text (map (identifier names) (drop (i + 1) list))) (codes " " ++ (identifier names (get_or list i d)).text)
+      writing-on (names_text (map (identifier names) list)) start now next (names_text (map (identifier names) (drop (i + 1) list)))
+      (codes " " ++ (identifier names (get_or list i d)).text)
       (subst (IsWriting (names_text (map (identifier names) list)) start now) first-name w) e
 
   pub names-refused : IsWriting (names_text (map (identifier names) list)) start now (names_text (map (identifier names) (drop i list)))
       → BeginsText (codes " " ++ (identifier names (get_or list i d)).text) now next → BeginsText (names_text (map (identifier names) list)) start next
   names-refused w b =
-      writing-refused (names_text (map (identifier names) list)) start now next (names_text (map (identifier names) (drop (i + 1) list))) (codes " " ++ (identifier names (get_or list i d)).text)
+      writing-refused (names_text (map (identifier names) list)) start now next (names_text (map (identifier names) (drop (i + 1) list)))
+      (codes " " ++ (identifier names (get_or list i d)).text)
       (subst (IsWriting (names_text (map (identifier names) list)) start now) first-name w) b
 
 module _ (names : List (List ℕ)) (nodes : List Node) (list : List RawClause) (i : ℕ) (d : RawClause) (start now next : List ℕ) (l : i < length list) where
-  first-clause : clauses_text (map (shown_clause names nodes) (drop i list)) ≡ clause_text (shown_clause names nodes (get_or list i d)) ++ clauses_text (map (shown_clause names nodes) (drop (i + 1) list))
+  first-clause : clauses_text (map (shown_clause names nodes) (drop i list)) ≡ clause_text (shown_clause names nodes (get_or list i d))
+      ++ clauses_text (map (shown_clause names nodes) (drop (i + 1) list))
   first-clause = ap (λ cs. clauses_text (map (shown_clause names nodes) cs)) (drop_more list i d l)
 
   pub clauses-on : IsWriting (clauses_text (map (shown_clause names nodes) list)) start now (clauses_text (map (shown_clause names nodes) (drop i list)))
-      → next ≡ now ++ clause_text (shown_clause names nodes (get_or list i d)) → IsWriting (clauses_text (map (shown_clause names nodes) list)) start next (clauses_text (map (shown_clause names nodes) (drop (i + 1) list)))
+      → next ≡ now ++ clause_text (shown_clause names nodes (get_or list i d))
+      → IsWriting (clauses_text (map (shown_clause names nodes) list)) start next (clauses_text (map (shown_clause names nodes) (drop (i + 1) list)))
   clauses-on w e =
-      writing-on (clauses_text (map (shown_clause names nodes) list)) start now next (clauses_text (map (shown_clause names nodes) (drop (i + 1) list))) (clause_text (shown_clause names nodes (get_or list i d)))
+      writing-on (clauses_text (map (shown_clause names nodes) list)) start now next (clauses_text (map (shown_clause names nodes) (drop (i + 1) list)))
+      (clause_text (shown_clause names nodes (get_or list i d)))
       (subst (IsWriting (clauses_text (map (shown_clause names nodes) list)) start now) first-clause w) e
 
   pub clauses-refused : IsWriting (clauses_text (map (shown_clause names nodes) list)) start now (clauses_text (map (shown_clause names nodes) (drop i list)))
-      → BeginsText (clause_text (shown_clause names nodes (get_or list i d))) now next → BeginsText (clauses_text (map (shown_clause names nodes) list)) start next
+      → BeginsText (clause_text (shown_clause names nodes (get_or list i d))) now next
+      → BeginsText (clauses_text (map (shown_clause names nodes) list)) start next
   clauses-refused w b =
-      writing-refused (clauses_text (map (shown_clause names nodes) list)) start now next (clauses_text (map (shown_clause names nodes) (drop (i + 1) list))) (clause_text (shown_clause names nodes (get_or list i d)))
+      writing-refused (clauses_text (map (shown_clause names nodes) list)) start now next (clauses_text (map (shown_clause names nodes) (drop (i + 1) list)))
+      (clause_text (shown_clause names nodes (get_or list i d)))
       (subst (IsWriting (clauses_text (map (shown_clause names nodes) list)) start now) first-clause w) b
 
-module _ (names : List (List ℕ)) (nodes : List Node) (text : List ℕ) (list : List RawModule) (i : ℕ) (m : RawModule) (start now next : List ℕ) (l : i < length list) (at : m ≡ get_or list i m) where
-  first-module : modules_text (map (shown_module names nodes) (drop i list)) ≡ module_text (shown_module names nodes m) ++ modules_text (map (shown_module names nodes) (drop (i + 1) list))
+module _ (names : List (List ℕ)) (nodes : List Node) (text : List ℕ) (list : List RawModule) (i : ℕ) (m : RawModule) (start now next : List ℕ)
+    (l : i < length list) (at : m ≡ get_or list i m) where
+  first-module : modules_text (map (shown_module names nodes) (drop i list)) ≡ module_text (shown_module names nodes m)
+      ++ modules_text (map (shown_module names nodes) (drop (i + 1) list))
   first-module =
       ap (λ ms. modules_text (map (shown_module names nodes) ms)) (drop_more list i m l)
       ∙ ap (λ x. module_text (shown_module names nodes x) ++ modules_text (map (shown_module names nodes) (drop (i + 1) list))) (sym at)
@@ -68,15 +79,19 @@ modules-end names nodes text list i start now l w =
     writing-ends text start now (subst (λ ms. IsWriting text start now (modules_text (map (shown_module names nodes) ms))) (drop_all i list l) w)
 
 -- the clauses of a program are written
-pub program-clauses : (names : List (List ℕ)) (nodes : List Node) (clauses list : List RawClause) (modules : List RawModule) (start now : List ℕ) → list ≡ clauses
-    → now ≡ start ++ clauses_text (map (shown_clause names nodes) list) → IsWriting (program_text (shown_program names nodes clauses modules)) start now (modules_text (map (shown_module names nodes) modules))
+pub program-clauses : (names : List (List ℕ)) (nodes : List Node) (clauses list : List RawClause) (modules : List RawModule) (start now : List ℕ)
+    → list ≡ clauses
+    → now ≡ start ++ clauses_text (map (shown_clause names nodes) list)
+    → IsWriting (program_text (shown_program names nodes clauses modules)) start now (modules_text (map (shown_module names nodes) modules))
 program-clauses names nodes clauses list modules start now same e =
     let text : List ℕ = program_text (shown_program names nodes clauses modules) in
-    writing-on text start start now (modules_text (map (shown_module names nodes) modules)) (clauses_text (map (shown_clause names nodes) clauses)) (writing-begins text start)
+    writing-on text start start now (modules_text (map (shown_module names nodes) modules)) (clauses_text (map (shown_clause names nodes) clauses))
+    (writing-begins text start)
     (e ∙ ap (λ cs. start ++ clauses_text (map (shown_clause names nodes) cs)) same)
 
 -- a module piece by piece
-pub module-is : (m : ModuleTree) → module_text m ≡ codes "MODULE" ++ ((codes " " ++ m.name.text) ++ (names_text m.params ++ (locals_text m.locals ++ clauses_text m.clauses)))
+pub module-is : (m : ModuleTree) → module_text m ≡ codes "MODULE"
+    ++ ((codes " " ++ m.name.text) ++ (names_text m.params ++ (locals_text m.locals ++ clauses_text m.clauses)))
 module-is m =
     append_assoc (codes "MODULE") (names_text (m.name ∷ m.params)) (locals_text m.locals ++ clauses_text m.clauses)
     ∙ (ap (λ u. codes "MODULE" ++ (u ++ (locals_text m.locals ++ clauses_text m.clauses))) (sym (append_assoc (codes " ") m.name.text (names_text m.params)))
@@ -101,36 +116,47 @@ module _ (names : List (List ℕ)) (nodes : List Node) (m : RawModule) (start : 
   -- what is written behind each piece
   pub module-word : (now : List ℕ) → now ≡ start ++ codes "MODULE" → IsWriting text start now (name_part ++ after_name)
   module-word now e =
-      writing-on text start start now (name_part ++ after_name) (codes "MODULE") (subst (IsWriting text start start) (module-is (shown_module names nodes m)) (writing-begins text start)) e
+      writing-on text start start now (name_part ++ after_name) (codes "MODULE")
+      (subst (IsWriting text start start) (module-is (shown_module names nodes m)) (writing-begins text start)) e
 
   pub module-name : (now next : List ℕ) → IsWriting text start now (name_part ++ after_name) → next ≡ now ++ name_part → IsWriting text start next after_name
   module-name now next w e = writing-on text start now next after_name name_part w e
 
-  pub module-params : (now next : List ℕ) (list : List Named) → list ≡ m.params.items → IsWriting text start now after_name → next ≡ now ++ names_text (map (identifier names) list)
+  pub module-params : (now next : List ℕ) (list : List Named) → list ≡ m.params.items → IsWriting text start now after_name
+      → next ≡ now ++ names_text (map (identifier names) list)
       → IsWriting text start next after_params
   module-params now next list same w e =
-      writing-on text start now next after_params (names_text (map (identifier names) m.params.items)) w (e ∙ ap (λ ns. now ++ names_text (map (identifier names) ns)) same)
+      writing-on text start now next after_params (names_text (map (identifier names) m.params.items)) w
+      (e ∙ ap (λ ns. now ++ names_text (map (identifier names) ns)) same)
 
-  pub module-locals : (now next : List ℕ) (list : List Named) → list ≡ m.locals.items → IsWriting text start now after_params → next ≡ now ++ locals_text (map (identifier names) list)
+  pub module-locals : (now next : List ℕ) (list : List Named) → list ≡ m.locals.items → IsWriting text start now after_params
+      → next ≡ now ++ locals_text (map (identifier names) list)
       → IsWriting text start next after_locals
   module-locals now next list same w e =
-      writing-on text start now next after_locals (locals_text (map (identifier names) m.locals.items)) w (e ∙ ap (λ ns. now ++ locals_text (map (identifier names) ns)) same)
+      writing-on text start now next after_locals (locals_text (map (identifier names) m.locals.items)) w
+      (e ∙ ap (λ ns. now ++ locals_text (map (identifier names) ns)) same)
 
   -- a piece is refused
   pub name-refused : (now next : List ℕ) → IsWriting text start now (name_part ++ after_name) → BeginsText name_part now next → BeginsText text start next
   name-refused now next w b = writing-refused text start now next after_name name_part w b
 
-  pub params-refused : (now next : List ℕ) (list : List Named) → list ≡ m.params.items → IsWriting text start now after_name → BeginsText (names_text (map (identifier names) list)) now next
+  pub params-refused : (now next : List ℕ) (list : List Named) → list ≡ m.params.items → IsWriting text start now after_name
+      → BeginsText (names_text (map (identifier names) list)) now next
       → BeginsText text start next
   params-refused now next list same w b =
-      writing-refused text start now next after_params (names_text (map (identifier names) m.params.items)) w (subst (λ ns. BeginsText (names_text (map (identifier names) ns)) now next) same b)
+      writing-refused text start now next after_params (names_text (map (identifier names) m.params.items)) w
+      (subst (λ ns. BeginsText (names_text (map (identifier names) ns)) now next) same b)
 
-  pub locals-refused : (now next : List ℕ) (list : List Named) → list ≡ m.locals.items → IsWriting text start now after_params → BeginsText (locals_text (map (identifier names) list)) now next
+  pub locals-refused : (now next : List ℕ) (list : List Named) → list ≡ m.locals.items → IsWriting text start now after_params
+      → BeginsText (locals_text (map (identifier names) list)) now next
       → BeginsText text start next
   locals-refused now next list same w b =
-      writing-refused text start now next after_locals (locals_text (map (identifier names) m.locals.items)) w (subst (λ ns. BeginsText (locals_text (map (identifier names) ns)) now next) same b)
+      writing-refused text start now next after_locals (locals_text (map (identifier names) m.locals.items)) w
+      (subst (λ ns. BeginsText (locals_text (map (identifier names) ns)) now next) same b)
 
-  pub last-refused : (now next : List ℕ) (list : List RawClause) → list ≡ m.clauses.items → IsWriting text start now after_locals → BeginsText (clauses_text (map (shown_clause names nodes) list)) now next
+  pub last-refused : (now next : List ℕ) (list : List RawClause) → list ≡ m.clauses.items → IsWriting text start now after_locals
+      → BeginsText (clauses_text (map (shown_clause names nodes) list)) now next
       → BeginsText text start next
   last-refused now next list same w b =
-      writing-refused text start now next [] after_locals (subst (IsWriting text start now) (sym (append-nil after_locals)) w) (subst (λ cs. BeginsText (clauses_text (map (shown_clause names nodes) cs)) now next) same b)
+      writing-refused text start now next [] after_locals (subst (IsWriting text start now) (sym (append-nil after_locals)) w)
+      (subst (λ cs. BeginsText (clauses_text (map (shown_clause names nodes) cs)) now next) same b)

@@ -3,9 +3,12 @@ use Rattle.std.specs.Prelude.{◌≡◌, ℕ, ◌+◌, ◌*◌, ◌<◌, Bool, t
 use Rattle.std.specs.Fmt.{signed_decimal}
 use Rattle.ll_parser.specs.declared.Named.{Named}
 use Rattle.ll_parser.specs.declared.RawAt.{RawAt}
-use Rattle.ll_parser.specs.Raw.{Raw, truth, erasure, braces, universal, existential, load, binary, is_goal, less_goal, most_goal, head, anything, int, RawList, none, more}
+use Rattle.ll_parser.specs.Raw.{Raw, truth, erasure, braces, universal, existential, load, binary, is_goal, less_goal, most_goal, head, anything, int, RawList}
+use Rattle.ll_parser.specs.Raw.{none, more}
 use Rattle.ll_parser.specs.Nodes.{Node, identifier, raw_at}
-use Rattle.ll_parser.specs.Printed.{Rank, clauses, arrows, sums, withs, tensors, primaries, is_looser, op_rank, left_rank, right_rank, op_bytes, between, bracketed, is_pair, has_arguments, term_text, arguments_text, left_encloses, right_encloses, expr_text, bound_text, formula_text}
+use Rattle.ll_parser.specs.Printed.{Rank, clauses, arrows, sums, withs, tensors, primaries, is_looser, op_rank, left_rank, right_rank, op_bytes, between}
+use Rattle.ll_parser.specs.Printed.{bracketed, is_pair, has_arguments, term_text, arguments_text, left_encloses, right_encloses, expr_text, bound_text}
+use Rattle.ll_parser.specs.Printed.{formula_text}
 use Rattle.ll_printer.specs.declared.formulas.Level.{Level}
 use Rattle.ll_printer.specs.declared.formulas.Level.TheVariants as level
 use Rattle.ll_printer.specs.declared.formulas.Word.{Word}

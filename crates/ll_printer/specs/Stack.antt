@@ -5,7 +5,8 @@ use Rattle.ll_bank.specs.Term.{Term, Var, Int, Con, Ap}
 use Rattle.ll_bank.specs.Nodes.{Nodes, term_tree, HasTerm}
 use Rattle.ll_laws.specs.Output.{term_text, argument_text, bracket_if, is_cons}
 use Rattle.ll_printer.specs.declared.pieces.Piece.{Piece}
-use Rattle.ll_printer.specs.declared.pieces.Piece.TheVariants.{Term as TermPiece, Argument as ArgumentPiece, Item as ItemPiece, Sign as SignPiece, Bracket as BracketPiece}
+use Rattle.ll_printer.specs.declared.pieces.Piece.TheVariants.{Term as TermPiece, Argument as ArgumentPiece, Item as ItemPiece, Sign as SignPiece}
+use Rattle.ll_printer.specs.declared.pieces.Piece.TheVariants.{Bracket as BracketPiece}
 
 -- the text of a piece
 abbrev pub piece_text : List (List ℕ) → Nodes → Piece → List ℕ
@@ -48,7 +49,8 @@ stack_weight bank [] = 0
 stack_weight bank (p ∷ ps) = piece_weight bank p + stack_weight bank ps
 
 -- some first bytes of a text were appended, and the pieces that were put on the stack are what is left of it, with less work
-pub record Moves (names : List (List ℕ)) (bank : Nodes) (text : List ℕ) (weight : ℕ) (old : List Piece) (start : List ℕ) (new : List Piece) (end : List ℕ) : Type 0 where
+pub record Moves (names : List (List ℕ)) (bank : Nodes) (text : List ℕ) (weight : ℕ) (old : List Piece) (start : List ℕ) (new : List Piece) (end : List ℕ) :
+    Type 0 where
   pub written : List ℕ
   pub is : end ≡ start ++ written
   pub rest : written ++ stack_text names bank new ≡ text ++ stack_text names bank old

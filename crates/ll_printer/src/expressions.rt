@@ -43,7 +43,8 @@ fn push_head(
     parts: &mut Vec<Part>,
 ) -> Result<(), OutOfMemory>
     requires { All (λ a. a.0 < length source.now.forms.now) args.now }
-    ensures { OnOk result (parts.new.items ≡ parts.old.items ++ expression_parts source.now.names.now source.now.forms.now (nat_eq (length args.now) 2) name args.now) }
+    ensures { OnOk result (parts.new.items ≡ parts.old.items
+        ++ expression_parts source.now.names.now source.now.forms.now (nat_eq (length args.now) 2) name args.now) }
 {
     if args.len() == 2 {
         push_sides(source, name, args[0], args[1], parts)

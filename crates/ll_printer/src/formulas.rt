@@ -3,7 +3,8 @@ ghost use Rattle.std.specs.Prelude.{◌≡◌, ◌<◌, ◌*◌, ◌+◌, ◌++�
 ghost use Rattle.ll_parser.specs.Nodes.{raw_at, identifier};
 ghost use Rattle.ll_parser.specs.Printed.{clauses, op_rank, left_rank, right_rank, is_looser, is_cons, is_pair, has_arguments, formula_text, term_text};
 ghost use Rattle.ll_printer.specs.Pieces.{BeginsText};
-ghost use Rattle.ll_printer.specs.Parts.{rank_of, word_text, needs_brackets, inner_text, raw_size, HasPart, AreParts, argument_parts, pair_parts, head_parts, Leaves, PartMoves};
+ghost use Rattle.ll_printer.specs.Parts.{rank_of, word_text, needs_brackets, inner_text, raw_size, HasPart, AreParts, argument_parts, pair_parts, head_parts};
+ghost use Rattle.ll_printer.specs.Parts.{Leaves, PartMoves};
 
 use crate::expressions::push_expression;
 use crate::words::{name_of, write_integer};
@@ -375,7 +376,8 @@ fn push_load(
     followed: bool,
     parts: &mut Vec<Part>,
 ) -> Result<(), OutOfMemory>
-    ensures { OnOk result (parts.new.items ≡ parts.old.items ++ (Part.Formula goal Level.Arrows followed ∷ Part.Word Word.LoadArrow ∷ (argument_parts args.now ++ Part.Name name ∷ []))) }
+    ensures { OnOk result (parts.new.items ≡ parts.old.items
+        ++ (Part.Formula goal Level.Arrows followed ∷ Part.Word Word.LoadArrow ∷ (argument_parts args.now ++ Part.Name name ∷ []))) }
 {
     push_part(Part::Formula(goal, Level::Arrows, followed), parts)?;
     push_part(Part::Word(Word::LoadArrow), parts)?;
@@ -397,7 +399,8 @@ fn push_bound(
     body: RawAt,
     parts: &mut Vec<Part>,
 ) -> Result<(), OutOfMemory>
-    ensures { OnOk result (parts.new.items ≡ parts.old.items ++ Part.Formula body Level.Clauses false ∷ Part.Word Word.Backslash ∷ Part.Name name ∷ Part.Word word ∷ []) }
+    ensures { OnOk result (parts.new.items ≡ parts.old.items ++ Part.Formula body Level.Clauses false ∷ Part.Word Word.Backslash ∷ Part.Name name
+        ∷ Part.Word word ∷ []) }
 {
     push_all(
         &[
@@ -459,7 +462,8 @@ fn push_applied(
     args: &[RawAt],
     parts: &mut Vec<Part>,
 ) -> Result<(), OutOfMemory>
-    ensures { OnOk result (parts.new.items ≡ parts.old.items ++ head_parts (nat_eq (length args.now) 2 && is_cons (identifier names.now name).text) name args.now) }
+    ensures { OnOk result (parts.new.items ≡ parts.old.items
+        ++ head_parts (nat_eq (length args.now) 2 && is_cons (identifier names.now name).text) name args.now) }
 {
     if is_pair_of(names, name, args) {
         push_pair(args, parts)

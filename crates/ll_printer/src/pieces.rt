@@ -33,7 +33,8 @@ pub(crate) fn print_piece(
 ) -> Result<(), OutOfMemory>
     requires piece { HasPiece bank.now piece }
     requires pieces { All (HasPiece bank.now) pieces.old.items }
-    ensures moves { OnOk result (Moves names.now bank.now (piece_text names.now bank.now piece) (piece_weight bank.now piece) pieces.old.items out.old.items pieces.new.items out.new.items) }
+    ensures moves { OnOk result (Moves names.now bank.now (piece_text names.now bank.now piece) (piece_weight bank.now piece) pieces.old.items out.old.items
+        pieces.new.items out.new.items) }
     ensures begun { OnErr result (BeginsText (piece_text names.now bank.now piece) out.old.items out.new.items) }
 {
     match piece {
@@ -63,7 +64,8 @@ fn print_argument(
 ) -> Result<(), OutOfMemory>
     requires at { HasTerm bank.now at.0 }
     requires pieces { All (HasPiece bank.now) pieces.old.items }
-    ensures moves { OnOk result (Moves names.now bank.now (piece_text names.now bank.now (Piece.Argument at)) (2 * term_size (term_tree bank.now at.0) + 2) pieces.old.items out.old.items pieces.new.items out.new.items) }
+    ensures moves { OnOk result (Moves names.now bank.now (piece_text names.now bank.now (Piece.Argument at)) (2 * term_size (term_tree bank.now at.0) + 2)
+        pieces.old.items out.old.items pieces.new.items out.new.items) }
     ensures begun { OnErr result (BeginsText (piece_text names.now bank.now (Piece.Argument at)) out.old.items out.new.items) }
 {
     if has_any_arguments(bank, at) {
@@ -87,7 +89,8 @@ fn print_item(
 ) -> Result<(), OutOfMemory>
     requires at { HasTerm bank.now at.0 }
     requires pieces { All (HasPiece bank.now) pieces.old.items }
-    ensures moves { OnOk result (Moves names.now bank.now (piece_text names.now bank.now (Piece.Item at)) (2 * term_size (term_tree bank.now at.0) + 2) pieces.old.items out.old.items pieces.new.items out.new.items) }
+    ensures moves { OnOk result (Moves names.now bank.now (piece_text names.now bank.now (Piece.Item at)) (2 * term_size (term_tree bank.now at.0) + 2)
+        pieces.old.items out.old.items pieces.new.items out.new.items) }
     ensures begun { OnErr result (BeginsText (piece_text names.now bank.now (Piece.Item at)) out.old.items out.new.items) }
 {
     if is_cons_at(names, bank, at) {
@@ -141,7 +144,8 @@ fn print_term(
 ) -> Result<(), OutOfMemory>
     requires at { HasTerm bank.now at.0 }
     requires pieces { All (HasPiece bank.now) pieces.old.items }
-    ensures moves { OnOk result (Moves names.now bank.now (term_text names.now (term_tree bank.now at.0)) (2 * term_size (term_tree bank.now at.0)) pieces.old.items out.old.items pieces.new.items out.new.items) }
+    ensures moves { OnOk result (Moves names.now bank.now (term_text names.now (term_tree bank.now at.0)) (2 * term_size (term_tree bank.now at.0))
+        pieces.old.items out.old.items pieces.new.items out.new.items) }
     ensures begun { OnErr result (BeginsText (term_text names.now (term_tree bank.now at.0)) out.old.items out.new.items) }
 {
     match bank.term_at(at) {

@@ -103,7 +103,8 @@ fn write_clauses(
 ) -> Result<(), OutOfMemory>
     requires { ClausesFit source.now.forms.now list.now }
     ensures text { OnOk result (out.new.items ≡ out.old.items ++ clauses_text (map (shown_clause source.now.names.now source.now.forms.now) list.now)) }
-    ensures begun { OnErr result (BeginsText (clauses_text (map (shown_clause source.now.names.now source.now.forms.now) list.now)) out.old.items out.new.items) }
+    ensures begun { OnErr result (BeginsText (clauses_text (map (shown_clause source.now.names.now source.now.forms.now) list.now)) out.old.items
+        out.new.items) }
 {
     for i in 0..list.len() {
         write_clause(alloc, source, list[i], out)?;

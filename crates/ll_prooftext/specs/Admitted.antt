@@ -5,7 +5,8 @@ use Rattle.ll_bank.specs.declared.Head.{Head}
 use Rattle.ll_bank.specs.declared.Head.TheVariants.{Name, Eigen, Bound}
 use Rattle.ll_bank.specs.Term.{Term, Var, Int, Con, Ap}
 use Rattle.ll_laws.specs.Output.{name_text, is_cons_head}
-use Rattle.ll_laws.specs.Line.{PartLine, Labels, Free, Line, OneLine, EraseLine, TensorLine, WithLine, LeftLine, RightLine, BangLine, LolliLine, ImpLine, ForallLine, ExistsLine, UseLine, NumLine, ClauseLine, DerivationLines, IsWhole}
+use Rattle.ll_laws.specs.Line.{PartLine, Labels, Free, Line, OneLine, EraseLine, TensorLine, WithLine, LeftLine, RightLine, BangLine, LolliLine, ImpLine}
+use Rattle.ll_laws.specs.Line.{ForallLine, ExistsLine, UseLine, NumLine, ClauseLine, DerivationLines, IsWhole}
 use Rattle.ll_lexer.specs.declared.TokenKind.TheVariants.{Name as NameToken}
 use Rattle.ll_lexer.specs.Spelling.{Spells}
 

@@ -89,12 +89,13 @@ pub record IsGood (names : List (List ℕ)) (bank : Nodes) (o : Open) : Type 0 w
 -- ---- one step
 
 -- the brackets after a step hold what was read, and what may follow goes on
-pub record Turns (names : List (List ℕ)) (bank : Nodes) (o : Open) (bytes : List ℕ) (new : List (List ℕ)) (over : Nodes) (p : Open) (left : List ℕ) : Type 0 where
-  pub good : IsGood new over p
-  pub text : open_text new over p ++ left ≡ open_text names bank o ++ bytes
-  pub moves : Moves names bank bytes new over left
-  pub shorter : length left < length bytes
-  pub goes : (end : List ℕ) → Accepts end (frames o) bytes → Accepts end (frames p) left
+pub record Turns (names : List (List ℕ)) (bank : Nodes) (o : Open) (bytes : List ℕ) (new : List (List ℕ)) (over : Nodes) (p : Open) (left : List ℕ) : Type 0
+  where
+    pub good : IsGood new over p
+    pub text : open_text new over p ++ left ≡ open_text names bank o ++ bytes
+    pub moves : Moves names bank bytes new over left
+    pub shorter : length left < length bytes
+    pub goes : (end : List ℕ) → Accepts end (frames o) bytes → Accepts end (frames p) left
 
 -- the outermost bracket was closed round this term
 pub record Ends (names : List (List ℕ)) (bank : Nodes) (o : Open) (bytes : List ℕ) (new : List (List ℕ)) (over : Nodes) (at : ℕ) (left : List ℕ) : Type 0 where
@@ -143,7 +144,8 @@ pub record IsSign (names new : List (List ℕ)) (n : ℕ) : Type 0 where
 -- the place was put in front of a `::` in the bracket, or no sign follows
 abbrev pub IsItemStep : Bool → At → Open → List ℕ → List (List ℕ) → List (List ℕ) → Open → Step → Type 0
 IsItemStep chain at o bytes names new p Stuck = chain ≡ true → (rest : List ℕ) → bytes ≡ 58 ∷ 58 ∷ rest → ⊥
-IsItemStep chain at o bytes names new p (More left) = (chain ≡ true) × ((bytes ≡ 58 ∷ 58 ∷ left.now) × ((n : ℕ) × (IsSign names new n × (HasItem o.top p.top (record { at = at; sign = n }) × (p.outer.items ≡ o.outer.items)))))
+IsItemStep chain at o bytes names new p (More left) = (chain ≡ true)
+    × ((bytes ≡ 58 ∷ 58 ∷ left.now) × ((n : ℕ) × (IsSign names new n × (HasItem o.top p.top (record { at = at; sign = n }) × (p.outer.items ≡ o.outer.items)))))
 IsItemStep chain at o bytes names new p (Whole a left) = ⊥
 
 -- a term in the form of an argument at the front of the bytes, and what stands behind it

@@ -27,7 +27,8 @@ pub record IsCellOf (rows : List Term) (word : List ℕ) (names : List (List ℕ
   pub stands : Stays names (λ ns. Stands ns rows (term_tree bank at) word)
 
 -- the term of a field at the front of the bytes, and what stands behind it
-pub record IsCellField (rows : List Term) (names : List (List ℕ)) (bank : Nodes) (bytes : List ℕ) (new : List (List ℕ)) (over : Nodes) (at : ℕ) (rest : List ℕ) : Type 0 where
+pub record IsCellField (rows : List Term) (names : List (List ℕ)) (bank : Nodes) (bytes : List ℕ) (new : List (List ℕ)) (over : Nodes) (at : ℕ) (rest : List ℕ)
+    : Type 0 where
   pub text : List ℕ
   pub cell : IsCellOf rows text new over at
   pub is : bytes ≡ 32 ∷ text ++ rest
@@ -35,7 +36,8 @@ pub record IsCellField (rows : List Term) (names : List (List ℕ)) (bank : Node
   pub moves : Moves names bank bytes new over rest
 
 -- the terms of fields up to here
-pub record AreCellFields (rows : List Term) (names : List (List ℕ)) (bank : Nodes) (bytes : List ℕ) (new : List (List ℕ)) (over : Nodes) (terms : List At) (rest : List ℕ) : Type 0 where
+pub record AreCellFields (rows : List Term) (names : List (List ℕ)) (bank : Nodes) (bytes : List ℕ) (new : List (List ℕ)) (over : Nodes) (terms : List At)
+    (rest : List ℕ) : Type 0 where
   pub text : List ℕ
   pub good : All (λ a. IsSpelledAt new over a.0) terms
   pub cells : Stays new (λ ns. AreCells ns rows (term_trees over terms) text)

@@ -114,12 +114,13 @@ abbrev pub HasNoTerm : List ℕ → Type 0
 HasNoTerm bytes = (bytes ≡ []) ⊎ BeginsPart bytes
 
 -- terms were read up to here
-pub record AreTermFields (names : List (List ℕ)) (bank : Nodes) (bytes : List ℕ) (new : List (List ℕ)) (over : Nodes) (terms : List At) (rest : List ℕ) : Type 0 where
-  pub good : All (λ a. IsSpelledAt new over a.0) terms
-  pub is : bytes ≡ args_text new over terms ++ rest
-  pub fields : Fields Arguments (args_text new over terms) Arguments
-  pub end : IsAtEnd rest
-  pub moves : Moves names bank bytes new over rest
+pub record AreTermFields (names : List (List ℕ)) (bank : Nodes) (bytes : List ℕ) (new : List (List ℕ)) (over : Nodes) (terms : List At) (rest : List ℕ) : Type 0
+  where
+    pub good : All (λ a. IsSpelledAt new over a.0) terms
+    pub is : bytes ≡ args_text new over terms ++ rest
+    pub fields : Fields Arguments (args_text new over terms) Arguments
+    pub end : IsAtEnd rest
+    pub moves : Moves names bank bytes new over rest
 
 -- the premises, up to the end of the line
 pub record ArePartFields (bytes : List ℕ) (parts : List Part) : Type 0 where
@@ -128,7 +129,8 @@ pub record ArePartFields (bytes : List ℕ) (parts : List Part) : Type 0 where
   pub is : bytes ≡ flat_map part_field (map part_line parts)
 
 -- what a clause step says
-pub record AreClauseFields (names : List (List ℕ)) (bank : Nodes) (bytes : List ℕ) (new : List (List ℕ)) (over : Nodes) (label leaf : ℕ) (terms : List At) (parts : List Part) : Type 0 where
+pub record AreClauseFields (names : List (List ℕ)) (bank : Nodes) (bytes : List ℕ) (new : List (List ℕ)) (over : Nodes) (label leaf : ℕ) (terms : List At)
+    (parts : List Part) : Type 0 where
   pub small : (label < 2 ^ 32) × (leaf < 2 ^ 32)
   pub good : All (λ a. IsSpelledAt new over a.0) terms
   pub spelled : All IsSpelledPart (map part_line parts)

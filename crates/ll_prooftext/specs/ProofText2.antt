@@ -2,7 +2,8 @@
 use Rattle.std.specs.Prelude.{ℕ, List, [], ◌++◌, flat_map, codes, decimal}
 use Rattle.ll_bank.specs.Term.{Term, Var, Int, Con, Ap}
 use Rattle.ll_laws.specs.Output.{line, head_text, term_text}
-use Rattle.ll_laws.specs.Line.{Line, OneLine, EraseLine, TensorLine, WithLine, LeftLine, RightLine, BangLine, LolliLine, ImpLine, ForallLine, ExistsLine, UseLine, NumLine, ClauseLine, DerivationLines}
+use Rattle.ll_laws.specs.Line.{Line, OneLine, EraseLine, TensorLine, WithLine, LeftLine, RightLine, BangLine, LolliLine, ImpLine, ForallLine, ExistsLine}
+use Rattle.ll_laws.specs.Line.{UseLine, NumLine, ClauseLine, DerivationLines}
 use Rattle.ll_laws.specs.ProofText.{field, part_field, node_text}
 use Rattle.ll_prooftext.specs.Table.{row_of, table}
 

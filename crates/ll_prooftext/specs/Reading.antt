@@ -1,5 +1,6 @@
 -- What a text is read as: a derivation, or its first fault.
-use Rattle.std.specs.Prelude.{◌≡◌, ℕ, zero, suc, ◌+◌, ◌<◌, ◌^◌, Bool, true, false, ◌==◌, List, [], ◌∷◌, ◌++◌, length, map, All, Option, Some, None, if◌then◌else◌, IsTrue, ◌⊎◌, codes, decimal, ℤ, FitsSigned}
+use Rattle.std.specs.Prelude.{◌≡◌, ℕ, zero, suc, ◌+◌, ◌<◌, ◌^◌, Bool, true, false, ◌==◌, List, [], ◌∷◌, ◌++◌, length, map, All, Option, Some, None}
+use Rattle.std.specs.Prelude.{if◌then◌else◌, IsTrue, ◌⊎◌, codes, decimal, ℤ, FitsSigned}
 use Rattle.std.specs.Fmt.{signed_decimal}
 use Rattle.std.specs.Int.{w64}
 use Rattle.std.specs.List.{list_all}
@@ -11,7 +12,8 @@ use Rattle.ll_lexer.specs.declared.TextFault.{TextFault}
 use Rattle.ll_lexer.specs.declared.TextFault.TheVariants as fault
 use Rattle.ll_lexer.specs.Reading.{place_at}
 use Rattle.ll_laws.specs.Output.{head_text, has_arguments, term_text, argument_text}
-use Rattle.ll_laws.specs.Line.{Line, OneLine, EraseLine, TensorLine, WithLine, LeftLine, RightLine, BangLine, LolliLine, ImpLine, ForallLine, ExistsLine, UseLine, NumLine, ClauseLine, DerivationLines, rises, is_line}
+use Rattle.ll_laws.specs.Line.{Line, OneLine, EraseLine, TensorLine, WithLine, LeftLine, RightLine, BangLine, LolliLine, ImpLine, ForallLine, ExistsLine}
+use Rattle.ll_laws.specs.Line.{UseLine, NumLine, ClauseLine, DerivationLines, rises, is_line}
 use Rattle.ll_laws.specs.ProofText.{term_field, set_text, node_text, proof_text}
 use Rattle.ll_prooftext.specs.Admitted.{AreLabels, IsPlainHead, IsSpelledTerm, IsSpelledLine, IsSpelled}
 
@@ -192,7 +194,8 @@ may_end _ = true
 -- these bytes are fields, a space before each, and leave this to follow
 pub data Fields : Want → List ℕ → Want → Type 0 where
   none : {v : Want} → Fields v [] v
-  one : {v : Want} {rest : List ℕ} {u : Want} → (k : Kind) (field : List ℕ) (next : Want) → after_field v k ≡ Some next → IsField k field → Fields next rest u → Fields v (32 ∷ field ++ rest) u
+  one : {v : Want} {rest : List ℕ} {u : Want} → (k : Kind) (field : List ℕ) (next : Want) → after_field v k ≡ Some next → IsField k field → Fields next rest u
+      → Fields v (32 ∷ field ++ rest) u
 
 -- a field ends here: at the end of the line or at a space
 pub data IsAtEnd : List ℕ → Type 0 where
@@ -273,12 +276,15 @@ HasNoVersion first lines = (rest : List (List ℕ)) → lines ≡ first ∷ rest
 -- the first fault of the text: line by line, and in a line from its front
 pub data HasFault (text : List ℕ) : Fault → Type 0 where
   version : HasNoVersion (codes "proof 1") (text_lines text) → HasFault text (record { at = record { line = 1; column = 1 }; kind = 14 })
-  unknown_word : (bytes : List ℕ) (more : List (List ℕ)) (k : ℕ) (b : Begins (text_lines text) (bytes ∷ more) (suc k)) → want (is_none b.nodes) (first_word bytes) ≡ None
+  unknown_word : (bytes : List ℕ) (more : List (List ℕ)) (k : ℕ) (b : Begins (text_lines text) (bytes ∷ more) (suc k))
+      → want (is_none b.nodes) (first_word bytes) ≡ None
       → HasFault text (record { at = record { line = next_line b; column = 1 }; kind = 13 })
-  bad_field : (bytes : List ℕ) (more : List (List ℕ)) (k column : ℕ) (b : Begins (text_lines text) (bytes ∷ more) (suc k)) → HasBadField (want (is_none b.nodes)) bytes column
+  bad_field : (bytes : List ℕ) (more : List (List ℕ)) (k column : ℕ) (b : Begins (text_lines text) (bytes ∷ more) (suc k))
+      → HasBadField (want (is_none b.nodes)) bytes column
       → HasFault text (record { at = record { line = next_line b; column = column }; kind = 14 })
   nodes_missing : (k : ℕ) → Begins (text_lines text) [] (suc k) → HasFault text (record { at = place_at text (length text); kind = 15 })
-  left_over : (bytes : List ℕ) (more : List (List ℕ)) (b : Begins (text_lines text) (bytes ∷ more) 0) → HasFault text (record { at = record { line = next_line b; column = 1 }; kind = 16 })
+  left_over : (bytes : List ℕ) (more : List (List ℕ)) (b : Begins (text_lines text) (bytes ∷ more) 0)
+      → HasFault text (record { at = record { line = next_line b; column = 1 }; kind = 16 })
 
 -- why the text was not read: its first fault, or want of memory
 abbrev pub IsCause : List ℕ → TextFault → Type 0

@@ -65,11 +65,15 @@ want_behind b = want_over (length b.rows) (is_none b.asked && is_none b.nodes) (
 -- the first fault of the text: line by line, and in a line from its front; and behind all lines the first row that is off
 pub data HasFault2 (text : List ℕ) : Fault → Type 0 where
   version2 : HasNoVersion (codes "proof 2") (text_lines text) → HasFault2 text (record { at = record { line = 1; column = 1 }; kind = 14 })
-  unknown_word2 : (bytes : List ℕ) (more : List (List ℕ)) (k : ℕ) (b : BeginsOver (text_lines text) (bytes ∷ more) (suc k)) → want_behind b (first_word bytes) ≡ None → HasFault2 text (record { at = record { line = line_behind b; column = 1 }; kind = 13 })
-  bad_field2 : (bytes : List ℕ) (more : List (List ℕ)) (k column : ℕ) (b : BeginsOver (text_lines text) (bytes ∷ more) (suc k)) → HasBadField (want_behind b) bytes column → HasFault2 text (record { at = record { line = line_behind b; column = column }; kind = 14 })
+  unknown_word2 : (bytes : List ℕ) (more : List (List ℕ)) (k : ℕ) (b : BeginsOver (text_lines text) (bytes ∷ more) (suc k))
+      → want_behind b (first_word bytes) ≡ None → HasFault2 text (record { at = record { line = line_behind b; column = 1 }; kind = 13 })
+  bad_field2 : (bytes : List ℕ) (more : List (List ℕ)) (k column : ℕ) (b : BeginsOver (text_lines text) (bytes ∷ more) (suc k))
+      → HasBadField (want_behind b) bytes column → HasFault2 text (record { at = record { line = line_behind b; column = column }; kind = 14 })
   nodes_missing2 : (k : ℕ) → BeginsOver (text_lines text) [] (suc k) → HasFault2 text (record { at = place_at text (length text); kind = 15 })
-  left_over2 : (bytes : List ℕ) (more : List (List ℕ)) (b : BeginsOver (text_lines text) (bytes ∷ more) 0) → HasFault2 text (record { at = record { line = line_behind b; column = 1 }; kind = 16 })
-  off_table : (k : ℕ) (b : BeginsOver (text_lines text) [] 0) → IsDistinct bytes_eq b.names → IsOff b.rows (derivation b) k → HasFault2 text (record { at = record { line = k + 2; column = 1 }; kind = 18 })
+  left_over2 : (bytes : List ℕ) (more : List (List ℕ)) (b : BeginsOver (text_lines text) (bytes ∷ more) 0)
+      → HasFault2 text (record { at = record { line = line_behind b; column = 1 }; kind = 16 })
+  off_table : (k : ℕ) (b : BeginsOver (text_lines text) [] 0) → IsDistinct bytes_eq b.names → IsOff b.rows (derivation b) k
+      → HasFault2 text (record { at = record { line = k + 2; column = 1 }; kind = 18 })
 
 -- why the text was not read: its first fault, or want of memory
 abbrev pub IsCause2 : List ℕ → TextFault → Type 0

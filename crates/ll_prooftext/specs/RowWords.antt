@@ -84,7 +84,8 @@ IsGoodRule names bank (rule.Imp n) = n < 2 ^ 32
 IsGoodRule names bank (rule.Forall n) = n < 2 ^ 32
 IsGoodRule names bank (rule.Exists t) = IsSpelledAt names bank t.0
 IsGoodRule names bank (rule.Clause n k ts ps) =
-    ((n < 2 ^ 32) × (k < 2 ^ 32)) × (All (λ a. IsSpelledAt names bank a.0) ts.items × (All IsSpelledPart (map part_line ps.items) × (list_all part_rises (map part_line ps.items) ≡ true)))
+    ((n < 2 ^ 32) × (k < 2 ^ 32)) × (All (λ a. IsSpelledAt names bank a.0) ts.items
+    × (All IsSpelledPart (map part_line ps.items) × (list_all part_rises (map part_line ps.items) ≡ true)))
 IsGoodRule names bank rule.One = Unit {0}
 IsGoodRule names bank rule.Erase = Unit {0}
 IsGoodRule names bank rule.With = Unit {0}

@@ -70,7 +70,8 @@ pub record IsLineWord (stage : Stage) (w : List ℕ) (k : LineWord) : Type 0 whe
 -- ---- rows
 
 -- the term of a head and the fields behind it
-pub record IsSpineOver (rows : List Term) (names : List (List ℕ)) (bank : Nodes) (bytes : List ℕ) (head : Head) (new : List (List ℕ)) (over : Nodes) (at : ℕ) : Type 0 where
+pub record IsSpineOver (rows : List Term) (names : List (List ℕ)) (bank : Nodes) (bytes : List ℕ) (head : Head) (new : List (List ℕ)) (over : Nodes) (at : ℕ) :
+    Type 0 where
   pub good : IsSpelledAt new over at
   pub first : Term
   pub others : List Term
@@ -79,7 +80,8 @@ pub record IsSpineOver (rows : List Term) (names : List (List ℕ)) (bank : Node
   pub moves : Moves names bank bytes new over []
 
 -- the same where there are two fields
-pub record IsPairOver (rows : List Term) (names : List (List ℕ)) (bank : Nodes) (bytes : List ℕ) (head : Head) (new : List (List ℕ)) (over : Nodes) (at : ℕ) : Type 0 where
+pub record IsPairOver (rows : List Term) (names : List (List ℕ)) (bank : Nodes) (bytes : List ℕ) (head : Head) (new : List (List ℕ)) (over : Nodes) (at : ℕ) :
+    Type 0 where
   pub spine : IsSpineOver rows names bank bytes head new over at
   pub two : length spine.others ≡ 1
 

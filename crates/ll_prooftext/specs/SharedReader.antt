@@ -23,9 +23,13 @@ derivation_of o = record { asked = term_trees o.bank o.asked.items; nodes = map 
 
 -- a line was added
 pub data TakesOver (names : List (List ℕ)) (o : Sharing) (bytes : List ℕ) (new : List (List ℕ)) (p : Sharing) : Type 0 where
-  share : (at : At) → (is_none o.asked.items && is_none o.nodes.items) ≡ true → IsShareRow (rows_of o) names o.bank bytes new p.bank at.0 → p.rows.items ≡ o.rows.items ++ at ∷ [] → p.asked.items ≡ o.asked.items → p.nodes.items ≡ o.nodes.items → p.lacking ≡ o.lacking → TakesOver names o bytes new p
-  variable : (at : At) → is_none o.nodes.items ≡ true → IsLetOver (rows_of o) names o.bank bytes new p.bank at.0 → p.rows.items ≡ o.rows.items → p.asked.items ≡ o.asked.items ++ at ∷ [] → p.nodes.items ≡ o.nodes.items → p.lacking ≡ o.lacking → TakesOver names o bytes new p
-  node : (r : Rule) → IsStepOver (rows_of o) names o.bank bytes new p.bank r → p.rows.items ≡ o.rows.items → p.asked.items ≡ o.asked.items → p.nodes.items ≡ o.nodes.items ++ r ∷ [] → p.lacking ≡ o.lacking - 1 + children (line_of p.bank r) → TakesOver names o bytes new p
+  share : (at : At) → (is_none o.asked.items && is_none o.nodes.items) ≡ true → IsShareRow (rows_of o) names o.bank bytes new p.bank at.0
+      → p.rows.items ≡ o.rows.items ++ at ∷ [] → p.asked.items ≡ o.asked.items → p.nodes.items ≡ o.nodes.items → p.lacking ≡ o.lacking
+      → TakesOver names o bytes new p
+  variable : (at : At) → is_none o.nodes.items ≡ true → IsLetOver (rows_of o) names o.bank bytes new p.bank at.0 → p.rows.items ≡ o.rows.items
+      → p.asked.items ≡ o.asked.items ++ at ∷ [] → p.nodes.items ≡ o.nodes.items → p.lacking ≡ o.lacking → TakesOver names o bytes new p
+  node : (r : Rule) → IsStepOver (rows_of o) names o.bank bytes new p.bank r → p.rows.items ≡ o.rows.items → p.asked.items ≡ o.asked.items
+      → p.nodes.items ≡ o.nodes.items ++ r ∷ [] → p.lacking ≡ o.lacking - 1 + children (line_of p.bank r) → TakesOver names o bytes new p
 
 -- each row is that of the table at its number
 abbrev pub AreInPlace : Table → List At → ℕ → Type 0

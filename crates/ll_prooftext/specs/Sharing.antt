@@ -2,7 +2,8 @@
 use Rattle.std.specs.Prelude.{◌≡◌, ℕ, false, List, [], ◌∷◌, ◌++◌, length, IsTrue, Some, ◌⊎◌, slice_get, flat_map, codes, decimal}
 use Rattle.ll_bank.specs.declared.Head.{Head}
 use Rattle.ll_bank.specs.Term.{Term, app}
-use Rattle.ll_laws.specs.Line.{Line, OneLine, EraseLine, TensorLine, WithLine, LeftLine, RightLine, BangLine, LolliLine, ImpLine, ForallLine, ExistsLine, UseLine, NumLine, ClauseLine}
+use Rattle.ll_laws.specs.Line.{Line, OneLine, EraseLine, TensorLine, WithLine, LeftLine, RightLine, BangLine, LolliLine, ImpLine, ForallLine, ExistsLine}
+use Rattle.ll_laws.specs.Line.{UseLine, NumLine, ClauseLine}
 use Rattle.ll_laws.specs.Output.{head_text, has_arguments, is_cons_head, term_text}
 use Rattle.ll_laws.specs.ProofText.{field, part_field, node_text}
 use Rattle.ll_prooftext.specs.Admitted.{IsPlainHead}
@@ -17,7 +18,8 @@ pub data Stands (names : List (List ℕ)) (rows : List Term) (t : Term) (text : 
 -- fields, a space before each, stand for these terms
 pub data AreCells (names : List (List ℕ)) (rows : List Term) : List Term → List ℕ → Type 0 where
   no_cells : AreCells names rows [] []
-  next_cell : {t : Term} {ts : List Term} {text rest : List ℕ} → Stands names rows t text → AreCells names rows ts rest → AreCells names rows (t ∷ ts) (32 ∷ text ++ rest)
+  next_cell : {t : Term} {ts : List Term} {text rest : List ℕ} → Stands names rows t text → AreCells names rows ts rest
+      → AreCells names rows (t ∷ ts) (32 ∷ text ++ rest)
 
 -- ---- lines
 
@@ -35,7 +37,8 @@ pub record IsShare (names : List (List ℕ)) (rows : List Term) (t : Term) (line
 -- the lines of rows, each over those before it
 pub data AreShares (names : List (List ℕ)) : List Term → List (List ℕ) → Type 0 where
   no_shares : {rows : List Term} {lines : List (List ℕ)} → rows ≡ [] → lines ≡ [] → AreShares names rows lines
-  next_share : {rows : List Term} {lines : List (List ℕ)} → (before : List Term) (above : List (List ℕ)) (t : Term) (line : List ℕ) → AreShares names before above → IsShare names before t line → rows ≡ before ++ t ∷ [] → lines ≡ above ++ line ∷ [] → AreShares names rows lines
+  next_share : {rows : List Term} {lines : List (List ℕ)} → (before : List Term) (above : List (List ℕ)) (t : Term) (line : List ℕ)
+      → AreShares names before above → IsShare names before t line → rows ≡ before ++ t ∷ [] → lines ≡ above ++ line ∷ [] → AreShares names rows lines
 
 -- the line of a variable of the query
 pub record IsLet (names : List (List ℕ)) (rows : List Term) (t : Term) (line : List ℕ) : Type 0 where

@@ -4,7 +4,8 @@ use Rattle.std.specs.Prelude.{ℕ, Bool, List, [], ◌∷◌, ◌++◌, fold, if
 use Rattle.std.specs.List.{list_any, flat_map, position_or_len}
 use Rattle.ll_bank.specs.Term.{Term, Ap}
 use Rattle.ll_laws.specs.Fault.{term_eq}
-use Rattle.ll_laws.specs.Line.{Line, OneLine, EraseLine, TensorLine, WithLine, LeftLine, RightLine, BangLine, LolliLine, ImpLine, ForallLine, ExistsLine, UseLine, NumLine, ClauseLine, DerivationLines}
+use Rattle.ll_laws.specs.Line.{Line, OneLine, EraseLine, TensorLine, WithLine, LeftLine, RightLine, BangLine, LolliLine, ImpLine, ForallLine, ExistsLine}
+use Rattle.ll_laws.specs.Line.{UseLine, NumLine, ClauseLine, DerivationLines}
 
 -- ---- terms with arguments
 

@@ -71,7 +71,8 @@ entries (a ∷ args) = entries args ++ task.Enter a ∷ []
 pub data Entered (bank : Nodes) (t : Table) (tasks : List Task) (at : At) (now : List Task) : Type 0 where
   bare : has_arguments (term_tree bank at.0) ≡ false → now ≡ tasks → Entered bank t tasks at now
   known : (k : ℕ) → row_at t at.0 ≡ Some k → now ≡ tasks → Entered bank t tasks at now
-  inside : (h : Head) (args : List At) → term_tree bank at.0 ≡ app h (term_trees bank args) → has_arguments (term_tree bank at.0) ≡ true → All (λ (a : At). a.0 < at.0) args
+  inside : (h : Head) (args : List At) → term_tree bank at.0 ≡ app h (term_trees bank args) → has_arguments (term_tree bank at.0) ≡ true
+      → All (λ (a : At). a.0 < at.0) args
       → now ≡ (tasks ++ task.Leave at ∷ []) ++ entries args → Entered bank t tasks at now
 
 -- a term was left: its row is there

@@ -138,11 +138,14 @@ pub data FirstWay (c : Bool) (fs : List Frame) (bytes : List ℕ) (gs : List Fra
 -- behind a part: an argument, a `::`, or the end of the bracket
 pub data PartWay (c : Bool) (p : Shape) (fs : List Frame) (bytes : List ℕ) (gs : List Frame) (left : List ℕ) : Type 0 where
   bracket : takes p ≡ true → bytes ≡ 32 ∷ 40 ∷ left → gs ≡ fresh ∷ frame c p ∷ fs → PartWay c p fs bytes gs left
-  word : takes p ≡ true → (w : List ℕ) (q : Shape) → IsWord w q → Stops is_part left → bytes ≡ 32 ∷ (w ++ left) → gs ≡ frame c Applied ∷ fs → PartWay c p fs bytes gs left
+  word : takes p ≡ true → (w : List ℕ) (q : Shape) → IsWord w q → Stops is_part left → bytes ≡ 32 ∷ (w ++ left) → gs ≡ frame c Applied ∷ fs
+      → PartWay c p fs bytes gs left
   sign : bytes ≡ 58 ∷ 58 ∷ left → gs ≡ frame true Wanted ∷ fs → PartWay c p fs bytes gs left
   whole : closes c p ≡ true → fs ≡ [] → bytes ≡ 41 ∷ left → gs ≡ [] → PartWay c p fs bytes gs left
-  argument : closes c p ≡ true → (d : Bool) (q : Shape) (hs : List Frame) → fs ≡ frame d q ∷ hs → takes q ≡ true → bytes ≡ 41 ∷ left → gs ≡ frame d Applied ∷ hs → PartWay c p fs bytes gs left
-  item : c ≡ true → (d : Bool) (hs : List Frame) → fs ≡ frame d Wanted ∷ hs → bytes ≡ 41 ∷ 58 ∷ 58 ∷ left → gs ≡ frame true Wanted ∷ hs → PartWay c p fs bytes gs left
+  argument : closes c p ≡ true → (d : Bool) (q : Shape) (hs : List Frame) → fs ≡ frame d q ∷ hs → takes q ≡ true → bytes ≡ 41 ∷ left → gs ≡ frame d Applied ∷ hs
+      → PartWay c p fs bytes gs left
+  item : c ≡ true → (d : Bool) (hs : List Frame) → fs ≡ frame d Wanted ∷ hs → bytes ≡ 41 ∷ 58 ∷ 58 ∷ left → gs ≡ frame true Wanted ∷ hs
+      → PartWay c p fs bytes gs left
 
 -- from brackets and the bytes behind them to those after one step
 abbrev pub Goes : List Frame → List ℕ → List Frame → List ℕ → Type 0

@@ -24,7 +24,8 @@ pub(crate) enum Front {
 /// The row whose number is spelled so, if it is one of these.
 fn row_numbered(number: &[u8], rows: &[At]) -> Option<At>
     requires { length rows.now < 2 ^ 32 }
-    ensures { MatchOption result ((k : ℕ) → k < length rows.now → number.now ≡ decimal k → ⊥) (λ at. (k : ℕ) × ((number.now ≡ decimal k) × (slice_get rows.now k ≡ Some at))) }
+    ensures { MatchOption result ((k : ℕ) → k < length rows.now → number.now ≡ decimal k
+        → ⊥) (λ at. (k : ℕ) × ((number.now ≡ decimal k) × (slice_get rows.now k ≡ Some at))) }
 {
     let row = number_of(number)?;
     match rows.get(row as usize) {
@@ -43,7 +44,8 @@ fn cell_of(
     requires room { length names.old < 2 ^ 32 }
     requires few { length rows.now < 2 ^ 32 }
     requires rows { All (λ a. IsSpelledAt names.old bank.old a.0) rows.now }
-    ensures found { IfOk result (λ found. MatchOption found (IsField (Cell (length rows.now)) word.now → ⊥) (λ at. IsCellOf (term_trees bank.old rows.now) word.now names.new bank.new at.0)) }
+    ensures found { IfOk result (λ found. MatchOption found (IsField (Cell (length rows.now)) word.now
+        → ⊥) (λ at. IsCellOf (term_trees bank.old rows.now) word.now names.new bank.new at.0)) }
     ensures moves { IfOk result (λ found. IfSome found (λ at. MovesBy names.old bank.old word.now names.new bank.new)) }
     ensures grows { Grows names.old names.new }
 {

@@ -3,7 +3,8 @@ ghost use Rattle.std.specs.Prelude.{◌≡◌, ◌+◌, ◌<◌, ◌^◌, [], �
 ghost use Rattle.ll_prooftext.specs.Reading.{Number, Set, Argument, Arguments, Nothing, Then, IsAtEnd, want, listed, node_words};
 ghost use Rattle.ll_prooftext.specs.RowWords.{spelling, asks, IsNodeWord, IsRowWord, IsNodeRow, IsRow, IsRefused};
 ghost use Rattle.ll_prooftext.specs.Terms.{Grows};
-ghost use Rattle.ll_prooftext.specs.Fields.{Refuses, LacksField, LacksPart, StopsAt, IsNumberField, IsSetField, IsPartField, IsTermField, IsTensor, HasNoTerm, AreTermFields, ArePartFields, IsClause};
+ghost use Rattle.ll_prooftext.specs.Fields.{Refuses, LacksField, LacksPart, StopsAt, IsNumberField, IsSetField, IsPartField, IsTermField, IsTensor, HasNoTerm};
+ghost use Rattle.ll_prooftext.specs.Fields.{AreTermFields, ArePartFields, IsClause};
 
 use crate::bytes::{behind, split_before};
 use crate::numbers::number_of;

@@ -142,7 +142,8 @@ pub(crate) fn write_shares(
     out: &mut Vec<u8>,
 ) -> Result<(), OutOfMemory>
     requires { IsWhole bank.now table.now }
-    ensures { OnOk result (out.new.items ≡ out.old.items ++ flat_map (share_line names.now (term_trees bank.now table.now.rows.items)) (term_trees bank.now table.now.rows.items)) }
+    ensures { OnOk result (out.new.items ≡ out.old.items ++ flat_map (share_line names.now (term_trees bank.now table.now.rows.items))
+        (term_trees bank.now table.now.rows.items)) }
 {
     let mut heads = Bank::new(alloc);
     let rows = table.rows.as_slice();
@@ -192,7 +193,8 @@ pub(crate) fn write_lets(
     requires inside { AllInTerms bank.now terms.now }
     requires rows { HasRows bank.now fields }
     requires numbered { All (HasField fields) terms.now }
-    ensures { OnOk result (out.new.items ≡ out.old.items ++ flat_map (λ t. line (let_text_by (shown names.now bank.now fields.entry) t)) (term_trees bank.now terms.now)) }
+    ensures { OnOk result (out.new.items ≡ out.old.items ++ flat_map (λ t. line (let_text_by (shown names.now bank.now fields.entry) t))
+        (term_trees bank.now terms.now)) }
 {
     for i in 0..terms.len() {
         write_let(alloc, names, bank, fields, terms[i], out)?;
@@ -232,7 +234,8 @@ pub(crate) fn write_node_lines(
     requires inside { HasLines bank.now nodes.now }
     requires rows { HasRows bank.now fields }
     requires numbered { All (HasNodeFields fields) nodes.now }
-    ensures { OnOk result (out.new.items ≡ out.old.items ++ flat_map (λ n. line (node_text_by (shown names.now bank.now fields.entry) n)) (map (line_of bank.now) nodes.now)) }
+    ensures { OnOk result (out.new.items ≡ out.old.items ++ flat_map (λ n. line (node_text_by (shown names.now bank.now fields.entry) n))
+        (map (line_of bank.now) nodes.now)) }
 {
     for i in 0..nodes.len() {
         write_node_line(alloc, names, bank, fields, &nodes[i], out)?;

@@ -159,7 +159,8 @@ fn spine_at(bank: &Bank, at: At) -> (Head, &[At])
 
 /// The two arguments of the sign `::`.
 fn pair_of(args: &[At], sign: &[u8]) -> Option<(At, At)>
-    ensures { MatchOption result ((nat_eq (length args.now) 2 && bytes_eq sign.now (codes "::")) ≡ false) (λ pair. (args.now ≡ pair.0 ∷ pair.1 ∷ []) × (bytes_eq sign.now (codes "::") ≡ true)) }
+    ensures { MatchOption result ((nat_eq (length args.now) 2 && bytes_eq sign.now (codes "::")) ≡ false)
+        (λ pair. (args.now ≡ pair.0 ∷ pair.1 ∷ []) × (bytes_eq sign.now (codes "::") ≡ true)) }
 {
     match args {
         [first, rest] => {
@@ -175,7 +176,8 @@ fn pair_of(args: &[At], sign: &[u8]) -> Option<(At, At)>
 
 /// The length of `X::L`.
 fn cons_length(first: Length, rest: Length) -> u64
-    ensures { (names : List (List ℕ)) (x y : Term) → IsLength names x first → IsLength names y rest → result ≡ cut_count (length (bracket_if (is_cons names x) (term_text names x) ++ codes "::" ++ term_text names y)) }
+    ensures { (names : List (List ℕ)) (x y : Term) → IsLength names x first → IsLength names y rest
+        → result ≡ cut_count (length (bracket_if (is_cons names x) (term_text names x) ++ codes "::" ++ term_text names y)) }
 {
     let brackets = if first.is_cons { 2 } else { 0 };
     first
@@ -188,7 +190,8 @@ fn cons_length(first: Length, rest: Length) -> u64
 fn fields_length(bank: &Bank, places: &[At], lengths: &[Length], start: u64) -> u64
     requires inside { AllInTerms bank.now places.now }
     requires reach { All (λ a. a.0 < length lengths.now) places.now }
-    ensures { (names : List (List ℕ)) → AreLengths names bank.now lengths.now → result ≡ cut_count (start + length (flat_map (term_field names) (term_trees bank.now places.now))) }
+    ensures { (names : List (List ℕ)) → AreLengths names bank.now lengths.now
+        → result ≡ cut_count (start + length (flat_map (term_field names) (term_trees bank.now places.now))) }
 {
     let mut total = start;
     for i in 0..places.len() {

@@ -55,7 +55,8 @@ pub(crate) fn argument_at<'a>(
     bank: &mut Bank,
 ) -> Result<Option<(At, &'a [u8])>, OutOfMemory>
     requires { length names.old + length bytes.now < 2 ^ 32 }
-    ensures found { IfOk result (λ found. MatchOption found (HasNone Argument bytes.now) (λ p. IsArgumentAt names.old bank.old bytes.now names.new bank.new p.0.0 p.1.now)) }
+    ensures found { IfOk result (λ found. MatchOption found (HasNone Argument bytes.now)
+        (λ p. IsArgumentAt names.old bank.old bytes.now names.new bank.new p.0.0 p.1.now)) }
     ensures grows { Grows names.old names.new }
 {
     if let Some(inside) = behind(bytes, b'(') {
@@ -80,7 +81,8 @@ fn bracketed<'a>(
     bank: &mut Bank,
 ) -> Result<Option<(At, &'a [u8])>, OutOfMemory>
     requires { length names.old + length inside.now < 2 ^ 32 }
-    ensures found { IfOk result (λ found. MatchOption found (HasNone Argument (40 ∷ inside.now)) (λ p. IsArgumentAt names.old bank.old (40 ∷ inside.now) names.new bank.new p.0.0 p.1.now)) }
+    ensures found { IfOk result (λ found. MatchOption found (HasNone Argument (40 ∷ inside.now))
+        (λ p. IsArgumentAt names.old bank.old (40 ∷ inside.now) names.new bank.new p.0.0 p.1.now)) }
     ensures grows { Grows names.old names.new }
 {
     let mut open = Open {

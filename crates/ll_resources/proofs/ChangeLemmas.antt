@@ -1,5 +1,6 @@
 -- Changes taken back one after another, and what a context has kept before them.
-use Rattle.std.proofs.Common.{◌≡◌, ℕ, zero, suc, ◌+◌, ◌-◌, ◌<◌, ◌≤◌, Bool, false, List, [], ◌∷◌, ◌++◌, length, get_or, take, drop, set, refl, ap, sym, subst, ◌∙◌, inl, inr, arith, length-append}
+use Rattle.std.proofs.Common.{◌≡◌, ℕ, zero, suc, ◌+◌, ◌-◌, ◌<◌, ◌≤◌, Bool, false, List, [], ◌∷◌, ◌++◌, length, get_or, take, drop, set, refl, ap, sym, subst}
+use Rattle.std.proofs.Common.{◌∙◌, inl, inr, arith, length-append}
 use Rattle.std.proofs.lemmas.Bool.{cases_lt}
 use Rattle.std.proofs.lemmas.List.{length-map, drop_all, drop_more, drop-append-le, take-append-drop, length-take-le, get_or-take, get_or_push}
 use Rattle.std.proofs.Math.Seq.{take-append_seam, drop-append_seam, take-length}
@@ -49,7 +50,8 @@ module _ {C : Type 0} where
   length-states (c ∷ cs) r = ap suc (length-states cs r)
 
   -- after a change the state before it is the last of them
-  pub states-more : (cs : List (Change C)) (c : Change C) (r s : Raw C) → taken_back c s ≡ r → states_before (cs ++ c ∷ []) s ≡ states_before cs r ++ shown r ∷ []
+  pub states-more : (cs : List (Change C)) (c : Change C) (r s : Raw C) → taken_back c s ≡ r
+      → states_before (cs ++ c ∷ []) s ≡ states_before cs r ++ shown r ∷ []
   states-more [] c r s e = ap (λ t. shown t ∷ []) e
   states-more (d ∷ cs) c r s e =
       let h = states-more cs c r s e in
@@ -65,14 +67,20 @@ module _ {C : Type 0} where
       ∙ ap (λ ts. shown (before (c ∷ cs) r) ∷ ts) (states-take n cs r)
 
   -- one change more taken back
-  pub one-back : (cs : List (Change C)) (i : ℕ) (d : Change C) (r : Raw C) → i < length cs → before (drop i cs) r ≡ taken_back (get_or cs i d) (before (drop (i + 1) cs) r)
+  pub one-back : (cs : List (Change C)) (i : ℕ) (d : Change C) (r : Raw C) → i < length cs
+      → before (drop i cs) r ≡ taken_back (get_or cs i d) (before (drop (i + 1) cs) r)
   one-back cs i d r l = ap (λ ds. before ds r) (drop_more cs i d l)
 
   -- ---- sound states
 
   -- with more room
   pub sound-wider : (r : Raw C) (n m k l : ℕ) → n ≤ k → m ≤ l → IsSound n m r → IsSound k l r
-  sound-wider r n m k l a b s = record { entries_fit = (let e = s.entries_fit in omega arith); live_fit = (let e = s.live_fit in omega arith); within = s.within }
+  sound-wider r n m k l a b s = record {
+    entries_fit = (let e = s.entries_fit in omega arith);
+    live_fit = (let e = s.live_fit in omega arith);
+    within =
+        s.within;
+  }
 
   -- with no change, for the state alone
   pub sound-none : (r : Raw C) (n m : ℕ) → IsSound n m r → AreSound [] r n m
@@ -101,7 +109,8 @@ module _ {C : Type 0} where
   ])
 
   -- where the last changes are taken back
-  pub sound-take : (j : ℕ) (cs ds : List (Change C)) (r s : Raw C) (n m k l : ℕ) → j ≤ length cs → ds ≡ take j cs → s ≡ before (drop j cs) r → n ≤ k → m ≤ l → AreSound cs r n m
+  pub sound-take : (j : ℕ) (cs ds : List (Change C)) (r s : Raw C) (n m k l : ℕ) → j ≤ length cs → ds ≡ take j cs → s ≡ before (drop j cs) r → n ≤ k → m ≤ l
+      → AreSound cs r n m
       → AreSound ds s k l
   sound-take j cs ds r s n m k l i0 e f a b h i = rw (e, f) (elim (cases_lt j i) [
     | inl more ↦
@@ -138,7 +147,8 @@ module _ {C : Type 0} where
       ap (λ es. let s : Raw C = record r { entries = es; live = front (r.live ++ is_linear kind ∷ []) } in s) (front-push r.entries (stored r.next kind clause))
       ∙ ap (λ bs. let s : Raw C = record r { live = bs } in s) (front-push r.live (is_linear kind))
 
-  pub back-picked : (at : ℕ) (live : Bool) (r : Raw C) → (at < length r.live → live ≡ get_or r.live at false) → taken_back (Picked at live) (raw_picked at r) ≡ r
+  pub back-picked : (at : ℕ) (live : Bool) (r : Raw C) → (at < length r.live → live ≡ get_or r.live at false)
+      → taken_back (Picked at live) (raw_picked at r) ≡ r
   back-picked at live r h = ap (λ bs. let s : Raw C = record r { live = bs } in s) (same r.live at live h)
     where
       same : (xs : List Bool) (i : ℕ) (v : Bool) → (i < length xs → v ≡ get_or xs i false) → set (set xs i false) i v ≡ xs
@@ -146,7 +156,8 @@ module _ {C : Type 0} where
       same (x ∷ xs) zero v h = ap (λ y. y ∷ xs) (h (omega arith))
       same (x ∷ xs) (suc i) v h = ap (λ ys. x ∷ ys) (same xs i v (λ l. h (omega (arith, l))))
 
-  pub back-closed : (e : Stored C) (live : Option Bool) (flag : Bool) (r : Raw C) → 0 < length r.entries → e ≡ get_or r.entries (length r.entries - 1) e → with_last (front r.live) live ≡ r.live
+  pub back-closed : (e : Stored C) (live : Option Bool) (flag : Bool) (r : Raw C) → 0 < length r.entries → e ≡ get_or r.entries (length r.entries - 1) e
+      → with_last (front r.live) live ≡ r.live
       → taken_back (Closed e live r.flag) (raw_closed flag r) ≡ r
   back-closed e live flag r l h m =
       ap (λ x. let s : Raw C = record r { entries = front r.entries ++ x ∷ []; live = with_last (front r.live) live } in s) h
@@ -166,7 +177,13 @@ module _ {C : Type 0} where
       let block : block_of (r.marks ++ r.live) (kept_now r) ≡ r.live =
       ap (take (length r.marks + length r.live - length r.marks)) (drop-append_seam r.marks r.live)
       ∙ (ap (λ k. take k r.live) (let e : length r.marks + length r.live - length r.marks ≡ length r.live = omega arith in e) ∙ take-length r.live) in
-      let by : KeptRange → List KeptRange → Raw C = λ k ks. record r { live = block_of (r.marks ++ r.live) k; flag = k.flag; marks = take k.from (r.marks ++ r.live); kept = ks } in
+      let by : KeptRange → List KeptRange → Raw C = λ k ks. record r {
+        live = block_of (r.marks ++ r.live) k;
+        flag = k.flag;
+        marks =
+            take k.from (r.marks ++ r.live);
+        kept = ks;
+      } in
       ap (λ m. without_last m (raw_kept live r)) count
       ∙ (ap (λ k. by k (take (length r.kept) (r.kept ++ kept_now r ∷ []))) last
       ∙ (ap (λ ks. by (kept_now r) ks) (take-append_seam r.kept (kept_now r ∷ []))
@@ -183,26 +200,31 @@ module _ {C : Type 0} where
   same-states (p ∷ ps) r s (suc n) l = same-states ps r s n (omega arith)
 
   -- each good mark stays good when a change is noted
-  pub marks-noted : (cs bs ds : List (Change C)) (c : Change C) (old new : State C) (h : History C) → bs ≡ cs → ds ≡ bs ++ c ∷ [] → Leads c old new → history cs (raw old) ≡ h
+  pub marks-noted : (cs bs ds : List (Change C)) (c : Change C) (old new : State C) (h : History C) → bs ≡ cs → ds ≡ bs ++ c ∷ [] → Leads c old new
+      → history cs (raw old) ≡ h
       → KeepsMarks h (history ds (raw new))
   marks-noted cs bs ds c old new h f e l v = subst (λ k. KeepsMarks k (history ds (raw new))) v (λ mark good.
       let more : states_before ds (raw new) ≡ states_before cs (raw old) ++ shown (raw old) ∷ [] =
       ap (λ xs. states_before xs (raw new)) (e ∙ ap (λ xs. xs ++ c ∷ []) f) ∙ states-more cs c (raw old) (raw new) l.back in
       record {
         good = let n = ap length more in let m = length-append (states_before cs (raw old)) (shown (raw old) ∷ []) in omega arith;
-        state = ap (λ ss. get_or ss mark.changes (shown (raw new))) more ∙ same-states (states_before cs (raw old)) (shown (raw old)) (shown (raw new)) mark.changes good;
+        state = ap (λ ss. get_or ss mark.changes (shown (raw new))) more
+            ∙ same-states (states_before cs (raw old)) (shown (raw old)) (shown (raw new)) mark.changes good;
       })
 
   -- a good mark is of one of the changes
   pub mark-within : (cs : List (Change C)) (r : Raw C) (h : History C) (mark : ContextMark) → history cs r ≡ h → HasMark mark h → mark.changes ≤ length cs
-  mark-within cs r h mark v good = let n = length-states cs r in let m : length (states_before cs r) ≡ length h.past = ap (λ (k : History C). length k.past) v in omega arith
+  mark-within cs r h mark v good = let n = length-states cs r in
+      let m : length (states_before cs r) ≡ length h.past = ap (λ (k : History C). length k.past) v in omega arith
 
   -- the state at a mark is that before the changes past it
-  pub state-marked : (cs : List (Change C)) (r : Raw C) (h : History C) (mark : ContextMark) → history cs r ≡ h → state_at mark h ≡ shown (before (drop mark.changes cs) r)
+  pub state-marked : (cs : List (Change C)) (r : Raw C) (h : History C) (mark : ContextMark) → history cs r ≡ h
+      → state_at mark h ≡ shown (before (drop mark.changes cs) r)
   state-marked cs r h mark v = ap (state_at mark) (sym v) ∙ state-before cs mark.changes r
 
   -- the first states of those from which a context came
-  first-states : (ps : List (Resources C)) (r : Resources C) (n m : ℕ) → n ≤ m → n ≤ length ps → m ≤ length ps → get_or (take m ps) n (get_or ps m r) ≡ get_or ps n r
+  first-states : (ps : List (Resources C)) (r : Resources C) (n m : ℕ) → n ≤ m → n ≤ length ps → m ≤ length ps
+      → get_or (take m ps) n (get_or ps m r) ≡ get_or ps n r
   first-states ps r n zero l i k = ap (λ j. get_or ps j r) (let e : zero ≡ n = omega arith in e)
   first-states [] r n (suc m) l i k = absurd (omega arith)
   first-states (p ∷ ps) r zero (suc m) l i k = refl
@@ -214,7 +236,8 @@ module _ {C : Type 0} where
   marks-undone cs ds r s h mark v good e f = subst (λ k. KeepsMarksTo mark k (history ds s)) v (λ m l i.
       let within = mark-within cs r h mark v good in
       let count = length-states cs r in
-      let left : states_before ds s ≡ take mark.changes (states_before cs r) = ap (λ xs. states_before xs s) e ∙ (ap (states_before (take mark.changes cs)) f ∙ states-take mark.changes cs r) in
+      let left : states_before ds s ≡ take mark.changes (states_before cs r) =
+      ap (λ xs. states_before xs s) e ∙ (ap (states_before (take mark.changes cs)) f ∙ states-take mark.changes cs r) in
       let now : shown s ≡ get_or (states_before cs r) mark.changes (shown r) = ap (λ (t : Raw C). shown t) f ∙ sym (state-before cs mark.changes r) in
       record {
         good = let n = ap length left in let k = length-take-le mark.changes (states_before cs r) (omega arith) in omega arith;
@@ -257,7 +280,8 @@ module _ {C : Type 0} where
   drop-drop i (suc j) (c ∷ cs) = drop-drop i j cs ∙ ap (λ n. drop n (c ∷ cs)) (let e : suc (j + i) ≡ suc j + i = omega arith in e)
 
   -- what was kept at a mark means the same in the state at it
-  pub saved-marked : (cs : List (Change C)) (r s : Raw C) (n m : ℕ) (h : History C) (mark : ContextMark) → history cs r ≡ h → s ≡ before (drop mark.changes cs) r → AreSound cs r n m
+  pub saved-marked : (cs : List (Change C)) (r s : Raw C) (n m : ℕ) (h : History C) (mark : ContextMark) → history cs r ≡ h
+      → s ≡ before (drop mark.changes cs) r → AreSound cs r n m
       → KeepsSaved (length (state_at mark h).kept) h.present (shown s)
   saved-marked cs r s n m h mark v e sound k l =
       let t = before (drop mark.changes cs) r in

@@ -38,6 +38,7 @@ module _ {G C : Type 0} where
       let same : front ≡ other = cc in
       let ends : Goal (tt {0}) ∷ WithEnd saved now ∷ [] ≡ Goal (tt {0}) ∷ WithEnd saved half ∷ [] = ap (λ f. f.agenda) same in
       let halves : now ≡ half = cc in
-      let made : Saved → List (Entry C) → Bool → Option (Front G C) = λ x es b. Some (record { agenda = Goal g ∷ WithEnd kept x ∷ rest; context = es; flag = b }) in
+      let made : Saved → List (Entry C) → Bool → Option (Front G C) =
+      λ x es b. Some (record { agenda = Goal g ∷ WithEnd kept x ∷ rest; context = es; flag = b }) in
       ap (λ x. made x (remark r.entries saved.live) false) halves
       ∙ (ap (λ (f : Front (Unit {0}) C). made half f.context f.flag) same)

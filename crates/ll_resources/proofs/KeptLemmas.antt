@@ -1,5 +1,6 @@
 -- What is kept, with more marks behind it, and after some of them went.
-use Rattle.std.proofs.Common.{◌≡◌, ℕ, ◌+◌, ◌-◌, ◌<◌, ◌≤◌, Bool, List, [], ◌∷◌, ◌++◌, length, map, All, get_or, take, drop, refl, ap, sym, ◌∙◌, arith, length-append, length-drop}
+use Rattle.std.proofs.Common.{◌≡◌, ℕ, ◌+◌, ◌-◌, ◌<◌, ◌≤◌, Bool, List, [], ◌∷◌, ◌++◌, length, map, All, get_or, take, drop, refl, ap, sym, ◌∙◌, arith}
+use Rattle.std.proofs.Common.{length-append, length-drop}
 use Rattle.std.specs.Prelude.{reverse}
 use Rattle.std.proofs.lemmas.List.{map-append, drop-append-le, take-append-le, take-append-drop, drop_at, take_all, get_or-map}
 use Rattle.std.proofs.lemmas.List.Elements.{All-head, All-tail, All-weaker, All-push, All-get_or}
@@ -15,7 +16,8 @@ pub block-behind : (ms xs : List Bool) (k : Kept) → IsWithin ms k → block_of
 block-behind ms xs k h =
     let e = length-drop k.from ms in
     let fits : k.to - k.from ≤ length (drop k.from ms) = omega (arith, e, h.0, h.1) in
-    ap (take (k.to - k.from)) (drop-append-le k.from ms xs (let l : k.from ≤ length ms = omega (arith, h.0, h.1) in l)) ∙ take-append-le (k.to - k.from) (drop k.from ms) xs fits
+    ap (take (k.to - k.from)) (drop-append-le k.from ms xs (let l : k.from ≤ length ms = omega (arith, h.0, h.1) in l))
+    ∙ take-append-le (k.to - k.from) (drop k.from ms) xs fits
 
 -- marks and flag, by a block
 of_block : Kept → List Bool → Saved
@@ -55,7 +57,8 @@ within-more ms xs ks k h f t =
     All-push (IsWithin (ms ++ xs)) ks k (within-behind ms xs ks h) (omega (arith, f, t), (let n = length-append ms xs in omega (arith, n, t)))
 
 -- what lies within the first marks is the same once the others are gone
-pub saved-cut : (ms : List Bool) (m : ℕ) (ks ls : List Kept) (h : Handle) (d : Kept) → h.number < length ls → h.number < length ks → get_or ls h.number d ≡ get_or ks h.number d
+pub saved-cut : (ms : List Bool) (m : ℕ) (ks ls : List Kept) (h : Handle) (d : Kept) → h.number < length ls → h.number < length ks
+    → get_or ls h.number d ≡ get_or ks h.number d
     → All (IsWithin (take m ms)) ls → saved_at (map (kept_marks (take m ms)) ls) h ≡ saved_at (map (kept_marks ms) ks) h
 saved-cut ms m ks ls h d i j e w =
     get_or-map (kept_marks (take m ms)) ls h.number d _ i

@@ -1,5 +1,6 @@
 -- Live marks one by one, and what both sides of `&` leave.
-use Rattle.std.proofs.Common.{◌≡◌, ℕ, zero, suc, ◌+◌, ◌-◌, ◌<◌, ◌≤◌, Bool, true, false, ◌||◌, ◌&&◌, not, List, [], ◌∷◌, length, get_or, set, below_more, refl, ap, sym, ◌∙◌, inl, inr, arith}
+use Rattle.std.proofs.Common.{◌≡◌, ℕ, zero, suc, ◌+◌, ◌-◌, ◌<◌, ◌≤◌, Bool, true, false, ◌||◌, ◌&&◌, not, List, [], ◌∷◌, length, get_or, set, below_more, refl}
+use Rattle.std.proofs.Common.{ap, sym, ◌∙◌, inl, inr, arith}
 use Rattle.std.specs.Prelude.{reverse}
 use Rattle.std.proofs.lemmas.List.{length-reverse, get_or-reverse, get_or_past, get_or-set_same, get_or-set_other}
 use Rattle.std.proofs.lemmas.Bool.{false≢true, cases_lt}
@@ -23,7 +24,8 @@ get-filled (suc n) (b ∷ bs) zero l = refl
 get-filled (suc n) (b ∷ bs) (suc i) l = get-filled n bs i (omega (arith, l))
 
 -- marks that are live in others one by one
-within-all : (as' bs : List Bool) → length as' ≡ length bs → ((k : ℕ) → k < length as' → get_or as' k false ≡ true → get_or bs k false ≡ true) → within as' bs ≡ true
+within-all : (as' bs : List Bool) → length as' ≡ length bs → ((k : ℕ) → k < length as' → get_or as' k false ≡ true → get_or bs k false ≡ true)
+    → within as' bs ≡ true
 within-all [] bs l h = refl
 within-all (a ∷ as') [] l h = refl
 within-all (false ∷ as') (b ∷ bs) l h = within-all as' bs (omega (arith, l)) (λ k i e. h (suc k) (omega (arith, i)) e)
@@ -31,7 +33,8 @@ within-all (true ∷ as') (b ∷ bs) l h =
     ap (λ x. x && within as' bs) (h 0 (omega arith) refl) ∙ within-all as' bs (omega (arith, l)) (λ k i e. h (suc k) (omega (arith, i)) e)
 
 -- one that is not
-within-not : (as' bs : List Bool) (k : ℕ) → k < length as' → length as' ≡ length bs → get_or as' k false ≡ true → get_or bs k false ≡ false → within as' bs ≡ false
+within-not : (as' bs : List Bool) (k : ℕ) → k < length as' → length as' ≡ length bs → get_or as' k false ≡ true → get_or bs k false ≡ false
+    → within as' bs ≡ false
 within-not [] bs k i l e f = absurd (omega (arith, i))
 within-not (a ∷ as') [] k i l e f = absurd (omega (arith, l))
 within-not (a ∷ as') (b ∷ bs) zero i l e f = ap (λ x. (not x || b) && within as' bs) e ∙ ap (λ y. y && within as' bs) f
@@ -44,7 +47,8 @@ implied true false h e = absurd (false≢true (sym h))
 implied false b h e = absurd (false≢true e)
 
 -- all of so many entries passed the test
-pub within-passed : (count n : ℕ) (as' bs : List Bool) → ((k : ℕ) → k < n → (get_or as' k false && not (get_or bs k false)) ≡ false) → ((k : ℕ) → k < length as' → k < count → k < n)
+pub within-passed : (count n : ℕ) (as' bs : List Bool) → ((k : ℕ) → k < n → (get_or as' k false && not (get_or bs k false)) ≡ false)
+    → ((k : ℕ) → k < length as' → k < count → k < n)
     → within (filled count as') (filled count bs) ≡ true
 within-passed count n as' bs h far =
     let la = length-filled count as' in let lb = length-filled count bs in
@@ -57,7 +61,8 @@ within-passed count n as' bs h far =
     ]))
 
 -- one of them did not
-pub within-failed : (count i : ℕ) (as' bs : List Bool) → i < count → (get_or as' i false && not (get_or bs i false)) ≡ true → within (filled count as') (filled count bs) ≡ false
+pub within-failed : (count i : ℕ) (as' bs : List Bool) → i < count → (get_or as' i false && not (get_or bs i false)) ≡ true
+    → within (filled count as') (filled count bs) ≡ false
 within-failed count i as' bs l e =
     let la = length-filled count as' in let lb = length-filled count bs in
     within-not (filled count as') (filled count bs) i (omega (arith, la, l)) (la ∙ sym lb)
@@ -79,7 +84,8 @@ get-rest [] k = refl
 get-rest (b ∷ bs) k = refl
 
 -- what is live in both, one by one
-both-filled : (n : ℕ) (as' bs cs : List Bool) → ((k : ℕ) → get_or cs k false ≡ (get_or as' k false && get_or bs k false)) → filled n cs ≡ both_live (filled n as') (filled n bs)
+both-filled : (n : ℕ) (as' bs cs : List Bool) → ((k : ℕ) → get_or cs k false ≡ (get_or as' k false && get_or bs k false))
+    → filled n cs ≡ both_live (filled n as') (filled n bs)
 both-filled zero as' bs cs h = refl
 both-filled (suc n) as' bs cs h =
     let ih = both-filled n (rest as') (rest bs) (rest cs) (λ k. get-rest cs k ∙ (h (suc k)
@@ -91,7 +97,8 @@ both-filled (suc n) as' bs cs h =
     ∙ ap (λ xs. both_live xs (filled (suc n) bs)) (sym (filled-first n as')))))
 
 -- one mark more is done
-pub done-more : (as' bs xs ys : List Bool) (i : ℕ) (v : Bool) → i < length xs → ys ≡ set xs i v → v ≡ (get_or bs i false && get_or (reverse as') (length bs - 1 - i) false)
+pub done-more : (as' bs xs ys : List Bool) (i : ℕ) (v : Bool) → i < length xs → ys ≡ set xs i v
+    → v ≡ (get_or bs i false && get_or (reverse as') (length bs - 1 - i) false)
     → ((k : ℕ) → k < i → get_or xs k false ≡ (get_or bs k false && get_or (reverse as') (length bs - 1 - k) false))
     → (k : ℕ) → k < i + 1 → get_or ys k false ≡ (get_or bs k false && get_or (reverse as') (length bs - 1 - k) false)
 done-more as' bs xs ys i v l e h done = below_more _ i
@@ -105,7 +112,8 @@ left-more bs xs ys i v e left k l =
     ap (λ zs. get_or zs k false) e ∙ (get_or-set_other xs i k v false (λ q. absurd (omega (arith, q, l))) ∙ left k (omega (arith, l)))
 
 -- from the oldest to the newest
-pub both-done : (as' bs cs : List Bool) → length cs ≡ length bs → ((k : ℕ) → k < length bs → get_or cs k false ≡ (get_or bs k false && get_or (reverse as') (length bs - 1 - k) false))
+pub both-done : (as' bs cs : List Bool) → length cs ≡ length bs
+    → ((k : ℕ) → k < length bs → get_or cs k false ≡ (get_or bs k false && get_or (reverse as') (length bs - 1 - k) false))
     → (n : ℕ) → filled n (reverse cs) ≡ both_live (filled n (reverse as')) (filled n (reverse bs))
 both-done as' bs cs l h n = both-filled n (reverse as') (reverse bs) (reverse cs) each
   where
@@ -129,7 +137,8 @@ both-done as' bs cs l h n = both-filled n (reverse as') (reverse bs) (reverse cs
       | inr g ↦
           let n1 = length-reverse cs in let n2 = length-reverse bs in
           get_or_past (reverse cs) k false (omega (arith, n1, l, g))
-          ∙ (sym (and-false (get_or (reverse as') k false)) ∙ ap (λ b. get_or (reverse as') k false && b) (sym (get_or_past (reverse bs) k false (omega (arith, n2, g)))))
+          ∙ (sym (and-false (get_or (reverse as') k false)) ∙ ap (λ b. get_or (reverse as') k false && b)
+          (sym (get_or_past (reverse bs) k false (omega (arith, n2, g)))))
     ]
 
 -- marks within others are what is live in both

@@ -1,19 +1,24 @@
 -- What contracts see of each change of what is stored.
-use Rattle.std.proofs.Common.{◌≡◌, ℕ, suc, ◌-◌, ◌<◌, Bool, true, false, ◌||◌, ◌&&◌, not, List, [], ◌∷◌, ◌++◌, length, map, All, get_or, refl, ap, sym, ◌∙◌, arith}
+use Rattle.std.proofs.Common.{◌≡◌, ℕ, suc, ◌-◌, ◌<◌, Bool, true, false, ◌||◌, ◌&&◌, not, List, [], ◌∷◌, ◌++◌, length, map, All, get_or, refl, ap, sym, ◌∙◌}
+use Rattle.std.proofs.Common.{arith}
 use Rattle.std.specs.Prelude.{reverse, Option, Some, None, option_map, if◌then◌else◌}
 use Rattle.std.proofs.lemmas.Bool.{false≢true}
 use Rattle.std.proofs.lemmas.List.{length-map, length-reverse, get_or-map, get_or_append_left, get_or_push}
 use Rattle.std.proofs.lemmas.List.Elements.{All-get_or}
 use Rattle.ll_laws.specs.declared.Kind.{Kind}
 use Rattle.ll_laws.specs.Attempt.{is_linear}
-use Rattle.ll_laws.specs.Settle.{Entry as Resource, Saved, Goal, LolliEnd, ImpEnd, WithEnd, Front, settle_front, marks, remark, both_live, join_by, kept_if, end_with}
+use Rattle.ll_laws.specs.Settle.{Entry as Resource, Saved, Goal, LolliEnd, ImpEnd, WithEnd, Front, settle_front, marks, remark, both_live, join_by, kept_if}
+use Rattle.ll_laws.specs.Settle.{end_with}
 use Rattle.ll_resources.specs.declared.context.Saved.{Saved as Handle}
 use Rattle.ll_resources.specs.declared.state.Stored.{Stored}
 use Rattle.ll_resources.specs.Seen.{seen, seen_all, filled}
 use Rattle.ll_resources.specs.Saves.{block_of, kept_marks, IsWithin}
-use Rattle.ll_resources.specs.Resources.{Resources, saved_at, saved_as, saved_now, Fits, settled, with_front, load_end, bang_end, with_end, after_load, after_pick, after_save, after_bang, after_with_mid, KeepsSaved, SettlesMiddle}
-use Rattle.ll_resources.specs.Raw.{Raw, shown, front, stored, raw_loaded, raw_picked, mark_slot, first_place, newest_linear, end_fails, Closes, raw_kept, kept_now, raw_remarked, kept_under, block_under, block_later, Agrees, Joins}
-use Rattle.ll_resources.proofs.SeenLemmas.{reverse-push, reverse-front, reverse-rest, reverse-set, length-filled, length-seen, marks-seen, remark-seen, unlive-seen, picked-seen, seen-first}
+use Rattle.ll_resources.specs.Resources.{Resources, saved_at, saved_as, saved_now, Fits, settled, with_front, load_end, bang_end, with_end, after_load}
+use Rattle.ll_resources.specs.Resources.{after_pick, after_save, after_bang, after_with_mid, KeepsSaved, SettlesMiddle}
+use Rattle.ll_resources.specs.Raw.{Raw, shown, front, stored, raw_loaded, raw_picked, mark_slot, first_place, newest_linear, end_fails, Closes, raw_kept}
+use Rattle.ll_resources.specs.Raw.{kept_now, raw_remarked, kept_under, block_under, block_later, Agrees, Joins}
+use Rattle.ll_resources.proofs.SeenLemmas.{reverse-push, reverse-front, reverse-rest, reverse-set, length-filled, length-seen, marks-seen, remark-seen}
+use Rattle.ll_resources.proofs.SeenLemmas.{unlive-seen, picked-seen, seen-first}
 use Rattle.ll_resources.proofs.KeptLemmas.{block-behind, kept-behind, kept-more, within-behind, within-more}
 
 -- what is kept lies among the marks
@@ -33,7 +38,8 @@ module _ {C : Type 0} where
       ap (λ ss. made (seen_all ss (reverse (r.live ++ is_linear kind ∷ []))) flag (suc r.next) ks) (reverse-push r.entries s)
       ∙ ap (λ bs. made (seen_all (s ∷ reverse r.entries) bs) flag (suc r.next) ks) (reverse-push r.live (is_linear kind))
 
-  pub shown-picked : (label : ℕ) (r : Raw C) → shown (raw_picked (mark_slot (length r.live) (first_place label (reverse r.entries))) r) ≡ after_pick label (shown r)
+  pub shown-picked : (label : ℕ) (r : Raw C) → shown (raw_picked (mark_slot (length r.live) (first_place label (reverse r.entries))) r)
+      ≡ after_pick label (shown r)
   shown-picked label r =
       let ks : List Saved = map (kept_marks r.marks) r.kept in
       ap (λ bs. made (seen_all (reverse r.entries) bs) r.flag r.next ks) (reverse-set r.live (first_place label (reverse r.entries)) false)
@@ -46,7 +52,8 @@ module _ {C : Type 0} where
 
   -- the newest entry, and the others
   shown-first : (r : Raw C) (d : Stored C) → 0 < length r.entries
-      → (shown r).entries ≡ seen (get_or r.entries (length r.entries - 1) d) (get_or (reverse r.live) 0 false) ∷ seen_all (reverse (front r.entries)) (reverse (front r.live))
+      → (shown r).entries ≡ seen (get_or r.entries (length r.entries - 1) d) (get_or (reverse r.live) 0 false)
+      ∷ seen_all (reverse (front r.entries)) (reverse (front r.live))
   shown-first r d l =
       let s : Stored C = get_or r.entries (length r.entries - 1) d in
       ap (λ ss. seen_all ss (reverse r.live)) (reverse-front r.entries d l)
@@ -58,7 +65,8 @@ module _ {C : Type 0} where
   some_item (x ∷ xs) l = x
 
   close_core : (saved : Bool) (e : Resource C) (es : List (Resource C)) (q : Resources C) (b : Bool) → (b && (e.live && not q.flag)) ≡ false
-      → option_map (with_front q) (settle_front ((if b then LolliEnd saved else ImpEnd) ∷ []) (e ∷ es) q.flag) ≡ Some (record q { entries = es; flag = if b then saved || q.flag else q.flag })
+      → option_map (with_front q) (settle_front ((if b then LolliEnd saved else ImpEnd) ∷ []) (e ∷ es) q.flag)
+      ≡ Some (record q { entries = es; flag = if b then saved || q.flag else q.flag })
   close_core saved e es q true h =
       let f : Front (Unit {0}) C = record { agenda = []; context = es; flag = saved || q.flag } in
       ap (λ t. option_map (with_front q) (if t then None else Some f)) h
@@ -74,7 +82,8 @@ module _ {C : Type 0} where
   newest-is : (r : Raw C) (d : Stored C) → 0 < length r.entries → newest_linear (reverse r.entries) ≡ is_linear (get_or r.entries (length r.entries - 1) d).kind
   newest-is r d l = ap (λ ss. newest_linear ss) (reverse-front r.entries d l)
 
-  pub shown-closed : (saved : Bool) (r new : Raw C) → 0 < length r.entries → Closes saved r new → settled (load_end saved (shown r).entries) (shown r) ≡ Some (shown new)
+  pub shown-closed : (saved : Bool) (r new : Raw C) → 0 < length r.entries → Closes saved r new
+      → settled (load_end saved (shown r).entries) (shown r) ≡ Some (shown new)
   shown-closed saved r new l c =
       let d = some_item r.entries l in
       let s : Stored C = get_or r.entries (length r.entries - 1) d in
@@ -114,7 +123,8 @@ module _ {C : Type 0} where
       ap (λ bs. let s : Saved = record { live = bs; flag = r.flag } in s)
       (marks-seen (reverse r.entries) (reverse r.live) ∙ ap (λ n. filled n (reverse r.live)) (length-reverse r.entries))
 
-  pub shown-kept : (live : List Bool) (r : Raw C) → HasWithin r → shown (raw_kept live r) ≡ record (after_save (shown r)) { entries = seen_all (reverse r.entries) (reverse live) }
+  pub shown-kept : (live : List Bool) (r : Raw C) → HasWithin r
+      → shown (raw_kept live r) ≡ record (after_save (shown r)) { entries = seen_all (reverse r.entries) (reverse live) }
   shown-kept live r w =
       let es : List (Resource C) = seen_all (reverse r.entries) (reverse live) in
       ap (λ ks. made es false r.next ks) (kept-more r.marks r.live r.kept (kept_now r) w refl refl)
@@ -145,7 +155,8 @@ module _ {C : Type 0} where
   later-same number r w l = block-behind r.marks r.live (kept_under number r) (within-under number r w l)
 
   -- its marks, as those of the entries
-  saved-live : (h : Handle) (r : Raw C) → HasWithin r → Fits h (shown r) → (saved_at (shown r).kept h).live ≡ filled (length (reverse r.entries)) (reverse (block_later h.number r))
+  saved-live : (h : Handle) (r : Raw C) → HasWithin r → Fits h (shown r)
+      → (saved_at (shown r).kept h).live ≡ filled (length (reverse r.entries)) (reverse (block_later h.number r))
   saved-live h r w f =
       let l = number-inside h r f in
       ap (λ (s : Saved). s.live) (saved-under h r l)
@@ -168,7 +179,8 @@ module _ {C : Type 0} where
   shown-bang-end h r w f =
       let ks : List Saved = map (kept_marks r.marks) r.kept in
       ap (λ es. Some (made es (saved_at ks h).flag r.next ks)) (given-back h r w f)
-      ∙ (ap (λ (s : Saved). Some (made (seen_all (reverse r.entries) (reverse (block_later h.number r))) s.flag r.next ks)) (saved-under h r (number-inside h r f))
+      ∙ (ap (λ (s : Saved). Some (made (seen_all (reverse r.entries) (reverse (block_later h.number r))) s.flag r.next ks))
+      (saved-under h r (number-inside h r f))
       ∙ ap (λ (t : Resources C). Some t) (sym (shown-remarked (block_later h.number r) (kept_under h.number r).flag r w)))
 
   pub shown-mid : (h : Handle) (r : Raw C) → HasWithin r → Fits h (shown r) → shown (raw_kept (block_later h.number r) r) ≡ after_with_mid h (shown r)
@@ -182,12 +194,14 @@ module _ {C : Type 0} where
   joined-as : (ok : Bool) (s h : Handle) (r : Raw C) → HasWithin r → Fits s (shown r) → Fits h (shown r) → Agrees h.number r ok
       → settled (with_end (shown r).kept s h) (shown r)
       ≡ option_map (with_front (shown r)) (end_with (settle_front []) (saved_at (shown r).kept s) (shown r).entries
-      (kept_if ok (both_live (filled (length r.entries) (reverse (block_under h.number r))) (filled (length r.entries) (reverse r.live))) ((kept_under h.number r).flag && r.flag)))
+      (kept_if ok (both_live (filled (length r.entries) (reverse (block_under h.number r))) (filled (length r.entries) (reverse r.live)))
+      ((kept_under h.number r).flag && r.flag)))
   joined-as ok s h r w fs fh a =
       let q = shown r in let n : ℕ = length r.entries in let k = kept_under h.number r in
       let go : Option Saved → Option (Resources C) = λ o. option_map (with_front q) (end_with (settle_front []) (saved_at q.kept s) q.entries o) in
       let first : saved_at q.kept h ≡ record { live = filled n (reverse (block_under h.number r)); flag = k.flag } =
-      saved-under h r (number-inside h r fh) ∙ ap (λ m. let x : Saved = record { live = filled m (reverse (block_under h.number r)); flag = k.flag } in x) (count-is h r fh) in
+      saved-under h r (number-inside h r fh) ∙ ap (λ m. let x : Saved = record { live = filled m (reverse (block_under h.number r)); flag = k.flag } in
+      x) (count-is h r fh) in
       ap (λ (x : Saved). go (join_by x.flag r.flag x.live (marks q.entries))) first
       ∙ (ap (λ (x : Saved). go (join_by k.flag r.flag (filled n (reverse (block_under h.number r))) x.live)) (saved-now r) ∙ ap go a)
 
@@ -197,7 +211,8 @@ module _ {C : Type 0} where
       let q = shown r in let ks : List Saved = map (kept_marks r.marks) r.kept in
       let v : Bool = (kept_under h.number r).flag && r.flag in
       let n : ℕ = length (reverse r.entries) in
-      let both : both_live (filled (length r.entries) (reverse (block_under h.number r))) (filled (length r.entries) (reverse r.live)) ≡ filled n (reverse new.live) =
+      let both : both_live (filled (length r.entries) (reverse (block_under h.number r))) (filled (length r.entries) (reverse r.live))
+      ≡ filled n (reverse new.live) =
       ap (λ m. both_live (filled m (reverse (block_under h.number r))) (filled m (reverse r.live))) (sym (length-reverse r.entries))
       ∙ (ap (λ bs. both_live (filled n (reverse bs)) (filled n (reverse r.live))) (sym (later-same h.number r w (number-inside h r fh))) ∙ sym (j.both n)) in
       joined-as true s h r w fs fh a
@@ -219,7 +234,8 @@ module _ {C : Type 0} where
   pub last-saved : (q s : Resources C) (x : Saved) → s.kept ≡ q.kept ++ x ∷ [] → saved_at s.kept (saved_as (length q.kept)) ≡ x
   last-saved q s x e = ap (λ ks. saved_at ks (saved_as (length q.kept))) e ∙ get_or_push q.kept x _ (length q.kept) refl
 
-  pub settles-mid : (h : Handle) (q s : Resources C) → s ≡ after_with_mid h q → SettlesMiddle (saved_at q.kept h) (saved_at s.kept (saved_as (length q.kept))) q s
+  pub settles-mid : (h : Handle) (q s : Resources C) → s ≡ after_with_mid h q
+      → SettlesMiddle (saved_at q.kept h) (saved_at s.kept (saved_as (length q.kept))) q s
   settles-mid h q s e =
       let saved = saved_at q.kept h in
       let mid : Saved → List (Resource C) → Bool → Option (Front (Unit {0}) C) =

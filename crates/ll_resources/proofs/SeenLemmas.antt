@@ -1,8 +1,10 @@
 -- Lists from their end, and entries with their live marks.
-use Rattle.std.proofs.Common.{◌≡◌, ℕ, zero, suc, ◌+◌, ◌-◌, ◌<◌, ◌≤◌, Bool, true, false, nat_eq, List, [], ◌∷◌, ◌++◌, length, map, get_or, take, drop, set, refl, ap, sym, ◌∙◌, inl, inr, arith, length-append}
+use Rattle.std.proofs.Common.{◌≡◌, ℕ, zero, suc, ◌+◌, ◌-◌, ◌<◌, ◌≤◌, Bool, true, false, nat_eq, List, [], ◌∷◌, ◌++◌, length, map, get_or, take, drop, set}
+use Rattle.std.proofs.Common.{refl, ap, sym, ◌∙◌, inl, inr, arith, length-append}
 use Rattle.std.specs.Prelude.{reverse, nat_lt, if◌then◌else◌, slice_get, Some}
 use Rattle.std.proofs.lemmas.Bool.{cases_eq, ltb-true, ltb-false, eqb-true, eq-eqb}
-use Rattle.std.proofs.lemmas.List.{reverse-append, length-reverse, get_or-reverse, take_more, take_all, same_lists, length-set, get_or-set_same, get_or-set_other, set_past, drop_more, drop_all}
+use Rattle.std.proofs.lemmas.List.{reverse-append, length-reverse, get_or-reverse, take_more, take_all, same_lists, length-set, get_or-set_same}
+use Rattle.std.proofs.lemmas.List.{get_or-set_other, set_past, drop_more, drop_all}
 use Rattle.std.proofs.Math.Seq.{take-append_seam}
 use Rattle.ll_laws.specs.Settle.{Entry as Resource, marks, remark, unlive}
 use Rattle.ll_laws.specs.declared.Kind.{Kind}
@@ -166,8 +168,10 @@ module _ {C : Type 0} where
   pub started-more : (cs : List (Kind × C)) (rs : List (Resource C)) (at : ℕ) (c : Kind × C) → at < length cs → c ≡ get_or cs at c
       → rs ≡ seen (stored at c.0 c.1) (is_linear c.0) ∷ entries_from (at + 1) (drop (at + 1) cs) → rs ≡ entries_from at (drop at cs)
   started-more cs rs at c l e h =
-      let first : entries_from at (get_or cs at c ∷ drop (at + 1) cs) ≡ entries_from at (c ∷ drop (at + 1) cs) = ap (λ x. entries_from at (x ∷ drop (at + 1) cs)) (sym e) in
-      let next : entries_from (suc at) (drop (at + 1) cs) ≡ entries_from (at + 1) (drop (at + 1) cs) = ap (λ n. entries_from n (drop (at + 1) cs)) (let q : suc at ≡ at + 1 = omega arith in q) in
+      let first : entries_from at (get_or cs at c ∷ drop (at + 1) cs) ≡ entries_from at (c ∷ drop (at + 1) cs) =
+      ap (λ x. entries_from at (x ∷ drop (at + 1) cs)) (sym e) in
+      let next : entries_from (suc at) (drop (at + 1) cs) ≡ entries_from (at + 1) (drop (at + 1) cs) =
+      ap (λ n. entries_from n (drop (at + 1) cs)) (let q : suc at ≡ at + 1 = omega arith in q) in
       h
       ∙ (ap (λ ys. seen (stored at c.0 c.1) (is_linear c.0) ∷ ys) (sym next)
       ∙ (sym first ∙ ap (λ ds. entries_from at ds) (sym (drop_more cs at c l))))
@@ -193,5 +197,6 @@ module _ {C : Type 0} where
       omega (arith, h, k)
 
   -- or none
-  pub place-none : (label : ℕ) (ss : List (Stored C)) (i : ℕ) → length ss ≤ i → first_place label ss ≡ i + first_place label (drop i ss) → i ≡ first_place label ss
+  pub place-none : (label : ℕ) (ss : List (Stored C)) (i : ℕ) → length ss ≤ i → first_place label ss ≡ i + first_place label (drop i ss)
+      → i ≡ first_place label ss
   place-none label ss i l h = let k : first_place label (drop i ss) ≡ 0 = ap (first_place label) (drop_all i ss l) in omega (arith, h, k)

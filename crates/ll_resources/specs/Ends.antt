@@ -23,7 +23,8 @@ settled_after rest (Some r) = settle_front rest r.entries r.flag
 
 -- an agenda that begins with an end is settled by working off this end, which looks at no goal, and then settling the rest
 abbrev pub EndsSettle : Type 0 → Type 0 → Type 0
-EndsSettle G C = (i : Item G) (rest : List (Item G)) (r : Resources C) → is_end i ≡ true → settle_front (i ∷ rest) r.entries r.flag ≡ settled_after rest (settled (as_end i) r)
+EndsSettle G C = (i : Item G) (rest : List (Item G)) (r : Resources C) → is_end i ≡ true
+    → settle_front (i ∷ rest) r.entries r.flag ≡ settled_after rest (settled (as_end i) r)
 
 -- an agenda that begins with the middle of a `&` is settled by what its second side gets, which looks at no goal
 abbrev pub MiddlesSettle : Type 0 → Type 0 → Type 0

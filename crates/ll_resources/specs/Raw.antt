@@ -1,5 +1,6 @@
 -- A context as it is stored, and what each call makes of it.
-use Rattle.std.specs.Prelude.{◌≡◌, ℕ, suc, ◌+◌, ◌-◌, ◌≤◌, Bool, false, ◌||◌, ◌&&◌, not, nat_lt, nat_eq, List, [], ◌∷◌, ◌++◌, length, map, reverse, take, All, slice_set, slice_index_or, if◌then◌else◌}
+use Rattle.std.specs.Prelude.{◌≡◌, ℕ, suc, ◌+◌, ◌-◌, ◌≤◌, Bool, false, ◌||◌, ◌&&◌, not, nat_lt, nat_eq, List, [], ◌∷◌, ◌++◌, length, map, reverse, take, All}
+use Rattle.std.specs.Prelude.{slice_set, slice_index_or, if◌then◌else◌}
 use Rattle.std.specs.Vec.{vec_capacity}
 use Rattle.ll_laws.specs.declared.Kind.{Kind}
 use Rattle.ll_laws.specs.Attempt.{is_linear}

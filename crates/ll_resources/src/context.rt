@@ -1,6 +1,7 @@
 //! Contexts, and what each call makes of one.
 ghost use Rattle.std.specs.Prelude.{◌≡◌, ◌<◌, ◌≤◌, ◌^◌, Some, length, slice_get, IfOk, OnOk, OnErr};
-ghost use Rattle.ll_resources.specs.Resources.{saved_as, saved_at, saved_now, KeepsSaved, SettlesMiddle, started, after_load, CanPick, after_pick, after_erase, load_end, after_save, after_bang, Fits, settled, bang_end, after_with_mid, with_end};
+ghost use Rattle.ll_resources.specs.Resources.{saved_as, saved_at, saved_now, KeepsSaved, SettlesMiddle, started, after_load, CanPick, after_pick};
+ghost use Rattle.ll_resources.specs.Resources.{after_erase, load_end, after_save, after_bang, Fits, settled, bang_end, after_with_mid, with_end};
 ghost use Rattle.ll_resources.specs.History.{begun, HasMark, state_at, KeepsMarks, KeepsMarksTo, IsLastMark, Settles};
 ghost use Rattle.ll_resources.specs.Places.{label_place};
 ghost use Rattle.ll_resources.specs.Seen.{resource};

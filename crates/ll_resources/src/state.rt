@@ -4,7 +4,8 @@ ghost use Rattle.std.specs.Vec.{vec_capacity};
 ghost use Rattle.ll_laws.specs.Attempt.{is_linear};
 ghost use Rattle.ll_resources.specs.Resources.{started};
 ghost use Rattle.ll_resources.specs.Seen.{resource};
-ghost use Rattle.ll_resources.specs.Raw.{raw, shown, raw_loaded, mark_slot, raw_picked, end_fails, Closes, raw_kept, raw_remarked, kept_under, block_later, Agrees, Joins, first_place, IsSound, HasNoLess};
+ghost use Rattle.ll_resources.specs.Raw.{raw, shown, raw_loaded, mark_slot, raw_picked, end_fails, Closes, raw_kept, raw_remarked, kept_under, block_later};
+ghost use Rattle.ll_resources.specs.Raw.{Agrees, Joins, first_place, IsSound, HasNoLess};
 ghost use Rattle.ll_resources.specs.Changes.{taken_back, before, without_last, AreSound, Leads};
 
 use crate::Entry;

@@ -23,18 +23,30 @@ levelled-int nodes n at z s = record { inside = s.inside; vars = subst (λ u. va
 vars-apply : (n : ℕ) (f : Term) (ts : List Term) → vars_below n f ≡ true → list_all (vars_below n) ts ≡ true → vars_below n (apply f ts) ≡ true
 vars-apply n f [] h k = h
 vars-apply n f (u ∷ ts) h k =
-    vars-apply n (Ap f u) ts (and_from (vars_below n f) (vars_below n u) h (and_left (vars_below n u) (list_all (vars_below n) ts) k)) (and_right (vars_below n u) (list_all (vars_below n) ts) k)
+    vars-apply n (Ap f u) ts (and_from (vars_below n f) (vars_below n u) h (and_left (vars_below n u) (list_all (vars_below n) ts) k))
+    (and_right (vars_below n u) (list_all (vars_below n) ts) k)
 
 pub all-levelled : (nodes : Nodes) (n : ℕ) (ats : List At) → AreLevelled nodes n ats → list_all (vars_below n) (term_trees nodes ats) ≡ true
 all-levelled nodes n [] h = refl
 all-levelled nodes n (a ∷ ats) h =
-    and_from (vars_below n (term_tree nodes a.0)) (list_all (vars_below n) (term_trees nodes ats)) (All-head (λ (b : At). IsLevelled nodes n b.0) a ats h).vars (all-levelled nodes n ats (All-tail (λ (b : At). IsLevelled nodes n b.0) a ats h))
+    and_from (vars_below n (term_tree nodes a.0)) (list_all (vars_below n) (term_trees nodes ats)) (All-head (λ (b : At). IsLevelled nodes n b.0) a ats h).vars
+    (all-levelled nodes n ats (All-tail (λ (b : At). IsLevelled nodes n b.0) a ats h))
 
 pub all-inside : (nodes : Nodes) (n : ℕ) (ats : List At) → AreLevelled nodes n ats → AllInTerms nodes ats
 all-inside nodes n ats h k d l = (h k d l).inside
 
-pub levelled-app : (old new : Nodes) (n at : ℕ) (h : Head) (args : List At) → AreLevelled old n args → ShowsTerm new at (app h (term_trees old args)) → IsLevelled new n at
-levelled-app old new n at h args a s = record { inside = s.inside; vars = subst (λ u. vars_below n u ≡ true) (sym s.tree) (vars-apply n (Con h) (term_trees old args) refl (all-levelled old n args a)) }
+pub levelled-app : (old new : Nodes) (n at : ℕ) (h : Head) (args : List At) → AreLevelled old n args → ShowsTerm new at (app h (term_trees old args))
+    → IsLevelled new n at
+levelled-app old new n at h args a s = record {
+  inside = s.inside;
+  vars =
+      subst (λ u. vars_below n u ≡ true) (sym s.tree) (vars-apply n (Con h) (term_trees old args) refl (all-levelled old n args a));
+}
 
 pub levelled-extends : (old new : Nodes) (n : ℕ) (ats : List At) → Extends old new → AreLevelled old n ats → AreLevelled new n ats
-levelled-extends old new n ats e h k d l = let p = h k d l in record { inside = HasTerm-extends e (get_or ats k d).0 p.inside; vars = subst (λ u. vars_below n u ≡ true) (sym (term_tree-extends e (get_or ats k d).0 p.inside)) p.vars }
+levelled-extends old new n ats e h k d l = let p = h k d l in
+    record {
+      inside = HasTerm-extends e (get_or ats k d).0 p.inside;
+      vars =
+          subst (λ u. vars_below n u ≡ true) (sym (term_tree-extends e (get_or ats k d).0 p.inside)) p.vars;
+    }

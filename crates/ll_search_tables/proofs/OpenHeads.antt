@@ -5,7 +5,8 @@ use Rattle.std.specs.List.{list_all}
 use Rattle.std.proofs.lemmas.Bool.{and_parts, and_from}
 use Rattle.ll_bank.specs.declared.Head.TheVariants.{Name, Eigen, Bound}
 use Rattle.ll_bank.specs.Term.{Term, Var, Int, Con, Ap, place, close, is_spine, applies_heads}
-use Rattle.ll_bank.specs.Form.{Form, Top, One, Atom, With, Tensor, Plus, Bang, Lolli, Imp, Forall, Exists, Use, Num, close_form, instantiate, form_applies_heads}
+use Rattle.ll_bank.specs.Form.{Form, Top, One, Atom, With, Tensor, Plus, Bang, Lolli, Imp, Forall, Exists, Use, Num, close_form, instantiate}
+use Rattle.ll_bank.specs.Form.{form_applies_heads}
 use Rattle.ll_bank.specs.Opened.{opened}
 
 module _ (t : Term) (spine : is_spine t ≡ true) (heads : applies_heads t ≡ true) where
@@ -55,9 +56,11 @@ module _ (t : Term) (spine : is_spine t ≡ true) (heads : applies_heads t ≡ t
   open_heads n (Imp f g) h = let p = and_parts (form_applies_heads f) (form_applies_heads g) h in and_from _ _ (open_heads n f p.0) (open_heads n g p.1)
   open_heads n (Forall f) h = open_heads (suc n) f h
   open_heads n (Exists f) h = open_heads (suc n) f h
-  open_heads n (Use m ts f) h = let p = and_parts (list_all applies_heads ts) (form_applies_heads f) h in and_from _ _ (close_each n ts p.0) (open_heads n f p.1)
+  open_heads n (Use m ts f) h = let p = and_parts (list_all applies_heads ts) (form_applies_heads f) h in
+      and_from _ _ (close_each n ts p.0) (open_heads n f p.1)
   open_heads n (Num r a b) h = let p = and_parts (applies_heads a) (applies_heads b) h in and_from _ _ (close_heads n a p.0) (close_heads n b p.1)
 
 -- so a body that nothing but heads has arguments in may be opened with a head and its arguments
-pub opens_with_head : (f : Form) (t : Term) → form_applies_heads f ≡ true → is_spine t ≡ true → applies_heads t ≡ true → form_applies_heads (instantiate f t) ≡ true
+pub opens_with_head : (f : Form) (t : Term) → form_applies_heads f ≡ true → is_spine t ≡ true → applies_heads t ≡ true
+    → form_applies_heads (instantiate f t) ≡ true
 opens_with_head f t h s a = open_heads t s a 0 f h

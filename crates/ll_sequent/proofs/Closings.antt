@@ -6,7 +6,8 @@ use Rattle.std.proofs.lemmas.Bool.{and_from, and_parts, ltb-true, lt-ltb}
 use Rattle.std.proofs.lemmas.List.{length-map}
 use Rattle.ll_bank.specs.declared.Head.TheVariants.{Name, Eigen, Bound}
 use Rattle.ll_bank.specs.Term.{Term, Var, Int, Con, Ap, Env, place, close, head_of, is_spine, is_closed}
-use Rattle.ll_bank.specs.Form.{Form, Top, One, Atom, With, Tensor, Plus, Bang, Lolli, Imp, Forall, Exists, Use, Num, close_form, instantiate, form_applies_heads}
+use Rattle.ll_bank.specs.Form.{Form, Top, One, Atom, With, Tensor, Plus, Bang, Lolli, Imp, Forall, Exists, Use, Num, close_form, instantiate}
+use Rattle.ll_bank.specs.Form.{form_applies_heads}
 use Rattle.ll_laws.specs.Module.{ModuleTree}
 use Rattle.ll_laws.specs.Valid.{Side, GoalSide, ClauseSide, Scope, places_below, each_term, may_head, is_headed, is_atom, has_heads, fits_module, loads_fit}
 use Rattle.ll_laws.proofs.CallerLemmas.{fits_module-length, head_of_closed, headed_applies, all_headed}
@@ -50,7 +51,8 @@ module _ {e : Env} {inner outer : Scope} (b : Bool) (h : Puts e inner outer) whe
   under_spines zero round m = refl
   under_spines (suc k) round m = let P : ℕ → Type 0 = λ n. is_spine (place e k n) ≡ true in subst P (one_more round b) (h.spines k (round ++ b ∷ []) m)
 
-  under_may : (k : ℕ) (round : Scope) → may_head (b ∷ inner) (Some (Bound k)) ≡ true → may_head (round ++ b ∷ outer) (head_of (place (None ∷ e) k (length round))) ≡ true
+  under_may : (k : ℕ) (round : Scope) → may_head (b ∷ inner) (Some (Bound k)) ≡ true
+      → may_head (round ++ b ∷ outer) (head_of (place (None ∷ e) k (length round))) ≡ true
   under_may zero round m = at_length round b outer ∙ m
   under_may (suc k) round m =
       let P : ℕ → Type 0 = λ n. may_head ((round ++ b ∷ []) ++ outer) (head_of (place e k n)) ≡ true in
@@ -69,7 +71,8 @@ module _ {e : Env} {inner outer : Scope} (b : Bool) (h : Puts e inner outer) whe
 
 -- ---- terms
 
-term_free : {e : Env} {inner outer : Scope} → Puts e inner outer → (u : Term) → places_below (length inner) u ≡ true → places_below (length outer) (close e u) ≡ true
+term_free : {e : Env} {inner outer : Scope} → Puts e inner outer → (u : Term) → places_below (length inner) u ≡ true
+    → places_below (length outer) (close e u) ≡ true
 term_free h (Var x) p = refl
 term_free h (Int z) p = refl
 term_free h (Con (Name k)) p = refl
@@ -87,7 +90,8 @@ terms_free h [] p = refl
 terms_free {e} {inner} {outer} h (u ∷ us) p =
     let q = and_parts (places_below (length inner) u) (list_all (places_below (length inner)) us) p in and_from _ _ (term_free h u q.0) (terms_free h us q.1)
 
-spine_after : {e : Env} {inner outer : Scope} → Puts e inner outer → (u : Term) → is_spine u ≡ true → may_head inner (head_of u) ≡ true → is_spine (close e u) ≡ true
+spine_after : {e : Env} {inner outer : Scope} → Puts e inner outer → (u : Term) → is_spine u ≡ true → may_head inner (head_of u) ≡ true
+    → is_spine (close e u) ≡ true
 spine_after h (Var x) s m = s
 spine_after h (Int z) s m = s
 spine_after h (Con (Name k)) s m = refl
@@ -95,7 +99,8 @@ spine_after h (Con (Eigen k)) s m = refl
 spine_after h (Con (Bound k)) s m = h.spines k [] m
 spine_after h (Ap f a) s m = spine_after h f s m
 
-may_after : {e : Env} {inner outer : Scope} → Puts e inner outer → (u : Term) → is_spine u ≡ true → may_head inner (head_of u) ≡ true → may_head outer (head_of (close e u)) ≡ true
+may_after : {e : Env} {inner outer : Scope} → Puts e inner outer → (u : Term) → is_spine u ≡ true → may_head inner (head_of u) ≡ true
+    → may_head outer (head_of (close e u)) ≡ true
 may_after h (Var x) s m = refl
 may_after h (Int z) s m = refl
 may_after h (Con (Name k)) s m = refl
@@ -115,9 +120,11 @@ term_headed {e} {inner} {outer} h (Ap f a) p =
     let s = and_parts (is_spine f) (may_head inner (head_of f)) r.0 in
     and_from _ _ (and_from _ _ (and_from _ _ (spine_after h f s.0 s.1) (may_after h f s.0 s.1)) (term_headed h f r.1)) (term_headed h a q.1)
 
-terms_headed : {e : Env} {inner outer : Scope} → Puts e inner outer → (us : List Term) → list_all (is_headed inner) us ≡ true → list_all (is_headed outer) (map (close e) us) ≡ true
+terms_headed : {e : Env} {inner outer : Scope} → Puts e inner outer → (us : List Term) → list_all (is_headed inner) us ≡ true
+    → list_all (is_headed outer) (map (close e) us) ≡ true
 terms_headed h [] p = refl
-terms_headed {e} {inner} {outer} h (u ∷ us) p = let q = and_parts (is_headed inner u) (list_all (is_headed inner) us) p in and_from _ _ (term_headed h u q.0) (terms_headed h us q.1)
+terms_headed {e} {inner} {outer} h (u ∷ us) p = let q = and_parts (is_headed inner u) (list_all (is_headed inner) us) p in
+    and_from _ _ (term_headed h u q.0) (terms_headed h us q.1)
 
 atom_after : {e : Env} {inner outer : Scope} → Puts e inner outer → (u : Term) → is_atom inner u ≡ true → is_atom outer (close e u) ≡ true
 atom_after {e} {inner} {outer} h u p =
@@ -130,37 +137,51 @@ atom_after {e} {inner} {outer} h u p =
 pub both_free : {a b : Bool} (c d : Bool) → (c ≡ true → a ≡ true) → (d ≡ true → b ≡ true) → c && d ≡ true → a && b ≡ true
 both_free c d f g p = let q = and_parts c d p in and_from _ _ (f q.0) (g q.1)
 
-form_free : {e : Env} {inner outer : Scope} → Puts e inner outer → (f : Form) → each_term places_below (length inner) f ≡ true → each_term places_below (length outer) (close_form e f) ≡ true
+form_free : {e : Env} {inner outer : Scope} → Puts e inner outer → (f : Form) → each_term places_below (length inner) f ≡ true
+    → each_term places_below (length outer) (close_form e f) ≡ true
 form_free h Top p = refl
 form_free h One p = refl
 form_free h (Atom a) p = term_free h a p
-form_free {e} {inner} h (With f g) p = both_free (each_term places_below (length inner) f) (each_term places_below (length inner) g) (form_free h f) (form_free h g) p
-form_free {e} {inner} h (Tensor f g) p = both_free (each_term places_below (length inner) f) (each_term places_below (length inner) g) (form_free h f) (form_free h g) p
-form_free {e} {inner} h (Plus f g) p = both_free (each_term places_below (length inner) f) (each_term places_below (length inner) g) (form_free h f) (form_free h g) p
+form_free {e} {inner} h (With f g) p = both_free (each_term places_below (length inner) f) (each_term places_below (length inner) g) (form_free h f)
+    (form_free h g) p
+form_free {e} {inner} h (Tensor f g) p = both_free (each_term places_below (length inner) f) (each_term places_below (length inner) g) (form_free h f)
+    (form_free h g) p
+form_free {e} {inner} h (Plus f g) p = both_free (each_term places_below (length inner) f) (each_term places_below (length inner) g) (form_free h f)
+    (form_free h g) p
 form_free h (Bang f) p = form_free h f p
-form_free {e} {inner} h (Lolli f g) p = both_free (each_term places_below (length inner) f) (each_term places_below (length inner) g) (form_free h f) (form_free h g) p
-form_free {e} {inner} h (Imp f g) p = both_free (each_term places_below (length inner) f) (each_term places_below (length inner) g) (form_free h f) (form_free h g) p
+form_free {e} {inner} h (Lolli f g) p = both_free (each_term places_below (length inner) f) (each_term places_below (length inner) g) (form_free h f)
+    (form_free h g) p
+form_free {e} {inner} h (Imp f g) p = both_free (each_term places_below (length inner) f) (each_term places_below (length inner) g) (form_free h f)
+    (form_free h g) p
 form_free h (Forall f) p = form_free (under false h) f p
 form_free h (Exists f) p = form_free (under false h) f p
-form_free {e} {inner} h (Use m ts f) p = both_free (list_all (places_below (length inner)) ts) (each_term places_below (length inner) f) (terms_free h ts) (form_free h f) p
+form_free {e} {inner} h (Use m ts f) p = both_free (list_all (places_below (length inner)) ts) (each_term places_below (length inner) f) (terms_free h ts)
+    (form_free h f) p
 form_free {e} {inner} h (Num r t u) p = both_free (places_below (length inner) t) (places_below (length inner) u) (term_free h t) (term_free h u) p
 
-pub form_heads : {e : Env} {inner outer : Scope} → Puts e inner outer → (side : Side) (f : Form) → has_heads true side inner f ≡ true → has_heads true side outer (close_form e f) ≡ true
+pub form_heads : {e : Env} {inner outer : Scope} → Puts e inner outer → (side : Side) (f : Form) → has_heads true side inner f ≡ true
+    → has_heads true side outer (close_form e f) ≡ true
 form_heads h side Top p = refl
 form_heads h side One p = refl
 form_heads h side (Atom a) p = atom_after h a p
 form_heads {e} {inner} h side (With f g) p = both_free (has_heads true side inner f) (has_heads true side inner g) (form_heads h side f) (form_heads h side g) p
-form_heads {e} {inner} h side (Tensor f g) p = both_free (has_heads true side inner f) (has_heads true side inner g) (form_heads h side f) (form_heads h side g) p
+form_heads {e} {inner} h side (Tensor f g) p = both_free (has_heads true side inner f) (has_heads true side inner g) (form_heads h side f) (form_heads h side g)
+    p
 form_heads {e} {inner} h side (Plus f g) p = both_free (has_heads true side inner f) (has_heads true side inner g) (form_heads h side f) (form_heads h side g) p
 form_heads h side (Bang f) p = form_heads h side f p
-form_heads {e} {inner} h GoalSide (Lolli f g) p = both_free (has_heads true ClauseSide inner f) (has_heads true GoalSide inner g) (form_heads h ClauseSide f) (form_heads h GoalSide g) p
-form_heads {e} {inner} h ClauseSide (Lolli f g) p = both_free (has_heads true GoalSide inner f) (has_heads true ClauseSide inner g) (form_heads h GoalSide f) (form_heads h ClauseSide g) p
-form_heads {e} {inner} h GoalSide (Imp f g) p = both_free (has_heads true ClauseSide inner f) (has_heads true GoalSide inner g) (form_heads h ClauseSide f) (form_heads h GoalSide g) p
-form_heads {e} {inner} h ClauseSide (Imp f g) p = both_free (has_heads true GoalSide inner f) (has_heads true ClauseSide inner g) (form_heads h GoalSide f) (form_heads h ClauseSide g) p
+form_heads {e} {inner} h GoalSide (Lolli f g) p = both_free (has_heads true ClauseSide inner f) (has_heads true GoalSide inner g) (form_heads h ClauseSide f)
+    (form_heads h GoalSide g) p
+form_heads {e} {inner} h ClauseSide (Lolli f g) p = both_free (has_heads true GoalSide inner f) (has_heads true ClauseSide inner g) (form_heads h GoalSide f)
+    (form_heads h ClauseSide g) p
+form_heads {e} {inner} h GoalSide (Imp f g) p = both_free (has_heads true ClauseSide inner f) (has_heads true GoalSide inner g) (form_heads h ClauseSide f)
+    (form_heads h GoalSide g) p
+form_heads {e} {inner} h ClauseSide (Imp f g) p = both_free (has_heads true GoalSide inner f) (has_heads true ClauseSide inner g) (form_heads h GoalSide f)
+    (form_heads h ClauseSide g) p
 form_heads h GoalSide (Forall f) p = form_heads (under true h) GoalSide f p
 form_heads h ClauseSide (Forall f) p = form_heads (under false h) ClauseSide f p
 form_heads h side (Exists f) p = form_heads (under false h) side f p
-form_heads {e} {inner} h side (Use m ts f) p = both_free (list_all (is_headed inner) ts) (has_heads true side inner f) (terms_headed h ts) (form_heads h side f) p
+form_heads {e} {inner} h side (Use m ts f) p = both_free (list_all (is_headed inner) ts) (has_heads true side inner f) (terms_headed h ts) (form_heads h side f)
+    p
 form_heads {e} {inner} h side (Num r t u) p = both_free (is_headed inner t) (is_headed inner u) (term_headed h t) (term_headed h u) p
 
 form_loads : (modules : List ModuleTree) (e : Env) (f : Form) → loads_fit modules f ≡ true → loads_fit modules (close_form e f) ≡ true
@@ -176,10 +197,12 @@ form_loads modules e (Imp f g) p = both_free (loads_fit modules f) (loads_fit mo
 form_loads modules e (Forall f) p = form_loads modules (None ∷ e) f p
 form_loads modules e (Exists f) p = form_loads modules (None ∷ e) f p
 form_loads modules e (Use m ts f) p =
-    both_free (fits_module (slice_get modules m) ts) (loads_fit modules f) (fits_module-length (slice_get modules m) ts (map (close e) ts) (length-map ts (close e))) (form_loads modules e f) p
+    both_free (fits_module (slice_get modules m) ts) (loads_fit modules f)
+    (fits_module-length (slice_get modules m) ts (map (close e) ts) (length-map ts (close e))) (form_loads modules e f) p
 form_loads modules e (Num r t u) p = refl
 
-pub sound-close : {e : Env} {inner outer : Scope} → Puts e inner outer → (modules : List ModuleTree) (side : Side) (f : Form) → IsSound modules side inner f → IsSound modules side outer (close_form e f)
+pub sound-close : {e : Env} {inner outer : Scope} → Puts e inner outer → (modules : List ModuleTree) (side : Side) (f : Form) → IsSound modules side inner f
+    → IsSound modules side outer (close_form e f)
 sound-close {e} h modules side f s = record { closed = form_free h f s.closed; heads = form_heads h side f s.heads; loads = form_loads modules e f s.loads }
 
 -- ---- a term for a place that is no head, and an eigenconstant for one that may be
@@ -191,7 +214,8 @@ closed_free n (Con (Name k)) c = refl
 closed_free n (Con (Eigen k)) c = refl
 closed_free n (Con (Bound k)) c = cc
 closed_free n (Ap f a) c =
-    let p = and_parts (is_spine f && is_closed f) (is_closed a) c in let q = and_parts (is_spine f) (is_closed f) p.0 in and_from _ _ (closed_free n f q.1) (closed_free n a p.1)
+    let p = and_parts (is_spine f && is_closed f) (is_closed a) c in let q = and_parts (is_spine f) (is_closed f) p.0 in
+    and_from _ _ (closed_free n f q.1) (closed_free n a p.1)
 
 pub closed_headed : (scope : Scope) (t : Term) → is_closed t ≡ true → is_headed scope t ≡ true
 closed_headed scope (Var x) c = refl
@@ -230,25 +254,35 @@ pub heads_apply : (side : Side) (scope : Scope) (f : Form) → has_heads true si
 heads_apply side scope Top p = refl
 heads_apply side scope One p = refl
 heads_apply side scope (Atom a) p = headed_applies scope a (and_parts (is_spine a && may_head scope (head_of a)) (is_headed scope a) p).1
-heads_apply side scope (With f g) p = both_free (has_heads true side scope f) (has_heads true side scope g) (heads_apply side scope f) (heads_apply side scope g) p
-heads_apply side scope (Tensor f g) p = both_free (has_heads true side scope f) (has_heads true side scope g) (heads_apply side scope f) (heads_apply side scope g) p
-heads_apply side scope (Plus f g) p = both_free (has_heads true side scope f) (has_heads true side scope g) (heads_apply side scope f) (heads_apply side scope g) p
+heads_apply side scope (With f g) p = both_free (has_heads true side scope f) (has_heads true side scope g) (heads_apply side scope f)
+    (heads_apply side scope g) p
+heads_apply side scope (Tensor f g) p = both_free (has_heads true side scope f) (has_heads true side scope g) (heads_apply side scope f)
+    (heads_apply side scope g) p
+heads_apply side scope (Plus f g) p = both_free (has_heads true side scope f) (has_heads true side scope g) (heads_apply side scope f)
+    (heads_apply side scope g) p
 heads_apply side scope (Bang f) p = heads_apply side scope f p
-heads_apply GoalSide scope (Lolli f g) p = both_free (has_heads true ClauseSide scope f) (has_heads true GoalSide scope g) (heads_apply ClauseSide scope f) (heads_apply GoalSide scope g) p
-heads_apply ClauseSide scope (Lolli f g) p = both_free (has_heads true GoalSide scope f) (has_heads true ClauseSide scope g) (heads_apply GoalSide scope f) (heads_apply ClauseSide scope g) p
-heads_apply GoalSide scope (Imp f g) p = both_free (has_heads true ClauseSide scope f) (has_heads true GoalSide scope g) (heads_apply ClauseSide scope f) (heads_apply GoalSide scope g) p
-heads_apply ClauseSide scope (Imp f g) p = both_free (has_heads true GoalSide scope f) (has_heads true ClauseSide scope g) (heads_apply GoalSide scope f) (heads_apply ClauseSide scope g) p
+heads_apply GoalSide scope (Lolli f g) p = both_free (has_heads true ClauseSide scope f) (has_heads true GoalSide scope g) (heads_apply ClauseSide scope f)
+    (heads_apply GoalSide scope g) p
+heads_apply ClauseSide scope (Lolli f g) p = both_free (has_heads true GoalSide scope f) (has_heads true ClauseSide scope g) (heads_apply GoalSide scope f)
+    (heads_apply ClauseSide scope g) p
+heads_apply GoalSide scope (Imp f g) p = both_free (has_heads true ClauseSide scope f) (has_heads true GoalSide scope g) (heads_apply ClauseSide scope f)
+    (heads_apply GoalSide scope g) p
+heads_apply ClauseSide scope (Imp f g) p = both_free (has_heads true GoalSide scope f) (has_heads true ClauseSide scope g) (heads_apply GoalSide scope f)
+    (heads_apply ClauseSide scope g) p
 heads_apply GoalSide scope (Forall f) p = heads_apply GoalSide (true ∷ scope) f p
 heads_apply ClauseSide scope (Forall f) p = heads_apply ClauseSide (false ∷ scope) f p
 heads_apply side scope (Exists f) p = heads_apply side (false ∷ scope) f p
-heads_apply side scope (Use m ts f) p = both_free (list_all (is_headed scope) ts) (has_heads true side scope f) (all_headed scope ts) (heads_apply side scope f) p
+heads_apply side scope (Use m ts f) p = both_free (list_all (is_headed scope) ts) (has_heads true side scope f) (all_headed scope ts) (heads_apply side scope f)
+    p
 heads_apply side scope (Num r t u) p = both_free (is_headed scope t) (is_headed scope u) (headed_applies scope t) (headed_applies scope u) p
 
 -- the body of a quantifier with a closed term in place of what it binds
-pub sound-instantiate : (modules : List ModuleTree) (side : Side) (b : Bool) (f : Form) (t : Term) → is_closed t ≡ true → (b ≡ true → is_spine t ≡ true) → IsSound modules side (b ∷ []) f
+pub sound-instantiate : (modules : List ModuleTree) (side : Side) (b : Bool) (f : Form) (t : Term) → is_closed t ≡ true → (b ≡ true → is_spine t ≡ true)
+    → IsSound modules side (b ∷ []) f
     → IsSound modules side [] (instantiate f t)
 sound-instantiate modules side b f t c s h = sound-close (puts_term t b c s) modules side f h
 
-pub heads-instantiate : (side : Side) (b : Bool) (f : Form) (t : Term) → is_closed t ≡ true → (b ≡ true → is_spine t ≡ true) → has_heads true side (b ∷ []) f ≡ true
+pub heads-instantiate : (side : Side) (b : Bool) (f : Form) (t : Term) → is_closed t ≡ true → (b ≡ true → is_spine t ≡ true)
+    → has_heads true side (b ∷ []) f ≡ true
     → form_applies_heads (instantiate f t) ≡ true
 heads-instantiate side b f t c s h = heads_apply side [] (instantiate f t) (form_heads (puts_term t b c s) side f h)

@@ -30,7 +30,8 @@ eigen_behind c bank h args e =
 
 -- ---- places among others
 
-each_free : (c : ℕ) (bank : Nodes) (args : List At) (k : ℕ) → is_in c bank args ≡ false → list_any (eqb k) (places args) ≡ true → has_eigen c (term_tree bank k) ≡ false
+each_free : (c : ℕ) (bank : Nodes) (args : List At) (k : ℕ) → is_in c bank args ≡ false → list_any (eqb k) (places args) ≡ true
+    → has_eigen c (term_tree bank k) ≡ false
 each_free c bank [] k h e = absurd (true≢false (sym e))
 each_free c bank (a ∷ args) k h e =
     let p = or_parts (has_eigen c (term_tree bank a.0)) (is_in c bank args) h in
@@ -39,7 +40,8 @@ each_free c bank (a ∷ args) k h e =
       | inr q ↦ each_free c bank args k p.1 q
     ]
 
-free_each : (c : ℕ) (bank : Nodes) (args : List At) → ((k : ℕ) → list_any (eqb k) (places args) ≡ true → has_eigen c (term_tree bank k) ≡ false) → is_in c bank args ≡ false
+free_each : (c : ℕ) (bank : Nodes) (args : List At) → ((k : ℕ) → list_any (eqb k) (places args) ≡ true → has_eigen c (term_tree bank k) ≡ false)
+    → is_in c bank args ≡ false
 free_each c bank [] h = refl
 free_each c bank (a ∷ args) h =
     let p = h a.0 (or_left (eqb a.0 a.0) (list_any (eqb a.0) (places args)) (eq-eqb a.0 a.0 refl)) in
@@ -49,7 +51,8 @@ free_each c bank (a ∷ args) h =
 -- ---- sets that grow
 
 -- the places of terms came to a set
-pub gathers_terms : (bank : Nodes) (old new : ℕ → Bool) (args : List At) → AllInTerms bank args → ((k : ℕ) → new k ≡ (old k || list_any (eqb k) (places args))) → Gathers bank old new (λ c. is_in c bank args)
+pub gathers_terms : (bank : Nodes) (old new : ℕ → Bool) (args : List At) → AllInTerms bank args → ((k : ℕ) → new k ≡ (old k || list_any (eqb k) (places args)))
+    → Gathers bank old new (λ c. is_in c bank args)
 gathers_terms bank old new args all ins = record {
   inside = λ within k h. elim (or_cases (old k) (list_any (eqb k) (places args)) (sym (ins k) ∙ h)) [
     | inl q ↦ within k q
@@ -68,7 +71,8 @@ pub gathers_nothing : (bank : Nodes) (set : ℕ → Bool) → Gathers bank set s
 gathers_nothing bank set = record { inside = λ w. w; free = λ c f h. f; older = λ c f. f; none = λ c f. refl }
 
 -- one after the other
-pub gathers_both : (bank : Nodes) (old mid new : ℕ → Bool) (one two : ℕ → Bool) → Gathers bank old mid one → Gathers bank mid new two → Gathers bank old new (λ c. one c || two c)
+pub gathers_both : (bank : Nodes) (old mid new : ℕ → Bool) (one two : ℕ → Bool) → Gathers bank old mid one → Gathers bank mid new two
+    → Gathers bank old new (λ c. one c || two c)
 gathers_both bank old mid new one two g h = record {
   inside = λ w. h.inside (g.inside w);
   free = λ c f e. let p = or_parts (one c) (two c) e in h.free c (g.free c f p.0) p.1;
@@ -77,7 +81,13 @@ gathers_both bank old mid new one two g h = record {
 }
 
 pub gathers_as : (bank : Nodes) (old new : ℕ → Bool) (one two : ℕ → Bool) → ((c : ℕ) → one c ≡ two c) → Gathers bank old new one → Gathers bank old new two
-gathers_as bank old new one two same g = record { inside = g.inside; free = λ c f e. g.free c f (same c ∙ e); older = g.older; none = λ c f. sym (same c) ∙ g.none c f }
+gathers_as bank old new one two same g = record {
+  inside = g.inside;
+  free = λ c f e. g.free c f (same c ∙ e);
+  older = g.older;
+  none =
+      λ c f. sym (same c) ∙ g.none c f;
+}
 
 -- ---- the look at a set
 
@@ -106,7 +116,8 @@ module _ (c : ℕ) (bank : Nodes) (set waits popped next : ℕ → Bool) (p : �
   }
 
 -- it stops at a term whose head is the constant
-pub looking_stops : (c : ℕ) (bank : Nodes) (set waits : ℕ → Bool) (p : ℕ) → IsFreeBy c bank set waits → waits p ≡ true → has_eigen c (term_tree bank p) ≡ true → IsFoundAmong c bank set true
+pub looking_stops : (c : ℕ) (bank : Nodes) (set waits : ℕ → Bool) (p : ℕ) → IsFreeBy c bank set waits → waits p ≡ true → has_eigen c (term_tree bank p) ≡ true
+    → IsFoundAmong c bank set true
 looking_stops c bank set waits p w member e = record { none = λ h. absurd (true≢false h); free = λ f. absurd (true≢false (sym e ∙ w.needed f p member)) }
 
 -- at its end nothing waits
@@ -114,7 +125,8 @@ pub looking_ends : (c : ℕ) (bank : Nodes) (set waits : ℕ → Bool) → IsFre
 looking_ends c bank set waits w none = record { none = λ h. w.enough (λ k q. absurd (none k q)); free = λ f. refl }
 
 -- what is found among all that was gathered is found in what it was gathered from
-pub found_in : (c : ℕ) (bank : Nodes) (old new : ℕ → Bool) (has : ℕ → Bool) (found : Bool) → Gathers bank old new has → ((k : ℕ) → old k ≢ true) → IsFoundAmong c bank new found → found ≡ has c
+pub found_in : (c : ℕ) (bank : Nodes) (old new : ℕ → Bool) (has : ℕ → Bool) (found : Bool) → Gathers bank old new has → ((k : ℕ) → old k ≢ true)
+    → IsFoundAmong c bank new found → found ≡ has c
 found_in c bank old new has found g none f = by found (has c) (λ e. g.none c (f.none e)) (λ e. f.free (g.free c (λ k q. absurd (none k q)) e))
   where
     by : (a b : Bool) → (a ≡ false → b ≡ false) → (b ≡ false → a ≡ false) → a ≡ b

@@ -44,12 +44,14 @@ pub copies_stay : {old new : Nodes} → Extends old new → (terms : Nodes) (cop
 copies_stay keeps terms copies h = λ at d l. ShowsTerm-extends keeps (h at d l)
 
 -- one copy more
-pub copies_more : (terms old new : Nodes) → Extends old new → (copies : List At) (copy : At) → AreCopies terms old copies → ShowsTerm new copy.0 (term_tree terms (length copies)) → AreCopies terms new (copies ++ copy ∷ [])
+pub copies_more : (terms old new : Nodes) → Extends old new → (copies : List At) (copy : At) → AreCopies terms old copies
+    → ShowsTerm new copy.0 (term_tree terms (length copies)) → AreCopies terms new (copies ++ copy ∷ [])
 copies_more terms old new keeps copies copy h s = λ at d m. elim (cases_lt at (length copies)) [
   | inl k ↦ subst (λ (a : At). ShowsTerm new a.0 (term_tree terms at)) (sym (get_or-append copies (copy ∷ []) d at k)) (copies_stay keeps terms copies h at d k)
   | inr k ↦
       let e : length copies ≡ at = (let q = length_push copies copy in omega arith) in
-      subst (λ (a : At). ShowsTerm new a.0 (term_tree terms at)) (sym (get_or_push copies copy d at e)) (subst (λ i. ShowsTerm new copy.0 (term_tree terms i)) e s)
+      subst (λ (a : At). ShowsTerm new a.0 (term_tree terms at)) (sym (get_or_push copies copy d at e))
+      (subst (λ i. ShowsTerm new copy.0 (term_tree terms i)) e s)
 ]
 
 -- copies are places of the bank
@@ -57,19 +59,24 @@ pub copies_inside : (terms bank : Nodes) (copies : List At) → AreCopies terms 
 copies_inside terms bank copies h = λ k d l. (h k d l).inside
 
 -- so are those of some places
-pub copied_inside : (bank : Nodes) (copies places : List At) → AllInTerms bank copies → AreBelow (length copies) places → AllInTerms bank (copied_places copies places)
+pub copied_inside : (bank : Nodes) (copies places : List At) → AllInTerms bank copies → AreBelow (length copies) places
+    → AllInTerms bank (copied_places copies places)
 copied_inside bank copies places h b =
-    All-map (λ (a : At). HasTerm bank a.0) (λ (a : At). get_or copies a.0 a) places (All-weaker (λ (a : At). a.0 < length copies) (λ (a : At). HasTerm bank (get_or copies a.0 a).0) (λ a l. h a.0 a l) places b)
+    All-map (λ (a : At). HasTerm bank a.0) (λ (a : At). get_or copies a.0 a) places
+    (All-weaker (λ (a : At). a.0 < length copies) (λ (a : At). HasTerm bank (get_or copies a.0 a).0) (λ a l. h a.0 a l) places b)
 
 -- they show the terms of the places
-pub copied_trees : (terms bank : Nodes) (copies : List At) → AreCopies terms bank copies → (places : List At) → AreBelow (length copies) places → term_trees bank (copied_places copies places) ≡ term_trees terms places
+pub copied_trees : (terms bank : Nodes) (copies : List At) → AreCopies terms bank copies → (places : List At) → AreBelow (length copies) places
+    → term_trees bank (copied_places copies places) ≡ term_trees terms places
 copied_trees terms bank copies h [] b = refl
-copied_trees terms bank copies h (a ∷ places) b = λ i. (h a.0 a (b 0 a (omega arith))).tree i ∷ copied_trees terms bank copies h places (λ k d l. b (suc k) d (omega arith)) i
+copied_trees terms bank copies h (a ∷ places) b = λ i. (h a.0 a (b 0 a (omega arith))).tree i
+    ∷ copied_trees terms bank copies h places (λ k d l. b (suc k) d (omega arith)) i
 
 -- ---- lines
 
 -- the line of a rule with copies of its terms is the rule's
-pub copied_same : (terms bank : Nodes) (copies : List At) → AreCopies terms bank copies → (r : Rule) → IsLineBelow (length copies) r → copied_line bank copies r ≡ line_of terms r
+pub copied_same : (terms bank : Nodes) (copies : List At) → AreCopies terms bank copies → (r : Rule) → IsLineBelow (length copies) r
+    → copied_line bank copies r ≡ line_of terms r
 copied_same terms bank copies h (Exists t) b = ap ExistsLine (h t.0 t b).tree
 copied_same terms bank copies h (Clause n k ts ps) b = ap (λ xs. ClauseLine n k xs (map part_line ps.items)) (copied_trees terms bank copies h ts.items b)
 copied_same terms bank copies h One b = refl
@@ -85,14 +92,18 @@ copied_same terms bank copies h (Forall n) b = refl
 copied_same terms bank copies h Use b = refl
 copied_same terms bank copies h Num b = refl
 
-pub copied_lines : (terms bank : Nodes) (copies : List At) → AreCopies terms bank copies → (rs : List Rule) → All (IsLineBelow (length copies)) rs → map (copied_line bank copies) rs ≡ map (line_of terms) rs
+pub copied_lines : (terms bank : Nodes) (copies : List At) → AreCopies terms bank copies → (rs : List Rule) → All (IsLineBelow (length copies)) rs
+    → map (copied_line bank copies) rs ≡ map (line_of terms) rs
 copied_lines terms bank copies h [] b = refl
-copied_lines terms bank copies h (r ∷ rs) b = λ i. copied_same terms bank copies h r (b 0 r (omega arith)) i ∷ copied_lines terms bank copies h rs (λ k d l. b (suc k) d (omega arith)) i
+copied_lines terms bank copies h (r ∷ rs) b = λ i. copied_same terms bank copies h r (b 0 r (omega arith)) i
+    ∷ copied_lines terms bank copies h rs (λ k d l. b (suc k) d (omega arith)) i
 
 -- the line stays as the bank grows
-pub copied_stays : {old new : Nodes} → Extends old new → (copies : List At) → AllInTerms old copies → (r : Rule) → IsLineBelow (length copies) r → copied_line new copies r ≡ copied_line old copies r
+pub copied_stays : {old new : Nodes} → Extends old new → (copies : List At) → AllInTerms old copies → (r : Rule) → IsLineBelow (length copies) r
+    → copied_line new copies r ≡ copied_line old copies r
 copied_stays keeps copies h (Exists t) b = ap ExistsLine (term_tree-extends keeps (get_or copies t.0 t).0 (h t.0 t b))
-copied_stays {old} keeps copies h (Clause n k ts ps) b = ap (λ xs. ClauseLine n k xs (map part_line ps.items)) (term_trees-extends keeps (copied_places copies ts.items) (copied_inside old copies ts.items h b))
+copied_stays {old} keeps copies h (Clause n k ts ps) b = ap (λ xs. ClauseLine n k xs (map part_line ps.items))
+    (term_trees-extends keeps (copied_places copies ts.items) (copied_inside old copies ts.items h b))
 copied_stays keeps copies h One b = refl
 copied_stays keeps copies h Erase b = refl
 copied_stays keeps copies h (Tensor s t) b = refl
@@ -107,10 +118,13 @@ copied_stays keeps copies h Use b = refl
 copied_stays keeps copies h Num b = refl
 
 -- the rule at a place
-pub below_here : (copies : List At) (rules : List Rule) (k : ℕ) (r : Rule) → r ≡ get_or rules k r → k < length rules → All (IsLineBelow (length copies)) rules → IsLineBelow (length copies) r
+pub below_here : (copies : List At) (rules : List Rule) (k : ℕ) (r : Rule) → r ≡ get_or rules k r → k < length rules → All (IsLineBelow (length copies)) rules
+    → IsLineBelow (length copies) r
 below_here copies rules k r is l b = let P : Rule → Type 0 = IsLineBelow (length copies) in subst P (sym is) (b k r l)
 
 -- its line, in a bank that grew
-pub line_here : {old new : Nodes} → Extends old new → (copies slice : List At) → slice ≡ copies → AllInTerms old copies → (rules : List Rule) (k : ℕ) (r : Rule) → r ≡ get_or rules k r → k < length rules
+pub line_here : {old new : Nodes} → Extends old new → (copies slice : List At) → slice ≡ copies → AllInTerms old copies → (rules : List Rule) (k : ℕ) (r : Rule)
+    → r ≡ get_or rules k r → k < length rules
     → All (IsLineBelow (length copies)) rules → copied_line new slice r ≡ copied_line old copies r
-line_here {old} {new} keeps copies slice e h rules k r is l b = ap (λ cs. copied_line new cs r) e ∙ copied_stays keeps copies h r (below_here copies rules k r is l b)
+line_here {old} {new} keeps copies slice e h rules k r is l b =
+    ap (λ cs. copied_line new cs r) e ∙ copied_stays keeps copies h r (below_here copies rules k r is l b)

@@ -7,7 +7,9 @@ use Rattle.std.proofs.lemmas.List.{take_all}
 use Rattle.std.proofs.lemmas.List.Elements.{All-nil, All-cons, All-head, All-tail}
 use Rattle.ll_bank.specs.declared.FormAt.{FormAt}
 use Rattle.ll_bank.specs.declared.FormNode.{FormNode}
-use Rattle.ll_bank.specs.declared.FormNode.TheVariants.{Top as TopView, One as OneView, Atom as AtomView, With as WithView, Tensor as TensorView, Plus as PlusView, Bang as BangView, Lolli as LolliView, Imp as ImpView, Forall as ForallView, Exists as ExistsView, Use as UseView, Is as IsView, Less as LessView, Most as MostView}
+use Rattle.ll_bank.specs.declared.FormNode.TheVariants.{Top as TopView, One as OneView, Atom as AtomView, With as WithView, Tensor as TensorView}
+use Rattle.ll_bank.specs.declared.FormNode.TheVariants.{Plus as PlusView, Bang as BangView, Lolli as LolliView, Imp as ImpView, Forall as ForallView}
+use Rattle.ll_bank.specs.declared.FormNode.TheVariants.{Exists as ExistsView, Use as UseView, Is as IsView, Less as LessView, Most as MostView}
 use Rattle.ll_bank.specs.declared.Head.TheVariants.{Eigen}
 use Rattle.ll_bank.specs.Term.{Con}
 use Rattle.ll_bank.specs.Form.{Form, instantiate, form_has_eigen, form_applies_heads}
@@ -33,22 +35,27 @@ any_clauses : (e : ℕ) (ls : List Labelled) → list_any (form_has_eigen e) (cl
 any_clauses e [] = refl
 any_clauses e (l ∷ ls) = ap (λ b. form_has_eigen e l.clause || b) (any_clauses e ls)
 
-any_shown : (e : ℕ) (bank : Nodes) (rs : List Resource) → list_any (λ (l : Labelled). form_has_eigen e l.clause) (map (labelled_in bank) rs) ≡ is_in_each e bank (forms_of rs)
+any_shown : (e : ℕ) (bank : Nodes) (rs : List Resource) → list_any (λ (l : Labelled). form_has_eigen e l.clause) (map (labelled_in bank) rs)
+    ≡ is_in_each e bank (forms_of rs)
 any_shown e bank [] = refl
 any_shown e bank (r ∷ rs) = ap (λ b. form_has_eigen e (form_tree bank r.form.0) || b) (any_shown e bank rs)
 
 -- the constant stands in the sequent
 pub stands_shown : (e : ℕ) (bank : Nodes) (k : ℕ) (free bounded : List Resource) (f : FormAt) → k ≡ length free
-    → list_any (form_has_eigen e) (form_tree bank f.0 ∷ (clauses (free_in bank (take k free)) ++ clauses (bounded_in bank bounded))) ≡ stands_in e bank f free bounded
+    → list_any (form_has_eigen e) (form_tree bank f.0 ∷ (clauses (free_in bank (take k free)) ++ clauses (bounded_in bank bounded)))
+    ≡ stands_in e bank f free bounded
 stands_shown e bank k free bounded f n =
     let low : length free ≤ k = omega arith in
     let a : list_any (form_has_eigen e) (clauses (free_in bank (take k free))) ≡ is_in_each e bank (forms_of free) =
     ap (λ xs. list_any (form_has_eigen e) (clauses (free_in bank xs))) (take_all k free low)
     ∙ (any_clauses e (free_in bank free) ∙ (any_reverse (λ (l : Labelled). form_has_eigen e l.clause) (map (labelled_in bank) free) ∙ any_shown e bank free)) in
-    let b : list_any (form_has_eigen e) (clauses (bounded_in bank bounded)) ≡ is_in_each e bank (forms_of bounded) = any_clauses e (bounded_in bank bounded) ∙ any_shown e bank bounded in
-    ap (λ v. form_has_eigen e (form_tree bank f.0) || v) (list_any-append (form_has_eigen e) (clauses (free_in bank (take k free))) (clauses (bounded_in bank bounded)) ∙ (λ i. a i || b i))
+    let b : list_any (form_has_eigen e) (clauses (bounded_in bank bounded)) ≡ is_in_each e bank (forms_of bounded) =
+    any_clauses e (bounded_in bank bounded) ∙ any_shown e bank bounded in
+    ap (λ v. form_has_eigen e (form_tree bank f.0) || v) (list_any-append (form_has_eigen e) (clauses (free_in bank (take k free)))
+    (clauses (bounded_in bank bounded)) ∙ (λ i. a i || b i))
 
-not_forall : (b : Setting) (bank : Nodes) (c d : List Labelled) (e : ℕ) (v : FormNode) → ((f : FormAt) → v ≡ ForallView f → ⊥) → made b (ForallLine e) c d (form_of bank v) ≡ Refuses 1
+not_forall : (b : Setting) (bank : Nodes) (c d : List Labelled) (e : ℕ) (v : FormNode) → ((f : FormAt) → v ≡ ForallView f → ⊥)
+    → made b (ForallLine e) c d (form_of bank v) ≡ Refuses 1
 not_forall b bank c d e (ForallView f) n = absurd (n f refl)
 not_forall b bank c d e TopView n = refl
 not_forall b bank c d e OneView n = refl
@@ -65,7 +72,8 @@ not_forall b bank c d e (IsView t u) n = refl
 not_forall b bank c d e (LessView t u) n = refl
 not_forall b bank c d e (MostView t u) n = refl
 
-pub forall_refused : (bank : Nodes) (free : List Resource) (s : Sequent) (e : ℕ) (view : FormNode) → IsFormView bank s.goal.0 view → ((f : FormAt) → view ≡ ForallView f → ⊥)
+pub forall_refused : (bank : Nodes) (free : List Resource) (s : Sequent) (e : ℕ) (view : FormNode) → IsFormView bank s.goal.0 view
+    → ((f : FormAt) → view ≡ ForallView f → ⊥)
     → Steps (ForallLine e) bank free s bank free (Refused 1)
 forall_refused bank free s e view seen n = λ ops modules h. record {
   made = sym (ap (made (beside ops modules) (ForallLine e) (free_in bank (take s.free free)) (bounded_in bank s.bounded.items)) seen.tree
@@ -81,7 +89,12 @@ module _ (bank : Nodes) (free : List Resource) (s : Sequent) (e : ℕ) (f : Form
       let ok = stands_shown e bank s.free free s.bounded.items f h.all ∙ old in
       record {
         made = sym (ap (made (beside ops modules) (ForallLine e) (free_in bank (take s.free free)) (bounded_in bank s.bounded.items)) seen.tree
-            ∙ (λ i. provided (not (ok i)) 10 (record { free = free_in bank (take s.free free); bounded = bounded_in bank s.bounded.items; goal = instantiate (form_tree bank f.0) (Con (Eigen e)) } ∷ [])));
+            ∙ (λ i. provided (not (ok i)) 10 (record {
+              free = free_in bank (take s.free free);
+              bounded = bounded_in bank s.bounded.items;
+              goal =
+                  instantiate (form_tree bank f.0) (Con (Eigen e));
+            } ∷ [])));
         left = tt;
         free = h.unbounded;
         adds = none_added free;
@@ -89,18 +102,27 @@ module _ (bank : Nodes) (free : List Resource) (s : Sequent) (e : ℕ) (f : Form
 
   pub forall_heads : has_heads true GoalSide [] (form_tree bank s.goal.0) ≡ true → form_applies_heads (instantiate (form_tree bank f.0) (Con (Eigen e))) ≡ true
   forall_heads h =
-      let P : Form → Type 0 = λ g. has_heads true GoalSide [] g ≡ true in heads-instantiate GoalSide true (form_tree bank f.0) (Con (Eigen e)) refl (λ b. refl) (subst P seen.tree h)
+      let P : Form → Type 0 = λ g. has_heads true GoalSide [] g ≡ true in
+      heads-instantiate GoalSide true (form_tree bank f.0) (Con (Eigen e)) refl (λ b. refl) (subst P seen.tree h)
 
   pub forall_steps : (new : Nodes) (p : Sequent) (step : Step) → stands_in e bank f free s.bounded.items ≡ false → Extends bank new
-      → ShowsForm new p.goal.0 (instantiate (form_tree bank f.0) (Con (Eigen e))) → p.free ≡ s.free → p.bounded.items ≡ s.bounded.items → IsLeaving (p ∷ []) step
+      → ShowsForm new p.goal.0 (instantiate (form_tree bank f.0) (Con (Eigen e))) → p.free ≡ s.free → p.bounded.items ≡ s.bounded.items
+      → IsLeaving (p ∷ []) step
       → Steps (ForallLine e) bank free s new free step
   forall_steps new p step fresh keeps shows same_free same_bounded leaving = λ ops modules h.
       let g = goal_sound bank s modules (ForallView f) seen h.sequent in
       let ok = stands_shown e bank s.free free s.bounded.items f h.all ∙ fresh in
-      opened_steps bank new s p keeps same_free same_bounded (instantiate (form_tree bank f.0) (Con (Eigen e))) shows (ForallLine e) step free ops modules h leaving
-      (sound-instantiate modules GoalSide true (form_tree bank f.0) (Con (Eigen e)) refl (λ b. refl) (record { closed = g.closed; heads = g.heads; loads = g.loads }))
+      opened_steps bank new s p keeps same_free same_bounded (instantiate (form_tree bank f.0) (Con (Eigen e))) shows (ForallLine e) step free ops modules h
+      leaving
+      (sound-instantiate modules GoalSide true (form_tree bank f.0) (Con (Eigen e)) refl (λ b. refl)
+      (record { closed = g.closed; heads = g.heads; loads = g.loads }))
       (ap (made (beside ops modules) (ForallLine e) (free_in bank (take s.free free)) (bounded_in bank s.bounded.items)) seen.tree
-      ∙ (λ i. provided (not (ok i)) 10 (record { free = free_in bank (take s.free free); bounded = bounded_in bank s.bounded.items; goal = instantiate (form_tree bank f.0) (Con (Eigen e)) } ∷ [])))
+      ∙ (λ i. provided (not (ok i)) 10 (record {
+        free = free_in bank (take s.free free);
+        bounded = bounded_in bank s.bounded.items;
+        goal =
+            instantiate (form_tree bank f.0) (Con (Eigen e));
+      } ∷ [])))
 
 -- the formulas of clauses that are held lie in the bank
 pub forms_held : (modules : List ModuleTree) (bank : Nodes) (rs : List Resource) → AreHeld modules bank rs → AllInForms bank (forms_of rs)

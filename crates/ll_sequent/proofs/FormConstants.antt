@@ -16,7 +16,8 @@ use Rattle.ll_sequent.proofs.ConstantLemmas.{gathers_both, gathers_as, gathers_n
 pub each_onto : (c : ℕ) (bank : Nodes) (xs ys : List FormAt) → is_in_each c bank (xs ++ ys) ≡ (is_in_each c bank xs || is_in_each c bank ys)
 each_onto c bank [] ys = refl
 each_onto c bank (x ∷ xs) ys =
-    ap (λ b. form_has_eigen c (form_tree bank x.0) || b) (each_onto c bank xs ys) ∙ sym (or_assoc (form_has_eigen c (form_tree bank x.0)) (is_in_each c bank xs) (is_in_each c bank ys))
+    ap (λ b. form_has_eigen c (form_tree bank x.0) || b) (each_onto c bank xs ys)
+    ∙ sym (or_assoc (form_has_eigen c (form_tree bank x.0)) (is_in_each c bank xs) (is_in_each c bank ys))
 
 sizes_onto : (bank : Nodes) (xs ys : List FormAt) → form_sizes bank (xs ++ ys) ≡ form_sizes bank xs + form_sizes bank ys
 sizes_onto bank [] ys = omega arith
@@ -30,7 +31,8 @@ pub record IsGathering (bank : Nodes) (form : ℕ) (old now : ℕ → Bool) (wai
   pub same : (c : ℕ) → form_has_eigen c (form_tree bank form) ≡ (seen c || is_in_each c bank waiting)
 
 -- it begins with the formula itself
-pub gathering_begins : (bank : Nodes) (set : ℕ → Bool) (form : FormAt) (waiting : List FormAt) → waiting ≡ form ∷ [] → HasForm bank form.0 → IsGathering bank form.0 set set waiting
+pub gathering_begins : (bank : Nodes) (set : ℕ → Bool) (form : FormAt) (waiting : List FormAt) → waiting ≡ form ∷ [] → HasForm bank form.0
+    → IsGathering bank form.0 set set waiting
 gathering_begins bank set form waiting is h = subst (IsGathering bank form.0 set set) (sym is) (record {
   inside = All-cons (λ (f : FormAt). f.0 < length bank.forms) form [] h (All-nil (λ (f : FormAt). f.0 < length bank.forms));
   seen = λ c. false;
@@ -45,15 +47,19 @@ front bank at (x ∷ xs) h =
     (front bank at xs (All-tail (λ (a : FormAt). a.0 < length bank.forms) x (xs ++ at ∷ []) h))
 
 -- the last formula that waits is opened up
-module _ (bank : Nodes) (form : ℕ) (old now next : ℕ → Bool) (all rest new : List FormAt) (at : FormAt) (split : all ≡ rest ++ at ∷ []) (o : IsOpenedUp bank at.0 rest new now next) where
+module _ (bank : Nodes) (form : ℕ) (old now next : ℕ → Bool) (all rest new : List FormAt) (at : FormAt) (split : all ≡ rest ++ at ∷ [])
+    (o : IsOpenedUp bank at.0 rest new now next) where
   pub gathering_on : IsGathering bank form old now all → IsGathering bank form old next new
   gathering_on g = record {
-    inside = let P : List FormAt → Type 0 = AllInForms bank in subst P (sym o.behind) (All-append (λ (f : FormAt). f.0 < length bank.forms) rest o.inner (front bank at rest (subst P split g.inside)) o.inside);
+    inside = let P : List FormAt → Type 0 = AllInForms bank in
+        subst P (sym o.behind) (All-append (λ (f : FormAt). f.0 < length bank.forms) rest o.inner (front bank at rest (subst P split g.inside)) o.inside);
     seen = λ c. g.seen c || o.own c;
     gathers = gathers_both bank old now next g.seen o.own g.gathers o.gathers;
     same = λ c. g.same c ∙ (ap (λ b. g.seen c || b)
-        (ap (is_in_each c bank) split ∙ (each_onto c bank rest (at ∷ []) ∙ (ap (λ b. is_in_each c bank rest || b) (sym (or_false (form_has_eigen c (form_tree bank at.0))) ∙ o.same c)
-        ∙ (or_exchange (is_in_each c bank rest) (o.own c) (is_in_each c bank o.inner) ∙ ap (λ b. o.own c || b) (sym (each_onto c bank rest o.inner) ∙ ap (is_in_each c bank) (sym o.behind))))))
+        (ap (is_in_each c bank) split ∙ (each_onto c bank rest (at ∷ [])
+        ∙ (ap (λ b. is_in_each c bank rest || b) (sym (or_false (form_has_eigen c (form_tree bank at.0))) ∙ o.same c)
+        ∙ (or_exchange (is_in_each c bank rest) (o.own c) (is_in_each c bank o.inner)
+        ∙ ap (λ b. o.own c || b) (sym (each_onto c bank rest o.inner) ∙ ap (is_in_each c bank) (sym o.behind))))))
         ∙ sym (or_assoc (g.seen c) (o.own c) (is_in_each c bank new)));
   }
 
@@ -68,9 +74,11 @@ module _ (bank : Nodes) (form : ℕ) (old now next : ℕ → Bool) (all rest new
       omega (arith, a, b, x, y, l, z)
 
 -- at its end nothing waits
-pub gathering_ends : (bank : Nodes) (form : ℕ) (old now : ℕ → Bool) (waiting : List FormAt) → length waiting ≡ 0 → IsGathering bank form old now waiting → Gathers bank old now (λ c. form_has_eigen c (form_tree bank form))
+pub gathering_ends : (bank : Nodes) (form : ℕ) (old now : ℕ → Bool) (waiting : List FormAt) → length waiting ≡ 0 → IsGathering bank form old now waiting
+    → Gathers bank old now (λ c. form_has_eigen c (form_tree bank form))
 gathering_ends bank form old now waiting none g =
-    gathers_as bank old now g.seen (λ c. form_has_eigen c (form_tree bank form)) (λ c. sym (g.same c ∙ (ap (λ ws. g.seen c || is_in_each c bank ws) (empty waiting none) ∙ sym (or_false (g.seen c))))) g.gathers
+    gathers_as bank old now g.seen (λ c. form_has_eigen c (form_tree bank form))
+    (λ c. sym (g.same c ∙ (ap (λ ws. g.seen c || is_in_each c bank ws) (empty waiting none) ∙ sym (or_false (g.seen c))))) g.gathers
   where
     empty : (xs : List FormAt) → length xs ≡ 0 → xs ≡ []
     empty [] e = refl
@@ -98,7 +106,8 @@ none_inside bank at waiting before after own g has size = record {
 -- two formulas inside
 pub two_inside : (bank : Nodes) (at : ℕ) (old new : List FormAt) (set : ℕ → Bool) (f g : FormAt) → HasForm bank at → f.0 < at → g.0 < at
     → ((c : ℕ) → form_has_eigen c (form_tree bank at) ≡ (form_has_eigen c (form_tree bank f.0) || form_has_eigen c (form_tree bank g.0)))
-    → form_size (form_tree bank at) ≡ 2 + (form_size (form_tree bank f.0) + form_size (form_tree bank g.0)) → new ≡ old ++ f ∷ g ∷ [] → IsOpenedUp bank at old new set set
+    → form_size (form_tree bank at) ≡ 2 + (form_size (form_tree bank f.0) + form_size (form_tree bank g.0)) → new ≡ old ++ f ∷ g ∷ []
+    → IsOpenedUp bank at old new set set
 two_inside bank at old new set f g h lf lg has size behind =
     let inf : f.0 < length bank.forms = omega arith in
     let ing : g.0 < length bank.forms = omega arith in
@@ -115,7 +124,8 @@ two_inside bank at old new set f g h lf lg has size behind =
     }
 
 -- one formula inside, and terms
-pub one_inside : (bank : Nodes) (at : ℕ) (old new : List FormAt) (before after : ℕ → Bool) (own : ℕ → Bool) (f : FormAt) → HasForm bank at → f.0 < at → Gathers bank before after own
+pub one_inside : (bank : Nodes) (at : ℕ) (old new : List FormAt) (before after : ℕ → Bool) (own : ℕ → Bool) (f : FormAt) → HasForm bank at → f.0 < at
+    → Gathers bank before after own
     → ((c : ℕ) → form_has_eigen c (form_tree bank at) ≡ (own c || form_has_eigen c (form_tree bank f.0)))
     → form_size (form_tree bank at) ≡ 2 + form_size (form_tree bank f.0) → new ≡ old ++ f ∷ [] → IsOpenedUp bank at old new before after
 one_inside bank at old new before after own f h lf g has size behind =
@@ -139,10 +149,13 @@ form_at bank rs i d all l =
     let here = all i d.form (simp length-map l) in subst (λ (f : FormAt). f.0 < length bank.forms) (get_or-map (λ (r : Resource). r.form) rs i d) here
 
 -- one clause more was gathered
-pub gathers_next : (bank : Nodes) (old mid new : ℕ → Bool) (rs : List Resource) (i : ℕ) (d : Resource) → i < length rs → Gathers bank old mid (λ c. is_in_each c bank (forms_of (take i rs)))
-    → Gathers bank mid new (λ c. form_has_eigen c (form_tree bank (get_or rs i d).form.0)) → Gathers bank old new (λ c. is_in_each c bank (forms_of (take (i + 1) rs)))
+pub gathers_next : (bank : Nodes) (old mid new : ℕ → Bool) (rs : List Resource) (i : ℕ) (d : Resource) → i < length rs
+    → Gathers bank old mid (λ c. is_in_each c bank (forms_of (take i rs)))
+    → Gathers bank mid new (λ c. form_has_eigen c (form_tree bank (get_or rs i d).form.0))
+    → Gathers bank old new (λ c. is_in_each c bank (forms_of (take (i + 1) rs)))
 gathers_next bank old mid new rs i d l g h =
-    gathers_as bank old new (λ c. is_in_each c bank (forms_of (take i rs)) || form_has_eigen c (form_tree bank (get_or rs i d).form.0)) (λ c. is_in_each c bank (forms_of (take (i + 1) rs)))
+    gathers_as bank old new (λ c. is_in_each c bank (forms_of (take i rs)) || form_has_eigen c (form_tree bank (get_or rs i d).form.0))
+    (λ c. is_in_each c bank (forms_of (take (i + 1) rs)))
     (λ c. ap (λ b. is_in_each c bank (forms_of (take i rs)) || b) (or_false (form_has_eigen c (form_tree bank (get_or rs i d).form.0)))
     ∙ (sym (each_onto c bank (forms_of (take i rs)) ((get_or rs i d).form ∷ [])) ∙ ap (is_in_each c bank) (sym (map_more (λ (r : Resource). r.form) rs i d l))))
     (gathers_both bank old mid new (λ c. is_in_each c bank (forms_of (take i rs))) (λ c. form_has_eigen c (form_tree bank (get_or rs i d).form.0)) g h)

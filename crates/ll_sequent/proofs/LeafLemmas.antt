@@ -1,5 +1,6 @@
 -- Leaves of clauses, on the way to them.
-use Rattle.std.proofs.Common.{◌≡◌, ℕ, zero, suc, ◌+◌, ◌-◌, ◌<◌, ◌≤◌, List, [], ◌∷◌, ◌++◌, length, reverse, refl, ap, sym, subst, ◌∙◌, arith, Option, Some, None, All, append_assoc}
+use Rattle.std.proofs.Common.{◌≡◌, ℕ, zero, suc, ◌+◌, ◌-◌, ◌<◌, ◌≤◌, List, [], ◌∷◌, ◌++◌, length, reverse, refl, ap, sym, subst, ◌∙◌, arith, Option, Some}
+use Rattle.std.proofs.Common.{None, All, append_assoc}
 use Rattle.std.specs.Prelude.{if◌then◌else◌, option_map}
 use Rattle.std.proofs.lemmas.Bool.{lt-ltb}
 use Rattle.std.proofs.lemmas.List.{append-nil, reverse-append}
@@ -8,7 +9,9 @@ use Rattle.ll_lists.proofs.CallerLemmas.{lt_false as not_below}
 use Rattle.ll_bank.specs.declared.At.{At}
 use Rattle.ll_bank.specs.declared.FormAt.{FormAt}
 use Rattle.ll_bank.specs.declared.FormNode.{FormNode}
-use Rattle.ll_bank.specs.declared.FormNode.TheVariants.{Top as TopView, One as OneView, Atom as AtomView, With as WithView, Tensor as TensorView, Plus as PlusView, Bang as BangView, Lolli as LolliView, Imp as ImpView, Forall as ForallView, Exists as ExistsView, Use as UseView, Is as IsView, Less as LessView, Most as MostView}
+use Rattle.ll_bank.specs.declared.FormNode.TheVariants.{Top as TopView, One as OneView, Atom as AtomView, With as WithView, Tensor as TensorView}
+use Rattle.ll_bank.specs.declared.FormNode.TheVariants.{Plus as PlusView, Bang as BangView, Lolli as LolliView, Imp as ImpView, Forall as ForallView}
+use Rattle.ll_bank.specs.declared.FormNode.TheVariants.{Exists as ExistsView, Use as UseView, Is as IsView, Less as LessView, Most as MostView}
 use Rattle.ll_bank.specs.Term.{Term, Env}
 use Rattle.ll_bank.specs.Form.{Form, Atom, With}
 use Rattle.ll_bank.specs.Nodes.{Nodes, form_of}
@@ -24,10 +27,12 @@ pub behind_none : (o : Option Leaf) → o ≡ option_map (put_behind []) o
 behind_none None = refl
 behind_none (Some l) = λ i. Some (record { premises = sym (append-nil l.premises) i; head = l.head })
 
-pub behind_one : (ps : List Premise) (p : Premise) (o : Option Leaf) → option_map (put_behind ps) (option_map (add_premise p) o) ≡ option_map (put_behind (ps ++ p ∷ [])) o
+pub behind_one : (ps : List Premise) (p : Premise) (o : Option Leaf)
+    → option_map (put_behind ps) (option_map (add_premise p) o) ≡ option_map (put_behind (ps ++ p ∷ [])) o
 behind_one ps p None = refl
 behind_one ps p (Some l) =
-    let e : (l.premises ++ p ∷ []) ++ reverse ps ≡ l.premises ++ reverse (ps ++ p ∷ []) = append_assoc l.premises (p ∷ []) (reverse ps) ∙ ap (λ xs. l.premises ++ xs) (sym (reverse-append ps (p ∷ []))) in
+    let e : (l.premises ++ p ∷ []) ++ reverse ps ≡ l.premises ++ reverse (ps ++ p ∷ []) =
+    append_assoc l.premises (p ∷ []) (reverse ps) ∙ ap (λ xs. l.premises ++ xs) (sym (reverse-append ps (p ∷ []))) in
     λ i. Some (record { premises = e i; head = l.head })
 
 pub behind_nothing : (ps : List Premise) (o : Option Leaf) → o ≡ None → option_map (put_behind ps) o ≡ None
@@ -35,7 +40,8 @@ behind_nothing ps o e = ap (option_map (put_behind ps)) e
 
 -- ---- where there is no leaf
 
-pub leaf_no : (bank : Nodes) (e : Env) (v : FormNode) (k : ℕ) (ts : List Term) → ((a : At) → v ≡ AtomView a → ⊥) → ((f g : FormAt) → v ≡ WithView f g → ⊥) → ((f g : FormAt) → v ≡ LolliView f g → ⊥)
+pub leaf_no : (bank : Nodes) (e : Env) (v : FormNode) (k : ℕ) (ts : List Term) → ((a : At) → v ≡ AtomView a → ⊥) → ((f g : FormAt) → v ≡ WithView f g → ⊥)
+    → ((f g : FormAt) → v ≡ LolliView f g → ⊥)
     → ((f g : FormAt) → v ≡ ImpView f g → ⊥) → ((f : FormAt) → v ≡ ForallView f → ⊥) → leaf_from e (form_of bank v) k ts ≡ None
 leaf_no bank e TopView k ts a w l i f = refl
 leaf_no bank e OneView k ts a w l i f = refl
@@ -68,22 +74,26 @@ leaf_more_terms e a (suc k) (t ∷ ts) l = refl
 pub leaf_left : (e : Env) (q r : Form) (k : ℕ) (ts : List Term) → k < length (ways q) → leaf_from e (With q r) k ts ≡ leaf_from e q k ts
 leaf_left e q r k ts l = ap (λ b. if b then leaf_from e q k ts else leaf_from e r (k - length (ways q)) ts) (lt-ltb k (length (ways q)) l)
 
-pub leaf_right : (e : Env) (q r : Form) (k j : ℕ) (ts : List Term) → length (ways q) ≤ k → j ≡ k - length (ways q) → leaf_from e (With q r) k ts ≡ leaf_from e r j ts
-leaf_right e q r k j ts l is = ap (λ b. if b then leaf_from e q k ts else leaf_from e r (k - length (ways q)) ts) (not_below k (length (ways q)) l) ∙ ap (λ n. leaf_from e r n ts) (sym is)
+pub leaf_right : (e : Env) (q r : Form) (k j : ℕ) (ts : List Term) → length (ways q) ≤ k → j ≡ k - length (ways q)
+    → leaf_from e (With q r) k ts ≡ leaf_from e r j ts
+leaf_right e q r k j ts l is = ap (λ b. if b then leaf_from e q k ts else leaf_from e r (k - length (ways q)) ts) (not_below k (length (ways q)) l)
+    ∙ ap (λ n. leaf_from e r n ts) (sym is)
 
 -- ---- the clauses that wait
 
 waiting_front : (n : ℕ) (fs : List FormAt) (f : FormAt) → All (λ (g : FormAt). g.0 < n) (fs ++ f ∷ []) → All (λ (g : FormAt). g.0 < n) fs
 waiting_front n [] f h = λ k d l. absurd (omega arith)
 waiting_front n (g ∷ fs) f h =
-    All-cons (λ (g : FormAt). g.0 < n) g fs (All-head (λ (g : FormAt). g.0 < n) g (fs ++ f ∷ []) h) (waiting_front n fs f (All-tail (λ (g : FormAt). g.0 < n) g (fs ++ f ∷ []) h))
+    All-cons (λ (g : FormAt). g.0 < n) g fs (All-head (λ (g : FormAt). g.0 < n) g (fs ++ f ∷ []) h)
+    (waiting_front n fs f (All-tail (λ (g : FormAt). g.0 < n) g (fs ++ f ∷ []) h))
 
 waiting_end : (n : ℕ) (fs : List FormAt) (f : FormAt) → All (λ (g : FormAt). g.0 < n) (fs ++ f ∷ []) → f.0 < n
 waiting_end n [] f h = All-head (λ (g : FormAt). g.0 < n) f [] h
 waiting_end n (g ∷ fs) f h = waiting_end n fs f (All-tail (λ (g : FormAt). g.0 < n) g (fs ++ f ∷ []) h)
 
 -- a place in place of a higher one
-pub waiting_inside : (n : ℕ) (old rest new : List FormAt) (f g : FormAt) → old ≡ rest ++ f ∷ [] → new ≡ rest ++ g ∷ [] → g.0 < f.0 → All (λ (a : FormAt). a.0 < n) old → All (λ (a : FormAt). a.0 < n) new
+pub waiting_inside : (n : ℕ) (old rest new : List FormAt) (f g : FormAt) → old ≡ rest ++ f ∷ [] → new ≡ rest ++ g ∷ [] → g.0 < f.0
+    → All (λ (a : FormAt). a.0 < n) old → All (λ (a : FormAt). a.0 < n) new
 waiting_inside n old rest new f g o w l h =
     let P : List FormAt → Type 0 = All (λ (a : FormAt). a.0 < n) in
     let k = subst P o h in
@@ -91,7 +101,8 @@ waiting_inside n old rest new f g o w l h =
     subst P (sym w) (All-push (λ (a : FormAt). a.0 < n) rest g (waiting_front n rest f k) (omega arith))
 
 -- or two
-pub waiting_both : (n : ℕ) (old rest mid new : List FormAt) (f g r : FormAt) → old ≡ rest ++ f ∷ [] → mid ≡ rest ++ r ∷ [] → new ≡ mid ++ g ∷ [] → g.0 < f.0 → r.0 < f.0
+pub waiting_both : (n : ℕ) (old rest mid new : List FormAt) (f g r : FormAt) → old ≡ rest ++ f ∷ [] → mid ≡ rest ++ r ∷ [] → new ≡ mid ++ g ∷ [] → g.0 < f.0
+    → r.0 < f.0
     → All (λ (a : FormAt). a.0 < n) old → All (λ (a : FormAt). a.0 < n) new
 waiting_both n old rest mid new f g r o m w l p h =
     let P : List FormAt → Type 0 = All (λ (a : FormAt). a.0 < n) in

@@ -45,14 +45,17 @@ fit_length (Labels s ∷ lines) (NeedsFree g ∷ gs) e = cc
 fit_length (Free ∷ lines) (Needs g ∷ gs) e = cc
 fit_length (Free ∷ lines) (NeedsFree g ∷ gs) e = ap (λ m. suc m) (fit_length lines gs e)
 
-pub as_many : (parts : List Part) (bank : Nodes) (goals : List FormAt) (gs : List Premise) → parts_fit (blank (map part_line parts)) gs ≡ true → form_trees bank goals ≡ map premise_goal gs → length parts ≡ length goals
+pub as_many : (parts : List Part) (bank : Nodes) (goals : List FormAt) (gs : List Premise) → parts_fit (blank (map part_line parts)) gs ≡ true
+    → form_trees bank goals ≡ map premise_goal gs → length parts ≡ length goals
 as_many parts bank goals gs f e =
     sym (length-map parts part_line)
-    ∙ (fit_length (map part_line parts) gs f ∙ (sym (length-map gs premise_goal) ∙ (ap (λ xs. length xs) (sym e) ∙ length-map goals (λ (f : FormAt). form_tree bank f.0))))
+    ∙ (fit_length (map part_line parts) gs f ∙ (sym (length-map gs premise_goal)
+    ∙ (ap (λ xs. length xs) (sym e) ∙ length-map goals (λ (f : FormAt). form_tree bank f.0))))
 
 -- ---- the leaf in later banks
 
-pub leaf_same : (old new : Nodes) (keeps : Extends old new) (f : FormAt) (k : ℕ) (ts us : List Term) → HasForm old f.0 → us ≡ ts → leaf (form_tree old f.0) k ts ≡ leaf (form_tree new f.0) k us
+pub leaf_same : (old new : Nodes) (keeps : Extends old new) (f : FormAt) (k : ℕ) (ts us : List Term) → HasForm old f.0 → us ≡ ts
+    → leaf (form_tree old f.0) k ts ≡ leaf (form_tree new f.0) k us
 leaf_same old new keeps f k ts us h e = λ i. leaf (sym (form_tree-extends keeps f.0 h) i) k (sym e i)
 
 pub shows_of : (bank : Nodes) (l : Option Leaf) (o : Option Opened) (x : Opened) → o ≡ Some x → IsOpened bank l o → ShowsLeaf bank l x

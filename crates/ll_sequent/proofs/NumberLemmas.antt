@@ -16,13 +16,15 @@ use Rattle.ll_sequent.specs.Steps.{Refuses, provided, made}
 use Rattle.ll_sequent.specs.Named.{MakesBy}
 use Rattle.ll_sequent.specs.Numbered.{IsTested}
 
-pub tested_makes : (ops : Operators) (bank : Nodes) (s : Sequent) (view : FormNode) (r : Relation) (t u : Term) (test : Bool) (step : Step) → IsFormView bank s.goal.0 view
+pub tested_makes : (ops : Operators) (bank : Nodes) (s : Sequent) (view : FormNode) (r : Relation) (t u : Term) (test : Bool) (step : Step)
+    → IsFormView bank s.goal.0 view
     → form_of bank view ≡ Num r t u → test ≡ holds ops r t u → IsTested s test step → MakesBy ops bank NumLine s step
 tested_makes ops bank s view r t u test step seen shape e h = record {
   is = λ modules free.
       h.is bank free
       ∙ (ap (λ b. if is_empty (bounded_in bank s.bounded.items) then provided b 12 [] else Refuses 2) e
-      ∙ sym (ap (made (record { modules = modules; operators = ops }) NumLine (free_in bank (take s.free free)) (bounded_in bank s.bounded.items)) (seen.tree ∙ shape)));
+      ∙ sym (ap (made (record { modules = modules; operators = ops }) NumLine (free_in bank (take s.free free)) (bounded_in bank s.bounded.items))
+      (seen.tree ∙ shape)));
   left = λ modules q. h.left modules bank s.free;
 }
 

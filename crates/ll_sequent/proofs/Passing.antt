@@ -1,5 +1,6 @@
 -- The way through the nodes: its beginning, the sequent that is next, and what waits after its node.
-use Rattle.std.proofs.Common.{◌≡◌, ℕ, zero, suc, ◌<◌, ◌≤◌, true, List, [], ◌∷◌, ◌++◌, length, map, take, drop, reverse, get_or, refl, ap, sym, ◌∙◌, subst, arith, Some}
+use Rattle.std.proofs.Common.{◌≡◌, ℕ, zero, suc, ◌<◌, ◌≤◌, true, List, [], ◌∷◌, ◌++◌, length, map, take, drop, reverse, get_or, refl, ap, sym, ◌∙◌, subst}
+use Rattle.std.proofs.Common.{arith, Some}
 use Rattle.std.specs.List.{list_all}
 use Rattle.std.proofs.lemmas.Bool.{and_parts}
 use Rattle.std.proofs.lemmas.List.{take-take, length-take-le, length-append}
@@ -26,7 +27,8 @@ use Rattle.ll_sequent.proofs.Waiting.{waiting_more, waiting_front, same_sequent,
 
 -- ---- the beginning
 
-pub root_waits : (modules : List ModuleTree) (bank : Nodes) (free : List Resource) (root : Sequent) (items : List Sequent) → items ≡ root ∷ [] → Holds modules bank free root
+pub root_waits : (modules : List ModuleTree) (bank : Nodes) (free : List Resource) (root : Sequent) (items : List Sequent) → items ≡ root ∷ []
+    → Holds modules bank free root
     → AreWaiting modules bank (length free) items
 root_waits modules bank free root items e h =
     let P : List Sequent → Type 0 = AreWaiting modules bank (length free) in
@@ -34,7 +36,8 @@ root_waits modules bank free root items e h =
     let high : root.free ≤ length free = let a = h.all in omega arith in
     subst P (sym e) (record { each = All-cons (IsSequent modules bank) root [] h.sequent (All-nil (IsSequent modules bank)); nested = (low, high) })
 
-pub root_owes : (ops : Operators) (modules : List ModuleTree) (bank : Nodes) (free : List Resource) (root : Sequent) (items : List Sequent) → items ≡ root ∷ [] → Holds modules bank free root → (lines : List Line) (x : Tree)
+pub root_owes : (ops : Operators) (modules : List ModuleTree) (bank : Nodes) (free : List Resource) (root : Sequent) (items : List Sequent) → items ≡ root ∷ []
+    → Holds modules bank free root → (lines : List Line) (x : Tree)
     → trees_of lines ≡ Some (x ∷ []) → Owes (beside ops modules) (fault_at ops modules x (sequent_in bank free root)) 1 lines (waiting_in bank free items)
 root_owes ops modules bank free root items e h lines x is =
     let P : List Sequent → Type 0 = λ ss. Owes (beside ops modules) (fault_at ops modules x (sequent_in bank free root)) 1 lines (waiting_in bank free ss) in
@@ -42,7 +45,8 @@ root_owes ops modules bank free root items e h lines x is =
 
 -- ---- the nodes
 
-pub line_at : (line : Rule → Line) (rules : List Rule) (k : ℕ) (d : Rule) → k < length rules → list_all is_line (map line rules) ≡ true → is_line (line (get_or rules k d)) ≡ true
+pub line_at : (line : Rule → Line) (rules : List Rule) (k : ℕ) (d : Rule) → k < length rules → list_all is_line (map line rules) ≡ true
+    → is_line (line (get_or rules k d)) ≡ true
 line_at line [] k d l h = absurd (omega arith)
 line_at line (r ∷ rules) zero d l h = (and_parts (is_line (line r)) (list_all is_line (map line rules)) h).0
 line_at line (r ∷ rules) (suc k) d l h = line_at line rules k d (omega arith) (and_parts (is_line (line r)) (list_all is_line (map line rules)) h).1
@@ -66,7 +70,8 @@ pub record Taken (modules : List ModuleTree) (bank : Nodes) (free : List Resourc
   pub holds : Holds modules bank free s
   pub behind : AreWaiting modules bank (length free) ss
 
-module _ (modules : List ModuleTree) (bank : Nodes) (before free : List Resource) (all ss : List Sequent) (s : Sequent) (e : all ≡ ss ++ s ∷ []) (cut : free ≡ take s.free before)
+module _ (modules : List ModuleTree) (bank : Nodes) (before free : List Resource) (all ss : List Sequent) (s : Sequent) (e : all ≡ ss ++ s ∷ [])
+    (cut : free ≡ take s.free before)
     (waits : AreWaiting modules bank (length before) all) (held : AreHeld modules bank before) where
   split : AreWaiting modules bank (length before) (ss ++ s ∷ [])
   split = let P : List Sequent → Type 0 = AreWaiting modules bank (length before) in subst P e waits
@@ -83,7 +88,12 @@ module _ (modules : List ModuleTree) (bank : Nodes) (before free : List Resource
       let P : List Resource → Type 0 = AreHeld modules bank in
       let Q : ℕ → Type 0 = λ n. AreWaiting modules bank n ss in
       record {
-        holds = record { sequent = p.next; unbounded = subst P (sym cut) (All-take (λ (r : Resource). IsHeld modules bank ClauseSide r.form.0) s.free before held); all = count };
+        holds = record {
+          sequent = p.next;
+          unbounded = subst P (sym cut)
+              (All-take (λ (r : Resource). IsHeld modules bank ClauseSide r.form.0) s.free before held);
+          all = count;
+        };
         behind = subst Q count p.behind;
       }
 
@@ -103,15 +113,18 @@ module _ (modules : List ModuleTree) (bank : Nodes) (before free : List Resource
 
 -- ---- a node
 
-asks_of : (bank : Nodes) (free : List Resource) (qs : List Sequent) (step : Step) → IsLeaving qs step → made_in bank free step ≡ Asks (map (sequent_in bank free) qs)
+asks_of : (bank : Nodes) (free : List Resource) (qs : List Sequent) (step : Step) → IsLeaving qs step
+    → made_in bank free step ≡ Asks (map (sequent_in bank free) qs)
 asks_of bank free qs (Refused r) l = absurd l
 asks_of bank free qs (Leaves v) l = ap (λ xs. Asks (map (sequent_in bank free) xs)) l
 
-left_of : (modules : List ModuleTree) (bank : Nodes) (n : ℕ) (qs : List Sequent) (step : Step) → IsLeaving qs step → IsLeft modules bank n step → AreLeft modules bank n qs
+left_of : (modules : List ModuleTree) (bank : Nodes) (n : ℕ) (qs : List Sequent) (step : Step) → IsLeaving qs step → IsLeft modules bank n step
+    → AreLeft modules bank n qs
 left_of modules bank n qs (Refused r) l h = absurd l
 left_of modules bank n qs (Leaves v) l h = let P : List Sequent → Type 0 = AreLeft modules bank n in subst P l h
 
-module _ (ops : Operators) (modules : List ModuleTree) {old new : Nodes} (before after : List Resource) (s : Sequent) (ss : List Sequent) (line : Line) (step : Step) (keeps : Extends old new)
+module _ (ops : Operators) (modules : List ModuleTree) {old new : Nodes} (before after : List Resource) (s : Sequent) (ss : List Sequent) (line : Line)
+    (step : Step) (keeps : Extends old new)
     (t : Taken modules old before s ss) (is : IsStep ops modules line (sequent_in old before s) new before after step) where
   pub step_refused : (whole : Checked) (k r : ℕ) (rest : List Line) → step ≡ Refused r
       → Owes (beside ops modules) whole k (line ∷ rest) (sequent_in old before s ∷ waiting_in old before ss) → whole ≡ Fault k r
@@ -124,11 +137,13 @@ module _ (ops : Operators) (modules : List ModuleTree) {old new : Nodes} (before
         let n : length before ≤ length after = let a = ap length is.adds.is in let b = length-append before is.adds.more in omega arith in
         subst P (sym e) (waiting_after modules before after ss qs keeps t.behind n (left_of modules new (length after) qs step leaving is.left))
 
-    pub step_owes : (whole : Checked) (k : ℕ) (rest : List Line) → Owes (beside ops modules) whole k (line ∷ rest) (sequent_in old before s ∷ waiting_in old before ss)
+    pub step_owes : (whole : Checked) (k : ℕ) (rest : List Line)
+        → Owes (beside ops modules) whole k (line ∷ rest) (sequent_in old before s ∷ waiting_in old before ss)
         → Owes (beside ops modules) whole (suc k) rest (waiting_in new after items)
     step_owes whole k rest o =
         let P : List SequentTree → Type 0 = Owes (beside ops modules) whole (suc k) rest in
         let w : waiting_in new after items ≡ map (sequent_in new after) qs ++ waiting_in old before ss =
         ap (waiting_in new after) e
-        ∙ (waiting_front new after ss qs ∙ ap (λ xs. map (sequent_in new after) qs ++ xs) (waiting_grown modules before after ss keeps t.behind t.holds.unbounded is.adds)) in
+        ∙ (waiting_front new after ss qs ∙ ap (λ xs. map (sequent_in new after) qs ++ xs)
+        (waiting_grown modules before after ss keeps t.behind t.holds.unbounded is.adds)) in
         subst P (sym w) (fits o (sym (asks_of new after qs step leaving) ∙ is.made))

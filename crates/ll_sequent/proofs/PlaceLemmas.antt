@@ -11,11 +11,14 @@ use Rattle.ll_sequent.specs.Opened.{form_trees}
 
 module _ {old new : Nodes} (keeps : Extends old new) where
   pub terms_grow : (ats more : List At) (at : At) → more ≡ ats ++ at ∷ [] → AllInTerms old ats → HasTerm new at.0 → AllInTerms new more
-  terms_grow ats more at e h l = let P : List At → Type 0 = AllInTerms new in subst P (sym e) (All-push (λ (a : At). HasTerm new a.0) ats at (AllInTerms-extends keeps ats h) l)
+  terms_grow ats more at e h l = let P : List At → Type 0 = AllInTerms new in
+      subst P (sym e) (All-push (λ (a : At). HasTerm new a.0) ats at (AllInTerms-extends keeps ats h) l)
 
-  pub trees_grow : (ats more : List At) (at : At) → more ≡ ats ++ at ∷ [] → AllInTerms old ats → term_trees new more ≡ term_trees old ats ++ term_tree new at.0 ∷ []
+  pub trees_grow : (ats more : List At) (at : At) → more ≡ ats ++ at ∷ [] → AllInTerms old ats
+      → term_trees new more ≡ term_trees old ats ++ term_tree new at.0 ∷ []
   trees_grow ats more at e h =
-      ap (term_trees new) e ∙ (map-append (λ (a : At). term_tree new a.0) ats (at ∷ []) ∙ ap (λ ts. ts ++ term_tree new at.0 ∷ []) (term_trees-extends keeps ats h))
+      ap (term_trees new) e ∙ (map-append (λ (a : At). term_tree new a.0) ats (at ∷ [])
+      ∙ ap (λ ts. ts ++ term_tree new at.0 ∷ []) (term_trees-extends keeps ats h))
 
   pub forms_extend : (fs : List FormAt) → AllInForms old fs → AllInForms new fs
   forms_extend fs h = λ k d l. HasForm-extends keeps (get_or fs k d).0 (h k d l)
@@ -25,9 +28,11 @@ module _ {old new : Nodes} (keeps : Extends old new) where
   form_trees_extend (f ∷ fs) h = λ i. form_tree-extends keeps f.0 (h 0 f (omega arith)) i ∷ form_trees_extend fs (λ k d l. h (suc k) d (omega arith)) i
 
   pub forms_grow : (fs more : List FormAt) (f : FormAt) → more ≡ fs ++ f ∷ [] → AllInForms old fs → HasForm new f.0 → AllInForms new more
-  forms_grow fs more f e h l = let P : List FormAt → Type 0 = AllInForms new in subst P (sym e) (All-push (λ (a : FormAt). HasForm new a.0) fs f (forms_extend fs h) l)
+  forms_grow fs more f e h l = let P : List FormAt → Type 0 = AllInForms new in
+      subst P (sym e) (All-push (λ (a : FormAt). HasForm new a.0) fs f (forms_extend fs h) l)
 
-  pub form_trees_grow : (fs more : List FormAt) (f : FormAt) → more ≡ fs ++ f ∷ [] → AllInForms old fs → form_trees new more ≡ form_trees old fs ++ form_tree new f.0 ∷ []
+  pub form_trees_grow : (fs more : List FormAt) (f : FormAt) → more ≡ fs ++ f ∷ [] → AllInForms old fs
+      → form_trees new more ≡ form_trees old fs ++ form_tree new f.0 ∷ []
   form_trees_grow fs more f e h =
       ap (form_trees new) e ∙ (map-append (λ (a : FormAt). form_tree new a.0) fs (f ∷ []) ∙ ap (λ ts. ts ++ form_tree new f.0 ∷ []) (form_trees_extend fs h))
 
@@ -36,7 +41,9 @@ pub map_more : {X Y : Type 0} (f : X → Y) (xs : List X) (i : ℕ) (d : X) → 
 map_more f xs i d l = ap (map f) (take_more xs i d l) ∙ map-append f (take i xs) (get_or xs i d ∷ [])
 
 -- a copy more
-pub copied_more : (terms old new : Nodes) (keeps : Extends old new) (places ats more : List At) (i : ℕ) (d at : At) → i < length places → more ≡ ats ++ at ∷ [] → AllInTerms old ats
-    → ShowsTerm new at.0 (term_tree terms (get_or places i d).0) → term_trees old ats ≡ term_trees terms (take i places) → term_trees new more ≡ term_trees terms (take (i + 1) places)
+pub copied_more : (terms old new : Nodes) (keeps : Extends old new) (places ats more : List At) (i : ℕ) (d at : At) → i < length places → more ≡ ats ++ at ∷ []
+    → AllInTerms old ats
+    → ShowsTerm new at.0 (term_tree terms (get_or places i d).0) → term_trees old ats ≡ term_trees terms (take i places)
+    → term_trees new more ≡ term_trees terms (take (i + 1) places)
 copied_more terms old new keeps places ats more i d at l e h s same =
     trees_grow keeps ats more at e h ∙ ((λ j. same j ++ s.tree j ∷ []) ∙ sym (map_more (λ (a : At). term_tree terms a.0) places i d l))

@@ -1,5 +1,6 @@
 -- The goal that a load stands for is sound: closed arguments take the places of a module's parameters.
-use Rattle.std.proofs.Common.{◌≡◌, ℕ, zero, suc, ◌+◌, ◌<◌, refl, ap, sym, ◌∙◌, subst, Bool, true, false, List, [], ◌∷◌, ◌++◌, map, take, reverse, length, get_or, All, Bor, arith}
+use Rattle.std.proofs.Common.{◌≡◌, ℕ, zero, suc, ◌+◌, ◌<◌, refl, ap, sym, ◌∙◌, subst, Bool, true, false, List, [], ◌∷◌, ◌++◌, map, take, reverse, length}
+use Rattle.std.proofs.Common.{get_or, All, Bor, arith}
 use Rattle.std.specs.Prelude.{◌&&◌, Option, Some, slice_index_or, slice_get, replicate}
 use Rattle.std.specs.List.{list_all}
 use Rattle.std.proofs.lemmas.Bool.{and_from, and_parts, eqb-true, ltb-true, lt-ltb}
@@ -13,7 +14,9 @@ use Rattle.ll_bank.specs.Nodes.{Nodes, form_tree, form_of, term_tree, term_trees
 use Rattle.ll_bank.specs.declared.At.{At}
 use Rattle.ll_bank.specs.declared.FormAt.{FormAt}
 use Rattle.ll_bank.specs.declared.FormNode.{FormNode}
-use Rattle.ll_bank.specs.declared.FormNode.TheVariants.{Top as TopView, One as OneView, Atom as AtomView, With as WithView, Tensor as TensorView, Plus as PlusView, Bang as BangView, Lolli as LolliView, Imp as ImpView, Forall as ForallView, Exists as ExistsView, Use as UseView, Is as IsView, Less as LessView, Most as MostView}
+use Rattle.ll_bank.specs.declared.FormNode.TheVariants.{Top as TopView, One as OneView, Atom as AtomView, With as WithView, Tensor as TensorView}
+use Rattle.ll_bank.specs.declared.FormNode.TheVariants.{Plus as PlusView, Bang as BangView, Lolli as LolliView, Imp as ImpView, Forall as ForallView}
+use Rattle.ll_bank.specs.declared.FormNode.TheVariants.{Exists as ExistsView, Use as UseView, Is as IsView, Less as LessView, Most as MostView}
 use Rattle.ll_laws.specs.Number.{Operators}
 use Rattle.ll_laws.specs.declared.Clause.{Clause}
 use Rattle.ll_laws.specs.declared.Kind.{Kind}
@@ -23,7 +26,8 @@ use Rattle.ll_laws.specs.declared.Module.{Module}
 use Rattle.ll_laws.specs.Shown.{clause_tree, module_tree}
 use Rattle.ll_laws.specs.Shows.{Labelled}
 use Rattle.ll_laws.specs.Line.{UseLine}
-use Rattle.ll_laws.specs.Valid.{Side, GoalSide, ClauseSide, Scope, places_below, free_below, may_head, is_headed, has_heads, fits_module, loads_fit, module_scope}
+use Rattle.ll_laws.specs.Valid.{Side, GoalSide, ClauseSide, Scope, places_below, free_below, may_head, is_headed, has_heads, fits_module, loads_fit}
+use Rattle.ll_laws.specs.Valid.{module_scope}
 use Rattle.ll_modules.specs.Loads.{arguments_env, MayLoad}
 use Rattle.ll_modules.proofs.CallerLemmas.{closes_nothing}
 use Rattle.ll_sequent.specs.declared.sequents.Resource.{Resource}
@@ -71,7 +75,8 @@ puts_nothing outer = record { free = λ k round l. absurd (omega arith); spines 
 
 -- a sound formula is sound under more quantifiers
 sound-wider : (modules : List ModuleTree) (side : Side) (outer : Scope) (f : Form) → IsSound modules side [] f → IsSound modules side outer f
-sound-wider modules side outer f h = let P : Form → Type 0 = IsSound modules side outer in subst P (closes_nothing f) (sound-close (puts_nothing outer) modules side f h)
+sound-wider modules side outer f h = let P : Form → Type 0 = IsSound modules side outer in
+    subst P (closes_nothing f) (sound-close (puts_nothing outer) modules side f h)
 
 -- ---- arguments
 
@@ -88,7 +93,8 @@ puts_none outer = record {
   headed = λ k round. refl;
 }
 
-pub puts_one : (u : Term) (e : Env) (inner outer : Scope) → places_below 0 u ≡ true → is_headed [] u ≡ true → Puts e inner outer → Puts (Some u ∷ e) (false ∷ inner) outer
+pub puts_one : (u : Term) (e : Env) (inner outer : Scope) → places_below 0 u ≡ true → is_headed [] u ≡ true → Puts e inner outer
+    → Puts (Some u ∷ e) (false ∷ inner) outer
 puts_one u e inner outer c d h = record { free = free; spines = spines; may = may; headed = headed }
   where
     free : (k : ℕ) (round : Scope) → k < length (false ∷ inner) → places_below (length round + length outer) (place (Some u ∷ e) k (length round)) ≡ true
@@ -99,7 +105,8 @@ puts_one u e inner outer c d h = record { free = free; spines = spines; may = ma
     spines zero round m = cc
     spines (suc k) round m = h.spines k round m
 
-    may : (k : ℕ) (round : Scope) → may_head (false ∷ inner) (Some (Bound k)) ≡ true → may_head (round ++ outer) (head_of (place (Some u ∷ e) k (length round))) ≡ true
+    may : (k : ℕ) (round : Scope) → may_head (false ∷ inner) (Some (Bound k)) ≡ true
+        → may_head (round ++ outer) (head_of (place (Some u ∷ e) k (length round))) ≡ true
     may zero round m = cc
     may (suc k) round m = h.may k round m
 
@@ -107,7 +114,8 @@ puts_one u e inner outer c d h = record { free = free; spines = spines; may = ma
     headed zero round = wider_headed (round ++ outer) u d
     headed (suc k) round = h.headed k round
 
-puts_each : (us : List Term) (outer : Scope) → list_all (places_below 0) us ≡ true → list_all (is_headed []) us ≡ true → Puts (map (λ t. Some t) us) (replicate (length us) false ++ outer) outer
+puts_each : (us : List Term) (outer : Scope) → list_all (places_below 0) us ≡ true → list_all (is_headed []) us ≡ true
+    → Puts (map (λ t. Some t) us) (replicate (length us) false ++ outer) outer
 puts_each [] outer c d = puts_none outer
 puts_each (u ∷ us) outer c d =
     let p = and_parts (places_below 0 u) (list_all (places_below 0) us) c in
@@ -132,30 +140,46 @@ puts_arguments m ts n c d =
 
 -- ---- the goal
 
-sound-load : (modules : List ModuleTree) (outer : Scope) (kind : Kind) (r g : Form) → IsSound modules ClauseSide outer r → IsSound modules GoalSide outer g → IsSound modules GoalSide outer (load kind r g)
-sound-load modules outer Linear r g h k = record { closed = and_from _ _ h.closed k.closed; heads = and_from _ _ h.heads k.heads; loads = and_from _ _ h.loads k.loads }
-sound-load modules outer Unbounded r g h k = record { closed = and_from _ _ h.closed k.closed; heads = and_from _ _ h.heads k.heads; loads = and_from _ _ h.loads k.loads }
+sound-load : (modules : List ModuleTree) (outer : Scope) (kind : Kind) (r g : Form) → IsSound modules ClauseSide outer r → IsSound modules GoalSide outer g
+    → IsSound modules GoalSide outer (load kind r g)
+sound-load modules outer Linear r g h k = record {
+  closed = and_from _ _ h.closed k.closed;
+  heads = and_from _ _ h.heads k.heads;
+  loads =
+      and_from _ _ h.loads k.loads;
+}
+sound-load modules outer Unbounded r g h k = record {
+  closed = and_from _ _ h.closed k.closed;
+  heads = and_from _ _ h.heads k.heads;
+  loads =
+      and_from _ _ h.loads k.loads;
+}
 
-sound-loads : (modules : List ModuleTree) (e : Env) (inner outer : Scope) → Puts e inner outer → (cs : List ClauseTree) (g : Form) → All (λ (c : ClauseTree). IsSound modules ClauseSide inner c.form) cs
+sound-loads : (modules : List ModuleTree) (e : Env) (inner outer : Scope) → Puts e inner outer → (cs : List ClauseTree) (g : Form)
+    → All (λ (c : ClauseTree). IsSound modules ClauseSide inner c.form) cs
     → IsSound modules GoalSide outer g → IsSound modules GoalSide outer (load_all e cs g)
 sound-loads modules e inner outer p [] g h k = k
 sound-loads modules e inner outer p (c ∷ cs) g h k =
-    sound-load modules outer c.kind (close_form e c.form) (load_all e cs g) (sound-close p modules ClauseSide c.form (All-head (λ (c : ClauseTree). IsSound modules ClauseSide inner c.form) c cs h))
+    sound-load modules outer c.kind (close_form e c.form) (load_all e cs g)
+    (sound-close p modules ClauseSide c.form (All-head (λ (c : ClauseTree). IsSound modules ClauseSide inner c.form) c cs h))
     (sound-loads modules e inner outer p cs g (All-tail (λ (c : ClauseTree). IsSound modules ClauseSide inner c.form) c cs h) k)
 
 last_first : (n : ℕ) (scope : Scope) → true ∷ (replicate n true ++ scope) ≡ replicate n true ++ true ∷ scope
 last_first zero scope = refl
 last_first (suc n) scope = ap (λ s. true ∷ s) (last_first n scope)
 
-sound-forall_all : (modules : List ModuleTree) (n : ℕ) (scope : Scope) (g : Form) → IsSound modules GoalSide (replicate n true ++ scope) g → IsSound modules GoalSide scope (forall_all n g)
+sound-forall_all : (modules : List ModuleTree) (n : ℕ) (scope : Scope) (g : Form) → IsSound modules GoalSide (replicate n true ++ scope) g
+    → IsSound modules GoalSide scope (forall_all n g)
 sound-forall_all modules zero scope g h = h
 sound-forall_all modules (suc n) scope g h =
     let P : Scope → Type 0 = λ s. IsSound modules GoalSide s g in
     let k = sound-forall_all modules n (true ∷ scope) g (subst P (last_first n scope) h) in
     record { closed = k.closed; heads = k.heads; loads = k.loads }
 
-pub sound-unfold_load : (modules : List ModuleTree) (m : ModuleTree) (ts : List Term) (g : Form) → length ts ≡ m.params → list_all (places_below 0) ts ≡ true → list_all (is_headed []) ts ≡ true
-    → All (λ (c : ClauseTree). IsSound modules ClauseSide (module_scope m) c.form) m.clauses → IsSound modules GoalSide [] g → IsSound modules GoalSide [] (unfold_load m ts g)
+pub sound-unfold_load : (modules : List ModuleTree) (m : ModuleTree) (ts : List Term) (g : Form) → length ts ≡ m.params → list_all (places_below 0) ts ≡ true
+    → list_all (is_headed []) ts ≡ true
+    → All (λ (c : ClauseTree). IsSound modules ClauseSide (module_scope m) c.form) m.clauses → IsSound modules GoalSide [] g
+    → IsSound modules GoalSide [] (unfold_load m ts g)
 sound-unfold_load modules m ts g n c d h k =
     let outer = replicate m.locals true in
     let l = sound-loads modules (arguments_env ts) (module_scope m) outer (puts_arguments m ts n c d) m.clauses g h (sound-wider modules GoalSide outer g k) in
@@ -169,8 +193,10 @@ may_load modules bank inner outer cs ts p h = λ k d l.
     let n : k < length (map (clause_tree bank) cs) = let e = length-map cs (clause_tree bank) in omega arith in
     let s = h k (clause_tree bank d) n in
     let P : ClauseTree → Type 0 = λ c. IsSound modules ClauseSide inner c.form in
-    let t : IsSound modules ClauseSide inner (form_tree bank (get_or cs k d).form.0) = subst P (get_or-map (clause_tree bank) cs k d (clause_tree bank d) l) s in
-    heads_apply ClauseSide outer (close_form (arguments_env ts) (form_tree bank (get_or cs k d).form.0)) (sound-close p modules ClauseSide (form_tree bank (get_or cs k d).form.0) t).heads
+    let t : IsSound modules ClauseSide inner (form_tree bank (get_or cs k d).form.0) =
+    subst P (get_or-map (clause_tree bank) cs k d (clause_tree bank d) l) s in
+    heads_apply ClauseSide outer (close_form (arguments_env ts) (form_tree bank (get_or cs k d).form.0))
+    (sound-close p modules ClauseSide (form_tree bank (get_or cs k d).form.0) t).heads
 
 -- ---- the rule
 
@@ -193,7 +219,8 @@ parts_of modules number ts g h =
     let r = and_parts (fits_module (slice_get modules number) ts) (loads_fit modules g) h.loads in
     record { args_closed = p.0; args_headed = q.0; fits = r.0; inner = record { closed = p.1; heads = q.1; loads = r.1 } }
 
-module _ (bank : Nodes) (modules : List Module) (number : ℕ) (m : Module) (args : List At) (body : FormAt) (s : Sequent) (low : number < length modules) (found : m ≡ get_or modules number m)
+module _ (bank : Nodes) (modules : List Module) (number : ℕ) (m : Module) (args : List At) (body : FormAt) (s : Sequent) (low : number < length modules)
+    (found : m ≡ get_or modules number m)
     (tree : form_tree bank s.goal.0 ≡ Use number (term_trees bank args) (form_tree bank body.0)) (sound : AreModulesSound (map (module_tree bank) modules))
     (sequent : IsSequent (map (module_tree bank) modules) bank s) where
   got : slice_get (map (module_tree bank) modules) number ≡ Some (module_tree bank m)
@@ -206,11 +233,14 @@ module _ (bank : Nodes) (modules : List Module) (number : ℕ) (m : Module) (arg
 
   counted : length (term_trees bank args) ≡ m.params
   counted =
-      let P : Option ModuleTree → Type 0 = λ o. fits_module o (term_trees bank args) ≡ true in eqb-true (length (term_trees bank args)) m.params (subst P got parts.fits)
+      let P : Option ModuleTree → Type 0 = λ o. fits_module o (term_trees bank args) ≡ true in
+      eqb-true (length (term_trees bank args)) m.params (subst P got parts.fits)
 
-  clauses_sound : All (λ (c : ClauseTree). IsSound (map (module_tree bank) modules) ClauseSide (module_scope (module_tree bank m)) c.form) (map (clause_tree bank) m.clauses.items)
+  clauses_sound : All (λ (c : ClauseTree). IsSound (map (module_tree bank) modules) ClauseSide (module_scope (module_tree bank m)) c.form)
+      (map (clause_tree bank) m.clauses.items)
   clauses_sound =
-      all_got (λ (t : ModuleTree). All (λ (c : ClauseTree). IsSound (map (module_tree bank) modules) ClauseSide (module_scope t) c.form) t.clauses) (map (module_tree bank) modules) number
+      all_got (λ (t : ModuleTree). All (λ (c : ClauseTree). IsSound (map (module_tree bank) modules) ClauseSide (module_scope t) c.form) t.clauses)
+      (map (module_tree bank) modules) number
       (module_tree bank m) sound got
 
   pub load_count : length args ≡ m.params
@@ -221,8 +251,10 @@ module _ (bank : Nodes) (modules : List Module) (number : ℕ) (m : Module) (arg
       may_load (map (module_tree bank) modules) bank (module_scope (module_tree bank m)) (replicate m.locals true) m.clauses.items (term_trees bank args)
       (puts_arguments (module_tree bank m) (term_trees bank args) counted parts.args_closed parts.args_headed) clauses_sound
 
-  pub load_steps : (new : Nodes) (p : Sequent) (step : Step) → Extends bank new → ShowsForm new p.goal.0 (unfold_load (module_tree bank m) (term_trees bank args) (form_tree bank body.0))
-      → p.free ≡ s.free → p.bounded.items ≡ s.bounded.items → IsLeaving (p ∷ []) step → (ops : Operators) (free : List Resource) → Holds (map (module_tree bank) modules) bank free s
+  pub load_steps : (new : Nodes) (p : Sequent) (step : Step) → Extends bank new
+      → ShowsForm new p.goal.0 (unfold_load (module_tree bank m) (term_trees bank args) (form_tree bank body.0))
+      → p.free ≡ s.free → p.bounded.items ≡ s.bounded.items → IsLeaving (p ∷ []) step → (ops : Operators) (free : List Resource)
+      → Holds (map (module_tree bank) modules) bank free s
       → IsStep ops (map (module_tree bank) modules) UseLine (sequent_in bank free s) new free free step
   load_steps new p step keeps shows same_free same_bounded leaving ops free h =
       let ms = map (module_tree bank) modules in
@@ -235,7 +267,8 @@ module _ (bank : Nodes) (modules : List Module) (number : ℕ) (m : Module) (arg
 
 -- ---- goals of another form
 
-not_use : (b : Setting) (bank : Nodes) (c d : List Labelled) (v : FormNode) → ((m : ℕ) (ts : Bor (List At)) (f : FormAt) → v ≡ UseView m ts f → ⊥) → made b UseLine c d (form_of bank v) ≡ Refuses 1
+not_use : (b : Setting) (bank : Nodes) (c d : List Labelled) (v : FormNode) → ((m : ℕ) (ts : Bor (List At)) (f : FormAt) → v ≡ UseView m ts f → ⊥)
+    → made b UseLine c d (form_of bank v) ≡ Refuses 1
 not_use b bank c d (UseView m ts f) n = absurd (n m ts f refl)
 not_use b bank c d TopView n = refl
 not_use b bank c d OneView n = refl
@@ -252,7 +285,8 @@ not_use b bank c d (IsView t u) n = refl
 not_use b bank c d (LessView t u) n = refl
 not_use b bank c d (MostView t u) n = refl
 
-pub use_refused : (bank : Nodes) (s : Sequent) (view : FormNode) → IsFormView bank s.goal.0 view → ((m : ℕ) (ts : Bor (List At)) (f : FormAt) → view ≡ UseView m ts f → ⊥)
+pub use_refused : (bank : Nodes) (s : Sequent) (view : FormNode) → IsFormView bank s.goal.0 view
+    → ((m : ℕ) (ts : Bor (List At)) (f : FormAt) → view ≡ UseView m ts f → ⊥)
     → StepsOver UseLine bank s bank (Refused 1)
 use_refused bank s view seen n = λ ops modules free h. record {
   made = sym (ap (made (beside ops modules) UseLine (free_in bank (take s.free free)) (bounded_in bank s.bounded.items)) seen.tree

@@ -14,7 +14,8 @@ use Rattle.ll_sequent.specs.Starting.{values}
 use Rattle.ll_sequent.proofs.Closings.{both_free, closed_free, closed_headed}
 
 -- what holds of closed terms and of variables holds of a value
-each_value : (P : Term → Type 0) → ((t : Term) → is_closed t ≡ true → P t) → (ts : List Term) (x : ℕ) (d : Term) → list_all is_closed ts ≡ true → P d → P (slice_index_or ts x d)
+each_value : (P : Term → Type 0) → ((t : Term) → is_closed t ≡ true → P t) → (ts : List Term) (x : ℕ) (d : Term) → list_all is_closed ts ≡ true → P d
+    → P (slice_index_or ts x d)
 each_value P closed [] x d h p = p
 each_value P closed (t ∷ ts) zero d h p = closed t (and_parts (is_closed t) (list_all is_closed ts) h).0
 each_value P closed (t ∷ ts) (suc x) d h p = each_value P closed ts x d (and_parts (is_closed t) (list_all is_closed ts) h).1 p
@@ -56,7 +57,8 @@ module _ (ts : List Term) (closed : list_all is_closed ts ≡ true) where
 
   terms_headed : (scope : Scope) (us : List Term) → list_all (is_headed scope) us ≡ true → list_all (is_headed scope) (map (sub (values ts)) us) ≡ true
   terms_headed scope [] p = refl
-  terms_headed scope (u ∷ us) p = let q = and_parts (is_headed scope u) (list_all (is_headed scope) us) p in and_from _ _ (term_headed scope u q.0) (terms_headed scope us q.1)
+  terms_headed scope (u ∷ us) p = let q = and_parts (is_headed scope u) (list_all (is_headed scope) us) p in
+      and_from _ _ (term_headed scope u q.0) (terms_headed scope us q.1)
 
   atom_after : (scope : Scope) (u : Term) → is_atom scope u ≡ true → is_atom scope (sub (values ts) u) ≡ true
   atom_after scope u p =
@@ -85,18 +87,26 @@ module _ (ts : List Term) (closed : list_all is_closed ts ≡ true) where
   form_heads side scope Top p = refl
   form_heads side scope One p = refl
   form_heads side scope (Atom a) p = atom_after scope a p
-  form_heads side scope (With f g) p = both_free (has_heads true side scope f) (has_heads true side scope g) (form_heads side scope f) (form_heads side scope g) p
-  form_heads side scope (Tensor f g) p = both_free (has_heads true side scope f) (has_heads true side scope g) (form_heads side scope f) (form_heads side scope g) p
-  form_heads side scope (Plus f g) p = both_free (has_heads true side scope f) (has_heads true side scope g) (form_heads side scope f) (form_heads side scope g) p
+  form_heads side scope (With f g) p = both_free (has_heads true side scope f) (has_heads true side scope g) (form_heads side scope f) (form_heads side scope g)
+      p
+  form_heads side scope (Tensor f g) p = both_free (has_heads true side scope f) (has_heads true side scope g) (form_heads side scope f)
+      (form_heads side scope g) p
+  form_heads side scope (Plus f g) p = both_free (has_heads true side scope f) (has_heads true side scope g) (form_heads side scope f) (form_heads side scope g)
+      p
   form_heads side scope (Bang f) p = form_heads side scope f p
-  form_heads GoalSide scope (Lolli f g) p = both_free (has_heads true ClauseSide scope f) (has_heads true GoalSide scope g) (form_heads ClauseSide scope f) (form_heads GoalSide scope g) p
-  form_heads ClauseSide scope (Lolli f g) p = both_free (has_heads true GoalSide scope f) (has_heads true ClauseSide scope g) (form_heads GoalSide scope f) (form_heads ClauseSide scope g) p
-  form_heads GoalSide scope (Imp f g) p = both_free (has_heads true ClauseSide scope f) (has_heads true GoalSide scope g) (form_heads ClauseSide scope f) (form_heads GoalSide scope g) p
-  form_heads ClauseSide scope (Imp f g) p = both_free (has_heads true GoalSide scope f) (has_heads true ClauseSide scope g) (form_heads GoalSide scope f) (form_heads ClauseSide scope g) p
+  form_heads GoalSide scope (Lolli f g) p = both_free (has_heads true ClauseSide scope f) (has_heads true GoalSide scope g) (form_heads ClauseSide scope f)
+      (form_heads GoalSide scope g) p
+  form_heads ClauseSide scope (Lolli f g) p = both_free (has_heads true GoalSide scope f) (has_heads true ClauseSide scope g) (form_heads GoalSide scope f)
+      (form_heads ClauseSide scope g) p
+  form_heads GoalSide scope (Imp f g) p = both_free (has_heads true ClauseSide scope f) (has_heads true GoalSide scope g) (form_heads ClauseSide scope f)
+      (form_heads GoalSide scope g) p
+  form_heads ClauseSide scope (Imp f g) p = both_free (has_heads true GoalSide scope f) (has_heads true ClauseSide scope g) (form_heads GoalSide scope f)
+      (form_heads ClauseSide scope g) p
   form_heads GoalSide scope (Forall f) p = form_heads GoalSide (true ∷ scope) f p
   form_heads ClauseSide scope (Forall f) p = form_heads ClauseSide (false ∷ scope) f p
   form_heads side scope (Exists f) p = form_heads side (false ∷ scope) f p
-  form_heads side scope (Use m us f) p = both_free (list_all (is_headed scope) us) (has_heads true side scope f) (terms_headed scope us) (form_heads side scope f) p
+  form_heads side scope (Use m us f) p = both_free (list_all (is_headed scope) us) (has_heads true side scope f) (terms_headed scope us)
+      (form_heads side scope f) p
   form_heads side scope (Num r t u) p = both_free (is_headed scope t) (is_headed scope u) (term_headed scope t) (term_headed scope u) p
 
   form_loads : (modules : List ModuleTree) (f : Form) → loads_fit modules f ≡ true → loads_fit modules (sub_form (values ts) f) ≡ true
@@ -112,7 +122,8 @@ module _ (ts : List Term) (closed : list_all is_closed ts ≡ true) where
   form_loads modules (Forall f) p = form_loads modules f p
   form_loads modules (Exists f) p = form_loads modules f p
   form_loads modules (Use m us f) p =
-      both_free (fits_module (slice_get modules m) us) (loads_fit modules f) (fits_module-length (slice_get modules m) us (map (sub (values ts)) us) (length-map us (sub (values ts)))) (form_loads modules f) p
+      both_free (fits_module (slice_get modules m) us) (loads_fit modules f)
+      (fits_module-length (slice_get modules m) us (map (sub (values ts)) us) (length-map us (sub (values ts)))) (form_loads modules f) p
   form_loads modules (Num r t u) p = refl
 
   pub sound-values : (modules : List ModuleTree) (side : Side) (f : Form) → IsSound modules side [] f → IsSound modules side [] (sub_form (values ts) f)

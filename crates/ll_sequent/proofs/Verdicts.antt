@@ -21,22 +21,28 @@ use Rattle.ll_sequent.specs.Told.{Tells, IsVerdict}
 
 -- ---- a valid problem
 
-formula_sound : (modules : List ModuleTree) (variables : ℕ) (side : Side) (scope : Scope) (f : Form) → IsFormula (given modules variables) side scope f → IsSound modules side scope f
+formula_sound : (modules : List ModuleTree) (variables : ℕ) (side : Side) (scope : Scope) (f : Form) → IsFormula (given modules variables) side scope f
+    → IsSound modules side scope f
 formula_sound modules variables side scope f h =
     let more : Allowed = record { modules = modules; variables = variables; eigens = 0; opens = true } in
     let g : Grows (given modules variables) more = record { modules = refl; variables = omega arith; eigens = omega arith; opens = λ e. refl } in
-    let m = formula_of_fits more side scope f (fits-more (given modules variables) more side scope scope f g (widens-refl scope) (fits_of_formula (given modules variables) side scope f h)) in
+    let m = formula_of_fits more side scope f (fits-more (given modules variables) more side scope scope f g (widens-refl scope)
+    (fits_of_formula (given modules variables) side scope f h)) in
     record { closed = m.closed; heads = m.heads; loads = m.loads }
 
-clauses_sound : (names : ℕ) (modules : List ModuleTree) (scope : Scope) (cs : List ClauseTree) → AreClauses names modules scope cs → All (λ (c : ClauseTree). IsSound modules ClauseSide scope c.form) cs
+clauses_sound : (names : ℕ) (modules : List ModuleTree) (scope : Scope) (cs : List ClauseTree) → AreClauses names modules scope cs
+    → All (λ (c : ClauseTree). IsSound modules ClauseSide scope c.form) cs
 clauses_sound names modules scope [] h = All-nil (λ (c : ClauseTree). IsSound modules ClauseSide scope c.form)
 clauses_sound names modules scope (c ∷ cs) h =
-    All-cons (λ (c : ClauseTree). IsSound modules ClauseSide scope c.form) c cs (formula_sound modules 0 ClauseSide scope c.form h.0) (clauses_sound names modules scope cs h.2)
+    All-cons (λ (c : ClauseTree). IsSound modules ClauseSide scope c.form) c cs (formula_sound modules 0 ClauseSide scope c.form h.0)
+    (clauses_sound names modules scope cs h.2)
 
-modules_sound : (names : ℕ) (modules ms : List ModuleTree) → AreModules names modules ms → All (λ (m : ModuleTree). All (λ (c : ClauseTree). IsSound modules ClauseSide (module_scope m) c.form) m.clauses) ms
+modules_sound : (names : ℕ) (modules ms : List ModuleTree) → AreModules names modules ms
+    → All (λ (m : ModuleTree). All (λ (c : ClauseTree). IsSound modules ClauseSide (module_scope m) c.form) m.clauses) ms
 modules_sound names modules [] h = All-nil (λ (m : ModuleTree). All (λ (c : ClauseTree). IsSound modules ClauseSide (module_scope m) c.form) m.clauses)
 modules_sound names modules (m ∷ ms) h =
-    All-cons (λ (m : ModuleTree). All (λ (c : ClauseTree). IsSound modules ClauseSide (module_scope m) c.form) m.clauses) m ms (clauses_sound names modules (module_scope m) m.clauses h.0)
+    All-cons (λ (m : ModuleTree). All (λ (c : ClauseTree). IsSound modules ClauseSide (module_scope m) c.form) m.clauses) m ms
+    (clauses_sound names modules (module_scope m) m.clauses h.0)
     (modules_sound names modules ms h.2)
 
 pub valid_modules : (p : ProblemTree) → IsValid p → AreModulesSound p.modules
@@ -56,7 +62,11 @@ sound_along modules cs ds f g d e h =
 
 -- another number of terms than the query has variables
 pub other_number : (p : ProblemTree) (d : DerivationLines) → (length d.asked ≡ length p.asked → ⊥) → IsVerdict p d (No 0 11)
-other_number p d h = (λ s. h s.count, λ x t. fails (nat_eq (length d.asked) (length p.asked)) refl (fault (setting_of p) 1 x (root_free p) (root_bounded p) (instantiated_goal p d.asked)))
+other_number p d h = (
+  λ s. h s.count,
+  λ x t. fails (nat_eq (length d.asked) (length p.asked)) refl
+      (fault (setting_of p) 1 x (root_free p) (root_bounded p) (instantiated_goal p d.asked)),
+)
   where
     fails : (b : Bool) → nat_eq (length d.asked) (length p.asked) ≡ b → (c : Checked) → (if b then c else Fault 0 11) ≡ Fault 0 11
     fails true e c = absurd (h (eqb-true (length d.asked) (length p.asked) e))
@@ -64,7 +74,8 @@ other_number p d h = (λ s. h s.count, λ x t. fails (nat_eq (length d.asked) (l
 
 -- what a check tells
 pub verdict_told : (p : ProblemTree) (d : DerivationLines) (v : Verdict) → IsWhole d → length d.asked ≡ length p.asked
-    → ((x : Tree) → trees_of d.nodes ≡ Some (x ∷ []) → Tells v (fault (setting_of p) 1 x (root_free p) (root_bounded p) (instantiated_goal p d.asked))) → IsVerdict p d v
+    → ((x : Tree) → trees_of d.nodes ≡ Some (x ∷ []) → Tells v (fault (setting_of p) 1 x (root_free p) (root_bounded p) (instantiated_goal p d.asked)))
+    → IsVerdict p d v
 verdict_told p d Yes w n h = let t = h w.tree w.is_tree in no-fault-shows p d w.tree t.0 w.nodes w.is_tree (counted p d w.tree n ∙ t.1)
   where
     counted : (p : ProblemTree) (d : DerivationLines) (x : Tree) → length d.asked ≡ length p.asked

@@ -19,11 +19,14 @@ use Rattle.ll_sequent.specs.Steps.{AreLeft}
 -- ---- the list
 
 -- a sequent that comes is next
-pub waiting_more : (bank : Nodes) (free : List Resource) (ss : List Sequent) (s : Sequent) → waiting_in bank free (ss ++ s ∷ []) ≡ sequent_in bank free s ∷ waiting_in bank free ss
-waiting_more bank free ss s = ap reverse (map-append (sequent_in bank free) ss (s ∷ [])) ∙ reverse-append (map (sequent_in bank free) ss) (sequent_in bank free s ∷ [])
+pub waiting_more : (bank : Nodes) (free : List Resource) (ss : List Sequent) (s : Sequent)
+    → waiting_in bank free (ss ++ s ∷ []) ≡ sequent_in bank free s ∷ waiting_in bank free ss
+waiting_more bank free ss s = ap reverse (map-append (sequent_in bank free) ss (s ∷ []))
+    ∙ reverse-append (map (sequent_in bank free) ss) (sequent_in bank free s ∷ [])
 
 -- sequents that come in reverse stand in front
-pub waiting_front : (bank : Nodes) (free : List Resource) (ss qs : List Sequent) → waiting_in bank free (ss ++ reverse qs) ≡ map (sequent_in bank free) qs ++ waiting_in bank free ss
+pub waiting_front : (bank : Nodes) (free : List Resource) (ss qs : List Sequent)
+    → waiting_in bank free (ss ++ reverse qs) ≡ map (sequent_in bank free) qs ++ waiting_in bank free ss
 waiting_front bank free ss [] = ap (waiting_in bank free) (same ss)
   where
     same : (xs : List Sequent) → xs ++ [] ≡ xs
@@ -95,11 +98,13 @@ module _ {old new : Nodes} (keeps : Extends old new) where
       λ i. record { label = r.label; clause = form_tree-extends keeps r.form.0 a.inside i } ∷ t i
 
   -- a sequent shows the same, over unbounded clauses of which its own are the same
-  pub same_sequent : (modules : List ModuleTree) (before after : List Resource) (s : Sequent) → IsSequent modules old s → AreHeld modules old before → take s.free after ≡ take s.free before
+  pub same_sequent : (modules : List ModuleTree) (before after : List Resource) (s : Sequent) → IsSequent modules old s → AreHeld modules old before
+      → take s.free after ≡ take s.free before
       → sequent_in new after s ≡ sequent_in old before s
   same_sequent modules before after s h held e =
       let f : free_in new (take s.free after) ≡ free_in old (take s.free before) =
-      ap (free_in new) e ∙ ap reverse (same_labelled modules (take s.free before) (All-take (λ (r : Resource). IsHeld modules old ClauseSide r.form.0) s.free before held)) in
+      ap (free_in new) e ∙ ap reverse (same_labelled modules (take s.free before)
+      (All-take (λ (r : Resource). IsHeld modules old ClauseSide r.form.0) s.free before held)) in
       let b = same_labelled modules s.bounded.items h.bounded in
       let g = form_tree-extends keeps s.goal.0 h.goal.inside in
       λ i. record { free = f i; bounded = b i; goal = g i }
@@ -108,8 +113,10 @@ module _ {old new : Nodes} (keeps : Extends old new) where
       → All (λ (s : Sequent). take s.free after ≡ take s.free before) ss → map (sequent_in new after) ss ≡ map (sequent_in old before) ss
   same_sequents modules before after [] h held e = refl
   same_sequents modules before after (s ∷ ss) h held e =
-      let p = same_sequent modules before after s (All-head (IsSequent modules old) s ss h) held (All-head (λ (s : Sequent). take s.free after ≡ take s.free before) s ss e) in
-      let q = same_sequents modules before after ss (All-tail (IsSequent modules old) s ss h) held (All-tail (λ (s : Sequent). take s.free after ≡ take s.free before) s ss e) in
+      let p = same_sequent modules before after s (All-head (IsSequent modules old) s ss h) held
+      (All-head (λ (s : Sequent). take s.free after ≡ take s.free before) s ss e) in
+      let q = same_sequents modules before after ss (All-tail (IsSequent modules old) s ss h) held
+      (All-tail (λ (s : Sequent). take s.free after ≡ take s.free before) s ss e) in
       λ i. p i ∷ q i
 
   -- modules show the same
@@ -133,13 +140,16 @@ module _ {old new : Nodes} (keeps : Extends old new) where
 -- ---- what waits
 
 -- the unbounded clauses that a sequent does not have are taken away
-pub waiting_cut : (modules : List ModuleTree) (bank : Nodes) (free : List Resource) (n : ℕ) (ss : List Sequent) → Extends bank bank → AreWaiting modules bank n ss → AreHeld modules bank free
+pub waiting_cut : (modules : List ModuleTree) (bank : Nodes) (free : List Resource) (n : ℕ) (ss : List Sequent) → Extends bank bank
+    → AreWaiting modules bank n ss → AreHeld modules bank free
     → waiting_in bank (take n free) ss ≡ waiting_in bank free ss
 waiting_cut modules bank free n ss keeps w held =
-    ap reverse (same_sequents keeps modules free (take n free) ss w.each held (λ k d l. take-take (get_or ss k d).free n free (nested-each 0 ss n w.nested k d l)))
+    ap reverse (same_sequents keeps modules free (take n free) ss w.each held
+    (λ k d l. take-take (get_or ss k d).free n free (nested-each 0 ss n w.nested k d l)))
 
 -- the bank grows, and unbounded clauses come
-pub waiting_grown : (modules : List ModuleTree) {old new : Nodes} (before after : List Resource) (ss : List Sequent) → Extends old new → AreWaiting modules old (length before) ss
+pub waiting_grown : (modules : List ModuleTree) {old new : Nodes} (before after : List Resource) (ss : List Sequent) → Extends old new
+    → AreWaiting modules old (length before) ss
     → AreHeld modules old before → Adds before after → waiting_in new after ss ≡ waiting_in old before ss
 waiting_grown modules before after ss keeps w held adds =
     ap reverse (same_sequents keeps modules before after ss w.each held
@@ -151,7 +161,8 @@ pub record Popped (modules : List ModuleTree) (bank : Nodes) (free : List Resour
   pub behind : AreWaiting modules bank s.free ss
   pub within : s.free ≤ length free
 
-pub popped : (modules : List ModuleTree) (bank : Nodes) (free : List Resource) (ss : List Sequent) (s : Sequent) → AreWaiting modules bank (length free) (ss ++ s ∷ []) → Popped modules bank free ss s
+pub popped : (modules : List ModuleTree) (bank : Nodes) (free : List Resource) (ss : List Sequent) (s : Sequent)
+    → AreWaiting modules bank (length free) (ss ++ s ∷ []) → Popped modules bank free ss s
 popped modules bank free ss s w =
     let n = nested-less 0 ss s (length free) w.nested in
     record { next = last ss w.each; behind = record { each = first ss w.each; nested = n.0 }; within = n.1 }
@@ -162,16 +173,20 @@ popped modules bank free ss s w =
 
     first : (xs : List Sequent) → All (IsSequent modules bank) (xs ++ s ∷ []) → All (IsSequent modules bank) xs
     first [] h = λ k d l. absurd (let z : k < 0 = l in omega arith)
-    first (x ∷ xs) h = All-cons (IsSequent modules bank) x xs (All-head (IsSequent modules bank) x (xs ++ s ∷ []) h) (first xs (All-tail (IsSequent modules bank) x (xs ++ s ∷ []) h))
+    first (x ∷ xs) h = All-cons (IsSequent modules bank) x xs (All-head (IsSequent modules bank) x (xs ++ s ∷ []) h)
+        (first xs (All-tail (IsSequent modules bank) x (xs ++ s ∷ []) h))
 
 -- what waits after a step
-pub waiting_after : (modules : List ModuleTree) {old new : Nodes} (before after : List Resource) (ss qs : List Sequent) → Extends old new → AreWaiting modules old (length before) ss
+pub waiting_after : (modules : List ModuleTree) {old new : Nodes} (before after : List Resource) (ss qs : List Sequent) → Extends old new
+    → AreWaiting modules old (length before) ss
     → length before ≤ length after → AreLeft modules new (length after) qs → AreWaiting modules new (length after) (ss ++ reverse qs)
 waiting_after modules {old} {new} before after ss qs keeps w more left = record {
   each =
-      All-append (IsSequent modules new) ss (reverse qs) (λ k d l. sequent-extends keeps modules (get_or ss k d) (w.each k d l)) (turned (IsSequent modules new) qs left.each);
+      All-append (IsSequent modules new) ss (reverse qs) (λ k d l. sequent-extends keeps modules (get_or ss k d) (w.each k d l))
+      (turned (IsSequent modules new) qs left.each);
   nested =
-      nested-all 0 ss (reverse qs) (length after) (nested-wider 0 ss (length before) (length after) more w.nested) (turned (λ (q : Sequent). q.free ≡ length after) qs left.whole);
+      nested-all 0 ss (reverse qs) (length after) (nested-wider 0 ss (length before) (length after) more w.nested)
+      (turned (λ (q : Sequent). q.free ≡ length after) qs left.whole);
 }
   where
     turned : (P : Sequent → Type 0) (xs : List Sequent) → All P xs → All P (reverse xs)

@@ -1,5 +1,6 @@
 -- The way to a leaf, step by step.
-use Rattle.std.proofs.Common.{◌≡◌, ℕ, zero, suc, ◌+◌, ◌<◌, ◌≤◌, refl, ap, sym, subst, ◌∙◌, arith, true, false, List, [], ◌∷◌, ◌++◌, length, length-drop, map, take, drop, drop-cons, inl, inr, reverse, get_or, Some, None}
+use Rattle.std.proofs.Common.{◌≡◌, ℕ, zero, suc, ◌+◌, ◌<◌, ◌≤◌, refl, ap, sym, subst, ◌∙◌, arith, true, false, List, [], ◌∷◌, ◌++◌, length, length-drop, map}
+use Rattle.std.proofs.Common.{take, drop, drop-cons, inl, inr, reverse, get_or, Some, None}
 use Rattle.std.specs.Prelude.{option_map}
 use Rattle.std.specs.List.{list_all}
 use Rattle.std.proofs.lemmas.Bool.{and_parts, cases_lt}
@@ -38,11 +39,13 @@ needed_one keeps (Unbounded g) h = ap NeedsFree (form_tree-extends keeps g.0 h)
 pub needed_same : {old new : Nodes} (keeps : Extends old new) (ps : List Needed) → AreNeeded old ps → map (needed_in new) ps ≡ map (needed_in old) ps
 needed_same keeps [] h = refl
 needed_same {old} keeps (p ∷ ps) h =
-    λ i. needed_one keeps p (All-head (λ (p : Needed). HasForm old (needed_at p).0) p ps h) i ∷ needed_same keeps ps (All-tail (λ (p : Needed). HasForm old (needed_at p).0) p ps h) i
+    λ i. needed_one keeps p (All-head (λ (p : Needed). HasForm old (needed_at p).0) p ps h) i
+    ∷ needed_same keeps ps (All-tail (λ (p : Needed). HasForm old (needed_at p).0) p ps h) i
 
 map_reverse : {X Y : Type 0} (f : X → Y) (xs : List X) → map f (reverse xs) ≡ reverse (map f xs)
 map_reverse f [] = refl
-map_reverse f (x ∷ xs) = ap (map f) (reverse-append (x ∷ []) xs) ∙ (map-append f (reverse xs) (x ∷ []) ∙ (ap (λ ys. ys ++ f x ∷ []) (map_reverse f xs) ∙ sym (reverse-append (f x ∷ []) (map f xs))))
+map_reverse f (x ∷ xs) = ap (map f) (reverse-append (x ∷ []) xs)
+    ∙ (map-append f (reverse xs) (x ∷ []) ∙ (ap (λ ys. ys ++ f x ∷ []) (map_reverse f xs) ∙ sym (reverse-append (f x ∷ []) (map f xs))))
 
 pub closed_at : (ts : List Term) (i : ℕ) (d : Term) → i < length ts → list_all is_closed ts ≡ true → is_closed (get_or ts i d) ≡ true
 closed_at [] i d l h = absurd (omega arith)
@@ -67,10 +70,12 @@ pub record IsOnWay (first : Nodes) (clause k : ℕ) (ts : List Term) (bank : Nod
   pub heads : has_heads true ClauseSide scope (form_tree bank form) ≡ true
   pub within : passed ≤ length ts
   pub needed : AreNeeded bank ps
-  pub same : leaf (form_tree first clause) k ts ≡ option_map (put_behind (map (needed_in bank) ps)) (leaf_from (env (take passed ts)) (form_tree bank form) at (drop passed ts))
+  pub same : leaf (form_tree first clause) k ts ≡ option_map (put_behind (map (needed_in bank) ps))
+      (leaf_from (env (take passed ts)) (form_tree bank form) at (drop passed ts))
 
 module _ (first : Nodes) (clause k : ℕ) (ts : List Term) where
-  pub way_start : (ps : List Needed) → ps ≡ [] → HasForm first clause → has_heads true ClauseSide [] (form_tree first clause) ≡ true → IsOnWay first clause k ts first clause k 0 ps
+  pub way_start : (ps : List Needed) → ps ≡ [] → HasForm first clause → has_heads true ClauseSide [] (form_tree first clause) ≡ true
+      → IsOnWay first clause k ts first clause k 0 ps
   way_start ps e h g = record {
     keeps = Extends-refl first;
     inside = h;
@@ -79,13 +84,15 @@ module _ (first : Nodes) (clause k : ℕ) (ts : List Term) where
     heads = g;
     within = omega arith;
     needed = let P : List Needed → Type 0 = AreNeeded first in subst P (sym e) (λ k d l. absurd (omega arith));
-    same = behind_none (leaf (form_tree first clause) k ts) ∙ ap (λ qs. option_map (put_behind (map (needed_in first) qs)) (leaf (form_tree first clause) k ts)) (sym e);
+    same = behind_none (leaf (form_tree first clause) k ts) ∙ ap (λ qs. option_map (put_behind (map (needed_in first) qs)) (leaf (form_tree first clause) k ts))
+        (sym e);
   }
 
   module _ (bank : Nodes) (form : FormAt) (at passed : ℕ) (ps : List Needed) (way : IsOnWay first clause k ts bank form.0 at passed ps) where
     -- on to a part, with the same premises
     onto : (next : FormAt) (j : ℕ) → HasForm bank next.0 → has_heads true ClauseSide way.scope (form_tree bank next.0) ≡ true
-        → leaf_from (env (take passed ts)) (form_tree bank form.0) at (drop passed ts) ≡ leaf_from (env (take passed ts)) (form_tree bank next.0) j (drop passed ts)
+        → leaf_from (env (take passed ts)) (form_tree bank form.0) at (drop passed ts)
+        ≡ leaf_from (env (take passed ts)) (form_tree bank next.0) j (drop passed ts)
         → IsOnWay first clause k ts bank next.0 j passed ps
     onto next j h g e = record {
       keeps = way.keeps;
@@ -98,31 +105,37 @@ module _ (first : Nodes) (clause k : ℕ) (ts : List Term) where
       same = way.same ∙ ap (option_map (put_behind (map (needed_in bank) ps))) e;
     }
 
-    pub way_side : (q r : FormAt) (side : Side) → IsFormView bank form.0 (WithView q r) → IsSide (length (ways (form_tree bank q.0))) q r at side → IsOnWay first clause k ts bank side.form.0 side.leaf passed ps
+    pub way_side : (q r : FormAt) (side : Side) → IsFormView bank form.0 (WithView q r) → IsSide (length (ways (form_tree bank q.0))) q r at side
+        → IsOnWay first clause k ts bank side.form.0 side.leaf passed ps
     way_side q r side seen is =
         let i = way.inside in
         let e = env (take passed ts) in
-        let p = and_parts (has_heads true ClauseSide way.scope (form_tree bank q.0)) (has_heads true ClauseSide way.scope (form_tree bank r.0)) (sym (ap (has_heads true ClauseSide way.scope) seen.tree) ∙ way.heads) in
+        let p = and_parts (has_heads true ClauseSide way.scope (form_tree bank q.0)) (has_heads true ClauseSide way.scope (form_tree bank r.0))
+        (sym (ap (has_heads true ClauseSide way.scope) seen.tree) ∙ way.heads) in
         elim (cases_lt at (length (ways (form_tree bank q.0)))) [
           | inl l ↦
               let s = is.0 l in
               let P : FormAt → Type 0 = λ f. IsOnWay first clause k ts bank f.0 side.leaf passed ps in
               subst P (sym s.0)
               (onto q side.leaf (let w = seen.parts.0 in omega arith) p.0
-              (ap (λ f. leaf_from e f at (drop passed ts)) seen.tree ∙ (leaf_left e (form_tree bank q.0) (form_tree bank r.0) at (drop passed ts) l ∙ ap (λ j. leaf_from e (form_tree bank q.0) j (drop passed ts)) (sym s.1))))
+              (ap (λ f. leaf_from e f at (drop passed ts)) seen.tree
+              ∙ (leaf_left e (form_tree bank q.0) (form_tree bank r.0) at (drop passed ts) l
+              ∙ ap (λ j. leaf_from e (form_tree bank q.0) j (drop passed ts)) (sym s.1))))
           | inr l ↦
               let s = is.1 l in
               let P : FormAt → Type 0 = λ f. IsOnWay first clause k ts bank f.0 side.leaf passed ps in
               subst P (sym s.0)
               (onto r side.leaf (let w = seen.parts.1 in omega arith) p.1
-              (ap (λ f. leaf_from e f at (drop passed ts)) seen.tree ∙ leaf_right e (form_tree bank q.0) (form_tree bank r.0) at side.leaf (drop passed ts) l s.1))
+              (ap (λ f. leaf_from e f at (drop passed ts)) seen.tree
+              ∙ leaf_right e (form_tree bank q.0) (form_tree bank r.0) at side.leaf (drop passed ts) l s.1))
         ]
 
     -- ---- a premise, of which a bank that grew has the goal
 
     module _ (new : Nodes) (keeps : Extends bank new) (p : Needed) (next : FormAt) (more : List Needed) (e : more ≡ ps ++ p ∷ []) where
       past : HasForm new (needed_at p).0 → HasForm bank next.0 → has_heads true ClauseSide way.scope (form_tree bank next.0) ≡ true
-          → leaf_from (env (take passed ts)) (form_tree bank form.0) at (drop passed ts) ≡ option_map (add_premise (needed_in new p)) (leaf_from (env (take passed ts)) (form_tree bank next.0) at (drop passed ts))
+          → leaf_from (env (take passed ts)) (form_tree bank form.0) at (drop passed ts)
+          ≡ option_map (add_premise (needed_in new p)) (leaf_from (env (take passed ts)) (form_tree bank next.0) at (drop passed ts))
           → IsOnWay first clause k ts new next.0 at passed more
       past g h s l =
           let P : List Needed → Type 0 = AreNeeded new in
@@ -140,23 +153,28 @@ module _ (first : Nodes) (clause k : ℕ) (ts : List Term) where
                 ∙ (ap (option_map (put_behind (map (needed_in bank) ps))) l
                 ∙ (behind_one (map (needed_in bank) ps) (needed_in new p) rest
                 ∙ (ap (λ qs. option_map (put_behind (qs ++ needed_in new p ∷ [])) rest) (sym (needed_same keeps ps way.needed))
-                ∙ ((λ i. option_map (put_behind (sym (ap (map (needed_in new)) e ∙ map-append (needed_in new) ps (p ∷ [])) i)) (leaf_from (env (take passed ts)) (sym tree i) at (drop passed ts)))))));
+                ∙ ((λ i. option_map (put_behind (sym (ap (map (needed_in new)) e ∙ map-append (needed_in new) ps (p ∷ [])) i))
+                (leaf_from (env (take passed ts)) (sym tree i) at (drop passed ts)))))));
           }
 
-    pub way_lolli : (new : Nodes) → Extends bank new → (g next image : FormAt) (more : List Needed) → IsFormView bank form.0 (LolliView g next) → ShowsForm new image.0 (close_form (env (take passed ts)) (form_tree bank g.0))
+    pub way_lolli : (new : Nodes) → Extends bank new → (g next image : FormAt) (more : List Needed) → IsFormView bank form.0 (LolliView g next)
+        → ShowsForm new image.0 (close_form (env (take passed ts)) (form_tree bank g.0))
         → more ≡ ps ++ Bounded image ∷ [] → IsOnWay first clause k ts new next.0 at passed more
     way_lolli new keeps g next image more seen shows e =
         let i = way.inside in let y = seen.parts.1 in
-        let p = and_parts (has_heads true GoalSide way.scope (form_tree bank g.0)) (has_heads true ClauseSide way.scope (form_tree bank next.0)) (sym (ap (has_heads true ClauseSide way.scope) seen.tree) ∙ way.heads) in
+        let p = and_parts (has_heads true GoalSide way.scope (form_tree bank g.0)) (has_heads true ClauseSide way.scope (form_tree bank next.0))
+        (sym (ap (has_heads true ClauseSide way.scope) seen.tree) ∙ way.heads) in
         past new keeps (Bounded image) next more e shows.inside (omega arith) p.1
         (ap (λ f. leaf_from (env (take passed ts)) f at (drop passed ts)) seen.tree
         ∙ ap (λ f. option_map (add_premise (Needs f)) (leaf_from (env (take passed ts)) (form_tree bank next.0) at (drop passed ts))) (sym shows.tree))
 
-    pub way_imp : (new : Nodes) → Extends bank new → (g next image : FormAt) (more : List Needed) → IsFormView bank form.0 (ImpView g next) → ShowsForm new image.0 (close_form (env (take passed ts)) (form_tree bank g.0))
+    pub way_imp : (new : Nodes) → Extends bank new → (g next image : FormAt) (more : List Needed) → IsFormView bank form.0 (ImpView g next)
+        → ShowsForm new image.0 (close_form (env (take passed ts)) (form_tree bank g.0))
         → more ≡ ps ++ Unbounded image ∷ [] → IsOnWay first clause k ts new next.0 at passed more
     way_imp new keeps g next image more seen shows e =
         let i = way.inside in let y = seen.parts.1 in
-        let p = and_parts (has_heads true GoalSide way.scope (form_tree bank g.0)) (has_heads true ClauseSide way.scope (form_tree bank next.0)) (sym (ap (has_heads true ClauseSide way.scope) seen.tree) ∙ way.heads) in
+        let p = and_parts (has_heads true GoalSide way.scope (form_tree bank g.0)) (has_heads true ClauseSide way.scope (form_tree bank next.0))
+        (sym (ap (has_heads true ClauseSide way.scope) seen.tree) ∙ way.heads) in
         past new keeps (Unbounded image) next more e shows.inside (omega arith) p.1
         (ap (λ f. leaf_from (env (take passed ts)) f at (drop passed ts)) seen.tree
         ∙ ap (λ f. option_map (add_premise (NeedsFree f)) (leaf_from (env (take passed ts)) (form_tree bank next.0) at (drop passed ts))) (sym shows.tree))
@@ -165,14 +183,18 @@ module _ (first : Nodes) (clause k : ℕ) (ts : List Term) where
     goal_heads : (g : Form) → has_heads true GoalSide way.scope g ≡ true → form_applies_heads (close_form (env (take passed ts)) g) ≡ true
     goal_heads g h = heads_apply GoalSide [] (close_form (env (take passed ts)) g) (form_heads way.puts GoalSide g h)
 
-    pub lolli_heads : (g next : FormAt) → IsFormView bank form.0 (LolliView g next) → form_applies_heads (close_form (env (take passed ts)) (form_tree bank g.0)) ≡ true
+    pub lolli_heads : (g next : FormAt) → IsFormView bank form.0 (LolliView g next)
+        → form_applies_heads (close_form (env (take passed ts)) (form_tree bank g.0)) ≡ true
     lolli_heads g next seen =
-        goal_heads (form_tree bank g.0) (and_parts (has_heads true GoalSide way.scope (form_tree bank g.0)) (has_heads true ClauseSide way.scope (form_tree bank next.0))
+        goal_heads (form_tree bank g.0) (and_parts (has_heads true GoalSide way.scope (form_tree bank g.0))
+        (has_heads true ClauseSide way.scope (form_tree bank next.0))
         (sym (ap (has_heads true ClauseSide way.scope) seen.tree) ∙ way.heads)).0
 
-    pub imp_heads : (g next : FormAt) → IsFormView bank form.0 (ImpView g next) → form_applies_heads (close_form (env (take passed ts)) (form_tree bank g.0)) ≡ true
+    pub imp_heads : (g next : FormAt) → IsFormView bank form.0 (ImpView g next)
+        → form_applies_heads (close_form (env (take passed ts)) (form_tree bank g.0)) ≡ true
     imp_heads g next seen =
-        goal_heads (form_tree bank g.0) (and_parts (has_heads true GoalSide way.scope (form_tree bank g.0)) (has_heads true ClauseSide way.scope (form_tree bank next.0))
+        goal_heads (form_tree bank g.0) (and_parts (has_heads true GoalSide way.scope (form_tree bank g.0))
+        (has_heads true ClauseSide way.scope (form_tree bank next.0))
         (sym (ap (has_heads true ClauseSide way.scope) seen.tree) ∙ way.heads)).0
 
     pub atom_heads : (a : At) → IsFormView bank form.0 (AtomView a) → applies_heads (close (env (take passed ts)) (term_tree bank a.0)) ≡ true
@@ -207,7 +229,8 @@ module _ (first : Nodes) (clause k : ℕ) (ts : List Term) where
       pub way_short : passed ≡ length ts → leaf (form_tree first clause) k ts ≡ None
       way_short e =
           way.same ∙ ap (option_map (put_behind (map (needed_in bank) ps)))
-          ((λ i. leaf_from (env (take passed ts)) (seen.tree i) at ((drop_all passed ts (let l : length ts ≤ passed = omega arith in l)) i)) ∙ none_left (env (take passed ts)) (form_tree bank body.0))
+          ((λ i. leaf_from (env (take passed ts)) (seen.tree i) at ((drop_all passed ts (let l : length ts ≤ passed = omega arith in l)) i))
+          ∙ none_left (env (take passed ts)) (form_tree bank body.0))
         where
           none_left : (e : Env) (f : Form) → leaf_from e (Forall f) at [] ≡ None
           none_left e f = refl
@@ -217,7 +240,8 @@ module _ (first : Nodes) (clause k : ℕ) (ts : List Term) where
     nothing : (f : Form) → form_tree bank form.0 ≡ f → leaf_from (env (take passed ts)) f at (drop passed ts) ≡ None → leaf (form_tree first clause) k ts ≡ None
     nothing f e n = way.same ∙ ap (option_map (put_behind (map (needed_in bank) ps))) (ap (λ g. leaf_from (env (take passed ts)) g at (drop passed ts)) e ∙ n)
 
-    pub way_other : (v : FormNode) → IsFormView bank form.0 v → ((a : At) → v ≡ AtomView a → ⊥) → ((f g : FormAt) → v ≡ WithView f g → ⊥) → ((f g : FormAt) → v ≡ LolliView f g → ⊥)
+    pub way_other : (v : FormNode) → IsFormView bank form.0 v → ((a : At) → v ≡ AtomView a → ⊥) → ((f g : FormAt) → v ≡ WithView f g → ⊥)
+        → ((f g : FormAt) → v ≡ LolliView f g → ⊥)
         → ((f g : FormAt) → v ≡ ImpView f g → ⊥) → ((f : FormAt) → v ≡ ForallView f → ⊥) → leaf (form_tree first clause) k ts ≡ None
     way_other v seen a w l i f = nothing (form_of bank v) seen.tree (leaf_no bank (env (take passed ts)) v at (drop passed ts) a w l i f)
 
@@ -231,29 +255,36 @@ module _ (first : Nodes) (clause k : ℕ) (ts : List Term) where
         let l : passed < length ts = elim (cases_lt passed (length ts)) [ inl l ↦ l | inr l ↦ absurd (n (omega arith)) ] in
         nothing (Atom (term_tree bank a.0)) seen.tree (leaf_more_terms (env (take passed ts)) (term_tree bank a.0) at (drop passed ts) (omega arith))
 
-    pub way_end : (new : Nodes) → Extends bank new → (a : At) (o : Opened) → IsFormView bank form.0 (AtomView a) → at ≡ 0 → passed ≡ length ts → ShowsTerm new o.head.0 (close (env (take passed ts)) (term_tree bank a.0))
+    pub way_end : (new : Nodes) → Extends bank new → (a : At) (o : Opened) → IsFormView bank form.0 (AtomView a) → at ≡ 0 → passed ≡ length ts
+        → ShowsTerm new o.head.0 (close (env (take passed ts)) (term_tree bank a.0))
         → o.premises.items ≡ reverse ps → ShowsLeaf new (leaf (form_tree first clause) k ts) o
     way_end new keeps a o seen zero_at all shows e =
         let Q : List Needed → Type 0 = AreNeeded new in
         let d : drop passed ts ≡ [] = drop_all passed ts (let l : length ts ≤ passed = omega arith in l) in
-        let end : leaf_from (env (take passed ts)) (form_tree bank form.0) at (drop passed ts) ≡ Some (record { premises = []; head = term_tree new o.head.0 }) =
-        (λ i. leaf_from (env (take passed ts)) (seen.tree i) (zero_at i) (d i)) ∙ ap (λ (t : Term). let l : Leaf = record { premises = []; head = t } in Some l) (sym shows.tree) in
+        let end : leaf_from (env (take passed ts)) (form_tree bank form.0) at (drop passed ts)
+        ≡ Some (record { premises = []; head = term_tree new o.head.0 }) =
+        (λ i. leaf_from (env (take passed ts)) (seen.tree i) (zero_at i) (d i))
+        ∙ ap (λ (t : Term). let l : Leaf = record { premises = []; head = t } in Some l) (sym shows.tree) in
         let goals : reverse (map (needed_in bank) ps) ≡ map (needed_in new) o.premises.items =
         ap reverse (sym (needed_same keeps ps way.needed)) ∙ sym (ap (map (needed_in new)) e ∙ map_reverse (needed_in new) ps) in
         record {
-          is = way.same ∙ (ap (option_map (put_behind (map (needed_in bank) ps))) end ∙ ap (λ qs. let l : Leaf = record { premises = qs; head = term_tree new o.head.0 } in Some l) goals);
+          is = way.same ∙ (ap (option_map (put_behind (map (needed_in bank) ps))) end
+              ∙ ap (λ qs. let l : Leaf = record { premises = qs; head = term_tree new o.head.0 } in Some l) goals);
           head = shows.inside;
           premises = subst Q (sym e) (all_reversed (λ (p : Needed). HasForm new (needed_at p).0) ps (needed_extend keeps ps way.needed));
         }
 
 -- what closes over the first values stands for the quantifiers that were passed
-pub env_passed : (first bank : Nodes) (keeps : Extends first bank) (vals : List At) (n : ℕ) → AllInTerms first vals → env_of bank (take n vals) ≡ env (take n (term_trees first vals))
+pub env_passed : (first bank : Nodes) (keeps : Extends first bank) (vals : List At) (n : ℕ) → AllInTerms first vals
+    → env_of bank (take n vals) ≡ env (take n (term_trees first vals))
 env_passed first bank keeps vals n h = ap reverse (each vals n h)
   where
-    each : (vs : List At) (n : ℕ) → AllInTerms first vs → map (λ (v : At). Some (term_tree bank v.0)) (take n vs) ≡ map (λ (t : Term). Some t) (take n (term_trees first vs))
+    each : (vs : List At) (n : ℕ) → AllInTerms first vs → map (λ (v : At). Some (term_tree bank v.0)) (take n vs)
+        ≡ map (λ (t : Term). Some t) (take n (term_trees first vs))
     each [] zero h = refl
     each [] (suc n) h = refl
     each (v ∷ vs) zero h = refl
     each (v ∷ vs) (suc n) h =
-        let t = term_tree-extends keeps v.0 (All-head (λ (a : At). HasTerm first a.0) v vs h) in let r = each vs n (All-tail (λ (a : At). HasTerm first a.0) v vs h) in
+        let t = term_tree-extends keeps v.0 (All-head (λ (a : At). HasTerm first a.0) v vs h) in
+        let r = each vs n (All-tail (λ (a : At). HasTerm first a.0) v vs h) in
         λ i. Some (t i) ∷ r i

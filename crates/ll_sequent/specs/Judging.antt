@@ -32,16 +32,19 @@ pub record Holds (modules : List ModuleTree) (bank : Nodes) (free : List Resourc
   pub all : s.free ≡ length free
 
 -- what comes of a node: what its line makes of the sequent, which holds again; clauses may have come to the unbounded ones
-pub record IsStep (ops : Operators) (modules : List ModuleTree) (line : Line) (q : SequentTree) (bank : Nodes) (old new : List Resource) (step : Step) : Type 0 where
-  pub made : made_in bank new step ≡ made_at (beside ops modules) line q
-  pub left : IsLeft modules bank (length new) step
-  pub free : AreHeld modules bank new
-  pub adds : Adds old new
+pub record IsStep (ops : Operators) (modules : List ModuleTree) (line : Line) (q : SequentTree) (bank : Nodes) (old new : List Resource) (step : Step) : Type 0
+  where
+    pub made : made_in bank new step ≡ made_at (beside ops modules) line q
+    pub left : IsLeft modules bank (length new) step
+    pub free : AreHeld modules bank new
+    pub adds : Adds old new
 
 -- the same, beside any operators and any modules for which the sequent holds
 abbrev pub Steps : Line → Nodes → List Resource → Sequent → Nodes → List Resource → Step → Type 0
-Steps line old before s new after step = (ops : Operators) (modules : List ModuleTree) → Holds modules old before s → IsStep ops modules line (sequent_in old before s) new before after step
+Steps line old before s new after step = (ops : Operators) (modules : List ModuleTree) → Holds modules old before s
+    → IsStep ops modules line (sequent_in old before s) new before after step
 
 -- the same over any unbounded clauses, to which none come
 abbrev pub StepsOver : Line → Nodes → Sequent → Nodes → Step → Type 0
-StepsOver line old s new step = (ops : Operators) (modules : List ModuleTree) (free : List Resource) → Holds modules old free s → IsStep ops modules line (sequent_in old free s) new free free step
+StepsOver line old s new step = (ops : Operators) (modules : List ModuleTree) (free : List Resource) → Holds modules old free s
+    → IsStep ops modules line (sequent_in old free s) new free free step

@@ -33,5 +33,6 @@ pub record Makes (bank : Nodes) (line : Line) (s : Sequent) (step : Step) : Type
 
 -- the same of a line that looks at numbers, beside these operators
 pub record MakesBy (ops : Operators) (bank : Nodes) (line : Line) (s : Sequent) (step : Step) : Type 0 where
-  pub is : (modules : List ModuleTree) (free : List Resource) → made_in bank free step ≡ made_at (record { modules = modules; operators = ops }) line (sequent_in bank free s)
+  pub is : (modules : List ModuleTree) (free : List Resource)
+      → made_in bank free step ≡ made_at (record { modules = modules; operators = ops }) line (sequent_in bank free s)
   pub left : (modules : List ModuleTree) → IsSequent modules bank s → IsLeft modules bank s.free step

@@ -78,10 +78,12 @@ abbrev pub form_trees : Nodes → List FormAt → List Form
 form_trees bank fs = map (λ (f : FormAt). form_tree bank f.0) fs
 
 -- the clauses were dealt out among the parts of a node, and each goal has its sequent over so many unbounded clauses
-pub record IsDealtOut (lines : List PartLine) (goals : List FormAt) (free : ℕ) (bounded : List Resource) (bank : Nodes) (gs : List Premise) (qs : List Sequent) : Type 0 where
+pub record IsDealtOut (lines : List PartLine) (goals : List FormAt) (free : ℕ) (bounded : List Resource) (bank : Nodes) (gs : List Premise) (qs : List Sequent)
+    : Type 0 where
   pub deal : parts_deal (blank lines) (bounded_in bank bounded) ≡ true
   pub shows : (all : List Resource) → map (sequent_in bank all) qs ≡ premises lines (free_in bank (take free all)) (bounded_in bank bounded) gs
-  pub left : (modules : List ModuleTree) → AreHeld modules bank bounded → All (λ (f : FormAt). IsHeld modules bank GoalSide f.0) goals → AreLeft modules bank free qs
+  pub left : (modules : List ModuleTree) → AreHeld modules bank bounded → All (λ (f : FormAt). IsHeld modules bank GoalSide f.0) goals
+      → AreLeft modules bank free qs
 
 -- what comes of dealing: the sequents of goals that are those of premises which the parts fit, or reason 3
 abbrev pub IsDealing : List PartLine → List FormAt → ℕ → List Resource → Nodes → List Premise → Step → Type 0
@@ -90,4 +92,5 @@ IsDealing lines goals free bounded bank gs (Leaves qs) = IsDealtOut lines goals 
 
 abbrev pub IsDealt : List PartLine → List FormAt → ℕ → List Resource → Step → Type 0
 IsDealt lines goals free bounded step =
-    (bank : Nodes) (gs : List Premise) → form_trees bank goals ≡ map premise_goal gs → parts_fit (blank lines) gs ≡ true → IsDealing lines goals free bounded bank gs step
+    (bank : Nodes) (gs : List Premise) → form_trees bank goals ≡ map premise_goal gs → parts_fit (blank lines) gs ≡ true
+    → IsDealing lines goals free bounded bank gs step

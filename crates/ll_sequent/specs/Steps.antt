@@ -9,7 +9,8 @@ use Rattle.ll_laws.specs.Leaf.{Premise, Needs, NeedsFree}
 use Rattle.ll_laws.specs.Module.{Setting, ModuleTree, unfold_load}
 use Rattle.ll_laws.specs.Number.{holds}
 use Rattle.ll_laws.specs.Shows.{Tree, OneNode, Parts, NoParts, BoundedPart, UnboundedPart, Labelled, clauses, has_label, part, rest, splits, pick}
-use Rattle.ll_laws.specs.Line.{PartLine, Labels, Free, Line, OneLine, EraseLine, WithLine, LeftLine, RightLine, BangLine, UseLine, TensorLine, LolliLine, ImpLine, ForallLine, ExistsLine, ClauseLine, NumLine, trees_of}
+use Rattle.ll_laws.specs.Line.{PartLine, Labels, Free, Line, OneLine, EraseLine, WithLine, LeftLine, RightLine, BangLine, UseLine, TensorLine, LolliLine}
+use Rattle.ll_laws.specs.Line.{ImpLine, ForallLine, ExistsLine, ClauseLine, NumLine, trees_of}
 use Rattle.ll_laws.specs.Fault.{Checked, Fits, then_check, is_empty, Judged, Wrong, Right, judge_clause, module_of, fault}
 use Rattle.ll_sequent.specs.declared.sequents.Resource.{Resource}
 use Rattle.ll_sequent.specs.declared.sequents.Sequent.{Sequent}
@@ -63,7 +64,8 @@ made beside RightLine c d (Plus g h) = Asks (sequent c d h ∷ [])
 made beside BangLine c d (Bang g) = provided (is_empty d) 2 (sequent c d g ∷ [])
 made beside (LolliLine n) c d (Lolli r g) = provided (not (has_label c n || has_label d n)) 9 (sequent c (d ++ record { label = n; clause = r } ∷ []) g ∷ [])
 made beside (ImpLine n) c d (Imp r g) = provided (not (has_label c n || has_label d n)) 9 (sequent (record { label = n; clause = r } ∷ c) d g ∷ [])
-made beside (ForallLine e) c d (Forall g) = provided (not (list_any (form_has_eigen e) (g ∷ (clauses c ++ clauses d)))) 10 (sequent c d (instantiate g (Con (Eigen e))) ∷ [])
+made beside (ForallLine e) c d (Forall g) = provided (not (list_any (form_has_eigen e) (g ∷ (clauses c ++ clauses d)))) 10
+    (sequent c d (instantiate g (Con (Eigen e))) ∷ [])
 made beside (ExistsLine t) c d (Exists g) = Asks (sequent c d (instantiate g t) ∷ [])
 made beside UseLine c d (Use m ts g) = made_by (module_of beside m) (λ l. sequent c d (unfold_load l ts g))
 made beside NumLine c d (Num r t u) = if is_empty d then provided (holds beside.operators r t u) 12 [] else Refuses 2

@@ -32,7 +32,8 @@ pub(crate) fn judge(
     requires inside { AllInTerms start.bank start.copies.items }
     requires reach { All (IsLineBelow (length start.copies.items)) rules.now }
     requires whole { list_all is_line (map (copied_line start.bank start.copies.items) rules.now) ≡ true }
-    ensures { IfOk result (λ verdict. (x : Tree) → trees_of (map (copied_line start.bank start.copies.items) rules.now) ≡ Some (x ∷ []) → Tells verdict (fault_at (operators_of names.now) (map (module_tree start.bank) modules.now) x (sequent_in start.bank start.free.items start.root))) }
+    ensures { IfOk result (λ verdict. (x : Tree) → trees_of (map (copied_line start.bank start.copies.items) rules.now) ≡ Some (x ∷ [])
+        → Tells verdict (fault_at (operators_of names.now) (map (module_tree start.bank) modules.now) x (sequent_in start.bank start.free.items start.root))) }
 {
     let Start {
         mut bank,

@@ -95,7 +95,8 @@ pub(crate) fn load(
     requires has { HasModules bank.old modules.now }
     requires modules { AreModulesSound (map (module_tree bank.old) modules.now) }
     requires sequent { IsSequent (map (module_tree bank.old) modules.now) bank.old sequent }
-    ensures is { IfOk result (λ step. (ops : Operators) (free : List Resource) → Holds (map (module_tree bank.old) modules.now) bank.old free sequent → IsStep ops (map (module_tree bank.old) modules.now) UseLine (sequent_in bank.old free sequent) bank.new free free step) }
+    ensures is { IfOk result (λ step. (ops : Operators) (free : List Resource) → Holds (map (module_tree bank.old) modules.now) bank.old free sequent
+        → IsStep ops (map (module_tree bank.old) modules.now) UseLine (sequent_in bank.old free sequent) bank.new free free step) }
     ensures keeps { Extends bank.old bank.new }
 {
     match bank.form_at(sequent.goal) {

@@ -54,7 +54,8 @@ fn open(bank: &Bank, pair: Pair, pairs: &mut Vec<Pair>) -> Result<bool, OutOfMem
     requires right { HasTerm bank.now pair.right.0 }
     requires inside { ArePairs bank.now pairs.old.items }
     ensures inside { OnOk result (ArePairs bank.now pairs.new.items) }
-    ensures same { IfOk result (λ opened. IsTrue opened → AreSame bank.now pairs.new.items → AreSame bank.now pairs.old.items × (term_tree bank.now pair.left.0 ≡ term_tree bank.now pair.right.0)) }
+    ensures same { IfOk result (λ opened. IsTrue opened → AreSame bank.now pairs.new.items
+        → AreSame bank.now pairs.old.items × (term_tree bank.now pair.left.0 ≡ term_tree bank.now pair.right.0)) }
 {
     if is_one_node(bank, pair) {
         return Ok(true);
@@ -98,8 +99,10 @@ fn is_one_head(head: Head, other: Head) -> bool
 /// Puts the pairs of arguments behind those that wait.
 fn push_all(args: &[At], others: &[At], pairs: &mut Vec<Pair>) -> Result<(), OutOfMemory>
     requires { length args.now ≡ length others.now }
-    ensures inside { OnOk result ((bank : Nodes) → AllInTerms bank args.now → AllInTerms bank others.now → ArePairs bank pairs.old.items → ArePairs bank pairs.new.items) }
-    ensures same { OnOk result ((bank : Nodes) → AreSame bank pairs.new.items → AreSame bank pairs.old.items × (term_trees bank args.now ≡ term_trees bank others.now)) }
+    ensures inside { OnOk result ((bank : Nodes) → AllInTerms bank args.now → AllInTerms bank others.now → ArePairs bank pairs.old.items
+        → ArePairs bank pairs.new.items) }
+    ensures same { OnOk result ((bank : Nodes) → AreSame bank pairs.new.items
+        → AreSame bank pairs.old.items × (term_trees bank args.now ≡ term_trees bank others.now)) }
 {
     for i in 0..args.len() {
         pairs.push(Pair {

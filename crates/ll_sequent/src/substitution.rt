@@ -123,7 +123,8 @@ fn term_images(
     requires values { AllInTerms bank.old values.now }
     requires terms { AreTermImages bank.old (term_trees bank.old values.now) terms.old.items }
     ensures inside { IfOk result (λ images. AllInTerms bank.new images.items) }
-    ensures shows { IfOk result (λ images. term_trees bank.new images.items ≡ map (sub (values_of (term_trees bank.old values.now))) (term_trees bank.old places.now)) }
+    ensures shows { IfOk result (λ images. term_trees bank.new images.items
+        ≡ map (sub (values_of (term_trees bank.old values.now))) (term_trees bank.old places.now)) }
     ensures terms { OnOk result (AreTermImages bank.new (term_trees bank.old values.now) terms.new.items) }
     ensures keeps { Extends bank.old bank.new }
 {

@@ -1,5 +1,6 @@
 -- Each text has its tokens, or a first fault.
-use Rattle.std.proofs.Common.{◌≡◌, ◌⊎◌, ℕ, zero, suc, ◌+◌, ◌<◌, ◌≤◌, ◌^◌, Bool, true, false, List, [], ◌∷◌, length, take, drop, Option, Some, None, ℤ, refl, sym, ◌∙◌, ap, subst, arith, length-drop, inl, inr}
+use Rattle.std.proofs.Common.{◌≡◌, ◌⊎◌, ℕ, zero, suc, ◌+◌, ◌<◌, ◌≤◌, ◌^◌, Bool, true, false, List, [], ◌∷◌, length, take, drop, Option, Some, None, ℤ, refl}
+use Rattle.std.proofs.Common.{sym, ◌∙◌, ap, subst, arith, length-drop, inl, inr}
 use Rattle.std.specs.Prelude.{FitsSigned, ◌==◌}
 use Rattle.std.specs.Int.{w64}
 use Rattle.std.specs.List.{prefix_len}
@@ -14,7 +15,8 @@ use Rattle.ll_lexer.specs.declared.Token.{Token}
 use Rattle.ll_lexer.specs.declared.TokenKind.{TokenKind}
 use Rattle.ll_lexer.specs.declared.TokenKind.TheVariants.{Name, Variable, Number}
 use Rattle.ll_lexer.specs.Spelling.{kind_of, Spells, IsLongest, HasNone}
-use Rattle.ll_lexer.specs.Reading.{is_blank, is_no_lf, IsGap, blank, comment, HasFlaw, past_64_bits, long_name, long_variable, number_value, IsSound, End, done, stopped, Lexes, at_end, gap, token, flawed, no_token, token_at, place_at, HasNoGap, LexedText, IsLexed, HasFault}
+use Rattle.ll_lexer.specs.Reading.{is_blank, is_no_lf, IsGap, blank, comment, HasFlaw, past_64_bits, long_name, long_variable, number_value, IsSound, End}
+use Rattle.ll_lexer.specs.Reading.{done, stopped, Lexes, at_end, gap, token, flawed, no_token, token_at, place_at, HasNoGap, LexedText, IsLexed, HasFault}
 use Rattle.ll_lexer.proofs.CallerLemmas.{nonempty, sound-name, sound-variable}
 
 -- ---- one token
@@ -46,7 +48,8 @@ longest-to bytes zero w h = inr (λ j m l s. none m j l s)
     none (suc m) j l s = h j (suc m) (omega arith) l s
 longest-to bytes (suc n) w h = by (kind_of (take (suc n) bytes)) refl (λ more. longest-to bytes n (omega arith) more)
   where
-    by : (found : Option TokenKind) → kind_of (take (suc n) bytes) ≡ found → (NoneLonger bytes n → Longest bytes ⊎ HasNone bytes) → Longest bytes ⊎ HasNone bytes
+    by : (found : Option TokenKind) → kind_of (take (suc n) bytes) ≡ found → (NoneLonger bytes n → Longest bytes ⊎ HasNone bytes)
+        → Longest bytes ⊎ HasNone bytes
     by (Some k) e rest = inl (record { kind = k; count = suc n; is = record { within = w; spells = e; longest = h } })
     by None e rest = rest (none-less bytes n e h)
 
@@ -88,7 +91,8 @@ module _ (text : List ℕ) where
       behind = let d = length-drop i text in let c = ap length e in omega arith
 
       skips : (n : ℕ) → 0 < n → n ≤ length (b ∷ bs) → IsGap (b ∷ bs) n → Ends text i
-      skips n p w g = let r = later (i + n) (omega arith) (omega (arith, behind)) in record { tokens = r.tokens; end = r.end; lexes = gap n (subst (λ bytes. IsGap bytes n) (sym e) g) r.lexes }
+      skips n p w g = let r = later (i + n) (omega arith) (omega (arith, behind)) in
+          record { tokens = r.tokens; end = r.end; lexes = gap n (subst (λ bytes. IsGap bytes n) (sym e) g) r.lexes }
 
       takes : (k : TokenKind) (n : ℕ) → IsLongest (b ∷ bs) k n → Ends text i
       takes k zero h = absurd (nonempty k h.spells)
@@ -111,7 +115,8 @@ module _ (text : List ℕ) where
       ]
 
       by-percent : is_blank b ≡ false → (v : Bool) → (b == 37) ≡ v → Ends text i
-      by-percent f true g = let c = prefix_len-le-length is_no_lf bs in skips (1 + prefix_len is_no_lf bs) (omega arith) (omega arith) (comment ((Decides-eqb b 37).0 g))
+      by-percent f true g = let c = prefix_len-le-length is_no_lf bs in
+          skips (1 + prefix_len is_no_lf bs) (omega arith) (omega arith) (comment ((Decides-eqb b 37).0 g))
       by-percent f false g = by-token f (λ h. false≢true (sym g ∙ (Decides-eqb b 37).1 h))
 
       by-blank : (v : Bool) → is_blank b ≡ v → Ends text i

@@ -28,9 +28,11 @@ LineAsks program bound line text (Err f) = (own : Fault) × IsQueryFault program
 -- is that of its own text, whatever lines stand beside it.
 pub data HaveQueries (program : ProgramTree) (bound : ℕ) : ℕ → List (List ℕ) → List QueryLine → Type 0 where
   no_line : {line : ℕ} → HaveQueries program bound line [] []
-  passed : {line : ℕ} {text : List ℕ} {rest : List (List ℕ)} {queries : List QueryLine} → is_query_line text ≡ false → HaveQueries program bound (line + 1) rest queries
+  passed : {line : ℕ} {text : List ℕ} {rest : List (List ℕ)} {queries : List QueryLine} → is_query_line text ≡ false
+      → HaveQueries program bound (line + 1) rest queries
       → HaveQueries program bound line (text ∷ rest) queries
-  asked : {line : ℕ} {text : List ℕ} {rest : List (List ℕ)} {queries : List QueryLine} (what : Result ProblemTree Fault) → is_query_line text ≡ true → LineAsks program bound line text what
+  asked : {line : ℕ} {text : List ℕ} {rest : List (List ℕ)} {queries : List QueryLine} (what : Result ProblemTree Fault) → is_query_line text ≡ true
+      → LineAsks program bound line text what
       → HaveQueries program bound (line + 1) rest queries → HaveQueries program bound line (text ∷ rest) (record { line = line; asked = what } ∷ queries)
 
 -- the queries of a text over a program

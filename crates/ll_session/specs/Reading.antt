@@ -26,7 +26,8 @@ pub record IsQueryText (text : List ℕ) (tree : Raw) : Type 0 where
 -- first fault, of kinds 4 to 6; or else the first one of scope or sorting over the modules of the program, of kinds 7 to 11.
 pub data IsQueryFault (program : ProgramTree) (text : List ℕ) (f : Fault) : Type 0 where
   lexical : HasFault text f → IsQueryFault program text f
-  grammatical : (lexed : LexedText) → lexed.text ≡ text → IsLexed lexed → HasTokenFault queries most_open (toks_of lexed) lexed.end f → IsQueryFault program text f
+  grammatical : (lexed : LexedText) → lexed.text ≡ text → IsLexed lexed → HasTokenFault queries most_open (toks_of lexed) lexed.end f
+      → IsQueryFault program text f
   of_scope : (tree : Raw) → IsQueryText text tree → HasQueryFault program tree f → IsQueryFault program text f
 
 -- a query's text asks this problem of a program, with a bound

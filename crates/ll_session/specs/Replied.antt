@@ -34,8 +34,10 @@ module _ {R : Type 0} (takes breaks : R → QueryLine → R → Type 0) where
 
   -- only the first queries of a text were replied to; the reply to the next one was begun and refused, or was not begun
   pub data StopsShort (program : ProgramTree) (text : List ℕ) (bound : ℕ) (before after : R) : Type 0 where
-    refused : (queries : List QueryLine) → AreQueries program text bound queries → Refuses takes breaks before queries after → StopsShort program text bound before after
-    not_begun : (front back : List QueryLine) → AreQueries program text bound (front ++ back) → Gives takes before front after → StopsShort program text bound before after
+    refused : (queries : List QueryLine) → AreQueries program text bound queries → Refuses takes breaks before queries after
+        → StopsShort program text bound before after
+    not_begun : (front back : List QueryLine) → AreQueries program text bound (front ++ back) → Gives takes before front after
+        → StopsShort program text bound before after
 
   -- the line of this number was replied to
   pub record Replies (program : ProgramTree) (bound line : ℕ) (text : List ℕ) (before after : R) : Type 0 where
@@ -45,7 +47,8 @@ module _ {R : Type 0} (takes breaks : R → QueryLine → R → Type 0) where
 
   -- the reply to the line of this number was begun and refused, or was not begun
   pub data RefusesLine (program : ProgramTree) (bound line : ℕ) (text : List ℕ) (before after : R) : Type 0 where
-    line_refused : (what : Result ProblemTree Fault) → LineAsks program bound line text what → breaks before (record { line = line; asked = what }) after → RefusesLine program bound line text before after
+    line_refused : (what : Result ProblemTree Fault) → LineAsks program bound line text what → breaks before (record { line = line; asked = what }) after
+        → RefusesLine program bound line text before after
     line_not_begun : after ≡ before → RefusesLine program bound line text before after
 
   -- the lines before some place were replied to, and this many queries they were

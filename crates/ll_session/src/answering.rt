@@ -59,8 +59,10 @@ pub fn answer_lines<R: Replies>(
     requires loaded { IsLoaded loaded.now }
     requires text { length text.now ≤ 16777216 }
     requires bound { bound ≤ 1000000 }
-    ensures answers { IfOk result (λ count. (program : ProgramTree) → IsProgramOf program loaded.now → Answers R.takes R.breaks program text.now bound replies.old count replies.new) }
-    ensures refused { OnErr result ((program : ProgramTree) → IsProgramOf program loaded.now → StopsShort R.takes R.breaks program text.now bound replies.old replies.new) }
+    ensures answers { IfOk result (λ count. (program : ProgramTree) → IsProgramOf program loaded.now
+        → Answers R.takes R.breaks program text.now bound replies.old count replies.new) }
+    ensures refused { OnErr result ((program : ProgramTree) → IsProgramOf program loaded.now
+        → StopsShort R.takes R.breaks program text.now bound replies.old replies.new) }
     ensures write { result ≡ Err Write → Rose (R.faults replies.old) (R.faults replies.new) }
     ensures faults_kept { R.faults replies.old ≤ R.faults replies.new }
 {
@@ -94,8 +96,10 @@ fn answer_line<R: Replies>(
     requires loaded { IsLoaded loaded.now }
     requires line { length line.now ≤ 16777216 }
     requires bound { bound ≤ 1000000 }
-    ensures replies { OnOk result ((program : ProgramTree) → IsProgramOf program loaded.now → IsReplied R.takes R.breaks program bound number line.now replies.old replies.new) }
-    ensures refused { OnErr result ((program : ProgramTree) → IsProgramOf program loaded.now → RefusesLine R.takes R.breaks program bound number line.now replies.old replies.new) }
+    ensures replies { OnOk result ((program : ProgramTree) → IsProgramOf program loaded.now
+        → IsReplied R.takes R.breaks program bound number line.now replies.old replies.new) }
+    ensures refused { OnErr result ((program : ProgramTree) → IsProgramOf program loaded.now
+        → RefusesLine R.takes R.breaks program bound number line.now replies.old replies.new) }
     ensures write { result ≡ Err Write → Rose (R.faults replies.old) (R.faults replies.new) }
     ensures faults_kept { R.faults replies.old ≤ R.faults replies.new }
 {

@@ -31,12 +31,14 @@ ends len (Some piece) h = ends_here len piece.owes
 
 rest_is : (len : ℕ) (before after : OpenPiece) → before.owes ≡ nothing → IsRest (replicate len nothing) before after → after.owes ≡ nothing
 rest_is len before after e h =
-    let events : after.owes.events ≡ [] = sym (append-nil after.owes.events) ∙ (ap (λ l. after.owes.events ++ l) (sym (no_events len)) ∙ (h.events ∙ ap (λ (o : Owed Event). o.events) e)) in
+    let events : after.owes.events ≡ [] = sym (append-nil after.owes.events)
+    ∙ (ap (λ l. after.owes.events ++ l) (sym (no_events len)) ∙ (h.events ∙ ap (λ (o : Owed Event). o.events) e)) in
     let z = no_cost len in let sum = h.cost in let none : before.owes.cost ≡ 0 = ap (λ (o : Owed Event). o.cost) e in
     let cost : after.owes.cost ≡ 0 = omega arith in
     λ i. record { events = events i; cost = cost i }
 
-pub rest_owes_nothing : {N : Type 0} (len : ℕ) (answer : Result (Unit {0}) (PublishFault N)) (before after : Option OpenPiece) → OwesNothing before → OwesRest (replicate len nothing) answer before after → OwesNothing after
+pub rest_owes_nothing : {N : Type 0} (len : ℕ) (answer : Result (Unit {0}) (PublishFault N)) (before after : Option OpenPiece) → OwesNothing before
+    → OwesRest (replicate len nothing) answer before after → OwesNothing after
 rest_owes_nothing len (Ok done) None after n h = absurd h
 rest_owes_nothing len (Ok done) (Some whole) None n h = absurd h
 rest_owes_nothing len (Ok done) (Some whole) (Some rest) n h = rest_is len whole rest n h

@@ -23,13 +23,16 @@ table_of-fresh cells l =
     λ i. record { bound = map-append (λ (c : Cell). c.to) cells (d ∷ []) i; levels = map-append (λ (c : Cell). c.level) cells (d ∷ []) i }
 
 -- cells of which tables say the same
-same_cells : (cs ds : List Cell) → map (λ (c : Cell). c.to) cs ≡ map (λ (c : Cell). c.to) ds → map (λ (c : Cell). c.level) cs ≡ map (λ (c : Cell). c.level) ds → cs ≡ ds
+same_cells : (cs ds : List Cell) → map (λ (c : Cell). c.to) cs ≡ map (λ (c : Cell). c.to) ds → map (λ (c : Cell). c.level) cs ≡ map (λ (c : Cell). c.level) ds
+    → cs ≡ ds
 same_cells [] [] p q = refl
 same_cells [] (d ∷ ds) p q = absurd (let l = ap length p in omega (arith, l))
 same_cells (c ∷ cs) [] p q = absurd (let l = ap length p in omega (arith, l))
 same_cells (c ∷ cs) (d ∷ ds) p q =
-    λ i. (let e : Cell = record { to = slice_index_or (p i) 0 None; level = slice_index_or (q i) 0 0 } in e) ∷ same_cells cs ds (ap (drop 1) p) (ap (drop 1) q) i
+    λ i. (let e : Cell = record { to = slice_index_or (p i) 0 None; level = slice_index_or (q i) 0 0 } in e)
+    ∷ same_cells cs ds (ap (drop 1) p) (ap (drop 1) q) i
 
 -- states in which terms are read alike
-pub same_states : (s t : State) → s.nodes ≡ t.nodes → (table_of s.cells).bound ≡ (table_of t.cells).bound → (table_of s.cells).levels ≡ (table_of t.cells).levels → s ≡ t
+pub same_states : (s t : State) → s.nodes ≡ t.nodes → (table_of s.cells).bound ≡ (table_of t.cells).bound
+    → (table_of s.cells).levels ≡ (table_of t.cells).levels → s ≡ t
 same_states s t n p q = let c = same_cells s.cells t.cells p q in λ i. record { nodes = n i; cells = c i }

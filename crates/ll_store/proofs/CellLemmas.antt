@@ -67,7 +67,8 @@ bind-back x at cells h = update-back x (with_to (Some at)) (with_to None) cells 
     same c q = let p : c.to ≡ None = cc in ap (λ (o : Option At). let d : Cell = record c { to = o } in d) (sym p)
 
 -- so is a new level
-pub lower-back : (x l : ℕ) (d : Cell) (cells : List Cell) → d ≡ slice_index_or cells x d → taken_back (Lowered x d.level) (update x (with_level l) cells) ≡ cells
+pub lower-back : (x l : ℕ) (d : Cell) (cells : List Cell) → d ≡ slice_index_or cells x d
+    → taken_back (Lowered x d.level) (update x (with_level l) cells) ≡ cells
 lower-back x l d cells h = update-back x (with_level l) (with_level d.level) cells (λ c e. same c (h ∙ here cells x c e))
   where
     here : (xs : List Cell) (n : ℕ) (c : Cell) → slice_get xs n ≡ Some c → slice_index_or xs n d ≡ c

@@ -1,5 +1,6 @@
 -- States of stores that are kept in layers.
-use Rattle.std.proofs.Common.{◌≡◌, ℕ, zero, suc, ◌<◌, ◌≤◌, ◌+◌, List, [], ◌∷◌, ◌++◌, length, take, drop, map, refl, ap, sym, subst, ◌∙◌, arith, append_assoc, length-append}
+use Rattle.std.proofs.Common.{◌≡◌, ℕ, zero, suc, ◌<◌, ◌≤◌, ◌+◌, List, [], ◌∷◌, ◌++◌, length, take, drop, map, refl, ap, sym, subst, ◌∙◌, arith, append_assoc}
+use Rattle.std.proofs.Common.{length-append}
 use Rattle.std.specs.Prelude.{slice_index_or}
 use Rattle.std.specs.Arc.{arc_value}
 use Rattle.std.specs.declared.sync.Arc.{Arc}
@@ -29,14 +30,17 @@ begin-rest [] more st h = h
 begin-rest (t ∷ ss) more st h = begin-rest ss more (state_after t st) h.1
 
 -- the next segment, and those before and after it
-parted : (xs : List (Arc SegmentSight Global)) (i : ℕ) (d : Arc SegmentSight Global) → i < length xs → segments_of xs ≡ segments_of (take i xs) ++ arc_value (slice_index_or xs i d) ∷ segments_of (drop (i + 1) xs)
+parted : (xs : List (Arc SegmentSight Global)) (i : ℕ) (d : Arc SegmentSight Global) → i < length xs
+    → segments_of xs ≡ segments_of (take i xs) ++ arc_value (slice_index_or xs i d) ∷ segments_of (drop (i + 1) xs)
 parted xs i d l =
     let x = slice_index_or xs i d in
-    ap segments_of (sym (take-append-drop (i + 1) xs) ∙ (ap (λ ys. ys ++ drop (i + 1) xs) (take_more xs i d l) ∙ append_assoc (take i xs) (x ∷ []) (drop (i + 1) xs)))
+    ap segments_of (sym (take-append-drop (i + 1) xs) ∙ (ap (λ ys. ys ++ drop (i + 1) xs) (take_more xs i d l)
+    ∙ append_assoc (take i xs) (x ∷ []) (drop (i + 1) xs)))
     ∙ map-append (λ (a : Arc SegmentSight Global). arc_value a) (take i xs) (x ∷ drop (i + 1) xs)
 
 -- it begins where those before it lead
-pub begins-at : (xs : List (Arc SegmentSight Global)) (i : ℕ) (d : Arc SegmentSight Global) (st now : State) → BeginAll (segments_of xs) st → i < length xs → now ≡ state_after_all (segments_of (take i xs)) st
+pub begins-at : (xs : List (Arc SegmentSight Global)) (i : ℕ) (d : Arc SegmentSight Global) (st now : State) → BeginAll (segments_of xs) st → i < length xs
+    → now ≡ state_after_all (segments_of (take i xs)) st
     → Begins (arc_value (slice_index_or xs i d)) now
 begins-at xs i d st now h l n =
     let s = arc_value (slice_index_or xs i d) in let rest = segments_of (drop (i + 1) xs) in
@@ -44,7 +48,8 @@ begins-at xs i d st now h l n =
     subst (λ (x : State). Begins s x) (sym n) (begin-rest (segments_of (take i xs)) (s ∷ rest) st all).0
 
 -- and leads on
-pub after-step : (xs : List (Arc SegmentSight Global)) (i : ℕ) (d : Arc SegmentSight Global) (st now next : State) → i < length xs → now ≡ state_after_all (segments_of (take i xs)) st
+pub after-step : (xs : List (Arc SegmentSight Global)) (i : ℕ) (d : Arc SegmentSight Global) (st now next : State) → i < length xs
+    → now ≡ state_after_all (segments_of (take i xs)) st
     → state_after (arc_value (slice_index_or xs i d)) now ≡ next → next ≡ state_after_all (segments_of (take (i + 1) xs)) st
 after-step xs i d st now next l n e =
     let x = slice_index_or xs i d in let s = arc_value x in
@@ -60,8 +65,10 @@ pub record OneMore (whole : Arc Store Global) (xs : List (Arc SegmentSight Globa
   pub within : AreWithin (whole_of whole)
   pub begin : BeginAll (segments_of xs) (whole_of whole)
 
-pub one-more : (whole own : Arc Store Global) (xs made last : List (Arc SegmentSight Global)) (a : Arc SegmentSight Global) (s : SegmentSight) (first second : State) (l : LayersSight) → arc_value a ≡ s → Leads s first second
-    → first ≡ l.state → layered whole xs ≡ l → segments_of made ≡ segments_of xs → last ≡ made ++ a ∷ [] → arc_value own ≡ arc_value whole → AreWithin (whole_of whole) → BeginAll (segments_of xs) (whole_of whole)
+pub one-more : (whole own : Arc Store Global) (xs made last : List (Arc SegmentSight Global)) (a : Arc SegmentSight Global) (s : SegmentSight)
+    (first second : State) (l : LayersSight) → arc_value a ≡ s → Leads s first second
+    → first ≡ l.state → layered whole xs ≡ l → segments_of made ≡ segments_of xs → last ≡ made ++ a ∷ [] → arc_value own ≡ arc_value whole
+    → AreWithin (whole_of whole) → BeginAll (segments_of xs) (whole_of whole)
     → OneMore own last second (suc l.depth)
 one-more whole own xs made last a s first second l v leads f w m e o within begins = record {
   view = λ i. record { state = state i; depth = depth i };
@@ -90,21 +97,26 @@ one-more whole own xs made last a s first second l v leads f w m e o within begi
 -- ---- layers whose first parts are those of others
 
 -- as many segments at the front, one more than before
-pub same-more : (xs ys : List (Arc SegmentSight Global)) (n : ℕ) (a b : Arc SegmentSight Global) → n < length xs → n < length ys → segments_of (take n xs) ≡ segments_of (take n ys)
+pub same-more : (xs ys : List (Arc SegmentSight Global)) (n : ℕ) (a b : Arc SegmentSight Global) → n < length xs → n < length ys
+    → segments_of (take n xs) ≡ segments_of (take n ys)
     → arc_value (slice_index_or xs n a) ≡ arc_value (slice_index_or ys n b) → segments_of (take (n + 1) xs) ≡ segments_of (take (n + 1) ys)
 same-more xs ys n a b k l e f = front xs a k ∙ ((λ i. e i ++ f i ∷ []) ∙ sym (front ys b l))
   where
-    front : (zs : List (Arc SegmentSight Global)) (d : Arc SegmentSight Global) → n < length zs → segments_of (take (n + 1) zs) ≡ segments_of (take n zs) ++ arc_value (slice_index_or zs n d) ∷ []
+    front : (zs : List (Arc SegmentSight Global)) (d : Arc SegmentSight Global) → n < length zs
+        → segments_of (take (n + 1) zs) ≡ segments_of (take n zs) ++ arc_value (slice_index_or zs n d) ∷ []
     front zs d m = ap segments_of (take_more zs n d m) ∙ map-append (λ (x : Arc SegmentSight Global). arc_value x) (take n zs) (slice_index_or zs n d ∷ [])
 
 -- the segments that the others have besides lead on to their state
-pub leads-on : (whole other : Arc Store Global) (xs ys : List (Arc SegmentSight Global)) (n : ℕ) (l m : LayersSight) → layered whole xs ≡ l → layered other ys ≡ m → whole_of whole ≡ whole_of other
+pub leads-on : (whole other : Arc Store Global) (xs ys : List (Arc SegmentSight Global)) (n : ℕ) (l m : LayersSight) → layered whole xs ≡ l
+    → layered other ys ≡ m → whole_of whole ≡ whole_of other
     → segments_of xs ≡ segments_of (take n ys) → BeginAll (segments_of ys) (whole_of other) → LeadAll (segments_of (drop n ys)) l.state m.state
 leads-on whole other xs ys n l m v u w e begins = record {
   begins = subst (λ (x : State). BeginAll (segments_of (drop n ys)) x) (sym here)
-      (begin-rest (segments_of (take n ys)) (segments_of (drop n ys)) (whole_of other) (subst (λ (ss : List SegmentSight). BeginAll ss (whole_of other)) all begins));
+      (begin-rest (segments_of (take n ys)) (segments_of (drop n ys)) (whole_of other)
+      (subst (λ (ss : List SegmentSight). BeginAll ss (whole_of other)) all begins));
   ends = ap (state_after_all (segments_of (drop n ys))) here
-      ∙ (sym (after-append (segments_of (take n ys)) (segments_of (drop n ys)) (whole_of other)) ∙ (ap (λ ss. state_after_all ss (whole_of other)) (sym all) ∙ ap (λ (x : LayersSight). x.state) u));
+      ∙ (sym (after-append (segments_of (take n ys)) (segments_of (drop n ys)) (whole_of other))
+      ∙ (ap (λ ss. state_after_all ss (whole_of other)) (sym all) ∙ ap (λ (x : LayersSight). x.state) u));
 }
   where
     all : segments_of ys ≡ segments_of (take n ys) ++ segments_of (drop n ys)

@@ -14,20 +14,24 @@ use Rattle.ll_store.specs.Tables.{before-append}
 use Rattle.ll_store.proofs.CellLemmas.{before-length, before-take}
 
 -- a state with these parts
-pub same_state : (n n2 : Nodes) (cs cs2 : List Cell) → n2 ≡ n → cs2 ≡ cs → let s : State = record { nodes = n2; cells = cs2 } in let t : State = record { nodes = n; cells = cs } in s ≡ t
+pub same_state : (n n2 : Nodes) (cs cs2 : List Cell) → n2 ≡ n → cs2 ≡ cs → let s : State = record { nodes = n2; cells = cs2 } in
+    let t : State = record { nodes = n; cells = cs } in s ≡ t
 same_state n n2 cs cs2 e f = cc
 
 -- a good mark of one store is one of another in which it stands for the same state
-pub stands : (old new : Stored) (m : Mark) → m.cells ≤ length new.cells → m.trail ≤ length new.changes → HasSize new.nodes m.bank → state_at m new ≡ state_at m old → IsGood m old → StandsFor m (state_at m old) new
+pub stands : (old new : Stored) (m : Mark) → m.cells ≤ length new.cells → m.trail ≤ length new.changes → HasSize new.nodes m.bank
+    → state_at m new ≡ state_at m old → IsGood m old → StandsFor m (state_at m old) new
 stands old new m c t b e g = record {
   good = record { cells = c; trail = t; bank = b; within = subst (λ s. AreWithin s) (sym e) g.within };
   state = e;
 }
 
 -- one more change
-pub marks-change : (old new : Stored) (c : Change) → new.nodes ≡ old.nodes → new.changes ≡ old.changes ++ c ∷ [] → taken_back c new.cells ≡ old.cells → length new.cells ≡ length old.cells → KeepsMarks old new
+pub marks-change : (old new : Stored) (c : Change) → new.nodes ≡ old.nodes → new.changes ≡ old.changes ++ c ∷ [] → taken_back c new.cells ≡ old.cells
+    → length new.cells ≡ length old.cells → KeepsMarks old new
 marks-change old new c n e b l m g =
-    stands old new m (let k = g.cells in omega (arith, k, l)) (let k = g.trail in let q = ap length e ∙ length-append old.changes (c ∷ []) in omega (arith, k, q))
+    stands old new m (let k = g.cells in omega (arith, k, l)) (let k = g.trail in let q = ap length e ∙ length-append old.changes (c ∷ []) in
+    omega (arith, k, q))
     (subst (λ ns. HasSize ns m.bank) (sym n) g.bank)
     (same_state _ _ _ _ (ap (λ ns. front ns m.bank) n) (ap (take m.cells) past)) g
   where
@@ -38,9 +42,11 @@ marks-change old new c n e b l m g =
         ∙ (before-append (drop m.trail old.changes) (c ∷ []) new.cells ∙ ap (before (drop m.trail old.changes)) b))
 
 -- more changes, which taken back give the earlier cells, keep each good mark: so does a unifier that only adds to the trail
-pub marks-grow : (old new : Stored) (more : List Change) → new.nodes ≡ old.nodes → new.changes ≡ old.changes ++ more → before more new.cells ≡ old.cells → KeepsMarks old new
+pub marks-grow : (old new : Stored) (more : List Change) → new.nodes ≡ old.nodes → new.changes ≡ old.changes ++ more → before more new.cells ≡ old.cells
+    → KeepsMarks old new
 marks-grow old new more n e b m g =
-    stands old new m (let k = g.cells in let l = sym (before-length more new.cells) ∙ ap length b in omega (arith, k, l)) (let k = g.trail in let q = ap length e ∙ length-append old.changes more in omega (arith, k, q))
+    stands old new m (let k = g.cells in let l = sym (before-length more new.cells) ∙ ap length b in omega (arith, k, l)) (let k = g.trail in
+    let q = ap length e ∙ length-append old.changes more in omega (arith, k, q))
     (subst (λ ns. HasSize ns m.bank) (sym n) g.bank)
     (same_state _ _ _ _ (ap (λ ns. front ns m.bank) n) (ap (take m.cells) past)) g
   where
@@ -53,7 +59,8 @@ marks-grow old new more n e b m g =
 -- one more cell
 pub marks-cell : (old new : Stored) (d : Cell) → new.nodes ≡ old.nodes → new.changes ≡ old.changes → new.cells ≡ old.cells ++ d ∷ [] → KeepsMarks old new
 marks-cell old new d n e b m g =
-    stands old new m (let k = g.cells in let q = ap length b ∙ length-append old.cells (d ∷ []) in omega (arith, k, q)) (let k = g.trail in let q = ap length e in omega (arith, k, q))
+    stands old new m (let k = g.cells in let q = ap length b ∙ length-append old.cells (d ∷ []) in omega (arith, k, q)) (let k = g.trail in
+    let q = ap length e in omega (arith, k, q))
     (subst (λ ns. HasSize ns m.bank) (sym n) g.bank)
     (same_state _ _ _ _ (ap (λ ns. front ns m.bank) n) past) g
   where
@@ -78,7 +85,8 @@ state-now m s c t b =
 -- the first nodes of a bank that has been cut
 pub front-cut : (size : BankSize) (old new : Nodes) → IsCutTo size old new → new ≡ front old size
 front-cut size old new h =
-    nodes (first new.terms h.trees.more_terms old.terms h.trees.terms size.terms (ap (λ (z : BankSize). z.terms) h.places)) (first new.forms h.trees.more_forms old.forms h.trees.forms size.forms (ap (λ (z : BankSize). z.forms) h.places))
+    nodes (first new.terms h.trees.more_terms old.terms h.trees.terms size.terms (ap (λ (z : BankSize). z.terms) h.places))
+    (first new.forms h.trees.more_forms old.forms h.trees.forms size.forms (ap (λ (z : BankSize). z.forms) h.places))
   where
     first : {A : Type 0} (xs ys zs : List A) → zs ≡ xs ++ ys → (n : ℕ) → length xs ≡ n → xs ≡ take n zs
     first xs ys zs e n l = sym (ap (take n) e ∙ (take-append-le n xs ys (omega (arith, l)) ∙ take_all n xs (omega (arith, l))))
@@ -87,11 +95,13 @@ front-cut size old new h =
     nodes e f = λ i. let n : Nodes = record { terms = e i; forms = f i } in n
 
 -- an earlier mark after the last changes were taken back
-pub marks-undone : (old new : Stored) (last : Mark) → IsGood last old → new.changes ≡ take last.trail old.changes → new.cells ≡ take last.cells (before (drop last.trail old.changes) old.cells)
+pub marks-undone : (old new : Stored) (last : Mark) → IsGood last old → new.changes ≡ take last.trail old.changes
+    → new.cells ≡ take last.cells (before (drop last.trail old.changes) old.cells)
     → IsCutTo last.bank old.nodes new.nodes → KeepsMarksTo last old new
 marks-undone old new last h e f q m b g =
     stands old new m
-    (let k = ap length f ∙ length-take-le last.cells (before (drop last.trail old.changes) old.cells) (let j = before-length (drop last.trail old.changes) old.cells in let i = h.cells in omega (arith, j, i)) in let l = b.cells in omega (arith, k, l))
+    (let k = ap length f ∙ length-take-le last.cells (before (drop last.trail old.changes) old.cells) (let j =
+    before-length (drop last.trail old.changes) old.cells in let i = h.cells in omega (arith, j, i)) in let l = b.cells in omega (arith, k, l))
     (let k = ap length e ∙ length-take-le last.trail old.changes h.trail in let l = b.trail in omega (arith, k, l))
     (q.sizes m.bank g.bank b.bank)
     (same_state _ _ _ _ (ap (λ ns. front ns m.bank) (front-cut last.bank old.nodes new.nodes q) ∙ nodes) cells) g
@@ -107,7 +117,8 @@ marks-undone old new last h e f q m b g =
 
     changes : drop m.trail (take last.trail old.changes) ++ past ≡ drop m.trail old.changes
     changes =
-        sym (drop-append-le m.trail (take last.trail old.changes) past (let k = length-take-le last.trail old.changes h.trail in let l = b.trail in omega (arith, k, l)))
+        sym (drop-append-le m.trail (take last.trail old.changes) past (let k = length-take-le last.trail old.changes h.trail in let l = b.trail in
+        omega (arith, k, l)))
         ∙ ap (drop m.trail) (take-append-drop last.trail old.changes)
 
     cells : take m.cells (before (drop m.trail new.changes) new.cells) ≡ take m.cells (before (drop m.trail old.changes) old.cells)
@@ -122,7 +133,8 @@ marks-undone old new last h e f q m b g =
 pub marks-extend : (s : Stored) (nodes : Nodes) → Extends s.nodes nodes → KeepsMarks s (let t : Stored = record s { nodes = nodes } in t)
 marks-extend s nodes e m g =
     stands s (record s { nodes = nodes }) m g.cells g.trail (e.sizes m.bank g.bank)
-    (same_state (front s.nodes m.bank) (front nodes m.bank) _ _ (fronts (first s.nodes.terms e.more_terms nodes.terms e.terms m.bank.terms (ap (λ (z : BankSize). z.terms) g.bank.counts))
+    (same_state (front s.nodes m.bank) (front nodes m.bank) _ _
+    (fronts (first s.nodes.terms e.more_terms nodes.terms e.terms m.bank.terms (ap (λ (z : BankSize). z.terms) g.bank.counts))
     (first s.nodes.forms e.more_forms nodes.forms e.forms m.bank.forms (ap (λ (z : BankSize). z.forms) g.bank.counts))) refl) g
   where
     short : {A : Type 0} (n : ℕ) (xs : List A) → length (take n xs) ≡ n → n ≤ length xs
@@ -133,11 +145,13 @@ marks-extend s nodes e m g =
     first : {A : Type 0} (xs more ys : List A) → ys ≡ xs ++ more → (n : ℕ) → length (take n xs) ≡ n → take n ys ≡ take n xs
     first xs more ys q n h = ap (take n) q ∙ take-append-le n xs more (short n xs h)
 
-    fronts : take m.bank.terms nodes.terms ≡ take m.bank.terms s.nodes.terms → take m.bank.forms nodes.forms ≡ take m.bank.forms s.nodes.forms → front nodes m.bank ≡ front s.nodes m.bank
+    fronts : take m.bank.terms nodes.terms ≡ take m.bank.terms s.nodes.terms → take m.bank.forms nodes.forms ≡ take m.bank.forms s.nodes.forms
+        → front nodes m.bank ≡ front s.nodes m.bank
     fronts p q = λ i. let n : Nodes = record { terms = p i; forms = q i } in n
 
 -- no good mark is past the numbers of the store
-pub before-last : (s : Stored) (m last : Mark) → IsGood m s → last.cells ≡ length s.cells → last.trail ≡ length s.changes → last.bank ≡ size_of s.nodes → IsBefore m last
+pub before-last : (s : Stored) (m last : Mark) → IsGood m s → last.cells ≡ length s.cells → last.trail ≡ length s.changes → last.bank ≡ size_of s.nodes
+    → IsBefore m last
 before-last s m last g c t b =
     let k = g.cells in let l = g.trail in let z = g.bank.counts in
     record {

@@ -7,7 +7,8 @@ use Rattle.ll_store.specs.Cells.{update, with_to, with_level, taken_back, before
 use Rattle.ll_store.specs.Packed.{place_of, cell_of, change_of}
 
 -- an update, seen through a function
-pub map-updated : {A B : Type 0} (f : A → B) (g : A → A) (h : B → B) (xs : List A) (n : ℕ) → ((x : A) → f (g x) ≡ h (f x)) → map f (update n g xs) ≡ update n h (map f xs)
+pub map-updated : {A B : Type 0} (f : A → B) (g : A → A) (h : B → B) (xs : List A) (n : ℕ) → ((x : A) → f (g x) ≡ h (f x))
+    → map f (update n g xs) ≡ update n h (map f xs)
 map-updated f g h [] n e = refl
 map-updated f g h (x ∷ xs) zero e = ap (λ y. y ∷ map f xs) (e x)
 map-updated f g h (x ∷ xs) (suc n) e = ap (λ ys. f x ∷ ys) (map-updated f g h xs n e)
@@ -25,7 +26,8 @@ pub map-slot_level : (slots : List Slot) (n l : ℕ) → map cell_of (update n (
 map-slot_level slots n l = map-updated cell_of (slot_level l) (with_level l) slots n (λ s. refl)
 
 -- one more change is taken back
-pub back-more : (entries : List Entry) (n : ℕ) (d : Entry) (cells now : List Cell) → n < length entries → now ≡ before (drop (suc n) (map change_of entries)) cells
+pub back-more : (entries : List Entry) (n : ℕ) (d : Entry) (cells now : List Cell) → n < length entries
+    → now ≡ before (drop (suc n) (map change_of entries)) cells
     → taken_back (change_of (get_or entries n d)) now ≡ before (drop n (map change_of entries)) cells
 back-more [] n d cells now l h = absurd (omega arith)
 back-more (e ∷ es) zero d cells now l h = ap (taken_back (change_of e)) h

@@ -64,7 +64,8 @@ impl Cells {
     ) -> Result<CellSegment, OutOfMemory>
         requires cells { (from.0 ≤ to.0) × (to.0 ≤ length self.now.cells) }
         requires changes { (from.1 ≤ to.1) × (to.1 ≤ length self.now.changes) }
-        ensures { IfOk result (λ s. LeadsCells s (take from.0 (before (drop from.1 self.now.changes) self.now.cells)) (take to.0 (before (drop to.1 self.now.changes) self.now.cells))) }
+        ensures { IfOk result (λ s. LeadsCells s (take from.0 (before (drop from.1 self.now.changes) self.now.cells))
+            (take to.0 (before (drop to.1 self.now.changes) self.now.cells))) }
     {
         let alloc = *self.slots.allocator();
         let mut now = Vec::from_slice(alloc, &self.slots[..to.0])?;
@@ -99,7 +100,8 @@ fn renewals(
 ) -> Result<Vec<Renewal>, OutOfMemory>
     requires range { (range.0 ≤ range.1) × (range.1 ≤ length changes.now) }
     requires count { count ≤ length cells.now }
-    ensures { IfOk result (λ made. map renewed_of made.items ≡ renewals count (map cell_of cells.now) (map change_of (drop range.0 (take range.1 changes.now)))) }
+    ensures { IfOk result (λ made. map renewed_of made.items
+        ≡ renewals count (map cell_of cells.now) (map change_of (drop range.0 (take range.1 changes.now)))) }
 {
     let mut made = Vec::new(alloc);
     for at in range.0..range.1 {
@@ -116,7 +118,8 @@ fn note(
     count: usize,
 ) -> Result<(), OutOfMemory>
     requires { count ≤ length cells.now }
-    ensures { OnOk result (map renewed_of made.new.items ≡ map renewed_of made.old.items ++ kept_if (nat_lt (changed_in (change_of entry)) count) (renewal (map cell_of cells.now) (change_of entry)) []) }
+    ensures { OnOk result (map renewed_of made.new.items ≡ map renewed_of made.old.items
+        ++ kept_if (nat_lt (changed_in (change_of entry)) count) (renewal (map cell_of cells.now) (change_of entry)) []) }
 {
     let var = entry.var();
     if count <= var {

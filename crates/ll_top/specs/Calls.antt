@@ -6,7 +6,8 @@ use Rattle.ll_edge.specs.Pieces.{AppendsFront}
 use Rattle.ll_top.specs.Faults.{Usage, fault_text}
 use Rattle.ll_top.specs.Making.{MakeWords, MakeComesTo, MadeRunWords}
 use Rattle.ll_top.specs.MadeRuns.{MadeRunComesTo}
-use Rattle.ll_top.specs.Words.{RunWords, SessionWords, DeepenWords, CheckWords, ConvertWords, IsBadWord, IsRun, IsSession, IsDeepen, IsPrint, IsCheck, IsConvert, IsMake, IsMadeRun}
+use Rattle.ll_top.specs.Words.{RunWords, SessionWords, DeepenWords, CheckWords, ConvertWords, IsBadWord, IsRun, IsSession, IsDeepen, IsPrint, IsCheck}
+use Rattle.ll_top.specs.Words.{IsConvert, IsMake, IsMadeRun}
 use Rattle.ll_top.specs.Outcome.{RunComesTo, PrintComesTo, CheckComesTo}
 use Rattle.ll_top.specs.Sessions.{SessionComesTo}
 use Rattle.ll_top.specs.Deepening.{DeepenComesTo}
@@ -16,11 +17,15 @@ use Rattle.ll_top.specs.Converting.{ConvertComesTo}
 pub data ComesTo (words : List (List ℕ)) (told : Option Texts) (absence read_failed : Type 0) (status : ℕ) (text : List ℕ) : Type 0 where
   misused : (number : ℕ) → IsBadWord words number → status ≡ 3 → text ≡ fault_text (Usage number) → ComesTo words told absence read_failed status text
   runs : (run : RunWords) → IsRun words run → RunComesTo told absence read_failed run status text → ComesTo words told absence read_failed status text
-  sessions : (session : SessionWords) → IsSession words session → SessionComesTo told absence read_failed session status text → ComesTo words told absence read_failed status text
-  deepens : (deepen : DeepenWords) → IsDeepen words deepen → DeepenComesTo told absence read_failed deepen status text → ComesTo words told absence read_failed status text
+  sessions : (session : SessionWords) → IsSession words session → SessionComesTo told absence read_failed session status text
+      → ComesTo words told absence read_failed status text
+  deepens : (deepen : DeepenWords) → IsDeepen words deepen → DeepenComesTo told absence read_failed deepen status text
+      → ComesTo words told absence read_failed status text
   prints : (name : List ℕ) → IsPrint words name → PrintComesTo told absence read_failed name status text → ComesTo words told absence read_failed status text
-  checks : (check : CheckWords) → IsCheck words check → CheckComesTo told absence read_failed check status text → ComesTo words told absence read_failed status text
-  converts : (convert : ConvertWords) → IsConvert words convert → ConvertComesTo told absence read_failed convert status text → ComesTo words told absence read_failed status text
+  checks : (check : CheckWords) → IsCheck words check → CheckComesTo told absence read_failed check status text
+      → ComesTo words told absence read_failed status text
+  converts : (convert : ConvertWords) → IsConvert words convert → ConvertComesTo told absence read_failed convert status text
+      → ComesTo words told absence read_failed status text
   runs_made : (run : MadeRunWords) → IsMadeRun words run → MadeRunComesTo run status text → ComesTo words told absence read_failed status text
   makes : (make : MakeWords) → IsMake words make → MakeComesTo make status text → ComesTo words told absence read_failed status text
 
@@ -33,12 +38,14 @@ pub data AppendsOwn (Comes : ℕ → List ℕ → Type 0) (before after : Option
 -- `write_failed` says that the sink's count of faults rose.
 pub data Ends (Comes : ℕ → List ℕ → Type 0) (write_failed : Type 0) (before after : Option (List ℕ)) (status : ℕ) : Type 0 where
   whole : (text : List ℕ) → Comes status text → after ≡ append_known before text → Ends Comes write_failed before after status
-  unwritable : (meant : ℕ) (text : List ℕ) → Comes meant text → write_failed → status ≡ 6 → AppendsFront before text after → Ends Comes write_failed before after status
+  unwritable : (meant : ℕ) (text : List ℕ) → Comes meant text → write_failed → status ≡ 6 → AppendsFront before text after
+      → Ends Comes write_failed before after status
   no_memory : status ≡ 10 → AppendsOwn Comes before after → Ends Comes write_failed before after status
 
 -- A call with these words is complete: where the texts are told, and neither a read nor a write failed, it ends with the one status and
 -- the one whole text that its words and texts come to, or memory ran out.
 abbrev pub Completes : List (List ℕ) → Option Texts → Type 0 → Type 0 → Option (List ℕ) → Option (List ℕ) → ℕ → Type 0
 Completes words told read_failed write_failed before after status =
-    (texts : Texts) (meant : ℕ) (text : List ℕ) → told ≡ Some texts → (read_failed → ⊥) → (write_failed → ⊥) → ComesTo words (Some texts) (Unit {0}) ⊥ meant text
+    (texts : Texts) (meant : ℕ) (text : List ℕ) → told ≡ Some texts → (read_failed → ⊥) → (write_failed → ⊥)
+    → ComesTo words (Some texts) (Unit {0}) ⊥ meant text
     → ((status ≡ meant) × (after ≡ append_known before text)) ⊎ (status ≡ 10)

@@ -22,7 +22,8 @@ first_run deepen = run_within deepen deepen.series.from
 
 -- why a deepening refuses a text
 abbrev pub DeepenRefuses : Option Texts → Type 0 → Type 0 → DeepenWords → Role → TextRefusal → Type 0
-DeepenRefuses told absence read_failed deepen role refusal = RunFails told absence read_failed (first_run deepen) (cause_of (name_of (first_run deepen) role) refusal)
+DeepenRefuses told absence read_failed deepen role refusal =
+    RunFails told absence read_failed (first_run deepen) (cause_of (name_of (first_run deepen) role) refusal)
 
 -- what the deepening of a problem comes to: the run with the bound that decides, and its line in front
 pub record DeepensTo (proofs : Bool) (series : Series) (p : ProblemTree) (status : ℕ) (text : List ℕ) : Type 0 where

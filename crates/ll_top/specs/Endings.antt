@@ -28,7 +28,8 @@ use Rattle.ll_parser.specs.Raw.{ProgramTree}
 use Rattle.ll_parser.specs.Printed.{program_text}
 use Rattle.ll_top.specs.Verdicts.{yes_text, no_text, covered_text, too_long_text, counts_text}
 use Rattle.ll_top.specs.Judging.{IsProgramText, IsReadingFault, IsTextFault, TextsAsk, IsCheckFault, TextsGive}
-use Rattle.ll_top.specs.Outcome.{longest_text, name_of, RunFails, RunAsks, status_of_run, text_of_run, RunComesTo, PrintFails, IsPrintedAs, name_in_check, CheckFails, IsRefuted, IsCovered, IsTooLong, CountsAt, CheckComesTo}
+use Rattle.ll_top.specs.Outcome.{longest_text, name_of, RunFails, RunAsks, status_of_run, text_of_run, RunComesTo, PrintFails, IsPrintedAs, name_in_check}
+use Rattle.ll_top.specs.Outcome.{CheckFails, IsRefuted, IsCovered, IsTooLong, CountsAt, CheckComesTo}
 use Rattle.ll_top.specs.Calls.{AppendsOwn}
 
 -- ---- causes
@@ -102,9 +103,13 @@ status_of_found Bound = 2
 
 -- how the search of a run ended, before any fault line is written
 abbrev pub RunEnds : Option Texts → Type 0 → Type 0 → Type 0 → RunWords → Option (List ℕ) → Option (List ℕ) → Result Found Refusal → Type 0
-RunEnds told absence read_failed write_failed run before after (Ok found) = (p : ProblemTree) × RunAsks told run p × IsValid p × (status_of_found found ≡ status_of_run run.first p) × (after ≡ append_known before (text_of_run run.first run.proofs p))
-RunEnds told absence read_failed write_failed run before after (Err (Text role refusal)) = RunFails told absence read_failed run (cause_of (name_of run role) refusal) × (after ≡ before)
-RunEnds told absence read_failed write_failed run before after (Err Unwritable) = (p : ProblemTree) × RunAsks told run p × write_failed × AppendsFront before (text_of_run run.first run.proofs p) after
+RunEnds told absence read_failed write_failed run before after (Ok found) =
+    (p : ProblemTree) × RunAsks told run p × IsValid p × (status_of_found found ≡ status_of_run run.first p)
+    × (after ≡ append_known before (text_of_run run.first run.proofs p))
+RunEnds told absence read_failed write_failed run before after (Err (Text role refusal)) =
+    RunFails told absence read_failed run (cause_of (name_of run role) refusal) × (after ≡ before)
+RunEnds told absence read_failed write_failed run before after (Err Unwritable) =
+    (p : ProblemTree) × RunAsks told run p × write_failed × AppendsFront before (text_of_run run.first run.proofs p) after
 RunEnds told absence read_failed write_failed run before after (Err OutOfMemory) = AppendsOwn (RunComesTo told absence read_failed run) before after
 
 -- ---- the print
@@ -130,9 +135,12 @@ IsNotPrinted told absence read_failed name OutOfMemory = Unit {0}
 
 -- how a print ended, before any fault line is written
 abbrev pub PrintEnds : {A : Type 0} → Option Texts → Type 0 → Type 0 → Type 0 → List ℕ → Option (List ℕ) → Option (List ℕ) → Result A Refusal → Type 0
-PrintEnds told absence read_failed write_failed name before after (Ok done) = (bytes : List ℕ) × IsPrintedAs told name bytes × (after ≡ append_known before bytes)
-PrintEnds told absence read_failed write_failed name before after (Err (Text role refusal)) = PrintFails told absence read_failed name (cause_of name refusal) × (after ≡ before)
-PrintEnds told absence read_failed write_failed name before after (Err Unwritable) = (bytes : List ℕ) × IsPrintedAs told name bytes × write_failed × AppendsFront before bytes after
+PrintEnds told absence read_failed write_failed name before after (Ok done) =
+    (bytes : List ℕ) × IsPrintedAs told name bytes × (after ≡ append_known before bytes)
+PrintEnds told absence read_failed write_failed name before after (Err (Text role refusal)) =
+    PrintFails told absence read_failed name (cause_of name refusal) × (after ≡ before)
+PrintEnds told absence read_failed write_failed name before after (Err Unwritable) =
+    (bytes : List ℕ) × IsPrintedAs told name bytes × write_failed × AppendsFront before bytes after
 PrintEnds told absence read_failed write_failed name before after (Err OutOfMemory) = after ≡ before
 
 -- ---- the check, and the cover
@@ -193,7 +201,10 @@ CheckFinds told absence read_failed check (Err OutOfMemory) = Unit {0}
 
 -- how a check ended, before any fault line is written
 abbrev pub CheckEnds : Option Texts → Type 0 → Type 0 → Type 0 → CheckWords → Option (List ℕ) → Option (List ℕ) → Result Finding Refusal → Type 0
-CheckEnds told absence read_failed write_failed check before after (Ok finding) = ComesToFinding told absence read_failed check finding × (after ≡ append_known before (finding_text finding))
-CheckEnds told absence read_failed write_failed check before after (Err (Text role refusal)) = CheckFails told absence read_failed check (cause_of (name_in_check check role) refusal) × (after ≡ before)
-CheckEnds told absence read_failed write_failed check before after (Err Unwritable) = (finding : Finding) × ComesToFinding told absence read_failed check finding × write_failed × AppendsFront before (finding_text finding) after
+CheckEnds told absence read_failed write_failed check before after (Ok finding) =
+    ComesToFinding told absence read_failed check finding × (after ≡ append_known before (finding_text finding))
+CheckEnds told absence read_failed write_failed check before after (Err (Text role refusal)) =
+    CheckFails told absence read_failed check (cause_of (name_in_check check role) refusal) × (after ≡ before)
+CheckEnds told absence read_failed write_failed check before after (Err Unwritable) =
+    (finding : Finding) × ComesToFinding told absence read_failed check finding × write_failed × AppendsFront before (finding_text finding) after
 CheckEnds told absence read_failed write_failed check before after (Err OutOfMemory) = after ≡ before

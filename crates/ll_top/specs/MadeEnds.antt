@@ -13,7 +13,8 @@ use Rattle.ll_top.specs.Calls.{AppendsOwn}
 use Rattle.ll_top.specs.Endings.{status_of_found}
 
 abbrev pub MadeRunEnds : Type 0 → MadeRunWords → Option (List ℕ) → Option (List ℕ) → Result Found Refusal → Type 0
-MadeRunEnds write_failed run before after (Ok found) = (p : ProblemTree) × MadeAsks run p × (status_of_found found ≡ run_status p) × (after ≡ append_known before (last_line p))
+MadeRunEnds write_failed run before after (Ok found) = (p : ProblemTree) × MadeAsks run p × (status_of_found found ≡ run_status p)
+    × (after ≡ append_known before (last_line p))
 MadeRunEnds write_failed run before after (Err (Text role refusal)) = ⊥
 MadeRunEnds write_failed run before after (Err Unwritable) = (p : ProblemTree) × MadeAsks run p × write_failed × AppendsFront before (last_line p) after
 MadeRunEnds write_failed run before after (Err OutOfMemory) = AppendsOwn (MadeRunComesTo run) before after

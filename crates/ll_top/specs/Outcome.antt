@@ -1,5 +1,6 @@
 -- What a run, a print, a check and a cover come to, by their words and the texts on the shelf.
-use Rattle.std.specs.Prelude.{◌≡◌, ◌≤◌, ◌<◌, ◌⊎◌, ℕ, Bool, true, false, List, [], ◌∷◌, ◌++◌, length, map, Option, Some, None, IsSomeAnd, IfSome, is_some, unwrap_or, if◌then◌else◌}
+use Rattle.std.specs.Prelude.{◌≡◌, ◌≤◌, ◌<◌, ◌⊎◌, ℕ, Bool, true, false, List, [], ◌∷◌, ◌++◌, length, map, Option, Some, None, IsSomeAnd, IfSome, is_some}
+use Rattle.std.specs.Prelude.{unwrap_or, if◌then◌else◌}
 use Rattle.std.specs.List.{position_from}
 use Rattle.std.specs.Borrow.{Bor}
 use Rattle.ll_edge.specs.Texts.{Texts, text_of}
@@ -50,9 +51,11 @@ run_texts run = run.program ∷ run.query ∷ []
 -- Why the texts of these names are not all read: it is the turn of one that is absent, can't be read or is too long. `absence` and
 -- `read_failed` say that the shelf's counts rose.
 pub data ReadFails (told : Option Texts) (absence read_failed : Type 0) (names : List (List ℕ)) : Cause → Type 0 where
-  absent : (name : List ℕ) → Reaches told names name → absence → IfSome told (λ texts. text_of texts name ≡ None) → ReadFails told absence read_failed names (Absent name)
+  absent : (name : List ℕ) → Reaches told names name → absence → IfSome told (λ texts. text_of texts name ≡ None)
+      → ReadFails told absence read_failed names (Absent name)
   unreadable : (name : List ℕ) → Reaches told names name → read_failed → ReadFails told absence read_failed names (Unreadable name)
-  oversized : (name : List ℕ) → Reaches told names name → IfSome told (λ texts. IsSomeAnd (text_of texts name) (λ text. longest_text < length text)) → ReadFails told absence read_failed names (Oversized name)
+  oversized : (name : List ℕ) → Reaches told names name → IfSome told (λ texts. IsSomeAnd (text_of texts name) (λ text. longest_text < length text))
+      → ReadFails told absence read_failed names (Oversized name)
 
 -- ---- runs
 
@@ -65,7 +68,8 @@ name_of run Proof = []
 -- Why a run ends with a fault line: its texts are not both read; or one of them has a fault, where the program is judged first.
 pub data RunFails (told : Option Texts) (absence read_failed : Type 0) (run : RunWords) : Cause → Type 0 where
   not_read : (cause : Cause) → ReadFails told absence read_failed (run_texts run) cause → RunFails told absence read_failed run cause
-  faulty : (program query : List ℕ) (role : Role) (f : Fault) → IsRead told run.program program → IsRead told run.query query → IsTextFault program query role f → RunFails told absence read_failed run (Faulty (name_of run role) f)
+  faulty : (program query : List ℕ) (role : Role) (f : Fault) → IsRead told run.program program → IsRead told run.query query → IsTextFault program query role f
+      → RunFails told absence read_failed run (Faulty (name_of run role) f)
 
 -- the texts of a run were read, and ask this problem
 pub record RunAsks (told : Option Texts) (run : RunWords) (p : ProblemTree) : Type 0 where
@@ -102,8 +106,10 @@ status_of_run wanted p = if is_some (front_events wanted p) then 0 else run_stat
 
 -- what a run comes to: its text, or a fault line, each with its status
 pub data RunComesTo (told : Option Texts) (absence read_failed : Type 0) (run : RunWords) (status : ℕ) (text : List ℕ) : Type 0 where
-  ran : (p : ProblemTree) → RunAsks told run p → status ≡ status_of_run run.first p → text ≡ text_of_run run.first run.proofs p → RunComesTo told absence read_failed run status text
-  failed : (cause : Cause) → RunFails told absence read_failed run cause → status ≡ cause_status cause → text ≡ fault_text cause → RunComesTo told absence read_failed run status text
+  ran : (p : ProblemTree) → RunAsks told run p → status ≡ status_of_run run.first p → text ≡ text_of_run run.first run.proofs p
+      → RunComesTo told absence read_failed run status text
+  failed : (cause : Cause) → RunFails told absence read_failed run cause → status ≡ cause_status cause → text ≡ fault_text cause
+      → RunComesTo told absence read_failed run status text
 
 -- ---- prints
 
@@ -123,7 +129,8 @@ pub data PrintFails (told : Option Texts) (absence read_failed : Type 0) (name :
 -- what a print comes to: the program as it is printed, or a fault line, each with its status
 pub data PrintComesTo (told : Option Texts) (absence read_failed : Type 0) (name : List ℕ) (status : ℕ) (text : List ℕ) : Type 0 where
   printed : IsPrintedAs told name text → status ≡ 0 → PrintComesTo told absence read_failed name status text
-  print_failed : (cause : Cause) → PrintFails told absence read_failed name cause → status ≡ cause_status cause → text ≡ fault_text cause → PrintComesTo told absence read_failed name status text
+  print_failed : (cause : Cause) → PrintFails told absence read_failed name cause → status ≡ cause_status cause → text ≡ fault_text cause
+      → PrintComesTo told absence read_failed name status text
 
 -- ---- checks and covers
 
@@ -140,7 +147,8 @@ name_in_check check Proof = check.proof
 -- Why a check ends with a fault line: its texts are not all read; or one of them has a fault, where they are judged in the same order.
 pub data CheckFails (told : Option Texts) (absence read_failed : Type 0) (check : CheckWords) : Cause → Type 0 where
   texts_not_read : (cause : Cause) → ReadFails told absence read_failed (check_texts check) cause → CheckFails told absence read_failed check cause
-  faulty_text : (program query proof : List ℕ) (role : Role) (f : Fault) → IsRead told check.program program → IsRead told check.query query → IsRead told check.proof proof
+  faulty_text : (program query proof : List ℕ) (role : Role) (f : Fault) → IsRead told check.program program → IsRead told check.query query
+      → IsRead told check.proof proof
       → IsCheckFault program query proof role f → CheckFails told absence read_failed check (Faulty (name_in_check check role) f)
 
 -- the bound of a cover; that of a check is 0, and no check looks at it
@@ -185,15 +193,21 @@ pub record CountsAt (p : ProblemTree) (d : DerivationLines) (node : ℕ) : Type 
 -- A cover comes to the number of an answer in place of yes; or to why it looks for none: the nodes are more than the bound, or else one of
 -- them is of a whole-number goal.
 pub data CheckComesTo (told : Option Texts) (absence read_failed : Type 0) (check : CheckWords) (status : ℕ) (text : List ℕ) : Type 0 where
-  shown : (p : ProblemTree) (d : DerivationLines) → is_some check.bound ≡ false → CheckGives told check p d → DerivationShows p d → status ≡ 0 → text ≡ yes_text (length d.nodes) → CheckComesTo told absence read_failed check status text
-  refuted : (p : ProblemTree) (d : DerivationLines) (node reason : ℕ) → CheckGives told check p d → IsRefuted p d node reason → status ≡ 9 → text ≡ no_text node reason → CheckComesTo told absence read_failed check status text
-  covered : (p : ProblemTree) (d : DerivationLines) (number : ℕ) → is_some check.bound ≡ true → CheckGives told check p d → IsCovered p d number → status ≡ 0 → text ≡ covered_text number
+  shown : (p : ProblemTree) (d : DerivationLines) → is_some check.bound ≡ false → CheckGives told check p d → DerivationShows p d → status ≡ 0
+      → text ≡ yes_text (length d.nodes) → CheckComesTo told absence read_failed check status text
+  refuted : (p : ProblemTree) (d : DerivationLines) (node reason : ℕ) → CheckGives told check p d → IsRefuted p d node reason → status ≡ 9
+      → text ≡ no_text node reason → CheckComesTo told absence read_failed check status text
+  covered : (p : ProblemTree) (d : DerivationLines) (number : ℕ) → is_some check.bound ≡ true → CheckGives told check p d → IsCovered p d number → status ≡ 0
+      → text ≡ covered_text number
       → CheckComesTo told absence read_failed check status text
-  too_long : (p : ProblemTree) (d : DerivationLines) → is_some check.bound ≡ true → CheckGives told check p d → IsTooLong p d → status ≡ 11 → text ≡ too_long_text (length d.nodes) p.bound
+  too_long : (p : ProblemTree) (d : DerivationLines) → is_some check.bound ≡ true → CheckGives told check p d → IsTooLong p d → status ≡ 11
+      → text ≡ too_long_text (length d.nodes) p.bound
       → CheckComesTo told absence read_failed check status text
-  counting : (p : ProblemTree) (d : DerivationLines) (node : ℕ) → is_some check.bound ≡ true → CheckGives told check p d → CountsAt p d node → status ≡ 11 → text ≡ counts_text node
+  counting : (p : ProblemTree) (d : DerivationLines) (node : ℕ) → is_some check.bound ≡ true → CheckGives told check p d → CountsAt p d node → status ≡ 11
+      → text ≡ counts_text node
       → CheckComesTo told absence read_failed check status text
-  check_failed : (cause : Cause) → CheckFails told absence read_failed check cause → status ≡ cause_status cause → text ≡ fault_text cause → CheckComesTo told absence read_failed check status text
+  check_failed : (cause : Cause) → CheckFails told absence read_failed check cause → status ≡ cause_status cause → text ≡ fault_text cause
+      → CheckComesTo told absence read_failed check status text
 
 -- the words are those of a check, or of a cover, whose derivation does not show the query
 pub record IsDenied (words : List (List ℕ)) (told : Option Texts) : Type 0 where

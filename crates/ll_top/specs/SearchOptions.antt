@@ -1,5 +1,6 @@
 -- How the words of a run, of a session and of a deepening are read: up to some word, with the values of the options that were come to.
-use Rattle.std.specs.Prelude.{◌≡◌, ℕ, ◌+◌, ◌≤◌, Bool, true, false, not, List, [], ◌∷◌, length, map, filter, take, slice_get, All, Option, Some, None, is_some, unwrap_or, IfSome, MatchOption, codes}
+use Rattle.std.specs.Prelude.{◌≡◌, ℕ, ◌+◌, ◌≤◌, Bool, true, false, not, List, [], ◌∷◌, length, map, filter, take, slice_get, All, Option, Some, None, is_some}
+use Rattle.std.specs.Prelude.{unwrap_or, IfSome, MatchOption, codes}
 use Rattle.std.specs.List.{list_any}
 use Rattle.ll_top.specs.declared.searches.SearchForm.{SearchForm}
 use Rattle.ll_top.specs.declared.searches.SearchForm.TheVariants.{Run, Session, Deepen}
@@ -7,7 +8,8 @@ use Rattle.ll_top.specs.declared.searches.SearchOption.{SearchOption}
 use Rattle.ll_top.specs.declared.searches.SearchOption.TheVariants.{Bound, Workers, Proofs, First, From, By, To}
 use Rattle.ll_top.specs.declared.searches.SearchOptions.{SearchOptions}
 use Rattle.ll_top.specs.Begins.{IsFirstBad, Leads}
-use Rattle.ll_top.specs.Words.{ThisWord, AnyName, is_word, OptionForm, Form, Fits, FitsForm, bound_option, workers_option, proofs_option, first_option, from_option, by_option, to_option, number_behind, has_word, greatest_bound, greatest_workers, greatest_first}
+use Rattle.ll_top.specs.Words.{ThisWord, AnyName, is_word, OptionForm, Form, Fits, FitsForm, bound_option, workers_option, proofs_option, first_option}
+use Rattle.ll_top.specs.Words.{from_option, by_option, to_option, number_behind, has_word, greatest_bound, greatest_workers, greatest_first}
 
 -- ---- the three forms
 

@@ -36,7 +36,8 @@ pub record SessionAsks (told : Option Texts) (session : SessionWords) (queries :
 
 -- Why a session ends with a fault line: its texts are not both read, or its program has a fault. A fault of a query's line is none of these.
 pub data SessionFails (told : Option Texts) (absence read_failed : Type 0) (session : SessionWords) : Cause → Type 0 where
-  session_not_read : (cause : Cause) → ReadFails told absence read_failed (session.program ∷ session.queries ∷ []) cause → SessionFails told absence read_failed session cause
+  session_not_read : (cause : Cause) → ReadFails told absence read_failed (session.program ∷ session.queries ∷ []) cause
+      → SessionFails told absence read_failed session cause
   faulty_program : (program text : List ℕ) (f : Fault) → IsRead told session.program program → IsRead told session.queries text → IsProgramFault program f
       → SessionFails told absence read_failed session (Faulty session.program f)
 

@@ -1,5 +1,6 @@
 -- The forms of a command's words.
-use Rattle.std.specs.Prelude.{◌≡◌, ◌⊎◌, ℕ, ◌+◌, ◌<◌, ◌≤◌, Bool, true, false, ◌&&◌, not, List, [], ◌∷◌, length, filter, nat_eq, nat_le, slice_get, Option, Some, None, is_some, if◌then◌else◌, codes, option_map, IfSome}
+use Rattle.std.specs.Prelude.{◌≡◌, ◌⊎◌, ℕ, ◌+◌, ◌<◌, ◌≤◌, Bool, true, false, ◌&&◌, not, List, [], ◌∷◌, length, filter, nat_eq, nat_le, slice_get, Option, Some}
+use Rattle.std.specs.Prelude.{None, is_some, if◌then◌else◌, codes, option_map, IfSome}
 use Rattle.ll_top.specs.declared.words.RunCommand.{RunCommand}
 use Rattle.ll_top.specs.declared.words.SessionCommand.{SessionCommand}
 use Rattle.ll_top.specs.declared.words.DeepenCommand.{DeepenCommand}
@@ -75,7 +76,8 @@ pub data Takes (o : OptionForm) : List OptionForm → List OptionForm → Type 0
 -- words are in a form: one for each of its parts, and then its options in any order, each once, where one that may lack may be left out
 pub data Fits : List Part → List OptionForm → List (List ℕ) → Type 0 where
   part : {p : Part} {ps : List Part} {os : List OptionForm} {w : List ℕ} {ws : List (List ℕ)} → is_part p w ≡ true → Fits ps os ws → Fits (p ∷ ps) os (w ∷ ws)
-  option : {o : OptionForm} {os others : List OptionForm} {w : List ℕ} {ws : List (List ℕ)} → Takes o os others → w ≡ o.word → Fits o.values others ws → Fits [] os (w ∷ ws)
+  option : {o : OptionForm} {os others : List OptionForm} {w : List ℕ} {ws : List (List ℕ)} → Takes o os others → w ≡ o.word → Fits o.values others ws
+      → Fits [] os (w ∷ ws)
   done : {os : List OptionForm} → list_all (λ o. o.may_lack) os ≡ true → Fits [] os []
 
 abbrev pub FitsForm : Form → List (List ℕ) → Type 0
@@ -138,7 +140,11 @@ to_option m = record { word = codes "--to"; values = NumberFrom m greatest_bound
 -- `deepen PROGRAM QUERY --from A --by B --to C --workers W [--proofs]`, where A is at most m, and C is at least m
 abbrev pub deepen_form : ℕ → Form
 deepen_form m =
-    record { parts = ThisWord (codes "deepen") ∷ AnyName ∷ AnyName ∷ []; options = from_option m ∷ by_option ∷ to_option m ∷ workers_option ∷ proofs_option ∷ [] }
+    record {
+      parts = ThisWord (codes "deepen") ∷ AnyName ∷ AnyName ∷ [];
+      options =
+          from_option m ∷ by_option ∷ to_option m ∷ workers_option ∷ proofs_option ∷ [];
+    }
 
 -- words are in the form of a deepening, whose first bound is at most its last one
 abbrev pub IsDeepenForm : List (List ℕ) → Type 0
@@ -181,7 +187,8 @@ made_run_form kind = record { parts = make_parts kind; options = made_options }
 -- the forms but that of a deepening
 abbrev pub forms : List Form
 forms =
-    run_form ∷ session_form ∷ print_form ∷ check_form ∷ cover_form ∷ convert_form ∷ make_form Perm ∷ make_form Choice ∷ make_form Chain ∷ made_run_form Perm ∷ made_run_form Choice ∷ made_run_form Chain ∷ []
+    run_form ∷ session_form ∷ print_form ∷ check_form ∷ cover_form ∷ convert_form ∷ make_form Perm ∷ make_form Choice ∷ make_form Chain ∷ made_run_form Perm
+    ∷ made_run_form Choice ∷ made_run_form Chain ∷ []
 
 -- words are in a form
 abbrev pub IsInForm : List (List ℕ) → Type 0

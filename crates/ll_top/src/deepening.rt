@@ -86,7 +86,8 @@ fn deepen_texts<R: Threads + Wait + Sync, F: Shelf, O: Sink, G: Gate>(
 
     ensures ends { EndsOwn (DeepenComesTo (F.texts shelf.old) (Rose (F.absences shelf.old) (F.absences shelf.new))
         (Rose (F.faults shelf.old) (F.faults shelf.new)) (shown_deepen deepen.now)) status_of_found
-        (DeepenRefuses (F.texts shelf.old) (Rose (F.absences shelf.old) (F.absences shelf.new)) (Rose (F.faults shelf.old) (F.faults shelf.new)) (shown_deepen deepen.now))
+        (DeepenRefuses (F.texts shelf.old) (Rose (F.absences shelf.old) (F.absences shelf.new)) (Rose (F.faults shelf.old) (F.faults shelf.new))
+        (shown_deepen deepen.now))
         (Rose (O.faults sink.old) (O.faults sink.new)) (O.written sink.old) (O.written sink.new) result }
 {
     let first = RunCommand {

@@ -71,7 +71,8 @@ fn write_front<R: Threads + Wait + Sync, O: Sink, G: Gate>(
     ensures faults_kept { O.faults sink.old ≤ O.faults sink.new }
     ensures stops { IfOk result (λ o. (o ≡ None) ↔ (wanted ≤ count_by is_answer (problem_events problem.now))) }
     ensures counts { IfOk result (λ o. IfSome o (λ counts. CountsOf counts (problem_events problem.now) (problem_cost problem.now))) }
-    ensures lines { OnOk result (O.written sink.new ≡ append_known (O.written sink.old) (all_lines proofs problem.now 0 (first_of (problem_events problem.now) wanted))) }
+    ensures lines { OnOk result (O.written sink.new ≡ append_known (O.written sink.old)
+        (all_lines proofs problem.now 0 (first_of (problem_events problem.now) wanted))) }
     ensures refused { IfErr result (IsRunRefusal (O.faults sink.old) (O.faults sink.new)) }
     ensures prefix { OnErr result (AppendsFront (O.written sink.old) (text_of_run (Some wanted) proofs problem.now) (O.written sink.new)) }
 {
@@ -103,9 +104,12 @@ fn give_front<'p, 's, R: Threads + Wait + Sync, O: Sink, G: Gate>(
     ensures faults_kept { O.faults out.old.out.sink.now ≤ O.faults out.new.out.sink.now }
     ensures stops { IfOk result (λ o. (o ≡ None) ↔ (out.old.limit ≤ count_by is_answer (problem_events problem.entry.now))) }
     ensures counts { IfOk result (λ o. IfSome o (λ counts. CountsOf counts (problem_events problem.entry.now) (problem_cost problem.entry.now))) }
-    ensures lines { OnOk result (O.written out.new.out.sink.now ≡ append_known (O.written out.old.out.sink.now) (all_lines out.old.out.proofs problem.entry.now 0 (first_of (problem_events problem.entry.now) out.old.limit))) }
+    ensures lines { OnOk result (O.written out.new.out.sink.now
+        ≡ append_known (O.written out.old.out.sink.now) (all_lines out.old.out.proofs problem.entry.now 0
+        (first_of (problem_events problem.entry.now) out.old.limit))) }
     ensures refused { IfErr result (IsRunRefusal (O.faults out.old.out.sink.now) (O.faults out.new.out.sink.now)) }
-    ensures prefix { OnErr result (AppendsFront (O.written out.old.out.sink.now) (text_of_run (Some out.old.limit) out.old.out.proofs problem.entry.now) (O.written out.new.out.sink.now)) }
+    ensures prefix { OnErr result (AppendsFront (O.written out.old.out.sink.now) (text_of_run (Some out.old.limit) out.old.out.proofs problem.entry.now)
+        (O.written out.new.out.sink.now)) }
 {
     answers_are_shown();
     match crew_first(team.rt, team.alloc, problem, team.workers, team.gate, out) {

@@ -34,14 +34,46 @@ impl<'p, 's, O: Sink> Outlet for Writing<'p, 's, O> {
     ghost use Rattle.ll_top.specs.Running.{Writes, BreaksOff, IsWelcome};
 
     ghost takes = { λ before event after. Writes
-        (record { problem = before.problem.now; proofs = before.proofs; answers = before.answers; written = O.written before.sink.now; faults = O.faults before.sink.now; lent = before.sink.ghost_name })
+        (record {
+          problem = before.problem.now;
+          proofs = before.proofs;
+          answers = before.answers;
+          written = O.written before.sink.now;
+          faults =
+              O.faults before.sink.now;
+          lent = before.sink.ghost_name;
+        })
         event
-        (record { problem = after.problem.now; proofs = after.proofs; answers = after.answers; written = O.written after.sink.now; faults = O.faults after.sink.now; lent = after.sink.ghost_name }) };
+        (record {
+          problem = after.problem.now;
+          proofs = after.proofs;
+          answers = after.answers;
+          written = O.written after.sink.now;
+          faults =
+              O.faults after.sink.now;
+          lent = after.sink.ghost_name;
+        }) };
 
     ghost breaks = { λ before event after. BreaksOff
-        (record { problem = before.problem.now; proofs = before.proofs; answers = before.answers; written = O.written before.sink.now; faults = O.faults before.sink.now; lent = before.sink.ghost_name })
+        (record {
+          problem = before.problem.now;
+          proofs = before.proofs;
+          answers = before.answers;
+          written = O.written before.sink.now;
+          faults =
+              O.faults before.sink.now;
+          lent = before.sink.ghost_name;
+        })
         event
-        (record { problem = after.problem.now; proofs = after.proofs; answers = after.answers; written = O.written after.sink.now; faults = O.faults after.sink.now; lent = after.sink.ghost_name }) };
+        (record {
+          problem = after.problem.now;
+          proofs = after.proofs;
+          answers = after.answers;
+          written = O.written after.sink.now;
+          faults =
+              O.faults after.sink.now;
+          lent = after.sink.ghost_name;
+        }) };
 
     ghost welcome = { λ outlet event. IsWelcome outlet.problem.now event };
 

@@ -86,9 +86,11 @@ pub fn write_summary<O: Sink>(
 ) -> Result<Found, Refusal>
     ensures faults_kept { O.faults sink.old ≤ O.faults sink.new }
     ensures found { IfOk result (λ found. status_of_found found ≡ status_of_counts counts.now.answers counts.now.reached) }
-    ensures text { OnOk result (O.written sink.new ≡ append_known (O.written sink.old) (counts_text counts.now.answers counts.now.reached counts.now.inferences)) }
+    ensures text { OnOk result (O.written sink.new ≡ append_known (O.written sink.old)
+        (counts_text counts.now.answers counts.now.reached counts.now.inferences)) }
     ensures refused { IfErr result (IsRunRefusal (O.faults sink.old) (O.faults sink.new)) }
-    ensures prefix { OnErr result (AppendsFront (O.written sink.old) (counts_text counts.now.answers counts.now.reached counts.now.inferences) (O.written sink.new)) }
+    ensures prefix { OnErr result (AppendsFront (O.written sink.old) (counts_text counts.now.answers counts.now.reached counts.now.inferences)
+        (O.written sink.new)) }
 {
     lines.clear();
     summary(counts, lines)?;
@@ -141,7 +143,8 @@ fn give_events<'p, 's, R: Threads + Wait + Sync, O: Sink, G: Gate>(
     ensures same_reference { out.new.sink.ghost_name ≡ out.old.sink.ghost_name }
     ensures faults_kept { O.faults out.old.sink.now ≤ O.faults out.new.sink.now }
     ensures counts { IfOk result (λ counts. CountsOf counts (problem_events problem.entry.now) (problem_cost problem.entry.now)) }
-    ensures lines { OnOk result (O.written out.new.sink.now ≡ append_known (O.written out.old.sink.now) (all_lines out.old.proofs problem.entry.now 0 (problem_events problem.entry.now))) }
+    ensures lines { OnOk result (O.written out.new.sink.now ≡ append_known (O.written out.old.sink.now)
+        (all_lines out.old.proofs problem.entry.now 0 (problem_events problem.entry.now))) }
     ensures refused { IfErr result (IsRunRefusal (O.faults out.old.sink.now) (O.faults out.new.sink.now)) }
     ensures prefix { OnErr result (AppendsFront (O.written out.old.sink.now) (whole_text out.old.proofs problem.entry.now) (O.written out.new.sink.now)) }
 {

@@ -3,7 +3,8 @@ ghost use Rattle.std.specs.Prelude.{◌≡◌, ◌<◌, length, true, false, is_
 ghost use Rattle.std.specs.List.{list_any};
 ghost use Rattle.ll_top.specs.Words.{is_word, ThisWord, IsRun, IsSession, IsDeepen, IsBounded, shown_words, shown_session, shown_deepen};
 ghost use Rattle.ll_top.specs.FormWords.{HasPart};
-ghost use Rattle.ll_top.specs.SearchOptions.{search_word, option_word, offers, value, no_options, with_value, has_number, least_in, greatest_in, options_left, IsLeft, IsReadTo, IsSearch, IsBadSearchWord};
+ghost use Rattle.ll_top.specs.SearchOptions.{search_word, option_word, offers, value, no_options, with_value, has_number, least_in, greatest_in, options_left};
+ghost use Rattle.ll_top.specs.SearchOptions.{IsLeft, IsReadTo, IsSearch, IsBadSearchWord};
 ghost use Rattle.ll_top.specs.declared.searches.SearchForm.TheVariants.{Run, Session, Deepen};
 ghost use Rattle.ll_top.specs.declared.words.Command.TheVariants as command;
 ghost use Rattle.ll_top.specs.Outcome.{word_texts};
@@ -94,7 +95,8 @@ pub fn read_run<'a>(words: &[&'a str]) -> Result<RunCommand<'a>, usize>
 /// What the words of a session ask for, or the number of the first word through which no session begins.
 pub fn read_session<'a>(words: &[&'a str]) -> Result<SessionCommand<'a>, usize>
     requires { HasPart (word_texts words.now) 0 (ThisWord (codes "session")) }
-    ensures session { MatchResult result (λ session. IsSession (word_texts words.now) (shown_session session)) (IsBadSearchWord Session (word_texts words.now)) }
+    ensures session { MatchResult result (λ session. IsSession (word_texts words.now) (shown_session session))
+        (IsBadSearchWord Session (word_texts words.now)) }
     ensures bound { IfOk result (λ session. IsBounded (command.Session session)) }
 {
     let search = read_search(words, SearchForm::Session)?;
@@ -144,7 +146,8 @@ pub fn read_deepen<'a>(words: &[&'a str]) -> Result<DeepenCommand<'a>, usize>
 // The names and the options of words that begin with the form's word.
 fn read_search<'a>(words: &[&'a str], form: SearchForm) -> Result<SearchWords<'a>, usize>
     requires { HasPart (word_texts words.now) 0 (ThisWord (search_word form)) }
-    ensures { MatchResult result (λ search. IsSearch (word_texts words.now) form search.first.now search.second.now search.options) (IsBadSearchWord form (word_texts words.now)) }
+    ensures { MatchResult result (λ search. IsSearch (word_texts words.now) form search.first.now search.second.now search.options)
+        (IsBadSearchWord form (word_texts words.now)) }
 {
     let first = name_at(words, 1)?;
     let second = name_at(words, 2)?;
@@ -159,7 +162,8 @@ fn read_search<'a>(words: &[&'a str], form: SearchForm) -> Result<SearchWords<'a
 // The options of a form, whose first three words stand.
 fn read_options(words: &[&str], form: SearchForm) -> Result<SearchOptions, usize>
     requires { IsReadTo (word_texts words.now) form no_options 3 }
-    ensures { MatchResult result (λ options. IsReadTo (word_texts words.now) form options (length (word_texts words.now))) (IsBadSearchWord form (word_texts words.now)) }
+    ensures { MatchResult result (λ options. IsReadTo (word_texts words.now) form options (length (word_texts words.now)))
+        (IsBadSearchWord form (word_texts words.now)) }
 {
     let mut options = SearchOptions {
         bound: None,

@@ -92,7 +92,8 @@ fn reply_to_texts<R: Threads + Wait + Sync, F: Shelf, O: Sink, G: Gate>(
 
     ensures ends { EndsOwn (SessionComesTo (F.texts shelf.old) (Rose (F.absences shelf.old) (F.absences shelf.new))
         (Rose (F.faults shelf.old) (F.faults shelf.new)) (shown_session session.now)) (λ done. 0)
-        (RefusesText (F.texts shelf.old) (Rose (F.absences shelf.old) (F.absences shelf.new)) (Rose (F.faults shelf.old) (F.faults shelf.new)) (shown_session session.now))
+        (RefusesText (F.texts shelf.old) (Rose (F.absences shelf.old) (F.absences shelf.new)) (Rose (F.faults shelf.old) (F.faults shelf.new))
+        (shown_session session.now))
         (Rose (O.faults sink.old) (O.faults sink.new)) (O.written sink.old) (O.written sink.new) result }
 {
     let program = read(team.alloc, shelf, session.program, Role::Program)?;
@@ -192,9 +193,11 @@ fn reply_to_line<R: Threads + Wait + Sync, O: Sink, G: Gate>(
     requires bound { session.now.bound ≤ 1000000 }
     ensures faults_kept { O.faults sink.old ≤ O.faults sink.new }
     ensures replies { OnOk result ((program : ProgramTree) → IsProgramOf program loaded.now
-        → Replies (WritesReply session.now.proofs session.now.queries.now) (CutsReply session.now.proofs session.now.queries.now) program session.now.bound number line.now (O.written sink.old) (O.written sink.new)) }
+        → Replies (WritesReply session.now.proofs session.now.queries.now) (CutsReply session.now.proofs session.now.queries.now) program session.now.bound
+        number line.now (O.written sink.old) (O.written sink.new)) }
     ensures cut { OnErr result ((program : ProgramTree) → IsProgramOf program loaded.now
-        → RefusesLine (WritesReply session.now.proofs session.now.queries.now) (CutsReply session.now.proofs session.now.queries.now) program session.now.bound number line.now (O.written sink.old) (O.written sink.new)) }
+        → RefusesLine (WritesReply session.now.proofs session.now.queries.now) (CutsReply session.now.proofs session.now.queries.now) program session.now.bound
+        number line.now (O.written sink.old) (O.written sink.new)) }
     ensures refused { IfErr result (IsRunRefusal (O.faults sink.old) (O.faults sink.new)) }
 {
     let part = loaded.copy(team.alloc)?;

@@ -2,7 +2,9 @@
 ghost use Rattle.std.specs.Prelude.{◌≡◌, ◌+◌, ◌≤◌, length, true, codes, slice_get, Some, IsSomeAnd, IfOk, IfSome, MatchOption, MatchResult};
 ghost use Rattle.std.specs.Char.{is_ascii_digit};
 ghost use Rattle.std.specs.List.{list_all};
-ghost use Rattle.ll_top.specs.Words.{is_name_word, is_number_word, number_from, value_within, ThisWord, AnyName, NumberFrom, IsPrint, IsCheck, IsConvert, IsCommand, IsBounded, IsVersion, shown_check, shown_convert, IsBadWord, greatest_bound, print_form, check_form, cover_form, convert_form};
+ghost use Rattle.ll_top.specs.Words.{is_name_word, is_number_word, number_from, value_within, ThisWord, AnyName, NumberFrom, IsPrint, IsCheck, IsConvert};
+ghost use Rattle.ll_top.specs.Words.{IsCommand, IsBounded, IsVersion, shown_check, shown_convert, IsBadWord, greatest_bound, print_form, check_form};
+ghost use Rattle.ll_top.specs.Words.{cover_form, convert_form};
 ghost use Rattle.ll_top.specs.FormWords.{HasPart, LacksPart, IsBadFormWord, form_word, IsNoFormWord, workers_of};
 ghost use Rattle.ll_top.specs.Outcome.{word_texts};
 
@@ -221,7 +223,8 @@ fn read_cover<'a>(words: &[&'a str]) -> Result<CheckCommand<'a>, usize>
 // The name and the version of a conversion, or the number of the first word through which no conversion begins.
 fn read_convert<'a>(words: &[&'a str]) -> Result<ConvertCommand<'a>, usize>
     requires { HasPart (word_texts words.now) 0 (ThisWord (codes "convert")) }
-    ensures convert { MatchResult result (λ convert. IsConvert (word_texts words.now) (shown_convert convert)) (IsBadFormWord convert_form (word_texts words.now)) }
+    ensures convert { MatchResult result (λ convert. IsConvert (word_texts words.now) (shown_convert convert))
+        (IsBadFormWord convert_form (word_texts words.now)) }
     ensures version { IfOk result (λ convert. IsVersion convert.version) }
 {
     let proof = name_at(words, 1)?;

@@ -78,7 +78,8 @@ record HasTree (labels : List ℕ) (ts : List Term) (o : Option (List Tree)) (d 
   is_tree : o ≡ Some (tree ∷ [])
   nodes_are : d.nodes ≡ lines (deal labels tree)
 
-dealt-tree : (labels : List ℕ) (ts : List Term) (o : Option (List Tree)) (d : DerivationLines) → dealt_lines ts (dealt_trees labels o) ≡ Some d → HasTree labels ts o d
+dealt-tree : (labels : List ℕ) (ts : List Term) (o : Option (List Tree)) (d : DerivationLines) → dealt_lines ts (dealt_trees labels o) ≡ Some d
+    → HasTree labels ts o d
 dealt-tree labels ts None d h = absurd (cc (h))
 dealt-tree labels ts (Some []) d h = absurd (cc (h))
 dealt-tree labels ts (Some (x ∷ [])) d h = record { tree = x; is_tree = refl; nodes_are = ap lines_in (sym h) }

@@ -83,11 +83,14 @@ bare_push : (ps : List Premise) (p : Premise) → map bare_premise (ps ++ p ∷ 
 bare_push [] p = refl
 bare_push (q ∷ ps) p = ap (λ qs. bare_premise q ∷ qs) (bare_push ps p)
 
-one_more : (p q : Premise) (l : Option Leaf) (o : Option (List Premise)) → bare_premise p ≡ q → HasPremises l o → HasPremises (option_map (add_premise p) l) (option_map (and_premise q) o)
+one_more : (p q : Premise) (l : Option Leaf) (o : Option (List Premise)) → bare_premise p ≡ q → HasPremises l o
+    → HasPremises (option_map (add_premise p) l) (option_map (and_premise q) o)
 one_more p q None o e h = tt
-one_more p q (Some l) o e h = ap (option_map (and_premise q)) h ∙ ap (λ r. let o : Option (List Premise) = Some (map bare_premise l.premises ++ r ∷ []) in o) (sym e) ∙ ap (λ ps. Some ps) (sym (bare_push l.premises p))
+one_more p q (Some l) o e h = ap (option_map (and_premise q)) h
+    ∙ ap (λ r. let o : Option (List Premise) = Some (map bare_premise l.premises ++ r ∷ []) in o) (sym e) ∙ ap (λ ps. Some ps) (sym (bare_push l.premises p))
 
-either : (b : Bool) (l m : Option Leaf) (o q : Option (List Premise)) → HasPremises l o → HasPremises m q → HasPremises (if b then l else m) (if b then o else q)
+either : (b : Bool) (l m : Option Leaf) (o q : Option (List Premise)) → HasPremises l o → HasPremises m q
+    → HasPremises (if b then l else m) (if b then o else q)
 either true l m o q h g = h
 either false l m o q h g = g
 
@@ -97,12 +100,16 @@ leaf-bare e (Atom a) zero (t ∷ ts) = tt
 leaf-bare e (Atom a) (suc k) [] = tt
 leaf-bare e (Atom a) (suc k) (t ∷ ts) = tt
 leaf-bare e (With q r) k ts =
-    let X : List ℕ → Type 0 = λ ws. HasPremises (if nat_lt k (length (ways q)) then leaf_from e q k ts else leaf_from e r (k - length (ways q)) ts) (if nat_lt k (length ws) then premises_at (bare q) k else premises_at (bare r) (k - length ws)) in
+    let X : List ℕ → Type 0 = λ ws. HasPremises (if nat_lt k (length (ways q)) then leaf_from e q k ts else leaf_from e r (k - length (ways q)) ts)
+    (if nat_lt k (length ws) then premises_at (bare q) k else premises_at (bare r) (k - length ws)) in
     subst X (sym (ways-bare q))
-    (either (nat_lt k (length (ways q))) (leaf_from e q k ts) (leaf_from e r (k - length (ways q)) ts) (premises_at (bare q) k) (premises_at (bare r) (k - length (ways q))) (leaf-bare e q k ts)
+    (either (nat_lt k (length (ways q))) (leaf_from e q k ts) (leaf_from e r (k - length (ways q)) ts) (premises_at (bare q) k)
+    (premises_at (bare r) (k - length (ways q))) (leaf-bare e q k ts)
     (leaf-bare e r (k - length (ways q)) ts))
-leaf-bare e (Lolli g r) k ts = one_more (Needs (close_form e g)) (Needs (bare g)) (leaf_from e r k ts) (premises_at (bare r) k) (ap Needs (bare-close e g)) (leaf-bare e r k ts)
-leaf-bare e (Imp g r) k ts = one_more (NeedsFree (close_form e g)) (NeedsFree (bare g)) (leaf_from e r k ts) (premises_at (bare r) k) (ap NeedsFree (bare-close e g)) (leaf-bare e r k ts)
+leaf-bare e (Lolli g r) k ts = one_more (Needs (close_form e g)) (Needs (bare g)) (leaf_from e r k ts) (premises_at (bare r) k) (ap Needs (bare-close e g))
+    (leaf-bare e r k ts)
+leaf-bare e (Imp g r) k ts = one_more (NeedsFree (close_form e g)) (NeedsFree (bare g)) (leaf_from e r k ts) (premises_at (bare r) k)
+    (ap NeedsFree (bare-close e g)) (leaf-bare e r k ts)
 leaf-bare e (Forall r) k [] = tt
 leaf-bare e (Forall r) k (t ∷ ts) = leaf-bare (Some t ∷ e) r k ts
 leaf-bare e Top k ts = tt

@@ -1,6 +1,7 @@
 -- A tree has as many nodes as lines.
 use Rattle.std.proofs.Common.{◌≡◌, suc, refl, ap, length, arith, length-append}
-use Rattle.ll_laws.specs.Shows.{Tree, OneNode, EraseNode, TensorNode, WithNode, LeftNode, RightNode, BangNode, LolliNode, ImpNode, ForallNode, ExistsNode, UseNode, ClauseNode, Parts, NoParts, BoundedPart, UnboundedPart, nodes, part_nodes, NumNode}
+use Rattle.ll_laws.specs.Shows.{Tree, OneNode, EraseNode, TensorNode, WithNode, LeftNode, RightNode, BangNode, LolliNode, ImpNode, ForallNode, ExistsNode}
+use Rattle.ll_laws.specs.Shows.{UseNode, ClauseNode, Parts, NoParts, BoundedPart, UnboundedPart, nodes, part_nodes, NumNode}
 use Rattle.ll_laws.specs.Line.{lines, lines_of_parts}
 
 mutual
@@ -22,5 +23,7 @@ mutual
 
   part_lines_count : (ps : Parts) → length (lines_of_parts ps) ≡ part_nodes ps
   part_lines_count NoParts = refl
-  part_lines_count (BoundedPart s x ps) = let p = lines_count x in let q = part_lines_count ps in let r = length-append (lines x) (lines_of_parts ps) in omega (arith, p, q, r)
-  part_lines_count (UnboundedPart x ps) = let p = lines_count x in let q = part_lines_count ps in let r = length-append (lines x) (lines_of_parts ps) in omega (arith, p, q, r)
+  part_lines_count (BoundedPart s x ps) = let p = lines_count x in let q = part_lines_count ps in let r = length-append (lines x) (lines_of_parts ps) in
+      omega (arith, p, q, r)
+  part_lines_count (UnboundedPart x ps) = let p = lines_count x in let q = part_lines_count ps in let r = length-append (lines x) (lines_of_parts ps) in
+      omega (arith, p, q, r)

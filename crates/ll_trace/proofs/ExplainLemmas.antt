@@ -1,5 +1,6 @@
 -- What the parts of a call give together.
-use Rattle.std.proofs.Common.{◌≡◌, ℕ, zero, suc, ◌+◌, ◌<◌, ◌≤◌, refl, ap, sym, subst, ◌∙◌, arith, List, [], ◌∷◌, ◌++◌, map, length, take, drop, All, slice_index_or, Option, Some, None}
+use Rattle.std.proofs.Common.{◌≡◌, ℕ, zero, suc, ◌+◌, ◌<◌, ◌≤◌, refl, ap, sym, subst, ◌∙◌, arith, List, [], ◌∷◌, ◌++◌, map, length, take, drop, All}
+use Rattle.std.proofs.Common.{slice_index_or, Option, Some, None}
 use Rattle.std.specs.Prelude.{slice_get, slice_index, Contains}
 use Rattle.std.proofs.lemmas.List.{length-map}
 use Rattle.std.proofs.lemmas.List.Elements.{All-nil, All-cons, All-take, All-map}
@@ -61,7 +62,8 @@ module _ (modules : List ModuleTree) (xs ys : List Term) (same : length xs ≡ l
   alike-load w g rest None = tt
   alike-load w g rest (Some m) = refl
 
-  alike-leaf : (w : Walk) (rest : List Form) (label k : ℕ) (us vs : List Term) (o : Option (List Premise)) → length us ≡ length vs → Alike (tell_leaf w rest label k us o) (tell_leaf w rest label k vs o)
+  alike-leaf : (w : Walk) (rest : List Form) (label k : ℕ) (us vs : List Term) (o : Option (List Premise)) → length us ≡ length vs
+      → Alike (tell_leaf w rest label k us o) (tell_leaf w rest label k vs o)
   alike-leaf w rest label k us vs None h = tt
   alike-leaf w rest label k us vs (Some ps) h = λ i. record w { goals = map premise_goal ps ++ rest; used = w.used + h i }
 
@@ -69,7 +71,8 @@ module _ (modules : List ModuleTree) (xs ys : List Term) (same : length xs ≡ l
   alike-clause w rest label k None = tt
   alike-clause w rest label k (Some r) =
       let n = slice_index (ways r) k in
-      alike-leaf w rest label k (values xs w.used n) (values ys w.used n) (premises_at r k) (same-take n (drop w.used xs) (drop w.used ys) (length-drop_same w.used xs ys same))
+      alike-leaf w rest label k (values xs w.used n) (values ys w.used n) (premises_at r k)
+      (same-take n (drop w.used xs) (drop w.used ys) (length-drop_same w.used xs ys same))
 
   alike-goal : (w : Walk) (g : Form) (rest : List Form) (c : Step) → Alike (tell_goal modules xs w g rest c) (tell_goal modules ys w g rest c)
   alike-goal w One rest c = refl
@@ -96,7 +99,8 @@ module _ (modules : List ModuleTree) (xs ys : List Term) (same : length xs ≡ l
   alike-front w [] c = tt
   alike-front w (g ∷ rest) c = alike-goal (record w { goals = rest }) g rest c
 
-  alike-after : (t u : Told) (go to : Walk → List Line) → Alike t u → ((v : Walk) → length (go v) ≡ length (to v)) → length (after_node t go) ≡ length (after_node u to)
+  alike-after : (t u : Told) (go to : Walk → List Line) → Alike t u → ((v : Walk) → length (go v) ≡ length (to v))
+      → length (after_node t go) ≡ length (after_node u to)
   alike-after Lost Lost go to a h = refl
   alike-after Lost (Tells n w) go to a h = absurd a
   alike-after (Tells m v) Lost go to a h = absurd a
@@ -104,7 +108,8 @@ module _ (modules : List ModuleTree) (xs ys : List Term) (same : length xs ≡ l
 
   told-count : (cs : List Step) (w : Walk) → length (told modules xs cs w) ≡ length (told modules ys cs w)
   told-count [] w = refl
-  told-count (c ∷ cs) w = alike-after (tell modules xs w c) (tell modules ys w c) (told modules xs cs) (told modules ys cs) (alike-front w w.goals c) (λ v. told-count cs v)
+  told-count (c ∷ cs) w = alike-after (tell modules xs w c) (tell modules ys w c) (told modules xs cs) (told modules ys cs) (alike-front w w.goals c)
+      (λ v. told-count cs v)
 
 pub take_exact : (n : ℕ) (ats : List At) → n ≤ length ats → n ≡ length (take n ats)
 take_exact zero ats h = refl
@@ -113,25 +118,31 @@ take_exact (suc n) (x ∷ ats) h = ap suc (take_exact n ats (omega (arith, h)))
 
 -- ---- the labels of the root
 
-labels_more : (n : ℕ) (cs : List Clause) (k : ℕ) (d : Clause) → k < length cs → linear_labels n (take (k + 1) cs) ≡ linear_labels n (take k cs) ++ with_label (slice_index_or cs k d).kind (n + k) []
+labels_more : (n : ℕ) (cs : List Clause) (k : ℕ) (d : Clause) → k < length cs
+    → linear_labels n (take (k + 1) cs) ≡ linear_labels n (take k cs) ++ with_label (slice_index_or cs k d).kind (n + k) []
 labels_more n [] k d l = absurd (omega (arith, l))
 labels_more n (c ∷ cs) zero d l = ap (λ m. with_label c.kind m []) (let e : n ≡ n + 0 = omega arith in e)
 labels_more n (c ∷ cs) (suc k) d l =
     ap (λ m. linear_labels n (take m (c ∷ cs))) (let e : suc k + 1 ≡ suc (k + 1) = omega arith in e)
-    ∙ (ap (with_label c.kind n) (labels_more (suc n) cs k d (omega (arith, l)) ∙ ap (λ m. linear_labels (suc n) (take k cs) ++ with_label (slice_index_or cs k d).kind m []) (let e : suc n + k ≡ n + suc k = omega arith in e))
+    ∙ (ap (with_label c.kind n) (labels_more (suc n) cs k d (omega (arith, l))
+    ∙ ap (λ m. linear_labels (suc n) (take k cs) ++ with_label (slice_index_or cs k d).kind m []) (let e : suc n + k ≡ n + suc k = omega arith in e))
     ∙ push c.kind (linear_labels (suc n) (take k cs)) (with_label (slice_index_or cs k d).kind (n + suc k) []))
   where
     push : (x : Kind) (ms ns : List ℕ) → with_label x n (ms ++ ns) ≡ with_label x n ms ++ ns
     push Linear ms ns = refl
     push Unbounded ms ns = refl
 
-pub label_linear : (cs : List Clause) (k : ℕ) (d : Clause) (old new : List ℕ) → k < length cs → old ≡ linear_labels 0 (take k cs) → (slice_index_or cs k d).kind ≡ Linear → new ≡ old ++ k ∷ []
+pub label_linear : (cs : List Clause) (k : ℕ) (d : Clause) (old new : List ℕ) → k < length cs → old ≡ linear_labels 0 (take k cs)
+    → (slice_index_or cs k d).kind ≡ Linear → new ≡ old ++ k ∷ []
     → new ≡ linear_labels 0 (take (k + 1) cs)
 label_linear cs k d old new l h e m =
-    m ∙ (ap (λ ns. ns ++ k ∷ []) h ∙ (ap (λ j. linear_labels 0 (take k cs) ++ j ∷ []) (let z : k ≡ 0 + k = omega arith in z) ∙ (ap (λ x. linear_labels 0 (take k cs) ++ with_label x (0 + k) []) (sym e) ∙ sym (labels_more 0 cs k d l))))
+    m ∙ (ap (λ ns. ns ++ k ∷ []) h ∙ (ap (λ j. linear_labels 0 (take k cs) ++ j ∷ []) (let z : k ≡ 0 + k = omega arith in z)
+    ∙ (ap (λ x. linear_labels 0 (take k cs) ++ with_label x (0 + k) []) (sym e) ∙ sym (labels_more 0 cs k d l))))
 
-pub label_other : (cs : List Clause) (k : ℕ) (d : Clause) (old : List ℕ) → k < length cs → old ≡ linear_labels 0 (take k cs) → (slice_index_or cs k d).kind ≡ Unbounded → old ≡ linear_labels 0 (take (k + 1) cs)
-label_other cs k d old l h e = h ∙ (none (linear_labels 0 (take k cs)) ∙ (ap (λ x. linear_labels 0 (take k cs) ++ with_label x (0 + k) []) (sym e) ∙ sym (labels_more 0 cs k d l)))
+pub label_other : (cs : List Clause) (k : ℕ) (d : Clause) (old : List ℕ) → k < length cs → old ≡ linear_labels 0 (take k cs)
+    → (slice_index_or cs k d).kind ≡ Unbounded → old ≡ linear_labels 0 (take (k + 1) cs)
+label_other cs k d old l h e = h ∙ (none (linear_labels 0 (take k cs))
+    ∙ (ap (λ x. linear_labels 0 (take k cs) ++ with_label x (0 + k) []) (sym e) ∙ sym (labels_more 0 cs k d l)))
   where
     none : (ns : List ℕ) → ns ≡ ns ++ []
     none [] = refl
@@ -142,18 +153,22 @@ labels-root forms n [] = refl
 labels-root forms n (c ∷ cs) = step c.kind (labels-root forms (suc n) cs)
   where
     step : (k : Kind) → map (λ (l : Labelled). l.label) (labelled Linear (suc n) (map (clause_tree forms) cs)) ≡ linear_labels (suc n) cs
-        → map (λ (l : Labelled). l.label) (labelled Linear n (record { kind = k; form = form_tree forms c.form.0 } ∷ map (clause_tree forms) cs)) ≡ with_label k n (linear_labels (suc n) cs)
+        → map (λ (l : Labelled). l.label) (labelled Linear n (record { kind = k; form = form_tree forms c.form.0 } ∷ map (clause_tree forms) cs))
+        ≡ with_label k n (linear_labels (suc n) cs)
     step Linear h = ap (λ ns. n ∷ ns) h
     step Unbounded h = h
 
 -- ---- the call
 
-clauses-bare : (forms : Nodes) (cs : List Clause) → bare_clauses forms (map (λ (c : Clause). c.form) cs) ≡ map (λ (c : ClauseTree). bare c.form) (map (clause_tree forms) cs)
+clauses-bare : (forms : Nodes) (cs : List Clause) → bare_clauses forms (map (λ (c : Clause). c.form) cs)
+    ≡ map (λ (c : ClauseTree). bare c.form) (map (clause_tree forms) cs)
 clauses-bare forms [] = refl
 clauses-bare forms (c ∷ cs) = ap (λ fs. bare (form_tree forms c.form.0) ∷ fs) (clauses-bare forms cs)
 
-module _ (p : ProblemTree) (a : Answered) (forms bank : Nodes) (modules : List Module) (clauses : List Clause) (goal : FormAt) (terms : List At) (steps : List Step) (w : Walker) (walked : IsWalked p a)
-    (modules_are : map (module_tree forms) modules ≡ p.modules) (clauses_are : map (clause_tree forms) clauses ≡ p.clauses) (goal_is : form_tree forms goal.0 ≡ p.goal) (terms_are : term_trees bank terms ≡ a.terms)
+module _ (p : ProblemTree) (a : Answered) (forms bank : Nodes) (modules : List Module) (clauses : List Clause) (goal : FormAt) (terms : List At)
+    (steps : List Step) (w : Walker) (walked : IsWalked p a)
+    (modules_are : map (module_tree forms) modules ≡ p.modules) (clauses_are : map (clause_tree forms) clauses ≡ p.clauses)
+    (goal_is : form_tree forms goal.0 ≡ p.goal) (terms_are : term_trees bank terms ≡ a.terms)
     (steps_are : steps ≡ a.steps) (start : IsAtStart goal clauses (length p.asked) w) where
   walk_is : walk_of forms (trees forms modules) w ≡ walk_start p
   walk_is = λ i. record {
@@ -183,20 +198,23 @@ module _ (p : ProblemTree) (a : Answered) (forms bank : Nodes) (modules : List M
 
   pub told_count : length (told (trees forms modules) (term_trees no_nodes terms) steps (walk_of forms (trees forms modules) w)) ≡ length steps
   told_count =
-      told-count (trees forms modules) (term_trees no_nodes terms) (term_trees bank terms) (length-map terms (λ (x : At). term_tree no_nodes x.0) ∙ sym (length-map terms (λ (x : At). term_tree bank x.0))) steps
+      told-count (trees forms modules) (term_trees no_nodes terms) (term_trees bank terms)
+      (length-map terms (λ (x : At). term_tree no_nodes x.0) ∙ sym (length-map terms (λ (x : At). term_tree bank x.0))) steps
       (walk_of forms (trees forms modules) w)
       ∙ (ap (λ (ns : List Line). length ns) (told_is (term_trees bank terms) terms_are) ∙ (walked.count ∙ ap (λ (cs : List Step). length cs) (sym steps_are)))
 
   pub inside_is : (count : ℕ) → HasClauses forms clauses → HasForm forms goal.0 → IsInside forms count w
   inside_is count hc hg = record {
     goals = subst (All (HasGoal forms count)) (sym start.goals) (All-cons (HasGoal forms count) (Plain goal) [] hg (All-nil (HasGoal forms count)));
-    clauses = subst (All (λ (f : FormAt). HasForm forms f.0)) (sym start.loaded) (All-map (λ (f : FormAt). HasForm forms f.0) (λ (c : Clause). c.form) clauses hc);
+    clauses = subst (All (λ (f : FormAt). HasForm forms f.0)) (sym start.loaded)
+        (All-map (λ (f : FormAt). HasForm forms f.0) (λ (c : Clause). c.form) clauses hc);
   }
 
   -- the image has the same terms
   module _ (image : Nodes) (size : BankSize) (cut : IsCutTo size bank image) (whole : size ≡ size_of bank) (inside : AllInTerms bank terms) where
     all_in : AllInTerms image terms
-    all_in = let n : length image.terms ≡ length bank.terms = ap (λ (z : BankSize). z.terms) (cut.places ∙ whole) in λ k d l. subst (λ m. (slice_index_or terms k d).0 < m) (sym n) (inside k d l)
+    all_in = let n : length image.terms ≡ length bank.terms = ap (λ (z : BankSize). z.terms) (cut.places ∙ whole) in
+        λ k d l. subst (λ m. (slice_index_or terms k d).0 < m) (sym n) (inside k d l)
 
     same_terms : term_trees image terms ≡ a.terms
     same_terms = sym (term_trees-extends cut.trees terms all_in) ∙ terms_are
@@ -208,16 +226,21 @@ module _ (p : ProblemTree) (a : Answered) (forms bank : Nodes) (modules : List M
     is_tree : (rules : List Rule) → AreNodes forms modules terms steps w rules → trees_of (map (line_of image) rules) ≡ Some (walked.tree ∷ [])
     is_tree rules h = ap trees_of (h.told image ∙ told_is (term_trees image terms) same_terms) ∙ walked.is_tree
 
-    pub nodes_in : (rules dealt' : List Rule) → AreNodes forms modules terms steps w rules → (HasLines image rules → HasLines image dealt') → HasLines image dealt'
+    pub nodes_in : (rules dealt' : List Rule) → AreNodes forms modules terms steps w rules → (HasLines image rules → HasLines image dealt')
+        → HasLines image dealt'
     nodes_in rules dealt' h f = f (h.places image all_in)
 
     pub explained : (rules new : List Rule) (labels : List ℕ) (asked : List At) → AreNodes forms modules terms steps w rules → labels ≡ linear_labels 0 clauses
-        → ((x : Tree) → trees_of (map (line_of image) rules) ≡ Some (x ∷ []) → map (line_of image) new ≡ lines (deal labels x)) → asked ≡ take (length p.asked) terms
+        → ((x : Tree) → trees_of (map (line_of image) rules) ≡ Some (x ∷ []) → map (line_of image) new ≡ lines (deal labels x))
+        → asked ≡ take (length p.asked) terms
         → dealt p a ≡ Some (record { asked = term_trees image asked; nodes = map (line_of image) new })
     explained rules new labels asked h l f e =
-        let ls : labels ≡ root_labels p = l ∙ (sym (labels-root forms 0 clauses) ∙ ap (λ cs. map (λ (x : Labelled). x.label) (labelled Linear 0 cs)) clauses_are) in
-        let ns : map (line_of image) new ≡ lines (deal (root_labels p) walked.tree) = f walked.tree (is_tree rules h) ∙ ap (λ ms. lines (deal ms walked.tree)) ls in
-        let ts : term_trees image asked ≡ asked_terms p a = ap (term_trees image) e ∙ (sym (trees-take image (length p.asked) terms) ∙ ap (take (length p.asked)) same_terms) in
+        let ls : labels ≡ root_labels p = l ∙ (sym (labels-root forms 0 clauses)
+        ∙ ap (λ cs. map (λ (x : Labelled). x.label) (labelled Linear 0 cs)) clauses_are) in
+        let ns : map (line_of image) new ≡ lines (deal (root_labels p) walked.tree) =
+        f walked.tree (is_tree rules h) ∙ ap (λ ms. lines (deal ms walked.tree)) ls in
+        let ts : term_trees image asked ≡ asked_terms p a = ap (term_trees image) e
+        ∙ (sym (trees-take image (length p.asked) terms) ∙ ap (take (length p.asked)) same_terms) in
         walked.is_dealt ∙ (λ i. Some (record { asked = sym ts i; nodes = sym ns i }))
 
 -- ---- what a derivation of an answer shows
@@ -228,7 +251,8 @@ pub record IsShown (p : ProblemTree) (a : Answered) (d : DerivationLines) : Type
   pub shows : DerivationShows p d
   pub count : length d.nodes ≡ length a.steps
 
-pub is_shown : AnswersAreShown → (p : ProblemTree) (a : Answered) → IsValid p → Contains (problem_events p) (Answer a) → (d : DerivationLines) → dealt p a ≡ Some d → IsShown p a d
+pub is_shown : AnswersAreShown → (p : ProblemTree) (a : Answered) → IsValid p → Contains (problem_events p) (Answer a) → (d : DerivationLines)
+    → dealt p a ≡ Some d → IsShown p a d
 is_shown law p a v h d e =
     let s = law p a v h in
     let same : s.0 ≡ d = some_same (sym s.1 ∙ e) in

@@ -1,5 +1,6 @@
 -- Counting the leaves of a clause, and the way to one of them.
-use Rattle.std.proofs.Common.{◌≡◌, ℕ, zero, suc, ◌+◌, ◌-◌, ◌<◌, ◌≤◌, refl, ap, sym, subst, ◌∙◌, arith, Bool, true, false, List, [], ◌∷◌, ◌++◌, map, reverse, length, All, append_assoc, length-append}
+use Rattle.std.proofs.Common.{◌≡◌, ℕ, zero, suc, ◌+◌, ◌-◌, ◌<◌, ◌≤◌, refl, ap, sym, subst, ◌∙◌, arith, Bool, true, false, List, [], ◌∷◌, ◌++◌, map, reverse}
+use Rattle.std.proofs.Common.{length, All, append_assoc, length-append}
 use Rattle.std.specs.Prelude.{if◌then◌else◌, nat_lt, Option, Some, None, IsSome, option_map, slice_index}
 use Rattle.std.proofs.lemmas.Bool.{lt-ltb, ltb-true}
 use Rattle.std.proofs.lemmas.List.{reverse-append, append-nil}
@@ -33,8 +34,10 @@ pub record IsCounted (forms : Nodes) (waiting : List FormAt) (n goal : ℕ) : Ty
   pub inside : All (λ (f : FormAt). HasForm forms f.0) waiting
   pub so_far : n + waiting_ways forms waiting ≡ goal
 
-pub count_step : (forms : Nodes) (old rest pushed new : List FormAt) (f : FormAt) (n goal : ℕ) → old ≡ rest ++ f ∷ [] → new ≡ rest ++ pushed → All (λ (g : FormAt). HasForm forms g.0) old
-    → All (λ (g : FormAt). HasForm forms g.0) pushed → length (ways (form_tree forms f.0)) ≡ waiting_ways forms pushed → n + waiting_ways forms old ≡ goal → IsCounted forms new n goal
+pub count_step : (forms : Nodes) (old rest pushed new : List FormAt) (f : FormAt) (n goal : ℕ) → old ≡ rest ++ f ∷ [] → new ≡ rest ++ pushed
+    → All (λ (g : FormAt). HasForm forms g.0) old
+    → All (λ (g : FormAt). HasForm forms g.0) pushed → length (ways (form_tree forms f.0)) ≡ waiting_ways forms pushed → n + waiting_ways forms old ≡ goal
+    → IsCounted forms new n goal
 count_step forms old rest pushed new f n goal o w all more same h =
     let P : FormAt → Type 0 = λ g. HasForm forms g.0 in
     let size : FormAt → ℕ = λ g. length (ways (form_tree forms g.0)) in
@@ -50,14 +53,16 @@ count_step forms old rest pushed new f n goal o w all more same h =
 index_right : (xs ys : List ℕ) (k : ℕ) → length xs ≤ k → slice_index (xs ++ ys) k ≡ slice_index ys (k - length xs)
 index_right [] ys k h = ap (slice_index ys) (let e : k ≡ k - 0 = omega arith in e)
 index_right (x ∷ xs) ys zero h = absurd (omega (arith, h))
-index_right (x ∷ xs) ys (suc k) h = index_right xs ys k (omega (arith, h)) ∙ ap (slice_index ys) (let e : k - length xs ≡ suc k - suc (length xs) = omega arith in e)
+index_right (x ∷ xs) ys (suc k) h = index_right xs ys k (omega (arith, h))
+    ∙ ap (slice_index ys) (let e : k - length xs ≡ suc k - suc (length xs) = omega arith in e)
 
 index_suc : (xs : List ℕ) (k : ℕ) → k < length xs → slice_index (map (λ n. suc n) xs) k ≡ suc (slice_index xs k)
 index_suc [] k h = absurd (omega (arith, h))
 index_suc (x ∷ xs) zero h = refl
 index_suc (x ∷ xs) (suc k) h = index_suc xs k (omega (arith, h))
 
-stacked-push : (forms : Nodes) (ms : List ModuleTree) (gs : List Goal) (g : Goal) (below : List Form) → stacked forms ms (gs ++ g ∷ []) below ≡ shown_goal forms ms g ∷ stacked forms ms gs below
+stacked-push : (forms : Nodes) (ms : List ModuleTree) (gs : List Goal) (g : Goal) (below : List Form)
+    → stacked forms ms (gs ++ g ∷ []) below ≡ shown_goal forms ms g ∷ stacked forms ms gs below
 stacked-push forms ms [] g below = refl
 stacked-push forms ms (h ∷ gs) g below = stacked-push forms ms gs g (shown_goal forms ms h ∷ below)
 
@@ -73,7 +78,8 @@ leaf_below (Atom a) zero h = omega arith
 leaf_below (Atom a) (suc k) h = absurd (cc (h))
 leaf_below (With q r) k h = step (nat_lt k (length (ways q))) refl (λ i. leaf_below q k i) (λ i. leaf_below r (k - length (ways q)) i) h
   where
-    step : (b : Bool) → nat_lt k (length (ways q)) ≡ b → (IsSome (premises_at q k) → k < length (ways q)) → (IsSome (premises_at r (k - length (ways q))) → k - length (ways q) < length (ways r))
+    step : (b : Bool) → nat_lt k (length (ways q)) ≡ b → (IsSome (premises_at q k) → k < length (ways q))
+        → (IsSome (premises_at r (k - length (ways q))) → k - length (ways q) < length (ways r))
         → IsSome (if b then premises_at q k else premises_at r (k - length (ways q))) → k < length (ways q ++ ways r)
     step true e f g i = let n = length-append (ways q) (ways r) in let l = f i in omega (arith, n, l)
     step false e f g i = let n = length-append (ways q) (ways r) in let l = g i in omega (arith, n, l)
@@ -96,7 +102,8 @@ at_zero (suc k) h = absurd (cc (h))
 -- ---- the way
 
 module _ (forms : Nodes) (clause k : ℕ) (old : List Goal) where
-  pub way_start : HasForm forms clause → IsSome (premises_at (bare (form_tree forms clause)) k) → (parts : List Part) → parts ≡ [] → IsOnWay forms clause k old clause k 0 old parts
+  pub way_start : HasForm forms clause → IsSome (premises_at (bare (form_tree forms clause)) k) → (parts : List Part) → parts ≡ []
+      → IsOnWay forms clause k old clause k 0 old parts
   way_start inside among parts none = record {
     inside = inside;
     among = among;
@@ -111,12 +118,14 @@ module _ (forms : Nodes) (clause k : ℕ) (old : List Goal) where
 
   module _ (form at count : ℕ) (new : List Goal) (parts : List Part) (w : IsOnWay forms clause k old form at count new parts) where
     -- to the left side of a `&`
-    pub way_left : (g h : FormAt) → form_tree forms form ≡ With (form_tree forms g.0) (form_tree forms h.0) → HasForm forms g.0 → at < length (ways (form_tree forms g.0))
+    pub way_left : (g h : FormAt) → form_tree forms form ≡ With (form_tree forms g.0) (form_tree forms h.0) → HasForm forms g.0
+        → at < length (ways (form_tree forms g.0))
         → IsOnWay forms clause k old g.0 at count new parts
     way_left g h tree inside l =
         let left = bare (form_tree forms g.0) in
         let right = bare (form_tree forms h.0) in
-        let less : nat_lt at (length (ways left)) ≡ true = lt-ltb at (length (ways left)) (subst (λ (ws : List ℕ). at < length ws) (sym (ways-bare (form_tree forms g.0))) l) in
+        let less : nat_lt at (length (ways left)) ≡ true = lt-ltb at (length (ways left))
+        (subst (λ (ws : List ℕ). at < length ws) (sym (ways-bare (form_tree forms g.0))) l) in
         let same : premises_at (bare (form_tree forms form)) at ≡ premises_at left at =
         ap (λ t. premises_at (bare t) at) tree ∙ ap (λ b. if b then premises_at left at else premises_at right (at - length (ways left))) less in
         record {
@@ -129,11 +138,13 @@ module _ (forms : Nodes) (clause k : ℕ) (old : List Goal) where
           goals_are = w.goals_are;
           shown = w.shown;
           quantifiers =
-              ap (λ n. n + count) (sym (ap (λ t. slice_index (ways (bare t)) at) tree ∙ index_left (ways left) (ways right) at (ltb-true at (length (ways left)) less))) ∙ w.quantifiers;
+              ap (λ n. n + count) (sym (ap (λ t. slice_index (ways (bare t)) at) tree
+              ∙ index_left (ways left) (ways right) at (ltb-true at (length (ways left)) less))) ∙ w.quantifiers;
         }
 
     -- or to the right one
-    pub way_right : (g h : FormAt) (at' : ℕ) → form_tree forms form ≡ With (form_tree forms g.0) (form_tree forms h.0) → HasForm forms h.0 → length (ways (form_tree forms g.0)) ≤ at
+    pub way_right : (g h : FormAt) (at' : ℕ) → form_tree forms form ≡ With (form_tree forms g.0) (form_tree forms h.0) → HasForm forms h.0
+        → length (ways (form_tree forms g.0)) ≤ at
         → at' ≡ at - length (ways (form_tree forms g.0)) → IsOnWay forms clause k old h.0 at' count new parts
     way_right g h at' tree inside past e =
         let left = bare (form_tree forms g.0) in
@@ -142,7 +153,8 @@ module _ (forms : Nodes) (clause k : ℕ) (old : List Goal) where
         let p : length (ways left) ≤ at = omega (arith, lw, past) in
         let q : at - length (ways left) ≡ at' = omega (arith, lw, e) in
         let same : premises_at (bare (form_tree forms form)) at ≡ premises_at right at' =
-        ap (λ t. premises_at (bare t) at) tree ∙ (ap (λ b. if b then premises_at left at else premises_at right (at - length (ways left))) (not_below at (length (ways left)) p) ∙ ap (premises_at right) q) in
+        ap (λ t. premises_at (bare t) at) tree ∙ (ap (λ b. if b then premises_at left at else premises_at right (at - length (ways left)))
+        (not_below at (length (ways left)) p) ∙ ap (premises_at right) q) in
         record {
           inside = inside;
           among = subst (λ (o : Option (List Premise)). IsSome o) same w.among;
@@ -153,16 +165,20 @@ module _ (forms : Nodes) (clause k : ℕ) (old : List Goal) where
           goals_are = w.goals_are;
           shown = w.shown;
           quantifiers =
-              ap (λ n. n + count) (sym (ap (λ t. slice_index (ways (bare t)) at) tree ∙ (index_right (ways left) (ways right) at p ∙ ap (slice_index (ways right)) q))) ∙ w.quantifiers;
+              ap (λ n. n + count) (sym (ap (λ t. slice_index (ways (bare t)) at) tree
+              ∙ (index_right (ways left) (ways right) at p ∙ ap (slice_index (ways right)) q))) ∙ w.quantifiers;
         }
 
     -- past a premise
-    pub way_past : (p : Premise) (g : Goal) (r : Form) (next : ℕ) (part : Part) (after : List Goal) (done : List Part) → bare (form_tree forms next) ≡ r → HasForm forms next
+    pub way_past : (p : Premise) (g : Goal) (r : Form) (next : ℕ) (part : Part) (after : List Goal) (done : List Part) → bare (form_tree forms next) ≡ r
+        → HasForm forms next
         → premises_at (bare (form_tree forms form)) at ≡ option_map (and_premise p) (premises_at r at) → ways (bare (form_tree forms form)) ≡ ways r
-        → ((n : ℕ) → HasGoal forms n g) → ((ms : List ModuleTree) → shown_goal forms ms g ≡ premise_goal p) → shown_part part ≡ part_line p → after ≡ new ++ g ∷ [] → done ≡ parts ++ part ∷ []
+        → ((n : ℕ) → HasGoal forms n g) → ((ms : List ModuleTree) → shown_goal forms ms g ≡ premise_goal p) → shown_part part ≡ part_line p
+        → after ≡ new ++ g ∷ [] → done ≡ parts ++ part ∷ []
         → IsOnWay forms clause k old next at count after done
     way_past p g r next part after done same inside prem wy has shows says pushed noted =
-        let o : premises_at (bare (form_tree forms form)) at ≡ option_map (and_premise p) (premises_at (bare (form_tree forms next)) at) = prem ∙ ap (λ t. option_map (and_premise p) (premises_at t at)) (sym same) in
+        let o : premises_at (bare (form_tree forms form)) at ≡ option_map (and_premise p) (premises_at (bare (form_tree forms next)) at) =
+        prem ∙ ap (λ t. option_map (and_premise p) (premises_at t at)) (sym same) in
         record {
           inside = inside;
           among = some_of_map (and_premise p) (premises_at (bare (form_tree forms next)) at) (subst (λ (x : Option (List Premise)). IsSome x) o w.among);
@@ -179,7 +195,8 @@ module _ (forms : Nodes) (clause k : ℕ) (old : List Goal) where
         }
 
     -- into a quantifier
-    pub way_in : (next n : ℕ) → form_tree forms form ≡ Forall (form_tree forms next) → HasForm forms next → n ≡ count + 1 → IsOnWay forms clause k old next at n new parts
+    pub way_in : (next n : ℕ) → form_tree forms form ≡ Forall (form_tree forms next) → HasForm forms next → n ≡ count + 1
+        → IsOnWay forms clause k old next at n new parts
     way_in next n tree inside more =
         let body = bare (form_tree forms next) in
         let same : premises_at (bare (form_tree forms form)) at ≡ premises_at body at = ap (λ t. premises_at (bare t) at) tree in
@@ -198,7 +215,8 @@ module _ (forms : Nodes) (clause k : ℕ) (old : List Goal) where
         }
 
     -- at the head
-    pub way_end : (a : Term) (opened : Opened) → form_tree forms form ≡ Atom a → opened.quantifiers ≡ count → opened.parts.items ≡ reverse parts → Opens forms clause k old new opened
+    pub way_end : (a : Term) (opened : Opened) → form_tree forms form ≡ Atom a → opened.quantifiers ≡ count → opened.parts.items ≡ reverse parts
+        → Opens forms clause k old new opened
     way_end a opened tree q r =
         let zeroth = at_zero at (subst (λ (t : Form). IsSome (premises_at (bare t) at)) tree w.among) in
         record {
@@ -209,5 +227,6 @@ module _ (forms : Nodes) (clause k : ℕ) (old : List Goal) where
           goals_are = w.goals_are;
           parts = ap (map shown_part) r ∙ w.shown;
           quantifiers =
-              q ∙ ((let s = ap (λ t. slice_index (ways (bare t)) at) tree ∙ ap (slice_index (0 ∷ [])) zeroth in let z : count ≡ slice_index (ways (bare (form_tree forms form))) at + count = omega (arith, s) in z) ∙ w.quantifiers);
+              q ∙ ((let s = ap (λ t. slice_index (ways (bare t)) at) tree ∙ ap (slice_index (0 ∷ [])) zeroth in
+              let z : count ≡ slice_index (ways (bare (form_tree forms form))) at + count = omega (arith, s) in z) ∙ w.quantifiers);
         }

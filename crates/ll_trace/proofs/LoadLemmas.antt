@@ -10,12 +10,14 @@ use Rattle.ll_trace.specs.Goals.{clauses_of}
 use Rattle.ll_trace.specs.Walker.{trees}
 
 module _ (forms : Nodes) where
-  pub clauses_at : (ms : List Module) (k : ℕ) (d : Module) → k < length ms → d ≡ slice_index_or ms k d → clauses_of (slice_get (trees forms ms) k) ≡ map (clause_tree forms) d.clauses.items
+  pub clauses_at : (ms : List Module) (k : ℕ) (d : Module) → k < length ms → d ≡ slice_index_or ms k d
+      → clauses_of (slice_get (trees forms ms) k) ≡ map (clause_tree forms) d.clauses.items
   clauses_at [] k d l e = absurd (omega (arith, l))
   clauses_at (m ∷ ms) zero d l e = ap (λ (x : Module). map (clause_tree forms) x.clauses.items) (sym e)
   clauses_at (m ∷ ms) (suc k) d l e = clauses_at ms k d (omega (arith, l)) e
 
-  pub clause_got : (cs : List Clause) (k : ℕ) (d : Clause) → k < length cs → d ≡ slice_index_or cs k d → slice_get (map (clause_tree forms) cs) k ≡ Some (clause_tree forms d)
+  pub clause_got : (cs : List Clause) (k : ℕ) (d : Clause) → k < length cs → d ≡ slice_index_or cs k d
+      → slice_get (map (clause_tree forms) cs) k ≡ Some (clause_tree forms d)
   clause_got [] k d l e = absurd (omega (arith, l))
   clause_got (x ∷ cs) zero d l e = ap (λ (y : Clause). let o : Option ClauseTree = Some (clause_tree forms y) in o) (sym e)
   clause_got (x ∷ cs) (suc k) d l e = clause_got cs k d (omega (arith, l)) e
@@ -25,7 +27,8 @@ module _ (forms : Nodes) where
   clause_past (x ∷ cs) zero l = absurd (omega (arith, l))
   clause_past (x ∷ cs) (suc k) l = clause_past cs k (omega (arith, l))
 
-  pub has_clause : (ms : List Module) (k : ℕ) (d : Module) (j : ℕ) (x : Clause) → HasModules forms ms → k < length ms → d ≡ slice_index_or ms k d → j < length d.clauses.items → x ≡ slice_index_or d.clauses.items j x → HasForm forms x.form.0
+  pub has_clause : (ms : List Module) (k : ℕ) (d : Module) (j : ℕ) (x : Clause) → HasModules forms ms → k < length ms → d ≡ slice_index_or ms k d
+      → j < length d.clauses.items → x ≡ slice_index_or d.clauses.items j x → HasForm forms x.form.0
   has_clause ms k d j x h l e n f =
       let a : HasClauses forms d.clauses.items = subst (λ (m : Module). HasClauses forms m.clauses.items) (sym e) (h k d l) in
       subst (λ (y : Clause). HasForm forms y.form.0) (sym f) (a j x n)

@@ -5,8 +5,10 @@ use Rattle.std.proofs.lemmas.List.{reverse-append}
 use Rattle.ll_lists.proofs.CallerLemmas.{reverse-push as newest}
 use Rattle.ll_bank.specs.Term.{Term}
 use Rattle.ll_laws.specs.Dealing.{erases, deal}
-use Rattle.ll_laws.specs.Line.{PartLine, Labels, Free, Line, OneLine, EraseLine, WithLine, LeftLine, RightLine, BangLine, UseLine, TensorLine, LolliLine, ImpLine, ForallLine, ExistsLine, ClauseLine, Cut, Short, Cuts, add_part, cut_parts, put_clause, put, trees_of, lines, NumLine}
-use Rattle.ll_laws.specs.Shows.{Tree, OneNode, EraseNode, TensorNode, WithNode, LeftNode, RightNode, BangNode, LolliNode, ImpNode, ForallNode, ExistsNode, UseNode, ClauseNode, Parts, NoParts, BoundedPart, UnboundedPart, nodes, NumNode}
+use Rattle.ll_laws.specs.Line.{PartLine, Labels, Free, Line, OneLine, EraseLine, WithLine, LeftLine, RightLine, BangLine, UseLine, TensorLine, LolliLine}
+use Rattle.ll_laws.specs.Line.{ImpLine, ForallLine, ExistsLine, ClauseLine, Cut, Short, Cuts, add_part, cut_parts, put_clause, put, trees_of, lines, NumLine}
+use Rattle.ll_laws.specs.Shows.{Tree, OneNode, EraseNode, TensorNode, WithNode, LeftNode, RightNode, BangNode, LolliNode, ImpNode, ForallNode, ExistsNode}
+use Rattle.ll_laws.specs.Shows.{UseNode, ClauseNode, Parts, NoParts, BoundedPart, UnboundedPart, nodes, NumNode}
 use Rattle.ll_trace.specs.Picks.{picks_of}
 
 -- a line over one tree, whose node uses and erases what its child does
@@ -35,10 +37,18 @@ pub imp-passing : (n : ℕ) → IsPassing (ImpLine n) (ImpNode n)
 imp-passing n = record { unary = record { none = refl; some = λ x us. refl; nodes = λ x. refl; erases = λ x. refl; picks = λ b x. refl }; lines = λ d x. refl }
 
 pub forall-passing : (c : ℕ) → IsPassing (ForallLine c) (ForallNode c)
-forall-passing c = record { unary = record { none = refl; some = λ x us. refl; nodes = λ x. refl; erases = λ x. refl; picks = λ b x. refl }; lines = λ d x. refl }
+forall-passing c = record {
+  unary = record { none = refl; some = λ x us. refl; nodes = λ x. refl; erases = λ x. refl; picks = λ b x. refl };
+  lines =
+      λ d x. refl;
+}
 
 pub exists-passing : (t : Term) → IsPassing (ExistsLine t) (ExistsNode t)
-exists-passing t = record { unary = record { none = refl; some = λ x us. refl; nodes = λ x. refl; erases = λ x. refl; picks = λ b x. refl }; lines = λ d x. refl }
+exists-passing t = record {
+  unary = record { none = refl; some = λ x us. refl; nodes = λ x. refl; erases = λ x. refl; picks = λ b x. refl };
+  lines =
+      λ d x. refl;
+}
 
 pub lolli-unary : (n : ℕ) → IsUnary (LolliLine n) (LolliNode n)
 lolli-unary n = record { none = refl; some = λ x us. refl; nodes = λ x. refl; erases = λ x. refl; picks = λ b x. refl }
@@ -99,7 +109,8 @@ pub record IsClauseMade (n k : ℕ) (terms : List Term) (ls : List PartLine) (ts
   pub cut : cut_parts ls ts ≡ Cuts parts left
   pub is : ClauseNode n k terms parts ∷ left ≡ vs
 
-pub clause-made : (n k : ℕ) (terms : List Term) (ls : List PartLine) (ts vs : List Tree) → put (ClauseLine n k terms ls) ts ≡ Some vs → IsClauseMade n k terms ls ts vs
+pub clause-made : (n k : ℕ) (terms : List Term) (ls : List PartLine) (ts vs : List Tree) → put (ClauseLine n k terms ls) ts ≡ Some vs
+    → IsClauseMade n k terms ls ts vs
 clause-made n k terms ls ts vs h = step (cut_parts ls ts) refl h
   where
     step : (c : Cut) → cut_parts ls ts ≡ c → put_clause n k terms c ≡ Some vs → IsClauseMade n k terms ls ts vs
@@ -142,7 +153,8 @@ some-made _ ts h = cc
 
 -- the list from a place on begins with the item there
 pub drop_item : {A : Type 0} (xs : List A) (k : ℕ) (x : A) → k < length xs → x ≡ get_or xs k x → drop k xs ≡ x ∷ drop (k + 1) xs
-drop_item {A = A} xs k x h e = let q : suc k ≡ k + 1 = omega arith in drop-cons xs k x h ∙ (ap (λ (y : A). y ∷ drop (suc k) xs) (sym e) ∙ ap (λ (i : ℕ). x ∷ drop i xs) q)
+drop_item {A = A} xs k x h e = let q : suc k ≡ k + 1 = omega arith in
+    drop-cons xs k x h ∙ (ap (λ (y : A). y ∷ drop (suc k) xs) (sym e) ∙ ap (λ (i : ℕ). x ∷ drop i xs) q)
 
 pub nodes-some : (x : Tree) → 0 < nodes x
 nodes-some OneNode = omega arith

@@ -1,5 +1,6 @@
 -- The nodes that a walker has told so far.
-use Rattle.std.proofs.Common.{◌≡◌, ℕ, zero, suc, ◌+◌, ◌<◌, ◌≤◌, refl, ap, sym, subst, ◌∙◌, arith, List, [], ◌∷◌, ◌++◌, map, length, drop, append_assoc, slice_index_or}
+use Rattle.std.proofs.Common.{◌≡◌, ℕ, zero, suc, ◌+◌, ◌<◌, ◌≤◌, refl, ap, sym, subst, ◌∙◌, arith, List, [], ◌∷◌, ◌++◌, map, length, drop, append_assoc}
+use Rattle.std.proofs.Common.{slice_index_or}
 use Rattle.std.proofs.lemmas.List.{map-append, append-nil as append-none}
 use Rattle.std.proofs.lemmas.List.Elements.{All-nil, All-push}
 use Rattle.ll_bank.specs.declared.At.{At}
@@ -16,7 +17,8 @@ use Rattle.ll_trace.specs.Walker.{trees, walk_of, IsInside, MayStep, Steps, AreN
 drop-next : (cs : List Step) (k : ℕ) (d : Step) → k < length cs → drop k cs ≡ slice_index_or cs k d ∷ drop (k + 1) cs
 drop-next [] k d l = absurd (omega (arith, l))
 drop-next (c ∷ cs) zero d l = refl
-drop-next (c ∷ cs) (suc k) d l = drop-next cs k d (omega (arith, l)) ∙ ap (λ n. slice_index_or cs k d ∷ drop n (c ∷ cs)) (let e : suc (k + 1) ≡ suc k + 1 = omega arith in e)
+drop-next (c ∷ cs) (suc k) d l = drop-next cs k d (omega (arith, l))
+    ∙ ap (λ n. slice_index_or cs k d ∷ drop n (c ∷ cs)) (let e : suc (k + 1) ≡ suc k + 1 = omega arith in e)
 
 drop-all : (cs : List Step) → drop (length cs) cs ≡ []
 drop-all [] = refl
@@ -31,7 +33,8 @@ module _ (forms : Nodes) (modules : List Module) (terms : List At) (steps : List
   abbrev ahead : Nodes → List Step → Walker → List Line
   ahead bank cs w = told (trees forms modules) (term_trees bank terms) cs (walk_of forms (trees forms modules) w)
 
-  pub part_start : (rules : List Rule) → rules ≡ [] → IsInside forms (length modules) first → first.used ≤ length terms → length (ahead no_nodes steps first) ≡ length steps → IsPartWay forms modules terms steps first 0 first rules
+  pub part_start : (rules : List Rule) → rules ≡ [] → IsInside forms (length modules) first → first.used ≤ length terms
+      → length (ahead no_nodes steps first) ≡ length steps → IsPartWay forms modules terms steps first 0 first rules
   part_start rules e i u m = record {
     so_far = λ bank. ap (λ (rs : List Rule). map (line_of bank) rs ++ ahead bank steps first) (sym e);
     more = m;
@@ -40,19 +43,24 @@ module _ (forms : Nodes) (modules : List Module) (terms : List At) (steps : List
     places = λ bank h. subst (HasLines bank) (sym e) (All-nil (HasLine bank));
   }
 
-  pub part_may : (k : ℕ) (w : Walker) (rules : List Rule) (c : Step) → IsPartWay forms modules terms steps first k w rules → k < length steps → c ≡ slice_index_or steps k c → MayStep forms modules terms w c
+  pub part_may : (k : ℕ) (w : Walker) (rules : List Rule) (c : Step) → IsPartWay forms modules terms steps first k w rules → k < length steps
+      → c ≡ slice_index_or steps k c → MayStep forms modules terms w c
   part_may k w rules c p l e =
       let d : drop k steps ≡ c ∷ drop (k + 1) steps = drop-next steps k c l ∙ ap (λ x. x ∷ drop (k + 1) steps) (sym e) in
-      tells-now (tell (trees forms modules) (term_trees no_nodes terms) (walk_of forms (trees forms modules) w) c) (told (trees forms modules) (term_trees no_nodes terms) (drop (k + 1) steps)) (length (drop (k + 1) steps))
+      tells-now (tell (trees forms modules) (term_trees no_nodes terms) (walk_of forms (trees forms modules) w) c)
+      (told (trees forms modules) (term_trees no_nodes terms) (drop (k + 1) steps)) (length (drop (k + 1) steps))
       (subst (λ (cs : List Step). length (ahead no_nodes cs w) ≡ length cs) d p.more)
 
-  pub part_more : (k next : ℕ) (w new : Walker) (rules more : List Rule) (d : Step) (rule : Rule) → IsPartWay forms modules terms steps first k w rules → k < length steps
-      → Steps forms modules terms w (slice_index_or steps k d) rule new → more ≡ rules ++ rule ∷ [] → next ≡ k + 1 → IsPartWay forms modules terms steps first next new more
+  pub part_more : (k next : ℕ) (w new : Walker) (rules more : List Rule) (d : Step) (rule : Rule) → IsPartWay forms modules terms steps first k w rules
+      → k < length steps
+      → Steps forms modules terms w (slice_index_or steps k d) rule new → more ≡ rules ++ rule ∷ [] → next ≡ k + 1
+      → IsPartWay forms modules terms steps first next new more
   part_more k next w new rules more x rule p l s m n =
       let c = slice_index_or steps k x in
       let d : drop k steps ≡ c ∷ drop next steps = drop-next steps k x l ∙ ap (λ j. c ∷ drop j steps) (sym n) in
       let one : (bank : Nodes) → ahead bank (drop k steps) w ≡ line_of bank rule ∷ ahead bank (drop next steps) new = λ bank.
-      ap (λ (cs : List Step). ahead bank cs w) d ∙ ap (λ t. after_node t (told (trees forms modules) (term_trees bank terms) (drop next steps))) (s.told bank) in
+      ap (λ (cs : List Step). ahead bank cs w) d ∙ ap (λ t. after_node t (told (trees forms modules) (term_trees bank terms) (drop next steps))) (s.told bank)
+      in
       let many = ap (λ (ns : List Line). length ns) (one no_nodes) in
       let same = p.more in
       let fewer = ap (λ (cs : List Step). length cs) d in
@@ -68,9 +76,12 @@ module _ (forms : Nodes) (modules : List Module) (terms : List At) (steps : List
         places = λ bank h. subst (HasLines bank) (sym m) (All-push (HasLine bank) rules rule (p.places bank h) (s.places bank h));
       }
 
-  pub part_end : (w : Walker) (rules : List Rule) (k : ℕ) → k ≡ length steps → IsPartWay forms modules terms steps first k w rules → AreNodes forms modules terms steps first rules
+  pub part_end : (w : Walker) (rules : List Rule) (k : ℕ) → k ≡ length steps → IsPartWay forms modules terms steps first k w rules
+      → AreNodes forms modules terms steps first rules
   part_end w rules k e p =
       record {
-        told = λ bank. sym (p.so_far bank ∙ (ap (λ (cs : List Step). map (line_of bank) rules ++ ahead bank cs w) (ap (λ n. drop n steps) e ∙ drop-all steps) ∙ append-none (map (line_of bank) rules)));
+        told =
+            λ bank. sym (p.so_far bank ∙ (ap (λ (cs : List Step). map (line_of bank) rules ++ ahead bank cs w) (ap (λ n. drop n steps) e ∙ drop-all steps)
+            ∙ append-none (map (line_of bank) rules)));
         places = p.places;
       }

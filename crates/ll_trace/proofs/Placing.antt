@@ -1,5 +1,6 @@
 -- Rows of places, and what is found in them.
-use Rattle.std.proofs.Common.{◌≡◌, ℕ, suc, zero, ◌+◌, ◌-◌, ◌≤◌, ◌<◌, refl, ap, sym, subst, ◌∙◌, List, [], ◌∷◌, ◌++◌, length, get_or, take, drop, arith, Vec, Global}
+use Rattle.std.proofs.Common.{◌≡◌, ℕ, suc, zero, ◌+◌, ◌-◌, ◌≤◌, ◌<◌, refl, ap, sym, subst, ◌∙◌, List, [], ◌∷◌, ◌++◌, length, get_or, take, drop, arith, Vec}
+use Rattle.std.proofs.Common.{Global}
 use Rattle.std.specs.Prelude.{Bool, true, false, ◌||◌, ◌&&◌, cond, nat_eq, nat_lt, nat_le, Option, Some, None, unwrap_or}
 use Rattle.std.proofs.Common.{length-take, drop-cons}
 use Rattle.std.proofs.Math.Bool.{and-false}
@@ -32,7 +33,8 @@ places-rise n m at [] h = tt
 places-rise n m at (None ∷ ps) h = places-rise n m (at + 1) ps (omega (arith, h))
 places-rise n m at (Some p ∷ ps) h = step (nat_eq n p.label) (places-rise n m (at + 1) ps (omega (arith, h))) (places-rise n at (at + 1) ps (omega arith))
   where
-    step : (b : Bool) → RisesFrom m (places_of n (at + 1) ps) → RisesFrom at (places_of n (at + 1) ps) → RisesFrom m (cond b (record { at = at; level = p.level } ∷ places_of n (at + 1) ps) (places_of n (at + 1) ps))
+    step : (b : Bool) → RisesFrom m (places_of n (at + 1) ps) → RisesFrom at (places_of n (at + 1) ps)
+        → RisesFrom m (cond b (record { at = at; level = p.level } ∷ places_of n (at + 1) ps) (places_of n (at + 1) ps))
     step true r s = (h, s)
     step false r s = r
 
@@ -70,19 +72,24 @@ hit_level b from to p h k = ap (λ c. c && (nat_lt p.at to && nat_eq b p.level))
 none_after : (b from to n : ℕ) (ps : List Place) → to ≤ n → RisesFrom n ps → list_any (is_hit b from to) ps ≡ false
 none_after b from to n [] h r = refl
 none_after b from to n (p ∷ ps) h r =
-    let q = r.0 in ap (λ c. c || list_any (is_hit b from to) ps) (no_hit_above b from to p (omega (arith, h, q))) ∙ none_after b from to p.at ps (omega (arith, h, q)) r.1
+    let q = r.0 in ap (λ c. c || list_any (is_hit b from to) ps) (no_hit_above b from to p (omega (arith, h, q)))
+    ∙ none_after b from to p.at ps (omega (arith, h, q)) r.1
 
-pub hits-begin : (b from to start : ℕ) (ps : List Place) → ((k : ℕ) (d : Place) → k < start → (get_or ps k d).at < from) → list_any (is_hit b from to) (drop start ps) ≡ list_any (is_hit b from to) ps
+pub hits-begin : (b from to start : ℕ) (ps : List Place) → ((k : ℕ) (d : Place) → k < start → (get_or ps k d).at < from)
+    → list_any (is_hit b from to) (drop start ps) ≡ list_any (is_hit b from to) ps
 hits-begin b from to zero ps h = refl
 hits-begin b from to (suc s) [] h = refl
 hits-begin b from to (suc s) (p ∷ ps) h =
-    hits-begin b from to s ps (λ k d l. h (suc k) d (omega (arith, l))) ∙ sym (ap (λ c. c || list_any (is_hit b from to) ps) (no_hit_below b from to p (h 0 p (omega arith))))
+    hits-begin b from to s ps (λ k d l. h (suc k) d (omega (arith, l)))
+    ∙ sym (ap (λ c. c || list_any (is_hit b from to) ps) (no_hit_below b from to p (h 0 p (omega arith))))
 
 -- one place of a row
-pub hits-drop : (b from to k : ℕ) (ps : List Place) (p : Place) → drop k ps ≡ p ∷ drop (k + 1) ps → RisesFrom 0 ps → from ≤ p.at → list_any (is_hit b from to) (drop k ps) ≡ (nat_lt p.at to && (nat_eq b p.level || list_any (is_hit b from to) (drop (k + 1) ps)))
+pub hits-drop : (b from to k : ℕ) (ps : List Place) (p : Place) → drop k ps ≡ p ∷ drop (k + 1) ps → RisesFrom 0 ps → from ≤ p.at
+    → list_any (is_hit b from to) (drop k ps) ≡ (nat_lt p.at to && (nat_eq b p.level || list_any (is_hit b from to) (drop (k + 1) ps)))
 hits-drop b from to k ps p d r h = ap (list_any (is_hit b from to)) d ∙ step (nat_lt p.at to) refl (subst (λ xs. RisesFrom 0 xs) d (rises_drop 0 k ps r))
   where
-    step : (c : Bool) → nat_lt p.at to ≡ c → RisesFrom 0 (p ∷ drop (k + 1) ps) → list_any (is_hit b from to) (p ∷ drop (k + 1) ps) ≡ (c && (nat_eq b p.level || list_any (is_hit b from to) (drop (k + 1) ps)))
+    step : (c : Bool) → nat_lt p.at to ≡ c → RisesFrom 0 (p ∷ drop (k + 1) ps)
+        → list_any (is_hit b from to) (p ∷ drop (k + 1) ps) ≡ (c && (nat_eq b p.level || list_any (is_hit b from to) (drop (k + 1) ps)))
     step true c s = ap (λ z. z || list_any (is_hit b from to) (drop (k + 1) ps)) (hit_level b from to p h (ltb-true p.at to c))
     step false c s = let z = ltb-false p.at to c in none_after b from to p.at (p ∷ drop (k + 1) ps) z (omega arith, s.1)
 
@@ -93,7 +100,8 @@ empty_take : (i j : ℕ) → take i (drop j no_picks) ≡ no_picks
 empty_take i j = ap (take i) (drop_all j no_picks (omega arith)) ∙ take_all i no_picks (omega arith)
 
 -- what is found among the places of a label is what its nodes pick between the bounds
-pub hits-picks : (n b from to at : ℕ) (ps : List (Option Pick)) → list_any (is_hit b from to) (places_of n at ps) ≡ list_any (is_pick n b) (take ((to - at) - (from - at)) (drop (from - at) ps))
+pub hits-picks : (n b from to at : ℕ) (ps : List (Option Pick))
+    → list_any (is_hit b from to) (places_of n at ps) ≡ list_any (is_pick n b) (take ((to - at) - (from - at)) (drop (from - at) ps))
 hits-picks n b from to at [] = ap (list_any (is_pick n b)) (sym (empty_take ((to - at) - (from - at)) (from - at)))
 hits-picks n b from to at (o ∷ ps) = begins (nat_lt at from) refl (hits-picks n b from to (at + 1) ps)
   where
@@ -101,63 +109,88 @@ hits-picks n b from to at (o ∷ ps) = begins (nat_lt at from) refl (hits-picks 
     early None h = refl
     early (Some p) h = pick (nat_eq n p.label)
       where
-        pick : (c : Bool) → list_any (is_hit b from to) (cond c (record { at = at; level = p.level } ∷ places_of n (at + 1) ps) (places_of n (at + 1) ps)) ≡ list_any (is_hit b from to) (places_of n (at + 1) ps)
+        pick : (c : Bool) → list_any (is_hit b from to) (cond c (record { at = at; level = p.level } ∷ places_of n (at + 1) ps) (places_of n (at + 1) ps))
+            ≡ list_any (is_hit b from to) (places_of n (at + 1) ps)
         pick true = ap (λ z. z || list_any (is_hit b from to) (places_of n (at + 1) ps)) (no_hit_below b from to (record { at = at; level = p.level }) h)
         pick false = refl
 
-    inside : (o : Option Pick) → from ≤ at → at < to → list_any (is_hit b from to) (places_of n at (o ∷ ps)) ≡ (is_pick n b o || list_any (is_hit b from to) (places_of n (at + 1) ps))
+    inside : (o : Option Pick) → from ≤ at → at < to → list_any (is_hit b from to) (places_of n at (o ∷ ps))
+        ≡ (is_pick n b o || list_any (is_hit b from to) (places_of n (at + 1) ps))
     inside None h k = refl
     inside (Some p) h k = pick (nat_eq n p.label)
       where
-        pick : (c : Bool) → list_any (is_hit b from to) (cond c (record { at = at; level = p.level } ∷ places_of n (at + 1) ps) (places_of n (at + 1) ps)) ≡ ((c && nat_eq b p.level) || list_any (is_hit b from to) (places_of n (at + 1) ps))
+        pick : (c : Bool) → list_any (is_hit b from to) (cond c (record { at = at; level = p.level } ∷ places_of n (at + 1) ps) (places_of n (at + 1) ps))
+            ≡ ((c && nat_eq b p.level) || list_any (is_hit b from to) (places_of n (at + 1) ps))
         pick true = ap (λ z. z || list_any (is_hit b from to) (places_of n (at + 1) ps)) (hit_level b from to (record { at = at; level = p.level }) h k)
         pick false = refl
 
-    ends : (c : Bool) → nat_lt at to ≡ c → from ≤ at → list_any (is_hit b from to) (places_of n (at + 1) ps) ≡ list_any (is_pick n b) (take ((to - (at + 1)) - (from - (at + 1))) (drop (from - (at + 1)) ps))
+    ends : (c : Bool) → nat_lt at to ≡ c → from ≤ at → list_any (is_hit b from to) (places_of n (at + 1) ps)
+        ≡ list_any (is_pick n b) (take ((to - (at + 1)) - (from - (at + 1))) (drop (from - (at + 1)) ps))
         → list_any (is_hit b from to) (places_of n at (o ∷ ps)) ≡ list_any (is_pick n b) (take ((to - at) - (from - at)) (drop (from - at) (o ∷ ps)))
     ends true c h i =
         let k = ltb-true at to c in
-        let f : from - at ≡ 0 = omega (arith, h) in let f1 : from - (at + 1) ≡ 0 = omega (arith, h) in let t : to - at ≡ suc (to - (at + 1)) = omega (arith, k) in
+        let f : from - at ≡ 0 = omega (arith, h) in let f1 : from - (at + 1) ≡ 0 = omega (arith, h) in
+        let t : to - at ≡ suc (to - (at + 1)) = omega (arith, k) in
         inside o h k
         ∙ (ap (λ z. is_pick n b o || z) (i ∙ ap (λ m. list_any (is_pick n b) (take ((to - (at + 1)) - m) (drop m ps))) f1)
-        ∙ sym (ap (λ m. list_any (is_pick n b) (take ((to - at) - m) (drop m (o ∷ ps)))) f ∙ ap (λ m. list_any (is_pick n b) (take m (o ∷ ps))) (minus_none (to - at) ∙ t)
+        ∙ sym (ap (λ m. list_any (is_pick n b) (take ((to - at) - m) (drop m (o ∷ ps)))) f
+        ∙ ap (λ m. list_any (is_pick n b) (take m (o ∷ ps))) (minus_none (to - at) ∙ t)
         ∙ ap (λ m. is_pick n b o || list_any (is_pick n b) (take m ps)) (sym (minus_none (to - (at + 1))))))
     ends false c h i =
         let k = ltb-false at to c in let t : (to - at) - (from - at) ≡ 0 = omega (arith, k) in
-        none_after b from to at (places_of n at (o ∷ ps)) k (places-rise n at at (o ∷ ps) (omega arith)) ∙ sym (ap (λ m. list_any (is_pick n b) (take m (drop (from - at) (o ∷ ps)))) t)
+        none_after b from to at (places_of n at (o ∷ ps)) k (places-rise n at at (o ∷ ps) (omega arith))
+        ∙ sym (ap (λ m. list_any (is_pick n b) (take m (drop (from - at) (o ∷ ps)))) t)
 
-    begins : (c : Bool) → nat_lt at from ≡ c → list_any (is_hit b from to) (places_of n (at + 1) ps) ≡ list_any (is_pick n b) (take ((to - (at + 1)) - (from - (at + 1))) (drop (from - (at + 1)) ps))
+    begins : (c : Bool) → nat_lt at from ≡ c → list_any (is_hit b from to) (places_of n (at + 1) ps)
+        ≡ list_any (is_pick n b) (take ((to - (at + 1)) - (from - (at + 1))) (drop (from - (at + 1)) ps))
         → list_any (is_hit b from to) (places_of n at (o ∷ ps)) ≡ list_any (is_pick n b) (take ((to - at) - (from - at)) (drop (from - at) (o ∷ ps)))
     begins true c i =
-        let h = ltb-true at from c in let f : from - at ≡ suc (from - (at + 1)) = omega (arith, h) in let t : (to - at) - (from - at) ≡ (to - (at + 1)) - (from - (at + 1)) = omega (arith, h) in
-        early o h ∙ (i ∙ (ap (λ m. list_any (is_pick n b) (take m (drop (from - (at + 1)) ps))) (sym t) ∙ ap (λ m. list_any (is_pick n b) (take ((to - at) - (from - at)) (drop m (o ∷ ps)))) (sym f)))
+        let h = ltb-true at from c in let f : from - at ≡ suc (from - (at + 1)) = omega (arith, h) in
+        let t : (to - at) - (from - at) ≡ (to - (at + 1)) - (from - (at + 1)) = omega (arith, h) in
+        early o h ∙ (i ∙ (ap (λ m. list_any (is_pick n b) (take m (drop (from - (at + 1)) ps))) (sym t)
+        ∙ ap (λ m. list_any (is_pick n b) (take ((to - at) - (from - at)) (drop m (o ∷ ps)))) (sym f)))
     begins false c i = ends (nat_lt at to) refl (ltb-false at from c) i
 
-pub used-found : (n b from to : ℕ) (picks : List (Option Pick)) (row : List Place) → row ≡ places_of n 0 picks → list_any (is_hit b from to) row ≡ is_used_between picks n b from to
+pub used-found : (n b from to : ℕ) (picks : List (Option Pick)) (row : List Place) → row ≡ places_of n 0 picks
+    → list_any (is_hit b from to) row ≡ is_used_between picks n b from to
 used-found n b from to picks row e =
-    ap (list_any (is_hit b from to)) e ∙ (hits-picks n b from to 0 picks ∙ (ap (λ m. list_any (is_pick n b) (take (m - (from - 0)) (drop (from - 0) picks))) (minus_none to) ∙ ap (λ m. list_any (is_pick n b) (take (to - m) (drop m picks))) (minus_none from)))
+    ap (list_any (is_hit b from to)) e ∙ (hits-picks n b from to 0 picks
+    ∙ (ap (λ m. list_any (is_pick n b) (take (m - (from - 0)) (drop (from - 0) picks))) (minus_none to)
+    ∙ ap (λ m. list_any (is_pick n b) (take (to - m) (drop m picks))) (minus_none from)))
 
 -- ---- the index
 
 places_append : (n at : ℕ) (ps qs : List (Option Pick)) → places_of n at (ps ++ qs) ≡ places_of n at ps ++ places_of n (at + length ps) qs
 places_append n at [] qs = let e : at ≡ at + 0 = omega arith in ap (λ i. places_of n i qs) e
-places_append n at (None ∷ ps) qs = places_append n (at + 1) ps qs ∙ ap (λ i. places_of n (at + 1) ps ++ places_of n i qs) (let e : at + 1 + length ps ≡ at + suc (length ps) = omega arith in e)
-places_append n at (Some p ∷ ps) qs = step (nat_eq n p.label) (places_append n (at + 1) ps qs ∙ ap (λ i. places_of n (at + 1) ps ++ places_of n i qs) (let e : at + 1 + length ps ≡ at + suc (length ps) = omega arith in e))
+places_append n at (None ∷ ps) qs = places_append n (at + 1) ps qs
+    ∙ ap (λ i. places_of n (at + 1) ps ++ places_of n i qs) (let e : at + 1 + length ps ≡ at + suc (length ps) = omega arith in e)
+places_append n at (Some p ∷ ps) qs = step (nat_eq n p.label)
+    (places_append n (at + 1) ps qs ∙ ap (λ i. places_of n (at + 1) ps ++ places_of n i qs) (let e : at + 1 + length ps ≡ at + suc (length ps) = omega arith in
+    e))
   where
     step : (c : Bool) → places_of n (at + 1) (ps ++ qs) ≡ places_of n (at + 1) ps ++ places_of n (at + suc (length ps)) qs
-        → cond c (record { at = at; level = p.level } ∷ places_of n (at + 1) (ps ++ qs)) (places_of n (at + 1) (ps ++ qs)) ≡ cond c (record { at = at; level = p.level } ∷ places_of n (at + 1) ps) (places_of n (at + 1) ps) ++ places_of n (at + suc (length ps)) qs
+        → cond c (record { at = at; level = p.level } ∷ places_of n (at + 1) (ps ++ qs)) (places_of n (at + 1) (ps ++ qs))
+        ≡ cond c (record { at = at; level = p.level } ∷ places_of n (at + 1) ps) (places_of n (at + 1) ps) ++ places_of n (at + suc (length ps)) qs
     step true e = ap (λ xs. record { at = at; level = p.level } ∷ xs) e
     step false e = e
 
-pub index-step : (n k : ℕ) (picks : List (Option Pick)) (o : Option Pick) (old new : List Place) → k < length picks → o ≡ get_or picks k o → old ≡ places_of n 0 (take k picks) → new ≡ old ++ places_of n k (o ∷ []) → new ≡ places_of n 0 (take (k + 1) picks)
+pub index-step : (n k : ℕ) (picks : List (Option Pick)) (o : Option Pick) (old new : List Place) → k < length picks → o ≡ get_or picks k o
+    → old ≡ places_of n 0 (take k picks) → new ≡ old ++ places_of n k (o ∷ []) → new ≡ places_of n 0 (take (k + 1) picks)
 index-step n k picks o old new h e a b =
     let l = length-take k picks in let z : 0 + length (take k picks) ≡ k = omega (arith, l, h) in
-    b ∙ (ap (λ xs. xs ++ places_of n k (o ∷ [])) a ∙ (sym (places_append n 0 (take k picks) (o ∷ []) ∙ ap (λ i. places_of n 0 (take k picks) ++ places_of n i (o ∷ [])) z) ∙ ap (places_of n 0) (sym (take_more picks k o h ∙ ap (λ (x : Option Pick). take k picks ++ x ∷ []) (sym e)))))
+    b
+    ∙
+    (ap (λ xs. xs ++ places_of n k (o ∷ [])) a ∙ (sym (places_append n 0 (take k picks) (o ∷ [])
+    ∙ ap (λ i. places_of n 0 (take k picks) ++ places_of n i (o ∷ [])) z)
+    ∙ ap (places_of n 0) (sym (take_more picks k o h ∙ ap (λ (x : Option Pick). take k picks ++ x ∷ []) (sym e)))))
 
-pub row-more : (q label : ℕ) (old mid new : ℕ → Option (Vec Place Global)) (row kept default : Vec Place Global) (removed : Option (Vec Place Global)) (p : Place) (b : Bool) → nat_eq q label ≡ b → new q ≡ cond b (Some row) (mid q) → mid q ≡ cond b None (old q)
-    → removed ≡ old label → kept ≡ unwrap_or removed default → default.items ≡ [] → row.items ≡ kept.items ++ p ∷ [] → row_of (new q) ≡ row_of (old q) ++ cond b (p ∷ []) []
+pub row-more : (q label : ℕ) (old mid new : ℕ → Option (Vec Place Global)) (row kept default : Vec Place Global) (removed : Option (Vec Place Global))
+    (p : Place) (b : Bool) → nat_eq q label ≡ b → new q ≡ cond b (Some row) (mid q) → mid q ≡ cond b None (old q)
+    → removed ≡ old label → kept ≡ unwrap_or removed default → default.items ≡ [] → row.items ≡ kept.items ++ p ∷ []
+    → row_of (new q) ≡ row_of (old q) ++ cond b (p ∷ []) []
 row-more q label old mid new row kept default removed p true e n m r k d i =
-    ap row_of n ∙ (i ∙ ap (λ xs. xs ++ p ∷ []) (ap (λ (v : Vec Place Global). v.items) k ∙ (opened removed ∙ ap row_of (r ∙ ap old (sym (eqb-true q label e))))))
+    ap row_of n ∙ (i ∙ ap (λ xs. xs ++ p ∷ []) (ap (λ (v : Vec Place Global). v.items) k
+    ∙ (opened removed ∙ ap row_of (r ∙ ap old (sym (eqb-true q label e))))))
   where
     opened : (o : Option (Vec Place Global)) → (unwrap_or o default).items ≡ row_of o
     opened None = d
@@ -179,15 +212,18 @@ pub none-of : (o : Option Pick) → ((p : Pick) → o ≡ Some p → ⊥) → o 
 none-of None h = refl
 none-of (Some p) h = absurd (h p refl)
 
-pub below-more : (row : List Place) (from m : ℕ) (e : Place) → RisesFrom 0 row → m < length row → (get_or row m e).at < from → (k : ℕ) (d : Place) → k < m + 1 → (get_or row k d).at < from
+pub below-more : (row : List Place) (from m : ℕ) (e : Place) → RisesFrom 0 row → m < length row → (get_or row m e).at < from → (k : ℕ) (d : Place) → k < m + 1
+    → (get_or row k d).at < from
 below-more row from m e r h b k d l =
     let a = rises-at 0 k m row d r (omega (arith, l)) h in let q = ap (λ (p : Place). p.at) (at-default row m d e h) in omega (arith, a, q, b)
 
-pub above-more : (row : List Place) (from m : ℕ) (e : Place) → RisesFrom 0 row → m < length row → from ≤ (get_or row m e).at → (k : ℕ) (d : Place) → m ≤ k → k < length row → from ≤ (get_or row k d).at
+pub above-more : (row : List Place) (from m : ℕ) (e : Place) → RisesFrom 0 row → m < length row → from ≤ (get_or row m e).at → (k : ℕ) (d : Place) → m ≤ k
+    → k < length row → from ≤ (get_or row k d).at
 above-more row from m e r h b k d l n =
     let a = rises-at 0 m k row d r l n in let q = ap (λ (p : Place). p.at) (at-default row m d e h) in omega (arith, a, q, b)
 
-pub hits-past : (b from to k : ℕ) (row : List Place) (e : Place) → RisesFrom 0 row → k < length row → from ≤ (get_or row k e).at → to ≤ (get_or row k e).at → list_any (is_hit b from to) (drop k row) ≡ false
+pub hits-past : (b from to k : ℕ) (row : List Place) (e : Place) → RisesFrom 0 row → k < length row → from ≤ (get_or row k e).at → to ≤ (get_or row k e).at
+    → list_any (is_hit b from to) (drop k row) ≡ false
 hits-past b from to k row e r h l m =
     hits-drop b from to k row (get_or row k e) (drop-at row k e h) r l
     ∙ ap (λ c. c && (nat_eq b (get_or row k e).level || list_any (is_hit b from to) (drop (k + 1) row))) (lt_false (get_or row k e).at to m)

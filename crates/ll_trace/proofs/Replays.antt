@@ -1,5 +1,6 @@
 -- The walk tells the nodes of the branch: it goes along with the states that the branch's steps make.
-use Rattle.std.proofs.Common.{◌≡◌, ℕ, zero, suc, refl, ap, sym, subst, ◌∙◌, arith, Bool, true, false, List, [], ◌∷◌, ◌++◌, map, length, Option, Some, None, length-append}
+use Rattle.std.proofs.Common.{◌≡◌, ℕ, zero, suc, refl, ap, sym, subst, ◌∙◌, arith, Bool, true, false, List, [], ◌∷◌, ◌++◌, map, length, Option, Some, None}
+use Rattle.std.proofs.Common.{length-append}
 use Rattle.std.specs.Prelude.{◌&&◌, ◌||◌, not, if◌then◌else◌, nat_eq, slice_get, slice_index}
 use Rattle.std.proofs.lemmas.Bool.{eqb-true}
 use Rattle.ll_bank.specs.declared.Head.TheVariants.{Eigen}
@@ -12,7 +13,8 @@ use Rattle.ll_laws.specs.declared.Step.TheVariants.{Plain, Left, Right, Clause a
 use Rattle.ll_laws.specs.Leaf.{Leaf, Premise, premise_goal, ways, leaf}
 use Rattle.ll_laws.specs.Module.{ModuleTree, Setting}
 use Rattle.ll_laws.specs.Line.{Line, UseLine, LolliLine, ImpLine, ForallLine, ExistsLine, ClauseLine}
-use Rattle.ll_laws.specs.Settle.{Entry, Saved, Item, Goal, LolliEnd, ImpEnd, WithMiddle, WithEnd, BangEnd, Front, marks, remark, unlive, without_newest, at_middle, end_with, join, settle_front}
+use Rattle.ll_laws.specs.Settle.{Entry, Saved, Item, Goal, LolliEnd, ImpEnd, WithMiddle, WithEnd, BangEnd, Front, marks, remark, unlive, without_newest}
+use Rattle.ll_laws.specs.Settle.{at_middle, end_with, join, settle_front}
 use Rattle.ll_laws.specs.State.{State, settle, with_front, front_of}
 use Rattle.ll_laws.specs.Attempt.{stepped, loaded, picked, entry_at, load_module}
 use Rattle.ll_laws.specs.Dealt.{Replayed, Off, On, replayed, value, values, atom_leaf, atom_line, line_of, front_line, settled_line, after_line, replay}
@@ -77,11 +79,13 @@ covers-push : (table : List Form) (r : Form) (es : List (Entry Form)) → Covers
 covers-push table r [] h = tt
 covers-push table r (e ∷ es) h = (get-push table r e.label (bare e.clause) h.0, covers-push table r es h.1)
 
-covers-entry : (table : List Form) (es : List (Entry Form)) (label : ℕ) (e : Entry Form) → Covers table es → entry_at es label ≡ Some e → slice_get table label ≡ Some (bare e.clause)
+covers-entry : (table : List Form) (es : List (Entry Form)) (label : ℕ) (e : Entry Form) → Covers table es → entry_at es label ≡ Some e
+    → slice_get table label ≡ Some (bare e.clause)
 covers-entry table [] label e h q = absurd (cc (q))
 covers-entry table (d ∷ es) label e h q = step (nat_eq d.label label) refl (covers-entry table es label e h.1) q
   where
-    step : (b : Bool) → nat_eq d.label label ≡ b → (entry_at es label ≡ Some e → slice_get table label ≡ Some (bare e.clause)) → (if b then Some d else entry_at es label) ≡ Some e
+    step : (b : Bool) → nat_eq d.label label ≡ b → (entry_at es label ≡ Some e → slice_get table label ≡ Some (bare e.clause))
+        → (if b then Some d else entry_at es label) ≡ Some e
         → slice_get table label ≡ Some (bare e.clause)
     step true n k p =
         let same : d ≡ e = cc in
@@ -99,7 +103,8 @@ settles-if : (table gs : List Form) (b : Bool) (o : Option (Front Form Form)) �
 settles-if table gs true o h = tt
 settles-if table gs false o h = h
 
-settles-middle : (table : List Form) (saved half : Saved) (rest : List (Item Form)) (es : List (Entry Form)) → Covers table es → Settles table (bare_goals rest) (at_middle saved half rest es)
+settles-middle : (table : List Form) (saved half : Saved) (rest : List (Item Form)) (es : List (Entry Form)) → Covers table es
+    → Settles table (bare_goals rest) (at_middle saved half rest es)
 settles-middle table saved half (Goal g ∷ WithEnd kept old ∷ rest) es h = (refl, covers-remark table es saved.live h)
 settles-middle table saved half _ es h = tt
 
@@ -109,7 +114,8 @@ settles-with : (table : List Form) (rest : List (Item Form)) (saved : Saved) (es
 settles-with table rest saved es h k None = tt
 settles-with table rest saved es h k (Some s) = k (remark es s.live) (saved.flag || s.flag) (covers-remark table es s.live h)
 
-settles : (table : List Form) (agenda : List (Item Form)) (es : List (Entry Form)) (flag : Bool) → Covers table es → Settles table (bare_goals agenda) (settle_front agenda es flag)
+settles : (table : List Form) (agenda : List (Item Form)) (es : List (Entry Form)) (flag : Bool) → Covers table es
+    → Settles table (bare_goals agenda) (settle_front agenda es flag)
 settles table [] es flag h = (refl, h)
 settles table (Goal g ∷ rest) es flag h = (refl, h)
 settles table (LolliEnd saved ∷ rest) [] flag h = tt
@@ -129,16 +135,28 @@ Matches t Off = Unit {0}
 Matches Lost (On n s) = ⊥
 Matches (Tells m w) (On n s) = (m ≡ n) × Follows w s
 
-matches-load : (w : Walk) (s : State) (rest : List (Item Form)) (ts : List Term) (g : Form) (o : Option ModuleTree) → Covers w.clauses s.context → length w.clauses ≡ s.label → w.eigens ≡ s.eigens
+matches-load : (w : Walk) (s : State) (rest : List (Item Form)) (ts : List Term) (g : Form) (o : Option ModuleTree) → Covers w.clauses s.context
+    → length w.clauses ≡ s.label → w.eigens ≡ s.eigens
     → w.used ≡ length s.terms → Matches (tell_load w (bare g) (bare_goals rest) o) (replayed UseLine (load_module s rest ts g o))
 matches-load w s rest ts g None c l e u = tt
-matches-load w s rest ts g (Some m) c l e u = (refl, record { goals = ap (λ f. f ∷ bare_goals rest) (sym (bare-unfold_load m ts g)); covers = c; label = l; eigens = e; used = u })
+matches-load w s rest ts g (Some m) c l e u = (
+  refl,
+  record {
+    goals = ap (λ f. f ∷ bare_goals rest) (sym (bare-unfold_load m ts g));
+    covers = c;
+    label = l;
+    eigens = e;
+    used = u;
+  },
+)
 
-goals-append : (ps : List Premise) (rest : List (Item Form)) → map (λ p. bare (premise_goal p)) ps ++ bare_goals rest ≡ bare_goals (map (λ p. Goal (premise_goal p)) ps ++ rest)
+goals-append : (ps : List Premise) (rest : List (Item Form))
+    → map (λ p. bare (premise_goal p)) ps ++ bare_goals rest ≡ bare_goals (map (λ p. Goal (premise_goal p)) ps ++ rest)
 goals-append [] rest = refl
 goals-append (p ∷ ps) rest = ap (λ gs. bare (premise_goal p) ∷ gs) (goals-append ps rest)
 
-matches-leaf : (w : Walk) (s : State) (rest : List (Item Form)) (label k : ℕ) (us : List Term) (l : Option Leaf) (o : Option (List Premise)) → HasPremises l o → Covers w.clauses s.context → length w.clauses ≡ s.label
+matches-leaf : (w : Walk) (s : State) (rest : List (Item Form)) (label k : ℕ) (us : List Term) (l : Option Leaf) (o : Option (List Premise)) → HasPremises l o
+    → Covers w.clauses s.context → length w.clauses ≡ s.label
     → w.eigens ≡ s.eigens → w.used ≡ length s.terms → Matches (tell_leaf w (bare_goals rest) label k us o) (atom_leaf s rest label k us l)
 matches-leaf w s rest label k us None o h c q e u = tt
 matches-leaf w s rest label k us (Some l) o h c q e u =
@@ -153,8 +171,10 @@ matches-leaf w s rest label k us (Some l) o h c q e u =
       },
     )
 
-matches-atom : (all : List Term) (w : Walk) (s : State) (rest : List (Item Form)) (label k : ℕ) (e : Option (Entry Form)) → e ≡ entry_at s.context label → Covers w.clauses s.context → length w.clauses ≡ s.label
-    → w.eigens ≡ s.eigens → w.used ≡ length s.terms → Matches (tell_clause all w (bare_goals rest) label k (slice_get w.clauses label)) (atom_line all s rest label k e)
+matches-atom : (all : List Term) (w : Walk) (s : State) (rest : List (Item Form)) (label k : ℕ) (e : Option (Entry Form)) → e ≡ entry_at s.context label
+    → Covers w.clauses s.context → length w.clauses ≡ s.label
+    → w.eigens ≡ s.eigens → w.used ≡ length s.terms → Matches (tell_clause all w (bare_goals rest) label k (slice_get w.clauses label))
+    (atom_line all s rest label k e)
 matches-atom all w s rest label k None f c q g u = tt
 matches-atom all w s rest label k (Some e) f c q g u =
     let r = e.clause in
@@ -162,11 +182,14 @@ matches-atom all w s rest label k (Some e) f c q g u =
     let ts : values all w.used (slice_index (ways (bare r)) k) ≡ us = λ i. values all (u i) (slice_index (ways-bare r i) k) in
     let X : Option Form → Type 0 = λ o. Matches (tell_clause all w (bare_goals rest) label k o) (atom_leaf s rest label k us (leaf r k us)) in
     subst X (sym (covers-entry w.clauses s.context label e c (sym f)))
-    (subst (λ (vs : List Term). Matches (tell_leaf w (bare_goals rest) label k vs (premises_at (bare r) k)) (atom_leaf s rest label k us (leaf r k us))) (sym ts)
+    (subst (λ (vs : List Term). Matches (tell_leaf w (bare_goals rest) label k vs (premises_at (bare r) k)) (atom_leaf s rest label k us (leaf r k us)))
+    (sym ts)
     (matches-leaf w s rest label k us (leaf r k us) (premises_at (bare r) k) (leaf-bare [] r k us) c q g u))
 
-module _ (beside : Setting) (all : List Term) (w : Walk) (s : State) (c : Covers w.clauses s.context) (l : length w.clauses ≡ s.label) (e : w.eigens ≡ s.eigens) (u : w.used ≡ length s.terms) where
-  same_front : (n : Line) (gs : List Form) (agenda : List (Item Form)) (x : Step) → gs ≡ bare_goals agenda → Matches (Tells n (to_prove w gs)) (On n (stepped s agenda x))
+module _ (beside : Setting) (all : List Term) (w : Walk) (s : State) (c : Covers w.clauses s.context) (l : length w.clauses ≡ s.label) (e : w.eigens ≡ s.eigens)
+    (u : w.used ≡ length s.terms) where
+  same_front : (n : Line) (gs : List Form) (agenda : List (Item Form)) (x : Step) → gs ≡ bare_goals agenda
+      → Matches (Tells n (to_prove w gs)) (On n (stepped s agenda x))
   same_front n gs agenda x g = (refl, record { goals = g; covers = c; label = l; eigens = e; used = u })
 
   one_clause : (r : Form) → length (w.clauses ++ r ∷ []) ≡ suc s.label
@@ -175,7 +198,8 @@ module _ (beside : Setting) (all : List Term) (w : Walk) (s : State) (c : Covers
   newest : (kind : Kind) (r : Form) → Covers (w.clauses ++ bare r ∷ []) (loaded s kind r)
   newest kind r = (get-last w.clauses (bare r) s.label l, covers-push w.clauses (bare r) s.context c)
 
-  matches : (g : Form) (rest : List (Item Form)) (x : Step) → Matches (tell_goal beside.modules all w (bare g) (bare_goals rest) x) (line_of beside all s g rest x)
+  matches : (g : Form) (rest : List (Item Form)) (x : Step) → Matches (tell_goal beside.modules all w (bare g) (bare_goals rest) x)
+      (line_of beside all s g rest x)
   matches One rest x = (refl, record { goals = refl; covers = c; label = l; eigens = e; used = u })
   matches Top rest x = (refl, record { goals = refl; covers = c; label = l; eigens = e; used = u })
   matches (Tensor f g) rest x = (refl, record { goals = refl; covers = c; label = l; eigens = e; used = u })
@@ -187,8 +211,17 @@ module _ (beside : Setting) (all : List Term) (w : Walk) (s : State) (c : Covers
   matches (Bang f) rest x = (refl, record { goals = refl; covers = covers-unlive w.clauses s.context c; label = l; eigens = e; used = u })
   matches (Lolli r g) rest x = (ap LolliLine l, record { goals = refl; covers = newest Linear r; label = one_clause (bare r); eigens = e; used = u })
   matches (Imp r g) rest x = (ap ImpLine l, record { goals = refl; covers = newest Unbounded r; label = one_clause (bare r); eigens = e; used = u })
-  matches (Forall f) rest x =
-      (ap ForallLine e, record { goals = ap (λ h. h ∷ bare_goals rest) (sym (bare-close (Some (Con (Eigen s.eigens)) ∷ []) f)); covers = c; label = l; eigens = ap suc e; used = u })
+  matches (Forall f) rest x = (
+    ap ForallLine e,
+    record {
+      goals = ap (λ h. h ∷ bare_goals rest) (sym (bare-close (Some (Con (Eigen s.eigens)) ∷ []) f));
+      covers = c;
+      label = l;
+      eigens =
+          ap suc e;
+      used = u;
+    },
+  )
   matches (Exists f) rest x = (
     ap (λ n. ExistsLine (value all n)) u,
     record {
@@ -206,7 +239,8 @@ module _ (beside : Setting) (all : List Term) (w : Walk) (s : State) (c : Covers
   matches (Atom a) rest Right = tt
   matches (Atom a) rest (ClauseStep label k) = matches-atom all w s rest label k (entry_at s.context label) refl c l e u
 
-matches-front : (beside : Setting) (all : List Term) (w : Walk) (s : State) → Covers w.clauses s.context → length w.clauses ≡ s.label → w.eigens ≡ s.eigens → w.used ≡ length s.terms → (agenda : List (Item Form)) (x : Step)
+matches-front : (beside : Setting) (all : List Term) (w : Walk) (s : State) → Covers w.clauses s.context → length w.clauses ≡ s.label → w.eigens ≡ s.eigens
+    → w.used ≡ length s.terms → (agenda : List (Item Form)) (x : Step)
     → Matches (tell_front beside.modules all w (bare_goals agenda) x) (front_line beside all s agenda x)
 matches-front beside all w s c l e u [] x = tt
 matches-front beside all w s c l e u (Goal g ∷ rest) x = matches beside all (to_prove w (bare_goals rest)) s c l e u g rest x
@@ -217,11 +251,13 @@ matches-front beside all w s c l e u (WithEnd b d ∷ rest) x = tt
 matches-front beside all w s c l e u (BangEnd b ∷ rest) x = tt
 
 -- a step of the state's settled form
-matches-settled : (beside : Setting) (all : List Term) (w : Walk) (s : State) (x : Step) → Follows w s → Matches (tell beside.modules all w x) (settled_line beside all (settle s) x)
+matches-settled : (beside : Setting) (all : List Term) (w : Walk) (s : State) (x : Step) → Follows w s
+    → Matches (tell beside.modules all w x) (settled_line beside all (settle s) x)
 unfolding settle
 matches-settled beside all w s x h = step (settle_front s.agenda s.context s.flag) (settles w.clauses s.agenda s.context s.flag h.covers)
   where
-    step : (o : Option (Front Form Form)) → Settles w.clauses (bare_goals s.agenda) o → Matches (tell beside.modules all w x) (settled_line beside all (front_of s o) x)
+    step : (o : Option (Front Form Form)) → Settles w.clauses (bare_goals s.agenda) o
+        → Matches (tell beside.modules all w x) (settled_line beside all (front_of s o) x)
     step None k = tt
     step (Some f) k =
         subst (λ (gs : List Form). Matches (tell_front beside.modules all w gs x) (front_line beside all (with_front s f) f.agenda x)) (sym (h.goals ∙ k.0))
@@ -230,12 +266,15 @@ matches-settled beside all w s x h = step (settle_front s.agenda s.context s.fla
 -- ---- all steps
 
 -- a list of nodes that is as long as the steps are many has one for each
-pub told-replay : (beside : Setting) (all : List Term) (cs : List Step) (w : Walk) (s : State) → Follows w s → length (replay beside all cs s) ≡ length cs → told beside.modules all cs w ≡ replay beside all cs s
+pub told-replay : (beside : Setting) (all : List Term) (cs : List Step) (w : Walk) (s : State) → Follows w s → length (replay beside all cs s) ≡ length cs
+    → told beside.modules all cs w ≡ replay beside all cs s
 told-replay beside all [] w s h n = refl
 told-replay beside all (x ∷ cs) w s h n =
-    step (tell beside.modules all w x) (settled_line beside all (settle s) x) (matches-settled beside all w s x h) (λ v u f k. told-replay beside all cs v u f k) n
+    step (tell beside.modules all w x) (settled_line beside all (settle s) x) (matches-settled beside all w s x h)
+    (λ v u f k. told-replay beside all cs v u f k) n
   where
-    step : (t : Told) (r : Replayed) → Matches t r → ((v : Walk) (u : State) → Follows v u → length (replay beside all cs u) ≡ length cs → told beside.modules all cs v ≡ replay beside all cs u)
+    step : (t : Told) (r : Replayed) → Matches t r → ((v : Walk) (u : State) → Follows v u → length (replay beside all cs u) ≡ length cs
+        → told beside.modules all cs v ≡ replay beside all cs u)
         → length (after_line r (replay beside all cs)) ≡ suc (length cs) → after_node t (told beside.modules all cs) ≡ after_line r (replay beside all cs)
     step t Off m go k = absurd (omega (arith, k))
     step Lost (On a u) m go k = absurd m

@@ -3,7 +3,8 @@ use Rattle.std.proofs.Common.{◌≡◌, ℕ, ◌+◌, ◌≤◌, ◌<◌, refl,
 use Rattle.std.specs.Prelude.{Bool, true, false, ◌||◌, ◌&&◌, Some}
 use Rattle.ll_bank.specs.Term.{Term}
 use Rattle.ll_laws.specs.Dealing.{erases, erases_part}
-use Rattle.ll_laws.specs.Line.{PartLine, Labels, Free, Line, OneLine, EraseLine, WithLine, BangLine, TensorLine, ClauseLine, Cuts, cut_parts, put, trees_of, NumLine}
+use Rattle.ll_laws.specs.Line.{PartLine, Labels, Free, Line, OneLine, EraseLine, WithLine, BangLine, TensorLine, ClauseLine, Cuts, cut_parts, put, trees_of}
+use Rattle.ll_laws.specs.Line.{NumLine}
 use Rattle.ll_laws.specs.Shows.{Tree, OneNode, EraseNode, TensorNode, WithNode, BangNode, Parts, nodes, part_nodes, NumNode}
 use Rattle.ll_trace.specs.declared.spans.Span.{Span}
 use Rattle.ll_trace.specs.Spans.{span_or_none, Fits, HasSpan, ArePartSpan}
@@ -14,40 +15,57 @@ use Rattle.std.proofs.lemmas.Bool.{ltb-true, ltb-false}
 use Rattle.std.proofs.lemmas.List.{drop_all}
 use Rattle.ll_lists.proofs.CallerLemmas.{or_assoc as or_more}
 
-pub span-one : (S : List Span) (first : ℕ) (ts vs : List Tree) → put OneLine ts ≡ Some vs → Fits S first ts → HasSpan S first (record { end = first; erases = false }) vs
-span-one S first ts vs h f = let e : OneNode ∷ ts ≡ vs = cc in subst (HasSpan S first (record { end = first; erases = false })) e (record { end = refl; erases = refl; rest = f })
+pub span-one : (S : List Span) (first : ℕ) (ts vs : List Tree) → put OneLine ts ≡ Some vs → Fits S first ts
+    → HasSpan S first (record { end = first; erases = false }) vs
+span-one S first ts vs h f = let e : OneNode ∷ ts ≡ vs = cc in
+    subst (HasSpan S first (record { end = first; erases = false })) e (record { end = refl; erases = refl; rest = f })
 
-pub span-num : (S : List Span) (first : ℕ) (ts vs : List Tree) → put NumLine ts ≡ Some vs → Fits S first ts → HasSpan S first (record { end = first; erases = false }) vs
-span-num S first ts vs h f = let e : NumNode ∷ ts ≡ vs = cc in subst (HasSpan S first (record { end = first; erases = false })) e (record { end = refl; erases = refl; rest = f })
+pub span-num : (S : List Span) (first : ℕ) (ts vs : List Tree) → put NumLine ts ≡ Some vs → Fits S first ts
+    → HasSpan S first (record { end = first; erases = false }) vs
+span-num S first ts vs h f = let e : NumNode ∷ ts ≡ vs = cc in
+    subst (HasSpan S first (record { end = first; erases = false })) e (record { end = refl; erases = refl; rest = f })
 
-pub span-erase : (S : List Span) (first : ℕ) (ts vs : List Tree) → put EraseLine ts ≡ Some vs → Fits S first ts → HasSpan S first (record { end = first; erases = true }) vs
-span-erase S first ts vs h f = let e : EraseNode ∷ ts ≡ vs = cc in subst (HasSpan S first (record { end = first; erases = true })) e (record { end = refl; erases = refl; rest = f })
+pub span-erase : (S : List Span) (first : ℕ) (ts vs : List Tree) → put EraseLine ts ≡ Some vs → Fits S first ts
+    → HasSpan S first (record { end = first; erases = true }) vs
+span-erase S first ts vs h f = let e : EraseNode ∷ ts ≡ vs = cc in
+    subst (HasSpan S first (record { end = first; erases = true })) e (record { end = refl; erases = refl; rest = f })
 
 -- the end of the first tree
-end-first : (S : List Span) (first : ℕ) (span : Span) (x : Tree) (us : List Tree) → span ≡ span_or_none S first → Fits S first (x ∷ us) → span.end ≡ first + nodes x
+end-first : (S : List Span) (first : ℕ) (span : Span) (x : Tree) (us : List Tree) → span ≡ span_or_none S first → Fits S first (x ∷ us)
+    → span.end ≡ first + nodes x
 end-first S first span x us e f = ap (λ (s : Span). s.end) (e ∙ f.0)
 
 rest-first : (S : List Span) (first : ℕ) (span : Span) (x : Tree) (us : List Tree) → span ≡ span_or_none S first → Fits S first (x ∷ us) → Fits S span.end us
 rest-first S first span x us e f = subst (λ n. Fits S n us) (sym (end-first S first span x us e f)) f.1
 
-erases-first : (S : List Span) (first : ℕ) (span : Span) (x : Tree) (us : List Tree) → span ≡ span_or_none S first → Fits S first (x ∷ us) → span.erases ≡ erases x
+erases-first : (S : List Span) (first : ℕ) (span : Span) (x : Tree) (us : List Tree) → span ≡ span_or_none S first → Fits S first (x ∷ us)
+    → span.erases ≡ erases x
 erases-first S first span x us e f = ap (λ (s : Span). s.erases) (e ∙ f.0)
 
-pub span-unary : (l : Line) (mk : Tree → Tree) → IsUnary l mk → (S : List Span) (first : ℕ) (span : Span) (ts vs : List Tree) → span ≡ span_or_none S first → put l ts ≡ Some vs → Fits S first ts → HasSpan S first span vs
+pub span-unary : (l : Line) (mk : Tree → Tree) → IsUnary l mk → (S : List Span) (first : ℕ) (span : Span) (ts vs : List Tree) → span ≡ span_or_none S first
+    → put l ts ≡ Some vs → Fits S first ts → HasSpan S first span vs
 span-unary l mk u S first span [] vs e h f = let n = u.none in cc
 span-unary l mk u S first span (x ∷ us) vs e h f =
     let s : Some (mk x ∷ us) ≡ Some vs = sym (u.some x us) ∙ h in let i : mk x ∷ us ≡ vs = cc in
     let q = end-first S first span x us e f in let n = u.nodes x in
-    subst (HasSpan S first span) i (record { end = omega (arith, q, n); erases = erases-first S first span x us e f ∙ sym (u.erases x); rest = rest-first S first span x us e f })
+    subst (HasSpan S first span) i (record {
+      end = omega (arith, q, n);
+      erases = erases-first S first span x us e f ∙ sym (u.erases x);
+      rest =
+          rest-first S first span x us e f;
+    })
 
-pub span-bang : (S : List Span) (first : ℕ) (below : Span) (ts vs : List Tree) → below ≡ span_or_none S first → put BangLine ts ≡ Some vs → Fits S first ts → HasSpan S first (record { end = below.end; erases = false }) vs
+pub span-bang : (S : List Span) (first : ℕ) (below : Span) (ts vs : List Tree) → below ≡ span_or_none S first → put BangLine ts ≡ Some vs → Fits S first ts
+    → HasSpan S first (record { end = below.end; erases = false }) vs
 span-bang S first below [] vs e h f = cc
 span-bang S first below (x ∷ us) vs e h f =
     let i : BangNode x ∷ us ≡ vs = cc in let q = end-first S first below x us e f in
-    subst (HasSpan S first (record { end = below.end; erases = false })) i (record { end = omega (arith, q); erases = refl; rest = rest-first S first below x us e f })
+    subst (HasSpan S first (record { end = below.end; erases = false })) i
+    (record { end = omega (arith, q); erases = refl; rest = rest-first S first below x us e f })
 
 binary : (l : Line) (mk : Tree → Tree → Tree) (both : Bool → Bool → Bool) → IsBinary l mk → ((x y : Tree) → erases (mk x y) ≡ both (erases x) (erases y))
-    → (S : List Span) (first : ℕ) (left right span : Span) (ts vs : List Tree) → left ≡ span_or_none S first → right ≡ span_or_none S left.end → span.end ≡ right.end → span.erases ≡ both left.erases right.erases
+    → (S : List Span) (first : ℕ) (left right span : Span) (ts vs : List Tree) → left ≡ span_or_none S first → right ≡ span_or_none S left.end
+    → span.end ≡ right.end → span.erases ≡ both left.erases right.erases
     → put l ts ≡ Some vs → Fits S first ts → HasSpan S first span vs
 binary l mk both u er S first left right span [] vs e1 e2 e3 e4 h f = let n = u.none in cc
 binary l mk both u er S first left right span (x ∷ []) vs e1 e2 e3 e4 h f = let n = u.one x in cc
@@ -57,15 +75,18 @@ binary l mk both u er S first left right span (x ∷ y ∷ us) vs e1 e2 e3 e4 h 
     let q1 = end-first S first left x (y ∷ us) e1 f in let q2 = end-first S left.end right y us e2 g in let n = u.nodes x y in
     subst (HasSpan S first span) i (record {
       end = omega (arith, q1, q2, e3, n);
-      erases = e4 ∙ (ap (λ a. both a right.erases) (erases-first S first left x (y ∷ us) e1 f) ∙ (ap (both (erases x)) (erases-first S left.end right y us e2 g) ∙ sym (er x y)));
+      erases = e4 ∙ (ap (λ a. both a right.erases) (erases-first S first left x (y ∷ us) e1 f)
+          ∙ (ap (both (erases x)) (erases-first S left.end right y us e2 g) ∙ sym (er x y)));
       rest = subst (λ n. Fits S n us) (sym e3) (rest-first S left.end right y us e2 g);
     })
 
-pub span-tensor : (s t : List ℕ) (S : List Span) (first : ℕ) (left right span : Span) (ts vs : List Tree) → left ≡ span_or_none S first → right ≡ span_or_none S left.end → span.end ≡ right.end → span.erases ≡ (left.erases || right.erases)
+pub span-tensor : (s t : List ℕ) (S : List Span) (first : ℕ) (left right span : Span) (ts vs : List Tree) → left ≡ span_or_none S first
+    → right ≡ span_or_none S left.end → span.end ≡ right.end → span.erases ≡ (left.erases || right.erases)
     → put (TensorLine s t) ts ≡ Some vs → Fits S first ts → HasSpan S first span vs
 span-tensor s t = binary (TensorLine s t) (TensorNode s t) (λ a b. a || b) (tensor-binary s t) (λ x y. refl)
 
-pub span-with : (S : List Span) (first : ℕ) (left right span : Span) (ts vs : List Tree) → left ≡ span_or_none S first → right ≡ span_or_none S left.end → span.end ≡ right.end → span.erases ≡ (left.erases && right.erases)
+pub span-with : (S : List Span) (first : ℕ) (left right span : Span) (ts vs : List Tree) → left ≡ span_or_none S first → right ≡ span_or_none S left.end
+    → span.end ≡ right.end → span.erases ≡ (left.erases && right.erases)
     → put WithLine ts ≡ Some vs → Fits S first ts → HasSpan S first span vs
 span-with = binary WithLine WithNode (λ a b. a && b) with-binary (λ x y. refl)
 
@@ -92,10 +113,12 @@ abbrev pub erases_more : PartLine → Bool → Bool → Bool
 erases_more (Labels s) a b = a || b
 erases_more Free a b = a
 
-pub parts-start : (S : List Span) (first : ℕ) (ls : List PartLine) (ts us : List Tree) (ps : Parts) → cut_parts ls ts ≡ Cuts ps us → Fits S first ts → PartsLeft S first (record { end = first; erases = false }) ls ps us
+pub parts-start : (S : List Span) (first : ℕ) (ls : List PartLine) (ts us : List Tree) (ps : Parts) → cut_parts ls ts ≡ Cuts ps us → Fits S first ts
+    → PartsLeft S first (record { end = first; erases = false }) ls ps us
 parts-start S first ls ts us ps h f = record { trees = ts; parts = ps; cut = h; fits = f; end = refl; erases = refl }
 
-pub parts-step : (p : PartLine) (ls : List PartLine) (S : List Span) (first : ℕ) (span next new : Span) (ps : Parts) (us : List Tree) → next ≡ span_or_none S span.end → new.end ≡ next.end → new.erases ≡ erases_more p span.erases next.erases
+pub parts-step : (p : PartLine) (ls : List PartLine) (S : List Span) (first : ℕ) (span next new : Span) (ps : Parts) (us : List Tree)
+    → next ≡ span_or_none S span.end → new.end ≡ next.end → new.erases ≡ erases_more p span.erases next.erases
     → PartsLeft S first span (p ∷ ls) ps us → PartsLeft S first new ls ps us
 parts-step p ls S first span next new ps us e1 e2 e3 w =
     let c = cut-step p ls w.trees w.parts us w.cut in let f = subst (Fits S span.end) c.is_trees w.fits in
@@ -106,14 +129,16 @@ parts-step p ls S first span next new ps us e1 e2 e3 w =
       cut = c.cut;
       fits = subst (λ n. Fits S n c.trees) (sym e2) (rest-first S span.end next c.first c.trees e1 f);
       end = let k = sized p c.first c.parts in let j = ap part_nodes c.is_parts in let i = w.end in omega (arith, k, j, i, q, e2);
-      erases = erased p span.erases next.erases new.erases c.first c.parts e3 (erases-first S span.end next c.first c.trees e1 f) ∙ (ap (λ qs. span.erases || erases_part qs) (sym c.is_parts) ∙ w.erases);
+      erases = erased p span.erases next.erases new.erases c.first c.parts e3 (erases-first S span.end next c.first c.trees e1 f)
+          ∙ (ap (λ qs. span.erases || erases_part qs) (sym c.is_parts) ∙ w.erases);
     }
   where
     sized : (p : PartLine) (x : Tree) (qs : Parts) → part_nodes (join p x qs) ≡ nodes x + part_nodes qs
     sized (Labels s) x qs = refl
     sized Free x qs = refl
 
-    erased : (p : PartLine) (a b c : Bool) (x : Tree) (qs : Parts) → c ≡ erases_more p a b → b ≡ erases x → (c || erases_part qs) ≡ (a || erases_part (join p x qs))
+    erased : (p : PartLine) (a b c : Bool) (x : Tree) (qs : Parts) → c ≡ erases_more p a b → b ≡ erases x
+        → (c || erases_part qs) ≡ (a || erases_part (join p x qs))
     erased (Labels s) a b c x qs e f = ap (λ z. z || erases_part qs) (e ∙ ap (λ z. a || z) f) ∙ or_more a (erases x) (erases_part qs)
     erased Free a b c x qs e f = ap (λ z. z || erases_part qs) e
 
@@ -135,7 +160,10 @@ parts-end S first span ps us w =
 -- a write before the trees
 fits-set : (S : List Span) (i : ℕ) (v : Span) (at : ℕ) (ts : List Tree) → i < at → Fits S at ts → Fits (set S i v) at ts
 fits-set S i v at [] h f = tt
-fits-set S i v at (x ∷ xs) h f = (get_or-set_other S i at v (record { end = at; erases = false }) (λ e. absurd (omega (arith, h, e))) ∙ f.0, fits-set S i v (at + nodes x) xs (omega (arith, h)) f.1)
+fits-set S i v at (x ∷ xs) h f = (
+  get_or-set_other S i at v (record { end = at; erases = false }) (λ e. absurd (omega (arith, h, e))) ∙ f.0,
+  fits-set S i v (at + nodes x) xs (omega (arith, h)) f.1,
+)
 
 -- past the last node there is no tree
 pub fits-past : (S : List Span) (ls : List Line) (at : ℕ) (ts : List Tree) → length ls ≤ at → trees_of (drop at ls) ≡ Some ts → Fits S at ts
@@ -148,7 +176,8 @@ is_span : (s : Span) (e : ℕ) (b : Bool) → s.end ≡ e → s.erases ≡ b →
 is_span s e b p q = ap (λ n. record { end = n; erases = s.erases }) p ∙ ap (λ c. record { end = e; erases = c }) q
 
 pub spans-step : (ls : List Line) (S T : List Span) (i : ℕ) (span : Span) (l : Line) → drop i ls ≡ l ∷ drop (i + 1) ls → T ≡ set S i span → i < length S
-    → ((at : ℕ) (ts : List Tree) → i + 1 ≤ at → trees_of (drop at ls) ≡ Some ts → Fits S at ts) → ((ts vs : List Tree) → put l ts ≡ Some vs → Fits S (i + 1) ts → HasSpan S (i + 1) span vs)
+    → ((at : ℕ) (ts : List Tree) → i + 1 ≤ at → trees_of (drop at ls) ≡ Some ts → Fits S at ts)
+    → ((ts vs : List Tree) → put l ts ≡ Some vs → Fits S (i + 1) ts → HasSpan S (i + 1) span vs)
     → (at : ℕ) (ts : List Tree) → i ≤ at → trees_of (drop at ls) ≡ Some ts → Fits T at ts
 spans-step ls S T i span l d e lt below go at ts h k = subst (λ U. Fits U at ts) (sym e) (cases (nat_lt i at) refl)
   where
@@ -165,4 +194,5 @@ spans-step ls S T i span l d e lt below go at ts h k = subst (λ U. Fits U at ts
 
     cases : (b : Bool) → nat_lt i at ≡ b → Fits (set S i span) at ts
     cases true c = let z = ltb-true i at c in fits-set S i span at ts z (below at ts (omega (arith, z)) k)
-    cases false c = let z = ltb-false i at c in let y : i ≡ at = omega (arith, z, h) in subst (λ m. Fits (set S i span) m ts) y (now (sym (ap trees_of (sym (ap (λ m. drop m ls) y) ∙ d)) ∙ k))
+    cases false c = let z = ltb-false i at c in let y : i ≡ at = omega (arith, z, h) in
+        subst (λ m. Fits (set S i span) m ts) y (now (sym (ap trees_of (sym (ap (λ m. drop m ls) y) ∙ d)) ∙ k))

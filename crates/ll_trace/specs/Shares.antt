@@ -54,7 +54,8 @@ GivesTensor outline at share old new dealt = (s t : List ℕ) → GivesLine outl
 abbrev pub GivesClause : Outline → ℕ → ℕ → List Part → Share → List Share → List Share → List Part → Type 0
 GivesClause outline at label parts share old new dealt =
     (leaf : ℕ) (terms : Nodes → List Term)
-    → GivesLine outline at (λ bank. ClauseLine label leaf (terms bank) (map part_line parts)) share old new (λ bank. ClauseLine label leaf (terms bank) (map part_line dealt))
+    → GivesLine outline at (λ bank. ClauseLine label leaf (terms bank) (map part_line parts)) share old new
+    (λ bank. ClauseLine label leaf (terms bank) (map part_line dealt))
 
 -- the places of a rule stay in a bank
 abbrev pub KeepsTerms : Rule → Rule → Type 0

@@ -45,4 +45,5 @@ pub record ArePartSpan (spans : List Span) (first : ℕ) (span : Span) (ps : Par
 
 -- the span of the trees that the premises take of those that begin at a place
 abbrev pub GivesPartSpan : List Part → ℕ → List Span → Span → Type 0
-GivesPartSpan parts first spans span = (ts us : List Tree) (ps : Parts) → cut_parts (map part_line parts) ts ≡ Cuts ps us → Fits spans first ts → ArePartSpan spans first span ps us
+GivesPartSpan parts first spans span = (ts us : List Tree) (ps : Parts) → cut_parts (map part_line parts) ts ≡ Cuts ps us → Fits spans first ts
+    → ArePartSpan spans first span ps us

@@ -6,7 +6,8 @@ use Rattle.ll_bank.specs.Term.{Term}
 use Rattle.ll_bank.specs.Form.{Form, Top, One, Atom, With, Tensor, Plus, Bang, Lolli, Imp, Forall, Exists, Use, Num}
 use Rattle.ll_laws.specs.Leaf.{Premise, premise_goal, ways}
 use Rattle.ll_laws.specs.Module.{ModuleTree}
-use Rattle.ll_laws.specs.Line.{Line, OneLine, EraseLine, TensorLine, WithLine, LeftLine, RightLine, BangLine, UseLine, LolliLine, ImpLine, ForallLine, ExistsLine, ClauseLine, part_line, NumLine}
+use Rattle.ll_laws.specs.Line.{Line, OneLine, EraseLine, TensorLine, WithLine, LeftLine, RightLine, BangLine, UseLine, LolliLine, ImpLine, ForallLine}
+use Rattle.ll_laws.specs.Line.{ExistsLine, ClauseLine, part_line, NumLine}
 use Rattle.ll_laws.specs.Dealt.{value, values}
 use Rattle.ll_laws.specs.Problem.{ProblemTree}
 use Rattle.ll_trace.specs.Bare.{bare, premises_at, bare_load}

@@ -38,11 +38,13 @@ pub record IsInside (forms : Nodes) (count : ℕ) (w : Walker) : Type 0 where
 
 -- the step tells a node of this goal in front
 abbrev pub MayTake : Nodes → List Module → List At → Walker → Form → Step → Type 0
-MayTake forms modules terms w g c = IsTold (tell_goal (trees forms modules) (term_trees no_nodes terms) (walk_of forms (trees forms modules) w) g (stacked forms (trees forms modules) w.goals.items []) c)
+MayTake forms modules terms w g c = IsTold (tell_goal (trees forms modules) (term_trees no_nodes terms) (walk_of forms (trees forms modules) w) g
+    (stacked forms (trees forms modules) w.goals.items []) c)
 
 -- the step tells this node of the goal in front, and the walker goes on
 pub record Takes (forms : Nodes) (modules : List Module) (terms : List At) (old : Walker) (g : Form) (c : Step) (rule : Rule) (new : Walker) : Type 0 where
-  pub told : (bank : Nodes) → tell_goal (trees forms modules) (term_trees bank terms) (walk_of forms (trees forms modules) old) g (stacked forms (trees forms modules) old.goals.items []) c
+  pub told : (bank : Nodes) → tell_goal (trees forms modules) (term_trees bank terms) (walk_of forms (trees forms modules) old) g
+      (stacked forms (trees forms modules) old.goals.items []) c
       ≡ Tells (line_of bank rule) (walk_of forms (trees forms modules) new)
   pub inside : IsInside forms (length modules) new
   pub used : new.used ≤ length terms
@@ -54,7 +56,8 @@ MayStep forms modules terms w c = IsTold (tell (trees forms modules) (term_trees
 
 -- the step tells this node, and the walker goes on
 pub record Steps (forms : Nodes) (modules : List Module) (terms : List At) (old : Walker) (c : Step) (rule : Rule) (new : Walker) : Type 0 where
-  pub told : (bank : Nodes) → tell (trees forms modules) (term_trees bank terms) (walk_of forms (trees forms modules) old) c ≡ Tells (line_of bank rule) (walk_of forms (trees forms modules) new)
+  pub told : (bank : Nodes) → tell (trees forms modules) (term_trees bank terms) (walk_of forms (trees forms modules) old) c
+      ≡ Tells (line_of bank rule) (walk_of forms (trees forms modules) new)
   pub inside : IsInside forms (length modules) new
   pub used : new.used ≤ length terms
   pub places : (bank : Nodes) → AllInTerms bank terms → HasLine bank rule
@@ -87,10 +90,12 @@ pub record AreNodes (forms : Nodes) (modules : List Module) (terms : List At) (s
   pub places : (bank : Nodes) → AllInTerms bank terms → HasLines bank rules
 
 -- the first steps have told these rules, and the walker is ready for the others
-pub record IsPartWay (forms : Nodes) (modules : List Module) (terms : List At) (steps : List Step) (first : Walker) (count : ℕ) (w : Walker) (rules : List Rule) : Type 0 where
+pub record IsPartWay (forms : Nodes) (modules : List Module) (terms : List At) (steps : List Step) (first : Walker) (count : ℕ) (w : Walker) (rules : List Rule)
+    : Type 0 where
   pub so_far : (bank : Nodes) → told (trees forms modules) (term_trees bank terms) steps (walk_of forms (trees forms modules) first)
       ≡ map (line_of bank) rules ++ told (trees forms modules) (term_trees bank terms) (drop count steps) (walk_of forms (trees forms modules) w)
-  pub more : length (told (trees forms modules) (term_trees no_nodes terms) (drop count steps) (walk_of forms (trees forms modules) w)) ≡ length (drop count steps)
+  pub more : length (told (trees forms modules) (term_trees no_nodes terms) (drop count steps) (walk_of forms (trees forms modules) w))
+      ≡ length (drop count steps)
   pub inside : IsInside forms (length modules) w
   pub used : w.used ≤ length terms
   pub places : (bank : Nodes) → AllInTerms bank terms → HasLines bank rules

@@ -46,7 +46,8 @@ pub(crate) fn deal(
     labels: Vec<u32>,
     rules: &mut Vec<Rule>,
 ) -> Result<(), OutOfMemory>
-    ensures dealt { OnOk result ((bank : Nodes) (x : Tree) → trees_of (map (line_of bank) rules.old.items) ≡ Some (x ∷ []) → map (line_of bank) rules.new.items ≡ lines (deal_labels labels.items x)) }
+    ensures dealt { OnOk result ((bank : Nodes) (x : Tree) → trees_of (map (line_of bank) rules.old.items) ≡ Some (x ∷ [])
+        → map (line_of bank) rules.new.items ≡ lines (deal_labels labels.items x)) }
     ensures places { OnOk result ((bank : Nodes) → HasLines bank rules.old.items → HasLines bank rules.new.items) }
 {
     let picks = picks(alloc, rules)?;

@@ -60,7 +60,8 @@ pub(crate) fn nodes(
     requires modules { HasModules forms.now modules.now }
     requires inside { IsInside forms.now (length modules.now) walker }
     requires used { walker.used ≤ length terms.now }
-    requires told { length (told (trees forms.now modules.now) (term_trees no_nodes terms.now) steps.now (walk_of forms.now (trees forms.now modules.now) walker)) ≡ length steps.now }
+    requires told { length (told (trees forms.now modules.now) (term_trees no_nodes terms.now) steps.now
+        (walk_of forms.now (trees forms.now modules.now) walker)) ≡ length steps.now }
     ensures { IfOk result (λ nodes. AreNodes forms.now modules.now terms.now steps.now walker nodes.items) }
 {
     let mut nodes = Vec::new(alloc);
@@ -203,7 +204,8 @@ impl Walker {
         requires goal { HasForm forms.now loading.goal.0 }
         requires known { loading.«module» < length modules.now }
         requires may { MayTake forms.now modules.now terms.now self.old (loading_goal forms.now (trees forms.now modules.now) loading) step }
-        ensures { IfOk result (λ rule. Takes forms.now modules.now terms.now self.old (loading_goal forms.now (trees forms.now modules.now) loading) step rule self.new) }
+        ensures { IfOk result (λ rule. Takes forms.now modules.now terms.now self.old (loading_goal forms.now (trees forms.now modules.now) loading) step rule
+            self.new) }
     {
         if loading.locals > 0 {
             let locals = loading.locals - 1;
@@ -232,7 +234,8 @@ impl Walker {
         requires clauses { All (λ f. HasForm forms.now f.0) self.old.clauses.items }
         requires used { self.old.used ≤ length terms.now }
         requires may { MayTakeAtom forms.now self.old step }
-        ensures { IfOk result (λ rule. (modules : List ModuleView) → IsInside forms.now (length modules) self.old → Takes forms.now modules terms.now self.old some_atom step rule self.new) }
+        ensures { IfOk result (λ rule. (modules : List ModuleView) → IsInside forms.now (length modules) self.old
+            → Takes forms.now modules terms.now self.old some_atom step rule self.new) }
     {
         let Step::Clause { label, leaf } = step else {
             unreachable!()

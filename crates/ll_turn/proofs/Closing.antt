@@ -13,7 +13,8 @@ use Rattle.ll_turn.proofs.Parts.{closes}
 use Rattle.ll_turn.proofs.Passes.{IsSeen, at_rest, same_data, same_given}
 
 module _ {S P M : Type 0} {numbers : M → Numbers} {m : Hand S P M} {number least : ℕ} {z : TableId} {s : Sight S P M} (pass : IsSeen numbers m number least z s)
-    (first : (numbers s.mine).own ≡ 0) (b : s.before ≡ None) (alone : s.given ≡ []) (fit : S → P → M → Type 0) (p : P) (id : ℕ) (ws : List ℕ) (xs : List (Option S))
+    (first : (numbers s.mine).own ≡ 0) (b : s.before ≡ None) (alone : s.given ≡ []) (fit : S → P → M
+    → Type 0) (p : P) (id : ℕ) (ws : List ℕ) (xs : List (Option S))
     (final : Final (Seen (IsKept numbers fit p) id m.0) ws xs) (r : Option S) (there : get_elem? xs 0 ≡ some r) where
   pub left_over : (y : S) × (r ≡ Some y) × fit y s.problem s.mine
   left_over =

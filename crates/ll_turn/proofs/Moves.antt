@@ -1,5 +1,6 @@
 -- Trying to hold, announcing and freeing keep the rule.
-use Rattle.std.proofs.Common.{◌≡◌, ◌≢◌, ◌⊎◌, ℕ, zero, suc, ◌+◌, ◌-◌, List, [], ◌∷◌, map, get_or, set, Option, Some, None, sym, refl, ap, ◌∙◌, subst, inl, inr, ⊎_elim, arith}
+use Rattle.std.proofs.Common.{◌≡◌, ◌≢◌, ◌⊎◌, ℕ, zero, suc, ◌+◌, ◌-◌, List, [], ◌∷◌, map, get_or, set, Option, Some, None, sym, refl, ap, ◌∙◌, subst, inl, inr}
+use Rattle.std.proofs.Common.{⊎_elim, arith}
 use mathlib.Core.Option.{none, some, some-injective, some-ne-none}
 use mathlib.Core.Option as maybe
 use mathlib.Core.Logic.{dite}
@@ -56,7 +57,8 @@ module _ {S : Type 0} where
   one_value : (st : Stage S) (y z : S) → (st ≡ Holds y) ⊎ (st ≡ Notes y) → (st ≡ Holds z) ⊎ (st ≡ Notes z) → y ≡ z
   unfolding value_or
   one_value st y z a b =
-      let of : (x : S) → (st ≡ Holds x) ⊎ (st ≡ Notes x) → value_or y st ≡ x = λ x c. ⊎_elim (λ (e : st ≡ Holds x). ap (value_or y) e) (λ (e : st ≡ Notes x). ap (value_or y) e) c in
+      let of : (x : S) → (st ≡ Holds x) ⊎ (st ≡ Notes x) → value_or y st ≡ x =
+      λ x c. ⊎_elim (λ (e : st ≡ Holds x). ap (value_or y) e) (λ (e : st ≡ Notes x). ap (value_or y) e) c in
       sym (of y a) ∙ of z b
 
 module _ {S P M : Type 0} where
@@ -91,7 +93,8 @@ module _ {S P M : Type 0} (numbers : M → Numbers) (fit : S → P → M → Typ
   Turned word homes views = ((word ≡ 0) × IsFree numbers fit p homes views) ⊎ ((n : ℕ) × (word ≡ n + 1) × IsHeldBy numbers fit p n homes views)
 
   pub turned : (s : Table) (g : Rule s) → Turned g.word s.homes s.views
-  turned s g = dite (ℕ_discrete g.word 0) (λ z. inl (z, g.free z)) (λ some_word. let e : g.word ≡ (g.word - 1) + 1 = omega arith in inr (g.word - 1, e, g.held (g.word - 1) e))
+  turned s g = dite (ℕ_discrete g.word 0) (λ z. inl (z, g.free z)) (λ some_word. let e : g.word ≡ (g.word - 1) + 1 = omega arith in
+      inr (g.word - 1, e, g.held (g.word - 1) e))
 
   pub kept : (s : Table) (word : ℕ) → s.words ≡ word ∷ [] → Orderly p (map (card numbers) s.views) → Turned word s.homes s.views → Rule s
   kept s word words orderly t = record {
@@ -104,12 +107,15 @@ module _ {S P M : Type 0} (numbers : M → Numbers) (fit : S → P → M → Typ
         t;
     held = λ n e. ⊎_elim
         (λ (f : (word ≡ 0) × IsFree numbers fit p s.homes s.views). let z = f.0 in absurd (omega arith))
-        (λ (h : (n' : ℕ) × (word ≡ n' + 1) × IsHeldBy numbers fit p n' s.homes s.views). let e' = h.1 in let same : h.0 ≡ n = omega arith in subst (λ m. IsHeldBy numbers fit p m s.homes s.views) same h.2)
+        (λ (h : (n' : ℕ) × (word ≡ n' + 1) × IsHeldBy numbers fit p n' s.homes s.views). let e' = h.1 in let same : h.0 ≡ n = omega arith in
+        subst (λ m. IsHeldBy numbers fit p m s.homes s.views) same h.2)
         t;
   }
 
-  same_cards : (vs : List (View S P M)) (id : ℕ) (v w : View S P M) → get_elem? vs id ≡ some v → card numbers w ≡ card numbers v → map (card numbers) (set vs id w) ≡ map (card numbers) vs
-  same_cards vs id v w at e = map-set (card numbers) vs id w ∙ (ap (set (map (card numbers) vs) id) e ∙ set_again (map (card numbers) vs) id (card numbers v) (at_map (card numbers) vs id v at))
+  same_cards : (vs : List (View S P M)) (id : ℕ) (v w : View S P M) → get_elem? vs id ≡ some v → card numbers w ≡ card numbers v
+      → map (card numbers) (set vs id w) ≡ map (card numbers) vs
+  same_cards vs id v w at e = map-set (card numbers) vs id w
+      ∙ (ap (set (map (card numbers) vs) id) e ∙ set_again (map (card numbers) vs) id (card numbers v) (at_map (card numbers) vs id v at))
 
   word_is : (s : Table) (g : Rule s) → get_or s.words 0 0 ≡ g.word
   word_is s g = ap (λ ws. get_or ws 0 0) g.words
@@ -167,13 +173,15 @@ module _ {S P M : Type 0} (numbers : M → Numbers) (fit : S → P → M → Typ
       ))
 
   -- a step that leaves all as it was
-  stays : (s : Table) (g : Rule s) (id : ℕ) (v : View S P M) (cs : List (ℕ × Option S)) → get_elem? s.views id ≡ some v → Rule (stepped s 0 (get_or s.words 0 0) id cs v keeps)
+  stays : (s : Table) (g : Rule s) (id : ℕ) (v : View S P M) (cs : List (ℕ × Option S)) → get_elem? s.views id ≡ some v
+      → Rule (stepped s 0 (get_or s.words 0 0) id cs v keeps)
   stays s g id v cs at = subst Rule (λ i. record { words = sym (set-get_or s.words 0 0) i; homes = s.homes; views = sym (set_again s.views id v at) i }) g
 
   tries : (n id h : ℕ) (k : Known S P M) → k.stage ≡ Rests → (numbers k.mine).own ≡ h
       → Allows Rule n id (Live k, []) 0 (λ r. either (eqb r 0) (h + 1) r) (tried fit (step n 0 0 (h + 1) none) (Live k, []))
   tries n id h k rests own s g wide at low = exchanged (get_or s.words 0 0) 0 (h + 1)
-      (λ z. (w : View S P M) × (a : Act (Option S)) × Valid s.homes [] a × Rule (stepped s 0 z id [] w a) × tried fit (step n 0 0 (h + 1) none) (Live k, []) (get_or s.words 0 0) (w, carried_after [] a))
+      (λ z. (w : View S P M) × (a : Act (Option S)) × Valid s.homes [] a × Rule (stepped s 0 z id [] w a)
+      × tried fit (step n 0 0 (h + 1) none) (Live k, []) (get_or s.words 0 0) (w, carried_after [] a))
       (λ zero_word. let f = g.free (sym (word_is s g) ∙ zero_word) in (
         staged k (Holds f.value),
         takes 0 (Some f.value),
@@ -181,7 +189,11 @@ module _ {S P M : Type 0} (numbers : M → Numbers) (fit : S → P → M → Typ
         subst (λ z. Rule (stepped s 0 (z + 1) id [] (staged k (Holds f.value)) (takes 0 (Some f.value)))) own (holds_now s g id k f at),
         (
           (λ bad. absurd (bad zero_word)),
-          λ _ l e. subst (λ (z : Known S P M). (y : S) × (◌≡◌ {A = Hand S P M} (staged k (Holds f.value), (0, Some f.value) ∷ []) (staged z (Holds y), (0, Some y) ∷ [])) × fit y z.problem z.mine) (live_injective k l e)
+          λ _ l e.
+              subst (λ (z : Known S P M). (y : S) × (◌≡◌ {A = Hand S P M} (staged k (Holds f.value), (0, Some f.value) ∷ []) (
+                staged z (Holds y),
+                (0, Some y) ∷ [],
+              )) × fit y z.problem z.mine) (live_injective k l e)
               (f.value, refl, subst (λ q. fit f.value q k.mine) (sym (problem_is s g id k at)) (f.fits id k at)),
         ),
       ))
@@ -194,20 +206,23 @@ module _ {S P M : Type 0} (numbers : M → Numbers) (fit : S → P → M → Typ
     announces n id h k b v cs holds own law s g wide at low =
         let mine = holder s g id k at (holds_no_rest k.stage b holds) in
         let here : k.problem ≡ p = problem_is s g id k at in
-        let fits : FitsAll numbers fit p b s.views = subst (λ x. FitsAll numbers fit p x s.views) (one_value k.stage mine.value b mine.stage (inl holds)) mine.fits in
+        let fits : FitsAll numbers fit p b s.views = subst (λ x. FitsAll numbers fit p x s.views) (one_value k.stage mine.value b mine.stage (inl holds))
+        mine.fits in
         let law' : lawful p b k.mine v = subst (λ q. lawful q b k.mine v) here law in
         let fit' = change_fits p b k.mine v (fits id k at) law' in
         let w : Known S P M = record { problem = k.problem; mine = next k.problem b k.mine v; stage = Notes v; given = k.given } in
         let same : numbers w.mine ≡ numbers k.mine = keeps_numbers k.problem b k.mine v in
         let own_fit : fit v p w.mine = subst (λ q. fit v p (next q b k.mine v)) (sym here) fit'.0 in
-        let proper : (j : ℕ) (l : Known S P M) → Knows s.views j l → IsProper (numbers l.mine) = λ j l at'. g.orderly.proper j _ (at_map (card numbers) s.views j (Live l) at') in (
+        let proper : (j : ℕ) (l : Known S P M) → Knows s.views j l
+        → IsProper (numbers l.mine) = λ j l at'. g.orderly.proper j _ (at_map (card numbers) s.views j (Live l) at') in (
           Live w,
           keeps,
           tt,
           kept (stepped s 0 (h + 1) id cs (Live w) keeps)
               (h + 1)
               (ap (λ ws. set ws 0 (h + 1)) g.words)
-              (subst (Orderly p) (sym (same_cards s.views id (Live k) (Live w) at (ap (λ (z : Numbers). some (record { problem = k.problem; numbers = z; given = k.given })) same))) g.orderly)
+              (subst (Orderly p) (sym (same_cards s.views id (Live k) (Live w) at
+              (ap (λ (z : Numbers). some (record { problem = k.problem; numbers = z; given = k.given })) same))) g.orderly)
               (inr (
                 h,
                 refl,
@@ -219,10 +234,15 @@ module _ {S P M : Type 0} (numbers : M → Numbers) (fit : S → P → M → Typ
                   own = ap (λ (z : Numbers). z.own) same ∙ own;
                   stage = inr refl;
                   out = mine.out;
-                  alone = λ j. at_pass s.views id j w (λ i l. i ≢ id → l.stage ≡ Rests) (λ other. absurd (other refl)) (λ l _ at' other. mine.alone j l at' other);
+                  alone = λ j. at_pass s.views id j w (λ i l. i ≢ id
+                      → l.stage ≡ Rests) (λ other. absurd (other refl)) (λ l _ at' other. mine.alone j l at' other);
                   fits = λ j. at_pass s.views id j w (λ i l. fit v p l.mine) own_fit
-                      (λ l other at'. fit'.1 l.mine (fits j l at')
-                      (proper id k at, proper j l at', g.orderly.apart id j _ _ (at_map (card numbers) s.views id (Live k) at) (at_map (card numbers) s.views j (Live l) at') (λ e. other (sym e))));
+                      (λ l other at'. fit'.1 l.mine (fits j l at') (
+                        proper id k at,
+                        proper j l at',
+                        g.orderly.apart id j _ _ (at_map (card numbers) s.views id (Live k) at)
+                            (at_map (card numbers) s.views j (Live l) at') (λ e. other (sym e)),
+                      ));
                 },
               )),
           λ l before after e held said.
@@ -235,14 +255,16 @@ module _ {S P M : Type 0} (numbers : M → Numbers) (fit : S → P → M → Typ
     pub announces_as : (n id h : ℕ) (m : Hand S P M) (y : S) (said : Option S) → said ≡ Some y → MayGive numbers lawful m h y
         → Allows Rule n id m 0 (λ _. h + 1) (λ _. announced next said (step n 0 (h + 1) 0 none) m (h + 1))
     announces_as n id h m y said is may =
-        subst (λ (x : Hand S P M × Option S). Allows Rule n id x.0 0 (λ _. h + 1) (λ _. announced next x.1 (step n 0 (h + 1) 0 none) x.0 (h + 1))) (λ i. (sym may.2 i, sym is i))
+        subst (λ (x : Hand S P M × Option S). Allows Rule n id x.0 0 (λ _. h + 1) (λ _. announced next x.1 (step n 0 (h + 1) 0 none) x.0 (h + 1)))
+        (λ i. (sym may.2 i, sym is i))
         (announces n id h may.0 may.1 y ((0, None) ∷ []) may.3 may.4 may.5)
 
   frees : (n id : ℕ) (k : Known S P M) (y : S) (cs : List (ℕ × Option S)) → k.stage ≡ Notes y
       → Allows Rule n id (Live k, (0, Some y) ∷ cs) 0 (λ _. 0) (λ _. freed fit (step n 0 0 0 none) (Live k, (0, Some y) ∷ cs) 0)
   frees n id k y cs notes s g wide at low =
       let mine = holder s g id k at (notes_no_rest k.stage y notes) in
-      let fits : FitsAll numbers fit p y s.views = subst (λ x. FitsAll numbers fit p x s.views) (one_value k.stage mine.value y mine.stage (inr notes)) mine.fits in
+      let fits : FitsAll numbers fit p y s.views = subst (λ x. FitsAll numbers fit p x s.views) (one_value k.stage mine.value y mine.stage (inr notes))
+      mine.fits in
       let w : Known S P M = record { problem = k.problem; mine = k.mine; stage = Rests; given = k.given } in (
         Live w,
         gives,
@@ -262,13 +284,19 @@ module _ {S P M : Type 0} (numbers : M → Numbers) (fit : S → P → M → Typ
             )),
         λ l z e notes'.
             let kl : k ≡ l = live_injective k l e in
-            let yz : y ≡ z = one_value l.stage y z (inr (subst (λ (x : Known S P M). x.stage ≡ Notes y) kl notes)) (inr notes') in
-            ((λ i. (staged (kl i) Rests, cs)), subst (λ (x : Known S P M × S). fit x.1 x.0.problem x.0.mine) (λ i. (kl i, yz i)) (subst (λ q. fit y q k.mine) (sym (problem_is s g id k at)) (fits id k at))),
+            let yz : y ≡ z = one_value l.stage y z (inr (subst (λ (x : Known S P M). x.stage ≡ Notes y) kl notes)) (inr notes') in (
+              (λ i. (staged (kl i) Rests, cs)),
+              subst (λ (x : Known S P M × S). fit x.1 x.0.problem x.0.mine) (λ i. (kl i, yz i))
+                  (subst (λ q. fit y q k.mine) (sym (problem_is s g id k at)) (fits id k at)),
+            ),
       )
 
-  pub tries_as : (n id h : ℕ) (m : Hand S P M) → IsResting numbers m h → Allows Rule n id m 0 (λ r. either (eqb r 0) (h + 1) r) (tried fit (step n 0 0 (h + 1) none) m)
-  tries_as n id h m r = subst (λ (x : Hand S P M). Allows Rule n id x 0 (λ r'. either (eqb r' 0) (h + 1) r') (tried fit (step n 0 0 (h + 1) none) x)) (sym r.1) (tries n id h r.0 r.2 r.3)
+  pub tries_as : (n id h : ℕ) (m : Hand S P M) → IsResting numbers m h
+      → Allows Rule n id m 0 (λ r. either (eqb r 0) (h + 1) r) (tried fit (step n 0 0 (h + 1) none) m)
+  tries_as n id h m r = subst (λ (x : Hand S P M). Allows Rule n id x 0 (λ r'. either (eqb r' 0) (h + 1) r') (tried fit (step n 0 0 (h + 1) none) x)) (sym r.1)
+      (tries n id h r.0 r.2 r.3)
 
   pub frees_as : (n id : ℕ) (m : Hand S P M) (w : Known S P M) (y : S) → m ≡ (Live w, (0, Some y) ∷ []) → w.stage ≡ Notes y
       → Allows Rule n id m 0 (λ _. 0) (λ _. freed fit (step n 0 0 0 none) m 0)
-  frees_as n id m w y is notes = subst (λ (x : Hand S P M). Allows Rule n id x 0 (λ _. 0) (λ _. freed fit (step n 0 0 0 none) x 0)) (sym is) (frees n id w y [] notes)
+  frees_as n id m w y is notes = subst (λ (x : Hand S P M). Allows Rule n id x 0 (λ _. 0) (λ _. freed fit (step n 0 0 0 none) x 0)) (sym is)
+      (frees n id w y [] notes)

@@ -1,5 +1,6 @@
 -- A new turn meets the rule, and splitting, joining and closing keep it.
-use Rattle.std.proofs.Common.{◌≡◌, ◌≢◌, ◌⊎◌, ℕ, zero, suc, ◌+◌, ◌<◌, ◌≤◌, List, [], ◌∷◌, ◌++◌, map, length, set, Option, Some, sym, refl, ap, ◌∙◌, subst, inl, inr, ⊎_elim, arith, length-set, ne_eqb, true, false, if◌then◌else◌, ◌==◌}
+use Rattle.std.proofs.Common.{◌≡◌, ◌≢◌, ◌⊎◌, ℕ, zero, suc, ◌+◌, ◌<◌, ◌≤◌, List, [], ◌∷◌, ◌++◌, map, length, set, Option, Some, sym, refl, ap, ◌∙◌, subst, inl}
+use Rattle.std.proofs.Common.{inr, ⊎_elim, arith, length-set, ne_eqb, true, false, if◌then◌else◌, ◌==◌}
 use mathlib.Core.Option.{none, some, some-injective, some-ne-none}
 use mathlib.Core.Option as maybe
 use mathlib.Core.Logic.{dite}
@@ -53,7 +54,8 @@ module _ {P : Type 0} (p : P) where
   abbrev Cards : Type 0
   Cards = List (maybe.Option (Card P))
 
-  module _ (cards : Cards) (id : ℕ) (c : Card P) (left right : Numbers) (o : Orderly p cards) (at : get_elem? cards id ≡ some (some c)) (more : HasToGive c.numbers) (parts : IsParted c.numbers left right) where
+  module _ (cards : Cards) (id : ℕ) (c : Card P) (left right : Numbers) (o : Orderly p cards) (at : get_elem? cards id ≡ some (some c))
+      (more : HasToGive c.numbers) (parts : IsParted c.numbers left right) where
     abbrev cl : Card P
     cl = record { problem = c.problem; numbers = left; given = c.numbers.from ∷ c.given }
 
@@ -76,11 +78,13 @@ module _ {P : Type 0} (p : P) where
         (at_end (set cards id (some cl)) (some cr) (some d) i e)
 
     wide_left : (n : ℕ) → Has left n → Has c.numbers n
-    wide_left n h = ⊎_elim (λ (e : n ≡ left.own). inl (e ∙ parts.0)) (λ (t : (left.from ≤ n) × (n < left.end)). let a = t.0 in let b = t.1 in let f = parts.1 in let g = parts.2 in inr (omega arith, omega arith)) h
+    wide_left n h = ⊎_elim (λ (e : n ≡ left.own). inl (e ∙ parts.0)) (λ (t : (left.from ≤ n) × (n < left.end)). let a = t.0 in let b = t.1 in let f = parts.1 in
+        let g = parts.2 in inr (omega arith, omega arith)) h
 
     wide_right : (n : ℕ) → Has right n → Has c.numbers n
     wide_right n h = let o' = parts.3 in let r = parts.4 in
-        ⊎_elim (λ (e : n ≡ right.own). inr (omega arith, omega arith)) (λ (t : (right.from ≤ n) × (n < right.end)). let a = t.0 in let b = t.1 in absurd (omega arith)) h
+        ⊎_elim (λ (e : n ≡ right.own). inr (omega arith, omega arith)) (λ (t : (right.from ≤ n) × (n < right.end)). let a = t.0 in let b = t.1 in
+        absurd (omega arith)) h
 
     proper_here : IsProper c.numbers
     proper_here = o.proper id c at
@@ -113,7 +117,8 @@ module _ {P : Type 0} (p : P) where
       proper = λ i d e. ⊎_elim
           (λ (t : (cr ≡ d) × (i ≡ length cards)). subst (λ (x : Card P). IsProper x.numbers) t.0 (λ low high. let r = parts.4 in absurd (omega arith)))
           (λ t. ⊎_elim
-          (λ (u : (i ≡ id) × (cl ≡ d)). subst (λ (x : Card P). IsProper x.numbers) u.1 (λ low high. let a = parts.0 in let b = parts.1 in let f = parts.2 in proper_here (omega arith) (omega arith)))
+          (λ (u : (i ≡ id) × (cl ≡ d)). subst (λ (x : Card P). IsProper x.numbers) u.1 (λ low high. let a = parts.0 in let b = parts.1 in let f = parts.2 in
+          proper_here (omega arith) (omega arith)))
           (λ (u : (i ≢ id) × (get_elem? cards i ≡ some (some d))). o.proper i d u.1)
           t)
           (place i d e);
@@ -134,7 +139,8 @@ module _ {P : Type 0} (p : P) where
           s)
           (place j f e')))
           (λ (u : (i ≢ id) × (get_elem? cards i ≡ some (some d))). ⊎_elim
-          (λ (t' : (cr ≡ f) × (j ≡ length cards)). subst (λ (x : Card P). Apart d.numbers x.numbers) t'.0 (λ n h hr. o.apart i id d c u.1 at u.0 n h (wide_right n hr)))
+          (λ (t' : (cr ≡ f) × (j ≡ length cards)). subst (λ (x : Card P). Apart d.numbers x.numbers) t'.0
+          (λ n h hr. o.apart i id d c u.1 at u.0 n h (wide_right n hr)))
           (λ s. ⊎_elim
           (λ (u' : (j ≡ id) × (cl ≡ f)). subst (λ (x : Card P). Apart d.numbers x.numbers) u'.1 (λ n h hl. o.apart i id d c u.1 at u.0 n h (wide_left n hl)))
           (λ (u' : (j ≢ id) × (get_elem? cards j ≡ some (some f))). o.apart i j d f u.1 u'.1 other)
@@ -143,13 +149,15 @@ module _ {P : Type 0} (p : P) where
           t)
           (place i d e);
       listed = λ i j d f e e' other zero_own. ⊎_elim
-          (λ (t : (cr ≡ d) × (i ≡ length cards)). let z : right.own ≡ 0 = subst (λ (x : Card P). x.numbers.own ≡ 0) (sym t.0) zero_own in absurd (from_not_0 (sym parts.3 ∙ z)))
+          (λ (t : (cr ≡ d) × (i ≡ length cards)). let z : right.own ≡ 0 = subst (λ (x : Card P). x.numbers.own ≡ 0) (sym t.0) zero_own in
+          absurd (from_not_0 (sym parts.3 ∙ z)))
           (λ t. ⊎_elim
           (λ (u : (i ≡ id) × (cl ≡ d)). subst (λ (x : Card P). Lists x.given f.numbers.own) u.1 (⊎_elim
           (λ (t' : (cr ≡ f) × (j ≡ length cards)). subst (λ (x : Card P). Lists (c.numbers.from ∷ c.given) x.numbers.own) t'.0 (0, ap some (sym parts.3)))
           (λ s. ⊎_elim
           (λ (u' : (j ≡ id) × (cl ≡ f)). absurd (other (u.0 ∙ sym u'.0)))
-          (λ (u' : (j ≢ id) × (get_elem? cards j ≡ some (some f))). listed_later c.given c.numbers.from f.numbers.own (o.listed id j c f at u'.1 (λ z. u'.0 (sym z)) own_is_0))
+          (λ (u' : (j ≢ id) × (get_elem? cards j ≡ some (some f))).
+          listed_later c.given c.numbers.from f.numbers.own (o.listed id j c f at u'.1 (λ z. u'.0 (sym z)) own_is_0))
           s)
           (place j f e')))
           (λ (u : (i ≢ id) × (get_elem? cards i ≡ some (some d))). absurd (o.apart i id d c u.1 at u.0 0 (inl (sym zero_own)) (inl (sym own_is_0))))
@@ -164,14 +172,16 @@ module _ {P : Type 0} (p : P) where
           (place i d e);
     }
 
-  module _ (cards : Cards) (id out : ℕ) (c l : Card P) (o : Orderly p cards) (at : get_elem? cards id ≡ some (some c)) (there : get_elem? cards out ≡ some (some l)) where
+  module _ (cards : Cards) (id out : ℕ) (c l : Card P) (o : Orderly p cards) (at : get_elem? cards id ≡ some (some c))
+      (there : get_elem? cards out ≡ some (some l)) where
     abbrev cb : Card P
     cb = record { problem = c.problem; numbers = c.numbers; given = without l.numbers.own c.given }
 
     abbrev joined_cards : Cards
     joined_cards = set (set cards id (some cb)) out none
 
-    place' : (i : ℕ) (d : Card P) → get_elem? joined_cards i ≡ some (some d) → (i ≢ out) × (((i ≡ id) × (cb ≡ d)) ⊎ ((i ≢ id) × (get_elem? cards i ≡ some (some d))))
+    place' : (i : ℕ) (d : Card P) → get_elem? joined_cards i ≡ some (some d)
+        → (i ≢ out) × (((i ≡ id) × (cb ≡ d)) ⊎ ((i ≢ id) × (get_elem? cards i ≡ some (some d))))
     place' i d e = ⊎_elim
         (λ (t : (i ≡ out) × (none ≡ some d)). absurd (none_some d t.1))
         (λ (t : (i ≢ out) × (get_elem? (set cards id (some cb)) i ≡ some (some d))). (
@@ -184,9 +194,15 @@ module _ {P : Type 0} (p : P) where
         (at_set (set cards id (some cb)) out i none (some d) e)
 
     -- the pass at this place was there, with the same numbers
-    was : (i : ℕ) (d : Card P) → get_elem? joined_cards i ≡ some (some d) → (d' : Card P) × (get_elem? cards i ≡ some (some d')) × (d'.problem ≡ d.problem) × (d'.numbers ≡ d.numbers)
+    was : (i : ℕ) (d : Card P) → get_elem? joined_cards i ≡ some (some d)
+        → (d' : Card P) × (get_elem? cards i ≡ some (some d')) × (d'.problem ≡ d.problem) × (d'.numbers ≡ d.numbers)
     was i d e = ⊎_elim
-        (λ (u : (i ≡ id) × (cb ≡ d)). (c, subst (λ k. get_elem? cards k ≡ some (some c)) (sym u.0) at, ap (λ (x : Card P). x.problem) u.1, ap (λ (x : Card P). x.numbers) u.1))
+        (λ (u : (i ≡ id) × (cb ≡ d)). (
+          c,
+          subst (λ k. get_elem? cards k ≡ some (some c)) (sym u.0) at,
+          ap (λ (x : Card P). x.problem) u.1,
+          ap (λ (x : Card P). x.numbers) u.1,
+        ))
         (λ (u : (i ≢ id) × (get_elem? cards i ≡ some (some d))). (d, u.1, refl, refl))
         (place' i d e).1
 
@@ -194,17 +210,22 @@ module _ {P : Type 0} (p : P) where
     orderly_joined = record {
       same = λ i d e. let w = was i d e in sym w.2 ∙ o.same i w.0 w.1;
       proper = λ i d e. let w = was i d e in subst IsProper w.3 (o.proper i w.0 w.1);
-      apart = λ i j d f e e' other. let w = was i d e in let w' = was j f e' in subst (λ (x : Numbers × Numbers). Apart x.0 x.1) (λ k. (w.3 k, w'.3 k)) (o.apart i j w.0 w'.0 w.1 w'.1 other);
+      apart = λ i j d f e e' other. let w = was i d e in let w' = was j f e' in
+          subst (λ (x : Numbers × Numbers). Apart x.0 x.1) (λ k. (w.3 k, w'.3 k)) (o.apart i j w.0 w'.0 w.1 w'.1 other);
       listed = λ i j d f e e' other zero_own. let w' = was j f e' in
-          let listed : (x : Card P) → get_elem? cards i ≡ some (some x) → x.numbers.own ≡ 0 → Lists x.given f.numbers.own = λ x ex z. subst (λ (n : Numbers). Lists x.given n.own) w'.3 (o.listed i j x w'.0 ex w'.1 other z) in
+          let listed : (x : Card P) → get_elem? cards i ≡ some (some x) → x.numbers.own ≡ 0
+          → Lists x.given f.numbers.own = λ x ex z. subst (λ (n : Numbers). Lists x.given n.own) w'.3 (o.listed i j x w'.0 ex w'.1 other z) in
           ⊎_elim
           (λ (u : (i ≡ id) × (cb ≡ d)).
           let z : c.numbers.own ≡ 0 = subst (λ (x : Card P). x.numbers.own ≡ 0) (sym u.1) zero_own in
-          let differs : f.numbers.own ≢ l.numbers.own = λ same. o.apart j out w'.0 l w'.1 there (place' j f e').0 f.numbers.own (inl (ap (λ (n : Numbers). n.own) (sym w'.3))) (inl same) in
-          subst (λ (x : Card P). Lists x.given f.numbers.own) u.1 (still_listed c.given l.numbers.own f.numbers.own differs (listed c (subst (λ k. get_elem? cards k ≡ some (some c)) (sym u.0) at) z)))
+          let differs : f.numbers.own ≢ l.numbers.own = λ same.
+          o.apart j out w'.0 l w'.1 there (place' j f e').0 f.numbers.own (inl (ap (λ (n : Numbers). n.own) (sym w'.3))) (inl same) in
+          subst (λ (x : Card P). Lists x.given f.numbers.own) u.1
+          (still_listed c.given l.numbers.own f.numbers.own differs (listed c (subst (λ k. get_elem? cards k ≡ some (some c)) (sym u.0) at) z)))
           (λ (u : (i ≢ id) × (get_elem? cards i ≡ some (some d))). listed d u.1 zero_own)
           (place' i d e).1;
-      barren = λ i d e busy. let w = was i d e in subst (λ (n : Numbers). n.end ≤ n.from) w.3 (o.barren i w.0 w.1 (λ z. busy (ap (λ (n : Numbers). n.own) (sym w.3) ∙ z)));
+      barren = λ i d e busy. let w = was i d e in subst (λ (n : Numbers). n.end ≤ n.from) w.3
+          (o.barren i w.0 w.1 (λ z. busy (ap (λ (n : Numbers). n.own) (sym w.3) ∙ z)));
     }
 
 busy : {S : Type 0} (st : Stage S) (y : S) → (st ≡ Holds y) ⊎ (st ≡ Notes y) → ¬ (st ≡ Rests)
@@ -224,7 +245,8 @@ module _ {S P M : Type 0} (numbers : M → Numbers) (fit : S → P → M → Typ
   Rule = IsKept numbers fit p
 
   -- the turn is as it was where only passes that rest changed
-  carry_turn : (word : ℕ) (homes : List (maybe.Option (Option S))) (vs vs' : List (View S P M)) → ((j : ℕ) (k : Known S P M) → Knows vs' j k → (k.stage ≡ Rests) ⊎ Knows vs j k)
+  carry_turn : (word : ℕ) (homes : List (maybe.Option (Option S))) (vs vs' : List (View S P M))
+      → ((j : ℕ) (k : Known S P M) → Knows vs' j k → (k.stage ≡ Rests) ⊎ Knows vs j k)
       → ((y : S) → FitsAll numbers fit p y vs → FitsAll numbers fit p y vs') → ((j : ℕ) (k : Known S P M) → Knows vs j k → ¬ (k.stage ≡ Rests) → Knows vs' j k)
       → Turned numbers fit p word homes vs → Turned numbers fit p word homes vs'
   carry_turn word homes vs vs' back fits on t = ⊎_elim
@@ -257,7 +279,8 @@ module _ {S P M : Type 0} (numbers : M → Numbers) (fit : S → P → M → Typ
   pub parts : (parted : M → M × M) (id : ℕ) (v : View S P M) (k : Known S P M) → v ≡ Live k → k.stage ≡ Rests → HasToGive (numbers k.mine)
       → PartsNumbers numbers parted → PartsFit numbers fit parted
       → Splits Rule id v (left_part numbers parted v) (right_part parted v)
-  parts parted id v k is rests more parts_numbers parts_fit = subst (λ x. Splits Rule id x (left_part numbers parted x) (right_part parted x)) (sym is) (λ s g at.
+  parts parted id v k is rests more parts_numbers parts_fit =
+      subst (λ x. Splits Rule id x (left_part numbers parted x) (right_part parted x)) (sym is) (λ s g at.
       let kl : Known S P M = record { problem = k.problem; mine = (parted k.mine).0; stage = k.stage; given = (numbers k.mine).from ∷ k.given } in
       let kr : Known S P M = record { problem = k.problem; mine = (parted k.mine).1; stage = Rests; given = [] } in
       let vs : List (View S P M) = s.views in
@@ -275,18 +298,23 @@ module _ {S P M : Type 0} (numbers : M → Numbers) (fit : S → P → M → Typ
       kept numbers fit p (record { words = s.words; homes = s.homes; views = views })
       g.word
       g.words
-      (subst (Orderly p) (sym cards) (orderly_parted p (map (card numbers) vs) id c (numbers kl.mine) (numbers kr.mine) g.orderly (at_map (card numbers) vs id (Live k) at) more (parts_numbers k.mine more)))
+      (subst (Orderly p) (sym cards) (orderly_parted p (map (card numbers) vs) id c (numbers kl.mine) (numbers kr.mine) g.orderly
+      (at_map (card numbers) vs id (Live k) at) more (parts_numbers k.mine more)))
       (carry_turn g.word s.homes vs views
-      (λ j l e. ⊎_elim (λ (t : kr ≡ l). inl (ap (λ (x : Known S P M). x.stage) (sym t))) (λ t. ⊎_elim (λ (u : kl ≡ l). inl (ap (λ (x : Known S P M). x.stage) (sym u) ∙ rests)) (λ (u : Knows vs j l). inr u) t) (where_is j l e))
+      (λ j l e. ⊎_elim (λ (t : kr ≡ l). inl (ap (λ (x : Known S P M). x.stage) (sym t)))
+      (λ t. ⊎_elim (λ (u : kl ≡ l). inl (ap (λ (x : Known S P M). x.stage) (sym u) ∙ rests)) (λ (u : Knows vs j l). inr u) t) (where_is j l e))
       (λ y fits j l e. let both = parts_fit p y k.mine more (fits id k at) in
-      ⊎_elim (λ (t : kr ≡ l). subst (λ (x : Known S P M). fit y p x.mine) t both.1) (λ t. ⊎_elim (λ (u : kl ≡ l). subst (λ (x : Known S P M). fit y p x.mine) u both.0) (λ (u : Knows vs j l). fits j l u) t) (where_is j l e))
+      ⊎_elim (λ (t : kr ≡ l). subst (λ (x : Known S P M). fit y p x.mine) t both.1)
+      (λ t. ⊎_elim (λ (u : kl ≡ l). subst (λ (x : Known S P M). fit y p x.mine) u both.0) (λ (u : Knows vs j l). fits j l u) t) (where_is j l e))
       (λ j l e busy. at_longer (set vs id (Live kl)) (Live kr ∷ []) j (Live l) (dite (ℕ_discrete j id)
       (λ same. absurd (busy (ap (λ (x : Known S P M). x.stage) (same_pass vs j l k e (subst (λ i. Knows vs i k) (sym same) at)) ∙ rests)))
       (λ other. set_else vs id j (Live kl) other ∙ e)))
       (turned numbers fit p s g)))
 
-  pub joins : (id out : ℕ) (v w : View S P M) (k l : Known S P M) → v ≡ Live k → w ≡ Live l → k.stage ≡ Rests → l.stage ≡ Rests → Joins Rule id v out w (taken_back numbers v w) Spent
-  joins id out v w k l is is' rests rests' = subst (λ (x : View S P M × View S P M). Joins Rule id x.0 out x.1 (taken_back numbers x.0 x.1) Spent) (λ i. (sym is i, sym is' i)) (λ s g at apart there'.
+  pub joins : (id out : ℕ) (v w : View S P M) (k l : Known S P M) → v ≡ Live k → w ≡ Live l → k.stage ≡ Rests → l.stage ≡ Rests
+      → Joins Rule id v out w (taken_back numbers v w) Spent
+  joins id out v w k l is is' rests rests' = subst (λ (x : View S P M × View S P M). Joins Rule id x.0 out x.1 (taken_back numbers x.0 x.1) Spent)
+      (λ i. (sym is i, sym is' i)) (λ s g at apart there'.
       let vs : List (View S P M) = s.views in
       let kb : Known S P M = record { problem = k.problem; mine = k.mine; stage = k.stage; given = without (numbers l.mine).own k.given } in
       let there : Knows vs out l = sym (set_else vs id out (Live kb) apart) ∙ there' in
@@ -305,10 +333,12 @@ module _ {S P M : Type 0} (numbers : M → Numbers) (fit : S → P → M → Typ
       kept numbers fit p (record { words = s.words; homes = s.homes; views = views })
       g.word
       g.words
-      (subst (Orderly p) (sym cards) (orderly_joined p (map (card numbers) vs) id out c d g.orderly (at_map (card numbers) vs id (Live k) at) (at_map (card numbers) vs out (Live l) there)))
+      (subst (Orderly p) (sym cards) (orderly_joined p (map (card numbers) vs) id out c d g.orderly (at_map (card numbers) vs id (Live k) at)
+      (at_map (card numbers) vs out (Live l) there)))
       (carry_turn g.word s.homes vs views
       (λ j m e. ⊎_elim (λ (t : kb ≡ m). inl (ap (λ (x : Known S P M). x.stage) (sym t) ∙ rests)) (λ (u : Knows vs j m). inr u) (where_is j m e))
-      (λ y fits j m e. ⊎_elim (λ (t : kb ≡ m). subst (λ (x : Known S P M). fit y p x.mine) t (fits id k at)) (λ (u : Knows vs j m). fits j m u) (where_is j m e))
+      (λ y fits j m e. ⊎_elim (λ (t : kb ≡ m). subst (λ (x : Known S P M). fit y p x.mine) t (fits id k at)) (λ (u : Knows vs j m). fits j m u)
+      (where_is j m e))
       (λ j m e busy. dite (ℕ_discrete j out)
       (λ same. absurd (busy (ap (λ (x : Known S P M). x.stage) (same_pass vs j m l e (subst (λ i. Knows vs i l) (sym same) there)) ∙ rests')))
       (λ not_out. set_else (set vs id (Live kb)) out j Spent not_out ∙ dite (ℕ_discrete j id)
@@ -317,7 +347,8 @@ module _ {S P M : Type 0} (numbers : M → Numbers) (fit : S → P → M → Typ
       (turned numbers fit p s g)))
 
   -- the first pass, all of whose passes are joined to it, finds the value at home
-  pub closes : (id : ℕ) (v : View S P M) (k : Known S P M) (ws : List ℕ) (xs : List (Option S)) → v ≡ Live k → k.stage ≡ Rests → (numbers k.mine).own ≡ 0 → k.given ≡ []
+  pub closes : (id : ℕ) (v : View S P M) (k : Known S P M) (ws : List ℕ) (xs : List (Option S)) → v ≡ Live k → k.stage ≡ Rests → (numbers k.mine).own ≡ 0
+      → k.given ≡ []
       → Final (Seen Rule id v) ws xs → (y : S) × (get_elem? xs 0 ≡ some (Some y)) × fit y k.problem k.mine
   closes id v k ws xs is rests own none_given final =
       let s = final.0 in
@@ -328,9 +359,12 @@ module _ {S P M : Type 0} (numbers : M → Numbers) (fit : S → P → M → Typ
       (λ (f : (g.word ≡ 0) × IsFree numbers fit p s.homes s.views).
       (f.1.value, final.4 0 (Some f.1.value) (ap (λ hs. get_elem? hs 0) f.1.home), subst (λ q. fit f.1.value q k.mine) (sym here) (f.1.fits id k at)))
       (λ (t : (n : ℕ) × (g.word ≡ n + 1) × IsHeldBy numbers fit p n s.homes s.views). let h = t.2 in dite (ℕ_discrete h.seat id)
-      (λ same. absurd (busy h.holder.stage h.value h.stage (ap (λ (x : Known S P M). x.stage) (same_pass s.views id h.holder k (subst (λ i. Knows s.views i h.holder) same h.there) at) ∙ rests)))
+      (λ same.
+      absurd (busy h.holder.stage h.value h.stage (ap (λ (x : Known S P M). x.stage)
+      (same_pass s.views id h.holder k (subst (λ i. Knows s.views i h.holder) same h.there) at) ∙ rests)))
       (λ other.
-      let listed = g.orderly.listed id h.seat _ _ (at_map (card numbers) s.views id (Live k) at) (at_map (card numbers) s.views h.seat (Live h.holder) h.there) (λ z. other (sym z)) own in
+      let listed = g.orderly.listed id h.seat _ _ (at_map (card numbers) s.views id (Live k) at) (at_map (card numbers) s.views h.seat (Live h.holder) h.there)
+      (λ z. other (sym z)) own in
       let listed' : Lists [] (numbers h.holder.mine).own = subst (λ l. Lists l (numbers h.holder.mine).own) none_given listed in
       absurd (none_some (numbers h.holder.mine).own listed'.1)))
       (turned numbers fit p s g)

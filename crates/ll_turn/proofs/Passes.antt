@@ -20,7 +20,8 @@ module _ {S : Type 0} where
   resting_stage (Holds y) cs c b = absurd (cc)
   resting_stage (Notes y) cs c b = absurd c
 
-  pub holding_stage : (st : Stage S) (cs : List (ℕ × Option S)) (F : S → Type 0) → Carries st cs → IsSomeAnd (before_of st) F → (b : S) × (st ≡ Holds b) × (cs ≡ (0, None) ∷ []) × F b
+  pub holding_stage : (st : Stage S) (cs : List (ℕ × Option S)) (F : S → Type 0) → Carries st cs → IsSomeAnd (before_of st) F
+      → (b : S) × (st ≡ Holds b) × (cs ≡ (0, None) ∷ []) × F b
   holding_stage Rests cs F c b = absurd b
   holding_stage (Holds y) cs F c b = (y, refl, c, b)
   holding_stage (Notes y) cs F c b = absurd c
@@ -44,7 +45,8 @@ module _ {S P M : Type 0} where
     pub runs : Runs numbers m number least
     pub is : seen z runs.pass ≡ s
 
-  abbrev pub is_seen : {numbers : M → Numbers} {m : Hand S P M} {number least : ℕ} {s : Sight S P M} (z : TableId) (runs : Runs numbers m number least) (e : is_live m.0 ≡ true) → sight z m.0 e ≡ s
+  abbrev pub is_seen : {numbers : M → Numbers} {m : Hand S P M} {number least : ℕ} {s : Sight S P M} (z : TableId) (runs : Runs numbers m number least)
+      (e : is_live m.0 ≡ true) → sight z m.0 e ≡ s
       → IsSeen numbers m number least z s
   is_seen {m = m} z runs e is = record { runs = runs; is = sym (sight_is z m.0 e runs.pass runs.lives) ∙ is }
 
@@ -71,34 +73,40 @@ module _ {S P M : Type 0} where
         low = pass.runs.low;
       }
 
-      pub took_sight : (b : s.before ≡ None) → TakesOut fit m y m' → (z' : TableId) → z' ≡ z → (e' : is_live m'.0 ≡ true) → sight z' m'.0 e' ≡ record s { before = Some y }
+      pub took_sight : (b : s.before ≡ None) → TakesOut fit m y m' → (z' : TableId) → z' ≡ z → (e' : is_live m'.0 ≡ true)
+          → sight z' m'.0 e' ≡ record s { before = Some y }
       took_sight b t z' table e' = let r = rests b in let k = pass.runs.pass in let n = t k r.1 in
           ap (λ x. sight x m'.0 e') table
-          ∙ (sight_is z m'.0 e' (record { problem = k.problem; mine = k.mine; stage = Holds y; given = k.given }) (ap (λ (x : Hand S P M). x.0) n.0) ∙ ap (λ (x : Sight S P M). record x { before = Some y }) pass.is)
+          ∙ (sight_is z m'.0 e' (record { problem = k.problem; mine = k.mine; stage = Holds y; given = k.given }) (ap (λ (x : Hand S P M). x.0) n.0)
+          ∙ ap (λ (x : Sight S P M). record x { before = Some y }) pass.is)
 
       module _ (next : P → S → M → S → M) (keeps_numbers : KeepsNumbers numbers next)
           (lawful : P → S → M → S → Type 0) (may : IsSomeAnd s.before (λ b. lawful s.problem b s.mine y)) (gave : PutsBack fit next m y m') where
         abbrev pub after : Known S P M
-        after = let r = may_give lawful y may in let k = pass.runs.pass in record { problem = k.problem; mine = next k.problem r.1 k.mine y; stage = Rests; given = k.given }
+        after = let r = may_give lawful y may in let k = pass.runs.pass in
+            record { problem = k.problem; mine = next k.problem r.1 k.mine y; stage = Rests; given = k.given }
 
         pub gave_lives : m'.0 ≡ Live after
         gave_lives = let r = may_give lawful y may in ap (λ (x : Hand S P M). x.0) (gave pass.runs.pass r.1 r.2 r.3).0
 
         pub gave_runs : Runs numbers m' number least
-        gave_runs = let r = may_give lawful y may in let k = pass.runs.pass in let n = gave k r.1 r.2 r.3 in let same = keeps_numbers k.problem r.1 k.mine y in record {
-          pass = after;
-          lives = gave_lives;
-          carries = ap (λ (x : Hand S P M). x.1) n.0;
-          number_is = ap (λ (x : Numbers). x.own) same ∙ pass.runs.number_is;
-          least_is = subst (λ (x : Numbers). HasToGive x → x.from ≡ least) (sym same) pass.runs.least_is;
-          small = pass.runs.small;
-          low = subst (λ (x : Numbers). HasToGive x → x.end ≤ 4294967296) (sym same) pass.runs.low;
-        }
+        gave_runs = let r = may_give lawful y may in let k = pass.runs.pass in let n = gave k r.1 r.2 r.3 in let same = keeps_numbers k.problem r.1 k.mine y in
+            record {
+              pass = after;
+              lives = gave_lives;
+              carries = ap (λ (x : Hand S P M). x.1) n.0;
+              number_is = ap (λ (x : Numbers). x.own) same ∙ pass.runs.number_is;
+              least_is = subst (λ (x : Numbers). HasToGive x → x.from ≡ least) (sym same) pass.runs.least_is;
+              small = pass.runs.small;
+              low = subst (λ (x : Numbers). HasToGive x → x.end ≤ 4294967296) (sym same) pass.runs.low;
+            }
 
         pub gave_fits : (e' : is_live m'.0 ≡ true) → fit y (known m'.0 e').problem (known m'.0 e').mine
-        gave_fits e' = let r = may_give lawful y may in let n = gave pass.runs.pass r.1 r.2 r.3 in subst (λ (x : Known S P M). fit y x.problem x.mine) (sym (known_is m'.0 e' after gave_lives)) n.1
+        gave_fits e' = let r = may_give lawful y may in let n = gave pass.runs.pass r.1 r.2 r.3 in
+            subst (λ (x : Known S P M). fit y x.problem x.mine) (sym (known_is m'.0 e' after gave_lives)) n.1
 
-module _ {S P M : Type 0} {numbers : M → Numbers} {m : Hand S P M} {number least : ℕ} {z : TableId} {s : Sight S P M} (pass : IsSeen numbers m number least z s) (b : s.before ≡ None) where
+module _ {S P M : Type 0} {numbers : M → Numbers} {m : Hand S P M} {number least : ℕ} {z : TableId} {s : Sight S P M} (pass : IsSeen numbers m number least z s)
+    (b : s.before ≡ None) where
   abbrev pub at_rest : IsResting numbers m number
   at_rest = rests pass b
 
@@ -109,7 +117,8 @@ module _ {S P M : Type 0} {numbers : M → Numbers} {m : Hand S P M} {number lea
   same_given = ap (λ (x : Sight S P M). x.given) pass.is
 
   -- a pass that joined another runs on with its own numbers
-  pub runs_joined : {number' least' : ℕ} {o : Hand S P M} (other : Runs numbers o number' least') (m' : Hand S P M) → m' ≡ (taken_back numbers m.0 o.0, m.1) → Runs numbers m' number least
+  pub runs_joined : {number' least' : ℕ} {o : Hand S P M} (other : Runs numbers o number' least') (m' : Hand S P M) → m' ≡ (taken_back numbers m.0 o.0, m.1)
+      → Runs numbers m' number least
   runs_joined other m' is =
       let k = pass.runs.pass in record {
         pass = record { problem = k.problem; mine = k.mine; stage = k.stage; given = without (numbers other.pass.mine).own k.given };
@@ -176,4 +185,5 @@ module _ {S P M : Type 0} (numbers : M → Numbers) (p : P) (mine : M) (me : Han
   }
 
   pub first_numbers : (e : is_live me.0 ≡ true) → IsFirst (numbers mine) → me ≡ (live p mine Rests [], []) → IsFirst (numbers (known me.0 e).mine)
-  first_numbers e first is = subst (λ (k : Known S P M). IsFirst (numbers k.mine)) (sym (known_is me.0 e (record { problem = p; mine = mine; stage = Rests; given = [] }) (ap (λ (x : Hand S P M). x.0) is))) first
+  first_numbers e first is = subst (λ (k : Known S P M). IsFirst (numbers k.mine))
+      (sym (known_is me.0 e (record { problem = p; mine = mine; stage = Rests; given = [] }) (ap (λ (x : Hand S P M). x.0) is))) first

@@ -8,5 +8,6 @@ pub turn_gives : {S P M : Type 0} (next : P → S → M → S → M) (s taken gi
     → IfSome taken.before (λ before. given ≡ record taken { mine = next taken.problem before taken.mine left; before = None })
     → given ≡ record s { mine = next s.problem found s.mine left }
 turn_gives next s taken given found left rests takes gives =
-    let gave : given ≡ record s { mine = next s.problem found s.mine left; before = None } = subst (λ (t : Sight _ _ _). IfSome t.before (λ before. given ≡ record t { mine = next t.problem before t.mine left; before = None })) takes gives in
+    let gave : given ≡ record s { mine = next s.problem found s.mine left; before = None } =
+    subst (λ (t : Sight _ _ _). IfSome t.before (λ before. given ≡ record t { mine = next t.problem before t.mine left; before = None })) takes gives in
     gave ∙ (λ i. record s { mine = next s.problem found s.mine left; before = sym rests i })

@@ -28,17 +28,21 @@ start-table nodes t ls h = table-unbound nodes (table_of t) (h.count ∙ sym (ap
 pub start-bound : (nodes : Nodes) (t : KeptTable) (ls : List ℕ) → IsStart t ls → BindsPlaces nodes (table_of t)
 start-bound nodes t ls h x at e = let f : None ≡ Some at = sym (h.free x) ∙ e in cc
 
-levelled-at : (nodes : Nodes) (n : ℕ) (ats : List At) (k : ℕ) (d : At) → list_all (vars_below n) (term_trees nodes ats) ≡ true → k < length ats → vars_below n (term_tree nodes (get_or ats k d).0) ≡ true
+levelled-at : (nodes : Nodes) (n : ℕ) (ats : List At) (k : ℕ) (d : At) → list_all (vars_below n) (term_trees nodes ats) ≡ true → k < length ats
+    → vars_below n (term_tree nodes (get_or ats k d).0) ≡ true
 levelled-at nodes n [] k d h l = absurd (omega arith)
 levelled-at nodes n (a ∷ ats) zero d h l = and_left (vars_below n (term_tree nodes a.0)) (list_all (vars_below n) (term_trees nodes ats)) h
-levelled-at nodes n (a ∷ ats) (suc k) d h l = levelled-at nodes n ats k d (and_right (vars_below n (term_tree nodes a.0)) (list_all (vars_below n) (term_trees nodes ats)) h) (omega arith)
+levelled-at nodes n (a ∷ ats) (suc k) d h l = levelled-at nodes n ats k d
+    (and_right (vars_below n (term_tree nodes a.0)) (list_all (vars_below n) (term_trees nodes ats)) h) (omega arith)
 
 -- terms whose variables have levels
-pub start-places : (nodes : Nodes) (t : KeptTable) (ls : List ℕ) (ats : List At) → IsStart t ls → AllInTerms nodes ats → list_all (vars_below (length ls)) (term_trees nodes ats) ≡ true
+pub start-places : (nodes : Nodes) (t : KeptTable) (ls : List ℕ) (ats : List At) → IsStart t ls → AllInTerms nodes ats
+    → list_all (vars_below (length ls)) (term_trees nodes ats) ≡ true
     → All (λ (at : At). IsPlaceOf nodes (table_of t) at.0) ats
 start-places nodes t ls ats h i b k d l =
     place-below nodes (table_of t) (get_or ats k d).0 (start-table nodes t ls h) (i k d l)
-    (ap (vars_below (count (table_of t))) (same (term_tree nodes (get_or ats k d).0)) ∙ levelled-at nodes (count (table_of t)) ats k d (subst (λ ks. list_all (vars_below (length ks)) (term_trees nodes ats) ≡ true) (sym h.levels) b) l)
+    (ap (vars_below (count (table_of t))) (same (term_tree nodes (get_or ats k d).0))
+    ∙ levelled-at nodes (count (table_of t)) ats k d (subst (λ ks. list_all (vars_below (length ks)) (term_trees nodes ats) ≡ true) (sym h.levels) b) l)
   where
     same : (u : Term) → sub (found nodes (table_of t)) u ≡ u
     same u = sub_same (found nodes (table_of t)) Var (λ x. found-free nodes (table_of t) x (h.free x)) u ∙ sub_id u
@@ -50,10 +54,12 @@ start-wanted nodes t levels ls rs h = wanted-start nodes (table_of t) ls rs h.fr
 -- ---- the end
 
 -- what the answer shows is what the bindings say
-answer-shows : (nodes new : Nodes) (t : Table) (u : Subst) → IsTable nodes t → AreFinal nodes new t (count t) u.bound.items → (x : ℕ) → shown new x (get_or u.bound.items x None) ≡ found nodes t x
+answer-shows : (nodes new : Nodes) (t : Table) (u : Subst) → IsTable nodes t → AreFinal nodes new t (count t) u.bound.items → (x : ℕ)
+    → shown new x (get_or u.bound.items x None) ≡ found nodes t x
 answer-shows nodes new t u tb h x = elim (cases_lt x (count t)) [
   | inl l ↦ inside (cell t x) (get_or u.bound.items x None) refl (h.each x l)
-  | inr l ↦ ap (shown new x) (get_or-eq_default u.bound.items None {n = x} (let e = h.size in omega arith)) ∙ sym (found-free nodes t x (get_or-eq_default t.bound None {n = x} (let e = tb.bound in omega arith)))
+  | inr l ↦ ap (shown new x) (get_or-eq_default u.bound.items None {n = x} (let e = h.size in omega arith))
+      ∙ sym (found-free nodes t x (get_or-eq_default t.bound None {n = x} (let e = tb.bound in omega arith)))
 ]
   where
     inside : (to o : Option At) → cell t x ≡ to → IsFinal new (found nodes t x) to o → shown new x o ≡ found nodes t x
@@ -62,7 +68,8 @@ answer-shows nodes new t u tb h x = elim (cases_lt x (count t)) [
     inside (Some a) None c f = absurd f
     inside (Some a) (Some b) c f = f.tree
 
-pub answer-entries : (nodes new : Nodes) (t : Table) (u : Subst) (n : ℕ) → IsTable nodes t → count t ≡ n → AreFinal nodes new t (count t) u.bound.items → HasEntries new n u
+pub answer-entries : (nodes new : Nodes) (t : Table) (u : Subst) (n : ℕ) → IsTable nodes t → count t ≡ n → AreFinal nodes new t (count t) u.bound.items
+    → HasEntries new n u
 answer-entries nodes new t u n tb c h = record {
   count = h.size ∙ c;
   each = λ x l. inside x (cell t x) (get_or u.bound.items x None) refl (h.each x (let e = c in omega arith));
@@ -80,12 +87,14 @@ answer-entries nodes new t u n tb c h = record {
     )
 
 -- the answer, as trees, is what is asked for
-pub answer-exact : (nodes new : Nodes) (old t : Table) (u : Subst) (goal : Option Solved) → IsAnswer nodes old t goal → AreFinal nodes new t (count t) u.bound.items → u.levels.items ≡ t.levels → Some (solved_of new u) ≡ goal
+pub answer-exact : (nodes new : Nodes) (old t : Table) (u : Subst) (goal : Option Solved) → IsAnswer nodes old t goal
+    → AreFinal nodes new t (count t) u.bound.items → u.levels.items ≡ t.levels → Some (solved_of new u) ≡ goal
 answer-exact nodes new old t u goal a h l =
     (λ i. Some (record { subst = λ x. answer-shows nodes new t u a.table h x i; levels = l i })) ∙ sym a.is
 
 -- what is exact is best
-pub exact-best : (ls rs : List Term) (levels : List ℕ) (o : Option Solved) → list_all (vars_below (length levels)) ls ≡ true → list_all (vars_below (length levels)) rs ≡ true → o ≡ mgu ls rs levels → IsBest ls rs levels o
+pub exact-best : (ls rs : List Term) (levels : List ℕ) (o : Option Solved) → list_all (vars_below (length levels)) ls ≡ true
+    → list_all (vars_below (length levels)) rs ≡ true → o ≡ mgu ls rs levels → IsBest ls rs levels o
 exact-best ls rs levels None a b e = λ s new u. none-unifier ls rs levels s new a b (sym e) u
 exact-best ls rs levels (Some v) a b e = record {
   unifier = found-unifier ls rs levels v a b (sym e);

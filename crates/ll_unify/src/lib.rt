@@ -43,9 +43,11 @@ pub fn mgu(
     requires pairs { length left.now ≡ length right.now }
     requires left_levels { list_all (vars_below (length levels.now)) (term_trees bank.old left.now) ≡ true }
     requires right_levels { list_all (vars_below (length levels.now)) (term_trees bank.old right.now) ≡ true }
-    ensures exact { IfOk result (λ answer. option_map (solved_of bank.new) answer ≡ mgu (term_trees bank.old left.now) (term_trees bank.old right.now) levels.now) }
+    ensures exact { IfOk result (λ answer. option_map (solved_of bank.new) answer
+        ≡ mgu (term_trees bank.old left.now) (term_trees bank.old right.now) levels.now) }
     ensures entries { IfOk result (λ answer. IfSome answer (HasEntries bank.new (length levels.now))) }
-    ensures best { IfOk result (λ answer. IsBest (term_trees bank.old left.now) (term_trees bank.old right.now) levels.now (option_map (solved_of bank.new) answer)) }
+    ensures best { IfOk result (λ answer. IsBest (term_trees bank.old left.now) (term_trees bank.old right.now) levels.now
+        (option_map (solved_of bank.new) answer)) }
     ensures keeps { Extends bank.old bank.new }
 {
     let mut table = Table::new(alloc, levels)?;

@@ -14,7 +14,8 @@ cut_below : (a : ℕ) → a ≤ 18446744073709551615 → cut_count a ≡ a
 cut_below a h = min-eq_left h
 
 pub from_same : (a b : ℕ) → Same a b → cut_count a ≡ cut_count b
-from_same a b h = ⊎_elim (λ (e : a ≡ b). ap cut_count e) (λ (l : (18446744073709551615 ≤ a) × (18446744073709551615 ≤ b)). cut_most a l.0 ∙ sym (cut_most b l.1)) h
+from_same a b h = ⊎_elim (λ (e : a ≡ b). ap cut_count e) (λ (l : (18446744073709551615 ≤ a) × (18446744073709551615 ≤ b)). cut_most a l.0
+    ∙ sym (cut_most b l.1)) h
 
 pub same_from : (a b : ℕ) → cut_count a ≡ cut_count b → Same a b
 same_from a b e = ⊎_elim
@@ -40,4 +41,6 @@ cut_sum a b c d e f = from_same (a + b) (c + d) (⊎_elim
 
 -- cutting twice is cutting once
 pub cut_twice : (a : ℕ) → cut_count (cut_count a) ≡ cut_count a
-cut_twice a = ⊎_elim (λ (l : a < 18446744073709551615). ap cut_count (cut_below a (omega arith))) (λ (l : 18446744073709551615 ≤ a). ap cut_count (cut_most a l) ∙ (cut_most 18446744073709551615 (omega arith) ∙ sym (cut_most a l))) (cases_lt a 18446744073709551615)
+cut_twice a = ⊎_elim (λ (l : a < 18446744073709551615). ap cut_count (cut_below a (omega arith)))
+    (λ (l : 18446744073709551615 ≤ a). ap cut_count (cut_most a l) ∙ (cut_most 18446744073709551615 (omega arith) ∙ sym (cut_most a l)))
+    (cases_lt a 18446744073709551615)

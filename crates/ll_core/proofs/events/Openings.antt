@@ -30,7 +30,8 @@ module _ {N E : Type 0} (alternatives : N → List (Owed E)) where
     one_open = λ i j x y e g o q w. absurd (none_not_some x e);
   }
 
-  pub opening_sound : {Of : Type 0} (of : N → Of) (root : N) (workers : ℕ) (pair : Owed E) → alternatives root ≡ pair ∷ [] → Sound of alternatives (opening root workers) (of root) pair
+  pub opening_sound : {Of : Type 0} (of : N → Of) (root : N) (workers : ℕ) (pair : Owed E) → alternatives root ≡ pair ∷ []
+      → Sound of alternatives (opening root workers) (of root) pair
   opening_sound of root workers pair e = record {
     shape = opening_shape root workers (ap length e);
     root = ap Some e;

@@ -1,5 +1,6 @@
 -- Lists of pieces: one more, or one changed.
-use Rattle.std.proofs.Common.{◌≡◌, ◌⊎◌, ℕ, zero, suc, ◌<◌, List, [], ◌∷◌, ◌++◌, Bool, true, false, length, refl, sym, ap, ◌∙◌, ⊎_elim, inl, inr, arith, eqb, Some, None}
+use Rattle.std.proofs.Common.{◌≡◌, ◌⊎◌, ℕ, zero, suc, ◌<◌, List, [], ◌∷◌, ◌++◌, Bool, true, false, length, refl, sym, ap, ◌∙◌, ⊎_elim, inl, inr, arith, eqb}
+use Rattle.std.proofs.Common.{Some, None}
 use Rattle.std.specs.Prelude.{flat_map, slice_get, find, cond}
 use Rattle.std.proofs.lemmas.Bool.{eqb-true, eq-eqb, cases_Bool, and_parts, and_from, cond-true, cond-false}
 use Rattle.ll_lists.proofs.CallerLemmas.{some_is, none_not_some}
@@ -21,7 +22,8 @@ module _ {X : Type 0} where
   get_snoc [] y zero x e = inr (refl, some_is x y (sym e))
   get_snoc [] y (suc i) x e = absurd (none_not_some x e)
   get_snoc (z ∷ xs) y zero x e = inl e
-  get_snoc (z ∷ xs) y (suc i) x e = ⊎_elim (λ (h : slice_get xs i ≡ Some x). inl h) (λ (h : (i ≡ length xs) × (x ≡ y)). inr (ap suc h.0, h.1)) (get_snoc xs y i x e)
+  get_snoc (z ∷ xs) y (suc i) x e = ⊎_elim (λ (h : slice_get xs i ≡ Some x). inl h) (λ (h : (i ≡ length xs) × (x ≡ y)). inr (ap suc h.0, h.1))
+      (get_snoc xs y i x e)
 
   pub get_below : (xs : List X) (i : ℕ) (x : X) → slice_get xs i ≡ Some x → i < length xs
   get_below [] i x e = absurd (none_not_some x e)
@@ -33,9 +35,11 @@ module _ {X : Type 0} where
   Changed f i j x y = ((j ≡ i) × (y ≡ f x)) ⊎ ((j ≡ i → ⊥) × (y ≡ x))
 
   suc_changed : (f : X → X) (i j : ℕ) (x y : X) → Changed f i j x y → Changed f (suc i) (suc j) x y
-  suc_changed f i j x y c = ⊎_elim (λ (h : (j ≡ i) × (y ≡ f x)). inl (ap suc h.0, h.1)) (λ (h : (j ≡ i → ⊥) × (y ≡ x)). inr ((λ e. h.0 (let e' : suc j ≡ suc i = e in omega arith)), h.1)) c
+  suc_changed f i j x y c = ⊎_elim (λ (h : (j ≡ i) × (y ≡ f x)). inl (ap suc h.0, h.1))
+      (λ (h : (j ≡ i → ⊥) × (y ≡ x)). inr ((λ e. h.0 (let e' : suc j ≡ suc i = e in omega arith)), h.1)) c
 
-  pub change_get : (i : ℕ) (f : X → X) (xs : List X) (j : ℕ) (y : X) → slice_get (change i f xs) j ≡ Some y → (x : X) × (slice_get xs j ≡ Some x) × Changed f i j x y
+  pub change_get : (i : ℕ) (f : X → X) (xs : List X) (j : ℕ) (y : X) → slice_get (change i f xs) j ≡ Some y
+      → (x : X) × (slice_get xs j ≡ Some x) × Changed f i j x y
   change_get zero f [] j y e = absurd (none_not_some y e)
   change_get (suc i) f [] j y e = absurd (none_not_some y e)
   change_get zero f (x ∷ xs) zero y e = (x, refl, inl (refl, some_is y (f x) (sym e)))
@@ -63,7 +67,8 @@ module _ {X : Type 0} where
   length-change zero f (y ∷ xs) = refl
   length-change (suc i) f (y ∷ xs) = ap suc (length-change i f xs)
 
-  pub flat_change_same : {A : Type 0} (g : X → List A) (i : ℕ) (f : X → X) (xs : List X) → ((x : X) → g (f x) ≡ g x) → flat_map g (change i f xs) ≡ flat_map g xs
+  pub flat_change_same : {A : Type 0} (g : X → List A) (i : ℕ) (f : X → X) (xs : List X) → ((x : X) → g (f x) ≡ g x)
+      → flat_map g (change i f xs) ≡ flat_map g xs
   flat_change_same g zero f [] h = refl
   flat_change_same g (suc i) f [] h = refl
   flat_change_same g zero f (y ∷ xs) h = ap (λ l. l ++ flat_map g xs) (h y)
@@ -78,7 +83,8 @@ module _ {X : Type 0} where
   find_only p (y ∷ xs) zero x e t only = cond-true (p y) (Some y) (find p xs) (ap p (some_is y x e) ∙ t) ∙ e
   find_only p (y ∷ xs) (suc i) x e t only = ⊎_elim
       (λ (h : p y ≡ true). absurd (let z : suc i ≡ 0 = only 0 y refl h in omega arith))
-      (λ (h : p y ≡ false). cond-false (p y) (Some y) (find p xs) h ∙ find_only p xs i x e t (λ j z g u. let s : suc i ≡ suc j = only (suc j) z g u in omega arith))
+      (λ (h : p y ≡ false). cond-false (p y) (Some y) (find p xs) h
+      ∙ find_only p xs i x e t (λ j z g u. let s : suc i ≡ suc j = only (suc j) z g u in omega arith))
       (cases_Bool (p y))
 
   pub find_some : (p : X → Bool) (xs : List X) (x : X) → find p xs ≡ Some x → (i : ℕ) × (slice_get xs i ≡ Some x) × (p x ≡ true)
@@ -92,10 +98,12 @@ module _ {X : Type 0} where
   find_none p [] h = refl
   find_none p (y ∷ xs) h = cond-false (p y) (Some y) (find p xs) (h 0 y refl) ∙ find_none p xs (λ i x e. h (suc i) x e)
 
-  pub find_change_other : (p : X → Bool) (i : ℕ) (f : X → X) (xs : List X) → ((x : X) → slice_get xs i ≡ Some x → (p x ≡ false) × (p (f x) ≡ false)) → find p (change i f xs) ≡ find p xs
+  pub find_change_other : (p : X → Bool) (i : ℕ) (f : X → X) (xs : List X) → ((x : X) → slice_get xs i ≡ Some x → (p x ≡ false) × (p (f x) ≡ false))
+      → find p (change i f xs) ≡ find p xs
   find_change_other p zero f [] h = refl
   find_change_other p (suc i) f [] h = refl
-  find_change_other p zero f (y ∷ xs) h = let t = h y refl in cond-false (p (f y)) (Some (f y)) (find p xs) t.1 ∙ sym (cond-false (p y) (Some y) (find p xs) t.0)
+  find_change_other p zero f (y ∷ xs) h = let t = h y refl in
+      cond-false (p (f y)) (Some (f y)) (find p xs) t.1 ∙ sym (cond-false (p y) (Some y) (find p xs) t.0)
   find_change_other p (suc i) f (y ∷ xs) h = ap (λ r. cond (p y) (Some y) r) (find_change_other p i f xs h)
 
   pub find_snoc_other : (p : X → Bool) (xs : List X) (y : X) → p y ≡ false → find p (xs ++ y ∷ []) ≡ find p xs
@@ -113,8 +121,11 @@ module _ {E : Type 0} where
   is_of_from a x b k = and_from (eqb a.batch x.batch) (eqb a.k x.k) (eq-eqb a.batch x.batch (sym b)) (eq-eqb a.k x.k (sym k))
 
   -- with no two pieces at one alternative, the piece of an alternative is the one that names it
-  pub found : (pieces : List (Piece E)) → Apart pieces → (i : ℕ) (x : Piece E) (a : Alternative) → slice_get pieces i ≡ Some x → x.batch ≡ a.batch → x.k ≡ a.k → piece_of pieces a ≡ Some x
-  found pieces apart i x a e b k = find_only (is_of a) pieces i x e (is_of_from a x b k) (λ j y g t. let h = is_of_parts a y t in apart i j x y e g (b ∙ sym h.0) (k ∙ sym h.1))
+  pub found : (pieces : List (Piece E)) → Apart pieces → (i : ℕ) (x : Piece E) (a : Alternative) → slice_get pieces i ≡ Some x → x.batch ≡ a.batch → x.k ≡ a.k
+      → piece_of pieces a ≡ Some x
+  found pieces apart i x a e b k = find_only (is_of a) pieces i x e (is_of_from a x b k) (λ j y g t. let h = is_of_parts a y t in
+      apart i j x y e g (b ∙ sym h.0) (k ∙ sym h.1))
 
-  pub lookup : (pieces : List (Piece E)) (a : Alternative) (x : Piece E) → piece_of pieces a ≡ Some x → (i : ℕ) × (slice_get pieces i ≡ Some x) × (x.batch ≡ a.batch) × (x.k ≡ a.k)
+  pub lookup : (pieces : List (Piece E)) (a : Alternative) (x : Piece E) → piece_of pieces a ≡ Some x
+      → (i : ℕ) × (slice_get pieces i ≡ Some x) × (x.batch ≡ a.batch) × (x.k ≡ a.k)
   lookup pieces a x e = let h = find_some (is_of a) pieces x e in let t = is_of_parts a x h.2 in (h.0, h.1, t.0, t.1)

@@ -1,5 +1,6 @@
 -- The stack of `ready`: one step, and a batch more.
-use Rattle.std.proofs.Common.{◌≡◌, ℕ, zero, suc, ◌+◌, ◌-◌, ◌<◌, ◌≤◌, List, [], ◌∷◌, ◌++◌, map, refl, sym, ap, ◌∙◌, ⊎_elim, arith, append_assoc, append-nil, if◌then◌else◌}
+use Rattle.std.proofs.Common.{◌≡◌, ℕ, zero, suc, ◌+◌, ◌-◌, ◌<◌, ◌≤◌, List, [], ◌∷◌, ◌++◌, map, refl, sym, ap, ◌∙◌, ⊎_elim, arith, append_assoc, append-nil}
+use Rattle.std.proofs.Common.{if◌then◌else◌}
 use Rattle.std.specs.Prelude.{flat_map}
 use Rattle.std.proofs.lemmas.Bool.{cases_lt, lt-ltb, le-ltb}
 use Rattle.ll_laws.specs.Pool.{Alternative}
@@ -31,12 +32,15 @@ module _ (kids : ℕ → ℕ → List ℕ) (len : ℕ → ℕ) (n : ℕ) (ends :
   walk_enough (suc deep) (suc deep') b h h' =
       flat_numbers (walk_alternative kids (walk_deep kids len deep) b) (walk_alternative kids (walk_deep kids len deep') b) 0 (len b) (λ k p q.
       ap (λ l. record { batch = b; k = k } ∷ l) (last_first_same (walk_deep kids len deep) (walk_deep kids len deep') (kids b k)
-      (every_more (λ c. b < c) (λ c. walk_deep kids len deep c ≡ walk_deep kids len deep' c) (kids b k) (λ c more. walk_enough deep deep' c (omega arith) (omega arith)) (up b k (omega arith)))))
+      (every_more (λ c. b < c) (λ c. walk_deep kids len deep c ≡ walk_deep kids len deep' c) (kids b k)
+      (λ c more. walk_enough deep deep' c (omega arith) (omega arith)) (up b k (omega arith)))))
 
   pub rest_begin : (c : ℕ) → rest kids len n (begin c) ≡ walk_deep kids len n c
-  rest_begin c = let z : len c - 0 ≡ len c = omega arith in ap (λ l. flat_map (walk_alternative kids (walk_deep kids len n) c) (numbers 0 l)) z ∙ walk_enough (suc n) n c (omega arith) (omega arith)
+  rest_begin c = let z : len c - 0 ≡ len c = omega arith in ap (λ l. flat_map (walk_alternative kids (walk_deep kids len n) c) (numbers 0 l)) z
+      ∙ walk_enough (suc n) n c (omega arith) (omega arith)
 
-  rest_step : (e : Alternative) → e.k < len e.batch → rest kids len n e ≡ e ∷ (last_first (walk_deep kids len n) (kids e.batch e.k) ++ rest kids len n (record { batch = e.batch; k = e.k + 1 }))
+  rest_step : (e : Alternative) → e.k < len e.batch → rest kids len n e ≡ e
+      ∷ (last_first (walk_deep kids len n) (kids e.batch e.k) ++ rest kids len n (record { batch = e.batch; k = e.k + 1 }))
   rest_step e low =
       let z : len e.batch - e.k ≡ suc (len e.batch - (e.k + 1)) = omega arith in
       let y : suc e.k ≡ e.k + 1 = omega arith in
@@ -45,18 +49,21 @@ module _ (kids : ℕ → ℕ → List ℕ) (len : ℕ → ℕ) (n : ℕ) (ends :
 
   next_is : (e : Alternative) → last_first (rest kids len n) (next_of len e) ≡ rest kids len n (record { batch = e.batch; k = e.k + 1 })
   next_is e = ⊎_elim
-      (λ (h : e.k + 1 < len e.batch). ap (λ t. last_first (rest kids len n) (if t then record { batch = e.batch; k = e.k + 1 } ∷ [] else [])) (lt-ltb (e.k + 1) (len e.batch) h))
+      (λ (h : e.k + 1 < len e.batch). ap (λ t. last_first (rest kids len n) (if t then record { batch = e.batch; k = e.k + 1 } ∷ [] else []))
+      (lt-ltb (e.k + 1) (len e.batch) h))
       (λ (h : len e.batch ≤ e.k + 1). let z : len e.batch - (e.k + 1) ≡ 0 = omega arith in
       ap (λ t. last_first (rest kids len n) (if t then record { batch = e.batch; k = e.k + 1 } ∷ [] else [])) (le-ltb (e.k + 1) (len e.batch) h)
       ∙ sym (ap (λ l. flat_map (walk_alternative kids (walk_deep kids len n) e.batch) (numbers (e.k + 1) l)) z))
       (cases_lt (e.k + 1) (len e.batch))
 
   -- the top is the next in walk order; after it come its batches, the last first, and then the rest of its own batch
-  pub stack_step : (base : List Alternative) (e : Alternative) → e.k < len e.batch → last_first (rest kids len n) (base ++ e ∷ []) ≡ e ∷ last_first (rest kids len n) ((base ++ next_of len e) ++ map begin (kids e.batch e.k))
+  pub stack_step : (base : List Alternative) (e : Alternative) → e.k < len e.batch
+      → last_first (rest kids len n) (base ++ e ∷ []) ≡ e ∷ last_first (rest kids len n) ((base ++ next_of len e) ++ map begin (kids e.batch e.k))
   stack_step base e low =
       let r : Alternative → List Alternative = rest kids len n in
       let below : last_first r (map begin (kids e.batch e.k)) ≡ last_first (walk_deep kids len n) (kids e.batch e.k) =
-      last_first-map r begin (kids e.batch e.k) ∙ last_first_same (λ c. r (begin c)) (walk_deep kids len n) (kids e.batch e.k) (every_all (λ c. r (begin c) ≡ walk_deep kids len n c) rest_begin (kids e.batch e.k)) in
+      last_first-map r begin (kids e.batch e.k) ∙ last_first_same (λ c. r (begin c)) (walk_deep kids len n) (kids e.batch e.k)
+      (every_all (λ c. r (begin c) ≡ walk_deep kids len n c) rest_begin (kids e.batch e.k)) in
       last_first_snoc r base e
       ∙ (ap (λ l. l ++ last_first r base) (rest_step e low)
       ∙ ap (λ l. e ∷ l) (append_assoc (last_first (walk_deep kids len n) (kids e.batch e.k)) (r (record { batch = e.batch; k = e.k + 1 })) (last_first r base)

@@ -1,5 +1,6 @@
 -- What `ready` finds on top of its stack.
-use Rattle.std.proofs.Common.{◌≡◌, ℕ, zero, suc, ◌+◌, ◌-◌, ◌<◌, ◌≤◌, List, [], ◌∷◌, ◌++◌, true, false, length, map, refl, sym, ap, ◌∙◌, subst, ⊎_elim, arith, Some, None, get_or}
+use Rattle.std.proofs.Common.{◌≡◌, ℕ, zero, suc, ◌+◌, ◌-◌, ◌<◌, ◌≤◌, List, [], ◌∷◌, ◌++◌, true, false, length, map, refl, sym, ap, ◌∙◌, subst, ⊎_elim, arith}
+use Rattle.std.proofs.Common.{Some, None, get_or}
 use Rattle.std.specs.Prelude.{slice_get, slice_index}
 use Rattle.std.proofs.lemmas.Bool.{cases_Bool, true≢false}
 use Rattle.std.proofs.lemmas.List.{get_or_default, map_push, length-append, length-map}
@@ -33,10 +34,12 @@ open_left Taken t h = absurd (true≢false t)
 
 weight_in : (pieces : List (Piece Event)) (i : ℕ) (x : Piece Event) → slice_get pieces i ≡ Some x → weight x ≤ untaken pieces
 weight_in [] i x e = absurd (none_not_some x e)
-weight_in (y ∷ pieces) zero x e = let h : weight y ≡ weight x = ap weight (some_is y x e) in let c : untaken (y ∷ pieces) ≡ weight y + untaken pieces = refl in omega arith
+weight_in (y ∷ pieces) zero x e = let h : weight y ≡ weight x = ap weight (some_is y x e) in let c : untaken (y ∷ pieces) ≡ weight y + untaken pieces = refl in
+    omega arith
 weight_in (y ∷ pieces) (suc i) x e = let h = weight_in pieces i x e in let c : untaken (y ∷ pieces) ≡ weight y + untaken pieces = refl in omega arith
 
-module _ {N : Type 0} (alternatives : N → List (Owed Event)) (v : PoolData N Event) (waiting : List (Waiting N)) (starts : List ℕ) (stops : List Stop) (capacity stack_capacity : ℕ) (h : Whole alternatives v waiting starts (map stop_in stops) capacity stack_capacity)
+module _ {N : Type 0} (alternatives : N → List (Owed Event)) (v : PoolData N Event) (waiting : List (Waiting N)) (starts : List ℕ) (stops : List Stop)
+    (capacity stack_capacity : ℕ) (h : Whole alternatives v waiting starts (map stop_in stops) capacity stack_capacity)
     (stop : Stop) (e : slice_get stops (length stops - 1) ≡ Some stop) where
   pub base_of : (base : List Stop) × (stops ≡ base ++ stop ∷ [])
   base_of = last_split stops stop e
@@ -58,13 +61,16 @@ module _ {N : Type 0} (alternatives : N → List (Owed Event)) (v : PoolData N E
 
   pub number_below : slice_index starts stop.batch + stop.k < length v.pieces + length waiting
   number_below =
-      let l = get_below (map place_of v.pieces ++ map (λ (w : Waiting N). place_in w) waiting) (slice_index starts stop.batch + stop.k) (stop_in stop) number_at in
-      let a = length-append (map place_of v.pieces) (map (λ (w : Waiting N). place_in w) waiting) in let b = length-map v.pieces place_of in let c = length-map waiting (λ (w : Waiting N). place_in w) in omega arith
+      let l = get_below (map place_of v.pieces ++ map (λ (w : Waiting N). place_in w) waiting) (slice_index starts stop.batch + stop.k) (stop_in stop) number_at
+      in
+      let a = length-append (map place_of v.pieces) (map (λ (w : Waiting N). place_in w) waiting) in let b = length-map v.pieces place_of in
+      let c = length-map waiting (λ (w : Waiting N). place_in w) in omega arith
 
   pub is_next : Next alternatives v (stop_in stop)
   is_next = record {
     front = pointed.front;
-    back = last_first (rest (kids_of v.pieces) (length_of alternatives v) (length v.batches)) (after_top alternatives v h.shaped (map stop_in base_of.0) (stop_in stop) pointed (kids_of v.pieces stop.batch stop.k));
+    back = last_first (rest (kids_of v.pieces) (length_of alternatives v) (length v.batches))
+        (after_top alternatives v h.shaped (map stop_in base_of.0) (stop_in stop) pointed (kids_of v.pieces stop.batch stop.k));
     order = pointed.order ∙ ap (λ l. pointed.front ++ l) (step alternatives v h.shaped (map stop_in base_of.0) (stop_in stop) pointed);
     before = pointed.before;
     untaken = top_untaken alternatives v h.shaped (map stop_in base_of.0) (stop_in stop) pointed;
@@ -74,27 +80,33 @@ module _ {N : Type 0} (alternatives : N → List (Owed Event)) (v : PoolData N E
   not_there past = find_none (is_of (stop_in stop)) v.pieces (λ i x g. ⊎_elim
       (λ (t : is_of (stop_in stop) x ≡ true).
       let q = is_of_parts (stop_in stop) x t in
-      let here : slice_get (map place_of v.pieces ++ map (λ (w : Waiting N). place_in w) waiting) i ≡ Some (place_of x) = get_front (map place_of v.pieces) (map (λ (w : Waiting N). place_in w) waiting) i (place_of x) (get_map_at place_of v.pieces i x g) in
+      let here : slice_get (map place_of v.pieces ++ map (λ (w : Waiting N). place_in w) waiting) i ≡ Some (place_of x) =
+      get_front (map place_of v.pieces) (map (λ (w : Waiting N). place_in w) waiting) i (place_of x) (get_map_at place_of v.pieces i x g) in
       let same : Some (place_of x) ≡ Some (stop_in stop) = λ j. Some (record { batch = q.0 j; k = q.1 j }) in
       let z = h.formed.order.apart i (slice_index starts stop.batch + stop.k) (stop_in stop) (here ∙ same) number_at in
       let l = get_below v.pieces i x g in absurd (omega arith))
       (λ (t : is_of (stop_in stop) x ≡ false). t)
       (cases_Bool (is_of (stop_in stop) x)))
 
-  pub there : slice_index starts stop.batch + stop.k < length v.pieces → (x : Piece Event) × (slice_get v.pieces (slice_index starts stop.batch + stop.k) ≡ Some x) × (x.batch ≡ stop.batch) × (x.k ≡ stop.k)
+  pub there : slice_index starts stop.batch + stop.k < length v.pieces
+      → (x : Piece Event) × (slice_get v.pieces (slice_index starts stop.batch + stop.k) ≡ Some x) × (x.batch ≡ stop.batch) × (x.k ≡ stop.k)
   there low =
       let l = length-map v.pieces place_of in
-      let g = get_short (map place_of v.pieces) (map (λ (w : Waiting N). place_in w) waiting) (slice_index starts stop.batch + stop.k) (stop_in stop) (omega arith) number_at in
+      let g = get_short (map place_of v.pieces) (map (λ (w : Waiting N). place_in w) waiting) (slice_index starts stop.batch + stop.k) (stop_in stop)
+      (omega arith) number_at in
       let r = get_map place_of v.pieces (slice_index starts stop.batch + stop.k) (stop_in stop) g in
       (r.0, r.1, ap (λ (a : Alternative). a.batch) r.2, ap (λ (a : Alternative). a.k) r.2)
 
   pub top_status : (i : ℕ) (x : Piece Event) → slice_get v.pieces i ≡ Some x → x.batch ≡ stop.batch → x.k ≡ stop.k → is_taken_status x.status ≡ false
-  top_status i x g b k = sym (ap is_taken_piece (found v.pieces h.shaped.apart i x (stop_in stop) g b k)) ∙ top_untaken alternatives v h.shaped (map stop_in base_of.0) (stop_in stop) pointed
+  top_status i x g b k = sym (ap is_taken_piece (found v.pieces h.shaped.apart i x (stop_in stop) g b k))
+      ∙ top_untaken alternatives v h.shaped (map stop_in base_of.0) (stop_in stop) pointed
 
-  pub top_open : (i : ℕ) (x : Piece Event) → slice_get v.pieces i ≡ Some x → x.batch ≡ stop.batch → x.k ≡ stop.k → ((r : Owed Event) → x.status ≡ Closed r → ⊥) → x.status ≡ Open
+  pub top_open : (i : ℕ) (x : Piece Event) → slice_get v.pieces i ≡ Some x → x.batch ≡ stop.batch → x.k ≡ stop.k → ((r : Owed Event) → x.status ≡ Closed r → ⊥)
+      → x.status ≡ Open
   top_open i x g b k closed = open_left x.status (top_status i x g b k) closed
 
-  pub room_for_kids : (i : ℕ) (x : Piece Event) → slice_get v.pieces i ≡ Some x → x.batch ≡ stop.batch → x.k ≡ stop.k → length stops + length x.published ≤ stack_capacity
+  pub room_for_kids : (i : ℕ) (x : Piece Event) → slice_get v.pieces i ≡ Some x → x.batch ≡ stop.batch → x.k ≡ stop.k
+      → length stops + length x.published ≤ stack_capacity
   room_for_kids i x g b k =
       let d = h.points.deep in let w = h.wide in let l = length-map stops stop_in in
       let y = weight_in v.pieces i x g in let z = weight_untaken x _ refl (top_status i x g b k) in omega arith

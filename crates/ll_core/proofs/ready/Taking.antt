@@ -1,5 +1,6 @@
 -- What `ready` does with the slot that its stack points at, and what it finds where the stack is empty.
-use Rattle.std.proofs.Common.{◌≡◌, ℕ, zero, suc, ◌+◌, ◌-◌, ◌<◌, ◌≤◌, List, [], ◌∷◌, ◌++◌, Bool, true, false, length, map, refl, sym, ap, ◌∙◌, subst, ⊎_elim, arith, append-nil, eqb, if◌then◌else◌, nat_lt, Option, Some, None, Global, get_or}
+use Rattle.std.proofs.Common.{◌≡◌, ℕ, zero, suc, ◌+◌, ◌-◌, ◌<◌, ◌≤◌, List, [], ◌∷◌, ◌++◌, Bool, true, false, length, map, refl, sym, ap, ◌∙◌, subst, ⊎_elim}
+use Rattle.std.proofs.Common.{arith, append-nil, eqb, if◌then◌else◌, nat_lt, Option, Some, None, Global, get_or}
 use Rattle.std.specs.Prelude.{slice_get, slice_index}
 use Rattle.std.specs.List.{list_all}
 use Rattle.std.specs.Arc.{arc_value}
@@ -55,23 +56,28 @@ taken_some : (o : Option (Piece Event)) → is_taken_piece o ≡ true → (x : P
 taken_some None t = absurd (false≢true t)
 taken_some (Some x) t = (x, refl)
 
-module _ {N : Type 0} (alternatives : N → List (Owed Event)) (v : PoolData N Event) (waiting : List (Waiting N)) (starts : List ℕ) (stack : List Alternative) (capacity stack_capacity : ℕ) (h : Whole alternatives v waiting starts stack capacity stack_capacity) (untried : v.untried ≡ length waiting) (empty : stack ≡ []) where
+module _ {N : Type 0} (alternatives : N → List (Owed Event)) (v : PoolData N Event) (waiting : List (Waiting N)) (starts : List ℕ) (stack : List Alternative)
+    (capacity stack_capacity : ℕ) (h : Whole alternatives v waiting starts stack capacity stack_capacity) (untried : v.untried ≡ length waiting)
+    (empty : stack ≡ []) where
   walk_taken : list_all (is_taken v.pieces) (walk alternatives v) ≡ true
   walk_taken =
       let q : PointsIn alternatives v [] = subst (PointsIn alternatives v) empty h.points in
       ap (list_all (is_taken v.pieces)) (q.order ∙ append-nil q.front) ∙ q.before
 
   standing : (b k : ℕ) → k < length_of alternatives v b → is_taken v.pieces (record { batch = b; k = k }) ≡ true
-  standing b k low = let o = stands_once alternatives v h.shaped b k low in in_list (is_taken v.pieces) (record { batch = b; k = k }) (walk alternatives v) walk_taken (omega arith)
+  standing b k low = let o = stands_once alternatives v h.shaped b k low in
+      in_list (is_taken v.pieces) (record { batch = b; k = k }) (walk alternatives v) walk_taken (omega arith)
 
   each_taken : Each v.pieces (λ (x : Piece Event). x.status ≡ Taken)
-  each_taken i x e = taken_status x.status (sym (ap is_taken_piece (found v.pieces h.shaped.apart i x (place x) e refl refl)) ∙ standing x.batch x.k (h.shaped.named i x e))
+  each_taken i x e = taken_status x.status (sym (ap is_taken_piece (found v.pieces h.shaped.apart i x (place x) e refl refl))
+      ∙ standing x.batch x.k (h.shaped.named i x e))
 
   none_waits : (ws : List (Waiting N)) → waiting ≡ ws → length ws ≡ 0
   none_waits [] e = refl
   none_waits (w ∷ rest) e =
       let l : length waiting ≡ length (w ∷ rest) = ap length e in
-      let u = next_untried alternatives v.batches v w rest capacity v.busy refl (omega arith) (subst (λ ws. Formed alternatives v.batches v.pieces ws capacity v.busy) e h.formed) in
+      let u = next_untried alternatives v.batches v w rest capacity v.busy refl (omega arith)
+      (subst (λ ws. Formed alternatives v.batches v.pieces ws capacity v.busy) e h.formed) in
       let p = taken_some (piece_of v.pieces (record { batch = w.batch; k = w.k })) (standing w.batch w.k u.inside) in
       let f = lookup v.pieces (record { batch = w.batch; k = w.k }) p.0 p.1 in absurd (u.free f.0 p.0 f.1 f.2 f.3)
 
@@ -82,7 +88,8 @@ module _ {N : Type 0} (alternatives : N → List (Owed Event)) (v : PoolData N E
 pub none_last : {X : Type 0} (xs : List X) → slice_get xs (length xs - 1) ≡ None → xs ≡ []
 none_last [] e = refl
 none_last (x ∷ []) e = absurd (none_not_some x (sym e))
-none_last (x ∷ y ∷ ys) e = absurd (past (y ∷ ys) (let n : length (x ∷ y ∷ ys) - 1 ≡ suc (length (y ∷ ys) - 1) = omega arith in sym (ap (slice_get (x ∷ y ∷ ys)) n) ∙ e) (omega arith))
+none_last (x ∷ y ∷ ys) e = absurd (past (y ∷ ys) (let n : length (x ∷ y ∷ ys) - 1 ≡ suc (length (y ∷ ys) - 1) = omega arith in
+    sym (ap (slice_get (x ∷ y ∷ ys)) n) ∙ e) (omega arith))
   where
     none_low : {X : Type 0} (xs : List X) (i : ℕ) → i < length xs → slice_get xs i ≡ None → ⊥
     none_low [] i low e = omega arith
@@ -109,11 +116,15 @@ set_read (x ∷ xs) zero new read low e = e
 set_read (x ∷ xs) (suc i) new read low e = set_read xs i new read (omega arith) e
 
 -- the length of a batch that is read by its number
-pub length_there : {N : Type 0} (alternatives : N → List (Owed Event)) (arcs : List (Arc N Global)) (b : ℕ) (arc : Arc N Global) → b < length arcs → arc ≡ get_or arcs b arc → length (alternatives (arc_value arc)) ≡ length (owed_by (map alternatives (map arc_value arcs)) b)
-length_there alternatives arcs b arc low e = sym (ap (λ o. length (list_or_empty o)) (get_map_at alternatives (map arc_value arcs) b (arc_value arc) (get_map_at arc_value arcs b arc (slot_at arcs b arc low e))))
+pub length_there : {N : Type 0} (alternatives : N → List (Owed Event)) (arcs : List (Arc N Global)) (b : ℕ) (arc : Arc N Global) → b < length arcs
+    → arc ≡ get_or arcs b arc → length (alternatives (arc_value arc)) ≡ length (owed_by (map alternatives (map arc_value arcs)) b)
+length_there alternatives arcs b arc low e = sym (ap (λ o. length (list_or_empty o))
+    (get_map_at alternatives (map arc_value arcs) b (arc_value arc) (get_map_at arc_value arcs b arc (slot_at arcs b arc low e))))
 
-formed_took : {N : Type 0} (alternatives : N → List (Owed Event)) (batches : List N) (pieces : List (Piece Event)) (waiting : List (Waiting N)) (capacity busy : ℕ) → Formed alternatives batches pieces waiting capacity busy
-    → (i : ℕ) (x : Piece Event) → slice_get pieces i ≡ Some x → is_open x.status ≡ false → Formed alternatives batches (change i (with_status Taken) pieces) waiting capacity busy
+formed_took : {N : Type 0} (alternatives : N → List (Owed Event)) (batches : List N) (pieces : List (Piece Event)) (waiting : List (Waiting N))
+    (capacity busy : ℕ) → Formed alternatives batches pieces waiting capacity busy
+    → (i : ℕ) (x : Piece Event) → slice_get pieces i ≡ Some x → is_open x.status ≡ false
+    → Formed alternatives batches (change i (with_status Taken) pieces) waiting capacity busy
 formed_took {N = N} alternatives batches pieces waiting capacity busy h i x e closed =
     let f : Piece Event → Piece Event = with_status Taken in
     let l = length-change i f pieces in let r = h.room in let s = h.small in let w = h.few in
@@ -121,7 +132,8 @@ formed_took {N = N} alternatives batches pieces waiting capacity busy h i x e cl
     let none : one_if (is_open x.status) ≡ 0 = ap one_if closed in
     let b = h.busy in
     record {
-      order = subst (λ ps. Orderly (λ b. length (owed_by (map alternatives batches) b)) (ps ++ map (λ (w : Waiting N). place_in w) waiting)) (sym (places_kept f (λ x. refl) i pieces)) h.order;
+      order = subst (λ ps. Orderly (λ b. length (owed_by (map alternatives batches) b)) (ps ++ map (λ (w : Waiting N). place_in w) waiting))
+          (sym (places_kept f (λ x. refl) i pieces)) h.order;
       copies = h.copies;
       room = omega arith;
       small = omega arith;
@@ -129,12 +141,15 @@ formed_took {N = N} alternatives batches pieces waiting capacity busy h i x e cl
       busy = omega arith;
     }
 
-module _ {N : Type 0} (alternatives : N → List (Owed Event)) (arcs : List (Arc N Global)) (slots : List Slot) (waiting : List (Waiting N)) (workers busy : ℕ) (starved stopped : Bool) (starts : List ℕ) (stops : List Stop) (capacity stack_capacity : ℕ) where
+module _ {N : Type 0} (alternatives : N → List (Owed Event)) (arcs : List (Arc N Global)) (slots : List Slot) (waiting : List (Waiting N)) (workers busy : ℕ)
+    (starved stopped : Bool) (starts : List ℕ) (stops : List Stop) (capacity stack_capacity : ℕ) where
   abbrev pub with_slots : List Slot → PoolData N Event
   with_slots slots' = data_of arcs slots' (length waiting) workers busy starved stopped
 
-  module _ (h : Whole alternatives (with_slots slots) waiting starts (map stop_in stops) capacity stack_capacity) (stop : Stop) (e : slice_get stops (length stops - 1) ≡ Some stop)
-      (start : ℕ) (start_is : start ≡ slice_index starts stop.batch) (low : start + stop.k < length slots) (old : Slot) (here : old ≡ get_or slots (start + stop.k) old) where
+  module _ (h : Whole alternatives (with_slots slots) waiting starts (map stop_in stops) capacity stack_capacity) (stop : Stop)
+      (e : slice_get stops (length stops - 1) ≡ Some stop)
+      (start : ℕ) (start_is : start ≡ slice_index starts stop.batch) (low : start + stop.k < length slots) (old : Slot)
+      (here : old ≡ get_or slots (start + stop.k) old) where
     abbrev at : ℕ
     at = start + stop.k
 
@@ -164,14 +179,17 @@ module _ {N : Type 0} (alternatives : N → List (Owed Event)) (arcs : List (Arc
     slots_kept new same = set_same slots at old new low here same
 
     pub whole_kept : (new : Slot) → new ≡ old → Whole alternatives (with_slots (set slots at new)) waiting starts (map stop_in stops) capacity stack_capacity
-    whole_kept new same = subst (λ ss. Whole alternatives (with_slots ss) waiting starts (map stop_in stops) capacity stack_capacity) (sym (slots_kept new same)) h
+    whole_kept new same = subst (λ ss. Whole alternatives (with_slots ss) waiting starts (map stop_in stops) capacity stack_capacity)
+        (sym (slots_kept new same)) h
 
-    pub next_open : ((report : Owed Event) → status_in old.state ≡ Closed report → ⊥) → (x : Piece Event) × (slice_get v.pieces at ≡ Some x) × (x.status ≡ Open) × Next alternatives v (place x)
+    pub next_open : ((report : Owed Event) → status_in old.state ≡ Closed report → ⊥)
+        → (x : Piece Event) × (slice_get v.pieces at ≡ Some x) × (x.status ≡ Open) × Next alternatives v (place x)
     next_open not_closed = (
       piece_in old,
       at_old,
       top_open alternatives v waiting starts stops capacity stack_capacity h stop e at (piece_in old) at_old batch_is k_is not_closed,
-      subst (Next alternatives v) (λ i. record { batch = sym batch_is i; k = sym k_is i }) (is_next alternatives v waiting starts stops capacity stack_capacity h stop e),
+      subst (Next alternatives v) (λ i. record { batch = sym batch_is i; k = sym k_is i })
+          (is_next alternatives v waiting starts stops capacity stack_capacity h stop e),
     )
 
     pub room_there : length stops + length old.published.items ≤ stack_capacity
@@ -183,8 +201,20 @@ module _ {N : Type 0} (alternatives : N → List (Owed Event)) (arcs : List (Arc
 
       pub took_is : with_slots (set slots at new) ≡ took v at
       took_is =
-          let l : length (set slots at new) ≡ length slots = sym (length-map (set slots at new) piece_in) ∙ (ap length taken_pieces ∙ (length-change at (with_status Taken) v.pieces ∙ length-map slots piece_in)) in
-          λ j. record { batches = map arc_value arcs; pieces = taken_pieces j; workers = workers; busy = busy; total = l j + length waiting; untried = length waiting; starved = starved; stopped = stopped }
+          let l : length (set slots at new) ≡ length slots =
+          sym (length-map (set slots at new) piece_in) ∙
+          (ap length taken_pieces ∙ (length-change at (with_status Taken) v.pieces ∙ length-map slots piece_in)) in
+          λ j. record {
+            batches = map arc_value arcs;
+            pieces = taken_pieces j;
+            workers = workers;
+            busy = busy;
+            total = l j + length waiting;
+            untried =
+                length waiting;
+            starved = starved;
+            stopped = stopped;
+          }
 
       abbrev base : List Alternative
       base = map stop_in (base_of alternatives v waiting starts stops capacity stack_capacity h stop e).0
@@ -196,15 +226,21 @@ module _ {N : Type 0} (alternatives : N → List (Owed Event)) (arcs : List (Arc
       takes_next = may_take alternatives v h.shaped base (stop_in stop) points at (piece_in old) report at_old batch_is k_is was
 
       pub whole_taken : (stops' : List Stop) (len : ℕ) (published : List ℕ) → len ≡ length_of alternatives v stop.batch → published ≡ old.published.items
-          → ((below : List Stop) → stops ≡ below ++ stop ∷ [] → map stop_in stops' ≡ (map stop_in below ++ (if nat_lt (stop.k + 1) len then record { batch = stop.batch; k = stop.k + 1 } ∷ [] else [])) ++ map begin published)
+          → ((below : List Stop) → stops ≡ below ++ stop ∷ []
+          → map stop_in stops' ≡ (map stop_in below ++ (if nat_lt (stop.k + 1) len then record { batch = stop.batch; k = stop.k + 1 } ∷ [] else []))
+          ++ map begin published)
           → Whole alternatives (with_slots (set slots at new)) waiting starts (map stop_in stops') capacity stack_capacity
       whole_taken stops' len published len_is published_is pushed =
           let b = base_of alternatives v waiting starts stops capacity stack_capacity h stop e in
           let split : map stop_in stops ≡ base ++ stop_in stop ∷ [] = ap (map stop_in) b.1 ∙ map_push stop_in b.0 stop in
-          let whole : Whole alternatives v waiting starts (base ++ stop_in stop ∷ []) capacity stack_capacity = subst (λ s. Whole alternatives v waiting starts s capacity stack_capacity) split h in
-          let done = whole_took alternatives v starts (map stop_in stops) capacity capacity stack_capacity waiting base (stop_in stop) at (piece_in old) report whole points h.shaped at_old batch_is k_is was takes_next
+          let whole : Whole alternatives v waiting starts (base ++ stop_in stop ∷ []) capacity stack_capacity =
+          subst (λ s. Whole alternatives v waiting starts s capacity stack_capacity) split h in
+          let done = whole_took alternatives v starts (map stop_in stops) capacity capacity stack_capacity waiting base (stop_in stop) at (piece_in old) report
+          whole points h.shaped at_old batch_is k_is was takes_next
           (with_slots (set slots at new)) took_is
-          (subst (λ ps. Formed alternatives v.batches ps waiting capacity busy) (sym taken_pieces) (formed_took alternatives v.batches v.pieces waiting capacity busy h.formed at (piece_in old) at_old (ap is_open was))) in
+          (subst (λ ps. Formed alternatives v.batches ps waiting capacity busy) (sym taken_pieces)
+          (formed_took alternatives v.batches v.pieces waiting capacity busy h.formed at (piece_in old) at_old (ap is_open was))) in
           let top : map stop_in stops' ≡ after_top alternatives v h.shaped base (stop_in stop) points old.published.items =
-          pushed b.0 b.1 ∙ (λ i. (base ++ (if nat_lt (stop.k + 1) (len_is i) then record { batch = stop.batch; k = stop.k + 1 } ∷ [] else [])) ++ map begin (published_is i)) in
+          pushed b.0 b.1 ∙ (λ i. (base ++ (if nat_lt (stop.k + 1) (len_is i) then record { batch = stop.batch; k = stop.k + 1 } ∷ [] else []))
+          ++ map begin (published_is i)) in
           subst (λ s. Whole alternatives (with_slots (set slots at new)) waiting starts s capacity stack_capacity) (sym top) done

@@ -2,7 +2,8 @@
 use Rattle.std.proofs.Common.{◌≡◌, ℕ, zero, suc, ◌+◌, ◌<◌, ◌≤◌, List, [], ◌∷◌, length, refl, sym, ap, ◌∙◌, arith, Option, Some, None}
 use Rattle.std.specs.Prelude.{sum_by}
 use Rattle.ll_laws.specs.Pool.{Owed, Piece, PoolData, Alternative}
-use Rattle.ll_laws.specs.Spread.{numbers, walk_alternative, walk_deep, piece_of, kids_of, published_by, owed_by, owed_at, list_or_empty, owed_or_nothing, batch_cost, given_cost, owes_of, length_of, walk}
+use Rattle.ll_laws.specs.Spread.{numbers, walk_alternative, walk_deep, piece_of, kids_of, published_by, owed_by, owed_at, list_or_empty, owed_or_nothing}
+use Rattle.ll_laws.specs.Spread.{batch_cost, given_cost, owes_of, length_of, walk}
 use Rattle.ll_laws.specs.Sound.{Every, Each, Sound}
 use Rattle.ll_core.specs.Given.{share_cost, total}
 use Rattle.ll_core.proofs.walks.Walks.{every_more}
@@ -22,13 +23,16 @@ module _ (kids : ℕ → ℕ → List ℕ) (len : ℕ → ℕ) (n : ℕ) (ends :
       let inside : k < len b = omega arith in
       ap (λ m. value (record { batch = b; k = k }) + m)
       (total_last_first value (walk_deep kids len deep) (kids b k)
-      ∙ total_same (λ c. total value (walk_deep kids len deep c)) whole (kids b k) (every_more (λ c. b < c) (λ c. total value (walk_deep kids len deep c) ≡ whole c) (kids b k) (λ c more. walk_costs value one whole whole_is parts deep c (omega arith)) (up b k inside)))
+      ∙ total_same (λ c. total value (walk_deep kids len deep c)) whole (kids b k)
+      (every_more (λ c. b < c) (λ c. total value (walk_deep kids len deep c) ≡ whole c) (kids b k)
+      (λ c more. walk_costs value one whole whole_is parts deep c (omega arith)) (up b k inside)))
       ∙ parts b k inside)
       ∙ sym (whole_is b))
 
 module _ {E : Type 0} where
   cost_parts : (owes : List (List (Owed E))) (pieces : List (Piece E)) → Each pieces (λ (x : Piece E). given_cost owes x ≤ (owed_at owes x.batch x.k).cost)
-      → (a : Alternative) (o : Option (Piece E)) → piece_of pieces a ≡ o → share_cost owes a o + total (batch_cost owes) (published_by o) ≡ (owed_at owes a.batch a.k).cost
+      → (a : Alternative) (o : Option (Piece E)) → piece_of pieces a ≡ o
+      → share_cost owes a o + total (batch_cost owes) (published_by o) ≡ (owed_at owes a.batch a.k).cost
   cost_parts owes pieces costs a None e = omega arith
   cost_parts owes pieces costs a (Some x) e =
       let l = lookup pieces a x e in let c = costs l.0 x l.1 in
@@ -36,10 +40,13 @@ module _ {E : Type 0} where
       let same : (owed_at owes x.batch x.k).cost ≡ (owed_at owes a.batch a.k).cost = λ i. (owed_at owes (l.2 i) (l.3 i)).cost in omega arith
 
 module _ {N Of E : Type 0} (of : N → Of) (alternatives : N → List (Owed E)) (p : PoolData N E) (problem : Of) (pair : Owed E) where
-  pub cost_is : Sound of alternatives p problem pair → total (λ a. share_cost (owes_of alternatives p) a (piece_of p.pieces a)) (walk alternatives p) ≡ pair.cost
+  pub cost_is : Sound of alternatives p problem pair → total (λ a. share_cost (owes_of alternatives p) a (piece_of p.pieces a)) (walk alternatives p)
+      ≡ pair.cost
   cost_is s =
       let owes : List (List (Owed E)) = owes_of alternatives p in
-      walk_costs (kids_of p.pieces) (length_of alternatives p) (length p.batches) (ends alternatives p) (λ b k inside. every_more (λ c. (b < c) × (c < length p.batches)) (λ c. b < c) (kids_of p.pieces b k) (λ c h. h.0) (kids_within p.pieces (length p.batches) s.shape.only b k))
+      walk_costs (kids_of p.pieces) (length_of alternatives p) (length p.batches) (ends alternatives p)
+      (λ b k inside. every_more (λ c. (b < c) × (c < length p.batches)) (λ c. b < c) (kids_of p.pieces b k) (λ c h. h.0)
+      (kids_within p.pieces (length p.batches) s.shape.only b k))
       (λ a. share_cost owes a (piece_of p.pieces a)) (λ b k. (owed_at owes b k).cost) (batch_cost owes)
       (λ b. sum_total (λ (o : Owed E). o.cost) (owed_by owes b) ∙ sym (total_by_index (λ (o : Option (Owed E)). (owed_or_nothing o).cost) (owed_by owes b)))
       (λ b k inside. cost_parts owes p.pieces s.costs (record { batch = b; k = k }) (piece_of p.pieces (record { batch = b; k = k })) refl)

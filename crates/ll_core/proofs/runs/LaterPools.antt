@@ -1,5 +1,6 @@
 -- Pools that are further on than others.
-use Rattle.std.proofs.Common.{◌≡◌, ℕ, zero, suc, ◌+◌, ◌-◌, ◌<◌, List, [], ◌∷◌, ◌++◌, false, length, map, refl, sym, ap, ◌∙◌, subst, ⊎_elim, inl, inr, arith, append_assoc, append-nil, take, Some, None}
+use Rattle.std.proofs.Common.{◌≡◌, ℕ, zero, suc, ◌+◌, ◌-◌, ◌<◌, List, [], ◌∷◌, ◌++◌, false, length, map, refl, sym, ap, ◌∙◌, subst, ⊎_elim, inl, inr, arith}
+use Rattle.std.proofs.Common.{append_assoc, append-nil, take, Some, None}
 use Rattle.std.specs.Prelude.{flat_map, slice_get, sum_by}
 use Rattle.std.proofs.lemmas.Bool.{cases_eq, false≢true}
 use Rattle.std.proofs.lemmas.List.{map-append, length-map}
@@ -9,7 +10,8 @@ use Rattle.ll_laws.specs.Pool.{Owed, Status, Open, Closed, Taken, Piece, PoolDat
 use Rattle.ll_laws.specs.Spread.{list_or_empty, owed_or_nothing, owed_by, owed_at, batch_events, batch_cost, given_events, given_cost, share, owes_of}
 use Rattle.ll_laws.specs.Sound.{Every, is_open}
 use Rattle.ll_laws.specs.Later.{NotBack, Further, Later}
-use Rattle.ll_laws.specs.CoreEvents.{CoreEvent, Claim, Publish, Report, Starve, Stop, Look, Ready, Work, Idle, Finished, Starved, Stopped, Done, Full, NoMemory, Events, NotYet, All, change, with_batch, with_status, Does}
+use Rattle.ll_laws.specs.CoreEvents.{CoreEvent, Claim, Publish, Report, Starve, Stop, Look, Ready, Work, Idle, Finished, Starved, Stopped, Done, Full}
+use Rattle.ll_laws.specs.CoreEvents.{NoMemory, Events, NotYet, All, change, with_batch, with_status, Does}
 use Rattle.ll_core.proofs.walks.Walks.{every_more, last_first_same}
 use Rattle.ll_core.proofs.events.Pieces.{get_front, change_at, change_other}
 
@@ -33,7 +35,16 @@ module _ {E : Type 0} where
   still_closed Taken t h c = ap is_open h
 
   pub further_itself : (x : Piece E) → Further x x
-  further_itself x = record { batch = refl; k = refl; worker = refl; more = []; published = sym (append-nil x.published); no_more = λ c. refl; status = not_back x.status }
+  further_itself x = record {
+    batch = refl;
+    k = refl;
+    worker = refl;
+    more = [];
+    published = sym (append-nil x.published);
+    no_more = λ c. refl;
+    status =
+        not_back x.status;
+  }
 
   further_on : (x y z : Piece E) → Further x y → Further y z → Further x z
   further_on x y z f g = record {
@@ -87,7 +98,14 @@ module _ {N E : Type 0} where
   later_same p q e = subst (Later p) (sym e) (later_itself p)
 
   pub later_event : (alternatives : N → List (Owed E)) (p q : PoolData N E) (e : CoreEvent N E) → Does alternatives p e q → Later p q
-  later_event alternatives p q (Claim w (Work i b k)) d = subst (Later p) (sym d.3) (record { more = []; batches = sym (append-nil p.batches); pieces = λ j x e. (x, get_front p.pieces _ j x e, further_itself x); starved = λ h. h; stopped = λ h. h })
+  later_event alternatives p q (Claim w (Work i b k)) d = subst (Later p) (sym d.3)
+      (record {
+        more = [];
+        batches = sym (append-nil p.batches);
+        pieces = λ j x e. (x, get_front p.pieces _ j x e, further_itself x);
+        starved = λ h. h;
+        stopped = λ h. h;
+      })
   later_event alternatives p q (Claim w (Idle busy)) d = later_same p q d.4
   later_event alternatives p q (Claim w Finished) d = later_same p q d.3
   later_event alternatives p q (Claim w Starved) d = later_same p q d.2
@@ -97,7 +115,17 @@ module _ {N E : Type 0} where
       subst (Later p) (sym d.3.1) (record {
         more = n ∷ [];
         batches = refl;
-        pieces = further_changed (with_batch new) d.0 x p.pieces held.piece (record { batch = refl; k = refl; worker = refl; more = new ∷ []; published = refl; no_more = λ c. absurd (false≢true (sym c ∙ ap is_open held.open_still)); status = not_back x.status });
+        pieces = further_changed (with_batch new) d.0 x p.pieces held.piece
+            (record {
+              batch = refl;
+              k = refl;
+              worker = refl;
+              more = new ∷ [];
+              published = refl;
+              no_more =
+                  λ c. absurd (false≢true (sym c ∙ ap is_open held.open_still));
+              status = not_back x.status;
+            });
         starved = λ h. h;
         stopped = λ h. h;
       })
@@ -108,19 +136,23 @@ module _ {N E : Type 0} where
       subst (Later p) (sym d.3) (record {
         more = [];
         batches = sym (append-nil p.batches);
-        pieces = further_changed (with_status (Closed report)) d.0 x p.pieces held.piece (further_status x (Closed report) (subst (λ s. NotBack s (Closed report)) (sym held.open_still) tt));
+        pieces = further_changed (with_status (Closed report)) d.0 x p.pieces held.piece
+            (further_status x (Closed report) (subst (λ s. NotBack s (Closed report)) (sym held.open_still) tt));
         starved = λ h. h;
         stopped = λ h. h;
       })
-  later_event alternatives p q (Starve w) d = subst (Later p) (sym d) (record { more = []; batches = sym (append-nil p.batches); pieces = λ i x e. (x, e, further_itself x); starved = λ h. refl; stopped = λ h. h })
-  later_event alternatives p q Stop d = subst (Later p) (sym d) (record { more = []; batches = sym (append-nil p.batches); pieces = λ i x e. (x, e, further_itself x); starved = λ h. h; stopped = λ h. refl })
+  later_event alternatives p q (Starve w) d = subst (Later p) (sym d)
+      (record { more = []; batches = sym (append-nil p.batches); pieces = λ i x e. (x, e, further_itself x); starved = λ h. refl; stopped = λ h. h })
+  later_event alternatives p q Stop d = subst (Later p) (sym d)
+      (record { more = []; batches = sym (append-nil p.batches); pieces = λ i x e. (x, e, further_itself x); starved = λ h. h; stopped = λ h. refl })
   later_event alternatives p q (Look seen) d = later_same p q d.1
   later_event alternatives p q (Ready (Events report)) d =
       let x = d.1 in let may = d.2 in
       subst (Later p) (sym d.3) (record {
         more = [];
         batches = sym (append-nil p.batches);
-        pieces = further_changed (with_status Taken) d.0 x p.pieces may.piece (further_status x Taken (subst (λ s. NotBack s Taken) (sym may.closed) (inr refl)));
+        pieces = further_changed (with_status Taken) d.0 x p.pieces may.piece
+            (further_status x Taken (subst (λ s. NotBack s Taken) (sym may.closed) (inr refl)));
         starved = λ h. h;
         stopped = λ h. h;
       })
@@ -135,14 +167,20 @@ sum_same_on f g [] h = refl
 sum_same_on f g (x ∷ xs) h = sum_by-cons f x xs ∙ ((λ i. h.0 i + sum_same_on f g xs h.1 i) ∙ sym (sum_by-cons g x xs))
 
 -- a piece whose batches are all old has the share that it had
-pub share_kept : {E : Type 0} (owes owes' : List (List (Owed E))) (n : ℕ) → ((b : ℕ) → b < n → owed_by owes' b ≡ owed_by owes b) → (x : Piece E) → x.batch < n → Every (λ c. c < n) x.published → share owes' x ≡ share owes x
+pub share_kept : {E : Type 0} (owes owes' : List (List (Owed E))) (n : ℕ) → ((b : ℕ) → b < n → owed_by owes' b ≡ owed_by owes b) → (x : Piece E) → x.batch < n
+    → Every (λ c. c < n) x.published → share owes' x ≡ share owes x
 share_kept {E = E} owes owes' n same x low h =
     let owed : owed_at owes' x.batch x.k ≡ owed_at owes x.batch x.k = ap (λ os. owed_or_nothing (slice_get os x.k)) (same x.batch low) in
-    let events : given_events owes' x ≡ given_events owes x = last_first_same (batch_events owes') (batch_events owes) x.published (every_more (λ c. c < n) (λ c. batch_events owes' c ≡ batch_events owes c) x.published (λ c l. ap (flat_map (λ (o : Owed E). o.events)) (same c l)) h) in
-    let cost : given_cost owes' x ≡ given_cost owes x = sum_same_on (batch_cost owes') (batch_cost owes) x.published (every_more (λ c. c < n) (λ c. batch_cost owes' c ≡ batch_cost owes c) x.published (λ c l. ap (sum_by (λ (o : Owed E). o.cost)) (same c l)) h) in
+    let events : given_events owes' x ≡ given_events owes x =
+    last_first_same (batch_events owes') (batch_events owes) x.published
+    (every_more (λ c. c < n) (λ c. batch_events owes' c ≡ batch_events owes c) x.published (λ c l. ap (flat_map (λ (o : Owed E). o.events)) (same c l)) h)
+    in
+    let cost : given_cost owes' x ≡ given_cost owes x = sum_same_on (batch_cost owes') (batch_cost owes) x.published
+    (every_more (λ c. c < n) (λ c. batch_cost owes' c ≡ batch_cost owes c) x.published (λ c l. ap (sum_by (λ (o : Owed E). o.cost)) (same c l)) h) in
     λ i. record { events = take (length (owed i).events - length (events i)) (owed i).events; cost = (owed i).cost - cost i }
 
-pub owed_kept : {N E : Type 0} (alternatives : N → List (Owed E)) (p q : PoolData N E) → Later p q → (b : ℕ) → b < length p.batches → owed_by (owes_of alternatives q) b ≡ owed_by (owes_of alternatives p) b
+pub owed_kept : {N E : Type 0} (alternatives : N → List (Owed E)) (p q : PoolData N E) → Later p q → (b : ℕ) → b < length p.batches
+    → owed_by (owes_of alternatives q) b ≡ owed_by (owes_of alternatives p) b
 owed_kept alternatives p q later b low =
     ap (λ bs. owed_by (map alternatives bs) b) later.batches
     ∙ (ap (λ l. list_or_empty (slice_get l b)) (map-append alternatives p.batches later.more)

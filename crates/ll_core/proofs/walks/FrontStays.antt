@@ -1,13 +1,15 @@
 -- What was taken stays in front: where a later pool has the same pieces taken, the taken front of its walk is the same, and the
 -- reports that were taken are what it owes still.
-use Rattle.std.proofs.Common.{◌≡◌, ℕ, suc, ◌+◌, ◌-◌, ◌<◌, ◌≤◌, List, [], ◌∷◌, ◌++◌, Bool, true, false, not, length, refl, sym, ap, ◌∙◌, subst, ⊎_elim, arith, append_assoc, append-nil, eqb, Some}
+use Rattle.std.proofs.Common.{◌≡◌, ℕ, suc, ◌+◌, ◌-◌, ◌<◌, ◌≤◌, List, [], ◌∷◌, ◌++◌, Bool, true, false, not, length, refl, sym, ap, ◌∙◌, subst, ⊎_elim, arith}
+use Rattle.std.proofs.Common.{append_assoc, append-nil, eqb, Some}
 use Rattle.std.specs.Prelude.{flat_map, slice_get}
 use Rattle.std.specs.List.{list_all}
 use Rattle.std.proofs.lemmas.Bool.{cases_Bool, and_parts, and_from, false≢true, cases_lt, eqb-true}
 use Rattle.std.proofs.lemmas.List.Concat.{flat_map-append}
 use Rattle.ll_lists.proofs.CallerLemmas.{some_is}
 use Rattle.ll_laws.specs.Pool.{Owed, Taken, Piece, PoolData, Alternative}
-use Rattle.ll_laws.specs.Spread.{numbers, last_first, walk_alternative, walk_deep, piece_of, piece_events, gives, share, owes_of, length_of, walk, kids_of, published_by}
+use Rattle.ll_laws.specs.Spread.{numbers, last_first, walk_alternative, walk_deep, piece_of, piece_events, gives, share, owes_of, length_of, walk, kids_of}
+use Rattle.ll_laws.specs.Spread.{published_by}
 use Rattle.ll_laws.specs.Search.{cut_count}
 use Rattle.ll_laws.specs.Sound.{Every, Shaped, Sound, is_taken, is_taken_piece, is_taken_status}
 use Rattle.ll_laws.specs.Later.{Later}
@@ -54,14 +56,17 @@ module _ (kids : ℕ → ℕ → List ℕ) (len : ℕ → ℕ) (n : ℕ) where
     starts_are : (ks : List ℕ) → ahead (starts ks) ≡ last_first (walk_deep kids len n) ks
     starts_are ks =
         flat_last_first (rest kids len n) (λ c. begin c ∷ []) ks
-        ∙ last_first_same (λ c. ahead (begin c ∷ [])) (walk_deep kids len n) ks (every_all (λ c. ahead (begin c ∷ []) ≡ walk_deep kids len n c) (λ c. append-nil (rest kids len n (begin c)) ∙ rest_begin kids len n ends up c) ks)
+        ∙ last_first_same (λ c. ahead (begin c ∷ [])) (walk_deep kids len n) ks
+        (every_all (λ c. ahead (begin c ∷ []) ≡ walk_deep kids len n c) (λ c. append-nil (rest kids len n (begin c)) ∙ rest_begin kids len n ends up c) ks)
 
     ahead_step : (e : Alternative) (tops : List Alternative) → e.k < len e.batch → ahead (e ∷ tops) ≡ e ∷ ahead (starts (kids e.batch e.k) ++ next e ∷ tops)
     ahead_step e tops low =
         let r : Alternative → List Alternative = rest kids len n in
         let below : List Alternative = last_first (walk_deep kids len n) (kids e.batch e.k) in
         ap (λ l. l ++ flat_map r tops) (rest_step e low)
-        ∙ ap (λ l. e ∷ l) (append_assoc below (r (next e)) (flat_map r tops) ∙ (ap (λ l. l ++ (r (next e) ++ flat_map r tops)) (sym (starts_are (kids e.batch e.k))) ∙ sym (flat_map-append r (starts (kids e.batch e.k)) (next e ∷ tops))))
+        ∙ ap (λ l. e ∷ l) (append_assoc below (r (next e)) (flat_map r tops)
+        ∙ (ap (λ l. l ++ (r (next e) ++ flat_map r tops)) (sym (starts_are (kids e.batch e.k)))
+        ∙ sym (flat_map-append r (starts (kids e.batch e.k)) (next e ∷ tops))))
 
 -- ---- two walks that agree on what is taken
 
@@ -81,7 +86,8 @@ module _
       left : l ≡ ahead kids len n (starts (kids a.batch a.k) ++ next a ∷ below)
       same : ahead kids' len' n' tops ≡ ahead kids' len' n' (a ∷ below)
 
-    top_of : (tops : List Alternative) → Every (λ (e : Alternative). e.batch < n) tops → (a : Alternative) (l : List Alternative) → ahead kids len n tops ≡ a ∷ l → Top tops a l
+    top_of : (tops : List Alternative) → Every (λ (e : Alternative). e.batch < n) tops → (a : Alternative) (l : List Alternative)
+        → ahead kids len n tops ≡ a ∷ l → Top tops a l
     top_of [] low a l e = absurd (cc)
     top_of (t ∷ tops) low a l e = ⊎_elim
         (λ (h : t.k < len t.batch).
@@ -92,21 +98,34 @@ module _
         (λ (h : len t.batch ≤ t.k).
         let h' : len' t.batch ≤ t.k = (let s = same_len t.batch low.0 in omega arith) in
         let more = top_of tops low.1 a l (sym (ap (λ x. x ++ ahead kids len n tops) (rest_none kids len n t h)) ∙ e) in
-        record { below = more.below; low = more.low; batch = more.batch; k = more.k; left = more.left; same = ap (λ x. x ++ ahead kids' len' n' tops) (rest_none kids' len' n' t h') ∙ more.same })
+        record {
+          below = more.below;
+          low = more.low;
+          batch = more.batch;
+          k = more.k;
+          left = more.left;
+          same =
+              ap (λ x. x ++ ahead kids' len' n' tops) (rest_none kids' len' n' t h') ∙ more.same;
+        })
         (cases_lt t.k (len t.batch))
 
     -- a front that is taken is the front of both
-    pub same_front : (front back tops : List Alternative) → Every (λ (e : Alternative). e.batch < n) tops → ahead kids len n tops ≡ front ++ back → list_all taken front ≡ true
+    pub same_front : (front back tops : List Alternative) → Every (λ (e : Alternative). e.batch < n) tops → ahead kids len n tops ≡ front ++ back
+        → list_all taken front ≡ true
         → (tops' : List Alternative) × (ahead kids' len' n' tops ≡ front ++ ahead kids' len' n' tops')
     same_front [] back tops low e h = (tops, refl)
     same_front (a ∷ front) back tops low e h =
         let t = and_parts (taken a) (list_all taken front) h in
         let top = top_of tops low a (front ++ back) e in
         let on : List Alternative = starts (kids a.batch a.k) ++ next a ∷ top.below in
-        let low' = every_append (λ (e : Alternative). e.batch < n) (starts (kids a.batch a.k)) (next a ∷ top.below) (every_starts (λ c. c < n) (kids a.batch a.k) (inside a.batch a.k)) (top.batch, top.low) in
+        let low' = every_append (λ (e : Alternative). e.batch < n) (starts (kids a.batch a.k)) (next a ∷ top.below)
+        (every_starts (λ c. c < n) (kids a.batch a.k) (inside a.batch a.k)) (top.batch, top.low) in
         let rest = same_front front back on low' (sym top.left) t.1 in
-        let k' : a.k < len' a.batch = (let s = same_len a.batch top.batch in let k = top.k in omega arith) in
-        (rest.0, top.same ∙ (ahead_step kids' len' n' ends' up' a top.below k' ∙ (ap (λ ks. a ∷ ahead kids' len' n' (starts ks ++ next a ∷ top.below)) (same_kids a t.0) ∙ ap (λ l. a ∷ l) rest.1)))
+        let k' : a.k < len' a.batch = (let s = same_len a.batch top.batch in let k = top.k in omega arith) in (
+          rest.0,
+          top.same ∙ (ahead_step kids' len' n' ends' up' a top.below k'
+              ∙ (ap (λ ks. a ∷ ahead kids' len' n' (starts ks ++ next a ∷ top.below)) (same_kids a t.0) ∙ ap (λ l. a ∷ l) rest.1)),
+        )
 
 -- ---- pools
 
@@ -119,7 +138,8 @@ some_total f (a ∷ xs) h =
     is_alternative_self : (a : Alternative) → is_alternative a a ≡ true
     is_alternative_self a = is_of_from {E = Unit {0}} a (record { batch = a.batch; k = a.k; worker = 0; published = []; status = Taken }) refl refl
 
-none_there : (f : Alternative → Bool) (at : Alternative) (xs : List Alternative) → f at ≡ true → ((a : Alternative) → is_alternative a at ≡ true → f a ≡ f at) → list_all (λ a. not (f a)) xs ≡ true → total (is_at at) xs ≡ 0
+none_there : (f : Alternative → Bool) (at : Alternative) (xs : List Alternative) → f at ≡ true → ((a : Alternative) → is_alternative a at ≡ true → f a ≡ f at)
+    → list_all (λ a. not (f a)) xs ≡ true → total (is_at at) xs ≡ 0
 none_there f at [] t same h = refl
 none_there f at (a ∷ xs) t same h =
     let p = and_parts (not (f a)) (list_all (λ a. not (f a)) xs) h in
@@ -129,11 +149,13 @@ none_there f at (a ∷ xs) t same h =
     (cases_Bool (is_alternative a at)) in
     let rest = none_there f at xs t same p.1 in omega arith
 
-module _ {N Of E : Type 0} (of : N → Of) (alternatives : N → List (Owed E)) (p q : PoolData N E) (problem : Of) (pair : Owed E) (s : Sound of alternatives p problem pair) (t : Sound of alternatives q problem pair)
+module _ {N Of E : Type 0} (of : N → Of) (alternatives : N → List (Owed E)) (p q : PoolData N E) (problem : Of) (pair : Owed E)
+    (s : Sound of alternatives p problem pair) (t : Sound of alternatives q problem pair)
     (later : Later p q) (same : SameTaken p q) where
   -- what is taken keeps its piece and its share
   steady : (a : Alternative) → is_taken p.pieces a ≡ true
-      → (x : Piece E) × (piece_of p.pieces a ≡ Some x) × (x.status ≡ Taken) × (piece_of q.pieces a ≡ Some x) × (share (owes_of alternatives q) x ≡ share (owes_of alternatives p) x)
+      → (x : Piece E) × (piece_of p.pieces a ≡ Some x) × (x.status ≡ Taken) × (piece_of q.pieces a ≡ Some x)
+      × (share (owes_of alternatives q) x ≡ share (owes_of alternatives p) x)
   steady a taken =
       let o = taken_piece (piece_of p.pieces a) taken in
       let l = lookup p.pieces a o.0 o.1 in
@@ -143,7 +165,8 @@ module _ {N Of E : Type 0} (of : N → Of) (alternatives : N → List (Owed E)) 
         o.1,
         o.2,
         found q.pieces t.shape.apart l.0 o.0 a (y.1 ∙ ap Some is) l.2 l.3,
-        share_kept (owes_of alternatives p) (owes_of alternatives q) (length p.batches) (owed_kept alternatives p q later) o.0 (owed_before alternatives p.batches o.0.batch o.0.k (s.shape.named l.0 o.0 l.1))
+        share_kept (owes_of alternatives p) (owes_of alternatives q) (length p.batches) (owed_kept alternatives p q later) o.0
+            (owed_before alternatives p.batches o.0.batch o.0.k (s.shape.named l.0 o.0 l.1))
             (every_more (λ c. (o.0.batch < c) × (c < length p.batches)) (λ c. c < length p.batches) o.0.published (λ c h. h.1) (s.shape.only l.0 o.0 l.1)),
       )
 
@@ -167,7 +190,8 @@ module _ {N Of E : Type 0} (of : N → Of) (alternatives : N → List (Owed E)) 
   steady_kids a taken = let h = steady a taken in ap published_by h.3 ∙ sym (ap published_by h.1)
 
   was_taken : (a : Alternative) → is_taken q.pieces a ≡ true
-      → (i : ℕ) × (x : Piece E) × (slice_get p.pieces i ≡ Some x) × (slice_get q.pieces i ≡ Some x) × (x.batch ≡ a.batch) × (x.k ≡ a.k) × (is_taken p.pieces a ≡ true)
+      → (i : ℕ) × (x : Piece E) × (slice_get p.pieces i ≡ Some x) × (slice_get q.pieces i ≡ Some x) × (x.batch ≡ a.batch) × (x.k ≡ a.k)
+      × (is_taken p.pieces a ≡ true)
   was_taken a taken =
       let o = taken_piece (piece_of q.pieces a) taken in
       let l = lookup q.pieces a o.0 o.1 in
@@ -184,17 +208,21 @@ module _ {N Of E : Type 0} (of : N → Of) (alternatives : N → List (Owed E)) 
   some_batch = let root = get_map alternatives p.batches 0 (pair ∷ []) s.root in get_below p.batches 0 root.0 root.1
 
   up_in : (r : PoolData N E) → Shaped alternatives r → (b k : ℕ) → k < length_of alternatives r b → Every (λ c. b < c) (kids_of r.pieces b k)
-  up_in r h b k inside = every_more (λ c. (b < c) × (c < length r.batches)) (λ c. b < c) (kids_of r.pieces b k) (λ c h. h.0) (kids_within r.pieces (length r.batches) h.only b k)
+  up_in r h b k inside = every_more (λ c. (b < c) × (c < length r.batches)) (λ c. b < c) (kids_of r.pieces b k) (λ c h. h.0)
+      (kids_within r.pieces (length r.batches) h.only b k)
 
-  walk_is : (r : PoolData N E) → Shaped alternatives r → ahead (kids_of r.pieces) (length_of alternatives r) (length r.batches) (begin 0 ∷ []) ≡ walk alternatives r
-  walk_is r h = append-nil (rest (kids_of r.pieces) (length_of alternatives r) (length r.batches) (begin 0)) ∙ rest_begin (kids_of r.pieces) (length_of alternatives r) (length r.batches) (ends alternatives r) (up_in r h) 0
+  walk_is : (r : PoolData N E) → Shaped alternatives r → ahead (kids_of r.pieces) (length_of alternatives r) (length r.batches) (begin 0 ∷ [])
+      ≡ walk alternatives r
+  walk_is r h = append-nil (rest (kids_of r.pieces) (length_of alternatives r) (length r.batches) (begin 0))
+      ∙ rest_begin (kids_of r.pieces) (length_of alternatives r) (length r.batches) (ends alternatives r) (up_in r h) 0
 
   module _ (reports : List (Owed E)) (g : Given of alternatives p reports) where
     fronts : (tops : List Alternative) × (walk alternatives q ≡ g.front ++ ahead (kids_of q.pieces) (length_of alternatives q) (length q.batches) tops)
     fronts =
         let f = same_front (kids_of p.pieces) (kids_of q.pieces) (length_of alternatives p) (length_of alternatives q) (length p.batches) (length q.batches)
         (ends alternatives p) (up_in p s.shape) (ends alternatives q) (up_in q t.shape)
-        (λ b k. every_more (λ c. (b < c) × (c < length p.batches)) (λ c. c < length p.batches) (kids_of p.pieces b k) (λ c h. h.1) (kids_within p.pieces (length p.batches) s.shape.only b k))
+        (λ b k. every_more (λ c. (b < c) × (c < length p.batches)) (λ c. c < length p.batches) (kids_of p.pieces b k) (λ c h. h.1)
+        (kids_within p.pieces (length p.batches) s.shape.only b k))
         (λ b low. ap length (owed_kept alternatives p q later b low))
         (is_taken p.pieces) steady_kids g.front g.back (begin 0 ∷ []) (some_batch, tt) (walk_is p s.shape ∙ g.order) g.before in
         (f.0, sym (walk_is q t.shape) ∙ f.1)
@@ -207,13 +235,16 @@ module _ {N Of E : Type 0} (of : N → Of) (alternatives : N → List (Owed E)) 
     not_behind a there taken =
         let w = was_taken a taken in
         let i = w.0 in let x = w.1 in
-        let in_p : a.k < length_of alternatives p a.batch = subst (λ b. a.k < length_of alternatives p b) w.4 (subst (λ k. k < length_of alternatives p x.batch) w.5 (s.shape.named i x w.2)) in
-        let in_q : a.k < length_of alternatives q a.batch = subst (λ b. a.k < length_of alternatives q b) w.4 (subst (λ k. k < length_of alternatives q x.batch) w.5 (t.shape.named i x w.3)) in
+        let in_p : a.k < length_of alternatives p a.batch = subst (λ b. a.k < length_of alternatives p b) w.4
+        (subst (λ k. k < length_of alternatives p x.batch) w.5 (s.shape.named i x w.2)) in
+        let in_q : a.k < length_of alternatives q a.batch = subst (λ b. a.k < length_of alternatives q b) w.4
+        (subst (λ k. k < length_of alternatives q x.batch) w.5 (t.shape.named i x w.3)) in
         let one_p : total (is_at a) (g.front ++ g.back) ≡ 1 = ap (total (is_at a)) (sym g.order) ∙ stands_once alternatives p s.shape a.batch a.k in_p in
         let one_q : total (is_at a) (g.front ++ behind) ≡ 1 = ap (total (is_at a)) (sym fronts.1) ∙ stands_once alternatives q t.shape a.batch a.k in_q in
         let parts_p = total-append (is_at a) g.front g.back in
         let parts_q = total-append (is_at a) g.front behind in
-        let none = none_there (is_taken p.pieces) a g.back w.6 (λ b e. let h = and_parts (eqb b.batch a.batch) (eqb b.k a.k) e in λ j. is_taken p.pieces (record { batch = eqb-true b.batch a.batch h.0 j; k = eqb-true b.k a.k h.1 j })) g.others in
+        let none = none_there (is_taken p.pieces) a g.back w.6 (λ b e. let h = and_parts (eqb b.batch a.batch) (eqb b.k a.k) e in
+        λ j. is_taken p.pieces (record { batch = eqb-true b.batch a.batch h.0 j; k = eqb-true b.k a.k h.1 j })) g.others in
         omega arith
 
     pub given_later : Given of alternatives q reports

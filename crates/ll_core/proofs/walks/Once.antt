@@ -30,11 +30,13 @@ total_last_first w f (x ∷ xs) = let a = total-append w (last_first f xs) (f x)
 
 pub total_numbers : (f g : ℕ → ℕ) (from n : ℕ) → ((k : ℕ) → from ≤ k → k < from + n → f k ≡ g k) → total f (numbers from n) ≡ total g (numbers from n)
 total_numbers f g from zero h = refl
-total_numbers f g from (suc n) h = let a = h from (omega arith) (omega arith) in let b = total_numbers f g (suc from) n (λ k p q. h k (omega arith) (omega arith)) in omega arith
+total_numbers f g from (suc n) h = let a = h from (omega arith) (omega arith) in
+    let b = total_numbers f g (suc from) n (λ k p q. h k (omega arith) (omega arith)) in omega arith
 
 pub total_zero : (f : ℕ → ℕ) (from n : ℕ) → ((k : ℕ) → from ≤ k → k < from + n → f k ≡ 0) → total f (numbers from n) ≡ 0
 total_zero f from zero h = refl
-total_zero f from (suc n) h = let a = h from (omega arith) (omega arith) in let b = total_zero f (suc from) n (λ k p q. h k (omega arith) (omega arith)) in omega arith
+total_zero f from (suc n) h = let a = h from (omega arith) (omega arith) in let b = total_zero f (suc from) n (λ k p q. h k (omega arith) (omega arith)) in
+    omega arith
 
 abbrev pub one_if : Bool → ℕ
 one_if t = if t then 1 else 0
@@ -58,7 +60,8 @@ hit_other c d h = ap one_if (ne_eqb d c h)
 pub one_number : (k from n : ℕ) → from ≤ k → k < from + n → total (λ j. hit k j) (numbers from n) ≡ 1
 one_number k from zero low high = absurd (omega arith)
 one_number k from (suc n) low high = ⊎_elim
-    (λ (e : from ≡ k). let a : hit k from ≡ 1 = ap (hit k) e ∙ hit_self k in let b = total_zero (λ j. hit k j) (suc from) n (λ j p q. hit_other k j (λ f. omega arith)) in omega arith)
+    (λ (e : from ≡ k). let a : hit k from ≡ 1 = ap (hit k) e ∙ hit_self k in
+    let b = total_zero (λ j. hit k j) (suc from) n (λ j p q. hit_other k j (λ f. omega arith)) in omega arith)
     (λ (e : from ≡ k → ⊥). let a = hit_other k from e in let b = one_number k (suc from) n (let m : from < k = omega arith in m) (omega arith) in omega arith)
     (cases_eq from k)
 
@@ -74,13 +77,16 @@ module _ (kids : ℕ → ℕ → List ℕ) (len : ℕ → ℕ) (n : ℕ) (up : (
 
   in_batch : (b c k : ℕ) → k < len c → total (λ j. is_at (record { batch = c; k = k }) (record { batch = b; k = j })) (numbers 0 (len b)) ≡ hit c b
   in_batch b c k inside = ⊎_elim
-      (λ (e : b ≡ c). total_numbers (λ j. is_at (record { batch = c; k = k }) (record { batch = b; k = j })) (λ j. hit k j) 0 (len b) (λ j p q. is_at_here b c j k e)
+      (λ (e : b ≡ c). total_numbers (λ j. is_at (record { batch = c; k = k }) (record { batch = b; k = j })) (λ j. hit k j) 0 (len b)
+      (λ j p q. is_at_here b c j k e)
       ∙ (one_number k 0 (len b) (omega arith) (subst (λ m. k < 0 + len m) (sym e) (omega arith)) ∙ sym (ap (hit c) e ∙ hit_self c)))
-      (λ (e : b ≡ c → ⊥). total_zero (λ j. is_at (record { batch = c; k = k }) (record { batch = b; k = j })) 0 (len b) (λ j p q. is_at_other b c j k e) ∙ sym (hit_other c b e))
+      (λ (e : b ≡ c → ⊥). total_zero (λ j. is_at (record { batch = c; k = k }) (record { batch = b; k = j })) 0 (len b) (λ j p q. is_at_other b c j k e)
+      ∙ sym (hit_other c b e))
       (cases_eq b c)
 
   -- an alternative of batch c comes as often as c is met below another, and once more where the walk begins with c
-  met : (c k : ℕ) → c < n → k < len c → (deep b : ℕ) → n ≤ b + deep → total (is_at (record { batch = c; k = k })) (walk_deep kids len deep b) ≡ hit c b + total (count_at c) (walk_deep kids len deep b)
+  met : (c k : ℕ) → c < n → k < len c → (deep b : ℕ) → n ≤ b + deep
+      → total (is_at (record { batch = c; k = k })) (walk_deep kids len deep b) ≡ hit c b + total (count_at c) (walk_deep kids len deep b)
   met c k low inside zero b enough = let a = hit_other c b (λ e. omega arith) in omega arith
   met c k low inside (suc deep) b enough =
       let w : Alternative → ℕ = is_at (record { batch = c; k = k }) in
@@ -93,14 +99,18 @@ module _ (kids : ℕ → ℕ → List ℕ) (len : ℕ → ℕ) (n : ℕ) (up : (
       let ks : List ℕ = kids b j in
       let a1 : total w (last_first W ks) ≡ total (λ d. total w (W d)) ks = total_last_first w W ks in
       let a2 : total (λ d. total w (W d)) ks ≡ total (λ d. hit c d + total (count_at c) (W d)) ks =
-      total_same (λ d. total w (W d)) (λ d. hit c d + total (count_at c) (W d)) ks (every_more (λ d. b < d) (λ d. total w (W d) ≡ hit c d + total (count_at c) (W d)) ks (λ d more. met c k low inside deep d (omega arith)) (up b j)) in
-      let a3 : total (λ d. hit c d + total (count_at c) (W d)) ks ≡ total (hit c) ks + total (λ d. total (count_at c) (W d)) ks = total_sum (hit c) (λ d. total (count_at c) (W d)) ks in
+      total_same (λ d. total w (W d)) (λ d. hit c d + total (count_at c) (W d)) ks
+      (every_more (λ d. b < d) (λ d. total w (W d) ≡ hit c d + total (count_at c) (W d)) ks (λ d more. met c k low inside deep d (omega arith)) (up b j)) in
+      let a3 : total (λ d. hit c d + total (count_at c) (W d)) ks ≡ total (hit c) ks + total (λ d. total (count_at c) (W d)) ks =
+      total_sum (hit c) (λ d. total (count_at c) (W d)) ks in
       let a4 : total (count_at c) (last_first W ks) ≡ total (λ d. total (count_at c) (W d)) ks = total_last_first (count_at c) W ks in
       let a5 : count_of c ks ≡ total (hit c) ks = count_is_total c ks in
       omega arith) in
-      let e3 : total (λ j. here j + total (count_at c) (below j)) (numbers 0 (len b)) ≡ total here (numbers 0 (len b)) + total (λ j. total (count_at c) (below j)) (numbers 0 (len b)) = total_sum here (λ j. total (count_at c) (below j)) (numbers 0 (len b)) in
+      let e3 : total (λ j. here j + total (count_at c) (below j)) (numbers 0 (len b)) ≡ total here (numbers 0 (len b))
+      + total (λ j. total (count_at c) (below j)) (numbers 0 (len b)) = total_sum here (λ j. total (count_at c) (below j)) (numbers 0 (len b)) in
       let e4 : total here (numbers 0 (len b)) ≡ hit c b = in_batch b c k inside in
-      let e5 : total (count_at c) (flat_map below (numbers 0 (len b))) ≡ total (λ j. total (count_at c) (below j)) (numbers 0 (len b)) = total_flat (count_at c) below (numbers 0 (len b)) in
+      let e5 : total (count_at c) (flat_map below (numbers 0 (len b))) ≡ total (λ j. total (count_at c) (below j)) (numbers 0 (len b)) =
+      total_flat (count_at c) below (numbers 0 (len b)) in
       omega arith
 
   zero_total : {X : Type 0} (f : X → ℕ) (xs : List X) → ((x : X) → f x ≡ 0) → total f xs ≡ 0
@@ -124,5 +134,6 @@ module _ (kids : ℕ → ℕ → List ℕ) (len : ℕ → ℕ) (n : ℕ) (up : (
       let p = above (suc c) (omega arith) low in
       let older = p.1 in
       let one : total (is_at p.0) (walk_deep kids len n 0) ≡ 1 = met_once above bound p.0.batch p.0.k (omega arith) (omega arith) p.2 in
-      let s : total (count_at (suc c)) (walk_deep kids len n 0) ≡ total (is_at p.0) (walk_deep kids len n 0) = ap (λ f. total f (walk_deep kids len n 0)) (λ i x. p.3 x i) in
+      let s : total (count_at (suc c)) (walk_deep kids len n 0) ≡ total (is_at p.0) (walk_deep kids len n 0) =
+      ap (λ f. total f (walk_deep kids len n 0)) (λ i x. p.3 x i) in
       let h = hit_other (suc c) 0 (λ e. omega arith) in omega arith

@@ -1,5 +1,6 @@
 -- The walk over a pool's tree.
-use Rattle.std.proofs.Common.{◌≡◌, ℕ, zero, suc, ◌+◌, ◌-◌, ◌<◌, ◌≤◌, List, [], ◌∷◌, ◌++◌, Bool, true, false, refl, sym, ap, ◌∙◌, arith, append_assoc, append-nil, eqb, if◌then◌else◌, ◌&&◌}
+use Rattle.std.proofs.Common.{◌≡◌, ℕ, zero, suc, ◌+◌, ◌-◌, ◌<◌, ◌≤◌, List, [], ◌∷◌, ◌++◌, Bool, true, false, refl, sym, ap, ◌∙◌, arith, append_assoc}
+use Rattle.std.proofs.Common.{append-nil, eqb, if◌then◌else◌, ◌&&◌}
 use Rattle.std.specs.Prelude.{flat_map}
 use Rattle.std.proofs.lemmas.List.Concat.{flat_map-append, flat_map_single}
 use Rattle.ll_laws.specs.Pool.{Alternative}
@@ -31,7 +32,8 @@ pub last_first_snoc : {X A : Type 0} (f : X → List A) (xs : List X) (y : X) �
 last_first_snoc f [] y = sym (append-nil (f y))
 last_first_snoc f (x ∷ xs) y = ap (λ l. l ++ f x) (last_first_snoc f xs y) ∙ append_assoc (f y) (last_first f xs) (f x)
 
-pub flat_numbers : {A : Type 0} (f g : ℕ → List A) (from n : ℕ) → ((k : ℕ) → from ≤ k → k < from + n → f k ≡ g k) → flat_map f (numbers from n) ≡ flat_map g (numbers from n)
+pub flat_numbers : {A : Type 0} (f g : ℕ → List A) (from n : ℕ) → ((k : ℕ) → from ≤ k → k < from + n → f k ≡ g k)
+    → flat_map f (numbers from n) ≡ flat_map g (numbers from n)
 flat_numbers f g from zero h = refl
 flat_numbers f g from (suc n) h = λ i. h from (omega arith) (omega arith) i ++ flat_numbers f g (suc from) n (λ k a b. h k (omega arith) (omega arith)) i
 
@@ -49,7 +51,8 @@ module _ (kids : ℕ → ℕ → List ℕ) (len : ℕ → ℕ) (n : ℕ) (ends :
       let inside : k < len b = omega arith in
       ap (λ l. value (record { batch = b; k = k }) ++ l)
       (flat_last_first value (walk_deep kids len deep) (kids b k)
-      ∙ last_first_same below whole (kids b k) (every_more (λ c. b < c) (λ c. below c ≡ whole c) (kids b k) (λ c more. walk_gives value one whole whole_is parts deep c (omega arith)) (up b k inside)))
+      ∙ last_first_same below whole (kids b k) (every_more (λ c. b < c) (λ c. below c ≡ whole c) (kids b k)
+      (λ c more. walk_gives value one whole whole_is parts deep c (omega arith)) (up b k inside)))
       ∙ parts b k inside)
       ∙ sym (whole_is b))
 
@@ -71,16 +74,20 @@ module _ (kids kids' : ℕ → ℕ → List ℕ) (len len' : ℕ → ℕ) (n m :
     (kids_same : (b k : ℕ) → is_alternative (record { batch = b; k = k }) at ≡ false → kids' b k ≡ kids b k) where
   walk_new : (deep : ℕ) → walk_deep kids' len' (suc deep) n ≡ alternatives_of n m
   walk_new deep =
-      flat_numbers (walk_alternative kids' (walk_deep kids' len' deep) n) (λ k. record { batch = n; k = k } ∷ []) 0 (len' n) (λ k low high. ap (λ ks. record { batch = n; k = k } ∷ last_first (walk_deep kids' len' deep) ks) (kids_new k))
+      flat_numbers (walk_alternative kids' (walk_deep kids' len' deep) n) (λ k. record { batch = n; k = k } ∷ []) 0 (len' n)
+      (λ k low high. ap (λ ks. record { batch = n; k = k } ∷ last_first (walk_deep kids' len' deep) ks) (kids_new k))
       ∙ (flat_map_single (λ k. record { batch = n; k = k }) (numbers 0 (len' n))
       ∙ ap (alternatives_of n) len_new)
 
-  one_more : (walk : ℕ → List Alternative) → walk n ≡ alternatives_of n m → (b k : ℕ) (t : Bool) → is_alternative (record { batch = b; k = k }) at ≡ t → last_first walk (kids' b k) ≡ if_here t (alternatives_of n m) ++ last_first walk (kids b k)
-  one_more walk there b k true is = ap (last_first walk) (kids_at b k is) ∙ (last_first_snoc walk (kids b k) n ∙ ap (λ l. l ++ last_first walk (kids b k)) there)
+  one_more : (walk : ℕ → List Alternative) → walk n ≡ alternatives_of n m → (b k : ℕ) (t : Bool) → is_alternative (record { batch = b; k = k }) at ≡ t
+      → last_first walk (kids' b k) ≡ if_here t (alternatives_of n m) ++ last_first walk (kids b k)
+  one_more walk there b k true is = ap (last_first walk) (kids_at b k is)
+      ∙ (last_first_snoc walk (kids b k) n ∙ ap (λ l. l ++ last_first walk (kids b k)) there)
   one_more walk there b k false is = ap (last_first walk) (kids_same b k is)
 
   -- the walk after a batch was published: its alternatives come right after the piece
-  pub walk_inserted : (deep b : ℕ) → b < n → n ≤ b + deep → walk_deep kids' len' (suc deep) b ≡ flat_map (insert_after at (alternatives_of n m)) (walk_deep kids len deep b)
+  pub walk_inserted : (deep b : ℕ) → b < n → n ≤ b + deep → walk_deep kids' len' (suc deep) b
+      ≡ flat_map (insert_after at (alternatives_of n m)) (walk_deep kids len deep b)
   walk_inserted zero b low enough = absurd (omega arith)
   walk_inserted (suc deep) b low enough =
       let old : ℕ → List Alternative = walk_deep kids len deep in
@@ -93,12 +100,15 @@ module _ (kids kids' : ℕ → ℕ → List ℕ) (len len' : ℕ → ℕ) (n m :
       ap (λ l. record { batch = b; k = k } ∷ l)
       (one_more new (walk_new deep) b k (is_alternative (record { batch = b; k = k }) at) refl
       ∙ ap (λ l. here ++ l)
-      (last_first_same new (λ c. flat_map into (old c)) (kids b k) (every_more (λ c. (b < c) × (c < n)) (λ c. new c ≡ flat_map into (old c)) (kids b k) (λ c more. let up = more.0 in walk_inserted deep c more.1 (omega arith)) (within b k inside))
+      (last_first_same new (λ c. flat_map into (old c)) (kids b k)
+      (every_more (λ c. (b < c) × (c < n)) (λ c. new c ≡ flat_map into (old c)) (kids b k) (λ c more. let up = more.0 in
+      walk_inserted deep c more.1 (omega arith)) (within b k inside))
       ∙ sym (flat_last_first into old (kids b k)))))
       ∙ sym (flat_twice into (walk_alternative kids old b) (numbers 0 (len b))))
 
   -- the same of what is left of a batch
-  pub rest_inserted : (b from : ℕ) → b < n → flat_map (walk_alternative kids' (walk_deep kids' len' (suc n)) b) (numbers from (len' b - from)) ≡ flat_map (insert_after at (alternatives_of n m)) (flat_map (walk_alternative kids (walk_deep kids len n) b) (numbers from (len b - from)))
+  pub rest_inserted : (b from : ℕ) → b < n → flat_map (walk_alternative kids' (walk_deep kids' len' (suc n)) b) (numbers from (len' b - from))
+      ≡ flat_map (insert_after at (alternatives_of n m)) (flat_map (walk_alternative kids (walk_deep kids len n) b) (numbers from (len b - from)))
   rest_inserted b from low =
       let old : ℕ → List Alternative = walk_deep kids len n in
       let new : ℕ → List Alternative = walk_deep kids' len' (suc n) in
@@ -110,10 +120,13 @@ module _ (kids kids' : ℕ → ℕ → List ℕ) (len len' : ℕ → ℕ) (n m :
       ap (λ l. record { batch = b; k = k } ∷ l)
       (one_more new (walk_new n) b k (is_alternative (record { batch = b; k = k }) at) refl
       ∙ ap (λ l. here ++ l)
-      (last_first_same new (λ c. flat_map into (old c)) (kids b k) (every_more (λ c. (b < c) × (c < n)) (λ c. new c ≡ flat_map into (old c)) (kids b k) (λ c more. walk_inserted n c more.1 (omega arith)) (within b k inside))
+      (last_first_same new (λ c. flat_map into (old c)) (kids b k)
+      (every_more (λ c. (b < c) × (c < n)) (λ c. new c ≡ flat_map into (old c)) (kids b k) (λ c more. walk_inserted n c more.1 (omega arith))
+      (within b k inside))
       ∙ sym (flat_last_first into old (kids b k)))))
       ∙ sym (flat_twice into (walk_alternative kids old b) (numbers from (len b - from))))
 
 -- the same walk, read from lists and lengths that agree
-pub walk_same : (kids kids' : ℕ → ℕ → List ℕ) (len : ℕ → ℕ) → ((b k : ℕ) → kids' b k ≡ kids b k) → (deep b : ℕ) → walk_deep kids' len deep b ≡ walk_deep kids len deep b
+pub walk_same : (kids kids' : ℕ → ℕ → List ℕ) (len : ℕ → ℕ) → ((b k : ℕ) → kids' b k ≡ kids b k) → (deep b : ℕ)
+    → walk_deep kids' len deep b ≡ walk_deep kids len deep b
 walk_same kids kids' len same deep b = ap (λ f. walk_deep f len deep b) (λ i b k. same b k i)

@@ -9,7 +9,9 @@ use Rattle.ll_lists.proofs.CallerLemmas.{and_true_left as and_left, and_true_rig
 use Rattle.ll_bank.specs.declared.At.{At}
 use Rattle.ll_bank.specs.declared.FormAt.{FormAt}
 use Rattle.ll_bank.specs.declared.FormNode.{FormNode}
-use Rattle.ll_bank.specs.declared.FormNode.TheVariants.{Top as TopView, One as OneView, Atom as AtomView, With as WithView, Tensor as TensorView, Plus as PlusView, Bang as BangView, Lolli as LolliView, Imp as ImpView, Forall as ForallView, Exists as ExistsView, Use as UseView, Is as IsView, Less as LessView, Most as MostView}
+use Rattle.ll_bank.specs.declared.FormNode.TheVariants.{Top as TopView, One as OneView, Atom as AtomView, With as WithView, Tensor as TensorView}
+use Rattle.ll_bank.specs.declared.FormNode.TheVariants.{Plus as PlusView, Bang as BangView, Lolli as LolliView, Imp as ImpView, Forall as ForallView}
+use Rattle.ll_bank.specs.declared.FormNode.TheVariants.{Exists as ExistsView, Use as UseView, Is as IsView, Less as LessView, Most as MostView}
 use Rattle.ll_bank.specs.declared.Head.TheVariants.{Name}
 use Rattle.ll_bank.specs.Term.{Term, Var, Int, Con, Ap, sub, head_of, arity, is_spine}
 use Rattle.ll_bank.specs.Form.{Form, Top, One, Atom, With, Tensor, Plus, Bang, Lolli, Imp, Forall, Exists, Use, Num, sub_form}
@@ -24,7 +26,8 @@ use Rattle.ll_index.specs.Context.{AreOfProgram}
 use Rattle.ll_index.specs.First.{first_of, entry_matches}
 use Rattle.ll_freeze.specs.declared.machine.Machine.{Machine}
 use Rattle.ll_freeze.specs.declared.machine.Item.{Item as KeptItem}
-use Rattle.ll_freeze.specs.declared.machine.Item.TheVariants.{Goal as KeptGoal, LolliEnd as KeptLolliEnd, ImpEnd as KeptImpEnd, Mid as KeptMiddle, WithEnd as KeptWithEnd, BangEnd as KeptBangEnd}
+use Rattle.ll_freeze.specs.declared.machine.Item.TheVariants.{Goal as KeptGoal, LolliEnd as KeptLolliEnd, ImpEnd as KeptImpEnd, Mid as KeptMiddle}
+use Rattle.ll_freeze.specs.declared.machine.Item.TheVariants.{WithEnd as KeptWithEnd, BangEnd as KeptBangEnd}
 use Rattle.ll_freeze.specs.Parts.{Parts, parts_of}
 use Rattle.ll_freeze.specs.Fits.{Fits, allowed, setting}
 use Rattle.ll_freeze.specs.Reading.{reading, read_term, read_form}
@@ -98,7 +101,9 @@ splits m n f e =
     let q : n ≡ length p.above = omega arith in
     record {
       enough = omega arith;
-      of = subst (AreOfProgram 0 m.problem.clauses) (sym (ap (λ k. drop k (shown_context m)) q ∙ (ap (drop (length p.above)) all ∙ drop-append_seam p.above p.under))) p.of;
+      of =
+          subst (AreOfProgram 0 m.problem.clauses) (sym (ap (λ k. drop k (shown_context m)) q
+          ∙ (ap (drop (length p.above)) all ∙ drop-append_seam p.above p.under))) p.of;
     }
 
 -- candidates of a context in two parts
@@ -116,7 +121,8 @@ each_head n m Top e = λ i d l. absurd (omega arith)
 each_head n m One e = λ i d l. absurd (omega arith)
 each_head n m (Atom a) e = All-cons (λ h. vars_below n h ≡ true) a [] e (λ i d l. absurd (omega arith))
 each_head n m (With f g) e =
-    All-append (λ h. vars_below n h ≡ true) (heads f) (heads g) (each_head n m f (and_left (each_term (λ k. vars_below n) m f) (each_term (λ k. vars_below n) m g) e))
+    All-append (λ h. vars_below n h ≡ true) (heads f) (heads g)
+    (each_head n m f (and_left (each_term (λ k. vars_below n) m f) (each_term (λ k. vars_below n) m g) e))
     (each_head n m g (and_right (each_term (λ k. vars_below n) m f) (each_term (λ k. vars_below n) m g) e))
 each_head n m (Tensor f g) e = λ i d l. absurd (omega arith)
 each_head n m (Plus f g) e = λ i d l. absurd (omega arith)
@@ -136,16 +142,20 @@ all-map P f (x ∷ xs) h = All-cons (λ x. P (f x)) x xs (All-head P (f x) (map 
 abbrev pub HeadsBelow : Parts → FormAt → Type 0
 HeadsBelow m g = All (λ h. vars_below (length m.levels) (sub (reading m.bank m.bound) h) ≡ true) (heads (form_tree m.bank g.0))
 
-clause_below : (m : Parts) (may : Allowed) (g : FormAt) → may.variables ≡ length m.levels → IsFormula may ClauseSide [] (read_form m.bank m.bound g) → HeadsBelow m g
+clause_below : (m : Parts) (may : Allowed) (g : FormAt) → may.variables ≡ length m.levels → IsFormula may ClauseSide [] (read_form m.bank m.bound g)
+    → HeadsBelow m g
 clause_below m may g e h =
     all-map (λ t. vars_below (length m.levels) t ≡ true) (sub (reading m.bank m.bound)) (heads (form_tree m.bank g.0))
     (subst (All (λ t. vars_below (length m.levels) t ≡ true)) (heads-sub (reading m.bank m.bound) (form_tree m.bank g.0))
-    (each_head (length m.levels) 0 (read_form m.bank m.bound g) (subst (λ n. each_term (λ k. vars_below n) 0 (read_form m.bank m.bound g) ≡ true) e h.variables)))
+    (each_head (length m.levels) 0 (read_form m.bank m.bound g)
+    (subst (λ n. each_term (λ k. vars_below n) 0 (read_form m.bank m.bound g) ≡ true) e h.variables)))
 
-entries_below : (m : Parts) (may : Allowed) (es : List (Entry FormAt)) → may.variables ≡ length m.levels → AreResources may (map (shown_entry m.bank m.bound) es)
+entries_below : (m : Parts) (may : Allowed) (es : List (Entry FormAt)) → may.variables ≡ length m.levels
+    → AreResources may (map (shown_entry m.bank m.bound) es)
     → All (λ (e : Entry FormAt). HeadsBelow m e.clause) es
 entries_below m may [] v h = λ i d l. absurd (omega arith)
-entries_below m may (e ∷ es) v h = All-cons (λ (e : Entry FormAt). HeadsBelow m e.clause) e es (clause_below m may e.clause v h.0) (entries_below m may es v h.1)
+entries_below m may (e ∷ es) v h = All-cons (λ (e : Entry FormAt). HeadsBelow m e.clause) e es (clause_below m may e.clause v h.0)
+    (entries_below m may es v h.1)
 
 resources_shown : (m : Parts) → Fits m → AreResources (allowed m) (shown_context m)
 unfolding state_of
@@ -167,7 +177,8 @@ all-take P zero xs h = λ i d l. absurd (omega arith)
 all-take P (suc n) [] h = h
 all-take P (suc n) (x ∷ xs) h = All-cons P x (take n xs) (All-head P x xs h) (all-take P n xs (All-tail P x xs h))
 
-module _ (k : Machine) (atom : At) (asked : Asked) (f : Fits (parts_of k)) (w : IsAtom (parts_of k) atom) (asks : AsksFor k.store (term_tree k.store.bank atom.0) asked) where
+module _ (k : Machine) (atom : At) (asked : Asked) (f : Fits (parts_of k)) (w : IsAtom (parts_of k) atom)
+    (asks : AsksFor k.store (term_tree k.store.bank atom.0) asked) where
   abbrev m : Parts
   m = parts_of k
 
@@ -195,19 +206,25 @@ module _ (k : Machine) (atom : At) (asked : Asked) (f : Fits (parts_of k)) (w : 
       (all-take (λ (e : Entry FormAt). IsFormula (allowed m) ClauseSide [] (form_tree m.bank e.clause.0)) n m.resources.entries f.sorted_clauses) in
       let P = flat_map (entry_matches asked.first read) (drop n (shown_context m)) in
       rest
-      ∙ (ap (λ xs. xs ++ P) (walked ∙ (ap (λ xs. xs ++ flat_map (open_tries (head_fits k.store asked)) (map (standing_entry m.bank) (take n m.resources.entries))) none ∙ sym walk))
+      ∙
+      (ap (λ xs. xs ++ P)
+      (walked ∙ (ap (λ xs. xs ++ flat_map (open_tries (head_fits k.store asked)) (map (standing_entry m.bank) (take n m.resources.entries))) none
+      ∙ sym walk))
       ∙ (sym (two_parts m n (entry_matches asked.first read))
       ∙ (ap (λ s. flat_map (entry_matches s read) (shown_context m)) asks.first ∙ sym w.matches_are)))
 
   -- where the head is no name the walk alone does
-  pub loaded_match : (n : ℕ) (found loaded all : List Candidate) → AreOfProgram 0 m.problem.clauses (drop n (shown_context m)) → ((name : ℕ) → asked.predicate.head ≡ Name name → ⊥) → found ≡ []
-      → loaded ≡ found ++ flat_map (open_tries (head_fits k.store asked)) (map (standing_entry m.bank) (take n m.resources.entries)) → all ≡ loaded → all ≡ matches (state_of m)
+  pub loaded_match : (n : ℕ) (found loaded all : List Candidate) → AreOfProgram 0 m.problem.clauses (drop n (shown_context m))
+      → ((name : ℕ) → asked.predicate.head ≡ Name name → ⊥) → found ≡ []
+      → loaded ≡ found ++ flat_map (open_tries (head_fits k.store asked)) (map (standing_entry m.bank) (take n m.resources.entries)) → all ≡ loaded
+      → all ≡ matches (state_of m)
   loaded_match n found loaded all of un none walked same =
       all_matches n found loaded all none walked
       (same
       ∙ (sym (append-nil loaded)
       ∙ ap (λ xs. loaded ++ xs)
-      (sym (no_program (length m.problem.names) m.problem.modules read (λ i e. let q : Some asked.predicate.head ≡ Some (Name i) = sym head_read ∙ e in un i (cc (q))) asked.first 0 m.problem.clauses (drop n (shown_context m)) f.valid.clauses of))))
+      (sym (no_program (length m.problem.names) m.problem.modules read (λ i e. let q : Some asked.predicate.head ≡ Some (Name i) = sym head_read ∙ e in
+      un i (cc (q))) asked.first 0 m.problem.clauses (drop n (shown_context m)) f.valid.clauses of))))
 
 -- an atom has a predicate
 pub has_head : (m : Parts) (atom : At) (P : Type 0) → IsAtom m atom → head_of (term_tree m.bank atom.0) ≡ None → P
@@ -224,7 +241,8 @@ pub matches_end : (m : Parts) (i : KeptItem) (rest : List KeptItem) → items_of
 unfolding matches state_of
 matches_end m i rest e not = ap (λ is. agenda_matches (map (shown_item m.bank m.bound m.resources.kept) is) (shown_context m)) e ∙ go i not
   where
-    go : (j : KeptItem) → ((g : FormAt) → j ≡ KeptGoal g → ⊥) → agenda_matches (map (shown_item m.bank m.bound m.resources.kept) (j ∷ rest)) (shown_context m) ≡ []
+    go : (j : KeptItem) → ((g : FormAt) → j ≡ KeptGoal g → ⊥)
+        → agenda_matches (map (shown_item m.bank m.bound m.resources.kept) (j ∷ rest)) (shown_context m) ≡ []
     go (KeptGoal g) n = absurd (n g refl)
     go (KeptLolliEnd b) n = refl
     go KeptImpEnd n = refl

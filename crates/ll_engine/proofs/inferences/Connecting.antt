@@ -42,10 +42,12 @@ attempt_by old g rest c f e1 e2 =
     let s : state_of old ≡ at_goal old g rest =
     state_is old ∙ ap (λ xs. state_by old.bank old.bound old.resources xs old.levels old.eigens old.terms old.steps) e1 in
     ap (λ (s : State). attempt_agenda (setting old) s s.agenda c) s
-    ∙ ap (λ (f : Form). attempt_goal (setting old) (at_goal old g rest) (sub_form (reading old.bank old.bound) f) (map (shown_item old.bank old.bound old.resources.kept) rest) c) e2
+    ∙ ap (λ (f : Form). attempt_goal (setting old) (at_goal old g rest) (sub_form (reading old.bank old.bound) f)
+    (map (shown_item old.bank old.bound old.resources.kept) rest) c) e2
 
 -- an inference that leaves the terms as they are
-pub row : (old new : Parts) (h : Resources FormAt) (k : Resources FormAt) (g : FormAt) (rest front : List Item) (step : Step) (c : Candidate) (f : Form) → Fits old → items_of old ≡ Goal g ∷ rest
+pub row : (old new : Parts) (h : Resources FormAt) (k : Resources FormAt) (g : FormAt) (rest front : List Item) (step : Step) (c : Candidate) (f : Form)
+    → Fits old → items_of old ≡ Goal g ∷ rest
     → form_tree old.bank g.0 ≡ f → GoesOn (record old { resources = h }) front rest step new → h ≡ k
     → attempt_goal (setting old) (at_goal old g rest) (sub_form (reading old.bank old.bound) f) (map (shown_item old.bank old.bound old.resources.kept) rest) c
     ≡ Some (state_by old.bank old.bound k (front ++ rest) old.levels old.eigens old.terms (old.steps ++ step ∷ []))
@@ -74,14 +76,17 @@ row old new h k g rest front step c f fits e1 e2 go e4 e3 clauses items sorted g
       left = l;
       fits = fits_kept old new s fits
           (steps_consistent (length old.problem.names) (setting old) (state_of old) (state_of new) c fits.valid.modules fits.consistent a)
-          (step_rests (length old.problem.names) old.problem.modules old.problem.clauses fits.valid.clauses (setting old) (state_of old) (state_of new) c a fits.rests)
-          x (rw r clauses) (rw r sorted) go.top (rw (r, go.items) items) (rw go.items goals) (let b = fits.labels in omega (arith, b, l, n, next)) (let b = fits.eigens in omega (arith, b, l, x));
+          (step_rests (length old.problem.names) old.problem.modules old.problem.clauses fits.valid.clauses (setting old) (state_of old) (state_of new) c a
+          fits.rests)
+          x (rw r clauses) (rw r sorted) go.top (rw (r, go.items) items) (rw go.items goals) (let b = fits.labels in
+          omega (arith, b, l, n, next)) (let b = fits.eigens in omega (arith, b, l, x));
     }
 
 -- items behind a goal are items of the machine
 pub rest_items : (m : Parts) (g : FormAt) (rest : List Item) → Fits m → items_of m ≡ Goal g ∷ rest → All (HasItem m.bank (length m.resources.kept)) rest
 rest_items m g rest f e =
-    let a : All (HasItem m.bank (length m.resources.kept)) (Goal g ∷ rest) = subst (λ (xs : List Item). All (HasItem m.bank (length m.resources.kept)) xs) e f.items in
+    let a : All (HasItem m.bank (length m.resources.kept)) (Goal g ∷ rest) =
+    subst (λ (xs : List Item). All (HasItem m.bank (length m.resources.kept)) xs) e f.items in
     All-tail (HasItem m.bank (length m.resources.kept)) (Goal g) rest a
 
 pub rest_goals : (m : Parts) (g : FormAt) (rest : List Item) → Fits m → items_of m ≡ Goal g ∷ rest → All (IsGoalIn (allowed m) m.bank) rest
@@ -89,10 +94,12 @@ rest_goals m g rest f e =
     All-tail (IsGoalIn (allowed m) m.bank) (Goal g) rest (subst (λ (xs : List Item). All (IsGoalIn (allowed m) m.bank) xs) e f.sorted_goals)
 
 -- the goal in front as it stands
-pub goal_fits : (m : Parts) (g : FormAt) (rest : List Item) (h : Form) → Fits m → items_of m ≡ Goal g ∷ rest → form_tree m.bank g.0 ≡ h → FormFits (allowed m) GoalSide [] h
+pub goal_fits : (m : Parts) (g : FormAt) (rest : List Item) (h : Form) → Fits m → items_of m ≡ Goal g ∷ rest → form_tree m.bank g.0 ≡ h
+    → FormFits (allowed m) GoalSide [] h
 goal_fits m g rest h f e1 e2 =
     let a : All (IsGoalIn (allowed m) m.bank) (Goal g ∷ rest) = subst (λ (xs : List Item). All (IsGoalIn (allowed m) m.bank) xs) e1 f.sorted_goals in
-    fits_of_formula (allowed m) GoalSide [] h (subst (λ (x : Form). IsFormula (allowed m) GoalSide [] x) e2 (All-head (IsGoalIn (allowed m) m.bank) (Goal g) rest a))
+    fits_of_formula (allowed m) GoalSide [] h (subst (λ (x : Form). IsFormula (allowed m) GoalSide [] x) e2
+    (All-head (IsGoalIn (allowed m) m.bank) (Goal g) rest a))
 
 -- parts of the goal in front are places of the bank
 part : (m : Parts) (g f : FormAt) (rest : List Item) → Fits m → items_of m ≡ Goal g ∷ rest → f.0 < g.0 → HasForm m.bank f.0
@@ -100,11 +107,14 @@ part m g f rest h e l = let a = goal_inside m g rest h e in omega (arith, a, l)
 
 pub one : (old new : Parts) (g : FormAt) (rest : List Item) (c : Candidate) → Fits old → items_of old ≡ Goal g ∷ rest → form_tree old.bank g.0 ≡ One
     → GoesOn old [] rest Plain new → Infers old c new
-one old new g rest c f e1 e2 go = row old new old.resources old.resources g rest [] Plain c One f e1 e2 go refl refl f.clauses (rest_items old g rest f e1) f.sorted_clauses (rest_goals old g rest f e1) (omega arith)
+one old new g rest c f e1 e2 go = row old new old.resources old.resources g rest [] Plain c One f e1 e2 go refl refl f.clauses (rest_items old g rest f e1)
+    f.sorted_clauses (rest_goals old g rest f e1) (omega arith)
 
-pub top : (old new : Parts) (h : Resources FormAt) (g : FormAt) (rest : List Item) (c : Candidate) → Fits old → items_of old ≡ Goal g ∷ rest → form_tree old.bank g.0 ≡ Top
+pub top : (old new : Parts) (h : Resources FormAt) (g : FormAt) (rest : List Item) (c : Candidate) → Fits old → items_of old ≡ Goal g ∷ rest
+    → form_tree old.bank g.0 ≡ Top
     → h ≡ after_erase old.resources → GoesOn (record old { resources = h }) [] rest Plain new → Infers old c new
-top old new h g rest c f e1 e2 e go = row old new h (after_erase old.resources) g rest [] Plain c Top f e1 e2 go e refl f.clauses (rest_items old g rest f e1) f.sorted_clauses (rest_goals old g rest f e1) (omega arith)
+top old new h g rest c f e1 e2 e go = row old new h (after_erase old.resources) g rest [] Plain c Top f e1 e2 go e refl f.clauses (rest_items old g rest f e1)
+    f.sorted_clauses (rest_goals old g rest f e1) (omega arith)
 
 pub tensor : (old new : Parts) (g a b : FormAt) (rest : List Item) (c : Candidate) → Fits old → items_of old ≡ Goal g ∷ rest
     → form_tree old.bank g.0 ≡ Tensor (form_tree old.bank a.0) (form_tree old.bank b.0) → (a.0 < g.0) × (b.0 < g.0)
@@ -115,7 +125,8 @@ tensor old new g a b rest c f e1 e2 l go =
     row old new old.resources old.resources g rest (Goal a ∷ Goal b ∷ []) Plain c _ f e1 e2 go refl refl f.clauses
     (All-cons P (Goal a) (Goal b ∷ rest) (part old g a rest f e1 l.0) (All-cons P (Goal b) rest (part old g b rest f e1 l.1) (rest_items old g rest f e1)))
     f.sorted_clauses
-    (All-cons R (Goal a) (Goal b ∷ rest) (formula_of_fits may GoalSide [] _ s.1) (All-cons R (Goal b) rest (formula_of_fits may GoalSide [] _ s.2) (rest_goals old g rest f e1))) (omega arith)
+    (All-cons R (Goal a) (Goal b ∷ rest) (formula_of_fits may GoalSide [] _ s.1)
+    (All-cons R (Goal b) rest (formula_of_fits may GoalSide [] _ s.2) (rest_goals old g rest f e1))) (omega arith)
 
 pub left : (old new : Parts) (g a b : FormAt) (rest : List Item) (c : Candidate) → Fits old → items_of old ≡ Goal g ∷ rest
     → form_tree old.bank g.0 ≡ Plus (form_tree old.bank a.0) (form_tree old.bank b.0) → (a.0 < g.0) × (b.0 < g.0) → c.leaf ≡ 0
@@ -123,9 +134,11 @@ pub left : (old new : Parts) (g a b : FormAt) (rest : List Item) (c : Candidate)
 left old new g a b rest c f e1 e2 l z go =
     let s = reading old.bank old.bound in let p = goal_fits old g rest _ f e1 e2 in
     row old new old.resources old.resources g rest (Goal a ∷ []) Left c _ f e1 e2 go refl
-    (ap (λ k. Some (take_side k (at_goal old g rest) (sub_form s (form_tree old.bank a.0)) (sub_form s (form_tree old.bank b.0)) (map (shown_item old.bank old.bound old.resources.kept) rest))) z)
+    (ap (λ k. Some (take_side k (at_goal old g rest) (sub_form s (form_tree old.bank a.0)) (sub_form s (form_tree old.bank b.0))
+    (map (shown_item old.bank old.bound old.resources.kept) rest))) z)
     f.clauses (All-cons (HasItem old.bank (length old.resources.kept)) (Goal a) rest (part old g a rest f e1 l.0) (rest_items old g rest f e1))
-    f.sorted_clauses (All-cons (IsGoalIn (allowed old) old.bank) (Goal a) rest (formula_of_fits (allowed old) GoalSide [] _ p.1) (rest_goals old g rest f e1)) (omega arith)
+    f.sorted_clauses (All-cons (IsGoalIn (allowed old) old.bank) (Goal a) rest (formula_of_fits (allowed old) GoalSide [] _ p.1) (rest_goals old g rest f e1))
+    (omega arith)
 
 right_side : (k : ℕ) (s : State) (f g : Form) (rest : List (ItemOf Form)) → (k ≡ 0 → ⊥) → take_side k s f g rest ≡ stepped s (GoalOf g ∷ rest) Right
 right_side zero s f g rest n = absurd (n refl)
@@ -139,7 +152,8 @@ right old new g a b rest c f e1 e2 l z go =
     row old new old.resources old.resources g rest (Goal b ∷ []) Right c _ f e1 e2 go refl
     (ap (λ (s : State). Some s) (right_side c.leaf (at_goal old g rest) _ _ _ z))
     f.clauses (All-cons (HasItem old.bank (length old.resources.kept)) (Goal b) rest (part old g b rest f e1 l.1) (rest_items old g rest f e1))
-    f.sorted_clauses (All-cons (IsGoalIn (allowed old) old.bank) (Goal b) rest (formula_of_fits (allowed old) GoalSide [] _ p.2) (rest_goals old g rest f e1)) (omega arith)
+    f.sorted_clauses (All-cons (IsGoalIn (allowed old) old.bank) (Goal b) rest (formula_of_fits (allowed old) GoalSide [] _ p.2) (rest_goals old g rest f e1))
+    (omega arith)
 
 pub implies : (old new : Parts) (h : Resources FormAt) (g r b : FormAt) (rest : List Item) (c : Candidate) → Fits old → items_of old ≡ Goal g ∷ rest
     → form_tree old.bank g.0 ≡ Imp (form_tree old.bank r.0) (form_tree old.bank b.0) → (r.0 < g.0) × (b.0 < g.0)
@@ -150,7 +164,8 @@ implies old new h g r b rest c f e1 e2 l e go =
     row old new h (after_load Unbounded r old.resources) g rest (Goal b ∷ ImpEnd ∷ []) Plain c _ f e1 e2 go e refl
     (All-cons (λ (e : Entry FormAt). HasForm old.bank e.clause.0) _ old.resources.entries (part old g r rest f e1 l.0) f.clauses)
     (All-cons P (Goal b) (ImpEnd ∷ rest) (part old g b rest f e1 l.1) (All-cons P ImpEnd rest tt (rest_items old g rest f e1)))
-    (All-cons (λ (e : Entry FormAt). IsFormula may ClauseSide [] (form_tree old.bank e.clause.0)) _ old.resources.entries (formula_of_fits may ClauseSide [] _ s.0) f.sorted_clauses)
+    (All-cons (λ (e : Entry FormAt). IsFormula may ClauseSide [] (form_tree old.bank e.clause.0)) _ old.resources.entries
+    (formula_of_fits may ClauseSide [] _ s.0) f.sorted_clauses)
     (All-cons R (Goal b) (ImpEnd ∷ rest) (formula_of_fits may GoalSide [] _ s.1) (All-cons R ImpEnd rest tt (rest_goals old g rest f e1))) (omega arith)
 
 pub linear : (old new : Parts) (h : Resources FormAt) (g r b : FormAt) (flag : _) (rest : List Item) (c : Candidate) → Fits old → items_of old ≡ Goal g ∷ rest
@@ -160,11 +175,14 @@ linear old new h g r b flag rest c f e1 e2 l w e go =
     let P : Item → Type 0 = HasItem old.bank (length old.resources.kept) in let may = allowed old in let R : Item → Type 0 = IsGoalIn may old.bank in
     let s = goal_fits old g rest _ f e1 e2 in
     row old new h (after_load Linear r old.resources) g rest (Goal b ∷ LolliEnd flag ∷ []) Plain c _ f e1 e2 go e
-    (ap (λ v. Some (state_by old.bank old.bound (after_load Linear r old.resources) (Goal b ∷ LolliEnd v ∷ rest) old.levels old.eigens old.terms (old.steps ++ Plain ∷ []))) (sym w))
+    (ap (λ v. Some (state_by old.bank old.bound (after_load Linear r old.resources) (Goal b ∷ LolliEnd v ∷ rest) old.levels old.eigens old.terms
+    (old.steps ++ Plain ∷ []))) (sym w))
     (All-cons (λ (e : Entry FormAt). HasForm old.bank e.clause.0) _ old.resources.entries (part old g r rest f e1 l.0) f.clauses)
     (All-cons P (Goal b) (LolliEnd flag ∷ rest) (part old g b rest f e1 l.1) (All-cons P (LolliEnd flag) rest tt (rest_items old g rest f e1)))
-    (All-cons (λ (e : Entry FormAt). IsFormula may ClauseSide [] (form_tree old.bank e.clause.0)) _ old.resources.entries (formula_of_fits may ClauseSide [] _ s.0) f.sorted_clauses)
-    (All-cons R (Goal b) (LolliEnd flag ∷ rest) (formula_of_fits may GoalSide [] _ s.1) (All-cons R (LolliEnd flag) rest tt (rest_goals old g rest f e1))) (omega arith)
+    (All-cons (λ (e : Entry FormAt). IsFormula may ClauseSide [] (form_tree old.bank e.clause.0)) _ old.resources.entries
+    (formula_of_fits may ClauseSide [] _ s.0) f.sorted_clauses)
+    (All-cons R (Goal b) (LolliEnd flag ∷ rest) (formula_of_fits may GoalSide [] _ s.1) (All-cons R (LolliEnd flag) rest tt (rest_goals old g rest f e1)))
+    (omega arith)
 
 -- what was kept stays, so items behind a goal show what they showed
 
@@ -189,7 +207,8 @@ marks_shown : (bank : Nodes) (bound : List (Option At)) (es : List (Entry FormAt
 marks_shown bank bound [] = refl
 marks_shown bank bound (e ∷ es) = ap (λ bs. e.live ∷ bs) (marks_shown bank bound es)
 
-unlive_shown : (bank : Nodes) (bound : List (Option At)) (es : List (Entry FormAt)) → map unlive (map (shown_entry bank bound) es) ≡ map (shown_entry bank bound) (map unlive es)
+unlive_shown : (bank : Nodes) (bound : List (Option At)) (es : List (Entry FormAt))
+    → map unlive (map (shown_entry bank bound) es) ≡ map (shown_entry bank bound) (map unlive es)
 unlive_shown bank bound [] = refl
 unlive_shown bank bound (e ∷ es) = ap (λ xs. unlive (shown_entry bank bound e) ∷ xs) (unlive_shown bank bound es)
 
@@ -198,7 +217,8 @@ saved_shown : (old : Parts) (g : FormAt) (rest : List Item) (saved : Handle) (r 
 saved_shown old g rest saved r e =
     ap (λ bs. record { live = bs; flag = old.resources.flag }) (marks_shown old.bank old.bound old.resources.entries) ∙ sym e
 
-pub both : (old new : Parts) (h : Resources FormAt) (g a b : FormAt) (saved : Handle) (rest : List Item) (c : Candidate) → Fits old → items_of old ≡ Goal g ∷ rest
+pub both : (old new : Parts) (h : Resources FormAt) (g a b : FormAt) (saved : Handle) (rest : List Item) (c : Candidate) → Fits old
+    → items_of old ≡ Goal g ∷ rest
     → form_tree old.bank g.0 ≡ With (form_tree old.bank a.0) (form_tree old.bank b.0) → (a.0 < g.0) × (b.0 < g.0)
     → saved ≡ saved_as (length old.resources.kept) → saved_at h.kept saved ≡ saved_now old.resources
     → KeepsSaved (length old.resources.kept) old.resources h → h ≡ after_save old.resources
@@ -207,7 +227,8 @@ both old new h g a b saved rest c f e1 e2 l n s k e go =
     let may = allowed old in let R : Item → Type 0 = IsGoalIn may old.bank in let w = goal_fits old g rest _ f e1 e2 in
     let bank = old.bank in let bound = old.bound in let q = after_save old.resources in let t = reading bank bound in
     let s2 : saved_at q.kept saved ≡ saved_now old.resources = subst (λ (r : Resources FormAt). saved_at r.kept saved ≡ saved_now old.resources) e s in
-    let k2 : KeepsSaved (length old.resources.kept) old.resources q = subst (λ (r : Resources FormAt). KeepsSaved (length old.resources.kept) old.resources r) e k in
+    let k2 : KeepsSaved (length old.resources.kept) old.resources q =
+    subst (λ (r : Resources FormAt). KeepsSaved (length old.resources.kept) old.resources r) e k in
     let m = one_more old.resources.kept (saved_now old.resources) in
     let P : Item → Type 0 = HasItem bank (length q.kept) in
     let d = rest_items old g rest f e1 in
@@ -231,14 +252,17 @@ both old new h g a b saved rest c f e1 e2 l n s k e go =
     (All-cons P (Mid saved) (Goal b ∷ WithEnd saved saved ∷ rest) i
     (All-cons P (Goal b) (WithEnd saved saved ∷ rest) (part old g b rest f e1 l.1)
     (All-cons P (WithEnd saved saved) rest (i, i)
-    (All-weaker (HasItem bank (length old.resources.kept)) P (λ x y. more_kept bank (length old.resources.kept) (length q.kept) x (omega (arith, m)) y) rest d)))))
+    (All-weaker (HasItem bank (length old.resources.kept)) P (λ x y. more_kept bank (length old.resources.kept) (length q.kept) x (omega (arith, m)) y) rest
+    d)))))
     f.sorted_clauses
     (All-cons R (Goal a) (Mid saved ∷ Goal b ∷ WithEnd saved saved ∷ rest) (formula_of_fits may GoalSide [] _ w.0)
     (All-cons R (Mid saved) (Goal b ∷ WithEnd saved saved ∷ rest) tt
-    (All-cons R (Goal b) (WithEnd saved saved ∷ rest) (formula_of_fits may GoalSide [] _ w.1) (All-cons R (WithEnd saved saved) rest tt (rest_goals old g rest f e1)))))
+    (All-cons R (Goal b) (WithEnd saved saved ∷ rest) (formula_of_fits may GoalSide [] _ w.1)
+    (All-cons R (WithEnd saved saved) rest tt (rest_goals old g rest f e1)))))
     (omega arith)
 
-pub bang : (old new : Parts) (h1 h : Resources FormAt) (g a : FormAt) (saved : Handle) (rest : List Item) (c : Candidate) → Fits old → items_of old ≡ Goal g ∷ rest
+pub bang : (old new : Parts) (h1 h : Resources FormAt) (g a : FormAt) (saved : Handle) (rest : List Item) (c : Candidate) → Fits old
+    → items_of old ≡ Goal g ∷ rest
     → form_tree old.bank g.0 ≡ Bang (form_tree old.bank a.0) → a.0 < g.0
     → saved ≡ saved_as (length old.resources.kept) → saved_at h1.kept saved ≡ saved_now old.resources
     → KeepsSaved (length old.resources.kept) old.resources h1 → h1 ≡ after_save old.resources
@@ -248,7 +272,8 @@ bang old new h1 h g a saved rest c f e1 e2 l n s k e0 e go =
     let may = allowed old in let R : Item → Type 0 = IsGoalIn may old.bank in let w = goal_fits old g rest _ f e1 e2 in
     let bank = old.bank in let bound = old.bound in let q = after_save old.resources in let t = reading bank bound in
     let s2 : saved_at q.kept saved ≡ saved_now old.resources = subst (λ (r : Resources FormAt). saved_at r.kept saved ≡ saved_now old.resources) e0 s in
-    let k2 : KeepsSaved (length old.resources.kept) old.resources q = subst (λ (r : Resources FormAt). KeepsSaved (length old.resources.kept) old.resources r) e0 k in
+    let k2 : KeepsSaved (length old.resources.kept) old.resources q =
+    subst (λ (r : Resources FormAt). KeepsSaved (length old.resources.kept) old.resources r) e0 k in
     let m = one_more old.resources.kept (saved_now old.resources) in
     let P : Item → Type 0 = HasItem bank (length q.kept) in
     let d = rest_items old g rest f e1 in
@@ -265,13 +290,16 @@ bang old new h1 h g a saved rest c f e1 e2 l n s k e0 e go =
       steps = old.steps ++ Plain ∷ [];
     }) in
     row old new h (after_bang q) g rest (Goal a ∷ BangEnd saved ∷ []) Plain c _ f e1 e2 go (e ∙ ap (λ (r : Resources FormAt). after_bang r) e0)
-    (ap (λ v. make v (map unlive (map (shown_entry bank bound) old.resources.entries)) (map (shown_item bank bound old.resources.kept) rest)) (saved_shown old g rest saved q s2)
+    (ap (λ v. make v (map unlive (map (shown_entry bank bound) old.resources.entries)) (map (shown_item bank bound old.resources.kept) rest))
+    (saved_shown old g rest saved q s2)
     ∙ (ap (λ es. make (saved_at q.kept saved) es (map (shown_item bank bound old.resources.kept) rest)) (unlive_shown bank bound old.resources.entries)
-    ∙ ap (λ xs. make (saved_at q.kept saved) (map (shown_entry bank bound) (map unlive old.resources.entries)) xs) (sym (all_shown bank bound (length old.resources.kept) old.resources q rest k2 d))))
+    ∙ ap (λ xs. make (saved_at q.kept saved) (map (shown_entry bank bound) (map unlive old.resources.entries)) xs)
+    (sym (all_shown bank bound (length old.resources.kept) old.resources q rest k2 d))))
     (All-map (λ (e : Entry FormAt). HasForm bank e.clause.0) unlive old.resources.entries f.clauses)
     (All-cons P (Goal a) (BangEnd saved ∷ rest) (part old g a rest f e1 l)
     (All-cons P (BangEnd saved) rest i
-    (All-weaker (HasItem bank (length old.resources.kept)) P (λ x y. more_kept bank (length old.resources.kept) (length q.kept) x (omega (arith, m)) y) rest d)))
+    (All-weaker (HasItem bank (length old.resources.kept)) P (λ x y. more_kept bank (length old.resources.kept) (length q.kept) x (omega (arith, m)) y) rest
+    d)))
     (All-map (λ (e : Entry FormAt). IsFormula may ClauseSide [] (form_tree bank e.clause.0)) unlive old.resources.entries f.sorted_clauses)
     (All-cons R (Goal a) (BangEnd saved ∷ rest) (formula_of_fits may GoalSide [] _ w.1) (All-cons R (BangEnd saved) rest tt (rest_goals old g rest f e1)))
     (omega arith)

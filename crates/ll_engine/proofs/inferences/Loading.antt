@@ -20,7 +20,8 @@ use Rattle.ll_laws.specs.Problem.{ProblemTree}
 use Rattle.ll_laws.specs.Shown.{clause_tree, module_tree, HasClauses, HasModules}
 use Rattle.ll_laws.specs.Attempt.{load_module}
 use Rattle.ll_laws.specs.Valid.{Allowed, GoalSide, fits_module, given, module_scope, places_below}
-use Rattle.ll_laws.proofs.CallerLemmas.{Grows, grows-refl, AllFit, fit-places, Fits as FormFits, formula_of_fits, formula-more, unfold_load-fits, grows_given, module-fits, unfold_sub}
+use Rattle.ll_laws.proofs.CallerLemmas.{Grows, grows-refl, AllFit, fit-places, Fits as FormFits, formula_of_fits, formula-more, unfold_load-fits, grows_given}
+use Rattle.ll_laws.proofs.CallerLemmas.{module-fits, unfold_sub}
 use Rattle.ll_modules.specs.Loads.{arguments_env, AreClosed, MayLoad}
 use Rattle.ll_freeze.specs.Parts.{Parts}
 use Rattle.ll_freeze.specs.declared.machine.Item.{Item}
@@ -106,7 +107,8 @@ module _ (m : Parts) (g body : FormAt) (k : ℕ) (args : List At) (rest : List I
     fits_load =
         let h = goal_fits m g rest (Use k (term_trees m.bank args) (form_tree m.bank body.0)) f e1 e2 in let ms = m.problem.modules in
         let low : 0 ≤ length m.levels = omega arith in
-        let cf = module-fits (length m.problem.names) ms ms (allowed m) k (module_tree m.bank d) (grows_given ms 0 (length m.levels) m.eigens low) f.valid.modules tree_is in
+        let cf = module-fits (length m.problem.names) ms ms (allowed m) k (module_tree m.bank d) (grows_given ms 0 (length m.levels) m.eigens low)
+        f.valid.modules tree_is in
         unfold_load-fits (allowed m) (module_tree m.bank d) (term_trees m.bank args) (form_tree m.bank body.0) refl cf count_is h.2 h.3
 
     -- with as many arguments as parameters, closed, and clauses that may be loaded
@@ -128,12 +130,14 @@ module _ (m : Parts) (g body : FormAt) (k : ℕ) (args : List At) (rest : List I
 
     pub use_row : (new : Parts) (c : Candidate) → Loads m d args body rest new → Infers m c new
     use_row new c w =
-        let o = w.opens in let t = module_tree m.bank d in let ts = term_trees m.bank args in let p = form_tree m.bank body.0 in let s = reading m.bank m.bound in
+        let o = w.opens in let t = module_tree m.bank d in let ts = term_trees m.bank args in let p = form_tree m.bank body.0 in
+        let s = reading m.bank m.bound in
         let ms = m.problem.modules in let x = w.eigens in
         let n : length new.levels ≡ length m.levels = ap (λ (ls : List ℕ). length ls) w.levels in
         let grows : Grows (allowed m) (allowed new) =
         record { modules = ap (λ (q : ProblemTree). q.modules) (sym o.problem); variables = omega (arith, n); eigens = omega (arith, x); opens = λ h. h } in
-        let sorted = formula-more (allowed m) (allowed new) GoalSide (unfold_load t ts p) grows (formula_of_fits (allowed m) GoalSide [] (unfold_load t ts p) fits_load) in
+        let sorted = formula-more (allowed m) (allowed new) GoalSide (unfold_load t ts p) grows
+        (formula_of_fits (allowed m) GoalSide [] (unfold_load t ts p) fits_load) in
         let cf = module-fits (length m.problem.names) ms ms (given ms 0) k t (grows-refl (given ms 0)) f.valid.modules tree_is in
         still m new g rest c (unfold_load t ts p) f e1 o w.bound w.levels w.terms (omega (arith, x)) (omega (arith, x)) sorted
         (attempt_by m g rest c (Use k ts p) e1 e2

@@ -1,5 +1,6 @@
 -- A whole-number goal taken: what it makes of a machine.
-use Rattle.std.proofs.Common.{◌≡◌, ℕ, suc, List, [], ◌∷◌, ◌++◌, length, map, All, refl, ap, sym, subst, ◌∙◌, arith, Option, Some, None, Bool, true, false, w64, FitsSigned, to_z, of_z}
+use Rattle.std.proofs.Common.{◌≡◌, ℕ, suc, List, [], ◌∷◌, ◌++◌, length, map, All, refl, ap, sym, subst, ◌∙◌, arith, Option, Some, None, Bool, true, false, w64}
+use Rattle.std.proofs.Common.{FitsSigned, to_z, of_z}
 use Rattle.std.proofs.lemmas.Int.{to_z-of_z}
 use Rattle.std.specs.Prelude.{ℤ, option_map, if◌then◌else◌, int_lt, int_le}
 use Rattle.std.proofs.lemmas.List.Elements.{All-weaker}
@@ -123,7 +124,8 @@ infers old new g rest c f e o gives =
       valid = subst IsValid (sym o.problem) f.valid;
       consistent = consistent;
       rests = subst (λ (p : ProblemTree). RestsOn p.clauses (state_of new)) (sym o.problem)
-          (step_rests (length old.problem.names) old.problem.modules old.problem.clauses f.valid.clauses (setting old) (state_of old) (state_of new) c gives f.rests);
+          (step_rests (length old.problem.names) old.problem.modules old.problem.clauses f.valid.clauses (setting old) (state_of old) (state_of new) c gives
+          f.rests);
       count = o.count ∙ sym levels;
       bound = o.inside;
       ordered = o.ordered;
@@ -308,10 +310,12 @@ test_of m left right test =
 
 -- what is found out of two values holds of the sides as they are read
 pub test_is : (m : Parts) (left right : At) (test : ℤ → ℤ → Bool) (found : Option Values) (names : List (List ℕ)) (b : Bool) → names ≡ m.problem.names
-    → tested test found ≡ compared test (value_of (operators_of names) (read_term m.bank m.bound left)) (value_of (operators_of names) (read_term m.bank m.bound right))
+    → tested test found ≡ compared test (value_of (operators_of names) (read_term m.bank m.bound left))
+    (value_of (operators_of names) (read_term m.bank m.bound right))
     → tested test found ≡ b → test_of m left right test ≡ b
 test_is m left right test found names b n told is =
-    (λ i. compared test (value_of (operators_of (sym n i)) (read_term m.bank m.bound left)) (value_of (operators_of (sym n i)) (read_term m.bank m.bound right)))
+    (λ i. compared test (value_of (operators_of (sym n i)) (read_term m.bank m.bound left))
+    (value_of (operators_of (sym n i)) (read_term m.bank m.bound right)))
     ∙ (sym told ∙ is)
 
 module _ (m : Parts) (left right : At) (rest : AgendaTop) (f : Fits m) where
@@ -343,14 +347,16 @@ module _ (m : Parts) (left right : At) (rest : AgendaTop) (f : Fits m) where
   most_fails c h fails =
       most_step h c ∙ ap (λ b. if b then Some (stepped (at_goal m h.goal (items_at m.agenda rest)) (behind m (items_at m.agenda rest)) Plain) else None) fails
 
-  pub less_holds : (new : Parts) (c : Candidate) → IsFront m (LessView left right) rest → test_of m left right int_lt ≡ true → Went m (items_at m.agenda rest) new
+  pub less_holds : (new : Parts) (c : Candidate) → IsFront m (LessView left right) rest → test_of m left right int_lt ≡ true
+      → Went m (items_at m.agenda rest) new
       → new.bound ≡ m.bound → new.levels ≡ m.levels → Infers m c new
   less_holds new c h holds o bound levels =
       infers m new h.goal (items_at m.agenda rest) c f h.list o
       (less_step h c ∙ (ap (λ b. if b then Some (stepped (at_goal m h.goal (items_at m.agenda rest)) (behind m (items_at m.agenda rest)) Plain) else None) holds
       ∙ ap (λ (s : State). Some s) (state_went m new h.goal (items_at m.agenda rest) f h.list o bound levels)))
 
-  pub most_holds : (new : Parts) (c : Candidate) → IsFront m (MostView left right) rest → test_of m left right int_le ≡ true → Went m (items_at m.agenda rest) new
+  pub most_holds : (new : Parts) (c : Candidate) → IsFront m (MostView left right) rest → test_of m left right int_le ≡ true
+      → Went m (items_at m.agenda rest) new
       → new.bound ≡ m.bound → new.levels ≡ m.levels → Infers m c new
   most_holds new c h holds o bound levels =
       infers m new h.goal (items_at m.agenda rest) c f h.list o
@@ -375,7 +381,8 @@ module _ (m : Parts) (left right : At) (rest : AgendaTop) (f : Fits m) (h : IsFr
       is_step c ∙ ap (take_value (at_goal m h.goal (items_at m.agenda rest)) (read_term m.bank m.bound left) (behind m (items_at m.agenda rest))) none
 
   -- what its value is found to be
-  pub value_is : (found : Option ℤ) (names : List (List ℕ)) → names ≡ m.problem.names → found ≡ value_of (operators_of names) (read_term m.bank m.bound right) → value ≡ found
+  pub value_is : (found : Option ℤ) (names : List (List ℕ)) → names ≡ m.problem.names → found ≡ value_of (operators_of names) (read_term m.bank m.bound right)
+      → value ≡ found
   value_is found names n e = sym (e ∙ (λ i. value_of (operators_of (n i)) (read_term m.bank m.bound right)))
 
   pub target_place : IsPlaceOf m.bank (table m) left.0
@@ -399,12 +406,14 @@ module _ (m : Parts) (left right : At) (rest : AgendaTop) (f : Fits m) (h : IsFr
     start_table = subst (IsTable mid) (sym start_is) (table-extends m.bank mid (table m) (fits_table m f) keeps)
 
     pub target_is_place : IsPlaceOf mid start left.0
-    target_is_place = subst (λ (t : Table). IsPlaceOf mid t left.0) (sym start_is) (place-extends m.bank mid (table m) left.0 (fits_table m f) keeps target_place)
+    target_is_place = subst (λ (t : Table). IsPlaceOf mid t left.0) (sym start_is)
+        (place-extends m.bank mid (table m) left.0 (fits_table m f) keeps target_place)
 
     pub value_is_place : IsPlaceOf mid start place.0
     value_is_place = place-below mid start place.0 start_table shows.inside (ap (vars_below (length start.levels)) number)
 
-    same_problem : mgu (read_term m.bank m.bound left ∷ []) (Int z ∷ []) m.levels ≡ mgu (read_term mid start.bound left ∷ []) (read_term mid start.bound place ∷ []) start.levels
+    same_problem : mgu (read_term m.bank m.bound left ∷ []) (Int z ∷ []) m.levels
+        ≡ mgu (read_term mid start.bound left ∷ []) (read_term mid start.bound place ∷ []) start.levels
     same_problem = λ i. mgu (sym same i ∷ []) (sym number i ∷ []) (sym start_is i).levels
 
     gives : (c : Candidate) → attempt (setting m) (state_of m) c
@@ -415,7 +424,8 @@ module _ (m : Parts) (left right : At) (rest : AgendaTop) (f : Fits m) (h : IsFr
         ∙ ap (option_map (instantiated went)) same_problem)
 
     pub clash : (after : Table) (c : Candidate) → Finds after false → attempt (setting m) (state_of m) c ≡ None
-    clash after c w = gives c ∙ ap (option_map (instantiated went)) (go (mgu (read_term mid start.bound left ∷ []) (read_term mid start.bound place ∷ []) start.levels) w)
+    clash after c w = gives c ∙ ap (option_map (instantiated went))
+        (go (mgu (read_term mid start.bound left ∷ []) (read_term mid start.bound place ∷ []) start.levels) w)
       where
         go : (s : Option Solved) → Unifies mid mid start after s false → s ≡ None
         go None x = refl
@@ -426,7 +436,8 @@ module _ (m : Parts) (left right : At) (rest : AgendaTop) (f : Fits m) (h : IsFr
     equal after new c w bank_is bound_new levels_new o =
         go (mgu (read_term mid start.bound left ∷ []) (read_term mid start.bound place ∷ []) start.levels) refl w
       where
-        go : (s : Option Solved) → mgu (read_term mid start.bound left ∷ []) (read_term mid start.bound place ∷ []) start.levels ≡ s → Unifies mid mid start after s true → Infers m c new
+        go : (s : Option Solved) → mgu (read_term mid start.bound left ∷ []) (read_term mid start.bound place ∷ []) start.levels ≡ s
+            → Unifies mid mid start after s true → Infers m c new
         go None p x = absurd x
         go (Some v) p x =
             let reads : (y : ℕ) → reading new.bank new.bound y ≡ sub v.subst (reading m.bank m.bound y) =

@@ -17,7 +17,8 @@ own_leaves : (a : Term) (e : Entry Form) (m k : ℕ) (ns : List ℕ) → k + len
 own_leaves a e m k [] h = λ i d l. absurd (omega arith)
 own_leaves a e m k (n ∷ ns) h = go (fits_head a (leaf_head e.clause k n)) (own_leaves a e m (suc k) ns (omega arith))
   where
-    go : (b : Bool) → All (IsOf e m) (leaf_tries a e (suc k) ns) → All (IsOf e m) (cond b (record { label = e.label; leaf = k } ∷ leaf_tries a e (suc k) ns) (leaf_tries a e (suc k) ns))
+    go : (b : Bool) → All (IsOf e m) (leaf_tries a e (suc k) ns)
+        → All (IsOf e m) (cond b (record { label = e.label; leaf = k } ∷ leaf_tries a e (suc k) ns) (leaf_tries a e (suc k) ns))
     go true rest = All-cons (IsOf e m) (record { label = e.label; leaf = k }) (leaf_tries a e (suc k) ns) (refl, omega arith) rest
     go false rest = rest
 
@@ -29,7 +30,8 @@ own_tries a e = go (is_open e)
     go false = λ i d l. absurd (omega arith)
 
 -- what holds of each entry's own leaves holds of the candidates
-pub all_own : (a : Term) (Q : Candidate → Type 0) (es : List (Entry Form)) → All (λ e. (c : Candidate) → c.label ≡ e.label → c.leaf < length (ways e.clause) → Q c) es → All Q (flat_map (entry_tries a) es)
+pub all_own : (a : Term) (Q : Candidate → Type 0) (es : List (Entry Form))
+    → All (λ e. (c : Candidate) → c.label ≡ e.label → c.leaf < length (ways e.clause) → Q c) es → All Q (flat_map (entry_tries a) es)
 all_own a Q [] h = λ i d l. absurd (omega arith)
 all_own a Q (e ∷ es) h =
     let Own : Entry Form → Type 0 = λ e. (c : Candidate) → c.label ≡ e.label → c.leaf < length (ways e.clause) → Q c in

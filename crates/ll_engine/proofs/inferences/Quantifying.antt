@@ -1,5 +1,6 @@
 -- An inference that opens a quantifier or a load: what it makes of a machine.
-use Rattle.std.proofs.Common.{◌≡◌, ℕ, zero, suc, ◌+◌, ◌≤◌, ◌<◌, ◌^◌, refl, ap, sym, ◌∙◌, subst, true, Bool, List, [], ◌∷◌, ◌++◌, map, length, arith, All, length-append, inl, inr, false}
+use Rattle.std.proofs.Common.{◌≡◌, ℕ, zero, suc, ◌+◌, ◌≤◌, ◌<◌, ◌^◌, refl, ap, sym, ◌∙◌, subst, true, Bool, List, [], ◌∷◌, ◌++◌, map, length, arith, All}
+use Rattle.std.proofs.Common.{length-append, inl, inr, false}
 use Rattle.std.proofs.lemmas.List.{map-append}
 use Rattle.std.proofs.lemmas.List.Elements.{All-nil, All-cons, All-head, All-tail, All-weaker, All-push}
 use Rattle.std.proofs.lemmas.Bool.{lt-ltb, cases_lt, and_from as and_intro}
@@ -22,7 +23,8 @@ use Rattle.ll_laws.specs.State.{State}
 use Rattle.ll_laws.specs.Attempt.{attempt, tries, vars_from}
 use Rattle.ll_laws.specs.Valid.{Allowed, Scope, Side, GoalSide, ClauseSide, IsFormula}
 use Rattle.ll_laws.specs.Consistent.{IsConsistent, is_made}
-use Rattle.ll_laws.proofs.CallerLemmas.{IsClosing, sub_same, sub_instantiate, Grows, Fit, AllFit, Fits as FormFits, formula_of_fits, fits-more, fits-close, formula-more, steps_consistent}
+use Rattle.ll_laws.proofs.CallerLemmas.{IsClosing, sub_same, sub_instantiate, Grows, Fit, AllFit, Fits as FormFits, formula_of_fits, fits-more, fits-close}
+use Rattle.ll_laws.proofs.CallerLemmas.{formula-more, steps_consistent}
 use Rattle.ll_freeze.specs.Resting.{RestsOn}
 use Rattle.ll_freeze.proofs.CallerLemmas.{step_rests, trees_read, vars_more, form_same, state_by, state_is, modules_later, modules_has}
 use Rattle.ll_resources.specs.Resources.{Resources}
@@ -48,7 +50,8 @@ fit_applies may scope (Var x) h = refl
 fit_applies may scope (Int z) h = refl
 fit_applies may scope (Con k) h = refl
 fit_applies may scope (Ap f a) h =
-    and_intro (is_spine f && applies_heads f) (applies_heads a) (and_intro (is_spine f) (applies_heads f) (h.0).0 (fit_applies may scope f h.1)) (fit_applies may scope a h.2)
+    and_intro (is_spine f && applies_heads f) (applies_heads a) (and_intro (is_spine f) (applies_heads f) (h.0).0 (fit_applies may scope f h.1))
+    (fit_applies may scope a h.2)
 
 all_apply : (may : Allowed) (scope : Scope) (ts : List Term) → AllFit may scope ts → list_all applies_heads ts ≡ true
 all_apply may scope [] h = refl
@@ -61,15 +64,20 @@ pub fits_apply : (may : Allowed) (side : Side) (scope : Scope) (f : Form) → Fo
 fits_apply may side scope Top h = refl
 fits_apply may side scope One h = refl
 fits_apply may side scope (Atom a) h = fit_applies may scope a h.1
-fits_apply may side scope (With f g) h = and_intro (form_applies_heads f) (form_applies_heads g) (fits_apply may side scope f h.0) (fits_apply may side scope g h.1)
-fits_apply may side scope (Tensor f g) h = and_intro (form_applies_heads f) (form_applies_heads g) (fits_apply may side scope f h.1) (fits_apply may side scope g h.2)
-fits_apply may side scope (Plus f g) h = and_intro (form_applies_heads f) (form_applies_heads g) (fits_apply may side scope f h.1) (fits_apply may side scope g h.2)
+fits_apply may side scope (With f g) h = and_intro (form_applies_heads f) (form_applies_heads g) (fits_apply may side scope f h.0)
+    (fits_apply may side scope g h.1)
+fits_apply may side scope (Tensor f g) h = and_intro (form_applies_heads f) (form_applies_heads g) (fits_apply may side scope f h.1)
+    (fits_apply may side scope g h.2)
+fits_apply may side scope (Plus f g) h = and_intro (form_applies_heads f) (form_applies_heads g) (fits_apply may side scope f h.1)
+    (fits_apply may side scope g h.2)
 fits_apply may side scope (Bang f) h = fits_apply may side scope f h.1
-fits_apply may side scope (Lolli f g) h = and_intro (form_applies_heads f) (form_applies_heads g) (fits_apply may _ scope f h.0) (fits_apply may side scope g h.1)
+fits_apply may side scope (Lolli f g) h = and_intro (form_applies_heads f) (form_applies_heads g) (fits_apply may _ scope f h.0)
+    (fits_apply may side scope g h.1)
 fits_apply may side scope (Imp f g) h = and_intro (form_applies_heads f) (form_applies_heads g) (fits_apply may _ scope f h.0) (fits_apply may side scope g h.1)
 fits_apply may side scope (Forall f) h = fits_apply may side _ f h
 fits_apply may side scope (Exists f) h = fits_apply may side _ f h.1
-fits_apply may side scope (Use m ts f) h = and_intro (list_all applies_heads ts) (form_applies_heads f) (all_apply may scope ts h.2) (fits_apply may side scope f h.3)
+fits_apply may side scope (Use m ts f) h = and_intro (list_all applies_heads ts) (form_applies_heads f) (all_apply may scope ts h.2)
+    (fits_apply may side scope f h.3)
 fits_apply may side scope (Num r t u) h = and_intro (applies_heads t) (applies_heads u) (fit_applies may scope t h.1) (fit_applies may scope u h.2)
 
 -- ---- what stands for a variable is closed
@@ -90,7 +98,8 @@ unfolding state_of
 closing m f x =
     let s = reading m.bank m.bound in let n = length m.levels in
     let a : map (read_term m.bank m.bound) m.terms ≡ map (sub s) (vars_from 0 n) = trees_read s m.bank m.terms ∙ ap (λ ts. map (sub s) ts) f.variables in
-    let h : list_all (is_made n m.eigens) (map (sub s) (vars_from 0 n)) ≡ true = subst (λ (ts : List Term). list_all (is_made n m.eigens) ts ≡ true) a f.consistent.terms in
+    let h : list_all (is_made n m.eigens) (map (sub s) (vars_from 0 n)) ≡ true =
+    subst (λ (ts : List Term). list_all (is_made n m.eigens) ts ≡ true) a f.consistent.terms in
     elim (cases_lt x n) [
       | inl l ↦ let q : 0 + x ≡ x = omega arith in subst (λ (y : ℕ). is_closed (s y) ≡ true) q (made_closed s n m.eigens 0 n h x l)
       | inr l ↦ let c = f.count in subst (λ (t : Term). is_closed t ≡ true) (sym (reading_past m.bank m.bound x (omega (arith, l, c)))) refl
@@ -100,7 +109,8 @@ closing m f x =
 
 module _ (old new : Nodes) (before after : List (Option At)) (keeps : Extends old new) (reads : (x : ℕ) → reading new after x ≡ reading old before x) where
   form_stays : (at : FormAt) → HasForm old at.0 → read_form new after at ≡ read_form old before at
-  form_stays at h = ap (sub_form (reading new after)) (form_tree-extends keeps at.0 h) ∙ form_same (reading new after) (reading old before) reads (form_tree old at.0)
+  form_stays at h = ap (sub_form (reading new after)) (form_tree-extends keeps at.0 h)
+      ∙ form_same (reading new after) (reading old before) reads (form_tree old at.0)
 
   item_stays : (kept : List Saved) (n : ℕ) (i : Item) → HasItem old n i → shown_item new after kept i ≡ shown_item old before kept i
   item_stays kept n (Goal g) h = ap (λ r. GoalOf r) (form_stays g h)
@@ -110,7 +120,8 @@ module _ (old new : Nodes) (before after : List (Option At)) (keeps : Extends ol
   item_stays kept n (WithEnd s t) h = refl
   item_stays kept n (BangEnd s) h = refl
 
-  pub items_stay : (kept : List Saved) (n : ℕ) (is : List Item) → All (HasItem old n) is → map (shown_item new after kept) is ≡ map (shown_item old before kept) is
+  pub items_stay : (kept : List Saved) (n : ℕ) (is : List Item) → All (HasItem old n) is
+      → map (shown_item new after kept) is ≡ map (shown_item old before kept) is
   items_stay kept n [] h = refl
   items_stay kept n (i ∷ is) h = λ j. item_stays kept n i (All-head (HasItem old n) i is h) j ∷ items_stay kept n is (All-tail (HasItem old n) i is h) j
 
@@ -120,27 +131,32 @@ module _ (old new : Nodes) (before after : List (Option At)) (keeps : Extends ol
   pub entries_stay : (es : List (Entry FormAt)) → All (λ e. HasForm old e.clause.0) es → map (shown_entry new after) es ≡ map (shown_entry old before) es
   entries_stay [] h = refl
   entries_stay (e ∷ es) h =
-      λ i. entry_stays e (All-head (λ (d : Entry FormAt). HasForm old d.clause.0) e es h) i ∷ entries_stay es (All-tail (λ (d : Entry FormAt). HasForm old d.clause.0) e es h) i
+      λ i. entry_stays e (All-head (λ (d : Entry FormAt). HasForm old d.clause.0) e es h) i
+      ∷ entries_stay es (All-tail (λ (d : Entry FormAt). HasForm old d.clause.0) e es h) i
 
   pub terms_stay : (ats : List At) → AllInTerms old ats → map (read_term new after) ats ≡ map (read_term old before) ats
   terms_stay [] h = refl
   terms_stay (a ∷ ats) h =
       let t : read_term new after a ≡ read_term old before a =
-      ap (sub (reading new after)) (term_tree-extends keeps a.0 (All-head (λ (b : At). HasTerm old b.0) a ats h)) ∙ sub_same (reading new after) (reading old before) reads (term_tree old a.0) in
+      ap (sub (reading new after)) (term_tree-extends keeps a.0 (All-head (λ (b : At). HasTerm old b.0) a ats h))
+      ∙ sub_same (reading new after) (reading old before) reads (term_tree old a.0) in
       λ i. t i ∷ terms_stay ats (All-tail (λ (b : At). HasTerm old b.0) a ats h) i
 
 -- ---- and is as well sorted
 
 module _ (old new : Nodes) (may more : Allowed) (keeps : Extends old new) (grows : Grows may more) where
   sorted_stays : (side : Side) (at : ℕ) → HasForm old at → IsFormula may side [] (form_tree old at) → IsFormula more side [] (form_tree new at)
-  sorted_stays side at h f = subst (λ (r : Form). IsFormula more side [] r) (sym (form_tree-extends keeps at h)) (formula-more may more side (form_tree old at) grows f)
+  sorted_stays side at h f = subst (λ (r : Form). IsFormula more side [] r) (sym (form_tree-extends keeps at h))
+      (formula-more may more side (form_tree old at) grows f)
 
   pub clauses_stay : (es : List (Entry FormAt)) → All (λ e. HasForm old e.clause.0) es → All (λ e. IsFormula may ClauseSide [] (form_tree old e.clause.0)) es
       → All (λ e. IsFormula more ClauseSide [] (form_tree new e.clause.0)) es
   clauses_stay [] h f = All-nil (λ (e : Entry FormAt). IsFormula more ClauseSide [] (form_tree new e.clause.0))
   clauses_stay (e ∷ es) h f =
-      let P : Entry FormAt → Type 0 = λ e. HasForm old e.clause.0 in let Q : Entry FormAt → Type 0 = λ e. IsFormula may ClauseSide [] (form_tree old e.clause.0) in
-      All-cons (λ (e : Entry FormAt). IsFormula more ClauseSide [] (form_tree new e.clause.0)) e es (sorted_stays ClauseSide e.clause.0 (All-head P e es h) (All-head Q e es f))
+      let P : Entry FormAt → Type 0 = λ e. HasForm old e.clause.0 in let Q : Entry FormAt
+      → Type 0 = λ e. IsFormula may ClauseSide [] (form_tree old e.clause.0) in
+      All-cons (λ (e : Entry FormAt). IsFormula more ClauseSide [] (form_tree new e.clause.0)) e es
+      (sorted_stays ClauseSide e.clause.0 (All-head P e es h) (All-head Q e es f))
       (clauses_stay es (All-tail P e es h) (All-tail Q e es f))
 
   goal_stays : (n : ℕ) (i : Item) → HasItem old n i → IsGoalIn may old i → IsGoalIn more new i
@@ -181,8 +197,10 @@ opened_state old new f rest =
       steps = old.steps ++ Plain ∷ [];
     }
 
-state_opened : (old new : Parts) (f : Form) (rest : List Item) → PutsInFront old f rest new → ((x : ℕ) → reading new.bank new.bound x ≡ reading old.bank old.bound x)
-    → All (HasItem old.bank (length old.resources.kept)) rest → All (λ e. HasForm old.bank e.clause.0) old.resources.entries → state_of new ≡ opened_state old new f rest
+state_opened : (old new : Parts) (f : Form) (rest : List Item) → PutsInFront old f rest new
+    → ((x : ℕ) → reading new.bank new.bound x ≡ reading old.bank old.bound x)
+    → All (HasItem old.bank (length old.resources.kept)) rest → All (λ e. HasForm old.bank e.clause.0) old.resources.entries
+    → state_of new ≡ opened_state old new f rest
 state_opened old new f rest o reads items clauses =
     let r = old.resources in let b = new.bank in let a = new.bound in
     let by : Resources FormAt → List Item → List Step → State = λ p xs ss. state_by b a p xs new.levels new.eigens new.terms ss in
@@ -203,8 +221,10 @@ state_opened old new f rest o reads items clauses =
     ∙ (ap (λ xs. by r xs new.steps) o.items
     ∙ (ap (λ ss. by r (Goal o.goal ∷ rest) ss) o.steps
     ∙ (ap (λ h. make h (map (shown_item b a r.kept) rest) (map (shown_entry b a) r.entries)) g
-    ∙ (ap (λ xs. make (sub_form (reading old.bank old.bound) f) xs (map (shown_entry b a) r.entries)) (items_stay old.bank b old.bound a o.bank reads r.kept (length r.kept) rest items)
-    ∙ ap (λ es. make (sub_form (reading old.bank old.bound) f) (map (shown_item old.bank old.bound r.kept) rest) es) (entries_stay old.bank b old.bound a o.bank reads r.entries clauses))))))
+    ∙ (ap (λ xs. make (sub_form (reading old.bank old.bound) f) xs (map (shown_entry b a) r.entries))
+    (items_stay old.bank b old.bound a o.bank reads r.kept (length r.kept) rest items)
+    ∙ ap (λ es. make (sub_form (reading old.bank old.bound) f) (map (shown_item old.bank old.bound r.kept) rest) es)
+    (entries_stay old.bank b old.bound a o.bank reads r.entries clauses))))))
 
 pub opened : (old new : Parts) (g : FormAt) (rest : List Item) (c : Candidate) (f : Form) → Fits old → items_of old ≡ Goal g ∷ rest → PutsInFront old f rest new
     → ((x : ℕ) → reading new.bank new.bound x ≡ reading old.bank old.bound x) → Grows (allowed old) (allowed new)
@@ -215,7 +235,8 @@ opened old new g rest c f fits e1 o reads grows count bound ordered terms variab
     let r = old.resources in let k = length r.kept in let xs = rest_items old g rest fits e1 in
     let r2 : new.resources ≡ r = o.resources in
     let P : Item → Type 0 = HasItem new.bank k in let R : Item → Type 0 = IsGoalIn (allowed new) new.bank in
-    let a : attempt (setting old) (state_of old) c ≡ Some (state_of new) = gives ∙ ap (λ (s : State). Some s) (sym (state_opened old new f rest o reads xs fits.clauses)) in
+    let a : attempt (setting old) (state_of old) c ≡ Some (state_of new) =
+    gives ∙ ap (λ (s : State). Some s) (sym (state_opened old new f rest o reads xs fits.clauses)) in
     let n : new.resources.next ≡ r.next = ap (λ (p : Resources FormAt). p.next) r2 in let l = o.left in
     record {
       gives = a;
@@ -227,7 +248,8 @@ opened old new g rest c f fits e1 o reads grows count bound ordered terms variab
             subst (λ (p : ProblemTree). IsConsistent (setting_of p) (state_of new)) (sym o.problem)
             (steps_consistent (length old.problem.names) (setting old) (state_of old) (state_of new) c fits.valid.modules fits.consistent a);
         rests = subst (λ (p : ProblemTree). RestsOn p.clauses (state_of new)) (sym o.problem)
-            (step_rests (length old.problem.names) old.problem.modules old.problem.clauses fits.valid.clauses (setting old) (state_of old) (state_of new) c a fits.rests);
+            (step_rests (length old.problem.names) old.problem.modules old.problem.clauses fits.valid.clauses (setting old) (state_of old) (state_of new) c a
+            fits.rests);
         count = count;
         bound = bound;
         ordered = ordered;
@@ -235,7 +257,8 @@ opened old new g rest c f fits e1 o reads grows count bound ordered terms variab
         variables = variables;
         clauses =
             rw r2
-            (All-weaker (λ (e : Entry FormAt). HasForm old.bank e.clause.0) (λ (e : Entry FormAt). HasForm new.bank e.clause.0) (λ e h. HasForm-extends o.bank e.clause.0 h) r.entries fits.clauses);
+            (All-weaker (λ (e : Entry FormAt). HasForm old.bank e.clause.0) (λ (e : Entry FormAt). HasForm new.bank e.clause.0)
+            (λ e h. HasForm-extends o.bank e.clause.0 h) r.entries fits.clauses);
         sorted_clauses = rw r2 (clauses_stay old.bank new.bank (allowed old) (allowed new) o.bank grows r.entries fits.clauses fits.sorted_clauses);
         sorted_goals =
             rw o.items
@@ -262,7 +285,8 @@ with_eigen may = record { modules = may.modules; variables = may.variables; eige
 abbrev pub with_variable : Allowed → Allowed
 with_variable may = record { modules = may.modules; variables = suc may.variables; eigens = may.eigens; opens = may.opens }
 
-forall_opened : (may : Allowed) (p : Form) → FormFits may GoalSide (true ∷ []) p → FormFits (with_eigen may) GoalSide [] (instantiate p (Con (Eigen may.eigens)))
+forall_opened : (may : Allowed) (p : Form) → FormFits may GoalSide (true ∷ []) p
+    → FormFits (with_eigen may) GoalSide [] (instantiate p (Con (Eigen may.eigens)))
 forall_opened may p f =
     let more = with_eigen may in let k : Grows may more = record { modules = refl; variables = omega arith; eigens = omega arith; opens = λ h. h } in
     fits-close more (Some (Con (Eigen may.eigens)) ∷ []) GoalSide (true ∷ []) [] p (lt-ltb may.eigens (suc may.eigens) (omega arith), λ h. refl, tt)
@@ -271,16 +295,22 @@ forall_opened may p f =
 exists_opened : (may : Allowed) (p : Form) → FormFits may GoalSide (false ∷ []) p → FormFits (with_variable may) GoalSide [] (instantiate p (Var may.variables))
 exists_opened may p f =
     let more = with_variable may in let k : Grows may more = record { modules = refl; variables = omega arith; eigens = omega arith; opens = λ h. h } in
-    fits-close more (Some (Var may.variables) ∷ []) GoalSide (false ∷ []) [] p (lt-ltb may.variables (suc may.variables) (omega arith), λ h. absurd (cc (h)), tt)
+    fits-close more (Some (Var may.variables) ∷ []) GoalSide (false ∷ []) [] p (
+      lt-ltb may.variables (suc may.variables) (omega arith),
+      λ h. absurd (cc (h)),
+      tt,
+    )
     (fits-more may more GoalSide (false ∷ []) (false ∷ []) p k (λ h. h, tt) f)
 
-pub forall_heads : (m : Parts) (g body : FormAt) (rest : List Item) → Fits m → items_of m ≡ Goal g ∷ rest → form_tree m.bank g.0 ≡ Forall (form_tree m.bank body.0)
+pub forall_heads : (m : Parts) (g body : FormAt) (rest : List Item) → Fits m → items_of m ≡ Goal g ∷ rest
+    → form_tree m.bank g.0 ≡ Forall (form_tree m.bank body.0)
     → form_applies_heads (instantiate (form_tree m.bank body.0) (Con (Eigen m.eigens))) ≡ true
 forall_heads m g body rest f e1 e2 =
     fits_apply (with_eigen (allowed m)) GoalSide [] (instantiate (form_tree m.bank body.0) (Con (Eigen m.eigens)))
     (forall_opened (allowed m) (form_tree m.bank body.0) (goal_fits m g rest (Forall (form_tree m.bank body.0)) f e1 e2))
 
-pub exists_heads : (m : Parts) (g body : FormAt) (rest : List Item) → Fits m → items_of m ≡ Goal g ∷ rest → form_tree m.bank g.0 ≡ Exists (form_tree m.bank body.0)
+pub exists_heads : (m : Parts) (g body : FormAt) (rest : List Item) → Fits m → items_of m ≡ Goal g ∷ rest
+    → form_tree m.bank g.0 ≡ Exists (form_tree m.bank body.0)
     → form_applies_heads (instantiate (form_tree m.bank body.0) (Var (length m.levels))) ≡ true
 exists_heads m g body rest f e1 e2 =
     fits_apply (with_variable (allowed m)) GoalSide [] (instantiate (form_tree m.bank body.0) (Var (length m.levels)))
@@ -303,7 +333,8 @@ still_state old h rest e =
 -- a goal in place of the one in front where no variable is new
 pub still : (old new : Parts) (g : FormAt) (rest : List Item) (c : Candidate) (f : Form) → Fits old → items_of old ≡ Goal g ∷ rest → PutsInFront old f rest new
     → new.bound ≡ old.bound → new.levels ≡ old.levels → new.terms ≡ old.terms → old.eigens ≤ new.eigens → new.eigens ≤ suc old.eigens
-    → IsFormula (allowed new) GoalSide [] f → attempt (setting old) (state_of old) c ≡ Some (still_state old (sub_form (reading old.bank old.bound) f) rest new.eigens) → Infers old c new
+    → IsFormula (allowed new) GoalSide [] f → attempt (setting old) (state_of old) c
+    ≡ Some (still_state old (sub_form (reading old.bank old.bound) f) rest new.eigens) → Infers old c new
 still old new g rest c f fits e1 o wb wl wt low high sorted gives =
     let reads : (y : ℕ) → reading new.bank new.bound y ≡ reading old.bank old.bound y =
     λ y. ap (λ bs. reading new.bank bs y) wb ∙ reading_same old.bank new.bank o.bank old.bound fits.bound y in
@@ -323,7 +354,8 @@ still old new g rest c f fits e1 o wb wl wt low high sorted gives =
     let ts : map (read_term new.bank new.bound) new.terms ≡ map (read_term old.bank old.bound) old.terms =
     ap (λ xs. map (read_term new.bank new.bound) xs) wt ∙ terms_stay old.bank new.bank old.bound new.bound o.bank reads old.terms fits.terms in
     opened old new g rest c f fits e1 o reads grows (ap (λ (bs : List (Option At)). length bs) wb ∙ (fits.count ∙ sym n))
-    (rw wb (values_extend old.bank new.bank o.bank old.bound fits.bound)) (rw (wb, wl) (ordered_extends old new.bank fits o.bank)) (rw wt (AllInTerms-extends o.bank old.terms fits.terms))
+    (rw wb (values_extend old.bank new.bank o.bank old.bound fits.bound)) (rw (wb, wl) (ordered_extends old new.bank fits o.bank))
+    (rw wt (AllInTerms-extends o.bank old.terms fits.terms))
     (rw (wt, wl) (term_trees-extends o.bank old.terms fits.terms ∙ fits.variables)) sorted (let b = fits.eigens in omega (arith, b, high, l))
     (gives ∙ (ap (λ ls. make ls (map (read_term old.bank old.bound) old.terms)) (sym wl) ∙ ap (λ xs. make new.levels xs) (sym ts)))
 
@@ -340,7 +372,8 @@ forall_row old new g body rest c f e1 e2 w =
     (formula_of_fits more GoalSide [] (instantiate p x) (forall_opened may p (goal_fits old g rest (Forall p) f e1 e2))) in
     still old new g rest c (instantiate p x) f e1 o w.bound w.levels w.terms (omega (arith, k)) (omega (arith, k)) sorted
     (attempt_by old g rest c (Forall p) e1 e2
-    ∙ (ap (λ h. Some (still_state old h rest (suc old.eigens))) (sym (sub_instantiate s (closing old f) p x)) ∙ ap (λ e. Some (still_state old (sub_form s (instantiate p x)) rest e)) (sym k)))
+    ∙ (ap (λ h. Some (still_state old h rest (suc old.eigens))) (sym (sub_instantiate s (closing old f) p x))
+    ∙ ap (λ e. Some (still_state old (sub_form s (instantiate p x)) rest e)) (sym k)))
 
 pub exists_row : (old new : Parts) (g body : FormAt) (rest : List Item) (c : Candidate) → Fits old → items_of old ≡ Goal g ∷ rest
     → form_tree old.bank g.0 ≡ Exists (form_tree old.bank body.0) → OpensExists old body rest new → Infers old c new
@@ -351,9 +384,11 @@ exists_row old new g body rest c f e1 e2 w =
     let reads : (y : ℕ) → reading b a y ≡ reading old.bank old.bound y =
     λ y. ap (λ bs. reading b bs y) w.bound ∙ (found-fresh b (table old) old.eigens grown_table y ∙ reading_same old.bank b o.bank old.bound f.bound y) in
     let free : s n ≡ Var n = let q = f.count in reading_past old.bank old.bound n (omega (arith, q)) in
-    let ln : length new.levels ≡ suc n = ap (λ (ls : List ℕ). length ls) w.levels ∙ (length-append old.levels (old.eigens ∷ []) ∙ (let q : n + 1 ≡ suc n = omega arith in q)) in
+    let ln : length new.levels ≡ suc n = ap (λ (ls : List ℕ). length ls) w.levels
+    ∙ (length-append old.levels (old.eigens ∷ []) ∙ (let q : n + 1 ≡ suc n = omega arith in q)) in
     let bn : length a ≡ suc (length old.bound) =
-    ap (λ (bs : List (Option At)). length bs) w.bound ∙ (length-append old.bound (None ∷ []) ∙ (let q : length old.bound + 1 ≡ suc (length old.bound) = omega arith in q)) in
+    ap (λ (bs : List (Option At)). length bs) w.bound ∙ (length-append old.bound (None ∷ [])
+    ∙ (let q : length old.bound + 1 ≡ suc (length old.bound) = omega arith in q)) in
     let k = w.eigens in let l = o.left in
     let ms = ap (λ (q : ProblemTree). q.modules) (sym o.problem) in
     let grows : Grows may (allowed new) = record { modules = ms; variables = omega (arith, ln); eigens = omega (arith, k); opens = λ h. h } in
@@ -388,15 +423,18 @@ exists_row old new g body rest c f e1 e2 w =
     ∙ (ap (λ t. vars_from 0 n ++ t ∷ []) w.shows.tree ∙ (sym (vars_more 0 n n (omega arith)) ∙ ap (λ i. vars_from 0 i) (sym ln))))))
     sorted (let q = f.eigens in omega (arith, q, k, l))
     (attempt_by old g rest c (Exists p) e1 e2
-    ∙ (ap (λ h. make h (old.levels ++ old.eigens ∷ []) old.eigens (us ++ Var n ∷ [])) (ap (λ t. instantiate (sub_form s p) t) (sym free) ∙ sym (sub_instantiate s (closing old f) p (Var n)))
+    ∙ (ap (λ h. make h (old.levels ++ old.eigens ∷ []) old.eigens (us ++ Var n ∷ []))
+    (ap (λ t. instantiate (sub_form s p) t) (sym free) ∙ sym (sub_instantiate s (closing old f) p (Var n)))
     ∙ (ap (λ ls. make (sub_form s goal) ls old.eigens (us ++ Var n ∷ [])) (sym w.levels)
     ∙ (ap (λ e. make (sub_form s goal) new.levels e (us ++ Var n ∷ [])) (sym k) ∙ ap (λ xs. make (sub_form s goal) new.levels new.eigens xs) (sym ts)))))
 
 -- ---- how the goal comes in front
 
 -- the machine that goes on has a place that shows the formula
-pub opens_shown : (old mid new : Parts) → mid.problem ≡ old.problem → mid.modules ≡ old.modules → mid.resources ≡ old.resources → mid.steps ≡ old.steps → mid.left ≡ old.left
-    → (goal : FormAt) (f : Form) (rest : List Item) → Extends old.bank mid.bank → ShowsForm mid.bank goal.0 f → GoesOn mid (Goal goal ∷ []) rest Plain new → PutsInFront old f rest new
+pub opens_shown : (old mid new : Parts) → mid.problem ≡ old.problem → mid.modules ≡ old.modules → mid.resources ≡ old.resources → mid.steps ≡ old.steps
+    → mid.left ≡ old.left
+    → (goal : FormAt) (f : Form) (rest : List Item) → Extends old.bank mid.bank → ShowsForm mid.bank goal.0 f → GoesOn mid (Goal goal ∷ []) rest Plain new
+    → PutsInFront old f rest new
 opens_shown old mid new p ms q st l goal f rest k sh go =
     let nb : new.bank ≡ mid.bank = ap (λ (m : Parts). m.bank) go.same in
     record {
@@ -431,6 +469,7 @@ pub not_empty : (m : Parts) → is_empty (state_of m).agenda ≡ false → items
 not_empty m h e = let x : true ≡ false = sym (ap (λ xs. is_empty xs) (agenda_shown m [] e)) ∙ h in absurd (cc (x))
 
 -- an end in front has no candidate
-pub no_candidate : (m : Parts) (i : Item) (rest : List Item) (c : Candidate) → Contains (tries (state_of m)) c → items_of m ≡ i ∷ rest → ((g : FormAt) → i ≡ Goal g → ⊥) → ⊥
+pub no_candidate : (m : Parts) (i : Item) (rest : List Item) (c : Candidate) → Contains (tries (state_of m)) c → items_of m ≡ i ∷ rest
+    → ((g : FormAt) → i ≡ Goal g → ⊥) → ⊥
 no_candidate m i rest c h e n =
     let p = subst (λ (cs : List Candidate). Contains cs c) (tries_end m i rest e n) h in let l = p.1 in absurd (omega (arith, l))

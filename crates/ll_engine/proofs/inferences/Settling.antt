@@ -9,14 +9,16 @@ use Rattle.ll_bank.specs.declared.At.{At}
 use Rattle.ll_bank.specs.declared.FormAt.{FormAt}
 use Rattle.ll_bank.specs.Nodes.{Nodes, HasForm, form_tree}
 use Rattle.ll_bank.specs.Form.{Form}
-use Rattle.ll_laws.specs.Settle.{Saved, Entry, Item as ItemOf, Goal as GoalOf, LolliEnd as EndOfLolli, ImpEnd as EndOfImp, WithMiddle as Middle, WithEnd as EndOfWith, BangEnd as EndOfBang, Front, settle_front, map_item, map_entry, map_front, remark, join, marks, end_with}
+use Rattle.ll_laws.specs.Settle.{Saved, Entry, Item as ItemOf, Goal as GoalOf, LolliEnd as EndOfLolli, ImpEnd as EndOfImp, WithMiddle as Middle}
+use Rattle.ll_laws.specs.Settle.{WithEnd as EndOfWith, BangEnd as EndOfBang, Front, settle_front, map_item, map_entry, map_front, remark, join, marks, end_with}
 use Rattle.ll_laws.specs.State.{State, settle, front_of, with_front}
 use Rattle.ll_laws.specs.Attempt.{is_linear}
 use Rattle.ll_laws.specs.Valid.{IsFormula, ClauseSide}
 use Rattle.ll_laws.specs.Consistent.{ends_fit, marks_fit, may_live, is_of_kind, newest_is, begins_second_side}
 use Rattle.ll_freeze.proofs.CallerLemmas.{settle_rests, state_by, state_is, fits_kept, same_allowed, clauses_moved, goals_moved, one_more, more_kept}
 use Rattle.ll_resources.specs.History.{History, Settles}
-use Rattle.ll_resources.specs.Resources.{Resources, saved_at, saved_as, saved_now, End, settled, load_end, with_end, bang_end, after_with_mid, SettlesMiddle, KeepsSaved, Fits as SavedFits, with_front as front_put}
+use Rattle.ll_resources.specs.Resources.{Resources, saved_at, saved_as, saved_now, End, settled, load_end, with_end, bang_end, after_with_mid, SettlesMiddle}
+use Rattle.ll_resources.specs.Resources.{KeepsSaved, Fits as SavedFits, with_front as front_put}
 use Rattle.ll_resources.specs.declared.context.Saved.{Saved as Handle}
 use Rattle.ll_resources.specs.Ends.{is_end, as_end, settled_after}
 use Rattle.ll_resources.proofs.CallerLemmas.{ends_settle, middles_settle}
@@ -33,7 +35,8 @@ use Rattle.ll_engine.specs.declared.settle.Worked.{Worked}
 use Rattle.ll_engine.specs.declared.settle.Worked.TheVariants.{Settled, Failed}
 use Rattle.ll_engine.specs.Going.{raw_item, front_raw, EndsFit, Reaches, Going, IsDone, Works}
 
-shown_raw : (bank : Nodes) (bound : List (Option At)) (kept : List Saved) (i : Item) → shown_item bank bound kept i ≡ map_item (read_form bank bound) (raw_item kept i)
+shown_raw : (bank : Nodes) (bound : List (Option At)) (kept : List Saved) (i : Item)
+    → shown_item bank bound kept i ≡ map_item (read_form bank bound) (raw_item kept i)
 shown_raw bank bound kept (Goal g) = refl
 shown_raw bank bound kept (LolliEnd b) = refl
 shown_raw bank bound kept ImpEnd = refl
@@ -84,7 +87,12 @@ pub fails : (o m : Parts) → Reaches o m → front_raw m.resources (items_of m)
 fails o m g e = settle_is o ∙ ap (λ x. over o x) (sym g.raw ∙ e)
 
 pub done : (o m : Parts) → Reaches o m → Fits o
-    → front_raw m.resources (items_of m) ≡ Some (record { agenda = map (raw_item m.resources.kept) (items_of m); context = m.resources.entries; flag = m.resources.flag })
+    → front_raw m.resources (items_of m) ≡ Some (record {
+      agenda = map (raw_item m.resources.kept) (items_of m);
+      context = m.resources.entries;
+      flag =
+          m.resources.flag;
+    })
     → IsSettled o m
 done o m g f e =
     let s = g.same in let r = m.resources in
@@ -102,14 +110,19 @@ done o m g f e =
     } in
     let u : over o (front_raw m.resources (items_of m)) ≡ Some (state_of m) =
     ap (λ x. over o x) e
-    ∙ (ap (λ (s : State). Some (with_front s (map_front (read_form o.bank o.bound) (read_form o.bank o.bound) (record { agenda = map (raw_item r.kept) (items_of m); context = r.entries; flag = r.flag })))) (state_is o)
+    ∙
+    (ap
+    (λ (s : State).
+    Some (with_front s (map_front (read_form o.bank o.bound) (read_form o.bank o.bound)
+    (record { agenda = map (raw_item r.kept) (items_of m); context = r.entries; flag = r.flag })))) (state_is o)
     ∙ (ap (λ xs. Some (make xs o.resources.next)) (sym (shown_raws o.bank o.bound r.kept (items_of m)))
     ∙ (ap (λ n. Some (make (map (shown_item o.bank o.bound r.kept) (items_of m)) n)) (sym g.next) ∙ ap (λ (s : State). Some s) (sym t)))) in
     let a : settle (state_of o) ≡ Some (state_of m) = settle_is o ∙ (ap (λ x. over o x) (sym g.raw) ∙ u) in
     let n = g.next in let l = g.left in let x = g.eigens in
     record {
       settles = a;
-      fits = fits_kept o m s f (settles_consistent (setting o) (state_of o) (state_of m) f.consistent a) (settle_rests o.problem.clauses (state_of o) (state_of m) a f.rests) g.eigens g.clauses g.sorted_clauses g.top g.items g.sorted_goals
+      fits = fits_kept o m s f (settles_consistent (setting o) (state_of o) (state_of m) f.consistent a)
+          (settle_rests o.problem.clauses (state_of o) (state_of m) a f.rests) g.eigens g.clauses g.sorted_clauses g.top g.items g.sorted_goals
           (let b = f.labels in omega (arith, b, l, n)) (let b = f.eigens in omega (arith, b, l, x));
     }
 
@@ -122,7 +135,8 @@ settled_keeps i r h e = go (settle_front (i ∷ []) r.entries r.flag) e
     go (Some f) e = let x : front_put r f ≡ h = cc in (ap (λ z. z.kept) (sym x), ap (λ z. z.next) (sym x))
 
 -- one end worked off
-pub off : (o m : Parts) (h : Resources FormAt) (i : Item) (rest : List Item) (top : _) → Going o m → items_of m ≡ i ∷ rest → is_end (raw_item m.resources.kept i) ≡ true
+pub off : (o m : Parts) (h : Resources FormAt) (i : Item) (rest : List Item) (top : _) → Going o m → items_of m ≡ i ∷ rest
+    → is_end (raw_item m.resources.kept i) ≡ true
     → settled (as_end (raw_item m.resources.kept i)) m.resources ≡ Some h
     → items_of (record m { resources = h; top = top }) ≡ rest → HasTop m.agenda top
     → ((P : FormAt → Type 0) → All (λ (e : Entry FormAt). P e.clause) m.resources.entries → All (λ (e : Entry FormAt). P e.clause) h.entries)
@@ -139,7 +153,15 @@ off o m h i rest top g e1 e2 e3 e4 t c w =
     let v : All (IsGoalIn (allowed o) o.bank) (i ∷ rest) = subst (λ (xs : List Item). All (IsGoalIn (allowed o) o.bank) xs) e1 y.sorted_goals in
     record {
       reached = record {
-        same = record { problem = y.same.problem; modules = y.same.modules; bank = y.same.bank; bound = y.same.bound; levels = y.same.levels; terms = y.same.terms };
+        same = record {
+          problem = y.same.problem;
+          modules = y.same.modules;
+          bank = y.same.bank;
+          bound = y.same.bound;
+          levels = y.same.levels;
+          terms =
+              y.same.terms;
+        };
         eigens = y.eigens;
         left = y.left;
         steps = y.steps;
@@ -226,16 +248,20 @@ newest_of linear bank bound (e ∷ es) xs h =
 ends_at : (o m : Parts) (i : Item) (rest : List Item) → Going o m → items_of m ≡ i ∷ rest → EndsFit o.bank o.bound m.resources (i ∷ rest)
 ends_at o m i rest g e = subst (λ (xs : List Item). EndsFit o.bank o.bound m.resources xs) e g.ends
 
-lolli_entries : (saved : Bool) (r h : Resources FormAt) (e : Entry FormAt) (es : List (Entry FormAt)) → r.entries ≡ e ∷ es → settled (EndOfLolli saved) r ≡ Some h → h.entries ≡ es
-lolli_entries saved r h e es k q = step (e.live && not r.flag) (ap (λ ys. option_map (front_put r) (settle_front (EndOfLolli saved ∷ []) ys r.flag)) (sym k) ∙ q)
+lolli_entries : (saved : Bool) (r h : Resources FormAt) (e : Entry FormAt) (es : List (Entry FormAt)) → r.entries ≡ e ∷ es
+    → settled (EndOfLolli saved) r ≡ Some h → h.entries ≡ es
+lolli_entries saved r h e es k q = step (e.live && not r.flag)
+    (ap (λ ys. option_map (front_put r) (settle_front (EndOfLolli saved ∷ []) ys r.flag)) (sym k) ∙ q)
   where
-    step : (b : Bool) → option_map (front_put r) (if b then None else Some (record { agenda = []; context = es; flag = saved || r.flag })) ≡ Some h → h.entries ≡ es
+    step : (b : Bool) → option_map (front_put r) (if b then None else Some (record { agenda = []; context = es; flag = saved || r.flag })) ≡ Some h
+        → h.entries ≡ es
     step true x = cc
     step false x = let y : front_put r (record { agenda = []; context = es; flag = saved || r.flag }) ≡ h = cc in sym (ap (λ z. z.entries) y)
 
 imp_entries : (r h : Resources FormAt) (e : Entry FormAt) (es : List (Entry FormAt)) → r.entries ≡ e ∷ es → settled EndOfImp r ≡ Some h → h.entries ≡ es
 imp_entries r h e es k q =
-    let x : option_map (front_put r) (settle_front (EndOfImp ∷ []) (e ∷ es) r.flag) ≡ Some h = ap (λ ys. option_map (front_put r) (settle_front (EndOfImp ∷ []) ys r.flag)) (sym k) ∙ q in
+    let x : option_map (front_put r) (settle_front (EndOfImp ∷ []) (e ∷ es) r.flag) ≡ Some h =
+    ap (λ ys. option_map (front_put r) (settle_front (EndOfImp ∷ []) ys r.flag)) (sym k) ∙ q in
     let y : front_put r (record { agenda = []; context = es; flag = r.flag }) ≡ h = cc in sym (ap (λ z. z.entries) y)
 
 load_is : (saved : Bool) (e : Entry FormAt) (es : List (Entry FormAt)) → is_of_kind true e.kind ≡ true → load_end saved (e ∷ es) ≡ EndOfLolli saved
@@ -257,7 +283,8 @@ pub off_lolli : (m : Parts) (h : Resources FormAt) (saved : Bool) (rest : List I
     → settled (load_end saved m.resources.entries) m.resources ≡ Some h → items_of (record m { resources = h; top = top }) ≡ rest → HasTop m.agenda top
     → Going m (record m { resources = h; top = top }) × (length (items_of (record m { resources = h; top = top })) < length (items_of m))
 off_lolli m h saved rest top g e1 e3 e4 t =
-    let w = newest_of true m.bank m.bound m.resources.entries (map (shown_item m.bank m.bound m.resources.kept) rest) (ends_at m m (LolliEnd saved) rest g e1) in
+    let w = newest_of true m.bank m.bound m.resources.entries (map (shown_item m.bank m.bound m.resources.kept) rest) (ends_at m m (LolliEnd saved) rest g e1)
+    in
     let q : settled (EndOfLolli saved) m.resources ≡ Some h =
     ap (λ i. settled i m.resources) (sym (ap (λ es. load_end saved es) w.is ∙ load_is saved w.front w.rest w.kind)) ∙ e3 in
     let k = lolli_entries saved m.resources h w.front w.rest w.is q in (
@@ -285,7 +312,8 @@ marks_length [] (e ∷ es) h = cc
 marks_length (b ∷ bs) [] h = cc
 marks_length (b ∷ bs) (e ∷ es) h = ap (λ n. suc n) (marks_length bs es (and_right (may_live e.kind b) (marks_fit bs es) h))
 
-saved_fits : (bank : Nodes) (bound : List (Option At)) (r : Resources FormAt) (s : Handle) → s.number < length r.kept → marks_fit (saved_at r.kept s).live (map (shown_entry bank bound) r.entries) ≡ true
+saved_fits : (bank : Nodes) (bound : List (Option At)) (r : Resources FormAt) (s : Handle) → s.number < length r.kept
+    → marks_fit (saved_at r.kept s).live (map (shown_entry bank bound) r.entries) ≡ true
     → SavedFits s r
 saved_fits bank bound r s n h =
     (n, marks_length (saved_at r.kept s).live (map (shown_entry bank bound) r.entries) h ∙ length-map r.entries (shown_entry bank bound))
@@ -339,7 +367,8 @@ middle_fits m s rest g e =
 
 -- other marks
 
-remark_keeps : (es : List (Entry FormAt)) (bs : List Bool) (P : FormAt → Type 0) → All (λ (e : Entry FormAt). P e.clause) es → All (λ (e : Entry FormAt). P e.clause) (remark es bs)
+remark_keeps : (es : List (Entry FormAt)) (bs : List Bool) (P : FormAt → Type 0) → All (λ (e : Entry FormAt). P e.clause) es
+    → All (λ (e : Entry FormAt). P e.clause) (remark es bs)
 remark_keeps [] bs P c = c
 remark_keeps (e ∷ es) [] P c = c
 remark_keeps (e ∷ es) (b ∷ bs) P c =
@@ -364,7 +393,8 @@ marked_ends bank bound xs es hs bs q h =
     (subst (λ (ys : List (Entry Form)). ends_fit xs ys ≡ true) (sym (remark_shown bank bound es bs))
     (alike-ends xs (map f es) (remark (map f es) bs) (alike-remark (map f es) bs) h))
 
-off_marks : (m : Parts) (h : Resources FormAt) (i : Item) (rest : List Item) (top : _) (bs : List Bool) → Going m m → items_of m ≡ i ∷ rest → is_end (raw_item m.resources.kept i) ≡ true
+off_marks : (m : Parts) (h : Resources FormAt) (i : Item) (rest : List Item) (top : _) (bs : List Bool) → Going m m → items_of m ≡ i ∷ rest
+    → is_end (raw_item m.resources.kept i) ≡ true
     → settled (as_end (raw_item m.resources.kept i)) m.resources ≡ Some h → h.entries ≡ remark m.resources.entries bs
     → EndsFit m.bank m.bound m.resources rest → items_of (record m { resources = h; top = top }) ≡ rest → HasTop m.agenda top
     → Going m (record m { resources = h; top = top }) × (length (items_of (record m { resources = h; top = top })) < length (items_of m))
@@ -377,10 +407,12 @@ off_marks m h i rest top bs g e1 e2 e3 q w e4 t = (
 with_entries : (sv hf : Saved) (r h : Resources FormAt) → settled (EndOfWith sv hf) r ≡ Some h → (bs : List Bool) × (h.entries ≡ remark r.entries bs)
 with_entries sv hf r h e = go (join hf (record { live = marks r.entries; flag = r.flag })) e
   where
-    go : (o : Option Saved) → option_map (front_put r) (end_with (settle_front []) sv r.entries o) ≡ Some h → (bs : List Bool) × (h.entries ≡ remark r.entries bs)
+    go : (o : Option Saved) → option_map (front_put r) (end_with (settle_front []) sv r.entries o) ≡ Some h
+        → (bs : List Bool) × (h.entries ≡ remark r.entries bs)
     go None e = cc
     go (Some s) e =
-        let x : front_put r (record { agenda = []; context = remark r.entries s.live; flag = sv.flag || s.flag }) ≡ h = cc in (s.live, sym (ap (λ z. z.entries) x))
+        let x : front_put r (record { agenda = []; context = remark r.entries s.live; flag = sv.flag || s.flag }) ≡ h = cc in
+        (s.live, sym (ap (λ z. z.entries) x))
 
 bang_entries : (sv : Saved) (r h : Resources FormAt) → settled (EndOfBang sv) r ≡ Some h → h.entries ≡ remark r.entries sv.live
 bang_entries sv r h e =
@@ -416,7 +448,8 @@ pub record IsSecond (xs : List Item) : Type 0 where
   pub behind : List Item
   pub is : xs ≡ Goal goal ∷ WithEnd before old ∷ behind
 
-second_of : (bank : Nodes) (bound : List (Option At)) (kept : List Saved) (xs : List Item) → begins_second_side (map (shown_item bank bound kept) xs) ≡ true → IsSecond xs
+second_of : (bank : Nodes) (bound : List (Option At)) (kept : List Saved) (xs : List Item) → begins_second_side (map (shown_item bank bound kept) xs) ≡ true
+    → IsSecond xs
 second_of bank bound kept (Goal g ∷ WithEnd s h ∷ rest) e = record { goal = g; before = s; old = h; behind = rest; is = refl }
 second_of bank bound kept _ e = cc
 
@@ -431,7 +464,8 @@ raw_same bank n r s (Mid a) k h = ap (λ x. Middle x) (k a h)
 raw_same bank n r s (WithEnd a b) k h = ap (λ x. EndOfWith x (saved_at s.kept b)) (k a h.0) ∙ ap (λ x. EndOfWith (saved_at r.kept a) x) (k b h.1)
 raw_same bank n r s (BangEnd a) k h = ap (λ x. EndOfBang x) (k a h)
 
-raws_same : (bank : Nodes) (n : ℕ) (r s : Resources FormAt) (xs : List Item) → KeepsSaved n r s → All (HasItem bank n) xs → map (raw_item s.kept) xs ≡ map (raw_item r.kept) xs
+raws_same : (bank : Nodes) (n : ℕ) (r s : Resources FormAt) (xs : List Item) → KeepsSaved n r s → All (HasItem bank n) xs
+    → map (raw_item s.kept) xs ≡ map (raw_item r.kept) xs
 raws_same bank n r s [] k h = refl
 raws_same bank n r s (x ∷ xs) k h =
     let a = raw_same bank n r s x k (All-head (HasItem bank n) x xs h) in let b = raws_same bank n r s xs k (All-tail (HasItem bank n) x xs h) in
@@ -448,7 +482,8 @@ pub middle : (m : Parts) (h : Resources FormAt) (agenda : Frames Item) (top : To
     → items_at agenda top ≡ Goal g ∷ WithEnd before half ∷ rest → HasTop agenda top → Reaches m (at_second m h agenda top) × IsDone (at_second m h agenda top)
 middle m h agenda top s before old half g rest go e1 n sm k e e4 t =
     let r = m.resources in let y = go.reached in let z = h in
-    let P : Item → Type 0 = HasItem m.bank (length r.kept) in let Q : Item → Type 0 = HasItem m.bank (length z.kept) in let R : Item → Type 0 = IsGoalIn (allowed m) m.bank in
+    let P : Item → Type 0 = HasItem m.bank (length r.kept) in let Q : Item → Type 0 = HasItem m.bank (length z.kept) in let R : Item
+    → Type 0 = IsGoalIn (allowed m) m.bank in
     let d = item_at m (Mid s) (Goal g ∷ WithEnd before old ∷ rest) go e1 in
     let d1 = All-tail P (Mid s) (Goal g ∷ WithEnd before old ∷ rest) d in
     let d2 = All-tail P (Goal g) (WithEnd before old ∷ rest) d1 in
@@ -471,7 +506,8 @@ middle m h agenda top s before old half g rest go e1 n sm k e e4 t =
             ap (λ xs. front_raw z xs) e4
             ∙ (ap (λ b. make b (map (raw_item z.kept) rest)) (k before db)
             ∙ (ap (λ xs. make (saved_at r.kept before) xs) (raws_same m.bank (length r.kept) r z rest k dr)
-            ∙ (sym (middles_settle (saved_at r.kept s) (saved_at z.kept half) (saved_at r.kept before) (saved_at r.kept old) g (map (raw_item r.kept) rest) r z sm)
+            ∙ (sym (middles_settle (saved_at r.kept s) (saved_at z.kept half) (saved_at r.kept before) (saved_at r.kept old) g (map (raw_item r.kept) rest) r z
+            sm)
             ∙ ap (λ xs. front_raw r xs) (sym e1))));
         top = t;
         items =
@@ -481,9 +517,11 @@ middle m h agenda top s before old half g rest go e1 n sm k e e4 t =
             (All-weaker P Q (λ x w. more_kept m.bank (length r.kept) (length z.kept) x (omega (arith, lk)) w) rest dr)));
         clauses = marked_keeps r.entries z.entries (saved_at r.kept s).live (ap (λ (x : Resources FormAt). x.entries) e) (λ f. HasForm m.bank f.0) y.clauses;
         sorted_clauses =
-            marked_keeps r.entries z.entries (saved_at r.kept s).live (ap (λ (x : Resources FormAt). x.entries) e) (λ f. IsFormula (allowed m) ClauseSide [] (form_tree m.bank f.0)) y.sorted_clauses;
+            marked_keeps r.entries z.entries (saved_at r.kept s).live (ap (λ (x : Resources FormAt). x.entries) e)
+            (λ f. IsFormula (allowed m) ClauseSide [] (form_tree m.bank f.0)) y.sorted_clauses;
         sorted_goals =
-            rw e4 (All-cons R (Goal g) (WithEnd before half ∷ rest) (All-head R (Goal g) (WithEnd before old ∷ rest) v1) (All-cons R (WithEnd before half) rest tt vr));
+            rw e4 (All-cons R (Goal g) (WithEnd before half ∷ rest) (All-head R (Goal g) (WithEnd before old ∷ rest) v1)
+            (All-cons R (WithEnd before half) rest tt vr));
       },
       goal_done (at_second m h agenda top) g (WithEnd before half ∷ rest) e4,
     )
@@ -506,7 +544,8 @@ failed_same o m n w g e h =
 pub settled_empty : (o m : Parts) → Fits o → Going o m → items_of m ≡ [] → IsSettled o m
 settled_empty o m f g e =
     done o m g.reached f
-    (ap (λ xs. front_raw m.resources xs) e ∙ ap (λ xs. Some (record { agenda = map (raw_item m.resources.kept) xs; context = m.resources.entries; flag = m.resources.flag })) (sym e))
+    (ap (λ xs. front_raw m.resources xs) e
+    ∙ ap (λ xs. Some (record { agenda = map (raw_item m.resources.kept) xs; context = m.resources.entries; flag = m.resources.flag })) (sym e))
 
 pub worked : (end : End) (old new : History FormAt) (b : Bool) → b ≡ true → Settles end old new b → settled end old.present ≡ Some new.present
 worked end old new b e h = subst (λ (b : Bool). Settles end old new b) e h

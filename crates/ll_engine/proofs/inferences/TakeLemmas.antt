@@ -1,5 +1,6 @@
 -- Parts of an inference on an atom.
-use Rattle.std.proofs.Common.{◌≡◌, ℕ, zero, suc, ◌+◌, Bool, List, [], ◌∷◌, ◌++◌, map, refl, ap, sym, subst, ◌∙◌, Option, Some, true, false, arith, drop, All, slice_index_or}
+use Rattle.std.proofs.Common.{◌≡◌, ℕ, zero, suc, ◌+◌, Bool, List, [], ◌∷◌, ◌++◌, map, refl, ap, sym, subst, ◌∙◌, Option, Some, true, false, arith, drop, All}
+use Rattle.std.proofs.Common.{slice_index_or}
 use Rattle.std.specs.Prelude.{◌||◌, not, if◌then◌else◌, nat_eq, slice_get, replicate}
 use Rattle.std.specs.List.{list_any}
 use Rattle.std.proofs.lemmas.Bool.{eq-eqb}
@@ -20,7 +21,8 @@ use Rattle.ll_resources.specs.Places.{label_place}
 use Rattle.ll_engine.specs.Placed.{AreAtTheirLabels}
 
 -- the first entry with another label is passed
-pub passed : (es : List (Entry FormAt)) (i j : ℕ) (e : Entry FormAt) (label : ℕ) → j ≡ i + 1 → slice_get es i ≡ Some e → nat_eq e.label label ≡ false → entry_at (drop j es) label ≡ entry_at (drop i es) label
+pub passed : (es : List (Entry FormAt)) (i j : ℕ) (e : Entry FormAt) (label : ℕ) → j ≡ i + 1 → slice_get es i ≡ Some e → nat_eq e.label label ≡ false
+    → entry_at (drop j es) label ≡ entry_at (drop i es) label
 passed [] i j e label q h n = cc
 passed (d ∷ es) zero zero e label q h n = absurd (omega arith)
 passed (d ∷ es) zero (suc j) e label q h n =
@@ -31,7 +33,8 @@ passed (d ∷ es) (suc i) zero e label q h n = absurd (omega arith)
 passed (d ∷ es) (suc i) (suc j) e label q h n = passed es i j e label (omega arith) h n
 
 -- and that with the label is the one
-pub met : (es : List (Entry FormAt)) (i : ℕ) (e : Entry FormAt) (label : ℕ) → slice_get es i ≡ Some e → nat_eq e.label label ≡ true → entry_at (drop i es) label ≡ Some e
+pub met : (es : List (Entry FormAt)) (i : ℕ) (e : Entry FormAt) (label : ℕ) → slice_get es i ≡ Some e → nat_eq e.label label ≡ true
+    → entry_at (drop i es) label ≡ Some e
 met [] i e label h n = cc
 met (d ∷ es) zero e label h n =
     let same : d ≡ e = cc in ap (λ b. if b then Some d else entry_at es label) (ap (λ (x : Entry FormAt). nat_eq x.label label) same ∙ n) ∙ ap Some same
@@ -58,17 +61,20 @@ entry_there (d ∷ es) label i e q h = go (nat_eq d.label label) i (λ j w g. en
     go false (suc j) next q h = next j (omega arith) h
 
 -- an entry with the label is at its place
-pub place_there : (es : List (Entry FormAt)) (label i : ℕ) (e : Entry FormAt) → AreAtTheirLabels es → slice_get es i ≡ Some e → e.label ≡ label → i ≡ label_place label es
+pub place_there : (es : List (Entry FormAt)) (label i : ℕ) (e : Entry FormAt) → AreAtTheirLabels es → slice_get es i ≡ Some e → e.label ≡ label
+    → i ≡ label_place label es
 place_there es label i e own h q = sym (ap (λ l. label_place l es) (sym q) ∙ own i e h)
 
 module _ (bank : Nodes) (bound : List (Option At)) where
   abbrev shown : List (Entry FormAt) → List (Entry Form)
   shown es = map (shown_entry bank bound) es
 
-  others_differ : (label : ℕ) (es : List (Entry FormAt)) → list_any (λ d. nat_eq label d.label) (shown es) ≡ false → All (λ (d : Entry FormAt). nat_eq label d.label ≡ false) es
+  others_differ : (label : ℕ) (es : List (Entry FormAt)) → list_any (λ d. nat_eq label d.label) (shown es) ≡ false
+      → All (λ (d : Entry FormAt). nat_eq label d.label ≡ false) es
   others_differ label [] h = λ i d l. absurd (omega arith)
   others_differ label (d ∷ es) h =
-      All-cons (λ (x : Entry FormAt). nat_eq label x.label ≡ false) d es (left (nat_eq label d.label) h) (others_differ label es (right (nat_eq label d.label) h))
+      All-cons (λ (x : Entry FormAt). nat_eq label x.label ≡ false) d es (left (nat_eq label d.label) h)
+      (others_differ label es (right (nat_eq label d.label) h))
     where
       left : (b : Bool) → b || list_any (λ x. nat_eq label x.label) (shown es) ≡ false → b ≡ false
       left true h = cc

@@ -1,5 +1,6 @@
 -- What a machine shows after a leaf was taken, part by part.
-use Rattle.std.proofs.Common.{◌≡◌, ℕ, zero, suc, ◌+◌, ◌<◌, ◌≤◌, List, [], ◌∷◌, ◌++◌, length, map, All, refl, ap, sym, subst, ◌∙◌, arith, inl, inr, Option, Some, Bool, true, false}
+use Rattle.std.proofs.Common.{◌≡◌, ℕ, zero, suc, ◌+◌, ◌<◌, ◌≤◌, List, [], ◌∷◌, ◌++◌, length, map, All, refl, ap, sym, subst, ◌∙◌, arith, inl, inr, Option}
+use Rattle.std.proofs.Common.{Some, Bool, true, false}
 use Rattle.std.specs.Prelude.{if◌then◌else◌, nat_eq, option_map, ◌||◌, not}
 use Rattle.std.proofs.Math.Bool.{or-true}
 use Rattle.std.proofs.lemmas.Bool.{cases_lt}
@@ -39,12 +40,15 @@ vars_split a (suc n) count =
     ∙ ap (λ ts. Var a ∷ ts) (vars_split (suc a) n count ∙ ap (λ b. vars_from (suc a) n ++ vars_from b count) (let e : suc a + n ≡ a + suc n = omega arith in e))
 
 -- every variable stands for a term that is made
-pub made_at : (variables eigens : ℕ) (s : ℕ → Term) (a n x : ℕ) → list_all (is_made variables eigens) (map (sub s) (vars_from a n)) ≡ true → a ≤ x → x < a + n → is_made variables eigens (s x) ≡ true
+pub made_at : (variables eigens : ℕ) (s : ℕ → Term) (a n x : ℕ) → list_all (is_made variables eigens) (map (sub s) (vars_from a n)) ≡ true → a ≤ x → x < a + n
+    → is_made variables eigens (s x) ≡ true
 made_at variables eigens s a zero x h l u = absurd (omega arith)
 made_at variables eigens s a (suc n) x h l u =
     elim (cases_lt a x) [
-      | inl lt ↦ made_at variables eigens s (suc a) n x (and_right (is_made variables eigens (s a)) (list_all (is_made variables eigens) (map (sub s) (vars_from (suc a) n))) h) (omega arith) (omega arith)
-      | inr le ↦ subst (λ y. is_made variables eigens (s y) ≡ true) (let e : a ≡ x = omega arith in e) (and_left (is_made variables eigens (s a)) (list_all (is_made variables eigens) (map (sub s) (vars_from (suc a) n))) h)
+      | inl lt ↦ made_at variables eigens s (suc a) n x (and_right (is_made variables eigens (s a))
+          (list_all (is_made variables eigens) (map (sub s) (vars_from (suc a) n))) h) (omega arith) (omega arith)
+      | inr le ↦ subst (λ y. is_made variables eigens (s y) ≡ true) (let e : a ≡ x = omega arith in
+          e) (and_left (is_made variables eigens (s a)) (list_all (is_made variables eigens) (map (sub s) (vars_from (suc a) n))) h)
     ]
 
 -- ---- entries
@@ -59,11 +63,13 @@ found_has P (d ∷ es) label e h q = go (nat_eq d.label label) (found_has P es l
     go false next w = next w
 
 -- and it is found after all were read
-pub entry_read : (f : FormAt → Form) (es : List (Entry FormAt)) (label : ℕ) → entry_at (map (map_entry f) es) label ≡ option_map (map_entry f) (entry_at es label)
+pub entry_read : (f : FormAt → Form) (es : List (Entry FormAt)) (label : ℕ)
+    → entry_at (map (map_entry f) es) label ≡ option_map (map_entry f) (entry_at es label)
 entry_read f [] label = refl
 entry_read f (d ∷ es) label = go (nat_eq d.label label) (entry_read f es label)
   where
-    go : (b : Bool) → entry_at (map (map_entry f) es) label ≡ option_map (map_entry f) (entry_at es label) → (if b then Some (map_entry f d) else entry_at (map (map_entry f) es) label) ≡ option_map (map_entry f) (if b then Some d else entry_at es label)
+    go : (b : Bool) → entry_at (map (map_entry f) es) label ≡ option_map (map_entry f) (entry_at es label)
+        → (if b then Some (map_entry f d) else entry_at (map (map_entry f) es) label) ≡ option_map (map_entry f) (if b then Some d else entry_at es label)
     go true next = refl
     go false next = next
 
@@ -72,7 +78,9 @@ pub picked_read : (f : FormAt → Form) (es : List (Entry FormAt)) (label : ℕ)
 picked_read f [] label = refl
 picked_read f (d ∷ es) label = go (nat_eq d.label label) (picked_read f es label)
   where
-    go : (b : Bool) → picked label (map (map_entry f) es) ≡ map (map_entry f) (picked label es) → (if b then unlive (map_entry f d) ∷ map (map_entry f) es else map_entry f d ∷ picked label (map (map_entry f) es)) ≡ map (map_entry f) (if b then unlive d ∷ es else d ∷ picked label es)
+    go : (b : Bool) → picked label (map (map_entry f) es) ≡ map (map_entry f) (picked label es)
+        → (if b then unlive (map_entry f d) ∷ map (map_entry f) es else map_entry f d ∷ picked label (map (map_entry f) es))
+        ≡ map (map_entry f) (if b then unlive d ∷ es else d ∷ picked label es)
     go true next = refl
     go false next = ap (λ xs. map_entry f d ∷ xs) next
 
@@ -81,8 +89,10 @@ pub picked_all : (Q : FormAt → Type 0) (es : List (Entry FormAt)) (label : ℕ
 picked_all Q [] label h = h
 picked_all Q (d ∷ es) label h = go (nat_eq d.label label) (picked_all Q es label (All-tail (λ (e : Entry FormAt). Q e.clause) d es h))
   where
-    go : (b : Bool) → All (λ (e : Entry FormAt). Q e.clause) (picked label es) → All (λ (e : Entry FormAt). Q e.clause) (if b then unlive d ∷ es else d ∷ picked label es)
-    go true next = All-cons (λ (e : Entry FormAt). Q e.clause) (unlive d) es (All-head (λ (e : Entry FormAt). Q e.clause) d es h) (All-tail (λ (e : Entry FormAt). Q e.clause) d es h)
+    go : (b : Bool) → All (λ (e : Entry FormAt). Q e.clause) (picked label es)
+        → All (λ (e : Entry FormAt). Q e.clause) (if b then unlive d ∷ es else d ∷ picked label es)
+    go true next = All-cons (λ (e : Entry FormAt). Q e.clause) (unlive d) es (All-head (λ (e : Entry FormAt). Q e.clause) d es h)
+        (All-tail (λ (e : Entry FormAt). Q e.clause) d es h)
     go false next = All-cons (λ (e : Entry FormAt). Q e.clause) d (picked label es) (All-head (λ (e : Entry FormAt). Q e.clause) d es h) next
 
 -- an entry that isn't live is as it was after it is picked
@@ -90,14 +100,17 @@ pub picked_dead : (es : List (Entry FormAt)) (label : ℕ) (e : Entry FormAt) �
 picked_dead [] label e q dead = refl
 picked_dead (d ∷ es) label e q dead = go (nat_eq d.label label) (λ w. picked_dead es label e w dead) q
   where
-    go : (b : Bool) → (entry_at es label ≡ Some e → picked label es ≡ es) → (if b then Some d else entry_at es label) ≡ Some e → (if b then unlive d ∷ es else d ∷ picked label es) ≡ d ∷ es
+    go : (b : Bool) → (entry_at es label ≡ Some e → picked label es ≡ es) → (if b then Some d else entry_at es label) ≡ Some e
+        → (if b then unlive d ∷ es else d ∷ picked label es) ≡ d ∷ es
     go true next w =
         let same : d ≡ e = cc in
-        let dark : d.live ≡ false = ap (λ (x : Entry FormAt). x.live) same ∙ dead in λ i. record { label = d.label; kind = d.kind; live = sym dark i; clause = d.clause } ∷ es
+        let dark : d.live ≡ false = ap (λ (x : Entry FormAt). x.live) same ∙ dead in
+        λ i. record { label = d.label; kind = d.kind; live = sym dark i; clause = d.clause } ∷ es
     go false next w = ap (λ xs. d ∷ xs) (next w)
 
 -- an entry that is live may be picked
-pub can_pick : (es : List (Entry FormAt)) (label : ℕ) (e : Entry FormAt) → entry_at es label ≡ Some e → e.live ≡ true → option_map is_open (entry_at es label) ≡ Some true
+pub can_pick : (es : List (Entry FormAt)) (label : ℕ) (e : Entry FormAt) → entry_at es label ≡ Some e → e.live ≡ true
+    → option_map is_open (entry_at es label) ≡ Some true
 can_pick es label e q alive = ap (option_map is_open) q ∙ ap (λ b. Some b) (ap (λ b. not (is_linear e.kind) || b) alive ∙ or-true (not (is_linear e.kind)))
 
 -- ---- what is read later
@@ -106,14 +119,17 @@ goal_sub : (s : ℕ → Term) (p : Premise) → premise_goal (sub_premise s p) �
 goal_sub s (Needs g) = refl
 goal_sub s (NeedsFree g) = refl
 
-module _ (first mid new : Nodes) (bound after : List (Option At)) (v : ℕ → Term) (e1 : Extends first mid) (e2 : Extends mid new) (has : All (HasValue first) bound)
+module _ (first mid new : Nodes) (bound after : List (Option At)) (v : ℕ
+    → Term) (e1 : Extends first mid) (e2 : Extends mid new) (has : All (HasValue first) bound)
     (reads : (x : ℕ) → reading new after x ≡ sub v (reading mid bound x)) where
   pub reads_first : (x : ℕ) → reading new after x ≡ sub v (reading first bound x)
   reads_first x = reads x ∙ ap (sub v) (reading_same first mid e1 bound has x)
 
   -- the premises of a leaf
-  pub goals_later : (gs : List FormAt) (ps : List Premise) (kept : List Saved) → All (λ g. HasForm mid g.0) gs → map (λ g. form_tree mid g.0) gs ≡ map premise_goal ps
-      → map (shown_item new after kept) (map Goal gs) ≡ map (sub_item v) (map (λ p. Rattle.ll_laws.specs.Settle.Goal (premise_goal p)) (map (sub_premise (reading first bound)) ps))
+  pub goals_later : (gs : List FormAt) (ps : List Premise) (kept : List Saved) → All (λ g. HasForm mid g.0) gs
+      → map (λ g. form_tree mid g.0) gs ≡ map premise_goal ps
+      → map (shown_item new after kept) (map Goal gs) ≡ map (sub_item v)
+      (map (λ p. Rattle.ll_laws.specs.Settle.Goal (premise_goal p)) (map (sub_premise (reading first bound)) ps))
   goals_later [] [] kept h e = refl
   goals_later [] (p ∷ ps) kept h e = cc
   goals_later (g ∷ gs) [] kept h e = cc
@@ -122,19 +138,22 @@ module _ (first mid new : Nodes) (bound after : List (Option At)) (v : ℕ → T
       let there : map (λ (f : FormAt). form_tree mid f.0) gs ≡ map premise_goal ps = cc in
       let one : read_form new after g ≡ sub_form v (premise_goal (sub_premise (reading first bound) p)) =
       form_later mid new bound after v e2 reads g (All-head (λ (f : FormAt). HasForm mid f.0) g gs h)
-      ∙ ap (sub_form v) (form_same (reading mid bound) (reading first bound) (reading_same first mid e1 bound has) (form_tree mid g.0) ∙ (ap (sub_form (reading first bound)) here ∙ sym (goal_sub (reading first bound) p)))
+      ∙ ap (sub_form v) (form_same (reading mid bound) (reading first bound) (reading_same first mid e1 bound has) (form_tree mid g.0)
+      ∙ (ap (sub_form (reading first bound)) here ∙ sym (goal_sub (reading first bound) p)))
       in
       let rest = goals_later gs ps kept (All-tail (λ (f : FormAt). HasForm mid f.0) g gs h) there in
       λ i. Rattle.ll_laws.specs.Settle.Goal (one i) ∷ rest i
 
   -- the context
-  pub picked_later : (es : List (Entry FormAt)) (label : ℕ) → All (λ e. HasForm first e.clause.0) es → map (sub_entry v) (picked label (map (shown_entry first bound) es)) ≡ map (shown_entry new after) (picked label es)
+  pub picked_later : (es : List (Entry FormAt)) (label : ℕ) → All (λ e. HasForm first e.clause.0) es
+      → map (sub_entry v) (picked label (map (shown_entry first bound) es)) ≡ map (shown_entry new after) (picked label es)
   picked_later es label h =
       ap (map (sub_entry v)) (picked_read (read_form first bound) es label)
       ∙ sym (entries_later first new bound after v (Extends-trans e1 e2) reads_first (picked label es) (picked_all (λ f. HasForm first f.0) es label h))
 
   -- the variables, with new ones
-  pub terms_taken : (ats more : List At) (n count : ℕ) → length bound ≤ n → term_trees first ats ≡ vars_from 0 n → AllInTerms mid more → term_trees mid more ≡ vars_from 0 (n + count)
+  pub terms_taken : (ats more : List At) (n count : ℕ) → length bound ≤ n → term_trees first ats ≡ vars_from 0 n → AllInTerms mid more
+      → term_trees mid more ≡ vars_from 0 (n + count)
       → map (sub v) (map (read_term first bound) ats ++ vars_from n count) ≡ map (read_term new after) more
   terms_taken ats more n count small old_vars inside new_vars =
       let r = reading first bound in
@@ -145,22 +164,26 @@ module _ (first mid new : Nodes) (bound after : List (Option At)) (v : ℕ → T
       ∙ (map-append (sub r) (vars_from 0 n) (vars_from n count) ∙ (λ i. olds i ++ news i))
       in
       let all : map (read_term mid bound) more ≡ map (sub r) (vars_from 0 (n + count)) =
-      sym (sub-term_trees (reading mid bound) mid more) ∙ (map_same (sub (reading mid bound)) (sub r) (sub_same (reading mid bound) r (reading_same first mid e1 bound has)) (term_trees mid more) ∙ ap (map (sub r)) new_vars)
+      sym (sub-term_trees (reading mid bound) mid more) ∙ (map_same (sub (reading mid bound)) (sub r)
+      (sub_same (reading mid bound) r (reading_same first mid e1 bound has)) (term_trees mid more) ∙ ap (map (sub r)) new_vars)
       in
       sym (terms_later mid new bound after v e2 reads more inside ∙ ap (map (sub v)) (all ∙ split))
 
 -- ---- goals as they stand
 
-pub goals_sorted : (may : Allowed) (bank : Nodes) (gs : List FormAt) (ps : List Premise) → PremisesFit may ps → map (λ g. form_tree bank g.0) gs ≡ map premise_goal ps → All (IsGoalIn may bank) (map Goal gs)
+pub goals_sorted : (may : Allowed) (bank : Nodes) (gs : List FormAt) (ps : List Premise) → PremisesFit may ps
+    → map (λ g. form_tree bank g.0) gs ≡ map premise_goal ps → All (IsGoalIn may bank) (map Goal gs)
 goals_sorted may bank [] [] h e = λ k d l. absurd (omega arith)
 goals_sorted may bank [] (p ∷ ps) h e = cc
 goals_sorted may bank (g ∷ gs) [] h e = cc
 goals_sorted may bank (g ∷ gs) (p ∷ ps) h e =
     let here : form_tree bank g.0 ≡ premise_goal p = cc in
     let there : map (λ (f : FormAt). form_tree bank f.0) gs ≡ map premise_goal ps = cc in
-    All-cons (IsGoalIn may bank) (Goal g) (map Goal gs) (subst (IsFormula may GoalSide []) (sym here) (formula_of_fits may GoalSide [] (premise_goal p) h.0)) (goals_sorted may bank gs ps h.1 there)
+    All-cons (IsGoalIn may bank) (Goal g) (map Goal gs) (subst (IsFormula may GoalSide []) (sym here) (formula_of_fits may GoalSide [] (premise_goal p) h.0))
+    (goals_sorted may bank gs ps h.1 there)
 
 pub goals_inside : (bank : Nodes) (kept : ℕ) (gs : List FormAt) → All (λ g. HasForm bank g.0) gs → All (HasItem bank kept) (map Goal gs)
 goals_inside bank kept [] h = λ k d l. absurd (omega arith)
 goals_inside bank kept (g ∷ gs) h =
-    All-cons (HasItem bank kept) (Goal g) (map Goal gs) (All-head (λ (f : FormAt). HasForm bank f.0) g gs h) (goals_inside bank kept gs (All-tail (λ (f : FormAt). HasForm bank f.0) g gs h))
+    All-cons (HasItem bank kept) (Goal g) (map Goal gs) (All-head (λ (f : FormAt). HasForm bank f.0) g gs h)
+    (goals_inside bank kept gs (All-tail (λ (f : FormAt). HasForm bank f.0) g gs h))

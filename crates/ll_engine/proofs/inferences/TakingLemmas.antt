@@ -1,5 +1,6 @@
 -- A leaf taken for the atom in front of a machine's agenda.
-use Rattle.std.proofs.Common.{drop, ◌≡◌, ◌≢◌, ℕ, zero, suc, inl, inr, ◌+◌, ◌<◌, ◌≤◌, List, [], ◌∷◌, ◌++◌, length, map, All, get_or, refl, ap, sym, subst, ◌∙◌, arith, Option, Some, None, Bool, true, false}
+use Rattle.std.proofs.Common.{drop, ◌≡◌, ◌≢◌, ℕ, zero, suc, inl, inr, ◌+◌, ◌<◌, ◌≤◌, List, [], ◌∷◌, ◌++◌, length, map, All, get_or, refl, ap, sym, subst, ◌∙◌}
+use Rattle.std.proofs.Common.{arith, Option, Some, None, Bool, true, false}
 use Rattle.std.specs.Prelude.{flat_map, slice_index_or, slice_get, option_map, option_and_then, replicate, ◌&&◌, nat_le, slice_index}
 use Rattle.std.specs.List.{list_all, Contains}
 use Rattle.std.proofs.lemmas.Bool.{lt-ltb, ltb-true, cases_lt, and_from as and_intro}
@@ -14,7 +15,8 @@ use Rattle.ll_bank.specs.declared.FormNode.TheVariants.{Atom as AtomView}
 use Rattle.ll_bank.specs.Term.{Term, sub, close, applies_heads, is_closed, eigens_below, occurs}
 use Rattle.ll_bank.specs.Form.{Form, Atom, sub_form}
 use Rattle.ll_bank.specs.Nodes.{Nodes, HasTerm, HasForm, AllInTerms, Extends, term_tree, term_trees, form_tree}
-use Rattle.ll_bank.proofs.CallerLemmas.{Extends-trans, HasForm-extends, HasTerm-extends, form_tree-extends, AllInTerms-extends, term_trees-extends, sub-term_trees}
+use Rattle.ll_bank.proofs.CallerLemmas.{Extends-trans, HasForm-extends, HasTerm-extends, form_tree-extends, AllInTerms-extends, term_trees-extends}
+use Rattle.ll_bank.proofs.CallerLemmas.{sub-term_trees}
 use Rattle.ll_laws.specs.declared.Candidate.{Candidate}
 use Rattle.ll_laws.specs.declared.Step.TheVariants.{Clause as ClauseStep}
 use Rattle.ll_laws.specs.Leaf.{Leaf, premise_goal, ways, leaf}
@@ -25,7 +27,9 @@ use Rattle.ll_laws.specs.Attempt.{vars_from, entry_at, picked, instantiated, wit
 use Rattle.ll_laws.specs.Problem.{ProblemTree, setting_of}
 use Rattle.ll_laws.specs.Valid.{Allowed, IsFormula, IsValid, GoalSide, ClauseSide}
 use Rattle.ll_laws.specs.Consistent.{IsConsistent, allowed_in, is_made}
-use Rattle.ll_laws.proofs.CallerLemmas.{IsClosing, ways-sub, sub_leaf, sub_premise, sub_same, grows-refl, Fit, AllFit, Goes, Grows, fit_of_made, fit-more, fit-sub, fit-vars, fit-eigens, levels-replicate, level_up_to, new_level, occurs_below, fits_of_formula, fits-more, formula-more, LeafFits, leaf-fits, steps_consistent}
+use Rattle.ll_laws.proofs.CallerLemmas.{IsClosing, ways-sub, sub_leaf, sub_premise, sub_same, grows-refl, Fit, AllFit, Goes, Grows, fit_of_made, fit-more}
+use Rattle.ll_laws.proofs.CallerLemmas.{fit-sub, fit-vars, fit-eigens, levels-replicate, level_up_to, new_level, occurs_below, fits_of_formula, fits-more}
+use Rattle.ll_laws.proofs.CallerLemmas.{formula-more, LeafFits, leaf-fits, steps_consistent}
 use Rattle.ll_freeze.specs.Resting.{RestsOn}
 use Rattle.ll_freeze.proofs.CallerLemmas.{step_rests, modules_has, modules_later}
 use Rattle.ll_agenda.specs.declared.agenda.Top.{Top as AgendaTop}
@@ -46,14 +50,16 @@ use Rattle.ll_bindings.specs.Bindings.{Table, IsTable, IsOrdered, IsPlaceOf, Has
 use Rattle.ll_bindings.specs.Scanned.{is_bad}
 use Rattle.ll_bindings.specs.Fresh.{StandsNowhere}
 use Rattle.ll_bindings.proofs.CallerLemmas.{table-extends, cells-below, place-below, clear-of, clear-var}
-use Rattle.ll_engine.proofs.machine.ReadLemmas.{reading_same, reading_past, read_same, length_variables, fits_table, with_cells, same_table, table_more, table_values, reads_more}
+use Rattle.ll_engine.proofs.machine.ReadLemmas.{reading_same, reading_past, read_same, length_variables, fits_table, with_cells, same_table, table_more}
+use Rattle.ll_engine.proofs.machine.ReadLemmas.{table_values, reads_more}
 use Rattle.ll_engine.proofs.machine.CellLemmas.{all_drop}
 use Rattle.ll_engine.proofs.machine.MachineLemmas.{agenda_shown, goal_in_front}
 use Rattle.ll_engine.proofs.machine.LaterLemmas.{items_later}
 use Rattle.ll_engine.proofs.inferences.OwnTries.{all_own}
 use Rattle.ll_engine.proofs.inferences.TakeLemmas.{at_their_labels, entry_there}
 use Rattle.ll_engine.proofs.inferences.StepLemmas.{atom_step, leaf_read, way_read}
-use Rattle.ll_engine.proofs.inferences.TakenLemmas.{made_at, found_has, entry_read, picked_all, reads_first, goals_later, picked_later, terms_taken, goals_sorted, goals_inside}
+use Rattle.ll_engine.proofs.inferences.TakenLemmas.{made_at, found_has, entry_read, picked_all, reads_first, goals_later, picked_later, terms_taken}
+use Rattle.ll_engine.proofs.inferences.TakenLemmas.{goals_sorted, goals_inside}
 
 -- ---- what the state of a machine says
 
@@ -71,32 +77,39 @@ term_count m c = sym (length-map m.terms (read_term m.bank m.bound)) ∙ c.term_
 
 -- the atom in front, as the state shows it
 atom_shown : (m : Parts) (atom : At) (rest : AgendaTop) → IsFront m (AtomView atom) rest
-    → (state_of m).agenda ≡ Rattle.ll_laws.specs.Settle.Goal (Atom (read_term m.bank m.bound atom)) ∷ map (shown_item m.bank m.bound m.resources.kept) (items_at m.agenda rest)
+    → (state_of m).agenda ≡ Rattle.ll_laws.specs.Settle.Goal (Atom (read_term m.bank m.bound atom))
+    ∷ map (shown_item m.bank m.bound m.resources.kept) (items_at m.agenda rest)
 atom_shown m atom rest h =
     agenda_shown m (Goal h.goal ∷ items_at m.agenda rest) h.list
-    ∙ ap (λ g. Rattle.ll_laws.specs.Settle.Goal (sub_form (reading m.bank m.bound) g) ∷ map (shown_item m.bank m.bound m.resources.kept) (items_at m.agenda rest)) h.seen.tree
+    ∙ ap (λ g. Rattle.ll_laws.specs.Settle.Goal (sub_form (reading m.bank m.bound) g)
+    ∷ map (shown_item m.bank m.bound m.resources.kept) (items_at m.agenda rest)) h.seen.tree
 
 -- an inference on it
 attempt_atom : (m : Parts) (atom : At) (rest : AgendaTop) (label k count : ℕ) (e : Entry Form) (l : Leaf) → IsFront m (AtomView atom) rest
-    → entry_at (map (shown_entry m.bank m.bound) m.resources.entries) label ≡ Some e → slice_get (ways e.clause) k ≡ Some count → leaf e.clause k (vars_from (length m.levels) count) ≡ Some l
+    → entry_at (map (shown_entry m.bank m.bound) m.resources.entries) label ≡ Some e → slice_get (ways e.clause) k ≡ Some count
+    → leaf e.clause k (vars_from (length m.levels) count) ≡ Some l
     → attempt (setting m) (state_of m) (record { label = label; leaf = k })
     ≡ option_map (instantiated (with_leaf (state_of m) (map (shown_item m.bank m.bound m.resources.kept) (items_at m.agenda rest)) label k count l))
     (mgu (read_term m.bank m.bound atom ∷ []) (l.head ∷ []) (m.levels ++ replicate count m.eigens))
 unfolding state_of
 attempt_atom m atom rest label k count e l h entry way is =
-    atom_step (setting m) (state_of m) (read_term m.bank m.bound atom) (map (shown_item m.bank m.bound m.resources.kept) (items_at m.agenda rest)) label k count e l (atom_shown m atom rest h) entry way is
+    atom_step (setting m) (state_of m) (read_term m.bank m.bound atom) (map (shown_item m.bank m.bound m.resources.kept) (items_at m.agenda rest)) label k count
+    e l (atom_shown m atom rest h) entry way is
 
 -- no entry has the label
-pub no_entry : (m : Parts) (atom : At) (rest : AgendaTop) (c : Candidate) → IsFront m (AtomView atom) rest → entry_at m.resources.entries c.label ≡ None → attempt (setting m) (state_of m) c ≡ None
+pub no_entry : (m : Parts) (atom : At) (rest : AgendaTop) (c : Candidate) → IsFront m (AtomView atom) rest → entry_at m.resources.entries c.label ≡ None
+    → attempt (setting m) (state_of m) c ≡ None
 unfolding attempt state_of
 no_entry m atom rest c h none =
     let a = read_term m.bank m.bound atom in
     let behind = map (shown_item m.bank m.bound m.resources.kept) (items_at m.agenda rest) in
     ap (λ items. attempt_agenda (setting m) (state_of m) items c) (atom_shown m atom rest h)
-    ∙ ap (option_and_then (take_entry (state_of m) a behind c.label c.leaf)) (entry_read (read_form m.bank m.bound) m.resources.entries c.label ∙ ap (option_map (shown_entry m.bank m.bound)) none)
+    ∙ ap (option_and_then (take_entry (state_of m) a behind c.label c.leaf))
+    (entry_read (read_form m.bank m.bound) m.resources.entries c.label ∙ ap (option_map (shown_entry m.bank m.bound)) none)
 
 -- the candidates of the atom in front are leaves of the entries with their labels
-pub leaf_among : (m : Parts) (atom : At) (rest : AgendaTop) (c : Candidate) (e : Entry FormAt) → Fits m → IsFront m (AtomView atom) rest → Contains (tries (state_of m)) c
+pub leaf_among : (m : Parts) (atom : At) (rest : AgendaTop) (c : Candidate) (e : Entry FormAt) → Fits m → IsFront m (AtomView atom) rest
+    → Contains (tries (state_of m)) c
     → entry_at m.resources.entries c.label ≡ Some e → c.leaf < length (ways (form_tree m.bank e.clause.0))
 unfolding tries state_of
 leaf_among m atom rest c e f h k found =
@@ -122,8 +135,10 @@ leaf_among m atom rest c e f h k found =
 
 -- ---- items as the bank grows
 
-item_more : (may more : Allowed) (old new : Nodes) (n : ℕ) → Grows may more → Extends old new → (i : Item) → HasItem old n i → IsGoalIn may old i → IsGoalIn more new i
-item_more may more old new n g e (Goal at) h s = subst (IsFormula more GoalSide []) (sym (form_tree-extends e at.0 h)) (formula-more may more GoalSide (form_tree old at.0) g s)
+item_more : (may more : Allowed) (old new : Nodes) (n : ℕ) → Grows may more → Extends old new → (i : Item) → HasItem old n i → IsGoalIn may old i
+    → IsGoalIn more new i
+item_more may more old new n g e (Goal at) h s = subst (IsFormula more GoalSide []) (sym (form_tree-extends e at.0 h))
+    (formula-more may more GoalSide (form_tree old at.0) g s)
 item_more may more old new n g e (LolliEnd b) h s = tt
 item_more may more old new n g e ImpEnd h s = tt
 item_more may more old new n g e (Mid x) h s = tt
@@ -147,7 +162,8 @@ module _ (m : Parts) (f : Fits m) where
   made : (x : ℕ) → x < length m.levels → is_made (length m.levels) m.eigens (reading m.bank m.bound x) ≡ true
   made x l =
       made_at (length m.levels) m.eigens (reading m.bank m.bound) 0 (length m.levels) x
-      (ap (list_all (is_made (length m.levels) m.eigens)) (ap (map (sub (reading m.bank m.bound))) (sym f.variables) ∙ sub-term_trees (reading m.bank m.bound) m.bank m.terms) ∙ terms_made m f) (omega arith) (omega arith)
+      (ap (list_all (is_made (length m.levels) m.eigens)) (ap (map (sub (reading m.bank m.bound))) (sym f.variables)
+      ∙ sub-term_trees (reading m.bank m.bound) m.bank m.terms) ∙ terms_made m f) (omega arith) (omega arith)
 
   goes : Goes (allowed m) (reading m.bank m.bound)
   goes x l = fit_of_made (allowed m) (reading m.bank m.bound x) (made x (ltb-true x (length m.levels) l))
@@ -179,8 +195,10 @@ module _ (m : Parts) (f : Fits m) where
   -- the atom is of what there is
   atom_fit : (atom : At) (rest : AgendaTop) → IsFront m (AtomView atom) rest → Fit (allowed m) [] (read_term m.bank m.bound atom)
   atom_fit atom rest h =
-      let is = subst (λ g. IsFormula (allowed_in (setting m) (state_of m)) GoalSide [] (sub_form (reading m.bank m.bound) g)) h.seen.tree (goal_in_front m h.goal (items_at m.agenda rest) f h.list) in
-      (fits_of_formula (allowed m) GoalSide [] (Atom (read_term m.bank m.bound atom)) (subst (λ may. IsFormula may GoalSide [] (Atom (read_term m.bank m.bound atom))) (allowed_shown m) is)).1
+      let is = subst (λ g. IsFormula (allowed_in (setting m) (state_of m)) GoalSide [] (sub_form (reading m.bank m.bound) g)) h.seen.tree
+      (goal_in_front m h.goal (items_at m.agenda rest) f h.list) in
+      (fits_of_formula (allowed m) GoalSide [] (Atom (read_term m.bank m.bound atom))
+      (subst (λ may. IsFormula may GoalSide [] (Atom (read_term m.bank m.bound atom))) (allowed_shown m) is)).1
 
   -- a further variable stands in nothing that is of what there is, and further eigenconstants don't
   clear_fit : (t : Term) (x : ℕ) → length m.levels ≤ x → Fit (allowed m) [] t → is_bad x m.eigens t ≡ false
@@ -191,9 +209,11 @@ module _ (m : Parts) (f : Fits m) where
       absent false o = refl
 
   -- the atom has no variable but those that there are
-  pub atom_below : (atom : At) (rest : AgendaTop) (count : ℕ) → IsFront m (AtomView atom) rest → vars_below (length m.levels + count) (read_term m.bank m.bound atom) ≡ true
+  pub atom_below : (atom : At) (rest : AgendaTop) (count : ℕ) → IsFront m (AtomView atom) rest
+      → vars_below (length m.levels + count) (read_term m.bank m.bound atom) ≡ true
   atom_below atom rest count h =
-      fit-vars (with_more count) [] (read_term m.bank m.bound atom) (fit-more (allowed m) (with_more count) [] [] (read_term m.bank m.bound atom) (grows count) tt (atom_fit atom rest h))
+      fit-vars (with_more count) [] (read_term m.bank m.bound atom)
+      (fit-more (allowed m) (with_more count) [] [] (read_term m.bank m.bound atom) (grows count) tt (atom_fit atom rest h))
 
   levels_most : list_all (λ l. nat_le l m.eigens) m.levels ≡ true
   unfolding state_of
@@ -224,7 +244,8 @@ module _ (m : Parts) (f : Fits m) where
       leaf_sorted : LeafFits (with_more o.count) opened
       leaf_sorted =
           leaf-fits (with_more o.count) (form_tree m.bank e.clause.0) k (vars_from (length m.levels) o.count) opened
-          (fits-more (allowed m) (with_more o.count) ClauseSide [] [] (form_tree m.bank e.clause.0) (grows o.count) tt (fits_of_formula (allowed m) ClauseSide [] (form_tree m.bank e.clause.0) clause_sorted))
+          (fits-more (allowed m) (with_more o.count) ClauseSide [] [] (form_tree m.bank e.clause.0) (grows o.count) tt
+          (fits_of_formula (allowed m) ClauseSide [] (form_tree m.bank e.clause.0) clause_sorted))
           (vars_fit (length m.levels) o.count o.count (omega arith)) leaf_is
 
       head_read : sub (reading mid m.bound) shut ≡ sub (reading m.bank m.bound) shut
@@ -234,19 +255,26 @@ module _ (m : Parts) (f : Fits m) where
       pub head_below : vars_below (length m.levels + o.count) (sub (reading mid m.bound) shut) ≡ true
       head_below =
           ap (vars_below (length m.levels + o.count)) head_read
-          ∙ fit-vars (with_more o.count) [] (sub (reading m.bank m.bound) shut) (fit-sub (with_more o.count) (reading m.bank m.bound) [] shut (goes_more o.count) leaf_sorted.head.1)
+          ∙ fit-vars (with_more o.count) [] (sub (reading m.bank m.bound) shut)
+          (fit-sub (with_more o.count) (reading m.bank m.bound) [] shut (goes_more o.count) leaf_sorted.head.1)
 
       -- what the inference comes to, by what unification gives
       pub step_is : (atom : At) → IsFront m (AtomView atom) rest
           → attempt (setting m) (state_of m) (record { label = label; leaf = k })
-          ≡ option_map (instantiated (with_leaf (state_of m) (map (shown_item m.bank m.bound m.resources.kept) (items_at m.agenda rest)) label k o.count (sub_leaf (reading m.bank m.bound) opened)))
+          ≡ option_map (instantiated (with_leaf (state_of m) (map (shown_item m.bank m.bound m.resources.kept) (items_at m.agenda rest)) label k o.count
+          (sub_leaf (reading m.bank m.bound) opened)))
           (mgu (read_term m.bank m.bound atom ∷ []) (sub (reading mid m.bound) shut ∷ []) (m.levels ++ replicate o.count m.eigens))
       step_is atom h =
           let r = reading m.bank m.bound in
-          attempt_atom m atom rest label k o.count (shown_entry m.bank m.bound e) (sub_leaf r opened) h (entry_read (read_form m.bank m.bound) m.resources.entries label ∙ ap (option_map (shown_entry m.bank m.bound)) found)
+          attempt_atom m atom rest label k o.count (shown_entry m.bank m.bound e) (sub_leaf r opened) h
+          (entry_read (read_form m.bank m.bound) m.resources.entries label ∙ ap (option_map (shown_entry m.bank m.bound)) found)
           (way_read r (form_tree m.bank e.clause.0) k o.count o.way)
-          (leaf_read r closing (form_tree m.bank e.clause.0) k (length m.levels) o.count opened (λ x l. reading_past m.bank m.bound x (let c = f.count in omega arith)) leaf_is)
-          ∙ ap (λ t. option_map (instantiated (with_leaf (state_of m) (map (shown_item m.bank m.bound m.resources.kept) (items_at m.agenda rest)) label k o.count (sub_leaf r opened)))
+          (leaf_read r closing (form_tree m.bank e.clause.0) k (length m.levels) o.count opened
+          (λ x l. reading_past m.bank m.bound x (let c = f.count in omega arith)) leaf_is)
+          ∙ ap
+          (λ t.
+          option_map (instantiated (with_leaf (state_of m) (map (shown_item m.bank m.bound m.resources.kept) (items_at m.agenda rest)) label k o.count
+          (sub_leaf r opened)))
           (mgu (read_term m.bank m.bound atom ∷ []) (t ∷ []) (m.levels ++ replicate o.count m.eigens))) (sym head_read)
 
       -- a machine with all that a leaf brings, after unification found a substitution
@@ -271,13 +299,16 @@ module _ (m : Parts) (f : Fits m) where
         pub left : suc new.left ≡ m.left
 
       module _ (atom : At) (h : IsFront m (AtomView atom) rest) (v : Solved)
-          (unified : mgu (read_term m.bank m.bound atom ∷ []) (sub (reading mid m.bound) shut ∷ []) (m.levels ++ replicate o.count m.eigens) ≡ Some v) (new : Parts) (t : IsTaken v new) where
+          (unified : mgu (read_term m.bank m.bound atom ∷ []) (sub (reading mid m.bound) shut ∷ []) (m.levels ++ replicate o.count m.eigens) ≡ Some v)
+          (new : Parts) (t : IsTaken v new) where
         behind : All (HasItem m.bank (length m.resources.kept)) (items_at m.agenda rest)
         behind =
-            All-tail (HasItem m.bank (length m.resources.kept)) (Goal h.goal) (items_at m.agenda rest) (subst (All (HasItem m.bank (length m.resources.kept))) h.list f.items)
+            All-tail (HasItem m.bank (length m.resources.kept)) (Goal h.goal) (items_at m.agenda rest)
+            (subst (All (HasItem m.bank (length m.resources.kept))) h.list f.items)
 
         behind_sorted : All (IsGoalIn (allowed m) m.bank) (items_at m.agenda rest)
-        behind_sorted = All-tail (IsGoalIn (allowed m) m.bank) (Goal h.goal) (items_at m.agenda rest) (subst (All (IsGoalIn (allowed m) m.bank)) h.list f.sorted_goals)
+        behind_sorted = All-tail (IsGoalIn (allowed m) m.bank) (Goal h.goal) (items_at m.agenda rest)
+            (subst (All (IsGoalIn (allowed m) m.bank)) h.list f.sorted_goals)
 
         items_are : items_of new ≡ map Goal o.goals ++ items_at m.agenda rest
         items_are = (λ i. items_at (t.agenda i) (t.front i)) ∙ o.shows.list
@@ -285,17 +316,23 @@ module _ (m : Parts) (f : Fits m) where
         firsts : (x : ℕ) → reading new.bank new.bound x ≡ sub v.subst (reading m.bank m.bound x)
         firsts = reads_first m.bank mid new.bank m.bound new.bound v.subst keeps t.later f.bound t.reads
 
-        agenda_is : map (sub_item v.subst) (map (λ p. Rattle.ll_laws.specs.Settle.Goal (premise_goal p)) (map (sub_premise (reading m.bank m.bound)) o.premises) ++ map (shown_item m.bank m.bound m.resources.kept) (items_at m.agenda rest))
+        agenda_is : map (sub_item v.subst) (map (λ p. Rattle.ll_laws.specs.Settle.Goal (premise_goal p)) (map (sub_premise (reading m.bank m.bound)) o.premises)
+            ++ map (shown_item m.bank m.bound m.resources.kept) (items_at m.agenda rest))
             ≡ map (shown_item new.bank new.bound new.resources.kept) (items_of new)
         agenda_is =
             let kept = m.resources.kept in
-            let one = goals_later m.bank mid new.bank m.bound new.bound v.subst keeps t.later f.bound t.reads o.goals o.premises kept o.goals_are.inside o.goals_are.trees in
-            let two = items_later m.bank new.bank m.bound new.bound v.subst (Extends-trans keeps t.later) firsts kept (length kept) (items_at m.agenda rest) behind in
-            map-append (sub_item v.subst) (map (λ p. Rattle.ll_laws.specs.Settle.Goal (premise_goal p)) (map (sub_premise (reading m.bank m.bound)) o.premises)) (map (shown_item m.bank m.bound kept) (items_at m.agenda rest))
+            let one = goals_later m.bank mid new.bank m.bound new.bound v.subst keeps t.later f.bound t.reads o.goals o.premises kept o.goals_are.inside
+            o.goals_are.trees in
+            let two = items_later m.bank new.bank m.bound new.bound v.subst (Extends-trans keeps t.later) firsts kept (length kept) (items_at m.agenda rest)
+            behind in
+            map-append (sub_item v.subst) (map (λ p. Rattle.ll_laws.specs.Settle.Goal (premise_goal p)) (map (sub_premise (reading m.bank m.bound)) o.premises))
+            (map (shown_item m.bank m.bound kept) (items_at m.agenda rest))
             ∙ ((λ i. sym one i ++ sym two i)
-            ∙ (sym (map-append (shown_item new.bank new.bound kept) (map Goal o.goals) (items_at m.agenda rest)) ∙ (λ i. map (shown_item new.bank new.bound (sym t.kept i)) (sym items_are i))))
+            ∙ (sym (map-append (shown_item new.bank new.bound kept) (map Goal o.goals) (items_at m.agenda rest))
+            ∙ (λ i. map (shown_item new.bank new.bound (sym t.kept i)) (sym items_are i))))
 
-        context_is : map (sub_entry v.subst) (picked label (map (shown_entry m.bank m.bound) m.resources.entries)) ≡ map (shown_entry new.bank new.bound) new.resources.entries
+        context_is : map (sub_entry v.subst) (picked label (map (shown_entry m.bank m.bound) m.resources.entries))
+            ≡ map (shown_entry new.bank new.bound) new.resources.entries
         context_is =
             picked_later m.bank mid new.bank m.bound new.bound v.subst keeps t.later f.bound t.reads m.resources.entries label f.clauses
             ∙ ap (map (shown_entry new.bank new.bound)) (sym t.entries)
@@ -303,12 +340,15 @@ module _ (m : Parts) (f : Fits m) where
         variables_are : term_trees mid terms ≡ vars_from 0 (length m.levels + o.count)
         variables_are = o.variables ∙ ap (λ n. vars_from 0 (n + o.count)) variable_count
 
-        terms_are : map (sub v.subst) (map (read_term m.bank m.bound) m.terms ++ vars_from (length m.levels) o.count) ≡ map (read_term new.bank new.bound) new.terms
+        terms_are : map (sub v.subst) (map (read_term m.bank m.bound) m.terms ++ vars_from (length m.levels) o.count)
+            ≡ map (read_term new.bank new.bound) new.terms
         terms_are =
-            terms_taken m.bank mid new.bank m.bound new.bound v.subst keeps t.later f.bound t.reads m.terms terms (length m.levels) o.count (let c = f.count in omega arith) f.variables o.terms_inside variables_are
+            terms_taken m.bank mid new.bank m.bound new.bound v.subst keeps t.later f.bound t.reads m.terms terms (length m.levels) o.count (let c = f.count in
+            omega arith) f.variables o.terms_inside variables_are
             ∙ ap (map (read_term new.bank new.bound)) (sym t.all)
 
-        state_is : instantiated (with_leaf (state_of m) (map (shown_item m.bank m.bound m.resources.kept) (items_at m.agenda rest)) label k o.count (sub_leaf (reading m.bank m.bound) opened)) v ≡ state_of new
+        state_is : instantiated (with_leaf (state_of m) (map (shown_item m.bank m.bound m.resources.kept) (items_at m.agenda rest)) label k o.count
+            (sub_leaf (reading m.bank m.bound) opened)) v ≡ state_of new
         unfolding state_of
         state_is = λ i. record {
           agenda = agenda_is i;
@@ -324,16 +364,21 @@ module _ (m : Parts) (f : Fits m) where
         gives : attempt (setting m) (state_of m) (record { label = label; leaf = k }) ≡ Some (state_of new)
         gives =
             step_is atom h
-            ∙ (ap (option_map (instantiated (with_leaf (state_of m) (map (shown_item m.bank m.bound m.resources.kept) (items_at m.agenda rest)) label k o.count (sub_leaf (reading m.bank m.bound) opened)))) unified
+            ∙
+            (ap
+            (option_map (instantiated (with_leaf (state_of m) (map (shown_item m.bank m.bound m.resources.kept) (items_at m.agenda rest)) label k o.count
+            (sub_leaf (reading m.bank m.bound) opened)))) unified
             ∙ ap (λ s. Some s) state_is)
 
         consistent : IsConsistent (setting new) (state_of new)
         consistent =
             subst (λ p. IsConsistent (setting_of p) (state_of new)) (sym t.problem)
-            (steps_consistent (length m.problem.names) (setting m) (state_of m) (state_of new) (record { label = label; leaf = k }) f.valid.modules f.consistent gives)
+            (steps_consistent (length m.problem.names) (setting m) (state_of m) (state_of new) (record { label = label; leaf = k }) f.valid.modules f.consistent
+            gives)
 
         level_count : length new.levels ≡ length m.levels + o.count
-        level_count = sym (term_count new consistent) ∙ (ap (λ (ats : List At). length ats) t.all ∙ length_variables mid terms (length m.levels + o.count) variables_are)
+        level_count = sym (term_count new consistent) ∙ (ap (λ (ats : List At). length ats) t.all
+            ∙ length_variables mid terms (length m.levels + o.count) variables_are)
 
         may_is : allowed new ≡ with_more o.count
         may_is = λ i. record { modules = (setting_of (t.problem i)).modules; variables = level_count i; eigens = t.eigens i; opens = true }
@@ -344,7 +389,8 @@ module _ (m : Parts) (f : Fits m) where
         clauses_are : All (λ e. HasForm new.bank e.clause.0) new.resources.entries
         clauses_are =
             subst (All (λ (d : Entry FormAt). HasForm new.bank d.clause.0)) (sym t.entries)
-            (picked_all (λ g. HasForm new.bank g.0) m.resources.entries label (λ j d l. HasForm-extends whole (get_or m.resources.entries j d).clause.0 (f.clauses j d l)))
+            (picked_all (λ g. HasForm new.bank g.0) m.resources.entries label
+            (λ j d l. HasForm-extends whole (get_or m.resources.entries j d).clause.0 (f.clauses j d l)))
 
         sorted_are : All (λ e. IsFormula (allowed new) ClauseSide [] (form_tree new.bank e.clause.0)) new.resources.entries
         sorted_are =
@@ -352,7 +398,8 @@ module _ (m : Parts) (f : Fits m) where
             (subst (All (λ (d : Entry FormAt). IsFormula (with_more o.count) ClauseSide [] (form_tree new.bank d.clause.0))) (sym t.entries)
             (picked_all (λ g. IsFormula (with_more o.count) ClauseSide [] (form_tree new.bank g.0)) m.resources.entries label
             (λ j d l. let g = (get_or m.resources.entries j d).clause.0 in
-            subst (IsFormula (with_more o.count) ClauseSide []) (sym (form_tree-extends whole g (f.clauses j d l))) (formula-more (allowed m) (with_more o.count) ClauseSide (form_tree m.bank g) (grows o.count) (f.sorted_clauses j d l)))))
+            subst (IsFormula (with_more o.count) ClauseSide []) (sym (form_tree-extends whole g (f.clauses j d l)))
+            (formula-more (allowed m) (with_more o.count) ClauseSide (form_tree m.bank g) (grows o.count) (f.sorted_clauses j d l)))))
 
         goals_are : All (IsGoalIn (allowed new) new.bank) (items_of new)
         goals_are =
@@ -362,8 +409,10 @@ module _ (m : Parts) (f : Fits m) where
             subst (λ may. All (IsGoalIn may new.bank) (items_of new)) (sym may_is)
             (subst (All (IsGoalIn (with_more o.count) new.bank)) (sym items_are)
             (All-append (IsGoalIn (with_more o.count) new.bank) (map Goal o.goals) (items_at m.agenda rest)
-            (λ j d l. item_more (with_more o.count) (with_more o.count) mid new.bank kept (grows-refl (with_more o.count)) t.later (get_or (map Goal o.goals) j d) (has j d l) (fresh j d l))
-            (λ j d l. item_more (allowed m) (with_more o.count) m.bank new.bank kept (grows o.count) whole (get_or (items_at m.agenda rest) j d) (behind j d l) (behind_sorted j d l))))
+            (λ j d l. item_more (with_more o.count) (with_more o.count) mid new.bank kept (grows-refl (with_more o.count)) t.later
+            (get_or (map Goal o.goals) j d) (has j d l) (fresh j d l))
+            (λ j d l. item_more (allowed m) (with_more o.count) m.bank new.bank kept (grows o.count) whole (get_or (items_at m.agenda rest) j d) (behind j d l)
+            (behind_sorted j d l))))
 
         items_inside : All (HasItem new.bank (length new.resources.kept)) (items_of new)
         items_inside =
@@ -382,8 +431,10 @@ module _ (m : Parts) (f : Fits m) where
           valid = subst IsValid (sym t.problem) f.valid;
           consistent = consistent;
           rests = subst (λ (p : ProblemTree). RestsOn p.clauses (state_of new)) (sym t.problem)
-              (step_rests (length m.problem.names) m.problem.modules m.problem.clauses f.valid.clauses (setting m) (state_of m) (state_of new) (record { label = label; leaf = k }) gives f.rests);
-          count = (let c = t.count in let a = length-append m.levels (replicate o.count m.eigens) in let b = length-replicate o.count m.eigens in let d = level_count in omega arith);
+              (step_rests (length m.problem.names) m.problem.modules m.problem.clauses f.valid.clauses (setting m) (state_of m) (state_of new)
+              (record { label = label; leaf = k }) gives f.rests);
+          count = (let c = t.count in let a = length-append m.levels (replicate o.count m.eigens) in let b = length-replicate o.count m.eigens in
+              let d = level_count in omega arith);
           bound = t.inside;
           ordered = t.ordered;
           terms = terms_inside;
@@ -444,7 +495,8 @@ module _ (m : Parts) (f : Fits m) where
         levels_up_to y =
             level_up_to m.eigens start.levels y
             (ap (list_all (λ l. nat_le l m.eigens)) start_levels
-            ∙ (list_all-append (λ l. nat_le l m.eigens) m.levels (replicate o.count m.eigens) ∙ and_intro _ _ levels_most (levels-replicate m.eigens m.eigens o.count (omega arith))))
+            ∙ (list_all-append (λ l. nat_le l m.eigens) m.levels (replicate o.count m.eigens)
+            ∙ and_intro _ _ levels_most (levels-replicate m.eigens m.eigens o.count (omega arith))))
 
         first_read : (x : ℕ) → reading mid start.bound x ≡ reading m.bank m.bound x
         first_read x = reads_is x ∙ reading_same m.bank mid keeps m.bound f.bound x
@@ -454,7 +506,11 @@ module _ (m : Parts) (f : Fits m) where
         atom_apart x l b = record {
           own = first_read x ∙ reading_past m.bank m.bound x (let c = f.count in let v = variable_count in omega arith);
           others = λ y n. subst (λ e. is_bad x e (reading mid start.bound y) ≡ false) (sym level) (ap (is_bad x m.eigens) (first_read y) ∙ other y n);
-          terms = (subst (λ e. is_bad x e (read_term mid start.bound atom) ≡ false) (sym level) (ap (is_bad x m.eigens) atom_is ∙ clear_fit (read_term m.bank m.bound atom) x past_all (atom_fit atom rest h)), tt);
+          terms = (
+            subst (λ e. is_bad x e (read_term mid start.bound atom) ≡ false) (sym level)
+                (ap (is_bad x m.eigens) atom_is ∙ clear_fit (read_term m.bank m.bound atom) x past_all (atom_fit atom rest h)),
+            tt,
+          );
           newest = λ y. subst (λ e. slice_index start.levels y ≤ e) (sym level) (levels_up_to y);
         }
           where
@@ -496,15 +552,19 @@ module _ (m : Parts) (f : Fits m) where
         ready_in bank values e q = subst (λ (b : Nodes). IsReady b values) (sym e) (subst (IsReady mid) (sym q) ready_now)
 
         abbrev pub Finds : Nodes → Table → Bool → Type 0
-        Finds last after answer = Unifies mid last start after (mgu (read_term mid start.bound atom ∷ []) (sub (reading mid start.bound) shut ∷ []) start.levels) answer
+        Finds last after answer = Unifies mid last start after
+            (mgu (read_term mid start.bound atom ∷ []) (sub (reading mid start.bound) shut ∷ []) start.levels) answer
 
         -- what was found over an equal bank
         pub finds_in : (bank last : Nodes) (values : List At) (after : Table) (found b : Bool) → bank ≡ mid → values ≡ drop (length m.terms) terms → found ≡ b
-            → Unifies bank last start after (mgu (read_term bank start.bound atom ∷ []) (sub (reading bank start.bound) (shut_in bank values) ∷ []) start.levels) found → Finds last after b
+            → Unifies bank last start after (mgu (read_term bank start.bound atom ∷ []) (sub (reading bank start.bound) (shut_in bank values) ∷ [])
+            start.levels) found → Finds last after b
         finds_in bank last values after found b e r q w =
             subst (λ x. Finds last after x) q
-            (subst (λ (vs : List At). Unifies mid last start after (mgu (read_term mid start.bound atom ∷ []) (sub (reading mid start.bound) (shut_in mid vs) ∷ []) start.levels) found) r
-            (subst (λ (n : Nodes). Unifies n last start after (mgu (read_term n start.bound atom ∷ []) (sub (reading n start.bound) (shut_in n values) ∷ []) start.levels) found) e w))
+            (subst (λ (vs : List At). Unifies mid last start after
+            (mgu (read_term mid start.bound atom ∷ []) (sub (reading mid start.bound) (shut_in mid vs) ∷ []) start.levels) found) r
+            (subst (λ (n : Nodes). Unifies n last start after
+            (mgu (read_term n start.bound atom ∷ []) (sub (reading n start.bound) (shut_in n values) ∷ []) start.levels) found) e w))
 
         same_problem : mgu (read_term m.bank m.bound atom ∷ []) (sub (reading mid m.bound) shut ∷ []) (m.levels ++ replicate o.count m.eigens)
             ≡ mgu (read_term mid start.bound atom ∷ []) (sub (reading mid start.bound) shut ∷ []) start.levels
@@ -513,7 +573,9 @@ module _ (m : Parts) (f : Fits m) where
         pub none_taken : (last : Nodes) (after : Table) → Finds last after false → attempt (setting m) (state_of m) (record { label = label; leaf = k }) ≡ None
         none_taken last after w =
             step_is atom h
-            ∙ ap (option_map (instantiated (with_leaf (state_of m) (map (shown_item m.bank m.bound m.resources.kept) (items_at m.agenda rest)) label k o.count (sub_leaf (reading m.bank m.bound) opened))))
+            ∙ ap
+            (option_map (instantiated (with_leaf (state_of m) (map (shown_item m.bank m.bound m.resources.kept) (items_at m.agenda rest)) label k o.count
+            (sub_leaf (reading m.bank m.bound) opened))))
             (same_problem ∙ go (mgu (read_term mid start.bound atom ∷ []) (sub (reading mid start.bound) shut ∷ []) start.levels) w)
           where
             go : (s : Option Solved) → Unifies mid last start after s false → s ≡ None
@@ -546,7 +608,8 @@ module _ (m : Parts) (f : Fits m) where
               levels = t.levels_new ∙ w.levels_are;
               count = ap (λ (xs : List (Option At)). length xs) t.bound_new ∙ (w.table.bound ∙ (w.same_count ∙ ap (λ (xs : List ℕ). length xs) start_levels));
               inside =
-                  subst (All (HasValue new.bank)) (sym t.bound_new) (subst (λ bank. All (HasValue bank) after.bound) (sym t.bank) (table_values last after.bound w.table.places));
+                  subst (All (HasValue new.bank)) (sym t.bound_new)
+                  (subst (λ bank. All (HasValue bank) after.bound) (sym t.bank) (table_values last after.bound w.table.places));
               ordered = subst (λ (bank : Nodes). IsOrdered bank (table new)) (sym t.bank) (subst (λ (u : Table). IsOrdered last u) (sym same) w.table.ordered);
               reads = λ x. (λ i. reading (t.bank i) (t.bound_new i) x) ∙ (w.reads x ∙ ap (sub v.subst) (reads_is x));
               entries = ap (λ (r : Resources FormAt). r.entries) t.resources;
@@ -561,10 +624,12 @@ module _ (m : Parts) (f : Fits m) where
               left = t.left;
             }
 
-        pub some_taken : (last : Nodes) (after : Table) (new : Parts) → IsMoved last after new → Finds last after true → Infers m (record { label = label; leaf = k }) new
+        pub some_taken : (last : Nodes) (after : Table) (new : Parts) → IsMoved last after new → Finds last after true
+            → Infers m (record { label = label; leaf = k }) new
         some_taken last after new t w = go (mgu (read_term mid start.bound atom ∷ []) (sub (reading mid start.bound) shut ∷ []) start.levels) refl w
           where
-            go : (s : Option Solved) → mgu (read_term mid start.bound atom ∷ []) (sub (reading mid start.bound) shut ∷ []) start.levels ≡ s → Unifies mid last start after s true
+            go : (s : Option Solved) → mgu (read_term mid start.bound atom ∷ []) (sub (reading mid start.bound) shut ∷ []) start.levels ≡ s
+                → Unifies mid last start after s true
                 → Infers m (record { label = label; leaf = k }) new
             go None p x = absurd x
             go (Some v) p x = taken atom h v (same_problem ∙ p) new (moved last after new v t x)

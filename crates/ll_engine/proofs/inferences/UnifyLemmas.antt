@@ -8,7 +8,8 @@ use Rattle.ll_bindings.specs.Bindings.{Table, found}
 use Rattle.ll_bindings.specs.Solving.{along, wanted, IsSolved}
 use Rattle.ll_engine.specs.Taking.{Unifies}
 
-solved_by : (first nodes : Nodes) (old new : Table) (o : Option Solved) (answer : Bool) → IsSolved nodes old new (option_map (along (found first old)) o) answer → Unifies first nodes old new o answer
+solved_by : (first nodes : Nodes) (old new : Table) (o : Option Solved) (answer : Bool) → IsSolved nodes old new (option_map (along (found first old)) o) answer
+    → Unifies first nodes old new o answer
 solved_by first nodes old new (Some v) true h =
     let same : along (found first old) v ≡ record { subst = found nodes new; levels = new.levels } = cc in
     record {

@@ -1,21 +1,25 @@
 -- The way to a leaf, step by step.
-use Rattle.std.proofs.Common.{◌≡◌, ℕ, zero, suc, ◌+◌, ◌-◌, ◌<◌, ◌≤◌, List, [], ◌∷◌, ◌++◌, length, map, take, drop, reverse, All, refl, ap, sym, subst, ◌∙◌, arith, Option, Some, Bool, true, false, append_assoc, get_or}
+use Rattle.std.proofs.Common.{◌≡◌, ℕ, zero, suc, ◌+◌, ◌-◌, ◌<◌, ◌≤◌, List, [], ◌∷◌, ◌++◌, length, map, take, drop, reverse, All, refl, ap, sym, subst, ◌∙◌}
+use Rattle.std.proofs.Common.{arith, Option, Some, Bool, true, false, append_assoc, get_or}
 use Rattle.std.specs.Prelude.{if◌then◌else◌, nat_lt, slice_get, option_map, ◌&&◌}
 use Rattle.std.specs.List.{list_all}
 use Rattle.std.proofs.lemmas.Bool.{ltb-true, lt-ltb, and_from as and_intro}
 use Rattle.std.proofs.lemmas.List.{append-nil, map-append, reverse-append, take_all, length-drop}
 use Rattle.std.proofs.lemmas.List.Elements.{All-cons, All-push}
-use Rattle.ll_lists.proofs.CallerLemmas.{length-map_suc as length-suc, slice_get-append_left as get_left, slice_get-append_right as get_right, slice_get-map_suc as get_suc, lt_false as not_below, and_true_left as and_left, and_true_right as and_right}
+use Rattle.ll_lists.proofs.CallerLemmas.{length-map_suc as length-suc, slice_get-append_left as get_left, slice_get-append_right as get_right}
+use Rattle.ll_lists.proofs.CallerLemmas.{slice_get-map_suc as get_suc, lt_false as not_below, and_true_left as and_left, and_true_right as and_right}
 use Rattle.ll_bank.specs.declared.At.{At}
 use Rattle.ll_bank.specs.declared.FormAt.{FormAt}
 use Rattle.ll_bank.specs.Term.{Term, Var, Env, close, applies_heads, is_spine, head_of}
 use Rattle.ll_bank.specs.Form.{Form, Top, One, Atom, With, Tensor, Plus, Bang, Lolli, Imp, Forall, Exists, Use, Num, close_form, form_applies_heads}
 use Rattle.ll_bank.specs.Nodes.{Nodes, HasTerm, HasForm, AllInTerms, Extends, term_tree, term_trees, form_tree}
-use Rattle.ll_bank.proofs.CallerLemmas.{HasForm-extends, form_tree-extends, AllInTerms-extends, term_trees-extends, Extends-refl, Extends-trans, length-term_trees}
+use Rattle.ll_bank.proofs.CallerLemmas.{HasForm-extends, form_tree-extends, AllInTerms-extends, term_trees-extends, Extends-refl, Extends-trans}
+use Rattle.ll_bank.proofs.CallerLemmas.{length-term_trees}
 use Rattle.ll_laws.specs.Leaf.{Leaf, Premise, add_premise, premise_goal, ways, leaf, leaf_from}
 use Rattle.ll_laws.specs.Attempt.{vars_from}
 use Rattle.ll_laws.specs.Valid.{Allowed, Side, GoalSide, ClauseSide, Scope, has_heads, is_headed, may_head}
-use Rattle.ll_laws.proofs.CallerLemmas.{Grows, Closes, Widens, Fits as FormFits, fits_of_formula, formula_of_fits, fits-more, fits-close, length-vars, headed_applies, all_headed}
+use Rattle.ll_laws.proofs.CallerLemmas.{Grows, Closes, Widens, Fits as FormFits, fits_of_formula, formula_of_fits, fits-more, fits-close, length-vars}
+use Rattle.ll_laws.proofs.CallerLemmas.{headed_applies, all_headed}
 use Rattle.ll_agenda.specs.declared.agenda.Top.{Top as AgendaTop}
 use Rattle.ll_agenda.specs.Frames.{Frames, ShowsItems, items_at}
 use Rattle.ll_freeze.specs.declared.machine.Item.{Item}
@@ -37,7 +41,8 @@ scope_of (suc n) = false ∷ scope_of n
 -- What is left of a clause on the way to one of its leaves: a part of it with a leaf, under the quantifiers that were passed, whose
 -- premises are those nearest the head. The others are on the agenda in front of the items that were there, and the variables made so far
 -- are behind those that there were.
-pub record IsOnWay (first : Nodes) (items : List Item) (before clause k : ℕ) (bank : Nodes) (now : Frames Item) (terms : List At) (form at : ℕ) (top : AgendaTop) : Type 0 where
+pub record IsOnWay (first : Nodes) (items : List Item) (before clause k : ℕ) (bank : Nodes) (now : Frames Item) (terms : List At) (form at : ℕ)
+    (top : AgendaTop) : Type 0 where
   pub keeps : Extends first bank
   pub inside : HasForm first form
   pub count : ℕ
@@ -60,25 +65,37 @@ heads_apply o side scope Top h = refl
 heads_apply o side scope One h = refl
 heads_apply o side scope (Atom a) h = headed_applies scope a (and_right (is_spine a && may_head scope (head_of a)) (is_headed scope a) h)
 heads_apply o side scope (With f g) h =
-    and_intro (form_applies_heads f) (form_applies_heads g) (heads_apply o side scope f (and_left (has_heads o side scope f) (has_heads o side scope g) h)) (heads_apply o side scope g (and_right (has_heads o side scope f) (has_heads o side scope g) h))
+    and_intro (form_applies_heads f) (form_applies_heads g) (heads_apply o side scope f (and_left (has_heads o side scope f) (has_heads o side scope g) h))
+    (heads_apply o side scope g (and_right (has_heads o side scope f) (has_heads o side scope g) h))
 heads_apply o side scope (Tensor f g) h =
-    and_intro (form_applies_heads f) (form_applies_heads g) (heads_apply o side scope f (and_left (has_heads o side scope f) (has_heads o side scope g) h)) (heads_apply o side scope g (and_right (has_heads o side scope f) (has_heads o side scope g) h))
+    and_intro (form_applies_heads f) (form_applies_heads g) (heads_apply o side scope f (and_left (has_heads o side scope f) (has_heads o side scope g) h))
+    (heads_apply o side scope g (and_right (has_heads o side scope f) (has_heads o side scope g) h))
 heads_apply o side scope (Plus f g) h =
-    and_intro (form_applies_heads f) (form_applies_heads g) (heads_apply o side scope f (and_left (has_heads o side scope f) (has_heads o side scope g) h)) (heads_apply o side scope g (and_right (has_heads o side scope f) (has_heads o side scope g) h))
+    and_intro (form_applies_heads f) (form_applies_heads g) (heads_apply o side scope f (and_left (has_heads o side scope f) (has_heads o side scope g) h))
+    (heads_apply o side scope g (and_right (has_heads o side scope f) (has_heads o side scope g) h))
 heads_apply o side scope (Bang f) h = heads_apply o side scope f h
 heads_apply o GoalSide scope (Lolli f g) h =
-    and_intro (form_applies_heads f) (form_applies_heads g) (heads_apply o ClauseSide scope f (and_left (has_heads o ClauseSide scope f) (has_heads o GoalSide scope g) h)) (heads_apply o GoalSide scope g (and_right (has_heads o ClauseSide scope f) (has_heads o GoalSide scope g) h))
+    and_intro (form_applies_heads f) (form_applies_heads g) (heads_apply o ClauseSide scope f
+    (and_left (has_heads o ClauseSide scope f) (has_heads o GoalSide scope g) h))
+    (heads_apply o GoalSide scope g (and_right (has_heads o ClauseSide scope f) (has_heads o GoalSide scope g) h))
 heads_apply o ClauseSide scope (Lolli f g) h =
-    and_intro (form_applies_heads f) (form_applies_heads g) (heads_apply o GoalSide scope f (and_left (has_heads o GoalSide scope f) (has_heads o ClauseSide scope g) h)) (heads_apply o ClauseSide scope g (and_right (has_heads o GoalSide scope f) (has_heads o ClauseSide scope g) h))
+    and_intro (form_applies_heads f) (form_applies_heads g) (heads_apply o GoalSide scope f
+    (and_left (has_heads o GoalSide scope f) (has_heads o ClauseSide scope g) h))
+    (heads_apply o ClauseSide scope g (and_right (has_heads o GoalSide scope f) (has_heads o ClauseSide scope g) h))
 heads_apply o GoalSide scope (Imp f g) h =
-    and_intro (form_applies_heads f) (form_applies_heads g) (heads_apply o ClauseSide scope f (and_left (has_heads o ClauseSide scope f) (has_heads o GoalSide scope g) h)) (heads_apply o GoalSide scope g (and_right (has_heads o ClauseSide scope f) (has_heads o GoalSide scope g) h))
+    and_intro (form_applies_heads f) (form_applies_heads g) (heads_apply o ClauseSide scope f
+    (and_left (has_heads o ClauseSide scope f) (has_heads o GoalSide scope g) h))
+    (heads_apply o GoalSide scope g (and_right (has_heads o ClauseSide scope f) (has_heads o GoalSide scope g) h))
 heads_apply o ClauseSide scope (Imp f g) h =
-    and_intro (form_applies_heads f) (form_applies_heads g) (heads_apply o GoalSide scope f (and_left (has_heads o GoalSide scope f) (has_heads o ClauseSide scope g) h)) (heads_apply o ClauseSide scope g (and_right (has_heads o GoalSide scope f) (has_heads o ClauseSide scope g) h))
+    and_intro (form_applies_heads f) (form_applies_heads g) (heads_apply o GoalSide scope f
+    (and_left (has_heads o GoalSide scope f) (has_heads o ClauseSide scope g) h))
+    (heads_apply o ClauseSide scope g (and_right (has_heads o GoalSide scope f) (has_heads o ClauseSide scope g) h))
 heads_apply o GoalSide scope (Forall f) h = heads_apply o GoalSide (o ∷ scope) f h
 heads_apply o ClauseSide scope (Forall f) h = heads_apply o ClauseSide (false ∷ scope) f h
 heads_apply o side scope (Exists f) h = heads_apply o side (false ∷ scope) f h
 heads_apply o side scope (Use m ts f) h =
-    and_intro (list_all applies_heads ts) (form_applies_heads f) (all_headed scope ts (and_left (list_all (is_headed scope) ts) (has_heads o side scope f) h)) (heads_apply o side scope f (and_right (list_all (is_headed scope) ts) (has_heads o side scope f) h))
+    and_intro (list_all applies_heads ts) (form_applies_heads f) (all_headed scope ts (and_left (list_all (is_headed scope) ts) (has_heads o side scope f) h))
+    (heads_apply o side scope f (and_right (list_all (is_headed scope) ts) (has_heads o side scope f) h))
 heads_apply o side scope (Num r t u) h =
     and_intro (applies_heads t) (applies_heads u) (headed_applies scope t (and_left (is_headed scope t) (is_headed scope u) h))
     (headed_applies scope u (and_right (is_headed scope t) (is_headed scope u) h))
@@ -107,7 +124,8 @@ closed_fits may before count side f h =
     fits-close more (env_vars before count) side (scope_of count) [] f (closes_vars more before count (omega arith))
     (fits-more may more side (scope_of count) (scope_of count) f (grows_vars may (before + count)) (same_scope count) h)
 
-pub closed_applies : (may : Allowed) (before count : ℕ) (side : Side) (f : Form) → FormFits may side (scope_of count) f → form_applies_heads (close_form (env_vars before count) f) ≡ true
+pub closed_applies : (may : Allowed) (before count : ℕ) (side : Side) (f : Form) → FormFits may side (scope_of count) f
+    → form_applies_heads (close_form (env_vars before count) f) ≡ true
 closed_applies may before count side f h =
     let more = with_vars may (before + count) in let g = close_form (env_vars before count) f in
     heads_apply more.opens side [] g (formula_of_fits more side [] g (closed_fits may before count side f h)).heads
@@ -128,7 +146,8 @@ trees_push : (nodes : Nodes) (ats : List At) (at : At) → term_trees nodes (ats
 trees_push nodes [] at = refl
 trees_push nodes (a ∷ ats) at = ap (λ ts. term_tree nodes a.0 ∷ ts) (trees_push nodes ats at)
 
-trees_same : (old new : Nodes) (gs : List FormAt) → Extends old new → All (λ g. HasForm old g.0) gs → map (λ g. form_tree new g.0) gs ≡ map (λ g. form_tree old g.0) gs
+trees_same : (old new : Nodes) (gs : List FormAt) → Extends old new → All (λ g. HasForm old g.0) gs
+    → map (λ g. form_tree new g.0) gs ≡ map (λ g. form_tree old g.0) gs
 trees_same old new [] e h = refl
 trees_same old new (g ∷ gs) e h = λ i. form_tree-extends e g.0 (h 0 g (omega arith)) i ∷ trees_same old new gs e (λ k d l. h (suc k) d (omega arith)) i
 
@@ -137,7 +156,8 @@ env_push before zero = refl
 env_push before (suc n) =
     ap (λ ts. reverse (map (λ t. Some t) ts)) (vars_push before n (suc n) refl)
     ∙ (ap (λ os. reverse os) (map-append (λ t. let o : Option Term = Some t in o) (vars_from before n) (Var (before + n) ∷ []))
-    ∙ (reverse-append (map (λ t. let o : Option Term = Some t in o) (vars_from before n)) (Some (Var (before + n)) ∷ []) ∙ ap (λ os. Some (Var (before + n)) ∷ os) (env_push before n)))
+    ∙ (reverse-append (map (λ t. let o : Option Term = Some t in o) (vars_from before n)) (Some (Var (before + n)) ∷ [])
+    ∙ ap (λ os. Some (Var (before + n)) ∷ os) (env_push before n)))
 
 drop_first : {A : Type 0} (xs ys : List A) (n : ℕ) → length xs ≡ n → drop n (xs ++ ys) ≡ ys
 drop_first [] ys zero e = refl
@@ -145,7 +165,8 @@ drop_first [] ys (suc n) e = absurd (omega (arith, e))
 drop_first (x ∷ xs) ys zero e = absurd (omega (arith, e))
 drop_first (x ∷ xs) ys (suc n) e = drop_first xs ys n (omega (arith, e))
 
-map_some : (nodes : Nodes) (ats : List At) → map (λ (v : At). let o : Option Term = Some (term_tree nodes v.0) in o) ats ≡ map (λ t. Some t) (term_trees nodes ats)
+map_some : (nodes : Nodes) (ats : List At) → map (λ (v : At). let o : Option Term = Some (term_tree nodes v.0) in o) ats
+    ≡ map (λ t. Some t) (term_trees nodes ats)
 map_some nodes [] = refl
 map_some nodes (a ∷ ats) = ap (λ os. Some (term_tree nodes a.0) ∷ os) (map_some nodes ats)
 
@@ -155,16 +176,19 @@ drop_trees nodes (suc n) [] = refl
 drop_trees nodes (suc n) (a ∷ ats) = drop_trees nodes n ats
 
 -- the variables made on the way are the environment
-pub env_is : (nodes : Nodes) (terms : List At) (before count : ℕ) → term_trees nodes terms ≡ vars_from 0 (before + count) → env_of nodes (drop before terms) ≡ env_vars before count
+pub env_is : (nodes : Nodes) (terms : List At) (before count : ℕ) → term_trees nodes terms ≡ vars_from 0 (before + count)
+    → env_of nodes (drop before terms) ≡ env_vars before count
 env_is nodes terms before count e =
     let z : 0 + before ≡ before = omega arith in
     ap (λ os. reverse os) (map_some nodes (drop before terms))
     ∙ (ap (λ ts. reverse (map (λ t. Some t) ts))
-    (drop_trees nodes before terms ∙ (ap (drop before) (e ∙ (vars_split 0 before count ∙ ap (λ b. vars_from 0 before ++ vars_from b count) z)) ∙ drop_first (vars_from 0 before) (vars_from before count) before (length-vars 0 before)))
+    (drop_trees nodes before terms ∙ (ap (drop before) (e ∙ (vars_split 0 before count ∙ ap (λ b. vars_from 0 before ++ vars_from b count) z))
+    ∙ drop_first (vars_from 0 before) (vars_from before count) before (length-vars 0 before)))
     ∙ env_push before count)
 
 -- so is the part of the list of variables that is lent
-pub slice_env : (nodes : Nodes) (lent terms : List At) (from before count : ℕ) → lent ≡ terms → from ≡ before → term_trees nodes terms ≡ vars_from 0 (before + count)
+pub slice_env : (nodes : Nodes) (lent terms : List At) (from before count : ℕ) → lent ≡ terms → from ≡ before
+    → term_trees nodes terms ≡ vars_from 0 (before + count)
     → env_of nodes (take (length lent - from) (drop from lent)) ≡ env_vars before count
 slice_env nodes lent terms from before count e f vars =
     let n = length-drop from lent in
@@ -175,7 +199,8 @@ slice_env nodes lent terms from before count e f vars =
 
 module _ (first : Nodes) (items : List Item) (before clause k : ℕ) where
   -- it begins with the whole clause
-  pub way_start : (now : Frames Item) (terms : List At) (top : AgendaTop) → HasForm first clause → IsClause (form_tree first clause) → k < length (ways (form_tree first clause)) → ShowsItems now top items → AllInTerms first terms
+  pub way_start : (now : Frames Item) (terms : List At) (top : AgendaTop) → HasForm first clause → IsClause (form_tree first clause)
+      → k < length (ways (form_tree first clause)) → ShowsItems now top items → AllInTerms first terms
       → term_trees first terms ≡ vars_from 0 before → IsOnWay first items before clause k first now terms clause k top
   way_start now terms top inside is among shows in_terms vars = record {
     keeps = Extends-refl first;
@@ -197,7 +222,8 @@ module _ (first : Nodes) (items : List Item) (before clause k : ℕ) where
         ∙ (h ∙ ap (λ ps. let o : Option Leaf = Some (record { premises = ps; head = l.head }) in o) (sym (append-nil l.premises))));
   }
 
-  module _ (bank : Nodes) (now : Frames Item) (terms : List At) (form : FormAt) (at : ℕ) (top : AgendaTop) (w : IsOnWay first items before clause k bank now terms form.0 at top) where
+  module _ (bank : Nodes) (now : Frames Item) (terms : List At) (form : FormAt) (at : ℕ) (top : AgendaTop)
+      (w : IsOnWay first items before clause k bank now terms form.0 at top) where
     -- a part of the clause shows in the bank what it showed at first
     pub same_part : (g : FormAt) → HasForm first g.0 → form_tree bank g.0 ≡ form_tree first g.0
     same_part g inside = form_tree-extends w.keeps g.0 inside
@@ -218,7 +244,11 @@ module _ (first : Nodes) (items : List Item) (before clause k : ℕ) where
           premises = w.premises;
           goals = w.goals;
           shows = w.shows;
-          goals_are = record { inside = λ i d l. HasForm-extends e (get_or w.goals i d).0 (w.goals_are.inside i d l); trees = trees_same bank new w.goals e w.goals_are.inside ∙ w.goals_are.trees };
+          goals_are = record {
+            inside = λ i d l. HasForm-extends e (get_or w.goals i d).0 (w.goals_are.inside i d l);
+            trees =
+                trees_same bank new w.goals e w.goals_are.inside ∙ w.goals_are.trees;
+          };
           terms_inside = AllInTerms-extends e terms w.terms_inside;
           variables = term_trees-extends e terms w.terms_inside ∙ w.variables;
           way = w.way;
@@ -226,7 +256,8 @@ module _ (first : Nodes) (items : List Item) (before clause k : ℕ) where
         }
 
     -- to the left side of a `&`
-    pub way_left : (g h : FormAt) → form_tree bank form.0 ≡ With (form_tree bank g.0) (form_tree bank h.0) → (g.0 < form.0) × (h.0 < form.0) → at < length (ways (form_tree bank g.0))
+    pub way_left : (g h : FormAt) → form_tree bank form.0 ≡ With (form_tree bank g.0) (form_tree bank h.0) → (g.0 < form.0) × (h.0 < form.0)
+        → at < length (ways (form_tree bank g.0))
         → IsOnWay first items before clause k bank now terms g.0 at top
     way_left g h seen parts many =
         let left = form_tree first g.0 in let right = form_tree first h.0 in
@@ -247,11 +278,14 @@ module _ (first : Nodes) (items : List Item) (before clause k : ℕ) where
           variables = w.variables;
           way = λ n q. w.way n (ap (λ t. slice_get (ways t) at) tree ∙ (get_left (ways left) (ways right) at among ∙ q));
           leaf_is = λ n l q. let ts = vars_from (before + w.count) n in let e = env_vars before w.count in
-              w.leaf_is n l (ap (λ t. leaf_from e t at ts) tree ∙ (ap (λ b. if b then leaf_from e left at ts else leaf_from e right (at - length (ways left)) ts) (lt-ltb at (length (ways left)) among) ∙ q));
+              w.leaf_is n l (ap (λ t. leaf_from e t at ts) tree
+              ∙ (ap (λ b. if b then leaf_from e left at ts else leaf_from e right (at - length (ways left)) ts) (lt-ltb at (length (ways left)) among)
+              ∙ q));
         }
 
     -- or to the right one
-    pub way_right : (g h : FormAt) (at' : ℕ) → form_tree bank form.0 ≡ With (form_tree bank g.0) (form_tree bank h.0) → (g.0 < form.0) × (h.0 < form.0) → length (ways (form_tree bank g.0)) ≤ at
+    pub way_right : (g h : FormAt) (at' : ℕ) → form_tree bank form.0 ≡ With (form_tree bank g.0) (form_tree bank h.0) → (g.0 < form.0) × (h.0 < form.0)
+        → length (ways (form_tree bank g.0)) ≤ at
         → at' ≡ at - length (ways (form_tree bank g.0)) → IsOnWay first items before clause k bank now terms h.0 at' top
     way_right g h at' seen parts few is =
         let left = form_tree first g.0 in let right = form_tree first h.0 in
@@ -273,12 +307,16 @@ module _ (first : Nodes) (items : List Item) (before clause k : ℕ) where
           variables = w.variables;
           way = λ n q. w.way n (ap (λ t. slice_get (ways t) at) tree ∙ (get_right (ways left) (ways right) at at' (omega arith) ∙ q));
           leaf_is = λ n l q. let ts = vars_from (before + w.count) n in let v = env_vars before w.count in
-              w.leaf_is n l (ap (λ t. leaf_from v t at ts) tree ∙ (ap (λ b. if b then leaf_from v left at ts else leaf_from v right (at - length (ways left)) ts) (not_below at (length (ways left)) past) ∙ (ap (λ j. leaf_from v right j ts) (sym e) ∙ q)));
+              w.leaf_is n l (ap (λ t. leaf_from v t at ts) tree
+              ∙ (ap (λ b. if b then leaf_from v left at ts else leaf_from v right (at - length (ways left)) ts) (not_below at (length (ways left)) past)
+              ∙ (ap (λ j. leaf_from v right j ts) (sym e) ∙ q)));
         }
 
     -- past a premise, whose goal came in front of the agenda in a bank with more places
-    pub way_past : (p : Premise) (b r : FormAt) (more : Nodes) (new : Frames Item) (top' : AgendaTop) → Extends bank more → ways (form_tree first form.0) ≡ ways (form_tree first r.0)
-        → ((ts : List Term) → leaf_from (env_vars before w.count) (form_tree first form.0) at ts ≡ option_map (add_premise p) (leaf_from (env_vars before w.count) (form_tree first r.0) at ts))
+    pub way_past : (p : Premise) (b r : FormAt) (more : Nodes) (new : Frames Item) (top' : AgendaTop) → Extends bank more
+        → ways (form_tree first form.0) ≡ ways (form_tree first r.0)
+        → ((ts : List Term) → leaf_from (env_vars before w.count) (form_tree first form.0) at ts
+        ≡ option_map (add_premise p) (leaf_from (env_vars before w.count) (form_tree first r.0) at ts))
         → HasForm first r.0 → FormFits w.may ClauseSide (scope_of w.count) (form_tree first r.0) → HasForm more b.0 → form_tree more b.0 ≡ premise_goal p
         → ShowsItems new top' (Goal b ∷ items_at now top) → IsOnWay first items before clause k more new terms r.0 at top'
     unfolding way_extends
@@ -293,7 +331,11 @@ module _ (first : Nodes) (items : List Item) (before clause k : ℕ) where
           premises = p ∷ w.premises;
           goals = b ∷ w.goals;
           shows = record { inside = shows.inside; list = shows.list ∙ ap (λ is. Goal b ∷ is) w.shows.list };
-          goals_are = record { inside = All-cons (λ (g : FormAt). HasForm more g.0) b w.goals goal_inside v.goals_are.inside; trees = λ i. goal i ∷ v.goals_are.trees i };
+          goals_are = record {
+            inside = All-cons (λ (g : FormAt). HasForm more g.0) b w.goals goal_inside v.goals_are.inside;
+            trees =
+                λ i. goal i ∷ v.goals_are.trees i;
+          };
           terms_inside = v.terms_inside;
           variables = v.variables;
           way = λ n q. w.way n (ap (λ (ws : List ℕ). slice_get ws at) same ∙ q);
@@ -306,7 +348,8 @@ module _ (first : Nodes) (items : List Item) (before clause k : ℕ) where
     count_terms = sym (length-term_trees bank terms) ∙ (ap (λ (ts : List Term). length ts) w.variables ∙ length-vars 0 (before + w.count))
 
     -- into a quantifier, with a new variable
-    pub way_in : (body : FormAt) (v : At) (new : Nodes) (more : List At) → form_tree bank form.0 ≡ Forall (form_tree bank body.0) → body.0 < form.0 → Extends bank new → HasTerm new v.0
+    pub way_in : (body : FormAt) (v : At) (new : Nodes) (more : List At) → form_tree bank form.0 ≡ Forall (form_tree bank body.0) → body.0 < form.0
+        → Extends bank new → HasTerm new v.0
         → term_tree new v.0 ≡ Var (length terms) → more ≡ terms ++ v ∷ [] → IsOnWay first items before clause k new now more body.0 at top
     unfolding way_extends
     way_in body v new more seen part e has var is_more =
@@ -327,7 +370,9 @@ module _ (first : Nodes) (items : List Item) (before clause k : ℕ) where
           shows = w.shows;
           goals_are = z.goals_are;
           terms_inside = subst (AllInTerms new) (sym is_more) (All-push (λ (a : At). a.0 < length new.terms) terms v z.terms_inside has);
-          variables = ap (term_trees new) is_more ∙ (trees_push new terms v ∙ ((λ i. z.variables i ++ x_is i ∷ []) ∙ sym (vars_push 0 x (before + suc w.count) (omega arith) ∙ ap (λ c. vars_from 0 x ++ Var c ∷ []) (let e : 0 + x ≡ x = omega arith in e))));
+          variables = ap (term_trees new) is_more ∙ (trees_push new terms v
+              ∙ ((λ i. z.variables i ++ x_is i ∷ []) ∙ sym (vars_push 0 x (before + suc w.count) (omega arith)
+              ∙ ap (λ c. vars_from 0 x ++ Var c ∷ []) (let e : 0 + x ≡ x = omega arith in e))));
           way = λ n q. w.way (suc n) (ap (λ (ws : List ℕ). slice_get ws at) open_ways ∙ get_suc (ways inner) at n q) ∙ ap (λ m. Some m) (omega arith);
           leaf_is = λ n l q.
               let next : before + suc w.count ≡ suc x = omega arith in
@@ -352,9 +397,12 @@ module _ (first : Nodes) (items : List Item) (before clause k : ℕ) where
           variables = w.variables;
           way = w.way 0 ((λ i. slice_get (ways (tree i)) (last i))) ∙ ap (λ m. Some m) (let e : w.count + 0 ≡ w.count = omega arith in e);
           inside = has;
-          heads = ap (λ z. applies_heads (close z (term_tree bank a.0))) env ∙ closed_applies w.may before w.count ClauseSide (Atom (term_tree bank a.0)) (subst (FormFits w.may ClauseSide (scope_of w.count)) tree w.fits);
+          heads = ap (λ z. applies_heads (close z (term_tree bank a.0))) env
+              ∙ closed_applies w.may before w.count ClauseSide (Atom (term_tree bank a.0)) (subst (FormFits w.may ClauseSide (scope_of w.count)) tree w.fits);
           leaf_is =
               ap (λ m. leaf (form_tree first clause) k (vars_from before m)) (let e : w.count ≡ w.count + 0 = omega arith in e)
               ∙ w.leaf_is 0 (record { premises = []; head = close (env_of bank (drop before terms)) (term_tree bank a.0) })
-              ((λ i. leaf_from (env_vars before w.count) (tree i) (last i) []) ∙ (let some : Term → Option Leaf = λ t. Some (record { premises = []; head = t }) in ap (λ z. some (close z (term_tree bank a.0))) (sym env)));
+              ((λ i. leaf_from (env_vars before w.count) (tree i) (last i) [])
+              ∙ (let some : Term → Option Leaf = λ t. Some (record { premises = []; head = t }) in
+              ap (λ z. some (close z (term_tree bank a.0))) (sym env)));
         }

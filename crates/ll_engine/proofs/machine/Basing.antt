@@ -18,7 +18,8 @@ based_kept old new ps None h b = tt
 based_kept old new ps (Some a) h b = let s = h a.base b.0.good in (record { good = s.good; before = b.0.before }, ap base_of s.parts ∙ b.1)
 
 -- so does the way back to the newest choice point
-pub based_undone : (old new : Machine) (ps qs : List Kept) (k : Kept) (a : Option Ancestor) → KeepsMarksTo k.mark old new → ps ≡ qs ++ k ∷ [] → IsBased old ps a → IsBased new qs a
+pub based_undone : (old new : Machine) (ps qs : List Kept) (k : Kept) (a : Option Ancestor) → KeepsMarksTo k.mark old new → ps ≡ qs ++ k ∷ [] → IsBased old ps a
+    → IsBased new qs a
 based_undone old new ps qs k None h e b = tt
 based_undone old new ps qs k (Some a) h e b =
     let both = All-pop (λ (j : Kept). IsBefore a.base j.mark) ps qs (Some k) e b.0.before in
@@ -42,8 +43,14 @@ based_alone m ps (Some a) b = (record { good = b.0.good; before = λ i d l. absu
 pub based_first : (m : Machine) (ps qs : List Kept) (k : Kept) (a : Option Ancestor) → ps ≡ k ∷ qs → IsBased m ps a → IsBased m (k ∷ []) a
 based_first m ps qs k None e b = tt
 based_first m ps qs k (Some a) e b =
-    let all : All (λ (j : Kept). IsBefore a.base j.mark) (k ∷ qs) = subst (All (λ (j : Kept). IsBefore a.base j.mark)) e b.0.before in
-    (record { good = b.0.good; before = All-push (λ (j : Kept). IsBefore a.base j.mark) [] k (λ i d l. absurd (omega arith)) (All-head (λ (j : Kept). IsBefore a.base j.mark) k qs all) }, b.1)
+    let all : All (λ (j : Kept). IsBefore a.base j.mark) (k ∷ qs) = subst (All (λ (j : Kept). IsBefore a.base j.mark)) e b.0.before in (
+      record {
+        good = b.0.good;
+        before = All-push (λ (j : Kept). IsBefore a.base j.mark) [] k (λ i d l. absurd (omega arith))
+            (All-head (λ (j : Kept). IsBefore a.base j.mark) k qs all);
+      },
+      b.1,
+    )
 
 pub based_rest : (m : Machine) (ps qs : List Kept) (k : Kept) (a : Option Ancestor) → ps ≡ k ∷ qs → IsBased m ps a → IsBased m qs a
 based_rest m ps qs k None e b = tt
@@ -56,7 +63,8 @@ pub based_some : (m : Machine) (ps : List Kept) (o : Option Ancestor) (a : Ances
 based_some m ps o a e b = subst (λ (x : Option Ancestor). IsBased m ps x) e b
 
 -- a machine that begins without choice points
-pub begun_sound : (p : ProblemTree) (m : Machine) (ps : List Kept) (began : Bool) (a : Ancestor) → ps ≡ [] → IsRunning began p (parts_of m) → IsGood a.base m → base_of (parts_at a.base m) ≡ (arc_value a.batch).base
+pub begun_sound : (p : ProblemTree) (m : Machine) (ps : List Kept) (began : Bool) (a : Ancestor) → ps ≡ [] → IsRunning began p (parts_of m) → IsGood a.base m
+    → base_of (parts_at a.base m) ≡ (arc_value a.batch).base
     → IsSoundAt began p (parts_of m) (helds m ps) × (AreMarks m ps × IsBased m ps (Some a))
 begun_sound p m ps began a e r g b =
     subst (λ (qs : List Kept). IsSoundAt began p (parts_of m) (helds m qs) × (AreMarks m qs × IsBased m qs (Some a))) (sym e) (

@@ -22,33 +22,39 @@ store_extends s t e c =
     Rattle.std.proofs.Common.subst (λ (u : Stored). KeepsStoreMarks (stored s) u) (λ i. make (sym c i)) (marks-extend (stored s) t.bank e)
 
 -- a machine with more: another store and context that keep their marks, more frames, terms and steps
-pub later_of : (m n : Machine) → n.problem.now ≡ m.problem.now → n.modules.now ≡ m.modules.now → KeepsStoreMarks (stored m.store) (stored n.store) → KeepsContextMarks m.context n.context
+pub later_of : (m n : Machine) → n.problem.now ≡ m.problem.now → n.modules.now ≡ m.modules.now → KeepsStoreMarks (stored m.store) (stored n.store)
+    → KeepsContextMarks m.context n.context
     → (frames : Frames Item) → n.agenda ≡ m.agenda ++ frames → (terms : List At) → n.terms.items ≡ m.terms.items ++ terms
     → (steps : List Step) → n.steps.items ≡ m.steps.items ++ steps → Later m n
 later_of m n p ms s c frames a terms t steps st =
     record { problem = p; modules = ms; store = s; context = c; frames = frames; agenda = a; more_terms = terms; terms = t; more_steps = steps; steps = st }
 
 -- more terms
-pub later_terms : (m n : Machine) → n.problem.now ≡ m.problem.now → n.modules.now ≡ m.modules.now → KeepsStoreMarks (stored m.store) (stored n.store) → KeepsContextMarks m.context n.context
+pub later_terms : (m n : Machine) → n.problem.now ≡ m.problem.now → n.modules.now ≡ m.modules.now → KeepsStoreMarks (stored m.store) (stored n.store)
+    → KeepsContextMarks m.context n.context
     → n.agenda ≡ m.agenda → (terms : List At) → n.terms.items ≡ m.terms.items ++ terms → n.steps.items ≡ m.steps.items → Later m n
 later_terms m n p ms s c a terms t st =
     later_of m n p ms s c [] (a ∙ sym (append-nil m.agenda)) terms t [] (st ∙ sym (append-nil m.steps.items))
 
 -- another store alone, and another context alone
-pub later_store : (m n : Machine) → n.problem.now ≡ m.problem.now → n.modules.now ≡ m.modules.now → KeepsStoreMarks (stored m.store) (stored n.store) → n.context ≡ m.context
+pub later_store : (m n : Machine) → n.problem.now ≡ m.problem.now → n.modules.now ≡ m.modules.now → KeepsStoreMarks (stored m.store) (stored n.store)
+    → n.context ≡ m.context
     → n.agenda ≡ m.agenda → n.terms.items ≡ m.terms.items → n.steps.items ≡ m.steps.items → Later m n
 later_store m n p ms s c a t st =
-    later_terms m n p ms s (Rattle.std.proofs.Common.subst (λ (h : History FormAt). KeepsContextMarks m.context h) (sym c) (context_same m.context)) a [] (t ∙ sym (append-nil m.terms.items)) st
+    later_terms m n p ms s (Rattle.std.proofs.Common.subst (λ (h : History FormAt). KeepsContextMarks m.context h) (sym c) (context_same m.context)) a []
+    (t ∙ sym (append-nil m.terms.items)) st
 
 pub later_context : (m : Machine) (c : History FormAt) → KeepsContextMarks m.context c → Later m (record m { context = c })
 later_context m c h =
-    later_of m (record m { context = c }) refl refl (store_same (stored m.store)) h [] (sym (append-nil m.agenda)) [] (sym (append-nil m.terms.items)) [] (sym (append-nil m.steps.items))
+    later_of m (record m { context = c }) refl refl (store_same (stored m.store)) h [] (sym (append-nil m.agenda)) [] (sym (append-nil m.terms.items)) []
+    (sym (append-nil m.steps.items))
 
 -- more frames, and a context, at another top
 pub later_frames : (m n : Machine) → n.problem.now ≡ m.problem.now → n.modules.now ≡ m.modules.now → n.store ≡ m.store → KeepsContextMarks m.context n.context
     → (more : Frames Item) → n.agenda ≡ m.agenda ++ more → n.terms.items ≡ m.terms.items → n.steps.items ≡ m.steps.items → Later m n
 later_frames m n p ms s c more a t st =
-    later_of m n p ms (Rattle.std.proofs.Common.subst (λ (u : Store). KeepsStoreMarks (stored m.store) (stored u)) (sym s) (store_same (stored m.store))) c more a
+    later_of m n p ms (Rattle.std.proofs.Common.subst (λ (u : Store). KeepsStoreMarks (stored m.store) (stored u)) (sym s) (store_same (stored m.store))) c more
+    a
     [] (t ∙ sym (append-nil m.terms.items)) [] (st ∙ sym (append-nil m.steps.items))
 
 -- another context and another top

@@ -4,7 +4,8 @@ use Rattle.std.proofs.lemmas.Bool.{eqb-true, or_from as or_both, and_left as no_
 use Rattle.std.proofs.lemmas.List.Folds.{list_any-append}
 use Rattle.std.specs.Prelude.{nat_eq, ◌||◌, flat_map, cond, not}
 use Rattle.std.specs.List.{list_any}
-use Rattle.ll_lists.proofs.CallerLemmas.{false_from_not as not_true, or_false_left as or_left, or_false_right as or_right, and_true_left as and_left, and_true_right as and_right}
+use Rattle.ll_lists.proofs.CallerLemmas.{false_from_not as not_true, or_false_left as or_left, or_false_right as or_right, and_true_left as and_left}
+use Rattle.ll_lists.proofs.CallerLemmas.{and_true_right as and_right}
 use Rattle.ll_laws.specs.declared.Candidate.{Candidate}
 use Rattle.ll_bank.specs.Term.{Term}
 use Rattle.ll_bank.specs.Form.{Form, Atom, Plus}
@@ -23,7 +24,8 @@ less_differs j k l = go (nat_eq j k) (λ e. eqb-true j k e)
     go false h = refl
     go true h = let e = h refl in absurd (omega arith)
 
-other_label : (a : Term) (e : Entry Form) (c : Candidate) (k : ℕ) (ns : List ℕ) → nat_eq c.label e.label ≡ false → list_any (same_candidate c) (leaf_tries a e k ns) ≡ false
+other_label : (a : Term) (e : Entry Form) (c : Candidate) (k : ℕ) (ns : List ℕ) → nat_eq c.label e.label ≡ false
+    → list_any (same_candidate c) (leaf_tries a e k ns) ≡ false
 other_label a e c k [] h = refl
 other_label a e c k (n ∷ ns) h = go (fits_head a (leaf_head e.clause k n)) (other_label a e c (suc k) ns h)
   where
@@ -48,14 +50,16 @@ other_entry a c e h = go (is_open e)
     go true = other_label a e c 0 (ways e.clause) h
     go false = refl
 
-other_entries : (a : Term) (c : Candidate) (es : List (Entry Form)) → list_any (λ x. nat_eq c.label x.label) es ≡ false → list_any (same_candidate c) (flat_map (entry_tries a) es) ≡ false
+other_entries : (a : Term) (c : Candidate) (es : List (Entry Form)) → list_any (λ x. nat_eq c.label x.label) es ≡ false
+    → list_any (same_candidate c) (flat_map (entry_tries a) es) ≡ false
 other_entries a c [] h = refl
 other_entries a c (e ∷ es) h =
     list_any-append (same_candidate c) (entry_tries a e) (flat_map (entry_tries a) es)
     ∙ or_both _ _ (other_entry a c e (or_left (nat_eq c.label e.label) (list_any (λ x. nat_eq c.label x.label) es) h))
     (other_entries a c es (or_right (nat_eq c.label e.label) (list_any (λ x. nat_eq c.label x.label) es) h))
 
-leaves_distinct : (a : Term) (e : Entry Form) (k : ℕ) (ns : List ℕ) (ys : List Candidate) → ((c : Candidate) → c.label ≡ e.label → list_any (same_candidate c) ys ≡ false)
+leaves_distinct : (a : Term) (e : Entry Form) (k : ℕ) (ns : List ℕ) (ys : List Candidate)
+    → ((c : Candidate) → c.label ≡ e.label → list_any (same_candidate c) ys ≡ false)
     → Distinct ys → Distinct (leaf_tries a e k ns ++ ys)
 leaves_distinct a e k [] ys h d = d
 leaves_distinct a e k (n ∷ ns) ys h d = go (fits_head a (leaf_head e.clause k n)) (leaves_distinct a e (suc k) ns ys h d)
@@ -73,7 +77,8 @@ entries_distinct a (e ∷ es) d =
     go (is_open e) (entries_distinct a es (and_right (not (list_any (λ x. nat_eq e.label x.label) es)) (labels_differ es) d))
   where
     apart : (c : Candidate) → c.label ≡ e.label → list_any (same_candidate c) (flat_map (entry_tries a) es) ≡ false
-    apart c q = other_entries a c es (subst (λ (l : ℕ). list_any (λ x. nat_eq l x.label) es ≡ false) (sym q) (not_true (list_any (λ x. nat_eq e.label x.label) es) (and_left (not (list_any (λ x. nat_eq e.label x.label) es)) (labels_differ es) d)))
+    apart c q = other_entries a c es (subst (λ (l : ℕ). list_any (λ x. nat_eq l x.label) es ≡ false) (sym q)
+        (not_true (list_any (λ x. nat_eq e.label x.label) es) (and_left (not (list_any (λ x. nat_eq e.label x.label) es)) (labels_differ es) d)))
 
     go : (b : Bool) → Distinct (flat_map (entry_tries a) es) → Distinct (cond b (leaf_tries a e 0 (ways e.clause)) [] ++ flat_map (entry_tries a) es)
     go true ih = leaves_distinct a e 0 (ways e.clause) (flat_map (entry_tries a) es) apart ih

@@ -17,20 +17,24 @@ use Rattle.ll_freeze.specs.Shown.{shown_item, shown_entry}
 use Rattle.ll_freeze.specs.Fits.{HasItem}
 use Rattle.ll_freeze.proofs.CallerLemmas.{form_same}
 
-module _ (old new : Nodes) (before after : List (Option At)) (v : ℕ → Term) (keeps : Extends old new) (reads : (x : ℕ) → reading new after x ≡ sub v (reading old before x)) where
+module _ (old new : Nodes) (before after : List (Option At)) (v : ℕ → Term) (keeps : Extends old new) (reads : (x : ℕ)
+    → reading new after x ≡ sub v (reading old before x)) where
   pub term_later : (at : At) → HasTerm old at.0 → read_term new after at ≡ sub v (read_term old before at)
   term_later at h =
       ap (sub (reading new after)) (term_tree-extends keeps at.0 h)
-      ∙ (sub_same (reading new after) (λ x. sub v (reading old before x)) reads (term_tree old at.0) ∙ sym (sub_comp v (reading old before) (term_tree old at.0)))
+      ∙ (sub_same (reading new after) (λ x. sub v (reading old before x)) reads (term_tree old at.0)
+      ∙ sym (sub_comp v (reading old before) (term_tree old at.0)))
 
   pub form_later : (at : FormAt) → HasForm old at.0 → read_form new after at ≡ sub_form v (read_form old before at)
   form_later at h =
       ap (sub_form (reading new after)) (form_tree-extends keeps at.0 h)
-      ∙ (form_same (reading new after) (λ x. sub v (reading old before x)) reads (form_tree old at.0) ∙ sym (sub_form_comp v (reading old before) (form_tree old at.0)))
+      ∙ (form_same (reading new after) (λ x. sub v (reading old before x)) reads (form_tree old at.0)
+      ∙ sym (sub_form_comp v (reading old before) (form_tree old at.0)))
 
   pub terms_later : (ats : List At) → AllInTerms old ats → map (read_term new after) ats ≡ map (sub v) (map (read_term old before) ats)
   terms_later [] h = refl
-  terms_later (a ∷ ats) h = λ i. term_later a (All-head (λ (b : At). HasTerm old b.0) a ats h) i ∷ terms_later ats (All-tail (λ (b : At). HasTerm old b.0) a ats h) i
+  terms_later (a ∷ ats) h = λ i. term_later a (All-head (λ (b : At). HasTerm old b.0) a ats h) i
+      ∷ terms_later ats (All-tail (λ (b : At). HasTerm old b.0) a ats h) i
 
   item_later : (kept : List Saved) (n : ℕ) (i : Item) → HasItem old n i → shown_item new after kept i ≡ sub_item v (shown_item old before kept i)
   item_later kept n (Goal g) h = ap (λ r. Rattle.ll_laws.specs.Settle.Goal r) (form_later g h)
@@ -40,14 +44,17 @@ module _ (old new : Nodes) (before after : List (Option At)) (v : ℕ → Term) 
   item_later kept n (WithEnd s t) h = refl
   item_later kept n (BangEnd s) h = refl
 
-  pub items_later : (kept : List Saved) (n : ℕ) (is : List Item) → All (HasItem old n) is → map (shown_item new after kept) is ≡ map (sub_item v) (map (shown_item old before kept) is)
+  pub items_later : (kept : List Saved) (n : ℕ) (is : List Item) → All (HasItem old n) is
+      → map (shown_item new after kept) is ≡ map (sub_item v) (map (shown_item old before kept) is)
   items_later kept n [] h = refl
   items_later kept n (i ∷ is) h = λ j. item_later kept n i (All-head (HasItem old n) i is h) j ∷ items_later kept n is (All-tail (HasItem old n) i is h) j
 
   entry_later : (e : Entry FormAt) → HasForm old e.clause.0 → shown_entry new after e ≡ sub_entry v (shown_entry old before e)
   entry_later e h = λ i. record { label = e.label; kind = e.kind; live = e.live; clause = form_later e.clause h i }
 
-  pub entries_later : (es : List (Entry FormAt)) → All (λ e. HasForm old e.clause.0) es → map (shown_entry new after) es ≡ map (sub_entry v) (map (shown_entry old before) es)
+  pub entries_later : (es : List (Entry FormAt)) → All (λ e. HasForm old e.clause.0) es
+      → map (shown_entry new after) es ≡ map (sub_entry v) (map (shown_entry old before) es)
   entries_later [] h = refl
   entries_later (e ∷ es) h =
-      λ i. entry_later e (All-head (λ (d : Entry FormAt). HasForm old d.clause.0) e es h) i ∷ entries_later es (All-tail (λ (d : Entry FormAt). HasForm old d.clause.0) e es h) i
+      λ i. entry_later e (All-head (λ (d : Entry FormAt). HasForm old d.clause.0) e es h) i
+      ∷ entries_later es (All-tail (λ (d : Entry FormAt). HasForm old d.clause.0) e es h) i

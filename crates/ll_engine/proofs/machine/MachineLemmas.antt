@@ -11,7 +11,8 @@ use Rattle.ll_agenda.specs.declared.agenda.Top.{Top}
 use Rattle.ll_agenda.specs.Frames.{HasTop, items_at}
 use Rattle.ll_freeze.specs.Parts.{Parts}
 use Rattle.ll_freeze.specs.declared.machine.Item.{Item as KeptItem}
-use Rattle.ll_freeze.specs.declared.machine.Item.TheVariants.{Goal as KeptGoal, LolliEnd as KeptLolliEnd, ImpEnd as KeptImpEnd, Mid as KeptMiddle, WithEnd as KeptWithEnd, BangEnd as KeptBangEnd}
+use Rattle.ll_freeze.specs.declared.machine.Item.TheVariants.{Goal as KeptGoal, LolliEnd as KeptLolliEnd, ImpEnd as KeptImpEnd, Mid as KeptMiddle}
+use Rattle.ll_freeze.specs.declared.machine.Item.TheVariants.{WithEnd as KeptWithEnd, BangEnd as KeptBangEnd}
 use Rattle.ll_freeze.specs.Reading.{read_form}
 use Rattle.ll_freeze.specs.Shown.{shown_item, shown_entry, items_of, state_of}
 use Rattle.ll_freeze.specs.Fits.{Fits, setting, HasItem, IsGoalIn, allowed}
@@ -64,5 +65,6 @@ in_front m g item view rest list is inside seen =
     record { goal = g; list = list ∙ ap (λ i. i ∷ items_at m.agenda rest) is; behind = inside; seen = seen }
 
 -- the goal in front as it stands in the bank
-pub goal_sorted : (m : Parts) (g : FormAt) (rest : List KeptItem) → Fits m → items_of m ≡ KeptGoal g ∷ rest → IsFormula (allowed m) GoalSide [] (form_tree m.bank g.0)
+pub goal_sorted : (m : Parts) (g : FormAt) (rest : List KeptItem) → Fits m → items_of m ≡ KeptGoal g ∷ rest
+    → IsFormula (allowed m) GoalSide [] (form_tree m.bank g.0)
 goal_sorted m g rest f e = All-head (IsGoalIn (allowed m) m.bank) (KeptGoal g) rest (subst (All (IsGoalIn (allowed m) m.bank)) e f.sorted_goals)

@@ -1,5 +1,6 @@
 -- Terms read under bindings, as a bank and its cells grow.
-use Rattle.std.proofs.Common.{◌≡◌, ℕ, zero, suc, ◌≤◌, List, [], ◌∷◌, ◌++◌, length, replicate, All, get_or, refl, ap, sym, subst, ◌∙◌, arith, Option, Some, None, append_assoc}
+use Rattle.std.proofs.Common.{◌≡◌, ℕ, zero, suc, ◌≤◌, List, [], ◌∷◌, ◌++◌, length, replicate, All, get_or, refl, ap, sym, subst, ◌∙◌, arith, Option, Some}
+use Rattle.std.proofs.Common.{None, append_assoc}
 use Rattle.std.specs.Prelude.{slice_index_or}
 use Rattle.std.proofs.lemmas.List.{append-nil}
 use Rattle.std.proofs.lemmas.List.Elements.{All-nil, All-cons, All-head, All-tail}
@@ -27,7 +28,8 @@ entry_has nodes [] h x = tt
 entry_has nodes (o ∷ bound) h zero = All-head (HasValue nodes) o bound h
 entry_has nodes (o ∷ bound) h (suc x) = entry_has nodes bound (All-tail (HasValue nodes) o bound h) x
 
-followed_same : (old new : Nodes) → Extends old new → (bound : List (Option At)) → All (HasValue old) bound → (n x : ℕ) → followed new bound n x ≡ followed old bound n x
+followed_same : (old new : Nodes) → Extends old new → (bound : List (Option At)) → All (HasValue old) bound → (n x : ℕ)
+    → followed new bound n x ≡ followed old bound n x
 followed_same old new e bound h zero x = refl
 followed_same old new e bound h (suc n) x =
     let o = slice_index_or bound x None in
@@ -35,13 +37,15 @@ followed_same old new e bound h (suc n) x =
     ∙ sub_same (followed new bound n) (followed old bound n) (followed_same old new e bound h n) (shown old x o)
 
 -- and so does every variable's reading
-pub reading_same : (old new : Nodes) → Extends old new → (bound : List (Option At)) → All (HasValue old) bound → (x : ℕ) → reading new bound x ≡ reading old bound x
+pub reading_same : (old new : Nodes) → Extends old new → (bound : List (Option At)) → All (HasValue old) bound → (x : ℕ)
+    → reading new bound x ≡ reading old bound x
 reading_same old new e bound h x = followed_same old new e bound h (length bound) x
 
 -- and every term's
 pub read_same : (old new : Nodes) → Extends old new → (bound : List (Option At)) → All (HasValue old) bound → (at : ℕ) → HasTerm old at
     → sub (reading new bound) (term_tree new at) ≡ sub (reading old bound) (term_tree old at)
-read_same old new e bound h at l = ap (sub (reading new bound)) (term_tree-extends e at l) ∙ sub_same (reading new bound) (reading old bound) (reading_same old new e bound h) (term_tree old at)
+read_same old new e bound h at l = ap (sub (reading new bound)) (term_tree-extends e at l)
+    ∙ sub_same (reading new bound) (reading old bound) (reading_same old new e bound h) (term_tree old at)
 
 -- entries stay in the bank
 pub values_extend : (old new : Nodes) → Extends old new → (bound : List (Option At)) → All (HasValue old) bound → All (HasValue new) bound
@@ -63,7 +67,8 @@ reading_past nodes bound x l = followed-free nodes bound (length bound) x (entry
 -- ---- tables
 
 -- the entries of a table are places of the bank
-pub table_values : (nodes : Nodes) (bound : List (Option At)) → ((x : ℕ) (at : At) → slice_index_or bound x None ≡ Some at → HasTerm nodes at.0) → All (HasValue nodes) bound
+pub table_values : (nodes : Nodes) (bound : List (Option At)) → ((x : ℕ) (at : At) → slice_index_or bound x None ≡ Some at → HasTerm nodes at.0)
+    → All (HasValue nodes) bound
 table_values nodes [] h = All-nil (HasValue nodes)
 table_values nodes (o ∷ bound) h = All-cons (HasValue nodes) o bound (one o (h 0)) (table_values nodes bound (λ x at e. h (suc x) at e))
   where
@@ -71,7 +76,8 @@ table_values nodes (o ∷ bound) h = All-cons (HasValue nodes) o bound (one o (h
     one None k = tt
     one (Some at) k = k at refl
 
-value_at : (nodes : Nodes) (bound : List (Option At)) → All (HasValue nodes) bound → (x : ℕ) (at : At) → slice_index_or bound x None ≡ Some at → HasTerm nodes at.0
+value_at : (nodes : Nodes) (bound : List (Option At)) → All (HasValue nodes) bound → (x : ℕ) (at : At) → slice_index_or bound x None ≡ Some at
+    → HasTerm nodes at.0
 value_at nodes bound h x at e = subst (HasValue nodes) e (entry_has nodes bound h x)
 
 -- the bindings of a machine are a table
@@ -95,7 +101,11 @@ none_more : (t : Table) (l : ℕ) → with_cells t 0 l ≡ t
 none_more t l = same_table t (t.bound ++ []) (t.levels ++ []) (append-nil t.bound) (append-nil t.levels)
 
 one_more : (t : Table) (n l : ℕ) → with_cells t (suc n) l ≡ with_cells (with_cell t l) n l
-one_more t n l = λ i. record { bound = sym (append_assoc t.bound (None ∷ []) (replicate n None)) i; levels = sym (append_assoc t.levels (l ∷ []) (replicate n l)) i }
+one_more t n l = λ i. record {
+  bound = sym (append_assoc t.bound (None ∷ []) (replicate n None)) i;
+  levels =
+      sym (append_assoc t.levels (l ∷ []) (replicate n l)) i;
+}
 
 pub table_more : (nodes : Nodes) (t : Table) (n l : ℕ) → IsTable nodes t → IsTable nodes (with_cells t n l)
 table_more nodes t zero l h = subst (IsTable nodes) (sym (none_more t l)) h
@@ -108,20 +118,24 @@ reads_more nodes t (suc n) l h x =
     ∙ (reads_more nodes (with_cell t l) n l (table-fresh nodes t l h) x ∙ found-fresh nodes t l h x)
 
 -- the cells of a store with more
-pub bound_more : (cells : List Cell) (n l : ℕ) → (table_of (cells ++ replicate n (record { to = None; level = l }))).bound ≡ (table_of cells).bound ++ replicate n None
+pub bound_more : (cells : List Cell) (n l : ℕ) → (table_of (cells ++ replicate n (record { to = None; level = l }))).bound ≡ (table_of cells).bound
+    ++ replicate n None
 bound_more [] zero l = refl
 bound_more [] (suc n) l = ap (λ bs. None ∷ bs) (bound_more [] n l)
 bound_more (c ∷ cells) n l = ap (λ bs. c.to ∷ bs) (bound_more cells n l)
 
-pub levels_more : (cells : List Cell) (n l : ℕ) → (table_of (cells ++ replicate n (record { to = None; level = l }))).levels ≡ (table_of cells).levels ++ replicate n l
+pub levels_more : (cells : List Cell) (n l : ℕ) → (table_of (cells ++ replicate n (record { to = None; level = l }))).levels ≡ (table_of cells).levels
+    ++ replicate n l
 levels_more [] zero l = refl
 levels_more [] (suc n) l = ap (λ ls. l ∷ ls) (levels_more [] n l)
 levels_more (c ∷ cells) n l = ap (λ ls. c.level ∷ ls) (levels_more cells n l)
 
-pub cells_bound : (old new : List Cell) (n count l : ℕ) → new ≡ old ++ replicate n (record { to = None; level = l }) → n ≡ count → (table_of new).bound ≡ (table_of old).bound ++ replicate count None
+pub cells_bound : (old new : List Cell) (n count l : ℕ) → new ≡ old ++ replicate n (record { to = None; level = l }) → n ≡ count
+    → (table_of new).bound ≡ (table_of old).bound ++ replicate count None
 cells_bound old new n count l e s = ap (λ cs. (table_of cs).bound) e ∙ (bound_more old n l ∙ ap (λ k. (table_of old).bound ++ replicate k None) s)
 
-pub cells_levels : (old new : List Cell) (n count l : ℕ) → new ≡ old ++ replicate n (record { to = None; level = l }) → n ≡ count → (table_of new).levels ≡ (table_of old).levels ++ replicate count l
+pub cells_levels : (old new : List Cell) (n count l : ℕ) → new ≡ old ++ replicate n (record { to = None; level = l }) → n ≡ count
+    → (table_of new).levels ≡ (table_of old).levels ++ replicate count l
 cells_levels old new n count l e s = ap (λ cs. (table_of cs).levels) e ∙ (levels_more old n l ∙ ap (λ k. (table_of old).levels ++ replicate k l) s)
 
 -- ---- lists of terms

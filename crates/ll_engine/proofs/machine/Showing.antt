@@ -67,7 +67,8 @@ unflagged m b l e f h =
 module _ {C : Type 0} where
   pub live_here : (es : List (Entry C)) (i : ℕ) (e : Entry C) (b : Bool) → slice_get es i ≡ Some e → b ≡ e.live → b ≡ true → true ≡ has_live es
   live_here es i e b h l t =
-      sym (list_any_at (λ (e : Entry C). e.live) es i e (slice_get_within es i e h) (ap (λ (x : Entry C). x.live) (get_or_from_slice_get es i e e h) ∙ (sym l ∙ t)))
+      sym (list_any_at (λ (e : Entry C). e.live) es i e (slice_get_within es i e h)
+      (ap (λ (x : Entry C). x.live) (get_or_from_slice_get es i e e h) ∙ (sym l ∙ t)))
 
   pub not_live_more : (es : List (Entry C)) (i : ℕ) (e : Entry C) (b : Bool) → slice_get es i ≡ Some e → b ≡ e.live → b ≡ false → has_live (take i es) ≡ false
       → has_live (take (i + 1) es) ≡ false
@@ -80,7 +81,8 @@ abbrev branched : State → Answered
 branched s = record { terms = s.terms; steps = s.steps }
 
 -- the state as a branch, whose terms were read under the bindings
-pub branch_of : (m : Parts) (bank new : Nodes) (bound : List (Option At)) (terms read : List At) (steps : List Step) → bank ≡ m.bank → bound ≡ m.bound → terms ≡ m.terms
+pub branch_of : (m : Parts) (bank new : Nodes) (bound : List (Option At)) (terms read : List At) (steps : List Step) → bank ≡ m.bank → bound ≡ m.bound
+    → terms ≡ m.terms
     → map (λ at. term_tree new at.0) read ≡ map (read_term bank bound) terms → steps ≡ m.steps
     → record { terms = map (λ at. term_tree new at.0) read; steps = steps } ≡ branched (state_of m)
 unfolding state_of
@@ -91,7 +93,8 @@ branch_of m bank new bound terms read steps e1 e2 e3 r e4 =
 
 -- ---- the terms of a machine are places over its cells
 
-places_of : (m : Parts) (f : Fits m) (ats : List At) → AllInTerms m.bank ats → list_all (is_made (length m.levels) m.eigens) (map (read_term m.bank m.bound) ats) ≡ true
+places_of : (m : Parts) (f : Fits m) (ats : List At) → AllInTerms m.bank ats
+    → list_all (is_made (length m.levels) m.eigens) (map (read_term m.bank m.bound) ats) ≡ true
     → All (λ (at : At). IsPlaceOf m.bank (table m) at.0) ats
 places_of m f [] h e = All-nil (λ (at : At). IsPlaceOf m.bank (table m) at.0)
 places_of m f (a ∷ ats) h e =
@@ -100,7 +103,8 @@ places_of m f (a ∷ ats) h e =
     let below : vars_below n t ≡ true = and_right (is_closed t) (vars_below n t) (and_left (is_closed t && vars_below n t) (eigens_below m.eigens t) one) in
     All-cons (λ (at : At). IsPlaceOf m.bank (table m) at.0) a ats
     (place-below m.bank (table m) a.0 (fits_table m f) (All-head (λ (at : At). HasTerm m.bank at.0) a ats h) below)
-    (places_of m f ats (All-tail (λ (at : At). HasTerm m.bank at.0) a ats h) (and_right (is_made n m.eigens t) (list_all (is_made n m.eigens) (map (read_term m.bank m.bound) ats)) e))
+    (places_of m f ats (All-tail (λ (at : At). HasTerm m.bank at.0) a ats h)
+    (and_right (is_made n m.eigens t) (list_all (is_made n m.eigens) (map (read_term m.bank m.bound) ats)) e))
 
 made_terms : (m : Parts) → Fits m → list_all (is_made (length m.levels) m.eigens) (map (read_term m.bank m.bound) m.terms) ≡ true
 unfolding state_of

@@ -51,9 +51,11 @@ module _ (s : ℕ → Term) where
   heads-sub (Num r t u) = refl
 
   same_predicate : (p : Predicate) (t : Term) → is_spine t ≡ true → has_predicate p (sub s t) ≡ has_predicate p t
-  same_predicate p t e = λ i. Rattle.ll_bank.specs.Term.same_head (Some p.head) (spine-head t e i) && Rattle.std.specs.Prelude.nat_eq p.arity (spine-arity t e i)
+  same_predicate p t e = λ i. Rattle.ll_bank.specs.Term.same_head (Some p.head) (spine-head t e i)
+      && Rattle.std.specs.Prelude.nat_eq p.arity (spine-arity t e i)
 
-  head_tries-sub : (p : Predicate) (label k : ℕ) (hs : List Term) → list_all is_spine hs ≡ true → head_tries (has_predicate p) label k (map (sub s) hs) ≡ head_tries (has_predicate p) label k hs
+  head_tries-sub : (p : Predicate) (label k : ℕ) (hs : List Term) → list_all is_spine hs ≡ true
+      → head_tries (has_predicate p) label k (map (sub s) hs) ≡ head_tries (has_predicate p) label k hs
   head_tries-sub p label k [] e = refl
   head_tries-sub p label k (h ∷ hs) e =
       let c : Candidate = record { label = label; leaf = k } in
@@ -72,7 +74,8 @@ pub heads-spines : (opens : Bool) (scope : Scope) (f : Form) → has_heads opens
 heads-spines opens scope Top e = refl
 heads-spines opens scope One e = refl
 heads-spines opens scope (Atom a) e =
-    and_intro (is_spine a) true (and_left (is_spine a) (may_head scope (head_of a)) (and_left (is_spine a && may_head scope (head_of a)) (is_headed scope a) e)) refl
+    and_intro (is_spine a) true (and_left (is_spine a) (may_head scope (head_of a)) (and_left (is_spine a && may_head scope (head_of a)) (is_headed scope a) e))
+    refl
 heads-spines opens scope (With f g) e =
     all-append (heads f) (heads g) (heads-spines opens scope f (and_left (has_heads opens ClauseSide scope f) (has_heads opens ClauseSide scope g) e))
     (heads-spines opens scope g (and_right (has_heads opens ClauseSide scope f) (has_heads opens ClauseSide scope g) e))
@@ -90,7 +93,8 @@ module _ (may : Allowed) (bank : Nodes) (bound : List (Option Rattle.ll_bank.spe
   abbrev pub s : ℕ → Term
   s = reading bank bound
 
-  pub entry_stands : (p : Predicate) (e : Entry FormAt) → IsFormula may ClauseSide [] (form_tree bank e.clause.0) → open_tries (has_predicate p) (shown_entry bank bound e) ≡ open_tries (has_predicate p) (standing_entry bank e)
+  pub entry_stands : (p : Predicate) (e : Entry FormAt) → IsFormula may ClauseSide [] (form_tree bank e.clause.0)
+      → open_tries (has_predicate p) (shown_entry bank bound e) ≡ open_tries (has_predicate p) (standing_entry bank e)
   entry_stands p e h =
       let f = form_tree bank e.clause.0 in
       let q : head_tries (has_predicate p) e.label 0 (heads (sub_form s f)) ≡ head_tries (has_predicate p) e.label 0 (heads f) =
@@ -109,22 +113,31 @@ module _ (may : Allowed) (bank : Nodes) (bound : List (Option Rattle.ll_bank.spe
       → flat_map (entry_tries (sub s a)) (map (shown_entry bank bound) es) ≡ flat_map (entry_tries a) (map (standing_entry bank) es)
   atom_stands a es sp free read h = go (head_of a) refl
     where
-      go : (o : Option Head) → head_of a ≡ o → flat_map (entry_tries (sub s a)) (map (shown_entry bank bound) es) ≡ flat_map (entry_tries a) (map (standing_entry bank) es)
+      go : (o : Option Head) → head_of a ≡ o → flat_map (entry_tries (sub s a)) (map (shown_entry bank bound) es)
+          ≡ flat_map (entry_tries a) (map (standing_entry bank) es)
       go None e =
           Rattle.ll_engine.proofs.matching.LeafLemmas.no_tries (sub s a) (spine-head s a sp ∙ e) (map (shown_entry bank bound) es)
           ∙ sym (Rattle.ll_engine.proofs.matching.LeafLemmas.no_tries a e (map (standing_entry bank) es))
       go (Some f) e =
           let p : Predicate = record { head = f; arity = arity a } in
-          tries_by_predicate p (sub s a) (record { head = spine-head s a sp ∙ e; arity = spine-arity s a sp; free = head_free (sub s a) f read (spine-head s a sp ∙ e) }) (map (shown_entry bank bound) es)
-          ∙ (entries_stand p es h ∙ sym (tries_by_predicate p a (record { head = e; arity = refl; free = head_free a f free e }) (map (standing_entry bank) es)))
+          tries_by_predicate p (sub s a) (record {
+            head = spine-head s a sp ∙ e;
+            arity = spine-arity s a sp;
+            free =
+                head_free (sub s a) f read (spine-head s a sp ∙ e);
+          }) (map (shown_entry bank bound) es)
+          ∙ (entries_stand p es h ∙ sym (tries_by_predicate p a (record { head = e; arity = refl; free = head_free a f free e })
+          (map (standing_entry bank) es)))
 
   -- the candidates of a goal, as they stand
-  pub tries_stand : (g : Form) (es : List (Entry FormAt)) → has_heads may.opens GoalSide [] g ≡ true → free_below 0 g ≡ true → free_below 0 (sub_form s g) ≡ true
+  pub tries_stand : (g : Form) (es : List (Entry FormAt)) → has_heads may.opens GoalSide [] g ≡ true → free_below 0 g ≡ true
+      → free_below 0 (sub_form s g) ≡ true
       → All (λ e. IsFormula may ClauseSide [] (form_tree bank e.clause.0)) es
       → goal_tries (map (shown_entry bank bound) es) (sub_form s g) ≡ goal_tries (map (standing_entry bank) es) g
   tries_stand Top es k f r h = refl
   tries_stand One es k f r h = refl
-  tries_stand (Atom a) es k f r h = atom_stands a es (and_left (is_spine a) (may_head [] (head_of a)) (and_left (is_spine a && may_head [] (head_of a)) (is_headed [] a) k)) f r h
+  tries_stand (Atom a) es k f r h = atom_stands a es (and_left (is_spine a) (may_head [] (head_of a))
+      (and_left (is_spine a && may_head [] (head_of a)) (is_headed [] a) k)) f r h
   tries_stand (With x y) es k f r h = refl
   tries_stand (Tensor x y) es k f r h = refl
   tries_stand (Plus x y) es k f r h = refl

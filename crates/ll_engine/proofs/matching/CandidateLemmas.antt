@@ -9,7 +9,9 @@ use Rattle.ll_bank.specs.declared.At.{At}
 use Rattle.ll_bank.specs.declared.FormAt.{FormAt}
 use Rattle.ll_bank.specs.declared.Head.{Head}
 use Rattle.ll_bank.specs.declared.FormNode.{FormNode}
-use Rattle.ll_bank.specs.declared.FormNode.TheVariants.{Top as TopView, One as OneView, Atom as AtomView, With as WithView, Tensor as TensorView, Plus as PlusView, Bang as BangView, Lolli as LolliView, Imp as ImpView, Forall as ForallView, Exists as ExistsView, Use as UseView, Is as IsView, Less as LessView, Most as MostView}
+use Rattle.ll_bank.specs.declared.FormNode.TheVariants.{Top as TopView, One as OneView, Atom as AtomView, With as WithView, Tensor as TensorView}
+use Rattle.ll_bank.specs.declared.FormNode.TheVariants.{Plus as PlusView, Bang as BangView, Lolli as LolliView, Imp as ImpView, Forall as ForallView}
+use Rattle.ll_bank.specs.declared.FormNode.TheVariants.{Exists as ExistsView, Use as UseView, Is as IsView, Less as LessView, Most as MostView}
 use Rattle.ll_bank.specs.Term.{Term, app, head_of, arity}
 use Rattle.ll_bank.specs.Nodes.{Nodes, term_trees, form_tree, form_of}
 use Rattle.ll_bank.proofs.CallerLemmas.{head_of-app, arity-app, length-term_trees}
@@ -29,9 +31,11 @@ predicate_app nodes t h args e =
 module _ (bank : Nodes) where
   wait-more : (fs : List FormAt) (f : FormAt) → waiting_heads bank (fs ++ f ∷ []) ≡ heads (form_tree bank f.0) ++ waiting_heads bank fs
   wait-more [] f = sym (append-nil (heads (form_tree bank f.0)))
-  wait-more (g ∷ fs) f = ap (λ xs. xs ++ heads (form_tree bank g.0)) (wait-more fs f) ∙ append_assoc (heads (form_tree bank f.0)) (waiting_heads bank fs) (heads (form_tree bank g.0))
+  wait-more (g ∷ fs) f = ap (λ xs. xs ++ heads (form_tree bank g.0)) (wait-more fs f)
+      ∙ append_assoc (heads (form_tree bank f.0)) (waiting_heads bank fs) (heads (form_tree bank g.0))
 
-  module _ (test : Term → Bool) (label k : ℕ) (goal : List Candidate) (found : List Candidate) (old rest : List FormAt) (f : FormAt) (popped : old ≡ rest ++ f ∷ [])
+  module _ (test : Term → Bool) (label k : ℕ) (goal : List Candidate) (found : List Candidate) (old rest : List FormAt) (f : FormAt)
+      (popped : old ≡ rest ++ f ∷ [])
       (so_far : found ++ head_tries test label k (waiting_heads bank old) ≡ goal) where
     -- what is left begins with the heads of the clause taken
     begins : found ++ head_tries test label k (heads (form_tree bank f.0) ++ waiting_heads bank rest) ≡ goal
@@ -45,20 +49,24 @@ module _ (bank : Nodes) where
     pub walk_in : (g : FormAt) (new : List FormAt) → new ≡ rest ++ g ∷ [] → heads (form_tree bank f.0) ≡ heads (form_tree bank g.0)
         → found ++ head_tries test label k (waiting_heads bank new) ≡ goal
     walk_in g new n e =
-        ap (λ hs. found ++ head_tries test label k hs) (ap (waiting_heads bank) n ∙ (wait-more rest g ∙ ap (λ hs. hs ++ waiting_heads bank rest) (sym e))) ∙ begins
+        ap (λ hs. found ++ head_tries test label k hs) (ap (waiting_heads bank) n ∙ (wait-more rest g ∙ ap (λ hs. hs ++ waiting_heads bank rest) (sym e)))
+        ∙ begins
 
     -- or two, the left one behind
-    pub walk_both : (g h : FormAt) (mid new : List FormAt) → mid ≡ rest ++ h ∷ [] → new ≡ mid ++ g ∷ [] → heads (form_tree bank f.0) ≡ heads (form_tree bank g.0) ++ heads (form_tree bank h.0)
+    pub walk_both : (g h : FormAt) (mid new : List FormAt) → mid ≡ rest ++ h ∷ [] → new ≡ mid ++ g ∷ []
+        → heads (form_tree bank f.0) ≡ heads (form_tree bank g.0) ++ heads (form_tree bank h.0)
         → found ++ head_tries test label k (waiting_heads bank new) ≡ goal
     walk_both g h mid new m n e =
         ap (λ hs. found ++ head_tries test label k hs)
         (ap (waiting_heads bank) n
         ∙ (wait-more mid g
         ∙ (ap (λ hs. heads (form_tree bank g.0) ++ hs) (ap (waiting_heads bank) m ∙ wait-more rest h)
-        ∙ (sym (append_assoc (heads (form_tree bank g.0)) (heads (form_tree bank h.0)) (waiting_heads bank rest)) ∙ ap (λ hs. hs ++ waiting_heads bank rest) (sym e))))) ∙ begins
+        ∙ (sym (append_assoc (heads (form_tree bank g.0)) (heads (form_tree bank h.0)) (waiting_heads bank rest))
+        ∙ ap (λ hs. hs ++ waiting_heads bank rest) (sym e))))) ∙ begins
 
     -- a leaf that passes the test is found, and the next one is on
-    pub leaf_found : (t : Term) (new : List Candidate) (next : ℕ) → heads (form_tree bank f.0) ≡ t ∷ [] → test t ≡ true → new ≡ found ++ record { label = label; leaf = k } ∷ [] → next ≡ k + 1
+    pub leaf_found : (t : Term) (new : List Candidate) (next : ℕ) → heads (form_tree bank f.0) ≡ t ∷ [] → test t ≡ true
+        → new ≡ found ++ record { label = label; leaf = k } ∷ [] → next ≡ k + 1
         → new ++ head_tries test label next (waiting_heads bank rest) ≡ goal
     leaf_found t new next e has n s =
         let hs = waiting_heads bank rest in
@@ -68,17 +76,20 @@ module _ (bank : Nodes) where
         let go : next ≡ suc k = omega arith in
         ap (λ xs. xs ++ head_tries test label next hs) n
         ∙ (append_assoc found (c ∷ []) (head_tries test label next hs)
-        ∙ (ap (λ j. found ++ c ∷ head_tries test label j hs) go ∙ (ap (λ xs. found ++ xs) (sym one) ∙ (ap (λ us. found ++ head_tries test label k (us ++ hs)) (sym e) ∙ begins))))
+        ∙ (ap (λ j. found ++ c ∷ head_tries test label j hs) go
+        ∙ (ap (λ xs. found ++ xs) (sym one) ∙ (ap (λ us. found ++ head_tries test label k (us ++ hs)) (sym e) ∙ begins))))
 
     -- another one is not
-    pub leaf_passed : (t : Term) (next : ℕ) → heads (form_tree bank f.0) ≡ t ∷ [] → test t ≡ false → next ≡ k + 1 → found ++ head_tries test label next (waiting_heads bank rest) ≡ goal
+    pub leaf_passed : (t : Term) (next : ℕ) → heads (form_tree bank f.0) ≡ t ∷ [] → test t ≡ false → next ≡ k + 1
+        → found ++ head_tries test label next (waiting_heads bank rest) ≡ goal
     leaf_passed t next e lacks s =
         let hs = waiting_heads bank rest in
         let c : Candidate = record { label = label; leaf = k } in
         let tail = head_tries test label (suc k) hs in
         let none : (if test t then c ∷ tail else tail) ≡ tail = ap (λ b. if b then c ∷ tail else tail) lacks in
         let go : next ≡ suc k = omega arith in
-        ap (λ j. found ++ head_tries test label j hs) go ∙ (ap (λ xs. found ++ xs) (sym none) ∙ (ap (λ us. found ++ head_tries test label k (us ++ hs)) (sym e) ∙ begins))
+        ap (λ j. found ++ head_tries test label j hs) go ∙ (ap (λ xs. found ++ xs) (sym none)
+        ∙ (ap (λ us. found ++ head_tries test label k (us ++ hs)) (sym e) ∙ begins))
 
 -- each head that waits is as before
 module _ (P : Term → Type 0) (bank : Nodes) (old rest : List FormAt) (f : FormAt) (popped : old ≡ rest ++ f ∷ []) (each : All P (waiting_heads bank old)) where
@@ -88,17 +99,20 @@ module _ (P : Term → Type 0) (bank : Nodes) (old rest : List FormAt) (f : Form
   pub each_past : heads (form_tree bank f.0) ≡ [] → All P (waiting_heads bank rest)
   each_past e = subst (λ hs. All P (hs ++ waiting_heads bank rest)) e each_next
 
-  pub each_in : (g : FormAt) (new : List FormAt) → new ≡ rest ++ g ∷ [] → heads (form_tree bank f.0) ≡ heads (form_tree bank g.0) → All P (waiting_heads bank new)
+  pub each_in : (g : FormAt) (new : List FormAt) → new ≡ rest ++ g ∷ [] → heads (form_tree bank f.0) ≡ heads (form_tree bank g.0)
+      → All P (waiting_heads bank new)
   each_in g new n e = subst (All P) (sym (ap (waiting_heads bank) n ∙ (wait-more bank rest g ∙ ap (λ hs. hs ++ waiting_heads bank rest) (sym e)))) each_next
 
-  pub each_both : (g h : FormAt) (mid new : List FormAt) → mid ≡ rest ++ h ∷ [] → new ≡ mid ++ g ∷ [] → heads (form_tree bank f.0) ≡ heads (form_tree bank g.0) ++ heads (form_tree bank h.0)
+  pub each_both : (g h : FormAt) (mid new : List FormAt) → mid ≡ rest ++ h ∷ [] → new ≡ mid ++ g ∷ []
+      → heads (form_tree bank f.0) ≡ heads (form_tree bank g.0) ++ heads (form_tree bank h.0)
       → All P (waiting_heads bank new)
   each_both g h mid new m n e =
       subst (All P)
       (sym (ap (waiting_heads bank) n
       ∙ (wait-more bank mid g
       ∙ (ap (λ hs. heads (form_tree bank g.0) ++ hs) (ap (waiting_heads bank) m ∙ wait-more bank rest h)
-      ∙ (sym (append_assoc (heads (form_tree bank g.0)) (heads (form_tree bank h.0)) (waiting_heads bank rest)) ∙ ap (λ hs. hs ++ waiting_heads bank rest) (sym e))))))
+      ∙ (sym (append_assoc (heads (form_tree bank g.0)) (heads (form_tree bank h.0)) (waiting_heads bank rest))
+      ∙ ap (λ hs. hs ++ waiting_heads bank rest) (sym e))))))
       each_next
 
   leaf_next : (t : Term) → heads (form_tree bank f.0) ≡ t ∷ [] → All P (t ∷ waiting_heads bank rest)
@@ -115,7 +129,8 @@ pub heads_seen : (bank : Nodes) (f : FormAt) (view : FormNode) → form_tree ban
 heads_seen bank f view e = ap (λ t. heads t) e
 
 -- a formula of no other sort has no leaf
-pub no_heads : (bank : Nodes) (v : FormNode) → ((a : At) → v ≡ AtomView a → ⊥) → ((f g : FormAt) → v ≡ WithView f g → ⊥) → ((f g : FormAt) → v ≡ LolliView f g → ⊥)
+pub no_heads : (bank : Nodes) (v : FormNode) → ((a : At) → v ≡ AtomView a → ⊥) → ((f g : FormAt) → v ≡ WithView f g → ⊥)
+    → ((f g : FormAt) → v ≡ LolliView f g → ⊥)
     → ((f g : FormAt) → v ≡ ImpView f g → ⊥) → ((f : FormAt) → v ≡ ForallView f → ⊥) → heads (form_of bank v) ≡ []
 no_heads bank TopView a w l i f = refl
 no_heads bank OneView a w l i f = refl

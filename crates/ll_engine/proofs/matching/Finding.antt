@@ -32,7 +32,8 @@ heads_stand : (n : ℕ) (ps : List StandingPremise) (r : Form) → map (λ l. l.
 heads_stand n ps Top = refl
 heads_stand n ps One = refl
 heads_stand n ps (Atom a) = refl
-heads_stand n ps (With r s) = map-append (λ (l : StandingLeaf). l.head) (leaves_under n ps r) (leaves_under n ps s) ∙ (λ i. heads_stand n ps r i ++ heads_stand n ps s i)
+heads_stand n ps (With r s) = map-append (λ (l : StandingLeaf). l.head) (leaves_under n ps r) (leaves_under n ps s)
+    ∙ (λ i. heads_stand n ps r i ++ heads_stand n ps s i)
 heads_stand n ps (Tensor r s) = refl
 heads_stand n ps (Plus r s) = refl
 heads_stand n ps (Bang r) = refl
@@ -45,7 +46,8 @@ heads_stand n ps (Num r t u) = refl
 
 -- the sign of a leaf is that of its head
 sign_of_leaf : (r : Form) (k : ℕ) (h : Term) → slice_get (heads r) k ≡ Some h → leaf_first r k ≡ first_of h
-sign_of_leaf r k h e = go (slice_get (standing_leaves r) k) (sym (slice_get-map (λ (l : StandingLeaf). l.head) (standing_leaves r) k) ∙ (ap (λ hs. slice_get hs k) (heads_stand 0 [] r) ∙ e))
+sign_of_leaf r k h e = go (slice_get (standing_leaves r) k) (sym (slice_get-map (λ (l : StandingLeaf). l.head) (standing_leaves r) k)
+    ∙ (ap (λ hs. slice_get hs k) (heads_stand 0 [] r) ∙ e))
   where
     go : (o : Option StandingLeaf) → option_map (λ l. l.head) o ≡ Some h → first_if_leaf o ≡ first_of h
     go None q = cc
@@ -64,11 +66,13 @@ module _ (store : Store) (asked : Asked) where
 
   -- the leaves whose signs do not clash
   heads_kept : (r : Form) (label k : ℕ) (hs : List Term) → ((j : ℕ) (h : Term) → slice_get hs j ≡ Some h → leaf_first r (k + j) ≡ first_of (read_by store h))
-      → filter (λ c. not (signs_clash asked.first (leaf_first r c.leaf))) (head_tries (has_predicate asked.predicate) label k hs) ≡ head_tries (head_fits store asked) label k hs
+      → filter (λ c. not (signs_clash asked.first (leaf_first r c.leaf))) (head_tries (has_predicate asked.predicate) label k hs)
+      ≡ head_tries (head_fits store asked) label k hs
   heads_kept r label k [] at = refl
   heads_kept r label k (h ∷ hs) at =
       let q : k + 0 ≡ k = omega arith in
-      step (has_predicate asked.predicate h) (ap (leaf_first r) (sym q) ∙ at 0 h refl) (heads_kept r label (suc k) hs (λ j g e. let z : suc k + j ≡ k + suc j = omega arith in ap (leaf_first r) z ∙ at (suc j) g e))
+      step (has_predicate asked.predicate h) (ap (leaf_first r) (sym q) ∙ at 0 h refl)
+      (heads_kept r label (suc k) hs (λ j g e. let z : suc k + j ≡ k + suc j = omega arith in ap (leaf_first r) z ∙ at (suc j) g e))
     where
       c : Candidate
       c = record { label = label; leaf = k }
@@ -92,7 +96,8 @@ module _ (store : Store) (asked : Asked) where
     entry_walked : (e : Entry FormAt) → IsFormula may ClauseSide [] (form_tree store.bank e.clause.0)
         → entry_matches asked.first a (shown_entry store.bank bound e) ≡ open_tries (head_fits store asked) (standing_entry store.bank e)
     entry_walked e h =
-        ap (filter kept) (entry_tries_by asked.predicate a is (shown_entry store.bank bound e) ∙ entry_stands may store.bank bound asked.predicate e h) ∙ go (is_open e)
+        ap (filter kept) (entry_tries_by asked.predicate a is (shown_entry store.bank bound e) ∙ entry_stands may store.bank bound asked.predicate e h)
+        ∙ go (is_open e)
       where
         kept : Candidate → Bool
         kept d = not (signs_clash asked.first (leaf_first (sub_form (reading store.bank bound) (form_tree store.bank e.clause.0)) d.leaf))
@@ -100,12 +105,14 @@ module _ (store : Store) (asked : Asked) where
         go : (b : Bool) → filter kept (if b then head_tries (has_predicate asked.predicate) e.label 0 (heads (form_tree store.bank e.clause.0)) else [])
             ≡ (if b then head_tries (head_fits store asked) e.label 0 (heads (form_tree store.bank e.clause.0)) else [])
         go true = heads_kept (sub_form (reading store.bank bound) (form_tree store.bank e.clause.0)) e.label 0 (heads (form_tree store.bank e.clause.0))
-            (λ j g q. let z : 0 + j ≡ j = omega arith in ap (leaf_first (sub_form (reading store.bank bound) (form_tree store.bank e.clause.0))) z ∙ sign_read (reading store.bank bound) (form_tree store.bank e.clause.0) j g q)
+            (λ j g q. let z : 0 + j ≡ j = omega arith in ap (leaf_first (sub_form (reading store.bank bound) (form_tree store.bank e.clause.0))) z
+            ∙ sign_read (reading store.bank bound) (form_tree store.bank e.clause.0) j g q)
         go false = refl
 
     -- and of several
     pub entries_walked : (es : List (Entry FormAt)) → All (λ e. IsFormula may ClauseSide [] (form_tree store.bank e.clause.0)) es
-        → flat_map (entry_matches asked.first a) (map (shown_entry store.bank bound) es) ≡ flat_map (open_tries (head_fits store asked)) (map (standing_entry store.bank) es)
+        → flat_map (entry_matches asked.first a) (map (shown_entry store.bank bound) es)
+        ≡ flat_map (open_tries (head_fits store asked)) (map (standing_entry store.bank) es)
     entries_walked [] h = refl
     entries_walked (e ∷ es) h =
         let P : Entry FormAt → Type 0 = λ d. IsFormula may ClauseSide [] (form_tree store.bank d.clause.0) in

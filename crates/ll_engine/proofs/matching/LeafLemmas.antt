@@ -1,10 +1,12 @@
 -- The leaves of a clause by the predicates of their heads.
-use Rattle.std.proofs.Common.{◌≡◌, ℕ, zero, suc, ◌+◌, ◌-◌, ◌<◌, List, [], ◌∷◌, ◌++◌, length, map, refl, ap, sym, subst, ◌∙◌, arith, Option, Some, None, Bool, true, false, get_or, take, append_assoc}
+use Rattle.std.proofs.Common.{◌≡◌, ℕ, zero, suc, ◌+◌, ◌-◌, ◌<◌, List, [], ◌∷◌, ◌++◌, length, map, refl, ap, sym, subst, ◌∙◌, arith, Option, Some, None, Bool}
+use Rattle.std.proofs.Common.{true, false, get_or, take, append_assoc}
 use Rattle.std.specs.Prelude.{if◌then◌else◌, nat_lt, nat_eq, slice_get, option_map, ◌&&◌, flat_map}
 use Rattle.std.proofs.lemmas.Bool.{ltb-true, ltb-false}
 use Rattle.std.proofs.lemmas.List.{append-nil}
 use Rattle.std.proofs.Math.ListN.{get_or-append}
-use Rattle.ll_lists.proofs.CallerLemmas.{slice_get-append_left as get_left, slice_get-append_right as get_right, slice_get-inside as get_inside, length-map_suc as length-suc, and_true_left as and_left, lt_zero as none_below}
+use Rattle.ll_lists.proofs.CallerLemmas.{slice_get-append_left as get_left, slice_get-append_right as get_right, slice_get-inside as get_inside}
+use Rattle.ll_lists.proofs.CallerLemmas.{length-map_suc as length-suc, and_true_left as and_left, lt_zero as none_below}
 use Rattle.ll_bank.specs.declared.Head.{Head}
 use Rattle.ll_bank.specs.declared.Head.TheVariants.{Name, Eigen, Bound}
 use Rattle.ll_bank.specs.Term.{Term, Var, Int, Con, Ap, Env, place, close, head_of, arity, head_eq, same_head, not_bound}
@@ -47,7 +49,8 @@ length-both (x ∷ xs) ys = let e = length-both xs ys in omega arith
 -- a clause has as many heads as ways
 pub heads_ways : (r : Form) → length (heads r) ≡ length (ways r)
 heads_ways (Atom a) = refl
-heads_ways (With q r) = let e = heads_ways q in let f = heads_ways r in let g = length-both (heads q) (heads r) in let h = length-both (ways q) (ways r) in omega arith
+heads_ways (With q r) = let e = heads_ways q in let f = heads_ways r in let g = length-both (heads q) (heads r) in let h = length-both (ways q) (ways r) in
+    omega arith
 heads_ways (Lolli q r) = heads_ways r
 heads_ways (Imp q r) = heads_ways r
 heads_ways (Forall r) = heads_ways r ∙ sym (length-suc (ways r))
@@ -103,7 +106,8 @@ place_arity (Some (Int z) ∷ e) k n v = absurd v
 place_arity (Some (Con c) ∷ e) k n v = absurd v
 place_arity (Some (Ap t u) ∷ e) k n v = absurd v
 
-close_head_same : (h : Head) → IsFreeHead h → (e : Env) → AreBoundVars e → (t : Term) → same_head (Some h) (head_of (close e t)) ≡ same_head (Some h) (head_of t)
+close_head_same : (h : Head) → IsFreeHead h → (e : Env) → AreBoundVars e → (t : Term)
+    → same_head (Some h) (head_of (close e t)) ≡ same_head (Some h) (head_of t)
 close_head_same h f e v (Var x) = refl
 close_head_same h f e v (Int z) = refl
 close_head_same h f e v (Con (Name n)) = refl
@@ -144,10 +148,12 @@ module _ (p : Predicate) (a : Term) (is : HasPredicate p a) where
   leaf_fits e (With q r) k ts v w h = step (nat_lt k (length (ways q))) refl (leaf_fits e q k ts v w) (leaf_fits e r (k - length (ways q)) ts v w)
     where
       step : (b : Bool) → nat_lt k (length (ways q)) ≡ b
-          → (slice_get (ways q) k ≡ Some (length ts) → fits_head a (option_map (λ l. l.head) (leaf_from e q k ts)) ≡ has_predicate p (get_or (heads q) k (Var 0)))
+          → (slice_get (ways q) k ≡ Some (length ts) → fits_head a (option_map (λ l. l.head) (leaf_from e q k ts))
+          ≡ has_predicate p (get_or (heads q) k (Var 0)))
           → (slice_get (ways r) (k - length (ways q)) ≡ Some (length ts)
           → fits_head a (option_map (λ l. l.head) (leaf_from e r (k - length (ways q)) ts)) ≡ has_predicate p (get_or (heads r) (k - length (ways q)) (Var 0)))
-          → fits_head a (option_map (λ l. l.head) (if b then leaf_from e q k ts else leaf_from e r (k - length (ways q)) ts)) ≡ has_predicate p (get_or (heads q ++ heads r) k (Var 0))
+          → fits_head a (option_map (λ l. l.head) (if b then leaf_from e q k ts else leaf_from e r (k - length (ways q)) ts))
+          ≡ has_predicate p (get_or (heads q ++ heads r) k (Var 0))
       step true t i j =
           let l = ltb-true k (length (ways q)) t in
           let n = heads_ways q in
@@ -157,7 +163,8 @@ module _ (p : Predicate) (a : Term) (is : HasPredicate p a) where
           let n = heads_ways q in
           let m : length (ways q) + (k - length (ways q)) ≡ k = omega arith in
           let o : length (heads q) + (k - length (ways q)) ≡ k = omega arith in
-          j (sym (get_right (ways q) (ways r) k (k - length (ways q)) m) ∙ h) ∙ ap (has_predicate p) (sym (or_right (heads q) (heads r) k (k - length (ways q)) (Var 0) o))
+          j (sym (get_right (ways q) (ways r) k (k - length (ways q)) m) ∙ h)
+          ∙ ap (has_predicate p) (sym (or_right (heads q) (heads r) k (k - length (ways q)) (Var 0) o))
   leaf_fits e (Lolli g r) k ts v w h = added (Needs (close_form e g)) (leaf_from e r k ts) ∙ leaf_fits e r k ts v w h
   leaf_fits e (Imp g r) k ts v w h = added (NeedsFree (close_form e g)) (leaf_from e r k ts) ∙ leaf_fits e r k ts v w h
   leaf_fits e (Forall r) k [] v w h = no_zero (ways r) k h
@@ -226,7 +233,8 @@ head_free (Con (Bound n)) h f e = none_below n f
 head_free (Ap t u) h f e = head_free t h (and_left (places_below 0 t) (places_below 0 u) f) e
 
 -- the candidates among entries, by the predicate
-pub tries_by_predicate : (p : Predicate) (a : Term) → HasPredicate p a → (es : List (Entry Form)) → flat_map (entry_tries a) es ≡ flat_map (open_tries (has_predicate p)) es
+pub tries_by_predicate : (p : Predicate) (a : Term) → HasPredicate p a → (es : List (Entry Form))
+    → flat_map (entry_tries a) es ≡ flat_map (open_tries (has_predicate p)) es
 tries_by_predicate p a is [] = refl
 tries_by_predicate p a is (e ∷ es) = λ i. entry_tries_by p a is e i ++ tries_by_predicate p a is es i
 

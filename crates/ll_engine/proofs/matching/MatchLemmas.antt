@@ -1,11 +1,13 @@
 -- The candidates that can match: they are those of the goal without some that give nothing.
-use Rattle.std.proofs.Common.{◌≡◌, ℕ, zero, suc, ◌+◌, ◌<◌, Bool, true, false, List, [], ◌∷◌, ◌++◌, length, filter, refl, ap, sym, subst, ◌∙◌, arith, All, nat_eq, slice_index_or}
+use Rattle.std.proofs.Common.{◌≡◌, ℕ, zero, suc, ◌+◌, ◌<◌, Bool, true, false, List, [], ◌∷◌, ◌++◌, length, filter, refl, ap, sym, subst, ◌∙◌, arith, All}
+use Rattle.std.proofs.Common.{nat_eq, slice_index_or}
 use Rattle.std.specs.Prelude.{◌&&◌, ◌||◌, not, if◌then◌else◌, slice_get, Option, Some, None, option_map, flat_map}
 use Rattle.std.specs.List.{Contains, list_any}
 use Rattle.std.proofs.lemmas.Bool.{eqb-true, eq-eqb, ne_eqb}
 use Rattle.std.proofs.lemmas.List.Elements.{All-head, All-tail, All-cons, All-append}
 use Rattle.std.proofs.lemmas.Option.{slice_get_within, slice_get-get_or}
-use Rattle.ll_lists.proofs.CallerLemmas.{false_from_not as not_true, true_from_not as not_false, and_true_left as and_left, and_true_right as and_right, lt_zero as none_below}
+use Rattle.ll_lists.proofs.CallerLemmas.{false_from_not as not_true, true_from_not as not_false, and_true_left as and_left, and_true_right as and_right}
+use Rattle.ll_lists.proofs.CallerLemmas.{lt_zero as none_below}
 use Rattle.ll_bank.specs.declared.Head.{Head}
 use Rattle.ll_bank.specs.declared.Head.TheVariants.{Name, Eigen, Bound}
 use Rattle.ll_bank.specs.Term.{Term, Var, Int, Con, Ap, Env, close, head_of, arity, same_head}
@@ -33,18 +35,22 @@ thins_itself : (beside : Setting) (t : State) (cs : List Candidate) → Thins be
 thins_itself beside t [] = thin_end
 thins_itself beside t (c ∷ cs) = thin_keep (thins_itself beside t cs)
 
-thins_append : (beside : Setting) (t : State) (as' bs cs ds : List Candidate) → Thins beside t as' bs → Thins beside t cs ds → Thins beside t (as' ++ cs) (bs ++ ds)
+thins_append : (beside : Setting) (t : State) (as' bs cs ds : List Candidate) → Thins beside t as' bs → Thins beside t cs ds
+    → Thins beside t (as' ++ cs) (bs ++ ds)
 thins_append beside t [] [] cs ds thin_end h = h
 thins_append beside t (a ∷ as') [] cs ds g h = elim g [ ]
 thins_append beside t (a ∷ as') (b ∷ bs) cs ds (thin_keep g) h = thin_keep (thins_append beside t as' bs cs ds g h)
 thins_append beside t as' (b ∷ bs) cs ds (thin_skip e g) h = thin_skip e (thins_append beside t as' bs cs ds g h)
 
-thins_filter : (beside : Setting) (t : State) (p : Candidate → Bool) (cs : List Candidate) → All (λ c. p c ≡ false → attempt beside t c ≡ None) cs → Thins beside t (filter p cs) cs
+thins_filter : (beside : Setting) (t : State) (p : Candidate → Bool) (cs : List Candidate) → All (λ c. p c ≡ false → attempt beside t c ≡ None) cs
+    → Thins beside t (filter p cs) cs
 thins_filter beside t p [] h = thin_end
 thins_filter beside t p (c ∷ cs) h =
-    step (p c) (All-head (λ c. p c ≡ false → attempt beside t c ≡ None) c cs h) (thins_filter beside t p cs (All-tail (λ c. p c ≡ false → attempt beside t c ≡ None) c cs h))
+    step (p c) (All-head (λ c. p c ≡ false → attempt beside t c ≡ None) c cs h)
+    (thins_filter beside t p cs (All-tail (λ c. p c ≡ false → attempt beside t c ≡ None) c cs h))
   where
-    step : (b : Bool) → (b ≡ false → attempt beside t c ≡ None) → Thins beside t (filter p cs) cs → Thins beside t (if b then c ∷ filter p cs else filter p cs) (c ∷ cs)
+    step : (b : Bool) → (b ≡ false → attempt beside t c ≡ None) → Thins beside t (filter p cs) cs
+        → Thins beside t (if b then c ∷ filter p cs else filter p cs) (c ∷ cs)
     step true e g = thin_keep g
     step false e g = thin_skip (e refl) g
 
@@ -62,9 +68,11 @@ thins_contains beside t cs (d ∷ ds) (thin_skip e h) = let more = thins_contain
 
 -- ---- each entry is the one with its label
 
-other_labels : (e : Entry Form) (es : List (Entry Form)) → list_any (λ d. nat_eq e.label d.label) es ≡ false → All (λ (d : Entry Form). nat_eq e.label d.label ≡ false) es
+other_labels : (e : Entry Form) (es : List (Entry Form)) → list_any (λ d. nat_eq e.label d.label) es ≡ false
+    → All (λ (d : Entry Form). nat_eq e.label d.label ≡ false) es
 other_labels e [] h = λ i d l. absurd (omega arith)
-other_labels e (d ∷ es) h = All-cons (λ (x : Entry Form). nat_eq e.label x.label ≡ false) d es (left (nat_eq e.label d.label) h) (other_labels e es (right (nat_eq e.label d.label) h))
+other_labels e (d ∷ es) h = All-cons (λ (x : Entry Form). nat_eq e.label x.label ≡ false) d es (left (nat_eq e.label d.label) h)
+    (other_labels e es (right (nat_eq e.label d.label) h))
   where
     left : (b : Bool) → b || list_any (λ x. nat_eq e.label x.label) es ≡ false → b ≡ false
     left true h = cc
@@ -77,7 +85,8 @@ other_labels e (d ∷ es) h = All-cons (λ (x : Entry Form). nat_eq e.label x.la
 own_labels : (es : List (Entry Form)) → labels_differ es ≡ true → All (λ (d : Entry Form). entry_at es d.label ≡ Some d) es
 own_labels [] h = λ i d l. absurd (omega arith)
 own_labels (e ∷ es) h =
-    let others = other_labels e es (not_true (list_any (λ d. nat_eq e.label d.label) es) (and_left (not (list_any (λ d. nat_eq e.label d.label) es)) (labels_differ es) h)) in
+    let others = other_labels e es (not_true (list_any (λ d. nat_eq e.label d.label) es)
+    (and_left (not (list_any (λ d. nat_eq e.label d.label) es)) (labels_differ es) h)) in
     let rest = own_labels es (and_right (not (list_any (λ d. nat_eq e.label d.label) es)) (labels_differ es) h) in
     All-cons (λ (d : Entry Form). entry_at (e ∷ es) d.label ≡ Some d) e es (ap (λ b. if b then Some e else entry_at es e.label) (eq-eqb e.label e.label refl))
     (λ i d l. ap (λ b. if b then Some e else entry_at es (slice_index_or es i d).label) (others i d l) ∙ rest i d l)
@@ -96,7 +105,8 @@ module _ (beside : Setting) (s : State) (a : Term) (rest : List (Item Form)) (go
   entries_thin [] h = thin_end
   entries_thin (e ∷ es) h =
       thins_append beside s (entry_matches (first_of a) a e) (entry_tries a e) (flat_map (entry_matches (first_of a) a) es) (flat_map (entry_tries a) es)
-      (entry_thins e (All-head (λ (d : Entry Form). entry_at s.context d.label ≡ Some d) e es h)) (entries_thin es (All-tail (λ (d : Entry Form). entry_at s.context d.label ≡ Some d) e es h))
+      (entry_thins e (All-head (λ (d : Entry Form). entry_at s.context d.label ≡ Some d) e es h))
+      (entries_thin es (All-tail (λ (d : Entry Form). entry_at s.context d.label ≡ Some d) e es h))
 
 goal_thins : (beside : Setting) (s : State) (g : Form) (rest : List (Item Form)) → s.agenda ≡ Goal g ∷ rest → labels_differ s.context ≡ true
     → Thins beside s (goal_matches s.context g) (goal_tries s.context g)
@@ -151,7 +161,8 @@ leaves-named ms scope n ps Top q f = λ i d l. absurd (omega arith)
 leaves-named ms scope n ps One q f = λ i d l. absurd (omega arith)
 leaves-named ms scope n ps (Atom a) q f = All-cons (λ (l : StandingLeaf). IsNamed l.head) _ [] (head-named ms scope a q f.0 f.1) (λ i d l. absurd (omega arith))
 leaves-named ms scope n ps (With r s) q f =
-    All-append (λ (l : StandingLeaf). IsNamed l.head) (leaves_under n ps r) (leaves_under n ps s) (leaves-named ms scope n ps r q f.0) (leaves-named ms scope n ps s q f.1)
+    All-append (λ (l : StandingLeaf). IsNamed l.head) (leaves_under n ps r) (leaves_under n ps s) (leaves-named ms scope n ps r q f.0)
+    (leaves-named ms scope n ps s q f.1)
 leaves-named ms scope n ps (Tensor r s) q f = λ i d l. absurd (omega arith)
 leaves-named ms scope n ps (Plus r s) q f = λ i d l. absurd (omega arith)
 leaves-named ms scope n ps (Bang r) q f = λ i d l. absurd (omega arith)
@@ -196,17 +207,20 @@ module _ (names : ℕ) (ms : List ModuleTree) (a : Term) (un : IsUnnamed a) wher
           let all = leaves-named ms [] 0 [] r (λ i. refl) f in
           let inside = slice_get_within (standing_leaves r) k st.standing st.at in
           let named = all k st.standing inside in
-          let read : Some (slice_index_or (standing_leaves r) k st.standing) ≡ Some st.standing = sym (slice_get-get_or (standing_leaves r) k st.standing inside) ∙ st.at in
+          let read : Some (slice_index_or (standing_leaves r) k st.standing) ≡ Some st.standing =
+          sym (slice_get-get_or (standing_leaves r) k st.standing inside) ∙ st.at in
           let same : slice_index_or (standing_leaves r) k st.standing ≡ st.standing = cc in
           let name : head_of st.standing.head ≡ Some (Name named.0) = ap (λ x. head_of x.head) (sym same) ∙ named.1 in
-          let head : head_of l.head ≡ Some (Name named.0) = ap (λ x. head_of x.head) st.is ∙ close-named (env_under [] (vars_from 0 n)) st.standing.head named.0 name in
+          let head : head_of l.head ≡ Some (Name named.0) = ap (λ x. head_of x.head) st.is
+          ∙ close-named (env_under [] (vars_from 0 n)) st.standing.head named.0 name in
           ap (λ h. same_head (head_of a) h && nat_eq (arity a) (arity l.head)) head
           ∙ ap (λ b. b && nat_eq (arity a) (arity l.head)) (never-same (head_of a) named.0 (un named.0))
 
   no_leaf_tries : (e : Entry Form) → Fits (given ms 0) ClauseSide [] e.clause → (k : ℕ) (ns : List ℕ) → leaf_tries a e k ns ≡ []
   no_leaf_tries e f k [] = refl
   no_leaf_tries e f k (n ∷ ns) =
-      ap (λ b. if b then record { label = e.label; leaf = k } ∷ leaf_tries a e (suc k) ns else leaf_tries a e (suc k) ns) (unfit e.clause f k n) ∙ no_leaf_tries e f (suc k) ns
+      ap (λ b. if b then record { label = e.label; leaf = k } ∷ leaf_tries a e (suc k) ns else leaf_tries a e (suc k) ns) (unfit e.clause f k n)
+      ∙ no_leaf_tries e f (suc k) ns
 
   no_entry_tries : (e : Entry Form) → Fits (given ms 0) ClauseSide [] e.clause → entry_tries a e ≡ []
   no_entry_tries e f = go (is_open e)
@@ -216,13 +230,16 @@ module _ (names : ℕ) (ms : List ModuleTree) (a : Term) (un : IsUnnamed a) wher
       go false = refl
 
   -- an atom whose head is no name has no candidate among the program's clauses
-  pub no_program : (first : First) (n : ℕ) (cs : List ClauseTree) (es : List (Entry Form)) → AreClauses names ms [] cs → AreOfProgram n cs es → flat_map (entry_matches first a) es ≡ []
+  pub no_program : (first : First) (n : ℕ) (cs : List ClauseTree) (es : List (Entry Form)) → AreClauses names ms [] cs → AreOfProgram n cs es
+      → flat_map (entry_matches first a) es ≡ []
   no_program first n [] [] v h = refl
   no_program first n [] (e ∷ es) v h = absurd h
   no_program first n (c ∷ cs) [] v h = absurd h
   no_program first n (c ∷ cs) (e ∷ es) v h =
-      let f : Fits (given ms 0) ClauseSide [] e.clause = subst (Fits (given ms 0) ClauseSide []) (sym h.2) (fits_of_formula (given ms 0) ClauseSide [] c.form v.0) in
-      ap (λ xs. filter (λ d. not (signs_clash first (leaf_first e.clause d.leaf))) xs ++ flat_map (entry_matches first a) es) (no_entry_tries e f) ∙ no_program first (suc n) cs es v.2 h.3
+      let f : Fits (given ms 0) ClauseSide [] e.clause = subst (Fits (given ms 0) ClauseSide []) (sym h.2)
+      (fits_of_formula (given ms 0) ClauseSide [] c.form v.0) in
+      ap (λ xs. filter (λ d. not (signs_clash first (leaf_first e.clause d.leaf))) xs ++ flat_map (entry_matches first a) es) (no_entry_tries e f)
+      ∙ no_program first (suc n) cs es v.2 h.3
 
 -- ---- the entry of a program's clause, by its place
 
@@ -232,7 +249,8 @@ entry_found e es label h = ap (λ b. if b then Some e else entry_at es label) (e
 entry_further : (e : Entry Form) (es : List (Entry Form)) (label : ℕ) → e.label < label → entry_at (e ∷ es) label ≡ entry_at es label
 entry_further e es label h = ap (λ b. if b then Some e else entry_at es label) (ne_eqb e.label label (λ w. absurd (omega arith)))
 
-pub program_entry : (n : ℕ) (cs : List ClauseTree) (es : List (Entry Form)) (k label : ℕ) (e : Entry Form) → AreOfProgram n cs es → label ≡ n + k → slice_get es k ≡ Some e → entry_at es label ≡ Some e
+pub program_entry : (n : ℕ) (cs : List ClauseTree) (es : List (Entry Form)) (k label : ℕ) (e : Entry Form) → AreOfProgram n cs es → label ≡ n + k
+    → slice_get es k ≡ Some e → entry_at es label ≡ Some e
 program_entry n [] [] k label e h l g = cc
 program_entry n [] (d ∷ es) k label e h l g = absurd h
 program_entry n (c ∷ cs) [] k label e h l g = absurd h

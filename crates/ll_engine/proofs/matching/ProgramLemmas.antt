@@ -1,5 +1,6 @@
 -- The candidates among the program's clauses, as the index lists them.
-use Rattle.std.proofs.Common.{◌≡◌, ℕ, zero, suc, ◌+◌, ◌<◌, Bool, true, false, List, [], ◌∷◌, ◌++◌, length, map, filter, refl, ap, sym, ◌∙◌, arith, append_assoc, drop}
+use Rattle.std.proofs.Common.{◌≡◌, ℕ, zero, suc, ◌+◌, ◌<◌, Bool, true, false, List, [], ◌∷◌, ◌++◌, length, map, filter, refl, ap, sym, ◌∙◌, arith}
+use Rattle.std.proofs.Common.{append_assoc, drop}
 use Rattle.std.specs.Prelude.{if◌then◌else◌, slice_get, Some, option_map, flat_map}
 use Rattle.std.proofs.lemmas.List.{append-nil, length-map, length-drop}
 use Rattle.std.proofs.lemmas.Option.{slice_get-map, slice_get_within}
@@ -25,9 +26,11 @@ use Rattle.ll_engine.specs.Matches.{shown_context}
 use Rattle.ll_engine.proofs.matching.MatchLemmas.{program_entry}
 
 -- those that the index lists for an atom, less those of entries that can't be picked, are those that can match
-pub program_begins : (first : First) (a : Term) (cs : List ClauseTree) (es : List (Entry Form)) (found ls : List Candidate) → AreOfProgram 0 cs es → ls ≡ program_matches first a cs
+pub program_begins : (first : First) (a : Term) (cs : List ClauseTree) (es : List (Entry Form)) (found ls : List Candidate) → AreOfProgram 0 cs es
+    → ls ≡ program_matches first a cs
     → found ++ filter (λ c. is_open_at es c.label) ls ≡ found ++ flat_map (entry_matches first a) es
-program_begins first a cs es found ls of e = ap (λ xs. found ++ filter (λ (c : Candidate). is_open_at es c.label) xs) e ∙ ap (λ xs. found ++ xs) (sym (matches-open first a 0 cs es of))
+program_begins first a cs es found ls of e = ap (λ xs. found ++ filter (λ (c : Candidate). is_open_at es c.label) xs) e
+    ∙ ap (λ xs. found ++ xs) (sym (matches-open first a 0 cs es of))
 
 module _ (es : List (Entry Form)) (goal found : List Candidate) (l : Leaf) (ls rest : List Leaf) (next : ls ≡ l ∷ rest)
     (so_far : found ++ filter (λ c. is_open_at es c.label) (map (λ (x : Leaf). x.candidate) ls) ≡ goal) where
@@ -76,8 +79,10 @@ module _ (m : Parts) (loaded : ℕ) (of : AreOfProgram 0 m.problem.clauses (drop
       omega arith
 
   -- and can be picked where the label's entry can
-  pub leaf_open : (label : ℕ) (e : Entry FormAt) → slice_get m.resources.entries (loaded + label) ≡ Some e → is_open_at (drop loaded (shown_context m)) label ≡ is_open e
+  pub leaf_open : (label : ℕ) (e : Entry FormAt) → slice_get m.resources.entries (loaded + label) ≡ Some e
+      → is_open_at (drop loaded (shown_context m)) label ≡ is_open e
   leaf_open label e h =
       let here : slice_get (drop loaded (shown_context m)) label ≡ Some (shown_entry m.bank m.bound e) =
-      get-drop loaded label (shown_context m) ∙ (slice_get-map (shown_entry m.bank m.bound) m.resources.entries (loaded + label) ∙ ap (option_map (shown_entry m.bank m.bound)) h) in
+      get-drop loaded label (shown_context m) ∙ (slice_get-map (shown_entry m.bank m.bound) m.resources.entries (loaded + label)
+      ∙ ap (option_map (shown_entry m.bank m.bound)) h) in
       ap is_open_entry (program_entry 0 m.problem.clauses (drop loaded (shown_context m)) label label (shown_entry m.bank m.bound e) of (omega arith) here)

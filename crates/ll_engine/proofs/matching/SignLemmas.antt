@@ -35,7 +35,8 @@ module _ (nodes : Nodes) (t : Table) (tb : IsTable nodes t) (at end : At) (same 
       → sign_of (sub (found nodes t) (term_tree nodes at.0)) ≡ name_sign (Some h) (length args)
   sign_app h args e =
       ap sign_of read_end
-      ∙ (spine_sign (term_tree nodes end.0) (ap is_spine e ∙ is_spine-apply (Con h) (term_trees nodes args) refl) ∙ sign_of-read nodes (term_tree nodes end.0) h args e)
+      ∙ (spine_sign (term_tree nodes end.0) (ap is_spine e ∙ is_spine-apply (Con h) (term_trees nodes args) refl)
+      ∙ sign_of-read nodes (term_tree nodes end.0) h args e)
 
   pub sign_var : (x : ℕ) → term_tree nodes end.0 ≡ Var x → IsFree t (term_tree nodes end.0) → sign_of (sub (found nodes t) (term_tree nodes at.0)) ≡ Open
   sign_var x e free = ap sign_of (read_end ∙ (ap (sub (found nodes t)) e ∙ found-free nodes t x (free x e)))
@@ -65,7 +66,8 @@ module _ (s : ℕ → Term) where
   first_none nodes t h args e n = ap (λ u. first_of (sub s u)) (e ∙ ap (λ as'. app h (term_trees nodes as')) n)
 
   -- the first of several
-  pub first_some : (nodes : Nodes) (t : Term) (h : Head) (a : At) (args : List At) → t ≡ app h (term_trees nodes (a ∷ args)) → first_of (sub s t) ≡ sign_of (sub s (term_tree nodes a.0))
+  pub first_some : (nodes : Nodes) (t : Term) (h : Head) (a : At) (args : List At) → t ≡ app h (term_trees nodes (a ∷ args))
+      → first_of (sub s t) ≡ sign_of (sub s (term_tree nodes a.0))
   first_some nodes t h a args e =
       ap (λ u. first_of (sub s u)) e
       ∙ ap sign_if_some
@@ -77,7 +79,8 @@ below-apply : (n : ℕ) (f : Term) (ts : List Term) → vars_below n (apply f ts
 below-apply n f [] e = e
 below-apply n f (t ∷ ts) e = and_left (vars_below n f) (vars_below n t) (below-apply n (Ap f t) ts e)
 
-pub first_place : (nodes : Nodes) (t : Table) (u : Term) (h : Head) (a : At) (args : List At) → IsTable nodes t → u ≡ app h (term_trees nodes (a ∷ args)) → HasTerm nodes a.0
+pub first_place : (nodes : Nodes) (t : Table) (u : Term) (h : Head) (a : At) (args : List At) → IsTable nodes t → u ≡ app h (term_trees nodes (a ∷ args))
+    → HasTerm nodes a.0
     → vars_below (count t) (sub (found nodes t) u) ≡ true → IsPlaceOf nodes t a.0
 first_place nodes t u h a args tb e inside below =
     place-below nodes t a.0 tb inside
@@ -100,7 +103,8 @@ spine_of_predicate p (Ap f a) e = go (head_of f) refl (and_left (same_head (Some
     go (Some h) q w = spine_of_head f h q
 
 -- the first of several arguments, as a place of a list
-pub first_at_place : (nodes : Nodes) (t : Table) (u : Term) (h : Head) (args : List At) (d : At) (n : ℕ) → IsTable nodes t → u ≡ app h (term_trees nodes args) → All (λ (a : At). a.0 < n) args
+pub first_at_place : (nodes : Nodes) (t : Table) (u : Term) (h : Head) (args : List At) (d : At) (n : ℕ) → IsTable nodes t → u ≡ app h (term_trees nodes args)
+    → All (λ (a : At). a.0 < n) args
     → n < length nodes.terms → 0 < length args → vars_below (count t) (sub (found nodes t) u) ≡ true → IsPlaceOf nodes t (slice_index_or args 0 d).0
 first_at_place nodes t u h [] d n tb e all inside some below = absurd (omega arith)
 first_at_place nodes t u h (a ∷ args) d n tb e all inside some below =

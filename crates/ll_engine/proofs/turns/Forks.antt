@@ -16,7 +16,8 @@ use Rattle.ll_laws.specs.Leaf.{ways, leaf}
 use Rattle.ll_laws.specs.Module.{Setting, ModuleTree}
 use Rattle.ll_laws.specs.Settle.{Item, Goal, Front, settle_front}
 use Rattle.ll_laws.specs.State.{State, settle, front_of, with_front}
-use Rattle.ll_laws.specs.Attempt.{tries, agenda_tries, attempt, attempt_agenda, attempt_goal, goal_tries, take_entry, take_way, take_leaf, load_module, take_value, stepped, entry_at, vars_from}
+use Rattle.ll_laws.specs.Attempt.{tries, agenda_tries, attempt, attempt_agenda, attempt_goal, goal_tries, take_entry, take_way, take_leaf, load_module}
+use Rattle.ll_laws.specs.Attempt.{take_value, stepped, entry_at, vars_from}
 use Rattle.ll_laws.specs.Number.{value_of, holds}
 use Rattle.ll_laws.specs.Search.{forks, forks_settled, forks_after, count_fork, gives_some, later, same_candidate, candidate_of}
 use Rattle.ll_engine.specs.Owed.{Thins, thin_keep, thin_skip}
@@ -83,7 +84,8 @@ pub record Stepped (t u : State) (c : Candidate) : Type 0 where
 by_plain : (s u v : State) (c : Candidate) → Some v ≡ Some u → v.steps ≡ s.steps ++ Plain ∷ [] → candidate_of Plain ≡ c → Stepped s u c
 by_plain s u v c e h k = let e1 : v ≡ u = cc in record { step = Plain; steps = sym (ap (λ x. x.steps) e1) ∙ h; is = k }
 
-by_side : (s u : State) (items : List (Item Form)) (step : Step) → Some (stepped s items step) ≡ Some u → {c : Candidate} → candidate_of step ≡ c → Stepped s u c
+by_side : (s u : State) (items : List (Item Form)) (step : Step) → Some (stepped s items step) ≡ Some u → {c : Candidate} → candidate_of step ≡ c
+    → Stepped s u c
 by_side s u items step e k = let e1 : stepped s items step ≡ u = cc in record { step = step; steps = sym (ap (λ x. x.steps) e1); is = k }
 
 none_end : {A : Type 0} (pre post : List A) (c : A) → [] ≡ pre ++ c ∷ post → ⊥

@@ -48,20 +48,26 @@ number_none : (f : State → ℕ) (o : Option State) → o ≡ None → number_f
 number_none f None e = refl
 number_none f (Some u) e = cc
 
-pub tried_events_thins : (beside : Setting) (t : State) (n : ℕ) (cs ds : List Candidate) → Thins beside t cs ds → tried_events beside n t cs ≡ tried_events beside n t ds
+pub tried_events_thins : (beside : Setting) (t : State) (n : ℕ) (cs ds : List Candidate) → Thins beside t cs ds
+    → tried_events beside n t cs ≡ tried_events beside n t ds
 tried_events_thins beside t n [] [] thin_end = refl
 tried_events_thins beside t n (c ∷ cs) [] h = elim h [ ]
-tried_events_thins beside t n (c ∷ cs) (d ∷ ds) (thin_keep h) = ap (λ x. events_from (events beside n) (attempt beside t c) ++ x) (tried_events_thins beside t n cs ds h)
-tried_events_thins beside t n cs (d ∷ ds) (thin_skip e h) = tried_events_thins beside t n cs ds h ∙ from_none (events beside n) (attempt beside t d) (tried_events beside n t ds) e
+tried_events_thins beside t n (c ∷ cs) (d ∷ ds) (thin_keep h) =
+    ap (λ x. events_from (events beside n) (attempt beside t c) ++ x) (tried_events_thins beside t n cs ds h)
+tried_events_thins beside t n cs (d ∷ ds) (thin_skip e h) = tried_events_thins beside t n cs ds h
+    ∙ from_none (events beside n) (attempt beside t d) (tried_events beside n t ds) e
 
-pub tried_cost_thins : (beside : Setting) (t : State) (n : ℕ) (cs ds : List Candidate) → Thins beside t cs ds → tried_cost beside n t cs ≡ tried_cost beside n t ds
+pub tried_cost_thins : (beside : Setting) (t : State) (n : ℕ) (cs ds : List Candidate) → Thins beside t cs ds
+    → tried_cost beside n t cs ≡ tried_cost beside n t ds
 tried_cost_thins beside t n [] [] thin_end = refl
 tried_cost_thins beside t n (c ∷ cs) [] h = elim h [ ]
-tried_cost_thins beside t n (c ∷ cs) (d ∷ ds) (thin_keep h) = ap (λ x. number_from (cost beside n) (attempt beside t c) + x) (tried_cost_thins beside t n cs ds h)
+tried_cost_thins beside t n (c ∷ cs) (d ∷ ds) (thin_keep h) =
+    ap (λ x. number_from (cost beside n) (attempt beside t c) + x) (tried_cost_thins beside t n cs ds h)
 tried_cost_thins beside t n cs (d ∷ ds) (thin_skip e h) =
     let e1 = tried_cost_thins beside t n cs ds h in let e2 = number_none (cost beside n) (attempt beside t d) e in omega arith
 
-pub work_by_thins : (beside : Setting) (t : State) (f : State → ℕ) (cs ds : List Candidate) → Thins beside t cs ds → work_by f beside t cs ≤ work_by f beside t ds
+pub work_by_thins : (beside : Setting) (t : State) (f : State → ℕ) (cs ds : List Candidate) → Thins beside t cs ds
+    → work_by f beside t cs ≤ work_by f beside t ds
 work_by_thins beside t f [] [] thin_end = omega arith
 work_by_thins beside t f (c ∷ cs) [] h = elim h [ ]
 work_by_thins beside t f (c ∷ cs) (d ∷ ds) (thin_keep h) = let e1 = work_by_thins beside t f cs ds h in omega arith
@@ -82,14 +88,16 @@ pub gives_thins : (beside : Setting) (t : State) (cs ds : List Candidate) → Th
 gives_thins beside t [] [] thin_end = refl
 gives_thins beside t (c ∷ cs) [] h = elim h [ ]
 gives_thins beside t (c ∷ cs) (d ∷ ds) (thin_keep h) =
-    list_any_cons (λ c. is_some (attempt beside t c)) c ds ∙ (ap (λ x. is_some (attempt beside t c) || x) (gives_thins beside t cs ds h) ∙ sym (list_any_cons (λ c. is_some (attempt beside t c)) c cs))
+    list_any_cons (λ c. is_some (attempt beside t c)) c ds ∙
+    (ap (λ x. is_some (attempt beside t c) || x) (gives_thins beside t cs ds h) ∙ sym (list_any_cons (λ c. is_some (attempt beside t c)) c cs))
 gives_thins beside t cs (d ∷ ds) (thin_skip e h) =
     list_any_cons (λ c. is_some (attempt beside t c)) d ds
     ∙ (or_false (is_some (attempt beside t d)) (gives_some beside t ds) (some_none (attempt beside t d) e) ∙ gives_thins beside t cs ds h)
 
 -- one point more
 
-pub owed_put : (beside : Setting) (t : State) (n : ℕ) (cs : List Candidate) (ps : List Point) → owed beside (put_point t n cs ps) ≡ tried_events beside n t cs ++ owed beside ps
+pub owed_put : (beside : Setting) (t : State) (n : ℕ) (cs : List Candidate) (ps : List Point)
+    → owed beside (put_point t n cs ps) ≡ tried_events beside n t cs ++ owed beside ps
 owed_put beside t n [] ps = refl
 owed_put beside t n (c ∷ cs) ps = refl
 

@@ -22,7 +22,8 @@ use Rattle.ll_engine.specs.Seen.{Point, Spine}
 use Rattle.ll_engine.specs.Owed.{Thins, one_if_some, open_points, put_point}
 use Rattle.ll_engine.specs.Matches.{matches}
 use Rattle.ll_engine.specs.Turned.{has_none, Settles, Gave, Chose, Expands, Retries, RetriesAt}
-use Rattle.ll_engine.specs.Pointed.{Held, held_of, helds, Rises, AreMarks, point_of, points_of, spine_at, AreTries, IsOpen, IsKept, AreKept, IsSoundAt, KeepsKept, Puts}
+use Rattle.ll_engine.specs.Pointed.{Held, held_of, helds, Rises, AreMarks, point_of, points_of, spine_at, AreTries, IsOpen, IsKept, AreKept, IsSoundAt}
+use Rattle.ll_engine.specs.Pointed.{KeepsKept, Puts}
 use Rattle.ll_engine.proofs.machine.Labels.{tries_distinct}
 use Rattle.ll_engine.proofs.matching.MatchLemmas.{matches_thin, thins_contains}
 
@@ -106,7 +107,8 @@ same_points o p old new ps qs points e =
 
 pub chose_none : (o : Option State) (p : ProblemTree) (m : Parts) (ps : List Held) (cs : List Candidate) → cs ≡ []
     → Chose (spine_at o p m ps) (state_of m) (m.left - 1) (reverse cs) (points_of ps) false (spine_at o p m ps)
-chose_none o p m ps cs e = subst (λ (xs : List Candidate). Chose (spine_at o p m ps) (state_of m) (m.left - 1) (reverse xs) (points_of ps) false (spine_at o p m ps)) (sym e) (refl, refl)
+chose_none o p m ps cs e = subst (λ (xs : List Candidate). Chose (spine_at o p m ps) (state_of m) (m.left - 1) (reverse xs) (points_of ps) false
+    (spine_at o p m ps)) (sym e) (refl, refl)
 
 gave : (o : Option State) (p : ProblemTree) (old new : Parts) (qs : List Held) (c : Candidate) (ok : Bool) → old.problem ≡ p → Attempts old c new ok
     → Gave (attempt (setting_of p) (state_of old) c) (old.left - 1) ok (spine_at o p new qs)
@@ -114,7 +116,8 @@ gave o p old new qs c true e h =
     (subst (λ (q : ProblemTree). attempt (setting_of q) (state_of old) c ≡ Some (state_of new)) e h.gives, let l = h.left in omega arith)
 gave o p old new qs c false e h = subst (λ (q : ProblemTree). attempt (setting_of q) (state_of old) c ≡ None) e h
 
-pub chose_some : (o : Option State) (p : ProblemTree) (old new : Parts) (ps qs : List Held) (cs rest : List Candidate) (c : Candidate) (ok : Bool) → cs ≡ rest ++ c ∷ []
+pub chose_some : (o : Option State) (p : ProblemTree) (old new : Parts) (ps qs : List Held) (cs rest : List Candidate) (c : Candidate) (ok : Bool)
+    → cs ≡ rest ++ c ∷ []
     → old.problem ≡ p → Puts old rest ps qs → Attempts old c new ok
     → Chose (spine_at o p old ps) (state_of old) (old.left - 1) (reverse cs) (points_of ps) ok (spine_at o p new qs)
 chose_some o p old new ps qs cs rest c ok e f u h =
@@ -136,13 +139,15 @@ expands o p old ps z ds ok f l e h =
       candidates = reverse ds;
       left = old.left - 1;
       left_is = omega arith;
-      thins = subst (λ (xs : List Candidate). Thins (setting_of p) (state_of old) xs (tries (state_of old))) (sym e) (matches_thin (setting_of p) (state_of old) f.consistent.labels_differ);
+      thins = subst (λ (xs : List Candidate). Thins (setting_of p) (state_of old) xs (tries (state_of old))) (sym e)
+          (matches_thin (setting_of p) (state_of old) f.consistent.labels_differ);
       distinct = tries_distinct (state_of old) f.consistent.labels_differ;
       chose = h;
     }
 
 -- there is no candidate
-pub expands_none : (o : Option State) (p : ProblemTree) (old : Parts) (ps : List Held) (cs : List Candidate) → Fits old → 0 < old.left → cs ≡ matches (state_of old) → cs ≡ []
+pub expands_none : (o : Option State) (p : ProblemTree) (old : Parts) (ps : List Held) (cs : List Candidate) → Fits old → 0 < old.left
+    → cs ≡ matches (state_of old) → cs ≡ []
     → Expands (spine_at o p old ps) false (spine_at o p old ps)
 expands_none o p old ps cs f l e n = expands o p old ps (spine_at o p old ps) [] false f l (sym n ∙ e) (chose_none o p old ps [] refl)
 
@@ -151,7 +156,8 @@ pub first_last : (cs ds : List Candidate) (c : Candidate) → cs ≡ c ∷ rever
 first_last cs ds c e = newest ds c ∙ sym e
 
 -- another present state, and other points, are as good before a choice
-chose_same : (o : Option State) (p : ProblemTree) (m n : Parts) (ps qs : List Held) (t : State) (k : ℕ) (cs : List Candidate) (points : List Point) (ok : Bool) (z : Spine)
+chose_same : (o : Option State) (p : ProblemTree) (m n : Parts) (ps qs : List Held) (t : State) (k : ℕ) (cs : List Candidate) (points : List Point) (ok : Bool)
+    (z : Spine)
     → Chose (spine_at o p m ps) t k cs points ok z → Chose (spine_at o p n qs) t k cs points ok z
 chose_same o p m n ps qs t k [] points ok z h = h
 chose_same o p m n ps qs t k (c ∷ cs) points ok z h = h
@@ -160,7 +166,8 @@ pub retries : (o : Option State) (p : ProblemTree) (old new : Parts) (ps rest qs
     → Chose (spine_at o p k.parts rest) (state_of k.parts) (k.parts.left - 1) (reverse k.untried) (points_of rest) ok (spine_at o p new qs)
     → Retries (spine_at o p old ps) ok (spine_at o p new qs)
 retries o p old new ps rest qs k ok e h =
-    subst (λ (xs : List Point). RetriesAt (spine_at o p old ps) xs ok (spine_at o p new qs)) (sym (ap (λ xs. points_of xs) e ∙ ap (λ xs. map point_of xs) (newest rest k)))
+    subst (λ (xs : List Point). RetriesAt (spine_at o p old ps) xs ok (spine_at o p new qs))
+    (sym (ap (λ xs. points_of xs) e ∙ ap (λ xs. map point_of xs) (newest rest k)))
     (chose_same o p k.parts old rest ps _ _ _ _ ok (spine_at o p new qs) h)
 
 pub over : (ps : List Held) (b : Bool) → b ≡ eqb (length ps) 0 → b ≡ has_none (points_of ps)
@@ -195,7 +202,8 @@ pub popped_open : (p : ProblemTree) (ps qs : List Held) (k : Held) → ps ≡ qs
 popped_open p ps qs k e a = (All-pop (IsKept p) ps qs (Some k) e a).1.opened
 
 -- the newest point was gone back to
-pub retries_by : (o : Option State) (p : ProblemTree) (old mid : Parts) (ps rest more : List Held) (k : Held) (ok : Bool) (z : Spine) → ps ≡ rest ++ k ∷ [] → mid ≡ k.parts → more ≡ rest
+pub retries_by : (o : Option State) (p : ProblemTree) (old mid : Parts) (ps rest more : List Held) (k : Held) (ok : Bool) (z : Spine) → ps ≡ rest ++ k ∷ []
+    → mid ≡ k.parts → more ≡ rest
     → Chose (spine_at o p mid more) (state_of mid) (mid.left - 1) (reverse k.untried) (points_of more) ok z → Retries (spine_at o p old ps) ok z
 retries_by o p old mid ps rest more k ok z e same others h =
     let moved : Chose (spine_at o p k.parts rest) (state_of k.parts) (k.parts.left - 1) (reverse k.untried) (points_of rest) ok z =
@@ -236,15 +244,18 @@ marks_kept old new ps h a =
     record { good = All-weaker (λ (k : Kept). IsGood k.mark old) (λ (k : Kept). IsGood k.mark new) (λ k g. (h k.mark g).good) ps a.good; rise = a.rise }
 
 -- the way back to the newest one
-pub helds_undone : (old new : Machine) (last : ChoiceMark) (ps : List Kept) → KeepsMarksTo last old new → All (λ k. IsGood k.mark old) ps → All (λ k. IsBefore k.mark last) ps
+pub helds_undone : (old new : Machine) (last : ChoiceMark) (ps : List Kept) → KeepsMarksTo last old new → All (λ k. IsGood k.mark old) ps
+    → All (λ k. IsBefore k.mark last) ps
     → helds new ps ≡ helds old ps
 helds_undone old new last [] h g b = refl
 helds_undone old new last (k ∷ ps) h g b =
     let q = h k.mark (All-head (λ (j : Kept). IsBefore j.mark last) k ps b) (All-head (λ (j : Kept). IsGood j.mark old) k ps g) in
     let make : Parts → Held = λ p. record { parts = p; untried = k.untried.items } in
-    λ i. make (q.parts i) ∷ helds_undone old new last ps h (All-tail (λ (j : Kept). IsGood j.mark old) k ps g) (All-tail (λ (j : Kept). IsBefore j.mark last) k ps b) i
+    λ i. make (q.parts i) ∷ helds_undone old new last ps h (All-tail (λ (j : Kept). IsGood j.mark old) k ps g)
+    (All-tail (λ (j : Kept). IsBefore j.mark last) k ps b) i
 
-pub marks_undone : (old new : Machine) (last : ChoiceMark) (ps : List Kept) → KeepsMarksTo last old new → All (λ k. IsGood k.mark old) ps → All (λ k. IsBefore k.mark last) ps
+pub marks_undone : (old new : Machine) (last : ChoiceMark) (ps : List Kept) → KeepsMarksTo last old new → All (λ k. IsGood k.mark old) ps
+    → All (λ k. IsBefore k.mark last) ps
     → All (λ k. IsGood k.mark new) ps
 marks_undone old new last [] h g b = λ i d l. absurd (omega arith)
 marks_undone old new last (k ∷ ps) h g b =

@@ -71,14 +71,17 @@ healthy_begins f k false z h =
     let e : z.first ≡ None = h.first ∙ h.gives in
     subst (λ (o : Option State). HealthyFrom o 0 false z) (sym e) (refl, h.points)
 
-owing_begins : (z : Spine) (p : ProblemTree) (o : Option State) (n : ℕ) (b : Bool) → z.problem ≡ p → z.first ≡ o → Gave o n b z → z.points ≡ [] → owing z b 0 0 false ≡ beginning p n o
+owing_begins : (z : Spine) (p : ProblemTree) (o : Option State) (n : ℕ) (b : Bool) → z.problem ≡ p → z.first ≡ o → Gave o n b z → z.points ≡ []
+    → owing z b 0 0 false ≡ beginning p n o
 owing_begins z p o n true e1 e2 g e3 =
     let beside = setting_of z.problem in
     let es : events_from (events (setting_of p) n) o ≡ events beside z.left z.now = rw (g.0, g.1, e1) refl in
     let cs : number_from (cost (setting_of p) n) o ≡ cost beside z.left z.now = rw (g.0, g.1, e1) refl in
     let ws : number_from (work (setting_of p) n) o ≡ work beside z.left z.now = rw (g.0, g.1, e1) refl in
-    let ce : cost beside z.left z.now + cost_left beside z.points ≡ number_from (cost (setting_of p) n) o = let a = ap (λ (ps : List Point). cost_left beside ps) e3 in omega (arith, a, cs) in
-    let we : work beside z.left z.now + work_left beside z.points ≡ number_from (work (setting_of p) n) o = let a = ap (λ (ps : List Point). work_left beside ps) e3 in omega (arith, a, ws) in
+    let ce : cost beside z.left z.now + cost_left beside z.points ≡ number_from (cost (setting_of p) n) o = let a =
+    ap (λ (ps : List Point). cost_left beside ps) e3 in omega (arith, a, cs) in
+    let we : work beside z.left z.now + work_left beside z.points ≡ number_from (work (setting_of p) n) o = let a =
+    ap (λ (ps : List Point). work_left beside ps) e3 in omega (arith, a, ws) in
     let ee : events beside z.left z.now ++ owed beside z.points ≡ events_from (events (setting_of p) n) o =
     ap (λ (ps : List Point). events beside z.left z.now ++ owed beside ps) e3 ∙ (append_nil (events beside z.left z.now) ∙ sym es) in
     λ i. record { problem = e1 i; events = ee i; cost = ce i; points = open_points (e3 i); first = e2 i; splits = 0; work = we i; made = 0; spent = false }
@@ -87,8 +90,10 @@ owing_begins z p o n false e1 e2 g e3 =
     let es : events_from (events (setting_of p) n) o ≡ [] = rw g refl in
     let cs : number_from (cost (setting_of p) n) o ≡ 0 = rw g refl in
     let ws : number_from (work (setting_of p) n) o ≡ 0 = rw g refl in
-    let ce : 0 + cost_left beside z.points ≡ number_from (cost (setting_of p) n) o = let a = ap (λ (ps : List Point). cost_left beside ps) e3 in omega (arith, a, cs) in
-    let we : 0 + work_left beside z.points ≡ number_from (work (setting_of p) n) o = let a = ap (λ (ps : List Point). work_left beside ps) e3 in omega (arith, a, ws) in
+    let ce : 0 + cost_left beside z.points ≡ number_from (cost (setting_of p) n) o = let a = ap (λ (ps : List Point). cost_left beside ps) e3 in
+    omega (arith, a, cs) in
+    let we : 0 + work_left beside z.points ≡ number_from (work (setting_of p) n) o = let a = ap (λ (ps : List Point). work_left beside ps) e3 in
+    omega (arith, a, ws) in
     let ee : owed beside z.points ≡ events_from (events (setting_of p) n) o = ap (λ (ps : List Point). owed beside ps) e3 ∙ sym es in
     λ i. record { problem = e1 i; events = ee i; cost = ce i; points = open_points (e3 i); first = e2 i; splits = 0; work = we i; made = 0; spent = false }
 
@@ -101,8 +106,10 @@ resumes_with f k b z h = owing_begins z f.problem (first_in f k) (left_by f.star
 
 -- what the alternative owes
 
-owes_at : (beside : Setting) (n : ℕ) (t : State) (cs : List Candidate) (k : ℕ) (owes : Owed Event) → slice_get (map (candidate_owes beside n t) cs) k ≡ Some owes
-    → (events_from (events beside n) (option_and_then (attempt beside t) (slice_get cs k)) ≡ owes.events) × (number_from (cost beside n) (option_and_then (attempt beside t) (slice_get cs k)) ≡ owes.cost)
+owes_at : (beside : Setting) (n : ℕ) (t : State) (cs : List Candidate) (k : ℕ) (owes : Owed Event)
+    → slice_get (map (candidate_owes beside n t) cs) k ≡ Some owes
+    → (events_from (events beside n) (option_and_then (attempt beside t) (slice_get cs k)) ≡ owes.events)
+    × (number_from (cost beside n) (option_and_then (attempt beside t) (slice_get cs k)) ≡ owes.cost)
 owes_at beside n t [] k owes e = cc
 owes_at beside n t (c ∷ cs) zero owes e =
     let same : candidate_owes beside n t c ≡ owes = cc in (ap (λ (o : Owed Event). o.events) same, ap (λ (o : Owed Event). o.cost) same)
@@ -112,7 +119,8 @@ the_whole : (p : ProblemTree) (k : ℕ) (owes : Owed Event) → slice_get (probl
 the_whole p zero owes e = cc
 the_whole p (suc k) owes e = cc
 
-resumes_by : (f : FrozenSight) (k : ℕ) (s : Bool) (owes : Owed Event) → slice_get (alternatives_by s f) k ≡ Some owes → Resumes f.problem owes (resumed_by s f k)
+resumes_by : (f : FrozenSight) (k : ℕ) (s : Bool) (owes : Owed Event) → slice_get (alternatives_by s f) k ≡ Some owes
+    → Resumes f.problem owes (resumed_by s f k)
 resumes_by f k true owes e =
     let same = the_whole f.problem k owes e in
     record { problem = refl; events = ap (λ (o : Owed Event). o.events) same; cost = ap (λ (o : Owed Event). o.cost) same; made = refl; going = refl }
@@ -120,6 +128,7 @@ resumes_by f k false owes e =
     let both = owes_at (setting_of f.problem) (f.left - 1) f.state f.untried k owes e in
     record { problem = refl; events = both.0; cost = both.1; made = refl; going = refl }
 
-pub resumes_owing : (f : FrozenSight) (k : ℕ) (p : ProblemTree) (e : Owing) (owes : Owed Event) → e ≡ resumed f k → f.problem ≡ p → slice_get (alternatives_in f) k ≡ Some owes → Resumes p owes e
+pub resumes_owing : (f : FrozenSight) (k : ℕ) (p : ProblemTree) (e : Owing) (owes : Owed Event) → e ≡ resumed f k → f.problem ≡ p
+    → slice_get (alternatives_in f) k ≡ Some owes → Resumes p owes e
 resumes_owing f k p e owes s q g =
     subst (λ (x : Owing). Resumes p owes x) (sym s) (subst (λ (x : ProblemTree). Resumes x owes (resumed f k)) q (resumes_by f k f.starts owes g))

@@ -1,5 +1,6 @@
 -- What is left of what is owed where the oldest choice point is split off.
-use Rattle.std.proofs.Common.{◌≡◌, ◌≢◌, ℕ, suc, ◌+◌, ◌-◌, ◌<◌, ◌≤◌, refl, ap, sym, ◌∙◌, subst, Bool, true, false, List, [], ◌∷◌, ◌++◌, append_assoc, arith, map, reverse, length}
+use Rattle.std.proofs.Common.{◌≡◌, ◌≢◌, ℕ, suc, ◌+◌, ◌-◌, ◌<◌, ◌≤◌, refl, ap, sym, ◌∙◌, subst, Bool, true, false, List, [], ◌∷◌, ◌++◌, append_assoc, arith}
+use Rattle.std.proofs.Common.{map, reverse, length}
 use Rattle.std.proofs.lemmas.List.{reverse-append, map-append, append-nil as append_nil}
 use Rattle.std.proofs.lemmas.List.Sums.{sum_by-cons}
 use Rattle.std.proofs.lemmas.List.Elements.{All-head, All-tail}
@@ -31,7 +32,8 @@ use Rattle.ll_engine.specs.Splits.{TakesOldest, SplitsTo, frozen_point}
 owed_behind : (beside : Setting) (ps qs : List Point) → owed beside (ps ++ qs) ≡ owed beside ps ++ owed beside qs
 owed_behind beside [] qs = refl
 owed_behind beside (p ∷ ps) qs =
-    ap (λ x. tried_events beside p.left p.state p.untried ++ x) (owed_behind beside ps qs) ∙ sym (append_assoc (tried_events beside p.left p.state p.untried) (owed beside ps) (owed beside qs))
+    ap (λ x. tried_events beside p.left p.state p.untried ++ x) (owed_behind beside ps qs)
+    ∙ sym (append_assoc (tried_events beside p.left p.state p.untried) (owed beside ps) (owed beside qs))
 
 cost_behind : (beside : Setting) (ps qs : List Point) → cost_left beside (ps ++ qs) ≡ cost_left beside ps + cost_left beside qs
 cost_behind beside [] qs = omega arith
@@ -97,7 +99,8 @@ points_left beside f k (p ∷ ps) o h =
     let l = fewer_open ps o in
     (point_later beside f (k + open_points (ps ++ o ∷ [])) (suc k + open_points ps) p (omega (arith, l)) h.0, points_left beside f k ps o h.1)
 
-runs_left : (beside : Setting) (f : State) (k : ℕ) (r : Bool) (s : State) (ps : List Point) (o : Point) → RunsFrom beside f k r s (ps ++ o ∷ []) → RunsFrom beside f (suc k) r s ps
+runs_left : (beside : Setting) (f : State) (k : ℕ) (r : Bool) (s : State) (ps : List Point) (o : Point) → RunsFrom beside f k r s (ps ++ o ∷ [])
+    → RunsFrom beside f (suc k) r s ps
 runs_left beside f k true s ps o h =
     let l = fewer_open ps o in let m = h.fits in record { forks = h.forks; path = h.path; fits = omega (arith, l, m) }
 runs_left beside f k false s ps o h = tt
@@ -116,11 +119,13 @@ healthy_split z0 z b k n r t e h =
     go None q = absurd (not_none z.points t.oldest (sym t.points ∙ q.1))
     go (Some f) q = (
       points_left (setting_of z0.problem) f k z.points t.oldest (subst (λ (ps : List Point). ArePoints (setting_of z0.problem) f k ps) t.points q.0),
-      runs_left (setting_of z0.problem) f k r z0.now z.points t.oldest (subst (λ (ps : List Point). RunsFrom (setting_of z0.problem) f k r z0.now ps) t.points q.1),
+      runs_left (setting_of z0.problem) f k r z0.now z.points t.oldest
+          (subst (λ (ps : List Point). RunsFrom (setting_of z0.problem) f k r z0.now ps) t.points q.1),
     )
 
 -- what is owed is what is left, followed by what the batch owes
-pub splits_to : (z0 z : Spine) (b : FrozenSight) (r : Bool) (m k n : ℕ) → TakesOldest z0 b z → n ≡ suc k → SplitsTo (owing z0 r m k false) b (owing z r m n false)
+pub splits_to : (z0 z : Spine) (b : FrozenSight) (r : Bool) (m k n : ℕ) → TakesOldest z0 b z → n ≡ suc k
+    → SplitsTo (owing z0 r m k false) b (owing z r m n false)
 splits_to z0 z b r m k n t e =
     let ps = z.points in
     let P : Spine → Type 0 = λ y. SplitsTo (owing z0 r m k false) b (owing y r m n false) in
@@ -144,7 +149,8 @@ splits_to z0 z b r m k n t e =
           splits = e;
           events =
               ap (λ (xs : List Point). front ++ owed beside xs) e1
-              ∙ (ap (λ (x : List Event). front ++ x) (owed_behind beside ps (o ∷ []) ∙ ap (λ (x : List Event). owed beside ps ++ x) (append_nil (tried_events beside o.left o.state o.untried) ∙ sym es))
+              ∙ (ap (λ (x : List Event). front ++ x) (owed_behind beside ps (o ∷ [])
+              ∙ ap (λ (x : List Event). owed beside ps ++ x) (append_nil (tried_events beside o.left o.state o.untried) ∙ sym es))
               ∙ sym (append_assoc front (owed beside ps) (flat_map (λ (w : Owed Event). w.events) (alternatives_in (frozen_point z0 o base depth)))));
           cost = let a = ap (λ (xs : List Point). cost_left beside xs) e1 in let c = cost_behind beside ps (o ∷ []) in omega (arith, a, c, cs);
           some = batch_some beside (suc o.left - 1) o.state o.untried h;
@@ -176,7 +182,16 @@ takes_oldest first p m h ps hs b depth e k v =
       same = refl;
       base = base_of h.parts;
       depth = depth;
-      batch = v ∙ (λ i. record { problem = k.opened.problem i; state = state_of h.parts; left = n i; untried = reverse h.untried; starts = false; base = base_of h.parts; depth = depth });
+      batch = v ∙ (λ i. record {
+        problem = k.opened.problem i;
+        state = state_of h.parts;
+        left = n i;
+        untried = reverse h.untried;
+        starts = false;
+        base =
+            base_of h.parts;
+        depth = depth;
+      });
     }
 
 -- what is known of the oldest choice point and those after it

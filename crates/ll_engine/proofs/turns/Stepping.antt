@@ -21,7 +21,8 @@ cut_same m k h = omega arith
 cut_more : (m k : ℕ) → min (m + 1) (18446744073709551615) ≡ min (m + ((1 + k) - k)) (18446744073709551615)
 cut_more m k = omega arith
 
-moves : (z0 z : Spine) (was r : Bool) (m m' s n : ℕ) → Turned z0 was [] n z r → m' ≡ min (m + ((n + cost_of_spine r z) - cost_of_spine r z)) (18446744073709551615)
+moves : (z0 z : Spine) (was r : Bool) (m m' s n : ℕ) → Turned z0 was [] n z r
+    → m' ≡ min (m + ((n + cost_of_spine r z) - cost_of_spine r z)) (18446744073709551615)
     → Steps (owing z0 was m s false) Moved (owing z r m' s false)
 moves z0 z was r m m' s n t e =
     record {
@@ -36,7 +37,8 @@ moves z0 z was r m m' s n t e =
       forks = tt;
     }
 
-pub quiet : (z0 z : Spine) (was r : Bool) (m s : ℕ) (w : Move) → w ≡ Quiet r → Turned z0 was (found_of w) (made_of w) z (running_of w) → m ≤ 18446744073709551615
+pub quiet : (z0 z : Spine) (was r : Bool) (m s : ℕ) (w : Move) → w ≡ Quiet r → Turned z0 was (found_of w) (made_of w) z (running_of w)
+    → m ≤ 18446744073709551615
     → Steps (owing z0 was m s false) Moved (owing z r m s false)
 quiet z0 z was r m s w e t h =
     let P : Move → Type 0 = λ w. Turned z0 was (found_of w) (made_of w) z (running_of w) in

@@ -18,12 +18,14 @@ use Rattle.ll_laws.specs.Tried.{events_from, number_from, tried_events, tried_co
 use Rattle.ll_engine.specs.Owed.{owed, cost_left, one_if_some, open_points, work_by, work, work_left, Thins, put_point, if_running}
 use Rattle.ll_engine.specs.Healthy.{Distinct, Path, next, IsPoint, ArePoints, IsNow, RunsFrom, HealthyFrom, Healthy}
 use Rattle.ll_engine.specs.Turned.{is_empty, answers, Settles, Gave, Chose, Expands, RetriesAt, Retries, ForksKept, Turned}
-use Rattle.ll_engine.proofs.turns.Owing.{tried_events_flat, tried_cost_flat, tried_events_thins, tried_cost_thins, work_by_thins, gives_thins, owed_put, cost_put, work_put, open_put}
+use Rattle.ll_engine.proofs.turns.Owing.{tried_events_flat, tried_cost_flat, tried_events_thins, tried_cost_thins, work_by_thins, gives_thins, owed_put}
+use Rattle.ll_engine.proofs.turns.Owing.{cost_put, work_put, open_put}
 use Rattle.ll_engine.proofs.turns.Forks.{not_before, cut, forks_of, settle_steps}
 
 -- what a state owes whose goal is taken apart
 
-pub events_tries : (beside : Setting) (n : ℕ) (s t : State) → settle s ≡ Some t → is_empty t.agenda ≡ false → events beside (suc n) s ≡ tried_events beside n t (tries t)
+pub events_tries : (beside : Setting) (n : ℕ) (s t : State) → settle s ≡ Some t → is_empty t.agenda ≡ false
+    → events beside (suc n) s ≡ tried_events beside n t (tries t)
 unfolding successors
 events_tries beside n s t h e = go t.agenda refl e
   where
@@ -31,7 +33,8 @@ events_tries beside n s t h e = go t.agenda refl e
     go [] h1 h2 = cc
     go (i ∷ is) h1 h2 = events_step beside n s t i is h h1 ∙ tried_events_flat beside n t (tries t)
 
-pub cost_tries : (beside : Setting) (n : ℕ) (s t : State) → settle s ≡ Some t → is_empty t.agenda ≡ false → cost beside (suc n) s ≡ suc (tried_cost beside n t (tries t))
+pub cost_tries : (beside : Setting) (n : ℕ) (s t : State) → settle s ≡ Some t → is_empty t.agenda ≡ false
+    → cost beside (suc n) s ≡ suc (tried_cost beside n t (tries t))
 unfolding successors
 cost_tries beside n s t h e = go t.agenda refl e
   where
@@ -119,7 +122,8 @@ gives_none beside t cs post h e = gives_thins beside t cs post h ∙ ap (λ x. g
 
 now_gave : (beside : Setting) (f s t : State) (n k : ℕ) (c : Candidate) (cs : List Candidate) (ps : List Point) (r : Bool) (z : Spine) (forks : ℕ)
     (pre post : List Candidate) → Path beside f s forks → settle s ≡ Some t → forks ≤ k + open_points ps → tries t ≡ pre ++ c ∷ post
-    → list_any (same_candidate c) pre ≡ false → Thins beside t cs post → z.points ≡ put_point t n cs ps → Gave (attempt beside t c) n r z → RunsFrom beside f k r z.now z.points
+    → list_any (same_candidate c) pre ≡ false → Thins beside t cs post → z.points ≡ put_point t n cs ps → Gave (attempt beside t c) n r z
+    → RunsFrom beside f k r z.now z.points
 now_gave beside f s t n k c cs ps false z forks pre post path h1 h2 h3 h4 h5 e g = tt
 now_gave beside f s t n k c cs ps true z forks pre post path h1 h2 h3 h4 h5 e g =
     let e1 = ap (λ x. open_points x) e ∙ open_put t n cs ps in
@@ -131,7 +135,8 @@ now_gave beside f s t n k c cs ps true z forks pre post path h1 h2 h3 h4 h5 e g 
     }
 
 points_put : (beside : Setting) (f t : State) (n k : ℕ) (cs : List Candidate) (ps : List Point)
-    → IsPoint beside f (k + open_points ps) (record { state = t; left = n; untried = cs }) → ArePoints beside f k ps → ArePoints beside f k (put_point t n cs ps)
+    → IsPoint beside f (k + open_points ps) (record { state = t; left = n; untried = cs }) → ArePoints beside f k ps
+    → ArePoints beside f k (put_point t n cs ps)
 points_put beside f t n k [] ps h a = a
 points_put beside f t n k (c ∷ cs) ps h a = (h, a)
 
@@ -162,8 +167,11 @@ chosen_some beside t n c cs ps r z e g =
             post = d.post;
             cut = e3;
             thins = d.thins;
-          } in
-          (rw e (points_put beside f t n k cs ps q a), now_gave beside f h.s t n k c cs ps r z h.forks (h.pre ++ d.mid) d.post h.path h.settled h.fits e1 e2 d.thins e g);
+          } in (
+            rw e (points_put beside f t n k cs ps q a),
+            now_gave beside f h.s t n k c cs ps r z h.forks (h.pre ++ d.mid) d.post h.path h.settled h.fits e1 e2
+                d.thins e g,
+          );
     }
   where
     regroup : (pre mid : List Candidate) (c : Candidate) (post : List Candidate) → (pre ++ mid) ++ c ∷ post ≡ (pre ++ (mid ++ c ∷ [])) ++ post
@@ -185,7 +193,8 @@ same z0 t n (c ∷ cs) ps r z h = record { problem = ap (λ x. x.problem) h.0; f
 
 -- the turns
 
-turned_quiet : (z0 z : Spine) (t : State) → z ≡ record z0 { now = t } → (z.problem ≡ z0.problem) × (z.first ≡ z0.first) × (z.left ≡ z0.left) × (z.points ≡ z0.points)
+turned_quiet : (z0 z : Spine) (t : State) → z ≡ record z0 { now = t }
+    → (z.problem ≡ z0.problem) × (z.first ≡ z0.first) × (z.left ≡ z0.left) × (z.points ≡ z0.points)
 turned_quiet z0 z t e = (ap (λ x. x.problem) e, ap (λ x. x.first) e, ap (λ x. x.left) e, ap (λ x. x.points) e)
 
 stops : (z0 z : Spine) (r : Bool) (k : ℕ) → z.problem ≡ z0.problem → z.first ≡ z0.first → z.points ≡ z0.points → Healthy k r z0 → Healthy k false z
@@ -221,22 +230,27 @@ turned_over z0 z true q h e a =
     ends z0 z z.now [] h.0 (events_over (setting_of z0.problem) z0.left z0.now z.now h.1 e ∙ answer_false z.now a)
     (cost_over (setting_of z0.problem) z0.left z0.now z.now h.1 e) (λ k p. tt)
 
-pub turned_reached : (z0 z : Spine) (b : Bool) → b ≡ true → Settles z0 b z → is_empty z.now.agenda ≡ false → z.left ≡ 0 → Turned z0 true (Reached ∷ []) 0 z false
+pub turned_reached : (z0 z : Spine) (b : Bool) → b ≡ true → Settles z0 b z → is_empty z.now.agenda ≡ false → z.left ≡ 0
+    → Turned z0 true (Reached ∷ []) 0 z false
 turned_reached z0 z false q h e l = cc
 turned_reached z0 z true q h e l =
     let l0 : z0.left ≡ 0 = sym (ap (λ x. x.left) h.0) ∙ l in
-    ends z0 z z.now (Reached ∷ []) h.0 (rw l0 (events_at_bound (setting_of z0.problem) z0.now z.now h.1 e)) (rw l0 (cost_zero (setting_of z0.problem) z0.now)) (λ k p. tt)
+    ends z0 z z.now (Reached ∷ []) h.0 (rw l0 (events_at_bound (setting_of z0.problem) z0.now z.now h.1 e)) (rw l0 (cost_zero (setting_of z0.problem) z0.now))
+    (λ k p. tt)
 
 answer_forks : (z0 z : Spine) (k : ℕ) → z.points ≡ z0.points → settle z0.now ≡ Some z.now → Healthy k true z0
     → ForksKept z0 k (Answer (record { terms = z.now.terms; steps = z.now.steps }) ∷ []) z
 answer_forks z0 z k e1 e2 h = λ f e. go f z0.first e h
   where
-    with_path : (f : State) → RunsFrom (setting_of z0.problem) f k true z0.now z0.points → forks (setting_of z0.problem) (drop (length f.steps) z.now.steps) f ≤ k + open_points z.points
+    with_path : (f : State) → RunsFrom (setting_of z0.problem) f k true z0.now z0.points
+        → forks (setting_of z0.problem) (drop (length f.steps) z.now.steps) f ≤ k + open_points z.points
     with_path f h =
-        let a = ap (λ x. forks (setting_of z0.problem) (drop (length f.steps) x) f) (settle_steps z0.now z.now e2) ∙ forks_of (setting_of z0.problem) f z0.now h.forks h.path in
+        let a = ap (λ x. forks (setting_of z0.problem) (drop (length f.steps) x) f) (settle_steps z0.now z.now e2)
+        ∙ forks_of (setting_of z0.problem) f z0.now h.forks h.path in
         rw (a, e1) h.fits
 
-    go : (f : State) (o : Option State) → o ≡ Some f → HealthyFrom o k true z0 → forks (setting_of z0.problem) (drop (length f.steps) z.now.steps) f ≤ k + open_points z.points
+    go : (f : State) (o : Option State) → o ≡ Some f → HealthyFrom o k true z0
+        → forks (setting_of z0.problem) (drop (length f.steps) z.now.steps) f ≤ k + open_points z.points
     go f None e h = cc
     go f (Some g) e h =
         let e3 : g ≡ f = cc in with_path f (subst (λ (x : State). RunsFrom (setting_of z0.problem) x k true z0.now z0.points) e3 h.1)
@@ -257,7 +271,8 @@ healthy_expand z0 z1 z n cs r k e es d th s ch h = go z0.first (s.first ∙ q.1)
     q : (z1.problem ≡ z0.problem) × (z1.first ≡ z0.first) × (z1.left ≡ z0.left) × (z1.points ≡ z0.points)
     q = turned_quiet z0 z1 z1.now e
 
-    goes : (f : State) → ArePoints (setting_of z1.problem) f k z1.points × IsNow (setting_of z1.problem) f z0.now (k + open_points z1.points) → ArePoints (setting_of z1.problem) f k z.points × RunsFrom (setting_of z1.problem) f k r z.now z.points
+    goes : (f : State) → ArePoints (setting_of z1.problem) f k z1.points × IsNow (setting_of z1.problem) f z0.now (k + open_points z1.points)
+        → ArePoints (setting_of z1.problem) f k z.points × RunsFrom (setting_of z1.problem) f k r z.now z.points
     goes f h =
         ch.healthy f k
         (record {
@@ -286,17 +301,25 @@ turned_expand z0 z1 z r true b h e x =
     let ch = chosen z1 z1.now x.left x.candidates z1.points r z x.chose in
     let l : z0.left ≡ suc x.left = sym q.2 ∙ x.left_is in
     let e1 : events (setting_of z0.problem) z0.left z0.now ≡ tried_events (setting_of z1.problem) x.left z1.now x.candidates =
-    rw (l, q.0) (events_tries (setting_of z0.problem) x.left z0.now z1.now h.1 e ∙ sym (tried_events_thins (setting_of z0.problem) z1.now x.left x.candidates (tries z1.now) (subst (λ (p : ProblemTree). Thins (setting_of p) z1.now x.candidates (tries z1.now)) q.0 x.thins))) in
+    rw (l, q.0) (events_tries (setting_of z0.problem) x.left z0.now z1.now h.1 e
+    ∙ sym (tried_events_thins (setting_of z0.problem) z1.now x.left x.candidates (tries z1.now)
+    (subst (λ (p : ProblemTree). Thins (setting_of p) z1.now x.candidates (tries z1.now)) q.0 x.thins))) in
     let e2 : cost (setting_of z0.problem) z0.left z0.now ≡ suc (tried_cost (setting_of z1.problem) x.left z1.now x.candidates) =
-    rw (l, q.0) (cost_tries (setting_of z0.problem) x.left z0.now z1.now h.1 e ∙ ap (λ x. suc x) (sym (tried_cost_thins (setting_of z0.problem) z1.now x.left x.candidates (tries z1.now) (subst (λ (p : ProblemTree). Thins (setting_of p) z1.now x.candidates (tries z1.now)) q.0 x.thins)))) in
+    rw (l, q.0) (cost_tries (setting_of z0.problem) x.left z0.now z1.now h.1 e
+    ∙ ap (λ x. suc x) (sym (tried_cost_thins (setting_of z0.problem) z1.now x.left x.candidates (tries z1.now)
+    (subst (λ (p : ProblemTree). Thins (setting_of p) z1.now x.candidates (tries z1.now)) q.0 x.thins)))) in
     let e3 : suc (work_by (work (setting_of z1.problem) x.left) (setting_of z1.problem) z1.now x.candidates) ≤ work (setting_of z0.problem) z0.left z0.now =
-    rw (l, q.0) (let a = work_tries (setting_of z0.problem) x.left z0.now z1.now h.1 in let b = work_by_thins (setting_of z0.problem) z1.now (work (setting_of z0.problem) x.left) x.candidates (tries z1.now) (subst (λ (p : ProblemTree). Thins (setting_of p) z1.now x.candidates (tries z1.now)) q.0 x.thins) in omega arith) in
+    rw (l, q.0) (let a = work_tries (setting_of z0.problem) x.left z0.now z1.now h.1 in
+    let b = work_by_thins (setting_of z0.problem) z1.now (work (setting_of z0.problem) x.left) x.candidates (tries z1.now)
+    (subst (λ (p : ProblemTree). Thins (setting_of p) z1.now x.candidates (tries z1.now)) q.0 x.thins) in omega arith) in
     record {
       problem = s.problem ∙ q.0;
       first = s.first ∙ q.1;
       events = rw s.problem (ap (λ x. x ++ owed (setting_of z0.problem) z0.points) e1 ∙ (rw (sym q.0, sym q.3) ch.events));
-      cost = let a = ch.cost in let b : cost_left (setting_of z0.problem) z0.points ≡ cost_left (setting_of z1.problem) z1.points = rw q.0 (rw q.3 refl) in rw s.problem (omega (arith, e2, a, b));
-      work = let a = ch.work in let b : work_left (setting_of z0.problem) z0.points ≡ work_left (setting_of z1.problem) z1.points = rw q.0 (rw q.3 refl) in rw s.problem (omega (arith, e3, a, b));
+      cost = let a = ch.cost in let b : cost_left (setting_of z0.problem) z0.points ≡ cost_left (setting_of z1.problem) z1.points = rw q.0 (rw q.3 refl) in
+          rw s.problem (omega (arith, e2, a, b));
+      work = let a = ch.work in let b : work_left (setting_of z0.problem) z0.points ≡ work_left (setting_of z1.problem) z1.points = rw q.0 (rw q.3 refl) in
+          rw s.problem (omega (arith, e3, a, b));
       healthy = λ k p. healthy_expand z0 z1 z x.left x.candidates r k h.0 h.1 x.distinct x.thins s ch p;
       forks = λ k p. tt;
     }
@@ -304,7 +327,8 @@ turned_expand z0 z1 z r true b h e x =
 pub turned_retry : (z0 z : Spine) (r : Bool) → Retries z0 r z → Turned z0 false [] 0 z r
 turned_retry z0 z r h = go z0.points refl h
   where
-    healthy : (p : Point) (ps : List Point) (k : ℕ) → z0.points ≡ p ∷ ps → Same z0 z → Chosen (setting_of z0.problem) p.state p.left p.untried ps r z → (o : Option State) → z.first ≡ o → HealthyFrom o k false z0
+    healthy : (p : Point) (ps : List Point) (k : ℕ) → z0.points ≡ p ∷ ps → Same z0 z → Chosen (setting_of z0.problem) p.state p.left p.untried ps r z
+        → (o : Option State) → z.first ≡ o → HealthyFrom o k false z0
         → HealthyFrom z.first k r z
     healthy p ps k e s ch None e2 h = let a = h.1 in cc
     healthy p ps k e s ch (Some f) e2 h =

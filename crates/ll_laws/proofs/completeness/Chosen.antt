@@ -1,5 +1,6 @@
 -- Terms chosen for the variables of a state, as a list, and what they make of a state that mentions no other variables.
-use Rattle.std.proofs.Common.{◌≡◌, ◌≤◌, ◌<◌, ℕ, zero, suc, ◌+◌, refl, ap, sym, ◌∙◌, true, false, List, [], ◌∷◌, ◌++◌, map, length, replicate, arith, append_assoc, length-append}
+use Rattle.std.proofs.Common.{◌≡◌, ◌≤◌, ◌<◌, ℕ, zero, suc, ◌+◌, refl, ap, sym, ◌∙◌, true, false, List, [], ◌∷◌, ◌++◌, map, length, replicate, arith}
+use Rattle.std.proofs.Common.{append_assoc, length-append}
 use Rattle.std.specs.Prelude.{◌&&◌, slice_index, slice_index_or}
 use Rattle.std.specs.List.{list_all}
 use Rattle.std.proofs.lemmas.Bool.{ltb-true}
@@ -70,7 +71,8 @@ below-agree n f g h (Var x) w = h x (ltb-true x n w)
 below-agree n f g h (Int z) w = refl
 below-agree n f g h (Con k) w = refl
 below-agree n f g h (Ap t u) w =
-    let a = below-agree n f g h t (and_left (vars_below n t) (vars_below n u) w) in let b = below-agree n f g h u (and_right (vars_below n t) (vars_below n u) w) in cc
+    let a = below-agree n f g h t (and_left (vars_below n t) (vars_below n u) w) in
+    let b = below-agree n f g h u (and_right (vars_below n t) (vars_below n u) w) in cc
 
 pub made-agree : (n e : ℕ) (f g : ℕ → Term) → AgreeBelow n f g → (ts : List Term) → list_all (is_made n e) ts ≡ true → map (sub f) ts ≡ map (sub g) ts
 made-agree n e f g h [] w = refl
@@ -128,7 +130,8 @@ any-default l [] x a b h = refl
 any-default l (t ∷ ts) zero a b h = h
 any-default l (t ∷ ts) (suc x) a b h = any-default l ts x a b h
 
-fits-relevel : (ls new : List ℕ) (ts : List Term) → FitsAll ls ts → length new ≡ length ls → ((x y : ℕ) → eigens_below (slice_index new x) (slice_index_or ts x (Var y)) ≡ true) → FitsAll new ts
+fits-relevel : (ls new : List ℕ) (ts : List Term) → FitsAll ls ts → length new ≡ length ls
+    → ((x y : ℕ) → eigens_below (slice_index new x) (slice_index_or ts x (Var y)) ≡ true) → FitsAll new ts
 fits-relevel [] [] [] h e b = tt
 fits-relevel [] (l ∷ new) ts h e b = absurd (omega arith)
 fits-relevel (l ∷ ls) [] ts h e b = absurd (omega arith)
@@ -137,7 +140,8 @@ fits-relevel [] [] (t ∷ ts) h e b = absurd h
 fits-relevel (l ∷ ls) (m ∷ new) [] h e b = absurd h
 
 -- the same terms under other levels that they fit
-pub fits-change : (ls new : List ℕ) (ts : List Term) → FitsAll ls ts → length new ≡ length ls → ((x : ℕ) → eigens_below (slice_index new x) (value ts x) ≡ true) → FitsAll new ts
+pub fits-change : (ls new : List ℕ) (ts : List Term) → FitsAll ls ts → length new ≡ length ls → ((x : ℕ) → eigens_below (slice_index new x) (value ts x) ≡ true)
+    → FitsAll new ts
 fits-change ls new ts h e b = fits-relevel ls new ts h e (λ x y. any-default (slice_index new x) ts x x y (b x))
 
 value-past : (ts : List Term) (x y : ℕ) → length ts ≤ x → slice_index_or ts x (Var y) ≡ Var y
@@ -169,7 +173,8 @@ new-values ts [] n e = refl
 new-values ts (u ∷ us) n e =
     let a : value (ts ++ u ∷ us) n ≡ u = value-at ts us u n n e in
     let w : ts ++ u ∷ us ≡ (ts ++ u ∷ []) ++ us = sym (append_assoc ts (u ∷ []) us) in
-    let b = ap (λ z. map (sub (value z)) (vars_from (suc n) (length us))) w ∙ new-values (ts ++ u ∷ []) us (suc n) (let l = length-append ts (u ∷ []) in omega arith) in cc
+    let b = ap (λ z. map (sub (value z)) (vars_from (suc n) (length us))) w
+    ∙ new-values (ts ++ u ∷ []) us (suc n) (let l = length-append ts (u ∷ []) in omega arith) in cc
 
 -- the terms of variables in a row
 pub listed : (f : ℕ → Term) (n k x : ℕ) (d : Term) → x < k → slice_index_or (map (sub f) (vars_from n k)) x d ≡ f (n + x)
@@ -184,5 +189,6 @@ closed_at (t ∷ ts) zero y h = and_left (is_closed t) (list_all is_closed ts) h
 closed_at (t ∷ ts) (suc x) y h = closed_at ts x y (and_right (is_closed t) (list_all is_closed ts) h)
 
 -- the same parts make the same state
-pub same_parts : (s : State) {a b : List (Item Form)} {c d : List (Entry Form)} {x y : List Term} → a ≡ b → c ≡ d → x ≡ y → record s { agenda = a; context = c; terms = x } ≡ record s { agenda = b; context = d; terms = y }
+pub same_parts : (s : State) {a b : List (Item Form)} {c d : List (Entry Form)} {x y : List Term} → a ≡ b → c ≡ d → x ≡ y
+    → record s { agenda = a; context = c; terms = x } ≡ record s { agenda = b; context = d; terms = y }
 same_parts s p q r = cc

@@ -27,7 +27,8 @@ grounded f s = record s { agenda = map (sub_item f) s.agenda; context = map (sub
 -- ---- settling
 
 -- levels play no part in it
-front_with : (ls : List ℕ) (s : State) (o : Option (Front Form Form)) (t : State) → front_of s o ≡ Some t → front_of (record s { levels = ls }) o ≡ Some (record t { levels = ls })
+front_with : (ls : List ℕ) (s : State) (o : Option (Front Form Form)) (t : State) → front_of s o ≡ Some t
+    → front_of (record s { levels = ls }) o ≡ Some (record t { levels = ls })
 front_with ls s None t h = cc
 front_with ls s (Some x) t h = let e : with_front s x ≡ t = cc in ap {A = State} (λ z. Some (record z { levels = ls })) e
 
@@ -48,7 +49,8 @@ or_none true b h k = h
 abbrev pub Avoids : ℕ → ℕ → (ℕ → Term) → Type 0
 Avoids c n f = (x : ℕ) → nat_lt x n ≡ true → has_eigen c (f x) ≡ false
 
-pub term_avoids : (may : Allowed) (f : ℕ → Term) → Avoids may.eigens may.variables f → (scope : Scope) (t : Term) → Fit may scope t → has_eigen may.eigens (sub f t) ≡ false
+pub term_avoids : (may : Allowed) (f : ℕ → Term) → Avoids may.eigens may.variables f → (scope : Scope) (t : Term) → Fit may scope t
+    → has_eigen may.eigens (sub f t) ≡ false
 term_avoids may f v scope (Var x) h = v x h
 term_avoids may f v scope (Int z) h = refl
 term_avoids may f v scope (Con (Name n)) h = refl
@@ -56,11 +58,13 @@ term_avoids may f v scope (Con (Bound n)) h = refl
 term_avoids may f v scope (Con (Eigen k)) h = ne_eqb may.eigens k (λ e. let l = ltb-true k may.eigens h in omega (arith, e, l))
 term_avoids may f v scope (Ap t u) h = or_none _ _ (term_avoids may f v scope t h.1) (term_avoids may f v scope u h.2)
 
-terms_avoid : (may : Allowed) (f : ℕ → Term) → Avoids may.eigens may.variables f → (scope : Scope) (ts : List Term) → AllFit may scope ts → list_any (has_eigen may.eigens) (map (sub f) ts) ≡ false
+terms_avoid : (may : Allowed) (f : ℕ → Term) → Avoids may.eigens may.variables f → (scope : Scope) (ts : List Term) → AllFit may scope ts
+    → list_any (has_eigen may.eigens) (map (sub f) ts) ≡ false
 terms_avoid may f v scope [] h = refl
 terms_avoid may f v scope (t ∷ ts) h = or_none _ _ (term_avoids may f v scope t h.0) (terms_avoid may f v scope ts h.1)
 
-pub form_avoids : (may : Allowed) (f : ℕ → Term) → Avoids may.eigens may.variables f → (side : Side) (scope : Scope) (g : Form) → Fits may side scope g → form_has_eigen may.eigens (sub_form f g) ≡ false
+pub form_avoids : (may : Allowed) (f : ℕ → Term) → Avoids may.eigens may.variables f → (side : Side) (scope : Scope) (g : Form) → Fits may side scope g
+    → form_has_eigen may.eigens (sub_form f g) ≡ false
 form_avoids may f v side scope Top h = refl
 form_avoids may f v side scope One h = refl
 form_avoids may f v side scope (Atom a) h = term_avoids may f v scope a h.1
@@ -118,17 +122,20 @@ loads_sub f cl ms scope e [] g h = refl
 loads_sub f cl ms scope e (c ∷ cs) g h =
     let a = loads_sub f cl ms scope e cs g h.1 in
     let b = sub_close_form f cl e c.form ∙ ap (close_form (sub_env f e)) (sub_none_form ms f _ scope c.form h.0) in
-    load_sub f c.kind (close_form e c.form) (load_all e cs g) ∙ (ap (λ z. load c.kind z (sub_form f (load_all e cs g))) b ∙ ap (λ z. load c.kind (close_form (sub_env f e) c.form) z) a)
+    load_sub f c.kind (close_form e c.form) (load_all e cs g)
+    ∙ (ap (λ z. load c.kind z (sub_form f (load_all e cs g))) b ∙ ap (λ z. load c.kind (close_form (sub_env f e) c.form) z) a)
 
 pub map_onto : {A B : Type 0} (f : A → B) (xs acc : List A) → map f (reverse_aux xs acc) ≡ reverse_aux (map f xs) (map f acc)
 map_onto f [] acc = refl
 map_onto f (x ∷ xs) acc = map_onto f xs (x ∷ acc)
 
-pub unfold_sub : (f : ℕ → Term) → IsClosing f → (ms : List ModuleTree) (scope : Scope) (m : ModuleTree) (ts : List Term) (g : Form) → ClausesFit (given ms 0) scope m.clauses
+pub unfold_sub : (f : ℕ → Term) → IsClosing f → (ms : List ModuleTree) (scope : Scope) (m : ModuleTree) (ts : List Term) (g : Form)
+    → ClausesFit (given ms 0) scope m.clauses
     → sub_form f (unfold_load m ts g) ≡ unfold_load m (map (sub f) ts) (sub_form f g)
 unfold_sub f cl ms scope m ts g h =
     let e : sub_env f (map (λ t. Some t) (reverse ts)) ≡ map (λ t. Some t) (reverse (map (sub f) ts)) =
-    map_map (option_map (sub f)) (λ t. Some t) (reverse ts) ∙ (sym (map_map (λ t. Some t) (sub f) (reverse ts)) ∙ ap (map (λ t. Some t)) (map_onto (sub f) ts [])) in
+    map_map (option_map (sub f)) (λ t. Some t) (reverse ts) ∙
+    (sym (map_map (λ t. Some t) (sub f) (reverse ts)) ∙ ap (map (λ t. Some t)) (map_onto (sub f) ts [])) in
     forall_sub f m.locals (load_all (map (λ t. Some t) (reverse ts)) m.clauses g)
     ∙ ap (forall_all m.locals) (loads_sub f cl ms scope (map (λ t. Some t) (reverse ts)) m.clauses g h ∙ ap (λ z. load_all z m.clauses (sub_form f g)) e)
 
@@ -146,4 +153,5 @@ closed_sub f cl (Int z) h = refl
 closed_sub f cl (Con k) h = h
 closed_sub f cl (Ap t u) h =
     let a = and_left (is_spine t && is_closed t) (is_closed u) h in
-    and_intro _ _ (and_intro _ _ (spine_sub f t (and_left (is_spine t) (is_closed t) a)) (closed_sub f cl t (and_right (is_spine t) (is_closed t) a))) (closed_sub f cl u (and_right (is_spine t && is_closed t) (is_closed u) h))
+    and_intro _ _ (and_intro _ _ (spine_sub f t (and_left (is_spine t) (is_closed t) a)) (closed_sub f cl t (and_right (is_spine t) (is_closed t) a)))
+    (closed_sub f cl u (and_right (is_spine t && is_closed t) (is_closed u) h))

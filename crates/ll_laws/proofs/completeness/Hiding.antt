@@ -85,11 +85,13 @@ unfolding above
 below-above (Var x) = lt-ltb x (suc x) (omega arith)
 below-above (Int z) = refl
 below-above (Con h) = refl
-below-above (Ap f a) = and_intro _ _ (below-more (above f) (above f + above a) (omega arith) f (below-above f)) (below-more (above a) (above f + above a) (omega arith) a (below-above a))
+below-above (Ap f a) = and_intro _ _ (below-more (above f) (above f + above a) (omega arith) f (below-above f))
+    (below-more (above a) (above f + above a) (omega arith) a (below-above a))
 
 all-closed-append : (xs ys : List Term) → list_all is_closed xs ≡ true → list_all is_closed ys ≡ true → list_all is_closed (xs ++ ys) ≡ true
 all-closed-append [] ys h k = k
-all-closed-append (x ∷ xs) ys h k = and_intro _ _ (and_left (is_closed x) (list_all is_closed xs) h) (all-closed-append xs ys (and_right (is_closed x) (list_all is_closed xs) h) k)
+all-closed-append (x ∷ xs) ys h k = and_intro _ _ (and_left (is_closed x) (list_all is_closed xs) h)
+    (all-closed-append xs ys (and_right (is_closed x) (list_all is_closed xs) h) k)
 
 parts-closed : (t : Term) → is_closed t ≡ true → list_all is_closed (hidden_parts t) ≡ true
 unfolding hidden_parts
@@ -100,9 +102,11 @@ parts-closed (Con (Bound n)) h = refl
 parts-closed (Con (Eigen n)) h = refl
 parts-closed (Ap f a) h =
     let i = and_left (is_spine f && is_closed f) (is_closed a) h in
-    step (is_eigen_head (head_of f)) (parts-closed f (and_right (is_spine f) (is_closed f) i)) (parts-closed a (and_right (is_spine f && is_closed f) (is_closed a) h))
+    step (is_eigen_head (head_of f)) (parts-closed f (and_right (is_spine f) (is_closed f) i))
+    (parts-closed a (and_right (is_spine f && is_closed f) (is_closed a) h))
   where
-    step : (b : Bool) → list_all is_closed (hidden_parts f) ≡ true → list_all is_closed (hidden_parts a) ≡ true → list_all is_closed (if b then Ap f a ∷ [] else hidden_parts f ++ hidden_parts a) ≡ true
+    step : (b : Bool) → list_all is_closed (hidden_parts f) ≡ true → list_all is_closed (hidden_parts a) ≡ true
+        → list_all is_closed (if b then Ap f a ∷ [] else hidden_parts f ++ hidden_parts a) ≡ true
     step true p q = ap (λ z. z && true) h
     step false p q = all-closed-append (hidden_parts f) (hidden_parts a) p q
 
@@ -110,7 +114,8 @@ all_parts-closed : (ts : List Term) → list_all is_closed ts ≡ true → list_
 unfolding all_parts
 all_parts-closed [] h = refl
 all_parts-closed (t ∷ ts) h =
-    all-closed-append (hidden_parts t) (all_parts ts) (parts-closed t (and_left (is_closed t) (list_all is_closed ts) h)) (all_parts-closed ts (and_right (is_closed t) (list_all is_closed ts) h))
+    all-closed-append (hidden_parts t) (all_parts ts) (parts-closed t (and_left (is_closed t) (list_all is_closed ts) h))
+    (all_parts-closed ts (and_right (is_closed t) (list_all is_closed ts) h))
 
 -- ---- the names, and what they stand for
 
@@ -150,14 +155,17 @@ module _ (n : ℕ) (parts : List Term) where
   back (Con (Name k)) h m = refl
   back (Con (Bound k)) h m = refl
   back (Con (Eigen k)) h m = value_name (Con (Eigen k)) (m (Con (Eigen k)) (inl refl))
-  back (Ap f a) h m = step (is_eigen_head (head_of f)) (back f (and_left (vars_below n f) (vars_below n a) h)) (back a (and_right (vars_below n f) (vars_below n a) h)) m
+  back (Ap f a) h m = step (is_eigen_head (head_of f)) (back f (and_left (vars_below n f) (vars_below n a) h))
+      (back a (and_right (vars_below n f) (vars_below n a) h)) m
     where
-      step : (b : Bool) → (((u : Term) → Among u (hidden_parts f) → Among u parts) → sub value_of (hide name_of f) ≡ f) → (((u : Term) → Among u (hidden_parts a) → Among u parts) → sub value_of (hide name_of a) ≡ a)
+      step : (b : Bool) → (((u : Term) → Among u (hidden_parts f) → Among u parts) → sub value_of (hide name_of f) ≡ f)
+          → (((u : Term) → Among u (hidden_parts a) → Among u parts) → sub value_of (hide name_of a) ≡ a)
           → ((u : Term) → Among u (if b then Ap f a ∷ [] else hidden_parts f ++ hidden_parts a) → Among u parts)
           → sub value_of (if b then Var (name_of (Ap f a)) else Ap (hide name_of f) (hide name_of a)) ≡ Ap f a
       step true p q m = value_name (Ap f a) (m (Ap f a) (inl refl))
       step false p q m =
-          let x = p (λ u w. m u (among_left u (hidden_parts f) (hidden_parts a) w)) in let y = q (λ u w. m u (among_right u (hidden_parts f) (hidden_parts a) w)) in cc
+          let x = p (λ u w. m u (among_left u (hidden_parts f) (hidden_parts a) w)) in
+          let y = q (λ u w. m u (among_right u (hidden_parts f) (hidden_parts a) w)) in cc
 
   all_back : (ts : List Term) → above_all ts ≤ n → ((u : Term) → Among u (all_parts ts) → Among u parts) → ts ≡ map (sub value_of) (map (hide name_of) ts)
   unfolding above_all all_parts

@@ -1,6 +1,7 @@
 -- Terms and formulas of a derivation with the eigenconstants of a run in place of their own, and variables in place of what no eigenconstant
 -- of the run stands for.
-use Rattle.std.proofs.Common.{◌≡◌, ◌≤◌, ℕ, zero, suc, ◌+◌, refl, ap, sym, subst, ◌∙◌, Bool, true, false, List, [], ◌∷◌, ◌++◌, map, length, replicate, reverse, arith}
+use Rattle.std.proofs.Common.{◌≡◌, ◌≤◌, ℕ, zero, suc, ◌+◌, refl, ap, sym, subst, ◌∙◌, Bool, true, false, List, [], ◌∷◌, ◌++◌, map, length, replicate, reverse}
+use Rattle.std.proofs.Common.{arith}
 use Rattle.std.specs.Prelude.{◌&&◌, ◌||◌, if◌then◌else◌, ◌-◌, nat_lt, Option, Some, None, option_map, is_some, slice_get, slice_index_or}
 use Rattle.std.proofs.lemmas.Bool.{ltb-true, lt-ltb, and_from as and_intro}
 use Rattle.std.proofs.Math.Bool.{or-true}
@@ -19,7 +20,8 @@ use Rattle.ll_laws.specs.Valid.{Allowed, Side, GoalSide, ClauseSide, Scope, modu
 use Rattle.ll_laws.specs.Derive.{AreClosed}
 use Rattle.ll_laws.specs.Instance.{hide, is_eigen_head}
 use Rattle.ll_laws.proofs.unification.SubLaws.{close_closed, IsClosing}
-use Rattle.ll_laws.proofs.consistency.ConsistentTerms.{IsHead, Fit, AllFit, Widens, widens-refl, is_head-sub, is_head-more, head_of_closed, widens-length, widens-may, Deep, deep-none}
+use Rattle.ll_laws.proofs.consistency.ConsistentTerms.{IsHead, Fit, AllFit, Widens, widens-refl, is_head-sub, is_head-more, head_of_closed, widens-length}
+use Rattle.ll_laws.proofs.consistency.ConsistentTerms.{widens-may, Deep, deep-none}
 use Rattle.ll_laws.proofs.consistency.ConsistentForms.{Fits, other, opens_on, fits_module-length}
 use Rattle.ll_laws.proofs.consistency.ConsistentLeaves.{ClausesFit, replicate-front}
 use Rattle.ll_laws.proofs.completeness.Grounding.{map_onto}
@@ -166,14 +168,19 @@ tame-more to more scope (Int z) m h = tt
 tame-more to more scope (Con (Name n)) m h = tt
 tame-more to more scope (Con (Eigen k)) m h = tt
 tame-more to more scope (Con (Bound k)) m h = h
-tame-more to more scope (Ap f a) m h =
-    (h.0, or_more (known to (head_of f)) (known more (head_of f)) (is_closed (Ap f a)) (known-more to more (head_of f) m) h.1, tame-more to more scope f m h.2, tame-more to more scope a m h.3)
+tame-more to more scope (Ap f a) m h = (
+  h.0,
+  or_more (known to (head_of f)) (known more (head_of f)) (is_closed (Ap f a)) (known-more to more (head_of f) m) h.1,
+  tame-more to more scope f m h.2,
+  tame-more to more scope a m h.3,
+)
 
 all_tame-more : (to more : Numbers) (scope : Scope) (ts : List Term) → More to more → AllTame to scope ts → AllTame more scope ts
 all_tame-more to more scope [] m h = tt
 all_tame-more to more scope (t ∷ ts) m h = (tame-more to more scope t m h.0, all_tame-more to more scope ts m h.1)
 
-pub form-more : (ms : List ModuleTree) (to more : Numbers) (side : Side) (scope : Scope) (f : Form) → More to more → TameForm ms to side scope f → TameForm ms more side scope f
+pub form-more : (ms : List ModuleTree) (to more : Numbers) (side : Side) (scope : Scope) (f : Form) → More to more → TameForm ms to side scope f
+    → TameForm ms more side scope f
 form-more ms to more side scope Top m h = tt
 form-more ms to more side scope One m h = tt
 form-more ms to more side scope (Atom a) m h = tame-more to more scope a m h
@@ -198,7 +205,8 @@ Fills to (None ∷ e) (b ∷ inner) (c ∷ outer) = (b ≡ true → c ≡ true) 
 Fills to (Some t ∷ e) (b ∷ inner) outer = (is_closed t ≡ true) × (b ≡ true → (is_spine t ≡ true) × (known to (head_of t) ≡ true)) × Fills to e inner outer
 Fills to _ _ _ = ⊥
 
-place-tame : (to : Numbers) (e : Env) (inner outer full : Scope) (k n : ℕ) → Fills to e inner outer → n + length outer ≤ length full → nat_lt k (length inner) ≡ true → Tame to full (place e k n)
+place-tame : (to : Numbers) (e : Env) (inner outer full : Scope) (k n : ℕ) → Fills to e inner outer → n + length outer ≤ length full
+    → nat_lt k (length inner) ≡ true → Tame to full (place e k n)
 place-tame to [] inner outer full k n c le h =
     let l = ltb-true k (length inner) h in let w = widens-length inner outer c in lt-ltb (n + k) (length full) (omega arith)
 place-tame to (None ∷ e) [] outer full k n c le h = absurd c
@@ -215,19 +223,22 @@ place-tame to (Some t ∷ e) (b ∷ inner) outer full (suc k) n c le h =
 abbrev KnownHead : Numbers → Scope → Term → Type 0
 KnownHead to scope t = IsHead scope t × (known to (head_of t) ≡ true)
 
-place-head : (to : Numbers) (e : Env) (inner outer full : Scope) (k n : ℕ) → Fills to e inner outer → Deep n outer full → slice_index_or inner k false ≡ true → KnownHead to full (place e k n)
+place-head : (to : Numbers) (e : Env) (inner outer full : Scope) (k n : ℕ) → Fills to e inner outer → Deep n outer full → slice_index_or inner k false ≡ true
+    → KnownHead to full (place e k n)
 place-head to [] inner outer full k n c d h = ((refl, d k (widens-may inner outer k c h)), refl)
 place-head to (None ∷ e) [] outer full k n c d h = absurd c
 place-head to (None ∷ e) (b ∷ inner) [] full k n c d h = absurd c
 place-head to (None ∷ e) (b ∷ inner) (o ∷ outer) full zero n c d h =
     ((refl, subst (λ j. slice_index_or full j false ≡ true) (let q : n + 0 ≡ n = omega arith in q) (d 0 (c.0 h))), refl)
 place-head to (None ∷ e) (b ∷ inner) (o ∷ outer) full (suc k) n c d h =
-    place-head to e inner outer full k (suc n) c.1 (λ j p. subst (λ i. slice_index_or full i false ≡ true) (let q : n + suc j ≡ suc n + j = omega arith in q) (d (suc j) p)) h
+    place-head to e inner outer full k (suc n) c.1 (λ j p. subst (λ i. slice_index_or full i false ≡ true) (let q : n + suc j ≡ suc n + j = omega arith in
+    q) (d (suc j) p)) h
 place-head to (Some t ∷ e) [] outer full k n c d h = absurd c
 place-head to (Some t ∷ e) (b ∷ inner) outer full zero n c d h = (((c.1 h).0, head_of_closed full t c.0), (c.1 h).1)
 place-head to (Some t ∷ e) (b ∷ inner) outer full (suc k) n c d h = place-head to e inner outer full k n c.2 d h
 
-known-close : (to : Numbers) (e : Env) (inner outer : Scope) (t : Term) → Fills to e inner outer → IsHead inner t → known to (head_of t) ≡ true → KnownHead to outer (close e t)
+known-close : (to : Numbers) (e : Env) (inner outer : Scope) (t : Term) → Fills to e inner outer → IsHead inner t → known to (head_of t) ≡ true
+    → KnownHead to outer (close e t)
 known-close to e inner outer (Var x) c h k = absurd (cc (h.0))
 known-close to e inner outer (Int z) c h k = absurd (cc (h.0))
 known-close to e inner outer (Con (Name n)) c h k = ((refl, refl), refl)
@@ -243,15 +254,18 @@ tame-close to e inner outer (Con (Eigen k)) c h = tt
 tame-close to e inner outer (Con (Bound k)) c h = place-tame to e inner outer outer k 0 c (omega arith) h
 tame-close to e inner outer (Ap f a) c h = step (known to (head_of f)) refl h.1 (tame-close to e inner outer f c h.2) (tame-close to e inner outer a c h.3)
   where
-    step : (b : Bool) → known to (head_of f) ≡ b → b || is_closed (Ap f a) ≡ true → Tame to outer (close e f) → Tame to outer (close e a) → Tame to outer (Ap (close e f) (close e a))
+    step : (b : Bool) → known to (head_of f) ≡ b → b || is_closed (Ap f a) ≡ true → Tame to outer (close e f) → Tame to outer (close e a)
+        → Tame to outer (Ap (close e f) (close e a))
     step true q k i j = let w = known-close to e inner outer f c h.0 q in (w.0, ap (λ b. b || is_closed (Ap (close e f) (close e a))) (w.1), i, j)
     step false q k i j = subst (Tame to outer) (sym (close_closed e (Ap f a) k)) (closed-tame to outer (Ap f a) k)
 
-all_tame-close : (to : Numbers) (e : Env) (inner outer : Scope) (ts : List Term) → Fills to e inner outer → AllTame to inner ts → AllTame to outer (map (close e) ts)
+all_tame-close : (to : Numbers) (e : Env) (inner outer : Scope) (ts : List Term) → Fills to e inner outer → AllTame to inner ts
+    → AllTame to outer (map (close e) ts)
 all_tame-close to e inner outer [] c h = tt
 all_tame-close to e inner outer (t ∷ ts) c h = (tame-close to e inner outer t c h.0, all_tame-close to e inner outer ts c h.1)
 
-pub form-close : (ms : List ModuleTree) (to : Numbers) (e : Env) (side : Side) (inner outer : Scope) (f : Form) → Fills to e inner outer → TameForm ms to side inner f → TameForm ms to side outer (close_form e f)
+pub form-close : (ms : List ModuleTree) (to : Numbers) (e : Env) (side : Side) (inner outer : Scope) (f : Form) → Fills to e inner outer
+    → TameForm ms to side inner f → TameForm ms to side outer (close_form e f)
 form-close ms to e side inner outer Top c h = tt
 form-close ms to e side inner outer One c h = tt
 form-close ms to e side inner outer (Atom a) c h = tame-close to e inner outer a c h
@@ -263,8 +277,11 @@ form-close ms to e side inner outer (Lolli p q) c h = (form-close ms to e (other
 form-close ms to e side inner outer (Imp p q) c h = (form-close ms to e (other side) inner outer p c h.0, form-close ms to e side inner outer q c h.1)
 form-close ms to e side inner outer (Forall p) c h = form-close ms to (None ∷ e) side (opens_on true side ∷ inner) (opens_on true side ∷ outer) p (λ i. i, c) h
 form-close ms to e side inner outer (Exists p) c h = form-close ms to (None ∷ e) side (false ∷ inner) (false ∷ outer) p (λ i. i, c) h
-form-close ms to e side inner outer (Use m ts p) c h =
-    (fits_module-length (slice_get ms m) ts (map (close e) ts) (length-map ts (close e)) h.0, all_tame-close to e inner outer ts c h.1, form-close ms to e side inner outer p c h.2)
+form-close ms to e side inner outer (Use m ts p) c h = (
+  fits_module-length (slice_get ms m) ts (map (close e) ts) (length-map ts (close e)) h.0,
+  all_tame-close to e inner outer ts c h.1,
+  form-close ms to e side inner outer p c h.2,
+)
 form-close ms to e side inner outer (Num r t u) c h = (tame-close to e inner outer t c h.0, tame-close to e inner outer u c h.1)
 
 -- ---- moving goes along with closing
@@ -284,7 +301,8 @@ module _ (to : Numbers) (name : Term → ℕ) where
   close_numbered e None x = refl
   close_numbered e (Some j) x = refl
 
-  pub move_close : (e : Env) (inner outer : Scope) (t : Term) → Fills to e inner outer → Tame to inner t → move to name (close e t) ≡ close (move_env to name e) (move to name t)
+  pub move_close : (e : Env) (inner outer : Scope) (t : Term) → Fills to e inner outer → Tame to inner t
+      → move to name (close e t) ≡ close (move_env to name e) (move to name t)
   move_close e inner outer (Var x) c h = refl
   move_close e inner outer (Int z) c h = refl
   move_close e inner outer (Con (Name n)) c h = refl
@@ -292,14 +310,16 @@ module _ (to : Numbers) (name : Term → ℕ) where
   move_close e inner outer (Con (Bound k)) c h = move_place e k 0
   move_close e inner outer (Ap f a) c h = step (known to (head_of f)) refl h.1 (move_close e inner outer f c h.2) (move_close e inner outer a c h.3)
     where
-      step : (b : Bool) → known to (head_of f) ≡ b → b || is_closed (Ap f a) ≡ true → move to name (close e f) ≡ close (move_env to name e) (move to name f) → move to name (close e a) ≡ close (move_env to name e) (move to name a)
+      step : (b : Bool) → known to (head_of f) ≡ b → b || is_closed (Ap f a) ≡ true → move to name (close e f) ≡ close (move_env to name e) (move to name f)
+          → move to name (close e a) ≡ close (move_env to name e) (move to name a)
           → move to name (close e (Ap f a)) ≡ close (move_env to name e) (if b then Ap (move to name f) (move to name a) else Var (name (Ap f a)))
       step true q k i j =
           let w = known-close to e inner outer f c h.0 q in
           ap (λ b. if b then Ap (move to name (close e f)) (move to name (close e a)) else Var (name (Ap (close e f) (close e a)))) (w.1) ∙ cc
       step false q k i j = ap (move to name) (close_closed e (Ap f a) k) ∙ ap (λ b. if b then Ap (move to name f) (move to name a) else Var (name (Ap f a))) q
 
-  all_move_close : (e : Env) (inner outer : Scope) (ts : List Term) → Fills to e inner outer → AllTame to inner ts → map (move to name) (map (close e) ts) ≡ map (close (move_env to name e)) (map (move to name) ts)
+  all_move_close : (e : Env) (inner outer : Scope) (ts : List Term) → Fills to e inner outer → AllTame to inner ts
+      → map (move to name) (map (close e) ts) ≡ map (close (move_env to name e)) (map (move to name) ts)
   all_move_close e inner outer [] c h = refl
   all_move_close e inner outer (t ∷ ts) c h = let a = move_close e inner outer t c h.0 in let b = all_move_close e inner outer ts c h.1 in cc
 
@@ -308,15 +328,22 @@ module _ (to : Numbers) (name : Term → ℕ) where
   move_close_form ms e side inner outer Top c h = refl
   move_close_form ms e side inner outer One c h = refl
   move_close_form ms e side inner outer (Atom a) c h = ap Atom (move_close e inner outer a c h)
-  move_close_form ms e side inner outer (With p q) c h = let a = move_close_form ms e side inner outer p c h.0 in let b = move_close_form ms e side inner outer q c h.1 in cc
-  move_close_form ms e side inner outer (Tensor p q) c h = let a = move_close_form ms e side inner outer p c h.0 in let b = move_close_form ms e side inner outer q c h.1 in cc
-  move_close_form ms e side inner outer (Plus p q) c h = let a = move_close_form ms e side inner outer p c h.0 in let b = move_close_form ms e side inner outer q c h.1 in cc
+  move_close_form ms e side inner outer (With p q) c h = let a = move_close_form ms e side inner outer p c h.0 in
+      let b = move_close_form ms e side inner outer q c h.1 in cc
+  move_close_form ms e side inner outer (Tensor p q) c h = let a = move_close_form ms e side inner outer p c h.0 in
+      let b = move_close_form ms e side inner outer q c h.1 in cc
+  move_close_form ms e side inner outer (Plus p q) c h = let a = move_close_form ms e side inner outer p c h.0 in
+      let b = move_close_form ms e side inner outer q c h.1 in cc
   move_close_form ms e side inner outer (Bang p) c h = ap Bang (move_close_form ms e side inner outer p c h)
-  move_close_form ms e side inner outer (Lolli p q) c h = let a = move_close_form ms e (other side) inner outer p c h.0 in let b = move_close_form ms e side inner outer q c h.1 in cc
-  move_close_form ms e side inner outer (Imp p q) c h = let a = move_close_form ms e (other side) inner outer p c h.0 in let b = move_close_form ms e side inner outer q c h.1 in cc
-  move_close_form ms e side inner outer (Forall p) c h = ap Forall (move_close_form ms (None ∷ e) side (opens_on true side ∷ inner) (opens_on true side ∷ outer) p (λ i. i, c) h)
+  move_close_form ms e side inner outer (Lolli p q) c h = let a = move_close_form ms e (other side) inner outer p c h.0 in
+      let b = move_close_form ms e side inner outer q c h.1 in cc
+  move_close_form ms e side inner outer (Imp p q) c h = let a = move_close_form ms e (other side) inner outer p c h.0 in
+      let b = move_close_form ms e side inner outer q c h.1 in cc
+  move_close_form ms e side inner outer (Forall p) c h = ap Forall
+      (move_close_form ms (None ∷ e) side (opens_on true side ∷ inner) (opens_on true side ∷ outer) p (λ i. i, c) h)
   move_close_form ms e side inner outer (Exists p) c h = ap Exists (move_close_form ms (None ∷ e) side (false ∷ inner) (false ∷ outer) p (λ i. i, c) h)
-  move_close_form ms e side inner outer (Use m ts p) c h = let a = all_move_close e inner outer ts c h.1 in let b = move_close_form ms e side inner outer p c h.2 in cc
+  move_close_form ms e side inner outer (Use m ts p) c h = let a = all_move_close e inner outer ts c h.1 in
+      let b = move_close_form ms e side inner outer p c h.2 in cc
   move_close_form ms e side inner outer (Num r t u) c h = let a = move_close e inner outer t c h.0 in let b = move_close e inner outer u c h.1 in cc
 
   -- ---- leaves
@@ -343,24 +370,29 @@ module _ (to : Numbers) (name : Term → ℕ) where
   ways_move (Use m ts r) = refl
   ways_move (Num r t u) = refl
 
-  add_move : (p : Premise) (o : Option Leaf) → option_map (add_premise (move_premise p)) (option_map move_leaf o) ≡ option_map move_leaf (option_map (add_premise p) o)
+  add_move : (p : Premise) (o : Option Leaf) → option_map (add_premise (move_premise p)) (option_map move_leaf o)
+      ≡ option_map move_leaf (option_map (add_premise p) o)
   add_move p None = refl
   add_move p (Some l) =
       let f : List Premise → Option Leaf = λ ps. Some (record { premises = ps; head = move to name l.head }) in
       ap f (sym (map-append move_premise l.premises (p ∷ [])))
 
-  either : (b : Bool) (x y u v : Option Leaf) → u ≡ option_map move_leaf x → v ≡ option_map move_leaf y → (if b then u else v) ≡ option_map move_leaf (if b then x else y)
+  either : (b : Bool) (x y u v : Option Leaf) → u ≡ option_map move_leaf x → v ≡ option_map move_leaf y
+      → (if b then u else v) ≡ option_map move_leaf (if b then x else y)
   either true x y u v e f = e
   either false x y u v e f = f
 
-  leaf_from_move : (ms : List ModuleTree) (e : Env) (inner : Scope) (r : Form) (k : ℕ) (ts : List Term) → Fills to e inner [] → TameForm ms to ClauseSide inner r → AreClosed ts
+  leaf_from_move : (ms : List ModuleTree) (e : Env) (inner : Scope) (r : Form) (k : ℕ) (ts : List Term) → Fills to e inner []
+      → TameForm ms to ClauseSide inner r → AreClosed ts
       → leaf_from (move_env to name e) (move_form to name r) k (map (move to name) ts) ≡ option_map move_leaf (leaf_from e r k ts)
-  leaf_from_move ms e inner (Atom a) zero [] c h t = let f : Term → Option Leaf = λ h. Some (record { premises = []; head = h }) in ap f (sym (move_close e inner [] a c h))
+  leaf_from_move ms e inner (Atom a) zero [] c h t = let f : Term → Option Leaf = λ h. Some (record { premises = []; head = h }) in
+      ap f (sym (move_close e inner [] a c h))
   leaf_from_move ms e inner (Atom a) zero (u ∷ ts) c h t = refl
   leaf_from_move ms e inner (Atom a) (suc k) [] c h t = refl
   leaf_from_move ms e inner (Atom a) (suc k) (u ∷ ts) c h t = refl
   leaf_from_move ms e inner (With q r) k ts c h t =
-      rw (ways_move q) (either (nat_lt k (length (ways q))) (leaf_from e q k ts) (leaf_from e r (k - length (ways q)) ts) _ _ (leaf_from_move ms e inner q k ts c h.0 t) (leaf_from_move ms e inner r (k - length (ways q)) ts c h.1 t))
+      rw (ways_move q) (either (nat_lt k (length (ways q))) (leaf_from e q k ts) (leaf_from e r (k - length (ways q)) ts) _ _
+      (leaf_from_move ms e inner q k ts c h.0 t) (leaf_from_move ms e inner r (k - length (ways q)) ts c h.1 t))
   leaf_from_move ms e inner (Lolli g r) k ts c h t =
       let i = leaf_from_move ms e inner r k ts c h.1 t in let j = move_close_form ms e GoalSide inner [] g c h.0 in
       rw (i, ← j) (add_move (Needs (close_form e g)) (leaf_from e r k ts))
@@ -372,7 +404,8 @@ module _ (to : Numbers) (name : Term → ℕ) where
   leaf_from_move ms e inner _ k ts c h t = refl
 
   -- the leaf of a clause that was moved is the clause's leaf, moved
-  pub leaf_move : (ms : List ModuleTree) (r : Form) (k : ℕ) (ts : List Term) → TameForm ms to ClauseSide [] r → AreClosed ts → leaf (move_form to name r) k (map (move to name) ts) ≡ option_map move_leaf (leaf r k ts)
+  pub leaf_move : (ms : List ModuleTree) (r : Form) (k : ℕ) (ts : List Term) → TameForm ms to ClauseSide [] r → AreClosed ts
+      → leaf (move_form to name r) k (map (move to name) ts) ≡ option_map move_leaf (leaf r k ts)
   leaf_move ms r k ts h t = leaf_from_move ms [] [] r k ts tt h t
 
 -- ---- leaves of tame clauses
@@ -381,16 +414,20 @@ abbrev pub TamePremises : List ModuleTree → Numbers → List Premise → Type 
 TamePremises ms to [] = Unit {0}
 TamePremises ms to (p ∷ ps) = TameForm ms to GoalSide [] (premise_goal p) × TamePremises ms to ps
 
-premises-append : (ms : List ModuleTree) (to : Numbers) (ps : List Premise) (p : Premise) → TamePremises ms to ps → TameForm ms to GoalSide [] (premise_goal p) → TamePremises ms to (ps ++ p ∷ [])
+premises-append : (ms : List ModuleTree) (to : Numbers) (ps : List Premise) (p : Premise) → TamePremises ms to ps → TameForm ms to GoalSide [] (premise_goal p)
+    → TamePremises ms to (ps ++ p ∷ [])
 premises-append ms to [] p h f = (f, tt)
 premises-append ms to (q ∷ ps) p h f = (h.0, premises-append ms to ps p h.1 f)
 
-under_tame : (ms : List ModuleTree) (to : Numbers) (p : Premise) (o : Option Leaf) (l : Leaf) → option_map (add_premise p) o ≡ Some l → TameForm ms to GoalSide [] (premise_goal p)
+under_tame : (ms : List ModuleTree) (to : Numbers) (p : Premise) (o : Option Leaf) (l : Leaf) → option_map (add_premise p) o ≡ Some l
+    → TameForm ms to GoalSide [] (premise_goal p)
     → ((i : Leaf) → o ≡ Some i → TamePremises ms to i.premises) → TamePremises ms to l.premises
 under_tame ms to p None l h f g = cc
-under_tame ms to p (Some i) l h f g = let e : add_premise p i ≡ l = cc in subst (λ z. TamePremises ms to z.premises) e (premises-append ms to i.premises p (g i refl) f)
+under_tame ms to p (Some i) l h f g = let e : add_premise p i ≡ l = cc in
+    subst (λ z. TamePremises ms to z.premises) e (premises-append ms to i.premises p (g i refl) f)
 
-leaf_from_tame : (ms : List ModuleTree) (to : Numbers) (e : Env) (inner : Scope) (r : Form) (k : ℕ) (ts : List Term) (l : Leaf) → Fills to e inner [] → TameForm ms to ClauseSide inner r → AreClosed ts
+leaf_from_tame : (ms : List ModuleTree) (to : Numbers) (e : Env) (inner : Scope) (r : Form) (k : ℕ) (ts : List Term) (l : Leaf) → Fills to e inner []
+    → TameForm ms to ClauseSide inner r → AreClosed ts
     → leaf_from e r k ts ≡ Some l → TamePremises ms to l.premises
 leaf_from_tame ms to e inner (Atom a) zero [] l c h t q =
     let x : Leaf = record { premises = []; head = close e a } in
@@ -401,19 +438,23 @@ leaf_from_tame ms to e inner (Atom a) (suc k) (u ∷ ts) l c h t q = cc
 leaf_from_tame ms to e inner (With p r) k ts l c h t q =
     step (nat_lt k (length (ways p))) (leaf_from_tame ms to e inner p k ts l c h.0 t) (leaf_from_tame ms to e inner r (k - length (ways p)) ts l c h.1 t) q
   where
-    step : (b : Bool) → (leaf_from e p k ts ≡ Some l → TamePremises ms to l.premises) → (leaf_from e r (k - length (ways p)) ts ≡ Some l → TamePremises ms to l.premises)
+    step : (b : Bool) → (leaf_from e p k ts ≡ Some l → TamePremises ms to l.premises)
+        → (leaf_from e r (k - length (ways p)) ts ≡ Some l → TamePremises ms to l.premises)
         → (if b then leaf_from e p k ts else leaf_from e r (k - length (ways p)) ts) ≡ Some l → TamePremises ms to l.premises
     step true i j h = i h
     step false i j h = j h
 leaf_from_tame ms to e inner (Lolli g r) k ts l c h t q =
-    under_tame ms to (Needs (close_form e g)) (leaf_from e r k ts) l q (form-close ms to e GoalSide inner [] g c h.0) (λ i w. leaf_from_tame ms to e inner r k ts i c h.1 t w)
+    under_tame ms to (Needs (close_form e g)) (leaf_from e r k ts) l q (form-close ms to e GoalSide inner [] g c h.0)
+    (λ i w. leaf_from_tame ms to e inner r k ts i c h.1 t w)
 leaf_from_tame ms to e inner (Imp g r) k ts l c h t q =
-    under_tame ms to (NeedsFree (close_form e g)) (leaf_from e r k ts) l q (form-close ms to e GoalSide inner [] g c h.0) (λ i w. leaf_from_tame ms to e inner r k ts i c h.1 t w)
+    under_tame ms to (NeedsFree (close_form e g)) (leaf_from e r k ts) l q (form-close ms to e GoalSide inner [] g c h.0)
+    (λ i w. leaf_from_tame ms to e inner r k ts i c h.1 t w)
 leaf_from_tame ms to e inner (Forall r) k [] l c h t q = cc
 leaf_from_tame ms to e inner (Forall r) k (u ∷ ts) l c h t q = leaf_from_tame ms to (Some u ∷ e) (false ∷ inner) r k ts l (t.0, λ i. absurd (cc (i)), c) h t.1 q
 leaf_from_tame ms to e inner _ k ts l c h t q = cc
 
-pub leaf_tame : (ms : List ModuleTree) (to : Numbers) (r : Form) (k : ℕ) (ts : List Term) (l : Leaf) → TameForm ms to ClauseSide [] r → AreClosed ts → leaf r k ts ≡ Some l → TamePremises ms to l.premises
+pub leaf_tame : (ms : List ModuleTree) (to : Numbers) (r : Form) (k : ℕ) (ts : List Term) (l : Leaf) → TameForm ms to ClauseSide [] r → AreClosed ts
+    → leaf r k ts ≡ Some l → TamePremises ms to l.premises
 leaf_tame ms to r k ts l h t q = leaf_from_tame ms to [] [] r k ts l tt h t q
 
 -- ---- formulas without eigenconstants
@@ -499,13 +540,16 @@ module _ (ms : List ModuleTree) (n : ℕ) (to : Numbers) where
       move_sub scope (Ap t u) h =
           let p = move_sub scope t h.1 in let q = move_sub scope u h.2 in
           ap (λ o. if known to o then Ap (move to name (sub f t)) (move to name (sub f u)) else Var (name (Ap (sub f t) (sub f u)))) (sub-head f t (h.0).0)
-          ∙ (ap (λ b. if b then Ap (move to name (sub f t)) (move to name (sub f u)) else Var (name (Ap (sub f t) (sub f u)))) (known-free ms n to scope t h.1) ∙ cc)
+          ∙ (ap (λ b. if b then Ap (move to name (sub f t)) (move to name (sub f u)) else Var (name (Ap (sub f t) (sub f u)))) (known-free ms n to scope t h.1)
+          ∙ cc)
 
-      all_move_sub : (scope : Scope) (ts : List Term) → AllFit (clear ms n) scope ts → map (move to name) (map (sub f) ts) ≡ map (sub (λ x. move to name (f x))) ts
+      all_move_sub : (scope : Scope) (ts : List Term) → AllFit (clear ms n) scope ts
+          → map (move to name) (map (sub f) ts) ≡ map (sub (λ x. move to name (f x))) ts
       all_move_sub scope [] h = refl
       all_move_sub scope (t ∷ ts) h = let p = move_sub scope t h.0 in let q = all_move_sub scope ts h.1 in cc
 
-      pub move_sub_form : (side : Side) (scope : Scope) (g : Form) → Fits (clear ms n) side scope g → move_form to name (sub_form f g) ≡ sub_form (λ x. move to name (f x)) g
+      pub move_sub_form : (side : Side) (scope : Scope) (g : Form) → Fits (clear ms n) side scope g
+          → move_form to name (sub_form f g) ≡ sub_form (λ x. move to name (f x)) g
       move_sub_form side scope Top h = refl
       move_sub_form side scope One h = refl
       move_sub_form side scope (Atom a) h = ap Atom (move_sub scope a h.1)
@@ -529,7 +573,8 @@ module _ (ms : List ModuleTree) (n : ℕ) (to : Numbers) where
     sub-tame scope (Con (Eigen k)) h = none_below k h
     sub-tame scope (Ap t u) h = (
       is_head-sub f scope t h.0,
-      ap (λ o. known to o || is_closed (Ap (sub f t) (sub f u))) (sub-head f t (h.0).0) ∙ ap (λ b. b || is_closed (Ap (sub f t) (sub f u))) (known-free ms n to scope t h.1),
+      ap (λ o. known to o || is_closed (Ap (sub f t) (sub f u))) (sub-head f t (h.0).0)
+          ∙ ap (λ b. b || is_closed (Ap (sub f t) (sub f u))) (known-free ms n to scope t h.1),
       sub-tame scope t h.1,
       sub-tame scope u h.2,
     )
@@ -550,13 +595,18 @@ module _ (ms : List ModuleTree) (n : ℕ) (to : Numbers) where
     sub_form-tame side scope (Imp g k) h = (sub_form-tame (other side) scope g h.0, sub_form-tame side scope k h.1)
     sub_form-tame side scope (Forall g) h = sub_form-tame side (opens_on true side ∷ scope) g h
     sub_form-tame side scope (Exists g) h = sub_form-tame side (false ∷ scope) g h.1
-    sub_form-tame side scope (Use k ts g) h = (fits_module-length (slice_get ms k) ts (map (sub f) ts) (length-map ts (sub f)) h.1, all_sub-tame scope ts h.2, sub_form-tame side scope g h.3)
+    sub_form-tame side scope (Use k ts g) h = (
+      fits_module-length (slice_get ms k) ts (map (sub f) ts) (length-map ts (sub f)) h.1,
+      all_sub-tame scope ts h.2,
+      sub_form-tame side scope g h.3,
+    )
     sub_form-tame side scope (Num r t u) h = (sub-tame scope t h.1, sub-tame scope u h.2)
 
 -- ---- loads
 
 -- closed arguments go to the parameters
-arguments-fill : (to : Numbers) (us : List Term) (outer : Scope) → AllTame to [] us → Fills to (map (λ t. Some t) us) (replicate (length us) false ++ outer) outer
+arguments-fill : (to : Numbers) (us : List Term) (outer : Scope) → AllTame to [] us
+    → Fills to (map (λ t. Some t) us) (replicate (length us) false ++ outer) outer
 arguments-fill to [] outer h = widens-refl outer
 arguments-fill to (u ∷ us) outer h = (tame-closed to u h.0, λ i. absurd (cc (i)), arguments-fill to us outer h.1)
 
@@ -577,7 +627,8 @@ widen-terms : (to : Numbers) (scope wide : Scope) (ts : List Term) → Widens sc
 widen-terms to scope wide [] w h = tt
 widen-terms to scope wide (t ∷ ts) w h = (widen-term to scope wide t w h.0, widen-terms to scope wide ts w h.1)
 
-widen : (ms : List ModuleTree) (to : Numbers) (side : Side) (scope wide : Scope) (f : Form) → Widens scope wide → TameForm ms to side scope f → TameForm ms to side wide f
+widen : (ms : List ModuleTree) (to : Numbers) (side : Side) (scope wide : Scope) (f : Form) → Widens scope wide → TameForm ms to side scope f
+    → TameForm ms to side wide f
 widen ms to side scope wide Top w h = tt
 widen ms to side scope wide One w h = tt
 widen ms to side scope wide (Atom a) w h = widen-term to scope wide a w h
@@ -593,24 +644,29 @@ widen ms to side scope wide (Use k ts f) w h = (h.0, widen-terms to scope wide t
 widen ms to side scope wide (Num r t u) w h = (widen-term to scope wide t w h.0, widen-term to scope wide u w h.1)
 
 module _ (ms : List ModuleTree) (to : Numbers) where
-  load-tame : (kind : Kind) (scope : Scope) (r g : Form) → TameForm ms to ClauseSide scope r → TameForm ms to GoalSide scope g → TameForm ms to GoalSide scope (load kind r g)
+  load-tame : (kind : Kind) (scope : Scope) (r g : Form) → TameForm ms to ClauseSide scope r → TameForm ms to GoalSide scope g
+      → TameForm ms to GoalSide scope (load kind r g)
   load-tame Linear scope r g f h = (f, h)
   load-tame Unbounded scope r g f h = (f, h)
 
-  loads-tame : (e : Env) (inner outer : Scope) (cs : List ClauseTree) (g : Form) → Fills to e inner outer → ClausesFit (clear ms 0) inner cs → TameForm ms to GoalSide outer g → TameForm ms to GoalSide outer (load_all e cs g)
+  loads-tame : (e : Env) (inner outer : Scope) (cs : List ClauseTree) (g : Form) → Fills to e inner outer → ClausesFit (clear ms 0) inner cs
+      → TameForm ms to GoalSide outer g → TameForm ms to GoalSide outer (load_all e cs g)
   loads-tame e inner outer [] g c f h = h
   loads-tame e inner outer (d ∷ cs) g c f h =
-      load-tame d.kind outer (close_form e d.form) (load_all e cs g) (form-close ms to e ClauseSide inner outer d.form c (fits-tame ms 0 to ClauseSide inner d.form f.0)) (loads-tame e inner outer cs g c f.1 h)
+      load-tame d.kind outer (close_form e d.form) (load_all e cs g)
+      (form-close ms to e ClauseSide inner outer d.form c (fits-tame ms 0 to ClauseSide inner d.form f.0)) (loads-tame e inner outer cs g c f.1 h)
 
   foralls-tame : (n : ℕ) (scope : Scope) (g : Form) → TameForm ms to GoalSide (replicate n true ++ scope) g → TameForm ms to GoalSide scope (forall_all n g)
   foralls-tame zero scope g h = h
   foralls-tame (suc n) scope g h = foralls-tame n (true ∷ scope) g (subst (λ xs. TameForm ms to GoalSide xs g) (sym (replicate-front n true scope)) h)
 
-  module _ (m : ModuleTree) (ts : List Term) (g : Form) (f : ClausesFit (clear ms 0) (module_scope m) m.clauses) (n : length ts ≡ m.params) (t : AllTame to [] ts) (h : TameForm ms to GoalSide [] g) where
+  module _ (m : ModuleTree) (ts : List Term) (g : Form) (f : ClausesFit (clear ms 0) (module_scope m) m.clauses) (n : length ts ≡ m.params)
+      (t : AllTame to [] ts) (h : TameForm ms to GoalSide [] g) where
     filled : Fills to (map (λ t. Some t) (reverse ts)) (module_scope m) (replicate m.locals true)
     filled =
         let q : length (reverse ts) ≡ m.params = length-reverse ts ∙ n in
-        subst (λ k. Fills to (map (λ t. Some t) (reverse ts)) (replicate k false ++ replicate m.locals true) (replicate m.locals true)) q (arguments-fill to (reverse ts) (replicate m.locals true) (reverse-tame to ts [] t tt))
+        subst (λ k. Fills to (map (λ t. Some t) (reverse ts)) (replicate k false ++ replicate m.locals true) (replicate m.locals true)) q
+        (arguments-fill to (reverse ts) (replicate m.locals true) (reverse-tame to ts [] t tt))
 
     inside : TameForm ms to GoalSide (replicate m.locals true) g
     inside = widen ms to GoalSide [] (replicate m.locals true) g tt h
@@ -630,16 +686,21 @@ module _ (ms : List ModuleTree) (to : Numbers) where
       load_move Linear r g = refl
       load_move Unbounded r g = refl
 
-      loads_move : (e : Env) (inner outer : Scope) (cs : List ClauseTree) → Fills to e inner outer → ClausesFit (clear ms 0) inner cs → move_form to name (load_all e cs g) ≡ load_all (move_env to name e) cs (move_form to name g)
+      loads_move : (e : Env) (inner outer : Scope) (cs : List ClauseTree) → Fills to e inner outer → ClausesFit (clear ms 0) inner cs
+          → move_form to name (load_all e cs g) ≡ load_all (move_env to name e) cs (move_form to name g)
       loads_move e inner outer [] c f = refl
       loads_move e inner outer (d ∷ cs) c f =
           let a = loads_move e inner outer cs c f.1 in
-          let b = move_close_form to name ms e ClauseSide inner outer d.form c (fits-tame ms 0 to ClauseSide inner d.form f.0) ∙ ap (close_form (move_env to name e)) (form-stays ms 0 to name ClauseSide inner d.form f.0) in
-          load_move d.kind (close_form e d.form) (load_all e cs g) ∙ (ap (λ z. load d.kind z (move_form to name (load_all e cs g))) b ∙ ap (λ z. load d.kind (close_form (move_env to name e) d.form) z) a)
+          let b = move_close_form to name ms e ClauseSide inner outer d.form c (fits-tame ms 0 to ClauseSide inner d.form f.0)
+          ∙ ap (close_form (move_env to name e)) (form-stays ms 0 to name ClauseSide inner d.form f.0) in
+          load_move d.kind (close_form e d.form) (load_all e cs g)
+          ∙ (ap (λ z. load d.kind z (move_form to name (load_all e cs g))) b ∙ ap (λ z. load d.kind (close_form (move_env to name e) d.form) z) a)
 
       pub unfold_move : move_form to name (unfold_load m ts g) ≡ unfold_load m (map (move to name) ts) (move_form to name g)
       unfold_move =
           let e : move_env to name (map (λ t. Some t) (reverse ts)) ≡ map (λ t. Some t) (reverse (map (move to name) ts)) =
-          map_map (option_map (move to name)) (λ t. Some t) (reverse ts) ∙ (sym (map_map (λ t. Some t) (move to name) (reverse ts)) ∙ ap (map (λ t. Some t)) (map_onto (move to name) ts [])) in
+          map_map (option_map (move to name)) (λ t. Some t) (reverse ts)
+          ∙ (sym (map_map (λ t. Some t) (move to name) (reverse ts)) ∙ ap (map (λ t. Some t)) (map_onto (move to name) ts [])) in
           forall_move m.locals (load_all (map (λ t. Some t) (reverse ts)) m.clauses g)
-          ∙ ap (forall_all m.locals) (loads_move (map (λ t. Some t) (reverse ts)) (module_scope m) (replicate m.locals true) m.clauses filled f ∙ ap (λ z. load_all z m.clauses (move_form to name g)) e)
+          ∙ ap (forall_all m.locals) (loads_move (map (λ t. Some t) (reverse ts)) (module_scope m) (replicate m.locals true) m.clauses filled f
+          ∙ ap (λ z. load_all z m.clauses (move_form to name g)) e)

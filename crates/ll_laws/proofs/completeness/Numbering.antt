@@ -63,23 +63,31 @@ module _ (to : Numbers) (c j : ℕ) (name : Term → ℕ) where
   all-fresh : (ts : List Term) → list_any (has_eigen c) ts ≡ false → map (move (add_number to c j) name) ts ≡ map (move to name) ts
   all-fresh [] h = refl
   all-fresh (t ∷ ts) h =
-      let p = move-fresh t (or_off_left (has_eigen c t) (list_any (has_eigen c) ts) h) in let q = all-fresh ts (or_off_right (has_eigen c t) (list_any (has_eigen c) ts) h) in cc
+      let p = move-fresh t (or_off_left (has_eigen c t) (list_any (has_eigen c) ts) h) in
+      let q = all-fresh ts (or_off_right (has_eigen c t) (list_any (has_eigen c) ts) h) in cc
 
   pub form-fresh : (g : Form) → form_has_eigen c g ≡ false → move_form (add_number to c j) name g ≡ move_form to name g
   form-fresh Top h = refl
   form-fresh One h = refl
   form-fresh (Atom a) h = ap Atom (move-fresh a h)
-  form-fresh (With f g) h = let p = form-fresh f (or_off_left (form_has_eigen c f) (form_has_eigen c g) h) in let q = form-fresh g (or_off_right (form_has_eigen c f) (form_has_eigen c g) h) in cc
-  form-fresh (Tensor f g) h = let p = form-fresh f (or_off_left (form_has_eigen c f) (form_has_eigen c g) h) in let q = form-fresh g (or_off_right (form_has_eigen c f) (form_has_eigen c g) h) in cc
-  form-fresh (Plus f g) h = let p = form-fresh f (or_off_left (form_has_eigen c f) (form_has_eigen c g) h) in let q = form-fresh g (or_off_right (form_has_eigen c f) (form_has_eigen c g) h) in cc
+  form-fresh (With f g) h = let p = form-fresh f (or_off_left (form_has_eigen c f) (form_has_eigen c g) h) in
+      let q = form-fresh g (or_off_right (form_has_eigen c f) (form_has_eigen c g) h) in cc
+  form-fresh (Tensor f g) h = let p = form-fresh f (or_off_left (form_has_eigen c f) (form_has_eigen c g) h) in
+      let q = form-fresh g (or_off_right (form_has_eigen c f) (form_has_eigen c g) h) in cc
+  form-fresh (Plus f g) h = let p = form-fresh f (or_off_left (form_has_eigen c f) (form_has_eigen c g) h) in
+      let q = form-fresh g (or_off_right (form_has_eigen c f) (form_has_eigen c g) h) in cc
   form-fresh (Bang f) h = ap Bang (form-fresh f h)
-  form-fresh (Lolli f g) h = let p = form-fresh f (or_off_left (form_has_eigen c f) (form_has_eigen c g) h) in let q = form-fresh g (or_off_right (form_has_eigen c f) (form_has_eigen c g) h) in cc
-  form-fresh (Imp f g) h = let p = form-fresh f (or_off_left (form_has_eigen c f) (form_has_eigen c g) h) in let q = form-fresh g (or_off_right (form_has_eigen c f) (form_has_eigen c g) h) in cc
+  form-fresh (Lolli f g) h = let p = form-fresh f (or_off_left (form_has_eigen c f) (form_has_eigen c g) h) in
+      let q = form-fresh g (or_off_right (form_has_eigen c f) (form_has_eigen c g) h) in cc
+  form-fresh (Imp f g) h = let p = form-fresh f (or_off_left (form_has_eigen c f) (form_has_eigen c g) h) in
+      let q = form-fresh g (or_off_right (form_has_eigen c f) (form_has_eigen c g) h) in cc
   form-fresh (Forall f) h = ap Forall (form-fresh f h)
   form-fresh (Exists f) h = ap Exists (form-fresh f h)
   form-fresh (Use m ts f) h =
-      let p = all-fresh ts (or_off_left (list_any (has_eigen c) ts) (form_has_eigen c f) h) in let q = form-fresh f (or_off_right (list_any (has_eigen c) ts) (form_has_eigen c f) h) in cc
-  form-fresh (Num r t u) h = let p = move-fresh t (or_off_left (has_eigen c t) (has_eigen c u) h) in let q = move-fresh u (or_off_right (has_eigen c t) (has_eigen c u) h) in cc
+      let p = all-fresh ts (or_off_left (list_any (has_eigen c) ts) (form_has_eigen c f) h) in
+      let q = form-fresh f (or_off_right (list_any (has_eigen c) ts) (form_has_eigen c f) h) in cc
+  form-fresh (Num r t u) h = let p = move-fresh t (or_off_left (has_eigen c t) (has_eigen c u) h) in
+      let q = move-fresh u (or_off_right (has_eigen c t) (has_eigen c u) h) in cc
 
 -- ---- numbers below the next one
 
@@ -107,7 +115,8 @@ module _ (to : Numbers) (name : Term → ℕ) where
   move-below e b (Con (Eigen c)) = numbered-below e (to c) (name (Con (Eigen c))) (b c)
   move-below e b (Ap f a) = step (known to (head_of f)) (move-below e b f) (move-below e b a)
     where
-      step : (y : Bool) → eigens_below e (move to name f) ≡ true → eigens_below e (move to name a) ≡ true → eigens_below e (if y then Ap (move to name f) (move to name a) else Var (name (Ap f a))) ≡ true
+      step : (y : Bool) → eigens_below e (move to name f) ≡ true → eigens_below e (move to name a) ≡ true
+          → eigens_below e (if y then Ap (move to name f) (move to name a) else Var (name (Ap f a))) ≡ true
       step true p q = and_intro _ _ p q
       step false p q = refl
 
@@ -159,7 +168,8 @@ module _ (to : Numbers) (name : Term → ℕ) where
       step (Some j) = refl
   move-closed (Ap f a) h =
       let i = and_left (is_spine f && is_closed f) (is_closed a) h in
-      step (known to (head_of f)) refl (and_left (is_spine f) (is_closed f) i) (move-closed f (and_right (is_spine f) (is_closed f) i)) (move-closed a (and_right (is_spine f && is_closed f) (is_closed a) h))
+      step (known to (head_of f)) refl (and_left (is_spine f) (is_closed f) i) (move-closed f (and_right (is_spine f) (is_closed f) i))
+      (move-closed a (and_right (is_spine f && is_closed f) (is_closed a) h))
     where
       step : (b : Bool) → known to (head_of f) ≡ b → is_spine f ≡ true → is_closed (move to name f) ≡ true → is_closed (move to name a) ≡ true
           → is_closed (if b then Ap (move to name f) (move to name a) else Var (name (Ap f a))) ≡ true

@@ -1,5 +1,6 @@
 -- The search of a valid problem finds whatever a derivation shows.
-use Rattle.std.proofs.Common.{◌≡◌, inl, inr, ℕ, zero, suc, ◌+◌, refl, ap, sym, subst, ◌∙◌, Bool, true, false, List, [], ◌∷◌, map, length, take, replicate, arith}
+use Rattle.std.proofs.Common.{◌≡◌, inl, inr, ℕ, zero, suc, ◌+◌, refl, ap, sym, subst, ◌∙◌, Bool, true, false, List, [], ◌∷◌, map, length, take, replicate}
+use Rattle.std.proofs.Common.{arith}
 use Rattle.std.specs.Prelude.{◌||◌, Some, slice_get, slice_index, slice_index_or}
 use Rattle.std.specs.List.{list_any, list_all}
 use Rattle.std.proofs.lemmas.List.{length-map}
@@ -78,7 +79,8 @@ shown_found p d bound valid sh le =
     let begins : run_start p ts ≡ grounded f (start_of p) = sym (run_begins p f ts valid (sym values)) in
     let back : Run (setting_of p) (length d.nodes) (sub_state f (start_of p)) = record {
       nodes = run.nodes;
-      trace = trace_unlevelled (setting_of p) (start_of p).levels run.nodes (grounded f (start_of p)) (subst (λ s. Trace (setting_of p) run.nodes s) begins run.trace);
+      trace = trace_unlevelled (setting_of p) (start_of p).levels run.nodes (grounded f (start_of p))
+          (subst (λ s. Trace (setting_of p) run.nodes s) begins run.trace);
       count = run.count;
       numberless = run.numberless;
     } in
@@ -88,7 +90,8 @@ shown_found p d bound valid sh le =
     } in
     let r = runs_found (length p.names) (setting_of p) (start_of p) f (length d.nodes) bound valid.modules (starts_consistent p valid) fit back le in
     let found : IsInstance (take (length d.asked) r.answer.terms) ts =
-    subst (λ k. IsInstance (take k r.answer.terms) ts) (length-map d.asked (hide name)) (subst (λ us. IsInstance (take (length us) r.answer.terms) us) values r.instance) in
+    subst (λ k. IsInstance (take k r.answer.terms) ts) (length-map d.asked (hide name))
+    (subst (λ us. IsInstance (take (length us) r.answer.terms) us) values r.instance) in
     record {
       answer = r.answer;
       found = r.found;
@@ -143,5 +146,6 @@ nothing_shown p d valid status sh =
     let w = bare (problem_events p) status in
     let r = shown_found p d high valid sh (omega arith) in
     let same : events (setting_of p) high (start_of p) ≡ problem_events p = events_steady (setting_of p) p.bound high (start_of p) (omega arith) w.steady in
-    let some = some_answer (problem_events p) r.answer (subst (Among (Answer r.answer)) same (among (events (setting_of p) high (start_of p)) (Answer r.answer) r.found)) in
+    let some = some_answer (problem_events p) r.answer (subst (Among (Answer r.answer)) same
+    (among (events (setting_of p) high (start_of p)) (Answer r.answer) r.found)) in
     let z : true ≡ false = sym some ∙ w.answerless in cc

@@ -79,7 +79,8 @@ pub taken_from_map : (n : ℕ) (d : List Labelled) (r : Form) (e : List Labelled
 taken_from_map n [] r e h = cc
 taken_from_map n (x ∷ d) r e h = step (nat_eq n x.label) refl (take_label n d) refl (taken_from_map n d) h
   where
-    step : (b : Bool) → nat_eq n x.label ≡ b → (o : Found) → take_label n d ≡ o → ((r : Form) (e : List Labelled) → take_label n d ≡ Took r e → TakenFrom n d r e)
+    step : (b : Bool) → nat_eq n x.label ≡ b → (o : Found) → take_label n d ≡ o
+        → ((r : Form) (e : List Labelled) → take_label n d ≡ Took r e → TakenFrom n d r e)
         → (if b then Took x.clause d else behind x o) ≡ Took r e → TakenFrom n (x ∷ d) r e
     step true q o w go h =
         let i : x.clause ≡ r = cc in let j : d ≡ e = cc in
@@ -179,14 +180,21 @@ module _ {ms : List ModuleTree} {to : Numbers} {name : Term → ℕ} {at : ℕ �
   }
 
   -- what a tree leaves over of the context
-  pub used_sits : (x : Tree) → ((l : Labelled) → Among l d → uses (at l.label) x ≡ false) → Sits ms to name at s es c d → Sits ms to name at s (used_up x es) c d
+  pub used_sits : (x : Tree) → ((l : Labelled) → Among l d → uses (at l.label) x ≡ false) → Sits ms to name at s es c d
+      → Sits ms to name at s (used_up x es) c d
   used_sits x idle i = record {
     sound = sound_used x es i.sound;
     fresh = λ n h. sound_same (use_entry x) (λ e. refl) n es (i.fresh n h);
     new = λ n h. ap (list_any (form_has_eigen n)) (used_clauses x es) ∙ i.new n h;
     below = i.below;
     free = λ l m. let h = i.free l m in
-        record { entry = use_entry x h.entry; finds = entry_map (use_entry x) (λ e. refl) es (at l.label) h.entry h.finds; kind = h.kind; live = λ q. cc; clause = h.clause };
+        record {
+          entry = use_entry x h.entry;
+          finds = entry_map (use_entry x) (λ e. refl) es (at l.label) h.entry h.finds;
+          kind = h.kind;
+          live = λ q. cc;
+          clause = h.clause;
+        };
     bounded = λ l m. let h = i.bounded l m in
         let off : uses h.entry.label x ≡ false = ap (λ z. uses z x) (entry_label es (at l.label) h.entry h.finds) ∙ idle l m in
         record {
@@ -210,7 +218,14 @@ module _ {ms : List ModuleTree} {to : Numbers} {name : Term → ℕ} {at : ℕ �
     new = λ n h. ap (list_any (form_has_eigen n)) (unlive_clauses es) ∙ i.new n h;
     below = i.below;
     free = λ l m. let h = i.free l m in
-        record { entry = unlive h.entry; finds = entry_map unlive (λ e. refl) es (at l.label) h.entry h.finds; kind = h.kind; live = λ q. cc; clause = h.clause };
+        record {
+          entry = unlive h.entry;
+          finds = entry_map unlive (λ e. refl) es (at l.label) h.entry h.finds;
+          kind = h.kind;
+          live = λ q. cc;
+          clause =
+              h.clause;
+        };
     bounded = λ l m. absurd m;
     apart = λ l k m n q. absurd m;
     distinct = tt;
@@ -219,7 +234,8 @@ module _ {ms : List ModuleTree} {to : Numbers} {name : Term → ℕ} {at : ℕ �
   }
 
   -- a linear clause that was picked
-  pub picked_sits : (n : ℕ) (r : Form) (e : List Labelled) → take_label n d ≡ Took r e → Sits ms to name at s es c d → Sits ms to name at s (picked (at n) es) c e
+  pub picked_sits : (n : ℕ) (r : Form) (e : List Labelled) → take_label n d ≡ Took r e → Sits ms to name at s es c d
+      → Sits ms to name at s (picked (at n) es) c e
   picked_sits n r e t i = record {
     sound = sound_picked (at n) es i.sound;
     fresh = λ k h. any_picked k (at n) es ∙ i.fresh k h;
@@ -253,14 +269,29 @@ module _ {ms : List ModuleTree} {to : Numbers} {name : Term → ℕ} {at : ℕ �
           eqb-false n l.label g (sym f.same ∙ w))
 
   -- a new eigenconstant of the run for one that the clauses do not mention
-  pub forall_sits : (k : ℕ) (g : Form) (u : State) → u.label ≡ s.label → u.eigens ≡ suc s.eigens → IsNew k (g ∷ (clauses c ++ clauses d)) → Sits ms to name at s es c d → Sits ms (add_number to k s.eigens) name at u es c d
+  pub forall_sits : (k : ℕ) (g : Form) (u : State) → u.label ≡ s.label → u.eigens ≡ suc s.eigens → IsNew k (g ∷ (clauses c ++ clauses d))
+      → Sits ms to name at s es c d → Sits ms (add_number to k s.eigens) name at u es c d
   forall_sits k g u a b w i = record {
     sound = i.sound;
     fresh = λ n h. i.fresh n (omega arith);
     new = λ n h. i.new n (omega arith);
     below = subst (NumbersBelow (add_number to k s.eigens)) (sym b) (add-below to k s.eigens i.below);
-    free = λ l m. let h = i.free l m in record { entry = h.entry; finds = h.finds; kind = h.kind; live = h.live; clause = h.clause ∙ sym (form-fresh to k s.eigens name l.clause (none_of (form_has_eigen k) c l parts.0 m)) };
-    bounded = λ l m. let h = i.bounded l m in record { entry = h.entry; finds = h.finds; kind = h.kind; live = h.live; clause = h.clause ∙ sym (form-fresh to k s.eigens name l.clause (none_of (form_has_eigen k) d l parts.1 m)) };
+    free = λ l m. let h = i.free l m in record {
+      entry = h.entry;
+      finds = h.finds;
+      kind = h.kind;
+      live = h.live;
+      clause =
+          h.clause ∙ sym (form-fresh to k s.eigens name l.clause (none_of (form_has_eigen k) c l parts.0 m));
+    };
+    bounded = λ l m. let h = i.bounded l m in record {
+      entry = h.entry;
+      finds = h.finds;
+      kind = h.kind;
+      live = h.live;
+      clause =
+          h.clause ∙ sym (form-fresh to k s.eigens name l.clause (none_of (form_has_eigen k) d l parts.1 m));
+    };
     apart = i.apart;
     distinct = i.distinct;
     tame_free = λ l m. form-more ms to (add_number to k s.eigens) ClauseSide [] l.clause (more-numbers to k s.eigens) (i.tame_free l m);
@@ -268,7 +299,8 @@ module _ {ms : List ModuleTree} {to : Numbers} {name : Term → ℕ} {at : ℕ �
   }
     where
       both : list_any (form_has_eigen k) (clauses c) || list_any (form_has_eigen k) (clauses d) ≡ false
-      both = sym (list_any-append (form_has_eigen k) (clauses c) (clauses d)) ∙ or_off_right (form_has_eigen k g) (list_any (form_has_eigen k) (clauses c ++ clauses d)) w
+      both = sym (list_any-append (form_has_eigen k) (clauses c) (clauses d))
+          ∙ or_off_right (form_has_eigen k g) (list_any (form_has_eigen k) (clauses c ++ clauses d)) w
 
       parts : (list_any (form_has_eigen k) (clauses c) ≡ false) × (list_any (form_has_eigen k) (clauses d) ≡ false)
       parts = (or_off_left _ (list_any (form_has_eigen k) (clauses d)) both, or_off_right (list_any (form_has_eigen k) (clauses c)) _ both)
@@ -290,8 +322,10 @@ abbrev pub new_entry : State → Bool → Form → Entry Form
 new_entry s true r = record { label = s.label; kind = Linear; live = true; clause = r }
 new_entry s false r = record { label = s.label; kind = Unbounded; live = false; clause = r }
 
-module _ {ms : List ModuleTree} {to : Numbers} {name : Term → ℕ} {at : ℕ → ℕ} {s : State} {es : List (Entry Form)} {c d : List Labelled} (i : Sits ms to name at s es c d) (n : ℕ) (r : Form)
-    (fc : has_label c n ≡ false) (fd : has_label d n ≡ false) (tame : TameForm ms to ClauseSide [] r) (u : State) (ul : u.label ≡ suc s.label) (ue : u.eigens ≡ s.eigens) where
+module _ {ms : List ModuleTree} {to : Numbers} {name : Term → ℕ} {at : ℕ
+    → ℕ} {s : State} {es : List (Entry Form)} {c d : List Labelled} (i : Sits ms to name at s es c d) (n : ℕ) (r : Form)
+    (fc : has_label c n ≡ false) (fd : has_label d n ≡ false) (tame : TameForm ms to ClauseSide [] r) (u : State) (ul : u.label ≡ suc s.label)
+    (ue : u.eigens ≡ s.eigens) where
   abbrev one : Labelled
   one = record { label = n; clause = r }
 
@@ -299,13 +333,15 @@ module _ {ms : List ModuleTree} {to : Numbers} {name : Term → ℕ} {at : ℕ �
   fresh_now = i.fresh s.label (omega arith)
 
   -- an older clause, as before
-  older : (b linear : Bool) (e : List Labelled) → has_label e n ≡ false → AllHold to name at linear es e → AllHold to name (add_label at n s.label) linear (new_entry s b (move_form to name r) ∷ es) e
+  older : (b linear : Bool) (e : List Labelled) → has_label e n ≡ false → AllHold to name at linear es e
+      → AllHold to name (add_label at n s.label) linear (new_entry s b (move_form to name r) ∷ es) e
   older true linear e f h l m =
       let k = h l m in
       let w : add_label at n s.label l.label ≡ at l.label = kept_label at n s.label l.label (other_label e n l f m) in
       record {
         entry = k.entry;
-        finds = ap (entry_at (new_entry s true (move_form to name r) ∷ es)) w ∙ entry_behind es (new_entry s true (move_form to name r)) (at l.label) k.entry fresh_now k.finds;
+        finds = ap (entry_at (new_entry s true (move_form to name r) ∷ es)) w
+            ∙ entry_behind es (new_entry s true (move_form to name r)) (at l.label) k.entry fresh_now k.finds;
         kind = k.kind;
         live = k.live;
         clause = k.clause;
@@ -315,7 +351,8 @@ module _ {ms : List ModuleTree} {to : Numbers} {name : Term → ℕ} {at : ℕ �
       let w : add_label at n s.label l.label ≡ at l.label = kept_label at n s.label l.label (other_label e n l f m) in
       record {
         entry = k.entry;
-        finds = ap (entry_at (new_entry s false (move_form to name r) ∷ es)) w ∙ entry_behind es (new_entry s false (move_form to name r)) (at l.label) k.entry fresh_now k.finds;
+        finds = ap (entry_at (new_entry s false (move_form to name r) ∷ es)) w
+            ∙ entry_behind es (new_entry s false (move_form to name r)) (at l.label) k.entry fresh_now k.finds;
         kind = k.kind;
         live = k.live;
         clause = k.clause;
@@ -328,7 +365,8 @@ module _ {ms : List ModuleTree} {to : Numbers} {name : Term → ℕ} {at : ℕ �
   fresh_then k h = ap (λ b. b || list_any (λ e. nat_eq k e.label) es) (ne_eqb k s.label (λ q. omega (arith, q, h))) ∙ i.fresh k (omega arith)
 
   new_then : (k : ℕ) → s.eigens ≤ k → form_has_eigen k (move_form to name r) || list_any (form_has_eigen k) (map (λ e. e.clause) es) ≡ false
-  new_then k h = ap (λ b. b || list_any (form_has_eigen k) (map (λ e. e.clause) es)) (form-new to name k (λ x j q. let l = i.below x j q in omega arith) r) ∙ i.new k h
+  new_then k h = ap (λ b. b || list_any (form_has_eigen k) (map (λ e. e.clause) es)) (form-new to name k (λ x j q. let l = i.below x j q in omega arith) r)
+      ∙ i.new k h
 
   -- an older label is none that is new
   old_not_new : (l : Labelled) → Among l d → add_label at n s.label l.label ≡ s.label → ⊥
@@ -354,7 +392,14 @@ module _ {ms : List ModuleTree} {to : Numbers} {name : Term → ℕ} {at : ℕ �
       is_one : (l : Labelled) → (one ≡ l) ⊎ ⊥ → Holds to name (add_label at n s.label) true (new_entry s true (move_form to name r) ∷ es) l
       is_one l (inl q) =
           subst (Holds to name (add_label at n s.label) true (new_entry s true (move_form to name r) ∷ es)) q
-          (record { entry = new_entry s true (move_form to name r); finds = found_new (new_entry s true (move_form to name r)) refl; kind = refl; live = λ h. refl; clause = refl })
+          (record {
+            entry = new_entry s true (move_form to name r);
+            finds = found_new (new_entry s true (move_form to name r)) refl;
+            kind = refl;
+            live =
+                λ h. refl;
+            clause = refl;
+          })
       is_one l (inr h) = absurd h
 
       here : (l : Labelled) → Among l d ⊎ Among l (one ∷ []) → Holds to name (add_label at n s.label) true (new_entry s true (move_form to name r) ∷ es) l
@@ -366,8 +411,10 @@ module _ {ms : List ModuleTree} {to : Numbers} {name : Term → ℕ} {at : ℕ �
       gentle l (inr (inl q)) = subst (λ z. TameForm ms to ClauseSide [] z.clause) q tame
       gentle l (inr (inr h)) = absurd h
 
-      both : (l k : Labelled) → Among l d ⊎ Among l (one ∷ []) → Among k d ⊎ Among k (one ∷ []) → add_label at n s.label l.label ≡ add_label at n s.label k.label → l.label ≡ k.label
-      both l k (inl m) (inl w) q = i.apart l k m w (sym (kept_label at n s.label l.label (other_label d n l fd m)) ∙ (q ∙ kept_label at n s.label k.label (other_label d n k fd w)))
+      both : (l k : Labelled) → Among l d ⊎ Among l (one ∷ []) → Among k d ⊎ Among k (one ∷ [])
+          → add_label at n s.label l.label ≡ add_label at n s.label k.label → l.label ≡ k.label
+      both l k (inl m) (inl w) q = i.apart l k m w (sym (kept_label at n s.label l.label (other_label d n l fd m))
+          ∙ (q ∙ kept_label at n s.label k.label (other_label d n k fd w)))
       both l k (inl m) (inr (inl w)) q = absurd (old_not_new l m (q ∙ (ap (λ z. add_label at n s.label z.label) (sym w) ∙ own_label at n s.label)))
       both l k (inr (inl m)) (inl w) q = absurd (old_not_new k w (sym q ∙ (ap (λ z. add_label at n s.label z.label) (sym m) ∙ own_label at n s.label)))
       both l k (inr (inl m)) (inr (inl w)) q = ap (λ z. z.label) (sym m) ∙ ap (λ z. z.label) w
@@ -382,7 +429,8 @@ module _ {ms : List ModuleTree} {to : Numbers} {name : Term → ℕ} {at : ℕ �
     below = subst (NumbersBelow to) (sym ue) i.below;
     free = λ l m. here l m;
     bounded = older false true d fd i.bounded;
-    apart = λ l k m w q. i.apart l k m w (sym (kept_label at n s.label l.label (other_label d n l fd m)) ∙ (q ∙ kept_label at n s.label k.label (other_label d n k fd w)));
+    apart = λ l k m w q. i.apart l k m w (sym (kept_label at n s.label l.label (other_label d n l fd m))
+        ∙ (q ∙ kept_label at n s.label k.label (other_label d n k fd w)));
     distinct = i.distinct;
     tame_free = λ l m. gentle l m;
     tame_bounded = i.tame_bounded;
@@ -391,7 +439,14 @@ module _ {ms : List ModuleTree} {to : Numbers} {name : Term → ℕ} {at : ℕ �
       here : (l : Labelled) → Among l (one ∷ c) → Holds to name (add_label at n s.label) false (new_entry s false (move_form to name r) ∷ es) l
       here l (inl q) =
           subst (Holds to name (add_label at n s.label) false (new_entry s false (move_form to name r) ∷ es)) q
-          (record { entry = new_entry s false (move_form to name r); finds = found_new (new_entry s false (move_form to name r)) refl; kind = refl; live = λ h. cc; clause = refl })
+          (record {
+            entry = new_entry s false (move_form to name r);
+            finds = found_new (new_entry s false (move_form to name r)) refl;
+            kind = refl;
+            live =
+                λ h. cc;
+            clause = refl;
+          })
       here l (inr m) = older false false c fc i.free l m
 
       gentle : (l : Labelled) → Among l (one ∷ c) → TameForm ms to ClauseSide [] l.clause

@@ -1,5 +1,6 @@
 -- What a derivation shows, a run brings about: node by node, with the leftovers that each node hands on.
-use Rattle.std.proofs.Common.{◌≡◌, ◌≤◌, ◌⊎◌, inl, inr, ℕ, suc, ◌+◌, refl, ap, sym, subst, ◌∙◌, Bool, true, false, List, [], ◌∷◌, ◌++◌, map, nat_eq, arith, append_assoc}
+use Rattle.std.proofs.Common.{◌≡◌, ◌≤◌, ◌⊎◌, inl, inr, ℕ, suc, ◌+◌, refl, ap, sym, subst, ◌∙◌, Bool, true, false, List, [], ◌∷◌, ◌++◌, map, nat_eq, arith}
+use Rattle.std.proofs.Common.{append_assoc}
 use Rattle.std.specs.Prelude.{◌&&◌, ◌||◌, not, Some, slice_get}
 use Rattle.std.specs.List.{list_any}
 use Rattle.std.proofs.lemmas.Bool.{eqb-true, eq-eqb, ne_eqb, eqb-false, or_left as or_one, or_right as or_two, or_parts}
@@ -17,15 +18,20 @@ use Rattle.ll_laws.specs.Settle.{Entry, Saved, Item, Goal, LolliEnd, ImpEnd, Wit
 use Rattle.ll_laws.specs.State.{State}
 use Rattle.ll_laws.specs.Attempt.{is_linear, is_open, entry_at, picked}
 use Rattle.ll_laws.specs.Derive.{IsNew}
-use Rattle.ll_laws.specs.Shows.{Tree, OneNode, EraseNode, TensorNode, WithNode, LeftNode, RightNode, BangNode, LolliNode, ImpNode, ForallNode, ExistsNode, UseNode, ClauseNode, Parts, NoParts, BoundedPart, UnboundedPart, Labelled, has, has_label, part, rest, one_of, splits, nodes, part_nodes}
+use Rattle.ll_laws.specs.Shows.{Tree, OneNode, EraseNode, TensorNode, WithNode, LeftNode, RightNode, BangNode, LolliNode, ImpNode, ForallNode, ExistsNode}
+use Rattle.ll_laws.specs.Shows.{UseNode, ClauseNode, Parts, NoParts, BoundedPart, UnboundedPart, Labelled, has, has_label, part, rest, one_of, splits, nodes}
+use Rattle.ll_laws.specs.Shows.{part_nodes}
 use Rattle.ll_laws.specs.Line.{Line, TensorLine, WithLine, BangLine, ClauseLine, Labels, Free, lines, lines_of_parts, part_lines, part_line}
-use Rattle.ll_laws.specs.Run.{goes_one, goes_top, goes_tensor, goes_left, goes_right, goes_with, goes_bang, goes_lolli, goes_imp, goes_forall, goes_exists, goes_use, goes_atom, Trace, MayChoose}
+use Rattle.ll_laws.specs.Run.{goes_one, goes_top, goes_tensor, goes_left, goes_right, goes_with, goes_bang, goes_lolli, goes_imp, goes_forall, goes_exists}
+use Rattle.ll_laws.specs.Run.{goes_use, goes_atom, Trace, MayChoose}
 use Rattle.ll_laws.specs.Dealing.{uses, uses_part, erases, erases_part}
 use Rattle.ll_laws.proofs.search.AnswerRuns.{Among, among_either}
 use Rattle.ll_laws.proofs.search.LeafTries.{among_left, among_right}
-use Rattle.ll_laws.proofs.derivations.Leftovers.{on, use_entry, used_up, used_parts, used_none, used_then, used_parts_none, used_parts_then, used_clause, remark_used, remark_to, remark_unlive, Sound}
+use Rattle.ll_laws.proofs.derivations.Leftovers.{on, use_entry, used_up, used_parts, used_none, used_then, used_parts_none, used_parts_then, used_clause}
+use Rattle.ll_laws.proofs.derivations.Leftovers.{remark_used, remark_to, remark_unlive, Sound}
 use Rattle.ll_laws.proofs.completeness.Moving.{Numbers}
-use Rattle.ll_laws.proofs.search.RunEnds.{begin, mid_back, with_back, bang_back, imp_back, lolli_back, Joined, joined, entry_map, entry_behind, not_new, picked_other, live_linear, found_by_label}
+use Rattle.ll_laws.proofs.search.RunEnds.{begin, mid_back, with_back, bang_back, imp_back, lolli_back, Joined, joined, entry_map, entry_behind, not_new}
+use Rattle.ll_laws.proofs.search.RunEnds.{picked_other, live_linear, found_by_label}
 use Rattle.ll_laws.proofs.completeness.Sitting.{in_filter, filter_in, all_pass, other_label, Sits, add_label, own_label, kept_label, new_entry}
 use Rattle.ll_laws.proofs.derivations.Numberless.{numbers, numbers_part}
 use Rattle.ll_laws.proofs.completeness.Grounding.{or_none}
@@ -51,7 +57,8 @@ AllUsed at d wipes takes = wipes ≡ false → (l : Labelled) → Among l d → 
 
 -- A tree of the run, for the goal g in front of the rest of the agenda: it uses of the bounded clauses what it must, and a run of what comes
 -- after it is one from the goal on.
-pub record Ran (beside : Setting) (at : ℕ → ℕ) (size : ℕ) (d : List Labelled) (s : State) (g : Form) (others : List (Item Form)) (es : List (Entry Form)) (v : Bool) : Type 0 where
+pub record Ran (beside : Setting) (at : ℕ → ℕ) (size : ℕ) (d : List Labelled) (s : State) (g : Form) (others : List (Item Form)) (es : List (Entry Form))
+    (v : Bool) : Type 0 where
   pub tree : Tree
   pub next : State
   pub labels : s.label ≤ next.label
@@ -60,10 +67,12 @@ pub record Ran (beside : Setting) (at : ℕ → ℕ) (size : ℕ) (d : List Labe
   pub all : AllUsed at d (erases tree) (λ k. uses k tree)
   pub count : nodes tree ≡ size
   pub numberless : numbers tree ≡ false
-  pub trace : (more : List Line) → Trace beside more (on next others (used_up tree es) (v || erases tree)) → Trace beside (lines tree ++ more) (on s (Goal g ∷ others) es v)
+  pub trace : (more : List Line) → Trace beside more (on next others (used_up tree es) (v || erases tree))
+      → Trace beside (lines tree ++ more) (on s (Goal g ∷ others) es v)
 
 -- the same of the premises of a leaf
-pub record RanParts (beside : Setting) (at : ℕ → ℕ) (size : ℕ) (d : List Labelled) (s : State) (gs : List Premise) (others : List (Item Form)) (es : List (Entry Form)) (v : Bool) : Type 0 where
+pub record RanParts (beside : Setting) (at : ℕ → ℕ) (size : ℕ) (d : List Labelled) (s : State) (gs : List Premise) (others : List (Item Form))
+    (es : List (Entry Form)) (v : Bool) : Type 0 where
   pub parts : Parts
   pub next : State
   pub labels : s.label ≤ next.label
@@ -73,7 +82,8 @@ pub record RanParts (beside : Setting) (at : ℕ → ℕ) (size : ℕ) (d : List
   pub count : part_nodes parts ≡ size
   pub numberless : numbers_part parts ≡ false
   pub kinds : part_lines parts ≡ map part_line gs
-  pub trace : (more : List Line) → Trace beside more (on next others (used_parts parts es) (v || erases_part parts)) → Trace beside (lines_of_parts parts ++ more) (on s (map (λ p. Goal (premise_goal p)) gs ++ others) es v)
+  pub trace : (more : List Line) → Trace beside more (on next others (used_parts parts es) (v || erases_part parts))
+      → Trace beside (lines_of_parts parts ++ more) (on s (map (λ p. Goal (premise_goal p)) gs ++ others) es v)
 
 -- ---- parts of the bounded clauses
 
@@ -94,8 +104,10 @@ not_both true p q = cc
 not_both false p q = cc
 
 -- what a tree used of one part, it did not use of another
-pub apart_idle : {ms : List ModuleTree} {to : Numbers} {name : Term → ℕ} {at : ℕ → ℕ} {s : State} {es : List (Entry Form)} {c d : List Labelled} → Sits ms to name at s es c d → (x e : List Labelled) (takes : ℕ → Bool)
-    → ((l : Labelled) → Among l x → Among l d) → ((l : Labelled) → Among l e → Among l d) → ((l k : Labelled) → Among l x → Among k e → l.label ≡ k.label → ⊥) → Within at x es takes
+pub apart_idle : {ms : List ModuleTree} {to : Numbers} {name : Term → ℕ} {at : ℕ → ℕ} {s : State} {es : List (Entry Form)} {c d : List Labelled}
+    → Sits ms to name at s es c d → (x e : List Labelled) (takes : ℕ → Bool)
+    → ((l : Labelled) → Among l x → Among l d) → ((l : Labelled) → Among l e → Among l d) → ((l k : Labelled) → Among l x → Among k e → l.label ≡ k.label → ⊥)
+    → Within at x es takes
     → (l : Labelled) → Among l e → takes (at l.label) ≡ false
 apart_idle {at = at} i x e takes f g differ w l m = step (takes (at l.label)) refl
   where
@@ -128,7 +140,8 @@ module _ (beside : Setting) (at : ℕ → ℕ) (d : List Labelled) (s : State) (
     count = refl;
     numberless = refl;
     trace = λ more run. begin beside more s One others es v _ _ goes_one
-        (subst (λ w. Trace beside more (on (after_step s Plain) others w v)) (used_none OneNode (λ n. refl) es) (subst (λ b. Trace beside more (on (after_step s Plain) others (used_up OneNode es) b)) (or-false v) run));
+        (subst (λ w. Trace beside more (on (after_step s Plain) others w v)) (used_none OneNode (λ n. refl) es)
+        (subst (λ b. Trace beside more (on (after_step s Plain) others (used_up OneNode es) b)) (or-false v) run));
   }
 
   pub top_ran : Ran beside at 1 d s Top others es v
@@ -142,7 +155,8 @@ module _ (beside : Setting) (at : ℕ → ℕ) (d : List Labelled) (s : State) (
     count = refl;
     numberless = refl;
     trace = λ more run. begin beside more s Top others es v _ _ goes_top
-        (subst (λ w. Trace beside more (on (after_step s Plain) others w true)) (used_none EraseNode (λ n. refl) es) (subst (λ b. Trace beside more (on (after_step s Plain) others (used_up EraseNode es) b)) (or-true v) run));
+        (subst (λ w. Trace beside more (on (after_step s Plain) others w true)) (used_none EraseNode (λ n. refl) es)
+        (subst (λ b. Trace beside more (on (after_step s Plain) others (used_up EraseNode es) b)) (or-true v) run));
   }
 
   -- ---- `,`
@@ -158,17 +172,20 @@ module _ (beside : Setting) (at : ℕ → ℕ) (d : List Labelled) (s : State) (
       within = λ k e u h l. or_split (uses k a.tree) (uses k b.tree) u
           (λ w. used_more at (part p d) d k (in_part p d) (a.within k e w h l))
           (λ w. used_more at (part q d) d k (in_part q d) (still_within at (part q d) es a.tree (λ k. uses k b.tree) b.within k e w h l));
-      all = λ w l h. let z = or_parts (erases a.tree) (erases b.tree) w in side l h (has p l.label) refl (has q l.label) refl (all_pass (λ l. one_of (has p l.label) (has q l.label)) d l (and_right _ _ sp) h) (z.0) (z.1);
+      all = λ w l h. let z = or_parts (erases a.tree) (erases b.tree) w in
+          side l h (has p l.label) refl (has q l.label) refl (all_pass (λ l. one_of (has p l.label) (has q l.label)) d l (and_right _ _ sp) h) (z.0) (z.1);
       count = ap (λ z. suc (z + nodes b.tree)) a.count ∙ ap (λ z. suc (m + z)) b.count;
       numberless = or_none (numbers a.tree) (numbers b.tree) a.numberless b.numberless;
       trace = λ more run.
-          let r = b.trace more (subst (λ z. Trace beside more (on b.next others (used_up b.tree (used_up a.tree es)) z)) (sym (or_assoc v (erases a.tree) (erases b.tree)))
+          let r = b.trace more (subst (λ z. Trace beside more (on b.next others (used_up b.tree (used_up a.tree es)) z))
+          (sym (or_assoc v (erases a.tree) (erases b.tree)))
           (subst (λ w. Trace beside more (on b.next others w (v || (erases a.tree || erases b.tree)))) (sym (used_then a.tree b.tree es)) run)) in
           subst (λ ns. Trace beside (TensorLine [] [] ∷ ns) (on s (Goal (Tensor f g) ∷ others) es v)) (sym (append_assoc (lines a.tree) (lines b.tree) more))
           (begin beside (lines a.tree ++ (lines b.tree ++ more)) s (Tensor f g) others es v _ _ goes_tensor (a.trace (lines b.tree ++ more) r));
     }
       where
-        side : (l : Labelled) → Among l d → (x : Bool) → has p l.label ≡ x → (y : Bool) → has q l.label ≡ y → one_of (has p l.label) (has q l.label) ≡ true → erases a.tree ≡ false → erases b.tree ≡ false
+        side : (l : Labelled) → Among l d → (x : Bool) → has p l.label ≡ x → (y : Bool) → has q l.label ≡ y → one_of (has p l.label) (has q l.label) ≡ true
+            → erases a.tree ≡ false → erases b.tree ≡ false
             → uses (at l.label) a.tree || uses (at l.label) b.tree ≡ true
         side l h true x y z w i j = or_one (uses (at l.label) a.tree) (uses (at l.label) b.tree) (a.all i l (filter_in (λ l. has p l.label) d l h x))
         side l h false x true z w i j = or_two (uses (at l.label) a.tree) (uses (at l.label) b.tree) (b.all j l (filter_in (λ l. has q l.label) d l h z))
@@ -204,15 +221,20 @@ module _ (beside : Setting) (at : ℕ → ℕ) (d : List Labelled) (s : State) (
 
   -- ---- `&`
 
-  module _ (f g : Form) (m n : ℕ) (sound : Sound es) (a : Ran beside at m d (after_step s Plain) f (WithMiddle (record { live = marks es; flag = v }) ∷ Goal g ∷ WithEnd (record { live = marks es; flag = v }) (record { live = marks es; flag = v }) ∷ others) es false)
-      (b : Ran beside at n d a.next g (WithEnd (record { live = marks es; flag = v }) (record { live = marks (used_up a.tree es); flag = erases a.tree }) ∷ others) es false) where
+  module _ (f g : Form) (m n : ℕ) (sound : Sound es) (a : Ran beside at m d (after_step s Plain) f
+      (WithMiddle (record { live = marks es; flag = v }) ∷ Goal g ∷ WithEnd (record { live = marks es; flag = v }) (record { live = marks es; flag = v })
+      ∷ others) es false)
+      (b : Ran beside at n d a.next g (WithEnd (record { live = marks es; flag = v }) (record { live = marks (used_up a.tree es); flag = erases a.tree })
+      ∷ others) es false) where
     -- a side that erases nothing uses all that the other uses
-    no_more : (x y : ℕ → Bool) (wipes : Bool) → wipes ≡ false → AllUsed at d wipes y → Within at d es x → (e : Entry Form) → Among e es → e.live ≡ true → x e.label ≡ true → y e.label ≡ true
+    no_more : (x y : ℕ → Bool) (wipes : Bool) → wipes ≡ false → AllUsed at d wipes y → Within at d es x → (e : Entry Form) → Among e es → e.live ≡ true
+        → x e.label ≡ true → y e.label ≡ true
     no_more x y wipes w all within e h l u =
         let k = within e.label e u (found_by_label es e sound h) (live_linear es e sound h l) in ap y (sym k.same) ∙ all w k.label k.among
 
     both : Joined a.tree b.tree es
-    both = joined a.tree b.tree es (λ w. no_more (λ k. uses k b.tree) (λ k. uses k a.tree) (erases a.tree) w a.all b.within) (λ w. no_more (λ k. uses k a.tree) (λ k. uses k b.tree) (erases b.tree) w b.all a.within)
+    both = joined a.tree b.tree es (λ w. no_more (λ k. uses k b.tree) (λ k. uses k a.tree) (erases a.tree) w a.all b.within)
+        (λ w. no_more (λ k. uses k a.tree) (λ k. uses k b.tree) (erases b.tree) w b.all a.within)
 
     pub with_ran : Ran beside at (suc (m + n)) d s (With f g) others es v
     with_ran = record {
@@ -227,8 +249,10 @@ module _ (beside : Setting) (at : ℕ → ℕ) (d : List Labelled) (s : State) (
       trace = λ more run.
           let sv : Saved = record { live = marks es; flag = v } in
           let half : Saved = record { live = marks (used_up a.tree es); flag = erases a.tree } in
-          let e : remark (used_up b.tree es) both.saved.live ≡ used_up (WithNode a.tree b.tree) es = ap (remark (used_up b.tree es)) both.live ∙ remark_to b.tree (WithNode a.tree b.tree) es in
-          let t = subst (λ w. Trace beside more (on b.next others w (v || both.saved.flag))) (sym e) (subst (λ z. Trace beside more (on b.next others (used_up (WithNode a.tree b.tree) es) (v || z))) (sym both.flag) run) in
+          let e : remark (used_up b.tree es) both.saved.live ≡ used_up (WithNode a.tree b.tree) es =
+          ap (remark (used_up b.tree es)) both.live ∙ remark_to b.tree (WithNode a.tree b.tree) es in
+          let t = subst (λ w. Trace beside more (on b.next others w (v || both.saved.flag))) (sym e)
+          (subst (λ z. Trace beside more (on b.next others (used_up (WithNode a.tree b.tree) es) (v || z))) (sym both.flag) run) in
           let r = b.trace more (with_back beside more b.next sv half both.saved others (used_up b.tree es) (erases b.tree) both.is t) in
           let q = mid_back beside (lines b.tree ++ more) a.next sv g sv others (used_up a.tree es) (erases a.tree)
           (subst (λ w. Trace beside (lines b.tree ++ more) (on a.next (Goal g ∷ WithEnd sv half ∷ others) w false)) (sym (remark_used a.tree es)) r) in
@@ -236,20 +260,24 @@ module _ (beside : Setting) (at : ℕ → ℕ) (d : List Labelled) (s : State) (
           (begin beside (lines a.tree ++ (lines b.tree ++ more)) s (With f g) others es v _ _ goes_with (a.trace (lines b.tree ++ more) q));
     }
       where
-        side : (l : Labelled) → Among l d → (x : Bool) → erases a.tree ≡ x → x && erases b.tree ≡ false → uses (at l.label) a.tree || uses (at l.label) b.tree ≡ true
+        side : (l : Labelled) → Among l d → (x : Bool) → erases a.tree ≡ x → x && erases b.tree ≡ false
+            → uses (at l.label) a.tree || uses (at l.label) b.tree ≡ true
         side l h false q w = or_one (uses (at l.label) a.tree) (uses (at l.label) b.tree) (a.all q l h)
         side l h true q w = or_two (uses (at l.label) a.tree) (uses (at l.label) b.tree) (b.all w l h)
 
   -- ---- `{}`
 
-  bang_trace : (f : Form) (m : ℕ) (e : List Labelled) (a : Ran beside at m e (after_step s Plain) f (BangEnd (record { live = marks es; flag = v }) ∷ others) (map unlive es) false) (more : List Line)
+  bang_trace : (f : Form) (m : ℕ) (e : List Labelled) (a : Ran beside at m e (after_step s Plain) f (BangEnd (record { live = marks es; flag = v }) ∷ others)
+      (map unlive es) false) (more : List Line)
       → Trace beside more (on a.next others es v) → Trace beside (BangLine ∷ (lines a.tree ++ more)) (on s (Goal (Bang f) ∷ others) es v)
   bang_trace f m e a more run =
       let sv : Saved = record { live = marks es; flag = v } in
       begin beside (lines a.tree ++ more) s (Bang f) others es v _ _ goes_bang
-      (a.trace more (bang_back beside more a.next sv others (used_up a.tree (map unlive es)) (erases a.tree) (subst (λ w. Trace beside more (on a.next others w v)) (sym (remark_unlive a.tree es)) run)))
+      (a.trace more (bang_back beside more a.next sv others (used_up a.tree (map unlive es)) (erases a.tree)
+      (subst (λ w. Trace beside more (on a.next others w v)) (sym (remark_unlive a.tree es)) run)))
 
-  pub bang_ran : (f : Form) (m : ℕ) → d ≡ [] → Ran beside at m [] (after_step s Plain) f (BangEnd (record { live = marks es; flag = v }) ∷ others) (map unlive es) false → Ran beside at (suc m) d s (Bang f) others es v
+  pub bang_ran : (f : Form) (m : ℕ) → d ≡ [] → Ran beside at m [] (after_step s Plain) f (BangEnd (record { live = marks es; flag = v }) ∷ others)
+      (map unlive es) false → Ran beside at (suc m) d s (Bang f) others es v
   bang_ran f m e a = record {
     tree = BangNode a.tree;
     next = a.next;
@@ -260,7 +288,8 @@ module _ (beside : Setting) (at : ℕ → ℕ) (d : List Labelled) (s : State) (
     count = ap (λ z. suc z) a.count;
     numberless = a.numberless;
     trace = λ more run. bang_trace f m [] a more
-        (subst (λ w. Trace beside more (on a.next others w v)) (used_none (BangNode a.tree) (λ n. refl) es) (subst (λ b. Trace beside more (on a.next others (used_up (BangNode a.tree) es) b)) (or-false v) run));
+        (subst (λ w. Trace beside more (on a.next others w v)) (used_none (BangNode a.tree) (λ n. refl) es)
+        (subst (λ b. Trace beside more (on a.next others (used_up (BangNode a.tree) es) b)) (or-false v) run));
   }
 
   -- ---- `-o` and `=>`
@@ -274,7 +303,12 @@ module _ (beside : Setting) (at : ℕ → ℕ) (d : List Labelled) (s : State) (
 
     -- an older clause that was used keeps its label
     used_before : (k : ℕ) (e : Entry Form) → entry_at es k ≡ Some e → UsedFor (add_label at n s.label) d k → UsedFor at d k
-    used_before k e h u = record { label = u.label; among = u.among; same = sym (kept_label at n s.label u.label.label (other_label d n u.label fd u.among)) ∙ u.same }
+    used_before k e h u = record {
+      label = u.label;
+      among = u.among;
+      same =
+          sym (kept_label at n s.label u.label.label (other_label d n u.label fd u.among)) ∙ u.same;
+    }
 
     module _ (a : Ran beside (add_label at n s.label) m (d ++ added ∷ []) loading g (LolliEnd v ∷ others) (new_entry s true r ∷ es) false) where
       pub lolli_ran : Ran beside at (suc m) d s (Lolli r g) others es v
@@ -288,10 +322,12 @@ module _ (beside : Setting) (at : ℕ → ℕ) (d : List Labelled) (s : State) (
         count = ap (λ z. suc z) a.count;
         numberless = a.numberless;
         trace = λ more run. begin beside (lines a.tree ++ more) s (Lolli r g) others es v _ _ (goes_lolli fresh)
-            (a.trace more (lolli_back beside more a.next v others (use_entry a.tree (new_entry s true r)) (used_up a.tree es) (erases a.tree) (spent (erases a.tree) refl) run));
+            (a.trace more (lolli_back beside more a.next v others (use_entry a.tree (new_entry s true r)) (used_up a.tree es) (erases a.tree)
+            (spent (erases a.tree) refl) run));
       }
         where
-          split : (k : ℕ) (e : Entry Form) → entry_at es k ≡ Some e → (u : UsedFor (add_label at n s.label) (d ++ added ∷ []) k) → Among u.label d ⊎ Among u.label (added ∷ []) → UsedFor at d k
+          split : (k : ℕ) (e : Entry Form) → entry_at es k ≡ Some e → (u : UsedFor (add_label at n s.label) (d ++ added ∷ []) k)
+              → Among u.label d ⊎ Among u.label (added ∷ []) → UsedFor at d k
           split k e h u (inl w) = used_before k e h (record { label = u.label; among = w; same = u.same })
           split k e h u (inr (inl w)) =
               let x : s.label ≡ k = sym (own_label at n s.label) ∙ (ap (λ z. add_label at n s.label z.label) w ∙ u.same) in
@@ -303,7 +339,8 @@ module _ (beside : Setting) (at : ℕ → ℕ) (d : List Labelled) (s : State) (
 
           spent : (b : Bool) → erases a.tree ≡ b → not (uses s.label a.tree) && not (erases a.tree) ≡ false
           spent true w = ap (λ z. not (uses s.label a.tree) && not z) w ∙ and-false (not (uses s.label a.tree))
-          spent false w = ap (λ z. not z && not (erases a.tree)) (ap (λ z. uses z a.tree) (sym (own_label at n s.label)) ∙ a.all w added (among_right added d (added ∷ []) (inl refl)))
+          spent false w = ap (λ z. not z && not (erases a.tree))
+              (ap (λ z. uses z a.tree) (sym (own_label at n s.label)) ∙ a.all w added (among_right added d (added ∷ []) (inl refl)))
 
     module _ (a : Ran beside (add_label at n s.label) m d loading g (ImpEnd ∷ others) (new_entry s false r ∷ es) v) where
       pub imp_ran : Ran beside at (suc m) d s (Imp r g) others es v
@@ -322,7 +359,8 @@ module _ (beside : Setting) (at : ℕ → ℕ) (d : List Labelled) (s : State) (
 
   -- ---- quantifiers and loads
 
-  pub forall_ran : (f : Form) (m : ℕ) → IsNew s.eigens (f ∷ map (λ e. e.clause) es) → Ran beside at m d (record (after_step s Plain) { eigens = suc s.eigens }) (instantiate f (Con (Eigen s.eigens))) others es v
+  pub forall_ran : (f : Form) (m : ℕ) → IsNew s.eigens (f ∷ map (λ e. e.clause) es)
+      → Ran beside at m d (record (after_step s Plain) { eigens = suc s.eigens }) (instantiate f (Con (Eigen s.eigens))) others es v
       → Ran beside at (suc m) d s (Forall f) others es v
   forall_ran f m w a = record {
     tree = ForallNode s.eigens a.tree;
@@ -336,7 +374,9 @@ module _ (beside : Setting) (at : ℕ → ℕ) (d : List Labelled) (s : State) (
     trace = λ more run. begin beside (lines a.tree ++ more) s (Forall f) others es v _ _ (goes_forall w) (a.trace more run);
   }
 
-  pub exists_ran : (f : Form) (t : Term) (m : ℕ) → MayChoose s.eigens (t ∷ []) → Ran beside at m d (record (after_step s Plain) { terms = s.terms ++ t ∷ [] }) (instantiate f t) others es v → Ran beside at (suc m) d s (Exists f) others es v
+  pub exists_ran : (f : Form) (t : Term) (m : ℕ) → MayChoose s.eigens (t ∷ [])
+      → Ran beside at m d (record (after_step s Plain) { terms = s.terms ++ t ∷ [] }) (instantiate f t) others es v
+      → Ran beside at (suc m) d s (Exists f) others es v
   exists_ran f t m w a = record {
     tree = ExistsNode t a.tree;
     next = a.next;
@@ -349,7 +389,8 @@ module _ (beside : Setting) (at : ℕ → ℕ) (d : List Labelled) (s : State) (
     trace = λ more run. begin beside (lines a.tree ++ more) s (Exists f) others es v _ _ (goes_exists t w) (a.trace more run);
   }
 
-  pub use_ran : (k : ℕ) (ts : List Term) (g : Form) (l : ModuleTree) (m : ℕ) → slice_get beside.modules k ≡ Some l → Ran beside at m d (after_step s Plain) (unfold_load l ts g) others es v → Ran beside at (suc m) d s (Use k ts g) others es v
+  pub use_ran : (k : ℕ) (ts : List Term) (g : Form) (l : ModuleTree) (m : ℕ) → slice_get beside.modules k ≡ Some l
+      → Ran beside at m d (after_step s Plain) (unfold_load l ts g) others es v → Ran beside at (suc m) d s (Use k ts g) others es v
   use_ran k ts g l m q a = record {
     tree = UseNode a.tree;
     next = a.next;
@@ -364,8 +405,10 @@ module _ (beside : Setting) (at : ℕ → ℕ) (d : List Labelled) (s : State) (
 
   -- ---- an atom
 
-  module _ (head : Term) (sound : Sound es) (k j : ℕ) (us : List Term) (ps : List Premise) (x : Entry Form) (finds : entry_at es k ≡ Some x) (opened : is_open x ≡ true) (choice : MayChoose s.eigens us)
-      (leaves : leaf x.clause j us ≡ Some (record { premises = ps; head = head })) (e : List Labelled) (own : is_linear x.kind ≡ true → UsedFor at d k) (left : (l : Labelled) → Among l e → Among l d)
+  module _ (head : Term) (sound : Sound es) (k j : ℕ) (us : List Term) (ps : List Premise) (x : Entry Form) (finds : entry_at es k ≡ Some x)
+      (opened : is_open x ≡ true) (choice : MayChoose s.eigens us)
+      (leaves : leaf x.clause j us ≡ Some (record { premises = ps; head = head })) (e : List Labelled) (own : is_linear x.kind ≡ true
+      → UsedFor at d k) (left : (l : Labelled) → Among l e → Among l d)
       (either : (l : Labelled) → Among l d → (at l.label ≡ k) ⊎ Among l e) (m : ℕ)
       (a : RanParts beside at m e (record s { terms = s.terms ++ us; steps = s.steps ++ ClauseStep k j ∷ [] }) ps others (picked k es) v) where
     pub clause_ran : Ran beside at (suc m) d s (Atom head) others es v
@@ -382,12 +425,14 @@ module _ (beside : Setting) (at : ℕ → ℕ) (d : List Labelled) (s : State) (
       count = ap (λ z. suc z) a.count;
       numberless = a.numberless;
       trace = λ more run.
-          let r = a.trace more (subst (λ w. Trace beside more (on a.next others w (v || erases_part a.parts))) (sym (used_clause k j us a.parts es sound)) run) in
+          let r = a.trace more (subst (λ w. Trace beside more (on a.next others w (v || erases_part a.parts))) (sym (used_clause k j us a.parts es sound)) run)
+          in
           subst (λ z. Trace beside (ClauseLine k j us z ∷ (lines_of_parts a.parts ++ more)) (on s (Goal (Atom head) ∷ others) es v)) (sym a.kinds)
           (begin beside (lines_of_parts a.parts ++ more) s (Atom head) others es v _ _ (goes_atom x k j us ps finds opened choice leaves) r);
     }
       where
-        which : (n : ℕ) (w : Entry Form) → entry_at es n ≡ Some w → is_linear w.kind ≡ true → (b : Bool) → nat_eq n k ≡ b → b || uses_part n a.parts ≡ true → UsedFor at d n
+        which : (n : ℕ) (w : Entry Form) → entry_at es n ≡ Some w → is_linear w.kind ≡ true → (b : Bool) → nat_eq n k ≡ b → b || uses_part n a.parts ≡ true
+            → UsedFor at d n
         which n w h l true q u =
             let i : n ≡ k = eqb-true n k q in
             let y : Some x ≡ Some w = sym finds ∙ (ap (entry_at es) (sym i) ∙ h) in
@@ -409,13 +454,15 @@ module _ (beside : Setting) (at : ℕ → ℕ) (d : List Labelled) (s : State) (
     count = refl;
     numberless = refl;
     kinds = refl;
-    trace = λ more run. subst (λ w. Trace beside more (on s others w v)) (used_parts_none es) (subst (λ b. Trace beside more (on s others (used_parts NoParts es) b)) (or-false v) run);
+    trace = λ more run. subst (λ w. Trace beside more (on s others w v)) (used_parts_none es)
+        (subst (λ b. Trace beside more (on s others (used_parts NoParts es) b)) (or-false v) run);
   }
 
   abbrev rest_of : List Premise → List (Item Form)
   rest_of gs = map (λ p. Goal (premise_goal p)) gs ++ others
 
-  module _ (g : Form) (gs : List Premise) (p : List ℕ) (m n : ℕ) (a : Ran beside at m (part p d) s g (rest_of gs) es v) (b : RanParts beside at n (rest p d) a.next gs others (used_up a.tree es) (v || erases a.tree)) where
+  module _ (g : Form) (gs : List Premise) (p : List ℕ) (m n : ℕ) (a : Ran beside at m (part p d) s g (rest_of gs) es v)
+      (b : RanParts beside at n (rest p d) a.next gs others (used_up a.tree es) (v || erases a.tree)) where
     pub bounded_part : RanParts beside at (m + n) d s (Needs g ∷ gs) others es v
     bounded_part = record {
       parts = BoundedPart [] a.tree b.parts;
@@ -430,16 +477,21 @@ module _ (beside : Setting) (at : ℕ → ℕ) (d : List Labelled) (s : State) (
       numberless = or_none (numbers a.tree) (numbers_part b.parts) a.numberless b.numberless;
       kinds = ap (λ z. Labels [] ∷ z) b.kinds;
       trace = λ more run.
-          let r = b.trace more (subst (λ z. Trace beside more (on b.next others (used_parts b.parts (used_up a.tree es)) z)) (sym (or_assoc v (erases a.tree) (erases_part b.parts)))
+          let r = b.trace more (subst (λ z. Trace beside more (on b.next others (used_parts b.parts (used_up a.tree es)) z))
+          (sym (or_assoc v (erases a.tree) (erases_part b.parts)))
           (subst (λ w. Trace beside more (on b.next others w (v || (erases a.tree || erases_part b.parts)))) (sym (used_parts_then a.tree b.parts es)) run)) in
-          subst (λ ns. Trace beside ns (on s (Goal g ∷ rest_of gs) es v)) (sym (append_assoc (lines a.tree) (lines_of_parts b.parts) more)) (a.trace (lines_of_parts b.parts ++ more) r);
+          subst (λ ns. Trace beside ns (on s (Goal g ∷ rest_of gs) es v)) (sym (append_assoc (lines a.tree) (lines_of_parts b.parts) more))
+          (a.trace (lines_of_parts b.parts ++ more) r);
     }
       where
-        side : (l : Labelled) → Among l d → (x : Bool) → has p l.label ≡ x → erases a.tree ≡ false → erases_part b.parts ≡ false → uses (at l.label) a.tree || uses_part (at l.label) b.parts ≡ true
+        side : (l : Labelled) → Among l d → (x : Bool) → has p l.label ≡ x → erases a.tree ≡ false → erases_part b.parts ≡ false
+            → uses (at l.label) a.tree || uses_part (at l.label) b.parts ≡ true
         side l h true x i j = or_one (uses (at l.label) a.tree) (uses_part (at l.label) b.parts) (a.all i l (filter_in (λ l. has p l.label) d l h x))
-        side l h false x i j = or_two (uses (at l.label) a.tree) (uses_part (at l.label) b.parts) (b.all j l (filter_in (λ l. not (has p l.label)) d l h (ap not x)))
+        side l h false x i j = or_two (uses (at l.label) a.tree) (uses_part (at l.label) b.parts)
+            (b.all j l (filter_in (λ l. not (has p l.label)) d l h (ap not x)))
 
-  module _ (g : Form) (gs : List Premise) (m n : ℕ) (a : Ran beside at m [] (after_step s Plain) g (BangEnd (record { live = marks es; flag = v }) ∷ rest_of gs) (map unlive es) false) (b : RanParts beside at n d a.next gs others es v) where
+  module _ (g : Form) (gs : List Premise) (m n : ℕ) (a : Ran beside at m [] (after_step s Plain) g (BangEnd (record { live = marks es; flag = v }) ∷ rest_of gs)
+      (map unlive es) false) (b : RanParts beside at n d a.next gs others es v) where
     pub free_part : RanParts beside at (suc m + n) d s (NeedsFree g ∷ gs) others es v
     free_part = record {
       parts = UnboundedPart (BangNode a.tree) b.parts;

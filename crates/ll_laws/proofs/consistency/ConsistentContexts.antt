@@ -56,14 +56,17 @@ alike-marks [] (e ∷ es) ds a h = cc
 alike-marks (b ∷ bs) [] ds a h = cc
 alike-marks (b ∷ bs) (e ∷ es) [] a h = absurd a
 alike-marks (b ∷ bs) (e ∷ es) (d ∷ ds) a h =
-    and_intro _ _ (subst (λ k. may_live k b ≡ true) a.1 (and_left (may_live e.kind b) (marks_fit bs es) h)) (alike-marks bs es ds a.2 (and_right (may_live e.kind b) (marks_fit bs es) h))
+    and_intro _ _ (subst (λ k. may_live k b ≡ true) a.1 (and_left (may_live e.kind b) (marks_fit bs es) h))
+    (alike-marks bs es ds a.2 (and_right (may_live e.kind b) (marks_fit bs es) h))
 
-newest-alike : (linear : Bool) (p q : List (Entry Form) → Bool) (es ds : List (Entry Form)) → ((es ds : List (Entry Form)) → Alike es ds → p es ≡ true → q ds ≡ true) → Alike es ds
+newest-alike : (linear : Bool) (p q : List (Entry Form) → Bool) (es ds : List (Entry Form))
+    → ((es ds : List (Entry Form)) → Alike es ds → p es ≡ true → q ds ≡ true) → Alike es ds
     → newest_is linear p es ≡ true → newest_is linear q ds ≡ true
 newest-alike linear p q [] ds f a h = cc
 newest-alike linear p q (e ∷ es) [] f a h = absurd a
 newest-alike linear p q (e ∷ es) (d ∷ ds) f a h =
-    and_intro _ _ (subst (λ k. is_of_kind linear k ≡ true) a.1 (and_left (is_of_kind linear e.kind) (p es) h)) (f es ds a.2 (and_right (is_of_kind linear e.kind) (p es) h))
+    and_intro _ _ (subst (λ k. is_of_kind linear k ≡ true) a.1 (and_left (is_of_kind linear e.kind) (p es) h))
+    (f es ds a.2 (and_right (is_of_kind linear e.kind) (p es) h))
 
 -- ends look at labels and kinds alone
 pub alike-ends : (a : List (Item Form)) (es ds : List (Entry Form)) → Alike es ds → ends_fit a es ≡ true → ends_fit a ds ≡ true
@@ -73,22 +76,26 @@ alike-ends (LolliEnd saved ∷ rest) es ds k h = newest-alike true (ends_fit res
 alike-ends (ImpEnd ∷ rest) es ds k h = newest-alike false (ends_fit rest) (ends_fit rest) es ds (alike-ends rest) k h
 alike-ends (WithMiddle saved ∷ rest) es ds k h =
     let i = and_left (begins_second_side rest && marks_fit saved.live es) (ends_fit rest es) h in
-    and_intro _ _ (and_intro _ _ (and_left (begins_second_side rest) (marks_fit saved.live es) i) (alike-marks saved.live es ds k (and_right (begins_second_side rest) (marks_fit saved.live es) i)))
+    and_intro _ _ (and_intro _ _ (and_left (begins_second_side rest) (marks_fit saved.live es) i)
+    (alike-marks saved.live es ds k (and_right (begins_second_side rest) (marks_fit saved.live es) i)))
     (alike-ends rest es ds k (and_right (begins_second_side rest && marks_fit saved.live es) (ends_fit rest es) h))
 alike-ends (WithEnd saved half ∷ rest) es ds k h =
     let i = and_left (marks_fit saved.live es && marks_fit half.live es) (ends_fit rest es) h in
     and_intro _ _
-    (and_intro _ _ (alike-marks saved.live es ds k (and_left (marks_fit saved.live es) (marks_fit half.live es) i)) (alike-marks half.live es ds k (and_right (marks_fit saved.live es) (marks_fit half.live es) i)))
+    (and_intro _ _ (alike-marks saved.live es ds k (and_left (marks_fit saved.live es) (marks_fit half.live es) i))
+    (alike-marks half.live es ds k (and_right (marks_fit saved.live es) (marks_fit half.live es) i)))
     (alike-ends rest es ds k (and_right (marks_fit saved.live es && marks_fit half.live es) (ends_fit rest es) h))
 alike-ends (BangEnd saved ∷ rest) es ds k h =
-    and_intro _ _ (alike-marks saved.live es ds k (and_left (marks_fit saved.live es) (ends_fit rest es) h)) (alike-ends rest es ds k (and_right (marks_fit saved.live es) (ends_fit rest es) h))
+    and_intro _ _ (alike-marks saved.live es ds k (and_left (marks_fit saved.live es) (ends_fit rest es) h))
+    (alike-ends rest es ds k (and_right (marks_fit saved.live es) (ends_fit rest es) h))
 
 pub alike-below : (n : ℕ) (es ds : List (Entry Form)) → Alike es ds → list_all (λ e. nat_lt e.label n) es ≡ true → list_all (λ e. nat_lt e.label n) ds ≡ true
 alike-below n [] [] a h = refl
 alike-below n [] (d ∷ ds) a h = absurd a
 alike-below n (e ∷ es) [] a h = absurd a
 alike-below n (e ∷ es) (d ∷ ds) a h =
-    and_intro _ _ (subst (λ l. nat_lt l n ≡ true) a.0 (and_left (nat_lt e.label n) (list_all (λ e. nat_lt e.label n) es) h)) (alike-below n es ds a.2 (and_right (nat_lt e.label n) _ h))
+    and_intro _ _ (subst (λ l. nat_lt l n ≡ true) a.0 (and_left (nat_lt e.label n) (list_all (λ e. nat_lt e.label n) es) h))
+    (alike-below n es ds a.2 (and_right (nat_lt e.label n) _ h))
 
 alike-any : (l : ℕ) (es ds : List (Entry Form)) → Alike es ds → list_any (λ d. nat_eq l d.label) es ≡ list_any (λ d. nat_eq l d.label) ds
 alike-any l [] [] a = refl
@@ -104,7 +111,8 @@ alike-differ (e ∷ es) [] a h = absurd a
 alike-differ (e ∷ es) (d ∷ ds) a h =
     let i = and_left (not (list_any (λ d. nat_eq e.label d.label) es)) (labels_differ es) h in
     let j = subst (λ b. not b ≡ true) (alike-any e.label es ds a.2) i in
-    and_intro _ _ (subst (λ l. not (list_any (λ d. nat_eq l d.label) ds) ≡ true) a.0 j) (alike-differ es ds a.2 (and_right (not (list_any (λ d. nat_eq e.label d.label) es)) (labels_differ es) h))
+    and_intro _ _ (subst (λ l. not (list_any (λ d. nat_eq l d.label) ds) ≡ true) a.0 j)
+    (alike-differ es ds a.2 (and_right (not (list_any (λ d. nat_eq e.label d.label) es)) (labels_differ es) h))
 
 -- ---- live marks
 
@@ -119,7 +127,8 @@ marks-fit (e ∷ es) h = and_intro _ _ (and_left (may_live e.kind e.live) (all_m
 pub may-remark : (es : List (Entry Form)) (bs : List Bool) → marks_fit bs es ≡ true → all_may (remark es bs) ≡ true
 may-remark [] bs h = refl
 may-remark (e ∷ es) [] h = cc
-may-remark (e ∷ es) (b ∷ bs) h = and_intro _ _ (and_left (may_live e.kind b) (marks_fit bs es) h) (may-remark es bs (and_right (may_live e.kind b) (marks_fit bs es) h))
+may-remark (e ∷ es) (b ∷ bs) h = and_intro _ _ (and_left (may_live e.kind b) (marks_fit bs es) h)
+    (may-remark es bs (and_right (may_live e.kind b) (marks_fit bs es) h))
 
 dead : (k : Kind) → may_live k false ≡ true
 dead Linear = refl
@@ -212,7 +221,8 @@ second-sub : (s : ℕ → Term) (a : List (Item Form)) → begins_second_side a 
 second-sub s (Goal g ∷ WithEnd saved half ∷ rest) h = refl
 second-sub s _ h = cc
 
-newest-same : (linear : Bool) (p q : List (Entry Form) → Bool) (es : List (Entry Form)) → ((es : List (Entry Form)) → p es ≡ true → q es ≡ true) → newest_is linear p es ≡ true → newest_is linear q es ≡ true
+newest-same : (linear : Bool) (p q : List (Entry Form) → Bool) (es : List (Entry Form)) → ((es : List (Entry Form)) → p es ≡ true → q es ≡ true)
+    → newest_is linear p es ≡ true → newest_is linear q es ≡ true
 newest-same linear p q [] f h = h
 newest-same linear p q (e ∷ es) f h = and_intro _ _ (and_left (is_of_kind linear e.kind) (p es) h) (f es (and_right (is_of_kind linear e.kind) (p es) h))
 
@@ -224,7 +234,8 @@ ends-sub s (LolliEnd saved ∷ rest) es h = newest-same true (ends_fit rest) (en
 ends-sub s (ImpEnd ∷ rest) es h = newest-same false (ends_fit rest) (ends_fit (map (sub_item s) rest)) es (ends-sub s rest) h
 ends-sub s (WithMiddle saved ∷ rest) es h =
     let i = and_left (begins_second_side rest && marks_fit saved.live es) (ends_fit rest es) h in
-    and_intro _ _ (and_intro _ _ (second-sub s rest (and_left (begins_second_side rest) (marks_fit saved.live es) i)) (and_right (begins_second_side rest) (marks_fit saved.live es) i))
+    and_intro _ _ (and_intro _ _ (second-sub s rest (and_left (begins_second_side rest) (marks_fit saved.live es) i))
+    (and_right (begins_second_side rest) (marks_fit saved.live es) i))
     (ends-sub s rest es (and_right (begins_second_side rest && marks_fit saved.live es) (ends_fit rest es) h))
 ends-sub s (WithEnd saved half ∷ rest) es h =
     and_intro _ _ (and_left (marks_fit saved.live es && marks_fit half.live es) (ends_fit rest es) h)

@@ -9,8 +9,11 @@ use Rattle.ll_bank.specs.Term.{Term, Env, sub, close, head_of, is_spine, eigens_
 use Rattle.ll_bank.specs.Form.{Form, Top, One, Atom, With, Tensor, Plus, Bang, Lolli, Imp, Forall, Exists, Use, sub_form, close_form, Num}
 use Rattle.ll_laws.specs.Module.{ModuleTree}
 use Rattle.ll_laws.specs.Unify.{vars_below}
-use Rattle.ll_laws.specs.Valid.{Side, GoalSide, ClauseSide, Allowed, Scope, IsFormula, is_on, each_term, places_below, may_head, is_headed, is_atom, has_heads, fits_module, loads_fit}
-use Rattle.ll_laws.proofs.consistency.ConsistentTerms.{IsHead, Fit, AllFit, fit, fit-places, fit-headed, fit-vars, fit-eigens, Widens, Grows, is_head-more, fit-more, all_fit-more, Goes, is_head-sub, fit-sub, all_fit-sub, Closes, is_head-close, fit-close, all_fit-close}
+use Rattle.ll_laws.specs.Valid.{Side, GoalSide, ClauseSide, Allowed, Scope, IsFormula, is_on, each_term, places_below, may_head, is_headed, is_atom, has_heads}
+use Rattle.ll_laws.specs.Valid.{fits_module, loads_fit}
+use Rattle.ll_laws.proofs.consistency.ConsistentTerms.{IsHead, Fit, AllFit, fit, fit-places, fit-headed, fit-vars, fit-eigens, Widens, Grows, is_head-more}
+use Rattle.ll_laws.proofs.consistency.ConsistentTerms.{fit-more, all_fit-more, Goes, is_head-sub, fit-sub, all_fit-sub, Closes, is_head-close, fit-close}
+use Rattle.ll_laws.proofs.consistency.ConsistentTerms.{all_fit-close}
 
 -- the other side
 abbrev pub other : Side → Side
@@ -128,12 +131,15 @@ all_fit : (may : Allowed) (scope : Scope) (ts : List Term) → list_all (places_
     → list_all (vars_below may.variables) ts ≡ true → list_all (eigens_below may.eigens) ts ≡ true → AllFit may scope ts
 all_fit may scope [] p h v e = tt
 all_fit may scope (t ∷ ts) p h v e = (
-  fit may scope t (and_left _ (list_all (places_below (length scope)) ts) p) (and_left _ (list_all (is_headed scope) ts) h) (and_left _ (list_all (vars_below may.variables) ts) v)
+  fit may scope t (and_left _ (list_all (places_below (length scope)) ts) p) (and_left _ (list_all (is_headed scope) ts) h)
+      (and_left _ (list_all (vars_below may.variables) ts) v)
       (and_left _ (list_all (eigens_below may.eigens) ts) e),
-  all_fit may scope ts (and_right (places_below (length scope) t) _ p) (and_right (is_headed scope t) _ h) (and_right (vars_below may.variables t) _ v) (and_right (eigens_below may.eigens t) _ e),
+  all_fit may scope ts (and_right (places_below (length scope) t) _ p) (and_right (is_headed scope t) _ h) (and_right (vars_below may.variables t) _ v)
+      (and_right (eigens_below may.eigens t) _ e),
 )
 
-atom_fits : (may : Allowed) (scope : Scope) (a : Term) → places_below (length scope) a ≡ true → is_atom scope a ≡ true → vars_below may.variables a ≡ true → eigens_below may.eigens a ≡ true
+atom_fits : (may : Allowed) (scope : Scope) (a : Term) → places_below (length scope) a ≡ true → is_atom scope a ≡ true → vars_below may.variables a ≡ true
+    → eigens_below may.eigens a ≡ true
     → IsHead scope a × Fit may scope a
 atom_fits may scope a p h v e =
     let i = and_left (is_spine a && may_head scope (head_of a)) (is_headed scope a) h in (
@@ -146,18 +152,26 @@ fits_of may side scope m Top t = tt
 fits_of may GoalSide scope m One t = tt
 fits_of may ClauseSide scope m One t = absurd (cc (t.sorted))
 fits_of may side scope m (Atom a) t = atom_fits may scope a t.closed t.heads t.variables t.eigens
-fits_of may GoalSide scope m (With f g) t = each_part (tests may GoalSide scope m f) (tests may GoalSide scope m g) (fits_of may GoalSide scope m f) (fits_of may GoalSide scope m g) t
-fits_of may ClauseSide scope m (With f g) t = each_part (tests may ClauseSide scope m f) (tests may ClauseSide scope m g) (fits_of may ClauseSide scope m f) (fits_of may ClauseSide scope m g) t
-fits_of may GoalSide scope m (Tensor f g) t = let p = each_part (tests may GoalSide scope m f) (tests may GoalSide scope m g) (fits_of may GoalSide scope m f) (fits_of may GoalSide scope m g) t in (tt, p.0, p.1)
+fits_of may GoalSide scope m (With f g) t = each_part (tests may GoalSide scope m f) (tests may GoalSide scope m g) (fits_of may GoalSide scope m f)
+    (fits_of may GoalSide scope m g) t
+fits_of may ClauseSide scope m (With f g) t = each_part (tests may ClauseSide scope m f) (tests may ClauseSide scope m g) (fits_of may ClauseSide scope m f)
+    (fits_of may ClauseSide scope m g) t
+fits_of may GoalSide scope m (Tensor f g) t = let p = each_part (tests may GoalSide scope m f) (tests may GoalSide scope m g) (fits_of may GoalSide scope m f)
+    (fits_of may GoalSide scope m g) t in (tt, p.0, p.1)
 fits_of may ClauseSide scope m (Tensor f g) t = absurd (cc (t.sorted))
-fits_of may GoalSide scope m (Plus f g) t = let p = each_part (tests may GoalSide scope m f) (tests may GoalSide scope m g) (fits_of may GoalSide scope m f) (fits_of may GoalSide scope m g) t in (tt, p.0, p.1)
+fits_of may GoalSide scope m (Plus f g) t = let p = each_part (tests may GoalSide scope m f) (tests may GoalSide scope m g) (fits_of may GoalSide scope m f)
+    (fits_of may GoalSide scope m g) t in (tt, p.0, p.1)
 fits_of may ClauseSide scope m (Plus f g) t = absurd (cc (t.sorted))
 fits_of may GoalSide scope m (Bang f) t = (tt, fits_of may GoalSide scope m f t)
 fits_of may ClauseSide scope m (Bang f) t = absurd (cc (t.sorted))
-fits_of may GoalSide scope m (Lolli f g) t = each_part (tests may ClauseSide scope m f) (tests may GoalSide scope m g) (fits_of may ClauseSide scope m f) (fits_of may GoalSide scope m g) t
-fits_of may ClauseSide scope m (Lolli f g) t = each_part (tests may GoalSide scope m f) (tests may ClauseSide scope m g) (fits_of may GoalSide scope m f) (fits_of may ClauseSide scope m g) t
-fits_of may GoalSide scope m (Imp f g) t = each_part (tests may ClauseSide scope m f) (tests may GoalSide scope m g) (fits_of may ClauseSide scope m f) (fits_of may GoalSide scope m g) t
-fits_of may ClauseSide scope m (Imp f g) t = each_part (tests may GoalSide scope m f) (tests may ClauseSide scope m g) (fits_of may GoalSide scope m f) (fits_of may ClauseSide scope m g) t
+fits_of may GoalSide scope m (Lolli f g) t = each_part (tests may ClauseSide scope m f) (tests may GoalSide scope m g) (fits_of may ClauseSide scope m f)
+    (fits_of may GoalSide scope m g) t
+fits_of may ClauseSide scope m (Lolli f g) t = each_part (tests may GoalSide scope m f) (tests may ClauseSide scope m g) (fits_of may GoalSide scope m f)
+    (fits_of may ClauseSide scope m g) t
+fits_of may GoalSide scope m (Imp f g) t = each_part (tests may ClauseSide scope m f) (tests may GoalSide scope m g) (fits_of may ClauseSide scope m f)
+    (fits_of may GoalSide scope m g) t
+fits_of may ClauseSide scope m (Imp f g) t = each_part (tests may GoalSide scope m f) (tests may ClauseSide scope m g) (fits_of may GoalSide scope m f)
+    (fits_of may ClauseSide scope m g) t
 fits_of may GoalSide scope m (Forall f) t = fits_of may GoalSide (may.opens ∷ scope) (suc m) f t
 fits_of may ClauseSide scope m (Forall f) t = fits_of may ClauseSide (false ∷ scope) (suc m) f t
 fits_of may GoalSide scope m (Exists f) t = (tt, fits_of may GoalSide (false ∷ scope) (suc m) f t)
@@ -180,12 +194,15 @@ fits_of may GoalSide scope m (Use k ts f) t = (
 fits_of may ClauseSide scope m (Use k ts f) t = absurd (cc (t.sorted))
 fits_of may GoalSide scope m (Num r a b) t = (
   tt,
-  fit may scope a (and_left _ (places_below (length scope) b) t.closed) (and_left _ (is_headed scope b) t.heads) (and_left _ (vars_below may.variables b) t.variables) (and_left _ (eigens_below may.eigens b) t.eigens),
-  fit may scope b (and_right (places_below (length scope) a) _ t.closed) (and_right (is_headed scope a) _ t.heads) (and_right (vars_below may.variables a) _ t.variables) (and_right (eigens_below may.eigens a) _ t.eigens),
+  fit may scope a (and_left _ (places_below (length scope) b) t.closed) (and_left _ (is_headed scope b) t.heads)
+      (and_left _ (vars_below may.variables b) t.variables) (and_left _ (eigens_below may.eigens b) t.eigens),
+  fit may scope b (and_right (places_below (length scope) a) _ t.closed) (and_right (is_headed scope a) _ t.heads)
+      (and_right (vars_below may.variables a) _ t.variables) (and_right (eigens_below may.eigens a) _ t.eigens),
 )
 fits_of may ClauseSide scope m (Num r a b) t = absurd (cc (t.sorted))
 
-each_fit : (may : Allowed) (scope : Scope) (test : Term → Bool) → ((t : Term) → Fit may scope t → test t ≡ true) → (ts : List Term) → AllFit may scope ts → list_all test ts ≡ true
+each_fit : (may : Allowed) (scope : Scope) (test : Term → Bool) → ((t : Term) → Fit may scope t → test t ≡ true) → (ts : List Term) → AllFit may scope ts
+    → list_all test ts ≡ true
 each_fit may scope test p [] h = refl
 each_fit may scope test p (t ∷ ts) h = and_intro _ _ (p t h.0) (each_fit may scope test p ts h.1)
 
@@ -197,7 +214,8 @@ tests_of may ClauseSide scope m One h = absurd h
 tests_of may side scope m (Atom a) h = record {
   sorted = step side;
   closed = fit-places may scope a h.1;
-  heads = and_intro (is_spine a && may_head scope (head_of a)) (is_headed scope a) (and_intro (is_spine a) (may_head scope (head_of a)) (h.0).0 (h.0).1) (fit-headed may scope a h.1);
+  heads = and_intro (is_spine a && may_head scope (head_of a)) (is_headed scope a) (and_intro (is_spine a) (may_head scope (head_of a)) (h.0).0 (h.0).1)
+      (fit-headed may scope a h.1);
   variables = fit-vars may scope a h.1;
   eigens = fit-eigens may scope a h.1;
   loads = refl;
@@ -206,18 +224,26 @@ tests_of may side scope m (Atom a) h = record {
     step : (s : Side) → is_on s (Atom a) ≡ true
     step GoalSide = refl
     step ClauseSide = refl
-tests_of may GoalSide scope m (With f g) h = both_pass (tests may GoalSide scope m f) (tests may GoalSide scope m g) (tests_of may GoalSide scope m f h.0) (tests_of may GoalSide scope m g h.1)
-tests_of may ClauseSide scope m (With f g) h = both_pass (tests may ClauseSide scope m f) (tests may ClauseSide scope m g) (tests_of may ClauseSide scope m f h.0) (tests_of may ClauseSide scope m g h.1)
-tests_of may GoalSide scope m (Tensor f g) h = both_pass (tests may GoalSide scope m f) (tests may GoalSide scope m g) (tests_of may GoalSide scope m f h.1) (tests_of may GoalSide scope m g h.2)
+tests_of may GoalSide scope m (With f g) h = both_pass (tests may GoalSide scope m f) (tests may GoalSide scope m g) (tests_of may GoalSide scope m f h.0)
+    (tests_of may GoalSide scope m g h.1)
+tests_of may ClauseSide scope m (With f g) h = both_pass (tests may ClauseSide scope m f) (tests may ClauseSide scope m g)
+    (tests_of may ClauseSide scope m f h.0) (tests_of may ClauseSide scope m g h.1)
+tests_of may GoalSide scope m (Tensor f g) h = both_pass (tests may GoalSide scope m f) (tests may GoalSide scope m g) (tests_of may GoalSide scope m f h.1)
+    (tests_of may GoalSide scope m g h.2)
 tests_of may ClauseSide scope m (Tensor f g) h = absurd (h.0)
-tests_of may GoalSide scope m (Plus f g) h = both_pass (tests may GoalSide scope m f) (tests may GoalSide scope m g) (tests_of may GoalSide scope m f h.1) (tests_of may GoalSide scope m g h.2)
+tests_of may GoalSide scope m (Plus f g) h = both_pass (tests may GoalSide scope m f) (tests may GoalSide scope m g) (tests_of may GoalSide scope m f h.1)
+    (tests_of may GoalSide scope m g h.2)
 tests_of may ClauseSide scope m (Plus f g) h = absurd (h.0)
 tests_of may GoalSide scope m (Bang f) h = tests_of may GoalSide scope m f h.1
 tests_of may ClauseSide scope m (Bang f) h = absurd (h.0)
-tests_of may GoalSide scope m (Lolli f g) h = both_pass (tests may ClauseSide scope m f) (tests may GoalSide scope m g) (tests_of may ClauseSide scope m f h.0) (tests_of may GoalSide scope m g h.1)
-tests_of may ClauseSide scope m (Lolli f g) h = both_pass (tests may GoalSide scope m f) (tests may ClauseSide scope m g) (tests_of may GoalSide scope m f h.0) (tests_of may ClauseSide scope m g h.1)
-tests_of may GoalSide scope m (Imp f g) h = both_pass (tests may ClauseSide scope m f) (tests may GoalSide scope m g) (tests_of may ClauseSide scope m f h.0) (tests_of may GoalSide scope m g h.1)
-tests_of may ClauseSide scope m (Imp f g) h = both_pass (tests may GoalSide scope m f) (tests may ClauseSide scope m g) (tests_of may GoalSide scope m f h.0) (tests_of may ClauseSide scope m g h.1)
+tests_of may GoalSide scope m (Lolli f g) h = both_pass (tests may ClauseSide scope m f) (tests may GoalSide scope m g) (tests_of may ClauseSide scope m f h.0)
+    (tests_of may GoalSide scope m g h.1)
+tests_of may ClauseSide scope m (Lolli f g) h = both_pass (tests may GoalSide scope m f) (tests may ClauseSide scope m g) (tests_of may GoalSide scope m f h.0)
+    (tests_of may ClauseSide scope m g h.1)
+tests_of may GoalSide scope m (Imp f g) h = both_pass (tests may ClauseSide scope m f) (tests may GoalSide scope m g) (tests_of may ClauseSide scope m f h.0)
+    (tests_of may GoalSide scope m g h.1)
+tests_of may ClauseSide scope m (Imp f g) h = both_pass (tests may GoalSide scope m f) (tests may ClauseSide scope m g) (tests_of may GoalSide scope m f h.0)
+    (tests_of may ClauseSide scope m g h.1)
 tests_of may GoalSide scope m (Forall f) h = tests_of may GoalSide (may.opens ∷ scope) (suc m) f h
 tests_of may ClauseSide scope m (Forall f) h = tests_of may ClauseSide (false ∷ scope) (suc m) f h
 tests_of may GoalSide scope m (Exists f) h = tests_of may GoalSide (false ∷ scope) (suc m) f h.1
@@ -254,7 +280,8 @@ formula_of_fits may side scope f h =
 
 -- ---- weakening, substitution and closing
 
-pub fits-more : (may more : Allowed) (side : Side) (scope wide : Scope) (f : Form) → Grows may more → Widens scope wide → Fits may side scope f → Fits more side wide f
+pub fits-more : (may more : Allowed) (side : Side) (scope wide : Scope) (f : Form) → Grows may more → Widens scope wide → Fits may side scope f
+    → Fits more side wide f
 fits-more may more side scope wide Top g w h = tt
 fits-more may more side scope wide One g w h = h
 fits-more may more side scope wide (Atom a) g w h = (is_head-more scope wide a w h.0, fit-more may more scope wide a g w h.1)
@@ -264,7 +291,8 @@ fits-more may more side scope wide (Plus p q) g w h = (h.0, fits-more may more s
 fits-more may more side scope wide (Bang p) g w h = (h.0, fits-more may more side scope wide p g w h.1)
 fits-more may more side scope wide (Lolli p q) g w h = (fits-more may more (other side) scope wide p g w h.0, fits-more may more side scope wide q g w h.1)
 fits-more may more side scope wide (Imp p q) g w h = (fits-more may more (other side) scope wide p g w h.0, fits-more may more side scope wide q g w h.1)
-fits-more may more side scope wide (Forall p) g w h = fits-more may more side (opens_on may.opens side ∷ scope) (opens_on more.opens side ∷ wide) p g (step side, w) h
+fits-more may more side scope wide (Forall p) g w h = fits-more may more side (opens_on may.opens side ∷ scope) (opens_on more.opens side ∷ wide) p g
+    (step side, w) h
   where
     step : (s : Side) → opens_on may.opens s ≡ true → opens_on more.opens s ≡ true
     step GoalSide i = g.opens i
@@ -303,7 +331,8 @@ fits-sub may s side scope (Use m ts p) g h = (
 )
 fits-sub may s side scope (Num r a b) g h = (h.0, fit-sub may s scope a g h.1, fit-sub may s scope b g h.2)
 
-pub fits-close : (may : Allowed) (e : Env) (side : Side) (inner outer : Scope) (f : Form) → Closes may e inner outer → Fits may side inner f → Fits may side outer (close_form e f)
+pub fits-close : (may : Allowed) (e : Env) (side : Side) (inner outer : Scope) (f : Form) → Closes may e inner outer → Fits may side inner f
+    → Fits may side outer (close_form e f)
 fits-close may e side inner outer Top c h = tt
 fits-close may e side inner outer One c h = h
 fits-close may e side inner outer (Atom a) c h = (is_head-close may e inner outer a c h.0, fit-close may e inner outer a c h.1)

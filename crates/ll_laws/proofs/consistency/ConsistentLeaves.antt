@@ -24,7 +24,8 @@ pub record LeafFits (may : Allowed) (l : Leaf) : Type 0 where
   pub premises : PremisesFit may l.premises
   pub head : IsHead [] l.head × Fit may [] l.head
 
-premises-append : (may : Allowed) (ps : List Premise) (p : Premise) → PremisesFit may ps → Fits may GoalSide [] (premise_goal p) → PremisesFit may (ps ++ p ∷ [])
+premises-append : (may : Allowed) (ps : List Premise) (p : Premise) → PremisesFit may ps → Fits may GoalSide [] (premise_goal p)
+    → PremisesFit may (ps ++ p ∷ [])
 premises-append may [] p h f = (f, tt)
 premises-append may (q ∷ ps) p h f = (h.0, premises-append may ps p h.1 f)
 
@@ -36,7 +37,8 @@ under may p (Some i) l h f g =
     let e : add_premise p i ≡ l = cc in let k = g i refl in
     subst (λ z. LeafFits may z) e (record { premises = premises-append may i.premises p k.premises f; head = k.head })
 
-pub leaf_from-fits : (may : Allowed) (e : Env) (inner : Scope) (r : Form) (k : ℕ) (ts : List Term) (l : Leaf) → Closes may e inner [] → Fits may ClauseSide inner r → AllFit may [] ts
+pub leaf_from-fits : (may : Allowed) (e : Env) (inner : Scope) (r : Form) (k : ℕ) (ts : List Term) (l : Leaf) → Closes may e inner []
+    → Fits may ClauseSide inner r → AllFit may [] ts
     → leaf_from e r k ts ≡ Some l → LeafFits may l
 leaf_from-fits may e inner (Atom a) zero [] l c f t h =
     let x : Leaf = record { premises = []; head = close e a } in
@@ -53,14 +55,17 @@ leaf_from-fits may e inner (With q r) k ts l c f t h =
     step true i j h = i h
     step false i j h = j h
 leaf_from-fits may e inner (Lolli g r) k ts l c f t h =
-    under may (Needs (close_form e g)) (leaf_from e r k ts) l h (fits-close may e GoalSide inner [] g c f.0) (λ i q. leaf_from-fits may e inner r k ts i c f.1 t q)
+    under may (Needs (close_form e g)) (leaf_from e r k ts) l h (fits-close may e GoalSide inner [] g c f.0)
+    (λ i q. leaf_from-fits may e inner r k ts i c f.1 t q)
 leaf_from-fits may e inner (Imp g r) k ts l c f t h =
-    under may (NeedsFree (close_form e g)) (leaf_from e r k ts) l h (tt, fits-close may e GoalSide inner [] g c f.0) (λ i q. leaf_from-fits may e inner r k ts i c f.1 t q)
+    under may (NeedsFree (close_form e g)) (leaf_from e r k ts) l h (tt, fits-close may e GoalSide inner [] g c f.0)
+    (λ i q. leaf_from-fits may e inner r k ts i c f.1 t q)
 leaf_from-fits may e inner (Forall r) k [] l c f t h = cc
 leaf_from-fits may e inner (Forall r) k (u ∷ us) l c f t h = leaf_from-fits may (Some u ∷ e) (false ∷ inner) r k us l (t.0, λ i. absurd (cc (i)), c) f t.1 h
 leaf_from-fits may e inner _ k ts l c f t h = cc
 
-pub leaf-fits : (may : Allowed) (r : Form) (k : ℕ) (ts : List Term) (l : Leaf) → Fits may ClauseSide [] r → AllFit may [] ts → leaf r k ts ≡ Some l → LeafFits may l
+pub leaf-fits : (may : Allowed) (r : Form) (k : ℕ) (ts : List Term) (l : Leaf) → Fits may ClauseSide [] r → AllFit may [] ts → leaf r k ts ≡ Some l
+    → LeafFits may l
 leaf-fits may r k ts l f t h = leaf_from-fits may [] [] r k ts l tt f t h
 
 -- ---- modules
@@ -70,28 +75,33 @@ abbrev pub ClausesFit : Allowed → Scope → List ClauseTree → Type 0
 ClausesFit may scope [] = Unit {0}
 ClausesFit may scope (c ∷ cs) = Fits may ClauseSide scope c.form × ClausesFit may scope cs
 
-load-fits : (may : Allowed) (kind : Kind) (scope : Scope) (r g : Form) → Fits may ClauseSide scope r → Fits may GoalSide scope g → Fits may GoalSide scope (load kind r g)
+load-fits : (may : Allowed) (kind : Kind) (scope : Scope) (r g : Form) → Fits may ClauseSide scope r → Fits may GoalSide scope g
+    → Fits may GoalSide scope (load kind r g)
 load-fits may Linear scope r g f h = (f, h)
 load-fits may Unbounded scope r g f h = (f, h)
 
-load_all-fits : (may : Allowed) (e : Env) (inner outer : Scope) (cs : List ClauseTree) (g : Form) → Closes may e inner outer → ClausesFit may inner cs → Fits may GoalSide outer g
+load_all-fits : (may : Allowed) (e : Env) (inner outer : Scope) (cs : List ClauseTree) (g : Form) → Closes may e inner outer → ClausesFit may inner cs
+    → Fits may GoalSide outer g
     → Fits may GoalSide outer (load_all e cs g)
 load_all-fits may e inner outer [] g c f h = h
 load_all-fits may e inner outer (d ∷ cs) g c f h =
-    load-fits may d.kind outer (close_form e d.form) (load_all e cs g) (fits-close may e ClauseSide inner outer d.form c f.0) (load_all-fits may e inner outer cs g c f.1 h)
+    load-fits may d.kind outer (close_form e d.form) (load_all e cs g) (fits-close may e ClauseSide inner outer d.form c f.0)
+    (load_all-fits may e inner outer cs g c f.1 h)
 
 pub replicate-front : (n : ℕ) (b : Bool) (scope : Scope) → replicate n b ++ b ∷ scope ≡ b ∷ (replicate n b ++ scope)
 replicate-front zero b scope = refl
 replicate-front (suc n) b scope = ap (λ xs. b ∷ xs) (replicate-front n b scope)
 
-forall_all-fits : (may : Allowed) (n : ℕ) (scope : Scope) (g : Form) → may.opens ≡ true → Fits may GoalSide (replicate n true ++ scope) g → Fits may GoalSide scope (forall_all n g)
+forall_all-fits : (may : Allowed) (n : ℕ) (scope : Scope) (g : Form) → may.opens ≡ true → Fits may GoalSide (replicate n true ++ scope) g
+    → Fits may GoalSide scope (forall_all n g)
 forall_all-fits may zero scope g o h = h
 forall_all-fits may (suc n) scope g o h =
     let i = subst (λ xs. Fits may GoalSide xs g) (sym (replicate-front n true scope)) h in
     forall_all-fits may n (may.opens ∷ scope) g o (subst (λ b. Fits may GoalSide (replicate n true ++ b ∷ scope) g) (sym o) i)
 
 -- closed arguments go to the parameters
-arguments-close : (may : Allowed) (us : List Term) (outer : Scope) → AllFit may [] us → Closes may (map (λ t. Some t) us) (replicate (length us) false ++ outer) outer
+arguments-close : (may : Allowed) (us : List Term) (outer : Scope) → AllFit may [] us
+    → Closes may (map (λ t. Some t) us) (replicate (length us) false ++ outer) outer
 arguments-close may [] outer h = widens-refl outer
 arguments-close may (u ∷ us) outer h = (h.0, λ i. absurd (cc (i)), arguments-close may us outer h.1)
 
@@ -99,7 +109,8 @@ reverse_aux-fits : (may : Allowed) (ts us : List Term) → AllFit may [] ts → 
 reverse_aux-fits may [] us h i = i
 reverse_aux-fits may (t ∷ ts) us h i = reverse_aux-fits may ts (t ∷ us) h.1 (h.0, i)
 
-pub unfold_load-fits : (may : Allowed) (m : ModuleTree) (ts : List Term) (g : Form) → may.opens ≡ true → ClausesFit may (module_scope m) m.clauses → length ts ≡ m.params → AllFit may [] ts
+pub unfold_load-fits : (may : Allowed) (m : ModuleTree) (ts : List Term) (g : Form) → may.opens ≡ true → ClausesFit may (module_scope m) m.clauses
+    → length ts ≡ m.params → AllFit may [] ts
     → Fits may GoalSide [] g → Fits may GoalSide [] (unfold_load m ts g)
 unfold_load-fits may m ts g o f n t h =
     let us = reverse ts in

@@ -46,8 +46,10 @@ fit may scope (Ap f a) p h v e =
     let i = and_left (s && m && is_headed scope f) (is_headed scope a) h in
     let j = and_left (s && m) (is_headed scope f) i in (
       (and_left s m j, and_right s m j),
-      fit may scope f (and_left _ (places_below (length scope) a) p) (and_right (s && m) (is_headed scope f) i) (and_left _ (vars_below may.variables a) v) (and_left _ (eigens_below may.eigens a) e),
-      fit may scope a (and_right (places_below (length scope) f) _ p) (and_right (s && m && is_headed scope f) _ h) (and_right (vars_below may.variables f) _ v) (and_right (eigens_below may.eigens f) _ e),
+      fit may scope f (and_left _ (places_below (length scope) a) p) (and_right (s && m) (is_headed scope f) i) (and_left _ (vars_below may.variables a) v)
+          (and_left _ (eigens_below may.eigens a) e),
+      fit may scope a (and_right (places_below (length scope) f) _ p) (and_right (s && m && is_headed scope f) _ h) (and_right (vars_below may.variables f) _ v)
+          (and_right (eigens_below may.eigens f) _ e),
     )
 
 pub fit-places : (may : Allowed) (scope : Scope) (t : Term) → Fit may scope t → places_below (length scope) t ≡ true
@@ -102,7 +104,8 @@ headed_applies scope (Ap f a) h =
 pub all_headed : (scope : Scope) (ts : List Term) → list_all (is_headed scope) ts ≡ true → list_all applies_heads ts ≡ true
 all_headed scope [] h = refl
 all_headed scope (t ∷ ts) h =
-    and_intro _ _ (headed_applies scope t (and_left (is_headed scope t) (list_all (is_headed scope) ts) h)) (all_headed scope ts (and_right (is_headed scope t) (list_all (is_headed scope) ts) h))
+    and_intro _ _ (headed_applies scope t (and_left (is_headed scope t) (list_all (is_headed scope) ts) h))
+    (all_headed scope ts (and_right (is_headed scope t) (list_all (is_headed scope) ts) h))
 
 -- a closed term fits the empty scope
 fit_of_closed : (may : Allowed) (t : Term) → is_closed t ≡ true → vars_below may.variables t ≡ true → eigens_below may.eigens t ≡ true → Fit may [] t
@@ -226,7 +229,8 @@ Closes may (None ∷ e) (b ∷ inner) (c ∷ outer) = (b ≡ true → c ≡ true
 Closes may (Some t ∷ e) (b ∷ inner) outer = Fit may [] t × (b ≡ true → is_spine t ≡ true) × Closes may e inner outer
 Closes may _ _ _ = ⊥
 
-place-fits : (may : Allowed) (e : Env) (inner outer full : Scope) (k n : ℕ) → Closes may e inner outer → n + length outer ≤ length full → nat_lt k (length inner) ≡ true
+place-fits : (may : Allowed) (e : Env) (inner outer full : Scope) (k n : ℕ) → Closes may e inner outer → n + length outer ≤ length full
+    → nat_lt k (length inner) ≡ true
     → Fit may full (place e k n)
 place-fits may [] inner outer full k n c le h =
     let l = ltb-true k (length inner) h in let w = widens-length inner outer c in lt-ltb (n + k) (length full) (omega arith)
@@ -260,7 +264,8 @@ place-head may (None ∷ e) (b ∷ inner) [] full k n c d h = absurd c
 place-head may (None ∷ e) (b ∷ inner) (o ∷ outer) full zero n c d h =
     (refl, subst (λ j. slice_index_or full j false ≡ true) (let q : n + 0 ≡ n = omega arith in q) (d 0 (c.0 h)))
 place-head may (None ∷ e) (b ∷ inner) (o ∷ outer) full (suc k) n c d h =
-    place-head may e inner outer full k (suc n) c.1 (λ j p. subst (λ i. slice_index_or full i false ≡ true) (let q : n + suc j ≡ suc n + j = omega arith in q) (d (suc j) p)) h
+    place-head may e inner outer full k (suc n) c.1 (λ j p. subst (λ i. slice_index_or full i false ≡ true) (let q : n + suc j ≡ suc n + j = omega arith in
+    q) (d (suc j) p)) h
 place-head may (Some t ∷ e) [] outer full k n c d h = absurd c
 place-head may (Some t ∷ e) (b ∷ inner) outer full zero n c d h = (c.1 h, head-anywhere may full t c.0)
 place-head may (Some t ∷ e) (b ∷ inner) outer full (suc k) n c d h = place-head may e inner outer full k n c.2 d h
@@ -284,6 +289,7 @@ fit-close may e inner outer (Con (Eigen k)) c h = h
 fit-close may e inner outer (Con (Bound k)) c h = place-fits may e inner outer outer k 0 c (omega arith) h
 fit-close may e inner outer (Ap f a) c h = (is_head-close may e inner outer f c h.0, fit-close may e inner outer f c h.1, fit-close may e inner outer a c h.2)
 
-pub all_fit-close : (may : Allowed) (e : Env) (inner outer : Scope) (ts : List Term) → Closes may e inner outer → AllFit may inner ts → AllFit may outer (map (close e) ts)
+pub all_fit-close : (may : Allowed) (e : Env) (inner outer : Scope) (ts : List Term) → Closes may e inner outer → AllFit may inner ts
+    → AllFit may outer (map (close e) ts)
 all_fit-close may e inner outer [] c h = tt
 all_fit-close may e inner outer (t ∷ ts) c h = (fit-close may e inner outer t c h.0, all_fit-close may e inner outer ts c h.1)

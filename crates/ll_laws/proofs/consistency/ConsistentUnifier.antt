@@ -3,7 +3,8 @@ use Rattle.std.proofs.Common.{◌≡◌, ℕ, zero, suc, subst, Bool, true, fals
 use Rattle.std.specs.Prelude.{◌||◌, not, Option, Some, None, if◌then◌else◌, nat_lt, slice_index}
 use Rattle.std.specs.Ordering.{int_eq}
 use Rattle.ll_bank.specs.Term.{Term, Var, Int, Con, Ap, occurs, eigens_below, head_eq}
-use Rattle.ll_laws.specs.Unify.{Diff, Same, Clash, Meet, and_then, when, diff_var, diff, diff_lists, bound_to, lower, Solved, Binding, is_older, bind, bind_term, resolve, solve, mgu}
+use Rattle.ll_laws.specs.Unify.{Diff, Same, Clash, Meet, and_then, when, diff_var, diff, diff_lists, bound_to, lower, Solved, Binding, is_older, bind}
+use Rattle.ll_laws.specs.Unify.{bind_term, resolve, solve, mgu}
 use Rattle.ll_laws.specs.Valid.{Allowed}
 use Rattle.ll_laws.proofs.unification.UnifyLaws.{begins, bound_list}
 use Rattle.ll_laws.proofs.consistency.ConsistentTerms.{Fit, AllFit, Goes, fit-sub, all_fit-sub}
@@ -59,10 +60,12 @@ term-value may levels x t b h f = step (occurs x t || not (eigens_below (slice_i
         let e : c ≡ b = cc in
         subst (λ d. Fit may [] d.value) e f
 
-value-fits : (may : Allowed) (levels : List ℕ) (x : ℕ) (t : Term) (b : Binding) → bind levels x t ≡ Some b → nat_lt x may.variables ≡ true → Fit may [] t → Fit may [] b.value
+value-fits : (may : Allowed) (levels : List ℕ) (x : ℕ) (t : Term) (b : Binding) → bind levels x t ≡ Some b → nat_lt x may.variables ≡ true → Fit may [] t
+    → Fit may [] b.value
 value-fits may levels x (Var y) b h l f = step (is_older levels x y) h
   where
-    step : (o : Bool) → (if o then Some (record { var = y; value = Var x; levels = levels }) else Some (record { var = x; value = Var y; levels = levels })) ≡ Some b → Fit may [] b.value
+    step : (o : Bool) → (if o then Some (record { var = y; value = Var x; levels = levels }) else Some (record { var = x; value = Var y; levels = levels }))
+        ≡ Some b → Fit may [] b.value
     step true h = let c : Binding = record { var = y; value = Var x; levels = levels } in let e : c ≡ b = cc in subst (λ d. Fit may [] d.value) e l
     step false h = let c : Binding = record { var = x; value = Var y; levels = levels } in let e : c ≡ b = cc in subst (λ d. Fit may [] d.value) e f
 value-fits may levels x (Int z) b h l f = term-value may levels x (Int z) b h f
@@ -80,7 +83,8 @@ same-goes : (may : Allowed) (levels : List ℕ) (v : Solved) → Some (record { 
 same-goes may levels v h =
     let c : Solved = record { subst = Var; levels = levels } in let e : c ≡ v = cc in subst (λ z. Goes may z.subst) e (λ x l. l)
 
-solve-goes : (may : Allowed) (n : ℕ) (ls rs : List Term) (levels : List ℕ) (v : Solved) → AllFit may [] ls → AllFit may [] rs → solve n ls rs levels ≡ Some v → Goes may v.subst
+solve-goes : (may : Allowed) (n : ℕ) (ls rs : List Term) (levels : List ℕ) (v : Solved) → AllFit may [] ls → AllFit may [] rs → solve n ls rs levels ≡ Some v
+    → Goes may v.subst
 solve-goes may zero ls rs levels v a b h = go (diff_lists ls rs) h
   where
     go : (d : Diff) → resolve d levels (λ b. None) ≡ Some v → Goes may v.subst
@@ -100,10 +104,12 @@ solve-goes may (suc n) ls rs levels v a c h = go (solve-goes may n) (diff_lists 
         let b = begins levels x t next v h in
         let k = b.binding in
         let g = bound_to-goes may k.var k.value (value-fits may levels x t k b.bound m.0 m.1) in
-        let i = ih (bound_list k ls) (bound_list k rs) k.levels b.inner (all_fit-sub may (bound_to k.var k.value) [] ls g a) (all_fit-sub may (bound_to k.var k.value) [] rs g c) b.goes in
+        let i = ih (bound_list k ls) (bound_list k rs) k.levels b.inner (all_fit-sub may (bound_to k.var k.value) [] ls g a)
+        (all_fit-sub may (bound_to k.var k.value) [] rs g c) b.goes in
         subst (λ z. Goes may z.subst) b.is (λ y l. fit-sub may b.inner.subst [] (bound_to k.var k.value y) i (g y l))
 
 -- each variable that there is goes to a term that fits
-pub mgu-goes : (may : Allowed) (ls rs : List Term) (levels : List ℕ) (v : Solved) → AllFit may [] ls → AllFit may [] rs → mgu ls rs levels ≡ Some v → Goes may v.subst
+pub mgu-goes : (may : Allowed) (ls rs : List Term) (levels : List ℕ) (v : Solved) → AllFit may [] ls → AllFit may [] rs → mgu ls rs levels ≡ Some v
+    → Goes may v.subst
 unfolding mgu
 mgu-goes may ls rs levels v a b h = solve-goes may (length levels) ls rs levels v a b h

@@ -6,12 +6,15 @@ use Rattle.std.proofs.lemmas.Bool.{eqb-true, eq-eqb, ne_eqb, both_ways, or_right
 use Rattle.std.proofs.lemmas.List.{map-append}
 use Rattle.std.proofs.lemmas.List.Folds.{list_any-append}
 use Rattle.std.proofs.Math.Bool.{or-false}
-use Rattle.ll_lists.proofs.CallerLemmas.{false_from_not as not_of_true, or_false_left as or_off_left, or_false_right as or_off_right, and_true_left, and_true_left as and_one, and_true_right as and_two, or_elim as or_split, or_exchange}
+use Rattle.ll_lists.proofs.CallerLemmas.{false_from_not as not_of_true, or_false_left as or_off_left, or_false_right as or_off_right, and_true_left}
+use Rattle.ll_lists.proofs.CallerLemmas.{and_true_left as and_one, and_true_right as and_two, or_elim as or_split, or_exchange}
 use Rattle.ll_bank.specs.Term.{Term, Con}
 use Rattle.ll_bank.specs.Form.{Form, Top, One, Atom, With, Tensor, Plus, Bang, Lolli, Imp, Forall, Exists, Use, instantiate, form_has_eigen, Num}
 use Rattle.ll_laws.specs.Leaf.{Premise, Needs, NeedsFree}
 use Rattle.ll_laws.specs.Module.{Setting, unfold_load}
-use Rattle.ll_laws.specs.Shows.{Tree, OneNode, EraseNode, TensorNode, WithNode, LeftNode, RightNode, BangNode, LolliNode, ImpNode, ForallNode, ExistsNode, UseNode, ClauseNode, Parts, NoParts, BoundedPart, UnboundedPart, Labelled, clauses, has, has_label, part, rest, splits, all_in, one_of, Found, Missing, Took, behind, take_label, pick_of, Shows, ShowsParts, NumNode}
+use Rattle.ll_laws.specs.Shows.{Tree, OneNode, EraseNode, TensorNode, WithNode, LeftNode, RightNode, BangNode, LolliNode, ImpNode, ForallNode, ExistsNode}
+use Rattle.ll_laws.specs.Shows.{UseNode, ClauseNode, Parts, NoParts, BoundedPart, UnboundedPart, Labelled, clauses, has, has_label, part, rest, splits, all_in}
+use Rattle.ll_laws.specs.Shows.{one_of, Found, Missing, Took, behind, take_label, pick_of, Shows, ShowsParts, NumNode}
 use Rattle.ll_laws.specs.Dealing.{uses, uses_part, erases, erases_part, deal, deal_parts, goes_to, without}
 use Rattle.ll_laws.specs.Lazy.{Lazy, LazyParts, unused}
 
@@ -55,7 +58,8 @@ filter_labels : (q : ℕ → Bool) (d : List Labelled) → filter q (labels d) �
 filter_labels q [] = refl
 filter_labels q (l ∷ ls) = step (q l.label) (filter_labels q ls)
   where
-    step : (b : Bool) → filter q (labels ls) ≡ labels (sel q ls) → cond b (l.label ∷ filter q (labels ls)) (filter q (labels ls)) ≡ labels (cond b (l ∷ sel q ls) (sel q ls))
+    step : (b : Bool) → filter q (labels ls) ≡ labels (sel q ls)
+        → cond b (l.label ∷ filter q (labels ls)) (filter q (labels ls)) ≡ labels (cond b (l ∷ sel q ls) (sel q ls))
     step true e = ap (λ xs. l.label ∷ xs) e
     step false e = e
 
@@ -138,7 +142,8 @@ moved beside x c g s e f a b h = subst (λ z. Shows beside (deal z x) c e g) (sy
 
 moved_parts : (beside : Setting) (ps : Parts) (c : List Labelled) (gs : List Premise) (s : List ℕ) (e f : List Labelled) → s ≡ labels f → e ≡ f
     → ShowsParts beside (deal_parts (labels f) ps) c f gs → ShowsParts beside (deal_parts s ps) c e gs
-moved_parts beside ps c gs s e f a b h = subst (λ z. ShowsParts beside (deal_parts z ps) c e gs) (sym a) (subst (λ z. ShowsParts beside (deal_parts (labels f) ps) c z gs) (sym b) h)
+moved_parts beside ps c gs s e f a b h = subst (λ z. ShowsParts beside (deal_parts z ps) c e gs) (sym a)
+    (subst (λ z. ShowsParts beside (deal_parts (labels f) ps) c z gs) (sym b) h)
 
 -- the selected labels of a selection, and the part of it
 module _ (p q : ℕ → Bool) (i : List Labelled) where
@@ -194,7 +199,8 @@ or_none true b h k = cc
 or_none false b h k = k
 
 -- one tree and what comes after it: q tells which labels go to the tree
-module _ (p : ℕ → Bool) (x : Tree) (i : List Labelled) (later : ℕ → Bool) (wipes : Bool) (need : (n : ℕ) → has_label i n ≡ true → (uses n x || later n) ≡ true → p n ≡ true)
+module _ (p : ℕ → Bool) (x : Tree) (i : List Labelled) (later : ℕ → Bool) (wipes : Bool) (need : (n : ℕ) → has_label i n ≡ true → (uses n x || later n) ≡ true
+    → p n ≡ true)
     (take : (n : ℕ) → has_label i n ≡ true → p n ≡ true → ((uses n x || later n) || (erases x || wipes)) ≡ true) where
   abbrev to_first : ℕ → Bool
   to_first n = goes_to (uses n x) (later n) (erases x)
@@ -247,10 +253,13 @@ pub distinct_add : (d : List Labelled) (n : ℕ) (r : Form) → Distinct d → h
 distinct_add [] n r h k = (refl, tt)
 distinct_add (l ∷ ls) n r h k = step (nat_eq n l.label) refl (distinct_add ls n r h.1) k
   where
-    step : (b : Bool) → nat_eq n l.label ≡ b → (has_label ls n ≡ false → Distinct (ls ++ record { label = n; clause = r } ∷ [])) → (b || has_label ls n) ≡ false → Distinct (l ∷ (ls ++ record { label = n; clause = r } ∷ []))
+    step : (b : Bool) → nat_eq n l.label ≡ b → (has_label ls n ≡ false → Distinct (ls ++ record { label = n; clause = r } ∷ [])) → (b || has_label ls n) ≡ false
+        → Distinct (l ∷ (ls ++ record { label = n; clause = r } ∷ []))
     step true e go k = cc
     step false e go k = (
-      has_append ls (record { label = n; clause = r } ∷ []) l.label ∙ (ap (λ b. b || has_label (record { label = n; clause = r } ∷ []) l.label) h.0 ∙ new_one n l.label r (λ q. both_ways (nat_eq n l.label) e (eq-eqb n l.label q))),
+      has_append ls (record { label = n; clause = r } ∷ []) l.label
+          ∙ (ap (λ b. b || has_label (record { label = n; clause = r } ∷ []) l.label) h.0
+          ∙ new_one n l.label r (λ q. both_ways (nat_eq n l.label) e (eq-eqb n l.label q))),
       go k,
     )
 
@@ -260,7 +269,8 @@ apart_sel c d q h n k = no_sel q d n (h n k)
 apart_add : (c d : List Labelled) (n : ℕ) (r : Form) → Apart c d → has_label c n ≡ false → Apart c (d ++ record { label = n; clause = r } ∷ [])
 apart_add c d n r h k m e =
     has_append d (record { label = n; clause = r } ∷ []) m
-    ∙ (ap (λ b. b || has_label (record { label = n; clause = r } ∷ []) m) (h m e) ∙ new_one n m r (λ q. both_ways (has_label c m) (subst (λ z. has_label c z ≡ false) q k) e))
+    ∙ (ap (λ b. b || has_label (record { label = n; clause = r } ∷ []) m) (h m e)
+    ∙ new_one n m r (λ q. both_ways (has_label c m) (subst (λ z. has_label c z ≡ false) q k) e))
 
 apart_free : (c d : List Labelled) (n : ℕ) (r : Form) → Apart c d → has_label d n ≡ false → Apart (record { label = n; clause = r } ∷ c) d
 apart_free c d n r h k m e = step (nat_eq m n) refl e
@@ -270,7 +280,8 @@ apart_free c d n r h k m e = step (nat_eq m n) refl e
     step false q e = h m e
 
 -- a clause that was with_leaf out of what is live
-taken_sel : (p : ℕ → Bool) (n : ℕ) (i : List Labelled) (r : Form) (e : List Labelled) → p n ≡ true → take_label n i ≡ Took r e → take_label n (sel p i) ≡ Took r (sel p e)
+taken_sel : (p : ℕ → Bool) (n : ℕ) (i : List Labelled) (r : Form) (e : List Labelled) → p n ≡ true → take_label n i ≡ Took r e
+    → take_label n (sel p i) ≡ Took r (sel p e)
 taken_sel p n [] r e h k = cc
 taken_sel p n (l ∷ ls) r e h k = step (nat_eq n l.label) refl (p l.label) refl (take_label n ls) refl (taken_sel p n ls) k
   where
@@ -282,7 +293,8 @@ taken_sel p n (l ∷ ls) r e h k = step (nat_eq n l.label) refl (p l.label) refl
     step false f c g Missing q ih k = cc
     step false f true g (Took s t) q ih k =
         let i : s ≡ r = cc in let j : e ≡ l ∷ t = cc in
-        rw f (ap (behind l) (ih s t h q) ∙ (ap (λ x. Took x (l ∷ sel p t)) i ∙ ap (λ x. Took r x) (sym (ap (sel p) j ∙ ap (λ b. cond b (l ∷ sel p t) (sel p t)) g))))
+        rw f (ap (behind l) (ih s t h q) ∙ (ap (λ x. Took x (l ∷ sel p t)) i
+        ∙ ap (λ x. Took r x) (sym (ap (sel p) j ∙ ap (λ b. cond b (l ∷ sel p t) (sel p t)) g))))
     step false f false g (Took s t) q ih k =
         let i : s ≡ r = cc in let j : e ≡ l ∷ t = cc in
         ih s t h q ∙ (ap (λ x. Took x (sel p t)) i ∙ ap (λ x. Took r x) (sym (ap (sel p) j ∙ ap (λ b. cond b (l ∷ sel p t) (sel p t)) g)))
@@ -403,7 +415,8 @@ drop_first true u e h k = cc
 drop_first false u e h k = k
 
 -- the case of a loaded clause
-module _ (p : ℕ → Bool) (n : ℕ) (r : Form) (x : Tree) (i : List Labelled) (ni : has_label i n ≡ false) (v : Covers p (LolliNode n x) i) (own : (uses n x || erases x) ≡ true) where
+module _ (p : ℕ → Bool) (n : ℕ) (r : Form) (x : Tree) (i : List Labelled) (ni : has_label i n ≡ false) (v : Covers p (LolliNode n x) i)
+    (own : (uses n x || erases x) ≡ true) where
   lolli_covers : Covers (with_new p n r i ni) x (i ++ record { label = n; clause = r } ∷ [])
   lolli_covers = record {
     needs = λ m h u.
@@ -416,8 +429,10 @@ module _ (p : ℕ → Bool) (n : ℕ) (r : Form) (x : Tree) (i : List Labelled) 
   }
 
 -- the case of a clause step
-module _ (beside : Setting) (n k : ℕ) (ts : List Term) (ps : Parts) (c i : List Labelled) (b : Term) (a : Apart c i) (d : Distinct i) (p : ℕ → Bool) (v : Covers p (ClauseNode n k ts ps) i)
-    (ih : (e : List Labelled) (gs : List Premise) → Apart c e → Distinct e → LazyParts beside ps c e gs → CoversParts p ps e → ShowsParts beside (deal_parts (labels (sel p e)) ps) c (sel p e) gs) where
+module _ (beside : Setting) (n k : ℕ) (ts : List Term) (ps : Parts) (c i : List Labelled) (b : Term) (a : Apart c i) (d : Distinct i) (p : ℕ
+    → Bool) (v : Covers p (ClauseNode n k ts ps) i)
+    (ih : (e : List Labelled) (gs : List Premise) → Apart c e → Distinct e → LazyParts beside ps c e gs → CoversParts p ps e
+    → ShowsParts beside (deal_parts (labels (sel p e)) ps) c (sel p e) gs) where
   clause_dealt : Lazy beside (ClauseNode n k ts ps) c i (Atom b) → Shows beside (deal (labels (sel p i)) (ClauseNode n k ts ps)) c (sel p i) (Atom b)
   clause_dealt z = step (take_label n c) refl (take_label n i) refl z.3
     where
@@ -448,7 +463,8 @@ module _ (beside : Setting) (n k : ℕ) (ts : List Term) (ps : Parts) (c i : Lis
           let parts = ih z.1 z.2 (λ m j. or_off_right (nat_eq m n) (has_label z.1 m) (sym (has_m m) ∙ a m j)) l.distinct z.6 (record {
             needs = λ m j w. v.needs m (has_m m ∙ or_two (nat_eq m n) (has_label z.1 m) j) (or_two (nat_eq m n) (uses_part m ps) w);
             takes = λ m j w.
-                drop_first (nat_eq m n) (uses_part m ps) (erases_part ps) (ne_eqb m n (λ o. both_ways (has_label z.1 m) (subst (λ g. has_label z.1 g ≡ false) (sym o) l.gone) j))
+                drop_first (nat_eq m n) (uses_part m ps) (erases_part ps)
+                (ne_eqb m n (λ o. both_ways (has_label z.1 m) (subst (λ g. has_label z.1 g ≡ false) (sym o) l.gone) j))
                 (v.takes m (has_m m ∙ or_two (nat_eq m n) (has_label z.1 m) j) w);
           }) in (
             z.0,
@@ -457,11 +473,13 @@ module _ (beside : Setting) (n k : ℕ) (ts : List Term) (ps : Parts) (c i : Lis
             ap (λ o. pick_of (sel p i) o (take_label n (sel p i))) x ∙ u,
             z.4,
             z.5,
-            subst (λ w. ShowsParts beside (deal_parts w ps) c (sel p z.1) z.2) (sym (taken_distinct n (sel p i) z.0 (sel p z.1) u (distinct_sel p i d)).labels_left) parts,
+            subst (λ w. ShowsParts beside (deal_parts w ps) c (sel p z.1) z.2)
+                (sym (taken_distinct n (sel p i) z.0 (sel p z.1) u (distinct_sel p i d)).labels_left) parts,
           )
 
 mutual
-  pub dealt_shows : (beside : Setting) (x : Tree) (c i : List Labelled) (g : Form) → Apart c i → Distinct i → Lazy beside x c i g → (p : ℕ → Bool) → Covers p x i
+  pub dealt_shows : (beside : Setting) (x : Tree) (c i : List Labelled) (g : Form) → Apart c i → Distinct i → Lazy beside x c i g → (p : ℕ → Bool)
+      → Covers p x i
       → Shows beside (deal (labels (sel p i)) x) c (sel p i) g
   dealt_shows beside OneNode c i One a s z p v = sel_none p i (λ n h. off (p n) (v.takes n h))
   dealt_shows beside EraseNode c i Top a s z p v = tt
@@ -470,12 +488,18 @@ mutual
       let q : ℕ → Bool = λ n. goes_to (uses n x) (uses n y) (erases x) in
       let w = left_over (λ n. p n && not (q n)) x i (later_unused p x i (λ n. uses n y) (erases y) v.needs v.takes) in (
         twice_splits p q i,
-        moved beside x c g (filter q (labels (sel p i))) (part (filter q (labels (sel p i))) (sel p i)) (sel (λ n. p n && q n) i) (twice_labels p q i) (twice_part p q i)
+        moved beside x c g (filter q (labels (sel p i))) (part (filter q (labels (sel p i))) (sel p i)) (sel (λ n. p n && q n) i) (twice_labels p q i)
+            (twice_part p q i)
             (dealt_shows beside x c i g a d z.0 (λ n. p n && q n) (first_covers p x i (λ n. uses n y) (erases y) v.needs v.takes)),
-        moved beside y c k (filter (λ n. not (q n)) (labels (sel p i))) (part (filter (λ n. not (q n)) (labels (sel p i))) (sel p i)) (sel (λ n. p n && not (q n)) (unused x i))
+        moved beside y c k (filter (λ n. not (q n)) (labels (sel p i))) (part (filter (λ n. not (q n)) (labels (sel p i))) (sel p i))
+            (sel (λ n. p n && not (q n)) (unused x i))
             (twice_labels p (λ n. not (q n)) i ∙ ap labels w) (twice_part p (λ n. not (q n)) i ∙ w)
             (dealt_shows beside y c (unused x i) k (apart_sel c i (λ n. not (uses n x)) a) (distinct_sel (λ n. not (uses n x)) i d) z.1 (λ n. p n && not (q n))
-            (record { needs = later_needs p x i (λ n. uses n y) (erases y) v.needs v.takes; takes = later_takes p x i (λ n. uses n y) (erases y) v.needs v.takes })),
+            (record {
+              needs = later_needs p x i (λ n. uses n y) (erases y) v.needs v.takes;
+              takes =
+                  later_takes p x i (λ n. uses n y) (erases y) v.needs v.takes;
+            })),
       )
   dealt_shows beside (WithNode x y) c i (With g k) a d z p v = (
     dealt_shows beside x c i g a d z.0 p (record {
@@ -490,8 +514,11 @@ mutual
   dealt_shows beside (LeftNode x) c i (Plus g k) a d z p v = dealt_shows beside x c i g a d z p (record { needs = v.needs; takes = v.takes })
   dealt_shows beside (RightNode x) c i (Plus g k) a d z p v = dealt_shows beside x c i k a d z p (record { needs = v.needs; takes = v.takes })
   dealt_shows beside (BangNode x) c i (Bang g) a d z p v =
-      let e = sel_none p i (λ n h. off (p n) (v.takes n h)) in
-      (e, subst (λ w. Shows beside (deal [] x) c w g) (sym e) (dealt_shows beside x c [] g (λ n k. refl) tt z p (record { needs = λ n h u. cc; takes = λ n h t. cc })))
+      let e = sel_none p i (λ n h. off (p n) (v.takes n h)) in (
+        e,
+        subst (λ w. Shows beside (deal [] x) c w g) (sym e)
+            (dealt_shows beside x c [] g (λ n k. refl) tt z p (record { needs = λ n h u. cc; takes = λ n h t. cc })),
+      )
   dealt_shows beside (LolliNode n x) c i (Lolli r g) a d z p v =
       let nc = or_off_left (has_label c n) (has_label i n) z.0 in let ni = or_off_right (has_label c n) (has_label i n) z.0 in
       let new : List Labelled = i ++ record { label = n; clause = r } ∷ [] in
@@ -502,29 +529,45 @@ mutual
             (dealt_shows beside x c new g (apart_add c i n r a nc) (distinct_add i n r d ni) z.2 (with_new p n r i ni) (lolli_covers p n r x i ni v z.1)),
       )
   dealt_shows beside (ImpNode n x) c i (Imp r g) a d z p v =
-      let nc = or_off_left (has_label c n) (has_label i n) z.0 in let ni = or_off_right (has_label c n) (has_label i n) z.0 in
-      (rw nc (no_sel p i n ni), dealt_shows beside x (record { label = n; clause = r } ∷ c) i g (apart_free c i n r a ni) d z.1 p (record { needs = v.needs; takes = v.takes }))
+      let nc = or_off_left (has_label c n) (has_label i n) z.0 in let ni = or_off_right (has_label c n) (has_label i n) z.0 in (
+        rw nc (no_sel p i n ni),
+        dealt_shows beside x (record { label = n; clause = r } ∷ c) i g (apart_free c i n r a ni) d z.1 p
+            (record { needs = v.needs; takes = v.takes }),
+      )
   dealt_shows beside (ForallNode k x) c i (Forall g) a d z p v =
       (new_sel k g c i p z.0, dealt_shows beside x c i (instantiate g (Con _)) a d z.1 p (record { needs = v.needs; takes = v.takes }))
-  dealt_shows beside (ExistsNode t x) c i (Exists g) a d z p v = (z.0, dealt_shows beside x c i (instantiate g t) a d z.1 p (record { needs = v.needs; takes = v.takes }))
-  dealt_shows beside (UseNode x) c i (Use k ts g) a d z p v = (z.0, z.1, dealt_shows beside x c i (unfold_load z.0 ts g) a d z.2 p (record { needs = v.needs; takes = v.takes }))
-  dealt_shows beside (ClauseNode n k ts ps) c i (Atom b) a d z p v = clause_dealt beside n k ts ps c i b a d p v (λ e gs a' d' z' v'. dealt_parts beside ps c e gs a' d' z' p v') z
+  dealt_shows beside (ExistsNode t x) c i (Exists g) a d z p v =
+      (z.0, dealt_shows beside x c i (instantiate g t) a d z.1 p (record { needs = v.needs; takes = v.takes }))
+  dealt_shows beside (UseNode x) c i (Use k ts g) a d z p v =
+      (z.0, z.1, dealt_shows beside x c i (unfold_load z.0 ts g) a d z.2 p (record { needs = v.needs; takes = v.takes }))
+  dealt_shows beside (ClauseNode n k ts ps) c i (Atom b) a d z p v =
+      clause_dealt beside n k ts ps c i b a d p v (λ e gs a' d' z' v'. dealt_parts beside ps c e gs a' d' z' p v') z
   dealt_shows beside _ c i _ a d z p v = absurd z
 
-  pub dealt_parts : (beside : Setting) (ps : Parts) (c i : List Labelled) (gs : List Premise) → Apart c i → Distinct i → LazyParts beside ps c i gs → (p : ℕ → Bool) → CoversParts p ps i
+  pub dealt_parts : (beside : Setting) (ps : Parts) (c i : List Labelled) (gs : List Premise) → Apart c i → Distinct i → LazyParts beside ps c i gs
+      → (p : ℕ → Bool) → CoversParts p ps i
       → ShowsParts beside (deal_parts (labels (sel p i)) ps) c (sel p i) gs
   dealt_parts beside NoParts c i [] a d z p v = sel_none p i (λ n h. off (p n) (v.takes n h))
   dealt_parts beside (BoundedPart s x ps) c i (Needs g ∷ gs) a d z p v =
       let q : ℕ → Bool = λ n. goes_to (uses n x) (uses_part n ps) (erases x) in
       let w = left_over (λ n. p n && not (q n)) x i (later_unused p x i (λ n. uses_part n ps) (erases_part ps) v.needs v.takes) in (
         rw (filter_labels q (sel p i)) (all_in_selected q (sel p i)),
-        moved beside x c g (filter q (labels (sel p i))) (part (filter q (labels (sel p i))) (sel p i)) (sel (λ n. p n && q n) i) (twice_labels p q i) (twice_part p q i)
+        moved beside x c g (filter q (labels (sel p i))) (part (filter q (labels (sel p i))) (sel p i)) (sel (λ n. p n && q n) i) (twice_labels p q i)
+            (twice_part p q i)
             (dealt_shows beside x c i g a d z.0 (λ n. p n && q n) (first_covers p x i (λ n. uses_part n ps) (erases_part ps) v.needs v.takes)),
-        moved_parts beside ps c gs (filter (λ n. not (q n)) (labels (sel p i))) (rest (filter q (labels (sel p i))) (sel p i)) (sel (λ n. p n && not (q n)) (unused x i))
+        moved_parts beside ps c gs (filter (λ n. not (q n)) (labels (sel p i))) (rest (filter q (labels (sel p i))) (sel p i))
+            (sel (λ n. p n && not (q n)) (unused x i))
             (twice_labels p (λ n. not (q n)) i ∙ ap labels w) (twice_rest p q i ∙ w)
-            (dealt_parts beside ps c (unused x i) gs (apart_sel c i (λ n. not (uses n x)) a) (distinct_sel (λ n. not (uses n x)) i d) z.1 (λ n. p n && not (q n))
-            (record { needs = later_needs p x i (λ n. uses_part n ps) (erases_part ps) v.needs v.takes; takes = later_takes p x i (λ n. uses_part n ps) (erases_part ps) v.needs v.takes })),
+            (dealt_parts beside ps c (unused x i) gs (apart_sel c i (λ n. not (uses n x)) a) (distinct_sel (λ n. not (uses n x)) i d) z.1
+            (λ n. p n && not (q n))
+            (record {
+              needs = later_needs p x i (λ n. uses_part n ps) (erases_part ps) v.needs v.takes;
+              takes =
+                  later_takes p x i (λ n. uses_part n ps) (erases_part ps) v.needs v.takes;
+            })),
       )
-  dealt_parts beside (UnboundedPart x ps) c i (NeedsFree g ∷ gs) a d z p v =
-      (dealt_shows beside x c [] (Bang g) (λ n k. refl) tt z.0 p (record { needs = λ n h u. cc; takes = λ n h t. cc }), dealt_parts beside ps c i gs a d z.1 p (record { needs = v.needs; takes = v.takes }))
+  dealt_parts beside (UnboundedPart x ps) c i (NeedsFree g ∷ gs) a d z p v = (
+    dealt_shows beside x c [] (Bang g) (λ n k. refl) tt z.0 p (record { needs = λ n h u. cc; takes = λ n h t. cc }),
+    dealt_parts beside ps c i gs a d z.1 p (record { needs = v.needs; takes = v.takes }),
+  )
   dealt_parts beside _ c i _ a d z p v = absurd z

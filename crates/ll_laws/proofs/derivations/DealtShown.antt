@@ -16,7 +16,8 @@ use Rattle.ll_laws.specs.Attempt.{vars_from}
 use Rattle.ll_laws.specs.Search.{program_entries}
 use Rattle.ll_laws.specs.Problem.{ProblemTree, setting_of, start_of, problem_events}
 use Rattle.ll_laws.specs.Valid.{given, GoalSide, ClauseSide, AreClauses, IsValid}
-use Rattle.ll_laws.specs.Shows.{Tree, OneNode, EraseNode, TensorNode, WithNode, LeftNode, RightNode, BangNode, LolliNode, ImpNode, ForallNode, ExistsNode, UseNode, ClauseNode, Parts, NoParts, BoundedPart, UnboundedPart, nodes, part_nodes, NumNode}
+use Rattle.ll_laws.specs.Shows.{Tree, OneNode, EraseNode, TensorNode, WithNode, LeftNode, RightNode, BangNode, LolliNode, ImpNode, ForallNode, ExistsNode}
+use Rattle.ll_laws.specs.Shows.{UseNode, ClauseNode, Parts, NoParts, BoundedPart, UnboundedPart, nodes, part_nodes, NumNode}
 use Rattle.ll_laws.specs.Line.{IsWhole, DerivationLines, trees_of, lines}
 use Rattle.ll_laws.specs.Verdict.{root_bounded, instantiated_goal, DerivationShows}
 use Rattle.ll_laws.specs.Run.{Trace, run_start}
@@ -43,7 +44,8 @@ mutual
   deal_nodes d EraseNode = refl
   deal_nodes d NumNode = refl
   deal_nodes d (TensorNode s t x y) =
-      let p = deal_nodes (filter (λ n. goes_to (uses n x) (uses n y) (erases x)) d) x in let q = deal_nodes (filter (λ n. not (goes_to (uses n x) (uses n y) (erases x))) d) y in omega (arith, p, q)
+      let p = deal_nodes (filter (λ n. goes_to (uses n x) (uses n y) (erases x)) d) x in
+      let q = deal_nodes (filter (λ n. not (goes_to (uses n x) (uses n y) (erases x))) d) y in omega (arith, p, q)
   deal_nodes d (WithNode x y) = let p = deal_nodes d x in let q = deal_nodes d y in omega (arith, p, q)
   deal_nodes d (LeftNode x) = ap (λ n. suc n) (deal_nodes d x)
   deal_nodes d (RightNode x) = ap (λ n. suc n) (deal_nodes d x)
@@ -64,15 +66,19 @@ mutual
 
 -- ---- the start of a run
 
-entries_same : (f : ℕ → Term) (names : ℕ) (ms : List ModuleTree) (n : ℕ) (cs : List ClauseTree) → AreClauses names ms [] cs → map (sub_entry f) (program_entries n cs) ≡ program_entries n cs
+entries_same : (f : ℕ → Term) (names : ℕ) (ms : List ModuleTree) (n : ℕ) (cs : List ClauseTree) → AreClauses names ms [] cs
+    → map (sub_entry f) (program_entries n cs) ≡ program_entries n cs
 entries_same f names ms n [] h = refl
 entries_same f names ms n (c ∷ cs) h =
-    let a = sub_none_form ms f ClauseSide [] c.form (fits_of_formula (given ms 0) ClauseSide [] c.form h.0) in let b = entries_same f names ms (suc n) cs h.2 in cc
+    let a = sub_none_form ms f ClauseSide [] c.form (fits_of_formula (given ms 0) ClauseSide [] c.form h.0) in let b = entries_same f names ms (suc n) cs h.2 in
+    cc
 
-asked_are : (p : ProblemTree) (a : Answered) (f : ℕ → Term) (later : List Term) → a.terms ≡ map (sub f) (vars_from 0 (length p.asked)) ++ later → asked_terms p a ≡ map (sub f) (vars_from 0 (length p.asked))
+asked_are : (p : ProblemTree) (a : Answered) (f : ℕ → Term) (later : List Term) → a.terms ≡ map (sub f) (vars_from 0 (length p.asked)) ++ later
+    → asked_terms p a ≡ map (sub f) (vars_from 0 (length p.asked))
 asked_are p a f later h =
     let n = length p.asked in
-    ap (take n) h ∙ (ap (λ m. take m (map (sub f) (vars_from 0 n) ++ later)) (sym (length-map (vars_from 0 n) (sub f) ∙ length-vars 0 n)) ∙ take-append_seam (map (sub f) (vars_from 0 n)) later)
+    ap (take n) h ∙ (ap (λ m. take m (map (sub f) (vars_from 0 n) ++ later)) (sym (length-map (vars_from 0 n) (sub f) ∙ length-vars 0 n))
+    ∙ take-append_seam (map (sub f) (vars_from 0 n)) later)
 
 goal_is : (p : ProblemTree) (f : ℕ → Term) → IsValid p → sub_form f p.goal ≡ instantiated_goal p (map (sub f) (vars_from 0 (length p.asked)))
 goal_is p f v =
@@ -80,7 +86,8 @@ goal_is p f v =
     (λ x l. let e : 0 + x ≡ x = omega arith in sym (listed f 0 (length p.asked) x (Var x) l ∙ ap f e)) GoalSide [] p.goal
     (fits_of_formula (given p.modules (length p.asked)) GoalSide [] p.goal v.goal)
 
-pub run_begins : (p : ProblemTree) (f : ℕ → Term) (ts : List Term) → IsValid p → ts ≡ map (sub f) (vars_from 0 (length p.asked)) → grounded f (start_of p) ≡ run_start p ts
+pub run_begins : (p : ProblemTree) (f : ℕ → Term) (ts : List Term) → IsValid p → ts ≡ map (sub f) (vars_from 0 (length p.asked))
+    → grounded f (start_of p) ≡ run_start p ts
 run_begins p f ts v h =
     let g = goal_is p f v ∙ ap (instantiated_goal p) (sym h) in let e = entries_same f (length p.names) p.modules 0 p.clauses v.clauses in let t = sym h in cc
 
@@ -111,7 +118,8 @@ shown_comes p a v w =
     let r = run_shown p ts ns run in
     let d = labels (root_bounded p) in
     let y = deal d r.tree in
-    let f : AreFormed (length p.clauses) (lines r.tree) = subst (AreFormed (length p.clauses)) r.is_lines (record { formed = trace_formed (setting_of p) ns (run_start p ts) run; rise = trace_rises (setting_of p) ns (run_start p ts) run }) in
+    let f : AreFormed (length p.clauses) (lines r.tree) = subst (AreFormed (length p.clauses)) r.is_lines
+    (record { formed = trace_formed (setting_of p) ns (run_start p ts) run; rise = trace_rises (setting_of p) ns (run_start p ts) run }) in
     let is : branch_lines p a ≡ ns = ap (λ m. replay (setting_of p) a.terms m (run_start p ts)) w.steps in
     let m = trees-count ns (r.tree ∷ []) r.is_tree in
     let k = trees-count (lines y) (y ∷ []) (tree_of_lines y) in
@@ -121,13 +129,27 @@ shown_comes p a v w =
       derivation = record { asked = ts; nodes = lines y };
       asked = refl;
       is_dealt = ap (λ o. dealt_lines ts (dealt_trees d o)) (ap trees_of is ∙ r.is_tree);
-      whole = record { tree = y; is_tree = tree_of_lines y; asked = ap (list_all is_closed) t ∙ closed_asked w.values w.closing 0 (length p.asked); nodes = deal_formed (length p.clauses) d r.tree (let e : 0 + length p.clauses ≡ length p.clauses = omega arith in subst (λ k. AreRising k d) e (labels_rising Linear 0 p.clauses)) f };
-      shows = record { tree = y; is_tree = tree_of_lines y; count = ap length t ∙ (length-map (vars_from 0 (length p.asked)) (sub w.values) ∙ length-vars 0 (length p.asked)); shows = r.shows };
+      whole = record {
+        tree = y;
+        is_tree = tree_of_lines y;
+        asked = ap (list_all is_closed) t ∙ closed_asked w.values w.closing 0 (length p.asked);
+        nodes =
+            deal_formed (length p.clauses) d r.tree (let e : 0 + length p.clauses ≡ length p.clauses = omega arith in
+            subst (λ k. AreRising k d) e (labels_rising Linear 0 p.clauses)) f;
+      };
+      shows = record {
+        tree = y;
+        is_tree = tree_of_lines y;
+        count =
+            ap length t ∙ (length-map (vars_from 0 (length p.asked)) (sub w.values) ∙ length-vars 0 (length p.asked));
+        shows = r.shows;
+      };
       count = omega (arith, m, k, j, z, c);
     }
 
 pub answer_shown : (p : ProblemTree) (a : Answered) → IsValid p → Contains (problem_events p) (Answer a) → AnswerShown p a
-answer_shown p a v h = shown_comes p a v (state_comes (length p.names) (setting_of p) v.modules p.bound (start_of p) a (starts_consistent p v) (among (problem_events p) (Answer a) h))
+answer_shown p a v h = shown_comes p a v (state_comes (length p.names) (setting_of p) v.modules p.bound (start_of p) a (starts_consistent p v)
+    (among (problem_events p) (Answer a) h))
 
 -- ---- the laws
 

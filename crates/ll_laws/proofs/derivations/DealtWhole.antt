@@ -12,10 +12,13 @@ use Rattle.ll_laws.specs.declared.Kind.{Kind}
 use Rattle.ll_laws.specs.Module.{Setting, ClauseTree}
 use Rattle.ll_laws.specs.Settle.{Item, Front}
 use Rattle.ll_laws.specs.State.{State, settle, front_of, with_front}
-use Rattle.ll_laws.specs.Shows.{Tree, OneNode, EraseNode, TensorNode, WithNode, LeftNode, RightNode, BangNode, LolliNode, ImpNode, ForallNode, ExistsNode, UseNode, ClauseNode, Parts, NoParts, BoundedPart, UnboundedPart, NumNode}
-use Rattle.ll_laws.specs.Line.{Line, OneLine, EraseLine, TensorLine, WithLine, LeftLine, RightLine, BangLine, UseLine, LolliLine, ImpLine, ForallLine, ExistsLine, ClauseLine, lines, lines_of_parts, part_lines, part_line, rises, part_rises, is_line, NumLine}
+use Rattle.ll_laws.specs.Shows.{Tree, OneNode, EraseNode, TensorNode, WithNode, LeftNode, RightNode, BangNode, LolliNode, ImpNode, ForallNode, ExistsNode}
+use Rattle.ll_laws.specs.Shows.{UseNode, ClauseNode, Parts, NoParts, BoundedPart, UnboundedPart, NumNode}
+use Rattle.ll_laws.specs.Line.{Line, OneLine, EraseLine, TensorLine, WithLine, LeftLine, RightLine, BangLine, UseLine, LolliLine, ImpLine, ForallLine}
+use Rattle.ll_laws.specs.Line.{ExistsLine, ClauseLine, lines, lines_of_parts, part_lines, part_line, rises, part_rises, is_line, NumLine}
 use Rattle.ll_laws.specs.Verdict.{labelled, same_kind}
-use Rattle.ll_laws.specs.Run.{Goes, goes_one, goes_top, goes_tensor, goes_left, goes_right, goes_with, goes_bang, goes_lolli, goes_imp, goes_forall, goes_exists, goes_use, goes_atom, Trace, trace_end, trace_step, MayChoose, goes_num}
+use Rattle.ll_laws.specs.Run.{Goes, goes_one, goes_top, goes_tensor, goes_left, goes_right, goes_with, goes_bang, goes_lolli, goes_imp, goes_forall}
+use Rattle.ll_laws.specs.Run.{goes_exists, goes_use, goes_atom, Trace, trace_end, trace_step, MayChoose, goes_num}
 use Rattle.ll_laws.specs.Dealing.{deal, deal_parts, goes_to, uses, uses_part, erases, without}
 
 -- ---- the labels of what a run loads rise
@@ -78,7 +81,8 @@ last_rise k (ForallLine c ∷ ms) ns h = last_rise k ms ns h
 last_rise k (ExistsLine t ∷ ms) ns h = last_rise k ms ns h
 last_rise k (ClauseLine n i us ps ∷ ms) ns h = last_rise k ms ns h
 
-goes_rises : {beside : Setting} {s : State} {rest : List (Item Form)} {g : Form} {n : Line} {u : State} → Goes beside s rest g n u → (ns : List Line) → RisesFrom u.label ns → RisesFrom s.label (n ∷ ns)
+goes_rises : {beside : Setting} {s : State} {rest : List (Item Form)} {g : Form} {n : Line} {u : State} → Goes beside s rest g n u → (ns : List Line)
+    → RisesFrom u.label ns → RisesFrom s.label (n ∷ ns)
 goes_rises goes_one ns h = h
 goes_rises goes_top ns h = h
 goes_rises goes_tensor ns h = h
@@ -104,7 +108,8 @@ settled_label s t h = step _ h
 
 pub trace_rises : (beside : Setting) (ns : List Line) (s : State) → Trace beside ns s → RisesFrom s.label ns
 trace_rises beside _ s (trace_end t h a d) = tt
-trace_rises beside _ s (trace_step {n = n} {ns = ns} t u g rest h a go run) = subst (λ k. RisesFrom k (n ∷ ns)) (settled_label s t h) (goes_rises go ns (trace_rises beside ns u run))
+trace_rises beside _ s (trace_step {n = n} {ns = ns} t u g rest h a go run) =
+    subst (λ k. RisesFrom k (n ∷ ns)) (settled_label s t h) (goes_rises go ns (trace_rises beside ns u run))
 
 -- ---- the nodes of a run are well formed
 
@@ -190,14 +195,16 @@ below_more j k (n ∷ ns) l h =
 append_rises : (n : ℕ) (ns : List ℕ) → rises ns ≡ true → list_all (λ m. nat_lt m n) ns ≡ true → rises (ns ++ n ∷ []) ≡ true
 append_rises n [] h l = refl
 append_rises n (m ∷ ns) h l =
-    first_below m (ns ++ n ∷ []) (list_all-append (nat_lt m) ns (n ∷ []) ∙ and_intro _ _ (rest_above m ns h) (and_intro _ _ (and_left (nat_lt m n) (list_all (λ m. nat_lt m n) ns) l) refl))
+    first_below m (ns ++ n ∷ []) (list_all-append (nat_lt m) ns (n ∷ [])
+    ∙ and_intro _ _ (rest_above m ns h) (and_intro _ _ (and_left (nat_lt m n) (list_all (λ m. nat_lt m n) ns) l) refl))
     (append_rises n ns (rest_rises m ns h) (and_right (nat_lt m n) (list_all (λ m. nat_lt m n) ns) l))
 
 with_new_label : (k n : ℕ) (ns : List ℕ) → k ≤ n → AreRising k ns → AreRising (suc n) (ns ++ n ∷ [])
 with_new_label k n ns l h =
     let b = below_more k n ns l h.1 in (
       append_rises n ns h.0 b,
-      list_all-append (λ m. nat_lt m (suc n)) ns (n ∷ []) ∙ and_intro _ _ (below_more n (suc n) ns (omega arith) b) (and_intro _ _ (lt-ltb n (suc n) (omega arith)) refl),
+      list_all-append (λ m. nat_lt m (suc n)) ns (n ∷ []) ∙ and_intro _ _ (below_more n (suc n) ns (omega arith) b)
+          (and_intro _ _ (lt-ltb n (suc n) (omega arith)) refl),
     )
 
 -- well-formed nodes, of which loads have rising labels
@@ -223,13 +230,19 @@ mutual
   deal_formed k d NumNode r f = refl
   deal_formed k d (TensorNode s t x y) r f =
       let p : ℕ → Bool = λ n. goes_to (uses n x) (uses n y) (erases x) in
-      let g : AreFormed k (lines x ++ lines y) = record { formed = and_right (rises s && rises t) (list_all is_line (lines x ++ lines y)) f.formed; rise = f.rise } in
+      let g : AreFormed k (lines x ++ lines y) = record {
+        formed = and_right (rises s && rises t) (list_all is_line (lines x ++ lines y)) f.formed;
+        rise =
+            f.rise;
+      } in
       and_intro _ _ (and_intro _ _ (filter_rises p d r.0) (filter_rises (λ n. not (p n)) d r.0))
-      (joined (lines (deal (filter p d) x)) (lines (deal (filter (λ n. not (p n)) d) y)) (deal_formed k (filter p d) x (filtered k p d r) (first_formed k (lines x) (lines y) g))
+      (joined (lines (deal (filter p d) x)) (lines (deal (filter (λ n. not (p n)) d) y))
+      (deal_formed k (filter p d) x (filtered k p d r) (first_formed k (lines x) (lines y) g))
       (deal_formed k (filter (λ n. not (p n)) d) y (filtered k (λ n. not (p n)) d r) (last_formed k (lines x) (lines y) g)))
   deal_formed k d (WithNode x y) r f =
       let g : AreFormed k (lines x ++ lines y) = record { formed = f.formed; rise = f.rise } in
-      joined (lines (deal d x)) (lines (deal d y)) (deal_formed k d x r (first_formed k (lines x) (lines y) g)) (deal_formed k d y r (last_formed k (lines x) (lines y) g))
+      joined (lines (deal d x)) (lines (deal d y)) (deal_formed k d x r (first_formed k (lines x) (lines y) g))
+      (deal_formed k d y r (last_formed k (lines x) (lines y) g))
   deal_formed k d (LeftNode x) r f = deal_formed k d x r (record { formed = f.formed; rise = f.rise })
   deal_formed k d (RightNode x) r f = deal_formed k d x r (record { formed = f.formed; rise = f.rise })
   deal_formed k d (BangNode x) r f = deal_formed k [] x (refl, refl) (record { formed = f.formed; rise = f.rise })
@@ -238,13 +251,19 @@ mutual
       let l = f.rise.0 in deal_formed (suc n) d x (r.0, below_more k (suc n) d (omega (arith, l)) r.1) (record { formed = f.formed; rise = f.rise.1 })
   deal_formed k d (ForallNode c x) r f = deal_formed k d x r (record { formed = f.formed; rise = f.rise })
   deal_formed k d (ExistsNode t x) r f =
-      and_intro _ _ (and_left (is_closed t) (list_all is_line (lines x)) f.formed) (deal_formed k d x r (record { formed = and_right (is_closed t) (list_all is_line (lines x)) f.formed; rise = f.rise }))
+      and_intro _ _ (and_left (is_closed t) (list_all is_line (lines x)) f.formed)
+      (deal_formed k d x r (record { formed = and_right (is_closed t) (list_all is_line (lines x)) f.formed; rise = f.rise }))
   deal_formed k d (UseNode x) r f = deal_formed k d x r (record { formed = f.formed; rise = f.rise })
   deal_formed k d (ClauseNode n j us ps) r f =
       let a = and_left (list_all is_closed us && list_all part_rises (part_lines ps)) (list_all is_line (lines_of_parts ps)) f.formed in
-      let g : AreFormed k (lines_of_parts ps) = record { formed = and_right (list_all is_closed us && list_all part_rises (part_lines ps)) (list_all is_line (lines_of_parts ps)) f.formed; rise = f.rise } in
+      let g : AreFormed k (lines_of_parts ps) = record {
+        formed =
+            and_right (list_all is_closed us && list_all part_rises (part_lines ps)) (list_all is_line (lines_of_parts ps)) f.formed;
+        rise = f.rise;
+      } in
       let w = filtered k (λ m. not (nat_eq n m)) d r in
-      and_intro _ _ (and_intro _ _ (and_left (list_all is_closed us) (list_all part_rises (part_lines ps)) a) (deal_part_labels k (without n d) ps w)) (deal_parts_formed k (without n d) ps w g)
+      and_intro _ _ (and_intro _ _ (and_left (list_all is_closed us) (list_all part_rises (part_lines ps)) a) (deal_part_labels k (without n d) ps w))
+      (deal_parts_formed k (without n d) ps w g)
 
   deal_part_labels : (k : ℕ) (d : List ℕ) (ps : Parts) → AreRising k d → list_all part_rises (part_lines (deal_parts d ps)) ≡ true
   deal_part_labels k d NoParts r = refl
@@ -253,11 +272,13 @@ mutual
       and_intro _ _ (filter_rises p d r.0) (deal_part_labels k (filter (λ n. not (p n)) d) ps (filtered k (λ n. not (p n)) d r))
   deal_part_labels k d (UnboundedPart x ps) r = deal_part_labels k d ps r
 
-  deal_parts_formed : (k : ℕ) (d : List ℕ) (ps : Parts) → AreRising k d → AreFormed k (lines_of_parts ps) → list_all is_line (lines_of_parts (deal_parts d ps)) ≡ true
+  deal_parts_formed : (k : ℕ) (d : List ℕ) (ps : Parts) → AreRising k d → AreFormed k (lines_of_parts ps)
+      → list_all is_line (lines_of_parts (deal_parts d ps)) ≡ true
   deal_parts_formed k d NoParts r f = refl
   deal_parts_formed k d (BoundedPart s x ps) r f =
       let p : ℕ → Bool = λ n. goes_to (uses n x) (uses_part n ps) (erases x) in
-      joined (lines (deal (filter p d) x)) (lines_of_parts (deal_parts (filter (λ n. not (p n)) d) ps)) (deal_formed k (filter p d) x (filtered k p d r) (first_formed k (lines x) (lines_of_parts ps) f))
+      joined (lines (deal (filter p d) x)) (lines_of_parts (deal_parts (filter (λ n. not (p n)) d) ps))
+      (deal_formed k (filter p d) x (filtered k p d r) (first_formed k (lines x) (lines_of_parts ps) f))
       (deal_parts_formed k (filter (λ n. not (p n)) d) ps (filtered k (λ n. not (p n)) d r) (last_formed k (lines x) (lines_of_parts ps) f))
   deal_parts_formed k d (UnboundedPart x ps) r f =
       joined (lines (deal [] x)) (lines_of_parts (deal_parts d ps)) (deal_formed k [] x (refl, refl) (first_formed k (lines x) (lines_of_parts ps) f))
@@ -270,7 +291,8 @@ above_labels kind j n [] h = refl
 above_labels kind j n (c ∷ cs) h = step (same_kind kind c.kind) (above_labels kind j (suc n) cs (omega (arith, h)))
   where
     step : (b : Bool) → list_all (nat_lt j) (map (λ l. l.label) (labelled kind (suc n) cs)) ≡ true
-        → list_all (nat_lt j) (map (λ l. l.label) (if b then record { label = n; clause = c.form } ∷ labelled kind (suc n) cs else labelled kind (suc n) cs)) ≡ true
+        → list_all (nat_lt j) (map (λ l. l.label) (if b then record { label = n; clause = c.form } ∷ labelled kind (suc n) cs else labelled kind (suc n) cs))
+        ≡ true
     step true g = and_intro _ _ (lt-ltb j n h) g
     step false g = g
 
@@ -279,13 +301,19 @@ labels_rising kind n [] = (refl, refl)
 labels_rising kind n (c ∷ cs) = step (same_kind kind c.kind) (labels_rising kind (suc n) cs)
   where
     step : (b : Bool) → AreRising (suc n + length cs) (map (λ l. l.label) (labelled kind (suc n) cs))
-        → AreRising (n + suc (length cs)) (map (λ l. l.label) (if b then record { label = n; clause = c.form } ∷ labelled kind (suc n) cs else labelled kind (suc n) cs))
+        → AreRising (n + suc (length cs)) (map (λ l. l.label)
+        (if b then record { label = n; clause = c.form } ∷ labelled kind (suc n) cs else labelled kind (suc n) cs))
     step b g =
         let e : suc n + length cs ≡ n + suc (length cs) = omega arith in
-        let w : AreRising (n + suc (length cs)) (map (λ l. l.label) (labelled kind (suc n) cs)) = subst (λ k. AreRising k (map (λ l. l.label) (labelled kind (suc n) cs))) e g in
+        let w : AreRising (n + suc (length cs)) (map (λ l. l.label) (labelled kind (suc n) cs)) =
+        subst (λ k. AreRising k (map (λ l. l.label) (labelled kind (suc n) cs))) e g in
         either b w
       where
         either : (b : Bool) → AreRising (n + suc (length cs)) (map (λ l. l.label) (labelled kind (suc n) cs))
-            → AreRising (n + suc (length cs)) (map (λ l. l.label) (if b then record { label = n; clause = c.form } ∷ labelled kind (suc n) cs else labelled kind (suc n) cs))
-        either true w = (first_below n (map (λ l. l.label) (labelled kind (suc n) cs)) (above_labels kind n (suc n) cs (omega arith)) w.0, and_intro _ _ (lt-ltb n (n + suc (length cs)) (omega arith)) w.1)
+            → AreRising (n + suc (length cs)) (map (λ l. l.label)
+            (if b then record { label = n; clause = c.form } ∷ labelled kind (suc n) cs else labelled kind (suc n) cs))
+        either true w = (
+          first_below n (map (λ l. l.label) (labelled kind (suc n) cs)) (above_labels kind n (suc n) cs (omega arith)) w.0,
+          and_intro _ _ (lt-ltb n (n + suc (length cs)) (omega arith)) w.1,
+        )
         either false w = w

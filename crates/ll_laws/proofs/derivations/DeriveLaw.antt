@@ -8,11 +8,16 @@ use Rattle.ll_bank.specs.Term.{Term, Con}
 use Rattle.ll_bank.specs.Form.{Form, Top, One, Atom, With, Tensor, Plus, Bang, Lolli, Imp, Forall, Exists, Use, instantiate, Num}
 use Rattle.ll_laws.specs.Leaf.{Premise, Needs, NeedsFree, leaf}
 use Rattle.ll_laws.specs.Module.{Setting, unfold_load}
-use Rattle.ll_laws.specs.Derive.{AreClosed, Dealt, dealt_none, dealt_left, dealt_right, Derivable, by_one, by_top, by_tensor, by_with, by_left, by_right, by_bang, by_lolli, by_imp, by_forall, by_exists, by_use, by_free, by_linear, Premises, no_premise, a_premise, a_free_premise, by_num}
-use Rattle.ll_laws.specs.Shows.{Tree, OneNode, EraseNode, TensorNode, WithNode, LeftNode, RightNode, BangNode, LolliNode, ImpNode, ForallNode, ExistsNode, UseNode, ClauseNode, Parts, NoParts, BoundedPart, UnboundedPart, nodes, part_nodes, Labelled, clauses, has, part, rest, one_of, Found, Missing, Took, behind, take_label, pick, pick_of, Shows, ShowsParts, NumNode}
+use Rattle.ll_laws.specs.Derive.{AreClosed, Dealt, dealt_none, dealt_left, dealt_right, Derivable, by_one, by_top, by_tensor, by_with, by_left, by_right}
+use Rattle.ll_laws.specs.Derive.{by_bang, by_lolli, by_imp, by_forall, by_exists, by_use, by_free, by_linear, Premises, no_premise, a_premise, a_free_premise}
+use Rattle.ll_laws.specs.Derive.{by_num}
+use Rattle.ll_laws.specs.Shows.{Tree, OneNode, EraseNode, TensorNode, WithNode, LeftNode, RightNode, BangNode, LolliNode, ImpNode, ForallNode, ExistsNode}
+use Rattle.ll_laws.specs.Shows.{UseNode, ClauseNode, Parts, NoParts, BoundedPart, UnboundedPart, nodes, part_nodes, Labelled, clauses, has, part, rest, one_of}
+use Rattle.ll_laws.specs.Shows.{Found, Missing, Took, behind, take_label, pick, pick_of, Shows, ShowsParts, NumNode}
 
 -- lists that take each element exactly once
-pub deal_two : (s t : List ℕ) (d : List Labelled) → list_all (λ l. one_of (has s l.label) (has t l.label)) d ≡ true → Dealt (clauses (part s d)) (clauses (part t d)) (clauses d)
+pub deal_two : (s t : List ℕ) (d : List Labelled) → list_all (λ l. one_of (has s l.label) (has t l.label)) d ≡ true
+    → Dealt (clauses (part s d)) (clauses (part t d)) (clauses d)
 deal_two s t [] h = dealt_none
 deal_two s t (l ∷ ls) h =
     step (has s l.label) (has t l.label) (and_left _ _ h) (deal_two s t ls (and_right _ _ h))
@@ -63,7 +68,8 @@ deal_taken n (l ∷ ls) r e h = step (nat_eq n l.label) (take_label n ls) (deal_
         → (if b then Took l.clause ls else behind l o) ≡ Took r e → Dealt (r ∷ []) (clauses e) (l.clause ∷ clauses ls)
     step true o go h =
         let p : l.clause ≡ r = cc in let f : ls ≡ e = cc in
-        subst (λ x. Dealt (x ∷ []) (clauses e) (l.clause ∷ clauses ls)) p (subst (λ x. Dealt (l.clause ∷ []) (clauses x) (l.clause ∷ clauses ls)) f (dealt_left (deal_none (clauses ls))))
+        subst (λ x. Dealt (x ∷ []) (clauses e) (l.clause ∷ clauses ls)) p
+        (subst (λ x. Dealt (l.clause ∷ []) (clauses x) (l.clause ∷ clauses ls)) f (dealt_left (deal_none (clauses ls))))
     step false Missing go h = cc
     step false (Took s f) go h =
         let p : s ≡ r = cc in let q : l ∷ f ≡ e = cc in
@@ -95,7 +101,9 @@ mutual
   derive beside (BangNode x) c d (Bang g) h =
       subst (λ e. Derivable beside (suc (nodes x)) (clauses c) (clauses e) (Bang g)) (sym h.0)
       (by_bang (subst (λ e. Derivable beside (nodes x) (clauses c) (clauses e) g) h.0 (derive beside x c d g h.1)))
-  derive beside (LolliNode n x) c d (Lolli r g) h = by_lolli (subst (λ e. Derivable beside (nodes x) (clauses c) e g) (map-append (λ l. l.clause) d (record { label = n; clause = r } ∷ [])) (derive beside x c (d ++ record { label = n; clause = r } ∷ []) g h.1))
+  derive beside (LolliNode n x) c d (Lolli r g) h = by_lolli
+      (subst (λ e. Derivable beside (nodes x) (clauses c) e g) (map-append (λ l. l.clause) d (record { label = n; clause = r } ∷ []))
+      (derive beside x c (d ++ record { label = n; clause = r } ∷ []) g h.1))
   derive beside (ImpNode n x) c d (Imp r g) h = by_imp (derive beside x (record { label = n; clause = r } ∷ c) d g h.1)
   derive beside (ForallNode k x) c d (Forall g) h = by_forall k h.0 (derive beside x c d (instantiate g (Con _)) h.1)
   derive beside (ExistsNode t x) c d (Exists g) h = by_exists t h.0 (derive beside x c d (instantiate g t) h.1)
@@ -104,7 +112,8 @@ mutual
       by_clause beside n c d h.1 h.0 (part_nodes ps) k a ts h.2 h.3 h.4 h.5 (derive_parts beside ps c h.1 h.2 h.6)
   derive beside _ c d _ h = absurd h
 
-  pub derive_parts : (beside : Setting) (ps : Parts) (c d : List Labelled) (gs : List Premise) → ShowsParts beside ps c d gs → Premises beside (part_nodes ps) (clauses c) (clauses d) gs
+  pub derive_parts : (beside : Setting) (ps : Parts) (c d : List Labelled) (gs : List Premise) → ShowsParts beside ps c d gs
+      → Premises beside (part_nodes ps) (clauses c) (clauses d) gs
   derive_parts beside NoParts c d [] h = subst (λ e. Premises beside 0 (clauses c) (clauses e) []) (sym h) no_premise
   derive_parts beside (BoundedPart s x ps) c d (Needs g ∷ gs) h =
       a_premise (deal_rest s d) (derive beside x c (part s d) g h.1) (derive_parts beside ps c (rest s d) gs h.2)

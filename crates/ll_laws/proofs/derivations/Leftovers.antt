@@ -6,16 +6,19 @@ use Rattle.std.proofs.lemmas.Bool.{eqb-true, eq-eqb, eqb-false, ne_eqb, or_right
 use Rattle.std.proofs.lemmas.List.{append-nil, map-append}
 use Rattle.std.proofs.lemmas.List.Folds.{list_any-append}
 use Rattle.std.proofs.Math.Bool.{and-true, or-false, or-true}
-use Rattle.ll_lists.proofs.CallerLemmas.{or_false_left as or_off_left, or_false_right as or_off_right, and_true_left as and_one, and_true_right as and_two, or_elim as or_split, or_assoc, not_eq_sym}
+use Rattle.ll_lists.proofs.CallerLemmas.{or_false_left as or_off_left, or_false_right as or_off_right, and_true_left as and_one, and_true_right as and_two}
+use Rattle.ll_lists.proofs.CallerLemmas.{or_elim as or_split, or_assoc, not_eq_sym}
 use Rattle.ll_bank.specs.Term.{Term}
 use Rattle.ll_bank.specs.Form.{Form, Bang, form_has_eigen}
 use Rattle.ll_laws.specs.Leaf.{Premise}
 use Rattle.ll_laws.specs.Module.{Setting}
-use Rattle.ll_laws.specs.Settle.{Entry, Saved, Item, Goal, LolliEnd, ImpEnd, WithMiddle, WithEnd, BangEnd, Front, settle_front, marks, remark, end_with, join, within, both_live, unlive}
+use Rattle.ll_laws.specs.Settle.{Entry, Saved, Item, Goal, LolliEnd, ImpEnd, WithMiddle, WithEnd, BangEnd, Front, settle_front, marks, remark, end_with, join}
+use Rattle.ll_laws.specs.Settle.{within, both_live, unlive}
 use Rattle.ll_laws.specs.State.{State, settle, front_of}
 use Rattle.ll_laws.specs.Attempt.{is_linear, picked, entry_at, is_open}
 use Rattle.ll_laws.specs.Derive.{IsNew, AreClosed}
-use Rattle.ll_laws.specs.Shows.{Tree, TensorNode, WithNode, BangNode, ClauseNode, Parts, NoParts, BoundedPart, Labelled, has_label, clauses, pick, pick_of, Found, Missing, Took, take_label, behind}
+use Rattle.ll_laws.specs.Shows.{Tree, TensorNode, WithNode, BangNode, ClauseNode, Parts, NoParts, BoundedPart, Labelled, has_label, clauses, pick, pick_of}
+use Rattle.ll_laws.specs.Shows.{Found, Missing, Took, take_label, behind}
 use Rattle.ll_laws.specs.Line.{Line, lines, lines_of_parts, part_lines, part_line}
 use Rattle.ll_laws.specs.Run.{Goes, Trace, trace_end, trace_step, MayChoose}
 use Rattle.ll_laws.specs.Dealing.{uses, uses_part, erases, erases_part}
@@ -62,7 +65,8 @@ pub record Stepped (beside : Setting) (ns : List Line) (s : State) (rest : List 
   pub trace : Trace beside more next
 
 -- a run with a goal in front begins with its inference
-pub first_step : (beside : Setting) (ns : List Line) (s : State) (g : Form) (rest : List (Item Form)) → settle s ≡ Some s → s.agenda ≡ Goal g ∷ rest → Trace beside ns s → Stepped beside ns s rest g
+pub first_step : (beside : Setting) (ns : List Line) (s : State) (g : Form) (rest : List (Item Form)) → settle s ≡ Some s → s.agenda ≡ Goal g ∷ rest
+    → Trace beside ns s → Stepped beside ns s rest g
 first_step beside _ s g rest f a (trace_end t h e d) =
     let q : s ≡ t = cc in let w : Goal g ∷ rest ≡ [] = sym a ∙ (ap (λ x. x.agenda) q ∙ e) in cc
 first_step beside _ s g rest f a (trace_step {n = n} {ns = ns} t u g' rest' h e go run) =
@@ -86,7 +90,8 @@ pub record After (beside : Setting) (ns : List Line) (rest : List (Item Form)) (
   pub lazy : Lazy beside tree (free_of es) (live_of es) g
 
 -- a goal in front is settled
-pub settled_goal : (s : State) (g : Form) (rest : List (Item Form)) (es : List (Entry Form)) (v : Bool) → settle (on s (Goal g ∷ rest) es v) ≡ Some (on s (Goal g ∷ rest) es v)
+pub settled_goal : (s : State) (g : Form) (rest : List (Item Form)) (es : List (Entry Form)) (v : Bool)
+    → settle (on s (Goal g ∷ rest) es v) ≡ Some (on s (Goal g ∷ rest) es v)
 unfolding settle
 settled_goal s g rest es v = refl
 
@@ -105,7 +110,8 @@ map_same_all f g h (e ∷ es) = let a = h e in let b = map_same_all f g h es in 
 pub used_none : (x : Tree) → ((n : ℕ) → uses n x ≡ false) → (es : List (Entry Form)) → used_up x es ≡ es
 used_none x h [] = refl
 used_none x h (e ∷ es) =
-    let b = used_none x h es in let a : use_entry x e ≡ e = relive e (e.live && not (uses e.label x)) e.live (ap (λ z. e.live && not z) (h e.label) ∙ and-true e.live) in cc
+    let b = used_none x h es in let a : use_entry x e ≡ e = relive e (e.live && not (uses e.label x)) e.live
+    (ap (λ z. e.live && not z) (h e.label) ∙ and-true e.live) in cc
 
 pub used_then : (x y : Tree) (es : List (Entry Form)) → used_up y (used_up x es) ≡ used_up (TensorNode [] [] x y) es
 used_then x y [] = refl
@@ -122,13 +128,15 @@ pub filter_append : {A : Type 0} (p : A → Bool) (xs ys : List A) → filter p 
 filter_append p [] ys = refl
 filter_append p (x ∷ xs) ys = step (p x) (filter_append p xs ys)
   where
-    step : (b : Bool) → filter p (xs ++ ys) ≡ filter p xs ++ filter p ys → cond b (x ∷ filter p (xs ++ ys)) (filter p (xs ++ ys)) ≡ cond b (x ∷ filter p xs) (filter p xs) ++ filter p ys
+    step : (b : Bool) → filter p (xs ++ ys) ≡ filter p xs ++ filter p ys
+        → cond b (x ∷ filter p (xs ++ ys)) (filter p (xs ++ ys)) ≡ cond b (x ∷ filter p xs) (filter p xs) ++ filter p ys
     step true h = ap (λ zs. x ∷ zs) h
     step false h = h
 
 pub live_used : (x : Tree) (es : List (Entry Form)) → live_of (used_up x es) ≡ unused x (live_of es)
 live_used x [] = refl
-live_used x (e ∷ es) = joined (live_used x es) (one e.live (uses e.label x) refl) ∙ sym (filter_append (λ l. not (uses l.label x)) (live_of es) (when e.live (entry e)))
+live_used x (e ∷ es) = joined (live_used x es) (one e.live (uses e.label x) refl)
+    ∙ sym (filter_append (λ l. not (uses l.label x)) (live_of es) (when e.live (entry e)))
   where
     joined : {a b c d : List Labelled} → a ≡ b → c ≡ d → a ++ c ≡ b ++ d
     joined h k = cc
@@ -146,12 +154,14 @@ pub remark_used : (x : Tree) (es : List (Entry Form)) → remark (used_up x es) 
 remark_used x [] = refl
 remark_used x (e ∷ es) = ap (λ xs. e ∷ xs) (remark_used x es)
 
-pub front_same : (s : State) (a b : List (Item Form)) (es fs : List (Entry Form)) (v w : Bool) (o : Option (Front Form Form)) → front_of (on s a es v) o ≡ front_of (on s b fs w) o
+pub front_same : (s : State) (a b : List (Item Form)) (es fs : List (Entry Form)) (v w : Bool) (o : Option (Front Form Form))
+    → front_of (on s a es v) o ≡ front_of (on s b fs w) o
 front_same s a b es fs v w None = refl
 front_same s a b es fs v w (Some f) = refl
 
 -- the ends, one by one
-pub mid_trace : (beside : Setting) (ns : List Line) (s : State) (sv : Saved) (g : Form) (old : Saved) (rest : List (Item Form)) (es : List (Entry Form)) (v : Bool)
+pub mid_trace : (beside : Setting) (ns : List Line) (s : State) (sv : Saved) (g : Form) (old : Saved) (rest : List (Item Form)) (es : List (Entry Form))
+    (v : Bool)
     → Trace beside ns (on s (WithMiddle sv ∷ Goal g ∷ WithEnd sv old ∷ rest) es v)
     → Trace beside ns (on s (Goal g ∷ WithEnd sv (record { live = marks es; flag = v }) ∷ rest) (remark es sv.live) false)
 unfolding settle
@@ -164,25 +174,30 @@ no_trace beside _ s e (trace_step t u g rest h a go run) = let q : None ≡ Some
 pub with_none : (beside : Setting) (ns : List Line) (s : State) (sv half : Saved) (rest : List (Item Form)) (es : List (Entry Form)) (v : Bool)
     → join half (record { live = marks es; flag = v }) ≡ None → Trace beside ns (on s (WithEnd sv half ∷ rest) es v) → ⊥
 unfolding settle
-with_none beside ns s sv half rest es v e run = no_trace beside ns _ (ap (λ o. front_of (on s (WithEnd sv half ∷ rest) es v) (end_with (settle_front rest) sv es o)) e) run
+with_none beside ns s sv half rest es v e run = no_trace beside ns _
+    (ap (λ o. front_of (on s (WithEnd sv half ∷ rest) es v) (end_with (settle_front rest) sv es o)) e) run
 
 pub with_some : (beside : Setting) (ns : List Line) (s : State) (sv half r : Saved) (rest : List (Item Form)) (es : List (Entry Form)) (v : Bool)
-    → join half (record { live = marks es; flag = v }) ≡ Some r → Trace beside ns (on s (WithEnd sv half ∷ rest) es v) → Trace beside ns (on s rest (remark es r.live) (sv.flag || r.flag))
+    → join half (record { live = marks es; flag = v }) ≡ Some r → Trace beside ns (on s (WithEnd sv half ∷ rest) es v)
+    → Trace beside ns (on s rest (remark es r.live) (sv.flag || r.flag))
 unfolding settle
 with_some beside ns s sv half r rest es v e run =
-    same_trace beside ns _ _ (ap (λ o. front_of (on s (WithEnd sv half ∷ rest) es v) (end_with (settle_front rest) sv es o)) e ∙ front_same s (WithEnd sv half ∷ rest) rest es (remark es r.live) v (sv.flag || r.flag) (settle_front rest (remark es r.live) (sv.flag || r.flag))) run
+    same_trace beside ns _ _ (ap (λ o. front_of (on s (WithEnd sv half ∷ rest) es v) (end_with (settle_front rest) sv es o)) e
+    ∙ front_same s (WithEnd sv half ∷ rest) rest es (remark es r.live) v (sv.flag || r.flag) (settle_front rest (remark es r.live) (sv.flag || r.flag))) run
 
 pub bang_trace : (beside : Setting) (ns : List Line) (s : State) (sv : Saved) (rest : List (Item Form)) (es : List (Entry Form)) (v : Bool)
     → Trace beside ns (on s (BangEnd sv ∷ rest) es v) → Trace beside ns (on s rest (remark es sv.live) sv.flag)
 unfolding settle
-bang_trace beside ns s sv rest es v run = same_trace beside ns _ _ (front_same s (BangEnd sv ∷ rest) rest es (remark es sv.live) v sv.flag (settle_front rest (remark es sv.live) sv.flag)) run
+bang_trace beside ns s sv rest es v run = same_trace beside ns _ _
+    (front_same s (BangEnd sv ∷ rest) rest es (remark es sv.live) v sv.flag (settle_front rest (remark es sv.live) sv.flag)) run
 
 pub imp_trace : (beside : Setting) (ns : List Line) (s : State) (rest : List (Item Form)) (e : Entry Form) (es : List (Entry Form)) (v : Bool)
     → Trace beside ns (on s (ImpEnd ∷ rest) (e ∷ es) v) → Trace beside ns (on s rest es v)
 unfolding settle
 imp_trace beside ns s rest e es v run = same_trace beside ns _ _ (front_same s (ImpEnd ∷ rest) rest (e ∷ es) es v v (settle_front rest es v)) run
 
-pub record LolliEnded (beside : Setting) (ns : List Line) (s : State) (saved : Bool) (rest : List (Item Form)) (e : Entry Form) (es : List (Entry Form)) (v : Bool) : Type 0 where
+pub record LolliEnded (beside : Setting) (ns : List Line) (s : State) (saved : Bool) (rest : List (Item Form)) (e : Entry Form) (es : List (Entry Form))
+    (v : Bool) : Type 0 where
   pub spent : e.live && not v ≡ false
   pub trace : Trace beside ns (on s rest es (saved || v))
 
@@ -198,7 +213,8 @@ lolli_trace beside ns s saved rest e es v run = step (e.live && not v) refl
     step true q = absurd (no_trace beside ns _ (ap back q) run)
     step false q = record {
       spent = q;
-      trace = same_trace beside ns _ _ (ap back q ∙ front_same s (LolliEnd saved ∷ rest) rest (e ∷ es) es v (saved || v) (settle_front rest es (saved || v))) run;
+      trace = same_trace beside ns _ _ (ap back q ∙ front_same s (LolliEnd saved ∷ rest) rest (e ∷ es) es v (saved || v) (settle_front rest es (saved || v)))
+          run;
     }
 
 pub shorter : (k : ℕ) (ns : List Line) (x : Tree) (more : List Line) → ns ≡ lines x ++ more → length ns ≤ k → length more ≤ k
@@ -215,7 +231,8 @@ module _ (x y : Tree) where
       one true false w = refl
       one false u w = refl
 
-  pub within_first : (es : List (Entry Form)) → within (marks (used_up x es)) (marks (used_up y es)) ≡ true → marks (used_up x es) ≡ marks (used_up (WithNode x y) es)
+  pub within_first : (es : List (Entry Form)) → within (marks (used_up x es)) (marks (used_up y es)) ≡ true
+      → marks (used_up x es) ≡ marks (used_up (WithNode x y) es)
   within_first [] h = refl
   within_first (e ∷ es) h =
       let a = one e.live (uses e.label x) (uses e.label y) (and_one _ (within (marks (used_up x es)) (marks (used_up y es))) h) in
@@ -227,7 +244,8 @@ module _ (x y : Tree) where
       one true false false h = refl
       one false u w h = refl
 
-  pub within_second : (es : List (Entry Form)) → within (marks (used_up y es)) (marks (used_up x es)) ≡ true → marks (used_up y es) ≡ marks (used_up (WithNode x y) es)
+  pub within_second : (es : List (Entry Form)) → within (marks (used_up y es)) (marks (used_up x es)) ≡ true
+      → marks (used_up y es) ≡ marks (used_up (WithNode x y) es)
   within_second [] h = refl
   within_second (e ∷ es) h =
       let a = one e.live (uses e.label x) (uses e.label y) (and_one _ (within (marks (used_up y es)) (marks (used_up x es))) h) in
@@ -240,17 +258,20 @@ module _ (x y : Tree) where
       one false u w h = refl
 
 -- what the second leaves less of, the first uses too
-pub within_uses : (x y : Tree) (es : List (Entry Form)) → within (marks (used_up x es)) (marks (used_up y es)) ≡ true → (n : ℕ) → has_label (live_of es) n ≡ true → uses n y ≡ true → uses n x ≡ true
+pub within_uses : (x y : Tree) (es : List (Entry Form)) → within (marks (used_up x es)) (marks (used_up y es)) ≡ true → (n : ℕ)
+    → has_label (live_of es) n ≡ true → uses n y ≡ true → uses n x ≡ true
 within_uses x y [] h n m u = cc
 within_uses x y (e ∷ es) h n m u =
     or_split (has_label (live_of es) n) (has_label (when e.live (entry e)) n) (sym (has_append (live_of es) (when e.live (entry e)) n) ∙ m)
     (λ k. within_uses x y es (and_two (not (e.live && not (uses e.label x)) || (e.live && not (uses e.label y))) _ h) n k u)
     (λ k. one e.live refl (uses e.label x) refl (uses e.label y) refl k (and_one _ (within (marks (used_up x es)) (marks (used_up y es))) h))
   where
-    one : (b : Bool) → e.live ≡ b → (v : Bool) → uses e.label x ≡ v → (w : Bool) → uses e.label y ≡ w → has_label (when b (entry e)) n ≡ true → (not (b && not v) || (b && not w)) ≡ true → uses n x ≡ true
+    one : (b : Bool) → e.live ≡ b → (v : Bool) → uses e.label x ≡ v → (w : Bool) → uses e.label y ≡ w → has_label (when b (entry e)) n ≡ true
+        → (not (b && not v) || (b && not w)) ≡ true → uses n x ≡ true
     one true l true p w q k j = ap (λ z. uses z x) (eqb-true n e.label (sym (or-false (nat_eq n e.label)) ∙ k)) ∙ p
     one true l false p true q k j = cc
-    one true l false p false q k j = let z : uses e.label y ≡ true = subst (λ z. uses z y ≡ true) (eqb-true n e.label (sym (or-false (nat_eq n e.label)) ∙ k)) u in cc
+    one true l false p false q k j = let z : uses e.label y ≡ true =
+        subst (λ z. uses z y ≡ true) (eqb-true n e.label (sym (or-false (nat_eq n e.label)) ∙ k)) u in cc
     one false l v p w q k j = cc
 
 pub record WithJoined (x y : Tree) (es : List (Entry Form)) (o : Option Saved) : Type 0 where
@@ -298,7 +319,8 @@ with_joined x y es false true e f ok = step (within (marks (used_up x es)) (mark
       agree = λ n m. (λ u. or_two (uses n y) (erases y) f, λ u. or_one (uses n x) (erases x) (within_uses x y es h n m u));
     }
     step false h ok = absurd (ok refl)
-with_joined x y es false false e f ok = step (within (marks (used_up x es)) (marks (used_up y es))) refl (within (marks (used_up y es)) (marks (used_up x es))) refl ok
+with_joined x y es false false e f ok = step (within (marks (used_up x es)) (marks (used_up y es))) refl (within (marks (used_up y es)) (marks (used_up x es)))
+    refl ok
   where
     out : Bool → Option Saved
     out b = if b then Some (record { live = marks (used_up x es); flag = false }) else None
@@ -339,20 +361,23 @@ pub live_fresh : (n : ℕ) (es : List (Entry Form)) → list_any (λ e. nat_eq n
 live_fresh n [] h = refl
 live_fresh n (e ∷ es) h =
     has_append (live_of es) (when e.live (entry e)) n
-    ∙ (ap (λ b. b || has_label (when e.live (entry e)) n) (live_fresh n es (or_off_right (nat_eq n e.label) _ h)) ∙ when_new n e.live (entry e) (or_off_left (nat_eq n e.label) (list_any (λ e. nat_eq n e.label) es) h))
+    ∙ (ap (λ b. b || has_label (when e.live (entry e)) n) (live_fresh n es (or_off_right (nat_eq n e.label) _ h))
+    ∙ when_new n e.live (entry e) (or_off_left (nat_eq n e.label) (list_any (λ e. nat_eq n e.label) es) h))
 
 pub free_fresh : (n : ℕ) (es : List (Entry Form)) → list_any (λ e. nat_eq n e.label) es ≡ false → has_label (free_of es) n ≡ false
 free_fresh n [] h = refl
 free_fresh n (e ∷ es) h =
     has_append (when (not (is_linear e.kind)) (entry e)) (free_of es) n
-    ∙ (ap (λ b. b || has_label (free_of es) n) (when_new n (not (is_linear e.kind)) (entry e) (or_off_left (nat_eq n e.label) (list_any (λ e. nat_eq n e.label) es) h)) ∙ free_fresh n es (or_off_right (nat_eq n e.label) _ h))
+    ∙ (ap (λ b. b || has_label (free_of es) n) (when_new n (not (is_linear e.kind)) (entry e)
+    (or_off_left (nat_eq n e.label) (list_any (λ e. nat_eq n e.label) es) h)) ∙ free_fresh n es (or_off_right (nat_eq n e.label) _ h))
 
 pub spent_or : (u e : Bool) → ((true && not u) && not e) ≡ false → (u || e) ≡ true
 spent_or true e h = refl
 spent_or false true h = refl
 spent_or false false h = cc
 
-pub sound_same : (f : Entry Form → Entry Form) → ((e : Entry Form) → (f e).label ≡ e.label) → (n : ℕ) (es : List (Entry Form)) → list_any (λ d. nat_eq n d.label) es ≡ false → list_any (λ d. nat_eq n d.label) (map f es) ≡ false
+pub sound_same : (f : Entry Form → Entry Form) → ((e : Entry Form) → (f e).label ≡ e.label) → (n : ℕ) (es : List (Entry Form))
+    → list_any (λ d. nat_eq n d.label) es ≡ false → list_any (λ d. nat_eq n d.label) (map f es) ≡ false
 sound_same f h n [] k = refl
 sound_same f h n (e ∷ es) k =
     rw (h e) (rw (or_off_left (nat_eq n e.label) (list_any (λ d. nat_eq n d.label) es) k) (sound_same f h n es (or_off_right (nat_eq n e.label) _ k)))
@@ -364,7 +389,11 @@ dead_used false false u h = refl
 
 pub sound_used : (x : Tree) (es : List (Entry Form)) → Sound es → Sound (used_up x es)
 sound_used x [] h = tt
-sound_used x (e ∷ es) h = (sound_same (use_entry x) (λ e. refl) e.label es h.0, dead_used (is_linear e.kind) e.live (not (uses e.label x)) h.1, sound_used x es h.2)
+sound_used x (e ∷ es) h = (
+  sound_same (use_entry x) (λ e. refl) e.label es h.0,
+  dead_used (is_linear e.kind) e.live (not (uses e.label x)) h.1,
+  sound_used x es h.2,
+)
 
 pub sound_unlive : (es : List (Entry Form)) → Sound es → Sound (map unlive es)
 sound_unlive [] h = tt
@@ -391,7 +420,8 @@ pub free_picked : (m : ℕ) (es : List (Entry Form)) → free_of (picked m es) �
 free_picked m [] = refl
 free_picked m (e ∷ es) = step (nat_eq e.label m) (free_picked m es)
   where
-    step : (b : Bool) → free_of (picked m es) ≡ free_of es → free_of (if b then unlive e ∷ es else e ∷ picked m es) ≡ when (not (is_linear e.kind)) (entry e) ++ free_of es
+    step : (b : Bool) → free_of (picked m es) ≡ free_of es → free_of (if b then unlive e ∷ es else e ∷ picked m es) ≡ when (not (is_linear e.kind)) (entry e)
+        ++ free_of es
     step true h = refl
     step false h = ap (λ z. when (not (is_linear e.kind)) (entry e) ++ z) h
 
@@ -407,7 +437,8 @@ free_any t [] h = refl
 free_any t (e ∷ es) h =
     ap (list_any t) (clauses_append (when (not (is_linear e.kind)) (entry e)) (free_of es))
     ∙ (list_any-append t (clauses (when (not (is_linear e.kind)) (entry e))) (clauses (free_of es))
-    ∙ (ap (λ b. b || list_any t (clauses (free_of es))) (any_when t (not (is_linear e.kind)) (entry e) (or_off_left (t e.clause) (list_any t (map (λ e. e.clause) es)) h))
+    ∙ (ap (λ b. b || list_any t (clauses (free_of es))) (any_when t (not (is_linear e.kind)) (entry e)
+    (or_off_left (t e.clause) (list_any t (map (λ e. e.clause) es)) h))
     ∙ free_any t es (or_off_right (t e.clause) _ h)))
 
 pub live_any : (t : Form → Bool) (es : List (Entry Form)) → list_any t (map (λ e. e.clause) es) ≡ false → list_any t (clauses (live_of es)) ≡ false
@@ -418,14 +449,16 @@ live_any t (e ∷ es) h =
     ∙ (ap (λ b. b || list_any t (clauses (when e.live (entry e)))) (live_any t es (or_off_right (t e.clause) _ h))
     ∙ any_when t e.live (entry e) (or_off_left (t e.clause) (list_any t (map (λ e. e.clause) es)) h)))
 
-pub list_any_split : (k : ℕ) (f : Form) (es : List (Entry Form)) → IsNew k (f ∷ map (λ e. e.clause) es) → IsNew k (f ∷ (clauses (free_of es) ++ clauses (live_of es)))
+pub list_any_split : (k : ℕ) (f : Form) (es : List (Entry Form)) → IsNew k (f ∷ map (λ e. e.clause) es)
+    → IsNew k (f ∷ (clauses (free_of es) ++ clauses (live_of es)))
 list_any_split k f es h =
     rw (or_off_left (form_has_eigen k f) (list_any (form_has_eigen k) (map (λ e. e.clause) es)) h)
     (list_any-append (form_has_eigen k) (clauses (free_of es)) (clauses (live_of es))
     ∙ (ap (λ b. b || list_any (form_has_eigen k) (clauses (live_of es))) (free_any (form_has_eigen k) es (or_off_right (form_has_eigen k f) _ h))
     ∙ live_any (form_has_eigen k) es (or_off_right (form_has_eigen k f) (list_any (form_has_eigen k) (map (λ e. e.clause) es)) h)))
 
-pub new_parts : (k : ℕ) (f : Form) (es : List (Entry Form)) → IsNew k (f ∷ map (λ e. e.clause) es) → IsNew k (f ∷ (clauses (free_of es) ++ clauses (live_of es)))
+pub new_parts : (k : ℕ) (f : Form) (es : List (Entry Form)) → IsNew k (f ∷ map (λ e. e.clause) es)
+    → IsNew k (f ∷ (clauses (free_of es) ++ clauses (live_of es)))
 new_parts k f es h = list_any_split k f es h
 
 pub closed_terms : (us : List Term) (n : ℕ) → MayChoose n us → AreClosed us
@@ -434,39 +467,48 @@ closed_terms (u ∷ us) n h = (h.0, closed_terms us n h.2)
 
 pub take_missing : (n : ℕ) (xs : List Labelled) → has_label xs n ≡ false → take_label n xs ≡ Missing
 take_missing n [] h = refl
-take_missing n (l ∷ ls) h = rw (or_off_left (nat_eq n l.label) (has_label ls n) h) (ap (behind l) (take_missing n ls (or_off_right (nat_eq n l.label) (has_label ls n) h)))
+take_missing n (l ∷ ls) h = rw (or_off_left (nat_eq n l.label) (has_label ls n) h)
+    (ap (behind l) (take_missing n ls (or_off_right (nat_eq n l.label) (has_label ls n) h)))
 
 pub take_after : (n : ℕ) (l : Labelled) (xs : List Labelled) → has_label xs n ≡ false → nat_eq n l.label ≡ true → take_label n (xs ++ l ∷ []) ≡ Took l.clause xs
 take_after n l [] h k = rw k
-take_after n l (m ∷ xs) h k = rw (or_off_left (nat_eq n m.label) (has_label xs n) h) (ap (behind m) (take_after n l xs (or_off_right (nat_eq n m.label) (has_label xs n) h) k))
+take_after n l (m ∷ xs) h k = rw (or_off_left (nat_eq n m.label) (has_label xs n) h)
+    (ap (behind m) (take_after n l xs (or_off_right (nat_eq n m.label) (has_label xs n) h) k))
 
 pub take_before : (n : ℕ) (xs ys : List Labelled) (r : Form) (e : List Labelled) → take_label n xs ≡ Took r e → take_label n (xs ++ ys) ≡ Took r (e ++ ys)
 take_before n [] ys r e h = cc
 take_before n (l ∷ ls) ys r e h = step (nat_eq n l.label) (take_label n ls) refl (take_before n ls ys) h
   where
-    step : (b : Bool) (o : Found) → take_label n ls ≡ o → ((r : Form) (e : List Labelled) → take_label n ls ≡ Took r e → take_label n (ls ++ ys) ≡ Took r (e ++ ys))
-        → (if b then Took l.clause ls else behind l o) ≡ Took r e → (if b then Took l.clause (ls ++ ys) else behind l (take_label n (ls ++ ys))) ≡ Took r (e ++ ys)
+    step : (b : Bool) (o : Found) → take_label n ls ≡ o → ((r : Form) (e : List Labelled) → take_label n ls ≡ Took r e
+        → take_label n (ls ++ ys) ≡ Took r (e ++ ys))
+        → (if b then Took l.clause ls else behind l o) ≡ Took r e
+        → (if b then Took l.clause (ls ++ ys) else behind l (take_label n (ls ++ ys))) ≡ Took r (e ++ ys)
     step true o q ih h = let i : l.clause ≡ r = cc in let j : ls ≡ e = cc in cc
     step false Missing q ih h = cc
-    step false (Took s t) q ih h = let i : s ≡ r = cc in let j : l ∷ t ≡ e = cc in ap (behind l) (ih s t q) ∙ (ap (λ x. Took x (l ∷ (t ++ ys))) i ∙ ap (λ x. Took r (x ++ ys)) j)
+    step false (Took s t) q ih h = let i : s ≡ r = cc in let j : l ∷ t ≡ e = cc in
+        ap (behind l) (ih s t q) ∙ (ap (λ x. Took x (l ∷ (t ++ ys))) i ∙ ap (λ x. Took r (x ++ ys)) j)
 
 pub eq_sym : (m n : ℕ) → nat_eq m n ≡ true → nat_eq n m ≡ true
 eq_sym m n h = eq-eqb n m (sym (eqb-true m n h))
 
-pub any_other : (n m : ℕ) (es : List (Entry Form)) → nat_eq m n ≡ true → list_any (λ d. nat_eq m d.label) es ≡ false → list_any (λ d. nat_eq n d.label) es ≡ false
+pub any_other : (n m : ℕ) (es : List (Entry Form)) → nat_eq m n ≡ true → list_any (λ d. nat_eq m d.label) es ≡ false
+    → list_any (λ d. nat_eq n d.label) es ≡ false
 any_other n m es h k = subst (λ z. list_any (λ d. nat_eq z d.label) es ≡ false) (eqb-true m n h) k
 
 -- a linear entry that is live
-pub take_live : (n : ℕ) (es : List (Entry Form)) (e : Entry Form) → Sound es → entry_at es n ≡ Some e → e.live ≡ true → take_label n (live_of es) ≡ Took e.clause (live_of (picked n es))
+pub take_live : (n : ℕ) (es : List (Entry Form)) (e : Entry Form) → Sound es → entry_at es n ≡ Some e → e.live ≡ true
+    → take_label n (live_of es) ≡ Took e.clause (live_of (picked n es))
 take_live n [] e sd q l = cc
 take_live n (d ∷ es) e sd q l = step (nat_eq d.label n) refl (take_live n es e sd.2) q
   where
     step : (b : Bool) → nat_eq d.label n ≡ b → (entry_at es n ≡ Some e → e.live ≡ true → take_label n (live_of es) ≡ Took e.clause (live_of (picked n es)))
-        → (if b then Some d else entry_at es n) ≡ Some e → take_label n (live_of es ++ when d.live (entry d)) ≡ Took e.clause (live_of (if b then unlive d ∷ es else d ∷ picked n es))
+        → (if b then Some d else entry_at es n) ≡ Some e → take_label n (live_of es ++ when d.live (entry d))
+        ≡ Took e.clause (live_of (if b then unlive d ∷ es else d ∷ picked n es))
     step true k ih q =
         let i : d ≡ e = cc in let lv : d.live ≡ true = ap (λ x. x.live) i ∙ l in
         ap (λ b. take_label n (live_of es ++ when b (entry d))) lv
-        ∙ (take_after n (entry d) (live_of es) (live_fresh n es (any_other n d.label es k sd.0)) (eq_sym d.label n k) ∙ (ap (λ x. Took x (live_of es)) (ap (λ x. x.clause) i) ∙ ap (Took e.clause) (sym (append-nil (live_of es)))))
+        ∙ (take_after n (entry d) (live_of es) (live_fresh n es (any_other n d.label es k sd.0)) (eq_sym d.label n k)
+        ∙ (ap (λ x. Took x (live_of es)) (ap (λ x. x.clause) i) ∙ ap (Took e.clause) (sym (append-nil (live_of es)))))
     step false k ih q = take_before n (live_of es) (when d.live (entry d)) e.clause (live_of (picked n es)) (ih q l)
 
 -- an unbounded one
@@ -479,11 +521,13 @@ pub take_free : (n : ℕ) (es : List (Entry Form)) (e : Entry Form) → Sound es
 take_free n [] e sd q l = cc
 take_free n (d ∷ es) e sd q l = step (nat_eq d.label n) refl (take_free n es e sd.2) q
   where
-    inside : (b : Bool) (f : TakesFree n es e) → nat_eq d.label n ≡ false → record { others : List Labelled; takes : take_label n (when b (entry d) ++ free_of es) ≡ Took e.clause others }
+    inside : (b : Bool) (f : TakesFree n es e) → nat_eq d.label n ≡ false
+        → record { others : List Labelled; takes : take_label n (when b (entry d) ++ free_of es) ≡ Took e.clause others }
     inside true f k = record { others = entry d ∷ f.others; takes = rw (not_eq_sym d.label n k) (ap (behind (entry d)) f.takes) }
     inside false f k = record { others = f.others; takes = f.takes }
 
-    step : (b : Bool) → nat_eq d.label n ≡ b → (entry_at es n ≡ Some e → is_linear e.kind ≡ false → TakesFree n es e) → (if b then Some d else entry_at es n) ≡ Some e → TakesFree n (d ∷ es) e
+    step : (b : Bool) → nat_eq d.label n ≡ b → (entry_at es n ≡ Some e → is_linear e.kind ≡ false → TakesFree n es e)
+        → (if b then Some d else entry_at es n) ≡ Some e → TakesFree n (d ∷ es) e
     step true k ih q =
         let i : d ≡ e = cc in let lin : is_linear d.kind ≡ false = ap (λ x. is_linear x.kind) i ∙ l in
         record {
@@ -500,23 +544,28 @@ take_free n (d ∷ es) e sd q l = step (nat_eq d.label n) refl (take_free n es e
         let f = ih q l in let g = inside (not (is_linear d.kind)) f k in
         record { others = g.others; takes = g.takes; same = rw k (ap (λ xs. xs ++ when d.live (entry d)) f.same) }
 
-pub linear_missing : (n : ℕ) (es : List (Entry Form)) (e : Entry Form) → Sound es → entry_at es n ≡ Some e → is_linear e.kind ≡ true → has_label (free_of es) n ≡ false
+pub linear_missing : (n : ℕ) (es : List (Entry Form)) (e : Entry Form) → Sound es → entry_at es n ≡ Some e → is_linear e.kind ≡ true
+    → has_label (free_of es) n ≡ false
 linear_missing n [] e sd q l = refl
 linear_missing n (d ∷ es) e sd q l = step (nat_eq d.label n) refl (linear_missing n es e sd.2) q
   where
-    step : (b : Bool) → nat_eq d.label n ≡ b → (entry_at es n ≡ Some e → is_linear e.kind ≡ true → has_label (free_of es) n ≡ false) → (if b then Some d else entry_at es n) ≡ Some e
+    step : (b : Bool) → nat_eq d.label n ≡ b → (entry_at es n ≡ Some e → is_linear e.kind ≡ true → has_label (free_of es) n ≡ false)
+        → (if b then Some d else entry_at es n) ≡ Some e
         → has_label (when (not (is_linear d.kind)) (entry d) ++ free_of es) n ≡ false
     step true k ih q = let i : d ≡ e = cc in rw (ap (λ x. is_linear x.kind) i ∙ l) (free_fresh n es (any_other n d.label es k sd.0))
     step false k ih q =
         has_append (when (not (is_linear d.kind)) (entry d)) (free_of es) n
-        ∙ (ap (λ b. b || has_label (free_of es) n) (when_new n (not (is_linear d.kind)) (entry d) (ne_eqb n d.label (λ q. eqb-false d.label n k (sym q)))) ∙ ih q l)
+        ∙ (ap (λ b. b || has_label (free_of es) n) (when_new n (not (is_linear d.kind)) (entry d) (ne_eqb n d.label (λ q. eqb-false d.label n k (sym q))))
+        ∙ ih q l)
 
 -- the entry with the label is picked from what is free or live
-pub take_entry : (n : ℕ) (es : List (Entry Form)) (e : Entry Form) → Sound es → entry_at es n ≡ Some e → is_open e ≡ true → pick n (free_of es) (live_of es) ≡ Took e.clause (live_of (picked n es))
+pub take_entry : (n : ℕ) (es : List (Entry Form)) (e : Entry Form) → Sound es → entry_at es n ≡ Some e → is_open e ≡ true
+    → pick n (free_of es) (live_of es) ≡ Took e.clause (live_of (picked n es))
 take_entry n es e sd q o = step (is_linear e.kind) refl o
   where
     step : (b : Bool) → is_linear e.kind ≡ b → (not b || e.live) ≡ true → pick n (free_of es) (live_of es) ≡ Took e.clause (live_of (picked n es))
-    step true l o = ap (λ x. pick_of (live_of es) x (take_label n (live_of es))) (take_missing n (free_of es) (linear_missing n es e sd q l)) ∙ take_live n es e sd q o
+    step true l o = ap (λ x. pick_of (live_of es) x (take_label n (live_of es))) (take_missing n (free_of es) (linear_missing n es e sd q l))
+        ∙ take_live n es e sd q o
     step false l o = let f = take_free n es e sd q l in ap (λ x. pick_of (live_of es) x (take_label n (live_of es))) f.takes ∙ ap (Took e.clause) (sym f.same)
 
 abbrev pub use_parts : Parts → Entry Form → Entry Form
@@ -525,10 +574,12 @@ use_parts ps e = record e { live = e.live && not (uses_part e.label ps) }
 abbrev pub used_parts : Parts → List (Entry Form) → List (Entry Form)
 used_parts ps es = map (use_parts ps) es
 
-pub used_fresh : (n j : ℕ) (us : List Term) (ps : Parts) (es : List (Entry Form)) → list_any (λ d. nat_eq n d.label) es ≡ false → used_parts ps es ≡ used_up (ClauseNode n j us ps) es
+pub used_fresh : (n j : ℕ) (us : List Term) (ps : Parts) (es : List (Entry Form)) → list_any (λ d. nat_eq n d.label) es ≡ false
+    → used_parts ps es ≡ used_up (ClauseNode n j us ps) es
 used_fresh n j us ps [] h = refl
 used_fresh n j us ps (e ∷ es) h =
-    let k : nat_eq e.label n ≡ false = ne_eqb e.label n (λ q. eqb-false n e.label (or_off_left (nat_eq n e.label) (list_any (λ d. nat_eq n d.label) es) h) (sym q)) in
+    let k : nat_eq e.label n ≡ false = ne_eqb e.label n (λ q.
+    eqb-false n e.label (or_off_left (nat_eq n e.label) (list_any (λ d. nat_eq n d.label) es) h) (sym q)) in
     let a : use_parts ps e ≡ use_entry (ClauseNode n j us ps) e = relive e _ _ (ap (λ b. e.live && not (b || uses_part e.label ps)) (sym k)) in
     let b = used_fresh n j us ps es (or_off_right (nat_eq n e.label) _ h) in cc
 

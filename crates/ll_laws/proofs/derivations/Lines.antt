@@ -7,9 +7,13 @@ use Rattle.ll_lists.proofs.CallerLemmas.{and_true_left as and_one, and_true_righ
 use Rattle.ll_bank.specs.Term.{Term, is_closed}
 use Rattle.ll_laws.specs.Problem.{ProblemTree, setting_of}
 use Rattle.ll_laws.specs.Derive.{AreClosed, Derivable}
-use Rattle.ll_laws.specs.Shows.{Tree, OneNode, EraseNode, TensorNode, WithNode, LeftNode, RightNode, BangNode, LolliNode, ImpNode, ForallNode, ExistsNode, UseNode, ClauseNode, Parts, NoParts, BoundedPart, UnboundedPart, nodes, part_nodes, clauses, HasClosedTerms, HaveClosedTerms, NumNode}
+use Rattle.ll_laws.specs.Shows.{Tree, OneNode, EraseNode, TensorNode, WithNode, LeftNode, RightNode, BangNode, LolliNode, ImpNode, ForallNode, ExistsNode}
+use Rattle.ll_laws.specs.Shows.{UseNode, ClauseNode, Parts, NoParts, BoundedPart, UnboundedPart, nodes, part_nodes, clauses, HasClosedTerms, HaveClosedTerms}
+use Rattle.ll_laws.specs.Shows.{NumNode}
 use Rattle.ll_laws.specs.Fault.{Fits, Fault, fault}
-use Rattle.ll_laws.specs.Line.{PartLine, Labels, Free, Line, OneLine, EraseLine, WithLine, LeftLine, RightLine, BangLine, UseLine, TensorLine, LolliLine, ImpLine, ForallLine, ExistsLine, ClauseLine, Cut, Short, Cuts, add_part, cut_parts, put_clause, put, trees_of, is_line, part_rises, DerivationLines, NumLine}
+use Rattle.ll_laws.specs.Line.{PartLine, Labels, Free, Line, OneLine, EraseLine, WithLine, LeftLine, RightLine, BangLine, UseLine, TensorLine, LolliLine}
+use Rattle.ll_laws.specs.Line.{ImpLine, ForallLine, ExistsLine, ClauseLine, Cut, Short, Cuts, add_part, cut_parts, put_clause, put, trees_of, is_line}
+use Rattle.ll_laws.specs.Line.{part_rises, DerivationLines, NumLine}
 use Rattle.ll_laws.specs.Verdict.{root_free, root_bounded, instantiated_goal, TreeShows, DerivationShows, first_fault}
 use Rattle.ll_laws.proofs.derivations.DeriveLaw.{derive}
 use Rattle.ll_laws.proofs.derivations.FaultLaw.{yes_shows, shows_yes}
@@ -26,11 +30,13 @@ AllClosed (x ∷ xs) = HasClosedTerms x × AllClosed xs
 
 -- the parts that were cut off and the trees left have the nodes of all
 cut-count : (ps : List PartLine) (ts : List Tree) (qs : Parts) (us : List Tree) → cut_parts ps ts ≡ Cuts qs us → part_nodes qs + total us ≡ total ts
-cut-count [] ts qs us h = let e : NoParts ≡ qs = cc in let f : ts ≡ us = cc in subst (λ q. part_nodes q + total us ≡ total ts) e (subst (λ v. 0 + total v ≡ total ts) f (omega arith))
+cut-count [] ts qs us h = let e : NoParts ≡ qs = cc in let f : ts ≡ us = cc in
+    subst (λ q. part_nodes q + total us ≡ total ts) e (subst (λ v. 0 + total v ≡ total ts) f (omega arith))
 cut-count (p ∷ ps) [] qs us h = cc
 cut-count (p ∷ ps) (t ∷ ts) qs us h = step p (cut_parts ps ts) (cut-count ps ts) h
   where
-    step : (p : PartLine) (c : Cut) → ((rs : Parts) (vs : List Tree) → c ≡ Cuts rs vs → part_nodes rs + total vs ≡ total ts) → add_part p t c ≡ Cuts qs us → part_nodes qs + total us ≡ nodes t + total ts
+    step : (p : PartLine) (c : Cut) → ((rs : Parts) (vs : List Tree) → c ≡ Cuts rs vs → part_nodes rs + total vs ≡ total ts) → add_part p t c ≡ Cuts qs us
+        → part_nodes qs + total us ≡ nodes t + total ts
     step p Short go h = cc
     step (Labels s) (Cuts rs vs) go h =
         let e : BoundedPart s t rs ≡ qs = cc in let f : vs ≡ us = cc in let g = go rs vs refl in
@@ -55,7 +61,8 @@ put-count (ForallLine c) (x ∷ ts) us h = let e : ForallNode c x ∷ ts ≡ us 
 put-count (ExistsLine t) (x ∷ ts) us h = let e : ExistsNode t x ∷ ts ≡ us = cc in subst (λ v. total v ≡ suc (total (x ∷ ts))) e (omega arith)
 put-count (ClauseLine n k vs ps) ts us h = step (cut_parts ps ts) (cut-count ps ts) h
   where
-    step : (c : Cut) → ((qs : Parts) (ws : List Tree) → c ≡ Cuts qs ws → part_nodes qs + total ws ≡ total ts) → put_clause n k vs c ≡ Some us → total us ≡ suc (total ts)
+    step : (c : Cut) → ((qs : Parts) (ws : List Tree) → c ≡ Cuts qs ws → part_nodes qs + total ws ≡ total ts) → put_clause n k vs c ≡ Some us
+        → total us ≡ suc (total ts)
     step Short go h = cc
     step (Cuts qs ws) go h = let e : ClauseNode n k vs qs ∷ ws ≡ us = cc in let g = go qs ws refl in subst (λ v. total v ≡ suc (total ts)) e (omega (arith, g))
 put-count _ ts us h = cc
@@ -88,7 +95,8 @@ cut-closed (p ∷ ps) (t ∷ ts) qs us z h = step p (cut_parts ps ts) (opened z)
     rest-closed : AllClosed (t ∷ ts) → AllClosed ts
     rest-closed z = z.1
 
-    step : (p : PartLine) (c : Cut) → HasClosedTerms t → ((rs : Parts) (vs : List Tree) → c ≡ Cuts rs vs → CutClosed rs vs) → add_part p t c ≡ Cuts qs us → CutClosed qs us
+    step : (p : PartLine) (c : Cut) → HasClosedTerms t → ((rs : Parts) (vs : List Tree) → c ≡ Cuts rs vs → CutClosed rs vs) → add_part p t c ≡ Cuts qs us
+        → CutClosed qs us
     step p Short z go h = cc
     step (Labels s) (Cuts rs vs) z go h =
         let e : BoundedPart s t rs ≡ qs = cc in let f : vs ≡ us = cc in let g = go rs vs refl in
@@ -137,13 +145,15 @@ trees-closed (n ∷ ns) ts i h = step (trees_of ns) (λ us. trees-closed ns us (
 pub shown-derivable : (p : ProblemTree) (d : DerivationLines) → DerivationShows p d
     → Derivable (setting_of p) (length d.nodes) (clauses (root_free p)) (clauses (root_bounded p)) (instantiated_goal p d.asked)
 shown-derivable p d h =
-    subst (λ n. Derivable (setting_of p) n (clauses (root_free p)) (clauses (root_bounded p)) (instantiated_goal p d.asked)) (one ∙ trees-count d.nodes (h.tree ∷ []) h.is_tree)
+    subst (λ n. Derivable (setting_of p) n (clauses (root_free p)) (clauses (root_bounded p)) (instantiated_goal p d.asked))
+    (one ∙ trees-count d.nodes (h.tree ∷ []) h.is_tree)
     (derive (setting_of p) h.tree (root_free p) (root_bounded p) (instantiated_goal p d.asked) h.shows)
   where
     one : nodes h.tree ≡ total (h.tree ∷ [])
     one = omega arith
 
-pub no-fault-shows : (p : ProblemTree) (d : DerivationLines) (x : Tree) (m : ℕ) → list_all is_line d.nodes ≡ true → trees_of d.nodes ≡ Some (x ∷ []) → first_fault p d x ≡ Fits m → DerivationShows p d
+pub no-fault-shows : (p : ProblemTree) (d : DerivationLines) (x : Tree) (m : ℕ) → list_all is_line d.nodes ≡ true → trees_of d.nodes ≡ Some (x ∷ [])
+    → first_fault p d x ≡ Fits m → DerivationShows p d
 no-fault-shows p d x m i t h = step (nat_eq (length d.asked) (length p.asked)) refl h
   where
     first : AllClosed (x ∷ []) → HasClosedTerms x
@@ -159,10 +169,12 @@ no-fault-shows p d x m i t h = step (nat_eq (length d.asked) (length p.asked)) r
     }
     step false e h = cc
 
-pub shown-no-fault : (p : ProblemTree) (d : DerivationLines) (x : Tree) → trees_of d.nodes ≡ Some (x ∷ []) → DerivationShows p d → first_fault p d x ≡ Fits (suc (nodes x))
+pub shown-no-fault : (p : ProblemTree) (d : DerivationLines) (x : Tree) → trees_of d.nodes ≡ Some (x ∷ []) → DerivationShows p d
+    → first_fault p d x ≡ Fits (suc (nodes x))
 shown-no-fault p d x t h =
     rw (eq-eqb (length d.asked) (length p.asked) h.count)
-    (shows_yes (setting_of p) 1 x (root_free p) (root_bounded p) (instantiated_goal p d.asked) (subst (λ y. TreeShows p y d.asked) (same h.tree x (sym h.is_tree ∙ t)) h.shows) ∙ ap Fits (omega arith))
+    (shows_yes (setting_of p) 1 x (root_free p) (root_bounded p) (instantiated_goal p d.asked)
+    (subst (λ y. TreeShows p y d.asked) (same h.tree x (sym h.is_tree ∙ t)) h.shows) ∙ ap Fits (omega arith))
   where
     same : (a b : Tree) → Some (a ∷ []) ≡ Some (b ∷ []) → a ≡ b
     same a b h = cc

@@ -9,7 +9,9 @@ use Rattle.ll_bank.specs.Form.{Form, Top, One, Atom, With, Tensor, Plus, Bang, L
 use Rattle.ll_laws.specs.Leaf.{Premise, Needs, NeedsFree}
 use Rattle.ll_laws.specs.Module.{Setting, unfold_load}
 use Rattle.ll_laws.specs.Derive.{IsNew}
-use Rattle.ll_laws.specs.Shows.{Tree, OneNode, EraseNode, TensorNode, WithNode, LeftNode, RightNode, BangNode, LolliNode, ImpNode, ForallNode, ExistsNode, UseNode, ClauseNode, Parts, NoParts, BoundedPart, UnboundedPart, Labelled, clauses, has_label, Found, Missing, Took, behind, take_label, pick, pick_of, NumNode}
+use Rattle.ll_laws.specs.Shows.{Tree, OneNode, EraseNode, TensorNode, WithNode, LeftNode, RightNode, BangNode, LolliNode, ImpNode, ForallNode, ExistsNode}
+use Rattle.ll_laws.specs.Shows.{UseNode, ClauseNode, Parts, NoParts, BoundedPart, UnboundedPart, Labelled, clauses, has_label, Found, Missing, Took, behind}
+use Rattle.ll_laws.specs.Shows.{take_label, pick, pick_of, NumNode}
 use Rattle.ll_laws.specs.Dealing.{uses}
 use Rattle.ll_laws.specs.Lazy.{Lazy, LazyParts, Agree}
 use Rattle.ll_laws.proofs.derivations.Dealing.{Distinct, distinct_sel, distinct_add, taken_distinct}
@@ -45,11 +47,13 @@ any_clauses : (p : Form → Bool) (i : List Labelled) → list_any p (clauses i)
 any_clauses p [] = refl
 any_clauses p (l ∷ i) = ap (λ b. p l.clause || b) (any_clauses p i)
 
-new_same : (k : ℕ) (g : Form) (c : List Labelled) {i j : List Labelled} → Reordered i j → IsNew k (g ∷ (clauses c ++ clauses i)) → IsNew k (g ∷ (clauses c ++ clauses j))
+new_same : (k : ℕ) (g : Form) (c : List Labelled) {i j : List Labelled} → Reordered i j → IsNew k (g ∷ (clauses c ++ clauses i))
+    → IsNew k (g ∷ (clauses c ++ clauses j))
 new_same k g c {i = i} {j = j} r h =
     let p : Form → Bool = form_has_eigen k in
     let e : list_any p (clauses i) ≡ list_any p (clauses j) = any_clauses p i ∙ (any_same (λ l. p l.clause) r ∙ sym (any_clauses p j)) in
-    ap (λ b. p g || b) (list_any-append p (clauses c) (clauses j) ∙ (ap (λ b. list_any p (clauses c) || b) (sym e) ∙ sym (list_any-append p (clauses c) (clauses i)))) ∙ h
+    ap (λ b. p g || b) (list_any-append p (clauses c) (clauses j)
+    ∙ (ap (λ b. list_any p (clauses c) || b) (sym e) ∙ sym (list_any-append p (clauses c) (clauses i)))) ∙ h
 
 filter_same : (p : Labelled → Bool) {i j : List Labelled} → Reordered i j → Reordered (filter p i) (filter p j)
 filter_same p no_clause = no_clause
@@ -60,7 +64,8 @@ filter_same p (same_first {l = l} {i = i} {j = j} r) = step (p l) (filter_same p
     step false h = h
 filter_same p (exchanged {k = k} {l = l} {i = i}) = step (p k) (p l)
   where
-    step : (a b : Bool) → Reordered (cond a (k ∷ cond b (l ∷ filter p i) (filter p i)) (cond b (l ∷ filter p i) (filter p i))) (cond b (l ∷ cond a (k ∷ filter p i) (filter p i)) (cond a (k ∷ filter p i) (filter p i)))
+    step : (a b : Bool) → Reordered (cond a (k ∷ cond b (l ∷ filter p i) (filter p i)) (cond b (l ∷ filter p i) (filter p i)))
+        (cond b (l ∷ cond a (k ∷ filter p i) (filter p i)) (cond a (k ∷ filter p i) (filter p i)))
     step true true = exchanged
     step true false = same_order (k ∷ filter p i)
     step false true = same_order (l ∷ filter p i)
@@ -113,7 +118,12 @@ take_same n (same_first {l = l} {i = i} {j = j} p) d r e h = step (nat_eq n l.la
     step false q Missing w go h = cc
     step false q (Took s t) w go h =
         let a : s ≡ r = cc in let b : l ∷ t ≡ e = cc in let g = go s t w in
-        record { left = l ∷ g.left; takes = rw q (ap (behind l) g.takes ∙ ap (λ c. Took c (l ∷ g.left)) a); same = subst (λ z. Reordered z (l ∷ g.left)) b (same_first g.same) }
+        record {
+          left = l ∷ g.left;
+          takes = rw q (ap (behind l) g.takes ∙ ap (λ c. Took c (l ∷ g.left)) a);
+          same =
+              subst (λ z. Reordered z (l ∷ g.left)) b (same_first g.same);
+        }
 take_same n (exchanged {k = k} {l = l} {i = i}) d r e h = step (nat_eq n k.label) refl (nat_eq n l.label) refl (take_label n i) refl h
   where
     step : (a : Bool) → nat_eq n k.label ≡ a → (b : Bool) → nat_eq n l.label ≡ b → (o : Found) → take_label n i ≡ o
@@ -130,7 +140,12 @@ take_same n (exchanged {k = k} {l = l} {i = i}) d r e h = step (nat_eq n k.label
     step false p false q Missing w h = cc
     step false p false q (Took s t) w h =
         let a : s ≡ r = cc in let b : k ∷ l ∷ t ≡ e = cc in
-        record { left = l ∷ k ∷ t; takes = rw q (rw p (ap (λ o. behind l (behind k o)) w ∙ ap (λ c. Took c (l ∷ k ∷ t)) a)); same = subst (λ z. Reordered z (l ∷ k ∷ t)) b exchanged }
+        record {
+          left = l ∷ k ∷ t;
+          takes = rw q (rw p (ap (λ o. behind l (behind k o)) w ∙ ap (λ c. Took c (l ∷ k ∷ t)) a));
+          same =
+              subst (λ z. Reordered z (l ∷ k ∷ t)) b exchanged;
+        }
 take_same n (both_orders {j = j} p q) d r e h =
     let g = take_same n p d r e h in let f = take_same n q (distinct_same p d) r g.left g.takes in
     record { left = f.left; takes = f.takes; same = both_orders g.same f.same }
@@ -142,13 +157,20 @@ record Picks (n : ℕ) (r : Form) (c e j : List Labelled) : Type 0 where
   same : Reordered e left
   distinct : Distinct e
 
-pick_same : (n : ℕ) (c : List Labelled) {i j : List Labelled} → Reordered i j → Distinct i → (r : Form) (e : List Labelled) → pick n c i ≡ Took r e → Picks n r c e j
+pick_same : (n : ℕ) (c : List Labelled) {i j : List Labelled} → Reordered i j → Distinct i → (r : Form) (e : List Labelled) → pick n c i ≡ Took r e
+    → Picks n r c e j
 pick_same n c {i = i} {j = j} p d r e h = step (take_label n c) refl h
   where
     step : (o : Found) → take_label n c ≡ o → pick_of i o (take_label n i) ≡ Took r e → Picks n r c e j
     step (Took s t) q h =
         let a : s ≡ r = cc in let b : i ≡ e = cc in
-        record { left = j; picks = ap (λ o. pick_of j o (take_label n j)) q ∙ ap (λ f. Took f j) a; same = subst (λ z. Reordered z j) b p; distinct = subst Distinct b d }
+        record {
+          left = j;
+          picks = ap (λ o. pick_of j o (take_label n j)) q ∙ ap (λ f. Took f j) a;
+          same = subst (λ z. Reordered z j) b p;
+          distinct =
+              subst Distinct b d;
+        }
     step Missing q h =
         let g = take_same n p d r e h in
         record { left = g.left; picks = ap (λ o. pick_of j o (take_label n j)) q ∙ g.takes; same = g.same; distinct = (taken_distinct n i r e h d).distinct }
@@ -157,7 +179,8 @@ agree_same : (x y : Tree) {i j : List Labelled} → Reordered i j → Agree x y 
 agree_same x y r a n h = a n (has_same r n ∙ h)
 
 mutual
-  pub lazy_same : (beside : Setting) (x : Tree) (c : List Labelled) {i j : List Labelled} (g : Form) → Reordered i j → Distinct i → Lazy beside x c i g → Lazy beside x c j g
+  pub lazy_same : (beside : Setting) (x : Tree) (c : List Labelled) {i j : List Labelled} (g : Form) → Reordered i j → Distinct i → Lazy beside x c i g
+      → Lazy beside x c j g
   lazy_same beside OneNode c One r d z = tt
   lazy_same beside EraseNode c Top r d z = tt
   lazy_same beside NumNode c (Num k t u) r d z = z
@@ -170,9 +193,13 @@ mutual
   lazy_same beside (LolliNode n x) c {i = i} (Lolli f g) r d z = (
     ap (λ b. has_label c n || b) (sym (has_same r n)) ∙ z.0,
     z.1,
-    lazy_same beside x c g (append_same (record { label = n; clause = f } ∷ []) r) (distinct_add i n f d (or_off_right (has_label c n) (has_label i n) z.0)) z.2,
+    lazy_same beside x c g (append_same (record { label = n; clause = f } ∷ []) r) (distinct_add i n f d (or_off_right (has_label c n) (has_label i n) z.0))
+        z.2,
   )
-  lazy_same beside (ImpNode n x) c (Imp f g) r d z = (ap (λ b. has_label c n || b) (sym (has_same r n)) ∙ z.0, lazy_same beside x (record { label = n; clause = f } ∷ c) g r d z.1)
+  lazy_same beside (ImpNode n x) c (Imp f g) r d z = (
+    ap (λ b. has_label c n || b) (sym (has_same r n)) ∙ z.0,
+    lazy_same beside x (record { label = n; clause = f } ∷ c) g r d z.1,
+  )
   lazy_same beside (ForallNode k x) c (Forall g) r d z = (new_same k g c r z.0, lazy_same beside x c (instantiate g _) r d z.1)
   lazy_same beside (ExistsNode t x) c (Exists g) r d z = (z.0, lazy_same beside x c (instantiate g t) r d z.1)
   lazy_same beside (UseNode x) c (Use k ts g) r d z = (z.0, z.1, lazy_same beside x c (unfold_load z.0 ts g) r d z.2)
@@ -180,7 +207,8 @@ mutual
       let p = pick_same n c r d z.0 z.1 z.3 in (z.0, p.left, z.2, p.picks, z.4, z.5, parts_same beside ps c z.2 p.same p.distinct z.6)
   lazy_same beside _ c _ r d z = absurd z
 
-  parts_same : (beside : Setting) (ps : Parts) (c : List Labelled) {i j : List Labelled} (gs : List Premise) → Reordered i j → Distinct i → LazyParts beside ps c i gs → LazyParts beside ps c j gs
+  parts_same : (beside : Setting) (ps : Parts) (c : List Labelled) {i j : List Labelled} (gs : List Premise) → Reordered i j → Distinct i
+      → LazyParts beside ps c i gs → LazyParts beside ps c j gs
   parts_same beside NoParts c [] r d z = tt
   parts_same beside (BoundedPart s x ps) c {i = i} (Needs g ∷ gs) r d z =
       (lazy_same beside x c g r d z.0, parts_same beside ps c gs (filter_same (λ l. not (uses l.label x)) r) (distinct_sel (λ n. not (uses n x)) i d) z.1)

@@ -9,7 +9,8 @@ use Rattle.ll_laws.specs.Module.{ClauseTree}
 use Rattle.ll_laws.specs.Problem.{ProblemTree}
 use Rattle.ll_laws.specs.Shows.{Tree, OneNode}
 use Rattle.ll_laws.specs.Fault.{Checked, Fits, Fault}
-use Rattle.ll_laws.specs.Line.{Labels, Free, Line, OneLine, EraseLine, WithLine, LeftLine, BangLine, TensorLine, LolliLine, ForallLine, ExistsLine, ClauseLine, DerivationLines, trees_of}
+use Rattle.ll_laws.specs.Line.{Labels, Free, Line, OneLine, EraseLine, WithLine, LeftLine, BangLine, TensorLine, LolliLine, ForallLine, ExistsLine, ClauseLine}
+use Rattle.ll_laws.specs.Line.{DerivationLines, trees_of}
 use Rattle.ll_laws.specs.Verdict.{first_fault}
 
 abbrev atom : ℕ → List Term → Form
@@ -65,24 +66,29 @@ no_such_leaf : Says (problem (unbounded a ∷ []) a []) [] (ClauseLine 0 1 [] []
 no_such_leaf = refl
 
 -- `p X X.` and `forall x\ exists y\ p x y`
-equal_terms : Says (problem (unbounded (Forall (atom 2 (place 0 ∷ place 0 ∷ []))) ∷ []) (Forall (Exists (atom 2 (place 1 ∷ place 0 ∷ [])))) []) [] (ForallLine 0 ∷ ExistsLine (Con (Eigen 0)) ∷ ClauseLine 0 0 (Con (Eigen 0) ∷ []) [] ∷ []) (Fits 4)
+equal_terms : Says (problem (unbounded (Forall (atom 2 (place 0 ∷ place 0 ∷ []))) ∷ []) (Forall (Exists (atom 2 (place 1 ∷ place 0 ∷ [])))) []) []
+    (ForallLine 0 ∷ ExistsLine (Con (Eigen 0)) ∷ ClauseLine 0 0 (Con (Eigen 0) ∷ []) [] ∷ []) (Fits 4)
 equal_terms = refl
 
 -- `p X X.` and `forall x\ p x Y` with the constant for Y
-constant_not_new : Says (problem (unbounded (Forall (atom 2 (place 0 ∷ place 0 ∷ []))) ∷ []) (Forall (atom 2 (place 0 ∷ Var 0 ∷ []))) (Some 3 ∷ [])) (Con (Eigen 0) ∷ []) (ForallLine 0 ∷ ClauseLine 0 0 (Con (Eigen 0) ∷ []) [] ∷ []) (Fault 1 10)
+constant_not_new : Says (problem (unbounded (Forall (atom 2 (place 0 ∷ place 0 ∷ []))) ∷ []) (Forall (atom 2 (place 0 ∷ Var 0 ∷ []))) (Some 3 ∷ []))
+    (Con (Eigen 0) ∷ []) (ForallLine 0 ∷ ClauseLine 0 0 (Con (Eigen 0) ∷ []) [] ∷ []) (Fault 1 10)
 constant_not_new = refl
 
 too_few_terms : Says (problem (unbounded (Forall (atom 2 (place 0 ∷ []))) ∷ []) (atom 2 (Int (pos 1) ∷ [])) []) [] (ClauseLine 0 0 [] [] ∷ []) (Fault 1 6)
 too_few_terms = refl
 
-other_head : Says (problem (unbounded (Forall (atom 2 (place 0 ∷ []))) ∷ []) (atom 2 (Int (pos 1) ∷ [])) []) [] (ClauseLine 0 0 (Int (pos 2) ∷ []) [] ∷ []) (Fault 1 7)
+other_head : Says (problem (unbounded (Forall (atom 2 (place 0 ∷ []))) ∷ []) (atom 2 (Int (pos 1) ∷ [])) []) [] (ClauseLine 0 0 (Int (pos 2) ∷ []) [] ∷ [])
+    (Fault 1 7)
 other_head = refl
 
 -- `p <= q. q.` and `p`
-unbounded_premise : Says (problem (unbounded (Imp b a) ∷ unbounded b ∷ []) a []) [] (ClauseLine 0 0 [] (Free ∷ []) ∷ BangLine ∷ ClauseLine 1 0 [] [] ∷ []) (Fits 4)
+unbounded_premise : Says (problem (unbounded (Imp b a) ∷ unbounded b ∷ []) a []) [] (ClauseLine 0 0 [] (Free ∷ []) ∷ BangLine ∷ ClauseLine 1 0 [] [] ∷ [])
+    (Fits 4)
 unbounded_premise = refl
 
-premise_of_the_other_kind : Says (problem (unbounded (Imp b a) ∷ unbounded b ∷ []) a []) [] (ClauseLine 0 0 [] (Labels [] ∷ []) ∷ ClauseLine 1 0 [] [] ∷ []) (Fault 1 8)
+premise_of_the_other_kind : Says (problem (unbounded (Imp b a) ∷ unbounded b ∷ []) a []) [] (ClauseLine 0 0 [] (Labels [] ∷ []) ∷ ClauseLine 1 0 [] [] ∷ [])
+    (Fault 1 8)
 premise_of_the_other_kind = refl
 
 -- `a -o true`

@@ -114,7 +114,8 @@ first_is_not : NamesCover two_facts second_fact 1 → ⊥
 unfolding events settle tries attempt successors mgu
 first_is_not c =
     let z : c.place ≡ 0 = omega (arith, c.counted) in
-    let a : Some (record { terms = number 1 ∷ []; steps = ClauseStep 0 0 ∷ [] }) ≡ Some c.answer = subst (λ k. slice_get (answers_in (problem_events two_facts)) k ≡ Some c.answer) z c.is in
+    let a : Some (record { terms = number 1 ∷ []; steps = ClauseStep 0 0 ∷ [] }) ≡ Some c.answer =
+    subst (λ k. slice_get (answers_in (problem_events two_facts)) k ≡ Some c.answer) z c.is in
     let e : record { terms = number 1 ∷ []; steps = ClauseStep 0 0 ∷ [] } ≡ c.answer = cc in
     other_number (subst (λ w. IsInstance (asked_terms two_facts w) (number 2 ∷ [])) (sym e) c.instance)
 
@@ -146,7 +147,11 @@ some_then_all-valid : IsValid some_then_all
 some_then_all-valid = record {
   goal = record { sorted = refl; closed = refl; heads = refl; variables = refl; eigens = refl; loads = refl };
   goal_limits = record { named = refl; leaves = refl; arguments = refl };
-  clauses = (record { sorted = refl; closed = refl; heads = refl; variables = refl; eigens = refl; loads = refl }, record { named = refl; leaves = refl; arguments = refl }, tt);
+  clauses = (
+    record { sorted = refl; closed = refl; heads = refl; variables = refl; eigens = refl; loads = refl },
+    record { named = refl; leaves = refl; arguments = refl },
+    tt,
+  );
   modules = tt;
   asked = refl;
   clause_count = omega arith;
@@ -161,13 +166,21 @@ some_then_all-not_shown d h = nothing_shown some_then_all d some_then_all-valid 
 -- ---- what is shown is found: `p X X.` and `p A B`, with a term that an eigenconstant heads for both
 
 abbrev hidden_twice : DerivationLines
-hidden_twice = record { asked = app (Eigen 7) (number 1 ∷ []) ∷ app (Eigen 7) (number 1 ∷ []) ∷ []; nodes = ClauseLine 0 0 (app (Eigen 7) (number 1 ∷ []) ∷ []) [] ∷ [] }
+hidden_twice = record {
+  asked = app (Eigen 7) (number 1 ∷ []) ∷ app (Eigen 7) (number 1 ∷ []) ∷ [];
+  nodes =
+      ClauseLine 0 0 (app (Eigen 7) (number 1 ∷ []) ∷ []) [] ∷ [];
+}
 
 one_variable-valid : IsValid one_variable
 one_variable-valid = record {
   goal = record { sorted = refl; closed = refl; heads = refl; variables = refl; eigens = refl; loads = refl };
   goal_limits = record { named = refl; leaves = refl; arguments = refl };
-  clauses = (record { sorted = refl; closed = refl; heads = refl; variables = refl; eigens = refl; loads = refl }, record { named = refl; leaves = refl; arguments = refl }, tt);
+  clauses = (
+    record { sorted = refl; closed = refl; heads = refl; variables = refl; eigens = refl; loads = refl },
+    record { named = refl; leaves = refl; arguments = refl },
+    tt,
+  );
   modules = tt;
   asked = refl;
   clause_count = omega arith;
@@ -191,5 +204,6 @@ hidden_twice-named : (number : ℕ) × NamesCover one_variable hidden_twice numb
 hidden_twice-named = shown_numbered one_variable hidden_twice one_variable-valid hidden_twice-shown (omega arith)
 
 -- its run starts with a variable for both terms
-hidden_twice-run : (name : Term → ℕ) → Run (setting_of one_variable) 1 (run_start one_variable (Var (name (app (Eigen 7) (number 1 ∷ []))) ∷ Var (name (app (Eigen 7) (number 1 ∷ []))) ∷ []))
+hidden_twice-run : (name : Term → ℕ) → Run (setting_of one_variable) 1
+    (run_start one_variable (Var (name (app (Eigen 7) (number 1 ∷ []))) ∷ Var (name (app (Eigen 7) (number 1 ∷ []))) ∷ []))
 hidden_twice-run name = shown_runs one_variable hidden_twice name one_variable-valid hidden_twice-shown

@@ -72,7 +72,8 @@ unfolding events settle tries attempt successors mgu dealt
 unbounded_premise = refl
 
 -- `a X :- b X.` and `b 1 -o a Y`: the loaded clause has label 1, and the terms are those of the answer
-loaded_clause : Gives (problem (unbounded (Forall (Lolli (atom 1 (Con (Bound 0) ∷ [])) (atom 0 (Con (Bound 0) ∷ [])))) ∷ []) (Lolli (atom 1 (Int (pos 1) ∷ [])) (atom 0 (Var 0 ∷ []))) (None ∷ [])) (Int (pos 1) ∷ [])
+loaded_clause : Gives (problem (unbounded (Forall (Lolli (atom 1 (Con (Bound 0) ∷ [])) (atom 0 (Con (Bound 0) ∷ [])))) ∷ [])
+    (Lolli (atom 1 (Int (pos 1) ∷ [])) (atom 0 (Var 0 ∷ []))) (None ∷ [])) (Int (pos 1) ∷ [])
     (LolliLine 1 ∷ ClauseLine 0 0 (Int (pos 1) ∷ []) (Labels (1 ∷ []) ∷ []) ∷ ClauseLine 1 0 [] [] ∷ [])
 unfolding events settle tries attempt successors mgu dealt
 loaded_clause = refl

@@ -19,7 +19,8 @@ use Rattle.ll_laws.specs.ProofText.{proved_run_text}
 
 -- ---- the names of the examples, by their numbers
 abbrev names : List (List ℕ)
-names = codes "a" ∷ codes "b" ∷ codes "p" ∷ codes "q" ∷ codes "f" ∷ codes "A" ∷ codes "B" ∷ codes "X" ∷ codes "nil" ∷ codes "::" ∷ codes "load" ∷ codes "unload" ∷ codes "item" ∷ codes "K" ∷ codes "get" ∷ codes "Z" ∷ codes "m" ∷ []
+names = codes "a" ∷ codes "b" ∷ codes "p" ∷ codes "q" ∷ codes "f" ∷ codes "A" ∷ codes "B" ∷ codes "X" ∷ codes "nil" ∷ codes "::" ∷ codes "load" ∷ codes "unload"
+    ∷ codes "item" ∷ codes "K" ∷ codes "get" ∷ codes "Z" ∷ codes "m" ∷ []
 
 abbrev constant : ℕ → Term
 constant n = Con (Name n)
@@ -107,12 +108,14 @@ unfolding events cost settle tries attempt successors mgu digits
 erase_with_a_leaves_b = (refl, refl)
 
 -- `(erase & a) , b`
-erase_with_a_then_b : Gives (ground_problem (linear a ∷ linear b ∷ []) (Tensor (With Top a) b) 10) (codes "answer 1\nyes\nanswers 1, bound reached 0, inferences 5\n") 0
+erase_with_a_then_b : Gives (ground_problem (linear a ∷ linear b ∷ []) (Tensor (With Top a) b) 10)
+    (codes "answer 1\nyes\nanswers 1, bound reached 0, inferences 5\n") 0
 unfolding events cost settle tries attempt successors mgu digits
 erase_with_a_then_b = (refl, refl)
 
 -- `(a & erase) , b`
-a_with_erase_then_b : Gives (ground_problem (linear a ∷ linear b ∷ []) (Tensor (With a Top) b) 10) (codes "answer 1\nyes\nanswers 1, bound reached 0, inferences 5\n") 0
+a_with_erase_then_b : Gives (ground_problem (linear a ∷ linear b ∷ []) (Tensor (With a Top) b) 10)
+    (codes "answer 1\nyes\nanswers 1, bound reached 0, inferences 5\n") 0
 unfolding events cost settle tries attempt successors mgu digits
 a_with_erase_then_b = (refl, refl)
 
@@ -131,7 +134,8 @@ unfolding events cost settle tries attempt successors mgu digits
 bang_takes_an_unbounded_fact = (refl, refl)
 
 -- `p <= q. q.` and `p`
-unbounded_premise : Gives (ground_problem (unbounded (Imp (atom 3 []) (atom 2 [])) ∷ unbounded (atom 3 []) ∷ []) (atom 2 []) 10) (codes "answer 1\nyes\nanswers 1, bound reached 0, inferences 3\n") 0
+unbounded_premise : Gives (ground_problem (unbounded (Imp (atom 3 []) (atom 2 [])) ∷ unbounded (atom 3 []) ∷ []) (atom 2 []) 10)
+    (codes "answer 1\nyes\nanswers 1, bound reached 0, inferences 3\n") 0
 unfolding events cost settle tries attempt successors mgu digits
 unbounded_premise = (refl, refl)
 
@@ -143,53 +147,66 @@ unbounded_load_taken_twice = (refl, refl)
 -- ---- quantifiers and unification
 
 -- `p X X.` and `exists y\ forall x\ p x y`
-exists_before_forall : Gives (ground_problem (unbounded (Forall (atom 2 (place 0 ∷ place 0 ∷ []))) ∷ []) (Exists (Forall (atom 2 (place 0 ∷ place 1 ∷ [])))) 10) (codes "answers 0, bound reached 0, inferences 3\n") 1
+exists_before_forall : Gives (ground_problem (unbounded (Forall (atom 2 (place 0 ∷ place 0 ∷ []))) ∷ []) (Exists (Forall (atom 2 (place 0 ∷ place 1 ∷ [])))) 10)
+    (codes "answers 0, bound reached 0, inferences 3\n") 1
 unfolding events cost settle tries attempt successors mgu digits
 exists_before_forall = (refl, refl)
 
 -- `p X X.` and `forall x\ exists y\ p x y`
-forall_before_exists : Gives (ground_problem (unbounded (Forall (atom 2 (place 0 ∷ place 0 ∷ []))) ∷ []) (Forall (Exists (atom 2 (place 1 ∷ place 0 ∷ [])))) 10) (codes "answer 1\nyes\nanswers 1, bound reached 0, inferences 3\n") 0
+forall_before_exists : Gives (ground_problem (unbounded (Forall (atom 2 (place 0 ∷ place 0 ∷ []))) ∷ []) (Forall (Exists (atom 2 (place 1 ∷ place 0 ∷ [])))) 10)
+    (codes "answer 1\nyes\nanswers 1, bound reached 0, inferences 3\n") 0
 unfolding events cost settle tries attempt successors mgu digits
 forall_before_exists = (refl, refl)
 
 -- `p X X.` and `p A B`
-unbound_answers : Gives (asking (Some 5 ∷ Some 6 ∷ []) (unbounded (Forall (atom 2 (place 0 ∷ place 0 ∷ []))) ∷ []) (atom 2 (Var 0 ∷ Var 1 ∷ [])) 10) (codes "answer 1\nA = ?0\nB = ?0\nanswers 1, bound reached 0, inferences 1\n") 0
+unbound_answers : Gives (asking (Some 5 ∷ Some 6 ∷ []) (unbounded (Forall (atom 2 (place 0 ∷ place 0 ∷ []))) ∷ []) (atom 2 (Var 0 ∷ Var 1 ∷ [])) 10)
+    (codes "answer 1\nA = ?0\nB = ?0\nanswers 1, bound reached 0, inferences 1\n") 0
 unfolding events cost settle tries attempt successors mgu digits
 unbound_answers = (refl, refl)
 
 -- `p _ B`
-unbound_answers-first_unnamed : Gives (asking (None ∷ Some 6 ∷ []) (unbounded (Forall (atom 2 (place 0 ∷ place 0 ∷ []))) ∷ []) (atom 2 (Var 0 ∷ Var 1 ∷ [])) 10) (codes "answer 1\nB = ?0\nanswers 1, bound reached 0, inferences 1\n") 0
+unbound_answers-first_unnamed : Gives (asking (None ∷ Some 6 ∷ []) (unbounded (Forall (atom 2 (place 0 ∷ place 0 ∷ []))) ∷ []) (atom 2 (Var 0 ∷ Var 1 ∷ [])) 10)
+    (codes "answer 1\nB = ?0\nanswers 1, bound reached 0, inferences 1\n") 0
 unfolding events cost settle tries attempt successors mgu digits
 unbound_answers-first_unnamed = (refl, refl)
 
 -- `p _ _`
-unbound_answers-unnamed : Gives (asking (None ∷ None ∷ []) (unbounded (Forall (atom 2 (place 0 ∷ place 0 ∷ []))) ∷ []) (atom 2 (Var 0 ∷ Var 1 ∷ [])) 10) (codes "answer 1\nyes\nanswers 1, bound reached 0, inferences 1\n") 0
+unbound_answers-unnamed : Gives (asking (None ∷ None ∷ []) (unbounded (Forall (atom 2 (place 0 ∷ place 0 ∷ []))) ∷ []) (atom 2 (Var 0 ∷ Var 1 ∷ [])) 10)
+    (codes "answer 1\nyes\nanswers 1, bound reached 0, inferences 1\n") 0
 unfolding events cost settle tries attempt successors mgu digits
 unbound_answers-unnamed = (refl, refl)
 
 -- `p X (f X).` and `p Y Y`
-occurs_check : Gives (asking (Some 7 ∷ []) (unbounded (Forall (atom 2 (place 0 ∷ app (Name 4) (place 0 ∷ []) ∷ []))) ∷ []) (atom 2 (Var 0 ∷ Var 0 ∷ [])) 10) (codes "answers 0, bound reached 0, inferences 1\n") 1
+occurs_check : Gives (asking (Some 7 ∷ []) (unbounded (Forall (atom 2 (place 0 ∷ app (Name 4) (place 0 ∷ []) ∷ []))) ∷ []) (atom 2 (Var 0 ∷ Var 0 ∷ [])) 10)
+    (codes "answers 0, bound reached 0, inferences 1\n") 1
 unfolding events cost settle tries attempt successors mgu digits
 occurs_check = (refl, refl)
 
 -- `p X X.` and `forall x\ exists u\ exists z\ (p Y (f z) , p u z , p u x)`: the second equation binds u to the newer z, whose level is lower
-newer_variable_of_lower_level : Gives (asking (Some 7 ∷ []) (unbounded (Forall (atom 2 (place 0 ∷ place 0 ∷ []))) ∷ []) (Forall (Exists (Exists (Tensor (atom 2 (Var 0 ∷ app (Name 4) (place 0 ∷ []) ∷ [])) (Tensor (atom 2 (place 1 ∷ place 0 ∷ [])) (atom 2 (place 1 ∷ place 2 ∷ []))))))) 20) (codes "answers 0, bound reached 0, inferences 8\n") 1
+newer_variable_of_lower_level : Gives (asking (Some 7 ∷ []) (unbounded (Forall (atom 2 (place 0 ∷ place 0 ∷ []))) ∷ [])
+    (Forall
+    (Exists (Exists (Tensor (atom 2 (Var 0 ∷ app (Name 4) (place 0 ∷ []) ∷ [])) (Tensor (atom 2 (place 1 ∷ place 0 ∷ [])) (atom 2 (place 1 ∷ place 2 ∷ [])))))))
+    20) (codes "answers 0, bound reached 0, inferences 8\n") 1
 unfolding events cost settle tries attempt successors mgu digits
 newer_variable_of_lower_level = (refl, refl)
 
 -- ---- the order of answers
 
 -- `p X :- q X. p 9. q 1. q 2.` and `p X`
-facts_through_two_predicates : Gives (asking (Some 7 ∷ []) (unbounded (Forall (Lolli (atom 3 (place 0 ∷ [])) (atom 2 (place 0 ∷ [])))) ∷ unbounded (atom 2 (number 9 ∷ [])) ∷ unbounded (atom 3 (number 1 ∷ [])) ∷ unbounded (atom 3 (number 2 ∷ [])) ∷ []) (atom 2 (Var 0 ∷ [])) 10) (codes "answer 1\nX = 1\nanswer 2\nX = 2\nanswer 3\nX = 9\nanswers 3, bound reached 0, inferences 2\n") 0
+facts_through_two_predicates : Gives (asking (Some 7 ∷ []) (unbounded (Forall (Lolli (atom 3 (place 0 ∷ [])) (atom 2 (place 0 ∷ []))))
+    ∷ unbounded (atom 2 (number 9 ∷ [])) ∷ unbounded (atom 3 (number 1 ∷ [])) ∷ unbounded (atom 3 (number 2 ∷ [])) ∷ []) (atom 2 (Var 0 ∷ [])) 10)
+    (codes "answer 1\nX = 1\nanswer 2\nX = 2\nanswer 3\nX = 9\nanswers 3, bound reached 0, inferences 2\n") 0
 unfolding events cost settle tries attempt successors mgu digits
 facts_through_two_predicates = (refl, refl)
 
-two_equal_answers : Gives (asking (Some 7 ∷ []) (unbounded (atom 3 (number 1 ∷ [])) ∷ unbounded (atom 3 (number 1 ∷ [])) ∷ []) (atom 3 (Var 0 ∷ [])) 10) (codes "answer 1\nX = 1\nanswer 2\nX = 1\nanswers 2, bound reached 0, inferences 1\n") 0
+two_equal_answers : Gives (asking (Some 7 ∷ []) (unbounded (atom 3 (number 1 ∷ [])) ∷ unbounded (atom 3 (number 1 ∷ [])) ∷ []) (atom 3 (Var 0 ∷ [])) 10)
+    (codes "answer 1\nX = 1\nanswer 2\nX = 1\nanswers 2, bound reached 0, inferences 1\n") 0
 unfolding events cost settle tries attempt successors mgu digits
 two_equal_answers = (refl, refl)
 
 -- `p ; q`
-either_side : Gives (ground_problem (unbounded (atom 2 []) ∷ unbounded (atom 3 []) ∷ []) (Plus (atom 2 []) (atom 3 [])) 10) (codes "answer 1\nyes\nanswer 2\nyes\nanswers 2, bound reached 0, inferences 3\n") 0
+either_side : Gives (ground_problem (unbounded (atom 2 []) ∷ unbounded (atom 3 []) ∷ []) (Plus (atom 2 []) (atom 3 [])) 10)
+    (codes "answer 1\nyes\nanswer 2\nyes\nanswers 2, bound reached 0, inferences 3\n") 0
 unfolding events cost settle tries attempt successors mgu digits
 either_side = (refl, refl)
 
@@ -204,7 +221,9 @@ unfolding events cost settle tries attempt successors mgu digits
 clause_with_two_leaves-taken_once = (refl, refl)
 
 -- `p X :- q X. p 9. q 1. q 2.`: two forks on the way to the first answer
-facts_through_two_predicates-forks : (let p : ProblemTree = asking (Some 7 ∷ []) (unbounded (Forall (Lolli (atom 3 (place 0 ∷ [])) (atom 2 (place 0 ∷ [])))) ∷ unbounded (atom 2 (number 9 ∷ [])) ∷ unbounded (atom 3 (number 1 ∷ [])) ∷ unbounded (atom 3 (number 2 ∷ [])) ∷ []) (atom 2 (Var 0 ∷ [])) 10 in
+facts_through_two_predicates-forks : (let p : ProblemTree = asking (Some 7 ∷ [])
+    (unbounded (Forall (Lolli (atom 3 (place 0 ∷ [])) (atom 2 (place 0 ∷ [])))) ∷ unbounded (atom 2 (number 9 ∷ [])) ∷ unbounded (atom 3 (number 1 ∷ []))
+    ∷ unbounded (atom 3 (number 2 ∷ [])) ∷ []) (atom 2 (Var 0 ∷ [])) 10 in
     forks (setting_of p) (ClauseStep 0 0 ∷ ClauseStep 2 0 ∷ []) (start_of p) ≡ 2)
 unfolding forks settle tries attempt successors mgu
 facts_through_two_predicates-forks = refl
@@ -215,7 +234,9 @@ facts_through_two_predicates-forks = refl
 abbrev permute : List ClauseTree
 permute =
     unbounded (Forall (Lolli (atom 11 (place 0 ∷ [])) (atom 10 (nil ∷ place 0 ∷ []))))
-    ∷ unbounded (Forall (Forall (Forall (Lolli (Lolli (atom 12 (place 2 ∷ [])) (atom 10 (place 1 ∷ place 0 ∷ []))) (atom 10 (cons (place 2) (place 1) ∷ place 0 ∷ []))))))
+    ∷ unbounded
+    (Forall
+    (Forall (Forall (Lolli (Lolli (atom 12 (place 2 ∷ [])) (atom 10 (place 1 ∷ place 0 ∷ []))) (atom 10 (cons (place 2) (place 1) ∷ place 0 ∷ []))))))
     ∷ unbounded (atom 11 (nil ∷ []))
     ∷ unbounded (Forall (Forall (Lolli (Tensor (atom 12 (place 1 ∷ [])) (atom 11 (place 0 ∷ []))) (atom 11 (cons (place 1) (place 0) ∷ [])))))
     ∷ []
@@ -223,7 +244,8 @@ permute =
 abbrev load_two : Form
 load_two = atom 10 (cons (number 1) (cons (number 2) nil) ∷ Var 0 ∷ [])
 
-permutation_of_two : Gives (asking (Some 13 ∷ []) permute load_two 100) (codes "answer 1\nK = 2::1::nil\nanswer 2\nK = 1::2::nil\nanswers 2, bound reached 0, inferences 20\n") 0
+permutation_of_two : Gives (asking (Some 13 ∷ []) permute load_two 100)
+    (codes "answer 1\nK = 2::1::nil\nanswer 2\nK = 1::2::nil\nanswers 2, bound reached 0, inferences 20\n") 0
 unfolding events cost settle tries attempt successors mgu digits
 permutation_of_two = (refl, refl)
 
@@ -231,7 +253,8 @@ permutation_of_two-bound_11 : Gives (asking (Some 13 ∷ []) permute load_two 11
 unfolding events cost settle tries attempt successors mgu digits
 permutation_of_two-bound_11 = (refl, refl)
 
-permutation_of_two-bound_12 : Gives (asking (Some 13 ∷ []) permute load_two 12) (codes "answer 1\nK = 2::1::nil\nanswer 2\nK = 1::2::nil\nanswers 2, bound reached 2, inferences 16\n") 0
+permutation_of_two-bound_12 : Gives (asking (Some 13 ∷ []) permute load_two 12)
+    (codes "answer 1\nK = 2::1::nil\nanswer 2\nK = 1::2::nil\nanswers 2, bound reached 2, inferences 16\n") 0
 unfolding events cost settle tries attempt successors mgu digits
 permutation_of_two-bound_12 = (refl, refl)
 
@@ -248,7 +271,16 @@ getter =
     }
 
 -- `m 1 --> m 2 --> get Z`
-module_loaded_inside_itself : Gives (record { names = names; modules = getter ∷ []; clauses = []; goal = Use 0 (number 1 ∷ []) (Use 0 (number 2 ∷ []) (atom 14 (Var 0 ∷ []))); asked = Some 15 ∷ []; bound = 100 }) (codes "answer 1\nZ = 2\nanswer 2\nZ = 1\nanswers 2, bound reached 0, inferences 11\n") 0
+module_loaded_inside_itself : Gives (record {
+  names = names;
+  modules = getter ∷ [];
+  clauses = [];
+  goal =
+      Use 0 (number 1 ∷ []) (Use 0 (number 2 ∷ []) (atom 14 (Var 0 ∷ [])));
+  asked = Some 15 ∷ [];
+  bound = 100;
+})
+    (codes "answer 1\nZ = 2\nanswer 2\nZ = 1\nanswers 2, bound reached 0, inferences 11\n") 0
 unfolding events cost settle tries attempt successors mgu digits
 module_loaded_inside_itself = (refl, refl)
 

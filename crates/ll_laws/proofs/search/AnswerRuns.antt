@@ -1,5 +1,6 @@
 -- Each answer of a search is a run in which the terms are chosen that the answer gives.
-use Rattle.std.proofs.Common.{◌≡◌, ◌<◌, ◌⊎◌, inl, inr, ℕ, zero, suc, refl, ap, sym, subst, ◌∙◌, Bool, true, false, List, [], ◌∷◌, ◌++◌, map, nat_eq, length, replicate, arith, append_assoc}
+use Rattle.std.proofs.Common.{◌≡◌, ◌<◌, ◌⊎◌, inl, inr, ℕ, zero, suc, refl, ap, sym, subst, ◌∙◌, Bool, true, false, List, [], ◌∷◌, ◌++◌, map, nat_eq, length}
+use Rattle.std.proofs.Common.{replicate, arith, append_assoc}
 use Rattle.std.specs.Prelude.{◌||◌, not, if◌then◌else◌, Option, Some, None, option_map, option_and_then, slice_get, slice_index, flat_map, Contains}
 use Rattle.std.specs.List.{list_any}
 use Rattle.std.proofs.lemmas.Bool.{eqb-true, eq-eqb}
@@ -17,7 +18,8 @@ use Rattle.ll_laws.specs.Leaf.{Leaf, leaf, ways}
 use Rattle.ll_laws.specs.Module.{Setting}
 use Rattle.ll_laws.specs.Settle.{Entry, Item, Goal, Front, has_live}
 use Rattle.ll_laws.specs.State.{State, settle, front_of, with_front, sub_item, sub_entry}
-use Rattle.ll_laws.specs.Attempt.{entry_tries, leaf_tries, fits_head, leaf_head, take_entry, take_way, take_leaf, with_leaf, instantiated, entry_at, is_open, vars_from}
+use Rattle.ll_laws.specs.Attempt.{entry_tries, leaf_tries, fits_head, leaf_head, take_entry, take_way, take_leaf, with_leaf, instantiated, entry_at, is_open}
+use Rattle.ll_laws.specs.Attempt.{vars_from}
 use Rattle.ll_laws.specs.Search.{answer_of}
 use Rattle.ll_laws.specs.Unify.{Solved, mgu}
 use Rattle.ll_laws.specs.Consistent.{labels_differ}
@@ -82,7 +84,8 @@ replay_settled : (beside : Setting) (all : List Term) (cs : List Step) (s t : St
 replay_settled beside all [] s t h = refl
 replay_settled beside all (c ∷ cs) s t h = ap (λ o. after_line (settled_line beside all o c) (replay beside all cs)) h
 
-front_comes : (beside : Setting) (s : State) (x : Front Form Form) (a : Answered) → settle s ≡ Some (with_front s x) → settle (with_front s x) ≡ Some (with_front s x) → Comes beside (with_front s x) a
+front_comes : (beside : Setting) (s : State) (x : Front Form Form) (a : Answered) → settle s ≡ Some (with_front s x)
+    → settle (with_front s x) ≡ Some (with_front s x) → Comes beside (with_front s x) a
     → Comes beside s a
 front_comes beside s x a h k c =
     let e : settle (grounded c.values (with_front s x)) ≡ settle (grounded c.values s) =
@@ -119,7 +122,8 @@ live_grounded f (e ∷ es) = ap (λ b. e.live || b) (live_grounded f es)
 pub answer_comes : (beside : Setting) (t : State) (a : Answered) → settle t ≡ Some t → t.agenda ≡ [] → Among (Answer a) (answer_of t) → Comes beside t a
 answer_comes beside t a k e h = step (not (has_live t.context) || t.flag) refl h
   where
-    step : (b : Bool) → not (has_live t.context) || t.flag ≡ b → Among (Answer a) (if b then Answer (record { terms = t.terms; steps = t.steps }) ∷ [] else []) → Comes beside t a
+    step : (b : Bool) → not (has_live t.context) || t.flag ≡ b → Among (Answer a) (if b then Answer (record { terms = t.terms; steps = t.steps }) ∷ [] else [])
+        → Comes beside t a
     step false q h = absurd h
     step true q (inr h) = absurd h
     step true q (inl w) =
@@ -132,14 +136,17 @@ answer_comes beside t a k e h = step (not (has_live t.context) || t.flag) refl h
           terms = ap (λ z. z.terms) (sym i) ∙ (sym (subs_id t.terms) ∙ sym (append-nil (map (sub Var) t.terms)));
           more = [];
           steps = ap (λ z. z.steps) (sym i) ∙ sym (append-nil t.steps);
-          run = trace_end (grounded Var t) (settle_grounded Var t t k) (ap (map (sub_item Var)) e) (ap (λ b. not b || t.flag) (live_grounded Var t.context) ∙ q);
+          run = trace_end (grounded Var t) (settle_grounded Var t t k) (ap (map (sub_item Var)) e)
+              (ap (λ b. not b || t.flag) (live_grounded Var t.context) ∙ q);
           count = refl;
         }
 
 -- ---- an inference
 
-pub step_comes : (beside : Setting) (t u : State) (a : Answered) (g : Form) (rest : List (Item Form)) (f : ℕ → Term) → settle t ≡ Some t → t.agenda ≡ Goal g ∷ rest → (c : Comes beside u a)
-    → Projects beside a.terms f t rest g (grounded c.values u) → IsClosing f → ((x : ℕ) → x < length t.levels → eigens_below (slice_index t.levels x) (f x) ≡ true)
+pub step_comes : (beside : Setting) (t u : State) (a : Answered) (g : Form) (rest : List (Item Form)) (f : ℕ → Term) → settle t ≡ Some t
+    → t.agenda ≡ Goal g ∷ rest → (c : Comes beside u a)
+    → Projects beside a.terms f t rest g (grounded c.values u) → IsClosing f
+    → ((x : ℕ) → x < length t.levels → eigens_below (slice_index t.levels x) (f x) ≡ true)
     → (later : List Term) → a.terms ≡ map (sub f) t.terms ++ later → Comes beside t a
 step_comes beside t u a g rest f k e c p cl below later terms =
     let gt = grounded f t in
@@ -148,7 +155,8 @@ step_comes beside t u a g rest f k e c p cl below later terms =
     let ln = goes_line p.goes a.terms p.chosen in
     let rp : replay beside a.terms (step_of p.node ∷ c.more) gt ≡ p.node ∷ replay beside a.terms c.more (grounded c.values u) =
     ap (λ o. after_line (settled_line beside a.terms o (step_of p.node)) (replay beside a.terms c.more)) s
-    ∙ (ap (λ ag. after_line (front_line beside a.terms gt ag (step_of p.node)) (replay beside a.terms c.more)) fr ∙ ap (λ l. after_line l (replay beside a.terms c.more)) ln) in
+    ∙ (ap (λ ag. after_line (front_line beside a.terms gt ag (step_of p.node)) (replay beside a.terms c.more)) fr
+    ∙ ap (λ l. after_line l (replay beside a.terms c.more)) ln) in
     let st : u.steps ≡ t.steps ++ step_of p.node ∷ [] = goes_steps p.goes in
     record {
       values = f;
@@ -223,16 +231,20 @@ pub record Taken (s : State) (a : Term) (rest : List (Item Form)) (c : Candidate
   pub solves : mgu (a ∷ []) (leaf_of.head ∷ []) (s.levels ++ replicate count s.eigens) ≡ Some solved
   pub is : instantiated (with_leaf s rest c.label c.leaf count leaf_of) solved ≡ u
 
-pub taken_from : (s : State) (a : Term) (rest : List (Item Form)) (c : Candidate) (u : State) → option_and_then (take_entry s a rest c.label c.leaf) (entry_at s.context c.label) ≡ Some u → Taken s a rest c u
+pub taken_from : (s : State) (a : Term) (rest : List (Item Form)) (c : Candidate) (u : State)
+    → option_and_then (take_entry s a rest c.label c.leaf) (entry_at s.context c.label) ≡ Some u → Taken s a rest c u
 taken_from s a rest c u h = at_entry (entry_at s.context c.label) refl h
   where
-    at_mgu : (e : Entry Form) (n : ℕ) (l : Leaf) → entry_at s.context c.label ≡ Some e → slice_get (ways e.clause) c.leaf ≡ Some n → leaf e.clause c.leaf (vars_from (length s.levels) n) ≡ Some l
-        → (o : Option Solved) → mgu (a ∷ []) (l.head ∷ []) (s.levels ++ replicate n s.eigens) ≡ o → option_map (instantiated (with_leaf s rest c.label c.leaf n l)) o ≡ Some u → Taken s a rest c u
+    at_mgu : (e : Entry Form) (n : ℕ) (l : Leaf) → entry_at s.context c.label ≡ Some e → slice_get (ways e.clause) c.leaf ≡ Some n
+        → leaf e.clause c.leaf (vars_from (length s.levels) n) ≡ Some l
+        → (o : Option Solved) → mgu (a ∷ []) (l.head ∷ []) (s.levels ++ replicate n s.eigens) ≡ o
+        → option_map (instantiated (with_leaf s rest c.label c.leaf n l)) o ≡ Some u → Taken s a rest c u
     at_mgu e n l p q r None w h = cc
     at_mgu e n l p q r (Some v) w h = record { entry = e; count = n; leaf_of = l; solved = v; finds = p; way = q; leaves = r; solves = w; is = cc }
 
     at_leaf : (e : Entry Form) (n : ℕ) → entry_at s.context c.label ≡ Some e → slice_get (ways e.clause) c.leaf ≡ Some n
-        → (o : Option Leaf) → leaf e.clause c.leaf (vars_from (length s.levels) n) ≡ o → option_and_then (take_leaf s a rest c.label c.leaf n) o ≡ Some u → Taken s a rest c u
+        → (o : Option Leaf) → leaf e.clause c.leaf (vars_from (length s.levels) n) ≡ o → option_and_then (take_leaf s a rest c.label c.leaf n) o ≡ Some u
+        → Taken s a rest c u
     at_leaf e n p q None r h = cc
     at_leaf e n p q (Some l) r h = at_mgu e n l p q r (mgu (a ∷ []) (l.head ∷ []) (s.levels ++ replicate n s.eigens)) refl h
 

@@ -50,14 +50,16 @@ eigens_none k (Con (Name n)) h = refl
 eigens_none k (Con (Bound n)) h = refl
 eigens_none k (Con (Eigen j)) h = ne_eqb k j (λ e. let l = ltb-true j k h in omega (arith, e, l))
 eigens_none k (Ap t u) h =
-    ap (λ b. b || has_eigen k u) (eigens_none k t (and_left (eigens_below k t) (eigens_below k u) h)) ∙ eigens_none k u (and_right (eigens_below k t) (eigens_below k u) h)
+    ap (λ b. b || has_eigen k u) (eigens_none k t (and_left (eigens_below k t) (eigens_below k u) h))
+    ∙ eigens_none k u (and_right (eigens_below k t) (eigens_below k u) h)
 
 pub occurs_below : (n y : ℕ) (t : Term) → vars_below n t ≡ true → occurs y t ≡ true → y < n
 occurs_below n y (Var x) v h = let e = eqb-true y x h in let l = ltb-true x n v in omega (arith, e, l)
 occurs_below n y (Int z) v h = cc
 occurs_below n y (Con k) v h = cc
 occurs_below n y (Ap t u) v h =
-    or_split (occurs y t) (occurs y u) h (λ q. occurs_below n y t (and_left (vars_below n t) (vars_below n u) v) q) (λ q. occurs_below n y u (and_right (vars_below n t) (vars_below n u) v) q)
+    or_split (occurs y t) (occurs y u) h (λ q. occurs_below n y t (and_left (vars_below n t) (vars_below n u) v) q)
+    (λ q. occurs_below n y u (and_right (vars_below n t) (vars_below n u) v) q)
 
 -- a term that fits a level has no newer eigenconstant once its variables have terms that fit theirs
 pub sub_below : (l : ℕ) (levels : List ℕ) (f : ℕ → Term) → ((y : ℕ) → y < length levels → eigens_below (slice_index levels y) (f y) ≡ true)
@@ -74,21 +76,26 @@ sub_below l levels f below (Ap t u) v fit =
 fresh_label : (n : ℕ) (es : List (Entry Form)) → list_all (λ e. nat_lt e.label n) es ≡ true → IsFresh n es
 fresh_label n [] h = refl
 fresh_label n (e ∷ es) h =
-    or_none _ _ (ne_eqb n e.label (λ q. let l = ltb-true e.label n (and_left (nat_lt e.label n) (list_all (λ e. nat_lt e.label n) es) h) in omega (arith, q, l)))
+    or_none _ _ (ne_eqb n e.label (λ q. let l = ltb-true e.label n (and_left (nat_lt e.label n) (list_all (λ e. nat_lt e.label n) es) h) in
+    omega (arith, q, l)))
     (fresh_label n es (and_right (nat_lt e.label n) (list_all (λ e. nat_lt e.label n) es) h))
 
 resources_avoid : (may : Allowed) (f : ℕ → Term) → Avoids may.eigens may.variables f → (es : List (Entry Form)) → AreResources may es
     → list_any (form_has_eigen may.eigens) (map (λ e. e.clause) (map (sub_entry f) es)) ≡ false
 resources_avoid may f v [] r = refl
-resources_avoid may f v (e ∷ es) r = or_none _ _ (form_avoids may f v ClauseSide [] e.clause (fits_of_formula may ClauseSide [] e.clause r.0)) (resources_avoid may f v es r.1)
+resources_avoid may f v (e ∷ es) r = or_none _ _ (form_avoids may f v ClauseSide [] e.clause (fits_of_formula may ClauseSide [] e.clause r.0))
+    (resources_avoid may f v es r.1)
 
 -- terms that fit the levels of a consistent state avoid the next eigenconstant
-pub avoids_next : (beside : Setting) (s : State) (f : ℕ → Term) → IsConsistent beside s → ((x : ℕ) → x < length s.levels → eigens_below (slice_index s.levels x) (f x) ≡ true)
+pub avoids_next : (beside : Setting) (s : State) (f : ℕ → Term) → IsConsistent beside s
+    → ((x : ℕ) → x < length s.levels → eigens_below (slice_index s.levels x) (f x) ≡ true)
     → Avoids s.eigens (length s.levels) f
 avoids_next beside s f i below x h =
-    eigens_none s.eigens (f x) (eigens-mono (slice_index s.levels x) s.eigens (f x) (level_up_to s.eigens s.levels x i.levels) (below x (ltb-true x (length s.levels) h)))
+    eigens_none s.eigens (f x) (eigens-mono (slice_index s.levels x) s.eigens (f x) (level_up_to s.eigens s.levels x i.levels)
+    (below x (ltb-true x (length s.levels) h)))
 
-pub ready : (names : ℕ) (beside : Setting) (s : State) (f : ℕ → Term) (g : Form) (rest : List (Item Form)) → AreModules names beside.modules beside.modules → IsConsistent beside s → IsClosing f
+pub ready : (names : ℕ) (beside : Setting) (s : State) (f : ℕ → Term) (g : Form) (rest : List (Item Form)) → AreModules names beside.modules beside.modules
+    → IsConsistent beside s → IsClosing f
     → ((x : ℕ) → x < length s.levels → eigens_below (slice_index s.levels x) (f x) ≡ true) → s.agenda ≡ Goal g ∷ rest → Ready beside s f g
 ready names beside s f g rest v i cl below e =
     let may = allowed_in beside s in
@@ -96,8 +103,10 @@ ready names beside s f g rest v i cl below e =
     let fits : AreGoals may (Goal g ∷ rest) = subst (AreGoals may) e i.goals in
     record {
       fresh = fresh_label s.label s.context i.labels_below;
-      new = λ a q. or_none _ _ (form_avoids may f av GoalSide (true ∷ []) a (subst (Fits may GoalSide []) q (fits_of_formula may GoalSide [] g fits.0))) (resources_avoid may f av s.context i.resources);
-      modules = λ k m ts h q. unfold_sub f cl beside.modules _ m ts h (module-fits names beside.modules beside.modules (given beside.modules 0) k m (grows-refl (given beside.modules 0)) v q);
+      new = λ a q. or_none _ _ (form_avoids may f av GoalSide (true ∷ []) a (subst (Fits may GoalSide []) q (fits_of_formula may GoalSide [] g fits.0)))
+          (resources_avoid may f av s.context i.resources);
+      modules = λ k m ts h q. unfold_sub f cl beside.modules _ m ts h
+          (module-fits names beside.modules beside.modules (given beside.modules 0) k m (grows-refl (given beside.modules 0)) v q);
     }
 
 -- ---- inferences that make no variable
@@ -113,7 +122,8 @@ tested : (s u : State) (rest : List (Item Form)) (b : Bool) → (if b then Some 
 tested s u rest true h = kept s _ u h refl refl
 tested s u rest false h = cc
 
-pub same_variables : (beside : Setting) (s u : State) (g : Form) (rest : List (Item Form)) (c : Candidate) → attempt_goal beside s g rest c ≡ Some u → IsPlain g → SameVariables s u
+pub same_variables : (beside : Setting) (s u : State) (g : Form) (rest : List (Item Form)) (c : Candidate) → attempt_goal beside s g rest c ≡ Some u → IsPlain g
+    → SameVariables s u
 same_variables beside s u One rest c h p = kept s _ u h refl refl
 same_variables beside s u Top rest c h p = kept s _ u h refl refl
 same_variables beside s u (Tensor f g) rest c h p = kept s _ u h refl refl
@@ -140,7 +150,8 @@ same_variables beside s u (Num Most a b) rest c h p = tested s u rest (holds bes
 
 -- ---- chosen terms
 
-pub may_choose : (e : ℕ) (f : ℕ → Term) (n k : ℕ) → ((x : ℕ) → n ≤ x → x < n + k → (is_closed (f x) ≡ true) × (eigens_below e (f x) ≡ true)) → MayChoose e (map (sub f) (vars_from n k))
+pub may_choose : (e : ℕ) (f : ℕ → Term) (n k : ℕ) → ((x : ℕ) → n ≤ x → x < n + k → (is_closed (f x) ≡ true) × (eigens_below e (f x) ≡ true))
+    → MayChoose e (map (sub f) (vars_from n k))
 may_choose e f n zero h = tt
 may_choose e f n (suc k) h =
     let a = h n (omega arith) (omega arith) in (a.0, a.1, may_choose e f (suc n) k (λ x l m. h x (omega (arith, l)) (omega (arith, m))))

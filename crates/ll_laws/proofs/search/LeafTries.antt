@@ -79,7 +79,8 @@ add_likewise p o i l e w = record {
   places = ap arity e ∙ w.places;
 }
 
-likewise : (may : Allowed) (scope : Scope) (e d : Env) (r : Form) (k : ℕ) (us ws : List Term) (l : Leaf) → NoHeads scope → Fits may ClauseSide scope r → length us ≡ length ws → leaf_from e r k us ≡ Some l
+likewise : (may : Allowed) (scope : Scope) (e d : Env) (r : Form) (k : ℕ) (us ws : List Term) (l : Leaf) → NoHeads scope → Fits may ClauseSide scope r
+    → length us ≡ length ws → leaf_from e r k us ≡ Some l
     → Likewise (leaf_from d r k ws) l
 likewise may scope e d (Atom a) zero [] [] l n f q h =
     let x : Leaf = record { premises = []; head = close e a } in
@@ -94,18 +95,22 @@ likewise may scope e d (Atom a) (suc k) (u ∷ us) ws l n f q h = cc
 likewise may scope e d (With p r) k us ws l n f q h =
     step (nat_lt k (length (ways p))) (likewise may scope e d p k us ws l n f.0 q) (likewise may scope e d r (k - length (ways p)) us ws l n f.1 q) h
   where
-    step : (b : Bool) → (leaf_from e p k us ≡ Some l → Likewise (leaf_from d p k ws) l) → (leaf_from e r (k - length (ways p)) us ≡ Some l → Likewise (leaf_from d r (k - length (ways p)) ws) l)
+    step : (b : Bool) → (leaf_from e p k us ≡ Some l → Likewise (leaf_from d p k ws) l)
+        → (leaf_from e r (k - length (ways p)) us ≡ Some l → Likewise (leaf_from d r (k - length (ways p)) ws) l)
         → (if b then leaf_from e p k us else leaf_from e r (k - length (ways p)) us) ≡ Some l
         → Likewise (if b then leaf_from d p k ws else leaf_from d r (k - length (ways p)) ws) l
     step true i j h = i h
     step false i j h = j h
 likewise may scope e d (Lolli g r) k us ws l n f q h =
-    let u = under _ (leaf_from e r k us) l h in add_likewise (Needs (close_form d g)) (leaf_from d r k ws) u.inner l u.same (likewise may scope e d r k us ws u.inner n f.1 q u.is)
+    let u = under _ (leaf_from e r k us) l h in add_likewise (Needs (close_form d g)) (leaf_from d r k ws) u.inner l u.same
+    (likewise may scope e d r k us ws u.inner n f.1 q u.is)
 likewise may scope e d (Imp g r) k us ws l n f q h =
-    let u = under _ (leaf_from e r k us) l h in add_likewise (NeedsFree (close_form d g)) (leaf_from d r k ws) u.inner l u.same (likewise may scope e d r k us ws u.inner n f.1 q u.is)
+    let u = under _ (leaf_from e r k us) l h in add_likewise (NeedsFree (close_form d g)) (leaf_from d r k ws) u.inner l u.same
+    (likewise may scope e d r k us ws u.inner n f.1 q u.is)
 likewise may scope e d (Forall r) k [] ws l n f q h = cc
 likewise may scope e d (Forall r) k (u ∷ us) [] l n f q h = absurd (omega arith)
-likewise may scope e d (Forall r) k (u ∷ us) (w ∷ ws) l n f q h = likewise may (false ∷ scope) (Some u ∷ e) (Some w ∷ d) r k us ws l (no_heads-under scope n) f (omega arith) h
+likewise may scope e d (Forall r) k (u ∷ us) (w ∷ ws) l n f q h =
+    likewise may (false ∷ scope) (Some u ∷ e) (Some w ∷ d) r k us ws l (no_heads-under scope n) f (omega arith) h
 likewise may scope e d _ k us ws l n f q h = cc
 
 -- ---- an atom and a head that a substitution makes equal
@@ -135,7 +140,8 @@ predicates : (t u : Term) → is_spine t ≡ true → head_of t ≡ head_of u �
 predicates t u s h a = ap (λ b. b && nat_eq (arity t) (arity u)) (same_heads t (head_of u) s h) ∙ eq-eqb (arity t) (arity u) a
 
 -- a leaf whose head can be made equal to the atom passes the test of heads
-pub leaf-head-fits : (may : Allowed) (f : ℕ → Term) (a : Term) (r : Form) (k n m : ℕ) (l : Leaf) → IsHead [] a → IsHead [] l.head → Fits may ClauseSide [] r → leaf r k (vars_from m n) ≡ Some l
+pub leaf-head-fits : (may : Allowed) (f : ℕ → Term) (a : Term) (r : Form) (k n m : ℕ) (l : Leaf) → IsHead [] a → IsHead [] l.head → Fits may ClauseSide [] r
+    → leaf r k (vars_from m n) ≡ Some l
     → sub f a ≡ sub f l.head → fits_head a (leaf_head r k n) ≡ true
 unfolding NoHeads
 leaf-head-fits may f a r k n m l ha hl fr h e =
@@ -146,22 +152,26 @@ leaf-head-fits may f a r k n m l ha hl fr h e =
 
 -- ---- the candidates
 
-in_leaf_tries : (a : Term) (e : Entry Form) (k : ℕ) (ns : List ℕ) (j n m : ℕ) → slice_get ns j ≡ Some n → k + j ≡ m → fits_head a (leaf_head e.clause m n) ≡ true
+in_leaf_tries : (a : Term) (e : Entry Form) (k : ℕ) (ns : List ℕ) (j n m : ℕ) → slice_get ns j ≡ Some n → k + j ≡ m
+    → fits_head a (leaf_head e.clause m n) ≡ true
     → Among {A = Candidate} (record { label = e.label; leaf = m }) (leaf_tries a e k ns)
 in_leaf_tries a e k [] j n m q s f = cc
 in_leaf_tries a e k (x ∷ ns) zero n m q s f =
     let i : k ≡ m = omega arith in
     let v : x ≡ n = cc in
-    let w : fits_head a (leaf_head e.clause k x) ≡ true = subst (λ z. fits_head a (leaf_head e.clause z x) ≡ true) (sym i) (subst (λ z. fits_head a (leaf_head e.clause m z) ≡ true) (sym v) f) in
+    let w : fits_head a (leaf_head e.clause k x) ≡ true = subst (λ z. fits_head a (leaf_head e.clause z x) ≡ true) (sym i)
+    (subst (λ z. fits_head a (leaf_head e.clause m z) ≡ true) (sym v) f) in
     first (fits_head a (leaf_head e.clause k x)) w i
   where
-    first : (b : Bool) → b ≡ true → k ≡ m → Among {A = Candidate} (record { label = e.label; leaf = m }) (if b then record { label = e.label; leaf = k } ∷ leaf_tries a e (suc k) ns else leaf_tries a e (suc k) ns)
+    first : (b : Bool) → b ≡ true → k ≡ m → Among {A = Candidate} (record { label = e.label; leaf = m })
+        (if b then record { label = e.label; leaf = k } ∷ leaf_tries a e (suc k) ns else leaf_tries a e (suc k) ns)
     first true h i = inl (ap (λ z. record { label = e.label; leaf = z }) i)
     first false h i = cc
 in_leaf_tries a e k (x ∷ ns) (suc j) n m q s f = later (fits_head a (leaf_head e.clause k x)) (in_leaf_tries a e (suc k) ns j n m q (omega arith) f)
   where
     later : (b : Bool) → Among {A = Candidate} (record { label = e.label; leaf = m }) (leaf_tries a e (suc k) ns)
-        → Among {A = Candidate} (record { label = e.label; leaf = m }) (if b then record { label = e.label; leaf = k } ∷ leaf_tries a e (suc k) ns else leaf_tries a e (suc k) ns)
+        → Among {A = Candidate} (record { label = e.label; leaf = m })
+        (if b then record { label = e.label; leaf = k } ∷ leaf_tries a e (suc k) ns else leaf_tries a e (suc k) ns)
     later true h = inr h
     later false h = h
 
@@ -182,13 +192,16 @@ pub found_at : (es : List (Entry Form)) (label : ℕ) (e : Entry Form) → entry
 found_at [] label e h = cc
 found_at (x ∷ es) label e h = step (nat_eq x.label label) refl (found_at es label e) h
   where
-    step : (b : Bool) → nat_eq x.label label ≡ b → (entry_at es label ≡ Some e → FoundAt es label e) → (if b then Some x else entry_at es label) ≡ Some e → FoundAt (x ∷ es) label e
+    step : (b : Bool) → nat_eq x.label label ≡ b → (entry_at es label ≡ Some e → FoundAt es label e) → (if b then Some x else entry_at es label) ≡ Some e
+        → FoundAt (x ∷ es) label e
     step true q go h = let i : x ≡ e = cc in record { among = inl i; same = ap (λ z. z.label) (sym i) ∙ eqb-true x.label label q }
     step false q go h = let r = go h in record { among = inr r.among; same = r.same }
 
 -- a leaf of an open entry, whose head passes the test, is a candidate
-pub in_tries : (a : Term) (es : List (Entry Form)) (label k n : ℕ) (e : Entry Form) → entry_at es label ≡ Some e → is_open e ≡ true → slice_get (ways e.clause) k ≡ Some n
+pub in_tries : (a : Term) (es : List (Entry Form)) (label k n : ℕ) (e : Entry Form) → entry_at es label ≡ Some e → is_open e ≡ true
+    → slice_get (ways e.clause) k ≡ Some n
     → fits_head a (leaf_head e.clause k n) ≡ true → Among {A = Candidate} (record { label = label; leaf = k }) (flat_map (entry_tries a) es)
 in_tries a es label k n e h o q f =
     let w = found_at es label e h in
-    subst (λ z. Among {A = Candidate} (record { label = z; leaf = k }) (flat_map (entry_tries a) es)) w.same (among_flat (entry_tries a) e es _ w.among (in_entry_tries a e k n o q f))
+    subst (λ z. Among {A = Candidate} (record { label = z; leaf = k }) (flat_map (entry_tries a) es)) w.same
+    (among_flat (entry_tries a) e es _ w.among (in_entry_tries a e k n o q f))

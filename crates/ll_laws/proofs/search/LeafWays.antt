@@ -50,12 +50,15 @@ ways-push : (bank : Nodes) (fs : List FormAt) (f : FormAt) → waiting_ways bank
 ways-push bank fs f = let e = sum_by-append (λ (g : FormAt). length (ways (form_tree bank g.0))) fs (f ∷ []) in omega (arith, e)
 
 -- a clause in place of another with as many leaves
-pub count_in : (bank : Nodes) (old rest new : List FormAt) (f g : FormAt) (n goal : ℕ) → old ≡ rest ++ f ∷ [] → new ≡ rest ++ g ∷ [] → length (ways (form_tree bank f.0)) ≡ length (ways (form_tree bank g.0))
+pub count_in : (bank : Nodes) (old rest new : List FormAt) (f g : FormAt) (n goal : ℕ) → old ≡ rest ++ f ∷ [] → new ≡ rest ++ g ∷ []
+    → length (ways (form_tree bank f.0)) ≡ length (ways (form_tree bank g.0))
     → n + waiting_ways bank old ≡ goal → n + waiting_ways bank new ≡ goal
-count_in bank old rest new f g n goal o w same h = let a = ap (waiting_ways bank) o ∙ ways-push bank rest f in let b = ap (waiting_ways bank) w ∙ ways-push bank rest g in omega arith
+count_in bank old rest new f g n goal o w same h = let a = ap (waiting_ways bank) o ∙ ways-push bank rest f in
+    let b = ap (waiting_ways bank) w ∙ ways-push bank rest g in omega arith
 
 -- or two
-pub count_both : (bank : Nodes) (old rest mid new : List FormAt) (f g r : FormAt) (n goal : ℕ) → old ≡ rest ++ f ∷ [] → mid ≡ rest ++ r ∷ [] → new ≡ mid ++ g ∷ []
+pub count_both : (bank : Nodes) (old rest mid new : List FormAt) (f g r : FormAt) (n goal : ℕ) → old ≡ rest ++ f ∷ [] → mid ≡ rest ++ r ∷ []
+    → new ≡ mid ++ g ∷ []
     → ways (form_tree bank f.0) ≡ ways (form_tree bank g.0) ++ ways (form_tree bank r.0) → n + waiting_ways bank old ≡ goal → n + waiting_ways bank new ≡ goal
 count_both bank old rest mid new f g r n goal o m w both h =
     let a = ap (waiting_ways bank) o ∙ ways-push bank rest f in

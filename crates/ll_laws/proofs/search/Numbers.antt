@@ -54,7 +54,8 @@ compared_sub : (ops : Operators) (f : ℕ → Term) (test : ℤ → ℤ → Bool
     → compared test (value_of ops (sub f t)) (value_of ops (sub f u)) ≡ true
 compared_sub ops f test t u h = step (value_of ops t) refl (value_of ops u) refl h
   where
-    step : (a : Option ℤ) → value_of ops t ≡ a → (b : Option ℤ) → value_of ops u ≡ b → compared test a b ≡ true → compared test (value_of ops (sub f t)) (value_of ops (sub f u)) ≡ true
+    step : (a : Option ℤ) → value_of ops t ≡ a → (b : Option ℤ) → value_of ops u ≡ b → compared test a b ≡ true
+        → compared test (value_of ops (sub f t)) (value_of ops (sub f u)) ≡ true
     step None p b q i = cc
     step (Some x) p None q i = cc
     step (Some x) p (Some y) q i = rw (value_sub ops f t x p, value_sub ops f u y q) i

@@ -6,7 +6,8 @@ use Rattle.std.proofs.lemmas.Bool.{eqb-true, eq-eqb}
 use Rattle.ll_lists.proofs.CallerLemmas.{or_false_left as or_off_left, or_false_right as or_off_right}
 use Rattle.ll_bank.specs.Form.{Form}
 use Rattle.ll_laws.specs.Module.{Setting}
-use Rattle.ll_laws.specs.Settle.{Entry, Saved, Item, Goal, LolliEnd, ImpEnd, WithMiddle, WithEnd, BangEnd, settle_front, marks, remark, end_with, join, within, both_live, unlive}
+use Rattle.ll_laws.specs.Settle.{Entry, Saved, Item, Goal, LolliEnd, ImpEnd, WithMiddle, WithEnd, BangEnd, settle_front, marks, remark, end_with, join, within}
+use Rattle.ll_laws.specs.Settle.{both_live, unlive}
 use Rattle.ll_laws.specs.State.{State, settle, front_of}
 use Rattle.ll_laws.specs.Attempt.{is_linear, picked, entry_at}
 use Rattle.ll_laws.specs.Shows.{Tree, WithNode}
@@ -24,22 +25,27 @@ pub begin : (beside : Setting) (ns : List Line) (s : State) (g : Form) (rest : L
     → Goes beside (on s (Goal g ∷ rest) es v) rest g n u → Trace beside ns u → Trace beside (n ∷ ns) (on s (Goal g ∷ rest) es v)
 begin beside ns s g rest es v n u go run = trace_step (on s (Goal g ∷ rest) es v) u g rest (settled_goal s g rest es v) refl go run
 
-pub mid_back : (beside : Setting) (ns : List Line) (s : State) (sv : Saved) (g : Form) (old : Saved) (rest : List (Item Form)) (es : List (Entry Form)) (v : Bool)
+pub mid_back : (beside : Setting) (ns : List Line) (s : State) (sv : Saved) (g : Form) (old : Saved) (rest : List (Item Form)) (es : List (Entry Form))
+    (v : Bool)
     → Trace beside ns (on s (Goal g ∷ WithEnd sv (record { live = marks es; flag = v }) ∷ rest) (remark es sv.live) false)
     → Trace beside ns (on s (WithMiddle sv ∷ Goal g ∷ WithEnd sv old ∷ rest) es v)
 unfolding settle
 mid_back beside ns s sv g old rest es v run = same_trace beside ns _ _ refl run
 
 pub with_back : (beside : Setting) (ns : List Line) (s : State) (sv half r : Saved) (rest : List (Item Form)) (es : List (Entry Form)) (v : Bool)
-    → join half (record { live = marks es; flag = v }) ≡ Some r → Trace beside ns (on s rest (remark es r.live) (sv.flag || r.flag)) → Trace beside ns (on s (WithEnd sv half ∷ rest) es v)
+    → join half (record { live = marks es; flag = v }) ≡ Some r → Trace beside ns (on s rest (remark es r.live) (sv.flag || r.flag))
+    → Trace beside ns (on s (WithEnd sv half ∷ rest) es v)
 unfolding settle
 with_back beside ns s sv half r rest es v e run =
-    same_trace beside ns _ _ (sym (ap (λ o. front_of (on s (WithEnd sv half ∷ rest) es v) (end_with (settle_front rest) sv es o)) e ∙ front_same s (WithEnd sv half ∷ rest) rest es (remark es r.live) v (sv.flag || r.flag) (settle_front rest (remark es r.live) (sv.flag || r.flag)))) run
+    same_trace beside ns _ _ (sym (ap (λ o. front_of (on s (WithEnd sv half ∷ rest) es v) (end_with (settle_front rest) sv es o)) e
+    ∙ front_same s (WithEnd sv half ∷ rest) rest es (remark es r.live) v (sv.flag || r.flag) (settle_front rest (remark es r.live) (sv.flag || r.flag))))
+    run
 
 pub bang_back : (beside : Setting) (ns : List Line) (s : State) (sv : Saved) (rest : List (Item Form)) (es : List (Entry Form)) (v : Bool)
     → Trace beside ns (on s rest (remark es sv.live) sv.flag) → Trace beside ns (on s (BangEnd sv ∷ rest) es v)
 unfolding settle
-bang_back beside ns s sv rest es v run = same_trace beside ns _ _ (sym (front_same s (BangEnd sv ∷ rest) rest es (remark es sv.live) v sv.flag (settle_front rest (remark es sv.live) sv.flag))) run
+bang_back beside ns s sv rest es v run = same_trace beside ns _ _
+    (sym (front_same s (BangEnd sv ∷ rest) rest es (remark es sv.live) v sv.flag (settle_front rest (remark es sv.live) sv.flag))) run
 
 pub imp_back : (beside : Setting) (ns : List Line) (s : State) (rest : List (Item Form)) (e : Entry Form) (es : List (Entry Form)) (v : Bool)
     → Trace beside ns (on s rest es v) → Trace beside ns (on s (ImpEnd ∷ rest) (e ∷ es) v)
@@ -89,18 +95,28 @@ joined x y es f g = step (erases x) refl (erases y) refl
     with_flags : Bool → Bool → Option Saved
     with_flags a b = join (record { live = marks (used_up x es); flag = a }) (record { live = marks (used_up y es); flag = b })
 
-    made : (a b : Bool) (s : Saved) → erases x ≡ a → erases y ≡ b → with_flags a b ≡ Some s → s.live ≡ marks (used_up (WithNode x y) es) → s.flag ≡ a && b → Joined x y es
+    made : (a b : Bool) (s : Saved) → erases x ≡ a → erases y ≡ b → with_flags a b ≡ Some s → s.live ≡ marks (used_up (WithNode x y) es) → s.flag ≡ a && b
+        → Joined x y es
     made a b s p q i l w =
-        record { saved = s; is = ap (λ z. with_flags z (erases y)) p ∙ (ap (with_flags a) q ∙ i); live = l; flag = w ∙ (ap (λ z. z && b) (sym p) ∙ ap (λ z. erases x && z) (sym q)) }
+        record {
+          saved = s;
+          is = ap (λ z. with_flags z (erases y)) p ∙ (ap (with_flags a) q ∙ i);
+          live = l;
+          flag =
+              w ∙ (ap (λ z. z && b) (sym p) ∙ ap (λ z. erases x && z) (sym q));
+        }
 
     step : (a : Bool) → erases x ≡ a → (b : Bool) → erases y ≡ b → Joined x y es
-    step true p true q = made true true (record { live = both_live (marks (used_up x es)) (marks (used_up y es)); flag = true }) p q refl (both_used x y es) refl
+    step true p true q = made true true (record { live = both_live (marks (used_up x es)) (marks (used_up y es)); flag = true }) p q refl (both_used x y es)
+        refl
     step true p false q =
         let w = within_of x y es (g q) in
-        made true false (record { live = marks (used_up y es); flag = false }) p q (ap (λ b. if b then Some (record { live = marks (used_up y es); flag = false }) else None) w) (within_second x y es w) refl
+        made true false (record { live = marks (used_up y es); flag = false }) p q
+        (ap (λ b. if b then Some (record { live = marks (used_up y es); flag = false }) else None) w) (within_second x y es w) refl
     step false p true q =
         let w = within_of y x es (f p) in
-        made false true (record { live = marks (used_up x es); flag = false }) p q (ap (λ b. if b then Some (record { live = marks (used_up x es); flag = false }) else None) w) (within_first x y es w) refl
+        made false true (record { live = marks (used_up x es); flag = false }) p q
+        (ap (λ b. if b then Some (record { live = marks (used_up x es); flag = false }) else None) w) (within_first x y es w) refl
     step false p false q =
         let w = within_of y x es (f p) in
         let z = within_of x y es (g q) in
@@ -115,11 +131,13 @@ pub entry_label : (es : List (Entry Form)) (k : ℕ) (e : Entry Form) → entry_
 entry_label es k e h = (found_at es k e h).same
 
 -- the entries stay where they are
-pub entry_map : (f : Entry Form → Entry Form) → ((e : Entry Form) → (f e).label ≡ e.label) → (es : List (Entry Form)) (k : ℕ) (e : Entry Form) → entry_at es k ≡ Some e → entry_at (map f es) k ≡ Some (f e)
+pub entry_map : (f : Entry Form → Entry Form) → ((e : Entry Form) → (f e).label ≡ e.label) → (es : List (Entry Form)) (k : ℕ) (e : Entry Form)
+    → entry_at es k ≡ Some e → entry_at (map f es) k ≡ Some (f e)
 entry_map f l [] k e h = cc
 entry_map f l (d ∷ es) k e h = ap (λ n. if nat_eq n k then Some (f d) else entry_at (map f es) k) (l d) ∙ step (nat_eq d.label k) (entry_map f l es k e) h
   where
-    step : (b : Bool) → (entry_at es k ≡ Some e → entry_at (map f es) k ≡ Some (f e)) → (if b then Some d else entry_at es k) ≡ Some e → (if b then Some (f d) else entry_at (map f es) k) ≡ Some (f e)
+    step : (b : Bool) → (entry_at es k ≡ Some e → entry_at (map f es) k ≡ Some (f e)) → (if b then Some d else entry_at es k) ≡ Some e
+        → (if b then Some (f d) else entry_at (map f es) k) ≡ Some (f e)
     step true go h = let i : d ≡ e = cc in ap (λ z. Some (f z)) i
     step false go h = go h
 
@@ -128,12 +146,14 @@ pub not_new : (es : List (Entry Form)) (n k : ℕ) (e : Entry Form) → list_any
 not_new [] n k e f h = cc
 not_new (d ∷ es) n k e f h = step (nat_eq d.label k) refl (not_new es n k e (or_off_right (nat_eq n d.label) (list_any (λ d. nat_eq n d.label) es) f)) h
   where
-    step : (b : Bool) → nat_eq d.label k ≡ b → (entry_at es k ≡ Some e → nat_eq n k ≡ false) → (if b then Some d else entry_at es k) ≡ Some e → nat_eq n k ≡ false
+    step : (b : Bool) → nat_eq d.label k ≡ b → (entry_at es k ≡ Some e → nat_eq n k ≡ false) → (if b then Some d else entry_at es k) ≡ Some e
+        → nat_eq n k ≡ false
     step true q go h = subst (λ z. nat_eq n z ≡ false) (eqb-true d.label k q) (or_off_left (nat_eq n d.label) (list_any (λ d. nat_eq n d.label) es) f)
     step false q go h = go h
 
 -- an entry is found behind a newer one
-pub entry_behind : (es : List (Entry Form)) (d : Entry Form) (k : ℕ) (e : Entry Form) → list_any (λ x. nat_eq d.label x.label) es ≡ false → entry_at es k ≡ Some e → entry_at (d ∷ es) k ≡ Some e
+pub entry_behind : (es : List (Entry Form)) (d : Entry Form) (k : ℕ) (e : Entry Form) → list_any (λ x. nat_eq d.label x.label) es ≡ false
+    → entry_at es k ≡ Some e → entry_at (d ∷ es) k ≡ Some e
 entry_behind es d k e f h = ap (λ b. if b then Some d else entry_at es k) (not_new es d.label k e f h) ∙ h
 
 -- one that was picked changes no other
@@ -141,7 +161,8 @@ pub picked_other : (es : List (Entry Form)) (n k : ℕ) → nat_eq n k ≡ false
 picked_other [] n k h = refl
 picked_other (d ∷ es) n k h = step (nat_eq d.label n) refl (picked_other es n k h)
   where
-    step : (b : Bool) → nat_eq d.label n ≡ b → entry_at (picked n es) k ≡ entry_at es k → entry_at (if b then unlive d ∷ es else d ∷ picked n es) k ≡ entry_at (d ∷ es) k
+    step : (b : Bool) → nat_eq d.label n ≡ b → entry_at (picked n es) k ≡ entry_at es k
+        → entry_at (if b then unlive d ∷ es else d ∷ picked n es) k ≡ entry_at (d ∷ es) k
     step true q go =
         let w : nat_eq d.label k ≡ false = subst (λ z. nat_eq z k ≡ false) (sym (eqb-true d.label n q)) h in
         ap (λ b. if b then Some (unlive d) else entry_at es k) w ∙ sym (ap (λ b. if b then Some d else entry_at es k) w)
@@ -152,7 +173,8 @@ pub picked_dead : (es : List (Entry Form)) (k : ℕ) (e : Entry Form) → entry_
 picked_dead [] k e h l = cc
 picked_dead (d ∷ es) k e h l = step (nat_eq d.label k) (picked_dead es k e) h
   where
-    step : (b : Bool) → (entry_at es k ≡ Some e → e.live ≡ false → picked k es ≡ es) → (if b then Some d else entry_at es k) ≡ Some e → (if b then unlive d ∷ es else d ∷ picked k es) ≡ d ∷ es
+    step : (b : Bool) → (entry_at es k ≡ Some e → e.live ≡ false → picked k es ≡ es) → (if b then Some d else entry_at es k) ≡ Some e
+        → (if b then unlive d ∷ es else d ∷ picked k es) ≡ d ∷ es
     step true go h = let i : d ≡ e = cc in let w : d.live ≡ false = ap (λ z. z.live) i ∙ l in ap (λ z. record d { live = z } ∷ es) (sym w)
     step false go h = ap (λ xs. d ∷ xs) (go h l)
 
@@ -196,7 +218,8 @@ pub picked_clauses : (n : ℕ) (es : List (Entry Form)) → map (λ e. e.clause)
 picked_clauses n [] = refl
 picked_clauses n (d ∷ es) = step (nat_eq d.label n) (picked_clauses n es)
   where
-    step : (b : Bool) → map (λ e. e.clause) (picked n es) ≡ map (λ e. e.clause) es → map (λ e. e.clause) (if b then unlive d ∷ es else d ∷ picked n es) ≡ d.clause ∷ map (λ e. e.clause) es
+    step : (b : Bool) → map (λ e. e.clause) (picked n es) ≡ map (λ e. e.clause) es
+        → map (λ e. e.clause) (if b then unlive d ∷ es else d ∷ picked n es) ≡ d.clause ∷ map (λ e. e.clause) es
     step true h = refl
     step false h = ap (λ xs. d.clause ∷ xs) h
 

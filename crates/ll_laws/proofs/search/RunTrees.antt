@@ -14,17 +14,26 @@ use Rattle.ll_laws.specs.Module.{Setting, unfold_load}
 use Rattle.ll_laws.specs.Settle.{Entry, Saved, Item, Goal, LolliEnd, ImpEnd, WithMiddle, WithEnd, BangEnd, marks, remark, unlive}
 use Rattle.ll_laws.specs.State.{State}
 use Rattle.ll_laws.specs.Attempt.{stepped, picked}
-use Rattle.ll_laws.specs.Shows.{OneNode, EraseNode, TensorNode, WithNode, LeftNode, RightNode, BangNode, LolliNode, ImpNode, ForallNode, ExistsNode, UseNode, ClauseNode, NoParts, BoundedPart, UnboundedPart, NumNode}
-use Rattle.ll_laws.specs.Line.{Labels, Free, Line, TensorLine, WithLine, LeftLine, RightLine, BangLine, UseLine, LolliLine, ImpLine, ForallLine, ExistsLine, ClauseLine, lines, lines_of_parts, part_lines}
-use Rattle.ll_laws.specs.Run.{Goes, goes_one, goes_top, goes_tensor, goes_left, goes_right, goes_with, goes_bang, goes_lolli, goes_imp, goes_forall, goes_exists, goes_use, goes_atom, Trace, taken_by, goes_num}
+use Rattle.ll_laws.specs.Shows.{OneNode, EraseNode, TensorNode, WithNode, LeftNode, RightNode, BangNode, LolliNode, ImpNode, ForallNode, ExistsNode, UseNode}
+use Rattle.ll_laws.specs.Shows.{ClauseNode, NoParts, BoundedPart, UnboundedPart, NumNode}
+use Rattle.ll_laws.specs.Line.{Labels, Free, Line, TensorLine, WithLine, LeftLine, RightLine, BangLine, UseLine, LolliLine, ImpLine, ForallLine, ExistsLine}
+use Rattle.ll_laws.specs.Line.{ClauseLine, lines, lines_of_parts, part_lines}
+use Rattle.ll_laws.specs.Run.{Goes, goes_one, goes_top, goes_tensor, goes_left, goes_right, goes_with, goes_bang, goes_lolli, goes_imp, goes_forall}
+use Rattle.ll_laws.specs.Run.{goes_exists, goes_use, goes_atom, Trace, taken_by, goes_num}
 use Rattle.ll_laws.specs.Dealing.{uses, erases, erases_part}
 use Rattle.ll_laws.specs.Lazy.{Lazy, LazyParts}
-use Rattle.ll_laws.proofs.derivations.Leftovers.{used_clause, used_then, used_parts_then, used_parts_none, used_none, on, use_entry, used_up, entry, live_of, free_of, first_step, settled_goal, Sound, live_used, free_used, remark_used, mid_trace, with_none, with_some, bang_trace, imp_trace, lolli_trace, shorter, with_joined, remark_to, remark_unlive, live_unlive, free_unlive, live_fresh, free_fresh, spent_or, sound_used, sound_unlive, sound_picked, free_picked, new_parts, closed_terms, take_entry, used_parts, bang_tree, Stepped, After, AfterParts}
+use Rattle.ll_laws.proofs.derivations.Leftovers.{used_clause, used_then, used_parts_then, used_parts_none, used_none, on, use_entry, used_up, entry, live_of}
+use Rattle.ll_laws.proofs.derivations.Leftovers.{free_of, first_step, settled_goal, Sound, live_used, free_used, remark_used, mid_trace, with_none, with_some}
+use Rattle.ll_laws.proofs.derivations.Leftovers.{bang_trace, imp_trace, lolli_trace, shorter, with_joined, remark_to, remark_unlive, live_unlive, free_unlive}
+use Rattle.ll_laws.proofs.derivations.Leftovers.{live_fresh, free_fresh, spent_or, sound_used, sound_unlive, sound_picked, free_picked, new_parts}
+use Rattle.ll_laws.proofs.derivations.Leftovers.{closed_terms, take_entry, used_parts, bang_tree, Stepped, After, AfterParts}
 
 IH : Setting → ℕ → Type 0
-IH beside k = (ns : List Line) → length ns ≤ k → (s : State) (g : Form) (rest : List (Item Form)) (es : List (Entry Form)) (v : Bool) → Sound es → Trace beside ns (on s (Goal g ∷ rest) es v) → After beside ns rest es v g
+IH beside k = (ns : List Line) → length ns ≤ k → (s : State) (g : Form) (rest : List (Item Form)) (es : List (Entry Form)) (v : Bool) → Sound es
+    → Trace beside ns (on s (Goal g ∷ rest) es v) → After beside ns rest es v g
 
-parts_of : (beside : Setting) (k : ℕ) → IH beside k → (ps : List Premise) (ns : List Line) → length ns ≤ k → (s : State) (rest : List (Item Form)) (es : List (Entry Form)) (v : Bool) → Sound es
+parts_of : (beside : Setting) (k : ℕ) → IH beside k → (ps : List Premise) (ns : List Line) → length ns ≤ k
+    → (s : State) (rest : List (Item Form)) (es : List (Entry Form)) (v : Bool) → Sound es
     → Trace beside ns (on s (map (λ p. Goal (premise_goal p)) ps ++ rest) es v) → AfterParts beside ns rest es v ps
 unfolding IH
 parts_of beside k ih [] ns le s rest es v sd run = record {
@@ -33,12 +42,14 @@ parts_of beside k ih [] ns le s rest es v sd run = record {
   nodes = refl;
   kinds = refl;
   next = s;
-  trace = subst (λ w. Trace beside ns (on s rest w (v || false))) (sym (used_parts_none es)) (subst (λ z. Trace beside ns (on s rest es z)) (sym (or-false v)) run);
+  trace = subst (λ w. Trace beside ns (on s rest w (v || false))) (sym (used_parts_none es))
+      (subst (λ z. Trace beside ns (on s rest es z)) (sym (or-false v)) run);
   lazy = tt;
 }
 parts_of beside k ih (Needs g ∷ ps) ns le s rest es v sd run =
     let a = ih ns le s g (map (λ p. Goal (premise_goal p)) ps ++ rest) es v sd run in
-    let b = parts_of beside k ih ps a.more (shorter k ns a.tree a.more a.nodes le) a.next rest (used_up a.tree es) (v || erases a.tree) (sound_used a.tree es sd) a.trace in
+    let b = parts_of beside k ih ps a.more (shorter k ns a.tree a.more a.nodes le) a.next rest (used_up a.tree es) (v || erases a.tree)
+    (sound_used a.tree es sd) a.trace in
     record {
       parts = BoundedPart [] a.tree b.parts;
       more = b.more;
@@ -47,14 +58,20 @@ parts_of beside k ih (Needs g ∷ ps) ns le s rest es v sd run =
       next = b.next;
       trace =
           subst (λ w. Trace beside b.more (on b.next rest w (v || (erases a.tree || erases_part b.parts)))) (used_parts_then a.tree b.parts es)
-          (subst (λ z. Trace beside b.more (on b.next rest (used_parts b.parts (used_up a.tree es)) z)) (or_assoc v (erases a.tree) (erases_part b.parts)) b.trace);
-      lazy = (a.lazy, subst (λ i. LazyParts beside b.parts (free_of es) i ps) (live_used a.tree es) (subst (λ c. LazyParts beside b.parts c (live_of (used_up a.tree es)) ps) (free_used a.tree es) b.lazy));
+          (subst (λ z. Trace beside b.more (on b.next rest (used_parts b.parts (used_up a.tree es)) z)) (or_assoc v (erases a.tree) (erases_part b.parts))
+          b.trace);
+      lazy = (
+        a.lazy,
+        subst (λ i. LazyParts beside b.parts (free_of es) i ps) (live_used a.tree es)
+            (subst (λ c. LazyParts beside b.parts c (live_of (used_up a.tree es)) ps) (free_used a.tree es) b.lazy),
+      );
     }
 parts_of beside k ih (NeedsFree g ∷ ps) ns le s rest es v sd run =
     let a = ih ns le s (Bang g) (map (λ p. Goal (premise_goal p)) ps ++ rest) es v sd run in
     let w = bang_tree beside a.tree (free_of es) (live_of es) g a.lazy in
     let t = subst (λ z. Trace beside a.more (on a.next (map (λ p. Goal (premise_goal p)) ps ++ rest) z v)) (used_none a.tree w.idle es)
-    (subst (λ z. Trace beside a.more (on a.next (map (λ p. Goal (premise_goal p)) ps ++ rest) (used_up a.tree es) z)) (ap (λ z. v || z) w.stays ∙ or-false v) a.trace) in
+    (subst (λ z. Trace beside a.more (on a.next (map (λ p. Goal (premise_goal p)) ps ++ rest) (used_up a.tree es) z)) (ap (λ z. v || z) w.stays ∙ or-false v)
+    a.trace) in
     let b = parts_of beside k ih ps a.more (shorter k ns a.tree a.more a.nodes le) a.next rest es v sd t in
     record {
       parts = UnboundedPart a.tree b.parts;
@@ -66,7 +83,8 @@ parts_of beside k ih (NeedsFree g ∷ ps) ns le s rest es v sd run =
       lazy = (w.lazy, b.lazy);
     }
 
-case : (beside : Setting) (k : ℕ) → IH beside k → (s : State) (rest : List (Item Form)) (g : Form) (n : Line) (u : State) → Goes beside s rest g n u → Sound s.context → (more : List Line) → length more ≤ k → Trace beside more u
+case : (beside : Setting) (k : ℕ) → IH beside k → (s : State) (rest : List (Item Form)) (g : Form) (n : Line) (u : State) → Goes beside s rest g n u
+    → Sound s.context → (more : List Line) → length more ≤ k → Trace beside more u
     → After beside (n ∷ more) rest s.context s.flag g
 unfolding IH
 case beside k ih s rest _ _ _ goes_one sd more le run = record {
@@ -74,7 +92,8 @@ case beside k ih s rest _ _ _ goes_one sd more le run = record {
   more = more;
   nodes = refl;
   next = stepped s rest Plain;
-  trace = subst (λ w. Trace beside more (on (stepped s rest Plain) rest w (s.flag || false))) (sym (used_none OneNode (λ n. refl) s.context)) (subst (λ b. Trace beside more (on (stepped s rest Plain) rest s.context b)) (sym (or-false s.flag)) run);
+  trace = subst (λ w. Trace beside more (on (stepped s rest Plain) rest w (s.flag || false))) (sym (used_none OneNode (λ n. refl) s.context))
+      (subst (λ b. Trace beside more (on (stepped s rest Plain) rest s.context b)) (sym (or-false s.flag)) run);
   lazy = tt;
 }
 case beside k ih s rest _ _ _ goes_top sd more le run = record {
@@ -82,12 +101,14 @@ case beside k ih s rest _ _ _ goes_top sd more le run = record {
   more = more;
   nodes = refl;
   next = stepped s rest Plain;
-  trace = subst (λ w. Trace beside more (on (stepped s rest Plain) rest w (s.flag || true))) (sym (used_none EraseNode (λ n. refl) s.context)) (subst (λ b. Trace beside more (on (stepped s rest Plain) rest s.context b)) (sym (or-true s.flag)) run);
+  trace = subst (λ w. Trace beside more (on (stepped s rest Plain) rest w (s.flag || true))) (sym (used_none EraseNode (λ n. refl) s.context))
+      (subst (λ b. Trace beside more (on (stepped s rest Plain) rest s.context b)) (sym (or-true s.flag)) run);
   lazy = tt;
 }
 case beside k ih s rest _ _ _ (goes_tensor {f = f} {g = g}) sd more le run =
     let a = ih more le (stepped s (Goal f ∷ Goal g ∷ rest) Plain) f (Goal g ∷ rest) s.context s.flag sd run in
-    let b = ih a.more (shorter k more a.tree a.more a.nodes le) a.next g rest (used_up a.tree s.context) (s.flag || erases a.tree) (sound_used a.tree s.context sd) a.trace in
+    let b = ih a.more (shorter k more a.tree a.more a.nodes le) a.next g rest (used_up a.tree s.context) (s.flag || erases a.tree)
+    (sound_used a.tree s.context sd) a.trace in
     record {
       tree = TensorNode [] [] a.tree b.tree;
       more = b.more;
@@ -95,8 +116,13 @@ case beside k ih s rest _ _ _ (goes_tensor {f = f} {g = g}) sd more le run =
       next = b.next;
       trace =
           subst (λ w. Trace beside b.more (on b.next rest w (s.flag || (erases a.tree || erases b.tree)))) (used_then a.tree b.tree s.context)
-          (subst (λ z. Trace beside b.more (on b.next rest (used_up b.tree (used_up a.tree s.context)) z)) (or_assoc s.flag (erases a.tree) (erases b.tree)) b.trace);
-      lazy = (a.lazy, subst (λ i. Lazy beside b.tree (free_of s.context) i g) (live_used a.tree s.context) (subst (λ c. Lazy beside b.tree c (live_of (used_up a.tree s.context)) g) (free_used a.tree s.context) b.lazy));
+          (subst (λ z. Trace beside b.more (on b.next rest (used_up b.tree (used_up a.tree s.context)) z)) (or_assoc s.flag (erases a.tree) (erases b.tree))
+          b.trace);
+      lazy = (
+        a.lazy,
+        subst (λ i. Lazy beside b.tree (free_of s.context) i g) (live_used a.tree s.context)
+            (subst (λ c. Lazy beside b.tree c (live_of (used_up a.tree s.context)) g) (free_used a.tree s.context) b.lazy),
+      );
     }
 case beside k ih s rest _ _ _ (goes_left {f = f}) sd more le run =
     let a = ih more le (stepped s (Goal f ∷ rest) Left) f rest s.context s.flag sd run in
@@ -111,7 +137,8 @@ case beside k ih s rest _ _ _ (goes_with {f = f} {g = g}) sd more le run =
     let m = mid_trace beside a.more a.next sv g sv rest (used_up a.tree s.context) (erases a.tree) a.trace in
     let m' = subst (λ w. Trace beside a.more (on a.next (Goal g ∷ WithEnd sv half ∷ rest) w false)) (remark_used a.tree s.context) m in
     let b = ih a.more (shorter k more a.tree a.more a.nodes le) a.next g (WithEnd sv half ∷ rest) s.context false sd m' in
-    let j = with_joined a.tree b.tree s.context (erases a.tree) (erases b.tree) refl refl (λ e. with_none beside b.more b.next sv half rest (used_up b.tree s.context) (erases b.tree) e b.trace) in
+    let j = with_joined a.tree b.tree s.context (erases a.tree) (erases b.tree) refl refl
+    (λ e. with_none beside b.more b.next sv half rest (used_up b.tree s.context) (erases b.tree) e b.trace) in
     let t = with_some beside b.more b.next sv half j.saved rest (used_up b.tree s.context) (erases b.tree) j.is b.trace in
     record {
       tree = WithNode a.tree b.tree;
@@ -119,7 +146,8 @@ case beside k ih s rest _ _ _ (goes_with {f = f} {g = g}) sd more le run =
       nodes = ap (λ z. WithLine ∷ z) (a.nodes ∙ (ap (λ z. lines a.tree ++ z) b.nodes ∙ sym (append_assoc (lines a.tree) (lines b.tree) b.more)));
       next = b.next;
       trace =
-          subst (λ w. Trace beside b.more (on b.next rest w (s.flag || (erases a.tree && erases b.tree)))) (ap (remark (used_up b.tree s.context)) j.live ∙ remark_to b.tree (WithNode a.tree b.tree) s.context)
+          subst (λ w. Trace beside b.more (on b.next rest w (s.flag || (erases a.tree && erases b.tree))))
+          (ap (remark (used_up b.tree s.context)) j.live ∙ remark_to b.tree (WithNode a.tree b.tree) s.context)
           (subst (λ z. Trace beside b.more (on b.next rest (remark (used_up b.tree s.context) j.saved.live) (s.flag || z))) j.flag t);
       lazy = (a.lazy, b.lazy, j.agree);
     }
@@ -133,9 +161,11 @@ case beside k ih s rest _ _ _ (goes_bang {f = f}) sd more le run =
       nodes = ap (λ z. BangLine ∷ z) a.nodes;
       next = a.next;
       trace =
-          subst (λ w. Trace beside a.more (on a.next rest w (s.flag || false))) (remark_unlive a.tree s.context ∙ sym (used_none (BangNode a.tree) (λ n. refl) s.context))
+          subst (λ w. Trace beside a.more (on a.next rest w (s.flag || false)))
+          (remark_unlive a.tree s.context ∙ sym (used_none (BangNode a.tree) (λ n. refl) s.context))
           (subst (λ z. Trace beside a.more (on a.next rest (remark (used_up a.tree (map unlive s.context)) (marks s.context)) z)) (sym (or-false s.flag)) t);
-      lazy = subst (λ i. Lazy beside a.tree (free_of s.context) i f) (live_unlive s.context) (subst (λ c. Lazy beside a.tree c (live_of (map unlive s.context)) f) (free_unlive s.context) a.lazy);
+      lazy = subst (λ i. Lazy beside a.tree (free_of s.context) i f) (live_unlive s.context)
+          (subst (λ c. Lazy beside a.tree c (live_of (map unlive s.context)) f) (free_unlive s.context) a.lazy);
     }
 case beside k ih s rest _ _ _ (goes_lolli {r = r} {g = g} fr) sd more le run =
     let new : Entry Form = record { label = s.label; kind = Linear; live = true; clause = r } in
@@ -186,7 +216,8 @@ case beside k ih s rest _ _ _ (goes_num q) sd more le run = record {
   more = more;
   nodes = refl;
   next = stepped s rest Plain;
-  trace = subst (λ w. Trace beside more (on (stepped s rest Plain) rest w (s.flag || false))) (sym (used_none NumNode (λ n. refl) s.context)) (subst (λ b. Trace beside more (on (stepped s rest Plain) rest s.context b)) (sym (or-false s.flag)) run);
+  trace = subst (λ w. Trace beside more (on (stepped s rest Plain) rest w (s.flag || false))) (sym (used_none NumNode (λ n. refl) s.context))
+      (subst (λ b. Trace beside more (on (stepped s rest Plain) rest s.context b)) (sym (or-false s.flag)) run);
   lazy = q;
 }
 case beside k ih s rest _ _ _ (goes_atom {a = at} e label j us ps q o c l) sd more le run =
@@ -221,7 +252,8 @@ big beside (suc k) ns le s g rest es v sd run = go (big beside k) (first_step be
     go : IH beside k → Stepped beside ns (on s (Goal g ∷ rest) es v) rest g → After beside ns rest es v g
     go ih st =
         let q : length ns ≡ suc (length st.more) = ap length st.is in
-        subst (λ z. After beside z rest es v g) (sym st.is) (case beside k ih (on s (Goal g ∷ rest) es v) rest g st.node st.next st.goes sd st.more (omega arith) st.trace)
+        subst (λ z. After beside z rest es v g) (sym st.is) (case beside k ih (on s (Goal g ∷ rest) es v) rest g st.node st.next st.goes sd st.more
+        (omega arith) st.trace)
 
 -- a run of a goal is a tree with leftovers, and a run of what comes after it
 pub tree_of_run : (beside : Setting) (ns : List Line) (s : State) (g : Form) (rest : List (Item Form)) (es : List (Entry Form)) (v : Bool) → Sound es

@@ -1,5 +1,6 @@
 -- What a run brings to an answer, with terms chosen for the variables of a state, the search finds from the state itself.
-use Rattle.std.proofs.Common.{◌≡◌, ◌≤◌, ◌<◌, inl, inr, ℕ, zero, suc, ◌+◌, refl, ap, sym, subst, ◌∙◌, Bool, true, false, List, [], ◌∷◌, ◌++◌, map, length, take, arith, append_assoc, length-append}
+use Rattle.std.proofs.Common.{◌≡◌, ◌≤◌, ◌<◌, inl, inr, ℕ, zero, suc, ◌+◌, refl, ap, sym, subst, ◌∙◌, Bool, true, false, List, [], ◌∷◌, ◌++◌, map, length, take}
+use Rattle.std.proofs.Common.{arith, append_assoc, length-append}
 use Rattle.std.specs.Prelude.{◌||◌, not, if◌then◌else◌, Option, Some, None, option_map, slice_index, Contains}
 use Rattle.std.specs.List.{take-map, list_any}
 use Rattle.std.proofs.lemmas.List.{append-nil, length-map}
@@ -19,7 +20,8 @@ use Rattle.ll_laws.specs.Search.{events}
 use Rattle.ll_laws.specs.Valid.{AreModules}
 use Rattle.ll_laws.specs.Consistent.{IsConsistent, allowed_in}
 use Rattle.ll_laws.specs.Line.{Line, counts_numbers}
-use Rattle.ll_laws.specs.Run.{Goes, goes_one, goes_top, goes_tensor, goes_left, goes_right, goes_with, goes_bang, goes_lolli, goes_imp, goes_forall, goes_exists, goes_use, goes_atom, Trace, trace_end, trace_step, is_done, goes_num}
+use Rattle.ll_laws.specs.Run.{Goes, goes_one, goes_top, goes_tensor, goes_left, goes_right, goes_with, goes_bang, goes_lolli, goes_imp, goes_forall}
+use Rattle.ll_laws.specs.Run.{goes_exists, goes_use, goes_atom, Trace, trace_end, trace_step, is_done, goes_num}
 use Rattle.ll_laws.specs.Dealt.{value}
 use Rattle.ll_laws.specs.Completeness.{RunsAreFound}
 use Rattle.ll_laws.proofs.unification.SubLaws.{IsClosing}
@@ -81,13 +83,15 @@ none_back f (x ∷ a) h = cc
 
 -- ---- where a search finds what a successor finds
 
-at_goal : (beside : Setting) (t u : State) (c : Candidate) (g : Form) (rest : List (Item Form)) → t.agenda ≡ Goal g ∷ rest → Among c (goal_tries t.context g) → attempt_goal beside t g rest c ≡ Some u
+at_goal : (beside : Setting) (t u : State) (c : Candidate) (g : Form) (rest : List (Item Form)) → t.agenda ≡ Goal g ∷ rest → Among c (goal_tries t.context g)
+    → attempt_goal beside t g rest c ≡ Some u
     → Among u (successors beside t)
 unfolding successors tries attempt
 at_goal beside t u c g rest e m h =
     let tried : Among c (agenda_tries t.agenda t.context) = subst (λ a. Among c (agenda_tries a t.context)) (sym e) m in
     let gives : attempt_agenda beside t t.agenda c ≡ Some u = ap (λ a. attempt_agenda beside t a c) e ∙ h in
-    among_flat (λ d. option_to_states (attempt_agenda beside t t.agenda d)) c (agenda_tries t.agenda t.context) u tried (subst (λ o. Among u (option_to_states o)) (sym gives) (inl refl))
+    among_flat (λ d. option_to_states (attempt_agenda beside t t.agenda d)) c (agenda_tries t.agenda t.context) u tried
+    (subst (λ o. Among u (option_to_states o)) (sym gives) (inl refl))
 
 -- an answer of the search that the run with these nodes comes to, where the run's terms and steps so far are these
 record Finds (beside : Setting) (n : ℕ) (s : State) (terms : List Term) (steps : List Step) (ns : List Line) : Type 0 where
@@ -99,11 +103,13 @@ record Finds (beside : Setting) (n : ℕ) (s : State) (terms : List Term) (steps
   terms-are : map (sub values) answer.terms ≡ terms ++ later
   steps-are : answer.steps ≡ steps ++ map step_of ns
 
-settle_events : (beside : Setting) (n : ℕ) (s t : State) → settle s ≡ Some t → t.agenda ≡ [] → is_done t ≡ true → Among (Answer (record { terms = t.terms; steps = t.steps })) (events beside n s)
+settle_events : (beside : Setting) (n : ℕ) (s t : State) → settle s ≡ Some t → t.agenda ≡ [] → is_done t ≡ true
+    → Among (Answer (record { terms = t.terms; steps = t.steps })) (events beside n s)
 settle_events beside n s t h e d =
     subst (Among (Answer (record { terms = t.terms; steps = t.steps }))) (sym (events_answer beside n s t h e)) (step (not (has_live t.context) || t.flag) d)
   where
-    step : (b : Bool) → b ≡ true → Among (Answer (record { terms = t.terms; steps = t.steps })) (if b then Answer (record { terms = t.terms; steps = t.steps }) ∷ [] else [])
+    step : (b : Bool) → b ≡ true → Among (Answer (record { terms = t.terms; steps = t.steps }))
+        (if b then Answer (record { terms = t.terms; steps = t.steps }) ∷ [] else [])
     step true q = inl refl
     step false q = cc
 
@@ -116,11 +122,13 @@ settle_parts : (s t : State) → settle s ≡ Some t → (t.terms ≡ s.terms) �
 unfolding settle
 settle_parts s t h = front_parts s t _ h
 
-at_attempt : (beside : Setting) (t u : State) (c : Candidate) (g : Form) (rest : List (Item Form)) → t.agenda ≡ Goal g ∷ rest → attempt_goal beside t g rest c ≡ Some u → attempt beside t c ≡ Some u
+at_attempt : (beside : Setting) (t u : State) (c : Candidate) (g : Form) (rest : List (Item Form)) → t.agenda ≡ Goal g ∷ rest
+    → attempt_goal beside t g rest c ≡ Some u → attempt beside t c ≡ Some u
 unfolding attempt
 at_attempt beside t u c g rest e h = ap (λ a. attempt_agenda beside t a c) e ∙ h
 
-finds : (names : ℕ) (beside : Setting) → AreModules names beside.modules beside.modules → (ns : List Line) (c : State) → Trace beside ns c → (n : ℕ) → length ns ≤ n → list_any counts_numbers ns ≡ false → (s : State) (fs : List Term) → IsConsistent beside s → FitsAll s.levels fs
+finds : (names : ℕ) (beside : Setting) → AreModules names beside.modules beside.modules → (ns : List Line) (c : State) → Trace beside ns c → (n : ℕ)
+    → length ns ≤ n → list_any counts_numbers ns ≡ false → (s : State) (fs : List Term) → IsConsistent beside s → FitsAll s.levels fs
     → c ≡ grounded (value fs) s → Finds beside n s c.terms c.steps ns
 finds names beside v _ c (trace_end tc h e d) n le k s fs i w q =
     let b = settle_back (value fs) s tc (ap settle (sym q) ∙ h) in
@@ -149,25 +157,29 @@ finds names beside v _ c (trace_step {n = l} {ns = ns} tc uc gc restc h e go run
     (subst (λ z. Goes beside tc z (sub_form (value fs) a.goal) l uc) (sym a.others-are) (subst (λ z. Goes beside tc restc z l uc) (sym a.goal-is) go)) in
     let u = lift names beside t a.goal a.others fs l uc v ti tw a.agenda gone (or_off_left (counts_numbers l) (list_any counts_numbers ns) k) in
     let gives : attempt beside t u.by ≡ Some u.next = at_attempt beside t u.next u.by a.goal a.others a.agenda u.gives in
-    let r = finds names beside v ns uc run n (omega arith) (or_off_right (counts_numbers l) (list_any counts_numbers ns) k) u.next u.values (steps_consistent names beside t u.next u.by v ti gives) u.fits u.is in
+    let r = finds names beside v ns uc run n (omega arith) (or_off_right (counts_numbers l) (list_any counts_numbers ns) k) u.next u.values
+    (steps_consistent names beside t u.next u.by v ti gives) u.fits u.is in
     let kt = keeps_terms go in
     let p = settle_parts c tc h in
     record {
       answer = r.answer;
       found =
           subst (Among (Answer r.answer)) (sym (events_step beside n s t (Goal a.goal) a.others b.settles a.agenda))
-          (among_flat (events beside n) u.next (successors beside t) (Answer r.answer) (at_goal beside t u.next u.by a.goal a.others a.agenda u.tried u.gives) r.found);
+          (among_flat (events beside n) u.next (successors beside t) (Answer r.answer) (at_goal beside t u.next u.by a.goal a.others a.agenda u.tried u.gives)
+          r.found);
       values = r.values;
       closing = r.closing;
       later = kt.more ++ r.later;
       terms-are = r.terms-are ∙ (ap (λ z. z ++ r.later) (kt.is ∙ ap (λ z. z ++ kt.more) (p.0)) ∙ append_assoc c.terms kt.more r.later);
-      steps-are = r.steps-are ∙ (ap (λ z. z ++ map step_of ns) (goes_steps go ∙ ap (λ z. z ++ step_of l ∷ []) (p.1)) ∙ append_assoc c.steps (step_of l ∷ []) (map step_of ns));
+      steps-are = r.steps-are ∙ (ap (λ z. z ++ map step_of ns) (goes_steps go ∙ ap (λ z. z ++ step_of l ∷ []) (p.1))
+          ∙ append_assoc c.steps (step_of l ∷ []) (map step_of ns));
     }
 
 -- ---- the law
 
 -- the levels of a state play no part in its runs
-goes_unlevelled : {beside : Setting} {s : State} {rest : List (Item Form)} {g : Form} {n : Line} {u : State} → (ls : List ℕ) → Goes beside s rest g n u → Goes beside (record s { levels = ls }) rest g n (record u { levels = ls })
+goes_unlevelled : {beside : Setting} {s : State} {rest : List (Item Form)} {g : Form} {n : Line} {u : State} → (ls : List ℕ) → Goes beside s rest g n u
+    → Goes beside (record s { levels = ls }) rest g n (record u { levels = ls })
 goes_unlevelled ls goes_one = goes_one
 goes_unlevelled ls goes_top = goes_top
 goes_unlevelled ls goes_tensor = goes_tensor
@@ -186,15 +198,21 @@ goes_unlevelled ls (goes_atom e label k us ps a b c d) = goes_atom e label k us 
 pub trace_unlevelled : (beside : Setting) (ls : List ℕ) (ns : List Line) (s : State) → Trace beside ns s → Trace beside ns (record s { levels = ls })
 trace_unlevelled beside ls _ s (trace_end t h e d) = trace_end (record t { levels = ls }) (settle_with ls s t h) e d
 trace_unlevelled beside ls _ s (trace_step {ns = ns} t u g rest h e go run) =
-    trace_step (record t { levels = ls }) (record u { levels = ls }) g rest (settle_with ls s t h) e (goes_unlevelled ls go) (trace_unlevelled beside ls ns u run)
+    trace_step (record t { levels = ls }) (record u { levels = ls }) g rest (settle_with ls s t h) e (goes_unlevelled ls go)
+    (trace_unlevelled beside ls ns u run)
 
 agreeing : (f : ℕ → Term) (n : ℕ) → AgreeBelow n f (value (map (sub f) (vars_from 0 n)))
 agreeing f n x h = sym (listed f 0 n x (Var x) h ∙ ap f (let e : 0 + x ≡ x = omega arith in e))
 
-listed-fit : (f : ℕ → Term) (ls : List ℕ) (n : ℕ) → ((x : ℕ) → is_closed (f x) ≡ true) → ((x : ℕ) → x < length ls → eigens_below (slice_index ls x) (f (n + x)) ≡ true) → FitsAll ls (map (sub f) (vars_from n (length ls)))
+listed-fit : (f : ℕ → Term) (ls : List ℕ) (n : ℕ) → ((x : ℕ) → is_closed (f x) ≡ true)
+    → ((x : ℕ) → x < length ls → eigens_below (slice_index ls x) (f (n + x)) ≡ true) → FitsAll ls (map (sub f) (vars_from n (length ls)))
 listed-fit f [] n c b = tt
-listed-fit f (l ∷ ls) n c b =
-    (c n, subst (λ m. eigens_below l (f m) ≡ true) (let e : n + 0 ≡ n = omega arith in e) (b 0 (omega arith)), listed-fit f ls (suc n) c (λ x h. subst (λ m. eigens_below (slice_index ls x) (f m) ≡ true) (let e : n + suc x ≡ suc n + x = omega arith in e) (b (suc x) (omega arith))))
+listed-fit f (l ∷ ls) n c b = (
+  c n,
+  subst (λ m. eigens_below l (f m) ≡ true) (let e : n + 0 ≡ n = omega arith in e) (b 0 (omega arith)),
+  listed-fit f ls (suc n) c (λ x h. subst (λ m. eigens_below (slice_index ls x) (f m) ≡ true) (let e : n + suc x ≡ suc n + x = omega arith in
+      e) (b (suc x) (omega arith))),
+)
 
 steps-count : (ns : List Line) → length (map step_of ns) ≡ length ns
 steps-count ns = length-map ns step_of
@@ -209,11 +227,14 @@ runs_found names m s f size bound v i w run le =
     let n = length s.levels in
     let fs : List Term = map (sub f) (vars_from 0 n) in
     let agree : AgreeBelow n f (value fs) = agreeing f n in
-    let fit : FitsAll s.levels fs = listed-fit f s.levels 0 w.closed (λ x h. subst (λ y. eigens_below (slice_index s.levels x) (f y) ≡ true) (let e : x ≡ 0 + x = omega arith in e) (w.below x h)) in
+    let fit : FitsAll s.levels fs = listed-fit f s.levels 0 w.closed
+    (λ x h. subst (λ y. eigens_below (slice_index s.levels x) (f y) ≡ true) (let e : x ≡ 0 + x = omega arith in e) (w.below x h)) in
     let may = allowed_in m s in
     let same : grounded f s ≡ grounded (value fs) s =
-    same_parts (grounded f s) (goals-agree may f (value fs) agree s.agenda i.goals) (resources-agree may f (value fs) agree s.context i.resources) (made-agree n s.eigens f (value fs) agree s.terms i.terms) in
-    let r = finds names m v run.nodes (grounded f s) (trace_unlevelled m [] run.nodes (sub_state f s) run.trace) bound (let c = run.count in omega arith) run.numberless s fs i fit same in
+    same_parts (grounded f s) (goals-agree may f (value fs) agree s.agenda i.goals) (resources-agree may f (value fs) agree s.context i.resources)
+    (made-agree n s.eigens f (value fs) agree s.terms i.terms) in
+    let r = finds names m v run.nodes (grounded f s) (trace_unlevelled m [] run.nodes (sub_state f s) run.trace) bound (let c = run.count in
+    omega arith) run.numberless s fs i fit same in
     record {
       answer = r.answer;
       found = index_of (Answer r.answer) (events m bound s) r.found;

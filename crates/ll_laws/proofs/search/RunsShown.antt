@@ -16,8 +16,11 @@ use Rattle.ll_laws.specs.State.{State, settle}
 use Rattle.ll_laws.specs.Attempt.{is_linear}
 use Rattle.ll_laws.specs.Search.{program_entries}
 use Rattle.ll_laws.specs.Problem.{ProblemTree, setting_of}
-use Rattle.ll_laws.specs.Shows.{Tree, OneNode, EraseNode, TensorNode, WithNode, LeftNode, RightNode, BangNode, LolliNode, ImpNode, ForallNode, ExistsNode, UseNode, ClauseNode, Parts, NoParts, BoundedPart, UnboundedPart, Labelled, has_label, Shows, NumNode}
-use Rattle.ll_laws.specs.Line.{Labels, Free, Line, OneLine, EraseLine, TensorLine, WithLine, LeftLine, RightLine, BangLine, LolliLine, ImpLine, ForallLine, ExistsLine, UseLine, ClauseLine, Cuts, cut_parts, add_part, put, put_clause, trees_of, lines, lines_of_parts, part_lines, NumLine}
+use Rattle.ll_laws.specs.Shows.{Tree, OneNode, EraseNode, TensorNode, WithNode, LeftNode, RightNode, BangNode, LolliNode, ImpNode, ForallNode, ExistsNode}
+use Rattle.ll_laws.specs.Shows.{UseNode, ClauseNode, Parts, NoParts, BoundedPart, UnboundedPart, Labelled, has_label, Shows, NumNode}
+use Rattle.ll_laws.specs.Line.{Labels, Free, Line, OneLine, EraseLine, TensorLine, WithLine, LeftLine, RightLine, BangLine, LolliLine, ImpLine, ForallLine}
+use Rattle.ll_laws.specs.Line.{ExistsLine, UseLine, ClauseLine, Cuts, cut_parts, add_part, put, put_clause, trees_of, lines, lines_of_parts, part_lines}
+use Rattle.ll_laws.specs.Line.{NumLine}
 use Rattle.ll_laws.specs.Verdict.{labelled, root_free, root_bounded, instantiated_goal, TreeShows, same_kind}
 use Rattle.ll_laws.specs.Run.{Trace, trace_end, trace_step, is_done, run_start}
 use Rattle.ll_laws.specs.Dealing.{uses, erases, deal}
@@ -48,9 +51,11 @@ mutual
   lines_back EraseNode ns ts h = ap (option_and_then (put EraseLine)) h
   lines_back NumNode ns ts h = ap (option_and_then (put NumLine)) h
   lines_back (TensorNode s t x y) ns ts h =
-      ap (λ z. option_and_then (put (TensorLine s t)) (trees_of z)) (append_assoc (lines x) (lines y) ns) ∙ ap (option_and_then (put (TensorLine s t))) (lines_back x (lines y ++ ns) (y ∷ ts) (lines_back y ns ts h))
+      ap (λ z. option_and_then (put (TensorLine s t)) (trees_of z)) (append_assoc (lines x) (lines y) ns)
+      ∙ ap (option_and_then (put (TensorLine s t))) (lines_back x (lines y ++ ns) (y ∷ ts) (lines_back y ns ts h))
   lines_back (WithNode x y) ns ts h =
-      ap (λ z. option_and_then (put WithLine) (trees_of z)) (append_assoc (lines x) (lines y) ns) ∙ ap (option_and_then (put WithLine)) (lines_back x (lines y ++ ns) (y ∷ ts) (lines_back y ns ts h))
+      ap (λ z. option_and_then (put WithLine) (trees_of z)) (append_assoc (lines x) (lines y) ns)
+      ∙ ap (option_and_then (put WithLine)) (lines_back x (lines y ++ ns) (y ∷ ts) (lines_back y ns ts h))
   lines_back (LeftNode x) ns ts h = ap (option_and_then (put LeftLine)) (lines_back x ns ts h)
   lines_back (RightNode x) ns ts h = ap (option_and_then (put RightLine)) (lines_back x ns ts h)
   lines_back (BangNode x) ns ts h = ap (option_and_then (put BangLine)) (lines_back x ns ts h)
@@ -59,12 +64,15 @@ mutual
   lines_back (ForallNode k x) ns ts h = ap (option_and_then (put (ForallLine k))) (lines_back x ns ts h)
   lines_back (ExistsNode t x) ns ts h = ap (option_and_then (put (ExistsLine t))) (lines_back x ns ts h)
   lines_back (UseNode x) ns ts h = ap (option_and_then (put UseLine)) (lines_back x ns ts h)
-  lines_back (ClauseNode n k us ps) ns ts h = ap (option_and_then (put (ClauseLine n k us (part_lines ps)))) (parts_back ps ns ts h) ∙ ap (put_clause n k us) (cut_back ps ts)
+  lines_back (ClauseNode n k us ps) ns ts h = ap (option_and_then (put (ClauseLine n k us (part_lines ps)))) (parts_back ps ns ts h)
+      ∙ ap (put_clause n k us) (cut_back ps ts)
 
   parts_back : (ps : Parts) (ns : List Line) (ts : List Tree) → trees_of ns ≡ Some ts → trees_of (lines_of_parts ps ++ ns) ≡ Some (part_trees ps ++ ts)
   parts_back NoParts ns ts h = h
-  parts_back (BoundedPart s x ps) ns ts h = ap trees_of (append_assoc (lines x) (lines_of_parts ps) ns) ∙ lines_back x (lines_of_parts ps ++ ns) (part_trees ps ++ ts) (parts_back ps ns ts h)
-  parts_back (UnboundedPart x ps) ns ts h = ap trees_of (append_assoc (lines x) (lines_of_parts ps) ns) ∙ lines_back x (lines_of_parts ps ++ ns) (part_trees ps ++ ts) (parts_back ps ns ts h)
+  parts_back (BoundedPart s x ps) ns ts h = ap trees_of (append_assoc (lines x) (lines_of_parts ps) ns)
+      ∙ lines_back x (lines_of_parts ps ++ ns) (part_trees ps ++ ts) (parts_back ps ns ts h)
+  parts_back (UnboundedPart x ps) ns ts h = ap trees_of (append_assoc (lines x) (lines_of_parts ps) ns)
+      ∙ lines_back x (lines_of_parts ps ++ ns) (part_trees ps ++ ts) (parts_back ps ns ts h)
 
 pub tree_of_lines : (x : Tree) → trees_of (lines x) ≡ Some (x ∷ [])
 tree_of_lines x = ap trees_of (sym (append-nil (lines x))) ∙ lines_back x [] [] refl
@@ -95,7 +103,8 @@ all_used x (e ∷ es) h n m =
     here false u q l k = cc
 
 -- so the tree can take each live label that it is to take
-takes_all : (x : Tree) (es : List (Entry Form)) → not (has_live (used_up x es)) || erases x ≡ true → (n : ℕ) → has_label (live_of es) n ≡ true → uses n x || erases x ≡ true
+takes_all : (x : Tree) (es : List (Entry Form)) → not (has_live (used_up x es)) || erases x ≡ true → (n : ℕ) → has_label (live_of es) n ≡ true
+    → uses n x || erases x ≡ true
 takes_all x es h n m = step (has_live (used_up x es)) refl (erases x) h
   where
     step : (b : Bool) → has_live (used_up x es) ≡ b → (v : Bool) → not b || v ≡ true → uses n x || v ≡ true
@@ -110,7 +119,8 @@ pub not_below : (k : Kind) (m n : ℕ) (cs : List ClauseTree) → m < n → has_
 not_below k m n [] h = refl
 not_below k m n (c ∷ cs) h = step (same_kind k c.kind) (not_below k m (suc n) cs (omega (arith, h)))
   where
-    step : (b : Bool) → has_label (labelled k (suc n) cs) m ≡ false → has_label (if b then record { label = n; clause = c.form } ∷ labelled k (suc n) cs else labelled k (suc n) cs) m ≡ false
+    step : (b : Bool) → has_label (labelled k (suc n) cs) m ≡ false
+        → has_label (if b then record { label = n; clause = c.form } ∷ labelled k (suc n) cs else labelled k (suc n) cs) m ≡ false
     step true g = ap (λ b. b || has_label (labelled k (suc n) cs) m) (ne_eqb m n (λ e. omega (arith, h, e))) ∙ g
     step false g = g
 
@@ -118,7 +128,8 @@ pub labels_distinct : (k : Kind) (n : ℕ) (cs : List ClauseTree) → Distinct (
 labels_distinct k n [] = tt
 labels_distinct k n (c ∷ cs) = step (same_kind k c.kind) (labels_distinct k (suc n) cs)
   where
-    step : (b : Bool) → Distinct (labelled k (suc n) cs) → Distinct (if b then record { label = n; clause = c.form } ∷ labelled k (suc n) cs else labelled k (suc n) cs)
+    step : (b : Bool) → Distinct (labelled k (suc n) cs) → Distinct
+        (if b then record { label = n; clause = c.form } ∷ labelled k (suc n) cs else labelled k (suc n) cs)
     step true g = (not_below k n (suc n) cs (omega arith), g)
     step false g = g
 
@@ -127,15 +138,18 @@ kinds_apart n [] m h = cc
 kinds_apart n (c ∷ cs) m h = step c.kind (kinds_apart (suc n) cs m) h
   where
     step : (k : Kind) → (has_label (labelled Unbounded (suc n) cs) m ≡ true → has_label (labelled Linear (suc n) cs) m ≡ false)
-        → has_label (if same_kind Unbounded k then record { label = n; clause = c.form } ∷ labelled Unbounded (suc n) cs else labelled Unbounded (suc n) cs) m ≡ true
+        → has_label (if same_kind Unbounded k then record { label = n; clause = c.form } ∷ labelled Unbounded (suc n) cs else labelled Unbounded (suc n) cs) m
+        ≡ true
         → has_label (if same_kind Linear k then record { label = n; clause = c.form } ∷ labelled Linear (suc n) cs else labelled Linear (suc n) cs) m ≡ false
     step Linear go h = ap (λ b. b || has_label (labelled Linear (suc n) cs) m) (other (nat_eq m n) refl) ∙ go h
       where
         other : (b : Bool) → nat_eq m n ≡ b → b ≡ false
-        other true q = absurd (both_ways (has_label (labelled Unbounded (suc n) cs) m) (not_below Unbounded m (suc n) cs (let e = eqb-true m n q in omega (arith, e))) h)
+        other true q = absurd (both_ways (has_label (labelled Unbounded (suc n) cs) m)
+            (not_below Unbounded m (suc n) cs (let e = eqb-true m n q in omega (arith, e))) h)
         other false q = refl
     step Unbounded go h =
-        or_split (nat_eq m n) (has_label (labelled Unbounded (suc n) cs) m) h (λ q. not_below Linear m (suc n) cs (let e = eqb-true m n q in omega (arith, e))) go
+        or_split (nat_eq m n) (has_label (labelled Unbounded (suc n) cs) m) h (λ q. not_below Linear m (suc n) cs (let e = eqb-true m n q in omega (arith, e)))
+        go
 
 -- a program's entries, as trees with leftovers see them
 free_start : (n : ℕ) (cs : List ClauseTree) → free_of (program_entries n cs) ≡ labelled Unbounded n cs
@@ -168,7 +182,8 @@ entries_sound n (c ∷ cs) = (fresh n (suc n) cs (omega arith), may c.kind, entr
 
     fresh : (m k : ℕ) (ds : List ClauseTree) → m < k → list_any (λ d. nat_eq m d.label) (program_entries k ds) ≡ false
     fresh m k [] h = refl
-    fresh m k (d ∷ ds) h = ap (λ b. b || list_any (λ d. nat_eq m d.label) (program_entries (suc k) ds)) (ne_eqb m k (λ e. omega (arith, h, e))) ∙ fresh m (suc k) ds (omega (arith, h))
+    fresh m k (d ∷ ds) h = ap (λ b. b || list_any (λ d. nat_eq m d.label) (program_entries (suc k) ds)) (ne_eqb m k (λ e. omega (arith, h, e)))
+        ∙ fresh m (suc k) ds (omega (arith, h))
 
 -- ---- a run from the start of a problem
 
@@ -190,9 +205,11 @@ run_shown p ts ns run =
     let e = ended (setting_of p) a.more a.next (used_up a.tree es) (erases a.tree) a.trace in
     let is : ns ≡ lines a.tree = a.nodes ∙ (ap (λ z. lines a.tree ++ z) e.none ∙ append-nil (lines a.tree)) in
     let r = live_start 0 p.clauses in
-    let z = lazy_same (setting_of p) a.tree (free_of es) (instantiated_goal p ts) r (distinct_same (orders_back r) (labels_distinct Linear 0 p.clauses)) a.lazy in
+    let z = lazy_same (setting_of p) a.tree (free_of es) (instantiated_goal p ts) r (distinct_same (orders_back r) (labels_distinct Linear 0 p.clauses)) a.lazy
+    in
     let y = subst (λ c. Lazy (setting_of p) a.tree c (root_bounded p) (instantiated_goal p ts)) (free_start 0 p.clauses) z in
-    let w = dealt_shows (setting_of p) a.tree (root_free p) (root_bounded p) (instantiated_goal p ts) (kinds_apart 0 p.clauses) (labels_distinct Linear 0 p.clauses) y (λ n. true) (record {
+    let w = dealt_shows (setting_of p) a.tree (root_free p) (root_bounded p) (instantiated_goal p ts) (kinds_apart 0 p.clauses)
+    (labels_distinct Linear 0 p.clauses) y (λ n. true) (record {
       needs = λ n h u. refl;
       takes = λ n h t. takes_all a.tree es e.done n (has_same r n ∙ h);
     }) in

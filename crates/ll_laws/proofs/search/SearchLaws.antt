@@ -17,7 +17,8 @@ use Rattle.ll_laws.specs.Search.{answer_of, events, events_settled, events_of, c
 pub cut_count-suc : (n : ℕ) → cut_count (suc (cut_count n)) ≡ cut_count (suc n)
 cut_count-suc n = omega arith
 
-with_goal : (more : State → List Event) (t : State) (a : List (Item Form)) (i : Item Form) (rest : List (Item Form)) → a ≡ i ∷ rest → events_of more t a ≡ more t
+with_goal : (more : State → List Event) (t : State) (a : List (Item Form)) (i : Item Form) (rest : List (Item Form)) → a ≡ i ∷ rest
+    → events_of more t a ≡ more t
 with_goal more t [] i rest e = cc
 with_goal more t (j ∷ r) i rest e = refl
 
@@ -45,7 +46,8 @@ unfolding cost
 cost_answer ms zero s t h e = refl
 cost_answer ms (suc n) s t h e = rw (h, cost_settled) (rw (e, cost_of))
 
-pub events_reached : (ms : Setting) (s t : State) (i : Item Form) (rest : List (Item Form)) → settle s ≡ Some t → t.agenda ≡ i ∷ rest → events ms 0 s ≡ Reached ∷ []
+pub events_reached : (ms : Setting) (s t : State) (i : Item Form) (rest : List (Item Form)) → settle s ≡ Some t → t.agenda ≡ i ∷ rest
+    → events ms 0 s ≡ Reached ∷ []
 unfolding events
 events_reached ms s t i rest h e = rw (h, events_settled) (rw (e, events_of))
 

@@ -50,11 +50,15 @@ among m (Var x) h y o = in_upto y m (subst (λ z. z < m) (sym (eqb-true y x o)) 
 among m (Int z) h y o = cc
 among m (Con k) h y o = cc
 among m (Ap t u) h y o =
-    or_cases (occurs y t) (occurs y u) o (among m t (and_left (vars_below m t) (vars_below m u) h) y) (among m u (and_right (vars_below m t) (vars_below m u) h) y)
+    or_cases (occurs y t) (occurs y u) o (among m t (and_left (vars_below m t) (vars_below m u) h) y)
+    (among m u (and_right (vars_below m t) (vars_below m u) h) y)
 
 among_lists : (m : ℕ) (ts : List Term) → list_all (vars_below m) ts ≡ true → AllAmongLists (upto m) ts
 among_lists m [] h = tt
-among_lists m (t ∷ ts) h = (among m t (and_left (vars_below m t) (list_all (vars_below m) ts) h), among_lists m ts (and_right (vars_below m t) (list_all (vars_below m) ts) h))
+among_lists m (t ∷ ts) h = (
+  among m t (and_left (vars_below m t) (list_all (vars_below m) ts) h),
+  among_lists m ts (and_right (vars_below m t) (list_all (vars_below m) ts) h),
+)
 
 respects_all : (levels new : List ℕ) (s : ℕ → Term) → length new ≡ length levels → IsOver (length levels) s → RespectsThose levels s new → Respects levels s new
 respects_all levels new s c o r x =
@@ -65,7 +69,8 @@ respects_all levels new s c o r x =
           (fits-var new (slice_index levels x) x (let e : slice_index new x ≡ 0 = past_end new x (omega arith) in omega arith))
     ]
 
-pub best : (ls rs : List Term) (levels : List ℕ) (s : ℕ → Term) (new : List ℕ) → list_all (vars_below (length levels)) ls ≡ true → list_all (vars_below (length levels)) rs ≡ true
+pub best : (ls rs : List Term) (levels : List ℕ) (s : ℕ → Term) (new : List ℕ) → list_all (vars_below (length levels)) ls ≡ true
+    → list_all (vars_below (length levels)) rs ≡ true
     → IsUnifier ls rs levels s new → General ls rs levels (length levels) s new
 best ls rs levels s new a b u =
     most_general (length levels) ls rs levels (upto (length levels)) s new u.unifies (respects_all levels new s u.count u.over u.respects)
@@ -79,24 +84,28 @@ pub found-falls : (ls rs : List Term) (levels : List ℕ) (v : Solved) → mgu l
 unfolding mgu
 found-falls ls rs levels v h x = (solve-falls (length levels) ls rs levels v h).each x
 
-pub found-unifier : (ls rs : List Term) (levels : List ℕ) (v : Solved) → list_all (vars_below (length levels)) ls ≡ true → list_all (vars_below (length levels)) rs ≡ true → mgu ls rs levels ≡ Some v
+pub found-unifier : (ls rs : List Term) (levels : List ℕ) (v : Solved) → list_all (vars_below (length levels)) ls ≡ true
+    → list_all (vars_below (length levels)) rs ≡ true → mgu ls rs levels ≡ Some v
     → IsUnifier ls rs levels v.subst v.levels
 unfolding mgu
 found-unifier ls rs levels v a b h = record {
   unifies = solve-unifies (length levels) ls rs levels v h;
-  over = solve-over (length levels) (length levels) ls rs levels (upto (length levels)) v (below_upto (length levels)) (over_levels ls levels a) (over_levels rs levels b) h;
+  over = solve-over (length levels) (length levels) ls rs levels (upto (length levels)) v (below_upto (length levels)) (over_levels ls levels a)
+      (over_levels rs levels b) h;
   count = (solve-falls (length levels) ls rs levels v h).count;
   respects = λ x l. solve-respects (length levels) ls rs levels v h x;
 }
 
-pub found-best : (ls rs : List Term) (levels : List ℕ) (v : Solved) → list_all (vars_below (length levels)) ls ≡ true → list_all (vars_below (length levels)) rs ≡ true → mgu ls rs levels ≡ Some v
+pub found-best : (ls rs : List Term) (levels : List ℕ) (v : Solved) → list_all (vars_below (length levels)) ls ≡ true
+    → list_all (vars_below (length levels)) rs ≡ true → mgu ls rs levels ≡ Some v
     → IsMostGeneral ls rs levels v
 unfolding mgu
 found-best ls rs levels v a b h s new u =
     let g = best ls rs levels s new a b u in let w : Some g.solved ≡ Some v = sym g.is ∙ h in let e : g.solved ≡ v = cc in
     (subst (λ z. (x : ℕ) → sub s (z.subst x) ≡ s x) e g.through, subst (λ z. Respects z.levels s new) e g.respects)
 
-pub none-unifier : (ls rs : List Term) (levels : List ℕ) (s : ℕ → Term) (new : List ℕ) → list_all (vars_below (length levels)) ls ≡ true → list_all (vars_below (length levels)) rs ≡ true
+pub none-unifier : (ls rs : List Term) (levels : List ℕ) (s : ℕ → Term) (new : List ℕ) → list_all (vars_below (length levels)) ls ≡ true
+    → list_all (vars_below (length levels)) rs ≡ true
     → mgu ls rs levels ≡ None → IsUnifier ls rs levels s new → ⊥
 unfolding mgu
 none-unifier ls rs levels s new a b h u = let g = best ls rs levels s new a b u in let w : Some g.solved ≡ None = sym g.is ∙ h in cc

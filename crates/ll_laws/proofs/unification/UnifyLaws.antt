@@ -1,17 +1,21 @@
 -- Unification answers a unifier that respects the levels, and a most general one.
-use Rattle.std.proofs.Common.{◌≡◌, ◌≢◌, ◌<◌, ◌≤◌, ℕ, zero, suc, ◌+◌, refl, ap, sym, subst, ◌∙◌, Bool, true, false, List, [], ◌∷◌, map, length, arith, nat_eq, inl, inr}
+use Rattle.std.proofs.Common.{◌≡◌, ◌≢◌, ◌<◌, ◌≤◌, ℕ, zero, suc, ◌+◌, refl, ap, sym, subst, ◌∙◌, Bool, true, false, List, [], ◌∷◌, map, length, arith, nat_eq}
+use Rattle.std.proofs.Common.{inl, inr}
 use Rattle.std.specs.Prelude.{◌&&◌, ◌||◌, not, Option, Some, None, option_map, option_and_then, if◌then◌else◌, nat_lt, cond, slice_index, slice_set, min}
 use Rattle.std.specs.Ordering.{int_eq}
-use Rattle.std.proofs.lemmas.Bool.{eqb-true, eqb-false, ne_eqb, eq-eqb, ltb-true, ltb-false, lt-ltb, or_right as or_true_right, and_from as and_both, or_left as or_true_left, false_from_ne_true as not_occurs}
+use Rattle.std.proofs.lemmas.Bool.{eqb-true, eqb-false, ne_eqb, eq-eqb, ltb-true, ltb-false, lt-ltb, or_right as or_true_right, and_from as and_both}
+use Rattle.std.proofs.lemmas.Bool.{or_left as or_true_left, false_from_ne_true as not_occurs}
 use Rattle.std.proofs.Math.Dec.{eqb-suc-zero, eqb-zero-suc, eqb-suc-suc}
 use Rattle.std.proofs.lemmas.Bool.Decides.{Decides-int_eq}
 use Rattle.std.proofs.lemmas.Bool.{cases_lt, both_ways}
 use Rattle.std.specs.List.{list_any}
-use Rattle.ll_lists.proofs.CallerLemmas.{or_false_left, or_false_right, or_elim as or_cases, and_true_left as and_left, and_true_right as and_right, map_same, map_map}
+use Rattle.ll_lists.proofs.CallerLemmas.{or_false_left, or_false_right, or_elim as or_cases, and_true_left as and_left, and_true_right as and_right, map_same}
+use Rattle.ll_lists.proofs.CallerLemmas.{map_map}
 use Rattle.ll_bank.specs.declared.Head.{Head}
 use Rattle.ll_bank.specs.declared.Head.TheVariants.{Name, Eigen, Bound}
 use Rattle.ll_bank.specs.Term.{Term, Var, Int, Con, Ap, sub, occurs, eigens_below, eigen_below, head_eq}
-use Rattle.ll_laws.specs.Unify.{vars_below, Diff, Same, Clash, Meet, and_then, when, diff_var, diff, diff_lists, bound_to, lower, Solved, Binding, is_older, bind, bind_term, after, resolve, solve, FitsLevel, Respects, Unifies}
+use Rattle.ll_laws.specs.Unify.{vars_below, Diff, Same, Clash, Meet, and_then, when, diff_var, diff, diff_lists, bound_to, lower, Solved, Binding, is_older}
+use Rattle.ll_laws.specs.Unify.{bind, bind_term, after, resolve, solve, FitsLevel, Respects, Unifies}
 use Rattle.ll_laws.proofs.unification.SubLaws.{sub_comp, sub_same}
 
 pub head_eq-true : (h k : Head) → head_eq h k ≡ true → h ≡ k
@@ -183,7 +187,8 @@ solve-unifies (suc n) ls rs levels s h = go (solve-unifies n) (diff_lists ls rs)
         let u = ih (bound_list b.binding ls) (bound_list b.binding rs) b.binding.levels b.inner b.goes in
         subst (λ z. Unifies z.subst ls rs) b.is (after-list b.binding b.inner ls ∙ (u ∙ sym (after-list b.binding b.inner rs)))
 
-level-set : (xs : List ℕ) (x y l : ℕ) → slice_index (slice_set xs x (min (slice_index xs x) l)) y ≡ cond (nat_eq y x) (min (slice_index xs y) l) (slice_index xs y)
+level-set : (xs : List ℕ) (x y l : ℕ) → slice_index (slice_set xs x (min (slice_index xs x) l)) y
+    ≡ cond (nat_eq y x) (min (slice_index xs y) l) (slice_index xs y)
 level-set [] x y l = step (nat_eq y x)
   where
     step : (b : Bool) → 0 ≡ cond b (min 0 l) 0
@@ -206,7 +211,8 @@ level-lower l (Var x) xs y = level-set xs x y l
 level-lower l (Int z) xs y = refl
 level-lower l (Con h) xs y = refl
 level-lower l (Ap f a) xs y =
-    level-lower l a (lower l f xs) y ∙ (ap (λ v. cond (occurs y a) (min v l) v) (level-lower l f xs y) ∙ twice_lower (occurs y f) (occurs y a) (slice_index xs y) l)
+    level-lower l a (lower l f xs) y ∙ (ap (λ v. cond (occurs y a) (min v l) v) (level-lower l f xs y)
+    ∙ twice_lower (occurs y f) (occurs y a) (slice_index xs y) l)
 
 pub lower-le : (l : ℕ) (t : Term) (xs : List ℕ) (y : ℕ) → slice_index (lower l t xs) y ≤ slice_index xs y
 lower-le l t xs y = subst (λ v. v ≤ slice_index xs y) (sym (level-lower l t xs y)) (step (occurs y t))
@@ -228,16 +234,25 @@ eigens-mono m l (Var x) le e = refl
 eigens-mono m l (Int z) le e = refl
 eigens-mono m l (Con h) le e = eigen-mono m l h le e
 eigens-mono m l (Ap f a) le e =
-    and_both (eigens_below l f) (eigens_below l a) (eigens-mono m l f le (and_left (eigens_below m f) (eigens_below m a) e)) (eigens-mono m l a le (and_right (eigens_below m f) (eigens_below m a) e))
+    and_both (eigens_below l f) (eigens_below l a) (eigens-mono m l f le (and_left (eigens_below m f) (eigens_below m a) e))
+    (eigens-mono m l a le (and_right (eigens_below m f) (eigens_below m a) e))
 
 fits-mono : (m l : ℕ) (t : Term) (new : List ℕ) → m ≤ l → FitsLevel m t new → FitsLevel l t new
 fits-mono m l t new le f = record { eigens = eigens-mono m l t le f.eigens; vars = λ y o. let h = f.vars y o in omega arith }
 
 pub fits-left : (l : ℕ) (t u : Term) (new : List ℕ) → FitsLevel l (Ap t u) new → FitsLevel l t new
-fits-left l t u new f = record { eigens = and_left (eigens_below l t) (eigens_below l u) f.eigens; vars = λ y o. f.vars y (or_true_left (occurs y t) (occurs y u) o) }
+fits-left l t u new f = record {
+  eigens = and_left (eigens_below l t) (eigens_below l u) f.eigens;
+  vars =
+      λ y o. f.vars y (or_true_left (occurs y t) (occurs y u) o);
+}
 
 pub fits-right : (l : ℕ) (t u : Term) (new : List ℕ) → FitsLevel l (Ap t u) new → FitsLevel l u new
-fits-right l t u new f = record { eigens = and_right (eigens_below l t) (eigens_below l u) f.eigens; vars = λ y o. f.vars y (or_true_right (occurs y t) (occurs y u) o) }
+fits-right l t u new f = record {
+  eigens = and_right (eigens_below l t) (eigens_below l u) f.eigens;
+  vars =
+      λ y o. f.vars y (or_true_right (occurs y t) (occurs y u) o);
+}
 
 fits-ap : (l : ℕ) (t u : Term) (new : List ℕ) → FitsLevel l t new → FitsLevel l u new → FitsLevel l (Ap t u) new
 fits-ap l t u new f g = record {
@@ -253,7 +268,8 @@ fits-sub l (Con h) mid new g r f = record { eigens = f.eigens; vars = λ y o. cc
 fits-sub l (Ap t u) mid new g r f =
     fits-ap l (sub g t) (sub g u) new (fits-sub l t mid new g r (fits-left l t u mid f)) (fits-sub l u mid new g r (fits-right l t u mid f))
 
-pub respects-bound : (old new : List ℕ) (v : ℕ) (t : Term) → ((y : ℕ) → slice_index new y ≤ slice_index old y) → FitsLevel (slice_index old v) t new → Respects old (bound_to v t) new
+pub respects-bound : (old new : List ℕ) (v : ℕ) (t : Term) → ((y : ℕ) → slice_index new y ≤ slice_index old y) → FitsLevel (slice_index old v) t new
+    → Respects old (bound_to v t) new
 respects-bound old new v t le f z = step (nat_eq z v) refl
   where
     step : (b : Bool) → nat_eq z v ≡ b → FitsLevel (slice_index old z) (if b then t else Var z) new
@@ -267,7 +283,8 @@ bind_term-respects levels x t b h = step (occurs x t) (eigens_below (slice_index
     l = slice_index levels x
 
     step : (o e : Bool) → eigens_below l t ≡ e
-        → (if o || not e then None else Some (record { var = x; value = t; levels = lower l t levels })) ≡ Some b → Respects levels (bound_to b.var b.value) b.levels
+        → (if o || not e then None else Some (record { var = x; value = t; levels = lower l t levels })) ≡ Some b
+        → Respects levels (bound_to b.var b.value) b.levels
     step true e q h = cc
     step false false q h = cc
     step false true q h =
@@ -341,7 +358,8 @@ solve-respects (suc n) ls rs levels s h = go (solve-respects n) (diff_lists ls r
         let b = begins levels x t next s h in
         let r = ih (bound_list b.binding ls) (bound_list b.binding rs) b.binding.levels b.inner b.goes in
         let q = bind-respects levels x t b.binding b.bound in
-        same-respects levels s (after b.binding b.inner) b.is (λ y. fits-sub (slice_index levels y) (bound_to b.binding.var b.binding.value y) b.binding.levels b.inner.levels b.inner.subst r (q y))
+        same-respects levels s (after b.binding b.inner) b.is
+        (λ y. fits-sub (slice_index levels y) (bound_to b.binding.var b.binding.value y) b.binding.levels b.inner.levels b.inner.subst r (q y))
 
 -- ---- no solution is missed
 
@@ -435,14 +453,20 @@ fits-part s new l z (Var y) o f = subst (λ w. FitsLevel l (s w) new) (sym (eqb-
 fits-part s new l z (Int y) o f = cc
 fits-part s new l z (Con k) o f = cc
 fits-part s new l z (Ap t u) o f =
-    or_cases (occurs z t) (occurs z u) o (λ p. fits-part s new l z t p (fits-left l (sub s t) (sub s u) new f)) (λ p. fits-part s new l z u p (fits-right l (sub s t) (sub s u) new f))
+    or_cases (occurs z t) (occurs z u) o (λ p. fits-part s new l z t p (fits-left l (sub s t) (sub s u) new f))
+    (λ p. fits-part s new l z u p (fits-right l (sub s t) (sub s u) new f))
 
 fits-min : (a b : ℕ) (t : Term) (new : List ℕ) → FitsLevel a t new → FitsLevel b t new → FitsLevel (min a b) t new
 fits-min a b t new f g =
-    elim (cases_lt a b) [ inl h ↦ subst (λ m. FitsLevel m t new) (let e : a ≡ min a b = omega arith in e) f | inr h ↦ subst (λ m. FitsLevel m t new) (let e : b ≡ min a b = omega arith in e) g ]
+    elim (cases_lt a b) [
+      | inl h ↦ subst (λ m. FitsLevel m t new) (let e : a ≡ min a b = omega arith in
+          e) f
+      | inr h ↦ subst (λ m. FitsLevel m t new) (let e : b ≡ min a b = omega arith in e) g
+    ]
 
 -- a substitution that makes a variable what a term is respects the lowered levels
-lower-respects : (s : ℕ → Term) (new levels : List ℕ) (x : ℕ) (t : Term) → s x ≡ sub s t → Respects levels s new → Respects (lower (slice_index levels x) t levels) s new
+lower-respects : (s : ℕ → Term) (new levels : List ℕ) (x : ℕ) (t : Term) → s x ≡ sub s t → Respects levels s new
+    → Respects (lower (slice_index levels x) t levels) s new
 lower-respects s new levels x t e r z =
     subst (λ m. FitsLevel m (s z) new) (sym (level-lower (slice_index levels x) t levels z)) (step (occurs z t) refl)
   where
@@ -465,7 +489,8 @@ pub record Agreed (levels : List ℕ) (x : ℕ) (t : Term) (s : ℕ → Term) (n
 term_binding : List ℕ → ℕ → Term → Binding
 term_binding levels x t = record { var = x; value = t; levels = lower (slice_index levels x) t levels }
 
-binds_term : (levels : List ℕ) (x : ℕ) (t : Term) → occurs x t ≡ false → eigens_below (slice_index levels x) t ≡ true → bind_term levels x t ≡ Some (term_binding levels x t)
+binds_term : (levels : List ℕ) (x : ℕ) (t : Term) → occurs x t ≡ false → eigens_below (slice_index levels x) t ≡ true
+    → bind_term levels x t ≡ Some (term_binding levels x t)
 unfolding term_binding
 binds_term levels x t free fine = step (occurs x t) (eigens_below (slice_index levels x) t) free fine
   where
@@ -477,13 +502,15 @@ binds_term levels x t free fine = step (occurs x t) (eigens_below (slice_index l
     step false true f g = refl
     step false false f g = cc
 
-agreed_term : (levels : List ℕ) (x : ℕ) (t : Term) (s : ℕ → Term) (new vs : List ℕ) → (bind levels x t ≡ bind_term levels x t) → s x ≡ sub s t → Respects levels s new
+agreed_term : (levels : List ℕ) (x : ℕ) (t : Term) (s : ℕ → Term) (new vs : List ℕ) → (bind levels x t ≡ bind_term levels x t) → s x ≡ sub s t
+    → Respects levels s new
     → list_any (nat_eq x) vs ≡ true → AllAmong vs t → occurs x t ≡ false → Agreed levels x t s new vs
 unfolding term_binding
 agreed_term levels x t s new vs is e r h a free =
     record {
       binding = term_binding levels x t;
-      bound = is ∙ binds_term levels x t free (eigens-sub s (slice_index levels x) t (subst (λ u. eigens_below (slice_index levels x) u ≡ true) e (r x).eigens));
+      bound = is ∙ binds_term levels x t free (eigens-sub s (slice_index levels x) t
+          (subst (λ u. eigens_below (slice_index levels x) u ≡ true) e (r x).eigens));
       agrees = e;
       respects = lower-respects s new levels x t e r;
       among = h;
@@ -499,7 +526,8 @@ agreed_var levels x y s new vs e r h a ne = step (is_older levels x y) refl
     step true o =
         record {
           binding = record { var = y; value = Var x; levels = levels };
-          bound = ap (λ b. if b then Some (record { var = y; value = Var x; levels = levels }) else Some (record { var = x; value = Var y; levels = levels })) o;
+          bound = ap (λ b. if b then Some (record { var = y; value = Var x; levels = levels }) else Some (record { var = x; value = Var y; levels = levels }))
+              o;
           agrees = sym e;
           respects = r;
           among = a y (eq-eqb y y refl);
@@ -509,7 +537,8 @@ agreed_var levels x y s new vs e r h a ne = step (is_older levels x y) refl
     step false o =
         record {
           binding = record { var = x; value = Var y; levels = levels };
-          bound = ap (λ b. if b then Some (record { var = y; value = Var x; levels = levels }) else Some (record { var = x; value = Var y; levels = levels })) o;
+          bound = ap (λ b. if b then Some (record { var = y; value = Var x; levels = levels }) else Some (record { var = x; value = Var y; levels = levels }))
+              o;
           agrees = e;
           respects = r;
           among = h;
@@ -517,7 +546,8 @@ agreed_var levels x y s new vs e r h a ne = step (is_older levels x y) refl
           free = ne_eqb x y (λ q. ne (ap Var (sym q)));
         }
 
-pub agreed : (levels : List ℕ) (x : ℕ) (t : Term) (s : ℕ → Term) (new vs : List ℕ) → s x ≡ sub s t → Respects levels s new → MeetIn vs (Meet x t) → Agreed levels x t s new vs
+pub agreed : (levels : List ℕ) (x : ℕ) (t : Term) (s : ℕ → Term) (new vs : List ℕ) → s x ≡ sub s t → Respects levels s new → MeetIn vs (Meet x t)
+    → Agreed levels x t s new vs
 agreed levels x (Var y) s new vs e r m = agreed_var levels x y s new vs e r m.0 m.1 m.2
 agreed levels x (Int z) s new vs e r m = agreed_term levels x (Int z) s new vs refl e r m.0 m.1 refl
 agreed levels x (Con k) s new vs e r m = agreed_term levels x (Con k) s new vs refl e r m.0 m.1 refl
@@ -568,9 +598,11 @@ bound-among v w vs (Var x) aw free a y o = step (nat_eq x v) refl o
 bound-among v w vs (Int z) aw free a y o = cc
 bound-among v w vs (Con k) aw free a y o = cc
 bound-among v w vs (Ap f t) aw free a y o =
-    or_cases (occurs y (sub (bound_to v w) f)) (occurs y (sub (bound_to v w) t)) o (bound-among v w vs f aw free (among-left vs f t a) y) (bound-among v w vs t aw free (among-right vs f t a) y)
+    or_cases (occurs y (sub (bound_to v w) f)) (occurs y (sub (bound_to v w) t)) o (bound-among v w vs f aw free (among-left vs f t a) y)
+    (bound-among v w vs t aw free (among-right vs f t a) y)
 
-pub bound-among-lists : (v : ℕ) (w : Term) (vs : List ℕ) (ts : List Term) → AllAmong vs w → occurs v w ≡ false → AllAmongLists vs ts → AllAmongLists (without v vs) (map (sub (bound_to v w)) ts)
+pub bound-among-lists : (v : ℕ) (w : Term) (vs : List ℕ) (ts : List Term) → AllAmong vs w → occurs v w ≡ false → AllAmongLists vs ts
+    → AllAmongLists (without v vs) (map (sub (bound_to v w)) ts)
 bound-among-lists v w vs [] aw free a = tt
 bound-among-lists v w vs (t ∷ ts) aw free a = (bound-among v w vs t aw free a.0, bound-among-lists v w vs ts aw free a.1)
 
@@ -630,6 +662,7 @@ most_general (suc n) ls rs levels vs s new u r a b le = go (most_general n) (dif
         record {
           solved = after k i.solved;
           is = ap (λ d. resolve d levels next) e ∙ (ap (λ o. option_and_then (λ b. option_map (after b) (next b)) o) g.bound ∙ ap (option_map (after k)) i.is);
-          through = λ y. sub_comp s i.solved.subst (bound_to k.var k.value y) ∙ (sub_same _ s i.through (bound_to k.var k.value y) ∙ same_bound s k.var k.value g.agrees y);
+          through = λ y. sub_comp s i.solved.subst (bound_to k.var k.value y)
+              ∙ (sub_same _ s i.through (bound_to k.var k.value y) ∙ same_bound s k.var k.value g.agrees y);
           respects = i.respects;
         }

@@ -6,7 +6,8 @@ use Rattle.std.specs.List.{list_any}
 use Rattle.std.proofs.lemmas.Bool.{ne_eqb}
 use Rattle.ll_bank.specs.Term.{Term, Var, Int, Con, Ap, sub, occurs, eigens_below}
 use Rattle.ll_laws.specs.Unify.{Diff, Same, Clash, Meet, diff_lists, bound_to, lower, Solved, Binding, is_older, bind, bind_term, after, resolve, solve, IsOver}
-use Rattle.ll_laws.proofs.unification.UnifyLaws.{begins, bound_list, lower-le, solve-unifies, solve-respects, AllAmongLists, agreed, MeetIn, meet-lists, without, bound-among-lists, forced-lists, Forced}
+use Rattle.ll_laws.proofs.unification.UnifyLaws.{begins, bound_list, lower-le, solve-unifies, solve-respects, AllAmongLists, agreed, MeetIn, meet-lists}
+use Rattle.ll_laws.proofs.unification.UnifyLaws.{without, bound-among-lists, forced-lists, Forced}
 
 pub length-lower : (l : ℕ) (t : Term) (levels : List ℕ) → length (lower l t levels) ≡ length levels
 length-lower l (Var x) levels = length-set levels x (min (slice_index levels x) l)
@@ -28,7 +29,8 @@ falls-trans a b c p q = record { count = q.count ∙ p.count; each = λ x. let h
 term-falls : (levels : List ℕ) (x : ℕ) (t : Term) (b : Binding) → bind_term levels x t ≡ Some b → Falls levels b.levels
 term-falls levels x t b h = step (occurs x t || not (eigens_below (slice_index levels x) t)) h
   where
-    step : (o : Bool) → (if o then None else Some (record { var = x; value = t; levels = lower (slice_index levels x) t levels })) ≡ Some b → Falls levels b.levels
+    step : (o : Bool) → (if o then None else Some (record { var = x; value = t; levels = lower (slice_index levels x) t levels })) ≡ Some b
+        → Falls levels b.levels
     step true h = cc
     step false h =
         let c : Binding = record { var = x; value = t; levels = lower (slice_index levels x) t levels } in
@@ -41,7 +43,8 @@ bind-falls levels x (Var y) b h = step (is_older levels x y) h
     same : (c : Binding) → Some c ≡ Some b → c.levels ≡ levels → Falls levels b.levels
     same c h e = let i : c ≡ b = cc in subst (λ d. Falls levels d.levels) i (subst (λ l. Falls levels l) (sym e) (falls-refl levels))
 
-    step : (o : Bool) → (if o then Some (record { var = y; value = Var x; levels = levels }) else Some (record { var = x; value = Var y; levels = levels })) ≡ Some b → Falls levels b.levels
+    step : (o : Bool) → (if o then Some (record { var = y; value = Var x; levels = levels }) else Some (record { var = x; value = Var y; levels = levels }))
+        ≡ Some b → Falls levels b.levels
     step true h = same (record { var = y; value = Var x; levels = levels }) h refl
     step false h = same (record { var = x; value = Var y; levels = levels }) h refl
 bind-falls levels x (Int z) b h = term-falls levels x (Int z) b h
@@ -78,7 +81,8 @@ unfolding without
 stays_in v y [] h = cc
 stays_in v y (z ∷ vs) h = step (nat_eq v z) (stays_in v y vs) h
   where
-    first : (b : Bool) → (list_any (nat_eq y) (without v vs) ≡ true → list_any (nat_eq y) vs ≡ true) → (b || list_any (nat_eq y) (without v vs)) ≡ true → (b || list_any (nat_eq y) vs) ≡ true
+    first : (b : Bool) → (list_any (nat_eq y) (without v vs) ≡ true → list_any (nat_eq y) vs ≡ true) → (b || list_any (nat_eq y) (without v vs)) ≡ true
+        → (b || list_any (nat_eq y) vs) ≡ true
     first true ih h = refl
     first false ih h = ih h
 
@@ -97,7 +101,8 @@ without-below n v vs h y o = h y (stays_in v y vs o)
 bound_to-past : (n x : ℕ) (t : Term) (y : ℕ) → x < n → n ≤ y → bound_to x t y ≡ Var y
 bound_to-past n x t y h k = ap (λ b. if b then t else Var y) (ne_eqb y x (λ e. absurd (omega arith)))
 
-pub solve-over : (k n : ℕ) (ls rs : List Term) (levels vs : List ℕ) (v : Solved) → AllBelow n vs → AllAmongLists vs ls → AllAmongLists vs rs → solve k ls rs levels ≡ Some v → IsOver n v.subst
+pub solve-over : (k n : ℕ) (ls rs : List Term) (levels vs : List ℕ) (v : Solved) → AllBelow n vs → AllAmongLists vs ls → AllAmongLists vs rs
+    → solve k ls rs levels ≡ Some v → IsOver n v.subst
 solve-over zero n ls rs levels vs v w a b h = go (diff_lists ls rs) h
   where
     go : (d : Diff) → resolve d levels (λ b. None) ≡ Some v → IsOver n v.subst
@@ -110,7 +115,8 @@ solve-over (suc k) n ls rs levels vs v w la ra found =
     next : Binding → Option Solved
     next b = solve k (bound_list b ls) (bound_list b rs) b.levels
 
-    go : ((n : ℕ) (ls rs : List Term) (levels vs : List ℕ) (v : Solved) → AllBelow n vs → AllAmongLists vs ls → AllAmongLists vs rs → solve k ls rs levels ≡ Some v → IsOver n v.subst)
+    go : ((n : ℕ) (ls rs : List Term) (levels vs : List ℕ) (v : Solved) → AllBelow n vs → AllAmongLists vs ls → AllAmongLists vs rs
+        → solve k ls rs levels ≡ Some v → IsOver n v.subst)
         → (d : Diff) → Forced v.subst d → MeetIn vs d → resolve d levels next ≡ Some v → IsOver n v.subst
     go ih Same f m h = let c : Solved = record { subst = Var; levels = levels } in let e : c ≡ v = cc in subst (λ z. IsOver n z.subst) e (λ x l. refl)
     go ih Clash f m h = absurd f
@@ -120,7 +126,8 @@ solve-over (suc k) n ls rs levels vs v w la ra found =
         let j : Some g.binding ≡ Some b.binding = sym g.bound ∙ b.bound in
         let e : g.binding ≡ b.binding = cc in
         let i = subst (λ z. solve k (bound_list z ls) (bound_list z rs) z.levels ≡ Some b.inner) (sym e) b.goes in
-        let o = ih n (bound_list g.binding ls) (bound_list g.binding rs) g.binding.levels (without g.binding.var vs) b.inner (without-below n g.binding.var vs w)
+        let o = ih n (bound_list g.binding ls) (bound_list g.binding rs) g.binding.levels (without g.binding.var vs) b.inner
+        (without-below n g.binding.var vs w)
         (bound-among-lists g.binding.var g.binding.value vs ls g.value g.free la) (bound-among-lists g.binding.var g.binding.value vs rs g.value g.free ra) i in
         let q : after g.binding b.inner ≡ v = ap (λ z. after z b.inner) e ∙ b.is in
         subst (λ z. IsOver n z.subst) q (λ y l. ap (sub b.inner.subst) (bound_to-past n g.binding.var g.binding.value y (w g.binding.var g.among) l) ∙ o y l)

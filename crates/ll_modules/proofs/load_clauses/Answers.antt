@@ -12,7 +12,8 @@ pub loop-i-init : goal.loop-i-init
 loop-i-init c = record {
   shows = record {
     inside = c.requires.goal;
-    tree = ap (λ cs. load_all (arguments_env (term_trees c.args.bank.now c.args.args.now)) (map (clause_tree c.args.bank.now) cs) (form_tree c.args.bank.now c.args.goal.0)) (sym (drop_all (length c.args.clauses.now) c.args.clauses.now (omega arith)));
+    tree = ap (λ cs. load_all (arguments_env (term_trees c.args.bank.now c.args.args.now)) (map (clause_tree c.args.bank.now) cs)
+        (form_tree c.args.bank.now c.args.goal.0)) (sym (drop_all (length c.args.clauses.now) c.args.clauses.now (omega arith)));
   };
   keeps = Extends-refl c.args.bank.now;
 }
@@ -23,7 +24,8 @@ load_clause-requires c = record {
   goal = c.loop-i.invariant.shows.inside;
   places = AllInTerms-extends c.loop-i.invariant.keeps c.args.args.now c.requires.places;
   closed = closed_now c.loop-i.invariant.keeps c.args.args.now c.requires.places c.requires.closed;
-  heads = clause_heads c.loop-i.invariant.keeps c.args.args.now c.requires.places c.requires.closed c.args.clauses.now _ _ (omega arith) c.requires.clauses c.requires.heads;
+  heads = clause_heads c.loop-i.invariant.keeps c.args.args.now c.requires.places c.requires.closed c.args.clauses.now _ _ (omega arith) c.requires.clauses
+      c.requires.heads;
 }
 
 pub loop-i-preserved : goal.loop-i-preserved
@@ -32,7 +34,8 @@ loop-i-preserved c = record {
     inside = c.in_ok-at.ensures.shows.inside;
     tree =
         c.in_ok-at.ensures.shows.tree
-        ∙ clause_loaded c.loop-i.invariant.keeps c.args.args.now c.requires.places c.requires.closed c.args.clauses.now c.loop-i.i _ _ (form_tree c.args.bank.now c.args.goal.0) c.loop-i-test.true c.loop-i.auto.i c.requires.clauses c.loop-i.invariant.shows.tree;
+        ∙ clause_loaded c.loop-i.invariant.keeps c.args.args.now c.requires.places c.requires.closed c.args.clauses.now c.loop-i.i _ _
+        (form_tree c.args.bank.now c.args.goal.0) c.loop-i-test.true c.loop-i.auto.i c.requires.clauses c.loop-i.invariant.shows.tree;
   };
   keeps = Extends-trans c.loop-i.invariant.keeps c.in_ok-at.ensures.keeps;
 }
@@ -44,5 +47,6 @@ returns-clause-shows c =
       inside = c.loop-i.invariant.shows.inside;
       tree =
           c.loop-i.invariant.shows.tree
-          ∙ ap (λ n. load_all (arguments_env (term_trees c.args.bank.now c.args.args.now)) (map (clause_tree c.args.bank.now) (drop n c.args.clauses.now)) (form_tree c.args.bank.now c.args.goal.0)) zero;
+          ∙ ap (λ n. load_all (arguments_env (term_trees c.args.bank.now c.args.args.now)) (map (clause_tree c.args.bank.now) (drop n c.args.clauses.now))
+          (form_tree c.args.bank.now c.args.goal.0)) zero;
     }

@@ -1,16 +1,33 @@
 -- The flat machine over raw trees does what the machine over parse trees does.
 use Rattle.std.proofs.Common.{◌≡◌, Bool, true, false, List, [], ◌∷◌, Some, option_map, refl, ◌∙◌, ap, sym, None}
 use Rattle.ll_lexer.specs.declared.Place.{Place}
-use Rattle.ll_parser.specs.Tokens.{Identifier, Tok, name, variable, any, number, true_word, erase_word, forall_word, exists_word, comma, ampersand, semicolon, paren_left, paren_right, brace_left, brace_right, backslash, colon_dash, left_arrow, right_arrow, lolli, load_arrow, is_sign, most_sign, less_sign, plus_sign, minus_sign, star_sign}
+use Rattle.ll_parser.specs.Tokens.{Identifier, Tok, name, variable, any, number, true_word, erase_word, forall_word, exists_word, comma, ampersand, semicolon}
+use Rattle.ll_parser.specs.Tokens.{paren_left, paren_right, brace_left, brace_right, backslash, colon_dash, left_arrow, right_arrow, lolli, load_arrow}
+use Rattle.ll_parser.specs.Tokens.{is_sign, most_sign, less_sign, plus_sign, minus_sign, star_sign}
 use Rattle.ll_parser.specs.declared.Op.TheVariants as op
 use Rattle.ll_parser.specs.declared.Quantifier.TheVariants as quantifier
 use Rattle.ll_parser.specs.Raw.{Raw, truth, erasure, braces, anything, int, RawList, none, more, raws_then}
-use Rattle.ll_parser.specs.Grammar.{lower, upper, Term, of_app, cons, App, applied, app_any, app_number, app_bracket, Simples, by_colon, by_left, by_lolli, by_right, Formula, Arrow, of_sum, implies, loads, Sum, of_with, plus, With, of_tensor, with, Tensor, of_primary, times, Primary, truly, erased, bracket, brace, quantified, atom, word_identifier, clause_op, arrow_op, term_raw, app_raw, simples_raws, formula_raw, arrow_raw, sum_raw, with_raw, tensor_raw, primary_raw, by_plus, by_minus, by_less, by_most, plain_word, plain_any, plain_number, Expr, of_product, adds, Product, of_item, multiplies, Item, item_plain, item_bracket, First, first_plain, first_times, Lead, of_first, lead_adds, valued, tested, Word, no_more, and_then, Simple, simple_raw, plain_raw, expr_raw, product_raw, item_raw, first_raw, lead_raw}
+use Rattle.ll_parser.specs.Grammar.{lower, upper, Term, of_app, cons, App, applied, app_any, app_number, app_bracket, Simples, by_colon, by_left, by_lolli}
+use Rattle.ll_parser.specs.Grammar.{by_right, Formula, Arrow, of_sum, implies, loads, Sum, of_with, plus, With, of_tensor, with, Tensor, of_primary, times}
+use Rattle.ll_parser.specs.Grammar.{Primary, truly, erased, bracket, brace, quantified, atom, word_identifier, clause_op, arrow_op, term_raw, app_raw}
+use Rattle.ll_parser.specs.Grammar.{simples_raws, formula_raw, arrow_raw, sum_raw, with_raw, tensor_raw, primary_raw, by_plus, by_minus, by_less, by_most}
+use Rattle.ll_parser.specs.Grammar.{plain_word, plain_any, plain_number, Expr, of_product, adds, Product, of_item, multiplies, Item, item_plain, item_bracket}
+use Rattle.ll_parser.specs.Grammar.{First, first_plain, first_times, Lead, of_first, lead_adds, valued, tested, Word, no_more, and_then, Simple, simple_raw}
+use Rattle.ll_parser.specs.Grammar.{plain_raw, expr_raw, product_raw, item_raw, first_raw, lead_raw}
 use Rattle.ll_parser.proofs.machines.Machine as m
-use Rattle.ll_parser.proofs.machines.Machine.{Factor, factor, Share, share, Part, Left, implying, Before, nothing, after_clause, Scope, scope, fresh, Frame, Cell, TermFrame, Base, base, State, fold_factors, fold_shares, fold_parts, fold_lefts, fold_before, up_to_with, up_to_sum, up_to_formula, fold_cells, Shut, at_bottom, at_bracket, at_brace, shut, shut_whole, shut_right, shut_brace, Closed, closed, shut_end, term_closed, step, final, Hole, first_hole, times_hole, sum_hole, both_hole, LeadHole, lead_times, lead_sum, lead_both, Side, value_of, test_of, Around, on_right, within, Inside, in_lead, in_item}
+use Rattle.ll_parser.proofs.machines.Machine.{Factor, factor, Share, share, Part, Left, implying, Before, nothing, after_clause, Scope, scope, fresh, Frame}
+use Rattle.ll_parser.proofs.machines.Machine.{Cell, TermFrame, Base, base, State, fold_factors, fold_shares, fold_parts, fold_lefts, fold_before, up_to_with}
+use Rattle.ll_parser.proofs.machines.Machine.{up_to_sum, up_to_formula, fold_cells, Shut, at_bottom, at_bracket, at_brace, shut, shut_whole, shut_right}
+use Rattle.ll_parser.proofs.machines.Machine.{shut_brace, Closed, closed, shut_end, term_closed, step, final, Hole, first_hole, times_hole, sum_hole}
+use Rattle.ll_parser.proofs.machines.Machine.{both_hole, LeadHole, lead_times, lead_sum, lead_both, Side, value_of, test_of, Around, on_right, within, Inside}
+use Rattle.ll_parser.proofs.machines.Machine.{in_lead, in_item}
 use Rattle.ll_parser.specs.declared.Level.{Level}
 use Rattle.ll_parser.specs.declared.Level.TheVariants as level
-use Rattle.ll_parser.specs.Flat.{Pending, operand, loading, in_bracket, in_brace, in_quantifier, in_atom, in_argument, in_group, cell, Flat, want, part, whole, binder, slash, term_want, term_part, term_whole, op_taken, reduce, gather, push, close_bracket, close_brace, close_term, end_with, admits_load, begin_load, operate, term_operate, flat_step, flat_final, added, multiplied, valuing, testing, in_expression, in_left_side, plain, led, lead_want, item_want, item, take_product, take_sum, take_both, multiply, add, test, after_word, end_expression, final_expression}
+use Rattle.ll_parser.specs.Flat.{Pending, operand, loading, in_bracket, in_brace, in_quantifier, in_atom, in_argument, in_group, cell, Flat, want, part, whole}
+use Rattle.ll_parser.specs.Flat.{binder, slash, term_want, term_part, term_whole, op_taken, reduce, gather, push, close_bracket, close_brace, close_term}
+use Rattle.ll_parser.specs.Flat.{end_with, admits_load, begin_load, operate, term_operate, flat_step, flat_final, added, multiplied, valuing, testing}
+use Rattle.ll_parser.specs.Flat.{in_expression, in_left_side, plain, led, lead_want, item_want, item, take_product, take_sum, take_both, multiply, add, test}
+use Rattle.ll_parser.specs.Flat.{after_word, end_expression, final_expression}
 
 abbrev pub flat_factors : List Factor → List Pending → List Pending
 flat_factors [] k = k
@@ -132,31 +149,37 @@ flat_shut (at_brace f at s k) = (formula_raw f, in_brace at ∷ flat_scope s (fl
 
 -- ---- reducing takes what folding takes
 
-reduce-factors : {o : Bool} (l : Level) (ps : List Factor) (t : Tensor o) (k : List Pending) → reduce l (tensor_raw t) (flat_factors ps k) ≡ reduce l (tensor_raw (fold_factors ps t)) k
+reduce-factors : {o : Bool} (l : Level) (ps : List Factor) (t : Tensor o) (k : List Pending)
+    → reduce l (tensor_raw t) (flat_factors ps k) ≡ reduce l (tensor_raw (fold_factors ps t)) k
 reduce-factors l [] t k = refl
 reduce-factors l (factor p at ∷ ps) t k = reduce-factors l ps (times p at t) k
 
-reduce-shares : {o : Bool} (l : Level) (qs : List Share) (w : With o) (k : List Pending) → op_taken l op.With ≡ true → reduce l (with_raw w) (flat_shares qs k) ≡ reduce l (with_raw (fold_shares qs w)) k
+reduce-shares : {o : Bool} (l : Level) (qs : List Share) (w : With o) (k : List Pending) → op_taken l op.With ≡ true
+    → reduce l (with_raw w) (flat_shares qs k) ≡ reduce l (with_raw (fold_shares qs w)) k
 reduce-shares l [] w k h = refl
 reduce-shares l (share t at ∷ qs) w k h = rw h (reduce-shares l qs (with t at w) k h)
 
-reduce-parts : {o : Bool} (l : Level) (ws : List Part) (s : Sum o) (k : List Pending) → op_taken l op.Plus ≡ true → reduce l (sum_raw s) (flat_parts ws k) ≡ reduce l (sum_raw (fold_parts ws s)) k
+reduce-parts : {o : Bool} (l : Level) (ws : List Part) (s : Sum o) (k : List Pending) → op_taken l op.Plus ≡ true
+    → reduce l (sum_raw s) (flat_parts ws k) ≡ reduce l (sum_raw (fold_parts ws s)) k
 reduce-parts l [] s k h = refl
 reduce-parts l (m.part w at ∷ ws) s k h = rw h (reduce-parts l ws (plus w at s) k h)
 
-reduce-lefts-clause : {o : Bool} (ls : List Left) (a : Arrow o) (k : List Pending) → reduce level.Clause (arrow_raw a) (flat_lefts ls k) ≡ reduce level.Clause (arrow_raw (fold_lefts ls a)) k
+reduce-lefts-clause : {o : Bool} (ls : List Left) (a : Arrow o) (k : List Pending)
+    → reduce level.Clause (arrow_raw a) (flat_lefts ls k) ≡ reduce level.Clause (arrow_raw (fold_lefts ls a)) k
 reduce-lefts-clause [] a k = refl
 reduce-lefts-clause (implying s by_lolli at ∷ ls) a k = reduce-lefts-clause ls (implies s by_lolli at a) k
 reduce-lefts-clause (implying s by_right at ∷ ls) a k = reduce-lefts-clause ls (implies s by_right at a) k
 reduce-lefts-clause (m.loading n ss at ∷ ls) a k = reduce-lefts-clause ls (loads n ss at a) k
 
-reduce-lefts-close : {o : Bool} (ls : List Left) (a : Arrow o) (k : List Pending) → reduce level.Close (arrow_raw a) (flat_lefts ls k) ≡ reduce level.Close (arrow_raw (fold_lefts ls a)) k
+reduce-lefts-close : {o : Bool} (ls : List Left) (a : Arrow o) (k : List Pending)
+    → reduce level.Close (arrow_raw a) (flat_lefts ls k) ≡ reduce level.Close (arrow_raw (fold_lefts ls a)) k
 reduce-lefts-close [] a k = refl
 reduce-lefts-close (implying s by_lolli at ∷ ls) a k = reduce-lefts-close ls (implies s by_lolli at a) k
 reduce-lefts-close (implying s by_right at ∷ ls) a k = reduce-lefts-close ls (implies s by_right at a) k
 reduce-lefts-close (m.loading n ss at ∷ ls) a k = reduce-lefts-close ls (loads n ss at a) k
 
-before-clause : {o : Bool} (b : Before) (a : Arrow o) (k : List Frame) → reduce level.Clause (arrow_raw a) (flat_before b (flat_frames k)) ≡ (formula_raw (fold_before b a), flat_frames k)
+before-clause : {o : Bool} (b : Before) (a : Arrow o) (k : List Frame)
+    → reduce level.Clause (arrow_raw a) (flat_before b (flat_frames k)) ≡ (formula_raw (fold_before b a), flat_frames k)
 before-clause nothing a [] = refl
 before-clause nothing a (m.in_bracket at s ∷ k) = refl
 before-clause nothing a (m.in_brace at s ∷ k) = refl
@@ -170,12 +193,14 @@ before-clause (after_clause f by_left at) a (m.in_bracket x s ∷ k) = refl
 before-clause (after_clause f by_left at) a (m.in_brace x s ∷ k) = refl
 before-clause (after_clause f by_left at) a (m.in_quantifier q x w sl s ∷ k) = refl
 
-before-close : {o : Bool} (b : Before) (a : Arrow o) (k : List Pending) → reduce level.Close (arrow_raw a) (flat_before b k) ≡ reduce level.Close (formula_raw (fold_before b a)) k
+before-close : {o : Bool} (b : Before) (a : Arrow o) (k : List Pending)
+    → reduce level.Close (arrow_raw a) (flat_before b k) ≡ reduce level.Close (formula_raw (fold_before b a)) k
 before-close nothing a k = refl
 before-close (after_clause f by_colon at) a k = refl
 before-close (after_clause f by_left at) a k = refl
 
-reduce-scope : {o : Bool} (s : Scope) (p : Primary o) (k : List Pending) → reduce level.Close (primary_raw p) (flat_scope s k) ≡ reduce level.Close (formula_raw (up_to_formula s p)) k
+reduce-scope : {o : Bool} (s : Scope) (p : Primary o) (k : List Pending)
+    → reduce level.Close (primary_raw p) (flat_scope s k) ≡ reduce level.Close (formula_raw (up_to_formula s p)) k
 reduce-scope (scope b ls ws qs ps) p k =
     reduce-factors level.Close ps (of_primary p) (flat_shares qs (flat_parts ws (flat_lefts ls (flat_before b k))))
     ∙ reduce-shares level.Close qs (of_tensor (fold_factors ps (of_primary p))) (flat_parts ws (flat_lefts ls (flat_before b k))) refl
@@ -187,10 +212,13 @@ reduce-frames : {o : Bool} (k : List Frame) (f : Formula o) → reduce level.Clo
 reduce-frames [] f = refl
 reduce-frames (m.in_bracket at s ∷ k) f = refl
 reduce-frames (m.in_brace at s ∷ k) f = refl
-reduce-frames (m.in_quantifier quantifier.Forall at w sl s ∷ k) f = reduce-scope s (quantified quantifier.Forall at w sl f) (flat_frames k) ∙ reduce-frames k (up_to_formula s (quantified quantifier.Forall at w sl f))
-reduce-frames (m.in_quantifier quantifier.Exists at w sl s ∷ k) f = reduce-scope s (quantified quantifier.Exists at w sl f) (flat_frames k) ∙ reduce-frames k (up_to_formula s (quantified quantifier.Exists at w sl f))
+reduce-frames (m.in_quantifier quantifier.Forall at w sl s ∷ k) f =
+    reduce-scope s (quantified quantifier.Forall at w sl f) (flat_frames k) ∙ reduce-frames k (up_to_formula s (quantified quantifier.Forall at w sl f))
+reduce-frames (m.in_quantifier quantifier.Exists at w sl s ∷ k) f =
+    reduce-scope s (quantified quantifier.Exists at w sl f) (flat_frames k) ∙ reduce-frames k (up_to_formula s (quantified quantifier.Exists at w sl f))
 
-pub reduce-whole : (p : Primary false) (s : Scope) (k : List Frame) → reduce level.Close (primary_raw p) (flat_scope s (flat_frames k)) ≡ flat_shut (shut_whole p s k)
+pub reduce-whole : (p : Primary false) (s : Scope) (k : List Frame)
+    → reduce level.Close (primary_raw p) (flat_scope s (flat_frames k)) ≡ flat_shut (shut_whole p s k)
 reduce-whole p s k = reduce-scope s p (flat_frames k) ∙ reduce-frames k (up_to_formula s p)
 
 -- ---- a level stops at what is looser
@@ -205,7 +233,8 @@ frames-stop level.Arrow r (m.in_quantifier q at w sl s ∷ k) h = refl
 frames-stop level.Clause r (m.in_quantifier q at w sl s ∷ k) h = refl
 frames-stop level.Close r (m.in_quantifier q at w sl s ∷ k) h = absurd (h refl)
 
-arrow-stops : (r : Raw) (ls : List Left) (b : Before) (k : List Frame) → reduce level.Arrow r (flat_lefts ls (flat_before b (flat_frames k))) ≡ (r, flat_lefts ls (flat_before b (flat_frames k)))
+arrow-stops : (r : Raw) (ls : List Left) (b : Before) (k : List Frame)
+    → reduce level.Arrow r (flat_lefts ls (flat_before b (flat_frames k))) ≡ (r, flat_lefts ls (flat_before b (flat_frames k)))
 arrow-stops r (implying s by_lolli at ∷ ls) b k = refl
 arrow-stops r (implying s by_right at ∷ ls) b k = refl
 arrow-stops r (m.loading n ss at ∷ ls) b k = refl
@@ -213,7 +242,9 @@ arrow-stops r [] (after_clause f by_colon at) k = refl
 arrow-stops r [] (after_clause f by_left at) k = refl
 arrow-stops r [] nothing k = frames-stop level.Arrow r k (λ e. absurd cc)
 
-semicolon-stops : (r : Raw) (ws : List Part) (ls : List Left) (b : Before) (k : List Frame) → reduce level.Semicolon r (flat_parts ws (flat_lefts ls (flat_before b (flat_frames k)))) ≡ (r, flat_parts ws (flat_lefts ls (flat_before b (flat_frames k))))
+semicolon-stops : (r : Raw) (ws : List Part) (ls : List Left) (b : Before) (k : List Frame)
+    → reduce level.Semicolon r (flat_parts ws (flat_lefts ls (flat_before b (flat_frames k))))
+    ≡ (r, flat_parts ws (flat_lefts ls (flat_before b (flat_frames k))))
 semicolon-stops r (m.part w at ∷ ws) ls b k = refl
 semicolon-stops r [] (implying s by_lolli at ∷ ls) b k = refl
 semicolon-stops r [] (implying s by_right at ∷ ls) b k = refl
@@ -222,7 +253,9 @@ semicolon-stops r [] [] (after_clause f by_colon at) k = refl
 semicolon-stops r [] [] (after_clause f by_left at) k = refl
 semicolon-stops r [] [] nothing k = frames-stop level.Semicolon r k (λ e. absurd cc)
 
-ampersand-stops : (r : Raw) (qs : List Share) (ws : List Part) (ls : List Left) (b : Before) (k : List Frame) → reduce level.Ampersand r (flat_shares qs (flat_parts ws (flat_lefts ls (flat_before b (flat_frames k))))) ≡ (r, flat_shares qs (flat_parts ws (flat_lefts ls (flat_before b (flat_frames k)))))
+ampersand-stops : (r : Raw) (qs : List Share) (ws : List Part) (ls : List Left) (b : Before) (k : List Frame)
+    → reduce level.Ampersand r (flat_shares qs (flat_parts ws (flat_lefts ls (flat_before b (flat_frames k)))))
+    ≡ (r, flat_shares qs (flat_parts ws (flat_lefts ls (flat_before b (flat_frames k)))))
 ampersand-stops r (share t at ∷ qs) ws ls b k = refl
 ampersand-stops r [] (m.part w at ∷ ws) ls b k = refl
 ampersand-stops r [] [] (implying s by_lolli at ∷ ls) b k = refl
@@ -252,14 +285,17 @@ end-shut (at_bottom f) = refl
 end-shut (at_bracket f x s k) = refl
 end-shut (at_brace f x s k) = refl
 
-up-to-sum : (p : Primary false) (b : Before) (ls : List Left) (ws : List Part) (qs : List Share) (ps : List Factor) (k : List Frame) → reduce level.Arrow (primary_raw p) (flat_scope (scope b ls ws qs ps) (flat_frames k)) ≡ (sum_raw (up_to_sum ws qs ps p), flat_lefts ls (flat_before b (flat_frames k)))
+up-to-sum : (p : Primary false) (b : Before) (ls : List Left) (ws : List Part) (qs : List Share) (ps : List Factor) (k : List Frame)
+    → reduce level.Arrow (primary_raw p) (flat_scope (scope b ls ws qs ps) (flat_frames k))
+    ≡ (sum_raw (up_to_sum ws qs ps p), flat_lefts ls (flat_before b (flat_frames k)))
 up-to-sum p b ls ws qs ps k =
     reduce-factors level.Arrow ps (of_primary p) (flat_shares qs (flat_parts ws (flat_lefts ls (flat_before b (flat_frames k)))))
     ∙ reduce-shares level.Arrow qs (of_tensor (fold_factors ps (of_primary p))) (flat_parts ws (flat_lefts ls (flat_before b (flat_frames k)))) refl
     ∙ reduce-parts level.Arrow ws (of_with (up_to_with qs ps p)) (flat_lefts ls (flat_before b (flat_frames k))) refl
     ∙ arrow-stops (sum_raw (up_to_sum ws qs ps p)) ls b k
 
-up-to-clause : (p : Primary false) (s : Scope) (k : List Frame) → reduce level.Clause (primary_raw p) (flat_scope s (flat_frames k)) ≡ (formula_raw (up_to_formula s p), flat_frames k)
+up-to-clause : (p : Primary false) (s : Scope) (k : List Frame)
+    → reduce level.Clause (primary_raw p) (flat_scope s (flat_frames k)) ≡ (formula_raw (up_to_formula s p), flat_frames k)
 up-to-clause p (scope b ls ws qs ps) k =
     reduce-factors level.Clause ps (of_primary p) (flat_shares qs (flat_parts ws (flat_lefts ls (flat_before b (flat_frames k)))))
     ∙ reduce-shares level.Clause qs (of_tensor (fold_factors ps (of_primary p))) (flat_parts ws (flat_lefts ls (flat_before b (flat_frames k)))) refl
@@ -267,10 +303,16 @@ up-to-clause p (scope b ls ws qs ps) k =
     ∙ reduce-lefts-clause ls (of_sum (up_to_sum ws qs ps p)) (flat_before b (flat_frames k))
     ∙ before-clause b (fold_lefts ls (of_sum (up_to_sum ws qs ps p))) k
 
-operate-agrees : (p : Primary false) (s : Scope) (k : List Frame) (t : Tok) → operate (primary_raw p) (flat_scope s (flat_frames k)) t ≡ option_map flat (m.operate p s k t)
+operate-agrees : (p : Primary false) (s : Scope) (k : List Frame) (t : Tok)
+    → operate (primary_raw p) (flat_scope s (flat_frames k)) t ≡ option_map flat (m.operate p s k t)
 operate-agrees p (scope b ls ws qs ps) k (comma at) = refl
-operate-agrees p (scope b ls ws qs ps) k (ampersand at) = ap (push op.With at) (reduce-factors level.Ampersand ps (of_primary p) (flat_shares qs (flat_parts ws (flat_lefts ls (flat_before b (flat_frames k))))) ∙ ampersand-stops (tensor_raw (fold_factors ps (of_primary p))) qs ws ls b k)
-operate-agrees p (scope b ls ws qs ps) k (semicolon at) = ap (push op.Plus at) (reduce-factors level.Semicolon ps (of_primary p) (flat_shares qs (flat_parts ws (flat_lefts ls (flat_before b (flat_frames k))))) ∙ reduce-shares level.Semicolon qs (of_tensor (fold_factors ps (of_primary p))) (flat_parts ws (flat_lefts ls (flat_before b (flat_frames k)))) refl ∙ semicolon-stops (with_raw (up_to_with qs ps p)) ws ls b k)
+operate-agrees p (scope b ls ws qs ps) k (ampersand at) = ap (push op.With at)
+    (reduce-factors level.Ampersand ps (of_primary p) (flat_shares qs (flat_parts ws (flat_lefts ls (flat_before b (flat_frames k)))))
+    ∙ ampersand-stops (tensor_raw (fold_factors ps (of_primary p))) qs ws ls b k)
+operate-agrees p (scope b ls ws qs ps) k (semicolon at) = ap (push op.Plus at)
+    (reduce-factors level.Semicolon ps (of_primary p) (flat_shares qs (flat_parts ws (flat_lefts ls (flat_before b (flat_frames k)))))
+    ∙ reduce-shares level.Semicolon qs (of_tensor (fold_factors ps (of_primary p))) (flat_parts ws (flat_lefts ls (flat_before b (flat_frames k)))) refl
+    ∙ semicolon-stops (with_raw (up_to_with qs ps p)) ws ls b k)
 operate-agrees p (scope b ls ws qs ps) k (lolli at) = ap (push op.Lolli at) (up-to-sum p b ls ws qs ps k)
 operate-agrees p (scope b ls ws qs ps) k (right_arrow at) = ap (push op.RightArrow at) (up-to-sum p b ls ws qs ps k)
 operate-agrees p s k (colon_dash at) = ap (push op.ColonDash at) (up-to-clause p s k)
@@ -290,7 +332,8 @@ load-scope [] nothing (m.in_bracket at s ∷ k) = refl
 load-scope [] nothing (m.in_brace at s ∷ k) = refl
 load-scope [] nothing (m.in_quantifier q at w sl s ∷ k) = refl
 
-load-agrees : (n : Identifier) (ss : Simples) (at : Place) (s : Scope) (k : List Frame) → begin_load (lower n) (simples_raws ss) at (flat_scope s (flat_frames k)) ≡ option_map flat (m.load_in n ss at s k)
+load-agrees : (n : Identifier) (ss : Simples) (at : Place) (s : Scope) (k : List Frame)
+    → begin_load (lower n) (simples_raws ss) at (flat_scope s (flat_frames k)) ≡ option_map flat (m.load_in n ss at s k)
 load-agrees n ss at (scope b ls [] [] []) k = rw (load-scope ls b k) refl
 load-agrees n ss at (scope b ls [] [] (factor p x ∷ ps)) k = refl
 load-agrees n ss at (scope b ls [] (share t x ∷ qs) []) k = refl
@@ -309,13 +352,16 @@ gather-stops r [] (base at w ss s k) = refl
 gather-stops r (m.in_argument at w ss cs ∷ tk) b = refl
 gather-stops r (m.in_group at cs ∷ tk) b = refl
 
-term-closes : (tk : List TermFrame) (b : Base) (t : Term) (end : Place) → close_term (term_raw t) (flat_terms tk (flat_base b)) ≡ Some (flat (term_closed tk b t end))
+term-closes : (tk : List TermFrame) (b : Base) (t : Term) (end : Place)
+    → close_term (term_raw t) (flat_terms tk (flat_base b)) ≡ Some (flat (term_closed tk b t end))
 term-closes [] (base at w ss s k) t end = refl
 term-closes (m.in_argument at w ss cs ∷ tk) b t end = refl
 term-closes (m.in_group at cs ∷ tk) b t end = refl
 
-app-agrees : (a : App) (cs : List Cell) (tk : List TermFrame) (b : Base) (end : Place) → term_operate (app_raw a) (flat_cells cs (flat_terms tk (flat_base b))) (paren_right end) ≡ Some (flat (term_closed tk b (fold_cells cs (of_app a)) end))
-app-agrees a cs tk b end = ap (λ q. close_term q.0 q.1) (gather-cells cs (of_app a) (flat_terms tk (flat_base b)) ∙ gather-stops (term_raw (fold_cells cs (of_app a))) tk b) ∙ term-closes tk b (fold_cells cs (of_app a)) end
+app-agrees : (a : App) (cs : List Cell) (tk : List TermFrame) (b : Base) (end : Place)
+    → term_operate (app_raw a) (flat_cells cs (flat_terms tk (flat_base b))) (paren_right end) ≡ Some (flat (term_closed tk b (fold_cells cs (of_app a)) end))
+app-agrees a cs tk b end = ap (λ q. close_term q.0 q.1) (gather-cells cs (of_app a) (flat_terms tk (flat_base b))
+    ∙ gather-stops (term_raw (fold_cells cs (of_app a))) tk b) ∙ term-closes tk b (fold_cells cs (of_app a)) end
 
 -- ---- expressions
 

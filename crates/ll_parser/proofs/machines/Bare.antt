@@ -1,7 +1,8 @@
 -- Places do not steer the machine: tokens that differ in their places alone give trees that differ in their places alone.
 use Rattle.std.proofs.Common.{◌≡◌, Bool, true, false, cond, List, [], ◌∷◌, Some, None, option_map, refl, ◌∙◌, ap}
 use Rattle.ll_lexer.specs.declared.Place.{Place}
-use Rattle.ll_parser.specs.Tokens.{Tok, name, variable, any, number, ampersand, semicolon, paren_left, paren_right, brace_right, backslash, cons_sign, colon_dash, left_arrow, right_arrow, lolli, load_arrow, is_sign, most_sign, less_sign, plus_sign, minus_sign, star_sign}
+use Rattle.ll_parser.specs.Tokens.{Tok, name, variable, any, number, ampersand, semicolon, paren_left, paren_right, brace_right, backslash, cons_sign}
+use Rattle.ll_parser.specs.Tokens.{colon_dash, left_arrow, right_arrow, lolli, load_arrow, is_sign, most_sign, less_sign, plus_sign, minus_sign, star_sign}
 use Rattle.ll_parser.specs.declared.Op.TheVariants as op
 use Rattle.ll_parser.specs.declared.Quantifier.TheVariants as quantifier
 use Rattle.ll_parser.specs.Raw.{Raw, head, anything, int, is_goal, less_goal, most_goal, RawList, none, more, raws_then, cons_raw}
@@ -9,7 +10,11 @@ use Rattle.ll_parser.specs.Grammar.{Word, lower, upper, word_identifier, by_plus
 use Rattle.ll_parser.specs.Bare.{nowhere, bare_identifier, bare_tok, bare_raw, bare_raws}
 use Rattle.ll_parser.specs.declared.Level.{Level}
 use Rattle.ll_parser.specs.declared.Level.TheVariants as level
-use Rattle.ll_parser.specs.Flat.{Pending, operand, loading, in_bracket, in_brace, in_quantifier, in_atom, in_argument, in_group, cell, added, multiplied, valuing, testing, in_expression, in_left_side, Flat, want, part, whole, binder, slash, term_want, term_part, term_whole, plain, led, lead_want, item_want, item, take_product, take_sum, take_both, multiply, add, test, after_plain, after_word, after_led, close_group, end_expression, after_item, final_expression, taken, build, reduce, gather, push, close_bracket, close_brace, close_term, end_with, admits_load, begin_load, operate, term_operate, flat_step, flat_final}
+use Rattle.ll_parser.specs.Flat.{Pending, operand, loading, in_bracket, in_brace, in_quantifier, in_atom, in_argument, in_group, cell, added, multiplied}
+use Rattle.ll_parser.specs.Flat.{valuing, testing, in_expression, in_left_side, Flat, want, part, whole, binder, slash, term_want, term_part, term_whole}
+use Rattle.ll_parser.specs.Flat.{plain, led, lead_want, item_want, item, take_product, take_sum, take_both, multiply, add, test, after_plain, after_word}
+use Rattle.ll_parser.specs.Flat.{after_led, close_group, end_expression, after_item, final_expression, taken, build, reduce, gather, push, close_bracket}
+use Rattle.ll_parser.specs.Flat.{close_brace, close_term, end_with, admits_load, begin_load, operate, term_operate, flat_step, flat_final}
 
 abbrev pub bare_word : Word → Word
 bare_word (lower n) = lower (bare_identifier n)
@@ -101,7 +106,8 @@ reduce-bare : (l : Level) (ps : List Pending) (r : Raw) → reduce l (bare_raw r
 reduce-bare l [] r = refl
 reduce-bare l (p ∷ ps) r = rw (taken-bare l p, build-bare p r) (by-test (taken l p) (reduce-bare l ps (build p r)))
   where
-    by-test : (v : Bool) → reduce l (bare_raw (build p r)) (bares ps) ≡ bare_pair (reduce l (build p r) ps) → cond v (reduce l (bare_raw (build p r)) (bares ps)) (bare_raw r, bare_pending p ∷ bares ps) ≡ bare_pair (cond v (reduce l (build p r) ps) (r, p ∷ ps))
+    by-test : (v : Bool) → reduce l (bare_raw (build p r)) (bares ps) ≡ bare_pair (reduce l (build p r) ps)
+        → cond v (reduce l (bare_raw (build p r)) (bares ps)) (bare_raw r, bare_pending p ∷ bares ps) ≡ bare_pair (cond v (reduce l (build p r) ps) (r, p ∷ ps))
     by-test true h = h
     by-test false h = refl
 
@@ -195,11 +201,13 @@ admits-bare (testing c at x ∷ ps) = refl
 admits-bare (in_expression ∷ ps) = refl
 admits-bare (in_left_side ∷ ps) = refl
 
-load-bare : (w : Word) (rs : RawList) (at : Place) (ps : List Pending) → begin_load (bare_word w) (bare_raws rs) nowhere (bares ps) ≡ option_map bare_flat (begin_load w rs at ps)
+load-bare : (w : Word) (rs : RawList) (at : Place) (ps : List Pending)
+    → begin_load (bare_word w) (bare_raws rs) nowhere (bares ps) ≡ option_map bare_flat (begin_load w rs at ps)
 load-bare (upper n) rs at ps = refl
 load-bare (lower n) rs at ps = rw (admits-bare ps) (by-test (admits_load ps))
   where
-    by-test : (v : Bool) → cond v (Some (want (loading nowhere (bare_identifier n) (bare_raws rs) ∷ bares ps))) None ≡ option_map bare_flat (cond v (Some (want (loading at n rs ∷ ps))) None)
+    by-test : (v : Bool) → cond v (Some (want (loading nowhere (bare_identifier n) (bare_raws rs) ∷ bares ps))) None
+        ≡ option_map bare_flat (cond v (Some (want (loading at n rs ∷ ps))) None)
     by-test true = refl
     by-test false = refl
 
@@ -210,8 +218,10 @@ operate-bare r ps (lolli at) = ap (push op.Lolli nowhere) (reduce-bare level.Arr
 operate-bare r ps (right_arrow at) = ap (push op.RightArrow nowhere) (reduce-bare level.Arrow ps r)
 operate-bare r ps (colon_dash at) = ap (push op.ColonDash nowhere) (reduce-bare level.Clause ps r)
 operate-bare r ps (left_arrow at) = ap (push op.LeftArrow nowhere) (reduce-bare level.Clause ps r)
-operate-bare r ps (paren_right at) = ap (λ q. close_bracket q.0 q.1) (reduce-bare level.Close ps r) ∙ bracket-bare (reduce level.Close r ps).0 (reduce level.Close r ps).1
-operate-bare r ps (brace_right at) = ap (λ q. close_brace q.0 q.1) (reduce-bare level.Close ps r) ∙ brace-bare (reduce level.Close r ps).0 (reduce level.Close r ps).1
+operate-bare r ps (paren_right at) = ap (λ q. close_bracket q.0 q.1) (reduce-bare level.Close ps r)
+    ∙ bracket-bare (reduce level.Close r ps).0 (reduce level.Close r ps).1
+operate-bare r ps (brace_right at) = ap (λ q. close_brace q.0 q.1) (reduce-bare level.Close ps r)
+    ∙ brace-bare (reduce level.Close r ps).0 (reduce level.Close r ps).1
 operate-bare r ps _ = refl
 
 term-operate-bare : (r : Raw) (ps : List Pending) (t : Tok) → term_operate (bare_raw r) (bares ps) (bare_tok t) ≡ option_map bare_flat (term_operate r ps t)
@@ -219,11 +229,14 @@ term-operate-bare r ps (cons_sign at) = refl
 term-operate-bare r ps (paren_right at) = ap (λ q. close_term q.0 q.1) (gather-bare ps r) ∙ term-bare (gather r ps).0 (gather r ps).1
 term-operate-bare r ps _ = refl
 
-part-bare : (w : Word) (rs : RawList) (ps : List Pending) (t : Tok) → operate (head (word_identifier (bare_word w)) (bare_raws rs)) (bares ps) (bare_tok t) ≡ option_map bare_flat (operate (head (word_identifier w) rs) ps t)
+part-bare : (w : Word) (rs : RawList) (ps : List Pending) (t : Tok)
+    → operate (head (word_identifier (bare_word w)) (bare_raws rs)) (bares ps) (bare_tok t) ≡ option_map bare_flat (operate (head (word_identifier w) rs) ps t)
 part-bare (lower n) rs ps t = operate-bare (head n rs) ps t
 part-bare (upper n) rs ps t = operate-bare (head n rs) ps t
 
-term-part-bare : (w : Word) (rs : RawList) (ps : List Pending) (t : Tok) → term_operate (head (word_identifier (bare_word w)) (bare_raws rs)) (bares ps) (bare_tok t) ≡ option_map bare_flat (term_operate (head (word_identifier w) rs) ps t)
+term-part-bare : (w : Word) (rs : RawList) (ps : List Pending) (t : Tok)
+    → term_operate (head (word_identifier (bare_word w)) (bare_raws rs)) (bares ps) (bare_tok t)
+    ≡ option_map bare_flat (term_operate (head (word_identifier w) rs) ps t)
 term-part-bare (lower n) rs ps t = term-operate-bare (head n rs) ps t
 term-part-bare (upper n) rs ps t = term-operate-bare (head n rs) ps t
 
@@ -383,8 +396,10 @@ final-expression-bare r (in_expression ∷ ps) = refl
 final-expression-bare r (in_left_side ∷ ps) = refl
 
 pub final-bare : (s : Flat) → flat_final (bare_flat s) ≡ option_map bare_raw (flat_final s)
-final-bare (part (lower n) rs ps) = ap (λ q. end_with q.0 q.1) (reduce-bare level.Close ps (head n rs)) ∙ end-bare (reduce level.Close (head n rs) ps).0 (reduce level.Close (head n rs) ps).1
-final-bare (part (upper n) rs ps) = ap (λ q. end_with q.0 q.1) (reduce-bare level.Close ps (head n rs)) ∙ end-bare (reduce level.Close (head n rs) ps).0 (reduce level.Close (head n rs) ps).1
+final-bare (part (lower n) rs ps) = ap (λ q. end_with q.0 q.1) (reduce-bare level.Close ps (head n rs))
+    ∙ end-bare (reduce level.Close (head n rs) ps).0 (reduce level.Close (head n rs) ps).1
+final-bare (part (upper n) rs ps) = ap (λ q. end_with q.0 q.1) (reduce-bare level.Close ps (head n rs))
+    ∙ end-bare (reduce level.Close (head n rs) ps).0 (reduce level.Close (head n rs) ps).1
 final-bare (whole r ps) = ap (λ q. end_with q.0 q.1) (reduce-bare level.Close ps r) ∙ end-bare (reduce level.Close r ps).0 (reduce level.Close r ps).1
 final-bare (want ps) = refl
 final-bare (binder q at ps) = refl

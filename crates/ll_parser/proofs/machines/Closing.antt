@@ -16,15 +16,19 @@ use Rattle.ll_parser.proofs.machines.Newest.{HasNewest, pending-none, pending-ne
 
 -- what answers none where nothing waits, and where the newest frame is of another kind
 module _ {A : Type 0} (close : Raw → List Pending → Option A) (w : Waiting) where
-  pub closes-none : w.frames.items ≡ [] → ((r : Raw) → close r [] ≡ None) → (r : List (List ℕ) → Raw) (texts : List (List ℕ)) → close (r (known texts)) (waiting (known texts) w) ≡ None
+  pub closes-none : w.frames.items ≡ [] → ((r : Raw) → close r [] ≡ None) → (r : List (List ℕ) → Raw) (texts : List (List ℕ))
+      → close (r (known texts)) (waiting (known texts) w) ≡ None
   closes-none e h r texts = rw (pending-none (known texts) w.forms w.args.items w.frames.items e) (h (r (known texts)))
 
-  pub closes-not : (f : Frame) → HasNewest w f → ((texts : List (List ℕ)) (trees : List Raw) (args : List RawAt) (ps : List Pending) (r : Raw) → close r (frame_view texts trees args f ∷ ps) ≡ None)
+  pub closes-not : (f : Frame) → HasNewest w f → ((texts : List (List ℕ)) (trees : List Raw) (args : List RawAt) (ps : List Pending) (r : Raw)
+      → close r (frame_view texts trees args f ∷ ps) ≡ None)
       → (r : List (List ℕ) → Raw) (texts : List (List ℕ)) → close (r (known texts)) (waiting (known texts) w) ≡ None
   closes-not f t h r texts =
-      rw (pending-newest (known texts) w.args.items w f t) (h (known texts) (raw_trees (known texts) w.forms) w.args.items (pending (known texts) w.forms (left w.args.items f) t.0) (r (known texts)))
+      rw (pending-newest (known texts) w.args.items w f t) (h (known texts) (raw_trees (known texts) w.forms) w.args.items
+      (pending (known texts) w.forms (left w.args.items f) t.0) (r (known texts)))
 
-pub no-bracket : (f : Frame) → (f ≡ frame.Bracket → ⊥) → (texts : List (List ℕ)) (trees : List Raw) (args : List RawAt) (ps : List Pending) (r : Raw) → close_bracket r (frame_view texts trees args f ∷ ps) ≡ None
+pub no-bracket : (f : Frame) → (f ≡ frame.Bracket → ⊥) → (texts : List (List ℕ)) (trees : List Raw) (args : List RawAt) (ps : List Pending) (r : Raw)
+    → close_bracket r (frame_view texts trees args f ∷ ps) ≡ None
 no-bracket (frame.Front (prefix.Operator o at l)) h texts trees args ps r = refl
 no-bracket (frame.Front (prefix.Load at name from)) h texts trees args ps r = refl
 no-bracket (frame.Front (prefix.Quantifier q at name)) h texts trees args ps r = refl
@@ -41,7 +45,8 @@ no-bracket (frame.Comparison o at first) h texts trees args ps r = refl
 no-bracket frame.NumberGroup h texts trees args ps r = refl
 no-bracket frame.LeadGroup h texts trees args ps r = refl
 
-pub no-brace : (f : Frame) → ((at : Place) → f ≡ frame.Brace at → ⊥) → (texts : List (List ℕ)) (trees : List Raw) (args : List RawAt) (ps : List Pending) (r : Raw) → close_brace r (frame_view texts trees args f ∷ ps) ≡ None
+pub no-brace : (f : Frame) → ((at : Place) → f ≡ frame.Brace at → ⊥)
+    → (texts : List (List ℕ)) (trees : List Raw) (args : List RawAt) (ps : List Pending) (r : Raw) → close_brace r (frame_view texts trees args f ∷ ps) ≡ None
 no-brace (frame.Front (prefix.Operator o at l)) h texts trees args ps r = refl
 no-brace (frame.Front (prefix.Load at name from)) h texts trees args ps r = refl
 no-brace (frame.Front (prefix.Quantifier q at name)) h texts trees args ps r = refl
@@ -58,7 +63,8 @@ no-brace (frame.Comparison o at first) h texts trees args ps r = refl
 no-brace frame.NumberGroup h texts trees args ps r = refl
 no-brace frame.LeadGroup h texts trees args ps r = refl
 
-pub no-term : (f : Frame) → ((x : Word) (from : ℕ) → f ≡ frame.Atom x from → ⊥) → ((x : Word) (from : ℕ) → f ≡ frame.Application x from → ⊥) → (f ≡ frame.Group → ⊥)
+pub no-term : (f : Frame) → ((x : Word) (from : ℕ) → f ≡ frame.Atom x from → ⊥) → ((x : Word) (from : ℕ) → f ≡ frame.Application x from → ⊥)
+    → (f ≡ frame.Group → ⊥)
     → (texts : List (List ℕ)) (trees : List Raw) (args : List RawAt) (ps : List Pending) (r : Raw) → close_term r (frame_view texts trees args f ∷ ps) ≡ None
 no-term (frame.Front (prefix.Operator o at l)) h i j texts trees args ps r = refl
 no-term (frame.Front (prefix.Load at name from)) h i j texts trees args ps r = refl
@@ -82,8 +88,10 @@ module _ (old new : Waiting) (i j : RawAt) (r : Reduced Close old new i j) where
       → (let q = reduce Close (tree (known texts) old i) (waiting (known texts) old) in end_with q.0 q.1) ≡ o
   end-with o texts e = ap (λ (q : Raw × List Pending). end_with q.0 q.1) (r.reduces texts) ∙ e
 
-  pub ends : new.frames.items ≡ [] → (texts : List (List ℕ)) → (let q = reduce Close (tree (known texts) old i) (waiting (known texts) old) in end_with q.0 q.1) ≡ Some (tree (known texts) new j)
+  pub ends : new.frames.items ≡ [] → (texts : List (List ℕ))
+      → (let q = reduce Close (tree (known texts) old i) (waiting (known texts) old) in end_with q.0 q.1) ≡ Some (tree (known texts) new j)
   ends e texts = end-with (Some (tree (known texts) new j)) texts (rw (pending-none (known texts) new.forms new.args.items new.frames.items e) refl)
 
-  pub ends-not : (f : Frame) → HasNewest new f → (texts : List (List ℕ)) → (let q = reduce Close (tree (known texts) old i) (waiting (known texts) old) in end_with q.0 q.1) ≡ None
+  pub ends-not : (f : Frame) → HasNewest new f → (texts : List (List ℕ))
+      → (let q = reduce Close (tree (known texts) old i) (waiting (known texts) old) in end_with q.0 q.1) ≡ None
   ends-not f t texts = end-with None texts (rw (pending-newest (known texts) new.args.items new f t) refl)

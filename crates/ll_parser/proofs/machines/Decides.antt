@@ -33,27 +33,34 @@ pub record Decides (l : Language) (F : Type 0) (begin : F) (next : F → Tok →
 
 -- ---- runs of any machine
 
-run-next : {S P : Type 0} (step : S → Tok → Option S) (final : S → Option P) (o : Option S) (ts us : List Tok) → ((s : S) → parse_by step final s (ts ++ us) ≡ option_and_then (λ n. parse_by step final n us) (run_by step s ts)) → option_and_then (λ n. parse_by step final n (ts ++ us)) o ≡ option_and_then (λ n. parse_by step final n us) (option_and_then (λ n. run_by step n ts) o)
+run-next : {S P : Type 0} (step : S → Tok → Option S) (final : S → Option P) (o : Option S) (ts us : List Tok)
+    → ((s : S) → parse_by step final s (ts ++ us) ≡ option_and_then (λ n. parse_by step final n us) (run_by step s ts))
+    → option_and_then (λ n. parse_by step final n (ts ++ us)) o ≡ option_and_then (λ n. parse_by step final n us) (option_and_then (λ n. run_by step n ts) o)
 run-next step final None ts us ih = refl
 run-next step final (Some s) ts us ih = ih s
 
-pub run-parse : {S P : Type 0} (step : S → Tok → Option S) (final : S → Option P) (ts us : List Tok) (s : S) → parse_by step final s (ts ++ us) ≡ option_and_then (λ n. parse_by step final n us) (run_by step s ts)
+pub run-parse : {S P : Type 0} (step : S → Tok → Option S) (final : S → Option P) (ts us : List Tok) (s : S)
+    → parse_by step final s (ts ++ us) ≡ option_and_then (λ n. parse_by step final n us) (run_by step s ts)
 run-parse step final [] us s = refl
 run-parse step final (t ∷ ts) us s = run-next step final (step s t) ts us (run-parse step final ts us)
 
-pub parse-run : {S P : Type 0} (step : S → Tok → Option S) (final : S → Option P) (s : S) (ts : List Tok) → parse_by step final s ts ≡ option_and_then final (run_by step s ts)
+pub parse-run : {S P : Type 0} (step : S → Tok → Option S) (final : S → Option P) (s : S) (ts : List Tok)
+    → parse_by step final s ts ≡ option_and_then final (run_by step s ts)
 parse-run step final s ts = ap (parse_by step final s) (sym (append-nil ts)) ∙ run-parse step final ts [] s
 
 snoc-one : {S : Type 0} (step : S → Tok → Option S) (o : Option S) → option_and_then (λ n. run_by step n []) o ≡ o
 snoc-one step None = refl
 snoc-one step (Some x) = refl
 
-snoc-more : {S : Type 0} (step : S → Tok → Option S) (o : Option S) (ts : List Tok) (t : Tok) → ((s : S) → run_by step s (ts ++ t ∷ []) ≡ option_and_then (λ n. step n t) (run_by step s ts)) → option_and_then (λ n. run_by step n (ts ++ t ∷ [])) o ≡ option_and_then (λ n. step n t) (option_and_then (λ n. run_by step n ts) o)
+snoc-more : {S : Type 0} (step : S → Tok → Option S) (o : Option S) (ts : List Tok) (t : Tok)
+    → ((s : S) → run_by step s (ts ++ t ∷ []) ≡ option_and_then (λ n. step n t) (run_by step s ts))
+    → option_and_then (λ n. run_by step n (ts ++ t ∷ [])) o ≡ option_and_then (λ n. step n t) (option_and_then (λ n. run_by step n ts) o)
 snoc-more step None ts t ih = refl
 snoc-more step (Some x) ts t ih = ih x
 
 -- one token more is one step more
-pub run-snoc : {S : Type 0} (step : S → Tok → Option S) (ts : List Tok) (t : Tok) (s : S) → run_by step s (ts ++ t ∷ []) ≡ option_and_then (λ n. step n t) (run_by step s ts)
+pub run-snoc : {S : Type 0} (step : S → Tok → Option S) (ts : List Tok) (t : Tok) (s : S)
+    → run_by step s (ts ++ t ∷ []) ≡ option_and_then (λ n. step n t) (run_by step s ts)
 run-snoc step [] t s = snoc-one step (step s t)
 run-snoc step (u ∷ ts) t s = snoc-more step (step s u) ts t (run-snoc step ts t)
 
@@ -69,7 +76,8 @@ none_of f (Some s) e = absurd cc
 -- ---- what such a machine says of tokens
 
 module _ (l : Language) (F : Type 0) (begin : F) (next : F → Tok → Option F) (end : F → Option l.Tree) (d : Decides l F begin next end) where
-  parse-next : (o : Option d.State) (ts xs : List Tok) → ((s : d.State) → IfSome (parse_by d.step d.final s ts) (λ p. l.tokens p ≡ d.so_far s ++ ts)) → (t : Tok) → IfSome o (λ n. d.so_far n ≡ xs ++ t ∷ []) → IfSome (option_and_then (λ n. parse_by d.step d.final n ts) o) (λ p. l.tokens p ≡ xs ++ t ∷ ts)
+  parse-next : (o : Option d.State) (ts xs : List Tok) → ((s : d.State) → IfSome (parse_by d.step d.final s ts) (λ p. l.tokens p ≡ d.so_far s ++ ts))
+      → (t : Tok) → IfSome o (λ n. d.so_far n ≡ xs ++ t ∷ []) → IfSome (option_and_then (λ n. parse_by d.step d.final n ts) o) (λ p. l.tokens p ≡ xs ++ t ∷ ts)
   parse-next None ts xs ih t h = tt
   parse-next (Some s) ts xs ih t h = let e : d.so_far s ++ ts ≡ xs ++ t ∷ ts = rw h (rw append_assoc refl) in rw (← e) (ih s)
 
@@ -88,7 +96,8 @@ module _ (l : Language) (F : Type 0) (begin : F) (next : F → Tok → Option F)
       some-is : {x y : l.Parse} → Some x ≡ Some y → x ≡ y
       some-is e = cc
 
-  next-agrees : (o : Option d.State) (ts : List Tok) → ((s : d.State) → run_by next (d.flat s) ts ≡ option_map d.flat (run_by d.step s ts)) → option_and_then (λ n. run_by next n ts) (option_map d.flat o) ≡ option_map d.flat (option_and_then (λ n. run_by d.step n ts) o)
+  next-agrees : (o : Option d.State) (ts : List Tok) → ((s : d.State) → run_by next (d.flat s) ts ≡ option_map d.flat (run_by d.step s ts))
+      → option_and_then (λ n. run_by next n ts) (option_map d.flat o) ≡ option_map d.flat (option_and_then (λ n. run_by d.step n ts) o)
   next-agrees None ts ih = refl
   next-agrees (Some s) ts ih = ih s
 
@@ -107,7 +116,8 @@ module _ (l : Language) (F : Type 0) (begin : F) (next : F → Tok → Option F)
   begins ts x e =
       let b = behind ts x e in
       let c = d.completes b.0 in
-      let p : parse_by d.step d.final d.start (ts ++ c.0) ≡ Some c.1 = run-parse d.step d.final ts c.0 d.start ∙ ap (option_and_then (λ n. parse_by d.step d.final n c.0)) b.1 ∙ c.2 in
+      let p : parse_by d.step d.final d.start (ts ++ c.0) ≡ Some c.1 =
+      run-parse d.step d.final ts c.0 d.start ∙ ap (option_and_then (λ n. parse_by d.step d.final n c.0)) b.1 ∙ c.2 in
       (c.0, c.1, sound (ts ++ c.0) c.1 p)
 
   begun : (o : Option d.State) (more : List Tok) (p : l.Parse) → option_and_then (λ n. parse_by d.step d.final n more) o ≡ Some p → (s : d.State) × (o ≡ Some s)

@@ -31,7 +31,9 @@ pending-newest texts args w f (rest, e) = ap (pending texts w.forms args) e ∙ 
 pub admits-none : (w : Waiting) → w.frames.items ≡ [] → (texts : List (List ℕ)) (from : ℕ) → true ≡ admits_load (waiting_below texts w from)
 admits-none w e texts from = rw (pending-none texts w.forms (take from w.args.items) w.frames.items e) refl
 
-pub admits-newest : (w : Waiting) (f : Frame) → HasNewest w f → (b : Bool) → ((texts : List (List ℕ)) (trees : List Raw) (args : List RawAt) (ps : List Pending) → b ≡ admits_load (frame_view texts trees args f ∷ ps)) → (texts : List (List ℕ)) (from : ℕ) → b ≡ admits_load (waiting_below texts w from)
+pub admits-newest : (w : Waiting) (f : Frame) → HasNewest w f → (b : Bool)
+    → ((texts : List (List ℕ)) (trees : List Raw) (args : List RawAt) (ps : List Pending) → b ≡ admits_load (frame_view texts trees args f ∷ ps))
+    → (texts : List (List ℕ)) (from : ℕ) → b ≡ admits_load (waiting_below texts w from)
 admits-newest w f t b h texts from = rw (pending-newest texts (take from w.args.items) w f t) (h _ _ _ _)
 
 -- ---- fronts of formulas
@@ -42,16 +44,21 @@ takes-none level w e = record { same = refl; reduces = λ texts r. rw (pending-n
 stays : (level : Level) (r : Raw) (p : Pending) (ps : List Pending) → taken level p ≡ false → reduce level r (p ∷ ps) ≡ (r, p ∷ ps)
 stays level r p ps e = rw e refl
 
-takes-stays : (level : Level) (w : Waiting) (f : Frame) → HasNewest w f → ((texts : List (List ℕ)) (trees : List Raw) (args : List RawAt) → taken level (frame_view texts trees args f) ≡ false) → TakesNone level w w
+takes-stays : (level : Level) (w : Waiting) (f : Frame) → HasNewest w f
+    → ((texts : List (List ℕ)) (trees : List Raw) (args : List RawAt) → taken level (frame_view texts trees args f) ≡ false) → TakesNone level w w
 takes-stays level w f t h = record {
   same = refl;
-  reduces = λ texts r. rw (pending-newest (known texts) w.args.items w f t) (stays level r (frame_view (known texts) (raw_trees (known texts) w.forms) w.args.items f) (pending (known texts) w.forms (left w.args.items f) t.0) (h (known texts) (raw_trees (known texts) w.forms) w.args.items));
+  reduces = λ texts r. rw (pending-newest (known texts) w.args.items w f t)
+      (stays level r (frame_view (known texts) (raw_trees (known texts) w.forms) w.args.items f) (pending (known texts) w.forms (left w.args.items f) t.0)
+      (h (known texts) (raw_trees (known texts) w.forms) w.args.items));
 }
 
-pub takes-not : (level : Level) (w : Waiting) (f : Frame) (p : Prefix) → HasNewest w f → f ≡ frame.Front p → ((texts : List (List ℕ)) (trees : List Raw) (args : List RawAt) → false ≡ taken level (prefix_view texts trees args p)) → TakesNone level w w
+pub takes-not : (level : Level) (w : Waiting) (f : Frame) (p : Prefix) → HasNewest w f → f ≡ frame.Front p
+    → ((texts : List (List ℕ)) (trees : List Raw) (args : List RawAt) → false ≡ taken level (prefix_view texts trees args p)) → TakesNone level w w
 takes-not level w f p t e h = takes-stays level w f t (λ texts trees args. ap (λ z. taken level (frame_view texts trees args z)) e ∙ sym (h texts trees args))
 
-no-front : (level : Level) (f : Frame) → ((p : Prefix) → f ≡ frame.Front p → ⊥) → (texts : List (List ℕ)) (trees : List Raw) (args : List RawAt) → taken level (frame_view texts trees args f) ≡ false
+no-front : (level : Level) (f : Frame) → ((p : Prefix) → f ≡ frame.Front p → ⊥) → (texts : List (List ℕ)) (trees : List Raw) (args : List RawAt)
+    → taken level (frame_view texts trees args f) ≡ false
 no-front level (frame.Front p) h texts trees args = absurd (h p refl)
 no-front level frame.Bracket h texts trees args = refl
 no-front level (frame.Brace at) h texts trees args = refl
@@ -74,14 +81,17 @@ pub record Reducing (level : Level) (old new : Waiting) (i j : RawAt) : Type 0 w
   pub fits : Fits new
   pub grows : Grows old.forms new.forms
   pub inside : IsNode new j
-  pub same : (texts : List (List ℕ)) → reduce level (tree (known texts) new j) (waiting (known texts) new) ≡ reduce level (tree (known texts) old i) (waiting (known texts) old)
+  pub same : (texts : List (List ℕ)) → reduce level (tree (known texts) new j) (waiting (known texts) new)
+      ≡ reduce level (tree (known texts) old i) (waiting (known texts) old)
 
 -- ---- cells
 
 pub no-cell-none : (w : Waiting) → w.frames.items ≡ [] → HasNoCell w w
 no-cell-none w e = record { same = refl; gathers = λ texts r. rw (pending-none (known texts) w.forms w.args.items w.frames.items e) refl }
 
-no-cell : (f : Frame) → ((at : Place) (l : RawAt) → f ≡ frame.Cell at l → ⊥) → (texts : List (List ℕ)) (trees : List Raw) (args : List RawAt) (ps : List Pending) (r : Raw) → gather r (frame_view texts trees args f ∷ ps) ≡ (r, frame_view texts trees args f ∷ ps)
+no-cell : (f : Frame) → ((at : Place) (l : RawAt) → f ≡ frame.Cell at l → ⊥)
+    → (texts : List (List ℕ)) (trees : List Raw) (args : List RawAt) (ps : List Pending) (r : Raw)
+    → gather r (frame_view texts trees args f ∷ ps) ≡ (r, frame_view texts trees args f ∷ ps)
 no-cell (frame.Front (prefix.Operator o at l)) h texts trees args ps r = refl
 no-cell (frame.Front (prefix.Load at name from)) h texts trees args ps r = refl
 no-cell (frame.Front (prefix.Quantifier q at name)) h texts trees args ps r = refl
@@ -101,7 +111,8 @@ no-cell frame.LeadGroup h texts trees args ps r = refl
 pub no-cell-other : (w : Waiting) (f : Frame) → HasNewest w f → ((at : Place) (l : RawAt) → f ≡ frame.Cell at l → ⊥) → HasNoCell w w
 no-cell-other w f t h = record {
   same = refl;
-  gathers = λ texts r. rw (pending-newest (known texts) w.args.items w f t) (no-cell f h (known texts) (raw_trees (known texts) w.forms) w.args.items (pending (known texts) w.forms (left w.args.items f) t.0) r);
+  gathers = λ texts r. rw (pending-newest (known texts) w.args.items w f t)
+      (no-cell f h (known texts) (raw_trees (known texts) w.forms) w.args.items (pending (known texts) w.forms (left w.args.items f) t.0) r);
 }
 
 -- after some steps of the loop the same is left to be gathered
@@ -109,4 +120,5 @@ pub record Gathering (old new : Waiting) (i j : RawAt) : Type 0 where
   pub fits : Fits new
   pub grows : Grows old.forms new.forms
   pub inside : IsNode new j
-  pub same : (texts : List (List ℕ)) → gather (tree (known texts) new j) (waiting (known texts) new) ≡ gather (tree (known texts) old i) (waiting (known texts) old)
+  pub same : (texts : List (List ℕ)) → gather (tree (known texts) new j) (waiting (known texts) new)
+      ≡ gather (tree (known texts) old i) (waiting (known texts) old)

@@ -15,7 +15,8 @@ use Rattle.ll_parser.specs.Raw.{Raw, sign_raw}
 use Rattle.ll_parser.specs.Grammar.{Word}
 use Rattle.ll_parser.specs.Flat.{Pending, take_product, take_sum, after_word, close_number, end_expression, final_expression}
 use Rattle.ll_parser.specs.Nodes.{identifier, raw_trees, raw_at}
-use Rattle.ll_parser.specs.Waiting.{known, args_view, frame_view, left, pending, waiting, tree, args_from, FitsBelow, IsBuilt, Takes, PoppedSign, TakesNothing, HasNoGoal}
+use Rattle.ll_parser.specs.Waiting.{known, args_view, frame_view, left, pending, waiting, tree, args_from, FitsBelow, IsBuilt, Takes, PoppedSign, TakesNothing}
+use Rattle.ll_parser.specs.Waiting.{HasNoGoal}
 use Rattle.ll_parser.proofs.machines.Newest.{HasNewest, pending-none, pending-newest}
 
 -- ---- signs

@@ -2,11 +2,14 @@
 use Rattle.std.proofs.Common.{◌≡◌, List, [], ◌∷◌, ◌++◌, Option, Some, None, option_and_then, refl, sym, ◌∙◌, ap, append_assoc, append-nil, subst, IfSome}
 use Rattle.ll_lexer.specs.declared.Place.{Place}
 use Rattle.ll_parser.specs.Tokens.{Identifier, Tok, name, variable, true_word, module_word, local_word, linear_word, dot}
-use Rattle.ll_parser.specs.Text.{Clause, plain, linear, Local, Module, Program, clause_tokens, names, variables, local_tokens, heading_tokens, clauses_tokens, locals_tokens, module_tokens, modules_tokens, program_tokens}
+use Rattle.ll_parser.specs.Text.{Clause, plain, linear, Local, Module, Program, clause_tokens, names, variables, local_tokens, heading_tokens, clauses_tokens}
+use Rattle.ll_parser.specs.Text.{locals_tokens, module_tokens, modules_tokens, program_tokens}
 use Rattle.ll_parser.proofs.machines.Machine.{State, Closed, closed, step, final, parse, run, start}
 use Rattle.ll_parser.proofs.machines.Sound.{so_far, step-adds}
 use Rattle.ll_parser.proofs.machines.Viable.{closed_tokens, final-tokens, can_end, run-parse}
-use Rattle.ll_parser.proofs.machines.ProgramMachine.{Done, top, within, Mark, unmarked, marked, Reading, boundary, wanting, inside, heading, params, localizing, locals, marked_clause, add_clause, next_module, next_local, enter, end_clause, move, whole_program, ending, read}
+use Rattle.ll_parser.proofs.machines.ProgramMachine.{Done, top, within, Mark, unmarked, marked, Reading, boundary, wanting, inside, heading, params}
+use Rattle.ll_parser.proofs.machines.ProgramMachine.{localizing, locals, marked_clause, add_clause, next_module, next_local, enter, end_clause, move}
+use Rattle.ll_parser.proofs.machines.ProgramMachine.{whole_program, ending, read}
 use Rattle.ll_parser.proofs.machines.ProgramFound.{run-inside, split-parse}
 
 abbrev pub done_tokens : Done → List Tok
@@ -28,11 +31,13 @@ tokens_so_far (locals at n ns cs ms h ls) = done_tokens (within cs ms h ls []) +
 
 clauses-append : (xs ys : List Clause) → clauses_tokens (xs ++ ys) ≡ clauses_tokens xs ++ clauses_tokens ys
 clauses-append [] ys = refl
-clauses-append (x ∷ xs) ys = ap (λ z. clause_tokens x ++ z) (clauses-append xs ys) ∙ sym (append_assoc (clause_tokens x) (clauses_tokens xs) (clauses_tokens ys))
+clauses-append (x ∷ xs) ys = ap (λ z. clause_tokens x ++ z) (clauses-append xs ys)
+    ∙ sym (append_assoc (clause_tokens x) (clauses_tokens xs) (clauses_tokens ys))
 
 modules-append : (xs ys : List Module) → modules_tokens (xs ++ ys) ≡ modules_tokens xs ++ modules_tokens ys
 modules-append [] ys = refl
-modules-append (x ∷ xs) ys = ap (λ z. module_tokens x ++ z) (modules-append xs ys) ∙ sym (append_assoc (module_tokens x) (modules_tokens xs) (modules_tokens ys))
+modules-append (x ∷ xs) ys = ap (λ z. module_tokens x ++ z) (modules-append xs ys)
+    ∙ sym (append_assoc (module_tokens x) (modules_tokens xs) (modules_tokens ys))
 
 locals-append : (xs ys : List Local) → locals_tokens (xs ++ ys) ≡ locals_tokens xs ++ locals_tokens ys
 locals-append [] ys = refl
@@ -53,11 +58,13 @@ add-clause-tokens (within cs ms h ls ds) c = simp (clauses-append ds (c ∷ []),
 abbrev pub Extends : List Tok → Tok → Option Reading → Type 0
 Extends xs t o = IfSome o (λ next. tokens_so_far next ≡ xs ++ t ∷ [])
 
-enter-extends : (k : Mark) (d : Done) (xs : List Tok) (t : Tok) (o : Option State) → IfSome o (λ next. so_far next ≡ xs ++ t ∷ []) → Extends (done_tokens d ++ (mark_tokens k ++ xs)) t (enter k d o)
+enter-extends : (k : Mark) (d : Done) (xs : List Tok) (t : Tok) (o : Option State) → IfSome o (λ next. so_far next ≡ xs ++ t ∷ [])
+    → Extends (done_tokens d ++ (mark_tokens k ++ xs)) t (enter k d o)
 enter-extends k d xs t None h = tt
 enter-extends k d xs t (Some n) h = simp (h, append_assoc)
 
-end-extends : (k : Mark) (d : Done) (xs : List Tok) (end : Place) (o : Option Closed) → IfSome o (λ f. closed_tokens f ≡ xs) → Extends (done_tokens d ++ (mark_tokens k ++ xs)) (dot end) (end_clause k d o end)
+end-extends : (k : Mark) (d : Done) (xs : List Tok) (end : Place) (o : Option Closed) → IfSome o (λ f. closed_tokens f ≡ xs)
+    → Extends (done_tokens d ++ (mark_tokens k ++ xs)) (dot end) (end_clause k d o end)
 end-extends k d xs end None h = tt
 end-extends unmarked d xs end (Some (closed f)) h = add-clause-tokens d (plain f end) ∙ simp (h, append_assoc)
 end-extends (marked at) d xs end (Some (closed f)) h = add-clause-tokens d (linear at f end) ∙ simp (h, append_assoc)
@@ -72,7 +79,8 @@ next-local-extends at (within cs ms h ls []) = refl
 next-local-extends at (within cs ms h ls (d ∷ ds)) = tt
 
 start-extends : (d : Done) (t : Tok) → Extends (done_tokens d) t (enter unmarked d (step start t))
-start-extends d t = subst (λ xs. Extends xs t (enter unmarked d (step start t))) (append-nil (done_tokens d)) (enter-extends unmarked d [] t (step start t) (step-adds start t))
+start-extends d t = subst (λ xs. Extends xs t (enter unmarked d (step start t))) (append-nil (done_tokens d))
+    (enter-extends unmarked d [] t (step start t) (step-adds start t))
 
 pub move-extends : (r : Reading) (t : Tok) → Extends (tokens_so_far r) t (move r t)
 move-extends (boundary d) (linear_word at) = refl
@@ -90,7 +98,11 @@ move-extends (params at n ns cs ms) _ = tt
 move-extends (localizing at cs ms h ls) (name n) = simp append_assoc
 move-extends (localizing at cs ms h ls) _ = tt
 move-extends (locals at n ns cs ms h ls) (name x) = simp (names-append ns (x ∷ []), append_assoc)
-move-extends (locals at n ns cs ms h ls) (dot end) = simp (locals-append ls (record { word = at; first = n; others = ns; end = end } ∷ []), append_assoc, append-nil)
+move-extends (locals at n ns cs ms h ls) (dot end) = simp (
+  locals-append ls (record { word = at; first = n; others = ns; end = end } ∷ []),
+  append_assoc,
+  append-nil,
+)
 move-extends (locals at n ns cs ms h ls) _ = tt
 
 whole-tokens : (d : Done) → program_tokens (whole_program d) ≡ done_tokens d
@@ -106,7 +118,8 @@ ending-tokens (params at n ns cs ms) = tt
 ending-tokens (localizing at cs ms h ls) = tt
 ending-tokens (locals at n ns cs ms h ls) = tt
 
-read-next : (o : Option Reading) (ts xs : List Tok) → ((r : Reading) → IfSome (read r ts) (λ p. program_tokens p ≡ tokens_so_far r ++ ts)) → (t : Tok) → Extends xs t o → IfSome (option_and_then (λ next. read next ts) o) (λ p. program_tokens p ≡ xs ++ t ∷ ts)
+read-next : (o : Option Reading) (ts xs : List Tok) → ((r : Reading) → IfSome (read r ts) (λ p. program_tokens p ≡ tokens_so_far r ++ ts)) → (t : Tok)
+    → Extends xs t o → IfSome (option_and_then (λ next. read next ts) o) (λ p. program_tokens p ≡ xs ++ t ∷ ts)
 read-next None ts xs ih t h = tt
 read-next (Some r) ts xs ih t h = let e : tokens_so_far r ++ ts ≡ xs ++ t ∷ ts = rw h (rw append_assoc refl) in rw (← e) (ih r)
 

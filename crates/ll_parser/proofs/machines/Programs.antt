@@ -11,7 +11,8 @@ use Rattle.ll_parser.specs.FlatText as f
 use Rattle.ll_parser.proofs.machines.Machine.{State, Closed, closed, step, final, start}
 use Rattle.ll_parser.proofs.machines.Agrees.{flat, closed_raw, step-agrees, final-agrees}
 use Rattle.ll_parser.proofs.machines.ProgramMachine as m
-use Rattle.ll_parser.proofs.machines.ProgramMachine.{Done, top, within, Mark, unmarked, marked, Reading, boundary, wanting, inside, heading, params, localizing, locals, marked_clause, next_module, next_local, move, whole_program, ending}
+use Rattle.ll_parser.proofs.machines.ProgramMachine.{Done, top, within, Mark, unmarked, marked, Reading, boundary, wanting, inside, heading, params}
+use Rattle.ll_parser.proofs.machines.ProgramMachine.{localizing, locals, marked_clause, next_module, next_local, move, whole_program, ending}
 use Rattle.ll_parser.proofs.machines.ProgramFound.{program-found}
 use Rattle.ll_parser.proofs.machines.ProgramAdds.{tokens_so_far, move-extends, ending-tokens, can_stop}
 use Rattle.ll_parser.proofs.machines.Decides.{Decides}
@@ -41,49 +42,83 @@ flat_program (boundary d) = record { whole = done_whole d; current = done_module
 flat_program (wanting at d) = record { whole = done_whole d; current = done_module d; phase = f.wanting }
 flat_program (inside k d s) = record { whole = done_whole d; current = done_module d; phase = f.inside (is_marked k) (flat s) }
 flat_program (heading at cs ms) = record { whole = flat_whole cs ms; current = None; phase = f.heading }
-flat_program (params at n ns cs ms) = record { whole = flat_whole cs ms; current = Some (record { name = n; params = ns; locals = []; clauses = [] }); phase = f.params }
+flat_program (params at n ns cs ms) = record {
+  whole = flat_whole cs ms;
+  current = Some (record { name = n; params = ns; locals = []; clauses = [] });
+  phase =
+      f.params;
+}
 flat_program (localizing at cs ms h ls) = record { whole = flat_whole cs ms; current = Some (flat_module h ls []); phase = f.localizing }
-flat_program (locals at n ns cs ms h ls) = record { whole = flat_whole cs ms; current = Some (record { name = h.name; params = h.params; locals = locals_of ls ++ n ∷ ns; clauses = [] }); phase = f.locals }
+flat_program (locals at n ns cs ms h ls) = record {
+  whole = flat_whole cs ms;
+  current =
+      Some (record { name = h.name; params = h.params; locals = locals_of ls ++ n ∷ ns; clauses = [] });
+  phase = f.locals;
+}
 
 -- ---- lists with one more
 
 locals-then : (ls : List Local) (l : Local) → locals_of (ls ++ l ∷ []) ≡ locals_of ls ++ l.first ∷ l.others
 locals-then [] l = ap (λ z. l.first ∷ z) (append-nil l.others)
-locals-then (k ∷ ls) l = ap (λ z. k.first ∷ (k.others ++ z)) (locals-then ls l) ∙ ap (λ z. k.first ∷ z) (sym (append_assoc k.others (locals_of ls) (l.first ∷ l.others)))
+locals-then (k ∷ ls) l = ap (λ z. k.first ∷ (k.others ++ z)) (locals-then ls l)
+    ∙ ap (λ z. k.first ∷ z) (sym (append_assoc k.others (locals_of ls) (l.first ∷ l.others)))
 
 -- ---- steps
 
-enter-agrees : (k : Mark) (d : Done) (o : Option State) → enter (done_whole d) (done_module d) (is_marked k) (option_map flat o) ≡ option_map flat_program (m.enter k d o)
+enter-agrees : (k : Mark) (d : Done) (o : Option State) → enter (done_whole d) (done_module d) (is_marked k) (option_map flat o)
+    ≡ option_map flat_program (m.enter k d o)
 enter-agrees k d None = refl
 enter-agrees k d (Some s) = refl
 
-add-agrees : (k : Mark) (d : Done) (c : Closed) (end : Place) → f.add_clause (done_whole d) (done_module d) (record { linear = is_marked k; form = closed_raw c }) ≡ flat_program (boundary (m.add_clause d (marked_clause k c end)))
-add-agrees unmarked (top cs) (closed g) end = ap (λ z. record { whole = record { clauses = z; modules = [] }; current = None; phase = f.boundary }) (sym (map-append clause_tree cs (plain g end ∷ [])))
-add-agrees (marked at) (top cs) (closed g) end = ap (λ z. record { whole = record { clauses = z; modules = [] }; current = None; phase = f.boundary }) (sym (map-append clause_tree cs (linear at g end ∷ [])))
-add-agrees unmarked (within cs ms h ls ds) (closed g) end = ap (λ z. record { whole = flat_whole cs ms; current = Some (record { name = h.name; params = h.params; locals = locals_of ls; clauses = z }); phase = f.boundary }) (sym (map-append clause_tree ds (plain g end ∷ [])))
-add-agrees (marked at) (within cs ms h ls ds) (closed g) end = ap (λ z. record { whole = flat_whole cs ms; current = Some (record { name = h.name; params = h.params; locals = locals_of ls; clauses = z }); phase = f.boundary }) (sym (map-append clause_tree ds (linear at g end ∷ [])))
+add-agrees : (k : Mark) (d : Done) (c : Closed) (end : Place)
+    → f.add_clause (done_whole d) (done_module d) (record { linear = is_marked k; form = closed_raw c })
+    ≡ flat_program (boundary (m.add_clause d (marked_clause k c end)))
+add-agrees unmarked (top cs) (closed g) end = ap (λ z. record { whole = record { clauses = z; modules = [] }; current = None; phase = f.boundary })
+    (sym (map-append clause_tree cs (plain g end ∷ [])))
+add-agrees (marked at) (top cs) (closed g) end = ap (λ z. record { whole = record { clauses = z; modules = [] }; current = None; phase = f.boundary })
+    (sym (map-append clause_tree cs (linear at g end ∷ [])))
+add-agrees unmarked (within cs ms h ls ds) (closed g) end = ap
+    (λ z. record {
+      whole = flat_whole cs ms;
+      current = Some (record { name = h.name; params = h.params; locals = locals_of ls; clauses = z });
+      phase =
+          f.boundary;
+    }) (sym (map-append clause_tree ds (plain g end ∷ [])))
+add-agrees (marked at) (within cs ms h ls ds) (closed g) end =
+    ap (λ z. record {
+      whole = flat_whole cs ms;
+      current = Some (record { name = h.name; params = h.params; locals = locals_of ls; clauses = z });
+      phase =
+          f.boundary;
+    }) (sym (map-append clause_tree ds (linear at g end ∷ [])))
 
-end-agrees : (k : Mark) (d : Done) (o : Option Closed) (end : Place) → end_clause (done_whole d) (done_module d) (is_marked k) (option_map closed_raw o) ≡ option_map flat_program (m.end_clause k d o end)
+end-agrees : (k : Mark) (d : Done) (o : Option Closed) (end : Place)
+    → end_clause (done_whole d) (done_module d) (is_marked k) (option_map closed_raw o) ≡ option_map flat_program (m.end_clause k d o end)
 end-agrees k d None end = refl
 end-agrees k d (Some c) end = ap Some (add-agrees k d c end)
 
 close-agrees : (d : Done) → f.close_module (done_whole d) (done_module d) ≡ program_tree (whole_program d)
 close-agrees (top cs) = refl
-close-agrees (within cs ms h ls ds) = ap (λ z. record { clauses = map clause_tree cs; modules = z }) (sym (map-append module_tree ms (record { heading = h; locals = ls; clauses = ds } ∷ [])))
+close-agrees (within cs ms h ls ds) = ap (λ z. record { clauses = map clause_tree cs; modules = z })
+    (sym (map-append module_tree ms (record { heading = h; locals = ls; clauses = ds } ∷ [])))
 
-module-agrees : (at : Place) (d : Done) → record { whole = f.close_module (done_whole d) (done_module d); current = None; phase = f.heading } ≡ flat_program (next_module at d)
+module-agrees : (at : Place) (d : Done) → record { whole = f.close_module (done_whole d) (done_module d); current = None; phase = f.heading }
+    ≡ flat_program (next_module at d)
 module-agrees at (top cs) = refl
-module-agrees at (within cs ms h ls ds) = ap (λ z. record { whole = record { clauses = map clause_tree cs; modules = z }; current = None; phase = f.heading }) (sym (map-append module_tree ms (record { heading = h; locals = ls; clauses = ds } ∷ [])))
+module-agrees at (within cs ms h ls ds) = ap (λ z. record { whole = record { clauses = map clause_tree cs; modules = z }; current = None; phase = f.heading })
+    (sym (map-append module_tree ms (record { heading = h; locals = ls; clauses = ds } ∷ [])))
 
 local-agrees : (at : Place) (d : Done) → program_step (flat_program (boundary d)) (local_word at) ≡ option_map flat_program (next_local at d)
 local-agrees at (top cs) = refl
 local-agrees at (within cs ms h ls []) = refl
 local-agrees at (within cs ms h ls (d ∷ ds)) = refl
 
-begin-agrees : (k : Mark) (d : Done) (t : Tok) → enter (done_whole d) (done_module d) (is_marked k) (flat_step (want []) t) ≡ option_map flat_program (m.enter k d (step start t))
+begin-agrees : (k : Mark) (d : Done) (t : Tok) → enter (done_whole d) (done_module d) (is_marked k) (flat_step (want []) t)
+    ≡ option_map flat_program (m.enter k d (step start t))
 begin-agrees k d t = ap (enter (done_whole d) (done_module d) (is_marked k)) (step-agrees start t) ∙ enter-agrees k d (step start t)
 
-inside-agrees : (k : Mark) (d : Done) (s : State) (t : Tok) → enter (done_whole d) (done_module d) (is_marked k) (flat_step (flat s) t) ≡ option_map flat_program (m.enter k d (step s t))
+inside-agrees : (k : Mark) (d : Done) (s : State) (t : Tok) → enter (done_whole d) (done_module d) (is_marked k) (flat_step (flat s) t)
+    ≡ option_map flat_program (m.enter k d (step s t))
 inside-agrees k d s t = ap (enter (done_whole d) (done_module d) (is_marked k)) (step-agrees s t) ∙ enter-agrees k d (step s t)
 
 move-agrees : (r : Reading) (t : Tok) → program_step (flat_program r) t ≡ option_map flat_program (move r t)
@@ -101,8 +136,12 @@ move-agrees (params at n ns cs ms) (dot end) = refl
 move-agrees (params at n ns cs ms) _ = refl
 move-agrees (localizing at cs ms h ls) (name n) = refl
 move-agrees (localizing at cs ms h ls) _ = refl
-move-agrees (locals at n ns cs ms h ls) (name x) = ap (λ z. Some (record { whole = flat_whole cs ms; current = Some (record { name = h.name; params = h.params; locals = z; clauses = [] }); phase = f.locals })) (append_assoc (locals_of ls) (n ∷ ns) (x ∷ []))
-move-agrees (locals at n ns cs ms h ls) (dot end) = ap (λ z. Some (record { whole = flat_whole cs ms; current = Some (record { name = h.name; params = h.params; locals = z; clauses = [] }); phase = f.boundary })) (sym (locals-then ls (record { word = at; first = n; others = ns; end = end })))
+move-agrees (locals at n ns cs ms h ls) (name x) = ap (λ z. Some
+    (record { whole = flat_whole cs ms; current = Some (record { name = h.name; params = h.params; locals = z; clauses = [] }); phase = f.locals }))
+    (append_assoc (locals_of ls) (n ∷ ns) (x ∷ []))
+move-agrees (locals at n ns cs ms h ls) (dot end) = ap (λ z.
+    Some (record { whole = flat_whole cs ms; current = Some (record { name = h.name; params = h.params; locals = z; clauses = [] }); phase = f.boundary }))
+    (sym (locals-then ls (record { word = at; first = n; others = ns; end = end })))
 move-agrees (locals at n ns cs ms h ls) _ = refl
 
 ending-agrees : (r : Reading) → program_final (flat_program r) ≡ option_map program_tree (ending r)

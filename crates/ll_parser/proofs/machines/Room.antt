@@ -3,9 +3,19 @@ use Rattle.std.proofs.Common.{◌≡◌, ℕ, zero, suc, ◌+◌, ◌-◌, ◌�
 use Rattle.ll_lexer.specs.declared.Place.{Place}
 use Rattle.ll_parser.specs.declared.Quantifier.{Quantifier}
 use Rattle.ll_parser.specs.declared.Quantifier.TheVariants as quantifier
-use Rattle.ll_parser.specs.Tokens.{Identifier, Tok, name, variable, any, number, true_word, erase_word, module_word, local_word, linear_word, dot, comma, ampersand, semicolon, paren_left, paren_right, brace_left, brace_right, backslash, cons_sign, load_arrow, is_sign, star_sign}
-use Rattle.ll_parser.specs.Grammar.{Word, lower, upper, Term, of_app, cons, App, applied, app_any, app_number, app_bracket, Simple, simple_word, simple_any, simple_number, simple_bracket, Simples, no_more, and_then, ClauseOp, by_colon, by_left, ArrowOp, by_lolli, by_right, Formula, of_arrow, clause, Arrow, of_sum, implies, loads, Sum, of_with, plus, With, of_tensor, with, Tensor, of_primary, times, Primary, truly, erased, bracket, brace, quantified, atom, word_token, clause_token, arrow_token, quantifier_token, term_tokens, app_tokens, simple_tokens, simples_tokens, formula_tokens, arrow_tokens, sum_tokens, with_tokens, tensor_tokens, primary_tokens, Plain, plain_word, plain_any, plain_number, Expr, of_product, adds, Product, of_item, multiplies, Item, item_plain, item_bracket, First, first_plain, first_times, Lead, of_first, lead_adds, valued, tested, by_plus, by_minus, by_less, by_most, SumOp, TestOp, plain_token, add_token, test_token, expr_tokens, product_tokens, item_tokens, first_tokens, lead_tokens}
-use Rattle.ll_parser.specs.Text.{Clause, plain, linear, Local, Heading, Module, Program, clause_tokens, names, variables, local_tokens, heading_tokens, clauses_tokens, locals_tokens, modules_tokens, program_tokens, Query, bare, dotted, query_tokens}
+use Rattle.ll_parser.specs.Tokens.{Identifier, Tok, name, variable, any, number, true_word, erase_word, module_word, local_word, linear_word, dot, comma}
+use Rattle.ll_parser.specs.Tokens.{ampersand, semicolon, paren_left, paren_right, brace_left, brace_right, backslash, cons_sign, load_arrow, is_sign, star_sign}
+use Rattle.ll_parser.specs.Grammar.{Word, lower, upper, Term, of_app, cons, App, applied, app_any, app_number, app_bracket, Simple, simple_word, simple_any}
+use Rattle.ll_parser.specs.Grammar.{simple_number, simple_bracket, Simples, no_more, and_then, ClauseOp, by_colon, by_left, ArrowOp, by_lolli, by_right}
+use Rattle.ll_parser.specs.Grammar.{Formula, of_arrow, clause, Arrow, of_sum, implies, loads, Sum, of_with, plus, With, of_tensor, with, Tensor, of_primary}
+use Rattle.ll_parser.specs.Grammar.{times, Primary, truly, erased, bracket, brace, quantified, atom, word_token, clause_token, arrow_token, quantifier_token}
+use Rattle.ll_parser.specs.Grammar.{term_tokens, app_tokens, simple_tokens, simples_tokens, formula_tokens, arrow_tokens, sum_tokens, with_tokens}
+use Rattle.ll_parser.specs.Grammar.{tensor_tokens, primary_tokens, Plain, plain_word, plain_any, plain_number, Expr, of_product, adds, Product, of_item}
+use Rattle.ll_parser.specs.Grammar.{multiplies, Item, item_plain, item_bracket, First, first_plain, first_times, Lead, of_first, lead_adds, valued, tested}
+use Rattle.ll_parser.specs.Grammar.{by_plus, by_minus, by_less, by_most, SumOp, TestOp, plain_token, add_token, test_token, expr_tokens, product_tokens}
+use Rattle.ll_parser.specs.Grammar.{item_tokens, first_tokens, lead_tokens}
+use Rattle.ll_parser.specs.Text.{Clause, plain, linear, Local, Heading, Module, Program, clause_tokens, names, variables, local_tokens, heading_tokens}
+use Rattle.ll_parser.specs.Text.{clauses_tokens, locals_tokens, modules_tokens, program_tokens, Query, bare, dotted, query_tokens}
 use Rattle.ll_parser.specs.Reads.{open_after, Within}
 
 -- ---- room for brackets
@@ -161,18 +171,22 @@ module _ (limit : ℕ) where
 
   both : {P Q : ℕ → Type 0} {xs ys : List Tok} → Segment limit P xs → Segment limit Q ys → Segment limit (λ n. P n × Q n) (xs ++ ys)
   both {P} {Q} {xs} {ys} s t = record {
-    down = λ n r m rest h. let a = s.down n r m (ys ++ rest) (subst (Below limit n) (append_assoc xs ys rest) h) in let b = t.down n r m rest a.1 in ((a.0, b.0), b.1);
+    down = λ n r m rest h. let a = s.down n r m (ys ++ rest) (subst (Below limit n) (append_assoc xs ys rest) h) in let b = t.down n r m rest a.1 in
+        ((a.0, b.0), b.1);
     up = λ n r m rest p h. subst (Below limit n) (sym (append_assoc xs ys rest)) (s.up n r m (ys ++ rest) p.0 (t.up n r m rest p.1 h));
   }
 
   -- a pair of brackets round a segment
-  within : {P : ℕ → Type 0} {xs : List Tok} (left right : Tok) → ((n : ℕ) → open_after n (left ∷ []) ≡ suc n) → ((n : ℕ) → open_after n (right ∷ []) ≡ n - 1) → Segment limit P xs → Segment limit (λ n. Enough n P) (left ∷ (xs ++ right ∷ []))
+  within : {P : ℕ → Type 0} {xs : List Tok} (left right : Tok) → ((n : ℕ) → open_after n (left ∷ []) ≡ suc n) → ((n : ℕ) → open_after n (right ∷ []) ≡ n - 1)
+      → Segment limit P xs → Segment limit (λ n. Enough n P) (left ∷ (xs ++ right ∷ []))
   within {P} {xs} left right l g s = record { down = inwards; up = outwards }
     where
       inwards : (n r : ℕ) → n + r ≡ limit → (rest : List Tok) → Below limit n (left ∷ ((xs ++ right ∷ []) ++ rest)) → Enough r P × Below limit n rest
-      inwards n zero m rest h = let k : suc n ≤ limit = subst (λ z. z ≤ limit) (l n) (below-here limit (open_after n (left ∷ [])) ((xs ++ right ∷ []) ++ rest) h.1) in absurd (omega arith)
+      inwards n zero m rest h = let k : suc n ≤ limit = subst (λ z. z ≤ limit) (l n)
+          (below-here limit (open_after n (left ∷ [])) ((xs ++ right ∷ []) ++ rest) h.1) in absurd (omega arith)
       inwards n (suc r) m rest h =
-          let k : Below limit (suc n) (xs ++ right ∷ rest) = subst (Below limit (suc n)) (append_assoc xs (right ∷ []) rest) (subst (λ z. Below limit z ((xs ++ right ∷ []) ++ rest)) (l n) h.1) in
+          let k : Below limit (suc n) (xs ++ right ∷ rest) =
+          subst (Below limit (suc n)) (append_assoc xs (right ∷ []) rest) (subst (λ z. Below limit z ((xs ++ right ∷ []) ++ rest)) (l n) h.1) in
           let e : suc n + r ≡ limit = omega arith in
           let a = s.down (suc n) r e (right ∷ rest) k in
           let back : open_after (suc n) (right ∷ []) ≡ n = g (suc n) ∙ omega arith in
@@ -184,13 +198,18 @@ module _ (limit : ℕ) where
           let e : suc n + r ≡ limit = omega arith in
           let le : suc n ≤ limit = omega arith in
           let back : open_after (suc n) (right ∷ []) ≡ n = g (suc n) ∙ omega arith in
-          let k : Below limit (suc n) (xs ++ right ∷ rest) = s.up (suc n) r e (right ∷ rest) p (le, subst (λ z. Below limit z rest) (sym back) h) in
-          (below-here limit n rest h, subst (λ z. Below limit z ((xs ++ right ∷ []) ++ rest)) (sym (l n)) (subst (Below limit (suc n)) (sym (append_assoc xs (right ∷ []) rest)) k))
+          let k : Below limit (suc n) (xs ++ right ∷ rest) = s.up (suc n) r e (right ∷ rest) p (le, subst (λ z. Below limit z rest) (sym back) h) in (
+            below-here limit n rest h,
+            subst (λ z. Below limit z ((xs ++ right ∷ []) ++ rest)) (sym (l n))
+                (subst (Below limit (suc n)) (sym (append_assoc xs (right ∷ []) rest)) k),
+          )
 
-  parens : {P : ℕ → Type 0} {xs : List Tok} (at end : Place) → Segment limit P xs → Segment limit (λ n. Enough n P) (paren_left at ∷ (xs ++ paren_right end ∷ []))
+  parens : {P : ℕ → Type 0} {xs : List Tok} (at end : Place) → Segment limit P xs
+      → Segment limit (λ n. Enough n P) (paren_left at ∷ (xs ++ paren_right end ∷ []))
   parens at end s = within (paren_left at) (paren_right end) (λ n. refl) (λ n. refl) s
 
-  curly : {P : ℕ → Type 0} {xs : List Tok} (at end : Place) → Segment limit P xs → Segment limit (λ n. Enough n P) (brace_left at ∷ (xs ++ brace_right end ∷ []))
+  curly : {P : ℕ → Type 0} {xs : List Tok} (at end : Place) → Segment limit P xs
+      → Segment limit (λ n. Enough n P) (brace_left at ∷ (xs ++ brace_right end ∷ []))
   curly at end s = within (brace_left at) (brace_right end) (λ n. refl) (λ n. refl) s
 
   -- ---- terms
@@ -297,7 +316,8 @@ module _ (limit : ℕ) where
     primary-segment (erased at) = plainly (erase_word at) (λ n. refl) nothing
     primary-segment (bracket at f end) = parens at end (formula-segment f)
     primary-segment (brace at f end) = curly at end (formula-segment f)
-    primary-segment (quantified q at w slash f) = plainly (quantifier_token q at) (quantifier-plain q at) (plainly (word_token w) (word-plain w) (plainly (backslash slash) (λ n. refl) (formula-segment f)))
+    primary-segment (quantified q at w slash f) = plainly (quantifier_token q at) (quantifier-plain q at)
+        (plainly (word_token w) (word-plain w) (plainly (backslash slash) (λ n. refl) (formula-segment f)))
     primary-segment (atom w ss) = plainly (word_token w) (word-plain w) (simples-segment ss)
     primary-segment (valued x at e) = plainly (plain_token x) (token-plain x) (plainly (is_sign at) (λ n. refl) (expr-segment e))
     primary-segment (tested l c at e) = both (lead-segment l) (plainly (test_token c at) (test-plain c at) (expr-segment e))

@@ -1,9 +1,25 @@
 -- What is pending, as tokens: each step adds the token that it took.
 use Rattle.std.proofs.Common.{◌≡◌, Bool, false, List, [], ◌∷◌, ◌++◌, Option, refl, ◌∙◌, ap, append_assoc, append-nil, IfSome, subst, Some}
 use Rattle.ll_lexer.specs.declared.Place.{Place}
-use Rattle.ll_parser.specs.Tokens.{Identifier, Tok, name, variable, any, number, true_word, erase_word, forall_word, exists_word, comma, ampersand, semicolon, paren_left, paren_right, brace_left, brace_right, backslash, cons_sign, colon_dash, left_arrow, right_arrow, lolli, load_arrow, is_sign, most_sign, less_sign, plus_sign, minus_sign, star_sign}
-use Rattle.ll_parser.specs.Grammar.{lower, upper, Term, of_app, cons, App, applied, app_any, app_number, app_bracket, Simple, simple_word, simple_any, simple_number, Simples, Formula, Arrow, of_sum, implies, loads, Sum, of_with, plus, With, of_tensor, with, Tensor, of_primary, times, Primary, truly, erased, bracket, brace, quantified, atom, word_token, clause_token, arrow_token, quantifier_token, term_tokens, app_tokens, simple_tokens, simples_tokens, formula_tokens, arrow_tokens, sum_tokens, with_tokens, tensor_tokens, primary_tokens, Plain, plain_word, plain_any, plain_number, Expr, of_product, adds, Item, item_plain, item_bracket, first_plain, first_times, Lead, of_first, lead_adds, valued, tested, no_more, and_then, plain_token, add_token, test_token, expr_tokens, product_tokens, item_tokens, first_tokens, lead_tokens}
-use Rattle.ll_parser.proofs.machines.Machine.{Factor, factor, Share, share, Part, part, Left, implying, loading, Before, nothing, after_clause, Scope, scope, Frame, in_bracket, in_brace, in_quantifier, Cell, cell, TermFrame, in_argument, in_group, Base, base, State, want, whole, binder, slash, term_want, term_whole, fold_factors, fold_shares, fold_parts, fold_lefts, fold_before, up_to_with, up_to_sum, up_to_formula, fold_cells, Shut, at_bottom, at_bracket, at_brace, shut, shut_whole, shut_right, shut_brace, term_closed, operate, load_in, begin_load, with_simple, open_argument, app_simple, app_argument, step, Hole, first_hole, times_hole, sum_hole, both_hole, LeadHole, lead_times, lead_sum, lead_both, Side, value_of, test_of, Around, on_right, within, Inside, in_lead, in_item, led, lead_want, expr_want, expr_whole, fill, fill_lead, star_hole, star_lead, settled, inside_closed, begin_value, after_lead, after_right, numbered}
+use Rattle.ll_parser.specs.Tokens.{Identifier, Tok, name, variable, any, number, true_word, erase_word, forall_word, exists_word, comma, ampersand, semicolon}
+use Rattle.ll_parser.specs.Tokens.{paren_left, paren_right, brace_left, brace_right, backslash, cons_sign, colon_dash, left_arrow, right_arrow, lolli}
+use Rattle.ll_parser.specs.Tokens.{load_arrow, is_sign, most_sign, less_sign, plus_sign, minus_sign, star_sign}
+use Rattle.ll_parser.specs.Grammar.{lower, upper, Term, of_app, cons, App, applied, app_any, app_number, app_bracket, Simple, simple_word, simple_any}
+use Rattle.ll_parser.specs.Grammar.{simple_number, Simples, Formula, Arrow, of_sum, implies, loads, Sum, of_with, plus, With, of_tensor, with, Tensor}
+use Rattle.ll_parser.specs.Grammar.{of_primary, times, Primary, truly, erased, bracket, brace, quantified, atom, word_token, clause_token, arrow_token}
+use Rattle.ll_parser.specs.Grammar.{quantifier_token, term_tokens, app_tokens, simple_tokens, simples_tokens, formula_tokens, arrow_tokens, sum_tokens}
+use Rattle.ll_parser.specs.Grammar.{with_tokens, tensor_tokens, primary_tokens, Plain, plain_word, plain_any, plain_number, Expr, of_product, adds, Item}
+use Rattle.ll_parser.specs.Grammar.{item_plain, item_bracket, first_plain, first_times, Lead, of_first, lead_adds, valued, tested, no_more, and_then}
+use Rattle.ll_parser.specs.Grammar.{plain_token, add_token, test_token, expr_tokens, product_tokens, item_tokens, first_tokens, lead_tokens}
+use Rattle.ll_parser.proofs.machines.Machine.{Factor, factor, Share, share, Part, part, Left, implying, loading, Before, nothing, after_clause, Scope, scope}
+use Rattle.ll_parser.proofs.machines.Machine.{Frame, in_bracket, in_brace, in_quantifier, Cell, cell, TermFrame, in_argument, in_group, Base, base, State}
+use Rattle.ll_parser.proofs.machines.Machine.{want, whole, binder, slash, term_want, term_whole, fold_factors, fold_shares, fold_parts, fold_lefts}
+use Rattle.ll_parser.proofs.machines.Machine.{fold_before, up_to_with, up_to_sum, up_to_formula, fold_cells, Shut, at_bottom, at_bracket, at_brace, shut}
+use Rattle.ll_parser.proofs.machines.Machine.{shut_whole, shut_right, shut_brace, term_closed, operate, load_in, begin_load, with_simple, open_argument}
+use Rattle.ll_parser.proofs.machines.Machine.{app_simple, app_argument, step, Hole, first_hole, times_hole, sum_hole, both_hole, LeadHole, lead_times}
+use Rattle.ll_parser.proofs.machines.Machine.{lead_sum, lead_both, Side, value_of, test_of, Around, on_right, within, Inside, in_lead, in_item, led, lead_want}
+use Rattle.ll_parser.proofs.machines.Machine.{expr_want, expr_whole, fill, fill_lead, star_hole, star_lead, settled, inside_closed, begin_value, after_lead}
+use Rattle.ll_parser.proofs.machines.Machine.{after_right, numbered}
 
 abbrev pub factors_tokens : List Factor → List Tok
 factors_tokens [] = []
@@ -114,10 +130,12 @@ cells-folded : (cs : List Cell) (t : Term) → term_tokens (fold_cells cs t) ≡
 cells-folded [] t = refl
 cells-folded (cell a at ∷ cs) t = cells-folded cs (cons a at t) ∙ simp append_assoc
 
-with-folded : {o : Bool} (qs : List Share) (ps : List Factor) (p : Primary o) → with_tokens (up_to_with qs ps p) ≡ shares_tokens qs ++ (factors_tokens ps ++ primary_tokens p)
+with-folded : {o : Bool} (qs : List Share) (ps : List Factor) (p : Primary o)
+    → with_tokens (up_to_with qs ps p) ≡ shares_tokens qs ++ (factors_tokens ps ++ primary_tokens p)
 with-folded qs ps p = shares-folded qs (of_tensor (fold_factors ps (of_primary p))) ∙ ap (λ z. shares_tokens qs ++ z) (factors-folded ps (of_primary p))
 
-sum-folded : {o : Bool} (ws : List Part) (qs : List Share) (ps : List Factor) (p : Primary o) → sum_tokens (up_to_sum ws qs ps p) ≡ parts_tokens ws ++ (shares_tokens qs ++ (factors_tokens ps ++ primary_tokens p))
+sum-folded : {o : Bool} (ws : List Part) (qs : List Share) (ps : List Factor) (p : Primary o)
+    → sum_tokens (up_to_sum ws qs ps p) ≡ parts_tokens ws ++ (shares_tokens qs ++ (factors_tokens ps ++ primary_tokens p))
 sum-folded ws qs ps p = parts-folded ws (of_with (up_to_with qs ps p)) ∙ ap (λ z. parts_tokens ws ++ z) (with-folded qs ps p)
 
 formula-folded : {o : Bool} (s : Scope) (p : Primary o) → formula_tokens (up_to_formula s p) ≡ scope_tokens s ++ primary_tokens p
@@ -130,7 +148,8 @@ shut-folded : {o : Bool} (k : List Frame) (f : Formula o) → shut_tokens (shut 
 shut-folded [] f = refl
 shut-folded (in_bracket at s ∷ k) f = simp append_assoc
 shut-folded (in_brace at s ∷ k) f = simp append_assoc
-shut-folded (in_quantifier q at w sl s ∷ k) f = shut-folded k (up_to_formula s (quantified q at w sl f)) ∙ simp (formula-folded s (quantified q at w sl f), append_assoc)
+shut-folded (in_quantifier q at w sl s ∷ k) f = shut-folded k (up_to_formula s (quantified q at w sl f))
+    ∙ simp (formula-folded s (quantified q at w sl f), append_assoc)
 
 pub shut-whole-tokens : (p : Primary false) (s : Scope) (k : List Frame) → shut_tokens (shut_whole p s k) ≡ so_far (whole p s k)
 shut-whole-tokens p s k = shut-folded k (up_to_formula s p) ∙ ap (λ z. frames_tokens k ++ z) (formula-folded s p)
@@ -183,11 +202,14 @@ operate-adds p (scope b ls ws qs ps) k (lolli at) = simp (sum-folded ws qs ps p,
 operate-adds p (scope b ls ws qs ps) k (right_arrow at) = simp (sum-folded ws qs ps p, append_assoc, append-nil)
 operate-adds p s k (colon_dash at) = simp (formula-folded s p, append_assoc, append-nil)
 operate-adds p s k (left_arrow at) = simp (formula-folded s p, append_assoc, append-nil)
-operate-adds p s k (paren_right at) = subst (λ xs. AddsTo xs (paren_right at) (operate p s k (paren_right at))) (shut-whole-tokens p s k) (shut-right-adds (shut_whole p s k) at)
-operate-adds p s k (brace_right at) = subst (λ xs. AddsTo xs (brace_right at) (operate p s k (brace_right at))) (shut-whole-tokens p s k) (shut-brace-adds (shut_whole p s k) at)
+operate-adds p s k (paren_right at) = subst (λ xs. AddsTo xs (paren_right at) (operate p s k (paren_right at))) (shut-whole-tokens p s k)
+    (shut-right-adds (shut_whole p s k) at)
+operate-adds p s k (brace_right at) = subst (λ xs. AddsTo xs (brace_right at) (operate p s k (brace_right at))) (shut-whole-tokens p s k)
+    (shut-brace-adds (shut_whole p s k) at)
 operate-adds p s k _ = tt
 
-simple-adds : (p : Primary false) (x : Simple) (t : Tok) (s : Scope) (k : List Frame) → simple_tokens x ≡ t ∷ [] → AddsTo (so_far (whole p s k)) t (with_simple p x s k)
+simple-adds : (p : Primary false) (x : Simple) (t : Tok) (s : Scope) (k : List Frame) → simple_tokens x ≡ t ∷ []
+    → AddsTo (so_far (whole p s k)) t (with_simple p x s k)
 simple-adds (atom w ss) x t s k e = simp (e, append_assoc)
 simple-adds (truly at) x t s k e = tt
 simple-adds (erased at) x t s k e = tt
@@ -205,7 +227,8 @@ open-adds (brace x f end) at s k = tt
 open-adds (valued y b f) at s k = tt
 open-adds (tested l c b f) at s k = tt
 
-load-adds-in : (n : Identifier) (ss : Simples) (at : Place) (s : Scope) (k : List Frame) → AddsTo (so_far (whole (atom (lower n) ss) s k)) (load_arrow at) (load_in n ss at s k)
+load-adds-in : (n : Identifier) (ss : Simples) (at : Place) (s : Scope) (k : List Frame)
+    → AddsTo (so_far (whole (atom (lower n) ss) s k)) (load_arrow at) (load_in n ss at s k)
 load-adds-in n ss at (scope b ls [] [] []) k = simp (append_assoc, append-nil)
 load-adds-in n ss at (scope b ls [] [] (p ∷ ps)) k = tt
 load-adds-in n ss at (scope b ls [] (q ∷ qs) ps) k = tt
@@ -264,19 +287,22 @@ numbered-adds (erased at) s k t = tt
 numbered-adds (bracket at f end) s k t = tt
 numbered-adds (brace at f end) s k t = tt
 
-app-adds : (a : App) (x : Simple) (t : Tok) (cs : List Cell) (tk : List TermFrame) (b : Base) → simple_tokens x ≡ t ∷ [] → AddsTo (so_far (term_whole a cs tk b)) t (app_simple a x cs tk b)
+app-adds : (a : App) (x : Simple) (t : Tok) (cs : List Cell) (tk : List TermFrame) (b : Base) → simple_tokens x ≡ t ∷ []
+    → AddsTo (so_far (term_whole a cs tk b)) t (app_simple a x cs tk b)
 app-adds (applied w ss) x t cs tk b e = simp (e, append_assoc)
 app-adds (app_any at) x t cs tk b e = tt
 app-adds (app_number n at) x t cs tk b e = tt
 app-adds (app_bracket at u end) x t cs tk b e = tt
 
-app-opens : (a : App) (at : Place) (cs : List Cell) (tk : List TermFrame) (b : Base) → AddsTo (so_far (term_whole a cs tk b)) (paren_left at) (app_argument a at cs tk b)
+app-opens : (a : App) (at : Place) (cs : List Cell) (tk : List TermFrame) (b : Base)
+    → AddsTo (so_far (term_whole a cs tk b)) (paren_left at) (app_argument a at cs tk b)
 app-opens (applied w ss) at cs tk b = simp (append_assoc, append-nil)
 app-opens (app_any x) at cs tk b = tt
 app-opens (app_number n x) at cs tk b = tt
 app-opens (app_bracket x u end) at cs tk b = tt
 
-term-closed-adds : (tk : List TermFrame) (b : Base) (t : Term) (end : Place) → so_far (term_closed tk b t end) ≡ (base_tokens b ++ (terms_tokens tk ++ term_tokens t)) ++ paren_right end ∷ []
+term-closed-adds : (tk : List TermFrame) (b : Base) (t : Term) (end : Place)
+    → so_far (term_closed tk b t end) ≡ (base_tokens b ++ (terms_tokens tk ++ term_tokens t)) ++ paren_right end ∷ []
 term-closed-adds [] (base at w ss s k) t end = simp append_assoc
 term-closed-adds (in_argument at w ss cs ∷ tk) b t end = simp append_assoc
 term-closed-adds (in_group at cs ∷ tk) b t end = simp append_assoc

@@ -2,8 +2,12 @@
 use Rattle.std.proofs.Common.{◌≡◌, Bool, false, List, [], ◌∷◌, ◌++◌, Option, Some, None, option_and_then, refl, ◌∙◌, append_assoc, append-nil, IfSome}
 use Rattle.ll_lexer.specs.declared.Place.{Place}
 use Rattle.ll_parser.specs.Tokens.{Identifier, Tok, name, true_word, paren_right, brace_right, backslash, any, less_sign}
-use Rattle.ll_parser.specs.Grammar.{lower, and_then, simple_bracket, of_app, App, applied, app_any, app_bracket, Formula, Primary, truly, bracket, brace, quantified, atom, formula_tokens, by_less, plain_any, of_product, of_item, item_plain, item_bracket, tested, Lead, Expr}
-use Rattle.ll_parser.proofs.machines.Machine.{Scope, fresh, Frame, in_bracket, in_brace, in_quantifier, Cell, TermFrame, in_argument, in_group, Base, base, State, want, whole, binder, slash, term_want, term_whole, up_to_formula, fold_cells, Shut, at_bottom, at_bracket, at_brace, shut, shut_end, shut_whole, Closed, closed, step, final, parse, run, start, Around, on_right, within, Inside, in_lead, in_item, led, lead_want, expr_want, expr_whole, fill, fill_lead, sided, settled}
+use Rattle.ll_parser.specs.Grammar.{lower, and_then, simple_bracket, of_app, App, applied, app_any, app_bracket, Formula, Primary, truly, bracket, brace}
+use Rattle.ll_parser.specs.Grammar.{quantified, atom, formula_tokens, by_less, plain_any, of_product, of_item, item_plain, item_bracket, tested, Lead, Expr}
+use Rattle.ll_parser.proofs.machines.Machine.{Scope, fresh, Frame, in_bracket, in_brace, in_quantifier, Cell, TermFrame, in_argument, in_group, Base, base}
+use Rattle.ll_parser.proofs.machines.Machine.{State, want, whole, binder, slash, term_want, term_whole, up_to_formula, fold_cells, Shut, at_bottom, at_bracket}
+use Rattle.ll_parser.proofs.machines.Machine.{at_brace, shut, shut_end, shut_whole, Closed, closed, step, final, parse, run, start, Around, on_right, within}
+use Rattle.ll_parser.proofs.machines.Machine.{Inside, in_lead, in_item, led, lead_want, expr_want, expr_whole, fill, fill_lead, sided, settled}
 use Rattle.ll_parser.proofs.machines.Complete.{Closes, at_end, at_right, at_brace_right, resume, whole-closes}
 use Rattle.ll_parser.proofs.machines.Sound.{so_far, shut_tokens, shut-whole-tokens, step-adds, AddsTo}
 
@@ -27,7 +31,8 @@ final-tokens (lead_want h s k) = tt
 final-tokens (expr_want h a s k) = tt
 final-tokens (expr_whole e i s k) = tt
 
-parse-next : (o : Option State) (ts : List Tok) (xs : List Tok) → ((s : State) → IfSome (parse s ts) (λ q. closed_tokens q ≡ so_far s ++ ts)) → (t : Tok) → AddsTo xs t o → IfSome (option_and_then (λ next. parse next ts) o) (λ q. closed_tokens q ≡ xs ++ t ∷ ts)
+parse-next : (o : Option State) (ts : List Tok) (xs : List Tok) → ((s : State) → IfSome (parse s ts) (λ q. closed_tokens q ≡ so_far s ++ ts)) → (t : Tok)
+    → AddsTo xs t o → IfSome (option_and_then (λ next. parse next ts) o) (λ q. closed_tokens q ≡ xs ++ t ∷ ts)
 parse-next None ts xs ih t h = tt
 parse-next (Some s) ts xs ih t h = let e : so_far s ++ ts ≡ xs ++ t ∷ ts = rw h (rw append_assoc refl) in rw (← e) (ih s)
 
@@ -38,7 +43,8 @@ parse-tokens (t ∷ ts) s = parse-next (step s t) ts (so_far s) (parse-tokens ts
 pub sound : (ts : List Tok) (q : Closed) → parse start ts ≡ Some q → closed_tokens q ≡ ts
 sound ts q e = let h = parse-tokens ts start in rw e at h
 
-run-next : (o : Option State) (ts us : List Tok) → ((s : State) → parse s (ts ++ us) ≡ option_and_then (λ next. parse next us) (run s ts)) → option_and_then (λ next. parse next (ts ++ us)) o ≡ option_and_then (λ next. parse next us) (option_and_then (λ next. run next ts) o)
+run-next : (o : Option State) (ts us : List Tok) → ((s : State) → parse s (ts ++ us) ≡ option_and_then (λ next. parse next us) (run s ts))
+    → option_and_then (λ next. parse next (ts ++ us)) o ≡ option_and_then (λ next. parse next us) (option_and_then (λ next. run next ts) o)
 run-next None ts us ih = refl
 run-next (Some s) ts us ih = ih s
 
@@ -59,10 +65,22 @@ can_close : {o : Bool} (k : List Frame) (f : Formula o) → CanClose (shut k f)
 can_close [] f = record { more = []; closes = at_end; formula = closed f; resumes = refl }
 can_close (in_bracket at s ∷ k) f =
     let c = can_close k (up_to_formula s (bracket at f somewhere)) in
-    record { more = paren_right somewhere ∷ c.more; closes = at_right somewhere c.more; formula = c.formula; resumes = whole-closes (bracket at f somewhere) s k c.more c.closes ∙ c.resumes }
+    record {
+      more = paren_right somewhere ∷ c.more;
+      closes = at_right somewhere c.more;
+      formula = c.formula;
+      resumes =
+          whole-closes (bracket at f somewhere) s k c.more c.closes ∙ c.resumes;
+    }
 can_close (in_brace at s ∷ k) f =
     let c = can_close k (up_to_formula s (brace at f somewhere)) in
-    record { more = brace_right somewhere ∷ c.more; closes = at_brace_right somewhere c.more; formula = c.formula; resumes = whole-closes (brace at f somewhere) s k c.more c.closes ∙ c.resumes }
+    record {
+      more = brace_right somewhere ∷ c.more;
+      closes = at_brace_right somewhere c.more;
+      formula = c.formula;
+      resumes =
+          whole-closes (brace at f somewhere) s k c.more c.closes ∙ c.resumes;
+    }
 can_close (in_quantifier q at w sl s ∷ k) f = can_close k (up_to_formula s (quantified q at w sl f))
 
 pub record CanEnd (s : State) : Type 0 where

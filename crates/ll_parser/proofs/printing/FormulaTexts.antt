@@ -4,7 +4,8 @@ use Rattle.ll_parser.specs.declared.Op.TheVariants as op
 use Rattle.ll_parser.specs.Tokens.{Identifier}
 use Rattle.ll_parser.specs.Raw.{Raw, truth, erasure, braces, universal, existential, load, binary, head, anything, int, RawList, is_goal, less_goal, most_goal}
 use Rattle.ll_parser.specs.Grammar.{word_identifier}
-use Rattle.ll_parser.proofs.printing.PrintedTree.{word_of, arguments_of, to_formula, to_arrow, to_sum, to_with, to_tensor, to_primary, last_formula, last_arrow, last_sum, last_with, last_tensor, followed, ending}
+use Rattle.ll_parser.proofs.printing.PrintedTree.{word_of, arguments_of, to_formula, to_arrow, to_sum, to_with, to_tensor, to_primary, last_formula}
+use Rattle.ll_parser.proofs.printing.PrintedTree.{last_arrow, last_sum, last_with, last_tensor, followed, ending}
 use Rattle.ll_parser.specs.Printed.{between, clauses, arrows, sums, withs, tensors, primaries, bracketed, arguments_text, bound_text, formula_text}
 use Rattle.ll_parser.proofs.printing.Written.{simples_bytes, formula_bytes, arrow_bytes, sum_bytes, with_bytes, tensor_bytes, primary_bytes}
 use Rattle.ll_parser.proofs.printing.Printable.{AreTerms, IsFormula}
@@ -14,7 +15,8 @@ use Rattle.ll_parser.proofs.printing.TermTexts.{arguments-shown, sides, is-shown
 bound-same : (n : Identifier) {a b : List ℕ} → a ≡ b → bound_text (word_identifier (word_of n)) a ≡ bound_text n b
 bound-same n {a = a} h = ap (λ z. bound_text z a) (word-kept n) ∙ ap (bound_text n) h
 
-load-same : (n : Identifier) (rs : RawList) {a b : List ℕ} → AreTerms rs → a ≡ b → n.text ++ (simples_bytes (arguments_of rs) ++ between (codes "-->") a) ≡ n.text ++ (arguments_text rs ++ between (codes "-->") b)
+load-same : (n : Identifier) (rs : RawList) {a b : List ℕ} → AreTerms rs → a ≡ b
+    → n.text ++ (simples_bytes (arguments_of rs) ++ between (codes "-->") a) ≡ n.text ++ (arguments_text rs ++ between (codes "-->") b)
 load-same n rs h k = ap (λ z. n.text ++ z) (sides (codes "-->") (arguments-shown rs h) k)
 
 head-same : (n : Identifier) (rs : RawList) → AreTerms rs → (word_identifier (word_of n)).text ++ simples_bytes (arguments_of rs) ≡ n.text ++ arguments_text rs

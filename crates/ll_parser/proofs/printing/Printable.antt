@@ -8,9 +8,17 @@ use Rattle.ll_lexer.specs.declared.TokenKind.TheVariants as kind
 use Rattle.ll_lexer.specs.Spelling.{Spells, kind_of, fixed_spellings}
 use Rattle.ll_parser.specs.declared.Quantifier.{Quantifier}
 use Rattle.ll_parser.specs.declared.Quantifier.TheVariants as quantifier
-use Rattle.ll_parser.specs.Tokens.{Identifier, Tok, paren_right, brace_right, cons_sign, comma, ampersand, semicolon, load_arrow, backslash, IsSpelled, less_sign, most_sign}
-use Rattle.ll_parser.specs.Raw.{Raw, truth, erasure, braces, universal, existential, load, binary, head, anything, int, RawList, none, more, raws_then, is_goal, less_goal, most_goal}
-use Rattle.ll_parser.specs.Grammar.{Word, lower, upper, Term, of_app, cons, App, applied, app_any, app_number, app_bracket, Simple, simple_word, simple_any, simple_number, simple_bracket, Simples, no_more, and_then, Formula, of_arrow, clause, Arrow, of_sum, implies, loads, Sum, of_with, plus, With, of_tensor, with, Tensor, of_primary, times, Primary, truly, erased, bracket, brace, quantified, atom, word_token, word_identifier, clause_token, arrow_token, term_tokens, app_tokens, simple_tokens, simples_tokens, formula_tokens, arrow_tokens, sum_tokens, with_tokens, tensor_tokens, primary_tokens, term_raw, app_raw, simple_raw, simples_raws, quantifier_raw, formula_raw, arrow_raw, sum_raw, with_raw, tensor_raw, primary_raw, Plain, Expr, Lead, valued, tested, by_less, by_most, plain_token, expr_tokens, lead_tokens, plain_raw, expr_raw, lead_raw}
+use Rattle.ll_parser.specs.Tokens.{Identifier, Tok, paren_right, brace_right, cons_sign, comma, ampersand, semicolon, load_arrow, backslash, IsSpelled}
+use Rattle.ll_parser.specs.Tokens.{less_sign, most_sign}
+use Rattle.ll_parser.specs.Raw.{Raw, truth, erasure, braces, universal, existential, load, binary, head, anything, int, RawList, none, more, raws_then}
+use Rattle.ll_parser.specs.Raw.{is_goal, less_goal, most_goal}
+use Rattle.ll_parser.specs.Grammar.{Word, lower, upper, Term, of_app, cons, App, applied, app_any, app_number, app_bracket, Simple, simple_word, simple_any}
+use Rattle.ll_parser.specs.Grammar.{simple_number, simple_bracket, Simples, no_more, and_then, Formula, of_arrow, clause, Arrow, of_sum, implies, loads, Sum}
+use Rattle.ll_parser.specs.Grammar.{of_with, plus, With, of_tensor, with, Tensor, of_primary, times, Primary, truly, erased, bracket, brace, quantified, atom}
+use Rattle.ll_parser.specs.Grammar.{word_token, word_identifier, clause_token, arrow_token, term_tokens, app_tokens, simple_tokens, simples_tokens}
+use Rattle.ll_parser.specs.Grammar.{formula_tokens, arrow_tokens, sum_tokens, with_tokens, tensor_tokens, primary_tokens, term_raw, app_raw, simple_raw}
+use Rattle.ll_parser.specs.Grammar.{simples_raws, quantifier_raw, formula_raw, arrow_raw, sum_raw, with_raw, tensor_raw, primary_raw, Plain, Expr, Lead}
+use Rattle.ll_parser.specs.Grammar.{valued, tested, by_less, by_most, plain_token, expr_tokens, lead_tokens, plain_raw, expr_raw, lead_raw}
 use Rattle.ll_parser.specs.Printed.{is_cons}
 
 -- a Name that can stand in a text, and a Variable
@@ -94,7 +102,8 @@ pub word-no-cons : (n : Identifier) → IsWord n → is_cons n.text ≡ false
 word-no-cons n h = by_test (is_cons n.text) refl
   where
     by_test : (v : Bool) → is_cons n.text ≡ v → v ≡ false
-    by_test true e = absurd (cons-no-word (subst (λ w. Spells kind.Name w ⊎ Spells kind.Variable w) (sym ((bytes_eq-Decides (codes "::") n.text).0 e)) (word_spells n h)))
+    by_test true e =
+        absurd (cons-no-word (subst (λ w. Spells kind.Name w ⊎ Spells kind.Variable w) (sym ((bytes_eq-Decides (codes "::") n.text).0 e)) (word_spells n h)))
     by_test false e = refl
 
 -- ---- what is read of tokens that can stand in a text
@@ -142,7 +151,8 @@ mutual
       let k = spelled-split (simples_tokens ss) (simple_tokens s) h in
       terms-then (simples_raws ss) (simple_raw s) (simples-printable ss k.0) (simple-printable s k.1)
 
-quantified-printable : (q : Quantifier) (at : Place) (w : Word) (r : Raw) → IsWord (word_identifier w) → IsFormula r → IsFormula (quantifier_raw q at (word_identifier w) r)
+quantified-printable : (q : Quantifier) (at : Place) (w : Word) (r : Raw) → IsWord (word_identifier w) → IsFormula r
+    → IsFormula (quantifier_raw q at (word_identifier w) r)
 quantified-printable quantifier.Forall at w r h k = (h, k)
 quantified-printable quantifier.Exists at w r h k = (h, k)
 
@@ -179,7 +189,8 @@ mutual
   primary-printable (erased at) h = tt
   primary-printable (bracket at f end) h = formula-printable f (spelled-split (formula_tokens f) (paren_right end ∷ []) h.1).0
   primary-printable (brace at f end) h = formula-printable f (spelled-split (formula_tokens f) (brace_right end ∷ []) h.1).0
-  primary-printable (quantified q at w slash f) h = quantified-printable q at w (formula_raw f) (word-spelled w (backslash slash ∷ formula_tokens f) h.1) (formula-printable f h.1.1.1)
+  primary-printable (quantified q at w slash f) h = quantified-printable q at w (formula_raw f) (word-spelled w (backslash slash ∷ formula_tokens f) h.1)
+      (formula-printable f h.1.1.1)
   primary-printable (atom w ss) h = (word-spelled w (simples_tokens ss) h, simples-printable ss h.1)
   primary-printable (valued x at e) h = ((x, (h.0, tt), refl), (e, h.1.1, refl))
   primary-printable (tested l by_less at e) h = let k = spelled-split (lead_tokens l) (less_sign at ∷ expr_tokens e) h in ((l, k.0, refl), (e, k.1.1, refl))

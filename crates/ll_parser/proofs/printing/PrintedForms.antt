@@ -3,7 +3,9 @@ use Rattle.std.proofs.Common.{◌≡◌, Bool, false, refl, ◌∙◌, ap}
 use Rattle.ll_parser.specs.declared.Op.TheVariants as op
 use Rattle.ll_parser.specs.Raw.{Raw, truth, erasure, braces, universal, existential, load, binary, head, anything, int, is_goal, less_goal, most_goal}
 use Rattle.ll_parser.specs.Grammar.{simples_raws, formula_raw, arrow_raw, sum_raw, with_raw, tensor_raw, primary_raw}
-use Rattle.ll_parser.proofs.printing.PrintedTree.{arguments_of, Any, at_formula, at_arrow, at_sum, at_with, at_tensor, at_primary, Last, last, any_raw, last_raw, to_formula, in_parens, to_arrow, to_sum, to_with, to_tensor, to_primary, last_formula, last_arrow, last_sum, last_with, last_tensor, followed, ending}
+use Rattle.ll_parser.proofs.printing.PrintedTree.{arguments_of, Any, at_formula, at_arrow, at_sum, at_with, at_tensor, at_primary, Last, last, any_raw}
+use Rattle.ll_parser.proofs.printing.PrintedTree.{last_raw, to_formula, in_parens, to_arrow, to_sum, to_with, to_tensor, to_primary, last_formula, last_arrow}
+use Rattle.ll_parser.proofs.printing.PrintedTree.{last_sum, last_with, last_tensor, followed, ending}
 use Rattle.ll_parser.proofs.printing.Printable.{IsFormula}
 use Rattle.ll_parser.proofs.printing.PrintedTerms.{word-kept, arguments-kept, left-kept, lead-side-kept, right-kept}
 
@@ -104,16 +106,33 @@ mutual
   followed-kept (truth at) h = refl
   followed-kept (erasure at) h = refl
   followed-kept (braces at g) h = ap (braces at) (last-formula-kept (ending g) ∙ ending-kept g h)
-  followed-kept (universal at n g) h = ap (λ z. universal at z (formula_raw (last_formula (ending g)))) (word-kept n) ∙ ap (universal at n) (last-formula-kept (ending g) ∙ ending-kept g h.1)
-  followed-kept (existential at n g) h = ap (λ z. existential at z (formula_raw (last_formula (ending g)))) (word-kept n) ∙ ap (existential at n) (last-formula-kept (ending g) ∙ ending-kept g h.1)
-  followed-kept (load at n rs g) h = ap (λ z. load at n z (arrow_raw (to_arrow (followed g) (ending g)))) (arguments-kept rs h.1) ∙ ap (load at n rs) (arrow-kept (followed g) (ending g) g (followed-kept g h.2) (ending-kept g h.2))
-  followed-kept (binary op.ColonDash at l r) h = ap (λ z. binary op.ColonDash at z (arrow_raw (to_arrow (followed r) (ending r)))) (formula-kept (followed l) ∙ followed-kept l h.0) ∙ ap (binary op.ColonDash at l) (arrow-kept (followed r) (ending r) r (followed-kept r h.1) (ending-kept r h.1))
-  followed-kept (binary op.LeftArrow at l r) h = ap (λ z. binary op.LeftArrow at z (arrow_raw (to_arrow (followed r) (ending r)))) (formula-kept (followed l) ∙ followed-kept l h.0) ∙ ap (binary op.LeftArrow at l) (arrow-kept (followed r) (ending r) r (followed-kept r h.1) (ending-kept r h.1))
-  followed-kept (binary op.Lolli at l r) h = ap (λ z. binary op.Lolli at z (arrow_raw (to_arrow (followed r) (ending r)))) (sum-kept (followed l) (ending l) l (followed-kept l h.0) (ending-kept l h.0)) ∙ ap (binary op.Lolli at l) (arrow-kept (followed r) (ending r) r (followed-kept r h.1) (ending-kept r h.1))
-  followed-kept (binary op.RightArrow at l r) h = ap (λ z. binary op.RightArrow at z (arrow_raw (to_arrow (followed r) (ending r)))) (sum-kept (followed l) (ending l) l (followed-kept l h.0) (ending-kept l h.0)) ∙ ap (binary op.RightArrow at l) (arrow-kept (followed r) (ending r) r (followed-kept r h.1) (ending-kept r h.1))
-  followed-kept (binary op.Plus at l r) h = ap (λ z. binary op.Plus at z (sum_raw (to_sum (followed r) (ending r)))) (with-kept (followed l) (ending l) l (followed-kept l h.0) (ending-kept l h.0)) ∙ ap (binary op.Plus at l) (sum-kept (followed r) (ending r) r (followed-kept r h.1) (ending-kept r h.1))
-  followed-kept (binary op.With at l r) h = ap (λ z. binary op.With at z (with_raw (to_with (followed r) (ending r)))) (tensor-kept (followed l) (ending l) l (followed-kept l h.0) (ending-kept l h.0)) ∙ ap (binary op.With at l) (with-kept (followed r) (ending r) r (followed-kept r h.1) (ending-kept r h.1))
-  followed-kept (binary op.Tensor at l r) h = ap (λ z. binary op.Tensor at z (tensor_raw (to_tensor (followed r) (ending r)))) (primary-kept (followed l) (ending l) l (followed-kept l h.0) (ending-kept l h.0)) ∙ ap (binary op.Tensor at l) (tensor-kept (followed r) (ending r) r (followed-kept r h.1) (ending-kept r h.1))
+  followed-kept (universal at n g) h = ap (λ z. universal at z (formula_raw (last_formula (ending g)))) (word-kept n)
+      ∙ ap (universal at n) (last-formula-kept (ending g) ∙ ending-kept g h.1)
+  followed-kept (existential at n g) h = ap (λ z. existential at z (formula_raw (last_formula (ending g)))) (word-kept n)
+      ∙ ap (existential at n) (last-formula-kept (ending g) ∙ ending-kept g h.1)
+  followed-kept (load at n rs g) h = ap (λ z. load at n z (arrow_raw (to_arrow (followed g) (ending g)))) (arguments-kept rs h.1)
+      ∙ ap (load at n rs) (arrow-kept (followed g) (ending g) g (followed-kept g h.2) (ending-kept g h.2))
+  followed-kept (binary op.ColonDash at l r) h = ap (λ z. binary op.ColonDash at z (arrow_raw (to_arrow (followed r) (ending r))))
+      (formula-kept (followed l) ∙ followed-kept l h.0) ∙ ap (binary op.ColonDash at l)
+      (arrow-kept (followed r) (ending r) r (followed-kept r h.1) (ending-kept r h.1))
+  followed-kept (binary op.LeftArrow at l r) h = ap (λ z. binary op.LeftArrow at z (arrow_raw (to_arrow (followed r) (ending r))))
+      (formula-kept (followed l) ∙ followed-kept l h.0) ∙ ap (binary op.LeftArrow at l)
+      (arrow-kept (followed r) (ending r) r (followed-kept r h.1) (ending-kept r h.1))
+  followed-kept (binary op.Lolli at l r) h = ap (λ z. binary op.Lolli at z (arrow_raw (to_arrow (followed r) (ending r))))
+      (sum-kept (followed l) (ending l) l (followed-kept l h.0) (ending-kept l h.0))
+      ∙ ap (binary op.Lolli at l) (arrow-kept (followed r) (ending r) r (followed-kept r h.1) (ending-kept r h.1))
+  followed-kept (binary op.RightArrow at l r) h = ap (λ z. binary op.RightArrow at z (arrow_raw (to_arrow (followed r) (ending r))))
+      (sum-kept (followed l) (ending l) l (followed-kept l h.0) (ending-kept l h.0))
+      ∙ ap (binary op.RightArrow at l) (arrow-kept (followed r) (ending r) r (followed-kept r h.1) (ending-kept r h.1))
+  followed-kept (binary op.Plus at l r) h = ap (λ z. binary op.Plus at z (sum_raw (to_sum (followed r) (ending r))))
+      (with-kept (followed l) (ending l) l (followed-kept l h.0) (ending-kept l h.0))
+      ∙ ap (binary op.Plus at l) (sum-kept (followed r) (ending r) r (followed-kept r h.1) (ending-kept r h.1))
+  followed-kept (binary op.With at l r) h = ap (λ z. binary op.With at z (with_raw (to_with (followed r) (ending r))))
+      (tensor-kept (followed l) (ending l) l (followed-kept l h.0) (ending-kept l h.0))
+      ∙ ap (binary op.With at l) (with-kept (followed r) (ending r) r (followed-kept r h.1) (ending-kept r h.1))
+  followed-kept (binary op.Tensor at l r) h = ap (λ z. binary op.Tensor at z (tensor_raw (to_tensor (followed r) (ending r))))
+      (primary-kept (followed l) (ending l) l (followed-kept l h.0) (ending-kept l h.0))
+      ∙ ap (binary op.Tensor at l) (tensor-kept (followed r) (ending r) r (followed-kept r h.1) (ending-kept r h.1))
   followed-kept (head n rs) h = ap (λ z. head z (simples_raws (arguments_of rs))) (word-kept n) ∙ ap (head n) (arguments-kept rs h.1)
   followed-kept (anything at) h = absurd h
   followed-kept (int at z) h = absurd h
@@ -125,16 +144,30 @@ mutual
   ending-kept (truth at) h = refl
   ending-kept (erasure at) h = refl
   ending-kept (braces at g) h = ap (braces at) (last-formula-kept (ending g) ∙ ending-kept g h)
-  ending-kept (universal at n g) h = ap (λ z. universal at z (formula_raw (last_formula (ending g)))) (word-kept n) ∙ ap (universal at n) (last-formula-kept (ending g) ∙ ending-kept g h.1)
-  ending-kept (existential at n g) h = ap (λ z. existential at z (formula_raw (last_formula (ending g)))) (word-kept n) ∙ ap (existential at n) (last-formula-kept (ending g) ∙ ending-kept g h.1)
-  ending-kept (load at n rs g) h = ap (λ z. load at n z (arrow_raw (last_arrow (ending g)))) (arguments-kept rs h.1) ∙ ap (load at n rs) (last-arrow-kept (ending g) ∙ ending-kept g h.2)
-  ending-kept (binary op.ColonDash at l r) h = ap (λ z. binary op.ColonDash at z (arrow_raw (last_arrow (ending r)))) (formula-kept (followed l) ∙ followed-kept l h.0) ∙ ap (binary op.ColonDash at l) (last-arrow-kept (ending r) ∙ ending-kept r h.1)
-  ending-kept (binary op.LeftArrow at l r) h = ap (λ z. binary op.LeftArrow at z (arrow_raw (last_arrow (ending r)))) (formula-kept (followed l) ∙ followed-kept l h.0) ∙ ap (binary op.LeftArrow at l) (last-arrow-kept (ending r) ∙ ending-kept r h.1)
-  ending-kept (binary op.Lolli at l r) h = ap (λ z. binary op.Lolli at z (arrow_raw (last_arrow (ending r)))) (sum-kept (followed l) (ending l) l (followed-kept l h.0) (ending-kept l h.0)) ∙ ap (binary op.Lolli at l) (last-arrow-kept (ending r) ∙ ending-kept r h.1)
-  ending-kept (binary op.RightArrow at l r) h = ap (λ z. binary op.RightArrow at z (arrow_raw (last_arrow (ending r)))) (sum-kept (followed l) (ending l) l (followed-kept l h.0) (ending-kept l h.0)) ∙ ap (binary op.RightArrow at l) (last-arrow-kept (ending r) ∙ ending-kept r h.1)
-  ending-kept (binary op.Plus at l r) h = ap (λ z. binary op.Plus at z (sum_raw (last_sum (ending r)))) (with-kept (followed l) (ending l) l (followed-kept l h.0) (ending-kept l h.0)) ∙ ap (binary op.Plus at l) (last-sum-kept (ending r) ∙ ending-kept r h.1)
-  ending-kept (binary op.With at l r) h = ap (λ z. binary op.With at z (with_raw (last_with (ending r)))) (tensor-kept (followed l) (ending l) l (followed-kept l h.0) (ending-kept l h.0)) ∙ ap (binary op.With at l) (last-with-kept (ending r) ∙ ending-kept r h.1)
-  ending-kept (binary op.Tensor at l r) h = ap (λ z. binary op.Tensor at z (tensor_raw (last_tensor (ending r)))) (primary-kept (followed l) (ending l) l (followed-kept l h.0) (ending-kept l h.0)) ∙ ap (binary op.Tensor at l) (last-tensor-kept (ending r) ∙ ending-kept r h.1)
+  ending-kept (universal at n g) h = ap (λ z. universal at z (formula_raw (last_formula (ending g)))) (word-kept n)
+      ∙ ap (universal at n) (last-formula-kept (ending g) ∙ ending-kept g h.1)
+  ending-kept (existential at n g) h = ap (λ z. existential at z (formula_raw (last_formula (ending g)))) (word-kept n)
+      ∙ ap (existential at n) (last-formula-kept (ending g) ∙ ending-kept g h.1)
+  ending-kept (load at n rs g) h = ap (λ z. load at n z (arrow_raw (last_arrow (ending g)))) (arguments-kept rs h.1)
+      ∙ ap (load at n rs) (last-arrow-kept (ending g) ∙ ending-kept g h.2)
+  ending-kept (binary op.ColonDash at l r) h = ap (λ z. binary op.ColonDash at z (arrow_raw (last_arrow (ending r))))
+      (formula-kept (followed l) ∙ followed-kept l h.0) ∙ ap (binary op.ColonDash at l) (last-arrow-kept (ending r) ∙ ending-kept r h.1)
+  ending-kept (binary op.LeftArrow at l r) h = ap (λ z. binary op.LeftArrow at z (arrow_raw (last_arrow (ending r))))
+      (formula-kept (followed l) ∙ followed-kept l h.0) ∙ ap (binary op.LeftArrow at l) (last-arrow-kept (ending r) ∙ ending-kept r h.1)
+  ending-kept (binary op.Lolli at l r) h = ap (λ z. binary op.Lolli at z (arrow_raw (last_arrow (ending r))))
+      (sum-kept (followed l) (ending l) l (followed-kept l h.0) (ending-kept l h.0))
+      ∙ ap (binary op.Lolli at l) (last-arrow-kept (ending r) ∙ ending-kept r h.1)
+  ending-kept (binary op.RightArrow at l r) h = ap (λ z. binary op.RightArrow at z (arrow_raw (last_arrow (ending r))))
+      (sum-kept (followed l) (ending l) l (followed-kept l h.0) (ending-kept l h.0))
+      ∙ ap (binary op.RightArrow at l) (last-arrow-kept (ending r) ∙ ending-kept r h.1)
+  ending-kept (binary op.Plus at l r) h = ap (λ z. binary op.Plus at z (sum_raw (last_sum (ending r))))
+      (with-kept (followed l) (ending l) l (followed-kept l h.0) (ending-kept l h.0)) ∙ ap (binary op.Plus at l) (last-sum-kept (ending r) ∙ ending-kept r h.1)
+  ending-kept (binary op.With at l r) h = ap (λ z. binary op.With at z (with_raw (last_with (ending r))))
+      (tensor-kept (followed l) (ending l) l (followed-kept l h.0) (ending-kept l h.0))
+      ∙ ap (binary op.With at l) (last-with-kept (ending r) ∙ ending-kept r h.1)
+  ending-kept (binary op.Tensor at l r) h = ap (λ z. binary op.Tensor at z (tensor_raw (last_tensor (ending r))))
+      (primary-kept (followed l) (ending l) l (followed-kept l h.0) (ending-kept l h.0))
+      ∙ ap (binary op.Tensor at l) (last-tensor-kept (ending r) ∙ ending-kept r h.1)
   ending-kept (head n rs) h = ap (λ z. head z (simples_raws (arguments_of rs))) (word-kept n) ∙ ap (head n) (arguments-kept rs h.1)
   ending-kept (anything at) h = absurd h
   ending-kept (int at z) h = absurd h

@@ -4,7 +4,9 @@ use Rattle.std.proofs.lemmas.List.Elements.{All-from_recursion, recursion_from_A
 use Rattle.ll_parser.specs.Tokens.{Identifier, dot, IsSpelled}
 use Rattle.ll_parser.specs.Raw.{ProgramTree}
 use Rattle.ll_parser.specs.Grammar.{Formula, formula_tokens, formula_raw}
-use Rattle.ll_parser.specs.Text.{Clause, plain, linear, Local, Heading, Module, Program, clause_tokens, names, variables, local_tokens, heading_tokens, clauses_tokens, locals_tokens, module_tokens, modules_tokens, program_tokens, clause_tree, locals_of, module_tree, program_tree, programs}
+use Rattle.ll_parser.specs.Text.{Clause, plain, linear, Local, Heading, Module, Program, clause_tokens, names, variables, local_tokens, heading_tokens}
+use Rattle.ll_parser.specs.Text.{clauses_tokens, locals_tokens, module_tokens, modules_tokens, program_tokens, clause_tree, locals_of, module_tree}
+use Rattle.ll_parser.specs.Text.{program_tree, programs}
 use Rattle.ll_parser.specs.Reads.{Within, Reads, IsWhole}
 use Rattle.ll_parser.proofs.printing.PrintedTree.{somewhere, last_formula, ending, printed_clause, printed_locals, printed_module, printed_program}
 use Rattle.ll_parser.proofs.printing.Printable.{Spelled, spelled-split, spelled-join, formula-printable}
@@ -33,15 +35,23 @@ locals-same [] = refl
 locals-same (n ∷ ns) = ap (λ z. n ∷ z) (append-nil ns)
 
 -- the parts of a module whose tokens can stand in a text
-module-parts : (m : Module) → Spelled (module_tokens m) → Spelled (heading_tokens m.heading) × Spelled (locals_tokens m.locals) × Spelled (clauses_tokens m.clauses)
+module-parts : (m : Module) → Spelled (module_tokens m) → Spelled (heading_tokens m.heading) × Spelled (locals_tokens m.locals)
+    × Spelled (clauses_tokens m.clauses)
 module-parts m s =
     let k = spelled-split (heading_tokens m.heading) (locals_tokens m.locals ++ clauses_tokens m.clauses) s in
     let j = spelled-split (locals_tokens m.locals) (clauses_tokens m.clauses) k.1 in (k.0, j.0, j.1)
 
 module-same : (m : Module) → Spelled (module_tokens m) → module_tree (printed_module (module_tree m)) ≡ module_tree m
 module-same m s =
-    ap (λ z. record { name = m.heading.name; params = m.heading.params; locals = z; clauses = map clause_tree (map printed_clause (map clause_tree m.clauses)) }) (locals-same (locals_of m.locals))
-    ∙ ap (λ z. record { name = m.heading.name; params = m.heading.params; locals = locals_of m.locals; clauses = z }) (clauses-same m.clauses (module-parts m s).2)
+    ap (λ z. record {
+      name = m.heading.name;
+      params = m.heading.params;
+      locals = z;
+      clauses =
+          map clause_tree (map printed_clause (map clause_tree m.clauses));
+    }) (locals-same (locals_of m.locals))
+    ∙ ap (λ z. record { name = m.heading.name; params = m.heading.params; locals = locals_of m.locals; clauses = z })
+    (clauses-same m.clauses (module-parts m s).2)
 
 modules-same : (ms : List Module) → Spelled (modules_tokens ms) → map module_tree (map printed_module (map module_tree ms)) ≡ map module_tree ms
 modules-same [] s = refl
@@ -62,14 +72,18 @@ clause-spelled (plain f end) s =
     let k = (spelled-split (formula_tokens f) (dot end ∷ []) s).0 in
     spelled-join (formula_tokens (last_formula (ending (formula_raw f)))) (dot somewhere ∷ []) (ending-spelled (formula_raw f) (formula-printable f k)) (tt, tt)
 clause-spelled (linear at f end) s =
-    let k = (spelled-split (formula_tokens f) (dot end ∷ []) s.1).0 in
-    (tt, spelled-join (formula_tokens (last_formula (ending (formula_raw f)))) (dot somewhere ∷ []) (ending-spelled (formula_raw f) (formula-printable f k)) (tt, tt))
+    let k = (spelled-split (formula_tokens f) (dot end ∷ []) s.1).0 in (
+      tt,
+      spelled-join (formula_tokens (last_formula (ending (formula_raw f)))) (dot somewhere ∷ []) (ending-spelled (formula_raw f) (formula-printable f k))
+          (tt, tt),
+    )
 
 clauses-spelled : (cs : List Clause) → Spelled (clauses_tokens cs) → Spelled (clauses_tokens (map printed_clause (map clause_tree cs)))
 clauses-spelled [] s = tt
 clauses-spelled (c ∷ cs) s =
     let k = spelled-split (clause_tokens c) (clauses_tokens cs) s in
-    spelled-join (clause_tokens (printed_clause (clause_tree c))) (clauses_tokens (map printed_clause (map clause_tree cs))) (clause-spelled c k.0) (clauses-spelled cs k.1)
+    spelled-join (clause_tokens (printed_clause (clause_tree c))) (clauses_tokens (map printed_clause (map clause_tree cs))) (clause-spelled c k.0)
+    (clauses-spelled cs k.1)
 
 names-join : (xs ys : List Identifier) → Spelled (names xs) → Spelled (names ys) → Spelled (names (xs ++ ys))
 names-join [] ys h k = k
@@ -85,26 +99,32 @@ locals-spelled : (ns : List Identifier) → Spelled (names ns) → Spelled (loca
 locals-spelled [] s = tt
 locals-spelled (n ∷ ns) s = (tt, (s.0, spelled-join (names ns ++ dot somewhere ∷ []) [] (spelled-join (names ns) (dot somewhere ∷ []) s.1 (tt, tt)) tt))
 
-heading-spelled : (h : Heading) → Spelled (heading_tokens h) → Spelled (heading_tokens (record { word = somewhere; name = h.name; params = h.params; end = somewhere }))
-heading-spelled h s = (tt, (s.1.0, spelled-join (variables h.params) (dot somewhere ∷ []) (spelled-split (variables h.params) (dot h.end ∷ []) s.1.1).0 (tt, tt)))
+heading-spelled : (h : Heading) → Spelled (heading_tokens h)
+    → Spelled (heading_tokens (record { word = somewhere; name = h.name; params = h.params; end = somewhere }))
+heading-spelled h s =
+    (tt, (s.1.0, spelled-join (variables h.params) (dot somewhere ∷ []) (spelled-split (variables h.params) (dot h.end ∷ []) s.1.1).0 (tt, tt)))
 
 module-spelled : (m : Module) → Spelled (module_tokens m) → Spelled (module_tokens (printed_module (module_tree m)))
 module-spelled m s =
     let k = module-parts m s in
-    spelled-join (heading_tokens (record { word = somewhere; name = m.heading.name; params = m.heading.params; end = somewhere })) (locals_tokens (printed_locals (locals_of m.locals)) ++ clauses_tokens (map printed_clause (map clause_tree m.clauses)))
+    spelled-join (heading_tokens (record { word = somewhere; name = m.heading.name; params = m.heading.params; end = somewhere }))
+    (locals_tokens (printed_locals (locals_of m.locals)) ++ clauses_tokens (map printed_clause (map clause_tree m.clauses)))
     (heading-spelled m.heading k.0)
-    (spelled-join (locals_tokens (printed_locals (locals_of m.locals))) (clauses_tokens (map printed_clause (map clause_tree m.clauses))) (locals-spelled (locals_of m.locals) (locals-names m.locals k.1)) (clauses-spelled m.clauses k.2))
+    (spelled-join (locals_tokens (printed_locals (locals_of m.locals))) (clauses_tokens (map printed_clause (map clause_tree m.clauses)))
+    (locals-spelled (locals_of m.locals) (locals-names m.locals k.1)) (clauses-spelled m.clauses k.2))
 
 modules-spelled : (ms : List Module) → Spelled (modules_tokens ms) → Spelled (modules_tokens (map printed_module (map module_tree ms)))
 modules-spelled [] s = tt
 modules-spelled (m ∷ ms) s =
     let k = spelled-split (module_tokens m) (modules_tokens ms) s in
-    spelled-join (module_tokens (printed_module (module_tree m))) (modules_tokens (map printed_module (map module_tree ms))) (module-spelled m k.0) (modules-spelled ms k.1)
+    spelled-join (module_tokens (printed_module (module_tree m))) (modules_tokens (map printed_module (map module_tree ms))) (module-spelled m k.0)
+    (modules-spelled ms k.1)
 
 program-spelled : (p : Program) → Spelled (program_tokens p) → Spelled (program_tokens (printed_program (program_tree p)))
 program-spelled p s =
     let k = spelled-split (clauses_tokens p.clauses) (modules_tokens p.modules) s in
-    spelled-join (clauses_tokens (map printed_clause (map clause_tree p.clauses))) (modules_tokens (map printed_module (map module_tree p.modules))) (clauses-spelled p.clauses k.0) (modules-spelled p.modules k.1)
+    spelled-join (clauses_tokens (map printed_clause (map clause_tree p.clauses))) (modules_tokens (map printed_module (map module_tree p.modules)))
+    (clauses-spelled p.clauses k.0) (modules-spelled p.modules k.1)
 
 -- ---- room for brackets
 
@@ -118,16 +138,22 @@ clauses-room n (c ∷ cs) s h = let k = spelled-split (clause_tokens c) (clauses
 
 modules-room : (n : ℕ) (ms : List Module) → Spelled (modules_tokens ms) → ModulesRoom n ms → ModulesRoom n (map printed_module (map module_tree ms))
 modules-room n [] s h = tt
-modules-room n (m ∷ ms) s h = let k = spelled-split (module_tokens m) (modules_tokens ms) s in (clauses-room n m.clauses (module-parts m k.0).2 h.0, modules-room n ms k.1 h.1)
+modules-room n (m ∷ ms) s h = let k = spelled-split (module_tokens m) (modules_tokens ms) s in
+    (clauses-room n m.clauses (module-parts m k.0).2 h.0, modules-room n ms k.1 h.1)
 
 program-printed-room : (n : ℕ) (p : Program) → Spelled (program_tokens p) → ProgramRoom n p → ProgramRoom n (printed_program (program_tree p))
-program-printed-room n p s h = let k = spelled-split (clauses_tokens p.clauses) (modules_tokens p.modules) s in (clauses-room n p.clauses k.0 h.0, modules-room n p.modules k.1 h.1)
+program-printed-room n p s h = let k = spelled-split (clauses_tokens p.clauses) (modules_tokens p.modules) s in
+    (clauses-room n p.clauses k.0 h.0, modules-room n p.modules k.1 h.1)
 
 -- ---- reading back
 
 -- what is printed of what a program's tokens are read as
-reads-printed : (limit : ℕ) (p : Program) → Spelled (program_tokens p) → Within limit (program_tokens p) → Reads programs limit (program_tokens (printed_program (program_tree p))) (program_tree p)
-reads-printed limit p s w = ((printed_program (program_tree p), refl, program-kept p s), program-within limit (printed_program (program_tree p)) (program-printed-room limit p s (program-room limit p w)))
+reads-printed : (limit : ℕ) (p : Program) → Spelled (program_tokens p) → Within limit (program_tokens p)
+    → Reads programs limit (program_tokens (printed_program (program_tree p))) (program_tree p)
+reads-printed limit p s w = (
+  (printed_program (program_tree p), refl, program-kept p s),
+  program-within limit (printed_program (program_tree p)) (program-printed-room limit p s (program-room limit p w)),
+)
 
 pub printed-reads : (tree : ProgramTree) → IsWhole programs tree → Reads programs 1000 (program_tokens (printed_program tree)) tree
 printed-reads tree (ts, few, spelled, ((p, e, f), w)) =
@@ -137,4 +163,5 @@ printed-reads tree (ts, few, spelled, ((p, e, f), w)) =
 pub printed-spelled : (tree : ProgramTree) → IsWhole programs tree → All IsSpelled (program_tokens (printed_program tree))
 printed-spelled tree (ts, few, spelled, ((p, e, f), w)) =
     let s : Spelled (program_tokens p) = subst Spelled (sym e) (recursion_from_All IsSpelled ts spelled) in
-    subst (λ z. All IsSpelled (program_tokens (printed_program z))) f (All-from_recursion IsSpelled (program_tokens (printed_program (program_tree p))) (program-spelled p s))
+    subst (λ z. All IsSpelled (program_tokens (printed_program z))) f
+    (All-from_recursion IsSpelled (program_tokens (printed_program (program_tree p))) (program-spelled p s))

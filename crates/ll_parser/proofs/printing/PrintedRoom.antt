@@ -4,8 +4,13 @@ use Rattle.ll_parser.specs.declared.Op.TheVariants as op
 use Rattle.ll_parser.specs.declared.Quantifier.TheVariants as quantifier
 use Rattle.ll_parser.specs.Tokens.{comma, ampersand, semicolon, paren_right, brace_right, load_arrow}
 use Rattle.ll_parser.specs.Raw.{Raw, truth, erasure, braces, universal, existential, load, binary, head, anything, int, is_goal, less_goal, most_goal}
-use Rattle.ll_parser.specs.Grammar.{by_colon, by_left, by_lolli, by_right, Formula, of_arrow, clause, Arrow, of_sum, implies, loads, Sum, of_with, plus, With, of_tensor, with, Tensor, of_primary, times, Primary, truly, erased, bracket, brace, quantified, atom, clause_token, arrow_token, simples_tokens, formula_tokens, arrow_tokens, sum_tokens, with_tokens, tensor_tokens, primary_tokens, formula_raw, arrow_raw, sum_raw, with_raw, tensor_raw, primary_raw, valued, tested, by_less, by_most}
-use Rattle.ll_parser.proofs.printing.PrintedTree.{arguments_of, at_formula, at_arrow, at_sum, at_with, at_tensor, at_primary, Last, last, to_formula, to_arrow, to_sum, to_with, to_tensor, to_primary, last_formula, last_arrow, last_sum, last_with, last_tensor, followed, ending, expr_of, lead_of}
+use Rattle.ll_parser.specs.Grammar.{by_colon, by_left, by_lolli, by_right, Formula, of_arrow, clause, Arrow, of_sum, implies, loads, Sum, of_with, plus, With}
+use Rattle.ll_parser.specs.Grammar.{of_tensor, with, Tensor, of_primary, times, Primary, truly, erased, bracket, brace, quantified, atom, clause_token}
+use Rattle.ll_parser.specs.Grammar.{arrow_token, simples_tokens, formula_tokens, arrow_tokens, sum_tokens, with_tokens, tensor_tokens, primary_tokens}
+use Rattle.ll_parser.specs.Grammar.{formula_raw, arrow_raw, sum_raw, with_raw, tensor_raw, primary_raw, valued, tested, by_less, by_most}
+use Rattle.ll_parser.proofs.printing.PrintedTree.{arguments_of, at_formula, at_arrow, at_sum, at_with, at_tensor, at_primary, Last, last, to_formula, to_arrow}
+use Rattle.ll_parser.proofs.printing.PrintedTree.{to_sum, to_with, to_tensor, to_primary, last_formula, last_arrow, last_sum, last_with, last_tensor, followed}
+use Rattle.ll_parser.proofs.printing.PrintedTree.{ending, expr_of, lead_of}
 use Rattle.ll_parser.proofs.printing.Printable.{Spelled, spelled-split}
 use Rattle.ll_parser.proofs.machines.Room.{Enough, FormulaRoom, ArrowRoom, SumRoom, WithRoom, TensorRoom, PrimaryRoom}
 use Rattle.ll_parser.proofs.printing.PrintedTermRoom.{enough-more, simples-more, arguments-room, expr-more, lead-more, expr-room, lead-room}
@@ -75,8 +80,10 @@ mutual
   arrow-followed-more (universal at x g) n h = h
   arrow-followed-more (existential at x g) n h = h
   arrow-followed-more (load at x rs g) n h = (simples-more (arguments_of rs) n h.0, arrow-followed-more g n h.1)
-  arrow-followed-more (binary op.ColonDash at l r) n h = enough-more (λ m. FormulaRoom m (last_formula (ending (binary op.ColonDash at l r)))) (formula-more (last_formula (ending (binary op.ColonDash at l r)))) n h
-  arrow-followed-more (binary op.LeftArrow at l r) n h = enough-more (λ m. FormulaRoom m (last_formula (ending (binary op.LeftArrow at l r)))) (formula-more (last_formula (ending (binary op.LeftArrow at l r)))) n h
+  arrow-followed-more (binary op.ColonDash at l r) n h = enough-more (λ m. FormulaRoom m (last_formula (ending (binary op.ColonDash at l r))))
+      (formula-more (last_formula (ending (binary op.ColonDash at l r)))) n h
+  arrow-followed-more (binary op.LeftArrow at l r) n h = enough-more (λ m. FormulaRoom m (last_formula (ending (binary op.LeftArrow at l r))))
+      (formula-more (last_formula (ending (binary op.LeftArrow at l r)))) n h
   arrow-followed-more (binary op.Lolli at l r) n h = (sum-more (to_sum (followed l) (ending l)) n h.0, arrow-followed-more r n h.1)
   arrow-followed-more (binary op.RightArrow at l r) n h = (sum-more (to_sum (followed l) (ending l)) n h.0, arrow-followed-more r n h.1)
   arrow-followed-more (binary op.Plus at l r) n h = (with-more (to_with (followed l) (ending l)) n h.0, sum-followed-more r n h.1)
@@ -95,11 +102,16 @@ mutual
   sum-followed-more (braces at g) n h = enough-more (λ m. FormulaRoom m (last_formula (ending g))) (formula-more (last_formula (ending g))) n h
   sum-followed-more (universal at x g) n h = h
   sum-followed-more (existential at x g) n h = h
-  sum-followed-more (load at x rs g) n h = enough-more (λ m. FormulaRoom m (last_formula (ending (load at x rs g)))) (formula-more (last_formula (ending (load at x rs g)))) n h
-  sum-followed-more (binary op.ColonDash at l r) n h = enough-more (λ m. FormulaRoom m (last_formula (ending (binary op.ColonDash at l r)))) (formula-more (last_formula (ending (binary op.ColonDash at l r)))) n h
-  sum-followed-more (binary op.LeftArrow at l r) n h = enough-more (λ m. FormulaRoom m (last_formula (ending (binary op.LeftArrow at l r)))) (formula-more (last_formula (ending (binary op.LeftArrow at l r)))) n h
-  sum-followed-more (binary op.Lolli at l r) n h = enough-more (λ m. FormulaRoom m (last_formula (ending (binary op.Lolli at l r)))) (formula-more (last_formula (ending (binary op.Lolli at l r)))) n h
-  sum-followed-more (binary op.RightArrow at l r) n h = enough-more (λ m. FormulaRoom m (last_formula (ending (binary op.RightArrow at l r)))) (formula-more (last_formula (ending (binary op.RightArrow at l r)))) n h
+  sum-followed-more (load at x rs g) n h = enough-more (λ m. FormulaRoom m (last_formula (ending (load at x rs g))))
+      (formula-more (last_formula (ending (load at x rs g)))) n h
+  sum-followed-more (binary op.ColonDash at l r) n h = enough-more (λ m. FormulaRoom m (last_formula (ending (binary op.ColonDash at l r))))
+      (formula-more (last_formula (ending (binary op.ColonDash at l r)))) n h
+  sum-followed-more (binary op.LeftArrow at l r) n h = enough-more (λ m. FormulaRoom m (last_formula (ending (binary op.LeftArrow at l r))))
+      (formula-more (last_formula (ending (binary op.LeftArrow at l r)))) n h
+  sum-followed-more (binary op.Lolli at l r) n h = enough-more (λ m. FormulaRoom m (last_formula (ending (binary op.Lolli at l r))))
+      (formula-more (last_formula (ending (binary op.Lolli at l r)))) n h
+  sum-followed-more (binary op.RightArrow at l r) n h = enough-more (λ m. FormulaRoom m (last_formula (ending (binary op.RightArrow at l r))))
+      (formula-more (last_formula (ending (binary op.RightArrow at l r)))) n h
   sum-followed-more (binary op.Plus at l r) n h = (with-more (to_with (followed l) (ending l)) n h.0, sum-followed-more r n h.1)
   sum-followed-more (binary op.With at l r) n h = (tensor-more (to_tensor (followed l) (ending l)) n h.0, with-followed-more r n h.1)
   sum-followed-more (binary op.Tensor at l r) n h = (primary-more (to_primary (followed l) (ending l)) n h.0, tensor-followed-more r n h.1)
@@ -116,12 +128,18 @@ mutual
   with-followed-more (braces at g) n h = enough-more (λ m. FormulaRoom m (last_formula (ending g))) (formula-more (last_formula (ending g))) n h
   with-followed-more (universal at x g) n h = h
   with-followed-more (existential at x g) n h = h
-  with-followed-more (load at x rs g) n h = enough-more (λ m. FormulaRoom m (last_formula (ending (load at x rs g)))) (formula-more (last_formula (ending (load at x rs g)))) n h
-  with-followed-more (binary op.ColonDash at l r) n h = enough-more (λ m. FormulaRoom m (last_formula (ending (binary op.ColonDash at l r)))) (formula-more (last_formula (ending (binary op.ColonDash at l r)))) n h
-  with-followed-more (binary op.LeftArrow at l r) n h = enough-more (λ m. FormulaRoom m (last_formula (ending (binary op.LeftArrow at l r)))) (formula-more (last_formula (ending (binary op.LeftArrow at l r)))) n h
-  with-followed-more (binary op.Lolli at l r) n h = enough-more (λ m. FormulaRoom m (last_formula (ending (binary op.Lolli at l r)))) (formula-more (last_formula (ending (binary op.Lolli at l r)))) n h
-  with-followed-more (binary op.RightArrow at l r) n h = enough-more (λ m. FormulaRoom m (last_formula (ending (binary op.RightArrow at l r)))) (formula-more (last_formula (ending (binary op.RightArrow at l r)))) n h
-  with-followed-more (binary op.Plus at l r) n h = enough-more (λ m. FormulaRoom m (last_formula (ending (binary op.Plus at l r)))) (formula-more (last_formula (ending (binary op.Plus at l r)))) n h
+  with-followed-more (load at x rs g) n h = enough-more (λ m. FormulaRoom m (last_formula (ending (load at x rs g))))
+      (formula-more (last_formula (ending (load at x rs g)))) n h
+  with-followed-more (binary op.ColonDash at l r) n h = enough-more (λ m. FormulaRoom m (last_formula (ending (binary op.ColonDash at l r))))
+      (formula-more (last_formula (ending (binary op.ColonDash at l r)))) n h
+  with-followed-more (binary op.LeftArrow at l r) n h = enough-more (λ m. FormulaRoom m (last_formula (ending (binary op.LeftArrow at l r))))
+      (formula-more (last_formula (ending (binary op.LeftArrow at l r)))) n h
+  with-followed-more (binary op.Lolli at l r) n h = enough-more (λ m. FormulaRoom m (last_formula (ending (binary op.Lolli at l r))))
+      (formula-more (last_formula (ending (binary op.Lolli at l r)))) n h
+  with-followed-more (binary op.RightArrow at l r) n h = enough-more (λ m. FormulaRoom m (last_formula (ending (binary op.RightArrow at l r))))
+      (formula-more (last_formula (ending (binary op.RightArrow at l r)))) n h
+  with-followed-more (binary op.Plus at l r) n h = enough-more (λ m. FormulaRoom m (last_formula (ending (binary op.Plus at l r))))
+      (formula-more (last_formula (ending (binary op.Plus at l r)))) n h
   with-followed-more (binary op.With at l r) n h = (tensor-more (to_tensor (followed l) (ending l)) n h.0, with-followed-more r n h.1)
   with-followed-more (binary op.Tensor at l r) n h = (primary-more (to_primary (followed l) (ending l)) n h.0, tensor-followed-more r n h.1)
   with-followed-more (head x rs) n h = simples-more (arguments_of rs) n h
@@ -137,13 +155,20 @@ mutual
   tensor-followed-more (braces at g) n h = enough-more (λ m. FormulaRoom m (last_formula (ending g))) (formula-more (last_formula (ending g))) n h
   tensor-followed-more (universal at x g) n h = h
   tensor-followed-more (existential at x g) n h = h
-  tensor-followed-more (load at x rs g) n h = enough-more (λ m. FormulaRoom m (last_formula (ending (load at x rs g)))) (formula-more (last_formula (ending (load at x rs g)))) n h
-  tensor-followed-more (binary op.ColonDash at l r) n h = enough-more (λ m. FormulaRoom m (last_formula (ending (binary op.ColonDash at l r)))) (formula-more (last_formula (ending (binary op.ColonDash at l r)))) n h
-  tensor-followed-more (binary op.LeftArrow at l r) n h = enough-more (λ m. FormulaRoom m (last_formula (ending (binary op.LeftArrow at l r)))) (formula-more (last_formula (ending (binary op.LeftArrow at l r)))) n h
-  tensor-followed-more (binary op.Lolli at l r) n h = enough-more (λ m. FormulaRoom m (last_formula (ending (binary op.Lolli at l r)))) (formula-more (last_formula (ending (binary op.Lolli at l r)))) n h
-  tensor-followed-more (binary op.RightArrow at l r) n h = enough-more (λ m. FormulaRoom m (last_formula (ending (binary op.RightArrow at l r)))) (formula-more (last_formula (ending (binary op.RightArrow at l r)))) n h
-  tensor-followed-more (binary op.Plus at l r) n h = enough-more (λ m. FormulaRoom m (last_formula (ending (binary op.Plus at l r)))) (formula-more (last_formula (ending (binary op.Plus at l r)))) n h
-  tensor-followed-more (binary op.With at l r) n h = enough-more (λ m. FormulaRoom m (last_formula (ending (binary op.With at l r)))) (formula-more (last_formula (ending (binary op.With at l r)))) n h
+  tensor-followed-more (load at x rs g) n h = enough-more (λ m. FormulaRoom m (last_formula (ending (load at x rs g))))
+      (formula-more (last_formula (ending (load at x rs g)))) n h
+  tensor-followed-more (binary op.ColonDash at l r) n h = enough-more (λ m. FormulaRoom m (last_formula (ending (binary op.ColonDash at l r))))
+      (formula-more (last_formula (ending (binary op.ColonDash at l r)))) n h
+  tensor-followed-more (binary op.LeftArrow at l r) n h = enough-more (λ m. FormulaRoom m (last_formula (ending (binary op.LeftArrow at l r))))
+      (formula-more (last_formula (ending (binary op.LeftArrow at l r)))) n h
+  tensor-followed-more (binary op.Lolli at l r) n h = enough-more (λ m. FormulaRoom m (last_formula (ending (binary op.Lolli at l r))))
+      (formula-more (last_formula (ending (binary op.Lolli at l r)))) n h
+  tensor-followed-more (binary op.RightArrow at l r) n h = enough-more (λ m. FormulaRoom m (last_formula (ending (binary op.RightArrow at l r))))
+      (formula-more (last_formula (ending (binary op.RightArrow at l r)))) n h
+  tensor-followed-more (binary op.Plus at l r) n h = enough-more (λ m. FormulaRoom m (last_formula (ending (binary op.Plus at l r))))
+      (formula-more (last_formula (ending (binary op.Plus at l r)))) n h
+  tensor-followed-more (binary op.With at l r) n h = enough-more (λ m. FormulaRoom m (last_formula (ending (binary op.With at l r))))
+      (formula-more (last_formula (ending (binary op.With at l r)))) n h
   tensor-followed-more (binary op.Tensor at l r) n h = (primary-more (to_primary (followed l) (ending l)) n h.0, tensor-followed-more r n h.1)
   tensor-followed-more (head x rs) n h = simples-more (arguments_of rs) n h
   tensor-followed-more (anything at) n h = tt
@@ -339,55 +364,73 @@ formula-loosened (most_goal at l r) n h = h
 mutual
   pub formula-ending : {o : Bool} (f : Formula o) (n : ℕ) → Spelled (formula_tokens f) → FormulaRoom n f → FormulaRoom n (last_formula (ending (formula_raw f)))
   formula-ending (of_arrow a) n s h = formula-last (ending (arrow_raw a)) n (arrow-ending a n s h)
-  formula-ending (clause f by_colon at a) n s h = let k = spelled-split (formula_tokens f) (clause_token by_colon at ∷ arrow_tokens a) s in (formula-followed f n k.0 h.0, arrow-ending a n k.1.1 h.1)
-  formula-ending (clause f by_left at a) n s h = let k = spelled-split (formula_tokens f) (clause_token by_left at ∷ arrow_tokens a) s in (formula-followed f n k.0 h.0, arrow-ending a n k.1.1 h.1)
+  formula-ending (clause f by_colon at a) n s h = let k = spelled-split (formula_tokens f) (clause_token by_colon at ∷ arrow_tokens a) s in
+      (formula-followed f n k.0 h.0, arrow-ending a n k.1.1 h.1)
+  formula-ending (clause f by_left at a) n s h = let k = spelled-split (formula_tokens f) (clause_token by_left at ∷ arrow_tokens a) s in
+      (formula-followed f n k.0 h.0, arrow-ending a n k.1.1 h.1)
 
   formula-followed : (f : Formula false) (n : ℕ) → Spelled (formula_tokens f) → FormulaRoom n f → FormulaRoom n (to_formula (followed (formula_raw f)))
   formula-followed (of_arrow a) n s h = formula-loosened (arrow_raw a) n (arrow-followed a n s h)
-  formula-followed (clause f by_colon at a) n s h = let k = spelled-split (formula_tokens f) (clause_token by_colon at ∷ arrow_tokens a) s in (formula-followed f n k.0 h.0, arrow-followed a n k.1.1 h.1)
-  formula-followed (clause f by_left at a) n s h = let k = spelled-split (formula_tokens f) (clause_token by_left at ∷ arrow_tokens a) s in (formula-followed f n k.0 h.0, arrow-followed a n k.1.1 h.1)
+  formula-followed (clause f by_colon at a) n s h = let k = spelled-split (formula_tokens f) (clause_token by_colon at ∷ arrow_tokens a) s in
+      (formula-followed f n k.0 h.0, arrow-followed a n k.1.1 h.1)
+  formula-followed (clause f by_left at a) n s h = let k = spelled-split (formula_tokens f) (clause_token by_left at ∷ arrow_tokens a) s in
+      (formula-followed f n k.0 h.0, arrow-followed a n k.1.1 h.1)
 
   arrow-ending : {o : Bool} (a : Arrow o) (n : ℕ) → Spelled (arrow_tokens a) → ArrowRoom n a → ArrowRoom n (last_arrow (ending (arrow_raw a)))
   arrow-ending (of_sum x) n s h = arrow-last (ending (sum_raw x)) n (sum-ending x n s h)
-  arrow-ending (implies x by_lolli at a) n s h = let k = spelled-split (sum_tokens x) (arrow_token by_lolli at ∷ arrow_tokens a) s in (sum-followed x n k.0 h.0, arrow-ending a n k.1.1 h.1)
-  arrow-ending (implies x by_right at a) n s h = let k = spelled-split (sum_tokens x) (arrow_token by_right at ∷ arrow_tokens a) s in (sum-followed x n k.0 h.0, arrow-ending a n k.1.1 h.1)
-  arrow-ending (loads x ss at a) n s h = let k = spelled-split (simples_tokens ss) (load_arrow at ∷ arrow_tokens a) s.1 in (arguments-room ss n k.0 h.0, arrow-ending a n k.1.1 h.1)
+  arrow-ending (implies x by_lolli at a) n s h = let k = spelled-split (sum_tokens x) (arrow_token by_lolli at ∷ arrow_tokens a) s in
+      (sum-followed x n k.0 h.0, arrow-ending a n k.1.1 h.1)
+  arrow-ending (implies x by_right at a) n s h = let k = spelled-split (sum_tokens x) (arrow_token by_right at ∷ arrow_tokens a) s in
+      (sum-followed x n k.0 h.0, arrow-ending a n k.1.1 h.1)
+  arrow-ending (loads x ss at a) n s h = let k = spelled-split (simples_tokens ss) (load_arrow at ∷ arrow_tokens a) s.1 in
+      (arguments-room ss n k.0 h.0, arrow-ending a n k.1.1 h.1)
 
   sum-ending : {o : Bool} (x : Sum o) (n : ℕ) → Spelled (sum_tokens x) → SumRoom n x → SumRoom n (last_sum (ending (sum_raw x)))
   sum-ending (of_with x) n s h = sum-last (ending (with_raw x)) n (with-ending x n s h)
-  sum-ending (plus x at y) n s h = let k = spelled-split (with_tokens x) (semicolon at ∷ sum_tokens y) s in (with-followed x n k.0 h.0, sum-ending y n k.1.1 h.1)
+  sum-ending (plus x at y) n s h = let k = spelled-split (with_tokens x) (semicolon at ∷ sum_tokens y) s in
+      (with-followed x n k.0 h.0, sum-ending y n k.1.1 h.1)
 
   with-ending : {o : Bool} (x : With o) (n : ℕ) → Spelled (with_tokens x) → WithRoom n x → WithRoom n (last_with (ending (with_raw x)))
   with-ending (of_tensor x) n s h = with-last (ending (tensor_raw x)) n (tensor-ending x n s h)
-  with-ending (with x at y) n s h = let k = spelled-split (tensor_tokens x) (ampersand at ∷ with_tokens y) s in (tensor-followed x n k.0 h.0, with-ending y n k.1.1 h.1)
+  with-ending (with x at y) n s h = let k = spelled-split (tensor_tokens x) (ampersand at ∷ with_tokens y) s in
+      (tensor-followed x n k.0 h.0, with-ending y n k.1.1 h.1)
 
   tensor-ending : {o : Bool} (x : Tensor o) (n : ℕ) → Spelled (tensor_tokens x) → TensorRoom n x → TensorRoom n (last_tensor (ending (tensor_raw x)))
   tensor-ending (of_primary x) n s h = primary-ending x n s h
-  tensor-ending (times x at y) n s h = let k = spelled-split (primary_tokens x) (comma at ∷ tensor_tokens y) s in (primary-followed x n k.0 h.0, tensor-ending y n k.1.1 h.1)
+  tensor-ending (times x at y) n s h = let k = spelled-split (primary_tokens x) (comma at ∷ tensor_tokens y) s in
+      (primary-followed x n k.0 h.0, tensor-ending y n k.1.1 h.1)
 
   arrow-followed : (a : Arrow false) (n : ℕ) → Spelled (arrow_tokens a) → ArrowRoom n a → ArrowRoom n (to_arrow (followed (arrow_raw a)) (ending (arrow_raw a)))
   arrow-followed (of_sum x) n s h = arrow-loosened (sum_raw x) n (sum-followed x n s h)
-  arrow-followed (implies x by_lolli at a) n s h = let k = spelled-split (sum_tokens x) (arrow_token by_lolli at ∷ arrow_tokens a) s in (sum-followed x n k.0 h.0, arrow-followed a n k.1.1 h.1)
-  arrow-followed (implies x by_right at a) n s h = let k = spelled-split (sum_tokens x) (arrow_token by_right at ∷ arrow_tokens a) s in (sum-followed x n k.0 h.0, arrow-followed a n k.1.1 h.1)
-  arrow-followed (loads x ss at a) n s h = let k = spelled-split (simples_tokens ss) (load_arrow at ∷ arrow_tokens a) s.1 in (arguments-room ss n k.0 h.0, arrow-followed a n k.1.1 h.1)
+  arrow-followed (implies x by_lolli at a) n s h = let k = spelled-split (sum_tokens x) (arrow_token by_lolli at ∷ arrow_tokens a) s in
+      (sum-followed x n k.0 h.0, arrow-followed a n k.1.1 h.1)
+  arrow-followed (implies x by_right at a) n s h = let k = spelled-split (sum_tokens x) (arrow_token by_right at ∷ arrow_tokens a) s in
+      (sum-followed x n k.0 h.0, arrow-followed a n k.1.1 h.1)
+  arrow-followed (loads x ss at a) n s h = let k = spelled-split (simples_tokens ss) (load_arrow at ∷ arrow_tokens a) s.1 in
+      (arguments-room ss n k.0 h.0, arrow-followed a n k.1.1 h.1)
 
   sum-followed : (x : Sum false) (n : ℕ) → Spelled (sum_tokens x) → SumRoom n x → SumRoom n (to_sum (followed (sum_raw x)) (ending (sum_raw x)))
   sum-followed (of_with x) n s h = sum-loosened (with_raw x) n (with-followed x n s h)
-  sum-followed (plus x at y) n s h = let k = spelled-split (with_tokens x) (semicolon at ∷ sum_tokens y) s in (with-followed x n k.0 h.0, sum-followed y n k.1.1 h.1)
+  sum-followed (plus x at y) n s h = let k = spelled-split (with_tokens x) (semicolon at ∷ sum_tokens y) s in
+      (with-followed x n k.0 h.0, sum-followed y n k.1.1 h.1)
 
   with-followed : (x : With false) (n : ℕ) → Spelled (with_tokens x) → WithRoom n x → WithRoom n (to_with (followed (with_raw x)) (ending (with_raw x)))
   with-followed (of_tensor x) n s h = with-loosened (tensor_raw x) n (tensor-followed x n s h)
-  with-followed (with x at y) n s h = let k = spelled-split (tensor_tokens x) (ampersand at ∷ with_tokens y) s in (tensor-followed x n k.0 h.0, with-followed y n k.1.1 h.1)
+  with-followed (with x at y) n s h = let k = spelled-split (tensor_tokens x) (ampersand at ∷ with_tokens y) s in
+      (tensor-followed x n k.0 h.0, with-followed y n k.1.1 h.1)
 
-  tensor-followed : (x : Tensor false) (n : ℕ) → Spelled (tensor_tokens x) → TensorRoom n x → TensorRoom n (to_tensor (followed (tensor_raw x)) (ending (tensor_raw x)))
+  tensor-followed : (x : Tensor false) (n : ℕ) → Spelled (tensor_tokens x) → TensorRoom n x
+      → TensorRoom n (to_tensor (followed (tensor_raw x)) (ending (tensor_raw x)))
   tensor-followed (of_primary x) n s h = tensor-loosened (primary_raw x) n (primary-followed x n s h)
-  tensor-followed (times x at y) n s h = let k = spelled-split (primary_tokens x) (comma at ∷ tensor_tokens y) s in (primary-followed x n k.0 h.0, tensor-followed y n k.1.1 h.1)
+  tensor-followed (times x at y) n s h = let k = spelled-split (primary_tokens x) (comma at ∷ tensor_tokens y) s in
+      (primary-followed x n k.0 h.0, tensor-followed y n k.1.1 h.1)
 
   primary-ending : {o : Bool} (p : Primary o) (n : ℕ) → Spelled (primary_tokens p) → PrimaryRoom n p → TensorRoom n (last_tensor (ending (primary_raw p)))
   primary-ending (truly at) n s h = tt
   primary-ending (erased at) n s h = tt
   primary-ending (bracket at f end) zero s h = absurd h
-  primary-ending (bracket at f end) (suc n) s h = tensor-enclosed (ending (formula_raw f)) n (formula-ending f n (spelled-split (formula_tokens f) (paren_right end ∷ []) s.1).0 h)
+  primary-ending (bracket at f end) (suc n) s h = tensor-enclosed (ending (formula_raw f)) n
+      (formula-ending f n (spelled-split (formula_tokens f) (paren_right end ∷ []) s.1).0 h)
   primary-ending (brace at f end) zero s h = absurd h
   primary-ending (brace at f end) (suc n) s h = formula-ending f n (spelled-split (formula_tokens f) (brace_right end ∷ []) s.1).0 h
   primary-ending (quantified quantifier.Forall at w slash f) n s h = formula-ending f n s.1.1.1 h
@@ -397,11 +440,13 @@ mutual
   primary-ending (tested l by_less at e) n s h = (lead-room l n h.0, expr-room e n h.1)
   primary-ending (tested l by_most at e) n s h = (lead-room l n h.0, expr-room e n h.1)
 
-  primary-followed : (p : Primary false) (n : ℕ) → Spelled (primary_tokens p) → PrimaryRoom n p → PrimaryRoom n (to_primary (followed (primary_raw p)) (ending (primary_raw p)))
+  primary-followed : (p : Primary false) (n : ℕ) → Spelled (primary_tokens p) → PrimaryRoom n p
+      → PrimaryRoom n (to_primary (followed (primary_raw p)) (ending (primary_raw p)))
   primary-followed (truly at) n s h = tt
   primary-followed (erased at) n s h = tt
   primary-followed (bracket at f end) zero s h = absurd h
-  primary-followed (bracket at f end) (suc n) s h = primary-enclosed (formula_raw f) n (formula-ending f n (spelled-split (formula_tokens f) (paren_right end ∷ []) s.1).0 h)
+  primary-followed (bracket at f end) (suc n) s h = primary-enclosed (formula_raw f) n
+      (formula-ending f n (spelled-split (formula_tokens f) (paren_right end ∷ []) s.1).0 h)
   primary-followed (brace at f end) zero s h = absurd h
   primary-followed (brace at f end) (suc n) s h = formula-ending f n (spelled-split (formula_tokens f) (brace_right end ∷ []) s.1).0 h
   primary-followed (atom w ss) n s h = arguments-room ss n s.1 h

@@ -115,7 +115,8 @@ quantifier-in-load = refl
 lists : text (head (id (codes "p")) (more (cons_raw somewhere (cons_raw somewhere a b) (cons_raw somewhere c a)) none)) ≡ codes "p ((a::b)::c::a)"
 lists = refl
 
-arguments : text (head (id (codes "p")) (more (head (id (codes "f")) (more a none)) (more (anything somewhere) (more (int somewhere (negsuc 6)) none)))) ≡ codes "p (f a) _ -7"
+arguments : text (head (id (codes "p")) (more (head (id (codes "f")) (more a none)) (more (anything somewhere) (more (int somewhere (negsuc 6)) none))))
+    ≡ codes "p (f a) _ -7"
 unfolding digits
 arguments = refl
 
@@ -158,6 +159,12 @@ goals-have-no-brackets = refl
 
 whole-program : program_text (record {
   clauses = record { linear = true; form = when a b } ∷ [];
-  modules = record { name = id (codes "m"); params = id (codes "X") ∷ []; locals = id (codes "c") ∷ id (codes "d") ∷ []; clauses = record { linear = false; form = braces somewhere a } ∷ [] } ∷ record { name = id (codes "n"); params = []; locals = []; clauses = [] } ∷ [];
+  modules = record {
+    name = id (codes "m");
+    params = id (codes "X") ∷ [];
+    locals = id (codes "c") ∷ id (codes "d") ∷ [];
+    clauses =
+        record { linear = false; form = braces somewhere a } ∷ [];
+  } ∷ record { name = id (codes "n"); params = []; locals = []; clauses = [] } ∷ [];
 }) ≡ codes "LINEAR a :- b." ++ 10 ∷ (codes "MODULE m X." ++ 10 ∷ (codes "LOCAL c d." ++ 10 ∷ (codes "{a}." ++ 10 ∷ (codes "MODULE n." ++ 10 ∷ []))))
 whole-program = refl

@@ -8,12 +8,23 @@ use Rattle.ll_lexer.specs.declared.TokenKind.TheVariants as kind
 use Rattle.ll_lexer.specs.Spelling.{is_lower, is_upper, is_word_byte, is_name, is_variable, fixed_spellings, Spells}
 use Rattle.ll_lexer.proofs.CallerLemmas.{kind-passes}
 use Rattle.ll_parser.specs.declared.Op.TheVariants as op
-use Rattle.ll_parser.specs.Tokens.{Identifier, Tok, comma, ampersand, semicolon, paren_right, brace_right, cons_sign, load_arrow, colon_dash, left_arrow, right_arrow, lolli, IsSpelled, is_sign, less_sign, most_sign, star_sign}
-use Rattle.ll_parser.specs.Raw.{Raw, truth, erasure, braces, universal, existential, load, binary, head, anything, int, RawList, none, more, is_goal, less_goal, most_goal}
-use Rattle.ll_parser.specs.Grammar.{lower, upper, Term, of_app, cons, applied, app_any, app_number, app_bracket, Simples, no_more, and_then, word_token, term_tokens, app_tokens, simple_tokens, simples_tokens, formula_tokens, arrow_tokens, sum_tokens, with_tokens, tensor_tokens, primary_tokens, Plain, plain_word, plain_any, plain_number, Expr, of_product, adds, Product, of_item, multiplies, Item, item_plain, item_bracket, First, first_plain, first_times, Lead, of_first, lead_adds, by_plus, by_minus, plain_token, add_token, expr_tokens, product_tokens, item_tokens, first_tokens, lead_tokens, plain_raw, expr_raw, product_raw, item_raw, first_raw, lead_raw}
+use Rattle.ll_parser.specs.Tokens.{Identifier, Tok, comma, ampersand, semicolon, paren_right, brace_right, cons_sign, load_arrow, colon_dash, left_arrow}
+use Rattle.ll_parser.specs.Tokens.{right_arrow, lolli, IsSpelled, is_sign, less_sign, most_sign, star_sign}
+use Rattle.ll_parser.specs.Raw.{Raw, truth, erasure, braces, universal, existential, load, binary, head, anything, int, RawList, none, more, is_goal}
+use Rattle.ll_parser.specs.Raw.{less_goal, most_goal}
+use Rattle.ll_parser.specs.Grammar.{lower, upper, Term, of_app, cons, applied, app_any, app_number, app_bracket, Simples, no_more, and_then, word_token}
+use Rattle.ll_parser.specs.Grammar.{term_tokens, app_tokens, simple_tokens, simples_tokens, formula_tokens, arrow_tokens, sum_tokens, with_tokens}
+use Rattle.ll_parser.specs.Grammar.{tensor_tokens, primary_tokens, Plain, plain_word, plain_any, plain_number, Expr, of_product, adds, Product, of_item}
+use Rattle.ll_parser.specs.Grammar.{multiplies, Item, item_plain, item_bracket, First, first_plain, first_times, Lead, of_first, lead_adds, by_plus, by_minus}
+use Rattle.ll_parser.specs.Grammar.{plain_token, add_token, expr_tokens, product_tokens, item_tokens, first_tokens, lead_tokens, plain_raw, expr_raw}
+use Rattle.ll_parser.specs.Grammar.{product_raw, item_raw, first_raw, lead_raw}
 use Rattle.ll_parser.specs.Printed.{is_cons}
-use Rattle.ll_parser.proofs.printing.PrintedTree.{somewhere, word_of, to_app, to_simple, pick, term_of, terms_of, simples_of, arguments_of, Any, at_formula, at_arrow, at_sum, at_with, at_tensor, at_primary, Last, last, to_formula, in_parens, to_arrow, to_sum, to_with, to_tensor, to_primary, last_formula, last_arrow, last_sum, last_with, last_tensor, followed, ending, plain_of, to_product, to_item, expr_of, to_first, lead_of}
-use Rattle.ll_parser.proofs.printing.Printable.{IsLower, IsUpper, IsWord, HasShape, IsTerm, AreTerms, IsFormula, word-no-cons, Spelled, spelled-split, spelled-join, IsPlainTerm, IsExpr, IsLead}
+use Rattle.ll_parser.proofs.printing.PrintedTree.{somewhere, word_of, to_app, to_simple, pick, term_of, terms_of, simples_of, arguments_of, Any, at_formula}
+use Rattle.ll_parser.proofs.printing.PrintedTree.{at_arrow, at_sum, at_with, at_tensor, at_primary, Last, last, to_formula, in_parens, to_arrow, to_sum}
+use Rattle.ll_parser.proofs.printing.PrintedTree.{to_with, to_tensor, to_primary, last_formula, last_arrow, last_sum, last_with, last_tensor, followed, ending}
+use Rattle.ll_parser.proofs.printing.PrintedTree.{plain_of, to_product, to_item, expr_of, to_first, lead_of}
+use Rattle.ll_parser.proofs.printing.Printable.{IsLower, IsUpper, IsWord, HasShape, IsTerm, AreTerms, IsFormula, word-no-cons, Spelled, spelled-split}
+use Rattle.ll_parser.proofs.printing.Printable.{spelled-join, IsPlainTerm, IsExpr, IsLead}
 use Rattle.ll_lexer.specs.declared.Place.{Place}
 
 -- ---- names and variables
@@ -46,7 +57,11 @@ variable-no-name (b ∷ c ∷ bs) e = rw (bar-no-lower b (both (is_upper b || b 
 
 variable-shape : (w : List ℕ) → Spells kind.Variable w → is_name w ≡ false
 unfolding fixed_spellings
-variable-shape w s = false_from_not (is_name w) (kind-passes variable_test w kind.Variable refl record { names = λ v e. refl; variables = variable-no-name; numbers = λ v e. refl } s)
+variable-shape w s = false_from_not (is_name w) (kind-passes variable_test w kind.Variable refl record {
+  names = λ v e. refl;
+  variables = variable-no-name;
+  numbers = λ v e. refl;
+} s)
 
 -- a Name is printed as a Name
 pub lower-printed : (n : Identifier) → IsLower n → word_of n ≡ lower n
@@ -67,25 +82,32 @@ app-spelled (cons a at t) h = (tt, spelled-join (term_tokens (cons a at t)) (par
 
 simple-spelled : (t : Term) → Spelled (term_tokens t) → Spelled (simple_tokens (to_simple t))
 simple-spelled (of_app (applied w no_more)) h = h
-simple-spelled (of_app (applied w (and_then ss s))) h = (tt, spelled-join (term_tokens (of_app (applied w (and_then ss s)))) (paren_right somewhere ∷ []) h (tt, tt))
+simple-spelled (of_app (applied w (and_then ss s))) h = (
+  tt,
+  spelled-join (term_tokens (of_app (applied w (and_then ss s)))) (paren_right somewhere ∷ []) h (tt, tt),
+)
 simple-spelled (of_app (app_any at)) h = h
 simple-spelled (of_app (app_number z at)) h = h
 simple-spelled (of_app (app_bracket at t end)) h = h
 simple-spelled (cons a at t) h = (tt, spelled-join (term_tokens (cons a at t)) (paren_right somewhere ∷ []) h (tt, tt))
 
-pick-spelled : (n : Identifier) (v : Bool) (ts : List Term) (ss : Simples) → v ≡ false → IsSpelled (word_token (word_of n)) → Spelled (simples_tokens ss) → Spelled (term_tokens (pick v n ts ss))
+pick-spelled : (n : Identifier) (v : Bool) (ts : List Term) (ss : Simples) → v ≡ false → IsSpelled (word_token (word_of n)) → Spelled (simples_tokens ss)
+    → Spelled (term_tokens (pick v n ts ss))
 pick-spelled n true ts ss e h k = absurd cc
 pick-spelled n false ts ss e h k = (h, k)
 
-cons-spelled : (n : Identifier) (x y : Raw) (ss : Simples) → n.text ≡ codes "::" → Spelled (term_tokens (term_of x)) → Spelled (term_tokens (term_of y)) → Spelled (term_tokens (pick (is_cons n.text) n (term_of x ∷ term_of y ∷ []) ss))
-cons-spelled n x y ss e h k = subst (λ w. Spelled (term_tokens (pick (is_cons w) n (term_of x ∷ term_of y ∷ []) ss))) (sym e) (spelled-join (app_tokens (to_app (term_of x))) (cons_sign n.at ∷ term_tokens (term_of y)) (app-spelled (term_of x) h) (tt, k))
+cons-spelled : (n : Identifier) (x y : Raw) (ss : Simples) → n.text ≡ codes "::" → Spelled (term_tokens (term_of x)) → Spelled (term_tokens (term_of y))
+    → Spelled (term_tokens (pick (is_cons n.text) n (term_of x ∷ term_of y ∷ []) ss))
+cons-spelled n x y ss e h k = subst (λ w. Spelled (term_tokens (pick (is_cons w) n (term_of x ∷ term_of y ∷ []) ss))) (sym e)
+    (spelled-join (app_tokens (to_app (term_of x))) (cons_sign n.at ∷ term_tokens (term_of y)) (app-spelled (term_of x) h) (tt, k))
 
 -- what holds of two arguments
 abbrev AllTerms : List Term → Type 0
 AllTerms [] = Unit {0}
 AllTerms (t ∷ ts) = Spelled (term_tokens t) × AllTerms ts
 
-head-spelled : (n : Identifier) (rs : RawList) → HasShape n rs → Spelled (simples_tokens (arguments_of rs)) → AllTerms (terms_of rs) → Spelled (term_tokens (term_of (head n rs)))
+head-spelled : (n : Identifier) (rs : RawList) → HasShape n rs → Spelled (simples_tokens (arguments_of rs)) → AllTerms (terms_of rs)
+    → Spelled (term_tokens (term_of (head n rs)))
 head-spelled n rs (inl w) h k = pick-spelled n (is_cons n.text) (terms_of rs) (arguments_of rs) (word-no-cons n w) (word-spelled n w) h
 head-spelled n rs (inr (text, x, y, p)) h k =
     let q : AllTerms (terms_of (more x (more y none))) = subst (λ z. AllTerms (terms_of z)) p k in
@@ -109,7 +131,8 @@ mutual
 
   simples-spelled : (rs : RawList) (acc : Simples) → AreTerms rs → Spelled (simples_tokens acc) → Spelled (simples_tokens (simples_of acc rs))
   simples-spelled none acc h k = k
-  simples-spelled (more r rs) acc h k = simples-spelled rs (and_then acc (to_simple (term_of r))) h.1 (spelled-join (simples_tokens acc) (simple_tokens (to_simple (term_of r))) k (simple-spelled (term_of r) (term-spelled r h.0)))
+  simples-spelled (more r rs) acc h k = simples-spelled rs (and_then acc (to_simple (term_of r))) h.1
+      (spelled-join (simples_tokens acc) (simple_tokens (to_simple (term_of r))) k (simple-spelled (term_of r) (term-spelled r h.0)))
 
   terms-spelled : (rs : RawList) → AreTerms rs → AllTerms (terms_of rs)
   terms-spelled none h = tt
@@ -294,16 +317,54 @@ mutual
   followed-spelled (truth at) h = (tt, tt)
   followed-spelled (erasure at) h = (tt, tt)
   followed-spelled (braces at g) h = (tt, spelled-join (last_tokens (ending g)) (brace_right somewhere ∷ []) (ending-spelled g h) (tt, tt))
-  followed-spelled (universal at n g) h = (tt, spelled-join (last_tokens (ending (universal at n g))) (paren_right somewhere ∷ []) (tt, (word-spelled n h.0, (tt, ending-spelled g h.1))) (tt, tt))
-  followed-spelled (existential at n g) h = (tt, spelled-join (last_tokens (ending (existential at n g))) (paren_right somewhere ∷ []) (tt, (word-spelled n h.0, (tt, ending-spelled g h.1))) (tt, tt))
-  followed-spelled (load at n rs g) h = (h.0, spelled-join (simples_tokens (arguments_of rs)) (load_arrow at ∷ arrow_tokens (to_arrow (followed g) (ending g))) (arguments-spelled rs h.1) (tt, arrow-spelled (followed g) (ending g) (followed-spelled g h.2) (ending-spelled g h.2)))
-  followed-spelled (binary op.ColonDash at l r) h = spelled-join (formula_tokens (to_formula (followed l))) (colon_dash at ∷ arrow_tokens (to_arrow (followed r) (ending r))) (followed-spelled l h.0) (tt, arrow-spelled (followed r) (ending r) (followed-spelled r h.1) (ending-spelled r h.1))
-  followed-spelled (binary op.LeftArrow at l r) h = spelled-join (formula_tokens (to_formula (followed l))) (left_arrow at ∷ arrow_tokens (to_arrow (followed r) (ending r))) (followed-spelled l h.0) (tt, arrow-spelled (followed r) (ending r) (followed-spelled r h.1) (ending-spelled r h.1))
-  followed-spelled (binary op.Lolli at l r) h = spelled-join (sum_tokens (to_sum (followed l) (ending l))) (lolli at ∷ arrow_tokens (to_arrow (followed r) (ending r))) (sum-spelled (followed l) (ending l) (followed-spelled l h.0) (ending-spelled l h.0)) (tt, arrow-spelled (followed r) (ending r) (followed-spelled r h.1) (ending-spelled r h.1))
-  followed-spelled (binary op.RightArrow at l r) h = spelled-join (sum_tokens (to_sum (followed l) (ending l))) (right_arrow at ∷ arrow_tokens (to_arrow (followed r) (ending r))) (sum-spelled (followed l) (ending l) (followed-spelled l h.0) (ending-spelled l h.0)) (tt, arrow-spelled (followed r) (ending r) (followed-spelled r h.1) (ending-spelled r h.1))
-  followed-spelled (binary op.Plus at l r) h = spelled-join (with_tokens (to_with (followed l) (ending l))) (semicolon at ∷ sum_tokens (to_sum (followed r) (ending r))) (with-spelled (followed l) (ending l) (followed-spelled l h.0) (ending-spelled l h.0)) (tt, sum-spelled (followed r) (ending r) (followed-spelled r h.1) (ending-spelled r h.1))
-  followed-spelled (binary op.With at l r) h = spelled-join (tensor_tokens (to_tensor (followed l) (ending l))) (ampersand at ∷ with_tokens (to_with (followed r) (ending r))) (tensor-spelled (followed l) (ending l) (followed-spelled l h.0) (ending-spelled l h.0)) (tt, with-spelled (followed r) (ending r) (followed-spelled r h.1) (ending-spelled r h.1))
-  followed-spelled (binary op.Tensor at l r) h = spelled-join (primary_tokens (to_primary (followed l) (ending l))) (comma at ∷ tensor_tokens (to_tensor (followed r) (ending r))) (primary-spelled (followed l) (ending l) (followed-spelled l h.0) (ending-spelled l h.0)) (tt, tensor-spelled (followed r) (ending r) (followed-spelled r h.1) (ending-spelled r h.1))
+  followed-spelled (universal at n g) h = (
+    tt,
+    spelled-join (last_tokens (ending (universal at n g))) (paren_right somewhere ∷ []) (
+      tt,
+      (word-spelled n h.0, (tt, ending-spelled g h.1)),
+    ) (tt, tt),
+  )
+  followed-spelled (existential at n g) h = (
+    tt,
+    spelled-join (last_tokens (ending (existential at n g))) (paren_right somewhere ∷ []) (
+      tt,
+      (word-spelled n h.0, (tt, ending-spelled g h.1)),
+    ) (tt, tt),
+  )
+  followed-spelled (load at n rs g) h = (
+    h.0,
+    spelled-join (simples_tokens (arguments_of rs)) (load_arrow at ∷ arrow_tokens (to_arrow (followed g) (ending g)))
+        (arguments-spelled rs h.1) (tt, arrow-spelled (followed g) (ending g) (followed-spelled g h.2) (ending-spelled g h.2)),
+  )
+  followed-spelled (binary op.ColonDash at l r) h = spelled-join (formula_tokens (to_formula (followed l)))
+      (colon_dash at ∷ arrow_tokens (to_arrow (followed r) (ending r))) (followed-spelled l h.0) (
+        tt,
+        arrow-spelled (followed r) (ending r) (followed-spelled r h.1) (ending-spelled r h.1),
+      )
+  followed-spelled (binary op.LeftArrow at l r) h = spelled-join (formula_tokens (to_formula (followed l)))
+      (left_arrow at ∷ arrow_tokens (to_arrow (followed r) (ending r))) (followed-spelled l h.0) (
+        tt,
+        arrow-spelled (followed r) (ending r) (followed-spelled r h.1) (ending-spelled r h.1),
+      )
+  followed-spelled (binary op.Lolli at l r) h = spelled-join (sum_tokens (to_sum (followed l) (ending l)))
+      (lolli at ∷ arrow_tokens (to_arrow (followed r) (ending r))) (sum-spelled (followed l) (ending l) (followed-spelled l h.0) (ending-spelled l h.0)) (
+        tt,
+        arrow-spelled (followed r) (ending r) (followed-spelled r h.1) (ending-spelled r h.1),
+      )
+  followed-spelled (binary op.RightArrow at l r) h = spelled-join (sum_tokens (to_sum (followed l) (ending l)))
+      (right_arrow at ∷ arrow_tokens (to_arrow (followed r) (ending r))) (sum-spelled (followed l) (ending l) (followed-spelled l h.0) (ending-spelled l h.0))
+      (tt, arrow-spelled (followed r) (ending r) (followed-spelled r h.1) (ending-spelled r h.1))
+  followed-spelled (binary op.Plus at l r) h = spelled-join (with_tokens (to_with (followed l) (ending l)))
+      (semicolon at ∷ sum_tokens (to_sum (followed r) (ending r))) (with-spelled (followed l) (ending l) (followed-spelled l h.0) (ending-spelled l h.0)) (
+        tt,
+        sum-spelled (followed r) (ending r) (followed-spelled r h.1) (ending-spelled r h.1),
+      )
+  followed-spelled (binary op.With at l r) h = spelled-join (tensor_tokens (to_tensor (followed l) (ending l)))
+      (ampersand at ∷ with_tokens (to_with (followed r) (ending r))) (tensor-spelled (followed l) (ending l) (followed-spelled l h.0) (ending-spelled l h.0))
+      (tt, with-spelled (followed r) (ending r) (followed-spelled r h.1) (ending-spelled r h.1))
+  followed-spelled (binary op.Tensor at l r) h = spelled-join (primary_tokens (to_primary (followed l) (ending l)))
+      (comma at ∷ tensor_tokens (to_tensor (followed r) (ending r))) (primary-spelled (followed l) (ending l) (followed-spelled l h.0) (ending-spelled l h.0))
+      (tt, tensor-spelled (followed r) (ending r) (followed-spelled r h.1) (ending-spelled r h.1))
   followed-spelled (head n rs) h = (word-spelled n h.0, arguments-spelled rs h.1)
   followed-spelled (anything at) h = absurd h
   followed-spelled (int at z) h = absurd h
@@ -317,14 +378,34 @@ mutual
   ending-spelled (braces at g) h = (tt, spelled-join (last_tokens (ending g)) (brace_right somewhere ∷ []) (ending-spelled g h) (tt, tt))
   ending-spelled (universal at n g) h = (tt, (word-spelled n h.0, (tt, ending-spelled g h.1)))
   ending-spelled (existential at n g) h = (tt, (word-spelled n h.0, (tt, ending-spelled g h.1)))
-  ending-spelled (load at n rs g) h = (h.0, spelled-join (simples_tokens (arguments_of rs)) (load_arrow at ∷ arrow_tokens (last_arrow (ending g))) (arguments-spelled rs h.1) (tt, last-arrow-spelled (ending g) (ending-spelled g h.2)))
-  ending-spelled (binary op.ColonDash at l r) h = spelled-join (formula_tokens (to_formula (followed l))) (colon_dash at ∷ arrow_tokens (last_arrow (ending r))) (followed-spelled l h.0) (tt, last-arrow-spelled (ending r) (ending-spelled r h.1))
-  ending-spelled (binary op.LeftArrow at l r) h = spelled-join (formula_tokens (to_formula (followed l))) (left_arrow at ∷ arrow_tokens (last_arrow (ending r))) (followed-spelled l h.0) (tt, last-arrow-spelled (ending r) (ending-spelled r h.1))
-  ending-spelled (binary op.Lolli at l r) h = spelled-join (sum_tokens (to_sum (followed l) (ending l))) (lolli at ∷ arrow_tokens (last_arrow (ending r))) (sum-spelled (followed l) (ending l) (followed-spelled l h.0) (ending-spelled l h.0)) (tt, last-arrow-spelled (ending r) (ending-spelled r h.1))
-  ending-spelled (binary op.RightArrow at l r) h = spelled-join (sum_tokens (to_sum (followed l) (ending l))) (right_arrow at ∷ arrow_tokens (last_arrow (ending r))) (sum-spelled (followed l) (ending l) (followed-spelled l h.0) (ending-spelled l h.0)) (tt, last-arrow-spelled (ending r) (ending-spelled r h.1))
-  ending-spelled (binary op.Plus at l r) h = spelled-join (with_tokens (to_with (followed l) (ending l))) (semicolon at ∷ sum_tokens (last_sum (ending r))) (with-spelled (followed l) (ending l) (followed-spelled l h.0) (ending-spelled l h.0)) (tt, last-sum-spelled (ending r) (ending-spelled r h.1))
-  ending-spelled (binary op.With at l r) h = spelled-join (tensor_tokens (to_tensor (followed l) (ending l))) (ampersand at ∷ with_tokens (last_with (ending r))) (tensor-spelled (followed l) (ending l) (followed-spelled l h.0) (ending-spelled l h.0)) (tt, last-with-spelled (ending r) (ending-spelled r h.1))
-  ending-spelled (binary op.Tensor at l r) h = spelled-join (primary_tokens (to_primary (followed l) (ending l))) (comma at ∷ tensor_tokens (last_tensor (ending r))) (primary-spelled (followed l) (ending l) (followed-spelled l h.0) (ending-spelled l h.0)) (tt, last-tensor-spelled (ending r) (ending-spelled r h.1))
+  ending-spelled (load at n rs g) h = (
+    h.0,
+    spelled-join (simples_tokens (arguments_of rs)) (load_arrow at ∷ arrow_tokens (last_arrow (ending g)))
+        (arguments-spelled rs h.1) (tt, last-arrow-spelled (ending g) (ending-spelled g h.2)),
+  )
+  ending-spelled (binary op.ColonDash at l r) h = spelled-join (formula_tokens (to_formula (followed l))) (colon_dash at ∷ arrow_tokens (last_arrow (ending r)))
+      (followed-spelled l h.0) (tt, last-arrow-spelled (ending r) (ending-spelled r h.1))
+  ending-spelled (binary op.LeftArrow at l r) h = spelled-join (formula_tokens (to_formula (followed l))) (left_arrow at ∷ arrow_tokens (last_arrow (ending r)))
+      (followed-spelled l h.0) (tt, last-arrow-spelled (ending r) (ending-spelled r h.1))
+  ending-spelled (binary op.Lolli at l r) h = spelled-join (sum_tokens (to_sum (followed l) (ending l))) (lolli at ∷ arrow_tokens (last_arrow (ending r)))
+      (sum-spelled (followed l) (ending l) (followed-spelled l h.0) (ending-spelled l h.0)) (tt, last-arrow-spelled (ending r) (ending-spelled r h.1))
+  ending-spelled (binary op.RightArrow at l r) h = spelled-join (sum_tokens (to_sum (followed l) (ending l)))
+      (right_arrow at ∷ arrow_tokens (last_arrow (ending r))) (sum-spelled (followed l) (ending l) (followed-spelled l h.0) (ending-spelled l h.0)) (
+        tt,
+        last-arrow-spelled (ending r) (ending-spelled r h.1),
+      )
+  ending-spelled (binary op.Plus at l r) h = spelled-join (with_tokens (to_with (followed l) (ending l))) (semicolon at ∷ sum_tokens (last_sum (ending r)))
+      (with-spelled (followed l) (ending l) (followed-spelled l h.0) (ending-spelled l h.0)) (tt, last-sum-spelled (ending r) (ending-spelled r h.1))
+  ending-spelled (binary op.With at l r) h = spelled-join (tensor_tokens (to_tensor (followed l) (ending l)))
+      (ampersand at ∷ with_tokens (last_with (ending r))) (tensor-spelled (followed l) (ending l) (followed-spelled l h.0) (ending-spelled l h.0)) (
+        tt,
+        last-with-spelled (ending r) (ending-spelled r h.1),
+      )
+  ending-spelled (binary op.Tensor at l r) h = spelled-join (primary_tokens (to_primary (followed l) (ending l)))
+      (comma at ∷ tensor_tokens (last_tensor (ending r))) (primary-spelled (followed l) (ending l) (followed-spelled l h.0) (ending-spelled l h.0)) (
+        tt,
+        last-tensor-spelled (ending r) (ending-spelled r h.1),
+      )
   ending-spelled (head n rs) h = (word-spelled n h.0, arguments-spelled rs h.1)
   ending-spelled (anything at) h = absurd h
   ending-spelled (int at z) h = absurd h

@@ -2,9 +2,14 @@
 use Rattle.std.proofs.Common.{◌≡◌, ℕ, zero, suc, Bool, true, false, List, [], ◌∷◌, inl, inr}
 use Rattle.ll_parser.specs.Tokens.{Identifier, Tok, paren_right, cons_sign}
 use Rattle.ll_parser.specs.Raw.{Raw, RawList, none, more, raws_then}
-use Rattle.ll_parser.specs.Grammar.{Word, lower, upper, Term, of_app, cons, App, applied, app_any, app_number, app_bracket, Simple, simple_word, simple_any, simple_number, simple_bracket, Simples, no_more, and_then, word_token, word_identifier, term_tokens, app_tokens, simple_tokens, simples_tokens, term_raw, app_raw, simple_raw, simples_raws, Plain, plain_word, plain_any, plain_number, Expr, of_product, adds, Product, of_item, multiplies, Item, item_plain, item_bracket, First, first_plain, first_times, Lead, of_first, lead_adds, by_plus, by_minus, plain_raw, expr_raw, product_raw, item_raw, first_raw, lead_raw}
+use Rattle.ll_parser.specs.Grammar.{Word, lower, upper, Term, of_app, cons, App, applied, app_any, app_number, app_bracket, Simple, simple_word, simple_any}
+use Rattle.ll_parser.specs.Grammar.{simple_number, simple_bracket, Simples, no_more, and_then, word_token, word_identifier, term_tokens, app_tokens}
+use Rattle.ll_parser.specs.Grammar.{simple_tokens, simples_tokens, term_raw, app_raw, simple_raw, simples_raws, Plain, plain_word, plain_any, plain_number}
+use Rattle.ll_parser.specs.Grammar.{Expr, of_product, adds, Product, of_item, multiplies, Item, item_plain, item_bracket, First, first_plain, first_times}
+use Rattle.ll_parser.specs.Grammar.{Lead, of_first, lead_adds, by_plus, by_minus, plain_raw, expr_raw, product_raw, item_raw, first_raw, lead_raw}
 use Rattle.ll_parser.specs.Printed.{is_cons}
-use Rattle.ll_parser.proofs.printing.PrintedTree.{to_app, to_simple, pick, term_of, terms_of, simples_of, arguments_of, to_product, to_item, expr_of, to_first, lead_of}
+use Rattle.ll_parser.proofs.printing.PrintedTree.{to_app, to_simple, pick, term_of, terms_of, simples_of, arguments_of, to_product, to_item, expr_of, to_first}
+use Rattle.ll_parser.proofs.printing.PrintedTree.{lead_of}
 use Rattle.ll_parser.proofs.printing.Printable.{Spelled, spelled-split, word-no-cons}
 use Rattle.ll_parser.proofs.machines.Room.{Enough, TermRoom, AppRoom, SimpleRoom, SimplesRoom, ExprRoom, ProductRoom, ItemRoom, FirstRoom, LeadRoom}
 
@@ -89,25 +94,30 @@ mutual
       let k = spelled-split (app_tokens a) (cons_sign at ∷ term_tokens t) s in (app-room a n k.0 h.0, term-room t n k.1.1 h.1)
 
   app-term-room : (a : App) (n : ℕ) → Spelled (app_tokens a) → AppRoom n a → TermRoom n (term_of (app_raw a))
-  app-term-room (applied w ss) n s h = pick-room (word_identifier w) (is_cons (word_identifier w).text) (terms_of (simples_raws ss)) (arguments_of (simples_raws ss)) n (word-cons w (simples_tokens ss) s) (simples-of-room (simples_raws ss) no_more n tt (simples-room ss n s.1 h))
+  app-term-room (applied w ss) n s h = pick-room (word_identifier w) (is_cons (word_identifier w).text) (terms_of (simples_raws ss))
+      (arguments_of (simples_raws ss)) n (word-cons w (simples_tokens ss) s) (simples-of-room (simples_raws ss) no_more n tt (simples-room ss n s.1 h))
   app-term-room (app_any at) n s h = tt
   app-term-room (app_number z at) n s h = tt
   app-term-room (app_bracket at t end) zero s h = absurd h
-  app-term-room (app_bracket at t end) (suc n) s h = term-more (term_of (term_raw t)) n (term-room t n (spelled-split (term_tokens t) (paren_right end ∷ []) s.1).0 h)
+  app-term-room (app_bracket at t end) (suc n) s h = term-more (term_of (term_raw t)) n
+      (term-room t n (spelled-split (term_tokens t) (paren_right end ∷ []) s.1).0 h)
 
   app-room : (a : App) (n : ℕ) → Spelled (app_tokens a) → AppRoom n a → AppRoom n (to_app (term_of (app_raw a)))
-  app-room (applied w ss) n s h = pick-app-room (word_identifier w) (is_cons (word_identifier w).text) (terms_of (simples_raws ss)) (arguments_of (simples_raws ss)) n (word-cons w (simples_tokens ss) s) (simples-of-room (simples_raws ss) no_more n tt (simples-room ss n s.1 h))
+  app-room (applied w ss) n s h = pick-app-room (word_identifier w) (is_cons (word_identifier w).text) (terms_of (simples_raws ss))
+      (arguments_of (simples_raws ss)) n (word-cons w (simples_tokens ss) s) (simples-of-room (simples_raws ss) no_more n tt (simples-room ss n s.1 h))
   app-room (app_any at) n s h = tt
   app-room (app_number z at) n s h = tt
   app-room (app_bracket at t end) zero s h = absurd h
-  app-room (app_bracket at t end) (suc n) s h = app-enclosed (term_of (term_raw t)) n (term-room t n (spelled-split (term_tokens t) (paren_right end ∷ []) s.1).0 h)
+  app-room (app_bracket at t end) (suc n) s h = app-enclosed (term_of (term_raw t)) n
+      (term-room t n (spelled-split (term_tokens t) (paren_right end ∷ []) s.1).0 h)
 
   simple-room : (x : Simple) (n : ℕ) → Spelled (simple_tokens x) → SimpleRoom n x → SimpleRoom n (to_simple (term_of (simple_raw x)))
   simple-room (simple_word w) n s h = pick-simple-room (word_identifier w) (is_cons (word_identifier w).text) n
   simple-room (simple_any at) n s h = tt
   simple-room (simple_number z at) n s h = tt
   simple-room (simple_bracket at t end) zero s h = absurd h
-  simple-room (simple_bracket at t end) (suc n) s h = simple-enclosed (term_of (term_raw t)) n (term-room t n (spelled-split (term_tokens t) (paren_right end ∷ []) s.1).0 h)
+  simple-room (simple_bracket at t end) (suc n) s h = simple-enclosed (term_of (term_raw t)) n
+      (term-room t n (spelled-split (term_tokens t) (paren_right end ∷ []) s.1).0 h)
 
   simples-room : (ss : Simples) (n : ℕ) → Spelled (simples_tokens ss) → SimplesRoom n ss → RawsRoom n (simples_raws ss)
   simples-room no_more n s h = tt

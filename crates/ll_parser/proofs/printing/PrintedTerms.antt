@@ -2,10 +2,15 @@
 use Rattle.std.proofs.Common.{◌≡◌, Bool, true, false, List, [], ◌∷◌, codes, inl, inr, if◌then◌else◌, refl, sym, ◌∙◌, ap, subst, ℕ}
 use Rattle.ll_lexer.specs.Spelling.{is_name}
 use Rattle.ll_parser.specs.Tokens.{Identifier}
-use Rattle.ll_parser.specs.Raw.{Raw, truth, erasure, braces, universal, existential, load, binary, head, anything, int, RawList, none, more, raws_then, is_goal, less_goal, most_goal, sign_raw}
-use Rattle.ll_parser.specs.Grammar.{lower, upper, Term, of_app, cons, applied, app_any, app_number, app_bracket, Simples, no_more, and_then, word_identifier, term_raw, app_raw, simple_raw, simples_raws, Plain, plain_word, plain_any, plain_number, Expr, of_product, adds, Product, of_item, multiplies, Item, item_plain, item_bracket, First, first_plain, first_times, Lead, of_first, lead_adds, by_plus, by_minus, plain_raw, expr_raw, product_raw, item_raw, first_raw, lead_raw}
+use Rattle.ll_parser.specs.Raw.{Raw, truth, erasure, braces, universal, existential, load, binary, head, anything, int, RawList, none, more, raws_then}
+use Rattle.ll_parser.specs.Raw.{is_goal, less_goal, most_goal, sign_raw}
+use Rattle.ll_parser.specs.Grammar.{lower, upper, Term, of_app, cons, applied, app_any, app_number, app_bracket, Simples, no_more, and_then, word_identifier}
+use Rattle.ll_parser.specs.Grammar.{term_raw, app_raw, simple_raw, simples_raws, Plain, plain_word, plain_any, plain_number, Expr, of_product, adds, Product}
+use Rattle.ll_parser.specs.Grammar.{of_item, multiplies, Item, item_plain, item_bracket, First, first_plain, first_times, Lead, of_first, lead_adds, by_plus}
+use Rattle.ll_parser.specs.Grammar.{by_minus, plain_raw, expr_raw, product_raw, item_raw, first_raw, lead_raw}
 use Rattle.ll_parser.specs.Printed.{is_cons}
-use Rattle.ll_parser.proofs.printing.PrintedTree.{word_of, to_app, to_simple, pick, term_of, terms_of, simples_of, arguments_of, plain_of, to_product, to_item, expr_of, to_first, lead_of}
+use Rattle.ll_parser.proofs.printing.PrintedTree.{word_of, to_app, to_simple, pick, term_of, terms_of, simples_of, arguments_of, plain_of, to_product, to_item}
+use Rattle.ll_parser.proofs.printing.PrintedTree.{expr_of, to_first, lead_of}
 use Rattle.ll_parser.proofs.printing.Printable.{HasShape, IsTerm, AreTerms, word-no-cons, IsPlainTerm, IsExpr, IsLead}
 use Rattle.ll_lexer.specs.declared.Place.{Place}
 
@@ -51,7 +56,8 @@ raws_list [] = none
 raws_list (t ∷ ts) = more (term_raw t) (raws_list ts)
 
 -- a head of the text `::`
-cons-kept : (n : Identifier) (x y : Raw) (ss : Simples) → n.text ≡ codes "::" → term_raw (term_of x) ≡ x → term_raw (term_of y) ≡ y → term_raw (pick (is_cons n.text) n (term_of x ∷ term_of y ∷ []) ss) ≡ head n (more x (more y none))
+cons-kept : (n : Identifier) (x y : Raw) (ss : Simples) → n.text ≡ codes "::" → term_raw (term_of x) ≡ x → term_raw (term_of y) ≡ y
+    → term_raw (pick (is_cons n.text) n (term_of x ∷ term_of y ∷ []) ss) ≡ head n (more x (more y none))
 cons-kept n x y ss e f g =
     let same : record { text = codes "::"; at = n.at } ≡ n = ap (λ z. record { text = z; at = n.at }) (sym e) in
     ap (λ z. term_raw (pick (is_cons z) n (term_of x ∷ term_of y ∷ []) ss)) e
@@ -59,7 +65,8 @@ cons-kept n x y ss e f g =
     ∙ ap (λ z. head (record { text = codes "::"; at = n.at }) (more x (more z none))) g
     ∙ ap (λ z. head z (more x (more y none))) same
 
-head-kept : (n : Identifier) (rs : RawList) → HasShape n rs → simples_raws (arguments_of rs) ≡ rs → raws_list (terms_of rs) ≡ rs → term_raw (term_of (head n rs)) ≡ head n rs
+head-kept : (n : Identifier) (rs : RawList) → HasShape n rs → simples_raws (arguments_of rs) ≡ rs → raws_list (terms_of rs) ≡ rs
+    → term_raw (term_of (head n rs)) ≡ head n rs
 head-kept n rs (inl w) s l = pick-head n (is_cons n.text) (terms_of rs) (arguments_of rs) (word-no-cons n w) ∙ ap (head n) s
 head-kept n rs (inr (text, x, y, p)) s l =
     let q : raws_list (terms_of (more x (more y none))) ≡ more x (more y none) = subst (λ z. raws_list (terms_of z) ≡ z) p l in

@@ -5,8 +5,14 @@ use Rattle.ll_lexer.specs.Spelling.{is_name}
 use Rattle.ll_parser.specs.declared.Op.TheVariants as op
 use Rattle.ll_parser.specs.declared.Quantifier.TheVariants as quantifier
 use Rattle.ll_parser.specs.Tokens.{Identifier}
-use Rattle.ll_parser.specs.Raw.{Raw, truth, erasure, braces, universal, existential, load, binary, head, anything, int, RawList, none, more, ClauseTree, ModuleTree, ProgramTree, is_goal, less_goal, most_goal}
-use Rattle.ll_parser.specs.Grammar.{Word, lower, upper, Term, of_app, cons, App, applied, app_any, app_number, app_bracket, Simple, simple_word, simple_any, simple_number, simple_bracket, Simples, no_more, and_then, by_colon, by_left, by_lolli, by_right, Formula, of_arrow, clause, Arrow, of_sum, implies, loads, Sum, of_with, plus, With, of_tensor, with, Tensor, of_primary, times, Primary, truly, erased, bracket, brace, quantified, atom, formula_raw, arrow_raw, sum_raw, with_raw, tensor_raw, primary_raw, Plain, plain_word, plain_any, plain_number, Expr, of_product, adds, Product, of_item, multiplies, Item, item_plain, item_bracket, First, first_plain, first_times, Lead, of_first, lead_adds, valued, tested, by_plus, by_minus, by_less, by_most, SumOp}
+use Rattle.ll_parser.specs.Raw.{Raw, truth, erasure, braces, universal, existential, load, binary, head, anything, int, RawList, none, more, ClauseTree}
+use Rattle.ll_parser.specs.Raw.{ModuleTree, ProgramTree, is_goal, less_goal, most_goal}
+use Rattle.ll_parser.specs.Grammar.{Word, lower, upper, Term, of_app, cons, App, applied, app_any, app_number, app_bracket, Simple, simple_word, simple_any}
+use Rattle.ll_parser.specs.Grammar.{simple_number, simple_bracket, Simples, no_more, and_then, by_colon, by_left, by_lolli, by_right, Formula, of_arrow}
+use Rattle.ll_parser.specs.Grammar.{clause, Arrow, of_sum, implies, loads, Sum, of_with, plus, With, of_tensor, with, Tensor, of_primary, times, Primary}
+use Rattle.ll_parser.specs.Grammar.{truly, erased, bracket, brace, quantified, atom, formula_raw, arrow_raw, sum_raw, with_raw, tensor_raw, primary_raw, Plain}
+use Rattle.ll_parser.specs.Grammar.{plain_word, plain_any, plain_number, Expr, of_product, adds, Product, of_item, multiplies, Item, item_plain, item_bracket}
+use Rattle.ll_parser.specs.Grammar.{First, first_plain, first_times, Lead, of_first, lead_adds, valued, tested, by_plus, by_minus, by_less, by_most, SumOp}
 use Rattle.ll_parser.specs.Printed.{is_cons, is_star}
 use Rattle.ll_parser.specs.Text.{Clause, plain, linear, Local, Module, Program}
 use Rattle.std.specs.Str.{bytes_eq}
@@ -355,7 +361,11 @@ printed_locals [] = []
 printed_locals (n ∷ ns) = record { word = somewhere; first = n; others = ns; end = somewhere } ∷ []
 
 abbrev pub printed_module : ModuleTree → Module
-printed_module m = record { heading = record { word = somewhere; name = m.name; params = m.params; end = somewhere }; locals = printed_locals m.locals; clauses = map printed_clause m.clauses }
+printed_module m = record {
+  heading = record { word = somewhere; name = m.name; params = m.params; end = somewhere };
+  locals = printed_locals m.locals;
+  clauses = map printed_clause m.clauses;
+}
 
 abbrev pub printed_program : ProgramTree → Program
 printed_program p = record { clauses = map printed_clause p.clauses; modules = map printed_module p.modules }

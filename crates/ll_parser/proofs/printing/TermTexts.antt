@@ -2,18 +2,25 @@
 use Rattle.std.proofs.Common.{◌≡◌, Bool, true, false, List, [], ◌∷◌, ◌++◌, codes, inl, inr, refl, sym, ◌∙◌, ap, subst, append_assoc, append-nil, ℕ, ◌||◌}
 use Rattle.ll_lists.proofs.CallerLemmas.{or_false as or-false}
 use Rattle.ll_parser.specs.Tokens.{Identifier}
-use Rattle.ll_parser.specs.Raw.{Raw, truth, erasure, braces, universal, existential, load, binary, head, anything, int, RawList, none, more, is_goal, less_goal, most_goal}
-use Rattle.ll_parser.specs.Grammar.{Term, Simple, Simples, no_more, and_then, word_identifier, Plain, plain_word, plain_any, plain_number, Expr, of_product, adds, Product, of_item, multiplies, Item, item_plain, item_bracket, First, first_plain, first_times, Lead, of_first, lead_adds, by_plus, by_minus, plain_raw, expr_raw, product_raw, item_raw, first_raw, lead_raw}
-use Rattle.ll_parser.specs.Printed.{is_cons, bracketed, is_pair, has_arguments, head_text, term_text, arguments_text, pair_text, between, is_sum, is_product, expr_text}
-use Rattle.ll_parser.proofs.printing.PrintedTree.{word_of, to_app, to_simple, pick, term_of, terms_of, simples_of, arguments_of, plain_of, to_product, to_item, expr_of, to_first, lead_of}
-use Rattle.ll_parser.proofs.printing.Written.{term_bytes, app_bytes, simple_bytes, simples_bytes, plain_bytes, expr_bytes, product_bytes, item_bytes, first_bytes, lead_bytes}
+use Rattle.ll_parser.specs.Raw.{Raw, truth, erasure, braces, universal, existential, load, binary, head, anything, int, RawList, none, more, is_goal}
+use Rattle.ll_parser.specs.Raw.{less_goal, most_goal}
+use Rattle.ll_parser.specs.Grammar.{Term, Simple, Simples, no_more, and_then, word_identifier, Plain, plain_word, plain_any, plain_number, Expr, of_product}
+use Rattle.ll_parser.specs.Grammar.{adds, Product, of_item, multiplies, Item, item_plain, item_bracket, First, first_plain, first_times, Lead, of_first}
+use Rattle.ll_parser.specs.Grammar.{lead_adds, by_plus, by_minus, plain_raw, expr_raw, product_raw, item_raw, first_raw, lead_raw}
+use Rattle.ll_parser.specs.Printed.{is_cons, bracketed, is_pair, has_arguments, head_text, term_text, arguments_text, pair_text, between, is_sum, is_product}
+use Rattle.ll_parser.specs.Printed.{expr_text}
+use Rattle.ll_parser.proofs.printing.PrintedTree.{word_of, to_app, to_simple, pick, term_of, terms_of, simples_of, arguments_of, plain_of, to_product, to_item}
+use Rattle.ll_parser.proofs.printing.PrintedTree.{expr_of, to_first, lead_of}
+use Rattle.ll_parser.proofs.printing.Written.{term_bytes, app_bytes, simple_bytes, simples_bytes, plain_bytes, expr_bytes, product_bytes, item_bytes}
+use Rattle.ll_parser.proofs.printing.Written.{first_bytes, lead_bytes}
 use Rattle.ll_parser.proofs.printing.Printable.{HasShape, IsTerm, AreTerms, word-no-cons, IsPlainTerm, IsExpr, IsLead}
 use Rattle.ll_parser.proofs.printing.PrintedTerms.{word-kept}
 
 -- ---- where brackets stand
 
 -- left of `::`
-pick-app : (n : Identifier) (v : Bool) (a b : Term) (ss : Simples) → app_bytes (to_app (pick v n (a ∷ b ∷ []) ss)) ≡ bracketed v (term_bytes (pick v n (a ∷ b ∷ []) ss))
+pick-app : (n : Identifier) (v : Bool) (a b : Term) (ss : Simples)
+    → app_bytes (to_app (pick v n (a ∷ b ∷ []) ss)) ≡ bracketed v (term_bytes (pick v n (a ∷ b ∷ []) ss))
 pick-app n true a b ss = refl
 pick-app n false a b ss = refl
 
@@ -25,7 +32,8 @@ pick-none : (n : Identifier) (v : Bool) (ss : Simples) → app_bytes (to_app (pi
 pick-none n true ss = refl
 pick-none n false ss = refl
 
-pick-many : (n : Identifier) (v : Bool) (a b c : Term) (ts : List Term) (ss : Simples) → app_bytes (to_app (pick v n (a ∷ b ∷ c ∷ ts) ss)) ≡ term_bytes (pick v n (a ∷ b ∷ c ∷ ts) ss)
+pick-many : (n : Identifier) (v : Bool) (a b c : Term) (ts : List Term) (ss : Simples)
+    → app_bytes (to_app (pick v n (a ∷ b ∷ c ∷ ts) ss)) ≡ term_bytes (pick v n (a ∷ b ∷ c ∷ ts) ss)
 pick-many n true a b c ts ss = refl
 pick-many n false a b c ts ss = refl
 
@@ -33,7 +41,8 @@ app-brackets : (x : Raw) → app_bytes (to_app (term_of x)) ≡ bracketed (is_pa
 app-brackets (head n none) = pick-none n (is_cons n.text) no_more
 app-brackets (head n (more x none)) = pick-one n (is_cons n.text) (term_of x) (arguments_of (more x none))
 app-brackets (head n (more x (more y none))) = pick-app n (is_cons n.text) (term_of x) (term_of y) (arguments_of (more x (more y none)))
-app-brackets (head n (more x (more y (more z rs)))) = pick-many n (is_cons n.text) (term_of x) (term_of y) (term_of z) (terms_of rs) (arguments_of (more x (more y (more z rs))))
+app-brackets (head n (more x (more y (more z rs)))) = pick-many n (is_cons n.text) (term_of x) (term_of y) (term_of z) (terms_of rs)
+    (arguments_of (more x (more y (more z rs))))
 app-brackets (anything at) = refl
 app-brackets (int at z) = refl
 app-brackets (truth at) = refl
@@ -48,7 +57,8 @@ app-brackets (less_goal at l r) = refl
 app-brackets (most_goal at l r) = refl
 
 -- an argument with arguments
-enclosed : (n : Identifier) (v : Bool) (ts : List Term) (ss : Simples) (s : Simple) → simple_bytes (to_simple (pick v n ts (and_then ss s))) ≡ bracketed true (term_bytes (pick v n ts (and_then ss s)))
+enclosed : (n : Identifier) (v : Bool) (ts : List Term) (ss : Simples) (s : Simple)
+    → simple_bytes (to_simple (pick v n ts (and_then ss s))) ≡ bracketed true (term_bytes (pick v n ts (and_then ss s)))
 enclosed n true [] ss s = refl
 enclosed n true (a ∷ []) ss s = refl
 enclosed n true (a ∷ b ∷ []) ss s = refl
@@ -73,7 +83,9 @@ simple-brackets : (x : Raw) → simple_bytes (to_simple (term_of x)) ≡ bracket
 simple-brackets (head n none) = bare n (is_cons n.text)
 simple-brackets (head n (more x rs)) =
     let l = has-last rs no_more (to_simple (term_of x)) in
-    subst (λ z. simple_bytes (to_simple (pick (is_cons n.text) n (terms_of (more x rs)) z)) ≡ bracketed true (term_bytes (pick (is_cons n.text) n (terms_of (more x rs)) z))) (sym l.is) (enclosed n (is_cons n.text) (terms_of (more x rs)) l.front l.back)
+    subst (λ z. simple_bytes (to_simple (pick (is_cons n.text) n (terms_of (more x rs)) z))
+    ≡ bracketed true (term_bytes (pick (is_cons n.text) n (terms_of (more x rs)) z))) (sym l.is)
+    (enclosed n (is_cons n.text) (terms_of (more x rs)) l.front l.back)
 simple-brackets (anything at) = refl
 simple-brackets (int at z) = refl
 simple-brackets (truth at) = refl
@@ -117,7 +129,8 @@ head-word n rs h k =
     ∙ ap (λ z. n.text ++ z) (arguments-all rs no_more k)
     ∙ ap (λ v. head_text v n (pair_text rs) (arguments_text rs)) (sym (not-pair n rs h))
 
-head-pair : (n : Identifier) (x y : Raw) → n.text ≡ codes "::" → AllShown (more x (more y none)) → term_bytes (term_of (head n (more x (more y none)))) ≡ term_text (head n (more x (more y none)))
+head-pair : (n : Identifier) (x y : Raw) → n.text ≡ codes "::" → AllShown (more x (more y none))
+    → term_bytes (term_of (head n (more x (more y none)))) ≡ term_text (head n (more x (more y none)))
 head-pair n x y e k =
     ap (λ w. term_bytes (pick (is_cons w) n (term_of x ∷ term_of y ∷ []) (arguments_of (more x (more y none))))) e
     ∙ ap (λ z. z ++ (codes "::" ++ term_bytes (term_of y))) (app-brackets x ∙ ap (bracketed (is_pair x)) k.0)

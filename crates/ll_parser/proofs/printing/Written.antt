@@ -3,7 +3,12 @@ use Rattle.std.specs.Prelude.{ℕ, Bool, List, [], ◌∷◌, ◌++◌, codes}
 use Rattle.std.specs.Fmt.{signed_decimal}
 use Rattle.ll_parser.specs.declared.Quantifier.{Quantifier}
 use Rattle.ll_parser.specs.declared.Quantifier.TheVariants as quantifier
-use Rattle.ll_parser.specs.Grammar.{Term, of_app, cons, App, applied, app_any, app_number, app_bracket, Simple, simple_word, simple_any, simple_number, simple_bracket, Simples, no_more, and_then, ClauseOp, by_colon, by_left, ArrowOp, by_lolli, by_right, Formula, of_arrow, clause, Arrow, of_sum, implies, loads, Sum, of_with, plus, With, of_tensor, with, Tensor, of_primary, times, Primary, truly, erased, bracket, brace, quantified, atom, word_identifier, Plain, plain_word, plain_any, plain_number, Expr, of_product, adds, Product, of_item, multiplies, Item, item_plain, item_bracket, First, first_plain, first_times, Lead, of_first, lead_adds, valued, tested, by_less, by_most, TestOp, add_sign, star}
+use Rattle.ll_parser.specs.Grammar.{Term, of_app, cons, App, applied, app_any, app_number, app_bracket, Simple, simple_word, simple_any, simple_number}
+use Rattle.ll_parser.specs.Grammar.{simple_bracket, Simples, no_more, and_then, ClauseOp, by_colon, by_left, ArrowOp, by_lolli, by_right, Formula, of_arrow}
+use Rattle.ll_parser.specs.Grammar.{clause, Arrow, of_sum, implies, loads, Sum, of_with, plus, With, of_tensor, with, Tensor, of_primary, times, Primary}
+use Rattle.ll_parser.specs.Grammar.{truly, erased, bracket, brace, quantified, atom, word_identifier, Plain, plain_word, plain_any, plain_number, Expr}
+use Rattle.ll_parser.specs.Grammar.{of_product, adds, Product, of_item, multiplies, Item, item_plain, item_bracket, First, first_plain, first_times, Lead}
+use Rattle.ll_parser.specs.Grammar.{of_first, lead_adds, valued, tested, by_less, by_most, TestOp, add_sign, star}
 use Rattle.ll_parser.specs.Printed.{between, line_end, names_text}
 use Rattle.ll_parser.specs.Text.{Clause, plain, linear, Local, Heading, Module, Program}
 

@@ -8,14 +8,27 @@ use Rattle.ll_lexer.specs.Spelling.{is_word_byte, is_digit}
 use Rattle.ll_lexer.specs.Reading.{place_at, done, Lexes, at_end, LexedText, IsLexed}
 use Rattle.ll_lexer.proofs.CallerLemmas.{goes_on}
 use Rattle.ll_parser.specs.declared.Quantifier.TheVariants as quantifier
-use Rattle.ll_parser.specs.Tokens.{Identifier, Tok, tok_by, toks_of, any, true_word, erase_word, forall_word, exists_word, module_word, local_word, linear_word, dot, comma, ampersand, semicolon, paren_left, paren_right, brace_left, brace_right, backslash, cons_sign, colon_dash, left_arrow, right_arrow, lolli, load_arrow, is_sign, less_sign, most_sign, plus_sign, minus_sign, star_sign}
-use Rattle.ll_parser.specs.Grammar.{Word, lower, upper, Term, of_app, cons, App, applied, app_any, app_number, app_bracket, Simple, simple_word, simple_any, simple_number, simple_bracket, Simples, no_more, and_then, by_colon, by_left, by_lolli, by_right, Formula, of_arrow, clause, Arrow, of_sum, implies, loads, Sum, of_with, plus, With, of_tensor, with, Tensor, of_primary, times, Primary, truly, erased, bracket, brace, quantified, atom, word_token, word_identifier, clause_token, arrow_token, term_tokens, app_tokens, simple_tokens, simples_tokens, formula_tokens, arrow_tokens, sum_tokens, with_tokens, tensor_tokens, primary_tokens, Plain, plain_word, plain_any, plain_number, Expr, of_product, adds, Product, of_item, multiplies, Item, item_plain, item_bracket, First, first_plain, first_times, Lead, of_first, lead_adds, valued, tested, by_plus, by_minus, by_less, by_most, plain_token, expr_tokens, product_tokens, item_tokens, first_tokens, lead_tokens}
-use Rattle.ll_parser.specs.Text.{Clause, plain, linear, Local, Heading, Module, Program, clause_tokens, names, variables, local_tokens, heading_tokens, clauses_tokens, locals_tokens, module_tokens, modules_tokens, program_tokens}
+use Rattle.ll_parser.specs.Tokens.{Identifier, Tok, tok_by, toks_of, any, true_word, erase_word, forall_word, exists_word, module_word, local_word}
+use Rattle.ll_parser.specs.Tokens.{linear_word, dot, comma, ampersand, semicolon, paren_left, paren_right, brace_left, brace_right, backslash, cons_sign}
+use Rattle.ll_parser.specs.Tokens.{colon_dash, left_arrow, right_arrow, lolli, load_arrow, is_sign, less_sign, most_sign, plus_sign, minus_sign, star_sign}
+use Rattle.ll_parser.specs.Grammar.{Word, lower, upper, Term, of_app, cons, App, applied, app_any, app_number, app_bracket, Simple, simple_word, simple_any}
+use Rattle.ll_parser.specs.Grammar.{simple_number, simple_bracket, Simples, no_more, and_then, by_colon, by_left, by_lolli, by_right, Formula, of_arrow}
+use Rattle.ll_parser.specs.Grammar.{clause, Arrow, of_sum, implies, loads, Sum, of_with, plus, With, of_tensor, with, Tensor, of_primary, times, Primary}
+use Rattle.ll_parser.specs.Grammar.{truly, erased, bracket, brace, quantified, atom, word_token, word_identifier, clause_token, arrow_token, term_tokens}
+use Rattle.ll_parser.specs.Grammar.{app_tokens, simple_tokens, simples_tokens, formula_tokens, arrow_tokens, sum_tokens, with_tokens, tensor_tokens}
+use Rattle.ll_parser.specs.Grammar.{primary_tokens, Plain, plain_word, plain_any, plain_number, Expr, of_product, adds, Product, of_item, multiplies, Item}
+use Rattle.ll_parser.specs.Grammar.{item_plain, item_bracket, First, first_plain, first_times, Lead, of_first, lead_adds, valued, tested, by_plus, by_minus}
+use Rattle.ll_parser.specs.Grammar.{by_less, by_most, plain_token, expr_tokens, product_tokens, item_tokens, first_tokens, lead_tokens}
+use Rattle.ll_parser.specs.Text.{Clause, plain, linear, Local, Heading, Module, Program, clause_tokens, names, variables, local_tokens, heading_tokens}
+use Rattle.ll_parser.specs.Text.{clauses_tokens, locals_tokens, module_tokens, modules_tokens, program_tokens}
 use Rattle.ll_parser.specs.Bare.{bare_tok}
 use Rattle.ll_parser.specs.Printed.{between, line_end, names_text}
-use Rattle.ll_parser.proofs.printing.Written.{term_bytes, app_bytes, simple_bytes, simples_bytes, formula_bytes, arrow_bytes, sum_bytes, with_bytes, tensor_bytes, primary_bytes, clause_bytes, clauses_bytes, local_bytes, locals_bytes, heading_bytes, module_bytes, modules_bytes, program_bytes, plain_bytes, expr_bytes, product_bytes, item_bytes, first_bytes, lead_bytes}
+use Rattle.ll_parser.proofs.printing.Written.{term_bytes, app_bytes, simple_bytes, simples_bytes, formula_bytes, arrow_bytes, sum_bytes, with_bytes}
+use Rattle.ll_parser.proofs.printing.Written.{tensor_bytes, primary_bytes, clause_bytes, clauses_bytes, local_bytes, locals_bytes, heading_bytes, module_bytes}
+use Rattle.ll_parser.proofs.printing.Written.{modules_bytes, program_bytes, plain_bytes, expr_bytes, product_bytes, item_bytes, first_bytes, lead_bytes}
 use Rattle.ll_parser.proofs.printing.Printable.{Spelled, spelled-split}
-use Rattle.ll_parser.proofs.spelling.Lexing.{Piece, Safe, Anything, nothing, joined, spaced, lined, name-piece, variable-piece, number-piece, spelling, IsFixed, keyword, sign, ended}
+use Rattle.ll_parser.proofs.spelling.Lexing.{Piece, Safe, Anything, nothing, joined, spaced, lined, name-piece, variable-piece, number-piece, spelling}
+use Rattle.ll_parser.proofs.spelling.Lexing.{IsFixed, keyword, sign, ended}
 
 -- ---- bytes that end a word
 
@@ -52,21 +65,25 @@ word-piece (upper n) ts h = variable-piece n h.0
 simples-safe : (ss : Simples) (rest : List ℕ) → Safe rest → Safe (simples_bytes ss ++ rest)
 simples-safe no_more rest h = h
 simples-safe (and_then ss s) rest h =
-    subst Safe (sym (append_assoc (simples_bytes ss) (codes " " ++ simple_bytes s) rest)) (simples-safe ss ((codes " " ++ simple_bytes s) ++ rest) (safe-space (simple_bytes s ++ rest)))
+    subst Safe (sym (append_assoc (simples_bytes ss) (codes " " ++ simple_bytes s) rest))
+    (simples-safe ss ((codes " " ++ simple_bytes s) ++ rest) (safe-space (simple_bytes s ++ rest)))
 
 any-piece : (at : Place) → Piece Safe (codes "_") (any at ∷ [])
 any-piece at = keyword kind.Any (any at) tt (λ x. refl) (λ rest h. h)
 
 -- a piece in brackets
-in-parens : {xs : List ℕ} {ts : List Tok} (at end : Place) → Piece Safe xs ts → Piece Safe (codes "(" ++ (xs ++ codes ")")) (paren_left at ∷ (ts ++ paren_right end ∷ []))
-in-parens at end p = joined (sign kind.ParenLeft (paren_left at) tt (λ x. refl) (λ b. refl)) (joined p (joined (sign kind.ParenRight (paren_right end) tt (λ x. refl) (λ b. refl)) nothing (λ rest h. tt)) (λ rest h. safe-right rest)) (λ rest h. tt)
+in-parens : {xs : List ℕ} {ts : List Tok} (at end : Place) → Piece Safe xs ts
+    → Piece Safe (codes "(" ++ (xs ++ codes ")")) (paren_left at ∷ (ts ++ paren_right end ∷ []))
+in-parens at end p = joined (sign kind.ParenLeft (paren_left at) tt (λ x. refl) (λ b. refl))
+    (joined p (joined (sign kind.ParenRight (paren_right end) tt (λ x. refl) (λ b. refl)) nothing (λ rest h. tt)) (λ rest h. safe-right rest)) (λ rest h. tt)
 
 mutual
   term-piece : (t : Term) → Spelled (term_tokens t) → Piece Safe (term_bytes t) (term_tokens t)
   term-piece (of_app a) s = app-piece a s
   term-piece (cons a at t) s =
       let k = spelled-split (app_tokens a) (cons_sign at ∷ term_tokens t) s in
-      joined (app-piece a k.0) (joined (sign kind.Cons (cons_sign at) tt (λ x. refl) (λ b. refl)) (term-piece t k.1.1) (λ rest h. tt)) (λ rest h. safe-colon (58 ∷ (term_bytes t ++ rest)))
+      joined (app-piece a k.0) (joined (sign kind.Cons (cons_sign at) tt (λ x. refl) (λ b. refl)) (term-piece t k.1.1) (λ rest h. tt))
+      (λ rest h. safe-colon (58 ∷ (term_bytes t ++ rest)))
 
   app-piece : (a : App) → Spelled (app_tokens a) → Piece Safe (app_bytes a) (app_tokens a)
   app-piece (applied w ss) s = joined (word-piece w (simples_tokens ss) s) (simples-piece ss s.1) (simples-safe ss)
@@ -89,11 +106,13 @@ mutual
 -- ---- formulas
 
 -- an operator with a space on each side, and what stands behind it
-operator : {ys : List ℕ} {vs : List Tok} (k : TokenKind) (t : Tok) → IsFixed k → ((at : Place) → bare_tok (tok_by k (spelling k) at) ≡ bare_tok t) → ((b : ℕ) → goes_on k b ≡ false) → Piece Safe ys vs → Piece Safe (between (spelling k) ys) (t ∷ vs)
+operator : {ys : List ℕ} {vs : List Tok} (k : TokenKind) (t : Tok) → IsFixed k → ((at : Place) → bare_tok (tok_by k (spelling k) at) ≡ bare_tok t)
+    → ((b : ℕ) → goes_on k b ≡ false) → Piece Safe ys vs → Piece Safe (between (spelling k) ys) (t ∷ vs)
 operator k t f b h p = spaced (joined (sign k t f b h) (spaced p) (λ rest s. tt))
 
 -- what stands on its left
-left-of : {xs : List ℕ} {us vs : List Tok} (sign_bytes ys : List ℕ) → Piece Safe xs us → Piece Safe (between sign_bytes ys) vs → Piece Safe (xs ++ between sign_bytes ys) (us ++ vs)
+left-of : {xs : List ℕ} {us vs : List Tok} (sign_bytes ys : List ℕ) → Piece Safe xs us → Piece Safe (between sign_bytes ys) vs
+    → Piece Safe (xs ++ between sign_bytes ys) (us ++ vs)
 left-of sign_bytes ys p q = joined p q (λ rest h. safe-space ((sign_bytes ++ (codes " " ++ ys)) ++ rest))
 
 -- a word or a sign with a space on each side, which ends it
@@ -173,8 +192,10 @@ mutual
       left-of (codes "=>") (arrow_bytes a) (sum-piece x k.0) (operator kind.RightArrow (right_arrow at) tt (λ x. refl) (λ b. refl) (arrow-piece a k.1.1))
   arrow-piece (loads n ss at a) s =
       let k = spelled-split (simples_tokens ss) (load_arrow at ∷ arrow_tokens a) s.1 in
-      joined (name-piece n s.0) (left-of (codes "-->") (arrow_bytes a) (simples-piece ss k.0) (operator kind.LoadArrow (load_arrow at) tt (λ x. refl) (λ b. refl) (arrow-piece a k.1.1)))
-      (λ rest h. subst Safe (sym (append_assoc (simples_bytes ss) (between (codes "-->") (arrow_bytes a)) rest)) (simples-safe ss (between (codes "-->") (arrow_bytes a) ++ rest) (safe-space ((codes "-->" ++ (codes " " ++ arrow_bytes a)) ++ rest))))
+      joined (name-piece n s.0) (left-of (codes "-->") (arrow_bytes a) (simples-piece ss k.0)
+      (operator kind.LoadArrow (load_arrow at) tt (λ x. refl) (λ b. refl) (arrow-piece a k.1.1)))
+      (λ rest h. subst Safe (sym (append_assoc (simples_bytes ss) (between (codes "-->") (arrow_bytes a)) rest))
+      (simples-safe ss (between (codes "-->") (arrow_bytes a) ++ rest) (safe-space ((codes "-->" ++ (codes " " ++ arrow_bytes a)) ++ rest))))
 
   sum-piece : {o : Bool} (x : Sum o) → Spelled (sum_tokens x) → Piece Safe (sum_bytes x) (sum_tokens x)
   sum-piece (of_with w) s = with-piece w s
@@ -199,11 +220,21 @@ mutual
   primary-piece (erased at) s = keyword kind.Erase (erase_word at) tt (λ x. refl) (λ rest h. h)
   primary-piece (bracket at f end) s = in-parens at end (formula-piece f (spelled-split (formula_tokens f) (paren_right end ∷ []) s.1).0)
   primary-piece (brace at f end) s =
-      joined (sign kind.BraceLeft (brace_left at) tt (λ x. refl) (λ b. refl)) (joined (formula-piece f (spelled-split (formula_tokens f) (brace_right end ∷ []) s.1).0) (joined (sign kind.BraceRight (brace_right end) tt (λ x. refl) (λ b. refl)) nothing (λ rest h. tt)) (λ rest h. safe-brace rest)) (λ rest h. tt)
+      joined (sign kind.BraceLeft (brace_left at) tt (λ x. refl) (λ b. refl))
+      (joined (formula-piece f (spelled-split (formula_tokens f) (brace_right end ∷ []) s.1).0)
+      (joined (sign kind.BraceRight (brace_right end) tt (λ x. refl) (λ b. refl)) nothing (λ rest h. tt)) (λ rest h. safe-brace rest)) (λ rest h. tt)
   primary-piece (quantified quantifier.Forall at w slash f) s =
-      joined (keyword kind.Forall (forall_word at) tt (λ x. refl) (λ rest h. h)) (spaced (joined (word-piece w (backslash slash ∷ formula_tokens f) s.1) (joined (sign kind.Backslash (backslash slash) tt (λ x. refl) (λ b. refl)) (spaced (formula-piece f s.1.1.1)) (λ rest h. tt)) (λ rest h. safe-backslash ((codes " " ++ formula_bytes f) ++ rest)))) (λ rest h. safe-space (((word_identifier w).text ++ (92 ∷ (codes " " ++ formula_bytes f))) ++ rest))
+      joined (keyword kind.Forall (forall_word at) tt (λ x. refl) (λ rest h. h))
+      (spaced (joined (word-piece w (backslash slash ∷ formula_tokens f) s.1)
+      (joined (sign kind.Backslash (backslash slash) tt (λ x. refl) (λ b. refl)) (spaced (formula-piece f s.1.1.1)) (λ rest h. tt))
+      (λ rest h. safe-backslash ((codes " " ++ formula_bytes f) ++ rest))))
+      (λ rest h. safe-space (((word_identifier w).text ++ (92 ∷ (codes " " ++ formula_bytes f))) ++ rest))
   primary-piece (quantified quantifier.Exists at w slash f) s =
-      joined (keyword kind.Exists (exists_word at) tt (λ x. refl) (λ rest h. h)) (spaced (joined (word-piece w (backslash slash ∷ formula_tokens f) s.1) (joined (sign kind.Backslash (backslash slash) tt (λ x. refl) (λ b. refl)) (spaced (formula-piece f s.1.1.1)) (λ rest h. tt)) (λ rest h. safe-backslash ((codes " " ++ formula_bytes f) ++ rest)))) (λ rest h. safe-space (((word_identifier w).text ++ (92 ∷ (codes " " ++ formula_bytes f))) ++ rest))
+      joined (keyword kind.Exists (exists_word at) tt (λ x. refl) (λ rest h. h))
+      (spaced (joined (word-piece w (backslash slash ∷ formula_tokens f) s.1)
+      (joined (sign kind.Backslash (backslash slash) tt (λ x. refl) (λ b. refl)) (spaced (formula-piece f s.1.1.1)) (λ rest h. tt))
+      (λ rest h. safe-backslash ((codes " " ++ formula_bytes f) ++ rest))))
+      (λ rest h. safe-space (((word_identifier w).text ++ (92 ∷ (codes " " ++ formula_bytes f))) ++ rest))
   primary-piece (atom w ss) s = joined (word-piece w (simples_tokens ss) s) (simples-piece ss s.1) (simples-safe ss)
   primary-piece (valued x at e) s =
       left-of (codes "is") (expr_bytes e) (plain-piece x (s.0, tt)) (apart kind.Is (is_sign at) tt (λ x. refl) is-ends (expr-piece e s.1.1))
@@ -234,7 +265,9 @@ variables-piece (n ∷ ns) end s = spaced (joined (variable-piece n s.0) (variab
 clause-piece : (c : Clause) → Spelled (clause_tokens c) → Piece Anything (clause_bytes c) (clause_tokens c)
 clause-piece (plain f end) s = joined (formula-piece f (spelled-split (formula_tokens f) (dot end ∷ []) s).0) (line-piece end) (λ rest h. safe-dot (10 ∷ rest))
 clause-piece (linear at f end) s =
-    joined (keyword kind.Linear (linear_word at) tt (λ x. refl) (λ rest h. h)) (spaced (joined (formula-piece f (spelled-split (formula_tokens f) (dot end ∷ []) s.1).0) (line-piece end) (λ rest h. safe-dot (10 ∷ rest)))) (λ rest h. safe-space ((formula_bytes f ++ line_end) ++ rest))
+    joined (keyword kind.Linear (linear_word at) tt (λ x. refl) (λ rest h. h))
+    (spaced (joined (formula-piece f (spelled-split (formula_tokens f) (dot end ∷ []) s.1).0) (line-piece end) (λ rest h. safe-dot (10 ∷ rest))))
+    (λ rest h. safe-space ((formula_bytes f ++ line_end) ++ rest))
 
 clauses-piece : (cs : List Clause) → Spelled (clauses_tokens cs) → Piece Anything (clauses_bytes cs) (clauses_tokens cs)
 clauses-piece [] s = nothing
@@ -242,7 +275,9 @@ clauses-piece (c ∷ cs) s = let k = spelled-split (clause_tokens c) (clauses_to
 
 local-piece : (l : Local) → Spelled (local_tokens l) → Piece Anything (local_bytes l) (local_tokens l)
 local-piece l s =
-    joined (keyword kind.Local (local_word l.word) tt (λ x. refl) (λ rest h. h)) (spaced (joined (name-piece l.first s.1.0) (names-piece l.others l.end (spelled-split (names l.others) (dot l.end ∷ []) s.1.1).0) (λ rest h. names-safe l.others rest))) (λ rest h. safe-space ((l.first.text ++ names_text l.others) ++ rest))
+    joined (keyword kind.Local (local_word l.word) tt (λ x. refl) (λ rest h. h))
+    (spaced (joined (name-piece l.first s.1.0) (names-piece l.others l.end (spelled-split (names l.others) (dot l.end ∷ []) s.1.1).0)
+    (λ rest h. names-safe l.others rest))) (λ rest h. safe-space ((l.first.text ++ names_text l.others) ++ rest))
 
 locals-piece : (ls : List Local) → Spelled (locals_tokens ls) → Piece Anything (locals_bytes ls) (locals_tokens ls)
 locals-piece [] s = nothing
@@ -250,7 +285,9 @@ locals-piece (l ∷ ls) s = let k = spelled-split (local_tokens l) (locals_token
 
 heading-piece : (h : Heading) → Spelled (heading_tokens h) → Piece Anything (heading_bytes h) (heading_tokens h)
 heading-piece h s =
-    joined (keyword kind.Module (module_word h.word) tt (λ x. refl) (λ rest p. p)) (spaced (joined (name-piece h.name s.1.0) (variables-piece h.params h.end (spelled-split (variables h.params) (dot h.end ∷ []) s.1.1).0) (λ rest p. names-safe h.params rest))) (λ rest p. safe-space ((h.name.text ++ names_text h.params) ++ rest))
+    joined (keyword kind.Module (module_word h.word) tt (λ x. refl) (λ rest p. p))
+    (spaced (joined (name-piece h.name s.1.0) (variables-piece h.params h.end (spelled-split (variables h.params) (dot h.end ∷ []) s.1.1).0)
+    (λ rest p. names-safe h.params rest))) (λ rest p. safe-space ((h.name.text ++ names_text h.params) ++ rest))
 
 module-piece : (m : Module) → Spelled (module_tokens m) → Piece Anything (module_bytes m) (module_tokens m)
 module-piece m s =
@@ -263,7 +300,8 @@ modules-piece [] s = nothing
 modules-piece (m ∷ ms) s = let k = spelled-split (module_tokens m) (modules_tokens ms) s in joined (module-piece m k.0) (modules-piece ms k.1) (λ rest h. tt)
 
 program-piece : (p : Program) → Spelled (program_tokens p) → Piece Anything (program_bytes p) (program_tokens p)
-program-piece p s = let k = spelled-split (clauses_tokens p.clauses) (modules_tokens p.modules) s in joined (clauses-piece p.clauses k.0) (modules-piece p.modules k.1) (λ rest h. tt)
+program-piece p s = let k = spelled-split (clauses_tokens p.clauses) (modules_tokens p.modules) s in
+    joined (clauses-piece p.clauses k.0) (modules-piece p.modules k.1) (λ rest h. tt)
 
 -- ---- the whole text
 

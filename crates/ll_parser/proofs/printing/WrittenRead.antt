@@ -14,7 +14,8 @@ use Rattle.ll_parser.proofs.printing.PrintedReads.{printed-reads, printed-spelle
 use Rattle.ll_parser.proofs.printing.ProgramTexts.{program-text}
 use Rattle.ll_parser.proofs.printing.WrittenLexed.{program-lexed}
 
-pub written-read : (p : ProgramTree) → IsWhole programs p → (lexed : LexedText) × (lexed.text ≡ program_text p) × IsLexed lexed × (q : ProgramTree) × Reads programs 1000 (toks_of lexed) q × (bare_program q ≡ bare_program p)
+pub written-read : (p : ProgramTree) → IsWhole programs p → (lexed : LexedText) × (lexed.text ≡ program_text p) × IsLexed lexed × (q : ProgramTree)
+    × Reads programs 1000 (toks_of lexed) q × (bare_program q ≡ bare_program p)
 written-read p h =
     let t = program-lexed (printed_program p) (recursion_from_All IsSpelled (program_tokens (printed_program p)) (printed-spelled p h)) in
     let q = program-same 1000 (program_tokens (printed_program p)) (toks_of t.lexed) p (sym t.same) (printed-reads p h) in

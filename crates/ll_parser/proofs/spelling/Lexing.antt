@@ -1,5 +1,6 @@
 -- How written bytes are lexed: pieces of bytes that are read as some tokens, places aside, wherever they may stand.
-use Rattle.std.proofs.Common.{◌≡◌, ℕ, ◌+◌, ◌-◌, ◌≤◌, ℤ, true, false, List, [], ◌∷◌, ◌++◌, length, take, drop, map, codes, FitsSigned, refl, sym, ◌∙◌, ap, subst, arith, append_assoc, length-append}
+use Rattle.std.proofs.Common.{◌≡◌, ℕ, ◌+◌, ◌-◌, ◌≤◌, ℤ, true, false, List, [], ◌∷◌, ◌++◌, length, take, drop, map, codes, FitsSigned, refl, sym, ◌∙◌, ap}
+use Rattle.std.proofs.Common.{subst, arith, append_assoc, length-append}
 use Rattle.std.specs.Int.{w64}
 use Rattle.std.specs.Fmt.{signed_decimal}
 use Rattle.std.proofs.Math.Seq.{take-append_seam, drop-append_seam}
@@ -10,7 +11,8 @@ use Rattle.ll_lexer.specs.declared.Token.{Token}
 use Rattle.ll_lexer.specs.declared.TokenKind.{TokenKind}
 use Rattle.ll_lexer.specs.declared.TokenKind.TheVariants as kind
 use Rattle.ll_lexer.specs.Spelling.{is_digit, is_word_byte, fixed_spellings, kind_of, Spells, IsLongest}
-use Rattle.ll_lexer.specs.Reading.{is_blank, place_at, IsGap, blank, past_64_bits, long_name, long_variable, IsSound, number_value, End, Lexes, gap, token, token_at}
+use Rattle.ll_lexer.specs.Reading.{is_blank, place_at, IsGap, blank, past_64_bits, long_name, long_variable, IsSound, number_value, End, Lexes, gap, token}
+use Rattle.ll_lexer.specs.Reading.{token_at}
 use Rattle.ll_lexer.proofs.CallerLemmas.{goes_on, Ends, spelled-read, sound-name, sound-variable}
 use Rattle.ll_parser.specs.Tokens.{Identifier, Tok, name, variable, number, tok_by, tok_of}
 use Rattle.ll_parser.specs.Bare.{nowhere, bare_tok}
@@ -24,7 +26,8 @@ pub record LexedAs (text : List ℕ) (i : ℕ) (toks : List Tok) (ts : List Toke
 
 -- these bytes are lexed as these tokens, wherever what follows them satisfies P
 pub record Piece (P : List ℕ → Type 0) (bytes : List ℕ) (toks : List Tok) : Type 0 where
-  pub read : (text : List ℕ) (i : ℕ) (rest : List ℕ) → drop i text ≡ bytes ++ rest → P rest → (ts : List Token) (e : End) → Lexes text (i + length bytes) ts e → LexedAs text i toks ts e
+  pub read : (text : List ℕ) (i : ℕ) (rest : List ℕ) → drop i text ≡ bytes ++ rest → P rest → (ts : List Token) (e : End) → Lexes text (i + length bytes) ts e
+      → LexedAs text i toks ts e
 
 -- no byte of a word follows; anything may follow
 abbrev pub Safe : List ℕ → Type 0
@@ -39,16 +42,22 @@ drop-on : (text : List ℕ) (i : ℕ) (xs ys : List ℕ) → drop i text ≡ xs 
 drop-on text i xs ys h = sym (drop-drop (length xs) i text) ∙ ap (drop (length xs)) h ∙ drop-append_seam xs ys
 
 pub nothing : {P : List ℕ → Type 0} → Piece P [] []
-nothing = record { read = λ text i rest h s ts e x. let n : i + 0 ≡ i = omega arith in record { tokens = ts; lexes = subst (λ k. Lexes text k ts e) n x; same = refl } }
+nothing = record {
+  read = λ text i rest h s ts e x. let n : i + 0 ≡ i = omega arith in
+      record { tokens = ts; lexes = subst (λ k. Lexes text k ts e) n x; same = refl };
+}
 
 same-joined : (xs ys zs us vs : List Tok) → xs ≡ map bare_tok us ++ ys → ys ≡ map bare_tok vs ++ zs → xs ≡ map bare_tok (us ++ vs) ++ zs
-same-joined xs ys zs us vs a b = a ∙ ap (λ z. map bare_tok us ++ z) b ∙ sym (append_assoc (map bare_tok us) (map bare_tok vs) zs) ∙ ap (λ z. z ++ zs) (sym (map-append bare_tok us vs))
+same-joined xs ys zs us vs a b = a ∙ ap (λ z. map bare_tok us ++ z) b ∙ sym (append_assoc (map bare_tok us) (map bare_tok vs) zs)
+    ∙ ap (λ z. z ++ zs) (sym (map-append bare_tok us vs))
 
 -- one piece behind another
-pub joined : {P Q : List ℕ → Type 0} {xs ys : List ℕ} {us vs : List Tok} → Piece P xs us → Piece Q ys vs → ((rest : List ℕ) → Q rest → P (ys ++ rest)) → Piece Q (xs ++ ys) (us ++ vs)
+pub joined : {P Q : List ℕ → Type 0} {xs ys : List ℕ} {us vs : List Tok} → Piece P xs us → Piece Q ys vs → ((rest : List ℕ) → Q rest → P (ys ++ rest))
+    → Piece Q (xs ++ ys) (us ++ vs)
 joined {P} {Q} {xs} {ys} {us} {vs} p q safe = record { read = both }
   where
-    both : (text : List ℕ) (i : ℕ) (rest : List ℕ) → drop i text ≡ (xs ++ ys) ++ rest → Q rest → (ts : List Token) (e : End) → Lexes text (i + length (xs ++ ys)) ts e → LexedAs text i (us ++ vs) ts e
+    both : (text : List ℕ) (i : ℕ) (rest : List ℕ) → drop i text ≡ (xs ++ ys) ++ rest → Q rest → (ts : List Token) (e : End)
+        → Lexes text (i + length (xs ++ ys)) ts e → LexedAs text i (us ++ vs) ts e
     both text i rest h s ts e x =
         let front : drop i text ≡ xs ++ (ys ++ rest) = h ∙ append_assoc xs ys rest in
         let n : i + length (xs ++ ys) ≡ i + length xs + length ys = omega (arith, length-append xs ys) in
@@ -57,14 +66,16 @@ joined {P} {Q} {xs} {ys} {us} {vs} p q safe = record { read = both }
         record {
           tokens = a.tokens;
           lexes = a.lexes;
-          same = same-joined (map bare_tok (map (tok_of text) a.tokens)) (map bare_tok (map (tok_of text) b.tokens)) (map bare_tok (map (tok_of text) ts)) us vs a.same b.same;
+          same = same-joined (map bare_tok (map (tok_of text) a.tokens)) (map bare_tok (map (tok_of text) b.tokens)) (map bare_tok (map (tok_of text) ts)) us vs
+              a.same b.same;
         }
 
 -- a blank before a piece
 blank-before : {P : List ℕ → Type 0} {ys : List ℕ} {vs : List Tok} (b : ℕ) → is_blank b ≡ true → Piece P ys vs → Piece P (b ∷ ys) vs
 blank-before {P} {ys} {vs} b k q = record { read = behind }
   where
-    behind : (text : List ℕ) (i : ℕ) (rest : List ℕ) → drop i text ≡ b ∷ (ys ++ rest) → P rest → (ts : List Token) (e : End) → Lexes text (i + length (b ∷ ys)) ts e → LexedAs text i vs ts e
+    behind : (text : List ℕ) (i : ℕ) (rest : List ℕ) → drop i text ≡ b ∷ (ys ++ rest) → P rest → (ts : List Token) (e : End)
+        → Lexes text (i + length (b ∷ ys)) ts e → LexedAs text i vs ts e
     behind text i rest h s ts e x =
         let n : i + length (b ∷ ys) ≡ i + 1 + length ys = omega arith in
         let a = q.read text (i + 1) rest (drop-on text i (b ∷ []) (ys ++ rest) h) s ts e (subst (λ m. Lexes text m ts e) n x) in
@@ -81,7 +92,9 @@ lined q = blank-before 10 refl q
 -- ---- one token
 
 -- a token that is spelled so, where its bytes end
-read_token : (k : TokenKind) (w : List ℕ) (t : Tok) → Spells k w → IsSound k w → ((at : Place) → bare_tok (tok_by k w at) ≡ bare_tok t) → (text : List ℕ) (i : ℕ) (rest : List ℕ) → drop i text ≡ w ++ rest → Ends (goes_on k) rest → (ts : List Token) (e : End) → Lexes text (i + length w) ts e → LexedAs text i (t ∷ []) ts e
+read_token : (k : TokenKind) (w : List ℕ) (t : Tok) → Spells k w → IsSound k w → ((at : Place) → bare_tok (tok_by k w at) ≡ bare_tok t)
+    → (text : List ℕ) (i : ℕ) (rest : List ℕ) → drop i text ≡ w ++ rest → Ends (goes_on k) rest → (ts : List Token) (e : End) → Lexes text (i + length w) ts e
+    → LexedAs text i (t ∷ []) ts e
 read_token k w t s f b text i rest h ends ts e x =
     let bytes : take (length w) (drop i text) ≡ w = ap (take (length w)) h ∙ take-append_seam w rest in
     let n : i + length w - i ≡ length w = omega arith in
@@ -92,7 +105,8 @@ read_token k w t s f b text i rest h ends ts e x =
       same = ap (λ z. z ∷ map bare_tok (map (tok_of text) ts)) (ap (λ z. bare_tok (tok_by k z (place_at text i))) own ∙ b (place_at text i));
     }
 
-pub token-piece : (P : List ℕ → Type 0) (k : TokenKind) (w : List ℕ) (t : Tok) → Spells k w → IsSound k w → ((at : Place) → bare_tok (tok_by k w at) ≡ bare_tok t) → ((rest : List ℕ) → P rest → Ends (goes_on k) rest) → Piece P w (t ∷ [])
+pub token-piece : (P : List ℕ → Type 0) (k : TokenKind) (w : List ℕ) (t : Tok) → Spells k w → IsSound k w
+    → ((at : Place) → bare_tok (tok_by k w at) ≡ bare_tok t) → ((rest : List ℕ) → P rest → Ends (goes_on k) rest) → Piece P w (t ∷ [])
 token-piece P k w t s f b ends = record { read = λ text i rest h p ts e x. read_token k w t s f b text i rest h (ends rest p) ts e x }
 
 -- ---- names and numbers
@@ -112,7 +126,8 @@ digits-end [] h = tt
 digits-end (b ∷ bs) h = digit-of-word b h
 
 pub number-piece : (z : ℤ) (at : Place) → FitsSigned w64 z → Piece Safe (signed_decimal z) (number z at ∷ [])
-number-piece z at h = token-piece Safe kind.Number (signed_decimal z) (number z at) (spelled-number z h) (sound (signed_decimal z) (value-number z h)) (λ x. ap (λ v. number v nowhere) (value-number z h)) digits-end
+number-piece z at h = token-piece Safe kind.Number (signed_decimal z) (number z at) (spelled-number z h) (sound (signed_decimal z) (value-number z h))
+    (λ x. ap (λ v. number v nowhere) (value-number z h)) digits-end
   where
     sound : (w : List ℕ) → number_value w ≡ z → IsSound kind.Number w
     sound w e flaw (past_64_bits f) = f (subst (FitsSigned w64) (sym e) h)
@@ -174,7 +189,8 @@ fixed-sound k w f n (long_name h) = f
 fixed-sound k w f n (long_variable h) = f
 
 -- a keyword or `_`, and the signs
-pub keyword : (k : TokenKind) (t : Tok) → IsFixed k → ((at : Place) → bare_tok (tok_by k (spelling k) at) ≡ bare_tok t) → ((rest : List ℕ) → Safe rest → Ends (goes_on k) rest) → Piece Safe (spelling k) (t ∷ [])
+pub keyword : (k : TokenKind) (t : Tok) → IsFixed k → ((at : Place) → bare_tok (tok_by k (spelling k) at) ≡ bare_tok t)
+    → ((rest : List ℕ) → Safe rest → Ends (goes_on k) rest) → Piece Safe (spelling k) (t ∷ [])
 keyword k t f b ends = token-piece Safe k (spelling k) t (fixed-spelled k f) (fixed-sound k (spelling k) f) b ends
 
 -- no byte goes on with a sign
@@ -182,7 +198,8 @@ any-end : (k : TokenKind) → ((b : ℕ) → goes_on k b ≡ false) → (rest : 
 any-end k h [] = tt
 any-end k h (b ∷ bs) = h b
 
-pub sign : (k : TokenKind) (t : Tok) → IsFixed k → ((at : Place) → bare_tok (tok_by k (spelling k) at) ≡ bare_tok t) → ((b : ℕ) → goes_on k b ≡ false) → Piece Anything (spelling k) (t ∷ [])
+pub sign : (k : TokenKind) (t : Tok) → IsFixed k → ((at : Place) → bare_tok (tok_by k (spelling k) at) ≡ bare_tok t) → ((b : ℕ) → goes_on k b ≡ false)
+    → Piece Anything (spelling k) (t ∷ [])
 sign k t f b h = token-piece Anything k (spelling k) t (fixed-spelled k f) (fixed-sound k (spelling k) f) b (λ rest p. any-end k h rest)
 
 -- a word or a sign, behind which its bytes end

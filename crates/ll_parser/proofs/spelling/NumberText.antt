@@ -1,5 +1,6 @@
 -- The text of a whole number of 64 bits is spelled as a number, and this number is its value.
-use Rattle.std.proofs.Common.{◌≡◌, ℕ, suc, ◌+◌, ◌<◌, ◌≤◌, ◌^◌, ℤ, pos, negsuc, neg_ℤ, true, false, ◌==◌, List, [], ◌∷◌, length, decimal, FitsSigned, refl, ◌∙◌, ap, subst, arith}
+use Rattle.std.proofs.Common.{◌≡◌, ℕ, suc, ◌+◌, ◌<◌, ◌≤◌, ◌^◌, ℤ, pos, negsuc, neg_ℤ, true, false, ◌==◌, List, [], ◌∷◌, length, decimal, FitsSigned, refl, ◌∙◌}
+use Rattle.std.proofs.Common.{ap, subst, arith}
 use Rattle.std.specs.Int.{w64}
 use Rattle.std.specs.List.{list_all, prefix_len}
 use Rattle.std.specs.Fmt.{signed_decimal}
@@ -55,5 +56,6 @@ spelled-number (pos n) h = digits-spelled (decimal n) (decimal_nonempty n (fits-
 spelled-number (negsuc n) h = negative-spelled (decimal (suc n)) (decimal_nonempty (suc n) (fits-neg n h)) (digits_decimal digits-model (suc n) (fits-neg n h))
 
 pub value-number : (z : ℤ) → FitsSigned w64 z → number_value (signed_decimal z) ≡ z
-value-number (pos n) h = digits-number (decimal n) (decimal_nonempty n (fits-pos n h)) (digits_decimal digits-model n (fits-pos n h)) ∙ ap pos (digits_value-decimal digits-model n (fits-pos n h))
+value-number (pos n) h = digits-number (decimal n) (decimal_nonempty n (fits-pos n h)) (digits_decimal digits-model n (fits-pos n h))
+    ∙ ap pos (digits_value-decimal digits-model n (fits-pos n h))
 value-number (negsuc n) h = ap (λ m. let z : ℤ = neg_ℤ (pos m) in z) (digits_value-decimal digits-model (suc n) (fits-neg n h))

@@ -79,7 +79,8 @@ lexed-spelled lexed h =
     All-from_get_or IsSpelled (toks_of lexed) d (λ i le. one-spelled lexed h i (get_or (toks_of lexed) i d) (slice_get-get_or (toks_of lexed) i d le))
 
 -- what the tokens of a text are read as is whole
-pub whole-read : (l : Language) (lexed : LexedText) (tree : l.Tree) → IsLexed lexed → length lexed.tokens ≤ 16777216 → Reads l 1000 (toks_of lexed) tree → IsWhole l tree
+pub whole-read : (l : Language) (lexed : LexedText) (tree : l.Tree) → IsLexed lexed → length lexed.tokens ≤ 16777216 → Reads l 1000 (toks_of lexed) tree
+    → IsWhole l tree
 whole-read l lexed tree h few r =
     let n : length (toks_of lexed) ≡ length lexed.tokens = length-map lexed.tokens (tok_of lexed.text) in
     (toks_of lexed, subst (λ z. z ≤ 16777216) (sym n) few, lexed-spelled lexed h, r)

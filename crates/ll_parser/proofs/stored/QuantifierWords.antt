@@ -8,7 +8,8 @@ use Rattle.ll_parser.specs.Raw.{Raw, universal, existential}
 use Rattle.ll_parser.specs.Grammar.{quantifier_token, quantifier_raw}
 
 -- what holds of both quantifiers
-pub either_quantifier : (P : Raw → Type 0) (q : Quantifier) (at : Place) (n : Identifier) (r : Raw) → P (universal at n r) → P (existential at n r) → P (quantifier_raw q at n r)
+pub either_quantifier : (P : Raw → Type 0) (q : Quantifier) (at : Place) (n : Identifier) (r : Raw) → P (universal at n r) → P (existential at n r)
+    → P (quantifier_raw q at n r)
 either_quantifier P quantifier.Forall at n r u e = u
 either_quantifier P quantifier.Exists at n r u e = e
 

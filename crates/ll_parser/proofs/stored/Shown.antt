@@ -1,5 +1,6 @@
 -- What the nodes, the arguments and the frames show stays when some are added, and what it is without the newest.
-use Rattle.std.proofs.Common.{◌≡◌, ℕ, ◌+◌, ◌-◌, ◌<◌, ◌≤◌, List, [], ◌∷◌, ◌++◌, length, take, drop, reverse, All, refl, sym, subst, ◌∙◌, ap, arith, length-append, length-drop}
+use Rattle.std.proofs.Common.{◌≡◌, ℕ, ◌+◌, ◌-◌, ◌<◌, ◌≤◌, List, [], ◌∷◌, ◌++◌, length, take, drop, reverse, All, refl, sym, subst, ◌∙◌, ap, arith}
+use Rattle.std.proofs.Common.{length-append, length-drop}
 use Rattle.std.proofs.Math.Seq.{take-append_seam, take-length}
 use Rattle.std.proofs.lemmas.List.{take-append-le, drop-append-le, length-take-le, reverse-append}
 use Rattle.std.proofs.lemmas.List.Elements.{All-take, All-drop, All-push}
@@ -16,7 +17,8 @@ use Rattle.ll_parser.specs.Flat.{operand, loading, in_atom, in_argument, cell, m
 use Rattle.ll_parser.specs.Flat.{added as adding}
 use Rattle.ll_parser.specs.Nodes.{Node, HeadNode, LoadNode, identifier, raw_in, raws_in, build_raw, raw_trees, raw_at}
 use Rattle.ll_parser.specs.Seen.{places}
-use Rattle.ll_parser.specs.Waiting.{known, word_view, args_view, frame_view, left, base, frames_view, pending, tree, args_from, waiting_below, FrameFits, FramesFit, FitsTo, FitsBelow, IsNode, CanWait, Added, Pushed, Dropped, HasMore, Leaves}
+use Rattle.ll_parser.specs.Waiting.{known, word_view, args_view, frame_view, left, base, frames_view, pending, tree, args_from, waiting_below, FrameFits}
+use Rattle.ll_parser.specs.Waiting.{FramesFit, FitsTo, FitsBelow, IsNode, CanWait, Added, Pushed, Dropped, HasMore, Leaves}
 use Rattle.ll_parser.proofs.stored.StoredLemmas.{same_raws, places_below}
 
 -- ---- trees of more nodes
@@ -73,13 +75,15 @@ module _ (texts : List (List ℕ)) (ts us : List Raw) (n : ℕ) (same : (i : ℕ
   left-below args h frame.NumberGroup = h
   left-below args h frame.LeadGroup = h
 
-  frames-kept : (k : ℕ) (args : List RawAt) → All (λ a. a.0 < n) args → (fs : List Frame) → FramesFit n k fs → frames_view texts us args fs ≡ frames_view texts ts args fs
+  frames-kept : (k : ℕ) (args : List RawAt) → All (λ a. a.0 < n) args → (fs : List Frame) → FramesFit n k fs
+      → frames_view texts us args fs ≡ frames_view texts ts args fs
   frames-kept k args h [] w = refl
   frames-kept k args h (f ∷ fs) w =
       let e1 = frame-kept k args h f w.0 in let e2 = frames-kept (base k f) (left args f) (left-below args h f) fs w.1 in cc
 
 -- what waits over more nodes
-pending-kept : (texts : List (List ℕ)) (nodes : List Node) (n : Node) (k : ℕ) (args : List RawAt) (fs : List Frame) → All (λ a. a.0 < length nodes) args → FramesFit (length nodes) k (reverse fs)
+pending-kept : (texts : List (List ℕ)) (nodes : List Node) (n : Node) (k : ℕ) (args : List RawAt) (fs : List Frame) → All (λ a. a.0 < length nodes) args
+    → FramesFit (length nodes) k (reverse fs)
     → pending texts (nodes ++ n ∷ []) args fs ≡ pending texts nodes args fs
 unfolding pending
 pending-kept texts nodes n k args fs h w =
@@ -117,7 +121,8 @@ fits-more n m k args fs le w = record {
 
 -- ---- a node was added
 
-module _ (old new : Waiting) (n : Node) (forms : new.forms ≡ old.forms ++ n ∷ []) (args : new.args.items ≡ old.args.items) (frames : new.frames.items ≡ old.frames.items) where
+module _ (old new : Waiting) (n : Node) (forms : new.forms ≡ old.forms ++ n ∷ []) (args : new.args.items ≡ old.args.items)
+    (frames : new.frames.items ≡ old.frames.items) where
   count : length new.forms ≡ length old.forms + 1
   count = ap length forms ∙ length-append old.forms (n ∷ [])
 
@@ -127,7 +132,8 @@ module _ (old new : Waiting) (n : Node) (forms : new.forms ≡ old.forms ++ n �
   add-tree : (texts : List (List ℕ)) (i : RawAt) → IsNode old i → tree texts new i ≡ tree texts old i
   add-tree texts i h = rw forms (raw_at-kept texts old.forms n i.0 h)
 
-  add-pending : (texts : List (List ℕ)) (k : ℕ) (ats : List RawAt) → All (λ a. a.0 < length old.forms) ats → FramesFit (length old.forms) k (reverse old.frames.items) → pending texts new.forms ats new.frames.items ≡ pending texts old.forms ats old.frames.items
+  add-pending : (texts : List (List ℕ)) (k : ℕ) (ats : List RawAt) → All (λ a. a.0 < length old.forms) ats
+      → FramesFit (length old.forms) k (reverse old.frames.items) → pending texts new.forms ats new.frames.items ≡ pending texts old.forms ats old.frames.items
   add-pending texts k ats h w = rw (forms, frames) (pending-kept texts old.forms n k ats old.frames.items h w)
 
   pub added : (at : RawAt) → at.0 ≡ length old.forms → Added old new at (λ texts. build_raw texts (raw_trees texts old.forms) n)
@@ -138,11 +144,13 @@ module _ (old new : Waiting) (n : Node) (forms : new.forms ≡ old.forms ++ n �
     trees = λ texts i h. add-tree (known texts) i h;
     fits = λ w. subst (λ z. FitsBelow new (length z)) (sym args) (add-fits (length old.args.items) w);
     fits_below = add-fits;
-    waits = λ texts w. ap (λ z. pending (known texts) new.forms z new.frames.items) args ∙ add-pending (known texts) (length old.args.items) old.args.items w.args w.frames;
+    waits = λ texts w. ap (λ z. pending (known texts) new.forms z new.frames.items) args
+        ∙ add-pending (known texts) (length old.args.items) old.args.items w.args w.frames;
     waits_below = λ texts k w. ap (λ z. pending (known texts) new.forms (take k z) new.frames.items) args
         ∙ add-pending (known texts) k (take k old.args.items) (All-take (λ (a : RawAt). a.0 < length old.forms) k old.args.items w.args) w.frames;
     arguments = λ texts k w. ap (λ z. args_view (raw_trees (known texts) new.forms) (drop k z)) args
-        ∙ dropped (known texts) (raw_trees (known texts) old.forms) (raw_trees (known texts) new.forms) (length old.forms) (λ i l. add-tree (known texts) (record { 0 = i }) l) k old.args.items w.args;
+        ∙ dropped (known texts) (raw_trees (known texts) old.forms) (raw_trees (known texts) new.forms) (length old.forms)
+        (λ i l. add-tree (known texts) (record { 0 = i }) l) k old.args.items w.args;
     args = args;
     frames = frames;
   }
@@ -157,7 +165,8 @@ pub pending-snoc : (texts : List (List ℕ)) (nodes : List Node) (args : List Ra
 unfolding pending
 pending-snoc texts nodes args fs f = ap (frames_view texts (raw_trees texts nodes) args) (reverse-snoc fs f)
 
-pub put : (old new : Waiting) (f : Frame) → new.forms ≡ old.forms → new.args.items ≡ old.args.items → new.frames.items ≡ old.frames.items ++ f ∷ [] → CanWait old f → Pushed old new f
+pub put : (old new : Waiting) (f : Frame) → new.forms ≡ old.forms → new.args.items ≡ old.args.items → new.frames.items ≡ old.frames.items ++ f ∷ []
+    → CanWait old f → Pushed old new f
 put old new f forms args frames can = record {
   fits = rw (forms, args, frames) (record {
     args = can.fits.args;
@@ -189,10 +198,12 @@ pub cut : (old new : Waiting) (rest : List Frame) (f : Frame) → old.frames.ite
     → (n : ℕ) → n ≡ length old.frames.items → new.frames.items ≡ take (n - 1) old.frames.items → Dropped old new f
 cut old new rest f e forms args n size frames =
     let l : length old.frames.items ≡ length rest + 1 = ap length e ∙ length-append rest (f ∷ []) in
-    let s : new.frames.items ≡ rest = frames ∙ ap (λ z. take (n - 1) z) e ∙ (let k : n - 1 ≡ length rest = omega arith in rw k (take-append_seam rest (f ∷ []))) in
+    let s : new.frames.items ≡ rest = frames ∙ ap (λ z. take (n - 1) z) e
+    ∙ (let k : n - 1 ≡ length rest = omega arith in rw k (take-append_seam rest (f ∷ []))) in
     record {
       can = λ w.
-          let fit : FramesFit (length old.forms) (length old.args.items) (f ∷ reverse rest) = subst (FramesFit (length old.forms) (length old.args.items)) (ap reverse e ∙ reverse-snoc rest f) w.frames in
+          let fit : FramesFit (length old.forms) (length old.args.items) (f ∷ reverse rest) =
+          subst (FramesFit (length old.forms) (length old.args.items)) (ap reverse e ∙ reverse-snoc rest f) w.frames in
           record {
             fits = rw (forms, args, s) (record { args = w.args; within = left-within (length old.forms) (length old.args.items) f fit.0; frames = fit.1 });
             frame = rw (forms, args) fit.0;
@@ -208,7 +219,8 @@ raws_in-snoc : (ts : List Raw) (xs : List RawAt) (x : RawAt) → raws_in ts (pla
 raws_in-snoc ts [] x = refl
 raws_in-snoc ts (y ∷ xs) x = let e = raws_in-snoc ts xs x in cc
 
-pub one-more : (old new : Waiting) (x : RawAt) → IsNode old x → new.forms ≡ old.forms → new.args.items ≡ old.args.items ++ x ∷ [] → new.frames.items ≡ old.frames.items
+pub one-more : (old new : Waiting) (x : RawAt) → IsNode old x → new.forms ≡ old.forms → new.args.items ≡ old.args.items ++ x ∷ []
+    → new.frames.items ≡ old.frames.items
     → (from : ℕ) → FitsBelow old from → HasMore old new from (λ texts. tree texts old x)
 one-more old new x inside forms args frames from w = record {
   fits = rw (forms, args, frames) (record {
@@ -216,12 +228,14 @@ one-more old new x inside forms args frames from w = record {
     within = simp length-append (omega (arith, w.within));
     frames = w.frames;
   });
-  arguments = λ texts. rw (forms, args, drop-append-le from old.args.items (x ∷ []) w.within) (raws_in-snoc (raw_trees (known texts) old.forms) (drop from old.args.items) x);
+  arguments = λ texts. rw (forms, args, drop-append-le from old.args.items (x ∷ []) w.within)
+      (raws_in-snoc (raw_trees (known texts) old.forms) (drop from old.args.items) x);
   waits = λ texts. rw (forms, args, frames, take-append-le from old.args.items (x ∷ []) w.within) refl;
 }
 
 -- an argument of one node
-pub more-after : (old mid new : Waiting) (x : RawAt) (raw : List (List ℕ) → Raw) → Added old mid x raw → ((from : ℕ) → FitsBelow mid from → HasMore mid new from (λ texts. tree texts mid x))
+pub more-after : (old mid new : Waiting) (x : RawAt) (raw : List (List ℕ) → Raw) → Added old mid x raw
+    → ((from : ℕ) → FitsBelow mid from → HasMore mid new from (λ texts. tree texts mid x))
     → (from : ℕ) → FitsBelow old from → HasMore old new from raw
 more-after old mid new x raw a h from w =
     let m = h from (a.fits_below from w) in
@@ -233,14 +247,17 @@ more-after old mid new x raw a h from w =
 
 -- ---- arguments were taken off, and a node was added
 
-pub finished : (old new : Waiting) (n : Node) (at : RawAt) (from : ℕ) → FitsBelow old from → at.0 ≡ length old.forms → new.forms ≡ old.forms ++ n ∷ [] → new.args.items ≡ take from old.args.items → new.frames.items ≡ old.frames.items
+pub finished : (old new : Waiting) (n : Node) (at : RawAt) (from : ℕ) → FitsBelow old from → at.0 ≡ length old.forms → new.forms ≡ old.forms ++ n ∷ []
+    → new.args.items ≡ take from old.args.items → new.frames.items ≡ old.frames.items
     → Leaves new at (λ texts. build_raw texts (raw_trees texts old.forms) n) (λ texts. waiting_below texts old from)
 finished old new n at from w e forms args frames =
     let c : length new.forms ≡ length old.forms + 1 = ap length forms ∙ length-append old.forms (n ∷ []) in
     let l : length (take from old.args.items) ≡ from = length-take-le from old.args.items w.within in
-    let all : All (λ (a : RawAt). a.0 < length old.forms) (take from old.args.items) = All-take (λ (a : RawAt). a.0 < length old.forms) from old.args.items w.args in
+    let all : All (λ (a : RawAt). a.0 < length old.forms) (take from old.args.items) =
+    All-take (λ (a : RawAt). a.0 < length old.forms) from old.args.items w.args in
     record {
-      fits = rw (args, frames) (fits-more (length old.forms) (length new.forms) (length (take from old.args.items)) (take from old.args.items) old.frames.items (omega (arith, c))
+      fits = rw (args, frames) (fits-more (length old.forms) (length new.forms) (length (take from old.args.items)) (take from old.args.items) old.frames.items
+          (omega (arith, c))
           (record { args = all; within = omega arith; frames = subst (λ k. FramesFit (length old.forms) k (reverse old.frames.items)) (sym l) w.frames }));
       inside = omega (arith, c);
       is = λ texts. ap (λ z. raw_at (known texts) z at.0) forms ∙ ap (raw_at (known texts) (old.forms ++ n ∷ [])) e ∙ raw_at-last (known texts) old.forms n;
@@ -257,12 +274,18 @@ rest-of ys xs i e =
     let l : length ys - i ≡ length (drop i ys) = omega (arith, length-drop i ys) in
     rw l (take-length (drop i ys)) ∙ ap (drop i) e
 
-pub finished-head : (old new : Waiting) (name : Named) (at : RawAt) (from : ℕ) (s : List RawAt) → s ≡ drop from old.args.items → FitsBelow old from → at.0 ≡ length old.forms → new.forms ≡ old.forms ++ HeadNode name (places s) ∷ [] → new.args.items ≡ take from old.args.items → new.frames.items ≡ old.frames.items
+pub finished-head : (old new : Waiting) (name : Named) (at : RawAt) (from : ℕ) (s : List RawAt) → s ≡ drop from old.args.items → FitsBelow old from
+    → at.0 ≡ length old.forms → new.forms ≡ old.forms ++ HeadNode name (places s) ∷ [] → new.args.items ≡ take from old.args.items
+    → new.frames.items ≡ old.frames.items
     → Leaves new at (λ texts. head (identifier texts name) (args_from texts old from)) (λ texts. waiting_below texts old from)
 finished-head old new name at from s same w e forms args frames =
-    finished old new (HeadNode name (places (drop from old.args.items))) at from w e (forms ∙ ap (λ z. old.forms ++ HeadNode name (places z) ∷ []) same) args frames
+    finished old new (HeadNode name (places (drop from old.args.items))) at from w e (forms ∙ ap (λ z. old.forms ++ HeadNode name (places z) ∷ []) same) args
+    frames
 
-pub finished-load : (old new : Waiting) (place : Place) (name : Named) (goal at : RawAt) (from : ℕ) (s : List RawAt) → s ≡ drop from old.args.items → FitsBelow old from → at.0 ≡ length old.forms → new.forms ≡ old.forms ++ LoadNode place name (places s) goal.0 ∷ [] → new.args.items ≡ take from old.args.items → new.frames.items ≡ old.frames.items
+pub finished-load : (old new : Waiting) (place : Place) (name : Named) (goal at : RawAt) (from : ℕ) (s : List RawAt) → s ≡ drop from old.args.items
+    → FitsBelow old from → at.0 ≡ length old.forms → new.forms ≡ old.forms ++ LoadNode place name (places s) goal.0 ∷ []
+    → new.args.items ≡ take from old.args.items → new.frames.items ≡ old.frames.items
     → Leaves new at (λ texts. load place (identifier texts name) (args_from texts old from) (tree texts old goal)) (λ texts. waiting_below texts old from)
 finished-load old new place name goal at from s same w e forms args frames =
-    finished old new (LoadNode place name (places (drop from old.args.items)) goal.0) at from w e (forms ∙ ap (λ z. old.forms ++ LoadNode place name (places z) goal.0 ∷ []) same) args frames
+    finished old new (LoadNode place name (places (drop from old.args.items)) goal.0) at from w e
+    (forms ∙ ap (λ z. old.forms ++ LoadNode place name (places z) goal.0 ∷ []) same) args frames

@@ -2,9 +2,19 @@
 use Rattle.std.proofs.Common.{◌≡◌, ℕ, suc, ◌+◌, ◌≤◌, Bool, List, [], ◌∷◌, ◌++◌, map, length, refl, sym, subst, arith, length-append}
 use Rattle.ll_parser.specs.declared.Quantifier.TheVariants as quantifier
 use Rattle.ll_parser.specs.Tokens.{Tok, cons_sign, paren_right, brace_right, semicolon, ampersand, comma, load_arrow, dot, star_sign, less_sign, most_sign}
-use Rattle.ll_parser.specs.Raw.{Raw, truth, erasure, braces, universal, existential, load, binary, head, anything, int, RawList, none, more, raws_then, ClauseTree, ModuleTree, ProgramTree, is_goal, less_goal, most_goal}
-use Rattle.ll_parser.specs.Grammar.{Term, of_app, cons, App, applied, app_any, app_number, app_bracket, Simple, simple_word, simple_any, simple_number, simple_bracket, Simples, no_more, and_then, Formula, of_arrow, clause, Arrow, of_sum, implies, loads, Sum, of_with, plus, With, of_tensor, with, Tensor, of_primary, times, Primary, truly, erased, bracket, brace, quantified, atom, clause_token, arrow_token, term_tokens, app_tokens, simple_tokens, simples_tokens, formula_tokens, arrow_tokens, sum_tokens, with_tokens, tensor_tokens, primary_tokens, term_raw, app_raw, simple_raw, simples_raws, formula_raw, arrow_raw, sum_raw, with_raw, tensor_raw, primary_raw, Plain, plain_word, plain_any, plain_number, Expr, of_product, adds, Product, of_item, multiplies, Item, item_plain, item_bracket, First, first_plain, first_times, Lead, of_first, lead_adds, valued, tested, by_less, by_most, add_token, expr_tokens, product_tokens, item_tokens, first_tokens, lead_tokens, plain_raw, expr_raw, product_raw, item_raw, first_raw, lead_raw}
-use Rattle.ll_parser.specs.Text.{Clause, plain, linear, Module, Query, bare, dotted, clause_tokens, locals_tokens, heading_tokens, clauses_tokens, module_tokens, modules_tokens, program_tokens, clause_tree, module_tree, query_tokens, query_tree, programs, queries}
+use Rattle.ll_parser.specs.Raw.{Raw, truth, erasure, braces, universal, existential, load, binary, head, anything, int, RawList, none, more, raws_then}
+use Rattle.ll_parser.specs.Raw.{ClauseTree, ModuleTree, ProgramTree, is_goal, less_goal, most_goal}
+use Rattle.ll_parser.specs.Grammar.{Term, of_app, cons, App, applied, app_any, app_number, app_bracket, Simple, simple_word, simple_any, simple_number}
+use Rattle.ll_parser.specs.Grammar.{simple_bracket, Simples, no_more, and_then, Formula, of_arrow, clause, Arrow, of_sum, implies, loads, Sum, of_with, plus}
+use Rattle.ll_parser.specs.Grammar.{With, of_tensor, with, Tensor, of_primary, times, Primary, truly, erased, bracket, brace, quantified, atom, clause_token}
+use Rattle.ll_parser.specs.Grammar.{arrow_token, term_tokens, app_tokens, simple_tokens, simples_tokens, formula_tokens, arrow_tokens, sum_tokens, with_tokens}
+use Rattle.ll_parser.specs.Grammar.{tensor_tokens, primary_tokens, term_raw, app_raw, simple_raw, simples_raws, formula_raw, arrow_raw, sum_raw, with_raw}
+use Rattle.ll_parser.specs.Grammar.{tensor_raw, primary_raw, Plain, plain_word, plain_any, plain_number, Expr, of_product, adds, Product, of_item, multiplies}
+use Rattle.ll_parser.specs.Grammar.{Item, item_plain, item_bracket, First, first_plain, first_times, Lead, of_first, lead_adds, valued, tested, by_less}
+use Rattle.ll_parser.specs.Grammar.{by_most, add_token, expr_tokens, product_tokens, item_tokens, first_tokens, lead_tokens, plain_raw, expr_raw, product_raw}
+use Rattle.ll_parser.specs.Grammar.{item_raw, first_raw, lead_raw}
+use Rattle.ll_parser.specs.Text.{Clause, plain, linear, Module, Query, bare, dotted, clause_tokens, locals_tokens, heading_tokens, clauses_tokens}
+use Rattle.ll_parser.specs.Text.{module_tokens, modules_tokens, program_tokens, clause_tree, module_tree, query_tokens, query_tree, programs, queries}
 use Rattle.ll_parser.specs.Reads.{IsWhole}
 use Rattle.ll_parser.specs.Weights.{weight, weights, clauses_weight, modules_weight}
 
@@ -68,7 +78,11 @@ mutual
   light_simples : (ss : Simples) → weights (simples_raws ss) ≤ length (simples_tokens ss)
   light_simples no_more = omega arith
   light_simples (and_then ss s) =
-      let i = light_simples ss in let j = light_simple s in omega (arith, weights-then (simples_raws ss) (simple_raw s), length-append (simples_tokens ss) (simple_tokens s))
+      let i = light_simples ss in let j = light_simple s in omega (
+        arith,
+        weights-then (simples_raws ss) (simple_raw s),
+        length-append (simples_tokens ss) (simple_tokens s),
+      )
 
 -- ---- expressions of whole numbers
 
@@ -178,8 +192,10 @@ HaveSmall most [] = Unit {0}
 HaveSmall most (m ∷ ms) = AreSmall most m.clauses × HaveSmall most ms
 
 small_clause : (most : ℕ) (c : Clause) → length (clause_tokens c) ≤ most → IsSmall most (clause_tree c).form
-small_clause most (plain f end) le = small_of most (formula_raw f) (formula_tokens f) (light_formula f) (omega (arith, length-append (formula_tokens f) (dot end ∷ [])))
-small_clause most (linear at f end) le = small_of most (formula_raw f) (formula_tokens f) (light_formula f) (omega (arith, length-append (formula_tokens f) (dot end ∷ [])))
+small_clause most (plain f end) le = small_of most (formula_raw f) (formula_tokens f) (light_formula f)
+    (omega (arith, length-append (formula_tokens f) (dot end ∷ [])))
+small_clause most (linear at f end) le = small_of most (formula_raw f) (formula_tokens f) (light_formula f)
+    (omega (arith, length-append (formula_tokens f) (dot end ∷ [])))
 
 small_clauses : (most : ℕ) (cs : List Clause) → length (clauses_tokens cs) ≤ most → AreSmall most (map clause_tree cs)
 small_clauses most [] le = tt
@@ -212,7 +228,8 @@ small_query tree (ts, few, spelled, ((q, e, f), within)) = subst (IsSmall 167772
   where
     by : (q : Query) → length (query_tokens q) ≤ 16777216 → IsSmall 16777216 (query_tree q)
     by (bare g) le = small_of 16777216 (formula_raw g) (formula_tokens g) (light_formula g) le
-    by (dotted g end) le = small_of 16777216 (formula_raw g) (formula_tokens g) (light_formula g) (let a = length-append (formula_tokens g) (dot end ∷ []) in omega arith)
+    by (dotted g end) le = small_of 16777216 (formula_raw g) (formula_tokens g) (light_formula g) (let a = length-append (formula_tokens g) (dot end ∷ []) in
+        omega arith)
 
 -- ---- all nodes of a program
 
@@ -239,4 +256,5 @@ few_nodes tree (ts, few, spelled, ((p, e, f), within)) =
     let le : length (program_tokens p) ≤ 16777216 = subst (λ z. length z ≤ 16777216) (sym e) few in
     let l = length-append (clauses_tokens p.clauses) (modules_tokens p.modules) in
     let i = light_clauses p.clauses in let j = light_modules p.modules in
-    subst (λ z. clauses_weight z.clauses + modules_weight z.modules ≤ 16777216) f (let k : clauses_weight (map clause_tree p.clauses) + modules_weight (map module_tree p.modules) ≤ 16777216 = omega arith in k)
+    subst (λ z. clauses_weight z.clauses + modules_weight z.modules ≤ 16777216) f
+    (let k : clauses_weight (map clause_tree p.clauses) + modules_weight (map module_tree p.modules) ≤ 16777216 = omega arith in k)

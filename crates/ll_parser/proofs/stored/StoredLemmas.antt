@@ -1,5 +1,6 @@
 -- The vectors of raw trees and their nodes: what each call reads and leaves.
-use Rattle.std.proofs.Common.{◌≡◌, ℕ, ◌-◌, ◌<◌, ◌≤◌, List, [], ◌∷◌, ◌++◌, length, map, All, get_or, take, drop, refl, ap, sym, subst, ◌∙◌, inl, inr, arith, length-append, length-drop}
+use Rattle.std.proofs.Common.{◌≡◌, ℕ, ◌-◌, ◌<◌, ◌≤◌, List, [], ◌∷◌, ◌++◌, length, map, All, get_or, take, drop, refl, ap, sym, subst, ◌∙◌, inl, inr, arith}
+use Rattle.std.proofs.Common.{length-append, length-drop}
 use Rattle.std.specs.Prelude.{Result, Ok, Err, OnErr}
 use Rattle.std.proofs.Math.ListN.{get_or-append, get_or-map}
 use Rattle.std.proofs.Math.Nat.{le_trans}
@@ -18,19 +19,22 @@ use Rattle.ll_parser.specs.declared.raws.Span.{Span}
 use Rattle.ll_parser.specs.declared.raws.Row.{Row}
 use Rattle.ll_parser.specs.declared.raws.Row.TheVariants as row
 use Rattle.ll_parser.specs.Raw.{Raw, truth, braces, universal, existential, load, binary, head, is_goal, less_goal, most_goal, raw_place}
-use Rattle.ll_parser.specs.Nodes.{Node, TrueNode, EraseNode, AnyNode, BracesNode, ForallNode, ExistsNode, LoadNode, BinaryNode, HeadNode, IntNode, IsGoalNode, LessGoalNode, MostGoalNode, identifier, raw_in, raws_in, build_raw, raw_trees, raw_at}
+use Rattle.ll_parser.specs.Nodes.{Node, TrueNode, EraseNode, AnyNode, BracesNode, ForallNode, ExistsNode, LoadNode, BinaryNode, HeadNode, IntNode, IsGoalNode}
+use Rattle.ll_parser.specs.Nodes.{LessGoalNode, MostGoalNode, identifier, raw_in, raws_in, build_raw, raw_trees, raw_at}
 use Rattle.ll_parser.specs.Seen.{places, node_of, HasPartsBelow, IsRawNode}
 use Rattle.ll_parser.specs.Stored.{args_of, row_node, node_place, IsWithin, IsRowKept, IsBelow, IsWellFounded, IsKept, AddsTo}
 
 -- ---- the tree that a node builds depends on what is below it alone
 
 -- trees that agree below a place are alike at places below it
-pub same_raws : (trees trees' : List Raw) (at : ℕ) → ((a : ℕ) → a < at → raw_in trees a ≡ raw_in trees' a) → (ats : List ℕ) → All (λ a. a < at) ats → raws_in trees ats ≡ raws_in trees' ats
+pub same_raws : (trees trees' : List Raw) (at : ℕ) → ((a : ℕ) → a < at → raw_in trees a ≡ raw_in trees' a) → (ats : List ℕ) → All (λ a. a < at) ats
+    → raws_in trees ats ≡ raws_in trees' ats
 same_raws trees trees' at h [] w = refl
 same_raws trees trees' at h (a ∷ ats) w =
     let e1 = h a (All-head (λ a. a < at) a ats w) in let e2 = same_raws trees trees' at h ats (All-tail (λ a. a < at) a ats w) in cc
 
-pub same_build : (texts : List (List ℕ)) (trees trees' : List Raw) (at : ℕ) → ((a : ℕ) → a < at → raw_in trees a ≡ raw_in trees' a) → (n : Node) → IsBelow at n → build_raw texts trees n ≡ build_raw texts trees' n
+pub same_build : (texts : List (List ℕ)) (trees trees' : List Raw) (at : ℕ) → ((a : ℕ) → a < at → raw_in trees a ≡ raw_in trees' a) → (n : Node) → IsBelow at n
+    → build_raw texts trees n ≡ build_raw texts trees' n
 same_build texts trees trees' at h (TrueNode p) w = refl
 same_build texts trees trees' at h (EraseNode p) w = refl
 same_build texts trees trees' at h (AnyNode p) w = refl
@@ -160,7 +164,8 @@ module _ (cs ds : List RawAt) (adds : AddsTo cs ds) (rs ss : List Row) (kept : I
 
 -- ---- a node was read
 
-module _ (cs : List RawAt) (rs : List Row) (kept : IsKept cs rs) (old : List Node) (view : map (row_node cs) rs ≡ old) (at : ℕ) (inside : at < length old) (r : Row) (is : r ≡ get_or rs at r) where
+module _ (cs : List RawAt) (rs : List Row) (kept : IsKept cs rs) (old : List Node) (view : map (row_node cs) rs ≡ old) (at : ℕ) (inside : at < length old)
+    (r : Row) (is : r ≡ get_or rs at r) where
   rows_inside : at < length rs
   rows_inside = let e = ap length view in let l = length-map rs (row_node cs) in omega arith
 
@@ -194,5 +199,6 @@ module _ (cs : List RawAt) (rs : List Row) (kept : IsKept cs rs) (old : List Nod
   pub read : (v : RawNode) → node_of (node_place (row_node cs r)) v ≡ row_node cs r → IsRawNode old at v
   read v e = record {
     tree = λ texts. tree_read texts ∙ ap (build_raw texts (raw_trees texts old)) (sym e ∙ ap (λ p. node_of p v) (sym (place_read texts)));
-    parts = below_parts at (node_place (row_node cs r)) v (subst (IsBelow at) (node_read ∙ sym e) ((subst IsWellFounded view kept.lower) at (row_node cs r) inside));
+    parts = below_parts at (node_place (row_node cs r)) v (subst (IsBelow at) (node_read ∙ sym e)
+        ((subst IsWellFounded view kept.lower) at (row_node cs r) inside));
   }

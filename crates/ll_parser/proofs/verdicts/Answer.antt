@@ -1,5 +1,6 @@
 -- Reading as a function of tokens: its answer is the tree that they are read as, or their first fault. So each token list has one.
-use Rattle.std.proofs.Common.{◌≡◌, ℕ, suc, ◌+◌, ◌≤◌, Bool, true, false, cond, eqb, List, [], ◌∷◌, ◌++◌, length, slice_get, Option, Some, None, refl, sym, subst, arith, append_assoc, append-nil, length-append, ◌⊎◌, inl, inr}
+use Rattle.std.proofs.Common.{◌≡◌, ℕ, suc, ◌+◌, ◌≤◌, Bool, true, false, cond, eqb, List, [], ◌∷◌, ◌++◌, length, slice_get, Option, Some, None, refl, sym}
+use Rattle.std.proofs.Common.{subst, arith, append_assoc, append-nil, length-append, ◌⊎◌, inl, inr}
 use Rattle.std.proofs.lemmas.Bool.Decides.{eqb_tells}
 use Rattle.ll_lexer.specs.declared.Place.{Place}
 use Rattle.ll_lexer.specs.declared.Fault.{Fault}
@@ -52,10 +53,12 @@ deeper (brace_right at) depth limit le h = omega arith
 deeper _ depth limit le h = le
 
 -- what the test says
-passes_tells : (limit depth : ℕ) (t : Tok) → ((passes limit depth t ≡ true) × (opens t ≡ true) × (depth ≡ limit)) ⊎ ((passes limit depth t ≡ false) × (opens t ≡ true → depth ≡ limit → ⊥))
+passes_tells : (limit depth : ℕ) (t : Tok) → ((passes limit depth t ≡ true) × (opens t ≡ true) × (depth ≡ limit))
+    ⊎ ((passes limit depth t ≡ false) × (opens t ≡ true → depth ≡ limit → ⊥))
 passes_tells limit depth t = by_test (opens t)
   where
-    by_test : (b : Bool) → ((cond b (eqb depth limit) false ≡ true) × (b ≡ true) × (depth ≡ limit)) ⊎ ((cond b (eqb depth limit) false ≡ false) × (b ≡ true → depth ≡ limit → ⊥))
+    by_test : (b : Bool) → ((cond b (eqb depth limit) false ≡ true) × (b ≡ true) × (depth ≡ limit))
+        ⊎ ((cond b (eqb depth limit) false ≡ false) × (b ≡ true → depth ≡ limit → ⊥))
     by_test true = elim (eqb_tells depth limit) [ inl e ↦ inl (e.0, refl, e.1) | inr e ↦ inr (e.0, λ o m. e.1 m) ]
     by_test false = inr (refl, λ o m. absurd cc)
 
@@ -63,7 +66,8 @@ get-after : (front : List Tok) (t : Tok) (us : List Tok) → slice_get (front ++
 get-after [] t us = refl
 get-after (x ∷ front) t us = get-after front t us
 
-module _ (l : Language) (F : Type 0) (begin : F) (next : F → Tok → Option F) (end : F → Option l.Tree) (d : Decides l F begin next end) (limit : ℕ) (at : Place) where
+module _ (l : Language) (F : Type 0) (begin : F) (next : F → Tok → Option F) (end : F
+    → Option l.Tree) (d : Decides l F begin next end) (limit : ℕ) (at : Place) where
   -- the answer is right
   abbrev pub IsAnswer : List Tok → Answer l.Tree → Type 0
   IsAnswer ts (tree r) = Reads l limit ts r
@@ -72,31 +76,40 @@ module _ (l : Language) (F : Type 0) (begin : F) (next : F → Tok → Option F)
   abbrev pub answer_to : List Tok → Answer l.Tree
   answer_to ts = answer_from next end limit at begin 0 ts
 
-  ended-right : (ts : List Tok) (x : F) (depth : ℕ) → Taken begin next limit ts (length ts) x depth → (o : Option l.Tree) → end x ≡ o → IsAnswer ts (at_end at o)
+  ended-right : (ts : List Tok) (x : F) (depth : ℕ) → Taken begin next limit ts (length ts) x depth → (o : Option l.Tree) → end x ≡ o
+      → IsAnswer ts (at_end at o)
   ended-right ts x depth k (Some r) e = reads-all l F begin next end d limit ts (length ts) (omega arith) x depth k r e
   ended-right ts x depth k None e = is-early l F begin next end d limit ts (length ts) (omega arith) x depth k at e
 
   -- one token, where the rest is answered right
-  turn-right : (ts : List Tok) (i : ℕ) (t : Tok) (x : F) (depth : ℕ) (rest : F → Answer l.Tree) → slice_get ts i ≡ Some t → Taken begin next limit ts i x depth → ((y : F) → Taken begin next limit ts (i + 1) y (open_after depth (t ∷ [])) → IsAnswer ts (rest y)) → (o : Option F) → next x t ≡ o → IsAnswer ts (after_step limit depth t rest o)
+  turn-right : (ts : List Tok) (i : ℕ) (t : Tok) (x : F) (depth : ℕ) (rest : F → Answer l.Tree) → slice_get ts i ≡ Some t → Taken begin next limit ts i x depth
+      → ((y : F) → Taken begin next limit ts (i + 1) y (open_after depth (t ∷ [])) → IsAnswer ts (rest y)) → (o : Option F) → next x t ≡ o
+      → IsAnswer ts (after_step limit depth t rest o)
   turn-right ts i t x depth rest here k ih None e = is-bad l F begin next end d limit ts i t here x depth k at e
   turn-right ts i t x depth rest here k ih (Some y) e =
       elim (passes_tells limit depth t) [
         | inl p ↦ rw p.0 (is-too-many l F begin next end d limit ts i t here x depth k at y e p.1 p.2)
-        | inr p ↦ rw p.0 (ih y (taken-next l F begin next end d limit ts i t here x depth k y (open_after depth (t ∷ [])) e refl (deeper t depth limit k.below p.1)))
+        | inr p ↦ rw p.0 (ih y (taken-next l F begin next end d limit ts i t here x depth k y (open_after depth (t ∷ [])) e refl
+            (deeper t depth limit k.below p.1)))
       ]
 
   -- the tokens taken so far with one more
-  moved-on : (front : List Tok) (t : Tok) (us : List Tok) (y : F) (depth : ℕ) (a : Answer l.Tree) → (Taken begin next limit ((front ++ t ∷ []) ++ us) (length (front ++ t ∷ [])) y depth → IsAnswer ((front ++ t ∷ []) ++ us) a) → Taken begin next limit (front ++ t ∷ us) (length front + 1) y depth → IsAnswer (front ++ t ∷ us) a
+  moved-on : (front : List Tok) (t : Tok) (us : List Tok) (y : F) (depth : ℕ) (a : Answer l.Tree)
+      → (Taken begin next limit ((front ++ t ∷ []) ++ us) (length (front ++ t ∷ [])) y depth → IsAnswer ((front ++ t ∷ []) ++ us) a)
+      → Taken begin next limit (front ++ t ∷ us) (length front + 1) y depth → IsAnswer (front ++ t ∷ us) a
   moved-on front t us y depth a ih k =
       let moved : front ++ t ∷ us ≡ (front ++ t ∷ []) ++ us = sym (append_assoc front (t ∷ []) us) in
       let longer : length front + 1 ≡ length (front ++ t ∷ []) = sym (length-append front (t ∷ [])) in
-      subst (λ z. IsAnswer z a) (sym moved) (ih (subst (λ z. Taken begin next limit z (length (front ++ t ∷ [])) y depth) moved (subst (λ n. Taken begin next limit (front ++ t ∷ us) n y depth) longer k)))
+      subst (λ z. IsAnswer z a) (sym moved) (ih (subst (λ z. Taken begin next limit z (length (front ++ t ∷ [])) y depth) moved
+      (subst (λ n. Taken begin next limit (front ++ t ∷ us) n y depth) longer k)))
 
-  rest-right : (us front : List Tok) (x : F) (depth : ℕ) → Taken begin next limit (front ++ us) (length front) x depth → IsAnswer (front ++ us) (answer_from next end limit at x depth us)
+  rest-right : (us front : List Tok) (x : F) (depth : ℕ) → Taken begin next limit (front ++ us) (length front) x depth
+      → IsAnswer (front ++ us) (answer_from next end limit at x depth us)
   rest-right [] front x depth k = rw append-nil (ended-right front x depth (rw append-nil at k) (end x) refl)
   rest-right (t ∷ us) front x depth k =
       turn-right (front ++ t ∷ us) (length front) t x depth (λ y. answer_from next end limit at y (open_after depth (t ∷ [])) us) (get-after front t us) k
-      (λ y. moved-on front t us y (open_after depth (t ∷ [])) (answer_from next end limit at y (open_after depth (t ∷ [])) us) (rest-right us (front ++ t ∷ []) y (open_after depth (t ∷ []))))
+      (λ y. moved-on front t us y (open_after depth (t ∷ [])) (answer_from next end limit at y (open_after depth (t ∷ [])) us)
+      (rest-right us (front ++ t ∷ []) y (open_after depth (t ∷ []))))
       (next x t) refl
 
   pub answer-right : (ts : List Tok) → IsAnswer ts (answer_to ts)

@@ -1,11 +1,14 @@
 -- A token list has one verdict: one tree, or one fault.
-use Rattle.std.proofs.Common.{◌≡◌, ℕ, zero, suc, ◌+◌, ◌≤◌, ◌<◌, true, List, [], ◌∷◌, ◌++◌, length, take, drop, refl, sym, ◌∙◌, ap, subst, append_assoc, append-nil, arith, length-append, inl, inr}
+use Rattle.std.proofs.Common.{◌≡◌, ℕ, zero, suc, ◌+◌, ◌≤◌, ◌<◌, true, List, [], ◌∷◌, ◌++◌, length, take, drop, refl, sym, ◌∙◌, ap, subst, append_assoc}
+use Rattle.std.proofs.Common.{append-nil, arith, length-append, inl, inr}
 use Rattle.std.proofs.lemmas.Bool.{cases_lt}
 use Rattle.std.proofs.lemmas.List.{take_all, take-append-drop, length-take}
 use Rattle.std.proofs.Math.Seq.{take-append-add}
 use Rattle.ll_lexer.specs.declared.Place.{Place}
 use Rattle.ll_lexer.specs.declared.Fault.{Fault}
-use Rattle.ll_parser.specs.Tokens.{Tok, name, variable, any, number, true_word, erase_word, forall_word, exists_word, module_word, local_word, linear_word, dot, comma, ampersand, semicolon, paren_left, paren_right, brace_left, brace_right, backslash, cons_sign, colon_dash, left_arrow, right_arrow, lolli, load_arrow, is_sign, most_sign, less_sign, plus_sign, minus_sign, star_sign, tok_place}
+use Rattle.ll_parser.specs.Tokens.{Tok, name, variable, any, number, true_word, erase_word, forall_word, exists_word, module_word, local_word, linear_word}
+use Rattle.ll_parser.specs.Tokens.{dot, comma, ampersand, semicolon, paren_left, paren_right, brace_left, brace_right, backslash, cons_sign, colon_dash}
+use Rattle.ll_parser.specs.Tokens.{left_arrow, right_arrow, lolli, load_arrow, is_sign, most_sign, less_sign, plus_sign, minus_sign, star_sign, tok_place}
 use Rattle.ll_parser.specs.Text.{Language}
 use Rattle.ll_parser.specs.Reads.{Derives, Begins, open_after, Within, Reads, Stands, opens, HasFault, bad_token, ends_early, too_many_open}
 use Rattle.ll_parser.proofs.verdicts.Verdict.{open-snoc}
@@ -61,7 +64,8 @@ within-front limit ts n m h w k =
     ]
 
 whole-within : (limit : ℕ) (ts : List Tok) (i : ℕ) → Within limit ts → Within limit (take (i + 1) ts)
-whole-within limit ts i w = within-front limit ts (i + 1) (length ts + (i + 1)) (omega arith) (subst (Within limit) (sym (take_all (length ts + (i + 1)) ts (omega arith))) w)
+whole-within limit ts i w = within-front limit ts (i + 1) (length ts + (i + 1)) (omega arith)
+    (subst (Within limit) (sym (take_all (length ts + (i + 1)) ts (omega arith))) w)
 
 -- no two lists that end in a token are equal where the tokens differ
 same-last : (xs ys : List Tok) (t u : Tok) → xs ≡ ys → xs ++ t ∷ [] ≡ ys ++ u ∷ [] → t ≡ u
@@ -101,7 +105,8 @@ module _ (l : Language) (limit : ℕ) (ts : List Tok) where
   many-breaks i t s o e c w =
       let le : open_after 0 (take (i + 1) (take (i + 1) ts)) ≤ limit = w (i + 1) in
       let f : take (i + 1) (take (i + 1) ts) ≡ take i ts ++ t ∷ [] = take-of-take (i + 1) (i + 1) ts (omega arith) ∙ stands-take i t s in
-      let g : open_after 0 (take (i + 1) (take (i + 1) ts)) ≡ suc limit = ap (open_after 0) f ∙ open-snoc (take i ts) t 0 ∙ opens-more t (open_after 0 (take i ts)) o ∙ ap suc e in
+      let g : open_after 0 (take (i + 1) (take (i + 1) ts)) ≡ suc limit =
+      ap (open_after 0) f ∙ open-snoc (take i ts) t 0 ∙ opens-more t (open_after 0 (take i ts)) o ∙ ap suc e in
       omega arith
 
   before : (i j : ℕ) (t : Tok) → Broken i → Stands l limit ts j t → i < j → ⊥
@@ -121,7 +126,8 @@ module _ (l : Language) (limit : ℕ) (ts : List Tok) where
       same-last (take i ts) (take j ts) t u (ap (λ z. take z ts) p) (sym (stands-take i t s) ∙ ap (λ z. take (z + 1) ts) p ∙ stands-take j u r)
 
   -- a bad token is no bracket past the limit
-  clash : (i j : ℕ) (t u : Tok) → Stands l limit ts i t → (Begins l (take i ts ++ t ∷ []) → ⊥) → Stands l limit ts j u → Begins l (take j ts ++ u ∷ []) → opens u ≡ true → open_after 0 (take j ts) ≡ limit → ⊥
+  clash : (i j : ℕ) (t u : Tok) → Stands l limit ts i t → (Begins l (take i ts ++ t ∷ []) → ⊥) → Stands l limit ts j u → Begins l (take j ts ++ u ∷ [])
+      → opens u ≡ true → open_after 0 (take j ts) ≡ limit → ⊥
   clash i j t u s n r b o e =
       let p : i ≡ j = same-number i j t u (bad-breaks i t s n) s (many-breaks j u r o e) r in
       n (subst (Begins l) (sym (stands-take j u r) ∙ ap (λ z. take (z + 1) ts) (sym p) ∙ stands-take i t s) b)
@@ -137,8 +143,10 @@ module _ (l : Language) (limit : ℕ) (ts : List Tok) where
 
   -- and no list has two faults
   pub one-fault : (end : Place) (f g : Fault) → HasFault l limit ts end f → HasFault l limit ts end g → f ≡ g
-  one-fault end f g (bad_token i t s n) (bad_token j u r m) = ap (λ z. record { at = tok_place z; kind = 4 }) (same-token i j t u (bad-breaks i t s n) s (bad-breaks j u r m) r)
-  one-fault end f g (too_many_open i t s b o e) (too_many_open j u r c p q) = ap (λ z. record { at = tok_place z; kind = 6 }) (same-token i j t u (many-breaks i t s o e) s (many-breaks j u r p q) r)
+  one-fault end f g (bad_token i t s n) (bad_token j u r m) =
+      ap (λ z. record { at = tok_place z; kind = 4 }) (same-token i j t u (bad-breaks i t s n) s (bad-breaks j u r m) r)
+  one-fault end f g (too_many_open i t s b o e) (too_many_open j u r c p q) =
+      ap (λ z. record { at = tok_place z; kind = 6 }) (same-token i j t u (many-breaks i t s o e) s (many-breaks j u r p q) r)
   one-fault end f g (ends_early b w n) (ends_early c x m) = refl
   one-fault end f g (bad_token i t s n) (ends_early b w m) = absurd (bad-breaks i t s n (whole-front i b) (whole-within limit ts i w))
   one-fault end f g (ends_early b w m) (bad_token i t s n) = absurd (bad-breaks i t s n (whole-front i b) (whole-within limit ts i w))
@@ -148,5 +156,6 @@ module _ (l : Language) (limit : ℕ) (ts : List Tok) where
   one-fault end f g (too_many_open j u r b o e) (bad_token i t s n) = absurd (clash i j t u s n r b o e)
 
 -- the tree is unique where no two parse trees have the same tokens: the grammar is unambiguous
-pub one-tree : (l : Language) (unique : (p q : l.Parse) → l.tokens p ≡ l.tokens q → p ≡ q) (ts : List Tok) (r s : l.Tree) → Derives l ts r → Derives l ts s → r ≡ s
+pub one-tree : (l : Language) (unique : (p q : l.Parse) → l.tokens p ≡ l.tokens q → p ≡ q) (ts : List Tok) (r s : l.Tree) → Derives l ts r → Derives l ts s
+    → r ≡ s
 one-tree l unique ts r s (p, e, f) (q, g, h) = sym f ∙ ap l.tree (unique p q (e ∙ sym g)) ∙ h

@@ -1,5 +1,6 @@
 -- What reading answers: each token is taken, or is the first fault; and at the end there is a tree, or the text ends early.
-use Rattle.std.proofs.Common.{◌≡◌, ℕ, zero, suc, ◌+◌, ◌-◌, ◌≤◌, true, List, [], ◌∷◌, ◌++◌, length, take, slice_get, Option, Some, None, option_and_then, refl, sym, ◌∙◌, ap, subst, arith, length-append, inl, inr}
+use Rattle.std.proofs.Common.{◌≡◌, ℕ, zero, suc, ◌+◌, ◌-◌, ◌≤◌, true, List, [], ◌∷◌, ◌++◌, length, take, slice_get, Option, Some, None, option_and_then, refl}
+use Rattle.std.proofs.Common.{sym, ◌∙◌, ap, subst, arith, length-append, inl, inr}
 use Rattle.std.proofs.lemmas.Bool.{cases_lt}
 use Rattle.std.proofs.lemmas.List.{take-append-le, take_all}
 use Rattle.ll_lexer.specs.declared.Place.{Place}
@@ -29,7 +30,8 @@ within-none limit zero = omega arith
 within-none limit (suc n) = omega arith
 
 -- token number i, where there is one, divides the tokens
-pub divides : (ts : List Tok) (i : ℕ) (t : Tok) → slice_get ts i ≡ Some t → (after : List Tok) × (ts ≡ take i ts ++ t ∷ after) × (take (i + 1) ts ≡ take i ts ++ t ∷ [])
+pub divides : (ts : List Tok) (i : ℕ) (t : Tok) → slice_get ts i ≡ Some t
+    → (after : List Tok) × (ts ≡ take i ts ++ t ∷ after) × (take (i + 1) ts ≡ take i ts ++ t ∷ [])
 divides [] i t e = absurd cc
 divides (x ∷ ts) zero t e = let h : x ≡ t = cc in (ts, ap (λ z. z ∷ ts) h, ap (λ z. z ∷ []) h)
 divides (x ∷ ts) (suc i) t e =
@@ -37,7 +39,8 @@ divides (x ∷ ts) (suc i) t e =
     let n : suc i + 1 ≡ suc (i + 1) = omega arith in
     (d.0, ap (λ z. x ∷ z) d.1, rw n (ap (λ z. x ∷ z) d.2))
 
-module _ (l : Language) (F : Type 0) (begin : F) (next : F → Tok → Option F) (end : F → Option l.Tree) (d : Decides l F begin next end) (limit : ℕ) (ts : List Tok) where
+module _ (l : Language) (F : Type 0) (begin : F) (next : F → Tok → Option F) (end : F
+    → Option l.Tree) (d : Decides l F begin next end) (limit : ℕ) (ts : List Tok) where
   -- before the first token
   pub taken-none : Taken begin next limit ts 0 begin 0
   taken-none = record { run = refl; depth_is = refl; below = omega arith; within = within-none limit }

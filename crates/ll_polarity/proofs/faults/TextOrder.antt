@@ -10,7 +10,9 @@ use Rattle.ll_laws.specs.Valid.{GoalSide, ClauseSide}
 use Rattle.ll_parser.specs.Tokens.{Identifier, Tok, name, module_word, linear_word, dot, IsSpelled}
 use Rattle.ll_parser.specs.Raw.{Raw, ProgramTree}
 use Rattle.ll_parser.specs.Grammar.{formula_tokens, formula_raw}
-use Rattle.ll_parser.specs.Text.{Clause, plain, linear, Local, Module, Query, bare, dotted, clause_tokens, names, variables, local_tokens, heading_tokens, clauses_tokens, locals_tokens, module_tokens, modules_tokens, program_tokens, query_tokens, clause_tree, locals_of, module_tree, program_tree, query_tree, programs, queries}
+use Rattle.ll_parser.specs.Text.{Clause, plain, linear, Local, Module, Query, bare, dotted, clause_tokens, names, variables, local_tokens, heading_tokens}
+use Rattle.ll_parser.specs.Text.{clauses_tokens, locals_tokens, module_tokens, modules_tokens, program_tokens, query_tokens, clause_tree, locals_of}
+use Rattle.ll_parser.specs.Text.{module_tree, program_tree, query_tree, programs, queries}
 use Rattle.ll_parser.specs.Reads.{Reads}
 use Rattle.ll_parser.proofs.CallerLemmas.{Spelled, spelled-split}
 use Rattle.ll_polarity.specs.Scope.{Scope, binds, declares, module_scope}
@@ -21,7 +23,8 @@ use Rattle.ll_polarity.proofs.faults.Order.{later, both, before, AtMostOne, here
 -- ---- clauses
 
 module _ (heads : List Heading) where
-  order_clause : (scope : Scope) → NoSign scope → (c : Clause) → Spelled (clause_tokens c) → AreInOrder (form_faults heads ClauseSide scope (clause_tree c).form) (clause_tokens c)
+  order_clause : (scope : Scope) → NoSign scope → (c : Clause) → Spelled (clause_tokens c)
+      → AreInOrder (form_faults heads ClauseSide scope (clause_tree c).form) (clause_tokens c)
   order_clause scope n (plain f end) h =
       before (form_faults heads ClauseSide scope (formula_raw f)) (formula_tokens f) (dot end ∷ [])
       (order_formula heads ClauseSide scope n f (spelled-split (formula_tokens f) (dot end ∷ []) h).0)
@@ -30,7 +33,8 @@ module _ (heads : List Heading) where
       later v (linear_word at) (formula_tokens f ++ dot end ∷ [])
       (before v (formula_tokens f) (dot end ∷ []) (order_formula heads ClauseSide scope n f (spelled-split (formula_tokens f) (dot end ∷ []) h.1).0))
 
-  order_clauses : (scope : Scope) → NoSign scope → (cs : List Clause) → Spelled (clauses_tokens cs) → AreInOrder (clauses_faults heads scope (map clause_tree cs)) (clauses_tokens cs)
+  order_clauses : (scope : Scope) → NoSign scope → (cs : List Clause) → Spelled (clauses_tokens cs)
+      → AreInOrder (clauses_faults heads scope (map clause_tree cs)) (clauses_tokens cs)
   order_clauses scope n [] h = tt
   order_clauses scope n (c ∷ cs) h =
       let k = spelled-split (clause_tokens c) (clauses_tokens cs) h in
@@ -52,7 +56,8 @@ order_repeated earlier [] ts h = tt
 order_repeated earlier (n ∷ ns) [] h = absurd h
 order_repeated earlier (n ∷ ns) (t ∷ ts) h =
     elim h [
-      | inl p ↦ here (if list_any (bytes_eq n.text) earlier then record { at = n.at; kind = 12 } ∷ [] else []) (repeated (n.text ∷ earlier) ns) t ts n.at (one_repeated (list_any (bytes_eq n.text) earlier) n) (sym p.0)
+      | inl p ↦ here (if list_any (bytes_eq n.text) earlier then record { at = n.at; kind = 12 } ∷ [] else []) (repeated (n.text ∷ earlier) ns) t ts n.at
+          (one_repeated (list_any (bytes_eq n.text) earlier) n) (sym p.0)
           (order_repeated (n.text ∷ earlier) ns ts p.1)
       | inr q ↦ later (repeated earlier (n ∷ ns)) t ts (order_repeated earlier (n ∷ ns) ts q)
     ]
@@ -65,14 +70,20 @@ order_names : (ns : List Identifier) → AreInOrder (at_names ns) (names ns)
 order_names [] = tt
 order_names (n ∷ ns) = inl (refl, order_names ns)
 
-both_names : (ms ns : List Identifier) (ts us : List Tok) → AreInOrder (at_names ms) ts → AreInOrder (at_names ns) us → AreInOrder (at_names (ms ++ ns)) (ts ++ us)
+both_names : (ms ns : List Identifier) (ts us : List Tok) → AreInOrder (at_names ms) ts → AreInOrder (at_names ns) us
+    → AreInOrder (at_names (ms ++ ns)) (ts ++ us)
 both_names ms ns ts us h k =
-    subst (λ z. AreInOrder z (ts ++ us)) (sym (map-append (λ n. let f : Fault = record { at = n.at; kind = 12 } in f) ms ns)) (both (at_names ms) (at_names ns) ts us h k)
+    subst (λ z. AreInOrder z (ts ++ us)) (sym (map-append (λ n. let f : Fault = record { at = n.at; kind = 12 } in f) ms ns))
+    (both (at_names ms) (at_names ns) ts us h k)
 
 order_locals : (ls : List Local) → AreInOrder (at_names (locals_of ls)) (locals_tokens ls)
 order_locals [] = tt
 order_locals (l ∷ ls) =
-    inr (inl (refl, both_names l.others (locals_of ls) (names l.others ++ dot l.end ∷ []) (locals_tokens ls) (before (at_names l.others) (names l.others) (dot l.end ∷ []) (order_names l.others)) (order_locals ls)))
+    inr (inl (
+      refl,
+      both_names l.others (locals_of ls) (names l.others ++ dot l.end ∷ []) (locals_tokens ls)
+          (before (at_names l.others) (names l.others) (dot l.end ∷ []) (order_names l.others)) (order_locals ls),
+    ))
 
 -- ---- nothing of a module binds a sign
 
@@ -121,7 +132,8 @@ module _ (heads : List Heading) where
       (signs_reverse m.heading.params (signs_variables m.heading.params (dot m.heading.end ∷ []) k.0.1.1))
       (no_sign_declared (reverse (locals_of m.locals)) (signs_reverse (locals_of m.locals) (signs_locals m.locals l.0)))
 
-  order_modules : (earlier : List (List ℕ)) (ms : List Module) → Spelled (modules_tokens ms) → AreInOrder (modules_faults heads earlier (map module_tree ms)) (modules_tokens ms)
+  order_modules : (earlier : List (List ℕ)) (ms : List Module) → Spelled (modules_tokens ms)
+      → AreInOrder (modules_faults heads earlier (map module_tree ms)) (modules_tokens ms)
   order_modules earlier [] h = tt
   order_modules earlier (m ∷ ms) h =
       let k = spelled-split (module_tokens m) (modules_tokens ms) h in
@@ -132,16 +144,21 @@ module _ (heads : List Heading) where
       let line = variables params ++ dot m.heading.end ∷ [] in
       let ls = locals_tokens m.locals in let cs = clauses_tokens m.clauses in
       let in_names : AreInOrder b (line ++ ls) =
-      order_repeated [] (params ++ locals) (line ++ ls) (both_names params locals line ls (before (at_names params) (variables params) (dot m.heading.end ∷ []) (order_variables params)) (order_locals m.locals)) in
+      order_repeated [] (params ++ locals) (line ++ ls) (both_names params locals line ls
+      (before (at_names params) (variables params) (dot m.heading.end ∷ []) (order_variables params)) (order_locals m.locals)) in
       let in_clauses : AreInOrder c cs = order_clauses heads (module_scope (module_tree m)) (no_sign_module m k.0) m.clauses (spelled-split ls cs l.1).1 in
-      let inside : AreInOrder (b ++ c) (line ++ (ls ++ cs)) = subst (AreInOrder (b ++ c)) (append_assoc line ls cs) (both b c (line ++ ls) cs in_names in_clauses) in
+      let inside : AreInOrder (b ++ c) (line ++ (ls ++ cs)) =
+      subst (AreInOrder (b ++ c)) (append_assoc line ls cs) (both b c (line ++ ls) cs in_names in_clauses) in
       let whole : AreInOrder (a ++ (b ++ c)) (module_tokens m) =
-      later (a ++ (b ++ c)) (module_word m.heading.word) (name n ∷ (line ++ (ls ++ cs))) (here a (b ++ c) (name n) (line ++ (ls ++ cs)) n.at (one_repeated (list_any (bytes_eq n.text) earlier) n) refl inside) in
+      later (a ++ (b ++ c)) (module_word m.heading.word) (name n ∷ (line ++ (ls ++ cs)))
+      (here a (b ++ c) (name n) (line ++ (ls ++ cs)) n.at (one_repeated (list_any (bytes_eq n.text) earlier) n) refl inside) in
       both (a ++ b ++ c) (modules_faults heads (n.text ∷ earlier) (map module_tree ms)) (module_tokens m) (modules_tokens ms)
       (subst (λ z. AreInOrder z (module_tokens m)) (sym (append_assoc a b c)) whole) (order_modules (n.text ∷ earlier) ms k.1)
 
-pub order_program : (limit : ℕ) (ts : List Tok) (program : ProgramTree) → All IsSpelled ts → Reads programs limit ts program → AreInOrder (program_faults program) ts
-order_program limit ts program spelled ((p, e, f), within) = subst (λ z. AreInOrder (program_faults z) ts) f (subst (AreInOrder (program_faults (program_tree p))) e whole)
+pub order_program : (limit : ℕ) (ts : List Tok) (program : ProgramTree) → All IsSpelled ts → Reads programs limit ts program
+    → AreInOrder (program_faults program) ts
+order_program limit ts program spelled ((p, e, f), within) =
+    subst (λ z. AreInOrder (program_faults z) ts) f (subst (AreInOrder (program_faults (program_tree p))) e whole)
   where
     heads : List Heading
     heads = map heading (map module_tree p.modules)
@@ -151,14 +168,18 @@ order_program limit ts program spelled ((p, e, f), within) = subst (λ z. AreInO
 
     whole : AreInOrder (program_faults (program_tree p)) (program_tokens p)
     whole =
-        both (clauses_faults heads [] (map clause_tree p.clauses)) (modules_faults heads [] (map module_tree p.modules)) (clauses_tokens p.clauses) (modules_tokens p.modules)
+        both (clauses_faults heads [] (map clause_tree p.clauses)) (modules_faults heads [] (map module_tree p.modules)) (clauses_tokens p.clauses)
+        (modules_tokens p.modules)
         (order_clauses heads [] tt p.clauses parts.0) (order_modules heads [] p.modules parts.1)
 
-pub order_query : (limit : ℕ) (ts : List Tok) (query : Raw) (modules : List Heading) → All IsSpelled ts → Reads queries limit ts query → AreInOrder (query_faults modules query) ts
+pub order_query : (limit : ℕ) (ts : List Tok) (query : Raw) (modules : List Heading) → All IsSpelled ts → Reads queries limit ts query
+    → AreInOrder (query_faults modules query) ts
 order_query limit ts query modules spelled ((q, e, f), within) =
-    subst (λ z. AreInOrder (query_faults modules z) ts) f (subst (AreInOrder (query_faults modules (query_tree q))) e (by q (subst Spelled (sym e) (recursion_from_All IsSpelled ts spelled))))
+    subst (λ z. AreInOrder (query_faults modules z) ts) f (subst (AreInOrder (query_faults modules (query_tree q))) e
+    (by q (subst Spelled (sym e) (recursion_from_All IsSpelled ts spelled))))
   where
     by : (q : Query) → Spelled (query_tokens q) → AreInOrder (query_faults modules (query_tree q)) (query_tokens q)
     by (bare g) h = order_formula modules GoalSide [] tt g h
     by (dotted g end) h =
-        before (query_faults modules (formula_raw g)) (formula_tokens g) (dot end ∷ []) (order_formula modules GoalSide [] tt g (spelled-split (formula_tokens g) (dot end ∷ []) h).0)
+        before (query_faults modules (formula_raw g)) (formula_tokens g) (dot end ∷ [])
+        (order_formula modules GoalSide [] tt g (spelled-split (formula_tokens g) (dot end ∷ []) h).0)

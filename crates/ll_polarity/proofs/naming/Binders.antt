@@ -1,5 +1,6 @@
 -- What the table of the innermost binders says of names.
-use Rattle.std.proofs.Common.{◌≡◌, ℕ, zero, suc, ◌+◌, ◌-◌, ◌<◌, ◌≤◌, Bool, true, false, eqb, ltb, ◌||◌, true≢false, List, [], ◌∷◌, ◌++◌, length, map, reverse, slice_get, length-append, Option, Some, None, slice_set, slice_index_or, refl, sym, subst, ap, ◌∙◌, arith, if◌then◌else◌}
+use Rattle.std.proofs.Common.{◌≡◌, ℕ, zero, suc, ◌+◌, ◌-◌, ◌<◌, ◌≤◌, Bool, true, false, eqb, ltb, ◌||◌, true≢false, List, [], ◌∷◌, ◌++◌, length, map, reverse}
+use Rattle.std.proofs.Common.{slice_get, length-append, Option, Some, None, slice_set, slice_index_or, refl, sym, subst, ap, ◌∙◌, arith, if◌then◌else◌}
 use Rattle.std.specs.Prelude.{is_some}
 use Rattle.std.specs.List.{list_any, IsDistinct}
 use Rattle.std.specs.Str.{bytes_eq}
@@ -41,11 +42,13 @@ by_table variable k n None = unbound variable
 by_table variable k n (Some i) = bound_by i.local (k + (n - i.depth))
 
 -- a place in the table is at most as deep as there are rows
-pub depth-within : (table : List (Option Innermost)) (rows : List Row) (name : ℕ) (i : Innermost) → AreInnermost table rows → slice_index_or table name None ≡ Some i → i.depth ≤ length rows
+pub depth-within : (table : List (Option Innermost)) (rows : List Row) (name : ℕ) (i : Innermost) → AreInnermost table rows
+    → slice_index_or table name None ≡ Some i → i.depth ≤ length rows
 depth-within table [] name i h e = let n = h name in absurd (cc)
 depth-within table (r ∷ rs) name i h e = by (eqb name r.name) refl (λ f. depth-within (slice_set table r.name r.hidden) rs name i h.1 f)
   where
-    by : (b : Bool) → eqb name r.name ≡ b → (slice_index_or (slice_set table r.name r.hidden) name None ≡ Some i → i.depth ≤ length rs) → i.depth ≤ length (r ∷ rs)
+    by : (b : Bool) → eqb name r.name ≡ b → (slice_index_or (slice_set table r.name r.hidden) name None ≡ Some i → i.depth ≤ length rs)
+        → i.depth ≤ length (r ∷ rs)
     by true q rest =
         let n : name ≡ r.name = (Decides-eqb name r.name).0 q in
         let this : slice_index_or table r.name None ≡ Some i = ap (λ k. slice_index_or table k None) (sym n) ∙ e in
@@ -54,7 +57,8 @@ depth-within table (r ∷ rs) name i h e = by (eqb name r.name) refl (λ f. dept
     by false q rest = let d = rest (get_or-set_other table r.name name r.hidden None (apart name r.name q) ∙ e) in omega arith
 
 -- one more binder was passed
-one_passed : (variable : Bool) (k n : ℕ) (o : Option Innermost) → ((i : Innermost) → o ≡ Some i → i.depth ≤ n) → by_table variable (suc k) n o ≡ by_table variable k (suc n) o
+one_passed : (variable : Bool) (k n : ℕ) (o : Option Innermost) → ((i : Innermost) → o ≡ Some i → i.depth ≤ n)
+    → by_table variable (suc k) n o ≡ by_table variable k (suc n) o
 one_passed variable k n None h = refl
 one_passed variable k n (Some i) h = let d = h i refl in let e : suc k + (n - i.depth) ≡ k + (suc n - i.depth) = omega arith in ap (bound_by i.local) e
 
@@ -77,16 +81,19 @@ module _ (texts : List (List ℕ)) (distinct : IsDistinct bytes_eq texts) (name 
   pub table-means : (table : List (Option Innermost)) (rows : List Row) (k : ℕ) → length table ≡ length texts → AreInnermost table rows
       → meaning_from k (scope_of texts rows) text ≡ by_table (is_variable text) k (length rows) (slice_index_or table name None)
   table-means table [] k sized h = rw (h name) refl
-  table-means table (r ∷ rs) k sized h = by (eqb name r.name) refl (table-means (slice_set table r.name r.hidden) rs (suc k) (length-set table r.name r.hidden ∙ sized) h.1)
+  table-means table (r ∷ rs) k sized h = by (eqb name r.name) refl
+      (table-means (slice_set table r.name r.hidden) rs (suc k) (length-set table r.name r.hidden ∙ sized) h.1)
     where
       known : r.name < length texts
       known = let w = within table r.name _ h.0 in omega arith
 
       by : (b : Bool) → eqb name r.name ≡ b
-          → meaning_from (suc k) (scope_of texts rs) text ≡ by_table (is_variable text) (suc k) (length rs) (slice_index_or (slice_set table r.name r.hidden) name None)
+          → meaning_from (suc k) (scope_of texts rs) text ≡ by_table (is_variable text) (suc k) (length rs)
+          (slice_index_or (slice_set table r.name r.hidden) name None)
           → meaning_from k (scope_of texts (r ∷ rs)) text ≡ by_table (is_variable text) k (length (r ∷ rs)) (slice_index_or table name None)
       by true q rest =
-          let here : slice_index_or table name None ≡ Some (record { depth = length (r ∷ rs); local = r.local }) = ap (λ n. slice_index_or table n None) ((Decides-eqb name r.name).0 q) ∙ h.0 in
+          let here : slice_index_or table name None ≡ Some (record { depth = length (r ∷ rs); local = r.local }) =
+          ap (λ n. slice_index_or table n None) ((Decides-eqb name r.name).0 q) ∙ h.0 in
           let zero_more : k ≡ k + (length (r ∷ rs) - length (r ∷ rs)) = omega arith in
           ap (λ b. if b then bound_by r.local k else meaning_from (suc k) (scope_of texts rs) text) (same_text r.name true known q)
           ∙ (ap (bound_by r.local) zero_more ∙ sym (ap (by_table (is_variable text) k (length (r ∷ rs))) here))
@@ -94,13 +101,15 @@ module _ (texts : List (List ℕ)) (distinct : IsDistinct bytes_eq texts) (name 
           let other = get_or-set_other table r.name name r.hidden None (apart name r.name q) in
           ap (λ b. if b then bound_by r.local k else meaning_from (suc k) (scope_of texts rs) text) (same_text r.name false known q)
           ∙ (rest ∙ (ap (by_table (is_variable text) (suc k) (length rs)) other
-          ∙ one_passed (is_variable text) k (length rs) (slice_index_or table name None) (λ i e. depth-within (slice_set table r.name r.hidden) rs name i h.1 (other ∙ e))))
+          ∙ one_passed (is_variable text) k (length rs) (slice_index_or table name None)
+          (λ i e. depth-within (slice_set table r.name r.hidden) rs name i h.1 (other ∙ e))))
 
   -- and whether something binds it
   pub table-binds : (table : List (Option Innermost)) (rows : List Row) → length table ≡ length texts → AreInnermost table rows
       → is_some (slice_index_or table name None) ≡ list_any (bytes_eq text) (map (λ (b : Binder). b.text) (scope_of texts rows))
   table-binds table [] sized h = rw (h name) refl
-  table-binds table (r ∷ rs) sized h = by (eqb name r.name) refl (table-binds (slice_set table r.name r.hidden) rs (length-set table r.name r.hidden ∙ sized) h.1)
+  table-binds table (r ∷ rs) sized h = by (eqb name r.name) refl
+      (table-binds (slice_set table r.name r.hidden) rs (length-set table r.name r.hidden ∙ sized) h.1)
     where
       known : r.name < length texts
       known = let w = within table r.name _ h.0 in omega arith
@@ -108,17 +117,22 @@ module _ (texts : List (List ℕ)) (distinct : IsDistinct bytes_eq texts) (name 
       others : Bool
       others = list_any (bytes_eq text) (map (λ (b : Binder). b.text) (scope_of texts rs))
 
-      by : (b : Bool) → eqb name r.name ≡ b → is_some (slice_index_or (slice_set table r.name r.hidden) name None) ≡ list_any (bytes_eq text) (map (λ (b : Binder). b.text) (scope_of texts rs))
-          → is_some (slice_index_or table name None) ≡ (bytes_eq text (slice_index_or texts r.name []) || list_any (bytes_eq text) (map (λ (b : Binder). b.text) (scope_of texts rs)))
+      by : (b : Bool) → eqb name r.name ≡ b → is_some (slice_index_or (slice_set table r.name r.hidden) name None)
+          ≡ list_any (bytes_eq text) (map (λ (b : Binder). b.text) (scope_of texts rs))
+          → is_some (slice_index_or table name None) ≡ (bytes_eq text (slice_index_or texts r.name [])
+          || list_any (bytes_eq text) (map (λ (b : Binder). b.text) (scope_of texts rs)))
       by true q rest =
-          let here : slice_index_or table name None ≡ Some (record { depth = length (r ∷ rs); local = r.local }) = ap (λ n. slice_index_or table n None) ((Decides-eqb name r.name).0 q) ∙ h.0 in
+          let here : slice_index_or table name None ≡ Some (record { depth = length (r ∷ rs); local = r.local }) =
+          ap (λ n. slice_index_or table n None) ((Decides-eqb name r.name).0 q) ∙ h.0 in
           ap is_some here ∙ sym (ap (λ b. b || list_any (bytes_eq text) (map (λ (b : Binder). b.text) (scope_of texts rs))) (same_text r.name true known q))
       by false q rest =
           let other = get_or-set_other table r.name name r.hidden None (apart name r.name q) in
-          sym (ap is_some other) ∙ (rest ∙ sym (ap (λ b. b || list_any (bytes_eq text) (map (λ (b : Binder). b.text) (scope_of texts rs))) (same_text r.name false known q)))
+          sym (ap is_some other)
+          ∙ (rest ∙ sym (ap (λ b. b || list_any (bytes_eq text) (map (λ (b : Binder). b.text) (scope_of texts rs))) (same_text r.name false known q)))
 
 -- one more binder
-pub table-opened : (texts : List (List ℕ)) (table : List (Option Innermost)) (rows : List Row) (r : Row) (depth : ℕ) → AreKept texts table rows → r.name < length texts → depth ≡ suc (length rows) → slice_index_or table r.name None ≡ r.hidden
+pub table-opened : (texts : List (List ℕ)) (table : List (Option Innermost)) (rows : List Row) (r : Row) (depth : ℕ) → AreKept texts table rows
+    → r.name < length texts → depth ≡ suc (length rows) → slice_index_or table r.name None ≡ r.hidden
     → AreKept texts (slice_set table r.name (Some (record { depth = depth; local = r.local }))) (r ∷ rows)
 table-opened texts table rows r depth kept inside deep hidden =
     let l = kept.sized in let b : r.name < length table = omega arith in
@@ -127,45 +141,55 @@ table-opened texts table rows r depth kept inside deep hidden =
       sized = length-set table r.name _ ∙ kept.sized;
       innermost = (
         get_or-set_same table r.name _ None b ∙ ap (λ d. let o : Option Innermost = Some (record { depth = d; local = r.local }) in o) deep,
-        subst (λ t. AreInnermost t rows) (sym (ap (slice_set (slice_set table r.name (Some (record { depth = depth; local = r.local }))) r.name) (sym hidden) ∙ set-back table r.name _ None)) kept.innermost,
+        subst (λ t. AreInnermost t rows) (sym (ap (slice_set (slice_set table r.name (Some (record { depth = depth; local = r.local }))) r.name) (sym hidden)
+            ∙ set-back table r.name _ None)) kept.innermost,
       );
     }
 
 -- ---- as the binders are seen
 
-module _ (texts : List (List ℕ)) (table : List (Option Innermost)) (rows : List Row) (kept : AreKept texts table rows) (now : Scoped) (is : record { texts = texts; scope = scope_of texts rows } ≡ now) (name : ℕ) where
+module _ (texts : List (List ℕ)) (table : List (Option Innermost)) (rows : List Row) (kept : AreKept texts table rows) (now : Scoped)
+    (is : record { texts = texts; scope = scope_of texts rows } ≡ now) (name : ℕ) where
   read : (o : Option Innermost) → name < length texts → o ≡ slice_index_or table name o → o ≡ slice_index_or table name None
   read o inside r = let l = kept.sized in let b : name < length table = omega arith in r ∙ get_or_default table name o None b
 
   pub has-shown : (o : Option Innermost) → name < length now.texts → o ≡ slice_index_or table name o
       → is_some o ≡ list_any (bytes_eq (slice_index_or now.texts name [])) (map (λ (b : Binder). b.text) now.scope)
-  has-shown o = subst (λ (v : Scoped). name < length v.texts → o ≡ slice_index_or table name o → is_some o ≡ list_any (bytes_eq (slice_index_or v.texts name [])) (map (λ (b : Binder). b.text) v.scope)) is
+  has-shown o = subst (λ (v : Scoped). name < length v.texts → o ≡ slice_index_or table name o
+      → is_some o ≡ list_any (bytes_eq (slice_index_or v.texts name [])) (map (λ (b : Binder). b.text) v.scope)) is
       (λ inside r. ap is_some (read o inside r) ∙ table-binds texts kept.distinct name inside table rows kept.sized kept.innermost)
 
   pub means-shown : (o : Option Innermost) → name < length now.texts → o ≡ slice_index_or table name o
       → meaning now.scope (slice_index_or now.texts name []) ≡ by_table (is_variable (slice_index_or now.texts name [])) 0 (length rows) o
-  means-shown o = subst (λ (v : Scoped). name < length v.texts → o ≡ slice_index_or table name o → meaning v.scope (slice_index_or v.texts name []) ≡ by_table (is_variable (slice_index_or v.texts name [])) 0 (length rows) o) is
-      (λ inside r. table-means texts kept.distinct name inside table rows 0 kept.sized kept.innermost ∙ sym (ap (by_table (is_variable (slice_index_or texts name [])) 0 (length rows)) (read o inside r)))
+  means-shown o = subst (λ (v : Scoped). name < length v.texts → o ≡ slice_index_or table name o
+      → meaning v.scope (slice_index_or v.texts name []) ≡ by_table (is_variable (slice_index_or v.texts name [])) 0 (length rows) o) is
+      (λ inside r. table-means texts kept.distinct name inside table rows 0 kept.sized kept.innermost
+      ∙ sym (ap (by_table (is_variable (slice_index_or texts name [])) 0 (length rows)) (read o inside r)))
 
   pub depth-shown : (o : Option Innermost) (i : Innermost) → name < length now.texts → o ≡ slice_index_or table name o → o ≡ Some i → i.depth ≤ length rows
   depth-shown o i inside r e =
       let t : now.texts ≡ texts = ap (λ (v : Scoped). v.texts) (sym is) in let l = ap length t in let b : name < length texts = omega arith in
       depth-within table rows name i kept.innermost (sym (read o b r) ∙ e)
 
-  pub found-means : (o : Option Innermost) (i : Innermost) (n : ℕ) (m : Meaning) → name < length now.texts → o ≡ slice_index_or table name o → o ≡ Some i → n ≡ length rows → m ≡ bound_by i.local (n - i.depth)
+  pub found-means : (o : Option Innermost) (i : Innermost) (n : ℕ) (m : Meaning) → name < length now.texts → o ≡ slice_index_or table name o → o ≡ Some i
+      → n ≡ length rows → m ≡ bound_by i.local (n - i.depth)
       → m ≡ meaning now.scope (slice_index_or now.texts name [])
   found-means o i n m inside r e l q =
       let k : n - i.depth ≡ 0 + (length rows - i.depth) = omega arith in
       q ∙ (ap (bound_by i.local) k ∙ (sym (ap (by_table (is_variable (slice_index_or now.texts name [])) 0 (length rows)) e) ∙ sym (means-shown o inside r)))
 
-  pub none-means : (o : Option Innermost) (t : List ℕ) (m : Meaning) → name < length now.texts → o ≡ slice_index_or table name o → o ≡ None → slice_get texts name ≡ Some t → m ≡ unbound (is_variable t)
+  pub none-means : (o : Option Innermost) (t : List ℕ) (m : Meaning) → name < length now.texts → o ≡ slice_index_or table name o → o ≡ None
+      → slice_get texts name ≡ Some t → m ≡ unbound (is_variable t)
       → m ≡ meaning now.scope (slice_index_or now.texts name [])
   none-means o t m inside r e g q =
-      let there : slice_index_or now.texts name [] ≡ t = ap (λ (v : Scoped). slice_index_or v.texts name []) (sym is) ∙ get_or_from_slice_get texts name t [] g in
-      q ∙ (ap (λ w. unbound (is_variable w)) (sym there) ∙ (sym (ap (by_table (is_variable (slice_index_or now.texts name [])) 0 (length rows)) e) ∙ sym (means-shown o inside r)))
+      let there : slice_index_or now.texts name [] ≡ t = ap (λ (v : Scoped). slice_index_or v.texts name []) (sym is)
+      ∙ get_or_from_slice_get texts name t [] g in
+      q ∙ (ap (λ w. unbound (is_variable w)) (sym there) ∙ (sym (ap (by_table (is_variable (slice_index_or now.texts name [])) 0 (length rows)) e)
+      ∙ sym (means-shown o inside r)))
 
 -- a binder that is put behind the others is the innermost
-pub opened-kept : (texts : List (List ℕ)) (table : List (Option Innermost)) (items pushed : List Row) (r : Row) (len : ℕ) → AreKept texts table (reverse items) → (now : Scoped) → record { texts = texts; scope = scope_of texts (reverse items) } ≡ now
+pub opened-kept : (texts : List (List ℕ)) (table : List (Option Innermost)) (items pushed : List Row) (r : Row) (len : ℕ) → AreKept texts table (reverse items)
+    → (now : Scoped) → record { texts = texts; scope = scope_of texts (reverse items) } ≡ now
     → r.name < length now.texts → r.hidden ≡ slice_index_or table r.name r.hidden → pushed ≡ items ++ r ∷ [] → len ≡ length pushed
     → AreKept texts (slice_set table r.name (Some (record { depth = len; local = r.local }))) (reverse pushed)
 opened-kept texts table items pushed r len kept now is inside read p l =

@@ -1,5 +1,6 @@
 -- Variables by the numbers of their names are those by the texts.
-use Rattle.std.proofs.Common.{◌≡◌, ◌≢◌, ℕ, ◌+◌, ◌<◌, Bool, true, false, List, [], ◌∷◌, ◌++◌, map, length, position, Option, Some, None, if◌then◌else◌, refl, sym, subst, ap, ◌∙◌, arith, not, inl, inr, cond, ltb}
+use Rattle.std.proofs.Common.{◌≡◌, ◌≢◌, ℕ, ◌+◌, ◌<◌, Bool, true, false, List, [], ◌∷◌, ◌++◌, map, length, position, Option, Some, None, if◌then◌else◌, refl}
+use Rattle.std.proofs.Common.{sym, subst, ap, ◌∙◌, arith, not, inl, inr, cond, ltb}
 use Rattle.std.specs.Prelude.{nat_eq, option_map, unwrap_or}
 use Rattle.std.specs.List.{list_any, position_or_len, IsDistinct}
 use Rattle.std.specs.Str.{bytes_eq}
@@ -25,7 +26,8 @@ module _ {X Y : Type 0} (f : X → Y) (p : Y → Bool) (q : X → Bool) (same : 
   position_map xs = λ i. cond (ltb (place_map xs i) (length-map xs f i)) (Some (place_map xs i)) None
 
 -- a name in the texts has the text of no other
-same_text : (texts : List (List ℕ)) (n m : ℕ) → IsDistinct bytes_eq texts → n < length texts → 0 < length (text_of texts n) → bytes_eq (text_of texts n) (text_of texts m) ≡ nat_eq n m
+same_text : (texts : List (List ℕ)) (n m : ℕ) → IsDistinct bytes_eq texts → n < length texts → 0 < length (text_of texts n)
+    → bytes_eq (text_of texts n) (text_of texts m) ≡ nat_eq n m
 same_text texts n m distinct l ne = by (nat_eq n m) refl
   where
     apart : n ≢ m → text_of texts n ≢ text_of texts m
@@ -54,9 +56,11 @@ module _ (texts : List (List ℕ)) (n : ℕ) (distinct : IsDistinct bytes_eq tex
   number_is vs = ap (λ o. unwrap_or o 0) (sym (position_map (option_map (text_of texts)) (has_text (text_of texts n)) (has_number n) same_test vs))
 
   pub added_is : (vs : List (Option ℕ)) → variables_of texts (with_number vs n) ≡ with_variable (variables_of texts vs) (text_of texts n)
-  added_is vs = by (list_any (has_number n) vs) ∙ ap (λ b. if b then variables_of texts vs else variables_of texts vs ++ Some (text_of texts n) ∷ []) (sym (any_is vs))
+  added_is vs = by (list_any (has_number n) vs) ∙ ap (λ b. if b then variables_of texts vs else variables_of texts vs ++ Some (text_of texts n) ∷ [])
+      (sym (any_is vs))
     where
-      by : (b : Bool) → variables_of texts (if b then vs else vs ++ Some n ∷ []) ≡ (if b then variables_of texts vs else variables_of texts vs ++ Some (text_of texts n) ∷ [])
+      by : (b : Bool) → variables_of texts (if b then vs else vs ++ Some n ∷ [])
+          ≡ (if b then variables_of texts vs else variables_of texts vs ++ Some (text_of texts n) ∷ [])
       by true = refl
       by false = map-append (option_map (text_of texts)) vs (Some n ∷ [])
 
@@ -70,7 +74,8 @@ local_inside scope w k e =
     let h = subst (Means scope) (sym e) (means scope w) in omega (arith, ltb-true k (length (places scope)) h.0, length-map scope (λ b. b.local))
 
 -- a constant keeps its number
-pub constant_number : (old new : List (List ℕ)) (text w : List ℕ) (k : ℕ) → new ≡ with_name old text → w ≡ text → number_of new text ≡ Some k → k ≡ number_in (with_name old w) w
+pub constant_number : (old new : List (List ℕ)) (text w : List ℕ) (k : ℕ) → new ≡ with_name old text → w ≡ text → number_of new text ≡ Some k
+    → k ≡ number_in (with_name old w) w
 constant_number old new text w k added same number =
     sym (ap (λ v. number_in (with_name old v) v) same ∙ (ap (λ ns. number_in ns text) (sym added) ∙ ap (λ o. unwrap_or o 0) number))
 

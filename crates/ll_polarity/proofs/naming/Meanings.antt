@@ -51,7 +51,8 @@ means_from : (k : ℕ) (scope : Scope) (w : List ℕ) → MeansFrom k scope (mea
 means_from k [] w = means_unbound k [] (is_variable w)
 means_from k (b ∷ scope) w = by (bytes_eq w b.text) (means_from (suc k) scope w)
   where
-    by : (t : Bool) → MeansFrom (suc k) scope (meaning_from (suc k) scope w) → MeansFrom k (b ∷ scope) (if t then bound_by b.local k else meaning_from (suc k) scope w)
+    by : (t : Bool) → MeansFrom (suc k) scope (meaning_from (suc k) scope w)
+        → MeansFrom k (b ∷ scope) (if t then bound_by b.local k else meaning_from (suc k) scope w)
     by true h = means_here k b scope b.local refl
     by false h = means_there k b scope (meaning_from (suc k) scope w) h
 

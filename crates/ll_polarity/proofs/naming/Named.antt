@@ -10,12 +10,19 @@ use Rattle.ll_parser.specs.declared.Named.{Named}
 use Rattle.ll_parser.specs.declared.SumOp.{SumOp}
 use Rattle.ll_parser.specs.declared.SumOp.TheVariants.{Plus as by_plus, Minus as by_minus}
 use Rattle.ll_parser.specs.Tokens.{Identifier, IsSpelled, dot, paren_right, star_sign}
-use Rattle.ll_parser.specs.Raw.{Raw, truth, erasure, braces, universal, existential, load, binary, is_goal, less_goal, most_goal, head, anything, int, RawList, none, more, ClauseTree, ProgramTree}
-use Rattle.ll_parser.specs.Grammar.{lower, upper, Plain, plain_word, plain_any, plain_number, Expr, of_product, adds, Product, of_item, multiplies, Item, item_plain, item_bracket, First, first_plain, first_times, Lead, of_first, lead_adds, add_token, add_sign, plain_token, expr_tokens, product_tokens, item_tokens, first_tokens, lead_tokens, plain_raw, expr_raw, product_raw, item_raw, first_raw, lead_raw, formula_tokens, formula_raw}
-use Rattle.ll_parser.specs.Text.{Clause, plain, linear, Local, Module, Query, bare, dotted, names, variables, clause_tokens, local_tokens, locals_tokens, heading_tokens, clauses_tokens, module_tokens, modules_tokens, program_tokens, query_tokens, clause_tree, locals_of, module_tree, query_tree, programs, queries}
+use Rattle.ll_parser.specs.Raw.{Raw, truth, erasure, braces, universal, existential, load, binary, is_goal, less_goal, most_goal, head, anything, int, RawList}
+use Rattle.ll_parser.specs.Raw.{none, more, ClauseTree, ProgramTree}
+use Rattle.ll_parser.specs.Grammar.{lower, upper, Plain, plain_word, plain_any, plain_number, Expr, of_product, adds, Product, of_item, multiplies, Item}
+use Rattle.ll_parser.specs.Grammar.{item_plain, item_bracket, First, first_plain, first_times, Lead, of_first, lead_adds, add_token, add_sign, plain_token}
+use Rattle.ll_parser.specs.Grammar.{expr_tokens, product_tokens, item_tokens, first_tokens, lead_tokens, plain_raw, expr_raw, product_raw, item_raw, first_raw}
+use Rattle.ll_parser.specs.Grammar.{lead_raw, formula_tokens, formula_raw}
+use Rattle.ll_parser.specs.Text.{Clause, plain, linear, Local, Module, Query, bare, dotted, names, variables, clause_tokens, local_tokens, locals_tokens}
+use Rattle.ll_parser.specs.Text.{heading_tokens, clauses_tokens, module_tokens, modules_tokens, program_tokens, query_tokens, clause_tree, locals_of}
+use Rattle.ll_parser.specs.Text.{module_tree, query_tree, programs, queries}
 use Rattle.ll_parser.specs.Reads.{IsWhole}
 use Rattle.ll_parser.specs.Nodes.{identifier}
-use Rattle.ll_parser.proofs.CallerLemmas.{IsLower, IsUpper, IsWord, IsTerm, AreTerms, IsPlainTerm, IsExpr, IsLead, IsFormula, Spelled, spelled-split, formula-printable}
+use Rattle.ll_parser.proofs.CallerLemmas.{IsLower, IsUpper, IsWord, IsTerm, AreTerms, IsPlainTerm, IsExpr, IsLead, IsFormula, Spelled, spelled-split}
+use Rattle.ll_parser.proofs.CallerLemmas.{formula-printable}
 use Rattle.ll_polarity.proofs.naming.Binders.{not_below}
 use Rattle.ll_polarity.specs.Named.{HasText, IsNamed, AreNamed, IsModuleNamed, IsProgramNamed}
 
@@ -28,7 +35,8 @@ number-within texts n h = by (ltb n.name (length texts)) refl
     by : (b : Bool) → ltb n.name (length texts) ≡ b → n.name < length texts
     by true q = (Decides-ltb n.name (length texts)).0 q
     by false q =
-        let past : length texts ≤ n.name = not_below n.name (length texts) q in let e = ap length (get_or_past texts n.name [] past) in absurd (let l : 0 < 0 = omega (arith, h, e) in omega arith)
+        let past : length texts ≤ n.name = not_below n.name (length texts) q in let e = ap length (get_or_past texts n.name [] past) in
+        absurd (let l : 0 < 0 = omega (arith, h, e) in omega arith)
 
 -- ---- words
 
@@ -89,12 +97,14 @@ sum_text by_minus = let l : 0 < 1 = omega arith in l
 mutual
   expr_named : (e : Expr) → Spelled (expr_tokens e) → IsNamed (expr_raw e)
   expr_named (of_product p) h = product_named p h
-  expr_named (adds e o at p) h = let k = spelled-split (expr_tokens e) (add_token o at ∷ product_tokens p) h in (sum_text o, (expr_named e k.0, (product_named p k.1.1, tt)))
+  expr_named (adds e o at p) h = let k = spelled-split (expr_tokens e) (add_token o at ∷ product_tokens p) h in
+      (sum_text o, (expr_named e k.0, (product_named p k.1.1, tt)))
 
   product_named : (p : Product) → Spelled (product_tokens p) → IsNamed (product_raw p)
   product_named (of_item x) h = item_named x h
   product_named (multiplies p at x) h =
-      let k = spelled-split (product_tokens p) (star_sign at ∷ item_tokens x) h in ((let l : 0 < 1 = omega arith in l), (product_named p k.0, (item_named x k.1.1, tt)))
+      let k = spelled-split (product_tokens p) (star_sign at ∷ item_tokens x) h in
+      ((let l : 0 < 1 = omega arith in l), (product_named p k.0, (item_named x k.1.1, tt)))
 
   item_named : (x : Item) → Spelled (item_tokens x) → IsNamed (item_raw x)
   item_named (item_plain x) h = plain_named x h
@@ -103,11 +113,13 @@ mutual
 first_named : (f : First) → Spelled (first_tokens f) → IsNamed (first_raw f)
 first_named (first_plain x) h = plain_named x h
 first_named (first_times f at x) h =
-    let k = spelled-split (first_tokens f) (star_sign at ∷ item_tokens x) h in ((let l : 0 < 1 = omega arith in l), (first_named f k.0, (item_named x k.1.1, tt)))
+    let k = spelled-split (first_tokens f) (star_sign at ∷ item_tokens x) h in
+    ((let l : 0 < 1 = omega arith in l), (first_named f k.0, (item_named x k.1.1, tt)))
 
 lead_named : (l : Lead) → Spelled (lead_tokens l) → IsNamed (lead_raw l)
 lead_named (of_first f) h = first_named f h
-lead_named (lead_adds l o at p) h = let k = spelled-split (lead_tokens l) (add_token o at ∷ product_tokens p) h in (sum_text o, (lead_named l k.0, (product_named p k.1.1, tt)))
+lead_named (lead_adds l o at p) h = let k = spelled-split (lead_tokens l) (add_token o at ∷ product_tokens p) h in
+    (sum_text o, (lead_named l k.0, (product_named p k.1.1, tt)))
 
 plain_term_named : (r : Raw) → IsPlainTerm r → IsNamed r
 plain_term_named r (x, s, e) = subst IsNamed e (plain_named x s)
@@ -162,7 +174,8 @@ locals_named : (ls : List Local) → Spelled (locals_tokens ls) → AllByRecursi
 locals_named [] h = tt
 locals_named (l ∷ ls) h =
     let k = spelled-split (local_tokens l) (locals_tokens ls) h in
-    let o = (spelled-split (names l.others) (dot l.end ∷ []) k.0.1.1).0 in (lower_text l.first k.0.1.0, both_named l.others (locals_of ls) (names_named l.others o) (locals_named ls k.1))
+    let o = (spelled-split (names l.others) (dot l.end ∷ []) k.0.1.1).0 in
+    (lower_text l.first k.0.1.0, both_named l.others (locals_of ls) (names_named l.others o) (locals_named ls k.1))
 
 module_named : (m : Module) → Spelled (module_tokens m) → IsModuleNamed (module_tree m)
 module_named m h =

@@ -1,5 +1,6 @@
 -- Variables by the numbers of their names, and by the texts of these.
-use Rattle.std.proofs.Common.{◌≡◌, ◌≢◌, ℕ, ◌+◌, Bool, true, false, cond, ◌||◌, List, [], ◌∷◌, ◌++◌, length, position, Option, Some, None, if◌then◌else◌, refl, sym, subst, ap, ◌∙◌, arith, true≢false}
+use Rattle.std.proofs.Common.{◌≡◌, ◌≢◌, ℕ, ◌+◌, Bool, true, false, cond, ◌||◌, List, [], ◌∷◌, ◌++◌, length, position, Option, Some, None, if◌then◌else◌, refl}
+use Rattle.std.proofs.Common.{sym, subst, ap, ◌∙◌, arith, true≢false}
 use Rattle.std.specs.Prelude.{nat_eq, unwrap_or}
 use Rattle.std.specs.List.{list_any, position_or_len}
 use Rattle.std.specs.Ordering.{nat_cmp}
@@ -30,7 +31,8 @@ module _ {X : Type 0} (p : X → Bool) where
       let a : list_any p (xs ++ y ∷ []) ≡ true = list_any-append p xs (y ∷ []) ∙ (ap (λ b. b || (p y || false)) h ∙ ap (λ b. b || false) e) in
       let q = position_or_len_push p xs y in
       let w = past_all xs h in
-      place_is p (xs ++ y ∷ []) a ∙ ap (λ n. let o : Option ℕ = Some n in o) (q ∙ rw (w, e) (ap (λ b. cond b (length xs + 0) (length xs)) (eq-eqb (length xs) (length xs) refl) ∙ omega arith))
+      place_is p (xs ++ y ∷ []) a ∙ ap (λ n. let o : Option ℕ = Some n in
+      o) (q ∙ rw (w, e) (ap (λ b. cond b (length xs + 0) (length xs)) (eq-eqb (length xs) (length xs) refl) ∙ omega arith))
 
   pub keeps_place : (xs : List X) (y : X) → list_any p xs ≡ true → position p (xs ++ y ∷ []) ≡ position p xs
   keeps_place xs y h =
@@ -58,13 +60,16 @@ none_found variables n e = by (list_any (has_number n) variables) refl
     by false h = refl
     by true h = let x : Some (position_or_len (has_number n) variables) ≡ None = sym (place_is (has_number n) variables h) ∙ e in absurd (cc)
 
-pub known_variable : (lookup : ℕ → Option ℕ) (variables : List (Option ℕ)) (n k : ℕ) → AreNumbered lookup variables → Some k ≡ lookup n → variables ≡ with_number variables n
+pub known_variable : (lookup : ℕ → Option ℕ) (variables : List (Option ℕ)) (n k : ℕ) → AreNumbered lookup variables → Some k ≡ lookup n
+    → variables ≡ with_number variables n
 known_variable lookup variables n k are e = ap (λ b. if b then variables else variables ++ Some n ∷ []) (sym (any_found variables n k (sym (are n) ∙ sym e)))
 
-pub new_variable : (lookup : ℕ → Option ℕ) (variables : List (Option ℕ)) (n : ℕ) → AreNumbered lookup variables → None ≡ lookup n → variables ++ Some n ∷ [] ≡ with_number variables n
+pub new_variable : (lookup : ℕ → Option ℕ) (variables : List (Option ℕ)) (n : ℕ) → AreNumbered lookup variables → None ≡ lookup n
+    → variables ++ Some n ∷ [] ≡ with_number variables n
 new_variable lookup variables n are e = ap (λ b. if b then variables else variables ++ Some n ∷ []) (sym (none_found variables n (sym (are n) ∙ sym e)))
 
-pub new_number : (lookup : ℕ → Option ℕ) (variables : List (Option ℕ)) (n : ℕ) → AreNumbered lookup variables → None ≡ lookup n → length variables ≡ numbered (variables ++ Some n ∷ []) n
+pub new_number : (lookup : ℕ → Option ℕ) (variables : List (Option ℕ)) (n : ℕ) → AreNumbered lookup variables → None ≡ lookup n
+    → length variables ≡ numbered (variables ++ Some n ∷ []) n
 new_number lookup variables n are e =
     ap (λ o. unwrap_or o 0) (sym (finds_last (has_number n) variables (Some n) (none_found variables n (sym (are n) ∙ sym e)) (eq-eqb n n refl)))
 
@@ -88,12 +93,14 @@ numbered_more lookup later variables n are e u q = u q ∙ by (nat_eq n q) refl 
         → cond b (let o : Option ℕ = Some (length variables) in o) (lookup q) ≡ position (has_number q) (variables ++ Some n ∷ [])
     by true same a h =
         let s : n ≡ q = eqb-true n q same in
-        subst (λ m. Some (length variables) ≡ position (has_number m) (variables ++ Some n ∷ [])) s (sym (finds_last (has_number n) variables (Some n) new (eq-eqb n n refl)))
+        subst (λ m. Some (length variables) ≡ position (has_number m) (variables ++ Some n ∷ [])) s
+        (sym (finds_last (has_number n) variables (Some n) new (eq-eqb n n refl)))
     by false other true h = are q ∙ sym (keeps_place (has_number q) variables (Some n) h)
     by false other false h =
         let ne : nat_eq q n ≡ false = ne_eqb q n (λ s. eqb-false n q other (sym s)) in
         are q ∙ (finds_none (has_number q) variables h
-        ∙ sym (finds_none (has_number q) (variables ++ Some n ∷ []) (list_any-append (has_number q) variables (Some n ∷ []) ∙ (ap (λ b. b || (nat_eq q n || false)) h ∙ ap (λ b. b || false) ne))))
+        ∙ sym (finds_none (has_number q) (variables ++ Some n ∷ [])
+        (list_any-append (has_number q) variables (Some n ∷ []) ∙ (ap (λ b. b || (nat_eq q n || false)) h ∙ ap (λ b. b || false) ne))))
 
 -- a place of a map by numbers
 pub at_nat : (n q : ℕ) → is_at (nat_cmp n) q ≡ nat_eq n q

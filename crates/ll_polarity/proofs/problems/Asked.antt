@@ -10,7 +10,8 @@ use Rattle.ll_polarity.proofs.problems.Problems.{headings_of_part}
 headings_are : (part : ProgramPart) (p : ProgramTree) → part ≡ part_of p → headings_of part ≡ map heading p.modules
 headings_are part p e = ap headings_of e ∙ headings_of_part p
 
-pub asks_problem : (part : ProgramPart) (query : Raw) (bound : ℕ) (problem : ProblemTree) → problem ≡ problem_with part query bound → query_faults (headings_of part) query ≡ []
+pub asks_problem : (part : ProgramPart) (query : Raw) (bound : ℕ) (problem : ProblemTree) → problem ≡ problem_with part query bound
+    → query_faults (headings_of part) query ≡ []
     → (p : ProgramTree) → program_faults p ≡ [] → part ≡ part_of p → Asks p query bound problem
 asks_problem part query bound problem is none p faultless e = record {
   program_faultless = faultless;
@@ -18,5 +19,6 @@ asks_problem part query bound problem is none p faultless e = record {
   is = is ∙ ap (λ x. problem_with x query bound) e;
 }
 
-pub fault_of_part : (part : ProgramPart) (query : Raw) (f : Fault) → IsFirst f (query_faults (headings_of part) query) → (p : ProgramTree) → part ≡ part_of p → HasQueryFault p query f
+pub fault_of_part : (part : ProgramPart) (query : Raw) (f : Fault) → IsFirst f (query_faults (headings_of part) query) → (p : ProgramTree) → part ≡ part_of p
+    → HasQueryFault p query f
 fault_of_part part query f first p e = subst (λ hs. IsFirst f (query_faults hs query)) (headings_are part p e) first

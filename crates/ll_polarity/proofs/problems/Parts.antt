@@ -62,13 +62,17 @@ places_module m =
 module _ (modules : List ModuleTree) (ms : List (List ℕ)) (heads : List Heading) (finds : Finds modules ms heads) (names : ℕ) where
   clause_valid : (scope : Scope) (before : List (List ℕ)) (c : raw.ClauseTree) → IsSmall largest_count c.form → form_faults heads ClauseSide scope c.form ≡ []
       → length (read_clause ms scope before c).names ≤ names
-      → IsFormula (given modules 0) ClauseSide (places scope) (read_clause ms scope before c).it.form × IsWithinLimits names ClauseSide (read_clause ms scope before c).it.form
+      → IsFormula (given modules 0) ClauseSide (places scope) (read_clause ms scope before c).it.form
+      × IsWithinLimits names ClauseSide (read_clause ms scope before c).it.form
   clause_valid scope before c small h le =
       let r = read_form ms scope (record { names = before; variables = [] }) c.form in
       let room : Room = record { modules = modules; variables = length r.met.variables; names = names; most = largest_count } in
-      let g : IsGood room ClauseSide (places scope) r.it = read_is_good room ms heads finds ClauseSide scope (record { names = before; variables = [] }) c.form small.form h (record { names = le; variables = omega arith }) small.light in
-      let q = quantified_good room ClauseSide (places scope) r.it g in
-      (formula_of_fits (given modules 0) ClauseSide (places scope) (quantified (length r.met.variables) r.it) q.fits, record { named = q.named 0; leaves = q.leaves; arguments = q.arguments 0 })
+      let g : IsGood room ClauseSide (places scope) r.it = read_is_good room ms heads finds ClauseSide scope (record { names = before; variables = [] }) c.form
+      small.form h (record { names = le; variables = omega arith }) small.light in
+      let q = quantified_good room ClauseSide (places scope) r.it g in (
+        formula_of_fits (given modules 0) ClauseSide (places scope) (quantified (length r.met.variables) r.it) q.fits,
+        record { named = q.named 0; leaves = q.leaves; arguments = q.arguments 0 },
+      )
 
   pub clauses_valid : (scope : Scope) (before : List (List ℕ)) (cs : List raw.ClauseTree) → AreSmall largest_count cs → clauses_faults heads scope cs ≡ []
       → length (read_clauses ms scope before cs).names ≤ names → AreClauses names modules (places scope) (read_clauses ms scope before cs).it
@@ -78,12 +82,14 @@ module _ (modules : List ModuleTree) (ms : List (List ℕ)) (heads : List Headin
       let v = clause_valid scope before c small.0 (none_left f (clauses_faults heads scope cs) h) (omega (arith, (more_clauses ms scope after cs).longer)) in
       (v.0, v.1, clauses_valid scope after cs small.1 (none_right f (clauses_faults heads scope cs) h) le)
 
-  pub modules_valid : (before : List (List ℕ)) (earlier : List (List ℕ)) (rest : List raw.ModuleTree) → HaveSmall largest_count rest → modules_faults heads earlier rest ≡ []
+  pub modules_valid : (before : List (List ℕ)) (earlier : List (List ℕ)) (rest : List raw.ModuleTree) → HaveSmall largest_count rest
+      → modules_faults heads earlier rest ≡ []
       → length (read_modules ms before rest).names ≤ names → AreModules names modules (read_modules ms before rest).it
   modules_valid before earlier [] small h le = tt
   modules_valid before earlier (m ∷ rest) small h le =
       let a : List Fault = if list_any (bytes_eq m.name.text) earlier then record { at = m.name.at; kind = 12 } ∷ [] else [] in
-      let b = repeated [] (m.params ++ m.locals) in let c = clauses_faults heads (module_scope m) m.clauses in let d = modules_faults heads (m.name.text ∷ earlier) rest in
+      let b = repeated [] (m.params ++ m.locals) in let c = clauses_faults heads (module_scope m) m.clauses in
+      let d = modules_faults heads (m.name.text ∷ earlier) rest in
       let named = with_name before m.name.text in let after = (read_module ms before m).names in
       let few : length after ≤ names = omega (arith, (more_modules ms after rest).longer) in (
         subst (λ s. AreClauses names modules s (read_module ms before m).it.clauses) (places_module m)

@@ -1,5 +1,6 @@
 -- Copies of modules and of banks.
-use Rattle.std.proofs.Common.{◌≡◌, ℕ, zero, suc, ◌+◌, ◌<◌, ◌≤◌, ◌^◌, Bool, true, false, ◌||◌, List, [], ◌∷◌, ◌++◌, length, map, take, slice_get, get_or, Some, refl, ap, sym, subst, ◌∙◌, arith, if◌then◌else◌, append-nil, length-append}
+use Rattle.std.proofs.Common.{◌≡◌, ℕ, zero, suc, ◌+◌, ◌<◌, ◌≤◌, ◌^◌, Bool, true, false, ◌||◌, List, [], ◌∷◌, ◌++◌, length, map, take, slice_get, get_or, Some}
+use Rattle.std.proofs.Common.{refl, ap, sym, subst, ◌∙◌, arith, if◌then◌else◌, append-nil, length-append}
 use Rattle.std.specs.Prelude.{All}
 use Rattle.std.specs.List.{list_any, IsDistinct}
 use Rattle.std.specs.Str.{bytes_eq}
@@ -26,7 +27,8 @@ same_modules bank (x ∷ xs) [] e = cc
 same_modules bank (x ∷ xs) (y ∷ ys) e =
     let head : module_row x ≡ module_row y = cc in
     let rest : map module_row xs ≡ map module_row ys = cc in
-    λ i. record { name = (head i).0; params = (head i).1.0; locals = (head i).1.1.0; clauses = map (clause_tree bank) (head i).1.1.1 } ∷ same_modules bank xs ys rest i
+    λ i. record { name = (head i).0; params = (head i).1.0; locals = (head i).1.1.0; clauses = map (clause_tree bank) (head i).1.1.1 }
+    ∷ same_modules bank xs ys rest i
 
 module _ (P : ℕ × (ℕ × (ℕ × List Clause)) → Type 0) where
   all_rows : (xs ys : List Module) → map module_row xs ≡ map module_row ys → All (λ m. P (module_row m)) ys → All (λ m. P (module_row m)) xs
@@ -35,7 +37,8 @@ module _ (P : ℕ × (ℕ × (ℕ × List Clause)) → Type 0) where
   all_rows (x ∷ xs) (y ∷ ys) e h =
       let head : module_row x ≡ module_row y = cc in
       let rest : map module_row xs ≡ map module_row ys = cc in
-      All-cons (λ m. P (module_row m)) x xs (subst P (sym head) (All-head (λ m. P (module_row m)) y ys h)) (all_rows xs ys rest (All-tail (λ m. P (module_row m)) y ys h))
+      All-cons (λ m. P (module_row m)) x xs (subst P (sym head) (All-head (λ m. P (module_row m)) y ys h))
+      (all_rows xs ys rest (All-tail (λ m. P (module_row m)) y ys h))
 
 -- ---- banks
 
@@ -55,15 +58,18 @@ whole_image old new c =
 abbrev part_of_bank : Nodes → List (List ℕ) → List Module → List Clause → ProgramPart
 part_of_bank bank names modules clauses = record { names = names; modules = map (module_tree bank) modules; clauses = map (clause_tree bank) clauses }
 
-module _ (bank image : Nodes) (names texts : List (List ℕ)) (modules copies : List Module) (clauses others : List Clause) (same : image ≡ bank) (same_names : texts ≡ names) (rows : map module_row copies ≡ map module_row modules) (same_clauses : others ≡ clauses) where
-  pub copied_fits : HasModules bank modules → HasClauses bank clauses → IsNumbered names modules → HasModules image copies × HasClauses image others × IsNumbered texts copies
+module _ (bank image : Nodes) (names texts : List (List ℕ)) (modules copies : List Module) (clauses others : List Clause) (same : image ≡ bank)
+    (same_names : texts ≡ names) (rows : map module_row copies ≡ map module_row modules) (same_clauses : others ≡ clauses) where
+  pub copied_fits : HasModules bank modules → HasClauses bank clauses → IsNumbered names modules
+      → HasModules image copies × HasClauses image others × IsNumbered texts copies
   copied_fits m c n = (
     subst (λ b. HasModules b copies) (sym same) (all_rows (λ r. HasClauses bank r.1.1.1) copies modules rows m),
     subst (λ b. HasClauses b others) (sym same) (subst (HasClauses bank) (sym same_clauses) c),
     record {
       named = subst (λ t. All (λ m. m.name < length t) copies) (sym same_names) (all_rows (λ r. r.0 < length names) copies modules rows n.named);
       few_texts = subst (λ t. length t ≤ 16777216) (sym same_names) n.few_texts;
-      few_modules = let k = n.few_modules in let e = ap length rows in let a = length-map modules module_row in let b = length-map copies module_row in omega arith;
+      few_modules = let k = n.few_modules in let e = ap length rows in let a = length-map modules module_row in let b = length-map copies module_row in
+          omega arith;
     },
   )
 

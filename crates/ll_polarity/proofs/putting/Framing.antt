@@ -24,7 +24,8 @@ use Rattle.ll_polarity.specs.Reading.{Met, Read, joined}
 use Rattle.ll_polarity.specs.Built.{Around, inside, built_terms, built_form, arguments}
 use Rattle.ll_polarity.specs.Standing.{around, HasRoom, StandsIn}
 use Rattle.ll_polarity.specs.Calls.{IsReady}
-use Rattle.ll_polarity.specs.Frames.{Ground, within, within_all, wraps, wrapped, comes, FrameHas, FrameFits, FramesFit, StepFits, frame_left, frames_left, step_left, Advances}
+use Rattle.ll_polarity.specs.Frames.{Ground, within, within_all, wraps, wrapped, comes, FrameHas, FrameFits, FramesFit, StepFits, frame_left, frames_left}
+use Rattle.ll_polarity.specs.Frames.{step_left, Advances}
 use Rattle.ll_polarity.proofs.reading.Grows.{Longer, longer_refl, longer_trans, longer_form}
 use Rattle.ll_polarity.proofs.reading.Building.{met_form}
 use Rattle.ll_polarity.proofs.putting.Calling.{room_before}
@@ -32,13 +33,15 @@ use Rattle.ll_polarity.proofs.putting.Calling.{room_before}
 pub longer_form_built : (places : List ℕ → ℕ) (a : Around) (met : Met) (r : Raw) → Longer met (built_form places a met r).met
 longer_form_built places a met r = subst (Longer met) (sym (met_form places [] a met r)) (longer_form [] a.scope met r)
 
-pub room_load : (places : List ℕ → ℕ) (a : Around) (met : Met) (at : _) (m : _) (args : _) (r : Raw) → HasRoom (built_form places a met (load at m args r)).met → HasRoom (built_terms a met args).met
+pub room_load : (places : List ℕ → ℕ) (a : Around) (met : Met) (at : _) (m : _) (args : _) (r : Raw) → HasRoom (built_form places a met (load at m args r)).met
+    → HasRoom (built_terms a met args).met
 room_load places a met at m args r h = room_before (longer_form_built places a (built_terms a met args).met r) h
 
 -- ---- one step
 
 module _ (g : Ground) (new : Nodes) (a : Around) (was : Read Form) (left : ℕ) (old later : List Frame) (met : Met) (now : Around) where
-  pub advance_give : (t : FormAt) (f : Form) → ShowsForm new t.0 f → (let x : Read Form = record { it = f; met = met } in x) ≡ was → later ≡ old → now ≡ a → 2 < left → Advances g new a was left old later (step.Give t) met now
+  pub advance_give : (t : FormAt) (f : Form) → ShowsForm new t.0 f → (let x : Read Form = record { it = f; met = met } in x) ≡ was → later ≡ old → now ≡ a
+      → 2 < left → Advances g new a was left old later (step.Give t) met now
   advance_give t f shows is same here l = record {
     pushed = [];
     waiting = same ∙ sym (append-nil old);
@@ -49,8 +52,10 @@ module _ (g : Ground) (new : Nodes) (a : Around) (was : Read Form) (left : ℕ) 
     less = omega arith;
   }
 
-  pub advance_read : (f : Frame) (at : RawAt) → later ≡ old ++ f ∷ [] → wraps g new a f (built_form g.modules now met (raw_at g.texts g.forms at.0)) ≡ was → now ≡ within g a f → FrameFits g new f
-      → IsReady g.texts g.forms at.0 → frame_left g f + 5 * weight (raw_at g.texts g.forms at.0) < left → Advances g new a was left old later (step.Read at) met now
+  pub advance_read : (f : Frame) (at : RawAt) → later ≡ old ++ f ∷ [] → wraps g new a f (built_form g.modules now met (raw_at g.texts g.forms at.0)) ≡ was
+      → now ≡ within g a f → FrameFits g new f
+      → IsReady g.texts g.forms at.0 → frame_left g f + 5 * weight (raw_at g.texts g.forms at.0) < left
+      → Advances g new a was left old later (step.Read at) met now
   advance_read f at added is here fits ready l = record {
     pushed = f ∷ [];
     waiting = added;
@@ -62,7 +67,8 @@ module _ (g : Ground) (new : Nodes) (a : Around) (was : Read Form) (left : ℕ) 
   }
 
 -- out of a quantifier
-pub back_out : (p later : Place) (s t : Scope) (a : Around) (w : List ℕ) → later ≡ record p { depth = p.depth - 1 } → around p s ≡ inside w a → ((inner : Binder) (outer : Scope) → s ≡ inner ∷ outer → t ≡ outer) → around later t ≡ a
+pub back_out : (p later : Place) (s t : Scope) (a : Around) (w : List ℕ) → later ≡ record p { depth = p.depth - 1 } → around p s ≡ inside w a
+    → ((inner : Binder) (outer : Scope) → s ≡ inner ∷ outer → t ≡ outer) → around later t ≡ a
 back_out p later s t a w is e out =
     let q : later.quantified ≡ a.quantified = ap (λ x. x.quantified) is ∙ ap (λ x. x.quantified) e in
     let d : later.depth ≡ a.depth = (let i = ap (λ x. x.depth) is in let j = ap (λ x. x.depth) e in omega arith) in
@@ -76,7 +82,8 @@ module _ (g : Ground) where
   within-append a [] ys = refl
   within-append a (x ∷ xs) ys = within-append (within g a x) xs ys
 
-  wrapped-append : (bank : Nodes) (a : Around) (xs ys : List Frame) (t : Read Form) → wrapped g bank a (xs ++ ys) t ≡ wrapped g bank a xs (wrapped g bank (within_all g a xs) ys t)
+  wrapped-append : (bank : Nodes) (a : Around) (xs ys : List Frame) (t : Read Form)
+      → wrapped g bank a (xs ++ ys) t ≡ wrapped g bank a xs (wrapped g bank (within_all g a xs) ys t)
   wrapped-append bank a [] ys t = refl
   wrapped-append bank a (x ∷ xs) ys t = ap (wraps g bank a x) (wrapped-append bank (within g a x) xs ys t)
 
@@ -100,9 +107,11 @@ module _ (g : Ground) where
   wraps_extends e a (frame.Right o f) t h = ap (λ x. let y : Read Form = record { it = joined o x t.it; met = t.met } in y) (form_tree-extends e f.0 h)
   wraps_extends e a (frame.Load m ts) t h = ap (λ xs. let y : Read Form = record { it = Use m xs t.it; met = t.met } in y) (term_trees-extends e ts.items h)
 
-  wrapped_extends : {old new : Nodes} (e : Extends old new) (a : Around) (fs : List Frame) (t : Read Form) → FramesFit g old fs → wrapped g new a fs t ≡ wrapped g old a fs t
+  wrapped_extends : {old new : Nodes} (e : Extends old new) (a : Around) (fs : List Frame) (t : Read Form) → FramesFit g old fs
+      → wrapped g new a fs t ≡ wrapped g old a fs t
   wrapped_extends e a [] t h = refl
-  wrapped_extends {old} {new} e a (f ∷ fs) t h = wraps_extends e a f (wrapped g new (within g a f) fs t) h.0 ∙ ap (wraps g old a f) (wrapped_extends e (within g a f) fs t h.1)
+  wrapped_extends {old} {new} e a (f ∷ fs) t h = wraps_extends e a f (wrapped g new (within g a f) fs t) h.0
+      ∙ ap (wraps g old a f) (wrapped_extends e (within g a f) fs t h.1)
 
   fit_extends : {old new : Nodes} (e : Extends old new) (f : Frame) → FrameFits g old f → FrameFits g new f
   fit_extends e frame.Braces h = tt
@@ -136,56 +145,71 @@ module _ (g : Ground) where
     pub step : StepFits g bank next
     pub keeps : Extends first bank
 
-  pub coming_room : (target : Read Form) (a : Around) (first bank : Nodes) (frames : List Frame) (next : Step) (met : Met) (now : Around) → IsComing target a first bank frames next met now
+  pub coming_room : (target : Read Form) (a : Around) (first bank : Nodes) (frames : List Frame) (next : Step) (met : Met) (now : Around)
+      → IsComing target a first bank frames next met now
       → HasRoom target.met → HasRoom (comes g bank now next met).met
-  coming_room target a first bank frames next met now w r = room_before (subst (λ t. Longer (comes g bank now next met).met t.met) w.means (longer_wrapped bank a frames (comes g bank now next met))) r
+  coming_room target a first bank frames next met now w r = room_before
+      (subst (λ t. Longer (comes g bank now next met).met t.met) w.means (longer_wrapped bank a frames (comes g bank now next met))) r
 
   module _ (target : Read Form) (a : Around) (first : Nodes) where
-    advanced : (old new : Nodes) (was : Read Form) (left : ℕ) (frames later : List Frame) (next : Step) (met : Met) (now : Around) → wrapped g old a frames was ≡ target → FramesFit g old frames
-        → Advances g new (within_all g a frames) was left frames later next met now → Extends first old → Extends old new → IsComing target a first new later next met now
+    advanced : (old new : Nodes) (was : Read Form) (left : ℕ) (frames later : List Frame) (next : Step) (met : Met) (now : Around)
+        → wrapped g old a frames was ≡ target → FramesFit g old frames
+        → Advances g new (within_all g a frames) was left frames later next met now → Extends first old → Extends old new
+        → IsComing target a first new later next met now
     advanced old new was left frames later next met now w fits d keeps more = record {
       means =
           ap (λ fs. wrapped g new a fs (comes g new now next met)) d.waiting
-          ∙ (wrapped-append new a frames d.pushed (comes g new now next met) ∙ (ap (wrapped g new a frames) d.means ∙ (wrapped_extends more a frames was fits ∙ w)));
+          ∙ (wrapped-append new a frames d.pushed (comes g new now next met)
+          ∙ (ap (wrapped g new a frames) d.means ∙ (wrapped_extends more a frames was fits ∙ w)));
       standing = d.standing ∙ (sym (within-append a frames d.pushed) ∙ ap (within_all g a) (sym d.waiting));
       fits = subst (FramesFit g new) (sym d.waiting) (fit-append new frames d.pushed (fits_extend more frames fits) d.fits);
       step = d.step;
       keeps = Extends-trans keeps more;
     }
 
-    pub coming_begun : (old new : Nodes) (frames later : List Frame) (at : RawAt) (next : Step) (met met' : Met) (now now' : Around) → IsComing target a first old frames (step.Read at) met now
-        → Advances g new now (built_form g.modules now met (raw_at g.texts g.forms at.0)) (5 * weight (raw_at g.texts g.forms at.0)) frames later next met' now' → Extends old new
+    pub coming_begun : (old new : Nodes) (frames later : List Frame) (at : RawAt) (next : Step) (met met' : Met) (now now' : Around)
+        → IsComing target a first old frames (step.Read at) met now
+        → Advances g new now (built_form g.modules now met (raw_at g.texts g.forms at.0)) (5 * weight (raw_at g.texts g.forms at.0)) frames later next met' now'
+        → Extends old new
         → IsComing target a first new later next met' now'
     coming_begun old new frames later at next met met' now now' w d more =
         let was = built_form g.modules now met (raw_at g.texts g.forms at.0) in
         advanced old new was (5 * weight (raw_at g.texts g.forms at.0)) frames later next met' now' w.means w.fits
         (subst (λ x. Advances g new x was (5 * weight (raw_at g.texts g.forms at.0)) frames later next met' now') w.standing d) w.keeps more
 
-    pub less_coming : (new : Nodes) (b : Around) (was : Read Form) (left : ℕ) (frames later : List Frame) (next : Step) (met : Met) (now : Around) → Advances g new b was left frames later next met now
+    pub less_coming : (new : Nodes) (b : Around) (was : Read Form) (left : ℕ) (frames later : List Frame) (next : Step) (met : Met) (now : Around)
+        → Advances g new b was left frames later next met now
         → frames_left g later + step_left g next < frames_left g frames + left
     less_coming new b was left frames later next met now d = let i = d.less in rw d.waiting (omega (arith, left-append frames d.pushed))
 
     -- what was round a front that is taken off
-    pub taken_around : (old : Nodes) (frames rest : List Frame) (f : Frame) (t : FormAt) (met : Met) (now : Around) → IsComing target a first old frames (step.Give t) met now → frames ≡ rest ++ f ∷ [] → now ≡ within g (within_all g a rest) f
+    pub taken_around : (old : Nodes) (frames rest : List Frame) (f : Frame) (t : FormAt) (met : Met) (now : Around)
+        → IsComing target a first old frames (step.Give t) met now → frames ≡ rest ++ f ∷ [] → now ≡ within g (within_all g a rest) f
     taken_around old frames rest f t met now w e = w.standing ∙ (ap (within_all g a) e ∙ within-append a rest (f ∷ []))
 
-    pub taken_fits : (old : Nodes) (frames rest : List Frame) (f : Frame) (t : FormAt) (met : Met) (now : Around) → IsComing target a first old frames (step.Give t) met now → frames ≡ rest ++ f ∷ [] → FrameFits g old f
+    pub taken_fits : (old : Nodes) (frames rest : List Frame) (f : Frame) (t : FormAt) (met : Met) (now : Around)
+        → IsComing target a first old frames (step.Give t) met now → frames ≡ rest ++ f ∷ [] → FrameFits g old f
     taken_fits old frames rest f t met now w e = (fit-before old rest (f ∷ []) (subst (FramesFit g old) e w.fits)).1.0
 
-    pub coming_given : (old new : Nodes) (frames rest later : List Frame) (f : Frame) (t : FormAt) (next : Step) (met : Met) (now now' : Around) → IsComing target a first old frames (step.Give t) met now
-        → frames ≡ rest ++ f ∷ [] → Advances g new (within_all g a rest) (wraps g old (within_all g a rest) f (record { it = form_tree old t.0; met = met })) (frame_left g f + 2) rest later next met now'
+    pub coming_given : (old new : Nodes) (frames rest later : List Frame) (f : Frame) (t : FormAt) (next : Step) (met : Met) (now now' : Around)
+        → IsComing target a first old frames (step.Give t) met now
+        → frames ≡ rest ++ f ∷ [] → Advances g new (within_all g a rest) (wraps g old (within_all g a rest) f (record { it = form_tree old t.0; met = met }))
+        (frame_left g f + 2) rest later next met now'
         → Extends old new → IsComing target a first new later next met now'
     coming_given old new frames rest later f t next met now now' w e d more =
         let here : Read Form = record { it = form_tree old t.0; met = met } in
         advanced old new (wraps g old (within_all g a rest) f here) (frame_left g f + 2) rest later next met now'
-        (sym (wrapped-append old a rest (f ∷ []) here) ∙ (ap (λ fs. wrapped g old a fs here) (sym e) ∙ w.means)) (fit-before old rest (f ∷ []) (subst (FramesFit g old) e w.fits)).0 d w.keeps more
+        (sym (wrapped-append old a rest (f ∷ []) here) ∙ (ap (λ fs. wrapped g old a fs here) (sym e) ∙ w.means))
+        (fit-before old rest (f ∷ []) (subst (FramesFit g old) e w.fits)).0 d w.keeps more
 
     pub less_taken : (frames rest : List Frame) (f : Frame) → frames ≡ rest ++ f ∷ [] → frames_left g frames ≡ frames_left g rest + frame_left g f
     less_taken frames rest f e = rw e (omega (arith, left-append rest (f ∷ [])))
 
-    pub coming_ends : (bank : Nodes) (frames : List Frame) (t : FormAt) (met : Met) (now : Around) → IsComing target a first bank frames (step.Give t) met now → frames ≡ [] → ShowsForm bank t.0 target.it × (met ≡ target.met) × (now ≡ a)
+    pub coming_ends : (bank : Nodes) (frames : List Frame) (t : FormAt) (met : Met) (now : Around) → IsComing target a first bank frames (step.Give t) met now
+        → frames ≡ [] → ShowsForm bank t.0 target.it × (met ≡ target.met) × (now ≡ a)
     coming_ends bank frames t met now w e =
-        let m : record { it = form_tree bank t.0; met = met } ≡ target = sym (ap (λ fs. wrapped g bank a fs (record { it = form_tree bank t.0; met = met })) e) ∙ w.means in
+        let m : record { it = form_tree bank t.0; met = met } ≡ target =
+        sym (ap (λ fs. wrapped g bank a fs (record { it = form_tree bank t.0; met = met })) e) ∙ w.means in
         (record { inside = w.step; tree = ap (λ x. x.it) m }, ap (λ x. x.met) m, w.standing ∙ ap (within_all g a) e)
 
 -- ---- what is round a part
@@ -218,8 +242,10 @@ module _ (g : Ground) where
   within_high a (frame.Right o f ∷ fs) = omega (arith, within_high a fs)
   within_high a (frame.Load m ts ∷ fs) = omega (arith, within_high a fs)
 
-  pub stands_now : (texts : List (List ℕ)) (binders : Scoped) (place : Place) (a : Around) (fs : List Frame) (left : ℕ) → IsDistinct bytes_eq texts → binders.texts ≡ texts → around place binders.scope ≡ within_all g a fs
-      → a.depth ≤ length a.scope → frames_left g fs + left < 4294967296 - (length a.scope + unwrap_or a.quantified 0) → StandsIn texts binders place × (length binders.scope + unwrap_or place.quantified 0 + left < 2 ^ 32)
+  pub stands_now : (texts : List (List ℕ)) (binders : Scoped) (place : Place) (a : Around) (fs : List Frame) (left : ℕ) → IsDistinct bytes_eq texts
+      → binders.texts ≡ texts → around place binders.scope ≡ within_all g a fs
+      → a.depth ≤ length a.scope → frames_left g fs + left < 4294967296 - (length a.scope + unwrap_or a.quantified 0)
+      → StandsIn texts binders place × (length binders.scope + unwrap_or place.quantified 0 + left < 2 ^ 32)
   stands_now texts binders place a fs left distinct same e deep low =
       let q : unwrap_or place.quantified 0 ≡ unwrap_or a.quantified 0 = ap (λ o. unwrap_or o 0) (ap (λ x. x.quantified) e ∙ within_quantified a fs) in
       let d : place.depth ≡ (within_all g a fs).depth = ap (λ x. x.depth) e in
@@ -229,20 +255,23 @@ module _ (g : Ground) where
       (record { distinct = distinct; same = same; depth = omega arith; room = omega arith }, omega arith)
 
 -- into a quantifier
-pub entered_around : (p later : Place) (s t : Scoped) (texts : List (List ℕ)) (n : ℕ) → later ≡ record p { depth = p.depth + 1 } → t ≡ record s { scope = record { text = text_of s.texts n; local = false } ∷ s.scope } → s.texts ≡ texts
+pub entered_around : (p later : Place) (s t : Scoped) (texts : List (List ℕ)) (n : ℕ) → later ≡ record p { depth = p.depth + 1 }
+    → t ≡ record s { scope = record { text = text_of s.texts n; local = false } ∷ s.scope } → s.texts ≡ texts
     → around later t.scope ≡ inside (text_of texts n) (around p s.scope)
 entered_around p later s t texts n is e same =
     let d : later.depth ≡ suc p.depth = (let i = ap (λ x. x.depth) is in omega arith) in
     let u : t.scope ≡ binds (text_of texts n) ∷ s.scope = ap (λ x. x.scope) e ∙ ap (λ ts. binds (text_of ts n) ∷ s.scope) same in
     λ i. record { quantified = (is i).quantified; depth = d i; scope = u i }
 
-pub load_read : (places : List ℕ → ℕ) (a : Around) (met later : Met) (r : Raw) (at : _) (m : _) (args : _) (body : Raw) (k : ℕ) (us : List Term) → r ≡ load at m args body → k ≡ places m.text
+pub load_read : (places : List ℕ → ℕ) (a : Around) (met later : Met) (r : Raw) (at : _) (m : _) (args : _) (body : Raw) (k : ℕ) (us : List Term)
+    → r ≡ load at m args body → k ≡ places m.text
     → us ≡ (built_terms a met (arguments r)).it → later ≡ (built_terms a met (arguments r)).met
     → (let t = built_form places a later body in let x : Read Form = record { it = Use k us t.it; met = t.met } in x) ≡ built_form places a met r
 load_read places a met later r at m args body k us is first shown met_is =
     let u : us ≡ (built_terms a met args).it = shown ∙ ap (λ x. (built_terms a met (arguments x)).it) is in
     let h : later ≡ (built_terms a met args).met = met_is ∙ ap (λ x. (built_terms a met (arguments x)).met) is in
-    (λ i. let t = built_form places a (h i) body in let x : Read Form = record { it = Use (first i) (u i) t.it; met = t.met } in x) ∙ ap (built_form places a met) (sym is)
+    (λ i. let t = built_form places a (h i) body in let x : Read Form = record { it = Use (first i) (u i) t.it; met = t.met } in x)
+    ∙ ap (built_form places a met) (sym is)
 
 pub has_parts : (g : Ground) (bank : Nodes) (f : Frame) → FrameFits g bank f → FrameHas bank f
 has_parts g bank frame.Braces h = tt

@@ -1,5 +1,6 @@
 -- What is left of a walk after terms and faults were put next.
-use Rattle.std.proofs.Common.{◌≡◌, ℕ, suc, ◌+◌, ◌*◌, ◌<◌, ◌≤◌, Bool, true, false, true≢false, List, [], ◌∷◌, ◌++◌, length, map, Option, Some, None, slice_get, refl, sym, subst, ap, ◌∙◌, arith, append_assoc}
+use Rattle.std.proofs.Common.{◌≡◌, ℕ, suc, ◌+◌, ◌*◌, ◌<◌, ◌≤◌, Bool, true, false, true≢false, List, [], ◌∷◌, ◌++◌, length, map, Option, Some, None, slice_get}
+use Rattle.std.proofs.Common.{refl, sym, subst, ap, ◌∙◌, arith, append_assoc}
 use Rattle.std.specs.Prelude.{option_to_list, find, ◌==◌}
 use Rattle.std.specs.HashMap.{HashMap}
 use Rattle.std.specs.declared.hash.FoldHasher.{FoldHasher}
@@ -21,7 +22,8 @@ use Rattle.ll_polarity.specs.declared.pending.Side as code
 use Rattle.ll_polarity.specs.declared.pending.Part.{Part}
 use Rattle.ll_polarity.specs.declared.pending.Part.TheVariants.{Form, Term, Found}
 use Rattle.ll_polarity.specs.Scope.{Scope, meaning}
-use Rattle.ll_polarity.specs.Faults.{Heading, unless, may_be_head, count, applied_fault, term_faults, terms_faults, on_goal_side, is_named, load_fault, form_faults}
+use Rattle.ll_polarity.specs.Faults.{Heading, unless, may_be_head, count, applied_fault, term_faults, terms_faults, on_goal_side, is_named, load_fault}
+use Rattle.ll_polarity.specs.Faults.{form_faults}
 use Rattle.ll_polarity.specs.Headings.{AreFound}
 use Rattle.ll_polarity.specs.Named.{IsNamed, AreNamed}
 use Rattle.ll_polarity.specs.Pending.{side_of, size, sizes, scope_after, pending_faults, IsReady, AreReady, pending_size, IsOpened}
@@ -51,7 +53,8 @@ module _ (texts : List (List ℕ)) (nodes : List Node) where
   abbrev trees : List Raw
   trees = raw_trees texts nodes
 
-  faults-found : (ms : List Heading) (scope : Scope) (fs : List Fault) (ps : List Part) → pending_faults texts nodes ms scope (map Found fs ++ ps) ≡ fs ++ pending_faults texts nodes ms scope ps
+  faults-found : (ms : List Heading) (scope : Scope) (fs : List Fault) (ps : List Part)
+      → pending_faults texts nodes ms scope (map Found fs ++ ps) ≡ fs ++ pending_faults texts nodes ms scope ps
   faults-found ms scope [] ps = refl
   faults-found ms scope (f ∷ fs) ps = ap (λ gs. f ∷ gs) (faults-found ms scope fs ps)
 
@@ -70,14 +73,17 @@ module _ (texts : List (List ℕ)) (nodes : List Node) where
   faults-terms ms scope [] ps = refl
   faults-terms ms scope (a ∷ args) ps =
       let x = term_faults scope (raw_at texts nodes a.0) in
-      ap (λ gs. x ++ gs) (faults-terms ms scope args ps) ∙ sym (append_assoc x (terms_faults scope (raws_in trees (places args))) (pending_faults texts nodes ms scope ps))
+      ap (λ gs. x ++ gs) (faults-terms ms scope args ps) ∙ sym
+      (append_assoc x (terms_faults scope (raws_in trees (places args))) (pending_faults texts nodes ms scope ps))
 
-  ready-terms : (at : ℕ) (args : List RawAt) (ps : List Part) → at < length nodes → AllByRecursion (λ (a : RawAt). a.0 < at) args → AreNamed (raws_in trees (places args)) → AreReady texts nodes ps
+  ready-terms : (at : ℕ) (args : List RawAt) (ps : List Part) → at < length nodes → AllByRecursion (λ (a : RawAt). a.0 < at) args
+      → AreNamed (raws_in trees (places args)) → AreReady texts nodes ps
       → AreReady texts nodes (map Term args ++ ps)
   ready-terms at [] ps l below named h = h
   ready-terms at (a ∷ args) ps l below named h = let b = below.0 in ((omega arith, named.0), ready-terms at args ps l below.1 named.1 h)
 
-  size-terms : (args : List RawAt) (ps : List Part) → pending_size texts nodes (map Term args ++ ps) ≡ 3 * sizes (raws_in trees (places args)) + pending_size texts nodes ps
+  size-terms : (args : List RawAt) (ps : List Part) → pending_size texts nodes (map Term args ++ ps) ≡ 3 * sizes (raws_in trees (places args))
+      + pending_size texts nodes ps
   size-terms [] ps = omega arith
   size-terms (a ∷ args) ps = let i = size-terms args ps in omega arith
 
@@ -87,7 +93,8 @@ module _ (texts : List (List ℕ)) (nodes : List Node) where
 
   module _ (params : HashMap (Bor (List ℕ)) ℕ (BuildHasherDefault FoldHasher)) where
     -- the fault of a name with arguments
-    pub applied-none : (scope : Scope) (n : Named) (args : List RawAt) → (length args == 0) ≡ true → unless true 9 n.at ≡ applied_fault scope (identifier texts n) (raws_in trees (places args))
+    pub applied-none : (scope : Scope) (n : Named) (args : List RawAt) → (length args == 0) ≡ true
+        → unless true 9 n.at ≡ applied_fault scope (identifier texts n) (raws_in trees (places args))
     applied-none scope n [] e = refl
     applied-none scope n (a ∷ args) e = let l = (Decides-eqb (length (a ∷ args)) 0).0 e in absurd (let h : suc (length args) ≡ 0 = l in omega arith)
 
@@ -97,53 +104,72 @@ module _ (texts : List (List ℕ)) (nodes : List Node) where
     applied-some scope n (a ∷ args) e = refl
 
     -- a name with arguments, after faults of its own
-    opened-args : (scope : Scope) (at : ℕ) (n : Named) (args : List RawAt) (fs : List Fault) (old : List Part) → at < length nodes → AllByRecursion (λ (a : RawAt). a.0 < at) args
+    opened-args : (scope : Scope) (at : ℕ) (n : Named) (args : List RawAt) (fs : List Fault) (old : List Part) → at < length nodes
+        → AllByRecursion (λ (a : RawAt). a.0 < at) args
         → AreNamed (raws_in trees (places args)) → length fs ≤ 1
-        → IsOpened texts nodes params (λ ms. fs ++ terms_faults scope (raws_in trees (places args))) (3 * size (head (identifier texts n) (raws_in trees (places args)))) scope old scope (map Found fs ++ (map Term args ++ old))
+        → IsOpened texts nodes params (λ ms. fs ++ terms_faults scope (raws_in trees (places args)))
+        (3 * size (head (identifier texts n) (raws_in trees (places args)))) scope old scope (map Found fs ++ (map Term args ++ old))
     opened-args scope at n args fs old l below named few = record {
       faults_stay = λ ms known.
           faults-found ms scope fs (map Term args ++ old)
-          ∙ (ap (λ gs. fs ++ gs) (faults-terms ms scope args old) ∙ sym (append_assoc fs (terms_faults scope (raws_in trees (places args))) (pending_faults texts nodes ms scope old)));
+          ∙ (ap (λ gs. fs ++ gs) (faults-terms ms scope args old)
+          ∙ sym (append_assoc fs (terms_faults scope (raws_in trees (places args))) (pending_faults texts nodes ms scope old)));
       ready = λ h. ready-found fs (map Term args ++ old) (ready-terms at args old l below named h);
       scope_stays = scope-found scope fs (map Term args ++ old) ∙ scope-terms scope args old;
       smaller = let i = size-found fs (map Term args ++ old) in let j = size-terms args old in omega arith;
     }
 
     -- an atom
-    pub opened-head : (side : code.Side) (scope : Scope) (at : RawAt) (n : Named) (args : Bor (List RawAt)) (old new : List Part) → IsReady texts nodes at → IsRawNode nodes at.0 (seen.Head n args)
+    pub opened-head : (side : code.Side) (scope : Scope) (at : RawAt) (n : Named) (args : Bor (List RawAt)) (old new : List Part) → IsReady texts nodes at
+        → IsRawNode nodes at.0 (seen.Head n args)
         → new ≡ map Found (unless (may_be_head (meaning scope (identifier texts n).text)) 9 n.at) ++ (map Term args.now ++ old)
-        → IsOpened texts nodes params (λ ms. form_faults ms (side_of side) scope (raw_at texts nodes at.0)) (3 * size (raw_at texts nodes at.0)) scope old scope new
+        → IsOpened texts nodes params (λ ms. form_faults ms (side_of side) scope (raw_at texts nodes at.0)) (3 * size (raw_at texts nodes at.0)) scope old scope
+        new
     opened-head side scope at n args old new ready node is =
         let r = head (identifier texts n) (raws_in trees (places args.now)) in
         let named : IsNamed r = subst IsNamed (node.tree texts) ready.1 in
-        subst (λ z. IsOpened texts nodes params (λ ms. form_faults ms (side_of side) scope (raw_at texts nodes at.0)) (3 * size (raw_at texts nodes at.0)) scope old scope z) (sym is)
-        (subst (λ z. IsOpened texts nodes params (λ ms. form_faults ms (side_of side) scope z) (3 * size z) scope old scope (map Found (unless (may_be_head (meaning scope (identifier texts n).text)) 9 n.at) ++ (map Term args.now ++ old)))
+        subst (λ z. IsOpened texts nodes params (λ ms. form_faults ms (side_of side) scope (raw_at texts nodes at.0)) (3 * size (raw_at texts nodes at.0)) scope
+        old scope z) (sym is)
+        (subst (λ z. IsOpened texts nodes params (λ ms. form_faults ms (side_of side) scope z) (3 * size z) scope old scope
+        (map Found (unless (may_be_head (meaning scope (identifier texts n).text)) 9 n.at) ++ (map Term args.now ++ old)))
         (sym (node.tree texts))
-        (opened-args scope at.0 n args.now (unless (may_be_head (meaning scope (identifier texts n).text)) 9 n.at) old ready.0 (recursion_from_All (λ (a : RawAt). a.0 < at.0) args.now node.parts) named.1
+        (opened-args scope at.0 n args.now (unless (may_be_head (meaning scope (identifier texts n).text)) 9 n.at) old ready.0
+        (recursion_from_All (λ (a : RawAt). a.0 < at.0) args.now node.parts) named.1
         (unless-few (may_be_head (meaning scope (identifier texts n).text)) 9 n.at)))
 
     -- a term with arguments or without
-    pub opened-term : (scope : Scope) (at : RawAt) (n : Named) (args : Bor (List RawAt)) (fits : Bool) (old new : List Part) → IsReady texts nodes at → IsRawNode nodes at.0 (seen.Head n args)
+    pub opened-term : (scope : Scope) (at : RawAt) (n : Named) (args : Bor (List RawAt)) (fits : Bool) (old new : List Part) → IsReady texts nodes at
+        → IsRawNode nodes at.0 (seen.Head n args)
         → unless fits 9 n.at ≡ applied_fault scope (identifier texts n) (raws_in trees (places args.now))
         → new ≡ map Found (unless fits 9 n.at) ++ (map Term args.now ++ old)
         → IsOpened texts nodes params (λ ms. term_faults scope (raw_at texts nodes at.0)) (3 * size (raw_at texts nodes at.0)) scope old scope new
     opened-term scope at n args fits old new ready node fault is =
         let r = head (identifier texts n) (raws_in trees (places args.now)) in
         let named : IsNamed r = subst IsNamed (node.tree texts) ready.1 in
-        subst (λ z. IsOpened texts nodes params (λ ms. term_faults scope (raw_at texts nodes at.0)) (3 * size (raw_at texts nodes at.0)) scope old scope z) (sym is)
-        (subst (λ z. IsOpened texts nodes params (λ ms. term_faults scope z) (3 * size z) scope old scope (map Found (unless fits 9 n.at) ++ (map Term args.now ++ old))) (sym (node.tree texts))
-        (subst (λ fs. IsOpened texts nodes params (λ ms. fs ++ terms_faults scope (raws_in trees (places args.now))) (3 * size r) scope old scope (map Found (unless fits 9 n.at) ++ (map Term args.now ++ old))) fault
-        (opened-args scope at.0 n args.now (unless fits 9 n.at) old ready.0 (recursion_from_All (λ (a : RawAt). a.0 < at.0) args.now node.parts) named.1 (unless-few fits 9 n.at))))
+        subst (λ z. IsOpened texts nodes params (λ ms. term_faults scope (raw_at texts nodes at.0)) (3 * size (raw_at texts nodes at.0)) scope old scope z)
+        (sym is)
+        (subst (λ z. IsOpened texts nodes params (λ ms. term_faults scope z) (3 * size z) scope old scope
+        (map Found (unless fits 9 n.at) ++ (map Term args.now ++ old))) (sym (node.tree texts))
+        (subst (λ fs. IsOpened texts nodes params (λ ms. fs ++ terms_faults scope (raws_in trees (places args.now))) (3 * size r) scope old scope
+        (map Found (unless fits 9 n.at) ++ (map Term args.now ++ old))) fault
+        (opened-args scope at.0 n args.now (unless fits 9 n.at) old ready.0 (recursion_from_All (λ (a : RawAt). a.0 < at.0) args.now node.parts) named.1
+        (unless-few fits 9 n.at))))
 
     -- a load
-    pub opened-load : (side : code.Side) (scope : Scope) (at : RawAt) (n : Named) (args : Bor (List RawAt)) (goal : RawAt) (o : Option Fault) (text : List ℕ) (place : Place) (old new : List Part)
-        → IsReady texts nodes at → IsRawNode nodes at.0 (seen.Load n args goal) → slice_get texts n.name ≡ Some text → place ≡ raw_place (raw_at texts nodes at.0)
-        → ((ms : List Heading) → AreFound params ms → option_to_list o ≡ load_fault (find (is_named text) ms) (record { text = text; at = n.at }) (length args.now))
+    pub opened-load : (side : code.Side) (scope : Scope) (at : RawAt) (n : Named) (args : Bor (List RawAt)) (goal : RawAt) (o : Option Fault) (text : List ℕ)
+        (place : Place) (old new : List Part)
+        → IsReady texts nodes at → IsRawNode nodes at.0 (seen.Load n args goal) → slice_get texts n.name ≡ Some text
+        → place ≡ raw_place (raw_at texts nodes at.0)
+        → ((ms : List Heading) → AreFound params ms → option_to_list o
+        ≡ load_fault (find (is_named text) ms) (record { text = text; at = n.at }) (length args.now))
         → new ≡ map Found (option_to_list o) ++ (map Term args.now ++ (map Found (unless (on_goal_side (side_of side)) 8 place) ++ Form side goal ∷ old))
-        → IsOpened texts nodes params (λ ms. form_faults ms (side_of side) scope (raw_at texts nodes at.0)) (3 * size (raw_at texts nodes at.0)) scope old scope new
+        → IsOpened texts nodes params (λ ms. form_faults ms (side_of side) scope (raw_at texts nodes at.0)) (3 * size (raw_at texts nodes at.0)) scope old scope
+        new
     opened-load side scope at n args goal o text place old new ready node there stands fault is =
-        subst (λ z. IsOpened texts nodes params (λ ms. form_faults ms (side_of side) scope (raw_at texts nodes at.0)) (3 * size (raw_at texts nodes at.0)) scope old scope z) (sym is)
-        (subst (λ z. IsOpened texts nodes params (λ ms. form_faults ms (side_of side) scope z) (3 * size z) scope old scope (map Found first ++ (map Term args.now ++ (map Found second ++ Form side goal ∷ old)))) (sym (node.tree texts)) opened)
+        subst (λ z. IsOpened texts nodes params (λ ms. form_faults ms (side_of side) scope (raw_at texts nodes at.0)) (3 * size (raw_at texts nodes at.0)) scope
+        old scope z) (sym is)
+        (subst (λ z. IsOpened texts nodes params (λ ms. form_faults ms (side_of side) scope z) (3 * size z) scope old scope
+        (map Found first ++ (map Term args.now ++ (map Found second ++ Form side goal ∷ old)))) (sym (node.tree texts)) opened)
       where
         first : List Fault
         first = option_to_list o
@@ -157,26 +183,33 @@ module _ (texts : List (List ℕ)) (nodes : List Node) where
         r : Raw
         r = load (raw_place (raw_at texts nodes at.0)) (identifier texts n) (raws_in trees (places args.now)) (raw_at texts nodes goal.0)
 
-        opened : IsOpened texts nodes params (λ ms. form_faults ms (side_of side) scope r) (3 * size r) scope old scope (map Found first ++ (map Term args.now ++ (map Found second ++ Form side goal ∷ old)))
+        opened : IsOpened texts nodes params (λ ms. form_faults ms (side_of side) scope r) (3 * size r) scope old scope
+            (map Found first ++ (map Term args.now ++ (map Found second ++ Form side goal ∷ old)))
         opened = record {
           faults_stay = λ ms known.
-              let tf = terms_faults scope rs in let ff = form_faults ms (side_of side) scope (raw_at texts nodes goal.0) in let after = pending_faults texts nodes ms scope old in
+              let tf = terms_faults scope rs in let ff = form_faults ms (side_of side) scope (raw_at texts nodes goal.0) in
+              let after = pending_faults texts nodes ms scope old in
               let lf = load_fault (find (is_named (identifier texts n).text) ms) (identifier texts n) (count rs) in
               let own : first ≡ lf =
               fault ms known
-              ∙ (ap (λ t. load_fault (find (is_named t) ms) (record { text = t; at = n.at }) (length args.now)) (sym (get_or_from_slice_get texts n.name text [] there))
+              ∙ (ap (λ t. load_fault (find (is_named t) ms) (record { text = t; at = n.at }) (length args.now))
+              (sym (get_or_from_slice_get texts n.name text [] there))
               ∙ ap (load_fault (find (is_named (identifier texts n).text) ms) (identifier texts n)) (sym (count-raws args.now))) in
               faults-found ms scope first (map Term args.now ++ (map Found second ++ Form side goal ∷ old))
-              ∙ (ap (λ gs. first ++ gs) (faults-terms ms scope args.now (map Found second ++ Form side goal ∷ old) ∙ ap (λ gs. tf ++ gs) (faults-found ms scope second (Form side goal ∷ old)))
+              ∙ (ap (λ gs. first ++ gs) (faults-terms ms scope args.now (map Found second ++ Form side goal ∷ old)
+              ∙ ap (λ gs. tf ++ gs) (faults-found ms scope second (Form side goal ∷ old)))
               ∙ (five first tf second ff after
               ∙ (ap (λ gs. gs ++ tf ++ second ++ ff ++ after) own ∙ ap (λ p. lf ++ tf ++ unless (on_goal_side (side_of side)) 8 p ++ ff ++ after) stands)));
           ready = λ h.
               let named : IsNamed r = subst IsNamed (node.tree texts) ready.1 in let b = node.parts.1 in let l = ready.0 in
               ready-found first (map Term args.now ++ (map Found second ++ Form side goal ∷ old))
-              (ready-terms at.0 args.now (map Found second ++ Form side goal ∷ old) ready.0 (recursion_from_All (λ (a : RawAt). a.0 < at.0) args.now node.parts.0) named.1
+              (ready-terms at.0 args.now (map Found second ++ Form side goal ∷ old) ready.0
+              (recursion_from_All (λ (a : RawAt). a.0 < at.0) args.now node.parts.0) named.1
               (ready-found second (Form side goal ∷ old) ((omega arith, named.2), h)));
-          scope_stays = scope-found scope first (map Term args.now ++ (map Found second ++ Form side goal ∷ old)) ∙ (scope-terms scope args.now (map Found second ++ Form side goal ∷ old) ∙ scope-found scope second (Form side goal ∷ old));
+          scope_stays = scope-found scope first (map Term args.now ++ (map Found second ++ Form side goal ∷ old))
+              ∙ (scope-terms scope args.now (map Found second ++ Form side goal ∷ old) ∙ scope-found scope second (Form side goal ∷ old));
           smaller =
-              let i = size-found first (map Term args.now ++ (map Found second ++ Form side goal ∷ old)) in let j = size-terms args.now (map Found second ++ Form side goal ∷ old) in let k = size-found second (Form side goal ∷ old) in
+              let i = size-found first (map Term args.now ++ (map Found second ++ Form side goal ∷ old)) in
+              let j = size-terms args.now (map Found second ++ Form side goal ∷ old) in let k = size-found second (Form side goal ∷ old) in
               let a = option-few o in let b = unless-few (on_goal_side (side_of side)) 8 place in omega arith;
         }

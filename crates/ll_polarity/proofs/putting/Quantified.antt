@@ -1,5 +1,6 @@
 -- A clause with its variables quantified over it holds no variable, and is as good as before.
-use Rattle.std.proofs.Common.{◌≡◌, ℕ, zero, suc, ◌+◌, ◌-◌, ◌<◌, ◌≤◌, Bool, true, false, List, [], ◌∷◌, ◌++◌, map, length, slice_get, if◌then◌else◌, refl, subst, ap, ◌∙◌, arith, length-append, inl, inr}
+use Rattle.std.proofs.Common.{◌≡◌, ℕ, zero, suc, ◌+◌, ◌-◌, ◌<◌, ◌≤◌, Bool, true, false, List, [], ◌∷◌, ◌++◌, map, length, slice_get, if◌then◌else◌, refl}
+use Rattle.std.proofs.Common.{subst, ap, ◌∙◌, arith, length-append, inl, inr}
 use Rattle.std.specs.Prelude.{nat_lt, replicate, slice_index_or}
 use Rattle.std.specs.List.{list_all}
 use Rattle.std.proofs.lemmas.Bool.{ltb-true, lt-ltb, le-ltb, cases_lt}
@@ -49,7 +50,8 @@ length_past n scope = length-append (replicate n false) scope ∙ ap (λ z. z + 
 
 moves_all : (n : ℕ) (scope : Scope) → Moves n 0 scope (replicate n false ++ scope)
 moves_all n scope = record {
-  place = λ k h. (let l = ltb-true k (length scope) h in rw (moved_far n 0 k (omega arith), length_past n scope) (lt-ltb (k + n) (n + length scope) (omega arith)));
+  place = λ k h. (let l = ltb-true k (length scope) h in rw (moved_far n 0 k (omega arith), length_past n scope)
+      (lt-ltb (k + n) (n + length scope) (omega arith)));
   may = λ k h. (rw (moved_far n 0 k (omega arith)) (past_none n scope k (k + n) refl ∙ h));
   variable = λ x h. (let l = ltb-true x n h in rw (length_past n scope) (lt-ltb (0 + (n - suc x)) (n + length scope) (omega arith)));
 }
@@ -91,11 +93,13 @@ module _ (modules : List ModuleTree) (n : ℕ) where
   bound_fit d inner outer (Con (Bound k)) m h = m.place k h
   bound_fit d inner outer (Ap f a) m h = (bound_head d inner outer f m h.0, bound_fit d inner outer f m h.1, bound_fit d inner outer a m h.2)
 
-  bound_fits : (d : ℕ) (inner outer : Scope) (ts : List Term) → Moves n d inner outer → AllFit (given modules n) inner ts → AllFit (given modules 0) outer (map (bind_term n d) ts)
+  bound_fits : (d : ℕ) (inner outer : Scope) (ts : List Term) → Moves n d inner outer → AllFit (given modules n) inner ts
+      → AllFit (given modules 0) outer (map (bind_term n d) ts)
   bound_fits d inner outer [] m h = tt
   bound_fits d inner outer (t ∷ ts) m h = (bound_fit d inner outer t m h.0, bound_fits d inner outer ts m h.1)
 
-  bound_form : (d : ℕ) (side : Side) (inner outer : Scope) (f : Form) → Moves n d inner outer → Fits (given modules n) side inner f → Fits (given modules 0) side outer (bind_form n d f)
+  bound_form : (d : ℕ) (side : Side) (inner outer : Scope) (f : Form) → Moves n d inner outer → Fits (given modules n) side inner f
+      → Fits (given modules 0) side outer (bind_form n d f)
   bound_form d side inner outer Top m h = tt
   bound_form d side inner outer One m h = h
   bound_form d side inner outer (Atom a) m h = (bound_head d inner outer a m h.0, bound_fit d inner outer a m h.1)
@@ -108,8 +112,12 @@ module _ (modules : List ModuleTree) (n : ℕ) where
   bound_form d side inner outer (Forall f) m h =
       bound_form (suc d) side (opens_on false side ∷ inner) (opens_on false side ∷ outer) f (moves_under n d (opens_on false side) inner outer m) h
   bound_form d side inner outer (Exists f) m h = (h.0, bound_form (suc d) side (false ∷ inner) (false ∷ outer) f (moves_under n d false inner outer m) h.1)
-  bound_form d side inner outer (Use k ts f) m h =
-      (h.0, fits_module-length (slice_get modules k) ts (map (bind_term n d) ts) (length-map ts (bind_term n d)) h.1, bound_fits d inner outer ts m h.2, bound_form d side inner outer f m h.3)
+  bound_form d side inner outer (Use k ts f) m h = (
+    h.0,
+    fits_module-length (slice_get modules k) ts (map (bind_term n d) ts) (length-map ts (bind_term n d)) h.1,
+    bound_fits d inner outer ts m h.2,
+    bound_form d side inner outer f m h.3,
+  )
   bound_form d side inner outer (Num r t u) m h = (h.0, bound_fit d inner outer t m h.1, bound_fit d inner outer u m h.2)
 
 -- ---- tests that binding does not change
@@ -208,12 +216,15 @@ one_inside : (n : ℕ) (scope : Scope) → false ∷ (replicate n false ++ scope
 one_inside zero scope = refl
 one_inside (suc n) scope = ap (λ z. false ∷ z) (one_inside n scope)
 
-forall_all_good : (room : Room) (side : Side) (n : ℕ) (scope : Scope) (f : Form) → IsGood room side (replicate n false ++ scope) f → IsGood room side scope (forall_all n f)
+forall_all_good : (room : Room) (side : Side) (n : ℕ) (scope : Scope) (f : Form) → IsGood room side (replicate n false ++ scope) f
+    → IsGood room side scope (forall_all n f)
 forall_all_good room side zero scope f h = h
-forall_all_good room side (suc n) scope f h = forall_good room side scope (forall_all n f) (forall_all_good room side n (false ∷ scope) f (subst (λ z. IsGood room side z f) (one_inside n scope) h))
+forall_all_good room side (suc n) scope f h = forall_good room side scope (forall_all n f)
+    (forall_all_good room side n (false ∷ scope) f (subst (λ z. IsGood room side z f) (one_inside n scope) h))
 
 -- a formula whose variables are quantified over it
-pub quantified_good : (room : Room) (side : Side) (scope : Scope) (f : Form) → IsGood room side scope f → IsGood (record room { variables = 0 }) side scope (quantified room.variables f)
+pub quantified_good : (room : Room) (side : Side) (scope : Scope) (f : Form) → IsGood room side scope f
+    → IsGood (record room { variables = 0 }) side scope (quantified room.variables f)
 quantified_good room side scope f h =
     let n = room.variables in
     forall_all_good (record room { variables = 0 }) side n scope (bind_form n 0 f)

@@ -37,21 +37,32 @@ modules_stay e ms h = λ k d l. clauses_stay e (get_or ms k d).clauses.items (h 
 abbrev pub shown_part : Nodes → List (List ℕ) → List Module → List Clause → ProgramPart
 shown_part bank names rows cs = record { names = names; modules = map (module_tree bank) rows; clauses = map (clause_tree bank) cs }
 
-modules_shown : (bank : Nodes) (names : List (List ℕ)) (rows : List Module) (cs : List Clause) → modules_of (shown_part bank names rows cs) ≡ map (λ m. text_of names m.name) rows
+modules_shown : (bank : Nodes) (names : List (List ℕ)) (rows : List Module) (cs : List Clause)
+    → modules_of (shown_part bank names rows cs) ≡ map (λ m. text_of names m.name) rows
 modules_shown bank names rows cs = map-map (λ (m : ModuleTree). slice_index_or names m.name []) (module_tree bank) rows
 
-pub headings_shown : (bank : Nodes) (names : List (List ℕ)) (rows seen : List Module) (cs : List Clause) (part : ProgramPart) → seen ≡ rows → shown_part bank names rows cs ≡ part → map (known_heading names) seen ≡ headings_of part
+pub headings_shown : (bank : Nodes) (names : List (List ℕ)) (rows seen : List Module) (cs : List Clause) (part : ProgramPart) → seen ≡ rows
+    → shown_part bank names rows cs ≡ part → map (known_heading names) seen ≡ headings_of part
 headings_shown bank names rows seen cs part same is =
     let heading_of : ModuleTree → Heading = λ m. record { name = slice_index_or names m.name []; params = m.params } in
     ap (map (known_heading names)) same ∙ (sym (map-map heading_of (module_tree bank) rows) ∙ ap headings_of is)
 
 -- the problem that a query asks of it
-pub problem_shown : (old new : Nodes) (names : List (List ℕ)) (rows seen : List Module) (cs : List Clause) (part : ProgramPart) → seen ≡ rows → shown_part old names rows cs ≡ part → HasModules old rows → HasClauses old cs → Extends old new
+pub problem_shown : (old new : Nodes) (names : List (List ℕ)) (rows seen : List Module) (cs : List Clause) (part : ProgramPart) → seen ≡ rows
+    → shown_part old names rows cs ≡ part → HasModules old rows → HasClauses old cs → Extends old new
     → (raw : Raw) (bound : ℕ) (later : List (List ℕ)) (goal : Form) (asked : List (Option ℕ))
     → goal ≡ (read_form (map (λ m. text_of names m.name) seen) [] (record { names = names; variables = [] }) raw).it
     → ((ms : List (List ℕ)) → let met = (read_form ms [] (record { names = names; variables = [] }) raw).met in asked ≡ (read_asked met.names met.variables).it)
-    → ((ms : List (List ℕ)) → let met = (read_form ms [] (record { names = names; variables = [] }) raw).met in later ≡ (read_asked met.names met.variables).names)
-    → (let p : ProblemTree = record { names = later; modules = map (module_tree new) rows; clauses = map (clause_tree new) cs; goal = goal; asked = asked; bound = bound } in p)
+    → ((ms : List (List ℕ)) → let met = (read_form ms [] (record { names = names; variables = [] }) raw).met in
+    later ≡ (read_asked met.names met.variables).names)
+    → (let p : ProblemTree = record {
+      names = later;
+      modules = map (module_tree new) rows;
+      clauses = map (clause_tree new) cs;
+      goal = goal;
+      asked = asked;
+      bound = bound;
+    } in p)
     ≡ problem_with part raw bound
 problem_shown old new names rows seen cs part same view inside has keeps raw bound later goal asked is numbers texts =
     let met : Met = record { names = names; variables = [] } in
@@ -61,7 +72,15 @@ problem_shown old new names rows seen cs part same view inside has keeps raw bou
     let a = numbers ms in
     let m = same_modules keeps rows inside in
     let c = same_clauses keeps cs has in
-    (let e : (let p : ProblemTree = record { names = later; modules = map (module_tree new) rows; clauses = map (clause_tree new) cs; goal = goal; asked = asked; bound = bound } in p)
+    (let e : (let p : ProblemTree = record {
+      names = later;
+      modules = map (module_tree new) rows;
+      clauses = map (clause_tree new) cs;
+      goal = goal;
+      asked =
+          asked;
+      bound = bound;
+    } in p)
     ≡ problem_with (shown_part old names rows cs) raw bound =
     λ i. record { names = n i; modules = m i; clauses = c i; goal = g i; asked = a i; bound = bound } in e)
     ∙ ap (λ x. problem_with x raw bound) view
@@ -69,7 +88,8 @@ problem_shown old new names rows seen cs part same view inside has keeps raw bou
 -- ---- room for the names of a query
 
 pub room_asked : (texts names later : List (List ℕ)) (variables order : List (Option ℕ)) (raw : Raw) → IsWhole queries raw → length names ≤ 16777216
-    → (let m : Met = record { names = later; variables = variables_of texts variables } in m) ≡ (read_form [] [] (record { names = names; variables = [] }) raw).met
+    → (let m : Met = record { names = later; variables = variables_of texts variables } in m)
+    ≡ (read_form [] [] (record { names = names; variables = [] }) raw).met
     → order ≡ variables → length later + length order < 2 ^ 32
 room_asked texts names later variables order raw whole few is same =
     let f = few_form [] [] (record { names = names; variables = [] }) raw in
@@ -78,14 +98,17 @@ room_asked texts names later variables order raw whole few is same =
     let s = ap length same in omega (arith, (small_query raw whole).light)
 
 -- as many texts as modules
-pub few_texts_of : {X : Type 0} (g : X → List ℕ) (texts : List X) (f : Module → List ℕ) (rows : List Module) → map g texts ≡ map f rows → length rows ≤ 16777216 → length texts < 2 ^ 32
+pub few_texts_of : {X : Type 0} (g : X → List ℕ) (texts : List X) (f : Module → List ℕ) (rows : List Module) → map g texts ≡ map f rows → length rows ≤ 16777216
+    → length texts < 2 ^ 32
 few_texts_of g texts f rows is few =
     let a = length-map texts g in let b = length-map rows f in let e = ap length is in omega arith
 
 -- the numbers of a query's variables, and the names after these
 pub asked_shown : (texts names later : List (List ℕ)) (variables order : List (Option ℕ)) (raw : Raw)
-    → ((ms : List (List ℕ)) → (let m : Met = record { names = later; variables = variables_of texts variables } in m) ≡ (read_form ms [] (record { names = names; variables = [] }) raw).met)
+    → ((ms : List (List ℕ)) → (let m : Met = record { names = later; variables = variables_of texts variables } in m)
+    ≡ (read_form ms [] (record { names = names; variables = [] }) raw).met)
     → order ≡ variables → (ms : List (List ℕ))
-    → (let met = (read_form ms [] (record { names = names; variables = [] }) raw).met in read_asked later (variables_of texts order) ≡ read_asked met.names met.variables)
+    → (let met = (read_form ms [] (record { names = names; variables = [] }) raw).met in
+    read_asked later (variables_of texts order) ≡ read_asked met.names met.variables)
 asked_shown texts names later variables order raw is same ms =
     ap (λ vs. read_asked later (variables_of texts vs)) same ∙ ap (λ (m : Met). read_asked m.names m.variables) (is ms)

@@ -9,11 +9,13 @@ use Rattle.ll_laws.specs.Valid.{Side}
 use Rattle.ll_parser.specs.declared.Op.{Op}
 use Rattle.ll_parser.specs.declared.Op.TheVariants as op
 use Rattle.ll_parser.specs.Tokens.{Identifier}
-use Rattle.ll_parser.specs.Raw.{Raw, truth, erasure, braces, universal, existential, load, binary, is_goal, less_goal, most_goal, anything, int, RawList, none, more}
+use Rattle.ll_parser.specs.Raw.{Raw, truth, erasure, braces, universal, existential, load, binary, is_goal, less_goal, most_goal, anything, int, RawList, none}
+use Rattle.ll_parser.specs.Raw.{more}
 use Rattle.ll_parser.specs.Raw as raw
 use Rattle.ll_polarity.specs.Scope.{Meaning, Bound, Local, Free, Constant, meaning, binds}
 use Rattle.ll_polarity.specs.Reading.{Met, Read, read_name, read_term, read_terms, read_number, read_form, joined, module_in}
-use Rattle.ll_polarity.specs.Faults.{Heading, unless, may_be_head, on_goal_side, left_side, right_side, may_join, load_fault, is_named, count, applied_fault, term_faults, terms_faults, number_faults, form_faults}
+use Rattle.ll_polarity.specs.Faults.{Heading, unless, may_be_head, on_goal_side, left_side, right_side, may_join, load_fault, is_named, count, applied_fault}
+use Rattle.ll_polarity.specs.Faults.{term_faults, terms_faults, number_faults, form_faults}
 use Rattle.ll_polarity.specs.Built.{Around, inside, put_term, put_form, applied, built_term, built_terms, built_number, built_form}
 use Rattle.ll_polarity.proofs.reading.Terms.{none_left, none_right, none_unless}
 
@@ -86,7 +88,8 @@ applied_head (Some n) d (head.Eigen k) ts = refl
 applied_head (Some n) d (head.Bound k) ts = refl
 
 -- what a name without a fault stands for, with its arguments
-applied_name : (q : Option ℕ) (d : ℕ) (m : Meaning) (met : Met) (w : List ℕ) (ts : List Term) → may_be_head m ≡ true → applied (put_term q d (read_name m met w).it) ts ≡ apply (put_term q d (read_name m met w).it) ts
+applied_name : (q : Option ℕ) (d : ℕ) (m : Meaning) (met : Met) (w : List ℕ) (ts : List Term) → may_be_head m ≡ true
+    → applied (put_term q d (read_name m met w).it) ts ≡ apply (put_term q d (read_name m met w).it) ts
 applied_name q d (Bound k) met w ts h = applied_head q d (head.Bound k) ts
 applied_name q d (Local k) met w ts h = applied_head q d (head.Bound k) ts
 applied_name q d Free met w ts h = absurd (true≢false (sym h))
@@ -96,7 +99,8 @@ mutual
   pub same_term : (a : Around) (met : Met) (r : Raw) → term_faults a.scope r ≡ []
       → built_term a met r ≡ record { it = put_term a.quantified a.depth (read_term a.scope met r).it; met = (read_term a.scope met r).met }
   same_term a met (raw.head n args) h =
-      same_args a met n args h (same_terms a (read_name (meaning a.scope n.text) met n.text).met args (none_right (applied_fault a.scope n args) (terms_faults a.scope args) h))
+      same_args a met n args h (same_terms a (read_name (meaning a.scope n.text) met n.text).met args
+      (none_right (applied_fault a.scope n args) (terms_faults a.scope args) h))
   same_term a met (anything at) h = refl
   same_term a met (int at z) h = ap (λ t. let x : Read Term = record { it = t; met = met } in x) (put_int a.quantified a.depth z)
   same_term a met (truth at) h = ap (λ t. let x : Read Term = record { it = t; met = met } in x) (put_int a.quantified a.depth (pos 0))
@@ -111,8 +115,17 @@ mutual
   same_term a met (most_goal at l r) h = ap (λ t. let x : Read Term = record { it = t; met = met } in x) (put_int a.quantified a.depth (pos 0))
 
   same_args : (a : Around) (met : Met) (n : Identifier) (args : RawList) → term_faults a.scope (raw.head n args) ≡ []
-      → (let f = read_name (meaning a.scope n.text) met n.text in built_terms a f.met args ≡ record { it = map (put_term a.quantified a.depth) (read_terms a.scope f.met args).it; met = (read_terms a.scope f.met args).met })
-      → built_term a met (raw.head n args) ≡ record { it = put_term a.quantified a.depth (read_term a.scope met (raw.head n args)).it; met = (read_term a.scope met (raw.head n args)).met }
+      → (let f = read_name (meaning a.scope n.text) met n.text in
+      built_terms a f.met args ≡ record {
+        it = map (put_term a.quantified a.depth) (read_terms a.scope f.met args).it;
+        met =
+            (read_terms a.scope f.met args).met;
+      })
+      → built_term a met (raw.head n args) ≡ record {
+        it = put_term a.quantified a.depth (read_term a.scope met (raw.head n args)).it;
+        met =
+            (read_term a.scope met (raw.head n args)).met;
+      }
   same_args a met n none h i =
       let f = read_name (meaning a.scope n.text) met n.text in
       ap (λ t. let x : Read Term = record { it = t; met = f.met } in x) (applied_none (put_term a.quantified a.depth f.it))
@@ -247,8 +260,10 @@ module _ (places : List ℕ → ℕ) (ms : List (List ℕ)) (heads : List Headin
       let t = read_term a.scope met (raw.head n args) in
       ap atom_of i ∙ ap (λ f. read_as f t.met) (put_atom a.quantified a.depth t.it)
     where
-      head_faultless : (a : Around) (n : Identifier) (args : RawList) → unless (may_be_head (meaning a.scope n.text)) 9 n.at ++ terms_faults a.scope args ≡ [] → term_faults a.scope (raw.head n args) ≡ []
+      head_faultless : (a : Around) (n : Identifier) (args : RawList) → unless (may_be_head (meaning a.scope n.text)) 9 n.at ++ terms_faults a.scope args ≡ []
+          → term_faults a.scope (raw.head n args) ≡ []
       head_faultless a n none h = refl
       head_faultless a n (more r rs) h = h
-  same_form side a met (anything at) h = ap (λ f. read_as f (read_term a.scope met (anything at)).met) (put_atom a.quantified a.depth (Var (length met.variables)))
+  same_form side a met (anything at) h = ap (λ f. read_as f (read_term a.scope met (anything at)).met)
+      (put_atom a.quantified a.depth (Var (length met.variables)))
   same_form side a met (int at z) h = ap atom_of (same_term a met (int at z) refl) ∙ ap (λ f. read_as f met) (put_atom a.quantified a.depth (Int z))

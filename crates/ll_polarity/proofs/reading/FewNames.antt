@@ -4,7 +4,8 @@ use Rattle.std.specs.List.{list_any}
 use Rattle.ll_bank.specs.Names.{with_name}
 use Rattle.ll_bank.specs.Form.{Relation, Is, Less, Most}
 use Rattle.ll_bank.proofs.CallerLemmas.{length-with_name}
-use Rattle.ll_parser.specs.Raw.{Raw, truth, erasure, braces, universal, existential, load, binary, is_goal, less_goal, most_goal, head, anything, int, RawList, none, more, ProgramTree}
+use Rattle.ll_parser.specs.Raw.{Raw, truth, erasure, braces, universal, existential, load, binary, is_goal, less_goal, most_goal, head, anything, int, RawList}
+use Rattle.ll_parser.specs.Raw.{none, more, ProgramTree}
 use Rattle.ll_parser.specs.Raw as raw
 use Rattle.ll_parser.specs.Text.{programs, queries}
 use Rattle.ll_parser.specs.Reads.{IsWhole}
@@ -62,7 +63,8 @@ module _ (ms : List (List ℕ)) where
   pub few_clause : (scope : Scope) (names : List (List ℕ)) (c : raw.ClauseTree) → length (read_clause ms scope names c).names ≤ length names + weight c.form
   few_clause scope names c = let i = few_form ms scope (record { names = names; variables = [] }) c.form in omega arith
 
-  pub few_clauses : (scope : Scope) (names : List (List ℕ)) (cs : List raw.ClauseTree) → length (read_clauses ms scope names cs).names ≤ length names + clauses_weight cs
+  pub few_clauses : (scope : Scope) (names : List (List ℕ)) (cs : List raw.ClauseTree)
+      → length (read_clauses ms scope names cs).names ≤ length names + clauses_weight cs
   few_clauses scope names [] = omega arith
   few_clauses scope names (c ∷ cs) = let i = few_clause scope names c in let j = few_clauses scope (read_clause ms scope names c).names cs in omega arith
 
@@ -85,7 +87,8 @@ few_asked names (None ∷ vs) = let i = few_asked names vs in omega arith
 few_asked names (Some w ∷ vs) = let i = few_asked (with_name names w) vs in let j = length-with_name names w in omega arith
 
 -- the names of the problem that a whole query asks of it
-pub few_names_of_problem : (p : ProgramTree) (query : Raw) (bound : ℕ) → IsWhole programs p → IsWhole queries query → length (problem_with (part_of p) query bound).names ≤ 33554432
+pub few_names_of_problem : (p : ProgramTree) (query : Raw) (bound : ℕ) → IsWhole programs p → IsWhole queries query
+    → length (problem_with (part_of p) query bound).names ≤ 33554432
 few_names_of_problem p query bound whole_program whole_query =
     let part = part_of p in
     let r = read_form (modules_of part) [] (record { names = part.names; variables = [] }) query in

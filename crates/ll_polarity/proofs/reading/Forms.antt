@@ -1,5 +1,6 @@
 -- What is read of a formula without a fault is a formula of a problem, on its side.
-use Rattle.std.proofs.Common.{◌≡◌, ℕ, suc, ◌+◌, ◌≤◌, true, false, List, [], ◌∷◌, ◌++◌, length, slice_get, Option, Some, None, refl, sym, subst, arith, length-append}
+use Rattle.std.proofs.Common.{◌≡◌, ℕ, suc, ◌+◌, ◌≤◌, true, false, List, [], ◌∷◌, ◌++◌, length, slice_get, Option, Some, None, refl, sym, subst, arith}
+use Rattle.std.proofs.Common.{length-append}
 use Rattle.std.specs.Prelude.{nat_eq, find}
 use Rattle.std.proofs.lemmas.Bool.{le-leb, and_from as and_intro}
 use Rattle.std.proofs.lemmas.List.{length-map}
@@ -17,13 +18,15 @@ use Rattle.ll_parser.specs.Tokens.{Identifier}
 use Rattle.ll_parser.specs.Raw.{Raw, truth, erasure, braces, universal, existential, load, binary, is_goal, less_goal, most_goal, head, anything, int}
 use Rattle.ll_polarity.specs.Scope.{Scope, binds, meaning}
 use Rattle.ll_polarity.specs.Reading.{Met, read_name, read_term, read_terms, joined, module_in, read_number, read_form}
-use Rattle.ll_polarity.specs.Faults.{unless, count, may_be_head, term_faults, terms_faults, on_goal_side, left_side, right_side, may_join, Heading, is_named, load_fault, number_faults, form_faults}
+use Rattle.ll_polarity.specs.Faults.{unless, count, may_be_head, term_faults, terms_faults, on_goal_side, left_side, right_side, may_join, Heading, is_named}
+use Rattle.ll_polarity.specs.Faults.{load_fault, number_faults, form_faults}
 use Rattle.ll_polarity.proofs.reading.Grows.{longer_term, longer_form}
 use Rattle.ll_parser.specs.Weights.{weight}
 use Rattle.ll_parser.proofs.CallerLemmas.{IsForm}
 use Rattle.ll_polarity.proofs.reading.Weight.{length-read_terms}
 use Rattle.ll_polarity.proofs.naming.Meanings.{places}
-use Rattle.ll_polarity.proofs.reading.Terms.{none_left, none_right, none_unless, Room, IsIn, in_before, IsTerm, AreTerms, IsApplied, applied_term, read_is_term, read_are_terms}
+use Rattle.ll_polarity.proofs.reading.Terms.{none_left, none_right, none_unless, Room, IsIn, in_before, IsTerm, AreTerms, IsApplied, applied_term}
+use Rattle.ll_polarity.proofs.reading.Terms.{read_is_term, read_are_terms}
 
 -- a formula on a side in a scope
 pub record IsGood (room : Room) (side : Side) (scope : valid.Scope) (f : Form) : Type 0 where
@@ -39,7 +42,8 @@ pub few_ways : (ms : List (List ℕ)) (scope : Scope) (met : Met) (r : Raw) → 
 few_ways ms scope met (truth at) = omega arith
 few_ways ms scope met (erasure at) = omega arith
 few_ways ms scope met (braces at r) = omega arith
-few_ways ms scope met (universal at n r) = let i = few_ways ms (binds n.text ∷ scope) met r in let e = length-map (ways (read_form ms (binds n.text ∷ scope) met r).it) (λ n. suc n) in omega arith
+few_ways ms scope met (universal at n r) = let i = few_ways ms (binds n.text ∷ scope) met r in
+    let e = length-map (ways (read_form ms (binds n.text ∷ scope) met r).it) (λ n. suc n) in omega arith
 few_ways ms scope met (existential at n r) = omega arith
 few_ways ms scope met (load at m args r) = omega arith
 few_ways ms scope met (binary o at l r) = by o (few_ways ms scope met l) (few_ways ms scope (read_form ms scope met l).met r)
@@ -64,9 +68,16 @@ few_ways ms scope met (int at z) = omega arith
 
 module _ {room : Room} {scope : valid.Scope} {f g : Form} where
   pub with_goals : IsGood room GoalSide scope f → IsGood room GoalSide scope g → IsGood room GoalSide scope (With f g)
-  with_goals a b = record { fits = (a.fits, b.fits); named = λ m. and_intro _ _ (a.named m) (b.named m); leaves = and_intro _ _ a.leaves b.leaves; arguments = λ m. and_intro _ _ (a.arguments m) (b.arguments m) }
+  with_goals a b = record {
+    fits = (a.fits, b.fits);
+    named = λ m. and_intro _ _ (a.named m) (b.named m);
+    leaves = and_intro _ _ a.leaves b.leaves;
+    arguments =
+        λ m. and_intro _ _ (a.arguments m) (b.arguments m);
+  }
 
-  pub with_clauses : length (ways (With f g)) ≤ room.most → IsGood room ClauseSide scope f → IsGood room ClauseSide scope g → IsGood room ClauseSide scope (With f g)
+  pub with_clauses : length (ways (With f g)) ≤ room.most → IsGood room ClauseSide scope f → IsGood room ClauseSide scope g
+      → IsGood room ClauseSide scope (With f g)
   with_clauses few a b = record {
     fits = (a.fits, b.fits);
     named = λ m. and_intro _ _ (a.named m) (b.named m);
@@ -75,22 +86,56 @@ module _ {room : Room} {scope : valid.Scope} {f g : Form} where
   }
 
   pub tensor_goals : IsGood room GoalSide scope f → IsGood room GoalSide scope g → IsGood room GoalSide scope (Tensor f g)
-  tensor_goals a b = record { fits = (tt, a.fits, b.fits); named = λ m. and_intro _ _ (a.named m) (b.named m); leaves = and_intro _ _ a.leaves b.leaves; arguments = λ m. and_intro _ _ (a.arguments m) (b.arguments m) }
+  tensor_goals a b = record {
+    fits = (tt, a.fits, b.fits);
+    named = λ m. and_intro _ _ (a.named m) (b.named m);
+    leaves = and_intro _ _ a.leaves b.leaves;
+    arguments = λ m. and_intro _ _ (a.arguments m) (b.arguments m);
+  }
 
   pub plus_goals : IsGood room GoalSide scope f → IsGood room GoalSide scope g → IsGood room GoalSide scope (Plus f g)
-  plus_goals a b = record { fits = (tt, a.fits, b.fits); named = λ m. and_intro _ _ (a.named m) (b.named m); leaves = and_intro _ _ a.leaves b.leaves; arguments = λ m. and_intro _ _ (a.arguments m) (b.arguments m) }
+  plus_goals a b = record {
+    fits = (tt, a.fits, b.fits);
+    named = λ m. and_intro _ _ (a.named m) (b.named m);
+    leaves = and_intro _ _ a.leaves b.leaves;
+    arguments = λ m. and_intro _ _ (a.arguments m) (b.arguments m);
+  }
 
   pub lolli_goal : IsGood room ClauseSide scope f → IsGood room GoalSide scope g → IsGood room GoalSide scope (Lolli f g)
-  lolli_goal a b = record { fits = (a.fits, b.fits); named = λ m. and_intro _ _ (a.named m) (b.named m); leaves = and_intro _ _ a.leaves b.leaves; arguments = λ m. and_intro _ _ (a.arguments m) (b.arguments m) }
+  lolli_goal a b = record {
+    fits = (a.fits, b.fits);
+    named = λ m. and_intro _ _ (a.named m) (b.named m);
+    leaves = and_intro _ _ a.leaves b.leaves;
+    arguments =
+        λ m. and_intro _ _ (a.arguments m) (b.arguments m);
+  }
 
   pub lolli_clause : IsGood room GoalSide scope f → IsGood room ClauseSide scope g → IsGood room ClauseSide scope (Lolli f g)
-  lolli_clause a b = record { fits = (a.fits, b.fits); named = λ m. and_intro _ _ (a.named m) (b.named m); leaves = and_intro _ _ a.leaves b.leaves; arguments = λ m. and_intro _ _ (a.arguments m) (b.arguments m) }
+  lolli_clause a b = record {
+    fits = (a.fits, b.fits);
+    named = λ m. and_intro _ _ (a.named m) (b.named m);
+    leaves = and_intro _ _ a.leaves b.leaves;
+    arguments =
+        λ m. and_intro _ _ (a.arguments m) (b.arguments m);
+  }
 
   pub imp_goal : IsGood room ClauseSide scope f → IsGood room GoalSide scope g → IsGood room GoalSide scope (Imp f g)
-  imp_goal a b = record { fits = (a.fits, b.fits); named = λ m. and_intro _ _ (a.named m) (b.named m); leaves = and_intro _ _ a.leaves b.leaves; arguments = λ m. and_intro _ _ (a.arguments m) (b.arguments m) }
+  imp_goal a b = record {
+    fits = (a.fits, b.fits);
+    named = λ m. and_intro _ _ (a.named m) (b.named m);
+    leaves = and_intro _ _ a.leaves b.leaves;
+    arguments =
+        λ m. and_intro _ _ (a.arguments m) (b.arguments m);
+  }
 
   pub imp_clause : IsGood room GoalSide scope f → IsGood room ClauseSide scope g → IsGood room ClauseSide scope (Imp f g)
-  imp_clause a b = record { fits = (a.fits, b.fits); named = λ m. and_intro _ _ (a.named m) (b.named m); leaves = and_intro _ _ a.leaves b.leaves; arguments = λ m. and_intro _ _ (a.arguments m) (b.arguments m) }
+  imp_clause a b = record {
+    fits = (a.fits, b.fits);
+    named = λ m. and_intro _ _ (a.named m) (b.named m);
+    leaves = and_intro _ _ a.leaves b.leaves;
+    arguments =
+        λ m. and_intro _ _ (a.arguments m) (b.arguments m);
+  }
 
 -- two formulas joined by an operator that may stand on the side
 joined_good : (room : Room) (side : Side) (scope : valid.Scope) (o : Op) (f g : Form) → may_join o side ≡ true → length (ways (joined o f g)) ≤ room.most
@@ -128,11 +173,13 @@ pub forall_good : (room : Room) (side : Side) (scope : valid.Scope) (f : Form) �
 forall_good room GoalSide scope f a = record { fits = a.fits; named = λ m. a.named (suc m); leaves = a.leaves; arguments = λ m. a.arguments (suc m) }
 forall_good room ClauseSide scope f a = record { fits = a.fits; named = λ m. a.named (suc m); leaves = a.leaves; arguments = λ m. a.arguments (suc m) }
 
-exists_good : (room : Room) (side : Side) (scope : valid.Scope) (f : Form) → on_goal_side side ≡ true → IsGood room side (false ∷ scope) f → IsGood room side scope (Exists f)
+exists_good : (room : Room) (side : Side) (scope : valid.Scope) (f : Form) → on_goal_side side ≡ true → IsGood room side (false ∷ scope) f
+    → IsGood room side scope (Exists f)
 exists_good room GoalSide scope f h a = record { fits = (tt, a.fits); named = λ m. a.named (suc m); leaves = a.leaves; arguments = λ m. a.arguments (suc m) }
 exists_good room ClauseSide scope f h a = absurd (cc)
 
-use_good : (room : Room) (side : Side) (scope : valid.Scope) (k : ℕ) (ts : List Term) (f : Form) → on_goal_side side ≡ true → fits_module (slice_get room.modules k) ts ≡ true
+use_good : (room : Room) (side : Side) (scope : valid.Scope) (k : ℕ) (ts : List Term) (f : Form) → on_goal_side side ≡ true
+    → fits_module (slice_get room.modules k) ts ≡ true
     → AreTerms room scope ts → IsGood room side scope f → IsGood room side scope (Use k ts f)
 use_good room GoalSide scope k ts f h l hs a = record {
   fits = (tt, l, hs.fit, a.fits);
@@ -146,7 +193,8 @@ atom_good : (room : Room) (side : Side) (scope : Scope) (t : Term) → IsApplied
 atom_good room GoalSide scope t a = record { fits = (a.head, a.term.fit); named = λ m. a.term.named; leaves = refl; arguments = λ m. a.term.arguments }
 atom_good room ClauseSide scope t a = record { fits = (a.head, a.term.fit); named = λ m. a.term.named; leaves = refl; arguments = λ m. a.term.arguments }
 
-number_good : (room : Room) (side : Side) (scope : Scope) (q : Relation) (t u : Term) → on_goal_side side ≡ true → IsTerm room (places scope) t → IsTerm room (places scope) u
+number_good : (room : Room) (side : Side) (scope : Scope) (q : Relation) (t u : Term) → on_goal_side side ≡ true → IsTerm room (places scope) t
+    → IsTerm room (places scope) u
     → IsGood room side (places scope) (Num q t u)
 number_good room GoalSide scope q t u h a b = record {
   fits = (tt, a.fit, b.fit);
@@ -163,7 +211,8 @@ abbrev pub Finds : List ModuleTree → List (List ℕ) → List Heading → Type
 Finds modules ms heads =
     (w : List ℕ) (h : Heading) → find (is_named w) heads ≡ Some h → (m : ModuleTree) × (slice_get modules (module_in ms w) ≡ Some m) × (m.params ≡ h.params)
 
-load_fits : (modules : List ModuleTree) (ms : List (List ℕ)) (heads : List Heading) (n : Identifier) (ts : List Term) (k : ℕ) → Finds modules ms heads → length ts ≡ k
+load_fits : (modules : List ModuleTree) (ms : List (List ℕ)) (heads : List Heading) (n : Identifier) (ts : List Term) (k : ℕ) → Finds modules ms heads
+    → length ts ≡ k
     → load_fault (find (is_named n.text) heads) n k ≡ [] → fits_module (slice_get modules (module_in ms n.text)) ts ≡ true
 load_fits modules ms heads n ts k finds e h = by (find (is_named n.text) heads) refl h
   where
@@ -177,7 +226,8 @@ load_fits modules ms heads n ts k finds e h = by (find (is_named n.text) heads) 
 -- ---- formulas
 
 module _ (room : Room) (ms : List (List ℕ)) (heads : List Heading) (finds : Finds room.modules ms heads) where
-  read_number_is_good : (q : Relation) (side : Side) (scope : Scope) (met : Met) (at : Place) (l r : Raw) → number_faults side scope at l r ≡ [] → IsIn room (read_number q scope met l r).met
+  read_number_is_good : (q : Relation) (side : Side) (scope : Scope) (met : Met) (at : Place) (l r : Raw) → number_faults side scope at l r ≡ []
+      → IsIn room (read_number q scope met l r).met
       → weight l + weight r ≤ room.most → IsGood room side (places scope) (read_number q scope met l r).it
   read_number_is_good q side scope met at l r h i le =
       let a = term_faults scope l in let b = unless (on_goal_side side) 7 at in let c = term_faults scope r in
@@ -187,19 +237,24 @@ module _ (room : Room) (ms : List (List ℕ)) (heads : List Heading) (finds : Fi
       (read_is_term room scope met l (none_left a b p) (in_before (longer_term scope t.met r) i) (omega arith))
       (read_is_term room scope t.met r (none_right (a ++ b) c h) i (omega arith))
 
-  pub read_is_good : (side : Side) (scope : Scope) (met : Met) (r : Raw) → IsForm r → form_faults heads side scope r ≡ [] → IsIn room (read_form ms scope met r).met → weight r ≤ room.most
+  pub read_is_good : (side : Side) (scope : Scope) (met : Met) (r : Raw) → IsForm r → form_faults heads side scope r ≡ []
+      → IsIn room (read_form ms scope met r).met → weight r ≤ room.most
       → IsGood room side (places scope) (read_form ms scope met r).it
   read_is_good side scope met (truth at) w h i le = one_good room side (places scope) (none_unless (on_goal_side side) 7 at h)
   read_is_good side scope met (erasure at) w h i le = top_good room side (places scope)
   read_is_good side scope met (braces at r) w h i le =
       let u = unless (on_goal_side side) 7 at in let v = form_faults heads side scope r in
-      bang_good room side (places scope) _ (none_unless (on_goal_side side) 7 at (none_left u v h)) (read_is_good side scope met r w (none_right u v h) i (omega arith))
-  read_is_good side scope met (universal at n r) w h i le = forall_good room side (places scope) _ (read_is_good side (binds n.text ∷ scope) met r w h i (omega arith))
+      bang_good room side (places scope) _ (none_unless (on_goal_side side) 7 at (none_left u v h))
+      (read_is_good side scope met r w (none_right u v h) i (omega arith))
+  read_is_good side scope met (universal at n r) w h i le = forall_good room side (places scope) _
+      (read_is_good side (binds n.text ∷ scope) met r w h i (omega arith))
   read_is_good side scope met (existential at n r) w h i le =
       let u = unless (on_goal_side side) 7 at in let v = form_faults heads side (binds n.text ∷ scope) r in
-      exists_good room side (places scope) _ (none_unless (on_goal_side side) 7 at (none_left u v h)) (read_is_good side (binds n.text ∷ scope) met r w (none_right u v h) i (omega arith))
+      exists_good room side (places scope) _ (none_unless (on_goal_side side) 7 at (none_left u v h))
+      (read_is_good side (binds n.text ∷ scope) met r w (none_right u v h) i (omega arith))
   read_is_good side scope met (load at m args r) w h i le =
-      let a = load_fault (find (is_named m.text) heads) m (count args) in let b = terms_faults scope args in let c = unless (on_goal_side side) 8 at in let d = form_faults heads side scope r in
+      let a = load_fault (find (is_named m.text) heads) m (count args) in let b = terms_faults scope args in let c = unless (on_goal_side side) 8 at in
+      let d = form_faults heads side scope r in
       let ts = read_terms scope met args in
       let p = none_left (a ++ b ++ c) d h in let q = none_left (a ++ b) c p in
       use_good room side (places scope) (module_in ms m.text) ts.it _ (none_unless (on_goal_side side) 8 at (none_right (a ++ b) c p))

@@ -1,5 +1,6 @@
 -- What is met in a text only grows, and what is met last has its number in it.
-use Rattle.std.proofs.Common.{◌≡◌, ℕ, ◌<◌, ◌≤◌, Bool, true, false, cond, ◌||◌, List, [], ◌∷◌, ◌++◌, length, slice_get, position, Option, Some, None, if◌then◌else◌, refl, ap, sym, subst, ◌∙◌, arith, true≢false, length-append}
+use Rattle.std.proofs.Common.{◌≡◌, ℕ, ◌<◌, ◌≤◌, Bool, true, false, cond, ◌||◌, List, [], ◌∷◌, ◌++◌, length, slice_get, position, Option, Some, None}
+use Rattle.std.proofs.Common.{if◌then◌else◌, refl, ap, sym, subst, ◌∙◌, arith, true≢false, length-append}
 use Rattle.std.specs.Prelude.{unwrap_or}
 use Rattle.std.specs.List.{list_any, position_or_len}
 use Rattle.std.specs.Str.{bytes_eq}
@@ -11,7 +12,8 @@ use Rattle.ll_lists.proofs.CallerLemmas.{position_within as place_within}
 use Rattle.ll_bank.specs.Names.{with_name}
 use Rattle.ll_bank.specs.Form.{Relation, Is, Less, Most}
 use Rattle.ll_bank.proofs.CallerLemmas.{slice_get-number_of, number_of-with_name, slice_get-with_name}
-use Rattle.ll_parser.specs.Raw.{Raw, truth, erasure, braces, universal, existential, load, binary, is_goal, less_goal, most_goal, head, anything, int, RawList, none, more}
+use Rattle.ll_parser.specs.Raw.{Raw, truth, erasure, braces, universal, existential, load, binary, is_goal, less_goal, most_goal, head, anything, int, RawList}
+use Rattle.ll_parser.specs.Raw.{none, more}
 use Rattle.ll_polarity.specs.Scope.{Scope, binds, Meaning, Bound, Local, Free, Constant, meaning}
 use Rattle.ll_polarity.specs.Reading.{Met, has_text, number_in, variable_in, with_variable, read_name, read_term, read_terms, read_number, read_form}
 
@@ -81,12 +83,17 @@ longer_trans x y = record { names = more_trans x.names y.names; variables = omeg
 pub longer_name : (m : Meaning) (met : Met) (w : List ℕ) → Longer met (read_name m met w).met
 longer_name (Bound k) met w = longer_refl met
 longer_name (Local k) met w = longer_refl met
-longer_name Free met w = record { names = more_refl met.names; variables = not_shorter (has_text w) met.variables (Some w) (list_any (has_text w) met.variables) }
+longer_name Free met w = record {
+  names = more_refl met.names;
+  variables =
+      not_shorter (has_text w) met.variables (Some w) (list_any (has_text w) met.variables);
+}
 longer_name Constant met w = record { names = more_named met.names w; variables = omega arith }
 
 mutual
   pub longer_term : (scope : Scope) (met : Met) (r : Raw) → Longer met (read_term scope met r).met
-  longer_term scope met (head n args) = let m = meaning scope n.text in longer_trans (longer_name m met n.text) (longer_terms scope (read_name m met n.text).met args)
+  longer_term scope met (head n args) = let m = meaning scope n.text in
+      longer_trans (longer_name m met n.text) (longer_terms scope (read_name m met n.text).met args)
   longer_term scope met (anything at) = record { names = more_refl met.names; variables = omega (arith, length-append met.variables (None ∷ [])) }
   longer_term scope met _ = longer_refl met
 

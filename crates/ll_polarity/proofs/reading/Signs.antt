@@ -44,5 +44,6 @@ pub word_no_sign : (n : Identifier) → IsWord n → IsNoSign n.text
 word_no_sign n h s = by_test (bytes_eq (sign_text s) n.text) refl
   where
     by_test : (v : Bool) → bytes_eq (sign_text s) n.text ≡ v → v ≡ false
-    by_test true e = absurd (sign_no_word s (subst (λ w. Spells kind.Name w ⊎ Spells kind.Variable w) (sym ((bytes_eq-Decides (sign_text s) n.text).0 e)) (word_spells n h)))
+    by_test true e =
+        absurd (sign_no_word s (subst (λ w. Spells kind.Name w ⊎ Spells kind.Variable w) (sym ((bytes_eq-Decides (sign_text s) n.text).0 e)) (word_spells n h)))
     by_test false e = refl

@@ -72,7 +72,8 @@ pub record IsApplied (room : Room) (scope : valid.Scope) (t : Term) : Type 0 whe
   pub term : IsTerm room scope t
   pub head : IsHead scope t
 
-apply_terms : (room : Room) (scope : valid.Scope) (f : Term) (ts : List Term) → IsApplied room scope f → AreTerms room scope ts → arity f + length ts ≤ room.most
+apply_terms : (room : Room) (scope : valid.Scope) (f : Term) (ts : List Term) → IsApplied room scope f → AreTerms room scope ts
+    → arity f + length ts ≤ room.most
     → IsApplied room scope (apply f ts)
 apply_terms room scope f [] h hs le = h
 apply_terms room scope f (t ∷ ts) h hs le =
@@ -101,10 +102,15 @@ arity_none (Local k) met w = refl
 arity_none Free met w = refl
 arity_none Constant met w = refl
 
-named_term : (room : Room) (scope : Scope) (m : Meaning) (met : Met) (w : List ℕ) → Means scope m → IsIn room (read_name m met w).met → IsTerm room (places scope) (read_name m met w).it
+named_term : (room : Room) (scope : Scope) (m : Meaning) (met : Met) (w : List ℕ) → Means scope m → IsIn room (read_name m met w).met
+    → IsTerm room (places scope) (read_name m met w).it
 named_term room scope (Bound k) met w h i = record { fit = h; named = refl; arguments = refl }
 named_term room scope (Local k) met w h i = record { fit = h.0; named = refl; arguments = refl }
-named_term room scope Free met w h i = record { fit = lt-ltb _ room.variables (omega (arith, variable_below met.variables w, i.variables)); named = refl; arguments = refl }
+named_term room scope Free met w h i = record {
+  fit = lt-ltb _ room.variables (omega (arith, variable_below met.variables w, i.variables));
+  named = refl;
+  arguments = refl;
+}
 named_term room scope Constant met w h i = record { fit = tt; named = lt-ltb _ room.names (omega (arith, number_below met.names w, i.names)); arguments = refl }
 
 named_head : (scope : Scope) (m : Meaning) (met : Met) (w : List ℕ) → Means scope m → may_be_head m ≡ true → IsHead (places scope) (read_name m met w).it
@@ -114,39 +120,55 @@ named_head scope Free met w h may = absurd (cc)
 named_head scope Constant met w h may = (refl, refl)
 
 -- a name that may have arguments, with these
-pub applied_term : (room : Room) (scope : Scope) (met : Met) (n : Identifier) (args : RawList) → may_be_head (meaning scope n.text) ≡ true → IsIn room (read_term scope met (head n args)).met
+pub applied_term : (room : Room) (scope : Scope) (met : Met) (n : Identifier) (args : RawList) → may_be_head (meaning scope n.text) ≡ true
+    → IsIn room (read_term scope met (head n args)).met
     → AreTerms room (places scope) (read_terms scope (read_name (meaning scope n.text) met n.text).met args).it → weight (head n args) ≤ room.most
     → IsApplied room (places scope) (read_term scope met (head n args)).it
 applied_term room scope met n args may i hs le =
     let m = meaning scope n.text in
     let f = read_name m met n.text in
     apply_terms room (places scope) f.it (read_terms scope f.met args).it
-    (record { term = named_term room scope m met n.text (means scope n.text) (in_before (longer_terms scope f.met args) i); head = named_head scope m met n.text (means scope n.text) may }) hs
+    (record {
+      term = named_term room scope m met n.text (means scope n.text) (in_before (longer_terms scope f.met args) i);
+      head =
+          named_head scope m met n.text (means scope n.text) may;
+    }) hs
     (omega (arith, arity_none m met n.text, length-read_terms scope f.met args, count-le-weights args))
 
 -- a name with arguments or without
-head_term : (room : Room) (scope : Scope) (met : Met) (n : Identifier) (args : RawList) → applied_fault scope n args ≡ [] → IsIn room (read_term scope met (head n args)).met
+head_term : (room : Room) (scope : Scope) (met : Met) (n : Identifier) (args : RawList) → applied_fault scope n args ≡ []
+    → IsIn room (read_term scope met (head n args)).met
     → AreTerms room (places scope) (read_terms scope (read_name (meaning scope n.text) met n.text).met args).it → weight (head n args) ≤ room.most
     → IsTerm room (places scope) (read_term scope met (head n args)).it
 head_term room scope met n none h i hs le = named_term room scope (meaning scope n.text) met n.text (means scope n.text) i
-head_term room scope met n (more r rs) h i hs le = (applied_term room scope met n (more r rs) (none_unless (may_be_head (meaning scope n.text)) 9 n.at h) i hs le).term
+head_term room scope met n (more r rs) h i hs le = (applied_term room scope met n (more r rs) (none_unless (may_be_head (meaning scope n.text)) 9 n.at h) i hs
+    le).term
 
 -- ---- terms
 
 mutual
-  pub read_is_term : (room : Room) (scope : Scope) (met : Met) (r : Raw) → term_faults scope r ≡ [] → IsIn room (read_term scope met r).met → weight r ≤ room.most
+  pub read_is_term : (room : Room) (scope : Scope) (met : Met) (r : Raw) → term_faults scope r ≡ [] → IsIn room (read_term scope met r).met
+      → weight r ≤ room.most
       → IsTerm room (places scope) (read_term scope met r).it
   read_is_term room scope met (head n args) h i le =
       head_term room scope met n args (none_left (applied_fault scope n args) (terms_faults scope args) h) i
-      (read_are_terms room scope (read_name (meaning scope n.text) met n.text).met args (none_right (applied_fault scope n args) (terms_faults scope args) h) i (omega arith)) le
-  read_is_term room scope met (anything at) h i le = record { fit = lt-ltb _ room.variables (omega (arith, i.variables, length-append met.variables (None ∷ []))); named = refl; arguments = refl }
+      (read_are_terms room scope (read_name (meaning scope n.text) met n.text).met args (none_right (applied_fault scope n args) (terms_faults scope args) h) i
+      (omega arith)) le
+  read_is_term room scope met (anything at) h i le = record {
+    fit =
+        lt-ltb _ room.variables (omega (arith, i.variables, length-append met.variables (None ∷ [])));
+    named = refl;
+    arguments = refl;
+  }
   read_is_term room scope met (int at z) h i le = record { fit = tt; named = refl; arguments = refl }
   read_is_term room scope met _ h i le = record { fit = tt; named = refl; arguments = refl }
 
-  pub read_are_terms : (room : Room) (scope : Scope) (met : Met) (rs : RawList) → terms_faults scope rs ≡ [] → IsIn room (read_terms scope met rs).met → weights rs ≤ room.most
+  pub read_are_terms : (room : Room) (scope : Scope) (met : Met) (rs : RawList) → terms_faults scope rs ≡ [] → IsIn room (read_terms scope met rs).met
+      → weights rs ≤ room.most
       → AreTerms room (places scope) (read_terms scope met rs).it
   read_are_terms room scope met none h i le = are_none room (places scope)
   read_are_terms room scope met (more r rs) h i le =
       let t = read_term scope met r in
-      are_more (read_is_term room scope met r (none_left (term_faults scope r) (terms_faults scope rs) h) (in_before (longer_terms scope t.met rs) i) (omega arith))
+      are_more (read_is_term room scope met r (none_left (term_faults scope r) (terms_faults scope rs) h) (in_before (longer_terms scope t.met rs) i)
+      (omega arith))
       (read_are_terms room scope t.met rs (none_right (term_faults scope r) (terms_faults scope rs) h) i (omega arith))

@@ -6,4 +6,5 @@ use Rattle.ll_printer.proofs.summary.Goals as goal
 
 pub returns-clause-begun : goal.returns-clause-begun
 returns-clause-begun c =
-    begins_all (counts_text c.args.counts.now.answers c.args.counts.now.reached c.args.counts.now.inferences) c.args.out.now.items c.push.new.self.items (grind (arith, common_steps))
+    begins_all (counts_text c.args.counts.now.answers c.args.counts.now.reached c.args.counts.now.inferences) c.args.out.now.items c.push.new.self.items
+    (grind (arith, common_steps))

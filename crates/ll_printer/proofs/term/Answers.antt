@@ -5,15 +5,19 @@ use Rattle.ll_printer.proofs.term.Goals as goal
 
 pub loop-piece-smaller : goal.loop-piece-smaller
 loop-piece-smaller c =
-    weight_falls c.args.names.now c.args.bank.now c.loop-piece.out.items c.print_piece.new.out.items c.loop-piece.pieces.items c.pop.new.self.items c.print_piece.new.pieces.items c.in-Some.piece
+    weight_falls c.args.names.now c.args.bank.now c.loop-piece.out.items c.print_piece.new.out.items c.loop-piece.pieces.items c.pop.new.self.items
+    c.print_piece.new.pieces.items c.in-Some.piece
     c.in-Some.ensures.items c.in_ok-print_piece.ensures.moves
 
 pub loop-piece-preserved : goal.loop-piece-preserved
 loop-piece-preserved c =
-    printing_on c.args.names.now c.args.bank.now (term_text c.args.names.now (term_tree c.args.bank.now c.args.at.0)) c.args.out.now.items c.loop-piece.out.items c.print_piece.new.out.items
-    c.loop-piece.pieces.items c.pop.new.self.items c.print_piece.new.pieces.items c.in-Some.piece c.loop-piece.invariant c.in-Some.ensures.items c.in_ok-print_piece.ensures.moves
+    printing_on c.args.names.now c.args.bank.now (term_text c.args.names.now (term_tree c.args.bank.now c.args.at.0)) c.args.out.now.items
+    c.loop-piece.out.items c.print_piece.new.out.items
+    c.loop-piece.pieces.items c.pop.new.self.items c.print_piece.new.pieces.items c.in-Some.piece c.loop-piece.invariant c.in-Some.ensures.items
+    c.in_ok-print_piece.ensures.moves
 
 pub returns-in_err-print_piece-clause-begun : goal.returns-in_err-print_piece-clause-begun
 returns-in_err-print_piece-clause-begun c =
-    printing_refused c.args.names.now c.args.bank.now (term_text c.args.names.now (term_tree c.args.bank.now c.args.at.0)) c.args.out.now.items c.loop-piece.out.items c.print_piece.new.out.items
+    printing_refused c.args.names.now c.args.bank.now (term_text c.args.names.now (term_tree c.args.bank.now c.args.at.0)) c.args.out.now.items
+    c.loop-piece.out.items c.print_piece.new.out.items
     c.loop-piece.pieces.items c.pop.new.self.items c.in-Some.piece c.loop-piece.invariant c.in-Some.ensures.items c.in_err-print_piece.ensures.begun

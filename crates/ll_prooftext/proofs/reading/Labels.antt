@@ -1,5 +1,6 @@
 -- The labels of a set, read one by one.
-use Rattle.std.proofs.Common.{◌≡◌, ℕ, suc, ◌+◌, ◌<◌, ◌≤◌, ◌^◌, Bool, true, false, List, [], ◌∷◌, ◌++◌, length, refl, ap, sym, subst, ◌∙◌, arith, decimal, append_assoc, append-nil, add-one, inl, inr, ◌⊎◌, ◌%◌}
+use Rattle.std.proofs.Common.{◌≡◌, ℕ, suc, ◌+◌, ◌<◌, ◌≤◌, ◌^◌, Bool, true, false, List, [], ◌∷◌, ◌++◌, length, refl, ap, sym, subst, ◌∙◌, arith, decimal}
+use Rattle.std.proofs.Common.{append_assoc, append-nil, add-one, inl, inr, ◌⊎◌, ◌%◌}
 use Rattle.std.proofs.lemmas.List.{append_cancel_left}
 use Rattle.std.proofs.lemmas.Bool.{leb-true, le-leb, ne_eqb, eqb-true, eq-eqb}
 use Rattle.std.specs.Prelude.{IsTrue, nat_lt, nat_le, ◌&&◌, ◌==◌}
@@ -120,7 +121,8 @@ pub record Next (items word tail ns : List ℕ) (least : ℕ) : Type 0 where
   pub tail_is : tail ≡ behind_text others
   pub above : IsTrue (rises ns) → least ≤ label
 
-pub next_label : (body items rest : List ℕ) (least : ℕ) (word tail ns : List ℕ) → IsReadTo body items rest least → rest ≡ word ++ tail → list_all (is_not 32) word ≡ true → Stops (is_not 32) tail → AreLabels ns → body ≡ labels_text ns → Next items word tail ns least
+pub next_label : (body items rest : List ℕ) (least : ℕ) (word tail ns : List ℕ) → IsReadTo body items rest least → rest ≡ word ++ tail
+    → list_all (is_not 32) word ≡ true → Stops (is_not 32) tail → AreLabels ns → body ≡ labels_text ns → Next items word tail ns least
 next_label body items rest least word tail ns r e free st small is =
     let g = r.goes ns small is in
     let n = g.next in
@@ -128,7 +130,8 @@ next_label body items rest least word tail ns r e free st small is =
     let w : rest ≡ labels_text (n ∷ g.others) = append_cancel_left r.done rest (labels_text (n ∷ g.others)) (sym r.is ∙ (is ∙ b)) in
     let l : n < 2 ^ 32 = All-head (λ m. m < 2 ^ 32) n g.others (part items (n ∷ g.others) (subst (λ z. AreLabels z) g.is small)) in
     let c : word ++ tail ≡ decimal n ++ behind_text g.others = sym e ∙ (w ∙ labels_split n g.others) in
-    let k = one_cut (is_not 32) word (decimal n) tail (behind_text g.others) free (decimal_not 32 n (omega arith) (inl (omega arith))) st (behind_stops g.others) c in
+    let k = one_cut (is_not 32) word (decimal n) tail (behind_text g.others) free (decimal_not 32 n (omega arith) (inl (omega arith))) st
+    (behind_stops g.others) c in
     record { label = n; others = g.others; is = g.is; small = l; word_is = k.0; tail_is = k.1; above = above n g.others g.is }
   where
     part : (xs ys : List ℕ) → AreLabels (xs ++ ys) → AreLabels ys
@@ -142,12 +145,14 @@ next_label body items rest least word tail ns r e free st small is =
         leb-true least n (and_left (nat_le least n) (rises_from (suc n) others) v)
 
 -- one label more
-pub one_more : (body items rest : List ℕ) (least : ℕ) (word tail behind : List ℕ) (n : ℕ) → IsReadTo body items rest least → rest ≡ word ++ tail → list_all (is_not 32) word ≡ true → Stops (is_not 32) tail → n < 2 ^ 32 → word ≡ decimal n → least ≤ n → tail ≡ 32 ∷ behind
+pub one_more : (body items rest : List ℕ) (least : ℕ) (word tail behind : List ℕ) (n : ℕ) → IsReadTo body items rest least → rest ≡ word ++ tail
+    → list_all (is_not 32) word ≡ true → Stops (is_not 32) tail → n < 2 ^ 32 → word ≡ decimal n → least ≤ n → tail ≡ 32 ∷ behind
     → IsReadTo body (items ++ n ∷ []) behind (n + 1)
 one_more body items rest least word tail behind n r e free st small w a t = record {
   done = r.done ++ (word ++ 32 ∷ []);
   is = r.is ∙ (ap (λ z. r.done ++ z) (e ∙ ap (λ z. word ++ z) t) ∙ regroup r.done word behind);
-  texts = λ m ms. ap labels_text (append_assoc items (n ∷ []) (m ∷ ms)) ∙ (r.texts n (m ∷ ms) ∙ (ap (λ z. r.done ++ (z ++ 32 ∷ labels_text (m ∷ ms))) (sym w) ∙ regroup r.done word (labels_text (m ∷ ms))));
+  texts = λ m ms. ap labels_text (append_assoc items (n ∷ []) (m ∷ ms))
+      ∙ (r.texts n (m ∷ ms) ∙ (ap (λ z. r.done ++ (z ++ 32 ∷ labels_text (m ∷ ms))) (sym w) ∙ regroup r.done word (labels_text (m ∷ ms))));
   rising = λ ms. ap (rises_from 0) (append_assoc items (n ∷ []) ms) ∙ (r.rising (n ∷ ms) ∙ rising ms);
   small = All-push (λ m. m < 2 ^ 32) items n r.small small;
   goes = goes;
@@ -170,13 +175,15 @@ one_more body items rest least word tail behind n r e free st small w a t = reco
         finish ns k.others k.label k.is q (sym t ∙ k.tail_is)
 
 -- a word that is no number
-pub no_label : (body items rest : List ℕ) (least : ℕ) (word tail : List ℕ) → IsReadTo body items rest least → rest ≡ word ++ tail → list_all (is_not 32) word ≡ true → Stops (is_not 32) tail → (IsNumber word → ⊥) → (ns : List ℕ) → IsLabelsText body ns → ⊥
+pub no_label : (body items rest : List ℕ) (least : ℕ) (word tail : List ℕ) → IsReadTo body items rest least → rest ≡ word ++ tail
+    → list_all (is_not 32) word ≡ true → Stops (is_not 32) tail → (IsNumber word → ⊥) → (ns : List ℕ) → IsLabelsText body ns → ⊥
 no_label body items rest least word tail r e free st none ns l =
     let k = next_label body items rest least word tail ns r e free st l.small l.is in
     none (record { number = k.label; small = k.small; is = k.word_is })
 
 -- a number that is too low
-pub no_rise : (body items rest : List ℕ) (least : ℕ) (word tail : List ℕ) (n : ℕ) → IsReadTo body items rest least → rest ≡ word ++ tail → list_all (is_not 32) word ≡ true → Stops (is_not 32) tail → n < 2 ^ 32 → word ≡ decimal n → n < least → (ns : List ℕ) → IsLabelsText body ns → ⊥
+pub no_rise : (body items rest : List ℕ) (least : ℕ) (word tail : List ℕ) (n : ℕ) → IsReadTo body items rest least → rest ≡ word ++ tail
+    → list_all (is_not 32) word ≡ true → Stops (is_not 32) tail → n < 2 ^ 32 → word ≡ decimal n → n < least → (ns : List ℕ) → IsLabelsText body ns → ⊥
 no_rise body items rest least word tail n r e free st small w low ns l =
     let k = next_label body items rest least word tail ns r e free st l.small l.is in
     let q : k.label ≡ n = decimal_injective k.label n (let l = k.small in omega arith) (omega arith) (sym k.word_is ∙ w) in
@@ -184,7 +191,8 @@ no_rise body items rest least word tail n r e free st small w low ns l =
     omega arith
 
 -- the last label
-pub all_read : (body items rest : List ℕ) (least : ℕ) (word tail : List ℕ) (n : ℕ) → IsReadTo body items rest least → rest ≡ word ++ tail → Stops (is_not 32) tail → BeginsNot 32 tail → n < 2 ^ 32 → word ≡ decimal n → least ≤ n → IsLabelsText body (items ++ n ∷ [])
+pub all_read : (body items rest : List ℕ) (least : ℕ) (word tail : List ℕ) (n : ℕ) → IsReadTo body items rest least → rest ≡ word ++ tail
+    → Stops (is_not 32) tail → BeginsNot 32 tail → n < 2 ^ 32 → word ≡ decimal n → least ≤ n → IsLabelsText body (items ++ n ∷ [])
 all_read body items rest least word tail n r e st bare small w a = record {
   small = All-push (λ m. m < 2 ^ 32) items n r.small small;
   rising = let le : nat_le least n ≡ true = le-leb least n a in rises_all (items ++ n ∷ []) ∙ (r.rising (n ∷ []) ∙ (rw le refl));
@@ -219,7 +227,8 @@ labels_avoid x o s [] a = refl
 labels_avoid x o s (n ∷ ns) a =
     let l : n < 2 ^ 32 = All-head (λ m. m < 2 ^ 32) n ns a in
     let f : list_all (is_not x) (decimal n) ≡ true = decimal_not x n (omega arith) o in
-    ap (list_all (is_not x)) (labels_split n ns) ∙ (list_all-append (is_not x) (decimal n) (behind_text ns) ∙ (let g = others ns (labels_avoid x o s ns (All-tail (λ m. m < 2 ^ 32) n ns a)) in rw (f, g) refl))
+    ap (list_all (is_not x)) (labels_split n ns) ∙ (list_all-append (is_not x) (decimal n) (behind_text ns)
+    ∙ (let g = others ns (labels_avoid x o s ns (All-tail (λ m. m < 2 ^ 32) n ns a)) in rw (f, g) refl))
   where
     others : (ms : List ℕ) → list_all (is_not x) (labels_text ms) ≡ true → list_all (is_not x) (behind_text ms) ≡ true
     others [] h = refl
@@ -229,16 +238,19 @@ pub labels_free : (ns : List ℕ) → AreLabels ns → list_all (is_not 125) (la
 labels_free ns a = labels_avoid 125 (inr (omega arith)) refl ns a
 
 -- a set at the front is the one between these braces
-pub set_found : (bytes inside body tail field r : List ℕ) → bytes ≡ 123 ∷ inside → inside ≡ body ++ tail → list_all (is_not 125) body ≡ true → Stops (is_not 125) tail → (s : IsSet field) → bytes ≡ field ++ r → IsLabelsText body s.labels × (tail ≡ 125 ∷ r)
+pub set_found : (bytes inside body tail field r : List ℕ) → bytes ≡ 123 ∷ inside → inside ≡ body ++ tail → list_all (is_not 125) body ≡ true
+    → Stops (is_not 125) tail → (s : IsSet field) → bytes ≡ field ++ r → IsLabelsText body s.labels × (tail ≡ 125 ∷ r)
 set_found bytes inside body tail field r b i free st s e =
     let n = s.labels in
     let f : field ++ r ≡ 123 ∷ (labels_text n ++ 125 ∷ r) = ap (λ z. z ++ r) s.is ∙ simp append_assoc in
-    let g : body ++ tail ≡ labels_text n ++ 125 ∷ r = let h : 123 ∷ inside ≡ 123 ∷ (labels_text n ++ 125 ∷ r) = sym b ∙ (e ∙ f) in sym i ∙ (let q : inside ≡ labels_text n ++ 125 ∷ r = cc in q) in
+    let g : body ++ tail ≡ labels_text n ++ 125 ∷ r = let h : 123 ∷ inside ≡ 123 ∷ (labels_text n ++ 125 ∷ r) = sym b ∙ (e ∙ f) in
+    sym i ∙ (let q : inside ≡ labels_text n ++ 125 ∷ r = cc in q) in
     let k = one_cut (is_not 125) body (labels_text n) tail (125 ∷ r) free (labels_free n s.small) st (at_byte 125 r refl refl) g in
     (record { small = s.small; rising = s.rising; is = k.0 }, k.1)
 
 -- the set between these braces
-pub set_made : (bytes inside body tail rest labels : List ℕ) → bytes ≡ 123 ∷ inside → inside ≡ body ++ tail → tail ≡ 125 ∷ rest → IsAtEnd rest → IsLabelsText body labels → IsSetAt bytes labels rest
+pub set_made : (bytes inside body tail rest labels : List ℕ) → bytes ≡ 123 ∷ inside → inside ≡ body ++ tail → tail ≡ 125 ∷ rest → IsAtEnd rest
+    → IsLabelsText body labels → IsSetAt bytes labels rest
 set_made bytes inside body tail rest labels b i t end l = record {
   small = l.small;
   rising = l.rising;

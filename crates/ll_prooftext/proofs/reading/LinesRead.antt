@@ -1,5 +1,6 @@
 -- Lines, taken from a text, and texts, made of their lines.
-use Rattle.std.proofs.Common.{◌≡◌, ℕ, suc, ◌+◌, ◌<◌, Bool, true, false, List, [], ◌∷◌, ◌++◌, length, refl, ap, sym, subst, ◌∙◌, arith, append-nil, length-append, inl, inr}
+use Rattle.std.proofs.Common.{◌≡◌, ℕ, suc, ◌+◌, ◌<◌, Bool, true, false, List, [], ◌∷◌, ◌++◌, length, refl, ap, sym, subst, ◌∙◌, arith, append-nil}
+use Rattle.std.proofs.Common.{length-append, inl, inr}
 use Rattle.std.specs.Prelude.{not, ◌==◌, ◌⊎◌, if◌then◌else◌}
 use Rattle.std.specs.List.{list_all, flat_map}
 use Rattle.std.specs.Str.{bytes_eq}
@@ -21,7 +22,8 @@ pub lines_more : (w rest : List ℕ) → list_all (is_not 10) w ≡ true → tex
 lines_more [] rest h = refl
 lines_more (b ∷ w) rest h = by_test (b == 10) (first_passes (is_not 10) b w h) (lines_more w rest (tail (is_not 10) b w h))
   where
-    by_test : (v : Bool) → not v ≡ true → text_lines (w ++ 10 ∷ rest) ≡ w ∷ text_lines rest → (if v then [] ∷ text_lines (w ++ 10 ∷ rest) else add_byte b (text_lines (w ++ 10 ∷ rest))) ≡ (b ∷ w) ∷ text_lines rest
+    by_test : (v : Bool) → not v ≡ true → text_lines (w ++ 10 ∷ rest) ≡ w ∷ text_lines rest
+        → (if v then [] ∷ text_lines (w ++ 10 ∷ rest) else add_byte b (text_lines (w ++ 10 ∷ rest))) ≡ (b ∷ w) ∷ text_lines rest
     by_test true f ih = let x : false ≡ true = f in let y : ⊥ = cc in absurd y
     by_test false f ih = ap (add_byte b) ih
 
@@ -35,16 +37,20 @@ one_line b w f e = by_test (b == 10) f
 pub lines_last : (w : List ℕ) → list_all (is_not 10) w ≡ true → (w ≡ [] → ⊥) → text_lines w ≡ w ∷ []
 lines_last [] h full = absurd (full refl)
 lines_last (b ∷ []) h full = one_line b [] (first_passes (is_not 10) b [] h) refl
-lines_last (b ∷ c ∷ w) h full = one_line b (c ∷ w) (first_passes (is_not 10) b (c ∷ w) h) (ap (add_byte b) (lines_last (c ∷ w) (tail (is_not 10) b (c ∷ w) h) (λ e. let y : ⊥ = cc in y)))
+lines_last (b ∷ c ∷ w) h full = one_line b (c ∷ w) (first_passes (is_not 10) b (c ∷ w) h)
+    (ap (add_byte b) (lines_last (c ∷ w) (tail (is_not 10) b (c ∷ w) h) (λ e. let y : ⊥ = cc in y)))
 
 -- ---- places
 
 abbrev place : ℕ → ℕ → Place
 place l k = record { line = l; column = k }
 
-pub end_line : (l k : ℕ) (w rest : List ℕ) → list_all (is_not 10) w ≡ true → end_from (record { line = l; column = k }) (w ++ rest) ≡ end_from (record { line = l; column = k + length w }) rest
+pub end_line : (l k : ℕ) (w rest : List ℕ) → list_all (is_not 10) w ≡ true
+    → end_from (record { line = l; column = k }) (w ++ rest) ≡ end_from (record { line = l; column = k + length w }) rest
 end_line l k [] rest h = ap (λ j. end_from (record { line = l; column = j }) rest) (let e : k ≡ k + 0 = omega arith in e)
-end_line l k (b ∷ w) rest h = ap (λ at. end_from at (w ++ rest)) (by_test (b == 10) (first_passes (is_not 10) b w h)) ∙ (end_line l (k + 1) w rest (tail (is_not 10) b w h) ∙ ap (λ j. end_from (record { line = l; column = j }) rest) (let e : k + 1 + length w ≡ k + suc (length w) = omega arith in e))
+end_line l k (b ∷ w) rest h = ap (λ at. end_from at (w ++ rest)) (by_test (b == 10) (first_passes (is_not 10) b w h))
+    ∙ (end_line l (k + 1) w rest (tail (is_not 10) b w h) ∙ ap (λ j. end_from (record { line = l; column = j }) rest)
+    (let e : k + 1 + length w ≡ k + suc (length w) = omega arith in e))
   where
     by_test : (v : Bool) → not v ≡ true → (if v then place (l + 1) 1 else place l (k + 1)) ≡ place l (k + 1)
     by_test true f = let x : false ≡ true = f in let y : ⊥ = cc in absurd y
@@ -59,7 +65,9 @@ begins n bytes at (inl e) full = absurd (full e)
 begins n bytes at (inr e) full = e
 
 -- a line with its LF
-pub took : (o p : Lines) (line : TextLine) (behind rest : List ℕ) {b : Bool} → b ≡ (length o.rest.now == 0) → b ≡ false → IsNext o.at.line o.rest.now o.at → o.rest.now ≡ line.bytes.now ++ behind → list_all (is_not 10) line.bytes.now ≡ true → behind ≡ 10 ∷ rest → line.number ≡ o.at.line → p.rest.now ≡ rest → p.at ≡ record { line = o.at.line + 1; column = 1 } → TakesLine o line p
+pub took : (o p : Lines) (line : TextLine) (behind rest : List ℕ) {b : Bool} → b ≡ (length o.rest.now == 0) → b ≡ false → IsNext o.at.line o.rest.now o.at
+    → o.rest.now ≡ line.bytes.now ++ behind → list_all (is_not 10) line.bytes.now ≡ true → behind ≡ 10 ∷ rest → line.number ≡ o.at.line → p.rest.now ≡ rest
+    → p.at ≡ record { line = o.at.line + 1; column = 1 } → TakesLine o line p
 took o p line behind rest t f n e h k m r a =
     let w = line.bytes.now in
     let text : o.rest.now ≡ w ++ 10 ∷ p.rest.now = e ∙ ap (λ z. w ++ z) (k ∙ ap (λ z. 10 ∷ z) (sym r)) in
@@ -69,7 +77,8 @@ took o p line behind rest t f n e h k m r a =
     let pl : p.at.line ≡ o.at.line + 1 = ap (λ (z : Place). z.line) a in
     record {
       lines = ap text_lines text ∙ lines_more w p.rest.now h;
-      end = ap (λ z. end_from z p.rest.now) a ∙ sym (ap (λ z. end_from o.at z) text ∙ (ap (λ z. end_from z (w ++ 10 ∷ p.rest.now)) at ∙ end_line o.at.line 1 w (10 ∷ p.rest.now) h));
+      end = ap (λ z. end_from z p.rest.now) a ∙ sym (ap (λ z. end_from o.at z) text
+          ∙ (ap (λ z. end_from z (w ++ 10 ∷ p.rest.now)) at ∙ end_line o.at.line 1 w (10 ∷ p.rest.now) h));
       next = inr a;
       number = m;
       room = omega arith;
@@ -78,7 +87,9 @@ took o p line behind rest t f n e h k m r a =
     }
 
 -- the last line, without one
-pub took_last : (o p : Lines) (line : TextLine) (behind : List ℕ) {b : Bool} → b ≡ (length o.rest.now == 0) → b ≡ false → IsNext o.at.line o.rest.now o.at → o.rest.now ≡ line.bytes.now ++ behind → list_all (is_not 10) line.bytes.now ≡ true → Stops (is_not 10) behind → BeginsNot 10 behind → line.number ≡ o.at.line → p.rest.now ≡ behind → p.at ≡ record { line = o.at.line; column = length line.bytes.now + 1 } → TakesLine o line p
+pub took_last : (o p : Lines) (line : TextLine) (behind : List ℕ) {b : Bool} → b ≡ (length o.rest.now == 0) → b ≡ false → IsNext o.at.line o.rest.now o.at
+    → o.rest.now ≡ line.bytes.now ++ behind → list_all (is_not 10) line.bytes.now ≡ true → Stops (is_not 10) behind → BeginsNot 10 behind
+    → line.number ≡ o.at.line → p.rest.now ≡ behind → p.at ≡ record { line = o.at.line; column = length line.bytes.now + 1 } → TakesLine o line p
 took_last o p line behind t f n e h s none m r a =
     let w = line.bytes.now in
     let gone : behind ≡ [] = no_more behind s none in
@@ -92,7 +103,10 @@ took_last o p line behind t f n e h s none m r a =
     let pl : p.at.line ≡ o.at.line = ap (λ (z : Place). z.line) a in
     record {
       lines = ap text_lines text ∙ (lines_last w h full ∙ ap (λ z. w ∷ text_lines z) (sym left));
-      end = ap (λ z. end_from p.at z) left ∙ (a ∙ sym (ap (λ z. end_from o.at z) (text ∙ sym (append-nil w)) ∙ (ap (λ z. end_from z (w ++ [])) at ∙ (end_line o.at.line 1 w [] h ∙ ap (λ j. place o.at.line j) (let q : 1 + length w ≡ length w + 1 = omega arith in q)))));
+      end =
+          ap (λ z. end_from p.at z) left ∙ (a ∙ sym (ap (λ z. end_from o.at z) (text ∙ sym (append-nil w))
+          ∙ (ap (λ z. end_from z (w ++ [])) at ∙ (end_line o.at.line 1 w [] h
+          ∙ ap (λ j. place o.at.line j) (let q : 1 + length w ≡ length w + 1 = omega arith in q)))));
       next = inl left;
       number = m;
       room = omega arith;
@@ -117,11 +131,13 @@ no_line o p t f a = record { rest = empty o.rest.now t f; at = a }
   where
     empty : {b : Bool} (bs : List ℕ) → b ≡ (length bs == 0) → b ≡ true → bs ≡ []
     empty [] t f = refl
-    empty (x ∷ xs) t f = let e : (length (x ∷ xs) == 0) ≡ true = sym t ∙ f in let l : length (x ∷ xs) ≡ 0 = eqb-true (length (x ∷ xs)) 0 e in absurd (omega arith)
+    empty (x ∷ xs) t f = let e : (length (x ∷ xs) == 0) ≡ true = sym t ∙ f in let l : length (x ∷ xs) ≡ 0 = eqb-true (length (x ∷ xs)) 0 e in
+        absurd (omega arith)
 
 -- ---- the first line
 
-pub version_is : (text : List ℕ) (o p : Lines) (line : TextLine) (v : List ℕ) → o.rest.now ≡ text → o.at ≡ record { line = 1; column = 1 } → TakesLine o line p → true ≡ bytes_eq line.bytes.now v → IsBehindVersion v text p
+pub version_is : (text : List ℕ) (o p : Lines) (line : TextLine) (v : List ℕ) → o.rest.now ≡ text → o.at ≡ record { line = 1; column = 1 } → TakesLine o line p
+    → true ≡ bytes_eq line.bytes.now v → IsBehindVersion v text p
 version_is text o p line v r a t h =
     let w : line.bytes.now ≡ v = (bytes_eq-Decides line.bytes.now v).0 (sym h) in
     let l : o.at.line ≡ 1 = ap (λ (z : Place). z.line) a in
@@ -131,13 +147,16 @@ version_is text o p line v r a t h =
     let shorter = t.shorter in
     record {
       lines = ap text_lines (sym r) ∙ (t.lines ∙ ap (λ z. z ∷ text_lines p.rest.now) w);
-      end = t.end ∙ (ap (λ z. end_from z o.rest.now) a ∙ (ap (end_from (record { line = 1; column = 1 })) r ∙ ap (end_from (record { line = 1; column = 1 })) (sym (take_all (length text) text (omega arith)))));
+      end =
+          t.end ∙ (ap (λ z. end_from z o.rest.now) a ∙ (ap (end_from (record { line = 1; column = 1 })) r
+          ∙ ap (end_from (record { line = 1; column = 1 })) (sym (take_all (length text) text (omega arith)))));
       next = subst (λ j. IsNext j p.rest.now p.at) n t.next;
       shorter = omega arith;
       low = omega arith;
     }
 
-pub other_version : (text : List ℕ) (o p : Lines) (line : TextLine) (v : List ℕ) → o.rest.now ≡ text → TakesLine o line p → false ≡ bytes_eq line.bytes.now v → HasNoVersion v (text_lines text)
+pub other_version : (text : List ℕ) (o p : Lines) (line : TextLine) (v : List ℕ) → o.rest.now ≡ text → TakesLine o line p → false ≡ bytes_eq line.bytes.now v
+    → HasNoVersion v (text_lines text)
 other_version text o p line v r t h rest k =
     let lines : line.bytes.now ∷ text_lines p.rest.now ≡ v ∷ rest = sym t.lines ∙ (ap text_lines r ∙ k) in
     let w : line.bytes.now ≡ v = heads line.bytes.now v (text_lines p.rest.now) rest lines in
@@ -161,7 +180,8 @@ pub lines_back : (text : List ℕ) → (text ≡ flat_map with_end (text_lines t
 lines_back [] = inl refl
 lines_back (b ∷ bs) = by_test (b == 10) refl (lines_back bs)
   where
-    front : (ls : List (List ℕ)) → (text_lines bs ≡ ls) → (bs ≡ flat_map with_end ls) ⊎ (bs ++ 10 ∷ [] ≡ flat_map with_end ls) → (b ∷ bs ≡ flat_map with_end (add_byte b ls)) ⊎ (b ∷ (bs ++ 10 ∷ []) ≡ flat_map with_end (add_byte b ls))
+    front : (ls : List (List ℕ)) → (text_lines bs ≡ ls) → (bs ≡ flat_map with_end ls) ⊎ (bs ++ 10 ∷ [] ≡ flat_map with_end ls)
+        → (b ∷ bs ≡ flat_map with_end (add_byte b ls)) ⊎ (b ∷ (bs ++ 10 ∷ []) ≡ flat_map with_end (add_byte b ls))
     front [] q (inl e) = inr (ap (λ z. b ∷ (z ++ 10 ∷ [])) e)
     front [] q (inr e) = absurd (full bs e)
       where
@@ -171,7 +191,9 @@ lines_back (b ∷ bs) = by_test (b == 10) refl (lines_back bs)
     front (l ∷ ls) q (inl e) = inl (ap (λ z. b ∷ z) e)
     front (l ∷ ls) q (inr e) = inr (ap (λ z. b ∷ z) e)
 
-    by_test : (v : Bool) → (b == 10) ≡ v → (bs ≡ flat_map with_end (text_lines bs)) ⊎ (bs ++ 10 ∷ [] ≡ flat_map with_end (text_lines bs)) → (b ∷ bs ≡ flat_map with_end (if v then [] ∷ text_lines bs else add_byte b (text_lines bs))) ⊎ (b ∷ (bs ++ 10 ∷ []) ≡ flat_map with_end (if v then [] ∷ text_lines bs else add_byte b (text_lines bs)))
+    by_test : (v : Bool) → (b == 10) ≡ v → (bs ≡ flat_map with_end (text_lines bs)) ⊎ (bs ++ 10 ∷ [] ≡ flat_map with_end (text_lines bs))
+        → (b ∷ bs ≡ flat_map with_end (if v then [] ∷ text_lines bs else add_byte b (text_lines bs)))
+        ⊎ (b ∷ (bs ++ 10 ∷ []) ≡ flat_map with_end (if v then [] ∷ text_lines bs else add_byte b (text_lines bs)))
     by_test true t (inl e) = let q : b ≡ 10 = eqb-true b 10 t in inl (ap (λ z. z ∷ bs) q ∙ ap (λ z. 10 ∷ z) e)
     by_test true t (inr e) = let q : b ≡ 10 = eqb-true b 10 t in inr (ap (λ z. z ∷ (bs ++ 10 ∷ [])) q ∙ ap (λ z. 10 ∷ z) e)
     by_test false t h = front (text_lines bs) refl h

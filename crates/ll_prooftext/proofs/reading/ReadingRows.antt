@@ -6,7 +6,8 @@ use Rattle.ll_laws.specs.Shows.{EraseNode}
 use Rattle.ll_laws.specs.Line.{EraseLine, WithLine, TensorLine, ClauseLine}
 use Rattle.ll_lexer.specs.Spelling.{is_lower, is_word_byte}
 use Rattle.ll_prooftext.specs.Admitted.{IsSpelledTerm, IsSpelledPart, IsSpelledLine, AreLabels}
-use Rattle.ll_prooftext.specs.Reading.{IsTextOf, Set, Then, Nothing, none, one, lacks, Begins, HasFault, unknown_word, bad_field, nodes_missing, left_over, version, text_lines}
+use Rattle.ll_prooftext.specs.Reading.{IsTextOf, Set, Then, Nothing, none, one, lacks, Begins, HasFault, unknown_word, bad_field, nodes_missing, left_over}
+use Rattle.ll_prooftext.specs.Reading.{version, text_lines}
 use Rattle.ll_prooftext.specs.Mentions.{text_names, line_names, mentions, name_here, scanned, word_run}
 
 -- no item
@@ -88,7 +89,10 @@ first_nodes = record {
   ordered = refl;
   spelled_terms = nothing (IsSpelledTerm []);
   spelled_nodes =
-      All-cons (IsSpelledLine []) (TensorLine (0 ∷ []) (1 ∷ [])) (WithLine ∷ EraseLine ∷ ClauseLine 0 0 [] [] ∷ []) (small 0 (omega arith), small 1 (omega arith))
+      All-cons (IsSpelledLine []) (TensorLine (0 ∷ []) (1 ∷ [])) (WithLine ∷ EraseLine ∷ ClauseLine 0 0 [] [] ∷ []) (
+        small 0 (omega arith),
+        small 1 (omega arith),
+      )
       (All-cons (IsSpelledLine []) WithLine (EraseLine ∷ ClauseLine 0 0 [] [] ∷ []) tt
       (All-cons (IsSpelledLine []) EraseLine (ClauseLine 0 0 [] [] ∷ []) tt
       (alone (IsSpelledLine []) (ClauseLine 0 0 [] []) (omega arith, (omega arith, (nothing (IsSpelledTerm []), nothing IsSpelledPart))))));

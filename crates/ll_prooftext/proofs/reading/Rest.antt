@@ -1,5 +1,6 @@
 -- The fields of a line, one by one.
-use Rattle.std.proofs.Common.{◌≡◌, ℕ, ◌<◌, ◌≤◌, ◌^◌, Bool, true, false, List, [], ◌∷◌, ◌++◌, length, refl, ap, sym, subst, ◌∙◌, arith, codes, append_assoc, append-nil, IsTrue, Option, Some, None, decimal, inl, inr}
+use Rattle.std.proofs.Common.{◌≡◌, ℕ, ◌<◌, ◌≤◌, ◌^◌, Bool, true, false, List, [], ◌∷◌, ◌++◌, length, refl, ap, sym, subst, ◌∙◌, arith, codes, append_assoc}
+use Rattle.std.proofs.Common.{append-nil, IsTrue, Option, Some, None, decimal, inl, inr}
 use Rattle.std.specs.Prelude.{◌==◌, if◌then◌else◌}
 use Rattle.std.specs.List.{list_all}
 use Rattle.std.proofs.lemmas.Bool.{eqb-true}
@@ -17,7 +18,8 @@ use Rattle.ll_laws.specs.declared.Part.{Part}
 use Rattle.ll_laws.specs.declared.Part.TheVariants.{Bounded, Unbounded}
 use Rattle.ll_prooftext.specs.declared.rows.Refusal.{Refusal}
 use Rattle.ll_prooftext.specs.declared.rows.Refusal.TheVariants as refusal
-use Rattle.ll_prooftext.specs.Reading.{Kind, Number, Set, Argument, Mark, Plain, Sign, Cell, Want, Nothing, Arguments, Premises, Row, More, Cells, Then, after_field, IsField, IsNumber, Fields, none, one, IsAtEnd, line_end, space, HasNoField}
+use Rattle.ll_prooftext.specs.Reading.{Kind, Number, Set, Argument, Mark, Plain, Sign, Cell, Want, Nothing, Arguments, Premises, Row, More, Cells, Then}
+use Rattle.ll_prooftext.specs.Reading.{after_field, IsField, IsNumber, Fields, none, one, IsAtEnd, line_end, space, HasNoField}
 use Rattle.ll_prooftext.specs.Words.{Stops, ended, at_byte, is_not, BeginsNot, HasNone, IsSetAt}
 use Rattle.ll_prooftext.specs.Terms.{Moves, IsSpelledAt, argument_at}
 use Rattle.std.specs.List.{flat_map}
@@ -32,7 +34,8 @@ use Rattle.ll_prooftext.proofs.spelling.Kept.{flat_same, arg_same, arg_good}
 use Rattle.ll_prooftext.proofs.spelling.Arguments.{end_stops as end_stops_word, argument_first}
 use Rattle.ll_prooftext.proofs.spelling.Mentioning.{space_mentions, quiet_apart, quiet_none, decimal_quiet, field_quiet, parts_quiet}
 use Rattle.ll_prooftext.specs.Mentions.{Outside, mentions}
-use Rattle.ll_prooftext.specs.Fields.{IsMissing, other, LacksField, LacksPart, IsBad, lacking, wrong, StopsAt, Refuses, IsNumberField, IsSetField, IsPartField, IsTermField, AreSets, brace, mark, HasNoTerm, AreTermFields, ArePartFields, AreClauseFields}
+use Rattle.ll_prooftext.specs.Fields.{IsMissing, other, LacksField, LacksPart, IsBad, lacking, wrong, StopsAt, Refuses, IsNumberField, IsSetField, IsPartField}
+use Rattle.ll_prooftext.specs.Fields.{IsTermField, AreSets, brace, mark, HasNoTerm, AreTermFields, ArePartFields, AreClauseFields}
 use Rattle.ll_prooftext.specs.Fields.{ended as all_read}
 use Rattle.ll_prooftext.proofs.spelling.Cuts.{one_cut}
 use Rattle.ll_prooftext.proofs.spelling.Ways.{byte_apart, behind_byte}
@@ -58,9 +61,11 @@ end_stops rest (space {rest = bs}) = at_byte 32 bs refl refl
 
 -- ---- numbers
 
-pub number_none : (bytes word rest : List ℕ) → bytes ≡ word ++ rest → list_all (is_not 32) word ≡ true → Stops (is_not 32) rest → (IsNumber word → ⊥) → HasNone Number bytes
+pub number_none : (bytes word rest : List ℕ) → bytes ≡ word ++ rest → list_all (is_not 32) word ≡ true → Stops (is_not 32) rest → (IsNumber word → ⊥)
+    → HasNone Number bytes
 number_none bytes word rest e f s bare field behind i g end =
-    let k = one_cut (is_not 32) word field rest behind f (subst (λ w. list_all (is_not 32) w ≡ true) (sym i.is) (decimal_not 32 i.number (let l = i.small in omega arith) (inl (omega arith)))) s (end_stops behind end) (sym e ∙ g) in
+    let k = one_cut (is_not 32) word field rest behind f (subst (λ w. list_all (is_not 32) w ≡ true) (sym i.is)
+    (decimal_not 32 i.number (let l = i.small in omega arith) (inl (omega arith)))) s (end_stops behind end) (sym e ∙ g) in
     bare (subst IsNumber (sym k.0) i)
 
 -- ---- what is wrong
@@ -81,7 +86,8 @@ then_none Argument v bytes h Argument field rest next a i e end = h field rest i
 then_none Mark v bytes h Mark field rest next a i e end = h field rest i e end
 then_none Plain v bytes h Plain field rest next a i e end = h field rest i e end
 then_none Sign v bytes h Sign field rest next a i e end = h field rest i e end
-then_none (Cell n) v bytes h (Cell j) field rest next a i e end = h field rest (subst (λ m. IsField (Cell m) field) (sym (same_row n j (Some v) next a)) i) e end
+then_none (Cell n) v bytes h (Cell j) field rest next a i e end =
+    h field rest (subst (λ m. IsField (Cell m) field) (sym (same_row n j (Some v) next a)) i) e end
 then_none Number v bytes h Set field rest next a i e end = let x : ⊥ = cc in x
 then_none Number v bytes h Argument field rest next a i e end = let x : ⊥ = cc in x
 then_none Number v bytes h Mark field rest next a i e end = let x : ⊥ = cc in x
@@ -134,7 +140,8 @@ stops_here k v bytes left l = record { good = []; rest = bytes; next = Then k v;
     bad (other rest e h) = wrong rest e (then_none k v rest h)
 
 -- behind a good field
-pub stops_behind : (k : Kind) (v next : Want) (bytes text rest : List ℕ) (left : ℕ) → after_field v k ≡ Some next → IsField k text → bytes ≡ 32 ∷ (text ++ rest) → StopsAt next rest left → StopsAt v bytes left
+pub stops_behind : (k : Kind) (v next : Want) (bytes text rest : List ℕ) (left : ℕ) → after_field v k ≡ Some next → IsField k text → bytes ≡ 32 ∷ (text ++ rest)
+    → StopsAt next rest left → StopsAt v bytes left
 stops_behind k v next bytes text rest left a i e s = record {
   good = 32 ∷ (text ++ s.good);
   rest = s.rest;
@@ -161,7 +168,8 @@ nothing_left k bytes end b = record { left_is = refl; missing = all_read (end_em
 pub nothing_there : (k : Kind) (bytes rest : List ℕ) → bytes ≡ 32 ∷ rest → HasNone k rest → LacksField k bytes (length bytes)
 nothing_there k bytes rest e h = record { left_is = refl; missing = other rest e h }
 
-pub number_made : (bytes there word rest : List ℕ) (n : ℕ) → bytes ≡ 32 ∷ there → there ≡ word ++ rest → word ≡ decimal n → n < 2 ^ 32 → Stops (is_not 32) rest → IsNumberField bytes n rest
+pub number_made : (bytes there word rest : List ℕ) (n : ℕ) → bytes ≡ 32 ∷ there → there ≡ word ++ rest → word ≡ decimal n → n < 2 ^ 32 → Stops (is_not 32) rest
+    → IsNumberField bytes n rest
 number_made bytes there word rest n b t w small s = record { small = small; is = b ∙ ap (λ z. 32 ∷ z) (t ∙ ap (λ z. z ++ rest) w); end = stops_end rest s }
 
 -- a number is the last field
@@ -169,18 +177,25 @@ pub number_last : (bytes rest : List ℕ) (n : ℕ) → IsNumberField bytes n re
 number_last bytes rest n f e = subst (IsNumberField bytes n) e f
 
 pub number_then : (bytes rest : List ℕ) (n left : ℕ) (next : Want) → IsNumberField bytes n rest → StopsAt next rest left → StopsAt (Then Number next) bytes left
-number_then bytes rest n left next f s = stops_behind Number (Then Number next) next bytes (decimal n) rest left refl (record { number = n; small = f.small; is = refl }) f.is s
+number_then bytes rest n left next f s = stops_behind Number (Then Number next) next bytes (decimal n) rest left refl
+    (record { number = n; small = f.small; is = refl }) f.is s
 
-pub argument_then : (names : List (List ℕ)) (bank : Nodes) (bytes : List ℕ) (new : List (List ℕ)) (over : Nodes) (at : ℕ) (rest : List ℕ) (left : ℕ) (v next : Want) → after_field v Argument ≡ Some next → IsTermField names bank bytes new over at rest → StopsAt next rest left → StopsAt v bytes left
-argument_then names bank bytes new over at rest left v next a f s = stops_behind Argument v next bytes (argument_at new over at) rest left a (record { names = new; term = term_tree over at; spelled = f.good.spelled; closed = f.good.closed; is = refl }) f.is s
+pub argument_then : (names : List (List ℕ)) (bank : Nodes) (bytes : List ℕ) (new : List (List ℕ)) (over : Nodes) (at : ℕ) (rest : List ℕ) (left : ℕ)
+    (v next : Want) → after_field v Argument ≡ Some next → IsTermField names bank bytes new over at rest → StopsAt next rest left → StopsAt v bytes left
+argument_then names bank bytes new over at rest left v next a f s =
+    stops_behind Argument v next bytes (argument_at new over at) rest left a
+    (record { names = new; term = term_tree over at; spelled = f.good.spelled; closed = f.good.closed; is = refl }) f.is s
 
-pub set_then : (bytes labels rest : List ℕ) (left : ℕ) (v next : Want) → after_field v Set ≡ Some next → IsSetField bytes labels rest → StopsAt next rest left → StopsAt v bytes left
-set_then bytes labels rest left v next a f s = stops_behind Set v next bytes (set_text labels) rest left a (record { labels = labels; small = f.small; rising = f.rising; is = refl }) f.is s
+pub set_then : (bytes labels rest : List ℕ) (left : ℕ) (v next : Want) → after_field v Set ≡ Some next → IsSetField bytes labels rest → StopsAt next rest left
+    → StopsAt v bytes left
+set_then bytes labels rest left v next a f s = stops_behind Set v next bytes (set_text labels) rest left a
+    (record { labels = labels; small = f.small; rising = f.rising; is = refl }) f.is s
 
 pub set_made_field : (bytes there labels rest : List ℕ) → bytes ≡ 32 ∷ there → IsSetAt there labels rest → IsSetField bytes labels rest
 set_made_field bytes there labels rest b s = record { small = s.small; rising = s.rising; is = b ∙ ap (λ z. 32 ∷ z) s.is; end = s.end }
 
-pub term_made_field : (names : List (List ℕ)) (bank : Nodes) (bytes there : List ℕ) (new : List (List ℕ)) (over : Nodes) (at : ℕ) (rest : List ℕ) → bytes ≡ 32 ∷ there → IsArgumentAt names bank there new over at rest → IsTermField names bank bytes new over at rest
+pub term_made_field : (names : List (List ℕ)) (bank : Nodes) (bytes there : List ℕ) (new : List (List ℕ)) (over : Nodes) (at : ℕ) (rest : List ℕ)
+    → bytes ≡ 32 ∷ there → IsArgumentAt names bank there new over at rest → IsTermField names bank bytes new over at rest
 term_made_field names bank bytes there new over at rest b s = record {
   good = s.good;
   is = b ∙ ap (λ z. 32 ∷ z) s.is;
@@ -214,7 +229,8 @@ part_marked bytes there rest b t bare = record { left_is = refl; set = other the
     no_set field behind i e end = byte_apart _ _ _ _ (sym t ∙ (e ∙ ap (λ z. z ++ behind) i.is)) refl
 
     no_mark : HasNone Mark there
-    no_mark field behind i e end = let q : 33 ∷ rest ≡ 33 ∷ behind = sym t ∙ (e ∙ ap (λ z. z ++ behind) (byte_of_mark field i)) in bare (subst IsAtEnd (sym (behind_byte 33 rest behind q)) end)
+    no_mark field behind i e end = let q : 33 ∷ rest ≡ 33 ∷ behind = sym t ∙ (e ∙ ap (λ z. z ++ behind) (byte_of_mark field i)) in
+        bare (subst IsAtEnd (sym (behind_byte 33 rest behind q)) end)
 
 -- no set, and no `!`
 pub part_other : (bytes there : List ℕ) → bytes ≡ 32 ∷ there → BeginsNot 33 there → HasNone Set there → LacksPart bytes (length bytes)
@@ -263,19 +279,26 @@ terms_none names bank bytes end = record {
   moves = moves_still names bank bytes;
 }
 
-pub terms_more : (names : List (List ℕ)) (bank : Nodes) (bytes : List ℕ) (new : List (List ℕ)) (over : Nodes) (terms : List At) (rest : List ℕ) (later : List (List ℕ)) (after : Nodes) (at : At) (next : List ℕ) → AreTermFields names bank bytes new over terms rest → IsTermField new over rest later after at.0 next
+pub terms_more : (names : List (List ℕ)) (bank : Nodes) (bytes : List ℕ) (new : List (List ℕ)) (over : Nodes) (terms : List At) (rest : List ℕ)
+    (later : List (List ℕ)) (after : Nodes) (at : At) (next : List ℕ) → AreTermFields names bank bytes new over terms rest
+    → IsTermField new over rest later after at.0 next
     → AreTermFields names bank bytes later after (terms ++ at ∷ []) next
 terms_more names bank bytes new over terms rest later after at next t f =
     let g = f.moves.grows in
     let e = f.moves.keeps in
-    let same : args_text later after terms ≡ args_text new over terms = flat_same (λ (a : At). IsSpelledAt new over a.0) (λ (a : At). field (argument_at later after a.0)) (λ (a : At). field (argument_at new over a.0)) (arg_same new over later after g e) terms t.good in
+    let same : args_text later after terms ≡ args_text new over terms =
+    flat_same (λ (a : At). IsSpelledAt new over a.0) (λ (a : At). field (argument_at later after a.0)) (λ (a : At). field (argument_at new over a.0))
+    (arg_same new over later after g e) terms t.good in
     let arg = argument_at later after at.0 in
-    let text : args_text later after (terms ++ at ∷ []) ≡ args_text new over terms ++ (32 ∷ (arg ++ [])) = flat_map-append (λ (a : At). field (argument_at later after a.0)) terms (at ∷ []) ∙ ap (λ z. z ++ (32 ∷ (arg ++ []))) same in
+    let text : args_text later after (terms ++ at ∷ []) ≡ args_text new over terms ++ (32 ∷ (arg ++ [])) =
+    flat_map-append (λ (a : At). field (argument_at later after a.0)) terms (at ∷ []) ∙ ap (λ z. z ++ (32 ∷ (arg ++ []))) same in
     let i : IsField Argument arg = record { names = later; term = term_tree after at.0; spelled = f.good.spelled; closed = f.good.closed; is = refl } in
     record {
-      good = All-push (λ (a : At). IsSpelledAt later after a.0) terms at (All-weaker (λ (a : At). IsSpelledAt new over a.0) (λ (a : At). IsSpelledAt later after a.0) (arg_good new over later after g e) terms t.good) f.good;
+      good = All-push (λ (a : At). IsSpelledAt later after a.0) terms at
+          (All-weaker (λ (a : At). IsSpelledAt new over a.0) (λ (a : At). IsSpelledAt later after a.0) (arg_good new over later after g e) terms t.good) f.good;
       is = t.is ∙ (ap (λ z. args_text new over terms ++ z) f.is ∙ (together (args_text new over terms) arg next ∙ ap (λ z. z ++ next) (sym text)));
-      fields = subst (λ z. Fields Arguments z Arguments) (sym text) (fields_on Arguments Arguments Arguments (args_text new over terms) (32 ∷ (arg ++ [])) t.fields (one Argument arg Arguments refl i none));
+      fields = subst (λ z. Fields Arguments z Arguments) (sym text)
+          (fields_on Arguments Arguments Arguments (args_text new over terms) (32 ∷ (arg ++ [])) t.fields (one Argument arg Arguments refl i none));
       end = f.end;
       moves = moves_on names bank bytes new over rest later after next t.moves f.moves;
     }
@@ -293,9 +316,11 @@ no_argument_field rest bare h Sign field behind next a i e end = let x : ⊥ = c
 no_argument_field rest bare h (Cell j) field behind next a i e end = let x : ⊥ = cc in x
 no_argument_field rest bare h Mark field behind next a i e end = bare (inr (mark _ (ap (λ z. 32 ∷ z) (e ∙ ap (λ z. z ++ behind) (byte_of_mark field i)))))
 
-pub terms_stop : (names : List (List ℕ)) (bank : Nodes) (bytes : List ℕ) (new : List (List ℕ)) (over : Nodes) (terms : List At) (rest : List ℕ) (left : ℕ) → AreTermFields names bank bytes new over terms rest → (HasNoTerm rest → ⊥) → LacksField Argument rest left → StopsAt Arguments bytes left
+pub terms_stop : (names : List (List ℕ)) (bank : Nodes) (bytes : List ℕ) (new : List (List ℕ)) (over : Nodes) (terms : List At) (rest : List ℕ) (left : ℕ)
+    → AreTermFields names bank bytes new over terms rest → (HasNoTerm rest → ⊥) → LacksField Argument rest left → StopsAt Arguments bytes left
 terms_stop names bank bytes new over terms rest left t bare l =
-    stops_after Arguments Arguments bytes (args_text new over terms) rest left t.is t.fields (record { good = []; rest = rest; next = Arguments; is = refl; fields = none; left_is = l.left_is; bad = bad l.missing })
+    stops_after Arguments Arguments bytes (args_text new over terms) rest left t.is t.fields
+    (record { good = []; rest = rest; next = Arguments; is = refl; fields = none; left_is = l.left_is; bad = bad l.missing })
   where
     bad : IsMissing Argument rest → IsBad Arguments rest
     bad (all_read e) = absurd (bare (inl e))
@@ -339,7 +364,8 @@ pub parts_none : (bytes : List ℕ) → IsAtEnd bytes → HasNoTerm bytes → Ar
 parts_none bytes end h = record { next = Arguments; spelled = All-nil IsSpelledPart; rising = refl; is = refl; fields = none; only = h; end = end }
 
 -- one premise after those that may follow
-one_part : (v : Want) (rest : List ℕ) (part : Part) → OnlyParts v rest → IsSpelledPart (part_line part) → IsTrue (part_rises (part_line part)) → Fields v (part_field (part_line part) ++ []) Premises
+one_part : (v : Want) (rest : List ℕ) (part : Part) → OnlyParts v rest → IsSpelledPart (part_line part) → IsTrue (part_rises (part_line part))
+    → Fields v (part_field (part_line part) ++ []) Premises
 one_part Premises rest (Bounded s) o sp r = one Set (set_text s.items) Premises refl (record { labels = s.items; small = sp; rising = r; is = refl }) none
 one_part Premises rest Unbounded o sp r = one Mark (codes "!") Premises refl refl none
 one_part Arguments rest (Bounded s) o sp r = one Set (set_text s.items) Premises refl (record { labels = s.items; small = sp; rising = r; is = refl }) none
@@ -350,16 +376,22 @@ one_part (More n) rest part o sp r = absurd o
 one_part (Cells n) rest part o sp r = absurd o
 one_part (Then k v) rest part o sp r = absurd o
 
-pub parts_more : (bytes : List ℕ) (parts : List Part) (rest : List ℕ) (part : Part) (behind : List ℕ) → ArePartsTo bytes parts rest → IsPartField rest part behind → ArePartsTo bytes (parts ++ part ∷ []) behind
+pub parts_more : (bytes : List ℕ) (parts : List Part) (rest : List ℕ) (part : Part) (behind : List ℕ) → ArePartsTo bytes parts rest
+    → IsPartField rest part behind → ArePartsTo bytes (parts ++ part ∷ []) behind
 parts_more bytes parts rest part behind t f =
     let lines : map part_line (parts ++ part ∷ []) ≡ map part_line parts ++ part_line part ∷ [] = map-append part_line parts (part ∷ []) in
-    let text : flat_map part_field (map part_line (parts ++ part ∷ [])) ≡ flat_map part_field (map part_line parts) ++ (part_field (part_line part) ++ []) = ap (flat_map part_field) lines ∙ flat_map-append part_field (map part_line parts) (part_line part ∷ []) in
+    let text : flat_map part_field (map part_line (parts ++ part ∷ [])) ≡ flat_map part_field (map part_line parts) ++ (part_field (part_line part) ++ []) =
+    ap (flat_map part_field) lines ∙ flat_map-append part_field (map part_line parts) (part_line part ∷ []) in
     record {
       next = Premises;
       spelled = subst (All IsSpelledPart) (sym lines) (All-push IsSpelledPart (map part_line parts) (part_line part) t.spelled f.spelled);
-      rising = ap (list_all part_rises) lines ∙ (list_all-append part_rises (map part_line parts) (part_line part ∷ []) ∙ (let a = t.rising in let b : part_rises (part_line part) ≡ true = f.rising in rw (a, b) refl));
-      is = t.is ∙ (ap (λ z. flat_map part_field (map part_line parts) ++ z) f.is ∙ (together (flat_map part_field (map part_line parts)) (part_field (part_line part)) behind ∙ ap (λ z. z ++ behind) (sym text)));
-      fields = subst (λ z. Fields Arguments z Premises) (sym text) (fields_on Arguments t.next Premises (flat_map part_field (map part_line parts)) (part_field (part_line part) ++ []) t.fields (one_part t.next rest part t.only f.spelled f.rising));
+      rising = ap (list_all part_rises) lines ∙ (list_all-append part_rises (map part_line parts) (part_line part ∷ [])
+          ∙ (let a = t.rising in let b : part_rises (part_line part) ≡ true = f.rising in rw (a, b) refl));
+      is = t.is ∙ (ap (λ z. flat_map part_field (map part_line parts) ++ z) f.is
+          ∙ (together (flat_map part_field (map part_line parts)) (part_field (part_line part)) behind ∙ ap (λ z. z ++ behind) (sym text)));
+      fields = subst (λ z. Fields Arguments z Premises) (sym text)
+          (fields_on Arguments t.next Premises (flat_map part_field (map part_line parts)) (part_field (part_line part) ++ []) t.fields
+          (one_part t.next rest part t.only f.spelled f.rising));
       only = tt;
       end = f.end;
     }
@@ -392,9 +424,11 @@ no_part_field (More n) rest there b o s m k field behind next a i e end = o
 no_part_field (Cells n) rest there b o s m k field behind next a i e end = o
 no_part_field (Then j v) rest there b o s m k field behind next a i e end = o
 
-pub parts_stop : (bytes : List ℕ) (parts : List Part) (rest : List ℕ) (left : ℕ) → ArePartsTo bytes parts rest → (rest ≡ [] → ⊥) → LacksPart rest left → StopsAt Arguments bytes left
+pub parts_stop : (bytes : List ℕ) (parts : List Part) (rest : List ℕ) (left : ℕ) → ArePartsTo bytes parts rest → (rest ≡ [] → ⊥) → LacksPart rest left
+    → StopsAt Arguments bytes left
 parts_stop bytes parts rest left t full l =
-    stops_after Arguments t.next bytes (flat_map part_field (map part_line parts)) rest left t.is t.fields (record { good = []; rest = rest; next = t.next; is = refl; fields = none; left_is = l.left_is; bad = bad l.set l.mark })
+    stops_after Arguments t.next bytes (flat_map part_field (map part_line parts)) rest left t.is t.fields
+    (record { good = []; rest = rest; next = t.next; is = refl; fields = none; left_is = l.left_is; bad = bad l.set l.mark })
   where
     bad : IsMissing Set rest → IsMissing Mark rest → IsBad t.next rest
     bad (all_read e) m = absurd (full e)
@@ -404,16 +438,23 @@ parts_stop bytes parts rest left t full l =
         wrong there e (no_part_field t.next rest there e t.only h (subst (λ z. HasNone Mark z) q g))
 
 pub parts_all : (bytes : List ℕ) (parts : List Part) (rest : List ℕ) → ArePartsTo bytes parts rest → rest ≡ [] → ArePartFields bytes parts
-parts_all bytes parts rest t e = record { spelled = t.spelled; rising = t.rising; is = t.is ∙ (ap (λ z. flat_map part_field (map part_line parts) ++ z) e ∙ append-nil (flat_map part_field (map part_line parts))) }
+parts_all bytes parts rest t e = record {
+  spelled = t.spelled;
+  rising = t.rising;
+  is =
+      t.is ∙ (ap (λ z. flat_map part_field (map part_line parts) ++ z) e ∙ append-nil (flat_map part_field (map part_line parts)));
+}
 
 -- ---- a clause step
 
 -- what is wrong behind the terms
-pub terms_then : (names : List (List ℕ)) (bank : Nodes) (bytes : List ℕ) (new : List (List ℕ)) (over : Nodes) (terms : List At) (rest : List ℕ) (left : ℕ) → AreTermFields names bank bytes new over terms rest → StopsAt Arguments rest left → StopsAt Arguments bytes left
+pub terms_then : (names : List (List ℕ)) (bank : Nodes) (bytes : List ℕ) (new : List (List ℕ)) (over : Nodes) (terms : List At) (rest : List ℕ) (left : ℕ)
+    → AreTermFields names bank bytes new over terms rest → StopsAt Arguments rest left → StopsAt Arguments bytes left
 terms_then names bank bytes new over terms rest left t s = stops_after Arguments Arguments bytes (args_text new over terms) rest left t.is t.fields s
 
 -- a label and a leaf in front
-pub clause_then : (bytes : List ℕ) (n : ℕ) (rest : List ℕ) (k : ℕ) (behind : List ℕ) (left : ℕ) → IsNumberField bytes n rest → IsNumberField rest k behind → StopsAt Arguments behind left → StopsAt (Then Number (Then Number Arguments)) bytes left
+pub clause_then : (bytes : List ℕ) (n : ℕ) (rest : List ℕ) (k : ℕ) (behind : List ℕ) (left : ℕ) → IsNumberField bytes n rest → IsNumberField rest k behind
+    → StopsAt Arguments behind left → StopsAt (Then Number (Then Number Arguments)) bytes left
 clause_then bytes n rest k behind left f g s = number_then bytes rest n left (Then Number Arguments) f (number_then rest behind k left Arguments g s)
 
 pub number_room : (bytes : List ℕ) (n : ℕ) (rest : List ℕ) → IsNumberField bytes n rest → length rest ≤ length bytes
@@ -421,16 +462,22 @@ number_room bytes n rest f = let l = ap length f.is in let k = length-append (fi
 
 -- a number mentions no name
 number_mentions : (bytes : List ℕ) (n : ℕ) (rest : List ℕ) → IsNumberField bytes n rest → mentions Outside (field (decimal n) ++ rest) ≡ mentions Outside rest
-number_mentions bytes n rest f = quiet_apart (field (decimal n)) rest (field_quiet (decimal n) (decimal_quiet n (let l = f.small in omega arith))) (end_stops_word rest f.end)
+number_mentions bytes n rest f = quiet_apart (field (decimal n)) rest (field_quiet (decimal n) (decimal_quiet n (let l = f.small in omega arith)))
+    (end_stops_word rest f.end)
 
-pub behind_number : (names : List (List ℕ)) (bank : Nodes) (bytes : List ℕ) (n : ℕ) (rest : List ℕ) (new : List (List ℕ)) (over : Nodes) (left : List ℕ) → IsNumberField bytes n rest → Moves names bank rest new over left → Moves names bank bytes new over left
-behind_number names bank bytes n rest new over left f m = moves_behind names bank bytes (field (decimal n)) rest new over left f.is (number_mentions bytes n rest f) m
+pub behind_number : (names : List (List ℕ)) (bank : Nodes) (bytes : List ℕ) (n : ℕ) (rest : List ℕ) (new : List (List ℕ)) (over : Nodes) (left : List ℕ)
+    → IsNumberField bytes n rest → Moves names bank rest new over left → Moves names bank bytes new over left
+behind_number names bank bytes n rest new over left f m = moves_behind names bank bytes (field (decimal n)) rest new over left f.is
+    (number_mentions bytes n rest f) m
 
 -- nor do premises
 pub parts_move : (names : List (List ℕ)) (bank : Nodes) (bytes : List ℕ) (parts : List Part) → ArePartFields bytes parts → Moves names bank bytes names bank []
-parts_move names bank bytes parts p = moves_none names bank bank bytes (Extends-refl bank) (ap (mentions Outside) p.is ∙ quiet_none (flat_map part_field (map part_line parts)) (parts_quiet (map part_line parts) p.spelled))
+parts_move names bank bytes parts p = moves_none names bank bank bytes (Extends-refl bank)
+    (ap (mentions Outside) p.is ∙ quiet_none (flat_map part_field (map part_line parts)) (parts_quiet (map part_line parts) p.spelled))
 
-pub clause_made : (names : List (List ℕ)) (bank : Nodes) (bytes : List ℕ) (new : List (List ℕ)) (over : Nodes) (n : ℕ) (rest : List ℕ) (k : ℕ) (behind : List ℕ) (terms : List At) (last : List ℕ) (parts : List Part) → IsNumberField bytes n rest → IsNumberField rest k behind → AreTermFields names bank behind new over terms last → ArePartFields last parts
+pub clause_made : (names : List (List ℕ)) (bank : Nodes) (bytes : List ℕ) (new : List (List ℕ)) (over : Nodes) (n : ℕ) (rest : List ℕ) (k : ℕ) (behind : List ℕ)
+    (terms : List At) (last : List ℕ) (parts : List Part) → IsNumberField bytes n rest → IsNumberField rest k behind
+    → AreTermFields names bank behind new over terms last → ArePartFields last parts
     → AreClauseFields names bank bytes new over n k terms parts
 clause_made names bank bytes new over n rest k behind terms last parts f g t p = record {
   small = (f.small, g.small);
@@ -438,5 +485,6 @@ clause_made names bank bytes new over n rest k behind terms last parts f g t p =
   spelled = p.spelled;
   rising = p.rising;
   is = f.is ∙ ap (λ z. field (decimal n) ++ z) (g.is ∙ ap (λ z. field (decimal k) ++ z) (t.is ∙ ap (λ z. args_text new over terms ++ z) p.is));
-  moves = behind_number names bank bytes n rest new over [] f (behind_number names bank rest k behind new over [] g (moves_on names bank behind new over last new over [] t.moves (parts_move new over last parts p)));
+  moves = behind_number names bank bytes n rest new over [] f
+      (behind_number names bank rest k behind new over [] g (moves_on names bank behind new over last new over [] t.moves (parts_move new over last parts p)));
 }

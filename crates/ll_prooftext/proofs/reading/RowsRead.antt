@@ -1,5 +1,6 @@
 -- The first words of lines, and what lines say.
-use Rattle.std.proofs.Common.{◌≡◌, ℕ, suc, ◌+◌, ◌-◌, ◌<◌, ◌^◌, Bool, true, false, List, [], ◌∷◌, ◌++◌, length, map, refl, ap, sym, subst, ◌∙◌, arith, codes, append_assoc, append-nil, length-append, Result, Option, Some, None, IfOk, decimal}
+use Rattle.std.proofs.Common.{◌≡◌, ℕ, suc, ◌+◌, ◌-◌, ◌<◌, ◌^◌, Bool, true, false, List, [], ◌∷◌, ◌++◌, length, map, refl, ap, sym, subst, ◌∙◌, arith, codes}
+use Rattle.std.proofs.Common.{append_assoc, append-nil, length-append, Result, Option, Some, None, IfOk, decimal}
 use Rattle.std.specs.Prelude.{◌==◌, if◌then◌else◌}
 use Rattle.std.specs.List.{list_all, flat_map}
 use Rattle.std.specs.Str.{bytes_eq}
@@ -102,40 +103,57 @@ let_may false v e = let x : None ≡ Some v = e in let y : ⊥ = cc in absurd y
 -- ---- nodes
 
 -- fields that mention no name
-quiet_line : (names : List (List ℕ)) (bank : Nodes) (w rest : List ℕ) → list_all (is_not 32) w ≡ true → IsAtEnd rest → mentions Outside rest ≡ [] → MovesLine names bank (w ++ rest) names bank
+quiet_line : (names : List (List ℕ)) (bank : Nodes) (w rest : List ℕ) → list_all (is_not 32) w ≡ true → IsAtEnd rest → mentions Outside rest ≡ []
+    → MovesLine names bank (w ++ rest) names bank
 quiet_line names bank w rest h s q = moves_line names bank w rest names bank h s (moves_none names bank bank rest (Extends-refl bank) q)
 
-pub alone_row : (names : List (List ℕ)) (bank : Nodes) (w rest : List ℕ) (r : Rule) → list_all (is_not 32) w ≡ true → w ≡ node_text names (line_of bank r) → IsGoodRule names bank r → rest ≡ [] → IsNodeRow names bank (w ++ rest) names bank r
-alone_row names bank w rest r h e g n = record { good = g; is = ap (λ z. w ++ z) n ∙ (append-nil w ∙ e); moves = quiet_line names bank w rest h (subst IsAtEnd (sym n) line_end) (ap (mentions Outside) n ∙ nothing_mentions) }
+pub alone_row : (names : List (List ℕ)) (bank : Nodes) (w rest : List ℕ) (r : Rule) → list_all (is_not 32) w ≡ true → w ≡ node_text names (line_of bank r)
+    → IsGoodRule names bank r → rest ≡ [] → IsNodeRow names bank (w ++ rest) names bank r
+alone_row names bank w rest r h e g n = record {
+  good = g;
+  is = ap (λ z. w ++ z) n ∙ (append-nil w ∙ e);
+  moves =
+      quiet_line names bank w rest h (subst IsAtEnd (sym n) line_end) (ap (mentions Outside) n ∙ nothing_mentions);
+}
 
 -- a rule behind whose word nothing stands
-pub alone_rows : (names : List (List ℕ)) (bank : Nodes) (w rest : List ℕ) (r : Rule) (x : Result Rule Refusal) → list_all (is_not 32) w ≡ true → w ≡ node_text names (line_of bank r) → IsGoodRule names bank r → IfOk x (λ s. (s ≡ r) × (rest ≡ [])) → IfOk x (IsNodeRow names bank (w ++ rest) names bank)
-alone_rows names bank w rest r x f e g h = if_ok x (λ s. (s ≡ r) × (rest ≡ [])) (IsNodeRow names bank (w ++ rest) names bank) (λ s q. subst (IsNodeRow names bank (w ++ rest) names bank) (sym q.0) (alone_row names bank w rest r f e g q.1)) h
+pub alone_rows : (names : List (List ℕ)) (bank : Nodes) (w rest : List ℕ) (r : Rule) (x : Result Rule Refusal) → list_all (is_not 32) w ≡ true
+    → w ≡ node_text names (line_of bank r) → IsGoodRule names bank r → IfOk x (λ s. (s ≡ r) × (rest ≡ []))
+    → IfOk x (IsNodeRow names bank (w ++ rest) names bank)
+alone_rows names bank w rest r x f e g h = if_ok x (λ s. (s ≡ r) × (rest ≡ [])) (IsNodeRow names bank (w ++ rest) names bank)
+    (λ s q. subst (IsNodeRow names bank (w ++ rest) names bank) (sym q.0) (alone_row names bank w rest r f e g q.1)) h
 
 -- a rule with a number
-pub number_row : (names : List (List ℕ)) (bank : Nodes) (w rest : List ℕ) (n : ℕ) (r : Rule) → list_all (is_not 32) w ≡ true → IsNumberField rest n [] → node_text names (line_of bank r) ≡ w ++ field (decimal n) → (n < 2 ^ 32 → IsGoodRule names bank r) → IsNodeRow names bank (w ++ rest) names bank r
+pub number_row : (names : List (List ℕ)) (bank : Nodes) (w rest : List ℕ) (n : ℕ) (r : Rule) → list_all (is_not 32) w ≡ true → IsNumberField rest n []
+    → node_text names (line_of bank r) ≡ w ++ field (decimal n) → (n < 2 ^ 32 → IsGoodRule names bank r) → IsNodeRow names bank (w ++ rest) names bank r
 number_row names bank w rest n r h f e g = record {
   good = g f.small;
   is = ap (λ z. w ++ z) text ∙ sym e;
-  moves = quiet_line names bank w rest h (subst IsAtEnd (sym text) space) (ap (mentions Outside) text ∙ quiet_none (field (decimal n)) (field_quiet (decimal n) (decimal_quiet n (let l = f.small in omega arith))));
+  moves = quiet_line names bank w rest h (subst IsAtEnd (sym text) space)
+      (ap (mentions Outside) text ∙ quiet_none (field (decimal n)) (field_quiet (decimal n) (decimal_quiet n (let l = f.small in omega arith))));
 }
   where
     text : rest ≡ field (decimal n)
     text = f.is ∙ append-nil (field (decimal n))
 
 -- a term is the last field
-pub term_row : (names : List (List ℕ)) (bank : Nodes) (rest : List ℕ) (new : List (List ℕ)) (over : Nodes) (at : At) → IsTermField names bank rest new over at.0 [] → IsNodeRow names bank (codes "exists" ++ rest) new over (rule.Exists at)
+pub term_row : (names : List (List ℕ)) (bank : Nodes) (rest : List ℕ) (new : List (List ℕ)) (over : Nodes) (at : At)
+    → IsTermField names bank rest new over at.0 [] → IsNodeRow names bank (codes "exists" ++ rest) new over (rule.Exists at)
 term_row names bank rest new over at f = record {
   good = f.good;
   is = ap (λ z. codes "exists" ++ z) (f.is ∙ append-nil (field (argument_at new over at.0)));
   moves = moves_line names bank (codes "exists") rest new over refl (subst IsAtEnd (sym f.is) space) f.moves;
 }
 
-pub tensor_row : (names : List (List ℕ)) (bank : Nodes) (rest : List ℕ) (r : Rule) → IsTensor rest r → IsNodeRow names bank (codes "tensor" ++ rest) names bank r
+pub tensor_row : (names : List (List ℕ)) (bank : Nodes) (rest : List ℕ) (r : Rule) → IsTensor rest r
+    → IsNodeRow names bank (codes "tensor" ++ rest) names bank r
 tensor_row names bank rest (rule.Tensor s t) f = record {
   good = (f.small, f.rising);
   is = ap (λ z. codes "tensor" ++ z) f.is;
-  moves = quiet_line names bank (codes "tensor") rest refl (subst IsAtEnd (sym f.is) space) (ap (mentions Outside) f.is ∙ quiet_none (field (set_text s.items) ++ field (set_text t.items)) (quiet_join (field (set_text s.items)) (field (set_text t.items)) (field_quiet (set_text s.items) (set_quiet s.items f.small.0)) (field_quiet (set_text t.items) (set_quiet t.items f.small.1))));
+  moves = quiet_line names bank (codes "tensor") rest refl (subst IsAtEnd (sym f.is) space)
+      (ap (mentions Outside) f.is ∙ quiet_none (field (set_text s.items) ++ field (set_text t.items))
+      (quiet_join (field (set_text s.items)) (field (set_text t.items)) (field_quiet (set_text s.items) (set_quiet s.items f.small.0))
+      (field_quiet (set_text t.items) (set_quiet t.items f.small.1))));
 }
 tensor_row names bank rest rule.One f = absurd f
 tensor_row names bank rest rule.Erase f = absurd f
@@ -151,16 +169,20 @@ tensor_row names bank rest rule.Use f = absurd f
 tensor_row names bank rest rule.Num f = absurd f
 tensor_row names bank rest (rule.Clause n k ts ps) f = absurd f
 
-pub tensor_rows : (names : List (List ℕ)) (bank : Nodes) (rest : List ℕ) (x : Result Rule Refusal) → IfOk x (IsTensor rest) → IfOk x (IsNodeRow names bank (codes "tensor" ++ rest) names bank)
+pub tensor_rows : (names : List (List ℕ)) (bank : Nodes) (rest : List ℕ) (x : Result Rule Refusal) → IfOk x (IsTensor rest)
+    → IfOk x (IsNodeRow names bank (codes "tensor" ++ rest) names bank)
 tensor_rows names bank rest x h = if_ok x (IsTensor rest) (IsNodeRow names bank (codes "tensor" ++ rest) names bank) (tensor_row names bank rest) h
 
-pub clause_row : (names : List (List ℕ)) (bank : Nodes) (rest : List ℕ) (new : List (List ℕ)) (over : Nodes) (r : Rule) → IsClause names bank rest new over r → IsNodeRow names bank (codes "clause" ++ rest) new over r
+pub clause_row : (names : List (List ℕ)) (bank : Nodes) (rest : List ℕ) (new : List (List ℕ)) (over : Nodes) (r : Rule) → IsClause names bank rest new over r
+    → IsNodeRow names bank (codes "clause" ++ rest) new over r
 clause_row names bank rest new over (rule.Clause n k ts ps) f =
     let us = flat_map (term_field new) (term_trees over ts.items) in
     let qs = flat_map part_field (map part_line ps.items) in
     record {
       good = (f.small, (f.good, (f.spelled, f.rising)));
-      is = ap (λ z. codes "clause" ++ z) (f.is ∙ (ap (λ z. field (decimal n) ++ (field (decimal k) ++ (z ++ qs))) (args_fields new over ts.items) ∙ sym (together (field (decimal n)) (field (decimal k)) us qs)));
+      is =
+          ap (λ z. codes "clause" ++ z) (f.is ∙ (ap (λ z. field (decimal n) ++ (field (decimal k) ++ (z ++ qs))) (args_fields new over ts.items)
+          ∙ sym (together (field (decimal n)) (field (decimal k)) us qs)));
       moves = moves_line names bank (codes "clause") rest new over refl (subst IsAtEnd (sym f.is) space) f.moves;
     }
   where
@@ -180,29 +202,36 @@ clause_row names bank rest new over (rule.Exists t) f = absurd f
 clause_row names bank rest new over rule.Use f = absurd f
 clause_row names bank rest new over rule.Num f = absurd f
 
-pub clause_rows : (names : List (List ℕ)) (bank : Nodes) (rest : List ℕ) (new : List (List ℕ)) (over : Nodes) (x : Result Rule Refusal) → IfOk x (IsClause names bank rest new over) → IfOk x (IsNodeRow names bank (codes "clause" ++ rest) new over)
-clause_rows names bank rest new over x h = if_ok x (IsClause names bank rest new over) (IsNodeRow names bank (codes "clause" ++ rest) new over) (clause_row names bank rest new over) h
+pub clause_rows : (names : List (List ℕ)) (bank : Nodes) (rest : List ℕ) (new : List (List ℕ)) (over : Nodes) (x : Result Rule Refusal)
+    → IfOk x (IsClause names bank rest new over) → IfOk x (IsNodeRow names bank (codes "clause" ++ rest) new over)
+clause_rows names bank rest new over x h = if_ok x (IsClause names bank rest new over) (IsNodeRow names bank (codes "clause" ++ rest) new over)
+    (clause_row names bank rest new over) h
 
 -- ---- lines
 
-pub let_row : (names : List (List ℕ)) (bank : Nodes) (line w rest : List ℕ) (lets : Bool) (new : List (List ℕ)) (over : Nodes) (at : At) → line ≡ w ++ rest → IsRowWord lets w first.Let → IsTermField names bank rest new over at.0 [] → IsLetRow names bank line lets new over at.0
+pub let_row : (names : List (List ℕ)) (bank : Nodes) (line w rest : List ℕ) (lets : Bool) (new : List (List ℕ)) (over : Nodes) (at : At) → line ≡ w ++ rest
+    → IsRowWord lets w first.Let → IsTermField names bank rest new over at.0 [] → IsLetRow names bank line lets new over at.0
 let_row names bank line w rest lets new over at e k f =
     let text : line ≡ codes "let" ++ rest = e ∙ ap (λ z. z ++ rest) k.is in
     record {
       may = let_may lets (Then Argument Nothing) (ap (want lets) (sym k.is) ∙ k.known);
       good = f.good;
       is = text ∙ ap (λ z. codes "let" ++ z) (f.is ∙ append-nil (field (argument_at new over at.0)));
-      moves = subst (λ z. MovesLine names bank z new over) (sym text) (moves_line names bank (codes "let") rest new over refl (subst IsAtEnd (sym f.is) space) f.moves);
+      moves = subst (λ z. MovesLine names bank z new over) (sym text)
+          (moves_line names bank (codes "let") rest new over refl (subst IsAtEnd (sym f.is) space) f.moves);
     }
 
-pub node_row : (names : List (List ℕ)) (bank : Nodes) (line w rest : List ℕ) (lets : Bool) (k : NodeWord) (new : List (List ℕ)) (over : Nodes) (r : Rule) → line ≡ w ++ rest → IsRowWord lets w (first.Node k) → IsNodeRow names bank (spelling k ++ rest) new over r → IsNodeRow names bank line new over r
+pub node_row : (names : List (List ℕ)) (bank : Nodes) (line w rest : List ℕ) (lets : Bool) (k : NodeWord) (new : List (List ℕ)) (over : Nodes) (r : Rule)
+    → line ≡ w ++ rest → IsRowWord lets w (first.Node k) → IsNodeRow names bank (spelling k ++ rest) new over r → IsNodeRow names bank line new over r
 node_row names bank line w rest lets k new over r e i f = subst (λ z. IsNodeRow names bank z new over r) (sym (e ∙ ap (λ z. z ++ rest) i.is)) f
 
-pub word_none : (line w rest : List ℕ) (lets : Bool) → line ≡ w ++ rest → list_all (is_not 32) w ≡ true → Stops (is_not 32) rest → want lets w ≡ None → want lets (first_word line) ≡ None
+pub word_none : (line w rest : List ℕ) (lets : Bool) → line ≡ w ++ rest → list_all (is_not 32) w ≡ true → Stops (is_not 32) rest → want lets w ≡ None
+    → want lets (first_word line) ≡ None
 word_none line w rest lets e h s n = ap (λ z. want lets (first_word z)) e ∙ (ap (want lets) (first_alone w rest h (stops_end rest s)) ∙ n)
 
 -- the column of a wrong field
-stop_at : (v : Want) (good rest : List ℕ) (n left : ℕ) (line : List ℕ) → line ≡ good ++ rest → n ≡ length good → left ≡ length rest → IsBad v rest → IsStop v n rest (bad_column (length line) left)
+stop_at : (v : Want) (good rest : List ℕ) (n left : ℕ) (line : List ℕ) → line ≡ good ++ rest → n ≡ length good → left ≡ length rest → IsBad v rest
+    → IsStop v n rest (bad_column (length line) left)
 stop_at v good rest n left line e l k (lacking f m) =
     let z : left ≡ 0 = k ∙ ap length f in
     let t = ap length e in
@@ -220,7 +249,8 @@ stop_at v good rest n left line e l k (wrong bs f h) =
     subst (λ us. IsStop v n us (bad_column (length line) left)) (sym f)
     (subst (λ j. IsStop v n (32 ∷ bs) (bad_column (length line) j)) (sym z) (subst (IsStop v n (32 ∷ bs)) q (no_field h)))
 
-pub bad_left : (wants : List ℕ → Option Want) (line w rest : List ℕ) (asked : Want) (left : ℕ) → line ≡ w ++ rest → wants w ≡ Some asked → StopsAt asked rest left → HasBadLeft wants line left
+pub bad_left : (wants : List ℕ → Option Want) (line w rest : List ℕ) (asked : Want) (left : ℕ) → line ≡ w ++ rest → wants w ≡ Some asked
+    → StopsAt asked rest left → HasBadLeft wants line left
 bad_left wants line w rest asked left e known s =
     let text : line ≡ w ++ (s.good ++ s.rest) = e ∙ ap (λ z. w ++ z) s.is in
     let split : line ≡ (w ++ s.good) ++ s.rest = text ∙ sym (append_assoc w s.good s.rest) in
@@ -239,12 +269,14 @@ bad_left wants line w rest asked left e known s =
       };
     }
 
-pub refused_at : (wants : List ℕ → Option Want) (line w rest : List ℕ) (asked : Want) (x : Refusal) → line ≡ w ++ rest → wants w ≡ Some asked → Refuses (StopsAt asked rest) x → IsRefused wants line x
+pub refused_at : (wants : List ℕ → Option Want) (line w rest : List ℕ) (asked : Want) (x : Refusal) → line ≡ w ++ rest → wants w ≡ Some asked
+    → Refuses (StopsAt asked rest) x → IsRefused wants line x
 refused_at wants line w rest asked refusal.Word e i h = absurd h
 refused_at wants line w rest asked (refusal.Field left) e i h = bad_left wants line w rest asked left e i h
 refused_at wants line w rest asked refusal.OutOfMemory e i h = h
 
-pub refused_row : (lets : Bool) (line w rest : List ℕ) (k : RowWord) (x : Refusal) → line ≡ w ++ rest → IsRowWord lets w k → Refuses (StopsAt (row_asks k) rest) x → IsRefused (want lets) line x
+pub refused_row : (lets : Bool) (line w rest : List ℕ) (k : RowWord) (x : Refusal) → line ≡ w ++ rest → IsRowWord lets w k
+    → Refuses (StopsAt (row_asks k) rest) x → IsRefused (want lets) line x
 refused_row lets line w rest k x e i h = refused_at (want lets) line w rest (row_asks k) x e i.known h
 
 pub rest_room : (names : List (List ℕ)) (line w rest : List ℕ) → line ≡ w ++ rest → length names + length line < 2 ^ 32 → length names + length rest < 2 ^ 32

@@ -1,5 +1,6 @@
 -- Rows and a derivation over them on their way, line by line.
-use Rattle.std.proofs.Common.{◌≡◌, ℕ, suc, ◌+◌, ◌-◌, ◌<◌, ◌≤◌, true, List, [], ◌∷◌, ◌++◌, length, map, All, refl, ap, sym, subst, ◌∙◌, arith, codes, append_assoc, length-append, Some, inl, inr, decimal}
+use Rattle.std.proofs.Common.{◌≡◌, ℕ, suc, ◌+◌, ◌-◌, ◌<◌, ◌≤◌, true, List, [], ◌∷◌, ◌++◌, length, map, All, refl, ap, sym, subst, ◌∙◌, arith, codes}
+use Rattle.std.proofs.Common.{append_assoc, length-append, Some, inl, inr, decimal}
 use Rattle.std.specs.Prelude.{◌&&◌}
 use Rattle.std.specs.List.{flat_map}
 use Rattle.std.proofs.lemmas.List.{map-append}
@@ -9,7 +10,8 @@ use Rattle.ll_bank.specs.declared.At.{At}
 use Rattle.ll_bank.specs.Names.{with_names}
 use Rattle.ll_bank.specs.Term.{Term}
 use Rattle.ll_bank.specs.Nodes.{term_tree, term_trees}
-use Rattle.ll_laws.specs.Line.{Line, OneLine, EraseLine, TensorLine, WithLine, LeftLine, RightLine, BangLine, UseLine, LolliLine, ImpLine, ForallLine, ExistsLine, ClauseLine, NumLine}
+use Rattle.ll_laws.specs.Line.{Line, OneLine, EraseLine, TensorLine, WithLine, LeftLine, RightLine, BangLine, UseLine, LolliLine, ImpLine, ForallLine}
+use Rattle.ll_laws.specs.Line.{ExistsLine, ClauseLine, NumLine}
 use Rattle.ll_laws.specs.ProofText.{field, part_field}
 use Rattle.ll_laws.specs.ShownLines.{line_of}
 use Rattle.ll_laws.specs.declared.Rule.{Rule}
@@ -34,7 +36,8 @@ use Rattle.ll_prooftext.proofs.reading.SoFar.{rules_good, rules_same, missing_pu
 
 -- ---- things and their lines, one by one
 
-pub each_push : {X : Type 0} (P : X → List ℕ → Type 0) (xs : List X) (ls : List (List ℕ)) (x : X) (l : List ℕ) → AreEach P xs ls → P x l → AreEach P (xs ++ x ∷ []) (ls ++ l ∷ [])
+pub each_push : {X : Type 0} (P : X → List ℕ → Type 0) (xs : List X) (ls : List (List ℕ)) (x : X) (l : List ℕ) → AreEach P xs ls → P x l
+    → AreEach P (xs ++ x ∷ []) (ls ++ l ∷ [])
 each_push P [] [] x l a p = (p, tt)
 each_push P [] (m ∷ ls) x l a p = absurd a
 each_push P (y ∷ xs) [] x l a p = absurd a
@@ -99,7 +102,8 @@ version_names : line_names (codes "proof 2") ≡ []
 unfolding line_names mentions name_here scanned word_run is_lower is_word_byte
 version_names = refl
 
-pub over_none : (text : List ℕ) (names : List (List ℕ)) (o : Sharing) (p : Lines) → IsBehindVersion (codes "proof 2") text p → o.rows.items ≡ [] → o.asked.items ≡ [] → o.nodes.items ≡ [] → o.lacking ≡ 1 → IsSoFarOver text names names o p
+pub over_none : (text : List ℕ) (names : List (List ℕ)) (o : Sharing) (p : Lines) → IsBehindVersion (codes "proof 2") text p → o.rows.items ≡ []
+    → o.asked.items ≡ [] → o.nodes.items ≡ [] → o.lacking ≡ 1 → IsSoFarOver text names names o p
 over_none text names o p b r a n l = record {
   shares = [];
   lets = [];
@@ -116,14 +120,16 @@ over_none text names o p b r a n l = record {
   names_on = names_more names names (codes "proof 2") (text_lines text) (text_lines p.rest.now) b.lines (ap (with_names names) version_names);
   room = let s = b.shorter in omega arith;
   end = b.end;
-  next = subst (λ j. IsNext j p.rest.now p.at) (let x = ap length a in let y = ap length n in let z = ap length r in let q : 2 ≡ lines_read o + 2 = omega arith in q) b.next;
+  next = subst (λ j. IsNext j p.rest.now p.at) (let x = ap length a in let y = ap length n in let z = ap length r in
+      let q : 2 ≡ lines_read o + 2 = omega arith in q) b.next;
   low = b.low;
   few = let s = b.shorter in omega arith;
   many = let s = b.shorter in let x = ap length a in let y = ap length n in let z = ap length r in omega arith;
 }
 
 -- the number of the line that is taken
-pub line_number : (text : List ℕ) (old names : List (List ℕ)) (o : Sharing) (p q : Lines) (line : TextLine) → IsSoFarOver text old names o p → TakesLine p line q → line.number ≡ lines_read o + 2
+pub line_number : (text : List ℕ) (old names : List (List ℕ)) (o : Sharing) (p q : Lines) (line : TextLine) → IsSoFarOver text old names o p
+    → TakesLine p line q → line.number ≡ lines_read o + 2
 line_number text old names o p q line s t = t.number ∙ by_next s.next
   where
     some : p.rest.now ≡ [] → ⊥
@@ -134,11 +140,14 @@ line_number text old names o p q line s t = t.number ∙ by_next s.next
     by_next (inr e) = ap (λ (z : Place). z.line) e
 
 -- so there are few rows
-pub rows_few : (text : List ℕ) (old names : List (List ℕ)) (o : Sharing) (p q : Lines) (line : TextLine) → IsSoFarOver text old names o p → TakesLine p line q → length o.rows.items ≤ length text
-rows_few text old names o p q line s t = let n = line_number text old names o p q line s t in let m = t.number in let l = s.low in let k = t.shorter in omega arith
+pub rows_few : (text : List ℕ) (old names : List (List ℕ)) (o : Sharing) (p q : Lines) (line : TextLine) → IsSoFarOver text old names o p → TakesLine p line q
+    → length o.rows.items ≤ length text
+rows_few text old names o p q line s t = let n = line_number text old names o p q line s t in let m = t.number in let l = s.low in let k = t.shorter in
+    omega arith
 
 -- one line more
-module _ (text : List ℕ) (old names : List (List ℕ)) (o : Sharing) (p : Lines) (line : TextLine) (q : Lines) (new : List (List ℕ)) (r : Sharing) (s : IsSoFarOver text old names o p) (t : TakesLine p line q) (lacks : 0 < o.lacking) where
+module _ (text : List ℕ) (old names : List (List ℕ)) (o : Sharing) (p : Lines) (line : TextLine) (q : Lines) (new : List (List ℕ)) (r : Sharing)
+    (s : IsSoFarOver text old names o p) (t : TakesLine p line q) (lacks : 0 < o.lacking) where
   abbrev spelled_now : At → Type 0
   spelled_now a = IsSpelledAt new r.bank a.0
 
@@ -171,16 +180,22 @@ module _ (text : List ℕ) (old names : List (List ℕ)) (o : Sharing) (p : Line
     low = let a = s.low in let b = t.low in omega arith;
   }
 
-  share_more : (at : At) → (is_none o.asked.items && is_none o.nodes.items) ≡ true → IsShareRow (rows_of o) names o.bank line.bytes.now new r.bank at.0 → r.rows.items ≡ o.rows.items ++ at ∷ [] → r.asked.items ≡ o.asked.items → r.nodes.items ≡ o.nodes.items → r.lacking ≡ o.lacking → IsSoFarOver text old new r q
+  share_more : (at : At) → (is_none o.asked.items && is_none o.nodes.items) ≡ true → IsShareRow (rows_of o) names o.bank line.bytes.now new r.bank at.0
+      → r.rows.items ≡ o.rows.items ++ at ∷ [] → r.asked.items ≡ o.asked.items → r.nodes.items ≡ o.nodes.items → r.lacking ≡ o.lacking
+      → IsSoFarOver text old new r q
   share_more at may w x a n l =
       let g = w.moves.grows in
       let e = w.moves.keeps in
       let k = on g w.moves.few w.moves.names_on in
       let no_asked : o.asked.items ≡ [] = empty o.asked.items (and_left (is_none o.asked.items) (is_none o.nodes.items) may) in
       let no_nodes : o.nodes.items ≡ [] = empty o.nodes.items (and_right (is_none o.asked.items) (is_none o.nodes.items) may) in
-      let no_lets : s.lets ≡ [] = each_none (IsLet names (rows_of o)) (term_trees o.bank o.asked.items) s.lets (ap (term_trees o.bank) no_asked) (s.are_asked names (grows_none names)) in
-      let no_steps : s.steps ≡ [] = each_none (IsStep names (rows_of o)) (map (line_of o.bank) o.nodes.items) s.steps (ap (map (line_of o.bank)) no_nodes) (s.are_nodes names (grows_none names)) in
-      let trees : rows_of r ≡ rows_of o ++ term_tree r.bank at.0 ∷ [] = ap (term_trees r.bank) x ∙ (map-append (λ (b : At). term_tree r.bank b.0) o.rows.items (at ∷ []) ∙ ap (λ z. z ++ term_tree r.bank at.0 ∷ []) (rows_same names o.bank r.bank o.rows.items e s.rows)) in
+      let no_lets : s.lets ≡ [] = each_none (IsLet names (rows_of o)) (term_trees o.bank o.asked.items) s.lets (ap (term_trees o.bank) no_asked)
+      (s.are_asked names (grows_none names)) in
+      let no_steps : s.steps ≡ [] = each_none (IsStep names (rows_of o)) (map (line_of o.bank) o.nodes.items) s.steps (ap (map (line_of o.bank)) no_nodes)
+      (s.are_nodes names (grows_none names)) in
+      let trees : rows_of r ≡ rows_of o ++ term_tree r.bank at.0 ∷ [] =
+      ap (term_trees r.bank) x ∙ (map-append (λ (b : At). term_tree r.bank b.0) o.rows.items (at ∷ [])
+      ∙ ap (λ z. z ++ term_tree r.bank at.0 ∷ []) (rows_same names o.bank r.bank o.rows.items e s.rows)) in
       let two = ap length x in
       let three = length-append o.rows.items (at ∷ []) in
       let four = ap length a in
@@ -189,14 +204,18 @@ module _ (text : List ℕ) (old names : List (List ℕ)) (o : Sharing) (p : Line
         shares = s.shares ++ line.bytes.now ∷ [];
         lets = [];
         steps = [];
-        lines = bytes_there ∙ (ap (λ z. codes "proof 2" ∷ (s.shares ++ (z ++ (s.steps ++ line.bytes.now ∷ text_lines q.rest.now)))) no_lets ∙ (ap (λ z. codes "proof 2" ∷ (s.shares ++ (z ++ line.bytes.now ∷ text_lines q.rest.now))) no_steps ∙ ap (λ z. codes "proof 2" ∷ z) (sym (append_assoc s.shares (line.bytes.now ∷ []) (text_lines q.rest.now)))));
+        lines = bytes_there ∙ (ap (λ z. codes "proof 2" ∷ (s.shares ++ (z ++ (s.steps ++ line.bytes.now ∷ text_lines q.rest.now)))) no_lets
+            ∙ (ap (λ z. codes "proof 2" ∷ (s.shares ++ (z ++ line.bytes.now ∷ text_lines q.rest.now))) no_steps
+            ∙ ap (λ z. codes "proof 2" ∷ z) (sym (append_assoc s.shares (line.bytes.now ∷ []) (text_lines q.rest.now)))));
         rows = subst (All spelled_now) (sym x) (All-push spelled_now o.rows.items at (rows_stay names o.bank new r.bank o.rows.items g e s.rows) w.good);
         asked = subst (All spelled_now) (sym (a ∙ no_asked)) (All-nil spelled_now);
         nodes = subst (All (IsGoodRule new r.bank)) (sym (n ∙ no_nodes)) (All-nil (IsGoodRule new r.bank));
-        are_rows = λ ns grow. next_share (rows_of o) s.shares (term_tree r.bank at.0) line.bytes.now (s.are_rows ns (grows_on names new ns g grow)) (w.shown ns grow) trees refl;
+        are_rows = λ ns grow. next_share (rows_of o) s.shares (term_tree r.bank at.0) line.bytes.now (s.are_rows ns (grows_on names new ns g grow))
+            (w.shown ns grow) trees refl;
         are_asked = λ ns grow. subst (λ (xs : List At). AreEach (IsLet ns (rows_of r)) (term_trees r.bank xs) []) (sym (a ∙ no_asked)) tt;
         are_nodes = λ ns grow. subst (λ (xs : List Rule). AreEach (IsStep ns (rows_of r)) (map (line_of r.bank) xs) []) (sym (n ∙ no_nodes)) tt;
-        still = ap (λ z. missing 1 (map (line_of r.bank) z)) (n ∙ no_nodes) ∙ (sym (ap (λ z. missing 1 (map (line_of o.bank) z)) no_nodes) ∙ (s.still ∙ ap (λ z. Some z) (sym l)));
+        still = ap (λ z. missing 1 (map (line_of r.bank) z)) (n ∙ no_nodes)
+            ∙ (sym (ap (λ z. missing 1 (map (line_of o.bank) z)) no_nodes) ∙ (s.still ∙ ap (λ z. Some z) (sym l)));
         grows = k.grows;
         names_on = k.names_on;
         room = k.room;
@@ -207,15 +226,19 @@ module _ (text : List ℕ) (old names : List (List ℕ)) (o : Sharing) (p : Line
         many = let m = s.many in let h = t.shorter in omega arith;
       }
 
-  let_more : (at : At) → is_none o.nodes.items ≡ true → IsLetOver (rows_of o) names o.bank line.bytes.now new r.bank at.0 → r.rows.items ≡ o.rows.items → r.asked.items ≡ o.asked.items ++ at ∷ [] → r.nodes.items ≡ o.nodes.items → r.lacking ≡ o.lacking → IsSoFarOver text old new r q
+  let_more : (at : At) → is_none o.nodes.items ≡ true → IsLetOver (rows_of o) names o.bank line.bytes.now new r.bank at.0 → r.rows.items ≡ o.rows.items
+      → r.asked.items ≡ o.asked.items ++ at ∷ [] → r.nodes.items ≡ o.nodes.items → r.lacking ≡ o.lacking → IsSoFarOver text old new r q
   let_more at may w x a n l =
       let g = w.moves.grows in
       let e = w.moves.keeps in
       let k = on g w.moves.few w.moves.names_on in
       let no_nodes : o.nodes.items ≡ [] = empty o.nodes.items may in
-      let no_steps : s.steps ≡ [] = each_none (IsStep names (rows_of o)) (map (line_of o.bank) o.nodes.items) s.steps (ap (map (line_of o.bank)) no_nodes) (s.are_nodes names (grows_none names)) in
+      let no_steps : s.steps ≡ [] = each_none (IsStep names (rows_of o)) (map (line_of o.bank) o.nodes.items) s.steps (ap (map (line_of o.bank)) no_nodes)
+      (s.are_nodes names (grows_none names)) in
       let same : rows_of r ≡ rows_of o = ap (term_trees r.bank) x ∙ rows_same names o.bank r.bank o.rows.items e s.rows in
-      let trees : term_trees r.bank r.asked.items ≡ term_trees o.bank o.asked.items ++ term_tree r.bank at.0 ∷ [] = ap (term_trees r.bank) a ∙ (map-append (λ (b : At). term_tree r.bank b.0) o.asked.items (at ∷ []) ∙ ap (λ z. z ++ term_tree r.bank at.0 ∷ []) (rows_same names o.bank r.bank o.asked.items e s.asked)) in
+      let trees : term_trees r.bank r.asked.items ≡ term_trees o.bank o.asked.items ++ term_tree r.bank at.0 ∷ [] =
+      ap (term_trees r.bank) a ∙ (map-append (λ (b : At). term_tree r.bank b.0) o.asked.items (at ∷ [])
+      ∙ ap (λ z. z ++ term_tree r.bank at.0 ∷ []) (rows_same names o.bank r.bank o.asked.items e s.asked)) in
       let two = ap length a in
       let three = length-append o.asked.items (at ∷ []) in
       let four = ap length x in
@@ -224,16 +247,19 @@ module _ (text : List ℕ) (old names : List (List ℕ)) (o : Sharing) (p : Line
         shares = s.shares;
         lets = s.lets ++ line.bytes.now ∷ [];
         steps = [];
-        lines = bytes_there ∙ (ap (λ z. codes "proof 2" ∷ (s.shares ++ (s.lets ++ (z ++ line.bytes.now ∷ text_lines q.rest.now)))) no_steps ∙ ap (λ z. codes "proof 2" ∷ (s.shares ++ z)) (sym (append_assoc s.lets (line.bytes.now ∷ []) (text_lines q.rest.now))));
+        lines = bytes_there ∙ (ap (λ z. codes "proof 2" ∷ (s.shares ++ (s.lets ++ (z ++ line.bytes.now ∷ text_lines q.rest.now)))) no_steps
+            ∙ ap (λ z. codes "proof 2" ∷ (s.shares ++ z)) (sym (append_assoc s.lets (line.bytes.now ∷ []) (text_lines q.rest.now))));
         rows = subst (All spelled_now) (sym x) (rows_stay names o.bank new r.bank o.rows.items g e s.rows);
         asked = subst (All spelled_now) (sym a) (All-push spelled_now o.asked.items at (rows_stay names o.bank new r.bank o.asked.items g e s.asked) w.good);
         nodes = subst (All (IsGoodRule new r.bank)) (sym (n ∙ no_nodes)) (All-nil (IsGoodRule new r.bank));
         are_rows = λ ns grow. subst (λ rows. AreShares ns rows s.shares) (sym same) (s.are_rows ns (grows_on names new ns g grow));
         are_asked = λ ns grow. subst (λ ts. AreEach (IsLet ns (rows_of r)) ts (s.lets ++ line.bytes.now ∷ [])) (sym trees)
             (subst (λ rows. AreEach (IsLet ns rows) (term_trees o.bank o.asked.items ++ term_tree r.bank at.0 ∷ []) (s.lets ++ line.bytes.now ∷ [])) (sym same)
-            (each_push (IsLet ns (rows_of o)) (term_trees o.bank o.asked.items) s.lets (term_tree r.bank at.0) line.bytes.now (s.are_asked ns (grows_on names new ns g grow)) (w.shown ns grow)));
+            (each_push (IsLet ns (rows_of o)) (term_trees o.bank o.asked.items) s.lets (term_tree r.bank at.0) line.bytes.now
+            (s.are_asked ns (grows_on names new ns g grow)) (w.shown ns grow)));
         are_nodes = λ ns grow. subst (λ (xs : List Rule). AreEach (IsStep ns (rows_of r)) (map (line_of r.bank) xs) []) (sym (n ∙ no_nodes)) tt;
-        still = ap (λ z. missing 1 (map (line_of r.bank) z)) (n ∙ no_nodes) ∙ (sym (ap (λ z. missing 1 (map (line_of o.bank) z)) no_nodes) ∙ (s.still ∙ ap (λ z. Some z) (sym l)));
+        still = ap (λ z. missing 1 (map (line_of r.bank) z)) (n ∙ no_nodes)
+            ∙ (sym (ap (λ z. missing 1 (map (line_of o.bank) z)) no_nodes) ∙ (s.still ∙ ap (λ z. Some z) (sym l)));
         grows = k.grows;
         names_on = k.names_on;
         room = k.room;
@@ -244,15 +270,18 @@ module _ (text : List ℕ) (old names : List (List ℕ)) (o : Sharing) (p : Line
         many = let m = s.many in let h = t.shorter in omega arith;
       }
 
-  node_more : (z : Rule) → IsStepOver (rows_of o) names o.bank line.bytes.now new r.bank z → r.rows.items ≡ o.rows.items → r.asked.items ≡ o.asked.items → r.nodes.items ≡ o.nodes.items ++ z ∷ [] → r.lacking ≡ o.lacking - 1 + children (line_of r.bank z) → IsSoFarOver text old new r q
+  node_more : (z : Rule) → IsStepOver (rows_of o) names o.bank line.bytes.now new r.bank z → r.rows.items ≡ o.rows.items → r.asked.items ≡ o.asked.items
+      → r.nodes.items ≡ o.nodes.items ++ z ∷ [] → r.lacking ≡ o.lacking - 1 + children (line_of r.bank z) → IsSoFarOver text old new r q
   node_more z w x a n l =
       let g = w.moves.grows in
       let e = w.moves.keeps in
       let k = on g w.moves.few w.moves.names_on in
       let same : rows_of r ≡ rows_of o = ap (term_trees r.bank) x ∙ rows_same names o.bank r.bank o.rows.items e s.rows in
-      let same_asked : term_trees r.bank r.asked.items ≡ term_trees o.bank o.asked.items = ap (term_trees r.bank) a ∙ rows_same names o.bank r.bank o.asked.items e s.asked in
+      let same_asked : term_trees r.bank r.asked.items ≡ term_trees o.bank o.asked.items =
+      ap (term_trees r.bank) a ∙ rows_same names o.bank r.bank o.asked.items e s.asked in
       let lines_now : map (line_of r.bank) r.nodes.items ≡ map (line_of o.bank) o.nodes.items ++ line_of r.bank z ∷ [] =
-      ap (map (line_of r.bank)) n ∙ (map-append (line_of r.bank) o.nodes.items (z ∷ []) ∙ ap (λ y. y ++ line_of r.bank z ∷ []) (rules_same names o.bank new r.bank g e o.nodes.items s.nodes)) in
+      ap (map (line_of r.bank)) n ∙ (map-append (line_of r.bank) o.nodes.items (z ∷ [])
+      ∙ ap (λ y. y ++ line_of r.bank z ∷ []) (rules_same names o.bank new r.bank g e o.nodes.items s.nodes)) in
       let j = o.lacking - 1 in
       let sucs : o.lacking ≡ suc j = omega arith in
       let sum : children (line_of r.bank z) + j ≡ r.lacking = omega arith in
@@ -268,13 +297,17 @@ module _ (text : List ℕ) (old names : List (List ℕ)) (o : Sharing) (p : Line
         lines = bytes_there ∙ ap (λ y. codes "proof 2" ∷ (s.shares ++ y)) (between s.lets s.steps line.bytes.now (text_lines q.rest.now));
         rows = subst (All spelled_now) (sym x) (rows_stay names o.bank new r.bank o.rows.items g e s.rows);
         asked = subst (All spelled_now) (sym a) (rows_stay names o.bank new r.bank o.asked.items g e s.asked);
-        nodes = subst (All (IsGoodRule new r.bank)) (sym n) (All-push (IsGoodRule new r.bank) o.nodes.items z (rules_good names o.bank new r.bank g e o.nodes.items s.nodes) w.good);
+        nodes = subst (All (IsGoodRule new r.bank)) (sym n) (All-push (IsGoodRule new r.bank) o.nodes.items z
+            (rules_good names o.bank new r.bank g e o.nodes.items s.nodes) w.good);
         are_rows = λ ns grow. subst (λ rows. AreShares ns rows s.shares) (sym same) (s.are_rows ns (grows_on names new ns g grow));
-        are_asked = λ ns grow. subst (λ ts. AreEach (IsLet ns (rows_of r)) ts s.lets) (sym same_asked) (subst (λ rows. AreEach (IsLet ns rows) (term_trees o.bank o.asked.items) s.lets) (sym same) (s.are_asked ns (grows_on names new ns g grow)));
+        are_asked = λ ns grow. subst (λ ts. AreEach (IsLet ns (rows_of r)) ts s.lets) (sym same_asked)
+            (subst (λ rows. AreEach (IsLet ns rows) (term_trees o.bank o.asked.items) s.lets) (sym same) (s.are_asked ns (grows_on names new ns g grow)));
         are_nodes = λ ns grow. subst (λ ts. AreEach (IsStep ns (rows_of r)) ts (s.steps ++ line.bytes.now ∷ [])) (sym lines_now)
             (subst (λ rows. AreEach (IsStep ns rows) (map (line_of o.bank) o.nodes.items ++ line_of r.bank z ∷ []) (s.steps ++ line.bytes.now ∷ [])) (sym same)
-            (each_push (IsStep ns (rows_of o)) (map (line_of o.bank) o.nodes.items) s.steps (line_of r.bank z) line.bytes.now (s.are_nodes ns (grows_on names new ns g grow)) (w.shown ns grow)));
-        still = ap (missing 1) lines_now ∙ (missing_push 1 (map (line_of o.bank) o.nodes.items) (line_of r.bank z) j (s.still ∙ ap (λ y. Some y) sucs) ∙ ap (λ y. Some y) sum);
+            (each_push (IsStep ns (rows_of o)) (map (line_of o.bank) o.nodes.items) s.steps (line_of r.bank z) line.bytes.now
+            (s.are_nodes ns (grows_on names new ns g grow)) (w.shown ns grow)));
+        still = ap (missing 1) lines_now ∙ (missing_push 1 (map (line_of o.bank) o.nodes.items) (line_of r.bank z) j (s.still ∙ ap (λ y. Some y) sucs)
+            ∙ ap (λ y. Some y) sum);
         grows = k.grows;
         names_on = k.names_on;
         room = k.room;

@@ -11,11 +11,22 @@ use Rattle.ll_prooftext.specs.Reading.{is_none, children}
 use Rattle.ll_prooftext.specs.SharedLines.{IsShareRow, IsLetOver, IsStepOver}
 use Rattle.ll_prooftext.specs.SharedReader.{TakesOver, share, variable, node}
 
-pub takes_share : (names : List (List ℕ)) (o : Sharing) (line : List ℕ) (new : List (List ℕ)) (p : Sharing) (at : At) (stage : Stage) (rows : List At) → rows ≡ o.rows.items → stage.shares ≡ (is_none o.asked.items && is_none o.nodes.items) → (stage.shares ≡ true) × IsShareRow (term_trees o.bank rows) names o.bank line new p.bank at.0 → p.rows.items ≡ o.rows.items ++ at ∷ [] → p.asked.items ≡ o.asked.items → p.nodes.items ≡ o.nodes.items → p.lacking ≡ o.lacking → TakesOver names o line new p
-takes_share names o line new p at stage rows q e w x a n l = share at (sym e ∙ w.0) (subst (λ rs. IsShareRow (term_trees o.bank rs) names o.bank line new p.bank at.0) q w.1) x a n l
+pub takes_share : (names : List (List ℕ)) (o : Sharing) (line : List ℕ) (new : List (List ℕ)) (p : Sharing) (at : At) (stage : Stage) (rows : List At)
+    → rows ≡ o.rows.items → stage.shares ≡ (is_none o.asked.items && is_none o.nodes.items)
+    → (stage.shares ≡ true) × IsShareRow (term_trees o.bank rows) names o.bank line new p.bank at.0 → p.rows.items ≡ o.rows.items ++ at ∷ []
+    → p.asked.items ≡ o.asked.items → p.nodes.items ≡ o.nodes.items → p.lacking ≡ o.lacking → TakesOver names o line new p
+takes_share names o line new p at stage rows q e w x a n l =
+    share at (sym e ∙ w.0) (subst (λ rs. IsShareRow (term_trees o.bank rs) names o.bank line new p.bank at.0) q w.1) x a n l
 
-pub takes_variable : (names : List (List ℕ)) (o : Sharing) (line : List ℕ) (new : List (List ℕ)) (p : Sharing) (at : At) (stage : Stage) (rows : List At) → rows ≡ o.rows.items → stage.lets ≡ is_none o.nodes.items → (stage.lets ≡ true) × IsLetOver (term_trees o.bank rows) names o.bank line new p.bank at.0 → p.rows.items ≡ o.rows.items → p.asked.items ≡ o.asked.items ++ at ∷ [] → p.nodes.items ≡ o.nodes.items → p.lacking ≡ o.lacking → TakesOver names o line new p
-takes_variable names o line new p at stage rows q e w x a n l = variable at (sym e ∙ w.0) (subst (λ rs. IsLetOver (term_trees o.bank rs) names o.bank line new p.bank at.0) q w.1) x a n l
+pub takes_variable : (names : List (List ℕ)) (o : Sharing) (line : List ℕ) (new : List (List ℕ)) (p : Sharing) (at : At) (stage : Stage) (rows : List At)
+    → rows ≡ o.rows.items → stage.lets ≡ is_none o.nodes.items → (stage.lets ≡ true) × IsLetOver (term_trees o.bank rows) names o.bank line new p.bank at.0
+    → p.rows.items ≡ o.rows.items → p.asked.items ≡ o.asked.items ++ at ∷ [] → p.nodes.items ≡ o.nodes.items → p.lacking ≡ o.lacking
+    → TakesOver names o line new p
+takes_variable names o line new p at stage rows q e w x a n l =
+    variable at (sym e ∙ w.0) (subst (λ rs. IsLetOver (term_trees o.bank rs) names o.bank line new p.bank at.0) q w.1) x a n l
 
-pub takes_step : (names : List (List ℕ)) (o : Sharing) (line : List ℕ) (new : List (List ℕ)) (p : Sharing) (r : Rule) (n : ℕ) (rows : List At) → rows ≡ o.rows.items → IsStepOver (term_trees o.bank rows) names o.bank line new p.bank r → p.rows.items ≡ o.rows.items → p.asked.items ≡ o.asked.items → p.nodes.items ≡ o.nodes.items ++ r ∷ [] → ((bank : Nodes) → n ≡ children (line_of bank r)) → p.lacking ≡ o.lacking - 1 + n → TakesOver names o line new p
-takes_step names o line new p r n rows q w x a m c l = node r (subst (λ rs. IsStepOver (term_trees o.bank rs) names o.bank line new p.bank r) q w) x a m (l ∙ ap (λ z. o.lacking - 1 + z) (c p.bank))
+pub takes_step : (names : List (List ℕ)) (o : Sharing) (line : List ℕ) (new : List (List ℕ)) (p : Sharing) (r : Rule) (n : ℕ) (rows : List At)
+    → rows ≡ o.rows.items → IsStepOver (term_trees o.bank rows) names o.bank line new p.bank r → p.rows.items ≡ o.rows.items → p.asked.items ≡ o.asked.items
+    → p.nodes.items ≡ o.nodes.items ++ r ∷ [] → ((bank : Nodes) → n ≡ children (line_of bank r)) → p.lacking ≡ o.lacking - 1 + n → TakesOver names o line new p
+takes_step names o line new p r n rows q w x a m c l = node r (subst (λ rs. IsStepOver (term_trees o.bank rs) names o.bank line new p.bank r) q w) x a m
+    (l ∙ ap (λ z. o.lacking - 1 + z) (c p.bank))

@@ -4,11 +4,13 @@ use Rattle.ll_prooftext.proofs.writing.Sizing.{is_second}
 use Rattle.ll_prooftext.proofs.size.Goals as goal
 
 pub returns-then-version-eq1 : goal.returns-then-version-eq1
-returns-then-version-eq1 c = subst (λ (v : ℕ). IfOk c.whole_size.result (λ n. n ≡ size_in v c.args.names.now c.args.derivation.now)) (sym c.if-version-eq1.true) c.whole_size.ensures
+returns-then-version-eq1 c = subst (λ (v : ℕ). IfOk c.whole_size.result (λ n. n ≡ size_in v c.args.names.now c.args.derivation.now)) (sym c.if-version-eq1.true)
+    c.whole_size.ensures
 
 pub returns-in_ok-text : goal.returns-in_ok-text
 returns-in_ok-text c =
     let text = ap length c.in_ok-text.ensures in
     let count = c.len.ensures ∙ c.in_ok-text.text.ok.0 in
     let fits = c.len.type_inv in
-    subst (λ (v : ℕ). c.len.result ≡ size_in v c.args.names.now c.args.derivation.now) (sym (is_second c.args.version c.requires c.if-version-eq1.false)) (omega arith)
+    subst (λ (v : ℕ). c.len.result ≡ size_in v c.args.names.now c.args.derivation.now) (sym (is_second c.args.version c.requires c.if-version-eq1.false))
+    (omega arith)

@@ -1,5 +1,6 @@
 -- Arguments, whole.
-use Rattle.std.proofs.Common.{◌≡◌, ℕ, Bool, true, false, List, [], ◌∷◌, ◌++◌, All, refl, ap, sym, subst, ◌∙◌, append_assoc, append-nil, IsTrue, Some, None, decimal}
+use Rattle.std.proofs.Common.{◌≡◌, ℕ, Bool, true, false, List, [], ◌∷◌, ◌++◌, All, refl, ap, sym, subst, ◌∙◌, append_assoc, append-nil, IsTrue, Some, None}
+use Rattle.std.proofs.Common.{decimal}
 use Rattle.std.proofs.lemmas.List.Elements.{All-nil}
 use Rattle.std.specs.Prelude.{◌==◌}
 use Rattle.ll_bank.specs.declared.At.{At}
@@ -11,7 +12,8 @@ use Rattle.ll_prooftext.specs.declared.terms.Open.{Open}
 use Rattle.ll_prooftext.specs.Admitted.{IsSpelledTerm}
 use Rattle.ll_prooftext.specs.Reading.{IsArgument, IsAtEnd, line_end, space, Argument}
 use Rattle.ll_prooftext.specs.Words.{Stops, ended, at_byte, BeginsNot, HasNone}
-use Rattle.ll_prooftext.specs.Terms.{is_part, Shape, Wanted, Bare, Applied, Closed, IsWord, variable, number, IsWordAt, HasNoWord, fresh, Accepts, Moves, IsSpelledAt, argument_at}
+use Rattle.ll_prooftext.specs.Terms.{is_part, Shape, Wanted, Bare, Applied, Closed, IsWord, variable, number, IsWordAt, HasNoWord, fresh, Accepts, Moves}
+use Rattle.ll_prooftext.specs.Terms.{IsSpelledAt, argument_at}
 use Rattle.ll_prooftext.specs.Brackets.{shape_of, frames, open_text, IsGoodItem, IsGoodPart, IsGoodBracket, IsGood, Turns, Ends, IsTermFrom, IsArgumentAt}
 use Rattle.ll_prooftext.proofs.spelling.Found.{moves_still, moves_over, moves_behind, moves_on}
 use Rattle.ll_prooftext.proofs.spelling.Mentioning.{open_mentions}
@@ -75,20 +77,25 @@ no_argument bytes b n field rest i e end = by_form (form field i)
     by_form (boxed h f) = b ((term_text i.names i.term ++ 41 ∷ []) ++ rest) (e ∙ ap (λ z. z ++ rest) f)
 
 -- a word that ends elsewhere
-pub other_end : (names : List (List ℕ)) (bank : Nodes) (bytes : List ℕ) (x : Word) (left : List ℕ) → BeginsNot 40 bytes → IsWordAt names bank bytes x left → (IsAtEnd left → ⊥) → HasNone Argument bytes
+pub other_end : (names : List (List ℕ)) (bank : Nodes) (bytes : List ℕ) (x : Word) (left : List ℕ) → BeginsNot 40 bytes → IsWordAt names bank bytes x left
+    → (IsAtEnd left → ⊥) → HasNone Argument bytes
 other_end names bank bytes x left b at none field rest i e end = by_form (form field i)
   where
     by_form : Form field i → ⊥
     by_form (bare q v) =
-        let k = one_word at.spelling left field rest q (word_parts at.spelling (shape_of (Some x) []) (word_shape names bank at.spelling x at.word)) at.end v (end_stops rest end) (sym at.is ∙ e) in
+        let k = one_word at.spelling left field rest q (word_parts at.spelling (shape_of (Some x) []) (word_shape names bank at.spelling x at.word)) at.end v
+        (end_stops rest end) (sym at.is ∙ e) in
         none (subst IsAtEnd (sym k.1) end)
     by_form (boxed h g) = b ((term_text i.names i.term ++ 41 ∷ []) ++ rest) (e ∙ ap (λ z. z ++ rest) g)
 
 -- the term of a word
-pub word_argument : (names : List (List ℕ)) (bank : Nodes) (bytes : List ℕ) (new : List (List ℕ)) (mid over : Nodes) (x : Word) (left : List ℕ) (at : ℕ) → Moves names bank bytes new mid left → IsWordAt new mid bytes x left → IsAtEnd left → IsTermFrom mid over x [] at → Extends mid over → IsArgumentAt names bank bytes new over at left
+pub word_argument : (names : List (List ℕ)) (bank : Nodes) (bytes : List ℕ) (new : List (List ℕ)) (mid over : Nodes) (x : Word) (left : List ℕ) (at : ℕ)
+    → Moves names bank bytes new mid left → IsWordAt new mid bytes x left → IsAtEnd left → IsTermFrom mid over x [] at → Extends mid over
+    → IsArgumentAt names bank bytes new over at left
 word_argument names bank bytes new mid over x left at m w end t e =
     let k = part_term new mid over x [] at (word_good new mid w.spelling x w.word) (All-nil (λ (a : At). IsSpelledAt new mid a.0)) t e in
-    let word : argument_at new over at ≡ w.spelling = leaf_argument (term_tree over at) (term_text new (term_tree over at)) k.has ∙ (k.text ∙ (append-nil _ ∙ word_text new mid w.spelling x w.word)) in
+    let word : argument_at new over at ≡ w.spelling = leaf_argument (term_tree over at) (term_text new (term_tree over at)) k.has
+    ∙ (k.text ∙ (append-nil _ ∙ word_text new mid w.spelling x w.word)) in
     record {
       good = k.good;
       is = w.is ∙ ap (λ z. z ++ left) (sym word);
@@ -105,7 +112,9 @@ pub record IsReading (names : List (List ℕ)) (bank : Nodes) (inside : List ℕ
   pub moves : Moves names bank inside new over rest
   pub goes : (end : List ℕ) → Accepts end (fresh ∷ []) inside → Accepts end (frames o) rest
 
-pub reading_on : (names : List (List ℕ)) (bank : Nodes) (inside : List ℕ) (new : List (List ℕ)) (over : Nodes) (o : Open) (rest : List ℕ) (later : List (List ℕ)) (after : Nodes) (p : Open) (left : List ℕ) → IsReading names bank inside new over o rest → Turns new over o rest later after p left → IsReading names bank inside later after p left
+pub reading_on : (names : List (List ℕ)) (bank : Nodes) (inside : List ℕ) (new : List (List ℕ)) (over : Nodes) (o : Open) (rest : List ℕ)
+    (later : List (List ℕ)) (after : Nodes) (p : Open) (left : List ℕ) → IsReading names bank inside new over o rest → Turns new over o rest later after p left
+    → IsReading names bank inside later after p left
 reading_on names bank inside new over o rest later after p left r t = record {
   good = t.good;
   text = t.text ∙ r.text;
@@ -113,25 +122,32 @@ reading_on names bank inside new over o rest later after p left r t = record {
   goes = λ end a. t.goes end (r.goes end a);
 }
 
-pub reading_stuck : (names : List (List ℕ)) (bank : Nodes) (inside : List ℕ) (new : List (List ℕ)) (over : Nodes) (o : Open) (rest : List ℕ) → IsReading names bank inside new over o rest → ((end : List ℕ) → Accepts end (frames o) rest → ⊥) → HasNone Argument (40 ∷ inside)
+pub reading_stuck : (names : List (List ℕ)) (bank : Nodes) (inside : List ℕ) (new : List (List ℕ)) (over : Nodes) (o : Open) (rest : List ℕ)
+    → IsReading names bank inside new over o rest → ((end : List ℕ) → Accepts end (frames o) rest → ⊥) → HasNone Argument (40 ∷ inside)
 reading_stuck names bank inside new over o rest r s field behind i e end = s behind (r.goes behind (inside_accepted inside field behind i e))
 
-pub reading_ends : (names : List (List ℕ)) (bank : Nodes) (inside : List ℕ) (new : List (List ℕ)) (over : Nodes) (o : Open) (rest : List ℕ) (later : List (List ℕ)) (after : Nodes) (at : ℕ) (left : List ℕ) → IsReading names bank inside new over o rest → Ends new over o rest later after at left → IsAtEnd left → IsArgumentAt names bank (40 ∷ inside) later after at left
+pub reading_ends : (names : List (List ℕ)) (bank : Nodes) (inside : List ℕ) (new : List (List ℕ)) (over : Nodes) (o : Open) (rest : List ℕ)
+    (later : List (List ℕ)) (after : Nodes) (at : ℕ) (left : List ℕ) → IsReading names bank inside new over o rest → Ends new over o rest later after at left
+    → IsAtEnd left → IsArgumentAt names bank (40 ∷ inside) later after at left
 reading_ends names bank inside new over o rest later after at left r t end =
     record {
       good = t.good;
       is = sym (t.text ∙ r.text);
       end = end;
-      moves = moves_behind names bank (40 ∷ inside) (40 ∷ []) inside later after left refl (open_mentions inside) (moves_on names bank inside new over rest later after left r.moves t.moves);
+      moves = moves_behind names bank (40 ∷ inside) (40 ∷ []) inside later after left refl (open_mentions inside)
+          (moves_on names bank inside new over rest later after left r.moves t.moves);
     }
 
-pub reading_other : (names : List (List ℕ)) (bank : Nodes) (inside : List ℕ) (new : List (List ℕ)) (over : Nodes) (o : Open) (rest : List ℕ) (later : List (List ℕ)) (after : Nodes) (at : ℕ) (left : List ℕ) → IsReading names bank inside new over o rest → Ends new over o rest later after at left → (IsAtEnd left → ⊥) → HasNone Argument (40 ∷ inside)
+pub reading_other : (names : List (List ℕ)) (bank : Nodes) (inside : List ℕ) (new : List (List ℕ)) (over : Nodes) (o : Open) (rest : List ℕ)
+    (later : List (List ℕ)) (after : Nodes) (at : ℕ) (left : List ℕ) → IsReading names bank inside new over o rest → Ends new over o rest later after at left
+    → (IsAtEnd left → ⊥) → HasNone Argument (40 ∷ inside)
 reading_other names bank inside new over o rest later after at left r t none field behind i e end =
     let q : left ≡ behind = t.ends behind (r.goes behind (inside_accepted inside field behind i e)) in
     none (subst IsAtEnd (sym q) end)
 
 -- an empty bracket
-pub reading_begins : (names : List (List ℕ)) (bank : Nodes) (inside : List ℕ) (o : Open) → o.outer.items ≡ [] → o.top.items.items ≡ [] → o.top.part ≡ None → o.top.args.items ≡ [] → IsReading names bank inside names bank o inside
+pub reading_begins : (names : List (List ℕ)) (bank : Nodes) (inside : List ℕ) (o : Open) → o.outer.items ≡ [] → o.top.items.items ≡ [] → o.top.part ≡ None
+    → o.top.args.items ≡ [] → IsReading names bank inside names bank o inside
 reading_begins names bank inside o e i p a = record {
   good = record {
     outer = subst (All (IsGoodBracket names bank)) (sym e) (All-nil (IsGoodBracket names bank));
@@ -150,7 +166,8 @@ pub not_ended : {b : Bool} {left : List ℕ} → (IsTrue b → IsAtEnd left) × 
 not_ended {b} h f e = let t : b ≡ true = h.1 e in let x : ⊥ = cc in x
 
 -- no argument begins with `{` or `!`
-pub argument_first : (field behind bs : List ℕ) (b : ℕ) → IsArgument field → field ++ behind ≡ b ∷ bs → head_start b ≡ false → leaf_start b ≡ false → (40 == b) ≡ false → ⊥
+pub argument_first : (field behind bs : List ℕ) (b : ℕ) → IsArgument field → field ++ behind ≡ b ∷ bs → head_start b ≡ false → leaf_start b ≡ false
+    → (40 == b) ≡ false → ⊥
 argument_first field behind bs b i e h l n = by_form (form field i)
   where
     begins : (p : ℕ → Bool) → Starts p field → p b ≡ false → ⊥

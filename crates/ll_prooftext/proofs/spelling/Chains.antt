@@ -9,14 +9,18 @@ use Rattle.ll_bank.proofs.CallerLemmas.{Extends-trans, term_tree-extends}
 use Rattle.ll_prooftext.specs.declared.terms.Item.{Item}
 use Rattle.ll_prooftext.specs.Brackets.{chain_term}
 
-pub chain_none : (bank : Nodes) (items : List Item) (last : ℕ) → HasTerm bank last → ShowsTerm bank last (chain_term bank (drop (length items) items) (term_tree bank last))
+pub chain_none : (bank : Nodes) (items : List Item) (last : ℕ) → HasTerm bank last
+    → ShowsTerm bank last (chain_term bank (drop (length items) items) (term_tree bank last))
 chain_none bank items last h = let e : drop (length items) items ≡ [] = drop_of_length-le items (omega arith) in rw e (record { inside = h; tree = refl })
 
 pub chain_keeps : (bank mid over : Nodes) → Extends bank mid → Extends mid over → Extends bank over
 chain_keeps bank mid over e f = Extends-trans e f
 
-pub chain_more : (bank mid over : Nodes) (items : List Item) (left : ℕ) (i : Item) (last term next : ℕ) → left ≤ length items → 0 < left → i ≡ get_or items (left - 1) i → All (λ j. HasTerm bank j.at.0) items → ShowsTerm mid term (chain_term bank (drop left items) (term_tree bank last)) → Extends bank mid
-    → ShowsTerm over next (Ap (Ap (Con (Name i.sign)) (term_tree mid i.at.0)) (term_tree mid term)) → ShowsTerm over next (chain_term bank (drop (left - 1) items) (term_tree bank last))
+pub chain_more : (bank mid over : Nodes) (items : List Item) (left : ℕ) (i : Item) (last term next : ℕ) → left ≤ length items → 0 < left
+    → i ≡ get_or items (left - 1) i → All (λ j. HasTerm bank j.at.0) items → ShowsTerm mid term (chain_term bank (drop left items) (term_tree bank last))
+    → Extends bank mid
+    → ShowsTerm over next (Ap (Ap (Con (Name i.sign)) (term_tree mid i.at.0)) (term_tree mid term))
+    → ShowsTerm over next (chain_term bank (drop (left - 1) items) (term_tree bank last))
 chain_more bank mid over items zero i last term next w s e a t k h = absurd (omega arith)
 chain_more bank mid over items (suc n) i last term next w s e a t k h =
     let m : suc n - 1 ≡ n = omega arith in
@@ -27,4 +31,8 @@ chain_more bank mid over items (suc n) i last term next w s e a t k h =
     let l : term_tree mid term ≡ chain_term bank (drop (suc n) items) (term_tree bank last) = t.tree in
     subst (λ j. ShowsTerm over next (chain_term bank (drop j items) (term_tree bank last))) (sym m)
     (subst (λ js. ShowsTerm over next (chain_term bank js (term_tree bank last))) (sym c)
-    (record { inside = h.inside; tree = h.tree ∙ (ap (λ u. Ap (Ap (Con (Name i.sign)) u) (term_tree mid term)) x ∙ ap (λ u. Ap (Ap (Con (Name i.sign)) (term_tree bank i.at.0)) u) l) }))
+    (record {
+      inside = h.inside;
+      tree = h.tree ∙ (ap (λ u. Ap (Ap (Con (Name i.sign)) u) (term_tree mid term)) x
+          ∙ ap (λ u. Ap (Ap (Con (Name i.sign)) (term_tree bank i.at.0)) u) l);
+    }))

@@ -1,5 +1,6 @@
 -- Texts of terms stay when names and terms are added.
-use Rattle.std.proofs.Common.{◌≡◌, ℕ, zero, suc, ◌<◌, true, false, List, [], ◌∷◌, ◌++◌, length, All, refl, ap, sym, subst, ◌∙◌, arith, codes, append_assoc, inl, inr, IsTrue}
+use Rattle.std.proofs.Common.{◌≡◌, ℕ, zero, suc, ◌<◌, true, false, List, [], ◌∷◌, ◌++◌, length, All, refl, ap, sym, subst, ◌∙◌, arith, codes, append_assoc}
+use Rattle.std.proofs.Common.{inl, inr, IsTrue}
 use Rattle.std.specs.List.{flat_map}
 use Rattle.std.proofs.lemmas.List.Elements.{All-head, All-tail}
 use Rattle.std.specs.Str.{bytes_eq}
@@ -34,7 +35,8 @@ cons_full names n h = by_text (name_text names n) h
 -- a name is no `::`
 pub plain_apart : (names : List (List ℕ)) (h : Head) → IsPlainHead names h → is_cons_head names h ≡ false
 unfolding is_lower
-plain_apart names (Name n) p = apart (name_text names n) (codes "::") (λ e. let s : false ≡ true = ap is_name (sym e) ∙ name_shaped (name_text names n) p.spelled in let y : ⊥ = cc in y)
+plain_apart names (Name n) p = apart (name_text names n) (codes "::") (λ e. let s : false ≡ true =
+    ap is_name (sym e) ∙ name_shaped (name_text names n) p.spelled in let y : ⊥ = cc in y)
 plain_apart names (Eigen n) p = refl
 plain_apart names (Bound n) p = absurd p
 
@@ -96,7 +98,11 @@ module _ (names more : List (List ℕ)) where
     term_kept (Ap f a) s =
         let g = spine_kept f s.0 in
         let b = term_kept a s.1 in
-        record { text = applied_kept (applied_text grown f) (applied_text names f) (term_text grown a) (term_text names a) a g.text b.text; cons = refl; spelled = (g.spelled, b.spelled) }
+        record {
+          text = applied_kept (applied_text grown f) (applied_text names f) (term_text grown a) (term_text names a) a g.text b.text;
+          cons = refl;
+          spelled = (g.spelled, b.spelled);
+        }
 
     spine_kept : (f : Term) → IsSpelledSpine names f → KeptSpine f
     spine_kept (Var n) s = absurd s
@@ -105,7 +111,11 @@ module _ (names more : List (List ℕ)) where
     spine_kept (Ap f a) s =
         let g = spine_kept f s.0 in
         let b = term_kept a s.1 in
-        record { text = applied_kept (applied_text grown f) (applied_text names f) (term_text grown a) (term_text names a) a g.text b.text; spelled = (g.spelled, b.spelled) }
+        record {
+          text = applied_kept (applied_text grown f) (applied_text names f) (term_text grown a) (term_text names a) a g.text b.text;
+          spelled =
+              (g.spelled, b.spelled);
+        }
 
 pub head_on : (names new : List (List ℕ)) (h : Head) → Grows names new → IsPlainHead names h → IsPlainHead new h × (head_text new h ≡ head_text names h)
 head_on names new h g p =
@@ -132,14 +142,17 @@ term_applied names (Ap f a) p = refl
 
 pub arguments_fields : (names : List (List ℕ)) (ts : List Term) → arguments_text names ts ≡ flat_map (term_field names) ts
 arguments_fields names [] = refl
-arguments_fields names (t ∷ ts) = append_assoc (codes " ") (argument_text t (term_text names t)) (arguments_text names ts) ∙ ap (λ us. term_field names t ++ us) (arguments_fields names ts)
+arguments_fields names (t ∷ ts) = append_assoc (codes " ") (argument_text t (term_text names t)) (arguments_text names ts)
+    ∙ ap (λ us. term_field names t ++ us) (arguments_fields names ts)
 
 no_cons_apply : (names : List (List ℕ)) (f : Term) (ts : List Term) → no_cons names f → no_cons names (apply f ts)
 no_cons_apply names f [] p = p
 no_cons_apply names f (t ∷ ts) p = no_cons_apply names (Ap f t) ts p
 
-pub app_text : (names : List (List ℕ)) (h : Head) (ts : List Term) → IsPlainHead names h → term_text names (app h ts) ≡ head_text names h ++ flat_map (term_field names) ts
-app_text names h ts p = term_applied names (app h ts) (no_cons_apply names (Con h) ts (plain_apart names h p)) ∙ (applied_text-apply names (Con h) ts ∙ ap (λ us. head_text names h ++ us) (arguments_fields names ts))
+pub app_text : (names : List (List ℕ)) (h : Head) (ts : List Term) → IsPlainHead names h
+    → term_text names (app h ts) ≡ head_text names h ++ flat_map (term_field names) ts
+app_text names h ts p = term_applied names (app h ts) (no_cons_apply names (Con h) ts (plain_apart names h p))
+    ∙ (applied_text-apply names (Con h) ts ∙ ap (λ us. head_text names h ++ us) (arguments_fields names ts))
 
 spine_term : (names : List (List ℕ)) (t : Term) → IsSpelledSpine names t → IsSpelledTerm names t
 spine_term names (Var n) s = absurd s
@@ -198,13 +211,20 @@ pub record KeptAt (names : List (List ℕ)) (bank : Nodes) (new : List (List ℕ
   pub argument : argument_at new over at ≡ argument_at names bank at
   pub cons : is_cons new (term_tree over at) ≡ is_cons names (term_tree bank at)
 
-pub at_kept : (names : List (List ℕ)) (bank : Nodes) (new : List (List ℕ)) (over : Nodes) (at : ℕ) → Grows names new → Extends bank over → IsSpelledAt names bank at → KeptAt names bank new over at
+pub at_kept : (names : List (List ℕ)) (bank : Nodes) (new : List (List ℕ)) (over : Nodes) (at : ℕ) → Grows names new → Extends bank over
+    → IsSpelledAt names bank at → KeptAt names bank new over at
 at_kept names bank new over at g e s =
     let t : term_tree over at ≡ term_tree bank at = term_tree-extends e at s.inside in
     let k = term_kept names g.more (term_tree bank at) s.spelled in
-    let text : term_text new (term_tree over at) ≡ term_text names (term_tree bank at) = ap (term_text new) t ∙ (ap (λ ns. term_text ns (term_tree bank at)) g.is ∙ k.text) in
+    let text : term_text new (term_tree over at) ≡ term_text names (term_tree bank at) =
+    ap (term_text new) t ∙ (ap (λ ns. term_text ns (term_tree bank at)) g.is ∙ k.text) in
     record {
-      good = record { inside = HasTerm-extends e at s.inside; spelled = subst (IsSpelledTerm new) (sym t) (subst (λ ns. IsSpelledTerm ns (term_tree bank at)) (sym g.is) k.spelled); closed = ap is_closed t ∙ s.closed };
+      good = record {
+        inside = HasTerm-extends e at s.inside;
+        spelled =
+            subst (IsSpelledTerm new) (sym t) (subst (λ ns. IsSpelledTerm ns (term_tree bank at)) (sym g.is) k.spelled);
+        closed = ap is_closed t ∙ s.closed;
+      };
       tree = t;
       text = text;
       argument = rw (text, t) refl;

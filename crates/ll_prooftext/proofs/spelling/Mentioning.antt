@@ -1,5 +1,6 @@
 -- The names that bytes mention, piece by piece.
-use Rattle.std.proofs.Common.{◌≡◌, ℕ, suc, ◌<◌, ◌^◌, Bool, true, false, List, [], ◌∷◌, ◌++◌, length, drop, refl, ap, sym, ◌∙◌, arith, decimal, codes, append_assoc, append-nil, ℤ, pos, negsuc, All, FitsSigned}
+use Rattle.std.proofs.Common.{◌≡◌, ℕ, suc, ◌<◌, ◌^◌, Bool, true, false, List, [], ◌∷◌, ◌++◌, length, drop, refl, ap, sym, ◌∙◌, arith, decimal, codes}
+use Rattle.std.proofs.Common.{append_assoc, append-nil, ℤ, pos, negsuc, All, FitsSigned}
 use Rattle.std.specs.Prelude.{◌&&◌, not, ◌==◌, if◌then◌else◌}
 use Rattle.std.specs.Fmt.{signed_decimal}
 use Rattle.std.specs.Int.{w64}
@@ -99,13 +100,15 @@ name_same Halfway t b w rest h = absurd cc
 part_no_colon : (b : ℕ) → is_part b ≡ true → is_not 58 b ≡ true
 part_no_colon b h = and_right ((is_not 32 b && is_not 40 b) && is_not 41 b) (is_not 58 b) h
 
-scan_apart : (s : Scan) → is_settled s ≡ true → (w rest : List ℕ) → list_all is_part w ≡ true → Stops is_part rest → mentions s (w ++ rest) ≡ mentions s w ++ mentions Outside rest
+scan_apart : (s : Scan) → is_settled s ≡ true → (w rest : List ℕ) → list_all is_part w ≡ true → Stops is_part rest
+    → mentions s (w ++ rest) ≡ mentions s w ++ mentions Outside rest
 unfolding mentions
 scan_apart s t [] rest h st = settled_outside s t rest st
 scan_apart s t (b ∷ w) rest h st =
     let u = colon_settled s t b (part_no_colon b (first is_part b w h)) in
     let ih = scan_apart (scanned s b) u w rest (tail is_part b w h) st in
-    ap (λ z. z ++ mentions (scanned s b) (w ++ rest)) (name_same s t b w rest st) ∙ (ap (λ z. name_here s b w ++ z) ih ∙ sym (append_assoc (name_here s b w) (mentions (scanned s b) w) (mentions Outside rest)))
+    ap (λ z. z ++ mentions (scanned s b) (w ++ rest)) (name_same s t b w rest st)
+    ∙ (ap (λ z. name_here s b w ++ z) ih ∙ sym (append_assoc (name_here s b w) (mentions (scanned s b) w) (mentions Outside rest)))
 
 -- a word, and what stands behind it
 pub word_apart : (w rest : List ℕ) → list_all is_part w ≡ true → Stops is_part rest → mentions Outside (w ++ rest) ≡ mentions Outside w ++ mentions Outside rest
@@ -117,7 +120,8 @@ quiet_name Outside t b bs h = let l : is_lower b ≡ false = turned (is_lower b)
 quiet_name Inside t b bs h = refl
 quiet_name Halfway t b bs h = absurd cc
 
-scan_quiet : (s : Scan) → is_settled s ≡ true → (w rest : List ℕ) → list_all is_quiet w ≡ true → Stops is_part rest → mentions s (w ++ rest) ≡ mentions Outside rest
+scan_quiet : (s : Scan) → is_settled s ≡ true → (w rest : List ℕ) → list_all is_quiet w ≡ true → Stops is_part rest
+    → mentions s (w ++ rest) ≡ mentions Outside rest
 unfolding mentions
 scan_quiet s t [] rest h st = settled_outside s t rest st
 scan_quiet s t (b ∷ w) rest h st =
@@ -226,10 +230,12 @@ pub number_mentions : (w : List ℕ) (z : ℤ) → FitsSigned w64 z → w ≡ si
 number_mentions w z f e = ap (mentions Outside) e ∙ quiet_none (signed_decimal z) (signed_quiet z f)
 
 pub variable_mentions : (w rest : List ℕ) (n : ℕ) → n < 2 ^ 64 → w ≡ 63 ∷ rest → rest ≡ decimal n → mentions Outside w ≡ []
-variable_mentions w rest n l e f = ap (mentions Outside) (e ∙ ap (λ z. 63 ∷ z) f) ∙ quiet_none (63 ∷ decimal n) (quiet_behind 63 (decimal n) variable_quiet (decimal_quiet n l))
+variable_mentions w rest n l e f = ap (mentions Outside) (e ∙ ap (λ z. 63 ∷ z) f)
+    ∙ quiet_none (63 ∷ decimal n) (quiet_behind 63 (decimal n) variable_quiet (decimal_quiet n l))
 
 pub eigen_mentions : (w rest : List ℕ) (n : ℕ) → n < 2 ^ 64 → w ≡ 35 ∷ rest → rest ≡ decimal n → mentions Outside w ≡ []
-eigen_mentions w rest n l e f = ap (mentions Outside) (e ∙ ap (λ z. 35 ∷ z) f) ∙ quiet_none (35 ∷ decimal n) (quiet_behind 35 (decimal n) eigen_quiet (decimal_quiet n l))
+eigen_mentions w rest n l e f = ap (mentions Outside) (e ∙ ap (λ z. 35 ∷ z) f)
+    ∙ quiet_none (35 ∷ decimal n) (quiet_behind 35 (decimal n) eigen_quiet (decimal_quiet n l))
 
 labels_quiet : (ns : List ℕ) → AreLabels ns → list_all is_quiet (labels_text ns) ≡ true
 labels_quiet [] a = refl
@@ -243,7 +249,8 @@ labels_quiet (n ∷ ns) a =
     others (m ∷ ms) a h = quiet_behind 32 (labels_text (m ∷ ms)) space_quiet h
 
 pub set_quiet : (ns : List ℕ) → AreLabels ns → list_all is_quiet (set_text ns) ≡ true
-set_quiet ns a = quiet_behind 123 (labels_text ns ++ 125 ∷ []) opening_quiet (quiet_join (labels_text ns) (125 ∷ []) (labels_quiet ns a) (quiet_behind 125 [] closing_quiet refl))
+set_quiet ns a = quiet_behind 123 (labels_text ns ++ 125 ∷ []) opening_quiet
+    (quiet_join (labels_text ns) (125 ∷ []) (labels_quiet ns a) (quiet_behind 125 [] closing_quiet refl))
 
 pub field_quiet : (w : List ℕ) → list_all is_quiet w ≡ true → list_all is_quiet (field w) ≡ true
 field_quiet w h = quiet_behind 32 w space_quiet h
@@ -255,7 +262,8 @@ part_quiet Free a = field_quiet (33 ∷ []) (quiet_behind 33 [] mark_quiet refl)
 
 pub parts_quiet : (ps : List PartLine) → All IsSpelledPart ps → list_all is_quiet (flat_map part_field ps) ≡ true
 parts_quiet [] a = refl
-parts_quiet (p ∷ ps) a = quiet_join (part_field p) (flat_map part_field ps) (part_quiet p (All-head IsSpelledPart p ps a)) (parts_quiet ps (All-tail IsSpelledPart p ps a))
+parts_quiet (p ∷ ps) a = quiet_join (part_field p) (flat_map part_field ps) (part_quiet p (All-head IsSpelledPart p ps a))
+    (parts_quiet ps (All-tail IsSpelledPart p ps a))
 
 -- ---- names that are added
 
@@ -271,7 +279,8 @@ added_apart names more others = fold-append with_name names more others
 pub first_alone : (w rest : List ℕ) → list_all (is_not 32) w ≡ true → IsAtEnd rest → first_word (w ++ rest) ≡ w
 first_alone [] rest h line_end = refl
 first_alone [] rest h (space {rest = bs}) = refl
-first_alone (b ∷ w) rest h s = let t : (b == 32) ≡ false = turned (b == 32) (first (is_not 32) b w h) in rw t (ap (λ z. b ∷ z) (first_alone w rest (tail (is_not 32) b w h) s))
+first_alone (b ∷ w) rest h s = let t : (b == 32) ≡ false = turned (b == 32) (first (is_not 32) b w h) in
+    rw t (ap (λ z. b ∷ z) (first_alone w rest (tail (is_not 32) b w h) s))
 
 -- a line mentions what its fields do
 pub line_mentions : (w rest : List ℕ) → list_all (is_not 32) w ≡ true → IsAtEnd rest → line_names (w ++ rest) ≡ mentions Outside rest

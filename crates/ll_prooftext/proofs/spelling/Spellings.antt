@@ -1,5 +1,6 @@
 -- How the words of terms are spelled.
-use Rattle.std.proofs.Common.{◌≡◌, ℕ, zero, suc, ◌<◌, ◌^◌, Bool, true, false, List, [], ◌∷◌, ◌++◌, length, refl, ap, sym, subst, ◌∙◌, arith, decimal, codes, IsTrue, ℤ, pos, negsuc, FitsSigned}
+use Rattle.std.proofs.Common.{◌≡◌, ℕ, zero, suc, ◌<◌, ◌^◌, Bool, true, false, List, [], ◌∷◌, ◌++◌, length, refl, ap, sym, subst, ◌∙◌, arith, decimal, codes}
+use Rattle.std.proofs.Common.{IsTrue, ℤ, pos, negsuc, FitsSigned}
 use Rattle.std.specs.Prelude.{◌&&◌, ◌||◌, not, ◌==◌}
 use Rattle.std.specs.Fmt.{signed_decimal}
 use Rattle.std.specs.Int.{w64}
@@ -16,7 +17,8 @@ use Rattle.ll_lexer.proofs.CallerLemmas.{kind-passes, lower-start, NoKeyword, na
 use Rattle.ll_prooftext.specs.Admitted.{IsPlainName}
 use Rattle.ll_prooftext.specs.Reading.{IsNumber, IsDecimal, IsInteger}
 use Rattle.ll_prooftext.specs.Words.{is_not, Stops}
-use Rattle.ll_prooftext.specs.Terms.{is_part, IsHeadWord, name, eigen, IsLeafWord, variable, number, Shape, Wanted, Bare, Applied, Closed, IsWord, HasNoWord, small_keywords}
+use Rattle.ll_prooftext.specs.Terms.{is_part, IsHeadWord, name, eigen, IsLeafWord, variable, number, Shape, Wanted, Bare, Applied, Closed, IsWord, HasNoWord}
+use Rattle.ll_prooftext.specs.Terms.{small_keywords}
 use Rattle.ll_prooftext.proofs.spelling.Cuts.{one_cut}
 use Rattle.std.proofs.lemmas.Fmt.{decimal_nonempty}
 use Rattle.ll_lists.proofs.CallerLemmas.{and_true_both as both}
@@ -98,7 +100,8 @@ unfolding kind_of fixed_spellings
 keyword_is w k h = none_named small_keywords w ((λ q. cc), ((λ q. cc), ((λ q. cc), ((λ q. cc), ((λ q. cc), tt))))) k h
 
 -- what the code tests
-pub name_iff : (w : List ℕ) (k : Bool) → is_name w ≡ true → k ≡ list_any (bytes_eq w) small_keywords → (IsTrue (not k) → Spells Name w) × (Spells Name w → IsTrue (not k))
+pub name_iff : (w : List ℕ) (k : Bool) → is_name w ≡ true → k ≡ list_any (bytes_eq w) small_keywords
+    → (IsTrue (not k) → Spells Name w) × (Spells Name w → IsTrue (not k))
 name_iff w false s e = (λ t. spelled_name w s (sym e), λ h. refl)
 name_iff w true s e = (λ t. let x : ⊥ = cc in absurd x, λ h. absurd (keyword_is w (sym e) h))
 
@@ -157,7 +160,8 @@ head_first w (eigen n e i) = record { byte = 35; others = n; is = e; passes = or
 
 pub leaf_first : (w : List ℕ) → IsLeafWord w → Starts leaf_start w
 leaf_first w (variable n e i) = record { byte = 63; others = n; is = e; passes = refl }
-leaf_first w (number i) = weaker begins_number leaf_start w (λ b h. or_right (b == 63) (begins_number b) h) (moved begins_number (signed_decimal i.value) w i.is (signed_starts i.value i.fits))
+leaf_first w (number i) = weaker begins_number leaf_start w (λ b h. or_right (b == 63) (begins_number b) h)
+    (moved begins_number (signed_decimal i.value) w i.is (signed_starts i.value i.fits))
 
 -- no byte begins both
 apart_starts : (b : ℕ) → head_start b ≡ true → leaf_start b ≡ true → ⊥
@@ -192,7 +196,8 @@ no_variable w rest e none Wanted a = a
 no_variable w rest e none Applied a = a
 no_variable w rest e none Bare a = let x : false ≡ true = first_is head_start w 63 rest e (head_first w a) in let y : ⊥ = cc in y
 no_variable w rest e none Closed (variable n f i) = let g : 63 ∷ n ≡ 63 ∷ rest = sym f ∙ e in let q : n ≡ rest = cc in none (subst (IsDecimal 64) q i)
-no_variable w rest e none Closed (number i) = let x : false ≡ true = first_is begins_number w 63 rest e (moved begins_number (signed_decimal i.value) w i.is (signed_starts i.value i.fits)) in let y : ⊥ = cc in y
+no_variable w rest e none Closed (number i) = let x : false ≡ true =
+    first_is begins_number w 63 rest e (moved begins_number (signed_decimal i.value) w i.is (signed_starts i.value i.fits)) in let y : ⊥ = cc in y
 
 pub no_eigen : (w rest : List ℕ) → w ≡ 35 ∷ rest → (IsNumber rest → ⊥) → (p : Shape) → IsWord w p → ⊥
 unfolding is_lower
@@ -202,7 +207,8 @@ no_eigen w rest e none Closed a = let x : false ≡ true = first_is leaf_start w
 no_eigen w rest e none Bare (eigen n f i) = let g : 35 ∷ n ≡ 35 ∷ rest = sym f ∙ e in let q : n ≡ rest = cc in none (subst IsNumber q i)
 no_eigen w rest e none Bare (name i) = let x : false ≡ true = first_is is_lower w 35 rest e (shaped_starts w (name_shaped w i.spelled)) in let y : ⊥ = cc in y
 
-pub no_word : (w : List ℕ) → ((r : List ℕ) → w ≡ 63 ∷ r → ⊥) → ((r : List ℕ) → w ≡ 35 ∷ r → ⊥) → (IsInteger w → ⊥) → (IsPlainName w → ⊥) → (p : Shape) → IsWord w p → ⊥
+pub no_word : (w : List ℕ) → ((r : List ℕ) → w ≡ 63 ∷ r → ⊥) → ((r : List ℕ) → w ≡ 35 ∷ r → ⊥) → (IsInteger w → ⊥) → (IsPlainName w → ⊥) → (p : Shape)
+    → IsWord w p → ⊥
 no_word w v h i n Wanted a = a
 no_word w v h i n Applied a = a
 no_word w v h i n Bare (name p) = n p
@@ -247,18 +253,22 @@ signed_parts (negsuc n) f = let l : n < 2 ^ 63 = mag_small (negsuc n) f in behin
 name_parts : (w : List ℕ) → is_name w ≡ true → list_all is_part w ≡ true
 unfolding is_lower is_word_byte
 name_parts [] h = refl
-name_parts (b ∷ bs) h = let k = both (is_lower b) (list_all is_word_byte bs) h in behind_part b bs (part_of is_lower refl refl refl refl b k.0) (all_weaker is_word_byte is_part (part_of is_word_byte refl refl refl refl) bs k.1)
+name_parts (b ∷ bs) h = let k = both (is_lower b) (list_all is_word_byte bs) h in
+    behind_part b bs (part_of is_lower refl refl refl refl b k.0) (all_weaker is_word_byte is_part (part_of is_word_byte refl refl refl refl) bs k.1)
 
 pub word_parts : (w : List ℕ) (p : Shape) → IsWord w p → list_all is_part w ≡ true
 word_parts w Wanted a = absurd a
 word_parts w Applied a = absurd a
 word_parts w Bare (name p) = name_parts w (name_shaped w p.spelled)
-word_parts w Bare (eigen n e i) = ap (list_all is_part) (e ∙ ap (λ z. 35 ∷ z) i.is) ∙ behind_part 35 (decimal i.number) refl (decimal_parts i.number (let l = i.small in omega arith))
-word_parts w Closed (variable n e i) = ap (list_all is_part) (e ∙ ap (λ z. 63 ∷ z) i.is) ∙ behind_part 63 (decimal i.number) refl (decimal_parts i.number i.small)
+word_parts w Bare (eigen n e i) = ap (list_all is_part) (e ∙ ap (λ z. 35 ∷ z) i.is)
+    ∙ behind_part 35 (decimal i.number) refl (decimal_parts i.number (let l = i.small in omega arith))
+word_parts w Closed (variable n e i) = ap (list_all is_part) (e ∙ ap (λ z. 63 ∷ z) i.is)
+    ∙ behind_part 63 (decimal i.number) refl (decimal_parts i.number i.small)
 word_parts w Closed (number i) = ap (list_all is_part) i.is ∙ signed_parts i.value i.fits
 
 -- the word at the front is the one up to its end
-pub one_word : (w rest v others : List ℕ) (p : Shape) → list_all is_part w ≡ true → Stops is_part rest → IsWord v p → Stops is_part others → w ++ rest ≡ v ++ others → (w ≡ v) × (rest ≡ others)
+pub one_word : (w rest v others : List ℕ) (p : Shape) → list_all is_part w ≡ true → Stops is_part rest → IsWord v p → Stops is_part others
+    → w ++ rest ≡ v ++ others → (w ≡ v) × (rest ≡ others)
 one_word w rest v others p h s a t e = one_cut is_part w v rest others h (word_parts v p a) s t e
 
 pub no_word_at : (bytes w rest : List ℕ) → bytes ≡ w ++ rest → list_all is_part w ≡ true → Stops is_part rest → ((p : Shape) → IsWord w p → ⊥) → HasNoWord bytes

@@ -1,5 +1,6 @@
 -- What is read of open brackets, step by step.
-use Rattle.std.proofs.Common.{◌≡◌, ℕ, true, false, List, [], ◌∷◌, ◌++◌, length, map, reverse, All, refl, ap, sym, subst, ◌∙◌, arith, append_assoc, append-nil, length-append, Option, Some, None}
+use Rattle.std.proofs.Common.{◌≡◌, ℕ, true, false, List, [], ◌∷◌, ◌++◌, length, map, reverse, All, refl, ap, sym, subst, ◌∙◌, arith, append_assoc, append-nil}
+use Rattle.std.proofs.Common.{length-append, Option, Some, None}
 use Rattle.std.specs.Prelude.{not}
 use Rattle.std.specs.List.{flat_map}
 use Rattle.std.proofs.lemmas.List.{map-append, reverse-append}
@@ -20,15 +21,18 @@ use Rattle.ll_prooftext.specs.declared.terms.Open.{Open}
 use Rattle.ll_prooftext.specs.Admitted.{IsPlainHead, IsSpelledTerm}
 use Rattle.ll_prooftext.specs.Reading.{is_none}
 use Rattle.ll_prooftext.specs.Words.{BeginsNot}
-use Rattle.ll_prooftext.specs.Terms.{Wanted, Applied, Closed, IsWord, IsWordOf, IsWordAt, HasNoWord, frame, fresh, takes, Accepts, Grows, Moves, IsSpelledAt, text_at, argument_at}
-use Rattle.ll_prooftext.specs.Brackets.{shape_of, frame_of, frames, item_text, part_text, args_text, bracket_text, gap, outer_text, open_text, IsGoodItem, IsGoodPart, IsGoodBracket, IsGood, Turns, IsTermFrom, IsOpened, HasItem}
+use Rattle.ll_prooftext.specs.Terms.{Wanted, Applied, Closed, IsWord, IsWordOf, IsWordAt, HasNoWord, frame, fresh, takes, Accepts, Grows, Moves, IsSpelledAt}
+use Rattle.ll_prooftext.specs.Terms.{text_at, argument_at}
+use Rattle.ll_prooftext.specs.Brackets.{shape_of, frame_of, frames, item_text, part_text, args_text, bracket_text, gap, outer_text, open_text, IsGoodItem}
+use Rattle.ll_prooftext.specs.Brackets.{IsGoodPart, IsGoodBracket, IsGood, Turns, IsTermFrom, IsOpened, HasItem}
 use Rattle.ll_prooftext.proofs.spelling.Kept.{grows_none, flat_same, arg_good, arg_same}
 use Rattle.ll_prooftext.proofs.spelling.Found.{moves_still, moves_over, moves_behind}
 use Rattle.ll_prooftext.proofs.spelling.Mentioning.{space_mentions, open_mentions}
 use Rattle.ll_prooftext.proofs.spelling.Extended.{at_kept, head_on, cons_on, app_text, app_spelled, app_closed, app_has, app_no_cons}
 use Rattle.ll_prooftext.proofs.spelling.Reach.{is_wanted}
 use Rattle.ll_prooftext.proofs.spelling.Spellings.{word_full}
-use Rattle.ll_prooftext.proofs.spelling.Ways.{first_bracket_on, first_word_on, first_none, argument_none, argument_refused, sign_none, argument_bracket_on, argument_word_on}
+use Rattle.ll_prooftext.proofs.spelling.Ways.{first_bracket_on, first_word_on, first_none, argument_none, argument_refused, sign_none, argument_bracket_on}
+use Rattle.ll_prooftext.proofs.spelling.Ways.{argument_word_on}
 
 -- ---- names and terms more
 
@@ -60,15 +64,22 @@ module _ (names : List (List ℕ)) (bank : Nodes) (new : List (List ℕ)) (over 
   bracket_same b h =
       let i = flat_same (IsGoodItem names bank) (item_text new over) (item_text names bank) item_same b.items.items h.items in
       let p = part_same b.part b.args.items h.part in
-      let a : args_text new over b.args.items ≡ args_text names bank b.args.items = flat_same (λ (x : At). IsSpelledAt names bank x.0) (λ (x : At). field (argument_at new over x.0)) (λ (x : At). field (argument_at names bank x.0)) (arg_same names bank new over g e) b.args.items h.args in
+      let a : args_text new over b.args.items ≡ args_text names bank b.args.items =
+      flat_same (λ (x : At). IsSpelledAt names bank x.0) (λ (x : At). field (argument_at new over x.0)) (λ (x : At). field (argument_at names bank x.0))
+      (arg_same names bank new over g e) b.args.items h.args in
       ap (λ z. 40 ∷ (z ++ (part_text new over b.part ++ args_text new over b.args.items))) i
-      ∙ (ap (λ z. 40 ∷ (flat_map (item_text names bank) b.items.items ++ (z ++ args_text new over b.args.items))) p ∙ ap (λ z. 40 ∷ (flat_map (item_text names bank) b.items.items ++ (part_text names bank b.part ++ z))) a)
+      ∙ (ap (λ z. 40 ∷ (flat_map (item_text names bank) b.items.items ++ (z ++ args_text new over b.args.items))) p
+      ∙ ap (λ z. 40 ∷ (flat_map (item_text names bank) b.items.items ++ (part_text names bank b.part ++ z))) a)
 
   outer_same : (b : Bracket) → IsGoodBracket names bank b → outer_text new over b ≡ outer_text names bank b
   outer_same b h = ap (λ z. z ++ gap b.part) (bracket_same b h)
 
   pub open_good : (o : Open) → IsGood names bank o → IsGood new over o
-  open_good o h = record { outer = All-weaker (IsGoodBracket names bank) (IsGoodBracket new over) bracket_good o.outer.items h.outer; top = bracket_good o.top h.top }
+  open_good o h = record {
+    outer = All-weaker (IsGoodBracket names bank) (IsGoodBracket new over) bracket_good o.outer.items h.outer;
+    top =
+        bracket_good o.top h.top;
+  }
 
   pub open_same : (o : Open) → IsGood names bank o → open_text new over o ≡ open_text names bank o
   open_same o h =
@@ -111,7 +122,9 @@ module _ (names : List (List ℕ)) (bank : Nodes) (o p : Open) (good : IsGood na
   opened_frames = rw (opened.outer, opened.items, opened.part) (ap (λ z. fresh ∷ z) (frames_push o.outer.items o.top))
 
   opened_text : open_text names bank p ≡ open_text names bank o ++ (gap o.top.part ++ 40 ∷ [])
-  opened_text = rw (opened.outer, opened.items, opened.part, opened.args) (ap (λ z. z ++ 40 ∷ []) (flat_map-append (outer_text names bank) o.outer.items (o.top ∷ [])) ∙ together (flat_map (outer_text names bank) o.outer.items) (bracket_text names bank o.top) (gap o.top.part))
+  opened_text = rw (opened.outer, opened.items, opened.part, opened.args)
+      (ap (λ z. z ++ 40 ∷ []) (flat_map-append (outer_text names bank) o.outer.items (o.top ∷ []))
+      ∙ together (flat_map (outer_text names bank) o.outer.items) (bracket_text names bank o.top) (gap o.top.part))
     where
       together : (a b c : List ℕ) → (a ++ ((b ++ c) ++ [])) ++ 40 ∷ [] ≡ (a ++ b) ++ (c ++ 40 ∷ [])
       together a b c = simp (append_assoc, append-nil)
@@ -119,7 +132,8 @@ module _ (names : List (List ℕ)) (bank : Nodes) (o p : Open) (good : IsGood na
   pub first_opened : (left : List ℕ) → o.top.part ≡ None → Turns names bank o (40 ∷ left) names bank p left
   first_opened left n = record {
     good = opened_good;
-    text = ap (λ z. z ++ left) opened_text ∙ (ap (λ q. (open_text names bank o ++ (gap q ++ 40 ∷ [])) ++ left) n ∙ append_assoc (open_text names bank o) (40 ∷ []) left);
+    text = ap (λ z. z ++ left) opened_text ∙ (ap (λ q. (open_text names bank o ++ (gap q ++ 40 ∷ [])) ++ left) n
+        ∙ append_assoc (open_text names bank o) (40 ∷ []) left);
     moves = moves_behind names bank (40 ∷ left) (40 ∷ []) left names bank left refl (open_mentions left) (moves_still names bank left);
     shorter = omega arith;
     goes = λ end a.
@@ -133,10 +147,14 @@ module _ (names : List (List ℕ)) (bank : Nodes) (o p : Open) (good : IsGood na
   pub argument_opened : (left : List ℕ) (h : Head) → o.top.part ≡ Some (HeadWord h) → Turns names bank o (32 ∷ 40 ∷ left) names bank p left
   argument_opened left h n = record {
     good = opened_good;
-    text = ap (λ z. z ++ left) opened_text ∙ (ap (λ q. (open_text names bank o ++ (gap q ++ 40 ∷ [])) ++ left) n ∙ append_assoc (open_text names bank o) (32 ∷ 40 ∷ []) left);
-    moves = moves_behind names bank (32 ∷ 40 ∷ left) (32 ∷ 40 ∷ []) left names bank left refl (space_mentions (40 ∷ left) ∙ open_mentions left) (moves_still names bank left);
+    text = ap (λ z. z ++ left) opened_text ∙ (ap (λ q. (open_text names bank o ++ (gap q ++ 40 ∷ [])) ++ left) n
+        ∙ append_assoc (open_text names bank o) (32 ∷ 40 ∷ []) left);
+    moves = moves_behind names bank (32 ∷ 40 ∷ left) (32 ∷ 40 ∷ []) left names bank left refl (space_mentions (40 ∷ left) ∙ open_mentions left)
+        (moves_still names bank left);
     shorter = omega arith;
-    goes = λ end a. subst (λ fs. Accepts end fs left) (sym opened_frames) (argument_bracket_on end (not (is_none o.top.items.items)) (shape_of o.top.part o.top.args.items) (reverse (map frame_of o.outer.items)) left (rw n (shape_known (HeadWord h) o.top.args.items)) a);
+    goes = λ end a. subst (λ fs. Accepts end fs left) (sym opened_frames)
+        (argument_bracket_on end (not (is_none o.top.items.items)) (shape_of o.top.part o.top.args.items) (reverse (map frame_of o.outer.items)) left
+        (rw n (shape_known (HeadWord h) o.top.args.items)) a);
   }
 
 -- ---- words
@@ -156,7 +174,9 @@ pub word_text : (names : List (List ℕ)) (bank : Nodes) (w : List ℕ) (x : Wor
 word_text names bank w (HeadWord h) i = i.is
 word_text names bank w (LeafWord at) i = i.is
 
-pub first_put : (names : List (List ℕ)) (bank : Nodes) (o p : Open) (x : Word) (bytes : List ℕ) (new : List (List ℕ)) (over : Nodes) (left : List ℕ) → IsGood names bank o → o.top.part ≡ None → Moves names bank bytes new over left → IsWordAt new over bytes x left → IsPut o p x → Turns names bank o bytes new over p left
+pub first_put : (names : List (List ℕ)) (bank : Nodes) (o p : Open) (x : Word) (bytes : List ℕ) (new : List (List ℕ)) (over : Nodes) (left : List ℕ)
+    → IsGood names bank o → o.top.part ≡ None → Moves names bank bytes new over left → IsWordAt new over bytes x left → IsPut o p x
+    → Turns names bank o bytes new over p left
 first_put names bank o p x bytes new over left good n m w put = record {
   good = record {
     outer = rw put.outer g.outer;
@@ -171,10 +191,12 @@ first_put names bank o p x bytes new over left good n m w put = record {
       ∙ (together (flat_map (outer_text new over) o.outer.items) (flat_map (item_text new over) o.top.items.items) w.spelling left
       ∙ (ap (λ z. z ++ (w.spelling ++ left)) same_o ∙ ap (λ z. open_text names bank o ++ z) (sym w.is)));
   moves = m;
-  shorter = let f = word_full w.spelling (shape_of (Some x) []) (word_shape new over w.spelling x w.word) in let l = ap length w.is in let k = length-append w.spelling left in omega arith;
+  shorter = let f = word_full w.spelling (shape_of (Some x) []) (word_shape new over w.spelling x w.word) in let l = ap length w.is in
+      let k = length-append w.spelling left in omega arith;
   goes = λ end a.
       let b : Accepts end (frame (not (is_none o.top.items.items)) Wanted ∷ reverse (map frame_of o.outer.items)) bytes = rw n at a in
-      let c = first_word_on end (not (is_none o.top.items.items)) (reverse (map frame_of o.outer.items)) bytes w.spelling left (shape_of (Some x) []) (word_shape new over w.spelling x w.word) w.end w.is b in
+      let c = first_word_on end (not (is_none o.top.items.items)) (reverse (map frame_of o.outer.items)) bytes w.spelling left (shape_of (Some x) [])
+      (word_shape new over w.spelling x w.word) w.end w.is b in
       subst (λ fs. Accepts end fs left) (sym frames_p) c;
 }
   where
@@ -196,7 +218,8 @@ first_put names bank o p x bytes new over left good n m w put = record {
     same_o : flat_map (outer_text new over) o.outer.items ++ (40 ∷ (flat_map (item_text new over) o.top.items.items ++ ([] ++ []))) ≡ open_text names bank o
     same_o =
         let q = none in
-        let e : open_text new over o ≡ flat_map (outer_text new over) o.outer.items ++ (40 ∷ (flat_map (item_text new over) o.top.items.items ++ ([] ++ []))) = rw (n, q) refl in
+        let e : open_text new over o ≡ flat_map (outer_text new over) o.outer.items ++ (40 ∷ (flat_map (item_text new over) o.top.items.items ++ ([] ++ []))) =
+        rw (n, q) refl in
         sym e ∙ open_same names bank new over m.grows m.keeps o good
 
 -- ---- terms of parts
@@ -212,13 +235,21 @@ pub record IsPartTerm (names : List (List ℕ)) (bank over : Nodes) (x : Word) (
   pub bare : is_cons names (term_tree over at) ≡ false
   pub has : has_arguments (term_tree over at) ≡ not (is_none args)
 
-pub part_term : (names : List (List ℕ)) (bank over : Nodes) (x : Word) (args : List At) (at : ℕ) → IsGoodPart names bank (Some x) args → All (λ a. IsSpelledAt names bank a.0) args → IsTermFrom bank over x args at → Extends bank over → IsPartTerm names bank over x args at
+pub part_term : (names : List (List ℕ)) (bank over : Nodes) (x : Word) (args : List At) (at : ℕ) → IsGoodPart names bank (Some x) args
+    → All (λ a. IsSpelledAt names bank a.0) args → IsTermFrom bank over x args at → Extends bank over → IsPartTerm names bank over x args at
 part_term names bank over (HeadWord h) args at p a t e =
     let ts = term_trees bank args in
-    let spelled : All (IsSpelledTerm names) ts = All-map (IsSpelledTerm names) (λ (b : At). term_tree bank b.0) args (All-weaker (λ (b : At). IsSpelledAt names bank b.0) (λ (b : At). IsSpelledTerm names (term_tree bank b.0)) (λ b s. s.spelled) args a) in
-    let shut : All (λ u. is_closed u ≡ true) ts = All-map (λ u. is_closed u ≡ true) (λ (b : At). term_tree bank b.0) args (All-weaker (λ (b : At). IsSpelledAt names bank b.0) (λ (b : At). is_closed (term_tree bank b.0) ≡ true) (λ b s. s.closed) args a) in
+    let spelled : All (IsSpelledTerm names) ts = All-map (IsSpelledTerm names) (λ (b : At). term_tree bank b.0) args
+    (All-weaker (λ (b : At). IsSpelledAt names bank b.0) (λ (b : At). IsSpelledTerm names (term_tree bank b.0)) (λ b s. s.spelled) args a) in
+    let shut : All (λ u. is_closed u ≡ true) ts = All-map (λ u. is_closed u ≡ true) (λ (b : At). term_tree bank b.0) args
+    (All-weaker (λ (b : At). IsSpelledAt names bank b.0) (λ (b : At). is_closed (term_tree bank b.0) ≡ true) (λ b s. s.closed) args a) in
     record {
-      good = record { inside = t.inside; spelled = subst (IsSpelledTerm names) (sym t.tree) (app_spelled names h ts p spelled); closed = ap is_closed t.tree ∙ app_closed names h ts p shut };
+      good = record {
+        inside = t.inside;
+        spelled = subst (IsSpelledTerm names) (sym t.tree) (app_spelled names h ts p spelled);
+        closed =
+            ap is_closed t.tree ∙ app_closed names h ts p shut;
+      };
       text = ap (term_text names) t.tree ∙ (app_text names h ts p ∙ ap (λ z. head_text names h ++ z) (sym (args_trees names bank args)));
       bare = ap (is_cons names) t.tree ∙ app_no_cons names h ts p;
       has = ap has_arguments t.tree ∙ has args;
@@ -256,39 +287,48 @@ head_applied : (h : Head) (args : List At) (at : At) → shape_of (Some (HeadWor
 head_applied h [] at = refl
 head_applied h (a ∷ args) at = refl
 
-module _ (names : List (List ℕ)) (bank : Nodes) (o p : Open) (at : At) (h : Head) (good : IsGood names bank o) (head : o.top.part ≡ Some (HeadWord h)) (put : IsArgued o p at) (arg : IsSpelledAt names bank at.0) where
+module _ (names : List (List ℕ)) (bank : Nodes) (o p : Open) (at : At) (h : Head) (good : IsGood names bank o) (head : o.top.part ≡ Some (HeadWord h))
+    (put : IsArgued o p at) (arg : IsSpelledAt names bank at.0) where
   pub argued_good : IsGood names bank p
   argued_good = record {
     outer = subst (All (IsGoodBracket names bank)) (sym put.outer) good.outer;
     top = record {
       items = subst (All (IsGoodItem names bank)) (sym put.items) good.top.items;
       part = let q : IsPlainHead names h = rw head at good.top.part in subst (λ z. IsGoodPart names bank z p.top.args.items) (sym (put.part ∙ head)) q;
-      args = subst (All (λ (a : At). IsSpelledAt names bank a.0)) (sym put.args) (All-push (λ (a : At). IsSpelledAt names bank a.0) o.top.args.items at good.top.args arg);
+      args = subst (All (λ (a : At). IsSpelledAt names bank a.0)) (sym put.args)
+          (All-push (λ (a : At). IsSpelledAt names bank a.0) o.top.args.items at good.top.args arg);
     };
   }
 
   pub argued_text : open_text names bank p ≡ open_text names bank o ++ (32 ∷ argument_at names bank at.0)
   argued_text =
-      rw (put.outer, put.items, put.part, put.args) (ap (λ z. flat_map (outer_text names bank) o.outer.items ++ (40 ∷ (flat_map (item_text names bank) o.top.items.items ++ (part_text names bank o.top.part ++ z)))) (flat_map-append (λ (a : At). field (argument_at names bank a.0)) o.top.args.items (at ∷ []))
-      ∙ together (flat_map (outer_text names bank) o.outer.items) (flat_map (item_text names bank) o.top.items.items) (part_text names bank o.top.part) (args_text names bank o.top.args.items) (argument_at names bank at.0))
+      rw (put.outer, put.items, put.part, put.args) (ap (λ z. flat_map (outer_text names bank) o.outer.items
+      ++ (40 ∷ (flat_map (item_text names bank) o.top.items.items ++ (part_text names bank o.top.part ++ z))))
+      (flat_map-append (λ (a : At). field (argument_at names bank a.0)) o.top.args.items (at ∷ []))
+      ∙ together (flat_map (outer_text names bank) o.outer.items) (flat_map (item_text names bank) o.top.items.items) (part_text names bank o.top.part)
+      (args_text names bank o.top.args.items) (argument_at names bank at.0))
     where
       together : (a b c d e : List ℕ) → a ++ (40 ∷ (b ++ (c ++ (d ++ ((32 ∷ e) ++ []))))) ≡ (a ++ (40 ∷ (b ++ (c ++ d)))) ++ (32 ∷ e)
       together a b c d e = simp (append_assoc, append-nil)
 
   pub argued_frames : frames p ≡ frame (not (is_none o.top.items.items)) Applied ∷ reverse (map frame_of o.outer.items)
-  argued_frames = rw (put.outer, put.items, put.part, put.args, head) (ap (λ z. frame (not (is_none o.top.items.items)) z ∷ reverse (map frame_of o.outer.items)) (head_applied h o.top.args.items at))
+  argued_frames = rw (put.outer, put.items, put.part, put.args, head)
+      (ap (λ z. frame (not (is_none o.top.items.items)) z ∷ reverse (map frame_of o.outer.items)) (head_applied h o.top.args.items at))
 
 -- the argument of a word
 pub leaf_argument : (u : Term) (text : List ℕ) → has_arguments u ≡ false → argument_text u text ≡ text
 leaf_argument u text h = rw h refl
 
-module _ (names : List (List ℕ)) (bank : Nodes) (o p : Open) (x : Word) (h : Head) (bytes : List ℕ) (new : List (List ℕ)) (mid over : Nodes) (left : List ℕ) (at : At) where
-  pub argument_put : IsGood names bank o → o.top.part ≡ Some (HeadWord h) → Moves names bank bytes new mid left → IsWordAt new mid bytes x left → IsTermFrom mid over x [] at.0 → Extends mid over → IsArgued o p at → Turns names bank o (32 ∷ bytes) new over p left
+module _ (names : List (List ℕ)) (bank : Nodes) (o p : Open) (x : Word) (h : Head) (bytes : List ℕ) (new : List (List ℕ)) (mid over : Nodes) (left : List ℕ)
+    (at : At) where
+  pub argument_put : IsGood names bank o → o.top.part ≡ Some (HeadWord h) → Moves names bank bytes new mid left → IsWordAt new mid bytes x left
+      → IsTermFrom mid over x [] at.0 → Extends mid over → IsArgued o p at → Turns names bank o (32 ∷ bytes) new over p left
   argument_put good n m w t e put =
       let k = part_term new mid over x [] at.0 (word_good new mid w.spelling x w.word) (All-nil (λ (a : At). IsSpelledAt new mid a.0)) t e in
       let keeps = Extends-trans m.keeps e in
       let g = open_good names bank new over m.grows keeps o good in
-      let word : argument_at new over at.0 ≡ w.spelling = leaf_argument (term_tree over at.0) (text_at new over at.0) k.has ∙ (k.text ∙ (append-nil (part_text new mid (Some x)) ∙ word_text new mid w.spelling x w.word)) in
+      let word : argument_at new over at.0 ≡ w.spelling = leaf_argument (term_tree over at.0) (text_at new over at.0) k.has
+      ∙ (k.text ∙ (append-nil (part_text new mid (Some x)) ∙ word_text new mid w.spelling x w.word)) in
       record {
         good = argued_good new over o p at h g n put k.good;
         text =
@@ -296,19 +336,23 @@ module _ (names : List (List ℕ)) (bank : Nodes) (o p : Open) (x : Word) (h : H
             ∙ (append_assoc (open_text new over o) (32 ∷ argument_at new over at.0) left
             ∙ (ap (λ z. z ++ (32 ∷ (argument_at new over at.0 ++ left))) (open_same names bank new over m.grows keeps o good)
             ∙ ap (λ z. open_text names bank o ++ (32 ∷ z)) (ap (λ z. z ++ left) word ∙ sym w.is)));
-        moves = moves_behind names bank (32 ∷ bytes) (32 ∷ []) bytes new over left refl (space_mentions bytes) (moves_over names bank bytes new mid over left m e);
+        moves = moves_behind names bank (32 ∷ bytes) (32 ∷ []) bytes new over left refl (space_mentions bytes)
+            (moves_over names bank bytes new mid over left m e);
         shorter = let l = ap length w.is in let q = length-append w.spelling left in omega arith;
         goes = λ end a.
             let c = not (is_none o.top.items.items) in
             let fs = reverse (map frame_of o.outer.items) in
-            let known : is_wanted (shape_of o.top.part o.top.args.items) ≡ false = ap (λ q. is_wanted (shape_of q o.top.args.items)) n ∙ shape_known (HeadWord h) o.top.args.items in
-            let b = argument_word_on end c (shape_of o.top.part o.top.args.items) fs bytes w.spelling left (shape_of (Some x) []) known (word_shape new mid w.spelling x w.word) w.end w.is a in
+            let known : is_wanted (shape_of o.top.part o.top.args.items) ≡ false =
+            ap (λ q. is_wanted (shape_of q o.top.args.items)) n ∙ shape_known (HeadWord h) o.top.args.items in
+            let b = argument_word_on end c (shape_of o.top.part o.top.args.items) fs bytes w.spelling left (shape_of (Some x) []) known
+            (word_shape new mid w.spelling x w.word) w.end w.is a in
             subst (λ hs. Accepts end hs left) (sym (argued_frames new over o p at h g n put k.good)) b;
       }
 
 -- ---- a sign
 
-module _ (names : List (List ℕ)) (bank : Nodes) (o p : Open) (i : Item) (good : IsGood names bank o) (has : HasItem o.top p.top i) (outer : p.outer.items ≡ o.outer.items) (item : IsGoodItem names bank i) where
+module _ (names : List (List ℕ)) (bank : Nodes) (o p : Open) (i : Item) (good : IsGood names bank o) (has : HasItem o.top p.top i)
+    (outer : p.outer.items ≡ o.outer.items) (item : IsGoodItem names bank i) where
   pub item_put_good : IsGood names bank p
   item_put_good = record {
     outer = subst (All (IsGoodBracket names bank)) (sym outer) good.outer;
@@ -320,9 +364,12 @@ module _ (names : List (List ℕ)) (bank : Nodes) (o p : Open) (i : Item) (good 
   }
 
   -- behind what stands in front of the part
-  pub item_put_text : open_text names bank p ≡ (flat_map (outer_text names bank) o.outer.items ++ (40 ∷ flat_map (item_text names bank) o.top.items.items)) ++ item_text names bank i
+  pub item_put_text : open_text names bank p ≡ (flat_map (outer_text names bank) o.outer.items ++ (40 ∷ flat_map (item_text names bank) o.top.items.items))
+      ++ item_text names bank i
   item_put_text =
-      rw (outer, has.items, has.part, has.args) (ap (λ z. flat_map (outer_text names bank) o.outer.items ++ (40 ∷ (z ++ []))) (flat_map-append (item_text names bank) o.top.items.items (i ∷ [])) ∙ together (flat_map (outer_text names bank) o.outer.items) (flat_map (item_text names bank) o.top.items.items) (item_text names bank i))
+      rw (outer, has.items, has.part, has.args) (ap (λ z. flat_map (outer_text names bank) o.outer.items ++ (40 ∷ (z ++ [])))
+      (flat_map-append (item_text names bank) o.top.items.items (i ∷ []))
+      ∙ together (flat_map (outer_text names bank) o.outer.items) (flat_map (item_text names bank) o.top.items.items) (item_text names bank i))
     where
       together : (a b c : List ℕ) → a ++ (40 ∷ ((b ++ (c ++ [])) ++ [])) ≡ (a ++ (40 ∷ b)) ++ c
       together a b c = simp (append_assoc, append-nil)
@@ -346,8 +393,10 @@ first_stuck o bytes n b w end a =
 pub known_part : (o : Open) (x : Word) → o.top.part ≡ Some x → is_wanted (shape_of o.top.part o.top.args.items) ≡ false
 known_part o x n = ap (λ q. is_wanted (shape_of q o.top.args.items)) n ∙ shape_known x o.top.args.items
 
-pub argument_stuck : (o : Open) (x : Word) (bytes : List ℕ) → o.top.part ≡ Some x → BeginsNot 40 bytes → HasNoWord bytes → (end : List ℕ) → Accepts end (frames o) (32 ∷ bytes) → ⊥
-argument_stuck o x bytes n b w end a = argument_none end (not (is_none o.top.items.items)) (shape_of o.top.part o.top.args.items) (reverse (map frame_of o.outer.items)) bytes (known_part o x n) b w a
+pub argument_stuck : (o : Open) (x : Word) (bytes : List ℕ) → o.top.part ≡ Some x → BeginsNot 40 bytes → HasNoWord bytes → (end : List ℕ)
+    → Accepts end (frames o) (32 ∷ bytes) → ⊥
+argument_stuck o x bytes n b w end a = argument_none end (not (is_none o.top.items.items)) (shape_of o.top.part o.top.args.items)
+    (reverse (map frame_of o.outer.items)) bytes (known_part o x n) b w a
 
 pub leaf_stuck : (o : Open) (at : At) (bytes : List ℕ) → o.top.part ≡ Some (LeafWord at) → (end : List ℕ) → Accepts end (frames o) (32 ∷ bytes) → ⊥
 leaf_stuck o at bytes n end a =
@@ -356,5 +405,7 @@ leaf_stuck o at bytes n end a =
     let e : frames o ≡ frame c Closed ∷ fs = ap (λ q. frame c (shape_of q o.top.args.items) ∷ fs) n in
     argument_refused end c fs bytes (subst (λ hs. Accepts end hs (32 ∷ bytes)) e a)
 
-pub sign_stuck : (o : Open) (x : Word) (bytes : List ℕ) → o.top.part ≡ Some x → BeginsNot 32 bytes → BeginsNot 41 bytes → ((rest : List ℕ) → bytes ≡ 58 ∷ 58 ∷ rest → ⊥) → (end : List ℕ) → Accepts end (frames o) bytes → ⊥
-sign_stuck o x bytes n s e w end a = sign_none end (not (is_none o.top.items.items)) (shape_of o.top.part o.top.args.items) (reverse (map frame_of o.outer.items)) bytes (known_part o x n) s e w a
+pub sign_stuck : (o : Open) (x : Word) (bytes : List ℕ) → o.top.part ≡ Some x → BeginsNot 32 bytes → BeginsNot 41 bytes
+    → ((rest : List ℕ) → bytes ≡ 58 ∷ 58 ∷ rest → ⊥) → (end : List ℕ) → Accepts end (frames o) bytes → ⊥
+sign_stuck o x bytes n s e w end a = sign_none end (not (is_none o.top.items.items)) (shape_of o.top.part o.top.args.items)
+    (reverse (map frame_of o.outer.items)) bytes (known_part o x n) s e w a

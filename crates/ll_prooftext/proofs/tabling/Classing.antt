@@ -1,5 +1,6 @@
 -- Equal terms have one number.
-use Rattle.std.proofs.Common.{◌≡◌, ℕ, zero, suc, ◌+◌, ◌<◌, ◌≤◌, Bool, true, false, if◌then◌else◌, List, [], ◌∷◌, ◌++◌, length, get_or, take, refl, ap, sym, subst, ◌∙◌, inl, inr, arith, true≢false, append_assoc, Some}
+use Rattle.std.proofs.Common.{◌≡◌, ℕ, zero, suc, ◌+◌, ◌<◌, ◌≤◌, Bool, true, false, if◌then◌else◌, List, [], ◌∷◌, ◌++◌, length, get_or, take, refl, ap, sym}
+use Rattle.std.proofs.Common.{subst, ◌∙◌, inl, inr, arith, true≢false, append_assoc, Some}
 use Rattle.std.specs.Prelude.{slice_get}
 use Rattle.std.specs.List.{list_any, IsDistinct, AllByRecursion}
 use Rattle.std.proofs.Math.ListN.{get_or-append}
@@ -52,7 +53,8 @@ distinct_apart (x ∷ xs) d (suc i) zero s e f = absurd (stands_not x xs d.0 i (
 distinct_apart (x ∷ xs) d (suc i) (suc j) s e f = ap suc (distinct_apart xs d.1 i j s e f)
 
 -- a sign was looked up, or put in
-pub sign_gain : (old new : List Sign) (s : Sign) → new ≡ (if list_any ((eq-value).it s) old then old else old ++ s ∷ []) → IsDistinct (eq-value).it new → Gain old new
+pub sign_gain : (old new : List Sign) (s : Sign) → new ≡ (if list_any ((eq-value).it s) old then old else old ++ s ∷ []) → IsDistinct (eq-value).it new
+    → Gain old new
 sign_gain old new s is d = by (list_any ((eq-value).it s) old) is
   where
     by : (b : Bool) → new ≡ (if b then old else old ++ s ∷ []) → Gain old new
@@ -128,13 +130,15 @@ pub no_numbers : (bank : Nodes) → AreNumbers bank [] []
 no_numbers bank = record { apart = λ i j s e f. absurd (let z : ⊥ = cc in z); inside = omega arith; each = λ at l. absurd (omega arith) }
 
 -- one number more
-pub numbers_more : (bank : Nodes) (old new : List Sign) (numbers : List ℕ) (n : ℕ) → AreNumbers bank old numbers → Gain old new → length numbers < length bank.terms
+pub numbers_more : (bank : Nodes) (old new : List Sign) (numbers : List ℕ) (n : ℕ) → AreNumbers bank old numbers → Gain old new
+    → length numbers < length bank.terms
     → HasNumber new n (term_tree bank (length numbers)) → AreNumbers bank new (numbers ++ n ∷ [])
 numbers_more bank old new numbers n a g l h = record {
   apart = g.apart;
   inside = let e = length_push numbers n in omega arith;
   each = λ at m. elim (cases_lt at (length numbers)) [
-    | inl k ↦ subst (λ i. HasNumber new i (term_tree bank at)) (sym (get_or-append numbers (n ∷ []) 0 at k)) (number_stays old new g (get_or numbers at 0) (term_tree bank at) (a.each at k))
+    | inl k ↦ subst (λ i. HasNumber new i (term_tree bank at)) (sym (get_or-append numbers (n ∷ []) 0 at k))
+        (number_stays old new g (get_or numbers at 0) (term_tree bank at) (a.each at k))
     | inr k ↦
         let e : length numbers ≡ at = (let q = length_push numbers n in omega arith) in
         subst (λ i. HasNumber new i (term_tree bank at)) (sym (get_or_push numbers n 0 at e)) (subst (λ i. HasNumber new n (term_tree bank i)) e h)
@@ -142,15 +146,19 @@ numbers_more bank old new numbers n a g l h = record {
 }
 
 -- equal terms have one number, and others have not
-module _ (bank : Nodes) (signs : List Sign) (numbers : List ℕ) (a : AreNumbers bank signs numbers) (i j : ℕ) (li : i < length numbers) (lj : j < length numbers) where
-  pub equal_number : term_tree bank i ≡ term_tree bank j → get_or numbers i 0 ≡ get_or numbers j 0
-  equal_number e = one_number signs a.apart (term_tree bank i) (get_or numbers i 0) (get_or numbers j 0) (a.each i li) (subst (HasNumber signs (get_or numbers j 0)) (sym e) (a.each j lj))
+module _ (bank : Nodes) (signs : List Sign) (numbers : List ℕ) (a : AreNumbers bank signs numbers) (i j : ℕ) (li : i < length numbers) (lj : j < length numbers)
+  where
+    pub equal_number : term_tree bank i ≡ term_tree bank j → get_or numbers i 0 ≡ get_or numbers j 0
+    equal_number e = one_number signs a.apart (term_tree bank i) (get_or numbers i 0) (get_or numbers j 0) (a.each i li)
+        (subst (HasNumber signs (get_or numbers j 0)) (sym e) (a.each j lj))
 
-  pub equal_term : get_or numbers i 0 ≡ get_or numbers j 0 → term_tree bank i ≡ term_tree bank j
-  equal_term e = one_term signs (term_tree bank i) (term_tree bank j) (get_or numbers i 0) (a.each i li) (subst (λ n. HasNumber signs n (term_tree bank j)) (sym e) (a.each j lj))
+    pub equal_term : get_or numbers i 0 ≡ get_or numbers j 0 → term_tree bank i ≡ term_tree bank j
+    equal_term e = one_term signs (term_tree bank i) (term_tree bank j) (get_or numbers i 0) (a.each i li)
+        (subst (λ n. HasNumber signs n (term_tree bank j)) (sym e) (a.each j lj))
 
 -- a head with one argument more
-pub number_more : (bank : Nodes) (at : ℕ) (args : List At) (i : ℕ) (old now next : List Sign) (n m a : ℕ) → (c : IsNumbering bank at args i old now n) → Gain now next → (d : At) → i < length args
+pub number_more : (bank : Nodes) (at : ℕ) (args : List At) (i : ℕ) (old now next : List Sign) (n m a : ℕ) → (c : IsNumbering bank at args i old now n)
+    → Gain now next → (d : At) → i < length args
     → HasNumber now a (term_tree bank (get_or args i d).0) → slice_get next m ≡ Some (sign.Apply n a) → IsNumbering bank at args (i + 1) old next m
 number_more bank at args i old now next n m a c g d l arg e =
     let t = term_tree bank (get_or args i d).0 in
@@ -166,10 +174,12 @@ number_more bank at args i old now next n m a c g d l arg e =
     }
 
 -- all arguments of the term at the place
-pub number_whole : (bank : Nodes) (at : ℕ) (args : List At) (i : ℕ) (old now : List Sign) (n : ℕ) (h : Head) → IsNumbering bank at args i old now n → length args ≤ i
+pub number_whole : (bank : Nodes) (at : ℕ) (args : List At) (i : ℕ) (old now : List Sign) (n : ℕ) (h : Head) → IsNumbering bank at args i old now n
+    → length args ≤ i
     → slice_get bank.terms at ≡ Some (AppNode h (places args)) → term_tree bank at ≡ app h (term_trees bank args) → HasNumber now n (term_tree bank at)
 number_whole bank at args i old now n h c l node tree =
     let same : c.head ≡ h = (let e : Some (AppNode c.head (places args)) ≡ Some (AppNode h (places args)) = sym c.node ∙ node in cc) in
     subst (HasNumber now n)
-    (ap (app c.head) (take_all i (term_trees bank args) (let m = length-map args (λ (b : At). term_tree bank b.0) in omega arith)) ∙ (ap (λ k. app k (term_trees bank args)) same ∙ sym tree))
+    (ap (app c.head) (take_all i (term_trees bank args) (let m = length-map args (λ (b : At). term_tree bank b.0) in omega arith))
+    ∙ (ap (λ k. app k (term_trees bank args)) same ∙ sym tree))
     c.number

@@ -1,5 +1,6 @@
 -- A table of shared terms, step by step.
-use Rattle.std.proofs.Common.{◌≡◌, ℕ, ◌+◌, ◌*◌, ◌<◌, ◌≤◌, Bool, true, false, ◌||◌, if◌then◌else◌, List, [], ◌∷◌, ◌++◌, length, get_or, set, replicate, All, refl, ap, sym, subst, ◌∙◌, inl, inr, arith, append_assoc, Option, Some, None}
+use Rattle.std.proofs.Common.{◌≡◌, ℕ, ◌+◌, ◌*◌, ◌<◌, ◌≤◌, Bool, true, false, ◌||◌, if◌then◌else◌, List, [], ◌∷◌, ◌++◌, length, get_or, set, replicate, All}
+use Rattle.std.proofs.Common.{refl, ap, sym, subst, ◌∙◌, inl, inr, arith, append_assoc, Option, Some, None}
 use Rattle.std.specs.Prelude.{is_some}
 use Rattle.std.specs.List.{flat_map}
 use Rattle.std.proofs.lemmas.Bool.{cases_eq, true≢false}
@@ -17,9 +18,11 @@ use Rattle.ll_prooftext.specs.declared.table.Task.TheVariants as task
 use Rattle.ll_prooftext.specs.declared.classes.Classes.{Classes}
 use Rattle.ll_prooftext.specs.Classes.{AreClasses}
 use Rattle.ll_prooftext.specs.Table.{completed, completed_arguments, is_among, rows_in, row_of}
-use Rattle.ll_prooftext.specs.Tables.{HasNumberAt, row_at, IsRowOf, IsTableOf, task_at, task_terms, todo, task_weight, tasks_weight, entries, Entered, bare, known, inside, Left, left_known, added, Taken, IsBuilding}
+use Rattle.ll_prooftext.specs.Tables.{HasNumberAt, row_at, IsRowOf, IsTableOf, task_at, task_terms, todo, task_weight, tasks_weight, entries, Entered, bare}
+use Rattle.ll_prooftext.specs.Tables.{known, inside, Left, left_known, added, Taken, IsBuilding}
 use Rattle.ll_prooftext.proofs.tabling.Classing.{equal_number, equal_term, number_below}
-use Rattle.ll_prooftext.proofs.tabling.TableTerms.{among-append, rows_in-among, rows_stay, rows_in-append, AreAmong, completed_is, completed_bare, arguments_app, known_done, row_kept, row_new}
+use Rattle.ll_prooftext.proofs.tabling.TableTerms.{among-append, rows_in-among, rows_stay, rows_in-append, AreAmong, completed_is, completed_bare}
+use Rattle.ll_prooftext.proofs.tabling.TableTerms.{arguments_app, known_done, row_kept, row_new}
 
 -- ---- tasks
 
@@ -54,20 +57,24 @@ term_size-positive t = by t
 -- ---- places with numbers
 
 -- the argument of a term with a number has one
-pub argument_numbered : (bank : Nodes) (t : Table) (rows : List Term) → IsTableOf bank t rows → (at : ℕ) → at < length t.classes.numbers.items → HasNumberAt t at
+pub argument_numbered : (bank : Nodes) (t : Table) (rows : List Term) → IsTableOf bank t rows → (at : ℕ) → at < length t.classes.numbers.items
+    → HasNumberAt t at
 argument_numbered bank t rows h at l = record {
   inside = l;
-  below = let b = number_below h.classes.signs (get_or t.classes.numbers.items at 0) (term_tree bank at) (h.classes.numbers.each at l) in let c = h.classes.count in let e = h.enough in omega arith;
+  below = let b = number_below h.classes.signs (get_or t.classes.numbers.items at 0) (term_tree bank at) (h.classes.numbers.each at l) in
+      let c = h.classes.count in let e = h.enough in omega arith;
 }
 
 entries_numbered : (t : Table) (args : List At) → All (λ (a : At). HasNumberAt t a.0) args → All (λ x. HasNumberAt t (task_at x)) (entries args)
 entries_numbered t [] h = All-nil (λ x. HasNumberAt t (task_at x))
 entries_numbered t (a ∷ args) h =
-    All-push (λ x. HasNumberAt t (task_at x)) (entries args) (task.Enter a) (entries_numbered t args (All-tail (λ (b : At). HasNumberAt t b.0) a args h)) (All-head (λ (b : At). HasNumberAt t b.0) a args h)
+    All-push (λ x. HasNumberAt t (task_at x)) (entries args) (task.Enter a) (entries_numbered t args (All-tail (λ (b : At). HasNumberAt t b.0) a args h))
+    (All-head (λ (b : At). HasNumberAt t b.0) a args h)
 
 -- ---- the beginning
 
-pub table_starts : (bank : Nodes) (t : Table) → AreClasses bank t.classes → t.numbered.items ≡ replicate t.classes.count None → t.rows.items ≡ [] → IsTableOf bank t []
+pub table_starts : (bank : Nodes) (t : Table) → AreClasses bank t.classes → t.numbered.items ≡ replicate t.classes.count None → t.rows.items ≡ []
+    → IsTableOf bank t []
 table_starts bank t c n r = record {
   classes = c;
   enough = ap length n ∙ length-replicate t.classes.count None;
@@ -75,7 +82,8 @@ table_starts bank t c n r = record {
   terms = ap (term_trees bank) r;
   numbered = λ at l.
       let b = number_below c.signs (get_or t.classes.numbers.items at 0) (term_tree bank at) (c.numbers.each at l) in
-      subst (IsRowOf [] (term_tree bank at)) (sym (ap (λ ns. get_or ns (get_or t.classes.numbers.items at 0) None) n ∙ get_or-replicate t.classes.count (get_or t.classes.numbers.items at 0) None None (let e = c.count in omega arith)))
+      subst (IsRowOf [] (term_tree bank at)) (sym (ap (λ ns. get_or ns (get_or t.classes.numbers.items at 0) None) n
+      ∙ get_or-replicate t.classes.count (get_or t.classes.numbers.items at 0) None None (let e = c.count in omega arith)))
       refl;
 }
 
@@ -85,13 +93,16 @@ building_starts bank fields t h r = record {
   done = [];
   is = todo-entries bank fields;
   table = h;
-  inside = entries_numbered t fields (All-weaker (λ (a : At). a.0 < length t.classes.numbers.items) (λ (a : At). HasNumberAt t a.0) (λ a l. argument_numbered bank t [] h a.0 l) fields r);
+  inside = entries_numbered t fields (All-weaker (λ (a : At). a.0 < length t.classes.numbers.items) (λ (a : At). HasNumberAt t a.0)
+      (λ a l. argument_numbered bank t [] h a.0 l) fields r);
 }
 
 -- ---- a row more
 
-module _ (bank : Nodes) (old now : Table) (rows : List Term) (h : IsTableOf bank old rows) (at : At) (l : at.0 < length old.classes.numbers.items) (none : row_at old at.0 ≡ None) (same : now.classes ≡ old.classes)
-    (more : now.rows.items ≡ old.rows.items ++ at ∷ []) (wrote : now.numbered.items ≡ set old.numbered.items (get_or old.classes.numbers.items at.0 0) (Some (length old.rows.items))) where
+module _ (bank : Nodes) (old now : Table) (rows : List Term) (h : IsTableOf bank old rows) (at : At) (l : at.0 < length old.classes.numbers.items)
+    (none : row_at old at.0 ≡ None) (same : now.classes ≡ old.classes)
+    (more : now.rows.items ≡ old.rows.items ++ at ∷ []) (wrote : now.numbered.items
+    ≡ set old.numbered.items (get_or old.classes.numbers.items at.0 0) (Some (length old.rows.items))) where
   abbrev pub t : Term
   t = term_tree bank at.0
 
@@ -101,18 +112,23 @@ module _ (bank : Nodes) (old now : Table) (rows : List Term) (h : IsTableOf bank
   new_row : is_among rows t ≡ false
   new_row = subst (IsRowOf rows t) none (h.numbered at.0 l)
 
-  numbered_now : (i : ℕ) → i < length old.classes.numbers.items → IsRowOf (rows ++ t ∷ []) (term_tree bank i) (get_or (set old.numbered.items m (Some (length old.rows.items))) (get_or old.classes.numbers.items i 0) None)
+  numbered_now : (i : ℕ) → i < length old.classes.numbers.items
+      → IsRowOf (rows ++ t ∷ []) (term_tree bank i) (get_or (set old.numbered.items m (Some (length old.rows.items))) (get_or old.classes.numbers.items i 0)
+      None)
   numbered_now i li = elim (cases_eq (get_or old.classes.numbers.items i 0) m) [
     | inl e ↦
         let tree : t ≡ term_tree bank i = sym (equal_term bank h.classes.signs old.classes.numbers.items h.classes.numbers i at.0 li l e) in
         subst (IsRowOf (rows ++ t ∷ []) (term_tree bank i))
         (sym (ap (λ k. get_or (set old.numbered.items m (Some (length old.rows.items))) k None) e
         ∙ get_or-set_same old.numbered.items m (Some (length old.rows.items)) None (argument_numbered bank old rows h at.0 l).below)) (
-          subst (λ u. is_among (rows ++ t ∷ []) u ≡ true) tree (among-append rows (t ∷ []) t ∙ (ap (λ b. b || (term_eq t t || false)) new_row ∙ ap (λ b. b || false) (term_eq-refl t))),
-          subst (λ u. row_of (rows ++ t ∷ []) u ≡ length old.rows.items) tree (row_new rows t new_row ∙ (ap length (sym h.terms) ∙ length-map old.rows.items (λ (a : At). term_tree bank a.0))),
+          subst (λ u. is_among (rows ++ t ∷ []) u ≡ true) tree
+              (among-append rows (t ∷ []) t ∙ (ap (λ b. b || (term_eq t t || false)) new_row ∙ ap (λ b. b || false) (term_eq-refl t))),
+          subst (λ u. row_of (rows ++ t ∷ []) u ≡ length old.rows.items) tree
+              (row_new rows t new_row ∙ (ap length (sym h.terms) ∙ length-map old.rows.items (λ (a : At). term_tree bank a.0))),
         )
     | inr ne ↦
-        subst (IsRowOf (rows ++ t ∷ []) (term_tree bank i)) (sym (get_or-set_other old.numbered.items m (get_or old.classes.numbers.items i 0) (Some (length old.rows.items)) None ne))
+        subst (IsRowOf (rows ++ t ∷ []) (term_tree bank i)) (sym
+        (get_or-set_other old.numbered.items m (get_or old.classes.numbers.items i 0) (Some (length old.rows.items)) None ne))
         (by i (λ e. ne (equal_number bank h.classes.signs old.classes.numbers.items h.classes.numbers i at.0 li l e)) (row_at old i) (h.numbered i li))
   ]
     where
@@ -121,14 +137,20 @@ module _ (bank : Nodes) (old now : Table) (rows : List Term) (h : IsTableOf bank
       other u ne false e = refl
 
       by : (i : ℕ) → (term_tree bank i ≡ t → ⊥) → (o : Option ℕ) → IsRowOf rows (term_tree bank i) o → IsRowOf (rows ++ t ∷ []) (term_tree bank i) o
-      by i ne None f = among-append rows (t ∷ []) (term_tree bank i) ∙ (ap (λ b. b || (term_eq (term_tree bank i) t || false)) f ∙ other (term_tree bank i) ne (term_eq (term_tree bank i) t) refl)
-      by i ne (Some k) f = (among-append rows (t ∷ []) (term_tree bank i) ∙ ap (λ b. b || (term_eq (term_tree bank i) t || false)) f.0, row_kept rows t (term_tree bank i) f.0 ∙ f.1)
+      by i ne None f = among-append rows (t ∷ []) (term_tree bank i)
+          ∙ (ap (λ b. b || (term_eq (term_tree bank i) t || false)) f ∙ other (term_tree bank i) ne (term_eq (term_tree bank i) t) refl)
+      by i ne (Some k) f = (
+        among-append rows (t ∷ []) (term_tree bank i) ∙ ap (λ b. b || (term_eq (term_tree bank i) t || false)) f.0,
+        row_kept rows t (term_tree bank i) f.0 ∙ f.1,
+      )
 
   pub row_added : IsTableOf bank now (rows ++ t ∷ [])
   row_added = record {
     classes = subst (AreClasses bank) (sym same) h.classes;
     enough = ap length wrote ∙ (length-set old.numbered.items m (Some (length old.rows.items)) ∙ (h.enough ∙ ap (λ (c : Classes). c.count) (sym same)));
-    inside = subst (λ ps. All (λ (a : At). a.0 < length now.classes.numbers.items) ps) (sym more) (subst (λ (c : Classes). All (λ (a : At). a.0 < length c.numbers.items) (old.rows.items ++ at ∷ [])) (sym same) (All-push (λ (a : At). a.0 < length old.classes.numbers.items) old.rows.items at h.inside l));
+    inside = subst (λ ps. All (λ (a : At). a.0 < length now.classes.numbers.items) ps) (sym more)
+        (subst (λ (c : Classes). All (λ (a : At). a.0 < length c.numbers.items) (old.rows.items ++ at ∷ [])) (sym same)
+        (All-push (λ (a : At). a.0 < length old.classes.numbers.items) old.rows.items at h.inside l));
     terms = ap (term_trees bank) more ∙ (map-append (λ (a : At). term_tree bank a.0) old.rows.items (at ∷ []) ∙ ap (λ ts. ts ++ t ∷ []) h.terms);
     numbered = λ i li.
         let k : i < length old.classes.numbers.items = subst (λ (c : Classes). i < length c.numbers.items) same li in
@@ -137,7 +159,8 @@ module _ (bank : Nodes) (old now : Table) (rows : List Term) (h : IsTableOf bank
   }
 
 -- the places with numbers are the same
-numbered_kept : (old now : Table) → now.classes ≡ old.classes → length now.numbered.items ≡ length old.numbered.items → (at : ℕ) → HasNumberAt old at → HasNumberAt now at
+numbered_kept : (old now : Table) → now.classes ≡ old.classes → length now.numbered.items ≡ length old.numbered.items → (at : ℕ) → HasNumberAt old at
+    → HasNumberAt now at
 numbered_kept old now same more at h = record {
   inside = subst (λ (c : Classes). at < length c.numbers.items) (sym same) h.inside;
   below = subst (λ (c : Classes). get_or c.numbers.items at 0 < length now.numbered.items) (sym same) (let b = h.below in omega arith);
@@ -145,7 +168,8 @@ numbered_kept old now same more at h = record {
 
 -- ---- a task more
 
-module _ (bank : Nodes) (fields : List Term) (old : Table) (tasks : List Task) (x : Task) (b : IsBuilding bank (flat_map completed fields) old (tasks ++ x ∷ [])) where
+module _ (bank : Nodes) (fields : List Term) (old : Table) (tasks : List Task) (x : Task)
+    (b : IsBuilding bank (flat_map completed fields) old (tasks ++ x ∷ [])) where
   abbrev pub whole : List Term
   whole = flat_map completed fields
 
@@ -186,7 +210,8 @@ pub record GoesOn (bank : Nodes) (fields : List Term) (old : Table) (tasks : Lis
   pub lighter : tasks_weight bank rest < tasks_weight bank tasks
   pub same : now.classes ≡ old.classes
 
-pub taken_on : (bank : Nodes) (fields : List Term) (old : Table) (tasks : List Task) (x : Task) (now : Table) (rest : List Task) → IsBuilding bank (flat_map completed fields) old (tasks ++ x ∷ [])
+pub taken_on : (bank : Nodes) (fields : List Term) (old : Table) (tasks : List Task) (x : Task) (now : Table) (rest : List Task)
+    → IsBuilding bank (flat_map completed fields) old (tasks ++ x ∷ [])
     → Taken bank old tasks x now rest → GoesOn bank fields old (tasks ++ x ∷ []) now rest
 taken_on bank fields old tasks (task.Enter at) now rest b h = by h.0
   where
@@ -202,7 +227,8 @@ taken_on bank fields old tasks (task.Enter at) now rest b h = by h.0
 
     skip : AreAmong b.done (completed t) → rest ≡ tasks → GoesOn bank fields old (tasks ++ x ∷ []) now rest
     skip a e = record {
-      building = subst (λ n. IsBuilding bank (flat_map completed fields) n rest) (sym h.1) (subst (IsBuilding bank (flat_map completed fields) old) (sym e) (skipped bank fields old tasks x b a));
+      building = subst (λ n. IsBuilding bank (flat_map completed fields) n rest) (sym h.1)
+          (subst (IsBuilding bank (flat_map completed fields) old) (sym e) (skipped bank fields old tasks x b a));
       lighter = lighter e;
       same = ap (λ (n : Table). n.classes) h.1;
     }
@@ -210,7 +236,8 @@ taken_on bank fields old tasks (task.Enter at) now rest b h = by h.0
     by : Entered bank old tasks at rest → GoesOn bank fields old (tasks ++ x ∷ []) now rest
     by (bare n e) = skip (subst (AreAmong b.done) (sym (completed_bare t n)) (All-nil (λ u. is_among b.done u ≡ true))) e
     by (known k r e) =
-        skip (known_done fields b.done (todo bank (tasks ++ x ∷ [])) t b.is (row_known bank fields old tasks x b at.0 k (last_numbered bank fields old tasks x b).inside r)) e
+        skip (known_done fields b.done (todo bank (tasks ++ x ∷ [])) t b.is
+        (row_known bank fields old tasks x b at.0 k (last_numbered bank fields old tasks x b).inside r)) e
     by (inside k args tree has lower e) = record {
       building = subst (λ n. IsBuilding bank (flat_map completed fields) n rest) (sym h.1)
           (subst (IsBuilding bank (flat_map completed fields) old) (sym e) (record {
@@ -220,17 +247,21 @@ taken_on bank fields old tasks (task.Enter at) now rest b h = by h.0
                 ∙ (ap (λ ts. ts ++ todo bank (tasks ++ task.Leave at ∷ [])) (todo-entries bank args)
                 ∙ (ap (λ ts. flat_map completed (term_trees bank args) ++ ts) (todo-append bank tasks (task.Leave at ∷ []))
                 ∙ (sym (append_assoc (flat_map completed (term_trees bank args)) (t ∷ []) (todo bank tasks))
-                ∙ ap (λ ts. ts ++ todo bank tasks) (ap (λ us. us ++ t ∷ []) (sym (ap completed_arguments tree ∙ arguments_app k (term_trees bank args))) ∙ sym (completed_is t has))))))
+                ∙ ap (λ ts. ts ++ todo bank tasks) (ap (λ us. us ++ t ∷ []) (sym (ap completed_arguments tree ∙ arguments_app k (term_trees bank args)))
+                ∙ sym (completed_is t has))))))
                 ∙ left_is bank fields old tasks x b;
             table = b.table;
             inside = All-append (λ y. HasNumberAt old (task_at y)) (tasks ++ task.Leave at ∷ []) (entries args)
                 (All-push (λ y. HasNumberAt old (task_at y)) tasks (task.Leave at) (kept bank fields old tasks x b) (last_numbered bank fields old tasks x b))
                 (entries_numbered old args (All-weaker (λ (a : At). a.0 < at.0) (λ (a : At). HasNumberAt old a.0)
-                (λ a l. argument_numbered bank old (rows_in b.done) b.table a.0 (let p = (last_numbered bank fields old tasks x b).inside in omega arith)) args lower));
+                (λ a l. argument_numbered bank old (rows_in b.done) b.table a.0 (let p = (last_numbered bank fields old tasks x b).inside in omega arith)) args
+                lower));
           }));
-      lighter = let w = weighs bank fields old tasks x b in let s = ap (tasks_weight bank) e in let u = weight-append bank (tasks ++ task.Leave at ∷ []) (entries args) in
+      lighter = let w = weighs bank fields old tasks x b in let s = ap (tasks_weight bank) e in
+          let u = weight-append bank (tasks ++ task.Leave at ∷ []) (entries args) in
           let y = weight-append bank tasks (task.Leave at ∷ []) in let z = weight-entries bank (Con k) args in let q : 2 * term_size (Con k) ≡ 2 = refl in
-          let v : task_weight bank x ≡ 2 * term_size (app k (term_trees bank args)) = ap (λ r. 2 * term_size r) tree in let o : tasks_weight bank (task.Leave at ∷ []) ≡ 1 = refl in omega arith;
+          let v : task_weight bank x ≡ 2 * term_size (app k (term_trees bank args)) = ap (λ r. 2 * term_size r) tree in
+          let o : tasks_weight bank (task.Leave at ∷ []) ≡ 1 = refl in omega arith;
       same = ap (λ (n : Table). n.classes) h.1;
     }
 taken_on bank fields old tasks (task.Leave at) now rest b h = by h.0
@@ -248,7 +279,8 @@ taken_on bank fields old tasks (task.Leave at) now rest b h = by h.0
     by (left_known k r e) = record {
       building = subst (λ n. IsBuilding bank (flat_map completed fields) n rest) (sym e) (subst (IsBuilding bank (flat_map completed fields) old) (sym h.1)
           (skipped bank fields old tasks x b
-          (All-cons (λ u. is_among b.done u ≡ true) t [] (row_known bank fields old tasks x b at.0 k (last_numbered bank fields old tasks x b).inside r) (All-nil (λ u. is_among b.done u ≡ true)))));
+          (All-cons (λ u. is_among b.done u ≡ true) t [] (row_known bank fields old tasks x b at.0 k (last_numbered bank fields old tasks x b).inside r)
+          (All-nil (λ u. is_among b.done u ≡ true)))));
       lighter = lighter;
       same = ap (λ (n : Table). n.classes) e;
     }
@@ -258,10 +290,12 @@ taken_on bank fields old tasks (task.Leave at) now rest b h = by h.0
         is = append_assoc b.done (t ∷ []) (todo bank tasks) ∙ left_is bank fields old tasks x b;
         table = subst (IsTableOf bank now)
             (sym (rows_in-append b.done (t ∷ [])
-            ∙ ap (λ v. if v then rows_in b.done else rows_in b.done ++ t ∷ []) (subst (IsRowOf (rows_in b.done) t) r (b.table.numbered at.0 (last_numbered bank fields old tasks x b).inside))))
+            ∙ ap (λ v. if v then rows_in b.done else rows_in b.done ++ t ∷ [])
+            (subst (IsRowOf (rows_in b.done) t) r (b.table.numbered at.0 (last_numbered bank fields old tasks x b).inside))))
             (row_added bank old now (rows_in b.done) b.table at (last_numbered bank fields old tasks x b).inside r same more wrote);
         inside = All-weaker (λ y. HasNumberAt old (task_at y)) (λ y. HasNumberAt now (task_at y))
-            (λ y n. numbered_kept old now same (ap length wrote ∙ length-set old.numbered.items (get_or old.classes.numbers.items at.0 0) (Some (length old.rows.items))) (task_at y) n) tasks
+            (λ y n. numbered_kept old now same (ap length wrote
+            ∙ length-set old.numbered.items (get_or old.classes.numbers.items at.0 0) (Some (length old.rows.items))) (task_at y) n) tasks
             (kept bank fields old tasks x b);
       });
       lighter = lighter;
@@ -269,7 +303,8 @@ taken_on bank fields old tasks (task.Leave at) now rest b h = by h.0
     }
 
 -- all tasks are done
-pub table_done : (bank : Nodes) (fields : List Term) (t : Table) (tasks : List Task) → IsBuilding bank (flat_map completed fields) t tasks → tasks ≡ [] → IsTableOf bank t (rows_in (flat_map completed fields))
+pub table_done : (bank : Nodes) (fields : List Term) (t : Table) (tasks : List Task) → IsBuilding bank (flat_map completed fields) t tasks → tasks ≡ []
+    → IsTableOf bank t (rows_in (flat_map completed fields))
 table_done bank fields t tasks b e =
     subst (λ ts. IsTableOf bank t (rows_in ts)) (sym (append-nil b.done) ∙ (ap (λ xs. b.done ++ todo bank xs) (sym e) ∙ b.is)) b.table
 

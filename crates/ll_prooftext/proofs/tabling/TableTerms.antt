@@ -1,5 +1,6 @@
 -- Terms one after the other, each once.
-use Rattle.std.proofs.Common.{◌≡◌, suc, ◌+◌, ◌<◌, Bool, true, false, cond, ◌||◌, not, if◌then◌else◌, List, [], ◌∷◌, ◌++◌, length, All, fold, refl, ap, sym, subst, ◌∙◌, arith, append_assoc, true≢false, add-zero, ◌≢◌}
+use Rattle.std.proofs.Common.{◌≡◌, suc, ◌+◌, ◌<◌, Bool, true, false, cond, ◌||◌, not, if◌then◌else◌, List, [], ◌∷◌, ◌++◌, length, All, fold, refl, ap, sym}
+use Rattle.std.proofs.Common.{subst, ◌∙◌, arith, append_assoc, true≢false, add-zero, ◌≢◌}
 use Rattle.std.specs.List.{flat_map}
 use Rattle.std.proofs.Math.Bool.{or-true}
 use Rattle.std.proofs.lemmas.List.{append-nil}
@@ -63,7 +64,8 @@ rows-among rows [] u = sym (or_false (is_among rows u))
     or_false : (b : Bool) → (b || false) ≡ b
     or_false true = refl
     or_false false = refl
-rows-among rows (t ∷ ts) u = rows-among (with_row rows t) ts u ∙ (ap (λ b. b || is_among ts u) (with_row-among rows t u) ∙ regroup (is_among rows u) (term_eq u t) (is_among ts u))
+rows-among rows (t ∷ ts) u = rows-among (with_row rows t) ts u
+    ∙ (ap (λ b. b || is_among ts u) (with_row-among rows t u) ∙ regroup (is_among rows u) (term_eq u t) (is_among ts u))
   where
     regroup : (a b c : Bool) → ((a || (b || false)) || c) ≡ (a || (b || c))
     regroup true b c = refl
@@ -93,7 +95,11 @@ AreBehind before (t ∷ ts) = AreAmong before (completed_arguments t) × AreBehi
 
 behind-append : (before xs ys : List Term) → AreBehind before xs → AreBehind (before ++ xs) ys → AreBehind before (xs ++ ys)
 behind-append before [] ys h k = subst (λ bs. AreBehind bs ys) (append-nil before) k
-behind-append before (x ∷ xs) ys h k = (h.0, behind-append (before ++ x ∷ []) xs ys h.1 (subst (λ bs. AreBehind bs ys) (sym (append_assoc before (x ∷ []) xs)) k))
+behind-append before (x ∷ xs) ys h k = (
+  h.0,
+  behind-append (before ++ x ∷ []) xs ys h.1
+      (subst (λ bs. AreBehind bs ys) (sym (append_assoc before (x ∷ []) xs)) k),
+)
 
 pub are_themselves : (before xs : List Term) → AreAmong (before ++ xs) xs
 are_themselves before [] = All-nil (λ t. is_among (before ++ []) t ≡ true)
@@ -108,17 +114,23 @@ completed_behind (Int z) = (λ before. tt, λ before. tt)
 completed_behind (Con h) = (λ before. tt, λ before. tt)
 completed_behind (Ap f a) =
     let inside : (before : List Term) → AreBehind before (completed_arguments f ++ completed a) =
-    λ before. behind-append before (completed_arguments f) (completed a) ((completed_behind f).1 before) ((completed_behind a).0 (before ++ completed_arguments f)) in
-    (λ before. behind-append before (completed_arguments f ++ completed a) (Ap f a ∷ []) (inside before) (are_themselves before (completed_arguments f ++ completed a), tt), inside)
+    λ before. behind-append before (completed_arguments f) (completed a) ((completed_behind f).1 before)
+    ((completed_behind a).0 (before ++ completed_arguments f)) in (
+      λ before. behind-append before (completed_arguments f ++ completed a) (Ap f a ∷ []) (inside before)
+          (are_themselves before (completed_arguments f ++ completed a), tt),
+      inside,
+    )
 
 pub all_behind : (ts : List Term) (before : List Term) → AreBehind before (flat_map completed ts)
 all_behind [] before = tt
 all_behind (t ∷ ts) before = behind-append before (completed t) (flat_map completed ts) ((completed_behind t).0 before) (all_behind ts (before ++ completed t))
 
 -- so where a term is, those in its arguments are in front of it
-front_among : (before front : List Term) (t : Term) (back : List Term) → AreBehind before (front ++ t ∷ back) → AreAmong (before ++ front) (completed_arguments t)
+front_among : (before front : List Term) (t : Term) (back : List Term) → AreBehind before (front ++ t ∷ back)
+    → AreAmong (before ++ front) (completed_arguments t)
 front_among before [] t back h = subst (λ bs. AreAmong bs (completed_arguments t)) (sym (append-nil before)) h.0
-front_among before (x ∷ front) t back h = subst (λ bs. AreAmong bs (completed_arguments t)) (append_assoc before (x ∷ []) front) (front_among (before ++ x ∷ []) front t back h.1)
+front_among before (x ∷ front) t back h = subst (λ bs. AreAmong bs (completed_arguments t)) (append_assoc before (x ∷ []) front)
+    (front_among (before ++ x ∷ []) front t back h.1)
 
 pub wider : (xs ys ts : List Term) → AreAmong xs ts → AreAmong (xs ++ ys) ts
 wider xs ys ts h = All-weaker (λ t. is_among xs t ≡ true) (λ t. is_among (xs ++ ys) t ≡ true) (λ t k. among_left xs ys t k) ts h
@@ -152,7 +164,8 @@ known_done fields done rest t e h = by t (has_arguments t) refl h
     by t false a m = subst (AreAmong done) (sym (completed_bare t a)) (All-nil (λ u. is_among done u ≡ true))
     by t true a m =
         let s = among_split done t m in
-        let whole : flat_map completed fields ≡ s.front ++ t ∷ (s.back ++ rest) = sym e ∙ (ap (λ xs. xs ++ rest) s.is ∙ append_assoc s.front (t ∷ s.back) rest) in
+        let whole : flat_map completed fields ≡ s.front ++ t ∷ (s.back ++ rest) =
+        sym e ∙ (ap (λ xs. xs ++ rest) s.is ∙ append_assoc s.front (t ∷ s.back) rest) in
         let front = front_among [] s.front t (s.back ++ rest) (subst (AreBehind []) whole (all_behind fields [])) in
         subst (AreAmong done) (sym (completed_is t a))
         (All-append (λ u. is_among done u ≡ true) (completed_arguments t) (t ∷ [])
@@ -165,7 +178,8 @@ pub found_below : (rows : List Term) (t : Term) → is_among rows t ≡ true →
 found_below [] t h = absurd (true≢false (sym h))
 found_below (r ∷ rows) t h = by (λ g. found_below rows t g) (term_eq t r) h
   where
-    by : (is_among rows t ≡ true → row_of rows t < length rows) → (b : Bool) → (b || is_among rows t) ≡ true → cond (not b) (1 + row_of rows t) 0 < suc (length rows)
+    by : (is_among rows t ≡ true → row_of rows t < length rows) → (b : Bool) → (b || is_among rows t) ≡ true
+        → cond (not b) (1 + row_of rows t) 0 < suc (length rows)
     by more true g = omega arith
     by more false g = let z = more g in omega arith
 
@@ -173,7 +187,8 @@ pub none_below : (rows : List Term) (t : Term) → is_among rows t ≡ false →
 none_below [] t h = refl
 none_below (r ∷ rows) t h = by (λ g. none_below rows t g) (term_eq t r) h
   where
-    by : (is_among rows t ≡ false → row_of rows t ≡ length rows) → (b : Bool) → (b || is_among rows t) ≡ false → cond (not b) (1 + row_of rows t) 0 ≡ suc (length rows)
+    by : (is_among rows t ≡ false → row_of rows t ≡ length rows) → (b : Bool) → (b || is_among rows t) ≡ false
+        → cond (not b) (1 + row_of rows t) 0 ≡ suc (length rows)
     by more true g = absurd (true≢false g)
     by more false g = let z = more g in omega arith
 
@@ -181,7 +196,8 @@ none_below (r ∷ rows) t h = by (λ g. none_below rows t g) (term_eq t r) h
 pub row_kept : (rows : List Term) (t u : Term) → is_among rows u ≡ true → row_of (rows ++ t ∷ []) u ≡ row_of rows u
 row_kept rows t u h =
     position_or_len_push (term_eq u) rows t
-    ∙ ap (λ b. cond b (length rows + cond (term_eq u t) 0 1) (row_of rows u)) (let l = found_below rows u h in let n : row_of rows u ≢ length rows = omega arith in ne_eqb (row_of rows u) (length rows) n)
+    ∙ ap (λ b. cond b (length rows + cond (term_eq u t) 0 1) (row_of rows u)) (let l = found_below rows u h in
+    let n : row_of rows u ≢ length rows = omega arith in ne_eqb (row_of rows u) (length rows) n)
 
 pub row_new : (rows : List Term) (t : Term) → is_among rows t ≡ false → row_of (rows ++ t ∷ []) t ≡ length rows
 row_new rows t h =

@@ -21,7 +21,9 @@ pub table_of-requires : goal.table_of-requires
 table_of-requires c =
     let bank = c.derivation.inside.bank in
     let places = c.deref-3.ensures.value ∙ (c.in_ok-places.ensures ∙ (λ i. c.deref.ensures.value i ++ flat_map rule_places (c.deref-2.ensures.value i))) in
-    subst (AllInTerms bank) (sym places) (All-append (λ (a : At). a.0 < length bank.terms) c.derivation.inside.asked.items (flat_map rule_places c.derivation.inside.nodes.items) c.derivation.invariant.0 (inside_nodes bank c.derivation.inside.nodes.items c.derivation.invariant.1))
+    subst (AllInTerms bank) (sym places) (All-append (λ (a : At). a.0 < length bank.terms) c.derivation.inside.asked.items
+    (flat_map rule_places c.derivation.inside.nodes.items) c.derivation.invariant.0
+    (inside_nodes bank c.derivation.inside.nodes.items c.derivation.invariant.1))
 
 pub write_shares-requires : goal.write_shares-requires
 write_shares-requires c =
@@ -38,7 +40,8 @@ write_lets-requires c =
     record {
       inside = subst (AllInTerms bank) (sym c.deref-4.ensures.value) c.derivation.invariant.0;
       rows = subst (IsTableOf bank c.in_ok-table.table) (sym table.terms) table;
-      numbered = subst (λ (ps : List At). All P ps) (sym c.deref-4.ensures.value) (All-left P c.derivation.inside.asked.items (flat_map rule_places c.derivation.inside.nodes.items) reach);
+      numbered = subst (λ (ps : List At). All P ps) (sym c.deref-4.ensures.value)
+          (All-left P c.derivation.inside.asked.items (flat_map rule_places c.derivation.inside.nodes.items) reach);
     }
 
 pub write_node_lines-requires : goal.write_node_lines-requires
@@ -52,7 +55,8 @@ write_node_lines-requires c =
       inside = subst (HasLines bank) (sym c.deref-5.ensures.value) c.derivation.invariant.1;
       rows = subst (IsTableOf bank c.in_ok-table.table) (sym table.terms) table;
       numbered = subst (λ (rs : List Rule). All (λ r. All P (rule_places r)) rs) (sym c.deref-5.ensures.value)
-          (each_node P c.derivation.inside.nodes.items (All-right P c.derivation.inside.asked.items (flat_map rule_places c.derivation.inside.nodes.items) reach));
+          (each_node P c.derivation.inside.nodes.items (All-right P c.derivation.inside.asked.items (flat_map rule_places c.derivation.inside.nodes.items)
+          reach));
     }
 
 pub returns : goal.returns
@@ -65,9 +69,13 @@ returns c =
     let rows = term_trees bank c.in_ok-table.table.rows.items in
     let places = c.deref-3.ensures.value ∙ (c.in_ok-places.ensures ∙ (λ i. c.deref.ensures.value i ++ flat_map rule_places (c.deref-2.ensures.value i))) in
     four_parts (line (codes "proof 2")) (flat_map (share_line names rows) rows) (flat_map (λ t. line (let_text_by (short_field names rows) t)) d.asked)
-    (flat_map (λ n. line (node_text_by (short_field names rows) n)) d.nodes) c.extend_from_slice.new.self.items c.write_shares.new.out.items c.write_lets.new.out.items c.write_node_lines.new.out.items
+    (flat_map (λ n. line (node_text_by (short_field names rows) n)) d.nodes) c.extend_from_slice.new.self.items c.write_shares.new.out.items
+    c.write_lets.new.out.items c.write_node_lines.new.out.items
     (c.in_ok-extend_from_slice.ensures.items ∙ ap (λ t. t ++ codes "proof 2\n") c.new-text.ensures.items) c.in_ok-write_shares.ensures
-    (c.in_ok-write_lets.ensures ∙ ap (λ (ps : List At). c.write_shares.new.out.items ++ flat_map (λ t. line (let_text_by (short_field names rows) t)) (term_trees bank ps)) c.deref-4.ensures.value)
-    (c.in_ok-write_node_lines.ensures ∙ ap (λ (rs : List Rule). c.write_lets.new.out.items ++ flat_map (λ n. line (node_text_by (short_field names rows) n)) (map (line_of bank) rs)) c.deref-5.ensures.value)
-    ∙ (text2_is names d rows (c.in_ok-table.ensures.table.terms ∙ ap (λ ts. rows_in (flat_map completed ts)) (ap (term_trees bank) places ∙ fields_of bank asked nodes))
+    (c.in_ok-write_lets.ensures ∙ ap (λ (ps : List At). c.write_shares.new.out.items
+    ++ flat_map (λ t. line (let_text_by (short_field names rows) t)) (term_trees bank ps)) c.deref-4.ensures.value)
+    (c.in_ok-write_node_lines.ensures ∙ ap (λ (rs : List Rule). c.write_lets.new.out.items
+    ++ flat_map (λ n. line (node_text_by (short_field names rows) n)) (map (line_of bank) rs)) c.deref-5.ensures.value)
+    ∙ (text2_is names d rows (c.in_ok-table.ensures.table.terms
+    ∙ ap (λ ts. rows_in (flat_map completed ts)) (ap (term_trees bank) places ∙ fields_of bank asked nodes))
     ∙ ap (proof_text2 names) c.derivation.view_is)

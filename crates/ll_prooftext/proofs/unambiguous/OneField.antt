@@ -1,5 +1,6 @@
 -- A field ends at one place, and is of one kind.
-use Rattle.std.proofs.Common.{◌≡◌, ℕ, ◌<◌, ◌^◌, Bool, true, false, List, [], ◌∷◌, ◌++◌, refl, ap, sym, subst, ◌∙◌, arith, decimal, append_assoc, inl, inr, Some, None}
+use Rattle.std.proofs.Common.{◌≡◌, ℕ, ◌<◌, ◌^◌, Bool, true, false, List, [], ◌∷◌, ◌++◌, refl, ap, sym, subst, ◌∙◌, arith, decimal, append_assoc, inl, inr}
+use Rattle.std.proofs.Common.{Some, None}
 use Rattle.std.specs.Prelude.{◌||◌, ◌==◌, ◌⊎◌, if◌then◌else◌}
 use Rattle.std.specs.List.{list_all}
 use Rattle.std.proofs.lemmas.Bool.{eqb-true, or_left, or_right}
@@ -9,9 +10,11 @@ use Rattle.ll_lexer.specs.Spelling.{is_lower}
 use Rattle.ll_laws.specs.Output.{term_text, argument_text}
 use Rattle.ll_laws.specs.ProofText.{labels_text}
 use Rattle.ll_prooftext.specs.Admitted.{IsSpelledTerm}
-use Rattle.ll_prooftext.specs.Reading.{Kind, Number, Set, Argument, Mark, Plain, Sign, Cell, Want, Nothing, Arguments, Premises, Row, More, Cells, Then, after_field, IsNumber, IsSet, IsArgument, IsField, IsAtEnd, line_end, space}
+use Rattle.ll_prooftext.specs.Reading.{Kind, Number, Set, Argument, Mark, Plain, Sign, Cell, Want, Nothing, Arguments, Premises, Row, More, Cells, Then}
+use Rattle.ll_prooftext.specs.Reading.{after_field, IsNumber, IsSet, IsArgument, IsField, IsAtEnd, line_end, space}
 use Rattle.ll_prooftext.specs.Words.{is_not, Stops, ended, at_byte}
-use Rattle.ll_prooftext.specs.Terms.{is_part, Shape, Wanted, Bare, Applied, Closed, variable, number, IsWord, Frame, frame, fresh, FirstWay, first_bracket, first_word, PartWay, bracket, word, sign, whole, argument, item, Goes, Accepts, closed, goes}
+use Rattle.ll_prooftext.specs.Terms.{is_part, Shape, Wanted, Bare, Applied, Closed, variable, number, IsWord, Frame, frame, fresh, FirstWay, first_bracket}
+use Rattle.ll_prooftext.specs.Terms.{first_word, PartWay, bracket, word, sign, whole, argument, item, Goes, Accepts, closed, goes}
 use Rattle.ll_prooftext.proofs.reading.CellsRead.{cell_free, word_free, plain_word}
 use Rattle.ll_prooftext.proofs.spelling.Cuts.{one_cut}
 use Rattle.ll_prooftext.proofs.reading.LinesOver.{cell_first}
@@ -19,24 +22,33 @@ use Rattle.ll_prooftext.proofs.reading.Rest.{same_row}
 use Rattle.ll_prooftext.proofs.reading.Labels.{decimal_not, labels_avoid, set_found}
 use Rattle.ll_prooftext.proofs.spelling.Spellings.{Starts, weaker, head_start, leaf_start, head_first, leaf_first, word_parts, one_word}
 use Rattle.ll_prooftext.proofs.spelling.Reach.{is_wanted, head_word, accepts_whole}
-use Rattle.ll_prooftext.proofs.spelling.Ways.{no_bracket, behind_byte, first_bracket_on, first_word_on, argument_bracket_on, argument_word_on, sign_on, close_whole, close_argument, close_item_on}
+use Rattle.ll_prooftext.proofs.spelling.Ways.{no_bracket, behind_byte, first_bracket_on, first_word_on, argument_bracket_on, argument_word_on, sign_on}
+use Rattle.ll_prooftext.proofs.spelling.Ways.{close_whole, close_argument, close_item_on}
 
 -- ---- brackets
 
 -- where one step was taken each reading takes it
-first_same : (f : List ℕ) (c : Bool) (fs : List Frame) (bytes : List ℕ) (gs : List Frame) (left : List ℕ) → FirstWay c fs bytes gs left → Accepts f (frame c Wanted ∷ fs) bytes → Accepts f gs left
-first_same f c fs bytes gs left (first_bracket e h) a = subst (λ z. Accepts f z left) (sym h) (first_bracket_on f c fs left (subst (λ z. Accepts f (frame c Wanted ∷ fs) z) e a))
+first_same : (f : List ℕ) (c : Bool) (fs : List Frame) (bytes : List ℕ) (gs : List Frame) (left : List ℕ) → FirstWay c fs bytes gs left
+    → Accepts f (frame c Wanted ∷ fs) bytes → Accepts f gs left
+first_same f c fs bytes gs left (first_bracket e h) a = subst (λ z. Accepts f z left) (sym h)
+    (first_bracket_on f c fs left (subst (λ z. Accepts f (frame c Wanted ∷ fs) z) e a))
 first_same f c fs bytes gs left (first_word w p i s e h) a = subst (λ z. Accepts f z left) (sym h) (first_word_on f c fs bytes w left p i s e a)
 
-part_same : (f : List ℕ) (c : Bool) (p : Shape) (fs : List Frame) (bytes : List ℕ) (gs : List Frame) (left : List ℕ) → is_wanted p ≡ false → PartWay c p fs bytes gs left → Accepts f (frame c p ∷ fs) bytes → Accepts f gs left
-part_same f c p fs bytes gs left full (bracket t e h) a = subst (λ z. Accepts f z left) (sym h) (argument_bracket_on f c p fs left full (subst (λ z. Accepts f (frame c p ∷ fs) z) e a))
-part_same f c p fs bytes gs left full (word t w q i s e h) a = subst (λ z. Accepts f z left) (sym h) (argument_word_on f c p fs (w ++ left) w left q full i s refl (subst (λ z. Accepts f (frame c p ∷ fs) z) e a))
-part_same f c p fs bytes gs left full (sign e h) a = subst (λ z. Accepts f z left) (sym h) (sign_on f c p fs left full (subst (λ z. Accepts f (frame c p ∷ fs) z) e a))
+part_same : (f : List ℕ) (c : Bool) (p : Shape) (fs : List Frame) (bytes : List ℕ) (gs : List Frame) (left : List ℕ) → is_wanted p ≡ false
+    → PartWay c p fs bytes gs left → Accepts f (frame c p ∷ fs) bytes → Accepts f gs left
+part_same f c p fs bytes gs left full (bracket t e h) a = subst (λ z. Accepts f z left) (sym h)
+    (argument_bracket_on f c p fs left full (subst (λ z. Accepts f (frame c p ∷ fs) z) e a))
+part_same f c p fs bytes gs left full (word t w q i s e h) a =
+    subst (λ z. Accepts f z left) (sym h) (argument_word_on f c p fs (w ++ left) w left q full i s refl (subst (λ z. Accepts f (frame c p ∷ fs) z) e a))
+part_same f c p fs bytes gs left full (sign e h) a = subst (λ z. Accepts f z left) (sym h)
+    (sign_on f c p fs left full (subst (λ z. Accepts f (frame c p ∷ fs) z) e a))
 part_same f c p fs bytes gs left full (whole t n e h) a = closed h (close_whole f c p fs left full n (subst (λ z. Accepts f (frame c p ∷ fs) z) e a))
 part_same f c p fs bytes gs left full (argument t d q hs n u e h) a =
-    subst (λ z. Accepts f z left) (sym h) (close_argument f c p d q hs left full u (subst (λ z. Accepts f (frame c p ∷ frame d q ∷ hs) z) e (subst (λ z. Accepts f (frame c p ∷ z) bytes) n a)))
+    subst (λ z. Accepts f z left) (sym h) (close_argument f c p d q hs left full u
+    (subst (λ z. Accepts f (frame c p ∷ frame d q ∷ hs) z) e (subst (λ z. Accepts f (frame c p ∷ z) bytes) n a)))
 part_same f c p fs bytes gs left full (item t d hs n e h) a =
-    subst (λ z. Accepts f z left) (sym h) (close_item_on f c p d hs left full (subst (λ z. Accepts f (frame c p ∷ frame d Wanted ∷ hs) z) e (subst (λ z. Accepts f (frame c p ∷ z) bytes) n a)))
+    subst (λ z. Accepts f z left) (sym h) (close_item_on f c p d hs left full
+    (subst (λ z. Accepts f (frame c p ∷ frame d Wanted ∷ hs) z) e (subst (λ z. Accepts f (frame c p ∷ z) bytes) n a)))
 
 way_same : (f : List ℕ) (fs : List Frame) (bytes : List ℕ) (gs : List Frame) (left : List ℕ) → Goes fs bytes gs left → Accepts f fs bytes → Accepts f gs left
 way_same f [] bytes gs left w a = absurd w
@@ -80,7 +92,8 @@ forms_once a b r s (plain p i) (plain q j) x y e = one_word a r b s q (word_part
 forms_once a b r s (plain p i) (bracketed v g j) x y e = absurd (no_bracket a r ((v ++ 41 ∷ []) ++ s) p i (e ∙ ap (λ z. z ++ s) g))
 forms_once a b r s (bracketed u f i) (plain q j) x y e = absurd (no_bracket b s ((u ++ 41 ∷ []) ++ r) q j (sym e ∙ ap (λ z. z ++ r) f))
 forms_once a b r s (bracketed u f i) (bracketed v g j) x y e =
-    let h : (u ++ 41 ∷ []) ++ r ≡ (v ++ 41 ∷ []) ++ s = behind_byte 40 ((u ++ 41 ∷ []) ++ r) ((v ++ 41 ∷ []) ++ s) (ap (λ z. z ++ r) (sym f) ∙ (e ∙ ap (λ z. z ++ s) g)) in
+    let h : (u ++ 41 ∷ []) ++ r ≡ (v ++ 41 ∷ []) ++ s = behind_byte 40 ((u ++ 41 ∷ []) ++ r) ((v ++ 41 ∷ []) ++ s)
+    (ap (λ z. z ++ r) (sym f) ∙ (e ∙ ap (λ z. z ++ s) g)) in
     let k : u ++ 41 ∷ r ≡ v ++ 41 ∷ s = sym (append_assoc u (41 ∷ []) r) ∙ (h ∙ append_assoc v (41 ∷ []) s) in
     let q : r ≡ s = one_end r s (fresh ∷ []) (u ++ 41 ∷ r) (i r) (subst (Accepts s (fresh ∷ [])) (sym k) (j s)) in
     (append_cancel_right a b r (e ∙ ap (λ z. b ++ z) (sym q)), q)
@@ -97,7 +110,8 @@ sets_once : (a b r s : List ℕ) → IsSet a → IsSet b → a ++ r ≡ b ++ s �
 sets_once a b r s i j e =
     let u = labels_text i.labels in
     let open_set : a ++ r ≡ 123 ∷ (u ++ 125 ∷ r) = ap (λ z. z ++ r) i.is ∙ simp append_assoc in
-    let k = set_found (a ++ r) (u ++ 125 ∷ r) u (125 ∷ r) b s open_set refl (labels_avoid 125 (inr (omega arith)) refl i.labels i.small) (at_byte 125 r refl refl) j e in
+    let k = set_found (a ++ r) (u ++ 125 ∷ r) u (125 ∷ r) b s open_set refl (labels_avoid 125 (inr (omega arith)) refl i.labels i.small)
+    (at_byte 125 r refl refl) j e in
     let q : r ≡ s = behind_byte 125 r s k.1 in
     (append_cancel_right a b r (e ∙ ap (λ z. b ++ z) (sym q)), q)
 
@@ -218,11 +232,13 @@ kind_once Argument a b r s l i j x y e = forms_once a b r s (form_of a i) (form_
 kind_once Mark a b r s l i j x y e =
     let q : a ≡ b = i ∙ sym j in
     (q, append_cancel_left a r s (e ∙ ap (λ z. z ++ s) (sym q)))
-kind_once Plain a b r s l i j x y e = one_cut (is_not 32) a b r s (word_free a Bare (plain_word a i)) (word_free b Bare (plain_word b j)) (end_stops (is_not 32) r refl x) (end_stops (is_not 32) s refl y) e
+kind_once Plain a b r s l i j x y e = one_cut (is_not 32) a b r s (word_free a Bare (plain_word a i)) (word_free b Bare (plain_word b j))
+    (end_stops (is_not 32) r refl x) (end_stops (is_not 32) s refl y) e
 kind_once Sign a b r s l i j x y e =
     let q : a ≡ b = i ∙ sym j in
     (q, append_cancel_left a r s (e ∙ ap (λ z. z ++ s) (sym q)))
-kind_once (Cell n) a b r s l i j x y e = one_cut (is_not 32) a b r s (cell_free n a l i) (cell_free n b l j) (end_stops (is_not 32) r refl x) (end_stops (is_not 32) s refl y) e
+kind_once (Cell n) a b r s l i j x y e = one_cut (is_not 32) a b r s (cell_free n a l i) (cell_free n b l j) (end_stops (is_not 32) r refl x)
+    (end_stops (is_not 32) s refl y) e
 
 -- ---- kinds
 
@@ -240,8 +256,15 @@ form_begins : (a : List ℕ) → IsForm a → Starts (begins Argument) a
 form_begins a (plain Wanted i) = absurd i
 form_begins a (plain Applied i) = absurd i
 form_begins a (plain Bare i) = weaker head_start (begins Argument) a (λ b h. or_left (head_start b) (leaf_start b || b == 40) h) (head_first a i)
-form_begins a (plain Closed i) = weaker leaf_start (begins Argument) a (λ b h. or_right (head_start b) (leaf_start b || b == 40) (or_left (leaf_start b) (b == 40) h)) (leaf_first a i)
-form_begins a (bracketed u e i) = record { byte = 40; others = u ++ 41 ∷ []; is = e; passes = or_right (head_start 40) (leaf_start 40 || true) (or_right (leaf_start 40) true refl) }
+form_begins a (plain Closed i) = weaker leaf_start (begins Argument) a
+    (λ b h. or_right (head_start b) (leaf_start b || b == 40) (or_left (leaf_start b) (b == 40) h)) (leaf_first a i)
+form_begins a (bracketed u e i) = record {
+  byte = 40;
+  others = u ++ 41 ∷ [];
+  is = e;
+  passes =
+      or_right (head_start 40) (leaf_start 40 || true) (or_right (leaf_start 40) true refl);
+}
 
 -- a kind that many terms and premises have
 abbrev IsManyKind : Kind → Type 0
@@ -365,7 +388,8 @@ unfolding is_lower
 cell_mark n a b r s i j e = cell_first n a r s 33 i (e ∙ ap (λ z. z ++ s) j) refl refl (λ x. omega arith)
 
 set_no_mark : (a b r s : List ℕ) → IsField Set a → IsField Mark b → a ++ r ≡ b ++ s → ⊥
-set_no_mark a b r s i j e = let q : 123 ∷ ((labels_text i.labels ++ 125 ∷ []) ++ r) ≡ 33 ∷ s = ap (λ z. z ++ r) (sym i.is) ∙ (e ∙ ap (λ z. z ++ s) j) in let x : ⊥ = cc in x
+set_no_mark a b r s i j e = let q : 123 ∷ ((labels_text i.labels ++ 125 ∷ []) ++ r) ≡ 33 ∷ s = ap (λ z. z ++ r) (sym i.is) ∙ (e ∙ ap (λ z. z ++ s) j) in
+    let x : ⊥ = cc in x
 
 plain_sign : (a b r s : List ℕ) → IsField Plain a → IsField Sign b → a ++ r ≡ b ++ s → ⊥
 unfolding is_lower
@@ -376,7 +400,8 @@ plain_sign a b r s i j e =
     let t : true ≡ false = sym h.passes ∙ ap head_start k in
     let x : ⊥ = cc in x
 
-asked_cells : (n : ℕ) (k j : Kind) (a b r s : List ℕ) → (k ≡ Cell n) ⊎ ((k ≡ Set) ⊎ (k ≡ Mark)) → (j ≡ Cell n) ⊎ ((j ≡ Set) ⊎ (j ≡ Mark)) → IsField k a → IsField j b → a ++ r ≡ b ++ s → k ≡ j
+asked_cells : (n : ℕ) (k j : Kind) (a b r s : List ℕ) → (k ≡ Cell n) ⊎ ((k ≡ Set) ⊎ (k ≡ Mark)) → (j ≡ Cell n) ⊎ ((j ≡ Set) ⊎ (j ≡ Mark)) → IsField k a
+    → IsField j b → a ++ r ≡ b ++ s → k ≡ j
 asked_cells n k j a b r s (inl p) (inl q) i l e = p ∙ sym q
 asked_cells n k j a b r s (inr (inl p)) (inr (inl q)) i l e = p ∙ sym q
 asked_cells n k j a b r s (inr (inr p)) (inr (inr q)) i l e = p ∙ sym q
@@ -393,7 +418,8 @@ asked_row k j a b r s (inr p) (inr q) i l e = p ∙ sym q
 asked_row k j a b r s (inl p) (inr q) i l e = absurd (plain_sign a b r s (subst (λ z. IsField z a) p i) (subst (λ z. IsField z b) q l) e)
 asked_row k j a b r s (inr p) (inl q) i l e = absurd (plain_sign b a s r (subst (λ z. IsField z b) q l) (subst (λ z. IsField z a) p i) (sym e))
 
-asked_kind : (v : Want) (k j : Kind) (x y : Want) (a b r s : List ℕ) → after_field v k ≡ Some x → after_field v j ≡ Some y → IsField k a → IsField j b → a ++ r ≡ b ++ s → k ≡ j
+asked_kind : (v : Want) (k j : Kind) (x y : Want) (a b r s : List ℕ) → after_field v k ≡ Some x → after_field v j ≡ Some y → IsField k a → IsField j b
+    → a ++ r ≡ b ++ s → k ≡ j
 asked_kind Nothing k j x y a b r s p q i l e = absurd cc
 asked_kind (Then m v) k j x y a b r s p q i l e = sym (then_kind m k v x p) ∙ then_kind m j v y q
 asked_kind Arguments k j x y a b r s p q i l e = begins_once k j a b r s (many_kind k x p) (many_kind j y q) i l e
@@ -409,7 +435,8 @@ pub record AreOneField (k j : Kind) (x y : Want) (a b r s : List ℕ) : Type 0 w
   pub text : a ≡ b
   pub rest : r ≡ s
 
-pub one_field : (v : Want) (k j : Kind) (x y : Want) (a b r s : List ℕ) → IsSmall v → after_field v k ≡ Some x → after_field v j ≡ Some y → IsField k a → IsField j b → IsAtEnd r → IsAtEnd s → a ++ r ≡ b ++ s → AreOneField k j x y a b r s
+pub one_field : (v : Want) (k j : Kind) (x y : Want) (a b r s : List ℕ) → IsSmall v → after_field v k ≡ Some x → after_field v j ≡ Some y → IsField k a
+    → IsField j b → IsAtEnd r → IsAtEnd s → a ++ r ≡ b ++ s → AreOneField k j x y a b r s
 one_field v k j x y a b r s few p q i l m n e =
     let kind : k ≡ j = asked_kind v k j x y a b r s p q i l e in
     let t = kind_once k a b r s (small_after v k x p few).0 i (subst (λ z. IsField z b) (sym kind) l) m n e in

@@ -1,5 +1,6 @@
 -- A line is told by its text, which has no LF.
-use Rattle.std.proofs.Common.{◌≡◌, ℕ, suc, ◌<◌, ◌^◌, Bool, true, false, List, [], ◌∷◌, ◌++◌, length, All, refl, ap, sym, ◌∙◌, arith, decimal, codes, append_assoc, append-nil, length-append, inl}
+use Rattle.std.proofs.Common.{◌≡◌, ℕ, suc, ◌<◌, ◌^◌, Bool, true, false, List, [], ◌∷◌, ◌++◌, length, All, refl, ap, sym, ◌∙◌, arith, decimal, codes}
+use Rattle.std.proofs.Common.{append_assoc, append-nil, length-append, inl}
 use Rattle.std.specs.Prelude.{if◌then◌else◌}
 use Rattle.std.specs.List.{list_all, flat_map, IsDistinct}
 use Rattle.std.specs.Str.{bytes_eq}
@@ -7,7 +8,8 @@ use Rattle.std.proofs.lemmas.Bool.{eqb-false}
 use Rattle.std.proofs.lemmas.Fmt.{decimal_injective, decimal_nonempty}
 use Rattle.std.proofs.lemmas.List.Elements.{All-head, All-tail}
 use Rattle.ll_bank.specs.Term.{Term}
-use Rattle.ll_laws.specs.Line.{PartLine, Labels, Free, Line, OneLine, EraseLine, TensorLine, WithLine, LeftLine, RightLine, BangLine, UseLine, LolliLine, ImpLine, ForallLine, ExistsLine, ClauseLine, NumLine}
+use Rattle.ll_laws.specs.Line.{PartLine, Labels, Free, Line, OneLine, EraseLine, TensorLine, WithLine, LeftLine, RightLine, BangLine, UseLine, LolliLine}
+use Rattle.ll_laws.specs.Line.{ImpLine, ForallLine, ExistsLine, ClauseLine, NumLine}
 use Rattle.ll_laws.specs.Output.{bracket_if, has_arguments, term_text, argument_text}
 use Rattle.ll_laws.specs.ProofText.{field, labels_text, set_text, term_field, part_field, node_text}
 use Rattle.ll_lexer.specs.Spelling.{is_lower}
@@ -22,9 +24,11 @@ use Rattle.ll_prooftext.proofs.unambiguous.OneTerm.{bare_word, bare_shape, Behin
 
 -- ---- numbers and sets
 
-pub number_same : (m n : ℕ) (x y : List ℕ) → m < 2 ^ 32 → n < 2 ^ 32 → Stops (is_not 32) x → Stops (is_not 32) y → decimal m ++ x ≡ decimal n ++ y → (m ≡ n) × (x ≡ y)
+pub number_same : (m n : ℕ) (x y : List ℕ) → m < 2 ^ 32 → n < 2 ^ 32 → Stops (is_not 32) x → Stops (is_not 32) y → decimal m ++ x ≡ decimal n ++ y
+    → (m ≡ n) × (x ≡ y)
 number_same m n x y p q s t e =
-    let k = one_cut (is_not 32) (decimal m) (decimal n) x y (decimal_not 32 m (omega arith) (inl (omega arith))) (decimal_not 32 n (omega arith) (inl (omega arith))) s t e in
+    let k = one_cut (is_not 32) (decimal m) (decimal n) x y (decimal_not 32 m (omega arith) (inl (omega arith)))
+    (decimal_not 32 n (omega arith) (inl (omega arith))) s t e in
     (decimal_injective m n (omega arith) (omega arith) k.0, k.1)
 
 last_number : (m n : ℕ) → m < 2 ^ 32 → n < 2 ^ 32 → field (decimal m) ≡ field (decimal n) → m ≡ n
@@ -48,7 +52,8 @@ labels_same [] [] a b e = refl
 labels_same [] (m ∷ ms) a b e = absurd (labels_full m ms b e)
 labels_same (n ∷ ns) [] a b e = absurd (labels_full n ns a (sym e))
 labels_same (n ∷ ns) (m ∷ ms) a b e =
-    let k = number_same n m (behind_text ns) (behind_text ms) (All-head (λ n. n < 2 ^ 32) n ns a) (All-head (λ n. n < 2 ^ 32) m ms b) (behind_stops ns) (behind_stops ms) (sym (labels_split n ns) ∙ (e ∙ labels_split m ms)) in
+    let k = number_same n m (behind_text ns) (behind_text ms) (All-head (λ n. n < 2 ^ 32) n ns a) (All-head (λ n. n < 2 ^ 32) m ms b) (behind_stops ns)
+    (behind_stops ms) (sym (labels_split n ns) ∙ (e ∙ labels_split m ms)) in
     let i = labels_same ns ms (All-tail (λ n. n < 2 ^ 32) n ns a) (All-tail (λ n. n < 2 ^ 32) m ms b) (behind_same ns ms k.1) in
     let h : n ≡ m = k.0 in
     cc
@@ -57,7 +62,8 @@ set_same : (s t x y : List ℕ) → AreLabels s → AreLabels t → set_text s +
 set_same s t x y a b e =
     let f : 123 ∷ (labels_text s ++ 125 ∷ x) ≡ 123 ∷ (labels_text t ++ 125 ∷ y) = sym (opened s x) ∙ (e ∙ opened t y) in
     let g : labels_text s ++ 125 ∷ x ≡ labels_text t ++ 125 ∷ y = cc in
-    let k = one_cut (is_not 125) (labels_text s) (labels_text t) (125 ∷ x) (125 ∷ y) (labels_free s a) (labels_free t b) (at_byte 125 x refl refl) (at_byte 125 y refl refl) g in
+    let k = one_cut (is_not 125) (labels_text s) (labels_text t) (125 ∷ x) (125 ∷ y) (labels_free s a) (labels_free t b) (at_byte 125 x refl refl)
+    (at_byte 125 y refl refl) g in
     (labels_same s t a b k.0, let h : 125 ∷ x ≡ 125 ∷ y = k.1 in cc)
   where
     opened : (s x : List ℕ) → set_text s ++ x ≡ 123 ∷ (labels_text s ++ 125 ∷ x)
@@ -79,15 +85,19 @@ parts_same (Labels s ∷ ps) [] a b e = absurd cc
 parts_same (Free ∷ ps) [] a b e = absurd cc
 parts_same (Labels s ∷ ps) (Labels t ∷ qs) a b e =
     let f : set_text s ++ flat_map part_field ps ≡ set_text t ++ flat_map part_field qs = cc in
-    let k = set_same s t (flat_map part_field ps) (flat_map part_field qs) (All-head IsSpelledPart (Labels s) ps a) (All-head IsSpelledPart (Labels t) qs b) f in
+    let k = set_same s t (flat_map part_field ps) (flat_map part_field qs) (All-head IsSpelledPart (Labels s) ps a) (All-head IsSpelledPart (Labels t) qs b) f
+    in
     let i = parts_same ps qs (All-tail IsSpelledPart (Labels s) ps a) (All-tail IsSpelledPart (Labels t) qs b) k.1 in
     let h : s ≡ t = k.0 in
     cc
 parts_same (Free ∷ ps) (Free ∷ qs) a b e =
-    let i = parts_same ps qs (All-tail IsSpelledPart Free ps a) (All-tail IsSpelledPart Free qs b) (let f : flat_map part_field ps ≡ flat_map part_field qs = cc in f) in
+    let i = parts_same ps qs (All-tail IsSpelledPart Free ps a) (All-tail IsSpelledPart Free qs b) (let f : flat_map part_field ps ≡ flat_map part_field qs =
+    cc in f) in
     ap (λ z. Free ∷ z) i
-parts_same (Labels s ∷ ps) (Free ∷ qs) a b e = absurd (mark_brace (flat_map part_field qs) ((labels_text s ++ 125 ∷ []) ++ flat_map part_field ps) (let f : 33 ∷ flat_map part_field qs ≡ 123 ∷ ((labels_text s ++ 125 ∷ []) ++ flat_map part_field ps) = cc in f))
-parts_same (Free ∷ ps) (Labels t ∷ qs) a b e = absurd (mark_brace (flat_map part_field ps) ((labels_text t ++ 125 ∷ []) ++ flat_map part_field qs) (let f : 33 ∷ flat_map part_field ps ≡ 123 ∷ ((labels_text t ++ 125 ∷ []) ++ flat_map part_field qs) = cc in f))
+parts_same (Labels s ∷ ps) (Free ∷ qs) a b e = absurd (mark_brace (flat_map part_field qs) ((labels_text s ++ 125 ∷ []) ++ flat_map part_field ps)
+    (let f : 33 ∷ flat_map part_field qs ≡ 123 ∷ ((labels_text s ++ 125 ∷ []) ++ flat_map part_field ps) = cc in f))
+parts_same (Free ∷ ps) (Labels t ∷ qs) a b e = absurd (mark_brace (flat_map part_field ps) ((labels_text t ++ 125 ∷ []) ++ flat_map part_field qs)
+    (let f : 33 ∷ flat_map part_field ps ≡ 123 ∷ ((labels_text t ++ 125 ∷ []) ++ flat_map part_field qs) = cc in f))
 
 -- ---- first bytes of arguments
 
@@ -103,7 +113,8 @@ word_not w rest b r Applied i f g e = i
 word_not w rest b r Bare i f g e = let x = starts_front head_start w rest b r (head_first w i) e in let y : false ≡ true = sym f ∙ x in let z : ⊥ = cc in z
 word_not w rest b r Closed i f g e = let x = starts_front leaf_start w rest b r (leaf_first w i) e in let y : false ≡ true = sym g ∙ x in let z : ⊥ = cc in z
 
-argument_not : (names : List (List ℕ)) (t : Term) (rest : List ℕ) (b : ℕ) (r : List ℕ) → IsSpelledTerm names t → head_start b ≡ false → leaf_start b ≡ false → (40 ≡ b → ⊥) → argument_text t (term_text names t) ++ rest ≡ b ∷ r → ⊥
+argument_not : (names : List (List ℕ)) (t : Term) (rest : List ℕ) (b : ℕ) (r : List ℕ) → IsSpelledTerm names t → head_start b ≡ false → leaf_start b ≡ false
+    → (40 ≡ b → ⊥) → argument_text t (term_text names t) ++ rest ≡ b ∷ r → ⊥
 argument_not names t rest b r s f g n e = by_test (has_arguments t) refl e
   where
     by_test : (v : Bool) → has_arguments t ≡ v → bracket_if v (term_text names t) ++ rest ≡ b ∷ r → ⊥
@@ -122,11 +133,13 @@ pub parts_behind : (names : List (List ℕ)) (ps : List PartLine) → Behind nam
 parts_behind names [] = record { stops = ended refl; none = λ t rest s e. cc }
 parts_behind names (Labels s ∷ ps) = record {
   stops = at_byte 32 (set_text s ++ flat_map part_field ps) refl refl;
-  none = λ t rest i e. no_brace names t rest ((labels_text s ++ 125 ∷ []) ++ flat_map part_field ps) i (let f : 123 ∷ ((labels_text s ++ 125 ∷ []) ++ flat_map part_field ps) ≡ argument_text t (term_text names t) ++ rest = cc in f);
+  none = λ t rest i e. no_brace names t rest ((labels_text s ++ 125 ∷ []) ++ flat_map part_field ps) i
+      (let f : 123 ∷ ((labels_text s ++ 125 ∷ []) ++ flat_map part_field ps) ≡ argument_text t (term_text names t) ++ rest = cc in f);
 }
 parts_behind names (Free ∷ ps) = record {
   stops = at_byte 32 (33 ∷ flat_map part_field ps) refl refl;
-  none = λ t rest i e. no_mark names t rest (flat_map part_field ps) i (let f : 33 ∷ flat_map part_field ps ≡ argument_text t (term_text names t) ++ rest = cc in f);
+  none = λ t rest i e. no_mark names t rest (flat_map part_field ps) i (let f : 33 ∷ flat_map part_field ps ≡ argument_text t (term_text names t) ++ rest =
+      cc in f);
 }
 
 -- ---- lines
@@ -273,21 +286,27 @@ rest_stops names NumLine = ended refl
 -- no node has the line of a variable
 pub no_let : (names : List (List ℕ)) (l : Line) (t : Term) → node_text names l ≡ codes "let" ++ term_field names t → ⊥
 no_let names l t e =
-    let k = one_cut (is_not 32) (line_word l) (codes "let") (line_rest names l) (term_field names t) (word_free l).0 refl (rest_stops names l) (at_byte 32 (argument_text t (term_text names t)) refl refl) (sym (line_is names l) ∙ e) in
+    let k = one_cut (is_not 32) (line_word l) (codes "let") (line_rest names l) (term_field names t) (word_free l).0 refl (rest_stops names l)
+    (at_byte 32 (argument_text t (term_text names t)) refl refl) (sym (line_is names l) ∙ e) in
     not_let l (sym (kind_is l) ∙ ap (index_in node_words) k.0)
 
 module _ (names : List (List ℕ)) (distinct : IsDistinct bytes_eq names) where
   -- the terms of a clause, and its premises
-  clause_same : (n k m j : ℕ) (ts us : List Term) (ps qs : List PartLine) → IsSpelledLine names (ClauseLine n k ts ps) → IsSpelledLine names (ClauseLine m j us qs) → line_rest names (ClauseLine n k ts ps) ≡ line_rest names (ClauseLine m j us qs)
+  clause_same : (n k m j : ℕ) (ts us : List Term) (ps qs : List PartLine) → IsSpelledLine names (ClauseLine n k ts ps)
+      → IsSpelledLine names (ClauseLine m j us qs) → line_rest names (ClauseLine n k ts ps) ≡ line_rest names (ClauseLine m j us qs)
       → ClauseLine n k ts ps ≡ ClauseLine m j us qs
   clause_same n k m j ts us ps qs p q e =
       let tx = flat_map (term_field names) ts ++ flat_map part_field ps in
       let ty = flat_map (term_field names) us ++ flat_map part_field qs in
-      let f : 32 ∷ (decimal n ++ 32 ∷ (decimal k ++ tx)) ≡ 32 ∷ (decimal m ++ 32 ∷ (decimal j ++ ty)) = sym (grouped (decimal n) (decimal k) (flat_map (term_field names) ts) (flat_map part_field ps)) ∙ (e ∙ grouped (decimal m) (decimal j) (flat_map (term_field names) us) (flat_map part_field qs)) in
-      let g = number_same n m (32 ∷ (decimal k ++ tx)) (32 ∷ (decimal j ++ ty)) p.0 q.0 (at_byte 32 (decimal k ++ tx) refl refl) (at_byte 32 (decimal j ++ ty) refl refl) (let x : decimal n ++ 32 ∷ (decimal k ++ tx) ≡ decimal m ++ 32 ∷ (decimal j ++ ty) = cc in x) in
+      let f : 32 ∷ (decimal n ++ 32 ∷ (decimal k ++ tx)) ≡ 32 ∷ (decimal m ++ 32 ∷ (decimal j ++ ty)) =
+      sym (grouped (decimal n) (decimal k) (flat_map (term_field names) ts) (flat_map part_field ps))
+      ∙ (e ∙ grouped (decimal m) (decimal j) (flat_map (term_field names) us) (flat_map part_field qs)) in
+      let g = number_same n m (32 ∷ (decimal k ++ tx)) (32 ∷ (decimal j ++ ty)) p.0 q.0 (at_byte 32 (decimal k ++ tx) refl refl)
+      (at_byte 32 (decimal j ++ ty) refl refl) (let x : decimal n ++ 32 ∷ (decimal k ++ tx) ≡ decimal m ++ 32 ∷ (decimal j ++ ty) = cc in x) in
       let h : 32 ∷ (decimal k ++ tx) ≡ 32 ∷ (decimal j ++ ty) = g.1 in
       let i = number_same k j tx ty p.1.0 q.1.0 (terms_stop ts ps) (terms_stop us qs) (let x : decimal k ++ tx ≡ decimal j ++ ty = cc in x) in
-      let o = one_terms names distinct ts us (flat_map part_field ps) (flat_map part_field qs) p.1.1.0 q.1.1.0 (parts_behind names ps) (parts_behind names qs) i.1 in
+      let o = one_terms names distinct ts us (flat_map part_field ps) (flat_map part_field qs) p.1.1.0 q.1.1.0 (parts_behind names ps) (parts_behind names qs)
+      i.1 in
       let r = parts_same ps qs p.1.1.1 q.1.1.1 o.1 in
       let a : n ≡ m = g.0 in
       let b : k ≡ j = i.0 in
@@ -314,7 +333,8 @@ module _ (names : List (List ℕ)) (distinct : IsDistinct bytes_eq names) where
   by_parts OneLine OneLine p q w e = refl
   by_parts EraseLine EraseLine p q w e = refl
   by_parts (TensorLine s t) (TensorLine u v) p q w e =
-      let k = set_same s u (field (set_text t)) (field (set_text v)) p.0 q.0 (let f : set_text s ++ field (set_text t) ≡ set_text u ++ field (set_text v) = cc in f) in
+      let k = set_same s u (field (set_text t)) (field (set_text v)) p.0 q.0 (let f : set_text s ++ field (set_text t) ≡ set_text u ++ field (set_text v) =
+      cc in f) in
       let g : 32 ∷ set_text t ≡ 32 ∷ set_text v = k.1 in
       let a : s ≡ u = k.0 in
       let b : t ≡ v = last_set t v p.1 q.1 (let h : set_text t ≡ set_text v = cc in h) in
@@ -335,5 +355,6 @@ module _ (names : List (List ℕ)) (distinct : IsDistinct bytes_eq names) where
   -- a line is told by its text
   pub one_line : (l m : Line) → IsSpelledLine names l → IsSpelledLine names m → node_text names l ≡ node_text names m → l ≡ m
   one_line l m p q e =
-      let k = one_cut (is_not 32) (line_word l) (line_word m) (line_rest names l) (line_rest names m) (word_free l).0 (word_free m).0 (rest_stops names l) (rest_stops names m) (sym (line_is names l) ∙ (e ∙ line_is names m)) in
+      let k = one_cut (is_not 32) (line_word l) (line_word m) (line_rest names l) (line_rest names m) (word_free l).0 (word_free m).0 (rest_stops names l)
+      (rest_stops names m) (sym (line_is names l) ∙ (e ∙ line_is names m)) in
       by_parts l m p q (one_kind l m k.0) k.1

@@ -1,5 +1,6 @@
 -- Over any names the same lines have the same table.
-use Rattle.std.proofs.Common.{◌≡◌, ℕ, zero, suc, ◌<◌, ◌^◌, Bool, true, false, ◌||◌, List, [], ◌∷◌, ◌++◌, length, All, fold, refl, ap, sym, subst, ◌∙◌, arith, codes, append_assoc, append-nil, length-append, decimal, Option, Some, None, inl, inr, IsTrue, true≢false, ℤ}
+use Rattle.std.proofs.Common.{◌≡◌, ℕ, zero, suc, ◌<◌, ◌^◌, Bool, true, false, ◌||◌, List, [], ◌∷◌, ◌++◌, length, All, fold, refl, ap, sym, subst, ◌∙◌, arith}
+use Rattle.std.proofs.Common.{codes, append_assoc, append-nil, length-append, decimal, Option, Some, None, inl, inr, IsTrue, true≢false, ℤ}
 use Rattle.std.specs.Prelude.{◌⊎◌, if◌then◌else◌}
 use Rattle.std.specs.List.{IsDistinct, list_all, flat_map, slice_get}
 use Rattle.std.specs.Str.{bytes_eq}
@@ -14,7 +15,8 @@ use Rattle.ll_bank.specs.Term.{Term, Var, Int, Con, Ap, apply, app}
 use Rattle.ll_laws.specs.Fault.{term_eq}
 use Rattle.ll_laws.specs.Output.{head_text, has_arguments, is_cons_head, term_text}
 use Rattle.ll_laws.specs.ProofText.{field, set_text, part_field}
-use Rattle.ll_laws.specs.Line.{Line, OneLine, EraseLine, TensorLine, WithLine, LeftLine, RightLine, BangLine, UseLine, LolliLine, ImpLine, ForallLine, ExistsLine, ClauseLine, NumLine, DerivationLines, PartLine, Labels, Free}
+use Rattle.ll_laws.specs.Line.{Line, OneLine, EraseLine, TensorLine, WithLine, LeftLine, RightLine, BangLine, UseLine, LolliLine, ImpLine, ForallLine}
+use Rattle.ll_laws.specs.Line.{ExistsLine, ClauseLine, NumLine, DerivationLines, PartLine, Labels, Free}
 use Rattle.ll_laws.proofs.CallerLemmas.{term_eq-true, term_eq-refl}
 use Rattle.ll_prooftext.specs.Admitted.{IsPlainHead, IsSpelledTerm, IsSpelledLine}
 use Rattle.ll_prooftext.specs.Reading.{IsField, Cell, IsAtEnd, line_end, space}
@@ -22,7 +24,8 @@ use Rattle.ll_prooftext.specs.Fields.{HasNoTerm, brace, mark}
 use Rattle.ll_prooftext.specs.Terms.{Bare, IsWord}
 use Rattle.ll_prooftext.specs.Words.{at_byte, is_not}
 use Rattle.ll_prooftext.specs.Table.{completed, completed_arguments, is_among, with_row, table, line_terms, field_terms}
-use Rattle.ll_prooftext.specs.Sharing.{Stands, itself, by_row, AreCells, no_cells, next_cell, IsShare, AreShares, no_shares, next_share, IsLet, IsClauseStep, IsStep, AreEach}
+use Rattle.ll_prooftext.specs.Sharing.{Stands, itself, by_row, AreCells, no_cells, next_cell, IsShare, AreShares, no_shares, next_share, IsLet, IsClauseStep}
+use Rattle.ll_prooftext.specs.Sharing.{IsStep, AreEach}
 use Rattle.ll_prooftext.proofs.reading.CellsRead.{row_word, word_free, cell_free}
 use Rattle.ll_prooftext.proofs.spelling.Cuts.{one_cut}
 use Rattle.ll_prooftext.proofs.spelling.Extended.{plain_apart}
@@ -104,10 +107,12 @@ module _ (ms : List (List ℕ)) (distinct : IsDistinct bytes_eq ms) where
 
 all_parts : (ns : List (List ℕ)) (xs : List Term) (x : Term) → All (IsSpelledTerm ns) (xs ++ x ∷ []) → All (IsSpelledTerm ns) xs × IsSpelledTerm ns x
 all_parts ns [] x h = (All-nil (IsSpelledTerm ns), All-head (IsSpelledTerm ns) x [] h)
-all_parts ns (y ∷ ys) x h = let k = all_parts ns ys x (All-tail (IsSpelledTerm ns) y (ys ++ x ∷ []) h) in (All-cons (IsSpelledTerm ns) y ys (All-head (IsSpelledTerm ns) y (ys ++ x ∷ []) h) k.0, k.1)
+all_parts ns (y ∷ ys) x h = let k = all_parts ns ys x (All-tail (IsSpelledTerm ns) y (ys ++ x ∷ []) h) in
+    (All-cons (IsSpelledTerm ns) y ys (All-head (IsSpelledTerm ns) y (ys ++ x ∷ []) h) k.0, k.1)
 
 -- the first word of a node's line, and what stands behind it
-step_front : (names : List (List ℕ)) (rows : List Term) (x : Line) (l : List ℕ) → IsStep names rows x l → (rest : List ℕ) × ((l ≡ line_word x ++ rest) × IsAtEnd rest)
+step_front : (names : List (List ℕ)) (rows : List Term) (x : Line) (l : List ℕ) → IsStep names rows x l
+    → (rest : List ℕ) × ((l ≡ line_word x ++ rest) × IsAtEnd rest)
 step_front names rows (ExistsLine t) l i = (field i.text, (i.is, space))
 step_front names rows (ClauseLine n k ts ps) l i = (field (decimal n) ++ (field (decimal k) ++ (i.cells ++ flat_map part_field ps)), (i.is, space))
 step_front names rows (TensorLine s t) l i = (field (set_text s) ++ field (set_text t), (i, space))
@@ -141,13 +146,15 @@ module _ (names ms : List (List ℕ)) (one : IsDistinct bytes_eq names) (two : I
 
   among_alike : (rows others : List Term) (t x : Term) → AlikeAll names ms rows others → Alike names ms t x → is_among rows t ≡ is_among others x
   among_alike rows others t x no_terms a = refl
-  among_alike rows others t x (next_term {t = r} {u = s} {ts = rs} {us = ss} b c) a = ap (λ v. v || is_among rs t) (eq_alike t r x s a b) ∙ ap (λ v. term_eq x s || v) (among_alike rs ss t x c a)
+  among_alike rows others t x (next_term {t = r} {u = s} {ts = rs} {us = ss} b c) a =
+      ap (λ v. v || is_among rs t) (eq_alike t r x s a b) ∙ ap (λ v. term_eq x s || v) (among_alike rs ss t x c a)
 
   pub push_alike : (ts us vs ws : List Term) → AlikeAll names ms ts us → AlikeAll names ms vs ws → AlikeAll names ms (ts ++ vs) (us ++ ws)
   push_alike ts us vs ws no_terms b = b
   push_alike ts us vs ws (next_term {t = t} {u = u} {ts = rs} {us = ss} a c) b = next_term a (push_alike rs ss vs ws c b)
 
-  row_alike : (rows others : List Term) (t x : Term) → AlikeAll names ms rows others → Alike names ms t x → AlikeAll names ms (with_row rows t) (with_row others x)
+  row_alike : (rows others : List Term) (t x : Term) → AlikeAll names ms rows others → Alike names ms t x
+      → AlikeAll names ms (with_row rows t) (with_row others x)
   row_alike rows others t x a b = by (is_among rows t) (is_among others x) (among_alike rows others t x a b)
     where
       by : (v w : Bool) → v ≡ w → AlikeAll names ms (if v then rows else rows ++ t ∷ []) (if w then others else others ++ x ∷ [])
@@ -156,9 +163,11 @@ module _ (names ms : List (List ℕ)) (one : IsDistinct bytes_eq names) (two : I
       by true false e = absurd (true≢false e)
       by false true e = absurd (true≢false (sym e))
 
-  rows_alike : (ts us rows others : List Term) → AlikeAll names ms ts us → AlikeAll names ms rows others → AlikeAll names ms (fold with_row rows ts) (fold with_row others us)
+  rows_alike : (ts us rows others : List Term) → AlikeAll names ms ts us → AlikeAll names ms rows others
+      → AlikeAll names ms (fold with_row rows ts) (fold with_row others us)
   rows_alike ts us rows others no_terms b = b
-  rows_alike ts us rows others (next_term {t = t} {u = u} {ts = rs} {us = ss} a c) b = rows_alike rs ss (with_row rows t) (with_row others u) c (row_alike rows others t u b a)
+  rows_alike ts us rows others (next_term {t = t} {u = u} {ts = rs} {us = ss} a c) b =
+      rows_alike rs ss (with_row rows t) (with_row others u) c (row_alike rows others t u b a)
 
   mutual
     completed_alike : (t u : Term) → Alike names ms t u → AlikeAll names ms (completed t) (completed u)
@@ -167,21 +176,25 @@ module _ (names ms : List (List ℕ)) (one : IsDistinct bytes_eq names) (two : I
     completed_alike t u (same_con h) = no_terms
     completed_alike t u (same_ap {f = f} {g = g} {a = a} {b = b} p q) =
         push_alike (completed_arguments f ++ completed a) (completed_arguments g ++ completed b) (Ap f a ∷ []) (Ap g b ∷ [])
-        (push_alike (completed_arguments f) (completed_arguments g) (completed a) (completed b) (arguments_alike f g p) (completed_alike a b q)) (next_term (same_ap p q) no_terms)
+        (push_alike (completed_arguments f) (completed_arguments g) (completed a) (completed b) (arguments_alike f g p) (completed_alike a b q))
+        (next_term (same_ap p q) no_terms)
 
     arguments_alike : (t u : Term) → Alike names ms t u → AlikeAll names ms (completed_arguments t) (completed_arguments u)
     arguments_alike t u same_var = no_terms
     arguments_alike t u same_int = no_terms
     arguments_alike t u (same_con h) = no_terms
-    arguments_alike t u (same_ap {f = f} {g = g} {a = a} {b = b} p q) = push_alike (completed_arguments f) (completed_arguments g) (completed a) (completed b) (arguments_alike f g p) (completed_alike a b q)
+    arguments_alike t u (same_ap {f = f} {g = g} {a = a} {b = b} p q) =
+        push_alike (completed_arguments f) (completed_arguments g) (completed a) (completed b) (arguments_alike f g p) (completed_alike a b q)
 
   all_completed : (ts us : List Term) → AlikeAll names ms ts us → AlikeAll names ms (flat_map completed ts) (flat_map completed us)
   all_completed ts us no_terms = no_terms
-  all_completed ts us (next_term {t = t} {u = u} {ts = rs} {us = ss} a b) = push_alike (completed t) (completed u) (flat_map completed rs) (flat_map completed ss) (completed_alike t u a) (all_completed rs ss b)
+  all_completed ts us (next_term {t = t} {u = u} {ts = rs} {us = ss} a b) =
+      push_alike (completed t) (completed u) (flat_map completed rs) (flat_map completed ss) (completed_alike t u a) (all_completed rs ss b)
 
   pub table_alike : (d e : DerivationLines) → AlikeAll names ms (field_terms d) (field_terms e) → AlikeAll names ms (table d) (table e)
   unfolding table
-  table_alike d e a = rows_alike (flat_map completed (field_terms d)) (flat_map completed (field_terms e)) [] [] (all_completed (field_terms d) (field_terms e) a) no_terms
+  table_alike d e a = rows_alike (flat_map completed (field_terms d)) (flat_map completed (field_terms e)) [] []
+      (all_completed (field_terms d) (field_terms e) a) no_terms
 
   -- ---- the same place in lists that are alike
 
@@ -190,13 +203,15 @@ module _ (names ms : List (List ℕ)) (one : IsDistinct bytes_eq names) (two : I
   none_alike ts us zero (next_term a b) e = absurd cc
   none_alike ts us (suc k) (next_term {ts = rs} {us = ss} a b) e = none_alike rs ss k b e
 
-  some_alike : (ts us : List Term) (k : ℕ) (t : Term) → AlikeAll names ms ts us → slice_get ts k ≡ Some t → (u : Term) × ((slice_get us k ≡ Some u) × Alike names ms t u)
+  some_alike : (ts us : List Term) (k : ℕ) (t : Term) → AlikeAll names ms ts us → slice_get ts k ≡ Some t
+      → (u : Term) × ((slice_get us k ≡ Some u) × Alike names ms t u)
   some_alike ts us k t no_terms e = absurd cc
   some_alike ts us zero t (next_term {t = r} {u = s} a b) e = (s, (refl, subst (λ z. Alike names ms z s) (let q : r ≡ t = cc in q) a))
   some_alike ts us (suc k) t (next_term {ts = rs} {us = ss} a b) e = some_alike rs ss k t b e
 
   -- what two lists have in common they have in common
-  pub common_alike : (rows others tops others2 : List Term) (k : ℕ) → AlikeAll names ms rows others → AlikeAll names ms tops others2 → slice_get rows k ≡ slice_get tops k → slice_get others k ≡ slice_get others2 k
+  pub common_alike : (rows others tops others2 : List Term) (k : ℕ) → AlikeAll names ms rows others → AlikeAll names ms tops others2
+      → slice_get rows k ≡ slice_get tops k → slice_get others k ≡ slice_get others2 k
   common_alike rows others tops others2 k a b e = by (slice_get rows k) refl
     where
       by : (r : Option Term) → slice_get rows k ≡ r → slice_get others k ≡ slice_get others2 k
@@ -208,11 +223,15 @@ module _ (names ms : List (List ℕ)) (one : IsDistinct bytes_eq names) (two : I
 
   -- ---- lines
 
-  leaf_shape : (t u : Term) → has_arguments t ≡ false → has_arguments u ≡ false → IsSpelledTerm names t → IsSpelledTerm ms u → term_text names t ≡ term_text ms u → bare_shape t ≡ bare_shape u
-  leaf_shape t u a b p q e = one_shape (term_text names t) (bare_shape t) (bare_shape u) (bare_word names t a p) (subst (λ w. IsWord w (bare_shape u)) (sym e) (bare_word ms u b q))
+  leaf_shape : (t u : Term) → has_arguments t ≡ false → has_arguments u ≡ false → IsSpelledTerm names t → IsSpelledTerm ms u
+      → term_text names t ≡ term_text ms u → bare_shape t ≡ bare_shape u
+  leaf_shape t u a b p q e = one_shape (term_text names t) (bare_shape t) (bare_shape u) (bare_word names t a p)
+      (subst (λ w. IsWord w (bare_shape u)) (sym e) (bare_word ms u b q))
 
-  leaf_alike : (t u : Term) → has_arguments t ≡ false → has_arguments u ≡ false → IsSpelledTerm names t → IsSpelledTerm ms u → term_text names t ≡ term_text ms u → Alike names ms t u
-  leaf_alike (Var m) (Var n) a b p q e = subst (λ z. Alike names ms (Var m) (Var z)) (decimal_injective m n p q (let t : decimal m ≡ decimal n = cc in t)) same_var
+  leaf_alike : (t u : Term) → has_arguments t ≡ false → has_arguments u ≡ false → IsSpelledTerm names t → IsSpelledTerm ms u
+      → term_text names t ≡ term_text ms u → Alike names ms t u
+  leaf_alike (Var m) (Var n) a b p q e = subst (λ z. Alike names ms (Var m) (Var z)) (decimal_injective m n p q (let t : decimal m ≡ decimal n = cc in t))
+      same_var
   leaf_alike (Int y) (Int z) a b p q e = subst (λ x. Alike names ms (Int y) (Int x)) (signed_decimal_injective y z (mag_small y p) (mag_small z q) e) same_int
   leaf_alike (Con h) (Con k) a b p q e = same_con (record { text = e; left = inl p; right = inl q })
   leaf_alike (Var m) (Int z) a b p q e = absurd (no_question names one m z q e)
@@ -228,10 +247,12 @@ module _ (names ms : List (List ℕ)) (one : IsDistinct bytes_eq names) (two : I
   lengths_alike rows others no_terms = refl
   lengths_alike rows others (next_term {ts = rs} {us = ss} a b) = ap suc (lengths_alike rs ss b)
 
-  bare_not_row : (t : Term) (w : List ℕ) (k : ℕ) (ns : List (List ℕ)) → IsSpelledTerm ns t → has_arguments t ≡ false → w ≡ term_text ns t → w ≡ codes "@" ++ decimal k → ⊥
+  bare_not_row : (t : Term) (w : List ℕ) (k : ℕ) (ns : List (List ℕ)) → IsSpelledTerm ns t → has_arguments t ≡ false → w ≡ term_text ns t
+      → w ≡ codes "@" ++ decimal k → ⊥
   bare_not_row t w k ns s b e f = row_word w (decimal k) f (bare_shape t) (subst (λ z. IsWord z (bare_shape t)) (sym e) (bare_word ns t b s))
 
-  stands_alike : (rows others : List Term) (t u : Term) (w : List ℕ) → AlikeAll names ms rows others → length rows < 2 ^ 64 → IsSpelledTerm names t → IsSpelledTerm ms u → Stands names rows t w → Stands ms others u w → Alike names ms t u
+  stands_alike : (rows others : List Term) (t u : Term) (w : List ℕ) → AlikeAll names ms rows others → length rows < 2 ^ 64 → IsSpelledTerm names t
+      → IsSpelledTerm ms u → Stands names rows t w → Stands ms others u w → Alike names ms t u
   stands_alike rows others t u w r l s v (itself b e) (itself c f) = leaf_alike t u b c s v (sym e ∙ f)
   stands_alike rows others t u w r l s v (itself b e) (by_row j h f) = absurd (bare_not_row t w j names s b e f)
   stands_alike rows others t u w r l s v (by_row k g e) (itself c f) = absurd (bare_not_row u w k ms v c f e)
@@ -255,20 +276,28 @@ module _ (names ms : List (List ℕ)) (one : IsDistinct bytes_eq names) (two : I
   tail_not n a w rest h i e = no_cell_begins n w rest (w ++ rest) (subst HasNoTerm e h) i refl
 
   -- cells in front of a tail that has none: their terms, and the tail
-  cells_alike : (rows others ts us : List Term) (x y a b : List ℕ) → AlikeAll names ms rows others → length rows < 2 ^ 64 → All (IsSpelledTerm names) ts → All (IsSpelledTerm ms) us → AreCells names rows ts x → AreCells ms others us y → HasNoTerm a → HasNoTerm b → x ++ a ≡ y ++ b
+  cells_alike : (rows others ts us : List Term) (x y a b : List ℕ) → AlikeAll names ms rows others → length rows < 2 ^ 64 → All (IsSpelledTerm names) ts
+      → All (IsSpelledTerm ms) us → AreCells names rows ts x → AreCells ms others us y → HasNoTerm a → HasNoTerm b → x ++ a ≡ y ++ b
       → AlikeAll names ms ts us × (a ≡ b)
   cells_alike rows others ts us x y a b r l s v no_cells no_cells h g e = (no_terms, e)
   cells_alike rows others ts us x y a b r l s v no_cells (next_cell {t = u} {ts = vs} {text = w} {rest = rest} c cs) h g e =
-      absurd (tail_not (length others) a w (rest ++ b) h (cell_good ms others u w (All-head (IsSpelledTerm ms) u vs v) c) (e ∙ ap (λ z. 32 ∷ z) (append_assoc w rest b)))
+      absurd (tail_not (length others) a w (rest ++ b) h (cell_good ms others u w (All-head (IsSpelledTerm ms) u vs v) c)
+      (e ∙ ap (λ z. 32 ∷ z) (append_assoc w rest b)))
   cells_alike rows others ts us x y a b r l s v (next_cell {t = t} {ts = rs} {text = w} {rest = rest} c cs) no_cells h g e =
-      absurd (tail_not (length rows) b w (rest ++ a) g (cell_good names rows t w (All-head (IsSpelledTerm names) t rs s) c) (sym e ∙ ap (λ z. 32 ∷ z) (append_assoc w rest a)))
-  cells_alike rows others ts us x y a b r l s v (next_cell {t = t} {ts = rs} {text = w} {rest = rest} c cs) (next_cell {t = u} {ts = vs} {text = z} {rest = behind} d ds) h g e =
+      absurd (tail_not (length rows) b w (rest ++ a) g (cell_good names rows t w (All-head (IsSpelledTerm names) t rs s) c)
+      (sym e ∙ ap (λ z. 32 ∷ z) (append_assoc w rest a)))
+  cells_alike rows others ts us x y a b r l s v (next_cell {t = t} {ts = rs} {text = w} {rest = rest} c cs)
+      (next_cell {t = u} {ts = vs} {text = z} {rest = behind} d ds) h g e =
       let m = lengths_alike rows others r in
       let st = All-head (IsSpelledTerm names) t rs s in
       let su = All-head (IsSpelledTerm ms) u vs v in
-      let f : 32 ∷ (w ++ (rest ++ a)) ≡ 32 ∷ (z ++ (behind ++ b)) = ap (λ k. 32 ∷ k) (sym (append_assoc w rest a)) ∙ (e ∙ ap (λ k. 32 ∷ k) (append_assoc z behind b)) in
-      let k = one_cut (is_not 32) w z (rest ++ a) (behind ++ b) (cell_free (length rows) w l (cell_good names rows t w st c)) (cell_free (length others) z (omega arith) (cell_good ms others u z su d))
-      (end_stops (is_not 32) (rest ++ a) refl (cells_end names rows rs rest a cs (tail_end a h))) (end_stops (is_not 32) (behind ++ b) refl (cells_end ms others vs behind b ds (tail_end b g))) (let q : w ++ (rest ++ a) ≡ z ++ (behind ++ b) = cc in q) in
+      let f : 32 ∷ (w ++ (rest ++ a)) ≡ 32 ∷ (z ++ (behind ++ b)) =
+      ap (λ k. 32 ∷ k) (sym (append_assoc w rest a)) ∙ (e ∙ ap (λ k. 32 ∷ k) (append_assoc z behind b)) in
+      let k = one_cut (is_not 32) w z (rest ++ a) (behind ++ b) (cell_free (length rows) w l (cell_good names rows t w st c))
+      (cell_free (length others) z (omega arith) (cell_good ms others u z su d))
+      (end_stops (is_not 32) (rest ++ a) refl (cells_end names rows rs rest a cs (tail_end a h)))
+      (end_stops (is_not 32) (behind ++ b) refl (cells_end ms others vs behind b ds (tail_end b g))) (let q : w ++ (rest ++ a) ≡ z ++ (behind ++ b) = cc in
+      q) in
       let i = cells_alike rows others rs vs rest behind a b r l (All-tail (IsSpelledTerm names) t rs s) (All-tail (IsSpelledTerm ms) u vs v) cs ds h g k.1 in
       (next_term (stands_alike rows others t u z r l st su (subst (Stands names rows t) k.0 c) d) i.0, i.1)
 
@@ -284,16 +313,21 @@ module _ (names ms : List (List ℕ)) (one : IsDistinct bytes_eq names) (two : I
   fits_held ns h n (inl p) = inl p
   fits_held ns h n (inr c) = inr c.0
 
-  share_alike : (before tops : List Term) (t u : Term) (line : List ℕ) → AlikeAll names ms before tops → length before < 2 ^ 64 → IsSpelledTerm names t → IsSpelledTerm ms u → IsShare names before t line → IsShare ms tops u line → Alike names ms t u
+  share_alike : (before tops : List Term) (t u : Term) (line : List ℕ) → AlikeAll names ms before tops → length before < 2 ^ 64 → IsSpelledTerm names t
+      → IsSpelledTerm ms u → IsShare names before t line → IsShare ms tops u line → Alike names ms t u
   share_alike before tops t u line r l s v i j =
       let e : codes "share" ++ (32 ∷ head_text names i.head ++ i.cells) ≡ codes "share" ++ (32 ∷ head_text ms j.head ++ j.cells) = sym i.text ∙ j.text in
       let f : head_text names i.head ++ i.cells ≡ head_text ms j.head ++ j.cells = cc in
       let h = fits_held names i.head (length i.others) i.fits in
       let g = fits_held ms j.head (length j.others) j.fits in
       let k = one_cut (is_not 32) (head_text names i.head) (head_text ms j.head) i.cells j.cells (held_free names i.head h) (held_free ms j.head g)
-      (end_stops (is_not 32) i.cells refl (subst IsAtEnd (append-nil i.cells) (cells_end names before (i.first ∷ i.others) i.cells [] i.shown line_end))) (end_stops (is_not 32) j.cells refl (subst IsAtEnd (append-nil j.cells) (cells_end ms tops (j.first ∷ j.others) j.cells [] j.shown line_end))) f in
-      let args = cells_alike before tops (i.first ∷ i.others) (j.first ∷ j.others) i.cells j.cells [] [] r l (app_arguments names i.head (i.first ∷ i.others) (subst (IsSpelledTerm names) i.is s)) (app_arguments ms j.head (j.first ∷ j.others) (subst (IsSpelledTerm ms) j.is v)) i.shown j.shown (inl refl) (inl refl) (ap (λ z. z ++ []) k.1) in
-      subst (λ z. Alike names ms z u) (sym i.is) (subst (Alike names ms (app i.head (i.first ∷ i.others))) (sym j.is) (apply_alike (Con i.head) (Con j.head) (i.first ∷ i.others) (j.first ∷ j.others) (same_con (record { text = k.0; left = h; right = g })) args.0))
+      (end_stops (is_not 32) i.cells refl (subst IsAtEnd (append-nil i.cells) (cells_end names before (i.first ∷ i.others) i.cells [] i.shown line_end)))
+      (end_stops (is_not 32) j.cells refl (subst IsAtEnd (append-nil j.cells) (cells_end ms tops (j.first ∷ j.others) j.cells [] j.shown line_end))) f in
+      let args = cells_alike before tops (i.first ∷ i.others) (j.first ∷ j.others) i.cells j.cells [] [] r l
+      (app_arguments names i.head (i.first ∷ i.others) (subst (IsSpelledTerm names) i.is s))
+      (app_arguments ms j.head (j.first ∷ j.others) (subst (IsSpelledTerm ms) j.is v)) i.shown j.shown (inl refl) (inl refl) (ap (λ z. z ++ []) k.1) in
+      subst (λ z. Alike names ms z u) (sym i.is) (subst (Alike names ms (app i.head (i.first ∷ i.others))) (sym j.is)
+      (apply_alike (Con i.head) (Con j.head) (i.first ∷ i.others) (j.first ∷ j.others) (same_con (record { text = k.0; left = h; right = g })) args.0))
 
   push_same : (xs ys : List (List ℕ)) (x y : List ℕ) → xs ++ x ∷ [] ≡ ys ++ y ∷ [] → (xs ≡ ys) × (x ≡ y)
   push_same [] [] x y e = (refl, cc)
@@ -311,8 +345,10 @@ module _ (names ms : List (List ℕ)) (one : IsDistinct bytes_eq names) (two : I
   pushed_not [] x e = cc
   pushed_not (y ∷ xs) x e = cc
 
-  pub shares_alike : (rows others : List Term) (ls ks : List (List ℕ)) → ls ≡ ks → length rows < 2 ^ 64 → All (IsSpelledTerm names) rows → All (IsSpelledTerm ms) others → AreShares names rows ls → AreShares ms others ks → AlikeAll names ms rows others
-  shares_alike rows others ls ks q l s v (no_shares a b) (no_shares c d) = subst (λ z. AlikeAll names ms z others) (sym a) (subst (AlikeAll names ms []) (sym c) no_terms)
+  pub shares_alike : (rows others : List Term) (ls ks : List (List ℕ)) → ls ≡ ks → length rows < 2 ^ 64 → All (IsSpelledTerm names) rows
+      → All (IsSpelledTerm ms) others → AreShares names rows ls → AreShares ms others ks → AlikeAll names ms rows others
+  shares_alike rows others ls ks q l s v (no_shares a b) (no_shares c d) =
+      subst (λ z. AlikeAll names ms z others) (sym a) (subst (AlikeAll names ms []) (sym c) no_terms)
   shares_alike rows others ls ks q l s v (no_shares a b) (next_share before above t line x i c d) = absurd (pushed_not above line (sym b ∙ (q ∙ d)))
   shares_alike rows others ls ks q l s v (next_share before above t line x i c d) (no_shares a b) = absurd (pushed_not above line (sym b ∙ (sym q ∙ d)))
   shares_alike rows others ls ks q l s v (next_share before above t line x i a b) (next_share tops highs u other y j c d) =
@@ -322,9 +358,12 @@ module _ (names ms : List (List ℕ)) (one : IsDistinct bytes_eq names) (two : I
       let st = all_parts names before t (subst (All (IsSpelledTerm names)) a s) in
       let su = all_parts ms tops u (subst (All (IsSpelledTerm ms)) c v) in
       let r = shares_alike before tops above highs k.0 (omega arith) st.0 su.0 x y in
-      subst (λ z. AlikeAll names ms z others) (sym a) (subst (AlikeAll names ms (before ++ t ∷ [])) (sym c) (push_alike before tops (t ∷ []) (u ∷ []) r (next_term (share_alike before tops t u other r (omega arith) st.1 su.1 (subst (IsShare names before t) k.1 i) j) no_terms)))
+      subst (λ z. AlikeAll names ms z others) (sym a) (subst (AlikeAll names ms (before ++ t ∷ [])) (sym c)
+      (push_alike before tops (t ∷ []) (u ∷ []) r (next_term
+      (share_alike before tops t u other r (omega arith) st.1 su.1 (subst (IsShare names before t) k.1 i) j) no_terms)))
 
-  pub lets_alike : (rows others ts us : List Term) (ls : List (List ℕ)) → AlikeAll names ms rows others → length rows < 2 ^ 64 → All (IsSpelledTerm names) ts → All (IsSpelledTerm ms) us → AreEach (IsLet names rows) ts ls → AreEach (IsLet ms others) us ls → AlikeAll names ms ts us
+  pub lets_alike : (rows others ts us : List Term) (ls : List (List ℕ)) → AlikeAll names ms rows others → length rows < 2 ^ 64 → All (IsSpelledTerm names) ts
+      → All (IsSpelledTerm ms) us → AreEach (IsLet names rows) ts ls → AreEach (IsLet ms others) us ls → AlikeAll names ms ts us
   lets_alike rows others [] [] ls r l s v a b = no_terms
   lets_alike rows others [] (u ∷ us) [] r l s v a b = absurd b
   lets_alike rows others [] (u ∷ us) (k ∷ ls) r l s v a b = absurd a
@@ -334,7 +373,8 @@ module _ (names ms : List (List ℕ)) (one : IsDistinct bytes_eq names) (two : I
   lets_alike rows others (t ∷ ts) (u ∷ us) (k ∷ ls) r l s v a b =
       let e : codes "let" ++ field a.0.text ≡ codes "let" ++ field b.0.text = sym a.0.is ∙ b.0.is in
       let f : a.0.text ≡ b.0.text = cc in
-      next_term (stands_alike rows others t u b.0.text r l (All-head (IsSpelledTerm names) t ts s) (All-head (IsSpelledTerm ms) u us v) (subst (Stands names rows t) f a.0.stands) b.0.stands)
+      next_term (stands_alike rows others t u b.0.text r l (All-head (IsSpelledTerm names) t ts s) (All-head (IsSpelledTerm ms) u us v)
+      (subst (Stands names rows t) f a.0.stands) b.0.stands)
       (lets_alike rows others ts us ls r l (All-tail (IsSpelledTerm names) t ts s) (All-tail (IsSpelledTerm ms) u us v) a.1 b.1)
 
   parts_no_term : (ps : List PartLine) → HasNoTerm (flat_map part_field ps)
@@ -343,21 +383,28 @@ module _ (names ms : List (List ℕ)) (one : IsDistinct bytes_eq names) (two : I
   parts_no_term (Free ∷ ps) = inr (mark _ refl)
 
   -- the numbers of a clause step, its terms, and the text of its premises
-  pub clause_alike : (rows others : List Term) (n m i j : ℕ) (ts us : List Term) (ps qs : List PartLine) (k : List ℕ) → AlikeAll names ms rows others → length rows < 2 ^ 64 → IsSpelledLine names (ClauseLine n m ts ps) → IsSpelledLine ms (ClauseLine i j us qs)
-      → IsClauseStep names rows n m ts (flat_map part_field ps) k → IsClauseStep ms others i j us (flat_map part_field qs) k → (n ≡ i) × (m ≡ j) × AlikeAll names ms ts us × (flat_map part_field ps ≡ flat_map part_field qs)
+  pub clause_alike : (rows others : List Term) (n m i j : ℕ) (ts us : List Term) (ps qs : List PartLine) (k : List ℕ) → AlikeAll names ms rows others
+      → length rows < 2 ^ 64 → IsSpelledLine names (ClauseLine n m ts ps) → IsSpelledLine ms (ClauseLine i j us qs)
+      → IsClauseStep names rows n m ts (flat_map part_field ps) k → IsClauseStep ms others i j us (flat_map part_field qs) k
+      → (n ≡ i) × (m ≡ j) × AlikeAll names ms ts us × (flat_map part_field ps ≡ flat_map part_field qs)
   clause_alike rows others n m i j ts us ps qs k r l s v a b =
       let x = flat_map part_field ps in
       let y = flat_map part_field qs in
-      let e : codes "clause" ++ (32 ∷ decimal n ++ (32 ∷ decimal m ++ (a.cells ++ x))) ≡ codes "clause" ++ (32 ∷ decimal i ++ (32 ∷ decimal j ++ (b.cells ++ y))) = sym a.is ∙ b.is in
+      let e : codes "clause" ++ (32 ∷ decimal n ++ (32 ∷ decimal m ++ (a.cells ++ x))) ≡ codes "clause"
+      ++ (32 ∷ decimal i ++ (32 ∷ decimal j ++ (b.cells ++ y))) = sym a.is ∙ b.is in
       let f : decimal n ++ (32 ∷ decimal m ++ (a.cells ++ x)) ≡ decimal i ++ (32 ∷ decimal j ++ (b.cells ++ y)) = cc in
-      let g = number_same n i (32 ∷ decimal m ++ (a.cells ++ x)) (32 ∷ decimal j ++ (b.cells ++ y)) s.0 v.0 (at_byte 32 _ refl refl) (at_byte 32 _ refl refl) f in
+      let g = number_same n i (32 ∷ decimal m ++ (a.cells ++ x)) (32 ∷ decimal j ++ (b.cells ++ y)) s.0 v.0 (at_byte 32 _ refl refl) (at_byte 32 _ refl refl) f
+      in
       let h : 32 ∷ (decimal m ++ (a.cells ++ x)) ≡ 32 ∷ (decimal j ++ (b.cells ++ y)) = g.1 in
-      let c = number_same m j (a.cells ++ x) (b.cells ++ y) s.1.0 v.1.0 (end_stops (is_not 32) (a.cells ++ x) refl (cells_end names rows ts a.cells x a.shown (tail_end x (parts_no_term ps))))
-      (end_stops (is_not 32) (b.cells ++ y) refl (cells_end ms others us b.cells y b.shown (tail_end y (parts_no_term qs)))) (let z : decimal m ++ (a.cells ++ x) ≡ decimal j ++ (b.cells ++ y) = cc in z) in
+      let c = number_same m j (a.cells ++ x) (b.cells ++ y) s.1.0 v.1.0
+      (end_stops (is_not 32) (a.cells ++ x) refl (cells_end names rows ts a.cells x a.shown (tail_end x (parts_no_term ps))))
+      (end_stops (is_not 32) (b.cells ++ y) refl (cells_end ms others us b.cells y b.shown (tail_end y (parts_no_term qs))))
+      (let z : decimal m ++ (a.cells ++ x) ≡ decimal j ++ (b.cells ++ y) = cc in z) in
       let d = cells_alike rows others ts us a.cells b.cells x y r l s.1.1.0 v.1.1.0 a.shown b.shown (parts_no_term ps) (parts_no_term qs) c.1 in
       (g.0, c.0, d.0, d.1)
 
-  pub by_kind : (rows others : List Term) (x y : Line) (k : List ℕ) → line_kind x ≡ line_kind y → AlikeAll names ms rows others → length rows < 2 ^ 64 → IsSpelledLine names x → IsSpelledLine ms y → IsStep names rows x k → IsStep ms others y k → AlikeAll names ms (line_terms x) (line_terms y)
+  pub by_kind : (rows others : List Term) (x y : Line) (k : List ℕ) → line_kind x ≡ line_kind y → AlikeAll names ms rows others → length rows < 2 ^ 64
+      → IsSpelledLine names x → IsSpelledLine ms y → IsStep names rows x k → IsStep ms others y k → AlikeAll names ms (line_terms x) (line_terms y)
   by_kind rows others (ExistsLine t) (ExistsLine u) k q r l s v a b =
       let e : codes "exists" ++ field a.text ≡ codes "exists" ++ field b.text = sym a.is ∙ b.is in
       let f : a.text ≡ b.text = cc in
@@ -384,7 +431,9 @@ module _ (names ms : List (List ℕ)) (one : IsDistinct bytes_eq names) (two : I
       let g = step_front ms others y k b in
       one_kind x y (one_first (line_word x) (line_word y) f.0 g.0 (line_free x).0 (line_free y).0 f.1.1 g.1.1 (sym f.1.0 ∙ g.1.0))
 
-  pub steps_alike : (rows others : List Term) (xs ys : List Line) (ls : List (List ℕ)) → AlikeAll names ms rows others → length rows < 2 ^ 64 → All (IsSpelledLine names) xs → All (IsSpelledLine ms) ys → AreEach (IsStep names rows) xs ls → AreEach (IsStep ms others) ys ls → AlikeAll names ms (flat_map line_terms xs) (flat_map line_terms ys)
+  pub steps_alike : (rows others : List Term) (xs ys : List Line) (ls : List (List ℕ)) → AlikeAll names ms rows others → length rows < 2 ^ 64
+      → All (IsSpelledLine names) xs → All (IsSpelledLine ms) ys → AreEach (IsStep names rows) xs ls → AreEach (IsStep ms others) ys ls
+      → AlikeAll names ms (flat_map line_terms xs) (flat_map line_terms ys)
   steps_alike rows others [] [] ls r l s v a b = no_terms
   steps_alike rows others [] (y ∷ ys) [] r l s v a b = absurd b
   steps_alike rows others [] (y ∷ ys) (k ∷ ls) r l s v a b = absurd a
@@ -392,5 +441,7 @@ module _ (names ms : List (List ℕ)) (one : IsDistinct bytes_eq names) (two : I
   steps_alike rows others (x ∷ xs) [] (k ∷ ls) r l s v a b = absurd b
   steps_alike rows others (x ∷ xs) (y ∷ ys) [] r l s v a b = absurd a
   steps_alike rows others (x ∷ xs) (y ∷ ys) (k ∷ ls) r l s v a b =
-      push_alike (line_terms x) (line_terms y) (flat_map line_terms xs) (flat_map line_terms ys) (by_kind rows others x y k (step_kind rows others x y k a.0 b.0) r l (All-head (IsSpelledLine names) x xs s) (All-head (IsSpelledLine ms) y ys v) a.0 b.0)
+      push_alike (line_terms x) (line_terms y) (flat_map line_terms xs) (flat_map line_terms ys)
+      (by_kind rows others x y k (step_kind rows others x y k a.0 b.0) r l (All-head (IsSpelledLine names) x xs s) (All-head (IsSpelledLine ms) y ys v) a.0
+      b.0)
       (steps_alike rows others xs ys ls r l (All-tail (IsSpelledLine names) x xs s) (All-tail (IsSpelledLine ms) y ys v) a.1 b.1)

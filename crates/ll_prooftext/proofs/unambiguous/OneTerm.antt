@@ -1,5 +1,6 @@
 -- A term is told by its text.
-use Rattle.std.proofs.Common.{◌≡◌, ℕ, zero, suc, ◌<◌, max, Bool, true, false, List, [], ◌∷◌, ◌++◌, length, All, refl, ap, sym, subst, ◌∙◌, arith, decimal, codes, append_assoc, append-nil, inl, inr, ℤ, FitsSigned}
+use Rattle.std.proofs.Common.{◌≡◌, ℕ, zero, suc, ◌<◌, max, Bool, true, false, List, [], ◌∷◌, ◌++◌, length, All, refl, ap, sym, subst, ◌∙◌, arith, decimal}
+use Rattle.std.proofs.Common.{codes, append_assoc, append-nil, inl, inr, ℤ, FitsSigned}
 use Rattle.std.specs.Fmt.{signed_decimal}
 use Rattle.std.specs.Int.{w64}
 use Rattle.std.specs.List.{list_all, flat_map, IsDistinct}
@@ -25,7 +26,8 @@ use Rattle.ll_prooftext.specs.Terms.{is_part, Shape, Bare, Closed, variable, num
 use Rattle.ll_prooftext.proofs.spelling.Cuts.{one_cut, first}
 use Rattle.ll_prooftext.proofs.spelling.Numerals.{mag_small}
 use Rattle.ll_prooftext.proofs.spelling.Reach.{head_word}
-use Rattle.ll_prooftext.proofs.spelling.Spellings.{name_shaped, shaped_starts, signed_starts, begins_number, one_shape, first_is, name_full, word_full, word_parts}
+use Rattle.ll_prooftext.proofs.spelling.Spellings.{name_shaped, shaped_starts, signed_starts, begins_number, one_shape, first_is, name_full, word_full}
+use Rattle.ll_prooftext.proofs.spelling.Spellings.{word_parts}
 
 -- a term without arguments is a word
 abbrev pub bare_shape : Term → Shape
@@ -71,7 +73,16 @@ record IsChain (names : List (List ℕ)) (t : Term) : Type 0 where
   pub text_is : term_text names t ≡ bracket_if (is_cons names left) (term_text names left) ++ 58 ∷ 58 ∷ term_text names right
 
 bare_flat : (names : List (List ℕ)) (t : Term) → has_arguments t ≡ false → IsSpelledTerm names t → IsFlat names t (term_text names t)
-bare_flat names t e s = record { base = t; args = []; is = refl; bare = e; spelled = s; each = All-nil (Deeper names t); text_is = sym (append-nil (term_text names t)) }
+bare_flat names t e s = record {
+  base = t;
+  args = [];
+  is = refl;
+  bare = e;
+  spelled = s;
+  each = All-nil (Deeper names t);
+  text_is =
+      sym (append-nil (term_text names t));
+}
 
 below_left : (d m k : ℕ) → d < m → d < max m k
 below_left d m k l = let h = le-max_left m k in omega (arith, h)
@@ -79,22 +90,27 @@ below_left d m k l = let h = le-max_left m k in omega (arith, h)
 below_right : (d m : ℕ) → d < max m (suc d)
 below_right d m = let h = le-max_right m (suc d) in omega (arith, h)
 
-flat_more : (names : List (List ℕ)) (f a : Term) (text : List ℕ) → IsFlat names f text → IsSpelledTerm names a → IsFlat names (Ap f a) (text ++ term_field names a)
+flat_more : (names : List (List ℕ)) (f a : Term) (text : List ℕ) → IsFlat names f text → IsSpelledTerm names a
+    → IsFlat names (Ap f a) (text ++ term_field names a)
 flat_more names f a text v s = record {
   base = v.base;
   args = v.args ++ a ∷ [];
   is = ap (λ g. Ap g a) v.is ∙ sym (apply-push v.base v.args a);
   bare = v.bare;
   spelled = v.spelled;
-  each = All-push (Deeper names (Ap f a)) v.args a (All-weaker (Deeper names f) (Deeper names (Ap f a)) (λ x p. (p.0, below_left (term_depth x) (term_depth f) (suc (term_depth a)) p.1)) v.args v.each) (s, below_right (term_depth a) (term_depth f));
-  text_is = ap (λ z. z ++ term_field names a) v.text_is ∙ (append_assoc (term_text names v.base) (flat_map (term_field names) v.args) (term_field names a) ∙ ap (λ z. term_text names v.base ++ z) last);
+  each = All-push (Deeper names (Ap f a)) v.args a (All-weaker (Deeper names f) (Deeper names (Ap f a))
+      (λ x p. (p.0, below_left (term_depth x) (term_depth f) (suc (term_depth a)) p.1)) v.args v.each) (s, below_right (term_depth a) (term_depth f));
+  text_is = ap (λ z. z ++ term_field names a) v.text_is ∙ (append_assoc (term_text names v.base) (flat_map (term_field names) v.args) (term_field names a)
+      ∙ ap (λ z. term_text names v.base ++ z) last);
 }
   where
     last : flat_map (term_field names) v.args ++ term_field names a ≡ flat_map (term_field names) (v.args ++ a ∷ [])
     last = sym (flat_map-append (term_field names) v.args (a ∷ []) ∙ ap (λ z. flat_map (term_field names) v.args ++ z) (append-nil (term_field names a)))
 
-flat_spaced : (names : List (List ℕ)) (f a : Term) (text : List ℕ) → IsFlat names f text → IsSpelledTerm names a → IsFlat names (Ap f a) (text ++ codes " " ++ argument_text a (term_text names a))
-flat_spaced names f a text v s = subst (IsFlat names (Ap f a)) (sym (append_assoc text (codes " ") (argument_text a (term_text names a)))) (flat_more names f a text v s)
+flat_spaced : (names : List (List ℕ)) (f a : Term) (text : List ℕ) → IsFlat names f text → IsSpelledTerm names a
+    → IsFlat names (Ap f a) (text ++ codes " " ++ argument_text a (term_text names a))
+flat_spaced names f a text v s = subst (IsFlat names (Ap f a)) (sym (append_assoc text (codes " ") (argument_text a (term_text names a))))
+    (flat_more names f a text v s)
 
 spine_flat : (names : List (List ℕ)) (f : Term) → IsSpelledSpine names f → IsFlat names f (applied_text names f)
 spine_flat names (Var n) s = absurd s
@@ -166,7 +182,8 @@ module _ (names : List (List ℕ)) (distinct : IsDistinct bytes_eq names) where
 
   no_sharp : (m : ℕ) (rest : List ℕ) → IsPlainHead names (Name m) → name_text names m ≡ 35 ∷ rest → ⊥
   unfolding is_lower
-  no_sharp m rest p e = let x : false ≡ true = first_is is_lower (name_text names m) 35 rest e (shaped_starts (name_text names m) (name_shaped (name_text names m) p.spelled)) in let y : ⊥ = cc in y
+  no_sharp m rest p e = let x : false ≡ true = first_is is_lower (name_text names m) 35 rest e
+      (shaped_starts (name_text names m) (name_shaped (name_text names m) p.spelled)) in let y : ⊥ = cc in y
 
   pub same_plain : (h k : Head) → IsPlainHead names h → IsPlainHead names k → head_text names h ≡ head_text names k → h ≡ k
   same_plain (Name m) (Name n) p q e = ap Name (same_name m n (name_full (name_text names m) p) e)
@@ -189,10 +206,13 @@ module _ (names : List (List ℕ)) (distinct : IsDistinct bytes_eq names) where
   pub no_question : (n : ℕ) (z : ℤ) → FitsSigned w64 z → 63 ∷ decimal n ≡ signed_decimal z → ⊥
   no_question n z f e = let x : false ≡ true = first_is begins_number (signed_decimal z) 63 (decimal n) (sym e) (signed_starts z f) in let y : ⊥ = cc in y
 
-  one_shaped : (t u : Term) → has_arguments t ≡ false → has_arguments u ≡ false → IsSpelledTerm names t → IsSpelledTerm names u → term_text names t ≡ term_text names u → bare_shape t ≡ bare_shape u
-  one_shaped t u a b p q e = one_shape (term_text names t) (bare_shape t) (bare_shape u) (bare_word names t a p) (subst (λ w. IsWord w (bare_shape u)) (sym e) (bare_word names u b q))
+  one_shaped : (t u : Term) → has_arguments t ≡ false → has_arguments u ≡ false → IsSpelledTerm names t → IsSpelledTerm names u
+      → term_text names t ≡ term_text names u → bare_shape t ≡ bare_shape u
+  one_shaped t u a b p q e = one_shape (term_text names t) (bare_shape t) (bare_shape u) (bare_word names t a p)
+      (subst (λ w. IsWord w (bare_shape u)) (sym e) (bare_word names u b q))
 
-  same_bare : (t u : Term) → has_arguments t ≡ false → has_arguments u ≡ false → IsSpelledTerm names t → IsSpelledTerm names u → term_text names t ≡ term_text names u → t ≡ u
+  same_bare : (t u : Term) → has_arguments t ≡ false → has_arguments u ≡ false → IsSpelledTerm names t → IsSpelledTerm names u
+      → term_text names t ≡ term_text names u → t ≡ u
   same_bare (Var m) (Var n) a b p q e = ap Var (decimal_injective m n p q (let t : decimal m ≡ decimal n = cc in t))
   same_bare (Var m) (Int z) a b p q e = absurd (no_question m z q e)
   same_bare (Int z) (Var n) a b p q e = absurd (no_question n z p (sym e))
@@ -210,18 +230,26 @@ module _ (names : List (List ℕ)) (distinct : IsDistinct bytes_eq names) where
   -- an argument is told by its text
   abbrev pub Told : Term → Type 0
   Told t =
-      (u : Term) (bs cs : List ℕ) → IsSpelledTerm names u → Stops is_part bs → Stops is_part cs → argument_text t (term_text names t) ++ bs ≡ argument_text u (term_text names u) ++ cs
+      (u : Term) (bs cs : List ℕ) → IsSpelledTerm names u → Stops is_part bs → Stops is_part cs
+      → argument_text t (term_text names t) ++ bs ≡ argument_text u (term_text names u) ++ cs
       → (t ≡ u) × (bs ≡ cs)
 
-  same_args : (ts us : List Term) (bs cs : List ℕ) → All Told ts → All (IsSpelledTerm names) ts → All (IsSpelledTerm names) us → Behind names bs → Behind names cs
+  same_args : (ts us : List Term) (bs cs : List ℕ) → All Told ts → All (IsSpelledTerm names) ts → All (IsSpelledTerm names) us → Behind names bs
+      → Behind names cs
       → flat_map (term_field names) ts ++ bs ≡ flat_map (term_field names) us ++ cs → (ts ≡ us) × (bs ≡ cs)
   same_args [] [] bs cs told p q x y e = (refl, e)
-  same_args [] (u ∷ us) bs cs told p q x y e = absurd (x.none u (flat_map (term_field names) us ++ cs) (All-head (IsSpelledTerm names) u us q) (e ∙ append_assoc (term_field names u) (flat_map (term_field names) us) cs))
-  same_args (t ∷ ts) [] bs cs told p q x y e = absurd (y.none t (flat_map (term_field names) ts ++ bs) (All-head (IsSpelledTerm names) t ts p) (sym e ∙ append_assoc (term_field names t) (flat_map (term_field names) ts) bs))
+  same_args [] (u ∷ us) bs cs told p q x y e = absurd (x.none u (flat_map (term_field names) us ++ cs) (All-head (IsSpelledTerm names) u us q)
+      (e ∙ append_assoc (term_field names u) (flat_map (term_field names) us) cs))
+  same_args (t ∷ ts) [] bs cs told p q x y e = absurd (y.none t (flat_map (term_field names) ts ++ bs) (All-head (IsSpelledTerm names) t ts p)
+      (sym e ∙ append_assoc (term_field names t) (flat_map (term_field names) ts) bs))
   same_args (t ∷ ts) (u ∷ us) bs cs told p q x y e =
-      let f : term_field names t ++ (flat_map (term_field names) ts ++ bs) ≡ term_field names u ++ (flat_map (term_field names) us ++ cs) = sym (append_assoc (term_field names t) (flat_map (term_field names) ts) bs) ∙ (e ∙ append_assoc (term_field names u) (flat_map (term_field names) us) cs) in
-      let g : argument_text t (term_text names t) ++ (flat_map (term_field names) ts ++ bs) ≡ argument_text u (term_text names u) ++ (flat_map (term_field names) us ++ cs) = cc in
-      let h = All-head Told t ts told u (flat_map (term_field names) ts ++ bs) (flat_map (term_field names) us ++ cs) (All-head (IsSpelledTerm names) u us q) (fields_stop names ts bs x.stops) (fields_stop names us cs y.stops) g in
+      let f : term_field names t ++ (flat_map (term_field names) ts ++ bs) ≡ term_field names u ++ (flat_map (term_field names) us ++ cs) =
+      sym (append_assoc (term_field names t) (flat_map (term_field names) ts) bs)
+      ∙ (e ∙ append_assoc (term_field names u) (flat_map (term_field names) us) cs) in
+      let g : argument_text t (term_text names t) ++ (flat_map (term_field names) ts ++ bs) ≡ argument_text u (term_text names u)
+      ++ (flat_map (term_field names) us ++ cs) = cc in
+      let h = All-head Told t ts told u (flat_map (term_field names) ts ++ bs) (flat_map (term_field names) us ++ cs) (All-head (IsSpelledTerm names) u us q)
+      (fields_stop names ts bs x.stops) (fields_stop names us cs y.stops) g in
       let i = same_args ts us bs cs (All-tail Told t ts told) (All-tail (IsSpelledTerm names) t ts p) (All-tail (IsSpelledTerm names) u us q) x y h.1 in
       (let a : t ≡ u = h.0 in let b : ts ≡ us = i.0 in cc, i.1)
 
@@ -229,27 +257,36 @@ module _ (names : List (List ℕ)) (distinct : IsDistinct bytes_eq names) where
 
   -- terms less deep than this are told by their texts
   record Reads (n : ℕ) : Type 0 where
-    pub flat : (t u : Term) (bs cs : List ℕ) → term_depth t < n → is_cons names t ≡ false → is_cons names u ≡ false → IsSpelledTerm names t → IsSpelledTerm names u → Behind names bs → Behind names cs
+    pub flat : (t u : Term) (bs cs : List ℕ) → term_depth t < n → is_cons names t ≡ false → is_cons names u ≡ false → IsSpelledTerm names t
+        → IsSpelledTerm names u → Behind names bs → Behind names cs
         → term_text names t ++ bs ≡ term_text names u ++ cs → (t ≡ u) × (bs ≡ cs)
-    pub whole : (t u : Term) (bs cs : List ℕ) → term_depth t < n → IsSpelledTerm names t → IsSpelledTerm names u → term_text names t ++ 41 ∷ bs ≡ term_text names u ++ 41 ∷ cs → (t ≡ u) × (bs ≡ cs)
+    pub whole : (t u : Term) (bs cs : List ℕ) → term_depth t < n → IsSpelledTerm names t → IsSpelledTerm names u
+        → term_text names t ++ 41 ∷ bs ≡ term_text names u ++ 41 ∷ cs → (t ≡ u) × (bs ≡ cs)
     pub argument : (t : Term) → term_depth t < n → IsSpelledTerm names t → Told t
 
-  by_word : (t u : Term) (x y : List ℕ) → has_arguments t ≡ false → has_arguments u ≡ false → IsSpelledTerm names t → IsSpelledTerm names u → Stops is_part x → Stops is_part y
+  by_word : (t u : Term) (x y : List ℕ) → has_arguments t ≡ false → has_arguments u ≡ false → IsSpelledTerm names t → IsSpelledTerm names u → Stops is_part x
+      → Stops is_part y
       → term_text names t ++ x ≡ term_text names u ++ y → (t ≡ u) × (x ≡ y)
   by_word t u x y a b p q f g e =
       let v = bare_word names t a p in
       let w = bare_word names u b q in
-      let k = one_cut is_part (term_text names t) (term_text names u) x y (word_parts (term_text names t) (bare_shape t) v) (word_parts (term_text names u) (bare_shape u) w) f g e in
+      let k = one_cut is_part (term_text names t) (term_text names u) x y (word_parts (term_text names t) (bare_shape t) v)
+      (word_parts (term_text names u) (bare_shape u) w) f g e in
       (same_bare t u a b p q k.0, k.1)
 
-  flat_step : (n : ℕ) → Reads n → (t u : Term) (bs cs : List ℕ) → term_depth t < suc n → is_cons names t ≡ false → is_cons names u ≡ false → IsSpelledTerm names t → IsSpelledTerm names u → Behind names bs → Behind names cs
+  flat_step : (n : ℕ) → Reads n → (t u : Term) (bs cs : List ℕ) → term_depth t < suc n → is_cons names t ≡ false → is_cons names u ≡ false
+      → IsSpelledTerm names t → IsSpelledTerm names u → Behind names bs → Behind names cs
       → term_text names t ++ bs ≡ term_text names u ++ cs → (t ≡ u) × (bs ≡ cs)
   flat_step n r t u bs cs l a b p q x y e =
       let v = term_flat names t a p in
       let w = term_flat names u b q in
       let f : term_text names v.base ++ (flat_map (term_field names) v.args ++ bs) ≡ term_text names w.base ++ (flat_map (term_field names) w.args ++ cs) =
-      sym (append_assoc (term_text names v.base) (flat_map (term_field names) v.args) bs) ∙ (ap (λ z. z ++ bs) (sym v.text_is) ∙ (e ∙ (ap (λ z. z ++ cs) w.text_is ∙ append_assoc (term_text names w.base) (flat_map (term_field names) w.args) cs))) in
-      let k = by_word v.base w.base (flat_map (term_field names) v.args ++ bs) (flat_map (term_field names) w.args ++ cs) v.bare w.bare v.spelled w.spelled (fields_stop names v.args bs x.stops) (fields_stop names w.args cs y.stops) f in
+      sym (append_assoc (term_text names v.base) (flat_map (term_field names) v.args) bs)
+      ∙
+      (ap (λ z. z ++ bs) (sym v.text_is) ∙ (e ∙ (ap (λ z. z ++ cs) w.text_is
+      ∙ append_assoc (term_text names w.base) (flat_map (term_field names) w.args) cs))) in
+      let k = by_word v.base w.base (flat_map (term_field names) v.args ++ bs) (flat_map (term_field names) w.args ++ cs) v.bare w.bare v.spelled w.spelled
+      (fields_stop names v.args bs x.stops) (fields_stop names w.args cs y.stops) f in
       let told : All Told v.args = All-weaker (Deeper names t) Told (λ z g. r.argument z (let d = g.1 in omega arith) g.0) v.args v.each in
       let spelled : All (IsSpelledTerm names) v.args = All-weaker (Deeper names t) (IsSpelledTerm names) (λ z g. g.0) v.args v.each in
       let others : All (IsSpelledTerm names) w.args = All-weaker (Deeper names u) (IsSpelledTerm names) (λ z g. g.0) w.args w.each in
@@ -262,8 +299,10 @@ module _ (names : List (List ℕ)) (distinct : IsDistinct bytes_eq names) where
       let v = term_flat names t a p in
       let i = bare_word names v.base v.bare v.spelled in
       let w = term_text names v.base in
-      let f : w ++ (flat_map (term_field names) v.args ++ bs) ≡ 40 ∷ rest = sym (append_assoc w (flat_map (term_field names) v.args) bs) ∙ (ap (λ z. z ++ bs) (sym v.text_is) ∙ e) in
-      let x : false ≡ true = first_part w (flat_map (term_field names) v.args ++ bs) 40 rest (word_parts w (bare_shape v.base) i) (word_full w (bare_shape v.base) i) f in
+      let f : w ++ (flat_map (term_field names) v.args ++ bs) ≡ 40 ∷ rest =
+      sym (append_assoc w (flat_map (term_field names) v.args) bs) ∙ (ap (λ z. z ++ bs) (sym v.text_is) ∙ e) in
+      let x : false ≡ true = first_part w (flat_map (term_field names) v.args ++ bs) 40 rest (word_parts w (bare_shape v.base) i)
+      (word_full w (bare_shape v.base) i) f in
       let y : ⊥ = cc in y
 
   behind_close : (bs : List ℕ) → Behind names (41 ∷ bs)
@@ -279,7 +318,8 @@ module _ (names : List (List ℕ)) (distinct : IsDistinct bytes_eq names) where
   open_left : (x : Term) (rest : List ℕ) → left_text true x ++ rest ≡ 40 ∷ (term_text names x ++ 41 ∷ rest)
   open_left x rest = ap (λ z. 40 ∷ z) (append_assoc (term_text names x) (41 ∷ []) rest)
 
-  left_same : (n : ℕ) → Reads n → (x y : Term) (bs cs : List ℕ) (v w : Bool) → is_cons names x ≡ v → is_cons names y ≡ w → term_depth x < n → IsSpelledTerm names x → IsSpelledTerm names y
+  left_same : (n : ℕ) → Reads n → (x y : Term) (bs cs : List ℕ) (v w : Bool) → is_cons names x ≡ v → is_cons names y ≡ w → term_depth x < n
+      → IsSpelledTerm names x → IsSpelledTerm names y
       → left_text v x ++ 58 ∷ bs ≡ left_text w y ++ 58 ∷ cs → (x ≡ y) × (bs ≡ cs)
   left_same n r x y bs cs true true a b l p q e =
       let f : 40 ∷ (term_text names x ++ 41 ∷ 58 ∷ bs) ≡ 40 ∷ (term_text names y ++ 41 ∷ 58 ∷ cs) = sym (open_left x (58 ∷ bs)) ∙ (e ∙ open_left y (58 ∷ cs)) in
@@ -301,17 +341,20 @@ module _ (names : List (List ℕ)) (distinct : IsDistinct bytes_eq names) where
   not_both x u bs cs true a b q f e = no_bracket u (41 ∷ cs) (term_text names x ++ 41 ∷ 58 ∷ bs) b q (sym e ∙ open_left x (58 ∷ bs))
   not_both x u bs cs false a b q f e = f refl e
 
-  chain_is : (t : Term) (bs : List ℕ) (v : IsChain names t) → term_text names t ++ bs ≡ left_text (is_cons names v.left) v.left ++ 58 ∷ 58 ∷ (term_text names v.right ++ bs)
+  chain_is : (t : Term) (bs : List ℕ) (v : IsChain names t) → term_text names t ++ bs ≡ left_text (is_cons names v.left) v.left ++ 58 ∷ 58
+      ∷ (term_text names v.right ++ bs)
   chain_is t bs v = ap (λ z. z ++ bs) v.text_is ∙ append_assoc (left_text (is_cons names v.left) v.left) (58 ∷ 58 ∷ term_text names v.right) bs
 
-  whole_step : (n : ℕ) → Reads n → (t u : Term) (bs cs : List ℕ) → term_depth t < suc n → IsSpelledTerm names t → IsSpelledTerm names u → term_text names t ++ 41 ∷ bs ≡ term_text names u ++ 41 ∷ cs → (t ≡ u) × (bs ≡ cs)
+  whole_step : (n : ℕ) → Reads n → (t u : Term) (bs cs : List ℕ) → term_depth t < suc n → IsSpelledTerm names t → IsSpelledTerm names u
+      → term_text names t ++ 41 ∷ bs ≡ term_text names u ++ 41 ∷ cs → (t ≡ u) × (bs ≡ cs)
   whole_step n r t u bs cs l p q e = by_test (is_cons names t) (is_cons names u) refl refl
     where
       chains : IsChain names t → IsChain names u → (t ≡ u) × (bs ≡ cs)
       chains v w =
           let f = sym (chain_is t (41 ∷ bs) v) ∙ (e ∙ chain_is u (41 ∷ cs) w) in
           let d = v.left_less in
-          let k = left_same n r v.left w.left (58 ∷ (term_text names v.right ++ 41 ∷ bs)) (58 ∷ (term_text names w.right ++ 41 ∷ cs)) (is_cons names v.left) (is_cons names w.left) refl refl (omega arith) v.left_spelled w.left_spelled f in
+          let k = left_same n r v.left w.left (58 ∷ (term_text names v.right ++ 41 ∷ bs)) (58 ∷ (term_text names w.right ++ 41 ∷ cs)) (is_cons names v.left)
+          (is_cons names w.left) refl refl (omega arith) v.left_spelled w.left_spelled f in
           let g : 58 ∷ (term_text names v.right ++ 41 ∷ bs) ≡ 58 ∷ (term_text names w.right ++ 41 ∷ cs) = k.1 in
           let h : term_text names v.right ++ 41 ∷ bs ≡ term_text names w.right ++ 41 ∷ cs = cc in
           let j = v.right_less in
@@ -330,11 +373,16 @@ module _ (names : List (List ℕ)) (distinct : IsDistinct bytes_eq names) where
           let v = term_chain names t a p in
           let d = v.left_less in
           let rest = 58 ∷ (term_text names v.right ++ 41 ∷ bs) in
-          absurd (not_both v.left u rest cs (is_cons names v.left) refl b q (λ c f. sign_close rest cs (r.flat v.left u (58 ∷ rest) (41 ∷ cs) (omega arith) c b v.left_spelled q (behind_sign rest) (behind_close cs) f).1) (sym (chain_is t (41 ∷ bs) v) ∙ e))
+          absurd (not_both v.left u rest cs (is_cons names v.left) refl b q
+          (λ c f. sign_close rest cs (r.flat v.left u (58 ∷ rest) (41 ∷ cs) (omega arith) c b v.left_spelled q (behind_sign rest) (behind_close cs) f).1)
+          (sym (chain_is t (41 ∷ bs) v) ∙ e))
       by_test false true a b =
           let w = term_chain names u b q in
           let rest = 58 ∷ (term_text names w.right ++ 41 ∷ cs) in
-          absurd (not_both w.left t rest bs (is_cons names w.left) refl a p (λ c f. sign_close rest bs (sym (flat_step n r t w.left (41 ∷ bs) (58 ∷ rest) l a c p w.left_spelled (behind_close bs) (behind_sign rest) (sym f)).1)) (sym (chain_is u (41 ∷ cs) w) ∙ sym e))
+          absurd (not_both w.left t rest bs (is_cons names w.left) refl a p
+          (λ c f.
+          sign_close rest bs (sym (flat_step n r t w.left (41 ∷ bs) (58 ∷ rest) l a c p w.left_spelled (behind_close bs) (behind_sign rest) (sym f)).1))
+          (sym (chain_is u (41 ∷ cs) w) ∙ sym e))
 
   argument_step : (n : ℕ) → Reads n → (t : Term) → term_depth t < suc n → IsSpelledTerm names t → Told t
   argument_step n r t l p u bs cs q f g e = by_test (has_arguments t) (has_arguments u) refl refl e
@@ -343,10 +391,12 @@ module _ (names : List (List ℕ)) (distinct : IsDistinct bytes_eq names) where
       no_word : (x : Term) (rest behind : List ℕ) → has_arguments x ≡ false → IsSpelledTerm names x → term_text names x ++ rest ≡ 40 ∷ behind → ⊥
       no_word x rest behind a s h =
           let i = bare_word names x a s in
-          let z : false ≡ true = first_part (term_text names x) rest 40 behind (word_parts (term_text names x) (bare_shape x) i) (word_full (term_text names x) (bare_shape x) i) h in
+          let z : false ≡ true = first_part (term_text names x) rest 40 behind (word_parts (term_text names x) (bare_shape x) i)
+          (word_full (term_text names x) (bare_shape x) i) h in
           let y : ⊥ = cc in y
 
-      by_test : (v w : Bool) → has_arguments t ≡ v → has_arguments u ≡ w → bracket_if v (term_text names t) ++ bs ≡ bracket_if w (term_text names u) ++ cs → (t ≡ u) × (bs ≡ cs)
+      by_test : (v w : Bool) → has_arguments t ≡ v → has_arguments u ≡ w → bracket_if v (term_text names t) ++ bs ≡ bracket_if w (term_text names u) ++ cs
+          → (t ≡ u) × (bs ≡ cs)
       by_test false false a b e = by_word t u bs cs a b p q f g e
       by_test true false a b e = absurd (no_word u cs (term_text names t ++ 41 ∷ bs) b q (sym e ∙ open_left t bs))
       by_test false true a b e = absurd (no_word t bs (term_text names u ++ 41 ∷ cs) a p (e ∙ open_left u cs))
@@ -355,7 +405,12 @@ module _ (names : List (List ℕ)) (distinct : IsDistinct bytes_eq names) where
           whole_step n r t u bs cs l p q (let i : term_text names t ++ 41 ∷ bs ≡ term_text names u ++ 41 ∷ cs = cc in i)
 
   reads : (n : ℕ) → Reads n
-  reads zero = record { flat = λ t u bs cs l a b p q x y e. absurd (omega arith); whole = λ t u bs cs l p q e. absurd (omega arith); argument = λ t l p. absurd (omega arith) }
+  reads zero = record {
+    flat = λ t u bs cs l a b p q x y e. absurd (omega arith);
+    whole = λ t u bs cs l p q e. absurd (omega arith);
+    argument =
+        λ t l p. absurd (omega arith);
+  }
   reads (suc n) = let r = reads n in record { flat = flat_step n r; whole = whole_step n r; argument = argument_step n r }
 
   -- a term in the form of an argument is told by its text

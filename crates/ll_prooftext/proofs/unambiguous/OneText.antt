@@ -20,7 +20,8 @@ abbrev lines_behind : List (List ℕ) → DerivationLines → List (List ℕ)
 lines_behind names d = map (let_text names) d.asked ++ map (node_text names) d.nodes
 
 lines_is : (names : List (List ℕ)) (text : List ℕ) (d : DerivationLines) → IsTextOf names text d → text_lines text ≡ codes "proof 1" ∷ lines_behind names d
-lines_is names text d t = its_lines names text d t ∙ ap (λ z. codes "proof 1" ∷ (map (let_text names) d.asked ++ z)) (append-nil (map (node_text names) d.nodes))
+lines_is names text d t = its_lines names text d t ∙ ap (λ z. codes "proof 1" ∷ (map (let_text names) d.asked ++ z))
+    (append-nil (map (node_text names) d.nodes))
 
 module _ (names : List (List ℕ)) (distinct : IsDistinct bytes_eq names) where
   same_nodes : (ns ms : List Line) → All (IsSpelledLine names) ns → All (IsSpelledLine names) ms → map (node_text names) ns ≡ map (node_text names) ms → ns ≡ ms
@@ -38,7 +39,8 @@ module _ (names : List (List ℕ)) (distinct : IsDistinct bytes_eq names) where
   apart [] u rest e = cc
   apart (n ∷ ns) u rest e = no_let names n u (let f : node_text names n ≡ let_text names u = cc in f)
 
-  same_body : (ts us : List Term) (ns ms : List Line) → All (IsSpelledTerm names) ts → All (IsSpelledTerm names) us → All (IsSpelledLine names) ns → All (IsSpelledLine names) ms
+  same_body : (ts us : List Term) (ns ms : List Line) → All (IsSpelledTerm names) ts → All (IsSpelledTerm names) us → All (IsSpelledLine names) ns
+      → All (IsSpelledLine names) ms
       → map (let_text names) ts ++ map (node_text names) ns ≡ map (let_text names) us ++ map (node_text names) ms → (ts ≡ us) × (ns ≡ ms)
   same_body [] [] ns ms p q r s e = (refl, same_nodes ns ms r s e)
   same_body [] (u ∷ us) ns ms p q r s e = absurd (apart ns u (map (let_text names) us ++ map (node_text names) ms) e)
@@ -46,7 +48,8 @@ module _ (names : List (List ℕ)) (distinct : IsDistinct bytes_eq names) where
   same_body (t ∷ ts) (u ∷ us) ns ms p q r s e =
       let f : let_text names t ≡ let_text names u = cc in
       let g : map (let_text names) ts ++ map (node_text names) ns ≡ map (let_text names) us ++ map (node_text names) ms = cc in
-      let a = last_term names distinct t u (All-head (IsSpelledTerm names) t ts p) (All-head (IsSpelledTerm names) u us q) (append_cancel_left (codes "let") (term_field names t) (term_field names u) f) in
+      let a = last_term names distinct t u (All-head (IsSpelledTerm names) t ts p) (All-head (IsSpelledTerm names) u us q)
+      (append_cancel_left (codes "let") (term_field names t) (term_field names u) f) in
       let i = same_body ts us ns ms (All-tail (IsSpelledTerm names) t ts p) (All-tail (IsSpelledTerm names) u us q) r s g in
       (let b : ts ≡ us = i.0 in cc, i.1)
 

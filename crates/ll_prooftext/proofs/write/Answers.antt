@@ -15,7 +15,8 @@ use Rattle.ll_prooftext.proofs.write.Goals as goal
 pub returns-in_err-write_version-clause-begun : goal.returns-in_err-write_version-clause-begun
 returns-in_err-write_version-clause-begun c =
     let d = c.args.derivation.now in
-    begins_before (line (codes "proof 1")) (flat_map (let_text c.args.names.now) d.asked ++ flat_map (λ n. line (node_text c.args.names.now n)) d.nodes) (proof_text c.args.names.now d) c.args.out.now.items c.write_version.new.out.items refl
+    begins_before (line (codes "proof 1")) (flat_map (let_text c.args.names.now) d.asked ++ flat_map (λ n. line (node_text c.args.names.now n)) d.nodes)
+    (proof_text c.args.names.now d) c.args.out.now.items c.write_version.new.out.items refl
     c.write_version.ensures.begun
 
 pub returns-in_err-write_asked-clause-begun : goal.returns-in_err-write_asked-clause-begun
@@ -23,7 +24,8 @@ returns-in_err-write_asked-clause-begun c =
     let d = c.args.derivation.now in
     let asked = flat_map (let_text c.args.names.now) d.asked in
     let nodes = flat_map (λ n. line (node_text c.args.names.now n)) d.nodes in
-    both_stopped (line (codes "proof 1")) (asked ++ nodes) (proof_text c.args.names.now d) c.args.out.now.items c.write_version.new.out.items c.write_asked.new.out.items refl c.in_ok-write_version.ensures.text
+    both_stopped (line (codes "proof 1")) (asked ++ nodes) (proof_text c.args.names.now d) c.args.out.now.items c.write_version.new.out.items
+    c.write_asked.new.out.items refl c.in_ok-write_version.ensures.text
     (begins_before asked nodes (asked ++ nodes) c.write_version.new.out.items c.write_asked.new.out.items refl
     (subst (λ (ts : List Term). BeginsText (flat_map (let_text c.args.names.now) ts) c.write_version.new.out.items c.write_asked.new.out.items)
     (ap (term_trees c.derivation.inside.bank) c.deref.ensures.value ∙ ap (λ (l : DerivationLines). l.asked) c.derivation.view_is) c.write_asked.ensures.begun))
@@ -33,19 +35,24 @@ returns-in_err-write_nodes-clause-begun c =
     let d = c.args.derivation.now in
     let asked = flat_map (let_text c.args.names.now) d.asked in
     let nodes = flat_map (λ n. line (node_text c.args.names.now n)) d.nodes in
-    both_stopped (line (codes "proof 1")) (asked ++ nodes) (proof_text c.args.names.now d) c.args.out.now.items c.write_version.new.out.items c.write_nodes.new.out.items refl c.in_ok-write_version.ensures.text
+    both_stopped (line (codes "proof 1")) (asked ++ nodes) (proof_text c.args.names.now d) c.args.out.now.items c.write_version.new.out.items
+    c.write_nodes.new.out.items refl c.in_ok-write_version.ensures.text
     (both_stopped asked nodes (asked ++ nodes) c.write_version.new.out.items c.write_asked.new.out.items c.write_nodes.new.out.items refl
-    (c.in_ok-write_asked.ensures.text ∙ ap (λ (ts : List Term). c.write_version.new.out.items ++ flat_map (let_text c.args.names.now) ts) (ap (term_trees c.derivation.inside.bank) c.deref.ensures.value ∙ ap (λ (l : DerivationLines). l.asked) c.derivation.view_is))
+    (c.in_ok-write_asked.ensures.text ∙ ap (λ (ts : List Term). c.write_version.new.out.items ++ flat_map (let_text c.args.names.now) ts)
+    (ap (term_trees c.derivation.inside.bank) c.deref.ensures.value ∙ ap (λ (l : DerivationLines). l.asked) c.derivation.view_is))
     (subst (λ (ns : List Line). BeginsText (flat_map (λ n. line (node_text c.args.names.now n)) ns) c.write_asked.new.out.items c.write_nodes.new.out.items)
-    (ap (map (line_of c.derivation.inside.bank)) c.deref-2.ensures.value ∙ ap (λ (l : DerivationLines). l.nodes) c.derivation.view_is) c.write_nodes.ensures.begun))
+    (ap (map (line_of c.derivation.inside.bank)) c.deref-2.ensures.value ∙ ap (λ (l : DerivationLines). l.nodes) c.derivation.view_is)
+    c.write_nodes.ensures.begun))
 
 pub returns-clause-begun : goal.returns-clause-begun
 returns-clause-begun c =
     let d = c.args.derivation.now in
     let asked = flat_map (let_text c.args.names.now) d.asked in
     let nodes = flat_map (λ n. line (node_text c.args.names.now n)) d.nodes in
-    both_stopped (line (codes "proof 1")) (asked ++ nodes) (proof_text c.args.names.now d) c.args.out.now.items c.write_version.new.out.items c.write_nodes.new.out.items refl c.in_ok-write_version.ensures.text
+    both_stopped (line (codes "proof 1")) (asked ++ nodes) (proof_text c.args.names.now d) c.args.out.now.items c.write_version.new.out.items
+    c.write_nodes.new.out.items refl c.in_ok-write_version.ensures.text
     (both_whole asked nodes (asked ++ nodes) c.write_version.new.out.items c.write_asked.new.out.items c.write_nodes.new.out.items refl
-    (c.in_ok-write_asked.ensures.text ∙ ap (λ (ts : List Term). c.write_version.new.out.items ++ flat_map (let_text c.args.names.now) ts) (ap (term_trees c.derivation.inside.bank) c.deref.ensures.value ∙ ap (λ (l : DerivationLines). l.asked) c.derivation.view_is))
+    (c.in_ok-write_asked.ensures.text ∙ ap (λ (ts : List Term). c.write_version.new.out.items ++ flat_map (let_text c.args.names.now) ts)
+    (ap (term_trees c.derivation.inside.bank) c.deref.ensures.value ∙ ap (λ (l : DerivationLines). l.asked) c.derivation.view_is))
     (c.in_ok-write_nodes.ensures.text ∙ ap (λ (ns : List Line). c.write_asked.new.out.items ++ flat_map (λ n. line (node_text c.args.names.now n)) ns)
     (ap (map (line_of c.derivation.inside.bank)) c.deref-2.ensures.value ∙ ap (λ (l : DerivationLines). l.nodes) c.derivation.view_is)))

@@ -1,5 +1,6 @@
 -- Lines over a table.
-use Rattle.std.proofs.Common.{◌≡◌, ℕ, ◌<◌, true, false, List, [], ◌∷◌, ◌++◌, length, map, All, refl, ap, sym, ◌∙◌, append_assoc, codes, decimal, Option, Some, None, true≢false}
+use Rattle.std.proofs.Common.{◌≡◌, ℕ, ◌<◌, true, false, List, [], ◌∷◌, ◌++◌, length, map, All, refl, ap, sym, ◌∙◌, append_assoc, codes, decimal, Option, Some}
+use Rattle.std.proofs.Common.{None, true≢false}
 use Rattle.std.specs.Prelude.{unwrap_or}
 use Rattle.std.specs.List.{flat_map}
 use Rattle.std.proofs.lemmas.List.{append-nil, map-append}
@@ -23,15 +24,19 @@ use Rattle.ll_prooftext.specs.Short.{rule_places, has_terms}
 use Rattle.ll_prooftext.proofs.tabling.TableTerms.{none_below}
 
 -- a head and its arguments
-spine_apply : (names : List (List ℕ)) (rows : List Term) (f : Term) (ts : List Term) → spine_text names rows (apply f ts) ≡ spine_text names rows f ++ flat_map (short_field names rows) ts
+spine_apply : (names : List (List ℕ)) (rows : List Term) (f : Term) (ts : List Term)
+    → spine_text names rows (apply f ts) ≡ spine_text names rows f ++ flat_map (short_field names rows) ts
 spine_apply names rows f [] = sym (append-nil (spine_text names rows f))
-spine_apply names rows f (t ∷ ts) = spine_apply names rows (Ap f t) ts ∙ append_assoc (spine_text names rows f) (short_field names rows t) (flat_map (short_field names rows) ts)
+spine_apply names rows f (t ∷ ts) = spine_apply names rows (Ap f t) ts
+    ∙ append_assoc (spine_text names rows f) (short_field names rows t) (flat_map (short_field names rows) ts)
 
-pub spine_app : (names : List (List ℕ)) (rows : List Term) (h : Head) (ts : List Term) → spine_text names rows (app h ts) ≡ head_text names h ++ flat_map (short_field names rows) ts
+pub spine_app : (names : List (List ℕ)) (rows : List Term) (h : Head) (ts : List Term)
+    → spine_text names rows (app h ts) ≡ head_text names h ++ flat_map (short_field names rows) ts
 spine_app names rows h ts = spine_apply names rows (Con h) ts
 
 -- a term with arguments stands by its row, and any other as it is
-pub field_by_row : (names : List (List ℕ)) (rows : List Term) (t : Term) → has_arguments t ≡ true → codes " @" ++ decimal (row_of rows t) ≡ short_field names rows t
+pub field_by_row : (names : List (List ℕ)) (rows : List Term) (t : Term) → has_arguments t ≡ true
+    → codes " @" ++ decimal (row_of rows t) ≡ short_field names rows t
 field_by_row names rows (Ap f a) h = refl
 field_by_row names rows (Var n) h = absurd (true≢false (sym h))
 field_by_row names rows (Int z) h = absurd (true≢false (sym h))
@@ -44,7 +49,8 @@ field_itself names rows (Int z) h = refl
 field_itself names rows (Con k) h = refl
 
 -- the row of a term, or how many there are
-pub row_is : (bank : Nodes) (t : Table) (rows : List Term) → IsTableOf bank t rows → (at : ℕ) → HasNumberAt t at → unwrap_or (row_at t at) (length rows) ≡ row_of rows (term_tree bank at)
+pub row_is : (bank : Nodes) (t : Table) (rows : List Term) → IsTableOf bank t rows → (at : ℕ) → HasNumberAt t at
+    → unwrap_or (row_at t at) (length rows) ≡ row_of rows (term_tree bank at)
 row_is bank t rows h at n = by (row_at t at) (h.numbered at n.inside)
   where
     by : (o : Option ℕ) → IsRowOf rows (term_tree bank at) o → unwrap_or o (length rows) ≡ row_of rows (term_tree bank at)
@@ -52,16 +58,20 @@ row_is bank t rows h at n = by (row_at t at) (h.numbered at n.inside)
     by (Some k) f = sym f.1
 
 -- the line of a row
-pub share_bare : (names : List (List ℕ)) (rows : List Term) (t : Term) (o mid out : List ℕ) → mid ≡ o ++ codes "share " → spine_text names rows t ≡ [] → out ≡ mid ++ 10 ∷ [] → out ≡ o ++ share_line names rows t
+pub share_bare : (names : List (List ℕ)) (rows : List Term) (t : Term) (o mid out : List ℕ) → mid ≡ o ++ codes "share " → spine_text names rows t ≡ []
+    → out ≡ mid ++ 10 ∷ [] → out ≡ o ++ share_line names rows t
 share_bare names rows t o mid out first bare last =
     last ∙ (ap (λ m. m ++ 10 ∷ []) first ∙ (append_assoc o (codes "share ") (10 ∷ []) ∙ ap (λ text. o ++ line (codes "share" ++ field text)) (sym bare)))
 
-pub share_full : (names : List (List ℕ)) (rows : List Term) (h : Head) (ts : List Term) (t : Term) (o begun head full out : List ℕ) → begun ≡ o ++ codes "share " → head ≡ begun ++ head_text names h
+pub share_full : (names : List (List ℕ)) (rows : List Term) (h : Head) (ts : List Term) (t : Term) (o begun head full out : List ℕ)
+    → begun ≡ o ++ codes "share " → head ≡ begun ++ head_text names h
     → full ≡ head ++ flat_map (short_field names rows) ts → t ≡ app h ts → out ≡ full ++ 10 ∷ [] → out ≡ o ++ share_line names rows t
 share_full names rows h ts t o begun head full out first second third is last =
     let spine = head_text names h ++ flat_map (short_field names rows) ts in
     last
-    ∙ (ap (λ m. m ++ 10 ∷ []) (third ∙ (ap (λ m. m ++ flat_map (short_field names rows) ts) second ∙ (append_assoc begun (head_text names h) (flat_map (short_field names rows) ts) ∙ ap (λ m. m ++ spine) first)))
+    ∙
+    (ap (λ m. m ++ 10 ∷ []) (third ∙ (ap (λ m. m ++ flat_map (short_field names rows) ts) second
+    ∙ (append_assoc begun (head_text names h) (flat_map (short_field names rows) ts) ∙ ap (λ m. m ++ spine) first)))
     ∙ (append_assoc (o ++ codes "share ") spine (10 ∷ [])
     ∙ (append_assoc o (codes "share ") (spine ++ 10 ∷ [])
     ∙ ap (λ text. o ++ line (codes "share" ++ field text)) (sym (ap (spine_text names rows) is ∙ spine_app names rows h ts)))))
@@ -101,7 +111,8 @@ places_terms bank (r ∷ rs) =
 -- what holds of all of them holds of each node's
 pub each_node : (P : At → Type 0) (rs : List Rule) → All P (flat_map rule_places rs) → All (λ r. All P (rule_places r)) rs
 each_node P [] h = All-nil (λ r. All P (rule_places r))
-each_node P (r ∷ rs) h = All-cons (λ r. All P (rule_places r)) r rs (All-left P (rule_places r) (flat_map rule_places rs) h) (each_node P rs (All-right P (rule_places r) (flat_map rule_places rs) h))
+each_node P (r ∷ rs) h = All-cons (λ r. All P (rule_places r)) r rs (All-left P (rule_places r) (flat_map rule_places rs) h)
+    (each_node P rs (All-right P (rule_places r) (flat_map rule_places rs) h))
 
 -- the places of nodes in the bank are places in the bank
 inside_node : (bank : Nodes) (r : Rule) → HasLine bank r → AllInTerms bank (rule_places r)
@@ -123,10 +134,12 @@ inside_node bank Num h = All-nil (λ (a : At). a.0 < length bank.terms)
 pub inside_nodes : (bank : Nodes) (rs : List Rule) → HasLines bank rs → AllInTerms bank (flat_map rule_places rs)
 inside_nodes bank [] h = All-nil (λ (a : At). a.0 < length bank.terms)
 inside_nodes bank (r ∷ rs) h =
-    All-append (λ (a : At). a.0 < length bank.terms) (rule_places r) (flat_map rule_places rs) (inside_node bank r (All-head (HasLine bank) r rs h)) (inside_nodes bank rs (All-tail (HasLine bank) r rs h))
+    All-append (λ (a : At). a.0 < length bank.terms) (rule_places r) (flat_map rule_places rs) (inside_node bank r (All-head (HasLine bank) r rs h))
+    (inside_nodes bank rs (All-tail (HasLine bank) r rs h))
 
 -- a node without terms has the same line, however terms are shown
-pub plain_node : (names : List (List ℕ)) (bank : Nodes) (show : Term → List ℕ) (r : Rule) → has_terms r ≡ false → row_text names bank r ≡ line (node_text_by show (line_of bank r))
+pub plain_node : (names : List (List ℕ)) (bank : Nodes) (show : Term → List ℕ) (r : Rule) → has_terms r ≡ false
+    → row_text names bank r ≡ line (node_text_by show (line_of bank r))
 plain_node names bank show One k = refl
 plain_node names bank show Erase k = refl
 plain_node names bank show (Tensor s t) k = refl
@@ -143,12 +156,16 @@ plain_node names bank show (Exists t) k = absurd (true≢false k)
 plain_node names bank show (Clause n l ts ps) k = absurd (true≢false k)
 
 -- the line of a node with fields for terms, piece by piece
-pub exists_written : (show : Term → List ℕ) (t : Term) (o begun shown out : List ℕ) → begun ≡ o ++ codes "exists" → shown ≡ begun ++ show t → out ≡ shown ++ 10 ∷ [] → out ≡ o ++ line (node_text_by show (ExistsLine t))
+pub exists_written : (show : Term → List ℕ) (t : Term) (o begun shown out : List ℕ) → begun ≡ o ++ codes "exists" → shown ≡ begun ++ show t
+    → out ≡ shown ++ 10 ∷ [] → out ≡ o ++ line (node_text_by show (ExistsLine t))
 exists_written show t o begun shown out first second last =
-    last ∙ (ap (λ m. m ++ 10 ∷ []) (second ∙ (ap (λ m. m ++ show t) first ∙ append_assoc o (codes "exists") (show t))) ∙ append_assoc o (codes "exists" ++ show t) (10 ∷ []))
+    last ∙ (ap (λ m. m ++ 10 ∷ []) (second ∙ (ap (λ m. m ++ show t) first ∙ append_assoc o (codes "exists") (show t)))
+    ∙ append_assoc o (codes "exists" ++ show t) (10 ∷ []))
 
-pub clause_written : (show : Term → List ℕ) (n k : ℕ) (ts : List Term) (ps : List PartLine) (o begun label leaf terms parts out : List ℕ) → begun ≡ o ++ codes "clause" → label ≡ begun ++ field (decimal n)
-    → leaf ≡ label ++ field (decimal k) → terms ≡ leaf ++ flat_map show ts → parts ≡ terms ++ flat_map part_field ps → out ≡ parts ++ 10 ∷ [] → out ≡ o ++ line (node_text_by show (ClauseLine n k ts ps))
+pub clause_written : (show : Term → List ℕ) (n k : ℕ) (ts : List Term) (ps : List PartLine) (o begun label leaf terms parts out : List ℕ)
+    → begun ≡ o ++ codes "clause" → label ≡ begun ++ field (decimal n)
+    → leaf ≡ label ++ field (decimal k) → terms ≡ leaf ++ flat_map show ts → parts ≡ terms ++ flat_map part_field ps → out ≡ parts ++ 10 ∷ []
+    → out ≡ o ++ line (node_text_by show (ClauseLine n k ts ps))
 clause_written show n k ts ps o begun label leaf terms parts out e f g h i last =
     let a = codes "clause" in let b = a ++ field (decimal n) in let c = b ++ field (decimal k) in let d = c ++ flat_map show ts in
     let first : label ≡ o ++ b = f ∙ (ap (λ m. m ++ field (decimal n)) e ∙ append_assoc o a (field (decimal n))) in
@@ -160,14 +177,16 @@ clause_written show n k ts ps o begun label leaf terms parts out e f g h i last 
 -- ---- the whole text
 
 -- parts that are written one after the other
-pub four_parts : (a b c d first second third fourth : List ℕ) → first ≡ a → second ≡ first ++ b → third ≡ second ++ c → fourth ≡ third ++ d → fourth ≡ a ++ (b ++ (c ++ d))
+pub four_parts : (a b c d first second third fourth : List ℕ) → first ≡ a → second ≡ first ++ b → third ≡ second ++ c → fourth ≡ third ++ d
+    → fourth ≡ a ++ (b ++ (c ++ d))
 four_parts a b c d first second third fourth e f g h =
     h ∙ (ap (λ m. m ++ d) (g ∙ ap (λ m. m ++ c) (f ∙ ap (λ m. m ++ b) e)) ∙ (append_assoc (a ++ b) c d ∙ append_assoc a b (c ++ d)))
 
 -- the fields of places
 pub fields_of : (bank : Nodes) (asked : List At) (nodes : List Rule)
     → term_trees bank (asked ++ flat_map rule_places nodes) ≡ field_terms (record { asked = term_trees bank asked; nodes = map (line_of bank) nodes })
-fields_of bank asked nodes = map-append (λ (a : At). term_tree bank a.0) asked (flat_map rule_places nodes) ∙ ap (λ ts. term_trees bank asked ++ ts) (places_terms bank nodes)
+fields_of bank asked nodes = map-append (λ (a : At). term_tree bank a.0) asked (flat_map rule_places nodes)
+    ∙ ap (λ ts. term_trees bank asked ++ ts) (places_terms bank nodes)
 
 pub text2_is : (names : List (List ℕ)) (d : DerivationLines) (rows : List Term) → rows ≡ rows_in (flat_map completed (field_terms d))
     → line (codes "proof 2") ++ (flat_map (share_line names rows) rows ++ lines_by (short_field names rows) d) ≡ proof_text2 names d

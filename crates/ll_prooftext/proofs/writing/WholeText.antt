@@ -1,5 +1,6 @@
 -- The lines of a derivation's text are those of the text, and no node lacks in them.
-use Rattle.std.proofs.Common.{◌≡◌, ℕ, suc, ◌+◌, ◌<◌, ◌^◌, Bool, true, false, List, [], ◌∷◌, ◌++◌, length, map, All, refl, ap, sym, ◌∙◌, arith, decimal, codes, append_assoc, append-nil, inl, inr, Option, Some, None, FitsSigned, ℤ, pos, negsuc}
+use Rattle.std.proofs.Common.{◌≡◌, ℕ, suc, ◌+◌, ◌<◌, ◌^◌, Bool, true, false, List, [], ◌∷◌, ◌++◌, length, map, All, refl, ap, sym, ◌∙◌, arith, decimal, codes}
+use Rattle.std.proofs.Common.{append_assoc, append-nil, inl, inr, Option, Some, None, FitsSigned, ℤ, pos, negsuc}
 use Rattle.std.specs.Prelude.{◌⊎◌, ◌==◌, option_and_then}
 use Rattle.std.specs.Fmt.{signed_decimal}
 use Rattle.std.specs.Int.{w64}
@@ -13,14 +14,18 @@ use Rattle.std.proofs.lemmas.List.Folds.{list_all-append}
 use Rattle.ll_lists.proofs.CallerLemmas.{and_true_both as both}
 use Rattle.ll_bank.specs.Term.{Term}
 use Rattle.ll_lexer.specs.Spelling.{is_name, is_lower, is_word_byte}
-use Rattle.ll_laws.specs.Shows.{Tree, OneNode, EraseNode, TensorNode, WithNode, LeftNode, RightNode, BangNode, LolliNode, ImpNode, ForallNode, ExistsNode, UseNode, ClauseNode, NumNode, Parts}
-use Rattle.ll_laws.specs.Line.{PartLine, Labels, Free, Line, OneLine, EraseLine, TensorLine, WithLine, LeftLine, RightLine, BangLine, UseLine, LolliLine, ImpLine, ForallLine, ExistsLine, ClauseLine, NumLine, Cut, Short, Cuts, add_part, cut_parts, put_clause, put, trees_of, DerivationLines}
+use Rattle.ll_laws.specs.Shows.{Tree, OneNode, EraseNode, TensorNode, WithNode, LeftNode, RightNode, BangNode, LolliNode, ImpNode, ForallNode, ExistsNode}
+use Rattle.ll_laws.specs.Shows.{UseNode, ClauseNode, NumNode, Parts}
+use Rattle.ll_laws.specs.Line.{PartLine, Labels, Free, Line, OneLine, EraseLine, TensorLine, WithLine, LeftLine, RightLine, BangLine, UseLine, LolliLine}
+use Rattle.ll_laws.specs.Line.{ImpLine, ForallLine, ExistsLine, ClauseLine, NumLine, Cut, Short, Cuts, add_part, cut_parts, put_clause, put, trees_of}
+use Rattle.ll_laws.specs.Line.{DerivationLines}
 use Rattle.ll_laws.specs.Output.{line as with_end, term_text, argument_text}
 use Rattle.ll_laws.specs.ProofText.{field, labels_text, set_text, term_field, part_field, node_text, proof_text}
 use Rattle.ll_prooftext.specs.Admitted.{AreLabels, IsSpelledTerm, IsSpelledPart, IsSpelledLine}
 use Rattle.ll_prooftext.specs.Reading.{text_lines, children, missing, Begins, IsTextOf}
 use Rattle.ll_prooftext.specs.Words.{is_not}
-use Rattle.ll_prooftext.specs.Terms.{Shape, Wanted, Bare, Applied, Closed, name, eigen, variable, number, IsWord, Frame, frame, FirstWay, first_bracket, first_word, PartWay, bracket, word, sign, whole, argument, item, Goes, Accepts, closed, goes}
+use Rattle.ll_prooftext.specs.Terms.{Shape, Wanted, Bare, Applied, Closed, name, eigen, variable, number, IsWord, Frame, frame, FirstWay, first_bracket}
+use Rattle.ll_prooftext.specs.Terms.{first_word, PartWay, bracket, word, sign, whole, argument, item, Goes, Accepts, closed, goes}
 use Rattle.ll_prooftext.proofs.spelling.Numerals.{mag_small}
 use Rattle.ll_prooftext.proofs.reading.Labels.{decimal_not, labels_avoid}
 use Rattle.ll_prooftext.proofs.spelling.Spellings.{name_shaped}
@@ -39,7 +44,8 @@ record ArePut (c : ℕ) (ts us : List Tree) : Type 0 where
 put_one : (c : ℕ) (y : Tree) (rest ts us : List Tree) → Some (y ∷ rest) ≡ Some us → length ts ≡ c + length rest → ArePut c ts us
 put_one c y rest ts us e f = record { others = length rest; many = ap length (let q : us ≡ y ∷ rest = cc in q); from = f }
 
-cut_back : (ps : List PartLine) (ts : List Tree) (parts : Parts) (others : List Tree) → cut_parts ps ts ≡ Cuts parts others → length ts ≡ length ps + length others
+cut_back : (ps : List PartLine) (ts : List Tree) (parts : Parts) (others : List Tree) → cut_parts ps ts ≡ Cuts parts others
+    → length ts ≡ length ps + length others
 cut_back [] ts parts others e = let q : ts ≡ others = cc in let l = ap length q in omega arith
 cut_back (p ∷ ps) [] parts others e = absurd cc
 cut_back (p ∷ ps) (t ∷ ts) parts others e = by_cut p (cut_parts ps ts) refl e (λ q us f. cut_back ps ts q us f)
@@ -47,7 +53,8 @@ cut_back (p ∷ ps) (t ∷ ts) parts others e = by_cut p (cut_parts ps ts) refl 
     front : (us : List Tree) → length ts ≡ length ps + length us → us ≡ others → length (t ∷ ts) ≡ length (p ∷ ps) + length others
     front us l g = let m = ap length g in omega arith
 
-    by_cut : (r : PartLine) (c : Cut) → cut_parts ps ts ≡ c → add_part r t c ≡ Cuts parts others → ((q : Parts) (us : List Tree) → cut_parts ps ts ≡ Cuts q us → length ts ≡ length ps + length us) → length (t ∷ ts) ≡ length (p ∷ ps) + length others
+    by_cut : (r : PartLine) (c : Cut) → cut_parts ps ts ≡ c → add_part r t c ≡ Cuts parts others
+        → ((q : Parts) (us : List Tree) → cut_parts ps ts ≡ Cuts q us → length ts ≡ length ps + length us) → length (t ∷ ts) ≡ length (p ∷ ps) + length others
     by_cut (Labels s) Short f g ih = absurd cc
     by_cut Free Short f g ih = absurd cc
     by_cut (Labels s) (Cuts q us) f g ih = front us (ih q us f) cc
@@ -90,7 +97,8 @@ pub trees_missing : (ns : List Line) (ts : List Tree) → trees_of ns ≡ Some t
 trees_missing [] ts e = ap (λ z. Some z) (let q : ts ≡ [] = cc in ap length q)
 trees_missing (n ∷ ns) us e = by_trees (trees_of ns) refl e (λ ts f. trees_missing ns ts f)
   where
-    by_trees : (o : Option (List Tree)) → trees_of ns ≡ o → option_and_then (put n) o ≡ Some us → ((ts : List Tree) → trees_of ns ≡ Some ts → missing (length ts) ns ≡ Some 0) → missing (length us) (n ∷ ns) ≡ Some 0
+    by_trees : (o : Option (List Tree)) → trees_of ns ≡ o → option_and_then (put n) o ≡ Some us
+        → ((ts : List Tree) → trees_of ns ≡ Some ts → missing (length ts) ns ≡ Some 0) → missing (length us) (n ∷ ns) ≡ Some 0
     by_trees None f g ih = absurd cc
     by_trees (Some ts) f g ih =
         let p = put_back n ts us g in
@@ -117,7 +125,8 @@ word_high b h = grind (arith, nat_tests)
 
 words_free : (w : List ℕ) → list_all is_word_byte w ≡ true → HasNoEnd w
 words_free [] h = refl
-words_free (b ∷ w) h = let k = both (is_word_byte b) (list_all is_word_byte w) h in let a = higher b (word_high b k.0) in let t = words_free w k.1 in rw (a, t) refl
+words_free (b ∷ w) h = let k = both (is_word_byte b) (list_all is_word_byte w) h in let a = higher b (word_high b k.0) in let t = words_free w k.1 in
+    rw (a, t) refl
 
 name_free : (w : List ℕ) → is_name w ≡ true → HasNoEnd w
 name_free [] h = refl
@@ -145,7 +154,8 @@ first_free : (c : Bool) (fs : List Frame) (bytes : List ℕ) (gs : List Frame) (
 first_free c fs bytes gs left (first_bracket e h) l = ap (list_all (is_not 10)) e ∙ l
 first_free c fs bytes gs left (first_word w p i s e h) l = ap (list_all (is_not 10)) e ∙ joined w left (word_free w p i) l
 
-part_free : (c : Bool) (p : Shape) (fs : List Frame) (bytes : List ℕ) (gs : List Frame) (left : List ℕ) → PartWay c p fs bytes gs left → HasNoEnd left → HasNoEnd bytes
+part_free : (c : Bool) (p : Shape) (fs : List Frame) (bytes : List ℕ) (gs : List Frame) (left : List ℕ) → PartWay c p fs bytes gs left → HasNoEnd left
+    → HasNoEnd bytes
 part_free c p fs bytes gs left (bracket t e h) l = ap (list_all (is_not 10)) e ∙ l
 part_free c p fs bytes gs left (word t w q i s e h) l = ap (list_all (is_not 10)) e ∙ joined w left (word_free w q i) l
 part_free c p fs bytes gs left (sign e h) l = ap (list_all (is_not 10)) e ∙ l
@@ -176,11 +186,13 @@ set_free ns a = joined (labels_text ns) (125 ∷ []) (labels_avoid 10 (inl (omeg
 
 terms_free : (names : List (List ℕ)) (ts : List Term) → All (IsSpelledTerm names) ts → HasNoEnd (flat_map (term_field names) ts)
 terms_free names [] a = refl
-terms_free names (t ∷ ts) a = joined (term_field names t) (flat_map (term_field names) ts) (term_free names t (All-head (IsSpelledTerm names) t ts a)) (terms_free names ts (All-tail (IsSpelledTerm names) t ts a))
+terms_free names (t ∷ ts) a = joined (term_field names t) (flat_map (term_field names) ts) (term_free names t (All-head (IsSpelledTerm names) t ts a))
+    (terms_free names ts (All-tail (IsSpelledTerm names) t ts a))
 
 pub parts_free : (ps : List PartLine) → All IsSpelledPart ps → HasNoEnd (flat_map part_field ps)
 parts_free [] a = refl
-parts_free (Labels s ∷ ps) a = joined (field (set_text s)) (flat_map part_field ps) (set_free s (All-head IsSpelledPart (Labels s) ps a)) (parts_free ps (All-tail IsSpelledPart (Labels s) ps a))
+parts_free (Labels s ∷ ps) a = joined (field (set_text s)) (flat_map part_field ps) (set_free s (All-head IsSpelledPart (Labels s) ps a))
+    (parts_free ps (All-tail IsSpelledPart (Labels s) ps a))
 parts_free (Free ∷ ps) a = parts_free ps (All-tail IsSpelledPart Free ps a)
 
 -- ---- lines
@@ -220,9 +232,13 @@ nodes_full : (names : List (List ℕ)) (xs : List Line) → All (IsSpelledLine n
 nodes_full names [] a = tt
 nodes_full names (x ∷ xs) a = (node_full names x (All-head (IsSpelledLine names) x xs a), nodes_full names xs (All-tail (IsSpelledLine names) x xs a))
 
-lets_full : (names : List (List ℕ)) (ts : List Term) (rest : List (List ℕ)) → All (IsSpelledTerm names) ts → AreFull rest → AreFull (map (λ t. codes "let" ++ term_field names t) ts ++ rest)
+lets_full : (names : List (List ℕ)) (ts : List Term) (rest : List (List ℕ)) → All (IsSpelledTerm names) ts → AreFull rest
+    → AreFull (map (λ t. codes "let" ++ term_field names t) ts ++ rest)
 lets_full names [] rest a f = f
-lets_full names (t ∷ ts) rest a f = ((term_free names t (All-head (IsSpelledTerm names) t ts a), full _ _), lets_full names ts rest (All-tail (IsSpelledTerm names) t ts a) f)
+lets_full names (t ∷ ts) rest a f = (
+  (term_free names t (All-head (IsSpelledTerm names) t ts a), full _ _),
+  lets_full names ts rest (All-tail (IsSpelledTerm names) t ts a) f,
+)
 
 -- lines with their ends are taken apart again
 pub lines_of_ended : (ls : List (List ℕ)) → AreFull ls → text_lines (flat_map with_end ls) ≡ ls
@@ -284,17 +300,24 @@ proof_ended names d =
     ap (λ z. with_end (codes "proof 1") ++ flat_map with_end (ls ++ z)) (append-nil ns)
     ∙ (ap (λ z. with_end (codes "proof 1") ++ z) (flat_map-append with_end ls ns)
     ∙ (ap (λ z. with_end (codes "proof 1") ++ (z ++ flat_map with_end ns)) (ended_map (λ (t : Term). codes "let" ++ term_field names t) d.asked)
-    ∙ (ap (λ z. with_end (codes "proof 1") ++ (flat_map (λ (t : Term). with_end (codes "let" ++ term_field names t)) d.asked ++ z)) (ended_map (node_text names) d.nodes)
-    ∙ sym (append_assoc (with_end (codes "proof 1")) (flat_map (λ (t : Term). with_end (codes "let" ++ term_field names t)) d.asked) (flat_map (λ (n : Line). with_end (node_text names n)) d.nodes)))))
+    ∙ (ap (λ z. with_end (codes "proof 1") ++ (flat_map (λ (t : Term). with_end (codes "let" ++ term_field names t)) d.asked ++ z))
+    (ended_map (node_text names) d.nodes)
+    ∙ sym (append_assoc (with_end (codes "proof 1")) (flat_map (λ (t : Term). with_end (codes "let" ++ term_field names t)) d.asked)
+    (flat_map (λ (n : Line). with_end (node_text names n)) d.nodes)))))
 
-lines_is : (names : List (List ℕ)) (text : List ℕ) (d : DerivationLines) → AreFull (lines_of names d) → (text ≡ proof_text names d) ⊎ (text ++ 10 ∷ [] ≡ proof_text names d) → text_lines text ≡ lines_of names d
+lines_is : (names : List (List ℕ)) (text : List ℕ) (d : DerivationLines) → AreFull (lines_of names d)
+    → (text ≡ proof_text names d) ⊎ (text ++ 10 ∷ [] ≡ proof_text names d) → text_lines text ≡ lines_of names d
 lines_is names text d f (inl e) = ap text_lines (e ∙ sym (proof_ended names d)) ∙ lines_of_ended (lines_of names d) f
 lines_is names text d f (inr e) = lines_of_open (lines_of names d) text f (e ∙ sym (proof_ended names d))
 
 -- the text of a derivation is its lines
 pub its_lines : (names : List (List ℕ)) (text : List ℕ) (d : DerivationLines) → IsTextOf names text d → text_lines text ≡ lines_of names d
 its_lines names text d t =
-    lines_is names text d ((refl, full _ _), lets_full names d.asked (map (node_text names) d.nodes ++ []) t.spelled.asked (nodes_full names d.nodes t.spelled.nodes)) t.is
+    lines_is names text d (
+      (refl, full _ _),
+      lets_full names d.asked (map (node_text names) d.nodes ++ []) t.spelled.asked
+          (nodes_full names d.nodes t.spelled.nodes),
+    ) t.is
 
 -- and lacks no node
 pub text_begins : (names : List (List ℕ)) (text : List ℕ) (d : DerivationLines) → IsTextOf names text d → Begins (text_lines text) [] 0

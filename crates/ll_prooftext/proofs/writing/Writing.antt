@@ -1,5 +1,6 @@
 -- Texts on their way.
-use Rattle.std.proofs.Common.{◌≡◌, ℕ, zero, suc, ◌+◌, ◌<◌, ◌≤◌, List, [], ◌∷◌, ◌++◌, length, get_or, take, drop, map, refl, ap, sym, ◌∙◌, arith, append_assoc, codes, decimal}
+use Rattle.std.proofs.Common.{◌≡◌, ℕ, zero, suc, ◌+◌, ◌<◌, ◌≤◌, List, [], ◌∷◌, ◌++◌, length, get_or, take, drop, map, refl, ap, sym, ◌∙◌, arith, append_assoc}
+use Rattle.std.proofs.Common.{codes, decimal}
 use Rattle.std.specs.List.{flat_map}
 use Rattle.std.proofs.lemmas.List.{append-nil, take_all}
 use Rattle.ll_bank.specs.Nodes.{Nodes, term_trees}
@@ -31,10 +32,12 @@ module _ (a b text o p q : List ℕ) (is : text ≡ a ++ b) (first : p ≡ o ++ 
 -- the texts of items, one after the other
 module _ {X : Type 0} (f : X → List ℕ) where
   -- up to some item, that item, and the others
-  pub parts_split : (xs : List X) (i : ℕ) (d : X) → i < length xs → flat_map f xs ≡ flat_map f (take i xs) ++ (f (get_or xs i d) ++ flat_map f (drop (suc i) xs))
+  pub parts_split : (xs : List X) (i : ℕ) (d : X) → i < length xs
+      → flat_map f xs ≡ flat_map f (take i xs) ++ (f (get_or xs i d) ++ flat_map f (drop (suc i) xs))
   parts_split [] i d l = absurd (omega arith)
   parts_split (x ∷ xs) zero d l = refl
-  parts_split (x ∷ xs) (suc i) d l = ap (λ t. f x ++ t) (parts_split xs i d (omega arith)) ∙ sym (append_assoc (f x) (flat_map f (take i xs)) (f (get_or xs i d) ++ flat_map f (drop (suc i) xs)))
+  parts_split (x ∷ xs) (suc i) d l = ap (λ t. f x ++ t) (parts_split xs i d (omega arith))
+      ∙ sym (append_assoc (f x) (flat_map f (take i xs)) (f (get_or xs i d) ++ flat_map f (drop (suc i) xs)))
 
   pub parts_more : (xs : List X) (i : ℕ) (d : X) → i < length xs → flat_map f (take (suc i) xs) ≡ flat_map f (take i xs) ++ f (get_or xs i d)
   parts_more [] i d l = absurd (omega arith)
@@ -45,7 +48,8 @@ module _ {X : Type 0} (f : X → List ℕ) where
     -- one item more
     pub parts_on : i < length xs → next ≡ now ++ f (get_or xs i d) → next ≡ start ++ flat_map f (take (i + 1) xs)
     parts_on l e =
-        e ∙ (ap (λ t. t ++ f (get_or xs i d)) before ∙ (append_assoc start (flat_map f (take i xs)) (f (get_or xs i d)) ∙ ap (λ t. start ++ t) (sym (ap (λ j. flat_map f (take j xs)) (let z : i + 1 ≡ suc i = omega arith in z) ∙ parts_more xs i d l))))
+        e ∙ (ap (λ t. t ++ f (get_or xs i d)) before ∙ (append_assoc start (flat_map f (take i xs)) (f (get_or xs i d))
+        ∙ ap (λ t. start ++ t) (sym (ap (λ j. flat_map f (take j xs)) (let z : i + 1 ≡ suc i = omega arith in z) ∙ parts_more xs i d l))))
 
     -- a refusal in it
     pub parts_refused : i < length xs → BeginsText (f (get_or xs i d)) now next → BeginsText (flat_map f xs) start next
@@ -88,10 +92,13 @@ node_parts names bank Num = refl
 node_parts names bank (Clause n k ts ps) =
     let us = flat_map (term_field names) (term_trees bank ts.items) in
     let qs = flat_map part_field (map part_line ps.items) in
-    ap (λ t. codes "clause" ++ t) (append_assoc (field (decimal n) ++ field (decimal k)) us qs ∙ append_assoc (field (decimal n)) (field (decimal k)) (us ++ qs))
+    ap (λ t. codes "clause" ++ t) (append_assoc (field (decimal n) ++ field (decimal k)) us qs
+    ∙ append_assoc (field (decimal n)) (field (decimal k)) (us ++ qs))
 
 -- the lines of nodes
-pub nodes_text : (names : List (List ℕ)) (bank : Nodes) (rs : List Rule) → flat_map (row_text names bank) rs ≡ flat_map (λ n. line (node_text names n)) (map (line_of bank) rs)
+pub nodes_text : (names : List (List ℕ)) (bank : Nodes) (rs : List Rule)
+    → flat_map (row_text names bank) rs ≡ flat_map (λ n. line (node_text names n)) (map (line_of bank) rs)
 nodes_text names bank [] = refl
 nodes_text names bank (r ∷ rs) =
-    ap (λ t. line t ++ flat_map (row_text names bank) rs) (sym (node_parts names bank r)) ∙ ap (λ t. line (node_text names (line_of bank r)) ++ t) (nodes_text names bank rs)
+    ap (λ t. line t ++ flat_map (row_text names bank) rs) (sym (node_parts names bank r))
+    ∙ ap (λ t. line (node_text names (line_of bank r)) ++ t) (nodes_text names bank rs)

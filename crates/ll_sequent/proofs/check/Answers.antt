@@ -40,7 +40,8 @@ judge-requires-clause-holds c =
     let clauses : map (clause_tree c.problem.inside.bank) c.deref.result.now ≡ c.args.problem.now.clauses =
     ap (map (clause_tree c.problem.inside.bank)) c.deref.ensures.value ∙ ap (λ (p : ProblemTree). p.clauses) c.problem.view_is in
     let query : form_tree c.problem.inside.bank c.problem.inside.goal.0 ≡ c.args.problem.now.goal = ap (λ (p : ProblemTree). p.goal) c.problem.view_is in
-    let root = c.in_ok-start.ensures.root c.args.problem.now.modules (sound_along c.args.problem.now.modules _ _ _ _ clauses query (valid_root c.args.problem.now c.requires.valid)) in
+    let root = c.in_ok-start.ensures.root c.args.problem.now.modules
+    (sound_along c.args.problem.now.modules _ _ _ _ clauses query (valid_root c.args.problem.now c.requires.valid)) in
     let P : List ModuleTree → Type 0 = λ ms. Holds ms bank c.in_ok-start.start.free.items c.in_ok-start.start.root in
     subst P (sym same) root.holds
 
@@ -57,20 +58,26 @@ returns c =
     ap (term_trees c.derivation.inside.bank) c.deref-2.ensures.value ∙ ap (λ (d : DerivationLines). d.asked) c.derivation.view_is in
     let nodes : map (copied_line bank c.in_ok-start.start.copies.items) c.deref-5.result.now ≡ c.args.derivation.now.nodes =
     ap (map (copied_line bank c.in_ok-start.start.copies.items)) (c.deref-5.ensures.value ∙ sym c.deref-3.ensures.value)
-    ∙ (c.in_ok-start.ensures.lines ∙ (ap (map (line_of c.derivation.inside.bank)) c.deref-3.ensures.value ∙ ap (λ (d : DerivationLines). d.nodes) c.derivation.view_is)) in
-    let root = c.in_ok-start.ensures.root c.args.problem.now.modules (sound_along c.args.problem.now.modules _ _ _ _ clauses query (valid_root c.args.problem.now c.requires.valid)) in
-    let shows : sequent_in bank c.in_ok-start.start.free.items c.in_ok-start.start.root ≡ root_of c.args.problem.now.clauses c.args.problem.now.goal c.args.derivation.now.asked =
+    ∙ (c.in_ok-start.ensures.lines ∙ (ap (map (line_of c.derivation.inside.bank)) c.deref-3.ensures.value
+    ∙ ap (λ (d : DerivationLines). d.nodes) c.derivation.view_is)) in
+    let root = c.in_ok-start.ensures.root c.args.problem.now.modules
+    (sound_along c.args.problem.now.modules _ _ _ _ clauses query (valid_root c.args.problem.now c.requires.valid)) in
+    let shows : sequent_in bank c.in_ok-start.start.free.items c.in_ok-start.start.root
+    ≡ root_of c.args.problem.now.clauses c.args.problem.now.goal c.args.derivation.now.asked =
     root.shows ∙ (λ i. root_of (clauses i) (query i) (asked i)) in
     let count : length c.derivation.inside.asked.items ≡ length c.problem.inside.asked.items = grind arith in
     let number : length c.args.derivation.now.asked ≡ length c.args.problem.now.asked =
     sym (ap (λ (d : DerivationLines). length d.asked) c.derivation.view_is)
-    ∙ (length-map c.derivation.inside.asked.items (λ (a : At). term_tree c.derivation.inside.bank a.0) ∙ (count ∙ ap (λ (p : ProblemTree). length p.asked) c.problem.view_is)) in
+    ∙ (length-map c.derivation.inside.asked.items (λ (a : At). term_tree c.derivation.inside.bank a.0)
+    ∙ (count ∙ ap (λ (p : ProblemTree). length p.asked) c.problem.view_is)) in
     verdict_told c.args.problem.now c.args.derivation.now c.in_ok-verdict.verdict c.requires.whole number
     (λ x e.
     let P : Checked → Type 0 = Tells c.in_ok-verdict.verdict in
     let names : c.problem.inside.names ≡ c.args.problem.now.names = ap (λ (p : ProblemTree). p.names) c.problem.view_is in
-    let told : fault_at (operators_of c.problem.inside.names) (map (module_tree bank) c.deref-4.result.now) x (sequent_in bank c.in_ok-start.start.free.items c.in_ok-start.start.root)
-    ≡ fault (setting_of c.args.problem.now) 1 x (root_free c.args.problem.now) (root_bounded c.args.problem.now) (instantiated_goal c.args.problem.now c.args.derivation.now.asked) =
+    let told : fault_at (operators_of c.problem.inside.names) (map (module_tree bank) c.deref-4.result.now) x
+    (sequent_in bank c.in_ok-start.start.free.items c.in_ok-start.start.root)
+    ≡ fault (setting_of c.args.problem.now) 1 x (root_free c.args.problem.now) (root_bounded c.args.problem.now)
+    (instantiated_goal c.args.problem.now c.args.derivation.now.asked) =
     λ i. fault_at (operators_of (names i)) (same i) x (shows i) in
     subst P told (c.in_ok-verdict.ensures x (ap trees_of nodes ∙ e)))
 
@@ -89,5 +96,6 @@ judge-requires-clause-whole c =
     let bank = c.in_ok-start.start.bank in
     let nodes : map (copied_line bank c.in_ok-start.start.copies.items) c.deref-5.result.now ≡ c.args.derivation.now.nodes =
     ap (map (copied_line bank c.in_ok-start.start.copies.items)) (c.deref-5.ensures.value ∙ sym c.deref-3.ensures.value)
-    ∙ (c.in_ok-start.ensures.lines ∙ (ap (map (line_of c.derivation.inside.bank)) c.deref-3.ensures.value ∙ ap (λ (d : DerivationLines). d.nodes) c.derivation.view_is)) in
+    ∙ (c.in_ok-start.ensures.lines ∙ (ap (map (line_of c.derivation.inside.bank)) c.deref-3.ensures.value
+    ∙ ap (λ (d : DerivationLines). d.nodes) c.derivation.view_is)) in
     ap (list_all is_line) nodes ∙ c.requires.whole.nodes

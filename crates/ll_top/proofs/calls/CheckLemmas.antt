@@ -32,9 +32,11 @@ use Rattle.ll_top.specs.declared.refusal.Refusal.{Refusal}
 use Rattle.ll_top.specs.declared.refusal.Refusal.TheVariants.{Text, Unwritable, OutOfMemory}
 use Rattle.ll_top.specs.Words.{CheckWords}
 use Rattle.ll_top.specs.Judging.{TextsAsk, IsCheckFault, of_run_texts, of_proof}
-use Rattle.ll_top.specs.Outcome.{IsRead, Reaches, check_texts, name_in_check, CheckFails, texts_not_read, faulty_text, CheckGives, IsRefuted, shown, refuted, covered, too_long, counting}
+use Rattle.ll_top.specs.Outcome.{IsRead, Reaches, check_texts, name_in_check, CheckFails, texts_not_read, faulty_text, CheckGives, IsRefuted, shown, refuted}
+use Rattle.ll_top.specs.Outcome.{covered, too_long, counting}
 use Rattle.ll_top.specs.Verdicts.{yes_text, too_long_text}
-use Rattle.ll_top.specs.Endings.{refusal_of, cause_of, IsNotRead, IsFaultOf, Judges, IsNoDerivation, IsCheckFaultOf, IsFinding, Finds, ComesToFinding, CheckFinds}
+use Rattle.ll_top.specs.Endings.{refusal_of, cause_of, IsNotRead, IsFaultOf, Judges, IsNoDerivation, IsCheckFaultOf, IsFinding, Finds, ComesToFinding}
+use Rattle.ll_top.specs.Endings.{CheckFinds}
 use Rattle.ll_top.proofs.calls.CountingLemmas.{counts-none}
 use Rattle.ll_top.proofs.calls.PrepareLemmas.{not-read}
 use Rattle.ll_top.proofs.calls.MoreNames.{valid-with}
@@ -44,14 +46,17 @@ use Rattle.ll_top.proofs.calls.AddedNames.{same-operators}
 
 module _ (told : Option Texts) (absence read_failed : Type 0) (check : CheckWords) where
   -- the text whose turn it is was not read
-  pub text-refused : (role : Role) (e : Refusal) → Reaches told (check_texts check) (name_in_check check role) → IsNotRead told absence read_failed (name_in_check check role) role e → CheckFinds told absence read_failed check (Err e)
+  pub text-refused : (role : Role) (e : Refusal) → Reaches told (check_texts check) (name_in_check check role)
+      → IsNotRead told absence read_failed (name_in_check check role) role e → CheckFinds told absence read_failed check (Err e)
   text-refused role (Text other refusal) r h =
       subst (λ x. CheckFails told absence read_failed check (cause_of (name_in_check check x) refusal)) (sym h.0)
-      (texts_not_read (cause_of (name_in_check check role) refusal) (not-read told absence read_failed (check_texts check) (name_in_check check role) refusal r h.1))
+      (texts_not_read (cause_of (name_in_check check role) refusal)
+      (not-read told absence read_failed (check_texts check) (name_in_check check role) refusal r h.1))
   text-refused role Unwritable r h = absurd h
   text-refused role OutOfMemory r h = tt
 
-  finding-comes : (p : ProblemTree) (d : DerivationLines) (finding : Finding) → CheckGives told check p d → IsFinding (is_some check.bound) p d finding → ComesToFinding told absence read_failed check finding
+  finding-comes : (p : ProblemTree) (d : DerivationLines) (finding : Finding) → CheckGives told check p d → IsFinding (is_some check.bound) p d finding
+      → ComesToFinding told absence read_failed check finding
   finding-comes p d (Shows nodes) g h = shown p d h.0 g h.1 refl (ap yes_text h.2)
   finding-comes p d (Fails node reason) g h = refuted p d node reason g h refl refl
   finding-comes p d (Covered answer) g h = covered p d answer h.0 g h.1 refl refl
@@ -59,12 +64,15 @@ module _ (told : Option Texts) (absence read_failed : Type 0) (check : CheckWord
   finding-comes p d (CountsNumbers node) g h = counting p d node h.0 g h.1 refl refl
 
   -- all three were read
-  pub texts-judged : (program query proof : List ℕ) → IsRead told check.program program → IsRead told check.query query → IsRead told check.proof proof → (r : Result Finding Refusal) → Finds program query proof check.bound r
+  pub texts-judged : (program query proof : List ℕ) → IsRead told check.program program → IsRead told check.query query → IsRead told check.proof proof
+      → (r : Result Finding Refusal) → Finds program query proof check.bound r
       → CheckFinds told absence read_failed check r
-  texts-judged program query proof p q s (Ok finding) h = finding-comes h.0 h.1 finding (record { program = program; query = query; proof = proof; program_read = p; query_read = q; proof_read = s; give = h.2 }) h.3
+  texts-judged program query proof p q s (Ok finding) h = finding-comes h.0 h.1 finding
+      (record { program = program; query = query; proof = proof; program_read = p; query_read = q; proof_read = s; give = h.2 }) h.3
   texts-judged program query proof p q s (Err (Text role refusal)) h = by role refusal h
     where
-      by : (role : Role) (refusal : TextRefusal) → IsCheckFaultOf program query proof role refusal → CheckFails told absence read_failed check (cause_of (name_in_check check role) refusal)
+      by : (role : Role) (refusal : TextRefusal) → IsCheckFaultOf program query proof role refusal
+          → CheckFails told absence read_failed check (cause_of (name_in_check check role) refusal)
       by role (text.Faulty f) g = faulty_text program query proof role f p q s g
       by role text.Absent g = absurd g
       by role text.Unreadable g = absurd g
@@ -116,7 +124,8 @@ module _ (p : ProblemTree) (names : List (List ℕ)) (same : operators_of names 
     before = λ k a l e c. f.before k a l (ap (λ es. slice_get (answers_in es) k) same-events ∙ e) (record { instance = c.instance; steps = c.steps });
   }
 
-  finding-without : (covers : Bool) (d : DerivationLines) (finding : Finding) → IsFinding covers (record p { names = names }) d finding → IsFinding covers p d finding
+  finding-without : (covers : Bool) (d : DerivationLines) (finding : Finding) → IsFinding covers (record p { names = names }) d finding
+      → IsFinding covers p d finding
   finding-without covers d (Shows nodes) h = (h.0, shown-without d h.1, h.2)
   finding-without covers d (Covered answer) h = let c = h.1 in (
     h.0,
@@ -133,7 +142,8 @@ module _ (p : ProblemTree) (names : List (List ℕ)) (same : operators_of names 
 
 -- a problem with more names is valid too
 pub valid-grown : (p : ProblemTree) (names : List (List ℕ)) → Grows p.names names → IsValid p → IsValid (record p { names = names })
-valid-grown p names g v = valid-with p names (let e : length names ≡ length p.names + length g.more = ap length g.is ∙ length-append p.names g.more in omega arith) v
+valid-grown p names g v = valid-with p names (let e : length names ≡ length p.names + length g.more = ap length g.is ∙ length-append p.names g.more in
+    omega arith) v
 
 -- ---- judging
 
@@ -165,7 +175,8 @@ module _ (program query proof : List ℕ) (bound : Option ℕ) where
     proof-refused OutOfMemory h = tt
 
     -- it was judged over the problem, with the names that came to its own
-    pub found-of : (names : List (List ℕ)) → names ≡ with_names p.names (text_names proof) → (d : DerivationLines) → IsProofText names proof d → (finding : Finding) → IsFinding (is_some bound) (record p { names = names }) d finding
+    pub found-of : (names : List (List ℕ)) → names ≡ with_names p.names (text_names proof) → (d : DerivationLines) → IsProofText names proof d
+        → (finding : Finding) → IsFinding (is_some bound) (record p { names = names }) d finding
         → Finds program query proof bound (Ok finding)
     found-of names e d is_text finding h =
         let same = ap operators_of e ∙ same-operators p.names proof in
@@ -182,11 +193,14 @@ small-bound (Some b) h = h
 pub shows-closed : (p : ProblemTree) (d : DerivationLines) → IsWhole d → DerivationShows p d → position_from counts_numbers 1 d.nodes ≡ None → ShowsClosed p d
 shows-closed p d w s n = record { shows = s; closed = w.asked; numberless = counts-none 1 d.nodes n }
 
-pub is-covered : (p : ProblemTree) (d : DerivationLines) (number : ℕ) → ShowsClosed p d → length d.nodes ≤ p.bound → NamesFirst p d number → IsFinding true p d (Covered number)
+pub is-covered : (p : ProblemTree) (d : DerivationLines) (number : ℕ) → ShowsClosed p d → length d.nodes ≤ p.bound → NamesFirst p d number
+    → IsFinding true p d (Covered number)
 is-covered p d number s w f = (refl, record { shows = s; within = w; first = f })
 
-pub is-too_long : (p : ProblemTree) (d : DerivationLines) (nodes bound : ℕ) → DerivationShows p d → nodes ≡ length d.nodes → bound ≡ p.bound → bound < nodes → IsFinding true p d (TooLong nodes bound)
+pub is-too_long : (p : ProblemTree) (d : DerivationLines) (nodes bound : ℕ) → DerivationShows p d → nodes ≡ length d.nodes → bound ≡ p.bound → bound < nodes
+    → IsFinding true p d (TooLong nodes bound)
 is-too_long p d nodes bound s n b l = (refl, record { shows = s; beyond = omega arith }, n, b)
 
-pub is-counting : (p : ProblemTree) (d : DerivationLines) (node : ℕ) → DerivationShows p d → length d.nodes ≤ p.bound → position_from counts_numbers 1 d.nodes ≡ Some node → IsFinding true p d (CountsNumbers node)
+pub is-counting : (p : ProblemTree) (d : DerivationLines) (node : ℕ) → DerivationShows p d → length d.nodes ≤ p.bound
+    → position_from counts_numbers 1 d.nodes ≡ Some node → IsFinding true p d (CountsNumbers node)
 is-counting p d node s w f = (refl, record { shows = s; within = w; first = f })

@@ -1,5 +1,6 @@
 -- The first node of a whole-number goal.
-use Rattle.std.proofs.Common.{◌≡◌, ◌<◌, ◌+◌, ℕ, suc, Bool, true, false, ◌||◌, cond, List, [], ◌∷◌, length, map, drop, get_or, None, Some, Option, refl, ap, sym, ◌∙◌, arith}
+use Rattle.std.proofs.Common.{◌≡◌, ◌<◌, ◌+◌, ℕ, suc, Bool, true, false, ◌||◌, cond, List, [], ◌∷◌, length, map, drop, get_or, None, Some, Option, refl, ap}
+use Rattle.std.proofs.Common.{sym, ◌∙◌, arith}
 use Rattle.std.specs.List.{list_any, position_from}
 use Rattle.std.proofs.Math.Seq.{drop-cons}
 use Rattle.ll_bank.specs.Nodes.{Nodes}
@@ -14,7 +15,8 @@ pub none-counts : (i : ℕ) (ns : List Line) → list_any counts_numbers ns ≡ 
 none-counts i [] h = refl
 none-counts i (n ∷ ns) h = step (counts_numbers n) h (λ g. none-counts (i + 1) ns g)
   where
-    step : (b : Bool) → (b || list_any counts_numbers ns) ≡ false → (list_any counts_numbers ns ≡ false → position_from counts_numbers (i + 1) ns ≡ None) → cond b (Some i) (position_from counts_numbers (i + 1) ns) ≡ None
+    step : (b : Bool) → (b || list_any counts_numbers ns) ≡ false → (list_any counts_numbers ns ≡ false → position_from counts_numbers (i + 1) ns ≡ None)
+        → cond b (Some i) (position_from counts_numbers (i + 1) ns) ≡ None
     step true h g = cc
     step false h g = g h
 
@@ -23,7 +25,8 @@ pub counts-none : (i : ℕ) (ns : List Line) → position_from counts_numbers i 
 counts-none i [] h = refl
 counts-none i (n ∷ ns) h = step (counts_numbers n) h (λ g. counts-none (i + 1) ns g)
   where
-    step : (b : Bool) → cond b (Some i) (position_from counts_numbers (i + 1) ns) ≡ None → (position_from counts_numbers (i + 1) ns ≡ None → list_any counts_numbers ns ≡ false) → (b || list_any counts_numbers ns) ≡ false
+    step : (b : Bool) → cond b (Some i) (position_from counts_numbers (i + 1) ns) ≡ None
+        → (position_from counts_numbers (i + 1) ns ≡ None → list_any counts_numbers ns ≡ false) → (b || list_any counts_numbers ns) ≡ false
     step true h g = cc
     step false h g = g h
 
@@ -47,17 +50,20 @@ line-counts bank (Clause l k ts ps) = refl
 pub lines-count : (bank : Nodes) (i : ℕ) (rs : List Rule) → position_from counts_numbers i (map (line_of bank) rs) ≡ position_from is_counting i rs
 lines-count bank i [] = refl
 lines-count bank i (r ∷ rs) =
-    ap (λ b. cond b (Some i) (position_from counts_numbers (i + 1) (map (line_of bank) rs))) (line-counts bank r) ∙ ap (cond (is_counting r) (Some i)) (lines-count bank (i + 1) rs)
+    ap (λ b. cond b (Some i) (position_from counts_numbers (i + 1) (map (line_of bank) rs))) (line-counts bank r)
+    ∙ ap (cond (is_counting r) (Some i)) (lines-count bank (i + 1) rs)
 
 drop-one : (rs : List Rule) (i : ℕ) (r : Rule) → i < length rs → drop i rs ≡ get_or rs i r ∷ drop (i + 1) rs
 drop-one rs i r l = drop-cons rs i r l ∙ ap (λ k. get_or rs i r ∷ drop k rs) (let e : suc i ≡ i + 1 = omega arith in e)
 
 -- one rule more was passed
-pub passes : (rs : List Rule) (i : ℕ) (r : Rule) → i < length rs → is_counting (get_or rs i r) ≡ false → position_from is_counting (i + 1) (drop i rs) ≡ position_from is_counting (i + 1 + 1) (drop (i + 1) rs)
+pub passes : (rs : List Rule) (i : ℕ) (r : Rule) → i < length rs → is_counting (get_or rs i r) ≡ false
+    → position_from is_counting (i + 1) (drop i rs) ≡ position_from is_counting (i + 1 + 1) (drop (i + 1) rs)
 passes rs i r l h =
     ap (position_from is_counting (i + 1)) (drop-one rs i r l) ∙ ap (λ b. cond b (Some (i + 1)) (position_from is_counting (i + 1 + 1) (drop (i + 1) rs))) h
 
 -- or it is the one
-pub finds : (rs : List Rule) (i : ℕ) (r : Rule) → i < length rs → is_counting (get_or rs i r) ≡ true → position_from is_counting (i + 1) (drop i rs) ≡ Some (i + 1)
+pub finds : (rs : List Rule) (i : ℕ) (r : Rule) → i < length rs → is_counting (get_or rs i r) ≡ true
+    → position_from is_counting (i + 1) (drop i rs) ≡ Some (i + 1)
 finds rs i r l h =
     ap (position_from is_counting (i + 1)) (drop-one rs i r l) ∙ ap (λ b. cond b (Some (i + 1)) (position_from is_counting (i + 1 + 1) (drop (i + 1) rs))) h

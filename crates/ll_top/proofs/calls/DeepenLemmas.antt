@@ -39,9 +39,17 @@ texts-within program query m n p a = record {
   asks = record { program_faultless = a.asks.program_faultless; query_faultless = a.asks.query_faultless; is = ap (λ q. with_bound q n) a.asks.is };
 }
 
-pub asks-within : (told : Option Texts) (deepen : DeepenWords) (m n : ℕ) (p : ProblemTree) → RunAsks told (run_within deepen m) p → RunAsks told (run_within deepen n) (with_bound p n)
+pub asks-within : (told : Option Texts) (deepen : DeepenWords) (m n : ℕ) (p : ProblemTree) → RunAsks told (run_within deepen m) p
+    → RunAsks told (run_within deepen n) (with_bound p n)
 asks-within told deepen m n p a =
-    record { program = a.program; query = a.query; program_read = a.program_read; query_read = a.query_read; asks = texts-within a.program a.query m n p a.asks }
+    record {
+      program = a.program;
+      query = a.query;
+      program_read = a.program_read;
+      query_read = a.query_read;
+      asks =
+          texts-within a.program a.query m n p a.asks;
+    }
 
 pub valid-within : (p : ProblemTree) (n : ℕ) → IsValid p → n ≤ 1000000 → IsValid (with_bound p n)
 valid-within p n v l =
@@ -49,23 +57,33 @@ valid-within p n v l =
 
 -- a problem's own bound is not looked at
 pub deciding-within : (p : ProblemTree) (series : Series) (n m : ℕ) → IsDeciding p series n → IsDeciding (with_bound p m) series n
-deciding-within p series n m d = record { first = record { place = d.first.place; is = d.first.is; within = d.first.within; earlier = d.first.earlier }; last = d.last }
+deciding-within p series n m d = record {
+  first = record { place = d.first.place; is = d.first.is; within = d.first.within; earlier = d.first.earlier };
+  last =
+      d.last;
+}
 
 -- ---- the run with the bound that decides
 
 -- its first line was cut
-pub line-cut : (proofs : Bool) (series : Series) (p : ProblemTree) (n faults more : ℕ) (before after : Option (List ℕ)) → IsDeciding p series n → Rose faults more → AppendsFront before (bound_line n) after
+pub line-cut : (proofs : Bool) (series : Series) (p : ProblemTree) (n faults more : ℕ) (before after : Option (List ℕ)) → IsDeciding p series n
+    → Rose faults more → AppendsFront before (bound_line n) after
     → EndsOwn (DeepensTo proofs series p) status_of_found NoneFails (Rose faults more) before after (Err Unwritable)
 line-cut proofs series p n faults more before after d r f =
-    stopped (DeepensTo proofs series p) status_of_found NoneFails before after faults more (run_status (with_bound p n)) (bound_line n ++ whole_text proofs (with_bound p n)) Unwritable r
+    stopped (DeepensTo proofs series p) status_of_found NoneFails before after faults more (run_status (with_bound p n))
+    (bound_line n ++ whole_text proofs (with_bound p n)) Unwritable r
     (record { bound = n; decides = d; status_is = refl; text_is = refl }) (first-cut before after (bound_line n) (whole_text proofs (with_bound p n)) f)
 
-pub run-deepened : (proofs : Bool) (series : Series) (p now : ProblemTree) (n faults middle more : ℕ) (before mid after : Option (List ℕ)) (r : Result Found Refusal) → IsDeciding p series n → now ≡ with_bound p n
-    → faults ≤ middle → mid ≡ append_known before (bound_line n) → IfOk r (λ found. status_of_found found ≡ run_status now) → OnOk r (after ≡ append_known mid (whole_text proofs now))
-    → IfErr r (IsRunRefusal middle more) → OnErr r (AppendsFront mid (whole_text proofs now) after) → EndsOwn (DeepensTo proofs series p) status_of_found NoneFails (Rose faults more) before after r
+pub run-deepened : (proofs : Bool) (series : Series) (p now : ProblemTree) (n faults middle more : ℕ) (before mid after : Option (List ℕ))
+    (r : Result Found Refusal) → IsDeciding p series n → now ≡ with_bound p n
+    → faults ≤ middle → mid ≡ append_known before (bound_line n) → IfOk r (λ found. status_of_found found ≡ run_status now)
+    → OnOk r (after ≡ append_known mid (whole_text proofs now))
+    → IfErr r (IsRunRefusal middle more) → OnErr r (AppendsFront mid (whole_text proofs now) after)
+    → EndsOwn (DeepensTo proofs series p) status_of_found NoneFails (Rose faults more) before after r
 run-deepened proofs series p now n faults middle more before mid after r d e l m s t f c =
     ended (DeepensTo proofs series p) status_of_found NoneFails before after faults more (run_status now) (bound_line n ++ whole_text proofs now) r
-    (record { bound = n; decides = d; status_is = ap run_status e; text_is = ap (λ q. bound_line n ++ whole_text proofs q) e }) s (refused-later faults middle more r l f)
+    (record { bound = n; decides = d; status_is = ap run_status e; text_is = ap (λ q. bound_line n ++ whole_text proofs q) e }) s
+    (refused-later faults middle more r l f)
     (second-done before mid after (bound_line n) (whole_text proofs now) r m t) (second-stopped before mid after (bound_line n) (whole_text proofs now) r m c)
 
 -- ---- the texts of a deepening
@@ -83,15 +101,19 @@ module _ (told : Option Texts) (absence read_failed : Type 0) (deepen : DeepenWo
       → EndsOwn (DeepensTo deepen.proofs deepen.series p) status_of_found NoneFails w before after r
       → EndsOwn (DeepenComesTo told absence read_failed deepen) status_of_found (DeepenRefuses told absence read_failed deepen) w before after r
   texts-deepened p before after r a h =
-      ends-more (DeepensTo deepen.proofs deepen.series p) (DeepenComesTo told absence read_failed deepen) status_of_found NoneFails (DeepenRefuses told absence read_failed deepen) w before after r comes (λ role refusal f. absurd f) h
+      ends-more (DeepensTo deepen.proofs deepen.series p) (DeepenComesTo told absence read_failed deepen) status_of_found NoneFails
+      (DeepenRefuses told absence read_failed deepen) w before after r comes (λ role refusal f. absurd f) h
     where
       comes : (s : ℕ) (t : List ℕ) → DeepensTo deepen.proofs deepen.series p s t → DeepenComesTo told absence read_failed deepen s t
       comes s t c =
-          deepened c.bound (with_bound p c.bound) (asks-within told deepen deepen.series.from c.bound p a) (deciding-within p deepen.series c.bound c.bound c.decides) c.status_is c.text_is
+          deepened c.bound (with_bound p c.bound) (asks-within told deepen deepen.series.from c.bound p a)
+          (deciding-within p deepen.series c.bound c.bound c.decides) c.status_is c.text_is
 
   -- the line of its cause was written
-  pub deepen-refused : (before middle after : Option (List ℕ)) (role : Role) (refusal : TextRefusal) (status : ℕ) → DeepenRefuses told absence read_failed deepen role refusal → middle ≡ before
-      → Refuses (cause_of (name_of (first_run deepen) role) refusal) w middle after status → Ends (DeepenComesTo told absence read_failed deepen) w before after status
+  pub deepen-refused : (before middle after : Option (List ℕ)) (role : Role) (refusal : TextRefusal) (status : ℕ)
+      → DeepenRefuses told absence read_failed deepen role refusal → middle ≡ before
+      → Refuses (cause_of (name_of (first_run deepen) role) refusal) w middle after status
+      → Ends (DeepenComesTo told absence read_failed deepen) w before after status
   deepen-refused before middle after role refusal status f m r =
       refused-ends (DeepenComesTo told absence read_failed deepen) w before middle after (cause_of (name_of (first_run deepen) role) refusal) status
       (deepen_failed (cause_of (name_of (first_run deepen) role) refusal) f refl refl) m r

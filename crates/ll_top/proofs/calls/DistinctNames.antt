@@ -6,7 +6,8 @@ use Rattle.std.proofs.lemmas.Bool.{false_from_ne_true}
 use Rattle.std.proofs.lemmas.Slice.Eq.{bytes_eq-Decides}
 use Rattle.ll_bank.specs.Form.{Relation, Is, Less, Most}
 use Rattle.ll_bank.specs.Names.{with_name, with_names}
-use Rattle.ll_parser.specs.Raw.{Raw, truth, erasure, braces, universal, existential, load, binary, is_goal, less_goal, most_goal, head, anything, int, RawList, none, more, ProgramTree}
+use Rattle.ll_parser.specs.Raw.{Raw, truth, erasure, braces, universal, existential, load, binary, is_goal, less_goal, most_goal, head, anything, int, RawList}
+use Rattle.ll_parser.specs.Raw.{none, more, ProgramTree}
 use Rattle.ll_parser.specs.Raw as raw
 use Rattle.ll_polarity.specs.Scope.{Scope, binds, Meaning, Bound, Local, Free, Constant, meaning, module_scope}
 use Rattle.ll_polarity.specs.Reading.{Met, read_name, read_term, read_terms, read_number, read_form}
@@ -29,7 +30,8 @@ any-head w t ts h = by (bytes_eq w t) h
     by true e = absurd (true≢false e)
     by false e = (refl, e)
 
-all-push : (t w : List ℕ) (ts : List (List ℕ)) → bytes_eq t w ≡ false → AllByRecursion (λ y. bytes_eq t y ≡ false) ts → AllByRecursion (λ y. bytes_eq t y ≡ false) (ts ++ w ∷ [])
+all-push : (t w : List ℕ) (ts : List (List ℕ)) → bytes_eq t w ≡ false → AllByRecursion (λ y. bytes_eq t y ≡ false) ts
+    → AllByRecursion (λ y. bytes_eq t y ≡ false) (ts ++ w ∷ [])
 all-push t w [] h a = (h, tt)
 all-push t w (x ∷ xs) h a = (a.0, all-push t w xs h a.1)
 
@@ -91,12 +93,14 @@ module _ (ms : List (List ℕ)) where
 
   differ-clauses : (scope : Scope) (names : List (List ℕ)) (cs : List raw.ClauseTree) → Differ names → Differ (read_clauses ms scope names cs).names
   differ-clauses scope names [] d = d
-  differ-clauses scope names (c ∷ cs) d = differ-clauses scope (read_clause ms scope names c).names cs (differ-form scope (record { names = names; variables = [] }) c.form d)
+  differ-clauses scope names (c ∷ cs) d = differ-clauses scope (read_clause ms scope names c).names cs
+      (differ-form scope (record { names = names; variables = [] }) c.form d)
 
   differ-modules : (names : List (List ℕ)) (mods : List raw.ModuleTree) → Differ names → Differ (read_modules ms names mods).names
   differ-modules names [] d = d
   differ-modules names (m ∷ rest) d =
-      differ-modules (read_module ms names m).names rest (differ-clauses (module_scope m) (with_name names m.name.text) m.clauses (differ-name names m.name.text d))
+      differ-modules (read_module ms names m).names rest (differ-clauses (module_scope m) (with_name names m.name.text) m.clauses
+      (differ-name names m.name.text d))
 
 pub none-differ : Differ []
 unfolding IsDistinct

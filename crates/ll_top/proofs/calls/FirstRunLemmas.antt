@@ -31,23 +31,27 @@ module _ (p : ProblemTree) (k : ℕ) where
   stop-status many = let f = upto_some (problem_events p) k many in ap (λ (o : Option (List Event)). if is_some o then 0 else run_status p) f.1
 
   -- and goes on to the end where there are fewer
-  pub whole-end : (counts : Counts) → count_by is_answer (problem_events p) < k → CountsOf counts (problem_events p) (problem_cost p) → end_of_run (Some k) p ≡ counts_text counts.answers counts.reached counts.inferences
+  pub whole-end : (counts : Counts) → count_by is_answer (problem_events p) < k → CountsOf counts (problem_events p) (problem_cost p)
+      → end_of_run (Some k) p ≡ counts_text counts.answers counts.reached counts.inferences
   whole-end counts few c = ap (stop_or_summary k p) (upto_none (problem_events p) k few) ∙ sym (last-line p counts c)
 
   pub whole-status : count_by is_answer (problem_events p) < k → status_of_run (Some k) p ≡ run_status p
   whole-status few = ap (λ (o : Option (List Event)). if is_some o then 0 else run_status p) (upto_none (problem_events p) k few)
 
-  module _ (proofs : Bool) (before now after : Option (List ℕ)) (last : List ℕ) (is : end_of_run (Some k) p ≡ last) (lines : now ≡ append_known before (all_lines proofs p 0 (first_of (problem_events p) k))) where
+  module _ (proofs : Bool) (before now after : Option (List ℕ)) (last : List ℕ) (is : end_of_run (Some k) p ≡ last)
+      (lines : now ≡ append_known before (all_lines proofs p 0 (first_of (problem_events p) k))) where
     its_text : all_lines proofs p 0 (first_of (problem_events p) k) ++ last ≡ text_of_run (Some k) proofs p
     its_text = ap (λ l. all_lines proofs p 0 (first_of (problem_events p) k) ++ l) (sym is) ∙ told-text (Some k) proofs p
 
     -- its last line was written
     pub text-ended : after ≡ append_known now last → after ≡ append_known before (text_of_run (Some k) proofs p)
-    text-ended w = w ∙ (ap (λ o. append_known o last) lines ∙ (append_known-append before (all_lines proofs p 0 (first_of (problem_events p) k)) last ∙ ap (append_known before) its_text))
+    text-ended w = w ∙ (ap (λ o. append_known o last) lines ∙
+        (append_known-append before (all_lines proofs p 0 (first_of (problem_events p) k)) last ∙ ap (append_known before) its_text))
 
     -- or only a prefix of it
     pub text-cut : AppendsFront now last after → AppendsFront before (text_of_run (Some k) proofs p) after
-    text-cut f = front_in before now after (all_lines proofs p 0 (first_of (problem_events p) k)) last [] (text_of_run (Some k) proofs p) lines (ap (λ l. all_lines proofs p 0 (first_of (problem_events p) k) ++ l) (append-nil last) ∙ its_text) f
+    text-cut f = front_in before now after (all_lines proofs p 0 (first_of (problem_events p) k)) last [] (text_of_run (Some k) proofs p) lines
+        (ap (λ l. all_lines proofs p 0 (first_of (problem_events p) k) ++ l) (append-nil last) ∙ its_text) f
 
 -- there are fewer answers where it did not stop
 pub not-stopped : {X : Type 0} (o : Option X) (x : X) (k n : ℕ) → o ≡ Some x → ((o ≡ None) ↔ (k ≤ n)) → n < k
@@ -71,5 +75,6 @@ module _ {W : Type 0} (state : W → OutletState) (limit answers : W → ℕ) wh
   pub first-same : (x y : W) (es : List Event) → Gives Takes x es y → SameOutlet (state x) (state y)
   first-same x y es g = events-same Takes Breaks state writes breaks_off x y es g
 
-  pub first-written : (x y : W) (p : ProblemTree) (es : List Event) → (state x).problem ≡ p → (state x).answers ≡ 0 → Gives Takes x es y → (state y).written ≡ append_known (state x).written (all_lines (state x).proofs p 0 es)
+  pub first-written : (x y : W) (p : ProblemTree) (es : List Event) → (state x).problem ≡ p → (state x).answers ≡ 0 → Gives Takes x es y
+      → (state y).written ≡ append_known (state x).written (all_lines (state x).proofs p 0 es)
   first-written x y p es e k g = lines-written Takes Breaks state writes breaks_off x y p es e k g

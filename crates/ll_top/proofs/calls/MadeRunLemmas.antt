@@ -49,7 +49,8 @@ abbrev pub HasNone : MadeRunWords → Type 0
 HasNone run = (role : Role) (f : Fault) → IsTextFault (make_text run.make) (query_text run.make.kind) role f → ⊥
 
 -- so memory ran out
-unjudged-ended : (write_failed : Type 0) (run : MadeRunWords) (before : Option (List ℕ)) (e : Refusal) → HasNone run → Judges (make_text run.make) (query_text run.make.kind) run.bound (Err e) → MadeRunEnds write_failed run before before (Err e)
+unjudged-ended : (write_failed : Type 0) (run : MadeRunWords) (before : Option (List ℕ)) (e : Refusal) → HasNone run
+    → Judges (make_text run.make) (query_text run.make.kind) run.bound (Err e) → MadeRunEnds write_failed run before before (Err e)
 unjudged-ended w run before (Text role (text.Faulty f)) none h = none role f h
 unjudged-ended w run before (Text role text.Absent) none h = h
 unjudged-ended w run before (Text role text.Unreadable) none h = h
@@ -57,7 +58,8 @@ unjudged-ended w run before (Text role text.Oversized) none h = h
 unjudged-ended w run before Unwritable none h = absurd h
 unjudged-ended w run before OutOfMemory none h = nothing refl
 
-pub unjudged : (write_failed : Type 0) (run : MadeRunWords) (before : Option (List ℕ)) (r : Result Found Refusal) (e : Refusal) (program query : List ℕ) → IsErrAnd r (λ x. x ≡ e) → program ≡ make_text run.make
+pub unjudged : (write_failed : Type 0) (run : MadeRunWords) (before : Option (List ℕ)) (r : Result Found Refusal) (e : Refusal) (program query : List ℕ)
+    → IsErrAnd r (λ x. x ≡ e) → program ≡ make_text run.make
     → query ≡ query_text run.make.kind → HasNone run → Judges program query run.bound (Err e) → MadeRunEnds write_failed run before before r
 unjudged w run before (Ok x) e program query p m q none h = absurd p
 unjudged w run before (Err x) e program query p m q none h =
@@ -69,8 +71,10 @@ comes : (run : MadeRunWords) (p : ProblemTree) → MadeAsks run p → MadeRunCom
 comes run p u = record { problem = p; asks = u; status_is = refl; is = refl }
 
 -- a problem was asked, and its search counted
-pub counted-ends : (run : MadeRunWords) (p : ProblemTree) (faults more : ℕ) (before after : Option (List ℕ)) (r : Result Found Refusal) → MadeAsks run p → IfOk r (λ found. status_of_found found ≡ run_status p)
-    → OnOk r (after ≡ append_known before (last_line p)) → IfErr r (IsRunRefusal faults more) → OnErr r (AppendsFront before (last_line p) after) → MadeRunEnds (Rose faults more) run before after r
+pub counted-ends : (run : MadeRunWords) (p : ProblemTree) (faults more : ℕ) (before after : Option (List ℕ)) (r : Result Found Refusal) → MadeAsks run p
+    → IfOk r (λ found. status_of_found found ≡ run_status p)
+    → OnOk r (after ≡ append_known before (last_line p)) → IfErr r (IsRunRefusal faults more) → OnErr r (AppendsFront before (last_line p) after)
+    → MadeRunEnds (Rose faults more) run before after r
 counted-ends run p n m b a (Ok _) u s t f e = (p, u, s, t)
 counted-ends run p n m b a (Err Unwritable) u s t f e = (p, u, f, e)
 counted-ends run p n m b a (Err OutOfMemory) u s t f e = front (run_status p) (last_line p) (comes run p u) e
@@ -79,7 +83,8 @@ counted-ends run p n m b a (Err (Text role refusal)) u s t f e = absurd f
 -- ---- the end
 
 module _ (write_failed : Type 0) (run : MadeRunWords) (before after : Option (List ℕ)) where
-  pub made-found-ends : (found : Found) (status : ℕ) → status ≡ status_of_found found → MadeRunEnds write_failed run before after (Ok found) → Ends (MadeRunComesTo run) write_failed before after status
+  pub made-found-ends : (found : Found) (status : ℕ) → status ≡ status_of_found found → MadeRunEnds write_failed run before after (Ok found)
+      → Ends (MadeRunComesTo run) write_failed before after status
   made-found-ends _ status e h = whole (last_line h.0) (record { problem = h.0; asks = h.1; status_is = e ∙ h.2; is = refl }) h.3
 
   pub made-cut-ends : MadeRunEnds write_failed run before after (Err Unwritable) → Ends (MadeRunComesTo run) write_failed before after 6
@@ -90,10 +95,12 @@ module _ (write_failed : Type 0) (run : MadeRunWords) (before after : Option (Li
 
 -- ---- the last line
 
-pub line-written : (p : ProblemTree) (c : Counts) (before after : Option (List ℕ)) → CountsOf c (problem_events p) (problem_cost p) → after ≡ append_known before (counts_text c.answers c.reached c.inferences)
+pub line-written : (p : ProblemTree) (c : Counts) (before after : Option (List ℕ)) → CountsOf c (problem_events p) (problem_cost p)
+    → after ≡ append_known before (counts_text c.answers c.reached c.inferences)
     → after ≡ append_known before (last_line p)
 line-written p c before after h w = w ∙ ap (append_known before) (last-line p c h)
 
-pub line-cut : (p : ProblemTree) (c : Counts) (before after : Option (List ℕ)) → CountsOf c (problem_events p) (problem_cost p) → AppendsFront before (counts_text c.answers c.reached c.inferences) after
+pub line-cut : (p : ProblemTree) (c : Counts) (before after : Option (List ℕ)) → CountsOf c (problem_events p) (problem_cost p)
+    → AppendsFront before (counts_text c.answers c.reached c.inferences) after
     → AppendsFront before (last_line p) after
 line-cut p c before after h f = subst (λ t. AppendsFront before t after) (last-line p c h) f

@@ -22,7 +22,12 @@ whole-status first p e = by_end (is_some (front_events first p)) e
 -- a run that ended without an answer, and without having reached the bound
 pub asks-in-vain : NothingIsShown → (told : Option Texts) (run : RunWords) (p : ProblemTree) (status : ℕ) → RunAsks told run p → IsValid p
     → status ≡ status_of_run run.first p → status ≡ 1 → AsksInVain told run
-asks-in-vain nothing told run p status asks valid is one = record { problem = p; asks = asks; not_shown = λ d s. nothing p d valid (whole-status run.first p (sym is ∙ one)) s }
+asks-in-vain nothing told run p status asks valid is one = record {
+  problem = p;
+  asks = asks;
+  not_shown =
+      λ d s. nothing p d valid (whole-status run.first p (sym is ∙ one)) s;
+}
 
 -- what the words of a run ask for
 pub vain-run : (words : List (List ℕ)) (told : Option Texts) (run other : RunWords) → IsRun words run → IsRun words other

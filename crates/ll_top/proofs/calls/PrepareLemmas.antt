@@ -15,33 +15,41 @@ use Rattle.ll_top.specs.declared.refusal.TextRefusal.TheVariants as text
 use Rattle.ll_top.specs.declared.refusal.Refusal.{Refusal}
 use Rattle.ll_top.specs.declared.refusal.Refusal.TheVariants.{Text, Unwritable, OutOfMemory}
 use Rattle.ll_top.specs.Words.{RunWords}
-use Rattle.ll_top.specs.Judging.{IsProgramText, IsQueryText, IsReadingCause, of_program_reading, of_program_scope, of_query_reading, of_query_scope, of_program, of_query, IsPartOf, IsProgramCause, IsQueryCause}
-use Rattle.ll_top.specs.Outcome.{name_of, IsRead, Reaches, first, later, run_texts, ReadFails, absent, unreadable, oversized, RunFails, not_read, faulty, IsPrintedAs, source_not_read, faulty_source}
+use Rattle.ll_top.specs.Judging.{IsProgramText, IsQueryText, IsReadingCause, of_program_reading, of_program_scope, of_query_reading, of_query_scope}
+use Rattle.ll_top.specs.Judging.{of_program, of_query, IsPartOf, IsProgramCause, IsQueryCause}
+use Rattle.ll_top.specs.Outcome.{name_of, IsRead, Reaches, first, later, run_texts, ReadFails, absent, unreadable, oversized, RunFails, not_read, faulty}
+use Rattle.ll_top.specs.Outcome.{IsPrintedAs, source_not_read, faulty_source}
 use Rattle.ll_top.specs.Endings.{refusal_of, cause_of, IsTextNotRead, IsNotRead, IsFaultOf, Judges, Prepares, IsNotPrinted, IsMadeOf, IsNotMadeOf}
 
 -- ---- texts that are not read
 
 -- the text whose turn it is was not read
-pub not-read : (told : Option Texts) (absence read_failed : Type 0) (names : List (List ℕ)) (name : List ℕ) (refusal : TextRefusal) → Reaches told names name → IsTextNotRead told absence read_failed name refusal → ReadFails told absence read_failed names (cause_of name refusal)
+pub not-read : (told : Option Texts) (absence read_failed : Type 0) (names : List (List ℕ)) (name : List ℕ) (refusal : TextRefusal) → Reaches told names name
+    → IsTextNotRead told absence read_failed name refusal → ReadFails told absence read_failed names (cause_of name refusal)
 not-read told absence read_failed names name text.Absent r h = absent name r h.0 h.1
 not-read told absence read_failed names name text.Unreadable r h = unreadable name r h
 not-read told absence read_failed names name text.Oversized r h = oversized name r h
 not-read told absence read_failed names name (text.Faulty fault) r h = absurd h
 
-pub program-refused : (told : Option Texts) (absence read_failed : Type 0) (run : RunWords) (e : Refusal) → IsNotRead told absence read_failed run.program Program e → Prepares told absence read_failed run (Err e)
+pub program-refused : (told : Option Texts) (absence read_failed : Type 0) (run : RunWords) (e : Refusal)
+    → IsNotRead told absence read_failed run.program Program e → Prepares told absence read_failed run (Err e)
 program-refused told absence read_failed run (Text role refusal) h =
-    subst (λ r. RunFails told absence read_failed run (cause_of (name_of run r) refusal)) (sym h.0) (not_read (cause_of run.program refusal) (not-read told absence read_failed (run_texts run) run.program refusal first h.1))
+    subst (λ r. RunFails told absence read_failed run (cause_of (name_of run r) refusal)) (sym h.0)
+    (not_read (cause_of run.program refusal) (not-read told absence read_failed (run_texts run) run.program refusal first h.1))
 program-refused told absence read_failed run Unwritable h = absurd h
 program-refused told absence read_failed run OutOfMemory h = tt
 
-pub query-refused : (told : Option Texts) (absence read_failed : Type 0) (run : RunWords) (program : List ℕ) (e : Refusal) → IsRead told run.program program → IsNotRead told absence read_failed run.query Query e → Prepares told absence read_failed run (Err e)
+pub query-refused : (told : Option Texts) (absence read_failed : Type 0) (run : RunWords) (program : List ℕ) (e : Refusal) → IsRead told run.program program
+    → IsNotRead told absence read_failed run.query Query e → Prepares told absence read_failed run (Err e)
 query-refused told absence read_failed run program (Text role refusal) p h =
-    subst (λ r. RunFails told absence read_failed run (cause_of (name_of run r) refusal)) (sym h.0) (not_read (cause_of run.query refusal) (not-read told absence read_failed (run_texts run) run.query refusal (later program p first) h.1))
+    subst (λ r. RunFails told absence read_failed run (cause_of (name_of run r) refusal)) (sym h.0)
+    (not_read (cause_of run.query refusal) (not-read told absence read_failed (run_texts run) run.query refusal (later program p first) h.1))
 query-refused told absence read_failed run program Unwritable p h = absurd h
 query-refused told absence read_failed run program OutOfMemory p h = tt
 
 -- with counts that rose later on
-pub not-read-later : (told : Option Texts) (absence absence' read_failed read_failed' : Type 0) (name : List ℕ) (role : Role) (e : Refusal) → (absence → absence') → (read_failed → read_failed')
+pub not-read-later : (told : Option Texts) (absence absence' read_failed read_failed' : Type 0) (name : List ℕ) (role : Role) (e : Refusal)
+    → (absence → absence') → (read_failed → read_failed')
     → IsNotRead told absence read_failed name role e → IsNotRead told absence' read_failed' name role e
 not-read-later told a a' r r' name role (Text other text.Absent) f g h = (h.0, (f h.1.0, h.1.1))
 not-read-later told a a' r r' name role (Text other text.Unreadable) f g h = (h.0, g h.1)
@@ -52,12 +60,14 @@ not-read-later told a a' r r' name role OutOfMemory f g h = h
 
 -- ---- texts that are read
 
-pub prepared : (told : Option Texts) (absence read_failed : Type 0) (run : RunWords) (program query : List ℕ) → IsRead told run.program program → IsRead told run.query query → (r : Result ProblemTree Refusal) → Judges program query run.bound r
+pub prepared : (told : Option Texts) (absence read_failed : Type 0) (run : RunWords) (program query : List ℕ) → IsRead told run.program program
+    → IsRead told run.query query → (r : Result ProblemTree Refusal) → Judges program query run.bound r
     → Prepares told absence read_failed run r
 prepared told absence read_failed run program query p q (Ok problem) h = record { program = program; query = query; program_read = p; query_read = q; asks = h }
 prepared told absence read_failed run program query p q (Err (Text role refusal)) h = by role refusal h
   where
-    by : (role : Role) (refusal : TextRefusal) → IsFaultOf program query role refusal → RunFails told absence read_failed run (cause_of (name_of run role) refusal)
+    by : (role : Role) (refusal : TextRefusal) → IsFaultOf program query role refusal
+        → RunFails told absence read_failed run (cause_of (name_of run role) refusal)
     by role (text.Faulty f) g = faulty program query role f p q g
     by role text.Absent g = absurd g
     by role text.Unreadable g = absurd g
@@ -67,12 +77,15 @@ prepared told absence read_failed run program query p q (Err OutOfMemory) h = tt
 
 -- ---- judging
 
-pub program-judged : (program query : List ℕ) (bound : ℕ) (fault : TextFault) (r : Refusal) → r ≡ refusal_of Program fault → IsProgramCause program fault → Judges program query bound (Err r)
+pub program-judged : (program query : List ℕ) (bound : ℕ) (fault : TextFault) (r : Refusal) → r ≡ refusal_of Program fault → IsProgramCause program fault
+    → Judges program query bound (Err r)
 program-judged program query bound (text_fault.Text f) r e h = subst (λ x. Judges program query bound (Err x)) (sym e) (of_program h)
 program-judged program query bound text_fault.OutOfMemory r e h = subst (λ x. Judges program query bound (Err x)) (sym e) tt
 
-pub query-judged : (program query : List ℕ) (bound : ℕ) (part : ProgramPart) (fault : TextFault) (r : Refusal) → r ≡ refusal_of Query fault → IsPartOf program part → IsQueryCause part query fault → Judges program query bound (Err r)
-query-judged program query bound part (text_fault.Text f) r e p h = subst (λ x. Judges program query bound (Err x)) (sym e) (of_query p.tree p.is_faultless (h p.tree p.is))
+pub query-judged : (program query : List ℕ) (bound : ℕ) (part : ProgramPart) (fault : TextFault) (r : Refusal) → r ≡ refusal_of Query fault
+    → IsPartOf program part → IsQueryCause part query fault → Judges program query bound (Err r)
+query-judged program query bound part (text_fault.Text f) r e p h =
+    subst (λ x. Judges program query bound (Err x)) (sym e) (of_query p.tree p.is_faultless (h p.tree p.is))
 query-judged program query bound part text_fault.OutOfMemory r e p h = subst (λ x. Judges program query bound (Err x)) (sym e) tt
 
 -- a program's text that is not read, or not loaded
@@ -80,7 +93,8 @@ pub program-unread : (text : List ℕ) (e : TextFault) → IsReadingCause Progra
 program-unread text (text_fault.Text f) h = of_program_reading h
 program-unread text text_fault.OutOfMemory h = tt
 
-pub program-unloaded : (text : List ℕ) (tree : ProgramTree) (e : TextFault) → IsProgramText text tree → IsCauseOf (HasProgramFault tree) e → IsProgramCause text e
+pub program-unloaded : (text : List ℕ) (tree : ProgramTree) (e : TextFault) → IsProgramText text tree → IsCauseOf (HasProgramFault tree) e
+    → IsProgramCause text e
 program-unloaded text tree (text_fault.Text f) p h = of_program_scope tree p h
 program-unloaded text tree text_fault.OutOfMemory p h = tt
 
@@ -89,15 +103,18 @@ pub query-unread : (part : ProgramPart) (text : List ℕ) (e : TextFault) → Is
 query-unread part text (text_fault.Text f) h = λ program is. of_query_reading h
 query-unread part text text_fault.OutOfMemory h = tt
 
-pub query-unasked : (part : ProgramPart) (text : List ℕ) (tree : Raw) (e : TextFault) → IsQueryText text tree → IsCauseOf (λ fault. (program : ProgramTree) → part ≡ part_of program → HasQueryFault program tree fault) e → IsQueryCause part text e
+pub query-unasked : (part : ProgramPart) (text : List ℕ) (tree : Raw) (e : TextFault) → IsQueryText text tree
+    → IsCauseOf (λ fault. (program : ProgramTree) → part ≡ part_of program → HasQueryFault program tree fault) e → IsQueryCause part text e
 query-unasked part text tree (text_fault.Text f) q h = λ program is. of_query_scope tree q (h program is)
 query-unasked part text tree text_fault.OutOfMemory q h = tt
 
 -- ---- prints
 
 -- the text was not read
-pub source-refused : (told : Option Texts) (absence read_failed : Type 0) (name : List ℕ) (e : Refusal) → IsNotRead told absence read_failed name Program e → IsNotPrinted told absence read_failed name e
-source-refused told absence read_failed name (Text role refusal) h = source_not_read (cause_of name refusal) (not-read told absence read_failed (name ∷ []) name refusal first h.1)
+pub source-refused : (told : Option Texts) (absence read_failed : Type 0) (name : List ℕ) (e : Refusal) → IsNotRead told absence read_failed name Program e
+    → IsNotPrinted told absence read_failed name e
+source-refused told absence read_failed name (Text role refusal) h =
+    source_not_read (cause_of name refusal) (not-read told absence read_failed (name ∷ []) name refusal first h.1)
 source-refused told absence read_failed name Unwritable h = absurd h
 source-refused told absence read_failed name OutOfMemory h = tt
 
@@ -105,7 +122,8 @@ source-refused told absence read_failed name OutOfMemory h = tt
 pub source-printed : (told : Option Texts) (name source bytes : List ℕ) → IsRead told name source → IsMadeOf source bytes → IsPrintedAs told name bytes
 source-printed told name source bytes h m = record { text = source; tree = m.tree; text_read = h; is_program = m.is_program; is = m.is }
 
-pub source-judged : (told : Option Texts) (absence read_failed : Type 0) (name source : List ℕ) (e : Refusal) → IsRead told name source → IsNotMadeOf source e → IsNotPrinted told absence read_failed name e
+pub source-judged : (told : Option Texts) (absence read_failed : Type 0) (name source : List ℕ) (e : Refusal) → IsRead told name source → IsNotMadeOf source e
+    → IsNotPrinted told absence read_failed name e
 source-judged told absence read_failed name source (Text role (text.Faulty f)) h m = faulty_source source f h m
 source-judged told absence read_failed name source (Text role text.Absent) h m = absurd m
 source-judged told absence read_failed name source (Text role text.Unreadable) h m = absurd m
@@ -113,10 +131,12 @@ source-judged told absence read_failed name source (Text role text.Oversized) h 
 source-judged told absence read_failed name source Unwritable h m = absurd m
 source-judged told absence read_failed name source OutOfMemory h m = tt
 
-pub source-faulty : (source : List ℕ) (fault : TextFault) (e : Refusal) → e ≡ refusal_of Program fault → IsReadingCause Program source fault → IsNotMadeOf source e
+pub source-faulty : (source : List ℕ) (fault : TextFault) (e : Refusal) → e ≡ refusal_of Program fault → IsReadingCause Program source fault
+    → IsNotMadeOf source e
 source-faulty source (text_fault.Text f) e r h = subst (IsNotMadeOf source) (sym r) h
 source-faulty source text_fault.OutOfMemory e r h = subst (IsNotMadeOf source) (sym r) tt
 
-pub source-unprinted : {A : Type 0} (told : Option Texts) (absence read_failed : Type 0) (name source : List ℕ) (r : Result A Refusal) → IsRead told name source → IfErr r (IsNotMadeOf source) → IfErr r (IsNotPrinted told absence read_failed name)
+pub source-unprinted : {A : Type 0} (told : Option Texts) (absence read_failed : Type 0) (name source : List ℕ) (r : Result A Refusal) → IsRead told name source
+    → IfErr r (IsNotMadeOf source) → IfErr r (IsNotPrinted told absence read_failed name)
 source-unprinted told absence read_failed name source (Ok x) h m = tt
 source-unprinted told absence read_failed name source (Err e) h m = source-judged told absence read_failed name source e h m

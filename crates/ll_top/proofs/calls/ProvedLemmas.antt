@@ -69,7 +69,8 @@ told-front (Some k) p = by_upto (upto (problem_events p) k) refl
     by_upto (Some front) h = let f = upto_front (problem_events p) k front h in (f.0, sym f.1)
 
 -- its text is their lines, and the last one
-pub told-text : (first : Option ℕ) (proofs : Bool) (p : ProblemTree) → all_lines proofs p 0 (events_told first p) ++ end_of_run first p ≡ text_of_run first proofs p
+pub told-text : (first : Option ℕ) (proofs : Bool) (p : ProblemTree)
+    → all_lines proofs p 0 (events_told first p) ++ end_of_run first p ≡ text_of_run first proofs p
 told-text None proofs p = whole-lines proofs p
 told-text (Some k) proofs p = by_upto (upto (problem_events p) k)
   where
@@ -78,7 +79,8 @@ told-text (Some k) proofs p = by_upto (upto (problem_events p) k)
     by_upto (Some front) = refl
 
 -- a run that ended wrote what is shown
-pub run-shown : AnswersAreShown → (told : Option Texts) (run : RunWords) (before after : Option (List ℕ)) (p : ProblemTree) → RunAsks told run p → IsValid p → after ≡ append_known before (text_of_run run.first run.proofs p) → WritesShown told run before after
+pub run-shown : AnswersAreShown → (told : Option Texts) (run : RunWords) (before after : Option (List ℕ)) (p : ProblemTree) → RunAsks told run p → IsValid p
+    → after ≡ append_known before (text_of_run run.first run.proofs p) → WritesShown told run before after
 run-shown shown told run before after p asks valid written =
     let f = told-front run.first p in
     record {
@@ -98,10 +100,12 @@ cause-past (Oversized name) h = omega arith
 cause-past (OversizedAs name version) h = omega arith
 cause-past (Faulty name fault) h = omega arith
 
-pub refused-past : (cause : Cause) (write_failed : Type 0) (before after : Option (List ℕ)) (status : ℕ) → Refuses cause write_failed before after status → status ≤ 2 → ⊥
+pub refused-past : (cause : Cause) (write_failed : Type 0) (before after : Option (List ℕ)) (status : ℕ) → Refuses cause write_failed before after status
+    → status ≤ 2 → ⊥
 refused-past cause w before after status r h =
     elim (refused-status cause w before after status r) [ inl e ↦ cause-past cause (subst (λ n. n ≤ 2) e h) | inr s ↦ (let e = s.0 in omega arith) ]
 
 -- what the words of a run ask for
-pub shown-run : (words : List (List ℕ)) (told : Option Texts) (run other : RunWords) (before after : Option (List ℕ)) → IsRun words run → IsRun words other → WritesShown told run before after → WritesShown told other before after
+pub shown-run : (words : List (List ℕ)) (told : Option Texts) (run other : RunWords) (before after : Option (List ℕ)) → IsRun words run → IsRun words other
+    → WritesShown told run before after → WritesShown told other before after
 shown-run words told run other before after h k s = subst (λ r. WritesShown told r before after) (one-run words run other h k) s

@@ -1,5 +1,6 @@
 -- A run from its start to its end.
-use Rattle.std.proofs.Common.{◌≡◌, ◌≤◌, ℕ, zero, suc, ◌+◌, refl, subst, ap, sym, ◌∙◌, Bool, true, false, List, [], ◌∷◌, ◌++◌, length, take, arith, append_assoc, inl, inr}
+use Rattle.std.proofs.Common.{◌≡◌, ◌≤◌, ℕ, zero, suc, ◌+◌, refl, subst, ap, sym, ◌∙◌, Bool, true, false, List, [], ◌∷◌, ◌++◌, length, take, arith}
+use Rattle.std.proofs.Common.{append_assoc, inl, inr}
 use Rattle.std.specs.Prelude.{Option, Result, Ok, Err, OnOk, OnErr, count_by, cond, nat_lt, ◌||◌, codes, decimal}
 use Rattle.std.specs.List.{list_any}
 use Rattle.std.specs.Io.KnownBytes.{append_known}
@@ -54,7 +55,8 @@ proved_answers_text-cut p k (Answer a ∷ es) =
 proved_answers_text-cut p k (Reached ∷ es) = proved_answers_text-cut p k es
 
 -- the lines of an event, and the text of the answers after it
-event_then : (proofs : Bool) (p : ProblemTree) (k : ℕ) (e : Event) (es : List Event) → event_lines proofs p k e ++ all_lines proofs p (counted k e) es ≡ all_lines proofs p k (e ∷ es)
+event_then : (proofs : Bool) (p : ProblemTree) (k : ℕ) (e : Event) (es : List Event)
+    → event_lines proofs p k e ++ all_lines proofs p (counted k e) es ≡ all_lines proofs p k (e ∷ es)
 event_then false p k (Answer a) es = ap (λ xs. answer_text p (suc k) a ++ xs) (answers_text-cut p (suc k) es)
 event_then true p k (Answer a) es =
     let proof = derivation_text p.names (dealt p a) in
@@ -63,7 +65,8 @@ event_then false p k Reached es = refl
 event_then true p k Reached es = refl
 
 -- the whole text: the lines of the events, and the last line
-pub whole-lines : (proofs : Bool) (p : ProblemTree) → all_lines proofs p 0 (problem_events p) ++ summary_text (count_by is_answer (problem_events p)) (count_by is_reached (problem_events p)) (problem_cost p) ≡ whole_text proofs p
+pub whole-lines : (proofs : Bool) (p : ProblemTree) → all_lines proofs p 0 (problem_events p)
+    ++ summary_text (count_by is_answer (problem_events p)) (count_by is_reached (problem_events p)) (problem_cost p) ≡ whole_text proofs p
 whole-lines false p = refl
 whole-lines true p = refl
 
@@ -75,7 +78,8 @@ count-cons : (test : Event → Bool) (e : Event) (es : List Event) (b : Bool) �
 count-cons test e es b h = sum_by-cons (λ x. cond (test x) 1 0) e es ∙ ap (λ x. cond x 1 0 + count_by test es) h
 
 -- an answer that was found has a term for each variable that is asked for
-enough-terms : (p : ProblemTree) (a : Answered) (ts : List Term) → ts ≡ take (length p.asked) a.terms → length ts ≡ length p.asked → length p.asked ≤ length a.terms
+enough-terms : (p : ProblemTree) (a : Answered) (ts : List Term) → ts ≡ take (length p.asked) a.terms → length ts ≡ length p.asked
+    → length p.asked ≤ length a.terms
 enough-terms p a ts e f = let g = ap length e in let h = length-take (length p.asked) a.terms in omega arith
 
 pub found-answers_all : AnswersAreShown → (p : ProblemTree) (e : Event) → IsValid p → Contains (problem_events p) e → AnswersAll p e
@@ -97,10 +101,13 @@ welcome-all shown p v = by [] (problem_events p) refl
 
     by : (front es : List Event) → front ++ es ≡ problem_events p → Every (IsWelcome p) es
     by front [] h = tt
-    by front (e ∷ es) h =
-        (one e (subst (λ xs. Contains xs e) h (Contains-append_right front (e ∷ es) e (0, omega arith, refl))), by (front ++ e ∷ []) es (append_assoc front (e ∷ []) es ∙ h))
+    by front (e ∷ es) h = (
+      one e (subst (λ xs. Contains xs e) h (Contains-append_right front (e ∷ es) e (0, omega arith, refl))),
+      by (front ++ e ∷ []) es (append_assoc front (e ∷ []) es ∙ h),
+    )
 
-module _ {W : Type 0} (takes breaks : W → Event → W → Type 0) (state : W → OutletState) (writes : (x : W) (e : Event) (y : W) → takes x e y → Writes (state x) e (state y))
+module _ {W : Type 0} (takes breaks : W → Event → W → Type 0) (state : W → OutletState) (writes : (x : W) (e : Event) (y : W) → takes x e y
+    → Writes (state x) e (state y))
     (breaks_off : (x : W) (e : Event) (y : W) → breaks x e y → BreaksOff (state x) e (state y)) where
   -- the lines of an event, and of events from this state on
   abbrev lines_of : W → Event → List ℕ
@@ -116,15 +123,25 @@ module _ {W : Type 0} (takes breaks : W → Event → W → Type 0) (state : W �
       let s = state x in
       let t = state y in
       let same : lines_from y es ≡ all_lines s.proofs s.problem (counted s.answers e) es =
-      ap (λ q. all_lines q t.problem t.answers es) w.same.proofs ∙ (ap (λ q. all_lines s.proofs q t.answers es) w.same.problem ∙ ap (λ k. all_lines s.proofs s.problem k es) w.answers) in
+      ap (λ q. all_lines q t.problem t.answers es) w.same.proofs
+      ∙ (ap (λ q. all_lines s.proofs q t.answers es) w.same.problem ∙ ap (λ k. all_lines s.proofs s.problem k es) w.answers) in
       ap (λ xs. lines_of x e ++ xs) same ∙ event_then s.proofs s.problem s.answers e es
 
   lines-begin : (x : W) (e : Event) (es : List Event) → (rest : List ℕ) × (lines_of x e ++ rest ≡ lines_from x (e ∷ es))
-  lines-begin x e es = (all_lines (state x).proofs (state x).problem (counted (state x).answers e) es, event_then (state x).proofs (state x).problem (state x).answers e es)
+  lines-begin x e es = (
+    all_lines (state x).proofs (state x).problem (counted (state x).answers e) es,
+    event_then (state x).proofs (state x).problem (state x).answers e es,
+  )
 
   same-on : (a b c : OutletState) → SameOutlet a b → SameOutlet b c → SameOutlet a c
   same-on a b c h k =
-      record { problem = k.problem ∙ h.problem; proofs = k.proofs ∙ h.proofs; lent = k.lent ∙ h.lent; faults = let f = h.faults in let g = k.faults in omega arith }
+      record {
+        problem = k.problem ∙ h.problem;
+        proofs = k.proofs ∙ h.proofs;
+        lent = k.lent ∙ h.lent;
+        faults = let f = h.faults in let g = k.faults in
+            omega arith;
+      }
 
   same-self : (a : OutletState) → SameOutlet a a
   same-self a = record { problem = refl; proofs = refl; lent = refl; faults = omega arith }
@@ -144,37 +161,47 @@ module _ {W : Type 0} (takes breaks : W → Event → W → Type 0) (state : W �
 
   pub events-written : (x y : W) (es : List Event) → Gives takes x es y → (state y).written ≡ append_known (state x).written (lines_from x es)
   events-written x y es g =
-      given-written takes breaks (λ z. (state z).written) lines_of lines_from (λ z. no-lines (state z).proofs (state z).problem (state z).answers) (λ a e b h. (writes a e b h).written) lines-then lines-begin
+      given-written takes breaks (λ z. (state z).written) lines_of lines_from (λ z. no-lines (state z).proofs (state z).problem (state z).answers)
+      (λ a e b h. (writes a e b h).written) lines-then lines-begin
       (λ a e b h. (breaks_off a e b h).written) x y es g
 
   -- only the first of them were
   pub prefix-same : (x y : W) (es : List Event) → GivesPrefix takes breaks x es y → SameOutlet (state x) (state y)
   prefix-same x y es (inl (front, back, e, g)) = events-same x y front g
-  prefix-same x y es (inr r) = refused-kept takes breaks Kept (λ z. same-self (state z)) (λ a b c. same-on (state a) (state b) (state c)) took-same broke-same x y es r
+  prefix-same x y es (inr r) = refused-kept takes breaks Kept (λ z. same-self (state z)) (λ a b c. same-on (state a) (state b) (state c)) took-same broke-same x
+      y es r
 
-  pub prefix-written : (x y : W) (es : List Event) (last : List ℕ) → GivesPrefix takes breaks x es y → AppendsFront (state x).written (lines_from x es ++ last) (state y).written
+  pub prefix-written : (x y : W) (es : List Event) (last : List ℕ) → GivesPrefix takes breaks x es y
+      → AppendsFront (state x).written (lines_from x es ++ last) (state y).written
   prefix-written x y es last (inl (front, back, e, g)) =
       subst (λ xs. AppendsFront (state x).written (lines_from x xs ++ last) (state y).written) (sym e)
-      (front-given takes breaks (λ z. (state z).written) lines_of lines_from (λ z. no-lines (state z).proofs (state z).problem (state z).answers) (λ a e b h. (writes a e b h).written) lines-then lines-begin
+      (front-given takes breaks (λ z. (state z).written) lines_of lines_from (λ z. no-lines (state z).proofs (state z).problem (state z).answers)
+      (λ a e b h. (writes a e b h).written) lines-then lines-begin
       (λ a e b h. (breaks_off a e b h).written) x y front back last g)
   prefix-written x y es last (inr r) =
-      refused-written takes breaks (λ z. (state z).written) lines_of lines_from (λ z. no-lines (state z).proofs (state z).problem (state z).answers) (λ a e b h. (writes a e b h).written) lines-then lines-begin
+      refused-written takes breaks (λ z. (state z).written) lines_of lines_from (λ z. no-lines (state z).proofs (state z).problem (state z).answers)
+      (λ a e b h. (writes a e b h).written) lines-then lines-begin
       (λ a e b h. (breaks_off a e b h).written) x y es last r
 
   -- what was written of a text with the lines of these events, of which no answer was taken yet, and something behind them
-  pub lines-begun : (x y : W) (p : ProblemTree) (es : List Event) (last text : List ℕ) → (state x).problem ≡ p → (state x).answers ≡ 0 → all_lines (state x).proofs p 0 es ++ last ≡ text → GivesPrefix takes breaks x es y → AppendsFront (state x).written text (state y).written
+  pub lines-begun : (x y : W) (p : ProblemTree) (es : List Event) (last text : List ℕ) → (state x).problem ≡ p → (state x).answers ≡ 0
+      → all_lines (state x).proofs p 0 es ++ last ≡ text → GivesPrefix takes breaks x es y → AppendsFront (state x).written text (state y).written
   lines-begun x y p es last text e k t g =
       let f = prefix-written x y es last g in
-      let same : lines_from x es ++ last ≡ text = ap (λ q. all_lines (state x).proofs q (state x).answers es ++ last) e ∙ (ap (λ n. all_lines (state x).proofs p n es ++ last) k ∙ t) in
+      let same : lines_from x es ++ last ≡ text = ap (λ q. all_lines (state x).proofs q (state x).answers es ++ last) e
+      ∙ (ap (λ n. all_lines (state x).proofs p n es ++ last) k ∙ t) in
       subst (λ xs. AppendsFront (state x).written xs (state y).written) same f
 
   -- of the whole text of a problem
-  pub text-begun : (x y : W) (p : ProblemTree) → (state x).problem ≡ p → (state x).answers ≡ 0 → GivesPrefix takes breaks x (problem_events p) y → AppendsFront (state x).written (whole_text (state x).proofs p) (state y).written
+  pub text-begun : (x y : W) (p : ProblemTree) → (state x).problem ≡ p → (state x).answers ≡ 0 → GivesPrefix takes breaks x (problem_events p) y
+      → AppendsFront (state x).written (whole_text (state x).proofs p) (state y).written
   text-begun x y p e k g = lines-begun x y p (problem_events p) (last_text p) (whole_text (state x).proofs p) e k (whole-lines (state x).proofs p) g
 
   -- all of the lines were written
-  pub lines-written : (x y : W) (p : ProblemTree) (es : List Event) → (state x).problem ≡ p → (state x).answers ≡ 0 → Gives takes x es y → (state y).written ≡ append_known (state x).written (all_lines (state x).proofs p 0 es)
-  lines-written x y p es e k g = events-written x y es g ∙ ap (append_known (state x).written) (ap (λ q. all_lines (state x).proofs q (state x).answers es) e ∙ ap (λ n. all_lines (state x).proofs p n es) k)
+  pub lines-written : (x y : W) (p : ProblemTree) (es : List Event) → (state x).problem ≡ p → (state x).answers ≡ 0 → Gives takes x es y
+      → (state y).written ≡ append_known (state x).written (all_lines (state x).proofs p 0 es)
+  lines-written x y p es e k g = events-written x y es g ∙ ap (append_known (state x).written)
+      (ap (λ q. all_lines (state x).proofs q (state x).answers es) e ∙ ap (λ n. all_lines (state x).proofs p n es) k)
 
 any-count : (test : Event → Bool) (es : List Event) → list_any test es ≡ nat_lt 0 (count_by test es)
 any-count test [] = refl
@@ -205,16 +232,19 @@ last-line p c h = let a = h.0 in let b = h.1 in let m = h.2 in cc
 
 -- everything was written once the last line is
 pub whole-written : (proofs : Bool) (p : ProblemTree) (c : Counts) (before now after : Option (List ℕ)) → CountsOf c (problem_events p) (problem_cost p)
-    → now ≡ append_known before (all_lines proofs p 0 (problem_events p)) → after ≡ append_known now (counts_text c.answers c.reached c.inferences) → after ≡ append_known before (whole_text proofs p)
+    → now ≡ append_known before (all_lines proofs p 0 (problem_events p)) → after ≡ append_known now (counts_text c.answers c.reached c.inferences)
+    → after ≡ append_known before (whole_text proofs p)
 whole-written proofs p c before now after h d w =
     let lines = all_lines proofs p 0 (problem_events p) in
     w
     ∙ (ap (λ o. append_known o (counts_text c.answers c.reached c.inferences)) d
-    ∙ (ap (append_known (append_known before lines)) (last-line p c h) ∙ (append_known-append before lines (last_text p) ∙ ap (append_known before) (whole-lines proofs p))))
+    ∙ (ap (append_known (append_known before lines)) (last-line p c h)
+    ∙ (append_known-append before lines (last_text p) ∙ ap (append_known before) (whole-lines proofs p))))
 
 -- or a prefix of it, where the last line is not
 pub last-broken : (proofs : Bool) (p : ProblemTree) (c : Counts) (before now after : Option (List ℕ)) → CountsOf c (problem_events p) (problem_cost p)
-    → now ≡ append_known before (all_lines proofs p 0 (problem_events p)) → AppendsFront now (counts_text c.answers c.reached c.inferences) after → AppendsFront before (whole_text proofs p) after
+    → now ≡ append_known before (all_lines proofs p 0 (problem_events p)) → AppendsFront now (counts_text c.answers c.reached c.inferences) after
+    → AppendsFront before (whole_text proofs p) after
 last-broken proofs p c before now after h d f =
     let lines = all_lines proofs p 0 (problem_events p) in
     let last = counts_text c.answers c.reached c.inferences in
@@ -222,10 +252,12 @@ last-broken proofs p c before now after h d f =
     (ap (λ xs. lines ++ xs) (append-nil last) ∙ (ap (λ xs. lines ++ xs) (last-line p c h) ∙ whole-lines proofs p)) f
 
 -- the lines of all events are a prefix
-pub lines-front : (proofs : Bool) (p : ProblemTree) (before now : Option (List ℕ)) → now ≡ append_known before (all_lines proofs p 0 (problem_events p)) → AppendsFront before (whole_text proofs p) now
+pub lines-front : (proofs : Bool) (p : ProblemTree) (before now : Option (List ℕ)) → now ≡ append_known before (all_lines proofs p 0 (problem_events p))
+    → AppendsFront before (whole_text proofs p) now
 lines-front proofs p before now d =
     let lines = all_lines proofs p 0 (problem_events p) in
-    front_in before now now lines (last_text p) [] (whole_text proofs p) d (ap (λ xs. lines ++ xs) (append-nil (last_text p)) ∙ whole-lines proofs p) (no_front now (last_text p))
+    front_in before now now lines (last_text p) [] (whole_text proofs p) d (ap (λ xs. lines ++ xs) (append-nil (last_text p)) ∙ whole-lines proofs p)
+    (no_front now (last_text p))
 
 -- the status is that of the whole search
 pub run-status : (p : ProblemTree) (c : Counts) → CountsOf c (problem_events p) (problem_cost p) → status_of_counts c.answers c.reached ≡ run_status p

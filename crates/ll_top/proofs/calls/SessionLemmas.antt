@@ -58,17 +58,20 @@ module _ (proofs : Bool) (name : List ℕ) where
     replies-written count a = (
       replies_text proofs name a.queries,
       record { queries = a.queries; are = a.are; succeeds = refl; is = refl },
-      given-written Takes Breaks (λ w. w) reply replies (λ w. refl) (λ x q y h. h) (λ x q y qs h. refl) (λ x q qs. (replies_text proofs name qs, refl)) (λ x q y h. h) before after a.queries a.given,
+      given-written Takes Breaks (λ w. w) reply replies (λ w. refl) (λ x q y h. h) (λ x q y qs h. refl) (λ x q qs. (replies_text proofs name qs, refl))
+          (λ x q y h. h) before after a.queries a.given,
     )
 
     -- only a prefix of them was
-    pub replies-cut : StopsShort Takes Breaks program text bound before after → (written : List ℕ) × (RepliesTo proofs name program text bound 0 written × AppendsFront before written after)
+    pub replies-cut : StopsShort Takes Breaks program text bound before after
+        → (written : List ℕ) × (RepliesTo proofs name program text bound 0 written × AppendsFront before written after)
     replies-cut (refused queries are r) = (
       replies_text proofs name queries,
       (
         record { queries = queries; are = are; succeeds = refl; is = refl },
         subst (λ t. AppendsFront before t after) (append-nil (replies_text proofs name queries))
-            (refused-written Takes Breaks (λ w. w) reply replies (λ w. refl) (λ x q y h. h) (λ x q y qs h. refl) (λ x q qs. (replies_text proofs name qs, refl)) (λ x q y h. h) before after queries [] r),
+            (refused-written Takes Breaks (λ w. w) reply replies (λ w. refl) (λ x q y h. h) (λ x q y qs h. refl) (λ x q qs. (replies_text proofs name qs, refl))
+            (λ x q y h. h) before after queries [] r),
       ),
     )
     replies-cut (not_begun front back are g) = (
@@ -76,11 +79,13 @@ module _ (proofs : Bool) (name : List ℕ) where
       (
         record { queries = front ++ back; are = are; succeeds = refl; is = refl },
         subst (λ t. AppendsFront before t after) (append-nil (replies_text proofs name (front ++ back)))
-            (front-given Takes Breaks (λ w. w) reply replies (λ w. refl) (λ x q y h. h) (λ x q y qs h. refl) (λ x q qs. (replies_text proofs name qs, refl)) (λ x q y h. h) before after front back [] g),
+            (front-given Takes Breaks (λ w. w) reply replies (λ w. refl) (λ x q y h. h) (λ x q y qs h. refl) (λ x q qs. (replies_text proofs name qs, refl))
+            (λ x q y h. h) before after front back [] g),
       ),
     )
 
-    pub lines-stopped : {A : Type 0} (status_of : A → ℕ) (faults more : ℕ) (e : Refusal) → IsRunRefusal faults more e → StopsShort Takes Breaks program text bound before after
+    pub lines-stopped : {A : Type 0} (status_of : A → ℕ) (faults more : ℕ) (e : Refusal) → IsRunRefusal faults more e
+        → StopsShort Takes Breaks program text bound before after
         → EndsOwn (RepliesTo proofs name program text bound) status_of NoneFails (Rose faults more) before after (Err e)
     lines-stopped status_of faults more e h s =
         let r = replies-cut s in stopped (RepliesTo proofs name program text bound) status_of NoneFails before after faults more 0 r.0 e h r.1.0 r.1.1
@@ -88,7 +93,8 @@ module _ (proofs : Bool) (name : List ℕ) where
 -- ---- the index of a program
 
 -- the problems that queries ask of a program have its clauses
-pub query-indexed : (program : ProgramTree) (part : ProgramPart) (text : List ℕ) (bound : ℕ) (problem : ProblemTree) (index : Index) → IsProgramOf program part → TextAsks program text bound problem → HasIndex part.clauses index
+pub query-indexed : (program : ProgramTree) (part : ProgramPart) (text : List ℕ) (bound : ℕ) (problem : ProblemTree) (index : Index) → IsProgramOf program part
+    → TextAsks program text bound problem → HasIndex part.clauses index
     → HasIndex problem.clauses index
 query-indexed program part text bound problem index is asked h =
     subst (λ clauses. HasIndex clauses index) (ap (λ (p : ProgramPart). p.clauses) is.is ∙ sym (ap (λ (p : ProblemTree). p.clauses) asked.asks.is)) h
@@ -99,18 +105,24 @@ query-indexed program part text bound problem index is asked h =
 pub loaded-program : (program : List ℕ) (part : ProgramPart) (p : IsPartOf program part) → IsProgramOf p.tree part
 loaded-program program part p = record { whole = p.whole; faultless = p.is_faultless.faultless; is = p.is }
 
-pub lines-ended : {A : Type 0} (status_of : A → ℕ) (proofs : Bool) (name program text : List ℕ) (bound : ℕ) (part : ProgramPart) (w : Type 0) (before after : Option (List ℕ)) (r : Result A Refusal) → IsPartOf program part
+pub lines-ended : {A : Type 0} (status_of : A → ℕ) (proofs : Bool) (name program text : List ℕ) (bound : ℕ) (part : ProgramPart) (w : Type 0)
+    (before after : Option (List ℕ)) (r : Result A Refusal) → IsPartOf program part
     → ((tree : ProgramTree) → IsProgramOf tree part → EndsOwn (RepliesTo proofs name tree text bound) status_of NoneFails w before after r)
     → EndsOwn (TextsComeTo proofs name program text bound) status_of (RefusesProgram program) w before after r
 lines-ended status_of proofs name program text bound part w before after r p h =
-    ends-more (RepliesTo proofs name p.tree text bound) (TextsComeTo proofs name program text bound) status_of NoneFails (RefusesProgram program) w before after r
+    ends-more (RepliesTo proofs name p.tree text bound) (TextsComeTo proofs name program text bound) status_of NoneFails (RefusesProgram program) w before after
+    r
     (λ s t c. record { tree = p.tree; faultless = p.is_faultless; replies = c }) (λ role refusal f. absurd f) (h p.tree (loaded-program program part p))
 
 -- the program has a fault, or memory was wanting
-pub not-loaded : {A : Type 0} (Comes : ℕ → List ℕ → Type 0) (status_of : A → ℕ) (program : List ℕ) (w : Type 0) (before : Option (List ℕ)) (fault : TextFault) (e : Refusal) → e ≡ refusal_of Program fault → IsProgramCause program fault
+pub not-loaded : {A : Type 0} (Comes : ℕ → List ℕ → Type 0) (status_of : A
+    → ℕ) (program : List ℕ) (w : Type 0) (before : Option (List ℕ)) (fault : TextFault) (e : Refusal) → e ≡ refusal_of Program fault
+    → IsProgramCause program fault
     → EndsOwn Comes status_of (RefusesProgram program) w before before (Err e)
-not-loaded Comes status_of program w before (text_fault.Text f) e r h = subst (λ x. EndsOwn Comes status_of (RefusesProgram program) w before before (Err x)) (sym r) ((refl, h), refl)
-not-loaded Comes status_of program w before text_fault.OutOfMemory e r h = subst (λ x. EndsOwn Comes status_of (RefusesProgram program) w before before (Err x)) (sym r) (nothing refl)
+not-loaded Comes status_of program w before (text_fault.Text f) e r h =
+    subst (λ x. EndsOwn Comes status_of (RefusesProgram program) w before before (Err x)) (sym r) ((refl, h), refl)
+not-loaded Comes status_of program w before text_fault.OutOfMemory e r h =
+    subst (λ x. EndsOwn Comes status_of (RefusesProgram program) w before before (Err x)) (sym r) (nothing refl)
 
 -- ---- the texts of a session
 
@@ -119,21 +131,25 @@ module _ {A : Type 0} (told : Option Texts) (absence read_failed : Type 0) (sess
   Comes = SessionComesTo told absence read_failed session
 
   -- a text was not read
-  text-not-read : (name : List ℕ) (role : Role) (before : Option (List ℕ)) (e : Refusal) → Reaches told (session.program ∷ session.queries ∷ []) name → name ≡ name_in_session session role
+  text-not-read : (name : List ℕ) (role : Role) (before : Option (List ℕ)) (e : Refusal) → Reaches told (session.program ∷ session.queries ∷ []) name
+      → name ≡ name_in_session session role
       → IsNotRead told absence read_failed name role e → EndsOwn Comes status_of (RefusesText told absence read_failed session) w before before (Err e)
   text-not-read name role before (Text other refusal) r n h = (
     subst (λ x. RefusesText told absence read_failed session x refusal) (sym h.0)
-        (session_not_read (cause_of (name_in_session session role) refusal) (subst (λ x. ReadFails told absence read_failed (session.program ∷ session.queries ∷ []) (cause_of x refusal)) n
+        (session_not_read (cause_of (name_in_session session role) refusal)
+        (subst (λ x. ReadFails told absence read_failed (session.program ∷ session.queries ∷ []) (cause_of x refusal)) n
         (not-read told absence read_failed (session.program ∷ session.queries ∷ []) name refusal r h.1))),
     refl,
   )
   text-not-read name role before Unwritable r n h = absurd h
   text-not-read name role before OutOfMemory r n h = nothing refl
 
-  pub program-not-read : (before : Option (List ℕ)) (e : Refusal) → IsNotRead told absence read_failed session.program Program e → EndsOwn Comes status_of (RefusesText told absence read_failed session) w before before (Err e)
+  pub program-not-read : (before : Option (List ℕ)) (e : Refusal) → IsNotRead told absence read_failed session.program Program e
+      → EndsOwn Comes status_of (RefusesText told absence read_failed session) w before before (Err e)
   program-not-read before e h = text-not-read session.program Program before e first refl h
 
-  pub queries-not-read : (program : List ℕ) (before : Option (List ℕ)) (e : Refusal) → IsRead told session.program program → IsNotRead told absence read_failed session.queries Query e
+  pub queries-not-read : (program : List ℕ) (before : Option (List ℕ)) (e : Refusal) → IsRead told session.program program
+      → IsNotRead told absence read_failed session.queries Query e
       → EndsOwn Comes status_of (RefusesText told absence read_failed session) w before before (Err e)
   queries-not-read program before e p h = text-not-read session.queries Query before e (later program p first) refl h
 
@@ -141,21 +157,35 @@ module _ {A : Type 0} (told : Option Texts) (absence read_failed : Type 0) (sess
   module _ (program query : List ℕ) (p : IsRead told session.program program) (q : IsRead told session.queries query) where
     comes : (s : ℕ) (t : List ℕ) → TextsComeTo session.proofs session.queries program query session.bound s t → Comes s t
     comes s t c =
-        replied c.replies.queries (record { program = program; text = query; program_read = p; queries_read = q; tree = c.tree; faultless = c.faultless; are = c.replies.are }) c.replies.succeeds c.replies.is
+        replied c.replies.queries (record {
+          program = program;
+          text = query;
+          program_read = p;
+          queries_read = q;
+          tree = c.tree;
+          faultless = c.faultless;
+          are =
+              c.replies.are;
+        }) c.replies.succeeds c.replies.is
 
     refuses : (role : Role) (refusal : TextRefusal) → RefusesProgram program role refusal → RefusesText told absence read_failed session role refusal
-    refuses role (text.Faulty f) h = subst (λ x. RefusesText told absence read_failed session x (text.Faulty f)) (sym h.0) (faulty_program program query f p q h.1)
+    refuses role (text.Faulty f) h = subst (λ x. RefusesText told absence read_failed session x (text.Faulty f)) (sym h.0)
+        (faulty_program program query f p q h.1)
     refuses role text.Absent h = absurd h
     refuses role text.Unreadable h = absurd h
     refuses role text.Oversized h = absurd h
 
-    pub texts-ended : (before after : Option (List ℕ)) (r : Result A Refusal) → EndsOwn (TextsComeTo session.proofs session.queries program query session.bound) status_of (RefusesProgram program) w before after r
+    pub texts-ended : (before after : Option (List ℕ)) (r : Result A Refusal)
+        → EndsOwn (TextsComeTo session.proofs session.queries program query session.bound) status_of (RefusesProgram program) w before after r
         → EndsOwn Comes status_of (RefusesText told absence read_failed session) w before after r
-    texts-ended before after r h = ends-more (TextsComeTo session.proofs session.queries program query session.bound) Comes status_of (RefusesProgram program) (RefusesText told absence read_failed session) w before after r comes refuses h
+    texts-ended before after r h = ends-more (TextsComeTo session.proofs session.queries program query session.bound) Comes status_of (RefusesProgram program)
+        (RefusesText told absence read_failed session) w before after r comes refuses h
 
 -- the line of its cause was written
-pub session-refused : (told : Option Texts) (absence read_failed w : Type 0) (session : SessionWords) (before middle after : Option (List ℕ)) (role : Role) (refusal : TextRefusal) (status : ℕ) → RefusesText told absence read_failed session role refusal
-    → middle ≡ before → Refuses (cause_of (name_in_session session role) refusal) w middle after status → Ends (SessionComesTo told absence read_failed session) w before after status
+pub session-refused : (told : Option Texts) (absence read_failed w : Type 0) (session : SessionWords) (before middle after : Option (List ℕ)) (role : Role)
+    (refusal : TextRefusal) (status : ℕ) → RefusesText told absence read_failed session role refusal
+    → middle ≡ before → Refuses (cause_of (name_in_session session role) refusal) w middle after status
+    → Ends (SessionComesTo told absence read_failed session) w before after status
 session-refused told absence read_failed w session before middle after role refusal status f m r =
     refused-ends (SessionComesTo told absence read_failed session) w before middle after (cause_of (name_in_session session role) refusal) status
     (session_failed (cause_of (name_in_session session role) refusal) f refl refl) m r

@@ -19,10 +19,14 @@ options_in_any_order = record {
 }
 
 -- `run prog ques --workers 1 --proofs --bound 03`
-proofs_between_the_others : IsRun (codes "run" ∷ codes "prog" ∷ codes "ques" ∷ codes "--workers" ∷ codes "1" ∷ codes "--proofs" ∷ codes "--bound" ∷ codes "03" ∷ [])
+proofs_between_the_others : IsRun (codes "run" ∷ codes "prog" ∷ codes "ques" ∷ codes "--workers" ∷ codes "1" ∷ codes "--proofs" ∷ codes "--bound" ∷ codes "03"
+    ∷ [])
     (record { program = codes "prog"; query = codes "ques"; bound = 3; workers = 1; proofs = true; first = None })
 proofs_between_the_others = record {
-  form = part refl (part refl (part refl (option (behind (here refl)) refl (part refl (option (behind (here refl)) refl (option (here refl) refl (part refl (done refl))))))));
+  form =
+      part refl
+      (part refl (part refl (option (behind (here refl)) refl
+      (part refl (option (behind (here refl)) refl (option (here refl) refl (part refl (done refl))))))));
   program = refl;
   query = refl;
   bound = refl;
@@ -49,7 +53,8 @@ kind_line = refl
 long_line : fault_text (Oversized (codes "prog")) ≡ codes "fault: prog has more than 16777216 bytes\n"
 long_line = refl
 
-table_line : fault_text (Faulty (codes "proof") (record { at = record { line = 2; column = 1 }; kind = 18 })) ≡ codes "fault: proof 2:1 kind 18 not the table of shared terms\n"
+table_line : fault_text (Faulty (codes "proof") (record { at = record { line = 2; column = 1 }; kind = 18 }))
+    ≡ codes "fault: proof 2:1 kind 18 not the table of shared terms\n"
 unfolding digits
 table_line = refl
 

@@ -1,5 +1,6 @@
 -- The first bad element of a list, found by going from language to language.
-use Rattle.std.proofs.Common.{◌≡◌, ℕ, zero, suc, ◌+◌, ◌<◌, List, [], ◌∷◌, ◌++◌, length, take, drop, slice_get, Option, Some, None, refl, ap, sym, subst, ◌∙◌, arith, length-drop, append_assoc, ◌-◌, inl, inr}
+use Rattle.std.proofs.Common.{◌≡◌, ℕ, zero, suc, ◌+◌, ◌<◌, List, [], ◌∷◌, ◌++◌, length, take, drop, slice_get, Option, Some, None, refl, ap, sym, subst, ◌∙◌}
+use Rattle.std.proofs.Common.{arith, length-drop, append_assoc, ◌-◌, inl, inr}
 use Rattle.std.proofs.Math.Nat.{eq-or-lt_of_le}
 use Rattle.std.proofs.Math.Seq.{take-add}
 use Rattle.std.proofs.lemmas.Bool.{cases_lt}
@@ -39,15 +40,21 @@ module _ {A : Type 0} where
   begins-cons M N x to ys b = (b.0, to (ys ++ b.0) b.1)
 
   -- one element more
-  bad-cons : (M N : List A → Type 0) (x : A) → ((ys : List A) → N ys → M (x ∷ ys)) → ((ys : List A) → M (x ∷ ys) → N ys) → (ys : List A) (k : ℕ) → IsFirstBad N ys k → IsFirstBad M (x ∷ ys) (suc k)
+  bad-cons : (M N : List A → Type 0) (x : A) → ((ys : List A) → N ys → M (x ∷ ys)) → ((ys : List A) → M (x ∷ ys) → N ys) → (ys : List A) (k : ℕ)
+      → IsFirstBad N ys k → IsFirstBad M (x ∷ ys) (suc k)
   bad-cons M N x to from ys k h = record {
     within = let w = h.within in omega arith;
     before = begins-cons M N x to (take k ys) h.before;
-    here = λ l b. h.here (omega arith) (b.0, from (take (k + 1) ys ++ b.0) (subst (λ m. M (take m (x ∷ ys) ++ b.0)) (let e : suc k + 1 ≡ suc (k + 1) = omega arith in e) b.1));
+    here = λ l b. h.here (omega arith) (
+      b.0,
+      from (take (k + 1) ys ++ b.0)
+          (subst (λ m. M (take m (x ∷ ys) ++ b.0)) (let e : suc k + 1 ≡ suc (k + 1) = omega arith in e) b.1),
+    );
     at_end = λ e m. h.at_end (omega arith) (from ys m);
   }
 
-  pub leads-next : (L M N : List A → Type 0) (xs : List A) (n : ℕ) (x : A) → ((ys : List A) → N ys → M (x ∷ ys)) → ((ys : List A) → M (x ∷ ys) → N ys) → Leads L M xs n → slice_get xs n ≡ Some x → Leads L N xs (n + 1)
+  pub leads-next : (L M N : List A → Type 0) (xs : List A) (n : ℕ) (x : A) → ((ys : List A) → N ys → M (x ∷ ys)) → ((ys : List A) → M (x ∷ ys) → N ys)
+      → Leads L M xs n → slice_get xs n ≡ Some x → Leads L N xs (n + 1)
   leads-next L M N xs n x to from h e =
       let d = drop-next xs n x e in
       let len = ap length d in
@@ -102,4 +109,8 @@ module _ {A : Type 0} where
   -- there is one first bad element
   pub one-bad : (L : List A → Type 0) (xs : List A) (n m : ℕ) → IsFirstBad L xs n → IsFirstBad L xs m → n ≡ m
   one-bad L xs n m h k =
-      elim (cases_lt n m) [ inl l ↦ absurd (not-less L xs n m h k l) | inr g ↦ elim (cases_lt m n) [ inl l ↦ absurd (not-less L xs m n k h l) | inr f ↦ omega arith ] ]
+      elim (cases_lt n m) [
+        | inl l ↦ absurd (not-less L xs n m h k l)
+        | inr g ↦ elim (cases_lt m n)
+            [ inl l ↦ absurd (not-less L xs m n k h l) | inr f ↦ omega arith ]
+      ]

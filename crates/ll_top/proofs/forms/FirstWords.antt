@@ -1,5 +1,6 @@
 -- The forms, by the word that they begin with, and what words ask for.
-use Rattle.std.proofs.Common.{◌≡◌, ℕ, suc, ◌+◌, ◌<◌, ◌≤◌, Bool, true, false, List, [], ◌∷◌, ◌++◌, length, take, slice_get, Option, Some, None, refl, ap, sym, subst, ◌∙◌, inl, inr, ◌⊎◌, arith, if◌then◌else◌}
+use Rattle.std.proofs.Common.{◌≡◌, ℕ, suc, ◌+◌, ◌<◌, ◌≤◌, Bool, true, false, List, [], ◌∷◌, ◌++◌, length, take, slice_get, Option, Some, None, refl, ap, sym}
+use Rattle.std.proofs.Common.{subst, ◌∙◌, inl, inr, ◌⊎◌, arith, if◌then◌else◌}
 use Rattle.std.specs.Prelude.{IfSome, IsSomeAnd, codes, option_map, Result, Ok, Err, MatchResult}
 use Rattle.std.proofs.lemmas.Option.{slice_get-map}
 use Rattle.std.specs.Borrow.{Bor}
@@ -12,7 +13,9 @@ use Rattle.ll_top.specs.declared.words.Command.TheVariants as command
 use Rattle.ll_top.specs.declared.searches.SearchForm.TheVariants as search
 use Rattle.ll_top.specs.Begins.{Begins, IsFirstBad}
 use Rattle.ll_top.specs.Outcome.{word_texts}
-use Rattle.ll_top.specs.Words.{Part, ThisWord, is_word, OptionForm, Fits, part, option, done, FitsForm, run_form, session_form, IsDeepenForm, print_form, check_form, cover_form, convert_form, make_parts, make_form, made_run_form, greatest_bound, IsInForm, IsInWorkersForm, IsBadWord, IsCheckForm, IsCommand, IsBounded, IsWorkerCount}
+use Rattle.ll_top.specs.Words.{Part, ThisWord, is_word, OptionForm, Fits, part, option, done, FitsForm, run_form, session_form, IsDeepenForm, print_form}
+use Rattle.ll_top.specs.Words.{check_form, cover_form, convert_form, make_parts, make_form, made_run_form, greatest_bound, IsInForm, IsInWorkersForm}
+use Rattle.ll_top.specs.Words.{IsBadWord, IsCheckForm, IsCommand, IsBounded, IsWorkerCount}
 use Rattle.ll_top.specs.FormWords.{HasPart, LacksPart, form_word, IsNoFormWord, workers_of}
 use Rattle.ll_top.specs.SearchOptions.{IsSearchForm}
 use Rattle.ll_top.specs.MakeForm.{IsMakeForm, IsBadMakeWord}
@@ -119,7 +122,8 @@ of-alone form w ws h f =
     subst (λ g. Of g (w ∷ ws)) (sym e) o.1
 
 -- the first word through which none of these forms begins is that through which none at all does
-pub bad-among : (form : FormWord) (words : List (List ℕ)) (number place : ℕ) → HasPart words 0 (ThisWord (form_word form)) → number ≡ place + 1 → IsFirstBad (Of form) words place → IsBadWord words number
+pub bad-among : (form : FormWord) (words : List (List ℕ)) (number place : ℕ) → HasPart words 0 (ThisWord (form_word form)) → number ≡ place + 1
+    → IsFirstBad (Of form) words place → IsBadWord words number
 bad-among form [] number place h e b = absurd h
 bad-among form (w ∷ ws) number place h e b = record {
   place = place;
@@ -138,7 +142,8 @@ bad-among form (w ∷ ws) number place h e b = record {
         (of-alone form w (take place ws ++ more) h (subst (λ n. IsInForm (take n (w ∷ ws) ++ more)) (let e : place + 1 ≡ suc place = omega arith in e) m))
 
 -- words that begin as a make, and what they ask for
-pub make-answer : {A : Type 0} (words : List (List ℕ)) (Good : A → Type 0) (r : Result A ℕ) → HasPart words 0 (ThisWord (codes "make")) → MatchResult r Good (IsBadMakeWord words) → MatchResult r Good (IsBadWord words)
+pub make-answer : {A : Type 0} (words : List (List ℕ)) (Good : A → Type 0) (r : Result A ℕ) → HasPart words 0 (ThisWord (codes "make"))
+    → MatchResult r Good (IsBadMakeWord words) → MatchResult r Good (IsBadWord words)
 make-answer words Good (Ok x) h m = m
 make-answer words Good (Err n) h m = bad-among Make words n m.place h m.is m.bad
 
@@ -147,7 +152,10 @@ pub bad-first : (words : List (List ℕ)) → ((form : FormWord) → LacksPart w
 bad-first words h = record {
   place = 0;
   is = refl;
-  bad = leads-bad IsInForm IsInForm words 0 (leads-start IsInForm words) (codes "print" ∷ codes "p" ∷ [], in-form Print (codes "print" ∷ codes "p" ∷ []) (part refl (part refl (done refl)))) (stuck (slice_get words 0) h);
+  bad = leads-bad IsInForm IsInForm words 0 (leads-start IsInForm words) (
+    codes "print" ∷ codes "p" ∷ [],
+    in-form Print (codes "print" ∷ codes "p" ∷ []) (part refl (part refl (done refl))),
+  ) (stuck (slice_get words 0) h);
 }
   where
     stuck : (next : Option (List ℕ)) → ((form : FormWord) → IfSome next (λ w. is_word w (form_word form) ≡ false)) → IsStuck IsInForm next
@@ -156,18 +164,22 @@ bad-first words h = record {
 
 -- ---- the first word
 
-first-is : (words : List (Bor (List ℕ))) (word : Option (Bor (List ℕ))) → word ≡ slice_get words 0 → slice_get (word_texts words) 0 ≡ option_map (λ w. w.now) word
+first-is : (words : List (Bor (List ℕ))) (word : Option (Bor (List ℕ))) → word ≡ slice_get words 0
+    → slice_get (word_texts words) 0 ≡ option_map (λ w. w.now) word
 first-is words word e = slice_get-map (λ w. w.now) words 0 ∙ ap (λ o. option_map (λ w. w.now) o) (sym e)
 
 pub first-lacks : (words : List (Bor (List ℕ))) → None ≡ slice_get words 0 → (form : FormWord) → LacksPart (word_texts words) 0 (ThisWord (form_word form))
 first-lacks words e form = subst (λ o. IfSome o (λ w. is_word w (form_word form) ≡ false)) (sym (first-is words None e)) tt
 
-pub first-other : (words : List (Bor (List ℕ))) (word : Bor (Bor (List ℕ))) → Some word.now ≡ slice_get words 0 → IsNoFormWord word.now.now → (form : FormWord) → LacksPart (word_texts words) 0 (ThisWord (form_word form))
+pub first-other : (words : List (Bor (List ℕ))) (word : Bor (Bor (List ℕ))) → Some word.now ≡ slice_get words 0 → IsNoFormWord word.now.now → (form : FormWord)
+    → LacksPart (word_texts words) 0 (ThisWord (form_word form))
 first-other words word e h form = subst (λ o. IfSome o (λ w. is_word w (form_word form) ≡ false)) (sym (first-is words (Some word.now) e)) (h form)
 
-pub first-same : (form : FormWord) (words : List (Bor (List ℕ))) (word : Bor (Bor (List ℕ))) → Some word.now ≡ slice_get words 0 → word.now.now ≡ form_word form → HasPart (word_texts words) 0 (ThisWord (form_word form))
+pub first-same : (form : FormWord) (words : List (Bor (List ℕ))) (word : Bor (Bor (List ℕ))) → Some word.now ≡ slice_get words 0 → word.now.now ≡ form_word form
+    → HasPart (word_texts words) 0 (ThisWord (form_word form))
 first-same form words word e h =
-    subst (λ o. IsSomeAnd o (λ w. is_word w (form_word form) ≡ true)) (sym (first-is words (Some word.now) e)) (ap (λ w. is_word w (form_word form)) h ∙ same-word (form_word form))
+    subst (λ o. IsSomeAnd o (λ w. is_word w (form_word form) ≡ true)) (sym (first-is words (Some word.now) e))
+    (ap (λ w. is_word w (form_word form)) h ∙ same-word (form_word form))
 
 -- ---- what words ask for
 
@@ -205,7 +217,8 @@ kind_of [] = nothing
 kind_of (w ∷ ws) = by_first w (are_two ws)
 
 -- words in a form with this first word
-begins-with : (text w : List ℕ) (ws : List (List ℕ)) {ps : List Part} {os : List OptionForm} → Fits (ThisWord text ∷ ps) os (w ∷ ws) → kind_of (w ∷ ws) ≡ by_first text (are_two ws)
+begins-with : (text w : List ℕ) (ws : List (List ℕ)) {ps : List Part} {os : List OptionForm} → Fits (ThisWord text ∷ ps) os (w ∷ ws)
+    → kind_of (w ∷ ws) ≡ by_first text (are_two ws)
 begins-with text w ws f = ap (λ v. by_first v (are_two ws)) (words-same w text (part-first f).0)
 
 pub run-kind : (words : List (List ℕ)) → FitsForm run_form words → kind_of words ≡ a_run

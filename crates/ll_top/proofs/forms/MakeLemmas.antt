@@ -1,5 +1,6 @@
 -- The words of a make, read from its kind to its options.
-use Rattle.std.proofs.Common.{◌≡◌, ℕ, ◌+◌, ◌<◌, ◌≤◌, Bool, true, false, ◌||◌, List, [], ◌∷◌, ◌++◌, length, take, drop, slice_get, get_or, Option, Some, None, refl, ap, sym, subst, ◌∙◌, suc, inl, inr, arith}
+use Rattle.std.proofs.Common.{◌≡◌, ℕ, ◌+◌, ◌<◌, ◌≤◌, Bool, true, false, ◌||◌, List, [], ◌∷◌, ◌++◌, length, take, drop, slice_get, get_or, Option, Some, None}
+use Rattle.std.proofs.Common.{refl, ap, sym, subst, ◌∙◌, suc, inl, inr, arith}
 use Rattle.std.specs.Prelude.{IfSome, IsSomeAnd, All, codes, option_map, is_some}
 use Rattle.std.specs.Str.Parse.{digits_value}
 use Rattle.std.proofs.lemmas.Option.{slice_get_past, slice_get-get_or}
@@ -10,12 +11,15 @@ use Rattle.std.specs.Borrow.{Bor}
 use Rattle.ll_top.specs.Outcome.{word_texts}
 use Rattle.ll_top.specs.Begins.{Begins, IsFirstBad, Leads}
 use Rattle.ll_top.specs.Making.{kind_word}
-use Rattle.ll_top.specs.Words.{Part, ThisWord, NumberFrom, is_part, is_word, is_number_word, OptionForm, Takes, here, behind, Fits, part, option, done, number_from, number_behind, greatest_bound, greatest_workers, bound_option, workers_option, make_parts, made_options, IsMake, IsMadeRun}
+use Rattle.ll_top.specs.Words.{Part, ThisWord, NumberFrom, is_part, is_word, is_number_word, OptionForm, Takes, here, behind, Fits, part, option, done}
+use Rattle.ll_top.specs.Words.{number_from, number_behind, greatest_bound, greatest_workers, bound_option, workers_option, make_parts, made_options, IsMake}
+use Rattle.ll_top.specs.Words.{IsMadeRun}
 use Rattle.ll_top.specs.FormWords.{HasPart, LacksPart}
 use Rattle.ll_top.specs.MakeForm.{FitsEither, IsMakeForm, IsBadMakeWord, IsNoKind, LacksKind, IsAtOptions, HasOptions}
 use Rattle.ll_top.proofs.forms.FirstBad.{drop-none, drop-next, drop-end, leads-start, leads-next, leads-bad, IsStuck}
 use Rattle.ll_top.proofs.forms.Forms.{same-word, words-same, part-first, part-lacks, no-option, leads-part, bad-part, leads-option, bad-option, bad-end}
-use Rattle.ll_top.proofs.forms.WordValues.{word-inside, value-of, number-word, other-word, found-behind, none-more, HasNumber, number-there, number-value, number-word-at, this-word}
+use Rattle.ll_top.proofs.forms.WordValues.{word-inside, value-of, number-word, other-word, found-behind, none-more, HasNumber, number-there, number-value}
+use Rattle.ll_top.proofs.forms.WordValues.{number-word-at, this-word}
 use Rattle.ll_top.proofs.forms.CommandWords.{can-end}
 
 -- what stands behind the word of a kind
@@ -65,11 +69,13 @@ options-bad w ws k b = record {
   at_end = λ e m. b.at_end e (only-options w ws m);
 }
 
-leads-options : (words : List (List ℕ)) (n : ℕ) (w : List ℕ) → slice_get words n ≡ Some w → Leads IsMakeForm (FitsEither []) words n → Leads IsMakeForm (Fits [] made_options) words n
+leads-options : (words : List (List ℕ)) (n : ℕ) (w : List ℕ) → slice_get words n ≡ Some w → Leads IsMakeForm (FitsEither []) words n
+    → Leads IsMakeForm (Fits [] made_options) words n
 leads-options words n w e l = record {
   within = l.within;
   good = λ g. l.good (inr g);
-  bad = λ k b. l.bad k (subst (λ ws. IsFirstBad (FitsEither []) ws k) (sym (drop-next words n w e)) (options-bad w (drop (n + 1) words) k (subst (λ ws. IsFirstBad (Fits [] made_options) ws k) (drop-next words n w e) b)));
+  bad = λ k b. l.bad k (subst (λ ws. IsFirstBad (FitsEither []) ws k) (sym (drop-next words n w e))
+      (options-bad w (drop (n + 1) words) k (subst (λ ws. IsFirstBad (Fits [] made_options) ws k) (drop-next words n w e) b)));
 }
 
 -- ---- kinds
@@ -96,7 +102,8 @@ same-kind (w ∷ v ∷ ws) kind other f g =
     sym (one-kind kind other (ap (λ x. is_word x (kind_word other)) (sym (words-same v (kind_word kind) h)) ∙ k))
 
 -- words of a make, put together
-built : (words : List (List ℕ)) (kind : MakeKind) (os : List OptionForm) → HasPart words 0 (ThisWord (codes "make")) → slice_get words 1 ≡ Some (kind_word kind) → HasPart words 2 (number_part kind)
+built : (words : List (List ℕ)) (kind : MakeKind) (os : List OptionForm) → HasPart words 0 (ThisWord (codes "make")) → slice_get words 1 ≡ Some (kind_word kind)
+    → HasPart words 2 (number_part kind)
     → Fits [] os (drop 3 words) → Fits (make_parts kind) os words
 built [] kind os m e n f = absurd m
 built (w ∷ []) kind os m e n f = cc
@@ -110,7 +117,8 @@ built (w ∷ v ∷ u ∷ ws) kind os m e n f =
 module _ (words : List (List ℕ)) (make : HasPart words 0 (ThisWord (codes "make"))) where
   to-kind : Leads IsMakeForm IsKinded words 1
   to-kind =
-      leads-next IsMakeForm IsMakeForm IsKinded words 0 (codes "make") (λ ys f. (f.0, either-part {p = ThisWord (codes "make")} refl f.1)) (λ ys f. (f.0, (either-first f.1).1)) (leads-start IsMakeForm words)
+      leads-next IsMakeForm IsMakeForm IsKinded words 0 (codes "make") (λ ys f. (f.0, either-part {p = ThisWord (codes "make")} refl f.1))
+      (λ ys f. (f.0, (either-first f.1).1)) (leads-start IsMakeForm words)
       (this-word words 0 (codes "make") make)
 
   pub no-kind : (number : ℕ) → number ≡ 2 → LacksKind words 1 → IsBadMakeWord words number
@@ -123,13 +131,19 @@ module _ (words : List (List ℕ)) (make : HasPart words 0 (ThisWord (codes "mak
   module _ (kind : MakeKind) (is_kind : slice_get words 1 ≡ Some (kind_word kind)) where
     to-number : Leads IsMakeForm (FitsEither (number_part kind ∷ [])) words 2
     to-number =
-        leads-next IsMakeForm IsKinded (FitsEither (number_part kind ∷ [])) words 1 (kind_word kind) (λ ys f. (kind, either-part {p = ThisWord (kind_word kind)} (same-word (kind_word kind)) f)) from to-kind is_kind
+        leads-next IsMakeForm IsKinded (FitsEither (number_part kind ∷ [])) words 1 (kind_word kind)
+        (λ ys f. (kind, either-part {p = ThisWord (kind_word kind)} (same-word (kind_word kind)) f)) from to-kind is_kind
       where
         from : (ys : List (List ℕ)) → IsKinded (kind_word kind ∷ ys) → FitsEither (number_part kind ∷ []) ys
         from ys f = let h = either-first f.1 in subst (λ k. FitsEither (number_part k ∷ []) ys) (one-kind kind f.0 h.0) h.1
 
     pub no-number : (number : ℕ) → number ≡ 3 → LacksPart words 2 (number_part kind) → IsBadMakeWord words number
-    no-number number e h = record { place = 2; is = e; bad = leads-bad IsMakeForm (FitsEither (number_part kind ∷ [])) words 2 to-number (can-number kind) (stuck (slice_get words 2) h) }
+    no-number number e h = record {
+      place = 2;
+      is = e;
+      bad =
+          leads-bad IsMakeForm (FitsEither (number_part kind ∷ [])) words 2 to-number (can-number kind) (stuck (slice_get words 2) h);
+    }
       where
         stuck : (next : Option (List ℕ)) → IfSome next (λ w. is_part (number_part kind) w ≡ false) → IsStuck (FitsEither (number_part kind ∷ [])) next
         stuck None h = λ f. either-lacks f
@@ -141,12 +155,15 @@ module _ (words : List (List ℕ)) (make : HasPart words 0 (ThisWord (codes "mak
 
       to-end : Leads IsMakeForm (FitsEither []) words 3
       to-end =
-          leads-next IsMakeForm (FitsEither (number_part kind ∷ [])) (FitsEither []) words 2 there.word (λ ys f. either-part {p = number_part kind} (ap is_some there.number) f) (λ ys f. (either-first f).1) to-number there.is
+          leads-next IsMakeForm (FitsEither (number_part kind ∷ [])) (FitsEither []) words 2 there.word
+          (λ ys f. either-part {p = number_part kind} (ap is_some there.number) f) (λ ys f. (either-first f).1) to-number there.is
 
       -- no word of the first three is this text
-      clear : (text : List ℕ) → is_word (codes "make") text ≡ false → is_word (kind_word kind) text ≡ false → is_number_word text ≡ false → All (λ w. is_word w text ≡ false) (take 3 words)
+      clear : (text : List ℕ) → is_word (codes "make") text ≡ false → is_word (kind_word kind) text ≡ false → is_number_word text ≡ false
+          → All (λ w. is_word w text ≡ false) (take 3 words)
       clear text m k n =
-          none-more text words 2 there.word there.is (other-word is_number_word text there.word n (number-word (least_number kind) (greatest_number kind) there.word value there.number))
+          none-more text words 2 there.word there.is (other-word is_number_word text there.word n
+          (number-word (least_number kind) (greatest_number kind) there.word value there.number))
           (none-more text words 1 (kind_word kind) is_kind k (none-more text words 0 (codes "make") (this-word words 0 (codes "make") make) m none))
         where
           none : All (λ w. is_word w text ≡ false) (take 0 words)
@@ -180,7 +197,8 @@ module _ (words : List (List ℕ)) (make : HasPart words 0 (ThisWord (codes "mak
         number = number-value words 2 (least_number kind) (greatest_number kind) value number;
       }
 
-      pub whole-run : (bound workers : ℕ) → HasOptions words bound workers → IsMadeRun words (record { make = record { kind = kind; number = value }; bound = bound; workers = workers })
+      pub whole-run : (bound workers : ℕ) → HasOptions words bound workers
+          → IsMadeRun words (record { make = record { kind = kind; number = value }; bound = bound; workers = workers })
       whole-run bound workers h = record {
         form = built words kind made_options make is_kind (number-there words 2 (least_number kind) (greatest_number kind) value number) h.form;
         number = number-value words 2 (least_number kind) (greatest_number kind) value number;
@@ -191,15 +209,21 @@ module _ (words : List (List ℕ)) (make : HasPart words 0 (ThisWord (codes "mak
 -- ---- the options
 
 can-options : Begins (Fits [] made_options) []
-can-options = (codes "--bound" ∷ codes "0" ∷ codes "--workers" ∷ codes "1" ∷ [], option (here refl) refl (part refl (option (here refl) refl (part refl (done refl)))))
+can-options = (
+  codes "--bound" ∷ codes "0" ∷ codes "--workers" ∷ codes "1" ∷ [],
+  option (here refl) refl (part refl (option (here refl) refl (part refl (done refl)))),
+)
 
 -- a word of no option
-pub no-options : (words : List (List ℕ)) → IsAtOptions words → (number : ℕ) → number ≡ 4 → LacksPart words 3 (ThisWord (codes "--bound")) → LacksPart words 3 (ThisWord (codes "--workers")) → IsBadMakeWord words number
+pub no-options : (words : List (List ℕ)) → IsAtOptions words → (number : ℕ) → number ≡ 4 → LacksPart words 3 (ThisWord (codes "--bound"))
+    → LacksPart words 3 (ThisWord (codes "--workers")) → IsBadMakeWord words number
 no-options words front number e h k = record { place = 3; is = e; bad = by (slice_get words 3) refl h k }
   where
-    by : (next : Option (List ℕ)) → slice_get words 3 ≡ next → IfSome next (λ w. is_word w (codes "--bound") ≡ false) → IfSome next (λ w. is_word w (codes "--workers") ≡ false) → IsFirstBad IsMakeForm words 3
+    by : (next : Option (List ℕ)) → slice_get words 3 ≡ next → IfSome next (λ w. is_word w (codes "--bound") ≡ false)
+        → IfSome next (λ w. is_word w (codes "--workers") ≡ false) → IsFirstBad IsMakeForm words 3
     by None q h k = bad-end IsMakeForm words 3 made_options q refl can-options front.leads
-    by (Some w) q h k = bad-option IsMakeForm words 3 made_options w q (none (is_word w (codes "--bound")) (is_word w (codes "--workers")) h k) can-options front.leads
+    by (Some w) q h k = bad-option IsMakeForm words 3 made_options w q (none (is_word w (codes "--bound")) (is_word w (codes "--workers")) h k) can-options
+        front.leads
       where
         none : (a b : Bool) → a ≡ false → b ≡ false → a || (b || false) ≡ false
         none a b h k = cc
@@ -223,28 +247,42 @@ pub record Order : Type 0 where
 
 module _ (words : List (List ℕ)) (front : IsAtOptions words) (o : Order) (is_first : slice_get words 3 ≡ Some o.first) where
   to-value : Leads IsMakeForm (Fits (NumberFrom o.least o.greatest ∷ []) (number_option o.second o.second_least o.second_greatest ∷ [])) words 4
-  to-value = leads-option IsMakeForm words 3 {o = number_option o.first o.least o.greatest} {os = made_options} {others = number_option o.second o.second_least o.second_greatest ∷ []} (refl, (refl, tt)) o.takes is_first front.leads
+  to-value = leads-option IsMakeForm words 3 {o = number_option o.first o.least o.greatest} {os = made_options} {others =
+      number_option o.second o.second_least o.second_greatest ∷ []} (refl, (refl, tt)) o.takes is_first front.leads
 
   pub no-value : (number : ℕ) → number ≡ 5 → LacksPart words 4 (NumberFrom o.least o.greatest) → IsBadMakeWord words number
-  no-value number e h = record { place = 4; is = e; bad = bad-part IsMakeForm words 4 (NumberFrom o.least o.greatest) [] (number_option o.second o.second_least o.second_greatest ∷ []) h o.can_value to-value }
+  no-value number e h = record {
+    place = 4;
+    is = e;
+    bad = bad-part IsMakeForm words 4 (NumberFrom o.least o.greatest) []
+        (number_option o.second o.second_least o.second_greatest ∷ []) h o.can_value to-value;
+  }
 
   module _ (one : ℕ) (first_number : IsSomeAnd (slice_get words 4) (λ w. number_from o.least o.greatest w ≡ Some one)) where
     to-second : Leads IsMakeForm (Fits [] (number_option o.second o.second_least o.second_greatest ∷ [])) words 5
-    to-second = leads-part IsMakeForm words 4 (NumberFrom o.least o.greatest) [] (number_option o.second o.second_least o.second_greatest ∷ []) (number-there words 4 o.least o.greatest one first_number) to-value
+    to-second = leads-part IsMakeForm words 4 (NumberFrom o.least o.greatest) [] (number_option o.second o.second_least o.second_greatest ∷ [])
+        (number-there words 4 o.least o.greatest one first_number) to-value
 
     pub no-second : (number : ℕ) → number ≡ 6 → LacksPart words 5 (ThisWord o.second) → IsBadMakeWord words number
     no-second number e h = record { place = 5; is = e; bad = by (slice_get words 5) refl h }
       where
         by : (next : Option (List ℕ)) → slice_get words 5 ≡ next → IfSome next (λ w. is_word w o.second ≡ false) → IsFirstBad IsMakeForm words 5
         by None q h = bad-end IsMakeForm words 5 (number_option o.second o.second_least o.second_greatest ∷ []) q refl o.can_second to-second
-        by (Some w) q h = bad-option IsMakeForm words 5 (number_option o.second o.second_least o.second_greatest ∷ []) w q (ap (λ x. x || false) h) o.can_second to-second
+        by (Some w) q h = bad-option IsMakeForm words 5 (number_option o.second o.second_least o.second_greatest ∷ []) w q (ap (λ x. x || false) h) o.can_second
+            to-second
 
     module _ (is_second : HasPart words 5 (ThisWord o.second)) where
       to-last : Leads IsMakeForm (Fits (NumberFrom o.second_least o.second_greatest ∷ []) []) words 6
-      to-last = leads-option IsMakeForm words 5 {o = number_option o.second o.second_least o.second_greatest} {os = number_option o.second o.second_least o.second_greatest ∷ []} {others = []} (refl, tt) (here refl) (this-word words 5 o.second is_second) to-second
+      to-last = leads-option IsMakeForm words 5 {o = number_option o.second o.second_least o.second_greatest} {os =
+          number_option o.second o.second_least o.second_greatest ∷ []} {others = []} (refl, tt) (here refl) (this-word words 5 o.second is_second) to-second
 
       pub no-last : (number : ℕ) → number ≡ 7 → LacksPart words 6 (NumberFrom o.second_least o.second_greatest) → IsBadMakeWord words number
-      no-last number e h = record { place = 6; is = e; bad = bad-part IsMakeForm words 6 (NumberFrom o.second_least o.second_greatest) [] [] h o.can_last to-last }
+      no-last number e h = record {
+        place = 6;
+        is = e;
+        bad =
+            bad-part IsMakeForm words 6 (NumberFrom o.second_least o.second_greatest) [] [] h o.can_last to-last;
+      }
 
       module _ (two : ℕ) (last_number : IsSomeAnd (slice_get words 6) (λ w. number_from o.second_least o.second_greatest w ≡ Some two)) where
         pub one-more : 7 < length words → IsBadMakeWord words 8
@@ -252,7 +290,8 @@ module _ (words : List (List ℕ)) (front : IsAtOptions words) (o : Order) (is_f
           place = 7;
           is = refl;
           bad = bad-option IsMakeForm words 7 [] (get_or words 7 []) (slice_get-get_or words 7 [] l) refl can-end
-              (leads-part IsMakeForm words 6 (NumberFrom o.second_least o.second_greatest) [] [] (number-there words 6 o.second_least o.second_greatest two last_number) to-last);
+              (leads-part IsMakeForm words 6 (NumberFrom o.second_least o.second_greatest) [] []
+              (number-there words 6 o.second_least o.second_greatest two last_number) to-last);
         }
 
         pub options-built : length words ≤ 7 → Fits [] made_options (drop 3 words)
@@ -262,21 +301,27 @@ module _ (words : List (List ℕ)) (front : IsAtOptions words) (o : Order) (is_f
             let u = this-word words 5 o.second is_second in
             let end = drop-end words 7 (slice_get_past words 7 l) in
             let all : drop 3 words ≡ o.first ∷ v.word ∷ o.second ∷ z.word ∷ [] =
-            drop-next words 3 o.first is_first ∙ ap (λ ws. o.first ∷ ws) (drop-next words 4 v.word v.is ∙ ap (λ ws. v.word ∷ ws) (drop-next words 5 o.second u ∙ ap (λ ws. o.second ∷ ws) (drop-next words 6 z.word z.is ∙ ap (λ ws. z.word ∷ ws) end))) in
-            subst (Fits [] made_options) (sym all) (option o.takes refl (part (ap is_some v.number) (option (here refl) refl (part (ap is_some z.number) (done refl)))))
+            drop-next words 3 o.first is_first ∙ ap (λ ws. o.first ∷ ws)
+            (drop-next words 4 v.word v.is ∙ ap (λ ws. v.word ∷ ws)
+            (drop-next words 5 o.second u ∙ ap (λ ws. o.second ∷ ws) (drop-next words 6 z.word z.is ∙ ap (λ ws. z.word ∷ ws) end))) in
+            subst (Fits [] made_options) (sym all) (option o.takes refl
+            (part (ap is_some v.number) (option (here refl) refl (part (ap is_some z.number) (done refl)))))
 
         pub first-is : All (λ w. is_word w o.first ≡ false) (take 3 words) → number_behind o.first words ≡ Some one
         first-is none =
             let v = number-word-at words 4 o.least o.greatest one first_number in
             found-behind o.first words 3 v.word none is_first v.is ∙ ap (λ n. let o : Option ℕ = Some n in o) (value-of o.least o.greatest v.word one v.number)
 
-        pub second-is : is_word o.first o.second ≡ false → is_number_word o.second ≡ false → All (λ w. is_word w o.second ≡ false) (take 3 words) → number_behind o.second words ≡ Some two
+        pub second-is : is_word o.first o.second ≡ false → is_number_word o.second ≡ false → All (λ w. is_word w o.second ≡ false) (take 3 words)
+            → number_behind o.second words ≡ Some two
         second-is differ no_number none =
             let v = number-word-at words 4 o.least o.greatest one first_number in
             let z = number-word-at words 6 o.second_least o.second_greatest two last_number in
             found-behind o.second words 5 z.word
-            (none-more o.second words 4 v.word v.is (other-word is_number_word o.second v.word no_number (number-word o.least o.greatest v.word one v.number)) (none-more o.second words 3 o.first is_first differ none))
-            (this-word words 5 o.second is_second) z.is ∙ ap (λ n. let o : Option ℕ = Some n in o) (value-of o.second_least o.second_greatest z.word two z.number)
+            (none-more o.second words 4 v.word v.is (other-word is_number_word o.second v.word no_number (number-word o.least o.greatest v.word one v.number))
+            (none-more o.second words 3 o.first is_first differ none))
+            (this-word words 5 o.second is_second) z.is ∙ ap (λ n. let o : Option ℕ = Some n in
+            o) (value-of o.second_least o.second_greatest z.word two z.number)
 
 -- ---- the two orders
 
@@ -327,7 +372,8 @@ bound_last = record {
 }
 
 module _ (words : List (List ℕ)) (front : IsAtOptions words) (bound workers : ℕ) (few : length words ≤ 7) where
-  pub whole-bound_first : slice_get words 3 ≡ Some (codes "--bound") → IsSomeAnd (slice_get words 4) (λ w. number_from 0 greatest_bound w ≡ Some bound) → HasPart words 5 (ThisWord (codes "--workers"))
+  pub whole-bound_first : slice_get words 3 ≡ Some (codes "--bound") → IsSomeAnd (slice_get words 4) (λ w. number_from 0 greatest_bound w ≡ Some bound)
+      → HasPart words 5 (ThisWord (codes "--workers"))
       → IsSomeAnd (slice_get words 6) (λ w. number_from 1 greatest_workers w ≡ Some workers) → HasOptions words bound workers
   whole-bound_first e b w n = record {
     form = options-built words front bound_first e bound b w workers n few;
@@ -335,7 +381,8 @@ module _ (words : List (List ℕ)) (front : IsAtOptions words) (bound workers : 
     workers_is = second-is words front bound_first e bound b w workers n refl refl front.no_workers;
   }
 
-  pub whole-bound_last : slice_get words 3 ≡ Some (codes "--workers") → IsSomeAnd (slice_get words 4) (λ w. number_from 1 greatest_workers w ≡ Some workers) → HasPart words 5 (ThisWord (codes "--bound"))
+  pub whole-bound_last : slice_get words 3 ≡ Some (codes "--workers") → IsSomeAnd (slice_get words 4) (λ w. number_from 1 greatest_workers w ≡ Some workers)
+      → HasPart words 5 (ThisWord (codes "--bound"))
       → IsSomeAnd (slice_get words 6) (λ w. number_from 0 greatest_bound w ≡ Some bound) → HasOptions words bound workers
   whole-bound_last e n w b = record {
     form = options-built words front bound_last e workers n w bound b few;
@@ -345,7 +392,8 @@ module _ (words : List (List ℕ)) (front : IsAtOptions words) (bound workers : 
 
 -- ---- words behind a word that stands
 
-pub number-inside : (words : List (Bor (List ℕ))) (at least greatest value : ℕ) → IsSomeAnd (slice_get (word_texts words) at) (λ w. number_from least greatest w ≡ Some value) → at < length words
+pub number-inside : (words : List (Bor (List ℕ))) (at least greatest value : ℕ)
+    → IsSomeAnd (slice_get (word_texts words) at) (λ w. number_from least greatest w ≡ Some value) → at < length words
 number-inside words at least greatest value h = let v = number-word-at (word_texts words) at least greatest value h in word-inside words at v.word v.is
 
 pub text-inside : (words : List (Bor (List ℕ))) (at : ℕ) (text : List ℕ) → HasPart (word_texts words) at (ThisWord text) → at < length words

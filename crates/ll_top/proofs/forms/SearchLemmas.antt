@@ -8,8 +8,10 @@ use Rattle.ll_top.specs.declared.searches.SearchForm.TheVariants.{Run, Session, 
 use Rattle.ll_top.specs.declared.searches.SearchOption.{SearchOption}
 use Rattle.ll_top.specs.declared.searches.SearchOption.TheVariants.{Bound, Workers, Proofs, First, From, By, To}
 use Rattle.ll_top.specs.declared.searches.SearchOptions.{SearchOptions}
-use Rattle.ll_top.specs.Words.{is_word, is_name_word, is_number_word, greatest_bound, greatest_workers, greatest_first, Takes, here, behind, Fits, part, option, done, OptionForm}
-use Rattle.ll_top.specs.SearchOptions.{option_word, option_form, search_word, options_of, same_option, value, with_value, is_unread, has_number, least_in, greatest_in, IsWithin, IsBetween}
+use Rattle.ll_top.specs.Words.{is_word, is_name_word, is_number_word, greatest_bound, greatest_workers, greatest_first, Takes, here, behind, Fits, part}
+use Rattle.ll_top.specs.Words.{option, done, OptionForm}
+use Rattle.ll_top.specs.SearchOptions.{option_word, option_form, search_word, options_of, same_option, value, with_value, is_unread, has_number, least_in}
+use Rattle.ll_top.specs.SearchOptions.{greatest_in, IsWithin, IsBetween}
 use Rattle.ll_top.proofs.forms.Forms.{part-first, part-lacks, DifferentWords}
 use Rattle.ll_top.proofs.forms.WordValues.{other-word, IsNumber, part-number, number-part}
 
@@ -68,7 +70,8 @@ no-search Deepen o = other-word is_name_word (option_word o) (codes "deepen") (n
 
 -- ---- one more option was read
 
-pub other-value : (options : SearchOptions) (o : SearchOption) (v : ℕ) (p : SearchOption) → same_option o p ≡ false → value (with_value options o v) p ≡ value options p
+pub other-value : (options : SearchOptions) (o : SearchOption) (v : ℕ) (p : SearchOption) → same_option o p ≡ false
+    → value (with_value options o v) p ≡ value options p
 other-value options Bound v Bound h = cc
 other-value options Bound v p h = refl
 other-value options Workers v Workers h = cc
@@ -102,7 +105,8 @@ own-value options From v h = refl
 own-value options By v h = refl
 own-value options To v h = refl
 
-other-unread : (options : SearchOptions) (o : SearchOption) (v : ℕ) (p : SearchOption) → same_option o p ≡ false → is_unread (with_value options o v) p ≡ is_unread options p
+other-unread : (options : SearchOptions) (o : SearchOption) (v : ℕ) (p : SearchOption) → same_option o p ≡ false
+    → is_unread (with_value options o v) p ≡ is_unread options p
 other-unread options o v p h = ap (λ x. not (is_some x)) (other-value options o v p h)
 
 pub none-unread : (options : SearchOptions) (o : SearchOption) → value options o ≡ None → is_unread options o ≡ true
@@ -111,7 +115,8 @@ none-unread options o e = ap (λ x. not (is_some x)) e
 -- ---- the options that are left
 
 -- options without this one stay left
-left-same : (options : SearchOptions) (o : SearchOption) (v : ℕ) (os : List SearchOption) → list_any (same_option o) os ≡ false → filter (is_unread (with_value options o v)) os ≡ filter (is_unread options) os
+left-same : (options : SearchOptions) (o : SearchOption) (v : ℕ) (os : List SearchOption) → list_any (same_option o) os ≡ false
+    → filter (is_unread (with_value options o v)) os ≡ filter (is_unread options) os
 left-same options o v [] h = refl
 left-same options o v (p ∷ os) h =
     let s = or_parts (same_option o p) (list_any (same_option o) os) h in
@@ -132,15 +137,20 @@ abbrev pub forms_left : ℕ → SearchOptions → List SearchOption → List Opt
 forms_left m options os = map (option_form m) (filter (is_unread options) os)
 
 -- an option that is left, in front of the others
-taken-first : (m : ℕ) (options : SearchOptions) (o : SearchOption) (v : ℕ) (os : List SearchOption) → list_any (same_option o) os ≡ false → value options o ≡ None
+taken-first : (m : ℕ) (options : SearchOptions) (o : SearchOption) (v : ℕ) (os : List SearchOption) → list_any (same_option o) os ≡ false
+    → value options o ≡ None
     → Takes (option_form m o) (forms_left m options (o ∷ os)) (forms_left m (with_value options o v) (o ∷ os))
 taken-first m options o v os d e =
-    subst (λ b. Takes (option_form m o) (map (option_form m) (cond b (o ∷ filter (is_unread options) os) (filter (is_unread options) os))) (forms_left m (with_value options o v) (o ∷ os))) (sym (none-unread options o e))
-    (subst (λ b. Takes (option_form m o) (option_form m o ∷ forms_left m options os) (map (option_form m) (cond b (o ∷ filter (is_unread (with_value options o v)) os) (filter (is_unread (with_value options o v)) os)))) (sym (own-read options o v))
+    subst (λ b. Takes (option_form m o) (map (option_form m) (cond b (o ∷ filter (is_unread options) os) (filter (is_unread options) os)))
+    (forms_left m (with_value options o v) (o ∷ os))) (sym (none-unread options o e))
+    (subst (λ b. Takes (option_form m o) (option_form m o ∷ forms_left m options os)
+    (map (option_form m) (cond b (o ∷ filter (is_unread (with_value options o v)) os) (filter (is_unread (with_value options o v)) os))))
+    (sym (own-read options o v))
     (subst (λ l. Takes (option_form m o) (option_form m o ∷ forms_left m options os) (map (option_form m) l)) (sym (left-same options o v os d)) (here refl)))
 
 -- once an option was read, the others are left
-pub taken : (m : ℕ) (options : SearchOptions) (o : SearchOption) (v : ℕ) (os : List SearchOption) → AreDifferent os → list_any (same_option o) os ≡ true → value options o ≡ None
+pub taken : (m : ℕ) (options : SearchOptions) (o : SearchOption) (v : ℕ) (os : List SearchOption) → AreDifferent os → list_any (same_option o) os ≡ true
+    → value options o ≡ None
     → Takes (option_form m o) (forms_left m options os) (forms_left m (with_value options o v) os)
 taken m options o v [] d h e = cc
 taken m options o v (p ∷ os) d h e = by (same_option o p) refl (λ k. taken m options o v os d.1 k e)
@@ -153,7 +163,8 @@ taken m options o v (p ∷ os) d h e = by (same_option o p) refl (λ k. taken m 
     passed false true s t = cc
     passed false false s t = t
 
-    by : (b : Bool) → same_option o p ≡ b → (list_any (same_option o) os ≡ true → Takes (option_form m o) (forms_left m options os) (forms_left m (with_value options o v) os))
+    by : (b : Bool) → same_option o p ≡ b → (list_any (same_option o) os ≡ true
+        → Takes (option_form m o) (forms_left m options os) (forms_left m (with_value options o v) os))
         → Takes (option_form m o) (forms_left m options (p ∷ os)) (forms_left m (with_value options o v) (p ∷ os))
     by true s later =
         let q = same-is o p s in
@@ -172,17 +183,23 @@ filter-none test keep (o ∷ os) h = by (keep o) (or_parts (test o) (list_any te
     by false t r = r
 
 -- a word among those of options
-pub word-among : (m : ℕ) (w : List ℕ) (os : List SearchOption) → list_any (λ p. is_word w p.word) (map (option_form m) os) ≡ list_any (λ o. is_word w (option_word o)) os
+pub word-among : (m : ℕ) (w : List ℕ) (os : List SearchOption)
+    → list_any (λ p. is_word w p.word) (map (option_form m) os) ≡ list_any (λ o. is_word w (option_word o)) os
 word-among m w [] = refl
-word-among m w (o ∷ os) = ap (λ u. is_word w u || list_any (λ p. is_word w p.word) (map (option_form m) os)) (word-of m o) ∙ ap (λ b. is_word w (option_word o) || b) (word-among m w os)
+word-among m w (o ∷ os) = ap (λ u. is_word w u || list_any (λ p. is_word w p.word) (map (option_form m) os)) (word-of m o)
+    ∙ ap (λ b. is_word w (option_word o) || b) (word-among m w os)
 
 pub different-forms : (m : ℕ) (keep : SearchOption → Bool) (os : List SearchOption) → AreDifferent os → DifferentWords (map (option_form m) (filter keep os))
 different-forms m keep [] d = tt
 different-forms m keep (o ∷ os) d = by (keep o) (different-forms m keep os d.1)
   where
-    by : (b : Bool) → DifferentWords (map (option_form m) (filter keep os)) → DifferentWords (map (option_form m) (cond b (o ∷ filter keep os) (filter keep os)))
-    by true r =
-        (subst (λ w. list_any (λ p. is_word w p.word) (map (option_form m) (filter keep os)) ≡ false) (sym (word-of m o)) (word-among m (option_word o) (filter keep os) ∙ filter-none (same_option o) keep os d.0), r)
+    by : (b : Bool) → DifferentWords (map (option_form m) (filter keep os))
+        → DifferentWords (map (option_form m) (cond b (o ∷ filter keep os) (filter keep os)))
+    by true r = (
+      subst (λ w. list_any (λ p. is_word w p.word) (map (option_form m) (filter keep os)) ≡ false) (sym (word-of m o))
+          (word-among m (option_word o) (filter keep os) ∙ filter-none (same_option o) keep os d.0),
+      r,
+    )
     by false r = r
 
 -- ---- limits
@@ -206,7 +223,8 @@ abbrev pub IsFit : ℕ → SearchOption → ℕ → Type 0
 IsFit m o v = (least_at m o ≤ v) × (v ≤ greatest_at m o)
 
 -- a number behind an option
-pub value-first : (m : ℕ) (o : SearchOption) (os : List OptionForm) (w : List ℕ) (ws : List (List ℕ)) → has_number o ≡ true → Fits (option_form m o).values os (w ∷ ws) → IsNumber (least_at m o) (greatest_at m o) w × Fits [] os ws
+pub value-first : (m : ℕ) (o : SearchOption) (os : List OptionForm) (w : List ℕ) (ws : List (List ℕ)) → has_number o ≡ true
+    → Fits (option_form m o).values os (w ∷ ws) → IsNumber (least_at m o) (greatest_at m o) w × Fits [] os ws
 value-first m Bound os w ws h f = let p = part-first f in (part-number 0 greatest_bound w p.0, p.1)
 value-first m Workers os w ws h f = let p = part-first f in (part-number 1 greatest_workers w p.0, p.1)
 value-first m Proofs os w ws h f = cc
@@ -224,7 +242,8 @@ value-lacks m From os h f = part-lacks f
 value-lacks m By os h f = part-lacks f
 value-lacks m To os h f = part-lacks f
 
-pub value-part : (m : ℕ) (o : SearchOption) (os : List OptionForm) (w : List ℕ) (ws : List (List ℕ)) → has_number o ≡ true → IsNumber (least_at m o) (greatest_at m o) w → Fits [] os ws → Fits (option_form m o).values os (w ∷ ws)
+pub value-part : (m : ℕ) (o : SearchOption) (os : List OptionForm) (w : List ℕ) (ws : List (List ℕ)) → has_number o ≡ true
+    → IsNumber (least_at m o) (greatest_at m o) w → Fits [] os ws → Fits (option_form m o).values os (w ∷ ws)
 value-part m Bound os w ws h n f = part (number-part 0 greatest_bound w n) f
 value-part m Workers os w ws h n f = part (number-part 1 greatest_workers w n) f
 value-part m Proofs os w ws h n f = cc
@@ -263,7 +282,8 @@ small-default None v d h l = l
 small-default (Some c) v d h l = omega arith
 
 -- a number that fits is within the limits that follow from what was read
-pub fit-within : (options : SearchOptions) (o : SearchOption) (m v : ℕ) → IsBetween options m → IsFit m o v → (least_in options o ≤ v) × (v ≤ greatest_in options o)
+pub fit-within : (options : SearchOptions) (o : SearchOption) (m v : ℕ) → IsBetween options m → IsFit m o v
+    → (least_in options o ≤ v) × (v ≤ greatest_in options o)
 fit-within options Bound m v b f = f
 fit-within options Workers m v b f = f
 fit-within options Proofs m v b f = f
@@ -275,7 +295,8 @@ fit-within options To m v b f =
     (let l = at-least options.from m 0 b.from (omega arith) in let k = f.0 in omega arith, f.1)
 
 -- and the other way round, once it was read
-pub within-fit : (options : SearchOptions) (o : SearchOption) (m v : ℕ) → IsBetween (with_value options o v) m → least_in options o ≤ v → v ≤ greatest_in options o → IsFit m o v
+pub within-fit : (options : SearchOptions) (o : SearchOption) (m v : ℕ) → IsBetween (with_value options o v) m → least_in options o ≤ v
+    → v ≤ greatest_in options o → IsFit m o v
 within-fit options Bound m v b l g = (l, g)
 within-fit options Workers m v b l g = (l, g)
 within-fit options Proofs m v b l g = (l, g)
@@ -297,9 +318,18 @@ between-new options To m v b f = record { small = b.small; from = b.from; to = f
 between-new options o m v b f = record { small = b.small; from = b.from; to = b.to }
 
 -- some number lies between the bounds
-pub middle-new : (options : SearchOptions) (o : SearchOption) (m v : ℕ) → ((p : SearchOption) → IfSome (value options p) (IsWithin p)) → IsBetween options m → least_in options o ≤ v → v ≤ greatest_in options o
+pub middle-new : (options : SearchOptions) (o : SearchOption) (m v : ℕ) → ((p : SearchOption) → IfSome (value options p) (IsWithin p)) → IsBetween options m
+    → least_in options o ≤ v → v ≤ greatest_in options o
     → (n : ℕ) × IsBetween (with_value options o v) n
-middle-new options From m v w b l g = (v, record { small = small-default options.to v greatest_bound (by options.to (w To)) g; from = omega arith; to = to-most options.to v greatest_bound g })
+middle-new options From m v w b l g = (
+  v,
+  record {
+    small = small-default options.to v greatest_bound (by options.to (w To)) g;
+    from = omega arith;
+    to =
+        to-most options.to v greatest_bound g;
+  },
+)
   where
     by : (c : Option ℕ) → IfSome c (IsWithin To) → IfSome c (λ n. n ≤ greatest_bound)
     by None h = tt
@@ -312,7 +342,8 @@ middle-new options First m v w b l g = (m, between-new options First m v b (l, g
 middle-new options By m v w b l g = (m, between-new options By m v b (l, g))
 
 -- a number within its limits is one that the option may have
-within-own : (options : SearchOptions) (o : SearchOption) (v : ℕ) → ((p : SearchOption) → IfSome (value options p) (IsWithin p)) → least_in options o ≤ v → v ≤ greatest_in options o → IfSome (value (with_value options o v) o) (IsWithin o)
+within-own : (options : SearchOptions) (o : SearchOption) (v : ℕ) → ((p : SearchOption) → IfSome (value options p) (IsWithin p)) → least_in options o ≤ v
+    → v ≤ greatest_in options o → IfSome (value (with_value options o v) o) (IsWithin o)
 within-own options Bound v w l g = (l, g)
 within-own options Workers v w l g = (l, g)
 within-own options Proofs v w l g = (omega arith, omega arith)
@@ -325,7 +356,8 @@ within-own options From v w l g = (l, small-default options.to v greatest_bound 
 within-own options By v w l g = (l, g)
 within-own options To v w l g = (omega arith, g)
 
-pub within-new : (options : SearchOptions) (o : SearchOption) (v : ℕ) → ((p : SearchOption) → IfSome (value options p) (IsWithin p)) → least_in options o ≤ v → v ≤ greatest_in options o
+pub within-new : (options : SearchOptions) (o : SearchOption) (v : ℕ) → ((p : SearchOption) → IfSome (value options p) (IsWithin p)) → least_in options o ≤ v
+    → v ≤ greatest_in options o
     → (p : SearchOption) → IfSome (value (with_value options o v) p) (IsWithin p)
 within-new options o v w l g p = by (same_option o p) refl
   where
@@ -345,7 +377,8 @@ sample From = codes "0" ∷ []
 sample By = codes "1" ∷ []
 sample To = codes "1000000" ∷ []
 
-pub sample-fits : (m : ℕ) → m ≤ greatest_bound → (o : SearchOption) (os : List OptionForm) (ws : List (List ℕ)) → Fits [] os ws → Fits (option_form m o).values os (sample o ++ ws)
+pub sample-fits : (m : ℕ) → m ≤ greatest_bound → (o : SearchOption) (os : List OptionForm) (ws : List (List ℕ)) → Fits [] os ws
+    → Fits (option_form m o).values os (sample o ++ ws)
 sample-fits m l Bound os ws f = part refl f
 sample-fits m l Workers os ws f = part refl f
 sample-fits m l Proofs os ws f = f

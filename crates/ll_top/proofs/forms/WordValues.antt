@@ -1,5 +1,6 @@
 -- What stands at a word, and what its number is.
-use Rattle.std.proofs.Common.{◌≡◌, ℕ, zero, suc, ◌+◌, ◌<◌, ◌≤◌, Bool, true, false, ◌&&◌, ◌||◌, List, [], ◌∷◌, ◌++◌, length, take, slice_get, get_or, Option, Some, None, refl, ap, sym, subst, ◌∙◌, arith, if◌then◌else◌}
+use Rattle.std.proofs.Common.{◌≡◌, ℕ, zero, suc, ◌+◌, ◌<◌, ◌≤◌, Bool, true, false, ◌&&◌, ◌||◌, List, [], ◌∷◌, ◌++◌, length, take, slice_get, get_or, Option}
+use Rattle.std.proofs.Common.{Some, None, refl, ap, sym, subst, ◌∙◌, arith, if◌then◌else◌}
 use Rattle.std.specs.Prelude.{All, IsSomeAnd, is_some, nat_le, option_map, Result, Ok, Err, IsErrAnd, MatchResult}
 use Rattle.std.specs.Str.Parse.{digits_value}
 use Rattle.std.proofs.lemmas.Bool.{leb-true, le-leb, and_from, or_right}
@@ -17,7 +18,8 @@ use Rattle.ll_top.proofs.forms.Forms.{same-word, words-same}
 pub word-at : (words : List (Bor (List ℕ))) (at : ℕ) (d : Bor (List ℕ)) → at < length words → slice_get (word_texts words) at ≡ Some (get_or words at d).now
 word-at words at d h = slice_get-map (λ w. w.now) words at ∙ ap (λ o. option_map (λ w. w.now) o) (slice_get-get_or words at d h)
 
-pub text-at : (words : List (Bor (List ℕ))) (at : ℕ) (d : Bor (List ℕ)) (text : List ℕ) → at < length words → (get_or words at d).now ≡ text → slice_get (word_texts words) at ≡ Some text
+pub text-at : (words : List (Bor (List ℕ))) (at : ℕ) (d : Bor (List ℕ)) (text : List ℕ) → at < length words → (get_or words at d).now ≡ text
+    → slice_get (word_texts words) at ≡ Some text
 text-at words at d text h e = word-at words at d h ∙ ap (λ w. let o : Option (List ℕ) = Some w in o) e
 
 pub word-inside : (words : List (Bor (List ℕ))) (at : ℕ) (w : List ℕ) → slice_get (word_texts words) at ≡ Some w → at < length words
@@ -37,7 +39,8 @@ bad-answer Good Bad (Err x) n e b = subst Bad (sym e) b
 pub value-of : (least greatest : ℕ) (w : List ℕ) (v : ℕ) → number_from least greatest w ≡ Some v → digits_value 10 w ≡ v
 value-of least greatest w v e = by (is_number_word w) refl e
   where
-    inner : (b : Bool) → nat_le least (digits_value 10 w) && nat_le (digits_value 10 w) greatest ≡ b → (if b then Some (digits_value 10 w) else None) ≡ Some v → digits_value 10 w ≡ v
+    inner : (b : Bool) → nat_le least (digits_value 10 w) && nat_le (digits_value 10 w) greatest ≡ b → (if b then Some (digits_value 10 w) else None) ≡ Some v
+        → digits_value 10 w ≡ v
     inner true h k = cc
     inner false h k = cc
 
@@ -49,7 +52,8 @@ value-of least greatest w v e = by (is_number_word w) refl e
 pub value-small : (least greatest : ℕ) (w : List ℕ) (v : ℕ) → number_from least greatest w ≡ Some v → v ≤ greatest
 value-small least greatest w v e = by (is_number_word w) refl e
   where
-    inner : (a b : Bool) → nat_le least (digits_value 10 w) ≡ a → nat_le (digits_value 10 w) greatest ≡ b → (if a && b then Some (digits_value 10 w) else None) ≡ Some v → v ≤ greatest
+    inner : (a b : Bool) → nat_le least (digits_value 10 w) ≡ a → nat_le (digits_value 10 w) greatest ≡ b
+        → (if a && b then Some (digits_value 10 w) else None) ≡ Some v → v ≤ greatest
     inner true true h l k = let f = leb-true (digits_value 10 w) greatest l in let g : digits_value 10 w ≡ v = cc in omega arith
     inner true false h l k = cc
     inner false b h l k = cc
@@ -62,7 +66,8 @@ value-small least greatest w v e = by (is_number_word w) refl e
 pub value-least : (least greatest : ℕ) (w : List ℕ) (v : ℕ) → number_from least greatest w ≡ Some v → least ≤ v
 value-least least greatest w v e = by (is_number_word w) refl e
   where
-    inner : (a b : Bool) → nat_le least (digits_value 10 w) ≡ a → nat_le (digits_value 10 w) greatest ≡ b → (if a && b then Some (digits_value 10 w) else None) ≡ Some v → least ≤ v
+    inner : (a b : Bool) → nat_le least (digits_value 10 w) ≡ a → nat_le (digits_value 10 w) greatest ≡ b
+        → (if a && b then Some (digits_value 10 w) else None) ≡ Some v → least ≤ v
     inner true true h l k = let f = leb-true least (digits_value 10 w) h in let g : digits_value 10 w ≡ v = cc in omega arith
     inner true false h l k = cc
     inner false b h l k = cc
@@ -86,7 +91,8 @@ other-word test text w fails holds = by (is_word w text) refl
     by true h = let e = ap test (words-same w text h) in cc
     by false h = h
 
-pub found-behind : (text : List ℕ) (words : List (List ℕ)) (at : ℕ) (v : List ℕ) → All (λ w. is_word w text ≡ false) (take at words) → slice_get words at ≡ Some text → slice_get words (at + 1) ≡ Some v
+pub found-behind : (text : List ℕ) (words : List (List ℕ)) (at : ℕ) (v : List ℕ) → All (λ w. is_word w text ≡ false) (take at words)
+    → slice_get words at ≡ Some text → slice_get words (at + 1) ≡ Some v
     → number_behind text words ≡ Some (digits_value 10 v)
 found-behind text [] at v h e f = cc
 found-behind text (w ∷ []) zero v h e f = cc
@@ -106,16 +112,19 @@ taken-one words at w e =
     take_more words at [] (slice_get_within words at w e) ∙ ap (λ x. take at words ++ x ∷ []) (get_or_from_slice_get words at w [] e)
 
 -- one word more that is not this text
-pub none-more : (text : List ℕ) (words : List (List ℕ)) (at : ℕ) (w : List ℕ) → slice_get words at ≡ Some w → is_word w text ≡ false → All (λ u. is_word u text ≡ false) (take at words) → All (λ u. is_word u text ≡ false) (take (at + 1) words)
+pub none-more : (text : List ℕ) (words : List (List ℕ)) (at : ℕ) (w : List ℕ) → slice_get words at ≡ Some w → is_word w text ≡ false
+    → All (λ u. is_word u text ≡ false) (take at words) → All (λ u. is_word u text ≡ false) (take (at + 1) words)
 none-more text words at w e n h =
-    subst (All (λ u. is_word u text ≡ false)) (sym (taken-one words at w e)) (All-append (λ u. is_word u text ≡ false) (take at words) (w ∷ []) h (All-cons (λ u. is_word u text ≡ false) w [] n (λ k d l. absurd (omega arith))))
+    subst (All (λ u. is_word u text ≡ false)) (sym (taken-one words at w e))
+    (All-append (λ u. is_word u text ≡ false) (take at words) (w ∷ []) h (All-cons (λ u. is_word u text ≡ false) w [] n (λ k d l. absurd (omega arith))))
 
 -- ---- a word that may stand among words
 
 pub has-none : (text : List ℕ) (words : List (List ℕ)) → All (λ w. is_word w text ≡ false) words → has_word text words ≡ false
 has-none text [] h = refl
 has-none text (w ∷ words) h =
-    ap (λ b. b || has_word text words) (All-head (λ u. is_word u text ≡ false) w words h) ∙ has-none text words (All-tail (λ u. is_word u text ≡ false) w words h)
+    ap (λ b. b || has_word text words) (All-head (λ u. is_word u text ≡ false) w words h)
+    ∙ has-none text words (All-tail (λ u. is_word u text ≡ false) w words h)
 
 pub has-at : (text : List ℕ) (words : List (List ℕ)) (at : ℕ) → slice_get words at ≡ Some text → has_word text words ≡ true
 has-at text [] at e = cc
@@ -128,7 +137,8 @@ word-behind text [] v e = cc
 word-behind text (w ∷ []) v e = cc
 word-behind text (w ∷ x ∷ ws) v e = by (is_word w text) refl e (word-behind text (x ∷ ws) v)
   where
-    by : (b : Bool) → is_word w text ≡ b → (if b then Some (digits_value 10 x) else number_behind text (x ∷ ws)) ≡ Some v → (number_behind text (x ∷ ws) ≡ Some v → has_word text (x ∷ ws) ≡ true) → has_word text (w ∷ x ∷ ws) ≡ true
+    by : (b : Bool) → is_word w text ≡ b → (if b then Some (digits_value 10 x) else number_behind text (x ∷ ws)) ≡ Some v
+        → (number_behind text (x ∷ ws) ≡ Some v → has_word text (x ∷ ws) ≡ true) → has_word text (w ∷ x ∷ ws) ≡ true
     by true h k r = ap (λ c. c || has_word text (x ∷ ws)) h
     by false h k r = or_right (is_word w text) (has_word text (x ∷ ws)) (r k)
 
@@ -157,19 +167,23 @@ part-number least greatest w h =
 pub number-part : (least greatest : ℕ) (w : List ℕ) → IsNumber least greatest w → is_some (number_from least greatest w) ≡ true
 number-part least greatest w n =
     ap (λ b. is_some (if b then value_within least greatest (digits_value 10 w) else None)) n.number
-    ∙ ap (λ b. is_some (if b then Some (digits_value 10 w) else None)) (and_from (nat_le least (digits_value 10 w)) (nat_le (digits_value 10 w) greatest) (le-leb least (digits_value 10 w) n.least_is) (le-leb (digits_value 10 w) greatest n.greatest_is))
+    ∙ ap (λ b. is_some (if b then Some (digits_value 10 w) else None))
+    (and_from (nat_le least (digits_value 10 w)) (nat_le (digits_value 10 w) greatest) (le-leb least (digits_value 10 w) n.least_is)
+    (le-leb (digits_value 10 w) greatest n.greatest_is))
 
 -- ---- a number at a word
 
 -- the number at a word
-pub number-there : (words : List (List ℕ)) (at least greatest value : ℕ) → IsSomeAnd (slice_get words at) (λ w. number_from least greatest w ≡ Some value) → HasPart words at (NumberFrom least greatest)
+pub number-there : (words : List (List ℕ)) (at least greatest value : ℕ) → IsSomeAnd (slice_get words at) (λ w. number_from least greatest w ≡ Some value)
+    → HasPart words at (NumberFrom least greatest)
 number-there words at least greatest value h = by (slice_get words at) h
   where
     by : (o : Option (List ℕ)) → IsSomeAnd o (λ w. number_from least greatest w ≡ Some value) → IsSomeAnd o (λ w. is_some (number_from least greatest w) ≡ true)
     by None h = absurd h
     by (Some w) h = ap is_some h
 
-pub number-value : (words : List (List ℕ)) (at least greatest value : ℕ) → IsSomeAnd (slice_get words at) (λ w. number_from least greatest w ≡ Some value) → option_map (digits_value 10) (slice_get words at) ≡ Some value
+pub number-value : (words : List (List ℕ)) (at least greatest value : ℕ) → IsSomeAnd (slice_get words at) (λ w. number_from least greatest w ≡ Some value)
+    → option_map (digits_value 10) (slice_get words at) ≡ Some value
 number-value words at least greatest value h = by (slice_get words at) h
   where
     by : (o : Option (List ℕ)) → IsSomeAnd o (λ w. number_from least greatest w ≡ Some value) → option_map (digits_value 10) o ≡ Some value
@@ -182,7 +196,8 @@ pub record HasNumber (words : List (List ℕ)) (at least greatest value : ℕ) :
   pub is : slice_get words at ≡ Some word
   pub number : number_from least greatest word ≡ Some value
 
-pub number-word-at : (words : List (List ℕ)) (at least greatest value : ℕ) → IsSomeAnd (slice_get words at) (λ w. number_from least greatest w ≡ Some value) → HasNumber words at least greatest value
+pub number-word-at : (words : List (List ℕ)) (at least greatest value : ℕ) → IsSomeAnd (slice_get words at) (λ w. number_from least greatest w ≡ Some value)
+    → HasNumber words at least greatest value
 number-word-at words at least greatest value h = by (slice_get words at) refl h
   where
     by : (o : Option (List ℕ)) → slice_get words at ≡ o → IsSomeAnd o (λ w. number_from least greatest w ≡ Some value) → HasNumber words at least greatest value

@@ -5,31 +5,38 @@ use Rattle.ll_top.proofs.lolli.Goals as goal
 
 pub returns-in-None-clause-usage : goal.returns-in-None-clause-usage
 returns-in-None-clause-usage g c =
-    let u = c.in-None.ensures.untouched refl in call-usage (word_texts c.args.words.now) _ _ _ _ _ _ c.serve_search.result (rw (u.0, u.1) at c.serve_search.ensures.outcome)
+    let u = c.in-None.ensures.untouched refl in call-usage (word_texts c.args.words.now) _ _ _ _ _ _ c.serve_search.result
+    (rw (u.0, u.1) at c.serve_search.ensures.outcome)
 
 pub returns-in-None-clause-absent : goal.returns-in-None-clause-absent
 returns-in-None-clause-absent g c =
-    let u = c.in-None.ensures.untouched refl in call-absent (word_texts c.args.words.now) _ _ _ _ _ _ c.serve_search.result (rw (u.0, u.1) at c.serve_search.ensures.outcome)
+    let u = c.in-None.ensures.untouched refl in call-absent (word_texts c.args.words.now) _ _ _ _ _ _ c.serve_search.result
+    (rw (u.0, u.1) at c.serve_search.ensures.outcome)
 
 pub returns-in-None-clause-unreadable : goal.returns-in-None-clause-unreadable
 returns-in-None-clause-unreadable g c =
-    let u = c.in-None.ensures.untouched refl in call-unreadable (word_texts c.args.words.now) _ _ _ _ _ _ c.serve_search.result (rw (u.0, u.1) at c.serve_search.ensures.outcome)
+    let u = c.in-None.ensures.untouched refl in call-unreadable (word_texts c.args.words.now) _ _ _ _ _ _ c.serve_search.result
+    (rw (u.0, u.1) at c.serve_search.ensures.outcome)
 
 pub returns-in-None-clause-unwritable : goal.returns-in-None-clause-unwritable
 returns-in-None-clause-unwritable g c =
-    let u = c.in-None.ensures.untouched refl in call-unwritable (word_texts c.args.words.now) _ _ _ _ _ _ c.serve_search.result (rw (u.0, u.1) at c.serve_search.ensures.outcome)
+    let u = c.in-None.ensures.untouched refl in call-unwritable (word_texts c.args.words.now) _ _ _ _ _ _ c.serve_search.result
+    (rw (u.0, u.1) at c.serve_search.ensures.outcome)
 
 pub returns-in-None-clause-denied : goal.returns-in-None-clause-denied
 returns-in-None-clause-denied g c =
-    let u = c.in-None.ensures.untouched refl in call-denied (word_texts c.args.words.now) _ _ _ _ _ _ c.serve_search.result (rw (u.0, u.1) at c.serve_search.ensures.outcome)
+    let u = c.in-None.ensures.untouched refl in call-denied (word_texts c.args.words.now) _ _ _ _ _ _ c.serve_search.result
+    (rw (u.0, u.1) at c.serve_search.ensures.outcome)
 
 pub returns-in-None-clause-covered : goal.returns-in-None-clause-covered
 returns-in-None-clause-covered g c =
-    let u = c.in-None.ensures.untouched refl in call-covered (word_texts c.args.words.now) _ _ _ _ _ _ c.serve_search.result (rw (u.0, u.1) at c.serve_search.ensures.outcome)
+    let u = c.in-None.ensures.untouched refl in call-covered (word_texts c.args.words.now) _ _ _ _ _ _ c.serve_search.result
+    (rw (u.0, u.1) at c.serve_search.ensures.outcome)
 
 pub returns-in-None-clause-uncovered : goal.returns-in-None-clause-uncovered
 returns-in-None-clause-uncovered g c =
-    let u = c.in-None.ensures.untouched refl in call-uncovered (word_texts c.args.words.now) _ _ _ _ _ _ c.serve_search.result (rw (u.0, u.1) at c.serve_search.ensures.outcome)
+    let u = c.in-None.ensures.untouched refl in call-uncovered (word_texts c.args.words.now) _ _ _ _ _ _ c.serve_search.result
+    (rw (u.0, u.1) at c.serve_search.ensures.outcome)
 
 pub returns-in-None-clause-complete : goal.returns-in-None-clause-complete
 returns-in-None-clause-complete g c =

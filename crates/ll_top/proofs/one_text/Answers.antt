@@ -17,4 +17,5 @@ returns c words texts =
       one_proof = c.one_derivation_in_any.ensures.fault;
       no_proof_fault = c.one_derivation_in_any.ensures.not_both;
     } in
-    one-text texts (run-once laws texts) (session-once laws texts c.one_session.ensures.one) (deepen-once laws texts) (print-once laws texts) (check-once laws texts) (converts-one laws texts) (made-once laws texts) words
+    one-text texts (run-once laws texts) (session-once laws texts c.one_session.ensures.one) (deepen-once laws texts) (print-once laws texts)
+    (check-once laws texts) (converts-one laws texts) (made-once laws texts) words

@@ -7,23 +7,32 @@ use Rattle.ll_edge.specs.Texts.{Texts}
 use Rattle.ll_laws.specs.Problem.{ProblemTree, problem_events}
 use Rattle.ll_laws.specs.Search.{is_answer, is_reached}
 use Rattle.ll_laws.specs.Output.{run_status, status_by}
-use Rattle.ll_top.specs.Words.{RunWords, SessionWords, DeepenWords, CheckWords, ConvertWords, FitsForm, cover_form, IsCheckForm, IsInForm, IsRun, IsSession, IsDeepen, IsPrint, IsCheck, IsConvert, IsMake, IsMadeRun, IsBadWord}
+use Rattle.ll_top.specs.Words.{RunWords, SessionWords, DeepenWords, CheckWords, ConvertWords, FitsForm, cover_form, IsCheckForm, IsInForm, IsRun, IsSession}
+use Rattle.ll_top.specs.Words.{IsDeepen, IsPrint, IsCheck, IsConvert, IsMake, IsMadeRun, IsBadWord}
 use Rattle.ll_top.specs.Making.{MakeWords, MakeComesTo, MadeRunWords}
 use Rattle.ll_top.specs.MadeRuns.{MadeRunComesTo}
 use Rattle.ll_top.specs.Faults.{Cause, Usage, Absent, Unreadable, Oversized, OversizedAs, Faulty, fault_text, cause_status}
-use Rattle.ll_top.specs.Outcome.{name_of, ReadFails, absent as is_absent, unreadable as is_unreadable, oversized as is_oversized, run_texts, RunFails, not_read, faulty, RunComesTo, ran, failed, PrintFails, source_not_read, faulty_source, PrintComesTo, printed, print_failed, name_in_check, check_texts, CheckFails, texts_not_read, faulty_text, CheckComesTo, shown, refuted, covered, too_long, counting, check_failed, IsDenied, IsCoveredCall, IsUncoveredCall, front_events, status_of_run}
+use Rattle.ll_top.specs.Outcome.{name_of, ReadFails, absent as is_absent, unreadable as is_unreadable, oversized as is_oversized, run_texts, RunFails}
+use Rattle.ll_top.specs.Outcome.{not_read, faulty, RunComesTo, ran, failed, PrintFails, source_not_read, faulty_source, PrintComesTo, printed, print_failed}
+use Rattle.ll_top.specs.Outcome.{name_in_check, check_texts, CheckFails, texts_not_read, faulty_text, CheckComesTo, shown, refuted, covered, too_long}
+use Rattle.ll_top.specs.Outcome.{counting, check_failed, IsDenied, IsCoveredCall, IsUncoveredCall, front_events, status_of_run}
 use Rattle.ll_top.specs.Sessions.{SessionFails, session_not_read, faulty_program, SessionComesTo, replied, session_failed}
 use Rattle.ll_top.specs.Deepening.{run_within, DeepenComesTo, deepened, deepen_failed}
 use Rattle.ll_top.specs.Converting.{ConvertFails, proof_not_read, faulty_proof, too_long_as, ConvertComesTo, converted, convert_failed}
-use Rattle.ll_top.specs.Calls.{ComesTo, misused, runs, sessions, deepens, prints, checks, converts, makes, runs_made, AppendsOwn, nothing, front, Ends, whole, unwritable, no_memory, Completes}
+use Rattle.ll_top.specs.Calls.{ComesTo, misused, runs, sessions, deepens, prints, checks, converts, makes, runs_made, AppendsOwn, nothing, front, Ends, whole}
+use Rattle.ll_top.specs.Calls.{unwritable, no_memory, Completes}
 use Rattle.ll_top.specs.Endings.{Refuses, line, cut}
-use Rattle.ll_top.proofs.forms.FirstWords.{Of, in-form, Kind, nothing as no_kind, a_run, a_session, a_deepening, a_print, a_check, a_conversion, a_make, a_made_run, kind_of, run-kind, session-kind, deepen-kind, print-kind, check-kind, cover-kind, checked-kind, convert-kind, make-kind, made-run-kind, checked-in-form, check-not-cover, bad-not-in-form}
+use Rattle.ll_top.proofs.forms.FirstWords.{Of, in-form, Kind, nothing as no_kind, a_run, a_session, a_deepening, a_print, a_check, a_conversion, a_make}
+use Rattle.ll_top.proofs.forms.FirstWords.{a_made_run, kind_of, run-kind, session-kind, deepen-kind, print-kind, check-kind, cover-kind, checked-kind}
+use Rattle.ll_top.proofs.forms.FirstWords.{convert-kind, make-kind, made-run-kind, checked-in-form, check-not-cover, bad-not-in-form}
 use Rattle.ll_top.specs.declared.words.FormWord.TheVariants as form
 
 -- ---- from a command to the call
 
 -- what its command comes to, a call comes to
-pub ends-as : (Comes Other : ℕ → List ℕ → Type 0) → ((s : ℕ) (t : List ℕ) → Comes s t → Other s t) → (write_failed : Type 0) (before after : Option (List ℕ)) (status : ℕ) → Ends Comes write_failed before after status → Ends Other write_failed before after status
+pub ends-as : (Comes Other : ℕ → List ℕ → Type 0) → ((s : ℕ) (t : List ℕ) → Comes s t → Other s t)
+    → (write_failed : Type 0) (before after : Option (List ℕ)) (status : ℕ) → Ends Comes write_failed before after status
+    → Ends Other write_failed before after status
 ends-as Comes Other f w before after status (whole text c a) = whole text (f status text c) a
 ends-as Comes Other f w before after status (unwritable meant text c h s a) = unwritable meant text (f meant text c) h s a
 ends-as Comes Other f w before after status (no_memory s a) = no_memory s (own a)
@@ -37,22 +46,31 @@ module _ (words : List (List ℕ)) (told : Option Texts) (absence read_failed wr
   CallEnds = Ends (ComesTo words told absence read_failed) write_failed before after status
 
   pub run-call : (run : RunWords) → IsRun words run → Ends (RunComesTo told absence read_failed run) write_failed before after status → CallEnds
-  run-call run r h = ends-as (RunComesTo told absence read_failed run) (ComesTo words told absence read_failed) (λ s t c. runs run r c) write_failed before after status h
+  run-call run r h = ends-as (RunComesTo told absence read_failed run) (ComesTo words told absence read_failed) (λ s t c. runs run r c) write_failed before
+      after status h
 
-  pub session-call : (session : SessionWords) → IsSession words session → Ends (SessionComesTo told absence read_failed session) write_failed before after status → CallEnds
-  session-call session r h = ends-as (SessionComesTo told absence read_failed session) (ComesTo words told absence read_failed) (λ s t c. sessions session r c) write_failed before after status h
+  pub session-call : (session : SessionWords) → IsSession words session
+      → Ends (SessionComesTo told absence read_failed session) write_failed before after status → CallEnds
+  session-call session r h = ends-as (SessionComesTo told absence read_failed session) (ComesTo words told absence read_failed) (λ s t c. sessions session r c)
+      write_failed before after status h
 
-  pub deepen-call : (deepen : DeepenWords) → IsDeepen words deepen → Ends (DeepenComesTo told absence read_failed deepen) write_failed before after status → CallEnds
-  deepen-call deepen r h = ends-as (DeepenComesTo told absence read_failed deepen) (ComesTo words told absence read_failed) (λ s t c. deepens deepen r c) write_failed before after status h
+  pub deepen-call : (deepen : DeepenWords) → IsDeepen words deepen → Ends (DeepenComesTo told absence read_failed deepen) write_failed before after status
+      → CallEnds
+  deepen-call deepen r h = ends-as (DeepenComesTo told absence read_failed deepen) (ComesTo words told absence read_failed) (λ s t c. deepens deepen r c)
+      write_failed before after status h
 
   pub print-call : (name : List ℕ) → IsPrint words name → Ends (PrintComesTo told absence read_failed name) write_failed before after status → CallEnds
-  print-call name p h = ends-as (PrintComesTo told absence read_failed name) (ComesTo words told absence read_failed) (λ s t c. prints name p c) write_failed before after status h
+  print-call name p h = ends-as (PrintComesTo told absence read_failed name) (ComesTo words told absence read_failed) (λ s t c. prints name p c) write_failed
+      before after status h
 
   pub check-call : (check : CheckWords) → IsCheck words check → Ends (CheckComesTo told absence read_failed check) write_failed before after status → CallEnds
-  check-call check r h = ends-as (CheckComesTo told absence read_failed check) (ComesTo words told absence read_failed) (λ s t c. checks check r c) write_failed before after status h
+  check-call check r h = ends-as (CheckComesTo told absence read_failed check) (ComesTo words told absence read_failed) (λ s t c. checks check r c) write_failed
+      before after status h
 
-  pub convert-call : (convert : ConvertWords) → IsConvert words convert → Ends (ConvertComesTo told absence read_failed convert) write_failed before after status → CallEnds
-  convert-call convert r h = ends-as (ConvertComesTo told absence read_failed convert) (ComesTo words told absence read_failed) (λ s t c. converts convert r c) write_failed before after status h
+  pub convert-call : (convert : ConvertWords) → IsConvert words convert
+      → Ends (ConvertComesTo told absence read_failed convert) write_failed before after status → CallEnds
+  convert-call convert r h = ends-as (ConvertComesTo told absence read_failed convert) (ComesTo words told absence read_failed) (λ s t c. converts convert r c)
+      write_failed before after status h
 
   pub make-call : (make : MakeWords) → IsMake words make → Ends (MakeComesTo make) write_failed before after status → CallEnds
   make-call make r h = ends-as (MakeComesTo make) (ComesTo words told absence read_failed) (λ s t c. makes make r c) write_failed before after status h
@@ -170,7 +188,8 @@ module _ (told : Option Texts) (absence read_failed : Type 0) where
   run-cause-says run cause (not_read c r) = unread-says (run_texts run) c r
   run-cause-says run _ (faulty p q role g a b h) = fault-says 7 (omega arith) (omega arith)
 
-  session-cause-says : (session : SessionWords) (cause : Cause) → SessionFails told absence read_failed session cause → Unjudged absence read_failed (cause_status cause)
+  session-cause-says : (session : SessionWords) (cause : Cause) → SessionFails told absence read_failed session cause
+      → Unjudged absence read_failed (cause_status cause)
   session-cause-says session cause (session_not_read c r) = unread-says (session.program ∷ session.queries ∷ []) c r
   session-cause-says session _ (faulty_program p t f a b h) = fault-says 7 (omega arith) (omega arith)
 
@@ -182,7 +201,8 @@ module _ (told : Option Texts) (absence read_failed : Type 0) where
   check-cause-says check cause (texts_not_read c r) = unread-says (check_texts check) c r
   check-cause-says check cause (faulty_text p q s role f h k l t) = fault-says 7 (omega arith) (omega arith)
 
-  convert-cause-says : (convert : ConvertWords) (cause : Cause) → ConvertFails told absence read_failed convert cause → Unjudged absence read_failed (cause_status cause)
+  convert-cause-says : (convert : ConvertWords) (cause : Cause) → ConvertFails told absence read_failed convert cause
+      → Unjudged absence read_failed (cause_status cause)
   convert-cause-says convert cause (proof_not_read c r) = unread-says (convert.proof ∷ []) c r
   convert-cause-says convert _ (faulty_proof p f h k) = fault-says 7 (omega arith) (omega arith)
   convert-cause-says convert _ (too_long_as p t h k l) = fault-says 8 (omega arith) (omega arith)
@@ -191,22 +211,27 @@ module _ (told : Option Texts) (absence read_failed : Type 0) where
   at-status status other e u = subst (Unjudged absence read_failed) (sym e) u
 
   run-comes-says : (run : RunWords) (status : ℕ) (text : List ℕ) → RunComesTo told absence read_failed run status text → Unjudged absence read_failed status
-  run-comes-says run status text (ran p a s t) = at-status status (status_of_run run.first p) s (small-says (status_of_run run.first p) (run-of-small run.first p))
+  run-comes-says run status text (ran p a s t) = at-status status (status_of_run run.first p) s
+      (small-says (status_of_run run.first p) (run-of-small run.first p))
   run-comes-says run status text (failed cause f s t) = at-status status (cause_status cause) s (run-cause-says run cause f)
 
-  session-comes-says : (session : SessionWords) (status : ℕ) (text : List ℕ) → SessionComesTo told absence read_failed session status text → Unjudged absence read_failed status
+  session-comes-says : (session : SessionWords) (status : ℕ) (text : List ℕ) → SessionComesTo told absence read_failed session status text
+      → Unjudged absence read_failed status
   session-comes-says session status text (replied q a s t) = at-status status 0 s (small-says 0 (omega arith))
   session-comes-says session status text (session_failed cause f s t) = at-status status (cause_status cause) s (session-cause-says session cause f)
 
-  deepen-comes-says : (deepen : DeepenWords) (status : ℕ) (text : List ℕ) → DeepenComesTo told absence read_failed deepen status text → Unjudged absence read_failed status
+  deepen-comes-says : (deepen : DeepenWords) (status : ℕ) (text : List ℕ) → DeepenComesTo told absence read_failed deepen status text
+      → Unjudged absence read_failed status
   deepen-comes-says deepen status text (deepened n p a d s t) = at-status status (run_status p) s (small-says (run_status p) (run-small p))
-  deepen-comes-says deepen status text (deepen_failed cause f s t) = at-status status (cause_status cause) s (run-cause-says (run_within deepen deepen.series.from) cause f)
+  deepen-comes-says deepen status text (deepen_failed cause f s t) =
+      at-status status (cause_status cause) s (run-cause-says (run_within deepen deepen.series.from) cause f)
 
   print-comes-says : (name : List ℕ) (status : ℕ) (text : List ℕ) → PrintComesTo told absence read_failed name status text → Unjudged absence read_failed status
   print-comes-says name status text (printed p s) = at-status status 0 s (small-says 0 (omega arith))
   print-comes-says name status text (print_failed cause f s t) = at-status status (cause_status cause) s (print-cause-says name cause f)
 
-  convert-comes-says : (convert : ConvertWords) (status : ℕ) (text : List ℕ) → ConvertComesTo told absence read_failed convert status text → Unjudged absence read_failed status
+  convert-comes-says : (convert : ConvertWords) (status : ℕ) (text : List ℕ) → ConvertComesTo told absence read_failed convert status text
+      → Unjudged absence read_failed status
   convert-comes-says convert status text (converted p h k l s) = at-status status 0 s (small-says 0 (omega arith))
   convert-comes-says convert status text (convert_failed cause f s t) = at-status status (cause_status cause) s (convert-cause-says convert cause f)
 
@@ -214,10 +239,23 @@ module _ (told : Option Texts) (absence read_failed : Type 0) where
   made-comes-says run status text h = at-status status (run_status h.problem) h.status_is (small-says (run_status h.problem) (run-small h.problem))
 
   judged-says : (status : ℕ) → (status ≡ 9) ⊎ (status ≡ 11) → Says absence read_failed status
-  judged-says status (inl s) = record { used = λ e. omega arith; absent = λ e. absurd (omega arith); unreadable = λ e. absurd (omega arith); cut_off = λ e. omega arith }
-  judged-says status (inr s) = record { used = λ e. omega arith; absent = λ e. absurd (omega arith); unreadable = λ e. absurd (omega arith); cut_off = λ e. omega arith }
+  judged-says status (inl s) = record {
+    used = λ e. omega arith;
+    absent = λ e. absurd (omega arith);
+    unreadable = λ e. absurd (omega arith);
+    cut_off =
+        λ e. omega arith;
+  }
+  judged-says status (inr s) = record {
+    used = λ e. omega arith;
+    absent = λ e. absurd (omega arith);
+    unreadable = λ e. absurd (omega arith);
+    cut_off =
+        λ e. omega arith;
+  }
 
-  check-comes-says : (check : CheckWords) (status : ℕ) (text : List ℕ) → CheckComesTo told absence read_failed check status text → Says absence read_failed status
+  check-comes-says : (check : CheckWords) (status : ℕ) (text : List ℕ) → CheckComesTo told absence read_failed check status text
+      → Says absence read_failed status
   check-comes-says check status text (shown p d c g h s t) = (at-status status 0 s (small-says 0 (omega arith))).says
   check-comes-says check status text (covered p d n c g h s t) = (at-status status 0 s (small-says 0 (omega arith))).says
   check-comes-says check status text (refuted p d n r g h s t) = judged-says status (inl s)
@@ -232,7 +270,8 @@ module _ (words : List (List ℕ)) (told : Option Texts) (absence read_failed : 
   judges status text (checks check r c) = true
   judges status text c = false
 
-  unjudged : (status : ℕ) (text : List ℕ) (c : ComesTo words told absence read_failed status text) → judges status text c ≡ false → Unjudged absence read_failed status
+  unjudged : (status : ℕ) (text : List ℕ) (c : ComesTo words told absence read_failed status text) → judges status text c ≡ false
+      → Unjudged absence read_failed status
   unjudged status text (misused n b s t) h = cc
   unjudged status text (runs run r c) h = run-comes-says told absence read_failed run status text c
   unjudged status text (sessions session r c) h = session-comes-says told absence read_failed session status text c
@@ -243,7 +282,8 @@ module _ (words : List (List ℕ)) (told : Option Texts) (absence read_failed : 
   unjudged status text (makes make r c) h = at-status told absence read_failed status 0 c.succeeds (small-says told absence read_failed 0 (omega arith))
   unjudged status text (runs_made run r c) h = made-comes-says told absence read_failed run status text c
 
-  comes-says : (status : ℕ) (text : List ℕ) (c : ComesTo words told absence read_failed status text) → is_misuse words told absence read_failed status text c ≡ false → Says absence read_failed status
+  comes-says : (status : ℕ) (text : List ℕ) (c : ComesTo words told absence read_failed status text)
+      → is_misuse words told absence read_failed status text c ≡ false → Says absence read_failed status
   comes-says status text (misused n b s t) h = cc
   comes-says status text (checks check r c) h = check-comes-says told absence read_failed check status text c
   comes-says status text c h = (unjudged status text c refl).says
@@ -251,12 +291,14 @@ module _ (words : List (List ℕ)) (told : Option Texts) (absence read_failed : 
   -- status 9 comes of a derivation that does not show the query, and of nothing else
   comes-denied : (status : ℕ) (text : List ℕ) → status ≡ 9 → ComesTo words told absence read_failed status text → IsDenied words told
   comes-denied status text e (misused number b s t) = absurd (omega arith)
-  comes-denied status text e (checks check c (refuted p d n r g h s t)) = record { check = check; is_check = c; problem = p; derivation = d; gives = g; not_shown = h.not_shown }
+  comes-denied status text e (checks check c (refuted p d n r g h s t)) =
+      record { check = check; is_check = c; problem = p; derivation = d; gives = g; not_shown = h.not_shown }
   comes-denied status text e (checks check c (shown p d b g h s t)) = absurd (omega arith)
   comes-denied status text e (checks check c (covered p d n b g h s t)) = absurd (omega arith)
   comes-denied status text e (checks check c (too_long p d b g h s t)) = absurd (omega arith)
   comes-denied status text e (checks check c (counting p d n b g h s t)) = absurd (omega arith)
-  comes-denied status text e (checks check c (check_failed cause f s t)) = absurd ((check-cause-says told absence read_failed check cause f).undenied (sym s ∙ e))
+  comes-denied status text e (checks check c (check_failed cause f s t)) =
+      absurd ((check-cause-says told absence read_failed check cause f).undenied (sym s ∙ e))
   comes-denied status text e c = absurd ((unjudged status text c refl).undenied e)
 
   -- the words of a cover have a bound
@@ -272,9 +314,11 @@ module _ (words : List (List ℕ)) (told : Option Texts) (absence read_failed : 
   no-zero (OversizedAs name version) e = omega arith
   no-zero (Faulty name fault) e = omega arith
 
-  comes-covered : FitsForm cover_form words → (status : ℕ) (text : List ℕ) → status ≡ 0 → ComesTo words told absence read_failed status text → IsCoveredCall words told
+  comes-covered : FitsForm cover_form words → (status : ℕ) (text : List ℕ) → status ≡ 0 → ComesTo words told absence read_failed status text
+      → IsCoveredCall words told
   comes-covered f status text e (misused number b s t) = absurd (omega arith)
-  comes-covered f status text e (checks check c (covered p d n b g h s t)) = record { check = check; is_check = c; problem = p; derivation = d; gives = g; number = n; covered = h }
+  comes-covered f status text e (checks check c (covered p d n b g h s t)) =
+      record { check = check; is_check = c; problem = p; derivation = d; gives = g; number = n; covered = h }
   comes-covered f status text e (checks check c (shown p d b g h s t)) = absurd (cover-bound check.bound f c.form b)
   comes-covered f status text e (checks check c (refuted p d n r g h s t)) = absurd (omega arith)
   comes-covered f status text e (checks check c (too_long p d b g h s t)) = absurd (omega arith)
@@ -284,12 +328,15 @@ module _ (words : List (List ℕ)) (told : Option Texts) (absence read_failed : 
 
   comes-uncovered : (status : ℕ) (text : List ℕ) → status ≡ 11 → ComesTo words told absence read_failed status text → IsUncoveredCall words told
   comes-uncovered status text e (misused number b s t) = absurd (omega arith)
-  comes-uncovered status text e (checks check c (too_long p d b g h s t)) = record { check = check; is_check = c; problem = p; derivation = d; gives = g; why = inl h }
-  comes-uncovered status text e (checks check c (counting p d n b g h s t)) = record { check = check; is_check = c; problem = p; derivation = d; gives = g; why = inr (n, h) }
+  comes-uncovered status text e (checks check c (too_long p d b g h s t)) =
+      record { check = check; is_check = c; problem = p; derivation = d; gives = g; why = inl h }
+  comes-uncovered status text e (checks check c (counting p d n b g h s t)) =
+      record { check = check; is_check = c; problem = p; derivation = d; gives = g; why = inr (n, h) }
   comes-uncovered status text e (checks check c (shown p d b g h s t)) = absurd (omega arith)
   comes-uncovered status text e (checks check c (refuted p d n r g h s t)) = absurd (omega arith)
   comes-uncovered status text e (checks check c (covered p d n b g h s t)) = absurd (omega arith)
-  comes-uncovered status text e (checks check c (check_failed cause f s t)) = absurd ((check-cause-says told absence read_failed check cause f).uncounted (sym s ∙ e))
+  comes-uncovered status text e (checks check c (check_failed cause f s t)) =
+      absurd ((check-cause-says told absence read_failed check cause f).uncounted (sym s ∙ e))
   comes-uncovered status text e c = absurd ((unjudged status text c refl).uncounted e)
 
   -- ---- what the status of a call says
@@ -336,7 +383,8 @@ module _ (words : List (List ℕ)) (told : Option Texts) (absence read_failed : 
     call-denied (unwritable meant text c w s a) e = absurd (omega arith)
     call-denied (no_memory s a) e = absurd (omega arith)
 
-    pub call-covered : Ends (ComesTo words told absence read_failed) write_failed before after status → FitsForm cover_form words → status ≡ 0 → IsCoveredCall words told
+    pub call-covered : Ends (ComesTo words told absence read_failed) write_failed before after status → FitsForm cover_form words → status ≡ 0
+        → IsCoveredCall words told
     call-covered (whole text c a) f e = comes-covered f status text e c
     call-covered (unwritable meant text c w s a) f e = absurd (omega arith)
     call-covered (no_memory s a) f e = absurd (omega arith)
@@ -350,7 +398,8 @@ module _ (words : List (List ℕ)) (told : Option Texts) (absence read_failed : 
 
 -- where the texts are told and no read failed, absences need no count
 module _ (texts : Texts) (absence read_failed : Type 0) (no_fault : read_failed → ⊥) where
-  told-unread : (names : List (List ℕ)) (cause : Cause) → ReadFails (Some texts) absence read_failed names cause → ReadFails (Some texts) (Unit {0}) ⊥ names cause
+  told-unread : (names : List (List ℕ)) (cause : Cause) → ReadFails (Some texts) absence read_failed names cause
+      → ReadFails (Some texts) (Unit {0}) ⊥ names cause
   told-unread names _ (is_absent a r w e) = is_absent a r tt e
   told-unread names _ (is_unreadable a r w) = absurd (no_fault w)
   told-unread names _ (is_oversized a r l) = is_oversized a r l
@@ -359,40 +408,50 @@ module _ (texts : Texts) (absence read_failed : Type 0) (no_fault : read_failed 
   told-fails run _ (not_read c r) = not_read c (told-unread (run_texts run) c r)
   told-fails run _ (faulty p q role g h k t) = faulty p q role g h k t
 
-  told-run : (run : RunWords) (status : ℕ) (text : List ℕ) → RunComesTo (Some texts) absence read_failed run status text → RunComesTo (Some texts) (Unit {0}) ⊥ run status text
+  told-run : (run : RunWords) (status : ℕ) (text : List ℕ) → RunComesTo (Some texts) absence read_failed run status text
+      → RunComesTo (Some texts) (Unit {0}) ⊥ run status text
   told-run run status text (ran p a e f) = ran p a e f
   told-run run status text (failed c h e f) = failed c (told-fails run c h) e f
 
-  told-session : (session : SessionWords) (status : ℕ) (text : List ℕ) → SessionComesTo (Some texts) absence read_failed session status text → SessionComesTo (Some texts) (Unit {0}) ⊥ session status text
+  told-session : (session : SessionWords) (status : ℕ) (text : List ℕ) → SessionComesTo (Some texts) absence read_failed session status text
+      → SessionComesTo (Some texts) (Unit {0}) ⊥ session status text
   told-session session status text (replied q a e f) = replied q a e f
-  told-session session status text (session_failed _ (session_not_read c r) e f) = session_failed c (session_not_read c (told-unread (session.program ∷ session.queries ∷ []) c r)) e f
-  told-session session status text (session_failed _ (faulty_program p t g h k x) e f) = session_failed (Faulty session.program g) (faulty_program p t g h k x) e f
+  told-session session status text (session_failed _ (session_not_read c r) e f) =
+      session_failed c (session_not_read c (told-unread (session.program ∷ session.queries ∷ []) c r)) e f
+  told-session session status text (session_failed _ (faulty_program p t g h k x) e f) =
+      session_failed (Faulty session.program g) (faulty_program p t g h k x) e f
 
-  told-deepen : (deepen : DeepenWords) (status : ℕ) (text : List ℕ) → DeepenComesTo (Some texts) absence read_failed deepen status text → DeepenComesTo (Some texts) (Unit {0}) ⊥ deepen status text
+  told-deepen : (deepen : DeepenWords) (status : ℕ) (text : List ℕ) → DeepenComesTo (Some texts) absence read_failed deepen status text
+      → DeepenComesTo (Some texts) (Unit {0}) ⊥ deepen status text
   told-deepen deepen status text (deepened n p a d e f) = deepened n p a d e f
   told-deepen deepen status text (deepen_failed c h e f) = deepen_failed c (told-fails (run_within deepen deepen.series.from) c h) e f
 
-  told-print : (name : List ℕ) (status : ℕ) (text : List ℕ) → PrintComesTo (Some texts) absence read_failed name status text → PrintComesTo (Some texts) (Unit {0}) ⊥ name status text
+  told-print : (name : List ℕ) (status : ℕ) (text : List ℕ) → PrintComesTo (Some texts) absence read_failed name status text
+      → PrintComesTo (Some texts) (Unit {0}) ⊥ name status text
   told-print name status text (printed p e) = printed p e
   told-print name status text (print_failed _ (source_not_read c r) e f) = print_failed c (source_not_read c (told-unread (name ∷ []) c r)) e f
   told-print name status text (print_failed _ (faulty_source p g h t) e f) = print_failed (Faulty name g) (faulty_source p g h t) e f
 
-  told-check : (check : CheckWords) (status : ℕ) (text : List ℕ) → CheckComesTo (Some texts) absence read_failed check status text → CheckComesTo (Some texts) (Unit {0}) ⊥ check status text
+  told-check : (check : CheckWords) (status : ℕ) (text : List ℕ) → CheckComesTo (Some texts) absence read_failed check status text
+      → CheckComesTo (Some texts) (Unit {0}) ⊥ check status text
   told-check check status text (shown p d b g h e f) = shown p d b g h e f
   told-check check status text (covered p d n b g h e f) = covered p d n b g h e f
   told-check check status text (too_long p d b g h e f) = too_long p d b g h e f
   told-check check status text (counting p d n b g h e f) = counting p d n b g h e f
   told-check check status text (refuted p d n r g h e f) = refuted p d n r g h e f
   told-check check status text (check_failed _ (texts_not_read c r) e f) = check_failed c (texts_not_read c (told-unread (check_texts check) c r)) e f
-  told-check check status text (check_failed _ (faulty_text p q s role g h k l t) e f) = check_failed (Faulty (name_in_check check role) g) (faulty_text p q s role g h k l t) e f
+  told-check check status text (check_failed _ (faulty_text p q s role g h k l t) e f) =
+      check_failed (Faulty (name_in_check check role) g) (faulty_text p q s role g h k l t) e f
 
-  told-convert : (convert : ConvertWords) (status : ℕ) (text : List ℕ) → ConvertComesTo (Some texts) absence read_failed convert status text → ConvertComesTo (Some texts) (Unit {0}) ⊥ convert status text
+  told-convert : (convert : ConvertWords) (status : ℕ) (text : List ℕ) → ConvertComesTo (Some texts) absence read_failed convert status text
+      → ConvertComesTo (Some texts) (Unit {0}) ⊥ convert status text
   told-convert convert status text (converted p h k l s) = converted p h k l s
   told-convert convert status text (convert_failed _ (proof_not_read c r) e f) = convert_failed c (proof_not_read c (told-unread (convert.proof ∷ []) c r)) e f
   told-convert convert status text (convert_failed c (faulty_proof p g h k) e f) = convert_failed c (faulty_proof p g h k) e f
   told-convert convert status text (convert_failed c (too_long_as p t h k l) e f) = convert_failed c (too_long_as p t h k l) e f
 
-  told-comes : (words : List (List ℕ)) (status : ℕ) (text : List ℕ) → ComesTo words (Some texts) absence read_failed status text → ComesTo words (Some texts) (Unit {0}) ⊥ status text
+  told-comes : (words : List (List ℕ)) (status : ℕ) (text : List ℕ) → ComesTo words (Some texts) absence read_failed status text
+      → ComesTo words (Some texts) (Unit {0}) ⊥ status text
   told-comes words status text (misused n b e f) = misused n b e f
   told-comes words status text (runs run r c) = runs run r (told-run run status text c)
   told-comes words status text (sessions session r c) = sessions session r (told-session session status text c)
@@ -404,9 +463,11 @@ module _ (texts : Texts) (absence read_failed : Type 0) (no_fault : read_failed 
   told-comes words status text (runs_made run h c) = runs_made run h c
 
 module _
-    (one : (words : List (List ℕ)) (texts : Texts) (status other : ℕ) (text more : List ℕ) → ComesTo words (Some texts) (Unit {0}) ⊥ status text → ComesTo words (Some texts) (Unit {0}) ⊥ other more → (status ≡ other) × (text ≡ more))
+    (one : (words : List (List ℕ)) (texts : Texts) (status other : ℕ) (text more : List ℕ) → ComesTo words (Some texts) (Unit {0}) ⊥ status text
+    → ComesTo words (Some texts) (Unit {0}) ⊥ other more → (status ≡ other) × (text ≡ more))
     (words : List (List ℕ)) (told : Option Texts) (absence read_failed write_failed : Type 0) (before after : Option (List ℕ)) (status : ℕ) where
-  pub completes : Ends (ComesTo words told absence read_failed) write_failed before after status → Completes words told read_failed write_failed before after status
+  pub completes : Ends (ComesTo words told absence read_failed) write_failed before after status
+      → Completes words told read_failed write_failed before after status
   completes (whole text c a) = λ texts meant other e read written m.
       let own = told-comes texts absence read_failed read words status text (subst (λ t. ComesTo words t absence read_failed status text) e c) in
       let same = one words texts status meant text other own m in
@@ -442,10 +503,12 @@ module _ (words : List (List ℕ)) (told : Option Texts) (absence read_failed wr
   pub plain-uncovered : answer ≡ Some 11 → IsUncoveredCall words told
   plain-uncovered e = call-uncovered words told absence read_failed write_failed before after 11 (at-status_of 11 e) refl
 
-  pub plain-completes : ((words : List (List ℕ)) (texts : Texts) (status other : ℕ) (text more : List ℕ) → ComesTo words (Some texts) (Unit {0}) ⊥ status text → ComesTo words (Some texts) (Unit {0}) ⊥ other more → (status ≡ other) × (text ≡ more))
+  pub plain-completes : ((words : List (List ℕ)) (texts : Texts) (status other : ℕ) (text more : List ℕ) → ComesTo words (Some texts) (Unit {0}) ⊥ status text
+      → ComesTo words (Some texts) (Unit {0}) ⊥ other more → (status ≡ other) × (text ≡ more))
       → IfSome answer (Completes words told read_failed write_failed before after)
   plain-completes one = by answer ends
     where
-      by : (o : Option ℕ) → IfSome o (Ends (ComesTo words told absence read_failed) write_failed before after) → IfSome o (Completes words told read_failed write_failed before after)
+      by : (o : Option ℕ) → IfSome o (Ends (ComesTo words told absence read_failed) write_failed before after)
+          → IfSome o (Completes words told read_failed write_failed before after)
       by None h = tt
       by (Some status) h = completes one words told absence read_failed write_failed before after status h

@@ -18,19 +18,27 @@ module _ (texts : Texts) (one_problem : (run : RunWords) (p q : ProblemTree) →
     (not_both : (run : RunWords) (p : ProblemTree) (c : Cause) → RunAsks (Some texts) run p → RunFails (Some texts) (Unit {0}) ⊥ run c → ⊥)
     (one_cause : (run : RunWords) (c d : Cause) → RunFails (Some texts) (Unit {0}) ⊥ run c → RunFails (Some texts) (Unit {0}) ⊥ run d → c ≡ d) where
   -- one bound decides
-  deciding-once : (deepen : DeepenWords) (n m : ℕ) (p q : ProblemTree) → RunAsks (Some texts) (run_within deepen n) p → RunAsks (Some texts) (run_within deepen m) q → IsDeciding p deepen.series n → IsDeciding q deepen.series m → n ≡ m
+  deciding-once : (deepen : DeepenWords) (n m : ℕ) (p q : ProblemTree) → RunAsks (Some texts) (run_within deepen n) p
+      → RunAsks (Some texts) (run_within deepen m) q → IsDeciding p deepen.series n → IsDeciding q deepen.series m → n ≡ m
   deciding-once deepen n m p q a b d e =
-      let same = one_problem (run_within deepen 0) (with_bound p 0) (with_bound q 0) (asks-within (Some texts) deepen n 0 p a) (asks-within (Some texts) deepen m 0 q b) in
-      one_bound (with_bound q 0) deepen.series n m (subst (λ x. IsDeciding x deepen.series n) same (deciding-within p deepen.series n 0 d)) (deciding-within q deepen.series m 0 e)
+      let same = one_problem (run_within deepen 0) (with_bound p 0) (with_bound q 0) (asks-within (Some texts) deepen n 0 p a)
+      (asks-within (Some texts) deepen m 0 q b) in
+      one_bound (with_bound q 0) deepen.series n m (subst (λ x. IsDeciding x deepen.series n) same (deciding-within p deepen.series n 0 d))
+      (deciding-within q deepen.series m 0 e)
 
-  asks-or-fails : (deepen : DeepenWords) (n : ℕ) (p : ProblemTree) (c : Cause) → RunAsks (Some texts) (run_within deepen n) p → RunFails (Some texts) (Unit {0}) ⊥ (first_run deepen) c → ⊥
+  asks-or-fails : (deepen : DeepenWords) (n : ℕ) (p : ProblemTree) (c : Cause) → RunAsks (Some texts) (run_within deepen n) p
+      → RunFails (Some texts) (Unit {0}) ⊥ (first_run deepen) c → ⊥
   asks-or-fails deepen n p c a f = not_both (first_run deepen) (with_bound p deepen.series.from) c (asks-within (Some texts) deepen n deepen.series.from p a) f
 
-  pub deepens-one : (deepen : DeepenWords) (s t : ℕ) (u v : List ℕ) → DeepenComesTo (Some texts) (Unit {0}) ⊥ deepen s u → DeepenComesTo (Some texts) (Unit {0}) ⊥ deepen t v → (s ≡ t) × (u ≡ v)
+  pub deepens-one : (deepen : DeepenWords) (s t : ℕ) (u v : List ℕ) → DeepenComesTo (Some texts) (Unit {0}) ⊥ deepen s u
+      → DeepenComesTo (Some texts) (Unit {0}) ⊥ deepen t v → (s ≡ t) × (u ≡ v)
   deepens-one deepen s t u v (deepened n p a d e f) (deepened m q b c g h) =
       let same = deciding-once deepen n m p q a b d c in
-      let o = one_problem (run_within deepen m) p q (subst (λ x. RunAsks (Some texts) (run_within deepen x) p) same a) b in
-      (e ∙ (ap run_status o ∙ sym g), f ∙ (ap (λ x. bound_line x ++ whole_text deepen.proofs p) same ∙ (ap (λ x. bound_line m ++ whole_text deepen.proofs x) o ∙ sym h)))
+      let o = one_problem (run_within deepen m) p q (subst (λ x. RunAsks (Some texts) (run_within deepen x) p) same a) b in (
+        e ∙ (ap run_status o ∙ sym g),
+        f ∙ (ap (λ x. bound_line x ++ whole_text deepen.proofs p) same
+            ∙ (ap (λ x. bound_line m ++ whole_text deepen.proofs x) o ∙ sym h)),
+      )
   deepens-one deepen s t u v (deepened n p a d e f) (deepen_failed c b g h) = absurd (asks-or-fails deepen n p c a b)
   deepens-one deepen s t u v (deepen_failed c b g h) (deepened n p a d e f) = absurd (asks-or-fails deepen n p c a b)
   deepens-one deepen s t u v (deepen_failed c a e f) (deepen_failed d b g h) =

@@ -32,9 +32,15 @@ use Rattle.ll_make.specs.Kinds.{query_text}
 use Rattle.ll_top.specs.Making.{MadeRunWords, make_text}
 use Rattle.ll_top.specs.MadeRuns.{MadeRunComesTo, last_line}
 use Rattle.ll_top.specs.Faults.{Cause, Absent, Oversized, Faulty, fault_text, cause_status}
-use Rattle.ll_top.specs.Judging.{HasGrammarFault, IsProgramText, IsQueryText, IsReadingFault, lexical, grammatical, IsFaultless, IsProgramFault, of_program_reading, of_program_scope, IsQueryFault, of_query_reading, of_query_scope, IsTextFault, of_program, of_query, TextsAsk, most_open, IsCheckFault, of_run_texts, of_proof, TextsGive}
+use Rattle.ll_top.specs.Judging.{HasGrammarFault, IsProgramText, IsQueryText, IsReadingFault, lexical, grammatical, IsFaultless, IsProgramFault}
+use Rattle.ll_top.specs.Judging.{of_program_reading, of_program_scope, IsQueryFault, of_query_reading, of_query_scope, IsTextFault, of_program, of_query}
+use Rattle.ll_top.specs.Judging.{TextsAsk, most_open, IsCheckFault, of_run_texts, of_proof, TextsGive}
 use Rattle.ll_top.specs.Verdicts.{yes_text, no_text, covered_text, too_long_text, counts_text}
-use Rattle.ll_top.specs.Outcome.{name_of, IsRead, Reaches, first, later, run_texts, ReadFails, absent, unreadable, oversized, RunFails, not_read, faulty, RunAsks, status_of_run, text_of_run, RunComesTo, ran, failed, IsPrintedAs, PrintFails, source_not_read, faulty_source, PrintComesTo, printed, print_failed, name_in_check, check_texts, CheckFails, texts_not_read, faulty_text, CheckGives, bound_in, IsRefuted, IsCovered, CountsAt, CheckComesTo, shown, refuted, covered, too_long, counting, check_failed, longest_text}
+use Rattle.ll_top.specs.Outcome.{name_of, IsRead, Reaches, first, later, run_texts, ReadFails, absent, unreadable, oversized, RunFails, not_read, faulty}
+use Rattle.ll_top.specs.Outcome.{RunAsks, status_of_run, text_of_run, RunComesTo, ran, failed, IsPrintedAs, PrintFails, source_not_read, faulty_source}
+use Rattle.ll_top.specs.Outcome.{PrintComesTo, printed, print_failed, name_in_check, check_texts, CheckFails, texts_not_read, faulty_text, CheckGives}
+use Rattle.ll_top.specs.Outcome.{bound_in, IsRefuted, IsCovered, CountsAt, CheckComesTo, shown, refuted, covered, too_long, counting, check_failed}
+use Rattle.ll_top.specs.Outcome.{longest_text}
 use Rattle.ll_top.specs.Calls.{runs, prints, checks}
 use Rattle.ll_top.proofs.calls.GrammarLemmas.{IsOfGrammar}
 use Rattle.ll_top.proofs.calls.DistinctNames.{none-differ, differ-names, differ-problem}
@@ -63,9 +69,11 @@ pub record Laws : Type 0 where
   pub no_grammar : (role : Role) (l : LexedText) (f : Fault) → IsOfGrammar role l → HasGrammarFault role l f → ⊥
   pub one_tree : (limit : ℕ) (ts : List Tok) (p q : ProgramTree) → Reads programs limit ts p → Reads programs limit ts q → p ≡ q
   pub one_goal : (limit : ℕ) (ts : List Tok) (p q : Raw) → Reads queries limit ts p → Reads queries limit ts q → p ≡ q
-  pub one_derivation : (names : List (List ℕ)) (text : List ℕ) (v w : ℕ) (d e : DerivationLines) → IsDistinct bytes_eq names → length text < 2 ^ 64 → IsTextIn v names text d → IsTextIn w names text e → (v ≡ w) × (d ≡ e)
+  pub one_derivation : (names : List (List ℕ)) (text : List ℕ) (v w : ℕ) (d e : DerivationLines) → IsDistinct bytes_eq names → length text < 2 ^ 64
+      → IsTextIn v names text d → IsTextIn w names text e → (v ≡ w) × (d ≡ e)
   pub one_proof : (text : List ℕ) (f g : Fault) → length text < 2 ^ 64 → HasFaultIn text f → HasFaultIn text g → f ≡ g
-  pub no_proof_fault : (names : List (List ℕ)) (text : List ℕ) (v : ℕ) (d : DerivationLines) (f : Fault) → IsDistinct bytes_eq names → length text < 2 ^ 64 → IsTextIn v names text d → HasFaultIn text f → ⊥
+  pub no_proof_fault : (names : List (List ℕ)) (text : List ℕ) (v : ℕ) (d : DerivationLines) (f : Fault) → IsDistinct bytes_eq names → length text < 2 ^ 64
+      → IsTextIn v names text d → HasFaultIn text f → ⊥
 
 module _ (laws : Laws) where
   apart : (text : List ℕ) (l : LexedText) (f : Fault) → l.text ≡ text → IsLexed l → HasFault text f → ⊥
@@ -79,7 +87,8 @@ module _ (laws : Laws) where
   one-reading-fault role text f g (lexical h) (lexical k) = laws.one text f g h k
   one-reading-fault role text f g (lexical h) (grammatical l e k b) = absurd (apart text l f e k h)
   one-reading-fault role text f g (grammatical l e h b) (lexical k) = absurd (apart text l g e h k)
-  one-reading-fault role text f g (grammatical l e h b) (grammatical m d j c) = laws.one_grammar role m f g (moved role l m f (laws.same l m (e ∙ sym d) h j) b) c
+  one-reading-fault role text f g (grammatical l e h b) (grammatical m d j c) =
+      laws.one_grammar role m f g (moved role l m f (laws.same l m (e ∙ sym d) h j) b) c
 
   -- a text whose tokens are read by the grammar
   read-no-fault : (role : Role) (text : List ℕ) (l : LexedText) (f : Fault) → l.text ≡ text → IsLexed l → IsOfGrammar role l → IsReadingFault role text f → ⊥
@@ -112,14 +121,16 @@ module _ (laws : Laws) where
 
   pub faultless-no-fault : (text : List ℕ) (t : ProgramTree) (f : Fault) → IsFaultless text t → IsProgramFault text f → ⊥
   faultless-no-fault text t f p (of_program_reading h) = program-no-fault text t f p.is_program h
-  faultless-no-fault text t f p (of_program_scope u s h) = none-first f (program_faults u) (subst (λ x. program_faults x ≡ []) (one-program text t u p.is_program s) p.faultless) h
+  faultless-no-fault text t f p (of_program_scope u s h) = none-first f (program_faults u)
+      (subst (λ x. program_faults x ≡ []) (one-program text t u p.is_program s) p.faultless) h
 
   one-query-fault : (program : ProgramTree) (text : List ℕ) (f g : Fault) → IsQueryFault program text f → IsQueryFault program text g → f ≡ g
   one-query-fault program text f g (of_query_reading h) (of_query_reading k) = one-reading-fault Query text f g h k
   one-query-fault program text f g (of_query_reading h) (of_query_scope t r k) = absurd (query-no-fault text t f r h)
   one-query-fault program text f g (of_query_scope t r h) (of_query_reading k) = absurd (query-no-fault text t g r k)
   one-query-fault program text f g (of_query_scope t r h) (of_query_scope u s k) =
-      one-first f g (query_faults (map heading program.modules) u) (subst (λ x. HasQueryFault program x f) (query-once laws.same laws.one_goal text t u r s) h) k
+      one-first f g (query_faults (map heading program.modules) u) (subst (λ x. HasQueryFault program x f) (query-once laws.same laws.one_goal text t u r s) h)
+      k
 
   -- two texts have one fault
   one-fault : (program query : List ℕ) (r s : Role) (f g : Fault) → IsTextFault program query r f → IsTextFault program query s g → (r ≡ s) × (f ≡ g)
@@ -130,14 +141,16 @@ module _ (laws : Laws) where
       (refl, one-query-fault u query f g (subst (λ x. IsQueryFault x query f) (one-program program t u l.is_program m.is_program) h) k)
 
   -- texts that ask a problem have no fault
-  pub asks-no-fault : (program query : List ℕ) (bound : ℕ) (p : ProblemTree) (role : Role) (f : Fault) → TextsAsk program query bound p → IsTextFault program query role f → ⊥
+  pub asks-no-fault : (program query : List ℕ) (bound : ℕ) (p : ProblemTree) (role : Role) (f : Fault) → TextsAsk program query bound p
+      → IsTextFault program query role f → ⊥
   asks-no-fault program query bound p _ f a (of_program h) =
       faultless-no-fault program a.program_tree f (record { is_program = a.is_program; faultless = a.asks.program_faultless }) h
   asks-no-fault program query bound p _ f a (of_query t l (of_query_reading h)) = query-no-fault query a.query_tree f a.is_query h
   asks-no-fault program query bound p _ f a (of_query t l (of_query_scope u s h)) =
       let e = one-program program a.program_tree t a.is_program l.is_program in
       let g = query-once laws.same laws.one_goal query a.query_tree u a.is_query s in
-      none-first f (query_faults (map heading t.modules) u) (subst (λ x. query_faults (map heading x.modules) u ≡ []) e (subst (λ x. query_faults (map heading a.program_tree.modules) x ≡ []) g a.asks.query_faultless)) h
+      none-first f (query_faults (map heading t.modules) u) (subst (λ x. query_faults (map heading x.modules) u ≡ []) e
+      (subst (λ x. query_faults (map heading a.program_tree.modules) x ≡ []) g a.asks.query_faultless)) h
 
   -- and they ask one
   one-asked : (program query : List ℕ) (bound : ℕ) (p q : ProblemTree) → TextsAsk program query bound p → TextsAsk program query bound q → p ≡ q
@@ -152,31 +165,38 @@ module _ (laws : Laws) where
   short text l = omega arith
 
   -- three texts have one fault
-  one-check-fault : (program query proof : List ℕ) (r s : Role) (f g : Fault) → length proof ≤ longest_text → IsCheckFault program query proof r f → IsCheckFault program query proof s g → (r ≡ s) × (f ≡ g)
+  one-check-fault : (program query proof : List ℕ) (r s : Role) (f g : Fault) → length proof ≤ longest_text → IsCheckFault program query proof r f
+      → IsCheckFault program query proof s g → (r ≡ s) × (f ≡ g)
   one-check-fault program query proof r s f g l (of_run_texts h) (of_run_texts k) = one-fault program query r s f g h k
   one-check-fault program query proof r _ f g l (of_run_texts h) (of_proof b p a k) = absurd (asks-no-fault program query b p r f a h)
   one-check-fault program query proof _ s f g l (of_proof b p a h) (of_run_texts k) = absurd (asks-no-fault program query b p s g a k)
   one-check-fault program query proof _ _ f g l (of_proof b p a h) (of_proof c q d k) = (refl, laws.one_proof proof f g (short proof l) h k)
 
   -- the names of a problem that texts ask differ, and so do they with those that a derivation's text mentions
-  given-differ : (program query proof : List ℕ) (bound : ℕ) (p : ProblemTree) → TextsAsk program query bound p → IsDistinct bytes_eq (with_names p.names (text_names proof))
+  given-differ : (program query proof : List ℕ) (bound : ℕ) (p : ProblemTree) → TextsAsk program query bound p
+      → IsDistinct bytes_eq (with_names p.names (text_names proof))
   given-differ program query proof bound p a =
       differ-names p.names (text_names proof) (subst (λ x. IsDistinct bytes_eq x.names) (sym a.asks.is) (differ-problem a.program_tree a.query_tree bound))
 
   -- a text of a derivation is of one
-  one-proof-text : (names : List (List ℕ)) (text : List ℕ) (d e : DerivationLines) → IsDistinct bytes_eq names → length text ≤ longest_text → IsProofText names text d → IsProofText names text e → d ≡ e
+  one-proof-text : (names : List (List ℕ)) (text : List ℕ) (d e : DerivationLines) → IsDistinct bytes_eq names → length text ≤ longest_text
+      → IsProofText names text d → IsProofText names text e → d ≡ e
   one-proof-text names text d e n l a b = (laws.one_derivation names text a.version b.version d e n (short text l) a.is_text b.is_text).1
 
-  proof-no-fault : (names : List (List ℕ)) (text : List ℕ) (d : DerivationLines) (f : Fault) → IsDistinct bytes_eq names → length text ≤ longest_text → IsProofText names text d → HasFaultIn text f → ⊥
+  proof-no-fault : (names : List (List ℕ)) (text : List ℕ) (d : DerivationLines) (f : Fault) → IsDistinct bytes_eq names → length text ≤ longest_text
+      → IsProofText names text d → HasFaultIn text f → ⊥
   proof-no-fault names text d f n l a h = laws.no_proof_fault names text a.version d f n (short text l) a.is_text h
 
   -- texts that give a problem and a derivation have no fault
-  gives-no-fault : (program query proof : List ℕ) (bound : ℕ) (p : ProblemTree) (d : DerivationLines) (role : Role) (f : Fault) → length proof ≤ longest_text → TextsGive program query proof bound p d → IsCheckFault program query proof role f → ⊥
+  gives-no-fault : (program query proof : List ℕ) (bound : ℕ) (p : ProblemTree) (d : DerivationLines) (role : Role) (f : Fault) → length proof ≤ longest_text
+      → TextsGive program query proof bound p d → IsCheckFault program query proof role f → ⊥
   gives-no-fault program query proof bound p d role f l a (of_run_texts h) = asks-no-fault program query bound p role f a.asks h
-  gives-no-fault program query proof bound p d _ f l a (of_proof c q b h) = proof-no-fault (with_names p.names (text_names proof)) proof d f (given-differ program query proof bound p a.asks) l a.is_text h
+  gives-no-fault program query proof bound p d _ f l a (of_proof c q b h) =
+      proof-no-fault (with_names p.names (text_names proof)) proof d f (given-differ program query proof bound p a.asks) l a.is_text h
 
   -- and they give one problem and one derivation
-  one-given : (program query proof : List ℕ) (bound : ℕ) (p q : ProblemTree) (d e : DerivationLines) → length proof ≤ longest_text → TextsGive program query proof bound p d → TextsGive program query proof bound q e → (p ≡ q) × (d ≡ e)
+  one-given : (program query proof : List ℕ) (bound : ℕ) (p q : ProblemTree) (d e : DerivationLines) → length proof ≤ longest_text
+      → TextsGive program query proof bound p d → TextsGive program query proof bound q e → (p ≡ q) × (d ≡ e)
   one-given program query proof bound p q d e l a b =
       let o = one-asked program query bound p q a.asks b.asks in
       let moved = subst (λ x. IsProofText (with_names x.names (text_names proof)) proof d) o a.is_text in
@@ -195,7 +215,8 @@ module _ (laws : Laws) where
     absent-not-read : (name : List ℕ) → text_of texts name ≡ None → IsNotRead name
     absent-not-read name e text h = let f = h.found in cc
 
-    long-not-read : (name : List ℕ) (found : Option (List ℕ)) → text_of texts name ≡ found → IsSomeAnd found (λ text. longest_text < length text) → IsNotRead name
+    long-not-read : (name : List ℕ) (found : Option (List ℕ)) → text_of texts name ≡ found → IsSomeAnd found (λ text. longest_text < length text)
+        → IsNotRead name
     long-not-read name None e l text h = absurd l
     long-not-read name (Some other) e l text h =
         let s : other ≡ text = some-same other text (text_of texts name) e h.found in
@@ -219,13 +240,15 @@ module _ (laws : Laws) where
     turn-read _ name r first h = h r.0.0 r.0.1
     turn-read (other ∷ names) name r (later text q s) h = turn-read names name r.1 s h
 
-    none-long : (name : List ℕ) (found : Option (List ℕ)) → text_of texts name ≡ found → text_of texts name ≡ None → IsSomeAnd found (λ text. longest_text < length text) → ⊥
+    none-long : (name : List ℕ) (found : Option (List ℕ)) → text_of texts name ≡ found → text_of texts name ≡ None
+        → IsSomeAnd found (λ text. longest_text < length text) → ⊥
     none-long name None e f l = l
     none-long name (Some text) e f l = cc
 
     module _ (names : List (List ℕ)) where
       -- the same text is absent and too long
-      clash : (a b : List ℕ) → Reaches (Some texts) names a → Reaches (Some texts) names b → text_of texts a ≡ None → IsSomeAnd (text_of texts b) (λ text. longest_text < length text) → ⊥
+      clash : (a b : List ℕ) → Reaches (Some texts) names a → Reaches (Some texts) names b → text_of texts a ≡ None
+          → IsSomeAnd (text_of texts b) (λ text. longest_text < length text) → ⊥
       clash a b r s e l =
           let same_name = one-turn names a b r s (absent-not-read a e) (long-not-read b (text_of texts b) refl l) in
           none-long b (text_of texts b) refl (subst (λ n. text_of texts n ≡ None) same_name e) l
@@ -234,7 +257,8 @@ module _ (laws : Laws) where
       unread-once _ _ (absent a r w e) (absent b s x f) = ap Absent (one-turn names a b r s (absent-not-read a e) (absent-not-read b f))
       unread-once _ _ (absent a r w e) (oversized b s l) = absurd (clash a b r s e l)
       unread-once _ _ (oversized a r l) (absent b s x f) = absurd (clash b a s r f l)
-      unread-once _ _ (oversized a r l) (oversized b s m) = ap Oversized (one-turn names a b r s (long-not-read a (text_of texts a) refl l) (long-not-read b (text_of texts b) refl m))
+      unread-once _ _ (oversized a r l) (oversized b s m) = ap Oversized
+          (one-turn names a b r s (long-not-read a (text_of texts a) refl l) (long-not-read b (text_of texts b) refl m))
       unread-once _ _ (unreadable a r w) _ = absurd w
       unread-once _ _ _ (unreadable b s w) = absurd w
 
@@ -258,9 +282,11 @@ module _ (laws : Laws) where
           let e = one-fault u v r s g f moved w in
           ap (λ x. Faulty (name_of run x) g) e.0 ∙ ap (Faulty (name_of run s)) e.1
 
-      asks-moved : (p q : List ℕ) (problem : ProblemTree) → IsRead (Some texts) run.program p → IsRead (Some texts) run.query q → RunAsks (Some texts) run problem → TextsAsk p q run.bound problem
+      asks-moved : (p q : List ℕ) (problem : ProblemTree) → IsRead (Some texts) run.program p → IsRead (Some texts) run.query q
+          → RunAsks (Some texts) run problem → TextsAsk p q run.bound problem
       asks-moved p q problem h k a =
-          subst (λ x. TextsAsk x q run.bound problem) (one-read run.program a.program p a.program_read h) (subst (λ x. TextsAsk a.program x run.bound problem) (one-read run.query a.query q a.query_read k) a.asks)
+          subst (λ x. TextsAsk x q run.bound problem) (one-read run.program a.program p a.program_read h)
+          (subst (λ x. TextsAsk a.program x run.bound problem) (one-read run.query a.query q a.query_read k) a.asks)
 
       pub asks-not-fails : (p : ProblemTree) (c : Cause) → RunAsks (Some texts) run p → RunFails (Some texts) (Unit {0}) ⊥ run c → ⊥
       asks-not-fails p _ a (not_read c r) = read-or-not (run_texts run) c (both-read a.program a.query a.program_read a.query_read) r
@@ -270,22 +296,27 @@ module _ (laws : Laws) where
       one-problem p q a b = one-asked b.program b.query run.bound p q (asks-moved b.program b.query p b.program_read b.query_read a) b.asks
 
       pub run-once : (s t : ℕ) (u v : List ℕ) → RunComesTo (Some texts) (Unit {0}) ⊥ run s u → RunComesTo (Some texts) (Unit {0}) ⊥ run t v → (s ≡ t) × (u ≡ v)
-      run-once s t u v (ran p a e f) (ran q b g h) = let o = one-problem p q a b in (e ∙ (ap (status_of_run run.first) o ∙ sym g), f ∙ (ap (text_of_run run.first run.proofs) o ∙ sym h))
+      run-once s t u v (ran p a e f) (ran q b g h) = let o = one-problem p q a b in
+          (e ∙ (ap (status_of_run run.first) o ∙ sym g), f ∙ (ap (text_of_run run.first run.proofs) o ∙ sym h))
       run-once s t u v (ran p a e f) (failed c b g h) = absurd (asks-not-fails p c a b)
       run-once s t u v (failed c b g h) (ran p a e f) = absurd (asks-not-fails p c a b)
       run-once s t u v (failed c a e f) (failed d b g h) = let o = fails-once c d a b in (e ∙ (ap cause_status o ∙ sym g), f ∙ (ap fault_text o ∙ sym h))
 
     -- ---- deepenings
 
-    pub deepen-once : (deepen : DeepenWords) (s t : ℕ) (u v : List ℕ) → DeepenComesTo (Some texts) (Unit {0}) ⊥ deepen s u → DeepenComesTo (Some texts) (Unit {0}) ⊥ deepen t v → (s ≡ t) × (u ≡ v)
+    pub deepen-once : (deepen : DeepenWords) (s t : ℕ) (u v : List ℕ) → DeepenComesTo (Some texts) (Unit {0}) ⊥ deepen s u
+        → DeepenComesTo (Some texts) (Unit {0}) ⊥ deepen t v → (s ≡ t) × (u ≡ v)
     deepen-once deepen s t u v c d = deepens-one texts one-problem asks-not-fails fails-once deepen s t u v c d
 
     -- ---- sessions
 
-    module _ (one_list : (program : ProgramTree) (bound line : ℕ) (lines : List (List ℕ)) (queries others : List QueryLine) → HaveQueries program bound line lines queries → HaveQueries program bound line lines others → queries ≡ others) where
-      pub session-once : (session : SessionWords) (s t : ℕ) (u v : List ℕ) → SessionComesTo (Some texts) (Unit {0}) ⊥ session s u → SessionComesTo (Some texts) (Unit {0}) ⊥ session t v → (s ≡ t) × (u ≡ v)
+    module _ (one_list : (program : ProgramTree) (bound line : ℕ) (lines : List (List ℕ)) (queries others : List QueryLine)
+        → HaveQueries program bound line lines queries → HaveQueries program bound line lines others → queries ≡ others) where
+      pub session-once : (session : SessionWords) (s t : ℕ) (u v : List ℕ) → SessionComesTo (Some texts) (Unit {0}) ⊥ session s u
+          → SessionComesTo (Some texts) (Unit {0}) ⊥ session t v → (s ≡ t) × (u ≡ v)
       session-once session s t u v c d =
-          sessions-one texts one-read unread-once (λ first second p q h k cause r. read-or-not (first ∷ second ∷ []) cause ((p, h), ((q, k), tt)) r) one-program one-program-fault faultless-no-fault one_list session s t u v c d
+          sessions-one texts one-read unread-once (λ first second p q h k cause r. read-or-not (first ∷ second ∷ []) cause ((p, h), ((q, k), tt)) r) one-program
+          one-program-fault faultless-no-fault one_list session s t u v c d
 
     -- ---- prints
 
@@ -299,22 +330,28 @@ module _ (laws : Laws) where
 
       printed-not-fails : (bytes : List ℕ) (c : Cause) → IsPrintedAs (Some texts) name bytes → PrintFails (Some texts) (Unit {0}) ⊥ name c → ⊥
       printed-not-fails bytes _ a (source_not_read c r) = read-or-not (name ∷ []) c ((a.text, a.text_read), tt) r
-      printed-not-fails bytes _ a (faulty_source q f k t) = program-no-fault q a.tree f (subst (λ x. IsProgramText x a.tree) (one-read name a.text q a.text_read k) a.is_program) t
+      printed-not-fails bytes _ a (faulty_source q f k t) = program-no-fault q a.tree f
+          (subst (λ x. IsProgramText x a.tree) (one-read name a.text q a.text_read k) a.is_program) t
 
       printed-once : (u v : List ℕ) → IsPrintedAs (Some texts) name u → IsPrintedAs (Some texts) name v → u ≡ v
       printed-once u v a b =
-          a.is ∙ (ap program_text (one-program b.text a.tree b.tree (subst (λ x. IsProgramText x a.tree) (one-read name a.text b.text a.text_read b.text_read) a.is_program) b.is_program) ∙ sym b.is)
+          a.is
+          ∙ (ap program_text (one-program b.text a.tree b.tree
+          (subst (λ x. IsProgramText x a.tree) (one-read name a.text b.text a.text_read b.text_read) a.is_program) b.is_program) ∙ sym b.is)
 
-      pub print-once : (s t : ℕ) (u v : List ℕ) → PrintComesTo (Some texts) (Unit {0}) ⊥ name s u → PrintComesTo (Some texts) (Unit {0}) ⊥ name t v → (s ≡ t) × (u ≡ v)
+      pub print-once : (s t : ℕ) (u v : List ℕ) → PrintComesTo (Some texts) (Unit {0}) ⊥ name s u → PrintComesTo (Some texts) (Unit {0}) ⊥ name t v
+          → (s ≡ t) × (u ≡ v)
       print-once s t u v (printed a e) (printed b g) = (e ∙ sym g, printed-once u v a b)
       print-once s t u v (printed a e) (print_failed c b g h) = absurd (printed-not-fails u c a b)
       print-once s t u v (print_failed c b g h) (printed a e) = absurd (printed-not-fails v c a b)
-      print-once s t u v (print_failed c a e f) (print_failed d b g h) = let o = print-fails-once c d a b in (e ∙ (ap cause_status o ∙ sym g), f ∙ (ap fault_text o ∙ sym h))
+      print-once s t u v (print_failed c a e f) (print_failed d b g h) = let o = print-fails-once c d a b in
+          (e ∙ (ap cause_status o ∙ sym g), f ∙ (ap fault_text o ∙ sym h))
 
     -- ---- checks
 
     module _ (check : CheckWords) where
-      all-read : (p q r : List ℕ) → IsRead (Some texts) check.program p → IsRead (Some texts) check.query q → IsRead (Some texts) check.proof r → AreRead (check_texts check)
+      all-read : (p q r : List ℕ) → IsRead (Some texts) check.program p → IsRead (Some texts) check.query q → IsRead (Some texts) check.proof r
+          → AreRead (check_texts check)
       all-read p q r h k l = ((p, h), ((q, k), ((r, l), tt)))
 
       check-fails-once : (c d : Cause) → CheckFails (Some texts) (Unit {0}) ⊥ check c → CheckFails (Some texts) (Unit {0}) ⊥ check d → c ≡ d
@@ -322,31 +359,41 @@ module _ (laws : Laws) where
       check-fails-once _ _ (texts_not_read c x) (faulty_text p q r role f h k l t) = absurd (read-or-not (check_texts check) c (all-read p q r h k l) x)
       check-fails-once _ _ (faulty_text p q r role f h k l t) (texts_not_read d x) = absurd (read-or-not (check_texts check) d (all-read p q r h k l) x)
       check-fails-once _ _ (faulty_text p q r role g h k l t) (faulty_text u v w s f m n o z) =
-          let moved = subst (λ x. IsCheckFault x v w role g) (one-read check.program p u h m) (subst (λ x. IsCheckFault p x w role g) (one-read check.query q v k n) (subst (λ x. IsCheckFault p q x role g) (one-read check.proof r w l o) t)) in
+          let moved = subst (λ x. IsCheckFault x v w role g) (one-read check.program p u h m)
+          (subst (λ x. IsCheckFault p x w role g) (one-read check.query q v k n) (subst (λ x. IsCheckFault p q x role g) (one-read check.proof r w l o) t))
+          in
           let e = one-check-fault u v w role s g f o.within moved z in
           ap (λ x. Faulty (name_in_check check x) g) e.0 ∙ ap (Faulty (name_in_check check s)) e.1
 
-      gives-moved : (p q r : List ℕ) (problem : ProblemTree) (d : DerivationLines) → IsRead (Some texts) check.program p → IsRead (Some texts) check.query q → IsRead (Some texts) check.proof r → CheckGives (Some texts) check problem d
+      gives-moved : (p q r : List ℕ) (problem : ProblemTree) (d : DerivationLines) → IsRead (Some texts) check.program p → IsRead (Some texts) check.query q
+          → IsRead (Some texts) check.proof r → CheckGives (Some texts) check problem d
           → TextsGive p q r (bound_in check) problem d
       gives-moved p q r problem d h k l a =
           subst (λ x. TextsGive x q r (bound_in check) problem d) (one-read check.program a.program p a.program_read h)
-          (subst (λ x. TextsGive a.program x r (bound_in check) problem d) (one-read check.query a.query q a.query_read k) (subst (λ x. TextsGive a.program a.query x (bound_in check) problem d) (one-read check.proof a.proof r a.proof_read l) a.give))
+          (subst (λ x. TextsGive a.program x r (bound_in check) problem d) (one-read check.query a.query q a.query_read k)
+          (subst (λ x. TextsGive a.program a.query x (bound_in check) problem d) (one-read check.proof a.proof r a.proof_read l) a.give))
 
-      gives-not-fails : (p : ProblemTree) (d : DerivationLines) (c : Cause) → CheckGives (Some texts) check p d → CheckFails (Some texts) (Unit {0}) ⊥ check c → ⊥
-      gives-not-fails p d _ a (texts_not_read c x) = read-or-not (check_texts check) c (all-read a.program a.query a.proof a.program_read a.query_read a.proof_read) x
+      gives-not-fails : (p : ProblemTree) (d : DerivationLines) (c : Cause) → CheckGives (Some texts) check p d → CheckFails (Some texts) (Unit {0}) ⊥ check c
+          → ⊥
+      gives-not-fails p d _ a (texts_not_read c x) = read-or-not (check_texts check) c
+          (all-read a.program a.query a.proof a.program_read a.query_read a.proof_read) x
       gives-not-fails p d _ a (faulty_text u v w role f h k l t) = gives-no-fault u v w (bound_in check) p d role f l.within (gives-moved u v w p d h k l a) t
 
       given-once : (p q : ProblemTree) (d e : DerivationLines) → CheckGives (Some texts) check p d → CheckGives (Some texts) check q e → (p ≡ q) × (d ≡ e)
-      given-once p q d e a b = one-given b.program b.query b.proof (bound_in check) p q d e b.proof_read.within (gives-moved b.program b.query b.proof p d b.program_read b.query_read b.proof_read a) b.give
+      given-once p q d e a b = one-given b.program b.query b.proof (bound_in check) p q d e b.proof_read.within
+          (gives-moved b.program b.query b.proof p d b.program_read b.query_read b.proof_read a) b.give
 
-      shown-or-refuted : (p q : ProblemTree) (d e : DerivationLines) (n r : ℕ) → CheckGives (Some texts) check p d → DerivationShows p d → CheckGives (Some texts) check q e → IsRefuted q e n r → ⊥
-      shown-or-refuted p q d e n r a h b k = let o = given-once p q d e a b in k.not_shown (subst (DerivationShows q) o.1 (subst (λ x. DerivationShows x d) o.0 h))
+      shown-or-refuted : (p q : ProblemTree) (d e : DerivationLines) (n r : ℕ) → CheckGives (Some texts) check p d → DerivationShows p d
+          → CheckGives (Some texts) check q e → IsRefuted q e n r → ⊥
+      shown-or-refuted p q d e n r a h b k = let o = given-once p q d e a b in
+          k.not_shown (subst (DerivationShows q) o.1 (subst (λ x. DerivationShows x d) o.0 h))
 
       -- a derivation has one tree
       one-tree-of : (d : DerivationLines) (t u : Tree) → trees_of d.nodes ≡ Some (t ∷ []) → trees_of d.nodes ≡ Some (u ∷ []) → t ≡ u
       one-tree-of d t u h k = let e = some-same (t ∷ []) (u ∷ []) (trees_of d.nodes) h k in cc
 
-      refuted-once : (p q : ProblemTree) (d e : DerivationLines) (n m r s : ℕ) → CheckGives (Some texts) check p d → IsRefuted p d n r → CheckGives (Some texts) check q e → IsRefuted q e m s → no_text n r ≡ no_text m s
+      refuted-once : (p q : ProblemTree) (d e : DerivationLines) (n m r s : ℕ) → CheckGives (Some texts) check p d → IsRefuted p d n r
+          → CheckGives (Some texts) check q e → IsRefuted q e m s → no_text n r ≡ no_text m s
       refuted-once p q d e n m r s a h b k =
           let o = given-once p q d e a b in
           let t = one-tree-of e h.tree k.tree (subst (λ x. trees_of x.nodes ≡ Some (h.tree ∷ [])) o.1 h.is_tree) k.is_tree in
@@ -358,34 +405,42 @@ module _ (laws : Laws) where
           ap (λ x. no_text x r) same_node ∙ ap (no_text m) same_reason
 
       -- a derivation that shows the query is covered, or too long, or counts numbers
-      covered-once : (p q : ProblemTree) (d e : DerivationLines) (m n : ℕ) → CheckGives (Some texts) check p d → IsCovered p d m → CheckGives (Some texts) check q e → IsCovered q e n → m ≡ n
+      covered-once : (p q : ProblemTree) (d e : DerivationLines) (m n : ℕ) → CheckGives (Some texts) check p d → IsCovered p d m
+          → CheckGives (Some texts) check q e → IsCovered q e n → m ≡ n
       covered-once p q d e m n a h b k =
           let o = given-once p q d e a b in
           first_once q e m n (subst (λ x. NamesFirst q x m) o.1 (subst (λ x. NamesFirst x d m) o.0 h.first)) k.first
 
-      short-or-long : (p q : ProblemTree) (d e : DerivationLines) → CheckGives (Some texts) check p d → length d.nodes ≤ p.bound → CheckGives (Some texts) check q e → q.bound < length e.nodes → ⊥
+      short-or-long : (p q : ProblemTree) (d e : DerivationLines) → CheckGives (Some texts) check p d → length d.nodes ≤ p.bound
+          → CheckGives (Some texts) check q e → q.bound < length e.nodes → ⊥
       short-or-long p q d e a h b k =
-          let o = given-once p q d e a b in let x = ap (λ (z : ProblemTree). z.bound) o.0 in let y = ap (λ (z : DerivationLines). length z.nodes) o.1 in omega arith
+          let o = given-once p q d e a b in let x = ap (λ (z : ProblemTree). z.bound) o.0 in let y = ap (λ (z : DerivationLines). length z.nodes) o.1 in
+          omega arith
 
-      covered-or-counts : (p q : ProblemTree) (d e : DerivationLines) (m n : ℕ) → CheckGives (Some texts) check p d → IsCovered p d m → CheckGives (Some texts) check q e → CountsAt q e n → ⊥
+      covered-or-counts : (p q : ProblemTree) (d e : DerivationLines) (m n : ℕ) → CheckGives (Some texts) check p d → IsCovered p d m
+          → CheckGives (Some texts) check q e → CountsAt q e n → ⊥
       covered-or-counts p q d e m n a h b k =
           let o = given-once p q d e a b in
           let none = none-counts 1 e.nodes (subst (λ x. list_any counts_numbers x.nodes ≡ false) o.1 h.shows.numberless) in
           let f = k.first in
           let w : None ≡ Some n = sym none ∙ f in cc
 
-      counts-once : (p q : ProblemTree) (d e : DerivationLines) (m n : ℕ) → CheckGives (Some texts) check p d → CountsAt p d m → CheckGives (Some texts) check q e → CountsAt q e n → m ≡ n
+      counts-once : (p q : ProblemTree) (d e : DerivationLines) (m n : ℕ) → CheckGives (Some texts) check p d → CountsAt p d m
+          → CheckGives (Some texts) check q e → CountsAt q e n → m ≡ n
       counts-once p q d e m n a h b k =
           let o = given-once p q d e a b in
           some-same m n (position_from counts_numbers 1 e.nodes) (subst (λ x. position_from counts_numbers 1 x.nodes ≡ Some m) o.1 h.first) k.first
 
-      too-long-once : (p q : ProblemTree) (d e : DerivationLines) → CheckGives (Some texts) check p d → CheckGives (Some texts) check q e → too_long_text (length d.nodes) p.bound ≡ too_long_text (length e.nodes) q.bound
+      too-long-once : (p q : ProblemTree) (d e : DerivationLines) → CheckGives (Some texts) check p d → CheckGives (Some texts) check q e
+          → too_long_text (length d.nodes) p.bound ≡ too_long_text (length e.nodes) q.bound
       too-long-once p q d e a b =
           let o = given-once p q d e a b in
           ap (λ (x : DerivationLines). too_long_text (length x.nodes) p.bound) o.1 ∙ ap (λ (x : ProblemTree). too_long_text (length e.nodes) x.bound) o.0
 
-      pub check-once : (s t : ℕ) (u v : List ℕ) → CheckComesTo (Some texts) (Unit {0}) ⊥ check s u → CheckComesTo (Some texts) (Unit {0}) ⊥ check t v → (s ≡ t) × (u ≡ v)
-      check-once s t u v (shown p d w a x e f) (shown q c z b y g h) = let o = given-once p q d c a b in (e ∙ sym g, f ∙ (ap (λ x. yes_text (length x.nodes)) o.1 ∙ sym h))
+      pub check-once : (s t : ℕ) (u v : List ℕ) → CheckComesTo (Some texts) (Unit {0}) ⊥ check s u → CheckComesTo (Some texts) (Unit {0}) ⊥ check t v
+          → (s ≡ t) × (u ≡ v)
+      check-once s t u v (shown p d w a x e f) (shown q c z b y g h) = let o = given-once p q d c a b in
+          (e ∙ sym g, f ∙ (ap (λ x. yes_text (length x.nodes)) o.1 ∙ sym h))
       check-once s t u v (shown p d w a x e f) (refuted q c n r b y g h) = absurd (shown-or-refuted p q d c n r a x b y)
       check-once s t u v (shown p d w a x e f) (covered q c n z b y g h) = absurd (let k = sym w ∙ z in cc)
       check-once s t u v (shown p d w a x e f) (too_long q c z b y g h) = absurd (let k = sym w ∙ z in cc)
@@ -420,23 +475,27 @@ module _ (laws : Laws) where
       check-once s t u v (check_failed c b g h) (covered p d n w a x e f) = absurd (gives-not-fails p d c a b)
       check-once s t u v (check_failed c b g h) (too_long p d w a x e f) = absurd (gives-not-fails p d c a b)
       check-once s t u v (check_failed c b g h) (counting p d n w a x e f) = absurd (gives-not-fails p d c a b)
-      check-once s t u v (check_failed c a e f) (check_failed d b g h) = let o = check-fails-once c d a b in (e ∙ (ap cause_status o ∙ sym g), f ∙ (ap fault_text o ∙ sym h))
+      check-once s t u v (check_failed c a e f) (check_failed d b g h) = let o = check-fails-once c d a b in
+          (e ∙ (ap cause_status o ∙ sym g), f ∙ (ap fault_text o ∙ sym h))
 
     -- ---- conversions
 
     module _ (convert : ConvertWords) where
-      converted-once : (version : ℕ) (p q u v : List ℕ) → IsRead (Some texts) convert.proof p → IsRead (Some texts) convert.proof q → IsConverted p version u → IsConverted q version v → u ≡ v
+      converted-once : (version : ℕ) (p q u v : List ℕ) → IsRead (Some texts) convert.proof p → IsRead (Some texts) convert.proof q → IsConverted p version u
+          → IsConverted q version v → u ≡ v
       converted-once version p q u v r s a b =
           let a = subst (λ x. IsConverted x version u) (one-read convert.proof p q r s) a in
           let o = one-proof-text (own_names q) q a.derivation b.derivation (differ-names [] (text_names q) none-differ) s.within a.is_text b.is_text in
           a.is ∙ (ap (text_in version (own_names q)) o ∙ sym b.is)
 
-      converted-no-fault : (version : ℕ) (p q u : List ℕ) (f : Fault) → IsRead (Some texts) convert.proof p → IsRead (Some texts) convert.proof q → IsConverted p version u → HasFaultIn q f → ⊥
+      converted-no-fault : (version : ℕ) (p q u : List ℕ) (f : Fault) → IsRead (Some texts) convert.proof p → IsRead (Some texts) convert.proof q
+          → IsConverted p version u → HasFaultIn q f → ⊥
       converted-no-fault version p q u f r s a h =
           let a = subst (λ x. IsConverted x version u) (one-read convert.proof p q r s) a in
           proof-no-fault (own_names q) q a.derivation f (differ-names [] (text_names q) none-differ) s.within a.is_text h
 
-      short-or-too-long : (p q u v : List ℕ) → IsRead (Some texts) convert.proof p → IsRead (Some texts) convert.proof q → IsConverted p convert.version u → IsConverted q convert.version v → length u ≤ longest_text → longest_text < length v → ⊥
+      short-or-too-long : (p q u v : List ℕ) → IsRead (Some texts) convert.proof p → IsRead (Some texts) convert.proof q → IsConverted p convert.version u
+          → IsConverted q convert.version v → length u ≤ longest_text → longest_text < length v → ⊥
       short-or-too-long p q u v r s a b l m = let e = ap length (converted-once convert.version p q u v r s a b) in omega arith
 
       convert-fails-once : (c d : Cause) → ConvertFails (Some texts) (Unit {0}) ⊥ convert c → ConvertFails (Some texts) (Unit {0}) ⊥ convert d → c ≡ d
@@ -444,22 +503,26 @@ module _ (laws : Laws) where
       convert-fails-once _ _ (proof_not_read c r) (faulty_proof p f h k) = absurd (read-or-not (convert.proof ∷ []) c ((p, h), tt) r)
       convert-fails-once _ _ (proof_not_read c r) (too_long_as p u h k l) = absurd (read-or-not (convert.proof ∷ []) c ((p, h), tt) r)
       convert-fails-once _ _ (faulty_proof p f h k) (proof_not_read c r) = absurd (read-or-not (convert.proof ∷ []) c ((p, h), tt) r)
-      convert-fails-once _ _ (faulty_proof p f h k) (faulty_proof q g m n) = ap (Faulty convert.proof) (laws.one_proof q f g (short q m.within) (subst (λ x. HasFaultIn x f) (one-read convert.proof p q h m) k) n)
+      convert-fails-once _ _ (faulty_proof p f h k) (faulty_proof q g m n) =
+          ap (Faulty convert.proof) (laws.one_proof q f g (short q m.within) (subst (λ x. HasFaultIn x f) (one-read convert.proof p q h m) k) n)
       convert-fails-once _ _ (faulty_proof p f h k) (too_long_as q u m n l) = absurd (converted-no-fault convert.version q p u f m h n k)
       convert-fails-once _ _ (too_long_as p u h k l) (proof_not_read c r) = absurd (read-or-not (convert.proof ∷ []) c ((p, h), tt) r)
       convert-fails-once _ _ (too_long_as q u m n l) (faulty_proof p f h k) = absurd (converted-no-fault convert.version q p u f m h n k)
       convert-fails-once _ _ (too_long_as p u h k l) (too_long_as q v m n o) = refl
 
-      converted-not-fails : (p u : List ℕ) (c : Cause) → IsRead (Some texts) convert.proof p → IsConverted p convert.version u → length u ≤ longest_text → ConvertFails (Some texts) (Unit {0}) ⊥ convert c → ⊥
+      converted-not-fails : (p u : List ℕ) (c : Cause) → IsRead (Some texts) convert.proof p → IsConverted p convert.version u → length u ≤ longest_text
+          → ConvertFails (Some texts) (Unit {0}) ⊥ convert c → ⊥
       converted-not-fails p u _ h a l (proof_not_read c r) = read-or-not (convert.proof ∷ []) c ((p, h), tt) r
       converted-not-fails p u _ h a l (faulty_proof q f m n) = converted-no-fault convert.version p q u f h m a n
       converted-not-fails p u _ h a l (too_long_as q v m n o) = short-or-too-long p q u v h m a n l o
 
-      pub converts-one : (s t : ℕ) (u v : List ℕ) → ConvertComesTo (Some texts) (Unit {0}) ⊥ convert s u → ConvertComesTo (Some texts) (Unit {0}) ⊥ convert t v → (s ≡ t) × (u ≡ v)
+      pub converts-one : (s t : ℕ) (u v : List ℕ) → ConvertComesTo (Some texts) (Unit {0}) ⊥ convert s u → ConvertComesTo (Some texts) (Unit {0}) ⊥ convert t v
+          → (s ≡ t) × (u ≡ v)
       converts-one s t u v (converted p r a l e) (converted q h b m g) = (e ∙ sym g, converted-once convert.version p q u v r h a b)
       converts-one s t u v (converted p r a l e) (convert_failed c b g h) = absurd (converted-not-fails p u c r a l b)
       converts-one s t u v (convert_failed c b g h) (converted p r a l e) = absurd (converted-not-fails p v c r a l b)
-      converts-one s t u v (convert_failed c a e f) (convert_failed d b g h) = let o = convert-fails-once c d a b in (e ∙ (ap cause_status o ∙ sym g), f ∙ (ap fault_text o ∙ sym h))
+      converts-one s t u v (convert_failed c a e f) (convert_failed d b g h) = let o = convert-fails-once c d a b in
+          (e ∙ (ap cause_status o ∙ sym g), f ∙ (ap fault_text o ∙ sym h))
 
     -- ---- runs of programs that are made
 

@@ -3,7 +3,8 @@ use Rattle.std.proofs.Common.{◌≡◌, ◌+◌, ℕ, Bool, true, false, List, 
 use Rattle.std.specs.Prelude.{slice_get, codes, option_map}
 use Rattle.std.specs.Str.Parse.{digits_value}
 use Rattle.ll_edge.specs.Texts.{Texts}
-use Rattle.ll_top.specs.Words.{RunWords, SessionWords, DeepenWords, CheckWords, ConvertWords, HasFirst, IsInForm, IsRun, IsSession, IsDeepen, IsCheckForm, IsCheck, IsConvert, IsMake, IsMadeRun, IsBadWord, number_behind, has_word}
+use Rattle.ll_top.specs.Words.{RunWords, SessionWords, DeepenWords, CheckWords, ConvertWords, HasFirst, IsInForm, IsRun, IsSession, IsDeepen, IsCheckForm}
+use Rattle.ll_top.specs.Words.{IsCheck, IsConvert, IsMake, IsMadeRun, IsBadWord, number_behind, has_word}
 use Rattle.ll_top.specs.Making.{MakeWords, MadeRunWords, make_text}
 use Rattle.ll_top.specs.MadeRuns.{MadeRunComesTo}
 use Rattle.ll_top.specs.Faults.{Usage, fault_text}
@@ -100,23 +101,36 @@ one-made-run words m n h k =
 -- ---- calls
 
 module _ (texts : Texts)
-    (run-once : (run : RunWords) (s t : ℕ) (u v : List ℕ) → RunComesTo (Some texts) (Unit {0}) ⊥ run s u → RunComesTo (Some texts) (Unit {0}) ⊥ run t v → (s ≡ t) × (u ≡ v))
-    (session-once : (session : SessionWords) (s t : ℕ) (u v : List ℕ) → SessionComesTo (Some texts) (Unit {0}) ⊥ session s u → SessionComesTo (Some texts) (Unit {0}) ⊥ session t v → (s ≡ t) × (u ≡ v))
-    (deepen-once : (deepen : DeepenWords) (s t : ℕ) (u v : List ℕ) → DeepenComesTo (Some texts) (Unit {0}) ⊥ deepen s u → DeepenComesTo (Some texts) (Unit {0}) ⊥ deepen t v → (s ≡ t) × (u ≡ v))
-    (print-once : (name : List ℕ) (s t : ℕ) (u v : List ℕ) → PrintComesTo (Some texts) (Unit {0}) ⊥ name s u → PrintComesTo (Some texts) (Unit {0}) ⊥ name t v → (s ≡ t) × (u ≡ v))
-    (check-once : (check : CheckWords) (s t : ℕ) (u v : List ℕ) → CheckComesTo (Some texts) (Unit {0}) ⊥ check s u → CheckComesTo (Some texts) (Unit {0}) ⊥ check t v → (s ≡ t) × (u ≡ v))
-    (convert-once : (convert : ConvertWords) (s t : ℕ) (u v : List ℕ) → ConvertComesTo (Some texts) (Unit {0}) ⊥ convert s u → ConvertComesTo (Some texts) (Unit {0}) ⊥ convert t v → (s ≡ t) × (u ≡ v))
+    (run-once : (run : RunWords) (s t : ℕ) (u v : List ℕ) → RunComesTo (Some texts) (Unit {0}) ⊥ run s u → RunComesTo (Some texts) (Unit {0}) ⊥ run t v
+    → (s ≡ t) × (u ≡ v))
+    (session-once : (session : SessionWords) (s t : ℕ) (u v : List ℕ) → SessionComesTo (Some texts) (Unit {0}) ⊥ session s u
+    → SessionComesTo (Some texts) (Unit {0}) ⊥ session t v → (s ≡ t) × (u ≡ v))
+    (deepen-once : (deepen : DeepenWords) (s t : ℕ) (u v : List ℕ) → DeepenComesTo (Some texts) (Unit {0}) ⊥ deepen s u
+    → DeepenComesTo (Some texts) (Unit {0}) ⊥ deepen t v → (s ≡ t) × (u ≡ v))
+    (print-once : (name : List ℕ) (s t : ℕ) (u v : List ℕ) → PrintComesTo (Some texts) (Unit {0}) ⊥ name s u → PrintComesTo (Some texts) (Unit {0}) ⊥ name t v
+    → (s ≡ t) × (u ≡ v))
+    (check-once : (check : CheckWords) (s t : ℕ) (u v : List ℕ) → CheckComesTo (Some texts) (Unit {0}) ⊥ check s u
+    → CheckComesTo (Some texts) (Unit {0}) ⊥ check t v → (s ≡ t) × (u ≡ v))
+    (convert-once : (convert : ConvertWords) (s t : ℕ) (u v : List ℕ) → ConvertComesTo (Some texts) (Unit {0}) ⊥ convert s u
+    → ConvertComesTo (Some texts) (Unit {0}) ⊥ convert t v → (s ≡ t) × (u ≡ v))
     (made-once : (run : MadeRunWords) (s t : ℕ) (u v : List ℕ) → MadeRunComesTo run s u → MadeRunComesTo run t v → (s ≡ t) × (u ≡ v)) where
-  pub one-text : (words : List (List ℕ)) (s t : ℕ) (u v : List ℕ) → ComesTo words (Some texts) (Unit {0}) ⊥ s u → ComesTo words (Some texts) (Unit {0}) ⊥ t v → (s ≡ t) × (u ≡ v)
+  pub one-text : (words : List (List ℕ)) (s t : ℕ) (u v : List ℕ) → ComesTo words (Some texts) (Unit {0}) ⊥ s u → ComesTo words (Some texts) (Unit {0}) ⊥ t v
+      → (s ≡ t) × (u ≡ v)
   one-text words s t u v (misused n b e f) (misused m c g h) = (e ∙ sym g, f ∙ (ap (λ k. fault_text (Usage k)) (one-number words n m b c) ∙ sym h))
   one-text words s t u v (runs r h c) (runs q k d) = run-once q s t u v (subst (λ x. RunComesTo (Some texts) (Unit {0}) ⊥ x s u) (one-run words r q h k) c) d
-  one-text words s t u v (sessions r h c) (sessions q k d) = session-once q s t u v (subst (λ x. SessionComesTo (Some texts) (Unit {0}) ⊥ x s u) (one-session words r q h k) c) d
-  one-text words s t u v (deepens r h c) (deepens q k d) = deepen-once q s t u v (subst (λ x. DeepenComesTo (Some texts) (Unit {0}) ⊥ x s u) (one-deepen words r q h k) c) d
-  one-text words s t u v (prints r h c) (prints q k d) = print-once q s t u v (subst (λ x. PrintComesTo (Some texts) (Unit {0}) ⊥ x s u) (some-same r q (slice_get words 1) h.program k.program) c) d
-  one-text words s t u v (checks r h c) (checks q k d) = check-once q s t u v (subst (λ x. CheckComesTo (Some texts) (Unit {0}) ⊥ x s u) (one-check words r q h k) c) d
-  one-text words s t u v (converts r h c) (converts q k d) = convert-once q s t u v (subst (λ x. ConvertComesTo (Some texts) (Unit {0}) ⊥ x s u) (one-convert words r q h k) c) d
+  one-text words s t u v (sessions r h c) (sessions q k d) =
+      session-once q s t u v (subst (λ x. SessionComesTo (Some texts) (Unit {0}) ⊥ x s u) (one-session words r q h k) c) d
+  one-text words s t u v (deepens r h c) (deepens q k d) = deepen-once q s t u v
+      (subst (λ x. DeepenComesTo (Some texts) (Unit {0}) ⊥ x s u) (one-deepen words r q h k) c) d
+  one-text words s t u v (prints r h c) (prints q k d) = print-once q s t u v
+      (subst (λ x. PrintComesTo (Some texts) (Unit {0}) ⊥ x s u) (some-same r q (slice_get words 1) h.program k.program) c) d
+  one-text words s t u v (checks r h c) (checks q k d) = check-once q s t u v
+      (subst (λ x. CheckComesTo (Some texts) (Unit {0}) ⊥ x s u) (one-check words r q h k) c) d
+  one-text words s t u v (converts r h c) (converts q k d) =
+      convert-once q s t u v (subst (λ x. ConvertComesTo (Some texts) (Unit {0}) ⊥ x s u) (one-convert words r q h k) c) d
   one-text words s t u v (makes r h c) (makes q k d) = (c.succeeds ∙ sym d.succeeds, c.is ∙ (ap make_text (one-make words r q h k) ∙ sym d.is))
   one-text words s t u v (runs_made r h c) (runs_made q k d) = made-once q s t u v (subst (λ x. MadeRunComesTo x s u) (one-made-run words r q h k) c) d
   one-text words s t u v (misused n b e f) d = absurd (bad-not-in-form words n b (comes-in-form words (Some texts) (Unit {0}) ⊥ t v d refl))
   one-text words s t u v c (misused n b e f) = absurd (bad-not-in-form words n b (comes-in-form words (Some texts) (Unit {0}) ⊥ s u c refl))
-  one-text words s t u v c d = absurd (let k = sym (comes-kind words (Some texts) (Unit {0}) ⊥ s u c refl) ∙ comes-kind words (Some texts) (Unit {0}) ⊥ t v d refl in cc)
+  one-text words s t u v c d = absurd (let k = sym (comes-kind words (Some texts) (Unit {0}) ⊥ s u c refl)
+      ∙ comes-kind words (Some texts) (Unit {0}) ⊥ t v d refl in cc)

@@ -16,11 +16,13 @@ use Rattle.ll_top.specs.Sessions.{replies_text, SessionAsks, SessionFails, sessi
 -- have one list of queries
 module _ (texts : Texts) (one_read : (name a b : List ℕ) → IsRead (Some texts) name a → IsRead (Some texts) name b → a ≡ b)
     (one_unread : (names : List (List ℕ)) (c d : Cause) → ReadFails (Some texts) (Unit {0}) ⊥ names c → ReadFails (Some texts) (Unit {0}) ⊥ names d → c ≡ d)
-    (both_read : (first second p q : List ℕ) → IsRead (Some texts) first p → IsRead (Some texts) second q → (c : Cause) → ReadFails (Some texts) (Unit {0}) ⊥ (first ∷ second ∷ []) c → ⊥)
+    (both_read : (first second p q : List ℕ) → IsRead (Some texts) first p → IsRead (Some texts) second q → (c : Cause)
+    → ReadFails (Some texts) (Unit {0}) ⊥ (first ∷ second ∷ []) c → ⊥)
     (one_program : (text : List ℕ) (p q : ProgramTree) → IsProgramText text p → IsProgramText text q → p ≡ q)
     (one_fault : (text : List ℕ) (f g : Fault) → IsProgramFault text f → IsProgramFault text g → f ≡ g)
     (no_fault : (text : List ℕ) (tree : ProgramTree) (f : Fault) → IsFaultless text tree → IsProgramFault text f → ⊥)
-    (one_list : (program : ProgramTree) (bound line : ℕ) (lines : List (List ℕ)) (queries others : List QueryLine) → HaveQueries program bound line lines queries → HaveQueries program bound line lines others → queries ≡ others)
+    (one_list : (program : ProgramTree) (bound line : ℕ) (lines : List (List ℕ)) (queries others : List QueryLine)
+    → HaveQueries program bound line lines queries → HaveQueries program bound line lines others → queries ≡ others)
     (session : SessionWords) where
   abbrev Asks : List QueryLine → Type 0
   Asks = SessionAsks (Some texts) session
@@ -34,7 +36,8 @@ module _ (texts : Texts) (one_read : (name a b : List ℕ) → IsRead (Some text
       let program = one_read session.program a.program b.program a.program_read b.program_read in
       let text = one_read session.queries a.text b.text a.queries_read b.queries_read in
       let tree = one_program b.program a.tree b.tree (subst (λ x. IsProgramText x a.tree) program a.faultless.is_program) b.faultless.is_program in
-      one_list b.tree session.bound 1 (lines b.text) queries others (subst (λ x. AreQueries x b.text session.bound queries) tree (subst (λ x. AreQueries a.tree x session.bound queries) text a.are)) b.are
+      one_list b.tree session.bound 1 (lines b.text) queries others
+      (subst (λ x. AreQueries x b.text session.bound queries) tree (subst (λ x. AreQueries a.tree x session.bound queries) text a.are)) b.are
 
   cause-once : (c d : Cause) → Fails c → Fails d → c ≡ d
   cause-once _ _ (session_not_read c r) (session_not_read d s) = one_unread (session.program ∷ session.queries ∷ []) c d r s
@@ -45,10 +48,14 @@ module _ (texts : Texts) (one_read : (name a b : List ℕ) → IsRead (Some text
 
   asks-or-fails : (queries : List QueryLine) (c : Cause) → Asks queries → Fails c → ⊥
   asks-or-fails queries _ a (session_not_read c r) = both_read session.program session.queries a.program a.text a.program_read a.queries_read c r
-  asks-or-fails queries _ a (faulty_program p q f h k t) = no_fault a.program a.tree f a.faultless (subst (λ x. IsProgramFault x f) (one_read session.program p a.program h a.program_read) t)
+  asks-or-fails queries _ a (faulty_program p q f h k t) = no_fault a.program a.tree f a.faultless
+      (subst (λ x. IsProgramFault x f) (one_read session.program p a.program h a.program_read) t)
 
-  pub sessions-one : (s t : ℕ) (u v : List ℕ) → SessionComesTo (Some texts) (Unit {0}) ⊥ session s u → SessionComesTo (Some texts) (Unit {0}) ⊥ session t v → (s ≡ t) × (u ≡ v)
-  sessions-one s t u v (replied queries a e f) (replied others b g h) = (e ∙ sym g, f ∙ (ap (replies_text session.proofs session.queries) (queries-once queries others a b) ∙ sym h))
+  pub sessions-one : (s t : ℕ) (u v : List ℕ) → SessionComesTo (Some texts) (Unit {0}) ⊥ session s u → SessionComesTo (Some texts) (Unit {0}) ⊥ session t v
+      → (s ≡ t) × (u ≡ v)
+  sessions-one s t u v (replied queries a e f) (replied others b g h) =
+      (e ∙ sym g, f ∙ (ap (replies_text session.proofs session.queries) (queries-once queries others a b) ∙ sym h))
   sessions-one s t u v (replied queries a e f) (session_failed c b g h) = absurd (asks-or-fails queries c a b)
   sessions-one s t u v (session_failed c b g h) (replied queries a e f) = absurd (asks-or-fails queries c a b)
-  sessions-one s t u v (session_failed c a e f) (session_failed d b g h) = let o = cause-once c d a b in (e ∙ (ap cause_status o ∙ sym g), f ∙ (ap fault_text o ∙ sym h))
+  sessions-one s t u v (session_failed c a e f) (session_failed d b g h) = let o = cause-once c d a b in
+      (e ∙ (ap cause_status o ∙ sym g), f ∙ (ap fault_text o ∙ sym h))

@@ -10,7 +10,8 @@ pub returns-in-Ok-clause-ends : goal.returns-in-Ok-clause-ends
 returns-in-Ok-clause-ends g c = finding-ends _ _ _ (shown_check c.args.check.now) _ _ _ c.in-Ok.finding _ c.finding_status.ensures c.in-Ok.ensures.ends
 
 pub returns-in-Err-Unwritable-clause-ends : goal.returns-in-Err-Unwritable-clause-ends
-returns-in-Err-Unwritable-clause-ends g c = check-cut-ends _ _ _ (shown_check c.args.check.now) _ _ _ (rw c.in-Err-Unwritable.field-0-is at c.in-Err-Unwritable.ensures.ends)
+returns-in-Err-Unwritable-clause-ends g c = check-cut-ends _ _ _ (shown_check c.args.check.now) _ _ _
+    (rw c.in-Err-Unwritable.field-0-is at c.in-Err-Unwritable.ensures.ends)
 
 pub returns-in-Err-Text-clause-ends : goal.returns-in-Err-Text-clause-ends
 returns-in-Err-Text-clause-ends g c =

@@ -12,10 +12,12 @@ pub returns-in-Ok-clause-ends : goal.returns-in-Ok-clause-ends
 returns-in-Ok-clause-ends g c = found-ends _ _ _ _ (shown_words c.args.run.now) _ _ c.in-Ok.found _ c.found_status.ensures c.in-Ok.ensures.ends
 
 pub returns-in-Err-Unwritable-clause-ends : goal.returns-in-Err-Unwritable-clause-ends
-returns-in-Err-Unwritable-clause-ends g c = cut-ends _ _ _ _ (shown_words c.args.run.now) _ _ (rw c.in-Err-Unwritable.field-0-is at c.in-Err-Unwritable.ensures.ends)
+returns-in-Err-Unwritable-clause-ends g c = cut-ends _ _ _ _ (shown_words c.args.run.now) _ _
+    (rw c.in-Err-Unwritable.field-0-is at c.in-Err-Unwritable.ensures.ends)
 
 pub returns-in-Err-OutOfMemory-clause-ends : goal.returns-in-Err-OutOfMemory-clause-ends
-returns-in-Err-OutOfMemory-clause-ends g c = memory-ends _ _ _ _ (shown_words c.args.run.now) _ _ (rw c.in-Err-OutOfMemory.field-0-is at c.in-Err-OutOfMemory.ensures.ends)
+returns-in-Err-OutOfMemory-clause-ends g c = memory-ends _ _ _ _ (shown_words c.args.run.now) _ _
+    (rw c.in-Err-OutOfMemory.field-0-is at c.in-Err-OutOfMemory.ensures.ends)
 
 pub returns-in-Err-Text-clause-ends : goal.returns-in-Err-Text-clause-ends
 returns-in-Err-Text-clause-ends g c =

@@ -9,11 +9,13 @@ use Rattle.ll_top.proofs.serve_search.Goals as goal
 
 pub unreachable-requires : goal.unreachable-requires
 unreachable-requires g c =
-    let words = word_texts c.args.words.now in bad-not-in-form words c.in_default.field-0 c.in_default.ensures.command (workers-in-form words c.requires.workers)
+    let words = word_texts c.args.words.now in bad-not-in-form words c.in_default.field-0 c.in_default.ensures.command
+    (workers-in-form words c.requires.workers)
 
 pub unreachable-requires-in_default-workers_of : goal.unreachable-requires-in_default-workers_of
 unreachable-requires-in_default-workers_of g c =
-    asked-alone (word_texts c.args.words.now) c.in-Ok.command c.in-Ok.ensures.command (no-team c.in-Ok.command (sym c.in_default-workers_of.ensures)) c.requires.workers
+    asked-alone (word_texts c.args.words.now) c.in-Ok.command c.in-Ok.ensures.command (no-team c.in-Ok.command (sym c.in_default-workers_of.ensures))
+    c.requires.workers
 
 pub returns-in-Run-clause-outcome : goal.returns-in-Run-clause-outcome
 returns-in-Run-clause-outcome g c =
@@ -33,7 +35,8 @@ returns-in-Run-clause-nothing g c = λ run is one.
 pub returns-in-Session-clause-outcome : goal.returns-in-Session-clause-outcome
 returns-in-Session-clause-outcome g c =
     let words = word_texts c.args.words.now in
-    session-call words _ _ _ _ _ _ _ (shown_session c.in-Session.session) (subst (IsCommand words) c.in-Session.is c.in-Ok.ensures.command) c.serve_session.ensures.ends
+    session-call words _ _ _ _ _ _ _ (shown_session c.in-Session.session) (subst (IsCommand words) c.in-Session.is c.in-Ok.ensures.command)
+    c.serve_session.ensures.ends
 
 pub returns-in-Session-clause-proved : goal.returns-in-Session-clause-proved
 returns-in-Session-clause-proved g c = λ run is small.
@@ -46,7 +49,8 @@ returns-in-Session-clause-nothing g c = λ run is one.
 pub returns-in-Deepen-clause-outcome : goal.returns-in-Deepen-clause-outcome
 returns-in-Deepen-clause-outcome g c =
     let words = word_texts c.args.words.now in
-    deepen-call words _ _ _ _ _ _ _ (shown_deepen c.in-Deepen.deepen) (subst (IsCommand words) c.in-Deepen.is c.in-Ok.ensures.command) c.serve_deepen.ensures.ends
+    deepen-call words _ _ _ _ _ _ _ (shown_deepen c.in-Deepen.deepen) (subst (IsCommand words) c.in-Deepen.is c.in-Ok.ensures.command)
+    c.serve_deepen.ensures.ends
 
 pub returns-in-Deepen-clause-proved : goal.returns-in-Deepen-clause-proved
 returns-in-Deepen-clause-proved g c = λ run is small.
@@ -59,7 +63,8 @@ returns-in-Deepen-clause-nothing g c = λ run is one.
 pub returns-in-MadeRun-clause-outcome : goal.returns-in-MadeRun-clause-outcome
 returns-in-MadeRun-clause-outcome g c =
     let words = word_texts c.args.words.now in
-    made-run-call words _ _ _ _ _ _ _ (shown_made_run c.in-MadeRun.made) (subst (IsCommand words) c.in-MadeRun.is c.in-Ok.ensures.command) c.serve_made_run.ensures.ends
+    made-run-call words _ _ _ _ _ _ _ (shown_made_run c.in-MadeRun.made) (subst (IsCommand words) c.in-MadeRun.is c.in-Ok.ensures.command)
+    c.serve_made_run.ensures.ends
 
 pub returns-in-MadeRun-clause-proved : goal.returns-in-MadeRun-clause-proved
 returns-in-MadeRun-clause-proved g c = λ run is small.

@@ -26,7 +26,8 @@ nodes-requires-clause-inside c =
     let g = ap (λ (q : ProblemTree). q.goal) c.problem.view_is in
     let ts = ap (term_trees bank) c.deref-3.ensures.value ∙ ap (λ (b : Answered). b.terms) c.branch.view_is in
     let ss = c.deref-4.ensures.value ∙ ap (λ (b : Answered). b.steps) c.branch.view_is in
-    inside_is p a forms bank c.deref-2.result.now c.deref.result.now c.problem.inside.goal c.deref-3.result.now c.deref-4.result.now c.in_ok-walker.walker shown ms cs g ts ss start _ (subst (λ (xs : List Clause). HasClauses forms xs) (sym c.deref.ensures.value) c.problem.invariant.1) c.problem.invariant.2
+    inside_is p a forms bank c.deref-2.result.now c.deref.result.now c.problem.inside.goal c.deref-3.result.now c.deref-4.result.now c.in_ok-walker.walker shown
+    ms cs g ts ss start _ (subst (λ (xs : List Clause). HasClauses forms xs) (sym c.deref.ensures.value) c.problem.invariant.1) c.problem.invariant.2
 
 pub nodes-requires-clause-used : goal.nodes-requires-clause-used
 nodes-requires-clause-used c =
@@ -44,7 +45,8 @@ nodes-requires-clause-used c =
     let g = ap (λ (q : ProblemTree). q.goal) c.problem.view_is in
     let ts = ap (term_trees bank) c.deref-3.ensures.value ∙ ap (λ (b : Answered). b.terms) c.branch.view_is in
     let ss = c.deref-4.ensures.value ∙ ap (λ (b : Answered). b.steps) c.branch.view_is in
-    used_is p a forms bank c.deref-2.result.now c.deref.result.now c.problem.inside.goal c.deref-3.result.now c.deref-4.result.now c.in_ok-walker.walker shown ms cs g ts ss start
+    used_is p a forms bank c.deref-2.result.now c.deref.result.now c.problem.inside.goal c.deref-3.result.now c.deref-4.result.now c.in_ok-walker.walker shown
+    ms cs g ts ss start
 
 pub nodes-requires-clause-told : goal.nodes-requires-clause-told
 nodes-requires-clause-told c =
@@ -62,7 +64,8 @@ nodes-requires-clause-told c =
     let g = ap (λ (q : ProblemTree). q.goal) c.problem.view_is in
     let ts = ap (term_trees bank) c.deref-3.ensures.value ∙ ap (λ (b : Answered). b.terms) c.branch.view_is in
     let ss = c.deref-4.ensures.value ∙ ap (λ (b : Answered). b.steps) c.branch.view_is in
-    told_count p a forms bank c.deref-2.result.now c.deref.result.now c.problem.inside.goal c.deref-3.result.now c.deref-4.result.now c.in_ok-walker.walker shown ms cs g ts ss start
+    told_count p a forms bank c.deref-2.result.now c.deref.result.now c.problem.inside.goal c.deref-3.result.now c.deref-4.result.now c.in_ok-walker.walker
+    shown ms cs g ts ss start
 
 pub slice_bounds-from_slice-end : goal.slice_bounds-from_slice-end
 slice_bounds-from_slice-end c =
@@ -80,7 +83,8 @@ slice_bounds-from_slice-end c =
     let g = ap (λ (q : ProblemTree). q.goal) c.problem.view_is in
     let ts = ap (term_trees bank) c.deref-3.ensures.value ∙ ap (λ (b : Answered). b.terms) c.branch.view_is in
     let ss = c.deref-4.ensures.value ∙ ap (λ (b : Answered). b.steps) c.branch.view_is in
-    let l = used_is p a forms bank c.deref-2.result.now c.deref.result.now c.problem.inside.goal c.deref-3.result.now c.deref-4.result.now c.in_ok-walker.walker shown ms cs g ts ss start in
+    let l = used_is p a forms bank c.deref-2.result.now c.deref.result.now c.problem.inside.goal c.deref-3.result.now c.deref-4.result.now c.in_ok-walker.walker
+    shown ms cs g ts ss start in
     let u = start.used in
     let same = ap (λ (ats : List At). length ats) (c.deref-6.ensures.value ∙ sym c.deref-3.ensures.value) in
     take_exact c.len-count.result c.deref-6.result.now (omega (arith, l, u, same, many))
@@ -106,8 +110,11 @@ invariant_of-result c =
     let asked : c.in_ok-asked.asked.items ≡ take (length p.asked) c.deref-3.result.now =
     c.in_ok-asked.ensures.items ∙ (λ i. take (many i) ((c.deref-6.ensures.value ∙ sym c.deref-3.ensures.value) i))
     in (
-      asked_in p a forms bank c.deref-2.result.now c.deref.result.now c.problem.inside.goal c.deref-3.result.now c.deref-4.result.now c.in_ok-walker.walker shown ms cs g ts ss start c.in_ok-bank.bank c.size.result cut c.size.ensures.is inside c.in_ok-asked.asked.items asked,
-      nodes_in p a forms bank c.deref-2.result.now c.deref.result.now c.problem.inside.goal c.deref-3.result.now c.deref-4.result.now c.in_ok-walker.walker shown ms cs g ts ss start c.in_ok-bank.bank c.size.result cut c.size.ensures.is inside c.in_ok-nodes.nodes.items c.deal.new.rules.items c.in_ok-nodes.ensures (c.in_ok-deal.ensures.places c.in_ok-bank.bank),
+      asked_in p a forms bank c.deref-2.result.now c.deref.result.now c.problem.inside.goal c.deref-3.result.now c.deref-4.result.now c.in_ok-walker.walker
+          shown ms cs g ts ss start c.in_ok-bank.bank c.size.result cut c.size.ensures.is inside c.in_ok-asked.asked.items asked,
+      nodes_in p a forms bank c.deref-2.result.now c.deref.result.now c.problem.inside.goal c.deref-3.result.now c.deref-4.result.now c.in_ok-walker.walker
+          shown ms cs g ts ss start c.in_ok-bank.bank c.size.result cut c.size.ensures.is inside c.in_ok-nodes.nodes.items c.deal.new.rules.items
+          c.in_ok-nodes.ensures (c.in_ok-deal.ensures.places c.in_ok-bank.bank),
     )
 
 pub returns-clause-dealt : goal.returns-clause-dealt
@@ -131,14 +138,20 @@ returns-clause-dealt c =
     let asked : c.in_ok-asked.asked.items ≡ take (length p.asked) c.deref-3.result.now =
     c.in_ok-asked.ensures.items ∙ (λ i. take (many i) ((c.deref-6.ensures.value ∙ sym c.deref-3.ensures.value) i))
     in
-    explained p a forms bank c.deref-2.result.now c.deref.result.now c.problem.inside.goal c.deref-3.result.now c.deref-4.result.now c.in_ok-walker.walker shown ms cs g ts ss start c.in_ok-bank.bank c.size.result cut c.size.ensures.is inside c.in_ok-nodes.nodes.items c.deal.new.rules.items c.in_ok-root_labels.field-0.items c.in_ok-asked.asked.items c.in_ok-nodes.ensures
-    (c.in_ok-root_labels.ensures ∙ ap (λ (xs : List Clause). linear_labels 0 xs) (c.deref-5.ensures.value ∙ sym c.deref.ensures.value)) (c.in_ok-deal.ensures.dealt c.in_ok-bank.bank) asked
+    explained p a forms bank c.deref-2.result.now c.deref.result.now c.problem.inside.goal c.deref-3.result.now c.deref-4.result.now c.in_ok-walker.walker shown
+    ms cs g ts ss start c.in_ok-bank.bank c.size.result cut c.size.ensures.is inside c.in_ok-nodes.nodes.items c.deal.new.rules.items
+    c.in_ok-root_labels.field-0.items c.in_ok-asked.asked.items c.in_ok-nodes.ensures
+    (c.in_ok-root_labels.ensures ∙ ap (λ (xs : List Clause). linear_labels 0 xs) (c.deref-5.ensures.value ∙ sym c.deref.ensures.value))
+    (c.in_ok-deal.ensures.dealt c.in_ok-bank.bank) asked
 
 pub returns-clause-whole : goal.returns-clause-whole
-returns-clause-whole c = (is_shown c.answers_are_shown.ensures c.args.problem.now c.args.branch.now c.requires.valid c.requires.answer _ (returns-clause-dealt c)).whole
+returns-clause-whole c = (is_shown c.answers_are_shown.ensures c.args.problem.now c.args.branch.now c.requires.valid c.requires.answer _
+    (returns-clause-dealt c)).whole
 
 pub returns-clause-shows : goal.returns-clause-shows
-returns-clause-shows c = (is_shown c.answers_are_shown.ensures c.args.problem.now c.args.branch.now c.requires.valid c.requires.answer _ (returns-clause-dealt c)).shows
+returns-clause-shows c = (is_shown c.answers_are_shown.ensures c.args.problem.now c.args.branch.now c.requires.valid c.requires.answer _
+    (returns-clause-dealt c)).shows
 
 pub returns-clause-count : goal.returns-clause-count
-returns-clause-count c = (is_shown c.answers_are_shown.ensures c.args.problem.now c.args.branch.now c.requires.valid c.requires.answer _ (returns-clause-dealt c)).count
+returns-clause-count c = (is_shown c.answers_are_shown.ensures c.args.problem.now c.args.branch.now c.requires.valid c.requires.answer _
+    (returns-clause-dealt c)).count

@@ -36,36 +36,62 @@ returns-then-not-branch-clause-keeps c =
 
 pub returns-then-not-branch-clause-exact : goal.returns-then-not-branch-clause-exact
 returns-then-not-branch-clause-exact c =
-    sym (subst (IsSolved c.args.bank.now (table_of c.in_ok-table.table) (table_of c.unify.new.table) (wanted c.args.bank.now (table_of c.in_ok-table.table) (term_trees c.args.bank.now c.args.left.now) (term_trees c.args.bank.now c.args.right.now))) c.if-not-branch.true c.in_ok-unify.ensures.solved) ∙ start-wanted c.args.bank.now c.in_ok-table.table c.args.levels.now (term_trees c.args.bank.now c.args.left.now) (term_trees c.args.bank.now c.args.right.now) c.in_ok-table.ensures
+    sym (subst (IsSolved c.args.bank.now (table_of c.in_ok-table.table) (table_of c.unify.new.table)
+    (wanted c.args.bank.now (table_of c.in_ok-table.table) (term_trees c.args.bank.now c.args.left.now) (term_trees c.args.bank.now c.args.right.now)))
+    c.if-not-branch.true c.in_ok-unify.ensures.solved) ∙ start-wanted c.args.bank.now c.in_ok-table.table c.args.levels.now
+    (term_trees c.args.bank.now c.args.left.now) (term_trees c.args.bank.now c.args.right.now) c.in_ok-table.ensures
 
 pub returns-then-not-branch-clause-best : goal.returns-then-not-branch-clause-best
 returns-then-not-branch-clause-best c =
-    exact-best (term_trees c.args.bank.now c.args.left.now) (term_trees c.args.bank.now c.args.right.now) c.args.levels.now None c.requires.left_levels c.requires.right_levels
-    (sym (subst (IsSolved c.args.bank.now (table_of c.in_ok-table.table) (table_of c.unify.new.table) (wanted c.args.bank.now (table_of c.in_ok-table.table) (term_trees c.args.bank.now c.args.left.now) (term_trees c.args.bank.now c.args.right.now))) c.if-not-branch.true c.in_ok-unify.ensures.solved) ∙ start-wanted c.args.bank.now c.in_ok-table.table c.args.levels.now (term_trees c.args.bank.now c.args.left.now) (term_trees c.args.bank.now c.args.right.now) c.in_ok-table.ensures)
+    exact-best (term_trees c.args.bank.now c.args.left.now) (term_trees c.args.bank.now c.args.right.now) c.args.levels.now None c.requires.left_levels
+    c.requires.right_levels
+    (sym (subst (IsSolved c.args.bank.now (table_of c.in_ok-table.table) (table_of c.unify.new.table)
+    (wanted c.args.bank.now (table_of c.in_ok-table.table) (term_trees c.args.bank.now c.args.left.now) (term_trees c.args.bank.now c.args.right.now)))
+    c.if-not-branch.true c.in_ok-unify.ensures.solved) ∙ start-wanted c.args.bank.now c.in_ok-table.table c.args.levels.now
+    (term_trees c.args.bank.now c.args.left.now) (term_trees c.args.bank.now c.args.right.now) c.in_ok-table.ensures)
 
 pub read_cells-requires-clause-places : goal.read_cells-requires-clause-places
 read_cells-requires-clause-places c =
-    let a = subst (IsSolved c.args.bank.now (table_of c.in_ok-table.table) (table_of c.unify.new.table) (wanted c.args.bank.now (table_of c.in_ok-table.table) (term_trees c.args.bank.now c.args.left.now) (term_trees c.args.bank.now c.args.right.now))) c.if-not-branch.false c.in_ok-unify.ensures.solved in
+    let a = subst (IsSolved c.args.bank.now (table_of c.in_ok-table.table) (table_of c.unify.new.table)
+    (wanted c.args.bank.now (table_of c.in_ok-table.table) (term_trees c.args.bank.now c.args.left.now) (term_trees c.args.bank.now c.args.right.now)))
+    c.if-not-branch.false c.in_ok-unify.ensures.solved in
     (c.in_ok-unify.ensures.cells c.if-not-branch.false).bound (start-bound c.args.bank.now c.in_ok-table.table c.args.levels.now c.in_ok-table.ensures)
 
 pub returns-clause-exact : goal.returns-clause-exact
 returns-clause-exact c =
     let u : Subst = record { bound = c.in_ok-bound.bound; levels = c.unify.new.table.levels } in
-    let a = subst (IsSolved c.args.bank.now (table_of c.in_ok-table.table) (table_of c.unify.new.table) (wanted c.args.bank.now (table_of c.in_ok-table.table) (term_trees c.args.bank.now c.args.left.now) (term_trees c.args.bank.now c.args.right.now))) c.if-not-branch.false c.in_ok-unify.ensures.solved in
-    let final = (subst (λ n. AreFinal c.args.bank.now c.read_cells.new.bank (table_of c.unify.new.table) n c.in_ok-bound.bound.items) (sym (a.same_count ∙ ap length c.in_ok-table.ensures.levels)) c.in_ok-bound.ensures.cells) in
-    (answer-exact c.args.bank.now c.read_cells.new.bank (table_of c.in_ok-table.table) (table_of c.unify.new.table) u (wanted c.args.bank.now (table_of c.in_ok-table.table) (term_trees c.args.bank.now c.args.left.now) (term_trees c.args.bank.now c.args.right.now)) a final refl ∙ start-wanted c.args.bank.now c.in_ok-table.table c.args.levels.now (term_trees c.args.bank.now c.args.left.now) (term_trees c.args.bank.now c.args.right.now) c.in_ok-table.ensures)
+    let a = subst (IsSolved c.args.bank.now (table_of c.in_ok-table.table) (table_of c.unify.new.table)
+    (wanted c.args.bank.now (table_of c.in_ok-table.table) (term_trees c.args.bank.now c.args.left.now) (term_trees c.args.bank.now c.args.right.now)))
+    c.if-not-branch.false c.in_ok-unify.ensures.solved in
+    let final = (subst (λ n. AreFinal c.args.bank.now c.read_cells.new.bank (table_of c.unify.new.table) n c.in_ok-bound.bound.items)
+    (sym (a.same_count ∙ ap length c.in_ok-table.ensures.levels)) c.in_ok-bound.ensures.cells) in
+    (answer-exact c.args.bank.now c.read_cells.new.bank (table_of c.in_ok-table.table) (table_of c.unify.new.table) u
+    (wanted c.args.bank.now (table_of c.in_ok-table.table) (term_trees c.args.bank.now c.args.left.now) (term_trees c.args.bank.now c.args.right.now)) a
+    final refl ∙ start-wanted c.args.bank.now c.in_ok-table.table c.args.levels.now (term_trees c.args.bank.now c.args.left.now)
+    (term_trees c.args.bank.now c.args.right.now) c.in_ok-table.ensures)
 
 pub returns-clause-entries : goal.returns-clause-entries
 returns-clause-entries c =
     let u : Subst = record { bound = c.in_ok-bound.bound; levels = c.unify.new.table.levels } in
-    let a = subst (IsSolved c.args.bank.now (table_of c.in_ok-table.table) (table_of c.unify.new.table) (wanted c.args.bank.now (table_of c.in_ok-table.table) (term_trees c.args.bank.now c.args.left.now) (term_trees c.args.bank.now c.args.right.now))) c.if-not-branch.false c.in_ok-unify.ensures.solved in
-    let final = (subst (λ n. AreFinal c.args.bank.now c.read_cells.new.bank (table_of c.unify.new.table) n c.in_ok-bound.bound.items) (sym (a.same_count ∙ ap length c.in_ok-table.ensures.levels)) c.in_ok-bound.ensures.cells) in
-    answer-entries c.args.bank.now c.read_cells.new.bank (table_of c.unify.new.table) u (length c.args.levels.now) a.table (a.same_count ∙ ap length c.in_ok-table.ensures.levels) final
+    let a = subst (IsSolved c.args.bank.now (table_of c.in_ok-table.table) (table_of c.unify.new.table)
+    (wanted c.args.bank.now (table_of c.in_ok-table.table) (term_trees c.args.bank.now c.args.left.now) (term_trees c.args.bank.now c.args.right.now)))
+    c.if-not-branch.false c.in_ok-unify.ensures.solved in
+    let final = (subst (λ n. AreFinal c.args.bank.now c.read_cells.new.bank (table_of c.unify.new.table) n c.in_ok-bound.bound.items)
+    (sym (a.same_count ∙ ap length c.in_ok-table.ensures.levels)) c.in_ok-bound.ensures.cells) in
+    answer-entries c.args.bank.now c.read_cells.new.bank (table_of c.unify.new.table) u (length c.args.levels.now) a.table
+    (a.same_count ∙ ap length c.in_ok-table.ensures.levels) final
 
 pub returns-clause-best : goal.returns-clause-best
 returns-clause-best c =
     let u : Subst = record { bound = c.in_ok-bound.bound; levels = c.unify.new.table.levels } in
-    let a = subst (IsSolved c.args.bank.now (table_of c.in_ok-table.table) (table_of c.unify.new.table) (wanted c.args.bank.now (table_of c.in_ok-table.table) (term_trees c.args.bank.now c.args.left.now) (term_trees c.args.bank.now c.args.right.now))) c.if-not-branch.false c.in_ok-unify.ensures.solved in
-    let final = (subst (λ n. AreFinal c.args.bank.now c.read_cells.new.bank (table_of c.unify.new.table) n c.in_ok-bound.bound.items) (sym (a.same_count ∙ ap length c.in_ok-table.ensures.levels)) c.in_ok-bound.ensures.cells) in
-    exact-best (term_trees c.args.bank.now c.args.left.now) (term_trees c.args.bank.now c.args.right.now) c.args.levels.now (Some (solved_of c.read_cells.new.bank u)) c.requires.left_levels c.requires.right_levels
-    (answer-exact c.args.bank.now c.read_cells.new.bank (table_of c.in_ok-table.table) (table_of c.unify.new.table) u (wanted c.args.bank.now (table_of c.in_ok-table.table) (term_trees c.args.bank.now c.args.left.now) (term_trees c.args.bank.now c.args.right.now)) a final refl ∙ start-wanted c.args.bank.now c.in_ok-table.table c.args.levels.now (term_trees c.args.bank.now c.args.left.now) (term_trees c.args.bank.now c.args.right.now) c.in_ok-table.ensures)
+    let a = subst (IsSolved c.args.bank.now (table_of c.in_ok-table.table) (table_of c.unify.new.table)
+    (wanted c.args.bank.now (table_of c.in_ok-table.table) (term_trees c.args.bank.now c.args.left.now) (term_trees c.args.bank.now c.args.right.now)))
+    c.if-not-branch.false c.in_ok-unify.ensures.solved in
+    let final = (subst (λ n. AreFinal c.args.bank.now c.read_cells.new.bank (table_of c.unify.new.table) n c.in_ok-bound.bound.items)
+    (sym (a.same_count ∙ ap length c.in_ok-table.ensures.levels)) c.in_ok-bound.ensures.cells) in
+    exact-best (term_trees c.args.bank.now c.args.left.now) (term_trees c.args.bank.now c.args.right.now) c.args.levels.now
+    (Some (solved_of c.read_cells.new.bank u)) c.requires.left_levels c.requires.right_levels
+    (answer-exact c.args.bank.now c.read_cells.new.bank (table_of c.in_ok-table.table) (table_of c.unify.new.table) u
+    (wanted c.args.bank.now (table_of c.in_ok-table.table) (term_trees c.args.bank.now c.args.left.now) (term_trees c.args.bank.now c.args.right.now)) a
+    final refl ∙ start-wanted c.args.bank.now c.in_ok-table.table c.args.levels.now (term_trees c.args.bank.now c.args.left.now)
+    (term_trees c.args.bank.now c.args.right.now) c.in_ok-table.ensures)

@@ -7,4 +7,5 @@ use Rattle.ll_bank.specs.Walk.{HasImages}
 use Rattle.ll_bank.proofs.equal.number_of.Given as goal
 
 abbrev pub invariant-loop-place : goal.invariant-loop-place
-invariant-loop-place l = Grows l.initial.signs.keys l.signs.keys × HasImages (HasNumber l.signs.keys) (get nat_cmp l.numbers) (term_tree l.bank) (take l.place-index l.place-items)
+invariant-loop-place l = Grows l.initial.signs.keys l.signs.keys × HasImages (HasNumber l.signs.keys) (get nat_cmp l.numbers) (term_tree l.bank) (take
+    l.place-index l.place-items)

@@ -7,4 +7,5 @@ returns-clause-grows c = sign_grows c.args.signs.now.keys c.insert_full.new.self
 pub returns-clause-number : goal.returns-clause-number
 returns-clause-number c =
     let s = c.in_ok-number.ensures.stored in
-    sign_number c.args.signs.now.keys c.insert_full.new.self.keys c.args.sign c.requires.table c.requires.below c.in_ok-number.ensures.keys c.in_ok-number.number s.0 s.1 s.2
+    sign_number c.args.signs.now.keys c.insert_full.new.self.keys c.args.sign c.requires.table c.requires.below c.in_ok-number.ensures.keys
+    c.in_ok-number.number s.0 s.1 s.2

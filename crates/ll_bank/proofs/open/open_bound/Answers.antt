@@ -10,16 +10,21 @@ not_equal k n f l = omega arith
 
 pub put_value-requires-clause-heads : goal.put_value-requires-clause-heads
 put_value-requires-clause-heads c =
-    subst (λ u. applies_heads (apply u (term_trees c.args.bank.now c.args.args.now)) ≡ true) (head_here (term_tree c.args.bank.now c.args.value.0) c.args.level c.args.bound c.if-bound-level.true) c.requires.heads
+    subst (λ u. applies_heads (apply u (term_trees c.args.bank.now c.args.args.now)) ≡ true)
+    (head_here (term_tree c.args.bank.now c.args.value.0) c.args.level c.args.bound c.if-bound-level.true) c.requires.heads
 
 pub returns-then-bound-level-clause-shows : goal.returns-then-bound-level-clause-shows
 returns-then-bound-level-clause-shows c =
-    subst (λ u. IfOk c.put_value.result (λ image. ShowsTerm c.put_value.new.bank image.0 (apply u (term_trees c.args.bank.now c.args.args.now)))) (sym (head_here (term_tree c.args.bank.now c.args.value.0) c.args.level c.args.bound c.if-bound-level.true)) c.put_value.ensures.shows
+    subst (λ u. IfOk c.put_value.result (λ image. ShowsTerm c.put_value.new.bank image.0 (apply u (term_trees c.args.bank.now c.args.args.now))))
+    (sym (head_here (term_tree c.args.bank.now c.args.value.0) c.args.level c.args.bound c.if-bound-level.true)) c.put_value.ensures.shows
 
 pub returns-then-bound-level-2-clause-shows : goal.returns-then-bound-level-2-clause-shows
 returns-then-bound-level-2-clause-shows c =
-    subst (λ u. IfOk c.app.result (λ image. ShowsTerm c.app.new.self image.0 (apply u (term_trees c.args.bank.now c.args.args.now)))) (sym (head_outside (term_tree c.args.bank.now c.args.value.0) c.args.level c.args.bound c.if-bound-level-2.true)) c.app.ensures.shows
+    subst (λ u. IfOk c.app.result (λ image. ShowsTerm c.app.new.self image.0 (apply u (term_trees c.args.bank.now c.args.args.now))))
+    (sym (head_outside (term_tree c.args.bank.now c.args.value.0) c.args.level c.args.bound c.if-bound-level-2.true)) c.app.ensures.shows
 
 pub returns-else-bound-level-2-clause-shows : goal.returns-else-bound-level-2-clause-shows
 returns-else-bound-level-2-clause-shows c =
-    subst (λ u. IfOk c.share_term.result (λ image. ShowsTerm c.share_term.new.bank image.0 (apply u (term_trees c.args.bank.now c.args.args.now)))) (sym (head_inside (term_tree c.args.bank.now c.args.value.0) c.args.level c.args.bound (not_equal c.args.bound c.args.level c.if-bound-level.false c.if-bound-level-2.false))) c.share_term.ensures.shows
+    subst (λ u. IfOk c.share_term.result (λ image. ShowsTerm c.share_term.new.bank image.0 (apply u (term_trees c.args.bank.now c.args.args.now))))
+    (sym (head_inside (term_tree c.args.bank.now c.args.value.0) c.args.level c.args.bound
+    (not_equal c.args.bound c.args.level c.if-bound-level.false c.if-bound-level-2.false))) c.share_term.ensures.shows

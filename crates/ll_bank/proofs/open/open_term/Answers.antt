@@ -4,7 +4,8 @@ use Rattle.ll_bank.specs.Term.{close, applies_heads}
 use Rattle.ll_bank.specs.Nodes.{term_tree}
 use Rattle.ll_bank.specs.Opened.{by_spot, opened, visit, term_parts_at, IsTermGood, IsTermImage, AreImages, term_size_at, IsIn, IsKnown, ShowsImage}
 use Rattle.ll_bank.proofs.Trees.{Extends-refl, Extends-trans, HasTerm-extends, term_tree-extends}
-use Rattle.ll_bank.proofs.Opening.{known_here, known_still, images_put, opening_pops, opening_expands, opening_ready, opening_good, opening_begins, work_pops, work_expands}
+use Rattle.ll_bank.proofs.Opening.{known_here, known_still, images_put, opening_pops, opening_expands, opening_ready, opening_good, opening_begins, work_pops}
+use Rattle.ll_bank.proofs.Opening.{work_expands}
 use Rattle.ll_bank.proofs.OpenLemmas.{term_parts_same, term_good_now, term_parts_first, term_image_now, term_images_now, term_image_first, term_size-some}
 use Rattle.ll_bank.proofs.open.open_term.Goals as goal
 
@@ -14,40 +15,123 @@ returns-in_err-push-clause-keeps c =
 
 pub loop-task-init : goal.loop-task-init
 loop-task-init c =
-    record { keeps = Extends-refl c.args.bank.now; images = c.requires.images; opening = opening_begins (term_parts_at c.args.bank.now) (IsTermGood c.args.bank.now (term_tree c.args.bank.now c.args.value.0)) (c.args.term.0, c.args.level) (IsKnown (get by_spot c.args.images.now)) c.push.new.self.items c.new-tasks.result.items c.new-tasks.ensures.items c.in_ok-push.ensures.items (c.requires.inside, c.requires.heads) }
+    record {
+      keeps = Extends-refl c.args.bank.now;
+      images = c.requires.images;
+      opening =
+          opening_begins (term_parts_at c.args.bank.now) (IsTermGood c.args.bank.now (term_tree c.args.bank.now c.args.value.0)) (c.args.term.0, c.args.level)
+          (IsKnown (get by_spot c.args.images.now)) c.push.new.self.items c.new-tasks.result.items c.new-tasks.ensures.items c.in_ok-push.ensures.items
+          (c.requires.inside, c.requires.heads);
+    }
 
 pub opened_term-requires-clause-heads : goal.opened_term-requires-clause-heads
 opened_term-requires-clause-heads c =
-    subst (λ t. applies_heads (close (opened t c.in-Some.task.level) (term_tree c.loop-task.bank c.in-Some.task.place)) ≡ true) (sym (term_tree-extends c.loop-task.invariant.keeps c.args.value.0 c.requires.value)) (term_good_now c.args.bank.now c.loop-task.bank c.loop-task.invariant.keeps (term_tree c.args.bank.now c.args.value.0) (c.in-Some.task.place, c.in-Some.task.level) (opening_good (term_parts_at c.args.bank.now) (IsTermGood c.args.bank.now (term_tree c.args.bank.now c.args.value.0)) (c.args.term.0, c.args.level) (IsKnown (get by_spot c.loop-task.images)) c.loop-task.tasks.items c.pop.new.self.items c.in-Some.task c.in-Some.ensures.items c.loop-task.invariant.opening)).1
+    subst (λ t. applies_heads (close (opened t c.in-Some.task.level) (term_tree c.loop-task.bank c.in-Some.task.place)) ≡ true)
+    (sym (term_tree-extends c.loop-task.invariant.keeps c.args.value.0 c.requires.value))
+    (term_good_now c.args.bank.now c.loop-task.bank c.loop-task.invariant.keeps (term_tree c.args.bank.now c.args.value.0) (
+      c.in-Some.task.place,
+      c.in-Some.task.level,
+    ) (opening_good (term_parts_at c.args.bank.now) (IsTermGood c.args.bank.now (term_tree c.args.bank.now c.args.value.0))
+    (c.args.term.0, c.args.level) (IsKnown (get by_spot c.loop-task.images)) c.loop-task.tasks.items c.pop.new.self.items c.in-Some.task
+    c.in-Some.ensures.items c.loop-task.invariant.opening)).1
 
 pub opened_term-requires-clause-images : goal.opened_term-requires-clause-images
 opened_term-requires-clause-images c =
-    subst (λ t. AreImages (IsTermImage c.loop-task.bank t) (get by_spot c.loop-task.images)) (sym (term_tree-extends c.loop-task.invariant.keeps c.args.value.0 c.requires.value)) c.loop-task.invariant.images
+    subst (λ t. AreImages (IsTermImage c.loop-task.bank t) (get by_spot c.loop-task.images))
+    (sym (term_tree-extends c.loop-task.invariant.keeps c.args.value.0 c.requires.value)) c.loop-task.invariant.images
 
 pub opened_term-requires-clause-parts : goal.opened_term-requires-clause-parts
 opened_term-requires-clause-parts c =
-    λ k i. opening_ready (term_parts_at c.args.bank.now) (IsTermGood c.args.bank.now (term_tree c.args.bank.now c.args.value.0)) (c.args.term.0, c.args.level) (IsKnown (get by_spot c.loop-task.images)) c.loop-task.tasks.items c.pop.new.self.items c.in-Some.task c.in-Some.ensures.items c.loop-task.invariant.opening c.if-task.true k (subst (IsIn k) (term_parts_same c.args.bank.now c.loop-task.bank c.loop-task.invariant.keeps (c.in-Some.task.place, c.in-Some.task.level) (opening_good (term_parts_at c.args.bank.now) (IsTermGood c.args.bank.now (term_tree c.args.bank.now c.args.value.0)) (c.args.term.0, c.args.level) (IsKnown (get by_spot c.loop-task.images)) c.loop-task.tasks.items c.pop.new.self.items c.in-Some.task c.in-Some.ensures.items c.loop-task.invariant.opening).0) i)
+    λ k i. opening_ready (term_parts_at c.args.bank.now) (IsTermGood c.args.bank.now (term_tree c.args.bank.now c.args.value.0)) (c.args.term.0, c.args.level)
+    (IsKnown (get by_spot c.loop-task.images)) c.loop-task.tasks.items c.pop.new.self.items c.in-Some.task c.in-Some.ensures.items
+    c.loop-task.invariant.opening c.if-task.true k (subst (IsIn k)
+    (term_parts_same c.args.bank.now c.loop-task.bank c.loop-task.invariant.keeps (c.in-Some.task.place, c.in-Some.task.level)
+    (opening_good (term_parts_at c.args.bank.now) (IsTermGood c.args.bank.now (term_tree c.args.bank.now c.args.value.0)) (c.args.term.0, c.args.level)
+    (IsKnown (get by_spot c.loop-task.images)) c.loop-task.tasks.items c.pop.new.self.items c.in-Some.task c.in-Some.ensures.items
+    c.loop-task.invariant.opening).0) i)
 
 pub loop-task-preserved-in_ok-insert : goal.loop-task-preserved-in_ok-insert
 loop-task-preserved-in_ok-insert c =
-    record { keeps = Extends-trans c.loop-task.invariant.keeps c.in_ok-image.ensures.keeps; images = images_put (get by_spot c.loop-task.images) (get by_spot c.insert.new.self) (c.in-Some.task.place, c.in-Some.task.level) c.in_ok-image.image c.in_ok-insert.ensures.updates.0 (IsTermImage c.opened_term.new.bank (term_tree c.args.bank.now c.args.value.0)) (term_images_now c.loop-task.bank c.opened_term.new.bank c.in_ok-image.ensures.keeps (term_tree c.args.bank.now c.args.value.0) (get by_spot c.loop-task.images) c.loop-task.invariant.images) (term_image_now c.loop-task.bank c.opened_term.new.bank c.in_ok-image.ensures.keeps (term_tree c.args.bank.now c.args.value.0) (c.in-Some.task.place, c.in-Some.task.level) c.in_ok-image.image (HasTerm-extends c.loop-task.invariant.keeps c.in-Some.task.place (opening_good (term_parts_at c.args.bank.now) (IsTermGood c.args.bank.now (term_tree c.args.bank.now c.args.value.0)) (c.args.term.0, c.args.level) (IsKnown (get by_spot c.loop-task.images)) c.loop-task.tasks.items c.pop.new.self.items c.in-Some.task c.in-Some.ensures.items c.loop-task.invariant.opening).0) (subst (λ t. ShowsImage c.loop-task.bank c.opened_term.new.bank t (c.in-Some.task.place, c.in-Some.task.level) c.in_ok-image.image) (term_tree-extends c.loop-task.invariant.keeps c.args.value.0 c.requires.value) c.in_ok-image.ensures.shows)); opening = opening_pops (term_parts_at c.args.bank.now) (IsTermGood c.args.bank.now (term_tree c.args.bank.now c.args.value.0)) (c.args.term.0, c.args.level) (IsKnown (get by_spot c.loop-task.images)) (IsKnown (get by_spot c.insert.new.self)) (known_still (get by_spot c.loop-task.images) (get by_spot c.insert.new.self) (c.in-Some.task.place, c.in-Some.task.level) c.in_ok-image.image c.in_ok-insert.ensures.updates.0) c.loop-task.tasks.items c.pop.new.self.items c.in-Some.task c.in-Some.ensures.items (known_here (get by_spot c.loop-task.images) (get by_spot c.insert.new.self) (c.in-Some.task.place, c.in-Some.task.level) c.in_ok-image.image c.in_ok-insert.ensures.updates.0) c.loop-task.invariant.opening }
+    record {
+      keeps = Extends-trans c.loop-task.invariant.keeps c.in_ok-image.ensures.keeps;
+      images =
+          images_put (get by_spot c.loop-task.images) (get by_spot c.insert.new.self) (c.in-Some.task.place, c.in-Some.task.level) c.in_ok-image.image
+          c.in_ok-insert.ensures.updates.0 (IsTermImage c.opened_term.new.bank (term_tree c.args.bank.now c.args.value.0))
+          (term_images_now c.loop-task.bank c.opened_term.new.bank c.in_ok-image.ensures.keeps (term_tree c.args.bank.now c.args.value.0)
+          (get by_spot c.loop-task.images) c.loop-task.invariant.images)
+          (term_image_now c.loop-task.bank c.opened_term.new.bank c.in_ok-image.ensures.keeps (term_tree c.args.bank.now c.args.value.0) (
+            c.in-Some.task.place,
+            c.in-Some.task.level,
+          ) c.in_ok-image.image (HasTerm-extends c.loop-task.invariant.keeps c.in-Some.task.place
+          (opening_good (term_parts_at c.args.bank.now) (IsTermGood c.args.bank.now (term_tree c.args.bank.now c.args.value.0)) (c.args.term.0, c.args.level)
+          (IsKnown (get by_spot c.loop-task.images)) c.loop-task.tasks.items c.pop.new.self.items c.in-Some.task c.in-Some.ensures.items
+          c.loop-task.invariant.opening).0) (subst (λ t. ShowsImage c.loop-task.bank c.opened_term.new.bank t (c.in-Some.task.place, c.in-Some.task.level)
+          c.in_ok-image.image) (term_tree-extends c.loop-task.invariant.keeps c.args.value.0 c.requires.value) c.in_ok-image.ensures.shows));
+      opening =
+          opening_pops (term_parts_at c.args.bank.now) (IsTermGood c.args.bank.now (term_tree c.args.bank.now c.args.value.0)) (c.args.term.0, c.args.level)
+          (IsKnown (get by_spot c.loop-task.images)) (IsKnown (get by_spot c.insert.new.self))
+          (known_still (get by_spot c.loop-task.images) (get by_spot c.insert.new.self) (c.in-Some.task.place, c.in-Some.task.level) c.in_ok-image.image
+          c.in_ok-insert.ensures.updates.0) c.loop-task.tasks.items c.pop.new.self.items c.in-Some.task c.in-Some.ensures.items
+          (known_here (get by_spot c.loop-task.images) (get by_spot c.insert.new.self) (c.in-Some.task.place, c.in-Some.task.level) c.in_ok-image.image
+          c.in_ok-insert.ensures.updates.0) c.loop-task.invariant.opening;
+    }
 
 pub loop-task-smaller-in-Continue-branch-4 : goal.loop-task-smaller-in-Continue-branch-4
 loop-task-smaller-in-Continue-branch-4 c =
-    work_expands (term_size_at c.args.bank.now) c.loop-task.tasks.items c.pop.new.self.items c.push_term.new.tasks.items c.in-Some.task (record { place = c.in-Some.task.place; level = c.in-Some.task.level; ready = true }) (term_parts_at c.args.bank.now (c.in-Some.task.place, c.in-Some.task.level)) c.in-Some.ensures.items (c.in_ok-push_term.ensures.pushed ∙ ap (λ ps. c.pop.new.self.items ++ (record { place = c.in-Some.task.place; level = c.in-Some.task.level; ready = true }) ∷ map visit ps) (term_parts_same c.args.bank.now c.loop-task.bank c.loop-task.invariant.keeps (c.in-Some.task.place, c.in-Some.task.level) (opening_good (term_parts_at c.args.bank.now) (IsTermGood c.args.bank.now (term_tree c.args.bank.now c.args.value.0)) (c.args.term.0, c.args.level) (IsKnown (get by_spot c.loop-task.images)) c.loop-task.tasks.items c.pop.new.self.items c.in-Some.task c.in-Some.ensures.items c.loop-task.invariant.opening).0)) c.if-task.false refl (term_parts_first c.args.bank.now c.loop-task.bank c.loop-task.invariant.keeps (c.in-Some.task.place, c.in-Some.task.level) (opening_good (term_parts_at c.args.bank.now) (IsTermGood c.args.bank.now (term_tree c.args.bank.now c.args.value.0)) (c.args.term.0, c.args.level) (IsKnown (get by_spot c.loop-task.images)) c.loop-task.tasks.items c.pop.new.self.items c.in-Some.task c.in-Some.ensures.items c.loop-task.invariant.opening).0 c.in_ok-push_term.ensures.parts).smaller
+    work_expands (term_size_at c.args.bank.now) c.loop-task.tasks.items c.pop.new.self.items c.push_term.new.tasks.items c.in-Some.task
+    (record { place = c.in-Some.task.place; level = c.in-Some.task.level; ready = true })
+    (term_parts_at c.args.bank.now (c.in-Some.task.place, c.in-Some.task.level)) c.in-Some.ensures.items
+    (c.in_ok-push_term.ensures.pushed ∙ ap (λ ps. c.pop.new.self.items
+    ++ (record { place = c.in-Some.task.place; level = c.in-Some.task.level; ready = true }) ∷ map visit ps)
+    (term_parts_same c.args.bank.now c.loop-task.bank c.loop-task.invariant.keeps (c.in-Some.task.place, c.in-Some.task.level)
+    (opening_good (term_parts_at c.args.bank.now) (IsTermGood c.args.bank.now (term_tree c.args.bank.now c.args.value.0)) (c.args.term.0, c.args.level)
+    (IsKnown (get by_spot c.loop-task.images)) c.loop-task.tasks.items c.pop.new.self.items c.in-Some.task c.in-Some.ensures.items
+    c.loop-task.invariant.opening).0)) c.if-task.false refl
+    (term_parts_first c.args.bank.now c.loop-task.bank c.loop-task.invariant.keeps (c.in-Some.task.place, c.in-Some.task.level)
+    (opening_good (term_parts_at c.args.bank.now) (IsTermGood c.args.bank.now (term_tree c.args.bank.now c.args.value.0)) (c.args.term.0, c.args.level)
+    (IsKnown (get by_spot c.loop-task.images)) c.loop-task.tasks.items c.pop.new.self.items c.in-Some.task c.in-Some.ensures.items
+    c.loop-task.invariant.opening).0 c.in_ok-push_term.ensures.parts).smaller
 
 pub loop-task-preserved-in-Continue-branch-4 : goal.loop-task-preserved-in-Continue-branch-4
 loop-task-preserved-in-Continue-branch-4 c =
-    record { keeps = c.loop-task.invariant.keeps; images = c.loop-task.invariant.images; opening = opening_expands (term_parts_at c.args.bank.now) (IsTermGood c.args.bank.now (term_tree c.args.bank.now c.args.value.0)) (c.args.term.0, c.args.level) (IsKnown (get by_spot c.loop-task.images)) c.loop-task.tasks.items c.pop.new.self.items c.push_term.new.tasks.items c.in-Some.task (record { place = c.in-Some.task.place; level = c.in-Some.task.level; ready = true }) c.in-Some.ensures.items (c.in_ok-push_term.ensures.pushed ∙ ap (λ ps. c.pop.new.self.items ++ (record { place = c.in-Some.task.place; level = c.in-Some.task.level; ready = true }) ∷ map visit ps) (term_parts_same c.args.bank.now c.loop-task.bank c.loop-task.invariant.keeps (c.in-Some.task.place, c.in-Some.task.level) (opening_good (term_parts_at c.args.bank.now) (IsTermGood c.args.bank.now (term_tree c.args.bank.now c.args.value.0)) (c.args.term.0, c.args.level) (IsKnown (get by_spot c.loop-task.images)) c.loop-task.tasks.items c.pop.new.self.items c.in-Some.task c.in-Some.ensures.items c.loop-task.invariant.opening).0)) refl ((term_parts_first c.args.bank.now c.loop-task.bank c.loop-task.invariant.keeps (c.in-Some.task.place, c.in-Some.task.level) (opening_good (term_parts_at c.args.bank.now) (IsTermGood c.args.bank.now (term_tree c.args.bank.now c.args.value.0)) (c.args.term.0, c.args.level) (IsKnown (get by_spot c.loop-task.images)) c.loop-task.tasks.items c.pop.new.self.items c.in-Some.task c.in-Some.ensures.items c.loop-task.invariant.opening).0 c.in_ok-push_term.ensures.parts).still_good (term_tree c.args.bank.now c.args.value.0)) c.loop-task.invariant.opening }
+    record {
+      keeps = c.loop-task.invariant.keeps;
+      images = c.loop-task.invariant.images;
+      opening =
+          opening_expands (term_parts_at c.args.bank.now) (IsTermGood c.args.bank.now (term_tree c.args.bank.now c.args.value.0)) (c.args.term.0, c.args.level)
+          (IsKnown (get by_spot c.loop-task.images)) c.loop-task.tasks.items c.pop.new.self.items c.push_term.new.tasks.items c.in-Some.task
+          (record { place = c.in-Some.task.place; level = c.in-Some.task.level; ready = true }) c.in-Some.ensures.items
+          (c.in_ok-push_term.ensures.pushed ∙ ap (λ ps. c.pop.new.self.items
+          ++ (record { place = c.in-Some.task.place; level = c.in-Some.task.level; ready = true }) ∷ map visit ps)
+          (term_parts_same c.args.bank.now c.loop-task.bank c.loop-task.invariant.keeps (c.in-Some.task.place, c.in-Some.task.level)
+          (opening_good (term_parts_at c.args.bank.now) (IsTermGood c.args.bank.now (term_tree c.args.bank.now c.args.value.0)) (c.args.term.0, c.args.level)
+          (IsKnown (get by_spot c.loop-task.images)) c.loop-task.tasks.items c.pop.new.self.items c.in-Some.task c.in-Some.ensures.items
+          c.loop-task.invariant.opening).0)) refl ((term_parts_first c.args.bank.now c.loop-task.bank c.loop-task.invariant.keeps (
+            c.in-Some.task.place,
+            c.in-Some.task.level,
+          ) (opening_good (term_parts_at c.args.bank.now) (IsTermGood c.args.bank.now (term_tree c.args.bank.now c.args.value.0))
+          (c.args.term.0, c.args.level) (IsKnown (get by_spot c.loop-task.images)) c.loop-task.tasks.items c.pop.new.self.items c.in-Some.task
+          c.in-Some.ensures.items c.loop-task.invariant.opening).0 c.in_ok-push_term.ensures.parts).still_good (term_tree c.args.bank.now c.args.value.0))
+          c.loop-task.invariant.opening;
+    }
 
 pub loop-task-smaller : goal.loop-task-smaller
 loop-task-smaller c =
-    work_pops (term_size_at c.args.bank.now) c.loop-task.tasks.items c.pop.new.self.items c.in-Some.task c.in-Some.ensures.items (term_size-some (term_tree c.args.bank.now c.in-Some.task.place))
+    work_pops (term_size_at c.args.bank.now) c.loop-task.tasks.items c.pop.new.self.items c.in-Some.task c.in-Some.ensures.items
+    (term_size-some (term_tree c.args.bank.now c.in-Some.task.place))
 
 pub loop-task-preserved : goal.loop-task-preserved
 loop-task-preserved c =
-    record { keeps = c.loop-task.invariant.keeps; images = c.loop-task.invariant.images; opening = opening_pops (term_parts_at c.args.bank.now) (IsTermGood c.args.bank.now (term_tree c.args.bank.now c.args.value.0)) (c.args.term.0, c.args.level) (IsKnown (get by_spot c.loop-task.images)) (IsKnown (get by_spot c.loop-task.images)) (λ k h. h) c.loop-task.tasks.items c.pop.new.self.items c.in-Some.task c.in-Some.ensures.items (sym c.contains_key.ensures ∙ c.if-not-contains_key.false) c.loop-task.invariant.opening }
+    record {
+      keeps = c.loop-task.invariant.keeps;
+      images = c.loop-task.invariant.images;
+      opening =
+          opening_pops (term_parts_at c.args.bank.now) (IsTermGood c.args.bank.now (term_tree c.args.bank.now c.args.value.0)) (c.args.term.0, c.args.level)
+          (IsKnown (get by_spot c.loop-task.images)) (IsKnown (get by_spot c.loop-task.images)) (λ k h. h) c.loop-task.tasks.items c.pop.new.self.items
+          c.in-Some.task c.in-Some.ensures.items (sym c.contains_key.ensures ∙ c.if-not-contains_key.false) c.loop-task.invariant.opening;
+    }
 
 pub returns-clause-shows : goal.returns-clause-shows
 returns-clause-shows c =
-    term_image_first c.args.bank.now c.loop-task.bank c.loop-task.invariant.keeps (term_tree c.args.bank.now c.args.value.0) (c.args.term.0, c.args.level) c.term_image.result c.requires.inside (c.loop-task.invariant.images (c.args.term.0, c.args.level) c.term_image.result c.term_image.ensures)
+    term_image_first c.args.bank.now c.loop-task.bank c.loop-task.invariant.keeps (term_tree c.args.bank.now c.args.value.0) (c.args.term.0, c.args.level)
+    c.term_image.result c.requires.inside (c.loop-task.invariant.images (c.args.term.0, c.args.level) c.term_image.result c.term_image.ensures)

@@ -7,7 +7,10 @@ abbrev pub invariant-loop-task : goal.invariant-loop-task
 invariant-loop-task l = record {
   keeps : Extends l.fn.bank l.bank;
   images : AreImages (IsTermImage l.bank (term_tree l.fn.bank l.fn.value.0)) (get by_spot l.images);
-  opening : IsOpening (IsKnown (get by_spot l.images)) (term_parts_at l.fn.bank) (IsTermGood l.fn.bank (term_tree l.fn.bank l.fn.value.0)) (l.fn.term.0, l.fn.level) l.tasks.items;
+  opening : IsOpening (IsKnown (get by_spot l.images)) (term_parts_at l.fn.bank) (IsTermGood l.fn.bank (term_tree l.fn.bank l.fn.value.0)) (
+    l.fn.term.0,
+    l.fn.level,
+  ) l.tasks.items;
 }
 
 abbrev pub decreases-loop-task : goal.decreases-loop-task

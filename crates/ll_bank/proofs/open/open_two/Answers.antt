@@ -9,20 +9,27 @@ use Rattle.ll_bank.proofs.open.open_two.Goals as goal
 
 pub open_term-requires-2-clause-heads : goal.open_term-requires-2-clause-heads
 open_term-requires-2-clause-heads c =
-    subst (λ t. applies_heads (close (opened t c.args.level) (term_tree c.open_term.new.bank c.args.right.0)) ≡ true) (sym (term_tree-extends c.open_term.ensures.keeps c.args.value.0 c.requires.value)) (term_good_now c.args.bank.now c.open_term.new.bank c.open_term.ensures.keeps (term_tree c.args.bank.now c.args.value.0) (c.args.right.0, c.args.level) (c.requires.right, c.requires.right_heads)).1
+    subst (λ t. applies_heads (close (opened t c.args.level) (term_tree c.open_term.new.bank c.args.right.0)) ≡ true)
+    (sym (term_tree-extends c.open_term.ensures.keeps c.args.value.0 c.requires.value))
+    (term_good_now c.args.bank.now c.open_term.new.bank c.open_term.ensures.keeps (term_tree c.args.bank.now c.args.value.0) (c.args.right.0, c.args.level)
+    (c.requires.right, c.requires.right_heads)).1
 
 pub open_term-requires-2-clause-images : goal.open_term-requires-2-clause-images
 open_term-requires-2-clause-images c =
-    subst (λ t. AreImages (IsTermImage c.open_term.new.bank t) (get by_spot c.open_term.new.images)) (sym (term_tree-extends c.open_term.ensures.keeps c.args.value.0 c.requires.value)) c.in_ok-first.ensures.images
+    subst (λ t. AreImages (IsTermImage c.open_term.new.bank t) (get by_spot c.open_term.new.images))
+    (sym (term_tree-extends c.open_term.ensures.keeps c.args.value.0 c.requires.value)) c.in_ok-first.ensures.images
 
 pub returns-clause-left : goal.returns-clause-left
 returns-clause-left c = ShowsTerm-extends c.open_term-2.ensures.keeps c.in_ok-first.ensures.shows
 
 pub returns-clause-right : goal.returns-clause-right
 returns-clause-right c =
-    subst (λ t. ShowsTerm c.open_term-2.new.bank c.in_ok-second.second.0 (close (opened t c.args.level) (term_tree c.args.bank.now c.args.right.0))) (term_tree-extends c.open_term.ensures.keeps c.args.value.0 c.requires.value)
-    (subst (λ u. ShowsTerm c.open_term-2.new.bank c.in_ok-second.second.0 (close (opened (term_tree c.open_term.new.bank c.args.value.0) c.args.level) u)) (term_tree-extends c.open_term.ensures.keeps c.args.right.0 c.requires.right) c.in_ok-second.ensures.shows)
+    subst (λ t. ShowsTerm c.open_term-2.new.bank c.in_ok-second.second.0 (close (opened t c.args.level) (term_tree c.args.bank.now c.args.right.0)))
+    (term_tree-extends c.open_term.ensures.keeps c.args.value.0 c.requires.value)
+    (subst (λ u. ShowsTerm c.open_term-2.new.bank c.in_ok-second.second.0 (close (opened (term_tree c.open_term.new.bank c.args.value.0) c.args.level) u))
+    (term_tree-extends c.open_term.ensures.keeps c.args.right.0 c.requires.right) c.in_ok-second.ensures.shows)
 
 pub returns-clause-images : goal.returns-clause-images
 returns-clause-images c =
-    subst (λ t. AreImages (IsTermImage c.open_term-2.new.bank t) (get by_spot c.open_term-2.new.images)) (term_tree-extends c.open_term.ensures.keeps c.args.value.0 c.requires.value) c.in_ok-second.ensures.images
+    subst (λ t. AreImages (IsTermImage c.open_term-2.new.bank t) (get by_spot c.open_term-2.new.images))
+    (term_tree-extends c.open_term.ensures.keeps c.args.value.0 c.requires.value) c.in_ok-second.ensures.images

@@ -9,8 +9,10 @@ loop-done-preserved c =
     let at = length c.args.args.now - c.loop-done.done - 1 in
     let pair : Pair = record { left = get_or c.args.args.now at (record { 0 = 0 }); right = get_or c.args.others.now at (record { 0 = 0 }) } in
     record {
-      left = places-more (λ p. p.left) c.loop-done.pairs.items c.push.new.self.items (lefts c.args.pairs.now.items) c.args.args.now c.loop-done.done at pair (record { 0 = 0 })
+      left = places-more (λ p. p.left) c.loop-done.pairs.items c.push.new.self.items (lefts c.args.pairs.now.items) c.args.args.now c.loop-done.done at pair
+          (record { 0 = 0 })
           (omega arith) refl refl c.loop-done.invariant.left c.in_ok-push.ensures.ok;
-      right = places-more (λ p. p.right) c.loop-done.pairs.items c.push.new.self.items (rights c.args.pairs.now.items) c.args.others.now c.loop-done.done at pair (record { 0 = 0 })
+      right = places-more (λ p. p.right) c.loop-done.pairs.items c.push.new.self.items (rights c.args.pairs.now.items) c.args.others.now c.loop-done.done at
+          pair (record { 0 = 0 })
           (omega arith) (omega arith) refl c.loop-done.invariant.right c.in_ok-push.ensures.ok;
     }

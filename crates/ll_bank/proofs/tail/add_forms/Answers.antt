@@ -17,7 +17,8 @@ form-requires-in-loop-i c =
 pub loop-i-preserved : goal.loop-i-preserved
 loop-i-preserved c =
     let s = ap (λ s. s.forms) c.size-i-end.ensures in
-    form_added c.args.bank.now c.loop-i.bank c.form-in-loop-i.new.self c.args.flat.now.nodes c.loop-i.i (node_of c.form.result) c.loop-i.invariant c.in_ok-form.ensures.added
+    form_added c.args.bank.now c.loop-i.bank c.form-in-loop-i.new.self c.args.flat.now.nodes c.loop-i.i (node_of c.form.result) c.loop-i.invariant
+    c.in_ok-form.ensures.added
     c.in_ok-form.ensures.keeps (omega arith) c.form.ensures
 
 pub returns-clause-added : goal.returns-clause-added

@@ -17,7 +17,8 @@ add_term-requires c =
 pub loop-i-preserved : goal.loop-i-preserved
 loop-i-preserved c =
     let s = ap (λ s. s.terms) c.size-i-end.ensures in
-    term_added c.args.bank.now c.loop-i.bank c.add_term.new.self c.args.flat.now.nodes c.loop-i.i (node_of_term c.term.result) c.loop-i.invariant c.in_ok-add_term.ensures.added
+    term_added c.args.bank.now c.loop-i.bank c.add_term.new.self c.args.flat.now.nodes c.loop-i.i (node_of_term c.term.result) c.loop-i.invariant
+    c.in_ok-add_term.ensures.added
     c.in_ok-add_term.ensures.keeps (omega arith) c.term.ensures
 
 pub returns-clause-added : goal.returns-clause-added

@@ -5,5 +5,6 @@ use Rattle.ll_bank.proofs.tail.copy_forms.Goals as goal
 
 pub loop-at-preserved : goal.loop-at-preserved
 loop-at-preserved c =
-    more_forms_copied c.args.bank.now c.args.flat.now.nodes c.loop-at.flat.nodes c.push_form.new.self.nodes c.args.from c.loop-at.at (node_of c.form_at.result) c.loop-at.invariant (ap (λ f. f.nodes) c.in_ok-push_form.ensures.added)
+    more_forms_copied c.args.bank.now c.args.flat.now.nodes c.loop-at.flat.nodes c.push_form.new.self.nodes c.args.from c.loop-at.at (node_of c.form_at.result)
+    c.loop-at.invariant (ap (λ f. f.nodes) c.in_ok-push_form.ensures.added)
     (omega arith) (omega arith) c.form_at.ensures.node

@@ -5,5 +5,6 @@ use Rattle.ll_bank.proofs.tail.copy_terms.Goals as goal
 
 pub loop-at-preserved : goal.loop-at-preserved
 loop-at-preserved c =
-    more_terms_copied c.args.bank.now c.args.flat.now.nodes c.loop-at.flat.nodes c.push_term.new.self.nodes c.args.from c.loop-at.at (node_of_term c.term_at.result) c.loop-at.invariant c.in_ok-push_term.ensures.added
+    more_terms_copied c.args.bank.now c.args.flat.now.nodes c.loop-at.flat.nodes c.push_term.new.self.nodes c.args.from c.loop-at.at
+    (node_of_term c.term_at.result) c.loop-at.invariant c.in_ok-push_term.ensures.added
     (omega arith) (omega arith) c.term_at.ensures.node

@@ -10,6 +10,9 @@ pub loop-place-preserved : goal.loop-place-preserved
 loop-place-preserved c = λ at.
     let x = get_or c.args.more.now c.loop-place.place-index (record { 0 = 0 }) in
     let i : c.loop-place.place-index < length c.args.more.now = omega arith in
-    more_any (contains nat_cmp c.args.waiting.now at) (contains nat_cmp c.loop-place.waiting at) (contains nat_cmp c.insert.new.self at) at x.0 (take c.loop-place.place-index (places c.args.more.now))
-    (c.loop-place.invariant at) (inserted (contains nat_cmp c.loop-place.waiting) (contains nat_cmp c.insert.new.self) x.0 (c.in_ok-insert.ensures.updates.0) at)
-    ∙ ap (λ xs. contains nat_cmp c.args.waiting.now at || list_any (eqb at) xs) (sym (places_more c.args.more.now c.loop-place.place-index (record { 0 = 0 }) i))
+    more_any (contains nat_cmp c.args.waiting.now at) (contains nat_cmp c.loop-place.waiting at) (contains nat_cmp c.insert.new.self at) at x.0
+    (take c.loop-place.place-index (places c.args.more.now))
+    (c.loop-place.invariant at) (inserted (contains nat_cmp c.loop-place.waiting) (contains nat_cmp c.insert.new.self) x.0 (c.in_ok-insert.ensures.updates.0)
+    at)
+    ∙ ap (λ xs. contains nat_cmp c.args.waiting.now at || list_any (eqb at) xs)
+    (sym (places_more c.args.more.now c.loop-place.place-index (record { 0 = 0 }) i))

@@ -12,22 +12,27 @@ pub loop-place-init : goal.loop-place-init
 loop-place-init c =
     subst (IsWalking c.args.bank.now c.args.roots.now (contains nat_cmp c.insert_all.new.waiting)) (sym c.new-places.ensures.items)
     (walk_begins c.args.bank.now c.args.roots.now (contains nat_cmp c.insert_all.new.waiting) c.requires
-    (λ at. c.in_ok-insert_all.ensures at ∙ ap (λ keys. list_any (is_at (nat_cmp at)) keys || list_any (eqb at) (places c.args.roots.now)) c.new-waiting.ensures.empty))
+    (λ at. c.in_ok-insert_all.ensures at ∙ ap (λ keys. list_any (is_at (nat_cmp at)) keys || list_any (eqb at) (places c.args.roots.now))
+    c.new-waiting.ensures.empty))
 
 pub loop-place-smaller : goal.loop-place-smaller
 loop-place-smaller c =
-    ceiling_falls c.loop-place.waiting.keys c.pop_last.new.self.keys c.insert_all-in-Some.new.waiting.keys c.in-Some.place (arguments_of (term_node_at c.args.bank.now c.in-Some.place))
+    ceiling_falls c.loop-place.waiting.keys c.pop_last.new.self.keys c.insert_all-in-Some.new.waiting.keys c.in-Some.place
+    (arguments_of (term_node_at c.args.bank.now c.in-Some.place))
     c.in-Some.ensures.removal c.in-Some.ensures.all_below
-    (λ at. c.in_ok-insert_all-2.ensures at ∙ ap (λ xs. list_any (is_at (nat_cmp at)) c.pop_last.new.self.keys || list_any (eqb at) xs) c.arguments.ensures.places) c.arguments.ensures.lower
+    (λ at. c.in_ok-insert_all-2.ensures at ∙ ap (λ xs. list_any (is_at (nat_cmp at)) c.pop_last.new.self.keys || list_any (eqb at) xs)
+    c.arguments.ensures.places) c.arguments.ensures.lower
 
 pub loop-place-preserved : goal.loop-place-preserved
 loop-place-preserved c =
     subst (IsWalking c.args.bank.now c.args.roots.now (contains nat_cmp c.insert_all-in-Some.new.waiting)) (sym c.in_ok-push.ensures.items)
-    (walk_on c.args.bank.now c.args.roots.now (contains nat_cmp c.loop-place.waiting) (contains nat_cmp c.pop_last.new.self) (contains nat_cmp c.insert_all-in-Some.new.waiting)
+    (walk_on c.args.bank.now c.args.roots.now (contains nat_cmp c.loop-place.waiting) (contains nat_cmp c.pop_last.new.self)
+    (contains nat_cmp c.insert_all-in-Some.new.waiting)
     c.loop-place.places.items c.in-Some.place c.loop-place.invariant c.in-Some.ensures.member
     (removed_other (contains nat_cmp c.loop-place.waiting) (contains nat_cmp c.pop_last.new.self) c.in-Some.place c.in-Some.ensures.updates.0)
     (removed_less (contains nat_cmp c.loop-place.waiting) (contains nat_cmp c.pop_last.new.self) c.in-Some.place c.in-Some.ensures.updates.0)
-    (λ at. c.in_ok-insert_all-2.ensures at ∙ ap (λ xs. contains nat_cmp c.pop_last.new.self at || list_any (eqb at) xs) c.arguments.ensures.places) c.arguments.ensures.lower)
+    (λ at. c.in_ok-insert_all-2.ensures at ∙ ap (λ xs. contains nat_cmp c.pop_last.new.self at || list_any (eqb at) xs) c.arguments.ensures.places)
+    c.arguments.ensures.lower)
 
 pub returns-clause-order : goal.returns-clause-order
 returns-clause-order c =

@@ -18,26 +18,33 @@ unify_next-requires-clause-table c =
 
 pub unify_next-requires-clause-left : goal.unify_next-requires-clause-left
 unify_next-requires-clause-left c =
-    let s = c.args.store.now in place-extends s.bank c.closed.new.bank (table_of s.cells.cells) c.args.place.0 c.requires.store c.closed.ensures.keeps c.requires.place
+    let s = c.args.store.now in place-extends s.bank c.closed.new.bank (table_of s.cells.cells) c.args.place.0 c.requires.store c.closed.ensures.keeps
+    c.requires.place
 
 pub unify_next-requires-clause-right : goal.unify_next-requires-clause-right
 unify_next-requires-clause-right c =
     let s = c.args.store.now in
-    place_made s.bank c.closed.new.bank (table_of s.cells.cells) c.requires.store c.closed.ensures.keeps c.in_ok-right.right.0 (close (env_of s.bank c.args.values.now) (term_tree s.bank c.args.pattern.0)) c.in_ok-right.ensures.shows c.requires.vars
+    place_made s.bank c.closed.new.bank (table_of s.cells.cells) c.requires.store c.closed.ensures.keeps c.in_ok-right.right.0
+    (close (env_of s.bank c.args.values.now) (term_tree s.bank c.args.pattern.0)) c.in_ok-right.ensures.shows c.requires.vars
 
 pub unify_next-requires-clause-fresh : goal.unify_next-requires-clause-fresh
 unify_next-requires-clause-fresh c =
     let s = c.args.store.now in
-    subst (λ (u : Term). AreFresh c.closed.new.bank (table_of s.cells.cells) c.args.fresh.now (u ∷ [])) (sym (term_tree-extends c.closed.ensures.keeps c.args.place.0 c.requires.place.inside))
-    (fresh_more s.bank c.closed.new.bank (table_of s.cells.cells) c.requires.store c.closed.ensures.keeps c.args.fresh.now (term_tree s.bank c.args.place.0 ∷ []) c.requires.fresh)
+    subst (λ (u : Term). AreFresh c.closed.new.bank (table_of s.cells.cells) c.args.fresh.now (u ∷ []))
+    (sym (term_tree-extends c.closed.ensures.keeps c.args.place.0 c.requires.place.inside))
+    (fresh_more s.bank c.closed.new.bank (table_of s.cells.cells) c.requires.store c.closed.ensures.keeps c.args.fresh.now
+    (term_tree s.bank c.args.place.0 ∷ []) c.requires.fresh)
 
 pub returns-clause-settles : goal.returns-clause-settles
 returns-clause-settles c =
     let s = c.args.store.now in
     IfOk-weaker c.unify_next.result _ _
     (λ good h.
-    subst (λ (u : Term). Settles c.closed.new.bank (table_of s.cells.cells) (table_of c.unify_next.new.table.cells) (u ∷ []) (close (env_of s.bank c.args.values.now) (term_tree s.bank c.args.pattern.0) ∷ []) good) (term_tree-extends c.closed.ensures.keeps c.args.place.0 c.requires.place.inside)
-    (subst (λ (u : Term). Settles c.closed.new.bank (table_of s.cells.cells) (table_of c.unify_next.new.table.cells) (term_tree c.closed.new.bank c.args.place.0 ∷ []) (u ∷ []) good) c.in_ok-right.ensures.shows.tree h))
+    subst (λ (u : Term). Settles c.closed.new.bank (table_of s.cells.cells) (table_of c.unify_next.new.table.cells) (u ∷ [])
+    (close (env_of s.bank c.args.values.now) (term_tree s.bank c.args.pattern.0) ∷ []) good)
+    (term_tree-extends c.closed.ensures.keeps c.args.place.0 c.requires.place.inside)
+    (subst (λ (u : Term). Settles c.closed.new.bank (table_of s.cells.cells) (table_of c.unify_next.new.table.cells)
+    (term_tree c.closed.new.bank c.args.place.0 ∷ []) (u ∷ []) good) c.in_ok-right.ensures.shows.tree h))
     c.unify_next.ensures.settles
 
 pub returns-clause-fresh : goal.returns-clause-fresh
@@ -45,7 +52,8 @@ returns-clause-fresh c =
     let s = c.args.store.now in
     IfOk-weaker c.unify_next.result _ _
     (λ good h e.
-    subst (λ (u : Term). LeavesFresh c.closed.new.bank (table_of s.cells.cells) (table_of c.unify_next.new.table.cells) c.args.fresh.now c.unify_next.new.fresh (u ∷ []) []) (term_tree-extends c.closed.ensures.keeps c.args.place.0 c.requires.place.inside) (h e))
+    subst (λ (u : Term). LeavesFresh c.closed.new.bank (table_of s.cells.cells) (table_of c.unify_next.new.table.cells) c.args.fresh.now c.unify_next.new.fresh
+    (u ∷ []) []) (term_tree-extends c.closed.ensures.keeps c.args.place.0 c.requires.place.inside) (h e))
     c.unify_next.ensures.fresh
 
 pub returns-clause-marks : goal.returns-clause-marks

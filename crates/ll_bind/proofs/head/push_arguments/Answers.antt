@@ -8,6 +8,7 @@ loop-left-init c = record { among = omega arith; pushed = equate_begin c.args.pl
 pub loop-left-preserved : goal.loop-left-preserved
 loop-left-preserved c = record {
   among = omega arith;
-  pushed = equate_more c.args.places.now c.args.patterns.now c.loop-left.left (c.loop-left.left - 1) (record { 0 = 0 }) c.args.equations.now.items c.loop-left.equations.items c.push.new.self.items (omega arith) (omega arith) c.requires c.loop-left.invariant.pushed
+  pushed = equate_more c.args.places.now c.args.patterns.now c.loop-left.left (c.loop-left.left - 1) (record { 0 = 0 }) c.args.equations.now.items
+      c.loop-left.equations.items c.push.new.self.items (omega arith) (omega arith) c.requires c.loop-left.invariant.pushed
       c.in_ok-push.ensures.ok;
 }

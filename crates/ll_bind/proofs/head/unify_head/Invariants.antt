@@ -11,7 +11,8 @@ use Rattle.ll_bind.proofs.head.unify_head.Given as goal
 abbrev pub invariant-loop-equation : goal.invariant-loop-equation
 invariant-loop-equation l = record {
   matching : IsMatching l.fn.store.bank l.store.bank (table_of l.fn.store.cells.cells) (table_of l.store.cells.cells)
-      (wanted l.fn.store.bank (table_of l.fn.store.cells.cells) (term_tree l.fn.store.bank l.fn.atom.0 ∷ []) (close (env_of l.fn.store.bank l.values) (term_tree l.fn.store.bank l.fn.head.0) ∷ []))
+      (wanted l.fn.store.bank (table_of l.fn.store.cells.cells) (term_tree l.fn.store.bank l.fn.atom.0 ∷ [])
+      (close (env_of l.fn.store.bank l.values) (term_tree l.fn.store.bank l.fn.head.0) ∷ []))
       l.fresh l.values (reverse l.equations.items);
   marks : KeepsMarks (stored l.fn.store) (stored l.store);
 }

@@ -11,5 +11,6 @@ pub returns-then-number-values : goal.returns-then-number-values
 returns-then-number-values c =
     let none : At = record { 0 = 0 } in
     let i = length c.args.values.now - 1 - c.in-Bound.bound in
-    subst (λ (h : Head). ShowsTerm c.args.bank.now (get_or c.args.values.now i none).0 (close_head (env_of c.args.bank.now c.args.values.now) h)) (sym c.in-Bound.is)
+    subst (λ (h : Head). ShowsTerm c.args.bank.now (get_or c.args.values.now i none).0 (close_head (env_of c.args.bank.now c.args.values.now) h))
+    (sym c.in-Bound.is)
     (value_shows c.args.bank.now c.args.values.now c.in-Bound.bound i none c.requires c.if-number-values.true refl)

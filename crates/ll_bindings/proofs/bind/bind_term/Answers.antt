@@ -22,7 +22,8 @@ returns-clause-binds g c =
     let s = c.in_ok-set.ensures.set in
     let vars = c.scan.new.seen.vars.items in
     let level : c.level-level.result ≡ slice_index old.levels x = sym c.level-level.ensures in
-    binds-good c.args.bank.now old (g.T.Bindings.table c.set.new.self) x c.args.to vars c.requires.table c.requires.below c.requires.free c.requires.to c.requires.no_var
+    binds-good c.args.bank.now old (g.T.Bindings.table c.set.new.self) x c.args.to vars c.requires.table c.requires.below c.requires.free c.requires.to
+    c.requires.no_var
     (scan-level old x c.level-level.result vars (sub (found c.args.bank.now old) (term_tree c.args.bank.now c.args.to.0)) _ true
     level c.if-not-branch.false c.in_ok-scan.ensures)
     (subst (λ (ls : List ℕ). IsLowered old.levels vars (slice_index old.levels x) ls) (sym s.levels)

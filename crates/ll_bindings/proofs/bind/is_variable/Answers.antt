@@ -3,4 +3,5 @@ use Rattle.ll_bindings.proofs.Binding.{no-var-app}
 use Rattle.ll_bindings.proofs.bind.is_variable.Goals as goal
 
 pub returns-in-App : goal.returns-in-App
-returns-in-App c = λ e x q. no-var-app (term_tree c.args.bank.now c.args.at.0) c.in-App.field-0 (term_trees c.args.bank.now c.in-App.field-1.now) c.in-App.ensures.shown.0 x q
+returns-in-App c = λ e x q. no-var-app (term_tree c.args.bank.now c.args.at.0) c.in-App.field-0 (term_trees c.args.bank.now c.in-App.field-1.now)
+    c.in-App.ensures.shown.0 x q

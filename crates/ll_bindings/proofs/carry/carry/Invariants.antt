@@ -10,7 +10,8 @@ abbrev pub invariant-loop-frame : goal.invariant-loop-frame
 invariant-loop-frame g l = record {
   keeps : Extends l.fn.other l.other;
   known : AreCopies l.bank l.other (g.T.Bindings.table l.table) (listed l.known.items);
-  copied : IsCopied l.bank l.other (g.T.Bindings.table l.table) (sub (found l.bank (g.T.Bindings.table l.table)) (term_tree l.bank l.fn.start.0)) l.made.items l.last l.frames.items;
+  copied : IsCopied l.bank l.other (g.T.Bindings.table l.table) (sub (found l.bank (g.T.Bindings.table l.table)) (term_tree l.bank l.fn.start.0)) l.made.items
+      l.last l.frames.items;
 }
 
 abbrev pub decreases-loop-frame : goal.decreases-loop-frame

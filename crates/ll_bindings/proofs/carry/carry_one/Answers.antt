@@ -12,7 +12,8 @@ returns-in-Some-clause-copy g c =
     let first = c.args.bank.now in
     let t = g.T.Bindings.table c.args.table.now in
     subst (ShowsTerm c.args.other.now c.in-Some.copy.0) (c.walk-end.ensures.same (found first t) (Obeys-found first t c.requires.table.ordered))
-    (c.requires.known c.walk-end.result.0 c.in-Some.copy (sym (ap (λ ks. listed ks c.walk-end.result.0) c.deref.ensures.value) ∙ (sym c.copy_at.ensures ∙ c.in-Some.is))).shows
+    (c.requires.known c.walk-end.result.0 c.in-Some.copy (sym (ap (λ ks. listed ks c.walk-end.result.0) c.deref.ensures.value)
+    ∙ (sym c.copy_at.ensures ∙ c.in-Some.is))).shows
 
 pub returns-in-Some-clause-keeps : goal.returns-in-Some-clause-keeps
 returns-in-Some-clause-keeps g c = Extends-refl c.args.other.now

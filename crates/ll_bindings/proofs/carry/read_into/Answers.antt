@@ -23,7 +23,8 @@ loop-place-preserved g c =
       keeps = Extends-trans c.loop-place.invariant.keeps c.in_ok-copy.ensures.keeps;
       known = c.in_ok-copy.ensures.known;
       read = rw c.in_ok-push.ensures.items
-          (carried-more first c.loop-place.other c.carry_one.new.other t c.loop-place.place-index (c.loop-place.place-index + 1) c.args.places.now c.loop-place.copies.items none
+          (carried-more first c.loop-place.other c.carry_one.new.other t c.loop-place.place-index (c.loop-place.place-index + 1) c.args.places.now
+          c.loop-place.copies.items none
           (get_or c.args.places.now c.loop-place.place-index none) c.in_ok-copy.copy c.in_ok-copy.ensures.keeps c.loop-place-test.true refl refl
           c.loop-place.invariant.read c.in_ok-copy.ensures.copy);
     }

@@ -7,5 +7,6 @@ use Rattle.ll_bindings.proofs.classes.grow.Goals as goal
 pub fill-preserved : goal.fill-preserved
 fill-preserved c =
     λ nodes t h. subst (λ (ups : List ℕ). AreClasses nodes t ups)
-    (sym (c.in_ok-push.ensures.items ∙ ap (λ (n : ℕ). c.fill.list.items ++ n ∷ []) (c.len-place.ensures ∙ let e : vec_len c.fill.list ≡ length c.fill.list.items = omega (arith, c.fill.list.ok) in e)))
+    (sym (c.in_ok-push.ensures.items ∙ ap (λ (n : ℕ). c.fill.list.items ++ n ∷ [])
+    (c.len-place.ensures ∙ let e : vec_len c.fill.list ≡ length c.fill.list.items = omega (arith, c.fill.list.ok) in e)))
     (classes-more nodes t c.fill.list.items (c.fill.invariant nodes t h))

@@ -17,7 +17,8 @@ returns-clause-settles g c =
     let p : Pair = record { left = c.args.left; right = c.args.right; next = 0 } in
     let e : c.push.new.self.items ≡ p ∷ [] = c.in_ok-push.ensures.items ∙ ap (λ (ps : List Pair). ps ++ p ∷ []) c.clear.ensures.items in
     IfOk-weaker c.settle.result _ _
-    (λ good h. subst (λ (ps : List Pair). Settles c.args.bank.now (g.T.Bindings.table c.args.table.now) (g.T.Bindings.table c.settle.new.table) (lefts c.args.bank.now ps) (rights c.args.bank.now ps) good) e h)
+    (λ good h. subst (λ (ps : List Pair). Settles c.args.bank.now (g.T.Bindings.table c.args.table.now) (g.T.Bindings.table c.settle.new.table)
+    (lefts c.args.bank.now ps) (rights c.args.bank.now ps) good) e h)
     c.settle.ensures.settles
 
 pub settle-requires-clause-fresh : goal.settle-requires-clause-fresh
@@ -28,5 +29,6 @@ returns-clause-fresh g c =
     let p : Pair = record { left = c.args.left; right = c.args.right; next = 0 } in
     let e : c.push.new.self.items ≡ p ∷ [] = c.in_ok-push.ensures.items ∙ ap (λ (ps : List Pair). ps ++ p ∷ []) c.clear.ensures.items in
     IfOk-weaker c.settle.result _ _
-    (λ good h q. subst (λ (ps : List Pair). LeavesFresh c.args.bank.now (g.T.Bindings.table c.args.table.now) (g.T.Bindings.table c.settle.new.table) c.args.work.now.fresh c.settle.new.work.fresh (lefts c.args.bank.now ps) []) e (h q))
+    (λ good h q. subst (λ (ps : List Pair). LeavesFresh c.args.bank.now (g.T.Bindings.table c.args.table.now) (g.T.Bindings.table c.settle.new.table)
+    c.args.work.now.fresh c.settle.new.work.fresh (lefts c.args.bank.now ps) []) e (h q))
     c.settle.ensures.fresh

@@ -18,7 +18,8 @@ loop-index-init g c = record {
   classes = c.new-2.ensures c.args.bank.now (g.T.Bindings.table c.args.table.now);
   fresh = c.requires.fresh;
   grows = g.met.T.Bindings.stays c.args.table.now;
-  solves = solves-start c.args.bank.now (g.T.Bindings.table c.args.table.now) (term_trees c.args.bank.now c.args.left.now) (term_trees c.args.bank.now c.args.right.now) c.requires.table;
+  solves = solves-start c.args.bank.now (g.T.Bindings.table c.args.table.now) (term_trees c.args.bank.now c.args.left.now)
+      (term_trees c.args.bank.now c.args.right.now) c.requires.table;
 }
 
 pub returns-then-not-branch-clause-solved : goal.returns-then-not-branch-clause-solved
@@ -29,9 +30,12 @@ returns-then-not-branch-clause-solved g c =
     let b = get_or c.args.right.now c.loop-index.index none in
     let below : c.loop-index.index < length c.args.left.now = omega (arith, c.loop-index-test.true, c.loop-index.auto.index-end) in
     next-refused c.args.bank.now old (g.T.Bindings.table c.loop-index.table) (g.T.Bindings.table c.make_equal.new.table) (spare old)
-    (wanted c.args.bank.now old (term_trees c.args.bank.now c.args.left.now) (term_trees c.args.bank.now c.args.right.now)) c.args.left.now c.args.right.now c.loop-index.index a b
-    below c.requires.pairs (get_or_default c.args.left.now c.loop-index.index none a below) (get_or_default c.args.right.now c.loop-index.index none b (let q = c.requires.pairs in omega arith)) c.loop-index.invariant.solves
-    (subst (Settles c.args.bank.now (g.T.Bindings.table c.loop-index.table) (g.T.Bindings.table c.make_equal.new.table) (term_tree c.args.bank.now a.0 ∷ []) (term_tree c.args.bank.now b.0 ∷ [])) c.if-not-branch.true
+    (wanted c.args.bank.now old (term_trees c.args.bank.now c.args.left.now) (term_trees c.args.bank.now c.args.right.now)) c.args.left.now c.args.right.now
+    c.loop-index.index a b
+    below c.requires.pairs (get_or_default c.args.left.now c.loop-index.index none a below)
+    (get_or_default c.args.right.now c.loop-index.index none b (let q = c.requires.pairs in omega arith)) c.loop-index.invariant.solves
+    (subst (Settles c.args.bank.now (g.T.Bindings.table c.loop-index.table) (g.T.Bindings.table c.make_equal.new.table) (term_tree c.args.bank.now a.0 ∷ [])
+    (term_tree c.args.bank.now b.0 ∷ [])) c.if-not-branch.true
     c.in_ok-make_equal.ensures.settles)
 
 pub loop-index-preserved : goal.loop-index-preserved
@@ -42,21 +46,27 @@ loop-index-preserved g c =
     let b = get_or c.args.right.now c.loop-index.index none in
     let below : c.loop-index.index < length c.args.left.now = omega (arith, c.loop-index-test.true, c.loop-index.auto.index-end) in
     let next : c.loop-index.index + 1 ≡ suc c.loop-index.index = omega arith in
-    let h = subst (Settles c.args.bank.now (g.T.Bindings.table c.loop-index.table) (g.T.Bindings.table c.make_equal.new.table) (term_tree c.args.bank.now a.0 ∷ []) (term_tree c.args.bank.now b.0 ∷ [])) c.if-not-branch.false
+    let h = subst (Settles c.args.bank.now (g.T.Bindings.table c.loop-index.table) (g.T.Bindings.table c.make_equal.new.table)
+    (term_tree c.args.bank.now a.0 ∷ []) (term_tree c.args.bank.now b.0 ∷ [])) c.if-not-branch.false
     c.in_ok-make_equal.ensures.settles in
     record {
       table = h.table;
       count = h.count ∙ c.loop-index.invariant.count;
-      cells = keeps-then c.args.bank.now old (g.T.Bindings.table c.loop-index.table) (g.T.Bindings.table c.make_equal.new.table) c.loop-index.invariant.cells h.cells;
+      cells = keeps-then c.args.bank.now old (g.T.Bindings.table c.loop-index.table) (g.T.Bindings.table c.make_equal.new.table) c.loop-index.invariant.cells
+          h.cells;
       classes = c.in_ok-make_equal.ensures.classes c.if-not-branch.false;
-      fresh = subst (λ (m : ℕ). AreFresh c.args.bank.now (g.T.Bindings.table c.make_equal.new.table) c.make_equal.new.work.fresh (drop m (term_trees c.args.bank.now c.args.left.now))) (sym next)
+      fresh = subst (λ (m : ℕ). AreFresh c.args.bank.now (g.T.Bindings.table c.make_equal.new.table) c.make_equal.new.work.fresh
+          (drop m (term_trees c.args.bank.now c.args.left.now))) (sym next)
           (c.in_ok-make_equal.ensures.fresh c.if-not-branch.false (drop (suc c.loop-index.index) (term_trees c.args.bank.now c.args.left.now))
           (subst (λ (us : List Term). AreFresh c.args.bank.now (g.T.Bindings.table c.loop-index.table) c.loop-index.work.fresh us)
-          (trees-drop c.args.bank.now c.args.left.now c.loop-index.index a below (get_or_default c.args.left.now c.loop-index.index none a below)) c.loop-index.invariant.fresh));
+          (trees-drop c.args.bank.now c.args.left.now c.loop-index.index a below (get_or_default c.args.left.now c.loop-index.index none a below))
+          c.loop-index.invariant.fresh));
       grows = g.met.T.Bindings.again c.args.table.now c.loop-index.table c.make_equal.new.table c.loop-index.invariant.grows c.make_equal.ensures.grows;
       solves = next-settled c.args.bank.now old (g.T.Bindings.table c.loop-index.table) (g.T.Bindings.table c.make_equal.new.table) (spare old)
-          (wanted c.args.bank.now old (term_trees c.args.bank.now c.args.left.now) (term_trees c.args.bank.now c.args.right.now)) c.args.left.now c.args.right.now c.loop-index.index (c.loop-index.index + 1)
-          a b below c.requires.pairs (get_or_default c.args.left.now c.loop-index.index none a below) (get_or_default c.args.right.now c.loop-index.index none b (let q = c.requires.pairs in omega arith)) next c.loop-index.invariant.solves h;
+          (wanted c.args.bank.now old (term_trees c.args.bank.now c.args.left.now) (term_trees c.args.bank.now c.args.right.now)) c.args.left.now
+          c.args.right.now c.loop-index.index (c.loop-index.index + 1)
+          a b below c.requires.pairs (get_or_default c.args.left.now c.loop-index.index none a below)
+          (get_or_default c.args.right.now c.loop-index.index none b (let q = c.requires.pairs in omega arith)) next c.loop-index.invariant.solves h;
     }
 
 pub returns-clause-solved : goal.returns-clause-solved
@@ -67,9 +77,11 @@ returns-clause-solved g c =
     record {
       is = solves-none c.args.bank.now (g.T.Bindings.table c.loop-index.table) (spare old)
           (wanted c.args.bank.now old (term_trees c.args.bank.now c.args.left.now) (term_trees c.args.bank.now c.args.right.now))
-          (subst (λ (us : List Term). Solves c.args.bank.now (g.T.Bindings.table c.loop-index.table) (spare old) (wanted c.args.bank.now old (term_trees c.args.bank.now c.args.left.now) (term_trees c.args.bank.now c.args.right.now)) us [])
+          (subst (λ (us : List Term). Solves c.args.bank.now (g.T.Bindings.table c.loop-index.table) (spare old)
+          (wanted c.args.bank.now old (term_trees c.args.bank.now c.args.left.now) (term_trees c.args.bank.now c.args.right.now)) us [])
           (trees-none c.args.bank.now c.args.left.now c.loop-index.index end)
-          (subst (λ (us : List Term). Solves c.args.bank.now (g.T.Bindings.table c.loop-index.table) (spare old) (wanted c.args.bank.now old (term_trees c.args.bank.now c.args.left.now) (term_trees c.args.bank.now c.args.right.now))
+          (subst (λ (us : List Term). Solves c.args.bank.now (g.T.Bindings.table c.loop-index.table) (spare old)
+          (wanted c.args.bank.now old (term_trees c.args.bank.now c.args.left.now) (term_trees c.args.bank.now c.args.right.now))
           (drop c.loop-index.index (term_trees c.args.bank.now c.args.left.now)) us)
           (trees-none c.args.bank.now c.args.right.now c.loop-index.index (omega arith)) c.loop-index.invariant.solves));
       table = c.loop-index.invariant.table;
@@ -81,6 +93,8 @@ make_equal-requires-clause-fresh g c =
     let none : At = record { 0 = 0 } in
     let a = get_or c.args.left.now c.loop-index.index none in
     let below : c.loop-index.index < length c.args.left.now = omega (arith, c.loop-index-test.true, c.loop-index.auto.index-end) in
-    fresh-first c.args.bank.now (g.T.Bindings.table c.loop-index.table) c.loop-index.work.fresh (term_tree c.args.bank.now a.0) (drop (suc c.loop-index.index) (term_trees c.args.bank.now c.args.left.now))
+    fresh-first c.args.bank.now (g.T.Bindings.table c.loop-index.table) c.loop-index.work.fresh (term_tree c.args.bank.now a.0)
+    (drop (suc c.loop-index.index) (term_trees c.args.bank.now c.args.left.now))
     (subst (λ (us : List Term). AreFresh c.args.bank.now (g.T.Bindings.table c.loop-index.table) c.loop-index.work.fresh us)
-    (trees-drop c.args.bank.now c.args.left.now c.loop-index.index a below (get_or_default c.args.left.now c.loop-index.index none a below)) c.loop-index.invariant.fresh)
+    (trees-drop c.args.bank.now c.args.left.now c.loop-index.index a below (get_or_default c.args.left.now c.loop-index.index none a below))
+    c.loop-index.invariant.fresh)

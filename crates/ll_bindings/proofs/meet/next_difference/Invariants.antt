@@ -8,8 +8,10 @@ abbrev pub invariant-loop-pair : goal.invariant-loop-pair
 invariant-loop-pair g l = record {
   classes : AreClasses l.bank (g.T.Bindings.table l.table) l.classes.up.items;
   pairs : ArePairs l.bank (g.T.Bindings.table l.table) l.pairs.items;
-  alike : Alike l.bank (g.T.Bindings.table l.table) (lefts l.bank l.fn.pairs.items) (rights l.bank l.fn.pairs.items) (lefts l.bank l.pairs.items) (rights l.bank l.pairs.items);
-  clear : (x k : ℕ) → AreClear (found l.bank (g.T.Bindings.table l.table)) x k (lefts l.bank l.fn.pairs.items) → AreClear (found l.bank (g.T.Bindings.table l.table)) x k (lefts l.bank l.pairs.items);
+  alike : Alike l.bank (g.T.Bindings.table l.table) (lefts l.bank l.fn.pairs.items) (rights l.bank l.fn.pairs.items) (lefts l.bank l.pairs.items)
+      (rights l.bank l.pairs.items);
+  clear : (x k : ℕ) → AreClear (found l.bank (g.T.Bindings.table l.table)) x k (lefts l.bank l.fn.pairs.items)
+      → AreClear (found l.bank (g.T.Bindings.table l.table)) x k (lefts l.bank l.pairs.items);
 }
 
 abbrev pub decreases-loop-pair : goal.decreases-loop-pair

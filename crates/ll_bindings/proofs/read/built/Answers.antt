@@ -13,4 +13,5 @@ returns-in-None-clause-keeps c =
 
 pub returns-in-Some-clause-built : goal.returns-in-Some-clause-built
 returns-in-Some-clause-built c =
-    IfOk-weaker c.app.result _ _ (λ a k. built-new c.args.bank.now c.app.new.self c.args.at.0 c.args.copied.now a c.in-Some.head c.in-Some.ensures k) c.app.ensures.shows
+    IfOk-weaker c.app.result _ _ (λ a k. built-new c.args.bank.now c.app.new.self c.args.at.0 c.args.copied.now a c.in-Some.head c.in-Some.ensures k)
+    c.app.ensures.shows

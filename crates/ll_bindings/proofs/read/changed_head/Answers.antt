@@ -5,7 +5,8 @@ use Rattle.ll_bindings.proofs.Copies.{changed-leaf, changed-same, changed-head}
 use Rattle.ll_bindings.proofs.read.changed_head.Goals as goal
 
 pub returns-then-are_same : goal.returns-then-are_same
-returns-then-are_same c = changed-same c.args.bank.now c.args.at.0 c.in-App.head c.in-App.args.now c.args.copied.now c.in-App.ensures.shown.0 (c.are_same.ensures c.if-are_same.true)
+returns-then-are_same c = changed-same c.args.bank.now c.args.at.0 c.in-App.head c.in-App.args.now c.args.copied.now c.in-App.ensures.shown.0
+    (c.are_same.ensures c.if-are_same.true)
 
 pub returns-else-are_same : goal.returns-else-are_same
 returns-else-are_same c = changed-head c.args.bank.now c.args.at.0 c.in-App.head (term_trees c.args.bank.now c.in-App.args.now) c.in-App.ensures.shown.0

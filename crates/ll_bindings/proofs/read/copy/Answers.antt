@@ -7,7 +7,8 @@ use Rattle.ll_bank.proofs.CallerLemmas.{Extends-refl, Extends-trans}
 use Rattle.ll_bindings.specs.Bindings.{found}
 use Rattle.ll_bindings.proofs.Scans.{weight-known, weight-opens}
 use Rattle.ll_bindings.proofs.CallerLemmas.{table-extends, place-extends}
-use Rattle.ll_bindings.proofs.Copies.{copies-extends, copies-add, copy-top, copy-argument, copy-reached, copy-known, copy-opens, copy-closes, copy-own, copy-starts, built-copy, done-first}
+use Rattle.ll_bindings.proofs.Copies.{copies-extends, copies-add, copy-top, copy-argument, copy-reached, copy-known, copy-opens, copy-closes, copy-own}
+use Rattle.ll_bindings.proofs.Copies.{copy-starts, built-copy, done-first}
 use Rattle.ll_bindings.proofs.read.copy.Goals as goal
 
 pub returns-in_err-push-clause-keeps : goal.returns-in_err-push-clause-keeps
@@ -22,7 +23,8 @@ loop-frame-init g c =
     record {
       keeps = Extends-refl first;
       known = c.requires.known;
-      copied = rw (c.in_ok-push.ensures.items, c.new-frames.ensures.items, c.new-made.ensures.items) (copy-starts first t whole c.requires.table first c.args.start c.args.start c.requires.start refl);
+      copied = rw (c.in_ok-push.ensures.items, c.new-frames.ensures.items, c.new-made.ensures.items)
+          (copy-starts first t whole c.requires.table first c.args.start c.args.start c.requires.start refl);
     }
 
 pub walk-end-requires-clause-table : goal.walk-end-requires-clause-table
@@ -35,30 +37,40 @@ walk-end-requires-clause-place g c =
     let t = g.T.Bindings.table c.args.table.now in
     let whole = sub (found first t) (term_tree first c.args.start.0) in
     place-extends first c.loop-frame.bank t c.in-Some-argument.arg.0 c.requires.table c.loop-frame.invariant.keeps
-    (copy-argument first t whole c.requires.table c.loop-frame.bank c.loop-frame.made.items c.loop-frame.last c.loop-frame.frames.items c.pop.new.self.items c.in-Some.frame c.in-Some-argument.arg c.loop-frame.invariant.keeps c.loop-frame.invariant.copied c.in-Some.ensures.items c.in-Some-argument.ensures.argument).1
+    (copy-argument first t whole c.requires.table c.loop-frame.bank c.loop-frame.made.items c.loop-frame.last c.loop-frame.frames.items c.pop.new.self.items
+    c.in-Some.frame c.in-Some-argument.arg c.loop-frame.invariant.keeps c.loop-frame.invariant.copied c.in-Some.ensures.items
+    c.in-Some-argument.ensures.argument).1
 
 pub loop-frame-smaller-in-Continue-branch-3 : goal.loop-frame-smaller-in-Continue-branch-3
 loop-frame-smaller-in-Continue-branch-3 g c =
     let first = c.args.bank.now in
     let t = g.T.Bindings.table c.args.table.now in
     let whole = sub (found first t) (term_tree first c.args.start.0) in
-    let reached = copy-reached first t whole c.requires.table c.loop-frame.bank c.loop-frame.made.items c.loop-frame.last c.loop-frame.frames.items c.pop.new.self.items c.in-Some.frame c.in-Some-argument.arg c.walk-end.result c.loop-frame.invariant.keeps c.loop-frame.invariant.copied c.in-Some.ensures.items c.in-Some-argument.ensures.argument c.walk-end.ensures.end c.walk-end.ensures.same c.walk-end.ensures.among in
+    let reached = copy-reached first t whole c.requires.table c.loop-frame.bank c.loop-frame.made.items c.loop-frame.last c.loop-frame.frames.items
+    c.pop.new.self.items c.in-Some.frame c.in-Some-argument.arg c.walk-end.result c.loop-frame.invariant.keeps c.loop-frame.invariant.copied
+    c.in-Some.ensures.items c.in-Some-argument.ensures.argument c.walk-end.ensures.end c.walk-end.ensures.same c.walk-end.ensures.among in
     rw (c.in_ok-push-in-Some-argument.ensures.items, c.in-Some.ensures.items)
-    (weight-known first (found first t) c.pop.new.self.items c.in-Some.frame (record { at = c.in-Some.frame.at; next = c.in-Some.frame.next + 1 }) reached.argument.among refl refl)
+    (weight-known first (found first t) c.pop.new.self.items c.in-Some.frame (record { at = c.in-Some.frame.at; next = c.in-Some.frame.next + 1 })
+    reached.argument.among refl refl)
 
 pub loop-frame-preserved-in-Continue-branch-3 : goal.loop-frame-preserved-in-Continue-branch-3
 loop-frame-preserved-in-Continue-branch-3 g c =
     let first = c.args.bank.now in
     let t = g.T.Bindings.table c.args.table.now in
     let whole = sub (found first t) (term_tree first c.args.start.0) in
-    let reached = copy-reached first t whole c.requires.table c.loop-frame.bank c.loop-frame.made.items c.loop-frame.last c.loop-frame.frames.items c.pop.new.self.items c.in-Some.frame c.in-Some-argument.arg c.walk-end.result c.loop-frame.invariant.keeps c.loop-frame.invariant.copied c.in-Some.ensures.items c.in-Some-argument.ensures.argument c.walk-end.ensures.end c.walk-end.ensures.same c.walk-end.ensures.among in
+    let reached = copy-reached first t whole c.requires.table c.loop-frame.bank c.loop-frame.made.items c.loop-frame.last c.loop-frame.frames.items
+    c.pop.new.self.items c.in-Some.frame c.in-Some-argument.arg c.walk-end.result c.loop-frame.invariant.keeps c.loop-frame.invariant.copied
+    c.in-Some.ensures.items c.in-Some-argument.ensures.argument c.walk-end.ensures.end c.walk-end.ensures.same c.walk-end.ensures.among in
     record {
       keeps = c.loop-frame.invariant.keeps;
       known = c.loop-frame.invariant.known;
       copied = rw (c.in_ok-push-in-Some-argument.ensures.items, c.in_ok-push-in-Some-get.ensures.items)
-          (copy-known first t whole c.requires.table c.loop-frame.bank c.loop-frame.made.items c.loop-frame.last c.loop-frame.frames.items c.pop.new.self.items c.in-Some.frame (record { at = c.in-Some.frame.at; next = c.in-Some.frame.next + 1 }) c.in-Some-argument.arg c.walk-end.result c.in-Some-get.copy.now
+          (copy-known first t whole c.requires.table c.loop-frame.bank c.loop-frame.made.items c.loop-frame.last c.loop-frame.frames.items c.pop.new.self.items
+          c.in-Some.frame (record { at = c.in-Some.frame.at; next = c.in-Some.frame.next + 1 }) c.in-Some-argument.arg c.walk-end.result
+          c.in-Some-get.copy.now
           c.loop-frame.invariant.copied c.in-Some.ensures.items reached.argument reached.same
-          (c.loop-frame.invariant.known c.walk-end.result.0 c.in-Some-get.copy.now (sym c.get.ensures.value ∙ ap option_copied c.in-Some-get.is)).shows refl refl);
+          (c.loop-frame.invariant.known c.walk-end.result.0 c.in-Some-get.copy.now (sym c.get.ensures.value ∙ ap option_copied c.in-Some-get.is)).shows refl
+          refl);
     }
 
 pub loop-frame-smaller-in-Continue-branch-4 : goal.loop-frame-smaller-in-Continue-branch-4
@@ -66,9 +78,12 @@ loop-frame-smaller-in-Continue-branch-4 g c =
     let first = c.args.bank.now in
     let t = g.T.Bindings.table c.args.table.now in
     let whole = sub (found first t) (term_tree first c.args.start.0) in
-    let reached = copy-reached first t whole c.requires.table c.loop-frame.bank c.loop-frame.made.items c.loop-frame.last c.loop-frame.frames.items c.pop.new.self.items c.in-Some.frame c.in-Some-argument.arg c.walk-end.result c.loop-frame.invariant.keeps c.loop-frame.invariant.copied c.in-Some.ensures.items c.in-Some-argument.ensures.argument c.walk-end.ensures.end c.walk-end.ensures.same c.walk-end.ensures.among in
+    let reached = copy-reached first t whole c.requires.table c.loop-frame.bank c.loop-frame.made.items c.loop-frame.last c.loop-frame.frames.items
+    c.pop.new.self.items c.in-Some.frame c.in-Some-argument.arg c.walk-end.result c.loop-frame.invariant.keeps c.loop-frame.invariant.copied
+    c.in-Some.ensures.items c.in-Some-argument.ensures.argument c.walk-end.ensures.end c.walk-end.ensures.same c.walk-end.ensures.among in
     rw (c.in_ok-push-in-None-get.ensures.items, c.in_ok-push-in-Some-argument.ensures.items, c.in-Some.ensures.items)
-    (weight-opens first (found first t) c.pop.new.self.items c.in-Some.frame (record { at = c.in-Some.frame.at; next = c.in-Some.frame.next + 1 }) c.walk-end.result reached.argument.among refl refl
+    (weight-opens first (found first t) c.pop.new.self.items c.in-Some.frame (record { at = c.in-Some.frame.at; next = c.in-Some.frame.next + 1 })
+    c.walk-end.result reached.argument.among refl refl
     (reached.same ∙ ap (sub (found first t)) (sym reached.argument.is)))
 
 pub loop-frame-preserved-in-Continue-branch-4 : goal.loop-frame-preserved-in-Continue-branch-4
@@ -76,12 +91,15 @@ loop-frame-preserved-in-Continue-branch-4 g c =
     let first = c.args.bank.now in
     let t = g.T.Bindings.table c.args.table.now in
     let whole = sub (found first t) (term_tree first c.args.start.0) in
-    let reached = copy-reached first t whole c.requires.table c.loop-frame.bank c.loop-frame.made.items c.loop-frame.last c.loop-frame.frames.items c.pop.new.self.items c.in-Some.frame c.in-Some-argument.arg c.walk-end.result c.loop-frame.invariant.keeps c.loop-frame.invariant.copied c.in-Some.ensures.items c.in-Some-argument.ensures.argument c.walk-end.ensures.end c.walk-end.ensures.same c.walk-end.ensures.among in
+    let reached = copy-reached first t whole c.requires.table c.loop-frame.bank c.loop-frame.made.items c.loop-frame.last c.loop-frame.frames.items
+    c.pop.new.self.items c.in-Some.frame c.in-Some-argument.arg c.walk-end.result c.loop-frame.invariant.keeps c.loop-frame.invariant.copied
+    c.in-Some.ensures.items c.in-Some-argument.ensures.argument c.walk-end.ensures.end c.walk-end.ensures.same c.walk-end.ensures.among in
     record {
       keeps = c.loop-frame.invariant.keeps;
       known = c.loop-frame.invariant.known;
       copied = rw (c.in_ok-push-in-None-get.ensures.items, c.in_ok-push-in-Some-argument.ensures.items)
-          (copy-opens first t whole c.requires.table c.loop-frame.bank c.loop-frame.made.items c.loop-frame.last c.loop-frame.frames.items c.pop.new.self.items c.in-Some.frame (record { at = c.in-Some.frame.at; next = c.in-Some.frame.next + 1 }) c.in-Some-argument.arg c.walk-end.result
+          (copy-opens first t whole c.requires.table c.loop-frame.bank c.loop-frame.made.items c.loop-frame.last c.loop-frame.frames.items c.pop.new.self.items
+          c.in-Some.frame (record { at = c.in-Some.frame.at; next = c.in-Some.frame.next + 1 }) c.in-Some-argument.arg c.walk-end.result
           c.loop-frame.invariant.copied c.in-Some.ensures.items reached.argument reached.same reached.end refl refl);
     }
 
@@ -90,31 +108,40 @@ build-requires-clause-enough g c =
     let first = c.args.bank.now in
     let t = g.T.Bindings.table c.args.table.now in
     let whole = sub (found first t) (term_tree first c.args.start.0) in
-    let done = done-first first t whole c.requires.table c.loop-frame.bank c.loop-frame.made.items c.loop-frame.last c.loop-frame.frames.items c.pop.new.self.items c.in-Some.frame c.loop-frame.invariant.keeps c.loop-frame.invariant.copied c.in-Some.ensures.items c.in-None.ensures.argument in
-    (copy-own first t whole c.requires.table c.loop-frame.bank c.loop-frame.made.items c.loop-frame.last c.loop-frame.frames.items c.pop.new.self.items c.in-Some.frame c.loop-frame.invariant.copied c.in-Some.ensures.items done).0
+    let done = done-first first t whole c.requires.table c.loop-frame.bank c.loop-frame.made.items c.loop-frame.last c.loop-frame.frames.items
+    c.pop.new.self.items c.in-Some.frame c.loop-frame.invariant.keeps c.loop-frame.invariant.copied c.in-Some.ensures.items c.in-None.ensures.argument in
+    (copy-own first t whole c.requires.table c.loop-frame.bank c.loop-frame.made.items c.loop-frame.last c.loop-frame.frames.items c.pop.new.self.items
+    c.in-Some.frame c.loop-frame.invariant.copied c.in-Some.ensures.items done).0
 
 pub build-requires-clause-places : goal.build-requires-clause-places
 build-requires-clause-places g c =
     let first = c.args.bank.now in
     let t = g.T.Bindings.table c.args.table.now in
     let whole = sub (found first t) (term_tree first c.args.start.0) in
-    let done = done-first first t whole c.requires.table c.loop-frame.bank c.loop-frame.made.items c.loop-frame.last c.loop-frame.frames.items c.pop.new.self.items c.in-Some.frame c.loop-frame.invariant.keeps c.loop-frame.invariant.copied c.in-Some.ensures.items c.in-None.ensures.argument in
-    (copy-own first t whole c.requires.table c.loop-frame.bank c.loop-frame.made.items c.loop-frame.last c.loop-frame.frames.items c.pop.new.self.items c.in-Some.frame c.loop-frame.invariant.copied c.in-Some.ensures.items done).1
+    let done = done-first first t whole c.requires.table c.loop-frame.bank c.loop-frame.made.items c.loop-frame.last c.loop-frame.frames.items
+    c.pop.new.self.items c.in-Some.frame c.loop-frame.invariant.keeps c.loop-frame.invariant.copied c.in-Some.ensures.items c.in-None.ensures.argument in
+    (copy-own first t whole c.requires.table c.loop-frame.bank c.loop-frame.made.items c.loop-frame.last c.loop-frame.frames.items c.pop.new.self.items
+    c.in-Some.frame c.loop-frame.invariant.copied c.in-Some.ensures.items done).1
 
 pub loop-frame-preserved : goal.loop-frame-preserved
 loop-frame-preserved g c =
     let first = c.args.bank.now in
     let t = g.T.Bindings.table c.args.table.now in
     let whole = sub (found first t) (term_tree first c.args.start.0) in
-    let top = copy-top first t whole c.requires.table c.loop-frame.bank c.loop-frame.made.items c.loop-frame.last c.loop-frame.frames.items c.pop.new.self.items c.in-Some.frame c.loop-frame.invariant.copied c.in-Some.ensures.items in
-    let made = built-copy first t whole c.requires.table c.loop-frame.bank c.build.new.bank c.loop-frame.made.items c.loop-frame.last c.in_ok-last-in-None.last c.loop-frame.frames.items c.pop.new.self.items c.in-Some.frame
+    let top = copy-top first t whole c.requires.table c.loop-frame.bank c.loop-frame.made.items c.loop-frame.last c.loop-frame.frames.items c.pop.new.self.items
+    c.in-Some.frame c.loop-frame.invariant.copied c.in-Some.ensures.items in
+    let made = built-copy first t whole c.requires.table c.loop-frame.bank c.build.new.bank c.loop-frame.made.items c.loop-frame.last c.in_ok-last-in-None.last
+    c.loop-frame.frames.items c.pop.new.self.items c.in-Some.frame
     c.loop-frame.invariant.keeps c.loop-frame.invariant.copied c.in-Some.ensures.items c.in-None.ensures.argument c.in_ok-last-in-None.ensures.built in
     record {
       keeps = Extends-trans c.loop-frame.invariant.keeps c.in_ok-last-in-None.ensures.keeps;
-      known = copies-add first c.build.new.bank t (get nat_eq c.loop-frame.known) (get nat_eq c.remember.new.known) c.in-Some.frame.at.0 c.in_ok-last-in-None.last
-          (copies-extends first c.loop-frame.bank c.build.new.bank t (get nat_eq c.loop-frame.known) c.in_ok-last-in-None.ensures.keeps c.loop-frame.invariant.known)
+      known = copies-add first c.build.new.bank t (get nat_eq c.loop-frame.known) (get nat_eq c.remember.new.known) c.in-Some.frame.at.0
+          c.in_ok-last-in-None.last
+          (copies-extends first c.loop-frame.bank c.build.new.bank t (get nat_eq c.loop-frame.known) c.in_ok-last-in-None.ensures.keeps
+          c.loop-frame.invariant.known)
           (record { inside = top.end.place.inside; shows = made }) c.in_ok-remember-in-None.ensures;
       copied = rw c.in_ok-push-in-None.ensures.items
-          (copy-closes first t whole c.requires.table c.loop-frame.bank c.build.new.bank c.loop-frame.made.items _ c.loop-frame.last c.in_ok-last-in-None.last c.loop-frame.frames.items c.pop.new.self.items c.in-Some.frame
+          (copy-closes first t whole c.requires.table c.loop-frame.bank c.build.new.bank c.loop-frame.made.items _ c.loop-frame.last c.in_ok-last-in-None.last
+          c.loop-frame.frames.items c.pop.new.self.items c.in-Some.frame
           c.in_ok-last-in-None.ensures.keeps c.loop-frame.invariant.copied c.in-Some.ensures.items c.in_ok-last-in-None.ensures.made made);
     }

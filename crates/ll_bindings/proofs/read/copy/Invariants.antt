@@ -11,7 +11,8 @@ abbrev pub invariant-loop-frame : goal.invariant-loop-frame
 invariant-loop-frame g l = record {
   keeps : Extends l.fn.bank l.bank;
   known : AreCopies l.fn.bank l.bank (g.T.Bindings.table l.table) (get nat_eq l.known);
-  copied : IsCopied l.fn.bank l.bank (g.T.Bindings.table l.table) (sub (found l.fn.bank (g.T.Bindings.table l.table)) (term_tree l.fn.bank l.fn.start.0)) l.made.items l.last l.frames.items;
+  copied : IsCopied l.fn.bank l.bank (g.T.Bindings.table l.table) (sub (found l.fn.bank (g.T.Bindings.table l.table)) (term_tree l.fn.bank l.fn.start.0))
+      l.made.items l.last l.frames.items;
 }
 
 abbrev pub decreases-loop-frame : goal.decreases-loop-frame

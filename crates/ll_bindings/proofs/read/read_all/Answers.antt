@@ -13,7 +13,8 @@ loop-place-init g c = record {
 }
 
 pub copy_of-requires-clause-table : goal.copy_of-requires-clause-table
-copy_of-requires-clause-table g c = table-extends c.args.bank.now c.loop-place.bank (g.T.Bindings.table c.args.table.now) c.requires.table c.loop-place.invariant.keeps
+copy_of-requires-clause-table g c = table-extends c.args.bank.now c.loop-place.bank (g.T.Bindings.table c.args.table.now) c.requires.table
+    c.loop-place.invariant.keeps
 
 pub copy_of-requires-clause-at : goal.copy_of-requires-clause-at
 copy_of-requires-clause-at g c =
@@ -28,10 +29,13 @@ loop-place-preserved g c =
     let none : At = record { 0 = 0 } in
     record {
       keeps = Extends-trans c.loop-place.invariant.keeps c.in_ok-copy.ensures.keeps;
-      known = copies-rebase c.loop-place.bank c.copy_of.new.bank c.copy_of.new.bank t _ (table-extends first c.loop-place.bank t c.requires.table c.loop-place.invariant.keeps) c.in_ok-copy.ensures.keeps c.in_ok-copy.ensures.known;
+      known = copies-rebase c.loop-place.bank c.copy_of.new.bank c.copy_of.new.bank t _
+          (table-extends first c.loop-place.bank t c.requires.table c.loop-place.invariant.keeps) c.in_ok-copy.ensures.keeps c.in_ok-copy.ensures.known;
       read = rw c.in_ok-push.ensures.items
-          (read-more first c.loop-place.bank c.copy_of.new.bank t c.loop-place.place-index (c.loop-place.place-index + 1) c.args.places.now c.loop-place.made.items none
-          (get_or c.args.places.now c.loop-place.place-index none) c.in_ok-copy.copy c.requires.table c.loop-place.invariant.keeps c.in_ok-copy.ensures.keeps c.loop-place-test.true refl refl
+          (read-more first c.loop-place.bank c.copy_of.new.bank t c.loop-place.place-index (c.loop-place.place-index + 1) c.args.places.now
+          c.loop-place.made.items none
+          (get_or c.args.places.now c.loop-place.place-index none) c.in_ok-copy.copy c.requires.table c.loop-place.invariant.keeps c.in_ok-copy.ensures.keeps
+          c.loop-place-test.true refl refl
           (c.requires.places c.loop-place.place-index none c.loop-place-test.true).inside c.loop-place.invariant.read c.in_ok-copy.ensures.copy);
     }
 

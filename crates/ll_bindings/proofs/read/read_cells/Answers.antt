@@ -15,7 +15,8 @@ pub value-to-requires : goal.value-to-requires
 value-to-requires g c = let b = c.requires.table.bound in let n = c.requires.count in omega arith
 
 pub cell_copy-requires-clause-table : goal.cell_copy-requires-clause-table
-cell_copy-requires-clause-table g c = table-extends c.args.bank.now c.loop-var.bank (g.T.Bindings.table c.args.table.now) c.requires.table c.loop-var.invariant.keeps
+cell_copy-requires-clause-table g c = table-extends c.args.bank.now c.loop-var.bank (g.T.Bindings.table c.args.table.now) c.requires.table
+    c.loop-var.invariant.keeps
 
 pub cell_copy-requires-clause-to : goal.cell_copy-requires-clause-to
 cell_copy-requires-clause-to g c = λ at e.
@@ -28,7 +29,8 @@ loop-var-preserved g c =
     let t = g.T.Bindings.table c.args.table.now in
     record {
       keeps = Extends-trans c.loop-var.invariant.keeps c.in_ok-copy.ensures.keeps;
-      known = copies-rebase c.loop-var.bank c.cell_copy.new.bank c.cell_copy.new.bank t _ (table-extends first c.loop-var.bank t c.requires.table c.loop-var.invariant.keeps) c.in_ok-copy.ensures.keeps c.in_ok-copy.ensures.known;
+      known = copies-rebase c.loop-var.bank c.cell_copy.new.bank c.cell_copy.new.bank t _
+          (table-extends first c.loop-var.bank t c.requires.table c.loop-var.invariant.keeps) c.in_ok-copy.ensures.keeps c.in_ok-copy.ensures.known;
       cells = rw c.in_ok-push.ensures.items
           (final-more first c.loop-var.bank c.cell_copy.new.bank t c.loop-var.var (c.loop-var.var + 1) c.loop-var.cells.items _ c.in_ok-copy.copy
           c.requires.table c.loop-var.invariant.keeps c.in_ok-copy.ensures.keeps refl c.value-to.ensures c.loop-var.invariant.cells c.in_ok-copy.ensures.copy);

@@ -6,7 +6,8 @@ use Rattle.ll_bindings.proofs.table.value.Goals as goal
 
 pub value-requires : goal.value-requires
 value-requires g c =
-    let l = var-below c.args.bank.now (g.T.Bindings.table c.args.table.now) c.in-Var.var (term_tree c.args.bank.now c.args.at.0) c.requires.place.vars c.in-Var.ensures.shown in
+    let l = var-below c.args.bank.now (g.T.Bindings.table c.args.table.now) c.in-Var.var (term_tree c.args.bank.now c.args.at.0) c.requires.place.vars
+    c.in-Var.ensures.shown in
     let e = c.requires.table.bound in omega arith
 
 pub returns-in-App : goal.returns-in-App

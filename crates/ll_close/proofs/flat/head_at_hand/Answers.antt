@@ -11,7 +11,11 @@ pub returns-then-number-level : goal.returns-then-number-level
 returns-then-number-level c =
     let env = env_of c.args.bank.now c.args.values.now in
     subst (λ (h : Head). ShowsTerm c.args.bank.now c.args.at.0 (close_head (under env c.args.level) h)) (sym c.in-Bound.is)
-    (record { inside = c.requires.inside; tree = c.requires.head ∙ (ap (λ h. Con h) c.in-Bound.is ∙ sym (head_low env c.args.level c.in-Bound.bound c.if-number-level.true)) })
+    (record {
+      inside = c.requires.inside;
+      tree = c.requires.head
+          ∙ (ap (λ h. Con h) c.in-Bound.is ∙ sym (head_low env c.args.level c.in-Bound.bound c.if-number-level.true));
+    })
 
 pub returns-then-number-level-2 : goal.returns-then-number-level-2
 returns-then-number-level-2 c =
@@ -19,4 +23,8 @@ returns-then-number-level-2 c =
     let bank = c.args.bank.now in let vs = c.args.values.now in
     let i = length vs - 1 - (c.in-Bound.bound - c.args.level) in
     subst (λ (h : Head). ShowsTerm bank (get_or vs i none).0 (close_head (under (env_of bank vs) c.args.level) h)) (sym c.in-Bound.is)
-    (record { inside = c.requires.values i none (omega arith); tree = sym (head_value bank vs c.args.level c.in-Bound.bound i none (omega arith) (omega arith) refl) })
+    (record {
+      inside = c.requires.values i none (omega arith);
+      tree =
+          sym (head_value bank vs c.args.level c.in-Bound.bound i none (omega arith) (omega arith) refl);
+    })

@@ -13,5 +13,6 @@ closed_node-requires-clause-parts c =
     let parts = form_parts_at bank (c.args.task.place, c.args.task.level) in
     let p = c.requires.parts in
     let l = images_length (λ k (x : FormAt). IsFormImage bank env k x.0) parts p.own p.images in
-    let s = slice_own c.deref.result.now c.args.made.now.items p.below p.own _ c.part_count.result c.deref.ensures.value p.is (l ∙ sym (c.part_count.ensures c.args.task.level)) (search rules) in
+    let s = slice_own c.deref.result.now c.args.made.now.items p.below p.own _ c.part_count.result c.deref.ensures.value p.is
+    (l ∙ sym (c.part_count.ensures c.args.task.level)) (search rules) in
     subst (AreImagesOf (λ k (x : FormAt). IsFormImage bank env k x.0) parts) (sym s) p.images

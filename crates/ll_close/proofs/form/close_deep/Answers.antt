@@ -8,7 +8,8 @@ use Rattle.ll_bank.proofs.CallerLemmas.{Extends-refl, Extends-trans, HasForm-ext
 use Rattle.ll_close.specs.Closing.{env_of, same_spot, IsTermImage, IsFormImage, IsGoodForm}
 use Rattle.ll_close.specs.Stacks.{visit, ready}
 use Rattle.ll_close.proofs.Known.{images_add, images_none, form_image_extends, form_images_extend}
-use Rattle.ll_close.proofs.Stacks.{closing_begins, closing_good, closing_ready, closing_builds, closing_found, closing_expands, closing_ends, take_none, work_pops, work_expands}
+use Rattle.ll_close.proofs.Stacks.{closing_begins, closing_good, closing_ready, closing_builds, closing_found, closing_expands, closing_ends, take_none}
+use Rattle.ll_close.proofs.Stacks.{work_pops, work_expands}
 use Rattle.ll_close.proofs.Parts.{form_parts_first}
 use Rattle.ll_close.proofs.Steps.{form_heads_now, forms_end_now, form_image_made, form_left, images_now, images_then}
 use Rattle.ll_close.proofs.form.close_deep.Goals as goal
@@ -25,8 +26,10 @@ loop-task-init c =
       keeps = Extends-refl first;
       terms = images_none (IsTermImage first env) (get same_spot c.new-terms.result.places) c.new-terms.ensures;
       forms = images_none (IsFormImage first env) (get same_spot c.new-forms.result.places) c.new-forms.ensures;
-      closing = closing_begins (form_parts_at first) (IsGoodForm first (env, c.args.form.0)) (c.args.form.0, 0) (λ q (x : FormAt). IsFormImage first env q x.0) c.new-made.result.items c.new-tasks.result.items c.push_part.new.tasks.items
-          c.new-made.ensures.items c.new-tasks.ensures.items (c.in_ok-push_part.ensures ∙ ap (λ p. visit (p, 0) ∷ reverse c.new-tasks.result.items) c.place_of.ensures.is)
+      closing = closing_begins (form_parts_at first) (IsGoodForm first (env, c.args.form.0)) (c.args.form.0, 0) (λ q (x : FormAt). IsFormImage first env q x.0)
+          c.new-made.result.items c.new-tasks.result.items c.push_part.new.tasks.items
+          c.new-made.ensures.items c.new-tasks.ensures.items
+          (c.in_ok-push_part.ensures ∙ ap (λ p. visit (p, 0) ∷ reverse c.new-tasks.result.items) c.place_of.ensures.is)
           (record { inside = c.requires.inside; heads = c.requires.heads; level = omega arith });
     }
 
@@ -63,7 +66,8 @@ build_form-requires-clause-parts c =
     let e = c.in-Some.ensures.items in
     let g = closing_good (form_parts_at first) good root (λ q (x : FormAt). IsFormImage now env q x.0) c.loop-task.made.items items rest task e inv.closing in
     forms_end_now first now inv.keeps vs c.requires.values k c.loop-task.made.items g.inside
-    (closing_ready (form_parts_at first) good root (λ q (x : FormAt). IsFormImage now env q x.0) c.loop-task.made.items items rest task e inv.closing c.if-task.true)
+    (closing_ready (form_parts_at first) good root (λ q (x : FormAt). IsFormImage now env q x.0) c.loop-task.made.items items rest task e inv.closing
+    c.if-task.true)
 
 pub returns-in_err-remember-clause-keeps : goal.returns-in_err-remember-clause-keeps
 returns-in_err-remember-clause-keeps c =
@@ -96,14 +100,18 @@ loop-task-preserved-in-Continue-branch-4 c =
       terms = images_then first now inv.keeps vs c.requires.values next (get same_spot c.build_form.new.terms.places) c.in_ok-image.ensures.terms;
       forms = images_add (IsFormImage next env) (get same_spot c.loop-task.forms.places) (get same_spot c.remember.new.self.places) k c.in_ok-image.image.0
           (form_images_extend now next more env (get same_spot c.loop-task.forms.places) inv.forms) here c.in_ok-remember.ensures;
-      closing = closing_builds (form_parts_at first) good root (λ q (x : FormAt). IsFormImage now env q x.0) c.loop-task.made.items items rest task e inv.closing
-          (λ q (x : FormAt). IsFormImage next env q x.0) (λ q x. form_image_extends now next more env q x.0) c.in_ok-image.image here c.push.new.self.items c.build_form.new.made.items c.if-task.true
-          (c.in_ok-image.ensures.made ∙ ap (λ ps. take (length c.loop-task.made.items - length ps) c.loop-task.made.items) (form_parts_same first now inv.keeps k g.inside)) c.in_ok-push.ensures.items;
+      closing = closing_builds (form_parts_at first) good root (λ q (x : FormAt). IsFormImage now env q x.0) c.loop-task.made.items items rest task e
+          inv.closing
+          (λ q (x : FormAt). IsFormImage next env q x.0) (λ q x. form_image_extends now next more env q x.0) c.in_ok-image.image here c.push.new.self.items
+          c.build_form.new.made.items c.if-task.true
+          (c.in_ok-image.ensures.made ∙ ap (λ ps. take (length c.loop-task.made.items - length ps) c.loop-task.made.items)
+          (form_parts_same first now inv.keeps k g.inside)) c.in_ok-push.ensures.items;
     }
 
 pub loop-task-smaller-in-Continue-branch-5 : goal.loop-task-smaller-in-Continue-branch-5
 loop-task-smaller-in-Continue-branch-5 c =
-    work_pops (form_size_at c.args.bank.now) c.loop-task.tasks.items c.pop.new.self.items c.in-Some.task c.in-Some.ensures.items (form_size-some (form_tree c.args.bank.now c.in-Some.task.place))
+    work_pops (form_size_at c.args.bank.now) c.loop-task.tasks.items c.pop.new.self.items c.in-Some.task c.in-Some.ensures.items
+    (form_size-some (form_tree c.args.bank.now c.in-Some.task.place))
 
 pub loop-task-preserved-in-Continue-branch-5 : goal.loop-task-preserved-in-Continue-branch-5
 loop-task-preserved-in-Continue-branch-5 c =
@@ -125,7 +133,8 @@ loop-task-preserved-in-Continue-branch-5 c =
       terms = inv.terms;
       forms = inv.forms;
       closing = closing_found (form_parts_at first) good root (λ q (x : FormAt). IsFormImage now env q x.0) c.loop-task.made.items items rest task e inv.closing
-          (λ q (x : FormAt). IsFormImage now env q x.0) (λ q x h. h) (record { 0 = c.in-Some-find.image }) (inv.forms k c.in-Some-find.image c.in-Some-find.ensures) c.push-in-Some-find.new.self.items c.if-task.false c.in_ok-push-2.ensures.items;
+          (λ q (x : FormAt). IsFormImage now env q x.0) (λ q x h. h) (record { 0 = c.in-Some-find.image })
+          (inv.forms k c.in-Some-find.image c.in-Some-find.ensures) c.push-in-Some-find.new.self.items c.if-task.false c.in_ok-push-2.ensures.items;
     }
 
 pub loop-task-smaller : goal.loop-task-smaller
@@ -168,7 +177,8 @@ loop-task-preserved c =
       keeps = inv.keeps;
       terms = inv.terms;
       forms = inv.forms;
-      closing = closing_expands (form_parts_at first) good root (λ q (x : FormAt). IsFormImage now env q x.0) c.loop-task.made.items items rest task e inv.closing c.push_form.new.tasks.items c.if-task.false pushed (parts.still_good (env, c.args.form.0));
+      closing = closing_expands (form_parts_at first) good root (λ q (x : FormAt). IsFormImage now env q x.0) c.loop-task.made.items items rest task e
+          inv.closing c.push_form.new.tasks.items c.if-task.false pushed (parts.still_good (env, c.args.form.0));
     }
 
 pub returns-clause-shows : goal.returns-clause-shows
@@ -177,8 +187,10 @@ returns-clause-shows c =
     let now = c.loop-task.bank in
     let env = env_of first c.args.values.now in
     let inv = c.loop-task.invariant in
-    form_left first now inv.keeps c.args.values.now c.requires.values (c.args.form.0, 0) c.loop-task.made.items c.index.result.now c.index.ensures c.requires.inside
-    (closing_ends (form_parts_at first) (IsGoodForm first (env, c.args.form.0)) (c.args.form.0, 0) (λ q (x : FormAt). IsFormImage now env q x.0) c.loop-task.made.items c.loop-task.tasks.items (let h = c.in_default.ensures.cases.0 in search rules) inv.closing)
+    form_left first now inv.keeps c.args.values.now c.requires.values (c.args.form.0, 0) c.loop-task.made.items c.index.result.now c.index.ensures
+    c.requires.inside
+    (closing_ends (form_parts_at first) (IsGoodForm first (env, c.args.form.0)) (c.args.form.0, 0) (λ q (x : FormAt). IsFormImage now env q x.0)
+    c.loop-task.made.items c.loop-task.tasks.items (let h = c.in_default.ensures.cases.0 in search rules) inv.closing)
 
 pub build_form-requires-clause-terms : goal.build_form-requires-clause-terms
 build_form-requires-clause-terms c =
@@ -279,7 +291,8 @@ returns-in_err-push-3-clause-keeps c =
 
 pub loop-task-smaller-in-Continue-branch-7 : goal.loop-task-smaller-in-Continue-branch-7
 loop-task-smaller-in-Continue-branch-7 c =
-    work_pops (form_size_at c.args.bank.now) c.loop-task.tasks.items c.pop.new.self.items c.in-Some.task c.in-Some.ensures.items (form_size-some (form_tree c.args.bank.now c.in-Some.task.place))
+    work_pops (form_size_at c.args.bank.now) c.loop-task.tasks.items c.pop.new.self.items c.in-Some.task c.in-Some.ensures.items
+    (form_size-some (form_tree c.args.bank.now c.in-Some.task.place))
 
 pub loop-task-preserved-in-Continue-branch-7 : goal.loop-task-preserved-in-Continue-branch-7
 loop-task-preserved-in-Continue-branch-7 c =
@@ -302,9 +315,11 @@ loop-task-preserved-in-Continue-branch-7 c =
     let same = c.in_ok-image-2.ensures.made ∙ sym (take_none c.loop-task.made.items (form_parts_at now k) (c.is_single.ensures c.if-is_single.true)) in
     record {
       keeps = Extends-trans inv.keeps more;
-      terms = images_then first now inv.keeps vs c.requires.values next (get same_spot c.build_form-then-is_single.new.terms.places) c.in_ok-image-2.ensures.terms;
+      terms = images_then first now inv.keeps vs c.requires.values next (get same_spot c.build_form-then-is_single.new.terms.places)
+          c.in_ok-image-2.ensures.terms;
       forms = form_images_extend now next more env (get same_spot c.loop-task.forms.places) inv.forms;
       closing = closing_found (form_parts_at first) good root (λ q (x : FormAt). IsFormImage now env q x.0) c.loop-task.made.items items rest task e inv.closing
-          (λ q (x : FormAt). IsFormImage next env q x.0) (λ q x. form_image_extends now next more env q x.0) c.in_ok-image-2.image here c.push-then-is_single.new.self.items c.if-task.false
+          (λ q (x : FormAt). IsFormImage next env q x.0) (λ q x. form_image_extends now next more env q x.0) c.in_ok-image-2.image here
+          c.push-then-is_single.new.self.items c.if-task.false
           (c.in_ok-push-3.ensures.items ∙ ap (λ z. z ++ c.in_ok-image-2.image ∷ []) same);
     }

@@ -12,7 +12,8 @@ invariant-loop-task l = record {
   keeps : Extends l.fn.bank l.bank;
   terms : AreImages (IsTermImage l.bank (env_of l.fn.bank l.values)) (get same_spot l.terms.places);
   forms : AreImages (IsFormImage l.bank (env_of l.fn.bank l.values)) (get same_spot l.forms.places);
-  closing : IsClosing (λ k (x : FormAt). IsFormImage l.bank (env_of l.fn.bank l.values) k x.0) (form_parts_at l.fn.bank) (IsGoodForm l.fn.bank (env_of l.fn.bank l.values, l.fn.form.0)) (l.fn.form.0, 0) l.made.items l.tasks.items;
+  closing : IsClosing (λ k (x : FormAt). IsFormImage l.bank (env_of l.fn.bank l.values) k x.0) (form_parts_at l.fn.bank)
+      (IsGoodForm l.fn.bank (env_of l.fn.bank l.values, l.fn.form.0)) (l.fn.form.0, 0) l.made.items l.tasks.items;
 }
 
 abbrev pub decreases-loop-task : goal.decreases-loop-task

@@ -7,7 +7,11 @@ use Rattle.ll_close.proofs.form.close_form.Goals as goal
 
 pub returns-then-is_empty-clause-shows : goal.returns-then-is_empty-clause-shows
 returns-then-is_empty-clause-shows c =
-    record { inside = c.requires.inside; tree = sym (form_empty c.args.bank.now c.args.values.now (form_tree c.args.bank.now c.args.form.0) (eqb-true (length c.args.values.now) 0 (sym c.is_empty.ensures ∙ c.if-is_empty.true))) }
+    record {
+      inside = c.requires.inside;
+      tree = sym (form_empty c.args.bank.now c.args.values.now (form_tree c.args.bank.now c.args.form.0)
+          (eqb-true (length c.args.values.now) 0 (sym c.is_empty.ensures ∙ c.if-is_empty.true)));
+    }
 
 pub returns-then-is_empty-clause-keeps : goal.returns-then-is_empty-clause-keeps
 returns-then-is_empty-clause-keeps c =

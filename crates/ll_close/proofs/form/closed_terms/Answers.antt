@@ -8,7 +8,13 @@ use Rattle.ll_close.proofs.form.closed_terms.Goals as goal
 
 pub loop-arg-init : goal.loop-arg-init
 loop-arg-init c =
-    record { keeps = Extends-refl c.args.bank.now; places = rw c.new-made.ensures.items (λ j d l. absurd (omega arith)); shows = rw c.new-made.ensures.items refl; images = c.requires.terms }
+    record {
+      keeps = Extends-refl c.args.bank.now;
+      places = rw c.new-made.ensures.items (λ j d l. absurd (omega arith));
+      shows =
+          rw c.new-made.ensures.items refl;
+      images = c.requires.terms;
+    }
 
 pub closed_term-requires-clause-inside : goal.closed_term-requires-clause-inside
 closed_term-requires-clause-inside c =
@@ -74,7 +80,8 @@ loop-arg-preserved c =
     let h = c.requires.inside i none (omega arith) in
     let next = c.closed_term.new.bank in
     let shown = term_shown first now inv.keeps vs c.requires.values (a.0, c.args.level) next c.in_ok-image.image.0 h c.in_ok-image.ensures.shows in
-    let more = terms_more first now next c.closed_term.ensures.keeps (env_of first vs) c.args.level c.args.args.now c.loop-arg.made.items c.push.new.self.items i none c.in_ok-image.image (omega arith) inv.places inv.shows shown c.in_ok-push.ensures.items in
+    let more = terms_more first now next c.closed_term.ensures.keeps (env_of first vs) c.args.level c.args.args.now c.loop-arg.made.items c.push.new.self.items
+    i none c.in_ok-image.image (omega arith) inv.places inv.shows shown c.in_ok-push.ensures.items in
     record {
       keeps = Extends-trans inv.keeps c.closed_term.ensures.keeps;
       places = more.0;

@@ -27,11 +27,13 @@ returns-clause-right c =
     let first = c.args.bank.now in
     let now = c.closed_term.new.bank in
     let vs = c.args.values.now in
-    term_shown first now c.closed_term.ensures.keeps vs c.requires.values (c.args.right.0, c.args.level) c.closed_term-2.new.bank c.in_ok-second.second.0 c.requires.right c.in_ok-second.ensures.shows
+    term_shown first now c.closed_term.ensures.keeps vs c.requires.values (c.args.right.0, c.args.level) c.closed_term-2.new.bank c.in_ok-second.second.0
+    c.requires.right c.in_ok-second.ensures.shows
 
 pub returns-clause-terms : goal.returns-clause-terms
 returns-clause-terms c =
     let first = c.args.bank.now in
     let now = c.closed_term.new.bank in
     let vs = c.args.values.now in
-    images_then first now c.closed_term.ensures.keeps vs c.requires.values c.closed_term-2.new.bank (get same_spot c.closed_term-2.new.images.places) c.in_ok-second.ensures.images
+    images_then first now c.closed_term.ensures.keeps vs c.requires.values c.closed_term-2.new.bank (get same_spot c.closed_term-2.new.images.places)
+    c.in_ok-second.ensures.images

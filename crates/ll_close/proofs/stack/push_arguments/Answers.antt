@@ -5,5 +5,6 @@ use Rattle.ll_close.proofs.stack.push_arguments.Goals as goal
 pub loop-left-preserved : goal.loop-left-preserved
 loop-left-preserved c = record {
   among = omega arith;
-  pushed = args_more c.args.level c.loop-left.left (c.loop-left.left - 1) c.args.args.now (record { 0 = 0 }) c.args.tasks.now.items c.loop-left.tasks.items c.push_part.new.tasks.items (omega arith) (omega arith) c.loop-left.invariant.pushed c.in_ok-push_part.ensures;
+  pushed = args_more c.args.level c.loop-left.left (c.loop-left.left - 1) c.args.args.now (record { 0 = 0 }) c.args.tasks.now.items c.loop-left.tasks.items
+      c.push_part.new.tasks.items (omega arith) (omega arith) c.loop-left.invariant.pushed c.in_ok-push_part.ensures;
 }

@@ -27,7 +27,8 @@ closed_head-requires-clause-places c =
     let n = args_count bank env c.args.task.place c.args.task.level c.in-App.head c.in-App.args.now c.in-App.ensures.node in
     let l = images_length (λ k x. IsTermImage bank env k x.0) (term_parts_at bank (c.args.task.place, c.args.task.level)) p.own p.images in
     let o = args_closed bank env c.args.task.place c.args.task.level c.in-App.head c.in-App.args.now c.in-App.ensures.node p.own p.images in
-    subst (AllInTerms bank) (sym (slice_own c.deref.result.now c.args.made.now.items p.below p.own _ (length c.in-App.args.now) c.deref.ensures.value p.is (l ∙ n) (search rules))) o.0
+    subst (AllInTerms bank) (sym (slice_own c.deref.result.now c.args.made.now.items p.below p.own _ (length c.in-App.args.now) c.deref.ensures.value p.is
+    (l ∙ n) (search rules))) o.0
 
 pub closed_head-requires-clause-heads : goal.closed_head-requires-clause-heads
 closed_head-requires-clause-heads c =
@@ -38,18 +39,23 @@ closed_head-requires-clause-heads c =
     let l = images_length (λ k x. IsTermImage bank env k x.0) (term_parts_at bank (c.args.task.place, c.args.task.level)) p.own p.images in
     let o = args_closed bank env c.args.task.place c.args.task.level c.in-App.head c.in-App.args.now c.in-App.ensures.node p.own p.images in
     let s = slice_own c.deref.result.now c.args.made.now.items p.below p.own _ (length c.in-App.args.now) c.deref.ensures.value p.is (l ∙ n) (search rules) in
-    sym (ap applies_heads (opened_app (under env c.args.task.level) (term_tree bank c.args.task.place) c.in-App.head (term_trees bank c.in-App.args.now) _ c.in-App.ensures.shown.0 (ap (term_trees bank) s ∙ o.1))) ∙ c.requires.heads
+    sym (ap applies_heads (opened_app (under env c.args.task.level) (term_tree bank c.args.task.place) c.in-App.head (term_trees bank c.in-App.args.now) _
+    c.in-App.ensures.shown.0 (ap (term_trees bank) s ∙ o.1))) ∙ c.requires.heads
 
 pub returns-in-Var-clause-made : goal.returns-in-Var-clause-made
 returns-in-Var-clause-made c =
-    take_none c.args.made.now.items (term_parts_at c.args.bank.now (c.args.task.place, c.args.task.level)) (ap (λ node. term_parts node c.args.task.level) (node_seen c.args.bank.now c.args.task.place (node_of_term (VarView c.in-Var.field-0)) c.in-Var.ensures.node))
+    take_none c.args.made.now.items (term_parts_at c.args.bank.now (c.args.task.place, c.args.task.level))
+    (ap (λ node. term_parts node c.args.task.level) (node_seen c.args.bank.now c.args.task.place (node_of_term (VarView c.in-Var.field-0))
+    c.in-Var.ensures.node))
 
 pub returns-in-Var-clause-keeps : goal.returns-in-Var-clause-keeps
 returns-in-Var-clause-keeps c = Extends-refl c.args.bank.now
 
 pub returns-in-Int-clause-made : goal.returns-in-Int-clause-made
 returns-in-Int-clause-made c =
-    take_none c.args.made.now.items (term_parts_at c.args.bank.now (c.args.task.place, c.args.task.level)) (ap (λ node. term_parts node c.args.task.level) (node_seen c.args.bank.now c.args.task.place (node_of_term (IntView c.in-Int.field-0)) c.in-Int.ensures.node))
+    take_none c.args.made.now.items (term_parts_at c.args.bank.now (c.args.task.place, c.args.task.level))
+    (ap (λ node. term_parts node c.args.task.level) (node_seen c.args.bank.now c.args.task.place (node_of_term (IntView c.in-Int.field-0))
+    c.in-Int.ensures.node))
 
 pub returns-in-Int-clause-keeps : goal.returns-in-Int-clause-keeps
 returns-in-Int-clause-keeps c = Extends-refl c.args.bank.now
@@ -63,10 +69,13 @@ returns-in_ok-image-in-App-clause-shows c =
     let l = images_length (λ k x. IsTermImage bank env k x.0) (term_parts_at bank (c.args.task.place, c.args.task.level)) p.own p.images in
     let o = args_closed bank env c.args.task.place c.args.task.level c.in-App.head c.in-App.args.now c.in-App.ensures.node p.own p.images in
     let s = slice_own c.deref.result.now c.args.made.now.items p.below p.own _ (length c.in-App.args.now) c.deref.ensures.value p.is (l ∙ n) (search rules) in
-    subst (λ t. ShowsTerm c.closed_head.new.bank c.in_ok-image-in-App.image.0 t) (sym (opened_app (under env c.args.task.level) (term_tree bank c.args.task.place) c.in-App.head (term_trees bank c.in-App.args.now) _ c.in-App.ensures.shown.0 (ap (term_trees bank) s ∙ o.1))) c.in_ok-image-in-App.ensures.shows
+    subst (λ t. ShowsTerm c.closed_head.new.bank c.in_ok-image-in-App.image.0 t)
+    (sym (opened_app (under env c.args.task.level) (term_tree bank c.args.task.place) c.in-App.head (term_trees bank c.in-App.args.now) _
+    c.in-App.ensures.shown.0 (ap (term_trees bank) s ∙ o.1))) c.in_ok-image-in-App.ensures.shows
 
 pub returns-in_ok-image-in-App-clause-made : goal.returns-in_ok-image-in-App-clause-made
 returns-in_ok-image-in-App-clause-made c =
-    let n = args_count c.args.bank.now (env_of c.args.bank.now c.args.values.now) c.args.task.place c.args.task.level c.in-App.head c.in-App.args.now c.in-App.ensures.node in
+    let n = args_count c.args.bank.now (env_of c.args.bank.now c.args.values.now) c.args.task.place c.args.task.level c.in-App.head c.in-App.args.now
+    c.in-App.ensures.node in
     let q : c.len.result - length c.in-App.args.now ≡ length c.args.made.now.items - length c.in-App.args.now = search rules in
     c.truncate.ensures.items ∙ ap (λ m. take m c.args.made.now.items) (q ∙ ap (λ m. length c.args.made.now.items - m) (sym n))

@@ -7,7 +7,11 @@ use Rattle.ll_close.proofs.term.close_term.Goals as goal
 
 pub returns-then-is_empty-clause-shows : goal.returns-then-is_empty-clause-shows
 returns-then-is_empty-clause-shows c =
-    record { inside = c.requires.inside; tree = sym (close_empty c.args.bank.now c.args.values.now (term_tree c.args.bank.now c.args.at.0) (eqb-true (length c.args.values.now) 0 (sym c.is_empty.ensures ∙ c.if-is_empty.true))) }
+    record {
+      inside = c.requires.inside;
+      tree = sym (close_empty c.args.bank.now c.args.values.now (term_tree c.args.bank.now c.args.at.0)
+          (eqb-true (length c.args.values.now) 0 (sym c.is_empty.ensures ∙ c.if-is_empty.true)));
+    }
 
 pub returns-then-is_empty-clause-keeps : goal.returns-then-is_empty-clause-keeps
 returns-then-is_empty-clause-keeps c =

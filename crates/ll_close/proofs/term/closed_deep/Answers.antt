@@ -8,7 +8,8 @@ use Rattle.ll_bank.proofs.CallerLemmas.{Extends-refl, Extends-trans, term_parts_
 use Rattle.ll_close.specs.Closing.{env_of, same_spot, IsTermImage, IsGoodTerm}
 use Rattle.ll_close.specs.Stacks.{visit, ready}
 use Rattle.ll_close.proofs.Known.{images_add, term_image_extends, term_images_extend}
-use Rattle.ll_close.proofs.Stacks.{closing_begins, closing_good, closing_ready, closing_builds, closing_found, closing_expands, closing_ends, take_none, work_pops, work_expands}
+use Rattle.ll_close.proofs.Stacks.{closing_begins, closing_good, closing_ready, closing_builds, closing_found, closing_expands, closing_ends, take_none}
+use Rattle.ll_close.proofs.Stacks.{work_pops, work_expands}
 use Rattle.ll_close.proofs.Parts.{term_parts_first}
 use Rattle.ll_close.proofs.Steps.{term_heads_now, terms_end_now, term_image_made, term_left}
 use Rattle.ll_close.proofs.term.closed_deep.Goals as goal
@@ -24,7 +25,8 @@ loop-task-init c =
     record {
       keeps = Extends-refl first;
       images = c.requires.images;
-      closing = closing_begins (term_parts_at first) (IsGoodTerm first env) (c.args.at.0, c.args.level) (λ q (x : At). IsTermImage first env q x.0) c.new-made.result.items c.new-tasks.result.items c.push_part.new.tasks.items
+      closing = closing_begins (term_parts_at first) (IsGoodTerm first env) (c.args.at.0, c.args.level) (λ q (x : At). IsTermImage first env q x.0)
+          c.new-made.result.items c.new-tasks.result.items c.push_part.new.tasks.items
           c.new-made.ensures.items c.new-tasks.ensures.items c.in_ok-push_part.ensures (c.requires.inside, c.requires.heads);
     }
 
@@ -61,7 +63,8 @@ build_term-requires-clause-parts c =
     let e = c.in-Some.ensures.items in
     let g = closing_good (term_parts_at first) good root (λ q (x : At). IsTermImage now env q x.0) c.loop-task.made.items items rest task e inv.closing in
     terms_end_now first now inv.keeps vs c.requires.values k c.loop-task.made.items g.0
-    (closing_ready (term_parts_at first) good root (λ q (x : At). IsTermImage now env q x.0) c.loop-task.made.items items rest task e inv.closing c.if-task.true)
+    (closing_ready (term_parts_at first) good root (λ q (x : At). IsTermImage now env q x.0) c.loop-task.made.items items rest task e inv.closing
+    c.if-task.true)
 
 pub returns-in_err-remember-clause-keeps : goal.returns-in_err-remember-clause-keeps
 returns-in_err-remember-clause-keeps c =
@@ -94,13 +97,16 @@ loop-task-preserved-in-Continue-branch-4 c =
       images = images_add (IsTermImage next env) (get same_spot c.loop-task.images.places) (get same_spot c.remember.new.self.places) k c.in_ok-image.image.0
           (term_images_extend now next more env (get same_spot c.loop-task.images.places) inv.images) here c.in_ok-remember.ensures;
       closing = closing_builds (term_parts_at first) good root (λ q (x : At). IsTermImage now env q x.0) c.loop-task.made.items items rest task e inv.closing
-          (λ q (x : At). IsTermImage next env q x.0) (λ q x. term_image_extends now next more env q x.0) c.in_ok-image.image here c.push.new.self.items c.build_term.new.made.items c.if-task.true
-          (c.in_ok-image.ensures.made ∙ ap (λ ps. take (length c.loop-task.made.items - length ps) c.loop-task.made.items) (term_parts_same first now inv.keeps k g.0)) c.in_ok-push.ensures.items;
+          (λ q (x : At). IsTermImage next env q x.0) (λ q x. term_image_extends now next more env q x.0) c.in_ok-image.image here c.push.new.self.items
+          c.build_term.new.made.items c.if-task.true
+          (c.in_ok-image.ensures.made ∙ ap (λ ps. take (length c.loop-task.made.items - length ps) c.loop-task.made.items)
+          (term_parts_same first now inv.keeps k g.0)) c.in_ok-push.ensures.items;
     }
 
 pub loop-task-smaller-in-Continue-branch-5 : goal.loop-task-smaller-in-Continue-branch-5
 loop-task-smaller-in-Continue-branch-5 c =
-    work_pops (term_size_at c.args.bank.now) c.loop-task.tasks.items c.pop.new.self.items c.in-Some.task c.in-Some.ensures.items (term_size-some (term_tree c.args.bank.now c.in-Some.task.place))
+    work_pops (term_size_at c.args.bank.now) c.loop-task.tasks.items c.pop.new.self.items c.in-Some.task c.in-Some.ensures.items
+    (term_size-some (term_tree c.args.bank.now c.in-Some.task.place))
 
 pub loop-task-preserved-in-Continue-branch-5 : goal.loop-task-preserved-in-Continue-branch-5
 loop-task-preserved-in-Continue-branch-5 c =
@@ -121,7 +127,8 @@ loop-task-preserved-in-Continue-branch-5 c =
       keeps = inv.keeps;
       images = inv.images;
       closing = closing_found (term_parts_at first) good root (λ q (x : At). IsTermImage now env q x.0) c.loop-task.made.items items rest task e inv.closing
-          (λ q (x : At). IsTermImage now env q x.0) (λ q x h. h) (record { 0 = c.in-Some-find.image }) (inv.images k c.in-Some-find.image c.in-Some-find.ensures) c.push-in-Some-find.new.self.items c.if-task.false c.in_ok-push-2.ensures.items;
+          (λ q (x : At). IsTermImage now env q x.0) (λ q x h. h) (record { 0 = c.in-Some-find.image })
+          (inv.images k c.in-Some-find.image c.in-Some-find.ensures) c.push-in-Some-find.new.self.items c.if-task.false c.in_ok-push-2.ensures.items;
     }
 
 pub loop-task-smaller : goal.loop-task-smaller
@@ -163,7 +170,8 @@ loop-task-preserved c =
     record {
       keeps = inv.keeps;
       images = inv.images;
-      closing = closing_expands (term_parts_at first) good root (λ q (x : At). IsTermImage now env q x.0) c.loop-task.made.items items rest task e inv.closing c.push_term.new.tasks.items c.if-task.false pushed (parts.still_good env);
+      closing = closing_expands (term_parts_at first) good root (λ q (x : At). IsTermImage now env q x.0) c.loop-task.made.items items rest task e inv.closing
+          c.push_term.new.tasks.items c.if-task.false pushed (parts.still_good env);
     }
 
 pub returns-clause-shows : goal.returns-clause-shows
@@ -172,8 +180,10 @@ returns-clause-shows c =
     let now = c.loop-task.bank in
     let env = env_of first c.args.values.now in
     let inv = c.loop-task.invariant in
-    term_left first now inv.keeps c.args.values.now c.requires.values (c.args.at.0, c.args.level) c.loop-task.made.items c.index.result.now c.index.ensures c.requires.inside
-    (closing_ends (term_parts_at first) (IsGoodTerm first env) (c.args.at.0, c.args.level) (λ q (x : At). IsTermImage now env q x.0) c.loop-task.made.items c.loop-task.tasks.items (let h = c.in_default.ensures.cases.0 in search rules) inv.closing)
+    term_left first now inv.keeps c.args.values.now c.requires.values (c.args.at.0, c.args.level) c.loop-task.made.items c.index.result.now c.index.ensures
+    c.requires.inside
+    (closing_ends (term_parts_at first) (IsGoodTerm first env) (c.args.at.0, c.args.level) (λ q (x : At). IsTermImage now env q x.0) c.loop-task.made.items
+    c.loop-task.tasks.items (let h = c.in_default.ensures.cases.0 in search rules) inv.closing)
 
 pub build_term-requires-then-is_leaf-clause-heads : goal.build_term-requires-then-is_leaf-clause-heads
 build_term-requires-then-is_leaf-clause-heads c =
@@ -202,7 +212,8 @@ returns-in_err-push-3-clause-keeps c =
 
 pub loop-task-smaller-in-Continue-branch-7 : goal.loop-task-smaller-in-Continue-branch-7
 loop-task-smaller-in-Continue-branch-7 c =
-    work_pops (term_size_at c.args.bank.now) c.loop-task.tasks.items c.pop.new.self.items c.in-Some.task c.in-Some.ensures.items (term_size-some (term_tree c.args.bank.now c.in-Some.task.place))
+    work_pops (term_size_at c.args.bank.now) c.loop-task.tasks.items c.pop.new.self.items c.in-Some.task c.in-Some.ensures.items
+    (term_size-some (term_tree c.args.bank.now c.in-Some.task.place))
 
 pub loop-task-preserved-in-Continue-branch-7 : goal.loop-task-preserved-in-Continue-branch-7
 loop-task-preserved-in-Continue-branch-7 c =
@@ -227,6 +238,7 @@ loop-task-preserved-in-Continue-branch-7 c =
       keeps = Extends-trans inv.keeps more;
       images = term_images_extend now next more env (get same_spot c.loop-task.images.places) inv.images;
       closing = closing_found (term_parts_at first) good root (λ q (x : At). IsTermImage now env q x.0) c.loop-task.made.items items rest task e inv.closing
-          (λ q (x : At). IsTermImage next env q x.0) (λ q x. term_image_extends now next more env q x.0) c.in_ok-image-2.image here c.push-then-is_leaf.new.self.items c.if-task.false
+          (λ q (x : At). IsTermImage next env q x.0) (λ q x. term_image_extends now next more env q x.0) c.in_ok-image-2.image here
+          c.push-then-is_leaf.new.self.items c.if-task.false
           (c.in_ok-push-3.ensures.items ∙ ap (λ z. z ++ c.in_ok-image-2.image ∷ []) same);
     }

@@ -11,7 +11,8 @@ abbrev pub invariant-loop-task : goal.invariant-loop-task
 invariant-loop-task l = record {
   keeps : Extends l.fn.bank l.bank;
   images : AreImages (IsTermImage l.bank (env_of l.fn.bank l.values)) (get same_spot l.images.places);
-  closing : IsClosing (λ k (x : At). IsTermImage l.bank (env_of l.fn.bank l.values) k x.0) (term_parts_at l.fn.bank) (IsGoodTerm l.fn.bank (env_of l.fn.bank l.values)) (l.fn.at.0, l.fn.level) l.made.items l.tasks.items;
+  closing : IsClosing (λ k (x : At). IsTermImage l.bank (env_of l.fn.bank l.values) k x.0) (term_parts_at l.fn.bank)
+      (IsGoodTerm l.fn.bank (env_of l.fn.bank l.values)) (l.fn.at.0, l.fn.level) l.made.items l.tasks.items;
 }
 
 abbrev pub decreases-loop-task : goal.decreases-loop-task

@@ -17,14 +17,17 @@ returns-in-Int-clause-keeps c = Extends-refl c.args.bank.now
 pub closed_head-requires-clause-heads : goal.closed_head-requires-clause-heads
 closed_head-requires-clause-heads c =
     let bank = c.args.bank.now in
-    sym (ap applies_heads (opened_app (under (env_of bank c.args.values.now) c.args.level) (term_tree bank c.args.at.0) c.in-App.head (term_trees bank c.in-App.args.now) _ c.in-App.ensures.shown.0 (c.all_at_hand.ensures.shows c.if-all_at_hand.true))) ∙ c.requires.heads
+    sym (ap applies_heads (opened_app (under (env_of bank c.args.values.now) c.args.level) (term_tree bank c.args.at.0) c.in-App.head
+    (term_trees bank c.in-App.args.now) _ c.in-App.ensures.shown.0 (c.all_at_hand.ensures.shows c.if-all_at_hand.true))) ∙ c.requires.heads
 
 pub returns-then-all_at_hand-clause-shows : goal.returns-then-all_at_hand-clause-shows
 returns-then-all_at_hand-clause-shows c =
     let bank = c.args.bank.now in
-    let same = opened_app (under (env_of bank c.args.values.now) c.args.level) (term_tree bank c.args.at.0) c.in-App.head (term_trees bank c.in-App.args.now) _ c.in-App.ensures.shown.0 (c.all_at_hand.ensures.shows c.if-all_at_hand.true) in
+    let same = opened_app (under (env_of bank c.args.values.now) c.args.level) (term_tree bank c.args.at.0) c.in-App.head (term_trees bank c.in-App.args.now) _
+    c.in-App.ensures.shown.0 (c.all_at_hand.ensures.shows c.if-all_at_hand.true) in
     IfOk-weaker c.closed_head.result _ _ (λ a h. subst (ShowsTerm c.closed_head.new.bank a.0) (sym same) h) c.closed_head.ensures.shows
 
 pub returns-then-all_at_hand-clause-images : goal.returns-then-all_at_hand-clause-images
 returns-then-all_at_hand-clause-images c =
-    IfOk-weaker c.closed_head.result _ _ (λ a h. term_images_extend c.args.bank.now c.closed_head.new.bank c.closed_head.ensures.keeps (env_of c.args.bank.now c.args.values.now) (get same_spot c.args.images.now.places) c.requires.images) c.closed_head.ensures.shows
+    IfOk-weaker c.closed_head.result _ _ (λ a h. term_images_extend c.args.bank.now c.closed_head.new.bank c.closed_head.ensures.keeps
+    (env_of c.args.bank.now c.args.values.now) (get same_spot c.args.images.now.places) c.requires.images) c.closed_head.ensures.shows

@@ -5,4 +5,5 @@ use Rattle.ll_close.proofs.term.is_leaf.Goals as goal
 
 pub returns-in-App : goal.returns-in-App
 returns-in-App c = λ h.
-    no_arguments c.args.bank.now c.args.task.place c.args.task.level c.in-App.field-0 c.in-App.args.now c.in-App.ensures.node (eqb-true (length c.in-App.args.now) 0 (sym c.is_empty.ensures ∙ h))
+    no_arguments c.args.bank.now c.args.task.place c.args.task.level c.in-App.field-0 c.in-App.args.now c.in-App.ensures.node
+    (eqb-true (length c.in-App.args.now) 0 (sym c.is_empty.ensures ∙ h))

@@ -1,4 +1,5 @@
-use Rattle.ll_core.proofs.events.LawfulEvents.{keeps_sound, holds_kept, none_kept, share_later, claim_gives, publish_splits, report_closes, takes_alone, workers_kept}
+use Rattle.ll_core.proofs.events.LawfulEvents.{keeps_sound, holds_kept, none_kept, share_later, claim_gives, publish_splits, report_closes, takes_alone}
+use Rattle.ll_core.proofs.events.LawfulEvents.{workers_kept}
 use Rattle.ll_core.proofs.runs.LaterPools.{later_event}
 use Rattle.ll_core.proofs.laws.lawful_events.Goals as goal
 

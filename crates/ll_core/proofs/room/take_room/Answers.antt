@@ -6,11 +6,27 @@ use Rattle.ll_core.proofs.room.take_room.Goals as goal
 pub returns-in_err-reserve-3-clause-pieces : goal.returns-in_err-reserve-3-clause-pieces
 returns-in_err-reserve-3-clause-pieces g c =
     let old = c.index_mut.result.now in
-    slot_kept c.reserve-2.new.self.items c.args.at old _ (subst (λ l. c.args.at < length l) (sym c.reserve-2.ensures.items) c.requires.at) c.index_mut.ensures.value (λ i. record { batch = old.batch; k = old.k; worker = old.worker; published = c.reserve-3.ensures.items i; status = status_in old.state })
+    slot_kept c.reserve-2.new.self.items c.args.at old _ (subst (λ l. c.args.at < length l) (sym c.reserve-2.ensures.items) c.requires.at)
+    c.index_mut.ensures.value (λ i. record {
+      batch = old.batch;
+      k = old.k;
+      worker = old.worker;
+      published = c.reserve-3.ensures.items i;
+      status =
+          status_in old.state;
+    })
     ∙ ap (map piece_in) c.reserve-2.ensures.items
 
 pub returns-clause-pieces : goal.returns-clause-pieces
 returns-clause-pieces g c =
     let old = c.index_mut.result.now in
-    slot_kept c.reserve-2.new.self.items c.args.at old _ (subst (λ l. c.args.at < length l) (sym c.reserve-2.ensures.items) c.requires.at) c.index_mut.ensures.value (λ i. record { batch = old.batch; k = old.k; worker = old.worker; published = c.reserve-3.ensures.items i; status = status_in old.state })
+    slot_kept c.reserve-2.new.self.items c.args.at old _ (subst (λ l. c.args.at < length l) (sym c.reserve-2.ensures.items) c.requires.at)
+    c.index_mut.ensures.value (λ i. record {
+      batch = old.batch;
+      k = old.k;
+      worker = old.worker;
+      published = c.reserve-3.ensures.items i;
+      status =
+          status_in old.state;
+    })
     ∙ ap (map piece_in) c.reserve-2.ensures.items

@@ -7,4 +7,5 @@ use Rattle.ll_bank.specs.Nodes.{places}
 use Rattle.ll_cover.proofs.closing.insert_all.Given as goal
 
 abbrev pub invariant-loop-place : goal.invariant-loop-place
-invariant-loop-place l = (at : ℕ) → contains nat_cmp l.waiting at ≡ (contains nat_cmp l.initial.waiting at || list_any (nat_eq at) (take l.place-index (places l.more)))
+invariant-loop-place l = (at : ℕ) → contains nat_cmp l.waiting at ≡ (contains nat_cmp l.initial.waiting at
+    || list_any (nat_eq at) (take l.place-index (places l.more)))

@@ -17,11 +17,13 @@ loop-place-init c =
 pub loop-place-smaller : goal.loop-place-smaller
 loop-place-smaller c =
     ceiling_falls c.loop-place.waiting.keys c.pop_last.new.self.keys c.insert_all.new.waiting.keys c.in-Some.place (places c.in-Some-parts.args.now)
-    c.in-Some.ensures.removal c.in-Some.ensures.all_below (λ at. c.in_ok-insert_all.ensures at) (below_places c.in-Some.place c.in-Some-parts.args.now c.in-Some-parts.ensures.lower)
+    c.in-Some.ensures.removal c.in-Some.ensures.all_below (λ at. c.in_ok-insert_all.ensures at)
+    (below_places c.in-Some.place c.in-Some-parts.args.now c.in-Some-parts.ensures.lower)
 
 pub loop-place-preserved : goal.loop-place-preserved
 loop-place-preserved c =
-    closing-on c.args.bank.now c.args.at.0 (contains nat_cmp c.loop-place.waiting) (contains nat_cmp c.pop_last.new.self) (contains nat_cmp c.insert_all.new.waiting) c.in-Some.place
+    closing-on c.args.bank.now c.args.at.0 (contains nat_cmp c.loop-place.waiting) (contains nat_cmp c.pop_last.new.self)
+    (contains nat_cmp c.insert_all.new.waiting) c.in-Some.place
     c.in-Some-parts.args.now c.loop-place.invariant c.in-Some.ensures.member
     (removed_other (contains nat_cmp c.loop-place.waiting) (contains nat_cmp c.pop_last.new.self) c.in-Some.place c.in-Some.ensures.updates.0)
     (removed_less (contains nat_cmp c.loop-place.waiting) (contains nat_cmp c.pop_last.new.self) c.in-Some.place c.in-Some.ensures.updates.0)

@@ -22,5 +22,7 @@ returns c =
     let all_terms : vec_len branch.terms ≡ length branch.terms.items = omega (arith, branch.terms.ok.0) in
     let count : c.min-asked.result ≡ min (length c.args.problem.now.asked) (length branch.terms.items) = omega arith in
     let steps : length c.args.branch.now.steps ≡ length c.args.derivation.now.nodes = let h = c.if-len.false in omega arith in
-    covered_by c.args.problem.now c.args.derivation.now c.args.branch.now branch.bank derivation.bank branch.terms.items derivation.asked.items c.min-asked.result
-    (ap (λ (a : Answered). a.terms) c.branch.view_is) (ap (λ (d : DerivationLines). d.asked) c.derivation.view_is) count steps c.instance.result (rw (c.deref.ensures.value, c.deref-2.ensures.value) at c.instance.ensures)
+    covered_by c.args.problem.now c.args.derivation.now c.args.branch.now branch.bank derivation.bank branch.terms.items derivation.asked.items
+    c.min-asked.result
+    (ap (λ (a : Answered). a.terms) c.branch.view_is) (ap (λ (d : DerivationLines). d.asked) c.derivation.view_is) count steps c.instance.result
+    (rw (c.deref.ensures.value, c.deref-2.ensures.value) at c.instance.ensures)

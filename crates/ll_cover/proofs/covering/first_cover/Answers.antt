@@ -19,7 +19,8 @@ returns-then-branch-clause-named c =
     let n : c.saturating_add-number.result ≡ cut_count (suc c.loop-branch.number) = omega arith in
     let is = (c.in_ok-covers-in-Event-Answer.ensures).0 c.if-branch.true in
     subst (NamesCover c.args.problem.now c.args.derivation.now) (sym n)
-    (passing_names c.args.problem.now c.args.derivation.now c.loop-branch.engine c.step.new.self c.loop-branch.number c.in-Event-Answer.branch c.loop-branch.invariant s is)
+    (passing_names c.args.problem.now c.args.derivation.now c.loop-branch.engine c.step.new.self c.loop-branch.number c.in-Event-Answer.branch
+    c.loop-branch.invariant s is)
 
 pub returns-then-branch-clause-first : goal.returns-then-branch-clause-first
 returns-then-branch-clause-first c =
@@ -27,18 +28,21 @@ returns-then-branch-clause-first c =
     let n : c.saturating_add-number.result ≡ cut_count (suc c.loop-branch.number) = omega arith in
     let is = (c.in_ok-covers-in-Event-Answer.ensures).0 c.if-branch.true in
     subst (NamesFirst c.args.problem.now c.args.derivation.now) (sym n)
-    (passing_first c.args.problem.now c.args.derivation.now c.loop-branch.engine c.step.new.self c.loop-branch.number c.in-Event-Answer.branch c.loop-branch.invariant s is)
+    (passing_first c.args.problem.now c.args.derivation.now c.loop-branch.engine c.step.new.self c.loop-branch.number c.in-Event-Answer.branch
+    c.loop-branch.invariant s is)
 
 pub loop-branch-preserved : goal.loop-branch-preserved
 loop-branch-preserved c =
     let s = rw (c.in-Event-Answer.is, c.in-Event-Answer.field-0-is) at c.in_ok-step.ensures.step in
     let n : c.saturating_add-number.result ≡ cut_count (suc c.loop-branch.number) = omega arith in
     subst (IsPassing c.args.problem.now c.args.derivation.now c.step.new.self.events) (sym n)
-    (passing_answer c.args.problem.now c.args.derivation.now c.loop-branch.engine c.step.new.self c.loop-branch.number c.in-Event-Answer.branch c.loop-branch.invariant s
+    (passing_answer c.args.problem.now c.args.derivation.now c.loop-branch.engine c.step.new.self c.loop-branch.number c.in-Event-Answer.branch
+    c.loop-branch.invariant s
     (λ is. let t = (c.in_ok-covers-in-Event-Answer.ensures).1 is in let f = c.if-branch.false in cc))
 
 pub unreachable-requires : goal.unreachable-requires
 unreachable-requires c =
     let s = rw c.in-Done.is at c.in_ok-step.ensures.step in
     let some = c.search_is_complete.ensures.numbered c.args.problem.now c.args.derivation.now c.requires.valid c.requires.shows c.requires.within in
-    passing_never_ends c.args.problem.now c.args.derivation.now c.loop-branch.engine c.step.new.self c.loop-branch.number some.0 c.loop-branch.invariant s some.1
+    passing_never_ends c.args.problem.now c.args.derivation.now c.loop-branch.engine c.step.new.self c.loop-branch.number some.0 c.loop-branch.invariant s
+    some.1

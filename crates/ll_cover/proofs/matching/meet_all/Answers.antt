@@ -10,12 +10,14 @@ returns-then-not-branch-clause-met c = let m = rw c.if-not-branch.true at c.in_o
     (get nat_cmp c.args.images.now) (get nat_cmp c.loop-i.images) (get nat_cmp c.meet.new.images) c.loop-i.invariant.adds m
 
 pub returns-then-not-branch-clause-below : goal.returns-then-not-branch-clause-below
-returns-then-not-branch-clause-below c = λ limit all old. c.in_ok-meet.ensures.below limit (all c.loop-i.i (record { 0 = 0 }) (omega arith)) (c.loop-i.invariant.below limit all old)
+returns-then-not-branch-clause-below c = λ limit all old. c.in_ok-meet.ensures.below limit (all c.loop-i.i (record { 0 = 0 }) (omega arith))
+    (c.loop-i.invariant.below limit all old)
 
 pub loop-i-preserved : goal.loop-i-preserved
 loop-i-preserved c = let m = rw c.if-not-branch.false at c.in_ok-meet.ensures.met in
     record {
-      adds = adds_more c.args.bank.now c.args.places.now c.args.others.now c.requires.pairs c.loop-i.i (record { 0 = 0 }) (omega arith) _ _ _ c.loop-i.invariant.adds m;
+      adds = adds_more c.args.bank.now c.args.places.now c.args.others.now c.requires.pairs c.loop-i.i (record { 0 = 0 }) (omega arith) _ _ _
+          c.loop-i.invariant.adds m;
       images = c.in_ok-meet.ensures.images;
       below = λ limit all old. c.in_ok-meet.ensures.below limit (all c.loop-i.i (record { 0 = 0 }) (omega arith)) (c.loop-i.invariant.below limit all old);
     }

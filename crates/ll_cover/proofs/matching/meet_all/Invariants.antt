@@ -8,7 +8,8 @@ use Rattle.ll_cover.proofs.matching.meet_all.Given as goal
 abbrev pub invariant-loop-i : goal.invariant-loop-i
 invariant-loop-i l =
     record {
-      adds : Adds l.bank (λ want. map (λ a. want a.0) (take l.i l.places) ≡ term_trees l.bank (take l.i l.others)) (get nat_cmp l.initial.images) (get nat_cmp l.images);
+      adds : Adds l.bank (λ want. map (λ a. want a.0) (take l.i l.places) ≡ term_trees l.bank (take l.i l.others)) (get nat_cmp l.initial.images)
+          (get nat_cmp l.images);
       images : HasPlaces l.bank (get nat_cmp l.images);
       below : (limit : ℕ) → AllBelow limit l.places → AreBelow limit (get nat_cmp l.initial.images) → AreBelow limit (get nat_cmp l.images);
     }

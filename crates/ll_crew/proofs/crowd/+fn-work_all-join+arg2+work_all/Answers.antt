@@ -11,7 +11,8 @@ pub returns-clause-each : goal.returns-clause-each
 returns-clause-each g t c =
     let front : EachWorked c.pop.new.self.items c.join-back.result.0.items = search rules in
     let last : Worked c.in-Some.seat c.join-back.result.1 = search rules in
-    let before : c.args.crowd.seats.items ≡ c.pop.new.self.items ++ c.in-Some.seat ∷ [] = c.pop.ensures.items ∙ ap (λ o. c.pop.new.self.items ++ option_to_list o) c.in-Some.is in
+    let before : c.args.crowd.seats.items ≡ c.pop.new.self.items ++ c.in-Some.seat ∷ [] =
+    c.pop.ensures.items ∙ ap (λ o. c.pop.new.self.items ++ option_to_list o) c.in-Some.is in
     let after : c.push_reserved.new.self.items ≡ c.join-back.result.0.items ++ c.join-back.result.1 ∷ [] = c.push_reserved.ensures.items in
     subst (λ l. EachWorked l c.push_reserved.new.self.items) (sym before)
     (subst (EachWorked (c.pop.new.self.items ++ c.in-Some.seat ∷ [])) (sym after)
@@ -19,10 +20,14 @@ returns-clause-each g t c =
 
 pub join-back-requires-after_bounds : goal.join-back-requires-after_bounds
 join-back-requires-after_bounds g t c κs within =
-    let before : c.args.crowd.seats.items ≡ c.pop.new.self.items ++ c.in-Some.seat ∷ [] = c.pop.ensures.items ∙ ap (λ o. c.pop.new.self.items ++ option_to_list o) c.in-Some.is in
-    let all : Every (CanWork c.args.crowd.pool.now c.args.crowd.problem.now) (c.pop.new.self.items ++ c.in-Some.seat ∷ []) = subst (Every (CanWork c.args.crowd.pool.now c.args.crowd.problem.now)) before c.requires in
-    let front : Every (CanWork c.args.crowd.pool.now c.args.crowd.problem.now) c.pop.new.self.items = every_front (CanWork c.args.crowd.pool.now c.args.crowd.problem.now) c.pop.new.self.items (c.in-Some.seat ∷ []) all in
-    let last : Every (CanWork c.args.crowd.pool.now c.args.crowd.problem.now) (c.in-Some.seat ∷ []) = every_back (CanWork c.args.crowd.pool.now c.args.crowd.problem.now) c.pop.new.self.items (c.in-Some.seat ∷ []) all in (
+    let before : c.args.crowd.seats.items ≡ c.pop.new.self.items ++ c.in-Some.seat ∷ [] =
+    c.pop.ensures.items ∙ ap (λ o. c.pop.new.self.items ++ option_to_list o) c.in-Some.is in
+    let all : Every (CanWork c.args.crowd.pool.now c.args.crowd.problem.now) (c.pop.new.self.items ++ c.in-Some.seat ∷ []) =
+    subst (Every (CanWork c.args.crowd.pool.now c.args.crowd.problem.now)) before c.requires in
+    let front : Every (CanWork c.args.crowd.pool.now c.args.crowd.problem.now) c.pop.new.self.items =
+    every_front (CanWork c.args.crowd.pool.now c.args.crowd.problem.now) c.pop.new.self.items (c.in-Some.seat ∷ []) all in
+    let last : Every (CanWork c.args.crowd.pool.now c.args.crowd.problem.now) (c.in-Some.seat ∷ []) =
+    every_back (CanWork c.args.crowd.pool.now c.args.crowd.problem.now) c.pop.new.self.items (c.in-Some.seat ∷ []) all in (
       (search rules, ((λ a m. m), ((λ a m. m), ((search rules, search rules, front), (search rules, search rules))))),
       ((search rules, last.0), (search rules, search rules)),
     )

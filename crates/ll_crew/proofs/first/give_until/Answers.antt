@@ -6,53 +6,68 @@ use Rattle.ll_crew.proofs.first.give_until.Goals as goal
 pub returns-in-Ok-clause-same_reference : goal.returns-in-Ok-clause-same_reference
 returns-in-Ok-clause-same_reference g c =
     same_lent (λ u. record { out = u.out.now; ended = u.ended; lent = u.out.ghost_name })
-    g.E.Outlet.takes g.E.Outlet.breaks g.E.Outlet.faults g.E.Enough.limit g.E.Enough.answers c.args.until.now c.crew_by.new.out (problem_events c.args.problem.now) c.in-Ok.ensures.given
+    g.E.Outlet.takes g.E.Outlet.breaks g.E.Outlet.faults g.E.Enough.limit g.E.Enough.answers c.args.until.now c.crew_by.new.out
+    (problem_events c.args.problem.now) c.in-Ok.ensures.given
 
 pub returns-in-Ok-clause-enough : goal.returns-in-Ok-clause-enough
 returns-in-Ok-clause-enough g c =
     let all = all_given (λ u. record { out = u.out.now; ended = u.ended; lent = u.out.ghost_name })
-    g.E.Outlet.takes g.E.Outlet.breaks g.E.Outlet.faults g.E.Enough.limit g.E.Enough.answers g.met.E.Enough.counts c.args.until.now (g.met.E.Enough.limited c.args.until.now.out.now) c.requires.none_yet c.requires.starts c.crew_by.new.out (problem_events c.args.problem.now) c.in-Ok.ensures.given in
+    g.E.Outlet.takes g.E.Outlet.breaks g.E.Outlet.faults g.E.Enough.limit g.E.Enough.answers g.met.E.Enough.counts c.args.until.now
+    (g.met.E.Enough.limited c.args.until.now.out.now) c.requires.none_yet c.requires.starts c.crew_by.new.out (problem_events c.args.problem.now)
+    c.in-Ok.ensures.given in
     not_enough c.in-Ok.counts _ _ all.1
 
 pub returns-in-Ok-clause-given : goal.returns-in-Ok-clause-given
 returns-in-Ok-clause-given g c =
     let all = all_given (λ u. record { out = u.out.now; ended = u.ended; lent = u.out.ghost_name })
-    g.E.Outlet.takes g.E.Outlet.breaks g.E.Outlet.faults g.E.Enough.limit g.E.Enough.answers g.met.E.Enough.counts c.args.until.now (g.met.E.Enough.limited c.args.until.now.out.now) c.requires.none_yet c.requires.starts c.crew_by.new.out (problem_events c.args.problem.now) c.in-Ok.ensures.given in
+    g.E.Outlet.takes g.E.Outlet.breaks g.E.Outlet.faults g.E.Enough.limit g.E.Enough.answers g.met.E.Enough.counts c.args.until.now
+    (g.met.E.Enough.limited c.args.until.now.out.now) c.requires.none_yet c.requires.starts c.crew_by.new.out (problem_events c.args.problem.now)
+    c.in-Ok.ensures.given in
     all.0
 
 pub returns-in-Ok-clause-faults_kept : goal.returns-in-Ok-clause-faults_kept
 returns-in-Ok-clause-faults_kept g c =
     faults_on (λ u. record { out = u.out.now; ended = u.ended; lent = u.out.ghost_name })
-    g.E.Outlet.takes g.E.Outlet.breaks g.E.Outlet.faults g.E.Enough.limit g.E.Enough.answers c.args.until.now c.crew_by.new.out (problem_events c.args.problem.now) c.in-Ok.ensures.given
+    g.E.Outlet.takes g.E.Outlet.breaks g.E.Outlet.faults g.E.Enough.limit g.E.Enough.answers c.args.until.now c.crew_by.new.out
+    (problem_events c.args.problem.now) c.in-Ok.ensures.given
 
 pub returns-in-Err-clause-same_reference : goal.returns-in-Err-clause-same_reference
 returns-in-Err-clause-same_reference g c =
     same_lent_prefix (λ u. record { out = u.out.now; ended = u.ended; lent = u.out.ghost_name })
-    g.E.Outlet.takes g.E.Outlet.breaks g.E.Outlet.faults g.E.Enough.limit g.E.Enough.answers c.args.until.now c.crew_by.new.out (problem_events c.args.problem.now) c.in-Err.ensures.refused
+    g.E.Outlet.takes g.E.Outlet.breaks g.E.Outlet.faults g.E.Enough.limit g.E.Enough.answers c.args.until.now c.crew_by.new.out
+    (problem_events c.args.problem.now) c.in-Err.ensures.refused
 
 pub returns-in-Err-clause-enough : goal.returns-in-Err-clause-enough
 returns-in-Err-clause-enough g c =
     let all = enough_given (λ u. record { out = u.out.now; ended = u.ended; lent = u.out.ghost_name })
-    g.E.Outlet.takes g.E.Outlet.breaks g.E.Outlet.faults g.E.Enough.limit g.E.Enough.answers g.met.E.Enough.counts c.args.until.now (g.met.E.Enough.limited c.args.until.now.out.now) c.requires.none_yet c.requires.starts c.crew_by.new.out (problem_events c.args.problem.now) c.if-until.true c.in-Err.ensures.refused in
+    g.E.Outlet.takes g.E.Outlet.breaks g.E.Outlet.faults g.E.Enough.limit g.E.Enough.answers g.met.E.Enough.counts c.args.until.now
+    (g.met.E.Enough.limited c.args.until.now.out.now) c.requires.none_yet c.requires.starts c.crew_by.new.out (problem_events c.args.problem.now)
+    c.if-until.true c.in-Err.ensures.refused in
     (λ e. all.1, λ h. refl)
 
 pub returns-in-Err-clause-given : goal.returns-in-Err-clause-given
 returns-in-Err-clause-given g c =
     let all = enough_given (λ u. record { out = u.out.now; ended = u.ended; lent = u.out.ghost_name })
-    g.E.Outlet.takes g.E.Outlet.breaks g.E.Outlet.faults g.E.Enough.limit g.E.Enough.answers g.met.E.Enough.counts c.args.until.now (g.met.E.Enough.limited c.args.until.now.out.now) c.requires.none_yet c.requires.starts c.crew_by.new.out (problem_events c.args.problem.now) c.if-until.true c.in-Err.ensures.refused in
+    g.E.Outlet.takes g.E.Outlet.breaks g.E.Outlet.faults g.E.Enough.limit g.E.Enough.answers g.met.E.Enough.counts c.args.until.now
+    (g.met.E.Enough.limited c.args.until.now.out.now) c.requires.none_yet c.requires.starts c.crew_by.new.out (problem_events c.args.problem.now)
+    c.if-until.true c.in-Err.ensures.refused in
     all.0
 
 pub returns-in-Err-clause-faults_kept : goal.returns-in-Err-clause-faults_kept
 returns-in-Err-clause-faults_kept g c =
     faults_prefix (λ u. record { out = u.out.now; ended = u.ended; lent = u.out.ghost_name })
-    g.E.Outlet.takes g.E.Outlet.breaks g.E.Outlet.faults g.E.Enough.limit g.E.Enough.answers c.args.until.now c.crew_by.new.out (problem_events c.args.problem.now) c.in-Err.ensures.refused
+    g.E.Outlet.takes g.E.Outlet.breaks g.E.Outlet.faults g.E.Enough.limit g.E.Enough.answers c.args.until.now c.crew_by.new.out
+    (problem_events c.args.problem.now) c.in-Err.ensures.refused
 
 pub returns-in-Err-2-clause-same_reference : goal.returns-in-Err-2-clause-same_reference
 returns-in-Err-2-clause-same_reference g c =
     same_lent_prefix (λ u. record { out = u.out.now; ended = u.ended; lent = u.out.ghost_name })
-    g.E.Outlet.takes g.E.Outlet.breaks g.E.Outlet.faults g.E.Enough.limit g.E.Enough.answers c.args.until.now c.crew_by.new.out (problem_events c.args.problem.now) c.in-Err-2.ensures.refused
+    g.E.Outlet.takes g.E.Outlet.breaks g.E.Outlet.faults g.E.Enough.limit g.E.Enough.answers c.args.until.now c.crew_by.new.out
+    (problem_events c.args.problem.now) c.in-Err-2.ensures.refused
 
 pub returns-in-Err-2-clause-refused : goal.returns-in-Err-2-clause-refused
 returns-in-Err-2-clause-refused g c =
     prefix_within (λ u. record { out = u.out.now; ended = u.ended; lent = u.out.ghost_name })
-    g.E.Outlet.takes g.E.Outlet.breaks g.E.Outlet.faults g.E.Enough.limit g.E.Enough.answers g.met.E.Enough.counts c.args.until.now (g.met.E.Enough.limited c.args.until.now.out.now) c.requires.none_yet c.requires.starts c.crew_by.new.out (problem_events c.args.problem.now) c.if-until.false c.in-Err-2.ensures.refused
+    g.E.Outlet.takes g.E.Outlet.breaks g.E.Outlet.faults g.E.Enough.limit g.E.Enough.answers g.met.E.Enough.counts c.args.until.now
+    (g.met.E.Enough.limited c.args.until.now.out.now) c.requires.none_yet c.requires.starts c.crew_by.new.out (problem_events c.args.problem.now)
+    c.if-until.false c.in-Err-2.ensures.refused

@@ -7,4 +7,5 @@ use Rattle.ll_crew.proofs.piece.run_batch.Given as goal
 abbrev pub invariant-loop-k : goal.invariant-loop-k
 invariant-loop-k g l =
     (l.told.leads ≡ l.initial.told.leads)
-    × RunsFirst (Stands g.O.Outlet.takes g.O.Outlet.breaks g.O.Outlet.welcome g.O.Outlet.faults l.start.value l.problem l.seat l.out l.told) l.initial.seat l.seat l.initial.events.items l.initial.inferences (alternatives_in l.batch) l.k l.events.items l.inferences
+    × RunsFirst (Stands g.O.Outlet.takes g.O.Outlet.breaks g.O.Outlet.welcome g.O.Outlet.faults l.start.value l.problem l.seat l.out l.told) l.initial.seat
+    l.seat l.initial.events.items l.initial.inferences (alternatives_in l.batch) l.k l.events.items l.inferences

@@ -15,5 +15,6 @@ loop-chunk-preserved g c =
       absences_kept = omega (arith, before.absences_kept, answer.absences_kept);
       no_fault = answer.no_fault ∙ before.no_fault;
       no_absence = answer.no_absence ∙ before.no_absence;
-      front = rw added.items (told_more _ _ _ c.loop-chunk.text.items c.read.new.buf _ c.in-Bytes.n before.same_texts (omega (arith, c.loop-chunk.text.ok.0, c.len-in-loop-chunk-3.ensures)) before.front answer.told_bytes answer.fits);
+      front = rw added.items (told_more _ _ _ c.loop-chunk.text.items c.read.new.buf _ c.in-Bytes.n before.same_texts
+          (omega (arith, c.loop-chunk.text.ok.0, c.len-in-loop-chunk-3.ensures)) before.front answer.told_bytes answer.fits);
     }

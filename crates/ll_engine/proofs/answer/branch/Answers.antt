@@ -16,7 +16,8 @@ pub cut-requires : goal.cut-requires
 cut-requires c =
     let none = c.size-none.result in
     let e = c.size-none.ensures.is ∙ ap size_of c.new-nothing.ensures in
-    HasSize-front no_nodes _ none (ap (front no_nodes) e ∙ sym (ap (front _) e)) (subst (λ (b : Nodes). HasSize b none) c.new-nothing.ensures c.size-none.ensures.had)
+    HasSize-front no_nodes _ none (ap (front no_nodes) e ∙ sym (ap (front _) e))
+    (subst (λ (b : Nodes). HasSize b none) c.new-nothing.ensures c.size-none.ensures.had)
 
 pub read_into-requires-clause-table : goal.read_into-requires-clause-table
 read_into-requires-clause-table c = fits_table (parts_of c.args.machine.now) c.requires.fits
@@ -28,12 +29,14 @@ read_into-requires-clause-places c =
 
 pub invariant_of-result : goal.invariant_of-result
 invariant_of-result c =
-    subst (λ (b : Nodes). AllInTerms b c.in_ok-terms.terms.items) (sym (cut_same c.read_into.new.other c.in_ok-bank.bank c.size-size.result c.size-size.ensures.is c.in_ok-bank.ensures)) c.in_ok-terms.ensures.inside
+    subst (λ (b : Nodes). AllInTerms b c.in_ok-terms.terms.items)
+    (sym (cut_same c.read_into.new.other c.in_ok-bank.bank c.size-size.result c.size-size.ensures.is c.in_ok-bank.ensures)) c.in_ok-terms.ensures.inside
 
 pub returns : goal.returns
 returns c =
     let m = parts_of c.args.machine.now in
     let same = cut_same c.read_into.new.other c.in_ok-bank.bank c.size-size.result c.size-size.ensures.is c.in_ok-bank.ensures in
     branch_of m m.bank c.in_ok-bank.bank m.bound c.deref.result.now c.in_ok-terms.terms.items c.in_ok-steps.steps.items refl refl c.deref.ensures.value
-    (subst (λ (b : Nodes). term_trees b c.in_ok-terms.terms.items ≡ map (sub (reading m.bank m.bound)) (term_trees m.bank c.deref.result.now)) (sym same) c.in_ok-terms.ensures.shows
+    (subst (λ (b : Nodes). term_trees b c.in_ok-terms.terms.items ≡ map (sub (reading m.bank m.bound)) (term_trees m.bank c.deref.result.now)) (sym same)
+    c.in_ok-terms.ensures.shows
     ∙ sym (trees_read (reading m.bank m.bound) m.bank c.deref.result.now)) (c.in_ok-steps.ensures.items ∙ c.as_slice.ensures.value)

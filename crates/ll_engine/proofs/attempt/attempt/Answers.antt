@@ -13,28 +13,33 @@ unreachable-requires c = not_empty (parts_of c.args.machine.now) c.requires.goal
 
 pub unreachable-requires-in_default-item : goal.unreachable-requires-in_default-item
 unreachable-requires-in_default-item c =
-    no_candidate (parts_of c.args.machine.now) c.in-Some.item (items_at c.args.machine.now.agenda c.in-Some.rest) c.args.candidate c.requires.candidate c.in-Some.ensures.some.list c.in_default-item.not-Goal
+    no_candidate (parts_of c.args.machine.now) c.in-Some.item (items_at c.args.machine.now.agenda c.in-Some.rest) c.args.candidate c.requires.candidate
+    c.in-Some.ensures.some.list c.in_default-item.not-Goal
 
 pub take_forall-requires-clause-heads : goal.take_forall-requires-clause-heads
 take_forall-requires-clause-heads c =
     let m = parts_of c.args.machine.now in
-    forall_heads m c.in-Goal.goal c.in-Forall.body (items_at m.agenda c.in-Some.rest) c.requires.fits (c.in-Some.ensures.some.list ∙ ap (λ x. x ∷ items_at m.agenda c.in-Some.rest) c.in-Goal.is) c.in-Forall.ensures.shown.tree
+    forall_heads m c.in-Goal.goal c.in-Forall.body (items_at m.agenda c.in-Some.rest) c.requires.fits
+    (c.in-Some.ensures.some.list ∙ ap (λ x. x ∷ items_at m.agenda c.in-Some.rest) c.in-Goal.is) c.in-Forall.ensures.shown.tree
 
 pub take_exists-requires-clause-heads : goal.take_exists-requires-clause-heads
 take_exists-requires-clause-heads c =
     let m = parts_of c.args.machine.now in
-    exists_heads m c.in-Goal.goal c.in-Exists.body (items_at m.agenda c.in-Some.rest) c.requires.fits (c.in-Some.ensures.some.list ∙ ap (λ x. x ∷ items_at m.agenda c.in-Some.rest) c.in-Goal.is) c.in-Exists.ensures.shown.tree
+    exists_heads m c.in-Goal.goal c.in-Exists.body (items_at m.agenda c.in-Some.rest) c.requires.fits
+    (c.in-Some.ensures.some.list ∙ ap (λ x. x ∷ items_at m.agenda c.in-Some.rest) c.in-Goal.is) c.in-Exists.ensures.shown.tree
 
 pub returns-in_ok-take_forall-in-Forall-clause-attempts : goal.returns-in_ok-take_forall-in-Forall-clause-attempts
 returns-in_ok-take_forall-in-Forall-clause-attempts c =
     let m = parts_of c.args.machine.now in
-    forall_row m (parts_of c.take_forall.new.machine) c.in-Goal.goal c.in-Forall.body (items_at m.agenda c.in-Some.rest) c.args.candidate c.requires.fits (c.in-Some.ensures.some.list ∙ ap (λ x. x ∷ items_at m.agenda c.in-Some.rest) c.in-Goal.is)
+    forall_row m (parts_of c.take_forall.new.machine) c.in-Goal.goal c.in-Forall.body (items_at m.agenda c.in-Some.rest) c.args.candidate c.requires.fits
+    (c.in-Some.ensures.some.list ∙ ap (λ x. x ∷ items_at m.agenda c.in-Some.rest) c.in-Goal.is)
     c.in-Forall.ensures.shown.tree c.in_ok-take_forall-in-Forall.ensures.opens
 
 pub returns-in_ok-take_exists-in-Exists-clause-attempts : goal.returns-in_ok-take_exists-in-Exists-clause-attempts
 returns-in_ok-take_exists-in-Exists-clause-attempts c =
     let m = parts_of c.args.machine.now in
-    exists_row m (parts_of c.take_exists.new.machine) c.in-Goal.goal c.in-Exists.body (items_at m.agenda c.in-Some.rest) c.args.candidate c.requires.fits (c.in-Some.ensures.some.list ∙ ap (λ x. x ∷ items_at m.agenda c.in-Some.rest) c.in-Goal.is)
+    exists_row m (parts_of c.take_exists.new.machine) c.in-Goal.goal c.in-Exists.body (items_at m.agenda c.in-Some.rest) c.args.candidate c.requires.fits
+    (c.in-Some.ensures.some.list ∙ ap (λ x. x ∷ items_at m.agenda c.in-Some.rest) c.in-Goal.is)
     c.in-Exists.ensures.shown.tree c.in_ok-take_exists-in-Exists.ensures.opens
 
 pub take_load-requires-clause-count : goal.take_load-requires-clause-count
@@ -42,35 +47,40 @@ take_load-requires-clause-count c =
     let m = parts_of c.args.machine.now in let u = c.in-Use in let rest = items_at m.agenda c.in-Some.rest in
     let q : u.args.now ≡ c.deref.result.now = sym (c.deref.ensures.value ∙ c.in_ok-args-in-Use.ensures.items) in
     use_count m c.in-Goal.goal u.body u.number c.deref.result.now rest c.requires.fits (c.in-Some.ensures.some.list ∙ ap (λ x. x ∷ rest) c.in-Goal.is)
-    (u.ensures.shown.tree ∙ ap (λ xs. Use u.number (term_trees m.bank xs) (form_tree m.bank u.body.0)) q) c.index-modules-number.result c.index-modules-number.is
+    (u.ensures.shown.tree ∙ ap (λ xs. Use u.number (term_trees m.bank xs) (form_tree m.bank u.body.0)) q) c.index-modules-number.result
+    c.index-modules-number.is
 
 pub take_load-requires-clause-closed : goal.take_load-requires-clause-closed
 take_load-requires-clause-closed c =
     let m = parts_of c.args.machine.now in let u = c.in-Use in let rest = items_at m.agenda c.in-Some.rest in
     let q : u.args.now ≡ c.deref.result.now = sym (c.deref.ensures.value ∙ c.in_ok-args-in-Use.ensures.items) in
     use_closed m c.in-Goal.goal u.body u.number c.deref.result.now rest c.requires.fits (c.in-Some.ensures.some.list ∙ ap (λ x. x ∷ rest) c.in-Goal.is)
-    (u.ensures.shown.tree ∙ ap (λ xs. Use u.number (term_trees m.bank xs) (form_tree m.bank u.body.0)) q) c.index-modules-number.result c.index-modules-number.is
+    (u.ensures.shown.tree ∙ ap (λ xs. Use u.number (term_trees m.bank xs) (form_tree m.bank u.body.0)) q) c.index-modules-number.result
+    c.index-modules-number.is
 
 pub take_load-requires-clause-clauses : goal.take_load-requires-clause-clauses
 take_load-requires-clause-clauses c =
     let m = parts_of c.args.machine.now in let u = c.in-Use in let rest = items_at m.agenda c.in-Some.rest in
     let q : u.args.now ≡ c.deref.result.now = sym (c.deref.ensures.value ∙ c.in_ok-args-in-Use.ensures.items) in
     use_clauses m c.in-Goal.goal u.body u.number c.deref.result.now rest c.requires.fits (c.in-Some.ensures.some.list ∙ ap (λ x. x ∷ rest) c.in-Goal.is)
-    (u.ensures.shown.tree ∙ ap (λ xs. Use u.number (term_trees m.bank xs) (form_tree m.bank u.body.0)) q) c.index-modules-number.result c.index-modules-number.is
+    (u.ensures.shown.tree ∙ ap (λ xs. Use u.number (term_trees m.bank xs) (form_tree m.bank u.body.0)) q) c.index-modules-number.result
+    c.index-modules-number.is
 
 pub take_load-requires-clause-heads : goal.take_load-requires-clause-heads
 take_load-requires-clause-heads c =
     let m = parts_of c.args.machine.now in let u = c.in-Use in let rest = items_at m.agenda c.in-Some.rest in
     let q : u.args.now ≡ c.deref.result.now = sym (c.deref.ensures.value ∙ c.in_ok-args-in-Use.ensures.items) in
     use_heads m c.in-Goal.goal u.body u.number c.deref.result.now rest c.requires.fits (c.in-Some.ensures.some.list ∙ ap (λ x. x ∷ rest) c.in-Goal.is)
-    (u.ensures.shown.tree ∙ ap (λ xs. Use u.number (term_trees m.bank xs) (form_tree m.bank u.body.0)) q) c.index-modules-number.result c.index-modules-number.is
+    (u.ensures.shown.tree ∙ ap (λ xs. Use u.number (term_trees m.bank xs) (form_tree m.bank u.body.0)) q) c.index-modules-number.result
+    c.index-modules-number.is
 
 pub returns-in_ok-take_load-in-Use-clause-attempts : goal.returns-in_ok-take_load-in-Use-clause-attempts
 returns-in_ok-take_load-in-Use-clause-attempts c =
     let m = parts_of c.args.machine.now in let u = c.in-Use in let rest = items_at m.agenda c.in-Some.rest in
     let q : u.args.now ≡ c.deref.result.now = sym (c.deref.ensures.value ∙ c.in_ok-args-in-Use.ensures.items) in
     use_row m c.in-Goal.goal u.body u.number c.deref.result.now rest c.requires.fits (c.in-Some.ensures.some.list ∙ ap (λ x. x ∷ rest) c.in-Goal.is)
-    (u.ensures.shown.tree ∙ ap (λ xs. Use u.number (term_trees m.bank xs) (form_tree m.bank u.body.0)) q) c.index-modules-number.result c.index-modules-number.is (parts_of c.take_load.new.machine) c.args.candidate c.in_ok-take_load-in-Use.ensures.loads
+    (u.ensures.shown.tree ∙ ap (λ xs. Use u.number (term_trees m.bank xs) (form_tree m.bank u.body.0)) q) c.index-modules-number.result
+    c.index-modules-number.is (parts_of c.take_load.new.machine) c.args.candidate c.in_ok-take_load-in-Use.ensures.loads
 
 pub take_one-requires-clause-front : goal.take_one-requires-clause-front
 take_one-requires-clause-front c =

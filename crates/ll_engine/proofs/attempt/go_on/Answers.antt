@@ -8,4 +8,5 @@ use Rattle.ll_engine.proofs.attempt.go_on.Goals as goal
 pub returns-clause-later : goal.returns-clause-later
 returns-clause-later c =
     let m = c.args.machine.now in let e = c.in_ok-machine.ensures.keeps in
-    later_of m _ refl refl (store_same (stored m.store)) (context_same m.context) e.more e.frames [] (sym (append-nil m.terms.items)) (c.args.step ∷ []) c.in_ok-push.ensures.items
+    later_of m _ refl refl (store_same (stored m.store)) (context_same m.context) e.more e.frames [] (sym (append-nil m.terms.items)) (c.args.step ∷ [])
+    c.in_ok-push.ensures.items

@@ -15,11 +15,13 @@ loop-from_front-preserved c =
       so_far = c.in_ok-add_entry.ensures.found
           ∙ (ap (λ xs. xs ++ own) c.loop-from_front.invariant.so_far
           ∙ (append_assoc (all_found c.args.found.now) before own
-          ∙ ap (λ xs. all_found c.args.found.now ++ xs) (sym (flat_more (open_tries test) (standing_entry s.bank) es i (i + 1) (resource c.entry-entry.result) (omega arith) c.entry-entry.ensures))));
+          ∙ ap (λ xs. all_found c.args.found.now ++ xs) (sym
+          (flat_more (open_tries test) (standing_entry s.bank) es i (i + 1) (resource c.entry-entry.result) (omega arith) c.entry-entry.ensures))));
     }
 
 pub returns : goal.returns
 returns c =
     let s = c.args.store.now in let q : c.loop-from_front.from_front ≡ c.args.count = omega arith in
     c.loop-from_front.invariant.so_far
-    ∙ ap (λ n. all_found c.args.found.now ++ flat_map (open_tries (head_fits s c.args.asked)) (map (standing_entry s.bank) (take n c.args.context.now.present.entries))) q
+    ∙ ap (λ n. all_found c.args.found.now ++ flat_map (open_tries (head_fits s c.args.asked))
+    (map (standing_entry s.bank) (take n c.args.context.now.present.entries))) q

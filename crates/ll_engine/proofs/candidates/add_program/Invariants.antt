@@ -12,7 +12,8 @@ use Rattle.ll_engine.proofs.candidates.add_program.Given as goal
 abbrev pub invariant-loop-leaf : goal.invariant-loop-leaf
 invariant-loop-leaf l =
     (atom : Term) → head_of atom ≡ Some (Name l.name) → arity atom ≡ l.fn.asked.predicate.arity
-    → all_found l.found ++ filter (λ c. is_open_at (drop l.loaded (shown_context (parts_of l.machine))) c.label) (map (λ x. x.candidate) (left l.index l.cursor))
+    → all_found l.found ++ filter (λ c. is_open_at (drop l.loaded (shown_context (parts_of l.machine))) c.label)
+    (map (λ x. x.candidate) (left l.index l.cursor))
     ≡ all_found l.initial.found ++ flat_map (entry_matches l.fn.asked.first atom) (drop l.loaded (shown_context (parts_of l.machine)))
 
 abbrev pub decreases-loop-leaf : goal.decreases-loop-leaf

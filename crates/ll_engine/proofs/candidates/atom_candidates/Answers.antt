@@ -13,7 +13,8 @@ pub asked_by-requires-clause-cells : goal.asked_by-requires-clause-cells
 asked_by-requires-clause-cells c = (atom_front (parts_of c.args.machine.now) c.args.atom c.requires.fits c.requires.front).variables
 
 pub returns-in_default : goal.returns-in_default
-returns-in_default c = has_head (parts_of c.args.machine.now) c.args.atom _ (atom_front (parts_of c.args.machine.now) c.args.atom c.requires.fits c.requires.front)
+returns-in_default c = has_head (parts_of c.args.machine.now) c.args.atom _
+    (atom_front (parts_of c.args.machine.now) c.args.atom c.requires.fits c.requires.front)
     (subst (Asks c.args.machine.now.store (term_tree c.args.machine.now.store.bank c.args.atom.0)) c.in_default.is c.in_ok-asked.ensures)
 
 pub overflow_sub-loaded : goal.overflow_sub-loaded
@@ -37,14 +38,18 @@ pub returns : goal.returns
 returns c =
     let k = c.args.machine.now in let f = c.requires.fits in let w = atom_front (parts_of k) c.args.atom f c.requires.front in
     let n = c.len.result - c.len-2.result in
-    let asks : AsksFor k.store (term_tree k.store.bank c.args.atom.0) c.in-Some.asked = subst (Asks k.store (term_tree k.store.bank c.args.atom.0)) c.in-Some.is c.in_ok-asked.ensures in
+    let asks : AsksFor k.store (term_tree k.store.bank c.args.atom.0) c.in-Some.asked =
+    subst (Asks k.store (term_tree k.store.bank c.args.atom.0)) c.in-Some.is c.in_ok-asked.ensures in
     let clauses = ap (λ p. length p.clauses) c.problem.view_is in
     let map = length-map c.problem.inside.clauses.items (clause_tree c.problem.inside.bank) in
     let a = c.len.ensures in let b = c.len-2.ensures in let d = c.problem.inside.clauses.ok.0 in
     elim c.match-asked.branch [
-      | in-Name+in_ok-add_program v ↦ all_matches k c.args.atom c.in-Some.asked f w asks n (all_found c.none-found.result) (all_found c.add_loaded.new.found) (all_found c.match-asked.found) c.none-found.ensures c.in_ok-add_loaded.ensures
+      | in-Name+in_ok-add_program v ↦ all_matches k c.args.atom c.in-Some.asked f w asks n (all_found c.none-found.result) (all_found c.add_loaded.new.found)
+          (all_found c.match-asked.found) c.none-found.ensures c.in_ok-add_loaded.ensures
           (ap all_found v.found-is
-          ∙ v.in_ok-add_program.ensures (read_term (parts_of k).bank (parts_of k).bound c.args.atom) (name_read k c.args.atom c.in-Some.asked f w asks v.in-Name.name v.in-Name.is) (arity_read k c.args.atom c.in-Some.asked f w asks))
-      | in_default-head v ↦ loaded_match k c.args.atom c.in-Some.asked f w asks n (all_found c.none-found.result) (all_found c.add_loaded.new.found) (all_found c.match-asked.found) (splits (parts_of k) n f (omega arith)).of v.in_default-head.not-Name
+          ∙ v.in_ok-add_program.ensures (read_term (parts_of k).bank (parts_of k).bound c.args.atom)
+          (name_read k c.args.atom c.in-Some.asked f w asks v.in-Name.name v.in-Name.is) (arity_read k c.args.atom c.in-Some.asked f w asks))
+      | in_default-head v ↦ loaded_match k c.args.atom c.in-Some.asked f w asks n (all_found c.none-found.result) (all_found c.add_loaded.new.found)
+          (all_found c.match-asked.found) (splits (parts_of k) n f (omega arith)).of v.in_default-head.not-Name
           c.none-found.ensures c.in_ok-add_loaded.ensures (ap all_found v.found-is)
     ]

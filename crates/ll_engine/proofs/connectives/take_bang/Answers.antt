@@ -15,4 +15,5 @@ returns-clause-attempts c candidate =
 pub returns-clause-later : goal.returns-clause-later
 returns-clause-later c =
     let m = c.args.machine.now in
-    later_then m _ c.go_on.new.machine (later_then m _ _ (later_context m c.save.new.self c.save.ensures.marks) (later_context _ c.bang.new.self c.bang.ensures.marks)) c.in_ok-go_on.ensures.later
+    later_then m _ c.go_on.new.machine (later_then m _ _ (later_context m c.save.new.self c.save.ensures.marks)
+    (later_context _ c.bang.new.self c.bang.ensures.marks)) c.in_ok-go_on.ensures.later

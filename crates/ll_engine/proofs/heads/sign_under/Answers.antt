@@ -16,17 +16,20 @@ returns-in_ok-arity-in-App-Name-default c =
 pub returns-in-App-Eigen-default : goal.returns-in-App-Eigen-default
 returns-in-App-Eigen-default c =
     let s = c.args.store.now in let i = c.in-App-Eigen-default in
-    sym (sign_app s.bank (table_of s.cells.cells) c.requires.table c.args.at c.walk-end.result c.walk-end.ensures.same i.field-0 i.field-1.now i.ensures.shown.0 ∙ ap (λ h. name_sign (Some h) (length i.field-1.now)) i.field-0-is)
+    sym (sign_app s.bank (table_of s.cells.cells) c.requires.table c.args.at c.walk-end.result c.walk-end.ensures.same i.field-0 i.field-1.now i.ensures.shown.0
+    ∙ ap (λ h. name_sign (Some h) (length i.field-1.now)) i.field-0-is)
 
 pub returns-in-App-Bound-default : goal.returns-in-App-Bound-default
 returns-in-App-Bound-default c =
     let s = c.args.store.now in let i = c.in-App-Bound-default in
-    sym (sign_app s.bank (table_of s.cells.cells) c.requires.table c.args.at c.walk-end.result c.walk-end.ensures.same i.field-0 i.field-1.now i.ensures.shown.0 ∙ ap (λ h. name_sign (Some h) (length i.field-1.now)) i.field-0-is)
+    sym (sign_app s.bank (table_of s.cells.cells) c.requires.table c.args.at c.walk-end.result c.walk-end.ensures.same i.field-0 i.field-1.now i.ensures.shown.0
+    ∙ ap (λ h. name_sign (Some h) (length i.field-1.now)) i.field-0-is)
 
 pub returns-in-Var : goal.returns-in-Var
 returns-in-Var c =
     let s = c.args.store.now in
-    sym (sign_var s.bank (table_of s.cells.cells) c.requires.table c.args.at c.walk-end.result c.walk-end.ensures.same c.in-Var.field-0 c.in-Var.ensures.shown c.walk-end.ensures.end.free)
+    sym (sign_var s.bank (table_of s.cells.cells) c.requires.table c.args.at c.walk-end.result c.walk-end.ensures.same c.in-Var.field-0 c.in-Var.ensures.shown
+    c.walk-end.ensures.end.free)
 
 pub returns-in-Int : goal.returns-in-Int
 returns-in-Int c =

@@ -50,7 +50,8 @@ pub returns-then-values-clause-later : goal.returns-then-values-clause-later
 returns-then-values-clause-later c =
     let m = c.args.machine.now in let mid : Machine = record m { store = c.values_under.new.store } in
     later_then m mid c.go_on.new.machine
-    (later_store m mid refl refl (store_extends m.store c.values_under.new.store c.values_under.ensures.keeps c.values_under.ensures.cells) refl refl refl refl) c.in_ok-go_on.ensures.later
+    (later_store m mid refl refl (store_extends m.store c.values_under.new.store c.values_under.ensures.keeps c.values_under.ensures.cells) refl refl refl refl)
+    c.in_ok-go_on.ensures.later
 
 pub returns-clause-attempts : goal.returns-clause-attempts
 returns-clause-attempts c candidate =

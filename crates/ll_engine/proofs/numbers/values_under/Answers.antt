@@ -23,8 +23,10 @@ pub returns-in_default-2-clause-values : goal.returns-in_default-2-clause-values
 returns-in_default-2-clause-values c test =
     let s = c.args.store.now in let t = c.value_under.new.store in
     second_lacks test _ _
-    (value_kept c.args.names.now s.bank t.bank (table_of s.cells.cells) c.requires.table c.value_under.ensures.keeps c.args.right c.requires.right.inside c.in_ok-second.field-0
-    (c.in_ok-second.ensures.value ∙ ap (λ u. value_of (operators_of c.args.names.now) (read_term t.bank (table_of u.cells).bound c.args.right)) c.value_under.ensures.cells) ∙ c.in_default-2.is)
+    (value_kept c.args.names.now s.bank t.bank (table_of s.cells.cells) c.requires.table c.value_under.ensures.keeps c.args.right c.requires.right.inside
+    c.in_ok-second.field-0
+    (c.in_ok-second.ensures.value ∙ ap (λ u. value_of (operators_of c.args.names.now) (read_term t.bank (table_of u.cells).bound c.args.right))
+    c.value_under.ensures.cells) ∙ c.in_default-2.is)
 
 pub returns-clause-values : goal.returns-clause-values
 returns-clause-values c test =
@@ -32,5 +34,7 @@ returns-clause-values c test =
     let f : FitsSigned w64 c.in-Some.first = search rules in
     let g : FitsSigned w64 c.in-Some-2.second = search rules in
     both_values test c.in-Some.first c.in-Some-2.second _ _ f g (sym c.in_ok-first.ensures.value ∙ c.in-Some.is)
-    (value_kept c.args.names.now s.bank t.bank (table_of s.cells.cells) c.requires.table c.value_under.ensures.keeps c.args.right c.requires.right.inside c.in_ok-second.field-0
-    (c.in_ok-second.ensures.value ∙ ap (λ u. value_of (operators_of c.args.names.now) (read_term t.bank (table_of u.cells).bound c.args.right)) c.value_under.ensures.cells) ∙ c.in-Some-2.is)
+    (value_kept c.args.names.now s.bank t.bank (table_of s.cells.cells) c.requires.table c.value_under.ensures.keeps c.args.right c.requires.right.inside
+    c.in_ok-second.field-0
+    (c.in_ok-second.ensures.value ∙ ap (λ u. value_of (operators_of c.args.names.now) (read_term t.bank (table_of u.cells).bound c.args.right))
+    c.value_under.ensures.cells) ∙ c.in-Some-2.is)

@@ -30,12 +30,15 @@ returns c =
     record {
       opens = record {
         opens =
-            opens_shown (parts_of m) (parts_of mid) (parts_of new) refl refl refl refl refl c.in_ok-goal.goal (instantiate (form_tree m.store.bank c.args.body.0) (Var n)) (items_at m.agenda c.args.rest)
+            opens_shown (parts_of m) (parts_of mid) (parts_of new) refl refl refl refl refl c.in_ok-goal.goal
+            (instantiate (form_tree m.store.bank c.args.body.0) (Var n)) (items_at m.agenda c.args.rest)
             (Extends-trans grows c.in_ok-goal.ensures.keeps)
-            (body_shown m.store.bank c.var.new.self c.instantiate.new.self c.args.body.0 c.in_ok-goal.goal.0 c.in_ok-value.value.0 (Var n) grows c.requires.body v
+            (body_shown m.store.bank c.var.new.self c.instantiate.new.self c.args.body.0 c.in_ok-goal.goal.0 c.in_ok-value.value.0 (Var n) grows c.requires.body
+            v
             c.in_ok-goal.ensures.shows) go;
         bound = ap (λ (x : Parts). x.bound) go.same ∙ (ap (λ cs. map (λ (d : Cell). d.to) cs) cells ∙ map-append (λ (d : Cell). d.to) m.store.cells.cells _);
-        levels = ap (λ (x : Parts). x.levels) go.same ∙ (ap (λ cs. map (λ (d : Cell). d.level) cs) cells ∙ map-append (λ (d : Cell). d.level) m.store.cells.cells _);
+        levels = ap (λ (x : Parts). x.levels) go.same ∙ (ap (λ cs. map (λ (d : Cell). d.level) cs) cells
+            ∙ map-append (λ (d : Cell). d.level) m.store.cells.cells _);
         value = c.in_ok-value.value;
         shows =
             subst (λ (b : Nodes). ShowsTerm b c.in_ok-value.value.0 (Var n)) (sym (ap (λ (x : Parts). x.bank) go.same))
@@ -45,7 +48,8 @@ returns c =
       };
       later =
           later_then m mid new
-          (later_terms m mid refl refl (store_then _ _ _ c.fresh.ensures.marks (store_extends fresh store (Extends-trans c.in_ok-value.ensures.keeps c.in_ok-goal.ensures.keeps) refl))
+          (later_terms m mid refl refl (store_then _ _ _ c.fresh.ensures.marks
+          (store_extends fresh store (Extends-trans c.in_ok-value.ensures.keeps c.in_ok-goal.ensures.keeps) refl))
           (context_same m.context) refl _ c.in_ok-push.ensures.items refl)
           c.in_ok-go_on.ensures.later;
     }

@@ -22,9 +22,11 @@ returns c =
     record {
       opens = record {
         opens =
-            opens_shown (parts_of m) (parts_of mid) (parts_of new) refl refl refl refl refl c.in_ok-goal.goal (instantiate (form_tree m.store.bank c.args.body.0) (Con (Eigen e))) (items_at m.agenda c.args.rest)
+            opens_shown (parts_of m) (parts_of mid) (parts_of new) refl refl refl refl refl c.in_ok-goal.goal
+            (instantiate (form_tree m.store.bank c.args.body.0) (Con (Eigen e))) (items_at m.agenda c.args.rest)
             keeps
-            (body_shown m.store.bank c.app.new.self c.instantiate.new.self c.args.body.0 c.in_ok-goal.goal.0 c.in_ok-value.value.0 (Con (Eigen e)) c.in_ok-value.ensures.keeps c.requires.body
+            (body_shown m.store.bank c.app.new.self c.instantiate.new.self c.args.body.0 c.in_ok-goal.goal.0 c.in_ok-value.value.0 (Con (Eigen e))
+            c.in_ok-value.ensures.keeps c.requires.body
             c.in_ok-value.ensures.shows c.in_ok-goal.ensures.shows) go;
         bound = ap (λ (x : Parts). x.bound) go.same;
         levels = ap (λ (x : Parts). x.levels) go.same;

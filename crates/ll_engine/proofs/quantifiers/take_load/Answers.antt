@@ -19,12 +19,14 @@ returns c =
       loads = record {
         opens =
             opens_shown (parts_of m) (parts_of mid) (parts_of c.go_on.new.machine) refl refl refl refl refl c.in_ok-goal.goal
-            (unfold_load (module_tree m.store.bank c.args.«module».now) (term_trees m.store.bank c.args.args.now) (form_tree m.store.bank c.args.body.0)) (items_at m.agenda c.args.rest) c.in_ok-goal.ensures.keeps
+            (unfold_load (module_tree m.store.bank c.args.«module».now) (term_trees m.store.bank c.args.args.now) (form_tree m.store.bank c.args.body.0))
+            (items_at m.agenda c.args.rest) c.in_ok-goal.ensures.keeps
             c.in_ok-goal.ensures.shows go;
         bound = ap (λ (x : Parts). x.bound) go.same;
         levels = ap (λ (x : Parts). x.levels) go.same;
         terms = ap (λ (x : Parts). x.terms) go.same;
         eigens = ap (λ (x : Parts). x.eigens) go.same;
       };
-      later = later_then m mid c.go_on.new.machine (later_store m mid refl refl (store_extends m.store store c.in_ok-goal.ensures.keeps refl) refl refl refl refl) c.in_ok-go_on.ensures.later;
+      later = later_then m mid c.go_on.new.machine (later_store m mid refl refl (store_extends m.store store c.in_ok-goal.ensures.keeps refl) refl refl refl
+          refl) c.in_ok-go_on.ensures.later;
     }

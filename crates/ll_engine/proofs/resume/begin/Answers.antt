@@ -6,11 +6,13 @@ use Rattle.ll_engine.proofs.resume.begin.Goals as goal
 
 pub attempt-requires-clause-goal : goal.attempt-requires-clause-goal
 attempt-requires-clause-goal c =
-    let t = tried c.args.frozen.now (parts_of c.args.machine.now) c.args.k c.candidate.result c.requires.thaws c.is_start.ensures.stands (search rules) c.candidate.ensures in t.goal
+    let t = tried c.args.frozen.now (parts_of c.args.machine.now) c.args.k c.candidate.result c.requires.thaws c.is_start.ensures.stands (search rules)
+    c.candidate.ensures in t.goal
 
 pub attempt-requires-clause-candidate : goal.attempt-requires-clause-candidate
 attempt-requires-clause-candidate c =
-    let t = tried c.args.frozen.now (parts_of c.args.machine.now) c.args.k c.candidate.result c.requires.thaws c.is_start.ensures.stands (search rules) c.candidate.ensures in t.candidate
+    let t = tried c.args.frozen.now (parts_of c.args.machine.now) c.args.k c.candidate.result c.requires.thaws c.is_start.ensures.stands (search rules)
+    c.candidate.ensures in t.candidate
 
 pub returns-then-is_start-clause-later : goal.returns-then-is_start-clause-later
 returns-then-is_start-clause-later c = later_same c.args.machine.now

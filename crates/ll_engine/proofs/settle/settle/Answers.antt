@@ -13,24 +13,29 @@ work_off-requires-clause-going c = here (parts_of c.args.machine.now) (parts_of 
 
 pub returns-in-Settled-clause-settles : goal.returns-in-Settled-clause-settles
 returns-in-Settled-clause-settles c =
-    settled_done (parts_of c.args.machine.now) (parts_of c.loop-item.machine) (parts_of c.work_off.new.machine) c.in_ok-work_off.field-0 c.requires.fits c.loop-item.invariant.going c.in-Settled.is c.in_ok-work_off.ensures.works
+    settled_done (parts_of c.args.machine.now) (parts_of c.loop-item.machine) (parts_of c.work_off.new.machine) c.in_ok-work_off.field-0 c.requires.fits
+    c.loop-item.invariant.going c.in-Settled.is c.in_ok-work_off.ensures.works
 
 pub returns-in-Failed-clause-settles : goal.returns-in-Failed-clause-settles
 returns-in-Failed-clause-settles c =
-    settled_fails (parts_of c.args.machine.now) (parts_of c.loop-item.machine) (parts_of c.work_off.new.machine) c.in_ok-work_off.field-0 c.loop-item.invariant.going c.in-Failed.is c.in_ok-work_off.ensures.works
+    settled_fails (parts_of c.args.machine.now) (parts_of c.loop-item.machine) (parts_of c.work_off.new.machine) c.in_ok-work_off.field-0
+    c.loop-item.invariant.going c.in-Failed.is c.in_ok-work_off.ensures.works
 
 pub returns-in-Failed-clause-same : goal.returns-in-Failed-clause-same
 returns-in-Failed-clause-same c =
-    failed_same (parts_of c.args.machine.now) (parts_of c.loop-item.machine) (parts_of c.work_off.new.machine) c.in_ok-work_off.field-0 c.loop-item.invariant.going c.in-Failed.is c.in_ok-work_off.ensures.works
+    failed_same (parts_of c.args.machine.now) (parts_of c.loop-item.machine) (parts_of c.work_off.new.machine) c.in_ok-work_off.field-0
+    c.loop-item.invariant.going c.in-Failed.is c.in_ok-work_off.ensures.works
 
 pub returns-clause-settles : goal.returns-clause-settles
 returns-clause-settles c = settled_empty (parts_of c.args.machine.now) (parts_of c.loop-item.machine) c.requires.fits c.loop-item.invariant.going (search rules)
 
 pub returns-in-Settled-clause-later : goal.returns-in-Settled-clause-later
-returns-in-Settled-clause-later c = later_then c.args.machine.now c.loop-item.machine c.work_off.new.machine c.loop-item.invariant.later c.in_ok-work_off.ensures.later
+returns-in-Settled-clause-later c = later_then c.args.machine.now c.loop-item.machine c.work_off.new.machine c.loop-item.invariant.later
+    c.in_ok-work_off.ensures.later
 
 pub returns-in-Failed-clause-later : goal.returns-in-Failed-clause-later
-returns-in-Failed-clause-later c = later_then c.args.machine.now c.loop-item.machine c.work_off.new.machine c.loop-item.invariant.later c.in_ok-work_off.ensures.later
+returns-in-Failed-clause-later c = later_then c.args.machine.now c.loop-item.machine c.work_off.new.machine c.loop-item.invariant.later
+    c.in_ok-work_off.ensures.later
 
 pub loop-item-preserved : goal.loop-item-preserved
 loop-item-preserved c =

@@ -12,7 +12,8 @@ returns-else-not-branch-clause-works c =
     let m = parts_of c.args.machine.now in let h = c.args.machine.now.context in
     off_lolli m c.close.new.self.present c.in-LolliEnd.saved (items_at m.agenda c.args.rest) c.args.rest c.requires.going
     (c.requires.front ∙ ap (λ i. i ∷ items_at m.agenda c.args.rest) c.in-LolliEnd.is)
-    (worked (load_end c.in-LolliEnd.saved m.resources.entries) h c.close.new.self c.in_ok-close-in-LolliEnd.field-0 c.if-not-branch.false c.in_ok-close-in-LolliEnd.ensures.settles) refl
+    (worked (load_end c.in-LolliEnd.saved m.resources.entries) h c.close.new.self c.in_ok-close-in-LolliEnd.field-0 c.if-not-branch.false
+    c.in_ok-close-in-LolliEnd.ensures.settles) refl
     c.requires.rest
 
 pub returns-else-not-branch-2-clause-works : goal.returns-else-not-branch-2-clause-works
@@ -20,30 +21,35 @@ returns-else-not-branch-2-clause-works c =
     let m = parts_of c.args.machine.now in let h = c.args.machine.now.context in
     off_imp m c.close-in-ImpEnd.new.self.present (items_at m.agenda c.args.rest) c.args.rest c.requires.going
     (c.requires.front ∙ ap (λ i. i ∷ items_at m.agenda c.args.rest) c.in-ImpEnd.is)
-    (worked (load_end false m.resources.entries) h c.close-in-ImpEnd.new.self c.in_ok-close-in-ImpEnd.field-0 c.if-not-branch-2.false c.in_ok-close-in-ImpEnd.ensures.settles) refl
+    (worked (load_end false m.resources.entries) h c.close-in-ImpEnd.new.self c.in_ok-close-in-ImpEnd.field-0 c.if-not-branch-2.false
+    c.in_ok-close-in-ImpEnd.ensures.settles) refl
     c.requires.rest
 
 pub with_end-requires-clause-saved : goal.with_end-requires-clause-saved
 with_end-requires-clause-saved c =
     let m = parts_of c.args.machine.now in let h = c.args.machine.now.context in
-    (with_fits m c.in-WithEnd.saved c.in-WithEnd.half (items_at m.agenda c.args.rest) c.requires.going (c.requires.front ∙ ap (λ i. i ∷ items_at m.agenda c.args.rest) c.in-WithEnd.is)).0
+    (with_fits m c.in-WithEnd.saved c.in-WithEnd.half (items_at m.agenda c.args.rest) c.requires.going
+    (c.requires.front ∙ ap (λ i. i ∷ items_at m.agenda c.args.rest) c.in-WithEnd.is)).0
 
 pub with_end-requires-clause-half : goal.with_end-requires-clause-half
 with_end-requires-clause-half c =
     let m = parts_of c.args.machine.now in let h = c.args.machine.now.context in
-    (with_fits m c.in-WithEnd.saved c.in-WithEnd.half (items_at m.agenda c.args.rest) c.requires.going (c.requires.front ∙ ap (λ i. i ∷ items_at m.agenda c.args.rest) c.in-WithEnd.is)).1
+    (with_fits m c.in-WithEnd.saved c.in-WithEnd.half (items_at m.agenda c.args.rest) c.requires.going
+    (c.requires.front ∙ ap (λ i. i ∷ items_at m.agenda c.args.rest) c.in-WithEnd.is)).1
 
 pub bang_end-requires : goal.bang_end-requires
 bang_end-requires c =
     let m = parts_of c.args.machine.now in let h = c.args.machine.now.context in
-    bang_fits m c.in-BangEnd.saved (items_at m.agenda c.args.rest) c.requires.going (c.requires.front ∙ ap (λ i. i ∷ items_at m.agenda c.args.rest) c.in-BangEnd.is)
+    bang_fits m c.in-BangEnd.saved (items_at m.agenda c.args.rest) c.requires.going
+    (c.requires.front ∙ ap (λ i. i ∷ items_at m.agenda c.args.rest) c.in-BangEnd.is)
 
 pub returns-else-not-branch-3-clause-works : goal.returns-else-not-branch-3-clause-works
 returns-else-not-branch-3-clause-works c =
     let m = parts_of c.args.machine.now in let h = c.args.machine.now.context in
     off_with m c.with_end.new.self.present c.in-WithEnd.saved c.in-WithEnd.half (items_at m.agenda c.args.rest) c.args.rest c.requires.going
     (c.requires.front ∙ ap (λ i. i ∷ items_at m.agenda c.args.rest) c.in-WithEnd.is)
-    (worked (with_end m.resources.kept c.in-WithEnd.saved c.in-WithEnd.half) h c.with_end.new.self c.in_ok-with_end-in-WithEnd.field-0 c.if-not-branch-3.false c.in_ok-with_end-in-WithEnd.ensures.settles)
+    (worked (with_end m.resources.kept c.in-WithEnd.saved c.in-WithEnd.half) h c.with_end.new.self c.in_ok-with_end-in-WithEnd.field-0 c.if-not-branch-3.false
+    c.in_ok-with_end-in-WithEnd.ensures.settles)
     refl c.requires.rest
 
 pub returns-in_ok-bang_end-in-BangEnd-clause-works : goal.returns-in_ok-bang_end-in-BangEnd-clause-works

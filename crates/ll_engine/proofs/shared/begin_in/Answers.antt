@@ -10,7 +10,8 @@ pub returns-clause-sound : goal.returns-clause-sound
 returns-clause-sound c =
     let m = c.begin.new.machine in let began = c.in_ok-began.began in
     let s = keeps c.args.machine m c.in_ok-began.ensures.later c.mark-base.result c.mark-base.ensures.good in
-    let b = begun_sound c.args.problem.now m c.new-points.result.items began (record { batch = c.args.frozen; base = c.mark-base.result }) c.new-points.ensures.items
+    let b = begun_sound c.args.problem.now m c.new-points.result.items began (record { batch = c.args.frozen; base = c.mark-base.result })
+    c.new-points.ensures.items
     (subst (λ (p : ProblemTree). IsRunning began p (parts_of m)) (ap (λ f. f.problem) c.deref.ensures ∙ c.requires.of) c.in_ok-began.ensures.begins.runs)
     s.good (ap base_of (s.parts ∙ c.mark-base.ensures.parts) ∙ c.requires.thaws.base) in
     record { index = c.requires.index; sound = b.0; marks = b.1.0; based = b.1.1 }

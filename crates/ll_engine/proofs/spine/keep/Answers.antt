@@ -31,10 +31,12 @@ returns-clause-marks c =
     subst (λ (qs : List Kept). AreMarks m qs) (sym c.in_ok-push_back.ensures.items)
     (record {
       good = All-push (λ (j : Kept). IsGood j.mark m) ps k a.good c.mark.ensures.good;
-      rise = rises_push ps k a.rise (All-weaker (λ (j : Kept). IsGood j.mark m) (λ (j : Kept). IsBefore j.mark k.mark) (λ j g. c.mark.ensures.last j.mark g) ps a.good);
+      rise = rises_push ps k a.rise (All-weaker (λ (j : Kept). IsGood j.mark m) (λ (j : Kept). IsBefore j.mark k.mark) (λ j g. c.mark.ensures.last j.mark g) ps
+          a.good);
     })
 
 pub returns-clause-floors : goal.returns-clause-floors
 returns-clause-floors c =
     let m = c.args.machine.now in let k : Kept = record { mark = c.mark.result; untried = c.args.untried } in
-    subst (λ (qs : List Kept). KeepsFloors m c.args.points.now.items qs) (sym c.in_ok-push_back.ensures.items) (floor_push m c.args.points.now.items k c.mark.ensures.last)
+    subst (λ (qs : List Kept). KeepsFloors m c.args.points.now.items qs) (sym c.in_ok-push_back.ensures.items)
+    (floor_push m c.args.points.now.items k c.mark.ensures.last)

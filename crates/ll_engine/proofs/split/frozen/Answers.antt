@@ -8,19 +8,23 @@ use Rattle.ll_engine.proofs.split.frozen.Goals as goal
 
 pub whole-requires-clause-tries : goal.whole-requires-clause-tries
 whole-requires-clause-tries c =
-    reversed_tries (parts_at c.args.kept.mark c.args.machine.now) c.args.kept.untried.items c.reverse.new.self.items c.deref-2.result.now c.reverse.ensures.items c.deref-2.ensures.value c.requires.kept.tries
+    reversed_tries (parts_at c.args.kept.mark c.args.machine.now) c.args.kept.untried.items c.reverse.new.self.items c.deref-2.result.now
+    c.reverse.ensures.items c.deref-2.ensures.value c.requires.kept.tries
 
 pub onto-requires-clause-tries : goal.onto-requires-clause-tries
 onto-requires-clause-tries c =
     let d = c.deref-then-depth-lt-MOST_SHARED-2 in
-    reversed_tries (parts_at c.args.kept.mark c.args.machine.now) c.args.kept.untried.items c.reverse.new.self.items d.result.now c.reverse.ensures.items d.ensures.value c.requires.kept.tries
+    reversed_tries (parts_at c.args.kept.mark c.args.machine.now) c.args.kept.untried.items c.reverse.new.self.items d.result.now c.reverse.ensures.items
+    d.ensures.value c.requires.kept.tries
 
 pub onto-requires-clause-good_base : goal.onto-requires-clause-good_base
-onto-requires-clause-good_base c = (based_some c.args.machine.now (c.args.kept ∷ []) c.args.ancestor.now c.in-Some.ancestor c.in-Some.is c.requires.based).0.good
+onto-requires-clause-good_base c = (based_some c.args.machine.now (c.args.kept ∷ []) c.args.ancestor.now c.in-Some.ancestor c.in-Some.is
+    c.requires.based).0.good
 
 pub onto-requires-clause-base : goal.onto-requires-clause-base
 onto-requires-clause-base c =
-    (based_some c.args.machine.now (c.args.kept ∷ []) c.args.ancestor.now c.in-Some.ancestor c.in-Some.is c.requires.based).1 ∙ ap (λ f. f.base) (sym c.deref-then-depth-lt-MOST_SHARED.ensures)
+    (based_some c.args.machine.now (c.args.kept ∷ []) c.args.ancestor.now c.in-Some.ancestor c.in-Some.is c.requires.based).1
+    ∙ ap (λ f. f.base) (sym c.deref-then-depth-lt-MOST_SHARED.ensures)
 
 pub onto-requires-clause-order : goal.onto-requires-clause-order
 onto-requires-clause-order c =

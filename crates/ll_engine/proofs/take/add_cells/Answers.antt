@@ -16,7 +16,8 @@ loop-preserved c =
       cells =
           c.in_ok-fresh.ensures.cells
           ∙ (ap (λ xs. xs ++ cell ∷ []) c.loop.invariant.cells
-          ∙ (append_assoc old (replicate c.loop.counter cell) (cell ∷ []) ∙ ap (λ xs. old ++ xs) (sym (replicate_push cell c.loop.counter (c.loop.counter + 1) (omega arith)))));
+          ∙ (append_assoc old (replicate c.loop.counter cell) (cell ∷ [])
+          ∙ ap (λ xs. old ++ xs) (sym (replicate_push cell c.loop.counter (c.loop.counter + 1) (omega arith)))));
       bank = c.fresh.ensures.bank ∙ c.loop.invariant.bank;
       marks = store_then (stored c.args.store.now) (stored c.loop.store) (stored c.fresh.new.self) c.loop.invariant.marks c.fresh.ensures.marks;
     }
@@ -25,4 +26,5 @@ pub returns-in_err-fresh-clause-bank : goal.returns-in_err-fresh-clause-bank
 returns-in_err-fresh-clause-bank c = c.fresh.ensures.bank ∙ c.loop.invariant.bank
 
 pub returns-in_err-fresh-clause-marks : goal.returns-in_err-fresh-clause-marks
-returns-in_err-fresh-clause-marks c = store_then (stored c.args.store.now) (stored c.loop.store) (stored c.fresh.new.self) c.loop.invariant.marks c.fresh.ensures.marks
+returns-in_err-fresh-clause-marks c = store_then (stored c.args.store.now) (stored c.loop.store) (stored c.fresh.new.self) c.loop.invariant.marks
+    c.fresh.ensures.marks

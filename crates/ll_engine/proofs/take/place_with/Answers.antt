@@ -7,9 +7,11 @@ use Rattle.ll_engine.proofs.take.place_with.Goals as goal
 
 pub returns-then-entry-label-clause-some : goal.returns-then-entry-label-clause-some
 returns-then-entry-label-clause-some c =
-    place_there c.args.context.now.present.entries c.args.label c.loop-from_front.from_front (resource c.entry-entry.result) c.requires c.entry-entry.ensures c.if-entry-label.true
+    place_there c.args.context.now.present.entries c.args.label c.loop-from_front.from_front (resource c.entry-entry.result) c.requires c.entry-entry.ensures
+    c.if-entry-label.true
 
 pub loop-from_front-preserved : goal.loop-from_front-preserved
 loop-from_front-preserved c =
-    passed c.args.context.now.present.entries c.loop-from_front.from_front (c.loop-from_front.from_front + 1) (resource c.entry-entry.result) c.args.label (omega arith) c.entry-entry.ensures
+    passed c.args.context.now.present.entries c.loop-from_front.from_front (c.loop-from_front.from_front + 1) (resource c.entry-entry.result) c.args.label
+    (omega arith) c.entry-entry.ensures
     (ne_eqb c.entry-entry.result.label c.args.label c.if-entry-label.false) ∙ c.loop-from_front.invariant

@@ -8,4 +8,5 @@ use Rattle.ll_engine.proofs.take.unify_leaf.Goals as goal
 pub returns-clause-found : goal.returns-clause-found
 returns-clause-found c =
     let s = c.args.store.now in
-    unifies s.bank c.unify_head.new.store.bank (table_of s.cells.cells) (table_of c.unify_head.new.store.cells.cells) (term_tree s.bank c.args.atom.0) (close (env_of s.bank c.args.variables.now) (term_tree s.bank c.args.head.0)) c.in_ok-answer.answer c.in_ok-answer.ensures.solved
+    unifies s.bank c.unify_head.new.store.bank (table_of s.cells.cells) (table_of c.unify_head.new.store.cells.cells) (term_tree s.bank c.args.atom.0)
+    (close (env_of s.bank c.args.variables.now) (term_tree s.bank c.args.head.0)) c.in_ok-answer.answer c.in_ok-answer.ensures.solved

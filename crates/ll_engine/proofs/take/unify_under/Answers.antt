@@ -6,4 +6,5 @@ use Rattle.ll_engine.proofs.take.unify_under.Goals as goal
 pub returns-clause-found : goal.returns-clause-found
 returns-clause-found c =
     let s = c.args.store.now in
-    unifies s.bank s.bank (table_of s.cells.cells) (table_of c.unify.new.store.cells.cells) (term_tree s.bank c.args.left.0) (term_tree s.bank c.args.right.0) c.in_ok-answer.answer c.in_ok-answer.ensures.solved
+    unifies s.bank s.bank (table_of s.cells.cells) (table_of c.unify.new.store.cells.cells) (term_tree s.bank c.args.left.0) (term_tree s.bank c.args.right.0)
+    c.in_ok-answer.answer c.in_ok-answer.ensures.solved

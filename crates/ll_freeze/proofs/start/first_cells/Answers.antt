@@ -6,5 +6,6 @@ pub loop-preserved : goal.loop-preserved
 loop-preserved c =
     record {
       bank = c.fresh.ensures.bank ∙ c.loop.invariant.bank;
-      cells = c.in_ok-fresh.ensures.cells ∙ (ap (λ xs. xs ++ record { to = _; level = 0 } ∷ []) c.loop.invariant.cells ∙ sym (cells_push c.loop.counter (c.loop.counter + 1) (omega arith)));
+      cells = c.in_ok-fresh.ensures.cells ∙ (ap (λ xs. xs ++ record { to = _; level = 0 } ∷ []) c.loop.invariant.cells
+          ∙ sym (cells_push c.loop.counter (c.loop.counter + 1) (omega arith)));
     }

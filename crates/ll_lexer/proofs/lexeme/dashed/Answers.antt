@@ -13,4 +13,5 @@ pub returns-then-digits-gt0 : goal.returns-then-digits-gt0
 returns-then-digits-gt0 c = dashed-longest c.args.rest.now c.digits_len-digits.result c.digits_len-digits.ensures.run c.if-digits-gt0.true
 
 pub returns-else-digits-gt0 : goal.returns-else-digits-gt0
-returns-else-digits-gt0 c = minus-longest c.args.rest.now (let r = c.digits_len-digits.ensures.run in omega arith) (rw (← c.if-starts_with.ensures.value, ← c.if-starts_with-2.ensures.value) refl)
+returns-else-digits-gt0 c = minus-longest c.args.rest.now (let r = c.digits_len-digits.ensures.run in
+    omega arith) (rw (← c.if-starts_with.ensures.value, ← c.if-starts_with-2.ensures.value) refl)

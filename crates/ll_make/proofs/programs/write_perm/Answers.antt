@@ -4,4 +4,5 @@ use Rattle.ll_make.proofs.programs.write_perm.Goals as goal
 pub returns : goal.returns
 returns c =
     when_appended c.extend_from_slice-2.result _ _ c.extend_from_slice-2.new.self.items c.extend_from_slice-2.ensures.items
-    (perm_written c.args.text.now.items _ c.extend_from_slice.new.self.items c.write_list.new.text.items c.extend_from_slice-2.new.self.items c.in_ok-extend_from_slice.ensures.items c.in_ok-write_list.ensures)
+    (perm_written c.args.text.now.items _ c.extend_from_slice.new.self.items c.write_list.new.text.items c.extend_from_slice-2.new.self.items
+    c.in_ok-extend_from_slice.ensures.items c.in_ok-write_list.ensures)

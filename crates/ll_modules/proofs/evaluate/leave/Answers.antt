@@ -17,14 +17,16 @@ pub returns-in_ok-push-in-Left-clause-step : goal.returns-in_ok-push-in-Left-cla
 returns-in_ok-push-in-Left-clause-step c =
     let f : FitsSigned w64 c.in-Some.number = search rules in
     let e = rw (to_z-of_z w64 c.in-Some.number f) at c.in_ok-push-in-Left.ensures.items in
-    λ ops bank h. leaves_left ops bank c.args.frames.now.items c.push.new.self.items c.args.frame c.args.value c.in-Left.operator c.in-Left.right c.in-Some.number c.in-Left.is c.in-Some.is e h
+    λ ops bank h. leaves_left ops bank c.args.frames.now.items c.push.new.self.items c.args.frame c.args.value c.in-Left.operator c.in-Left.right
+    c.in-Some.number c.in-Left.is c.in-Some.is e h
 
 pub returns-in-Right-clause-step : goal.returns-in-Right-clause-step
 returns-in-Right-clause-step c =
     let f : FitsSigned w64 c.in-Some.number = search rules in
     let g : FitsSigned w64 c.in-Right.left = search rules in
     let e = rw (to_z-of_z w64 c.in-Some.number f, to_z-of_z w64 c.in-Right.left g) at c.operate.ensures in
-    λ ops bank h. leaves_right ops bank c.args.frames.now.items c.args.frame c.args.value c.operate.result c.in-Right.operator c.in-Right.left c.in-Some.number c.in-Right.is c.in-Some.is e h
+    λ ops bank h. leaves_right ops bank c.args.frames.now.items c.args.frame c.args.value c.operate.result c.in-Right.operator c.in-Right.left c.in-Some.number
+    c.in-Right.is c.in-Some.is e h
 
 pub returns-in_ok-insert-in-Note-clause-step : goal.returns-in_ok-insert-in-Note-clause-step
 returns-in_ok-insert-in-Note-clause-step c = λ ops bank h.
@@ -37,5 +39,6 @@ returns-in_ok-insert-in-Note-clause-known c =
     λ ops bank n k.
     known_more ops bank (get nat_cmp c.args.known.now) (get nat_cmp c.insert.new.self) c.in-Note.at.0 c.in-Some.number k
     (note_is ops bank c.args.frames.now.items c.args.frame c.args.value c.in-Note.at c.in-Some.number c.in-Note.is c.in-Some.is n)
-    (λ q. subst (λ (w : ℤ). get nat_cmp c.insert.new.self q ≡ cond (is_at (nat_cmp c.in-Note.at.0) q) (Some w) (get nat_cmp c.args.known.now q)) (to_z-of_z w64 c.in-Some.number f)
+    (λ q. subst (λ (w : ℤ). get nat_cmp c.insert.new.self q ≡ cond (is_at (nat_cmp c.in-Note.at.0) q) (Some w) (get nat_cmp c.args.known.now q))
+    (to_z-of_z w64 c.in-Some.number f)
     (c.in_ok-insert-in-Note.ensures.updates.0 q))

@@ -8,7 +8,8 @@ use Rattle.ll_modules.proofs.evaluate.value.Given as goal
 
 abbrev pub invariant-loop-todo : goal.invariant-loop-todo
 invariant-loop-todo l = record {
-  same : ended (operators_of l.names) l.bank l.frames.items (todo_value (operators_of l.names) l.bank l.todo) ≡ value_of (operators_of l.names) (term_tree l.bank l.fn.at.0);
+  same : ended (operators_of l.names) l.bank l.frames.items (todo_value (operators_of l.names) l.bank l.todo)
+      ≡ value_of (operators_of l.names) (term_tree l.bank l.fn.at.0);
   inside : AreInside l.bank l.frames.items;
   next_inside : IsTodoInside l.bank l.todo;
   noted : AreNoted (operators_of l.names) l.bank l.frames.items (todo_value (operators_of l.names) l.bank l.todo);

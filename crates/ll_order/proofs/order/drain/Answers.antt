@@ -14,52 +14,64 @@ use Rattle.ll_order.proofs.order.drain.Goals as goal
 
 pub loop-report-init : goal.loop-report-init
 loop-report-init g c = (
-  drained_first g.N.Batch.alternatives g.O.Outlet.takes g.O.Outlet.breaks c.args.pool.now c.args.out.now _ refl refl refl c.requires.done.0 c.requires.done.1 (later_itself c.args.pool.now),
+  drained_first g.N.Batch.alternatives g.O.Outlet.takes g.O.Outlet.breaks c.args.pool.now c.args.out.now _ refl refl refl c.requires.done.0 c.requires.done.1
+      (later_itself c.args.pool.now),
   record { wanted = c.requires.welcome; faults_kept = le_refl _; welcome_kept = λ e. (λ h. h, λ h. h) },
 )
 
 pub give-requires-clause-welcome : goal.give-requires-clause-welcome
 give-requires-clause-welcome g c =
     let r = c.in-Events.ensures in let i = c.loop-report.invariant in let w = i.1 in
-    let now = events_now g.N.Batch.alternatives g.O.Outlet.takes g.O.Outlet.breaks _ c.loop-report.pool c.ready.new.self _ c.loop-report.out c.loop-report.out c.loop-report.counts c.loop-report.counts c.in-Events.report r.shaped r.event i.0 in
+    let now = events_now g.N.Batch.alternatives g.O.Outlet.takes g.O.Outlet.breaks _ c.loop-report.pool c.ready.new.self _ c.loop-report.out c.loop-report.out
+    c.loop-report.counts c.loop-report.counts c.in-Events.report r.shaped r.event i.0 in
     let told : c.report.inside.events.items ≡ c.in-Events.report.events = ap (λ (o : Owed Event). o.events) c.report.view_is in
-    subst (Every (g.O.Outlet.welcome c.loop-report.out)) (sym told) (every_front (g.O.Outlet.welcome c.loop-report.out) c.in-Events.report.events (events_left g.N.Batch.alternatives c.ready.new.self) (subst (Every (g.O.Outlet.welcome c.loop-report.out)) now w.wanted))
+    subst (Every (g.O.Outlet.welcome c.loop-report.out)) (sym told)
+    (every_front (g.O.Outlet.welcome c.loop-report.out) c.in-Events.report.events (events_left g.N.Batch.alternatives c.ready.new.self)
+    (subst (Every (g.O.Outlet.welcome c.loop-report.out)) now w.wanted))
 
 pub returns-in-Err-clause-refused : goal.returns-in-Err-clause-refused
 returns-in-Err-clause-refused g c =
     let r = c.in-Events.ensures in let i = c.loop-report.invariant in
     let told : c.report.inside.events.items ≡ c.in-Events.report.events = ap (λ (o : Owed Event). o.events) c.report.view_is in
-    drained_refused g.N.Batch.alternatives g.O.Outlet.takes g.O.Outlet.breaks _ c.loop-report.pool c.ready.new.self _ c.loop-report.out c.give.new.out c.loop-report.counts c.loop-report.counts c.in-Events.report r.shaped r.event i.0
+    drained_refused g.N.Batch.alternatives g.O.Outlet.takes g.O.Outlet.breaks _ c.loop-report.pool c.ready.new.self _ c.loop-report.out c.give.new.out
+    c.loop-report.counts c.loop-report.counts c.in-Events.report r.shaped r.event i.0
     (subst (λ l. Refuses g.O.Outlet.takes g.O.Outlet.breaks c.loop-report.out l c.give.new.out) told c.in-Err.ensures.refused)
 
 pub returns-in-Err-clause-later : goal.returns-in-Err-clause-later
 returns-in-Err-clause-later g c =
     let r = c.in-Events.ensures in let i = c.loop-report.invariant in let d = i.0 in
-    later_on c.args.pool.now c.loop-report.pool c.ready.new.self d.later (later_event g.N.Batch.alternatives c.loop-report.pool c.ready.new.self (Ready (Events c.in-Events.report)) r.event)
+    later_on c.args.pool.now c.loop-report.pool c.ready.new.self d.later
+    (later_event g.N.Batch.alternatives c.loop-report.pool c.ready.new.self (Ready (Events c.in-Events.report)) r.event)
 
 pub loop-report-smaller : goal.loop-report-smaller
 loop-report-smaller g c =
     let r = c.in-Events.ensures in let i = c.loop-report.invariant in
-    let less = drained_less g.N.Batch.alternatives g.O.Outlet.takes g.O.Outlet.breaks _ c.loop-report.pool c.ready.new.self _ c.loop-report.out c.loop-report.out c.loop-report.counts c.loop-report.counts c.in-Events.report r.shaped r.event i.0 in
+    let less = drained_less g.N.Batch.alternatives g.O.Outlet.takes g.O.Outlet.breaks _ c.loop-report.pool c.ready.new.self _ c.loop-report.out
+    c.loop-report.out c.loop-report.counts c.loop-report.counts c.in-Events.report r.shaped r.event i.0 in
     omega arith
 
 pub loop-report-preserved : goal.loop-report-preserved
 loop-report-preserved g c =
     let r = c.in-Events.ensures in let i = c.loop-report.invariant in let w = i.1 in
-    let now = events_now g.N.Batch.alternatives g.O.Outlet.takes g.O.Outlet.breaks _ c.loop-report.pool c.ready.new.self _ c.loop-report.out c.loop-report.out c.loop-report.counts c.loop-report.counts c.in-Events.report r.shaped r.event i.0 in
+    let now = events_now g.N.Batch.alternatives g.O.Outlet.takes g.O.Outlet.breaks _ c.loop-report.pool c.ready.new.self _ c.loop-report.out c.loop-report.out
+    c.loop-report.counts c.loop-report.counts c.in-Events.report r.shaped r.event i.0 in
     let told : c.report.inside.events.items ≡ c.in-Events.report.events = ap (λ (o : Owed Event). o.events) c.report.view_is in
     let cost : c.report.inside.inferences ≡ c.in-Events.report.cost = ap (λ (o : Owed Event). o.cost) c.report.view_is in
     let ok = c.in-Ok.ensures in
     let kept = ok.welcome_kept in (
-      drained_more g.N.Batch.alternatives g.O.Outlet.takes g.O.Outlet.breaks _ c.loop-report.pool c.ready.new.self _ c.loop-report.out c.give.new.out c.loop-report.counts
-          (record { answers = c.in-Ok.given.answers; reached = c.in-Ok.given.reached; inferences = c.saturating_add-inferences.result }) c.in-Events.report r.shaped r.event i.0
+      drained_more g.N.Batch.alternatives g.O.Outlet.takes g.O.Outlet.breaks _ c.loop-report.pool c.ready.new.self _ c.loop-report.out c.give.new.out
+          c.loop-report.counts
+          (record { answers = c.in-Ok.given.answers; reached = c.in-Ok.given.reached; inferences = c.saturating_add-inferences.result }) c.in-Events.report
+          r.shaped r.event i.0
           (subst (λ l. Gives g.O.Outlet.takes c.loop-report.out l c.give.new.out) told ok.given)
           (ok.answers ∙ ap (λ l. cut_count (c.loop-report.counts.answers + count_by is_answer l)) told)
           (ok.reached ∙ ap (λ l. cut_count (c.loop-report.counts.reached + count_by is_reached l)) told)
           (c.saturating_add-inferences.ensures ∙ ap (λ n. cut_count (c.loop-report.counts.inferences + n)) cost),
       record {
-        wanted = every_more (g.O.Outlet.welcome c.loop-report.out) (g.O.Outlet.welcome c.give.new.out) (events_left g.N.Batch.alternatives c.ready.new.self) (λ e h. (kept e).0 h)
-            (every_back (g.O.Outlet.welcome c.loop-report.out) c.in-Events.report.events (events_left g.N.Batch.alternatives c.ready.new.self) (subst (Every (g.O.Outlet.welcome c.loop-report.out)) now w.wanted));
+        wanted = every_more (g.O.Outlet.welcome c.loop-report.out) (g.O.Outlet.welcome c.give.new.out) (events_left g.N.Batch.alternatives c.ready.new.self)
+            (λ e h. (kept e).0 h)
+            (every_back (g.O.Outlet.welcome c.loop-report.out) c.in-Events.report.events (events_left g.N.Batch.alternatives c.ready.new.self)
+            (subst (Every (g.O.Outlet.welcome c.loop-report.out)) now w.wanted));
         faults_kept = le_trans w.faults_kept ok.faults_kept;
         welcome_kept = λ e. (λ h. (kept e).0 ((w.welcome_kept e).0 h), λ h. (w.welcome_kept e).1 ((kept e).1 h));
       },
@@ -68,8 +80,10 @@ loop-report-preserved g c =
 pub returns : goal.returns
 returns g c =
     let i = c.loop-report.invariant in let d = i.0 in let w = i.1 in
-    let end = drained_end g.N.Batch.alternatives c.loop-report.pool c.ready.new.self c.ready.result c.in_default.not-Events c.ready.ensures.shaped d.untried d.busy c.ready.ensures.event in
-    let all = drained_all g.N.Batch.alternatives g.O.Outlet.takes g.O.Outlet.breaks c.args.pool.now c.loop-report.pool c.args.out.now c.loop-report.out c.loop-report.counts d (none_left_all g.N.Batch.alternatives c.loop-report.pool end.0) in
+    let end = drained_end g.N.Batch.alternatives c.loop-report.pool c.ready.new.self c.ready.result c.in_default.not-Events c.ready.ensures.shaped d.untried
+    d.busy c.ready.ensures.event in
+    let all = drained_all g.N.Batch.alternatives g.O.Outlet.takes g.O.Outlet.breaks c.args.pool.now c.loop-report.pool c.args.out.now c.loop-report.out
+    c.loop-report.counts d (none_left_all g.N.Batch.alternatives c.loop-report.pool end.0) in
     record {
       given = all.0;
       counts = all.1;

@@ -28,10 +28,15 @@ loop-event-preserved g c =
     let kept = c.event.ensures.welcome_kept in
     record {
       order = i.order ∙ (ap (λ l. c.loop-event.yielded ++ l) step ∙ sym (append_assoc c.loop-event.yielded (c.in-Some.event ∷ []) c.next.new.self.rest.items));
-      given = gives_more g.O.Outlet.takes g.O.Outlet.breaks _ _ _ c.loop-event.yielded (c.in-Some.event ∷ []) i.given (c.event.new.self, c.in-Ok.ensures.taken, refl);
+      given = gives_more g.O.Outlet.takes g.O.Outlet.breaks _ _ _ c.loop-event.yielded (c.in-Some.event ∷ []) i.given (
+        c.event.new.self,
+        c.in-Ok.ensures.taken,
+        refl,
+      );
       answers = counts_more is_answer _ _ _ c.loop-event.yielded (c.in-Some.event ∷ []) i.answers c.counted-counts.ensures.answers;
       reached = counts_more is_reached _ _ _ c.loop-event.yielded (c.in-Some.event ∷ []) i.reached c.counted-counts.ensures.reached;
-      wanted = every_more (g.O.Outlet.welcome c.loop-event.out) (g.O.Outlet.welcome c.event.new.self) c.next.new.self.rest.items (λ e h. (kept e).0 h) (subst (Every (g.O.Outlet.welcome c.loop-event.out)) step i.wanted).1;
+      wanted = every_more (g.O.Outlet.welcome c.loop-event.out) (g.O.Outlet.welcome c.event.new.self) c.next.new.self.rest.items (λ e h. (kept e).0 h)
+          (subst (Every (g.O.Outlet.welcome c.loop-event.out)) step i.wanted).1;
       faults_kept = le_trans i.faults_kept c.event.ensures.faults_kept;
       welcome_kept = λ e. (λ h. (kept e).0 ((i.welcome_kept e).0 h), λ h. (i.welcome_kept e).1 ((kept e).1 h));
     }

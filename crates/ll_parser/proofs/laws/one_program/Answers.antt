@@ -10,7 +10,8 @@ pub returns-clause-either : goal.returns-clause-either
 returns-clause-either c = λ limit ts end. has-answer programs FlatProgram program_start program_step program_final decides-programs limit end ts
 
 pub returns-clause-tree : goal.returns-clause-tree
-returns-clause-tree c = λ limit ts p q d e. one-tree programs (one-parse programs FlatProgram program_start program_step program_final decides-programs) ts p q d.0 e.0
+returns-clause-tree c = λ limit ts p q d e. one-tree programs (one-parse programs FlatProgram program_start program_step program_final decides-programs) ts p q
+    d.0 e.0
 
 pub returns-clause-fault : goal.returns-clause-fault
 returns-clause-fault c = λ limit ts end. one-fault programs limit ts end

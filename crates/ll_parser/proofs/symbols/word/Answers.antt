@@ -7,4 +7,5 @@ unwrap-text-requires c = is-ok c.from_utf8.result _ _ _ c.from_utf8.ensures.case
 
 pub returns-clause-text : goal.returns-clause-text
 returns-clause-text c =
-    named-text c.add.new.self c.in_ok-name.name c.args.at _ c.args.bytes.now c.in_ok-name.ensures.text (ok-value c.from_utf8.result _ _ c.unwrap-text.result c.unwrap-text.ensures c.from_utf8.ensures.cases).0
+    named-text c.add.new.self c.in_ok-name.name c.args.at _ c.args.bytes.now c.in_ok-name.ensures.text
+    (ok-value c.from_utf8.result _ _ c.unwrap-text.result c.unwrap-text.ensures c.from_utf8.ensures.cases).0

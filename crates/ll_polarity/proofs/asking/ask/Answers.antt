@@ -19,7 +19,8 @@ pub returns-in-Some-clause-cause : goal.returns-in-Some-clause-cause
 returns-in-Some-clause-cause c =
     let part = c.loaded.inside in
     subst (λ hs. IsFirst c.in-Some.fault (query_faults hs c.args.query.now))
-    (headings_shown part.bank part.names part.modules.items c.deref.result.now part.clauses.items c.args.loaded c.deref.ensures.value c.loaded.view_is) (rw c.in-Some.is at c.in_ok-fault.ensures)
+    (headings_shown part.bank part.names part.modules.items c.deref.result.now part.clauses.items c.args.loaded c.deref.ensures.value c.loaded.view_is)
+    (rw c.in-Some.is at c.in_ok-fault.ensures)
 
 pub returns-in-Some-clause-fault : goal.returns-in-Some-clause-fault
 returns-in-Some-clause-fault c =
@@ -35,13 +36,15 @@ pub returns-clause-faultless : goal.returns-clause-faultless
 returns-clause-faultless c =
     let part = c.loaded.inside in
     subst (λ hs. query_faults hs c.args.query.now ≡ [])
-    (headings_shown part.bank part.names part.modules.items c.deref.result.now part.clauses.items c.args.loaded c.deref.ensures.value c.loaded.view_is) (rw c.in_default.is at c.in_ok-fault.ensures)
+    (headings_shown part.bank part.names part.modules.items c.deref.result.now part.clauses.items c.args.loaded c.deref.ensures.value c.loaded.view_is)
+    (rw c.in_default.is at c.in_ok-fault.ensures)
 
 pub returns-clause-problem : goal.returns-clause-problem
 returns-clause-problem c =
     let part = c.loaded.inside in
     let new = c.in_ok-addition.addition in
-    problem_shown part.bank c.added.new.bank part.names part.modules.items c.deref-2.result.now part.clauses.items c.args.loaded c.deref-2.ensures.value c.loaded.view_is c.loaded.invariant.0 c.loaded.invariant.1 c.in_ok-addition.ensures.keeps
+    problem_shown part.bank c.added.new.bank part.names part.modules.items c.deref-2.result.now part.clauses.items c.args.loaded c.deref-2.ensures.value
+    c.loaded.view_is c.loaded.invariant.0 c.loaded.invariant.1 c.in_ok-addition.ensures.keeps
     c.args.query.now c.args.bound new.names (form_tree c.added.new.bank new.goal.0) new.asked.items
     (c.in_ok-addition.ensures.shows (headings_of c.args.loaded) (returns-clause-faultless c)) c.in_ok-addition.ensures.asked c.in_ok-addition.ensures.names
 

@@ -28,7 +28,8 @@ form-requires-clause-high c =
 pub form-requires-clause-room : goal.form-requires-clause-room
 form-requires-clause-room c =
     let raw = raw_at c.args.texts.now c.args.forms.now c.args.at.0 in
-    room_whole c.args.texts.now (place_in c.args.places.now.places) (outermost None c.in_ok-binders.binders.scope) c.args.met.now.names c.args.met.now.variables raw c.requires.first
+    room_whole c.args.texts.now (place_in c.args.places.now.places) (outermost None c.in_ok-binders.binders.scope) c.args.met.now.names c.args.met.now.variables
+    raw c.requires.first
     (omega (arith, c.requires.few, (small_query raw c.requires.whole).light))
 
 pub returns-clause-shows : goal.returns-clause-shows
@@ -38,7 +39,9 @@ returns-clause-shows c = λ ms heads first h.
     let places = place_in c.args.places.now.places in
     let met : Met = record { names = c.args.met.now.names; variables = [] } in
     c.in_ok-goal.ensures.shows.tree
-    ∙ ((λ i. (built_form places (outermost None ((c.in_ok-binders.ensures i).scope)) (record { names = c.args.met.now.names; variables = variables_of texts (c.requires.first i) }) raw).it)
+    ∙
+    ((λ i. (built_form places (outermost None ((c.in_ok-binders.ensures i).scope))
+    (record { names = c.args.met.now.names; variables = variables_of texts (c.requires.first i) }) raw).it)
     ∙ ap (λ y. y.it) (same_form places ms heads (λ w. ap (λ o. unwrap_or o 0) (first w)) GoalSide (outermost None []) met raw h))
 
 pub returns-clause-met : goal.returns-clause-met
@@ -48,5 +51,7 @@ returns-clause-met c = λ ms.
     let places = place_in c.args.places.now.places in
     let met : Met = record { names = c.args.met.now.names; variables = [] } in
     c.in_ok-goal.ensures.met
-    ∙ ((λ i. (built_form places (outermost None ((c.in_ok-binders.ensures i).scope)) (record { names = c.args.met.now.names; variables = variables_of texts (c.requires.first i) }) raw).met)
+    ∙
+    ((λ i. (built_form places (outermost None ((c.in_ok-binders.ensures i).scope))
+    (record { names = c.args.met.now.names; variables = variables_of texts (c.requires.first i) }) raw).met)
     ∙ met_form places ms (outermost None []) met raw)

@@ -8,5 +8,7 @@ use Rattle.ll_polarity.proofs.asking.module_texts.Goals as goal
 pub loop-module-preserved : goal.loop-module-preserved
 loop-module-preserved c =
     let item = c.module-item.result in
-    texts_more (λ m. text_of c.args.names.now m.name) string_bytes c.args.modules.now c.loop-module.module-index item c.text.result.now c.loop-module.texts.items c.push.new.self.items c.in_ok-text.text c.loop-module-test.true c.module-item.is
-    (get_or_from_slice_get c.args.names.now item.name c.text.result.now [] c.text.ensures) c.in_ok-text.ensures.ok c.loop-module.invariant c.in_ok-push.ensures.items
+    texts_more (λ m. text_of c.args.names.now m.name) string_bytes c.args.modules.now c.loop-module.module-index item c.text.result.now
+    c.loop-module.texts.items c.push.new.self.items c.in_ok-text.text c.loop-module-test.true c.module-item.is
+    (get_or_from_slice_get c.args.names.now item.name c.text.result.now [] c.text.ensures) c.in_ok-text.ensures.ok c.loop-module.invariant
+    c.in_ok-push.ensures.items

@@ -26,32 +26,39 @@ returns-in_ok-number-in-Free-clause-front c =
     let texts = c.args.names.now in let n = c.args.name in let w = text_of texts n in
     let e = c.in-Free.ensures ∙ ap (λ ts. meaning c.args.binders.now.scope (text_of ts n)) c.requires.stands.same in
     let k = c.in_ok-number-in-Free.ensures.number ∙ (number_is texts n c.requires.stands.distinct c.requires.name c.requires.text c.add.new.self
-    ∙ ap (λ vs. variable_in vs w) (ap (variables_of texts) c.in_ok-number-in-Free.ensures.added ∙ added_is texts n c.requires.stands.distinct c.requires.name c.requires.text c.args.met.now.variables)) in
-    subst (λ (m : Meaning). front_term c.variable.result ≡ put_term c.args.place.quantified c.args.place.depth (read_name m (met_of texts c.args.met.now) w).it) e
+    ∙ ap (λ vs. variable_in vs w) (ap (variables_of texts) c.in_ok-number-in-Free.ensures.added
+    ∙ added_is texts n c.requires.stands.distinct c.requires.name c.requires.text c.args.met.now.variables)) in
+    subst (λ (m : Meaning). front_term c.variable.result ≡ put_term c.args.place.quantified c.args.place.depth (read_name m (met_of texts c.args.met.now) w).it)
+    e
     (c.variable.ensures ∙ ap (λ x. put_term c.args.place.quantified c.args.place.depth (Var x)) k)
 
 pub returns-in_ok-number-in-Free-clause-met : goal.returns-in_ok-number-in-Free-clause-met
 returns-in_ok-number-in-Free-clause-met c =
     let texts = c.args.names.now in let n = c.args.name in let w = text_of texts n in
     let e = c.in-Free.ensures ∙ ap (λ ts. meaning c.args.binders.now.scope (text_of ts n)) c.requires.stands.same in
-    subst (λ (m : Meaning). met_of texts (record { names = c.args.met.now.names; variables = c.add.new.self }) ≡ (read_name m (met_of texts c.args.met.now) w).met) e
+    subst (λ (m : Meaning). met_of texts (record { names = c.args.met.now.names; variables = c.add.new.self })
+    ≡ (read_name m (met_of texts c.args.met.now) w).met) e
     (ap (λ vs. let m : Met = record { names = c.args.met.now.names; variables = vs } in m)
-    (ap (variables_of texts) c.in_ok-number-in-Free.ensures.added ∙ added_is texts n c.requires.stands.distinct c.requires.name c.requires.text c.args.met.now.variables))
+    (ap (variables_of texts) c.in_ok-number-in-Free.ensures.added
+    ∙ added_is texts n c.requires.stands.distinct c.requires.name c.requires.text c.args.met.now.variables))
 
 pub returns-in_ok-number-in-Constant-clause-front : goal.returns-in_ok-number-in-Constant-clause-front
 returns-in_ok-number-in-Constant-clause-front c =
     let texts = c.args.names.now in let n = c.args.name in let w = text_of texts n in
     let e = c.in-Constant.ensures ∙ ap (λ ts. meaning c.args.binders.now.scope (text_of ts n)) c.requires.stands.same in
     let t = get_or_from_slice_get texts n c.text.result.now [] c.text.ensures in
-    subst (λ (m : Meaning). Con (head.Name c.in_ok-number-in-Constant.number) ≡ put_term c.args.place.quantified c.args.place.depth (read_name m (met_of texts c.args.met.now) w).it) e
+    subst (λ (m : Meaning). Con (head.Name c.in_ok-number-in-Constant.number)
+    ≡ put_term c.args.place.quantified c.args.place.depth (read_name m (met_of texts c.args.met.now) w).it) e
     (put_constant c.args.place.quantified c.args.place.depth _ _
-    (constant_number c.args.met.now.names c.add-in-Constant.new.self c.text.result.now w _ c.in_ok-number-in-Constant.ensures.added t c.in_ok-number-in-Constant.ensures.number))
+    (constant_number c.args.met.now.names c.add-in-Constant.new.self c.text.result.now w _ c.in_ok-number-in-Constant.ensures.added t
+    c.in_ok-number-in-Constant.ensures.number))
 
 pub returns-in_ok-number-in-Constant-clause-met : goal.returns-in_ok-number-in-Constant-clause-met
 returns-in_ok-number-in-Constant-clause-met c =
     let texts = c.args.names.now in let n = c.args.name in let w = text_of texts n in
     let e = c.in-Constant.ensures ∙ ap (λ ts. meaning c.args.binders.now.scope (text_of ts n)) c.requires.stands.same in
     let t = get_or_from_slice_get texts n c.text.result.now [] c.text.ensures in
-    subst (λ (m : Meaning). met_of texts (record { names = c.add-in-Constant.new.self; variables = c.args.met.now.variables }) ≡ (read_name m (met_of texts c.args.met.now) w).met) e
+    subst (λ (m : Meaning). met_of texts (record { names = c.add-in-Constant.new.self; variables = c.args.met.now.variables })
+    ≡ (read_name m (met_of texts c.args.met.now) w).met) e
     (ap (λ ns. let m : Met = record { names = ns; variables = variables_of texts c.args.met.now.variables } in m)
     (c.in_ok-number-in-Constant.ensures.added ∙ ap (with_name c.args.met.now.names) (sym t)))

@@ -9,5 +9,7 @@ pub loop-module-preserved : goal.loop-module-preserved
 loop-module-preserved c =
     let item = c.module-item.result in
     let this : record { name = c.text.result.now; params = item.params } ≡ known_heading c.args.names.now item =
-    ap (λ t. let h : Heading = record { name = t; params = item.params } in h) (sym (get_or_from_slice_get c.args.names.now item.name c.text.result.now [] c.text.ensures)) in
-    headings-more (known_heading c.args.names.now) c.args.modules.now c.loop-module.module-index item _ c.loop-module.headings.params c.add.new.self.params c.loop-module-test.true c.module-item.is this c.loop-module.invariant c.in_ok-add.ensures
+    ap (λ t. let h : Heading = record { name = t; params = item.params } in
+    h) (sym (get_or_from_slice_get c.args.names.now item.name c.text.result.now [] c.text.ensures)) in
+    headings-more (known_heading c.args.names.now) c.args.modules.now c.loop-module.module-index item _ c.loop-module.headings.params c.add.new.self.params
+    c.loop-module-test.true c.module-item.is this c.loop-module.invariant c.in_ok-add.ensures

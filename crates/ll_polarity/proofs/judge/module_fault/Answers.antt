@@ -10,9 +10,14 @@ pub returns-clause-first : goal.returns-clause-first
 returns-clause-first c = λ ms known.
     let texts = c.args.source.now.names.now in let nodes = c.args.source.now.forms.now in
     let none = sym c.is_some.ensures ∙ c.if-is_some.false in
-    let scope = scope-of-module texts nodes c.args.body.now c.deref.result.now c.deref-2.result.now c.args.binders.now c.own_names_fault.new.binders c.open_all.new.binders c.open_all-2.new.binders c.requires.binders
-    (where-none c.in_ok-fault.fault _ none c.in_ok-fault.ensures.binders) c.in_ok-open_all.ensures c.in_ok-open_all-2.ensures c.deref.ensures.value c.deref-2.ensures.value in
+    let scope = scope-of-module texts nodes c.args.body.now c.deref.result.now c.deref-2.result.now c.args.binders.now c.own_names_fault.new.binders
+    c.open_all.new.binders c.open_all-2.new.binders c.requires.binders
+    (where-none c.in_ok-fault.fault _ none c.in_ok-fault.ensures.binders) c.in_ok-open_all.ensures c.in_ok-open_all-2.ensures c.deref.ensures.value
+    c.deref-2.ensures.value in
     head-after c.in_ok-fault.fault c.in_ok-fault-2.fault _ _ none
-    (subst (λ (b : Scoped). IsHead c.in_ok-fault.fault (repeated [] (map (identifier b.texts) c.args.body.now.params.items ++ map (identifier b.texts) c.args.body.now.locals.items))) c.requires.binders c.in_ok-fault.ensures.first)
+    (subst (λ (b : Scoped). IsHead c.in_ok-fault.fault (repeated []
+    (map (identifier b.texts) c.args.body.now.params.items ++ map (identifier b.texts) c.args.body.now.locals.items))) c.requires.binders
+    c.in_ok-fault.ensures.first)
     (subst (λ s. IsHead c.in_ok-fault-2.fault (clauses_faults ms s (map (shown_clause texts nodes) c.args.body.now.clauses.items))) scope
-    (subst (λ cs. IsHead c.in_ok-fault-2.fault (clauses_faults ms c.open_all-2.new.binders.scope (map (shown_clause texts nodes) cs))) c.deref-3.ensures.value (c.in_ok-fault-2.ensures.first ms known)))
+    (subst (λ cs. IsHead c.in_ok-fault-2.fault (clauses_faults ms c.open_all-2.new.binders.scope (map (shown_clause texts nodes) cs))) c.deref-3.ensures.value
+    (c.in_ok-fault-2.ensures.first ms known)))

@@ -12,15 +12,19 @@ pub returns-then-has : goal.returns-then-has
 returns-then-has c = λ ms known.
     let earlier = map (λ (b : Binder). b.text) c.loop-module.earlier.scope in
     first-along _ _ _ (sym (c.loop-module.invariant.faults ms known))
-    (name-repeated c.args.source.now.names.now c.args.source.now.forms.now ms c.args.modules.now c.loop-module.module-index c.module-item.result c.loop-module-test.true c.module-item.is earlier
-    (ap (λ ts. list_any (bytes_eq (slice_index_or ts c.module-item.result.name.name [])) earlier) (sym c.loop-module.invariant.texts) ∙ (sym c.has.ensures ∙ c.if-has.true)))
+    (name-repeated c.args.source.now.names.now c.args.source.now.forms.now ms c.args.modules.now c.loop-module.module-index c.module-item.result
+    c.loop-module-test.true c.module-item.is earlier
+    (ap (λ ts. list_any (bytes_eq (slice_index_or ts c.module-item.result.name.name [])) earlier) (sym c.loop-module.invariant.texts)
+    ∙ (sym c.has.ensures ∙ c.if-has.true)))
 
 pub returns-then-is_some : goal.returns-then-is_some
 returns-then-is_some c = λ ms known.
     let earlier = map (λ (b : Binder). b.text) c.loop-module.earlier.scope in
     head-along c.in_ok-fault.fault _ _ (sym (c.loop-module.invariant.faults ms known))
-    (fault-inside c.args.source.now.names.now c.args.source.now.forms.now ms c.args.modules.now c.loop-module.module-index c.module-item.result c.loop-module-test.true c.module-item.is earlier c.in_ok-fault.fault
-    (ap (λ ts. list_any (bytes_eq (slice_index_or ts c.module-item.result.name.name [])) earlier) (sym c.loop-module.invariant.texts) ∙ (sym c.has.ensures ∙ c.if-has.false)) (sym c.is_some.ensures ∙ c.if-is_some.true)
+    (fault-inside c.args.source.now.names.now c.args.source.now.forms.now ms c.args.modules.now c.loop-module.module-index c.module-item.result
+    c.loop-module-test.true c.module-item.is earlier c.in_ok-fault.fault
+    (ap (λ ts. list_any (bytes_eq (slice_index_or ts c.module-item.result.name.name [])) earlier) (sym c.loop-module.invariant.texts)
+    ∙ (sym c.has.ensures ∙ c.if-has.false)) (sym c.is_some.ensures ∙ c.if-is_some.true)
     (c.in_ok-fault.ensures.first ms known))
 
 pub loop-module-preserved : goal.loop-module-preserved
@@ -33,8 +37,10 @@ loop-module-preserved c =
           let rest = map (shown_module c.args.source.now.names.now c.args.source.now.forms.now) (drop (c.loop-module.module-index + 1) c.args.modules.now) in
           ap (λ (b : Scoped). modules_faults ms (map (λ (x : Binder). x.text) b.scope) rest) c.in_ok-open.ensures.opened
           ∙ (ap (λ ts. modules_faults ms (slice_index_or ts item.name.name [] ∷ earlier) rest) c.loop-module.invariant.texts
-          ∙ (sym (module-done c.args.source.now.names.now c.args.source.now.forms.now ms c.args.modules.now c.loop-module.module-index item c.loop-module-test.true c.module-item.is earlier c.in_ok-fault.fault
-          (ap (λ ts. list_any (bytes_eq (slice_index_or ts item.name.name [])) earlier) (sym c.loop-module.invariant.texts) ∙ (sym c.has.ensures ∙ c.if-has.false)) none (c.in_ok-fault.ensures.first ms known))
+          ∙ (sym (module-done c.args.source.now.names.now c.args.source.now.forms.now ms c.args.modules.now c.loop-module.module-index item
+          c.loop-module-test.true c.module-item.is earlier c.in_ok-fault.fault
+          (ap (λ ts. list_any (bytes_eq (slice_index_or ts item.name.name [])) earlier) (sym c.loop-module.invariant.texts)
+          ∙ (sym c.has.ensures ∙ c.if-has.false)) none (c.in_ok-fault.ensures.first ms known))
           ∙ c.loop-module.invariant.faults ms known));
       texts = ap (λ (b : Scoped). b.texts) c.in_ok-open.ensures.opened ∙ c.loop-module.invariant.texts;
       binders = where-none c.in_ok-fault.fault _ none c.in_ok-fault.ensures.binders ∙ c.loop-module.invariant.binders;
@@ -43,5 +49,6 @@ loop-module-preserved c =
 pub returns : goal.returns
 returns c = λ ms known.
     sym (c.loop-module.invariant.faults ms known)
-    ∙ ap (λ rs. modules_faults ms (map (λ (b : Binder). b.text) c.loop-module.earlier.scope) (map (shown_module c.args.source.now.names.now c.args.source.now.forms.now) rs))
+    ∙ ap (λ rs. modules_faults ms (map (λ (b : Binder). b.text) c.loop-module.earlier.scope)
+    (map (shown_module c.args.source.now.names.now c.args.source.now.forms.now) rs))
     (drop_all c.loop-module.module-index c.args.modules.now c.loop-module-test.false)

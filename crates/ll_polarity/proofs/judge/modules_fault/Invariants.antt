@@ -8,7 +8,8 @@ use Rattle.ll_polarity.proofs.judge.modules_fault.Given as goal
 abbrev pub invariant-loop-module : goal.invariant-loop-module
 invariant-loop-module l = record {
   faults : (ms : List Heading) → AreFound l.source.headings.now.params ms
-      → modules_faults ms (map (λ (b : Binder). b.text) l.earlier.scope) (map (shown_module l.source.names.now l.source.forms.now) (drop l.module-index l.modules))
+      → modules_faults ms (map (λ (b : Binder). b.text) l.earlier.scope)
+      (map (shown_module l.source.names.now l.source.forms.now) (drop l.module-index l.modules))
       ≡ modules_faults ms [] (map (shown_module l.source.names.now l.source.forms.now) l.modules);
   texts : l.earlier.texts ≡ l.source.names.now;
   binders : l.binders ≡ record { texts = l.source.names.now; scope = [] };

@@ -4,4 +4,7 @@ use Rattle.ll_polarity.proofs.judge.open_all.Given as goal
 
 abbrev pub invariant-loop-name : goal.invariant-loop-name
 invariant-loop-name l =
-    l.binders ≡ record l.fn.binders { scope = map (λ n. record { text = n.text; local = l.local }) (reverse (map (identifier l.fn.binders.texts) (take l.name-index l.names))) ++ l.fn.binders.scope }
+    l.binders ≡ record l.fn.binders {
+      scope = map (λ n. record { text = n.text; local = l.local })
+          (reverse (map (identifier l.fn.binders.texts) (take l.name-index l.names))) ++ l.fn.binders.scope;
+    }

@@ -10,6 +10,8 @@ loop-module-preserved c =
     let item = c.module-item.result in
     let count : c.len.result ≡ length item.params.items = search rules in
     let this : record { name = c.text.result.now; params = c.len.result } ≡ raw_heading c.args.names.now item =
-    ap (λ t. let h : Heading = record { name = t; params = c.len.result } in h) (sym (get_or_from_slice_get c.args.names.now item.name.name c.text.result.now [] c.text.ensures))
+    ap (λ t. let h : Heading = record { name = t; params = c.len.result } in
+    h) (sym (get_or_from_slice_get c.args.names.now item.name.name c.text.result.now [] c.text.ensures))
     ∙ ap (λ k. let h : Heading = record { name = slice_index_or c.args.names.now item.name.name []; params = k } in h) count in
-    headings-more (raw_heading c.args.names.now) c.args.modules.now c.loop-module.module-index item _ c.loop-module.headings.params c.add.new.self.params c.loop-module-test.true c.module-item.is this c.loop-module.invariant c.in_ok-add.ensures
+    headings-more (raw_heading c.args.names.now) c.args.modules.now c.loop-module.module-index item _ c.loop-module.headings.params c.add.new.self.params
+    c.loop-module-test.true c.module-item.is this c.loop-module.invariant c.in_ok-add.ensures

@@ -5,5 +5,7 @@ use Rattle.ll_polarity.proofs.judge.own_names_fault.Goals as goal
 
 pub returns-clause-first : goal.returns-clause-first
 returns-clause-first c =
-    own-first c.args.binders.now.texts c.repeated_fault.new.binders.texts c.args.body.now.params.items c.deref.result.now c.args.body.now.locals.items c.deref-2.result.now _ _ _ c.in_ok-fault.fault c.in_ok-fault-2.fault
-    (ap (map (λ (b : Binder). b.text)) c.requires.scope) c.in_ok-fault.ensures.texts c.deref.ensures.value c.deref-2.ensures.value (sym c.is_some.ensures ∙ c.if-is_some.false) c.in_ok-fault.ensures.first c.in_ok-fault-2.ensures.first
+    own-first c.args.binders.now.texts c.repeated_fault.new.binders.texts c.args.body.now.params.items c.deref.result.now c.args.body.now.locals.items
+    c.deref-2.result.now _ _ _ c.in_ok-fault.fault c.in_ok-fault-2.fault
+    (ap (map (λ (b : Binder). b.text)) c.requires.scope) c.in_ok-fault.ensures.texts c.deref.ensures.value c.deref-2.ensures.value
+    (sym c.is_some.ensures ∙ c.if-is_some.false) c.in_ok-fault.ensures.first c.in_ok-fault-2.ensures.first

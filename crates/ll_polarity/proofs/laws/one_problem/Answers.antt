@@ -9,7 +9,8 @@ use Rattle.ll_polarity.proofs.laws.one_problem.Goals as goal
 pub returns-clause-either : goal.returns-clause-either
 returns-clause-either c = λ program query bound. by program query bound (program_faults program) refl (query_faults (map heading program.modules) query) refl
   where
-    by : (program : ProgramTree) (query : Raw) (bound : ℕ) (fs : List Fault) → program_faults program ≡ fs → (gs : List Fault) → query_faults (map heading program.modules) query ≡ gs
+    by : (program : ProgramTree) (query : Raw) (bound : ℕ) (fs : List Fault) → program_faults program ≡ fs → (gs : List Fault)
+        → query_faults (map heading program.modules) query ≡ gs
         → ((p : ProblemTree) × Asks program query bound p) ⊎ ((f : Fault) × (HasProgramFault program f ⊎ HasQueryFault program query f))
     by program query bound (f ∷ fs) e gs d = inr (f, inl (fs, e))
     by program query bound [] e (g ∷ gs) d = inr (g, inr (gs, d))

@@ -25,12 +25,14 @@ pub clauses-requires-clause-ready : goal.clauses-requires-clause-ready
 clauses-requires-clause-ready c =
     let p = c.program.inside in let whole = subst (IsWhole programs) (sym c.program.view_is) c.requires.whole in
     subst (All (λ (r : RawClause). IsReady p.names p.forms r.form.0)) (sym c.deref.ensures.value)
-    (ready_clauses p.names p.forms p.clauses.items (program-clauses-ready p.names p.forms p.clauses.items p.modules.items (whole_program_named _ whole) c.program.invariant.0))
+    (ready_clauses p.names p.forms p.clauses.items (program-clauses-ready p.names p.forms p.clauses.items p.modules.items (whole_program_named _ whole)
+    c.program.invariant.0))
 
 pub clauses-requires-clause-room : goal.clauses-requires-clause-room
 clauses-requires-clause-room c =
     let p = c.program.inside in let whole = subst (IsWhole programs) (sym c.program.view_is) c.requires.whole in
-    room_at_clauses p.names p.forms p.clauses.items p.modules.items whole c.deref.result.now c.in_ok-binders.binders.scope c.new-2.result c.deref.ensures.value (ap (λ b. b.scope) c.in_ok-binders.ensures) c.new-2.ensures
+    room_at_clauses p.names p.forms p.clauses.items p.modules.items whole c.deref.result.now c.in_ok-binders.binders.scope c.new-2.result c.deref.ensures.value
+    (ap (λ b. b.scope) c.in_ok-binders.ensures) c.new-2.ensures
 
 pub modules-requires-clause-stands : goal.modules-requires-clause-stands
 modules-requires-clause-stands c =
@@ -43,7 +45,8 @@ modules-requires-clause-outermost c = c.in_ok-clauses.ensures.scope ∙ ap (λ b
 pub modules-requires-clause-ready : goal.modules-requires-clause-ready
 modules-requires-clause-ready c =
     let p = c.program.inside in let whole = subst (IsWhole programs) (sym c.program.view_is) c.requires.whole in
-    subst (All (IsModuleReady p.names p.forms)) (sym c.deref-2.ensures.value) (program-modules-ready p.names p.forms p.clauses.items p.modules.items (whole_program_named _ whole) c.program.invariant.1)
+    subst (All (IsModuleReady p.names p.forms)) (sym c.deref-2.ensures.value)
+    (program-modules-ready p.names p.forms p.clauses.items p.modules.items (whole_program_named _ whole) c.program.invariant.1)
 
 pub modules-requires-clause-few : goal.modules-requires-clause-few
 modules-requires-clause-few c =
@@ -54,7 +57,8 @@ modules-requires-clause-few c =
 pub modules-requires-clause-room : goal.modules-requires-clause-room
 modules-requires-clause-room c =
     let p = c.program.inside in let whole = subst (IsWhole programs) (sym c.program.view_is) c.requires.whole in
-    room_at_modules p.names p.forms p.clauses.items p.modules.items whole c.deref.result.now c.in_ok-binders.binders.scope c.new-2.result c.deref.ensures.value (ap (λ b. b.scope) c.in_ok-binders.ensures) c.new-2.ensures
+    room_at_modules p.names p.forms p.clauses.items p.modules.items whole c.deref.result.now c.in_ok-binders.binders.scope c.new-2.result c.deref.ensures.value
+    (ap (λ b. b.scope) c.in_ok-binders.ensures) c.new-2.ensures
     c.deref-2.result.now c.clauses.new.met.names c.deref-2.ensures.value c.in_ok-clauses.ensures.names
 
 pub invariant_of-result : goal.invariant_of-result
@@ -62,12 +66,15 @@ invariant_of-result c =
     let p = c.program.inside in let whole = subst (IsWhole programs) (sym c.program.view_is) c.requires.whole in
     let found = subst (λ tree. FindsFirst c.args.places.now.places (module_names tree)) (sym c.program.view_is) c.requires.found in
     let faultless = subst (λ tree. program_faults tree ≡ []) (sym c.program.view_is) c.requires.faultless in
-    let is = part_shown p.names p.forms (place_in c.args.places.now.places) p.clauses.items c.deref.result.now p.modules.items c.deref-2.result.now c.in_ok-binders.binders.scope c.new-2.result c.clauses.new.met.names c.modules.new.met.names c.clauses.new.bank c.modules.new.bank
-    c.in_ok-clauses.clauses.items c.in_ok-modules.modules.items c.deref.ensures.value c.deref-2.ensures.value (ap (λ b. b.scope) c.in_ok-binders.ensures) c.new-2.ensures (λ w. ap (λ o. unwrap_or o 0) (found w)) c.in_ok-clauses.ensures.shows c.in_ok-clauses.ensures.names
+    let is = part_shown p.names p.forms (place_in c.args.places.now.places) p.clauses.items c.deref.result.now p.modules.items c.deref-2.result.now
+    c.in_ok-binders.binders.scope c.new-2.result c.clauses.new.met.names c.modules.new.met.names c.clauses.new.bank c.modules.new.bank
+    c.in_ok-clauses.clauses.items c.in_ok-modules.modules.items c.deref.ensures.value c.deref-2.ensures.value (ap (λ b. b.scope) c.in_ok-binders.ensures)
+    c.new-2.ensures (λ w. ap (λ o. unwrap_or o 0) (found w)) c.in_ok-clauses.ensures.shows c.in_ok-clauses.ensures.names
     c.in_ok-modules.ensures.shows c.in_ok-modules.ensures.names c.in_ok-clauses.ensures.inside c.in_ok-modules.ensures.keeps faultless in (
       c.in_ok-modules.ensures.inside,
       λ k d l. HasForm-extends c.in_ok-modules.ensures.keeps (get_or c.in_ok-clauses.clauses.items k d).form.0 (c.in_ok-clauses.ensures.inside k d l),
-      part_numbered (shown_program p.names p.forms p.clauses.items p.modules.items) whole c.modules.new.met.names c.modules.new.bank c.in_ok-modules.modules.items (ap (λ x. x.names) is) (ap (λ x. x.modules) is),
+      part_numbered (shown_program p.names p.forms p.clauses.items p.modules.items) whole c.modules.new.met.names c.modules.new.bank
+          c.in_ok-modules.modules.items (ap (λ x. x.names) is) (ap (λ x. x.modules) is),
     )
 
 pub returns : goal.returns
@@ -76,6 +83,8 @@ returns c =
     let found = subst (λ tree. FindsFirst c.args.places.now.places (module_names tree)) (sym c.program.view_is) c.requires.found in
     let faultless = subst (λ tree. program_faults tree ≡ []) (sym c.program.view_is) c.requires.faultless in
     rw (← c.program.view_is)
-    (part_shown p.names p.forms (place_in c.args.places.now.places) p.clauses.items c.deref.result.now p.modules.items c.deref-2.result.now c.in_ok-binders.binders.scope c.new-2.result c.clauses.new.met.names c.modules.new.met.names c.clauses.new.bank c.modules.new.bank
-    c.in_ok-clauses.clauses.items c.in_ok-modules.modules.items c.deref.ensures.value c.deref-2.ensures.value (ap (λ b. b.scope) c.in_ok-binders.ensures) c.new-2.ensures (λ w. ap (λ o. unwrap_or o 0) (found w)) c.in_ok-clauses.ensures.shows c.in_ok-clauses.ensures.names
+    (part_shown p.names p.forms (place_in c.args.places.now.places) p.clauses.items c.deref.result.now p.modules.items c.deref-2.result.now
+    c.in_ok-binders.binders.scope c.new-2.result c.clauses.new.met.names c.modules.new.met.names c.clauses.new.bank c.modules.new.bank
+    c.in_ok-clauses.clauses.items c.in_ok-modules.modules.items c.deref.ensures.value c.deref-2.ensures.value (ap (λ b. b.scope) c.in_ok-binders.ensures)
+    c.new-2.ensures (λ w. ap (λ o. unwrap_or o 0) (found w)) c.in_ok-clauses.ensures.shows c.in_ok-clauses.ensures.names
     c.in_ok-modules.ensures.shows c.in_ok-modules.ensures.names c.in_ok-clauses.ensures.inside c.in_ok-modules.ensures.keeps faultless)

@@ -9,7 +9,8 @@ use Rattle.ll_polarity.proofs.modules.places_of.Goals as goal
 pub loop-place-preserved : goal.loop-place-preserved
 loop-place-preserved c =
     let n : length (take c.loop-place.place c.args.modules.now) ≡ c.loop-place.place = grind (arith, length-take) in
-    places_more (FindsFirst c.add.new.self.places) (λ m. text_of c.args.names.now m.name.name) c.args.modules.now c.loop-place.place c.index-modules-place.result c.text.result.now c.loop-place-test.true c.index-modules-place.is
+    places_more (FindsFirst c.add.new.self.places) (λ m. text_of c.args.names.now m.name.name) c.args.modules.now c.loop-place.place
+    c.index-modules-place.result c.text.result.now c.loop-place-test.true c.index-modules-place.is
     (get_or_from_slice_get c.args.names.now c.index-modules-place.result.name.name c.text.result.now [] c.text.ensures)
     (c.in_ok-add.ensures _ (length-map (take c.loop-place.place c.args.modules.now) (λ m. text_of c.args.names.now m.name.name) ∙ n) c.loop-place.invariant)
 

@@ -14,7 +14,8 @@ use Rattle.ll_polarity.proofs.put_clauses.quantified.Goals as goal
 
 pub form-requires-clause-room : goal.form-requires-clause-room
 form-requires-clause-room c =
-    room_whole c.args.text.now.names.now (place_in c.args.text.now.modules.now.places) (outermost None c.args.binders.now.scope) c.args.met.now.names c.new.result
+    room_whole c.args.text.now.names.now (place_in c.args.text.now.modules.now.places) (outermost None c.args.binders.now.scope) c.args.met.now.names
+    c.new.result
     (raw_at c.args.text.now.names.now c.args.text.now.forms.now c.args.clause.form.0) c.new.ensures (omega (arith, c.requires.room))
 
 pub returns-in_err-form-clause-keeps : goal.returns-in_err-form-clause-keeps
@@ -22,20 +23,29 @@ returns-in_err-form-clause-keeps c = Extends-refl c.args.bank.now
 
 pub overflow_cast-count : goal.overflow_cast-count
 overflow_cast-count c =
-    let f = few_met c.args.text.now.names.now (place_in c.args.text.now.modules.now.places) (outermost None c.args.binders.now.scope) c.args.met.now.names c.form.new.met.names c.new.result c.form.new.met.variables
+    let f = few_met c.args.text.now.names.now (place_in c.args.text.now.modules.now.places) (outermost None c.args.binders.now.scope) c.args.met.now.names
+    c.form.new.met.names c.new.result c.form.new.met.variables
     (raw_at c.args.text.now.names.now c.args.text.now.forms.now c.args.clause.form.0) c.new.ensures c.in_ok-form.ensures.met in
     record { fits = omega (arith, c.requires.room, c.len-count.ensures) }
 
 pub form-requires-2-clause-stands : goal.form-requires-2-clause-stands
 form-requires-2-clause-stands c =
-    let f = few_met c.args.text.now.names.now (place_in c.args.text.now.modules.now.places) (outermost None c.args.binders.now.scope) c.args.met.now.names c.form.new.met.names c.new.result c.form.new.met.variables
+    let f = few_met c.args.text.now.names.now (place_in c.args.text.now.modules.now.places) (outermost None c.args.binders.now.scope) c.args.met.now.names
+    c.form.new.met.names c.new.result c.form.new.met.variables
     (raw_at c.args.text.now.names.now c.args.text.now.forms.now c.args.clause.form.0) c.new.ensures c.in_ok-form.ensures.met in
     let s = ap length c.in_ok-form.ensures.scope in
-    record { distinct = c.requires.stands.distinct; same = c.in_ok-form.ensures.texts; depth = omega arith; room = omega (arith, c.requires.room, c.len-count.ensures) }
+    record {
+      distinct = c.requires.stands.distinct;
+      same = c.in_ok-form.ensures.texts;
+      depth = omega arith;
+      room =
+          omega (arith, c.requires.room, c.len-count.ensures);
+    }
 
 pub form-requires-2-clause-high : goal.form-requires-2-clause-high
 form-requires-2-clause-high c =
-    let f = few_met c.args.text.now.names.now (place_in c.args.text.now.modules.now.places) (outermost None c.args.binders.now.scope) c.args.met.now.names c.form.new.met.names c.new.result c.form.new.met.variables
+    let f = few_met c.args.text.now.names.now (place_in c.args.text.now.modules.now.places) (outermost None c.args.binders.now.scope) c.args.met.now.names
+    c.form.new.met.names c.new.result c.form.new.met.variables
     (raw_at c.args.text.now.names.now c.args.text.now.forms.now c.args.clause.form.0) c.new.ensures c.in_ok-form.ensures.met in
     let s = ap length c.in_ok-form.ensures.scope in
     omega (arith, c.requires.room, c.len-count.ensures)
@@ -43,9 +53,11 @@ form-requires-2-clause-high c =
 pub form-requires-2-clause-room : goal.form-requires-2-clause-room
 form-requires-2-clause-room c =
     let raw = raw_at c.args.text.now.names.now c.args.text.now.forms.now c.args.clause.form.0 in
-    let f = few_met c.args.text.now.names.now (place_in c.args.text.now.modules.now.places) (outermost None c.args.binders.now.scope) c.args.met.now.names c.form.new.met.names c.new.result c.form.new.met.variables
+    let f = few_met c.args.text.now.names.now (place_in c.args.text.now.modules.now.places) (outermost None c.args.binders.now.scope) c.args.met.now.names
+    c.form.new.met.names c.new.result c.form.new.met.variables
     raw c.new.ensures c.in_ok-form.ensures.met in
-    room_whole c.args.text.now.names.now (place_in c.args.text.now.modules.now.places) (outermost (Some c.len-count.result) c.form.new.binders.scope) c.form.new.met.names c.new-2.result raw c.new-2.ensures (omega (arith, c.requires.room))
+    room_whole c.args.text.now.names.now (place_in c.args.text.now.modules.now.places) (outermost (Some c.len-count.result) c.form.new.binders.scope)
+    c.form.new.met.names c.new-2.result raw c.new-2.ensures (omega (arith, c.requires.room))
 
 pub returns-in_err-body-clause-keeps : goal.returns-in_err-body-clause-keeps
 returns-in_err-body-clause-keeps c = c.in_err-body.ensures.keeps
@@ -58,11 +70,15 @@ returns-clause-shows c = λ ms heads first h.
     let raw = raw_at texts c.args.text.now.forms.now c.args.clause.form.0 in
     let names = c.args.met.now.names in
     let x = read_form ms scope (record { names = names; variables = [] }) raw in
-    let is = names_met texts places (outermost None scope) names c.form.new.met.names c.new.result c.form.new.met.variables raw c.new.ensures c.in_ok-form.ensures.met ms in
-    let count : c.len-count.result ≡ length x.met.variables = c.len-count.ensures ∙ count_met texts places (outermost None scope) names c.form.new.met.names c.new.result c.form.new.met.variables raw c.new.ensures c.in_ok-form.ensures.met ms in
+    let is = names_met texts places (outermost None scope) names c.form.new.met.names c.new.result c.form.new.met.variables raw c.new.ensures
+    c.in_ok-form.ensures.met ms in
+    let count : c.len-count.result ≡ length x.met.variables =
+    c.len-count.ensures ∙ count_met texts places (outermost None scope) names c.form.new.met.names c.new.result c.form.new.met.variables raw c.new.ensures
+    c.in_ok-form.ensures.met ms in
     let b = clause_built places ms heads ClauseSide scope names c.form.new.met.names c.len-count.result raw first c.len-known.ensures.distinct is count h in
     let t = c.in_ok-body.ensures.shows.tree
-    ∙ (λ i. (built_form places (outermost (Some c.len-count.result) (c.in_ok-form.ensures.scope i)) (record { names = c.form.new.met.names; variables = variables_of texts (c.new-2.ensures i) }) raw).it)
+    ∙ (λ i. (built_form places (outermost (Some c.len-count.result) (c.in_ok-form.ensures.scope i))
+    (record { names = c.form.new.met.names; variables = variables_of texts (c.new-2.ensures i) }) raw).it)
     ∙ ap (λ y. y.it) b in
     record { inside = c.in_ok-closed.ensures.shows.inside; tree = c.in_ok-closed.ensures.shows.tree ∙ (λ i. forall_all (count i) (t i)) }
 
@@ -73,8 +89,10 @@ returns-clause-names c = λ ms.
     let scope = c.args.binders.now.scope in
     let raw = raw_at texts c.args.text.now.forms.now c.args.clause.form.0 in
     let names = c.args.met.now.names in
-    let is = names_met texts places (outermost None scope) names c.form.new.met.names c.new.result c.form.new.met.variables raw c.new.ensures c.in_ok-form.ensures.met ms in
-    let is2 = names_met texts places (outermost (Some c.len-count.result) c.form.new.binders.scope) c.form.new.met.names c.form-2.new.met.names c.new-2.result c.form-2.new.met.variables raw c.new-2.ensures c.in_ok-body.ensures.met ms in
+    let is = names_met texts places (outermost None scope) names c.form.new.met.names c.new.result c.form.new.met.variables raw c.new.ensures
+    c.in_ok-form.ensures.met ms in
+    let is2 = names_met texts places (outermost (Some c.len-count.result) c.form.new.binders.scope) c.form.new.met.names c.form-2.new.met.names c.new-2.result
+    c.form-2.new.met.variables raw c.new-2.ensures c.in_ok-body.ensures.met ms in
     is2 ∙ (ap (λ s. (read_form ms s (record { names = c.form.new.met.names; variables = [] }) raw).met.names) c.in_ok-form.ensures.scope
     ∙ names_again ms scope names c.form.new.met.names raw c.len-known.ensures.distinct is)
 

@@ -14,7 +14,8 @@ invariant-steps l =
     let a = outermost l.fn.quantified l.fn.binders.scope in
     let raw = raw_at g.texts g.forms l.fn.at.0 in
     record {
-      coming : IsComing g (built_form g.modules a (met_of g.texts l.fn.met) raw) a l.fn.bank l.bank l.frames.items l.step (met_of g.texts l.met) (around l.place l.binders.scope);
+      coming : IsComing g (built_form g.modules a (met_of g.texts l.fn.met) raw) a l.fn.bank l.bank l.frames.items l.step (met_of g.texts l.met)
+          (around l.place l.binders.scope);
       texts : l.binders.texts ≡ g.texts;
       low : frames_left g l.frames.items + step_left g l.step ≤ 5 * weight raw;
     }

@@ -9,19 +9,25 @@ returns-clause-shows c = λ ms heads first h.
     let texts = c.args.text.now.names.now in let nodes = c.args.text.now.forms.now in
     let body = c.args.body.now in
     let start : c.args.binders.now ≡ record { texts = texts; scope = [] } = λ i. record { texts = c.requires.stands.same i; scope = c.requires.outermost i } in
-    let inside = scope-of-module texts nodes body c.deref.result.now c.deref-2.result.now c.args.binders.now c.args.binders.now c.open_all.new.binders c.open_all-2.new.binders start refl c.in_ok-open_all.ensures c.in_ok-open_all-2.ensures c.deref.ensures.value c.deref-2.ensures.value in
+    let inside = scope-of-module texts nodes body c.deref.result.now c.deref-2.result.now c.args.binders.now c.args.binders.now c.open_all.new.binders
+    c.open_all-2.new.binders start refl c.in_ok-open_all.ensures c.in_ok-open_all-2.ensures c.deref.ensures.value c.deref-2.ensures.value in
     let text = get_or_from_slice_get texts body.name.name c.text.result.now [] c.text.ensures in
-    let plain = clauses_faultless texts nodes body c.args.met.now.names c.add.new.self c.text.result.now c.open_all-2.new.binders.scope c.deref-3.result.now text c.in_ok-name.ensures.added inside c.deref-3.ensures.value heads h in
+    let plain = clauses_faultless texts nodes body c.args.met.now.names c.add.new.self c.text.result.now c.open_all-2.new.binders.scope c.deref-3.result.now
+    text c.in_ok-name.ensures.added inside c.deref-3.ensures.value heads h in
     let params : c.len.result ≡ length body.params.items = search rules in
     let locals : c.len-2.result ≡ length body.locals.items = search rules in
-    module_shown texts nodes body c.args.met.now.names c.add.new.self c.text.result.now c.open_all-2.new.binders.scope c.deref-3.result.now text c.in_ok-name.ensures.added inside c.deref-3.ensures.value ms c.clauses.new.bank
-    (record { name = c.in_ok-name.name; params = c.len.result; locals = c.len-2.result; clauses = c.in_ok-clauses.clauses }) c.in_ok-name.ensures.number params locals (c.in_ok-clauses.ensures.shows ms heads first plain)
+    module_shown texts nodes body c.args.met.now.names c.add.new.self c.text.result.now c.open_all-2.new.binders.scope c.deref-3.result.now text
+    c.in_ok-name.ensures.added inside c.deref-3.ensures.value ms c.clauses.new.bank
+    (record { name = c.in_ok-name.name; params = c.len.result; locals = c.len-2.result; clauses = c.in_ok-clauses.clauses }) c.in_ok-name.ensures.number params
+    locals (c.in_ok-clauses.ensures.shows ms heads first plain)
 
 pub returns-clause-names : goal.returns-clause-names
 returns-clause-names c = λ ms.
     let texts = c.args.text.now.names.now in let nodes = c.args.text.now.forms.now in
     let body = c.args.body.now in
     let start : c.args.binders.now ≡ record { texts = texts; scope = [] } = λ i. record { texts = c.requires.stands.same i; scope = c.requires.outermost i } in
-    let inside = scope-of-module texts nodes body c.deref.result.now c.deref-2.result.now c.args.binders.now c.args.binders.now c.open_all.new.binders c.open_all-2.new.binders start refl c.in_ok-open_all.ensures c.in_ok-open_all-2.ensures c.deref.ensures.value c.deref-2.ensures.value in
+    let inside = scope-of-module texts nodes body c.deref.result.now c.deref-2.result.now c.args.binders.now c.args.binders.now c.open_all.new.binders
+    c.open_all-2.new.binders start refl c.in_ok-open_all.ensures c.in_ok-open_all-2.ensures c.deref.ensures.value c.deref-2.ensures.value in
     let text = get_or_from_slice_get texts body.name.name c.text.result.now [] c.text.ensures in
-    module_names_met texts nodes body c.args.met.now.names c.add.new.self c.text.result.now c.open_all-2.new.binders.scope c.deref-3.result.now text c.in_ok-name.ensures.added inside c.deref-3.ensures.value ms c.clauses.new.met.names (c.in_ok-clauses.ensures.names ms)
+    module_names_met texts nodes body c.args.met.now.names c.add.new.self c.text.result.now c.open_all-2.new.binders.scope c.deref-3.result.now text
+    c.in_ok-name.ensures.added inside c.deref-3.ensures.value ms c.clauses.new.met.names (c.in_ok-clauses.ensures.names ms)

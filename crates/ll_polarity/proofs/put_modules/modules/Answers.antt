@@ -8,13 +8,20 @@ use Rattle.ll_polarity.proofs.put_modules.modules.Goals as goal
 
 pub loop-body-init : goal.loop-body-init
 loop-body-init c = record {
-  read = rw c.new-put.ensures.items (record { show = λ ms heads same earlier h. refl; met = λ ms. refl; inside = λ k d l. absurd (omega arith); keeps = Extends-refl c.args.bank.now });
+  read = rw c.new-put.ensures.items (record {
+    show = λ ms heads same earlier h. refl;
+    met = λ ms. refl;
+    inside = λ k d l. absurd (omega arith);
+    keeps =
+        Extends-refl c.args.bank.now;
+  });
   binders = λ i. record { texts = c.requires.stands.same i; scope = c.requires.outermost i };
 }
 
 pub module-requires-clause-room : goal.module-requires-clause-room
 module-requires-clause-room c =
-    room_at_module c.args.text.now.names.now c.args.text.now.forms.now c.args.met.now.names c.loop-body.met.names c.args.from.now c.loop-body.body-index c.body-item.result (c.loop-body.invariant.read.met []) c.loop-body-test.true c.body-item.is c.requires.few c.requires.room
+    room_at_module c.args.text.now.names.now c.args.text.now.forms.now c.args.met.now.names c.loop-body.met.names c.args.from.now c.loop-body.body-index
+    c.body-item.result (c.loop-body.invariant.read.met []) c.loop-body-test.true c.body-item.is c.requires.few c.requires.room
 
 pub loop-body-preserved : goal.loop-body-preserved
 loop-body-preserved c =
@@ -23,10 +30,14 @@ loop-body-preserved c =
     let places = place_in c.args.text.now.modules.now.places in
     let item = c.body-item.result in
     let more : take c.loop-body.body-index c.args.from.now ++ item ∷ [] ≡ take (c.loop-body.body-index + 1) c.args.from.now =
-    ap (λ (m : RawModule). take c.loop-body.body-index c.args.from.now ++ m ∷ []) c.body-item.is ∙ sym (take_more c.args.from.now c.loop-body.body-index item c.loop-body-test.true) in
+    ap (λ (m : RawModule). take c.loop-body.body-index c.args.from.now ++ m ∷ []) c.body-item.is
+    ∙ sym (take_more c.args.from.now c.loop-body.body-index item c.loop-body-test.true) in
     record {
-      read = subst (λ (xs : List RawModule). AreModulesRead texts forms places c.args.met.now.names c.args.bank.now c.module.new.bank xs c.push.new.self.items c.module.new.met.names) more
-          (modules_more texts forms places c.args.met.now.names c.args.bank.now c.loop-body.bank c.module.new.bank (take c.loop-body.body-index c.args.from.now) item c.loop-body.put.items c.push.new.self.items c.in_ok-next.next c.loop-body.met.names c.module.new.met.names
-          c.loop-body.invariant.read c.in_ok-next.ensures.shows c.in_ok-next.ensures.names c.in_ok-next.ensures.inside c.in_ok-next.ensures.keeps c.in_ok-push.ensures.items);
+      read = subst (λ (xs : List RawModule). AreModulesRead texts forms places c.args.met.now.names c.args.bank.now c.module.new.bank xs c.push.new.self.items
+          c.module.new.met.names) more
+          (modules_more texts forms places c.args.met.now.names c.args.bank.now c.loop-body.bank c.module.new.bank (take c.loop-body.body-index c.args.from.now)
+          item c.loop-body.put.items c.push.new.self.items c.in_ok-next.next c.loop-body.met.names c.module.new.met.names
+          c.loop-body.invariant.read c.in_ok-next.ensures.shows c.in_ok-next.ensures.names c.in_ok-next.ensures.inside c.in_ok-next.ensures.keeps
+          c.in_ok-push.ensures.items);
       binders = c.in_ok-next.ensures.binders;
     }

@@ -28,15 +28,19 @@ term-requires-clause-room c =
     let target : Read (List Term) = built_terms a (met_of c.args.names.now c.args.met.now) (arguments (raw_at c.args.names.now c.args.forms.now c.args.at.0)) in
     let l : c.len.result ≡ length c.arguments.args.items = omega (arith, c.len.ensures, c.arguments.args.ok.0) in
     let raw = raw_at c.args.names.now c.args.forms.now c.args.at.0 in
-    let e = subst (λ (k : ℕ). raws_past k (arguments raw) ≡ more (raw_at c.args.names.now c.args.forms.now c.in-Some.arg.0) (raws_past (suc k) (arguments raw))) l (c.in-Some.ensures c.args.names.now).1 in
-    args_room s target c.args.bank.now c.args.at.0 c.arguments.bank c.arguments.args.items (met_of c.args.names.now c.arguments.met) c.in-Some.arg _ c.arguments.invariant e c.requires.room
+    let e = subst (λ (k : ℕ). raws_past k (arguments raw) ≡ more (raw_at c.args.names.now c.args.forms.now c.in-Some.arg.0) (raws_past (suc k) (arguments raw)))
+    l (c.in-Some.ensures c.args.names.now).1 in
+    args_room s target c.args.bank.now c.args.at.0 c.arguments.bank c.arguments.args.items (met_of c.args.names.now c.arguments.met) c.in-Some.arg _
+    c.arguments.invariant e c.requires.room
 
 pub arguments-smaller : goal.arguments-smaller
 arguments-smaller c =
     let l : c.len.result ≡ length c.arguments.args.items = omega (arith, c.len.ensures, c.arguments.args.ok.0) in
     let raw = raw_at c.args.names.now c.args.forms.now c.args.at.0 in
-    let e = subst (λ (k : ℕ). raws_past k (arguments raw) ≡ more (raw_at c.args.names.now c.args.forms.now c.in-Some.arg.0) (raws_past (suc k) (arguments raw))) l (c.in-Some.ensures c.args.names.now).1 in
-    let n : length c.push.new.self.items ≡ suc (length c.arguments.args.items) = ap length c.in_ok-push.ensures.items ∙ (length-append c.arguments.args.items (c.in_ok-put.put ∷ []) ∙ omega arith) in
+    let e = subst (λ (k : ℕ). raws_past k (arguments raw) ≡ more (raw_at c.args.names.now c.args.forms.now c.in-Some.arg.0) (raws_past (suc k) (arguments raw)))
+    l (c.in-Some.ensures c.args.names.now).1 in
+    let n : length c.push.new.self.items ≡ suc (length c.arguments.args.items) =
+    ap length c.in_ok-push.ensures.items ∙ (length-append c.arguments.args.items (c.in_ok-put.put ∷ []) ∙ omega arith) in
     subst (λ (k : ℕ). weights (raws_past k (arguments raw)) < weights (raws_past (length c.arguments.args.items) (arguments raw))) (sym n)
     (less_more (arguments raw) (length c.arguments.args.items) (raw_at c.args.names.now c.args.forms.now c.in-Some.arg.0) e)
 
@@ -47,6 +51,8 @@ arguments-preserved c =
     let target : Read (List Term) = built_terms a (met_of c.args.names.now c.args.met.now) (arguments (raw_at c.args.names.now c.args.forms.now c.args.at.0)) in
     let l : c.len.result ≡ length c.arguments.args.items = omega (arith, c.len.ensures, c.arguments.args.ok.0) in
     let raw = raw_at c.args.names.now c.args.forms.now c.args.at.0 in
-    let e = subst (λ (k : ℕ). raws_past k (arguments raw) ≡ more (raw_at c.args.names.now c.args.forms.now c.in-Some.arg.0) (raws_past (suc k) (arguments raw))) l (c.in-Some.ensures c.args.names.now).1 in
-    args_more s target c.args.bank.now c.args.at.0 c.arguments.bank c.term.new.bank c.arguments.args.items c.push.new.self.items (met_of c.args.names.now c.arguments.met) (met_of c.args.names.now c.term.new.met) c.in-Some.arg c.in_ok-put.put
+    let e = subst (λ (k : ℕ). raws_past k (arguments raw) ≡ more (raw_at c.args.names.now c.args.forms.now c.in-Some.arg.0) (raws_past (suc k) (arguments raw)))
+    l (c.in-Some.ensures c.args.names.now).1 in
+    args_more s target c.args.bank.now c.args.at.0 c.arguments.bank c.term.new.bank c.arguments.args.items c.push.new.self.items
+    (met_of c.args.names.now c.arguments.met) (met_of c.args.names.now c.term.new.met) c.in-Some.arg c.in_ok-put.put
     c.arguments.invariant e c.in_ok-put.ensures.shows c.in_ok-put.ensures.met c.in_ok-put.ensures.keeps c.in_ok-push.ensures.items

@@ -9,7 +9,8 @@ use Rattle.ll_polarity.proofs.put_terms.arguments_of.Given as goal
 abbrev pub invariant-arguments : goal.invariant-arguments
 invariant-arguments l =
     let a = around l.place l.binders.scope in
-    AreOnTheWay (record { texts = l.names; forms = l.forms; around = a }) (built_terms a (met_of l.names l.fn.met) (arguments (raw_at l.names l.forms l.at.0))) l.fn.bank l.bank l.at.0 l.args.items (met_of l.names l.met)
+    AreOnTheWay (record { texts = l.names; forms = l.forms; around = a }) (built_terms a (met_of l.names l.fn.met) (arguments (raw_at l.names l.forms l.at.0)))
+    l.fn.bank l.bank l.at.0 l.args.items (met_of l.names l.met)
 
 abbrev pub decreases-arguments : goal.decreases-arguments
 decreases-arguments l = weights (raws_past (length l.args.items) (arguments (raw_at l.names l.forms l.at.0)))

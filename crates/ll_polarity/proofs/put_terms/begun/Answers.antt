@@ -11,7 +11,8 @@ pub front_of-requires-clause-room : goal.front_of-requires-clause-room
 front_of-requires-clause-room c =
     room_head (around c.args.place c.args.binders.now.scope) (met_of c.args.names.now c.args.met.now)
     (identifier c.args.names.now c.in-Head.name) (raws_in (raw_trees c.args.names.now c.args.forms.now) (places c.in-Head.field-1.now))
-    (subst (λ r. HasRoom (built_term (around c.args.place c.args.binders.now.scope) (met_of c.args.names.now c.args.met.now) r).met) (c.in-Head.ensures.tree c.args.names.now) c.requires.room)
+    (subst (λ r. HasRoom (built_term (around c.args.place c.args.binders.now.scope) (met_of c.args.names.now c.args.met.now) r).met)
+    (c.in-Head.ensures.tree c.args.names.now) c.requires.room)
 
 pub returns-in_err-front-in-Head-clause-keeps : goal.returns-in_err-front-in-Head-clause-keeps
 returns-in_err-front-in-Head-clause-keeps c = Extends-refl c.args.bank.now

@@ -15,7 +15,8 @@ returns-in_ok-push-in-Some-clause-resumed c = record {
   inside = (c.in-Some.ensures []).0;
   next =
       let l : c.len.result ≡ length c.args.call.args.items = omega (arith, c.len.ensures, c.args.call.args.ok.0) in
-      λ texts. subst (λ k. arguments_from texts c.args.forms.now k c.args.call ≡ more (raw_at texts c.args.forms.now c.in-Some.arg.0) (arguments_from texts c.args.forms.now (suc k) c.args.call)) l (c.in-Some.ensures texts).1;
+      λ texts. subst (λ k. arguments_from texts c.args.forms.now k c.args.call
+      ≡ more (raw_at texts c.args.forms.now c.in-Some.arg.0) (arguments_from texts c.args.forms.now (suc k) c.args.call)) l (c.in-Some.ensures texts).1;
 }
 
 pub returns-in_ok-push-in-Some-clause-keeps : goal.returns-in_ok-push-in-Some-clause-keeps

@@ -8,7 +8,8 @@ use Rattle.ll_bank.specs.Term.{Term}
 use Rattle.ll_polarity.specs.Built.{built_term}
 use Rattle.ll_polarity.specs.Standing.{met_of, around}
 use Rattle.ll_polarity.specs.Calls.{Site}
-use Rattle.ll_polarity.proofs.putting.Calling.{IsOnTheWay, calls_left, turn_left, room_on_the_way, way_begun, way_resumed, way_given, less_begun, less_resumed, less_given}
+use Rattle.ll_polarity.proofs.putting.Calling.{IsOnTheWay, calls_left, turn_left, room_on_the_way, way_begun, way_resumed, way_given, less_begun, less_resumed}
+use Rattle.ll_polarity.proofs.putting.Calling.{less_given}
 use Rattle.ll_polarity.proofs.put_terms.term.Goals as goal
 
 pub turns-init : goal.turns-init
@@ -20,13 +21,16 @@ begun-requires-clause-room c =
     let a = around c.args.place c.args.binders.now.scope in
     let s : Site = record { texts = c.args.names.now; forms = c.args.forms.now; around = a } in
     let target : Read Term = built_term a (met_of c.args.names.now c.args.met.now) (raw_at c.args.names.now c.args.forms.now c.args.at.0) in
-    let w = subst (λ (t : Turn). IsOnTheWay s target c.args.bank.now c.turns.bank c.turns.calls.items t (met_of c.args.names.now c.turns.met)) c.in-Read.is c.turns.invariant in
+    let w = subst (λ (t : Turn). IsOnTheWay s target c.args.bank.now c.turns.bank c.turns.calls.items t (met_of c.args.names.now c.turns.met)) c.in-Read.is
+    c.turns.invariant in
     room_on_the_way s target c.args.bank.now c.turns.bank c.turns.calls.items (turn.Read c.in-Read.at) (met_of c.args.names.now c.turns.met) w c.requires.room
 
 pub turns-smaller-in_ok-turn-in-Read : goal.turns-smaller-in_ok-turn-in-Read
 turns-smaller-in_ok-turn-in-Read c =
     let less = less_begun c.args.names.now c.args.forms.now c.in-Read.at c.in_ok-turn-in-Read.turn c.in_ok-turn-in-Read.ensures.next in
-    subst (λ (t : Turn). calls_left c.args.names.now c.args.forms.now c.turns.calls.items + turn_left c.args.names.now c.args.forms.now c.in_ok-turn-in-Read.turn < calls_left c.args.names.now c.args.forms.now c.turns.calls.items + turn_left c.args.names.now c.args.forms.now t) (sym c.in-Read.is)
+    subst (λ (t : Turn). calls_left c.args.names.now c.args.forms.now c.turns.calls.items
+    + turn_left c.args.names.now c.args.forms.now c.in_ok-turn-in-Read.turn < calls_left c.args.names.now c.args.forms.now c.turns.calls.items
+    + turn_left c.args.names.now c.args.forms.now t) (sym c.in-Read.is)
     (omega (arith, less))
 
 pub turns-preserved-in_ok-turn-in-Read : goal.turns-preserved-in_ok-turn-in-Read
@@ -34,34 +38,46 @@ turns-preserved-in_ok-turn-in-Read c =
     let a = around c.args.place c.args.binders.now.scope in
     let s : Site = record { texts = c.args.names.now; forms = c.args.forms.now; around = a } in
     let target : Read Term = built_term a (met_of c.args.names.now c.args.met.now) (raw_at c.args.names.now c.args.forms.now c.args.at.0) in
-    let w = subst (λ (t : Turn). IsOnTheWay s target c.args.bank.now c.turns.bank c.turns.calls.items t (met_of c.args.names.now c.turns.met)) c.in-Read.is c.turns.invariant in
-    way_begun s target c.args.bank.now c.turns.bank c.begun.new.bank c.turns.calls.items c.in-Read.at c.in_ok-turn-in-Read.turn (met_of c.args.names.now c.turns.met) (met_of c.args.names.now c.begun.new.met) w
+    let w = subst (λ (t : Turn). IsOnTheWay s target c.args.bank.now c.turns.bank c.turns.calls.items t (met_of c.args.names.now c.turns.met)) c.in-Read.is
+    c.turns.invariant in
+    way_begun s target c.args.bank.now c.turns.bank c.begun.new.bank c.turns.calls.items c.in-Read.at c.in_ok-turn-in-Read.turn
+    (met_of c.args.names.now c.turns.met) (met_of c.args.names.now c.begun.new.met) w
     c.in_ok-turn-in-Read.ensures.begun c.in_ok-turn-in-Read.ensures.fits c.in_ok-turn-in-Read.ensures.keeps
 
 pub turns-smaller-in_ok-turn-in-Resume : goal.turns-smaller-in_ok-turn-in-Resume
 turns-smaller-in_ok-turn-in-Resume c =
-    subst (λ (t : Turn). calls_left c.args.names.now c.args.forms.now c.resumed.new.calls.items + turn_left c.args.names.now c.args.forms.now c.in_ok-turn-in-Resume.turn < calls_left c.args.names.now c.args.forms.now c.turns.calls.items + turn_left c.args.names.now c.args.forms.now t) (sym c.in-Resume.is)
-    (less_resumed c.args.names.now c.args.forms.now c.turns.bank c.resumed.new.bank c.turns.calls.items c.resumed.new.calls.items c.in-Resume.call c.in_ok-turn-in-Resume.turn c.in_ok-turn-in-Resume.ensures.resumed)
+    subst (λ (t : Turn). calls_left c.args.names.now c.args.forms.now c.resumed.new.calls.items
+    + turn_left c.args.names.now c.args.forms.now c.in_ok-turn-in-Resume.turn < calls_left c.args.names.now c.args.forms.now c.turns.calls.items
+    + turn_left c.args.names.now c.args.forms.now t) (sym c.in-Resume.is)
+    (less_resumed c.args.names.now c.args.forms.now c.turns.bank c.resumed.new.bank c.turns.calls.items c.resumed.new.calls.items c.in-Resume.call
+    c.in_ok-turn-in-Resume.turn c.in_ok-turn-in-Resume.ensures.resumed)
 
 pub turns-preserved-in_ok-turn-in-Resume : goal.turns-preserved-in_ok-turn-in-Resume
 turns-preserved-in_ok-turn-in-Resume c =
     let a = around c.args.place c.args.binders.now.scope in
     let s : Site = record { texts = c.args.names.now; forms = c.args.forms.now; around = a } in
     let target : Read Term = built_term a (met_of c.args.names.now c.args.met.now) (raw_at c.args.names.now c.args.forms.now c.args.at.0) in
-    let w = subst (λ (t : Turn). IsOnTheWay s target c.args.bank.now c.turns.bank c.turns.calls.items t (met_of c.args.names.now c.turns.met)) c.in-Resume.is c.turns.invariant in
-    way_resumed s target c.args.bank.now c.turns.bank c.resumed.new.bank c.turns.calls.items c.resumed.new.calls.items c.in-Resume.call c.in_ok-turn-in-Resume.turn (met_of c.args.names.now c.turns.met) w
+    let w = subst (λ (t : Turn). IsOnTheWay s target c.args.bank.now c.turns.bank c.turns.calls.items t (met_of c.args.names.now c.turns.met)) c.in-Resume.is
+    c.turns.invariant in
+    way_resumed s target c.args.bank.now c.turns.bank c.resumed.new.bank c.turns.calls.items c.resumed.new.calls.items c.in-Resume.call
+    c.in_ok-turn-in-Resume.turn (met_of c.args.names.now c.turns.met) w
     c.in_ok-turn-in-Resume.ensures.resumed c.in_ok-turn-in-Resume.ensures.keeps
 
 pub turns-smaller : goal.turns-smaller
 turns-smaller c =
-    subst (λ (t : Turn). calls_left c.args.names.now c.args.forms.now c.pop.new.self.items + turn_left c.args.names.now c.args.forms.now c.in_ok-turn-in-Some.turn < calls_left c.args.names.now c.args.forms.now c.turns.calls.items + turn_left c.args.names.now c.args.forms.now t) (sym c.in-Give.is)
-    (less_given c.args.names.now c.args.forms.now c.turns.calls.items c.pop.new.self.items c.in-Some.call c.in-Give.term c.in_ok-turn-in-Some.turn c.in-Some.ensures.items c.in_ok-turn-in-Some.ensures)
+    subst (λ (t : Turn). calls_left c.args.names.now c.args.forms.now c.pop.new.self.items
+    + turn_left c.args.names.now c.args.forms.now c.in_ok-turn-in-Some.turn < calls_left c.args.names.now c.args.forms.now c.turns.calls.items
+    + turn_left c.args.names.now c.args.forms.now t) (sym c.in-Give.is)
+    (less_given c.args.names.now c.args.forms.now c.turns.calls.items c.pop.new.self.items c.in-Some.call c.in-Give.term c.in_ok-turn-in-Some.turn
+    c.in-Some.ensures.items c.in_ok-turn-in-Some.ensures)
 
 pub turns-preserved : goal.turns-preserved
 turns-preserved c =
     let a = around c.args.place c.args.binders.now.scope in
     let s : Site = record { texts = c.args.names.now; forms = c.args.forms.now; around = a } in
     let target : Read Term = built_term a (met_of c.args.names.now c.args.met.now) (raw_at c.args.names.now c.args.forms.now c.args.at.0) in
-    let w = subst (λ (t : Turn). IsOnTheWay s target c.args.bank.now c.turns.bank c.turns.calls.items t (met_of c.args.names.now c.turns.met)) c.in-Give.is c.turns.invariant in
-    way_given s target c.args.bank.now c.turns.bank c.turns.calls.items c.pop.new.self.items c.in-Some.call c.in-Give.term c.in_ok-turn-in-Some.turn (met_of c.args.names.now c.turns.met) w
+    let w = subst (λ (t : Turn). IsOnTheWay s target c.args.bank.now c.turns.bank c.turns.calls.items t (met_of c.args.names.now c.turns.met)) c.in-Give.is
+    c.turns.invariant in
+    way_given s target c.args.bank.now c.turns.bank c.turns.calls.items c.pop.new.self.items c.in-Some.call c.in-Give.term c.in_ok-turn-in-Some.turn
+    (met_of c.args.names.now c.turns.met) w
     c.in-Some.ensures.items c.in_ok-turn-in-Some.ensures

@@ -8,7 +8,8 @@ use Rattle.ll_polarity.proofs.walk.first_fault.Given as goal
 abbrev pub invariant-loop-part : goal.invariant-loop-part
 invariant-loop-part l = record {
   faults : (ms : List Heading) → AreFound l.source.headings.now.params ms
-      → pending_faults l.source.names.now l.source.forms.now ms l.binders.scope l.parts ≡ form_faults ms (side_of l.fn.side) l.fn.binders.scope (raw_at l.source.names.now l.source.forms.now l.fn.at.0);
+      → pending_faults l.source.names.now l.source.forms.now ms l.binders.scope l.parts
+      ≡ form_faults ms (side_of l.fn.side) l.fn.binders.scope (raw_at l.source.names.now l.source.forms.now l.fn.at.0);
   ready : AreReady l.source.names.now l.source.forms.now l.parts;
   scope : scope_after l.binders.scope l.parts ≡ l.fn.binders.scope;
   texts : l.binders.texts ≡ l.source.names.now;

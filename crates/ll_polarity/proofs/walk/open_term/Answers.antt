@@ -14,10 +14,14 @@ returns-in_ok-push_fault c =
     let scope = c.args.binders.now.scope in let n = c.in-Head.name in
     let fault : unless c.if-is_empty.fits 9 n.at ≡ applied_fault scope (identifier texts n) (raws_in (raw_trees texts nodes) (places c.in-Head.args.now)) =
     elim c.if-is_empty.branch [
-      | then-is_empty w ↦ ap (λ b. unless b 9 n.at) (w.fits-is ∙ w.if-is_empty.true) ∙ applied-none texts nodes params scope n c.in-Head.args.now (sym c.is_empty.ensures ∙ w.if-is_empty.true)
+      | then-is_empty w ↦ ap (λ b. unless b 9 n.at) (w.fits-is ∙ w.if-is_empty.true)
+          ∙ applied-none texts nodes params scope n c.in-Head.args.now (sym c.is_empty.ensures ∙ w.if-is_empty.true)
       | else-is_empty w ↦ ap (λ b. unless b 9 n.at)
-          (w.fits-is ∙ (w.may_be_head-fits.ensures ∙ (ap may_be_head w.meaning.ensures ∙ ap (λ ts. may_be_head (meaning scope (slice_index_or ts n.name []))) c.requires.texts)))
+          (w.fits-is ∙ (w.may_be_head-fits.ensures ∙ (ap may_be_head w.meaning.ensures
+          ∙ ap (λ ts. may_be_head (meaning scope (slice_index_or ts n.name []))) c.requires.texts)))
           ∙ applied-some texts nodes params scope n c.in-Head.args.now (sym c.is_empty.ensures ∙ w.if-is_empty.false)
     ] in
-    opened-term texts nodes params scope c.args.at n c.in-Head.args c.if-is_empty.fits c.args.parts.now c.push_fault.new.self c.requires.ready c.in-Head.ensures fault
-    (c.in_ok-push_fault.ensures ∙ (ap (λ fs. map Found fs ++ c.push_terms.new.self) c.unless.ensures ∙ ap (λ ps. map Found (unless c.if-is_empty.fits 9 n.at) ++ ps) c.in_ok-push_terms.ensures))
+    opened-term texts nodes params scope c.args.at n c.in-Head.args c.if-is_empty.fits c.args.parts.now c.push_fault.new.self c.requires.ready c.in-Head.ensures
+    fault
+    (c.in_ok-push_fault.ensures ∙ (ap (λ fs. map Found fs ++ c.push_terms.new.self) c.unless.ensures
+    ∙ ap (λ ps. map Found (unless c.if-is_empty.fits 9 n.at) ++ ps) c.in_ok-push_terms.ensures))

@@ -10,12 +10,17 @@ use Rattle.ll_printer.proofs.answers.write_binding.Goals as goal
 
 pub returns-in_err-term-in-Some-clause-begun : goal.returns-in_err-term-in-Some-clause-begun
 returns-in_err-term-in-Some-clause-begun c =
-    rw c.in-Some.is (begins_between (name_text c.args.names.now c.in-Some.name ++ codes " = ") (term_text c.args.names.now (term_tree c.args.bank.now c.args.at.0)) (10 ∷ [])
-    (one_line c.args.names.now (Some c.in-Some.name) (term_tree c.args.bank.now c.args.at.0)) c.args.out.now.items c.extend_from_slice-in-Some.new.self.items c.term.new.out.items
+    rw c.in-Some.is (begins_between (name_text c.args.names.now c.in-Some.name ++ codes " = ")
+    (term_text c.args.names.now (term_tree c.args.bank.now c.args.at.0)) (10 ∷ [])
+    (one_line c.args.names.now (Some c.in-Some.name) (term_tree c.args.bank.now c.args.at.0)) c.args.out.now.items c.extend_from_slice-in-Some.new.self.items
+    c.term.new.out.items
     (name_written c.args.out.now.items c.extend_from_slice.new.self.items c.extend_from_slice-in-Some.new.self.items (name_text c.args.names.now c.in-Some.name)
-    (c.in_ok-extend_from_slice-in-Some.ensures.items ∙ ap (λ xs. c.args.out.now.items ++ xs) (c.as_bytes.ensures.value ∙ c.name_of.ensures)) c.in_ok-extend_from_slice-in-Some-2.ensures.items)
-    (line_written (name_text c.args.names.now c.in-Some.name) (term_text c.args.names.now (term_tree c.args.bank.now c.args.at.0))) c.in_err-term-in-Some.ensures.begun)
+    (c.in_ok-extend_from_slice-in-Some.ensures.items ∙ ap (λ xs. c.args.out.now.items ++ xs) (c.as_bytes.ensures.value ∙ c.name_of.ensures))
+    c.in_ok-extend_from_slice-in-Some-2.ensures.items)
+    (line_written (name_text c.args.names.now c.in-Some.name) (term_text c.args.names.now (term_tree c.args.bank.now c.args.at.0)))
+    c.in_err-term-in-Some.ensures.begun)
 
 pub returns-in_ok-push-in-Some-clause-begun : goal.returns-in_ok-push-in-Some-clause-begun
 returns-in_ok-push-in-Some-clause-begun c =
-    rw c.in-Some.is (begins_all (one_line c.args.names.now (Some c.in-Some.name) (term_tree c.args.bank.now c.args.at.0)) c.args.out.now.items c.push.new.self.items (grind (arith, common_steps)))
+    rw c.in-Some.is (begins_all (one_line c.args.names.now (Some c.in-Some.name) (term_tree c.args.bank.now c.args.at.0)) c.args.out.now.items
+    c.push.new.self.items (grind (arith, common_steps)))

@@ -10,17 +10,23 @@ use Rattle.ll_printer.proofs.answers.write_bindings.Goals as goal
 
 pub returns-in_err-write_binding-clause-begun : goal.returns-in_err-write_binding-clause-begun
 returns-in_err-write_binding-clause-begun c =
-    lines_refused c.args.names.now c.args.asked.now (term_trees c.args.bank.now c.args.terms.now) c.loop-i.i _ _ (term_tree c.args.bank.now (get_or c.args.terms.now c.loop-i.i (record { 0 = 0 })).0) (term_tree c.args.bank.now 0)
-    c.args.out.now.items c.loop-i.out.items c.write_binding.new.out.items (omega arith) (let e = length-map c.args.terms.now (λ (a : At). term_tree c.args.bank.now a.0) in let l = c.requires.enough in omega arith) refl
+    lines_refused c.args.names.now c.args.asked.now (term_trees c.args.bank.now c.args.terms.now) c.loop-i.i _ _
+    (term_tree c.args.bank.now (get_or c.args.terms.now c.loop-i.i (record { 0 = 0 })).0) (term_tree c.args.bank.now 0)
+    c.args.out.now.items c.loop-i.out.items c.write_binding.new.out.items (omega arith) (let e =
+    length-map c.args.terms.now (λ (a : At). term_tree c.args.bank.now a.0) in let l = c.requires.enough in omega arith) refl
     (get_or-map (λ (a : At). term_tree c.args.bank.now a.0) c.args.terms.now c.loop-i.i (record { 0 = 0 })) c.loop-i.invariant c.write_binding.ensures.begun
 
 pub loop-i-preserved : goal.loop-i-preserved
 loop-i-preserved c =
-    lines_on c.args.names.now c.args.asked.now (term_trees c.args.bank.now c.args.terms.now) c.loop-i.i _ _ (term_tree c.args.bank.now (get_or c.args.terms.now c.loop-i.i (record { 0 = 0 })).0) (term_tree c.args.bank.now 0)
-    c.args.out.now.items c.loop-i.out.items c.write_binding.new.out.items (omega arith) (let e = length-map c.args.terms.now (λ (a : At). term_tree c.args.bank.now a.0) in let l = c.requires.enough in omega arith) refl
-    (get_or-map (λ (a : At). term_tree c.args.bank.now a.0) c.args.terms.now c.loop-i.i (record { 0 = 0 })) c.loop-i.invariant c.in_ok-write_binding.ensures.text
+    lines_on c.args.names.now c.args.asked.now (term_trees c.args.bank.now c.args.terms.now) c.loop-i.i _ _
+    (term_tree c.args.bank.now (get_or c.args.terms.now c.loop-i.i (record { 0 = 0 })).0) (term_tree c.args.bank.now 0)
+    c.args.out.now.items c.loop-i.out.items c.write_binding.new.out.items (omega arith) (let e =
+    length-map c.args.terms.now (λ (a : At). term_tree c.args.bank.now a.0) in let l = c.requires.enough in omega arith) refl
+    (get_or-map (λ (a : At). term_tree c.args.bank.now a.0) c.args.terms.now c.loop-i.i (record { 0 = 0 })) c.loop-i.invariant
+    c.in_ok-write_binding.ensures.text
 
 pub returns-clause-begun : goal.returns-clause-begun
 returns-clause-begun c =
     begins_all (binding_lines c.args.names.now c.args.asked.now (term_trees c.args.bank.now c.args.terms.now)) c.args.out.now.items c.loop-i.out.items
-    (subst (λ xs. c.loop-i.out.items ≡ c.args.out.now.items ++ binding_lines c.args.names.now xs (term_trees c.args.bank.now c.args.terms.now)) (take_all c.loop-i.i c.args.asked.now (omega arith)) c.loop-i.invariant)
+    (subst (λ xs. c.loop-i.out.items ≡ c.args.out.now.items ++ binding_lines c.args.names.now xs (term_trees c.args.bank.now c.args.terms.now))
+    (take_all c.loop-i.i c.args.asked.now (omega arith)) c.loop-i.invariant)

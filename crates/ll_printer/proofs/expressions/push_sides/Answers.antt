@@ -8,9 +8,12 @@ returns c =
     let names = c.args.source.now.names.now in let nodes = c.args.source.now.forms.now in
     let w = (identifier names c.args.name).text in let s = c.name_of-sign.result.now in
     on_ok c.push_operand-2.result
-    (sides-pushed names nodes c.args.name c.args.left c.args.right c.encloses_left.result c.encloses_right.result c.args.parts.now.items c.push_operand.new.parts.items c.push_all.new.parts.items
+    (sides-pushed names nodes c.args.name c.args.left c.args.right c.encloses_left.result c.encloses_right.result c.args.parts.now.items
+    c.push_operand.new.parts.items c.push_all.new.parts.items
     c.push_operand-2.new.parts.items
-    (left-encloses-is w s c.operator_of-2.result.now (raw_at names nodes c.args.left.0) c.encloses_left.result c.name_of-sign.ensures c.operator_of-2.ensures c.encloses_left.ensures)
-    (right-encloses-is w s c.operator_of.result.now (raw_at names nodes c.args.right.0) c.encloses_right.result c.name_of-sign.ensures c.operator_of.ensures c.encloses_right.ensures)
+    (left-encloses-is w s c.operator_of-2.result.now (raw_at names nodes c.args.left.0) c.encloses_left.result c.name_of-sign.ensures c.operator_of-2.ensures
+    c.encloses_left.ensures)
+    (right-encloses-is w s c.operator_of.result.now (raw_at names nodes c.args.right.0) c.encloses_right.result c.name_of-sign.ensures c.operator_of.ensures
+    c.encloses_right.ensures)
     c.in_ok-push_operand.ensures c.in_ok-push_all.ensures)
     c.push_operand-2.ensures

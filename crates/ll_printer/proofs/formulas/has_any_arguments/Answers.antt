@@ -6,5 +6,6 @@ use Rattle.ll_printer.proofs.formulas.has_any_arguments.Goals as goal
 
 pub returns-in-Head : goal.returns-in-Head
 returns-in-Head c =
-    arguments-are c.args.source.now.names.now c.args.source.now.forms.now (identifier c.args.source.now.names.now c.in-Head.field-0) c.in-Head.args.now c.is_empty.result c.is_empty.ensures
+    arguments-are c.args.source.now.names.now c.args.source.now.forms.now (identifier c.args.source.now.names.now c.in-Head.field-0) c.in-Head.args.now
+    c.is_empty.result c.is_empty.ensures
     ∙ ap has_arguments (sym (c.in-Head.ensures.tree c.args.source.now.names.now))

@@ -10,4 +10,5 @@ pub returns-in-App : goal.returns-in-App
 returns-in-App c =
     c.is_cons_of.ensures
     ∙ (ap (λ n. eqb n 2 && is_cons_head c.args.names.now c.in-App.head) (sym (length-map c.in-App.args.now (λ (a : At). term_tree c.args.bank.now a.0)))
-    ∙ (sym (is_cons-app c.args.names.now c.in-App.head (term_trees c.args.bank.now c.in-App.args.now)) ∙ ap (is_cons c.args.names.now) (sym c.in-App.ensures.shown.0)))
+    ∙ (sym (is_cons-app c.args.names.now c.in-App.head (term_trees c.args.bank.now c.in-App.args.now))
+    ∙ ap (is_cons c.args.names.now) (sym c.in-App.ensures.shown.0)))

@@ -7,13 +7,15 @@ use Rattle.ll_printer.proofs.pieces.print_argument.Goals as goal
 pub returns-in_ok-push-2-clause-moves : goal.returns-in_ok-push-2-clause-moves
 returns-in_ok-push-2-clause-moves c =
     let tree = term_tree c.args.bank.now c.args.at.0 in
-    moved_bracket c.args.names.now c.args.bank.now _ _ c.args.pieces.now.items c.push-then-has_any_arguments.new.self.items c.args.out.now.items c.write_all.new.out.items c.requires.pieces (codes " (")
+    moved_bracket c.args.names.now c.args.bank.now _ _ c.args.pieces.now.items c.push-then-has_any_arguments.new.self.items c.args.out.now.items
+    c.write_all.new.out.items c.requires.pieces (codes " (")
     c.in_ok-write_all.ensures.text c.args.at c.push.new.self.items c.requires.at c.in_ok-push.ensures.items c.in_ok-push-2.ensures.items
     (argument_is tree (term_text c.args.names.now tree) true (sym c.has_any_arguments.ensures ∙ c.if-has_any_arguments.true)) (omega arith)
 
 pub returns-in_ok-push-3-clause-moves : goal.returns-in_ok-push-3-clause-moves
 returns-in_ok-push-3-clause-moves c =
     let tree = term_tree c.args.bank.now c.args.at.0 in
-    moved_term c.args.names.now c.args.bank.now _ _ c.args.pieces.now.items c.push-else-has_any_arguments.new.self.items c.args.out.now.items c.write_all-else-has_any_arguments.new.out.items
+    moved_term c.args.names.now c.args.bank.now _ _ c.args.pieces.now.items c.push-else-has_any_arguments.new.self.items c.args.out.now.items
+    c.write_all-else-has_any_arguments.new.out.items
     c.requires.pieces (codes " ") c.in_ok-write_all-2.ensures.text c.args.at c.requires.at c.in_ok-push-3.ensures.items
     (argument_is tree (term_text c.args.names.now tree) false (sym c.has_any_arguments.ensures ∙ c.if-has_any_arguments.false)) (omega arith)

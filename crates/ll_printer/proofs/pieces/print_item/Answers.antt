@@ -8,7 +8,8 @@ use Rattle.ll_printer.proofs.pieces.print_item.Goals as goal
 pub returns-in_ok-push-2-clause-moves : goal.returns-in_ok-push-2-clause-moves
 returns-in_ok-push-2-clause-moves c =
     let tree = term_tree c.args.bank.now c.args.at.0 in
-    moved_bracket c.args.names.now c.args.bank.now _ _ c.args.pieces.now.items c.push-then-is_cons_at.new.self.items c.args.out.now.items c.write_all.new.out.items c.requires.pieces (codes "(")
+    moved_bracket c.args.names.now c.args.bank.now _ _ c.args.pieces.now.items c.push-then-is_cons_at.new.self.items c.args.out.now.items
+    c.write_all.new.out.items c.requires.pieces (codes "(")
     c.in_ok-write_all.ensures.text c.args.at c.push.new.self.items c.requires.at c.in_ok-push.ensures.items c.in_ok-push-2.ensures.items
     (item_is c.args.names.now tree (term_text c.args.names.now tree) true (sym c.is_cons_at.ensures ∙ c.if-is_cons_at.true)) (omega arith)
 

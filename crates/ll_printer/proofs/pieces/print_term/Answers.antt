@@ -10,22 +10,27 @@ returns-in_err-push_cons-in-App-clause-begun c = on_err _ (begins_none _ c.args.
 
 pub returns-then-is_cons_of-clause-moves : goal.returns-then-is_cons_of-clause-moves
 returns-then-is_cons_of-clause-moves c =
-    cons_moves c.args.names.now c.args.bank.now c.in-App.head c.in-App.args.now (term_tree c.args.bank.now c.args.at.0) c.args.pieces.now.items c.push_cons.new.pieces.items c.args.out.now.items
+    cons_moves c.args.names.now c.args.bank.now c.in-App.head c.in-App.args.now (term_tree c.args.bank.now c.args.at.0) c.args.pieces.now.items
+    c.push_cons.new.pieces.items c.args.out.now.items
     c.requires.pieces (AllInTerms-below c.args.bank.now c.args.at.0 c.in-App.args.now c.requires.at c.in-App.ensures.shown.1) c.in-App.ensures.shown.0
     (sym c.is_cons_of.ensures ∙ c.if-is_cons_of.true) c.in_ok-push_cons-in-App.ensures
 
 pub returns-in_err-write_head-in-App-clause-begun : goal.returns-in_err-write_head-in-App-clause-begun
 returns-in_err-write_head-in-App-clause-begun c =
-    on_err _ (head_begins c.args.names.now c.args.bank.now c.in-App.head c.in-App.args.now (term_tree c.args.bank.now c.args.at.0) c.args.out.now.items c.write_head.new.out.items c.in-App.ensures.shown.0
+    on_err _ (head_begins c.args.names.now c.args.bank.now c.in-App.head c.in-App.args.now (term_tree c.args.bank.now c.args.at.0) c.args.out.now.items
+    c.write_head.new.out.items c.in-App.ensures.shown.0
     (sym c.is_cons_of.ensures ∙ c.if-is_cons_of.false) c.write_head.ensures.begun)
 
 pub returns-in_err-push_arguments-in-App-clause-begun : goal.returns-in_err-push_arguments-in-App-clause-begun
 returns-in_err-push_arguments-in-App-clause-begun c =
-    on_err _ (head_begins c.args.names.now c.args.bank.now c.in-App.head c.in-App.args.now (term_tree c.args.bank.now c.args.at.0) c.args.out.now.items c.write_head.new.out.items c.in-App.ensures.shown.0
+    on_err _ (head_begins c.args.names.now c.args.bank.now c.in-App.head c.in-App.args.now (term_tree c.args.bank.now c.args.at.0) c.args.out.now.items
+    c.write_head.new.out.items c.in-App.ensures.shown.0
     (sym c.is_cons_of.ensures ∙ c.if-is_cons_of.false) c.write_head.ensures.begun)
 
 pub returns-in_ok-push_arguments-in-App-clause-moves : goal.returns-in_ok-push_arguments-in-App-clause-moves
 returns-in_ok-push_arguments-in-App-clause-moves c =
-    head_moves c.args.names.now c.args.bank.now c.in-App.head c.in-App.args.now (term_tree c.args.bank.now c.args.at.0) c.args.pieces.now.items c.push_arguments.new.pieces.items c.args.out.now.items
-    c.write_head.new.out.items c.requires.pieces (AllInTerms-below c.args.bank.now c.args.at.0 c.in-App.args.now c.requires.at c.in-App.ensures.shown.1) c.in-App.ensures.shown.0
+    head_moves c.args.names.now c.args.bank.now c.in-App.head c.in-App.args.now (term_tree c.args.bank.now c.args.at.0) c.args.pieces.now.items
+    c.push_arguments.new.pieces.items c.args.out.now.items
+    c.write_head.new.out.items c.requires.pieces (AllInTerms-below c.args.bank.now c.args.at.0 c.in-App.args.now c.requires.at c.in-App.ensures.shown.1)
+    c.in-App.ensures.shown.0
     (sym c.is_cons_of.ensures ∙ c.if-is_cons_of.false) c.in_ok-write_head-in-App.ensures.text c.in_ok-push_arguments-in-App.ensures

@@ -5,8 +5,10 @@ use Rattle.ll_printer.proofs.programs.write_clauses.Goals as goal
 
 pub returns-in_err-write_clause-clause-begun : goal.returns-in_err-write_clause-clause-begun
 returns-in_err-write_clause-clause-begun c =
-    on_err _ (clauses-refused c.args.source.now.names.now c.args.source.now.forms.now c.args.list.now c.loop-i.i _ c.args.out.now.items c.loop-i.out.items c.write_clause.new.out.items (omega (arith, c.loop-i-test.true)) c.loop-i.invariant c.in_err-write_clause.ensures.begun)
+    on_err _ (clauses-refused c.args.source.now.names.now c.args.source.now.forms.now c.args.list.now c.loop-i.i _ c.args.out.now.items c.loop-i.out.items
+    c.write_clause.new.out.items (omega (arith, c.loop-i-test.true)) c.loop-i.invariant c.in_err-write_clause.ensures.begun)
 
 pub loop-i-preserved : goal.loop-i-preserved
 loop-i-preserved c =
-    clauses-on c.args.source.now.names.now c.args.source.now.forms.now c.args.list.now c.loop-i.i _ c.args.out.now.items c.loop-i.out.items c.write_clause.new.out.items (omega (arith, c.loop-i-test.true)) c.loop-i.invariant c.in_ok-write_clause.ensures.text
+    clauses-on c.args.source.now.names.now c.args.source.now.forms.now c.args.list.now c.loop-i.i _ c.args.out.now.items c.loop-i.out.items
+    c.write_clause.new.out.items (omega (arith, c.loop-i-test.true)) c.loop-i.invariant c.in_ok-write_clause.ensures.text

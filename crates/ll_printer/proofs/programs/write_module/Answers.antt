@@ -4,23 +4,39 @@ use Rattle.ll_lists.proofs.CallerLemmas.{OnErr-always as on_err, OnErr-weaker as
 
 pub returns-in_err-write_name-clause-begun : goal.returns-in_err-write_name-clause-begun
 returns-in_err-write_name-clause-begun c =
-    on_err _ (name-refused c.args.source.now.names.now c.args.source.now.forms.now c.args.module.now c.args.out.now.items c.extend_from_slice.new.self.items c.write_name.new.out.items
-    (module-word c.args.source.now.names.now c.args.source.now.forms.now c.args.module.now c.args.out.now.items c.extend_from_slice.new.self.items c.in_ok-extend_from_slice.ensures.items) c.in_err-write_name.ensures.begun)
+    on_err _ (name-refused c.args.source.now.names.now c.args.source.now.forms.now c.args.module.now c.args.out.now.items c.extend_from_slice.new.self.items
+    c.write_name.new.out.items
+    (module-word c.args.source.now.names.now c.args.source.now.forms.now c.args.module.now c.args.out.now.items c.extend_from_slice.new.self.items
+    c.in_ok-extend_from_slice.ensures.items) c.in_err-write_name.ensures.begun)
 
 pub returns-in_err-write_names-clause-begun : goal.returns-in_err-write_names-clause-begun
 returns-in_err-write_names-clause-begun c =
-    on_err _ (params-refused c.args.source.now.names.now c.args.source.now.forms.now c.args.module.now c.args.out.now.items c.write_name.new.out.items c.write_names.new.out.items c.as_slice.result.now c.as_slice.ensures.value
-    (module-name c.args.source.now.names.now c.args.source.now.forms.now c.args.module.now c.args.out.now.items c.extend_from_slice.new.self.items c.write_name.new.out.items (module-word c.args.source.now.names.now c.args.source.now.forms.now c.args.module.now c.args.out.now.items c.extend_from_slice.new.self.items c.in_ok-extend_from_slice.ensures.items) c.in_ok-write_name.ensures.text) c.in_err-write_names.ensures.begun)
+    on_err _ (params-refused c.args.source.now.names.now c.args.source.now.forms.now c.args.module.now c.args.out.now.items c.write_name.new.out.items
+    c.write_names.new.out.items c.as_slice.result.now c.as_slice.ensures.value
+    (module-name c.args.source.now.names.now c.args.source.now.forms.now c.args.module.now c.args.out.now.items c.extend_from_slice.new.self.items
+    c.write_name.new.out.items (module-word c.args.source.now.names.now c.args.source.now.forms.now c.args.module.now c.args.out.now.items
+    c.extend_from_slice.new.self.items c.in_ok-extend_from_slice.ensures.items) c.in_ok-write_name.ensures.text) c.in_err-write_names.ensures.begun)
 
 pub returns-in_err-write_locals-clause-begun : goal.returns-in_err-write_locals-clause-begun
 returns-in_err-write_locals-clause-begun c =
-    on_err _ (locals-refused c.args.source.now.names.now c.args.source.now.forms.now c.args.module.now c.args.out.now.items c.write_names.new.out.items c.write_locals.new.out.items c.as_slice-2.result.now c.as_slice-2.ensures.value
-    (module-params c.args.source.now.names.now c.args.source.now.forms.now c.args.module.now c.args.out.now.items c.write_name.new.out.items c.write_names.new.out.items c.as_slice.result.now c.as_slice.ensures.value
-    (module-name c.args.source.now.names.now c.args.source.now.forms.now c.args.module.now c.args.out.now.items c.extend_from_slice.new.self.items c.write_name.new.out.items (module-word c.args.source.now.names.now c.args.source.now.forms.now c.args.module.now c.args.out.now.items c.extend_from_slice.new.self.items c.in_ok-extend_from_slice.ensures.items) c.in_ok-write_name.ensures.text) c.in_ok-write_names.ensures.text) c.in_err-write_locals.ensures.begun)
+    on_err _ (locals-refused c.args.source.now.names.now c.args.source.now.forms.now c.args.module.now c.args.out.now.items c.write_names.new.out.items
+    c.write_locals.new.out.items c.as_slice-2.result.now c.as_slice-2.ensures.value
+    (module-params c.args.source.now.names.now c.args.source.now.forms.now c.args.module.now c.args.out.now.items c.write_name.new.out.items
+    c.write_names.new.out.items c.as_slice.result.now c.as_slice.ensures.value
+    (module-name c.args.source.now.names.now c.args.source.now.forms.now c.args.module.now c.args.out.now.items c.extend_from_slice.new.self.items
+    c.write_name.new.out.items (module-word c.args.source.now.names.now c.args.source.now.forms.now c.args.module.now c.args.out.now.items
+    c.extend_from_slice.new.self.items c.in_ok-extend_from_slice.ensures.items) c.in_ok-write_name.ensures.text) c.in_ok-write_names.ensures.text)
+    c.in_err-write_locals.ensures.begun)
 
 pub returns-clause-begun : goal.returns-clause-begun
 returns-clause-begun c =
-    on_refused c.write_clauses.result (last-refused c.args.source.now.names.now c.args.source.now.forms.now c.args.module.now c.args.out.now.items c.write_locals.new.out.items c.write_clauses.new.out.items c.as_slice-3.result.now c.as_slice-3.ensures.value
-    (module-locals c.args.source.now.names.now c.args.source.now.forms.now c.args.module.now c.args.out.now.items c.write_names.new.out.items c.write_locals.new.out.items c.as_slice-2.result.now c.as_slice-2.ensures.value
-    (module-params c.args.source.now.names.now c.args.source.now.forms.now c.args.module.now c.args.out.now.items c.write_name.new.out.items c.write_names.new.out.items c.as_slice.result.now c.as_slice.ensures.value
-    (module-name c.args.source.now.names.now c.args.source.now.forms.now c.args.module.now c.args.out.now.items c.extend_from_slice.new.self.items c.write_name.new.out.items (module-word c.args.source.now.names.now c.args.source.now.forms.now c.args.module.now c.args.out.now.items c.extend_from_slice.new.self.items c.in_ok-extend_from_slice.ensures.items) c.in_ok-write_name.ensures.text) c.in_ok-write_names.ensures.text) c.in_ok-write_locals.ensures.text)) c.write_clauses.ensures.begun
+    on_refused c.write_clauses.result (last-refused c.args.source.now.names.now c.args.source.now.forms.now c.args.module.now c.args.out.now.items
+    c.write_locals.new.out.items c.write_clauses.new.out.items c.as_slice-3.result.now c.as_slice-3.ensures.value
+    (module-locals c.args.source.now.names.now c.args.source.now.forms.now c.args.module.now c.args.out.now.items c.write_names.new.out.items
+    c.write_locals.new.out.items c.as_slice-2.result.now c.as_slice-2.ensures.value
+    (module-params c.args.source.now.names.now c.args.source.now.forms.now c.args.module.now c.args.out.now.items c.write_name.new.out.items
+    c.write_names.new.out.items c.as_slice.result.now c.as_slice.ensures.value
+    (module-name c.args.source.now.names.now c.args.source.now.forms.now c.args.module.now c.args.out.now.items c.extend_from_slice.new.self.items
+    c.write_name.new.out.items (module-word c.args.source.now.names.now c.args.source.now.forms.now c.args.module.now c.args.out.now.items
+    c.extend_from_slice.new.self.items c.in_ok-extend_from_slice.ensures.items) c.in_ok-write_name.ensures.text) c.in_ok-write_names.ensures.text)
+    c.in_ok-write_locals.ensures.text)) c.write_clauses.ensures.begun

@@ -7,10 +7,13 @@ use Rattle.ll_prooftext.proofs.cells.cell_field.Goals as goal
 
 pub returns-in-Some-2-clause-ok : goal.returns-in-Some-2-clause-ok
 returns-in-Some-2-clause-ok c =
-    cell_made (term_trees c.args.bank.now c.args.rows.now) c.args.names.now c.args.bank.now c.args.bytes.now c.in-Some.field.now c.split_before.result.0.now c.split_before.result.1.now c.cell_of.new.names c.cell_of.new.bank c.in-Some-2.at.0 c.in-Some.ensures c.split_before.ensures.is c.split_before.ensures.stops
+    cell_made (term_trees c.args.bank.now c.args.rows.now) c.args.names.now c.args.bank.now c.args.bytes.now c.in-Some.field.now c.split_before.result.0.now
+    c.split_before.result.1.now c.cell_of.new.names c.cell_of.new.bank c.in-Some-2.at.0 c.in-Some.ensures c.split_before.ensures.is
+    c.split_before.ensures.stops
     (rw c.in-Some-2.is at c.in_ok-at.ensures.found) (rw c.in-Some-2.is at c.in_ok-at.ensures.moves)
 
 pub returns-in-None-clause-err : goal.returns-in-None-clause-err
 returns-in-None-clause-err c =
     nothing_there (Cell (length c.args.rows.now)) c.args.bytes.now c.in-Some.field.now c.in-Some.ensures
-    (cell_none (length c.args.rows.now) c.in-Some.field.now c.split_before.result.0.now c.split_before.result.1.now (let l = c.requires.few in omega arith) c.split_before.ensures.is c.split_before.ensures.free c.split_before.ensures.stops (rw c.in-None.is at c.in_ok-at.ensures.found))
+    (cell_none (length c.args.rows.now) c.in-Some.field.now c.split_before.result.0.now c.split_before.result.1.now (let l = c.requires.few in
+    omega arith) c.split_before.ensures.is c.split_before.ensures.free c.split_before.ensures.stops (rw c.in-None.is at c.in_ok-at.ensures.found))

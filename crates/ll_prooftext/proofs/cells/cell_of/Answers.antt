@@ -4,19 +4,23 @@ use Rattle.ll_prooftext.proofs.reading.CellsRead.{no_cell, row_found, row_found_
 use Rattle.ll_prooftext.proofs.cells.cell_of.Goals as goal
 
 pub returns-in-Some-clause-found : goal.returns-in-Some-clause-found
-returns-in-Some-clause-found c = row_found c.args.names.now c.args.bank.now c.args.rows.now c.args.word.now c.in-Some.number.now c.row_numbered.result c.requires.rows c.in-Some.ensures c.row_numbered.ensures
+returns-in-Some-clause-found c = row_found c.args.names.now c.args.bank.now c.args.rows.now c.args.word.now c.in-Some.number.now c.row_numbered.result
+    c.requires.rows c.in-Some.ensures c.row_numbered.ensures
 
 pub returns-in-Some-clause-moves : goal.returns-in-Some-clause-moves
-returns-in-Some-clause-moves c = row_found_moves c.args.names.now c.args.bank.now c.args.rows.now c.args.word.now c.in-Some.number.now c.row_numbered.result c.requires.few c.in-Some.ensures c.row_numbered.ensures
+returns-in-Some-clause-moves c = row_found_moves c.args.names.now c.args.bank.now c.args.rows.now c.args.word.now c.in-Some.number.now c.row_numbered.result
+    c.requires.few c.in-Some.ensures c.row_numbered.ensures
 
 pub returns-in_ok-term_of-in-Some-2-clause-found : goal.returns-in_ok-term_of-in-Some-2-clause-found
 returns-in_ok-term_of-in-Some-2-clause-found c =
-    word_cell (term_trees c.args.bank.now c.args.rows.now) c.args.word.now c.word_of.new.names c.word_of.new.bank c.term_of.new.bank c.in-Some-2.found c.in_ok-term_of-in-Some-2.field-0.0 (rw c.in-Some-2.is at c.in_ok-found.ensures.found) c.in_ok-term_of-in-Some-2.ensures.term
+    word_cell (term_trees c.args.bank.now c.args.rows.now) c.args.word.now c.word_of.new.names c.word_of.new.bank c.term_of.new.bank c.in-Some-2.found
+    c.in_ok-term_of-in-Some-2.field-0.0 (rw c.in-Some-2.is at c.in_ok-found.ensures.found) c.in_ok-term_of-in-Some-2.ensures.term
     c.in_ok-term_of-in-Some-2.ensures.keeps
 
 pub returns-in_ok-term_of-in-Some-2-clause-moves : goal.returns-in_ok-term_of-in-Some-2-clause-moves
 returns-in_ok-term_of-in-Some-2-clause-moves c =
-    word_moves c.args.names.now c.args.bank.now c.args.word.now c.word_of.new.names c.word_of.new.bank c.term_of.new.bank c.in-Some-2.found (rw c.in-Some-2.is at c.in_ok-found.ensures.found) (rw c.in-Some-2.is at c.in_ok-found.ensures.moves) c.in_ok-term_of-in-Some-2.ensures.keeps
+    word_moves c.args.names.now c.args.bank.now c.args.word.now c.word_of.new.names c.word_of.new.bank c.term_of.new.bank c.in-Some-2.found
+    (rw c.in-Some-2.is at c.in_ok-found.ensures.found) (rw c.in-Some-2.is at c.in_ok-found.ensures.moves) c.in_ok-term_of-in-Some-2.ensures.keeps
 
 pub returns-in-None-clause-found : goal.returns-in-None-clause-found
 returns-in-None-clause-found c = no_cell (length c.args.rows.now) c.args.word.now c.in_default.ensures (rw c.in-None.is at c.in_ok-found.ensures.found)

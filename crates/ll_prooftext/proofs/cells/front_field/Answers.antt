@@ -3,10 +3,12 @@ use Rattle.ll_prooftext.proofs.cells.front_field.Goals as goal
 
 pub returns-in-Some-2-clause-ok : goal.returns-in-Some-2-clause-ok
 returns-in-Some-2-clause-ok c =
-    front_made c.args.names.now c.args.bank.now c.args.bytes.now c.in-Some.field.now c.split_before.result.0.now c.split_before.result.1.now c.front_of.new.names c.front_of.new.bank c.in-Some-2.front c.in-Some.ensures c.split_before.ensures.is c.split_before.ensures.stops
+    front_made c.args.names.now c.args.bank.now c.args.bytes.now c.in-Some.field.now c.split_before.result.0.now c.split_before.result.1.now
+    c.front_of.new.names c.front_of.new.bank c.in-Some-2.front c.in-Some.ensures c.split_before.ensures.is c.split_before.ensures.stops
     (rw c.in-Some-2.is at c.in_ok-front.ensures.found) (rw c.in-Some-2.is at c.in_ok-front.ensures.moves)
 
 pub returns-in-None-clause-err : goal.returns-in-None-clause-err
 returns-in-None-clause-err c =
     let none = rw c.in-None.is at c.in_ok-front.ensures.found in
-    front_none c.args.bytes.now c.in-Some.field.now c.split_before.result.0.now c.split_before.result.1.now c.in-Some.ensures c.split_before.ensures.is c.split_before.ensures.free c.split_before.ensures.stops none.0 none.1
+    front_none c.args.bytes.now c.in-Some.field.now c.split_before.result.0.now c.split_before.result.1.now c.in-Some.ensures c.split_before.ensures.is
+    c.split_before.ensures.free c.split_before.ensures.stops none.0 none.1

@@ -6,15 +6,19 @@ use Rattle.ll_prooftext.proofs.reading.CellsRead.{sign_stays, sign_moves, no_pla
 use Rattle.ll_prooftext.proofs.cells.front_of.Goals as goal
 
 pub returns-then-eq-clause-found : goal.returns-then-eq-clause-found
-returns-then-eq-clause-found c =
-    ((bytes_eq-Decides c.args.word.now c.as_slice.result.now).0 (sym c.if-eq.ensures) ∙ c.as_slice.ensures, sign_stays c.add.new.self c.in_ok-add.field-0 c.in_ok-add.ensures.text)
+returns-then-eq-clause-found c = (
+  (bytes_eq-Decides c.args.word.now c.as_slice.result.now).0 (sym c.if-eq.ensures) ∙ c.as_slice.ensures,
+  sign_stays c.add.new.self c.in_ok-add.field-0 c.in_ok-add.ensures.text,
+)
 
 pub returns-then-eq-clause-moves : goal.returns-then-eq-clause-moves
-returns-then-eq-clause-moves c = sign_moves c.args.names.now c.add.new.self c.args.bank.now c.args.word.now ((bytes_eq-Decides c.args.word.now c.as_slice.result.now).0 (sym c.if-eq.ensures) ∙ c.as_slice.ensures) c.in_ok-add.ensures.added
+returns-then-eq-clause-moves c = sign_moves c.args.names.now c.add.new.self c.args.bank.now c.args.word.now
+    ((bytes_eq-Decides c.args.word.now c.as_slice.result.now).0 (sym c.if-eq.ensures) ∙ c.as_slice.ensures) c.in_ok-add.ensures.added
 
 pub returns-in-Some-Head-clause-moves : goal.returns-in-Some-Head-clause-moves
 returns-in-Some-Head-clause-moves c =
-    word_moves c.args.names.now c.args.bank.now c.args.word.now c.word_of.new.names c.word_of.new.bank c.word_of.new.bank c.in-Some-Head.field-0 (rw c.in-Some-Head.is at c.in_ok-head.ensures.found) (rw c.in-Some-Head.is at c.in_ok-head.ensures.moves) (Extends-refl c.word_of.new.bank)
+    word_moves c.args.names.now c.args.bank.now c.args.word.now c.word_of.new.names c.word_of.new.bank c.word_of.new.bank c.in-Some-Head.field-0
+    (rw c.in-Some-Head.is at c.in_ok-head.ensures.found) (rw c.in-Some-Head.is at c.in_ok-head.ensures.moves) (Extends-refl c.word_of.new.bank)
 
 pub returns-in-Some-Term-clause-found : goal.returns-in-Some-Term-clause-found
 returns-in-Some-Term-clause-found c =
@@ -23,4 +27,7 @@ returns-in-Some-Term-clause-found c =
     (leaf_no_plain c.args.word.now leaf.word, λ e. other c.args.word.now c.as_slice.result.now c.if-eq.ensures (e ∙ sym c.as_slice.ensures))
 
 pub returns-in-None-clause-found : goal.returns-in-None-clause-found
-returns-in-None-clause-found c = (no_plain c.args.word.now (rw c.in-None.is at c.in_ok-head.ensures.found), λ e. other c.args.word.now c.as_slice.result.now c.if-eq.ensures (e ∙ sym c.as_slice.ensures))
+returns-in-None-clause-found c = (
+  no_plain c.args.word.now (rw c.in-None.is at c.in_ok-head.ensures.found),
+  λ e. other c.args.word.now c.as_slice.result.now c.if-eq.ensures (e ∙ sym c.as_slice.ensures),
+)

@@ -13,7 +13,8 @@ pub returns-in_err-at-clause-err : goal.returns-in_err-at-clause-err
 returns-in_err-at-clause-err c =
     let n = length c.args.rows.now in
     let p = err_from_is_err_and c.from_residual.result c.from_residual.ensures.1 in
-    rw (p.1, p.2) (refuses_weaker (LacksField (Cell n) c.args.bytes.now) (StopsAt (Then (Cell n) Nothing) c.args.bytes.now) (λ k h. stops_here (Cell n) Nothing c.args.bytes.now k h) c.in_err-at.field-0.0 c.in_err-at.ensures.err)
+    rw (p.1, p.2) (refuses_weaker (LacksField (Cell n) c.args.bytes.now) (StopsAt (Then (Cell n) Nothing) c.args.bytes.now)
+    (λ k h. stops_here (Cell n) Nothing c.args.bytes.now k h) c.in_err-at.field-0.0 c.in_err-at.ensures.err)
 
 pub returns-in_err-no_more-clause-err : goal.returns-in_err-no_more-clause-err
 returns-in_err-no_more-clause-err c =
@@ -21,5 +22,7 @@ returns-in_err-no_more-clause-err c =
     let p = err_from_is_err_and c.from_residual-in_err-no_more.result c.from_residual-in_err-no_more.ensures.1 in
     rw (p.1, p.2)
     (refuses_weaker (StopsAt Nothing c.in_ok-at.rest.now) (StopsAt (Then (Cell n) Nothing) c.args.bytes.now)
-    (λ k h. stops_cell (term_trees c.args.bank.now c.args.rows.now) n c.args.names.now c.args.bank.now c.args.bytes.now c.cell_field.new.names c.cell_field.new.bank c.in_ok-at.at.0 c.in_ok-at.rest.now k (Then (Cell n) Nothing) Nothing (length-map c.args.rows.now (λ (a : At). term_tree c.args.bank.now a.0))
+    (λ k h. stops_cell (term_trees c.args.bank.now c.args.rows.now) n c.args.names.now c.args.bank.now c.args.bytes.now c.cell_field.new.names
+    c.cell_field.new.bank c.in_ok-at.at.0 c.in_ok-at.rest.now k (Then (Cell n) Nothing) Nothing
+    (length-map c.args.rows.now (λ (a : At). term_tree c.args.bank.now a.0))
     (cell_then n Nothing) c.in_ok-at.ensures.ok h) c.in_err-no_more.field-0.0 c.in_err-no_more.ensures.err)

@@ -8,6 +8,8 @@ loop-arg-preserved c =
     let arg = (get_or c.in-App.args.now c.loop-arg.arg-index (record { 0 = 0 })).0 in
     let lower = c.in-App.ensures.shown.1 c.loop-arg.arg-index (record { 0 = 0 }) (omega arith) in
     let here = c.requires.numbered.each arg (omega (arith, lower, c.requires.next)) in
-    number_more c.args.bank.now c.args.at.0 c.in-App.args.now c.loop-arg.arg-index c.args.signs.now.keys c.loop-arg.signs.keys c.number_of_sign-in-loop-arg.new.signs.keys c.loop-arg.number
+    number_more c.args.bank.now c.args.at.0 c.in-App.args.now c.loop-arg.arg-index c.args.signs.now.keys c.loop-arg.signs.keys
+    c.number_of_sign-in-loop-arg.new.signs.keys c.loop-arg.number
     c.in_ok-number-in-App-2.number (get_or c.args.numbers.now arg 0) c.loop-arg.invariant c.in_ok-number-in-App-2.ensures.gain (record { 0 = 0 }) (omega arith)
-    (number_stays c.args.signs.now.keys c.loop-arg.signs.keys c.loop-arg.invariant.gain (get_or c.args.numbers.now arg 0) (term_tree c.args.bank.now arg) here) c.in_ok-number-in-App-2.ensures.number
+    (number_stays c.args.signs.now.keys c.loop-arg.signs.keys c.loop-arg.invariant.gain (get_or c.args.numbers.now arg 0) (term_tree c.args.bank.now arg) here)
+    c.in_ok-number-in-App-2.ensures.number

@@ -5,12 +5,15 @@ use Rattle.ll_prooftext.proofs.fields.write_number_fields.Goals as goal
 
 pub loop-i-preserved : goal.loop-i-preserved
 loop-i-preserved c =
-    parts_on (λ n. field (decimal n)) c.args.numbers.now c.loop-i.i 0 c.args.out.now.items c.loop-i.out.items c.write_number_field.new.out.items c.loop-i.invariant (omega arith) c.in_ok-write_number_field.ensures.text
+    parts_on (λ n. field (decimal n)) c.args.numbers.now c.loop-i.i 0 c.args.out.now.items c.loop-i.out.items c.write_number_field.new.out.items
+    c.loop-i.invariant (omega arith) c.in_ok-write_number_field.ensures.text
 
 pub returns-in_err-write_number_field-clause-begun : goal.returns-in_err-write_number_field-clause-begun
 returns-in_err-write_number_field-clause-begun c =
-    parts_refused (λ n. field (decimal n)) c.args.numbers.now c.loop-i.i 0 c.args.out.now.items c.loop-i.out.items c.write_number_field.new.out.items c.loop-i.invariant (omega arith) c.write_number_field.ensures.begun
+    parts_refused (λ n. field (decimal n)) c.args.numbers.now c.loop-i.i 0 c.args.out.now.items c.loop-i.out.items c.write_number_field.new.out.items
+    c.loop-i.invariant (omega arith) c.write_number_field.ensures.begun
 
 pub returns-clause-begun : goal.returns-clause-begun
 returns-clause-begun c =
-    parts_ended (λ n. field (decimal n)) c.args.numbers.now c.loop-i.i 0 c.args.out.now.items c.loop-i.out.items c.loop-i.out.items c.loop-i.invariant (omega arith)
+    parts_ended (λ n. field (decimal n)) c.args.numbers.now c.loop-i.i 0 c.args.out.now.items c.loop-i.out.items c.loop-i.out.items c.loop-i.invariant
+    (omega arith)

@@ -9,5 +9,7 @@ use Rattle.ll_prooftext.proofs.lines.write_let.Goals as goal
 pub returns-in_err-write_term_field-clause-begun : goal.returns-in_err-write_term_field-clause-begun
 returns-in_err-write_term_field-clause-begun c =
     let t = term_tree c.args.bank.now c.args.at.0 in
-    both_stopped (codes "let") (term_field c.args.names.now t ++ 10 ∷ []) (let_text c.args.names.now t) c.args.out.now.items c.extend_from_slice.new.self.items c.write_term_field.new.out.items refl c.in_ok-extend_from_slice.ensures.items
-    (begins_before (term_field c.args.names.now t) (10 ∷ []) (term_field c.args.names.now t ++ 10 ∷ []) c.extend_from_slice.new.self.items c.write_term_field.new.out.items refl c.write_term_field.ensures.begun)
+    both_stopped (codes "let") (term_field c.args.names.now t ++ 10 ∷ []) (let_text c.args.names.now t) c.args.out.now.items c.extend_from_slice.new.self.items
+    c.write_term_field.new.out.items refl c.in_ok-extend_from_slice.ensures.items
+    (begins_before (term_field c.args.names.now t) (10 ∷ []) (term_field c.args.names.now t ++ 10 ∷ []) c.extend_from_slice.new.self.items
+    c.write_term_field.new.out.items refl c.write_term_field.ensures.begun)

@@ -17,7 +17,8 @@ pub returns-in_default-clause-grows : goal.returns-in_default-clause-grows
 returns-in_default-clause-grows c = grows_none c.args.names.now
 
 pub loop-line-init : goal.loop-line-init
-loop-line-init c = so_far_none c.args.text.now c.args.names.now c.new-reading.result c.in-Some.lines c.in-Some.ensures c.new-reading.ensures.asked c.new-reading.ensures.nodes c.new-reading.ensures.lacking
+loop-line-init c = so_far_none c.args.text.now c.args.names.now c.new-reading.result c.in-Some.lines c.in-Some.ensures c.new-reading.ensures.asked
+    c.new-reading.ensures.nodes c.new-reading.ensures.lacking
 
 pub next-requires-clause-begins : goal.next-requires-clause-begins
 next-requires-clause-begins c = next_begins _ c.loop-line.lines.rest.now c.loop-line.lines.at c.loop-line.invariant.next
@@ -27,7 +28,8 @@ next-requires-clause-room c = let low = c.loop-line.invariant.low in let short =
 
 pub returns-then-reading-eq0-clause-err : goal.returns-then-reading-eq0-clause-err
 returns-then-reading-eq0-clause-err c =
-    left_cause c.args.text.now c.args.names.now c.loop-line.names c.loop-line.reading c.loop-line.lines c.in-Some-next.line c.next.new.self c.loop-line.invariant c.in-Some-next.ensures _ c.if-reading-eq0.true c.fault-then-reading-eq0.ensures
+    left_cause c.args.text.now c.args.names.now c.loop-line.names c.loop-line.reading c.loop-line.lines c.in-Some-next.line c.next.new.self
+    c.loop-line.invariant c.in-Some-next.ensures _ c.if-reading-eq0.true c.fault-then-reading-eq0.ensures
 
 pub returns-then-reading-eq0-clause-grows : goal.returns-then-reading-eq0-clause-grows
 returns-then-reading-eq0-clause-grows c = c.loop-line.invariant.grows
@@ -42,14 +44,17 @@ pub take-requires-clause-room : goal.take-requires-clause-room
 take-requires-clause-room c = let so_far = c.loop-line.invariant.room in let room = c.in-Some-next.ensures.room in let all = c.requires.room in omega arith
 
 pub line_fault-requires-clause-within : goal.line_fault-requires-clause-within
-line_fault-requires-clause-within c = refused_within (want (is_none c.loop-line.reading.nodes.items)) c.in-Some-next.line.bytes.now c.in-Err.refusal c.in-Err.ensures.err
+line_fault-requires-clause-within c = refused_within (want (is_none c.loop-line.reading.nodes.items)) c.in-Some-next.line.bytes.now c.in-Err.refusal
+    c.in-Err.ensures.err
 
 pub line_fault-requires-clause-short : goal.line_fault-requires-clause-short
-line_fault-requires-clause-short c = let few = c.loop-line.invariant.few in let room = c.in-Some-next.ensures.room in let short = c.requires.short in omega arith
+line_fault-requires-clause-short c = let few = c.loop-line.invariant.few in let room = c.in-Some-next.ensures.room in let short = c.requires.short in
+    omega arith
 
 pub returns-in-Err-clause-err : goal.returns-in-Err-clause-err
 returns-in-Err-clause-err c =
-    refused_cause c.args.text.now c.args.names.now c.loop-line.names c.loop-line.reading c.loop-line.lines c.in-Some-next.line c.next.new.self c.loop-line.invariant c.in-Some-next.ensures c.in-Err.refusal _ (let more = c.if-reading-eq0.false in omega arith) c.in-Err.ensures.err
+    refused_cause c.args.text.now c.args.names.now c.loop-line.names c.loop-line.reading c.loop-line.lines c.in-Some-next.line c.next.new.self
+    c.loop-line.invariant c.in-Some-next.ensures c.in-Err.refusal _ (let more = c.if-reading-eq0.false in omega arith) c.in-Err.ensures.err
     c.line_fault.ensures
 
 pub returns-in-Err-clause-grows : goal.returns-in-Err-clause-grows
@@ -60,25 +65,31 @@ loop-line-smaller c = c.in-Some-next.ensures.shorter
 
 pub loop-line-preserved : goal.loop-line-preserved
 loop-line-preserved c =
-    so_far_more c.args.text.now c.args.names.now c.loop-line.names c.loop-line.reading c.loop-line.lines c.in-Some-next.line c.next.new.self c.take.new.names c.take.new.self c.loop-line.invariant c.in-Some-next.ensures (let more = c.if-reading-eq0.false in omega arith)
+    so_far_more c.args.text.now c.args.names.now c.loop-line.names c.loop-line.reading c.loop-line.lines c.in-Some-next.line c.next.new.self c.take.new.names
+    c.take.new.self c.loop-line.invariant c.in-Some-next.ensures (let more = c.if-reading-eq0.false in omega arith)
     c.in_default-take.ensures.ok
 
 pub returns-then-reading-gt0-clause-err : goal.returns-then-reading-gt0-clause-err
 returns-then-reading-gt0-clause-err c =
-    missing_cause c.args.text.now c.args.names.now c.loop-line.names c.loop-line.reading c.loop-line.lines c.next.new.self.at _ c.loop-line.invariant c.in_default-next.ensures.rest c.in_default-next.ensures.at c.if-reading-gt0.true c.fault-then-reading-gt0.ensures
+    missing_cause c.args.text.now c.args.names.now c.loop-line.names c.loop-line.reading c.loop-line.lines c.next.new.self.at _ c.loop-line.invariant
+    c.in_default-next.ensures.rest c.in_default-next.ensures.at c.if-reading-gt0.true c.fault-then-reading-gt0.ensures
 
 pub returns-then-reading-gt0-clause-grows : goal.returns-then-reading-gt0-clause-grows
 returns-then-reading-gt0-clause-grows c = c.loop-line.invariant.grows
 
 pub invariant_of-result : goal.invariant_of-result
-invariant_of-result c =
-    (terms_inside c.loop-line.names c.loop-line.reading.bank c.loop-line.reading.asked.items c.loop-line.invariant.asked, rules_inside c.loop-line.names c.loop-line.reading.bank c.loop-line.reading.nodes.items c.loop-line.invariant.nodes)
+invariant_of-result c = (
+  terms_inside c.loop-line.names c.loop-line.reading.bank c.loop-line.reading.asked.items c.loop-line.invariant.asked,
+  rules_inside c.loop-line.names c.loop-line.reading.bank c.loop-line.reading.nodes.items c.loop-line.invariant.nodes,
+)
 
 pub returns-clause-ok : goal.returns-clause-ok
-returns-clause-ok c = text_read c.args.text.now c.args.names.now c.loop-line.names c.loop-line.reading c.loop-line.lines c.loop-line.invariant c.in_default-next.ensures.rest (let none = c.if-reading-gt0.false in omega arith)
+returns-clause-ok c = text_read c.args.text.now c.args.names.now c.loop-line.names c.loop-line.reading c.loop-line.lines c.loop-line.invariant
+    c.in_default-next.ensures.rest (let none = c.if-reading-gt0.false in omega arith)
 
 pub returns-clause-names : goal.returns-clause-names
-returns-clause-names c = names_read c.args.text.now c.args.names.now c.loop-line.names c.loop-line.reading c.loop-line.lines c.loop-line.invariant c.in_default-next.ensures.rest
+returns-clause-names c = names_read c.args.text.now c.args.names.now c.loop-line.names c.loop-line.reading c.loop-line.lines c.loop-line.invariant
+    c.in_default-next.ensures.rest
 
 pub returns-clause-grows : goal.returns-clause-grows
 returns-clause-grows c = c.loop-line.invariant.grows

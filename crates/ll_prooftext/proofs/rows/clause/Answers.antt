@@ -8,14 +8,16 @@ use Rattle.ll_prooftext.proofs.rows.clause.Goals as goal
 pub returns-in_err-label-clause-err : goal.returns-in_err-label-clause-err
 returns-in_err-label-clause-err c =
     let p = err_from_is_err_and c.from_residual.result c.from_residual.ensures.1 in
-    rw (p.1, p.2) (refuses_weaker (LacksField Number c.args.bytes.now) (StopsAt (Then Number (Then Number Arguments)) c.args.bytes.now) (λ n h. stops_here Number (Then Number Arguments) c.args.bytes.now n h) c.in_err-label.field-0.0 c.in_err-label.ensures.err)
+    rw (p.1, p.2) (refuses_weaker (LacksField Number c.args.bytes.now) (StopsAt (Then Number (Then Number Arguments)) c.args.bytes.now)
+    (λ n h. stops_here Number (Then Number Arguments) c.args.bytes.now n h) c.in_err-label.field-0.0 c.in_err-label.ensures.err)
 
 pub returns-in_err-leaf-clause-err : goal.returns-in_err-leaf-clause-err
 returns-in_err-leaf-clause-err c =
     let p = err_from_is_err_and c.from_residual-in_err-leaf.result c.from_residual-in_err-leaf.ensures.1 in
     rw (p.1, p.2)
     (refuses_weaker (LacksField Number c.in_ok-label.behind_label.now) (StopsAt (Then Number (Then Number Arguments)) c.args.bytes.now)
-    (λ n h. number_then c.args.bytes.now c.in_ok-label.behind_label.now c.in_ok-label.label n (Then Number Arguments) c.in_ok-label.ensures.ok (stops_here Number Arguments c.in_ok-label.behind_label.now n h)) c.in_err-leaf.field-0.0 c.in_err-leaf.ensures.err)
+    (λ n h. number_then c.args.bytes.now c.in_ok-label.behind_label.now c.in_ok-label.label n (Then Number Arguments) c.in_ok-label.ensures.ok
+    (stops_here Number Arguments c.in_ok-label.behind_label.now n h)) c.in_err-leaf.field-0.0 c.in_err-leaf.ensures.err)
 
 pub term_fields-requires-clause-room : goal.term_fields-requires-clause-room
 term_fields-requires-clause-room c =
@@ -28,7 +30,8 @@ returns-in_err-terms-clause-err c =
     let p = err_from_is_err_and c.from_residual-in_err-terms.result c.from_residual-in_err-terms.ensures.1 in
     rw (p.1, p.2)
     (refuses_weaker (StopsAt Arguments c.in_ok-leaf.behind_leaf.now) (StopsAt (Then Number (Then Number Arguments)) c.args.bytes.now)
-    (λ n h. clause_then c.args.bytes.now c.in_ok-label.label c.in_ok-label.behind_label.now c.in_ok-leaf.leaf c.in_ok-leaf.behind_leaf.now n c.in_ok-label.ensures.ok c.in_ok-leaf.ensures.ok h) c.in_err-terms.field-0.0 c.in_err-terms.ensures.err)
+    (λ n h. clause_then c.args.bytes.now c.in_ok-label.label c.in_ok-label.behind_label.now c.in_ok-leaf.leaf c.in_ok-leaf.behind_leaf.now n
+    c.in_ok-label.ensures.ok c.in_ok-leaf.ensures.ok h) c.in_err-terms.field-0.0 c.in_err-terms.ensures.err)
 
 pub returns-in_err-parts-clause-err : goal.returns-in_err-parts-clause-err
 returns-in_err-parts-clause-err c =
@@ -36,13 +39,16 @@ returns-in_err-parts-clause-err c =
     rw (p.1, p.2)
     (refuses_weaker (StopsAt Arguments c.in_ok-terms.behind_terms.now) (StopsAt (Then Number (Then Number Arguments)) c.args.bytes.now)
     (λ n h.
-    clause_then c.args.bytes.now c.in_ok-label.label c.in_ok-label.behind_label.now c.in_ok-leaf.leaf c.in_ok-leaf.behind_leaf.now n c.in_ok-label.ensures.ok c.in_ok-leaf.ensures.ok
-    (terms_then c.args.names.now c.args.bank.now c.in_ok-leaf.behind_leaf.now c.term_fields.new.names c.term_fields.new.bank c.in_ok-terms.terms.items c.in_ok-terms.behind_terms.now n c.in_ok-terms.ensures.ok h)) c.in_err-parts.field-0.0
+    clause_then c.args.bytes.now c.in_ok-label.label c.in_ok-label.behind_label.now c.in_ok-leaf.leaf c.in_ok-leaf.behind_leaf.now n c.in_ok-label.ensures.ok
+    c.in_ok-leaf.ensures.ok
+    (terms_then c.args.names.now c.args.bank.now c.in_ok-leaf.behind_leaf.now c.term_fields.new.names c.term_fields.new.bank c.in_ok-terms.terms.items
+    c.in_ok-terms.behind_terms.now n c.in_ok-terms.ensures.ok h)) c.in_err-parts.field-0.0
     c.in_err-parts.ensures.err)
 
 pub returns-clause-ok : goal.returns-clause-ok
 returns-clause-ok c =
-    clause_made c.args.names.now c.args.bank.now c.args.bytes.now c.term_fields.new.names c.term_fields.new.bank c.in_ok-label.label c.in_ok-label.behind_label.now c.in_ok-leaf.leaf c.in_ok-leaf.behind_leaf.now c.in_ok-terms.terms.items c.in_ok-terms.behind_terms.now
+    clause_made c.args.names.now c.args.bank.now c.args.bytes.now c.term_fields.new.names c.term_fields.new.bank c.in_ok-label.label
+    c.in_ok-label.behind_label.now c.in_ok-leaf.leaf c.in_ok-leaf.behind_leaf.now c.in_ok-terms.terms.items c.in_ok-terms.behind_terms.now
     c.in_ok-parts.parts.items c.in_ok-label.ensures.ok c.in_ok-leaf.ensures.ok c.in_ok-terms.ensures.ok c.in_ok-parts.ensures.ok
 
 pub part_fields-requires-clause-begins : goal.part_fields-requires-clause-begins

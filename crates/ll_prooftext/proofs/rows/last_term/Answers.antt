@@ -8,12 +8,14 @@ use Rattle.ll_prooftext.proofs.rows.last_term.Goals as goal
 pub returns-in_err-at-clause-err : goal.returns-in_err-at-clause-err
 returns-in_err-at-clause-err c =
     let p = err_from_is_err_and c.from_residual.result c.from_residual.ensures.1 in
-    rw (p.1, p.2) (refuses_weaker (LacksField Argument c.args.bytes.now) (StopsAt (Then Argument Nothing) c.args.bytes.now) (λ n h. stops_here Argument Nothing c.args.bytes.now n h) c.in_err-at.field-0.0 c.in_err-at.ensures.err)
+    rw (p.1, p.2) (refuses_weaker (LacksField Argument c.args.bytes.now) (StopsAt (Then Argument Nothing) c.args.bytes.now)
+    (λ n h. stops_here Argument Nothing c.args.bytes.now n h) c.in_err-at.field-0.0 c.in_err-at.ensures.err)
 
 pub returns-in_err-no_more-clause-err : goal.returns-in_err-no_more-clause-err
 returns-in_err-no_more-clause-err c =
     let p = err_from_is_err_and c.from_residual-in_err-no_more.result c.from_residual-in_err-no_more.ensures.1 in
     rw (p.1, p.2)
     (refuses_weaker (StopsAt Nothing c.in_ok-at.rest.now) (StopsAt (Then Argument Nothing) c.args.bytes.now)
-    (λ n h. argument_then c.args.names.now c.args.bank.now c.args.bytes.now c.term_field.new.names c.term_field.new.bank c.in_ok-at.at.0 c.in_ok-at.rest.now n (Then Argument Nothing) Nothing refl c.in_ok-at.ensures.ok h) c.in_err-no_more.field-0.0
+    (λ n h. argument_then c.args.names.now c.args.bank.now c.args.bytes.now c.term_field.new.names c.term_field.new.bank c.in_ok-at.at.0 c.in_ok-at.rest.now n
+    (Then Argument Nothing) Nothing refl c.in_ok-at.ensures.ok h) c.in_err-no_more.field-0.0
     c.in_err-no_more.ensures.err)

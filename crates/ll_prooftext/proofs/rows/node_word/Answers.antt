@@ -47,4 +47,43 @@ pub returns-then-eq-14 : goal.returns-then-eq-14
 returns-then-eq-14 c = found c.args.word.now c.as_slice-else-eq-13.result.now word.Clause c.if-eq-14.ensures c.as_slice-else-eq-13.ensures
 
 pub returns-else-eq-14 : goal.returns-else-eq-14
-returns-else-eq-14 c = let w = c.args.word.now in not_listed node_words w (unlike w c.as_slice.result.now (codes "true") c.if-eq.ensures c.as_slice.ensures, (unlike w c.as_slice-else-eq.result.now (codes "erase") c.if-eq-2.ensures c.as_slice-else-eq.ensures, (unlike w c.as_slice-else-eq-2.result.now (codes "tensor") c.if-eq-3.ensures c.as_slice-else-eq-2.ensures, (unlike w c.as_slice-else-eq-3.result.now (codes "with") c.if-eq-4.ensures c.as_slice-else-eq-3.ensures, (unlike w c.as_slice-else-eq-4.result.now (codes "left") c.if-eq-5.ensures c.as_slice-else-eq-4.ensures, (unlike w c.as_slice-else-eq-5.result.now (codes "right") c.if-eq-6.ensures c.as_slice-else-eq-5.ensures, (unlike w c.as_slice-else-eq-6.result.now (codes "bang") c.if-eq-7.ensures c.as_slice-else-eq-6.ensures, (unlike w c.as_slice-else-eq-7.result.now (codes "lolli") c.if-eq-8.ensures c.as_slice-else-eq-7.ensures, (unlike w c.as_slice-else-eq-8.result.now (codes "imp") c.if-eq-9.ensures c.as_slice-else-eq-8.ensures, (unlike w c.as_slice-else-eq-9.result.now (codes "forall") c.if-eq-10.ensures c.as_slice-else-eq-9.ensures, (unlike w c.as_slice-else-eq-10.result.now (codes "exists") c.if-eq-11.ensures c.as_slice-else-eq-10.ensures, (unlike w c.as_slice-else-eq-11.result.now (codes "use") c.if-eq-12.ensures c.as_slice-else-eq-11.ensures, (unlike w c.as_slice-else-eq-12.result.now (codes "num") c.if-eq-13.ensures c.as_slice-else-eq-12.ensures, (unlike w c.as_slice-else-eq-13.result.now (codes "clause") c.if-eq-14.ensures c.as_slice-else-eq-13.ensures, tt))))))))))))))
+returns-else-eq-14 c = let w = c.args.word.now in not_listed node_words w (
+  unlike w c.as_slice.result.now (codes "true") c.if-eq.ensures c.as_slice.ensures,
+  (
+    unlike w c.as_slice-else-eq.result.now (codes "erase") c.if-eq-2.ensures c.as_slice-else-eq.ensures,
+    (
+      unlike w c.as_slice-else-eq-2.result.now (codes "tensor") c.if-eq-3.ensures c.as_slice-else-eq-2.ensures,
+      (
+        unlike w c.as_slice-else-eq-3.result.now (codes "with") c.if-eq-4.ensures c.as_slice-else-eq-3.ensures,
+        (
+          unlike w c.as_slice-else-eq-4.result.now (codes "left") c.if-eq-5.ensures c.as_slice-else-eq-4.ensures,
+          (
+            unlike w c.as_slice-else-eq-5.result.now (codes "right") c.if-eq-6.ensures c.as_slice-else-eq-5.ensures,
+            (
+              unlike w c.as_slice-else-eq-6.result.now (codes "bang") c.if-eq-7.ensures c.as_slice-else-eq-6.ensures,
+              (
+                unlike w c.as_slice-else-eq-7.result.now (codes "lolli") c.if-eq-8.ensures c.as_slice-else-eq-7.ensures,
+                (
+                  unlike w c.as_slice-else-eq-8.result.now (codes "imp") c.if-eq-9.ensures c.as_slice-else-eq-8.ensures,
+                  (
+                    unlike w c.as_slice-else-eq-9.result.now (codes "forall") c.if-eq-10.ensures c.as_slice-else-eq-9.ensures,
+                    (
+                      unlike w c.as_slice-else-eq-10.result.now (codes "exists") c.if-eq-11.ensures c.as_slice-else-eq-10.ensures,
+                      (
+                        unlike w c.as_slice-else-eq-11.result.now (codes "use") c.if-eq-12.ensures c.as_slice-else-eq-11.ensures,
+                        (
+                          unlike w c.as_slice-else-eq-12.result.now (codes "num") c.if-eq-13.ensures c.as_slice-else-eq-12.ensures,
+                          (unlike w c.as_slice-else-eq-13.result.now (codes "clause") c.if-eq-14.ensures c.as_slice-else-eq-13.ensures, tt),
+                        ),
+                      ),
+                    ),
+                  ),
+                ),
+              ),
+            ),
+          ),
+        ),
+      ),
+    ),
+  ),
+)

@@ -3,7 +3,9 @@ use Rattle.ll_prooftext.proofs.reading.Rest.{part_marked, part_other}
 use Rattle.ll_prooftext.proofs.rows.part_field.Goals as goal
 
 pub returns-in-Some-behind-clause-err : goal.returns-in-Some-behind-clause-err
-returns-in-Some-behind-clause-err c = part_marked c.args.bytes.now c.in-Some.field.now c.in-Some-behind.rest.now c.in-Some.ensures c.in-Some-behind.ensures (not_ended c.is_at_end.ensures c.if-is_at_end.false)
+returns-in-Some-behind-clause-err c = part_marked c.args.bytes.now c.in-Some.field.now c.in-Some-behind.rest.now c.in-Some.ensures c.in-Some-behind.ensures
+    (not_ended c.is_at_end.ensures c.if-is_at_end.false)
 
 pub returns-in-None-clause-err : goal.returns-in-None-clause-err
-returns-in-None-clause-err c = part_other c.args.bytes.now c.in-Some.field.now c.in-Some.ensures c.in_default-behind.ensures (rw c.in-None.is at c.in_ok-labels.ensures)
+returns-in-None-clause-err c = part_other c.args.bytes.now c.in-Some.field.now c.in-Some.ensures c.in_default-behind.ensures
+    (rw c.in-None.is at c.in_ok-labels.ensures)

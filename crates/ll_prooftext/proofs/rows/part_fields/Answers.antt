@@ -12,7 +12,9 @@ returns-in_err-part-clause-err c =
     let p = err_from_is_err_and c.from_residual.result c.from_residual.ensures.1 in
     rw (p.1, p.2)
     (refuses_weaker (LacksPart c.loop-rest.rest.now) (StopsAt Arguments c.args.bytes.now)
-    (λ n h. parts_stop c.args.bytes.now c.loop-rest.parts.items c.loop-rest.rest.now n c.loop-rest.invariant (not_empty c.loop-rest.rest.now c.is_empty.ensures c.loop-rest-test.true) h) c.in_err-part.field-0.0 c.in_err-part.ensures.err)
+    (λ n h. parts_stop c.args.bytes.now c.loop-rest.parts.items c.loop-rest.rest.now n c.loop-rest.invariant
+    (not_empty c.loop-rest.rest.now c.is_empty.ensures c.loop-rest-test.true) h) c.in_err-part.field-0.0 c.in_err-part.ensures.err)
 
 pub loop-rest-preserved : goal.loop-rest-preserved
-loop-rest-preserved c = rw c.in_ok-push.ensures.items (parts_more c.args.bytes.now c.loop-rest.parts.items c.loop-rest.rest.now c.in_ok-part.part c.in_ok-part.next.now c.loop-rest.invariant c.in_ok-part.ensures.ok)
+loop-rest-preserved c = rw c.in_ok-push.ensures.items (parts_more c.args.bytes.now c.loop-rest.parts.items c.loop-rest.rest.now c.in_ok-part.part
+    c.in_ok-part.next.now c.loop-rest.invariant c.in_ok-part.ensures.ok)

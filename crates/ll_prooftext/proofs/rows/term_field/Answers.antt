@@ -6,4 +6,5 @@ pub returns-in-None-clause-err : goal.returns-in-None-clause-err
 returns-in-None-clause-err c = nothing_there Argument c.args.bytes.now c.in-Some.field.now c.in-Some.ensures (rw c.in-None.is at c.in_ok-at.ensures.found)
 
 pub returns-in-Some-2-clause-ok : goal.returns-in-Some-2-clause-ok
-returns-in-Some-2-clause-ok c = term_made_field c.args.names.now c.args.bank.now c.args.bytes.now c.in-Some.field.now c.argument_at.new.names c.argument_at.new.bank c.in-Some-2.at.0 c.in-Some-2.rest.now c.in-Some.ensures (rw c.in-Some-2.is at c.in_ok-at.ensures.found)
+returns-in-Some-2-clause-ok c = term_made_field c.args.names.now c.args.bank.now c.args.bytes.now c.in-Some.field.now c.argument_at.new.names
+    c.argument_at.new.bank c.in-Some-2.at.0 c.in-Some-2.rest.now c.in-Some.ensures (rw c.in-Some-2.is at c.in_ok-at.ensures.found)

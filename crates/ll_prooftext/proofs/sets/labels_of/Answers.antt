@@ -12,16 +12,21 @@ loop-label-init c = rw c.new-labels.ensures.items (none_read c.args.body.now (λ
 
 pub returns-in_default : goal.returns-in_default
 returns-in_default c =
-    no_label c.args.body.now c.loop-label.labels.items c.loop-label.rest.now c.loop-label.least _ _ c.loop-label.invariant c.split_before.ensures.is c.split_before.ensures.free c.split_before.ensures.stops c.in_default.ensures
+    no_label c.args.body.now c.loop-label.labels.items c.loop-label.rest.now c.loop-label.least _ _ c.loop-label.invariant c.split_before.ensures.is
+    c.split_before.ensures.free c.split_before.ensures.stops c.in_default.ensures
 
 pub returns-then-from-least : goal.returns-then-from-least
 returns-then-from-least c =
-    no_rise c.args.body.now c.loop-label.labels.items c.loop-label.rest.now c.loop-label.least _ _ c.in-Some.label c.loop-label.invariant c.split_before.ensures.is c.split_before.ensures.free c.split_before.ensures.stops (omega arith) c.in-Some.ensures (omega arith)
+    no_rise c.args.body.now c.loop-label.labels.items c.loop-label.rest.now c.loop-label.least _ _ c.in-Some.label c.loop-label.invariant
+    c.split_before.ensures.is c.split_before.ensures.free c.split_before.ensures.stops (omega arith) c.in-Some.ensures (omega arith)
 
 pub loop-label-preserved : goal.loop-label-preserved
 loop-label-preserved c =
-    rw (c.in_ok-push.ensures.items, c.from-least.ensures) (one_more c.args.body.now c.loop-label.labels.items c.loop-label.rest.now c.loop-label.least _ _ c.in-Some-behind.next.now c.in-Some.label c.loop-label.invariant c.split_before.ensures.is c.split_before.ensures.free c.split_before.ensures.stops (omega arith) c.in-Some.ensures (omega arith) c.in-Some-behind.ensures)
+    rw (c.in_ok-push.ensures.items, c.from-least.ensures) (one_more c.args.body.now c.loop-label.labels.items c.loop-label.rest.now c.loop-label.least _ _
+    c.in-Some-behind.next.now c.in-Some.label c.loop-label.invariant c.split_before.ensures.is c.split_before.ensures.free c.split_before.ensures.stops
+    (omega arith) c.in-Some.ensures (omega arith) c.in-Some-behind.ensures)
 
 pub returns-in-None : goal.returns-in-None
 returns-in-None c =
-    rw c.in_ok-push.ensures.items (all_read c.args.body.now c.loop-label.labels.items c.loop-label.rest.now c.loop-label.least _ _ c.in-Some.label c.loop-label.invariant c.split_before.ensures.is c.split_before.ensures.stops c.in-None.ensures (omega arith) c.in-Some.ensures (omega arith))
+    rw c.in_ok-push.ensures.items (all_read c.args.body.now c.loop-label.labels.items c.loop-label.rest.now c.loop-label.least _ _ c.in-Some.label
+    c.loop-label.invariant c.split_before.ensures.is c.split_before.ensures.stops c.in-None.ensures (omega arith) c.in-Some.ensures (omega arith))

@@ -12,8 +12,11 @@ not_true t f = let u : false ≡ true = sym f ∙ t in let x : ⊥ = cc in x
 
 pub returns-then-not-is_at_end : goal.returns-then-not-is_at_end
 returns-then-not-is_at_end c = λ field r s e end.
-    let k = set_found c.args.bytes.now c.in-Some.inside.now _ _ field r c.in-Some.ensures c.split_before.ensures.is c.split_before.ensures.free c.split_before.ensures.stops s e in (let q : c.in-Some-behind.rest.now ≡ r = rest_same c.in-Some-behind.rest.now r _ c.in-Some-behind.ensures k.1 in not_true (c.is_at_end.ensures.1 (subst IsAtEnd (sym q) end)) c.if-not-is_at_end.true)
+    let k = set_found c.args.bytes.now c.in-Some.inside.now _ _ field r c.in-Some.ensures c.split_before.ensures.is c.split_before.ensures.free
+    c.split_before.ensures.stops s e in (let q : c.in-Some-behind.rest.now ≡ r = rest_same c.in-Some-behind.rest.now r _ c.in-Some-behind.ensures k.1 in
+    not_true (c.is_at_end.ensures.1 (subst IsAtEnd (sym q) end)) c.if-not-is_at_end.true)
 
 pub returns-in-None : goal.returns-in-None
 returns-in-None c = λ field r s e end.
-    let k = set_found c.args.bytes.now c.in-Some.inside.now _ _ field r c.in-Some.ensures c.split_before.ensures.is c.split_before.ensures.free c.split_before.ensures.stops s e in (rw c.in-None.is at c.in_ok-labels.ensures) _ k.0
+    let k = set_found c.args.bytes.now c.in-Some.inside.now _ _ field r c.in-Some.ensures c.split_before.ensures.is c.split_before.ensures.free
+    c.split_before.ensures.stops s e in (rw c.in-None.is at c.in_ok-labels.ensures) _ k.0

@@ -16,7 +16,8 @@ pub returns-in_err-label-clause-err : goal.returns-in_err-label-clause-err
 returns-in_err-label-clause-err c =
     let v = Then Number (Cells (length c.args.rows.now)) in
     let p = err_from_is_err_and c.from_residual.result c.from_residual.ensures.1 in
-    rw (p.1, p.2) (refuses_weaker (LacksField Number c.args.bytes.now) (StopsAt (Then Number v) c.args.bytes.now) (λ k h. stops_here Number v c.args.bytes.now k h) c.in_err-label.field-0.0 c.in_err-label.ensures.err)
+    rw (p.1, p.2) (refuses_weaker (LacksField Number c.args.bytes.now) (StopsAt (Then Number v) c.args.bytes.now)
+    (λ k h. stops_here Number v c.args.bytes.now k h) c.in_err-label.field-0.0 c.in_err-label.ensures.err)
 
 pub returns-in_err-leaf-clause-err : goal.returns-in_err-leaf-clause-err
 returns-in_err-leaf-clause-err c =
@@ -24,7 +25,8 @@ returns-in_err-leaf-clause-err c =
     let p = err_from_is_err_and c.from_residual-in_err-leaf.result c.from_residual-in_err-leaf.ensures.1 in
     rw (p.1, p.2)
     (refuses_weaker (LacksField Number c.in_ok-label.behind_label.now) (StopsAt (Then Number (Then Number w)) c.args.bytes.now)
-    (λ k h. number_then c.args.bytes.now c.in_ok-label.behind_label.now c.in_ok-label.label k (Then Number w) c.in_ok-label.ensures.ok (stops_here Number w c.in_ok-label.behind_label.now k h)) c.in_err-leaf.field-0.0 c.in_err-leaf.ensures.err)
+    (λ k h. number_then c.args.bytes.now c.in_ok-label.behind_label.now c.in_ok-label.label k (Then Number w) c.in_ok-label.ensures.ok
+    (stops_here Number w c.in_ok-label.behind_label.now k h)) c.in_err-leaf.field-0.0 c.in_err-leaf.ensures.err)
 
 pub cell_fields-requires-clause-room : goal.cell_fields-requires-clause-room
 cell_fields-requires-clause-room c =
@@ -40,7 +42,8 @@ returns-in_err-terms-clause-err c =
     rw (p.1, p.2)
     (refuses_weaker (StopsAtCell n c.in_ok-leaf.behind_leaf.now) (StopsAt (Then Number (Then Number (Cells n))) c.args.bytes.now)
     (λ k h. number_then c.args.bytes.now c.in_ok-label.behind_label.now c.in_ok-label.label k (Then Number (Cells n)) c.in_ok-label.ensures.ok
-    (number_then c.in_ok-label.behind_label.now c.in_ok-leaf.behind_leaf.now c.in_ok-leaf.leaf k (Cells n) c.in_ok-leaf.ensures.ok (cells_bad n c.in_ok-leaf.behind_leaf.now k h))) c.in_err-terms.field-0.0 c.in_err-terms.ensures.err)
+    (number_then c.in_ok-label.behind_label.now c.in_ok-leaf.behind_leaf.now c.in_ok-leaf.leaf k (Cells n) c.in_ok-leaf.ensures.ok
+    (cells_bad n c.in_ok-leaf.behind_leaf.now k h))) c.in_err-terms.field-0.0 c.in_err-terms.ensures.err)
 
 pub part_fields-requires-clause-end : goal.part_fields-requires-clause-end
 part_fields-requires-clause-end c = c.in_ok-terms.ensures.ok.end
@@ -59,7 +62,8 @@ returns-in_err-parts-clause-err c =
     (λ k h. number_then c.args.bytes.now c.in_ok-label.behind_label.now c.in_ok-label.label k (Then Number (Cells n)) c.in_ok-label.ensures.ok
     (number_then c.in_ok-label.behind_label.now c.in_ok-leaf.behind_leaf.now c.in_ok-leaf.leaf k (Cells n) c.in_ok-leaf.ensures.ok
     (stops_after (Cells n) (Cells n) c.in_ok-leaf.behind_leaf.now t.text c.in_ok-terms.behind_terms.now k t.is
-    (cells_fields (term_trees c.args.bank.now c.args.rows.now) n c.args.names.now c.args.bank.now c.in_ok-leaf.behind_leaf.now c.cell_fields.new.names c.cell_fields.new.bank c.in_ok-terms.terms.items c.in_ok-terms.behind_terms.now l t)
+    (cells_fields (term_trees c.args.bank.now c.args.rows.now) n c.args.names.now c.args.bank.now c.in_ok-leaf.behind_leaf.now c.cell_fields.new.names
+    c.cell_fields.new.bank c.in_ok-terms.terms.items c.in_ok-terms.behind_terms.now l t)
     (parts_bad n c.in_ok-terms.behind_terms.now k c.in_ok-terms.ensures.stops h)))) c.in_err-parts.field-0.0 c.in_err-parts.ensures.err)
 
 pub returns-clause-ok : goal.returns-clause-ok
@@ -68,5 +72,8 @@ returns-clause-ok c =
     let g = c.in_ok-leaf.ensures.ok in
     let t = c.in_ok-terms.ensures.ok in
     let q = c.in_ok-parts.ensures.ok in
-    clause_over (term_trees c.args.bank.now c.args.rows.now) c.args.names.now c.args.bank.now c.args.bytes.now c.cell_fields.new.names c.cell_fields.new.bank c.in_ok-label.label c.in_ok-label.behind_label.now c.in_ok-leaf.leaf c.in_ok-leaf.behind_leaf.now c.in_ok-terms.terms.items c.in_ok-terms.behind_terms.now
-    c.in_ok-parts.parts.items (rule.Clause c.in_ok-label.label c.in_ok-leaf.leaf c.in_ok-terms.terms c.in_ok-parts.parts) c.requires.end f g t q ((f.small, g.small), (t.good, (q.spelled, q.rising))) (λ ns s. s)
+    clause_over (term_trees c.args.bank.now c.args.rows.now) c.args.names.now c.args.bank.now c.args.bytes.now c.cell_fields.new.names c.cell_fields.new.bank
+    c.in_ok-label.label c.in_ok-label.behind_label.now c.in_ok-leaf.leaf c.in_ok-leaf.behind_leaf.now c.in_ok-terms.terms.items
+    c.in_ok-terms.behind_terms.now
+    c.in_ok-parts.parts.items (rule.Clause c.in_ok-label.label c.in_ok-leaf.leaf c.in_ok-terms.terms c.in_ok-parts.parts) c.requires.end f g t q
+    ((f.small, g.small), (t.good, (q.spelled, q.rising))) (λ ns s. s)

@@ -15,10 +15,12 @@ pub returns-in_err-first-clause-err : goal.returns-in_err-first-clause-err
 returns-in_err-first-clause-err c =
     let n = length c.args.rows.now in
     let p = err_from_is_err_and c.from_residual.result c.from_residual.ensures.1 in
-    rw (p.1, p.2) (refuses_weaker (LacksField (Cell n) c.args.bytes.now) (StopsAt (Then (Cell n) (More n)) c.args.bytes.now) (λ k h. stops_here (Cell n) (More n) c.args.bytes.now k h) c.in_err-first.field-0.0 c.in_err-first.ensures.err)
+    rw (p.1, p.2) (refuses_weaker (LacksField (Cell n) c.args.bytes.now) (StopsAt (Then (Cell n) (More n)) c.args.bytes.now)
+    (λ k h. stops_here (Cell n) (More n) c.args.bytes.now k h) c.in_err-first.field-0.0 c.in_err-first.ensures.err)
 
 pub cell_fields-requires-clause-rows : goal.cell_fields-requires-clause-rows
-cell_fields-requires-clause-rows c = rows_stay c.args.names.now c.args.bank.now c.cell_field.new.names c.cell_field.new.bank c.args.rows.now c.in_ok-first.ensures.ok.moves.grows c.in_ok-first.ensures.ok.moves.keeps c.requires.rows
+cell_fields-requires-clause-rows c = rows_stay c.args.names.now c.args.bank.now c.cell_field.new.names c.cell_field.new.bank c.args.rows.now
+    c.in_ok-first.ensures.ok.moves.grows c.in_ok-first.ensures.ok.moves.keeps c.requires.rows
 
 pub returns-in_err-others-clause-err : goal.returns-in_err-others-clause-err
 returns-in_err-others-clause-err c =
@@ -26,35 +28,52 @@ returns-in_err-others-clause-err c =
     let p = err_from_is_err_and c.from_residual-in_err-others.result c.from_residual-in_err-others.ensures.1 in
     rw (p.1, p.2)
     (refuses_weaker (StopsAtCell n c.in_ok-first.behind_first.now) (StopsAt (Then (Cell n) (More n)) c.args.bytes.now)
-    (λ k h. stops_cell (term_trees c.args.bank.now c.args.rows.now) n c.args.names.now c.args.bank.now c.args.bytes.now c.cell_field.new.names c.cell_field.new.bank c.in_ok-first.first.0 c.in_ok-first.behind_first.now k (Then (Cell n) (More n)) (More n)
-    (length-map c.args.rows.now (λ (a : At). term_tree c.args.bank.now a.0)) (cell_then n (More n)) c.in_ok-first.ensures.ok (more_bad n c.in_ok-first.behind_first.now k h)) c.in_err-others.field-0.0 c.in_err-others.ensures.err)
+    (λ k h. stops_cell (term_trees c.args.bank.now c.args.rows.now) n c.args.names.now c.args.bank.now c.args.bytes.now c.cell_field.new.names
+    c.cell_field.new.bank c.in_ok-first.first.0 c.in_ok-first.behind_first.now k (Then (Cell n) (More n)) (More n)
+    (length-map c.args.rows.now (λ (a : At). term_tree c.args.bank.now a.0)) (cell_then n (More n)) c.in_ok-first.ensures.ok
+    (more_bad n c.in_ok-first.behind_first.now k h)) c.in_err-others.field-0.0 c.in_err-others.ensures.err)
 
 pub returns-in_err-no_more-clause-err : goal.returns-in_err-no_more-clause-err
 returns-in_err-no_more-clause-err c =
     let n = length c.args.rows.now in
     let same = rows_same c.args.names.now c.args.bank.now c.cell_field.new.bank c.args.rows.now c.in_ok-first.ensures.ok.moves.keeps c.requires.rows in
-    let t = subst (λ rows. AreCellFields rows c.cell_field.new.names c.cell_field.new.bank c.in_ok-first.behind_first.now c.cell_fields.new.names c.cell_fields.new.bank c.in_ok-others.others.items c.in_ok-others.rest.now) same c.in_ok-others.ensures.ok in
+    let t = subst (λ rows. AreCellFields rows c.cell_field.new.names c.cell_field.new.bank c.in_ok-first.behind_first.now c.cell_fields.new.names
+    c.cell_fields.new.bank c.in_ok-others.others.items c.in_ok-others.rest.now) same c.in_ok-others.ensures.ok in
     let l = length-map c.args.rows.now (λ (a : At). term_tree c.args.bank.now a.0) in
     let p = err_from_is_err_and c.from_residual-in_err-no_more.result c.from_residual-in_err-no_more.ensures.1 in
     rw (p.1, p.2)
     (refuses_weaker (StopsAt Nothing c.in_ok-others.rest.now) (StopsAt (Then (Cell n) (More n)) c.args.bytes.now)
-    (λ k h. stops_cell (term_trees c.args.bank.now c.args.rows.now) n c.args.names.now c.args.bank.now c.args.bytes.now c.cell_field.new.names c.cell_field.new.bank c.in_ok-first.first.0 c.in_ok-first.behind_first.now k (Then (Cell n) (More n)) (More n) l
+    (λ k h. stops_cell (term_trees c.args.bank.now c.args.rows.now) n c.args.names.now c.args.bank.now c.args.bytes.now c.cell_field.new.names
+    c.cell_field.new.bank c.in_ok-first.first.0 c.in_ok-first.behind_first.now k (Then (Cell n) (More n)) (More n) l
     (cell_then n (More n)) c.in_ok-first.ensures.ok
-    (stops_after (More n) (More n) c.in_ok-first.behind_first.now t.text c.in_ok-others.rest.now k t.is (more_fields (term_trees c.args.bank.now c.args.rows.now) n c.cell_field.new.names c.cell_field.new.bank c.in_ok-first.behind_first.now c.cell_fields.new.names c.cell_fields.new.bank c.in_ok-others.others.items c.in_ok-others.rest.now l t) (more_end n c.in_ok-others.rest.now k c.in_ok-others.ensures.stops h))) c.in_err-no_more.field-0.0 c.in_err-no_more.ensures.err)
+    (stops_after (More n) (More n) c.in_ok-first.behind_first.now t.text c.in_ok-others.rest.now k t.is
+    (more_fields (term_trees c.args.bank.now c.args.rows.now) n c.cell_field.new.names c.cell_field.new.bank c.in_ok-first.behind_first.now
+    c.cell_fields.new.names c.cell_fields.new.bank c.in_ok-others.others.items c.in_ok-others.rest.now l t)
+    (more_end n c.in_ok-others.rest.now k c.in_ok-others.ensures.stops h))) c.in_err-no_more.field-0.0 c.in_err-no_more.ensures.err)
 
 pub app-requires : goal.app-requires
 app-requires c =
     let same = rows_same c.args.names.now c.args.bank.now c.cell_field.new.bank c.args.rows.now c.in_ok-first.ensures.ok.moves.keeps c.requires.rows in
-    let t = subst (λ rows. AreCellFields rows c.cell_field.new.names c.cell_field.new.bank c.in_ok-first.behind_first.now c.cell_fields.new.names c.cell_fields.new.bank c.in_ok-others.others.items c.in_ok-others.rest.now) same c.in_ok-others.ensures.ok in
-    spine_inside (term_trees c.args.bank.now c.args.rows.now) c.args.names.now c.args.bank.now c.args.bytes.now c.cell_field.new.names c.cell_field.new.bank c.in_ok-first.first c.in_ok-first.behind_first.now c.cell_fields.new.names c.cell_fields.new.bank c.in_ok-others.others.items c.deref-2.result.now c.in_ok-others.rest.now
+    let t = subst (λ rows. AreCellFields rows c.cell_field.new.names c.cell_field.new.bank c.in_ok-first.behind_first.now c.cell_fields.new.names
+    c.cell_fields.new.bank c.in_ok-others.others.items c.in_ok-others.rest.now) same c.in_ok-others.ensures.ok in
+    spine_inside (term_trees c.args.bank.now c.args.rows.now) c.args.names.now c.args.bank.now c.args.bytes.now c.cell_field.new.names c.cell_field.new.bank
+    c.in_ok-first.first c.in_ok-first.behind_first.now c.cell_fields.new.names c.cell_fields.new.bank c.in_ok-others.others.items c.deref-2.result.now
+    c.in_ok-others.rest.now
     c.in_ok-first.ensures.ok t
-    (c.deref-2.ensures.value ∙ (c.in_ok-extend_from_slice.ensures.items ∙ (ap (λ (z : List At). z ++ c.deref.result.now) (c.in_ok-push.ensures.items ∙ ap (λ (z : List At). z ++ c.in_ok-first.first ∷ []) c.new-args.ensures.items) ∙ ap (λ (z : List At). c.in_ok-first.first ∷ z) c.deref.ensures.value)))
+    (c.deref-2.ensures.value ∙ (c.in_ok-extend_from_slice.ensures.items
+    ∙ (ap (λ (z : List At). z ++ c.deref.result.now) (c.in_ok-push.ensures.items
+    ∙ ap (λ (z : List At). z ++ c.in_ok-first.first ∷ []) c.new-args.ensures.items) ∙ ap (λ (z : List At). c.in_ok-first.first ∷ z) c.deref.ensures.value)))
 
 pub returns-clause-ok : goal.returns-clause-ok
 returns-clause-ok c =
     let same = rows_same c.args.names.now c.args.bank.now c.cell_field.new.bank c.args.rows.now c.in_ok-first.ensures.ok.moves.keeps c.requires.rows in
-    let t = subst (λ rows. AreCellFields rows c.cell_field.new.names c.cell_field.new.bank c.in_ok-first.behind_first.now c.cell_fields.new.names c.cell_fields.new.bank c.in_ok-others.others.items c.in_ok-others.rest.now) same c.in_ok-others.ensures.ok in
-    spine_made (term_trees c.args.bank.now c.args.rows.now) c.args.names.now c.args.bank.now c.args.bytes.now c.args.head c.cell_field.new.names c.cell_field.new.bank c.in_ok-first.first c.in_ok-first.behind_first.now c.cell_fields.new.names c.cell_fields.new.bank c.app.new.self c.in_ok-others.others.items c.deref-2.result.now
+    let t = subst (λ rows. AreCellFields rows c.cell_field.new.names c.cell_field.new.bank c.in_ok-first.behind_first.now c.cell_fields.new.names
+    c.cell_fields.new.bank c.in_ok-others.others.items c.in_ok-others.rest.now) same c.in_ok-others.ensures.ok in
+    spine_made (term_trees c.args.bank.now c.args.rows.now) c.args.names.now c.args.bank.now c.args.bytes.now c.args.head c.cell_field.new.names
+    c.cell_field.new.bank c.in_ok-first.first c.in_ok-first.behind_first.now c.cell_fields.new.names c.cell_fields.new.bank c.app.new.self
+    c.in_ok-others.others.items c.deref-2.result.now
     c.in_ok-others.rest.now c.in_ok-app.field-0.0 c.requires.plain c.in_ok-first.ensures.ok t c.in_ok-no_more.ensures.ok
-    (c.deref-2.ensures.value ∙ (c.in_ok-extend_from_slice.ensures.items ∙ (ap (λ (z : List At). z ++ c.deref.result.now) (c.in_ok-push.ensures.items ∙ ap (λ (z : List At). z ++ c.in_ok-first.first ∷ []) c.new-args.ensures.items) ∙ ap (λ (z : List At). c.in_ok-first.first ∷ z) c.deref.ensures.value)))
+    (c.deref-2.ensures.value ∙ (c.in_ok-extend_from_slice.ensures.items
+    ∙ (ap (λ (z : List At). z ++ c.deref.result.now) (c.in_ok-push.ensures.items
+    ∙ ap (λ (z : List At). z ++ c.in_ok-first.first ∷ []) c.new-args.ensures.items) ∙ ap (λ (z : List At). c.in_ok-first.first ∷ z) c.deref.ensures.value)))
     c.in_ok-app.ensures.shows c.in_ok-app.ensures.keeps

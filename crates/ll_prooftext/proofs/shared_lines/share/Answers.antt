@@ -16,13 +16,16 @@ pub returns-in_err-front-clause-err : goal.returns-in_err-front-clause-err
 returns-in_err-front-clause-err c =
     let n = length c.args.rows.now in
     let p = err_from_is_err_and c.from_residual.result c.from_residual.ensures.1 in
-    rw (p.1, p.2) (refuses_weaker (LacksFront c.args.bytes.now) (StopsAt (Row n) c.args.bytes.now) (front_bad n c.args.bytes.now) c.in_err-front.field-0.0 c.in_err-front.ensures.err)
+    rw (p.1, p.2) (refuses_weaker (LacksFront c.args.bytes.now) (StopsAt (Row n) c.args.bytes.now) (front_bad n c.args.bytes.now) c.in_err-front.field-0.0
+    c.in_err-front.ensures.err)
 
 pub plain_share-requires-clause-rows : goal.plain_share-requires-clause-rows
-plain_share-requires-clause-rows c = let m = c.in_ok-front.ensures.ok.moves in rows_stay c.args.names.now c.args.bank.now c.front_field.new.names c.front_field.new.bank c.args.rows.now m.grows m.keeps c.requires.rows
+plain_share-requires-clause-rows c = let m = c.in_ok-front.ensures.ok.moves in
+    rows_stay c.args.names.now c.args.bank.now c.front_field.new.names c.front_field.new.bank c.args.rows.now m.grows m.keeps c.requires.rows
 
 pub sign_share-requires-clause-rows : goal.sign_share-requires-clause-rows
-sign_share-requires-clause-rows c = let m = c.in_ok-front.ensures.ok.moves in rows_stay c.args.names.now c.args.bank.now c.front_field.new.names c.front_field.new.bank c.args.rows.now m.grows m.keeps c.requires.rows
+sign_share-requires-clause-rows c = let m = c.in_ok-front.ensures.ok.moves in
+    rows_stay c.args.names.now c.args.bank.now c.front_field.new.names c.front_field.new.bank c.args.rows.now m.grows m.keeps c.requires.rows
 
 pub returns-in-Plain-clause-ok : goal.returns-in-Plain-clause-ok
 returns-in-Plain-clause-ok c =
@@ -31,10 +34,13 @@ returns-in-Plain-clause-ok c =
     let rows = term_trees bank c.args.rows.now in
     let f = rw c.in-Plain.is at c.in_ok-front.ensures.ok in
     let same = rows_same names bank c.front_field.new.bank c.args.rows.now f.moves.keeps c.requires.rows in
-    if_ok c.plain_share.result (λ (at : At). IsSpineOver (term_trees c.front_field.new.bank c.args.rows.now) c.front_field.new.names c.front_field.new.bank c.in_ok-front.behind_front.now c.in-Plain.head c.plain_share.new.names c.plain_share.new.bank at.0)
+    if_ok c.plain_share.result (λ (at : At). IsSpineOver (term_trees c.front_field.new.bank c.args.rows.now) c.front_field.new.names c.front_field.new.bank
+    c.in_ok-front.behind_front.now c.in-Plain.head c.plain_share.new.names c.plain_share.new.bank at.0)
     (λ (at : At). IsShareOver rows names bank c.args.bytes.now c.plain_share.new.names c.plain_share.new.bank at.0)
-    (λ at s. share_plain rows names bank c.args.bytes.now c.front_field.new.names c.front_field.new.bank c.in-Plain.head c.in_ok-front.behind_front.now c.plain_share.new.names c.plain_share.new.bank at.0 f
-    (subst (λ rs. IsSpineOver rs c.front_field.new.names c.front_field.new.bank c.in_ok-front.behind_front.now c.in-Plain.head c.plain_share.new.names c.plain_share.new.bank at.0) same s)) c.plain_share.ensures.ok
+    (λ at s. share_plain rows names bank c.args.bytes.now c.front_field.new.names c.front_field.new.bank c.in-Plain.head c.in_ok-front.behind_front.now
+    c.plain_share.new.names c.plain_share.new.bank at.0 f
+    (subst (λ rs. IsSpineOver rs c.front_field.new.names c.front_field.new.bank c.in_ok-front.behind_front.now c.in-Plain.head c.plain_share.new.names
+    c.plain_share.new.bank at.0) same s)) c.plain_share.ensures.ok
 
 pub returns-in-Plain-clause-err : goal.returns-in-Plain-clause-err
 returns-in-Plain-clause-err c =
@@ -42,7 +48,8 @@ returns-in-Plain-clause-err c =
     let f = rw c.in-Plain.is at c.in_ok-front.ensures.ok in
     if_err c.plain_share.result (Refuses (StopsAt (Then (Cell n) (More n)) c.in_ok-front.behind_front.now)) (Refuses (StopsAt (Row n) c.args.bytes.now))
     (refuses_weaker (StopsAt (Then (Cell n) (More n)) c.in_ok-front.behind_front.now) (StopsAt (Row n) c.args.bytes.now)
-    (λ k s. plain_bad n c.args.names.now c.args.bank.now c.args.bytes.now c.front_field.new.names c.front_field.new.bank c.in-Plain.head c.in_ok-front.behind_front.now k f s)) c.plain_share.ensures.err
+    (λ k s. plain_bad n c.args.names.now c.args.bank.now c.args.bytes.now c.front_field.new.names c.front_field.new.bank c.in-Plain.head
+    c.in_ok-front.behind_front.now k f s)) c.plain_share.ensures.err
 
 pub returns-in-Sign-clause-ok : goal.returns-in-Sign-clause-ok
 returns-in-Sign-clause-ok c =
@@ -51,15 +58,20 @@ returns-in-Sign-clause-ok c =
     let rows = term_trees bank c.args.rows.now in
     let f = rw c.in-Sign.is at c.in_ok-front.ensures.ok in
     let same = rows_same names bank c.front_field.new.bank c.args.rows.now f.moves.keeps c.requires.rows in
-    if_ok c.sign_share.result (λ (at : At). IsPairOver (term_trees c.front_field.new.bank c.args.rows.now) c.front_field.new.names c.front_field.new.bank c.in_ok-front.behind_front.now c.in-Sign.head c.sign_share.new.names c.sign_share.new.bank at.0)
+    if_ok c.sign_share.result (λ (at : At). IsPairOver (term_trees c.front_field.new.bank c.args.rows.now) c.front_field.new.names c.front_field.new.bank
+    c.in_ok-front.behind_front.now c.in-Sign.head c.sign_share.new.names c.sign_share.new.bank at.0)
     (λ (at : At). IsShareOver rows names bank c.args.bytes.now c.sign_share.new.names c.sign_share.new.bank at.0)
-    (λ at s. share_sign rows names bank c.args.bytes.now c.front_field.new.names c.front_field.new.bank c.in-Sign.head c.in_ok-front.behind_front.now c.sign_share.new.names c.sign_share.new.bank at.0 f
-    (subst (λ rs. IsPairOver rs c.front_field.new.names c.front_field.new.bank c.in_ok-front.behind_front.now c.in-Sign.head c.sign_share.new.names c.sign_share.new.bank at.0) same s)) c.sign_share.ensures.ok
+    (λ at s. share_sign rows names bank c.args.bytes.now c.front_field.new.names c.front_field.new.bank c.in-Sign.head c.in_ok-front.behind_front.now
+    c.sign_share.new.names c.sign_share.new.bank at.0 f
+    (subst (λ rs. IsPairOver rs c.front_field.new.names c.front_field.new.bank c.in_ok-front.behind_front.now c.in-Sign.head c.sign_share.new.names
+    c.sign_share.new.bank at.0) same s)) c.sign_share.ensures.ok
 
 pub returns-in-Sign-clause-err : goal.returns-in-Sign-clause-err
 returns-in-Sign-clause-err c =
     let n = length c.args.rows.now in
     let f = rw c.in-Sign.is at c.in_ok-front.ensures.ok in
-    if_err c.sign_share.result (Refuses (StopsAt (Then (Cell n) (Then (Cell n) Nothing)) c.in_ok-front.behind_front.now)) (Refuses (StopsAt (Row n) c.args.bytes.now))
+    if_err c.sign_share.result (Refuses (StopsAt (Then (Cell n) (Then (Cell n) Nothing)) c.in_ok-front.behind_front.now))
+    (Refuses (StopsAt (Row n) c.args.bytes.now))
     (refuses_weaker (StopsAt (Then (Cell n) (Then (Cell n) Nothing)) c.in_ok-front.behind_front.now) (StopsAt (Row n) c.args.bytes.now)
-    (λ k s. sign_bad n c.args.names.now c.args.bank.now c.args.bytes.now c.front_field.new.names c.front_field.new.bank c.in-Sign.head c.in_ok-front.behind_front.now k f s)) c.sign_share.ensures.err
+    (λ k s. sign_bad n c.args.names.now c.args.bank.now c.args.bytes.now c.front_field.new.names c.front_field.new.bank c.in-Sign.head
+    c.in_ok-front.behind_front.now k f s)) c.sign_share.ensures.err

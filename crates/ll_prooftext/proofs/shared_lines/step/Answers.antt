@@ -24,7 +24,8 @@ pub returns-in_err-last_cell-in-Exists-clause-ok : goal.returns-in_err-last_cell
 returns-in_err-last_cell-in-Exists-clause-ok c = let p = err_from_is_err_and c.from_residual.result c.from_residual.ensures.1 in rw p.1 tt
 
 pub returns-in_err-last_cell-in-Exists-clause-err : goal.returns-in_err-last_cell-in-Exists-clause-err
-returns-in_err-last_cell-in-Exists-clause-err c = let p = err_from_is_err_and c.from_residual.result c.from_residual.ensures.1 in rw (p.1, p.2) (rw c.in-Exists.is c.in_err-last_cell-in-Exists.ensures.err)
+returns-in_err-last_cell-in-Exists-clause-err c = let p = err_from_is_err_and c.from_residual.result c.from_residual.ensures.1 in
+    rw (p.1, p.2) (rw c.in-Exists.is c.in_err-last_cell-in-Exists.ensures.err)
 
 pub returns-in_err-last_cell-in-Exists-clause-grows : goal.returns-in_err-last_cell-in-Exists-clause-grows
 returns-in_err-last_cell-in-Exists-clause-grows c = c.last_cell.ensures.grows
@@ -46,7 +47,8 @@ node-requires c = record { end = c.requires.end; room = c.requires.room }
 
 pub returns-in_ok-last_cell-in-Exists-clause-ok : goal.returns-in_ok-last_cell-in-Exists-clause-ok
 returns-in_ok-last_cell-in-Exists-clause-ok c =
-    rw c.in-Exists.is (exists_made (term_trees c.args.bank.now c.args.rows.now) c.args.names.now c.args.bank.now c.args.rest.now c.last_cell.new.names c.last_cell.new.bank c.in_ok-last_cell-in-Exists.field-0 c.requires.end c.in_ok-last_cell-in-Exists.ensures.ok)
+    rw c.in-Exists.is (exists_made (term_trees c.args.bank.now c.args.rows.now) c.args.names.now c.args.bank.now c.args.rest.now c.last_cell.new.names
+    c.last_cell.new.bank c.in_ok-last_cell-in-Exists.field-0 c.requires.end c.in_ok-last_cell-in-Exists.ensures.ok)
 
 pub returns-in_ok-last_cell-in-Exists-clause-grows : goal.returns-in_ok-last_cell-in-Exists-clause-grows
 returns-in_ok-last_cell-in-Exists-clause-grows c = c.last_cell.ensures.grows
@@ -68,7 +70,8 @@ returns-in_default c =
     let rows = term_trees bank c.args.rows.now in
     let plain = plain_kind k c.in_default.not-Exists c.in_default.not-Clause in
     record {
-      ok = if_ok c.node.result (λ (r : Rule). IsNodeRow names bank (spelling k ++ c.args.rest.now) c.node.new.names c.node.new.bank r) (λ (r : Rule). IsStepOver rows names bank (spelling k ++ c.args.rest.now) c.node.new.names c.node.new.bank r)
+      ok = if_ok c.node.result (λ (r : Rule). IsNodeRow names bank (spelling k ++ c.args.rest.now) c.node.new.names c.node.new.bank r)
+          (λ (r : Rule). IsStepOver rows names bank (spelling k ++ c.args.rest.now) c.node.new.names c.node.new.bank r)
           (λ r i. step_plain rows names bank k c.args.rest.now c.node.new.names c.node.new.bank r plain c.requires.end i) c.node.ensures.ok;
       err = rw (asks_same (length c.args.rows.now) k plain) c.node.ensures.err;
       grows = c.node.ensures.grows;

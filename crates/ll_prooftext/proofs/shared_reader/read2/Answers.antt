@@ -3,7 +3,8 @@ use Rattle.std.specs.Prelude.{◌&&◌}
 use Rattle.ll_prooftext.specs.Reading.{is_none}
 use Rattle.ll_prooftext.specs.SharedLines.{want_over}
 use Rattle.ll_prooftext.proofs.reading.Faults.{refused_within}
-use Rattle.ll_prooftext.proofs.reading.FaultsOver.{no_version2_cause, left_over_cause, refused_over_cause, missing_over_cause, off_cause, off_few, text2_read, names2_read}
+use Rattle.ll_prooftext.proofs.reading.FaultsOver.{no_version2_cause, left_over_cause, refused_over_cause, missing_over_cause, off_cause, off_few, text2_read}
+use Rattle.ll_prooftext.proofs.reading.FaultsOver.{names2_read}
 use Rattle.ll_prooftext.proofs.spelling.Kept.{grows_none, grows_on}
 use Rattle.ll_prooftext.proofs.reading.SoFarOver.{over_none, over_more, rows_few}
 use Rattle.ll_prooftext.proofs.reading.TakesRead.{next_begins}
@@ -19,7 +20,8 @@ pub returns-in_default-clause-grows : goal.returns-in_default-clause-grows
 returns-in_default-clause-grows c = grows_none c.args.names.now
 
 pub loop-line-init : goal.loop-line-init
-loop-line-init c = over_none c.args.text.now c.args.names.now c.new-reading.result c.in-Some.lines c.in-Some.ensures c.new-reading.ensures.rows c.new-reading.ensures.asked c.new-reading.ensures.nodes c.new-reading.ensures.lacking
+loop-line-init c = over_none c.args.text.now c.args.names.now c.new-reading.result c.in-Some.lines c.in-Some.ensures c.new-reading.ensures.rows
+    c.new-reading.ensures.asked c.new-reading.ensures.nodes c.new-reading.ensures.lacking
 
 pub next-requires-clause-begins : goal.next-requires-clause-begins
 next-requires-clause-begins c = next_begins _ c.loop-line.lines.rest.now c.loop-line.lines.at c.loop-line.invariant.next
@@ -29,7 +31,8 @@ next-requires-clause-room c = let low = c.loop-line.invariant.low in let short =
 
 pub returns-then-reading-eq0-clause-err : goal.returns-then-reading-eq0-clause-err
 returns-then-reading-eq0-clause-err c =
-    left_over_cause c.args.text.now c.args.names.now c.loop-line.names c.loop-line.reading c.loop-line.lines c.in-Some-next.line c.next.new.self c.loop-line.invariant c.in-Some-next.ensures _ c.if-reading-eq0.true c.fault-then-reading-eq0.ensures
+    left_over_cause c.args.text.now c.args.names.now c.loop-line.names c.loop-line.reading c.loop-line.lines c.in-Some-next.line c.next.new.self
+    c.loop-line.invariant c.in-Some-next.ensures _ c.if-reading-eq0.true c.fault-then-reading-eq0.ensures
 
 pub returns-then-reading-eq0-clause-grows : goal.returns-then-reading-eq0-clause-grows
 returns-then-reading-eq0-clause-grows c = c.loop-line.invariant.grows
@@ -44,7 +47,8 @@ pub take-requires-clause-room : goal.take-requires-clause-room
 take-requires-clause-room c = let so_far = c.loop-line.invariant.room in let room = c.in-Some-next.ensures.room in let all = c.requires.room in omega arith
 
 pub take-requires-clause-few : goal.take-requires-clause-few
-take-requires-clause-few c = let r = rows_few c.args.text.now c.args.names.now c.loop-line.names c.loop-line.reading c.loop-line.lines c.next.new.self c.in-Some-next.line c.loop-line.invariant c.in-Some-next.ensures in let short = c.requires.short in omega arith
+take-requires-clause-few c = let r = rows_few c.args.text.now c.args.names.now c.loop-line.names c.loop-line.reading c.loop-line.lines c.next.new.self
+    c.in-Some-next.line c.loop-line.invariant c.in-Some-next.ensures in let short = c.requires.short in omega arith
 
 pub take-requires-clause-rows : goal.take-requires-clause-rows
 take-requires-clause-rows c = c.loop-line.invariant.rows
@@ -52,14 +56,17 @@ take-requires-clause-rows c = c.loop-line.invariant.rows
 pub line_fault-requires-clause-within : goal.line_fault-requires-clause-within
 line_fault-requires-clause-within c =
     let o = c.loop-line.reading in
-    refused_within (want_over (length o.rows.items) (is_none o.asked.items && is_none o.nodes.items) (is_none o.nodes.items)) c.in-Some-next.line.bytes.now c.in-Err.refusal c.in-Err.ensures.err
+    refused_within (want_over (length o.rows.items) (is_none o.asked.items && is_none o.nodes.items) (is_none o.nodes.items)) c.in-Some-next.line.bytes.now
+    c.in-Err.refusal c.in-Err.ensures.err
 
 pub line_fault-requires-clause-short : goal.line_fault-requires-clause-short
-line_fault-requires-clause-short c = let few = c.loop-line.invariant.few in let room = c.in-Some-next.ensures.room in let short = c.requires.short in omega arith
+line_fault-requires-clause-short c = let few = c.loop-line.invariant.few in let room = c.in-Some-next.ensures.room in let short = c.requires.short in
+    omega arith
 
 pub returns-in-Err-clause-err : goal.returns-in-Err-clause-err
 returns-in-Err-clause-err c =
-    refused_over_cause c.args.text.now c.args.names.now c.loop-line.names c.loop-line.reading c.loop-line.lines c.in-Some-next.line c.next.new.self c.loop-line.invariant c.in-Some-next.ensures c.in-Err.refusal _ (let more = c.if-reading-eq0.false in omega arith) c.in-Err.ensures.err
+    refused_over_cause c.args.text.now c.args.names.now c.loop-line.names c.loop-line.reading c.loop-line.lines c.in-Some-next.line c.next.new.self
+    c.loop-line.invariant c.in-Some-next.ensures c.in-Err.refusal _ (let more = c.if-reading-eq0.false in omega arith) c.in-Err.ensures.err
     c.line_fault.ensures
 
 pub returns-in-Err-clause-grows : goal.returns-in-Err-clause-grows
@@ -70,28 +77,36 @@ loop-line-smaller c = c.in-Some-next.ensures.shorter
 
 pub loop-line-preserved : goal.loop-line-preserved
 loop-line-preserved c =
-    over_more c.args.text.now c.args.names.now c.loop-line.names c.loop-line.reading c.loop-line.lines c.in-Some-next.line c.next.new.self c.take.new.names c.take.new.self c.loop-line.invariant c.in-Some-next.ensures (let more = c.if-reading-eq0.false in omega arith)
+    over_more c.args.text.now c.args.names.now c.loop-line.names c.loop-line.reading c.loop-line.lines c.in-Some-next.line c.next.new.self c.take.new.names
+    c.take.new.self c.loop-line.invariant c.in-Some-next.ensures (let more = c.if-reading-eq0.false in omega arith)
     c.in_default-take.ensures.ok
 
 pub returns-then-reading-gt0-clause-err : goal.returns-then-reading-gt0-clause-err
 returns-then-reading-gt0-clause-err c =
-    missing_over_cause c.args.text.now c.args.names.now c.loop-line.names c.loop-line.reading c.loop-line.lines c.next.new.self.at _ c.loop-line.invariant c.in_default-next.ensures.rest c.in_default-next.ensures.at c.if-reading-gt0.true c.fault-then-reading-gt0.ensures
+    missing_over_cause c.args.text.now c.args.names.now c.loop-line.names c.loop-line.reading c.loop-line.lines c.next.new.self.at _ c.loop-line.invariant
+    c.in_default-next.ensures.rest c.in_default-next.ensures.at c.if-reading-gt0.true c.fault-then-reading-gt0.ensures
 
 pub returns-then-reading-gt0-clause-grows : goal.returns-then-reading-gt0-clause-grows
 returns-then-reading-gt0-clause-grows c = c.loop-line.invariant.grows
 
 pub overflow_cast-row : goal.overflow_cast-row
-overflow_cast-row c = let h = off_few c.args.text.now c.args.names.now c.loop-line.names c.loop-line.reading c.loop-line.lines c.in-Some-2.row c.loop-line.invariant (rw c.in-Some-2.is at c.in_ok-row.ensures) in let s = c.requires.short in omega arith
+overflow_cast-row c = let h = off_few c.args.text.now c.args.names.now c.loop-line.names c.loop-line.reading c.loop-line.lines c.in-Some-2.row
+    c.loop-line.invariant (rw c.in-Some-2.is at c.in_ok-row.ensures) in let s = c.requires.short in omega arith
 
 pub overflow_add-row : goal.overflow_add-row
-overflow_add-row c = let h = off_few c.args.text.now c.args.names.now c.loop-line.names c.loop-line.reading c.loop-line.lines c.in-Some-2.row c.loop-line.invariant (rw c.in-Some-2.is at c.in_ok-row.ensures) in let s = c.requires.short in omega arith
+overflow_add-row c = let h = off_few c.args.text.now c.args.names.now c.loop-line.names c.loop-line.reading c.loop-line.lines c.in-Some-2.row
+    c.loop-line.invariant (rw c.in-Some-2.is at c.in_ok-row.ensures) in let s = c.requires.short in omega arith
 
 pub returns-in-Some-2-clause-err : goal.returns-in-Some-2-clause-err
 returns-in-Some-2-clause-err c =
-    off_cause c.args.text.now c.args.names.now c.loop-line.names c.loop-line.reading c.loop-line.lines c.in-Some-2.row _ c.loop-line.invariant c.in_default-next.ensures.rest (let none = c.if-reading-gt0.false in omega arith) c.len-count.ensures.distinct (rw c.in-Some-2.is at c.in_ok-row.ensures) c.fault-in-Some-2.ensures
+    off_cause c.args.text.now c.args.names.now c.loop-line.names c.loop-line.reading c.loop-line.lines c.in-Some-2.row _ c.loop-line.invariant
+    c.in_default-next.ensures.rest (let none = c.if-reading-gt0.false in
+    omega arith) c.len-count.ensures.distinct (rw c.in-Some-2.is at c.in_ok-row.ensures) c.fault-in-Some-2.ensures
 
 pub returns-clause-ok : goal.returns-clause-ok
-returns-clause-ok c = text2_read c.args.text.now c.args.names.now c.loop-line.names c.loop-line.reading c.loop-line.lines c.loop-line.invariant c.in_default-next.ensures.rest (let none = c.if-reading-gt0.false in omega arith) (rw c.in_default-2.is at c.in_ok-row.ensures)
+returns-clause-ok c = text2_read c.args.text.now c.args.names.now c.loop-line.names c.loop-line.reading c.loop-line.lines c.loop-line.invariant
+    c.in_default-next.ensures.rest (let none = c.if-reading-gt0.false in omega arith) (rw c.in_default-2.is at c.in_ok-row.ensures)
 
 pub returns-clause-names : goal.returns-clause-names
-returns-clause-names c = names2_read c.args.text.now c.args.names.now c.loop-line.names c.loop-line.reading c.loop-line.lines c.loop-line.invariant c.in_default-next.ensures.rest
+returns-clause-names c = names2_read c.args.text.now c.args.names.now c.loop-line.names c.loop-line.reading c.loop-line.lines c.loop-line.invariant
+    c.in_default-next.ensures.rest

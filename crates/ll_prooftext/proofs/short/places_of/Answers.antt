@@ -6,7 +6,8 @@ use Rattle.ll_prooftext.proofs.short.places_of.Goals as goal
 
 pub loop-i-preserved : goal.loop-i-preserved
 loop-i-preserved c =
-    places_on c.args.asked.now c.args.nodes.now c.loop-i.i c.index-nodes-i.result c.loop-i.places.items c.push_places.new.places.items c.loop-i.invariant (omega arith)
+    places_on c.args.asked.now c.args.nodes.now c.loop-i.i c.index-nodes-i.result c.loop-i.places.items c.push_places.new.places.items c.loop-i.invariant
+    (omega arith)
     (c.in_ok-push_places.ensures ∙ ap (λ (r : Rule). c.loop-i.places.items ++ rule_places r) c.index-nodes-i.is)
 
 pub returns : goal.returns

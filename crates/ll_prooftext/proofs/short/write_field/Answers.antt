@@ -18,7 +18,10 @@ returns-then-has_any_arguments c =
     let rows = term_trees bank t.rows.items in
     let whole = subst (HasRows bank) c.in-Rows.is c.requires.rows in
     let numbered = subst (λ (f : Fields). HasField f c.args.at) c.in-Rows.is c.requires.numbered in
-    let count = c.unwrap_or.ensures ∙ ((λ i. unwrap_or (c.row.ensures i) ((c.len.ensures ∙ (t.rows.ok.0 ∙ sym (length-map t.rows.items (λ (a : At). term_tree bank a.0)))) i)) ∙ row_is bank t rows whole c.args.at.0 numbered) in
+    let count =
+    c.unwrap_or.ensures
+    ∙ ((λ i. unwrap_or (c.row.ensures i) ((c.len.ensures ∙ (t.rows.ok.0 ∙ sym (length-map t.rows.items (λ (a : At). term_tree bank a.0)))) i))
+    ∙ row_is bank t rows whole c.args.at.0 numbered) in
     on_ok c.write_row.result
     (λ e. e ∙ ap (λ text. c.args.out.now.items ++ text)
     (ap (λ n. codes " @" ++ decimal n) count ∙ (field_by_row c.args.names.now rows tree (sym c.has_any_arguments.ensures ∙ c.if-has_any_arguments.true)
@@ -34,5 +37,6 @@ returns-in_ok-push-in-Rows c =
     (λ e. e ∙ (ap (λ out. out ++ term_text c.args.names.now tree) c.in_ok-push-in-Rows.ensures.items
     ∙ (append_assoc c.args.out.now.items (codes " ") (term_text c.args.names.now tree)
     ∙ ap (λ text. c.args.out.now.items ++ text)
-    (field_itself c.args.names.now rows tree (sym c.has_any_arguments.ensures ∙ c.if-has_any_arguments.false) ∙ ap (λ (f : Fields). shown c.args.names.now bank f tree) (sym c.in-Rows.is)))))
+    (field_itself c.args.names.now rows tree (sym c.has_any_arguments.ensures ∙ c.if-has_any_arguments.false)
+    ∙ ap (λ (f : Fields). shown c.args.names.now bank f tree) (sym c.in-Rows.is)))))
     c.term.ensures.text

@@ -7,14 +7,17 @@ use Rattle.ll_prooftext.proofs.short.write_fields.Goals as goal
 
 pub loop-i-preserved : goal.loop-i-preserved
 loop-i-preserved c =
-    parts_on (λ (a : At). shown c.args.names.now c.args.bank.now c.args.fields (term_tree c.args.bank.now a.0)) c.args.terms.now c.loop-i.i (record { 0 = 0 }) c.args.out.now.items c.loop-i.out.items
+    parts_on (λ (a : At). shown c.args.names.now c.args.bank.now c.args.fields (term_tree c.args.bank.now a.0)) c.args.terms.now c.loop-i.i (record { 0 = 0 })
+    c.args.out.now.items c.loop-i.out.items
     c.write_field.new.out.items c.loop-i.invariant (omega arith) c.in_ok-write_field.ensures
 
 pub returns : goal.returns
 returns c =
-    parts_whole (λ (a : At). shown c.args.names.now c.args.bank.now c.args.fields (term_tree c.args.bank.now a.0)) c.args.terms.now c.loop-i.i (record { 0 = 0 }) c.args.out.now.items c.loop-i.out.items
+    parts_whole (λ (a : At). shown c.args.names.now c.args.bank.now c.args.fields (term_tree c.args.bank.now a.0)) c.args.terms.now c.loop-i.i
+    (record { 0 = 0 }) c.args.out.now.items c.loop-i.out.items
     c.loop-i.out.items c.loop-i.invariant (omega arith)
-    ∙ ap (λ t. c.args.out.now.items ++ t) (flat_map-map (λ (a : At). term_tree c.args.bank.now a.0) (shown c.args.names.now c.args.bank.now c.args.fields) c.args.terms.now)
+    ∙ ap (λ t. c.args.out.now.items ++ t) (flat_map-map (λ (a : At). term_tree c.args.bank.now a.0) (shown c.args.names.now c.args.bank.now c.args.fields)
+    c.args.terms.now)
 
 pub write_field-requires : goal.write_field-requires
 write_field-requires c = record {

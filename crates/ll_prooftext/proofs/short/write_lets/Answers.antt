@@ -9,15 +9,18 @@ use Rattle.ll_prooftext.proofs.short.write_lets.Goals as goal
 
 pub loop-i-preserved : goal.loop-i-preserved
 loop-i-preserved c =
-    parts_on (λ (a : At). line (let_text_by (shown c.args.names.now c.args.bank.now c.args.fields) (term_tree c.args.bank.now a.0))) c.args.terms.now c.loop-i.i (record { 0 = 0 }) c.args.out.now.items
+    parts_on (λ (a : At). line (let_text_by (shown c.args.names.now c.args.bank.now c.args.fields) (term_tree c.args.bank.now a.0))) c.args.terms.now c.loop-i.i
+    (record { 0 = 0 }) c.args.out.now.items
     c.loop-i.out.items c.write_let.new.out.items c.loop-i.invariant (omega arith) c.in_ok-write_let.ensures
 
 pub returns : goal.returns
 returns c =
-    parts_whole (λ (a : At). line (let_text_by (shown c.args.names.now c.args.bank.now c.args.fields) (term_tree c.args.bank.now a.0))) c.args.terms.now c.loop-i.i (record { 0 = 0 }) c.args.out.now.items
+    parts_whole (λ (a : At). line (let_text_by (shown c.args.names.now c.args.bank.now c.args.fields) (term_tree c.args.bank.now a.0))) c.args.terms.now
+    c.loop-i.i (record { 0 = 0 }) c.args.out.now.items
     c.loop-i.out.items c.loop-i.out.items c.loop-i.invariant (omega arith)
     ∙ ap (λ t. c.args.out.now.items ++ t)
-    (flat_map-map (λ (a : At). term_tree c.args.bank.now a.0) (λ t. line (let_text_by (shown c.args.names.now c.args.bank.now c.args.fields) t)) c.args.terms.now)
+    (flat_map-map (λ (a : At). term_tree c.args.bank.now a.0) (λ t. line (let_text_by (shown c.args.names.now c.args.bank.now c.args.fields) t))
+    c.args.terms.now)
 
 pub write_let-requires : goal.write_let-requires
 write_let-requires c = record {

@@ -8,4 +8,5 @@ use Rattle.ll_prooftext.specs.Short.{shown}
 use Rattle.ll_prooftext.proofs.short.write_lets.Given as goal
 
 abbrev pub invariant-loop-i : goal.invariant-loop-i
-invariant-loop-i l = l.out.items ≡ l.initial.out.items ++ flat_map (λ (a : At). line (let_text_by (shown l.names l.bank l.fields) (term_tree l.bank a.0))) (take l.i l.terms)
+invariant-loop-i l = l.out.items ≡ l.initial.out.items ++ flat_map (λ (a : At).
+    line (let_text_by (shown l.names l.bank l.fields) (term_tree l.bank a.0))) (take l.i l.terms)

@@ -11,7 +11,8 @@ use Rattle.ll_prooftext.specs.ProofText2.{node_text_by}
 use Rattle.ll_prooftext.specs.Short.{shown}
 use Rattle.ll_prooftext.proofs.writing.ShortLines.{exists_written, clause_written}
 use Rattle.ll_prooftext.proofs.short.write_node_line.Goals as goal
-use Rattle.ll_prooftext.proofs.short.write_node_line.Goals.{in-Exists+in_ok-extend_from_slice-in-Exists+in_ok-write_field-in-Exists, in-Clause+in_ok-extend_from_slice-in-Clause+in_ok-write_number_field-in-Clause+in_ok-write_number_field-in-Clause-2+in_ok-write_fields-in-Clause+in_ok-write_part_fields-in-Clause}
+use Rattle.ll_prooftext.proofs.short.write_node_line.Goals.{in-Exists+in_ok-extend_from_slice-in-Exists+in_ok-write_field-in-Exists}
+use Rattle.ll_prooftext.proofs.short.write_node_line.Goals.{in-Clause+in_ok-extend_from_slice-in-Clause+in_ok-write_number_field-in-Clause+in_ok-write_number_field-in-Clause-2+in_ok-write_fields-in-Clause+in_ok-write_part_fields-in-Clause}
 
 pub returns : goal.returns
 returns c =
@@ -20,15 +21,20 @@ returns c =
     let end = c.in_ok-push.ensures.items in
     elim c.match-node.branch [
       | in-Exists+in_ok-extend_from_slice-in-Exists+in_ok-write_field-in-Exists w ↦
-          exists_written show (term_tree bank w.in-Exists.at.0) c.args.out.now.items w.extend_from_slice.new.self.items c.match-node.out.items c.push.new.self.items w.in_ok-extend_from_slice-in-Exists.ensures.items
+          exists_written show (term_tree bank w.in-Exists.at.0) c.args.out.now.items w.extend_from_slice.new.self.items c.match-node.out.items
+          c.push.new.self.items w.in_ok-extend_from_slice-in-Exists.ensures.items
           ((λ i. (w.out-is i).items) ∙ w.in_ok-write_field-in-Exists.ensures) end
           ∙ ap (λ (r : Rule). c.args.out.now.items ++ line (node_text_by show (line_of bank r))) (sym w.in-Exists.is)
       | in-Clause+in_ok-extend_from_slice-in-Clause+in_ok-write_number_field-in-Clause+in_ok-write_number_field-in-Clause-2+in_ok-write_fields-in-Clause+in_ok-write_part_fields-in-Clause w ↦
-          clause_written show w.in-Clause.label w.in-Clause.leaf (term_trees bank w.in-Clause.terms.items) (map part_line w.in-Clause.parts.items) c.args.out.now.items w.extend_from_slice-in-Clause.new.self.items
-          w.write_number_field.new.out.items w.write_number_field-in-Clause.new.out.items w.write_fields.new.out.items c.match-node.out.items c.push.new.self.items w.in_ok-extend_from_slice-in-Clause.ensures.items
+          clause_written show w.in-Clause.label w.in-Clause.leaf (term_trees bank w.in-Clause.terms.items) (map part_line w.in-Clause.parts.items)
+          c.args.out.now.items w.extend_from_slice-in-Clause.new.self.items
+          w.write_number_field.new.out.items w.write_number_field-in-Clause.new.out.items w.write_fields.new.out.items c.match-node.out.items
+          c.push.new.self.items w.in_ok-extend_from_slice-in-Clause.ensures.items
           w.in_ok-write_number_field-in-Clause.ensures.text w.in_ok-write_number_field-in-Clause-2.ensures.text
-          (w.in_ok-write_fields-in-Clause.ensures ∙ ap (λ (ps : List At). w.write_number_field-in-Clause.new.out.items ++ flat_map show (term_trees bank ps)) w.deref.ensures.value)
-          ((λ i. (w.out-is i).items) ∙ (w.in_ok-write_part_fields-in-Clause.ensures.text ∙ ap (λ (ps : List Part). w.write_fields.new.out.items ++ flat_map part_field (map part_line ps)) w.deref-in-Clause.ensures.value))
+          (w.in_ok-write_fields-in-Clause.ensures ∙ ap (λ (ps : List At). w.write_number_field-in-Clause.new.out.items ++ flat_map show (term_trees bank ps))
+          w.deref.ensures.value)
+          ((λ i. (w.out-is i).items) ∙ (w.in_ok-write_part_fields-in-Clause.ensures.text
+          ∙ ap (λ (ps : List Part). w.write_fields.new.out.items ++ flat_map part_field (map part_line ps)) w.deref-in-Clause.ensures.value))
           end
           ∙ ap (λ (r : Rule). c.args.out.now.items ++ line (node_text_by show (line_of bank r))) (sym w.in-Clause.is)
     ]

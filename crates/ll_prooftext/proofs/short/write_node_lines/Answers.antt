@@ -10,19 +10,24 @@ use Rattle.ll_prooftext.proofs.short.write_node_lines.Goals as goal
 
 pub loop-i-preserved : goal.loop-i-preserved
 loop-i-preserved c =
-    parts_on (λ (r : Rule). line (node_text_by (shown c.args.names.now c.args.bank.now c.args.fields) (line_of c.args.bank.now r))) c.args.nodes.now c.loop-i.i c.index-nodes-i.result c.args.out.now.items
+    parts_on (λ (r : Rule). line (node_text_by (shown c.args.names.now c.args.bank.now c.args.fields) (line_of c.args.bank.now r))) c.args.nodes.now c.loop-i.i
+    c.index-nodes-i.result c.args.out.now.items
     c.loop-i.out.items c.write_node_line.new.out.items c.loop-i.invariant (omega arith)
-    (c.in_ok-write_node_line.ensures ∙ ap (λ (r : Rule). c.loop-i.out.items ++ line (node_text_by (shown c.args.names.now c.args.bank.now c.args.fields) (line_of c.args.bank.now r))) c.index-nodes-i.is)
+    (c.in_ok-write_node_line.ensures ∙ ap (λ (r : Rule). c.loop-i.out.items
+    ++ line (node_text_by (shown c.args.names.now c.args.bank.now c.args.fields) (line_of c.args.bank.now r))) c.index-nodes-i.is)
 
 pub returns : goal.returns
 returns c =
-    parts_whole (λ (r : Rule). line (node_text_by (shown c.args.names.now c.args.bank.now c.args.fields) (line_of c.args.bank.now r))) c.args.nodes.now c.loop-i.i One c.args.out.now.items
+    parts_whole (λ (r : Rule). line (node_text_by (shown c.args.names.now c.args.bank.now c.args.fields) (line_of c.args.bank.now r))) c.args.nodes.now
+    c.loop-i.i One c.args.out.now.items
     c.loop-i.out.items c.loop-i.out.items c.loop-i.invariant (omega arith)
-    ∙ ap (λ t. c.args.out.now.items ++ t) (flat_map-map (line_of c.args.bank.now) (λ n. line (node_text_by (shown c.args.names.now c.args.bank.now c.args.fields) n)) c.args.nodes.now)
+    ∙ ap (λ t. c.args.out.now.items ++ t) (flat_map-map (line_of c.args.bank.now)
+    (λ n. line (node_text_by (shown c.args.names.now c.args.bank.now c.args.fields) n)) c.args.nodes.now)
 
 pub write_node_line-requires : goal.write_node_line-requires
 write_node_line-requires c = record {
   inside = subst (HasLine c.args.bank.now) (sym c.index-nodes-i.is) (c.requires.inside c.loop-i.i c.index-nodes-i.result (omega arith));
   rows = c.requires.rows;
-  numbered = subst (λ (r : Rule). All (HasField c.args.fields) (rule_places r)) (sym c.index-nodes-i.is) (c.requires.numbered c.loop-i.i c.index-nodes-i.result (omega arith));
+  numbered = subst (λ (r : Rule). All (HasField c.args.fields) (rule_places r)) (sym c.index-nodes-i.is)
+      (c.requires.numbered c.loop-i.i c.index-nodes-i.result (omega arith));
 }

@@ -8,4 +8,5 @@ use Rattle.ll_prooftext.specs.Short.{shown}
 use Rattle.ll_prooftext.proofs.short.write_node_lines.Given as goal
 
 abbrev pub invariant-loop-i : goal.invariant-loop-i
-invariant-loop-i l = l.out.items ≡ l.initial.out.items ++ flat_map (λ (r : Rule). line (node_text_by (shown l.names l.bank l.fields) (line_of l.bank r))) (take l.i l.nodes)
+invariant-loop-i l = l.out.items ≡ l.initial.out.items ++ flat_map (λ (r : Rule).
+    line (node_text_by (shown l.names l.bank l.fields) (line_of l.bank r))) (take l.i l.nodes)

@@ -14,17 +14,22 @@ returns c =
     let tree = term_tree bank c.args.at.0 in
     elim c.match-term_at.branch [
       | in-Var w ↦
-          share_bare names rows tree c.args.out.now.items c.match-term_at.out.items c.push.new.self.items ((λ i. (w.out-is i).items) ∙ c.in_ok-extend_from_slice.ensures.items) (ap (spine_text names rows) w.in-Var.ensures.shown)
+          share_bare names rows tree c.args.out.now.items c.match-term_at.out.items c.push.new.self.items
+          ((λ i. (w.out-is i).items) ∙ c.in_ok-extend_from_slice.ensures.items) (ap (spine_text names rows) w.in-Var.ensures.shown)
           c.in_ok-push.ensures.items
       | in-Int w ↦
-          share_bare names rows tree c.args.out.now.items c.match-term_at.out.items c.push.new.self.items ((λ i. (w.out-is i).items) ∙ c.in_ok-extend_from_slice.ensures.items) (ap (spine_text names rows) w.in-Int.ensures.shown)
+          share_bare names rows tree c.args.out.now.items c.match-term_at.out.items c.push.new.self.items
+          ((λ i. (w.out-is i).items) ∙ c.in_ok-extend_from_slice.ensures.items) (ap (spine_text names rows) w.in-Int.ensures.shown)
           c.in_ok-push.ensures.items
       | in-App+in_ok-write_head-in-App+in_ok-write_fields-in-App w ↦
-          share_full names rows w.in-App.head (term_trees bank w.in-App.args.now) tree c.args.out.now.items c.extend_from_slice.new.self.items w.write_head.new.out.items c.match-term_at.out.items c.push.new.self.items
-          c.in_ok-extend_from_slice.ensures.items w.in_ok-write_head-in-App.ensures ((λ i. (w.out-is i).items) ∙ w.in_ok-write_fields-in-App.ensures) w.in-App.ensures.shown.0 c.in_ok-push.ensures.items
+          share_full names rows w.in-App.head (term_trees bank w.in-App.args.now) tree c.args.out.now.items c.extend_from_slice.new.self.items
+          w.write_head.new.out.items c.match-term_at.out.items c.push.new.self.items
+          c.in_ok-extend_from_slice.ensures.items w.in_ok-write_head-in-App.ensures ((λ i. (w.out-is i).items) ∙ w.in_ok-write_fields-in-App.ensures)
+          w.in-App.ensures.shown.0 c.in_ok-push.ensures.items
     ]
 
 pub write_fields-requires-clause-numbered : goal.write_fields-requires-clause-numbered
 write_fields-requires-clause-numbered c =
-    λ k d l. argument_numbered c.args.bank.now c.args.table.now (term_trees c.args.bank.now c.args.table.now.rows.items) c.requires.table (get_or c.in-App.args.now k d).0
+    λ k d l. argument_numbered c.args.bank.now c.args.table.now (term_trees c.args.bank.now c.args.table.now.rows.items) c.requires.table
+    (get_or c.in-App.args.now k d).0
     (let low = c.in-App.ensures.shown.1 k d l in let here = c.requires.numbered.inside in omega arith)

@@ -11,17 +11,20 @@ pub loop-i-preserved : goal.loop-i-preserved
 loop-i-preserved c =
     let bank = c.args.bank.now in
     let rows = term_trees bank c.args.table.now.rows.items in
-    parts_on (λ (a : At). share_line c.args.names.now rows (term_tree bank a.0)) c.as_slice-rows.result.now c.loop-i.i (record { 0 = 0 }) c.args.out.now.items c.loop-i.out.items c.write_share.new.out.items
+    parts_on (λ (a : At). share_line c.args.names.now rows (term_tree bank a.0)) c.as_slice-rows.result.now c.loop-i.i (record { 0 = 0 }) c.args.out.now.items
+    c.loop-i.out.items c.write_share.new.out.items
     c.loop-i.invariant (omega arith) c.in_ok-write_share.ensures
 
 pub returns : goal.returns
 returns c =
     let bank = c.args.bank.now in
     let rows = term_trees bank c.args.table.now.rows.items in
-    parts_whole (λ (a : At). share_line c.args.names.now rows (term_tree bank a.0)) c.as_slice-rows.result.now c.loop-i.i (record { 0 = 0 }) c.args.out.now.items c.loop-i.out.items c.loop-i.out.items
+    parts_whole (λ (a : At). share_line c.args.names.now rows (term_tree bank a.0)) c.as_slice-rows.result.now c.loop-i.i (record { 0 = 0 })
+    c.args.out.now.items c.loop-i.out.items c.loop-i.out.items
     c.loop-i.invariant (omega arith)
     ∙ ap (λ t. c.args.out.now.items ++ t)
-    (flat_map-map (λ (a : At). term_tree bank a.0) (share_line c.args.names.now rows) c.as_slice-rows.result.now ∙ ap (λ (ps : List At). flat_map (share_line c.args.names.now rows) (term_trees bank ps)) c.as_slice-rows.ensures.value)
+    (flat_map-map (λ (a : At). term_tree bank a.0) (share_line c.args.names.now rows) c.as_slice-rows.result.now
+    ∙ ap (λ (ps : List At). flat_map (share_line c.args.names.now rows) (term_trees bank ps)) c.as_slice-rows.ensures.value)
 
 pub write_share-requires : goal.write_share-requires
 write_share-requires c =

@@ -12,4 +12,5 @@ returns c =
       | then-has_any_arguments w ↦ w.brackets-is ∙ sym (ap (λ b. if b then 2 else 0) (sym c.has_any_arguments.ensures ∙ w.if-has_any_arguments.true))
       | else-has_any_arguments w ↦ w.brackets-is ∙ sym (ap (λ b. if b then 2 else 0) (sym c.has_any_arguments.ensures ∙ w.if-has_any_arguments.false))
     ] in
-    λ names h. field_sum names tree _ c.if-has_any_arguments.brackets c.saturating_add.result (h.each c.args.at.0 (record { bytes = 0; is_cons = false }) c.requires.reach).bytes brackets c.saturating_add.ensures
+    λ names h. field_sum names tree _ c.if-has_any_arguments.brackets c.saturating_add.result
+    (h.each c.args.at.0 (record { bytes = 0; is_cons = false }) c.requires.reach).bytes brackets c.saturating_add.ensures

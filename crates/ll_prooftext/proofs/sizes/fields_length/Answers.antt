@@ -14,14 +14,16 @@ loop-i-init c = λ names h. let r = c.ranges.start.fits in omega arith
 
 pub loop-i-preserved : goal.loop-i-preserved
 loop-i-preserved c = λ names h.
-    total_more (λ (a : At). term_field names (term_tree c.args.bank.now a.0)) c.args.places.now c.loop-i.i (record { 0 = 0 }) c.args.start c.loop-i.total c.field_length.result c.saturating_add-total.result
+    total_more (λ (a : At). term_field names (term_tree c.args.bank.now a.0)) c.args.places.now c.loop-i.i (record { 0 = 0 }) c.args.start c.loop-i.total
+    c.field_length.result c.saturating_add-total.result
     (omega arith) (c.loop-i.invariant names h) (c.field_length.ensures names h) c.saturating_add-total.ensures
 
 pub returns : goal.returns
 returns c = λ names h.
     c.loop-i.invariant names h
     ∙ ap (λ t. cut_count (c.args.start + length t))
-    (ap (flat_map (λ (a : At). term_field names (term_tree c.args.bank.now a.0))) (take_all c.loop-i.i c.args.places.now (omega arith)) ∙ flat_map-map (λ (a : At). term_tree c.args.bank.now a.0) (term_field names) c.args.places.now)
+    (ap (flat_map (λ (a : At). term_field names (term_tree c.args.bank.now a.0))) (take_all c.loop-i.i c.args.places.now (omega arith))
+    ∙ flat_map-map (λ (a : At). term_tree c.args.bank.now a.0) (term_field names) c.args.places.now)
 
 pub field_length-requires : goal.field_length-requires
 field_length-requires c = record {

@@ -8,4 +8,5 @@ use Rattle.ll_prooftext.specs.Lengths.{AreLengths}
 use Rattle.ll_prooftext.proofs.sizes.fields_length.Given as goal
 
 abbrev pub invariant-loop-i : goal.invariant-loop-i
-invariant-loop-i l = (names : List (List ℕ)) → AreLengths names l.bank l.lengths → l.total ≡ cut_count (l.start + length (flat_map (λ (a : At). term_field names (term_tree l.bank a.0)) (take l.i l.places)))
+invariant-loop-i l = (names : List (List ℕ)) → AreLengths names l.bank l.lengths → l.total ≡ cut_count (l.start
+    + length (flat_map (λ (a : At). term_field names (term_tree l.bank a.0)) (take l.i l.places)))

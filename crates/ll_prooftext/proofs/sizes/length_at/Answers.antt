@@ -12,7 +12,8 @@ pub returns-then-not-has_any_arguments : goal.returns-then-not-has_any_arguments
 returns-then-not-has_any_arguments c =
     let names = c.args.names.now in
     let tree = term_tree c.args.bank.now c.args.at.0 in
-    leaf_is names tree c.len.result c.term.new.out.items (sym c.has_any_arguments.ensures ∙ c.if-not-has_any_arguments.true) (c.in_ok-term.ensures.text ∙ ap (λ t. t ++ term_text names tree) c.clear.ensures.items)
+    leaf_is names tree c.len.result c.term.new.out.items (sym c.has_any_arguments.ensures ∙ c.if-not-has_any_arguments.true)
+    (c.in_ok-term.ensures.text ∙ ap (λ t. t ++ term_text names tree) c.clear.ensures.items)
     (c.len.ensures ∙ c.term.new.out.ok.0) c.len.type_inv
 
 pub returns-in-Some : goal.returns-in-Some
@@ -26,7 +27,8 @@ returns-in-Some c =
     let first = low 0 (record { 0 = 0 }) (omega arith) in
     let rest = low 1 (record { 0 = 0 }) (omega arith) in
     pair_is names head (term_tree bank c.in-Some.first.0) (term_tree bank c.in-Some.rest.0) (term_tree bank c.args.at.0) c.cons_length.result
-    (c.spine_at-head.ensures.tree ∙ ap (λ ps. app head (term_trees bank ps)) c.in-Some.ensures.0) (cons_head names head ∙ (ap (λ t. bytes_eq t (codes "::")) (sym text) ∙ c.in-Some.ensures.1))
+    (c.spine_at-head.ensures.tree ∙ ap (λ ps. app head (term_trees bank ps)) c.in-Some.ensures.0)
+    (cons_head names head ∙ (ap (λ t. bytes_eq t (codes "::")) (sym text) ∙ c.in-Some.ensures.1))
     (c.cons_length.ensures names (term_tree bank c.in-Some.first.0) (term_tree bank c.in-Some.rest.0)
     (c.requires.lengths.each c.in-Some.first.0 (record { bytes = 0; is_cons = false }) (let n = c.requires.next in omega arith))
     (c.requires.lengths.each c.in-Some.rest.0 (record { bytes = 0; is_cons = false }) (let n = c.requires.next in omega arith)))
@@ -39,7 +41,8 @@ returns-in-None c =
     let head = c.spine_at-head.result.0 in
     let out = c.in_ok-write_head.ensures ∙ ap (λ t. t ++ head_text names head) c.clear.ensures.items in
     spine_is names head (term_trees bank args) (term_tree bank c.args.at.0) c.len-in-None.result c.fields_length.result c.spine_at-head.ensures.tree
-    ((λ i. eqb (length-map args (λ (a : At). term_tree bank a.0) i) 2 && (cons_head names head ∙ ap (λ t. bytes_eq t (codes "::")) (sym (c.deref.ensures.value ∙ out))) i) ∙ c.in-None.ensures)
+    ((λ i. eqb (length-map args (λ (a : At). term_tree bank a.0) i) 2
+    && (cons_head names head ∙ ap (λ t. bytes_eq t (codes "::")) (sym (c.deref.ensures.value ∙ out))) i) ∙ c.in-None.ensures)
     (c.len-in-None.ensures ∙ (c.write_head.new.out.ok.0 ∙ ap length out)) (c.fields_length.ensures names c.requires.lengths)
 
 pub fields_length-requires : goal.fields_length-requires

@@ -8,7 +8,8 @@ pub loop-i-preserved : goal.loop-i-preserved
 loop-i-preserved c = (
   c.in_ok-lengths_up_to.ensures.lengths,
   All-more (λ (a : At). a.0 < length c.lengths_up_to.new.lengths.items) c.args.places.now c.loop-i.i (record { 0 = 0 }) (omega arith)
-      (All-weaker (λ (a : At). a.0 < length c.loop-i.lengths.items) (λ (a : At). a.0 < length c.lengths_up_to.new.lengths.items) (λ a h. let more = c.in_ok-lengths_up_to.ensures.more in omega arith)
+      (All-weaker (λ (a : At). a.0 < length c.loop-i.lengths.items) (λ (a : At). a.0 < length c.lengths_up_to.new.lengths.items) (λ a h. let more =
+      c.in_ok-lengths_up_to.ensures.more in omega arith)
       (take c.loop-i.i c.args.places.now) c.loop-i.invariant.1)
       c.in_ok-lengths_up_to.ensures.reach,
 )

@@ -22,7 +22,8 @@ term_lengths-requires c =
     let bank = c.derivation.inside.bank in
     let places = c.deref-3.ensures.value ∙ (c.in_ok-places.ensures ∙ (λ i. c.deref.ensures.value i ++ flat_map rule_places (c.deref-2.ensures.value i))) in
     subst (AllInTerms bank) (sym places)
-    (All-append (λ (a : At). a.0 < length bank.terms) c.derivation.inside.asked.items (flat_map rule_places c.derivation.inside.nodes.items) c.derivation.invariant.0
+    (All-append (λ (a : At). a.0 < length bank.terms) c.derivation.inside.asked.items (flat_map rule_places c.derivation.inside.nodes.items)
+    c.derivation.invariant.0
     (inside_nodes bank c.derivation.inside.nodes.items c.derivation.invariant.1))
 
 pub write_lets-requires : goal.write_lets-requires
@@ -45,10 +46,12 @@ fields_length-requires c =
     let places = c.deref-6.ensures.value ∙ (c.in_ok-places.ensures ∙ (λ i. c.deref.ensures.value i ++ flat_map rule_places (c.deref-2.ensures.value i))) in
     record {
       inside = subst (AllInTerms bank) (sym places)
-          (All-append (λ (a : At). a.0 < length bank.terms) c.derivation.inside.asked.items (flat_map rule_places c.derivation.inside.nodes.items) c.derivation.invariant.0
+          (All-append (λ (a : At). a.0 < length bank.terms) c.derivation.inside.asked.items (flat_map rule_places c.derivation.inside.nodes.items)
+          c.derivation.invariant.0
           (inside_nodes bank c.derivation.inside.nodes.items c.derivation.invariant.1));
       reach = subst (λ (ls : List Length). All (λ (a : At). a.0 < length ls) c.deref-6.result.now) (sym c.deref-7.ensures.value)
-          (subst (λ (ps : List At). All (λ (a : At). a.0 < length c.in_ok-lengths.lengths.items) ps) (c.deref-3.ensures.value ∙ sym c.deref-6.ensures.value) c.in_ok-lengths.ensures.reach);
+          (subst (λ (ps : List At). All (λ (a : At). a.0 < length c.in_ok-lengths.lengths.items) ps) (c.deref-3.ensures.value ∙ sym c.deref-6.ensures.value)
+          c.in_ok-lengths.ensures.reach);
     }
 
 pub returns : goal.returns
@@ -63,7 +66,9 @@ returns c =
     let lines = flat_map (λ n. line (node_text_by nothing n)) d.nodes in
     let places = c.deref-6.ensures.value ∙ (c.in_ok-places.ensures ∙ (λ i. c.deref.ensures.value i ++ flat_map rule_places (c.deref-2.ensures.value i))) in
     let begun = c.in_ok-extend_from_slice.ensures.items ∙ ap (λ t. t ++ codes "proof 1\n") c.new-bare.ensures.items in
-    let asked_lines = c.in_ok-write_lets.ensures ∙ (ap (λ (ps : List At). c.extend_from_slice.new.self.items ++ flat_map (λ t. line (let_text_by nothing t)) (term_trees bank ps)) c.deref-4.ensures.value ∙ ap (λ t. t ++ lets) begun) in
+    let asked_lines =
+    c.in_ok-write_lets.ensures ∙ (ap (λ (ps : List At). c.extend_from_slice.new.self.items
+    ++ flat_map (λ t. line (let_text_by nothing t)) (term_trees bank ps)) c.deref-4.ensures.value ∙ ap (λ t. t ++ lets) begun) in
     let bare = c.in_ok-write_node_lines.ensures
     ∙ (ap (λ (rs : List Rule). c.write_lets.new.out.items ++ flat_map (λ n. line (node_text_by nothing n)) (map (line_of bank) rs)) c.deref-5.ensures.value
     ∙ (ap (λ t. t ++ lines) asked_lines ∙ append_assoc first lets lines)) in

@@ -14,22 +14,27 @@ loop-task-init c =
       subst (λ ts. IsBuilding c.args.bank.now (flat_map completed (term_trees c.args.bank.now c.args.fields.now)) start ts)
           (sym (c.in_ok-push_entries.ensures ∙ ap (λ ts. ts ++ entries c.args.fields.now) c.new-tasks.ensures.items))
           (building_starts c.args.bank.now c.args.fields.now start
-          (table_starts c.args.bank.now start c.requires.classes (c.in_ok-vec.ensures.items_if_clones_equal (search rules)) c.new.ensures.items) c.requires.numbered),
+          (table_starts c.args.bank.now start c.requires.classes (c.in_ok-vec.ensures.items_if_clones_equal (search rules)) c.new.ensures.items)
+          c.requires.numbered),
       refl,
     )
 
 pub loop-task-preserved : goal.loop-task-preserved
 loop-task-preserved c =
-    let goes = taken_on c.args.bank.now (term_trees c.args.bank.now c.args.fields.now) c.loop-task.table c.pop.new.self.items c.in-Some.task c.take.new.self c.take.new.tasks.items
-    (subst (IsBuilding c.args.bank.now (flat_map completed (term_trees c.args.bank.now c.args.fields.now)) c.loop-task.table) c.in-Some.ensures.items c.loop-task.invariant.0) c.in_ok-take.ensures in (
+    let goes = taken_on c.args.bank.now (term_trees c.args.bank.now c.args.fields.now) c.loop-task.table c.pop.new.self.items c.in-Some.task c.take.new.self
+    c.take.new.tasks.items
+    (subst (IsBuilding c.args.bank.now (flat_map completed (term_trees c.args.bank.now c.args.fields.now)) c.loop-task.table) c.in-Some.ensures.items
+    c.loop-task.invariant.0) c.in_ok-take.ensures in (
       goes.building,
       goes.same ∙ c.loop-task.invariant.1,
     )
 
 pub loop-task-smaller : goal.loop-task-smaller
 loop-task-smaller c =
-    let goes = taken_on c.args.bank.now (term_trees c.args.bank.now c.args.fields.now) c.loop-task.table c.pop.new.self.items c.in-Some.task c.take.new.self c.take.new.tasks.items
-    (subst (IsBuilding c.args.bank.now (flat_map completed (term_trees c.args.bank.now c.args.fields.now)) c.loop-task.table) c.in-Some.ensures.items c.loop-task.invariant.0) c.in_ok-take.ensures in
+    let goes = taken_on c.args.bank.now (term_trees c.args.bank.now c.args.fields.now) c.loop-task.table c.pop.new.self.items c.in-Some.task c.take.new.self
+    c.take.new.tasks.items
+    (subst (IsBuilding c.args.bank.now (flat_map completed (term_trees c.args.bank.now c.args.fields.now)) c.loop-task.table) c.in-Some.ensures.items
+    c.loop-task.invariant.0) c.in_ok-take.ensures in
     subst (λ ts. tasks_weight c.args.bank.now c.take.new.tasks.items < tasks_weight c.args.bank.now ts) (sym c.in-Some.ensures.items) goes.lighter
 
 pub returns-clause-table : goal.returns-clause-table
@@ -38,7 +43,9 @@ returns-clause-table c =
 
 pub returns-clause-reach : goal.returns-clause-reach
 returns-clause-reach c =
-    λ k d l. argument_numbered c.args.bank.now c.loop-task.table (rows_in c.loop-task.invariant.0.done) c.loop-task.invariant.0.table (get_or c.args.fields.now k d).0 (subst (λ (t : Classes). (get_or c.args.fields.now k d).0 < length t.numbers.items) (sym c.loop-task.invariant.1) (c.requires.numbered k d l))
+    λ k d l. argument_numbered c.args.bank.now c.loop-task.table (rows_in c.loop-task.invariant.0.done) c.loop-task.invariant.0.table
+    (get_or c.args.fields.now k d).0 (subst (λ (t : Classes). (get_or c.args.fields.now k d).0 < length t.numbers.items) (sym c.loop-task.invariant.1)
+    (c.requires.numbered k d l))
 
 pub returns-clause-same : goal.returns-clause-same
 returns-clause-same c = c.loop-task.invariant.1

@@ -3,12 +3,15 @@ use Rattle.ll_prooftext.proofs.terms.argument_at.Goals as goal
 
 pub returns-in_ok-term_of-in-Some-2-clause-found : goal.returns-in_ok-term_of-in-Some-2-clause-found
 returns-in_ok-term_of-in-Some-2-clause-found c =
-    word_argument c.args.names.now c.args.bank.now c.args.bytes.now c.word_at.new.names c.word_at.new.bank c.term_of.new.bank c.in-Some-2.word c.in-Some-2.rest.now c.in_ok-term_of-in-Some-2.field-0.0 (rw c.in-Some-2.is at c.in_ok-word.ensures.moves)
-    (rw c.in-Some-2.is at c.in_ok-word.ensures.found) (c.is_at_end.ensures.0 c.if-not-is_at_end.false) c.in_ok-term_of-in-Some-2.ensures.term c.in_ok-term_of-in-Some-2.ensures.keeps
+    word_argument c.args.names.now c.args.bank.now c.args.bytes.now c.word_at.new.names c.word_at.new.bank c.term_of.new.bank c.in-Some-2.word
+    c.in-Some-2.rest.now c.in_ok-term_of-in-Some-2.field-0.0 (rw c.in-Some-2.is at c.in_ok-word.ensures.moves)
+    (rw c.in-Some-2.is at c.in_ok-word.ensures.found) (c.is_at_end.ensures.0 c.if-not-is_at_end.false) c.in_ok-term_of-in-Some-2.ensures.term
+    c.in_ok-term_of-in-Some-2.ensures.keeps
 
 pub returns-then-not-is_at_end-clause-found : goal.returns-then-not-is_at_end-clause-found
 returns-then-not-is_at_end-clause-found c =
-    other_end c.word_at.new.names c.word_at.new.bank c.args.bytes.now c.in-Some-2.word c.in-Some-2.rest.now c.in_default.ensures (rw c.in-Some-2.is at c.in_ok-word.ensures.found) (not_ended c.is_at_end.ensures c.if-not-is_at_end.true)
+    other_end c.word_at.new.names c.word_at.new.bank c.args.bytes.now c.in-Some-2.word c.in-Some-2.rest.now c.in_default.ensures
+    (rw c.in-Some-2.is at c.in_ok-word.ensures.found) (not_ended c.is_at_end.ensures c.if-not-is_at_end.true)
 
 pub returns-in-None-clause-found : goal.returns-in-None-clause-found
 returns-in-None-clause-found c = no_argument c.args.bytes.now c.in_default.ensures (rw c.in-None.is at c.in_ok-word.ensures.found)

@@ -3,23 +3,28 @@ use Rattle.ll_prooftext.proofs.spelling.Arguments.{reading_begins, reading_stuck
 use Rattle.ll_prooftext.proofs.terms.bracketed.Goals as goal
 
 pub loop-open-init : goal.loop-open-init
-loop-open-init c = reading_begins c.args.names.now c.args.bank.now c.args.inside.now _ c.new-2.ensures.items c.new.ensures.items c.new.ensures.part c.new.ensures.args
+loop-open-init c = reading_begins c.args.names.now c.args.bank.now c.args.inside.now _ c.new-2.ensures.items c.new.ensures.items c.new.ensures.part
+    c.new.ensures.args
 
 pub returns-in-Stuck-clause-found : goal.returns-in-Stuck-clause-found
 returns-in-Stuck-clause-found c =
-    reading_stuck c.args.names.now c.args.bank.now c.args.inside.now c.loop-open.names c.loop-open.bank c.loop-open.open c.loop-open.rest.now c.loop-open.invariant (rw c.in-Stuck.is at c.in_ok-step.ensures.step)
+    reading_stuck c.args.names.now c.args.bank.now c.args.inside.now c.loop-open.names c.loop-open.bank c.loop-open.open c.loop-open.rest.now
+    c.loop-open.invariant (rw c.in-Stuck.is at c.in_ok-step.ensures.step)
 
 pub loop-open-smaller : goal.loop-open-smaller
 loop-open-smaller c =
-    let t : Turns c.loop-open.names c.loop-open.bank c.loop-open.open c.loop-open.rest.now c.step.new.names c.step.new.bank c.step.new.self c.in-More.next.now = rw c.in-More.is at c.in_ok-step.ensures.step in
+    let t : Turns c.loop-open.names c.loop-open.bank c.loop-open.open c.loop-open.rest.now c.step.new.names c.step.new.bank c.step.new.self c.in-More.next.now =
+    rw c.in-More.is at c.in_ok-step.ensures.step in
     t.shorter
 
 pub returns-then-not-is_at_end-clause-found : goal.returns-then-not-is_at_end-clause-found
 returns-then-not-is_at_end-clause-found c =
-    reading_other c.args.names.now c.args.bank.now c.args.inside.now c.loop-open.names c.loop-open.bank c.loop-open.open c.loop-open.rest.now c.step.new.names c.step.new.bank c.in-Whole.at.0 c.in-Whole.next.now c.loop-open.invariant (rw c.in-Whole.is at c.in_ok-step.ensures.step)
+    reading_other c.args.names.now c.args.bank.now c.args.inside.now c.loop-open.names c.loop-open.bank c.loop-open.open c.loop-open.rest.now c.step.new.names
+    c.step.new.bank c.in-Whole.at.0 c.in-Whole.next.now c.loop-open.invariant (rw c.in-Whole.is at c.in_ok-step.ensures.step)
     (not_ended c.is_at_end.ensures c.if-not-is_at_end.true)
 
 pub returns-in-Whole-clause-found : goal.returns-in-Whole-clause-found
 returns-in-Whole-clause-found c =
-    reading_ends c.args.names.now c.args.bank.now c.args.inside.now c.loop-open.names c.loop-open.bank c.loop-open.open c.loop-open.rest.now c.step.new.names c.step.new.bank c.in-Whole.at.0 c.in-Whole.next.now c.loop-open.invariant (rw c.in-Whole.is at c.in_ok-step.ensures.step)
+    reading_ends c.args.names.now c.args.bank.now c.args.inside.now c.loop-open.names c.loop-open.bank c.loop-open.open c.loop-open.rest.now c.step.new.names
+    c.step.new.bank c.in-Whole.at.0 c.in-Whole.next.now c.loop-open.invariant (rw c.in-Whole.is at c.in_ok-step.ensures.step)
     (c.is_at_end.ensures.0 c.if-not-is_at_end.false)

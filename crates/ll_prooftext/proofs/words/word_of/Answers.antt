@@ -7,37 +7,46 @@ use Rattle.ll_prooftext.proofs.words.word_of.Goals as goal
 
 pub returns-in_ok-var-in-Some-wide_number_of-clause-found : goal.returns-in_ok-var-in-Some-wide_number_of-clause-found
 returns-in_ok-var-in-Some-wide_number_of-clause-found c =
-    variable_is c.args.names.now c.var.new.self c.args.bytes.now c.in-Some.rest.now c.in-Some-wide_number_of.number c.in_ok-var-in-Some-wide_number_of.field-0.0 c.in-Some.ensures c.in-Some-wide_number_of.ensures (omega arith)
+    variable_is c.args.names.now c.var.new.self c.args.bytes.now c.in-Some.rest.now c.in-Some-wide_number_of.number c.in_ok-var-in-Some-wide_number_of.field-0.0
+    c.in-Some.ensures c.in-Some-wide_number_of.ensures (omega arith)
     c.in_ok-var-in-Some-wide_number_of.ensures.shows
 
 pub returns-in_ok-var-in-Some-wide_number_of-clause-moves : goal.returns-in_ok-var-in-Some-wide_number_of-clause-moves
 returns-in_ok-var-in-Some-wide_number_of-clause-moves c =
-    moves_none c.args.names.now c.args.bank.now c.var.new.self c.args.bytes.now c.in_ok-var-in-Some-wide_number_of.ensures.keeps (variable_mentions c.args.bytes.now c.in-Some.rest.now c.in-Some-wide_number_of.number (omega arith) c.in-Some.ensures c.in-Some-wide_number_of.ensures)
+    moves_none c.args.names.now c.args.bank.now c.var.new.self c.args.bytes.now c.in_ok-var-in-Some-wide_number_of.ensures.keeps
+    (variable_mentions c.args.bytes.now c.in-Some.rest.now c.in-Some-wide_number_of.number (omega arith) c.in-Some.ensures c.in-Some-wide_number_of.ensures)
 
 pub returns-in-Some-integer_of-clause-moves : goal.returns-in-Some-integer_of-clause-moves
 returns-in-Some-integer_of-clause-moves c =
-    moves_none c.args.names.now c.args.bank.now c.int.new.self c.args.bytes.now c.in_ok-int.ensures.keeps (number_mentions c.args.bytes.now _ (search rules) c.in-Some-integer_of.ensures)
+    moves_none c.args.names.now c.args.bank.now c.int.new.self c.args.bytes.now c.in_ok-int.ensures.keeps
+    (number_mentions c.args.bytes.now _ (search rules) c.in-Some-integer_of.ensures)
 
 pub returns-in-None-clause-found : goal.returns-in-None-clause-found
 returns-in-None-clause-found c = no_variable c.args.bytes.now c.in-Some.rest.now c.in-Some.ensures c.in-None.ensures
 
 pub returns-in-Some-number_of-clause-found : goal.returns-in-Some-number_of-clause-found
-returns-in-Some-number_of-clause-found c = eigen_is c.args.names.now c.args.bytes.now c.in-Some-behind.rest.now c.in-Some-number_of.number c.in-Some-behind.ensures c.in-Some-number_of.ensures (omega arith)
+returns-in-Some-number_of-clause-found c = eigen_is c.args.names.now c.args.bytes.now c.in-Some-behind.rest.now c.in-Some-number_of.number
+    c.in-Some-behind.ensures c.in-Some-number_of.ensures (omega arith)
 
 pub returns-in-Some-number_of-clause-moves : goal.returns-in-Some-number_of-clause-moves
 returns-in-Some-number_of-clause-moves c =
-    moves_none c.args.names.now c.args.bank.now c.args.bank.now c.args.bytes.now (Extends-refl c.args.bank.now) (eigen_mentions c.args.bytes.now c.in-Some-behind.rest.now c.in-Some-number_of.number (omega arith) c.in-Some-behind.ensures c.in-Some-number_of.ensures)
+    moves_none c.args.names.now c.args.bank.now c.args.bank.now c.args.bytes.now (Extends-refl c.args.bank.now)
+    (eigen_mentions c.args.bytes.now c.in-Some-behind.rest.now c.in-Some-number_of.number (omega arith) c.in-Some-behind.ensures
+    c.in-Some-number_of.ensures)
 
 pub returns-in-None-number_of-clause-found : goal.returns-in-None-number_of-clause-found
 returns-in-None-number_of-clause-found c = no_eigen c.args.bytes.now c.in-Some-behind.rest.now c.in-Some-behind.ensures c.in-None-number_of.ensures
 
 pub returns-in_ok-add-in-Some-name_of-clause-found : goal.returns-in_ok-add-in-Some-name_of-clause-found
 returns-in_ok-add-in-Some-name_of-clause-found c =
-    name_is c.add.new.self c.in_ok-add-in-Some-name_of.field-0 c.in-Some-name_of.text.now c.args.bytes.now c.in_ok-add-in-Some-name_of.ensures.text c.in-Some-name_of.ensures.is c.in-Some-name_of.ensures.plain
+    name_is c.add.new.self c.in_ok-add-in-Some-name_of.field-0 c.in-Some-name_of.text.now c.args.bytes.now c.in_ok-add-in-Some-name_of.ensures.text
+    c.in-Some-name_of.ensures.is c.in-Some-name_of.ensures.plain
 
 pub returns-in_ok-add-in-Some-name_of-clause-moves : goal.returns-in_ok-add-in-Some-name_of-clause-moves
 returns-in_ok-add-in-Some-name_of-clause-moves c =
-    moves_name c.args.names.now c.add.new.self c.args.bank.now c.in-Some-name_of.text.now c.args.bytes.now c.in_ok-add-in-Some-name_of.ensures.added c.in-Some-name_of.ensures.is c.in-Some-name_of.ensures.plain
+    moves_name c.args.names.now c.add.new.self c.args.bank.now c.in-Some-name_of.text.now c.args.bytes.now c.in_ok-add-in-Some-name_of.ensures.added
+    c.in-Some-name_of.ensures.is c.in-Some-name_of.ensures.plain
 
 pub returns-in_ok-add-in-Some-name_of-clause-grows : goal.returns-in_ok-add-in-Some-name_of-clause-grows
-returns-in_ok-add-in-Some-name_of-clause-grows c = grows_name c.args.names.now c.add.new.self c.in-Some-name_of.text.now c.in_ok-add-in-Some-name_of.ensures.added
+returns-in_ok-add-in-Some-name_of-clause-grows c = grows_name c.args.names.now c.add.new.self c.in-Some-name_of.text.now
+    c.in_ok-add-in-Some-name_of.ensures.added

@@ -21,6 +21,7 @@ returns c =
       | then-second_flag w ↦ w.back-is ∙ (w.if-second_flag.true ∙ ap (λ x. x || within b a) (sym w.if-second_flag.true))
       | else-second_flag w ↦ w.back-is ∙ (w.is_within-back.ensures ∙ ap (λ x. x || within b a) (sym w.if-second_flag.false))
     ] in
-    joined c.args.first_flag c.args.second_flag a b (length-filled c.args.count (reverse c.args.first.now) ∙ sym (length-filled c.args.count (reverse c.args.second.now)))
+    joined c.args.first_flag c.args.second_flag a b (length-filled c.args.count (reverse c.args.first.now)
+    ∙ sym (length-filled c.args.count (reverse c.args.second.now)))
     ∙ (ap (λ x. kept_if (x && (c.args.second_flag || within b a)) (both_live a b) (c.args.first_flag && c.args.second_flag)) (sym forth)
     ∙ ap (λ y. kept_if (c.if-first_flag.forth && y) (both_live a b) (c.args.first_flag && c.args.second_flag)) (sym back))

@@ -5,7 +5,8 @@ use Rattle.ll_resources.proofs.SeenLemmas.{one-more, none-more}
 use Rattle.ll_resources.proofs.marks.push_mark.Goals as goal
 
 pub returns-in_ok-push : goal.returns-in_ok-push
-returns-in_ok-push c = subst (λ xs. HasOneMore c.args.live.now.items c.args.mark xs) (sym c.in_ok-push.ensures.items) (one-more c.args.live.now.items c.args.mark)
+returns-in_ok-push c = subst (λ xs. HasOneMore c.args.live.now.items c.args.mark xs) (sym c.in_ok-push.ensures.items)
+    (one-more c.args.live.now.items c.args.mark)
 
 pub returns-else-not-is_empty : goal.returns-else-not-is_empty
 returns-else-not-is_empty c =

@@ -8,9 +8,15 @@ use Rattle.ll_search_tables.proofs.unify.solve.Goals as goal
 pub mgu-requires-clause-left_levels : goal.mgu-requires-clause-left_levels
 mgu-requires-clause-left_levels c =
     all-levelled c.build.new.bank (length c.args.levels.now) c.split_at-2.result.1.now
-    (subst (AreLevelled c.build.new.bank (length c.args.levels.now)) (sym c.split_at-2.ensures.back) (All-drop (λ (a : At). IsLevelled c.build.new.bank (length c.args.levels.now) a.0) (length c.split_at.result.0.now - c.args.pairs) c.split_at.result.0.now (subst (AreLevelled c.build.new.bank (length c.args.levels.now)) (sym c.split_at.ensures.front) (All-take (λ (a : At). IsLevelled c.build.new.bank (length c.args.levels.now) a.0) (c.len-2.result - c.args.pairs) c.deref.result.now (subst (AreLevelled c.build.new.bank (length c.args.levels.now)) (sym c.deref.ensures.value) (rw c.in-Some.is at c.in_ok-made.ensures))))))
+    (subst (AreLevelled c.build.new.bank (length c.args.levels.now)) (sym c.split_at-2.ensures.back)
+    (All-drop (λ (a : At). IsLevelled c.build.new.bank (length c.args.levels.now) a.0) (length c.split_at.result.0.now - c.args.pairs)
+    c.split_at.result.0.now (subst (AreLevelled c.build.new.bank (length c.args.levels.now)) (sym c.split_at.ensures.front)
+    (All-take (λ (a : At). IsLevelled c.build.new.bank (length c.args.levels.now) a.0) (c.len-2.result - c.args.pairs) c.deref.result.now
+    (subst (AreLevelled c.build.new.bank (length c.args.levels.now)) (sym c.deref.ensures.value) (rw c.in-Some.is at c.in_ok-made.ensures))))))
 
 pub mgu-requires-clause-right_levels : goal.mgu-requires-clause-right_levels
 mgu-requires-clause-right_levels c =
     all-levelled c.build.new.bank (length c.args.levels.now) c.split_at.result.1.now
-    (subst (AreLevelled c.build.new.bank (length c.args.levels.now)) (sym c.split_at.ensures.back) (All-drop (λ (a : At). IsLevelled c.build.new.bank (length c.args.levels.now) a.0) (c.len-2.result - c.args.pairs) c.deref.result.now (subst (AreLevelled c.build.new.bank (length c.args.levels.now)) (sym c.deref.ensures.value) (rw c.in-Some.is at c.in_ok-made.ensures))))
+    (subst (AreLevelled c.build.new.bank (length c.args.levels.now)) (sym c.split_at.ensures.back)
+    (All-drop (λ (a : At). IsLevelled c.build.new.bank (length c.args.levels.now) a.0) (c.len-2.result - c.args.pairs) c.deref.result.now
+    (subst (AreLevelled c.build.new.bank (length c.args.levels.now)) (sym c.deref.ensures.value) (rw c.in-Some.is at c.in_ok-made.ensures))))

@@ -5,17 +5,21 @@ use Rattle.ll_sequent.proofs.FormConstants.{gathering_begins, gathering_on, gath
 use Rattle.ll_sequent.proofs.constants.gather.Goals as goal
 
 pub loop-next-init : goal.loop-next-init
-loop-next-init c = gathering_begins c.args.bank.now (contains nat_cmp c.args.terms.now) c.args.form c.push.new.self.items (c.in_ok-push.ensures.items ∙ ap (λ xs. xs ++ c.args.form ∷ []) c.new-waiting.ensures.items) c.requires
+loop-next-init c = gathering_begins c.args.bank.now (contains nat_cmp c.args.terms.now) c.args.form c.push.new.self.items
+    (c.in_ok-push.ensures.items ∙ ap (λ xs. xs ++ c.args.form ∷ []) c.new-waiting.ensures.items) c.requires
 
 pub loop-next-smaller : goal.loop-next-smaller
 loop-next-smaller c =
-    form_sizes_less c.args.bank.now c.args.form.0 (contains nat_cmp c.args.terms.now) (contains nat_cmp c.loop-next.terms) (contains nat_cmp c.look_into.new.terms) c.loop-next.waiting.items
+    form_sizes_less c.args.bank.now c.args.form.0 (contains nat_cmp c.args.terms.now) (contains nat_cmp c.loop-next.terms)
+    (contains nat_cmp c.look_into.new.terms) c.loop-next.waiting.items
     c.pop.new.self.items c.look_into.new.waiting.items c.in-Some.next c.in-Some.ensures.items c.in_ok-look_into.ensures
 
 pub loop-next-preserved : goal.loop-next-preserved
 loop-next-preserved c =
-    gathering_on c.args.bank.now c.args.form.0 (contains nat_cmp c.args.terms.now) (contains nat_cmp c.loop-next.terms) (contains nat_cmp c.look_into.new.terms) c.loop-next.waiting.items
+    gathering_on c.args.bank.now c.args.form.0 (contains nat_cmp c.args.terms.now) (contains nat_cmp c.loop-next.terms) (contains nat_cmp c.look_into.new.terms)
+    c.loop-next.waiting.items
     c.pop.new.self.items c.look_into.new.waiting.items c.in-Some.next c.in-Some.ensures.items c.in_ok-look_into.ensures c.loop-next.invariant
 
 pub returns : goal.returns
-returns c = gathering_ends c.args.bank.now c.args.form.0 (contains nat_cmp c.args.terms.now) (contains nat_cmp c.loop-next.terms) c.loop-next.waiting.items (sym c.loop-next.waiting.ok.0 ∙ c.in_default.ensures.cases.0) c.loop-next.invariant
+returns c = gathering_ends c.args.bank.now c.args.form.0 (contains nat_cmp c.args.terms.now) (contains nat_cmp c.loop-next.terms) c.loop-next.waiting.items
+    (sym c.loop-next.waiting.ok.0 ∙ c.in_default.ensures.cases.0) c.loop-next.invariant

@@ -9,5 +9,6 @@ gather-requires c = form_at c.args.bank.now c.args.clauses.now c.loop-each.each-
 
 pub loop-each-preserved : goal.loop-each-preserved
 loop-each-preserved c =
-    gathers_next c.args.bank.now (contains nat_cmp c.args.terms.now) (contains nat_cmp c.loop-each.terms) (contains nat_cmp c.gather.new.terms) c.args.clauses.now c.loop-each.each-index
+    gathers_next c.args.bank.now (contains nat_cmp c.args.terms.now) (contains nat_cmp c.loop-each.terms) (contains nat_cmp c.gather.new.terms)
+    c.args.clauses.now c.loop-each.each-index
     (record { label = 0; form = record { 0 = 0 } }) (omega arith) c.loop-each.invariant c.in_ok-gather.ensures

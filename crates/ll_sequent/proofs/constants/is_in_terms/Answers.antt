@@ -8,11 +8,13 @@ use Rattle.ll_sequent.proofs.constants.is_in_terms.Goals as goal
 pub loop-place-smaller : goal.loop-place-smaller
 loop-place-smaller c =
     ceiling_falls c.loop-place.terms.keys c.pop_last.new.self.keys c.insert_all.new.terms.keys c.in-Some.place (places c.in-Some-parts.args.now)
-    c.in-Some.ensures.removal c.in-Some.ensures.all_below (λ at. c.in_ok-insert_all.ensures at) (below_places c.in-Some.place c.in-Some-parts.args.now c.in-Some-parts.ensures.lower)
+    c.in-Some.ensures.removal c.in-Some.ensures.all_below (λ at. c.in_ok-insert_all.ensures at)
+    (below_places c.in-Some.place c.in-Some-parts.args.now c.in-Some-parts.ensures.lower)
 
 pub loop-place-preserved : goal.loop-place-preserved
 loop-place-preserved c =
-    looking_on c.args.constant c.args.bank.now (contains nat_cmp c.args.terms) (contains nat_cmp c.loop-place.terms) (contains nat_cmp c.pop_last.new.self) (contains nat_cmp c.insert_all.new.terms)
+    looking_on c.args.constant c.args.bank.now (contains nat_cmp c.args.terms) (contains nat_cmp c.loop-place.terms) (contains nat_cmp c.pop_last.new.self)
+    (contains nat_cmp c.insert_all.new.terms)
     c.in-Some.place c.in-Some-parts.args.now c.loop-place.invariant c.in-Some.ensures.member
     (removed_other (contains nat_cmp c.loop-place.terms) (contains nat_cmp c.pop_last.new.self) c.in-Some.place c.in-Some.ensures.updates.0)
     (removed_less (contains nat_cmp c.loop-place.terms) (contains nat_cmp c.pop_last.new.self) c.in-Some.place c.in-Some.ensures.updates.0)

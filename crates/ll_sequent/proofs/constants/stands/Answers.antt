@@ -10,7 +10,8 @@ use Rattle.ll_sequent.proofs.constants.stands.Goals as goal
 
 pub is_in_terms-requires : goal.is_in_terms-requires
 is_in_terms-requires c =
-    c.in_ok-gather_all-2.ensures.inside (c.in_ok-gather_all.ensures.inside (c.in_ok-gather.ensures.inside (λ k e. absurd (none_in c.new-terms.result.keys c.new-terms.ensures.len k e))))
+    c.in_ok-gather_all-2.ensures.inside (c.in_ok-gather_all.ensures.inside
+    (c.in_ok-gather.ensures.inside (λ k e. absurd (none_in c.new-terms.result.keys c.new-terms.ensures.len k e))))
 
 pub returns : goal.returns
 returns c =
@@ -24,4 +25,5 @@ returns c =
     let bounded_has : ℕ → Bool = λ k. is_in_each k bank (forms_of c.args.bounded.now) in
     let g = gathers_both bank old one three goal_has (λ k. free_has k || bounded_has k) c.in_ok-gather.ensures
     (gathers_both bank one two three free_has bounded_has c.in_ok-gather_all.ensures c.in_ok-gather_all-2.ensures) in
-    found_in c.args.constant bank old three (λ k. goal_has k || (free_has k || bounded_has k)) c.in_ok-found.found g (λ k e. none_in c.new-terms.result.keys c.new-terms.ensures.len k e) c.in_ok-found.ensures
+    found_in c.args.constant bank old three (λ k. goal_has k || (free_has k || bounded_has k)) c.in_ok-found.found g
+    (λ k e. none_in c.new-terms.result.keys c.new-terms.ensures.len k e) c.in_ok-found.ensures

@@ -13,14 +13,17 @@ returns-in_err-put_copies-in-App-clause-keeps c = Extends-refl c.args.bank.now
 
 pub app-requires : goal.app-requires
 app-requires c =
-    let below = All-weaker (λ (a : At). a.0 < c.args.at.0) (λ (a : At). a.0 < length c.args.copies.now) (λ a h. let n = c.requires.next in omega arith) c.in-App.places.now c.in-App.ensures.shown.1 in
+    let below = All-weaker (λ (a : At). a.0 < c.args.at.0) (λ (a : At). a.0 < length c.args.copies.now) (λ a h. let n = c.requires.next in
+    omega arith) c.in-App.places.now c.in-App.ensures.shown.1 in
     let P : List At → Type 0 = AllInTerms c.args.bank.now in
     subst P (sym (c.deref.ensures.value ∙ c.in_ok-put_copies-in-App.ensures))
-    (copied_inside c.args.bank.now c.args.copies.now c.in-App.places.now (copies_inside c.args.terms.now c.args.bank.now c.args.copies.now c.requires.copies) below)
+    (copied_inside c.args.bank.now c.args.copies.now c.in-App.places.now (copies_inside c.args.terms.now c.args.bank.now c.args.copies.now c.requires.copies)
+    below)
 
 pub returns-in_ok-put_copies-in-App-clause-shows : goal.returns-in_ok-put_copies-in-App-clause-shows
 returns-in_ok-put_copies-in-App-clause-shows c =
-    let below = All-weaker (λ (a : At). a.0 < c.args.at.0) (λ (a : At). a.0 < length c.args.copies.now) (λ a h. let n = c.requires.next in omega arith) c.in-App.places.now c.in-App.ensures.shown.1 in
+    let below = All-weaker (λ (a : At). a.0 < c.args.at.0) (λ (a : At). a.0 < length c.args.copies.now) (λ a h. let n = c.requires.next in
+    omega arith) c.in-App.places.now c.in-App.ensures.shown.1 in
     let trees = ap (term_trees c.args.bank.now) (c.deref.ensures.value ∙ c.in_ok-put_copies-in-App.ensures)
     ∙ copied_trees c.args.terms.now c.args.bank.now c.args.copies.now c.requires.copies c.in-App.places.now below in
     let same = ap (λ ts. app c.in-App.head ts) trees ∙ sym c.in-App.ensures.shown.0 in

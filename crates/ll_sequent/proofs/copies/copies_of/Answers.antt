@@ -11,7 +11,13 @@ pub copy_all-requires-clause-copies : goal.copy_all-requires-clause-copies
 copy_all-requires-clause-copies c = rw c.new-copies.ensures.items (λ at d l. absurd (omega arith))
 
 pub loop-i-init : goal.loop-i-init
-loop-i-init c = record { copies = c.in_ok-copy_all.ensures.copies; asked = c.in_ok-copy_all.ensures.reach; lines = λ k d l. absurd (omega arith); keeps = c.in_ok-copy_all.ensures.keeps }
+loop-i-init c = record {
+  copies = c.in_ok-copy_all.ensures.copies;
+  asked = c.in_ok-copy_all.ensures.reach;
+  lines = λ k d l. absurd (omega arith);
+  keeps =
+      c.in_ok-copy_all.ensures.keeps;
+}
 
 pub returns-in_err-copy_line-clause-keeps : goal.returns-in_err-copy_line-clause-keeps
 returns-in_err-copy_line-clause-keeps c = Extends-trans c.loop-i.invariant.keeps c.copy_line.ensures.keeps
@@ -31,4 +37,5 @@ loop-i-preserved c =
     }
 
 pub returns-clause-lines : goal.returns-clause-lines
-returns-clause-lines c = let P : List Rule → Type 0 = All (IsLineBelow (length c.loop-i.copies.items)) in subst P (take_all c.loop-i.i c.args.rules.now (omega arith)) c.loop-i.invariant.lines
+returns-clause-lines c = let P : List Rule → Type 0 = All (IsLineBelow (length c.loop-i.copies.items)) in
+    subst P (take_all c.loop-i.i c.args.rules.now (omega arith)) c.loop-i.invariant.lines

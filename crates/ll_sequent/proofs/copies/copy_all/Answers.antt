@@ -17,7 +17,8 @@ pub loop-i-preserved : goal.loop-i-preserved
 loop-i-preserved c = record {
   copies = c.in_ok-copy_up_to.ensures.copies;
   reach = All-more (λ (a : At). a.0 < length c.copy_up_to.new.copies.items) c.args.places.now c.loop-i.i (record { 0 = 0 }) (omega arith)
-      (below_more (length c.loop-i.copies.items) (length c.copy_up_to.new.copies.items) c.in_ok-copy_up_to.ensures.more (take c.loop-i.i c.args.places.now) c.loop-i.invariant.reach)
+      (below_more (length c.loop-i.copies.items) (length c.copy_up_to.new.copies.items) c.in_ok-copy_up_to.ensures.more (take c.loop-i.i c.args.places.now)
+      c.loop-i.invariant.reach)
       c.in_ok-copy_up_to.ensures.reach;
   more = let so_far = c.loop-i.invariant.more in let more = c.in_ok-copy_up_to.ensures.more in omega arith;
   keeps = Extends-trans c.loop-i.invariant.keeps c.in_ok-copy_up_to.ensures.keeps;

@@ -21,8 +21,10 @@ returns-in_err-push-clause-keeps c = Extends-trans c.loop-last.invariant.keeps c
 pub loop-last-preserved : goal.loop-last-preserved
 loop-last-preserved c = record {
   copies = subst (AreCopies c.args.terms.now c.copied.new.bank) (sym c.in_ok-push.ensures.items)
-      (copies_more c.args.terms.now c.loop-last.bank c.copied.new.bank c.in_ok-copy.ensures.keeps c.loop-last.copies.items c.in_ok-copy.copy c.loop-last.invariant.copies
+      (copies_more c.args.terms.now c.loop-last.bank c.copied.new.bank c.in_ok-copy.ensures.keeps c.loop-last.copies.items c.in_ok-copy.copy
+      c.loop-last.invariant.copies
       (subst (λ n. ShowsTerm c.copied.new.bank c.in_ok-copy.copy.0 (term_tree c.args.terms.now n)) (omega arith) c.in_ok-copy.ensures.shows));
-  more = let push = ap length c.in_ok-push.ensures.items in let one = length_push c.loop-last.copies.items c.in_ok-copy.copy in let so_far = c.loop-last.invariant.more in omega arith;
+  more = let push = ap length c.in_ok-push.ensures.items in let one = length_push c.loop-last.copies.items c.in_ok-copy.copy in
+      let so_far = c.loop-last.invariant.more in omega arith;
   keeps = Extends-trans c.loop-last.invariant.keeps c.in_ok-copy.ensures.keeps;
 }

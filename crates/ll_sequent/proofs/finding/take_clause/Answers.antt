@@ -12,7 +12,8 @@ pub returns-in-Some-place_of-clause-found : goal.returns-in-Some-place_of-clause
 returns-in-Some-place_of-clause-found c = λ bank.
     found_bounded bank c.args.label c.args.free.now c.args.bounded.now.items c.in-Some-place_of.place c.remove.result c.remove.new.self.items
     (sym c.newest.ensures ∙ not_some c.newest.result c.in_default.not-Some)
-    (ap (position (λ (r : Resource). nat_eq c.args.label r.label)) (sym c.deref.ensures.value) ∙ (sym c.place_of.ensures ∙ c.in-Some-place_of.is)) c.remove.ensures.value c.remove.ensures.items
+    (ap (position (λ (r : Resource). nat_eq c.args.label r.label)) (sym c.deref.ensures.value) ∙ (sym c.place_of.ensures ∙ c.in-Some-place_of.is))
+    c.remove.ensures.value c.remove.ensures.items
 
 pub returns-in-None-clause-found : goal.returns-in-None-clause-found
 returns-in-None-clause-found c = λ bank.
@@ -20,12 +21,18 @@ returns-in-None-clause-found c = λ bank.
     (ap (position (λ (r : Resource). nat_eq c.args.label r.label)) (sym c.deref.ensures.value) ∙ (sym c.place_of.ensures ∙ c.in-None.is))
 
 pub returns-in-Some-clause-held : goal.returns-in-Some-clause-held
-returns-in-Some-clause-held c = λ modules bank h b. (b, held_found modules bank (λ (r : Resource). nat_eq c.args.label r.label) c.args.free.now c.in-Some.found h (sym c.in-Some.ensures))
+returns-in-Some-clause-held c = λ modules bank h b. (
+  b,
+  held_found modules bank (λ (r : Resource). nat_eq c.args.label r.label) c.args.free.now c.in-Some.found
+      h (sym c.in-Some.ensures),
+)
 
 pub returns-in-Some-place_of-clause-held : goal.returns-in-Some-place_of-clause-held
-returns-in-Some-place_of-clause-held c = λ modules bank h b. held_removed modules bank c.args.bounded.now.items c.in-Some-place_of.place c.remove.result c.remove.new.self.items b
+returns-in-Some-place_of-clause-held c = λ modules bank h b.
+    held_removed modules bank c.args.bounded.now.items c.in-Some-place_of.place c.remove.result c.remove.new.self.items b
     (position_low (λ (r : Resource). nat_eq c.args.label r.label) c.args.bounded.now.items c.in-Some-place_of.place
-    (ap (position (λ (r : Resource). nat_eq c.args.label r.label)) (sym c.deref.ensures.value) ∙ (sym c.place_of.ensures ∙ c.in-Some-place_of.is))) c.remove.ensures.value c.remove.ensures.items
+    (ap (position (λ (r : Resource). nat_eq c.args.label r.label)) (sym c.deref.ensures.value) ∙ (sym c.place_of.ensures ∙ c.in-Some-place_of.is)))
+    c.remove.ensures.value c.remove.ensures.items
 
 pub returns-in-None-clause-held : goal.returns-in-None-clause-held
 returns-in-None-clause-held c = λ modules bank h b. b

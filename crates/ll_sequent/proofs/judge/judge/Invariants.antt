@@ -20,5 +20,6 @@ invariant-loop-node l =
       keeps : Extends l.fn.start.bank l.bank;
       waiting : AreWaiting modules l.bank (length l.free.items) l.waiting.items;
       free : AreHeld modules l.bank l.free.items;
-      owes : (x : Tree) → trees_of lines ≡ Some (x ∷ []) → Owes (beside ops modules) (fault_at ops modules x root) (suc l.node) (drop l.node lines) (waiting_in l.bank l.free.items l.waiting.items);
+      owes : (x : Tree) → trees_of lines ≡ Some (x ∷ []) → Owes (beside ops modules) (fault_at ops modules x root) (suc l.node) (drop l.node lines)
+          (waiting_in l.bank l.free.items l.waiting.items);
     }

@@ -15,4 +15,6 @@ pub returns-in_ok-step-in-Lolli : goal.returns-in_ok-step-in-Lolli
 returns-in_ok-step-in-Lolli c =
     let a = c.is_new.ensures in let b = c.if-not-is_new.false in let d = c.if-not-is_new.ensures in let v = c.deref.ensures.value in
     let fresh : not (has_resource c.args.free.now c.args.label || has_resource c.args.sequent.bounded.items c.args.label) ≡ true = first_of (cc, grind arith) in
-    lolli_steps c.args.bank.now c.args.free.now c.args.sequent c.in-Lolli.clause c.in-Lolli.goal c.args.label _ c.in_ok-step-in-Lolli.step c.in-Lolli.ensures.shown fresh (record { same = refl; has_bounded = c.in_ok-push-in-Lolli.ensures.items; has_goal = refl }) c.in_ok-step-in-Lolli.ensures
+    lolli_steps c.args.bank.now c.args.free.now c.args.sequent c.in-Lolli.clause c.in-Lolli.goal c.args.label _ c.in_ok-step-in-Lolli.step
+    c.in-Lolli.ensures.shown fresh (record { same = refl; has_bounded = c.in_ok-push-in-Lolli.ensures.items; has_goal = refl })
+    c.in_ok-step-in-Lolli.ensures

@@ -7,16 +7,19 @@ use Rattle.ll_sequent.proofs.opening.exists.Goals as goal
 
 pub instantiate-requires-clause-heads : goal.instantiate-requires-clause-heads
 instantiate-requires-clause-heads c =
-    exists_heads c.args.bank.now c.args.sequent.goal.0 c.in-Exists.body (term_tree c.args.bank.now c.args.value.0) c.in-Exists.ensures.shown c.requires.heads c.requires.closed
+    exists_heads c.args.bank.now c.args.sequent.goal.0 c.in-Exists.body (term_tree c.args.bank.now c.args.value.0) c.in-Exists.ensures.shown c.requires.heads
+    c.requires.closed
 
 pub returns-in_ok-step-in-Exists-clause-is : goal.returns-in_ok-step-in-Exists-clause-is
 returns-in_ok-step-in-Exists-clause-is c =
-    exists_steps c.args.bank.now c.instantiate.new.self c.args.sequent (record { free = c.args.sequent.free; bounded = c.args.sequent.bounded; goal = c.in_ok-goal-in-Exists.goal })
+    exists_steps c.args.bank.now c.instantiate.new.self c.args.sequent
+    (record { free = c.args.sequent.free; bounded = c.args.sequent.bounded; goal = c.in_ok-goal-in-Exists.goal })
     c.in-Exists.body (term_tree c.args.bank.now c.args.value.0) c.in_ok-step-in-Exists.step c.in-Exists.ensures.shown c.requires.closed
     c.in_ok-goal-in-Exists.ensures.keeps c.in_ok-goal-in-Exists.ensures.shows refl refl c.in_ok-step-in-Exists.ensures
 
 pub returns-in_default : goal.returns-in_default
 returns-in_default c = record {
-  is = exists_refused c.args.bank.now c.args.sequent (term_tree c.args.bank.now c.args.value.0) c.form_at.result (Refused 1) c.form_at.ensures.shown c.in_default.not-Exists refl;
+  is = exists_refused c.args.bank.now c.args.sequent (term_tree c.args.bank.now c.args.value.0) c.form_at.result (Refused 1) c.form_at.ensures.shown
+      c.in_default.not-Exists refl;
   keeps = Extends-refl c.args.bank.now;
 }

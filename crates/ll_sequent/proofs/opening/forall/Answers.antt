@@ -17,7 +17,8 @@ returns-then-branch-clause-keeps c = Extends-refl c.args.bank.now
 pub returns-then-branch-clause-is : goal.returns-then-branch-clause-is
 returns-then-branch-clause-is c =
     forall_known c.args.bank.now c.args.free.now c.args.sequent c.args.constant c.in-Forall.body c.in-Forall.ensures.shown
-    (ap (stands_in c.args.constant c.args.bank.now c.in-Forall.body c.args.free.now) (sym c.deref.ensures.value) ∙ (sym c.in_ok-stands-in-Forall.ensures ∙ c.if-branch.true))
+    (ap (stands_in c.args.constant c.args.bank.now c.in-Forall.body c.args.free.now) (sym c.deref.ensures.value)
+    ∙ (sym c.in_ok-stands-in-Forall.ensures ∙ c.if-branch.true))
 
 pub instantiate-requires-clause-heads : goal.instantiate-requires-clause-heads
 instantiate-requires-clause-heads c =
@@ -32,14 +33,16 @@ returns-in_ok-step-in-Forall-clause-is c =
     let low = c.in-Forall.ensures.shown.parts in let high = c.requires.goal in
     let inside : HasForm c.args.bank.now c.in-Forall.body.0 = omega arith in
     let same = form_tree-extends c.in_ok-value-in-Forall.ensures.keeps c.in-Forall.body.0 inside in
-    let shows : ShowsForm c.instantiate.new.self c.in_ok-goal-in-Forall.goal.0 (instantiate (form_tree c.args.bank.now c.in-Forall.body.0) (Con (Eigen c.args.constant))) =
+    let shows : ShowsForm c.instantiate.new.self c.in_ok-goal-in-Forall.goal.0
+    (instantiate (form_tree c.args.bank.now c.in-Forall.body.0) (Con (Eigen c.args.constant))) =
     record {
       inside = c.in_ok-goal-in-Forall.ensures.shows.inside;
       tree = c.in_ok-goal-in-Forall.ensures.shows.tree ∙ (λ i. instantiate (same i) (c.in_ok-value-in-Forall.ensures.shows.tree i));
     } in
     forall_steps c.args.bank.now c.args.free.now c.args.sequent c.args.constant c.in-Forall.body c.in-Forall.ensures.shown c.instantiate.new.self
     (record { free = c.args.sequent.free; bounded = c.args.sequent.bounded; goal = c.in_ok-goal-in-Forall.goal }) c.in_ok-step-in-Forall.step
-    (ap (stands_in c.args.constant c.args.bank.now c.in-Forall.body c.args.free.now) (sym c.deref.ensures.value) ∙ (sym c.in_ok-stands-in-Forall.ensures ∙ c.if-branch.false))
+    (ap (stands_in c.args.constant c.args.bank.now c.in-Forall.body c.args.free.now) (sym c.deref.ensures.value)
+    ∙ (sym c.in_ok-stands-in-Forall.ensures ∙ c.if-branch.false))
     (Extends-trans c.in_ok-value-in-Forall.ensures.keeps c.in_ok-goal-in-Forall.ensures.keeps) shows refl refl c.in_ok-step-in-Forall.ensures
 
 pub returns-in_default : goal.returns-in_default

@@ -16,7 +16,8 @@ unfold-requires-clause-count c =
     let low : c.in-Use.number < length c.args.modules.now = ltb-true _ _ (sym l.0) in
     let same = c.deref.ensures.value ∙ c.in_ok-args-in-Use.ensures.items in
     load_count c.args.bank.now c.args.modules.now c.in-Use.number c.in-Some.module.now c.deref.result.now c.in-Use.body c.args.sequent low l.1
-    (c.in-Use.ensures.shown.tree ∙ ap (λ xs. Use c.in-Use.number (term_trees c.args.bank.now xs) (form_tree c.args.bank.now c.in-Use.body.0)) (sym same)) c.requires.modules c.requires.sequent
+    (c.in-Use.ensures.shown.tree ∙ ap (λ xs. Use c.in-Use.number (term_trees c.args.bank.now xs) (form_tree c.args.bank.now c.in-Use.body.0)) (sym same))
+    c.requires.modules c.requires.sequent
 
 pub unfold-requires-clause-heads : goal.unfold-requires-clause-heads
 unfold-requires-clause-heads c =
@@ -24,7 +25,8 @@ unfold-requires-clause-heads c =
     let low : c.in-Use.number < length c.args.modules.now = ltb-true _ _ (sym l.0) in
     let same = c.deref.ensures.value ∙ c.in_ok-args-in-Use.ensures.items in
     load_heads c.args.bank.now c.args.modules.now c.in-Use.number c.in-Some.module.now c.deref.result.now c.in-Use.body c.args.sequent low l.1
-    (c.in-Use.ensures.shown.tree ∙ ap (λ xs. Use c.in-Use.number (term_trees c.args.bank.now xs) (form_tree c.args.bank.now c.in-Use.body.0)) (sym same)) c.requires.modules c.requires.sequent
+    (c.in-Use.ensures.shown.tree ∙ ap (λ xs. Use c.in-Use.number (term_trees c.args.bank.now xs) (form_tree c.args.bank.now c.in-Use.body.0)) (sym same))
+    c.requires.modules c.requires.sequent
 
 pub returns-in_ok-step-in-Use-clause-is : goal.returns-in_ok-step-in-Use-clause-is
 returns-in_ok-step-in-Use-clause-is c =
@@ -32,11 +34,14 @@ returns-in_ok-step-in-Use-clause-is c =
     let low : c.in-Use.number < length c.args.modules.now = ltb-true _ _ (sym l.0) in
     let same = c.deref.ensures.value ∙ c.in_ok-args-in-Use.ensures.items in
     load_steps c.args.bank.now c.args.modules.now c.in-Use.number c.in-Some.module.now c.deref.result.now c.in-Use.body c.args.sequent low l.1
-    (c.in-Use.ensures.shown.tree ∙ ap (λ xs. Use c.in-Use.number (term_trees c.args.bank.now xs) (form_tree c.args.bank.now c.in-Use.body.0)) (sym same)) c.requires.modules c.requires.sequent
-    c.unfold.new.bank (record { free = c.args.sequent.free; bounded = c.args.sequent.bounded; goal = c.in_ok-goal-in-Use.goal }) c.in_ok-step-in-Use.step c.in_ok-goal-in-Use.ensures.keeps c.in_ok-goal-in-Use.ensures.shows refl refl c.in_ok-step-in-Use.ensures
+    (c.in-Use.ensures.shown.tree ∙ ap (λ xs. Use c.in-Use.number (term_trees c.args.bank.now xs) (form_tree c.args.bank.now c.in-Use.body.0)) (sym same))
+    c.requires.modules c.requires.sequent
+    c.unfold.new.bank (record { free = c.args.sequent.free; bounded = c.args.sequent.bounded; goal = c.in_ok-goal-in-Use.goal }) c.in_ok-step-in-Use.step
+    c.in_ok-goal-in-Use.ensures.keeps c.in_ok-goal-in-Use.ensures.shows refl refl c.in_ok-step-in-Use.ensures
 
 pub returns-in_default : goal.returns-in_default
 returns-in_default c = record {
-  is = λ ops. use_refused c.args.bank.now c.args.sequent c.form_at.result c.form_at.ensures.shown c.in_default.not-Use ops (map (module_tree c.args.bank.now) c.args.modules.now);
+  is = λ ops. use_refused c.args.bank.now c.args.sequent c.form_at.result c.form_at.ensures.shown c.in_default.not-Use ops
+      (map (module_tree c.args.bank.now) c.args.modules.now);
   keeps = Extends-refl c.args.bank.now;
 }

@@ -17,6 +17,14 @@ returns-in-Tensor c =
     let a = c.deal.ensures in let b = c.if-not-deal.false in let d = c.if-not-deal.ensures in let v = c.deref.ensures.value in
     let yes : deals c.args.left.now c.args.right.now c.args.sequent.bounded.items ≡ true = first_of (cc, grind arith) in
     let w = c.deref-in-Tensor.ensures.value in let x = c.deref-in-Tensor-2.ensures.value in
-    tensor_makes c.args.bank.now c.args.sequent c.in-Tensor.g c.in-Tensor.h c.args.left.now c.args.right.now (record { free = c.args.sequent.free; bounded = c.in_ok-part_of-in-Tensor.field-0; goal = c.in-Tensor.g }) (record { free = c.args.sequent.free; bounded = c.in_ok-part_of-in-Tensor-2.field-0; goal = c.in-Tensor.h }) c.in_ok-step-in-Tensor.step c.in-Tensor.ensures.shown yes
+    tensor_makes c.args.bank.now c.args.sequent c.in-Tensor.g c.in-Tensor.h c.args.left.now c.args.right.now
+    (record { free = c.args.sequent.free; bounded = c.in_ok-part_of-in-Tensor.field-0; goal = c.in-Tensor.g })
+    (record { free = c.args.sequent.free; bounded = c.in_ok-part_of-in-Tensor-2.field-0; goal = c.in-Tensor.h }) c.in_ok-step-in-Tensor.step
+    c.in-Tensor.ensures.shown yes
     (record { same = refl; has_bounded = c.in_ok-part_of-in-Tensor.ensures ∙ ap (filter (λ (r : Resource). has c.args.left.now r.label)) w; has_goal = refl })
-    (record { same = refl; has_bounded = c.in_ok-part_of-in-Tensor-2.ensures ∙ ap (filter (λ (r : Resource). has c.args.right.now r.label)) x; has_goal = refl }) c.in_ok-step-in-Tensor.ensures
+    (record {
+      same = refl;
+      has_bounded = c.in_ok-part_of-in-Tensor-2.ensures ∙ ap (filter (λ (r : Resource). has c.args.right.now r.label)) x;
+      has_goal =
+          refl;
+    }) c.in_ok-step-in-Tensor.ensures

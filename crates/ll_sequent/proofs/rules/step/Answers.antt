@@ -16,13 +16,15 @@ use Rattle.ll_sequent.proofs.ForallLemmas.{forms_held}
 use Rattle.ll_sequent.proofs.rules.step.Goals as goal
 
 pub returns-in-One-clause-is : goal.returns-in-One-clause-is
-returns-in-One-clause-is c = rw c.in-One.is (makes_step c.args.bank.now OneLine c.args.sequent c.one.result c.args.free.now.items c.one.ensures (operators_of c.args.names.now) (map (module_tree c.args.bank.now) c.args.modules.now) c.requires.holds)
+returns-in-One-clause-is c = rw c.in-One.is (makes_step c.args.bank.now OneLine c.args.sequent c.one.result c.args.free.now.items c.one.ensures
+    (operators_of c.args.names.now) (map (module_tree c.args.bank.now) c.args.modules.now) c.requires.holds)
 
 pub returns-in-One-clause-keeps : goal.returns-in-One-clause-keeps
 returns-in-One-clause-keeps c = Extends-refl c.args.bank.now
 
 pub returns-in-Erase-clause-is : goal.returns-in-Erase-clause-is
-returns-in-Erase-clause-is c = rw c.in-Erase.is (makes_step c.args.bank.now EraseLine c.args.sequent c.erase.result c.args.free.now.items c.erase.ensures (operators_of c.args.names.now) (map (module_tree c.args.bank.now) c.args.modules.now) c.requires.holds)
+returns-in-Erase-clause-is c = rw c.in-Erase.is (makes_step c.args.bank.now EraseLine c.args.sequent c.erase.result c.args.free.now.items c.erase.ensures
+    (operators_of c.args.names.now) (map (module_tree c.args.bank.now) c.args.modules.now) c.requires.holds)
 
 pub returns-in-Erase-clause-keeps : goal.returns-in-Erase-clause-keeps
 returns-in-Erase-clause-keeps c = Extends-refl c.args.bank.now
@@ -70,36 +72,48 @@ pub returns-in_ok-step-in-Imp-clause-keeps : goal.returns-in_ok-step-in-Imp-clau
 returns-in_ok-step-in-Imp-clause-keeps c = Extends-refl c.args.bank.now
 
 pub returns-in_ok-step-in-With-clause-is : goal.returns-in_ok-step-in-With-clause-is
-returns-in_ok-step-in-With-clause-is c = rw c.in-With.is (makes_step c.args.bank.now WithLine c.args.sequent c.in_ok-step-in-With.step c.args.free.now.items c.in_ok-step-in-With.ensures (operators_of c.args.names.now) (map (module_tree c.args.bank.now) c.args.modules.now) c.requires.holds)
+returns-in_ok-step-in-With-clause-is c = rw c.in-With.is (makes_step c.args.bank.now WithLine c.args.sequent c.in_ok-step-in-With.step c.args.free.now.items
+    c.in_ok-step-in-With.ensures (operators_of c.args.names.now) (map (module_tree c.args.bank.now) c.args.modules.now) c.requires.holds)
 
 pub returns-in_ok-step-in-Left-clause-is : goal.returns-in_ok-step-in-Left-clause-is
-returns-in_ok-step-in-Left-clause-is c = rw c.in-Left.is (makes_step c.args.bank.now LeftLine c.args.sequent c.in_ok-step-in-Left.step c.args.free.now.items c.in_ok-step-in-Left.ensures (operators_of c.args.names.now) (map (module_tree c.args.bank.now) c.args.modules.now) c.requires.holds)
+returns-in_ok-step-in-Left-clause-is c = rw c.in-Left.is (makes_step c.args.bank.now LeftLine c.args.sequent c.in_ok-step-in-Left.step c.args.free.now.items
+    c.in_ok-step-in-Left.ensures (operators_of c.args.names.now) (map (module_tree c.args.bank.now) c.args.modules.now) c.requires.holds)
 
 pub returns-in_ok-step-in-Right-clause-is : goal.returns-in_ok-step-in-Right-clause-is
-returns-in_ok-step-in-Right-clause-is c = rw c.in-Right.is (makes_step c.args.bank.now RightLine c.args.sequent c.in_ok-step-in-Right.step c.args.free.now.items c.in_ok-step-in-Right.ensures (operators_of c.args.names.now) (map (module_tree c.args.bank.now) c.args.modules.now) c.requires.holds)
+returns-in_ok-step-in-Right-clause-is c = rw c.in-Right.is (makes_step c.args.bank.now RightLine c.args.sequent c.in_ok-step-in-Right.step c.args.free.now.items
+    c.in_ok-step-in-Right.ensures (operators_of c.args.names.now) (map (module_tree c.args.bank.now) c.args.modules.now) c.requires.holds)
 
 pub returns-in_ok-step-in-Bang-clause-is : goal.returns-in_ok-step-in-Bang-clause-is
-returns-in_ok-step-in-Bang-clause-is c = rw c.in-Bang.is (makes_step c.args.bank.now BangLine c.args.sequent c.in_ok-step-in-Bang.step c.args.free.now.items c.in_ok-step-in-Bang.ensures (operators_of c.args.names.now) (map (module_tree c.args.bank.now) c.args.modules.now) c.requires.holds)
+returns-in_ok-step-in-Bang-clause-is c = rw c.in-Bang.is (makes_step c.args.bank.now BangLine c.args.sequent c.in_ok-step-in-Bang.step c.args.free.now.items
+    c.in_ok-step-in-Bang.ensures (operators_of c.args.names.now) (map (module_tree c.args.bank.now) c.args.modules.now) c.requires.holds)
 
 pub returns-in_ok-step-in-Tensor-clause-is : goal.returns-in_ok-step-in-Tensor-clause-is
 returns-in_ok-step-in-Tensor-clause-is c =
-    let P : Line → Type 0 = λ l. IsStep (operators_of c.args.names.now) (map (module_tree c.args.bank.now) c.args.modules.now) l (sequent_in c.args.bank.now c.args.free.now.items c.args.sequent) c.args.bank.now c.args.free.now.items c.args.free.now.items c.in_ok-step-in-Tensor.step in
+    let P : Line → Type 0 = λ l. IsStep (operators_of c.args.names.now) (map (module_tree c.args.bank.now) c.args.modules.now) l
+    (sequent_in c.args.bank.now c.args.free.now.items c.args.sequent) c.args.bank.now c.args.free.now.items c.args.free.now.items
+    c.in_ok-step-in-Tensor.step in
     rw c.in-Tensor.is
     (subst P (λ i. TensorLine (c.deref.ensures.value i) (c.deref-in-Tensor.ensures.value i))
-    (makes_step c.args.bank.now (TensorLine c.deref.result.now c.deref-in-Tensor.result.now) c.args.sequent c.in_ok-step-in-Tensor.step c.args.free.now.items c.in_ok-step-in-Tensor.ensures (operators_of c.args.names.now) (map (module_tree c.args.bank.now) c.args.modules.now) c.requires.holds))
+    (makes_step c.args.bank.now (TensorLine c.deref.result.now c.deref-in-Tensor.result.now) c.args.sequent c.in_ok-step-in-Tensor.step c.args.free.now.items
+    c.in_ok-step-in-Tensor.ensures (operators_of c.args.names.now) (map (module_tree c.args.bank.now) c.args.modules.now) c.requires.holds))
 
 pub returns-in_ok-step-in-Exists-clause-is : goal.returns-in_ok-step-in-Exists-clause-is
 returns-in_ok-step-in-Exists-clause-is c =
-    let P : At → Type 0 = λ v. IsStep (operators_of c.args.names.now) (map (module_tree c.args.bank.now) c.args.modules.now) (ExistsLine (term_tree c.args.bank.now v.0)) (sequent_in c.args.bank.now c.args.free.now.items c.args.sequent) c.exists.new.bank c.args.free.now.items c.args.free.now.items c.in_ok-step-in-Exists.step in
-    rw c.in-Exists.is (subst P c.copy_at-value.ensures (c.in_ok-step-in-Exists.ensures.is (operators_of c.args.names.now) (map (module_tree c.args.bank.now) c.args.modules.now) c.args.free.now.items c.requires.holds))
+    let P : At → Type 0 = λ v. IsStep (operators_of c.args.names.now) (map (module_tree c.args.bank.now) c.args.modules.now)
+    (ExistsLine (term_tree c.args.bank.now v.0)) (sequent_in c.args.bank.now c.args.free.now.items c.args.sequent) c.exists.new.bank c.args.free.now.items
+    c.args.free.now.items c.in_ok-step-in-Exists.step in
+    rw c.in-Exists.is (subst P c.copy_at-value.ensures (c.in_ok-step-in-Exists.ensures.is (operators_of c.args.names.now)
+    (map (module_tree c.args.bank.now) c.args.modules.now) c.args.free.now.items c.requires.holds))
 
 pub forall-requires-clause-free : goal.forall-requires-clause-free
 forall-requires-clause-free c =
     let P : List Resource → Type 0 = λ rs. AllInForms c.args.bank.now (forms_of rs) in
-    subst P (sym c.deref-in-Forall.ensures.value) (forms_held (map (module_tree c.args.bank.now) c.args.modules.now) c.args.bank.now c.args.free.now.items c.requires.holds.unbounded)
+    subst P (sym c.deref-in-Forall.ensures.value) (forms_held (map (module_tree c.args.bank.now) c.args.modules.now) c.args.bank.now c.args.free.now.items
+    c.requires.holds.unbounded)
 
 pub forall-requires-clause-bounded : goal.forall-requires-clause-bounded
-forall-requires-clause-bounded c = forms_held (map (module_tree c.args.bank.now) c.args.modules.now) c.args.bank.now c.args.sequent.bounded.items c.requires.holds.sequent.bounded
+forall-requires-clause-bounded c = forms_held (map (module_tree c.args.bank.now) c.args.modules.now) c.args.bank.now c.args.sequent.bounded.items
+    c.requires.holds.sequent.bounded
 
 pub returns-in_err-step-in-Num-clause-keeps : goal.returns-in_err-step-in-Num-clause-keeps
 returns-in_err-step-in-Num-clause-keeps c = Extends-refl c.args.bank.now
@@ -108,26 +122,32 @@ pub returns-in_ok-step-in-Num-clause-keeps : goal.returns-in_ok-step-in-Num-clau
 returns-in_ok-step-in-Num-clause-keeps c = Extends-refl c.args.bank.now
 
 pub returns-in_ok-step-in-Num-clause-is : goal.returns-in_ok-step-in-Num-clause-is
-returns-in_ok-step-in-Num-clause-is c = rw c.in-Num.is (makes_step_by (operators_of c.args.names.now) c.args.bank.now NumLine c.args.sequent c.in_ok-step-in-Num.step c.args.free.now.items c.in_ok-step-in-Num.ensures (map (module_tree c.args.bank.now) c.args.modules.now) c.requires.holds)
+returns-in_ok-step-in-Num-clause-is c = rw c.in-Num.is (makes_step_by (operators_of c.args.names.now) c.args.bank.now NumLine c.args.sequent
+    c.in_ok-step-in-Num.step c.args.free.now.items c.in_ok-step-in-Num.ensures (map (module_tree c.args.bank.now) c.args.modules.now) c.requires.holds)
 
 pub returns-in_ok-step-in-Lolli-clause-is : goal.returns-in_ok-step-in-Lolli-clause-is
 returns-in_ok-step-in-Lolli-clause-is c =
-    let e = rw c.deref-in-Lolli.ensures.value at (c.in_ok-step-in-Lolli.ensures (operators_of c.args.names.now) (map (module_tree c.args.bank.now) c.args.modules.now)) in rw c.in-Lolli.is (e c.requires.holds)
+    let e = rw c.deref-in-Lolli.ensures.value at (c.in_ok-step-in-Lolli.ensures (operators_of c.args.names.now)
+    (map (module_tree c.args.bank.now) c.args.modules.now)) in rw c.in-Lolli.is (e c.requires.holds)
 
 pub returns-in_ok-step-in-Imp-clause-is : goal.returns-in_ok-step-in-Imp-clause-is
-returns-in_ok-step-in-Imp-clause-is c = rw c.in-Imp.is (c.in_ok-step-in-Imp.ensures (operators_of c.args.names.now) (map (module_tree c.args.bank.now) c.args.modules.now) c.requires.holds)
+returns-in_ok-step-in-Imp-clause-is c = rw c.in-Imp.is (c.in_ok-step-in-Imp.ensures (operators_of c.args.names.now)
+    (map (module_tree c.args.bank.now) c.args.modules.now) c.requires.holds)
 
 pub returns-in_ok-step-in-Forall-clause-is : goal.returns-in_ok-step-in-Forall-clause-is
 returns-in_ok-step-in-Forall-clause-is c =
-    let e = rw c.deref-in-Forall.ensures.value at (c.in_ok-step-in-Forall.ensures.is (operators_of c.args.names.now) (map (module_tree c.args.bank.now) c.args.modules.now)) in rw c.in-Forall.is (e c.requires.holds)
+    let e = rw c.deref-in-Forall.ensures.value at (c.in_ok-step-in-Forall.ensures.is (operators_of c.args.names.now)
+    (map (module_tree c.args.bank.now) c.args.modules.now)) in rw c.in-Forall.is (e c.requires.holds)
 
 pub returns-in_ok-step-in-Use-clause-is : goal.returns-in_ok-step-in-Use-clause-is
 returns-in_ok-step-in-Use-clause-is c = rw c.in-Use.is (c.in_ok-step-in-Use.ensures.is (operators_of c.args.names.now) c.args.free.now.items c.requires.holds)
 
 pub returns-in_ok-step-in-Clause-clause-is : goal.returns-in_ok-step-in-Clause-clause-is
 returns-in_ok-step-in-Clause-clause-is c =
-    let places = c.deref-in-Clause-2.ensures.value ∙ (c.in_ok-values-in-Clause.ensures ∙ ap (λ ts. copied_places c.args.copies.now ts) c.deref-in-Clause.ensures.value) in
-    let e = rw (places, c.deref-in-Clause-3.ensures.value, c.deref-in-Clause-4.ensures.value) at (c.in_ok-step-in-Clause.ensures.is (operators_of c.args.names.now)) in rw c.in-Clause.is e
+    let places = c.deref-in-Clause-2.ensures.value ∙ (c.in_ok-values-in-Clause.ensures
+    ∙ ap (λ ts. copied_places c.args.copies.now ts) c.deref-in-Clause.ensures.value) in
+    let e = rw (places, c.deref-in-Clause-3.ensures.value, c.deref-in-Clause-4.ensures.value) at
+    (c.in_ok-step-in-Clause.ensures.is (operators_of c.args.names.now)) in rw c.in-Clause.is e
 
 pub returns-in_err-values-in-Clause-clause-keeps : goal.returns-in_err-values-in-Clause-clause-keeps
 returns-in_err-values-in-Clause-clause-keeps c = Extends-refl c.args.bank.now
@@ -135,6 +155,7 @@ returns-in_err-values-in-Clause-clause-keeps c = Extends-refl c.args.bank.now
 pub clause-requires-clause-inside : goal.clause-requires-clause-inside
 clause-requires-clause-inside c =
     let below = rw c.in-Clause.is at c.requires.reach in
-    let places = c.deref-in-Clause-2.ensures.value ∙ (c.in_ok-values-in-Clause.ensures ∙ ap (λ ts. copied_places c.args.copies.now ts) c.deref-in-Clause.ensures.value) in
+    let places = c.deref-in-Clause-2.ensures.value ∙ (c.in_ok-values-in-Clause.ensures
+    ∙ ap (λ ts. copied_places c.args.copies.now ts) c.deref-in-Clause.ensures.value) in
     let P : List At → Type 0 = AllInTerms c.args.bank.now in
     subst P (sym places) (copied_inside c.args.bank.now c.args.copies.now c.in-Clause.terms.items c.requires.inside below)

@@ -7,18 +7,22 @@ pub loop-init : goal.loop-init
 loop-init c =
     let p : Pair = record { left = c.args.left; right = c.args.right } in
     record {
-      inside = pairs_more c.args.bank.now c.new-pairs.result.items c.push.new.self.items p c.in_ok-push.ensures.items (rw c.new-pairs.ensures.items (λ k d l. absurd (omega arith))) c.requires.left c.requires.right;
+      inside = pairs_more c.args.bank.now c.new-pairs.result.items c.push.new.self.items p c.in_ok-push.ensures.items
+          (rw c.new-pairs.ensures.items (λ k d l. absurd (omega arith))) c.requires.left c.requires.right;
       same = λ h. (same_fewer c.args.bank.now c.new-pairs.result.items c.push.new.self.items p c.in_ok-push.ensures.items h).1;
     }
 
 pub open-requires-clause-left : goal.open-requires-clause-left
-open-requires-clause-left c = (pairs_fewer c.args.bank.now c.pop.new.self.items c.loop.pairs.items c.in-Some.pair c.in-Some.ensures.items c.loop.invariant.inside).1.0
+open-requires-clause-left c = (pairs_fewer c.args.bank.now c.pop.new.self.items c.loop.pairs.items c.in-Some.pair c.in-Some.ensures.items
+    c.loop.invariant.inside).1.0
 
 pub open-requires-clause-right : goal.open-requires-clause-right
-open-requires-clause-right c = (pairs_fewer c.args.bank.now c.pop.new.self.items c.loop.pairs.items c.in-Some.pair c.in-Some.ensures.items c.loop.invariant.inside).1.1
+open-requires-clause-right c = (pairs_fewer c.args.bank.now c.pop.new.self.items c.loop.pairs.items c.in-Some.pair c.in-Some.ensures.items
+    c.loop.invariant.inside).1.1
 
 pub open-requires-clause-inside : goal.open-requires-clause-inside
-open-requires-clause-inside c = (pairs_fewer c.args.bank.now c.pop.new.self.items c.loop.pairs.items c.in-Some.pair c.in-Some.ensures.items c.loop.invariant.inside).0
+open-requires-clause-inside c = (pairs_fewer c.args.bank.now c.pop.new.self.items c.loop.pairs.items c.in-Some.pair c.in-Some.ensures.items
+    c.loop.invariant.inside).0
 
 pub loop-preserved : goal.loop-preserved
 loop-preserved c = record {

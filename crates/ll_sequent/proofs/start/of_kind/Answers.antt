@@ -8,9 +8,11 @@ pub loop-label-preserved : goal.loop-label-preserved
 loop-label-preserved c =
     elim c.if-is_same.branch [
       | then-is_same+in_ok-push w ↦
-          kind_in c.args.kind c.args.clauses.now c.loop-label.label (record { kind = Linear; form = record { 0 = 0 } }) (omega arith) c.loop-label.found.items _ c.loop-label.invariant c.if-is_same.found.items
+          kind_in c.args.kind c.args.clauses.now c.loop-label.label (record { kind = Linear; form = record { 0 = 0 } }) (omega arith) c.loop-label.found.items _
+          c.loop-label.invariant c.if-is_same.found.items
           (sym c.is_same.ensures ∙ w.if-is_same.true) (ap (λ v. v.items) w.found-is ∙ w.in_ok-push.ensures.items)
       | else-is_same w ↦
-          kind_out c.args.kind c.args.clauses.now c.loop-label.label (record { kind = Linear; form = record { 0 = 0 } }) (omega arith) c.loop-label.found.items _ c.loop-label.invariant c.if-is_same.found.items
+          kind_out c.args.kind c.args.clauses.now c.loop-label.label (record { kind = Linear; form = record { 0 = 0 } }) (omega arith) c.loop-label.found.items
+          _ c.loop-label.invariant c.if-is_same.found.items
           (sym c.is_same.ensures ∙ w.if-is_same.false) (ap (λ v. v.items) w.found-is)
     ]

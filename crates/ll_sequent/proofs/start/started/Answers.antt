@@ -17,31 +17,46 @@ pub substituted-requires-clause-values : goal.substituted-requires-clause-values
 substituted-requires-clause-values c =
     let P : List At → Type 0 = AllInTerms c.copies_of.new.bank in
     let e = c.deref-2.ensures.value ∙ (c.in_ok-values.ensures ∙ ap (λ cs. copied_places cs c.args.asked.now) c.deref.ensures.value) in
-    subst P (sym e) (copied_inside c.copies_of.new.bank c.in_ok-copies.copies.items c.args.asked.now (copies_inside c.args.terms.now c.copies_of.new.bank c.in_ok-copies.copies.items c.in_ok-copies.ensures.copies) c.in_ok-copies.ensures.asked)
+    subst P (sym e) (copied_inside c.copies_of.new.bank c.in_ok-copies.copies.items c.args.asked.now
+    (copies_inside c.args.terms.now c.copies_of.new.bank c.in_ok-copies.copies.items c.in_ok-copies.ensures.copies) c.in_ok-copies.ensures.asked)
 
 pub returns-clause-root : goal.returns-clause-root
 returns-clause-root c =
-    let first : Extends c.args.bank.now c.copies_of.new.bank = Extends-trans (image_keeps c.args.bank.now c.in_ok-own.own c.size.result c.size.ensures.is c.in_ok-own.ensures) c.in_ok-copies.ensures.keeps in
+    let first : Extends c.args.bank.now c.copies_of.new.bank =
+    Extends-trans (image_keeps c.args.bank.now c.in_ok-own.own c.size.result c.size.ensures.is c.in_ok-own.ensures) c.in_ok-copies.ensures.keeps in
     let e = c.deref-2.ensures.value ∙ (c.in_ok-values.ensures ∙ ap (λ cs. copied_places cs c.args.asked.now) c.deref.ensures.value) in
-    let ts = ap (term_trees c.copies_of.new.bank) e ∙ copied_trees c.args.terms.now c.copies_of.new.bank c.in_ok-copies.copies.items c.in_ok-copies.ensures.copies c.args.asked.now c.in_ok-copies.ensures.asked in
-    let shows : ShowsForm c.substituted.new.bank c.in_ok-goal.goal.0 (sub_form (values (term_trees c.args.terms.now c.args.asked.now)) (form_tree c.args.bank.now c.args.goal.0)) =
+    let ts = ap (term_trees c.copies_of.new.bank) e ∙ copied_trees c.args.terms.now c.copies_of.new.bank c.in_ok-copies.copies.items
+    c.in_ok-copies.ensures.copies c.args.asked.now c.in_ok-copies.ensures.asked in
+    let shows : ShowsForm c.substituted.new.bank c.in_ok-goal.goal.0
+    (sub_form (values (term_trees c.args.terms.now c.args.asked.now)) (form_tree c.args.bank.now c.args.goal.0)) =
     record {
       inside = c.in_ok-goal.ensures.shows.inside;
       tree = c.in_ok-goal.ensures.shows.tree ∙ (λ i. sub_form (values (ts i)) (form_tree-extends first c.args.goal.0 c.requires.goal i));
     } in
     is_root c.args.bank.now c.args.clauses.now c.args.goal.0 (term_trees c.args.terms.now c.args.asked.now)
-    (record { bank = c.substituted.new.bank; copies = c.in_ok-copies.copies; free = c.reverse.new.self; root = record { free = c.len.result; bounded = c.in_ok-of_kind.field-0; goal = c.in_ok-goal.goal } })
-    (Extends-trans first c.in_ok-goal.ensures.keeps) c.requires.clauses c.requires.closed shows (c.reverse.ensures.items ∙ ap (λ xs. reverse xs) c.in_ok-free.ensures) c.in_ok-of_kind.ensures
+    (record {
+      bank = c.substituted.new.bank;
+      copies = c.in_ok-copies.copies;
+      free = c.reverse.new.self;
+      root =
+          record { free = c.len.result; bounded = c.in_ok-of_kind.field-0; goal = c.in_ok-goal.goal };
+    })
+    (Extends-trans first c.in_ok-goal.ensures.keeps) c.requires.clauses c.requires.closed shows
+    (c.reverse.ensures.items ∙ ap (λ xs. reverse xs) c.in_ok-free.ensures) c.in_ok-of_kind.ensures
     (let l = c.len.ensures in search rules)
 
 pub returns-clause-keeps : goal.returns-clause-keeps
 returns-clause-keeps c =
-    Extends-trans (Extends-trans (image_keeps c.args.bank.now c.in_ok-own.own c.size.result c.size.ensures.is c.in_ok-own.ensures) c.in_ok-copies.ensures.keeps) c.in_ok-goal.ensures.keeps
+    Extends-trans (Extends-trans (image_keeps c.args.bank.now c.in_ok-own.own c.size.result c.size.ensures.is c.in_ok-own.ensures) c.in_ok-copies.ensures.keeps)
+    c.in_ok-goal.ensures.keeps
 
 pub returns-clause-inside : goal.returns-clause-inside
 returns-clause-inside c =
-    copies_inside c.args.terms.now c.substituted.new.bank c.in_ok-copies.copies.items (copies_stay c.in_ok-goal.ensures.keeps c.args.terms.now c.in_ok-copies.copies.items c.in_ok-copies.ensures.copies)
+    copies_inside c.args.terms.now c.substituted.new.bank c.in_ok-copies.copies.items
+    (copies_stay c.in_ok-goal.ensures.keeps c.args.terms.now c.in_ok-copies.copies.items c.in_ok-copies.ensures.copies)
 
 pub returns-clause-lines : goal.returns-clause-lines
 returns-clause-lines c =
-    copied_lines c.args.terms.now c.substituted.new.bank c.in_ok-copies.copies.items (copies_stay c.in_ok-goal.ensures.keeps c.args.terms.now c.in_ok-copies.copies.items c.in_ok-copies.ensures.copies) c.args.rules.now c.in_ok-copies.ensures.lines
+    copied_lines c.args.terms.now c.substituted.new.bank c.in_ok-copies.copies.items
+    (copies_stay c.in_ok-goal.ensures.keeps c.args.terms.now c.in_ok-copies.copies.items c.in_ok-copies.ensures.copies) c.args.rules.now
+    c.in_ok-copies.ensures.lines

@@ -26,5 +26,6 @@ pub returns-in_ok-images-in-App-clause-shows : goal.returns-in_ok-images-in-App-
 returns-in_ok-images-in-App-clause-shows c =
     let low = args_low _ _ c.in-App.args.now c.requires.below c.in-App.ensures.shown.1 in
     let P : Term → Type 0 = λ t. IfOk c.app.result (λ image. ShowsTerm c.app.new.self image.0 t) in
-    subst P (app_shows c.args.bank.now (term_trees c.args.bank.now c.args.values.now) c.args.terms.now c.requires.terms c.in-App.head c.in-App.args.now c.deref.result.now _ (c.deref.ensures.value ∙ c.in_ok-images-in-App.ensures) low c.in-App.ensures.shown.0)
+    subst P (app_shows c.args.bank.now (term_trees c.args.bank.now c.args.values.now) c.args.terms.now c.requires.terms c.in-App.head c.in-App.args.now
+    c.deref.result.now _ (c.deref.ensures.value ∙ c.in_ok-images-in-App.ensures) low c.in-App.ensures.shown.0)
     c.app.ensures.shows

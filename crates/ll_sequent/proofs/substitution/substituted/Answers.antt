@@ -21,12 +21,14 @@ form_image-requires-clause-values c = AllInTerms-extends c.growth.invariant.keep
 
 pub form_image-requires-clause-terms : goal.form_image-requires-clause-terms
 form_image-requires-clause-terms c =
-    terms_now c.args.bank.now c.growth.bank c.growth.bank c.growth.invariant.keeps (Extends-refl c.growth.bank) c.args.values.now c.requires.values c.growth.terms.items c.growth.invariant.terms
+    terms_now c.args.bank.now c.growth.bank c.growth.bank c.growth.invariant.keeps (Extends-refl c.growth.bank) c.args.values.now c.requires.values
+    c.growth.terms.items c.growth.invariant.terms
 
 pub form_image-requires-clause-forms : goal.form_image-requires-clause-forms
 form_image-requires-clause-forms c =
     let P : List FormAt → Type 0 = AreFormImages c.growth.bank (term_trees c.growth.bank c.args.values.now) in
-    subst P (sym c.deref.ensures.value) (forms_now c.args.bank.now c.growth.bank c.growth.bank c.growth.invariant.keeps (Extends-refl c.growth.bank) c.args.values.now c.requires.values c.growth.forms.items c.growth.invariant.forms)
+    subst P (sym c.deref.ensures.value) (forms_now c.args.bank.now c.growth.bank c.growth.bank c.growth.invariant.keeps (Extends-refl c.growth.bank)
+    c.args.values.now c.requires.values c.growth.forms.items c.growth.invariant.forms)
 
 pub returns-in_err-image-clause-keeps : goal.returns-in_err-image-clause-keeps
 returns-in_err-image-clause-keeps c = Extends-trans c.growth.invariant.keeps c.form_image.ensures.keeps
@@ -36,14 +38,18 @@ growth-preserved c =
     let h = HasForm-extends c.growth.invariant.keeps c.args.form.0 c.requires.form in
     record {
       keeps = Extends-trans c.growth.invariant.keeps c.form_image.ensures.keeps;
-      terms = terms_then c.args.bank.now c.growth.bank c.form_image.new.bank c.growth.invariant.keeps c.form_image.ensures.keeps c.args.values.now c.requires.values c.form_image.new.terms.items c.in_ok-image.ensures.terms;
-      forms = next_form_more c.args.bank.now c.growth.bank c.form_image.new.bank c.growth.invariant.keeps c.form_image.ensures.keeps c.args.values.now c.requires.values c.growth.forms.items c.push.new.self.items
-          c.len-in-growth.result c.in_ok-image.image (let l = c.len-in-growth.ensures in search rules) c.growth.invariant.forms (omega arith) c.in_ok-image.ensures.shows c.in_ok-push.ensures.items;
+      terms = terms_then c.args.bank.now c.growth.bank c.form_image.new.bank c.growth.invariant.keeps c.form_image.ensures.keeps c.args.values.now
+          c.requires.values c.form_image.new.terms.items c.in_ok-image.ensures.terms;
+      forms = next_form_more c.args.bank.now c.growth.bank c.form_image.new.bank c.growth.invariant.keeps c.form_image.ensures.keeps c.args.values.now
+          c.requires.values c.growth.forms.items c.push.new.self.items
+          c.len-in-growth.result c.in_ok-image.image (let l = c.len-in-growth.ensures in
+          search rules) c.growth.invariant.forms (omega arith) c.in_ok-image.ensures.shows c.in_ok-push.ensures.items;
     }
 
 pub returns-clause-shows : goal.returns-clause-shows
 returns-clause-shows c =
-    form_image_at c.args.bank.now c.growth.bank c.growth.invariant.keeps (term_trees c.args.bank.now c.args.values.now) c.growth.forms.items c.args.form.0 c.index.result.now c.growth.invariant.forms c.requires.form (omega arith) c.index.ensures
+    form_image_at c.args.bank.now c.growth.bank c.growth.invariant.keeps (term_trees c.args.bank.now c.args.values.now) c.growth.forms.items c.args.form.0
+    c.index.result.now c.growth.invariant.forms c.requires.form (omega arith) c.index.ensures
 
 pub returns-clause-keeps : goal.returns-clause-keeps
 returns-clause-keeps c = c.growth.invariant.keeps

@@ -15,7 +15,8 @@ next_image-requires-clause-term c = let h = HasTerm-extends c.growth.invariant.k
 pub next_image-requires-clause-terms : goal.next_image-requires-clause-terms
 next_image-requires-clause-terms c =
     let P : List At → Type 0 = AreTermImages c.growth.bank (term_trees c.growth.bank c.args.values.now) in
-    subst P (sym c.deref.ensures.value) (terms_now c.args.bank.now c.growth.bank c.growth.bank c.growth.invariant.keeps (Extends-refl c.growth.bank) c.args.values.now c.requires.values c.growth.terms.items c.growth.invariant.terms)
+    subst P (sym c.deref.ensures.value) (terms_now c.args.bank.now c.growth.bank c.growth.bank c.growth.invariant.keeps (Extends-refl c.growth.bank)
+    c.args.values.now c.requires.values c.growth.terms.items c.growth.invariant.terms)
 
 pub returns-in_err-image-clause-keeps : goal.returns-in_err-image-clause-keeps
 returns-in_err-image-clause-keeps c = Extends-trans c.growth.invariant.keeps c.next_image.ensures.keeps
@@ -25,10 +26,13 @@ growth-preserved c =
     let h = HasTerm-extends c.growth.invariant.keeps c.args.term.0 c.requires.term in
     record {
       keeps = Extends-trans c.growth.invariant.keeps c.next_image.ensures.keeps;
-      terms = next_more c.args.bank.now c.growth.bank c.next_image.new.bank c.growth.invariant.keeps c.next_image.ensures.keeps c.args.values.now c.requires.values c.growth.terms.items c.push.new.self.items c.len-in-growth.result
-          c.in_ok-image.image (let l = c.len-in-growth.ensures in search rules) c.growth.invariant.terms (omega arith) c.in_ok-image.ensures.shows c.in_ok-push.ensures.items;
+      terms = next_more c.args.bank.now c.growth.bank c.next_image.new.bank c.growth.invariant.keeps c.next_image.ensures.keeps c.args.values.now
+          c.requires.values c.growth.terms.items c.push.new.self.items c.len-in-growth.result
+          c.in_ok-image.image (let l = c.len-in-growth.ensures in
+          search rules) c.growth.invariant.terms (omega arith) c.in_ok-image.ensures.shows c.in_ok-push.ensures.items;
     }
 
 pub returns-clause-shows : goal.returns-clause-shows
 returns-clause-shows c =
-    term_image_at c.args.bank.now c.growth.bank c.growth.invariant.keeps (term_trees c.args.bank.now c.args.values.now) c.growth.terms.items c.args.term.0 c.index.result.now c.growth.invariant.terms c.requires.term (omega arith) c.index.ensures
+    term_image_at c.args.bank.now c.growth.bank c.growth.invariant.keeps (term_trees c.args.bank.now c.args.values.now) c.growth.terms.items c.args.term.0
+    c.index.result.now c.growth.invariant.terms c.requires.term (omega arith) c.index.ensures

@@ -8,7 +8,8 @@ use Rattle.ll_sequent.proofs.substitution.two_images.Goals as goal
 
 pub term_image-requires-2-clause-terms : goal.term_image-requires-2-clause-terms
 term_image-requires-2-clause-terms c =
-    terms_now c.args.bank.now c.term_image.new.bank c.term_image.new.bank c.term_image.ensures.keeps (Extends-refl c.term_image.new.bank) c.args.values.now c.requires.values c.term_image.new.terms.items c.in_ok-first.ensures.terms
+    terms_now c.args.bank.now c.term_image.new.bank c.term_image.new.bank c.term_image.ensures.keeps (Extends-refl c.term_image.new.bank) c.args.values.now
+    c.requires.values c.term_image.new.terms.items c.in_ok-first.ensures.terms
 
 pub returns-clause-left : goal.returns-clause-left
 returns-clause-left c = ShowsTerm-extends c.term_image-2.ensures.keeps c.in_ok-first.ensures.shows
@@ -16,10 +17,12 @@ returns-clause-left c = ShowsTerm-extends c.term_image-2.ensures.keeps c.in_ok-f
 pub returns-clause-right : goal.returns-clause-right
 returns-clause-right c =
     let P : List Term → Type 0 = λ ts. ShowsTerm c.term_image-2.new.bank c.in_ok-second.second.0 (sub (values ts) (term_tree c.args.bank.now c.args.right.0)) in
-    let Q : Term → Type 0 = λ t. ShowsTerm c.term_image-2.new.bank c.in_ok-second.second.0 (sub (values (term_trees c.term_image.new.bank c.args.values.now)) t) in
+    let Q : Term → Type 0 = λ t. ShowsTerm c.term_image-2.new.bank c.in_ok-second.second.0 (sub (values (term_trees c.term_image.new.bank c.args.values.now)) t)
+    in
     subst P (term_trees-extends c.term_image.ensures.keeps c.args.values.now c.requires.values)
     (subst Q (term_tree-extends c.term_image.ensures.keeps c.args.right.0 c.requires.right) c.in_ok-second.ensures.shows)
 
 pub returns-clause-terms : goal.returns-clause-terms
 returns-clause-terms c =
-    terms_then c.args.bank.now c.term_image.new.bank c.term_image-2.new.bank c.term_image.ensures.keeps c.term_image-2.ensures.keeps c.args.values.now c.requires.values c.term_image-2.new.terms.items c.in_ok-second.ensures.terms
+    terms_then c.args.bank.now c.term_image.new.bank c.term_image-2.new.bank c.term_image.ensures.keeps c.term_image-2.ensures.keeps c.args.values.now
+    c.requires.values c.term_image-2.new.terms.items c.in_ok-second.ensures.terms

@@ -11,16 +11,28 @@ reply-requires g c = let l = c.requires.loaded in (c.in-Ok-ask_text.ensures.asks
 
 pub returns-in-Ok-ask_text-clause-replies : goal.returns-in-Ok-ask_text-clause-replies
 returns-in-Ok-ask_text-clause-replies g c =
-    on-ok {Q = (program : ProgramTree) → IsProgramOf program c.args.loaded.now → Replies g.R.Replies.takes g.R.Replies.breaks program c.args.bound c.args.number c.args.line.now c.args.replies.now c.reply.new.self} c.reply.result
-    (λ taken program is. record { what = Ok c.in-Ok-ask_text.problem; asks = (c.in-Ok-ask_text.ensures.asks program (subst (IsProgramOf program) (sym c.in-Ok.ensures) is)).0; taken = taken }) c.reply.ensures.taken
+    on-ok {Q = (program : ProgramTree) → IsProgramOf program c.args.loaded.now
+    → Replies g.R.Replies.takes g.R.Replies.breaks program c.args.bound c.args.number c.args.line.now c.args.replies.now c.reply.new.self} c.reply.result
+    (λ taken program is. record {
+      what = Ok c.in-Ok-ask_text.problem;
+      asks =
+          (c.in-Ok-ask_text.ensures.asks program (subst (IsProgramOf program) (sym c.in-Ok.ensures) is)).0;
+      taken = taken;
+    }) c.reply.ensures.taken
 
 pub returns-in-Ok-ask_text-clause-refused : goal.returns-in-Ok-ask_text-clause-refused
 returns-in-Ok-ask_text-clause-refused g c =
-    on-err {Q = (program : ProgramTree) → IsProgramOf program c.args.loaded.now → RefusesLine g.R.Replies.takes g.R.Replies.breaks program c.args.bound c.args.number c.args.line.now c.args.replies.now c.reply.new.self} c.reply.result
-    (λ broke program is. line_refused (Ok c.in-Ok-ask_text.problem) (c.in-Ok-ask_text.ensures.asks program (subst (IsProgramOf program) (sym c.in-Ok.ensures) is)).0 broke) c.reply.ensures.refused
+    on-err {Q = (program : ProgramTree) → IsProgramOf program c.args.loaded.now
+    → RefusesLine g.R.Replies.takes g.R.Replies.breaks program c.args.bound c.args.number c.args.line.now c.args.replies.now c.reply.new.self}
+    c.reply.result
+    (λ broke program is. line_refused (Ok c.in-Ok-ask_text.problem)
+    (c.in-Ok-ask_text.ensures.asks program (subst (IsProgramOf program) (sym c.in-Ok.ensures) is)).0 broke) c.reply.ensures.refused
 
 pub returns-in-Err-Text-clause-refused : goal.returns-in-Err-Text-clause-refused
 returns-in-Err-Text-clause-refused g c =
     let cause = rw c.in-Err-Text.field-0-is at c.in-Err-Text.ensures.cause in
-    on-err {Q = (program : ProgramTree) → IsProgramOf program c.args.loaded.now → RefusesLine g.R.Replies.takes g.R.Replies.breaks program c.args.bound c.args.number c.args.line.now c.args.replies.now c.reply-in-Err-Text.new.self} c.reply-in-Err-Text.result
-    (λ broke program is. line_refused (Err c.on_line.result) (c.in-Err-Text.fault, cause program (c.in-Ok.ensures ∙ is.is), c.on_line.ensures) broke) c.reply-in-Err-Text.ensures.refused
+    on-err {Q = (program : ProgramTree) → IsProgramOf program c.args.loaded.now
+    → RefusesLine g.R.Replies.takes g.R.Replies.breaks program c.args.bound c.args.number c.args.line.now c.args.replies.now c.reply-in-Err-Text.new.self}
+    c.reply-in-Err-Text.result
+    (λ broke program is. line_refused (Err c.on_line.result) (c.in-Err-Text.fault, cause program (c.in-Ok.ensures ∙ is.is), c.on_line.ensures) broke)
+    c.reply-in-Err-Text.ensures.refused

@@ -6,7 +6,8 @@ use Rattle.ll_session.proofs.answering.answer_lines.Given as goal
 
 abbrev pub invariant-loop-rest : goal.invariant-loop-rest
 invariant-loop-rest g l = record {
-  answered : (program : ProgramTree) → IsProgramOf program l.loaded → IsAnsweredTo g.R.Replies.takes g.R.Replies.breaks program l.text l.bound l.initial.replies l.number l.count l.rest l.replies;
+  answered : (program : ProgramTree) → IsProgramOf program l.loaded
+      → IsAnsweredTo g.R.Replies.takes g.R.Replies.breaks program l.text l.bound l.initial.replies l.number l.count l.rest l.replies;
   faults_kept : g.R.Replies.faults l.initial.replies ≤ g.R.Replies.faults l.replies;
   few : l.number + length l.rest ≤ 16777216;
   fewer : l.count ≤ l.number;

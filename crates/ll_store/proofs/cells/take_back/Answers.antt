@@ -12,6 +12,8 @@ loop-at-preserved c =
       within = let w = c.loop-at.invariant.within in omega arith;
       cells = c.take_one_back.ensures
           ∙ (ap (λ d. taken_back d (map cell_of c.loop-at.cells.items)) c.change.ensures
-          ∙ back-more c.args.changes.now (c.loop-at.at - 1) _ (map cell_of c.args.cells.now.items) (map cell_of c.loop-at.cells.items) (let w = c.loop-at.invariant.within in omega arith)
-          (subst (λ n. map cell_of c.loop-at.cells.items ≡ before (drop n (map change_of c.args.changes.now)) (map cell_of c.args.cells.now.items)) at c.loop-at.invariant.cells));
+          ∙ back-more c.args.changes.now (c.loop-at.at - 1) _ (map cell_of c.args.cells.now.items) (map cell_of c.loop-at.cells.items) (let w =
+          c.loop-at.invariant.within in omega arith)
+          (subst (λ n. map cell_of c.loop-at.cells.items ≡ before (drop n (map change_of c.args.changes.now)) (map cell_of c.args.cells.now.items)) at
+          c.loop-at.invariant.cells));
     }

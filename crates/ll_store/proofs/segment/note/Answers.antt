@@ -8,10 +8,13 @@ use Rattle.ll_store.proofs.segment.note.Goals as goal
 pub returns-then-count-var : goal.returns-then-count-var
 returns-then-count-var c =
     sym (append-nil (map renewed_of c.args.made.now.items))
-    ∙ ap (λ rs. map renewed_of c.args.made.now.items ++ rs) (sym (noted-out c.args.count (renewal (map cell_of c.args.cells.now) (change_of c.args.entry)) (changed_in (change_of c.args.entry)) c.var-var.result c.var-var.ensures c.if-count-var.true))
+    ∙ ap (λ rs. map renewed_of c.args.made.now.items ++ rs) (sym
+    (noted-out c.args.count (renewal (map cell_of c.args.cells.now) (change_of c.args.entry)) (changed_in (change_of c.args.entry)) c.var-var.result
+    c.var-var.ensures c.if-count-var.true))
 
 pub returns : goal.returns
 returns c =
     ap (map renewed_of) c.in_ok-push.ensures.items
     ∙ (map-append renewed_of c.args.made.now.items _
-    ∙ ap (λ rs. map renewed_of c.args.made.now.items ++ rs) (noted-in c.args.count c.args.cells.now c.args.entry _ c.var-var.result c.var-var.ensures (omega (arith, c.if-count-var.false)) c.requires))
+    ∙ ap (λ rs. map renewed_of c.args.made.now.items ++ rs) (noted-in c.args.count c.args.cells.now c.args.entry _ c.var-var.result c.var-var.ensures
+    (omega (arith, c.if-count-var.false)) c.requires))

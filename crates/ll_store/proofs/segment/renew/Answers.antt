@@ -5,7 +5,9 @@ use Rattle.ll_store.proofs.segment.renew.Goals as goal
 
 pub loop-renewal-preserved : goal.loop-renewal-preserved
 loop-renewal-preserved c = (
-  renew-step c.args.renewed.now c.loop-renewal.renewal-index _ (map cell_of c.args.cells.now.items) (map cell_of c.loop-renewal.cells.items) (map cell_of c.set_slot.new.cells.items) c.var.result (omega arith) c.loop-renewal.invariant.0 c.var.ensures
+  renew-step c.args.renewed.now c.loop-renewal.renewal-index _ (map cell_of c.args.cells.now.items) (map cell_of c.loop-renewal.cells.items)
+      (map cell_of c.set_slot.new.cells.items) c.var.result (omega arith) c.loop-renewal.invariant.0 c.var.ensures
       c.set_slot.ensures,
-  trail-step c.args.renewed.now c.loop-renewal.renewal-index _ (map change_of c.args.trail.now.items) c.loop-renewal.trail.items c.push.new.self.items (omega arith) c.loop-renewal.invariant.1 c.in_ok-push.ensures.items,
+  trail-step c.args.renewed.now c.loop-renewal.renewal-index _ (map change_of c.args.trail.now.items) c.loop-renewal.trail.items c.push.new.self.items
+      (omega arith) c.loop-renewal.invariant.1 c.in_ok-push.ensures.items,
 )

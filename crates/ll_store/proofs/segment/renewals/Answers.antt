@@ -6,5 +6,6 @@ use Rattle.ll_store.proofs.segment.renewals.Goals as goal
 
 pub loop-at-preserved : goal.loop-at-preserved
 loop-at-preserved c =
-    renewals-step c.args.changes.now c.args.range.0 c.loop-at.at _ c.args.count (map cell_of c.args.cells.now) (map renewed_of c.loop-at.made.items) (map renewed_of c.note.new.made.items) (omega arith) (omega arith) c.loop-at.invariant
+    renewals-step c.args.changes.now c.args.range.0 c.loop-at.at _ c.args.count (map cell_of c.args.cells.now) (map renewed_of c.loop-at.made.items)
+    (map renewed_of c.note.new.made.items) (omega arith) (omega arith) c.loop-at.invariant
     c.in_ok-note.ensures

@@ -15,7 +15,8 @@ returns-in_err-problem c =
 pub returns-in_err-derivation : goal.returns-in_err-derivation
 returns-in_err-derivation c =
     let p = err_from_is_err_and c.from_residual-in_err-derivation.result c.from_residual-in_err-derivation.ensures.1 in
-    rw (p.1, p.2) (proof-refused c.args.program.now c.args.query.now c.args.proof.now c.args.bound _ (rw c.unwrap_or.ensures at c.in_ok-problem.ensures.judges) _ c.in_err-derivation.ensures.refused)
+    rw (p.1, p.2) (proof-refused c.args.program.now c.args.query.now c.args.proof.now c.args.bound _ (rw c.unwrap_or.ensures at c.in_ok-problem.ensures.judges)
+    _ c.in_err-derivation.ensures.refused)
 
 pub returns-in_err-finding : goal.returns-in_err-finding
 returns-in_err-finding c =
@@ -23,14 +24,16 @@ returns-in_err-finding c =
     rw (p.1, p.2) tt
 
 pub judged-requires-clause-valid : goal.judged-requires-clause-valid
-judged-requires-clause-valid c = valid-grown (the_view c.problem.inside) _ c.in_ok-derivation.ensures.grows (subst IsValid (sym c.problem.view_is) c.in_ok-problem.ensures.valid)
+judged-requires-clause-valid c = valid-grown (the_view c.problem.inside) _ c.in_ok-derivation.ensures.grows
+    (subst IsValid (sym c.problem.view_is) c.in_ok-problem.ensures.valid)
 
 pub returns : goal.returns
 returns c =
     let program = c.args.program.now in
     let query = c.args.query.now in
     let asks = subst (TextsAsk program query (unwrap_or c.args.bound 0)) (sym c.problem.view_is) (rw c.unwrap_or.ensures at c.in_ok-problem.ensures.judges) in
-    found-of program query c.args.proof.now c.args.bound (the_view c.problem.inside) asks c.derivation_of.new.names c.in_ok-derivation.ensures.names c.in_ok-derivation.derivation c.in_ok-derivation.ensures.read
+    found-of program query c.args.proof.now c.args.bound (the_view c.problem.inside) asks c.derivation_of.new.names c.in_ok-derivation.ensures.names
+    c.in_ok-derivation.derivation c.in_ok-derivation.ensures.read
     c.in_ok-finding.finding (rw c.is_some.ensures at c.in_ok-finding.ensures)
 
 pub problem_of-requires-clause-bound : goal.problem_of-requires-clause-bound

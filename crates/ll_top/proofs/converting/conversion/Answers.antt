@@ -10,4 +10,5 @@ returns-in_err-proof-clause-converts g c =
 
 pub returns-clause-converts : goal.returns-clause-converts
 returns-clause-converts g c =
-    proof-converted _ _ _ (shown_convert c.args.convert.now) c.in_ok-proof.proof.items c.in_ok-proof.ensures.read _ (rw c.deref.ensures.value at c.converted.ensures)
+    proof-converted _ _ _ (shown_convert c.args.convert.now) c.in_ok-proof.proof.items c.in_ok-proof.ensures.read _
+    (rw c.deref.ensures.value at c.converted.ensures)

@@ -7,5 +7,9 @@ use Rattle.ll_top.proofs.deepening.count_within.Goals as goal
 pub count_events-requires : goal.count_events-requires
 count_events-requires g c = (
   c.type_bounds.sync-R,
-  (c.type_bounds.sync-G, subst (λ p. IsValid (with_bound p c.args.bound)) (sym c.problem.view_is) (valid-within c.args.problem.now c.args.bound c.requires.valid c.requires.bound)),
+  (
+    c.type_bounds.sync-G,
+    subst (λ p. IsValid (with_bound p c.args.bound)) (sym c.problem.view_is)
+        (valid-within c.args.problem.now c.args.bound c.requires.valid c.requires.bound),
+  ),
 )

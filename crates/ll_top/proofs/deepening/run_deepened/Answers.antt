@@ -5,9 +5,11 @@ use Rattle.ll_top.proofs.deepening.run_deepened.Goals as goal
 pub returns-in_err-write_heading-clause-ends : goal.returns-in_err-write_heading-clause-ends
 returns-in_err-write_heading-clause-ends g c =
     let p = err_from_is_err_and c.from_residual-in_err-write_heading.result c.from_residual-in_err-write_heading.ensures.1 in
-    rw (p.1, p.2) (line-cut c.args.proofs c.args.series.now c.args.problem.now c.in_ok-bound.bound _ _ _ _ c.in_ok-bound.ensures.decides c.in_err-write_heading.ensures.failed c.in_err-write_heading.ensures.prefix)
+    rw (p.1, p.2) (line-cut c.args.proofs c.args.series.now c.args.problem.now c.in_ok-bound.bound _ _ _ _ c.in_ok-bound.ensures.decides
+    c.in_err-write_heading.ensures.failed c.in_err-write_heading.ensures.prefix)
 
 pub returns-clause-ends : goal.returns-clause-ends
 returns-clause-ends g c =
-    run-deepened c.args.proofs c.args.series.now c.args.problem.now _ c.in_ok-bound.bound _ _ _ _ _ _ _ c.in_ok-bound.ensures.decides c.in_ok-bound.ensures.problem c.in_ok-write_heading.ensures.faults_kept
+    run-deepened c.args.proofs c.args.series.now c.args.problem.now _ c.in_ok-bound.bound _ _ _ _ _ _ _ c.in_ok-bound.ensures.decides
+    c.in_ok-bound.ensures.problem c.in_ok-write_heading.ensures.faults_kept
     c.in_ok-write_heading.ensures.line c.run.ensures.found c.run.ensures.text c.run.ensures.refused c.run.ensures.prefix

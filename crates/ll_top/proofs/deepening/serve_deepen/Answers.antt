@@ -15,7 +15,8 @@ pub returns-in-Err-Unwritable-clause-ends : goal.returns-in-Err-Unwritable-claus
 returns-in-Err-Unwritable-clause-ends g c = cut-ends _ status_of_found NoneFails _ _ _ (rw c.in-Err-Unwritable.field-0-is at c.in-Err-Unwritable.ensures.ends)
 
 pub returns-in-Err-OutOfMemory-clause-ends : goal.returns-in-Err-OutOfMemory-clause-ends
-returns-in-Err-OutOfMemory-clause-ends g c = memory-ends _ status_of_found NoneFails _ _ _ (rw c.in-Err-OutOfMemory.field-0-is at c.in-Err-OutOfMemory.ensures.ends)
+returns-in-Err-OutOfMemory-clause-ends g c = memory-ends _ status_of_found NoneFails _ _ _
+    (rw c.in-Err-OutOfMemory.field-0-is at c.in-Err-OutOfMemory.ensures.ends)
 
 pub returns-in-Err-Text-clause-ends : goal.returns-in-Err-Text-clause-ends
 returns-in-Err-Text-clause-ends g c =

@@ -6,7 +6,8 @@ use Rattle.ll_top.proofs.calls.MadeRunLemmas.{made-asked}
 use Rattle.ll_top.proofs.made_runs.made_asks.Goals as goal
 
 pub returns-clause-asks : goal.returns-clause-asks
-returns-clause-asks c = λ kind n bound fits. made-asked (program_text kind n) (query_text kind) bound (c.made_texts.ensures.program kind n fits) (c.made_texts.ensures.query kind)
+returns-clause-asks c = λ kind n bound fits. made-asked (program_text kind n) (query_text kind) bound (c.made_texts.ensures.program kind n fits)
+    (c.made_texts.ensures.query kind)
 
 pub returns-clause-no_fault : goal.returns-clause-no_fault
 returns-clause-no_fault c = λ kind n role f fits h.

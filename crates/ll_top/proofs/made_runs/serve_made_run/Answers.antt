@@ -6,7 +6,9 @@ pub returns-in-Ok-clause-ends : goal.returns-in-Ok-clause-ends
 returns-in-Ok-clause-ends g c = made-found-ends _ (shown_made_run c.args.run) _ _ c.in-Ok.found _ c.found_status.ensures c.in-Ok.ensures.ends
 
 pub returns-in-Err-Unwritable-clause-ends : goal.returns-in-Err-Unwritable-clause-ends
-returns-in-Err-Unwritable-clause-ends g c = made-cut-ends _ (shown_made_run c.args.run) _ _ (rw c.in-Err-Unwritable.field-0-is at c.in-Err-Unwritable.ensures.ends)
+returns-in-Err-Unwritable-clause-ends g c = made-cut-ends _ (shown_made_run c.args.run) _ _
+    (rw c.in-Err-Unwritable.field-0-is at c.in-Err-Unwritable.ensures.ends)
 
 pub returns-in-Err-OutOfMemory-clause-ends : goal.returns-in-Err-OutOfMemory-clause-ends
-returns-in-Err-OutOfMemory-clause-ends g c = made-memory-ends _ (shown_made_run c.args.run) _ _ (rw c.in-Err-OutOfMemory.field-0-is at c.in-Err-OutOfMemory.ensures.ends)
+returns-in-Err-OutOfMemory-clause-ends g c = made-memory-ends _ (shown_made_run c.args.run) _ _
+    (rw c.in-Err-OutOfMemory.field-0-is at c.in-Err-OutOfMemory.ensures.ends)

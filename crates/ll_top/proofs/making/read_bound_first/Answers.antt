@@ -20,7 +20,8 @@ pub returns-in_err-bound-clause-options : goal.returns-in_err-bound-clause-optio
 returns-in_err-bound-clause-options c =
     let words = word_texts c.args.words.now in
     bad-answer (λ (o : MadeOptions). HasOptions words o.bound o.workers) (IsBadMakeWord words) _ _ c.from_residual-in_err-bound.ensures.1
-    (no-value words c.requires.front bound_first (this-word words 3 (codes "--bound") c.in_ok-this_at.ensures) _ c.in_err-bound.ensures.0 c.in_err-bound.ensures.1)
+    (no-value words c.requires.front bound_first (this-word words 3 (codes "--bound") c.in_ok-this_at.ensures) _ c.in_err-bound.ensures.0
+    c.in_err-bound.ensures.1)
 
 pub this_at-requires-2 : goal.this_at-requires-2
 this_at-requires-2 c =
@@ -30,7 +31,8 @@ pub returns-in_err-this_at-2-clause-options : goal.returns-in_err-this_at-2-clau
 returns-in_err-this_at-2-clause-options c =
     let words = word_texts c.args.words.now in
     bad-answer (λ (o : MadeOptions). HasOptions words o.bound o.workers) (IsBadMakeWord words) _ _ c.from_residual-in_err-this_at-2.ensures.1
-    (no-second words c.requires.front bound_first (this-word words 3 (codes "--bound") c.in_ok-this_at.ensures) _ c.in_ok-bound.ensures _ c.in_err-this_at-2.ensures.0 c.in_err-this_at-2.ensures.1)
+    (no-second words c.requires.front bound_first (this-word words 3 (codes "--bound") c.in_ok-this_at.ensures) _ c.in_ok-bound.ensures _
+    c.in_err-this_at-2.ensures.0 c.in_err-this_at-2.ensures.1)
 
 pub number_at-requires-2 : goal.number_at-requires-2
 number_at-requires-2 c =
@@ -40,18 +42,21 @@ pub returns-in_err-workers-clause-options : goal.returns-in_err-workers-clause-o
 returns-in_err-workers-clause-options c =
     let words = word_texts c.args.words.now in
     bad-answer (λ (o : MadeOptions). HasOptions words o.bound o.workers) (IsBadMakeWord words) _ _ c.from_residual-in_err-workers.ensures.1
-    (no-last words c.requires.front bound_first (this-word words 3 (codes "--bound") c.in_ok-this_at.ensures) _ c.in_ok-bound.ensures c.in_ok-this_at-2.ensures _ c.in_err-workers.ensures.0 c.in_err-workers.ensures.1)
+    (no-last words c.requires.front bound_first (this-word words 3 (codes "--bound") c.in_ok-this_at.ensures) _ c.in_ok-bound.ensures c.in_ok-this_at-2.ensures
+    _ c.in_err-workers.ensures.0 c.in_err-workers.ensures.1)
 
 pub returns-then-words-gt7-clause-options : goal.returns-then-words-gt7-clause-options
 returns-then-words-gt7-clause-options c =
     let words = word_texts c.args.words.now in
     let same = length-map c.args.words.now (λ (b : Bor (List ℕ)). b.now) in
     let more : 7 < length words = let h = c.if-words-gt7.true in omega arith in
-    one-more words c.requires.front bound_first (this-word words 3 (codes "--bound") c.in_ok-this_at.ensures) _ c.in_ok-bound.ensures c.in_ok-this_at-2.ensures _ c.in_ok-workers.ensures more
+    one-more words c.requires.front bound_first (this-word words 3 (codes "--bound") c.in_ok-this_at.ensures) _ c.in_ok-bound.ensures c.in_ok-this_at-2.ensures
+    _ c.in_ok-workers.ensures more
 
 pub returns-clause-options : goal.returns-clause-options
 returns-clause-options c =
     let words = word_texts c.args.words.now in
     let same = length-map c.args.words.now (λ (b : Bor (List ℕ)). b.now) in
     let few : length words ≤ 7 = let h = c.if-words-gt7.false in omega arith in
-    whole-bound_first words c.requires.front _ _ few (this-word words 3 (codes "--bound") c.in_ok-this_at.ensures) c.in_ok-bound.ensures c.in_ok-this_at-2.ensures c.in_ok-workers.ensures
+    whole-bound_first words c.requires.front _ _ few (this-word words 3 (codes "--bound") c.in_ok-this_at.ensures) c.in_ok-bound.ensures
+    c.in_ok-this_at-2.ensures c.in_ok-workers.ensures

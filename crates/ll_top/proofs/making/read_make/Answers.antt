@@ -11,13 +11,15 @@ use Rattle.ll_top.proofs.making.read_make.Goals as goal
 pub returns-in_err-kind-clause-command : goal.returns-in_err-kind-clause-command
 returns-in_err-kind-clause-command c =
     let words = word_texts c.args.words.now in
-    bad-answer (IsCommand words) (IsBadMakeWord words) _ _ c.from_residual.ensures.1 (no-kind words c.requires _ c.in_err-kind.ensures.0 c.in_err-kind.ensures.1)
+    bad-answer (IsCommand words) (IsBadMakeWord words) _ _ c.from_residual.ensures.1
+    (no-kind words c.requires _ c.in_err-kind.ensures.0 c.in_err-kind.ensures.1)
 
 pub returns-in_err-number-clause-command : goal.returns-in_err-number-clause-command
 returns-in_err-number-clause-command c =
     let words = word_texts c.args.words.now in
     bad-answer (IsCommand words) (IsBadMakeWord words) _ _ c.from_residual-in_err-number.ensures.1
-    (no-number words c.requires _ c.in_ok-kind.ensures _ c.in_err-number.ensures.0 (rw (c.least_number.ensures, c.greatest_number.ensures) at c.in_err-number.ensures.1))
+    (no-number words c.requires _ c.in_ok-kind.ensures _ c.in_err-number.ensures.0
+    (rw (c.least_number.ensures, c.greatest_number.ensures) at c.in_err-number.ensures.1))
 
 pub returns-then-words-eq3-clause-command : goal.returns-then-words-eq3-clause-command
 returns-then-words-eq3-clause-command c =
@@ -46,4 +48,5 @@ returns-in_err-options-clause-command c =
 pub returns-clause-command : goal.returns-clause-command
 returns-clause-command c =
     let words = word_texts c.args.words.now in
-    whole-run words c.requires _ c.in_ok-kind.ensures _ (rw (c.least_number.ensures, c.greatest_number.ensures) at c.in_ok-number.ensures) _ _ c.in_ok-options.ensures.options
+    whole-run words c.requires _ c.in_ok-kind.ensures _ (rw (c.least_number.ensures, c.greatest_number.ensures) at c.in_ok-number.ensures) _ _
+    c.in_ok-options.ensures.options

@@ -13,9 +13,11 @@ pub returns-in_err-query-clause-prepares : goal.returns-in_err-query-clause-prep
 returns-in_err-query-clause-prepares g c =
     let p = err_from_is_err_and c.from_residual-in_err-query.result c.from_residual-in_err-query.ensures.1 in
     rw (p.1, p.2) (query-refused _ _ _ (shown_words c.args.run.now) _ _ c.in_ok-program.ensures.read
-    (not-read-later _ _ _ _ _ _ _ _ (Rose-later _ _ _ c.in_ok-program.ensures.absences_kept) (Rose-later _ _ _ c.in_ok-program.ensures.faults_kept) (rw c.in_ok-program.ensures.same_texts at c.in_err-query.ensures.refused)))
+    (not-read-later _ _ _ _ _ _ _ _ (Rose-later _ _ _ c.in_ok-program.ensures.absences_kept) (Rose-later _ _ _ c.in_ok-program.ensures.faults_kept)
+    (rw c.in_ok-program.ensures.same_texts at c.in_err-query.ensures.refused)))
 
 pub returns-clause-prepares : goal.returns-clause-prepares
 returns-clause-prepares g c =
-    prepared _ _ _ (shown_words c.args.run.now) c.in_ok-program.program.items c.in_ok-query.query.items c.in_ok-program.ensures.read (rw c.in_ok-program.ensures.same_texts at c.in_ok-query.ensures.read) _
+    prepared _ _ _ (shown_words c.args.run.now) c.in_ok-program.program.items c.in_ok-query.query.items c.in_ok-program.ensures.read
+    (rw c.in_ok-program.ensures.same_texts at c.in_ok-query.ensures.read) _
     (rw (c.deref.ensures.value, c.deref-2.ensures.value) at c.problem_of.ensures.judges)

@@ -8,4 +8,5 @@ returns-in_err-text-clause-refused g c =
     rw (p.1, p.2) (source-refused _ _ _ c.args.name.now _ c.in_err-text.ensures.refused)
 
 pub returns-clause-refused : goal.returns-clause-refused
-returns-clause-refused g c = source-unprinted _ _ _ c.args.name.now c.in_ok-text.text.items _ c.in_ok-text.ensures.read (rw c.deref.ensures.value at c.printed_text.ensures.refused)
+returns-clause-refused g c = source-unprinted _ _ _ c.args.name.now c.in_ok-text.text.items _ c.in_ok-text.ensures.read
+    (rw c.deref.ensures.value at c.printed_text.ensures.refused)

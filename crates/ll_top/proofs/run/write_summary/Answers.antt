@@ -6,7 +6,8 @@ pub returns-in_err-summary-clause-prefix : goal.returns-in_err-summary-clause-pr
 returns-in_err-summary-clause-prefix g c = on_err _ (no_front _ _)
 
 pub returns-in_err-write_all-clause-prefix : goal.returns-in_err-write_all-clause-prefix
-returns-in_err-write_all-clause-prefix g c = on_err _ (rw (c.deref.ensures.value, c.in_ok-summary.ensures.text, c.clear.ensures.items) at c.in_err-write_all.ensures.prefix)
+returns-in_err-write_all-clause-prefix g c = on_err _ (rw (c.deref.ensures.value, c.in_ok-summary.ensures.text, c.clear.ensures.items) at
+    c.in_err-write_all.ensures.prefix)
 
 pub returns-clause-text : goal.returns-clause-text
 returns-clause-text g c = rw (c.deref.ensures.value, c.in_ok-summary.ensures.text, c.clear.ensures.items) at c.in_ok-write_all.ensures.appends

@@ -15,11 +15,13 @@ returns-in_err-search-clause-run c =
 
 pub returns-in_default-clause-run : goal.returns-in_default-clause-run
 returns-in_default-clause-run c =
-    option-lacks (word_texts c.args.words.now) Run c.in_ok-search.search.options Bound _ (text-length c.args.words.now) refl (λ m. refl) c.in_default.is c.in_ok-search.ensures.read
+    option-lacks (word_texts c.args.words.now) Run c.in_ok-search.search.options Bound _ (text-length c.args.words.now) refl (λ m. refl) c.in_default.is
+    c.in_ok-search.ensures.read
 
 pub returns-in_default-workers-clause-run : goal.returns-in_default-workers-clause-run
 returns-in_default-workers-clause-run c =
-    option-lacks (word_texts c.args.words.now) Run c.in_ok-search.search.options Workers _ (text-length c.args.words.now) refl (λ m. refl) c.in_default-workers.is c.in_ok-search.ensures.read
+    option-lacks (word_texts c.args.words.now) Run c.in_ok-search.search.options Workers _ (text-length c.args.words.now) refl (λ m. refl)
+    c.in_default-workers.is c.in_ok-search.ensures.read
 
 pub returns-clause-run : goal.returns-clause-run
 returns-clause-run c =

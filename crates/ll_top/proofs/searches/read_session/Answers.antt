@@ -15,11 +15,13 @@ returns-in_err-search-clause-session c =
 
 pub returns-in_default-clause-session : goal.returns-in_default-clause-session
 returns-in_default-clause-session c =
-    option-lacks (word_texts c.args.words.now) Session c.in_ok-search.search.options Bound _ (text-length c.args.words.now) refl (λ m. refl) c.in_default.is c.in_ok-search.ensures.read
+    option-lacks (word_texts c.args.words.now) Session c.in_ok-search.search.options Bound _ (text-length c.args.words.now) refl (λ m. refl) c.in_default.is
+    c.in_ok-search.ensures.read
 
 pub returns-in_default-workers-clause-session : goal.returns-in_default-workers-clause-session
 returns-in_default-workers-clause-session c =
-    option-lacks (word_texts c.args.words.now) Session c.in_ok-search.search.options Workers _ (text-length c.args.words.now) refl (λ m. refl) c.in_default-workers.is c.in_ok-search.ensures.read
+    option-lacks (word_texts c.args.words.now) Session c.in_ok-search.search.options Workers _ (text-length c.args.words.now) refl (λ m. refl)
+    c.in_default-workers.is c.in_ok-search.ensures.read
 
 pub returns-clause-session : goal.returns-clause-session
 returns-clause-session c =

@@ -4,4 +4,5 @@ use Rattle.ll_top.specs.Calls.{nothing}
 use Rattle.ll_top.proofs.session.reply_over.Goals as goal
 
 pub returns-in_err-index-clause-ends : goal.returns-in_err-index-clause-ends
-returns-in_err-index-clause-ends g c = λ program is. let p = err_from_is_err_and c.from_residual.result c.from_residual.ensures.1 in rw (p.1, p.2) (nothing refl)
+returns-in_err-index-clause-ends g c = λ program is. let p = err_from_is_err_and c.from_residual.result c.from_residual.ensures.1 in
+    rw (p.1, p.2) (nothing refl)

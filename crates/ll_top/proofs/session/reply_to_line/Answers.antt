@@ -9,28 +9,40 @@ use Rattle.ll_top.proofs.calls.SessionLemmas.{query-indexed}
 use Rattle.ll_top.proofs.session.reply_to_line.Goals as goal
 
 pub reply_with_run-requires-clause-valid : goal.reply_with_run-requires-clause-valid
-reply_with_run-requires-clause-valid g c κs within = let l = c.requires.loaded in (c.in-Ok.ensures.asks l.0 (subst (IsProgramOf l.0) (sym c.in_ok-part.ensures) l.1)).1
+reply_with_run-requires-clause-valid g c κs within = let l = c.requires.loaded in
+    (c.in-Ok.ensures.asks l.0 (subst (IsProgramOf l.0) (sym c.in_ok-part.ensures) l.1)).1
 
 pub reply_with_run-requires-clause-index : goal.reply_with_run-requires-clause-index
 reply_with_run-requires-clause-index g c κs within =
     let l = c.requires.loaded in
-    query-indexed l.0 c.args.loaded.now c.args.line.now c.args.session.now.bound c.in-Ok.problem _ l.1 (c.in-Ok.ensures.asks l.0 (subst (IsProgramOf l.0) (sym c.in_ok-part.ensures) l.1)).0 c.requires.index
+    query-indexed l.0 c.args.loaded.now c.args.line.now c.args.session.now.bound c.in-Ok.problem _ l.1
+    (c.in-Ok.ensures.asks l.0 (subst (IsProgramOf l.0) (sym c.in_ok-part.ensures) l.1)).0 c.requires.index
 
 pub returns-in-Ok-clause-replies : goal.returns-in-Ok-clause-replies
 returns-in-Ok-clause-replies g c =
     let s = c.args.session.now in
     on-ok
-    {Q = (program : ProgramTree) → IsProgramOf program c.args.loaded.now → Replies (WritesReply s.proofs s.queries.now) (CutsReply s.proofs s.queries.now) program s.bound c.args.number c.args.line.now (g.O.Sink.written c.args.sink.now) (g.O.Sink.written c.reply_with_run.new.sink)}
+    {Q = (program : ProgramTree) → IsProgramOf program c.args.loaded.now
+    → Replies (WritesReply s.proofs s.queries.now) (CutsReply s.proofs s.queries.now) program s.bound c.args.number c.args.line.now
+    (g.O.Sink.written c.args.sink.now) (g.O.Sink.written c.reply_with_run.new.sink)}
     c.reply_with_run.result
-    (λ taken program is. record { what = Ok c.in-Ok.problem; asks = (c.in-Ok.ensures.asks program (subst (IsProgramOf program) (sym c.in_ok-part.ensures) is)).0; taken = taken }) c.reply_with_run.ensures.text
+    (λ taken program is. record {
+      what = Ok c.in-Ok.problem;
+      asks =
+          (c.in-Ok.ensures.asks program (subst (IsProgramOf program) (sym c.in_ok-part.ensures) is)).0;
+      taken = taken;
+    }) c.reply_with_run.ensures.text
 
 pub returns-in-Ok-clause-cut : goal.returns-in-Ok-clause-cut
 returns-in-Ok-clause-cut g c =
     let s = c.args.session.now in
     on-err
-    {Q = (program : ProgramTree) → IsProgramOf program c.args.loaded.now → RefusesLine (WritesReply s.proofs s.queries.now) (CutsReply s.proofs s.queries.now) program s.bound c.args.number c.args.line.now (g.O.Sink.written c.args.sink.now) (g.O.Sink.written c.reply_with_run.new.sink)}
+    {Q = (program : ProgramTree) → IsProgramOf program c.args.loaded.now
+    → RefusesLine (WritesReply s.proofs s.queries.now) (CutsReply s.proofs s.queries.now) program s.bound c.args.number c.args.line.now
+    (g.O.Sink.written c.args.sink.now) (g.O.Sink.written c.reply_with_run.new.sink)}
     c.reply_with_run.result
-    (λ broke program is. line_refused (Ok c.in-Ok.problem) (c.in-Ok.ensures.asks program (subst (IsProgramOf program) (sym c.in_ok-part.ensures) is)).0 broke) c.reply_with_run.ensures.prefix
+    (λ broke program is. line_refused (Ok c.in-Ok.problem) (c.in-Ok.ensures.asks program (subst (IsProgramOf program) (sym c.in_ok-part.ensures) is)).0 broke)
+    c.reply_with_run.ensures.prefix
 
 pub returns-in-Err-Text-clause-replies : goal.returns-in-Err-Text-clause-replies
 returns-in-Err-Text-clause-replies g c =
@@ -38,9 +50,16 @@ returns-in-Err-Text-clause-replies g c =
     let cause = rw c.in-Err-Text.field-0-is at c.in-Err-Text.ensures.cause in
     let asked = rw c.on_line.ensures at c.reply_with_fault.ensures.text in
     on-ok
-    {Q = (program : ProgramTree) → IsProgramOf program c.args.loaded.now → Replies (WritesReply s.proofs s.queries.now) (CutsReply s.proofs s.queries.now) program s.bound c.args.number c.args.line.now (g.O.Sink.written c.args.sink.now) (g.O.Sink.written c.reply_with_fault.new.sink)}
+    {Q = (program : ProgramTree) → IsProgramOf program c.args.loaded.now
+    → Replies (WritesReply s.proofs s.queries.now) (CutsReply s.proofs s.queries.now) program s.bound c.args.number c.args.line.now
+    (g.O.Sink.written c.args.sink.now) (g.O.Sink.written c.reply_with_fault.new.sink)}
     c.reply_with_fault.result
-    (λ taken program is. record { what = Err (on_line c.args.number c.in-Err-Text.fault); asks = (c.in-Err-Text.fault, cause program (c.in_ok-part.ensures ∙ is.is), refl); taken = taken }) asked
+    (λ taken program is. record {
+      what = Err (on_line c.args.number c.in-Err-Text.fault);
+      asks =
+          (c.in-Err-Text.fault, cause program (c.in_ok-part.ensures ∙ is.is), refl);
+      taken = taken;
+    }) asked
 
 pub returns-in-Err-Text-clause-cut : goal.returns-in-Err-Text-clause-cut
 returns-in-Err-Text-clause-cut g c =
@@ -48,6 +67,12 @@ returns-in-Err-Text-clause-cut g c =
     let cause = rw c.in-Err-Text.field-0-is at c.in-Err-Text.ensures.cause in
     let asked = rw c.on_line.ensures at c.reply_with_fault.ensures.prefix in
     on-err
-    {Q = (program : ProgramTree) → IsProgramOf program c.args.loaded.now → RefusesLine (WritesReply s.proofs s.queries.now) (CutsReply s.proofs s.queries.now) program s.bound c.args.number c.args.line.now (g.O.Sink.written c.args.sink.now) (g.O.Sink.written c.reply_with_fault.new.sink)}
+    {Q = (program : ProgramTree) → IsProgramOf program c.args.loaded.now
+    → RefusesLine (WritesReply s.proofs s.queries.now) (CutsReply s.proofs s.queries.now) program s.bound c.args.number c.args.line.now
+    (g.O.Sink.written c.args.sink.now) (g.O.Sink.written c.reply_with_fault.new.sink)}
     c.reply_with_fault.result
-    (λ broke program is. line_refused (Err (on_line c.args.number c.in-Err-Text.fault)) (c.in-Err-Text.fault, cause program (c.in_ok-part.ensures ∙ is.is), refl) broke) asked
+    (λ broke program is. line_refused (Err (on_line c.args.number c.in-Err-Text.fault)) (
+      c.in-Err-Text.fault,
+      cause program (c.in_ok-part.ensures ∙ is.is),
+      refl,
+    ) broke) asked

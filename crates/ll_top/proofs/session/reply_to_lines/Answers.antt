@@ -11,7 +11,11 @@ use Rattle.ll_top.proofs.session.reply_to_lines.Goals as goal
 pub loop-rest-init : goal.loop-rest-init
 loop-rest-init g c =
     let proofs = c.args.session.now.proofs in let name = c.args.session.now.queries.now in record {
-      answered = λ program is. (0, none-answered (WritesReply proofs name) (CutsReply proofs name) program c.args.text.now c.args.session.now.bound (g.O.Sink.written c.args.sink.now));
+      answered = λ program is. (
+        0,
+        none-answered (WritesReply proofs name) (CutsReply proofs name) program c.args.text.now c.args.session.now.bound
+            (g.O.Sink.written c.args.sink.now),
+      );
       faults_kept = le_refl _;
       few = let h = c.requires.text in omega arith;
     }
@@ -22,8 +26,10 @@ loop-rest-preserved-in-Continue-1 g c =
     let i = c.loop-rest.invariant in record {
       answered = λ program is. let a = i.answered program is in (
         _,
-        line-answered (WritesReply proofs name) (CutsReply proofs name) program c.args.text.now c.args.session.now.bound (g.O.Sink.written c.args.sink.now) c.loop-rest.number a.0 c.loop-rest.rest.now c.split_line.result.0.now c.split_line.result.1.now (g.O.Sink.written c.loop-rest.sink)
-            c.split_line.ensures.lines a.1 (sym c.if-is_query_line.ensures) (g.O.Sink.written c.reply_to_line.new.sink) (c.in_ok-reply_to_line.ensures.replies program is),
+        line-answered (WritesReply proofs name) (CutsReply proofs name) program c.args.text.now c.args.session.now.bound (g.O.Sink.written c.args.sink.now)
+            c.loop-rest.number a.0 c.loop-rest.rest.now c.split_line.result.0.now c.split_line.result.1.now (g.O.Sink.written c.loop-rest.sink)
+            c.split_line.ensures.lines a.1 (sym c.if-is_query_line.ensures) (g.O.Sink.written c.reply_to_line.new.sink)
+            (c.in_ok-reply_to_line.ensures.replies program is),
       );
       faults_kept = le_trans i.faults_kept c.in_ok-reply_to_line.ensures.faults_kept;
       few = let a = i.few in let b = c.split_line.ensures.shorter in omega arith;
@@ -35,7 +41,8 @@ loop-rest-preserved g c =
     let i = c.loop-rest.invariant in record {
       answered = λ program is. let a = i.answered program is in (
         a.0,
-        line-passed (WritesReply proofs name) (CutsReply proofs name) program c.args.text.now c.args.session.now.bound (g.O.Sink.written c.args.sink.now) c.loop-rest.number a.0 c.loop-rest.rest.now c.split_line.result.0.now c.split_line.result.1.now (g.O.Sink.written c.loop-rest.sink)
+        line-passed (WritesReply proofs name) (CutsReply proofs name) program c.args.text.now c.args.session.now.bound (g.O.Sink.written c.args.sink.now)
+            c.loop-rest.number a.0 c.loop-rest.rest.now c.split_line.result.0.now c.split_line.result.1.now (g.O.Sink.written c.loop-rest.sink)
             c.split_line.ensures.lines a.1 (sym c.if-is_query_line.ensures),
       );
       faults_kept = i.faults_kept;
@@ -48,15 +55,19 @@ returns-in_err-reply_to_line-clause-ends g c = λ program is.
     let i = c.loop-rest.invariant in let a = i.answered program is in
     let p = err_from_is_err_and c.from_residual.result c.from_residual.ensures.1 in
     rw (p.1, p.2)
-    (lines-stopped proofs name program c.args.text.now c.args.session.now.bound (g.O.Sink.written c.args.sink.now) (g.O.Sink.written c.reply_to_line.new.sink) {A = unit.Denot} (λ x. 0) _ _ _
+    (lines-stopped proofs name program c.args.text.now c.args.session.now.bound (g.O.Sink.written c.args.sink.now) (g.O.Sink.written c.reply_to_line.new.sink)
+    {A = unit.Denot} (λ x. 0) _ _ _
     (refusal-later _ _ _ _ i.faults_kept c.in_err-reply_to_line.ensures.refused)
-    (line-refused (WritesReply proofs name) (CutsReply proofs name) program c.args.text.now c.args.session.now.bound (g.O.Sink.written c.args.sink.now) c.loop-rest.number a.0 c.loop-rest.rest.now c.split_line.result.0.now c.split_line.result.1.now (g.O.Sink.written c.loop-rest.sink)
-    c.split_line.ensures.lines a.1 (sym c.if-is_query_line.ensures) (c.one_session.ensures.some program is.faultless c.args.session.now.bound) (g.O.Sink.written c.reply_to_line.new.sink) (c.in_err-reply_to_line.ensures.cut program is)))
+    (line-refused (WritesReply proofs name) (CutsReply proofs name) program c.args.text.now c.args.session.now.bound (g.O.Sink.written c.args.sink.now)
+    c.loop-rest.number a.0 c.loop-rest.rest.now c.split_line.result.0.now c.split_line.result.1.now (g.O.Sink.written c.loop-rest.sink)
+    c.split_line.ensures.lines a.1 (sym c.if-is_query_line.ensures) (c.one_session.ensures.some program is.faultless c.args.session.now.bound)
+    (g.O.Sink.written c.reply_to_line.new.sink) (c.in_err-reply_to_line.ensures.cut program is)))
 
 pub returns-clause-ends : goal.returns-clause-ends
 returns-clause-ends g c = λ program is.
     let proofs = c.args.session.now.proofs in let name = c.args.session.now.queries.now in
     let a = c.loop-rest.invariant.answered program is in
     replies-written proofs name program c.args.text.now c.args.session.now.bound (g.O.Sink.written c.args.sink.now) (g.O.Sink.written c.loop-rest.sink) a.0
-    (all-answered (WritesReply proofs name) (CutsReply proofs name) program c.args.text.now c.args.session.now.bound (g.O.Sink.written c.args.sink.now) c.loop-rest.number a.0 c.loop-rest.rest.now (g.O.Sink.written c.loop-rest.sink)
+    (all-answered (WritesReply proofs name) (CutsReply proofs name) program c.args.text.now c.args.session.now.bound (g.O.Sink.written c.args.sink.now)
+    c.loop-rest.number a.0 c.loop-rest.rest.now (g.O.Sink.written c.loop-rest.sink)
     ((Decides-eqb (length c.loop-rest.rest.now) 0).0 (sym c.loop-rest-test.ensures)) a.1)

@@ -8,7 +8,8 @@ use Rattle.ll_top.proofs.session.reply_to_lines.Given as goal
 abbrev pub invariant-loop-rest : goal.invariant-loop-rest
 invariant-loop-rest g l = record {
   answered : (program : ProgramTree) → IsProgramOf program l.loaded
-      → (count : ℕ) × IsAnsweredTo (WritesReply l.session.proofs l.session.queries.now) (CutsReply l.session.proofs l.session.queries.now) program l.text l.session.bound (g.O.Sink.written l.initial.sink) l.number count l.rest (g.O.Sink.written l.sink);
+      → (count : ℕ) × IsAnsweredTo (WritesReply l.session.proofs l.session.queries.now) (CutsReply l.session.proofs l.session.queries.now) program l.text
+      l.session.bound (g.O.Sink.written l.initial.sink) l.number count l.rest (g.O.Sink.written l.sink);
   faults_kept : g.O.Sink.faults l.initial.sink ≤ g.O.Sink.faults l.sink;
   few : l.number + length l.rest ≤ 16777216;
 }

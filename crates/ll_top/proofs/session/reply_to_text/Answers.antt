@@ -7,7 +7,8 @@ reply_over-requires-clause-loaded g c κs within = (c.in-Ok.ensures.part.tree, l
 
 pub returns-in-Ok-clause-ends : goal.returns-in-Ok-clause-ends
 returns-in-Ok-clause-ends g c =
-    lines-ended (λ x. 0) c.args.session.now.proofs c.args.session.now.queries.now c.args.program.now c.args.text.now c.args.session.now.bound c.in-Ok.loaded _ _ _ _ c.in-Ok.ensures.part c.reply_over.ensures.ends
+    lines-ended (λ x. 0) c.args.session.now.proofs c.args.session.now.queries.now c.args.program.now c.args.text.now c.args.session.now.bound c.in-Ok.loaded _ _
+    _ _ c.in-Ok.ensures.part c.reply_over.ensures.ends
 
 pub returns-in-Err-clause-ends : goal.returns-in-Err-clause-ends
 returns-in-Err-clause-ends g c = not-loaded {A = unit.Denot} _ (λ x. 0) c.args.program.now _ _ c.in-Err.fault _ c.refusal.ensures c.in-Err.ensures.cause

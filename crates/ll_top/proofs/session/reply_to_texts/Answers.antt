@@ -15,9 +15,12 @@ pub returns-in_err-text-clause-ends : goal.returns-in_err-text-clause-ends
 returns-in_err-text-clause-ends g c =
     let p = err_from_is_err_and c.from_residual-in_err-text.result c.from_residual-in_err-text.ensures.1 in
     rw (p.1, p.2) (queries-not-read {A = unit.Denot} _ _ _ (shown_session c.args.session.now) (λ x. 0) _ _ _ _ c.in_ok-program.ensures.read
-    (not-read-later _ _ _ _ _ _ _ _ (Rose-later _ _ _ c.in_ok-program.ensures.absences_kept) (Rose-later _ _ _ c.in_ok-program.ensures.faults_kept) (rw c.in_ok-program.ensures.same_texts at c.in_err-text.ensures.refused)))
+    (not-read-later _ _ _ _ _ _ _ _ (Rose-later _ _ _ c.in_ok-program.ensures.absences_kept) (Rose-later _ _ _ c.in_ok-program.ensures.faults_kept)
+    (rw c.in_ok-program.ensures.same_texts at c.in_err-text.ensures.refused)))
 
 pub returns-clause-ends : goal.returns-clause-ends
 returns-clause-ends g c =
-    texts-ended {A = unit.Denot} _ _ _ (shown_session c.args.session.now) (λ x. 0) _ c.in_ok-program.program.items c.in_ok-text.text.items c.in_ok-program.ensures.read
-    (rw c.in_ok-program.ensures.same_texts at c.in_ok-text.ensures.read) _ _ _ (rw (c.deref.ensures.value, c.deref-2.ensures.value) at c.reply_to_text.ensures.ends)
+    texts-ended {A = unit.Denot} _ _ _ (shown_session c.args.session.now) (λ x. 0) _ c.in_ok-program.program.items c.in_ok-text.text.items
+    c.in_ok-program.ensures.read
+    (rw c.in_ok-program.ensures.same_texts at c.in_ok-text.ensures.read) _ _ _
+    (rw (c.deref.ensures.value, c.deref-2.ensures.value) at c.reply_to_text.ensures.ends)

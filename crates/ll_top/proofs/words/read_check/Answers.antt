@@ -18,13 +18,15 @@ pub returns-in_err-query : goal.returns-in_err-query
 returns-in_err-query c =
     let words = word_texts c.args.words.now in
     bad-answer (λ check. IsCheck words (shown_check check)) (IsBadFormWord check_form words) _ _ c.from_residual-in_err-query.ensures.1
-    (no-checked_query words c.requires (has-name words 1 _ c.in_ok-program.ensures.0 c.in_ok-program.ensures.1) _ c.in_err-query.ensures.0 c.in_err-query.ensures.1)
+    (no-checked_query words c.requires (has-name words 1 _ c.in_ok-program.ensures.0 c.in_ok-program.ensures.1) _ c.in_err-query.ensures.0
+    c.in_err-query.ensures.1)
 
 pub returns-in_err-proof : goal.returns-in_err-proof
 returns-in_err-proof c =
     let words = word_texts c.args.words.now in
     bad-answer (λ check. IsCheck words (shown_check check)) (IsBadFormWord check_form words) _ _ c.from_residual-in_err-proof.ensures.1
-    (no-checked_proof words c.requires (has-name words 1 _ c.in_ok-program.ensures.0 c.in_ok-program.ensures.1) (has-name words 2 _ c.in_ok-query.ensures.0 c.in_ok-query.ensures.1) _
+    (no-checked_proof words c.requires (has-name words 1 _ c.in_ok-program.ensures.0 c.in_ok-program.ensures.1)
+    (has-name words 2 _ c.in_ok-query.ensures.0 c.in_ok-query.ensures.1) _
     c.in_err-proof.ensures.0 c.in_err-proof.ensures.1)
 
 pub returns-then-words-gt4 : goal.returns-then-words-gt4
@@ -32,7 +34,8 @@ returns-then-words-gt4 c =
     let words = word_texts c.args.words.now in
     let same = length-map c.args.words.now (λ (b : Bor (List ℕ)). b.now) in
     let more : 4 < length words = let h = c.if-words-gt4.true in omega arith in
-    one-more_checked words c.requires (has-name words 1 _ c.in_ok-program.ensures.0 c.in_ok-program.ensures.1) (has-name words 2 _ c.in_ok-query.ensures.0 c.in_ok-query.ensures.1)
+    one-more_checked words c.requires (has-name words 1 _ c.in_ok-program.ensures.0 c.in_ok-program.ensures.1)
+    (has-name words 2 _ c.in_ok-query.ensures.0 c.in_ok-query.ensures.1)
     (has-name words 3 _ c.in_ok-proof.ensures.0 c.in_ok-proof.ensures.1) more
 
 pub returns : goal.returns
@@ -40,5 +43,6 @@ returns c =
     let words = word_texts c.args.words.now in
     let same = length-map c.args.words.now (λ (b : Bor (List ℕ)). b.now) in
     let few : length words ≤ 4 = let h = c.if-words-gt4.false in omega arith in
-    whole-check words c.requires (has-name words 1 _ c.in_ok-program.ensures.0 c.in_ok-program.ensures.1) (has-name words 2 _ c.in_ok-query.ensures.0 c.in_ok-query.ensures.1)
+    whole-check words c.requires (has-name words 1 _ c.in_ok-program.ensures.0 c.in_ok-program.ensures.1)
+    (has-name words 2 _ c.in_ok-query.ensures.0 c.in_ok-query.ensures.1)
     (has-name words 3 _ c.in_ok-proof.ensures.0 c.in_ok-proof.ensures.1) _ refl c.in_ok-program.ensures.0 c.in_ok-query.ensures.0 c.in_ok-proof.ensures.0 few

@@ -11,7 +11,8 @@ use Rattle.ll_top.proofs.words.read_print.Goals as goal
 pub returns-in_err-name : goal.returns-in_err-name
 returns-in_err-name c =
     let words = word_texts c.args.words.now in
-    bad-answer (λ name. IsPrint words name.now) (IsBadFormWord print_form words) _ _ c.from_residual.ensures.1 (no-name words c.requires _ c.in_err-name.ensures.0 c.in_err-name.ensures.1)
+    bad-answer (λ name. IsPrint words name.now) (IsBadFormWord print_form words) _ _ c.from_residual.ensures.1
+    (no-name words c.requires _ c.in_err-name.ensures.0 c.in_err-name.ensures.1)
 
 pub returns-then-words-gt2 : goal.returns-then-words-gt2
 returns-then-words-gt2 c =

@@ -10,7 +10,8 @@ use Rattle.ll_trace.proofs.deal.deal.Given as goal
 abbrev pub invariant-loop-node : goal.invariant-loop-node
 invariant-loop-node l = record {
   dealt : (bank : Nodes) (x : Tree) → trees_of (map (line_of bank) l.fn.rules.items) ≡ Some (x ∷ [])
-      → DealLeft (map (line_of bank) l.node-iterator.rest.items) x l.fn.labels.items (map (line_of bank) l.rules.items) l.pending.items (drop (length l.rules.items) l.outline.uses);
+      → DealLeft (map (line_of bank) l.node-iterator.rest.items) x l.fn.labels.items (map (line_of bank) l.rules.items) l.pending.items
+      (drop (length l.rules.items) l.outline.uses);
   left : drop (length l.rules.items) l.fn.rules.items ≡ l.node-iterator.rest.items;
   done : (bank : Nodes) → HasLines bank l.fn.rules.items → HasLines bank l.rules.items;
 }

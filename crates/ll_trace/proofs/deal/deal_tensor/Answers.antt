@@ -15,7 +15,8 @@ returns-clause-dealt c = λ s t bank ts vs h f1 f2 d.
     let first : Share = record { labels = c.in_ok-mine.mine; level = c.args.share.level } in
     let second : Share = record { labels = c.in_ok-mine.others; level = c.args.share.level } in
     let lines : TensorLine c.in_ok-mine.mine.items c.in_ok-mine.others.items ≡ TensorLine c.in_ok-left.left.items c.in_ok-right.right.items =
-    ap (λ xs. TensorLine xs c.in_ok-mine.others.items) (sym (c.in_ok-left.ensures.items ∙ c.deref-4.ensures.value)) ∙ ap (TensorLine c.in_ok-left.left.items) (sym (c.in_ok-right.ensures.items ∙ c.deref-5.ensures.value)) in
+    ap (λ xs. TensorLine xs c.in_ok-mine.others.items) (sym (c.in_ok-left.ensures.items ∙ c.deref-4.ensures.value))
+    ∙ ap (TensorLine c.in_ok-left.left.items) (sym (c.in_ok-right.ensures.items ∙ c.deref-5.ensures.value)) in
     subst (λ (l : Line). IsNodeStep c.args.outline.now (c.args.at + 1) c.args.share c.args.pending.now.items c.push-2.new.self.items l ts vs) lines
     (tensor-step c.args.outline.now c.args.at c.args.share first second fork c.args.pending.now.items c.push.new.self.items c.push-2.new.self.items s t ts vs
     (record {

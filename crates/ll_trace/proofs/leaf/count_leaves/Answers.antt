@@ -19,9 +19,11 @@ loop-form-preserved-in-Continue-branch-3 c =
     let q = c.in-With.ensures.shown.parts.1 in
     let l = c.in-With.left in
     let r = c.in-With.right in
-    let s = count_step forms c.loop-form.waiting.items c.pop.new.self.items (r ∷ l ∷ []) c.extend_from_slice.new.self.items c.in-Some.form c.loop-form.count _ c.in-Some.ensures.items
+    let s = count_step forms c.loop-form.waiting.items c.pop.new.self.items (r ∷ l ∷ []) c.extend_from_slice.new.self.items c.in-Some.form c.loop-form.count _
+    c.in-Some.ensures.items
     c.in_ok-extend_from_slice-in-With.ensures.items i.inside (All-cons P r (l ∷ []) (omega (arith, h, q)) (All-cons P l [] (omega (arith, h, p)) (All-nil P)))
-    (let a = ap (λ (t : Form). length (ways t)) c.in-With.ensures.shown.tree ∙ ways-with (form_tree forms l.0) (form_tree forms r.0) in omega (arith, a)) i.so_far in
+    (let a = ap (λ (t : Form). length (ways t)) c.in-With.ensures.shown.tree ∙ ways-with (form_tree forms l.0) (form_tree forms r.0) in
+    omega (arith, a)) i.so_far in
     record { inside = s.inside; so_far = s.so_far }
 
 pub loop-form-preserved-in-Continue-branch-4 : goal.loop-form-preserved-in-Continue-branch-4
@@ -32,7 +34,8 @@ loop-form-preserved-in-Continue-branch-4 c =
     let h = (All-pop P c.loop-form.waiting.items c.pop.new.self.items (Some c.in-Some.form) c.in-Some.ensures.items i.inside).1 in
     let q = c.in-Lolli.ensures.shown.parts.1 in
     let r = c.in-Lolli.rest in
-    let s = count_step forms c.loop-form.waiting.items c.pop.new.self.items (r ∷ []) c.push-in-Lolli.new.self.items c.in-Some.form c.loop-form.count _ c.in-Some.ensures.items
+    let s = count_step forms c.loop-form.waiting.items c.pop.new.self.items (r ∷ []) c.push-in-Lolli.new.self.items c.in-Some.form c.loop-form.count _
+    c.in-Some.ensures.items
     c.in_ok-push-in-Lolli.ensures.items i.inside (All-cons P r [] (omega (arith, h, q)) (All-nil P))
     (let a = ap (λ (t : Form). length (ways t)) c.in-Lolli.ensures.shown.tree in omega (arith, a)) i.so_far in
     record { inside = s.inside; so_far = s.so_far }
@@ -45,7 +48,8 @@ loop-form-preserved-in-Continue-branch-5 c =
     let h = (All-pop P c.loop-form.waiting.items c.pop.new.self.items (Some c.in-Some.form) c.in-Some.ensures.items i.inside).1 in
     let q = c.in-Imp.ensures.shown.parts.1 in
     let r = c.in-Imp.rest in
-    let s = count_step forms c.loop-form.waiting.items c.pop.new.self.items (r ∷ []) c.push-in-Imp.new.self.items c.in-Some.form c.loop-form.count _ c.in-Some.ensures.items
+    let s = count_step forms c.loop-form.waiting.items c.pop.new.self.items (r ∷ []) c.push-in-Imp.new.self.items c.in-Some.form c.loop-form.count _
+    c.in-Some.ensures.items
     c.in_ok-push-in-Imp.ensures.items i.inside (All-cons P r [] (omega (arith, h, q)) (All-nil P))
     (let a = ap (λ (t : Form). length (ways t)) c.in-Imp.ensures.shown.tree in omega (arith, a)) i.so_far in
     record { inside = s.inside; so_far = s.so_far }
@@ -58,7 +62,8 @@ loop-form-preserved-in-Continue-branch-6 c =
     let h = (All-pop P c.loop-form.waiting.items c.pop.new.self.items (Some c.in-Some.form) c.in-Some.ensures.items i.inside).1 in
     let q = c.in-Forall.ensures.shown.parts in
     let r = c.in-Forall.rest in
-    let s = count_step forms c.loop-form.waiting.items c.pop.new.self.items (r ∷ []) c.push-in-Forall.new.self.items c.in-Some.form c.loop-form.count _ c.in-Some.ensures.items
+    let s = count_step forms c.loop-form.waiting.items c.pop.new.self.items (r ∷ []) c.push-in-Forall.new.self.items c.in-Some.form c.loop-form.count _
+    c.in-Some.ensures.items
     c.in_ok-push-in-Forall.ensures.items i.inside (All-cons P r [] (omega (arith, h, q)) (All-nil P))
     (let a = ap (λ (t : Form). length (ways t)) c.in-Forall.ensures.shown.tree ∙ ways_quantified (form_tree forms r.0) in omega (arith, a)) i.so_far in
     record { inside = s.inside; so_far = s.so_far }

@@ -12,12 +12,14 @@ use Rattle.ll_trace.proofs.LeafLemmas.{way_start, way_left, way_right, way_past,
 use Rattle.ll_trace.proofs.leaf.open_leaf.Goals as goal
 
 pub loop-parts-init : goal.loop-parts-init
-loop-parts-init c = way_start c.args.forms.now c.args.clause.0 c.args.leaf c.args.goals.now.items c.requires.inside c.requires.among c.new-parts.result.items c.new-parts.ensures.items
+loop-parts-init c = way_start c.args.forms.now c.args.clause.0 c.args.leaf c.args.goals.now.items c.requires.inside c.requires.among c.new-parts.result.items
+    c.new-parts.ensures.items
 
 pub returns-in-Atom : goal.returns-in-Atom
 returns-in-Atom c =
     let w = c.loop-parts.invariant in
-    way_end c.args.forms.now c.args.clause.0 c.args.leaf c.args.goals.now.items c.loop-parts.form.0 c.loop-parts.leaf c.loop-parts.quantifiers c.loop-parts.goals.items c.loop-parts.parts.items w _ _ c.in-Atom.ensures.shown.tree refl
+    way_end c.args.forms.now c.args.clause.0 c.args.leaf c.args.goals.now.items c.loop-parts.form.0 c.loop-parts.leaf c.loop-parts.quantifiers
+    c.loop-parts.goals.items c.loop-parts.parts.items w _ _ c.in-Atom.ensures.shown.tree refl
     c.reverse.ensures.items
 
 pub loop-parts-preserved-in-With : goal.loop-parts-preserved-in-With
@@ -43,7 +45,8 @@ loop-parts-preserved-in-With c =
           (way_left forms clause k old c.loop-parts.form.0 c.loop-parts.leaf n new parts w l r c.in-With.ensures.shown.tree (omega (arith, h, p)) less))
       | inr past ↦ let s = c.in_ok-side-in-With.ensures.1 past in
           subst (λ (f : FormAt). IsOnWay forms clause k old f.0 side.leaf n new parts) (sym s.0)
-          (way_right forms clause k old c.loop-parts.form.0 c.loop-parts.leaf n new parts w l r side.leaf c.in-With.ensures.shown.tree (omega (arith, h, q)) past s.1)
+          (way_right forms clause k old c.loop-parts.form.0 c.loop-parts.leaf n new parts w l r side.leaf c.in-With.ensures.shown.tree (omega (arith, h, q))
+          past s.1)
     ]
 
 pub loop-parts-preserved-in-Lolli : goal.loop-parts-preserved-in-Lolli
@@ -55,9 +58,12 @@ loop-parts-preserved-in-Lolli c =
     let forms = c.args.forms.now in
     let tree = c.in-Lolli.ensures.shown.tree in
     let at = c.loop-parts.leaf in
-    way_past forms c.args.clause.0 c.args.leaf c.args.goals.now.items c.loop-parts.form.0 at c.loop-parts.quantifiers c.loop-parts.goals.items c.loop-parts.parts.items w
-    (Needs (bare (form_tree forms c.in-Lolli.goal.0))) (Plain c.in-Lolli.goal) (bare (form_tree forms c.in-Lolli.next.0)) c.in-Lolli.next.0 (Bounded c.new.result) c.push.new.self.items c.push-in-Lolli.new.self.items refl
-    (omega (arith, h, q)) (ap (λ t. premises_at (bare t) at) tree) (ap (λ t. ways (bare t)) tree) (λ n. omega (arith, h, p)) (λ ms. refl) (ap (λ xs. Labels xs) c.new.ensures.items) c.in_ok-push-in-Lolli.ensures.items
+    way_past forms c.args.clause.0 c.args.leaf c.args.goals.now.items c.loop-parts.form.0 at c.loop-parts.quantifiers c.loop-parts.goals.items
+    c.loop-parts.parts.items w
+    (Needs (bare (form_tree forms c.in-Lolli.goal.0))) (Plain c.in-Lolli.goal) (bare (form_tree forms c.in-Lolli.next.0)) c.in-Lolli.next.0
+    (Bounded c.new.result) c.push.new.self.items c.push-in-Lolli.new.self.items refl
+    (omega (arith, h, q)) (ap (λ t. premises_at (bare t) at) tree) (ap (λ t. ways (bare t)) tree) (λ n. omega (arith, h, p)) (λ ms. refl)
+    (ap (λ xs. Labels xs) c.new.ensures.items) c.in_ok-push-in-Lolli.ensures.items
     c.in_ok-push-in-Lolli-2.ensures.items
 
 pub loop-parts-preserved-in-Imp : goal.loop-parts-preserved-in-Imp
@@ -69,14 +75,18 @@ loop-parts-preserved-in-Imp c =
     let forms = c.args.forms.now in
     let tree = c.in-Imp.ensures.shown.tree in
     let at = c.loop-parts.leaf in
-    way_past forms c.args.clause.0 c.args.leaf c.args.goals.now.items c.loop-parts.form.0 at c.loop-parts.quantifiers c.loop-parts.goals.items c.loop-parts.parts.items w
-    (NeedsFree (bare (form_tree forms c.in-Imp.goal.0))) (Free c.in-Imp.goal) (bare (form_tree forms c.in-Imp.next.0)) c.in-Imp.next.0 Unbounded c.push-in-Imp.new.self.items c.push-in-Imp-2.new.self.items refl
-    (omega (arith, h, q)) (ap (λ t. premises_at (bare t) at) tree) (ap (λ t. ways (bare t)) tree) (λ n. omega (arith, h, p)) (λ ms. refl) refl c.in_ok-push-in-Imp.ensures.items c.in_ok-push-in-Imp-2.ensures.items
+    way_past forms c.args.clause.0 c.args.leaf c.args.goals.now.items c.loop-parts.form.0 at c.loop-parts.quantifiers c.loop-parts.goals.items
+    c.loop-parts.parts.items w
+    (NeedsFree (bare (form_tree forms c.in-Imp.goal.0))) (Free c.in-Imp.goal) (bare (form_tree forms c.in-Imp.next.0)) c.in-Imp.next.0 Unbounded
+    c.push-in-Imp.new.self.items c.push-in-Imp-2.new.self.items refl
+    (omega (arith, h, q)) (ap (λ t. premises_at (bare t) at) tree) (ap (λ t. ways (bare t)) tree) (λ n. omega (arith, h, p)) (λ ms. refl) refl
+    c.in_ok-push-in-Imp.ensures.items c.in_ok-push-in-Imp-2.ensures.items
 
 pub loop-parts-preserved : goal.loop-parts-preserved
 loop-parts-preserved c =
     let w = c.loop-parts.invariant in
     let h = w.inside in
     let p = c.in-Forall.ensures.shown.parts in
-    way_in c.args.forms.now c.args.clause.0 c.args.leaf c.args.goals.now.items c.loop-parts.form.0 c.loop-parts.leaf c.loop-parts.quantifiers c.loop-parts.goals.items c.loop-parts.parts.items w c.in-Forall.body.0
+    way_in c.args.forms.now c.args.clause.0 c.args.leaf c.args.goals.now.items c.loop-parts.form.0 c.loop-parts.leaf c.loop-parts.quantifiers
+    c.loop-parts.goals.items c.loop-parts.parts.items w c.in-Forall.body.0
     c.in_ok-quantifiers-in-Forall.quantifiers c.in-Forall.ensures.shown.tree (omega (arith, h, p)) c.in_ok-quantifiers-in-Forall.ensures

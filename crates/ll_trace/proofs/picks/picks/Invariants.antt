@@ -9,4 +9,5 @@ use Rattle.ll_trace.proofs.picks.picks.Given as goal
 
 abbrev pub invariant-loop-rule : goal.invariant-loop-rule
 invariant-loop-rule l =
-    (bank : Nodes) (x : Tree) → trees_of (map (line_of bank) l.rules) ≡ Some (x ∷ []) → PicksLeft (map (line_of bank) (drop l.rule-index l.rules)) x l.picks.items l.pending.items
+    (bank : Nodes) (x : Tree) → trees_of (map (line_of bank) l.rules) ≡ Some (x ∷ [])
+    → PicksLeft (map (line_of bank) (drop l.rule-index l.rules)) x l.picks.items l.pending.items

@@ -8,8 +8,10 @@ loop-index-init c = push-start c.args.pending.now.items c.args.level (length c.a
 
 pub loop-index-preserved : goal.loop-index-preserved
 loop-index-preserved c =
-    push-step c.args.pending.now.items c.loop-index.pending.items c.push.new.self.items c.args.level c.loop-index.index c.args.parts.now c.index-parts-index.result c.in_ok-below.below
+    push-step c.args.pending.now.items c.loop-index.pending.items c.push.new.self.items c.args.level c.loop-index.index c.args.parts.now
+    c.index-parts-index.result c.in_ok-below.below
     c.loop-index-test.true c.loop-index.auto.index c.index-parts-index.is c.in_ok-below.ensures c.loop-index.invariant c.in_ok-push.ensures.items
 
 pub returns : goal.returns
-returns c = let z : c.loop-index.index ≡ 0 = omega arith in c.loop-index.invariant ∙ ap (λ i. c.args.pending.now.items ++ reverse (map (level_of_part c.args.level) (drop i c.args.parts.now))) z
+returns c = let z : c.loop-index.index ≡ 0 = omega arith in c.loop-index.invariant
+    ∙ ap (λ i. c.args.pending.now.items ++ reverse (map (level_of_part c.args.level) (drop i c.args.parts.now))) z

@@ -6,7 +6,8 @@ pub halves-preserved-then-row-middle : goal.halves-preserved-then-row-middle
 halves-preserved-then-row-middle c = record {
   order = omega arith;
   within = c.halves.invariant.within;
-  below = below-more c.args.row.now c.args.from (c.halves.low + (c.halves.high - c.halves.low) / 2) _ c.requires (let w = c.halves.invariant.within in omega (arith, w)) c.if-row-middle.true;
+  below = below-more c.args.row.now c.args.from (c.halves.low + (c.halves.high - c.halves.low) / 2) _ c.requires (let w = c.halves.invariant.within in
+      omega (arith, w)) c.if-row-middle.true;
   above = c.halves.invariant.above;
 }
 
@@ -15,5 +16,6 @@ halves-preserved c = record {
   order = omega arith;
   within = let w = c.halves.invariant.within in omega (arith, w);
   below = c.halves.invariant.below;
-  above = above-more c.args.row.now c.args.from (c.halves.low + (c.halves.high - c.halves.low) / 2) _ c.requires (let w = c.halves.invariant.within in omega (arith, w)) c.if-row-middle.false;
+  above = above-more c.args.row.now c.args.from (c.halves.low + (c.halves.high - c.halves.low) / 2) _ c.requires (let w = c.halves.invariant.within in
+      omega (arith, w)) c.if-row-middle.false;
 }

@@ -14,11 +14,13 @@ pub loop-at-preserved : goal.loop-at-preserved
 loop-at-preserved c = λ n.
     elim c.match-picks-at.branch [
       | in-Some+in_ok-add_place w ↦
-          index-step n c.loop-at.at c.args.picks.now (Some w.in-Some.pick) (row_of (get nat_cmp c.loop-at.places n)) (row_of (get nat_cmp c.match-picks-at.places n)) c.loop-at-test.true
+          index-step n c.loop-at.at c.args.picks.now (Some w.in-Some.pick) (row_of (get nat_cmp c.loop-at.places n))
+          (row_of (get nat_cmp c.match-picks-at.places n)) c.loop-at-test.true
           (sym w.in-Some.is ∙ at-default c.args.picks.now c.loop-at.at _ _ c.loop-at-test.true) (c.loop-at.invariant n)
           (ap (λ (m : BTreeMap ℕ (Vec Place Global)). row_of (get nat_cmp m n)) w.places-is ∙ w.in_ok-add_place.ensures n)
       | in_default w ↦
-          index-step n c.loop-at.at c.args.picks.now None (row_of (get nat_cmp c.loop-at.places n)) (row_of (get nat_cmp c.match-picks-at.places n)) c.loop-at-test.true
+          index-step n c.loop-at.at c.args.picks.now None (row_of (get nat_cmp c.loop-at.places n)) (row_of (get nat_cmp c.match-picks-at.places n))
+          c.loop-at-test.true
           (sym (none-of _ w.in_default.not-Some) ∙ at-default c.args.picks.now c.loop-at.at _ _ c.loop-at-test.true) (c.loop-at.invariant n)
           (ap (λ (m : BTreeMap ℕ (Vec Place Global)). row_of (get nat_cmp m n)) w.places-is ∙ sym (append-nil (row_of (get nat_cmp c.loop-at.places n))))
     ]

@@ -7,8 +7,10 @@ use Rattle.ll_trace.proofs.root.root_labels.Goals.{in-Linear+in_ok-push-in-Linea
 pub loop-label-preserved : goal.loop-label-preserved
 loop-label-preserved c =
     elim c.match-clause.branch [
-      | in-Linear+in_ok-push-in-Linear w ↦ subst (λ (ns : List ℕ). ns ≡ linear_labels 0 (take (c.loop-label.label + 1) c.args.clauses.now)) (sym (ap (λ v. v.items) w.labels-is))
-          (label_linear c.args.clauses.now c.loop-label.label _ c.loop-label.labels.items w.push.new.self.items c.loop-label-test.true c.loop-label.invariant w.in-Linear.is w.in_ok-push-in-Linear.ensures.items)
+      | in-Linear+in_ok-push-in-Linear w ↦ subst (λ (ns : List ℕ). ns ≡ linear_labels 0 (take (c.loop-label.label + 1) c.args.clauses.now))
+          (sym (ap (λ v. v.items) w.labels-is))
+          (label_linear c.args.clauses.now c.loop-label.label _ c.loop-label.labels.items w.push.new.self.items c.loop-label-test.true c.loop-label.invariant
+          w.in-Linear.is w.in_ok-push-in-Linear.ensures.items)
       | in-Unbounded w ↦ subst (λ (ns : List ℕ). ns ≡ linear_labels 0 (take (c.loop-label.label + 1) c.args.clauses.now)) (sym (ap (λ v. v.items) w.labels-is))
           (label_other c.args.clauses.now c.loop-label.label _ c.loop-label.labels.items c.loop-label-test.true c.loop-label.invariant w.in-Unbounded.is)
     ]

@@ -16,24 +16,33 @@ loop-part-init c = λ ts us ps h f. parts-start c.args.spans.now c.args.first (m
 pub loop-part-preserved : goal.loop-part-preserved
 loop-part-preserved c = λ ts us ps h f.
     let w = c.loop-part.invariant ts us ps h f in
-    let d : map part_line (drop c.loop-part.part-index c.args.parts.now) ≡ part_line c.part-item.result ∷ map part_line (drop (c.loop-part.part-index + 1) c.args.parts.now) =
+    let d : map part_line (drop c.loop-part.part-index c.args.parts.now) ≡ part_line c.part-item.result
+    ∷ map part_line (drop (c.loop-part.part-index + 1) c.args.parts.now) =
     ap (map part_line) (drop_item c.args.parts.now c.loop-part.part-index c.part-item.result c.loop-part-test.true c.part-item.is) in
     let z = subst (λ (ls : List PartLine). PartsLeft c.args.spans.now c.args.first c.loop-part.span ls ps us) d w in
-    parts-step (part_line c.part-item.result) (map part_line (drop (c.loop-part.part-index + 1) c.args.parts.now)) c.args.spans.now c.args.first c.loop-part.span c.span_at-next.result c.match-part.span ps us c.span_at-next.ensures
+    parts-step (part_line c.part-item.result) (map part_line (drop (c.loop-part.part-index + 1) c.args.parts.now)) c.args.spans.now c.args.first
+    c.loop-part.span c.span_at-next.result c.match-part.span ps us c.span_at-next.ensures
     (elim c.match-part.branch [
       | in-Bounded+then-span w ↦ ap (λ (s : Span). s.end) w.span-is
       | in-Bounded+else-span w ↦ ap (λ (s : Span). s.end) w.span-is
       | in-Unbounded w ↦ ap (λ (s : Span). s.end) w.span-is
     ])
     (elim c.match-part.branch [
-      | in-Bounded+then-span w ↦ ap (λ (s : Span). s.erases) w.span-is ∙ (w.if-span.true ∙ sym (ap (λ b. b || c.span_at-next.result.erases) w.if-span.true) ∙ ap (λ (p : Part). erases_more (part_line p) c.loop-part.span.erases c.span_at-next.result.erases) (sym w.in-Bounded.is))
-      | in-Bounded+else-span w ↦ ap (λ (s : Span). s.erases) w.span-is ∙ (sym (ap (λ b. b || c.span_at-next.result.erases) w.if-span.false) ∙ ap (λ (p : Part). erases_more (part_line p) c.loop-part.span.erases c.span_at-next.result.erases) (sym w.in-Bounded.is))
-      | in-Unbounded w ↦ ap (λ (s : Span). s.erases) w.span-is ∙ ap (λ (p : Part). erases_more (part_line p) c.loop-part.span.erases c.span_at-next.result.erases) (sym w.in-Unbounded.is)
+      | in-Bounded+then-span w ↦ ap (λ (s : Span). s.erases) w.span-is
+          ∙ (w.if-span.true ∙ sym (ap (λ b. b || c.span_at-next.result.erases) w.if-span.true)
+          ∙ ap (λ (p : Part). erases_more (part_line p) c.loop-part.span.erases c.span_at-next.result.erases) (sym w.in-Bounded.is))
+      | in-Bounded+else-span w ↦ ap (λ (s : Span). s.erases) w.span-is
+          ∙ (sym (ap (λ b. b || c.span_at-next.result.erases) w.if-span.false)
+          ∙ ap (λ (p : Part). erases_more (part_line p) c.loop-part.span.erases c.span_at-next.result.erases) (sym w.in-Bounded.is))
+      | in-Unbounded w ↦ ap (λ (s : Span). s.erases) w.span-is
+          ∙ ap (λ (p : Part). erases_more (part_line p) c.loop-part.span.erases c.span_at-next.result.erases) (sym w.in-Unbounded.is)
     ])
     z
 
 pub returns : goal.returns
 returns c = λ ts us ps h f.
     let w = c.loop-part.invariant ts us ps h f in
-    let d : map part_line (drop c.loop-part.part-index c.args.parts.now) ≡ [] = ap (map part_line) (drop_all c.loop-part.part-index c.args.parts.now (omega arith)) in
-    parts-end c.args.spans.now c.args.first c.loop-part.span ps us (subst (λ (ls : List PartLine). PartsLeft c.args.spans.now c.args.first c.loop-part.span ls ps us) d w)
+    let d : map part_line (drop c.loop-part.part-index c.args.parts.now) ≡ [] =
+    ap (map part_line) (drop_all c.loop-part.part-index c.args.parts.now (omega arith)) in
+    parts-end c.args.spans.now c.args.first c.loop-part.span ps us
+    (subst (λ (ls : List PartLine). PartsLeft c.args.spans.now c.args.first c.loop-part.span ls ps us) d w)

@@ -8,4 +8,5 @@ use Rattle.ll_trace.proofs.spans.span_of_parts.Given as goal
 
 abbrev pub invariant-loop-part : goal.invariant-loop-part
 invariant-loop-part l =
-    (ts us : List Tree) (ps : Parts) → cut_parts (map part_line l.parts) ts ≡ Cuts ps us → Fits l.spans l.first ts → PartsLeft l.spans l.first l.span (map part_line (drop l.part-index l.parts)) ps us
+    (ts us : List Tree) (ps : Parts) → cut_parts (map part_line l.parts) ts ≡ Cuts ps us → Fits l.spans l.first ts
+    → PartsLeft l.spans l.first l.span (map part_line (drop l.part-index l.parts)) ps us

@@ -17,7 +17,8 @@ returns-in_err-push_app-clause-keeps c = Extends-same _ _ (ap (λ f. f.nodes) c.
 
 pub invariant_of-self-2 : goal.invariant_of-self-2
 invariant_of-self-2 c =
-    kept_more c.self.inside.flat.nodes c.args.self.now c.self.view_is c.self.inside.flat.depths c.self.invariant c.push_app.new.self.nodes (AppNode c.args.head (places c.args.args.now))
+    kept_more c.self.inside.flat.nodes c.args.self.now c.self.view_is c.self.inside.flat.depths c.self.invariant c.push_app.new.self.nodes
+    (AppNode c.args.head (places c.args.args.now))
     (ap (λ f. f.nodes) c.in_ok-push_app.ensures.added) c.in_ok-depth.depth c.push_app.new.self.depths (ap (λ f. f.depths) c.in_ok-push_app.ensures.added)
     (below_places _ c.args.args.now c.requires)
     (depth_of_app c.self.inside.flat.nodes c.args.self.now c.self.view_is c.self.inside.flat.depths c.self.invariant c.args.head c.args.args.now
@@ -25,10 +26,12 @@ invariant_of-self-2 c =
 
 pub returns-clause-shows : goal.returns-clause-shows
 returns-clause-shows c =
-    term_shown c.self.inside.flat.nodes c.args.self.now c.self.view_is c.self.inside.flat.depths c.self.invariant c.push_app.new.self.nodes (AppNode c.args.head (places c.args.args.now))
+    term_shown c.self.inside.flat.nodes c.args.self.now c.self.view_is c.self.inside.flat.depths c.self.invariant c.push_app.new.self.nodes
+    (AppNode c.args.head (places c.args.args.now))
     (ap (λ f. f.nodes) c.in_ok-push_app.ensures.added) c.count.result _ c.count.ensures (build_app c.args.self.now c.args.head c.args.args.now)
 
 pub returns-clause-keeps : goal.returns-clause-keeps
 returns-clause-keeps c =
-    term_extends c.self.inside.flat.nodes c.args.self.now c.self.view_is c.self.inside.flat.depths c.self.invariant c.push_app.new.self.nodes (AppNode c.args.head (places c.args.args.now))
+    term_extends c.self.inside.flat.nodes c.args.self.now c.self.view_is c.self.inside.flat.depths c.self.invariant c.push_app.new.self.nodes
+    (AppNode c.args.head (places c.args.args.now))
     (ap (λ f. f.nodes) c.in_ok-push_app.ensures.added)

@@ -16,22 +16,29 @@ loop-place-init c = copying_begins c.args.other.now (get nat_cmp c.new-images.re
 
 pub copied-requires-clause-images : goal.copied-requires-clause-images
 copied-requires-clause-images c =
-    argument_images c.args.self.now (ShowsAt c.loop-place.other) (get nat_cmp c.loop-place.images) (term_tree c.args.self.now) c.deref-place-items.result.now c.loop-place.place-index
+    argument_images c.args.self.now (ShowsAt c.loop-place.other) (get nat_cmp c.loop-place.images) (term_tree c.args.self.now) c.deref-place-items.result.now
+    c.loop-place.place-index
     (subst (IsInOrder c.args.self.now) (sym c.deref-place-items.ensures.value) c.in_ok-places.ensures.order) (omega arith) c.loop-place.invariant.images
 
 pub loop-place-preserved : goal.loop-place-preserved
 loop-place-preserved c =
-    copying_more c.args.other.now c.loop-place.other c.copied.new.other (get nat_cmp c.loop-place.images) (get nat_cmp c.insert.new.self) (term_tree c.args.self.now) c.deref-place-items.result.now
-    c.loop-place.place-index (omega arith) c.loop-place.invariant c.in_ok-copy.ensures.keeps c.in_ok-copy.copy c.in_ok-copy.ensures.shows c.in_ok-insert.ensures.updates.0
+    copying_more c.args.other.now c.loop-place.other c.copied.new.other (get nat_cmp c.loop-place.images) (get nat_cmp c.insert.new.self)
+    (term_tree c.args.self.now) c.deref-place-items.result.now
+    c.loop-place.place-index (omega arith) c.loop-place.invariant c.in_ok-copy.ensures.keeps c.in_ok-copy.copy c.in_ok-copy.ensures.shows
+    c.in_ok-insert.ensures.updates.0
 
 pub image_of-requires : goal.image_of-requires
 image_of-requires c =
     image_found (ShowsAt c.loop-place.other) (get nat_cmp c.loop-place.images) c.args.at.0 (term_tree c.args.self.now c.args.at.0)
-    (root_image (get nat_cmp c.loop-place.images) (term_tree c.args.self.now) c.deref-place-items.result.now c.loop-place.place-index (ShowsAt c.loop-place.other) c.args.at.0 (omega arith)
-    c.loop-place.invariant.images (subst (λ xs. Contains xs c.args.at.0) (sym c.deref-place-items.ensures.value) (c.in_ok-places.ensures.roots 0 c.args.at (omega arith))))
+    (root_image (get nat_cmp c.loop-place.images) (term_tree c.args.self.now) c.deref-place-items.result.now c.loop-place.place-index
+    (ShowsAt c.loop-place.other) c.args.at.0 (omega arith)
+    c.loop-place.invariant.images (subst (λ xs. Contains xs c.args.at.0) (sym c.deref-place-items.ensures.value)
+    (c.in_ok-places.ensures.roots 0 c.args.at (omega arith))))
 
 pub returns-clause-shows : goal.returns-clause-shows
 returns-clause-shows c =
     image_shows (ShowsAt c.loop-place.other) (get nat_cmp c.loop-place.images) c.args.at.0 (term_tree c.args.self.now c.args.at.0) c.image_of.result
-    (root_image (get nat_cmp c.loop-place.images) (term_tree c.args.self.now) c.deref-place-items.result.now c.loop-place.place-index (ShowsAt c.loop-place.other) c.args.at.0 (omega arith)
-    c.loop-place.invariant.images (subst (λ xs. Contains xs c.args.at.0) (sym c.deref-place-items.ensures.value) (c.in_ok-places.ensures.roots 0 c.args.at (omega arith)))) c.image_of.ensures
+    (root_image (get nat_cmp c.loop-place.images) (term_tree c.args.self.now) c.deref-place-items.result.now c.loop-place.place-index
+    (ShowsAt c.loop-place.other) c.args.at.0 (omega arith)
+    c.loop-place.invariant.images (subst (λ xs. Contains xs c.args.at.0) (sym c.deref-place-items.ensures.value)
+    (c.in_ok-places.ensures.roots 0 c.args.at (omega arith)))) c.image_of.ensures

@@ -12,5 +12,7 @@ pub returns-clause-same : goal.returns-clause-same
 returns-clause-same c =
     λ bank of same.
     let is : c.add_forms.new.bank ≡ with_nodes c.args.self.now c.args.tail.now.nodes = search rules in
-    same_trees bank c.args.tail.now of c.args.self.now c.add_forms.new.bank (Extends-trans c.in_ok-add_terms.ensures.keeps c.in_ok-add_forms.ensures.keeps) is c.requires
-    (extended_size _ c.args.tail.now c.tail.view_is c.tail.invariant c.args.self.now c.add_forms.new.bank c.requires is) (whole_of_size c.add_forms.new.bank c.size-size.result c.size-size.ensures.is c.size-size.ensures.had) same
+    same_trees bank c.args.tail.now of c.args.self.now c.add_forms.new.bank (Extends-trans c.in_ok-add_terms.ensures.keeps c.in_ok-add_forms.ensures.keeps) is
+    c.requires
+    (extended_size _ c.args.tail.now c.tail.view_is c.tail.invariant c.args.self.now c.add_forms.new.bank c.requires is)
+    (whole_of_size c.add_forms.new.bank c.size-size.result c.size-size.ensures.is c.size-size.ensures.had) same

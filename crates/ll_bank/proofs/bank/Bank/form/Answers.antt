@@ -9,14 +9,17 @@ returns-in_err-push_form-clause-keeps c = Extends-same _ _ (ap (λ f. f.nodes) c
 
 pub invariant_of-self-2 : goal.invariant_of-self-2
 invariant_of-self-2 c =
-    kept_more_forms c.self.inside.flat.nodes c.args.self.now c.self.view_is c.self.inside.flat.depths c.self.invariant c.push_form.new.self.nodes (node_of c.args.node) (ap (λ f. f.nodes) c.in_ok-push_form.ensures.added)
+    kept_more_forms c.self.inside.flat.nodes c.args.self.now c.self.view_is c.self.inside.flat.depths c.self.invariant c.push_form.new.self.nodes
+    (node_of c.args.node) (ap (λ f. f.nodes) c.in_ok-push_form.ensures.added)
     c.push_form.new.self.depths (ap (λ f. f.depths) c.in_ok-push_form.ensures.added) (below_parts _ _ c.args.node c.requires)
 
 pub returns-clause-shows : goal.returns-clause-shows
 returns-clause-shows c =
-    form_shown c.self.inside.flat.nodes c.args.self.now c.self.view_is c.self.inside.flat.depths c.self.invariant c.push_form.new.self.nodes (node_of c.args.node) (ap (λ f. f.nodes) c.in_ok-push_form.ensures.added)
+    form_shown c.self.inside.flat.nodes c.args.self.now c.self.view_is c.self.inside.flat.depths c.self.invariant c.push_form.new.self.nodes
+    (node_of c.args.node) (ap (λ f. f.nodes) c.in_ok-push_form.ensures.added)
     c.size.result.forms _ (ap (λ s. s.forms) c.size.ensures) (build_parts c.args.self.now c.args.node)
 
 pub returns-clause-keeps : goal.returns-clause-keeps
 returns-clause-keeps c =
-    form_extends c.self.inside.flat.nodes c.args.self.now c.self.view_is c.self.inside.flat.depths c.self.invariant c.push_form.new.self.nodes (node_of c.args.node) (ap (λ f. f.nodes) c.in_ok-push_form.ensures.added)
+    form_extends c.self.inside.flat.nodes c.args.self.now c.self.view_is c.self.inside.flat.depths c.self.invariant c.push_form.new.self.nodes
+    (node_of c.args.node) (ap (λ f. f.nodes) c.in_ok-push_form.ensures.added)

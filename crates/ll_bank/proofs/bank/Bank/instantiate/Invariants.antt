@@ -8,7 +8,8 @@ invariant-loop-task l = record {
   keeps : Extends l.fn.self l.self;
   terms : AreImages (IsTermImage l.self (term_tree l.fn.self l.fn.value.0)) (get by_spot l.terms);
   forms : AreImages (IsFormImage l.self (term_tree l.fn.self l.fn.value.0)) (get by_spot l.forms);
-  opening : IsOpening (IsKnown (get by_spot l.forms)) (form_parts_at l.fn.self) (IsFormGood l.fn.self (term_tree l.fn.self l.fn.value.0, l.fn.form.0)) (l.fn.form.0, 0) l.tasks.items;
+  opening : IsOpening (IsKnown (get by_spot l.forms)) (form_parts_at l.fn.self) (IsFormGood l.fn.self (term_tree l.fn.self l.fn.value.0, l.fn.form.0))
+      (l.fn.form.0, 0) l.tasks.items;
 }
 
 abbrev pub decreases-loop-task : goal.decreases-loop-task

@@ -9,16 +9,20 @@ returns-in_err-push_int-clause-keeps c = Extends-same _ _ (ap (λ f. f.nodes) c.
 
 pub invariant_of-self-2 : goal.invariant_of-self-2
 invariant_of-self-2 c =
-    kept_more c.self.inside.flat.nodes c.args.self.now c.self.view_is c.self.inside.flat.depths c.self.invariant c.push_int.new.self.nodes (IntNode c.args.value)
+    kept_more c.self.inside.flat.nodes c.args.self.now c.self.view_is c.self.inside.flat.depths c.self.invariant c.push_int.new.self.nodes
+    (IntNode c.args.value)
     (exact_int c.self.inside.flat.nodes c.push_int.new.self.nodes c.args.value (search rules) (ap (λ f. f.nodes) c.in_ok-push_int.ensures.added))
     0 c.push_int.new.self.depths (ap (λ f. f.depths) c.in_ok-push_int.ensures.added) tt refl
 
 pub returns-clause-shows : goal.returns-clause-shows
 returns-clause-shows c =
-    term_shown c.self.inside.flat.nodes c.args.self.now c.self.view_is c.self.inside.flat.depths c.self.invariant c.push_int.new.self.nodes (IntNode c.args.value)
-    (exact_int c.self.inside.flat.nodes c.push_int.new.self.nodes c.args.value (search rules) (ap (λ f. f.nodes) c.in_ok-push_int.ensures.added)) c.count.result _ c.count.ensures refl
+    term_shown c.self.inside.flat.nodes c.args.self.now c.self.view_is c.self.inside.flat.depths c.self.invariant c.push_int.new.self.nodes
+    (IntNode c.args.value)
+    (exact_int c.self.inside.flat.nodes c.push_int.new.self.nodes c.args.value (search rules) (ap (λ f. f.nodes) c.in_ok-push_int.ensures.added)) c.count.result
+    _ c.count.ensures refl
 
 pub returns-clause-keeps : goal.returns-clause-keeps
 returns-clause-keeps c =
-    term_extends c.self.inside.flat.nodes c.args.self.now c.self.view_is c.self.inside.flat.depths c.self.invariant c.push_int.new.self.nodes (IntNode c.args.value)
+    term_extends c.self.inside.flat.nodes c.args.self.now c.self.view_is c.self.inside.flat.depths c.self.invariant c.push_int.new.self.nodes
+    (IntNode c.args.value)
     (exact_int c.self.inside.flat.nodes c.push_int.new.self.nodes c.args.value (search rules) (ap (λ f. f.nodes) c.in_ok-push_int.ensures.added))

@@ -9,15 +9,18 @@ returns-in_err-push_var-clause-keeps c = Extends-same _ _ (ap (λ f. f.nodes) c.
 
 pub invariant_of-self-2 : goal.invariant_of-self-2
 invariant_of-self-2 c =
-    kept_more c.self.inside.flat.nodes c.args.self.now c.self.view_is c.self.inside.flat.depths c.self.invariant c.push_var.new.self.nodes (VarNode c.args.number)
+    kept_more c.self.inside.flat.nodes c.args.self.now c.self.view_is c.self.inside.flat.depths c.self.invariant c.push_var.new.self.nodes
+    (VarNode c.args.number)
     (ap (λ f. f.nodes) c.in_ok-push_var.ensures.added) 0 c.push_var.new.self.depths (ap (λ f. f.depths) c.in_ok-push_var.ensures.added) tt refl
 
 pub returns-clause-shows : goal.returns-clause-shows
 returns-clause-shows c =
-    term_shown c.self.inside.flat.nodes c.args.self.now c.self.view_is c.self.inside.flat.depths c.self.invariant c.push_var.new.self.nodes (VarNode c.args.number)
+    term_shown c.self.inside.flat.nodes c.args.self.now c.self.view_is c.self.inside.flat.depths c.self.invariant c.push_var.new.self.nodes
+    (VarNode c.args.number)
     (ap (λ f. f.nodes) c.in_ok-push_var.ensures.added) c.count.result _ c.count.ensures refl
 
 pub returns-clause-keeps : goal.returns-clause-keeps
 returns-clause-keeps c =
-    term_extends c.self.inside.flat.nodes c.args.self.now c.self.view_is c.self.inside.flat.depths c.self.invariant c.push_var.new.self.nodes (VarNode c.args.number)
+    term_extends c.self.inside.flat.nodes c.args.self.now c.self.view_is c.self.inside.flat.depths c.self.invariant c.push_var.new.self.nodes
+    (VarNode c.args.number)
     (ap (λ f. f.nodes) c.in_ok-push_var.ensures.added)

@@ -9,19 +9,22 @@ slice_bounds-from_slice-end-3 c =
     let f = c.self.inside in
     sym (ap (λ xs. length (take c.args.size.arguments xs)) c.deref-3.ensures.value
     ∙ length-take-le c.args.size.arguments f.arguments.items
-    (arguments_le f.arguments.items f.load_arguments.items f.terms.items f.forms.items c.self.invariant c.args.size (front_of _ c.args.self.now c.self.view_is c.args.size c.requires)))
+    (arguments_le f.arguments.items f.load_arguments.items f.terms.items f.forms.items c.self.invariant c.args.size
+    (front_of _ c.args.self.now c.self.view_is c.args.size c.requires)))
 
 pub slice_bounds-from_slice-end-4 : goal.slice_bounds-from_slice-end-4
 slice_bounds-from_slice-end-4 c =
     let f = c.self.inside in
     sym (ap (λ xs. length (take c.args.size.load_arguments xs)) c.deref-4.ensures.value
     ∙ length-take-le c.args.size.load_arguments f.load_arguments.items
-    (load_arguments_le f.arguments.items f.load_arguments.items f.terms.items f.forms.items c.self.invariant c.args.size (front_of _ c.args.self.now c.self.view_is c.args.size c.requires)))
+    (load_arguments_le f.arguments.items f.load_arguments.items f.terms.items f.forms.items c.self.invariant c.args.size
+    (front_of _ c.args.self.now c.self.view_is c.args.size c.requires)))
 
 pub invariant_of-result : goal.invariant_of-result
 invariant_of-result c =
     let f = c.self.inside in
-    stored_cut f.arguments.items f.load_arguments.items f.terms.items f.forms.items c.self.invariant c.args.size (front_of _ c.args.self.now c.self.view_is c.args.size c.requires)
+    stored_cut f.arguments.items f.load_arguments.items f.terms.items f.forms.items c.self.invariant c.args.size
+    (front_of _ c.args.self.now c.self.view_is c.args.size c.requires)
     c.in_ok-arguments.arguments.items c.in_ok-load_arguments.load_arguments.items c.in_ok-terms.terms.items c.in_ok-forms.forms.items
     (c.in_ok-arguments.ensures.items ∙ ap (take c.args.size.arguments) c.deref-3.ensures.value)
     (c.in_ok-load_arguments.ensures.items ∙ ap (take c.args.size.load_arguments) c.deref-4.ensures.value)
@@ -31,7 +34,8 @@ invariant_of-result c =
 pub returns : goal.returns
 returns c =
     let f = c.self.inside in
-    cut_nodes f.arguments.items f.load_arguments.items f.terms.items f.forms.items c.self.invariant c.args.size (front_of _ c.args.self.now c.self.view_is c.args.size c.requires)
+    cut_nodes f.arguments.items f.load_arguments.items f.terms.items f.forms.items c.self.invariant c.args.size
+    (front_of _ c.args.self.now c.self.view_is c.args.size c.requires)
     c.in_ok-arguments.arguments.items c.in_ok-load_arguments.load_arguments.items c.in_ok-terms.terms.items c.in_ok-forms.forms.items
     (c.in_ok-arguments.ensures.items ∙ ap (take c.args.size.arguments) c.deref-3.ensures.value)
     (c.in_ok-load_arguments.ensures.items ∙ ap (take c.args.size.load_arguments) c.deref-4.ensures.value)

@@ -5,5 +5,7 @@ use Rattle.ll_bank.proofs.flat.Flat.push_int.Goals as goal
 
 pub invariant_of-self-2 : goal.invariant_of-self-2
 invariant_of-self-2 c =
-    stored_leaf c.self.inside.arguments.items c.self.inside.load_arguments.items c.self.inside.terms.items c.self.inside.forms.items c.self.invariant (Int c.args.value)
-    c.push.new.self.items (pushed_int c.self.inside.terms.items c.push.new.self.items c.args.value (search rules) c.in_ok-push.ensures.items) (search rules) refl
+    stored_leaf c.self.inside.arguments.items c.self.inside.load_arguments.items c.self.inside.terms.items c.self.inside.forms.items c.self.invariant
+    (Int c.args.value)
+    c.push.new.self.items (pushed_int c.self.inside.terms.items c.push.new.self.items c.args.value (search rules) c.in_ok-push.ensures.items) (search rules)
+    refl

@@ -24,14 +24,16 @@ missing c = subst (λ texts. number_of texts c.args.text.now ≡ None) c.self.vi
 
 pushed : (c : goal.In_ok-push) → front_texts c.self.inside.front ++ c.push.new.self ≡ c.args.self.now ++ c.args.text.now ∷ []
 pushed c =
-    pushed_behind (front_texts c.self.inside.front) c.self.inside.rest c.push.new.self c.args.self.now c.args.text.now c.self.view_is c.in_ok-push.ensures.pushed
+    pushed_behind (front_texts c.self.inside.front) c.self.inside.rest c.push.new.self c.args.self.now c.args.text.now c.self.view_is
+    c.in_ok-push.ensures.pushed
 
 pub returns-clause-added : goal.returns-clause-added
 returns-clause-added c = pushed c ∙ sym (with_name-absent c.args.self.now c.args.text.now (missing c))
 
 pub returns-clause-distinct : goal.returns-clause-distinct
 returns-clause-distinct c =
-    subst (IsDistinct bytes_eq) (sym (pushed c)) (IsDistinct-pushed c.args.self.now c.args.text.now (subst (IsDistinct bytes_eq) c.self.view_is c.self.invariant) (missing c))
+    subst (IsDistinct bytes_eq) (sym (pushed c)) (IsDistinct-pushed c.args.self.now c.args.text.now
+    (subst (IsDistinct bytes_eq) c.self.view_is c.self.invariant) (missing c))
 
 pub invariant_of-self-2 : goal.invariant_of-self-2
 invariant_of-self-2 c = returns-clause-distinct c

@@ -5,4 +5,5 @@ use Rattle.ll_close.proofs.images.Images.remember.Goals as goal
 
 pub returns-in_ok-insert : goal.returns-in_ok-insert
 returns-in_ok-insert c =
-    adds_put (get same_spot c.args.self.now.places) (get same_spot c.insert.new.self) (c.args.task.place, c.args.task.level) c.args.image c.in_ok-insert.ensures.updates.0
+    adds_put (get same_spot c.args.self.now.places) (get same_spot c.insert.new.self) (c.args.task.place, c.args.task.level) c.args.image
+    c.in_ok-insert.ensures.updates.0

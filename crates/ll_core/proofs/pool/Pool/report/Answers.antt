@@ -16,8 +16,17 @@ pub invariant_of-self : goal.invariant_of-self
 invariant_of-self g c =
     let o = subst (λ v. IsOpenAt v c.args.piece) (sym c.self.view_is) c.requires in
     let i = c.self.inside in
-    let w = slot_changed (with_status (Closed c.args.report)) i.pieces.items c.args.piece c.index_mut.result.now (record { batch = c.index_mut.result.now.batch; k = c.index_mut.result.now.k; worker = c.index_mut.result.now.worker; published = c.index_mut.result.now.published; state = state.Closed c.args.report }) (slot_below _ _ _ o.1) c.index_mut.ensures.value refl in
-    whole_reported g.N.Batch.alternatives _ i.starts.items (map stop_in i.stack.items) _ 0 _ i.waiting.items c.args.piece o.0 c.args.report c.self.invariant o.1 o.2 _
+    let w = slot_changed (with_status (Closed c.args.report)) i.pieces.items c.args.piece c.index_mut.result.now
+    (record {
+      batch = c.index_mut.result.now.batch;
+      k = c.index_mut.result.now.k;
+      worker = c.index_mut.result.now.worker;
+      published =
+          c.index_mut.result.now.published;
+      state = state.Closed c.args.report;
+    }) (slot_below _ _ _ o.1) c.index_mut.ensures.value refl in
+    whole_reported g.N.Batch.alternatives _ i.starts.items (map stop_in i.stack.items) _ 0 _ i.waiting.items c.args.piece o.0 c.args.report c.self.invariant o.1
+    o.2 _
     (report_is (map arc_value i.batches.items) i.pieces.items _ (length i.waiting.items) i.workers i.busy i.starved i.stopped c.args.piece c.args.report w)
     (report_forms _ _ _ _ _ _ _ _ c.args.report c.self.invariant.formed o w)
 
@@ -25,4 +34,6 @@ pub returns : goal.returns
 returns g c =
     let o = subst (λ v. IsOpenAt v c.args.piece) (sym c.self.view_is) c.requires in
     let i = c.self.inside in
-    report_is (map arc_value i.batches.items) i.pieces.items _ (length i.waiting.items) i.workers i.busy i.starved i.stopped c.args.piece c.args.report (slot_changed (with_status (Closed c.args.report)) _ c.args.piece _ _ (slot_below _ _ _ o.1) c.index_mut.ensures.value refl) ∙ ap (λ v. reported v c.args.piece c.args.report) c.self.view_is
+    report_is (map arc_value i.batches.items) i.pieces.items _ (length i.waiting.items) i.workers i.busy i.starved i.stopped c.args.piece c.args.report
+    (slot_changed (with_status (Closed c.args.report)) _ c.args.piece _ _ (slot_below _ _ _ o.1) c.index_mut.ensures.value refl)
+    ∙ ap (λ v. reported v c.args.piece c.args.report) c.self.view_is

@@ -5,7 +5,10 @@ use Rattle.ll_engine.proofs.engine.Engine.advance.Goals as goal
 
 pub invariant_of-result : goal.invariant_of-result
 invariant_of-result c =
-    let z = c.in_ok-spine.spine in λ _. (c.in_ok-spine.ensures.sound, healthy_begins (arc_value c.args.to) c.args.k z.began (spine_of z) c.in_ok-spine.ensures.begins)
+    let z = c.in_ok-spine.spine in λ _. (
+      c.in_ok-spine.ensures.sound,
+      healthy_begins (arc_value c.args.to) c.args.k z.began (spine_of z) c.in_ok-spine.ensures.begins,
+    )
 
 pub returns-clause-resumed : goal.returns-clause-resumed
 returns-clause-resumed c = let z = c.in_ok-spine.spine in resumes_with (arc_value c.args.to) c.args.k z.began (spine_of z) c.in_ok-spine.ensures.begins
@@ -13,4 +16,5 @@ returns-clause-resumed c = let z = c.in_ok-spine.spine in resumes_with (arc_valu
 pub returns-clause-owes : goal.returns-clause-owes
 returns-clause-owes c =
     let z = c.in_ok-spine.spine in
-    λ owes g. resumes_owing (arc_value c.args.to) c.args.k c.args.self.problem _ owes (resumes_with (arc_value c.args.to) c.args.k z.began (spine_of z) c.in_ok-spine.ensures.begins) c.requires.of g
+    λ owes g. resumes_owing (arc_value c.args.to) c.args.k c.args.self.problem _ owes
+    (resumes_with (arc_value c.args.to) c.args.k z.began (spine_of z) c.in_ok-spine.ensures.begins) c.requires.of g

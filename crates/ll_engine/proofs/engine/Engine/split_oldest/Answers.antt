@@ -12,7 +12,8 @@ invariant_of-self-2 c =
     let i = c.self.inside in
     λ _. let both = c.self.invariant c.if-self.false in (
       c.in_ok-batch.ensures.sound i.running both.0,
-      healthy_split (spine_of i.spine) (spine_of c.split.new.self) c.in_ok-batch.batch i.splits (i.splits + 1) i.running c.in_ok-batch.ensures.takes (omega arith) both.1,
+      healthy_split (spine_of i.spine) (spine_of c.split.new.self) c.in_ok-batch.batch i.splits (i.splits + 1) i.running c.in_ok-batch.ensures.takes
+          (omega arith) both.1,
     )
 
 pub returns-clause-split : goal.returns-clause-split

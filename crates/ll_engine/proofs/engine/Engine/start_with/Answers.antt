@@ -5,4 +5,8 @@ use Rattle.ll_engine.proofs.engine.Engine.start_with.Goals as goal
 
 pub invariant_of-result : goal.invariant_of-result
 invariant_of-result c =
-    λ _. (c.in_ok-spine.ensures.sound, healthy_start (spine_of c.in_ok-spine.spine) c.args.problem.now (start_of c.args.problem.now) c.in_ok-spine.ensures.start)
+    λ _. (
+      c.in_ok-spine.ensures.sound,
+      healthy_start (spine_of c.in_ok-spine.spine) c.args.problem.now (start_of c.args.problem.now)
+          c.in_ok-spine.ensures.start,
+    )

@@ -24,18 +24,23 @@ returns-clause-sound c =
       index = c.requires.index;
       sound =
           subst (λ (hs : List Held). IsSoundAt c.in_ok-running.running z.problem.now (parts_of m) hs) (sym same)
-          (sound_after z.problem.now (parts_of z.machine) (parts_of m) (helds z.machine z.points.items) (helds z.machine ps) c.args.untried.items c.args.candidate c.in_ok-running.running
-          c.requires.open (All-front (λ (d : Candidate). Contains (tries (state_of (parts_of z.machine))) d) c.args.untried.items c.args.candidate c.requires.tries)
+          (sound_after z.problem.now (parts_of z.machine) (parts_of m) (helds z.machine z.points.items) (helds z.machine ps) c.args.untried.items
+          c.args.candidate c.in_ok-running.running
+          c.requires.open (All-front (λ (d : Candidate). Contains (tries (state_of (parts_of z.machine))) d) c.args.untried.items c.args.candidate
+          c.requires.tries)
           c.requires.points c.in_ok-keep.ensures.kept c.in_ok-running.ensures.attempts);
       marks = marks_kept z.machine m ps (keeps z.machine m c.in_ok-running.ensures.later) c.in_ok-keep.ensures.marks;
-      based = based_kept z.machine m ps z.ancestor (keeps z.machine m c.in_ok-running.ensures.later) (based_more z.machine z.points.items ps z.ancestor c.in_ok-keep.ensures.floors c.requires.based);
+      based = based_kept z.machine m ps z.ancestor (keeps z.machine m c.in_ok-running.ensures.later)
+          (based_more z.machine z.points.items ps z.ancestor c.in_ok-keep.ensures.floors c.requires.based);
     }
 
 pub returns-clause-chose : goal.returns-clause-chose
 returns-clause-chose c =
     let z = c.args.self.now in let m = c.attempt.new.machine in let ps = c.keep.new.points.items in
     let same = helds_kept z.machine m ps (keeps z.machine m c.in_ok-running.ensures.later) c.in_ok-keep.ensures.marks.good in
-    subst (λ (hs : List Held). Chose (spine_of z) (state_of (parts_of z.machine)) (z.machine.left - 1) (reverse (c.args.untried.items ++ c.args.candidate ∷ [])) (points_of (helds z.machine z.points.items))
+    subst (λ (hs : List Held). Chose (spine_of z) (state_of (parts_of z.machine)) (z.machine.left - 1) (reverse (c.args.untried.items ++ c.args.candidate ∷ []))
+    (points_of (helds z.machine z.points.items))
     c.in_ok-running.running (spine_at (first_of z) z.problem.now (parts_of m) hs)) (sym same)
-    (chose_some (first_of z) z.problem.now (parts_of z.machine) (parts_of m) (helds z.machine z.points.items) (helds z.machine ps) (c.args.untried.items ++ c.args.candidate ∷ []) c.args.untried.items c.args.candidate
+    (chose_some (first_of z) z.problem.now (parts_of z.machine) (parts_of m) (helds z.machine z.points.items) (helds z.machine ps)
+    (c.args.untried.items ++ c.args.candidate ∷ []) c.args.untried.items c.args.candidate
     c.in_ok-running.running refl c.requires.open.problem c.in_ok-keep.ensures.puts c.in_ok-running.ensures.attempts)

@@ -13,14 +13,23 @@ choose-requires-clause-tries c =
 pub returns-clause-expands : goal.returns-clause-expands
 returns-clause-expands c =
     let z = c.args.self.now in
-    expands (first_of z) z.problem.now (parts_of z.machine) (helds z.machine z.points.items) (spine_of c.choose.new.self) (c.in-Some.untried.items ++ c.in-Some.candidate ∷ []) c.in_ok-running.running
-    c.requires.sound.sound.machine.0 c.requires.left (first_last (all_found c.in_ok-found.found) c.in-Some.untried.items c.in-Some.candidate c.in-Some.ensures.some ∙ c.in_ok-found.ensures) c.in_ok-running.ensures.chose
+    expands (first_of z) z.problem.now (parts_of z.machine) (helds z.machine z.points.items) (spine_of c.choose.new.self)
+    (c.in-Some.untried.items ++ c.in-Some.candidate ∷ []) c.in_ok-running.running
+    c.requires.sound.sound.machine.0 c.requires.left (first_last (all_found c.in_ok-found.found) c.in-Some.untried.items c.in-Some.candidate
+    c.in-Some.ensures.some ∙ c.in_ok-found.ensures) c.in_ok-running.ensures.chose
 
 pub returns-in_default-clause-expands : goal.returns-in_default-clause-expands
 returns-in_default-clause-expands c =
     let z = c.args.self.now in
-    expands_none (first_of z) z.problem.now (parts_of z.machine) (helds z.machine z.points.items) (all_found c.in_ok-found.found) c.requires.sound.sound.machine.0 c.requires.left c.in_ok-found.ensures c.in_default.ensures.none
+    expands_none (first_of z) z.problem.now (parts_of z.machine) (helds z.machine z.points.items) (all_found c.in_ok-found.found)
+    c.requires.sound.sound.machine.0 c.requires.left c.in_ok-found.ensures c.in_default.ensures.none
 
 pub returns-in_default-clause-sound : goal.returns-in_default-clause-sound
 returns-in_default-clause-sound c =
-    record { index = c.requires.sound.index; sound = record { points = c.requires.sound.sound.points; machine = tt }; marks = c.requires.sound.marks; based = c.requires.sound.based }
+    record {
+      index = c.requires.sound.index;
+      sound = record { points = c.requires.sound.sound.points; machine = tt };
+      marks = c.requires.sound.marks;
+      based =
+          c.requires.sound.based;
+    }

@@ -9,36 +9,52 @@ use Rattle.ll_engine.proofs.turns.Pointing.{popped, popped_kept, popped_tries, p
 use Rattle.ll_engine.proofs.spine.Spine.retry.Goals as goal
 
 pub undo-requires : goal.undo-requires
-undo-requires c = let w = (popped c.args.self.now.machine c.args.self.now.points.items c.pop_back.new.self.items c.in-Some.kept c.in-Some.ensures.items c.requires.sound.marks) in w.good
+undo-requires c = let w = (popped c.args.self.now.machine c.args.self.now.points.items c.pop_back.new.self.items c.in-Some.kept c.in-Some.ensures.items
+    c.requires.sound.marks) in w.good
 
 pub choose-requires-clause-open : goal.choose-requires-clause-open
 choose-requires-clause-open c =
-    let z = c.args.self.now in let w = (popped c.args.self.now.machine c.args.self.now.points.items c.pop_back.new.self.items c.in-Some.kept c.in-Some.ensures.items c.requires.sound.marks) in
+    let z = c.args.self.now in
+    let w = (popped c.args.self.now.machine c.args.self.now.points.items c.pop_back.new.self.items c.in-Some.kept c.in-Some.ensures.items
+    c.requires.sound.marks) in
     subst (λ (p : Parts). IsOpen z.problem.now p) (sym c.undo.ensures.parts)
-    (popped_open z.problem.now (helds z.machine z.points.items) (helds z.machine c.pop_back.new.self.items) (held_of z.machine c.in-Some.kept) w.list c.requires.sound.sound.points)
+    (popped_open z.problem.now (helds z.machine z.points.items) (helds z.machine c.pop_back.new.self.items) (held_of z.machine c.in-Some.kept) w.list
+    c.requires.sound.sound.points)
 
 pub choose-requires-clause-tries : goal.choose-requires-clause-tries
 choose-requires-clause-tries c =
-    let z = c.args.self.now in let w = (popped c.args.self.now.machine c.args.self.now.points.items c.pop_back.new.self.items c.in-Some.kept c.in-Some.ensures.items c.requires.sound.marks) in
+    let z = c.args.self.now in
+    let w = (popped c.args.self.now.machine c.args.self.now.points.items c.pop_back.new.self.items c.in-Some.kept c.in-Some.ensures.items
+    c.requires.sound.marks) in
     subst (λ (cs : List Candidate). AreTries (parts_of c.undo.new.self) cs) c.in-Some-pop.ensures.items
     (subst (λ (p : Parts). AreTries p c.in-Some.kept.untried.items) (sym c.undo.ensures.parts)
-    (popped_tries z.problem.now (helds z.machine z.points.items) (helds z.machine c.pop_back.new.self.items) (held_of z.machine c.in-Some.kept) w.list c.requires.sound.sound.points))
+    (popped_tries z.problem.now (helds z.machine z.points.items) (helds z.machine c.pop_back.new.self.items) (held_of z.machine c.in-Some.kept) w.list
+    c.requires.sound.sound.points))
 
 pub unreachable-requires-in_default-pop : goal.unreachable-requires-in_default-pop
 unreachable-requires-in_default-pop c =
-    let z = c.args.self.now in let w = (popped c.args.self.now.machine c.args.self.now.points.items c.pop_back.new.self.items c.in-Some.kept c.in-Some.ensures.items c.requires.sound.marks) in
-    popped_some z.problem.now (helds z.machine z.points.items) (helds z.machine c.pop_back.new.self.items) (held_of z.machine c.in-Some.kept) w.list c.requires.sound.sound.points
+    let z = c.args.self.now in
+    let w = (popped c.args.self.now.machine c.args.self.now.points.items c.pop_back.new.self.items c.in-Some.kept c.in-Some.ensures.items
+    c.requires.sound.marks) in
+    popped_some z.problem.now (helds z.machine z.points.items) (helds z.machine c.pop_back.new.self.items) (held_of z.machine c.in-Some.kept) w.list
+    c.requires.sound.sound.points
     (none_left c.in-Some.kept.untried.items c.in-Some.kept.untried.len c.in-Some.kept.untried.ok.0 c.in_default-pop.ensures.cases.0)
 
 pub choose-requires-clause-points : goal.choose-requires-clause-points
 choose-requires-clause-points c =
-    let z = c.args.self.now in let w = (popped c.args.self.now.machine c.args.self.now.points.items c.pop_back.new.self.items c.in-Some.kept c.in-Some.ensures.items c.requires.sound.marks) in
-    subst (λ (hs : List Held). AreKept z.problem.now hs) (sym (helds_undone z.machine c.undo.new.self c.in-Some.kept.mark c.pop_back.new.self.items c.undo.ensures.marks w.goods w.before))
-    (popped_kept z.problem.now (helds z.machine z.points.items) (helds z.machine c.pop_back.new.self.items) (held_of z.machine c.in-Some.kept) w.list c.requires.sound.sound.points)
+    let z = c.args.self.now in
+    let w = (popped c.args.self.now.machine c.args.self.now.points.items c.pop_back.new.self.items c.in-Some.kept c.in-Some.ensures.items
+    c.requires.sound.marks) in
+    subst (λ (hs : List Held). AreKept z.problem.now hs) (sym
+    (helds_undone z.machine c.undo.new.self c.in-Some.kept.mark c.pop_back.new.self.items c.undo.ensures.marks w.goods w.before))
+    (popped_kept z.problem.now (helds z.machine z.points.items) (helds z.machine c.pop_back.new.self.items) (held_of z.machine c.in-Some.kept) w.list
+    c.requires.sound.sound.points)
 
 pub choose-requires-clause-marks : goal.choose-requires-clause-marks
 choose-requires-clause-marks c =
-    let z = c.args.self.now in let w = (popped c.args.self.now.machine c.args.self.now.points.items c.pop_back.new.self.items c.in-Some.kept c.in-Some.ensures.items c.requires.sound.marks) in
+    let z = c.args.self.now in
+    let w = (popped c.args.self.now.machine c.args.self.now.points.items c.pop_back.new.self.items c.in-Some.kept c.in-Some.ensures.items
+    c.requires.sound.marks) in
     record {
       good = marks_undone z.machine c.undo.new.self c.in-Some.kept.mark c.pop_back.new.self.items c.undo.ensures.marks w.goods w.before;
       rise = w.rises;
@@ -47,14 +63,18 @@ choose-requires-clause-marks c =
 pub choose-requires-clause-based : goal.choose-requires-clause-based
 choose-requires-clause-based c =
     let z = c.args.self.now in
-    based_undone z.machine c.undo.new.self z.points.items c.pop_back.new.self.items c.in-Some.kept z.ancestor c.undo.ensures.marks c.in-Some.ensures.items c.requires.sound.based
+    based_undone z.machine c.undo.new.self z.points.items c.pop_back.new.self.items c.in-Some.kept z.ancestor c.undo.ensures.marks c.in-Some.ensures.items
+    c.requires.sound.based
 
 pub returns-clause-retries : goal.returns-clause-retries
 returns-clause-retries c =
-    let z = c.args.self.now in let w = (popped c.args.self.now.machine c.args.self.now.points.items c.pop_back.new.self.items c.in-Some.kept c.in-Some.ensures.items c.requires.sound.marks) in
+    let z = c.args.self.now in
+    let w = (popped c.args.self.now.machine c.args.self.now.points.items c.pop_back.new.self.items c.in-Some.kept c.in-Some.ensures.items
+    c.requires.sound.marks) in
     let m = parts_of c.undo.new.self in let ps = helds c.undo.new.self c.pop_back.new.self.items in
     let chose =
-    subst (λ (cs : List Candidate). Chose (spine_at (first_of z) z.problem.now m ps) (state_of m) (c.undo.new.self.left - 1) (reverse cs) (points_of ps) c.in_ok-running.running (spine_of c.choose.new.self))
+    subst (λ (cs : List Candidate). Chose (spine_at (first_of z) z.problem.now m ps) (state_of m) (c.undo.new.self.left - 1) (reverse cs) (points_of ps)
+    c.in_ok-running.running (spine_of c.choose.new.self))
     (sym c.in-Some-pop.ensures.items) c.in_ok-running.ensures.chose in
     retries_by (first_of z) z.problem.now (parts_of z.machine) m (helds z.machine z.points.items) (helds z.machine c.pop_back.new.self.items) ps
     (held_of z.machine c.in-Some.kept) c.in_ok-running.running (spine_of c.choose.new.self) w.list c.undo.ensures.parts

@@ -13,8 +13,10 @@ returns-clause-sound c =
     record {
       index = c.requires.sound.index;
       sound =
-          subst (λ (hs : List Held). IsSoundAt c.in_ok-ok.ok z.problem.now (parts_of m) hs) (sym (helds_kept z.machine m ps (keeps z.machine m c.in_ok-ok.ensures.later) c.requires.sound.marks.good))
-          (settled_sound z.problem.now (parts_of z.machine) (parts_of m) (helds z.machine ps) c.in_ok-ok.ok c.in_ok-ok.ensures.settles c.in_ok-ok.ensures.same c.requires.sound.sound);
+          subst (λ (hs : List Held). IsSoundAt c.in_ok-ok.ok z.problem.now (parts_of m) hs)
+          (sym (helds_kept z.machine m ps (keeps z.machine m c.in_ok-ok.ensures.later) c.requires.sound.marks.good))
+          (settled_sound z.problem.now (parts_of z.machine) (parts_of m) (helds z.machine ps) c.in_ok-ok.ok c.in_ok-ok.ensures.settles c.in_ok-ok.ensures.same
+          c.requires.sound.sound);
       marks = marks_kept z.machine m ps (keeps z.machine m c.in_ok-ok.ensures.later) c.requires.sound.marks;
       based = based_kept z.machine m ps z.ancestor (keeps z.machine m c.in_ok-ok.ensures.later) c.requires.sound.based;
     }
@@ -22,5 +24,6 @@ returns-clause-sound c =
 pub returns-clause-settles : goal.returns-clause-settles
 returns-clause-settles c =
     let z = c.args.self.now in let m = c.settle.new.machine in let ps = z.points.items in
-    subst (λ (hs : List Held). Settles (spine_of z) c.in_ok-ok.ok (spine_at (first_of z) z.problem.now (parts_of m) hs)) (sym (helds_kept z.machine m ps (keeps z.machine m c.in_ok-ok.ensures.later) c.requires.sound.marks.good))
+    subst (λ (hs : List Held). Settles (spine_of z) c.in_ok-ok.ok (spine_at (first_of z) z.problem.now (parts_of m) hs))
+    (sym (helds_kept z.machine m ps (keeps z.machine m c.in_ok-ok.ensures.later) c.requires.sound.marks.good))
     (settles (first_of z) z.problem.now (parts_of z.machine) (parts_of m) (helds z.machine ps) c.in_ok-ok.ok c.in_ok-ok.ensures.settles c.in_ok-ok.ensures.same)

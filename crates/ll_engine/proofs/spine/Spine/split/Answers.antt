@@ -29,7 +29,8 @@ returns-clause-sound c =
     λ running s. record {
       index = s.index;
       sound = record {
-        points = All-tail (IsKept z.problem.now) (held_of z.machine k) (helds z.machine qs) (subst (λ (hs : List Held). AreKept z.problem.now hs) w.list c.requires.kept);
+        points = All-tail (IsKept z.problem.now) (held_of z.machine k) (helds z.machine qs)
+            (subst (λ (hs : List Held). AreKept z.problem.now hs) w.list c.requires.kept);
         machine = s.sound.machine;
       };
       marks = w.marks;
@@ -40,14 +41,17 @@ pub returns-clause-takes : goal.returns-clause-takes
 returns-clause-takes c =
     let z = c.args.self.now in let qs = c.pop_front.new.self.items in let k = c.in-Some.kept in
     let w = shifted z.machine z.points.items qs k c.in-Some.ensures.items c.requires.marks in
-    takes_oldest (first_of z) z.problem.now (parts_of z.machine) (held_of z.machine k) (helds z.machine z.points.items) (helds z.machine qs) c.with_index.result c.in_ok-batch-in-Some.batch.depth w.list
-    (All-head (IsKept z.problem.now) (held_of z.machine k) (helds z.machine qs) (subst (λ (hs : List Held). AreKept z.problem.now hs) w.list c.requires.kept)) (c.with_index.ensures ∙ c.in_ok-batch-in-Some.ensures)
+    takes_oldest (first_of z) z.problem.now (parts_of z.machine) (held_of z.machine k) (helds z.machine z.points.items) (helds z.machine qs) c.with_index.result
+    c.in_ok-batch-in-Some.batch.depth w.list
+    (All-head (IsKept z.problem.now) (held_of z.machine k) (helds z.machine qs) (subst (λ (hs : List Held). AreKept z.problem.now hs) w.list c.requires.kept))
+    (c.with_index.ensures ∙ c.in_ok-batch-in-Some.ensures)
 
 pub with_index-requires : goal.with_index-requires
 with_index-requires c =
     let z = c.args.self.now in let qs = c.pop_front.new.self.items in let k = c.in-Some.kept in
     let w = shifted z.machine z.points.items qs k c.in-Some.ensures.items c.requires.marks in
-    let own = All-head (IsKept z.problem.now) (held_of z.machine k) (helds z.machine qs) (subst (λ (hs : List Held). AreKept z.problem.now hs) w.list c.requires.kept) in
+    let own = All-head (IsKept z.problem.now) (held_of z.machine k) (helds z.machine qs)
+    (subst (λ (hs : List Held). AreKept z.problem.now hs) w.list c.requires.kept) in
     let same = ap (λ f. f.problem) c.in_ok-batch-in-Some.ensures ∙ own.opened.problem in
     record {
       index = subst (λ (p : ProblemTree). IsIndexOf p (arc_value c.in_ok-index-in-Some.index)) (sym same)

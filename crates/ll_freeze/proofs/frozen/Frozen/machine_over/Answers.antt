@@ -8,10 +8,14 @@ use Rattle.ll_freeze.proofs.frozen.Frozen.machine_over.Goals as goal
 pub machine-requires : goal.machine-requires
 machine-requires c =
     let i = c.self.inside in let st = store_of (stored c.args.store) in
-    record { fits = fits_with i.rest st i.layers (same_store (base_in st) st i.rest i.layers i.untried.items i.starts c.args.self.now c.requires refl c.self.view_is) c.self.invariant.0.fits }
+    record {
+      fits = fits_with i.rest st i.layers (same_store (base_in st) st i.rest i.layers i.untried.items i.starts c.args.self.now c.requires refl
+          c.self.view_is) c.self.invariant.0.fits;
+    }
 
 pub returns : goal.returns
 returns c =
     let i = c.self.inside in let st = store_of (stored c.args.store) in
-    thaws_with i.rest st i.layers (parts_of c.in_ok-machine.machine) i.untried.items i.starts c.args.self.now (same_store (base_in st) st i.rest i.layers i.untried.items i.starts c.args.self.now c.requires refl c.self.view_is) c.self.view_is
+    thaws_with i.rest st i.layers (parts_of c.in_ok-machine.machine) i.untried.items i.starts c.args.self.now
+    (same_store (base_in st) st i.rest i.layers i.untried.items i.starts c.args.self.now c.requires refl c.self.view_is) c.self.view_is
     c.in_ok-machine.ensures

@@ -17,7 +17,8 @@ whole-requires c =
 
 pub invariant_of-result : goal.invariant_of-result
 invariant_of-result c =
-    let made = starts c.args.problem.now (parts_of c.in_ok-machine.machine) c.parted-rest.result.0 (store_of (stored c.parted-rest.result.1)) c.in_ok-layers.layers c.in_ok-untried.untried.items c.in_ok-machine.ensures c.parted-rest.ensures c.in_ok-layers.ensures
+    let made = starts c.args.problem.now (parts_of c.in_ok-machine.machine) c.parted-rest.result.0 (store_of (stored c.parted-rest.result.1))
+    c.in_ok-layers.layers c.in_ok-untried.untried.items c.in_ok-machine.ensures c.parted-rest.ensures c.in_ok-layers.ensures
     c.in_ok-untried.ensures.items in (
       made.frozen,
       subst (λ (p : ProblemTree). IsIndexOf p (arc_value c.args.index)) (sym made.problem) c.requires.index,
@@ -26,4 +27,5 @@ invariant_of-result c =
 
 pub returns : goal.returns
 returns c =
-    (starts c.args.problem.now (parts_of c.in_ok-machine.machine) c.parted-rest.result.0 (store_of (stored c.parted-rest.result.1)) c.in_ok-layers.layers c.in_ok-untried.untried.items c.in_ok-machine.ensures c.parted-rest.ensures c.in_ok-layers.ensures c.in_ok-untried.ensures.items).sight
+    (starts c.args.problem.now (parts_of c.in_ok-machine.machine) c.parted-rest.result.0 (store_of (stored c.parted-rest.result.1)) c.in_ok-layers.layers
+    c.in_ok-untried.untried.items c.in_ok-machine.ensures c.parted-rest.ensures c.in_ok-layers.ensures c.in_ok-untried.ensures.items).sight

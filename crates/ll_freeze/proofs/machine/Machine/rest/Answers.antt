@@ -35,4 +35,5 @@ returns c =
       levels = refl;
       terms = c.in_ok-terms.ensures;
     })
-    (ap (λ h. h.present) c.in_ok-context.ensures.image) (record { inside = list.inside; list = list.list ∙ sym (same_items c.args.mark m c.requires.good) }) refl refl c.in_ok-steps.ensures c.requires.fits
+    (ap (λ h. h.present) c.in_ok-context.ensures.image) (record { inside = list.inside; list = list.list ∙ sym (same_items c.args.mark m c.requires.good) })
+    refl refl c.in_ok-steps.ensures c.requires.fits

@@ -34,11 +34,17 @@ returns c =
     let count : n ≡ length i.asked.items = search rules in
     let top = c.in_ok-top.ensures.list in let cells = c.in_ok-store.ensures.cells in
     starts_in c.args.problem.now i.bank (parts_of m) i.goal i.clauses.items n c.requires.valid refl
-    (subst (λ (b : Nodes). Extends b m.store.bank) e0 (subst (λ (b : Nodes). Extends c.in_ok-bank.bank b) e1 c.in_ok-terms.ensures.keeps)) (ap (λ (p : ProblemTree). p.goal) c.problem.view_is)
-    c.problem.invariant.2 (ap (λ (p : ProblemTree). p.clauses) c.problem.view_is) c.problem.invariant.1 (count ∙ ap (λ (p : ProblemTree). length p.asked) c.problem.view_is)
-    (ap (λ (cs : List Cell). map (λ (d : Cell). d.to) cs) cells ∙ cells_bound n 0) (ap (λ (cs : List Cell). map (λ (d : Cell). d.level) cs) cells ∙ cells_levels n 0)
+    (subst (λ (b : Nodes). Extends b m.store.bank) e0 (subst (λ (b : Nodes). Extends c.in_ok-bank.bank b) e1 c.in_ok-terms.ensures.keeps))
+    (ap (λ (p : ProblemTree). p.goal) c.problem.view_is)
+    c.problem.invariant.2 (ap (λ (p : ProblemTree). p.clauses) c.problem.view_is) c.problem.invariant.1
+    (count ∙ ap (λ (p : ProblemTree). length p.asked) c.problem.view_is)
+    (ap (λ (cs : List Cell). map (λ (d : Cell). d.to) cs) cells ∙ cells_bound n 0)
+    (ap (λ (cs : List Cell). map (λ (d : Cell). d.level) cs) cells ∙ cells_levels n 0)
     (ap (λ (h : History _). h.present) c.in_ok-context.ensures
-    ∙ ap (λ xs. started xs) (c.deref-2.ensures.value ∙ (c.in_ok-clauses.ensures ∙ ap (λ (cs : List Clause). map (λ (k : Clause). (k.kind, k.form)) cs) c.deref.ensures.value)))
-    (record { inside = top.inside; list = top.list ∙ ap (λ xs. Goal i.goal ∷ xs) (c.none.ensures c.new-agenda.result).list }) (ap (λ (p : ProblemTree). p.bound) c.problem.view_is) refl
+    ∙ ap (λ xs. started xs) (c.deref-2.ensures.value ∙ (c.in_ok-clauses.ensures
+    ∙ ap (λ (cs : List Clause). map (λ (k : Clause). (k.kind, k.form)) cs) c.deref.ensures.value)))
+    (record { inside = top.inside; list = top.list ∙ ap (λ xs. Goal i.goal ∷ xs) (c.none.ensures c.new-agenda.result).list })
+    (ap (λ (p : ProblemTree). p.bound) c.problem.view_is) refl
     (subst (λ (b : Nodes). AllInTerms b c.in_ok-terms.terms.items) e1 c.in_ok-terms.ensures.inside)
-    (subst (λ (b : Nodes). term_trees b c.in_ok-terms.terms.items ≡ vars_from 0 n) e1 c.in_ok-terms.ensures.shows) c.new.ensures.items i.modules.items c.deref-3.ensures.value c.problem.invariant.0 (ap (λ (p : ProblemTree). p.modules) c.problem.view_is)
+    (subst (λ (b : Nodes). term_trees b c.in_ok-terms.terms.items ≡ vars_from 0 n) e1 c.in_ok-terms.ensures.shows) c.new.ensures.items i.modules.items
+    c.deref-3.ensures.value c.problem.invariant.0 (ap (λ (p : ProblemTree). p.modules) c.problem.view_is)

@@ -22,5 +22,6 @@ returns c =
     let a = cut_front k.agenda old.agenda new.agenda c.cut.ensures.keeps.more c.cut.ensures.keeps.frames c.cut.ensures.left in
     record {
       parts = back_to old new k refl refl c.undo.ensures.state c.undo-2.ensures.state a refl refl refl c.truncate.ensures.items c.truncate-2.ensures.items;
-      marks = λ j b g. undone old new k j c.requires b g refl refl (c.undo.ensures.marks j.store b.store g.store) (c.undo-2.ensures.marks j.context b.context g.context) a c.truncate.ensures.items c.truncate-2.ensures.items;
+      marks = λ j b g. undone old new k j c.requires b g refl refl (c.undo.ensures.marks j.store b.store g.store)
+          (c.undo-2.ensures.marks j.context b.context g.context) a c.truncate.ensures.items c.truncate-2.ensures.items;
     }

@@ -15,17 +15,23 @@ loop-at-preserved c =
     let one : c.loop-at.at ≡ suc i = omega arith in
     let inside : i < length c.args.keys.now = omega arith in
     let value : c.unwrap_or.result ≡ unwrap_or (get key_eq c.loop-at.first key) (length c.args.keys.now) =
-    c.unwrap_or.ensures ∙ (ap (λ o. unwrap_or o c.in_ok-end.end) c.in_ok-insert.ensures.old ∙ ap (unwrap_or (get key_eq c.loop-at.first key)) c.in_ok-end.ensures.same) in
+    c.unwrap_or.ensures ∙ (ap (λ o. unwrap_or o c.in_ok-end.end) c.in_ok-insert.ensures.old
+    ∙ ap (unwrap_or (get key_eq c.loop-at.first key)) c.in_ok-end.ensures.same) in
     record {
       size = length-set c.loop-at.next.items i c.unwrap_or.result ∙ c.loop-at.invariant.size;
       links = ap (λ v. drop i (slice_set c.loop-at.next.items i v)) value
-          ∙ links-step key_eq c.args.keys.now c.loop-at.next.items c.loop-at.at i (length c.args.keys.now) key Unnamed one inside refl (get key_eq c.loop-at.first) (get key_eq c.insert.new.self)
+          ∙ links-step key_eq c.args.keys.now c.loop-at.next.items c.loop-at.at i (length c.args.keys.now) key Unnamed one inside refl
+          (get key_eq c.loop-at.first) (get key_eq c.insert.new.self)
           c.in_ok-insert.ensures.updates.0 c.loop-at.invariant.first c.loop-at.invariant.size c.loop-at.invariant.links;
-      first = first-step key_eq c.args.keys.now c.loop-at.next.items c.loop-at.at i (length c.args.keys.now) key Unnamed one inside refl (get key_eq c.loop-at.first) (get key_eq c.insert.new.self)
+      first = first-step key_eq c.args.keys.now c.loop-at.next.items c.loop-at.at i (length c.args.keys.now) key Unnamed one inside refl
+          (get key_eq c.loop-at.first) (get key_eq c.insert.new.self)
           c.in_ok-insert.ensures.updates.0 c.loop-at.invariant.first;
     }
 
 pub invariant_of-result : goal.invariant_of-result
 invariant_of-result c =
     let z : c.loop-at.at ≡ 0 = omega arith in
-    record { rising = rising key_eq c.args.keys.now c.loop-at.next.items (subst (λ at. drop at c.loop-at.next.items ≡ links_from key_eq at (drop at c.args.keys.now)) z c.loop-at.invariant.links) }
+    record {
+      rising = rising key_eq c.args.keys.now c.loop-at.next.items
+          (subst (λ at. drop at c.loop-at.next.items ≡ links_from key_eq at (drop at c.args.keys.now)) z c.loop-at.invariant.links);
+    }

@@ -9,6 +9,8 @@ invariant_of-result c =
     let l = c.len.ensures in
     record {
       places = omega (arith, k, n, l);
-      by_predicate = length-next c.args.bank.now false c.deref.result.now c.in_ok-leaves.leaves.items c.in_ok-predicates.predicates c.in_ok-predicates.ensures c.deref.ensures.value;
-      by_sign = length-next c.args.bank.now true c.deref-2.result.now c.in_ok-leaves.leaves.items c.in_ok-signs.signs c.in_ok-signs.ensures c.deref-2.ensures.value;
+      by_predicate = length-next c.args.bank.now false c.deref.result.now c.in_ok-leaves.leaves.items c.in_ok-predicates.predicates c.in_ok-predicates.ensures
+          c.deref.ensures.value;
+      by_sign = length-next c.args.bank.now true c.deref-2.result.now c.in_ok-leaves.leaves.items c.in_ok-signs.signs c.in_ok-signs.ensures
+          c.deref-2.ensures.value;
     }

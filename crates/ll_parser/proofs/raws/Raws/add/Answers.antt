@@ -5,25 +5,31 @@ use Rattle.ll_parser.proofs.raws.Raws.add.Goals as goal
 
 -- the arguments grew, and no node was pushed
 pub invariant_of-self : goal.invariant_of-self
-invariant_of-self c = still_kept c.self.inside.args.items c.kept_row.new.args.items c.in_err-row.ensures.behind c.self.inside.rows.items c.self.inside.rows.items c.self.invariant refl
+invariant_of-self c = still_kept c.self.inside.args.items c.kept_row.new.args.items c.in_err-row.ensures.behind c.self.inside.rows.items
+    c.self.inside.rows.items c.self.invariant refl
 
 pub returns-in_err-row-clause-refused : goal.returns-in_err-row-clause-refused
 returns-in_err-row-clause-refused c =
-    OnErr-always _ (same_view c.self.inside.args.items c.kept_row.new.args.items c.in_err-row.ensures.behind c.self.inside.rows.items c.self.inside.rows.items c.self.invariant refl c.args.self.now c.self.view_is)
+    OnErr-always _ (same_view c.self.inside.args.items c.kept_row.new.args.items c.in_err-row.ensures.behind c.self.inside.rows.items c.self.inside.rows.items
+    c.self.invariant refl c.args.self.now c.self.view_is)
 
 pub invariant_of-self-in_err-push : goal.invariant_of-self-in_err-push
-invariant_of-self-in_err-push c = still_kept c.self.inside.args.items c.kept_row.new.args.items c.in_ok-row.ensures.behind c.self.inside.rows.items c.push.new.self.items c.self.invariant c.in_err-push.ensures.items
+invariant_of-self-in_err-push c = still_kept c.self.inside.args.items c.kept_row.new.args.items c.in_ok-row.ensures.behind c.self.inside.rows.items
+    c.push.new.self.items c.self.invariant c.in_err-push.ensures.items
 
 pub returns-in_err-push-clause-refused : goal.returns-in_err-push-clause-refused
 returns-in_err-push-clause-refused c =
-    OnErr-always _ (same_view c.self.inside.args.items c.kept_row.new.args.items c.in_ok-row.ensures.behind c.self.inside.rows.items c.push.new.self.items c.self.invariant c.in_err-push.ensures.items c.args.self.now c.self.view_is)
+    OnErr-always _ (same_view c.self.inside.args.items c.kept_row.new.args.items c.in_ok-row.ensures.behind c.self.inside.rows.items c.push.new.self.items
+    c.self.invariant c.in_err-push.ensures.items c.args.self.now c.self.view_is)
 
 -- a node was pushed
 pub invariant_of-self-2 : goal.invariant_of-self-2
 invariant_of-self-2 c =
-    added_kept c.self.inside.args.items c.kept_row.new.args.items c.in_ok-row.ensures.behind c.self.inside.rows.items c.push.new.self.items c.self.invariant c.args.self.now c.self.view_is c.in_ok-row.row c.in_ok-push.ensures.items _ c.in_ok-row.ensures.node
+    added_kept c.self.inside.args.items c.kept_row.new.args.items c.in_ok-row.ensures.behind c.self.inside.rows.items c.push.new.self.items c.self.invariant
+    c.args.self.now c.self.view_is c.in_ok-row.row c.in_ok-push.ensures.items _ c.in_ok-row.ensures.node
     c.in_ok-row.ensures.kept (parts_below _ _ c.args.node c.requires)
 
 pub returns-clause-added : goal.returns-clause-added
 returns-clause-added c =
-    added c.self.inside.args.items c.kept_row.new.args.items c.in_ok-row.ensures.behind c.self.inside.rows.items c.push.new.self.items c.self.invariant c.args.self.now c.self.view_is c.in_ok-row.row c.in_ok-push.ensures.items _ c.in_ok-row.ensures.node
+    added c.self.inside.args.items c.kept_row.new.args.items c.in_ok-row.ensures.behind c.self.inside.rows.items c.push.new.self.items c.self.invariant
+    c.args.self.now c.self.view_is c.in_ok-row.row c.in_ok-push.ensures.items _ c.in_ok-row.ensures.node

@@ -8,4 +8,6 @@ add_clause-requires-clause-clauses c = after-fits c.args.self.now c.finish.new.s
 
 pub returns-in_ok-add_clause-in-Some : goal.returns-in_ok-add_clause-in-Some
 returns-in_ok-add_clause-in-Some c =
-    ended-clause c.args.self.now c.finish.new.self c.requires.clauses c.in_ok-form.ensures.grows c.args.linear c.in-Some.form (λ texts. flat_final (mode_view texts c.args.self.now.waiting c.args.mode)) (rw c.in-Some.is at c.in_ok-form.ensures.gives) c.add_clause.new.self c.in_ok-add_clause-in-Some.ensures
+    ended-clause c.args.self.now c.finish.new.self c.requires.clauses c.in_ok-form.ensures.grows c.args.linear c.in-Some.form
+    (λ texts. flat_final (mode_view texts c.args.self.now.waiting c.args.mode)) (rw c.in-Some.is at c.in_ok-form.ensures.gives) c.add_clause.new.self
+    c.in_ok-add_clause-in-Some.ensures

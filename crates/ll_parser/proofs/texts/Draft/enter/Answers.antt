@@ -6,4 +6,6 @@ use Rattle.ll_parser.proofs.texts.Draft.enter.Goals as goal
 
 pub returns-in-Some : goal.returns-in-Some
 returns-in-Some c =
-    entered c.args.self.now c.step.new.self c.requires.clauses c.in_ok-next.ensures.grows c.args.linear c.in-Some.next (λ texts. flat_step (mode_view texts c.args.self.now.waiting c.args.mode) (symbol_tok texts c.args.symbol)) (rw c.in-Some.is at c.in_ok-next.ensures.gives)
+    entered c.args.self.now c.step.new.self c.requires.clauses c.in_ok-next.ensures.grows c.args.linear c.in-Some.next
+    (λ texts. flat_step (mode_view texts c.args.self.now.waiting c.args.mode) (symbol_tok texts c.args.symbol))
+    (rw c.in-Some.is at c.in_ok-next.ensures.gives)

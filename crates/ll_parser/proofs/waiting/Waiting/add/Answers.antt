@@ -3,4 +3,5 @@ use Rattle.ll_parser.proofs.stored.Shown.{added}
 use Rattle.ll_parser.proofs.waiting.Waiting.add.Goals as goal
 
 pub returns-clause-gives : goal.returns-clause-gives
-returns-clause-gives c = added c.args.self.now (record { forms = c.add.new.self; args = c.args.self.now.args; frames = c.args.self.now.frames }) _ c.in_ok-place.ensures.added refl refl c.in_ok-place.place c.in_ok-place.ensures.place
+returns-clause-gives c = added c.args.self.now (record { forms = c.add.new.self; args = c.args.self.now.args; frames = c.args.self.now.frames }) _
+    c.in_ok-place.ensures.added refl refl c.in_ok-place.place c.in_ok-place.ensures.place

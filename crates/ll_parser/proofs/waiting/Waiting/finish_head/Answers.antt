@@ -4,5 +4,7 @@ use Rattle.ll_parser.proofs.waiting.Waiting.finish_head.Goals as goal
 
 pub returns-clause-gives : goal.returns-clause-gives
 returns-clause-gives c =
-    finished-head c.args.self.now (record { forms = c.add_head.new.self; args = c.truncate.new.self; frames = c.args.self.now.frames }) c.args.name c.in_ok-at.at c.args.from _
-    (rest-of c.as_slice-args.result.now c.args.self.now.args.items c.args.from c.as_slice-args.ensures.value) c.requires c.in_ok-at.ensures.place c.in_ok-at.ensures.added c.truncate.ensures.items refl
+    finished-head c.args.self.now (record { forms = c.add_head.new.self; args = c.truncate.new.self; frames = c.args.self.now.frames }) c.args.name
+    c.in_ok-at.at c.args.from _
+    (rest-of c.as_slice-args.result.now c.args.self.now.args.items c.args.from c.as_slice-args.ensures.value) c.requires c.in_ok-at.ensures.place
+    c.in_ok-at.ensures.added c.truncate.ensures.items refl

@@ -3,4 +3,5 @@ use Rattle.ll_parser.proofs.stored.Shown.{put}
 use Rattle.ll_parser.proofs.waiting.Waiting.push.Goals as goal
 
 pub returns-clause-gives : goal.returns-clause-gives
-returns-clause-gives c = put c.args.self.now (record { forms = c.args.self.now.forms; args = c.args.self.now.args; frames = c.push.new.self }) c.args.frame refl refl c.in_ok-push.ensures.items c.requires
+returns-clause-gives c = put c.args.self.now (record { forms = c.args.self.now.forms; args = c.args.self.now.args; frames = c.push.new.self }) c.args.frame refl
+    refl c.in_ok-push.ensures.items c.requires

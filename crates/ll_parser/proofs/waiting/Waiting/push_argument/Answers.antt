@@ -3,4 +3,5 @@ use Rattle.ll_parser.proofs.stored.Shown.{one-more}
 use Rattle.ll_parser.proofs.waiting.Waiting.push_argument.Goals as goal
 
 pub returns-clause-gives : goal.returns-clause-gives
-returns-clause-gives c = one-more c.args.self.now (record { forms = c.args.self.now.forms; args = c.push.new.self; frames = c.args.self.now.frames }) c.args.arg c.requires refl c.in_ok-push.ensures.items refl
+returns-clause-gives c = one-more c.args.self.now (record { forms = c.args.self.now.forms; args = c.push.new.self; frames = c.args.self.now.frames }) c.args.arg
+    c.requires refl c.in_ok-push.ensures.items refl

@@ -7,8 +7,10 @@ use Rattle.ll_polarity.proofs.headings.Headings.add.Goals as goal
 
 pub returns-in_ok-insert : goal.returns-in_ok-insert
 returns-in_ok-insert c = λ ms known.
-    put_in (λ w. get_by (λ k. bytes_eq w k.now) c.args.self.now.params) ms (record { name = c.args.name.now; params = c.args.params }) known (λ w. get_by (λ k. bytes_eq w k.now) c.insert.new.self) (sym c.contains_key.ensures ∙ c.if-not-contains_key.true)
+    put_in (λ w. get_by (λ k. bytes_eq w k.now) c.args.self.now.params) ms (record { name = c.args.name.now; params = c.args.params }) known
+    (λ w. get_by (λ k. bytes_eq w k.now) c.insert.new.self) (sym c.contains_key.ensures ∙ c.if-not-contains_key.true)
     (hash_map_updates_str c.args.name.now c.args.self.now.params c.insert.new.self _ c.in_ok-insert.ensures.updates)
 
 pub returns-else-not-contains_key : goal.returns-else-not-contains_key
-returns-else-not-contains_key c = λ ms known. stays (λ w. get_by (λ k. bytes_eq w k.now) c.args.self.now.params) ms (record { name = c.args.name.now; params = c.args.params }) known (sym c.contains_key.ensures ∙ c.if-not-contains_key.false)
+returns-else-not-contains_key c = λ ms known. stays (λ w. get_by (λ k. bytes_eq w k.now) c.args.self.now.params) ms
+    (record { name = c.args.name.now; params = c.args.params }) known (sym c.contains_key.ensures ∙ c.if-not-contains_key.false)

@@ -6,12 +6,15 @@ use Rattle.ll_polarity.proofs.part.Loaded.copy.Goals as goal
 pub invariant_of-result : goal.invariant_of-result
 invariant_of-result c =
     let same = whole_image c.self.inside.bank c.in_ok-bank.bank (rw c.size-size.ensures.is at c.in_ok-bank.ensures) in
-    copied_fits c.self.inside.bank c.in_ok-bank.bank c.self.inside.names c.in_ok-names.names c.self.inside.modules.items c.in_ok-modules.modules.items c.self.inside.clauses.items c.in_ok-clauses.clauses.items same c.in_ok-names.ensures
-    (c.in_ok-modules.ensures ∙ ap (map module_row) c.deref.ensures.value) (c.in_ok-clauses.ensures.items ∙ c.deref-2.ensures.value) c.self.invariant.0 c.self.invariant.1 c.self.invariant.2
+    copied_fits c.self.inside.bank c.in_ok-bank.bank c.self.inside.names c.in_ok-names.names c.self.inside.modules.items c.in_ok-modules.modules.items
+    c.self.inside.clauses.items c.in_ok-clauses.clauses.items same c.in_ok-names.ensures
+    (c.in_ok-modules.ensures ∙ ap (map module_row) c.deref.ensures.value) (c.in_ok-clauses.ensures.items ∙ c.deref-2.ensures.value) c.self.invariant.0
+    c.self.invariant.1 c.self.invariant.2
 
 pub returns : goal.returns
 returns c =
     let same = whole_image c.self.inside.bank c.in_ok-bank.bank (rw c.size-size.ensures.is at c.in_ok-bank.ensures) in
-    copied_part c.self.inside.bank c.in_ok-bank.bank c.self.inside.names c.in_ok-names.names c.self.inside.modules.items c.in_ok-modules.modules.items c.self.inside.clauses.items c.in_ok-clauses.clauses.items same c.in_ok-names.ensures
+    copied_part c.self.inside.bank c.in_ok-bank.bank c.self.inside.names c.in_ok-names.names c.self.inside.modules.items c.in_ok-modules.modules.items
+    c.self.inside.clauses.items c.in_ok-clauses.clauses.items same c.in_ok-names.ensures
     (c.in_ok-modules.ensures ∙ ap (map module_row) c.deref.ensures.value) (c.in_ok-clauses.ensures.items ∙ c.deref-2.ensures.value)
     ∙ c.self.view_is

@@ -5,5 +5,6 @@ use Rattle.ll_polarity.proofs.scope.Binders.open.Goals as goal
 pub invariant_of-self-2 : goal.invariant_of-self-2
 invariant_of-self-2 c =
     let n : c.len.result ≡ length c.push.new.self.items = search rules in
-    opened-kept c.self.inside.names.now c.self.inside.innermost.items c.self.inside.rows.items c.push.new.self.items (record { name = c.args.name; local = c.args.local; hidden = c.index.result.now }) c.len.result c.self.invariant
+    opened-kept c.self.inside.names.now c.self.inside.innermost.items c.self.inside.rows.items c.push.new.self.items
+    (record { name = c.args.name; local = c.args.local; hidden = c.index.result.now }) c.len.result c.self.invariant
     c.args.self.now c.self.view_is c.requires c.index.ensures c.in_ok-push.ensures.items n

@@ -14,8 +14,10 @@ returns-in-Some-clause-added c =
 pub invariant_of-self-in-Ok : goal.invariant_of-self-in-Ok
 invariant_of-self-in-Ok c =
     subst (AreNumbered (get nat_cmp c.insert.new.self)) (sym c.in_ok-push.ensures.items)
-    (numbered_more (get nat_cmp c.self.inside.numbers) (get nat_cmp c.insert.new.self) c.self.inside.order.items c.args.name c.self.invariant c.in_default.ensures.value
-    (λ q. c.in-Ok.ensures.updates.0 q ∙ (let l : vec_len c.self.inside.order ≡ length c.self.inside.order.items = omega (arith, c.self.inside.order.ok.0) in λ i. cond (at_nat c.args.name q i) (Some ((c.len-next.ensures ∙ l) i)) (get nat_cmp c.self.inside.numbers q))))
+    (numbered_more (get nat_cmp c.self.inside.numbers) (get nat_cmp c.insert.new.self) c.self.inside.order.items c.args.name c.self.invariant
+    c.in_default.ensures.value
+    (λ q. c.in-Ok.ensures.updates.0 q ∙ (let l : vec_len c.self.inside.order ≡ length c.self.inside.order.items = omega (arith, c.self.inside.order.ok.0) in
+    λ i. cond (at_nat c.args.name q i) (Some ((c.len-next.ensures ∙ l) i)) (get nat_cmp c.self.inside.numbers q))))
 
 pub returns-in-Ok-clause-number : goal.returns-in-Ok-clause-number
 returns-in-Ok-clause-number c =

@@ -6,5 +6,6 @@ use Rattle.ll_pool.proofs.shared.SharedPool.new.Goals as goal
 
 pub new-requires-2 : goal.new-requires-2
 new-requires-2 g c =
-    subst (λ p. Fits g.N.Batch.of g.N.Batch.alternatives p (first_seat g.N.Batch.of g.N.Batch.alternatives p).0 (first_seat g.N.Batch.of g.N.Batch.alternatives p).1) (sym c.in_ok-pool.ensures)
+    subst (λ p. Fits g.N.Batch.of g.N.Batch.alternatives p (first_seat g.N.Batch.of g.N.Batch.alternatives p).0
+    (first_seat g.N.Batch.of g.N.Batch.alternatives p).1) (sym c.in_ok-pool.ensures)
     (first_fits g.N.Batch.of g.N.Batch.alternatives (arc_value c.args.root) c.args.workers c.requires.workers.0 c.requires.workers.1 c.requires.one)

@@ -20,9 +20,12 @@ number_terms-requires c =
     let fields = c.in_ok-fields.ensures ∙ (λ i. c.deref.ensures.value i ++ flat_map rule_places (c.deref-2.ensures.value i)) in
     let places = c.deref-5.ensures.value
     ∙ (c.in_ok-extend_from_slice-2.ensures.items
-    ∙ (ap (λ (z : List At). z ++ c.deref-4.result.now) (c.in_ok-extend_from_slice.ensures.items ∙ ap (λ (z : List At). z ++ c.deref-3.result.now) c.new-places.ensures.items) ∙ (λ i. c.deref-3.ensures.value i ++ c.deref-4.ensures.value i))) in
+    ∙ (ap (λ (z : List At). z ++ c.deref-4.result.now) (c.in_ok-extend_from_slice.ensures.items
+    ∙ ap (λ (z : List At). z ++ c.deref-3.result.now) c.new-places.ensures.items) ∙ (λ i. c.deref-3.ensures.value i ++ c.deref-4.ensures.value i))) in
     subst (AllInTerms o.bank) (sym places)
-    (All-append P c.in_ok-fields.fields.items o.rows.items (subst (AllInTerms o.bank) (sym fields) (All-append P o.asked.items (flat_map rule_places o.nodes.items) c.requires.asked (inside_nodes o.bank o.nodes.items c.requires.nodes))) c.requires.rows)
+    (All-append P c.in_ok-fields.fields.items o.rows.items (subst (AllInTerms o.bank) (sym fields)
+    (All-append P o.asked.items (flat_map rule_places o.nodes.items) c.requires.asked (inside_nodes o.bank o.nodes.items c.requires.nodes)))
+    c.requires.rows)
 
 pub first_off-requires : goal.first_off-requires
 first_off-requires c =
@@ -32,11 +35,13 @@ first_off-requires c =
     let Q : At → Type 0 = λ a. a.0 < length c.in_ok-classes.classes.numbers.items in
     let places = c.deref-5.ensures.value
     ∙ (c.in_ok-extend_from_slice-2.ensures.items
-    ∙ (ap (λ (z : List At). z ++ c.deref-4.result.now) (c.in_ok-extend_from_slice.ensures.items ∙ ap (λ (z : List At). z ++ c.deref-3.result.now) c.new-places.ensures.items) ∙ (λ i. c.deref-3.ensures.value i ++ c.deref-4.ensures.value i))) in
+    ∙ (ap (λ (z : List At). z ++ c.deref-4.result.now) (c.in_ok-extend_from_slice.ensures.items
+    ∙ ap (λ (z : List At). z ++ c.deref-3.result.now) c.new-places.ensures.items) ∙ (λ i. c.deref-3.ensures.value i ++ c.deref-4.ensures.value i))) in
     let reach = All-right Q c.in_ok-fields.fields.items rows (subst (λ (ps : List At). All Q ps) places c.in_ok-classes.ensures.reach) in
     let P : At → Type 0 = λ a. HasNumberAt table a.0 in
     let numbered : All P rows = λ k d l.
-    argument_numbered o.bank table (rows_in (flat_map completed (term_trees o.bank c.deref-6.result.now))) c.in_ok-table.ensures.table (get_or rows k d).0 (subst (λ (t : Classes). (get_or rows k d).0 < length t.numbers.items) (sym c.in_ok-table.ensures.same) (reach k d l)) in
+    argument_numbered o.bank table (rows_in (flat_map completed (term_trees o.bank c.deref-6.result.now))) c.in_ok-table.ensures.table (get_or rows k d).0
+    (subst (λ (t : Classes). (get_or rows k d).0 < length t.numbers.items) (sym c.in_ok-table.ensures.same) (reach k d l)) in
     subst (λ (ps : List At). All P ps) (sym c.deref-7.ensures.value) numbered
 
 pub returns : goal.returns
@@ -48,10 +53,13 @@ returns c =
     let fields = c.in_ok-fields.ensures ∙ (λ i. c.deref.ensures.value i ++ flat_map rule_places (c.deref-2.ensures.value i)) in
     let places = c.deref-5.ensures.value
     ∙ (c.in_ok-extend_from_slice-2.ensures.items
-    ∙ (ap (λ (z : List At). z ++ c.deref-4.result.now) (c.in_ok-extend_from_slice.ensures.items ∙ ap (λ (z : List At). z ++ c.deref-3.result.now) c.new-places.ensures.items) ∙ (λ i. c.deref-3.ensures.value i ++ c.deref-4.ensures.value i))) in
+    ∙ (ap (λ (z : List At). z ++ c.deref-4.result.now) (c.in_ok-extend_from_slice.ensures.items
+    ∙ ap (λ (z : List At). z ++ c.deref-3.result.now) c.new-places.ensures.items) ∙ (λ i. c.deref-3.ensures.value i ++ c.deref-4.ensures.value i))) in
     let reach = All-right Q c.in_ok-fields.fields.items rows (subst (λ (ps : List At). All Q ps) places c.in_ok-classes.ensures.reach) in
     let P : At → Type 0 = λ a. HasNumberAt table a.0 in
     let numbered : All P rows = λ k d l.
-    argument_numbered o.bank table (rows_in (flat_map completed (term_trees o.bank c.deref-6.result.now))) c.in_ok-table.ensures.table (get_or rows k d).0 (subst (λ (t : Classes). (get_or rows k d).0 < length t.numbers.items) (sym c.in_ok-table.ensures.same) (reach k d l)) in
+    argument_numbered o.bank table (rows_in (flat_map completed (term_trees o.bank c.deref-6.result.now))) c.in_ok-table.ensures.table (get_or rows k d).0
+    (subst (λ (t : Classes). (get_or rows k d).0 < length t.numbers.items) (sym c.in_ok-table.ensures.same) (reach k d l)) in
     off_found o table c.deref-6.result.now c.first_off.result (c.deref-6.ensures.value ∙ fields) c.in_ok-table.ensures.table numbered
-    (subst (λ (ps : List At). MatchOption c.first_off.result (AreInPlace table ps (length ps)) (IsFirstOff table ps)) c.deref-7.ensures.value c.first_off.ensures)
+    (subst (λ (ps : List At). MatchOption c.first_off.result (AreInPlace table ps (length ps)) (IsFirstOff table ps)) c.deref-7.ensures.value
+    c.first_off.ensures)

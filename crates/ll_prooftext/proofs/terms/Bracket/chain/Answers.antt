@@ -6,12 +6,19 @@ use Rattle.ll_prooftext.proofs.terms.Bracket.chain.Goals as goal
 pub loop-left-init : goal.loop-left-init
 loop-left-init c =
     let e : c.len-left.result ≡ length c.args.self.now.items.items = search rules in
-    record { within = omega arith; shows = rw e (chain_none c.args.bank.now c.args.self.now.items.items c.args.last.0 c.requires.last); keeps = Extends-refl c.args.bank.now }
+    record {
+      within = omega arith;
+      shows = rw e (chain_none c.args.bank.now c.args.self.now.items.items c.args.last.0 c.requires.last);
+      keeps =
+          Extends-refl c.args.bank.now;
+    }
 
 pub loop-left-preserved : goal.loop-left-preserved
 loop-left-preserved c =
     record {
       within = let w = c.loop-left.invariant.within in omega arith;
-      shows = chain_more c.args.bank.now c.loop-left.bank c.app.new.self c.args.self.now.items.items c.loop-left.left c.index-item.result.now c.args.last.0 c.loop-left.term.0 c.in_ok-term.term.0 c.loop-left.invariant.within c.loop-left-test.true c.index-item.ensures c.requires.items c.loop-left.invariant.shows c.loop-left.invariant.keeps c.in_ok-term.ensures.shows;
+      shows = chain_more c.args.bank.now c.loop-left.bank c.app.new.self c.args.self.now.items.items c.loop-left.left c.index-item.result.now c.args.last.0
+          c.loop-left.term.0 c.in_ok-term.term.0 c.loop-left.invariant.within c.loop-left-test.true c.index-item.ensures c.requires.items
+          c.loop-left.invariant.shows c.loop-left.invariant.keeps c.in_ok-term.ensures.shows;
       keeps = chain_keeps c.args.bank.now c.loop-left.bank c.app.new.self c.loop-left.invariant.keeps c.in_ok-term.ensures.keeps;
     }

@@ -6,20 +6,28 @@ use Rattle.ll_prooftext.proofs.terms.Open.close.Goals as goal
 pub returns-in_default-clause-step : goal.returns-in_default-clause-step
 returns-in_default-clause-step c =
     ends_whole c.args.names.now c.args.bank.now c.chain.new.bank c.args.self.now c.args.part c.in_ok-at.at.0 c.args.rest.now c.requires.good c.requires.part
-    (closed_term c.args.names.now c.args.bank.now c.term_of.new.bank c.chain.new.bank c.args.self.now c.args.part c.in_ok-last.last.0 c.in_ok-at.at.0 c.requires.good c.requires.part (sym c.is_compound.ensures ∙ c.if-not-is_compound.false) (rw c.deref.ensures.value at c.in_ok-last.ensures.term) c.in_ok-last.ensures.keeps c.in_ok-at.ensures.term c.in_ok-at.ensures.keeps)
+    (closed_term c.args.names.now c.args.bank.now c.term_of.new.bank c.chain.new.bank c.args.self.now c.args.part c.in_ok-last.last.0 c.in_ok-at.at.0
+    c.requires.good c.requires.part (sym c.is_compound.ensures ∙ c.if-not-is_compound.false) (rw c.deref.ensures.value at c.in_ok-last.ensures.term)
+    c.in_ok-last.ensures.keeps c.in_ok-at.ensures.term c.in_ok-at.ensures.keeps)
     (none_popped c.args.self.now.outer.items c.pop.new.self.items _ c.in_default.ensures.items c.in_default.ensures.rest c.in_default.ensures.cases.0)
 
 pub returns-in_ok-push-in-Head-clause-step : goal.returns-in_ok-push-in-Head-clause-step
 returns-in_ok-push-in-Head-clause-step c =
-    closes_argument c.args.names.now c.args.bank.now c.chain.new.bank c.args.self.now c.args.part c.in_ok-at.at.0 c.args.rest.now c.requires.good c.requires.part
-    (closed_term c.args.names.now c.args.bank.now c.term_of.new.bank c.chain.new.bank c.args.self.now c.args.part c.in_ok-last.last.0 c.in_ok-at.at.0 c.requires.good c.requires.part (sym c.is_compound.ensures ∙ c.if-not-is_compound.false) (rw c.deref.ensures.value at c.in_ok-last.ensures.term) c.in_ok-last.ensures.keeps c.in_ok-at.ensures.term c.in_ok-at.ensures.keeps)
-    (record { top = c.in-Some.outer; outer = c.pop.new.self }) c.in-Some.ensures.items _ c.in_ok-at.at c.in-Head.field-0 refl (c.in-Some-part.is ∙ ap Some c.in-Head.is)
+    closes_argument c.args.names.now c.args.bank.now c.chain.new.bank c.args.self.now c.args.part c.in_ok-at.at.0 c.args.rest.now c.requires.good
+    c.requires.part
+    (closed_term c.args.names.now c.args.bank.now c.term_of.new.bank c.chain.new.bank c.args.self.now c.args.part c.in_ok-last.last.0 c.in_ok-at.at.0
+    c.requires.good c.requires.part (sym c.is_compound.ensures ∙ c.if-not-is_compound.false) (rw c.deref.ensures.value at c.in_ok-last.ensures.term)
+    c.in_ok-last.ensures.keeps c.in_ok-at.ensures.term c.in_ok-at.ensures.keeps)
+    (record { top = c.in-Some.outer; outer = c.pop.new.self }) c.in-Some.ensures.items _ c.in_ok-at.at c.in-Head.field-0 refl
+    (c.in-Some-part.is ∙ ap Some c.in-Head.is)
     (record { outer = refl; items = refl; part = refl; args = c.in_ok-push-in-Head.ensures.items })
 
 pub returns-in-Term-clause-step : goal.returns-in-Term-clause-step
 returns-in-Term-clause-step c =
     closes_leaf c.args.names.now c.args.bank.now c.chain.new.bank c.args.self.now c.args.part c.in_ok-at.at.0 c.args.rest.now c.requires.good c.requires.part
-    (closed_term c.args.names.now c.args.bank.now c.term_of.new.bank c.chain.new.bank c.args.self.now c.args.part c.in_ok-last.last.0 c.in_ok-at.at.0 c.requires.good c.requires.part (sym c.is_compound.ensures ∙ c.if-not-is_compound.false) (rw c.deref.ensures.value at c.in_ok-last.ensures.term) c.in_ok-last.ensures.keeps c.in_ok-at.ensures.term c.in_ok-at.ensures.keeps)
+    (closed_term c.args.names.now c.args.bank.now c.term_of.new.bank c.chain.new.bank c.args.self.now c.args.part c.in_ok-last.last.0 c.in_ok-at.at.0
+    c.requires.good c.requires.part (sym c.is_compound.ensures ∙ c.if-not-is_compound.false) (rw c.deref.ensures.value at c.in_ok-last.ensures.term)
+    c.in_ok-last.ensures.keeps c.in_ok-at.ensures.term c.in_ok-at.ensures.keeps)
     (record { top = c.in-Some.outer; outer = c.pop.new.self }) c.in-Some.ensures.items c.in-Term.field-0 (c.in-Some-part.is ∙ ap Some c.in-Term.is)
 
 pub returns-in_default-part-clause-step : goal.returns-in_default-part-clause-step
@@ -27,6 +35,9 @@ returns-in_default-part-clause-step c =
     if_ok c.close_item.result _ _
     (λ step i.
     item_step c.args.names.now c.args.bank.now c.chain.new.bank c.args.self.now c.args.part c.in_ok-at.at c.args.rest.now c.requires.good c.requires.part
-    (closed_term c.args.names.now c.args.bank.now c.term_of.new.bank c.chain.new.bank c.args.self.now c.args.part c.in_ok-last.last.0 c.in_ok-at.at.0 c.requires.good c.requires.part (sym c.is_compound.ensures ∙ c.if-not-is_compound.false) (rw c.deref.ensures.value at c.in_ok-last.ensures.term) c.in_ok-last.ensures.keeps c.in_ok-at.ensures.term c.in_ok-at.ensures.keeps)
-    (record { top = c.in-Some.outer; outer = c.pop.new.self }) c.in-Some.ensures.items c.in_default-part.is c.is_chain-is_chain.result c.is_chain-is_chain.ensures c.close_item.new.names c.close_item.new.self step i)
+    (closed_term c.args.names.now c.args.bank.now c.term_of.new.bank c.chain.new.bank c.args.self.now c.args.part c.in_ok-last.last.0 c.in_ok-at.at.0
+    c.requires.good c.requires.part (sym c.is_compound.ensures ∙ c.if-not-is_compound.false) (rw c.deref.ensures.value at c.in_ok-last.ensures.term)
+    c.in_ok-last.ensures.keeps c.in_ok-at.ensures.term c.in_ok-at.ensures.keeps)
+    (record { top = c.in-Some.outer; outer = c.pop.new.self }) c.in-Some.ensures.items c.in_default-part.is c.is_chain-is_chain.result
+    c.is_chain-is_chain.ensures c.close_item.new.names c.close_item.new.self step i)
     c.close_item.ensures.step

@@ -5,12 +5,14 @@ use Rattle.ll_prooftext.proofs.terms.Open.first.Goals as goal
 
 pub returns-in-Some-clause-step : goal.returns-in-Some-clause-step
 returns-in-Some-clause-step c =
-    subst (λ bs. Turns c.args.names.now c.args.bank.now c.args.self.now bs c.args.names.now c.args.bank.now c.open.new.self c.in-Some.next.now) (sym c.in-Some.ensures)
+    subst (λ bs. Turns c.args.names.now c.args.bank.now c.args.self.now bs c.args.names.now c.args.bank.now c.open.new.self c.in-Some.next.now)
+    (sym c.in-Some.ensures)
     (first_opened c.args.names.now c.args.bank.now c.args.self.now c.open.new.self c.requires.good c.in_ok-open.ensures c.in-Some.next.now c.requires.part)
 
 pub returns-in-Some-2-clause-step : goal.returns-in-Some-2-clause-step
 returns-in-Some-2-clause-step c =
-    first_put c.args.names.now c.args.bank.now c.args.self.now _ c.in-Some-2.word c.args.rest.now c.word_at.new.names c.word_at.new.bank c.in-Some-2.next.now c.requires.good c.requires.part (rw c.in-Some-2.is at c.in_ok-word.ensures.moves)
+    first_put c.args.names.now c.args.bank.now c.args.self.now _ c.in-Some-2.word c.args.rest.now c.word_at.new.names c.word_at.new.bank c.in-Some-2.next.now
+    c.requires.good c.requires.part (rw c.in-Some-2.is at c.in_ok-word.ensures.moves)
     (rw c.in-Some-2.is at c.in_ok-word.ensures.found) (record { outer = refl; items = refl; part = refl; args = refl })
 
 pub returns-in-None-clause-step : goal.returns-in-None-clause-step

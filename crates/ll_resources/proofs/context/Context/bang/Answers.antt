@@ -8,14 +8,18 @@ use Rattle.ll_resources.proofs.context.Context.bang.Goals as goal
 
 pub invariant_of-self-2 : goal.invariant_of-self-2
 invariant_of-self-2 g c =
-    sound-noted c.self.inside.changes.items _ _ _ c.self.inside.state c.bang.new.self c.reserve.ensures.items c.push_reserved.ensures.items c.in_ok-change.ensures.leads
-    (within-along _ _ c.in_ok-change.ensures.banged (within-remarked [] c.self.inside.state.flag (raw c.self.inside.state) (within-now c.self.inside.changes.items c.self.inside.state c.self.invariant))) c.self.invariant
+    sound-noted c.self.inside.changes.items _ _ _ c.self.inside.state c.bang.new.self c.reserve.ensures.items c.push_reserved.ensures.items
+    c.in_ok-change.ensures.leads
+    (within-along _ _ c.in_ok-change.ensures.banged (within-remarked [] c.self.inside.state.flag (raw c.self.inside.state)
+    (within-now c.self.inside.changes.items c.self.inside.state c.self.invariant))) c.self.invariant
 
 pub returns-clause-marks : goal.returns-clause-marks
 returns-clause-marks g c =
-    marks-noted c.self.inside.changes.items _ _ _ c.self.inside.state c.bang.new.self _ c.reserve.ensures.items c.push_reserved.ensures.items c.in_ok-change.ensures.leads c.self.view_is
+    marks-noted c.self.inside.changes.items _ _ _ c.self.inside.state c.bang.new.self _ c.reserve.ensures.items c.push_reserved.ensures.items
+    c.in_ok-change.ensures.leads c.self.view_is
 
 pub returns-clause-banged : goal.returns-clause-banged
 returns-clause-banged g c =
     ap (λ (r : Raw g.row.C.Denot). shown r) c.in_ok-change.ensures.banged
-    ∙ (shown-banged (raw c.self.inside.state) (within-now c.self.inside.changes.items c.self.inside.state c.self.invariant) ∙ ap (λ (h : History g.row.C.Denot). after_bang h.present) c.self.view_is)
+    ∙ (shown-banged (raw c.self.inside.state) (within-now c.self.inside.changes.items c.self.inside.state c.self.invariant)
+    ∙ ap (λ (h : History g.row.C.Denot). after_bang h.present) c.self.view_is)

@@ -8,24 +8,31 @@ use Rattle.ll_resources.proofs.ChangeLemmas.{sound-alike, sound-noted, marks-not
 use Rattle.ll_resources.proofs.context.Context.bang_end.Goals as goal
 
 pub bang_end-requires : goal.bang_end-requires
-bang_end-requires g c = number-inside c.args.saved (raw c.self.inside.state) (subst (λ (h : History g.row.C.Denot). Fits c.args.saved h.present) (sym c.self.view_is) c.requires)
+bang_end-requires g c = number-inside c.args.saved (raw c.self.inside.state)
+    (subst (λ (h : History g.row.C.Denot). Fits c.args.saved h.present) (sym c.self.view_is) c.requires)
 
 pub invariant_of-self-2 : goal.invariant_of-self-2
 invariant_of-self-2 g c =
-    sound-noted c.self.inside.changes.items _ _ _ c.self.inside.state c.bang_end.new.self c.reserve.ensures.items c.push_reserved.ensures.items c.in_ok-change.ensures.leads
-    (within-along _ _ c.in_ok-change.ensures.ended (within-remarked (block_later c.args.saved.number (raw c.self.inside.state)) (kept_under c.args.saved.number (raw c.self.inside.state)).flag (raw c.self.inside.state) (within-now c.self.inside.changes.items c.self.inside.state c.self.invariant))) c.self.invariant
+    sound-noted c.self.inside.changes.items _ _ _ c.self.inside.state c.bang_end.new.self c.reserve.ensures.items c.push_reserved.ensures.items
+    c.in_ok-change.ensures.leads
+    (within-along _ _ c.in_ok-change.ensures.ended (within-remarked (block_later c.args.saved.number (raw c.self.inside.state))
+    (kept_under c.args.saved.number (raw c.self.inside.state)).flag (raw c.self.inside.state)
+    (within-now c.self.inside.changes.items c.self.inside.state c.self.invariant))) c.self.invariant
 
 pub returns-clause-marks : goal.returns-clause-marks
 returns-clause-marks g c =
-    marks-noted c.self.inside.changes.items _ _ _ c.self.inside.state c.bang_end.new.self _ c.reserve.ensures.items c.push_reserved.ensures.items c.in_ok-change.ensures.leads c.self.view_is
+    marks-noted c.self.inside.changes.items _ _ _ c.self.inside.state c.bang_end.new.self _ c.reserve.ensures.items c.push_reserved.ensures.items
+    c.in_ok-change.ensures.leads c.self.view_is
 
 pub returns-clause-settles : goal.returns-clause-settles
 returns-clause-settles g c =
     ap (λ (h : History g.row.C.Denot). settled (bang_end h.present.kept c.args.saved) h.present) (sym c.self.view_is)
-    ∙ (shown-bang-end c.args.saved (raw c.self.inside.state) (within-now c.self.inside.changes.items c.self.inside.state c.self.invariant) (subst (λ (h : History g.row.C.Denot). Fits c.args.saved h.present) (sym c.self.view_is) c.requires)
+    ∙ (shown-bang-end c.args.saved (raw c.self.inside.state) (within-now c.self.inside.changes.items c.self.inside.state c.self.invariant)
+    (subst (λ (h : History g.row.C.Denot). Fits c.args.saved h.present) (sym c.self.view_is) c.requires)
     ∙ ap (λ (r : Raw g.row.C.Denot). Some (shown r)) (sym c.in_ok-change.ensures.ended))
 
 pub invariant_of-self-in_err-change : goal.invariant_of-self-in_err-change
 invariant_of-self-in_err-change g c =
-    sound-alike c.self.inside.changes.items c.reserve.new.self.items (raw c.self.inside.state) (raw c.bang_end.new.self) _ _ _ _ c.reserve.ensures.items c.in_err-change.ensures.refused
+    sound-alike c.self.inside.changes.items c.reserve.new.self.items (raw c.self.inside.state) (raw c.bang_end.new.self) _ _ _ _ c.reserve.ensures.items
+    c.in_err-change.ensures.refused
     c.in_err-change.ensures.room.entries c.in_err-change.ensures.room.live c.self.invariant

@@ -14,12 +14,14 @@ close-requires g c =
 
 pub invariant_of-self-2 : goal.invariant_of-self-2
 invariant_of-self-2 g c =
-    sound-noted c.self.inside.changes.items _ _ _ c.self.inside.state c.close.new.self c.reserve.ensures.items c.push_reserved.ensures.items c.in-Some.ensures.leads
+    sound-noted c.self.inside.changes.items _ _ _ c.self.inside.state c.close.new.self c.reserve.ensures.items c.push_reserved.ensures.items
+    c.in-Some.ensures.leads
     (within-along _ _ c.in-Some.ensures.closes.state (within-now c.self.inside.changes.items c.self.inside.state c.self.invariant)) c.self.invariant
 
 pub returns-clause-marks : goal.returns-clause-marks
 returns-clause-marks g c =
-    marks-noted c.self.inside.changes.items _ _ _ c.self.inside.state c.close.new.self _ c.reserve.ensures.items c.push_reserved.ensures.items c.in-Some.ensures.leads c.self.view_is
+    marks-noted c.self.inside.changes.items _ _ _ c.self.inside.state c.close.new.self _ c.reserve.ensures.items c.push_reserved.ensures.items
+    c.in-Some.ensures.leads c.self.view_is
 
 pub returns-clause-settles : goal.returns-clause-settles
 returns-clause-settles g c =

@@ -3,9 +3,11 @@ use Rattle.ll_resources.proofs.context.Context.load.Goals as goal
 
 pub invariant_of-self-2 : goal.invariant_of-self-2
 invariant_of-self-2 g c =
-    sound-noted c.self.inside.changes.items _ _ _ c.self.inside.state c.load.new.self c.reserve.ensures.items c.push_reserved.ensures.items c.in_ok-change.ensures.leads
+    sound-noted c.self.inside.changes.items _ _ _ c.self.inside.state c.load.new.self c.reserve.ensures.items c.push_reserved.ensures.items
+    c.in_ok-change.ensures.leads
     (within-along _ _ c.in_ok-change.ensures.loaded (within-now c.self.inside.changes.items c.self.inside.state c.self.invariant)) c.self.invariant
 
 pub returns-clause-marks : goal.returns-clause-marks
 returns-clause-marks g c =
-    marks-noted c.self.inside.changes.items _ _ _ c.self.inside.state c.load.new.self _ c.reserve.ensures.items c.push_reserved.ensures.items c.in_ok-change.ensures.leads c.self.view_is
+    marks-noted c.self.inside.changes.items _ _ _ c.self.inside.state c.load.new.self _ c.reserve.ensures.items c.push_reserved.ensures.items
+    c.in_ok-change.ensures.leads c.self.view_is

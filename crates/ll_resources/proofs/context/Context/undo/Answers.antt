@@ -11,7 +11,8 @@ take_back-requires-clause-from g c =
 
 pub take_back-requires-clause-sound : goal.take_back-requires-clause-sound
 take_back-requires-clause-sound g c =
-    sound-alike c.self.inside.changes.items c.as_slice.result.now (raw c.self.inside.state) (raw c.self.inside.state) _ _ _ _ c.as_slice.ensures.value refl (omega arith) (omega arith) c.self.invariant
+    sound-alike c.self.inside.changes.items c.as_slice.result.now (raw c.self.inside.state) (raw c.self.inside.state) _ _ _ _ c.as_slice.ensures.value refl
+    (omega arith) (omega arith) c.self.invariant
 
 pub invariant_of-self : goal.invariant_of-self
 invariant_of-self g c =

@@ -10,19 +10,24 @@ use Rattle.ll_resources.proofs.ChangeLemmas.{sound-noted, marks-noted, within-no
 use Rattle.ll_resources.proofs.context.Context.with_end.Goals as goal
 
 pub with_end-requires-clause-saved : goal.with_end-requires-clause-saved
-with_end-requires-clause-saved g c = number-inside c.args.saved (raw c.self.inside.state) (subst (λ (h : History g.row.C.Denot). Fits c.args.saved h.present) (sym c.self.view_is) c.requires.saved)
+with_end-requires-clause-saved g c = number-inside c.args.saved (raw c.self.inside.state)
+    (subst (λ (h : History g.row.C.Denot). Fits c.args.saved h.present) (sym c.self.view_is) c.requires.saved)
 
 pub with_end-requires-clause-half : goal.with_end-requires-clause-half
-with_end-requires-clause-half g c = number-inside c.args.half (raw c.self.inside.state) (subst (λ (h : History g.row.C.Denot). Fits c.args.half h.present) (sym c.self.view_is) c.requires.half)
+with_end-requires-clause-half g c = number-inside c.args.half (raw c.self.inside.state)
+    (subst (λ (h : History g.row.C.Denot). Fits c.args.half h.present) (sym c.self.view_is) c.requires.half)
 
 pub invariant_of-self-2 : goal.invariant_of-self-2
 invariant_of-self-2 g c =
     let j : Joins c.args.saved.number c.args.half.number (raw c.self.inside.state) (raw c.with_end.new.self) =
-    subst (λ done. IfSome done (λ x. Joins c.args.saved.number c.args.half.number (raw c.self.inside.state) (raw c.with_end.new.self))) c.in-Some.is c.in_ok-change.ensures.joins in
+    subst (λ done. IfSome done (λ x. Joins c.args.saved.number c.args.half.number (raw c.self.inside.state) (raw c.with_end.new.self))) c.in-Some.is
+    c.in_ok-change.ensures.joins in
     sound-noted c.self.inside.changes.items _ _ _ c.self.inside.state c.with_end.new.self c.reserve.ensures.items c.push_reserved.ensures.items
     (subst (λ done. IfSome done (λ change. Leads change c.self.inside.state c.with_end.new.self)) c.in-Some.is c.in_ok-change.ensures.leads)
     (within-along _ _ j.state (within-remarked c.with_end.new.self.live.items
-    ((kept_under c.args.saved.number (raw c.self.inside.state)).flag || ((kept_under c.args.half.number (raw c.self.inside.state)).flag && c.self.inside.state.flag)) (raw c.self.inside.state) (within-now c.self.inside.changes.items c.self.inside.state c.self.invariant))) c.self.invariant
+    ((kept_under c.args.saved.number (raw c.self.inside.state)).flag
+    || ((kept_under c.args.half.number (raw c.self.inside.state)).flag && c.self.inside.state.flag)) (raw c.self.inside.state)
+    (within-now c.self.inside.changes.items c.self.inside.state c.self.invariant))) c.self.invariant
 
 pub returns-clause-marks : goal.returns-clause-marks
 returns-clause-marks g c =

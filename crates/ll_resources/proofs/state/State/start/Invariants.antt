@@ -6,4 +6,5 @@ use Rattle.ll_resources.proofs.state.State.start.Given as goal
 
 -- the last clauses are entries
 abbrev pub invariant-loop-i : goal.invariant-loop-i
-invariant-loop-i g l = seen_all (reverse l.entries.items) (reverse l.live.items) ≡ entries_from (length l.clauses - l.i) (drop (length l.clauses - l.i) l.clauses)
+invariant-loop-i g l = seen_all (reverse l.entries.items) (reverse l.live.items) ≡ entries_from (length l.clauses - l.i) (drop (length l.clauses - l.i)
+    l.clauses)

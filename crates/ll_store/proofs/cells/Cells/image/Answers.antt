@@ -11,7 +11,8 @@ use Rattle.ll_store.proofs.cells.Cells.image.Goals as goal
 pub returns-clause-cells : goal.returns-clause-cells
 returns-clause-cells c =
     let past = drop c.args.changes (map change_of c.self.inside.trail.items) in
-    let first : c.in_ok-slots.slots.items ≡ take c.args.cells c.self.inside.slots.items = c.in_ok-slots.ensures.items ∙ ap (take c.args.cells) c.deref.ensures.value in
+    let first : c.in_ok-slots.slots.items ≡ take c.args.cells c.self.inside.slots.items =
+    c.in_ok-slots.ensures.items ∙ ap (take c.args.cells) c.deref.ensures.value in
     c.take_back.ensures
     ∙ (ap (λ (xs : List Entry). before (drop c.args.changes (map change_of xs)) (map cell_of c.in_ok-slots.slots.items)) c.as_slice.ensures.value
     ∙ (ap (λ (xs : List Slot). before past (map cell_of xs)) first

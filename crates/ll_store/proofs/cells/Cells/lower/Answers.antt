@@ -21,5 +21,6 @@ returns-clause-grows c =
           ∙ (λ i. (c.self.view_is i).changes ++ c.in_ok-entry.ensures i ∷ []));
       back = ap (taken_back (Lowered c.args.var slot.level)) cells
           ∙ lower-back c.args.var c.args.level (cell_of slot) c.args.self.now.cells
-          (ap cell_of c.index.ensures ∙ (sym (get_or-map cell_of c.self.inside.slots.items c.args.var slot) ∙ ap (λ (s : Trailed). slice_index_or s.cells c.args.var (cell_of slot)) c.self.view_is));
+          (ap cell_of c.index.ensures ∙ (sym (get_or-map cell_of c.self.inside.slots.items c.args.var slot)
+          ∙ ap (λ (s : Trailed). slice_index_or s.cells c.args.var (cell_of slot)) c.self.view_is));
     }

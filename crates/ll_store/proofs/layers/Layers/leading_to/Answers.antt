@@ -13,11 +13,15 @@ pub returns-then-are_same : goal.returns-then-are_same
 returns-then-are_same c =
     let i = c.self.inside in let o = c.other.inside in let n = c.len-count.result in
     let whole : whole_of i.whole ≡ whole_of o.whole =
-    ap (λ (x : Store). state_of (stored x)) (sym c.deref-2.ensures) ∙ (c.is_alike.ensures c.if-is_alike.true ∙ ap (λ (x : Store). state_of (stored x)) c.deref-3.ensures) in
+    ap (λ (x : Store). state_of (stored x)) (sym c.deref-2.ensures)
+    ∙ (c.is_alike.ensures c.if-is_alike.true ∙ ap (λ (x : Store). state_of (stored x)) c.deref-3.ensures) in
     let same : segments_of i.segments.items ≡ segments_of (take n o.segments.items) =
-    ap segments_of (sym c.deref-then-is_alike.ensures.value) ∙ (c.are_same.ensures c.if-are_same.true ∙ ap (λ (ys : List (Arc SegmentSight Global)). segments_of (take n ys)) c.deref.ensures.value) in
-    subst (λ (ys : List (Arc SegmentSight Global)). LeadAll (segments_of ys) c.args.self.now.state c.args.other.now.state) (rest c.deref-then-are_same.result.now o.segments.items n c.deref-then-are_same.ensures.value)
-    (leads-on i.whole o.whole i.segments.items o.segments.items n c.args.self.now c.args.other.now c.self.view_is c.other.view_is whole same c.other.invariant.1)
+    ap segments_of (sym c.deref-then-is_alike.ensures.value)
+    ∙ (c.are_same.ensures c.if-are_same.true ∙ ap (λ (ys : List (Arc SegmentSight Global)). segments_of (take n ys)) c.deref.ensures.value) in
+    subst (λ (ys : List (Arc SegmentSight Global)). LeadAll (segments_of ys) c.args.self.now.state c.args.other.now.state)
+    (rest c.deref-then-are_same.result.now o.segments.items n c.deref-then-are_same.ensures.value)
+    (leads-on i.whole o.whole i.segments.items o.segments.items n c.args.self.now c.args.other.now c.self.view_is c.other.view_is whole same
+    c.other.invariant.1)
   where
     rest : (xs ys : List (Arc SegmentSight Global)) (n : ℕ) → xs ≡ ys → drop n ys ≡ take (length xs - n) (drop n xs)
     rest xs ys n e = sym (take_all (length xs - n) (drop n xs) (simp length-drop (omega arith)) ∙ ap (drop n) e)

@@ -12,5 +12,6 @@ returns-clause-marks c =
     let new : Store = record { bank = c.args.self.now.bank; cells = c.fresh.new.self } in
     either-way c.fresh.result
     (λ e. marks-cell (stored c.args.self.now) (stored new) d refl c.fresh.ensures.changes e)
-    (λ e. subst (λ (t : Trailed). let s : Stored = record { nodes = c.args.self.now.bank; cells = t.cells; changes = t.changes } in KeepsMarks (stored c.args.self.now) s) (sym e) (marks-same (stored c.args.self.now)))
+    (λ e. subst (λ (t : Trailed). let s : Stored = record { nodes = c.args.self.now.bank; cells = t.cells; changes = t.changes } in
+    KeepsMarks (stored c.args.self.now) s) (sym e) (marks-same (stored c.args.self.now)))
     c.fresh.ensures.cells c.fresh.ensures.refused

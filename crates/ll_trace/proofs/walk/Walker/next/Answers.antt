@@ -16,18 +16,21 @@ use Rattle.ll_trace.proofs.walk.Walker.next.Goals as goal
 
 pub take_form-requires-clause-may : goal.take_form-requires-clause-may
 take_form-requires-clause-may c =
-    may_take c.args.forms.now c.args.modules.now c.args.terms.now c.args.self.now (record c.args.self.now { goals = c.pop.new.self }) (Plain c.in-Plain.form) c.args.step
+    may_take c.args.forms.now c.args.modules.now c.args.terms.now c.args.self.now (record c.args.self.now { goals = c.pop.new.self }) (Plain c.in-Plain.form)
+    c.args.step
     (c.in-Some.ensures.items ∙ ap (λ g. c.pop.new.self.items ++ g ∷ []) c.in-Plain.is) refl refl refl c.requires.may
 
 pub take_loading-requires-clause-may : goal.take_loading-requires-clause-may
 take_loading-requires-clause-may c =
-    may_take c.args.forms.now c.args.modules.now c.args.terms.now c.args.self.now (record c.args.self.now { goals = c.pop.new.self }) (LoadingGoal c.in-Loading.loading) c.args.step
+    may_take c.args.forms.now c.args.modules.now c.args.terms.now c.args.self.now (record c.args.self.now { goals = c.pop.new.self })
+    (LoadingGoal c.in-Loading.loading) c.args.step
     (c.in-Some.ensures.items ∙ ap (λ g. c.pop.new.self.items ++ g ∷ []) c.in-Loading.is) refl refl refl c.requires.may
 
 pub returns-in-Plain : goal.returns-in-Plain
 returns-in-Plain c =
     let popped : Walker = record c.args.self.now { goals = c.pop.new.self } in
-    if_ok (λ rule. Takes c.args.forms.now c.args.modules.now c.args.terms.now popped (bare (form_tree c.args.forms.now c.in-Plain.form.0)) c.args.step rule c.take_form.new.self)
+    if_ok (λ rule. Takes c.args.forms.now c.args.modules.now c.args.terms.now popped (bare (form_tree c.args.forms.now c.in-Plain.form.0)) c.args.step rule
+    c.take_form.new.self)
     (λ rule. Steps c.args.forms.now c.args.modules.now c.args.terms.now c.args.self.now c.args.step rule c.take_form.new.self)
     (λ rule s.
     steps_of c.args.forms.now c.args.modules.now c.args.terms.now c.args.self.now popped c.take_form.new.self (Plain c.in-Plain.form) c.args.step rule
@@ -37,10 +40,12 @@ returns-in-Plain c =
 pub returns-in-Loading : goal.returns-in-Loading
 returns-in-Loading c =
     let popped : Walker = record c.args.self.now { goals = c.pop.new.self } in
-    if_ok (λ rule. Takes c.args.forms.now c.args.modules.now c.args.terms.now popped (shown_goal c.args.forms.now (trees c.args.forms.now c.args.modules.now) (LoadingGoal c.in-Loading.loading)) c.args.step rule c.take_loading.new.self)
+    if_ok (λ rule. Takes c.args.forms.now c.args.modules.now c.args.terms.now popped
+    (shown_goal c.args.forms.now (trees c.args.forms.now c.args.modules.now) (LoadingGoal c.in-Loading.loading)) c.args.step rule c.take_loading.new.self)
     (λ rule. Steps c.args.forms.now c.args.modules.now c.args.terms.now c.args.self.now c.args.step rule c.take_loading.new.self)
     (λ rule s.
-    steps_of c.args.forms.now c.args.modules.now c.args.terms.now c.args.self.now popped c.take_loading.new.self (LoadingGoal c.in-Loading.loading) c.args.step rule
+    steps_of c.args.forms.now c.args.modules.now c.args.terms.now c.args.self.now popped c.take_loading.new.self (LoadingGoal c.in-Loading.loading) c.args.step
+    rule
     (c.in-Some.ensures.items ∙ ap (λ g. c.pop.new.self.items ++ g ∷ []) c.in-Loading.is) refl refl refl s)
     c.take_loading.result c.take_loading.ensures
 
@@ -55,5 +60,6 @@ returns-in_ok-push-in-Free c =
     let e = c.in-Some.ensures.items ∙ ap (λ g. c.pop.new.self.items ++ g ∷ []) c.in-Free.is in
     let a = All-pop P c.args.self.now.goals.items c.pop.new.self.items (Some (Free f)) e c.requires.inside.goals in
     steps_of forms c.args.modules.now c.args.terms.now c.args.self.now popped new (Free f) c.args.step BangRule e refl refl refl
-    (takes_goals forms c.args.modules.now c.args.terms.now popped c.args.step (record { goals = a.0; clauses = c.requires.inside.clauses }) c.requires.used (Bang (bare (form_tree forms f.0))) BangRule BangLine (Plain f ∷ []) new
+    (takes_goals forms c.args.modules.now c.args.terms.now popped c.args.step (record { goals = a.0; clauses = c.requires.inside.clauses }) c.requires.used
+    (Bang (bare (form_tree forms f.0))) BangRule BangLine (Plain f ∷ []) new
     c.in_ok-push-in-Free.ensures.items refl refl refl (All-cons P (Plain f) [] a.1 (All-nil P)) (λ bank. refl) (λ all. refl) (λ bank k. tt))

@@ -12,5 +12,7 @@ returns c modules inside =
     let o = c.in_ok-opened.opened in
     let taken = c.in_ok-taken.taken in
     let new : Walker = record { goals = c.open_leaf.new.goals; clauses = old.clauses; eigens = old.eigens; used = old.used + c.len.result } in
-    takes_leaf c.args.forms.now modules c.args.terms.now old c.args.step inside c.requires.used c.in-Clause.label c.in-Clause.leaf c.index-clause.result.now o new (ClauseRule c.in-Clause.label c.in-Clause.leaf taken o.parts) taken.items c.in-Clause.is
-    (subst (λ (s : Step). MayTakeAtom c.args.forms.now old s) c.in-Clause.is c.requires.may) c.index-clause.ensures c.in_ok-opened.ensures refl refl (let l : c.len.result ≡ length taken.items = omega arith in ap (λ n. old.used + n) l) c.in_ok-taken.ensures (λ bank. refl) (λ bank. refl)
+    takes_leaf c.args.forms.now modules c.args.terms.now old c.args.step inside c.requires.used c.in-Clause.label c.in-Clause.leaf c.index-clause.result.now o
+    new (ClauseRule c.in-Clause.label c.in-Clause.leaf taken o.parts) taken.items c.in-Clause.is
+    (subst (λ (s : Step). MayTakeAtom c.args.forms.now old s) c.in-Clause.is c.requires.may) c.index-clause.ensures c.in_ok-opened.ensures refl refl
+    (let l : c.len.result ≡ length taken.items = omega arith in ap (λ n. old.used + n) l) c.in_ok-taken.ensures (λ bank. refl) (λ bank. refl)

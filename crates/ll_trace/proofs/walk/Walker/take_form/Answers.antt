@@ -3,7 +3,8 @@ use Rattle.std.proofs.lemmas.List.Elements.{All-nil, All-cons}
 use Rattle.ll_bank.specs.Form.{Form, Atom, With, Tensor, Plus, Bang, Lolli, Imp, Forall, Exists, Use}
 use Rattle.ll_bank.specs.Nodes.{form_tree, term_trees}
 use Rattle.ll_laws.specs.declared.Module.{Module}
-use Rattle.ll_laws.specs.declared.Rule.TheVariants.{Tensor as TensorRule, With as WithRule, Bang as BangRule, Lolli as LolliRule, Imp as ImpRule, Forall as ForallRule, Exists as ExistsRule, Use as UseRule}
+use Rattle.ll_laws.specs.declared.Rule.TheVariants.{Tensor as TensorRule, With as WithRule, Bang as BangRule, Lolli as LolliRule, Imp as ImpRule}
+use Rattle.ll_laws.specs.declared.Rule.TheVariants.{Forall as ForallRule, Exists as ExistsRule, Use as UseRule}
 use Rattle.ll_laws.specs.Line.{TensorLine, WithLine, BangLine, LolliLine, ImpLine, ForallLine}
 use Rattle.ll_trace.specs.declared.walk.Goal.{Goal}
 use Rattle.ll_trace.specs.declared.walk.Goal.TheVariants.{Plain, Loading as LoadingGoal}
@@ -26,8 +27,10 @@ returns-in_ok-extend_from_slice-in-Tensor c =
     let n = length c.args.modules.now in
     let P : Goal → Type 0 = HasGoal forms n in
     let rule = TensorRule c.new.result c.new-in-Tensor.result in
-    takes_tree forms c.args.modules.now c.args.terms.now old c.args.step c.requires.inside c.requires.used c.args.form.0 (Tensor (form_tree forms f.0) (form_tree forms g.0)) rule _ c.in-Tensor.ensures.shown.tree
-    (takes_goals forms c.args.modules.now c.args.terms.now old c.args.step c.requires.inside c.requires.used (Tensor (bare (form_tree forms f.0)) (bare (form_tree forms g.0))) rule (TensorLine [] []) (Plain g ∷ Plain f ∷ [])
+    takes_tree forms c.args.modules.now c.args.terms.now old c.args.step c.requires.inside c.requires.used c.args.form.0
+    (Tensor (form_tree forms f.0) (form_tree forms g.0)) rule _ c.in-Tensor.ensures.shown.tree
+    (takes_goals forms c.args.modules.now c.args.terms.now old c.args.step c.requires.inside c.requires.used
+    (Tensor (bare (form_tree forms f.0)) (bare (form_tree forms g.0))) rule (TensorLine [] []) (Plain g ∷ Plain f ∷ [])
     (record old { goals = c.extend_from_slice.new.self }) c.in_ok-extend_from_slice-in-Tensor.ensures.items refl refl refl
     (All-cons P (Plain g) (Plain f ∷ []) (omega (arith, h, q)) (All-cons P (Plain f) [] (omega (arith, h, p)) (All-nil P)))
     (λ bank. λ i. TensorLine (c.new.ensures.items i) (c.new-in-Tensor.ensures.items i)) (λ all. refl) (λ bank k. tt))
@@ -43,8 +46,10 @@ returns-in_ok-extend_from_slice-in-With c =
     let h = c.requires.form in
     let n = length c.args.modules.now in
     let P : Goal → Type 0 = HasGoal forms n in
-    takes_tree forms c.args.modules.now c.args.terms.now old c.args.step c.requires.inside c.requires.used c.args.form.0 (With (form_tree forms f.0) (form_tree forms g.0)) WithRule _ c.in-With.ensures.shown.tree
-    (takes_goals forms c.args.modules.now c.args.terms.now old c.args.step c.requires.inside c.requires.used (With (bare (form_tree forms f.0)) (bare (form_tree forms g.0))) WithRule WithLine (Plain g ∷ Plain f ∷ [])
+    takes_tree forms c.args.modules.now c.args.terms.now old c.args.step c.requires.inside c.requires.used c.args.form.0
+    (With (form_tree forms f.0) (form_tree forms g.0)) WithRule _ c.in-With.ensures.shown.tree
+    (takes_goals forms c.args.modules.now c.args.terms.now old c.args.step c.requires.inside c.requires.used
+    (With (bare (form_tree forms f.0)) (bare (form_tree forms g.0))) WithRule WithLine (Plain g ∷ Plain f ∷ [])
     (record old { goals = c.extend_from_slice-in-With.new.self }) c.in_ok-extend_from_slice-in-With.ensures.items refl refl refl
     (All-cons P (Plain g) (Plain f ∷ []) (omega (arith, h, q)) (All-cons P (Plain f) [] (omega (arith, h, p)) (All-nil P)))
     (λ bank. refl) (λ all. refl) (λ bank k. tt))
@@ -61,9 +66,11 @@ returns-in-Plus c =
     if_ok (λ rule. TakesSide old f g c.args.step rule c.take_side.new.self)
     (λ rule. Takes forms c.args.modules.now c.args.terms.now old (bare (form_tree forms c.args.form.0)) c.args.step rule c.take_side.new.self)
     (λ rule s.
-    takes_tree forms c.args.modules.now c.args.terms.now old c.args.step c.requires.inside c.requires.used c.args.form.0 (Plus (form_tree forms f.0) (form_tree forms g.0)) rule c.take_side.new.self
+    takes_tree forms c.args.modules.now c.args.terms.now old c.args.step c.requires.inside c.requires.used c.args.form.0
+    (Plus (form_tree forms f.0) (form_tree forms g.0)) rule c.take_side.new.self
     c.in-Plus.ensures.shown.tree
-    (takes_side forms c.args.modules.now c.args.terms.now old c.requires.inside c.requires.used f g c.args.step rule c.take_side.new.self (omega (arith, h, p)) (omega (arith, h, q)) s))
+    (takes_side forms c.args.modules.now c.args.terms.now old c.requires.inside c.requires.used f g c.args.step rule c.take_side.new.self (omega (arith, h, p))
+    (omega (arith, h, q)) s))
     c.take_side.result c.take_side.ensures
 
 pub returns-in_ok-push-in-Bang : goal.returns-in_ok-push-in-Bang
@@ -74,8 +81,10 @@ returns-in_ok-push-in-Bang c =
     let g = c.in-Bang.goal in
     let h = c.requires.form in
     let P : Goal → Type 0 = HasGoal forms (length c.args.modules.now) in
-    takes_tree forms c.args.modules.now c.args.terms.now old c.args.step c.requires.inside c.requires.used c.args.form.0 (Bang (form_tree forms g.0)) BangRule _ c.in-Bang.ensures.shown.tree
-    (takes_goals forms c.args.modules.now c.args.terms.now old c.args.step c.requires.inside c.requires.used (Bang (bare (form_tree forms g.0))) BangRule BangLine (Plain g ∷ []) (record old { goals = c.push.new.self })
+    takes_tree forms c.args.modules.now c.args.terms.now old c.args.step c.requires.inside c.requires.used c.args.form.0 (Bang (form_tree forms g.0)) BangRule _
+    c.in-Bang.ensures.shown.tree
+    (takes_goals forms c.args.modules.now c.args.terms.now old c.args.step c.requires.inside c.requires.used (Bang (bare (form_tree forms g.0))) BangRule
+    BangLine (Plain g ∷ []) (record old { goals = c.push.new.self })
     c.in_ok-push-in-Bang.ensures.items refl refl refl (All-cons P (Plain g) [] (omega (arith, h, p)) (All-nil P)) (λ bank. refl) (λ all. refl) (λ bank k. tt))
 
 pub returns-in_ok-label-in-Lolli : goal.returns-in_ok-label-in-Lolli
@@ -88,9 +97,12 @@ returns-in_ok-label-in-Lolli c =
     let r = c.in-Lolli.clause in
     let g = c.in-Lolli.goal in
     let rule = LolliRule c.in_ok-label-in-Lolli.label in
-    let lab = label_is forms c.args.modules.now c.args.terms.now old c.args.step c.requires.inside c.requires.used c.in_ok-label-in-Lolli.label c.in_ok-label-in-Lolli.ensures.label in
-    takes_tree forms c.args.modules.now c.args.terms.now old c.args.step c.requires.inside c.requires.used c.args.form.0 (Lolli (form_tree forms r.0) (form_tree forms g.0)) rule _ c.in-Lolli.ensures.shown.tree
-    (takes_load forms c.args.modules.now c.args.terms.now old c.args.step c.requires.inside c.requires.used (Lolli (bare (form_tree forms r.0)) (bare (form_tree forms g.0))) (Plain g) r rule _ c.load.new.self
+    let lab = label_is forms c.args.modules.now c.args.terms.now old c.args.step c.requires.inside c.requires.used c.in_ok-label-in-Lolli.label
+    c.in_ok-label-in-Lolli.ensures.label in
+    takes_tree forms c.args.modules.now c.args.terms.now old c.args.step c.requires.inside c.requires.used c.args.form.0
+    (Lolli (form_tree forms r.0) (form_tree forms g.0)) rule _ c.in-Lolli.ensures.shown.tree
+    (takes_load forms c.args.modules.now c.args.terms.now old c.args.step c.requires.inside c.requires.used
+    (Lolli (bare (form_tree forms r.0)) (bare (form_tree forms g.0))) (Plain g) r rule _ c.load.new.self
     c.in_ok-label-in-Lolli.ensures.pushed (omega (arith, h, q)) (omega (arith, h, p)) (λ bank. ap LolliLine lab) (λ all. refl) (λ bank k. tt))
 
 pub returns-in_ok-label-in-Imp : goal.returns-in_ok-label-in-Imp
@@ -103,9 +115,12 @@ returns-in_ok-label-in-Imp c =
     let r = c.in-Imp.clause in
     let g = c.in-Imp.goal in
     let rule = ImpRule c.in_ok-label-in-Imp.label in
-    let lab = label_is forms c.args.modules.now c.args.terms.now old c.args.step c.requires.inside c.requires.used c.in_ok-label-in-Imp.label c.in_ok-label-in-Imp.ensures.label in
-    takes_tree forms c.args.modules.now c.args.terms.now old c.args.step c.requires.inside c.requires.used c.args.form.0 (Imp (form_tree forms r.0) (form_tree forms g.0)) rule _ c.in-Imp.ensures.shown.tree
-    (takes_load forms c.args.modules.now c.args.terms.now old c.args.step c.requires.inside c.requires.used (Imp (bare (form_tree forms r.0)) (bare (form_tree forms g.0))) (Plain g) r rule _ c.load-in-Imp.new.self
+    let lab = label_is forms c.args.modules.now c.args.terms.now old c.args.step c.requires.inside c.requires.used c.in_ok-label-in-Imp.label
+    c.in_ok-label-in-Imp.ensures.label in
+    takes_tree forms c.args.modules.now c.args.terms.now old c.args.step c.requires.inside c.requires.used c.args.form.0
+    (Imp (form_tree forms r.0) (form_tree forms g.0)) rule _ c.in-Imp.ensures.shown.tree
+    (takes_load forms c.args.modules.now c.args.terms.now old c.args.step c.requires.inside c.requires.used
+    (Imp (bare (form_tree forms r.0)) (bare (form_tree forms g.0))) (Plain g) r rule _ c.load-in-Imp.new.self
     c.in_ok-label-in-Imp.ensures.pushed (omega (arith, h, q)) (omega (arith, h, p)) (λ bank. ap ImpLine lab) (λ all. refl) (λ bank k. tt))
 
 pub returns-in_ok-eigen-in-Forall : goal.returns-in_ok-eigen-in-Forall
@@ -116,8 +131,10 @@ returns-in_ok-eigen-in-Forall c =
     let h = c.requires.form in
     let g = c.in-Forall.body in
     let rule = ForallRule c.in_ok-eigen-in-Forall.eigen in
-    takes_tree forms c.args.modules.now c.args.terms.now old c.args.step c.requires.inside c.requires.used c.args.form.0 (Forall (form_tree forms g.0)) rule _ c.in-Forall.ensures.shown.tree
-    (takes_open forms c.args.modules.now c.args.terms.now old c.args.step c.requires.inside c.requires.used (Forall (bare (form_tree forms g.0))) (Plain g) rule c.open.new.self c.in_ok-eigen-in-Forall.ensures.pushed
+    takes_tree forms c.args.modules.now c.args.terms.now old c.args.step c.requires.inside c.requires.used c.args.form.0 (Forall (form_tree forms g.0)) rule _
+    c.in-Forall.ensures.shown.tree
+    (takes_open forms c.args.modules.now c.args.terms.now old c.args.step c.requires.inside c.requires.used (Forall (bare (form_tree forms g.0))) (Plain g) rule
+    c.open.new.self c.in_ok-eigen-in-Forall.ensures.pushed
     (omega (arith, h, p)) (λ bank. ap ForallLine c.in_ok-eigen-in-Forall.ensures.eigen) (λ all. refl) (λ bank k. tt))
 
 pub returns-in_ok-term-in-Exists : goal.returns-in_ok-term-in-Exists
@@ -128,8 +145,10 @@ returns-in_ok-term-in-Exists c =
     let h = c.requires.form in
     let g = c.in-Exists.body in
     let rule = ExistsRule c.in_ok-term-in-Exists.term in
-    takes_tree forms c.args.modules.now c.args.terms.now old c.args.step c.requires.inside c.requires.used c.args.form.0 (Exists (form_tree forms g.0)) rule _ c.in-Exists.ensures.shown.tree
-    (takes_fill forms c.args.modules.now c.args.terms.now old c.args.step c.requires.inside c.requires.used (bare (form_tree forms g.0)) g c.in_ok-term-in-Exists.term c.fill.new.self c.in_ok-term-in-Exists.ensures.pushed
+    takes_tree forms c.args.modules.now c.args.terms.now old c.args.step c.requires.inside c.requires.used c.args.form.0 (Exists (form_tree forms g.0)) rule _
+    c.in-Exists.ensures.shown.tree
+    (takes_fill forms c.args.modules.now c.args.terms.now old c.args.step c.requires.inside c.requires.used (bare (form_tree forms g.0)) g
+    c.in_ok-term-in-Exists.term c.fill.new.self c.in_ok-term-in-Exists.ensures.pushed
     (omega (arith, h, p)) c.in_ok-term-in-Exists.ensures.term refl)
 
 pub returns-in_ok-push-in-Use : goal.returns-in_ok-push-in-Use
@@ -144,10 +163,13 @@ returns-in_ok-push-in-Use c =
     let may : MayTake forms c.args.modules.now c.args.terms.now old (bare (Use k (term_trees forms c.in-Use.field-1.now) (form_tree forms g.0))) c.args.step =
     subst (λ (t : Form). MayTake forms c.args.modules.now c.args.terms.now old (bare t) c.args.step) c.in-Use.ensures.shown.tree c.requires.may
     in
-    takes_tree forms c.args.modules.now c.args.terms.now old c.args.step c.requires.inside c.requires.used c.args.form.0 (Use k (term_trees forms c.in-Use.field-1.now) (form_tree forms g.0)) UseRule _ c.in-Use.ensures.shown.tree
-    (takes_use forms c.args.modules.now c.args.terms.now old c.args.step c.requires.inside c.requires.used k d g [] (record old { goals = c.push-in-Use.new.self }) may c.index-modules-module.is (omega (arith, h, p))
+    takes_tree forms c.args.modules.now c.args.terms.now old c.args.step c.requires.inside c.requires.used c.args.form.0
+    (Use k (term_trees forms c.in-Use.field-1.now) (form_tree forms g.0)) UseRule _ c.in-Use.ensures.shown.tree
+    (takes_use forms c.args.modules.now c.args.terms.now old c.args.step c.requires.inside c.requires.used k d g []
+    (record old { goals = c.push-in-Use.new.self }) may c.index-modules-module.is (omega (arith, h, p))
     (c.in_ok-push-in-Use.ensures.items
-    ∙ ap (λ (x : Module). old.goals.items ++ LoadingGoal (record { locals = x.locals; «module» = k; next = 0; goal = g }) ∷ []) (sym c.index-modules-module.is)) refl refl refl)
+    ∙ ap (λ (x : Module). old.goals.items ++ LoadingGoal (record { locals = x.locals; «module» = k; next = 0; goal = g }) ∷ []) (sym c.index-modules-module.is))
+    refl refl refl)
 
 pub returns-in-Atom : goal.returns-in-Atom
 returns-in-Atom c =
@@ -155,6 +177,7 @@ returns-in-Atom c =
     let old = c.args.self.now in
     if_ok _ (λ rule. Takes forms c.args.modules.now c.args.terms.now old (bare (form_tree forms c.args.form.0)) c.args.step rule c.take_atom.new.self)
     (λ rule s.
-    takes_tree forms c.args.modules.now c.args.terms.now old c.args.step c.requires.inside c.requires.used c.args.form.0 (Atom _) rule c.take_atom.new.self c.in-Atom.ensures.shown.tree
+    takes_tree forms c.args.modules.now c.args.terms.now old c.args.step c.requires.inside c.requires.used c.args.form.0 (Atom _) rule c.take_atom.new.self
+    c.in-Atom.ensures.shown.tree
     (s c.args.modules.now c.requires.inside))
     c.take_atom.result c.take_atom.ensures

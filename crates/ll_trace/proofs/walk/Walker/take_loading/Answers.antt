@@ -18,7 +18,8 @@ use Rattle.ll_trace.proofs.walk.Walker.take_loading.Goals as goal
 pub returns-then-loading-gt0 : goal.returns-then-loading-gt0
 returns-then-loading-gt0 c =
     let l = c.args.loading in
-    takes_local c.args.forms.now c.args.modules.now c.args.terms.now c.args.self.now c.args.step c.requires.inside c.requires.used l (record l { locals = l.locals - 1 }) (ForallRule c.in_ok-eigen.eigen) c.open.new.self
+    takes_local c.args.forms.now c.args.modules.now c.args.terms.now c.args.self.now c.args.step c.requires.inside c.requires.used l
+    (record l { locals = l.locals - 1 }) (ForallRule c.in_ok-eigen.eigen) c.open.new.self
     c.if-loading-gt0.true refl c.requires.goal c.requires.known c.in_ok-eigen.ensures.pushed (λ bank. ap ForallLine c.in_ok-eigen.ensures.eigen) (λ bank k. tt)
 
 pub take_form-requires-clause-may : goal.take_form-requires-clause-may
@@ -30,7 +31,8 @@ take_form-requires-clause-may c =
     let n = c.in_default.ensures.lookup.3 in
     let same : c.deref.result.now ≡ d.clauses.items = c.deref.ensures.value ∙ ap (λ (m : Module). m.clauses.items) (sym c.index-modules-loading.is) in
     let v = ap (λ (cs : List Clause). length cs) same in
-    let end = ap (λ cs. slice_get cs l.next) (clauses_at forms c.args.modules.now l.«module» d c.requires.known c.index-modules-loading.is) ∙ clause_past forms d.clauses.items l.next (omega (arith, n, v)) in
+    let end = ap (λ cs. slice_get cs l.next) (clauses_at forms c.args.modules.now l.«module» d c.requires.known c.index-modules-loading.is)
+    ∙ clause_past forms d.clauses.items l.next (omega (arith, n, v)) in
     subst (λ (g : Form). MayTake forms c.args.modules.now c.args.terms.now c.args.self.now g c.args.step)
     (load_over forms c.args.modules.now c.args.terms.now c.args.self.now c.args.step c.requires.inside c.requires.used l (omega (arith, f)) end) c.requires.may
 
@@ -43,10 +45,12 @@ returns-in_default c =
     let n = c.in_default.ensures.lookup.3 in
     let same : c.deref.result.now ≡ d.clauses.items = c.deref.ensures.value ∙ ap (λ (m : Module). m.clauses.items) (sym c.index-modules-loading.is) in
     let v = ap (λ (cs : List Clause). length cs) same in
-    let end = ap (λ cs. slice_get cs l.next) (clauses_at forms c.args.modules.now l.«module» d c.requires.known c.index-modules-loading.is) ∙ clause_past forms d.clauses.items l.next (omega (arith, n, v)) in
+    let end = ap (λ cs. slice_get cs l.next) (clauses_at forms c.args.modules.now l.«module» d c.requires.known c.index-modules-loading.is)
+    ∙ clause_past forms d.clauses.items l.next (omega (arith, n, v)) in
     let over = load_over forms c.args.modules.now c.args.terms.now c.args.self.now c.args.step c.requires.inside c.requires.used l (omega (arith, f)) end in
     if_ok (λ rule. Takes forms c.args.modules.now c.args.terms.now c.args.self.now (bare (form_tree forms l.goal.0)) c.args.step rule c.take_form.new.self)
-    (λ rule. Takes forms c.args.modules.now c.args.terms.now c.args.self.now (loading_goal forms (trees forms c.args.modules.now) l) c.args.step rule c.take_form.new.self)
+    (λ rule. Takes forms c.args.modules.now c.args.terms.now c.args.self.now (loading_goal forms (trees forms c.args.modules.now) l) c.args.step rule
+    c.take_form.new.self)
     (λ rule s. subst (λ (g : Form). Takes forms c.args.modules.now c.args.terms.now c.args.self.now g c.args.step rule c.take_form.new.self) (sym over) s)
     c.take_form.result c.take_form.ensures
 
@@ -62,9 +66,12 @@ returns-in-Linear c =
     let v = ap (λ (cs : List Clause). length cs) same in
     let less : l.next < length d.clauses.items = omega (arith, k, v) in
     let is : x ≡ slice_index_or d.clauses.items l.next x = c.in-Some.ensures.lookup.1 ∙ ap (λ (cs : List Clause). slice_index_or cs l.next x) same in
-    let at = ap (λ cs. slice_get cs l.next) (clauses_at forms c.args.modules.now l.«module» d c.requires.known c.index-modules-loading.is) ∙ clause_got forms d.clauses.items l.next x less is in
-    takes_clause forms c.args.modules.now c.args.terms.now c.args.self.now c.args.step c.requires.inside c.requires.used l (record l { next = l.next + 1 }) (clause_tree forms x) x.form (LolliRule c.in_ok-label.label) c.in_ok-label.label
-    c.load.new.self (omega (arith, f)) refl c.requires.goal c.requires.known refl (has_clause forms c.args.modules.now l.«module» d l.next x c.requires.modules c.requires.known c.index-modules-loading.is less is) at
+    let at = ap (λ cs. slice_get cs l.next) (clauses_at forms c.args.modules.now l.«module» d c.requires.known c.index-modules-loading.is)
+    ∙ clause_got forms d.clauses.items l.next x less is in
+    takes_clause forms c.args.modules.now c.args.terms.now c.args.self.now c.args.step c.requires.inside c.requires.used l (record l { next = l.next + 1 })
+    (clause_tree forms x) x.form (LolliRule c.in_ok-label.label) c.in_ok-label.label
+    c.load.new.self (omega (arith, f)) refl c.requires.goal c.requires.known refl
+    (has_clause forms c.args.modules.now l.«module» d l.next x c.requires.modules c.requires.known c.index-modules-loading.is less is) at
     c.in_ok-label.ensures.pushed c.in_ok-label.ensures.label (λ bank. ap (λ (y : Kind). load_line y c.in_ok-label.label) (sym c.in-Linear.is)) (λ bank h. tt)
 
 pub returns-in-Unbounded : goal.returns-in-Unbounded
@@ -79,7 +86,10 @@ returns-in-Unbounded c =
     let v = ap (λ (cs : List Clause). length cs) same in
     let less : l.next < length d.clauses.items = omega (arith, k, v) in
     let is : x ≡ slice_index_or d.clauses.items l.next x = c.in-Some.ensures.lookup.1 ∙ ap (λ (cs : List Clause). slice_index_or cs l.next x) same in
-    let at = ap (λ cs. slice_get cs l.next) (clauses_at forms c.args.modules.now l.«module» d c.requires.known c.index-modules-loading.is) ∙ clause_got forms d.clauses.items l.next x less is in
-    takes_clause forms c.args.modules.now c.args.terms.now c.args.self.now c.args.step c.requires.inside c.requires.used l (record l { next = l.next + 1 }) (clause_tree forms x) x.form (ImpRule c.in_ok-label.label) c.in_ok-label.label
-    c.load.new.self (omega (arith, f)) refl c.requires.goal c.requires.known refl (has_clause forms c.args.modules.now l.«module» d l.next x c.requires.modules c.requires.known c.index-modules-loading.is less is) at
+    let at = ap (λ cs. slice_get cs l.next) (clauses_at forms c.args.modules.now l.«module» d c.requires.known c.index-modules-loading.is)
+    ∙ clause_got forms d.clauses.items l.next x less is in
+    takes_clause forms c.args.modules.now c.args.terms.now c.args.self.now c.args.step c.requires.inside c.requires.used l (record l { next = l.next + 1 })
+    (clause_tree forms x) x.form (ImpRule c.in_ok-label.label) c.in_ok-label.label
+    c.load.new.self (omega (arith, f)) refl c.requires.goal c.requires.known refl
+    (has_clause forms c.args.modules.now l.«module» d l.next x c.requires.modules c.requires.known c.index-modules-loading.is less is) at
     c.in_ok-label.ensures.pushed c.in_ok-label.ensures.label (λ bank. ap (λ (y : Kind). load_line y c.in_ok-label.label) (sym c.in-Unbounded.is)) (λ bank h. tt)

@@ -11,7 +11,8 @@ join_seat-requires g c = let seat = c.self.inside.seat in let seat' = c.other.in
       search rules,
       ap (λ m. m.1) rest'.1,
       search rules,
-      joins g.S.Kept.numbers g.S.Kept.fit (g.S.Kept.begin c.turn.inside.table.shared.key.value).0 seat.id seat'.id seat.me.0 seat'.me.0 c.self.invariant.pass c.other.invariant.pass
+      joins g.S.Kept.numbers g.S.Kept.fit (g.S.Kept.begin c.turn.inside.table.shared.key.value).0 seat.id seat'.id seat.me.0 seat'.me.0 c.self.invariant.pass
+          c.other.invariant.pass
           c.self.invariant.lives c.other.invariant.lives rest.2 rest'.2,
     )
 

@@ -9,7 +9,8 @@ split_seat-seat-requires g c = let seat = c.self.inside.seat in
     let rest = at_rest pass c.requires.rests in (
       search rules,
       search rules,
-      parts g.S.Kept.numbers g.S.Kept.fit (g.S.Kept.begin c.turn.inside.table.shared.key.value).0 g.S.Kept.parted seat.id seat.me.0 c.self.invariant.pass c.self.invariant.lives rest.2
+      parts g.S.Kept.numbers g.S.Kept.fit (g.S.Kept.begin c.turn.inside.table.shared.key.value).0 g.S.Kept.parted seat.id seat.me.0 c.self.invariant.pass
+          c.self.invariant.lives rest.2
           (more pass c.requires.rests g.S.Kept.parted c.requires.some_left g.S.Kept.parts_numbers) g.S.Kept.parts_numbers g.S.Kept.parts_fit,
     )
 

@@ -6,7 +6,8 @@ use Rattle.ll_turn.proofs.turn.Turn.give.Goals as goal
 pub put_back-requires-clause-lawful : goal.put_back-requires-clause-lawful
 put_back-requires-clause-lawful g c =
     let pass = is_seen c.pass.inside.seat.table_id c.pass.invariant c.pass.inside.lives c.pass.view_is in
-    subst (MayGive g.S.Kept.numbers g.S.Kept.lawful c.pass.inside.seat.me c.pass.inside.number) (sym c.held.view_is) (may_give pass g.S.Kept.lawful c.args.held c.requires.lawful)
+    subst (MayGive g.S.Kept.numbers g.S.Kept.lawful c.pass.inside.seat.me c.pass.inside.number) (sym c.held.view_is)
+    (may_give pass g.S.Kept.lawful c.args.held c.requires.lawful)
 
 pub invariant_of-pass-inside : goal.invariant_of-pass-inside
 invariant_of-pass-inside g c = let after = c.put_back.new.seat.me in

@@ -11,5 +11,6 @@ invariant_of-result-in-Ok-lay-2 g c = let laid = c.in-Ok-lay in
 
 pub returns-in-Ok-lay-clause-numbers : goal.returns-in-Ok-lay-clause-numbers
 returns-in-Ok-lay-clause-numbers g c = let laid = c.in-Ok-lay in
-    first_numbers g.S.Kept.numbers (g.S.Kept.begin c.args.value).0 (g.S.Kept.begin c.args.value).1 laid.seat.me _ (g.S.Kept.begins_first c.args.value c.requires)
+    first_numbers g.S.Kept.numbers (g.S.Kept.begin c.args.value).0 (g.S.Kept.begin c.args.value).1 laid.seat.me _
+    (g.S.Kept.begins_first c.args.value c.requires)
     (laid.ensures.first ∙ ap (λ v. (live (g.S.Kept.begin v).0 (g.S.Kept.begin v).1 Rests [], [])) c.of-origin.ensures)

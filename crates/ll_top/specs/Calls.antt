@@ -1,5 +1,5 @@
 -- What a call of the program comes to, by its words and the texts on its shelf, and how it ends.
-use Rattle.std.specs.Prelude.{◌≡◌, ◌⊎◌, ℕ, List, Option, Some}
+use Rattle.std.specs.Prelude.{◌≡◌, ◌⊎◌, ℕ, List, Option, Some, None}
 use Rattle.std.specs.Io.KnownBytes.{append_known}
 use Rattle.ll_edge.specs.Texts.{Texts}
 use Rattle.ll_edge.specs.Pieces.{AppendsFront}
@@ -8,7 +8,9 @@ use Rattle.ll_top.specs.Making.{MakeWords, MakeComesTo, MadeRunWords}
 use Rattle.ll_top.specs.MadeRuns.{MadeRunComesTo}
 use Rattle.ll_top.specs.Words.{RunWords, SessionWords, DeepenWords, CheckWords, ConvertWords, IsBadWord, IsRun, IsSession, IsDeepen, IsPrint, IsCheck}
 use Rattle.ll_top.specs.Words.{IsConvert, IsMake, IsMadeRun}
-use Rattle.ll_top.specs.Outcome.{RunComesTo, PrintComesTo, CheckComesTo}
+use Rattle.ll_laws.specs.Problem.{ProblemTree}
+use Rattle.ll_laws.specs.Output.{run_status}
+use Rattle.ll_top.specs.Outcome.{RunComesTo, RunAsks, whole_text, PrintComesTo, CheckComesTo}
 use Rattle.ll_top.specs.Sessions.{SessionComesTo}
 use Rattle.ll_top.specs.Deepening.{DeepenComesTo}
 use Rattle.ll_top.specs.Converting.{ConvertComesTo}
@@ -49,3 +51,12 @@ Completes words told read_failed write_failed before after status =
     (texts : Texts) (meant : ℕ) (text : List ℕ) → told ≡ Some texts → (read_failed → ⊥) → (write_failed → ⊥)
     → ComesTo words (Some texts) (Unit {0}) ⊥ meant text
     → ((status ≡ meant) × (after ≡ append_known before text)) ⊎ (status ≡ 10)
+
+-- The headline, for a run of whole searches, whatever its number of workers: where the texts are told and ask a problem, and neither a read
+-- nor a write failed nor memory ran out, what was written is the text of the problem's search by one engine, and the status is that of the
+-- search.
+abbrev pub Headline : List (List ℕ) → Option Texts → Option (List ℕ) → Option (List ℕ) → ℕ → Type 0
+Headline words told before after status =
+    (run : RunWords) (texts : Texts) (p : ProblemTree) → IsRun words run → run.first ≡ None → told ≡ Some texts → RunAsks (Some texts) run p
+    → (status ≡ 5 → ⊥) → (status ≡ 6 → ⊥) → (status ≡ 10 → ⊥)
+    → (after ≡ append_known before (whole_text run.proofs p)) × (status ≡ run_status p)

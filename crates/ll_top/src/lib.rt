@@ -28,7 +28,7 @@ ghost use Rattle.ll_edge.specs.Counts.{Rose};
 ghost use Rattle.ll_edge.specs.Texts.{Texts};
 ghost use Rattle.ll_top.specs.Words.{FitsForm, cover_form, IsInForm, IsInWorkersForm, RunWords, IsRun, shown_words, shown_check};
 ghost use Rattle.ll_top.specs.Outcome.{word_texts, name_of, name_in_check, RunComesTo, PrintComesTo, CheckComesTo, IsDenied, IsCoveredCall, IsUncoveredCall};
-ghost use Rattle.ll_top.specs.Calls.{ComesTo, Ends, Completes};
+ghost use Rattle.ll_top.specs.Calls.{ComesTo, Ends, Completes, Headline};
 ghost use Rattle.ll_top.specs.Endings.{status_of_found, status_of_finding, RunEnds};
 ghost use Rattle.ll_top.specs.Proved.{WritesShown};
 ghost use Rattle.ll_top.specs.Nothing.{AsksInVain};
@@ -85,6 +85,9 @@ pub fn lolli<R: Threads + Wait + Sync, F: Shelf, O: Sink, G: Gate>(
     // Where nothing failed, the one status and the whole text, or want of memory.
     ensures complete { Completes (word_texts words.now) (F.texts shelf.old) (Rose (F.faults shelf.old) (F.faults shelf.new))
         (Rose (O.faults sink.old) (O.faults sink.new)) (O.written sink.old) (O.written sink.new) result }
+
+    // The headline: a run whose texts ask a problem writes the answers of one engine in its order, and its counts, whatever the number of workers.
+    ensures headline { Headline (word_texts words.now) (F.texts shelf.old) (O.written sink.old) (O.written sink.new) result }
 
     // Each answer of a run has a derivation that shows it; with `--proofs` its text stands behind the answer's.
     ensures proved { (run : RunWords) → IsRun (word_texts words.now) run → result ≤ 2

@@ -1,6 +1,7 @@
 use Rattle.std.proofs.Common.{refl}
 use Rattle.ll_top.specs.Outcome.{word_texts}
 use Rattle.ll_top.proofs.outcomes.CallLemmas.{call-usage, call-absent, call-unreadable, call-unwritable, call-denied, call-covered, call-uncovered, completes}
+use Rattle.ll_top.proofs.outcomes.CallLemmas.{heads, plain-heads}
 use Rattle.ll_top.proofs.lolli.Goals as goal
 
 pub returns-in-None-clause-usage : goal.returns-in-None-clause-usage
@@ -45,3 +46,12 @@ returns-in-None-clause-complete g c =
 
 pub returns-in-None-clause-outcome : goal.returns-in-None-clause-outcome
 returns-in-None-clause-outcome g c = let u = c.in-None.ensures.untouched refl in rw (u.0, u.1) at c.serve_search.ensures.outcome
+
+pub returns-in-None-clause-headline : goal.returns-in-None-clause-headline
+returns-in-None-clause-headline g c =
+    let u = c.in-None.ensures.untouched refl in
+    heads c.one_text.ensures (word_texts c.args.words.now) _ _ _ _ _ _ c.serve_search.result (rw (u.0, u.1) at c.serve_search.ensures.outcome)
+
+pub returns-in-Some-clause-headline : goal.returns-in-Some-clause-headline
+returns-in-Some-clause-headline g c =
+    plain-heads (word_texts c.args.words.now) _ _ _ _ _ _ c.lolli_plain.result c.lolli_plain.ensures.outcome c.one_text.ensures c.in-Some.status c.in-Some.is

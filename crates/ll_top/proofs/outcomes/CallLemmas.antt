@@ -15,12 +15,13 @@ use Rattle.ll_top.specs.Faults.{Cause, Usage, Absent, Unreadable, Oversized, Ove
 use Rattle.ll_top.specs.Outcome.{name_of, ReadFails, absent as is_absent, unreadable as is_unreadable, oversized as is_oversized, run_texts, RunFails}
 use Rattle.ll_top.specs.Outcome.{not_read, faulty, RunComesTo, ran, failed, PrintFails, source_not_read, faulty_source, PrintComesTo, printed, print_failed}
 use Rattle.ll_top.specs.Outcome.{name_in_check, check_texts, CheckFails, texts_not_read, faulty_text, CheckComesTo, shown, refuted, covered, too_long}
-use Rattle.ll_top.specs.Outcome.{counting, check_failed, IsDenied, IsCoveredCall, IsUncoveredCall, front_events, status_of_run}
+use Rattle.ll_top.specs.Outcome.{counting, check_failed, IsDenied, IsCoveredCall, IsUncoveredCall, front_events, status_of_run, text_of_run, whole_text}
+use Rattle.ll_top.specs.Outcome.{RunAsks}
 use Rattle.ll_top.specs.Sessions.{SessionFails, session_not_read, faulty_program, SessionComesTo, replied, session_failed}
 use Rattle.ll_top.specs.Deepening.{run_within, DeepenComesTo, deepened, deepen_failed}
 use Rattle.ll_top.specs.Converting.{ConvertFails, proof_not_read, faulty_proof, too_long_as, ConvertComesTo, converted, convert_failed}
 use Rattle.ll_top.specs.Calls.{ComesTo, misused, runs, sessions, deepens, prints, checks, converts, makes, runs_made, AppendsOwn, nothing, front, Ends, whole}
-use Rattle.ll_top.specs.Calls.{unwritable, no_memory, Completes}
+use Rattle.ll_top.specs.Calls.{unwritable, no_memory, Completes, Headline}
 use Rattle.ll_top.specs.Endings.{Refuses, line, cut}
 use Rattle.ll_top.proofs.forms.FirstWords.{Of, in-form, Kind, nothing as no_kind, a_run, a_session, a_deepening, a_print, a_check, a_conversion, a_make}
 use Rattle.ll_top.proofs.forms.FirstWords.{a_made_run, kind_of, run-kind, session-kind, deepen-kind, print-kind, check-kind, cover-kind, checked-kind}
@@ -475,6 +476,52 @@ module _
   completes (unwritable meant text c w s a) = λ texts other t e read written m. absurd (written w)
   completes (no_memory s a) = λ texts meant t e read written m. inr s
 
+-- ---- the headline
+
+-- where no read failed by its status, absences need no count
+module _ (texts : Texts) (absence read_failed : Type 0) where
+  calm-unread : (names : List (List ℕ)) (cause : Cause) → (cause_status cause ≡ 5 → ⊥) → ReadFails (Some texts) absence read_failed names cause
+      → ReadFails (Some texts) (Unit {0}) ⊥ names cause
+  calm-unread names _ apart (is_absent a r w e) = is_absent a r tt e
+  calm-unread names _ apart (is_unreadable a r w) = absurd (apart refl)
+  calm-unread names _ apart (is_oversized a r l) = is_oversized a r l
+
+  calm-fails : (run : RunWords) (cause : Cause) → (cause_status cause ≡ 5 → ⊥) → RunFails (Some texts) absence read_failed run cause
+      → RunFails (Some texts) (Unit {0}) ⊥ run cause
+  calm-fails run _ apart (not_read c r) = not_read c (calm-unread (run_texts run) c apart r)
+  calm-fails run _ apart (faulty p q role g h k t) = faulty p q role g h k t
+
+  calm-run : (run : RunWords) (status : ℕ) (text : List ℕ) → (status ≡ 5 → ⊥) → RunComesTo (Some texts) absence read_failed run status text
+      → RunComesTo (Some texts) (Unit {0}) ⊥ run status text
+  calm-run run status text apart (ran p a e f) = ran p a e f
+  calm-run run status text apart (failed c h e f) = failed c (calm-fails run c (λ five. apart (e ∙ five)) h) e f
+
+  -- a call with the words of a run comes to what the run comes to
+  calm-comes : (words : List (List ℕ)) (run : RunWords) (status : ℕ) (text : List ℕ) → IsRun words run → (status ≡ 5 → ⊥)
+      → ComesTo words (Some texts) absence read_failed status text
+      → ComesTo words (Some texts) (Unit {0}) ⊥ status text
+  calm-comes words run status text r apart (runs other o c) = runs other o (calm-run other status text apart c)
+  calm-comes words run status text r apart (misused n b e f) = absurd (bad-not-in-form words n b (in-form form.Run words (0, omega arith, r.form)))
+  calm-comes words run status text r apart c = absurd (let k = sym (run-kind words r.form)
+      ∙ comes-kind words (Some texts) absence read_failed status text c refl in cc)
+
+-- what a run comes to whose texts ask a problem
+whole-run : (texts : Texts) (run : RunWords) (p : ProblemTree) → run.first ≡ None → RunAsks (Some texts) run p
+    → RunComesTo (Some texts) (Unit {0}) ⊥ run (run_status p) (whole_text run.proofs p)
+whole-run texts run p e a = ran p a (ap (λ first. status_of_run first p) (sym e)) (ap (λ first. text_of_run first run.proofs p) (sym e))
+
+module _
+    (one : (words : List (List ℕ)) (texts : Texts) (status other : ℕ) (text more : List ℕ) → ComesTo words (Some texts) (Unit {0}) ⊥ status text
+    → ComesTo words (Some texts) (Unit {0}) ⊥ other more → (status ≡ other) × (text ≡ more))
+    (words : List (List ℕ)) (told : Option Texts) (absence read_failed write_failed : Type 0) (before after : Option (List ℕ)) (status : ℕ) where
+  pub heads : Ends (ComesTo words told absence read_failed) write_failed before after status → Headline words told before after status
+  heads (whole text c a) = λ run texts p r first e asks five six ten.
+      let own = calm-comes texts absence read_failed words run status text r five (subst (λ t. ComesTo words t absence read_failed status text) e c) in
+      let same = one words texts status (run_status p) text (whole_text run.proofs p) own (runs run r (whole-run texts run p first asks)) in
+      (a ∙ ap (λ t. append_known before t) same.1, same.0)
+  heads (unwritable meant text c w s a) = λ run texts p r first e asks five six ten. absurd (six s)
+  heads (no_memory s a) = λ run texts p r first e asks five six ten. absurd (ten s)
+
 -- ---- a call that may not be served
 
 module _ (words : List (List ℕ)) (told : Option Texts) (absence read_failed write_failed : Type 0) (before after : Option (List ℕ)) (answer : Option ℕ)
@@ -512,3 +559,8 @@ module _ (words : List (List ℕ)) (told : Option Texts) (absence read_failed wr
           → IfSome o (Completes words told read_failed write_failed before after)
       by None h = tt
       by (Some status) h = completes one words told absence read_failed write_failed before after status h
+
+  pub plain-heads : ((words : List (List ℕ)) (texts : Texts) (status other : ℕ) (text more : List ℕ) → ComesTo words (Some texts) (Unit {0}) ⊥ status text
+      → ComesTo words (Some texts) (Unit {0}) ⊥ other more → (status ≡ other) × (text ≡ more))
+      → (status : ℕ) → answer ≡ Some status → Headline words told before after status
+  plain-heads one status e = heads one words told absence read_failed write_failed before after status (at-status_of status e)

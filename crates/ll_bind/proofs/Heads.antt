@@ -1,7 +1,8 @@
 -- How an atom is matched with the head of a clause.
 use Rattle.std.proofs.Common.{◌≡◌, ℕ, suc, ◌+◌, ◌-◌, ◌<◌, Bool, true, false, List, [], ◌∷◌, ◌++◌, length, map, drop, get_or, All, refl, ap, sym, subst, ◌∙◌}
 use Rattle.std.proofs.Common.{arith, nat_eq}
-use Rattle.std.specs.Prelude.{ℤ, not, ◌&&◌, reverse, slice_index, Option, None, option_map}
+use Rattle.std.specs.Prelude.{ℤ, not, ◌&&◌, reverse, slice_index, Option, Some, None, IsSome, option_map}
+use Rattle.std.specs.Option.{option_to_list}
 use Rattle.std.proofs.lemmas.Bool.{eq-eqb, ne_eqb, or_left, or_right}
 use Rattle.std.proofs.Math.Bool.{and-false}
 use Rattle.std.proofs.lemmas.List.{reverse-append, length-map, map-append, drop_all}
@@ -34,16 +35,35 @@ use Rattle.ll_store.specs.Stored.{Stored, stored, KeepsMarks}
 use Rattle.ll_store.specs.Trails.{Grows}
 use Rattle.ll_store.proofs.CallerLemmas.{marks-grow, marks-extend}
 use Rattle.ll_bind.specs.declared.head.Equation.{Equation}
-use Rattle.ll_bind.specs.Heads.{terms_of, closed_of, equate, IsEquation, AreEquations, AreOpened, AreApart}
+use Rattle.ll_bind.specs.Heads.{terms_of, closed_of, equate, pending, IsEquation, AreEquations, AreOpened, AreApart}
 
 -- ---- the stack
 
 pub reversed : (items before : List Equation) (e : Equation) → items ≡ before ++ e ∷ [] → reverse items ≡ e ∷ reverse before
 reversed items before e h = ap reverse h ∙ reverse-append before (e ∷ [])
 
--- one equation alone
-pub one_item : (before items : List Equation) (e : Equation) → before ≡ [] → items ≡ before ++ e ∷ [] → reverse items ≡ e ∷ []
-one_item before items e n h = reversed items before e h ∙ ap (λ z. e ∷ reverse z) n
+-- the equation that a pop gives is next
+pub popped : (r : Option Equation) (items before : List Equation) → items ≡ before ++ option_to_list r → (0 < length items → IsSome r)
+    → pending r before ≡ reverse items
+popped None [] before e h = refl
+popped None (i ∷ is) before e h = let q = h (omega arith) in cc
+popped (Some q) items before e h = sym (reversed items before q e)
+
+-- no arguments
+pub equate_empty : (ats cts : List At) (base : List Equation) → length ats ≡ length cts → length cts ≡ 0 → reverse base ≡ equate ats cts ++ reverse base
+equate_empty [] [] base e n = refl
+equate_empty [] (b ∷ cts) base e n = absurd (omega arith)
+equate_empty (a ∷ ats) [] base e n = absurd (omega arith)
+equate_empty (a ∷ ats) (b ∷ cts) base e n = absurd (omega arith)
+
+-- the first arguments are next
+pub equate_first : (ats cts : List At) (d : At) (base now : List Equation) (i : ℕ) → i ≡ 1 → 0 < length cts → length ats ≡ length cts
+    → reverse now ≡ equate (drop i ats) (drop i cts) ++ reverse base
+    → (record { place = get_or ats 0 d; pattern = get_or cts 0 d }) ∷ reverse now ≡ equate ats cts ++ reverse base
+equate_first [] cts d base now i o l n h = absurd (omega arith)
+equate_first (a ∷ ats) [] d base now i o l n h = absurd (omega arith)
+equate_first (a ∷ ats) (b ∷ cts) d base now i o l n h = ap (λ z. (record { place = a; pattern = b }) ∷ z)
+    (subst (λ j. reverse now ≡ equate (drop j (a ∷ ats)) (drop j (b ∷ cts)) ++ reverse base) o h)
 
 equate_none : (ats cts : List At) (n : ℕ) → length ats ≡ n → equate (drop n ats) cts ≡ []
 equate_none ats cts n e = ap (λ z. equate z cts) (drop_all n ats (omega arith))
@@ -137,6 +157,13 @@ pub shows_bare : (nodes : Nodes) (values : List At) (at : ℕ) (u : Term) (h : H
     → ShowsTerm nodes at (close_head (env_of nodes values) h) → ShowsTerm nodes at (close (env_of nodes values) u)
 shows_bare nodes values at u h [] e n s = subst (λ w. ShowsTerm nodes at (close (env_of nodes values) w)) (sym e) s
 shows_bare nodes values at u h (a ∷ ats) e n s = absurd (omega arith)
+
+-- a place that is still an end where the bank grew
+pub end_more : (old new : Nodes) (t : Table) (at : ℕ) → IsTable old t → Extends old new → IsEnd old t at → IsEnd new t at
+end_more old new t at tb e h = record {
+  place = place-extends old new t at tb e h.place;
+  free = λ x q. h.free x (sym (term_tree-extends e at h.place.inside) ∙ q);
+}
 
 pub fixed : (h : Head) (b : Bool) → b ≡ not (not_bound h) → b ≡ false → not_bound h ≡ true
 fixed (Name n) b e f = refl
@@ -265,11 +292,17 @@ pub record IsMatching (first nodes : Nodes) (start now : Table) (goal : Option S
   pub solves : Solves nodes now (spare start) goal (terms_of nodes es) (closed_of nodes (env_of first values) es)
   pub fresh : AreFresh nodes now f (terms_of nodes es)
 
--- the next equation
-pub matching_top : (first nodes : Nodes) (start now : Table) (goal : Option Solved) (f : Fresh) (values : List At) (items before : List Equation) (q : Equation)
-    → items ≡ before ++ q ∷ []
-    → IsMatching first nodes start now goal f values (reverse items) → IsMatching first nodes start now goal f values (q ∷ reverse before)
-matching_top first nodes start now goal f values items before q e h = subst (IsMatching first nodes start now goal f values) (reversed items before q e) h
+-- the next equation is this one
+pub matching_top : (first nodes : Nodes) (start now : Table) (goal : Option Solved) (f : Fresh) (values : List At) (items : List Equation) (o : Option Equation)
+    (q : Equation) → o ≡ Some q
+    → IsMatching first nodes start now goal f values (pending o items) → IsMatching first nodes start now goal f values (q ∷ reverse items)
+matching_top first nodes start now goal f values items o q e h = subst (λ z. IsMatching first nodes start now goal f values (pending z items)) e h
+
+-- nothing is next
+pub matching_over : (first nodes : Nodes) (start now : Table) (goal : Option Solved) (f : Fresh) (values : List At) (items : List Equation)
+    (o : Option Equation) → o ≡ None
+    → IsMatching first nodes start now goal f values (pending o items) → IsMatching first nodes start now goal f values []
+matching_over first nodes start now goal f values items o e h = subst (λ z. IsMatching first nodes start now goal f values (pending z items)) e h
 
 pub matching_begins : (nodes : Nodes) (start : Table) (f : Fresh) (values : List At) (q : Equation) → IsTable nodes start → AllInTerms nodes values
     → IsEquation nodes start (env_of nodes values) q
@@ -297,7 +330,7 @@ module _ (first nodes : Nodes) (start now : Table) (goal : Option Solved) (f : F
 
   -- ---- two terms of one head
 
-  module _ (old new : List Equation) (o : AreOpened nodes end.0 q.pattern.0 old new) (below : reverse old ≡ es) where
+  module _ (old new : List Equation) (next : Option Equation) (o : AreOpened nodes end.0 q.pattern.0 old new next) (below : reverse old ≡ es) where
     shut : close env (term_tree nodes q.pattern.0) ≡ app o.head (map (close env) (term_trees nodes o.patterns))
     shut = ap (close env) o.shape ∙ close_fixed env o.head (term_trees nodes o.patterns) o.fixed
 
@@ -322,7 +355,7 @@ module _ (first nodes : Nodes) (start now : Table) (goal : Option Solved) (f : F
         ∙ (λ i. diff_lists (sym (map-append (sub s) (term_trees nodes o.places) (terms_of nodes es)) i)
         (sym (map-append (sub s) (map (close env) (term_trees nodes o.patterns)) (closed_of nodes env es)) i)))
 
-    pub matching_opens : IsMatching first nodes start now goal f values (reverse new)
+    pub matching_opens : IsMatching first nodes start now goal f values (pending next new)
     matching_opens = subst (IsMatching first nodes start now goal f values) (sym (o.pushed ∙ ap (λ z. equate o.places o.patterns ++ z) below)) (record {
       extends = m.extends;
       table = m.table;
@@ -450,23 +483,21 @@ weight_equate nodes [] (b ∷ cts) es n = absurd (omega arith)
 weight_equate nodes (a ∷ ats) [] es n = absurd (omega arith)
 weight_equate nodes (a ∷ ats) (b ∷ cts) es n = let e = weight_equate nodes ats cts es (omega arith) in omega arith
 
-pub weight_opens : (nodes : Nodes) (place : ℕ) (q : Equation) (items old new : List Equation) → items ≡ old ++ q ∷ []
-    → AreOpened nodes place q.pattern.0 old new → patterns_weight nodes (reverse new) < patterns_weight nodes (reverse items)
-weight_opens nodes place q items old new h o =
+pub weight_opens : (nodes : Nodes) (place : ℕ) (q : Equation) (old new : List Equation) (next : Option Equation)
+    → AreOpened nodes place q.pattern.0 old new next
+    → patterns_weight nodes (pending next new) < patterns_weight nodes (q ∷ reverse old)
+weight_opens nodes place q old new next o =
     let a = ap (patterns_weight nodes) o.pushed in
     let b = weight_equate nodes o.places o.patterns (reverse old) o.even in
-    let c = ap (patterns_weight nodes) (reversed items old q h) in
     let d = ap weight o.shape ∙ weight_apply (Con o.head) (term_trees nodes o.patterns) in
     omega arith
 
-pub weight_meets : (nodes next : Nodes) (t : Table) (env : Env) (q : Equation) (items old : List Equation) → Extends nodes next
-    → AreEquations nodes t env (reverse old) → items ≡ old ++ q ∷ []
-    → patterns_weight next (reverse old) < patterns_weight nodes (reverse items)
-weight_meets nodes next t env q items old e h i =
-    let a = same (reverse old) h in
-    let c = ap (patterns_weight nodes) (reversed items old q i) in
+pub weight_meets : (nodes next : Nodes) (t : Table) (env : Env) (q : Equation) (es : List Equation) → Extends nodes next → AreEquations nodes t env es
+    → patterns_weight next es < patterns_weight nodes (q ∷ es)
+weight_meets nodes next t env q es e h =
+    let a = same es h in
     let w = weight-two (term_tree nodes q.pattern.0) in omega arith
   where
-    same : (es : List Equation) → AreEquations nodes t env es → patterns_weight next es ≡ patterns_weight nodes es
+    same : (fs : List Equation) → AreEquations nodes t env fs → patterns_weight next fs ≡ patterns_weight nodes fs
     same [] k = refl
-    same (p ∷ es) k = λ i. weight (term_tree-extends e p.pattern.0 k.0.inside i) + same es k.1 i
+    same (p ∷ fs) k = λ i. weight (term_tree-extends e p.pattern.0 k.0.inside i) + same fs k.1 i

@@ -1,9 +1,9 @@
 -- The head of a clause against an atom: equations of terms with patterns, whose bound places stand for values.
-use Rattle.std.specs.Prelude.{◌≡◌, ◌<◌, ℕ, ◌++◌, true, List, [], ◌∷◌, map, reverse, length, All}
+use Rattle.std.specs.Prelude.{◌≡◌, ◌<◌, ℕ, ◌++◌, true, List, [], ◌∷◌, map, reverse, length, All, Option, Some, None, IfSome}
 use Rattle.ll_bank.specs.declared.At.{At}
 use Rattle.ll_bank.specs.declared.Head.{Head}
 use Rattle.ll_bank.specs.Term.{Term, Env, sub, app, close, applies_heads, not_bound}
-use Rattle.ll_bank.specs.Nodes.{Nodes, HasTerm, term_tree, term_trees}
+use Rattle.ll_bank.specs.Nodes.{Nodes, HasTerm, ShowsTerm, term_tree, term_trees}
 use Rattle.ll_laws.specs.Unify.{Clash as Differ, diff}
 use Rattle.ll_bindings.specs.Bindings.{Table, HasCells, IsPlaceOf}
 use Rattle.ll_bind.specs.declared.head.Equation.{Equation}
@@ -22,6 +22,11 @@ abbrev pub equate : List At → List At → List Equation
 equate (a ∷ places) (p ∷ patterns) = record { place = a; pattern = p } ∷ equate places patterns
 equate _ _ = []
 
+-- the equations that are pending, where this one is next and those on the stack follow
+abbrev pub pending : Option Equation → List Equation → List Equation
+pending None items = []
+pending (Some e) items = e ∷ reverse items
+
 -- the variables of the term and of the closed pattern have cells, and nothing but a head has arguments
 pub record IsEquation (nodes : Nodes) (t : Table) (env : Env) (e : Equation) : Type 0 where
   pub place : IsPlaceOf nodes t e.place.0
@@ -34,7 +39,7 @@ AreEquations nodes t env [] = Unit {0}
 AreEquations nodes t env (e ∷ es) = IsEquation nodes t env e × AreEquations nodes t env es
 
 -- a term and a pattern with one head, which is no bound place, and as many arguments, with equations for the arguments
-pub record AreOpened (nodes : Nodes) (place pattern : ℕ) (old new : List Equation) : Type 0 where
+pub record AreOpened (nodes : Nodes) (place pattern : ℕ) (old new : List Equation) (next : Option Equation) : Type 0 where
   pub head : Head
   pub places : List At
   pub patterns : List At
@@ -44,14 +49,14 @@ pub record AreOpened (nodes : Nodes) (place pattern : ℕ) (old new : List Equat
   pub even : length places ≡ length patterns
   pub places_below : All (λ a. a.0 < place) places
   pub patterns_below : All (λ a. a.0 < pattern) patterns
-  pub pushed : reverse new ≡ equate places patterns ++ reverse old
+  pub pushed : pending next new ≡ equate places patterns ++ reverse old
 
 -- whatever stands for the variables and the bound places, they differ in a sign
 abbrev pub AreApart : Nodes → ℕ → ℕ → Type 0
 AreApart nodes place pattern = (env : Env) (s : ℕ → Term) → diff (sub s (term_tree nodes place)) (sub s (close env (term_tree nodes pattern))) ≡ Differ
 
 -- what became of a term and a pattern
-abbrev pub IsOpened : Nodes → ℕ → ℕ → List Equation → List Equation → Opened → Type 0
-IsOpened nodes place pattern old new Open = AreOpened nodes place pattern old new
-IsOpened nodes place pattern old new Clash = AreApart nodes place pattern
-IsOpened nodes place pattern old new Shut = new ≡ old
+abbrev pub IsOpened : Nodes → Env → ℕ → ℕ → List Equation → List Equation → Opened → Type 0
+IsOpened nodes env place pattern old new (Open next) = AreOpened nodes place pattern old new next
+IsOpened nodes env place pattern old new Clash = AreApart nodes place pattern
+IsOpened nodes env place pattern old new (Shut value) = (new ≡ old) × IfSome value (λ at. ShowsTerm nodes at.0 (close env (term_tree nodes pattern)))

@@ -1,10 +1,10 @@
 -- How terms are carried into another bank with all bindings applied.
-use Rattle.std.proofs.Common.{◌≡◌, ℕ, ◌+◌, ◌-◌, ◌<◌, ◌≤◌, List, [], ◌∷◌, ◌++◌, length, map, take, drop, refl, ap, sym, subst, ◌∙◌, arith}
-use Rattle.std.specs.Prelude.{Option, Some, None}
+use Rattle.std.proofs.Common.{◌≡◌, ℕ, ◌-◌, ◌≤◌, List, [], ◌∷◌, ◌++◌, length, drop, ap, sym, ◌∙◌}
+use Rattle.std.specs.Prelude.{Some}
 use Rattle.ll_bank.specs.declared.Head.{Head}
 use Rattle.ll_bank.specs.declared.At.{At}
 use Rattle.ll_bank.specs.Term.{Term, Var, Con, app, sub, head_of}
-use Rattle.ll_bank.specs.Nodes.{Nodes, HasTerm, term_tree, term_trees, ShowsTerm}
+use Rattle.ll_bank.specs.Nodes.{Nodes, term_tree, term_trees, ShowsTerm}
 use Rattle.ll_bank.proofs.CallerLemmas.{sub-apply}
 use Rattle.ll_bindings.specs.declared.scan.Frame.{Frame}
 use Rattle.ll_bindings.specs.Spines.{args_in, ShowsArgument}

@@ -1,7 +1,8 @@
 -- New variables where they are met for the first time.
-use Rattle.std.proofs.Common.{◌≡◌, ℕ, ap, sym, subst, ◌∙◌}
+use Rattle.std.proofs.Common.{◌≡◌, ℕ, true, ap, sym, subst, ◌∙◌}
 use Rattle.std.specs.Prelude.{◌||◌, None}
 use Rattle.std.proofs.Math.Bool.{or-true}
+use Rattle.std.proofs.lemmas.Bool.{or_left}
 use Rattle.ll_bank.specs.Term.{Var}
 use Rattle.ll_bank.specs.Nodes.{Nodes, term_tree}
 use Rattle.ll_bindings.specs.declared.fresh.Fresh.{Fresh}
@@ -16,4 +17,14 @@ meeting-new nodes t f left right x l r n h = record {
   right_end = record { place = r; free = λ y e. let same : Var x ≡ Var y = sym n.shown ∙ e in let k : x ≡ y = cc in subst (λ z. cell t z ≡ None) k n.free };
   var = ap (λ u. is_var (term_tree nodes left) || is_var u) n.shown ∙ or-true (is_var (term_tree nodes left));
   differ = λ y e _. h y e;
+}
+
+-- a variable meets what is none
+pub meeting-left : (nodes : Nodes) (t : Table) (left right : ℕ) → IsEnd nodes t left → IsPlaceOf nodes t right → is_var (term_tree nodes left) ≡ true
+    → ((y : ℕ) → term_tree nodes right ≡ Var y → ⊥) → IsMeeting nodes t left right
+meeting-left nodes t left right l r v h = record {
+  left_end = l;
+  right_end = record { place = r; free = λ y e. absurd (h y e) };
+  var = or_left (is_var (term_tree nodes left)) (is_var (term_tree nodes right)) v;
+  differ = λ y _ e. h y e;
 }

@@ -19,7 +19,7 @@ use Rattle.ll_bindings.specs.Spines.{args_in, arg, weight, rest_weight, ShowsArg
 use Rattle.ll_bindings.specs.Stacks.{lowest, Waits, is_empty, is_full}
 use Rattle.ll_bindings.specs.Bindings.{Table, HasCells, found, cell, count, IsTable, IsEnd, IsFree, AreSame}
 use Rattle.ll_bindings.specs.Scanned.{is_among, IsGood, IsPart, is_bad, AreNoted, IsScan, AreGood, frame_tree, IsFrame, IsScanning, AreFrames, IsScanned}
-use Rattle.ll_bindings.specs.Scanned.{IsKnown, is_good_sign, own_vars, IsLook, frames_weight}
+use Rattle.ll_bindings.specs.Scanned.{IsKnown, is_good_sign, own_vars, IsLook, frames_weight, IsPassed}
 use Rattle.ll_bindings.proofs.Spines.{below-suc, build_up, take_down, weight-two, rest_weight-more, weight-place, is_spine-app}
 use Rattle.ll_bindings.proofs.Stacks.{opened, closed, lowest-push, Waits-push, Waits-last, Waits-map, no_item, an_item, split_last}
 use Rattle.ll_bindings.proofs.Tables.{end-var, var-below}
@@ -373,3 +373,14 @@ scan-noted nodes t x l places after at vars whole items d h = elim d [
     frames = h.frames;
   })
 ]
+
+-- the frame on top is done, and its sign was looked at
+pub scan-done : (nodes : Nodes) (t : Table) (x l : ℕ) (places after : List At) (vars new_vars : List ℕ) (whole : Term) (items fs : List Frame) (f : Frame)
+    (b : Bool)
+    → IsTable nodes t → IsScanned nodes t x l places vars whole items → items ≡ fs ++ f ∷ [] → length (args_in (frame_tree nodes f)) ≤ f.next
+    → IsLook (frame_tree nodes f) x l vars new_vars b → (b ≡ true → (after ≡ places ++ f.at ∷ []) ⊎ (after ≡ places))
+    → IsPassed nodes t x l after new_vars whole fs b
+scan-done nodes t x l places after vars new_vars whole items fs f true tb h e n look p =
+    scan-noted nodes t x l places after f.at new_vars whole fs (p refl) (scan-closes nodes t x l places vars new_vars whole items fs f tb h e n look)
+scan-done nodes t x l places after vars new_vars whole items fs f false tb h e n look p =
+    scan-fails nodes t x l places vars new_vars whole items fs f tb h e look

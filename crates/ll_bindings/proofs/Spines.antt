@@ -13,7 +13,7 @@ use Rattle.ll_bank.specs.declared.At.{At}
 use Rattle.ll_bank.specs.Term.{Term, Var, Int, Con, Ap, apply, app, sub, is_spine, applies_heads, head_of}
 use Rattle.ll_bank.specs.Nodes.{Nodes, term_tree, term_trees}
 use Rattle.ll_bank.proofs.CallerLemmas.{applies_heads-term_tree, is_spine-apply}
-use Rattle.ll_bindings.specs.Spines.{args_in, arg, weight, rest_weight, ShowsArgument}
+use Rattle.ll_bindings.specs.Spines.{args_in, arg, weight, rest_weight, ShowsArgument, AreArguments}
 
 args_in-apply : (f : Term) (ts : List Term) → args_in (apply f ts) ≡ args_in f ++ ts
 args_in-apply f [] = sym (append-nil (args_in f))
@@ -92,6 +92,14 @@ seen_argument nodes at h args k to e below l g =
           ∙ ap (λ (b : At). term_tree nodes b.0) g);
       below = subst (λ (b : At). b.0 < at) g (below k (record { 0 = 0 }) l);
     }
+
+-- all arguments that are seen at a place
+pub all_arguments : (nodes : Nodes) (at : ℕ) (h : Head) (args : List At) → term_tree nodes at ≡ app h (term_trees nodes args) → All (λ (a : At). a.0 < at) args
+    → AreArguments nodes at args
+all_arguments nodes at h args e below = record {
+  count = ap length (ap args_in e ∙ args_in-app h (term_trees nodes args)) ∙ length-map args (λ (b : At). term_tree nodes b.0);
+  each = λ k l. seen_argument nodes at h args k (get_or args k (record { 0 = 0 })) e below l refl;
+}
 
 -- past the last argument
 pub no_argument : (nodes : Nodes) (at : ℕ) (h : Head) (args : List At) (k : ℕ) → term_tree nodes at ≡ app h (term_trees nodes args) → length args ≤ k

@@ -1,8 +1,5 @@
 -- Stacks of things that wait for one another.
-use Rattle.std.proofs.Common.{◌≡◌, length, All, arith, length-append, List, [], ◌∷◌, ◌++◌, refl, ap, sym, subst, ◌∙◌}
-use Rattle.std.proofs.Math.ListN.{get_or-append}
-use Rattle.std.proofs.Math.Seq.{get_or-append_seam}
-use Rattle.ll_lists.proofs.CallerLemmas.{All-front as All-before, All-last, empty_from_length as no_items}
+use Rattle.std.proofs.Common.{◌≡◌, List, [], ◌∷◌, ◌++◌, refl, ap, sym, subst, ◌∙◌}
 use Rattle.ll_bindings.specs.Stacks.{lowest, Waits, Stack, is_empty, is_full}
 
 -- the last of a list and what is before it

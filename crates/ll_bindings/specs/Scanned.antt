@@ -98,3 +98,8 @@ pub record IsLook (u : Term) (x l : ℕ) (before after : List ℕ) (answer : Boo
 -- the weight of what is left to do
 abbrev pub frames_weight : Nodes → (ℕ → Term) → List Frame → ℕ
 frames_weight nodes s items = sum_by (λ f. 1 + rest_weight s (term_tree nodes f.at.0) f.next) items
+
+-- what came of a term that was looked through further: something bad, or it goes on
+abbrev pub IsPassed : Nodes → Table → ℕ → ℕ → List At → List ℕ → Term → List Frame → Bool → Type 0
+IsPassed nodes t x l ps vars whole items true = IsScanned nodes t x l ps vars whole items
+IsPassed nodes t x l ps vars whole items false = is_bad x l whole ≡ true

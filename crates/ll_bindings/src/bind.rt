@@ -3,7 +3,7 @@ ghost use Rattle.std.specs.Prelude.{◌≡◌, ◌<◌, ℕ, true, false, None, 
 ghost use Rattle.ll_bank.specs.Term.{Var, sub};
 ghost use Rattle.ll_bank.specs.Nodes.{term_tree, HasTerm};
 ghost use Rattle.ll_laws.specs.Unify.{bind};
-ghost use Rattle.ll_bindings.specs.Bindings.{IsTable, IsPlaceOf, IsEnd, found, count, cell, FallsOne, Falls, Binds, IsMeeting, Meets};
+ghost use Rattle.ll_bindings.specs.Bindings.{IsTable, IsPlaceOf, IsEnd, found, count, cell, is_var, FallsOne, Falls, Binds, IsMeeting, Meets};
 ghost use Rattle.ll_bindings.specs.Novel.{IsNewAt};
 ghost use Rattle.ll_bindings.specs.Fresh.{IsFresh, AreFresh, LeavesFresh, IsLeft, IsOther};
 
@@ -104,7 +104,8 @@ fn bind_right<T: Bindings>(
 // Whether a variable stands at a place.
 fn is_variable(bank: &Bank, at: At) -> bool
     requires { HasTerm bank.now at.0 }
-    ensures { result ≡ false → (x : ℕ) → term_tree bank.now at.0 ≡ Var x → ⊥ }
+    ensures var { result ≡ true → is_var (term_tree bank.now at.0) ≡ true }
+    ensures no_var { result ≡ false → (x : ℕ) → term_tree bank.now at.0 ≡ Var x → ⊥ }
 {
     match bank.term_at(at) {
         TermView::Var(_) => true,
@@ -151,6 +152,15 @@ pub fn new_at<T: Bindings>(
         return None;
     }
     fresh_at(bank, table, fresh, right)
+}
+
+/// Whether a variable stands at the left one of two places, and none at the right one.
+pub fn is_met<T: Bindings>(bank: &Bank, table: &T, left: At, right: At) -> bool
+    requires left { IsEnd bank.now (T.table table.now) left.0 }
+    requires right { IsPlaceOf bank.now (T.table table.now) right.0 }
+    ensures { result ≡ true → IsMeeting bank.now (T.table table.now) left.0 right.0 }
+{
+    is_variable(bank, left) && !is_variable(bank, right)
 }
 
 /// Binds a new variable that was not met, at the right one of two places, to what the left one shows. No level falls.

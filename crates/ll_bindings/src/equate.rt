@@ -2,17 +2,17 @@
 ghost use Rattle.std.specs.Prelude.{◌≡◌, ◌<◌, ℕ, true, length, All, IfOk, [], ◌∷◌, slice_index_or};
 ghost use Rattle.ll_bank.specs.declared.At.{At as AtView};
 ghost use Rattle.ll_bank.specs.Nodes.{term_tree, term_trees};
-ghost use Rattle.ll_bindings.specs.Bindings.{IsTable, IsPlaceOf, KeepsCells};
+ghost use Rattle.ll_bindings.specs.Bindings.{IsTable, IsPlaceOf, IsEnd, KeepsCells};
 ghost use Rattle.ll_bindings.specs.Fresh.{AreFresh, LeavesFresh};
 ghost use Rattle.ll_bindings.specs.Pairs.{AreClasses, ArePairs, IsPair, lefts, rights};
 ghost use Rattle.ll_bindings.specs.Solving.{IsSolved, Settles, wanted};
 
-use crate::bind::{bind, bind_new, new_at};
+use crate::bind::{bind, bind_new, is_met, new_at};
 use crate::classes::Classes;
 use crate::fresh::Fresh;
 use crate::meet::{Compared, Difference, Pair, compare, next_difference};
 use crate::scan::Seen;
-use crate::table::{Bindings, walk};
+use crate::table::Bindings;
 use ll_bank::{At, Bank, OutOfMemory};
 use std::alloc::Global;
 
@@ -145,7 +145,7 @@ fn open_next<T: Bindings>(
     Ok(equal)
 }
 
-// Makes one term equal to another by bindings, as `unify_next` does, by where they first differ.
+// Makes one term equal to another by bindings, as `unify_end` does, by where they first differ.
 fn equal_next<T: Bindings>(
     alloc: Global,
     bank: &Bank,
@@ -176,12 +176,12 @@ fn equal_next<T: Bindings>(
     }
 }
 
-/// Makes one term equal to another by bindings, the next of several equations, or finds that this can't be. The new variables that were
-/// not met in the equations before do not stand on the left.
+/// Makes one term equal to another by bindings, the next of several equations, or finds that this can't be. No bound variable stands at
+/// the left place, and the new variables that were not met in the equations before do not stand in its term.
 ///
 /// Where the answer is `true`, that is so for the equations to come. Where it is `false`, and after a refusal, some bindings and levels
 /// may have been changed.
-pub fn unify_next<T: Bindings>(
+pub fn unify_end<T: Bindings>(
     alloc: Global,
     bank: &Bank,
     table: &mut T,
@@ -190,7 +190,7 @@ pub fn unify_next<T: Bindings>(
     right: At,
 ) -> Result<bool, OutOfMemory>
     requires table { IsTable bank.now (T.table table.old) }
-    requires left { IsPlaceOf bank.now (T.table table.old) left.0 }
+    requires left { IsEnd bank.now (T.table table.old) left.0 }
     requires right { IsPlaceOf bank.now (T.table table.old) right.0 }
     requires fresh { AreFresh bank.now (T.table table.old) fresh.old (term_tree bank.now left.0 ∷ []) }
     ensures grows { T.grows table.old table.new }
@@ -199,10 +199,13 @@ pub fn unify_next<T: Bindings>(
     ensures fresh { IfOk result (λ good. good ≡ true → LeavesFresh bank.now (T.table table.old) (T.table table.new) fresh.old fresh.new
         (term_tree bank.now left.0 ∷ []) []) }
 {
-    let end = walk(bank, table, left);
-    if let Some(var) = new_at(bank, table, fresh, end, right) {
-        bind_new(table, bank, fresh, var, end, right)?;
+    if let Some(var) = new_at(bank, table, fresh, left, right) {
+        bind_new(table, bank, fresh, var, left, right)?;
         return Ok(true);
+    }
+    if is_met(bank, table, left, right) {
+        let mut seen = Seen::new(alloc);
+        return bind(alloc, bank, table, &mut seen, fresh, left, right);
     }
     equal_next(alloc, bank, table, fresh, left, right)
 }

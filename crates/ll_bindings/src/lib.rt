@@ -13,7 +13,7 @@ mod scan;
 mod table;
 
 pub use carry::{Carrier, read_into};
-pub use equate::{unify, unify_next};
+pub use equate::{unify, unify_end};
 pub use fresh::Fresh;
 pub use read::{read_all, read_cells};
 pub use scan::Frame;

@@ -3,10 +3,10 @@ ghost use Rattle.std.specs.Prelude.{◌≡◌, ◌<◌, ◌++◌, ◌∷◌, ◌
 ghost use Rattle.ll_bank.specs.Term.{sub};
 ghost use Rattle.ll_bank.specs.Nodes.{term_tree, HasTerm};
 ghost use Rattle.ll_bindings.specs.Bindings.{IsTable, IsPlaceOf, IsEnd, found, count};
-ghost use Rattle.ll_bindings.specs.Scanned.{IsScan, IsKnown, IsLook};
+ghost use Rattle.ll_bindings.specs.Scanned.{IsScan, IsScanned, IsPassed, IsKnown, IsLook, frames_weight};
 
 use crate::classes::{grow, is_worth};
-use crate::table::{Bindings, argument, walk};
+use crate::table::{Bindings, arguments, walk};
 use ll_bank::{At, Bank, Head, OutOfMemory, TermView};
 use smallvec::SmallVec;
 use std::alloc::Global;
@@ -101,6 +101,62 @@ impl Seen {
             TermView::App(Head::Bound(_), _) => Ok(true),
         }
     }
+
+    // Looks at the sign at a place whose arguments are done, and notes its variable and the place.
+    fn done(&mut self, bank: &Bank, var: usize, level: u32, at: At) -> Result<bool, OutOfMemory>
+        requires { HasTerm bank.now at.0 }
+        ensures look { IfOk result (λ good. IsLook (term_tree bank.now at.0) var level self.old.vars.items self.new.vars.items good) }
+        ensures places { IfOk result (λ good. good ≡ true → (self.new.places.items ≡ self.old.places.items ++ at ∷ [])
+            ⊎ (self.new.places.items ≡ self.old.places.items)) }
+    {
+        if !self.look(bank, var, level, at)? {
+            return Ok(false);
+        }
+        self.add(at)?;
+        Ok(true)
+    }
+}
+
+// Terms that are looked through, each an argument of the one before. Few of them take no memory.
+type Frames = SmallVec<Frame, 8>;
+
+// Looks through a term from an argument on, and then at its sign. Arguments without arguments of their own are looked at in place; at
+// another that is not known, the frames get the term and that argument.
+fn pass<T: Bindings>(
+    bank: &Bank,
+    table: &T,
+    seen: &mut Seen,
+    frames: &mut Frames,
+    var: usize,
+    level: u32,
+    start: At,
+    frame: Frame,
+) -> Result<bool, OutOfMemory>
+    requires table { IsTable bank.now (T.table table.now) }
+    requires scanned { IsScanned bank.now (T.table table.now) var level seen.old.places.items seen.old.vars.items
+        (sub (found bank.now (T.table table.now)) (term_tree bank.now start.0)) (frames.old.items ++ frame ∷ []) }
+    ensures passed { IfOk result (IsPassed bank.now (T.table table.now) var level seen.new.places.items seen.new.vars.items
+        (sub (found bank.now (T.table table.now)) (term_tree bank.now start.0)) frames.new.items) }
+    ensures less { OnOk result (frames_weight bank.now (found bank.now (T.table table.now)) frames.new.items < frames_weight bank.now
+        (found bank.now (T.table table.now)) (frames.old.items ++ frame ∷ [])) }
+{
+    let args = arguments(bank, frame.at);
+    let mut next = frame.next;
+    while next < args.len() {
+        let end = walk(bank, table, args[next]);
+        next += 1;
+        if !seen.has(end) {
+            if !arguments(bank, end).is_empty() {
+                frames.push(Frame { at: frame.at, next })?;
+                frames.push(Frame { at: end, next: 0 })?;
+                return Ok(true);
+            }
+            if !seen.done(bank, var, level, end)? {
+                return Ok(false);
+            }
+        }
+    }
+    seen.done(bank, var, level, frame.at)
 }
 
 /// Whether a variable of this level may be bound to the term at a place: it does not stand in the term, and the term's
@@ -121,27 +177,15 @@ pub fn scan<T: Bindings>(
     ensures { IfOk result (λ good. IsScan (T.table table.now) var level seen.new.vars.items
         (sub (found bank.now (T.table table.now)) (term_tree bank.now start.0)) good) }
 {
-    let mut frames: SmallVec<Frame, 8> = SmallVec::new(alloc);
-    frames.push(Frame { at: start, next: 0 })?;
-    while let Some(frame) = frames.pop() {
-        match argument(bank, frame.at, frame.next) {
-            Some(arg) => {
-                frames.push(Frame {
-                    at: frame.at,
-                    next: frame.next + 1,
-                })?;
-                let end = walk(bank, table, arg);
-                if !seen.has(end) {
-                    frames.push(Frame { at: end, next: 0 })?;
-                }
-            }
-            None => {
-                if !seen.look(bank, var, level, frame.at)? {
-                    return Ok(false);
-                }
-                seen.add(frame.at)?;
-            }
+    let mut frames = Frames::new(alloc);
+    let mut frame = Frame { at: start, next: 0 };
+    'frames: loop {
+        if !pass(bank, table, seen, &mut frames, var, level, start, frame)? {
+            return Ok(false);
+        }
+        match frames.pop() {
+            Some(below) => frame = below,
+            None => return Ok(true),
         }
     }
-    Ok(true)
 }

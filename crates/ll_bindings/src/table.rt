@@ -4,7 +4,7 @@ ghost use Rattle.ll_bank.specs.Term.{Term, sub};
 ghost use Rattle.ll_bank.specs.Nodes.{term_tree, HasTerm};
 ghost use Rattle.ll_laws.specs.Unify.{is_older};
 ghost use Rattle.ll_bindings.specs.Bindings.{Table, IsTable, IsPlaceOf, IsValue, IsEnd, IsAmong, AreSame, IsSet, IsLevel};
-ghost use Rattle.ll_bindings.specs.Spines.{IsArgument};
+ghost use Rattle.ll_bindings.specs.Spines.{IsArgument, AreArguments};
 
 use ll_bank::{At, Bank, OutOfMemory, TermView};
 
@@ -103,5 +103,18 @@ pub fn argument(bank: &Bank, at: At, number: usize) -> Option<At>
                 None
             }
         }
+    }
+}
+
+/// The arguments of the term at a place.
+#[inline]
+pub fn arguments(bank: &Bank, at: At) -> &[At]
+    requires { HasTerm bank.now at.0 }
+    ensures { AreArguments bank.now at.0 result.now }
+{
+    match bank.term_at(at) {
+        TermView::Var(_) => &[],
+        TermView::Int(_) => &[],
+        TermView::App(_, args) => args,
     }
 }

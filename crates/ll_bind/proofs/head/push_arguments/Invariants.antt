@@ -1,4 +1,4 @@
-use Rattle.std.proofs.Common.{◌≡◌, ◌≤◌, ◌++◌, drop, length}
+use Rattle.std.proofs.Common.{◌≡◌, ◌≤◌, ◌<◌, ◌++◌, drop, length}
 use Rattle.std.specs.Prelude.{reverse}
 use Rattle.ll_bind.specs.Heads.{equate}
 use Rattle.ll_bind.proofs.head.push_arguments.Given as goal
@@ -6,6 +6,7 @@ use Rattle.ll_bind.proofs.head.push_arguments.Given as goal
 abbrev pub invariant-loop-left : goal.invariant-loop-left
 invariant-loop-left l = record {
   among : l.left ≤ length l.patterns;
+  some : 0 < l.left;
   pushed : reverse l.equations.items ≡ equate (drop l.left l.places) (drop l.left l.patterns) ++ reverse l.initial.equations.items;
 }
 

@@ -1,6 +1,4 @@
 use Rattle.std.proofs.Common.{[], true, arith}
-use Rattle.ll_bindings.specs.Bindings.{Meets}
-use Rattle.ll_bank.specs.Nodes.{term_tree}
 use Rattle.ll_bindings.proofs.Binding.{right-below, meets-right}
 use Rattle.ll_bindings.proofs.FreshLemmas.{binds-fresh, leaves-var}
 use Rattle.ll_bindings.proofs.bind.bind_new.Goals as goal

@@ -17,8 +17,10 @@ use Rattle.ll_crew.specs.Leading.{Stands}
 use Rattle.ll_crew.specs.Leading as leading
 use Rattle.ll_crew.specs.Turns.{Stays, Leaves, Ended, Fails}
 use Rattle.ll_engine.specs.Seen.{Owing}
-use Rattle.ll_crew.specs.Runs.{RunsTo}
+use Rattle.ll_crew.specs.Runs.{RunsTo, EndsTo}
 use Rattle.ll_crew.specs.declared.lead.Told.{Told}
+use Rattle.ll_crew.specs.declared.piece.Ending.{Ending}
+use Rattle.ll_crew.specs.declared.piece.Ending.TheVariants as ending
 use Rattle.ll_crew.specs.declared.piece.Ran.{Ran}
 use Rattle.ll_crew.specs.declared.piece.Ran.TheVariants.{Back}
 use Rattle.ll_crew.proofs.Calms.{same_on, turn_same, turn_seen, seen_sound, calm_claim}
@@ -104,10 +106,21 @@ starve_fails takes breaks welcome faults start problem s a b out told f t = reco
 
 -- ---- a batch that came back
 
-pub back_stays : (standing end : Type 0) (leads : Bool) (problem : ProblemTree) (ran : Ran) (batch : Arc FrozenSight Global) (s a : Sat) (events : List Event)
-    (engine : Owing) → ran ≡ Back batch → RunsTo standing end leads problem ran s a events engine → Stays standing s a
-back_stays standing end leads problem ran batch s a events engine is r = let back = subst (λ x. RunsTo standing end leads problem x s a events engine) is r in
-    back.0
+pub ran_back : (standing end : Type 0) (leads : Bool) (problem : ProblemTree) (ran : Ran) (batch : Arc FrozenSight Global) (s a : Sat) (events : List Event)
+    (engine : Owing) → ran ≡ Back batch → RunsTo standing end leads problem ran s a events engine
+    → RunsTo standing end leads problem (Back batch) s a events engine
+ran_back standing end leads problem ran batch s a events engine is r = subst (λ x. RunsTo standing end leads problem x s a events engine) is r
+
+pub ended_partly : (standing end : Type 0) (leads : Bool) (problem : ProblemTree) (ended : Ending) (n : ℕ) (batch : Arc FrozenSight Global) (s a : Sat)
+    (events : List Event) → ended ≡ ending.Partly n batch → EndsTo standing end leads problem ended s a events
+    → EndsTo standing end leads problem (ending.Partly n batch) s a events
+ended_partly standing end leads problem ended n batch s a events is r = subst (λ x. EndsTo standing end leads problem x s a events) is r
+
+pub some_on : {E : Type 0} (result : Result (Option ℕ) E) (P Q : ℕ → Type 0) → IfOk result (λ o. IfSome o P) → ((n : ℕ) → P n → Q n)
+    → IfOk result (λ o. IfSome o Q)
+some_on (Ok None) P Q h f = tt
+some_on (Ok (Some n)) P Q h f = f n h
+some_on (Err e) P Q h f = tt
 
 pub none_on : {E : Type 0} (result : Result (Option ℕ) E) (P Q : Type 0) → IfOk result (λ o. IfNone o P) → (P → Q) → IfOk result (λ o. IfNone o Q)
 none_on (Ok None) P Q h f = f h

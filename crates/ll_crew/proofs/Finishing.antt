@@ -1,5 +1,6 @@
 -- Alternatives that a worker runs itself, one after the other.
-use Rattle.std.proofs.Common.{◌≡◌, ℕ, zero, suc, ◌+◌, ◌<◌, List, [], ◌∷◌, ◌++◌, take, length, refl, sym, ap, ◌∙◌, arith, append_assoc, append-nil, Some}
+use Rattle.std.proofs.Common.{◌≡◌, ℕ, zero, suc, ◌+◌, ◌<◌, List, [], ◌∷◌, ◌++◌, take, length, refl, sym, ap, ◌∙◌, subst, arith, append_assoc, append-nil}
+use Rattle.std.proofs.Common.{Option, Some, None, IsSomeAnd, Result, Ok, Err, IfOk}
 use Rattle.std.specs.Prelude.{slice_get}
 use Rattle.std.proofs.lemmas.List.{take_more}
 use Rattle.std.proofs.lemmas.List.Concat.{flat_map-append}
@@ -8,13 +9,15 @@ use Rattle.std.proofs.lemmas.Option.{get_or_from_slice_get, slice_get_within}
 use Rattle.ll_laws.specs.declared.Event.{Event}
 use Rattle.ll_laws.specs.Pool.{Owed}
 use Rattle.ll_laws.specs.Search.{cut_count}
+use Rattle.ll_laws.specs.Sound.{report_of}
 use Rattle.ll_core.proofs.CallerLemmas.{cut_sum, cut_twice}
+use Rattle.ll_pool.specs.declared.data.OpenPiece.{OpenPiece}
 use Rattle.ll_laws.specs.Problem.{ProblemTree}
 use Rattle.ll_engine.specs.Seen.{Owing}
 use Rattle.ll_engine.specs.Resumes.{Resumes}
 use Rattle.ll_crew.specs.Seats.{Sat}
-use Rattle.ll_crew.specs.Pieces.{events_in, cost_in}
-use Rattle.ll_crew.specs.Runs.{RunsAlone, RunsFirst}
+use Rattle.ll_crew.specs.Pieces.{IsKeptOf, Owes, OwesAll, Lacks, events_in, cost_in}
+use Rattle.ll_crew.specs.Runs.{RunsAlone, RunsOne, RunsFirst}
 
 one_more : (os : List (Owed Event)) (k : ℕ) (o : Owed Event) → slice_get os k ≡ Some o → take (k + 1) os ≡ take k os ++ o ∷ []
 one_more os k o e = take_more os k o (slice_get_within os k o e) ∙ ap (λ x. take k os ++ x ∷ []) (get_or_from_slice_get os k o o e)
@@ -34,15 +37,40 @@ at_place [] k low = absurd (omega arith)
 at_place (o ∷ os) zero low = (o, refl)
 at_place (o ∷ os) (suc k) low = at_place os k (omega arith)
 
+-- the engine of an alternative is one of the problem
+pub its_problem : (os : List (Owed Event)) (k : ℕ) (problem : ProblemTree) (engine : Owing) → k < length os
+    → ((o : Owed Event) → slice_get os k ≡ Some o → Resumes problem o engine) → engine.problem ≡ problem
+its_problem os k problem engine low f = let at = at_place os k low in let r = f at.0 at.1 in r.problem
+
+pub kept_some : (problem : ProblemTree) (kept : Option Owing) (engine : Owing) → kept ≡ Some engine → IsKeptOf problem kept → engine.problem ≡ problem
+kept_some problem kept engine e h = subst (IsKeptOf problem) e h
+
+pub its_problems : {E : Type 0} (os : List (Owed Event)) (k : ℕ) (problem : ProblemTree) (result : Result Owing E) → k < length os
+    → IfOk result (λ e. (o : Owed Event) → slice_get os k ≡ Some o → Resumes problem o e) → IfOk result (λ (e : Owing). e.problem ≡ problem)
+its_problems os k problem (Ok e) low f = its_problem os k problem e low f
+its_problems os k problem (Err x) low f = tt
+
+-- it was run to its end
+pub one_run : (y : Type 0) (a b : Sat) (o : Owed Event) (problem : ProblemTree) (events events' : List Event) (engine after : Owing) (n : ℕ)
+    → Resumes problem o engine → RunsAlone y a b events engine events' after → n ≡ after.made → RunsOne y a b events o events' n
+one_run y a b o problem events events' engine after n e run is =
+    record {
+      goes = run.goes;
+      whole = run.whole ∙ ap (λ l. events ++ l) e.events;
+      made = ap cut_count is ∙ (run.made ∙ ap cut_count (zero_plus engine.made engine.cost e.made ∙ e.cost));
+    }
+  where
+    zero_plus : (m n : ℕ) → m ≡ 0 → m + n ≡ n
+    zero_plus m n e = omega arith
+
 -- one alternative more
-pub runs_more : (x y : Type 0) (s a b : Sat) (found : List Event) (first : ℕ) (owed : List (Owed Event)) (k : ℕ) (o : Owed Event) (problem : ProblemTree)
-    (events events' : List Event) (engine after : Owing) (inferences inferences' : ℕ)
-    → slice_get owed k ≡ Some o → RunsFirst x s a found first owed k events inferences → Resumes problem o engine → RunsAlone y a b events engine events' after
-    → inferences' ≡ cut_count (inferences + after.made)
+pub runs_more : (x y : Type 0) (s a b : Sat) (found : List Event) (first : ℕ) (owed : List (Owed Event)) (k : ℕ) (o : Owed Event) (events events' : List Event)
+    (inferences more inferences' : ℕ)
+    → slice_get owed k ≡ Some o → RunsFirst x s a found first owed k events inferences → RunsOne y a b events o events' more
+    → inferences' ≡ cut_count (inferences + more)
     → RunsFirst y s b found first owed (k + 1) events' inferences'
-runs_more x y s a b found first owed k o problem events events' engine after inferences inferences' at r e run sum =
+runs_more x y s a b found first owed k o events events' inferences more inferences' at r run sum =
     let f = r.goes in let g = run.goes in let h = f.same in let i = g.same in
-    let made : cut_count after.made ≡ cut_count o.cost = run.made ∙ ap cut_count (zero_plus engine.made engine.cost e.made ∙ e.cost) in
     record {
       goes = record {
         same = record { table = i.table ∙ h.table; problem = i.problem ∙ h.problem; worker = i.worker ∙ h.worker; given = i.given ∙ h.given };
@@ -50,15 +78,55 @@ runs_more x y s a b found first owed k o problem events events' engine after inf
         quit = g.quit ∙ f.quit;
         stands = g.stands;
       };
-      whole = run.whole ∙ (ap (λ l. l ++ engine.events) r.whole
-          ∙ (append_assoc found (events_in (take k owed)) engine.events
-          ∙ (ap (λ l. found ++ (events_in (take k owed) ++ l)) e.events ∙ ap (λ l. found ++ l) (sym (events_more owed k o at)))));
-      counted = sum ∙ (cut_sum inferences after.made (first + cost_in (take k owed)) o.cost (ap cut_count r.counted ∙ cut_twice (first + cost_in (take k owed)))
-          made ∙ ap cut_count (together first (cost_in (take k owed)) o.cost (cost_in (take (k + 1) owed)) (cost_more owed k o at)));
+      whole = run.whole ∙ (ap (λ l. l ++ o.events) r.whole ∙
+          (append_assoc found (events_in (take k owed)) o.events ∙ ap (λ l. found ++ l) (sym (events_more owed k o at))));
+      counted = sum ∙ (cut_sum inferences more (first + cost_in (take k owed)) o.cost (ap cut_count r.counted ∙ cut_twice (first + cost_in (take k owed)))
+          run.made ∙ ap cut_count (together first (cost_in (take k owed)) o.cost (cost_in (take (k + 1) owed)) (cost_more owed k o at)));
     }
   where
-    zero_plus : (m n : ℕ) → m ≡ 0 → m + n ≡ n
-    zero_plus m n e = omega arith
-
     together : (a b c d : ℕ) → d ≡ b + c → (a + b) + c ≡ a + d
     together a b c d e = omega arith
+
+-- ---- pieces
+
+-- the engine of an alternative owes what a piece of it owes
+pub begins_owing : (piece : Option OpenPiece) (os : List (Owed Event)) (k : ℕ) (problem : ProblemTree) (events : List Event) (engine : Owing) → events ≡ []
+    → IsSomeAnd piece (λ (x : OpenPiece). slice_get os k ≡ Some x.owes) → ((o : Owed Event) → slice_get os k ≡ Some o → Resumes problem o engine)
+    → OwesAll piece events engine []
+begins_owing None os k problem events engine none h f = absurd h
+begins_owing (Some x) os k problem events engine none h f =
+    let r = f x.owes h in let c = r.cost in let cost0 : cost_in [] ≡ 0 = refl in
+    record {
+      done = 0;
+      events = sym r.events ∙ (sym (append-nil engine.events) ∙ ap (λ l. l ++ (engine.events ++ [])) (sym none));
+      cost = omega arith;
+      made = ap cut_count r.made;
+    }
+
+lacks_rest : (x : OpenPiece) (found after : List Event) (old : Owing) (rest : List (Owed Event)) (n : ℕ) → Owes x found old rest → after ≡ found ++ old.events
+    → cut_count n ≡ cut_count (old.made + old.cost) → Lacks after n rest x
+lacks_rest x found after old rest n h whole made =
+    let assoc : (old.made + old.cost) + cost_in rest ≡ old.made + (old.cost + cost_in rest) = omega arith in
+    record {
+      events = h.events ∙ (sym (append_assoc found old.events (events_in rest)) ∙ ap (λ l. l ++ events_in rest) (sym whole));
+      cost = ap cut_count h.cost ∙ sym (cut_sum n (cost_in rest) (old.made + old.cost) (cost_in rest) made refl
+          ∙ (ap cut_count assoc ∙ cut_sum old.made (old.cost + cost_in rest) h.done (old.cost + cost_in rest) h.made refl));
+    }
+
+-- what a piece lacks once its engine has nothing left, which ran beside these alternatives
+pub all_lacks : (piece piece' : Option OpenPiece) (found after : List Event) (old : Owing) (rest : List (Owed Event)) (n : ℕ) → piece' ≡ piece
+    → OwesAll piece found old rest → after ≡ found ++ old.events → cut_count n ≡ cut_count (old.made + old.cost)
+    → IsSomeAnd piece' (Lacks after n rest)
+all_lacks None piece' found after old rest n e h whole made = absurd h
+all_lacks (Some x) piece' found after old rest n e h whole made =
+    subst (λ p. IsSomeAnd p (Lacks after n rest)) (sym e) (lacks_rest x found after old rest n h whole made)
+
+-- and once these alternatives were run, too
+pub lacks_none : (piece piece' : Option OpenPiece) (found after : List Event) (rest : List (Owed Event)) (n m : ℕ) → piece' ≡ piece
+    → IsSomeAnd piece (Lacks found n rest) → after ≡ found ++ events_in rest → m ≡ cut_count (n + cost_in rest)
+    → IsSomeAnd piece' (λ (x : OpenPiece). record { events = after; cost = m } ≡ report_of x.owes)
+lacks_none None piece' found after rest n m e h whole counted = absurd h
+lacks_none (Some x) piece' found after rest n m e h whole counted =
+    let events = whole ∙ sym h.events in let cost = counted ∙ sym h.cost in
+    subst (λ p. IsSomeAnd p (λ (x : OpenPiece). record { events = after; cost = m } ≡ report_of x.owes)) (sym e)
+    (λ i. record { events = events i; cost = cost i })

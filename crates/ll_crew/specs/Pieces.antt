@@ -6,6 +6,7 @@ use Rattle.std.specs.declared.alloc.Global.{Global}
 use Rattle.ll_laws.specs.declared.Event.{Event}
 use Rattle.ll_laws.specs.Pool.{Owed}
 use Rattle.ll_laws.specs.Search.{cut_count}
+use Rattle.ll_laws.specs.Problem.{ProblemTree}
 use Rattle.ll_pool.specs.declared.data.OpenPiece.{OpenPiece}
 use Rattle.ll_freeze.specs.Frozen.{FrozenSight, alternatives_in}
 use Rattle.ll_engine.specs.Seen.{Owing}
@@ -15,6 +16,11 @@ events_in os = flat_map (λ (o : Owed Event). o.events) os
 
 abbrev pub cost_in : List (Owed Event) → ℕ
 cost_in os = sum_by (λ (o : Owed Event). o.cost) os
+
+-- a worker has kept no engine, or one of this problem
+abbrev pub IsKeptOf : ProblemTree → Option Owing → Type 0
+IsKeptOf problem None = Unit {0}
+IsKeptOf problem (Some engine) = engine.problem ≡ problem
 
 -- an engine went on for a while, and its events were put behind those that there were
 pub record Stretched (done : Bool) (before : List Event) (old : Owing) (after : List Event) (new : Owing) : Type 0 where
@@ -43,6 +49,11 @@ pub record Owes (piece : OpenPiece) (found : List Event) (engine : Owing) (rest 
 
 abbrev pub OwesAll : Option OpenPiece → List Event → Owing → List (Owed Event) → Type 0
 OwesAll piece events engine rest = IsSomeAnd piece (λ (x : OpenPiece). Owes x events engine rest)
+
+-- a piece has these events and inferences, and then those of these alternatives
+pub record Lacks (found : List Event) (inferences : ℕ) (rest : List (Owed Event)) (piece : OpenPiece) : Type 0 where
+  pub events : piece.owes.events ≡ found ++ events_in rest
+  pub cost : cut_count piece.owes.cost ≡ cut_count (inferences + cost_in rest)
 
 abbrev pub back_alternatives : Option (Arc FrozenSight Global) → List (Owed Event)
 back_alternatives None = []

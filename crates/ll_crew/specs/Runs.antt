@@ -10,13 +10,15 @@ use Rattle.ll_laws.specs.Problem.{ProblemTree}
 use Rattle.ll_freeze.specs.Frozen.{alternatives_in}
 use Rattle.ll_engine.specs.Seen.{Owing}
 use Rattle.ll_crew.specs.Seats.{Sat}
-use Rattle.ll_crew.specs.Pieces.{OwesAll, OwesAfter, events_in, cost_in}
+use Rattle.ll_crew.specs.Pieces.{OwesAll, OwesAfter, Lacks, events_in, cost_in}
 use Rattle.ll_crew.specs.Turns.{Stays, Goes, Leaves, Ended}
 use Rattle.ll_crew.specs.declared.piece.Shared.{Shared}
 use Rattle.ll_crew.specs.declared.piece.Shared.TheVariants.{Nothing, Published}
 use Rattle.ll_crew.specs.declared.piece.Shared.TheVariants as share
 use Rattle.ll_crew.specs.declared.piece.Ran.{Ran}
 use Rattle.ll_crew.specs.declared.piece.Ran.TheVariants.{Done, Back, Left}
+use Rattle.ll_crew.specs.declared.piece.Ending.{Ending}
+use Rattle.ll_crew.specs.declared.piece.Ending.TheVariants as ending
 use Rattle.ll_crew.specs.declared.worker.Went.{Went}
 use Rattle.ll_crew.specs.declared.worker.Went.TheVariants as went
 
@@ -40,6 +42,12 @@ pub record RunsAlone (standing : Type 0) (before after : Sat) (found : List Even
   pub whole : events ≡ found ++ old.events
   pub made : cut_count new.made ≡ cut_count (old.made + old.cost)
 
+-- an alternative was run to its end: its events were added, and nothing was published
+pub record RunsOne (standing : Type 0) (before after : Sat) (found : List Event) (owes : Owed Event) (events : List Event) (inferences : ℕ) : Type 0 where
+  pub goes : Goes standing before after
+  pub whole : events ≡ found ++ owes.events
+  pub made : cut_count inferences ≡ cut_count owes.cost
+
 -- so many inferences were added, and these events, and nothing was published
 pub record RunsAll (standing : Type 0) (before after : Sat) (found owed : List Event) (cost : ℕ) (events : List Event) (inferences : ℕ) : Type 0 where
   pub goes : Goes standing before after
@@ -55,6 +63,13 @@ RunsFirst standing before after found first owed k events inferences =
 pub record Reports (standing : Type 0) (before after : Sat) (events : List Event) (inferences : ℕ) : Type 0 where
   pub stays : Stays standing before after
   pub whole : IsSomeAnd after.mine.piece (λ (piece : OpenPiece). record { events = events; cost = inferences } ≡ report_of piece.owes)
+
+-- the engine of a piece has nothing left: the piece is to be closed, or owes a batch that came back, unless the worker leaves
+abbrev pub EndsTo : Type 0 → Type 0 → Bool → ProblemTree → Ending → Sat → Sat → List Event → Type 0
+EndsTo standing end leads problem (ending.Whole n) before after events = Reports standing before after events n
+EndsTo standing end leads problem (ending.Partly n batch) before after events =
+    Stays standing before after × IsSomeAnd after.mine.piece (Lacks events n (alternatives_in (arc_value batch))) × ((arc_value batch).problem ≡ problem)
+EndsTo standing end leads problem ending.Left before after events = Leaves end leads before after
 
 -- how a claim went: the seat has no open piece, unless the worker leaves
 abbrev pub WentTo : Type 0 → Type 0 → Bool → ProblemTree → Went → Sat → Sat → Type 0

@@ -5,6 +5,7 @@ ghost use Rattle.ll_laws.specs.Problem.{problem_events, problem_cost};
 ghost use Rattle.ll_laws.specs.Search.{cut_count, is_answer, is_reached};
 ghost use Rattle.ll_laws.specs.Sound.{Every};
 ghost use Rattle.ll_laws.specs.Valid.{IsValid};
+ghost use Rattle.ll_engine.specs.Steps.{fresh};
 ghost use Rattle.ll_freeze.specs.Indexed.{IsIndexOf};
 ghost use Rattle.ll_order.specs.Outlets.{Rose, Gives, CountsOf};
 ghost use Rattle.ll_crew.specs.declared.whole.CrewFault.{CrewFault};
@@ -65,6 +66,23 @@ pub(crate) fn search_alone<'p, O: Outlet>(
     let Ok(mut engine) = Engine::start_with(alloc, problem, index) else {
         return Err(CrewFault::OutOfMemory);
     };
+    give_each(alloc, &mut engine, out)
+}
+
+// Gives the outlet each event of a new engine as soon as it is found.
+fn give_each<'p, O: Outlet>(
+    alloc: Global,
+    engine: &mut Engine<'p>,
+    out: &mut O,
+) -> Result<Counts, CrewFault>
+    requires starts { engine.old ≡ fresh engine.old.problem }
+    requires welcome { Every (O.welcome out.old) (problem_events engine.old.problem) }
+    ensures given { OnOk result (Gives O.takes out.old (problem_events engine.old.problem) out.new) }
+    ensures counts { IfOk result (λ counts. CountsOf counts (problem_events engine.old.problem) (problem_cost engine.old.problem)) }
+    ensures refused { OnErr result (GivesPrefix O.takes O.breaks out.old (problem_events engine.old.problem) out.new) }
+    ensures write { result ≡ Err CrewFault.Write → Rose (O.faults out.old) (O.faults out.new) }
+    ensures kept { Kept O.takes O.breaks O.welcome O.faults out.old out.new }
+{
     let mut counts = Counts {
         answers: 0,
         reached: 0,

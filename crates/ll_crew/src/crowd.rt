@@ -9,6 +9,7 @@ ghost use Rattle.ll_crew.specs.Turns.{Ended, Leaves, Fails, CanWork, Worked};
 
 use crate::bell::Bell;
 use crate::beside::join_beside;
+use crate::job::{Job, Sharing};
 use crate::lead::{Mute, Told};
 use crate::worker::work_as;
 use ll_bank::OutOfMemory;
@@ -31,7 +32,7 @@ struct Hand<'a, 'p, R, G> {
     pool: &'a SharedPool<Frozen<'p>>,
     bell: &'a Bell,
     gate: &'a G,
-    at_once: bool,
+    sharing: Sharing,
     seat: Seat<Frozen<'p>>,
 }
 
@@ -44,7 +45,7 @@ struct Crowd<'a, 'p, R, G> {
     pool: &'a SharedPool<Frozen<'p>>,
     bell: &'a Bell,
     gate: &'a G,
-    at_once: bool,
+    sharing: Sharing,
     seats: Vec<Seat<Frozen<'p>>>,
 }
 
@@ -60,15 +61,22 @@ fn help<'a, 'p, R: Wait, G: Gate>(hand: Hand<'a, 'p, R, G>) -> Seat<Frozen<'p>>
         pool,
         bell,
         gate,
-        at_once,
+        sharing,
         mut seat,
     } = hand;
     let mut mute = Mute;
     let start = Snapshot::of(&mute);
-    let mut told = Told::new(false, at_once);
-    let _done = work_as(
-        rt, alloc, problem, pool, bell, gate, &start, &mut seat, &mut told, &mut mute,
-    );
+    let mut told = Told::new(false);
+    let job = Job {
+        rt,
+        alloc,
+        problem,
+        pool,
+        bell,
+        sharing,
+        start: &start,
+    };
+    let _done = work_as(&job, gate, &mut seat, &mut told, &mut mute);
     seat
 }
 
@@ -88,7 +96,7 @@ fn work_all<'a, 'p, R: Threads + Wait + Sync, G: Gate>(
         pool,
         bell,
         gate,
-        at_once,
+        sharing,
         mut seats,
     } = crowd;
     let Some(seat) = seats.pop() else {
@@ -101,7 +109,7 @@ fn work_all<'a, 'p, R: Threads + Wait + Sync, G: Gate>(
         pool,
         bell,
         gate,
-        at_once,
+        sharing,
         seat,
     };
     let rest = Crowd {
@@ -111,7 +119,7 @@ fn work_all<'a, 'p, R: Threads + Wait + Sync, G: Gate>(
         pool,
         bell,
         gate,
-        at_once,
+        sharing,
         seats,
     };
     let (mut back, seat) = join(
@@ -132,68 +140,58 @@ fn work_all<'a, 'p, R: Threads + Wait + Sync, G: Gate>(
 
 /// All workers at work: the caller is the first. The other seats come back.
 pub(crate) fn work_together<'p, R: Threads + Wait + Sync, G: Gate, O: Outlet>(
-    rt: &R,
-    alloc: Global,
-    problem: &'p Problem,
-    pool: &SharedPool<Frozen<'p>>,
-    bell: &Bell,
+    job: &Job<'_, 'p, R, O>,
     gate: &G,
-    start: &Snapshot<O>,
     first: &mut Seat<Frozen<'p>>,
     told: &mut Told,
     out: &mut O,
     seats: Vec<Seat<Frozen<'p>>>,
 ) -> (Vec<Seat<Frozen<'p>>>, Result<bool, OutOfMemory>)
-    requires first { CanWork pool.now problem.now first.old }
-    requires stands { Stands O.takes O.breaks O.welcome O.faults start.now.value problem.now first.old out.old told.old }
-    requires seats { Every (CanWork pool.now problem.now) seats.items }
+    requires first { CanWork job.now.pool.now job.now.problem.now first.old }
+    requires stands { Stands O.takes O.breaks O.welcome O.faults job.now.start.now.value job.now.problem.now first.old out.old told.old }
+    requires seats { Every (CanWork job.now.pool.now job.now.problem.now) seats.items }
     ensures leads { told.new.leads ≡ told.old.leads }
     ensures done { IfOk result.1 (λ done. done ≡ true → Ended
-        (Stands O.takes O.breaks O.welcome O.faults start.now.value problem.entry.now first.new out.new told.new) problem.entry.now first.old first.new) }
-    ensures left { IfOk result.1 (λ done. done ≡ false → Leaves (Stopped O.takes O.breaks O.welcome O.faults start.now.value problem.entry.now out.new told.new)
-        told.old.leads first.old first.new) }
-    ensures failed { OnErr result.1 (Fails (Stopped O.takes O.breaks O.welcome O.faults start.now.value problem.entry.now out.new told.new) first.old
+        (Stands O.takes O.breaks O.welcome O.faults job.now.start.now.value job.now.problem.now first.new out.new told.new) job.now.problem.now first.old
+        first.new) }
+    ensures left { IfOk result.1 (λ done. done ≡ false → Leaves
+        (Stopped O.takes O.breaks O.welcome O.faults job.now.start.now.value job.now.problem.now out.new told.new) told.old.leads first.old first.new) }
+    ensures failed { OnErr result.1 (Fails (Stopped O.takes O.breaks O.welcome O.faults job.now.start.now.value job.now.problem.now out.new told.new) first.old
         first.new) }
     ensures seats { EachWorked seats.entry.items result.0.items }
 {
     if seats.is_empty() {
-        let done = work_as(
-            rt, alloc, problem, pool, bell, gate, start, first, told, out,
-        );
+        let done = work_as(job, gate, first, told, out);
         return (seats, done);
     }
     let crowd = Crowd {
-        rt,
-        alloc,
-        problem,
-        pool,
-        bell,
+        rt: job.rt,
+        alloc: job.alloc,
+        problem: job.problem,
+        pool: job.pool,
+        bell: job.bell,
         gate,
-        at_once: told.at_once,
+        sharing: job.sharing,
         seats,
     };
     join_beside(
-        rt,
+        job.rt,
         move ||
             requires { IsSync R.row × IsSync G.row × Every (CanWork crowd.pool.now crowd.problem.now) crowd.seats.items }
             ensures { EachWorked crowd.entry.seats.items result.items }
         { work_all(crowd) },
         &mut ||
-            requires { IsSync G.row × CanWork pool.now problem.now first.now
-                × Stands O.takes O.breaks O.welcome O.faults start.now.value problem.now first.now out.now told.now }
+            requires { IsSync G.row × CanWork job.now.pool.now job.now.problem.now first.now
+                × Stands O.takes O.breaks O.welcome O.faults job.now.start.now.value job.now.problem.now first.now out.now told.now }
             ensures leads { told.exit.now.leads ≡ told.entry.now.leads }
             ensures done { IfOk result (λ done. done ≡ true → Ended
-                (Stands O.takes O.breaks O.welcome O.faults start.entry.now.value problem.entry.now first.exit.now out.exit.now told.exit.now) problem.entry.now
-                first.entry.now first.exit.now) }
+                (Stands O.takes O.breaks O.welcome O.faults job.entry.now.start.now.value job.entry.now.problem.now first.exit.now out.exit.now told.exit.now)
+                job.entry.now.problem.now first.entry.now first.exit.now) }
             ensures left { IfOk result (λ done. done ≡ false
-                → Leaves (Stopped O.takes O.breaks O.welcome O.faults start.entry.now.value problem.entry.now out.exit.now told.exit.now) told.entry.now.leads
-                first.entry.now first.exit.now) }
-            ensures failed { OnErr result (Fails (Stopped O.takes O.breaks O.welcome O.faults start.entry.now.value problem.entry.now out.exit.now
-                told.exit.now) first.entry.now first.exit.now) }
-        {
-            work_as(
-                rt, alloc, problem, pool, bell, gate, start, first, told, out,
-            )
-        },
+                → Leaves (Stopped O.takes O.breaks O.welcome O.faults job.entry.now.start.now.value job.entry.now.problem.now out.exit.now told.exit.now)
+                told.entry.now.leads first.entry.now first.exit.now) }
+            ensures failed { OnErr result (Fails (Stopped O.takes O.breaks O.welcome O.faults job.entry.now.start.now.value job.entry.now.problem.now
+                out.exit.now told.exit.now) first.entry.now first.exit.now) }
+        { work_as(job, gate, first, told, out) },
     )
 }

@@ -12,6 +12,7 @@ ghost use Rattle.ll_first.specs.Upto.{first_of};
 ghost use Rattle.ll_crew.specs.declared.whole.CrewFault.{CrewFault};
 ghost use Rattle.ll_crew.specs.Crews.{GivesPrefix};
 
+use crate::job::Sharing;
 use crate::whole::{CrewFault, crew_by, index_of};
 use ll_edge::Gate;
 use ll_first::Enough;
@@ -123,7 +124,16 @@ fn give_until<'p, 's, R: Threads + Wait + Sync, G: Gate, E: Enough>(
     ensures faults_kept { E.faults until.old.out.now ≤ E.faults until.new.out.now }
     ensures welcome_kept { (e : Event) → E.welcome until.old.out.now e ↔ E.welcome until.new.out.now e }
 {
-    match crew_by(rt, alloc, problem, index, workers, gate, true, until) {
+    match crew_by(
+        rt,
+        alloc,
+        problem,
+        index,
+        workers,
+        gate,
+        Sharing::AfterAnswer,
+        until,
+    ) {
         Ok(counts) => Ok(Some(counts)),
         Err(_) if until.ended => Ok(None),
         Err(fault) => Err(fault),

@@ -4,31 +4,28 @@ ghost use Rattle.ll_crew.specs.Seats.{IsSeat, Same, Calm, HasLeft};
 ghost use Rattle.ll_crew.specs.Leading.{Stands, Stopped};
 ghost use Rattle.ll_crew.specs.Turns.{Goes, Leaves};
 
+use crate::job::Job;
 use ll_core::{Look, Ready};
 use ll_freeze::Frozen;
-use ll_laws::{Counts, Event, Problem};
+use ll_laws::{Counts, Event};
 use ll_order::{OutFault, Outlet, give};
-use ll_pool::{Seat, SharedPool};
-use std::snapshot::Snapshot;
+use ll_pool::Seat;
 use std::sync::Wait;
 
 /// What a worker has told the outlet: nothing, unless it leads.
 #[derive(Drop)]
 pub(crate) struct Told {
     pub(crate) leads: bool,
-    /// Whether it reports an answer as soon as it can: it then leaves the choice points of its piece to others.
-    pub(crate) at_once: bool,
     pub(crate) counts: Counts,
     pub(crate) fault: Option<OutFault>,
 }
 
 impl Told {
-    pub(crate) fn new(leads: bool, at_once: bool) -> Told
-        ensures { result ≡ record { leads = leads; at_once = at_once; counts = record { answers = 0; reached = 0; inferences = 0 }; fault = None } }
+    pub(crate) fn new(leads: bool) -> Told
+        ensures { result ≡ record { leads = leads; counts = record { answers = 0; reached = 0; inferences = 0 }; fault = None } }
     {
         Told {
             leads,
-            at_once,
             counts: Counts {
                 answers: 0,
                 reached: 0,
@@ -58,42 +55,36 @@ impl Outlet for Mute {
 }
 
 // After a failed write the pool is stopped, and where the outlet wanted memory it is starved.
-fn quit<'p, R: Wait>(
-    rt: &R,
-    pool: &SharedPool<Frozen<'p>>,
-    seat: &mut Seat<Frozen<'p>>,
-    fault: OutFault,
-)
-    requires own { seat.old.table ≡ pool.now.table }
+fn quit<'p, R: Wait, O>(job: &Job<'_, 'p, R, O>, seat: &mut Seat<Frozen<'p>>, fault: OutFault)
+    requires own { seat.old.table ≡ job.now.pool.now.table }
     ensures same { Same seat.old seat.new }
     ensures left { HasLeft seat.new }
 {
     match fault {
-        OutFault::Write => pool.stop(rt, seat),
-        OutFault::OutOfMemory => pool.starve(rt, seat),
+        OutFault::Write => job.pool.stop(job.rt, seat),
+        OutFault::OutOfMemory => job.pool.starve(job.rt, seat),
     }
 }
 
 // Gives the outlet the events that are ready. False where it refused one: the pool is then stopped, or starved where the outlet wanted
 // memory.
 fn tell_all<'p, R: Wait, O: Outlet>(
-    rt: &R,
-    problem: &'p Problem,
-    pool: &SharedPool<Frozen<'p>>,
-    start: &Snapshot<O>,
+    job: &Job<'_, 'p, R, O>,
     seat: &mut Seat<Frozen<'p>>,
     told: &mut Told,
     out: &mut O,
 ) -> bool
-    requires seat { IsSeat pool.now problem.now seat.old }
+    requires seat { IsSeat job.now.pool.now job.now.problem.now seat.old }
     requires leads { told.old.leads ≡ true }
-    requires stands { Stands O.takes O.breaks O.welcome O.faults start.now.value problem.now seat.old out.old told.old }
+    requires stands { Stands O.takes O.breaks O.welcome O.faults job.now.start.now.value job.now.problem.now seat.old out.old told.old }
     ensures leads { told.new.leads ≡ true }
-    ensures on { result ≡ true → Goes (Stands O.takes O.breaks O.welcome O.faults start.now.value problem.now seat.new out.new told.new) seat.old seat.new }
-    ensures left { result ≡ false → Leaves (Stopped O.takes O.breaks O.welcome O.faults start.now.value problem.now out.new told.new) true seat.old seat.new }
+    ensures on { result ≡ true → Goes (Stands O.takes O.breaks O.welcome O.faults job.now.start.now.value job.now.problem.now seat.new out.new told.new)
+        seat.old seat.new }
+    ensures left { result ≡ false → Leaves (Stopped O.takes O.breaks O.welcome O.faults job.now.start.now.value job.now.problem.now out.new told.new) true
+        seat.old seat.new }
 {
-    for _ in rt.forever() {
-        let Ready::Events(report) = pool.ready(rt, seat) else {
+    for _ in job.rt.forever() {
+        let Ready::Events(report) = job.pool.ready(job.rt, seat) else {
             return true;
         };
         let inferences = told.counts.inferences.saturating_add(report.inferences);
@@ -106,7 +97,7 @@ fn tell_all<'p, R: Wait, O: Outlet>(
             }
             Err(fault) => {
                 told.fault = Some(fault);
-                quit(rt, pool, seat, fault);
+                quit(job, seat, fault);
                 return false;
             }
         }
@@ -117,23 +108,21 @@ fn tell_all<'p, R: Wait, O: Outlet>(
 /// A worker that leads gives the outlet the events that are ready. False where it refused one: the pool is then stopped, or starved where
 /// the outlet wanted memory.
 pub(crate) fn tell<'p, R: Wait, O: Outlet>(
-    rt: &R,
-    problem: &'p Problem,
-    pool: &SharedPool<Frozen<'p>>,
-    start: &Snapshot<O>,
+    job: &Job<'_, 'p, R, O>,
     seat: &mut Seat<Frozen<'p>>,
     told: &mut Told,
     out: &mut O,
 ) -> bool
-    requires seat { IsSeat pool.now problem.now seat.old }
-    requires stands { Stands O.takes O.breaks O.welcome O.faults start.now.value problem.now seat.old out.old told.old }
+    requires seat { IsSeat job.now.pool.now job.now.problem.now seat.old }
+    requires stands { Stands O.takes O.breaks O.welcome O.faults job.now.start.now.value job.now.problem.now seat.old out.old told.old }
     ensures leads { told.new.leads ≡ told.old.leads }
-    ensures on { result ≡ true → Goes (Stands O.takes O.breaks O.welcome O.faults start.now.value problem.now seat.new out.new told.new) seat.old seat.new }
-    ensures left { result ≡ false → Leaves (Stopped O.takes O.breaks O.welcome O.faults start.now.value problem.now out.new told.new) told.old.leads seat.old
-        seat.new }
+    ensures on { result ≡ true → Goes (Stands O.takes O.breaks O.welcome O.faults job.now.start.now.value job.now.problem.now seat.new out.new told.new)
+        seat.old seat.new }
+    ensures left { result ≡ false → Leaves (Stopped O.takes O.breaks O.welcome O.faults job.now.start.now.value job.now.problem.now out.new told.new)
+        told.old.leads seat.old seat.new }
 {
     if told.leads {
-        return tell_all(rt, problem, pool, start, seat, told, out);
+        return tell_all(job, seat, told, out);
     }
     true
 }
@@ -141,26 +130,24 @@ pub(crate) fn tell<'p, R: Wait, O: Outlet>(
 /// A look at the pool, after which a worker that leads gives the outlet what is ready. `None` where it is to leave: the pool is starved or
 /// stopped.
 pub(crate) fn look<'p, R: Wait, O: Outlet>(
-    rt: &R,
-    problem: &'p Problem,
-    pool: &SharedPool<Frozen<'p>>,
-    start: &Snapshot<O>,
+    job: &Job<'_, 'p, R, O>,
     seat: &mut Seat<Frozen<'p>>,
     told: &mut Told,
     out: &mut O,
 ) -> Option<Look>
-    requires seat { IsSeat pool.now problem.now seat.old }
-    requires stands { Stands O.takes O.breaks O.welcome O.faults start.now.value problem.now seat.old out.old told.old }
+    requires seat { IsSeat job.now.pool.now job.now.problem.now seat.old }
+    requires stands { Stands O.takes O.breaks O.welcome O.faults job.now.start.now.value job.now.problem.now seat.old out.old told.old }
     ensures leads { told.new.leads ≡ told.old.leads }
-    ensures on { IsSome result → Goes (Stands O.takes O.breaks O.welcome O.faults start.now.value problem.now seat.new out.new told.new) seat.old seat.new }
-    ensures left { IsNone result → Leaves (Stopped O.takes O.breaks O.welcome O.faults start.now.value problem.now out.new told.new) told.old.leads seat.old
-        seat.new }
+    ensures on { IsSome result → Goes (Stands O.takes O.breaks O.welcome O.faults job.now.start.now.value job.now.problem.now seat.new out.new told.new)
+        seat.old seat.new }
+    ensures left { IsNone result → Leaves (Stopped O.takes O.breaks O.welcome O.faults job.now.start.now.value job.now.problem.now out.new told.new)
+        told.old.leads seat.old seat.new }
 {
-    let look = pool.look(rt, seat);
+    let look = job.pool.look(job.rt, seat);
     if look.starved || look.stopped {
         return None;
     }
-    if !tell(rt, problem, pool, start, seat, told, out) {
+    if !tell(job, seat, told, out) {
         return None;
     }
     Some(look)

@@ -6,6 +6,7 @@ mod bell;
 mod beside;
 mod crowd;
 mod first;
+mod job;
 mod lead;
 mod piece;
 mod whole;

@@ -1,24 +1,26 @@
 //! The work of one piece.
-ghost use Rattle.std.specs.Prelude.{◌≡◌, IfOk, IfSome, IfNone, IsSomeAnd, OnErr, Some, None, slice_get, ◌+◌, ◌++◌, [], true, false};
-ghost use Rattle.ll_laws.specs.Sound.{report_of};
+ghost use Rattle.std.specs.Prelude.{◌≡◌, ◌<◌, length, IfOk, IfSome, IfNone, IsSomeAnd, OnOk, OnErr, Some, None, slice_get, ◌+◌, ◌++◌, [], true, false};
+ghost use Rattle.std.specs.Arc.{arc_value};
+ghost use Rattle.ll_laws.specs.Pool.{Owed};
+ghost use Rattle.ll_laws.specs.declared.Event.{Event as TheEvent};
 ghost use Rattle.ll_freeze.specs.Frozen.{alternatives_in};
+ghost use Rattle.ll_engine.specs.Resumes.{Resumes};
 ghost use Rattle.ll_crew.specs.Leading.{Stands, Stopped};
 ghost use Rattle.ll_crew.specs.Turns.{Stays, Leaves};
-ghost use Rattle.ll_crew.specs.Runs.{SharesTo, RunsTo, RunsAlone, RunsAll, Reports};
-ghost use Rattle.ll_crew.specs.Pieces.{Stretched, OwesAll, OwesAfter, events_in, cost_in};
+ghost use Rattle.ll_crew.specs.Runs.{SharesTo, RunsTo, RunsAlone, RunsOne, RunsAll, EndsTo, Reports};
+ghost use Rattle.ll_crew.specs.Pieces.{IsKeptOf, Stretched, OwesAll, OwesAfter, events_in, cost_in};
 ghost use Rattle.ll_crew.specs.Seats.{IsSeat, Calm};
 
-use crate::bell::Bell;
+use crate::job::Job;
 use crate::lead::{Told, look, tell};
 use ll_bank::OutOfMemory;
 use ll_core::{Look, PublishFault};
 use ll_engine::{Engine, Step2};
 use ll_freeze::Frozen;
-use ll_laws::{Batch, Event, Problem, Report};
+use ll_laws::{Batch, Event, Report};
 use ll_order::Outlet;
-use ll_pool::{Seat, SharedPool};
-use std::alloc::{AllocError, Global};
-use std::snapshot::Snapshot;
+use ll_pool::Seat;
+use std::alloc::AllocError;
 use std::sync::{Arc, Wait};
 
 /// So many steps an engine goes between two looks.
@@ -68,16 +70,13 @@ enum Shared<'p> {
 }
 
 // Publishes the oldest choice point of the engine, if it has one that is untried. A batch for which the pool has no place comes back.
-fn share_oldest<'p, R: Wait>(
-    rt: &R,
-    alloc: Global,
-    pool: &SharedPool<Frozen<'p>>,
-    bell: &Bell,
+fn share_oldest<'p, R: Wait, O>(
+    job: &Job<'_, 'p, R, O>,
     seat: &mut Seat<Frozen<'p>>,
     engine: &mut Engine<'p>,
     events: &Vec<Event>,
 ) -> Result<Shared<'p>, OutOfMemory>
-    requires seat { IsSeat pool.now engine.old.problem seat.old }
+    requires seat { IsSeat job.now.pool.now engine.old.problem seat.old }
     requires owes { OwesAll seat.old.mine.piece events.now.items engine.old [] }
     ensures calm { Calm seat.old seat.new }
     ensures owes { IfOk result (λ shared. SharesTo seat.new.mine.piece events.now.items engine.old engine.new shared) }
@@ -86,10 +85,10 @@ fn share_oldest<'p, R: Wait>(
         return Ok(Shared::Nothing);
     };
     let alternatives = batch.len();
-    let batch = Arc::new(alloc, batch)?;
-    match pool.publish(rt, seat, batch) {
+    let batch = Arc::new(job.alloc, batch)?;
+    match job.pool.publish(job.rt, seat, batch) {
         Ok(()) => {
-            bell.ring(rt, alternatives);
+            job.bell.ring(job.rt, alternatives);
             Ok(Shared::Published)
         }
         Err(PublishFault::Full { total: _, batch }) => Ok(Shared::Back(batch)),
@@ -99,23 +98,20 @@ fn share_oldest<'p, R: Wait>(
 
 /// Publishes the oldest choice point of the engine, if it has one that is untried, or all of them, the oldest first. A batch for which the
 /// pool has no place comes back, and the piece owes it still.
-fn share<'p, R: Wait>(
-    rt: &R,
-    alloc: Global,
-    pool: &SharedPool<Frozen<'p>>,
-    bell: &Bell,
+fn share<'p, R: Wait, O>(
+    job: &Job<'_, 'p, R, O>,
     seat: &mut Seat<Frozen<'p>>,
     engine: &mut Engine<'p>,
     events: &Vec<Event>,
     all: bool,
 ) -> Result<Option<Arc<Frozen<'p>>>, OutOfMemory>
-    requires seat { IsSeat pool.now engine.old.problem seat.old }
+    requires seat { IsSeat job.now.pool.now engine.old.problem seat.old }
     requires owes { OwesAll seat.old.mine.piece events.now.items engine.old [] }
     ensures calm { Calm seat.old seat.new }
     ensures owes { IfOk result (λ back. OwesAfter seat.new.mine.piece events.now.items engine.old engine.new back) }
 {
     'points: loop {
-        match share_oldest(rt, alloc, pool, bell, seat, engine, events)? {
+        match share_oldest(job, seat, engine, events)? {
             Shared::Nothing => return Ok(None),
             Shared::Published => {
                 if !all {
@@ -146,37 +142,34 @@ enum Ran<'p> {
 // Runs an engine, and publishes its oldest choice point where workers have nothing to do, or all of them after an answer that is to be
 // reported at once.
 fn run<'p, R: Wait, O: Outlet>(
-    rt: &R,
-    alloc: Global,
-    problem: &'p Problem,
-    pool: &SharedPool<Frozen<'p>>,
-    bell: &Bell,
-    start: &Snapshot<O>,
+    job: &Job<'_, 'p, R, O>,
     seat: &mut Seat<Frozen<'p>>,
     engine: &mut Engine<'p>,
     events: &mut Vec<Event>,
     told: &mut Told,
     out: &mut O,
 ) -> Result<Ran<'p>, OutOfMemory>
-    requires seat { IsSeat pool.now problem.now seat.old × (engine.old.problem ≡ problem.now) }
-    requires stands { Stands O.takes O.breaks O.welcome O.faults start.now.value problem.now seat.old out.old told.old }
+    requires seat { IsSeat job.now.pool.now job.now.problem.now seat.old × (engine.old.problem ≡ job.now.problem.now) }
+    requires stands { Stands O.takes O.breaks O.welcome O.faults job.now.start.now.value job.now.problem.now seat.old out.old told.old }
     requires owes { OwesAll seat.old.mine.piece events.old.items engine.old [] }
     ensures leads { told.new.leads ≡ told.old.leads }
-    ensures ran { IfOk result (λ ran. RunsTo (Stands O.takes O.breaks O.welcome O.faults start.now.value problem.now seat.new out.new told.new)
-        (Stopped O.takes O.breaks O.welcome O.faults start.now.value problem.now out.new told.new) told.old.leads problem.entry.now ran seat.old seat.new
-        events.new.items engine.new) }
-    ensures failed { OnErr result (Stays (Stands O.takes O.breaks O.welcome O.faults start.now.value problem.now seat.new out.new told.new) seat.old seat.new) }
+    ensures problem { OnOk result (engine.new.problem ≡ job.now.problem.now) }
+    ensures ran { IfOk result (λ ran. RunsTo (Stands O.takes O.breaks O.welcome O.faults job.now.start.now.value job.now.problem.now seat.new out.new told.new)
+        (Stopped O.takes O.breaks O.welcome O.faults job.now.start.now.value job.now.problem.now out.new told.new) told.old.leads job.now.problem.now ran
+        seat.old seat.new events.new.items engine.new) }
+    ensures failed { OnErr result (Stays (Stands O.takes O.breaks O.welcome O.faults job.now.start.now.value job.now.problem.now seat.new out.new told.new)
+        seat.old seat.new) }
 {
     'stretches: loop {
-        if stretch(engine, events, told.at_once)? {
+        if stretch(engine, events, job.reports_at_once())? {
             return Ok(Ran::Done);
         }
-        let Some(seen) = look(rt, problem, pool, start, seat, told, out) else {
+        let Some(seen) = look(job, seat, told, out) else {
             return Ok(Ran::Left);
         };
-        let answered = told.at_once && ends_with_answer(events);
-        if is_to_share(answered, seen, pool.workers()) {
-            if let Some(batch) = share(rt, alloc, pool, bell, seat, engine, events, answered)? {
+        let answered = job.reports_at_once() && ends_with_answer(events);
+        if is_to_share(answered, seen, job.pool.workers()) {
+            if let Some(batch) = share(job, seat, engine, events, answered)? {
                 return Ok(Ran::Back(batch));
             }
         }
@@ -185,167 +178,270 @@ fn run<'p, R: Wait, O: Outlet>(
 
 // Runs an engine to its end, and publishes nothing. False where the pool is starved or stopped.
 fn run_alone<'p, R: Wait, O: Outlet>(
-    rt: &R,
-    problem: &'p Problem,
-    pool: &SharedPool<Frozen<'p>>,
-    start: &Snapshot<O>,
+    job: &Job<'_, 'p, R, O>,
     seat: &mut Seat<Frozen<'p>>,
     engine: &mut Engine<'p>,
     events: &mut Vec<Event>,
     told: &mut Told,
     out: &mut O,
 ) -> Result<bool, OutOfMemory>
-    requires seat { IsSeat pool.now problem.now seat.old }
-    requires stands { Stands O.takes O.breaks O.welcome O.faults start.now.value problem.now seat.old out.old told.old }
+    requires seat { IsSeat job.now.pool.now job.now.problem.now seat.old }
+    requires stands { Stands O.takes O.breaks O.welcome O.faults job.now.start.now.value job.now.problem.now seat.old out.old told.old }
     ensures leads { told.new.leads ≡ told.old.leads }
+    ensures problem { OnOk result (engine.new.problem ≡ engine.old.problem) }
     ensures done { IfOk result (λ done. done ≡ true → RunsAlone
-        (Stands O.takes O.breaks O.welcome O.faults start.now.value problem.now seat.new out.new told.new) seat.old seat.new events.old.items engine.old
-        events.new.items engine.new) }
-    ensures left { IfOk result (λ done. done ≡ false → Leaves (Stopped O.takes O.breaks O.welcome O.faults start.now.value problem.now out.new told.new)
-        told.old.leads seat.old seat.new) }
-    ensures failed { OnErr result (Stays (Stands O.takes O.breaks O.welcome O.faults start.now.value problem.now seat.new out.new told.new) seat.old seat.new) }
+        (Stands O.takes O.breaks O.welcome O.faults job.now.start.now.value job.now.problem.now seat.new out.new told.new) seat.old seat.new events.old.items
+        engine.old events.new.items engine.new) }
+    ensures left { IfOk result (λ done. done ≡ false → Leaves
+        (Stopped O.takes O.breaks O.welcome O.faults job.now.start.now.value job.now.problem.now out.new told.new) told.old.leads seat.old seat.new) }
+    ensures failed { OnErr result (Stays (Stands O.takes O.breaks O.welcome O.faults job.now.start.now.value job.now.problem.now seat.new out.new told.new)
+        seat.old seat.new) }
 {
     'stretches: loop {
         if stretch(engine, events, false)? {
             return Ok(true);
         }
-        if look(rt, problem, pool, start, seat, told, out).is_none() {
+        if look(job, seat, told, out).is_none() {
             return Ok(false);
         }
     }
 }
 
+// An engine for an alternative of a batch: the one that the worker has kept goes on, if there is one.
+fn engine_for<'p, R, O>(
+    job: &Job<'_, 'p, R, O>,
+    kept: &mut Option<Engine<'p>>,
+    batch: Arc<Frozen<'p>>,
+    k: u32,
+) -> Result<Engine<'p>, OutOfMemory>
+    requires kept { IsKeptOf job.now.problem.now kept.old }
+    requires inside { k < length (alternatives_in (arc_value batch)) }
+    requires of { (arc_value batch).problem ≡ job.now.problem.now }
+    ensures problem { IfOk result (λ e. e.problem ≡ job.now.problem.now) }
+    ensures owes { IfOk result (λ e. (owes : Owed TheEvent) → slice_get (alternatives_in (arc_value batch.entry)) k ≡ Some owes
+        → Resumes job.now.problem.now owes e) }
+{
+    match kept.take() {
+        Some(engine) => engine.advance(batch, k),
+        None => Engine::resume_shared(job.alloc, job.problem, batch, k),
+    }
+}
+
+// Runs an alternative of a batch that came back to its end. Adds its events, and answers its inferences. None where the pool is starved or
+// stopped.
+fn run_one<'p, R: Wait, O: Outlet>(
+    job: &Job<'_, 'p, R, O>,
+    kept: &mut Option<Engine<'p>>,
+    seat: &mut Seat<Frozen<'p>>,
+    batch: Arc<Frozen<'p>>,
+    k: u32,
+    events: &mut Vec<Event>,
+    told: &mut Told,
+    out: &mut O,
+) -> Result<Option<u64>, OutOfMemory>
+    requires seat { IsSeat job.now.pool.now job.now.problem.now seat.old }
+    requires stands { Stands O.takes O.breaks O.welcome O.faults job.now.start.now.value job.now.problem.now seat.old out.old told.old }
+    requires kept { IsKeptOf job.now.problem.now kept.old }
+    requires inside { k < length (alternatives_in (arc_value batch)) }
+    requires of { (arc_value batch).problem ≡ job.now.problem.now }
+    ensures leads { told.new.leads ≡ told.old.leads }
+    ensures kept { OnOk result (IsKeptOf job.now.problem.now kept.new) }
+    ensures some { IfOk result (λ o. IfSome o (λ n. (owes : Owed TheEvent) → slice_get (alternatives_in (arc_value batch.entry)) k ≡ Some owes
+        → RunsOne (Stands O.takes O.breaks O.welcome O.faults job.now.start.now.value job.now.problem.now seat.new out.new told.new) seat.old seat.new
+        events.old.items owes events.new.items n)) }
+    ensures none { IfOk result (λ o. IfNone o (Leaves (Stopped O.takes O.breaks O.welcome O.faults job.now.start.now.value job.now.problem.now out.new told.new)
+        told.old.leads seat.old seat.new)) }
+    ensures failed { OnErr result (Stays (Stands O.takes O.breaks O.welcome O.faults job.now.start.now.value job.now.problem.now seat.new out.new told.new)
+        seat.old seat.new) }
+{
+    let mut engine = engine_for(job, kept, batch, k)?;
+    let done = run_alone(job, seat, &mut engine, events, told, out);
+    let inferences = engine.cost();
+    *kept = Some(engine);
+    if done? {
+        return Ok(Some(inferences));
+    }
+    Ok(None)
+}
+
 // Runs each alternative of a batch to its end. Adds its events, and its inferences to those that there are, cut at the greatest `u64`.
 // None where the pool is starved or stopped.
 fn run_batch<'p, R: Wait, O: Outlet>(
-    rt: &R,
-    alloc: Global,
-    problem: &'p Problem,
-    pool: &SharedPool<Frozen<'p>>,
-    start: &Snapshot<O>,
+    job: &Job<'_, 'p, R, O>,
+    kept: &mut Option<Engine<'p>>,
     seat: &mut Seat<Frozen<'p>>,
-    batch: &Frozen<'p>,
+    batch: &Arc<Frozen<'p>>,
     events: &mut Vec<Event>,
     mut inferences: u64,
     told: &mut Told,
     out: &mut O,
 ) -> Result<Option<u64>, OutOfMemory>
-    requires seat { IsSeat pool.now problem.now seat.old }
-    requires stands { Stands O.takes O.breaks O.welcome O.faults start.now.value problem.now seat.old out.old told.old }
-    requires of { batch.now.problem ≡ problem.now }
+    requires seat { IsSeat job.now.pool.now job.now.problem.now seat.old }
+    requires stands { Stands O.takes O.breaks O.welcome O.faults job.now.start.now.value job.now.problem.now seat.old out.old told.old }
+    requires kept { IsKeptOf job.now.problem.now kept.old }
+    requires of { (arc_value batch.now).problem ≡ job.now.problem.now }
     ensures leads { told.new.leads ≡ told.old.leads }
-    ensures some { IfOk result (λ o. IfSome o (λ n. RunsAll (Stands O.takes O.breaks O.welcome O.faults start.now.value problem.now seat.new out.new told.new)
-        seat.old seat.new events.old.items (events_in (alternatives_in batch.now)) (inferences + cost_in (alternatives_in batch.now)) events.new.items n)) }
-    ensures none { IfOk result (λ o. IfNone o (Leaves (Stopped O.takes O.breaks O.welcome O.faults start.now.value problem.now out.new told.new) told.old.leads
-        seat.old seat.new)) }
-    ensures failed { OnErr result (Stays (Stands O.takes O.breaks O.welcome O.faults start.now.value problem.now seat.new out.new told.new) seat.old seat.new) }
+    ensures kept { OnOk result (IsKeptOf job.now.problem.now kept.new) }
+    ensures some { IfOk result
+        (λ o. IfSome o (λ n. RunsAll (Stands O.takes O.breaks O.welcome O.faults job.now.start.now.value job.now.problem.now seat.new out.new told.new) seat.old
+        seat.new events.old.items (events_in (alternatives_in (arc_value batch.now))) (inferences + cost_in (alternatives_in (arc_value batch.now)))
+        events.new.items n)) }
+    ensures none { IfOk result (λ o. IfNone o (Leaves (Stopped O.takes O.breaks O.welcome O.faults job.now.start.now.value job.now.problem.now out.new told.new)
+        told.old.leads seat.old seat.new)) }
+    ensures failed { OnErr result (Stays (Stands O.takes O.breaks O.welcome O.faults job.now.start.now.value job.now.problem.now seat.new out.new told.new)
+        seat.old seat.new) }
 {
     for k in 0..batch.len() {
-        let mut engine = Engine::resume(alloc, problem, batch, k)?;
-        if !run_alone(
-            rt,
-            problem,
-            pool,
-            start,
-            seat,
-            &mut engine,
-            events,
-            told,
-            out,
-        )? {
+        let shared = Arc::try_clone(batch)?;
+        let Some(more) = run_one(job, kept, seat, shared, k, events, told, out)? else {
             return Ok(None);
-        }
-        inferences = inferences.saturating_add(engine.cost());
+        };
+        inferences = inferences.saturating_add(more);
     }
     Ok(Some(inferences))
 }
 
-// Runs the engine of a piece to its end, and then what the piece owes beside it. The events are then those that the piece owes, and the
-// answer is its inferences. None where the pool is starved or stopped.
-fn run_whole<'p, R: Wait, O: Outlet>(
-    rt: &R,
-    alloc: Global,
-    problem: &'p Problem,
-    pool: &SharedPool<Frozen<'p>>,
-    bell: &Bell,
-    start: &Snapshot<O>,
+/// How the engine of a piece came to its end.
+#[derive(Drop)]
+enum Ending<'p> {
+    /// The piece owes nothing more. So many inferences were made.
+    Whole(u64),
+    /// The piece owes this batch still, which came back.
+    Partly(u64, Arc<Frozen<'p>>),
+    /// The pool is starved or stopped.
+    Left,
+}
+
+// Runs the engine of a piece to its end.
+fn run_to_end<'p, R: Wait, O: Outlet>(
+    job: &Job<'_, 'p, R, O>,
     seat: &mut Seat<Frozen<'p>>,
     engine: &mut Engine<'p>,
     events: &mut Vec<Event>,
     told: &mut Told,
     out: &mut O,
-) -> Result<Option<u64>, OutOfMemory>
-    requires seat { IsSeat pool.now problem.now seat.old × (engine.old.problem ≡ problem.now) }
-    requires stands { Stands O.takes O.breaks O.welcome O.faults start.now.value problem.now seat.old out.old told.old }
+) -> Result<Ending<'p>, OutOfMemory>
+    requires seat { IsSeat job.now.pool.now job.now.problem.now seat.old × (engine.old.problem ≡ job.now.problem.now) }
+    requires stands { Stands O.takes O.breaks O.welcome O.faults job.now.start.now.value job.now.problem.now seat.old out.old told.old }
     requires owes { OwesAll seat.old.mine.piece events.old.items engine.old [] }
     ensures leads { told.new.leads ≡ told.old.leads }
-    ensures some { IfOk result (λ o. IfSome o (λ n. Reports (Stands O.takes O.breaks O.welcome O.faults start.now.value problem.now seat.new out.new told.new)
-        seat.old seat.new events.new.items n)) }
-    ensures none { IfOk result (λ o. IfNone o (Leaves (Stopped O.takes O.breaks O.welcome O.faults start.now.value problem.now out.new told.new) told.old.leads
-        seat.old seat.new)) }
-    ensures failed { OnErr result (Stays (Stands O.takes O.breaks O.welcome O.faults start.now.value problem.now seat.new out.new told.new) seat.old seat.new) }
+    ensures problem { OnOk result (engine.new.problem ≡ job.now.problem.now) }
+    ensures ends { IfOk result (λ ending. EndsTo (Stands O.takes O.breaks O.welcome O.faults job.now.start.now.value job.now.problem.now seat.new out.new
+        told.new) (Stopped O.takes O.breaks O.welcome O.faults job.now.start.now.value job.now.problem.now out.new told.new) told.old.leads job.now.problem.now
+        ending seat.old seat.new events.new.items) }
+    ensures failed { OnErr result (Stays (Stands O.takes O.breaks O.welcome O.faults job.now.start.now.value job.now.problem.now seat.new out.new told.new)
+        seat.old seat.new) }
 {
-    match run(
-        rt, alloc, problem, pool, bell, start, seat, engine, events, told, out,
-    )? {
-        Ran::Done => Ok(Some(engine.cost())),
-        Ran::Left => Ok(None),
+    match run(job, seat, engine, events, told, out)? {
+        Ran::Done => Ok(Ending::Whole(engine.cost())),
+        Ran::Left => Ok(Ending::Left),
         Ran::Back(batch) => {
-            if !run_alone(rt, problem, pool, start, seat, engine, events, told, out)? {
-                return Ok(None);
+            if run_alone(job, seat, engine, events, told, out)? {
+                return Ok(Ending::Partly(engine.cost(), batch));
             }
-            let inferences = engine.cost();
-            run_batch(
-                rt, alloc, problem, pool, start, seat, &batch, events, inferences, told, out,
-            )
+            Ok(Ending::Left)
+        }
+    }
+}
+
+// Runs the alternative of a piece to the end of its engine, which is kept.
+fn run_claimed<'p, R: Wait, O: Outlet>(
+    job: &Job<'_, 'p, R, O>,
+    kept: &mut Option<Engine<'p>>,
+    seat: &mut Seat<Frozen<'p>>,
+    batch: Arc<Frozen<'p>>,
+    k: u32,
+    events: &mut Vec<Event>,
+    told: &mut Told,
+    out: &mut O,
+) -> Result<Ending<'p>, OutOfMemory>
+    requires seat { IsSeat job.now.pool.now job.now.problem.now seat.old }
+    requires stands { Stands O.takes O.breaks O.welcome O.faults job.now.start.now.value job.now.problem.now seat.old out.old told.old }
+    requires kept { IsKeptOf job.now.problem.now kept.old }
+    requires owes { IsSomeAnd seat.old.mine.piece (λ piece. slice_get (alternatives_in (arc_value batch)) k ≡ Some piece.owes) }
+    requires of { (arc_value batch).problem ≡ job.now.problem.now }
+    requires none { events.old.items ≡ [] }
+    ensures leads { told.new.leads ≡ told.old.leads }
+    ensures kept { OnOk result (IsKeptOf job.now.problem.now kept.new) }
+    ensures ends { IfOk result (λ ending. EndsTo (Stands O.takes O.breaks O.welcome O.faults job.now.start.now.value job.now.problem.now seat.new out.new
+        told.new) (Stopped O.takes O.breaks O.welcome O.faults job.now.start.now.value job.now.problem.now out.new told.new) told.old.leads job.now.problem.now
+        ending seat.old seat.new events.new.items) }
+    ensures failed { OnErr result (Stays (Stands O.takes O.breaks O.welcome O.faults job.now.start.now.value job.now.problem.now seat.new out.new told.new)
+        seat.old seat.new) }
+{
+    let mut engine = engine_for(job, kept, batch, k)?;
+    let ending = run_to_end(job, seat, &mut engine, events, told, out);
+    *kept = Some(engine);
+    ending
+}
+
+// Runs a piece to its end, with what it owes beside its engine. The events are then those that the piece owes, and the answer is its
+// inferences. None where the pool is starved or stopped.
+fn run_piece<'p, R: Wait, O: Outlet>(
+    job: &Job<'_, 'p, R, O>,
+    kept: &mut Option<Engine<'p>>,
+    seat: &mut Seat<Frozen<'p>>,
+    batch: Arc<Frozen<'p>>,
+    k: u32,
+    events: &mut Vec<Event>,
+    told: &mut Told,
+    out: &mut O,
+) -> Result<Option<u64>, OutOfMemory>
+    requires seat { IsSeat job.now.pool.now job.now.problem.now seat.old }
+    requires stands { Stands O.takes O.breaks O.welcome O.faults job.now.start.now.value job.now.problem.now seat.old out.old told.old }
+    requires kept { IsKeptOf job.now.problem.now kept.old }
+    requires owes { IsSomeAnd seat.old.mine.piece (λ piece. slice_get (alternatives_in (arc_value batch)) k ≡ Some piece.owes) }
+    requires of { (arc_value batch).problem ≡ job.now.problem.now }
+    requires none { events.old.items ≡ [] }
+    ensures leads { told.new.leads ≡ told.old.leads }
+    ensures kept { OnOk result (IsKeptOf job.now.problem.now kept.new) }
+    ensures some { IfOk result
+        (λ o. IfSome o (λ n. Reports (Stands O.takes O.breaks O.welcome O.faults job.now.start.now.value job.now.problem.now seat.new out.new told.new) seat.old
+        seat.new events.new.items n)) }
+    ensures none { IfOk result (λ o. IfNone o (Leaves (Stopped O.takes O.breaks O.welcome O.faults job.now.start.now.value job.now.problem.now out.new told.new)
+        told.old.leads seat.old seat.new)) }
+    ensures failed { OnErr result (Stays (Stands O.takes O.breaks O.welcome O.faults job.now.start.now.value job.now.problem.now seat.new out.new told.new)
+        seat.old seat.new) }
+{
+    match run_claimed(job, kept, seat, batch, k, events, told, out)? {
+        Ending::Whole(inferences) => Ok(Some(inferences)),
+        Ending::Left => Ok(None),
+        Ending::Partly(inferences, back) => {
+            run_batch(job, kept, seat, &back, events, inferences, told, out)
         }
     }
 }
 
 /// Works an alternative that was claimed, and reports. False where the pool is starved or stopped.
 pub(crate) fn work_piece<'p, R: Wait, O: Outlet>(
-    rt: &R,
-    alloc: Global,
-    problem: &'p Problem,
-    pool: &SharedPool<Frozen<'p>>,
-    bell: &Bell,
-    start: &Snapshot<O>,
+    job: &Job<'_, 'p, R, O>,
+    kept: &mut Option<Engine<'p>>,
     seat: &mut Seat<Frozen<'p>>,
-    batch: &Frozen<'p>,
+    batch: Arc<Frozen<'p>>,
     k: u32,
     told: &mut Told,
     out: &mut O,
 ) -> Result<bool, OutOfMemory>
-    requires seat { IsSeat pool.now problem.now seat.old }
-    requires stands { Stands O.takes O.breaks O.welcome O.faults start.now.value problem.now seat.old out.old told.old }
-    requires owes { IsSomeAnd seat.old.mine.piece (λ piece. slice_get (alternatives_in batch.now) k ≡ Some piece.owes) }
-    requires of { batch.now.problem ≡ problem.now }
+    requires seat { IsSeat job.now.pool.now job.now.problem.now seat.old }
+    requires stands { Stands O.takes O.breaks O.welcome O.faults job.now.start.now.value job.now.problem.now seat.old out.old told.old }
+    requires kept { IsKeptOf job.now.problem.now kept.old }
+    requires owes { IsSomeAnd seat.old.mine.piece (λ piece. slice_get (alternatives_in (arc_value batch)) k ≡ Some piece.owes) }
+    requires of { (arc_value batch).problem ≡ job.now.problem.now }
     ensures leads { told.new.leads ≡ told.old.leads }
-    ensures done { IfOk result (λ done. done ≡ true → Stays (Stands O.takes O.breaks O.welcome O.faults start.now.value problem.now seat.new out.new told.new)
-        seat.old seat.new × (seat.new.mine.piece ≡ None)) }
-    ensures left { IfOk result (λ done. done ≡ false → Leaves (Stopped O.takes O.breaks O.welcome O.faults start.now.value problem.now out.new told.new)
-        told.old.leads seat.old seat.new) }
-    ensures failed { OnErr result (Stays (Stands O.takes O.breaks O.welcome O.faults start.now.value problem.now seat.new out.new told.new) seat.old seat.new) }
+    ensures kept { OnOk result (IsKeptOf job.now.problem.now kept.new) }
+    ensures done { IfOk result (λ done. done ≡ true
+        → Stays (Stands O.takes O.breaks O.welcome O.faults job.now.start.now.value job.now.problem.now seat.new out.new told.new) seat.old seat.new
+        × (seat.new.mine.piece ≡ None)) }
+    ensures left { IfOk result (λ done. done ≡ false → Leaves
+        (Stopped O.takes O.breaks O.welcome O.faults job.now.start.now.value job.now.problem.now out.new told.new) told.old.leads seat.old seat.new) }
+    ensures failed { OnErr result (Stays (Stands O.takes O.breaks O.welcome O.faults job.now.start.now.value job.now.problem.now seat.new out.new told.new)
+        seat.old seat.new) }
 {
-    let mut engine = Engine::resume(alloc, problem, batch, k)?;
-    let mut events = Vec::new(alloc);
-    let Some(inferences) = run_whole(
-        rt,
-        alloc,
-        problem,
-        pool,
-        bell,
-        start,
-        seat,
-        &mut engine,
-        &mut events,
-        told,
-        out,
-    )?
-    else {
+    let mut events = Vec::new(job.alloc);
+    let Some(inferences) = run_piece(job, kept, seat, batch, k, &mut events, told, out)? else {
         return Ok(false);
     };
-    pool.report(rt, seat, Report { events, inferences });
-    bell.ring(rt, 0);
-    Ok(tell(rt, problem, pool, start, seat, told, out))
+    job.pool.report(job.rt, seat, Report { events, inferences });
+    job.bell.ring(job.rt, 0);
+    Ok(tell(job, seat, told, out))
 }

@@ -18,6 +18,7 @@ ghost use Rattle.ll_crew.specs.Turns.{CanWork};
 use crate::alone::search_alone;
 use crate::bell::Bell;
 use crate::crowd::work_together;
+use crate::job::{Job, Sharing};
 use crate::lead::Told;
 use ll_bank::OutOfMemory;
 use ll_core::Pool;
@@ -134,7 +135,7 @@ fn search<'p, R: Threads + Wait + Sync, G: Gate, O: Outlet>(
     problem: &'p Problem,
     pool: SharedPool<Frozen<'p>>,
     gate: &G,
-    at_once: bool,
+    sharing: Sharing,
     mut first: Seat<Frozen<'p>>,
     others: Vec<Seat<Frozen<'p>>>,
     out: &mut O,
@@ -150,15 +151,22 @@ fn search<'p, R: Threads + Wait + Sync, G: Gate, O: Outlet>(
     ensures kept { Kept O.takes O.breaks O.welcome O.faults out.old out.new }
 {
     let start = Snapshot::of(&*out);
-    let mut told = Told::new(true, at_once);
+    let mut told = Told::new(true);
     let bell = if others.is_empty() {
         Bell::silent()
     } else {
         Bell::new()
     };
-    let (others, done) = work_together(
-        rt, alloc, problem, &pool, &bell, gate, &start, &mut first, &mut told, out, others,
-    );
+    let job = Job {
+        rt,
+        alloc,
+        problem,
+        pool: &pool,
+        bell: &bell,
+        sharing,
+        start: &start,
+    };
+    let (others, done) = work_together(&job, gate, &mut first, &mut told, out, others);
     gather(problem, &pool, &mut first, others);
     let closed = pool.close(first);
     if let Ok(finished) = done {
@@ -199,7 +207,16 @@ pub fn crew<'p, R: Threads + Wait + Sync, G: Gate, O: Outlet>(
     let Ok(index) = index_of(alloc, problem) else {
         return Err(CrewFault::OutOfMemory);
     };
-    crew_by(rt, alloc, problem, index, workers, gate, false, out)
+    crew_by(
+        rt,
+        alloc,
+        problem,
+        index,
+        workers,
+        gate,
+        Sharing::WhereIdle,
+        out,
+    )
 }
 
 /// The same crew, with an index of the problem's clauses that was made before: problems of the same clauses may share it.
@@ -226,7 +243,16 @@ pub fn crew_with<'p, R: Threads + Wait + Sync, G: Gate, O: Outlet>(
     let Ok(index) = Arc::try_clone(index) else {
         return Err(CrewFault::OutOfMemory);
     };
-    crew_by(rt, alloc, problem, index, workers, gate, false, out)
+    crew_by(
+        rt,
+        alloc,
+        problem,
+        index,
+        workers,
+        gate,
+        Sharing::WhereIdle,
+        out,
+    )
 }
 
 // An index of the problem's clauses, to be shared.
@@ -237,8 +263,7 @@ pub(crate) fn index_of(alloc: Global, problem: &Problem) -> Result<Arc<Index>, O
     Ok(Arc::new(alloc, index)?)
 }
 
-// The same, with an index of the problem's clauses. Where an answer is to be given at once, a worker that has found one leaves the rest of its piece to
-// others, and reports.
+// The same, with an index of the problem's clauses, where workers share their choice points in some way.
 pub(crate) fn crew_by<'p, R: Threads + Wait + Sync, G: Gate, O: Outlet>(
     rt: &R,
     alloc: Global,
@@ -246,7 +271,7 @@ pub(crate) fn crew_by<'p, R: Threads + Wait + Sync, G: Gate, O: Outlet>(
     index: Arc<Index>,
     workers: u32,
     gate: &G,
-    at_once: bool,
+    sharing: Sharing,
     out: &mut O,
 ) -> Result<Counts, CrewFault>
     requires workers { (0 < workers) × (workers ≤ 64) }
@@ -276,5 +301,5 @@ pub(crate) fn crew_by<'p, R: Threads + Wait + Sync, G: Gate, O: Outlet>(
     let Ok(others) = seats(alloc, problem, &pool, &mut first) else {
         return Err(CrewFault::OutOfMemory);
     };
-    search(rt, alloc, problem, pool, gate, at_once, first, others, out)
+    search(rt, alloc, problem, pool, gate, sharing, first, others, out)
 }

@@ -3,14 +3,17 @@ ghost use Rattle.std.specs.Prelude.{◌≡◌, ◌⊎◌, None, IfOk, OnOk, OnEr
 ghost use Rattle.ll_crew.specs.Seats.{IsSeat, Same, HasLeft, IsOver};
 ghost use Rattle.ll_crew.specs.Leading.{Stands, Stopped};
 ghost use Rattle.ll_crew.specs.Turns.{Stays, Ended, Leaves, Fails, CanWork};
+ghost use Rattle.ll_crew.specs.Pieces.{IsKeptOf};
 ghost use Rattle.ll_crew.specs.Runs.{WentTo};
 
 use crate::bell::Bell;
+use crate::job::{Job, Sharing};
 use crate::lead::{Mute, Told, tell};
 use crate::piece::work_piece;
 use ll_bank::OutOfMemory;
 use ll_core::Claimed;
 use ll_edge::Gate;
+use ll_engine::Engine;
 use ll_freeze::Frozen;
 use ll_laws::Problem;
 use ll_order::Outlet;
@@ -37,34 +40,32 @@ enum Went {
 
 // Claims an alternative and works it, if there is one. Where there is none a worker that leads gives the outlet what is ready.
 fn claim_one<'p, R: Wait, O: Outlet>(
-    rt: &R,
-    alloc: Global,
-    problem: &'p Problem,
-    pool: &SharedPool<Frozen<'p>>,
-    bell: &Bell,
-    start: &Snapshot<O>,
+    job: &Job<'_, 'p, R, O>,
+    kept: &mut Option<Engine<'p>>,
     seat: &mut Seat<Frozen<'p>>,
     told: &mut Told,
     out: &mut O,
 ) -> Result<Went, OutOfMemory>
-    requires seat { CanWork pool.now problem.now seat.old }
-    requires stands { Stands O.takes O.breaks O.welcome O.faults start.now.value problem.now seat.old out.old told.old }
+    requires seat { CanWork job.now.pool.now job.now.problem.now seat.old }
+    requires stands { Stands O.takes O.breaks O.welcome O.faults job.now.start.now.value job.now.problem.now seat.old out.old told.old }
+    requires kept { IsKeptOf job.now.problem.now kept.old }
     ensures leads { told.new.leads ≡ told.old.leads }
-    ensures went { IfOk result (λ went. WentTo (Stands O.takes O.breaks O.welcome O.faults start.now.value problem.now seat.new out.new told.new)
-        (Stopped O.takes O.breaks O.welcome O.faults start.now.value problem.now out.new told.new) told.old.leads problem.entry.now went seat.old seat.new) }
-    ensures failed { OnErr result (Stays (Stands O.takes O.breaks O.welcome O.faults start.now.value problem.now seat.new out.new told.new) seat.old seat.new) }
+    ensures kept { OnOk result (IsKeptOf job.now.problem.now kept.new) }
+    ensures went { IfOk result (λ went. WentTo (Stands O.takes O.breaks O.welcome O.faults job.now.start.now.value job.now.problem.now seat.new out.new
+        told.new) (Stopped O.takes O.breaks O.welcome O.faults job.now.start.now.value job.now.problem.now out.new told.new) told.old.leads job.now.problem.now
+        went seat.old seat.new) }
+    ensures failed { OnErr result (Stays (Stands O.takes O.breaks O.welcome O.faults job.now.start.now.value job.now.problem.now seat.new out.new told.new)
+        seat.old seat.new) }
 {
-    match pool.claim(rt, seat) {
+    match job.pool.claim(job.rt, seat) {
         Claimed::Work { piece: _, batch, k } => {
-            if work_piece(
-                rt, alloc, problem, pool, bell, start, seat, &batch, k, told, out,
-            )? {
+            if work_piece(job, kept, seat, batch, k, told, out)? {
                 return Ok(Went::Worked);
             }
             Ok(Went::Left)
         }
         Claimed::Idle { busy: _ } => {
-            if tell(rt, problem, pool, start, seat, told, out) {
+            if tell(job, seat, told, out) {
                 return Ok(Went::Idle);
             }
             Ok(Went::Left)
@@ -75,34 +76,34 @@ fn claim_one<'p, R: Wait, O: Outlet>(
     }
 }
 
-// Claims and works until nothing is untried or open, which is answered by true, or until the pool is starved or stopped.
-fn work_on<'p, R: Wait, G: Gate, O: Outlet>(
-    rt: &R,
-    alloc: Global,
-    problem: &'p Problem,
-    pool: &SharedPool<Frozen<'p>>,
-    bell: &Bell,
+// Claims and works until nothing is untried or open, which is answered by true, or until the pool is starved or stopped. The engine of one
+// claim is kept for the next.
+fn work_with<'p, R: Wait, G: Gate, O: Outlet>(
+    job: &Job<'_, 'p, R, O>,
     gate: &G,
-    start: &Snapshot<O>,
+    kept: &mut Option<Engine<'p>>,
     seat: &mut Seat<Frozen<'p>>,
     told: &mut Told,
     out: &mut O,
 ) -> Result<bool, OutOfMemory>
-    requires seat { CanWork pool.now problem.now seat.old }
-    requires stands { Stands O.takes O.breaks O.welcome O.faults start.now.value problem.now seat.old out.old told.old }
+    requires seat { CanWork job.now.pool.now job.now.problem.now seat.old }
+    requires stands { Stands O.takes O.breaks O.welcome O.faults job.now.start.now.value job.now.problem.now seat.old out.old told.old }
+    requires kept { IsKeptOf job.now.problem.now kept.old }
     ensures leads { told.new.leads ≡ told.old.leads }
-    ensures done { IfOk result (λ done. done ≡ true → Ended (Stands O.takes O.breaks O.welcome O.faults start.now.value problem.now seat.new out.new told.new)
-        problem.now seat.old seat.new) }
-    ensures left { IfOk result (λ done. done ≡ false → Leaves (Stopped O.takes O.breaks O.welcome O.faults start.now.value problem.now out.new told.new)
-        told.old.leads seat.old seat.new) }
-    ensures failed { OnErr result (Stays (Stands O.takes O.breaks O.welcome O.faults start.now.value problem.now seat.new out.new told.new) seat.old seat.new) }
+    ensures done { IfOk result (λ done. done ≡ true
+        → Ended (Stands O.takes O.breaks O.welcome O.faults job.now.start.now.value job.now.problem.now seat.new out.new told.new) job.now.problem.now seat.old
+        seat.new) }
+    ensures left { IfOk result (λ done. done ≡ false → Leaves
+        (Stopped O.takes O.breaks O.welcome O.faults job.now.start.now.value job.now.problem.now out.new told.new) told.old.leads seat.old seat.new) }
+    ensures failed { OnErr result (Stays (Stands O.takes O.breaks O.welcome O.faults job.now.start.now.value job.now.problem.now seat.new out.new told.new)
+        seat.old seat.new) }
 {
     let mut claims = 0u64;
     let mut misses = 0u32;
-    'claims: for _ in rt.forever() {
+    'claims: for _ in job.rt.forever() {
         gate.pause(seat.worker(), claims);
-        let heard = bell.heard(rt);
-        match claim_one(rt, alloc, problem, pool, bell, start, seat, told, out)? {
+        let heard = job.bell.heard(job.rt);
+        match claim_one(job, kept, seat, told, out)? {
             Went::Worked => {
                 claims = claims.saturating_add(1);
                 misses = 0;
@@ -111,7 +112,7 @@ fn work_on<'p, R: Wait, G: Gate, O: Outlet>(
                 if misses < YIELDS {
                     thread::yield_now();
                 } else {
-                    bell.wait(rt, told.leads, heard);
+                    job.bell.wait(job.rt, told.leads, heard);
                 }
                 misses = misses.saturating_add(1);
             }
@@ -122,37 +123,57 @@ fn work_on<'p, R: Wait, G: Gate, O: Outlet>(
     unreachable!()
 }
 
-/// Claims and works until nothing is untried or open, which is answered by true, or until the pool is starved or stopped. A worker that
-/// leads gives the outlet what is ready. On want of memory it starves the pool. In each case the other workers are woken.
-pub(crate) fn work_as<'p, R: Wait, G: Gate, O: Outlet>(
-    rt: &R,
-    alloc: Global,
-    problem: &'p Problem,
-    pool: &SharedPool<Frozen<'p>>,
-    bell: &Bell,
+// The same with no engine at first.
+fn work_on<'p, R: Wait, G: Gate, O: Outlet>(
+    job: &Job<'_, 'p, R, O>,
     gate: &G,
-    start: &Snapshot<O>,
     seat: &mut Seat<Frozen<'p>>,
     told: &mut Told,
     out: &mut O,
 ) -> Result<bool, OutOfMemory>
-    requires seat { CanWork pool.now problem.now seat.old }
-    requires stands { Stands O.takes O.breaks O.welcome O.faults start.now.value problem.now seat.old out.old told.old }
+    requires seat { CanWork job.now.pool.now job.now.problem.now seat.old }
+    requires stands { Stands O.takes O.breaks O.welcome O.faults job.now.start.now.value job.now.problem.now seat.old out.old told.old }
     ensures leads { told.new.leads ≡ told.old.leads }
-    ensures done { IfOk result (λ done. done ≡ true → Ended (Stands O.takes O.breaks O.welcome O.faults start.now.value problem.now seat.new out.new told.new)
-        problem.now seat.old seat.new) }
-    ensures left { IfOk result (λ done. done ≡ false → Leaves (Stopped O.takes O.breaks O.welcome O.faults start.now.value problem.now out.new told.new)
-        told.old.leads seat.old seat.new) }
-    ensures failed { OnErr result (Fails (Stopped O.takes O.breaks O.welcome O.faults start.now.value problem.now out.new told.new) seat.old seat.new) }
+    ensures done { IfOk result (λ done. done ≡ true
+        → Ended (Stands O.takes O.breaks O.welcome O.faults job.now.start.now.value job.now.problem.now seat.new out.new told.new) job.now.problem.now seat.old
+        seat.new) }
+    ensures left { IfOk result (λ done. done ≡ false → Leaves
+        (Stopped O.takes O.breaks O.welcome O.faults job.now.start.now.value job.now.problem.now out.new told.new) told.old.leads seat.old seat.new) }
+    ensures failed { OnErr result (Stays (Stands O.takes O.breaks O.welcome O.faults job.now.start.now.value job.now.problem.now seat.new out.new told.new)
+        seat.old seat.new) }
 {
-    match work_on(rt, alloc, problem, pool, bell, gate, start, seat, told, out) {
+    let mut kept = None;
+    work_with(job, gate, &mut kept, seat, told, out)
+}
+
+/// Claims and works until nothing is untried or open, which is answered by true, or until the pool is starved or stopped. A worker that
+/// leads gives the outlet what is ready. On want of memory it starves the pool. In each case the other workers are woken.
+pub(crate) fn work_as<'p, R: Wait, G: Gate, O: Outlet>(
+    job: &Job<'_, 'p, R, O>,
+    gate: &G,
+    seat: &mut Seat<Frozen<'p>>,
+    told: &mut Told,
+    out: &mut O,
+) -> Result<bool, OutOfMemory>
+    requires seat { CanWork job.now.pool.now job.now.problem.now seat.old }
+    requires stands { Stands O.takes O.breaks O.welcome O.faults job.now.start.now.value job.now.problem.now seat.old out.old told.old }
+    ensures leads { told.new.leads ≡ told.old.leads }
+    ensures done { IfOk result (λ done. done ≡ true
+        → Ended (Stands O.takes O.breaks O.welcome O.faults job.now.start.now.value job.now.problem.now seat.new out.new told.new) job.now.problem.now seat.old
+        seat.new) }
+    ensures left { IfOk result (λ done. done ≡ false → Leaves
+        (Stopped O.takes O.breaks O.welcome O.faults job.now.start.now.value job.now.problem.now out.new told.new) told.old.leads seat.old seat.new) }
+    ensures failed { OnErr result (Fails (Stopped O.takes O.breaks O.welcome O.faults job.now.start.now.value job.now.problem.now out.new told.new) seat.old
+        seat.new) }
+{
+    match work_on(job, gate, seat, told, out) {
         Ok(done) => {
-            bell.ring_all(rt);
+            job.bell.ring_all(job.rt);
             Ok(done)
         }
         Err(refused) => {
-            pool.starve(rt, seat);
-            bell.ring_all(rt);
+            job.pool.starve(job.rt, seat);
+            job.bell.ring_all(job.rt);
             Err(refused)
         }
     }
@@ -180,10 +201,17 @@ pub fn work<'p, R: Wait, G: Gate>(
 {
     let mut mute = Mute;
     let start = Snapshot::of(&mute);
-    let mut told = Told::new(false, false);
+    let mut told = Told::new(false);
     let bell = Bell::silent();
-    work_as(
-        rt, alloc, problem, pool, &bell, gate, &start, seat, &mut told, &mut mute,
-    )?;
+    let job = Job {
+        rt,
+        alloc,
+        problem,
+        pool,
+        bell: &bell,
+        sharing: Sharing::WhereIdle,
+        start: &start,
+    };
+    work_as(&job, gate, seat, &mut told, &mut mute)?;
     Ok(())
 }

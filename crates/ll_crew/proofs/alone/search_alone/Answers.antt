@@ -1,21 +1,10 @@
-use Rattle.ll_crew.proofs.AloneLemmas.{alone_starts, alone_goes_on, alone_breaks}
+use Rattle.std.proofs.Common.{ap, subst, OnErr}
+use Rattle.ll_laws.specs.Problem.{problem_events}
+use Rattle.ll_engine.specs.Seen.{Owing}
+use Rattle.ll_crew.specs.Crews.{GivesPrefix}
 use Rattle.ll_crew.proofs.alone.search_alone.Goals as goal
 
-pub events-init : goal.events-init
-events-init g c =
-    alone_starts g.O.Outlet.takes g.O.Outlet.breaks g.O.Outlet.welcome g.O.Outlet.faults c.args.out.now c.args.problem.now c.in-Ok.engine c.in-Ok.ensures
-    c.requires.welcome
-
-pub events-preserved : goal.events-preserved
-events-preserved g c =
-    let v = c.in-Ok-give_one.ensures in
-    alone_goes_on g.O.Outlet.takes g.O.Outlet.breaks g.O.Outlet.welcome g.O.Outlet.faults c.args.out.now c.args.problem.now c.events.engine c.step.new.self
-    c.events.out c.events.counts
-    c.events.invariant c.in-Event.event (rw c.in-Event.is at c.in-Ok-step.ensures.step) c.give_one.new.out c.in-Ok-give_one.more v.given v.answers v.reached
-    v.kept
-
-pub returns-in-Err-clause-refused : goal.returns-in-Err-clause-refused
-returns-in-Err-clause-refused g c =
-    alone_breaks g.O.Outlet.takes g.O.Outlet.breaks g.O.Outlet.welcome g.O.Outlet.faults c.args.out.now c.args.problem.now c.events.engine c.step.new.self
-    c.events.out c.events.counts
-    c.events.invariant c.in-Event.event (rw c.in-Event.is at c.in-Ok-step.ensures.step) c.give_one.new.out c.in-Err.ensures.refused
+pub returns-clause-refused : goal.returns-clause-refused
+returns-clause-refused g c =
+    subst (λ p. OnErr c.give_each.result (GivesPrefix g.O.Outlet.takes g.O.Outlet.breaks c.args.out.now (problem_events p) c.give_each.new.out))
+    (ap (λ (e : Owing). e.problem) c.in-Ok.ensures) c.give_each.ensures.refused

@@ -10,8 +10,8 @@ returns-in_default g c =
     let i = c.loop.invariant in
     record {
       leads = i.0;
-      on = λ e. goes_calm g.O.Outlet.takes g.O.Outlet.breaks g.O.Outlet.welcome g.O.Outlet.faults c.args.start.now.value c.args.problem.now c.args.seat.now
-          c.loop.seat c.ready.new.seat c.loop.out c.loop.told c.requires.seat.problem i.1
+      on = λ e. goes_calm g.O.Outlet.takes g.O.Outlet.breaks g.O.Outlet.welcome g.O.Outlet.faults c.args.job.now.start.now.value c.args.job.now.problem.now
+          c.args.seat.now c.loop.seat c.ready.new.seat c.loop.out c.loop.told c.requires.seat.problem i.1
           (calm_ready c.ready.result c.in_default.not-Events c.loop.seat c.ready.new.seat c.ready.ensures.turn) c.ready.ensures.owes;
       left = λ f. absurd (cc);
     }
@@ -19,8 +19,9 @@ returns-in_default g c =
 pub give-requires-clause-welcome : goal.give-requires-clause-welcome
 give-requires-clause-welcome g c =
     let i = c.loop.invariant in
-    told_welcome g.O.Outlet.takes g.O.Outlet.breaks g.O.Outlet.welcome g.O.Outlet.faults c.args.start.now.value c.args.problem.now c.args.seat.now c.loop.seat
-    c.ready.new.seat c.loop.out c.loop.out c.loop.told c.in-Events.report c.report.inside.events.items c.report.inside.inferences
+    told_welcome g.O.Outlet.takes g.O.Outlet.breaks g.O.Outlet.welcome g.O.Outlet.faults c.args.job.now.start.now.value c.args.job.now.problem.now
+    c.args.seat.now c.loop.seat c.ready.new.seat c.loop.out c.loop.out c.loop.told c.in-Events.report c.report.inside.events.items
+    c.report.inside.inferences
     (ap (λ (o : Owed Event). o.events) c.report.view_is) (ap (λ (o : Owed Event). o.cost) c.report.view_is) c.in-Events.ensures.turn c.requires.seat.problem i.0
     i.1
 
@@ -28,8 +29,9 @@ pub loop-preserved : goal.loop-preserved
 loop-preserved g c =
     let i = c.loop.invariant in let ok = c.in-Ok.ensures in (
       i.0,
-      told_more g.O.Outlet.takes g.O.Outlet.breaks g.O.Outlet.welcome g.O.Outlet.faults c.args.start.now.value c.args.problem.now c.args.seat.now c.loop.seat
-          c.ready.new.seat c.loop.out c.give.new.out c.loop.told c.in-Events.report c.report.inside.events.items c.report.inside.inferences
+      told_more g.O.Outlet.takes g.O.Outlet.breaks g.O.Outlet.welcome g.O.Outlet.faults c.args.job.now.start.now.value c.args.job.now.problem.now
+          c.args.seat.now c.loop.seat c.ready.new.seat c.loop.out c.give.new.out c.loop.told c.in-Events.report c.report.inside.events.items
+          c.report.inside.inferences
           (ap (λ (o : Owed Event). o.events) c.report.view_is) (ap (λ (o : Owed Event). o.cost) c.report.view_is) c.in-Events.ensures.turn
           c.requires.seat.problem i.0 i.1
           (record { answers = c.in-Ok.counts.answers; reached = c.in-Ok.counts.reached; inferences = c.saturating_add-inferences.result })
@@ -39,8 +41,9 @@ loop-preserved g c =
 pub returns-in-Err-clause-left : goal.returns-in-Err-clause-left
 returns-in-Err-clause-left g c = λ f.
     let i = c.loop.invariant in let err = c.in-Err.ensures in
-    told_refused g.O.Outlet.takes g.O.Outlet.breaks g.O.Outlet.welcome g.O.Outlet.faults c.args.start.now.value c.args.problem.now c.args.seat.now c.loop.seat
-    c.ready.new.seat c.loop.out c.give.new.out c.loop.told c.in-Events.report c.report.inside.events.items c.report.inside.inferences
+    told_refused g.O.Outlet.takes g.O.Outlet.breaks g.O.Outlet.welcome g.O.Outlet.faults c.args.job.now.start.now.value c.args.job.now.problem.now
+    c.args.seat.now c.loop.seat c.ready.new.seat c.loop.out c.give.new.out c.loop.told c.in-Events.report c.report.inside.events.items
+    c.report.inside.inferences
     (ap (λ (o : Owed Event). o.events) c.report.view_is) (ap (λ (o : Owed Event). o.cost) c.report.view_is) c.in-Events.ensures.turn c.requires.seat.problem i.0
     i.1
     c.in-Err.fault c.quit.new.seat err.refused (λ e. err.write (ap Err e)) err.faults_kept err.welcome_kept c.quit.ensures.same c.quit.ensures.left

@@ -6,4 +6,5 @@ use Rattle.ll_crew.proofs.lead.tell_all.Given as goal
 abbrev pub invariant-loop : goal.invariant-loop
 invariant-loop g l =
     (l.told.leads ≡ true)
-    × Goes (Stands g.O.Outlet.takes g.O.Outlet.breaks g.O.Outlet.welcome g.O.Outlet.faults l.start.value l.problem l.seat l.out l.told) l.initial.seat l.seat
+    × Goes (Stands g.O.Outlet.takes g.O.Outlet.breaks g.O.Outlet.welcome g.O.Outlet.faults l.job.start.now.value l.job.problem.now l.seat l.out l.told)
+    l.initial.seat l.seat

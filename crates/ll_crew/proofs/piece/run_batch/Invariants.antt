@@ -1,11 +1,15 @@
 use Rattle.std.proofs.Common.{◌≡◌}
+use Rattle.std.specs.Arc.{arc_value}
 use Rattle.ll_freeze.specs.Frozen.{alternatives_in}
 use Rattle.ll_crew.specs.Leading.{Stands}
+use Rattle.ll_crew.specs.Pieces.{IsKeptOf}
 use Rattle.ll_crew.specs.Runs.{RunsFirst}
 use Rattle.ll_crew.proofs.piece.run_batch.Given as goal
 
 abbrev pub invariant-loop-k : goal.invariant-loop-k
 invariant-loop-k g l =
     (l.told.leads ≡ l.initial.told.leads)
-    × RunsFirst (Stands g.O.Outlet.takes g.O.Outlet.breaks g.O.Outlet.welcome g.O.Outlet.faults l.start.value l.problem l.seat l.out l.told) l.initial.seat
-    l.seat l.initial.events.items l.initial.inferences (alternatives_in l.batch) l.k l.events.items l.inferences
+    × IsKeptOf l.job.problem.now l.kept
+    × RunsFirst (Stands g.O.Outlet.takes g.O.Outlet.breaks g.O.Outlet.welcome g.O.Outlet.faults l.job.start.now.value l.job.problem.now l.seat l.out l.told)
+    l.initial.seat l.seat
+    l.initial.events.items l.initial.inferences (alternatives_in (arc_value l.batch)) l.k l.events.items l.inferences

@@ -1,0 +1,39 @@
+//! What workers work with.
+use crate::bell::Bell;
+use ll_freeze::Frozen;
+use ll_laws::Problem;
+use ll_pool::SharedPool;
+use std::alloc::Global;
+use std::snapshot::Snapshot;
+
+/// When a worker leaves choice points of its piece to others.
+#[derive(Clone, Copy)]
+pub(crate) enum Sharing {
+    /// The oldest, where workers have nothing to do.
+    WhereIdle,
+    /// All of them after an answer, which is then reported at once, and the oldest where workers have nothing to do.
+    AfterAnswer,
+}
+
+/// What a worker works with, whatever it claims.
+#[derive(Drop)]
+pub(crate) struct Job<'a, 'p, R, O> {
+    pub(crate) rt: &'a R,
+    pub(crate) alloc: Global,
+    pub(crate) problem: &'p Problem,
+    pub(crate) pool: &'a SharedPool<Frozen<'p>>,
+    pub(crate) bell: &'a Bell,
+    pub(crate) sharing: Sharing,
+    /// The outlet as the crew was given it.
+    pub(crate) start: &'a Snapshot<O>,
+}
+
+impl<'a, 'p, R, O> Job<'a, 'p, R, O> {
+    /// Whether an answer is to be reported at once.
+    pub(crate) fn reports_at_once(&self) -> bool {
+        match self.sharing {
+            Sharing::WhereIdle => false,
+            Sharing::AfterAnswer => true,
+        }
+    }
+}

@@ -209,26 +209,31 @@ pub record IsOnTheWay (s : Site) (target : Read Term) (first bank : Nodes) (call
   pub keeps : Extends first bank
 
 -- what is met stays small where it is small in the end
-pub room_on_the_way : (s : Site) (target : Read Term) (first bank : Nodes) (calls : List Call) (next : Turn) (met : Met)
+pub room_on_the_way : {s : Site} {target : Read Term} {first bank : Nodes} {calls : List Call} {next : Turn} {met : Met}
     → IsOnTheWay s target first bank calls next met → HasRoom target.met → HasRoom (opens s bank next met).met
-room_on_the_way s target first bank calls next met w r = room_before
+room_on_the_way {s} {bank} {calls} {next} {met} w r = room_before
     (subst (λ t. Longer (opens s bank next met).met t.met) w.means (longer_finished s bank calls (opens s bank next met))) r
 
-module _ (s : Site) (target : Read Term) (first : Nodes) where
-  pub way_begun : (old new : Nodes) (calls : List Call) (at : RawAt) (next : Turn) (met later : Met) → IsOnTheWay s target first old calls (turn.Read at) met
+module _ {s : Site} {target : Read Term} {first : Nodes} where
+  -- the turn is known
+  pub at_turn : {bank : Nodes} {calls : List Call} {was next : Turn} {met : Met} → was ≡ next → IsOnTheWay s target first bank calls was met
+      → IsOnTheWay s target first bank calls next met
+  at_turn {bank} {calls} {met} e = subst (λ (t : Turn). IsOnTheWay s target first bank calls t met) e
+
+  pub way_begun : {old new : Nodes} {calls : List Call} {at : RawAt} {next : Turn} {met later : Met} → IsOnTheWay s target first old calls (turn.Read at) met
       → opens s new next later ≡ built_term s.around met (raw_at s.texts s.forms at.0) → TurnFits s.texts s.forms new next → Extends old new
       → IsOnTheWay s target first new calls next later
-  way_begun old new calls at next met later w is fits keeps = record {
+  way_begun {old} {new} {calls} {next} {later} w is fits keeps = record {
     means = finished_extends s keeps calls (opens s new next later) w.waiting ∙ (ap (finished s old calls) is ∙ w.means);
     waiting = calls_extend s.texts s.forms keeps calls w.waiting;
     turn = fits;
     keeps = Extends-trans w.keeps keeps;
   }
 
-  pub way_resumed : (old new : Nodes) (calls later : List Call) (c : Call) (next : Turn) (met : Met) → IsOnTheWay s target first old calls (turn.Resume c) met
+  pub way_resumed : {old new : Nodes} {calls later : List Call} {c : Call} {met : Met} (next : Turn) → IsOnTheWay s target first old calls (turn.Resume c) met
       → IsResumed s.forms old new calls later c next → Extends old new → IsOnTheWay s target first new later next met
-  way_resumed old new calls later c (turn.Resume other) met w h keeps = absurd h
-  way_resumed old new calls later c (turn.Read arg) met w h keeps = record {
+  way_resumed (turn.Resume other) w h keeps = absurd h
+  way_resumed {old} {new} {calls} {c} {met} (turn.Read arg) w h keeps = record {
     means =
         ap (λ cs. finished s new cs (built_term s.around met (raw_at s.texts s.forms arg.0))) h.waiting
         ∙ (finished-then s new calls c (built_term s.around met (raw_at s.texts s.forms arg.0))
@@ -243,7 +248,7 @@ module _ (s : Site) (target : Read Term) (first : Nodes) where
     turn = record { inside = h.inside; named = named_argument s.texts s.forms c.at.0 (length c.args.items) arg _ w.turn.ready.named (h.next s.texts) };
     keeps = Extends-trans w.keeps keeps;
   }
-  way_resumed old new calls later c (turn.Give t) met w h keeps = record {
+  way_resumed {old} {new} {calls} {c} {met} (turn.Give t) w h keeps = record {
     means =
         ap (λ cs. finished s new cs (record { it = term_tree new t.0; met = met })) h.waiting
         ∙ (finished_extends s keeps calls (record { it = term_tree new t.0; met = met }) w.waiting
@@ -257,12 +262,12 @@ module _ (s : Site) (target : Read Term) (first : Nodes) where
     keeps = Extends-trans w.keeps keeps;
   }
 
-  pub way_given : (bank : Nodes) (calls later : List Call) (c : Call) (t : At) (next : Turn) (met : Met)
+  pub way_given : {bank : Nodes} {calls later : List Call} {t : At} {met : Met} (c : Call) (next : Turn)
       → IsOnTheWay s target first bank calls (turn.Give t) met
       → calls ≡ later ++ c ∷ [] → IsGiven c t next → IsOnTheWay s target first bank later next met
-  way_given bank calls later c t (turn.Read at) met w e h = absurd h
-  way_given bank calls later c t (turn.Give u) met w e h = absurd h
-  way_given bank calls later c t (turn.Resume d) met w e h =
+  way_given c (turn.Read at) w e h = absurd h
+  way_given c (turn.Give u) w e h = absurd h
+  way_given {bank} {later} {t} {met} c (turn.Resume d) w e h =
       let fit = calls-before s.texts s.forms bank later c (subst (CallsFit s.texts s.forms bank) e w.waiting) in
       record {
         means = ap (finished s bank later) same ∙ (sym (finished-then s bank later c now) ∙ (ap (λ cs. finished s bank cs now) (sym e) ∙ w.means));
@@ -293,9 +298,9 @@ module _ (s : Site) (target : Read Term) (first : Nodes) where
           x)
           ∙ ap (λ zs. let x : Read Term = record { it = applied (front_term c.front) zs; met = us.met } in x) (append_assoc ts (term_tree bank t.0 ∷ []) us.it)
 
-  pub way_ends : (bank : Nodes) (calls : List Call) (t : At) (met : Met) → IsOnTheWay s target first bank calls (turn.Give t) met → calls ≡ []
+  pub way_ends : {bank : Nodes} {calls : List Call} {t : At} {met : Met} → IsOnTheWay s target first bank calls (turn.Give t) met → calls ≡ []
       → ShowsTerm bank t.0 target.it × (met ≡ target.met)
-  way_ends bank calls t met w e =
+  way_ends {bank} {t} {met} w e =
       let m : record { it = term_tree bank t.0; met = met } ≡ target =
       sym (ap (λ cs. finished s bank cs (record { it = term_tree bank t.0; met = met })) e) ∙ w.means in
       (record { inside = w.turn; tree = ap (λ x. x.it) m }, ap (λ x. x.met) m)

@@ -145,72 +145,105 @@ module _ (g : Ground) where
     pub step : StepFits g bank next
     pub keeps : Extends first bank
 
-  pub coming_room : (target : Read Form) (a : Around) (first bank : Nodes) (frames : List Frame) (next : Step) (met : Met) (now : Around)
-      → IsComing target a first bank frames next met now
-      → HasRoom target.met → HasRoom (comes g bank now next met).met
-  coming_room target a first bank frames next met now w r = room_before
-      (subst (λ t. Longer (comes g bank now next met).met t.met) w.means (longer_wrapped bank a frames (comes g bank now next met))) r
+  -- and no more is left to do than there was at first
+  pub record IsUnderWay (target : Read Form) (a : Around) (first bank : Nodes) (frames : List Frame) (next : Step) (met : Met) (now : Around) (most : ℕ) :
+      Type 0 where
+    pub coming : IsComing target a first bank frames next met now
+    pub low : frames_left g frames + step_left g next ≤ most
 
-  module _ (target : Read Form) (a : Around) (first : Nodes) where
-    advanced : (old new : Nodes) (was : Read Form) (left : ℕ) (frames later : List Frame) (next : Step) (met : Met) (now : Around)
-        → wrapped g old a frames was ≡ target → FramesFit g old frames
-        → Advances g new (within_all g a frames) was left frames later next met now → Extends first old → Extends old new
-        → IsComing target a first new later next met now
-    advanced old new was left frames later next met now w fits d keeps more = record {
-      means =
-          ap (λ fs. wrapped g new a fs (comes g new now next met)) d.waiting
-          ∙ (wrapped-append new a frames d.pushed (comes g new now next met)
-          ∙ (ap (wrapped g new a frames) d.means ∙ (wrapped_extends more a frames was fits ∙ w)));
-      standing = d.standing ∙ (sym (within-append a frames d.pushed) ∙ ap (within_all g a) (sym d.waiting));
-      fits = subst (FramesFit g new) (sym d.waiting) (fit-append new frames d.pushed (fits_extend more frames fits) d.fits);
-      step = d.step;
-      keeps = Extends-trans keeps more;
-    }
+  -- and less is left to do than before
+  pub record IsFurther (target : Read Form) (a : Around) (first bank : Nodes) (frames : List Frame) (next : Step) (met : Met) (now : Around) (before : ℕ) :
+      Type 0 where
+    pub coming : IsComing target a first bank frames next met now
+    pub less : frames_left g frames + step_left g next < before
 
-    pub coming_begun : (old new : Nodes) (frames later : List Frame) (at : RawAt) (next : Step) (met met' : Met) (now now' : Around)
-        → IsComing target a first old frames (step.Read at) met now
-        → Advances g new now (built_form g.modules now met (raw_at g.texts g.forms at.0)) (5 * weight (raw_at g.texts g.forms at.0)) frames later next met' now'
-        → Extends old new
-        → IsComing target a first new later next met' now'
-    coming_begun old new frames later at next met met' now now' w d more =
-        let was = built_form g.modules now met (raw_at g.texts g.forms at.0) in
-        advanced old new was (5 * weight (raw_at g.texts g.forms at.0)) frames later next met' now' w.means w.fits
-        (subst (λ x. Advances g new x was (5 * weight (raw_at g.texts g.forms at.0)) frames later next met' now') w.standing d) w.keeps more
+  less_taken : (frames rest : List Frame) (f : Frame) → frames ≡ rest ++ f ∷ [] → frames_left g frames ≡ frames_left g rest + frame_left g f
+  less_taken frames rest f e = rw e (omega (arith, left-append rest (f ∷ [])))
 
-    pub less_coming : (new : Nodes) (b : Around) (was : Read Form) (left : ℕ) (frames later : List Frame) (next : Step) (met : Met) (now : Around)
-        → Advances g new b was left frames later next met now
-        → frames_left g later + step_left g next < frames_left g frames + left
-    less_coming new b was left frames later next met now d = let i = d.less in rw d.waiting (omega (arith, left-append frames d.pushed))
+  less_advanced : (new : Nodes) (b : Around) (was : Read Form) (left : ℕ) (frames later : List Frame) (next : Step) (met : Met) (now : Around)
+      → Advances g new b was left frames later next met now
+      → frames_left g later + step_left g next < frames_left g frames + left
+  less_advanced new b was left frames later next met now d = let i = d.less in rw d.waiting (omega (arith, left-append frames d.pushed))
 
-    -- what was round a front that is taken off
-    pub taken_around : (old : Nodes) (frames rest : List Frame) (f : Frame) (t : FormAt) (met : Met) (now : Around)
-        → IsComing target a first old frames (step.Give t) met now → frames ≡ rest ++ f ∷ [] → now ≡ within g (within_all g a rest) f
-    taken_around old frames rest f t met now w e = w.standing ∙ (ap (within_all g a) e ∙ within-append a rest (f ∷ []))
+  advanced : (target : Read Form) (a : Around) (first old new : Nodes) (was : Read Form) (left : ℕ) (frames later : List Frame) (next : Step) (met : Met)
+      (now : Around) → wrapped g old a frames was ≡ target → FramesFit g old frames
+      → Advances g new (within_all g a frames) was left frames later next met now → Extends first old → Extends old new
+      → IsComing target a first new later next met now
+  advanced target a first old new was left frames later next met now w fits d keeps more = record {
+    means =
+        ap (λ fs. wrapped g new a fs (comes g new now next met)) d.waiting
+        ∙ (wrapped-append new a frames d.pushed (comes g new now next met)
+        ∙ (ap (wrapped g new a frames) d.means ∙ (wrapped_extends more a frames was fits ∙ w)));
+    standing = d.standing ∙ (sym (within-append a frames d.pushed) ∙ ap (within_all g a) (sym d.waiting));
+    fits = subst (FramesFit g new) (sym d.waiting) (fit-append new frames d.pushed (fits_extend more frames fits) d.fits);
+    step = d.step;
+    keeps = Extends-trans keeps more;
+  }
 
-    pub taken_fits : (old : Nodes) (frames rest : List Frame) (f : Frame) (t : FormAt) (met : Met) (now : Around)
-        → IsComing target a first old frames (step.Give t) met now → frames ≡ rest ++ f ∷ [] → FrameFits g old f
-    taken_fits old frames rest f t met now w e = (fit-before old rest (f ∷ []) (subst (FramesFit g old) e w.fits)).1.0
+module _ {g : Ground} {target : Read Form} {a : Around} {first bank : Nodes} {frames : List Frame} {met : Met} {now : Around} where
+  -- the step is known
+  pub at_step : {was next : Step} {most : ℕ} → was ≡ next → IsComing g target a first bank frames was met now
+      → frames_left g frames + step_left g was ≤ most → IsUnderWay g target a first bank frames next met now most
+  at_step {most} e w low = record {
+    coming = subst (λ (s : Step). IsComing g target a first bank frames s met now) e w;
+    low = subst (λ (s : Step). frames_left g frames + step_left g s ≤ most) e low;
+  }
 
-    pub coming_given : (old new : Nodes) (frames rest later : List Frame) (f : Frame) (t : FormAt) (next : Step) (met : Met) (now now' : Around)
-        → IsComing target a first old frames (step.Give t) met now
-        → frames ≡ rest ++ f ∷ [] → Advances g new (within_all g a rest) (wraps g old (within_all g a rest) f (record { it = form_tree old t.0; met = met }))
-        (frame_left g f + 2) rest later next met now'
-        → Extends old new → IsComing target a first new later next met now'
-    coming_given old new frames rest later f t next met now now' w e d more =
-        let here : Read Form = record { it = form_tree old t.0; met = met } in
-        advanced old new (wraps g old (within_all g a rest) f here) (frame_left g f + 2) rest later next met now'
-        (sym (wrapped-append old a rest (f ∷ []) here) ∙ (ap (λ fs. wrapped g old a fs here) (sym e) ∙ w.means))
-        (fit-before old rest (f ∷ []) (subst (FramesFit g old) e w.fits)).0 d w.keeps more
+  pub coming_room : {next : Step} → IsComing g target a first bank frames next met now → HasRoom target.met → HasRoom (comes g bank now next met).met
+  coming_room {next} w r = room_before
+      (subst (λ t. Longer (comes g bank now next met).met t.met) w.means (longer_wrapped g bank a frames (comes g bank now next met))) r
 
-    pub less_taken : (frames rest : List Frame) (f : Frame) → frames ≡ rest ++ f ∷ [] → frames_left g frames ≡ frames_left g rest + frame_left g f
-    less_taken frames rest f e = rw e (omega (arith, left-append rest (f ∷ [])))
+  -- what is read is begun
+  pub read_on : {was next : Step} {at : RawAt} {new : Nodes} {later : List Frame} {met' : Met} {now' : Around} → was ≡ step.Read at
+      → IsComing g target a first bank frames was met now
+      → Advances g new now (built_form g.modules now met (raw_at g.texts g.forms at.0)) (5 * weight (raw_at g.texts g.forms at.0)) frames later next met' now'
+      → Extends bank new → IsFurther g target a first new later next met' now' (frames_left g frames + step_left g was)
+  read_on {next} {at} {new} {later} {met'} {now'} e c d more =
+      let w = subst (λ (s : Step). IsComing g target a first bank frames s met now) e c in
+      let built = built_form g.modules now met (raw_at g.texts g.forms at.0) in
+      let left = 5 * weight (raw_at g.texts g.forms at.0) in
+      record {
+        coming = advanced g target a first bank new built left frames later next met' now' w.means w.fits
+            (subst (λ x. Advances g new x built left frames later next met' now') w.standing d) w.keeps more;
+        less = subst (λ (s : Step). frames_left g later + step_left g next < frames_left g frames + step_left g s) (sym e)
+            (less_advanced g new now built left frames later next met' now' d);
+      }
 
-    pub coming_ends : (bank : Nodes) (frames : List Frame) (t : FormAt) (met : Met) (now : Around) → IsComing target a first bank frames (step.Give t) met now
-        → frames ≡ [] → ShowsForm bank t.0 target.it × (met ≡ target.met) × (now ≡ a)
-    coming_ends bank frames t met now w e =
-        let m : record { it = form_tree bank t.0; met = met } ≡ target =
-        sym (ap (λ fs. wrapped g bank a fs (record { it = form_tree bank t.0; met = met })) e) ∙ w.means in
-        (record { inside = w.step; tree = ap (λ x. x.it) m }, ap (λ x. x.met) m, w.standing ∙ ap (within_all g a) e)
+  -- what was round a front that is taken off
+  taken_around : {t : FormAt} (rest : List Frame) (f : Frame) → IsComing g target a first bank frames (step.Give t) met now → frames ≡ rest ++ f ∷ []
+      → now ≡ within g (within_all g a rest) f
+  taken_around rest f w e = w.standing ∙ (ap (within_all g a) e ∙ within-append g a rest (f ∷ []))
+
+  pub taken_fits : {t : FormAt} (rest : List Frame) (f : Frame) → IsComing g target a first bank frames (step.Give t) met now → frames ≡ rest ++ f ∷ []
+      → FrameFits g bank f
+  taken_fits rest f w e = (fit-before g bank rest (f ∷ []) (subst (FramesFit g bank) e w.fits)).1.0
+
+  -- a formula is given to the front that is taken off
+  pub given_on : {was next : Step} {t : FormAt} {new : Nodes} {rest later : List Frame} {now' : Around} (f : Frame) → was ≡ step.Give t
+      → IsComing g target a first bank frames was met now → frames ≡ rest ++ f ∷ []
+      → ((h : Ground) (b : Around) (m : Met) → FrameFits h bank f → now ≡ within h b f
+      → Advances h new b (wraps h bank b f (record { it = form_tree bank t.0; met = m })) (frame_left h f + 2) rest later next m now')
+      → Extends bank new → IsFurther g target a first new later next met now' (frames_left g frames + step_left g was)
+  given_on {next} {t} {new} {rest} {later} {now'} f e c taken gives more =
+      let w = subst (λ (s : Step). IsComing g target a first bank frames s met now) e c in
+      let b = within_all g a rest in
+      let here : Read Form = record { it = form_tree bank t.0; met = met } in
+      let d = gives g b met (taken_fits rest f w taken) (taken_around rest f w taken) in
+      record {
+        coming = advanced g target a first bank new (wraps g bank b f here) (frame_left g f + 2) rest later next met now'
+            (sym (wrapped-append g bank a rest (f ∷ []) here) ∙ (ap (λ fs. wrapped g bank a fs here) (sym taken) ∙ w.means))
+            (fit-before g bank rest (f ∷ []) (subst (FramesFit g bank) taken w.fits)).0 d w.keeps more;
+        less = subst (λ (s : Step). frames_left g later + step_left g next < frames_left g frames + step_left g s) (sym e)
+            (let l = less_advanced g new b (wraps g bank b f here) (frame_left g f + 2) rest later next met now' d in
+            let k = less_taken g frames rest f taken in omega arith);
+      }
+
+  pub coming_ends : {t : FormAt} → IsComing g target a first bank frames (step.Give t) met now → frames ≡ []
+      → ShowsForm bank t.0 target.it × (met ≡ target.met) × (now ≡ a)
+  coming_ends {t} w e =
+      let m : record { it = form_tree bank t.0; met = met } ≡ target =
+      sym (ap (λ fs. wrapped g bank a fs (record { it = form_tree bank t.0; met = met })) e) ∙ w.means in
+      (record { inside = w.step; tree = ap (λ x. x.it) m }, ap (λ x. x.met) m, w.standing ∙ ap (within_all g a) e)
 
 -- ---- what is round a part
 
@@ -242,17 +275,20 @@ module _ (g : Ground) where
   within_high a (frame.Right o f ∷ fs) = omega (arith, within_high a fs)
   within_high a (frame.Load m ts ∷ fs) = omega (arith, within_high a fs)
 
-  pub stands_now : (texts : List (List ℕ)) (binders : Scoped) (place : Place) (a : Around) (fs : List Frame) (left : ℕ) → IsDistinct bytes_eq texts
-      → binders.texts ≡ texts → around place binders.scope ≡ within_all g a fs
-      → a.depth ≤ length a.scope → frames_left g fs + left < 4294967296 - (length a.scope + unwrap_or a.quantified 0)
-      → StandsIn texts binders place × (length binders.scope + unwrap_or place.quantified 0 + left < 2 ^ 32)
-  stands_now texts binders place a fs left distinct same e deep low =
-      let q : unwrap_or place.quantified 0 ≡ unwrap_or a.quantified 0 = ap (λ o. unwrap_or o 0) (ap (λ x. x.quantified) e ∙ within_quantified a fs) in
-      let d : place.depth ≡ (within_all g a fs).depth = ap (λ x. x.depth) e in
-      let l : length binders.scope ≡ length (within_all g a fs).scope = ap (λ x. length x.scope) e in
-      let h = within_high a fs in
-      let k = within_deep a fs deep in
-      (record { distinct = distinct; same = same; depth = omega arith; room = omega arith }, omega arith)
+-- what is read stands among the names and the numbers of its text
+pub stands_now : {g : Ground} {target : Read Form} {a : Around} {first bank : Nodes} {frames : List Frame} {at : RawAt} {met : Met} {most : ℕ}
+    (binders : Scoped) (place : Place) → IsUnderWay g target a first bank frames (step.Read at) met (around place binders.scope) most
+    → IsDistinct bytes_eq g.texts → binders.texts ≡ g.texts → a.depth ≤ length a.scope → length a.scope + unwrap_or a.quantified 0 + most < 2 ^ 32
+    → StandsIn g.texts binders place × (length binders.scope + unwrap_or place.quantified 0 + 5 * weight (raw_at g.texts g.forms at.0) < 2 ^ 32)
+stands_now {g} {a} {frames} binders place w distinct same deep high =
+    let e = w.coming.standing in
+    let low = w.low in
+    let q : unwrap_or place.quantified 0 ≡ unwrap_or a.quantified 0 = ap (λ o. unwrap_or o 0) (ap (λ x. x.quantified) e ∙ within_quantified g a frames) in
+    let d : place.depth ≡ (within_all g a frames).depth = ap (λ x. x.depth) e in
+    let l : length binders.scope ≡ length (within_all g a frames).scope = ap (λ x. length x.scope) e in
+    let h = within_high g a frames in
+    let k = within_deep g a frames deep in
+    (record { distinct = distinct; same = same; depth = omega arith; room = omega arith }, omega arith)
 
 -- into a quantifier
 pub entered_around : (p later : Place) (s t : Scoped) (texts : List (List ℕ)) (n : ℕ) → later ≡ record p { depth = p.depth + 1 }

@@ -4,6 +4,7 @@ use Rattle.ll_bank.proofs.CallerLemmas.{HasForm-extends}
 use Rattle.ll_parser.specs.declared.RawClause.{RawClause}
 use Rattle.ll_parser.specs.declared.RawModule.{RawModule}
 use Rattle.ll_parser.specs.Nodes.{shown_program}
+use Rattle.ll_parser.specs.Raw.{ProgramTree}
 use Rattle.ll_parser.specs.Reads.{IsWhole}
 use Rattle.ll_parser.specs.Text.{programs}
 use Rattle.ll_polarity.specs.Asks.{module_names}
@@ -18,19 +19,23 @@ use Rattle.ll_polarity.proofs.naming.PartNumbers.{part_numbered, room_at_clauses
 use Rattle.ll_polarity.proofs.problems.PartShown.{part_shown}
 use Rattle.ll_polarity.proofs.loading.put_part.Goals as goal
 
+-- what is whole is whole as its parts show it
+whole_inside : {shown tree : ProgramTree} → shown ≡ tree → IsWhole programs tree → IsWhole programs shown
+whole_inside e = subst (IsWhole programs) (sym e)
+
 pub clauses-requires-clause-stands : goal.clauses-requires-clause-stands
 clauses-requires-clause-stands c = stands_first c.program.inside.names c.in_ok-binders.binders c.len-texts.ensures.distinct c.in_ok-binders.ensures
 
 pub clauses-requires-clause-ready : goal.clauses-requires-clause-ready
 clauses-requires-clause-ready c =
-    let p = c.program.inside in let whole = subst (IsWhole programs) (sym c.program.view_is) c.requires.whole in
+    let p = c.program.inside in let whole = whole_inside c.program.view_is c.requires.whole in
     subst (All (λ (r : RawClause). IsReady p.names p.forms r.form.0)) (sym c.deref.ensures.value)
     (ready_clauses p.names p.forms p.clauses.items (program-clauses-ready p.names p.forms p.clauses.items p.modules.items (whole_program_named _ whole)
     c.program.invariant.0))
 
 pub clauses-requires-clause-room : goal.clauses-requires-clause-room
 clauses-requires-clause-room c =
-    let p = c.program.inside in let whole = subst (IsWhole programs) (sym c.program.view_is) c.requires.whole in
+    let p = c.program.inside in let whole = whole_inside c.program.view_is c.requires.whole in
     room_at_clauses p.names p.forms p.clauses.items p.modules.items whole c.deref.result.now c.in_ok-binders.binders.scope c.new-2.result c.deref.ensures.value
     (ap (λ b. b.scope) c.in_ok-binders.ensures) c.new-2.ensures
 
@@ -44,26 +49,26 @@ modules-requires-clause-outermost c = c.in_ok-clauses.ensures.scope ∙ ap (λ b
 
 pub modules-requires-clause-ready : goal.modules-requires-clause-ready
 modules-requires-clause-ready c =
-    let p = c.program.inside in let whole = subst (IsWhole programs) (sym c.program.view_is) c.requires.whole in
+    let p = c.program.inside in let whole = whole_inside c.program.view_is c.requires.whole in
     subst (All (IsModuleReady p.names p.forms)) (sym c.deref-2.ensures.value)
     (program-modules-ready p.names p.forms p.clauses.items p.modules.items (whole_program_named _ whole) c.program.invariant.1)
 
 pub modules-requires-clause-few : goal.modules-requires-clause-few
 modules-requires-clause-few c =
-    let p = c.program.inside in let whole = subst (IsWhole programs) (sym c.program.view_is) c.requires.whole in
+    let p = c.program.inside in let whole = whole_inside c.program.view_is c.requires.whole in
     subst (All (λ (m : RawModule). length m.locals.items + length m.params.items < 2 ^ 31)) (sym c.deref-2.ensures.value)
     (few_own_shown p.names p.forms p.modules.items (whole_few_own (shown_program p.names p.forms p.clauses.items p.modules.items) whole))
 
 pub modules-requires-clause-room : goal.modules-requires-clause-room
 modules-requires-clause-room c =
-    let p = c.program.inside in let whole = subst (IsWhole programs) (sym c.program.view_is) c.requires.whole in
+    let p = c.program.inside in let whole = whole_inside c.program.view_is c.requires.whole in
     room_at_modules p.names p.forms p.clauses.items p.modules.items whole c.deref.result.now c.in_ok-binders.binders.scope c.new-2.result c.deref.ensures.value
     (ap (λ b. b.scope) c.in_ok-binders.ensures) c.new-2.ensures
     c.deref-2.result.now c.clauses.new.met.names c.deref-2.ensures.value c.in_ok-clauses.ensures.names
 
 pub invariant_of-result : goal.invariant_of-result
 invariant_of-result c =
-    let p = c.program.inside in let whole = subst (IsWhole programs) (sym c.program.view_is) c.requires.whole in
+    let p = c.program.inside in let whole = whole_inside c.program.view_is c.requires.whole in
     let found = subst (λ tree. FindsFirst c.args.places.now.places (module_names tree)) (sym c.program.view_is) c.requires.found in
     let faultless = subst (λ tree. program_faults tree ≡ []) (sym c.program.view_is) c.requires.faultless in
     let is = part_shown p.names p.forms (place_in c.args.places.now.places) p.clauses.items c.deref.result.now p.modules.items c.deref-2.result.now

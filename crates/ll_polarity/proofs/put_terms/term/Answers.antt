@@ -1,15 +1,8 @@
 use Rattle.std.proofs.Common.{◌+◌, ◌<◌, refl, sym, subst, arith}
 use Rattle.ll_bank.proofs.CallerLemmas.{Extends-refl}
-use Rattle.ll_parser.specs.Nodes.{raw_at}
 use Rattle.ll_polarity.specs.declared.put_terms.Turn.{Turn}
-use Rattle.ll_polarity.specs.declared.put_terms.Turn.TheVariants as turn
-use Rattle.ll_polarity.specs.Reading.{Read}
-use Rattle.ll_bank.specs.Term.{Term}
-use Rattle.ll_polarity.specs.Built.{built_term}
-use Rattle.ll_polarity.specs.Standing.{met_of, around}
-use Rattle.ll_polarity.specs.Calls.{Site}
-use Rattle.ll_polarity.proofs.putting.Calling.{IsOnTheWay, calls_left, turn_left, room_on_the_way, way_begun, way_resumed, way_given, less_begun, less_resumed}
-use Rattle.ll_polarity.proofs.putting.Calling.{less_given}
+use Rattle.ll_polarity.proofs.putting.Calling.{calls_left, turn_left, at_turn, room_on_the_way, way_begun, way_resumed, way_given}
+use Rattle.ll_polarity.proofs.putting.Calling.{less_begun, less_resumed, less_given}
 use Rattle.ll_polarity.proofs.put_terms.term.Goals as goal
 
 pub turns-init : goal.turns-init
@@ -18,12 +11,7 @@ turns-init c =
 
 pub begun-requires-clause-room : goal.begun-requires-clause-room
 begun-requires-clause-room c =
-    let a = around c.args.place c.args.binders.now.scope in
-    let s : Site = record { texts = c.args.names.now; forms = c.args.forms.now; around = a } in
-    let target : Read Term = built_term a (met_of c.args.names.now c.args.met.now) (raw_at c.args.names.now c.args.forms.now c.args.at.0) in
-    let w = subst (λ (t : Turn). IsOnTheWay s target c.args.bank.now c.turns.bank c.turns.calls.items t (met_of c.args.names.now c.turns.met)) c.in-Read.is
-    c.turns.invariant in
-    room_on_the_way s target c.args.bank.now c.turns.bank c.turns.calls.items (turn.Read c.in-Read.at) (met_of c.args.names.now c.turns.met) w c.requires.room
+    room_on_the_way (at_turn c.in-Read.is c.turns.invariant) c.requires.room
 
 pub turns-smaller-in_ok-turn-in-Read : goal.turns-smaller-in_ok-turn-in-Read
 turns-smaller-in_ok-turn-in-Read c =
@@ -35,14 +23,8 @@ turns-smaller-in_ok-turn-in-Read c =
 
 pub turns-preserved-in_ok-turn-in-Read : goal.turns-preserved-in_ok-turn-in-Read
 turns-preserved-in_ok-turn-in-Read c =
-    let a = around c.args.place c.args.binders.now.scope in
-    let s : Site = record { texts = c.args.names.now; forms = c.args.forms.now; around = a } in
-    let target : Read Term = built_term a (met_of c.args.names.now c.args.met.now) (raw_at c.args.names.now c.args.forms.now c.args.at.0) in
-    let w = subst (λ (t : Turn). IsOnTheWay s target c.args.bank.now c.turns.bank c.turns.calls.items t (met_of c.args.names.now c.turns.met)) c.in-Read.is
-    c.turns.invariant in
-    way_begun s target c.args.bank.now c.turns.bank c.begun.new.bank c.turns.calls.items c.in-Read.at c.in_ok-turn-in-Read.turn
-    (met_of c.args.names.now c.turns.met) (met_of c.args.names.now c.begun.new.met) w
-    c.in_ok-turn-in-Read.ensures.begun c.in_ok-turn-in-Read.ensures.fits c.in_ok-turn-in-Read.ensures.keeps
+    way_begun (at_turn c.in-Read.is c.turns.invariant) c.in_ok-turn-in-Read.ensures.begun c.in_ok-turn-in-Read.ensures.fits
+    c.in_ok-turn-in-Read.ensures.keeps
 
 pub turns-smaller-in_ok-turn-in-Resume : goal.turns-smaller-in_ok-turn-in-Resume
 turns-smaller-in_ok-turn-in-Resume c =
@@ -54,14 +36,8 @@ turns-smaller-in_ok-turn-in-Resume c =
 
 pub turns-preserved-in_ok-turn-in-Resume : goal.turns-preserved-in_ok-turn-in-Resume
 turns-preserved-in_ok-turn-in-Resume c =
-    let a = around c.args.place c.args.binders.now.scope in
-    let s : Site = record { texts = c.args.names.now; forms = c.args.forms.now; around = a } in
-    let target : Read Term = built_term a (met_of c.args.names.now c.args.met.now) (raw_at c.args.names.now c.args.forms.now c.args.at.0) in
-    let w = subst (λ (t : Turn). IsOnTheWay s target c.args.bank.now c.turns.bank c.turns.calls.items t (met_of c.args.names.now c.turns.met)) c.in-Resume.is
-    c.turns.invariant in
-    way_resumed s target c.args.bank.now c.turns.bank c.resumed.new.bank c.turns.calls.items c.resumed.new.calls.items c.in-Resume.call
-    c.in_ok-turn-in-Resume.turn (met_of c.args.names.now c.turns.met) w
-    c.in_ok-turn-in-Resume.ensures.resumed c.in_ok-turn-in-Resume.ensures.keeps
+    way_resumed c.in_ok-turn-in-Resume.turn (at_turn c.in-Resume.is c.turns.invariant) c.in_ok-turn-in-Resume.ensures.resumed
+    c.in_ok-turn-in-Resume.ensures.keeps
 
 pub turns-smaller : goal.turns-smaller
 turns-smaller c =
@@ -73,11 +49,5 @@ turns-smaller c =
 
 pub turns-preserved : goal.turns-preserved
 turns-preserved c =
-    let a = around c.args.place c.args.binders.now.scope in
-    let s : Site = record { texts = c.args.names.now; forms = c.args.forms.now; around = a } in
-    let target : Read Term = built_term a (met_of c.args.names.now c.args.met.now) (raw_at c.args.names.now c.args.forms.now c.args.at.0) in
-    let w = subst (λ (t : Turn). IsOnTheWay s target c.args.bank.now c.turns.bank c.turns.calls.items t (met_of c.args.names.now c.turns.met)) c.in-Give.is
-    c.turns.invariant in
-    way_given s target c.args.bank.now c.turns.bank c.turns.calls.items c.pop.new.self.items c.in-Some.call c.in-Give.term c.in_ok-turn-in-Some.turn
-    (met_of c.args.names.now c.turns.met) w
-    c.in-Some.ensures.items c.in_ok-turn-in-Some.ensures
+    way_given c.in-Some.call c.in_ok-turn-in-Some.turn (at_turn c.in-Give.is c.turns.invariant) c.in-Some.ensures.items
+    c.in_ok-turn-in-Some.ensures

@@ -1,5 +1,6 @@
 -- The parts of terms and formulas that are closed: they lie lower, are smaller together, and are good where the whole is.
-use Rattle.std.proofs.Common.{◌≡◌, ℕ, suc, ◌+◌, ◌<◌, true, List, [], ◌∷◌, length, map, All, get_or, refl, ap, sym, subst, ◌∙◌, arith, Some}
+use Rattle.std.proofs.Common.{◌≡◌, ℕ, suc, ◌+◌, ◌-◌, ◌<◌, ◌≤◌, true, List, [], ◌∷◌, length, map, All, get_or, take, drop, refl, ap, sym, subst, ◌∙◌, arith}
+use Rattle.std.proofs.Common.{Some, length-append}
 use Rattle.std.specs.Prelude.{◌&&◌, slice_get}
 use Rattle.std.specs.List.{list_all}
 use Rattle.std.proofs.lemmas.Bool.{and_parts}
@@ -22,8 +23,8 @@ use Rattle.ll_bank.proofs.CallerLemmas.{HasTerm-extends, HasForm-extends, term_t
 use Rattle.ll_bank.proofs.CallerLemmas.{heads_args, form_node_seen, term_parts_same, form_parts_same, term_size-apply, sizes_of_args, no_parts, one_part}
 use Rattle.ll_bank.proofs.CallerLemmas.{two_parts, sum_same, HasTerm-below, HasForm-below}
 use Rattle.ll_close.specs.Closing.{under, IsGoodTerm, IsGoodForm, IsTermImage, IsFormImage}
-use Rattle.ll_close.specs.Stacks.{AreImagesOf}
-use Rattle.ll_close.proofs.Stacks.{images_one, images_two}
+use Rattle.ll_close.specs.Stacks.{AreImagesOf, EndsWith}
+use Rattle.ll_close.proofs.Stacks.{images_one, images_two, images_length, slice_own}
 
 -- ---- terms and their parts
 
@@ -228,16 +229,37 @@ own_terms bank env n (a ∷ args) (x ∷ own) h =
     let r = own_terms bank env n args own h.1 in let s = h.0.1 in
     (All-cons (λ (b : At). b.0 < length bank.terms) x own s.inside r.0, (λ i. s.tree i ∷ r.1 i))
 
+-- the images made last stand for the arguments
+pub record AreArgsMade (bank : Nodes) (env : Env) (n : ℕ) (args made : List At) : Type 0 where
+  pub own : List At
+  pub enough : length args ≤ length made
+  pub inside : AllInTerms bank own
+  pub closed : term_trees bank own ≡ map (close (under env n)) (term_trees bank args)
+  pub read : (xs : List At) (i : ℕ) → xs ≡ made → i ≡ length made - length args → take (length xs - i) (drop i xs) ≡ own
+
 module _ (bank : Nodes) (env : Env) (at n : ℕ) (h : Head) (args : List At) (seen : slice_get bank.terms at ≡ Some (AppNode h (places args))) where
   parts_are : term_parts_at bank (at, n) ≡ map (λ (a : ℕ). let k : Spot = (a, n) in k) (places args)
   parts_are = ap (λ node. term_parts node n) (node_seen bank at (AppNode h (places args)) seen)
 
-  pub args_closed : (own : List At) → AreImagesOf (λ k (x : At). IsTermImage bank env k x.0) (term_parts_at bank (at, n)) own
+  args_closed : (own : List At) → AreImagesOf (λ k (x : At). IsTermImage bank env k x.0) (term_parts_at bank (at, n)) own
       → AllInTerms bank own × (term_trees bank own ≡ map (close (under env n)) (term_trees bank args))
   args_closed own i = own_terms bank env n args own (subst (λ ps. AreImagesOf (λ k (x : At). IsTermImage bank env k x.0) ps own) parts_are i)
 
   pub args_count : length (term_parts_at bank (at, n)) ≡ length args
   args_count = ap length parts_are ∙ spots_count n args
+
+  pub args_made : {made : List At} → EndsWith (λ k (x : At). IsTermImage bank env k x.0) (term_parts_at bank (at, n)) made → AreArgsMade bank env n args made
+  args_made {made} p =
+      let l : length p.own ≡ length args =
+      images_length (λ k (x : At). IsTermImage bank env k x.0) (term_parts_at bank (at, n)) p.own p.images ∙ args_count in
+      let o = args_closed p.own p.images in
+      record {
+        own = p.own;
+        enough = let w = length-append p.below p.own in let v = ap length p.is in omega arith;
+        inside = o.0;
+        closed = o.1;
+        read = λ xs i e q. slice_own xs made p.below p.own i (length args) e p.is l q;
+      }
 
 -- ---- the images of formulas
 

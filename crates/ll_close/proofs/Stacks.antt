@@ -113,56 +113,6 @@ module _ (parts : Spot → List Spot) (good : Spot → Type 0) (root : Spot) whe
     (λ r. absurd (true≢false (sym r))),
   )
 
-  module _ {X : Type 0} (P : Spot → X → Type 0) (made : List X) (items tasks : List Task) (task : Task) (e : items ≡ tasks ++ task ∷ [])
-      (c : IsClosing P parts good root made items) where
-    top : LeadsTo parts good root c.spots (task ∷ reverse tasks)
-    top = subst (LeadsTo parts good root c.spots) (reversed items tasks task e) c.leads
-
-    -- the next part is good
-    pub closing_good : good (spot_of task)
-    closing_good = top.0
-
-    -- its own parts stand above it
-    pub closing_expands : (next : List Task) → task.ready ≡ false → reverse next ≡ map visit (parts (spot_of task)) ++ ready (spot_of task) ∷ reverse tasks
-        → (good (spot_of task) → All good (parts (spot_of task)))
-        → IsClosing P parts good root made next
-    closing_expands next r f keep = record {
-      spots = c.spots;
-      images = c.images;
-      leads = subst (LeadsTo parts good root c.spots) (sym f) (leads_visits (parts (spot_of task)) c.spots (ready (spot_of task) ∷ reverse tasks) (keep top.0)
-          (top.0, (λ s. absurd (true≢false s)), (λ s. (c.spots, refl, top.1 r))));
-    }
-
-    -- its image is there
-    module _ (Q : Spot → X → Type 0) (keep : (k : Spot) (x : X) → P k x → Q k x) (image : X) (here : Q (spot_of task) image) where
-      pub closing_found : (more : List X) → task.ready ≡ false → more ≡ made ++ image ∷ [] → IsClosing Q parts good root more tasks
-      closing_found more r f = record {
-        spots = c.spots ++ spot_of task ∷ [];
-        images = subst (AreImagesOf Q (c.spots ++ spot_of task ∷ [])) (sym f)
-            (images_append Q c.spots (spot_of task ∷ []) made (image ∷ []) (images_weaker P Q keep c.spots made c.images) (here, tt));
-        leads = top.1 r;
-      }
-
-      pub closing_builds : (more rest : List X) → task.ready ≡ true → rest ≡ take (length made - length (parts (spot_of task))) made → more ≡ rest ++ image ∷ []
-          → IsClosing Q parts good root more tasks
-      closing_builds more rest r f g =
-          let b = top.2 r in
-          let s = images_split P b.0 (parts (spot_of task)) made (subst (λ z. AreImagesOf P z made) b.1 c.images) in
-          let cut = f ∙ cut_own made s.0 s.1.0 (length (parts (spot_of task))) s.1.1.0 (images_length P (parts (spot_of task)) s.1.0 s.1.1.1.1) in
-          record {
-            spots = b.0 ++ spot_of task ∷ [];
-            images = subst (AreImagesOf Q (b.0 ++ spot_of task ∷ [])) (sym (g ∙ ap (λ z. z ++ image ∷ []) cut))
-                (images_append Q b.0 (spot_of task ∷ []) s.0 (image ∷ []) (images_weaker P Q keep b.0 s.0 s.1.1.1.0) (here, tt));
-            leads = b.2;
-          }
-
-    -- the images of its own parts were made last
-    pub closing_ready : task.ready ≡ true → EndsWith P (parts (spot_of task)) made
-    closing_ready r =
-        let b = top.2 r in
-        let s = images_split P b.0 (parts (spot_of task)) made (subst (λ z. AreImagesOf P z made) b.1 c.images) in
-        record { below = s.0; own = s.1.0; is = s.1.1.0; images = s.1.1.1.1 }
-
   -- it begins with the root
   pub closing_begins : {X : Type 0} (P : Spot → X → Type 0) (made : List X) (before items : List Task) → made ≡ [] → before ≡ []
       → reverse items ≡ visit root ∷ reverse before → good root → IsClosing P parts good root made items
@@ -177,6 +127,57 @@ module _ (parts : Spot → List Spot) (good : Spot → Type 0) (root : Spot) whe
       → (x : X) × (made ≡ x ∷ []) × P root x
   closing_ends P made [] e c = images_one P root made (subst (λ z. AreImagesOf P z made) c.leads c.images)
   closing_ends P made (t ∷ ts) e c = absurd (omega arith)
+
+module _ {parts : Spot → List Spot} {good : Spot → Type 0} {root : Spot} {X : Type 0} {P : Spot → X → Type 0} {made : List X} {items : List Task}
+    (tasks : List Task) (task : Task) (e : items ≡ tasks ++ task ∷ []) (c : IsClosing P parts good root made items) where
+  top : LeadsTo parts good root c.spots (task ∷ reverse tasks)
+  top = subst (LeadsTo parts good root c.spots) (reversed items tasks task e) c.leads
+
+  -- the next part is good
+  pub closing_good : good (spot_of task)
+  closing_good = top.0
+
+  -- its own parts stand above it
+  pub closing_expands : (next : List Task) → task.ready ≡ false → reverse next ≡ map visit (parts (spot_of task)) ++ ready (spot_of task) ∷ reverse tasks
+      → (good (spot_of task) → All good (parts (spot_of task)))
+      → IsClosing P parts good root made next
+  closing_expands next r f keep = record {
+    spots = c.spots;
+    images = c.images;
+    leads = subst (LeadsTo parts good root c.spots) (sym f)
+        (leads_visits parts good root (parts (spot_of task)) c.spots (ready (spot_of task) ∷ reverse tasks) (keep top.0)
+        (top.0, (λ s. absurd (true≢false s)), (λ s. (c.spots, refl, top.1 r))));
+  }
+
+  -- its image is there
+  module _ {Q : Spot → X → Type 0} (keep : (k : Spot) (x : X) → P k x → Q k x) (image : X) (here : Q (spot_of task) image) where
+    pub closing_found : (more : List X) → task.ready ≡ false → more ≡ made ++ image ∷ [] → IsClosing Q parts good root more tasks
+    closing_found more r f = record {
+      spots = c.spots ++ spot_of task ∷ [];
+      images = subst (AreImagesOf Q (c.spots ++ spot_of task ∷ [])) (sym f)
+          (images_append Q c.spots (spot_of task ∷ []) made (image ∷ []) (images_weaker P Q keep c.spots made c.images) (here, tt));
+      leads = top.1 r;
+    }
+
+    pub closing_builds : (more rest : List X) → task.ready ≡ true → rest ≡ take (length made - length (parts (spot_of task))) made → more ≡ rest ++ image ∷ []
+        → IsClosing Q parts good root more tasks
+    closing_builds more rest r f g =
+        let b = top.2 r in
+        let s = images_split P b.0 (parts (spot_of task)) made (subst (λ z. AreImagesOf P z made) b.1 c.images) in
+        let cut = f ∙ cut_own made s.0 s.1.0 (length (parts (spot_of task))) s.1.1.0 (images_length P (parts (spot_of task)) s.1.0 s.1.1.1.1) in
+        record {
+          spots = b.0 ++ spot_of task ∷ [];
+          images = subst (AreImagesOf Q (b.0 ++ spot_of task ∷ [])) (sym (g ∙ ap (λ z. z ++ image ∷ []) cut))
+              (images_append Q b.0 (spot_of task ∷ []) s.0 (image ∷ []) (images_weaker P Q keep b.0 s.0 s.1.1.1.0) (here, tt));
+          leads = b.2;
+        }
+
+  -- the images of its own parts were made last
+  pub closing_ready : task.ready ≡ true → EndsWith P (parts (spot_of task)) made
+  closing_ready r =
+      let b = top.2 r in
+      let s = images_split P b.0 (parts (spot_of task)) made (subst (λ z. AreImagesOf P z made) b.1 c.images) in
+      record { below = s.0; own = s.1.0; is = s.1.1.0; images = s.1.1.1.1 }
 
 -- ---- the work that is left
 

@@ -11,7 +11,9 @@ use Rattle.ll_bank.specs.Opened.{Spot, AreImages, term_parts_at, form_parts_at}
 use Rattle.ll_bank.proofs.CallerLemmas.{HasTerm-extends, HasForm-extends, term_tree-extends, form_tree-extends, AllInTerms-extends, term_trees-extends}
 use Rattle.ll_bank.proofs.CallerLemmas.{term_parts_same, form_parts_same}
 use Rattle.ll_close.specs.Closing.{env_of, under, IsTermImage, IsFormImage, IsGoodTerm, IsGoodForm}
-use Rattle.ll_close.specs.Stacks.{EndsWith}
+use Rattle.ll_close.specs.declared.stack.Task.{Task}
+use Rattle.ll_close.specs.Stacks.{EndsWith, IsClosing, spot_of}
+use Rattle.ll_close.proofs.Stacks.{closing_good, closing_ready}
 use Rattle.ll_close.proofs.Values.{env_extends}
 use Rattle.ll_close.proofs.Parts.{term_good_now, form_good_now}
 
@@ -106,3 +108,56 @@ terms_more first now new e t n terms made made' i d image l all is s f = (
       ∙ (sym (map-append (close (under t n)) (term_trees first (take i terms)) (term_tree first (get_or terms i d).0 ∷ []))
       ∙ ap (map (close (under t n))) (sym (map_more (λ (a : At). term_tree first a.0) terms i d l))))),
 )
+
+-- ---- the next task
+
+-- what is known of a term whose task is next
+pub record TermTurn (first now : Nodes) (values : List At) (task : Task) (made : List At) : Type 0 where
+  pub good : IsGoodTerm first (env_of first values) (spot_of task)
+  pub heads : applies_heads (close (under (env_of now values) task.level) (term_tree now task.place)) ≡ true
+  pub parts : term_parts_at now (spot_of task) ≡ term_parts_at first (spot_of task)
+  pub ends : task.ready ≡ true → EndsWith (λ q (x : At). IsTermImage now (env_of now values) q x.0) (term_parts_at now (spot_of task)) made
+  pub image : (next : Nodes) (at : ℕ) → Extends now next → ShowsTerm next at (close (under (env_of now values) task.level) (term_tree now task.place))
+      → IsTermImage next (env_of first values) (spot_of task) at
+
+pub term_turn : {first now : Nodes} {root : Spot} {made : List At} {items : List Task} (values : List At) (rest : List Task) (task : Task)
+    → Extends first now → AllInTerms first values → items ≡ rest ++ task ∷ []
+    → IsClosing (λ q (x : At). IsTermImage now (env_of first values) q x.0) (term_parts_at first) (IsGoodTerm first (env_of first values)) root made items
+    → TermTurn first now values task made
+term_turn {first} {now} {made} values rest task e all is c =
+    let k = spot_of task in
+    let g : IsGoodTerm first (env_of first values) k = closing_good rest task is c in
+    record {
+      good = g;
+      heads = term_heads_now first now e values all k g;
+      parts = term_parts_same first now e k g.0;
+      ends = λ r. terms_end_now first now e values all k made g.0 (closing_ready rest task is c r);
+      image = λ next at more s. term_image_made first now e values all k next more at g.0 s;
+    }
+
+-- and of a formula
+pub record FormTurn (first now : Nodes) (values : List At) (limit : ℕ) (task : Task) (made : List FormAt) : Type 0 where
+  pub good : IsGoodForm first (env_of first values, limit) (spot_of task)
+  pub inside : HasForm now task.place
+  pub heads : form_applies_heads (close_form (under (env_of now values) task.level) (form_tree now task.place)) ≡ true
+  pub parts : form_parts_at now (spot_of task) ≡ form_parts_at first (spot_of task)
+  pub ends : task.ready ≡ true → EndsWith (λ q (x : FormAt). IsFormImage now (env_of now values) q x.0) (form_parts_at now (spot_of task)) made
+  pub image : (next : Nodes) (at : ℕ) → Extends now next → ShowsForm next at (close_form (under (env_of now values) task.level) (form_tree now task.place))
+      → IsFormImage next (env_of first values) (spot_of task) at
+
+pub form_turn : {first now : Nodes} {limit : ℕ} {root : Spot} {made : List FormAt} {items : List Task} (values : List At) (rest : List Task) (task : Task)
+    → Extends first now → AllInTerms first values → items ≡ rest ++ task ∷ []
+    → IsClosing (λ q (x : FormAt). IsFormImage now (env_of first values) q x.0) (form_parts_at first) (IsGoodForm first (env_of first values, limit)) root made
+    items
+    → FormTurn first now values limit task made
+form_turn {first} {now} {limit} {made} values rest task e all is c =
+    let k = spot_of task in
+    let g : IsGoodForm first (env_of first values, limit) k = closing_good rest task is c in
+    record {
+      good = g;
+      inside = HasForm-extends e task.place g.inside;
+      heads = form_heads_now first now e values all k limit g;
+      parts = form_parts_same first now e k g.inside;
+      ends = λ r. forms_end_now first now e values all k made g.inside (closing_ready rest task is c r);
+      image = λ next at more s. form_image_made first now e values all k next more at g.inside s;
+    }

@@ -4,14 +4,14 @@ use Rattle.std.specs.HashMap.{get}
 use Rattle.ll_bank.specs.declared.FormAt.{FormAt}
 use Rattle.ll_bank.specs.Nodes.{form_tree}
 use Rattle.ll_bank.specs.Opened.{Spot, form_parts_at, form_size_at}
-use Rattle.ll_bank.proofs.CallerLemmas.{Extends-refl, Extends-trans, HasForm-extends, form_parts_same, form_size-some}
+use Rattle.ll_bank.proofs.CallerLemmas.{Extends-refl, Extends-trans, form_size-some}
 use Rattle.ll_close.specs.Closing.{env_of, same_spot, IsTermImage, IsFormImage, IsGoodForm}
 use Rattle.ll_close.specs.Stacks.{visit, ready}
 use Rattle.ll_close.proofs.Known.{images_add, images_none, form_image_extends, form_images_extend}
-use Rattle.ll_close.proofs.Stacks.{closing_begins, closing_good, closing_ready, closing_builds, closing_found, closing_expands, closing_ends, take_none}
+use Rattle.ll_close.proofs.Stacks.{closing_begins, closing_builds, closing_found, closing_expands, closing_ends, take_none}
 use Rattle.ll_close.proofs.Stacks.{work_pops, work_expands}
 use Rattle.ll_close.proofs.Parts.{form_parts_first}
-use Rattle.ll_close.proofs.Steps.{form_heads_now, forms_end_now, form_image_made, form_left, images_now, images_then}
+use Rattle.ll_close.proofs.Steps.{form_turn, form_left, images_now, images_then}
 use Rattle.ll_close.proofs.form.close_deep.Goals as goal
 
 pub returns-in_err-push_part-clause-keeps : goal.returns-in_err-push_part-clause-keeps
@@ -35,39 +35,15 @@ loop-task-init c =
 
 pub build_form-requires-clause-heads : goal.build_form-requires-clause-heads
 build_form-requires-clause-heads c =
-    let first = c.args.bank.now in
-    let now = c.loop-task.bank in
-    let vs = c.args.values.now in
-    let env = env_of first vs in
-    let good = IsGoodForm first (env, c.args.form.0) in
-    let root : Spot = (c.args.form.0, 0) in
-    let inv = c.loop-task.invariant in
-    let items = c.loop-task.tasks.items in
-    let rest = c.pop.new.self.items in
-    let task = c.in-Some.task in
-    let k : Spot = (task.place, task.level) in
-    let e = c.in-Some.ensures.items in
-    let g = closing_good (form_parts_at first) good root (λ q (x : FormAt). IsFormImage now env q x.0) c.loop-task.made.items items rest task e inv.closing in
-    form_heads_now first now inv.keeps vs c.requires.values k c.args.form.0 g
+    let f = form_turn c.args.values.now c.pop.new.self.items c.in-Some.task c.loop-task.invariant.keeps c.requires.values c.in-Some.ensures.items
+    c.loop-task.invariant.closing in
+    f.heads
 
 pub build_form-requires-clause-parts : goal.build_form-requires-clause-parts
 build_form-requires-clause-parts c =
-    let first = c.args.bank.now in
-    let now = c.loop-task.bank in
-    let vs = c.args.values.now in
-    let env = env_of first vs in
-    let good = IsGoodForm first (env, c.args.form.0) in
-    let root : Spot = (c.args.form.0, 0) in
-    let inv = c.loop-task.invariant in
-    let items = c.loop-task.tasks.items in
-    let rest = c.pop.new.self.items in
-    let task = c.in-Some.task in
-    let k : Spot = (task.place, task.level) in
-    let e = c.in-Some.ensures.items in
-    let g = closing_good (form_parts_at first) good root (λ q (x : FormAt). IsFormImage now env q x.0) c.loop-task.made.items items rest task e inv.closing in
-    forms_end_now first now inv.keeps vs c.requires.values k c.loop-task.made.items g.inside
-    (closing_ready (form_parts_at first) good root (λ q (x : FormAt). IsFormImage now env q x.0) c.loop-task.made.items items rest task e inv.closing
-    c.if-task.true)
+    let f = form_turn c.args.values.now c.pop.new.self.items c.in-Some.task c.loop-task.invariant.keeps c.requires.values c.in-Some.ensures.items
+    c.loop-task.invariant.closing in
+    f.ends c.if-task.true
 
 pub returns-in_err-remember-clause-keeps : goal.returns-in_err-remember-clause-keeps
 returns-in_err-remember-clause-keeps c =
@@ -79,33 +55,29 @@ returns-in_err-push-clause-keeps c =
 
 pub loop-task-preserved-in-Continue-branch-4 : goal.loop-task-preserved-in-Continue-branch-4
 loop-task-preserved-in-Continue-branch-4 c =
+    let f = form_turn c.args.values.now c.pop.new.self.items c.in-Some.task c.loop-task.invariant.keeps c.requires.values c.in-Some.ensures.items
+    c.loop-task.invariant.closing in
     let first = c.args.bank.now in
     let now = c.loop-task.bank in
     let vs = c.args.values.now in
     let env = env_of first vs in
-    let good = IsGoodForm first (env, c.args.form.0) in
-    let root : Spot = (c.args.form.0, 0) in
     let inv = c.loop-task.invariant in
-    let items = c.loop-task.tasks.items in
     let rest = c.pop.new.self.items in
     let task = c.in-Some.task in
     let k : Spot = (task.place, task.level) in
     let e = c.in-Some.ensures.items in
-    let g = closing_good (form_parts_at first) good root (λ q (x : FormAt). IsFormImage now env q x.0) c.loop-task.made.items items rest task e inv.closing in
     let next = c.build_form.new.bank in
     let more = c.in_ok-image.ensures.keeps in
-    let here = form_image_made first now inv.keeps vs c.requires.values k next more c.in_ok-image.image.0 g.inside c.in_ok-image.ensures.shows in
+    let here = f.image next c.in_ok-image.image.0 more c.in_ok-image.ensures.shows in
     record {
       keeps = Extends-trans inv.keeps more;
       terms = images_then first now inv.keeps vs c.requires.values next (get same_spot c.build_form.new.terms.places) c.in_ok-image.ensures.terms;
       forms = images_add (IsFormImage next env) (get same_spot c.loop-task.forms.places) (get same_spot c.remember.new.self.places) k c.in_ok-image.image.0
           (form_images_extend now next more env (get same_spot c.loop-task.forms.places) inv.forms) here c.in_ok-remember.ensures;
-      closing = closing_builds (form_parts_at first) good root (λ q (x : FormAt). IsFormImage now env q x.0) c.loop-task.made.items items rest task e
-          inv.closing
-          (λ q (x : FormAt). IsFormImage next env q x.0) (λ q x. form_image_extends now next more env q x.0) c.in_ok-image.image here c.push.new.self.items
+      closing = closing_builds rest task e inv.closing (λ q x. form_image_extends now next more env q x.0) c.in_ok-image.image here c.push.new.self.items
           c.build_form.new.made.items c.if-task.true
-          (c.in_ok-image.ensures.made ∙ ap (λ ps. take (length c.loop-task.made.items - length ps) c.loop-task.made.items)
-          (form_parts_same first now inv.keeps k g.inside)) c.in_ok-push.ensures.items;
+          (c.in_ok-image.ensures.made ∙ ap (λ ps. take (length c.loop-task.made.items - length ps) c.loop-task.made.items) f.parts)
+          c.in_ok-push.ensures.items;
     }
 
 pub loop-task-smaller-in-Continue-branch-5 : goal.loop-task-smaller-in-Continue-branch-5
@@ -115,70 +87,55 @@ loop-task-smaller-in-Continue-branch-5 c =
 
 pub loop-task-preserved-in-Continue-branch-5 : goal.loop-task-preserved-in-Continue-branch-5
 loop-task-preserved-in-Continue-branch-5 c =
-    let first = c.args.bank.now in
-    let now = c.loop-task.bank in
-    let vs = c.args.values.now in
-    let env = env_of first vs in
-    let good = IsGoodForm first (env, c.args.form.0) in
-    let root : Spot = (c.args.form.0, 0) in
     let inv = c.loop-task.invariant in
-    let items = c.loop-task.tasks.items in
     let rest = c.pop.new.self.items in
     let task = c.in-Some.task in
     let k : Spot = (task.place, task.level) in
     let e = c.in-Some.ensures.items in
-    let g = closing_good (form_parts_at first) good root (λ q (x : FormAt). IsFormImage now env q x.0) c.loop-task.made.items items rest task e inv.closing in
     record {
       keeps = inv.keeps;
       terms = inv.terms;
       forms = inv.forms;
-      closing = closing_found (form_parts_at first) good root (λ q (x : FormAt). IsFormImage now env q x.0) c.loop-task.made.items items rest task e inv.closing
-          (λ q (x : FormAt). IsFormImage now env q x.0) (λ q x h. h) (record { 0 = c.in-Some-find.image })
+      closing = closing_found rest task e inv.closing (λ q x h. h) (record { 0 = c.in-Some-find.image })
           (inv.forms k c.in-Some-find.image c.in-Some-find.ensures) c.push-in-Some-find.new.self.items c.if-task.false c.in_ok-push-2.ensures.items;
     }
 
 pub loop-task-smaller : goal.loop-task-smaller
 loop-task-smaller c =
+    let f = form_turn c.args.values.now c.pop.new.self.items c.in-Some.task c.loop-task.invariant.keeps c.requires.values c.in-Some.ensures.items
+    c.loop-task.invariant.closing in
     let first = c.args.bank.now in
     let now = c.loop-task.bank in
-    let vs = c.args.values.now in
-    let env = env_of first vs in
-    let good = IsGoodForm first (env, c.args.form.0) in
-    let root : Spot = (c.args.form.0, 0) in
     let inv = c.loop-task.invariant in
     let items = c.loop-task.tasks.items in
     let rest = c.pop.new.self.items in
     let task = c.in-Some.task in
     let k : Spot = (task.place, task.level) in
     let e = c.in-Some.ensures.items in
-    let g = closing_good (form_parts_at first) good root (λ q (x : FormAt). IsFormImage now env q x.0) c.loop-task.made.items items rest task e inv.closing in
-    let pushed = c.in_ok-push_form.ensures.pushed ∙ ap (λ ps. map visit ps ++ ready k ∷ reverse rest) (form_parts_same first now inv.keeps k g.inside) in
-    let parts = form_parts_first first now inv.keeps k g.inside c.in_ok-push_form.ensures.parts in
+    let pushed = c.in_ok-push_form.ensures.pushed ∙ ap (λ ps. map visit ps ++ ready k ∷ reverse rest) f.parts in
+    let parts = form_parts_first first now inv.keeps k f.good.inside c.in_ok-push_form.ensures.parts in
     work_expands (form_size_at first) items rest c.push_form.new.tasks.items task (form_parts_at first k) e pushed c.if-task.false parts.smaller
 
 pub loop-task-preserved : goal.loop-task-preserved
 loop-task-preserved c =
+    let f = form_turn c.args.values.now c.pop.new.self.items c.in-Some.task c.loop-task.invariant.keeps c.requires.values c.in-Some.ensures.items
+    c.loop-task.invariant.closing in
     let first = c.args.bank.now in
     let now = c.loop-task.bank in
     let vs = c.args.values.now in
     let env = env_of first vs in
-    let good = IsGoodForm first (env, c.args.form.0) in
-    let root : Spot = (c.args.form.0, 0) in
     let inv = c.loop-task.invariant in
-    let items = c.loop-task.tasks.items in
     let rest = c.pop.new.self.items in
     let task = c.in-Some.task in
     let k : Spot = (task.place, task.level) in
     let e = c.in-Some.ensures.items in
-    let g = closing_good (form_parts_at first) good root (λ q (x : FormAt). IsFormImage now env q x.0) c.loop-task.made.items items rest task e inv.closing in
-    let pushed = c.in_ok-push_form.ensures.pushed ∙ ap (λ ps. map visit ps ++ ready k ∷ reverse rest) (form_parts_same first now inv.keeps k g.inside) in
-    let parts = form_parts_first first now inv.keeps k g.inside c.in_ok-push_form.ensures.parts in
+    let pushed = c.in_ok-push_form.ensures.pushed ∙ ap (λ ps. map visit ps ++ ready k ∷ reverse rest) f.parts in
+    let parts = form_parts_first first now inv.keeps k f.good.inside c.in_ok-push_form.ensures.parts in
     record {
       keeps = inv.keeps;
       terms = inv.terms;
       forms = inv.forms;
-      closing = closing_expands (form_parts_at first) good root (λ q (x : FormAt). IsFormImage now env q x.0) c.loop-task.made.items items rest task e
-          inv.closing c.push_form.new.tasks.items c.if-task.false pushed (parts.still_good (env, c.args.form.0));
+      closing = closing_expands rest task e inv.closing c.push_form.new.tasks.items c.if-task.false pushed (parts.still_good (env, c.args.form.0));
     }
 
 pub returns-clause-shows : goal.returns-clause-shows
@@ -194,54 +151,20 @@ returns-clause-shows c =
 
 pub build_form-requires-clause-terms : goal.build_form-requires-clause-terms
 build_form-requires-clause-terms c =
-    let first = c.args.bank.now in
-    let now = c.loop-task.bank in
-    let vs = c.args.values.now in
-    let env = env_of first vs in
-    let good = IsGoodForm first (env, c.args.form.0) in
-    let root : Spot = (c.args.form.0, 0) in
-    let inv = c.loop-task.invariant in
-    let items = c.loop-task.tasks.items in
-    let rest = c.pop.new.self.items in
-    let task = c.in-Some.task in
-    let k : Spot = (task.place, task.level) in
-    let e = c.in-Some.ensures.items in
-    let g = closing_good (form_parts_at first) good root (λ q (x : FormAt). IsFormImage now env q x.0) c.loop-task.made.items items rest task e inv.closing in
-    images_now first now inv.keeps vs c.requires.values (get same_spot c.loop-task.terms.places) inv.terms
+    images_now c.args.bank.now c.loop-task.bank c.loop-task.invariant.keeps c.args.values.now c.requires.values
+    (get same_spot c.loop-task.terms.places) c.loop-task.invariant.terms
 
 pub push_form-requires-clause-inside : goal.push_form-requires-clause-inside
 push_form-requires-clause-inside c =
-    let first = c.args.bank.now in
-    let now = c.loop-task.bank in
-    let vs = c.args.values.now in
-    let env = env_of first vs in
-    let good = IsGoodForm first (env, c.args.form.0) in
-    let root : Spot = (c.args.form.0, 0) in
-    let inv = c.loop-task.invariant in
-    let items = c.loop-task.tasks.items in
-    let rest = c.pop.new.self.items in
-    let task = c.in-Some.task in
-    let k : Spot = (task.place, task.level) in
-    let e = c.in-Some.ensures.items in
-    let g = closing_good (form_parts_at first) good root (λ q (x : FormAt). IsFormImage now env q x.0) c.loop-task.made.items items rest task e inv.closing in
-    HasForm-extends inv.keeps task.place g.inside
+    let f = form_turn c.args.values.now c.pop.new.self.items c.in-Some.task c.loop-task.invariant.keeps c.requires.values c.in-Some.ensures.items
+    c.loop-task.invariant.closing in
+    f.inside
 
 pub push_form-requires-clause-level : goal.push_form-requires-clause-level
 push_form-requires-clause-level c =
-    let first = c.args.bank.now in
-    let now = c.loop-task.bank in
-    let vs = c.args.values.now in
-    let env = env_of first vs in
-    let good = IsGoodForm first (env, c.args.form.0) in
-    let root : Spot = (c.args.form.0, 0) in
-    let inv = c.loop-task.invariant in
-    let items = c.loop-task.tasks.items in
-    let rest = c.pop.new.self.items in
-    let task = c.in-Some.task in
-    let k : Spot = (task.place, task.level) in
-    let e = c.in-Some.ensures.items in
-    let g = closing_good (form_parts_at first) good root (λ q (x : FormAt). IsFormImage now env q x.0) c.loop-task.made.items items rest task e inv.closing in
-    let l = g.level in let f = c.place_of.ensures.fits in let s = c.place_of.ensures.is in omega arith
+    let f = form_turn c.args.values.now c.pop.new.self.items c.in-Some.task c.loop-task.invariant.keeps c.requires.values c.in-Some.ensures.items
+    c.loop-task.invariant.closing in
+    let l = f.good.level in let p = c.place_of.ensures.fits in let s = c.place_of.ensures.is in omega arith
 
 pub returns-in_err-image-clause-keeps : goal.returns-in_err-image-clause-keeps
 returns-in_err-image-clause-keeps c =
@@ -249,37 +172,14 @@ returns-in_err-image-clause-keeps c =
 
 pub build_form-requires-then-is_single-clause-heads : goal.build_form-requires-then-is_single-clause-heads
 build_form-requires-then-is_single-clause-heads c =
-    let first = c.args.bank.now in
-    let now = c.loop-task.bank in
-    let vs = c.args.values.now in
-    let env = env_of first vs in
-    let good = IsGoodForm first (env, c.args.form.0) in
-    let root : Spot = (c.args.form.0, 0) in
-    let inv = c.loop-task.invariant in
-    let items = c.loop-task.tasks.items in
-    let rest = c.pop.new.self.items in
-    let task = c.in-Some.task in
-    let k : Spot = (task.place, task.level) in
-    let e = c.in-Some.ensures.items in
-    let g = closing_good (form_parts_at first) good root (λ q (x : FormAt). IsFormImage now env q x.0) c.loop-task.made.items items rest task e inv.closing in
-    form_heads_now first now inv.keeps vs c.requires.values k c.args.form.0 g
+    let f = form_turn c.args.values.now c.pop.new.self.items c.in-Some.task c.loop-task.invariant.keeps c.requires.values c.in-Some.ensures.items
+    c.loop-task.invariant.closing in
+    f.heads
 
 pub build_form-requires-then-is_single-clause-terms : goal.build_form-requires-then-is_single-clause-terms
 build_form-requires-then-is_single-clause-terms c =
-    let first = c.args.bank.now in
-    let now = c.loop-task.bank in
-    let vs = c.args.values.now in
-    let env = env_of first vs in
-    let good = IsGoodForm first (env, c.args.form.0) in
-    let root : Spot = (c.args.form.0, 0) in
-    let inv = c.loop-task.invariant in
-    let items = c.loop-task.tasks.items in
-    let rest = c.pop.new.self.items in
-    let task = c.in-Some.task in
-    let k : Spot = (task.place, task.level) in
-    let e = c.in-Some.ensures.items in
-    let g = closing_good (form_parts_at first) good root (λ q (x : FormAt). IsFormImage now env q x.0) c.loop-task.made.items items rest task e inv.closing in
-    images_now first now inv.keeps vs c.requires.values (get same_spot c.loop-task.terms.places) inv.terms
+    images_now c.args.bank.now c.loop-task.bank c.loop-task.invariant.keeps c.args.values.now c.requires.values
+    (get same_spot c.loop-task.terms.places) c.loop-task.invariant.terms
 
 pub returns-in_err-image-2-clause-keeps : goal.returns-in_err-image-2-clause-keeps
 returns-in_err-image-2-clause-keeps c =
@@ -296,30 +196,27 @@ loop-task-smaller-in-Continue-branch-7 c =
 
 pub loop-task-preserved-in-Continue-branch-7 : goal.loop-task-preserved-in-Continue-branch-7
 loop-task-preserved-in-Continue-branch-7 c =
+    let f = form_turn c.args.values.now c.pop.new.self.items c.in-Some.task c.loop-task.invariant.keeps c.requires.values c.in-Some.ensures.items
+    c.loop-task.invariant.closing in
     let first = c.args.bank.now in
     let now = c.loop-task.bank in
     let vs = c.args.values.now in
     let env = env_of first vs in
-    let good = IsGoodForm first (env, c.args.form.0) in
-    let root : Spot = (c.args.form.0, 0) in
     let inv = c.loop-task.invariant in
-    let items = c.loop-task.tasks.items in
     let rest = c.pop.new.self.items in
     let task = c.in-Some.task in
     let k : Spot = (task.place, task.level) in
     let e = c.in-Some.ensures.items in
-    let g = closing_good (form_parts_at first) good root (λ q (x : FormAt). IsFormImage now env q x.0) c.loop-task.made.items items rest task e inv.closing in
     let next = c.build_form-then-is_single.new.bank in
     let more = c.build_form-then-is_single.ensures.keeps in
-    let here = form_image_made first now inv.keeps vs c.requires.values k next more c.in_ok-image-2.image.0 g.inside c.in_ok-image-2.ensures.shows in
+    let here = f.image next c.in_ok-image-2.image.0 more c.in_ok-image-2.ensures.shows in
     let same = c.in_ok-image-2.ensures.made ∙ sym (take_none c.loop-task.made.items (form_parts_at now k) (c.is_single.ensures c.if-is_single.true)) in
     record {
       keeps = Extends-trans inv.keeps more;
       terms = images_then first now inv.keeps vs c.requires.values next (get same_spot c.build_form-then-is_single.new.terms.places)
           c.in_ok-image-2.ensures.terms;
       forms = form_images_extend now next more env (get same_spot c.loop-task.forms.places) inv.forms;
-      closing = closing_found (form_parts_at first) good root (λ q (x : FormAt). IsFormImage now env q x.0) c.loop-task.made.items items rest task e inv.closing
-          (λ q (x : FormAt). IsFormImage next env q x.0) (λ q x. form_image_extends now next more env q x.0) c.in_ok-image-2.image here
+      closing = closing_found rest task e inv.closing (λ q x. form_image_extends now next more env q x.0) c.in_ok-image-2.image here
           c.push-then-is_single.new.self.items c.if-task.false
           (c.in_ok-push-3.ensures.items ∙ ap (λ z. z ++ c.in_ok-image-2.image ∷ []) same);
     }

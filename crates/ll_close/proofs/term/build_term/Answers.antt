@@ -1,46 +1,37 @@
-use Rattle.std.proofs.Common.{◌≡◌, ap, sym, subst, ◌∙◌, arith, length, length-append, take, ◌-◌, rules}
+use Rattle.std.proofs.Common.{◌≡◌, ap, sym, subst, ◌∙◌, arith, length, take, ◌-◌, rules}
 use Rattle.ll_bank.specs.declared.TermView.TheVariants.{Var as VarView, Int as IntView}
 use Rattle.ll_bank.specs.Term.{applies_heads}
 use Rattle.ll_bank.specs.Nodes.{term_tree, term_trees, AllInTerms, ShowsTerm, node_of_term}
 use Rattle.ll_bank.specs.Opened.{term_parts, term_parts_at}
 use Rattle.ll_bank.proofs.CallerLemmas.{Extends-refl, node_seen, opened_app}
-use Rattle.ll_close.specs.Closing.{env_of, under, IsTermImage}
-use Rattle.ll_close.proofs.Stacks.{images_length, slice_own, take_none}
-use Rattle.ll_close.proofs.Parts.{args_closed, args_count}
+use Rattle.ll_close.specs.Closing.{env_of, under}
+use Rattle.ll_close.proofs.Stacks.{take_none}
+use Rattle.ll_close.proofs.Parts.{args_made, args_count}
 use Rattle.ll_close.proofs.term.build_term.Goals as goal
 
 pub overflow_sub-from : goal.overflow_sub-from
 overflow_sub-from c =
     let bank = c.args.bank.now in
     let env = env_of bank c.args.values.now in
-    let p = c.requires.parts in
-    let n = args_count bank env c.args.task.place c.args.task.level c.in-App.head c.in-App.args.now c.in-App.ensures.node in
-    let l = images_length (λ k x. IsTermImage bank env k x.0) (term_parts_at bank (c.args.task.place, c.args.task.level)) p.own p.images in
-    let w = length-append p.below p.own in let v = ap length p.is in
+    let f = args_made bank env c.args.task.place c.args.task.level c.in-App.head c.in-App.args.now c.in-App.ensures.node c.requires.parts in
+    let l = f.enough in
     omega arith
 
 pub closed_head-requires-clause-places : goal.closed_head-requires-clause-places
 closed_head-requires-clause-places c =
     let bank = c.args.bank.now in
     let env = env_of bank c.args.values.now in
-    let p = c.requires.parts in
-    let n = args_count bank env c.args.task.place c.args.task.level c.in-App.head c.in-App.args.now c.in-App.ensures.node in
-    let l = images_length (λ k x. IsTermImage bank env k x.0) (term_parts_at bank (c.args.task.place, c.args.task.level)) p.own p.images in
-    let o = args_closed bank env c.args.task.place c.args.task.level c.in-App.head c.in-App.args.now c.in-App.ensures.node p.own p.images in
-    subst (AllInTerms bank) (sym (slice_own c.deref.result.now c.args.made.now.items p.below p.own _ (length c.in-App.args.now) c.deref.ensures.value p.is
-    (l ∙ n) (search rules))) o.0
+    let f = args_made bank env c.args.task.place c.args.task.level c.in-App.head c.in-App.args.now c.in-App.ensures.node c.requires.parts in
+    subst (AllInTerms bank) (sym (f.read c.deref.result.now _ c.deref.ensures.value (search rules))) f.inside
 
 pub closed_head-requires-clause-heads : goal.closed_head-requires-clause-heads
 closed_head-requires-clause-heads c =
     let bank = c.args.bank.now in
     let env = env_of bank c.args.values.now in
-    let p = c.requires.parts in
-    let n = args_count bank env c.args.task.place c.args.task.level c.in-App.head c.in-App.args.now c.in-App.ensures.node in
-    let l = images_length (λ k x. IsTermImage bank env k x.0) (term_parts_at bank (c.args.task.place, c.args.task.level)) p.own p.images in
-    let o = args_closed bank env c.args.task.place c.args.task.level c.in-App.head c.in-App.args.now c.in-App.ensures.node p.own p.images in
-    let s = slice_own c.deref.result.now c.args.made.now.items p.below p.own _ (length c.in-App.args.now) c.deref.ensures.value p.is (l ∙ n) (search rules) in
+    let f = args_made bank env c.args.task.place c.args.task.level c.in-App.head c.in-App.args.now c.in-App.ensures.node c.requires.parts in
+    let s = f.read c.deref.result.now _ c.deref.ensures.value (search rules) in
     sym (ap applies_heads (opened_app (under env c.args.task.level) (term_tree bank c.args.task.place) c.in-App.head (term_trees bank c.in-App.args.now) _
-    c.in-App.ensures.shown.0 (ap (term_trees bank) s ∙ o.1))) ∙ c.requires.heads
+    c.in-App.ensures.shown.0 (ap (term_trees bank) s ∙ f.closed))) ∙ c.requires.heads
 
 pub returns-in-Var-clause-made : goal.returns-in-Var-clause-made
 returns-in-Var-clause-made c =
@@ -64,14 +55,11 @@ pub returns-in_ok-image-in-App-clause-shows : goal.returns-in_ok-image-in-App-cl
 returns-in_ok-image-in-App-clause-shows c =
     let bank = c.args.bank.now in
     let env = env_of bank c.args.values.now in
-    let p = c.requires.parts in
-    let n = args_count bank env c.args.task.place c.args.task.level c.in-App.head c.in-App.args.now c.in-App.ensures.node in
-    let l = images_length (λ k x. IsTermImage bank env k x.0) (term_parts_at bank (c.args.task.place, c.args.task.level)) p.own p.images in
-    let o = args_closed bank env c.args.task.place c.args.task.level c.in-App.head c.in-App.args.now c.in-App.ensures.node p.own p.images in
-    let s = slice_own c.deref.result.now c.args.made.now.items p.below p.own _ (length c.in-App.args.now) c.deref.ensures.value p.is (l ∙ n) (search rules) in
+    let f = args_made bank env c.args.task.place c.args.task.level c.in-App.head c.in-App.args.now c.in-App.ensures.node c.requires.parts in
+    let s = f.read c.deref.result.now _ c.deref.ensures.value (search rules) in
     subst (λ t. ShowsTerm c.closed_head.new.bank c.in_ok-image-in-App.image.0 t)
     (sym (opened_app (under env c.args.task.level) (term_tree bank c.args.task.place) c.in-App.head (term_trees bank c.in-App.args.now) _
-    c.in-App.ensures.shown.0 (ap (term_trees bank) s ∙ o.1))) c.in_ok-image-in-App.ensures.shows
+    c.in-App.ensures.shown.0 (ap (term_trees bank) s ∙ f.closed))) c.in_ok-image-in-App.ensures.shows
 
 pub returns-in_ok-image-in-App-clause-made : goal.returns-in_ok-image-in-App-clause-made
 returns-in_ok-image-in-App-clause-made c =

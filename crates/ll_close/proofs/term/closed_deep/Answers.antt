@@ -4,14 +4,14 @@ use Rattle.std.specs.HashMap.{get}
 use Rattle.ll_bank.specs.declared.At.{At}
 use Rattle.ll_bank.specs.Nodes.{term_tree}
 use Rattle.ll_bank.specs.Opened.{Spot, term_parts_at, term_size_at}
-use Rattle.ll_bank.proofs.CallerLemmas.{Extends-refl, Extends-trans, term_parts_same, term_size-some}
+use Rattle.ll_bank.proofs.CallerLemmas.{Extends-refl, Extends-trans, term_size-some}
 use Rattle.ll_close.specs.Closing.{env_of, same_spot, IsTermImage, IsGoodTerm}
 use Rattle.ll_close.specs.Stacks.{visit, ready}
 use Rattle.ll_close.proofs.Known.{images_add, term_image_extends, term_images_extend}
-use Rattle.ll_close.proofs.Stacks.{closing_begins, closing_good, closing_ready, closing_builds, closing_found, closing_expands, closing_ends, take_none}
+use Rattle.ll_close.proofs.Stacks.{closing_begins, closing_builds, closing_found, closing_expands, closing_ends, take_none}
 use Rattle.ll_close.proofs.Stacks.{work_pops, work_expands}
 use Rattle.ll_close.proofs.Parts.{term_parts_first}
-use Rattle.ll_close.proofs.Steps.{term_heads_now, terms_end_now, term_image_made, term_left}
+use Rattle.ll_close.proofs.Steps.{term_turn, term_left}
 use Rattle.ll_close.proofs.term.closed_deep.Goals as goal
 
 pub returns-in_err-push_part-clause-keeps : goal.returns-in_err-push_part-clause-keeps
@@ -32,39 +32,15 @@ loop-task-init c =
 
 pub build_term-requires-clause-heads : goal.build_term-requires-clause-heads
 build_term-requires-clause-heads c =
-    let first = c.args.bank.now in
-    let now = c.loop-task.bank in
-    let vs = c.args.values.now in
-    let env = env_of first vs in
-    let good = IsGoodTerm first env in
-    let root : Spot = (c.args.at.0, c.args.level) in
-    let inv = c.loop-task.invariant in
-    let items = c.loop-task.tasks.items in
-    let rest = c.pop.new.self.items in
-    let task = c.in-Some.task in
-    let k : Spot = (task.place, task.level) in
-    let e = c.in-Some.ensures.items in
-    let g = closing_good (term_parts_at first) good root (λ q (x : At). IsTermImage now env q x.0) c.loop-task.made.items items rest task e inv.closing in
-    term_heads_now first now inv.keeps vs c.requires.values k g
+    let f = term_turn c.args.values.now c.pop.new.self.items c.in-Some.task c.loop-task.invariant.keeps c.requires.values c.in-Some.ensures.items
+    c.loop-task.invariant.closing in
+    f.heads
 
 pub build_term-requires-clause-parts : goal.build_term-requires-clause-parts
 build_term-requires-clause-parts c =
-    let first = c.args.bank.now in
-    let now = c.loop-task.bank in
-    let vs = c.args.values.now in
-    let env = env_of first vs in
-    let good = IsGoodTerm first env in
-    let root : Spot = (c.args.at.0, c.args.level) in
-    let inv = c.loop-task.invariant in
-    let items = c.loop-task.tasks.items in
-    let rest = c.pop.new.self.items in
-    let task = c.in-Some.task in
-    let k : Spot = (task.place, task.level) in
-    let e = c.in-Some.ensures.items in
-    let g = closing_good (term_parts_at first) good root (λ q (x : At). IsTermImage now env q x.0) c.loop-task.made.items items rest task e inv.closing in
-    terms_end_now first now inv.keeps vs c.requires.values k c.loop-task.made.items g.0
-    (closing_ready (term_parts_at first) good root (λ q (x : At). IsTermImage now env q x.0) c.loop-task.made.items items rest task e inv.closing
-    c.if-task.true)
+    let f = term_turn c.args.values.now c.pop.new.self.items c.in-Some.task c.loop-task.invariant.keeps c.requires.values c.in-Some.ensures.items
+    c.loop-task.invariant.closing in
+    f.ends c.if-task.true
 
 pub returns-in_err-remember-clause-keeps : goal.returns-in_err-remember-clause-keeps
 returns-in_err-remember-clause-keeps c =
@@ -76,31 +52,28 @@ returns-in_err-push-clause-keeps c =
 
 pub loop-task-preserved-in-Continue-branch-4 : goal.loop-task-preserved-in-Continue-branch-4
 loop-task-preserved-in-Continue-branch-4 c =
+    let f = term_turn c.args.values.now c.pop.new.self.items c.in-Some.task c.loop-task.invariant.keeps c.requires.values c.in-Some.ensures.items
+    c.loop-task.invariant.closing in
     let first = c.args.bank.now in
     let now = c.loop-task.bank in
     let vs = c.args.values.now in
     let env = env_of first vs in
-    let good = IsGoodTerm first env in
-    let root : Spot = (c.args.at.0, c.args.level) in
     let inv = c.loop-task.invariant in
-    let items = c.loop-task.tasks.items in
     let rest = c.pop.new.self.items in
     let task = c.in-Some.task in
     let k : Spot = (task.place, task.level) in
     let e = c.in-Some.ensures.items in
-    let g = closing_good (term_parts_at first) good root (λ q (x : At). IsTermImage now env q x.0) c.loop-task.made.items items rest task e inv.closing in
     let next = c.build_term.new.bank in
     let more = c.in_ok-image.ensures.keeps in
-    let here = term_image_made first now inv.keeps vs c.requires.values k next more c.in_ok-image.image.0 g.0 c.in_ok-image.ensures.shows in
+    let here = f.image next c.in_ok-image.image.0 more c.in_ok-image.ensures.shows in
     record {
       keeps = Extends-trans inv.keeps more;
       images = images_add (IsTermImage next env) (get same_spot c.loop-task.images.places) (get same_spot c.remember.new.self.places) k c.in_ok-image.image.0
           (term_images_extend now next more env (get same_spot c.loop-task.images.places) inv.images) here c.in_ok-remember.ensures;
-      closing = closing_builds (term_parts_at first) good root (λ q (x : At). IsTermImage now env q x.0) c.loop-task.made.items items rest task e inv.closing
-          (λ q (x : At). IsTermImage next env q x.0) (λ q x. term_image_extends now next more env q x.0) c.in_ok-image.image here c.push.new.self.items
+      closing = closing_builds rest task e inv.closing (λ q x. term_image_extends now next more env q x.0) c.in_ok-image.image here c.push.new.self.items
           c.build_term.new.made.items c.if-task.true
-          (c.in_ok-image.ensures.made ∙ ap (λ ps. take (length c.loop-task.made.items - length ps) c.loop-task.made.items)
-          (term_parts_same first now inv.keeps k g.0)) c.in_ok-push.ensures.items;
+          (c.in_ok-image.ensures.made ∙ ap (λ ps. take (length c.loop-task.made.items - length ps) c.loop-task.made.items) f.parts)
+          c.in_ok-push.ensures.items;
     }
 
 pub loop-task-smaller-in-Continue-branch-5 : goal.loop-task-smaller-in-Continue-branch-5
@@ -110,68 +83,53 @@ loop-task-smaller-in-Continue-branch-5 c =
 
 pub loop-task-preserved-in-Continue-branch-5 : goal.loop-task-preserved-in-Continue-branch-5
 loop-task-preserved-in-Continue-branch-5 c =
-    let first = c.args.bank.now in
-    let now = c.loop-task.bank in
-    let vs = c.args.values.now in
-    let env = env_of first vs in
-    let good = IsGoodTerm first env in
-    let root : Spot = (c.args.at.0, c.args.level) in
     let inv = c.loop-task.invariant in
-    let items = c.loop-task.tasks.items in
     let rest = c.pop.new.self.items in
     let task = c.in-Some.task in
     let k : Spot = (task.place, task.level) in
     let e = c.in-Some.ensures.items in
-    let g = closing_good (term_parts_at first) good root (λ q (x : At). IsTermImage now env q x.0) c.loop-task.made.items items rest task e inv.closing in
     record {
       keeps = inv.keeps;
       images = inv.images;
-      closing = closing_found (term_parts_at first) good root (λ q (x : At). IsTermImage now env q x.0) c.loop-task.made.items items rest task e inv.closing
-          (λ q (x : At). IsTermImage now env q x.0) (λ q x h. h) (record { 0 = c.in-Some-find.image })
+      closing = closing_found rest task e inv.closing (λ q x h. h) (record { 0 = c.in-Some-find.image })
           (inv.images k c.in-Some-find.image c.in-Some-find.ensures) c.push-in-Some-find.new.self.items c.if-task.false c.in_ok-push-2.ensures.items;
     }
 
 pub loop-task-smaller : goal.loop-task-smaller
 loop-task-smaller c =
+    let f = term_turn c.args.values.now c.pop.new.self.items c.in-Some.task c.loop-task.invariant.keeps c.requires.values c.in-Some.ensures.items
+    c.loop-task.invariant.closing in
     let first = c.args.bank.now in
     let now = c.loop-task.bank in
-    let vs = c.args.values.now in
-    let env = env_of first vs in
-    let good = IsGoodTerm first env in
-    let root : Spot = (c.args.at.0, c.args.level) in
     let inv = c.loop-task.invariant in
     let items = c.loop-task.tasks.items in
     let rest = c.pop.new.self.items in
     let task = c.in-Some.task in
     let k : Spot = (task.place, task.level) in
     let e = c.in-Some.ensures.items in
-    let g = closing_good (term_parts_at first) good root (λ q (x : At). IsTermImage now env q x.0) c.loop-task.made.items items rest task e inv.closing in
-    let pushed = c.in_ok-push_term.ensures.pushed ∙ ap (λ ps. map visit ps ++ ready k ∷ reverse rest) (term_parts_same first now inv.keeps k g.0) in
-    let parts = term_parts_first first now inv.keeps k g.0 c.in_ok-push_term.ensures.parts in
+    let pushed = c.in_ok-push_term.ensures.pushed ∙ ap (λ ps. map visit ps ++ ready k ∷ reverse rest) f.parts in
+    let parts = term_parts_first first now inv.keeps k f.good.0 c.in_ok-push_term.ensures.parts in
     work_expands (term_size_at first) items rest c.push_term.new.tasks.items task (term_parts_at first k) e pushed c.if-task.false parts.smaller
 
 pub loop-task-preserved : goal.loop-task-preserved
 loop-task-preserved c =
+    let f = term_turn c.args.values.now c.pop.new.self.items c.in-Some.task c.loop-task.invariant.keeps c.requires.values c.in-Some.ensures.items
+    c.loop-task.invariant.closing in
     let first = c.args.bank.now in
     let now = c.loop-task.bank in
     let vs = c.args.values.now in
     let env = env_of first vs in
-    let good = IsGoodTerm first env in
-    let root : Spot = (c.args.at.0, c.args.level) in
     let inv = c.loop-task.invariant in
-    let items = c.loop-task.tasks.items in
     let rest = c.pop.new.self.items in
     let task = c.in-Some.task in
     let k : Spot = (task.place, task.level) in
     let e = c.in-Some.ensures.items in
-    let g = closing_good (term_parts_at first) good root (λ q (x : At). IsTermImage now env q x.0) c.loop-task.made.items items rest task e inv.closing in
-    let pushed = c.in_ok-push_term.ensures.pushed ∙ ap (λ ps. map visit ps ++ ready k ∷ reverse rest) (term_parts_same first now inv.keeps k g.0) in
-    let parts = term_parts_first first now inv.keeps k g.0 c.in_ok-push_term.ensures.parts in
+    let pushed = c.in_ok-push_term.ensures.pushed ∙ ap (λ ps. map visit ps ++ ready k ∷ reverse rest) f.parts in
+    let parts = term_parts_first first now inv.keeps k f.good.0 c.in_ok-push_term.ensures.parts in
     record {
       keeps = inv.keeps;
       images = inv.images;
-      closing = closing_expands (term_parts_at first) good root (λ q (x : At). IsTermImage now env q x.0) c.loop-task.made.items items rest task e inv.closing
-          c.push_term.new.tasks.items c.if-task.false pushed (parts.still_good env);
+      closing = closing_expands rest task e inv.closing c.push_term.new.tasks.items c.if-task.false pushed (parts.still_good env);
     }
 
 pub returns-clause-shows : goal.returns-clause-shows
@@ -187,20 +145,9 @@ returns-clause-shows c =
 
 pub build_term-requires-then-is_leaf-clause-heads : goal.build_term-requires-then-is_leaf-clause-heads
 build_term-requires-then-is_leaf-clause-heads c =
-    let first = c.args.bank.now in
-    let now = c.loop-task.bank in
-    let vs = c.args.values.now in
-    let env = env_of first vs in
-    let good = IsGoodTerm first env in
-    let root : Spot = (c.args.at.0, c.args.level) in
-    let inv = c.loop-task.invariant in
-    let items = c.loop-task.tasks.items in
-    let rest = c.pop.new.self.items in
-    let task = c.in-Some.task in
-    let k : Spot = (task.place, task.level) in
-    let e = c.in-Some.ensures.items in
-    let g = closing_good (term_parts_at first) good root (λ q (x : At). IsTermImage now env q x.0) c.loop-task.made.items items rest task e inv.closing in
-    term_heads_now first now inv.keeps vs c.requires.values k g
+    let f = term_turn c.args.values.now c.pop.new.self.items c.in-Some.task c.loop-task.invariant.keeps c.requires.values c.in-Some.ensures.items
+    c.loop-task.invariant.closing in
+    f.heads
 
 pub returns-in_err-image-2-clause-keeps : goal.returns-in_err-image-2-clause-keeps
 returns-in_err-image-2-clause-keeps c =
@@ -217,28 +164,25 @@ loop-task-smaller-in-Continue-branch-7 c =
 
 pub loop-task-preserved-in-Continue-branch-7 : goal.loop-task-preserved-in-Continue-branch-7
 loop-task-preserved-in-Continue-branch-7 c =
+    let f = term_turn c.args.values.now c.pop.new.self.items c.in-Some.task c.loop-task.invariant.keeps c.requires.values c.in-Some.ensures.items
+    c.loop-task.invariant.closing in
     let first = c.args.bank.now in
     let now = c.loop-task.bank in
     let vs = c.args.values.now in
     let env = env_of first vs in
-    let good = IsGoodTerm first env in
-    let root : Spot = (c.args.at.0, c.args.level) in
     let inv = c.loop-task.invariant in
-    let items = c.loop-task.tasks.items in
     let rest = c.pop.new.self.items in
     let task = c.in-Some.task in
     let k : Spot = (task.place, task.level) in
     let e = c.in-Some.ensures.items in
-    let g = closing_good (term_parts_at first) good root (λ q (x : At). IsTermImage now env q x.0) c.loop-task.made.items items rest task e inv.closing in
     let next = c.build_term-then-is_leaf.new.bank in
     let more = c.build_term-then-is_leaf.ensures.keeps in
-    let here = term_image_made first now inv.keeps vs c.requires.values k next more c.in_ok-image-2.image.0 g.0 c.in_ok-image-2.ensures.shows in
+    let here = f.image next c.in_ok-image-2.image.0 more c.in_ok-image-2.ensures.shows in
     let same = c.in_ok-image-2.ensures.made ∙ sym (take_none c.loop-task.made.items (term_parts_at now k) (c.is_leaf.ensures c.if-is_leaf.true)) in
     record {
       keeps = Extends-trans inv.keeps more;
       images = term_images_extend now next more env (get same_spot c.loop-task.images.places) inv.images;
-      closing = closing_found (term_parts_at first) good root (λ q (x : At). IsTermImage now env q x.0) c.loop-task.made.items items rest task e inv.closing
-          (λ q (x : At). IsTermImage next env q x.0) (λ q x. term_image_extends now next more env q x.0) c.in_ok-image-2.image here
+      closing = closing_found rest task e inv.closing (λ q x. term_image_extends now next more env q x.0) c.in_ok-image-2.image here
           c.push-then-is_leaf.new.self.items c.if-task.false
           (c.in_ok-push-3.ensures.items ∙ ap (λ z. z ++ c.in_ok-image-2.image ∷ []) same);
     }

@@ -1,4 +1,4 @@
-use Rattle.std.proofs.Common.{List, ◌<◌, ◌++◌, length, map, All, ap, sym, subst, ◌∙◌, codes}
+use Rattle.std.proofs.Common.{◌≡◌, List, ◌<◌, ◌++◌, length, map, All, ap, sym, subst, ◌∙◌, codes}
 use Rattle.std.specs.List.{flat_map}
 use Rattle.std.proofs.lemmas.List.Elements.{All-append}
 use Rattle.ll_bank.specs.declared.At.{At}
@@ -14,13 +14,18 @@ use Rattle.ll_prooftext.specs.Tables.{HasNumberAt, IsTableOf}
 use Rattle.ll_prooftext.proofs.writing.ShortLines.{All-left, All-right, each_node, inside_nodes, four_parts, fields_of, text2_is}
 use Rattle.ll_prooftext.proofs.text2.Goals as goal
 
+-- all places, of what was asked and of the rules that were read
+all_places : {read made asked asks : List At} {nodes rs : List Rule} → read ≡ made → made ≡ asks ++ flat_map rule_places rs → asks ≡ asked
+    → rs ≡ nodes → read ≡ asked ++ flat_map rule_places nodes
+all_places e is f g = e ∙ (is ∙ (λ i. f i ++ flat_map rule_places (g i)))
+
 pub places_of-requires : goal.places_of-requires
 places_of-requires c = tt
 
 pub table_of-requires : goal.table_of-requires
 table_of-requires c =
     let bank = c.derivation.inside.bank in
-    let places = c.deref-3.ensures.value ∙ (c.in_ok-places.ensures ∙ (λ i. c.deref.ensures.value i ++ flat_map rule_places (c.deref-2.ensures.value i))) in
+    let places = all_places c.deref-3.ensures.value c.in_ok-places.ensures c.deref.ensures.value c.deref-2.ensures.value in
     subst (AllInTerms bank) (sym places) (All-append (λ (a : At). a.0 < length bank.terms) c.derivation.inside.asked.items
     (flat_map rule_places c.derivation.inside.nodes.items) c.derivation.invariant.0
     (inside_nodes bank c.derivation.inside.nodes.items c.derivation.invariant.1))
@@ -35,7 +40,7 @@ write_lets-requires c =
     let bank = c.derivation.inside.bank in
     let table = c.in_ok-table.ensures.table in
     let P : At → Type 0 = λ a. HasNumberAt c.in_ok-table.table a.0 in
-    let places = c.deref-3.ensures.value ∙ (c.in_ok-places.ensures ∙ (λ i. c.deref.ensures.value i ++ flat_map rule_places (c.deref-2.ensures.value i))) in
+    let places = all_places c.deref-3.ensures.value c.in_ok-places.ensures c.deref.ensures.value c.deref-2.ensures.value in
     let reach = subst (λ (ps : List At). All P ps) places c.in_ok-table.ensures.reach in
     record {
       inside = subst (AllInTerms bank) (sym c.deref-4.ensures.value) c.derivation.invariant.0;
@@ -49,7 +54,7 @@ write_node_lines-requires c =
     let bank = c.derivation.inside.bank in
     let table = c.in_ok-table.ensures.table in
     let P : At → Type 0 = λ a. HasNumberAt c.in_ok-table.table a.0 in
-    let places = c.deref-3.ensures.value ∙ (c.in_ok-places.ensures ∙ (λ i. c.deref.ensures.value i ++ flat_map rule_places (c.deref-2.ensures.value i))) in
+    let places = all_places c.deref-3.ensures.value c.in_ok-places.ensures c.deref.ensures.value c.deref-2.ensures.value in
     let reach = subst (λ (ps : List At). All P ps) places c.in_ok-table.ensures.reach in
     record {
       inside = subst (HasLines bank) (sym c.deref-5.ensures.value) c.derivation.invariant.1;
@@ -67,7 +72,7 @@ returns c =
     let nodes = c.derivation.inside.nodes.items in
     let d : DerivationLines = record { asked = term_trees bank asked; nodes = map (line_of bank) nodes } in
     let rows = term_trees bank c.in_ok-table.table.rows.items in
-    let places = c.deref-3.ensures.value ∙ (c.in_ok-places.ensures ∙ (λ i. c.deref.ensures.value i ++ flat_map rule_places (c.deref-2.ensures.value i))) in
+    let places = all_places c.deref-3.ensures.value c.in_ok-places.ensures c.deref.ensures.value c.deref-2.ensures.value in
     four_parts (line (codes "proof 2")) (flat_map (share_line names rows) rows) (flat_map (λ t. line (let_text_by (short_field names rows) t)) d.asked)
     (flat_map (λ n. line (node_text_by (short_field names rows) n)) d.nodes) c.extend_from_slice.new.self.items c.write_shares.new.out.items
     c.write_lets.new.out.items c.write_node_lines.new.out.items

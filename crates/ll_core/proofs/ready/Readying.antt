@@ -38,9 +38,9 @@ weight_in (y ∷ pieces) zero x e = let h : weight y ≡ weight x = ap weight (s
     omega arith
 weight_in (y ∷ pieces) (suc i) x e = let h = weight_in pieces i x e in let c : untaken (y ∷ pieces) ≡ weight y + untaken pieces = refl in omega arith
 
-module _ {N : Type 0} (alternatives : N → List (Owed Event)) (v : PoolData N Event) (waiting : List (Waiting N)) (starts : List ℕ) (stops : List Stop)
-    (capacity stack_capacity : ℕ) (h : Whole alternatives v waiting starts (map stop_in stops) capacity stack_capacity)
-    (stop : Stop) (e : slice_get stops (length stops - 1) ≡ Some stop) where
+module _ {N : Type 0} {alternatives : N → List (Owed Event)} {v : PoolData N Event} {waiting : List (Waiting N)} {starts : List ℕ} (stops : List Stop)
+    {capacity stack_capacity : ℕ} (h : Whole alternatives v waiting starts (map stop_in stops) capacity stack_capacity)
+    {stop : Stop} (e : slice_get stops (length stops - 1) ≡ Some stop) where
   pub base_of : (base : List Stop) × (stops ≡ base ++ stop ∷ [])
   base_of = last_split stops stop e
 

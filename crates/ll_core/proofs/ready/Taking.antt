@@ -3,6 +3,7 @@ use Rattle.std.proofs.Common.{◌≡◌, ℕ, zero, suc, ◌+◌, ◌-◌, ◌<�
 use Rattle.std.proofs.Common.{arith, append-nil, eqb, if◌then◌else◌, nat_lt, Option, Some, None, Global, get_or}
 use Rattle.std.specs.Prelude.{slice_get, slice_index}
 use Rattle.std.specs.List.{list_all}
+use Rattle.std.specs.Vec.{vec_len, vec_capacity}
 use Rattle.std.specs.Arc.{arc_value}
 use Rattle.std.specs.declared.sync.Arc.{Arc}
 use Rattle.std.proofs.Math.ListN.{set}
@@ -12,16 +13,18 @@ use Rattle.ll_lists.proofs.CallerLemmas.{none_not_some, some_is}
 use Rattle.ll_laws.specs.Pool.{Owed, Status, Open, Closed, Taken, Piece, PoolData, Alternative, place}
 use Rattle.ll_laws.specs.Spread.{length_of, list_or_empty, piece_of, walk}
 use Rattle.ll_laws.specs.Sound.{Each, is_open, is_taken, is_taken_piece, is_taken_status, count_open}
-use Rattle.ll_laws.specs.CoreEvents.{Next, MayTake, Readies, All, change, with_status, took}
+use Rattle.ll_laws.specs.CoreEvents.{Next, MayTake, Readies, Events, NotYet, All, change, with_status, took}
 use Rattle.ll_laws.specs.declared.Event.{Event}
 use Rattle.ll_core.specs.Cursor.{PointsIn, begin}
 use Rattle.ll_core.specs.Formed.{Formed, place_in}
 use Rattle.ll_core.specs.Order.{Orderly}
 use Rattle.ll_laws.specs.Spread.{owed_by}
 use Rattle.ll_core.specs.Whole.{Whole}
-use Rattle.ll_core.specs.Slots.{piece_in, stop_in, status_in, data_of}
+use Rattle.ll_core.specs.Slots.{piece_in, stop_in, data_of, TakesReport}
 use Rattle.ll_core.specs.declared.cursor.Stop.{Stop}
+use Rattle.ll_core.specs.declared.pool.Pool.TheInside.{Inside}
 use Rattle.ll_core.specs.declared.room.Slot.{Slot}
+use Rattle.ll_core.specs.declared.room.State.{State}
 use Rattle.ll_core.specs.declared.room.Waiting.{Waiting}
 use Rattle.ll_core.specs.Given.{total}
 use Rattle.ll_core.proofs.walks.Walks.{is_alternative}
@@ -33,7 +36,8 @@ use Rattle.ll_core.proofs.events.Statuses.{open_changed}
 use Rattle.ll_core.proofs.ready.Pointing.{after_top, may_take}
 use Rattle.ll_core.proofs.sound.Forming.{next_untried, places_kept, slot_changed}
 use Rattle.ll_core.proofs.sound.Wholes.{whole_took}
-use Rattle.ll_core.proofs.ready.Readying.{base_of, pointed, is_next, there, top_open, room_for_kids}
+use Rattle.ll_core.proofs.ready.Readying.{base_of, pointed, inside, batch_below, start_below, number_below, start_is, is_next, not_there, there}
+use Rattle.ll_core.proofs.ready.Readying.{top_open, room_for_kids}
 
 in_list : (t : Alternative → Bool) (at : Alternative) (xs : List Alternative) → list_all t xs ≡ true → 0 < total (is_at at) xs → t at ≡ true
 in_list t at [] h some = absurd (omega arith)
@@ -141,106 +145,200 @@ formed_took {N = N} alternatives batches pieces waiting capacity busy h i x e cl
       busy = omega arith;
     }
 
-module _ {N : Type 0} (alternatives : N → List (Owed Event)) (arcs : List (Arc N Global)) (slots : List Slot) (waiting : List (Waiting N)) (workers busy : ℕ)
-    (starved stopped : Bool) (starts : List ℕ) (stops : List Stop) (capacity stack_capacity : ℕ) where
-  abbrev pub with_slots : List Slot → PoolData N Event
-  with_slots slots' = data_of arcs slots' (length waiting) workers busy starved stopped
+-- ---- in the pool's own fields
 
-  module _ (h : Whole alternatives (with_slots slots) waiting starts (map stop_in stops) capacity stack_capacity) (stop : Stop)
-      (e : slice_get stops (length stops - 1) ≡ Some stop)
-      (start : ℕ) (start_is : start ≡ slice_index starts stop.batch) (low : start + stop.k < length slots) (old : Slot)
-      (here : old ≡ get_or slots (start + stop.k) old) where
-    abbrev at : ℕ
-    at = start + stop.k
+-- the pool with these slots
+abbrev pub with_slots : {N Of : Type 0} → Inside N Of → List Slot → PoolData N Event
+with_slots i slots = data_of i.batches.items slots (length i.waiting.items) i.workers i.busy i.starved i.stopped
 
-    abbrev v : PoolData N Event
-    v = with_slots slots
+-- the pool as it is
+abbrev pub data_in : {N Of : Type 0} → Inside N Of → PoolData N Event
+data_in i = with_slots i i.pieces.items
 
-    at_old : slice_get v.pieces at ≡ Some (piece_in old)
-    at_old = get_map_at piece_in slots at old (slot_at slots at old low here)
+-- what holds of the pool, with these slots
+abbrev pub WholeWith : {N Of : Type 0} → (N → List (Owed Event)) → Inside N Of → List Slot → Type 0
+WholeWith alternatives i slots = Whole alternatives (with_slots i slots) i.waiting.items i.starts.items (map stop_in i.stack.items)
+    (vec_capacity i.pieces) (vec_capacity i.stack)
 
-    found_there : (x : Piece Event) × (slice_get v.pieces at ≡ Some x) × (x.batch ≡ stop.batch) × (x.k ≡ stop.k)
-    found_there =
-        let l = length-map slots piece_in in
-        let t = there alternatives v waiting starts stops capacity stack_capacity h stop e (subst (λ n. n + stop.k < length v.pieces) start_is (omega arith)) in
-        (t.0, subst (λ n. slice_get v.pieces (n + stop.k) ≡ Some t.0) (sym start_is) t.1, t.2, t.3)
+-- the slot in this state
+abbrev pub with_state : Slot → State → Slot
+with_state slot state = record slot { state = state }
 
-    same_piece : found_there.0 ≡ piece_in old
-    same_piece = some_is found_there.0 (piece_in old) (sym found_there.1 ∙ at_old)
+-- what `ready` reads on top of the stack
+pub record IsTop {N Of : Type 0} (alternatives : N → List (Owed Event)) (i : Inside N Of) (stop : Stop) : Type 0 where
+  pub whole : WholeWith alternatives i i.pieces.items
+  pub last : slice_get i.stack.items (length i.stack.items - 1) ≡ Some stop
 
-    batch_is : old.batch ≡ stop.batch
-    batch_is = sym (ap (λ (x : Piece Event). x.batch) same_piece) ∙ found_there.2
+-- and the slot of its piece, which has this number
+pub record IsFound {N Of : Type 0} (alternatives : N → List (Owed Event)) (i : Inside N Of) (stop : Stop) (at : ℕ) (old : Slot) : Type 0 where
+  pub top : IsTop alternatives i stop
+  pub number : at ≡ slice_index i.starts.items stop.batch + stop.k
+  pub low : at < length i.pieces.items
+  pub here : old ≡ get_or i.pieces.items at old
 
-    k_is : old.k ≡ stop.k
-    k_is = sym (ap (λ (x : Piece Event). x.k) same_piece) ∙ found_there.3
+pub top_of : {N Of : Type 0} {alternatives : N → List (Owed Event)} (i : Inside N Of) {read : List Stop} {stop : Stop}
+    → WholeWith alternatives i i.pieces.items → read ≡ i.stack.items → Some stop ≡ slice_get read (length read - 1) → IsTop alternatives i stop
+top_of i {stop = stop} h is last = record { whole = h; last = subst (λ l. slice_get l (length l - 1) ≡ Some stop) is (sym last) }
+
+module _ {N Of : Type 0} {alternatives : N → List (Owed Event)} {i : Inside N Of} {stop : Stop} (t : IsTop alternatives i stop) where
+  pub start_there : stop.batch < length i.starts.items
+  start_there = start_below i.stack.items t.whole t.last
+
+  pub batch_there : stop.batch < length i.batches.items
+  batch_there = let b = batch_below i.stack.items t.whole t.last in let l = length-map i.batches.items arc_value in omega arith
+
+  number_is : {start : ℕ} → start ≡ get_or i.starts.items stop.batch start → start + stop.k ≡ slice_index i.starts.items stop.batch + stop.k
+  number_is {start} read = ap (λ n. n + stop.k) (start_is i.stack.items t.whole t.last start read)
+
+  -- the number of its piece, where `start` was read as the first number of its batch
+  pub number_fits : {start : ℕ} → start ≡ get_or i.starts.items stop.batch start → start + stop.k < 4294967296
+  number_fits read = let n = number_is read in let l = number_below i.stack.items t.whole t.last in let m = t.whole.formed.small in omega arith
+
+  -- past the pieces it is an alternative that is not claimed
+  pub not_claimed : {start len : ℕ} {v : PoolData N Event} → start ≡ get_or i.starts.items stop.batch start → len ≡ vec_len i.pieces → len ≤ start + stop.k
+      → data_in i ≡ v → Readies alternatives v (NotYet None) v
+  not_claimed read is past view_is =
+      let n = number_is read in let o = i.pieces.ok.0 in let l = length-map i.pieces.items piece_in in
+      subst (λ v. Readies alternatives v (NotYet None) v) view_is (
+        stop_in stop,
+        is_next i.stack.items t.whole t.last,
+        not_there i.stack.items t.whole t.last (omega arith),
+        refl,
+      )
+
+  -- below that it has a slot
+  pub found_of : {start len : ℕ} {old : Slot} → start ≡ get_or i.starts.items stop.batch start → len ≡ vec_len i.pieces → start + stop.k < len
+      → old ≡ get_or i.pieces.items (start + stop.k) old → IsFound alternatives i stop (start + stop.k) old
+  found_of {start} read is low here = record {
+    top = t;
+    number = number_is read;
+    low = subst (λ n. start + stop.k < n) (is ∙ i.pieces.ok.0) low;
+    here = here;
+  }
+
+  -- how many alternatives its batch has, which was read by its number
+  pub len_is : {arc : Arc N Global} {n : N} {len : ℕ} → arc ≡ get_or i.batches.items stop.batch arc → n ≡ arc_value arc → len ≡ length (alternatives n)
+      → len ≡ length_of alternatives (data_in i) stop.batch
+  len_is {arc} read is e = e ∙ (ap (λ m. length (alternatives m)) is ∙ length_there alternatives i.batches.items stop.batch arc batch_there read)
+
+  pub inside_len : {arc : Arc N Global} {n : N} {len : ℕ} → arc ≡ get_or i.batches.items stop.batch arc → n ≡ arc_value arc → len ≡ length (alternatives n)
+      → stop.k < len
+  inside_len read is e = let l = len_is read is e in let k = inside i.stack.items t.whole t.last in omega arith
+
+module _ {N Of : Type 0} {alternatives : N → List (Owed Event)} {i : Inside N Of} {stop : Stop} {at : ℕ} {old : Slot}
+    (f : IsFound alternatives i stop at old) where
+  at_old : slice_get (data_in i).pieces at ≡ Some (piece_in old)
+  at_old = get_map_at piece_in i.pieces.items at old (slot_at i.pieces.items at old f.low f.here)
+
+  found_there : (x : Piece Event) × (slice_get (data_in i).pieces at ≡ Some x) × (x.batch ≡ stop.batch) × (x.k ≡ stop.k)
+  found_there =
+      let n = f.low in let l = length-map i.pieces.items piece_in in
+      let t = there i.stack.items f.top.whole f.top.last (subst (λ n. n < length (data_in i).pieces) f.number (omega arith)) in
+      (t.0, subst (λ n. slice_get (data_in i).pieces n ≡ Some t.0) (sym f.number) t.1, t.2, t.3)
+
+  same_piece : found_there.0 ≡ piece_in old
+  same_piece = some_is found_there.0 (piece_in old) (sym found_there.1 ∙ at_old)
+
+  batch_is : old.batch ≡ stop.batch
+  batch_is = sym (ap (λ (x : Piece Event). x.batch) same_piece) ∙ found_there.2
+
+  k_is : old.k ≡ stop.k
+  k_is = sym (ap (λ (x : Piece Event). x.k) same_piece) ∙ found_there.3
+
+  -- the state of its slot was replaced
+  module _ (state : State) where
+    abbrev written : List Slot
+    written = set i.pieces.items at (with_state old state)
+
+    -- the slot is read again: there is room for what its piece published
+    pub room_there : {read : Slot} → read ≡ get_or written at read → length i.stack.items + length read.published.items ≤ vec_capacity i.stack
+    room_there {read} e =
+        subst (λ (slot : Slot). length i.stack.items + length slot.published.items ≤ vec_capacity i.stack)
+        (sym (set_read i.pieces.items at (with_state old state) read f.low e))
+        (room_for_kids i.stack.items f.top.whole f.top.last at (piece_in old) at_old batch_is k_is)
 
     -- nothing was closed there: the pool stays, and its next piece is open
-    pub slots_kept : (new : Slot) → new ≡ old → set slots at new ≡ slots
-    slots_kept new same = set_same slots at old new low here same
+    module _ (kept : TakesReport old.state None state) where
+      slots_kept : written ≡ i.pieces.items
+      slots_kept = set_same i.pieces.items at old (with_state old state) f.low f.here (ap (with_state old) kept.0)
 
-    pub whole_kept : (new : Slot) → new ≡ old → Whole alternatives (with_slots (set slots at new)) waiting starts (map stop_in stops) capacity stack_capacity
-    whole_kept new same = subst (λ ss. Whole alternatives (with_slots ss) waiting starts (map stop_in stops) capacity stack_capacity)
-        (sym (slots_kept new same)) h
+      pub whole_kept : WholeWith alternatives i written
+      whole_kept = subst (WholeWith alternatives i) (sym slots_kept) f.top.whole
 
-    pub next_open : ((report : Owed Event) → status_in old.state ≡ Closed report → ⊥)
-        → (x : Piece Event) × (slice_get v.pieces at ≡ Some x) × (x.status ≡ Open) × Next alternatives v (place x)
-    next_open not_closed = (
-      piece_in old,
-      at_old,
-      top_open alternatives v waiting starts stops capacity stack_capacity h stop e at (piece_in old) at_old batch_is k_is not_closed,
-      subst (Next alternatives v) (λ i. record { batch = sym batch_is i; k = sym k_is i })
-          (is_next alternatives v waiting starts stops capacity stack_capacity h stop e),
-    )
+      pub not_closed : {v : PoolData N Event} → data_in i ≡ v → Readies alternatives v (NotYet (Some at)) (with_slots i written)
+      not_closed view_is = subst (λ v. Readies alternatives v (NotYet (Some at)) (with_slots i written)) view_is (
+        piece_in old,
+        at_old,
+        top_open i.stack.items f.top.whole f.top.last at (piece_in old) at_old batch_is k_is kept.1,
+        subst (Next alternatives (data_in i)) (λ j. record { batch = sym batch_is j; k = sym k_is j })
+            (is_next i.stack.items f.top.whole f.top.last),
+        ap (with_slots i) slots_kept,
+      )
 
-    pub room_there : length stops + length old.published.items ≤ stack_capacity
-    room_there = room_for_kids alternatives v waiting starts stops capacity stack_capacity h stop e at (piece_in old) at_old batch_is k_is
+    -- its report was taken
+    module _ (report : Owed Event) (now : TakesReport old.state (Some report) state) where
+      taken_pieces : map piece_in written ≡ change at (with_status Taken) (data_in i).pieces
+      taken_pieces = slot_changed (with_status Taken) i.pieces.items at old (with_state old state) f.low f.here (λ j. record {
+        batch = old.batch;
+        k = old.k;
+        worker = old.worker;
+        published = old.published.items;
+        status = now.1 j;
+      })
 
-    module _ (new : Slot) (report : Owed Event) (was : status_in old.state ≡ Closed report) (same : piece_in new ≡ with_status Taken (piece_in old)) where
-      taken_pieces : map piece_in (set slots at new) ≡ change at (with_status Taken) v.pieces
-      taken_pieces = slot_changed (with_status Taken) slots at old new low here same
-
-      pub took_is : with_slots (set slots at new) ≡ took v at
+      took_is : with_slots i written ≡ took (data_in i) at
       took_is =
-          let l : length (set slots at new) ≡ length slots =
-          sym (length-map (set slots at new) piece_in) ∙
-          (ap length taken_pieces ∙ (length-change at (with_status Taken) v.pieces ∙ length-map slots piece_in)) in
+          let l : length written ≡ length i.pieces.items =
+          sym (length-map written piece_in) ∙
+          (ap length taken_pieces ∙ (length-change at (with_status Taken) (data_in i).pieces ∙ length-map i.pieces.items piece_in)) in
           λ j. record {
-            batches = map arc_value arcs;
+            batches = map arc_value i.batches.items;
             pieces = taken_pieces j;
-            workers = workers;
-            busy = busy;
-            total = l j + length waiting;
+            workers = i.workers;
+            busy = i.busy;
+            total = l j + length i.waiting.items;
             untried =
-                length waiting;
-            starved = starved;
-            stopped = stopped;
+                length i.waiting.items;
+            starved = i.starved;
+            stopped = i.stopped;
           }
 
       abbrev base : List Alternative
-      base = map stop_in (base_of alternatives v waiting starts stops capacity stack_capacity h stop e).0
+      base = map stop_in (base_of i.stack.items f.top.whole f.top.last).0
 
-      abbrev points : PointsIn alternatives v (base ++ stop_in stop ∷ [])
-      points = pointed alternatives v waiting starts stops capacity stack_capacity h stop e
+      abbrev points : PointsIn alternatives (data_in i) (base ++ stop_in stop ∷ [])
+      points = pointed i.stack.items f.top.whole f.top.last
 
-      pub takes_next : MayTake alternatives v at (piece_in old) report
-      takes_next = may_take alternatives v h.shaped base (stop_in stop) points at (piece_in old) report at_old batch_is k_is was
+      takes_next : MayTake alternatives (data_in i) at (piece_in old) report
+      takes_next = may_take alternatives (data_in i) f.top.whole.shaped base (stop_in stop) points at (piece_in old) report at_old batch_is k_is now.0
 
-      pub whole_taken : (stops' : List Stop) (len : ℕ) (published : List ℕ) → len ≡ length_of alternatives v stop.batch → published ≡ old.published.items
-          → ((below : List Stop) → stops ≡ below ++ stop ∷ []
-          → map stop_in stops' ≡ (map stop_in below ++ (if nat_lt (stop.k + 1) len then record { batch = stop.batch; k = stop.k + 1 } ∷ [] else []))
-          ++ map begin published)
-          → Whole alternatives (with_slots (set slots at new)) waiting starts (map stop_in stops') capacity stack_capacity
-      whole_taken stops' len published len_is published_is pushed =
-          let b = base_of alternatives v waiting starts stops capacity stack_capacity h stop e in
-          let split : map stop_in stops ≡ base ++ stop_in stop ∷ [] = ap (map stop_in) b.1 ∙ map_push stop_in b.0 stop in
-          let whole : Whole alternatives v waiting starts (base ++ stop_in stop ∷ []) capacity stack_capacity =
-          subst (λ s. Whole alternatives v waiting starts s capacity stack_capacity) split h in
-          let done = whole_took alternatives v starts (map stop_in stops) capacity capacity stack_capacity waiting base (stop_in stop) at (piece_in old) report
-          whole points h.shaped at_old batch_is k_is was takes_next
-          (with_slots (set slots at new)) took_is
-          (subst (λ ps. Formed alternatives v.batches ps waiting capacity busy) (sym taken_pieces)
-          (formed_took alternatives v.batches v.pieces waiting capacity busy h.formed at (piece_in old) at_old (ap is_open was))) in
-          let top : map stop_in stops' ≡ after_top alternatives v h.shaped base (stop_in stop) points old.published.items =
-          pushed b.0 b.1 ∙ (λ i. (base ++ (if nat_lt (stop.k + 1) (len_is i) then record { batch = stop.batch; k = stop.k + 1 } ∷ [] else []))
-          ++ map begin (published_is i)) in
-          subst (λ s. Whole alternatives (with_slots (set slots at new)) waiting starts s capacity stack_capacity) (sym top) done
+      pub is_taken_next : {v : PoolData N Event} → data_in i ≡ v → Readies alternatives v (Events report) (with_slots i written)
+      is_taken_next view_is = subst (λ v. Readies alternatives v (Events report) (with_slots i written)) view_is (at, piece_in old, takes_next, took_is)
+
+      -- the slot is read again: its batches come next, and then the rest of its own batch
+      pub whole_taken : (stops : List Stop) {len capacity : ℕ} {read : Slot} → len ≡ length_of alternatives (data_in i) stop.batch
+          → read ≡ get_or written at read → capacity ≡ vec_capacity i.stack
+          → ((below : List Stop) → i.stack.items ≡ below ++ stop ∷ []
+          → map stop_in stops ≡ (map stop_in below ++ (if nat_lt (stop.k + 1) len then record { batch = stop.batch; k = stop.k + 1 } ∷ [] else []))
+          ++ map begin read.published.items)
+          → Whole alternatives (with_slots i written) i.waiting.items i.starts.items (map stop_in stops) (vec_capacity i.pieces) capacity
+      whole_taken stops {read = read} len_is e capacity_is pushed =
+          let b = base_of i.stack.items f.top.whole f.top.last in
+          let again = set_read i.pieces.items at (with_state old state) read f.low e in
+          let split : map stop_in i.stack.items ≡ base ++ stop_in stop ∷ [] = ap (map stop_in) b.1 ∙ map_push stop_in b.0 stop in
+          let whole = subst (λ s. Whole alternatives (data_in i) i.waiting.items i.starts.items s (vec_capacity i.pieces) (vec_capacity i.stack)) split
+          f.top.whole in
+          let done = whole_took alternatives (data_in i) i.starts.items (map stop_in i.stack.items) (vec_capacity i.pieces) (vec_capacity i.pieces)
+          (vec_capacity i.stack) i.waiting.items base (stop_in stop) at (piece_in old) report
+          whole points f.top.whole.shaped at_old batch_is k_is now.0 takes_next
+          (with_slots i written) took_is
+          (subst (λ ps. Formed alternatives (data_in i).batches ps i.waiting.items (vec_capacity i.pieces) i.busy) (sym taken_pieces)
+          (formed_took alternatives (data_in i).batches (data_in i).pieces i.waiting.items (vec_capacity i.pieces) i.busy f.top.whole.formed at (piece_in old)
+          at_old (ap is_open now.0))) in
+          let top : map stop_in stops ≡ after_top alternatives (data_in i) f.top.whole.shaped base (stop_in stop) points old.published.items =
+          pushed b.0 b.1 ∙ (λ j. (base ++ (if nat_lt (stop.k + 1) (len_is j) then record { batch = stop.batch; k = stop.k + 1 } ∷ [] else []))
+          ++ map begin (again j).published.items) in
+          subst (λ n. Whole alternatives (with_slots i written) i.waiting.items i.starts.items (map stop_in stops) (vec_capacity i.pieces) n)
+          (sym capacity_is)
+          (subst (λ s. Whole alternatives (with_slots i written) i.waiting.items i.starts.items s (vec_capacity i.pieces) (vec_capacity i.stack))
+          (sym top) done)

@@ -13,6 +13,15 @@ use Rattle.ll_pool.specs.declared.data.PoolProblem.{PoolProblem}
 use Rattle.ll_pool.specs.declared.data.SeatData.{SeatData}
 use Rattle.ll_pool.specs.declared.data.TurnPool.{TurnPool}
 
+-- what a seat keeps between two calls: it holds no turn, and its worker and its open piece have these numbers
+abbrev pub Keeps : {N Of : Type 0} → SeatSight N Of → ℕ → Option ℕ → Type 0
+Keeps seat worker piece = (seat.before ≡ None) × (seat.mine.worker ≡ worker) × (option_map number_of seat.mine.piece ≡ piece)
+
+-- a seat that had the turn gave it back with the pool q
+abbrev pub GivesBack : {N Of : Type 0} → (N → List (Owed Event)) → SeatSight N Of → PoolData N Event → SeatSight N Of → Type 0
+GivesBack alternatives taken q given = IfSome taken.before
+    (λ before. given ≡ record taken { mine = after_change alternatives before.pool taken.mine q; before = None })
+
 module _ {N Of : Type 0} (of : N → Of) (alternatives : N → List (Owed Event)) where
   -- a lawful change leaves a sound pool
   pub sound_left : (problem : Option (PoolProblem Of)) (p q : PoolData N Event) (mine : SeatData N Of) → Fits of alternatives p problem mine
@@ -31,56 +40,74 @@ module _ {N Of : Type 0} (of : N → Of) (alternatives : N → List (Owed Event)
       (has_open_piece alternatives q mine.worker)
       (piece_kept alternatives p q law.0 mine.worker mine.worker mine.piece sound.shape law.3 law.1 (inr quiet) fits.piece)
 
-  -- a seat takes the turn and finds v
-  module _ (now inside taken : SeatSight N Of) (v : TurnPool N Of) (view_is : inside ≡ now) (took : taken ≡ record inside { before = Some v }) where
-    pub may_give : (w : TurnPool N Of) → ChangesLawfully of alternatives v.pool now.mine w.pool
-        → IsSomeAnd taken.before (λ before. ChangesLawfully of alternatives before.pool taken.mine w.pool)
-    may_give w law =
-        subst (λ (t : SeatSight N Of). IsSomeAnd t.before (λ before. ChangesLawfully of alternatives before.pool t.mine w.pool)) (sym took)
-        (subst (λ (t : SeatSight N Of). ChangesLawfully of alternatives v.pool t.mine w.pool) (sym view_is) law)
+  -- A seat, which its caller sees as `now`, takes the turn and finds v
+  pub record TakesTurn (now inside taken : SeatSight N Of) (worker : ℕ) (piece : Option ℕ) (v : TurnPool N Of) : Type 0 where
+    pub view_is : inside ≡ now
+    pub kept : Keeps inside worker piece
+    pub took : taken ≡ record inside { before = Some v }
+    pub fits : Fits of alternatives v.pool inside.problem inside.mine
 
-    pub fits_now : Fits of alternatives v.pool inside.problem inside.mine → Fits of alternatives v.pool now.problem now.mine
-    fits_now fits = subst (λ (t : SeatSight N Of). Fits of alternatives v.pool t.problem t.mine) view_is fits
+  pub takes_turn : {now inside taken : SeatSight N Of} {worker : ℕ} {piece : Option ℕ} {v : TurnPool N Of} → inside ≡ now → Keeps inside worker piece
+      → taken ≡ record inside { before = Some v } → Fits of alternatives v.pool inside.problem inside.mine
+      → TakesTurn now inside taken worker piece v
+  takes_turn view_is kept took fits = record { view_is = view_is; kept = kept; took = took; fits = fits }
 
-    -- and gives it back with w
-    module _ (w : TurnPool N Of) (given : SeatSight N Of) (rests : inside.before ≡ None)
-        (gave : IfSome taken.before (λ before. given ≡ record taken { mine = after_change alternatives before.pool taken.mine w.pool; before = None })) where
-      given_inside : given ≡ record inside { mine = after_change alternatives v.pool inside.mine w.pool; before = None }
-      given_inside = subst (λ (t : SeatSight N Of). IfSome t.before
-          (λ before. given ≡ record t { mine = after_change alternatives before.pool t.mine w.pool; before = None })) took gave
+module _ {N Of : Type 0} {of : N → Of} {alternatives : N → List (Owed Event)} {now inside taken : SeatSight N Of} {worker : ℕ} {piece : Option ℕ}
+    {v : TurnPool N Of} (t : TakesTurn of alternatives now inside taken worker piece v) where
+  pub fits_now : Fits of alternatives v.pool now.problem now.mine
+  fits_now = subst (λ (s : SeatSight N Of). Fits of alternatives v.pool s.problem s.mine) t.view_is t.fits
 
-      given_now : given ≡ record now { mine = after_change alternatives v.pool now.mine w.pool; before = None }
-      given_now = subst (λ (t : SeatSight N Of). given ≡ record t { mine = after_change alternatives v.pool t.mine w.pool; before = None }) view_is given_inside
+  pub own_now : worker ≡ now.mine.worker
+  own_now = sym t.kept.1 ∙ ap (λ (s : SeatSight N Of). s.mine.worker) t.view_is
 
-      pub after_turn : given ≡ record now { mine = after_change alternatives v.pool now.mine w.pool }
-      after_turn =
-          let none_now : now.before ≡ None = ap (λ (t : SeatSight N Of). t.before) (sym view_is) ∙ rests in
-          given_now ∙ (λ i. record now { mine = after_change alternatives v.pool now.mine w.pool; before = sym none_now i })
+  pub number_now : option_map number_of now.mine.piece ≡ piece
+  number_now = ap (λ (s : SeatSight N Of). option_map number_of s.mine.piece) (sym t.view_is) ∙ t.kept.2
 
-      pub piece_after : given.mine.piece ≡ open_piece alternatives w.pool now.mine.worker
-      piece_after = ap (λ (t : SeatSight N Of). t.mine.piece) given_now
+  pub may_give : (q : PoolData N Event) → ChangesLawfully of alternatives v.pool now.mine q
+      → IsSomeAnd taken.before (λ before. ChangesLawfully of alternatives before.pool taken.mine q)
+  may_give q law =
+      subst (λ (s : SeatSight N Of). IsSomeAnd s.before (λ before. ChangesLawfully of alternatives before.pool s.mine q)) (sym t.took)
+      (subst (λ (s : SeatSight N Of). ChangesLawfully of alternatives v.pool s.mine q) (sym t.view_is) law)
 
-      pub turn_made : (change : PoolData N Event → PoolData N Event → Type 0) → Fits of alternatives v.pool inside.problem inside.mine → change v.pool w.pool
-          → Fits of alternatives w.pool given.problem given.mine → OneTurn of alternatives change now given
-      turn_made change fits changed left = record {
-        found = v.pool;
-        left = w.pool;
-        fits = fits_now fits;
-        changed = changed;
-        seat = after_turn;
-        fits_left = left;
-      }
+  -- and gives it back with the pool q
+  module _ (q : PoolData N Event) (given : SeatSight N Of) (gave : GivesBack alternatives taken q given) where
+    given_inside : given ≡ record inside { mine = after_change alternatives v.pool inside.mine q; before = None }
+    given_inside = subst (λ (s : SeatSight N Of). GivesBack alternatives s q given) t.took gave
 
-      -- after a quiet event the seat's open piece is what it was
-      pub piece_quiet : Fits of alternatives v.pool inside.problem inside.mine → (law : ChangesLawfully of alternatives v.pool now.mine w.pool) → IsQuiet law.0
-          → given.mine.piece ≡ now.mine.piece
-      piece_quiet fits law quiet = piece_after ∙ quiet_piece now.problem v.pool w.pool now.mine (fits_now fits) law quiet
+    given_now : given ≡ record now { mine = after_change alternatives v.pool now.mine q; before = None }
+    given_now = subst (λ (s : SeatSight N Of). given ≡ record s { mine = after_change alternatives v.pool s.mine q; before = None }) t.view_is given_inside
 
-      -- what a seat keeps between two calls, once its open piece is known
-      pub seat_kept : (worker : ℕ) (piece : Option ℕ) → inside.mine.worker ≡ worker → option_map number_of given.mine.piece ≡ piece
-          → (given.before ≡ None) × (given.mine.worker ≡ worker) × (option_map number_of given.mine.piece ≡ piece)
-      seat_kept worker piece own number = (
-        ap (λ (t : SeatSight N Of). t.before) given_inside,
-        ap (λ (t : SeatSight N Of). t.mine.worker) given_inside ∙ own,
-        number,
-      )
+    pub after_turn : given ≡ record now { mine = after_change alternatives v.pool now.mine q }
+    after_turn =
+        let none_now : now.before ≡ None = ap (λ (s : SeatSight N Of). s.before) (sym t.view_is) ∙ t.kept.0 in
+        given_now ∙ (λ i. record now { mine = after_change alternatives v.pool now.mine q; before = sym none_now i })
+
+    pub piece_after : given.mine.piece ≡ open_piece alternatives q now.mine.worker
+    piece_after = ap (λ (s : SeatSight N Of). s.mine.piece) given_now
+
+    pub turn_made : (change : PoolData N Event → PoolData N Event → Type 0) → change v.pool q → Fits of alternatives q given.problem given.mine
+        → OneTurn of alternatives change now given
+    turn_made change changed left = record {
+      found = v.pool;
+      left = q;
+      fits = fits_now;
+      changed = changed;
+      seat = after_turn;
+      fits_left = left;
+    }
+
+    -- what the seat keeps, once its open piece is known
+    pub seat_kept : {after : Option ℕ} → option_map number_of given.mine.piece ≡ after → Keeps given worker after
+    seat_kept number = (
+      ap (λ (s : SeatSight N Of). s.before) given_inside,
+      ap (λ (s : SeatSight N Of). s.mine.worker) given_inside ∙ t.kept.1,
+      number,
+    )
+
+    -- after a quiet event the seat's open piece is what it was
+    module _ (law : ChangesLawfully of alternatives v.pool now.mine q) (quiet : IsQuiet law.0) where
+      pub piece_quiet : given.mine.piece ≡ now.mine.piece
+      piece_quiet = piece_after ∙ quiet_piece of alternatives now.problem v.pool q now.mine fits_now law quiet
+
+      pub kept_quiet : Keeps given worker piece
+      kept_quiet = seat_kept (ap (option_map number_of) piece_quiet ∙ number_now)

@@ -1,55 +1,46 @@
-use Rattle.std.proofs.Common.{ap, ◌∙◌, subst, sym}
-use Rattle.std.specs.Prelude.{option_map}
+use Rattle.std.proofs.Common.{subst}
 use Rattle.ll_laws.specs.CoreEvents.{Does, Look, Looks}
 use Rattle.ll_core.specs.Calls.{overview}
-use Rattle.ll_pool.specs.Fits.{number_of}
-use Rattle.ll_pool.proofs.Turning.{may_give, piece_quiet, seat_kept, turn_made}
+use Rattle.ll_pool.proofs.Turning.{takes_turn, may_give, piece_quiet, kept_quiet, turn_made}
 use Rattle.ll_pool.proofs.shared.SharedPool.look.Goals as goal
 
 pub give-requires-clause-lawful : goal.give-requires-clause-lawful
 give-requires-clause-lawful g c =
-    let s = c.seat in let now = c.args.seat.now in let v = c.take-held.result in
-    may_give g.N.Batch.of g.N.Batch.alternatives now s.inside.pass c.take-held.new.pass v s.view_is c.take-held.ensures.pass
-    (record { pool = c.value.result.now.pool }) (
+    let t = takes_turn g.N.Batch.of g.N.Batch.alternatives c.seat.view_is c.seat.invariant c.take-held.ensures.pass c.take-held.ensures.fits in
+    may_give t c.value.result.now.pool (
       Look (overview c.look-answer.result),
       tt,
       tt,
-      subst (λ t. Looks g.N.Batch.alternatives t.pool (overview c.look-answer.result) c.value.result.now.pool)
-          c.value.ensures.value c.look-answer.ensures.event,
+      subst (λ t. Looks g.N.Batch.alternatives t.pool (overview c.look-answer.result) c.value.result.now.pool) c.value.ensures.value
+          c.look-answer.ensures.event,
     )
 
 pub invariant_of-seat : goal.invariant_of-seat
 invariant_of-seat g c =
-    let s = c.seat in let now = c.args.seat.now in let v = c.take-held.result in
-    seat_kept g.N.Batch.of g.N.Batch.alternatives now s.inside.pass c.take-held.new.pass v s.view_is c.take-held.ensures.pass
-    (record { pool = c.value.result.now.pool }) c.give.new.pass s.invariant.0 c.give.ensures.pass s.inside.worker s.inside.piece s.invariant.1
-    (ap (option_map number_of) (piece_quiet g.N.Batch.of g.N.Batch.alternatives now s.inside.pass c.take-held.new.pass v s.view_is c.take-held.ensures.pass
-    (record { pool = c.value.result.now.pool }) c.give.new.pass s.invariant.0 c.give.ensures.pass c.take-held.ensures.fits (
+    let t = takes_turn g.N.Batch.of g.N.Batch.alternatives c.seat.view_is c.seat.invariant c.take-held.ensures.pass c.take-held.ensures.fits in
+    kept_quiet t c.value.result.now.pool c.give.new.pass c.give.ensures.pass (
       Look (overview c.look-answer.result),
       tt,
       tt,
-      subst (λ t. Looks g.N.Batch.alternatives t.pool (overview c.look-answer.result) c.value.result.now.pool)
-          c.value.ensures.value c.look-answer.ensures.event,
-    ) tt)
-    ∙ (ap (λ t. option_map number_of t.mine.piece) (sym s.view_is) ∙ s.invariant.2))
+      subst (λ t. Looks g.N.Batch.alternatives t.pool (overview c.look-answer.result) c.value.result.now.pool) c.value.ensures.value
+          c.look-answer.ensures.event,
+    ) tt
 
 pub returns-clause-turn : goal.returns-clause-turn
 returns-clause-turn g c =
-    let s = c.seat in let now = c.args.seat.now in let v = c.take-held.result in
-    turn_made g.N.Batch.of g.N.Batch.alternatives now s.inside.pass c.take-held.new.pass v s.view_is c.take-held.ensures.pass
-    (record { pool = c.value.result.now.pool }) c.give.new.pass s.invariant.0 c.give.ensures.pass
-    (λ found left. Does g.N.Batch.alternatives found (Look (overview c.look-answer.result)) left) c.take-held.ensures.fits
-    (subst (λ t. Looks g.N.Batch.alternatives t.pool (overview c.look-answer.result) c.value.result.now.pool) c.value.ensures.value c.look-answer.ensures.event)
-    c.give.ensures.fits
+    let t = takes_turn g.N.Batch.of g.N.Batch.alternatives c.seat.view_is c.seat.invariant c.take-held.ensures.pass c.take-held.ensures.fits in
+    turn_made t c.value.result.now.pool c.give.new.pass c.give.ensures.pass
+    (λ found left. Does g.N.Batch.alternatives found (Look (overview c.look-answer.result)) left)
+    (subst (λ t. Looks g.N.Batch.alternatives t.pool (overview c.look-answer.result) c.value.result.now.pool) c.value.ensures.value
+    c.look-answer.ensures.event) c.give.ensures.fits
 
 pub returns-clause-owes : goal.returns-clause-owes
 returns-clause-owes g c =
-    let s = c.seat in let now = c.args.seat.now in let v = c.take-held.result in
-    piece_quiet g.N.Batch.of g.N.Batch.alternatives now s.inside.pass c.take-held.new.pass v s.view_is c.take-held.ensures.pass
-    (record { pool = c.value.result.now.pool }) c.give.new.pass s.invariant.0 c.give.ensures.pass c.take-held.ensures.fits (
+    let t = takes_turn g.N.Batch.of g.N.Batch.alternatives c.seat.view_is c.seat.invariant c.take-held.ensures.pass c.take-held.ensures.fits in
+    piece_quiet t c.value.result.now.pool c.give.new.pass c.give.ensures.pass (
       Look (overview c.look-answer.result),
       tt,
       tt,
-      subst (λ t. Looks g.N.Batch.alternatives t.pool (overview c.look-answer.result) c.value.result.now.pool)
-          c.value.ensures.value c.look-answer.ensures.event,
+      subst (λ t. Looks g.N.Batch.alternatives t.pool (overview c.look-answer.result) c.value.result.now.pool) c.value.ensures.value
+          c.look-answer.ensures.event,
     ) tt

@@ -1,16 +1,13 @@
-use Rattle.std.proofs.Common.{ap, ◌∙◌, subst, sym}
-use Rattle.std.specs.Prelude.{option_map}
+use Rattle.std.proofs.Common.{subst}
 use Rattle.ll_laws.specs.CoreEvents.{Does, Ready, Readies}
 use Rattle.ll_core.specs.Calls.{ready_answer}
-use Rattle.ll_pool.specs.Fits.{number_of}
-use Rattle.ll_pool.proofs.Turning.{may_give, piece_quiet, seat_kept, turn_made}
+use Rattle.ll_pool.proofs.Turning.{takes_turn, may_give, piece_quiet, kept_quiet, turn_made}
 use Rattle.ll_pool.proofs.shared.SharedPool.ready.Goals as goal
 
 pub give-requires-clause-lawful : goal.give-requires-clause-lawful
 give-requires-clause-lawful g c =
-    let s = c.seat in let now = c.args.seat.now in let v = c.take-held.result in
-    may_give g.N.Batch.of g.N.Batch.alternatives now s.inside.pass c.take-held.new.pass v s.view_is c.take-held.ensures.pass
-    (record { pool = c.ready-answer.new.self }) (
+    let t = takes_turn g.N.Batch.of g.N.Batch.alternatives c.seat.view_is c.seat.invariant c.take-held.ensures.pass c.take-held.ensures.fits in
+    may_give t c.ready-answer.new.self (
       Ready (ready_answer c.ready-answer.result),
       c.requires.first,
       tt,
@@ -20,33 +17,27 @@ give-requires-clause-lawful g c =
 
 pub invariant_of-seat : goal.invariant_of-seat
 invariant_of-seat g c =
-    let s = c.seat in let now = c.args.seat.now in let v = c.take-held.result in
-    seat_kept g.N.Batch.of g.N.Batch.alternatives now s.inside.pass c.take-held.new.pass v s.view_is c.take-held.ensures.pass
-    (record { pool = c.ready-answer.new.self }) c.give.new.pass s.invariant.0 c.give.ensures.pass s.inside.worker s.inside.piece s.invariant.1
-    (ap (option_map number_of) (piece_quiet g.N.Batch.of g.N.Batch.alternatives now s.inside.pass c.take-held.new.pass v s.view_is c.take-held.ensures.pass
-    (record { pool = c.ready-answer.new.self }) c.give.new.pass s.invariant.0 c.give.ensures.pass c.take-held.ensures.fits (
+    let t = takes_turn g.N.Batch.of g.N.Batch.alternatives c.seat.view_is c.seat.invariant c.take-held.ensures.pass c.take-held.ensures.fits in
+    kept_quiet t c.ready-answer.new.self c.give.new.pass c.give.ensures.pass (
       Ready (ready_answer c.ready-answer.result),
       c.requires.first,
       tt,
       subst (λ t. Readies g.N.Batch.alternatives t.pool (ready_answer c.ready-answer.result) c.ready-answer.new.self) c.value.ensures.value
           c.ready-answer.ensures.event,
-    ) tt)
-    ∙ (ap (λ t. option_map number_of t.mine.piece) (sym s.view_is) ∙ s.invariant.2))
+    ) tt
 
 pub returns-clause-turn : goal.returns-clause-turn
 returns-clause-turn g c =
-    let s = c.seat in let now = c.args.seat.now in let v = c.take-held.result in
-    turn_made g.N.Batch.of g.N.Batch.alternatives now s.inside.pass c.take-held.new.pass v s.view_is c.take-held.ensures.pass
-    (record { pool = c.ready-answer.new.self }) c.give.new.pass s.invariant.0 c.give.ensures.pass
-    (λ found left. Does g.N.Batch.alternatives found (Ready (ready_answer c.ready-answer.result)) left) c.take-held.ensures.fits
+    let t = takes_turn g.N.Batch.of g.N.Batch.alternatives c.seat.view_is c.seat.invariant c.take-held.ensures.pass c.take-held.ensures.fits in
+    turn_made t c.ready-answer.new.self c.give.new.pass c.give.ensures.pass
+    (λ found left. Does g.N.Batch.alternatives found (Ready (ready_answer c.ready-answer.result)) left)
     (subst (λ t. Readies g.N.Batch.alternatives t.pool (ready_answer c.ready-answer.result) c.ready-answer.new.self) c.value.ensures.value
     c.ready-answer.ensures.event) c.give.ensures.fits
 
 pub returns-clause-owes : goal.returns-clause-owes
 returns-clause-owes g c =
-    let s = c.seat in let now = c.args.seat.now in let v = c.take-held.result in
-    piece_quiet g.N.Batch.of g.N.Batch.alternatives now s.inside.pass c.take-held.new.pass v s.view_is c.take-held.ensures.pass
-    (record { pool = c.ready-answer.new.self }) c.give.new.pass s.invariant.0 c.give.ensures.pass c.take-held.ensures.fits (
+    let t = takes_turn g.N.Batch.of g.N.Batch.alternatives c.seat.view_is c.seat.invariant c.take-held.ensures.pass c.take-held.ensures.fits in
+    piece_quiet t c.ready-answer.new.self c.give.new.pass c.give.ensures.pass (
       Ready (ready_answer c.ready-answer.result),
       c.requires.first,
       tt,

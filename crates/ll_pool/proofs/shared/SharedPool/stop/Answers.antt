@@ -1,45 +1,25 @@
-use Rattle.std.proofs.Common.{ap, ◌∙◌, sym}
-use Rattle.std.specs.Prelude.{option_map}
+use Rattle.std.proofs.Common.{ap, ◌∙◌}
 use Rattle.ll_laws.specs.CoreEvents.{Does, Stop, stops}
-use Rattle.ll_pool.specs.Fits.{number_of}
-use Rattle.ll_pool.proofs.Turning.{may_give, piece_quiet, seat_kept, turn_made}
+use Rattle.ll_pool.proofs.Turning.{takes_turn, may_give, piece_quiet, kept_quiet, turn_made}
 use Rattle.ll_pool.proofs.shared.SharedPool.stop.Goals as goal
 
 pub give-requires-clause-lawful : goal.give-requires-clause-lawful
 give-requires-clause-lawful g c =
-    let s = c.seat in let now = c.args.seat.now in let v = c.take-held.result in
-    may_give g.N.Batch.of g.N.Batch.alternatives now s.inside.pass c.take-held.new.pass v s.view_is c.take-held.ensures.pass (record { pool = c.stop.new.self })
-    (Stop, tt, tt, c.stop.ensures ∙ ap (λ t. stops t.pool) c.value.ensures.value)
+    let t = takes_turn g.N.Batch.of g.N.Batch.alternatives c.seat.view_is c.seat.invariant c.take-held.ensures.pass c.take-held.ensures.fits in
+    may_give t c.stop.new.self (Stop, tt, tt, c.stop.ensures ∙ ap (λ t. stops t.pool) c.value.ensures.value)
 
 pub invariant_of-seat : goal.invariant_of-seat
 invariant_of-seat g c =
-    let s = c.seat in let now = c.args.seat.now in let v = c.take-held.result in
-    seat_kept g.N.Batch.of g.N.Batch.alternatives now s.inside.pass c.take-held.new.pass v s.view_is c.take-held.ensures.pass
-    (record { pool = c.stop.new.self }) c.give.new.pass s.invariant.0 c.give.ensures.pass s.inside.worker s.inside.piece s.invariant.1
-    (ap (option_map number_of) (piece_quiet g.N.Batch.of g.N.Batch.alternatives now s.inside.pass c.take-held.new.pass v s.view_is c.take-held.ensures.pass
-    (record { pool = c.stop.new.self }) c.give.new.pass s.invariant.0 c.give.ensures.pass c.take-held.ensures.fits (
-      Stop,
-      tt,
-      tt,
-      c.stop.ensures ∙ ap (λ t. stops t.pool) c.value.ensures.value,
-    ) tt)
-    ∙ (ap (λ t. option_map number_of t.mine.piece) (sym s.view_is) ∙ s.invariant.2))
+    let t = takes_turn g.N.Batch.of g.N.Batch.alternatives c.seat.view_is c.seat.invariant c.take-held.ensures.pass c.take-held.ensures.fits in
+    kept_quiet t c.stop.new.self c.give.new.pass c.give.ensures.pass (Stop, tt, tt, c.stop.ensures ∙ ap (λ t. stops t.pool) c.value.ensures.value) tt
 
 pub returns-clause-turn : goal.returns-clause-turn
 returns-clause-turn g c =
-    let s = c.seat in let now = c.args.seat.now in let v = c.take-held.result in
-    turn_made g.N.Batch.of g.N.Batch.alternatives now s.inside.pass c.take-held.new.pass v s.view_is c.take-held.ensures.pass
-    (record { pool = c.stop.new.self }) c.give.new.pass s.invariant.0 c.give.ensures.pass (λ found left. Does g.N.Batch.alternatives found Stop left)
-    c.take-held.ensures.fits
+    let t = takes_turn g.N.Batch.of g.N.Batch.alternatives c.seat.view_is c.seat.invariant c.take-held.ensures.pass c.take-held.ensures.fits in
+    turn_made t c.stop.new.self c.give.new.pass c.give.ensures.pass (λ found left. Does g.N.Batch.alternatives found Stop left)
     (c.stop.ensures ∙ ap (λ t. stops t.pool) c.value.ensures.value) c.give.ensures.fits
 
 pub returns-clause-owes : goal.returns-clause-owes
 returns-clause-owes g c =
-    let s = c.seat in let now = c.args.seat.now in let v = c.take-held.result in
-    piece_quiet g.N.Batch.of g.N.Batch.alternatives now s.inside.pass c.take-held.new.pass v s.view_is c.take-held.ensures.pass
-    (record { pool = c.stop.new.self }) c.give.new.pass s.invariant.0 c.give.ensures.pass c.take-held.ensures.fits (
-      Stop,
-      tt,
-      tt,
-      c.stop.ensures ∙ ap (λ t. stops t.pool) c.value.ensures.value,
-    ) tt
+    let t = takes_turn g.N.Batch.of g.N.Batch.alternatives c.seat.view_is c.seat.invariant c.take-held.ensures.pass c.take-held.ensures.fits in
+    piece_quiet t c.stop.new.self c.give.new.pass c.give.ensures.pass (Stop, tt, tt, c.stop.ensures ∙ ap (λ t. stops t.pool) c.value.ensures.value) tt

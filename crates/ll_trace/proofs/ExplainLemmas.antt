@@ -2,6 +2,7 @@
 use Rattle.std.proofs.Common.{◌≡◌, ℕ, zero, suc, ◌+◌, ◌<◌, ◌≤◌, refl, ap, sym, subst, ◌∙◌, arith, List, [], ◌∷◌, ◌++◌, map, length, take, drop, All}
 use Rattle.std.proofs.Common.{slice_index_or, Option, Some, None}
 use Rattle.std.specs.Prelude.{slice_get, slice_index, Contains}
+use Rattle.std.specs.Vec.{vec_len}
 use Rattle.std.proofs.lemmas.List.{length-map}
 use Rattle.std.proofs.lemmas.List.Elements.{All-nil, All-cons, All-take, All-map}
 use Rattle.ll_lists.proofs.CallerLemmas.{length-drop_same}
@@ -12,20 +13,22 @@ use Rattle.ll_bank.specs.Term.{Term}
 use Rattle.ll_bank.specs.Form.{Form, Top, One, Atom, With, Tensor, Plus, Bang, Lolli, Imp, Forall, Exists, Use, Num}
 use Rattle.ll_bank.specs.Nodes.{Nodes, no_nodes, HasForm, HasTerm, AllInTerms, form_tree, term_tree, term_trees, size_of, IsCutTo}
 use Rattle.ll_bank.proofs.CallerLemmas.{term_trees-extends}
+use Rattle.ll_laws.specs.declared.Branch.TheInside.{Inside as BranchInside}
 use Rattle.ll_laws.specs.declared.Clause.{Clause}
 use Rattle.ll_laws.specs.declared.Kind.{Kind}
 use Rattle.ll_laws.specs.declared.Kind.TheVariants.{Linear, Unbounded}
 use Rattle.ll_laws.specs.declared.Module.{Module}
+use Rattle.ll_laws.specs.declared.Problem.TheInside.{Inside as ProblemInside}
 use Rattle.ll_laws.specs.declared.Rule.{Rule}
 use Rattle.ll_laws.specs.declared.Step.{Step}
 use Rattle.ll_laws.specs.declared.Step.TheVariants.{Plain as PlainStep, Left, Right, Clause as ClauseStep}
 use Rattle.ll_laws.specs.Leaf.{Premise, premise_goal, ways}
 use Rattle.ll_laws.specs.Line.{Line, DerivationLines, IsWhole, trees_of, lines}
-use Rattle.ll_laws.specs.Module.{ClauseTree, ModuleTree, Setting}
+use Rattle.ll_laws.specs.Module.{ClauseTree, ModuleTree}
 use Rattle.ll_laws.specs.Answered.{Answered}
 use Rattle.ll_laws.specs.Problem.{ProblemTree, problem_events}
 use Rattle.ll_laws.specs.Shows.{Tree, Labelled}
-use Rattle.ll_laws.specs.Shown.{clause_tree, module_tree, HasClauses}
+use Rattle.ll_laws.specs.Shown.{clause_tree, module_tree, HasClauses, HasModules}
 use Rattle.ll_laws.specs.ShownLines.{line_of, HasLines}
 use Rattle.ll_laws.specs.Verdict.{labelled, DerivationShows}
 use Rattle.ll_laws.specs.Laws.{AnswersAreShown}
@@ -165,31 +168,79 @@ clauses-bare : (forms : Nodes) (cs : List Clause) → bare_clauses forms (map (�
 clauses-bare forms [] = refl
 clauses-bare forms (c ∷ cs) = ap (λ fs. bare (form_tree forms c.form.0) ∷ fs) (clauses-bare forms cs)
 
-module _ (p : ProblemTree) (a : Answered) (forms bank : Nodes) (modules : List Module) (clauses : List Clause) (goal : FormAt) (terms : List At)
-    (steps : List Step) (w : Walker) (walked : IsWalked p a)
-    (modules_are : map (module_tree forms) modules ≡ p.modules) (clauses_are : map (clause_tree forms) clauses ≡ p.clauses)
-    (goal_is : form_tree forms goal.0 ≡ p.goal) (terms_are : term_trees bank terms ≡ a.terms)
-    (steps_are : steps ≡ a.steps) (start : IsAtStart goal clauses (length p.asked) w) where
+abbrev shown_problem : ProblemInside → ProblemTree
+shown_problem i = record {
+  names = i.names;
+  modules = map (module_tree i.bank) i.modules.items;
+  clauses = map (clause_tree i.bank) i.clauses.items;
+  goal = form_tree i.bank i.goal.0;
+  asked = i.asked.items;
+  bound = i.bound;
+}
+
+abbrev shown_branch : BranchInside → Answered
+shown_branch b = record { terms = term_trees b.bank b.terms.items; steps = b.steps.items }
+
+-- The parts of a problem and of the branch of an answer, as a call has read them, and the walker at its start. The problem asks for `count`
+-- variables
+pub record IsExplaining (p : ProblemTree) (a : Answered) (forms bank : Nodes) (modules : List Module) (clauses : List Clause) (goal : FormAt)
+    (terms : List At) (steps : List Step) (w : Walker) (count : ℕ) : Type 0 where
+  pub walked : IsWalked p a
+  pub modules_are : map (module_tree forms) modules ≡ p.modules
+  pub clauses_are : map (clause_tree forms) clauses ≡ p.clauses
+  pub goal_is : form_tree forms goal.0 ≡ p.goal
+  pub terms_are : term_trees bank terms ≡ a.terms
+  pub steps_are : steps ≡ a.steps
+  pub many : count ≡ length p.asked
+  pub start : IsAtStart goal clauses count w
+  pub has_clauses : HasClauses forms clauses
+  pub has_goal : HasForm forms goal.0
+  pub has_terms : AllInTerms bank terms
+
+pub explaining : (i : ProblemInside) (b : BranchInside) {p : ProblemTree} {a : Answered} {modules : List Module} {clauses : List Clause} {terms : List At}
+    {steps : List Step} {w : Walker} {count : ℕ} → IsWalked p a → shown_problem i ≡ p → shown_branch b ≡ a
+    → HasModules i.bank i.modules.items × HasClauses i.bank i.clauses.items × HasForm i.bank i.goal.0 → AllInTerms b.bank b.terms.items
+    → modules ≡ i.modules.items → clauses ≡ i.clauses.items → terms ≡ b.terms.items → steps ≡ b.steps.items
+    → count ≡ vec_len i.asked → IsAtStart i.goal clauses count w
+    → IsExplaining p a i.bank b.bank modules clauses i.goal terms steps w count
+explaining i b walked problem_is branch_is problem_holds branch_holds modules_are clauses_are terms_are steps_are many start = record {
+  walked = walked;
+  modules_are = ap (map (module_tree i.bank)) modules_are ∙ ap (λ (q : ProblemTree). q.modules) problem_is;
+  clauses_are = ap (map (clause_tree i.bank)) clauses_are ∙ ap (λ (q : ProblemTree). q.clauses) problem_is;
+  goal_is = ap (λ (q : ProblemTree). q.goal) problem_is;
+  terms_are = ap (term_trees b.bank) terms_are ∙ ap (λ (c : Answered). c.terms) branch_is;
+  steps_are = steps_are ∙ ap (λ (c : Answered). c.steps) branch_is;
+  many = many ∙ (i.asked.ok.0 ∙ ap (λ (q : ProblemTree). length q.asked) problem_is);
+  start = start;
+  has_clauses = subst (λ (cs : List Clause). HasClauses i.bank cs) (sym clauses_are) problem_holds.1;
+  has_goal = problem_holds.2;
+  has_terms = subst (λ (ats : List At). AllInTerms b.bank ats) (sym terms_are) branch_holds;
+}
+
+module _ {p : ProblemTree} {a : Answered} {forms bank : Nodes} {modules : List Module} {clauses : List Clause} {goal : FormAt} {terms : List At}
+    {steps : List Step} {w : Walker} {count : ℕ} (h : IsExplaining p a forms bank modules clauses goal terms steps w count) where
   walk_is : walk_of forms (trees forms modules) w ≡ walk_start p
   walk_is = λ i. record {
-    goals = (ap (λ gs. stacked forms (trees forms modules) gs []) start.goals ∙ ap (λ g. bare g ∷ []) goal_is) i;
-    clauses = (ap (bare_clauses forms) start.loaded ∙ (clauses-bare forms clauses ∙ ap (map (λ (c : ClauseTree). bare c.form)) clauses_are)) i;
-    eigens = start.eigens i;
-    used = start.used i;
+    goals = (ap (λ gs. stacked forms (trees forms modules) gs []) h.start.goals ∙ ap (λ g. bare g ∷ []) h.goal_is) i;
+    clauses =
+        (ap (bare_clauses forms) h.start.loaded ∙ (clauses-bare forms clauses ∙ ap (map (λ (c : ClauseTree). bare c.form)) h.clauses_are)) i;
+    eigens = h.start.eigens i;
+    used = (h.start.used ∙ h.many) i;
   }
 
   told_is : (all : List Term) → all ≡ a.terms → told (trees forms modules) all steps (walk_of forms (trees forms modules) w) ≡ branch_lines p a
-  told_is all e = (λ i. told (modules_are i) (e i) (steps_are i) (walk_is i)) ∙ walked.told
+  told_is all e = (λ i. told (h.modules_are i) (e i) (h.steps_are i) (walk_is i)) ∙ h.walked.told
 
   -- the terms are enough
   pub used_is : w.used ≤ length terms
   used_is =
-      let n = walked.asked in
+      let n = h.walked.asked in
       let m = few (length p.asked) a.terms in
-      let k = ap (λ (ts : List Term). length ts) terms_are in
+      let k = ap (λ (ts : List Term). length ts) h.terms_are in
       let j = length-map terms (λ (x : At). term_tree bank x.0) in
-      let u = start.used in
-      omega (arith, n, m, k, j, u)
+      let u = h.start.used in
+      let v = h.many in
+      omega (arith, n, m, k, j, u, v)
     where
       few : (n : ℕ) (ts : List Term) → length (take n ts) ≤ length ts
       few zero ts = omega arith
@@ -201,47 +252,58 @@ module _ (p : ProblemTree) (a : Answered) (forms bank : Nodes) (modules : List M
       told-count (trees forms modules) (term_trees no_nodes terms) (term_trees bank terms)
       (length-map terms (λ (x : At). term_tree no_nodes x.0) ∙ sym (length-map terms (λ (x : At). term_tree bank x.0))) steps
       (walk_of forms (trees forms modules) w)
-      ∙ (ap (λ (ns : List Line). length ns) (told_is (term_trees bank terms) terms_are) ∙ (walked.count ∙ ap (λ (cs : List Step). length cs) (sym steps_are)))
+      ∙ (ap (λ (ns : List Line). length ns) (told_is (term_trees bank terms) h.terms_are)
+      ∙ (h.walked.count ∙ ap (λ (cs : List Step). length cs) (sym h.steps_are)))
 
-  pub inside_is : (count : ℕ) → HasClauses forms clauses → HasForm forms goal.0 → IsInside forms count w
-  inside_is count hc hg = record {
-    goals = subst (All (HasGoal forms count)) (sym start.goals) (All-cons (HasGoal forms count) (Plain goal) [] hg (All-nil (HasGoal forms count)));
-    clauses = subst (All (λ (f : FormAt). HasForm forms f.0)) (sym start.loaded)
-        (All-map (λ (f : FormAt). HasForm forms f.0) (λ (c : Clause). c.form) clauses hc);
+  pub inside_is : (modules_count : ℕ) → IsInside forms modules_count w
+  inside_is n = record {
+    goals = subst (All (HasGoal forms n)) (sym h.start.goals) (All-cons (HasGoal forms n) (Plain goal) [] h.has_goal (All-nil (HasGoal forms n)));
+    clauses = subst (All (λ (f : FormAt). HasForm forms f.0)) (sym h.start.loaded)
+        (All-map (λ (f : FormAt). HasForm forms f.0) (λ (c : Clause). c.form) clauses h.has_clauses);
   }
 
+  -- the terms are read again, and as many as are asked for are taken
+  module _ {again : List At} (same : again ≡ terms) where
+    pub asked_there : count ≡ length (take count again)
+    asked_there =
+        let l = used_is in let u = h.start.used in let n = ap (λ (ats : List At). length ats) same in
+        take_exact count again (omega (arith, l, u, n))
+
+    pub asked_is : {asked : List At} → asked ≡ take count again → asked ≡ take (length p.asked) terms
+    asked_is e = e ∙ (λ i. take (h.many i) (same i))
+
   -- the image has the same terms
-  module _ (image : Nodes) (size : BankSize) (cut : IsCutTo size bank image) (whole : size ≡ size_of bank) (inside : AllInTerms bank terms) where
+  module _ {image : Nodes} {size : BankSize} (cut : IsCutTo size bank image) (whole : size ≡ size_of bank) where
     all_in : AllInTerms image terms
     all_in = let n : length image.terms ≡ length bank.terms = ap (λ (z : BankSize). z.terms) (cut.places ∙ whole) in
-        λ k d l. subst (λ m. (slice_index_or terms k d).0 < m) (sym n) (inside k d l)
+        λ k d l. subst (λ m. (slice_index_or terms k d).0 < m) (sym n) (h.has_terms k d l)
 
     same_terms : term_trees image terms ≡ a.terms
-    same_terms = sym (term_trees-extends cut.trees terms all_in) ∙ terms_are
+    same_terms = sym (term_trees-extends cut.trees terms all_in) ∙ h.terms_are
 
     pub asked_in : (asked : List At) → asked ≡ take (length p.asked) terms → AllInTerms image asked
     asked_in asked e = subst (λ (ats : List At). AllInTerms image ats) (sym e) (All-take (λ (x : At). HasTerm image x.0) (length p.asked) terms all_in)
 
     -- the nodes are the tree of the answer
-    is_tree : (rules : List Rule) → AreNodes forms modules terms steps w rules → trees_of (map (line_of image) rules) ≡ Some (walked.tree ∷ [])
-    is_tree rules h = ap trees_of (h.told image ∙ told_is (term_trees image terms) same_terms) ∙ walked.is_tree
+    is_tree : (rules : List Rule) → AreNodes forms modules terms steps w rules → trees_of (map (line_of image) rules) ≡ Some (h.walked.tree ∷ [])
+    is_tree rules are = ap trees_of (are.told image ∙ told_is (term_trees image terms) same_terms) ∙ h.walked.is_tree
 
     pub nodes_in : (rules dealt' : List Rule) → AreNodes forms modules terms steps w rules → (HasLines image rules → HasLines image dealt')
         → HasLines image dealt'
-    nodes_in rules dealt' h f = f (h.places image all_in)
+    nodes_in rules dealt' are f = f (are.places image all_in)
 
     pub explained : (rules new : List Rule) (labels : List ℕ) (asked : List At) → AreNodes forms modules terms steps w rules → labels ≡ linear_labels 0 clauses
         → ((x : Tree) → trees_of (map (line_of image) rules) ≡ Some (x ∷ []) → map (line_of image) new ≡ lines (deal labels x))
         → asked ≡ take (length p.asked) terms
         → dealt p a ≡ Some (record { asked = term_trees image asked; nodes = map (line_of image) new })
-    explained rules new labels asked h l f e =
+    explained rules new labels asked are l f e =
         let ls : labels ≡ root_labels p = l ∙ (sym (labels-root forms 0 clauses)
-        ∙ ap (λ cs. map (λ (x : Labelled). x.label) (labelled Linear 0 cs)) clauses_are) in
-        let ns : map (line_of image) new ≡ lines (deal (root_labels p) walked.tree) =
-        f walked.tree (is_tree rules h) ∙ ap (λ ms. lines (deal ms walked.tree)) ls in
+        ∙ ap (λ cs. map (λ (x : Labelled). x.label) (labelled Linear 0 cs)) h.clauses_are) in
+        let ns : map (line_of image) new ≡ lines (deal (root_labels p) h.walked.tree) =
+        f h.walked.tree (is_tree rules are) ∙ ap (λ ms. lines (deal ms h.walked.tree)) ls in
         let ts : term_trees image asked ≡ asked_terms p a = ap (term_trees image) e
         ∙ (sym (trees-take image (length p.asked) terms) ∙ ap (take (length p.asked)) same_terms) in
-        walked.is_dealt ∙ (λ i. Some (record { asked = sym ts i; nodes = sym ns i }))
+        h.walked.is_dealt ∙ (λ i. Some (record { asked = sym ts i; nodes = sym ns i }))
 
 -- ---- what a derivation of an answer shows
 

@@ -36,15 +36,16 @@ pub record IsCounted (forms : Nodes) (waiting : List FormAt) (n goal : ℕ) : Ty
 
 pub count_step : (forms : Nodes) (old rest pushed new : List FormAt) (f : FormAt) (n goal : ℕ) → old ≡ rest ++ f ∷ [] → new ≡ rest ++ pushed
     → All (λ (g : FormAt). HasForm forms g.0) old
-    → All (λ (g : FormAt). HasForm forms g.0) pushed → length (ways (form_tree forms f.0)) ≡ waiting_ways forms pushed → n + waiting_ways forms old ≡ goal
-    → IsCounted forms new n goal
+    → (HasForm forms f.0 → All (λ (g : FormAt). HasForm forms g.0) pushed) → length (ways (form_tree forms f.0)) ≡ waiting_ways forms pushed
+    → n + waiting_ways forms old ≡ goal → IsCounted forms new n goal
 count_step forms old rest pushed new f n goal o w all more same h =
     let P : FormAt → Type 0 = λ g. HasForm forms g.0 in
     let size : FormAt → ℕ = λ g. length (ways (form_tree forms g.0)) in
     let a = ap (waiting_ways forms) o ∙ sum_by-append size rest (f ∷ []) in
     let b = ap (waiting_ways forms) w ∙ sum_by-append size rest pushed in
+    let split = All-pop P old rest (Some f) o all in
     record {
-      inside = subst (All P) (sym w) (All-append P rest pushed (All-pop P old rest (Some f) o all).0 more);
+      inside = subst (All P) (sym w) (All-append P rest pushed split.0 (more split.1));
       so_far = omega (arith, a, b, same, h);
     }
 

@@ -1,10 +1,7 @@
-use Rattle.std.proofs.Common.{◌≡◌, ◌+◌, ◌-◌, ◌<◌, refl, ap, sym, subst, ◌∙◌, arith, length, List, slice_index_or}
-use Rattle.std.specs.Prelude.{slice_get}
+use Rattle.std.proofs.Common.{◌+◌, ◌-◌, refl, ap, sym, subst, arith}
 use Rattle.ll_bank.specs.Form.{Form}
 use Rattle.ll_bank.specs.Nodes.{form_tree}
-use Rattle.ll_laws.specs.declared.Clause.{Clause}
 use Rattle.ll_laws.specs.declared.Kind.{Kind}
-use Rattle.ll_laws.specs.declared.Module.{Module}
 use Rattle.ll_laws.specs.declared.Rule.TheVariants.{Lolli as LolliRule, Imp as ImpRule, Forall as ForallRule}
 use Rattle.ll_laws.specs.Line.{ForallLine}
 use Rattle.ll_laws.specs.Shown.{clause_tree}
@@ -12,7 +9,7 @@ use Rattle.ll_trace.specs.Bare.{bare}
 use Rattle.ll_trace.specs.Goals.{loading_goal}
 use Rattle.ll_trace.specs.Walker.{trees, Takes, MayTake}
 use Rattle.ll_trace.proofs.TakeLemmas.{if_ok, takes_local, takes_clause, load_over, load_line}
-use Rattle.ll_trace.proofs.LoadLemmas.{clauses_at, clause_got, clause_past, has_clause}
+use Rattle.ll_trace.proofs.LoadLemmas.{load_end, load_next}
 use Rattle.ll_trace.proofs.walk.Walker.take_loading.Goals as goal
 
 pub returns-then-loading-gt0 : goal.returns-then-loading-gt0
@@ -27,12 +24,8 @@ take_form-requires-clause-may c =
     let forms = c.args.forms.now in
     let l = c.args.loading in
     let f = c.if-loading-gt0.false in
-    let d = c.index-modules-loading.result in
-    let n = c.in_default.ensures.lookup.3 in
-    let same : c.deref.result.now ≡ d.clauses.items = c.deref.ensures.value ∙ ap (λ (m : Module). m.clauses.items) (sym c.index-modules-loading.is) in
-    let v = ap (λ (cs : List Clause). length cs) same in
-    let end = ap (λ cs. slice_get cs l.next) (clauses_at forms c.args.modules.now l.«module» d c.requires.known c.index-modules-loading.is)
-    ∙ clause_past forms d.clauses.items l.next (omega (arith, n, v)) in
+    let end = load_end forms c.args.modules.now l.«module» l.next c.requires.known c.index-modules-loading.is c.deref.ensures.value
+    c.in_default.ensures.lookup.3 in
     subst (λ (g : Form). MayTake forms c.args.modules.now c.args.terms.now c.args.self.now g c.args.step)
     (load_over forms c.args.modules.now c.args.terms.now c.args.self.now c.args.step c.requires.inside c.requires.used l (omega (arith, f)) end) c.requires.may
 
@@ -41,12 +34,8 @@ returns-in_default c =
     let forms = c.args.forms.now in
     let l = c.args.loading in
     let f = c.if-loading-gt0.false in
-    let d = c.index-modules-loading.result in
-    let n = c.in_default.ensures.lookup.3 in
-    let same : c.deref.result.now ≡ d.clauses.items = c.deref.ensures.value ∙ ap (λ (m : Module). m.clauses.items) (sym c.index-modules-loading.is) in
-    let v = ap (λ (cs : List Clause). length cs) same in
-    let end = ap (λ cs. slice_get cs l.next) (clauses_at forms c.args.modules.now l.«module» d c.requires.known c.index-modules-loading.is)
-    ∙ clause_past forms d.clauses.items l.next (omega (arith, n, v)) in
+    let end = load_end forms c.args.modules.now l.«module» l.next c.requires.known c.index-modules-loading.is c.deref.ensures.value
+    c.in_default.ensures.lookup.3 in
     let over = load_over forms c.args.modules.now c.args.terms.now c.args.self.now c.args.step c.requires.inside c.requires.used l (omega (arith, f)) end in
     if_ok (λ rule. Takes forms c.args.modules.now c.args.terms.now c.args.self.now (bare (form_tree forms l.goal.0)) c.args.step rule c.take_form.new.self)
     (λ rule. Takes forms c.args.modules.now c.args.terms.now c.args.self.now (loading_goal forms (trees forms c.args.modules.now) l) c.args.step rule
@@ -59,37 +48,23 @@ returns-in-Linear c =
     let forms = c.args.forms.now in
     let l = c.args.loading in
     let f = c.if-loading-gt0.false in
-    let d = c.index-modules-loading.result in
     let x = c.in-Some.clause.now in
-    let k = c.in-Some.ensures.lookup.3.0 in
-    let same : c.deref.result.now ≡ d.clauses.items = c.deref.ensures.value ∙ ap (λ (m : Module). m.clauses.items) (sym c.index-modules-loading.is) in
-    let v = ap (λ (cs : List Clause). length cs) same in
-    let less : l.next < length d.clauses.items = omega (arith, k, v) in
-    let is : x ≡ slice_index_or d.clauses.items l.next x = c.in-Some.ensures.lookup.1 ∙ ap (λ (cs : List Clause). slice_index_or cs l.next x) same in
-    let at = ap (λ cs. slice_get cs l.next) (clauses_at forms c.args.modules.now l.«module» d c.requires.known c.index-modules-loading.is)
-    ∙ clause_got forms d.clauses.items l.next x less is in
+    let next = load_next forms c.args.modules.now l.«module» l.next c.requires.known c.index-modules-loading.is c.deref.ensures.value c.requires.modules
+    c.in-Some.ensures.lookup.3.0 c.in-Some.ensures.lookup.1 in
     takes_clause forms c.args.modules.now c.args.terms.now c.args.self.now c.args.step c.requires.inside c.requires.used l (record l { next = l.next + 1 })
     (clause_tree forms x) x.form (LolliRule c.in_ok-label.label) c.in_ok-label.label
-    c.load.new.self (omega (arith, f)) refl c.requires.goal c.requires.known refl
-    (has_clause forms c.args.modules.now l.«module» d l.next x c.requires.modules c.requires.known c.index-modules-loading.is less is) at
-    c.in_ok-label.ensures.pushed c.in_ok-label.ensures.label (λ bank. ap (λ (y : Kind). load_line y c.in_ok-label.label) (sym c.in-Linear.is)) (λ bank h. tt)
+    c.load.new.self (omega (arith, f)) refl c.requires.goal c.requires.known refl next.has next.got c.in_ok-label.ensures.pushed c.in_ok-label.ensures.label
+    (λ bank. ap (λ (y : Kind). load_line y c.in_ok-label.label) (sym c.in-Linear.is)) (λ bank h. tt)
 
 pub returns-in-Unbounded : goal.returns-in-Unbounded
 returns-in-Unbounded c =
     let forms = c.args.forms.now in
     let l = c.args.loading in
     let f = c.if-loading-gt0.false in
-    let d = c.index-modules-loading.result in
     let x = c.in-Some.clause.now in
-    let k = c.in-Some.ensures.lookup.3.0 in
-    let same : c.deref.result.now ≡ d.clauses.items = c.deref.ensures.value ∙ ap (λ (m : Module). m.clauses.items) (sym c.index-modules-loading.is) in
-    let v = ap (λ (cs : List Clause). length cs) same in
-    let less : l.next < length d.clauses.items = omega (arith, k, v) in
-    let is : x ≡ slice_index_or d.clauses.items l.next x = c.in-Some.ensures.lookup.1 ∙ ap (λ (cs : List Clause). slice_index_or cs l.next x) same in
-    let at = ap (λ cs. slice_get cs l.next) (clauses_at forms c.args.modules.now l.«module» d c.requires.known c.index-modules-loading.is)
-    ∙ clause_got forms d.clauses.items l.next x less is in
+    let next = load_next forms c.args.modules.now l.«module» l.next c.requires.known c.index-modules-loading.is c.deref.ensures.value c.requires.modules
+    c.in-Some.ensures.lookup.3.0 c.in-Some.ensures.lookup.1 in
     takes_clause forms c.args.modules.now c.args.terms.now c.args.self.now c.args.step c.requires.inside c.requires.used l (record l { next = l.next + 1 })
     (clause_tree forms x) x.form (ImpRule c.in_ok-label.label) c.in_ok-label.label
-    c.load.new.self (omega (arith, f)) refl c.requires.goal c.requires.known refl
-    (has_clause forms c.args.modules.now l.«module» d l.next x c.requires.modules c.requires.known c.index-modules-loading.is less is) at
-    c.in_ok-label.ensures.pushed c.in_ok-label.ensures.label (λ bank. ap (λ (y : Kind). load_line y c.in_ok-label.label) (sym c.in-Unbounded.is)) (λ bank h. tt)
+    c.load.new.self (omega (arith, f)) refl c.requires.goal c.requires.known refl next.has next.got c.in_ok-label.ensures.pushed c.in_ok-label.ensures.label
+    (λ bank. ap (λ (y : Kind). load_line y c.in_ok-label.label) (sym c.in-Unbounded.is)) (λ bank h. tt)

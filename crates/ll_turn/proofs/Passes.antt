@@ -80,30 +80,50 @@ module _ {S P M : Type 0} where
           ∙ (sight_is z m'.0 e' (record { problem = k.problem; mine = k.mine; stage = Holds y; given = k.given }) (ap (λ (x : Hand S P M). x.0) n.0)
           ∙ ap (λ (x : Sight S P M). record x { before = Some y }) pass.is)
 
-      module _ (next : P → S → M → S → M) (keeps_numbers : KeepsNumbers numbers next)
-          (lawful : P → S → M → S → Type 0) (may : IsSomeAnd s.before (λ b. lawful s.problem b s.mine y)) (gave : PutsBack fit next m y m') where
-        abbrev pub after : Known S P M
-        after = let r = may_give lawful y may in let k = pass.runs.pass in
-            record { problem = k.problem; mine = next k.problem r.1 k.mine y; stage = Rests; given = k.given }
+  -- a pass that was seen so gave the turn back with the value y
+  pub record HasGiven (numbers : M → Numbers) (fit : S → P → M → Type 0) (next : P → S → M → S → M) (lawful : P → S → M → S → Type 0)
+      (m : Hand S P M) (number least : ℕ) (z : TableId) (s : Sight S P M) (y : S) (m' : Hand S P M) : Type 0 where
+    pub pass : IsSeen numbers m number least z s
+    pub keeps_numbers : KeepsNumbers numbers next
+    pub may : IsSomeAnd s.before (λ b. lawful s.problem b s.mine y)
+    pub gave : PutsBack fit next m y m'
 
-        pub gave_lives : m'.0 ≡ Live after
-        gave_lives = let r = may_give lawful y may in ap (λ (x : Hand S P M). x.0) (gave pass.runs.pass r.1 r.2 r.3).0
+  pub has_given : {numbers : M → Numbers} (fit : S → P → M → Type 0) (next : P → S → M → S → M) (lawful : P → S → M → S → Type 0) {m : Hand S P M}
+      {number least : ℕ} {z : TableId} {s : Sight S P M} {x y : S} (m' : Hand S P M) → IsSeen numbers m number least z s → KeepsNumbers numbers next
+      → IsSomeAnd s.before (λ b. lawful s.problem b s.mine y) → x ≡ y → PutsBack fit next m x m' → HasGiven numbers fit next lawful m number least z s y m'
+  has_given fit next lawful {m = m} m' pass keeps_numbers may is gave = record {
+    pass = pass;
+    keeps_numbers = keeps_numbers;
+    may = may;
+    gave = subst (λ value. PutsBack fit next m value m') is gave;
+  }
 
-        pub gave_runs : Runs numbers m' number least
-        gave_runs = let r = may_give lawful y may in let k = pass.runs.pass in let n = gave k r.1 r.2 r.3 in let same = keeps_numbers k.problem r.1 k.mine y in
-            record {
-              pass = after;
-              lives = gave_lives;
-              carries = ap (λ (x : Hand S P M). x.1) n.0;
-              number_is = ap (λ (x : Numbers). x.own) same ∙ pass.runs.number_is;
-              least_is = subst (λ (x : Numbers). HasToGive x → x.from ≡ least) (sym same) pass.runs.least_is;
-              small = pass.runs.small;
-              low = subst (λ (x : Numbers). HasToGive x → x.end ≤ 4294967296) (sym same) pass.runs.low;
-            }
+  module _ {numbers : M → Numbers} {fit : S → P → M → Type 0} {next : P → S → M → S → M} {lawful : P → S → M → S → Type 0} {m : Hand S P M}
+      {number least : ℕ} {z : TableId} {s : Sight S P M} {y : S} {m' : Hand S P M} (h : HasGiven numbers fit next lawful m number least z s y m') where
+    abbrev pub after : Known S P M
+    after = let r = may_give h.pass lawful y h.may in let k = h.pass.runs.pass in
+        record { problem = k.problem; mine = next k.problem r.1 k.mine y; stage = Rests; given = k.given }
 
-        pub gave_fits : (e' : is_live m'.0 ≡ true) → fit y (known m'.0 e').problem (known m'.0 e').mine
-        gave_fits e' = let r = may_give lawful y may in let n = gave pass.runs.pass r.1 r.2 r.3 in
-            subst (λ (x : Known S P M). fit y x.problem x.mine) (sym (known_is m'.0 e' after gave_lives)) n.1
+    pub gave_lives : m'.0 ≡ Live after
+    gave_lives = let r = may_give h.pass lawful y h.may in ap (λ (x : Hand S P M). x.0) (h.gave h.pass.runs.pass r.1 r.2 r.3).0
+
+    pub gave_runs : Runs numbers m' number least
+    gave_runs =
+        let r = may_give h.pass lawful y h.may in let k = h.pass.runs.pass in let n = h.gave k r.1 r.2 r.3 in
+        let same = h.keeps_numbers k.problem r.1 k.mine y in
+        record {
+          pass = after;
+          lives = gave_lives;
+          carries = ap (λ (x : Hand S P M). x.1) n.0;
+          number_is = ap (λ (x : Numbers). x.own) same ∙ h.pass.runs.number_is;
+          least_is = subst (λ (x : Numbers). HasToGive x → x.from ≡ least) (sym same) h.pass.runs.least_is;
+          small = h.pass.runs.small;
+          low = subst (λ (x : Numbers). HasToGive x → x.end ≤ 4294967296) (sym same) h.pass.runs.low;
+        }
+
+    pub gave_fits : (e' : is_live m'.0 ≡ true) → fit y (known m'.0 e').problem (known m'.0 e').mine
+    gave_fits e' = let r = may_give h.pass lawful y h.may in let n = h.gave h.pass.runs.pass r.1 r.2 r.3 in
+        subst (λ (x : Known S P M). fit y x.problem x.mine) (sym (known_is m'.0 e' after gave_lives)) n.1
 
 module _ {S P M : Type 0} {numbers : M → Numbers} {m : Hand S P M} {number least : ℕ} {z : TableId} {s : Sight S P M} (pass : IsSeen numbers m number least z s)
     (b : s.before ≡ None) where

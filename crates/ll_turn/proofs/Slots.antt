@@ -1,5 +1,5 @@
 -- The slot in a pass's hand, from the taking of its value to the freeing of the word.
-use Rattle.std.proofs.Common.{◌≡◌, ℕ, List, [], ◌∷◌, Option, Some, None, sym, ap, ◌∙◌, refl}
+use Rattle.std.proofs.Common.{◌≡◌, ℕ, List, [], ◌∷◌, Option, Some, None, sym, ap, ◌∙◌, refl, subst}
 use Rattle.atomic_table.specs.Table.{Me, Step, rest}
 use Rattle.ll_turn.specs.Numbers.{Numbers}
 use Rattle.ll_turn.specs.declared.view.Stage.TheVariants.{Rests, Holds, Notes}
@@ -44,21 +44,33 @@ module _ {S P M : Type 0} (fit : S → P → M → Type 0) where
       (f.0 ∙ ap (λ (z : Hand S P M). (staged w Rests, rest z.1)) here, f.1)
 
 -- from the announcement to the freeing of the word
-module _ {S P M : Type 0} (numbers : M → Numbers) (lawful : P → S → M → S → Type 0) (next : P → S → M → S → M) (m m' : Hand S P M) (h : ℕ) (y : S)
-    (may : MayGive numbers lawful m h y) (announced : Announces next m y m') where
-  abbrev pub noting : Known S P M
-  noting = let k = may.0 in record { problem = k.problem; mine = next k.problem may.1 k.mine y; stage = Notes y; given = k.given }
+module _ {S P M : Type 0} where
+  -- a pass with this number announced the value y
+  pub record HasAnnounced (numbers : M → Numbers) (lawful : P → S → M → S → Type 0) (next : P → S → M → S → M) (m m' : Hand S P M) (number : ℕ)
+      (y : S) : Type 0 where
+    pub may : MayGive numbers lawful m number y
+    pub announced : Announces next m y m'
 
-  emptied : m' ≡ (Live noting, (0, None) ∷ [])
-  emptied = announced may.0 may.1 may.2 may.3
+  pub has_announced : (numbers : M → Numbers) (lawful : P → S → M → S → Type 0) (next : P → S → M → S → M) {m m' : Hand S P M} {number : ℕ} {x y : S}
+      → MayGive numbers lawful m number y → x ≡ y → Announces next m x m' → HasAnnounced numbers lawful next m m' number y
+  has_announced numbers lawful next {m = m} {m' = m'} may is announced =
+      record { may = may; announced = subst (λ value. Announces next m value m') is announced }
 
-  -- the slot is empty
-  pub empty_in_hand : m'.1 ≡ (0, None) ∷ rest m'.1
-  empty_in_hand = in_hand m' (Live noting) None emptied
+  module _ {numbers : M → Numbers} {lawful : P → S → M → S → Type 0} {next : P → S → M → S → M} {m m' : Hand S P M} {number : ℕ} {y : S}
+      (h : HasAnnounced numbers lawful next m m' number y) where
+    abbrev pub noting : Known S P M
+    noting = let k = h.may.0 in record { problem = k.problem; mine = next k.problem h.may.1 k.mine y; stage = Notes y; given = k.given }
 
-  pub finds_empty : (r : Option S) → m'.1 ≡ (0, r) ∷ rest m'.1 → r ≡ None
-  finds_empty r found = found_in_hand m' (Live noting) None r emptied found
+    emptied : m' ≡ (Live noting, (0, None) ∷ [])
+    emptied = h.announced h.may.0 h.may.1 h.may.2 h.may.3
 
-  -- and then it holds the value noted
-  pub filled : (m'' : Hand S P M) → m'' ≡ (m'.0, (0, Some y) ∷ rest m'.1) → m'' ≡ (Live noting, (0, Some y) ∷ [])
-  filled m'' puts = put_in_hand m' m'' (Live noting) None (Some y) emptied puts
+    -- the slot is empty
+    pub empty_in_hand : m'.1 ≡ (0, None) ∷ rest m'.1
+    empty_in_hand = in_hand m' (Live noting) None emptied
+
+    pub finds_empty : (r : Option S) → m'.1 ≡ (0, r) ∷ rest m'.1 → r ≡ None
+    finds_empty r found = found_in_hand m' (Live noting) None r emptied found
+
+    -- and then it holds the value noted
+    pub filled : (m'' : Hand S P M) → m'' ≡ (m'.0, (0, Some y) ∷ rest m'.1) → m'' ≡ (Live noting, (0, Some y) ∷ [])
+    filled m'' puts = put_in_hand m' m'' (Live noting) None (Some y) emptied puts

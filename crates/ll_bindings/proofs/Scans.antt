@@ -345,10 +345,6 @@ weight-opens nodes s fs f g end b ga gn same =
     λ i. rest_weight s (term_tree nodes (ga i).0) (gn i) in
     omega arith
 
-pub weight-closes : (nodes : Nodes) (s : ℕ → Term) (fs : List Frame) (f : Frame) → frames_weight nodes s fs < frames_weight nodes s (fs ++ f ∷ [])
-weight-closes nodes s fs f =
-    let w : Frame → ℕ = λ h. 1 + rest_weight s (term_tree nodes h.at.0) h.next in let q = sum_by_push w fs f in omega arith
-
 spine-own : (u : Term) → is_spine u ≡ true → own_vars u ≡ []
 spine-own (Var y) h = cc
 spine-own (Int z) h = cc

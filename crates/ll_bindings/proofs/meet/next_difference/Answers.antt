@@ -4,7 +4,7 @@ use Rattle.ll_bank.specs.Term.{sub}
 use Rattle.ll_bank.specs.Nodes.{term_tree}
 use Rattle.ll_laws.specs.Unify.{and_then, diff, diff_lists}
 use Rattle.ll_bindings.specs.Bindings.{found}
-use Rattle.ll_bindings.specs.Pairs.{lefts, rights}
+use Rattle.ll_bindings.specs.Pairs.{lefts, rights, IsComparing}
 use Rattle.ll_bindings.proofs.Tables.{step-inside}
 use Rattle.ll_bindings.proofs.Readings.{Obeys-found}
 use Rattle.ll_bindings.proofs.Pairs.{pairs-top, alike-done, alike-trans, alike-next, alike-equal, alike-open, awaits-next, awaits-equal, awaits-open}
@@ -12,11 +12,16 @@ use Rattle.ll_bindings.proofs.Pairs.{awaits-meet, top-joined, pairs-done, pairs_
 use Rattle.ll_bindings.proofs.Alike.{shape-length}
 use Rattle.ll_bindings.proofs.FreshLemmas.{clear-next, clear-done, clear-open, clear-same}
 use Rattle.ll_bindings.proofs.meet.next_difference.Goals as goal
+use Rattle.ll_bindings.proofs.meet.next_difference.Goals.{In-Some}
+
+-- the pair that was on top
+on_top : (g : _) (c : In-Some g) → IsComparing c.args.bank.now (g.T.Bindings.table c.args.table.now) c.pop.new.self.items c.in-Some.pair
+on_top g c = pairs-top c.args.bank.now (g.T.Bindings.table c.args.table.now) c.loop-pair.pairs.items c.pop.new.self.items c.in-Some.pair
+    c.loop-pair.invariant.pairs c.in-Some.ensures.items
 
 pub loop-pair-preserved-in-Continue-1 : goal.loop-pair-preserved-in-Continue-1
 loop-pair-preserved-in-Continue-1 g c =
-    let top = pairs-top c.args.bank.now (g.T.Bindings.table c.args.table.now) c.loop-pair.pairs.items c.pop.new.self.items c.in-Some.pair
-    c.loop-pair.invariant.pairs c.in-Some.ensures.items in record {
+    let top = on_top g (goal.at.loop-pair-preserved-in-Continue-1 g c).In-Some in record {
       classes = c.in_ok-join-in-None.ensures c.args.bank.now (g.T.Bindings.table c.args.table.now) c.loop-pair.invariant.classes
           (top-joined c.args.bank.now (g.T.Bindings.table c.args.table.now) c.pop.new.self.items c.in-Some.pair top c.in-None.ensures.argument);
       pairs = pairs-done c.args.bank.now (g.T.Bindings.table c.args.table.now) c.pop.new.self.items c.in-Some.pair top c.in-None.ensures.argument;
@@ -32,22 +37,19 @@ loop-pair-preserved-in-Continue-1 g c =
 
 pub unreachable-requires : goal.unreachable-requires
 unreachable-requires g c =
-    let top = pairs-top c.args.bank.now (g.T.Bindings.table c.args.table.now) c.loop-pair.pairs.items c.pop.new.self.items c.in-Some.pair
-    c.loop-pair.invariant.pairs c.in-Some.ensures.items in let n =
+    let top = on_top g (goal.at.unreachable-requires g c).In-Some in let n =
     shape-length (term_tree c.args.bank.now c.in-Some.pair.left.0) (term_tree c.args.bank.now c.in-Some.pair.right.0) top.pair.shape in let m =
     c.in-Some-argument.ensures.argument.among in let k = c.in-None-argument.ensures.argument in omega arith
 
 pub compare-requires-clause-left : goal.compare-requires-clause-left
 compare-requires-clause-left g c =
-    let top = pairs-top c.args.bank.now (g.T.Bindings.table c.args.table.now) c.loop-pair.pairs.items c.pop.new.self.items c.in-Some.pair
-    c.loop-pair.invariant.pairs c.in-Some.ensures.items in
+    let top = on_top g (goal.at.compare-requires-clause-left g c).In-Some in
     step-inside c.args.bank.now (g.T.Bindings.table c.args.table.now) c.in-Some.pair.left.0 c.in-Some.pair.next c.in-Some-argument.left.0
     top.pair.left_place c.in-Some-argument.ensures.argument
 
 pub compare-requires-clause-right : goal.compare-requires-clause-right
 compare-requires-clause-right g c =
-    let top = pairs-top c.args.bank.now (g.T.Bindings.table c.args.table.now) c.loop-pair.pairs.items c.pop.new.self.items c.in-Some.pair
-    c.loop-pair.invariant.pairs c.in-Some.ensures.items in
+    let top = on_top g (goal.at.compare-requires-clause-right g c).In-Some in
     step-inside c.args.bank.now (g.T.Bindings.table c.args.table.now) c.in-Some.pair.right.0 c.in-Some.pair.next c.in-Some-argument-2.right.0
     top.pair.right_place c.in-Some-argument-2.ensures.argument
 

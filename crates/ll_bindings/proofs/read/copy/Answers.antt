@@ -8,8 +8,20 @@ use Rattle.ll_bindings.specs.Bindings.{found}
 use Rattle.ll_bindings.proofs.Scans.{weight-known, weight-opens}
 use Rattle.ll_bindings.proofs.CallerLemmas.{table-extends, place-extends}
 use Rattle.ll_bindings.proofs.Copies.{copies-extends, copies-add, copy-top, copy-argument, copy-reached, copy-known, copy-opens, copy-closes, copy-own}
-use Rattle.ll_bindings.proofs.Copies.{copy-starts, built-copy, done-first}
+use Rattle.ll_bindings.proofs.Copies.{copy-starts, built-copy, done-first, IsReached}
 use Rattle.ll_bindings.proofs.read.copy.Goals as goal
+use Rattle.ll_bindings.proofs.read.copy.Goals.{After-walk-end}
+
+-- what is reached from the next argument of the frame on top
+reached : (g : _) (c : After-walk-end g) → IsReached c.args.bank.now (g.T.Bindings.table c.args.table.now) c.in-Some.frame c.in-Some-argument.arg
+    c.walk-end.result
+reached g c =
+    let first = c.args.bank.now in
+    let t = g.T.Bindings.table c.args.table.now in
+    copy-reached first t (sub (found first t) (term_tree first c.args.start.0)) c.requires.table c.loop-frame.bank c.loop-frame.made.items c.loop-frame.last
+    c.loop-frame.frames.items c.pop.new.self.items c.in-Some.frame c.in-Some-argument.arg c.walk-end.result c.loop-frame.invariant.keeps
+    c.loop-frame.invariant.copied c.in-Some.ensures.items c.in-Some-argument.ensures.argument c.walk-end.ensures.end c.walk-end.ensures.same
+    c.walk-end.ensures.among
 
 pub returns-in_err-push-clause-keeps : goal.returns-in_err-push-clause-keeps
 returns-in_err-push-clause-keeps g c =
@@ -45,22 +57,17 @@ pub loop-frame-smaller-in-Continue-branch-3 : goal.loop-frame-smaller-in-Continu
 loop-frame-smaller-in-Continue-branch-3 g c =
     let first = c.args.bank.now in
     let t = g.T.Bindings.table c.args.table.now in
-    let whole = sub (found first t) (term_tree first c.args.start.0) in
-    let reached = copy-reached first t whole c.requires.table c.loop-frame.bank c.loop-frame.made.items c.loop-frame.last c.loop-frame.frames.items
-    c.pop.new.self.items c.in-Some.frame c.in-Some-argument.arg c.walk-end.result c.loop-frame.invariant.keeps c.loop-frame.invariant.copied
-    c.in-Some.ensures.items c.in-Some-argument.ensures.argument c.walk-end.ensures.end c.walk-end.ensures.same c.walk-end.ensures.among in
+    let to = reached g (goal.at.loop-frame-smaller-in-Continue-branch-3 g c).After-walk-end in
     rw (c.in_ok-push-in-Some-argument.ensures.items, c.in-Some.ensures.items)
     (weight-known first (found first t) c.pop.new.self.items c.in-Some.frame (record { at = c.in-Some.frame.at; next = c.in-Some.frame.next + 1 })
-    reached.argument.among refl refl)
+    to.argument.among refl refl)
 
 pub loop-frame-preserved-in-Continue-branch-3 : goal.loop-frame-preserved-in-Continue-branch-3
 loop-frame-preserved-in-Continue-branch-3 g c =
     let first = c.args.bank.now in
     let t = g.T.Bindings.table c.args.table.now in
     let whole = sub (found first t) (term_tree first c.args.start.0) in
-    let reached = copy-reached first t whole c.requires.table c.loop-frame.bank c.loop-frame.made.items c.loop-frame.last c.loop-frame.frames.items
-    c.pop.new.self.items c.in-Some.frame c.in-Some-argument.arg c.walk-end.result c.loop-frame.invariant.keeps c.loop-frame.invariant.copied
-    c.in-Some.ensures.items c.in-Some-argument.ensures.argument c.walk-end.ensures.end c.walk-end.ensures.same c.walk-end.ensures.among in
+    let to = reached g (goal.at.loop-frame-preserved-in-Continue-branch-3 g c).After-walk-end in
     record {
       keeps = c.loop-frame.invariant.keeps;
       known = c.loop-frame.invariant.known;
@@ -68,7 +75,7 @@ loop-frame-preserved-in-Continue-branch-3 g c =
           (copy-known first t whole c.requires.table c.loop-frame.bank c.loop-frame.made.items c.loop-frame.last c.loop-frame.frames.items c.pop.new.self.items
           c.in-Some.frame (record { at = c.in-Some.frame.at; next = c.in-Some.frame.next + 1 }) c.in-Some-argument.arg c.walk-end.result
           c.in-Some-get.copy.now
-          c.loop-frame.invariant.copied c.in-Some.ensures.items reached.argument reached.same
+          c.loop-frame.invariant.copied c.in-Some.ensures.items to.argument to.same
           (c.loop-frame.invariant.known c.walk-end.result.0 c.in-Some-get.copy.now (sym c.get.ensures.value ∙ ap option_copied c.in-Some-get.is)).shows refl
           refl);
     }
@@ -77,30 +84,25 @@ pub loop-frame-smaller-in-Continue-branch-4 : goal.loop-frame-smaller-in-Continu
 loop-frame-smaller-in-Continue-branch-4 g c =
     let first = c.args.bank.now in
     let t = g.T.Bindings.table c.args.table.now in
-    let whole = sub (found first t) (term_tree first c.args.start.0) in
-    let reached = copy-reached first t whole c.requires.table c.loop-frame.bank c.loop-frame.made.items c.loop-frame.last c.loop-frame.frames.items
-    c.pop.new.self.items c.in-Some.frame c.in-Some-argument.arg c.walk-end.result c.loop-frame.invariant.keeps c.loop-frame.invariant.copied
-    c.in-Some.ensures.items c.in-Some-argument.ensures.argument c.walk-end.ensures.end c.walk-end.ensures.same c.walk-end.ensures.among in
+    let to = reached g (goal.at.loop-frame-smaller-in-Continue-branch-4 g c).After-walk-end in
     rw (c.in_ok-push-in-None-get.ensures.items, c.in_ok-push-in-Some-argument.ensures.items, c.in-Some.ensures.items)
     (weight-opens first (found first t) c.pop.new.self.items c.in-Some.frame (record { at = c.in-Some.frame.at; next = c.in-Some.frame.next + 1 })
-    c.walk-end.result reached.argument.among refl refl
-    (reached.same ∙ ap (sub (found first t)) (sym reached.argument.is)))
+    c.walk-end.result to.argument.among refl refl
+    (to.same ∙ ap (sub (found first t)) (sym to.argument.is)))
 
 pub loop-frame-preserved-in-Continue-branch-4 : goal.loop-frame-preserved-in-Continue-branch-4
 loop-frame-preserved-in-Continue-branch-4 g c =
     let first = c.args.bank.now in
     let t = g.T.Bindings.table c.args.table.now in
     let whole = sub (found first t) (term_tree first c.args.start.0) in
-    let reached = copy-reached first t whole c.requires.table c.loop-frame.bank c.loop-frame.made.items c.loop-frame.last c.loop-frame.frames.items
-    c.pop.new.self.items c.in-Some.frame c.in-Some-argument.arg c.walk-end.result c.loop-frame.invariant.keeps c.loop-frame.invariant.copied
-    c.in-Some.ensures.items c.in-Some-argument.ensures.argument c.walk-end.ensures.end c.walk-end.ensures.same c.walk-end.ensures.among in
+    let to = reached g (goal.at.loop-frame-preserved-in-Continue-branch-4 g c).After-walk-end in
     record {
       keeps = c.loop-frame.invariant.keeps;
       known = c.loop-frame.invariant.known;
       copied = rw (c.in_ok-push-in-None-get.ensures.items, c.in_ok-push-in-Some-argument.ensures.items)
           (copy-opens first t whole c.requires.table c.loop-frame.bank c.loop-frame.made.items c.loop-frame.last c.loop-frame.frames.items c.pop.new.self.items
           c.in-Some.frame (record { at = c.in-Some.frame.at; next = c.in-Some.frame.next + 1 }) c.in-Some-argument.arg c.walk-end.result
-          c.loop-frame.invariant.copied c.in-Some.ensures.items reached.argument reached.same reached.end refl refl);
+          c.loop-frame.invariant.copied c.in-Some.ensures.items to.argument to.same to.end refl refl);
     }
 
 pub build-requires-clause-enough : goal.build-requires-clause-enough
